@@ -1,0 +1,66 @@
+-- General tools: tests kept as equations, `All`, permutations.
+use Prim.Native.Nat.{ℕ, zero, suc, _+_}
+use mathlib.Core.Bool.{Bool, true, false, _&&_, _||_, false≢true, true≢false}
+use mathlib.Core.Path.{_≡_, refl, subst}
+use mathlib.Core.Logic.{_≢_}
+use native.Mathlib.Omega.{arith}
+use Rattle.base.specs.Basics.{pick, All, Distinct}
+use mathlib.Core.List.{List, [], _∷_, _++_}
+use mathlib.Core.List.{List·Permᴰ, List·Permᴰ·nil, List·Permᴰ·cons, List·Permᴰ·swap, List·Permᴰ·trans}
+
+-- to prove P of a branch: prove it of each arm, the test's outcome given as an equation
+pub by-test {ℓ} : {A : Type ℓ} (P : A → Type 0) (b : Bool) {x y : A} → (b ≡ true → P x) → (b ≡ false → P y) → P (pick b x y)
+by-test P true t f = t refl
+by-test P false t f = f refl
+
+pub or-left : (b c : Bool) → b || c ≡ false → b ≡ false
+or-left true c e = e
+or-left false c e = refl
+
+pub or-right : (b c : Bool) → b || c ≡ false → c ≡ false
+or-right true c e = absurd (true≢false e)
+or-right false c e = e
+
+pub and-left : (b c : Bool) → b && c ≡ true → b ≡ true
+and-left true c e = refl
+and-left false c e = e
+
+pub and-right : (b c : Bool) → b && c ≡ true → c ≡ true
+and-right true c e = e
+and-right false c e = absurd (false≢true e)
+
+-- a test's two outcomes, where the goal does not branch on it
+pub split {ℓ} : {C : Type ℓ} (b : Bool) → (b ≡ true → C) → (b ≡ false → C) → C
+split true t f = t refl
+split false t f = f refl
+
+-- the same for a branch written `elim b [ true ↦ .. | false ↦ .. ]`, whose arms wait: the form for a recursion that branches
+pub by-elim {ℓ} : {A : Type ℓ} (P : A → Type 0) (b : Bool) {x y : A} → (b ≡ true → P x) → (b ≡ false → P y) → P (elim b [ true ↦ x | false ↦ y ])
+by-elim P true t f = t refl
+by-elim P false t f = f refl
+
+module _ {A : Type 0} (P : A → Type 0) where
+  pub all-perm : {l m : List A} → List·Permᴰ l m → All P l → All P m
+  all-perm List·Permᴰ·nil h = h
+  all-perm (List·Permᴰ·cons e d) h = (subst P e (h .0), all-perm d (h .1))
+  all-perm (List·Permᴰ·swap e₁ e₂) h = (subst P e₂ (h .1 .0), (subst P e₁ (h .0), h .1 .1))
+  all-perm (List·Permᴰ·trans d e) h = all-perm e (all-perm d h)
+
+  pub all-imp : (Q : A → Type 0) → ((x : A) → P x → Q x) → (l : List A) → All P l → All Q l
+  all-imp Q f [] h = tt
+  all-imp Q f (x ∷ l) h = (f x (h .0), all-imp Q f l (h .1))
+
+  pub all-join : (l m : List A) → All P l → All P m → All P (l ++ m)
+  all-join [] m h k = k
+  all-join (x ∷ l) m h k = (h .0, all-join l m (h .1) k)
+
+  pub all-split : (l m : List A) → All P (l ++ m) → All P l × All P m
+  all-split [] m h = (tt, h)
+  all-split (x ∷ l) m h = let r = all-split l m (h .1) in ((h .0, r .0), r .1)
+
+pub distinct-perm : {l m : List ℕ} → List·Permᴰ l m → Distinct l → Distinct m
+distinct-perm List·Permᴰ·nil h = h
+distinct-perm (List·Permᴰ·cons {l₁ = l} e d) h = (all-perm _ d (subst (λ x. All (λ y. x ≢ y) l) e (h .0)), distinct-perm d (h .1))
+distinct-perm (List·Permᴰ·swap {l = l} p q) h =
+    ((omega arith, subst (λ x. All (λ y. x ≢ y) l) q (h .1 .0)), (subst (λ x. All (λ y. x ≢ y) l) p (h .0 .1), h .1 .1))
+distinct-perm (List·Permᴰ·trans d e) h = distinct-perm e (distinct-perm d h)
