@@ -1,0 +1,114 @@
+-- The facts of 01 "Arithmetic", each by computing: functions by their numbers, on words. An argument that is not needed is given as 0.
+use Prim.Native.Nat.{ℕ, _-_, _^_}
+use mathlib.Core.Path.{_≡_, refl}
+use lib.IntN.{pos, negsuc}
+use Rattle.arith.specs.Exact.{signed}
+use Rattle.arith.specs.Functions.{exact, result}
+
+-- the word of -n
+abbrev pub minus : ℕ → ℕ
+minus n = 2 ^ 32 - n
+
+pub minus-seven : signed (minus 7) ≡ negsuc 6
+minus-seven = refl
+
+-- "Sums, differences and products wrap at 32 bits, as two's complement does."
+pub exact-sum : exact 4 (pos 2147483647) (pos 1) (pos 0) ≡ pos 2147483648
+unfolding exact
+exact-sum = refl
+
+pub sum-wraps : result 4 2147483647 1 0 ≡ minus 2147483648
+unfolding result exact
+sum-wraps = refl
+
+pub sum-of-signs : result 4 (minus 5) 3 0 ≡ minus 2
+unfolding result exact
+sum-of-signs = refl
+
+pub difference-wraps : result 5 (minus 2147483648) 1 0 ≡ 2147483647
+unfolding result exact
+difference-wraps = refl
+
+-- 46341 * 46341 is 2147488281
+pub product-wraps : result 6 46341 46341 0 ≡ minus 2147479015
+unfolding result exact
+product-wraps = refl
+
+pub product-of-signs : result 6 (minus 3) 4 0 ≡ minus 12
+unfolding result exact
+product-of-signs = refl
+
+-- "Division drops the fraction toward zero; by zero it gives 0, and −2,147,483,648 / −1 gives −2,147,483,648."
+pub quotient-toward-zero : result 7 (minus 7) 2 0 ≡ minus 3
+unfolding result exact
+quotient-toward-zero = refl
+
+pub quotient-by-negative : result 7 7 (minus 2) 0 ≡ minus 3
+unfolding result exact
+quotient-by-negative = refl
+
+pub quotient-of-negatives : result 7 (minus 7) (minus 2) 0 ≡ 3
+unfolding result exact
+quotient-of-negatives = refl
+
+pub quotient-by-zero : result 7 5 0 0 ≡ 0
+unfolding result exact
+quotient-by-zero = refl
+
+pub least-by-minus-one : result 7 (minus 2147483648) (minus 1) 0 ≡ minus 2147483648
+unfolding result exact
+least-by-minus-one = refl
+
+-- "Zero is false, all else true; tests give 1 or 0."
+pub and-is-of-truth : result 2 2 1 0 ≡ 1
+unfolding result exact
+and-is-of-truth = refl
+
+pub and-of-zero : result 2 2 0 0 ≡ 0
+unfolding result exact
+and-of-zero = refl
+
+pub or-is-of-truth : result 1 0 (minus 4) 0 ≡ 1
+unfolding result exact
+or-is-of-truth = refl
+
+pub not-of-negative : result 3 (minus 1) 0 0 ≡ 0
+unfolding result exact
+not-of-negative = refl
+
+pub not-of-zero : result 3 0 0 0 ≡ 1
+unfolding result exact
+not-of-zero = refl
+
+pub negative-not-above : result 8 (minus 1) 1 0 ≡ 0
+unfolding result exact
+negative-not-above = refl
+
+pub at-least-itself : result 9 (minus 1) (minus 1) 0 ≡ 1
+unfolding result exact
+at-least-itself = refl
+
+pub negative-below : result 10 (minus 1) 1 0 ≡ 1
+unfolding result exact
+negative-below = refl
+
+pub zero-not-at-most-negative : result 11 0 (minus 1) 0 ≡ 0
+unfolding result exact
+zero-not-at-most-negative = refl
+
+pub equal : result 12 (minus 1) (minus 1) 0 ≡ 1
+unfolding result exact
+equal = refl
+
+pub unequal : result 13 (minus 1) 1 0 ≡ 1
+unfolding result exact
+unequal = refl
+
+-- "`if` gives its second value when the first is true, else its third."
+pub second-if-true : result 14 5 10 20 ≡ 10
+unfolding result exact
+second-if-true = refl
+
+pub third-if-false : result 14 0 10 20 ≡ 20
+unfolding result exact
+third-if-false = refl

@@ -1,0 +1,45 @@
+-- The fourteen functions, by their numbers: the exact whole-number result, and the 32-bit one. 01 "Arithmetic".
+use Prim.Native.Nat.{ℕ}
+use mathlib.Core.Bool.{Bool, true, false, not, _&&_, _||_}
+use lib.Dec.{eqb}
+use lib.IntN.{ℤ, pos, negsuc, _+ℤ_, _-ℤ_, _*ℤ_}
+use lib.Signed.{quotZ, ltZ}
+use Rattle.base.specs.Basics.{pick}
+use Rattle.arith.specs.Exact.{signed, wrapped}
+
+-- "Zero is false, all else true; tests give 1 or 0."
+abbrev pub isTrue : ℤ → Bool
+isTrue (pos n) = not (eqb n 0)
+isTrue (negsuc n) = true
+
+abbrev pub truth : Bool → ℤ
+truth true = pos 1
+truth false = pos 0
+
+-- 1 `||`, 2 `&&`, 3 `!`, 4 `+`, 5 `-`, 6 `*`, 7 `/`, 8 `>`, 9 `>=`, 10 `<`, 11 `<=`, 12 `==`, 13 `!=`, 14 `if`; 0 for a number that is none of them.
+-- An argument that a function does not need is not looked at. `quotZ` drops the fraction toward zero, and gives 0 for a zero divisor.
+unfoldable pub exact : ℕ → ℤ → ℤ → ℤ → ℤ
+exact f x y z =
+    pick (eqb f 1) (truth (isTrue x || isTrue y))
+    (pick (eqb f 2) (truth (isTrue x && isTrue y))
+    (pick (eqb f 3) (truth (not (isTrue x)))
+    (pick (eqb f 4) (x +ℤ y)
+    (pick (eqb f 5) (x -ℤ y)
+    (pick (eqb f 6) (x *ℤ y)
+    (pick (eqb f 7) (quotZ x y)
+    (pick (eqb f 8) (truth (ltZ y x))
+    (pick (eqb f 9) (truth (not (ltZ x y)))
+    (pick (eqb f 10) (truth (ltZ x y))
+    (pick (eqb f 11) (truth (not (ltZ y x)))
+    (pick (eqb f 12) (truth (not (ltZ x y) && not (ltZ y x)))
+    (pick (eqb f 13) (truth (ltZ x y || ltZ y x))
+    (pick (eqb f 14) (pick (isTrue x) y z)
+    (pos 0))))))))))))))
+
+-- the result on 32-bit words: the exact one of the numbers that they stand for, brought to 32 bits
+unfoldable pub result : ℕ → ℕ → ℕ → ℕ → ℕ
+result f a b c = wrapped (exact f (signed a) (signed b) (signed c))
+
+-- "`!` needs one, `if` three, the others two."
+unfoldable pub arity : ℕ → ℕ
+arity f = pick (eqb f 3) 1 (pick (eqb f 14) 3 2)

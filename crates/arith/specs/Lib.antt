@@ -1,0 +1,4 @@
+pub mod Exact
+pub mod Functions
+pub mod ArithLaws
+pub mod Examples
