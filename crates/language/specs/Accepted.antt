@@ -1,0 +1,41 @@
+-- Which sheets are accepted. 01 "The sheet", "Why a call was turned down": compile.
+use Prim.Native.Nat.{ℕ, _≤_, _<_}
+use mathlib.Core.Path.{_≡_}
+use mathlib.Core.Bool.{true}
+use lib.ListN.{length}
+use Rattle.base.specs.Basics.{All}
+use Rattle.language.specs.Syntax.{Expr, con, name, app1, app2, app3, Handler, handler, Behaviour, passive, active, Program}
+use Rattle.language.specs.Grammar.{BehaviourFits, Fits}
+use Rattle.language.specs.Dependence.{NoCycle}
+use Rattle.language.specs.Code.{allInstructions}
+
+-- every name is a behaviour's, of n
+abbrev pub NamesIn : ℕ → Expr → Type 0
+NamesIn n (con w) = Unit {0}
+NamesIn n (name i) = i < n
+NamesIn n (app1 f a) = NamesIn n a
+NamesIn n (app2 f a b) = NamesIn n a × NamesIn n b
+NamesIn n (app3 f a b c) = NamesIn n a × NamesIn n b × NamesIn n c
+
+abbrev pub HandlerNamesIn : ℕ → Handler → Type 0
+HandlerNamesIn n (handler e φ x) = NamesIn n x
+
+abbrev pub BehaviourNamesIn : ℕ → Behaviour → Type 0
+BehaviourNamesIn n (passive x) = NamesIn n x
+BehaviourNamesIn n (active s hs) = All (HandlerNamesIn n) hs
+
+abbrev pub Known : Program → Type 0
+Known p = All (BehaviourNamesIn (length (p .behaviours))) (p .behaviours)
+
+-- a program within 01's grammar and limits, with no cycle under an event or under none
+pub record Accepted (p : Program) : Type 0 where
+  pub fits : Fits p
+  pub known : Known p
+  pub acyclic : NoCycle p
+  pub short : allInstructions p ≤ 4096
+
+-- what the meaning of a program needs of it: within the grammar's limits field by field, names that exist, no cycle
+pub record Valid (p : Program) : Type 0 where
+  pub each : All (BehaviourFits (length (p .priorities))) (p .behaviours)
+  pub known : Known p
+  pub acyclic : NoCycle p

@@ -1,0 +1,93 @@
+-- The grammar as an encoding of programs, and the limits that one field can show. 01 "The sheet".
+use Prim.Native.Nat.{ℕ, zero, suc, _+_, _/_, _%_, _≤_, _<_, _^_}
+use mathlib.Core.Path.{_≡_}
+use mathlib.Core.Logic.{_≢_}
+use mathlib.Core.List.{List, [], _∷_, _++_}
+use lib.ListN.{length}
+use Rattle.base.specs.Basics.{All}
+use Rattle.language.specs.Syntax.{Expr, con, name, app1, app2, app3, Phase, immediate, later, Handler, handler, Behaviour, passive, active, Program}
+
+-- ---- bytes
+
+-- "A field is a one-byte tag, a two-byte length and that many bytes of value."
+abbrev pub field : ℕ → List ℕ → List ℕ
+field t v = t ∷ (length v / 256) ∷ (length v % 256) ∷ v
+
+-- a 32-bit word, big-endian
+abbrev pub word : ℕ → List ℕ
+word w = (w / 16777216) ∷ (w / 65536 % 256) ∷ (w / 256 % 256) ∷ (w % 256) ∷ []
+
+-- 10 constant, 11 name, 12 application, hexadecimal
+unfoldable pub encodeExpr : Expr → List ℕ
+encodeExpr (con w) = field 16 (word w)
+encodeExpr (name i) = field 17 (i ∷ [])
+encodeExpr (app1 f a) = field 18 (f ∷ encodeExpr a)
+encodeExpr (app2 f a b) = field 18 (f ∷ (encodeExpr a ++ encodeExpr b))
+encodeExpr (app3 f a b c) = field 18 (f ∷ (encodeExpr a ++ (encodeExpr b ++ encodeExpr c)))
+
+abbrev pub encodePhase : Phase → ℕ
+encodePhase immediate = 0
+encodePhase later = 1
+
+abbrev pub encodeHandler : Handler → List ℕ
+encodeHandler (handler e φ x) = field 5 (e ∷ encodePhase φ ∷ encodeExpr x)
+
+unfoldable pub encodeHandlers : List Handler → List ℕ
+encodeHandlers [] = []
+encodeHandlers (h ∷ hs) = encodeHandler h ++ encodeHandlers hs
+
+abbrev pub encodeBehaviour : Behaviour → List ℕ
+encodeBehaviour (passive x) = field 2 (encodeExpr x)
+encodeBehaviour (active s hs) = field 3 (field 4 (word s) ++ encodeHandlers hs)
+
+unfoldable pub encodeBehaviours : List Behaviour → List ℕ
+encodeBehaviours [] = []
+encodeBehaviours (b ∷ bs) = encodeBehaviour b ++ encodeBehaviours bs
+
+unfoldable pub encodeEvents : List ℕ → List ℕ
+encodeEvents [] = []
+encodeEvents (r ∷ rs) = field 1 (r ∷ []) ++ encodeEvents rs
+
+-- "Events come first", then behaviours
+unfoldable pub encode : Program → List ℕ
+encode p = encodeEvents (p .priorities) ++ encodeBehaviours (p .behaviours)
+
+-- ---- limits
+
+-- functions 1 to 14; `!` needs one argument, `if` three, the others two
+pub data Arity : ℕ → ℕ → Type 0 where
+  unary : Arity 3 1
+  ternary : Arity 14 3
+  binary : {f : ℕ} → 0 < f → f < 14 → f ≢ 3 → Arity f 2
+
+-- "A constant or name has nesting 1, an application one more than its deepest argument": an expression of nesting at most the first number,
+-- each function with the arguments that it needs, each constant a word, each name a byte
+pub data Nested : ℕ → Expr → Type 0 where
+  n-con : {k w : ℕ} → w < 2 ^ 32 → Nested (suc k) (con w)
+  n-name : {k i : ℕ} → i < 256 → Nested (suc k) (name i)
+  n-app1 : {k f : ℕ} {a : Expr} → Arity f 1 → Nested k a → Nested (suc k) (app1 f a)
+  n-app2 : {k f : ℕ} {a b : Expr} → Arity f 2 → Nested k a → Nested k b → Nested (suc k) (app2 f a b)
+  n-app3 : {k f : ℕ} {a b c : Expr} → Arity f 3 → Nested k a → Nested k b → Nested k c → Nested (suc k) (app3 f a b c)
+
+-- no handler for event e among these
+abbrev pub NoneFor : ℕ → List Handler → Type 0
+NoneFor e [] = Unit {0}
+NoneFor e (handler f φ x ∷ hs) = (e ≢ f) × NoneFor e hs
+
+-- each handler's event is one of n declared, none has two handlers, and each expression is nested at most 16 deep
+abbrev pub HandlersFit : ℕ → List Handler → Type 0
+HandlersFit n [] = Unit {0}
+HandlersFit n (handler e φ x ∷ hs) = (e < n) × Nested 16 x × NoneFor e hs × HandlersFit n hs
+
+abbrev pub BehaviourFits : ℕ → Behaviour → Type 0
+BehaviourFits n (passive x) = Nested 16 x
+BehaviourFits n (active s hs) = (s < 2 ^ 32) × HandlersFit n hs
+
+-- at most 32 events of priority 0 to 15 and 64 behaviours, each within its limits, in 1 to 8,192 bytes
+pub record Fits (p : Program) : Type 0 where
+  pub few-events : length (p .priorities) ≤ 32
+  pub few-behaviours : length (p .behaviours) ≤ 64
+  pub scale : All (λ r. r ≤ 15) (p .priorities)
+  pub each : All (BehaviourFits (length (p .priorities))) (p .behaviours)
+  pub some-bytes : 1 ≤ length (encode p)
+  pub few-bytes : length (encode p) ≤ 8192

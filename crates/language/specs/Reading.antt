@@ -1,0 +1,171 @@
+-- What a sheet's bytes are: a program, or the number of the first fault from left to right. 01 "The sheet", "Why a call was turned down".
+-- "At a field: 4 for its header, 5, 4 for its length, 7, 9, 6 for a fixed length, contents in order, 6 for leftovers."
+use Prim.Native.Nat.{ℕ, zero, suc, _+_, _*_}
+use mathlib.Core.Bool.{Bool, true, false}
+use mathlib.Core.List.{List, [], _∷_, _++_}
+use lib.ListN.{length, take, drop}
+use lib.Dec.{ltb, leb, eqb}
+use Rattle.base.specs.Basics.{pick}
+use Rattle.language.specs.Syntax.{Expr, con, name, app1, app2, app3, Phase, immediate, later, Handler, handler, Behaviour, passive, active, Program}
+use Rattle.language.specs.Refusals.{torn, wrongTag, wrongLength, crowded, offScale, tooDeep, doubled}
+
+-- what stands where a field is due: its tag, its value and the bytes after it, or a refusal
+pub data Field : Type 0 where
+  refused : ℕ → Field
+  present : ℕ → List ℕ → List ℕ → Field
+
+-- a field is due whose tag lies from lo to hi, at the front of the bytes up to the enclosing end
+unfoldable pub fieldAt : ℕ → ℕ → List ℕ → Field
+fieldAt lo hi [] = refused torn
+fieldAt lo hi (t ∷ []) = refused torn
+fieldAt lo hi (t ∷ (h ∷ [])) = refused torn
+fieldAt lo hi (t ∷ (h ∷ (l ∷ bs))) =
+    pick (ltb t lo) (refused wrongTag)
+    (pick (ltb hi t) (refused wrongTag)
+    (pick (ltb (length bs) (h * 256 + l)) (refused torn)
+    (present t (take (h * 256 + l) bs) (drop (h * 256 + l) bs))))
+
+-- something read, with the bytes after it, or the number of a fault
+pub data Got (A : Type 0) : Type 0 where
+  bad : ℕ → Got A
+  got : A → List ℕ → Got A
+
+-- what is read from a value leaves nothing over: then it is the value's content, and the bytes after the field follow
+abbrev pub whole : {A : Type 0} → A → List ℕ → List ℕ → Got A
+whole x [] rest = got x rest
+whole x (b ∷ left) rest = bad wrongLength
+
+-- ---- expressions
+
+-- a value of four bytes, and of one
+abbrev pub wordOf : {A : Type 0} → (ℕ → A) → List ℕ → List ℕ → Got A
+wordOf f [] rest = bad wrongLength
+wordOf f (a ∷ []) rest = bad wrongLength
+wordOf f (a ∷ (b ∷ [])) rest = bad wrongLength
+wordOf f (a ∷ (b ∷ (c ∷ []))) rest = bad wrongLength
+wordOf f (a ∷ (b ∷ (c ∷ (d ∷ v)))) rest = whole (f (((a * 256 + b) * 256 + c) * 256 + d)) v rest
+
+abbrev pub byteOf : {A : Type 0} → (ℕ → A) → List ℕ → List ℕ → Got A
+byteOf f [] rest = bad wrongLength
+byteOf f (a ∷ v) rest = whole (f a) v rest
+
+-- go on with what was read; a fault is passed on
+abbrev pub then : {A B : Type 0} → Got A → (A → List ℕ → Got B) → Got B
+then (bad n) f = bad n
+then (got x rest) f = f x rest
+
+-- the arguments of function f in v, each read by `arg`: `!` (3) needs one, `if` (14) three, the others two
+abbrev pub argsOf : (List ℕ → Got Expr) → ℕ → List ℕ → List ℕ → Got Expr
+argsOf arg f v rest =
+    then (arg v) (λ a v₁.
+    pick (eqb f 3) (whole (app1 f a) v₁ rest)
+    (then (arg v₁) (λ b v₂.
+    pick (eqb f 14) (then (arg v₂) (λ c v₃. whole (app3 f a b c) v₃ rest))
+    (whole (app2 f a b) v₂ rest))))
+
+abbrev pub appOf : (List ℕ → Got Expr) → List ℕ → List ℕ → Got Expr
+appOf arg [] rest = bad wrongLength
+appOf arg (f ∷ v) rest = pick (eqb f 0) (bad offScale) (pick (ltb 14 f) (bad offScale) (argsOf arg f v rest))
+
+abbrev pub exprBody : (List ℕ → Got Expr) → Field → Got Expr
+exprBody arg (refused n) = bad n
+exprBody arg (present t v rest) = pick (eqb t 16) (wordOf con v rest) (pick (eqb t 17) (byteOf name v rest) (appOf arg v rest))
+
+-- an expression where no nesting is left: its header is judged first
+abbrev pub deepest : Field → Got Expr
+deepest (refused n) = bad n
+deepest (present t v rest) = bad tooDeep
+
+-- an expression, with so many levels of nesting left
+unfoldable pub exprAt : ℕ → List ℕ → Got Expr
+exprAt zero s = deepest (fieldAt 16 18 s)
+exprAt (suc left) s = exprBody (exprAt left) (fieldAt 16 18 s)
+
+-- an expression of nesting at most 16 that fills the value v
+abbrev pub exprIn : {A : Type 0} → (Expr → A) → List ℕ → List ℕ → Got A
+exprIn f v rest = then (exprAt 16 v) (λ x left. whole (f x) left rest)
+
+-- ---- handlers. "In a handler: event, phase, 10, expression."
+
+-- a handler for event e is among these
+unfoldable pub handles : ℕ → List Handler → Bool
+handles e [] = false
+handles e (handler f φ x ∷ hs) = pick (eqb e f) true (handles e hs)
+
+abbrev pub phaseOf : ℕ → Phase
+phaseOf zero = immediate
+phaseOf (suc n) = later
+
+abbrev pub phaseIn : List Handler → ℕ → List ℕ → List ℕ → Got Handler
+phaseIn hs e [] rest = bad wrongLength
+phaseIn hs e (φ ∷ v) rest = pick (ltb 1 φ) (bad offScale) (pick (handles e hs) (bad doubled) (exprIn (handler e (phaseOf φ)) v rest))
+
+-- n events are declared, and the behaviour has the handlers hs so far
+abbrev pub handlerIn : ℕ → List Handler → List ℕ → List ℕ → Got Handler
+handlerIn n hs [] rest = bad wrongLength
+handlerIn n hs (e ∷ v) rest = pick (leb n e) (bad offScale) (phaseIn hs e v rest)
+
+abbrev pub handlerBody : ℕ → List Handler → Field → Got Handler
+handlerBody n hs (refused k) = bad k
+handlerBody n hs (present t v rest) = handlerIn n hs v rest
+
+-- handlers until the end of the value; the first number bounds their count
+unfoldable pub handlersAt : ℕ → ℕ → List Handler → List ℕ → Got (List Handler)
+handlersAt zero n hs s = pick (eqb (length s) 0) (got hs []) (bad torn)
+handlersAt (suc k) n hs s =
+    pick (eqb (length s) 0) (got hs [])
+    (then (handlerBody n hs (fieldAt 5 5 s)) (λ h rest. handlersAt k n (hs ++ (h ∷ [])) rest))
+
+-- ---- behaviours
+
+abbrev pub startBody : Field → Got ℕ
+startBody (refused k) = bad k
+startBody (present t v rest) = wordOf (λ w. w) v rest
+
+abbrev pub activeIn : ℕ → List ℕ → List ℕ → Got Behaviour
+activeIn n v rest =
+    then (startBody (fieldAt 4 4 v)) (λ s left.
+    then (handlersAt (length left) n [] left) (λ hs over. whole (active s hs) over rest))
+
+abbrev pub behaviourIn : ℕ → ℕ → List ℕ → List ℕ → Got Behaviour
+behaviourIn n t v rest = pick (eqb t 2) (exprIn passive v rest) (activeIn n v rest)
+
+-- ---- the whole
+
+abbrev pub priorityIn : List ℕ → List ℕ → Got ℕ
+priorityIn [] rest = bad wrongLength
+priorityIn (r ∷ []) rest = pick (ltb 15 r) (bad offScale) (got r rest)
+priorityIn (r ∷ (x ∷ v)) rest = bad wrongLength
+
+-- a program as far as it is read
+abbrev pub program : List ℕ → List Behaviour → Program
+program rs bs = record { priorities = rs; behaviours = bs }
+
+-- behaviours, after all events; the first number bounds their count
+abbrev pub behaviourBody : List ℕ → List Behaviour → Field → Got Behaviour
+behaviourBody rs bs (refused k) = bad k
+behaviourBody rs bs (present t v rest) = pick (leb 64 (length bs)) (bad crowded) (behaviourIn (length rs) t v rest)
+
+unfoldable pub behavioursAt : ℕ → List ℕ → List Behaviour → List ℕ → Got Program
+behavioursAt zero rs bs s = pick (eqb (length s) 0) (got (program rs bs) []) (bad torn)
+behavioursAt (suc k) rs bs s =
+    pick (eqb (length s) 0) (got (program rs bs) [])
+    (then (behaviourBody rs bs (fieldAt 2 3 s)) (λ x rest. behavioursAt k rs (bs ++ (x ∷ [])) rest))
+
+-- events, and with the first behaviour the behaviours
+abbrev pub eventsBody : (List ℕ → List ℕ → Got Program) → (List Behaviour → List ℕ → Got Program) → List ℕ → Field → Got Program
+eventsBody more others rs (refused k) = bad k
+eventsBody more others rs (present t v rest) =
+    pick (eqb t 1)
+    (pick (leb 32 (length rs)) (bad crowded) (then (priorityIn v rest) (λ r rest. more (rs ++ (r ∷ [])) rest)))
+    (then (behaviourIn (length rs) t v rest) (λ x rest. others (x ∷ []) rest))
+
+unfoldable pub eventsAt : ℕ → List ℕ → List ℕ → Got Program
+eventsAt zero rs s = pick (eqb (length s) 0) (got (program rs []) []) (bad torn)
+eventsAt (suc k) rs s =
+    pick (eqb (length s) 0) (got (program rs []) [])
+    (eventsBody (eventsAt k) (behavioursAt k rs) rs (fieldAt 1 3 s))
+
+-- the bytes of a sheet; each field has three bytes at least, so their count bounds the fields'
+unfoldable pub readProgram : List ℕ → Got Program
+readProgram s = eventsAt (length s) [] s

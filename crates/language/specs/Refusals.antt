@@ -1,0 +1,59 @@
+-- The numbers of refusals with 01's words. 01 "Why a call was turned down".
+use Prim.Native.Nat.{ℕ}
+
+abbrev pub shortTable : ℕ  -- short table: compile's table has under 34,816 bytes
+shortTable = 1
+
+abbrev pub blank : ℕ  -- blank: a sheet of no bytes
+blank = 2
+
+abbrev pub longProgram : ℕ  -- long sheet: over 8,192 bytes
+longProgram = 3
+
+abbrev pub torn : ℕ  -- torn: under three bytes where a field is due, or a length past its enclosing end
+torn = 4
+
+abbrev pub wrongTag : ℕ  -- wrong tag: a tag not allowed there; an event after a behaviour
+wrongTag = 5
+
+abbrev pub wrongLength : ℕ  -- wrong length: fixed length differs; a due byte is missing; bytes left over
+wrongLength = 6
+
+abbrev pub crowded : ℕ  -- crowded: 33rd event, 65th behaviour
+crowded = 7
+
+abbrev pub offScale : ℕ  -- off the scale: rank, event, phase or function byte not listed or not declared
+offScale = 8
+
+abbrev pub tooDeep : ℕ  -- too deep: an expression at nesting 17
+tooDeep = 9
+
+abbrev pub doubled : ℕ  -- doubled: second handler for an event in one behaviour
+doubled = 10
+
+abbrev pub unknownName : ℕ  -- unknown name: no such behaviour in the sheet
+unknownName = 11
+
+abbrev pub cycle : ℕ  -- circle: some event, or no event, has one
+cycle = 12
+
+abbrev pub overlong : ℕ  -- overlong: over 4,096 instructions
+overlong = 13
+
+abbrev pub foreign : ℕ  -- foreign: table or round is not one of ours
+foreign = 14
+
+abbrev pub undeclaredEvent : ℕ  -- no such event: not declared
+undeclaredEvent = 15
+
+abbrev pub fullQueue : ℕ  -- full hand: 64 in hand
+fullQueue = 16
+
+abbrev pub spent : ℕ  -- spent: 1,000,000 already taken in
+spent = 17
+
+abbrev pub noBehaviour : ℕ  -- no such behaviour: number not in the sheet
+noBehaviour = 18
+
+abbrev pub settling : ℕ  -- settling: board read during copy-back
+settling = 19
