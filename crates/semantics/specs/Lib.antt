@@ -1,0 +1,14 @@
+pub mod Rules
+pub mod Meaning
+pub mod Rounds
+pub mod Lists
+pub mod Graph
+pub mod OrderLaws
+pub mod Solution
+pub mod Handlers
+pub mod Derivations
+pub mod Agreement
+pub mod Commute
+pub mod RoundsHold
+pub mod Plays
+pub mod PlaysLaws

@@ -1,0 +1,1 @@
+// Definitions and theorems only: the meaning of one event. They stand in specs/.
