@@ -1,0 +1,106 @@
+-- Running a list of instructions: lists one after the other, a part for each number, and that an expression's code pushes its value and changes nothing else.
+-- By induction on the list, the number and the expression.
+use Prim.Native.Nat.{ℕ, zero, suc, _<_, _≤_}
+use mathlib.Core.Bool.{Bool, true, false}
+use mathlib.Core.Path.{_≡_, refl}
+use mathlib.Core.List.{List, [], _∷_, _++_, append-assoc}
+use native.Mathlib.Omega.{arith}
+use lib.Dec.{eqb}
+use borrow.Author.Tests.{ne-eqb}
+use Rattle.base.specs.Basics.{pick}
+use Rattle.base.specs.Tools.{split}
+use Rattle.arith.specs.Functions.{result}
+use Rattle.language.specs.Syntax.{Expr, con, name, app1, app2, app3}
+use Rattle.language.specs.Grammar.{Arity, unary, ternary, binary, Nested, n-con, n-name, n-app1, n-app2, n-app3}
+use Rattle.language.specs.Accepted.{NamesIn}
+use Rattle.language.specs.Order.{upTo}
+use Rattle.language.specs.Code.{Instr, load, fetch, apply, join, postfix}
+use Rattle.semantics.specs.Meaning.{value}
+use Rattle.execution.specs.Execution.{Values, at, heldAt, applied, pushed, execute, executeAll}
+use Rattle.execution.specs.Safe.{arity}
+
+pub execute-append : (xs ys : List Instr) (d : Values) → executeAll (xs ++ ys) d ≡ executeAll ys (executeAll xs d)
+unfolding executeAll
+execute-append [] ys d = refl
+execute-append (x ∷ xs) ys d = execute-append xs ys (execute x d)
+
+-- what each number's part takes from one place of a chain to the next, all of them take from its start to its end
+pub parts : (n : ℕ) (f : ℕ → List Instr) (Inv : ℕ → Values → Type 0) → ((i : ℕ) → i < n → (d : Values) → Inv i d → Inv (suc i) (executeAll (f i) d))
+    → (d : Values) → Inv 0 d → Inv n (executeAll (join (upTo n f)) d)
+unfolding upTo join executeAll
+parts zero f Inv step d h = h
+parts (suc n) f Inv step d h =
+    rw (execute-append (f 0) (join (upTo n (λ i. f (suc i)))) d)
+    (parts n (λ i. f (suc i)) (λ i. Inv (suc i)) (λ i b. step (suc i) (omega arith)) (executeAll (f 0) d) (step 0 (omega arith) d h))
+
+-- what a name means: scratch where c says so, else the store
+abbrev pub looked : (ℕ → Bool) → Values → ℕ → ℕ
+looked c d i = pick (c i) (heldAt (d .scratch) i) (at (d .store) i)
+
+-- ---- functions with the arguments that they need
+
+pub arity-is : {f k : ℕ} → Arity f k → (arity f ≡ k) × (0 < f) × (f ≤ 14)
+arity-is unary = (refl, omega arith, omega arith)
+arity-is ternary = (refl, omega arith, omega arith)
+arity-is (binary {f = f} h g n) =
+    let a : eqb f 3 ≡ false = ne-eqb f 3 n in
+    let b : eqb f 14 ≡ false = ne-eqb f 14 (omega arith) in
+    (rw (a, b), h, omega arith)
+
+module _ (f : ℕ) where
+  one-argument : (a : ℕ) (st : List ℕ) → arity f ≡ 1 → applied f (a ∷ st) ≡ result f a 0 0 ∷ st
+  one-argument a st h = split (eqb f 3) (λ t. rw t) (λ t. split (eqb f 14) (λ u. absurd (omega (arith, (rw (t, u) at h)))) (λ u. absurd (omega (arith, (rw (t, u) at h)))))
+
+  two-arguments : (a b : ℕ) (st : List ℕ) → arity f ≡ 2 → applied f (b ∷ (a ∷ st)) ≡ result f a b 0 ∷ st
+  two-arguments a b st h = split (eqb f 3) (λ t. absurd (omega (arith, (rw t at h)))) (λ t. split (eqb f 14) (λ u. absurd (omega (arith, (rw (t, u) at h)))) (λ u. rw (t, u)))
+
+  three-arguments : (a b c : ℕ) (st : List ℕ) → arity f ≡ 3 → applied f (c ∷ (b ∷ (a ∷ st))) ≡ result f a b c ∷ st
+  three-arguments a b c st h = split (eqb f 3) (λ t. absurd (omega (arith, (rw t at h)))) (λ t. split (eqb f 14) (λ u. rw (t, u)) (λ u. absurd (omega (arith, (rw (t, u) at h)))))
+
+-- ---- an expression's code
+
+execute-name : (b : Bool) (i : ℕ) (d : Values) → execute (pick b (fetch i) (load i)) d ≡ pushed (pick b (heldAt (d .scratch) i) (at (d .store) i)) d
+unfolding execute
+execute-name true i d = refl
+execute-name false i d = refl
+
+module _ (c : ℕ → Bool) where
+  pub run-postfix : {k : ℕ} {x : Expr} → Nested k x → (rest : List Instr) (d : Values)
+      → executeAll (postfix c x ++ rest) d ≡ executeAll rest (pushed (value (looked c d) x) d)
+  unfolding execute executeAll value postfix
+  run-postfix (n-con h) rest d = refl
+  run-postfix (n-name {i = i} h) rest d = rw (execute-name (c i) i d)
+  run-postfix (n-app1 {f = f} {a = a} r ha) rest d =
+      rw (append-assoc (postfix c a) (apply f ∷ []) rest, run-postfix ha (apply f ∷ rest) d, one-argument f (value (looked c d) a) (d .stack) (arity-is r .0))
+  run-postfix (n-app2 {f = f} {a = a} {b = b} r ha hb) rest d =
+      let va = value (looked c d) a in
+      let vb = value (looked c d) b in
+      rw (
+        append-assoc (postfix c a) (postfix c b ++ (apply f ∷ [])) rest,
+        append-assoc (postfix c b) (apply f ∷ []) rest,
+        run-postfix ha (postfix c b ++ (apply f ∷ rest)) d,
+        run-postfix hb (apply f ∷ rest) (pushed va d),
+        two-arguments f va vb (d .stack) (arity-is r .0),
+      )
+  run-postfix (n-app3 {f = f} {a = a} {b = b} {c = g} r ha hb hc) rest d =
+      let va = value (looked c d) a in
+      let vb = value (looked c d) b in
+      let vg = value (looked c d) g in
+      rw (
+        append-assoc (postfix c a) (postfix c b ++ (postfix c g ++ (apply f ∷ []))) rest,
+        append-assoc (postfix c b) (postfix c g ++ (apply f ∷ [])) rest,
+        append-assoc (postfix c g) (apply f ∷ []) rest,
+        run-postfix ha (postfix c b ++ (postfix c g ++ (apply f ∷ rest))) d,
+        run-postfix hb (postfix c g ++ (apply f ∷ rest)) (pushed va d),
+        run-postfix hc (apply f ∷ rest) (pushed vb (pushed va d)),
+        three-arguments f va vb vg (d .stack) (arity-is r .0),
+      )
+
+-- ---- a value hangs on the names in its expression alone
+pub value-same : (n : ℕ) (f g : ℕ → ℕ) → ((i : ℕ) → i < n → f i ≡ g i) → (x : Expr) → NamesIn n x → value f x ≡ value g x
+unfolding value
+value-same n f g h (con w) k = refl
+value-same n f g h (name i) k = h i k
+value-same n f g h (app1 o a) k = rw (value-same n f g h a k)
+value-same n f g h (app2 o a b) k = rw (value-same n f g h a (k .0), value-same n f g h b (k .1))
+value-same n f g h (app3 o a b c) k = rw (value-same n f g h a (k .0), value-same n f g h b (k .1), value-same n f g h c (k .2))
