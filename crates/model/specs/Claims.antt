@@ -1,0 +1,151 @@
+-- Demand 3 in terms of the model engine: what is said of every list of calls from the initial engine.
+use Prim.Native.Nat.{ℕ, zero, suc, _+_, _*_, _≤_, _<_}
+use mathlib.Core.Bool.{Bool, true, false}
+use mathlib.Core.Path.{_≡_}
+use mathlib.Core.Logic.{_≢_}
+use mathlib.Core.List.{List, [], _∷_, _++_, map, List·Permᴰ}
+use lib.ListN.{length, take}
+use lib.Dec.{ltb}
+use Rattle.base.specs.Basics.{pick, All, Distinct}
+use Rattle.language.specs.Syntax.{Program}
+use Rattle.language.specs.Dependence.{size, events, Independent}
+use Rattle.language.specs.Code.{code}
+use Rattle.language.specs.Order.{upTo}
+use Rattle.semantics.specs.Meaning.{fresh, play}
+use Rattle.execution.specs.Execution.{Values, copyingBackAfter}
+use Rattle.model.specs.Model.{Arrival, arrival, Running, rest, busy, Engine, engine, initial, queue, Call, arrive, step, board, Answer, refused, takenIn, shows, idle, ran, started, preempted, committed, rank, settling, act, run, answers}
+
+-- ---- what the answers say
+
+-- the arrivals committed, in order of commitment: "committed when a step's answer says so"
+abbrev pub ifCommitted : Answer → List Arrival → List Arrival
+ifCommitted (refused n) l = l
+ifCommitted takenIn l = l
+ifCommitted (shows v) l = l
+ifCommitted idle l = l
+ifCommitted ran l = l
+ifCommitted (started a) l = l
+ifCommitted (preempted a) l = l
+ifCommitted (committed a) l = a ∷ l
+
+unfoldable pub commits : List Answer → List Arrival
+commits [] = []
+commits (a ∷ l) = ifCommitted a (commits l)
+
+-- the arrivals taken in, numbered from n on: "An arrival is taken in if its call wasn't refused"
+abbrev pub ifTaken : Call → Answer → ℕ → (ℕ → List Arrival) → List Arrival
+ifTaken (arrive e) (refused k) n l = l n
+ifTaken (arrive e) takenIn n l = arrival n e ∷ l (suc n)
+ifTaken (arrive e) (shows v) n l = l n
+ifTaken (arrive e) idle n l = l n
+ifTaken (arrive e) ran n l = l n
+ifTaken (arrive e) (started a) n l = l n
+ifTaken (arrive e) (preempted a) n l = l n
+ifTaken (arrive e) (committed a) n l = l n
+ifTaken step a n l = l n
+ifTaken (board i) a n l = l n
+
+unfoldable pub takenFrom : List Call → List Answer → ℕ → List Arrival
+takenFrom [] l n = []
+takenFrom (c ∷ cs) [] n = []
+takenFrom (c ∷ cs) (a ∷ l) n = ifTaken c a n (takenFrom cs l)
+
+-- ---- what an engine says
+
+abbrev pub number : Engine → ℕ
+number (engine t waiting r d) = t
+
+abbrev pub inQueue : Engine → List Arrival
+inQueue (engine t waiting r d) = queue waiting r
+
+abbrev pub storeOf : Engine → List ℕ
+storeOf (engine t waiting r d) = d .store
+
+abbrev pub settlingIn : Program → Engine → Bool
+settlingIn p (engine t waiting r d) = settling p r
+
+-- "Idle: a step called now would answer idle."
+abbrev pub Idle : Program → Engine → Type 0
+Idle p w = act p step w .answer ≡ idle
+
+-- the copy-back of a is under way
+abbrev pub CopyingBack : Program → Arrival → Engine → Type 0
+CopyingBack p a (engine t waiting rest d) = ⊥
+CopyingBack p a (engine t waiting (busy b c) d) = (b ≡ a) × (copyingBackAfter (take c (code p (a .event))) ≡ true)
+
+abbrev pub after : Program → List Call → Engine
+after p cs = run p cs (initial p)
+
+abbrev pub said : Program → List Call → List Answer
+said p cs = answers p cs (initial p)
+
+abbrev pub committedIn : Program → List Call → List Arrival
+committedIn p cs = commits (said p cs)
+
+abbrev pub takenInBy : Program → List Call → List Arrival
+takenInBy p cs = takenFrom cs (said p cs) 0
+
+-- ---- the sentences of demand 3
+
+-- "unless a copy-back is under way, the board equals what demand 2's rules give for the committed events, one by one, undivided, in order of commitment"
+abbrev pub BoardOfCommits : Program → List Call → Type 0
+BoardOfCommits p cs = settlingIn p (after p cs) ≡ false → storeOf (after p cs) ≡ play p (map (λ (a : Arrival). a .event) (committedIn p cs)) (fresh p)
+
+-- "Each arrival taken in is committed at most once, exactly once when idle": taken in are the committed and those in the queue, each once
+abbrev pub OnceEach : Program → List Call → Type 0
+OnceEach p cs =
+    List·Permᴰ (takenInBy p cs) (committedIn p cs ++ inQueue (after p cs))
+    × Distinct (map (λ (a : Arrival). a .number) (takenInBy p cs))
+    × (Idle p (after p cs) → List·Permᴰ (takenInBy p cs) (committedIn p cs))
+
+-- every earlier member of a list and every later one
+abbrev pub Pairs : (Arrival → Arrival → Type 0) → List Arrival → Type 0
+Pairs R [] = Unit {0}
+Pairs R (a ∷ l) = All (R a) l × Pairs R l
+
+-- "and after every earlier one of equal rank": commits of equal priority are in order of number, and before those still in the queue
+abbrev pub EqualsInOrder : Program → List Call → Type 0
+EqualsInOrder p cs =
+    Pairs (λ a b. rank p a ≡ rank p b → a .number < b .number) (committedIn p cs)
+    × All (λ a. All (λ b. rank p a ≡ rank p b → a .number < b .number) (inQueue (after p cs))) (committedIn p cs)
+
+-- b was taken in after the copy-back of a began: at some moment it is under way, and b's number is not yet given
+pub record Later (p : Program) (cs : List Call) (a b : Arrival) : Type 0 where
+  pub past : List Call
+  pub rest-of : List Call
+  pub moment : cs ≡ past ++ rest-of
+  pub copying : CopyingBack p a (after p past)
+  pub not-yet : number (after p past) ≤ b .number
+
+-- "A lower rank precedes a higher one only if the higher was taken in after the lower's copy-back began."
+abbrev pub LowerFirst : Program → List Call → Type 0
+LowerFirst p cs = Pairs (λ a b. rank p a < rank p b → Later p cs a b) (committedIn p cs)
+
+-- the longest event's instructions, over all events
+unfoldable pub greatest : List ℕ → ℕ
+greatest [] = 0
+greatest (n ∷ ns) = pick (ltb n (greatest ns)) (greatest ns) n
+
+unfoldable pub longest : Program → ℕ
+longest p = greatest (upTo (events p) (λ e. length (code p e)))
+
+unfoldable pub steps : List Call → ℕ
+steps [] = 0
+steps (arrive e ∷ cs) = steps cs
+steps (step ∷ cs) = suc (steps cs)
+steps (board i ∷ cs) = steps cs
+
+-- "Once no more are taken in, the round is idle within 01's count of steps", (k + 1) × (L + 1); "k = 0 is idle already"
+abbrev pub SettlesIn : Program → List Call → Type 0
+SettlesIn p cs =
+    ((ds : List Call) → number (after p (cs ++ ds)) ≡ number (after p cs)
+    → (length (inQueue (after p cs)) + 1) * (longest p + 1) ≤ steps ds → Idle p (after p (cs ++ ds)))
+    × (length (inQueue (after p cs)) ≡ 0 → Idle p (after p cs))
+
+-- "for every two such lists on one sheet, taking in the same events in the same order, those of unequal rank being independent: when both are idle, their boards are equal"
+abbrev pub SameBoard : Program → List Call → List Call → Type 0
+SameBoard p cs ds =
+    takenInBy p cs ≡ takenInBy p ds
+    → All (λ a. All (λ b. rank p a ≢ rank p b → Independent p (a .event) (b .event)) (takenInBy p cs)) (takenInBy p cs)
+    → Idle p (after p cs) → Idle p (after p ds)
+    → storeOf (after p cs) ≡ storeOf (after p ds)

@@ -1,0 +1,16 @@
+pub mod Model
+pub mod Claims
+pub mod Choice
+pub mod Moves
+pub mod Fresh
+pub mod Reached
+pub mod History
+pub mod Boards
+pub mod Once
+pub mod Equals
+pub mod Lower
+pub mod Settles
+pub mod Confluence
+pub mod SameBoard
+pub mod ModelHolds
+pub mod Alone

@@ -1,0 +1,38 @@
+-- Demand 3 holds of the model engine on every list of calls, given what it relies on in the program's code. The sentences are those of Claims.
+use Prim.Native.Nat.{ℕ, _<_}
+use mathlib.Core.Path.{_≡_}
+use mathlib.Core.List.{List}
+use lib.ListN.{length}
+use Rattle.language.specs.Syntax.{Program}
+use Rattle.language.specs.Dependence.{size, events, Independent}
+use Rattle.semantics.specs.Meaning.{event}
+use Rattle.execution.specs.CodeFacts.{CodeFacts}
+use Rattle.model.specs.Model.{Call}
+use Rattle.model.specs.Claims.{BoardOfCommits, OnceEach, EqualsInOrder, LowerFirst, SettlesIn, SameBoard}
+use Rattle.model.specs.Boards as boards
+use Rattle.model.specs.Once as once
+use Rattle.model.specs.Equals as equals
+use Rattle.model.specs.Lower as lower
+use Rattle.model.specs.Settles as settles
+use Rattle.model.specs.SameBoard as same
+
+module _ (p : Program) (facts : CodeFacts p) where
+  pub board-of-commits : (cs : List Call) → BoardOfCommits p cs
+  board-of-commits = boards.board-of-commits p facts
+
+  pub once-each : (cs : List Call) → OnceEach p cs
+  once-each = once.once-each p facts
+
+  pub equals-in-order : (cs : List Call) → EqualsInOrder p cs
+  equals-in-order = equals.equals-in-order p facts
+
+  pub lower-first : (cs : List Call) → LowerFirst p cs
+  lower-first = lower.lower-first p facts
+
+  pub settles-in : (cs : List Call) → SettlesIn p cs
+  settles-in = settles.settles-in p facts
+
+  -- independent events commute: given of the program
+  pub same-board : (commute : (e f : ℕ) → e < events p → f < events p → Independent p e f → (s : List ℕ) → length s ≡ size p
+      → event p e (event p f s) ≡ event p f (event p e s)) → (cs ds : List Call) → SameBoard p cs ds
+  same-board = same.same-board p facts

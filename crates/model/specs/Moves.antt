@@ -1,0 +1,115 @@
+-- Every call makes one of eight moves. What is to be shown of all calls is shown of each move, the tests of the model having been followed here once.
+use Prim.Native.Nat.{ℕ, _+_, _≤_, _<_}
+use mathlib.Core.Bool.{false, true≢false}
+use mathlib.Core.Path.{_≡_, sym, _∙_}
+use mathlib.Core.List.{List, [], _∷_}
+use native.Mathlib.Omega.{arith}
+use lib.Dec.{ltb, leb}
+use lib.ListN.{length, getD}
+use borrow.Author.Tests.{ltb-true, ltb-false, leb-false}
+use Rattle.base.specs.Basics.{All}
+use Rattle.base.specs.Tools.{by-test, all-perm, all-imp}
+use mathlib.Core.List.{Permᴰ·symm}
+use Rattle.language.specs.Syntax.{Program}
+use Rattle.language.specs.Dependence.{size, events}
+use Rattle.language.specs.Code.{off, code}
+use Rattle.execution.specs.Execution.{Values, execute}
+use Rattle.model.specs.Model.{Arrival, arrival, Running, rest, busy, Engine, engine, queue, Call, arrive, step, board, Answer, refused, takenIn, shows, idle, ran, started, preempted, committed, Outcome, rank, masked, settling, choose, aside, begin, advance, act}
+use Rattle.model.specs.Claims.{number}
+use Rattle.model.specs.Choice.{Leads, choose-perm, choose-first}
+
+-- what a call adds to the history: nothing, an arrival taken in, or a commit
+pub data Effect : Type 0 where
+  nothing : Effect
+  took commit : Arrival → Effect
+
+abbrev pub newcomer : Call → ℕ → Effect
+newcomer (arrive e) n = took (arrival n e)
+newcomer step n = nothing
+newcomer (board i) n = nothing
+
+abbrev pub said-by : Answer → Effect → Effect
+said-by (refused k) x = nothing
+said-by takenIn x = x
+said-by (shows v) x = nothing
+said-by idle x = nothing
+said-by ran x = nothing
+said-by (started a) x = nothing
+said-by (preempted a) x = nothing
+said-by (committed a) x = commit a
+
+-- of a call with this answer, n arrivals having been taken in
+abbrev pub effect : Call → Answer → ℕ → Effect
+effect c a n = said-by a (newcomer c n)
+
+module _ (p : Program) where
+  -- nothing waiting outranks the running one, unless that is masked
+  abbrev pub Unchallenged : List Arrival → Arrival → ℕ → Type 0
+  Unchallenged waiting a n = masked p a n ≡ false → All (λ x. rank p x ≤ rank p a) waiting
+
+  pub record Cases (P : Call → Engine → Effect → Engine → Type 0) : Type 0 where
+    pub refuses : (e : ℕ) (w : Engine) → P (arrive e) w nothing w
+    pub takes : (e t : ℕ) (waiting : List Arrival) (r : Running) (d : Values) → e < events p → length (queue waiting r) < 64 → t < 1000000
+        → P (arrive e) (engine t waiting r d) (took (arrival t e)) (engine (t + 1) (arrival t e ∷ waiting) r d)
+    pub reads : (i : ℕ) (w : Engine) → P (board i) w nothing w
+    pub idles : (t : ℕ) (d : Values) → P step (engine t [] rest d) nothing (engine t [] rest d)
+    pub starts : (t : ℕ) (b : Arrival) (l : List Arrival) (d : Values) → P step (engine t (b ∷ l) rest d) nothing (begin p t (choose p b l) d)
+    pub preempts : (t : ℕ) (b : Arrival) (l : List Arrival) (a : Arrival) (n : ℕ) (d : Values) → masked p a n ≡ false
+        → rank p a < rank p (choose p b l .next) → P step (engine t (b ∷ l) (busy a n) d) nothing (begin p t (aside p a (choose p b l)) d)
+    pub runs : (t : ℕ) (waiting : List Arrival) (a : Arrival) (n : ℕ) (d : Values) → n + 1 < length (code p (a .event)) → Unchallenged waiting a n
+        → P step (engine t waiting (busy a n) d) nothing (engine t waiting (busy a (n + 1)) (execute (getD (code p (a .event)) n off) d))
+    pub commits : (t : ℕ) (waiting : List Arrival) (a : Arrival) (n : ℕ) (d : Values) → length (code p (a .event)) ≤ n + 1 → Unchallenged waiting a n
+        → P step (engine t waiting (busy a n) d) (commit a) (engine t waiting rest (execute (getD (code p (a .event)) n off) d))
+
+  module _ (P : Call → Engine → Effect → Engine → Type 0) (m : Cases P) where
+    abbrev Does : Call → Engine → Outcome → Type 0
+    Does c w o = P c w (effect c (o .answer) (number w)) (o .after)
+
+    advance-by : (t : ℕ) (waiting : List Arrival) (a : Arrival) (n : ℕ) (d : Values) → Unchallenged waiting a n
+        → Does step (engine t waiting (busy a n) d) (advance p t waiting a n d)
+    advance-by t waiting a n d u =
+        by-test (Does step (engine t waiting (busy a n) d)) (ltb (n + 1) (length (code p (a .event))))
+        (λ e. m .runs t waiting a n d (ltb-true _ _ e) u)
+        (λ e. m .commits t waiting a n d (ltb-false _ _ e) u)
+
+    -- the next does not outrank, so nothing does
+    unchallenged : (b : Arrival) (l : List Arrival) (a : Arrival) (n : ℕ) → rank p (choose p b l .next) ≤ rank p a → Unchallenged (b ∷ l) a n
+    unchallenged b l a n h =
+        λ u. all-perm (λ (x : Arrival). rank p x ≤ rank p a) (Permᴰ·symm (choose-perm p b l))
+        (h, all-imp (Leads p (choose p b l .next)) _ (λ x k. omega arith) (choose p b l .others) (choose-first p b l .1))
+
+    pub act-by : (c : Call) (w : Engine) → Does c w (act p c w)
+    unfolding act
+    act-by (arrive e) (engine t waiting r d) =
+        by-test (Does (arrive e) (engine t waiting r d)) (leb (events p) e) (λ _. m .refuses e (engine t waiting r d))
+        (λ x. by-test (Does (arrive e) (engine t waiting r d)) (leb 64 (length (queue waiting r))) (λ _. m .refuses e (engine t waiting r d))
+        (λ y. by-test (Does (arrive e) (engine t waiting r d)) (leb 1000000 t) (λ _. m .refuses e (engine t waiting r d))
+        (λ z. m .takes e t waiting r d (leb-false _ _ x) (leb-false _ _ y) (leb-false _ _ z))))
+    act-by (board i) (engine t waiting r d) =
+        by-test (λ (x : Answer). P (board i) (engine t waiting r d) (said-by x nothing) (engine t waiting r d)) (leb (size p) i)
+        (λ _. m .reads i (engine t waiting r d))
+        (λ _. by-test (λ (x : Answer). P (board i) (engine t waiting r d) (said-by x nothing) (engine t waiting r d)) (settling p r)
+        (λ _. m .reads i (engine t waiting r d)) (λ _. m .reads i (engine t waiting r d)))
+    act-by step (engine t [] rest d) = m .idles t d
+    act-by step (engine t (b ∷ l) rest d) = m .starts t b l d
+    act-by step (engine t [] (busy a n) d) = advance-by t [] a n d (λ u. tt)
+    act-by step (engine t (b ∷ l) (busy a n) d) =
+        by-test (Does step (engine t (b ∷ l) (busy a n) d)) (masked p a n)
+        (λ u. advance-by t (b ∷ l) a n d (λ v. absurd (true≢false (sym u ∙ v))))
+        (λ u. by-test (Does step (engine t (b ∷ l) (busy a n) d)) (ltb (rank p a) (rank p (choose p b l .next)))
+        (λ x. m .preempts t b l a n d u (ltb-true _ _ x))
+        (λ x. advance-by t (b ∷ l) a n d (unchallenged b l a n (ltb-false _ _ x))))
+
+  -- what follows from one claim, move by move
+  pub cases-imp : (P Q : Call → Engine → Effect → Engine → Type 0)
+      → ((c : Call) (w : Engine) (x : Effect) (v : Engine) → P c w x v → Q c w x v) → Cases P → Cases Q
+  cases-imp P Q f m = record {
+    refuses = λ e w. f (arrive e) w nothing w (m .refuses e w);
+    takes = λ e t waiting r d k n h. f (arrive e) _ _ _ (m .takes e t waiting r d k n h);
+    reads = λ i w. f (board i) w nothing w (m .reads i w);
+    idles = λ t d. f step _ nothing _ (m .idles t d);
+    starts = λ t b l d. f step _ nothing _ (m .starts t b l d);
+    preempts = λ t b l a n d u o. f step _ nothing _ (m .preempts t b l a n d u o);
+    runs = λ t waiting a n d k u. f step _ nothing _ (m .runs t waiting a n d k u);
+    commits = λ t waiting a n d k u. f step _ (commit a) _ (m .commits t waiting a n d k u);
+  }

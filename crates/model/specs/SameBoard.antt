@@ -1,0 +1,64 @@
+-- Two lists of calls that take in the same events in the same order, those of unequal priority independent, end in one store when both are idle:
+-- each commits what it took in, with equals in order, and independent events commute.
+use Prim.Native.Nat.{ℕ, _<_}
+use mathlib.Core.Bool.{false}
+use mathlib.Core.Path.{_≡_, refl, sym, _∙_, subst}
+use mathlib.Core.Logic.{_≢_}
+use mathlib.Core.List.{List, [], _∷_}
+use mathlib.Core.List.{List·Permᴰ, List·Permᴰ·trans, Permᴰ·symm, Permᴰ·map}
+use lib.ListN.{length}
+use Rattle.base.specs.Basics.{All, Distinct}
+use Rattle.base.specs.Tools.{all-perm, all-imp, distinct-perm}
+use Rattle.language.specs.Syntax.{Program}
+use Rattle.language.specs.Dependence.{size, events, Independent}
+use Rattle.semantics.specs.Meaning.{event, fresh}
+use Rattle.execution.specs.CodeFacts.{CodeFacts}
+use Rattle.model.specs.Model.{Arrival, rest, busy, Engine, engine, Call, rank}
+use Rattle.model.specs.Claims.{number, inQueue, storeOf, settlingIn, Idle, after, committedIn, takenInBy, SameBoard}
+use Rattle.model.specs.Choice.{numbers}
+use Rattle.model.specs.Fresh.{length-fresh}
+use Rattle.model.specs.Reached.{Fine}
+use Rattle.model.specs.Boards.{storeAfter, board-of-commits}
+use Rattle.model.specs.Once.{once, once-each, idle-empty}
+use Rattle.model.specs.Equals.{equals-in-order}
+use Rattle.model.specs.Confluence.{Commute, Declared, each-perm, confluent}
+
+module _ (p : Program) (facts : CodeFacts p) where
+  at-rest : (w : Engine) → inQueue w ≡ [] → settlingIn p w ≡ false
+  at-rest (engine t waiting rest d) h = refl
+  at-rest (engine t waiting (busy a c) d) h = cc
+
+  -- when idle, the store is that of the commits, and these are what was taken in
+  idle-store : (cs : List Call) → Idle p (after p cs) → storeOf (after p cs) ≡ storeAfter p (committedIn p cs)
+  idle-store cs h = board-of-commits p facts cs (at-rest (after p cs) (idle-empty p (after p cs) h))
+
+  declared : (cs : List Call) → All (Declared p) (takenInBy p cs)
+  declared cs = all-imp (Fine p (number (after p cs))) _ (λ x h. h .1) (takenInBy p cs) (once p facts cs .1)
+
+  module _ (commute : (e f : ℕ) → e < events p → f < events p → Independent p e f → (s : List ℕ) → length s ≡ size p
+      → event p e (event p f s) ≡ event p f (event p e s)) where
+    -- what is independent commutes, one with each and each with each
+    one-commutes : (a : Arrival) (l : List Arrival) → Declared p a → All (Declared p) l
+        → All (λ b. rank p a ≢ rank p b → Independent p (a .event) (b .event)) l → All (Commute p a) l
+    one-commutes a [] f g h = tt
+    one-commutes a (b ∷ l) f g h = ((λ r s n. commute (a .event) (b .event) f (g .0) (h .0 r) s n), one-commutes a l f (g .1) (h .1))
+
+    each-commutes : (l m : List Arrival) → All (Declared p) l → All (Declared p) m
+        → All (λ a. All (λ b. rank p a ≢ rank p b → Independent p (a .event) (b .event)) m) l → All (λ a. All (Commute p a) m) l
+    each-commutes [] m f g h = tt
+    each-commutes (a ∷ l) m f g h = (one-commutes a m (f .0) g (h .0), each-commutes l m (f .1) g (h .1))
+
+    pub same-board : (cs ds : List Call) → SameBoard p cs ds
+    same-board cs ds same apart ic id =
+        let tc : List Arrival = takenInBy p cs in
+        let lc : List Arrival = committedIn p cs in
+        let ld : List Arrival = committedIn p ds in
+        let dc : List·Permᴰ tc lc = once-each p facts cs .2 ic in
+        let dd : List·Permᴰ tc ld = subst (λ (l : List Arrival). List·Permᴰ l ld) (sym same) (once-each p facts ds .2 id) in
+        let n : Distinct (numbers lc) = distinct-perm (Permᴰ·map _ dc) (once-each p facts cs .1) in
+        let c : All (λ a. All (Commute p a) lc) lc =
+        each-perm (Commute p) dc (each-commutes tc tc (declared cs) (declared cs) apart) in
+        idle-store cs ic
+        ∙ confluent p facts lc ld (fresh p) (length-fresh p) (List·Permᴰ·trans (Permᴰ·symm dc) dd) n (all-perm _ dc (declared cs)) c
+        (equals-in-order p facts cs .0) (equals-in-order p facts ds .0)
+        ∙ sym (idle-store ds id)
