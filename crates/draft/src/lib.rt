@@ -1,0 +1,19 @@
+// Reading the draft of a program (layout: specs/Draft.antt).
+ghost use mathlib.Core.Path.{_≡_};
+ghost use Prim.Native.Nat.{_<_, _≤_};
+ghost use lib.ListN.{length};
+ghost use Rattle.draft.specs.Draft.{entryOf};
+
+// What the draft has for behaviour i on event e; e = 32 stands for no event where 32 are declared.
+pub fn entry_of(d: &[u64], e: usize, i: usize) -> u64
+    requires { ⌜ (length (now d) ≡ 4256) × (i < 64) ⌝ }
+    ensures { λ r. ⌜ r ≡ entryOf (now (d .entry)) e i ⌝ }
+{
+    if d[4096 + i] == 0 {
+        if e < 32 {
+            return d[2048 + i * 32 + e];
+        }
+        return 0;
+    }
+    d[4096 + i]
+}
