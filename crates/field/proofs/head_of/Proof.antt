@@ -1,0 +1,30 @@
+use Rattle.field.specs.Expression.{headAt}
+use Rattle.base.specs.Pick.{branches}
+use native.Mathlib.Omega.{arith}
+use borrow.Author.Needs.{needs}
+use Rattle.field.proofs.head_of.Statement.{statement}
+use Rattle.field.proofs.head_of.Tie as tie
+
+pub head-of-spec : {M : Type 1} → statement M
+unfolding headAt
+head-of-spec =
+    tie.close
+    (tie.spec
+    (λ c. search (branches, arith) depth 12)
+    (λ c. search (branches, arith) depth 12)
+    (λ c κs. search needs)
+    (λ c. search needs)
+    (λ c. search needs)
+    (λ c. rw (← c .get-at .ensures) (search (branches, arith) depth 12))
+    (λ c. search (branches, arith) depth 12)
+    (λ c. search needs)
+    (λ c. omega (arith, c .shared-slice-known2 .given 0))
+    (λ c. omega (arith, c .shared-slice-known2 .given 0))
+    (λ c. search (branches, arith) depth 12)
+    (λ c. search (branches, arith) depth 12)
+    (λ c. search needs)
+    (λ c. search (branches, arith) depth 12)
+    (λ c. search needs)
+    (λ c. search (branches, arith) depth 12)
+    (λ c. search needs)
+    (λ c. search (branches, arith) depth 12))
