@@ -1,0 +1,61 @@
+-- What the reader leaves in the draft is the program that the grammar says, and a fault is the grammar's.
+use Prim.Native.Nat.{ℕ, _≤_, _<_}
+use mathlib.Core.Path.{_≡_, refl, ap, _∙_}
+use mathlib.Core.List.{List, []}
+use lib.ListN.{length, replicate, length-replicate, getD-replicate}
+use Rattle.base.specs.Basics.{All}
+use Rattle.language.specs.Syntax.{Program}
+use Rattle.language.specs.Dependence.{size, events}
+use Rattle.language.specs.Reading.{Got, bad, got, readProgram}
+use Rattle.grammar.specs.Programs.{reads-only}
+use Rattle.draft.specs.Draft.{Drafted, DraftOf}
+use Rattle.reader.specs.declared.Draft.{Draft}
+use Rattle.reader.specs.declared.Draft.the-variants.{Ready, Broken}
+use Rattle.reader.specs.Whole.{Finish, finished, readOn}
+use Rattle.drafting.specs.Programs.{SameProgram, same-program}
+
+-- what an answer of the reader says of the bytes s, with the draft d that it leaves
+abbrev pub Outcome : List ℕ → Draft → List ℕ → Type 0
+Outcome s (Broken k) d = readProgram s ≡ bad k
+Outcome s (Ready ev bs n) d = (of : DraftOf ev bs n d) × (readProgram s ≡ got (of .program) [])
+
+-- the draft before reading
+abbrev pub empty : List ℕ
+empty = replicate 4256 0
+
+module _ (s : List ℕ) (bytes : All (λ b. b < 256) s) (some : 1 ≤ length s) (most : length s ≤ 8192) where
+  same : SameProgram (readProgram s) (readOn s empty)
+  same = same-program s most empty (length-replicate {A = ℕ} 4256 0) (λ j h. getD-replicate {A = ℕ} 4256 j 0 0 h)
+
+  pub drafts-bad : (k : ℕ) → readProgram s ≡ bad k → readOn s empty .0 ≡ Broken k
+  drafts-bad k e = go (readOn s empty) same
+    where
+      go : (o : Finish) → SameProgram (readProgram s) o → o .0 ≡ Broken k
+      go o h = rw e at h
+
+  pub drafts-got : (p : Program) → readProgram s ≡ got p [] → (n : ℕ) × (readOn s empty .0 ≡ Ready (events p) (size p) n) × Drafted p (readOn s empty .1) n
+  drafts-got p e = go (readOn s empty) same
+    where
+      go : (o : Finish) → SameProgram (readProgram s) o → (n : ℕ) × (o .0 ≡ Ready (events p) (size p) n) × Drafted p (o .1) n
+      go o h =
+          let r : SameProgram (got p []) o = rw e at h in
+          (r .1, r .2, r .3)
+
+  outcome : (g : Got Program) (o : Finish) → readProgram s ≡ g → SameProgram g o → Outcome s (o .0) (o .1)
+  outcome (bad k) o q h = rw h q
+  outcome (got p r) o q h =
+      let t : readProgram s ≡ got p [] = q ∙ ap (λ (l : List ℕ). got p l) (h .0) in
+      rw (h .2) (
+        record { program = p; fits = reads-only s bytes some most p [] t .1; events-are = refl; size-is = refl; drafted = h .3 },
+        t,
+      )
+
+  pub drafted : Outcome s (readOn s empty .0) (readOn s empty .1)
+  drafted = outcome (readProgram s) (readOn s empty) refl same
+
+  -- the same for an answer and a draft that are known by an equation
+  pub drafted-as : (a : Draft) (d : List ℕ) → readOn s empty ≡ finished a d → Outcome s a d
+  drafted-as a d e = go (readOn s empty) e drafted
+    where
+      go : (o : Finish) → o ≡ finished a d → Outcome s (o .0) (o .1) → Outcome s a d
+      go o q h = rw q at h

@@ -1,0 +1,196 @@
+-- The reader by positions finds the fault of the tree reader, or puts the nodes of its expression into the draft.
+-- By induction on the levels left; within an application each argument moves both readers on alike.
+use Prim.Native.Nat.{ℕ, zero, suc, _+_, _*_, _-_, _≤_}
+use mathlib.Core.Bool.{true, false}
+use mathlib.Core.Path.{_≡_, refl, sym, ap, _∙_}
+use mathlib.Core.List.{List, [], _∷_, _++_}
+use native.Mathlib.Omega.{arith}
+use lib.ListN.{length, getD, drop, set, length-drop, length-append}
+use lib.Seq.{drop-drop, sets}
+use lib.Dec.{ltb, eqb, eqb·suc-zero}
+use borrow.Author.Tests.{ne-eqb}
+use Rattle.base.specs.Basics.{pick}
+use Rattle.base.specs.Tools.{split}
+use Rattle.word.specs.Word.{getAt}
+use Rattle.arith.specs.Functions.{arity}
+use Rattle.language.specs.Syntax.{Expr, con, name, app1, app2, app3}
+use Rattle.language.specs.Code.{sizeOf}
+use Rattle.language.specs.Reading as tree
+use Rattle.language.specs.Reading.{refused, present, fieldAt, Got, bad, got, whole, wordOf, byteOf, then, appOf, exprBody, deepest, exprAt}
+use Rattle.field.specs.Field.{fieldOf, partOf}
+use Rattle.field.specs.Expression.{headAt, headFrom, headOf, Out, out, onward, argsOf, closeAt, bodyOf, exprOf}
+use Rattle.field.specs.declared.Field.{Field}
+use Rattle.field.specs.declared.Head.{Head}
+use Rattle.field.specs.declared.Head.the-variants.{Leaf, Apply, NoHead}
+use Rattle.field.specs.declared.Read.the-variants.{Done, Fault}
+use Rattle.draft.specs.Draft.{nodes}
+use Rattle.drafting.specs.Fields.{by-two, valueIn, span, SameField, same-field, value-length, rest-drop, whole-at}
+use Rattle.drafting.specs.Stores.{sets-append}
+
+-- ---- nodes
+
+pub nodes-length : (x : Expr) → length (nodes x) ≡ sizeOf x
+unfolding nodes sizeOf
+nodes-length (con w) = refl
+nodes-length (name i) = refl
+nodes-length (app1 f a) = omega (arith, nodes-length a, length-append (nodes a) ((77309411328 + f) ∷ []))
+nodes-length (app2 f a b) =
+    omega (arith, nodes-length a, nodes-length b, length-append (nodes a) (nodes b ++ ((77309411328 + f) ∷ [])), length-append (nodes b) ((77309411328 + f) ∷ []))
+nodes-length (app3 f a b c) =
+    omega (
+      arith,
+      nodes-length a,
+      nodes-length b,
+      nodes-length c,
+      length-append (nodes a) (nodes b ++ (nodes c ++ ((77309411328 + f) ∷ []))),
+      length-append (nodes b) (nodes c ++ ((77309411328 + f) ∷ [])),
+      length-append (nodes c) ((77309411328 + f) ∷ []),
+    )
+
+pub some-nodes : (x : Expr) → 1 ≤ sizeOf x
+unfolding sizeOf
+some-nodes (con w) = omega arith
+some-nodes (name i) = omega arith
+some-nodes (app1 f a) = omega arith
+some-nodes (app2 f a b) = omega arith
+some-nodes (app3 f a b c) = omega arith
+
+-- the nodes of an expression, then others
+sets-nodes : (x : Expr) (l : List ℕ) (i : ℕ) (ys : List ℕ) → sets l i (nodes x ++ ys) ≡ sets (sets l i (nodes x)) (i + sizeOf x) ys
+sets-nodes x l i ys = sets-append l i (nodes x) ys ∙ rw (nodes-length x)
+
+-- ---- both readers
+
+-- what both say of an expression at the front of s that takes `size` bytes, with n nodes in the draft d before it
+abbrev pub SameExpr : List ℕ → ℕ → List ℕ → ℕ → Got Expr → Out → Type 0
+SameExpr s size d n (bad k) o = o .0 ≡ Fault k
+SameExpr s size d n (got x r) o =
+    (r ≡ drop size s) × (size ≤ length s) × (sizeOf x * 4 ≤ size) × (o ≡ out (Done size (n + sizeOf x)) (sets d n (nodes x)))
+
+-- an application's value is v, of the field at the front of s
+module _ (arg : List ℕ → Got Expr) (rd : List ℕ → List ℕ → ℕ → Out)
+    (ih : (u d : List ℕ) (n : ℕ) → SameExpr u (span u) d n (arg u) (rd u d n))
+    (s : List ℕ) (size : ℕ) (d₀ : List ℕ) (n₀ : ℕ) (r : List ℕ) (after : r ≡ drop size s) (fits : size ≤ length s) where
+  abbrev Same : Got Expr → Out → Type 0
+  Same = SameExpr s size d₀ n₀
+
+  module _ (f : ℕ) (v : List ℕ) (full : length v + 3 ≡ size) where
+    abbrev close : Out → Out
+    close o = onward (o .0) (o .1) (λ at m. closeAt f (length v) at (o .1) m)
+
+    -- one argument, from `at` on
+    step-on : (k at : ℕ) (d : List ℕ) (m : ℕ) (F : Expr → List ℕ → Got Expr) → at ≤ length v
+        → ((a : Expr) (next : ℕ) → next ≤ length v → at + sizeOf a * 4 ≤ next → Same (F a (drop next v)) (close (argsOf rd k v next (sets d m (nodes a)) (m + sizeOf a))))
+        → (g : Got Expr) (o : Out) → SameExpr (drop at v) (span (drop at v)) d m g o
+        → Same (then g F) (close (onward (o .0) (o .1) (λ size m. argsOf rd k v (at + size) (o .1) m)))
+    step-on k at d m F h go (bad j) o e = rw e refl
+    step-on k at d m F h go (got a u) o e =
+        let q : length (drop at v) ≡ length v - at = length-drop at v in
+        let p : u ≡ drop (at + span (drop at v)) v = e .0 ∙ drop-drop (span (drop at v)) at v in
+        rw (e .3, p) (go a (at + span (drop at v)) (omega arith) (omega arith))
+
+    step : (k at : ℕ) (d : List ℕ) (m : ℕ) (F : Expr → List ℕ → Got Expr) → at ≤ length v
+        → ((a : Expr) (next : ℕ) → next ≤ length v → at + sizeOf a * 4 ≤ next → Same (F a (drop next v)) (close (argsOf rd k v next (sets d m (nodes a)) (m + sizeOf a))))
+        → Same (then (arg (drop at v)) F) (close (argsOf rd (suc k) v at d m))
+    unfolding argsOf
+    step k at d m F h go = rw (rest-drop at v) (step-on k at d m F h go (arg (drop at v)) (rd (drop at v) d m) (ih (drop at v) d m))
+
+    -- the end of the arguments
+    end : (at : ℕ) (d : List ℕ) (m : ℕ) (x : Expr) → at ≤ length v → sizeOf x * 4 ≤ at + 3
+        → m + 1 ≡ n₀ + sizeOf x → set d m (77309411328 + f) ≡ sets d₀ n₀ (nodes x)
+        → Same (whole x (drop at v) r) (close (argsOf rd 0 v at d m))
+    unfolding argsOf closeAt
+    end at d m x h few count same =
+        whole-at Same x v r at _ _ h (λ e. (after, fits, omega arith, (let q : at + 3 ≡ size = omega arith in rw (q, count, same)))) refl
+
+  module _ (f : ℕ) (w : List ℕ) (full : length (f ∷ w) + 3 ≡ size) where
+    one-arg : eqb f 3 ≡ true → Same (tree.argsOf arg f w r) (bodyOf rd (Apply f) (f ∷ w) d₀ n₀)
+    unfolding arity nodes sizeOf
+    one-arg e =
+        let q : arity f ≡ 1 = rw e in
+        rw q
+        (step f (f ∷ w) full 0 1 d₀ n₀ _ (omega arith)
+        (λ a i h k. rw e (end f (f ∷ w) full i (sets d₀ n₀ (nodes a)) (n₀ + sizeOf a) (app1 f a) h (omega arith) (omega arith)
+        (sym (sets-nodes a d₀ n₀ ((77309411328 + f) ∷ []))))))
+
+    two-args : eqb f 3 ≡ false → eqb f 14 ≡ false → Same (tree.argsOf arg f w r) (bodyOf rd (Apply f) (f ∷ w) d₀ n₀)
+    unfolding arity nodes sizeOf
+    two-args e c =
+        let q : arity f ≡ 2 = rw (e, c) in
+        rw q
+        (step f (f ∷ w) full 1 1 d₀ n₀ _ (omega arith)
+        (λ a i h k. rw e (step f (f ∷ w) full 0 i (sets d₀ n₀ (nodes a)) (n₀ + sizeOf a) _ h
+        (λ b j h₁ k₁. rw c (end f (f ∷ w) full j (sets (sets d₀ n₀ (nodes a)) (n₀ + sizeOf a) (nodes b)) (n₀ + sizeOf a + sizeOf b) (app2 f a b) h₁ (omega arith) (omega arith)
+        (sym (sets-nodes a d₀ n₀ (nodes b ++ ((77309411328 + f) ∷ [])) ∙ sets-nodes b (sets d₀ n₀ (nodes a)) (n₀ + sizeOf a) ((77309411328 + f) ∷ []))))))))
+
+    three-args : eqb f 3 ≡ false → eqb f 14 ≡ true → Same (tree.argsOf arg f w r) (bodyOf rd (Apply f) (f ∷ w) d₀ n₀)
+    unfolding arity nodes sizeOf
+    three-args e c =
+        let q : arity f ≡ 3 = rw (e, c) in
+        rw q
+        (step f (f ∷ w) full 2 1 d₀ n₀ _ (omega arith)
+        (λ a i h k. rw e (step f (f ∷ w) full 1 i (sets d₀ n₀ (nodes a)) (n₀ + sizeOf a) _ h
+        (λ b j h₁ k₁. rw c (step f (f ∷ w) full 0 j (sets (sets d₀ n₀ (nodes a)) (n₀ + sizeOf a) (nodes b)) (n₀ + sizeOf a + sizeOf b) _ h₁
+        (λ x l h₂ k₂. end f (f ∷ w) full l (sets (sets (sets d₀ n₀ (nodes a)) (n₀ + sizeOf a) (nodes b)) (n₀ + sizeOf a + sizeOf b) (nodes x))
+        (n₀ + sizeOf a + sizeOf b + sizeOf x) (app3 f a b x) h₂ (omega arith) (omega arith)
+        (sym (sets-nodes a d₀ n₀ (nodes b ++ (nodes x ++ ((77309411328 + f) ∷ [])))
+        ∙ sets-nodes b (sets d₀ n₀ (nodes a)) (n₀ + sizeOf a) (nodes x ++ ((77309411328 + f) ∷ []))
+        ∙ sets-nodes x (sets (sets d₀ n₀ (nodes a)) (n₀ + sizeOf a) (nodes b)) (n₀ + sizeOf a + sizeOf b) ((77309411328 + f) ∷ [])))))))))
+
+    args : Same (tree.argsOf arg f w r) (bodyOf rd (Apply f) (f ∷ w) d₀ n₀)
+    args = split (eqb f 3) one-arg (λ e. split (eqb f 14) (three-args e) (two-args e))
+
+  -- by the tag, with the value w
+  abbrev Begins : List ℕ → Got Expr → Head → Type 0
+  Begins w g h = Same g (bodyOf rd h w d₀ n₀)
+
+  word-begins : (w : List ℕ) → length w + 3 ≡ size → Begins w (wordOf con w r) (pick (eqb (length w) 4) (Leaf (68719476736 + getAt w 0) 7) (NoHead 6))
+  unfolding nodes sizeOf getAt
+  word-begins [] full = refl
+  word-begins (a ∷ []) full = refl
+  word-begins (a ∷ (b ∷ [])) full = refl
+  word-begins (a ∷ (b ∷ (c ∷ []))) full = refl
+  word-begins (a ∷ (b ∷ (c ∷ (e ∷ [])))) full =
+      let q : 7 ≡ size = omega arith in
+      (after, fits, omega arith, ap (λ (z : ℕ). out (Done z (n₀ + 1)) (set d₀ n₀ (68719476736 + (((a * 256 + b) * 256 + c) * 256 + e)))) q)
+  word-begins (a ∷ (b ∷ (c ∷ (e ∷ (g ∷ w))))) full = rw (ne-eqb (length (a ∷ (b ∷ (c ∷ (e ∷ (g ∷ w)))))) 4 (omega arith)) refl
+
+  byte-begins : (w : List ℕ) → length w + 3 ≡ size → Begins w (byteOf name w r) (pick (eqb (length w) 1) (Leaf (73014444032 + getD w 0 0) 4) (NoHead 6))
+  unfolding nodes sizeOf
+  byte-begins [] full = refl
+  byte-begins (a ∷ []) full =
+      let q : 4 ≡ size = omega arith in
+      (after, fits, omega arith, ap (λ (z : ℕ). out (Done z (n₀ + 1)) (set d₀ n₀ (73014444032 + a))) q)
+  byte-begins (a ∷ (b ∷ w)) full = rw (ne-eqb (length (a ∷ (b ∷ w))) 1 (omega arith)) refl
+
+  app-begins : (w : List ℕ) → length w + 3 ≡ size
+      → Begins w (appOf arg w r)
+      (pick (eqb (length w) 0) (NoHead 6) (pick (eqb (getD w 0 0) 0) (NoHead 8) (pick (ltb 14 (getD w 0 0)) (NoHead 8) (Apply (getD w 0 0)))))
+  app-begins [] full = refl
+  app-begins (f ∷ w) full =
+      rw (eqb·suc-zero (length w))
+      (by-two (Begins (f ∷ w)) (eqb f 0) (λ e. refl) (λ e. by-two (Begins (f ∷ w)) (ltb 14 f) (λ c. refl) (λ c. args f w full)))
+
+  begins : (left t : ℕ) (w : List ℕ) → length w + 3 ≡ size → Begins w (exprBody arg (present t w r)) (headAt (suc left) t w)
+  unfolding headAt
+  begins left t w full =
+      rw (eqb·suc-zero left)
+      (by-two (Begins w) (eqb t 16) (λ e. word-begins w full) (λ e. by-two (Begins w) (eqb t 17) (λ c. byte-begins w full) (λ c. app-begins w full)))
+
+body : (arg : List ℕ → Got Expr) (rd : List ℕ → List ℕ → ℕ → Out) → ((u d : List ℕ) (n : ℕ) → SameExpr u (span u) d n (arg u) (rd u d n))
+    → (left : ℕ) (s d : List ℕ) (n : ℕ) (x : tree.Field) (f : Field) → SameField 16 18 s x f
+    → SameExpr s (span s) d n (exprBody arg x) (bodyOf rd (headFrom (suc left) f (partOf s f)) (partOf s f) d n)
+body arg rd ih left s d n (refused k) f h = rw h refl
+body arg rd ih left s d n (present t v r) f h =
+    rw (h .0, h .1) (begins arg rd ih s (span s) d n r (h .2) (h .3) left t (valueIn s) (value-length s (h .3)))
+
+bottom : (rd : List ℕ → List ℕ → ℕ → Out) (s d : List ℕ) (n : ℕ) (x : tree.Field) (f : Field) → SameField 16 18 s x f
+    → SameExpr s (span s) d n (deepest x) (bodyOf rd (headFrom 0 f (partOf s f)) (partOf s f) d n)
+unfolding headAt
+bottom rd s d n (refused k) f h = rw h refl
+bottom rd s d n (present t v r) f h = rw (h .0) refl
+
+pub same-expr : (left : ℕ) (s d : List ℕ) (n : ℕ) → SameExpr s (span s) d n (exprAt left s) (exprOf left s d n)
+unfolding exprAt exprOf headOf
+same-expr zero s d n = bottom _ s d n (fieldAt 16 18 s) (fieldOf s 16 18) (same-field 16 18 s)
+same-expr (suc left) s d n = body (exprAt left) (exprOf left) (same-expr left) left s d n (fieldAt 16 18 s) (fieldOf s 16 18) (same-field 16 18 s)

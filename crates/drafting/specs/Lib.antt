@@ -1,0 +1,9 @@
+pub mod Fields
+pub mod Stores
+pub mod Expressions
+pub mod Entries
+pub mod Handlers
+pub mod Behaviours
+pub mod Sofar
+pub mod Programs
+pub mod Drafts

@@ -1,0 +1,166 @@
+-- Programs: both readers find the same fault, or the draft is that of the tree reader's program.
+-- By induction on the bounds, first of behaviours, then of events; either reader's bound suffices, since a field has three bytes.
+use Prim.Native.Nat.{ℕ, zero, suc, _+_, _*_, _-_, _≤_, _<_}
+use mathlib.Core.Path.{_≡_, refl, sym, ap, subst, _∙_}
+use mathlib.Core.Logic.{_≢_}
+use mathlib.Core.List.{List, [], _∷_, _++_}
+use native.Mathlib.Omega.{arith}
+use lib.ListN.{length, getD, drop, set, length-drop, length-append}
+use lib.Seq.{drop-drop}
+use lib.Dec.{ltb, leb, eqb}
+use borrow.Author.Tests.{leb-false, eqb-true, eqb-false, eq-eqb, ne-eqb}
+use Rattle.base.specs.Basics.{pick}
+use Rattle.language.specs.Syntax.{Behaviour, Program}
+use Rattle.language.specs.Dependence.{size, events}
+use Rattle.language.specs.Reading as tree
+use Rattle.language.specs.Reading.{refused, present, fieldAt, Got, bad, got, then, behaviourIn, priorityIn, program, behaviourBody, behavioursAt, eventsBody, eventsAt, readProgram}
+use Rattle.field.specs.Field.{fieldOf, partOf}
+use Rattle.field.specs.Expression.{Out}
+use Rattle.field.specs.declared.Field.{Field}
+use Rattle.draft.specs.Draft.{Drafted}
+use Rattle.reader.specs.declared.Event.the-variants.{Declared, NoEvent}
+use Rattle.reader.specs.declared.Draft.the-variants.{Ready, Broken}
+use Rattle.reader.specs.Behaviour.{behaviourOf}
+use Rattle.reader.specs.Whole.{Made, made, priorityAt, eventFrom, eventOf, eventNext, eventsOf, Finish, finished, proceed, behavioursOf, readOn}
+use Rattle.drafting.specs.Fields.{by-two, span, SameField, same-field, value-length, rest-drop, end-test}
+use Rattle.drafting.specs.Behaviours.{SameBehaviour, same-behaviour, first-behaviour}
+use Rattle.drafting.specs.Sofar.{Sofar, grow, declare, nothing-yet, all-read}
+
+-- what both readers say of a program
+abbrev pub SameProgram : Got Program → Finish → Type 0
+SameProgram (bad k) o = o .0 ≡ Broken k
+SameProgram (got p r) o = (r ≡ []) × (n : ℕ) × (o .0 ≡ Ready (events p) (size p) n) × Drafted p (o .1) n
+
+-- ---- behaviours
+
+module _ (s rs : List ℕ) where
+  -- behaviours from `at` on are due
+  abbrev Due : ℕ → List Behaviour → List ℕ → ℕ → Type 0
+  Due at bs d n = (at ≤ length s) × (n * 4 + (length s - at) ≤ 8192) × Sofar rs bs d n
+
+  ended : (at : ℕ) (bs : List Behaviour) (d : List ℕ) (n : ℕ) → Due at bs d n
+      → SameProgram (got (program rs bs) []) (finished (Ready (length rs) (length bs) n) d)
+  ended at bs d n t = (refl, n, refl, all-read d n (omega arith) rs bs (t .2))
+
+  -- one is read
+  next : (l at : ℕ) (bs : List Behaviour) (d : List ℕ) (n : ℕ) (F : Behaviour → List ℕ → Got Program) → Due at bs d n
+      → ((at′ : ℕ) (b : Behaviour) (d′ : List ℕ) (n′ : ℕ) → at < at′ → Due at′ (bs ++ (b ∷ [])) d′ n′
+      → SameProgram (F b (drop at′ s)) (behavioursOf l s at′ (length rs) (length bs + 1) d′ n′))
+      → (g : Got Behaviour) (o : Out) → SameBehaviour (length bs) (drop at s) (span (drop at s)) d n g o
+      → SameProgram (then g F) (proceed (o .0) (o .1) (λ size m. behavioursOf l s (at + size) (length rs) (length bs + 1) (o .1) m))
+  next l at bs d n F t ih (bad k) o e = rw e refl
+  next l at bs d n F t ih (got b r) o h =
+      let q : length (drop at s) ≡ length s - at = length-drop at s in
+      let p : r ≡ drop (at + span (drop at s)) s = h .0 ∙ drop-drop (span (drop at s)) at s in
+      rw (h .3, p)
+      (ih (at + span (drop at s)) b (o .1) (h .2) (omega arith) (omega arith, omega arith, grow rs bs b d (o .1) n (h .2) (t .2) (h .5)))
+
+  pub same-behaviours : (k l at : ℕ) (bs : List Behaviour) (d : List ℕ) (n : ℕ) → Due at bs d n → length s ≤ at + k → length s ≤ at + l
+      → SameProgram (behavioursAt k rs bs (drop at s)) (behavioursOf l s at (length rs) (length bs) d n)
+  unfolding behavioursAt behavioursOf
+  same-behaviours zero zero at bs d n t a b = rw (end-test at s (t .0), eq-eqb at (length s) (omega arith)) (ended at bs d n t)
+  same-behaviours zero (suc l) at bs d n t a b = rw (end-test at s (t .0), eq-eqb at (length s) (omega arith)) (ended at bs d n t)
+  same-behaviours (suc k) zero at bs d n t a b = rw (end-test at s (t .0), eq-eqb at (length s) (omega arith)) (ended at bs d n t)
+  same-behaviours (suc k) (suc l) at bs d n t a b =
+      rw (end-test at s (t .0), rest-drop at s)
+      (by-two SameProgram (eqb at (length s)) (λ e. ended at bs d n t)
+      (λ e. next l at bs d n (λ x r. behavioursAt k rs (bs ++ (x ∷ [])) r) t
+      (λ at′ x d′ n′ h t′. subst (λ (z : ℕ). SameProgram (behavioursAt k rs (bs ++ (x ∷ [])) (drop at′ s)) (behavioursOf l s at′ (length rs) z d′ n′)) (length-append bs (x ∷ []))
+      (same-behaviours k l at′ (bs ++ (x ∷ [])) d′ n′ t′ (omega arith) (omega arith)))
+      (behaviourBody rs bs (fieldAt 2 3 (drop at s))) (behaviourOf (drop at s) (length rs) (length bs) d n)
+      (same-behaviour rs (length bs) d n (t .2 .few) (t .2 .long) (λ h. t .2 .blanks (length bs) (omega arith) h) (drop at s) (omega (arith, length-drop at s)) bs refl)))
+
+  -- where the events end: at the end, or before a behaviour
+  none-left : (l at : ℕ) (d : List ℕ) → Sofar rs [] d 0 → at ≡ length s → length s ≤ 8192
+      → SameProgram (got (program rs []) []) (behavioursOf l s at (length rs) 0 d 0)
+  unfolding behavioursOf
+  none-left zero at d t e small = rw (eq-eqb at (length s) e) (ended at [] d 0 (omega arith, omega arith, t))
+  none-left (suc l) at d t e small = rw (eq-eqb at (length s) e) (ended at [] d 0 (omega arith, omega arith, t))
+
+  others : (k l at : ℕ) (d : List ℕ) → Sofar rs [] d 0 → at < length s → length s ≤ 8192 → length s ≤ at + suc k → length s ≤ at + l
+      → (t : ℕ) (v r : List ℕ) (f : Field) → SameField 1 3 (drop at s) (present t v r) f → t ≢ 1
+      → SameProgram (then (behaviourIn (length rs) t v r) (λ x r. behavioursAt k rs (x ∷ []) r)) (behavioursOf l s at (length rs) 0 d 0)
+  unfolding behavioursOf
+  others k zero at d so lt small a b t v r f h e = absurd (omega arith)
+  others k (suc l) at d so lt small a b t v r f h e =
+      rw (ne-eqb at (length s) (omega arith), rest-drop at s)
+      (next l at [] d 0 (λ x r. behavioursAt k rs (x ∷ []) r) (omega arith, omega arith, so)
+      (λ at′ x d′ n′ c t′. same-behaviours k l at′ (x ∷ []) d′ n′ t′ (omega arith) (omega arith))
+      (behaviourIn (length rs) t v r) (behaviourOf (drop at s) (length rs) 0 d 0)
+      (first-behaviour rs 0 d 0 (so .few) (so .long) (λ c. so .blanks 0 (omega arith) c) (drop at s) (omega (arith, length-drop at s)) (omega arith) t v r f h e))
+
+-- ---- events
+
+module _ (s : List ℕ) (small : length s ≤ 8192) where
+  -- the behaviours after them
+  abbrev go-on : Out → Finish
+  go-on o = proceed (o .0) (o .1) (λ at e. behavioursOf (length s) s at e 0 (o .1) 0)
+
+  abbrev Early : ℕ → List ℕ → List ℕ → Type 0
+  Early at rs d = (at ≤ length s) × Sofar rs [] d 0
+
+  module _ (k l at : ℕ) (rs d : List ℕ) (t : Early at rs d) (lt : at < length s) (a : length s ≤ at + suc k)
+      (ih : (at′ : ℕ) (rs′ d′ : List ℕ) → at < at′ → Early at′ rs′ d′ → SameProgram (eventsAt k rs′ (drop at′ s)) (go-on (eventsOf l s at′ (length rs′) d′))) where
+    abbrev After : Got Program → Made → Type 0
+    After g o = SameProgram g (go-on (eventNext (o .0) (o .1) at (length rs) (eventsOf l s (at + 4) (length rs + 1) (o .1))))
+
+    declared : (r : ℕ) (u : List ℕ) → length rs < 32 → u ≡ drop 4 (drop at s) → at + 4 ≤ length s
+        → SameProgram (eventsAt k (rs ++ (r ∷ [])) u) (go-on (eventsOf l s (at + 4) (length rs + 1) (set d (4224 + length rs) r)))
+    declared r u low e h =
+        let q : u ≡ drop (at + 4) s = e ∙ drop-drop 4 at s in
+        let p : length (rs ++ (r ∷ [])) ≡ length rs + 1 = length-append rs (r ∷ []) in
+        rw (q, sym p) (ih (at + 4) (rs ++ (r ∷ [])) (set d (4224 + length rs) r) (omega arith) (h, declare rs r d (t .1) low))
+
+    priority-value : (v u : List ℕ) (z : ℕ) → length v + 3 ≡ z → u ≡ drop z (drop at s) → z ≤ length (drop at s) → length rs < 32
+        → After (then (priorityIn v u) (λ r w. eventsAt k (rs ++ (r ∷ [])) w))
+        (pick (eqb (length v) 1)
+        (pick (ltb 15 (getD v 0 0)) (made (NoEvent 8) d) (made Declared (set d (4224 + length rs) (getD v 0 0))))
+        (made (NoEvent 6) d))
+    priority-value [] u z q e h low = refl
+    priority-value (r ∷ []) u z q e h low =
+        let p : z ≡ 4 = omega arith in
+        let c : length (drop at s) ≡ length s - at = length-drop at s in
+        by-two (λ (g : Got ℕ) (o : Made). After (then g (λ r w. eventsAt k (rs ++ (r ∷ [])) w)) o) (ltb 15 r) (λ b. refl)
+        (λ b. declared r u low (e ∙ rw p) (omega arith))
+    priority-value (r ∷ (x ∷ v)) u z q e h low = rw (ne-eqb (length (r ∷ (x ∷ v))) 1 (omega arith)) refl
+
+    event-field : (x : tree.Field) (f : Field) → SameField 1 3 (drop at s) x f
+        → After (eventsBody (eventsAt k) (behavioursAt k rs) rs x) (eventFrom f (partOf (drop at s) f) (length rs) d)
+    unfolding priorityAt
+    event-field (refused j) f h = rw h refl
+    event-field (present y v r) f h =
+        rw (h .0)
+        (subst (λ (u : List ℕ). After (eventsBody (eventsAt k) (behavioursAt k rs) rs (present y v r)) (priorityAt y u (length rs) d)) (h .1)
+        (by-two After (eqb y 1)
+        (λ e. by-two After (leb 32 (length rs)) (λ c. refl)
+        (λ c. priority-value v r (span (drop at s)) (ap (λ (u : List ℕ). length u + 3) (h .1) ∙ value-length (drop at s) (h .3)) (h .2) (h .3) (leb-false 32 (length rs) c)))
+        (λ e. others s rs k (length s) at d (t .1) lt small a (omega arith) y v r f h (eqb-false y 1 e))))
+
+    event-here : After (eventsBody (eventsAt k) (behavioursAt k rs) rs (fieldAt 1 3 (drop at s))) (eventOf (drop at s) (length rs) d)
+    unfolding eventOf
+    event-here = event-field (fieldAt 1 3 (drop at s)) (fieldOf (drop at s) 1 3) (same-field 1 3 (drop at s))
+
+  same-events : (k l at : ℕ) (rs d : List ℕ) → Early at rs d → length s ≤ at + k → length s ≤ at + l
+      → SameProgram (eventsAt k rs (drop at s)) (go-on (eventsOf l s at (length rs) d))
+  unfolding eventsAt eventsOf
+  same-events zero zero at rs d t a b =
+      let e : at ≡ length s = omega arith in
+      rw (end-test at s (t .0), eq-eqb at (length s) e) (none-left s rs (length s) at d (t .1) e small)
+  same-events zero (suc l) at rs d t a b =
+      let e : at ≡ length s = omega arith in
+      rw (end-test at s (t .0), eq-eqb at (length s) e) (none-left s rs (length s) at d (t .1) e small)
+  same-events (suc k) zero at rs d t a b =
+      let e : at ≡ length s = omega arith in
+      rw (end-test at s (t .0), eq-eqb at (length s) e) (none-left s rs (length s) at d (t .1) e small)
+  same-events (suc k) (suc l) at rs d t a b =
+      rw (end-test at s (t .0), rest-drop at s)
+      (by-two (λ (g : Got Program) (o : Out). SameProgram g (go-on o)) (eqb at (length s))
+      (λ e. none-left s rs (length s) at d (t .1) (eqb-true at (length s) e) small)
+      (λ e. event-here k l at rs d t (omega (arith, eqb-false at (length s) e)) a
+      (λ at′ rs′ d′ h t′. same-events k l at′ rs′ d′ t′ (omega arith) (omega arith))))
+
+  -- ---- the whole
+
+  pub same-program : (d : List ℕ) → length d ≡ 4256 → ((j : ℕ) → j < 4256 → getD d j 0 ≡ 0) → SameProgram (readProgram s) (readOn s d)
+  unfolding readProgram readOn
+  same-program d long zeros = same-events (length s) (length s) 0 [] d (omega arith, nothing-yet d long zeros) (omega arith) (omega arith)

@@ -1,0 +1,24 @@
+use native.Mathlib.Omega.{arith}
+use borrow.Author.Needs.{needs}
+use Rattle.base.specs.Pick.{code}
+use Rattle.reader.specs.Whole.{priorityAt}
+use Rattle.reader.proofs.read_priority.Statement.{statement}
+use Rattle.reader.proofs.read_priority.Tie as tie
+
+pub read-priority-spec : {M : Type 1} → statement M
+unfolding priorityAt
+read-priority-spec =
+    tie.close
+    (tie.spec
+    (λ c. search code depth 12)
+    (λ c. search code depth 12)
+    (λ c. search code depth 12)
+    (λ c. search needs)
+    (λ c. search code depth 12)
+    (λ c. search needs)
+    (λ c. search needs)
+    (λ c. search needs)
+    (λ c. search needs)
+    (λ c. search needs)
+    (λ c. search needs)
+    (λ c. search code depth 12))

@@ -1,0 +1,3 @@
+pub mod Handler
+pub mod Behaviour
+pub mod Whole
