@@ -1,0 +1,181 @@
+-- `known` and `cyclic` decide what they are named for. Names: by induction. Cycles: the closed matrix decides what is reached among the behaviours, and
+-- a program whose names are known depends on nothing else.
+use Prim.Native.Nat.{ℕ, zero, suc, _+_, _*_, _/_, _%_, _≤_, _<_}
+use mathlib.Core.Path.{_≡_, refl, sym, _∙_}
+use mathlib.Core.Logic.{_⊎_, inl, inr, ⊎-elim, by-cases}
+use mathlib.Core.Bool.{Bool, true, false, not, _&&_, _||_, true≢false, false≢true}
+use mathlib.Core.List.{List, [], _∷_}
+use native.Mathlib.Decide.{decLt}
+use native.Mathlib.Omega.{arith}
+use lib.Dec.{eqb}
+use lib.ListN.{getD}
+use borrow.Author.Tests.{eqb-true, ltb-true, lt-ltb}
+use Rattle.base.specs.Basics.{All}
+use Rattle.base.specs.Tools.{split, by-elim, and-left, and-right}
+use Rattle.language.specs.Syntax.{Expr, con, name, app1, app2, app3, Phase, immediate, later, Handler, handler, Behaviour, passive, active, Program}
+use Rattle.language.specs.Dependence.{Response, follows, takes, defers, keeps, inPhase, handled, respond, behaviourAt, response, size, events}
+use Rattle.language.specs.Dependence.{mentions, needs, dependsOn, Reach, NoCycle}
+use Rattle.language.specs.Accepted.{NamesIn, HandlerNamesIn, BehaviourNamesIn, Known}
+use Rattle.language.specs.Code.{one?}
+use Rattle.graph.specs.Matrix.{cell, below, closed}
+use Rattle.graph.specs.Closure.{below-says, below-is, reach-map, reach-within, closed-decides}
+use Rattle.analysis.specs.Faults.{knownIn, knownHandlers, knownBehaviour, knownBehaviours, known, matrixOf, cyclicUnder, cyclic}
+use Rattle.analysis.specs.Any.{any-none, any-never}
+use Rattle.analysis.specs.MatrixAgrees.{length-matrixOf, matrixOf-at, none-past}
+
+-- ---- names
+
+both : (b c : Bool) → b ≡ true → c ≡ true → b && c ≡ true
+both b c e f = rw (e, f)
+
+in-says : (n : ℕ) (x : Expr) → knownIn n x ≡ true → NamesIn n x
+unfolding knownIn
+in-says n (con w) e = tt
+in-says n (name i) e = ltb-true i n e
+in-says n (app1 f a) e = in-says n a e
+in-says n (app2 f a b) e = (in-says n a (and-left (knownIn n a) (knownIn n b) e), in-says n b (and-right (knownIn n a) (knownIn n b) e))
+in-says n (app3 f a b c) e =
+    let r = and-right (knownIn n a) (knownIn n b && knownIn n c) e in (
+      in-says n a (and-left (knownIn n a) (knownIn n b && knownIn n c) e),
+      in-says n b (and-left (knownIn n b) (knownIn n c) r),
+      in-says n c (and-right (knownIn n b) (knownIn n c) r),
+    )
+
+in-is : (n : ℕ) (x : Expr) → NamesIn n x → knownIn n x ≡ true
+unfolding knownIn
+in-is n (con w) h = refl
+in-is n (name i) h = lt-ltb i n h
+in-is n (app1 f a) h = in-is n a h
+in-is n (app2 f a b) h = both (knownIn n a) (knownIn n b) (in-is n a (h .0)) (in-is n b (h .1))
+in-is n (app3 f a b c) h =
+    both (knownIn n a) (knownIn n b && knownIn n c) (in-is n a (h .0)) (both (knownIn n b) (knownIn n c) (in-is n b (h .1)) (in-is n c (h .2)))
+
+handlers-say : (n : ℕ) (hs : List Handler) → knownHandlers n hs ≡ true → All (HandlerNamesIn n) hs
+unfolding knownHandlers
+handlers-say n [] e = tt
+handlers-say n (handler f φ x ∷ hs) e =
+    (in-says n x (and-left (knownIn n x) (knownHandlers n hs) e), handlers-say n hs (and-right (knownIn n x) (knownHandlers n hs) e))
+
+handlers-are : (n : ℕ) (hs : List Handler) → All (HandlerNamesIn n) hs → knownHandlers n hs ≡ true
+unfolding knownHandlers
+handlers-are n [] h = refl
+handlers-are n (handler f φ x ∷ hs) h = both (knownIn n x) (knownHandlers n hs) (in-is n x (h .0)) (handlers-are n hs (h .1))
+
+behaviour-says : (n : ℕ) (b : Behaviour) → knownBehaviour n b ≡ true → BehaviourNamesIn n b
+behaviour-says n (passive x) e = in-says n x e
+behaviour-says n (active s hs) e = handlers-say n hs e
+
+behaviour-is : (n : ℕ) (b : Behaviour) → BehaviourNamesIn n b → knownBehaviour n b ≡ true
+behaviour-is n (passive x) h = in-is n x h
+behaviour-is n (active s hs) h = handlers-are n hs h
+
+behaviours-say : (n : ℕ) (bs : List Behaviour) → knownBehaviours n bs ≡ true → All (BehaviourNamesIn n) bs
+unfolding knownBehaviours
+behaviours-say n [] e = tt
+behaviours-say n (b ∷ bs) e =
+    (behaviour-says n b (and-left (knownBehaviour n b) (knownBehaviours n bs) e), behaviours-say n bs (and-right (knownBehaviour n b) (knownBehaviours n bs) e))
+
+behaviours-are : (n : ℕ) (bs : List Behaviour) → All (BehaviourNamesIn n) bs → knownBehaviours n bs ≡ true
+unfolding knownBehaviours
+behaviours-are n [] h = refl
+behaviours-are n (b ∷ bs) h = both (knownBehaviour n b) (knownBehaviours n bs) (behaviour-is n b (h .0)) (behaviours-are n bs (h .1))
+
+pub known-decides : (p : Program) → ((known p ≡ true → Known p) × (Known p → known p ≡ true))
+known-decides p = (behaviours-say (size p) (p .behaviours), behaviours-are (size p) (p .behaviours))
+
+-- ---- what a program depends on is among its behaviours
+
+or-either : (b c : Bool) → b || c ≡ true → (b ≡ true) ⊎ (c ≡ true)
+or-either true c e = inl refl
+or-either false c e = inr e
+
+mention-in : (n j : ℕ) (x : Expr) → NamesIn n x → mentions j x ≡ true → j < n
+unfolding mentions
+mention-in n j (con w) h e = absurd (false≢true e)
+mention-in n j (name i) h e = let q = eqb-true i j e in omega arith
+mention-in n j (app1 f a) h e = mention-in n j a h e
+mention-in n j (app2 f a b) h e = ⊎-elim (mention-in n j a (h .0)) (mention-in n j b (h .1)) (or-either (mentions j a) (mentions j b) e)
+mention-in n j (app3 f a b c) h e =
+    ⊎-elim (mention-in n j a (h .0))
+    (λ r. ⊎-elim (mention-in n j b (h .1)) (mention-in n j c (h .2)) (or-either (mentions j b) (mentions j c) r))
+    (or-either (mentions j a) (mentions j b || mentions j c) e)
+
+abbrev ResponseIn : ℕ → Response → Type 0
+ResponseIn n (follows x) = NamesIn n x
+ResponseIn n (takes x) = NamesIn n x
+ResponseIn n (defers x) = NamesIn n x
+ResponseIn n keeps = Unit {0}
+
+phase-in : (n : ℕ) (φ : Phase) (x : Expr) → NamesIn n x → ResponseIn n (inPhase φ x)
+phase-in n immediate x h = h
+phase-in n later x h = h
+
+handled-in : (n e : ℕ) (hs : List Handler) → All (HandlerNamesIn n) hs → ResponseIn n (handled e hs)
+unfolding handled
+handled-in n e [] h = tt
+handled-in n e (handler f φ x ∷ hs) h = by-elim (ResponseIn n) (eqb e f) (λ t. phase-in n φ x (h .0)) (λ t. handled-in n e hs (h .1))
+
+respond-in : (n e : ℕ) (b : Behaviour) → BehaviourNamesIn n b → ResponseIn n (respond e b)
+respond-in n e (passive x) h = h
+respond-in n e (active s hs) h = handled-in n e hs h
+
+at-in : (n : ℕ) (bs : List Behaviour) (i : ℕ) → All (BehaviourNamesIn n) bs → BehaviourNamesIn n (getD bs i (active 0 []))
+at-in n [] i h = tt
+at-in n (b ∷ bs) zero h = h .0
+at-in n (b ∷ bs) (suc i) h = at-in n bs i (h .1)
+
+needs-in : (n i j : ℕ) (r : Response) → ResponseIn n r → needs i j r ≡ true → j < n
+needs-in n i j (follows x) h e = mention-in n j x h e
+needs-in n i j (takes x) h e = mention-in n j x h (and-left (mentions j x) (not (eqb i j)) e)
+needs-in n i j (defers x) h e = absurd (false≢true e)
+needs-in n i j keeps h e = absurd (false≢true e)
+
+pub depends-within : (p : Program) → Known p → (e i j : ℕ) → dependsOn p e i j ≡ true → (i < size p) × (j < size p)
+depends-within p k e i j h = (
+  by-cases (decLt i (size p)) (λ s. s) (λ s. absurd (true≢false (sym h ∙ none-past p e i j (omega arith)))),
+  needs-in (size p) i j (response p e i) (respond-in (size p) e (behaviourAt p i) (at-in (size p) (p .behaviours) i k)) h,
+)
+
+-- ---- cycles
+
+one-set : (b : Bool) → not (eqb (one? b) 0) ≡ b
+one-set true = refl
+one-set false = refl
+
+pub cell-is : (p : Program) (e i j : ℕ) → i < 64 → j < 64 → cell (matrixOf p e) i j ≡ dependsOn p e i j
+cell-is p e i j h k =
+    let a : (i * 64 + j) / 64 ≡ i = omega arith in
+    let b : (i * 64 + j) % 64 ≡ j = omega arith in
+    let s : i * 64 + j < 4096 = omega arith in
+    rw (matrixOf-at p e (i * 64 + j) s, a, b) (one-set (dependsOn p e i j))
+
+-- the closed matrix says that i reaches itself
+abbrev reaches : Program → ℕ → ℕ → Bool
+reaches p e i = cell (closed (matrixOf p e) (size p)) i i
+
+module _ (p : Program) (k : Known p) (few : size p ≤ 64) (e : ℕ) where
+  to-below : (i j : ℕ) → dependsOn p e i j ≡ true → below (size p) (matrixOf p e) i j ≡ true
+  to-below i j h =
+      let w = depends-within p k e i j h in
+      below-is (size p) (matrixOf p e) i j (w .0) (w .1) (cell-is p e i j (omega arith) (omega arith) ∙ h)
+
+  from-below : (i j : ℕ) → below (size p) (matrixOf p e) i j ≡ true → dependsOn p e i j ≡ true
+  from-below i j h = let w = below-says (size p) (matrixOf p e) i j h in sym (cell-is p e i j (omega arith) (omega arith)) ∙ w .2
+
+  reach-marks : (i : ℕ) → Reach (dependsOn p e) i i → (i < size p) × (reaches p e i ≡ true)
+  reach-marks i r =
+      let s = reach-map to-below r in
+      let w = reach-within (size p) (matrixOf p e) s in
+      (w .0, closed-decides (matrixOf p e) (size p) (length-matrixOf p e) few i i (w .0) (w .0) .1 s)
+
+  mark-reaches : (i : ℕ) → i < size p → reaches p e i ≡ true → Reach (dependsOn p e) i i
+  mark-reaches i h t = reach-map from-below (closed-decides (matrixOf p e) (size p) (length-matrixOf p e) few i i h h .0 t)
+
+pub cyclic-decides : (p : Program) → Known p → size p ≤ 64 → ((cyclic p ≡ false → NoCycle p) × (NoCycle p → cyclic p ≡ false))
+unfolding cyclic cyclicUnder
+cyclic-decides p k few = (
+  (λ h e b i r. let w = reach-marks p k few e i r in
+      true≢false (sym (w .1) ∙ any-never (size p) (reaches p e) (any-never (events p + 1) (cyclicUnder p) h e (omega arith)) i (w .0))),
+  (λ h. any-none (events p + 1) (cyclicUnder p) (λ e b. any-none (size p) (reaches p e)
+      (λ i s. split (reaches p e i) (λ t. absurd (h e (omega arith) i (mark-reaches p k few e i s t))) (λ t. t)))),
+)

@@ -1,0 +1,4 @@
+pub mod Matrix
+pub mod Placing
+pub mod Closure
+pub mod OrderIs
