@@ -1,0 +1,95 @@
+-- The table and the round as words of four bytes, big-endian; which of them are foreign. 01 "Why a call was turned down": foreign.
+--
+-- Table (34,816 bytes): word 0 counts the events, word 1 the behaviours; from word 8 on four words for each of 32 events: priority, start and length of its
+-- code, members of C; from word 136 on each behaviour's value in a fresh round; from word 512 on two words for each of 4,096 instructions:
+-- operation * 256 + slot, and a constant.
+-- Round (2,048 bytes): word 0 number taken in, 1 waiting count, 2 whether one runs, 3 its event, 4 its number, 5 its count of instructions done, 6 depth of the
+-- evaluation stack; from 8 on the queue, number and event of each of 64 waiting; from 136 the store (01: board), 200 scratch, 264 deferred values (01: places),
+-- 328 the evaluation stack, 64 words each.
+use Prim.Native.Nat.{ℕ, zero, suc, _+_, _*_, _-_}
+use mathlib.Core.Bool.{Bool, true, false}
+use mathlib.Core.List.{List}
+use lib.ListN.{length}
+use lib.Dec.{ltb, leb, eqb}
+use Rattle.base.specs.Basics.{pick}
+use Rattle.word.specs.Word.{get, put}
+
+-- ---- the table
+
+abbrev pub eventCount : List ℕ → ℕ
+eventCount t = get t 0
+
+abbrev pub behaviourCount : List ℕ → ℕ
+behaviourCount t = get t 1
+
+-- word k of event e's record; 0 past the last event that can be declared
+unfoldable pub eventWord : List ℕ → ℕ → ℕ → ℕ
+eventWord t e k = pick (ltb e 32) (get t (8 + e * 4 + k)) 0
+
+-- code from `start` on, of len instructions, lies within 4,096
+unfoldable pub codeFits : ℕ → ℕ → Bool
+codeFits start len = pick (ltb 4096 start) false (leb len (4096 - start))
+
+unfoldable pub codesFit : List ℕ → ℕ → Bool
+codesFit t zero = true
+codesFit t (suc n) = pick (codeFits (eventWord t n 1) (eventWord t n 2)) (codesFit t n) false
+
+-- n events and b behaviours
+unfoldable pub tableWith : List ℕ → ℕ → ℕ → Bool
+tableWith t n b = pick (ltb 32 n) false (pick (ltb 64 b) false (codesFit t n))
+
+unfoldable pub tableFits : List ℕ → Bool
+tableFits t = pick (ltb (length t) 34816) false (tableWith t (eventCount t) (behaviourCount t))
+
+-- ---- the round
+
+abbrev pub taken : List ℕ → ℕ
+taken l = get l 0
+
+abbrev pub waitingCount : List ℕ → ℕ
+waitingCount l = get l 1
+
+abbrev pub runningFlag : List ℕ → ℕ
+runningFlag l = get l 2
+
+abbrev pub runningEvent : List ℕ → ℕ
+runningEvent l = get l 3
+
+abbrev pub runningNumber : List ℕ → ℕ
+runningNumber l = get l 4
+
+abbrev pub position : List ℕ → ℕ
+position l = get l 5
+
+abbrev pub depth : List ℕ → ℕ
+depth l = get l 6
+
+abbrev pub numberAt : List ℕ → ℕ → ℕ
+numberAt l i = get l (8 + i * 2)
+
+abbrev pub eventAt : List ℕ → ℕ → ℕ
+eventAt l i = get l (9 + i * 2)
+
+-- the first n waiting have events below `known`
+unfoldable pub slotsFit : List ℕ → ℕ → ℕ → Bool
+slotsFit l known zero = true
+slotsFit l known (suc n) = pick (ltb (eventAt l n) known) (slotsFit l known n) false
+
+-- n wait; f: one of event e runs, c of its len instructions done; `known` events are declared
+unfoldable pub runningFits : ℕ → ℕ → ℕ → ℕ → ℕ → ℕ → Bool
+runningFits n f e c len known = pick (eqb f 0) true (pick (ltb 63 n) false (pick (leb known e) false (ltb c len)))
+
+unfoldable pub roundWith : List ℕ → ℕ → ℕ → ℕ → Bool → Bool
+roundWith l n known d running = pick (ltb 64 n) false (pick (ltb 64 d) false (pick running (slotsFit l known n) false))
+
+unfoldable pub roundIn : List ℕ → List ℕ → Bool
+roundIn t l =
+    roundWith l (waitingCount l) (eventCount t) (depth l)
+    (runningFits (waitingCount l) (runningFlag l) (runningEvent l) (position l) (eventWord t (runningEvent l) 2) (eventCount t))
+
+unfoldable pub roundFits : List ℕ → List ℕ → Bool
+roundFits t l = pick (ltb (length l) 2048) false (roundIn t l)
+
+-- neither is foreign
+unfoldable pub ours : List ℕ → List ℕ → Bool
+ours t l = pick (tableFits t) (roundFits t l) false

@@ -1,0 +1,5 @@
+pub mod Layout
+pub mod Bounds
+pub mod Queue
+pub mod Start
+pub mod BoundsLaws
