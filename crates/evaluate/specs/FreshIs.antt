@@ -1,0 +1,144 @@
+-- What compile works out from a draft are the values of a fresh round: the start values are the draft's, and each turn of the order is one of phase one under no
+-- event. The 64 values are those of the behaviours, and zeros; so a turn on them is a turn on the behaviours' values alone.
+use Prim.Native.Nat.{ℕ, zero, suc, _+_, _-_, _%_, _≤_, _<_}
+use mathlib.Core.Bool.{true, false≢true}
+use mathlib.Core.Path.{_≡_, refl, sym, ap, _∙_}
+use mathlib.Core.Logic.{by-cases}
+use mathlib.Core.List.{List, [], _∷_, _++_, append-assoc}
+use native.Mathlib.Decide.{decLt, ℕ-discrete}
+use native.Mathlib.Omega.{arith}
+use lib.Dec.{ltb}
+use lib.ListN.{length, getD, set, replicate, length-set, length-append, length-replicate, replicate-append-replicate, List·getD-eq-default}
+use lib.Seq.{set-append-left, getD-set-same, getD-set-other, ext-getD}
+use borrow.Author.Tests.{lt-ltb}
+use Rattle.base.specs.Basics.{All}
+use Rattle.language.specs.Syntax.{Expr, Behaviour, passive, active, Program}
+use Rattle.language.specs.Dependence.{Response, follows, takes, defers, keeps, size, noEvent, response, behaviourAt}
+use Rattle.language.specs.Order.{early, phaseOne}
+use Rattle.language.specs.Grammar.{Nested, BehaviourFits, Fits}
+use Rattle.language.specs.Accepted.{NamesIn, Valid}
+use Rattle.semantics.specs.Meaning.{value, at, firstStep, inTurn, firstPhase, startOf, starts, fresh}
+use Rattle.semantics.specs.Lists.{length-upTo, getD-upTo}
+use Rattle.semantics.specs.OrderLaws.{all-at, phaseOne-early}
+use Rattle.semantics.specs.Solution.{first-length}
+use Rattle.execution.specs.Responses.{ResponseFits, response-fits}
+use Rattle.execution.specs.Running.{value-same}
+use Rattle.draft.specs.Draft.{entryOf, Stands, Says, StartIs, Drafted}
+use Rattle.evaluate.specs.Evaluate.{startsOn, turnOn, turnsOn, freshOn}
+use Rattle.evaluate.specs.NodesAre.{entry-is}
+
+-- ---- values and zeros
+
+zeros-at : (m j : ℕ) → at (replicate m 0) j ≡ 0
+zeros-at zero j = refl
+zeros-at (suc m) zero = refl
+zeros-at (suc m) (suc j) = zeros-at m j
+
+pad-at : (s : List ℕ) (m j : ℕ) → at (s ++ replicate m 0) j ≡ at s j
+pad-at [] m j = zeros-at m j
+pad-at (x ∷ s) m zero = refl
+pad-at (x ∷ s) m (suc j) = pad-at s m j
+
+-- ---- the start values
+
+length-starts : (d : List ℕ) (n : ℕ) → length (startsOn d n) ≡ 64
+unfolding startsOn
+length-starts d zero = refl
+length-starts d (suc n) = length-set (startsOn d n) n _ ∙ length-starts d n
+
+starts-past : (d : List ℕ) (n j : ℕ) → n ≤ j → getD (startsOn d n) j 0 ≡ 0
+unfolding startsOn
+starts-past d zero j h = zeros-at 64 j
+starts-past d (suc n) j h = getD-set-other (startsOn d n) n j _ 0 (omega arith) ∙ starts-past d n j (omega arith)
+
+starts-below : (d : List ℕ) (n j : ℕ) → n ≤ 64 → j < n → getD (startsOn d n) j 0 ≡ getD d (4160 + j) 0 % 4294967296
+unfolding startsOn
+starts-below d zero j b h = absurd (omega arith)
+starts-below d (suc n) j b h =
+    by-cases (ℕ-discrete j n)
+    (λ e. rw e (getD-set-same (startsOn d n) n _ 0 (omega (arith, length-starts d n))))
+    (λ e. getD-set-other (startsOn d n) n j _ 0 e ∙ starts-below d n j (omega arith) (omega arith))
+
+start-is : (d : List ℕ) (m i : ℕ) (b : Behaviour) → BehaviourFits m b → StartIs d i b → getD d (4160 + i) 0 % 4294967296 ≡ startOf b
+start-is d m i (passive x) f h = rw h
+start-is d m i (active s hs) f h = rw h (omega (arith, f .0))
+
+module _ (p : Program) (d : List ℕ) (k : ℕ) (drafted : Drafted p d k) (fits : Fits p) (valid : Valid p) where
+  abbrev rest : List ℕ
+  rest = replicate (64 - size p) 0
+
+  starts-at : (j : ℕ) → j < size p → getD (startsOn d (size p)) j 0 ≡ at (starts p) j
+  unfolding starts
+  starts-at j h =
+      starts-below d (size p) j (fits .few-behaviours) h
+      ∙ start-is d (length (p .priorities)) j (behaviourAt p j)
+      (all-at (BehaviourFits (length (p .priorities))) (p .behaviours) j (active 0 []) (fits .each) h) (drafted .starts j h)
+      ∙ sym (getD-upTo (size p) (λ i. startOf (behaviourAt p i)) j 0 h)
+
+  length-of-starts : length (starts p) ≡ size p
+  unfolding starts
+  length-of-starts = length-upTo (size p) _
+
+  starts-are : startsOn d (size p) ≡ starts p ++ rest
+  starts-are =
+      ext-getD 0 (startsOn d (size p)) (starts p ++ rest)
+      (length-starts d (size p) ∙ rw (length-append, length-of-starts, length-replicate) (omega (arith, fits .few-behaviours)))
+      (λ j b. by-cases (decLt j (size p))
+      (λ h. starts-at j h ∙ sym (pad-at (starts p) (64 - size p) j))
+      (λ h. starts-past d (size p) j (omega arith) ∙ sym (pad-at (starts p) (64 - size p) j ∙ List·getD-eq-default (starts p) 0 (omega (arith, length-of-starts)))))
+
+  -- ---- one turn
+
+  module _ (e : ℕ) (known : e ≤ 32) where
+    sets-value : (i : ℕ) (s : List ℕ) (kind : ℕ) (x : Expr) → kind < 4 → i < size p → length s ≡ size p → Stands d kind (entryOf d e i) x → Nested 16 x
+        → NamesIn (size p) x → turnOn d e i (s ++ rest) ≡ set s i (value (at s) x) ++ rest
+    unfolding turnOn
+    sets-value i s kind x q b l t h n =
+        let few : size p ≤ 64 = fits .few-behaviours in
+        let g : ltb i 64 ≡ true = lt-ltb i 64 (omega arith) in
+        rw (
+          g,
+          entry-is (s ++ rest) d kind (entryOf d e i) x q t h (size p) few n,
+          value-same (size p) (at (s ++ rest)) (at s) (λ j c. pad-at s (64 - size p) j) x n,
+        ) (set-append-left s rest i (value (at s) x) (omega arith))
+
+    turn-is : (i : ℕ) (s : List ℕ) (r : Response) → early r ≡ true → i < size p → length s ≡ size p → Says d (entryOf d e i) r → ResponseFits (size p) r
+        → turnOn d e i (s ++ rest) ≡ firstStep i r s ++ rest
+    turn-is i s (follows x) y b l t h = sets-value i s 1 x (omega arith) b l t (h .0) (h .1)
+    turn-is i s (takes x) y b l t h = sets-value i s 2 x (omega arith) b l t (h .0) (h .1)
+    turn-is i s (defers x) y b l t h = absurd (false≢true y)
+    turn-is i s keeps y b l t h = absurd (false≢true y)
+
+    turn-length : (i : ℕ) (s : List ℕ) (r : Response) → length s ≡ size p → length (firstStep i r s) ≡ size p
+    turn-length i s (follows x) l = length-set s i _ ∙ l
+    turn-length i s (takes x) l = length-set s i _ ∙ l
+    turn-length i s (defers x) l = l
+    turn-length i s keeps l = l
+
+    turns-are : (is : List ℕ) → All (λ i. (i < size p) × (early (response p e i) ≡ true)) is → (s : List ℕ) → length s ≡ size p
+        → turnsOn d e is (s ++ rest) ≡ inTurn p e firstStep is s ++ rest
+    unfolding turnsOn inTurn
+    turns-are [] a s l = refl
+    turns-are (i ∷ is) a s l =
+        ap (turnsOn d e is) (turn-is i s (response p e i) (a .0 .1) (a .0 .0) l (drafted .says e i known (a .0 .0)) (response-fits p valid e i))
+        ∙ turns-are is (a .1) (firstStep i (response p e i) s) (turn-length i s (response p e i) l)
+
+  -- ---- all of them
+
+  pub fresh-is : freshOn d (size p) (noEvent p) (phaseOne p (noEvent p)) ≡ fresh p ++ replicate (64 - size p) 0
+  unfolding freshOn fresh firstPhase
+  fresh-is =
+      ap (turnsOn d (noEvent p) (phaseOne p (noEvent p))) starts-are
+      ∙ turns-are (noEvent p) (fits .few-events) (phaseOne p (noEvent p)) (phaseOne-early p valid (noEvent p) (omega arith)) (starts p) length-of-starts
+
+  pub fresh-length : length (fresh p) ≡ size p
+  unfolding fresh
+  fresh-length = first-length p valid (noEvent p) (omega arith) (starts p) length-of-starts
+
+  -- with more zeros after them, up to m
+  pub fresh-padded : (m : ℕ) → 64 ≤ m
+      → freshOn d (size p) (noEvent p) (phaseOne p (noEvent p)) ++ replicate (m - 64) 0 ≡ fresh p ++ replicate (m - length (fresh p)) 0
+  fresh-padded m h =
+      let few : size p ≤ 64 = fits .few-behaviours in
+      let e : 64 - size p + (m - 64) ≡ m - length (fresh p) = rw fresh-length (omega arith) in
+      rw (fresh-is, append-assoc (fresh p) rest (replicate (m - 64) 0), replicate-append-replicate {A = ℕ} (64 - size p) (m - 64) 0, e)

@@ -1,0 +1,4 @@
+pub mod Evaluate
+pub mod EvaluateLaws
+pub mod NodesAre
+pub mod FreshIs

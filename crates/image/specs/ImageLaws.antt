@@ -1,0 +1,322 @@
+-- What the table of a program says, word by word: each part of the image is found at its place, and the bytes beyond are as they were.
+-- By induction over the parts, each of a fixed length.
+use Prim.Native.Nat.{ℕ, zero, suc, _+_, _*_, _-_, _≤_, _<_}
+use mathlib.Core.Bool.{true}
+use mathlib.Core.Path.{_≡_, refl, sym, ap, _∙_}
+use mathlib.Core.Logic.{_≢_}
+use mathlib.Core.List.{List, [], _∷_, _++_}
+use native.Mathlib.Omega.{arith}
+use lib.ListN.{length, getD, replicate, length-append, length-replicate, List·getD-append}
+use lib.Seq.{getD-append-add, getD-set-other}
+use borrow.Author.Tests.{lt-ltb, le-ltb, le-leb}
+use Rattle.word.specs.Word.{get, put}
+use Rattle.word.specs.Laws.{length-put, get-same, get-other}
+use Rattle.language.specs.Syntax.{Program}
+use Rattle.language.specs.Dependence.{size, events}
+use Rattle.language.specs.Order.{upTo}
+use Rattle.language.specs.Code.{Instr, off, code, join, sum, members}
+use Rattle.semantics.specs.Meaning.{at, fresh}
+use Rattle.round.specs.Layout.{eventWord, codeFits, codesFit, tableWith, tableFits}
+use Rattle.image.specs.Image.{operation, constant, codeWords, allCode, startOf, eventRecord, padded, imageWords, putWords, tableOf}
+
+-- ---- lists
+
+getD-zeros : (ws : List ℕ) (m k : ℕ) → getD (ws ++ replicate m 0) k 0 ≡ getD ws k 0
+getD-zeros [] zero k = refl
+getD-zeros [] (suc m) zero = refl
+getD-zeros [] (suc m) (suc k) = getD-zeros [] m k
+getD-zeros (w ∷ ws) m zero = refl
+getD-zeros (w ∷ ws) m (suc k) = getD-zeros ws m k
+
+length-padded : (n : ℕ) (ws : List ℕ) → length ws ≤ n → length (padded n ws) ≡ n
+unfolding padded
+length-padded n ws h = rw (length-append ws (replicate (n - length ws) 0), length-replicate {A = ℕ} (n - length ws) 0) (omega arith)
+
+getD-padded : (n : ℕ) (ws : List ℕ) (k : ℕ) → getD (padded n ws) k 0 ≡ getD ws k 0
+unfolding padded
+getD-padded n ws k = getD-zeros ws (n - length ws) k
+
+-- a part of length n is passed over
+getD-past : (xs ys : List ℕ) (n k : ℕ) → length xs ≡ n → getD (xs ++ ys) (n + k) 0 ≡ getD ys k 0
+getD-past xs ys n k h = rw (sym h) (getD-append-add xs ys k 0)
+
+-- ---- parts of equal length
+
+length-even : (m n : ℕ) (f : ℕ → List ℕ) → ((i : ℕ) → length (f i) ≡ m) → length (join (upTo n f)) ≡ n * m
+unfolding join upTo
+length-even m zero f h = omega arith
+length-even m (suc n) f h =
+    rw (length-append (f 0) (join (upTo n (λ i. f (suc i)))), h 0, length-even m n (λ i. f (suc i)) (λ i. h (suc i))) (omega arith)
+
+getD-even : (m n : ℕ) (f : ℕ → List ℕ) (e k : ℕ) → ((i : ℕ) → length (f i) ≡ m) → e < n → k < m
+    → getD (join (upTo n f)) (e * m + k) 0 ≡ getD (f e) k 0
+unfolding join upTo
+getD-even m zero f e k h b c = absurd (omega arith)
+getD-even m (suc n) f zero k h b c =
+    let z : 0 * m + k ≡ k = omega arith in
+    let l : k < length (f 0) = omega (arith, h 0) in
+    rw z (List·getD-append (f 0) (join (upTo n (λ i. f (suc i)))) 0 k l)
+getD-even m (suc n) f (suc e) k h b c =
+    let z : suc e * m + k ≡ m + (e * m + k) = omega arith in
+    rw z (getD-past (f 0) (join (upTo n (λ i. f (suc i)))) m (e * m + k) (h 0) ∙ getD-even m n (λ i. f (suc i)) e k (λ i. h (suc i)) (omega arith) c)
+
+-- ---- parts of any length: part e begins at the sum of those before it
+
+module _ {A : Type 0} (d : A) where
+  getD-part : (n : ℕ) (f : ℕ → List A) (e c : ℕ) → e < n → c < length (f e)
+      → getD (join (upTo n f)) (sum (upTo e (λ i. length (f i))) + c) d ≡ getD (f e) c d
+  unfolding join upTo sum
+  getD-part zero f e c b h = absurd (omega arith)
+  getD-part (suc n) f zero c b h = let z : 0 + c ≡ c = omega arith in rw z (List·getD-append (f 0) (join (upTo n (λ i. f (suc i)))) d c h)
+  getD-part (suc n) f (suc e) c b h =
+      let g : ℕ → List A = λ i. f (suc i) in
+      let z : length (f 0) + sum (upTo e (λ i. length (g i))) + c ≡ length (f 0) + (sum (upTo e (λ i. length (g i))) + c) = omega arith in
+      rw z (getD-append-add (f 0) (join (upTo n g)) (sum (upTo e (λ i. length (g i))) + c) d ∙ getD-part n g e c (omega arith) h)
+
+  part-within : (n : ℕ) (f : ℕ → List A) (e : ℕ) → e < n → sum (upTo e (λ i. length (f i))) + length (f e) ≤ length (join (upTo n f))
+  unfolding join upTo sum
+  part-within zero f e b = absurd (omega arith)
+  part-within (suc n) f zero b = rw (length-append (f 0) (join (upTo n (λ i. f (suc i))))) (omega arith)
+  part-within (suc n) f (suc e) b =
+      let ih = part-within n (λ i. f (suc i)) e (omega arith) in
+      rw (length-append (f 0) (join (upTo n (λ i. f (suc i))))) (omega arith)
+
+-- ---- code
+
+length-codeWords : (is : List Instr) → length (codeWords is) ≡ length is * 2
+unfolding codeWords
+length-codeWords [] = refl
+length-codeWords (i ∷ is) = omega (arith, length-codeWords is)
+
+getD-operation : (is : List Instr) (c : ℕ) → c < length is → getD (codeWords is) (c * 2) 0 ≡ operation (getD is c off)
+unfolding codeWords
+getD-operation [] c h = absurd (omega arith)
+getD-operation (i ∷ is) zero h = refl
+getD-operation (i ∷ is) (suc c) h = let z : suc c * 2 ≡ suc (suc (c * 2)) = omega arith in rw z (getD-operation is c (omega arith))
+
+getD-constant : (is : List Instr) (c : ℕ) → c < length is → getD (codeWords is) (c * 2 + 1) 0 ≡ constant (getD is c off)
+unfolding codeWords
+getD-constant [] c h = absurd (omega arith)
+getD-constant (i ∷ is) zero h = refl
+getD-constant (i ∷ is) (suc c) h = let z : suc c * 2 + 1 ≡ suc (suc (c * 2 + 1)) = omega arith in rw z (getD-constant is c (omega arith))
+
+-- ---- words put one after the other
+
+-- a byte outside word k
+byte-other : (l : List ℕ) (k w i : ℕ) → k * 4 + 4 ≤ i → getD (put l k w) i 0 ≡ getD l i 0
+unfolding put
+byte-other l k w i h =
+    let a : i ≢ k * 4 = omega arith in
+    let b : i ≢ k * 4 + 1 = omega arith in
+    let c : i ≢ k * 4 + 2 = omega arith in
+    let d : i ≢ k * 4 + 3 = omega arith in
+    simp getD-set-other
+
+pub length-putWords : (l : List ℕ) (k : ℕ) (ws : List ℕ) → length (putWords l k ws) ≡ length l
+unfolding putWords
+length-putWords l k [] = refl
+length-putWords l k (w ∷ ws) = length-putWords (put l k w) (k + 1) ws ∙ length-put l k w
+
+pub get-putWords-before : (l : List ℕ) (k : ℕ) (ws : List ℕ) (j : ℕ) → j < k → get (putWords l k ws) j ≡ get l j
+unfolding putWords
+get-putWords-before l k [] j h = refl
+get-putWords-before l k (w ∷ ws) j h = get-putWords-before (put l k w) (k + 1) ws j (omega arith) ∙ get-other l k w j (omega arith)
+
+pub get-putWords : (l : List ℕ) (k : ℕ) (ws : List ℕ) (j : ℕ) → (k + length ws) * 4 ≤ length l → j < length ws
+    → get (putWords l k ws) (k + j) ≡ getD ws j 0
+unfolding putWords
+get-putWords l k [] j b h = absurd (omega arith)
+get-putWords l k (w ∷ ws) zero b h =
+    let z : k + 0 ≡ k = omega arith in
+    rw z (get-putWords-before (put l k w) (k + 1) ws k (omega arith) ∙ get-same l k w (omega arith))
+get-putWords l k (w ∷ ws) (suc j) b h =
+    let z : k + suc j ≡ k + 1 + j = omega arith in
+    let g : (k + 1 + length ws) * 4 ≤ length (put l k w) = rw (length-put l k w) (omega arith) in
+    rw z (get-putWords (put l k w) (k + 1) ws j g (omega arith))
+
+pub byte-putWords : (l : List ℕ) (k : ℕ) (ws : List ℕ) (i : ℕ) → (k + length ws) * 4 ≤ i → getD (putWords l k ws) i 0 ≡ getD l i 0
+unfolding putWords
+byte-putWords l k [] i h = refl
+byte-putWords l k (w ∷ ws) i h = byte-putWords (put l k w) (k + 1) ws i (omega arith) ∙ byte-other l k w i (omega arith)
+
+-- ---- the image of a program
+
+-- what a table says of a program
+pub record Says (p : Program) (t : List ℕ) : Type 0 where
+  pub long : 34816 ≤ length t
+  pub event-count : get t 0 ≡ events p
+  pub behaviour-count : get t 1 ≡ size p
+  pub few-events : events p ≤ 32
+  pub few-behaviours : size p ≤ 64
+  pub priorities : (e : ℕ) → e < events p → eventWord t e 0 ≡ getD (p .priorities) e 0
+  pub starts : (e : ℕ) → e < events p → eventWord t e 1 ≡ startOf p e
+  pub lengths : (e : ℕ) → e < events p → eventWord t e 2 ≡ length (code p e)
+  pub in-C : (e : ℕ) → e < events p → eventWord t e 3 ≡ members p e
+  pub values : (i : ℕ) → i < size p → get t (136 + i) ≡ at (fresh p) i
+  pub within : (e : ℕ) → e < events p → startOf p e + length (code p e) ≤ 4096
+  pub operations : (e c : ℕ) → e < events p → c < length (code p e) → get t (512 + (startOf p e + c) * 2) ≡ operation (getD (code p e) c off)
+  pub constants : (e c : ℕ) → e < events p → c < length (code p e) → get t (513 + (startOf p e + c) * 2) ≡ constant (getD (code p e) c off)
+  pub fits : tableFits t ≡ true
+
+module _ (p : Program) (few : events p ≤ 32) (small : size p ≤ 64) (whole : length (fresh p) ≡ size p) (short : length (allCode p) ≤ 4096) where
+  abbrev heads : List ℕ
+  heads = padded 8 (events p ∷ size p ∷ [])
+
+  abbrev records : List ℕ
+  records = padded 128 (join (upTo (events p) (eventRecord p)))
+
+  abbrev values : List ℕ
+  values = padded 376 (fresh p)
+
+  abbrev codes : List ℕ
+  codes = padded 8192 (codeWords (allCode p))
+
+  length-heads : length heads ≡ 8
+  length-heads = length-padded 8 (events p ∷ size p ∷ []) (omega arith)
+
+  length-records : length records ≡ 128
+  length-records =
+      length-padded 128 (join (upTo (events p) (eventRecord p))) (rw (length-even 4 (events p) (eventRecord p) (λ i. refl)) (omega arith))
+
+  length-values : length values ≡ 376
+  length-values = length-padded 376 (fresh p) (omega arith)
+
+  length-codes : length codes ≡ 8192
+  length-codes = length-padded 8192 (codeWords (allCode p)) (rw (length-codeWords (allCode p)) (omega arith))
+
+  pub length-image : length (imageWords p) ≡ 8704
+  unfolding imageWords
+  length-image =
+      rw (
+        length-append heads (records ++ (values ++ codes)),
+        length-append records (values ++ codes),
+        length-append values codes,
+        length-heads,
+        length-records,
+        length-values,
+        length-codes,
+      )
+
+  -- a word of each part
+  in-heads : (k : ℕ) → k < 8 → getD (imageWords p) k 0 ≡ getD (events p ∷ size p ∷ []) k 0
+  unfolding imageWords
+  in-heads k h =
+      let b : k < length heads = omega (arith, length-heads) in
+      List·getD-append heads (records ++ (values ++ codes)) 0 k b ∙ getD-padded 8 (events p ∷ size p ∷ []) k
+
+  in-records : (k : ℕ) → k < 128 → getD (imageWords p) (8 + k) 0 ≡ getD (join (upTo (events p) (eventRecord p))) k 0
+  unfolding imageWords
+  in-records k h =
+      let b : k < length records = omega (arith, length-records) in
+      getD-past heads (records ++ (values ++ codes)) 8 k length-heads
+      ∙ List·getD-append records (values ++ codes) 0 k b ∙ getD-padded 128 (join (upTo (events p) (eventRecord p))) k
+
+  in-values : (k : ℕ) → k < 376 → getD (imageWords p) (136 + k) 0 ≡ getD (fresh p) k 0
+  unfolding imageWords
+  in-values k h =
+      let b : k < length values = omega (arith, length-values) in
+      let z : 136 + k ≡ 8 + (128 + k) = omega arith in
+      rw z
+      (getD-past heads (records ++ (values ++ codes)) 8 (128 + k) length-heads ∙ getD-past records (values ++ codes) 128 k length-records
+      ∙ List·getD-append values codes 0 k b ∙ getD-padded 376 (fresh p) k)
+
+  in-codes : (k : ℕ) → getD (imageWords p) (512 + k) 0 ≡ getD (codeWords (allCode p)) k 0
+  unfolding imageWords
+  in-codes k =
+      let z : 512 + k ≡ 8 + (128 + (376 + k)) = omega arith in
+      rw z
+      (getD-past heads (records ++ (values ++ codes)) 8 (128 + (376 + k)) length-heads ∙ getD-past records (values ++ codes) 128 (376 + k) length-records
+      ∙ getD-past values codes 376 k length-values ∙ getD-padded 8192 (codeWords (allCode p)) k)
+
+  pub code-within : (e : ℕ) → e < events p → startOf p e + length (code p e) ≤ 4096
+  unfolding startOf allCode
+  code-within e h = omega (arith, part-within off (events p) (code p) e h, short)
+
+  at-code : (e c : ℕ) → e < events p → c < length (code p e) → getD (allCode p) (startOf p e + c) off ≡ getD (code p e) c off
+  unfolding startOf allCode
+  at-code e c h b = getD-part off (events p) (code p) e c h b
+
+  at-code-within : (e c : ℕ) → e < events p → c < length (code p e) → startOf p e + c < length (allCode p)
+  unfolding startOf allCode
+  at-code-within e c h b = omega (arith, part-within off (events p) (code p) e h)
+
+  module _ (t₀ : List ℕ) (room : 34816 ≤ length t₀) where
+    pub length-table : length (tableOf p t₀) ≡ length t₀
+    unfolding tableOf
+    length-table = length-putWords t₀ 0 (imageWords p)
+
+    pub get-table : (k : ℕ) → k < 8704 → get (tableOf p t₀) k ≡ getD (imageWords p) k 0
+    unfolding tableOf
+    get-table k h =
+        let z : 0 + k ≡ k = omega arith in
+        rw z at (get-putWords t₀ 0 (imageWords p) k (rw length-image (omega arith)) (rw length-image h))
+
+    -- bytes beyond the table's are as they were
+    pub beyond-table : (j : ℕ) → 34816 ≤ j → getD (tableOf p t₀) j 0 ≡ getD t₀ j 0
+    unfolding tableOf
+    beyond-table j h = byte-putWords t₀ 0 (imageWords p) j (rw length-image (omega arith))
+
+    pub event-word : (e k : ℕ) → e < events p → k < 4 → eventWord (tableOf p t₀) e k ≡ getD (eventRecord p e) k 0
+    unfolding eventWord
+    event-word e k h b =
+        let z : 8 + e * 4 + k ≡ 8 + (e * 4 + k) = omega arith in
+        rw (lt-ltb e 32 (omega arith), z)
+        (get-table (8 + (e * 4 + k)) (omega arith) ∙ in-records (e * 4 + k) (omega arith) ∙ getD-even 4 (events p) (eventRecord p) e k (λ i. refl) h b)
+
+    code-fits : (start len : ℕ) → start + len ≤ 4096 → codeFits start len ≡ true
+    unfolding codeFits
+    code-fits start len h = rw (le-ltb 4096 start (omega arith)) (le-leb len (4096 - start) (omega arith))
+
+    codes-fit : (n : ℕ) → n ≤ events p → codesFit (tableOf p t₀) n ≡ true
+    unfolding codesFit
+    codes-fit zero h = refl
+    codes-fit (suc n) h =
+        rw (
+          event-word n 1 (omega arith) (omega arith),
+          event-word n 2 (omega arith) (omega arith),
+          code-fits (startOf p n) (length (code p n)) (code-within n (omega arith)),
+          codes-fit n (omega arith),
+        )
+
+    count-events : get (tableOf p t₀) 0 ≡ events p
+    count-events = get-table 0 (omega arith) ∙ in-heads 0 (omega arith)
+
+    count-behaviours : get (tableOf p t₀) 1 ≡ size p
+    count-behaviours = get-table 1 (omega arith) ∙ in-heads 1 (omega arith)
+
+    table-fits : tableFits (tableOf p t₀) ≡ true
+    unfolding tableFits tableWith
+    table-fits =
+        rw (
+          le-ltb (length (tableOf p t₀)) 34816 (rw length-table room),
+          count-events,
+          count-behaviours,
+          le-ltb 32 (events p) few,
+          le-ltb 64 (size p) small,
+          codes-fit (events p) (omega arith),
+        )
+
+    pub table-says : Says p (tableOf p t₀)
+    table-says = record {
+      long = rw length-table room;
+      event-count = count-events;
+      behaviour-count = count-behaviours;
+      few-events = few;
+      few-behaviours = small;
+      priorities = λ e h. event-word e 0 h (omega arith);
+      starts = λ e h. event-word e 1 h (omega arith);
+      lengths = λ e h. event-word e 2 h (omega arith);
+      in-C = λ e h. event-word e 3 h (omega arith);
+      values = λ i h. get-table (136 + i) (omega arith) ∙ in-values i (omega arith);
+      within = code-within;
+      operations = λ e c h b.
+          let k = startOf p e + c in
+          let g : k < length (allCode p) = at-code-within e c h b in
+          get-table (512 + k * 2) (omega arith) ∙ in-codes (k * 2) ∙ getD-operation (allCode p) k g ∙ ap operation (at-code e c h b);
+      constants = λ e c h b.
+          let k = startOf p e + c in
+          let g : k < length (allCode p) = at-code-within e c h b in
+          let z : 513 + k * 2 ≡ 512 + (k * 2 + 1) = omega arith in
+          rw z (get-table (512 + (k * 2 + 1)) (omega arith) ∙ in-codes (k * 2 + 1) ∙ getD-constant (allCode p) k g ∙ ap constant (at-code e c h b));
+      fits = table-fits;
+    }
