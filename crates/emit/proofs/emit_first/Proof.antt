@@ -1,0 +1,14 @@
+-- `emit::emit_first` meets its contract: its two parts, one after the other. Assumes nothing.
+use borrow.Author.Needs.{needs}
+use Rattle.emit.specs.PartLaws.{first-turns, first-laters, first-all}
+use Rattle.emit.proofs.emit_first.Statement.{statement}
+use Rattle.emit.proofs.emit_first.Tie as tie
+
+pub emit-first-spec : {M : Type 1} → statement M
+emit-first-spec =
+    tie.close
+    (tie.spec
+    (λ c κs. (c .before .before .before .before .pre .0, first-turns _ _ _ _ (c .before .before .before .before .pre .1)))
+    (λ c κs. (c .before .before .before .before .before .before .before .before .pre .0 .0, first-laters _ _ _ _ (c .before .before .before .emit-turns .ensures) (c .before .before .before .before .before .before .before .before .pre .1)))
+    (λ c. search needs)
+    (λ c. first-all _ _ _ _ (c .before .before .before .before .before .before .emit-turns .ensures) (c .before .before .emit-laters .ensures)))

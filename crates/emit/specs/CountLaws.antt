@@ -1,0 +1,41 @@
+-- What a loop has summed so far. A share is small, so that the sum fits.
+use Prim.Native.Nat.{ℕ, _+_, _*_, _≤_, _<_}
+use mathlib.Core.Path.{_≡_}
+use native.Mathlib.Omega.{arith}
+use native.Mathlib.Numerals.{add-one}
+use lib.Dec.{eqb}
+use Rattle.base.specs.Pick.{either}
+use Rattle.draft.specs.Entry.{kindOf, countOf}
+use Rattle.emit.specs.Words.{total, shareOf, isMember}
+
+pub share-small : (v : ℕ) → countOf v ≤ 2048 → shareOf v ≤ 4100
+unfolding shareOf
+share-small v h =
+    either (λ x. x ≤ 4100) _ _ (eqb (kindOf v) 1) (λ _. omega arith)
+    (λ _. either (λ x. x ≤ 4100) _ _ (eqb (kindOf v) 2) (λ _. omega arith)
+    (λ _. either (λ x. x ≤ 4100) _ _ (eqb (kindOf v) 3) (λ _. omega arith) (λ _. omega arith)))
+
+pub member-small : (v : ℕ) → isMember v ≤ 1
+unfolding isMember
+member-small v = either (λ x. x ≤ 1) _ _ (eqb v 0) (λ _. omega arith) (λ _. omega arith)
+
+total-one : (f : ℕ → ℕ) (i : ℕ) → total (i + 1) f ≡ total i f + f i
+unfolding total
+total-one f i = rw add-one
+
+-- a loop over the numbers below n has added those below i to a
+pub record Sum (f : ℕ → ℕ) (n a i s : ℕ) : Type 0 where
+  pub whole : s ≡ a + total i f
+  pub few : i ≤ n
+  pub small : s ≤ a + i * 4100
+
+module _ {f : ℕ → ℕ} {n a : ℕ} where
+  pub sum-start : Sum f n a 0 a
+  unfolding total
+  sum-start = record { whole = omega arith; few = omega arith; small = omega arith }
+
+  pub sum-turn : {i s r : ℕ} → Sum f n a i s → i < n → r ≡ f i → r ≤ 4100 → Sum f n a (i + 1) (s + r)
+  sum-turn {i} u b e h = record { whole = omega (arith, u .whole, total-one f i); few = omega arith; small = omega (arith, u .small) }
+
+  pub sum-end : {i s : ℕ} → Sum f n a i s → n ≤ i → s ≡ a + total n f
+  sum-end {i} u b = let z : i ≡ n = omega (arith, u .few) in rw z at (u .whole)

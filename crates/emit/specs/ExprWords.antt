@@ -1,0 +1,131 @@
+-- The words of an expression's nodes are those of its postfix code, by induction on the expression.
+use Prim.Native.Nat.{ℕ, _+_, _*_, _%_, _≤_, _<_, _^_}
+use mathlib.Core.Path.{_≡_, refl, sym, ap, _∙_}
+use mathlib.Core.Bool.{Bool, true, false}
+use mathlib.Core.List.{List, [], _∷_, _++_, append-assoc, append-nil}
+use native.Mathlib.Omega.{arith}
+use lib.Dec.{eqb}
+use lib.ListN.{length, getD, take, drop, length-drop}
+use lib.Seq.{getD-drop}
+use borrow.Author.Tests.{eq-eqb, ne-eqb}
+use Rattle.base.specs.Basics.{pick}
+use Rattle.language.specs.Syntax.{Expr, Program}
+use Rattle.language.specs.Dependence.{Response, follows, takes, defers, keeps, size, response}
+use Rattle.language.specs.Grammar.{Arity, unary, ternary, binary, Nested, n-con, n-name, n-app1, n-app2, n-app3}
+use Rattle.language.specs.Accepted.{NamesIn}
+use Rattle.language.specs.Code.{Instr, load, fetch, apply, copied, inC, postfix}
+use Rattle.image.specs.Image.{operation, constant, codeWords}
+use Rattle.draft.specs.Draft.{nodes, entryOf, Drafted}
+use Rattle.draft.specs.Entry.{startOf, countOf, tagOf, wordOf}
+use Rattle.draft.specs.DraftLaws.{Holds, Entry, entry-of}
+use Rattle.emit.specs.Words.{each, inTurn, nameWords, nodeWords, exprWords}
+use Rattle.emit.specs.WritingLaws.{in-turn-each}
+use Rattle.emit.specs.BranchLaws.{node-push, node-name, node-apply}
+
+-- ---- words of instructions
+
+pub length-codeWords : (is : List Instr) → length (codeWords is) ≡ 2 * length is
+unfolding codeWords
+length-codeWords [] = refl
+length-codeWords (i ∷ is) = omega (arith, length-codeWords is)
+
+pub codeWords-append : (is js : List Instr) → codeWords (is ++ js) ≡ codeWords is ++ codeWords js
+unfolding codeWords
+codeWords-append [] js = refl
+codeWords-append (i ∷ is) js = ap (λ (l : List ℕ). operation i ∷ constant i ∷ l) (codeWords-append is js)
+
+inTurn-append : (f : ℕ → List ℕ) (xs ys : List ℕ) → inTurn f (xs ++ ys) ≡ inTurn f xs ++ inTurn f ys
+unfolding inTurn
+inTurn-append f [] ys = refl
+inTurn-append f (x ∷ xs) ys = rw (inTurn-append f xs ys, append-assoc)
+
+inTurn-one : (f : ℕ → List ℕ) (x : ℕ) → inTurn f (x ∷ []) ≡ f x
+unfolding inTurn
+inTurn-one f x = append-nil (f x)
+
+-- ---- nodes
+
+arity-low : {f n : ℕ} → Arity f n → f < 16
+arity-low unary = omega arith
+arity-low ternary = omega arith
+arity-low (binary a b c) = omega arith
+
+con-words : (d : List ℕ) (e w : ℕ) → w < 2 ^ 32 → nodeWords d e (68719476736 + w) ≡ 1280 ∷ w ∷ []
+con-words d e w h =
+    let t : tagOf (68719476736 + w) ≡ 16 = omega arith in
+    let z : wordOf (68719476736 + w) ≡ w = omega arith in
+    sym (node-push d e (68719476736 + w) t) ∙ ap (λ (x : ℕ). 1280 ∷ x ∷ []) z
+
+app-words : (d : List ℕ) (e f : ℕ) → f < 16 → nodeWords d e (77309411328 + f) ≡ (2048 + f) ∷ 0 ∷ []
+app-words d e f h =
+    let t : tagOf (77309411328 + f) ≡ 18 = omega arith in
+    let z : wordOf (77309411328 + f) % 16 ≡ f = omega arith in
+    sym (node-apply d e (77309411328 + f) (λ u. omega arith) (λ u. omega arith)) ∙ ap (λ (x : ℕ). (2048 + x) ∷ 0 ∷ []) z
+
+name-words : (d : List ℕ) (e i : ℕ) → i < 64 → nodeWords d e (73014444032 + i) ≡ nameWords d e i
+name-words d e i h =
+    let t : tagOf (73014444032 + i) ≡ 17 = omega arith in
+    let z : wordOf (73014444032 + i) % 64 ≡ i = omega arith in
+    sym (node-name d e (73014444032 + i) (λ u. omega arith) t) ∙ ap (nameWords d e) z
+
+-- copied exactly where the entry is not 0
+pub copied-is : (d : List ℕ) (v : ℕ) (r : Response) → Entry d v r → eqb v 0 ≡ elim (copied r) [ true ↦ false | false ↦ true ]
+copied-is d v (follows x) h = ne-eqb v 0 (λ z. omega (arith, h .some))
+copied-is d v (takes x) h = ne-eqb v 0 (λ z. omega (arith, h .some))
+copied-is d v (defers x) h = ne-eqb v 0 (λ z. omega (arith, h .some))
+copied-is d v keeps h = eq-eqb v 0 h
+
+fetched : (i : ℕ) (b : Bool) → pick (elim b [ true ↦ false | false ↦ true ]) ((1536 + i) ∷ 0 ∷ []) ((1792 + i) ∷ 0 ∷ []) ≡ codeWords (pick b (fetch i) (load i) ∷ [])
+unfolding codeWords
+fetched i true = refl
+fetched i false = refl
+
+-- ---- expressions
+
+module _ (p : Program) (d : List ℕ) (n : ℕ) (dr : Drafted p d n) (few : size p ≤ 64) (e : ℕ) (b : e ≤ 32) where
+  name-code : (i : ℕ) → i < size p → nameWords d e i ≡ codeWords (pick (inC p e i) (fetch i) (load i) ∷ [])
+  unfolding nameWords
+  name-code i h = rw (copied-is d (entryOf d e i) (response p e i) (entry-of p d n dr e i b h)) (fetched i (inC p e i))
+
+  nodes-code : {k : ℕ} {x : Expr} → Nested k x → NamesIn (size p) x → inTurn (nodeWords d e) (nodes x) ≡ codeWords (postfix (inC p e) x)
+  unfolding nodes postfix codeWords
+  nodes-code (n-con {w = w} h) k = inTurn-one (nodeWords d e) (68719476736 + w) ∙ con-words d e w h
+  nodes-code (n-name {i = i} h) k = inTurn-one (nodeWords d e) (73014444032 + i) ∙ name-words d e i (omega arith) ∙ name-code i k
+  nodes-code (n-app1 {f = f} {a = x} h hx) k =
+      rw (inTurn-append, inTurn-one, app-words d e f (arity-low h), nodes-code hx k) (sym (codeWords-append (postfix (inC p e) x) (apply f ∷ [])))
+  nodes-code (n-app2 {f = f} {a = x} {b = y} h hx hy) k =
+      rw (
+        inTurn-append (nodeWords d e) (nodes x),
+        inTurn-append (nodeWords d e) (nodes y),
+        inTurn-one,
+        app-words d e f (arity-low h),
+        nodes-code hx (k .0),
+        nodes-code hy (k .1),
+        codeWords-append (postfix (inC p e) x),
+        codeWords-append (postfix (inC p e) y),
+      )
+  nodes-code (n-app3 {f = f} {a = x} {b = y} {c = z} h hx hy hz) k =
+      rw (
+        inTurn-append (nodeWords d e) (nodes x),
+        inTurn-append (nodeWords d e) (nodes y),
+        inTurn-append (nodeWords d e) (nodes z),
+        inTurn-one,
+        app-words d e f (arity-low h),
+        nodes-code hx (k .0),
+        nodes-code hy (k .1),
+        nodes-code hz (k .2),
+        codeWords-append (postfix (inC p e) x),
+        codeWords-append (postfix (inC p e) y),
+        codeWords-append (postfix (inC p e) z),
+      )
+
+  -- where its nodes stand
+  pub expr-code : (kind v : ℕ) (x : Expr) → Holds d kind v x → Nested 16 x → NamesIn (size p) x
+      → exprWords d e (startOf v) (countOf v) ≡ codeWords (postfix (inC p e) x)
+  unfolding exprWords
+  expr-code kind v x h f k =
+      let l : countOf v ≤ length (drop (startOf v) d) = rw (length-drop (startOf v) d) (omega (arith, h .inside, dr .long)) in
+      let s : inTurn (nodeWords d e) (take (countOf v) (drop (startOf v) d)) ≡ each (countOf v) (λ j. nodeWords d e (getD (drop (startOf v) d) j 0)) =
+      in-turn-each (nodeWords d e) (drop (startOf v) d) (countOf v) l in
+      let g : inTurn (nodeWords d e) (take (countOf v) (drop (startOf v) d)) ≡ each (countOf v) (λ j. nodeWords d e (getD d (startOf v + j) 0)) = simp getD-drop at s in
+      sym g ∙ rw (h .count-is, h .there) (nodes-code f k)

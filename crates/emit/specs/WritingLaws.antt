@@ -1,0 +1,123 @@
+-- Writing goes on where it ended: what is written by one function and then by another, and what a loop has written so far.
+use Prim.Native.Nat.{ℕ, zero, suc, _+_, _≤_, _<_}
+use mathlib.Core.Path.{_≡_, refl, sym, ap, _∙_}
+use mathlib.Core.Logic.{by-cases}
+use mathlib.Core.List.{List, [], _∷_, _++_, append-assoc, append-nil}
+use native.Mathlib.Decide.{decLt}
+use native.Mathlib.Omega.{arith}
+use native.Mathlib.Numerals.{add-one}
+use lib.ListN.{length, getD, take, length-append}
+use lib.Seq.{take-suc}
+use Rattle.word.specs.Word.{put}
+use Rattle.image.specs.Image.{putWords}
+use Rattle.image.specs.PutWords.{length-putWords, putWords-append}
+use Rattle.draft.specs.Draft.{entryOf, DraftOf}
+use Rattle.draft.specs.Entry.{startOf, countOf}
+use Rattle.draft.specs.DraftLaws.{draft-long, draft-behaviours, bounded}
+use Rattle.base.specs.Basics.{All}
+use Rattle.emit.specs.Words.{each, inTurn}
+use Rattle.emit.specs.Writing.{Room, Wrote, Sound, Listed}
+
+-- ---- one after the other
+
+pub wrote-none : (t : List ℕ) (k : ℕ) → Wrote t k [] t k
+unfolding putWords
+wrote-none t k = record { table = refl; next = omega arith }
+
+pub wrote-long : {t t′ ws : List ℕ} {k r : ℕ} → Wrote t k ws t′ r → length t′ ≡ length t
+wrote-long {t} {t′} {ws} {k} w = rw (w .table) (length-putWords t k ws)
+
+pub wrote-then : {t t′ t″ xs ys : List ℕ} {k r s : ℕ} → Wrote t k xs t′ r → Wrote t′ r ys t″ s → Wrote t k (xs ++ ys) t″ s
+wrote-then {t} {t′} {t″} {xs} {ys} {k} {r} {s} w v = record {
+  table = v .table ∙ ap (λ (l : List ℕ). putWords l r ys) (w .table) ∙ ap (λ (a : ℕ). putWords (putWords t k xs) a ys) (w .next) ∙ sym (putWords-append t k xs ys);
+  next = rw length-append (omega (arith, w .next, v .next));
+}
+
+pub wrote-as : {t t′ xs ys : List ℕ} {k r : ℕ} → xs ≡ ys → Wrote t k xs t′ r → Wrote t k ys t′ r
+wrote-as {t} {t′} {xs} {ys} {k} {r} e w = rw e at w
+
+pub wrote-two : {t t′ t″ : List ℕ} {k a b : ℕ} → t′ ≡ put t k a → t″ ≡ put t′ (k + 1) b → Wrote t k (a ∷ b ∷ []) t″ (k + 2)
+unfolding putWords
+wrote-two p q = record { table = rw p at q; next = omega arith }
+
+pub room-as : {t xs ys : List ℕ} {k : ℕ} → xs ≡ ys → Room t k ys → Room t k xs
+room-as {t} {xs} {ys} {k} e h = rw e h
+
+pub room-first : {t : List ℕ} {k : ℕ} (xs ys : List ℕ) → Room t k (xs ++ ys) → Room t k xs
+room-first {t} {k} xs ys h = record { within = omega (arith, h .within, length-append xs ys); long = h .long }
+
+pub room-then : {t t′ xs ys : List ℕ} {k r : ℕ} → Wrote t k xs t′ r → Room t k (xs ++ ys) → Room t′ r ys
+room-then {t} {t′} {xs} {ys} {k} {r} w h =
+    record { within = omega (arith, h .within, w .next, length-append xs ys); long = omega (arith, h .long, wrote-long w) }
+
+-- ---- loops
+
+-- a loop over the numbers below n has written those below i
+pub record Turn (f : ℕ → List ℕ) (n : ℕ) (t : List ℕ) (k i : ℕ) (t′ : List ℕ) (r : ℕ) : Type 0 where
+  pub wrote : Wrote t k (each i f) t′ r
+  pub few : i ≤ n
+  pub room : Room t k (each n f)
+
+each-le : (f : ℕ → List ℕ) (i n : ℕ) → i ≤ n → length (each i f) ≤ length (each n f)
+unfolding each
+each-le f i zero h = let z : i ≡ 0 = omega arith in rw z (omega arith)
+each-le f i (suc n) h =
+    by-cases (decLt n i) (λ p. let z : i ≡ suc n = omega arith in rw z (omega arith))
+    (λ p. omega (arith, each-le f i n (omega arith), length-append (each n f) (f n)))
+
+each-one : (f : ℕ → List ℕ) (i : ℕ) → each (i + 1) f ≡ each i f ++ f i
+unfolding each
+each-one f i = rw add-one
+
+module _ {f : ℕ → List ℕ} {n : ℕ} {t : List ℕ} {k : ℕ} where
+  pub start : Room t k (each n f) → Turn f n t k 0 t k
+  unfolding each
+  start h = record { wrote = wrote-none t k; few = omega arith; room = h }
+
+  pub turn-room : {i : ℕ} {t′ : List ℕ} {r : ℕ} → Turn f n t k i t′ r → i < n → Room t′ r (f i)
+  turn-room {i} {t′} {r} u b =
+      room-then (u .wrote)
+      (room-as (sym (each-one f i)) (record { within = omega (arith, u .room .within, each-le f (i + 1) n (omega arith)); long = u .room .long }))
+
+  pub turn : {i : ℕ} {t′ t″ : List ℕ} {r s : ℕ} → Turn f n t k i t′ r → i < n → Wrote t′ r (f i) t″ s → Turn f n t k (i + 1) t″ s
+  turn {i} u b w = record { wrote = wrote-as (sym (each-one f i)) (wrote-then (u .wrote) w); few = omega arith; room = u .room }
+
+  pub end : {i : ℕ} {t′ : List ℕ} {r : ℕ} → Turn f n t k i t′ r → n ≤ i → Wrote t k (each n f) t′ r
+  end {i} u b = let z : i ≡ n = omega (arith, u .few) in rw z at (u .wrote)
+
+  pub turn-long : {i : ℕ} {t′ : List ℕ} {r : ℕ} → Turn f n t k i t′ r → length t′ ≡ length t
+  turn-long u = wrote-long (u .wrote)
+
+-- a list's members by their places
+inTurn-snoc : (f : ℕ → List ℕ) (xs : List ℕ) (x : ℕ) → inTurn f (xs ++ (x ∷ [])) ≡ inTurn f xs ++ f x
+unfolding inTurn
+inTurn-snoc f [] x = append-nil (f x)
+inTurn-snoc f (y ∷ xs) x = rw (inTurn-snoc f xs x, append-assoc)
+
+pub in-turn-each : (f : ℕ → List ℕ) (o : List ℕ) (count : ℕ) → count ≤ length o → inTurn f (take count o) ≡ each count (λ j. f (getD o j 0))
+unfolding each inTurn
+in-turn-each f o zero h = refl
+in-turn-each f o (suc j) h = rw (take-suc o j 0 (omega arith), inTurn-snoc f (take j o) (getD o j 0), in-turn-each f o j (omega arith))
+
+pub each-in-turn : {o : List ℕ} {count n : ℕ} (f : ℕ → List ℕ) → Listed o count n → each count (λ j. f (getD o j 0)) ≡ inTurn f (take count o)
+each-in-turn {o} {count} f h = sym (in-turn-each f o count (h .long))
+
+-- ---- what is asked of draft and order
+
+pub draft-sound : {ev bs n : ℕ} {d : List ℕ} → DraftOf ev bs n d → (e : ℕ) → e ≤ 32 → Sound d e bs
+draft-sound dr e b = record { long = draft-long dr; few = draft-behaviours dr; inside = λ i c. bounded dr e i b c }
+
+pub sound-at : {d : List ℕ} {e n i : ℕ} → Sound d e n → i < n → Sound d e (i + 1)
+sound-at s b = record { long = s .long; few = omega (arith, s .few); inside = λ j h. s .inside j (omega arith) }
+
+pub sound-inside : {d : List ℕ} {e n i v : ℕ} → Sound d e n → i < n → v ≡ entryOf d e i → startOf v + countOf v ≤ 2048
+sound-inside {i} s b is = rw is (s .inside i b)
+
+at-within : (P : ℕ → Type 0) (l : List ℕ) (n j : ℕ) → All P (take n l) → j < n → n ≤ length l → P (getD l j 0)
+at-within P l zero j h b c = absurd (omega arith)
+at-within P [] (suc n) j h b c = absurd (omega arith)
+at-within P (x ∷ l) (suc n) zero h b c = h .0
+at-within P (x ∷ l) (suc n) (suc j) h b c = at-within P l n j (h .1) (omega arith) (omega arith)
+
+pub all-listed : (o : List ℕ) (count n : ℕ) → count ≤ length o → All (λ i. i < n) (take count o) → Listed o count n
+all-listed o count n h a = record { long = h; below = λ j b. at-within (λ i. i < n) o count j a b h }
