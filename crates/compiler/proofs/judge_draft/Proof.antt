@@ -1,0 +1,24 @@
+-- `compiler::judge_draft` meets its contract: each answer is a branch of `judge` for the program of the draft. Assumes nothing.
+use mathlib.Core.Path.{sym, _∙_}
+use native.Mathlib.Omega.{arith}
+use borrow.Author.Needs.{needs}
+use borrow.Author.Tests.{not-true, not-false}
+use Rattle.draft.specs.DraftLaws.{draft-long, draft-events, draft-behaviours}
+use Rattle.analysis.specs.DraftChecks.{draft-inside}
+use Rattle.compiler.specs.TableIs.{draft-planned, draft-unknown, draft-circular, draft-overlong, draft-passes}
+use Rattle.compiler.proofs.judge_draft.Statement.{statement}
+use Rattle.compiler.proofs.judge_draft.Tie as tie
+
+pub judge-draft-spec : {M : Type 1} → statement M
+judge-draft-spec =
+    tie.close
+    (tie.spec
+    (λ c κs. search needs)
+    (λ c. record { each-program = λ p. draft-unknown p _ (sym (c .before .names-known .ensures) ∙ not-true _ (c .if1 .taken)) })
+    (λ c κs. let p = c .before .before .before .before .pre .0 in (draft-long p, draft-events p, draft-behaviours p, draft-inside p))
+    (λ c. record { each-program = λ p. draft-circular p _ (sym (c .before .before .before .names-known .ensures) ∙ not-false _ (c .before .before .if1 .left)) (sym (c .before .has-cycle .ensures) ∙ c .if2 .taken) })
+    (λ c κs. let p = c .before .before .before .before .before .before .pre .0 in (draft-long p, draft-events p, draft-behaviours p, draft-inside p))
+    (λ c. record { each-program = λ p. draft-overlong p _ (sym (c .before .before .before .before .before .names-known .ensures) ∙ not-false _ (c .before .before .before .before .if1 .left)) (sym (c .before .before .before .has-cycle .ensures) ∙ c .before .before .if2 .left) (omega (arith, c .before .count-all .ensures)) })
+    (λ c κs. (draft-planned (c .before .before .before .before .before .before .before .before .before .pre .0) (sym (c .before .before .before .before .before .before .names-known .ensures) ∙ not-false _ (c .before .before .before .before .before .if1 .left)) (sym (c .before .before .before .before .has-cycle .ensures) ∙ c .before .before .before .if2 .left) (omega (arith, c .before .before .count-all .ensures)), search needs))
+    (λ c. search needs)
+    (λ c. record { each-program = λ p. draft-passes p _ (sym (c .before .before .before .before .before .before .before .before .before .names-known .ensures) ∙ not-false _ (c .before .before .before .before .before .before .before .before .if1 .left)) (sym (c .before .before .before .before .before .before .before .has-cycle .ensures) ∙ c .before .before .before .before .before .before .if2 .left) (omega (arith, c .before .before .before .before .before .count-all .ensures)) _ (c .before .before .write-table .ensures) }))
