@@ -1,0 +1,63 @@
+-- One instruction on the round's bytes (layout: crate round). 01 "Handlers and steps"; "Why a call was turned down": foreign.
+-- Operations: 1 off, 2 on, 3 copy, 4 restore, 5 push, 6 load, 7 fetch, 8 apply (its slot is the function), 9 save, 10 defer, 11 move.
+use Prim.Native.Nat.{ℕ, _+_, _-_}
+use mathlib.Core.Bool.{Bool, true, false}
+use mathlib.Core.List.{List}
+use lib.Dec.{ltb, leb, eqb}
+use Rattle.base.specs.Basics.{pick}
+use Rattle.word.specs.Word.{get, put}
+use Rattle.arith.specs.Functions.{result, arity}
+
+-- function f finds its arguments on a stack of depth d
+unfoldable pub applies : ℕ → ℕ → Bool
+applies f d = pick (eqb f 0) false (pick (ltb 14 f) false (leb (arity f) d))
+
+-- not foreign: "an instruction not of this paper, with a slot above 63, or taking from an empty or adding to a full stack"
+unfoldable pub allowed : ℕ → ℕ → ℕ → Bool
+allowed op s d =
+    pick (ltb 63 s) false
+    (pick (eqb op 0) false
+    (pick (ltb op 5) true
+    (pick (ltb op 8) (ltb d 64)
+    (pick (eqb op 8) (applies s d)
+    (pick (ltb op 11) (ltb 0 d)
+    (eqb op 11))))))
+
+-- v on top of a stack of depth d
+unfoldable pub pushOn : List ℕ → ℕ → ℕ → List ℕ
+pushOn l d v = put (put l (328 + d) v) 6 (d + 1)
+
+-- the top of a stack of depth d goes to word k
+unfoldable pub popTo : List ℕ → ℕ → ℕ → List ℕ
+popTo l d k = put (put l k (get l (327 + d))) 6 (d - 1)
+
+-- function f takes its arguments from a stack of depth d, and puts its result
+unfoldable pub applyOne : List ℕ → ℕ → ℕ → List ℕ
+applyOne l d f = put l (327 + d) (result f (get l (327 + d)) 0 0)
+
+unfoldable pub applyTwo : List ℕ → ℕ → ℕ → List ℕ
+applyTwo l d f = put (put l (326 + d) (result f (get l (326 + d)) (get l (327 + d)) 0)) 6 (d - 1)
+
+unfoldable pub applyThree : List ℕ → ℕ → ℕ → List ℕ
+applyThree l d f = put (put l (325 + d) (result f (get l (325 + d)) (get l (326 + d)) (get l (327 + d)))) 6 (d - 2)
+
+unfoldable pub applyOn : List ℕ → ℕ → ℕ → List ℕ
+applyOn l d f = pick (eqb f 3) (applyOne l d f) (pick (eqb f 14) (applyThree l d f) (applyTwo l d f))
+
+-- word k to word j
+unfoldable pub transfer : List ℕ → ℕ → ℕ → List ℕ
+transfer l k j = put l j (get l k)
+
+-- operation op with slot s and constant w, on a stack of depth d
+unfoldable pub perform : List ℕ → ℕ → ℕ → ℕ → ℕ → List ℕ
+perform l op s w d =
+    pick (eqb op 3) (transfer l (136 + s) (200 + s))
+    (pick (eqb op 4) (transfer l (200 + s) (136 + s))
+    (pick (eqb op 5) (pushOn l d w)
+    (pick (eqb op 6) (pushOn l d (get l (136 + s)))
+    (pick (eqb op 7) (pushOn l d (get l (200 + s)))
+    (pick (eqb op 8) (applyOn l d s)
+    (pick (eqb op 9) (popTo l d (200 + s))
+    (pick (eqb op 10) (popTo l d (264 + s))
+    (pick (eqb op 11) (transfer l (264 + s) (200 + s))
+    l))))))))
