@@ -1,0 +1,16 @@
+-- The running one's instruction lies in the table: its code does, and it is not past its end.
+use Prim.Native.Nat.{ℕ, _+_, _<_, _≤_}
+use mathlib.Core.Path.{_≡_, refl}
+use mathlib.Core.Logic.{_≢_}
+use mathlib.Core.List.{List}
+use native.Mathlib.Omega.{arith}
+use Rattle.word.specs.Word.{get}
+use Rattle.round.specs.Layout.{eventWord}
+use Rattle.round.specs.Bounds.{Bounds}
+
+pub in-code : {t l : List ℕ} {e c a : ℕ} → Bounds t l → get l 2 ≢ 0 → e ≡ get l 3 → c ≡ get l 5 → a ≡ eventWord t e 1 → a + c < 4096
+in-code {t} {l} {e} {c} {a} b n p q r =
+    let k : eventWord t (get l 3) 1 + eventWord t (get l 3) 2 ≤ 4096 = b .table .codes (get l 3) (b .round .running-known n) in
+    let h : get l 5 < eventWord t (get l 3) 2 = b .round .running-within n in
+    let s : a ≡ eventWord t (get l 3) 1 = rw p at r in
+    omega arith

@@ -1,0 +1,21 @@
+-- Each return is one branch of the definition, with its write.
+use Rattle.base.specs.Pick.{code}
+use Rattle.machine.specs.Machine.{countOn}
+use borrow.Author.Needs.{needs}
+use Rattle.machine.proofs.count_on.Statement.{statement}
+use Rattle.machine.proofs.count_on.Tie as tie
+
+pub count-on-spec : {M : Type 1} → statement M
+unfolding countOn
+count-on-spec =
+    tie.close
+    (tie.spec
+    (λ c. search needs)
+    (λ c. search needs)
+    (λ c κs. search needs)
+    (λ c. search needs)
+    (λ c. rw (c .before .before .put-word .ensures) (search code depth 12))
+    (λ c κs. search needs)
+    (λ c κs. search needs)
+    (λ c. search needs)
+    (λ c. rw (c .before .before .before .put-word2 .ensures, c .said-of .ensures) (search code depth 12)))

@@ -1,0 +1,161 @@
+// Arrivals and board readings on the round's bytes, and when the running one is masked. Each request is refused by 14 where table or round is foreign.
+use round::Round;
+ghost use mathlib.Core.Path.{_≡_};
+ghost use mathlib.Core.Bool.{false};
+ghost use Prim.Native.Nat.{_≤_, _<_};
+ghost use lib.ListN.{length};
+ghost use Rattle.round.specs.Bounds.{Bounds};
+ghost use Rattle.round.specs.Start.{result};
+ghost use Rattle.requests.specs.Requests.{admit, full, arriveWith, arriveIn, arriveOn, copyingBack, masked, settling, boardWith, boardIn, boardOn, settlingIn, settlingOn};
+
+// ---- arrivals
+
+fn admit_on(l: &mut [u8], e: u32, n: u32, k: u32)
+    requires { ⌜ (2048 ≤ length (now l)) × (n < 64) × (k < 1000000) ⌝ }
+    ensures { λ _. ⌜ now (l .exit) ≡ admit (now (l .entry)) e n k ⌝ }
+{
+    round::put_slot(l, n as usize, k, e);
+    word::put_word(l, 0, k + 1);
+    word::put_word(l, 1, n + 1);
+}
+
+// Whether the queue is full: n wait, and one runs where f is not 0.
+fn is_full(n: u32, f: u32) -> bool
+    ensures { λ r. ⌜ r ≡ full n f ⌝ }
+    ensures { λ r. ⌜ (r ≡ false → n < 64) ⌝ }
+{
+    if f == 0 {
+        return n >= Round::QUEUE;
+    }
+    n >= Round::QUEUE - 1
+}
+
+// Event e arrives; `known` are declared, n wait, h: the queue is full, k are taken in.
+fn arrive_with(l: &mut [u8], e: u32, known: u32, n: u32, h: bool, k: u32) -> u32
+    requires { ⌜ 2048 ≤ length (now l) ⌝ }
+    requires { ⌜ (h ≡ false → n < 64) ⌝ }
+    ensures { λ r. ⌜ result r (now (l .exit)) ≡ arriveWith (now (l .entry)) e known n h k ⌝ }
+{
+    if known <= e {
+        return 15;
+    }
+    if h {
+        return 16;
+    }
+    if k >= Round::ARRIVALS {
+        return 17;
+    }
+    admit_on(l, e, n, k);
+    0
+}
+
+fn arrive_in(t: &[u8], l: &mut [u8], e: u32) -> u32
+    requires { ⌜ Bounds (now t) (now l) ⌝ }
+    ensures { λ r. ⌜ result r (now (l .exit)) ≡ arriveIn (now (t .entry)) (now (l .entry)) e ⌝ }
+{
+    let known = word::get_word(t, 0);
+    let n = word::get_word(l, 1);
+    let h = is_full(n, word::get_word(l, 2));
+    let k = word::get_word(l, 0);
+    arrive_with(l, e, known, n, h, k)
+}
+
+// An arrival of event e. 0 where it is taken in, or the refusal's number: 14, 15, 16 or 17.
+pub fn arrive_at(t: &[u8], l: &mut [u8], e: u32) -> u32
+    ensures { λ r. ⌜ result r (now (l .exit)) ≡ arriveOn (now (t .entry)) (now (l .entry)) e ⌝ }
+{
+    if round::is_ours(t, l) {
+        return arrive_in(t, l, e);
+    }
+    14
+}
+
+// ---- masking
+
+pub fn is_copying_back(len: u32, m: u32, c: u32) -> bool
+    ensures { λ r. ⌜ r ≡ copyingBack len m c ⌝ }
+{
+    if len <= m {
+        return true;
+    }
+    len - m - 1 <= c
+}
+
+pub fn is_masked(len: u32, m: u32, c: u32) -> bool
+    ensures { λ r. ⌜ r ≡ masked len m c ⌝ }
+{
+    if is_copying_back(len, m, c) {
+        return true;
+    }
+    if c == 0 {
+        return false;
+    }
+    c - 1 <= m
+}
+
+// ---- board readings
+
+fn is_settling(f: u32, len: u32, m: u32, c: u32) -> bool
+    ensures { λ r. ⌜ r ≡ settling f len m c ⌝ }
+{
+    if f == 0 {
+        return false;
+    }
+    is_copying_back(len, m, c)
+}
+
+// Behaviour i of n, where s says whether a copy-back is under way.
+fn board_with(l: &[u8], i: u32, n: u32, s: bool) -> u64
+    requires { ⌜ (2048 ≤ length (now l)) × (n ≤ 64) ⌝ }
+    ensures { λ r. ⌜ r ≡ boardWith (now (l .entry)) i n s ⌝ }
+{
+    if n <= i {
+        return 18;
+    }
+    if s {
+        return 19;
+    }
+    4294967296 + (word::get_word(l, 136 + (i as usize)) as u64)
+}
+
+fn board_in(t: &[u8], l: &[u8], i: u32) -> u64
+    requires { ⌜ Bounds (now t) (now l) ⌝ }
+    ensures { λ r. ⌜ r ≡ boardIn (now (t .entry)) (now (l .entry)) i ⌝ }
+{
+    let n = word::get_word(t, 1);
+    let f = word::get_word(l, 2);
+    let e = word::get_word(l, 3);
+    let c = word::get_word(l, 5);
+    let s = is_settling(f, round::event_word(t, e, 2), round::event_word(t, e, 3), c);
+    board_with(l, i, n, s)
+}
+
+// The value of behaviour i: 2 ^ 32 and the word, or the refusal's number: 14, 18 or 19.
+pub fn board_at(t: &[u8], l: &[u8], i: u32) -> u64
+    ensures { λ r. ⌜ r ≡ boardOn (now (t .entry)) (now (l .entry)) i ⌝ }
+{
+    if round::is_ours(t, l) {
+        return board_in(t, l, i);
+    }
+    14
+}
+
+fn settling_in(t: &[u8], l: &[u8]) -> bool
+    requires { ⌜ Bounds (now t) (now l) ⌝ }
+    ensures { λ r. ⌜ r ≡ settlingIn (now (t .entry)) (now (l .entry)) ⌝ }
+{
+    let f = word::get_word(l, 2);
+    let e = word::get_word(l, 3);
+    let c = word::get_word(l, 5);
+    is_settling(f, round::event_word(t, e, 2), round::event_word(t, e, 3), c)
+}
+
+// Whether a copy-back is under way; false where table or round is foreign.
+pub fn settling_at(t: &[u8], l: &[u8]) -> bool
+    ensures { λ r. ⌜ r ≡ settlingOn (now (t .entry)) (now (l .entry)) ⌝ }
+{
+    if round::is_ours(t, l) {
+        return settling_in(t, l);
+    }
+    false
+}
