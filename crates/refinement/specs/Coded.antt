@@ -1,0 +1,194 @@
+-- No two answers to one kind of call have the same number: each is read back from it. Answer by answer.
+use Prim.Native.Nat.{ℕ, _+_, _-_, _/_, _%_, _≤_, _<_}
+use mathlib.Core.Path.{_≡_, refl, sym, ap, _∙_}
+use mathlib.Core.Logic.{_≢_}
+use mathlib.Core.List.{List, [], _∷_, map}
+use native.Mathlib.Omega.{arith}
+use lib.Dec.{ltb, leb, eqb}
+use lib.ListN.{length}
+use borrow.Author.Tests.{lt-ltb, le-ltb, ne-eqb}
+use Rattle.base.specs.Basics.{pick}
+use Rattle.base.specs.Tools.{by-test, all-perm}
+use Rattle.language.specs.Syntax.{Program}
+use Rattle.language.specs.Dependence.{size, events}
+use Rattle.language.specs.Code.{code}
+use Rattle.language.specs.Accepted.{Accepted}
+use Rattle.execution.specs.Execution.{Values}
+use Rattle.execution.specs.CodeFacts.{CodeFacts}
+use Rattle.execution.specs.CodeRight.{code-facts}
+use Rattle.model.specs.Model.{Arrival, arrival, rest, busy, Engine, engine, initial, queue, Call, arrive, step, board, Answer, refused, takenIn, shows, idle, ran, started, preempted, committed, Outcome, rank, masked, settling, choose, advance, act, answers}
+use Rattle.model.specs.Choice.{choose-perm}
+use Rattle.model.specs.Reached.{Fine, Reached, act-keeps, initially}
+use Rattle.image.specs.Image.{tableOf}
+use Rattle.round.specs.Start.{freshBytes}
+use Rattle.machine.specs.Machine.{said}
+use Rattle.refinement.specs.Refinement.{coded, answersOn}
+use Rattle.refinement.specs.Refines.{valid, refines}
+
+-- ---- the answers to an arrival, to a step and to a board reading, events being below 256
+
+abbrev pub ToArrive : Answer → Type 0
+ToArrive (refused n) = 0 < n
+ToArrive takenIn = Unit {0}
+ToArrive (shows v) = ⊥
+ToArrive idle = ⊥
+ToArrive ran = ⊥
+ToArrive (started a) = ⊥
+ToArrive (preempted a) = ⊥
+ToArrive (committed a) = ⊥
+
+abbrev pub ToStep : Answer → Type 0
+ToStep (refused n) = ⊥
+ToStep takenIn = ⊥
+ToStep (shows v) = ⊥
+ToStep idle = Unit {0}
+ToStep ran = Unit {0}
+ToStep (started a) = a .event < 256
+ToStep (preempted a) = a .event < 256
+ToStep (committed a) = a .event < 256
+
+abbrev pub ToBoard : Answer → Type 0
+ToBoard (refused n) = n < 4294967296
+ToBoard takenIn = ⊥
+ToBoard (shows v) = Unit {0}
+ToBoard idle = ⊥
+ToBoard ran = ⊥
+ToBoard (started a) = ⊥
+ToBoard (preempted a) = ⊥
+ToBoard (committed a) = ⊥
+
+abbrev pub To : Call → Answer → Type 0
+To (arrive e) a = ToArrive a
+To step a = ToStep a
+To (board i) a = ToBoard a
+
+-- ---- reading back
+
+abbrev arrivalIn : ℕ → Arrival
+arrivalIn v = arrival (v / 65536) (v / 256 % 256)
+
+abbrev stepAnswer : ℕ → Answer
+stepAnswer v =
+    pick (eqb v 0) idle
+    (pick (eqb v 1) ran
+    (pick (eqb (v % 256) 2) (started (arrivalIn v))
+    (pick (eqb (v % 256) 3) (committed (arrivalIn v)) (preempted (arrivalIn v)))))
+
+abbrev pub decoded : Call → ℕ → Answer
+decoded (arrive e) v = pick (eqb v 0) takenIn (refused v)
+decoded step v = stepAnswer v
+decoded (board i) v = pick (ltb v 4294967296) (refused v) (shows (v - 4294967296))
+
+said-kind : (k n e : ℕ) → e < 256 → k < 256 → said k n e % 256 ≡ k
+unfolding said
+said-kind k n e h b = omega arith
+
+said-number : (k n e : ℕ) → e < 256 → k < 256 → said k n e / 65536 ≡ n
+unfolding said
+said-number k n e h b = omega arith
+
+said-event : (k n e : ℕ) → e < 256 → k < 256 → said k n e / 256 % 256 ≡ e
+unfolding said
+said-event k n e h b = omega arith
+
+said-large : (k n e : ℕ) → 2 ≤ k → (said k n e ≢ 0) × (said k n e ≢ 1)
+unfolding said
+said-large k n e h = (omega arith, omega arith)
+
+-- what is said of an arrival with kind k
+step-said : (k : ℕ) (a : Arrival) → 2 ≤ k → k < 256 → a .event < 256
+    → stepAnswer (said k (a .number) (a .event)) ≡ pick (eqb k 2) (started a) (pick (eqb k 3) (committed a) (preempted a))
+step-said k a h b c =
+    let z = said-large k (a .number) (a .event) h in
+    rw (
+      ne-eqb (said k (a .number) (a .event)) 0 (z .0),
+      ne-eqb (said k (a .number) (a .event)) 1 (z .1),
+      said-kind k (a .number) (a .event) c b,
+      said-number k (a .number) (a .event) c b,
+      said-event k (a .number) (a .event) c b,
+    )
+
+pub decoded-arrive : (e : ℕ) (a : Answer) → ToArrive a → decoded (arrive e) (coded a) ≡ a
+decoded-arrive e (refused n) h = let z : n ≢ 0 = omega arith in rw (ne-eqb n 0 z)
+decoded-arrive e takenIn h = refl
+decoded-arrive e (shows v) h = absurd h
+decoded-arrive e idle h = absurd h
+decoded-arrive e ran h = absurd h
+decoded-arrive e (started a) h = absurd h
+decoded-arrive e (preempted a) h = absurd h
+decoded-arrive e (committed a) h = absurd h
+
+pub decoded-step : (a : Answer) → ToStep a → decoded step (coded a) ≡ a
+decoded-step (refused n) h = absurd h
+decoded-step takenIn h = absurd h
+decoded-step (shows v) h = absurd h
+decoded-step idle h = refl
+decoded-step ran h = refl
+decoded-step (started a) h = step-said 2 a (omega arith) (omega arith) h
+decoded-step (preempted a) h = step-said 4 a (omega arith) (omega arith) h
+decoded-step (committed a) h = step-said 3 a (omega arith) (omega arith) h
+
+pub decoded-board : (i : ℕ) (a : Answer) → ToBoard a → decoded (board i) (coded a) ≡ a
+decoded-board i (refused n) h = rw (lt-ltb n 4294967296 h)
+decoded-board i takenIn h = absurd h
+decoded-board i (shows v) h =
+    let z : 4294967296 + v - 4294967296 ≡ v = omega arith in
+    rw (le-ltb (4294967296 + v) 4294967296 (omega arith), z)
+decoded-board i idle h = absurd h
+decoded-board i ran h = absurd h
+decoded-board i (started a) h = absurd h
+decoded-board i (preempted a) h = absurd h
+decoded-board i (committed a) h = absurd h
+
+pub decoded-coded : (c : Call) (a : Answer) → To c a → decoded c (coded a) ≡ a
+decoded-coded (arrive e) a h = decoded-arrive e a h
+decoded-coded step a h = decoded-step a h
+decoded-coded (board i) a h = decoded-board i a h
+
+-- two answers to one kind of call with the same number are one
+pub coded-injective : (c : Call) (a b : Answer) → To c a → To c b → coded a ≡ coded b → a ≡ b
+coded-injective c a b h k e = sym (decoded-coded c a h) ∙ ap (decoded c) e ∙ decoded-coded c b k
+
+-- ---- the model's answers are such
+
+module _ (p : Program) (few : events p ≤ 256) where
+  advance-to : (t : ℕ) (q : List Arrival) (a : Arrival) (n : ℕ) (d : Values) → a .event < events p → ToStep (advance p t q a n d .answer)
+  advance-to t q a n d h = by-test (λ (o : Outcome). ToStep (o .answer)) (ltb (n + 1) (length (code p (a .event)))) (λ _. tt) (λ _. omega arith)
+
+  pub answer-to : (c : Call) (w : Engine) → Reached p w → To c (act p c w .answer)
+  unfolding act
+  answer-to (arrive e) (engine t q r d) i =
+      by-test (λ (o : Outcome). ToArrive (o .answer)) (leb (events p) e) (λ _. omega arith)
+      (λ _. by-test (λ (o : Outcome). ToArrive (o .answer)) (leb 64 (length (queue q r))) (λ _. omega arith)
+      (λ _. by-test (λ (o : Outcome). ToArrive (o .answer)) (leb 1000000 t) (λ _. omega arith) (λ _. tt)))
+  answer-to step (engine t [] rest d) i = tt
+  answer-to step (engine t (b ∷ l) rest d) i = let f = all-perm (Fine p t) (choose-perm p b l) (i .fine) in omega (arith, f .0 .1)
+  answer-to step (engine t [] (busy a n) d) i = advance-to t [] a n d (i .fine .0 .1)
+  answer-to step (engine t (b ∷ l) (busy a n) d) i =
+      let f = all-perm (Fine p t) (choose-perm p b l) (i .fine .1) in
+      by-test (λ (o : Outcome). ToStep (o .answer)) (masked p a n) (λ _. advance-to t (b ∷ l) a n d (i .fine .0 .1))
+      (λ _. by-test (λ (o : Outcome). ToStep (o .answer)) (ltb (rank p a) (rank p (choose p b l .next))) (λ _. omega (arith, f .0 .1))
+      (λ _. advance-to t (b ∷ l) a n d (i .fine .0 .1)))
+  answer-to (board j) (engine t q r d) i =
+      by-test ToBoard (leb (size p) j) (λ _. omega arith) (λ _. by-test ToBoard (settling p r) (λ _. omega arith) (λ _. tt))
+
+-- the answers of a list of calls, read back from their numbers
+unfoldable pub decodedAll : List Call → List ℕ → List Answer
+decodedAll [] vs = []
+decodedAll (c ∷ cs) [] = []
+decodedAll (c ∷ cs) (v ∷ vs) = decoded c v ∷ decodedAll cs vs
+
+pub decoded-answers : (p : Program) → CodeFacts p → events p ≤ 256 → (cs : List Call) (w : Engine) → Reached p w
+    → decodedAll cs (map coded (answers p cs w)) ≡ answers p cs w
+unfolding decodedAll answers
+decoded-answers p facts few [] w i = refl
+decoded-answers p facts few (c ∷ cs) w i = λ k.
+    decoded-coded c (act p c w .answer) (answer-to p few c w i) k ∷ decoded-answers p facts few cs (act p c w .after) (act-keeps p facts c w i) k
+
+-- so the model's answers are read back from those on the bytes
+pub answers-read : (p : Program) → Accepted p → (t₀ l₀ : List ℕ) → 34816 ≤ length t₀ → 2048 ≤ length l₀ → (cs : List Call)
+    → decodedAll cs (answersOn (tableOf p t₀) cs (freshBytes (tableOf p t₀) l₀)) ≡ answers p cs (initial p)
+answers-read p ok t₀ l₀ g h cs =
+    let facts = code-facts p (valid p ok) in
+    let few : events p ≤ 256 = omega (arith, ok .fits .few-events) in
+    ap (decodedAll cs) (refines p ok t₀ l₀ g h cs .answered) ∙ decoded-answers p facts few cs (initial p) (initially p facts)

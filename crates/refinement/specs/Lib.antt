@@ -1,0 +1,9 @@
+pub mod Refinement
+pub mod Slots
+pub mod Values
+pub mod Instructions
+pub mod Relation
+pub mod Agrees
+pub mod FreshRound
+pub mod Refines
+pub mod Coded

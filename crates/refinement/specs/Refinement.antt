@@ -1,0 +1,80 @@
+-- Calls on the bytes, and when their answers and the round agree with the model engine. 01 "Whole runs".
+use Prim.Native.Nat.{ℕ, zero, suc, _+_, _≤_}
+use mathlib.Core.Path.{_≡_}
+use mathlib.Core.Option.{none, some}
+use mathlib.Core.List.{List, [], _∷_, map, List·Permᴰ}
+use lib.ListN.{length, getD}
+use lib.Dec.{eqb}
+use Rattle.base.specs.Basics.{pick}
+use Rattle.word.specs.Word.{get, words, pile}
+use Rattle.language.specs.Syntax.{Program}
+use Rattle.language.specs.Dependence.{size}
+use Rattle.execution.specs.Execution.{Values}
+use Rattle.model.specs.Model.{Arrival, arrival, Running, rest, busy, Engine, engine, Call, arrive, step, board, Answer, refused, takenIn, shows, idle, ran, started, preempted, committed, run, answers}
+use Rattle.round.specs.Layout.{taken, waitingCount, runningFlag, runningEvent, runningNumber, position, depth, numberAt, eventAt}
+use Rattle.round.specs.Start.{Result}
+use Rattle.requests.specs.Requests.{arriveOn, boardOn}
+use Rattle.machine.specs.Machine.{said, stepOn}
+
+-- an answer as the number that the call gives
+abbrev pub coded : Answer → ℕ
+coded (refused n) = n
+coded takenIn = 0
+coded (shows v) = 4294967296 + v
+coded idle = 0
+coded ran = 1
+coded (started a) = said 2 (a .number) (a .event)
+coded (committed a) = said 3 (a .number) (a .event)
+coded (preempted a) = said 4 (a .number) (a .event)
+
+-- ---- calls on a table's and a round's bytes
+
+unfoldable pub callOn : List ℕ → Call → List ℕ → Result
+callOn t (arrive e) l = arriveOn t l e
+callOn t step l = stepOn t l
+callOn t (board i) l = (boardOn t l i, l)
+
+-- the answers of a list of calls, and the round's bytes after it
+unfoldable pub answersOn : List ℕ → List Call → List ℕ → List ℕ
+answersOn t [] l = []
+answersOn t (c ∷ cs) l = callOn t c l .0 ∷ answersOn t cs (callOn t c l .1)
+
+unfoldable pub roundAfter : List ℕ → List Call → List ℕ → List ℕ
+roundAfter t [] l = l
+roundAfter t (c ∷ cs) l = roundAfter t cs (callOn t c l .1)
+
+-- ---- what the round's bytes say
+
+-- the waiting arrivals of the first n slots
+unfoldable pub slots : List ℕ → ℕ → List Arrival
+slots l zero = []
+slots l (suc n) = arrival (numberAt l n) (eventAt l n) ∷ slots l n
+
+abbrev pub runningIn : List ℕ → Running
+runningIn l = pick (eqb (runningFlag l) 0) rest (busy (arrival (runningNumber l) (runningEvent l)) (position l))
+
+-- "as read from the round's bytes, board, hand (in whatever order it is kept), number taken in, running arrival with its count, stack, and scratch and places
+-- as far as the model engine has filled them"; the board is the store, the hand the waiting and the running one, the places hold the deferred values
+pub record ViewOf (p : Program) (l : List ℕ) (n : ℕ) (waiting : List Arrival) (r : Running) (d : Values) : Type 0 where
+  pub number : taken l ≡ n
+  pub queue : List·Permᴰ (slots l (waitingCount l)) waiting
+  pub running : runningIn l ≡ r
+  pub store : words l 136 (size p) ≡ d .store
+  pub stack : pile l 328 (depth l) ≡ d .stack
+  pub scratch : (i v : ℕ) → getD (d .scratch) i none ≡ some v → get l (200 + i) ≡ v
+  pub deferred : (i v : ℕ) → getD (d .deferred) i none ≡ some v → get l (264 + i) ≡ v
+
+abbrev pub View : Program → List ℕ → Engine → Type 0
+View p l (engine n waiting r d) = ViewOf p l n waiting r d
+
+-- only the round's 2,048 bytes may change
+pub record Kept (l m : List ℕ) : Type 0 where
+  pub as-long : length m ≡ length l
+  pub beyond : (j : ℕ) → 2048 ≤ j → getD m j 0 ≡ getD l j 0
+
+-- calls on the table t, from a round's bytes l and an engine w: the answers equal the engine's, the round then agrees with it, and of the bytes lent, l₀, only the
+-- round's have changed
+pub record Agreement (p : Program) (t l₀ l : List ℕ) (cs : List Call) (w : Engine) : Type 0 where
+  pub answered : answersOn t cs l ≡ map coded (answers p cs w)
+  pub viewed : View p (roundAfter t cs l) (run p cs w)
+  pub kept : Kept l₀ (roundAfter t cs l)

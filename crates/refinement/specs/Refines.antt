@@ -1,0 +1,86 @@
+-- Every list of calls on a program's table and a round that start has made fresh: the answers are the model engine's, and the round agrees with it.
+-- By induction on the list, each call agreeing and keeping the engine reached.
+use Prim.Native.Nat.{ℕ, _≤_}
+use mathlib.Core.Bool.{true}
+use mathlib.Core.Path.{_≡_, refl}
+use mathlib.Core.List.{List, [], _∷_}
+use lib.ListN.{length}
+use borrow.Author.Tests.{le-ltb, le-leb}
+use Rattle.word.specs.Laws.{long}
+use Rattle.language.specs.Syntax.{Program}
+use Rattle.language.specs.Dependence.{size, events}
+use Rattle.language.specs.Code.{code, instructions, allInstructions}
+use Rattle.language.specs.Accepted.{Accepted, Valid}
+use Rattle.semantics.specs.Lists.{upTo-same}
+use Rattle.execution.specs.Sums.{length-join}
+use Rattle.execution.specs.CodeRight.{code-facts}
+use Rattle.model.specs.Model.{Running, rest, busy, Engine, engine, initial, Call, act, run, answers}
+use Rattle.model.specs.Reached.{Reached, act-keeps, initially}
+use Rattle.model.specs.Fresh.{length-fresh}
+use Rattle.image.specs.Image.{allCode, tableOf}
+use Rattle.image.specs.ImageLaws.{Says, table-says}
+use Rattle.round.specs.Start.{startOn, freshBytes}
+use Rattle.refinement.specs.Refinement.{callOn, answersOn, roundAfter, runningIn, View, Kept, Agreement}
+use Rattle.refinement.specs.Slots.{kept-trans}
+use Rattle.refinement.specs.Relation.{RunIs, Alike}
+use Rattle.refinement.specs.Agrees.{call-agrees}
+use Rattle.refinement.specs.FreshRound.{fresh-kept, fresh-rel}
+
+-- ---- what an accepted program is known to satisfy
+
+pub valid : (p : Program) → Accepted p → Valid p
+valid p ok = record { each = ok .fits .each; known = ok .known; acyclic = ok .acyclic }
+
+short-code : (p : Program) → Accepted p → length (allCode p) ≤ 4096
+unfolding allCode allInstructions
+short-code p ok =
+    rw (length-join (events p) (code p), upTo-same (events p) (λ e. length (code p e)) (instructions p) (code-facts p (valid p ok) .counted)) (ok .short)
+
+-- ---- what the bytes say
+
+run-is : (l : List ℕ) (r : Running) → RunIs l r → runningIn l ≡ r
+run-is l rest h = rw h
+run-is l (busy a c) h = rw (h .0, h .1, h .2, h .3)
+
+alike-view : (p : Program) (l : List ℕ) (w : Engine) → Alike (size p) l w → View p l w
+alike-view p l (engine k q r d) R = record {
+  number = R .number;
+  queue = R .queue;
+  running = run-is l r (R .runs);
+  store = R .values .store;
+  stack = R .values .stack;
+  scratch = R .values .scratch;
+  deferred = R .values .deferred;
+}
+
+-- ---- whole runs
+
+calls-agree : (p : Program) → Accepted p → (t : List ℕ) → Says p t → (l₀ l : List ℕ) (cs : List Call) (w : Engine)
+    → Alike (size p) l w → Reached p w → Kept l₀ l → Agreement p t l₀ l cs w
+unfolding answersOn roundAfter answers run
+calls-agree p ok t table l₀ l [] w R i h = record { answered = refl; viewed = alike-view p l w R; kept = h }
+calls-agree p ok t table l₀ l (c ∷ cs) w R i h =
+    let a = call-agrees p (valid p ok) t table c l w R i in
+    let j = act-keeps p (code-facts p (valid p ok)) c w i in
+    let b = calls-agree p ok t table l₀ (callOn t c l .1) cs (act p c w .after) (a .alike) j (kept-trans h (a .kept)) in
+    record { answered = λ k. a .answered k ∷ b .answered k; viewed = b .viewed; kept = b .kept }
+
+-- p is accepted; t₀ are the bytes lent for the table, l₀ those lent for the round
+module _ (p : Program) (ok : Accepted p) (t₀ l₀ : List ℕ) (table-room : 34816 ≤ length t₀) (round-room : 2048 ≤ length l₀) where
+  says : Says p (tableOf p t₀)
+  says = table-says p (ok .fits .few-events) (ok .fits .few-behaviours) (length-fresh p) (short-code p ok) t₀ table-room
+
+  whole : long l₀ ≡ true
+  unfolding long
+  whole = le-leb 2048 (length l₀) round-room
+
+  -- start makes the round fresh
+  pub starts : startOn (tableOf p t₀) l₀ ≡ (0, freshBytes (tableOf p t₀) l₀)
+  unfolding startOn
+  starts = rw (says .fits, le-ltb (length l₀) 2048 round-room)
+
+  -- and from there every list of calls agrees with the model
+  pub refines : (cs : List Call) → Agreement p (tableOf p t₀) l₀ (freshBytes (tableOf p t₀) l₀) cs (initial p)
+  refines cs =
+      calls-agree p ok (tableOf p t₀) says l₀ (freshBytes (tableOf p t₀) l₀) cs (initial p)
+      (fresh-rel p (tableOf p t₀) says (length-fresh p) l₀ whole) (initially p (code-facts p (valid p ok))) (fresh-kept (tableOf p t₀) l₀ whole)

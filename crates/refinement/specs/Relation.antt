@@ -1,0 +1,113 @@
+-- When a round's bytes stand for an engine, and each change of the bytes but an instruction's: an arrival joins, the next starts. Field by field.
+use Prim.Native.Nat.{ℕ, zero, suc, _+_, _*_, _-_, _≤_, _<_}
+use mathlib.Core.Bool.{Bool, true, false}
+use mathlib.Core.Path.{_≡_, refl, sym, ap, _∙_}
+use mathlib.Core.Logic.{by-cases}
+use native.Mathlib.Decide.{ℕ-discrete}
+use mathlib.Core.List.{List, _∷_}
+use mathlib.Core.List.{List·Permᴰ, List·Permᴰ·cons}
+use native.Mathlib.Omega.{arith}
+use lib.ListN.{length}
+use Rattle.base.specs.Basics.{pick, All}
+use Rattle.word.specs.Word.{get, put, words}
+use Rattle.word.specs.Laws.{long}
+use Rattle.execution.specs.Execution.{Values, emptied}
+use Rattle.model.specs.Model.{Arrival, arrival, Running, rest, busy, Engine, engine, queue, Outcome}
+use Rattle.model.specs.Choice.{perm-length}
+use Rattle.round.specs.Queue.{putSlot}
+use Rattle.round.specs.Start.{Result}
+use Rattle.requests.specs.Requests.{admit}
+use Rattle.machine.specs.Machine.{run}
+use Rattle.refinement.specs.Refinement.{coded, slots, Kept}
+use Rattle.refinement.specs.Slots.{slot, slots-length, slots-push, reads, kept-all, kept-put, kept-slot}
+use Rattle.refinement.specs.Values.{Holds, head-holds, start-holds}
+
+-- what runs, as read from the bytes
+abbrev pub RunIs : List ℕ → Running → Type 0
+RunIs l rest = get l 2 ≡ 0
+RunIs l (busy a c) = (get l 2 ≡ 1) × (get l 3 ≡ a .event) × (get l 4 ≡ a .number) × (get l 5 ≡ c)
+
+pub record Rel (n : ℕ) (l : List ℕ) (k : ℕ) (waiting : List Arrival) (r : Running) (d : Values) : Type 0 where
+  pub whole : long l ≡ true
+  pub few : get l 1 ≤ 64
+  pub number : get l 0 ≡ k
+  pub queue : List·Permᴰ (slots l (get l 1)) waiting
+  pub runs : RunIs l r
+  pub values : Holds n l d
+
+abbrev pub Alike : ℕ → List ℕ → Engine → Type 0
+Alike n l (engine k waiting r d) = Rel n l k waiting r d
+
+-- a call on the bytes l and one of the model
+pub record Agree (n : ℕ) (l : List ℕ) (x : Result) (o : Outcome) : Type 0 where
+  pub answered : x .0 ≡ coded (o .answer)
+  pub alike : Alike n (x .1) (o .after)
+  pub kept : Kept l (x .1)
+
+-- the same test on both sides
+pub both-test : {A B : Type 0} (P : A → B → Type 0) (b : Bool) {x y : A} {x′ y′ : B} → (b ≡ true → P x x′) → (b ≡ false → P y y′)
+    → P (pick b x y) (pick b x′ y′)
+both-test P true f g = f refl
+both-test P false f g = g refl
+
+-- ---- the slots
+
+pub slots-all : (P : Arrival → Type 0) (l : List ℕ) (n i : ℕ) → i < n → All P (slots l n) → P (slot l i)
+unfolding slots
+slots-all P l zero i b h = absurd (omega arith)
+slots-all P l (suc n) i b h =
+    by-cases (ℕ-discrete i n) (λ e. rw e (h .0)) (λ e. slots-all P l n i (omega arith) (h .1))
+
+pub words-length : (l : List ℕ) (a n : ℕ) → length (words l a n) ≡ n
+unfolding words
+words-length l a zero = refl
+words-length l a (suc n) = ap suc (words-length l (suc a) n)
+
+module _ (n : ℕ) (small : n ≤ 64) where
+  pub slot-holds : (l : List ℕ) (i m e : ℕ) (d : Values) → i < 64 → Holds n l d → Holds n (putSlot l i m e) d
+  unfolding putSlot
+  slot-holds l i m e d b h =
+      head-holds n small (put l (8 + i * 2) m) (9 + i * 2) e d (omega arith) (omega arith) (head-holds n small l (8 + i * 2) m d (omega arith) (omega arith) h)
+
+  pub store-length : (l : List ℕ) (d : Values) → Holds n l d → length (d .store) ≡ n
+  store-length l d h = ap (λ (s : List ℕ). length s) (sym (h .store)) ∙ words-length l 136 n
+
+  -- something starts
+  pub run-rel : (l : List ℕ) (k : ℕ) (q : List Arrival) (d : Values) (a x : Arrival) → long l ≡ true → get l 1 ≤ 64 → get l 0 ≡ k
+      → List·Permᴰ (slots l (get l 1)) q → Holds n l d → a ≡ x → Rel n (run l (a .number) (a .event)) k q (busy x 0) (emptied (d .store))
+  run-rel l k q d a x h f m p v e = record {
+    whole = simp reads h;
+    few = simp (reads, h) f;
+    number = simp (reads, h) m;
+    queue = simp (reads, h) p;
+    runs = (simp (reads, h), simp (reads, h) (ap (λ (y : Arrival). y .event) e), simp (reads, h) (ap (λ (y : Arrival). y .number) e), simp (reads, h));
+    values = start-holds n small l (a .number) (a .event) (d .store) h (store-length l d v) (v .store);
+  }
+
+  -- an arrival joins
+  admit-runs : (l : List ℕ) (e m k : ℕ) (r : Running) → long l ≡ true → RunIs l r → RunIs (admit l e m k) r
+  unfolding admit
+  admit-runs l e m k rest h p = simp (reads, h) p
+  admit-runs l e m k (busy a c) h p = (simp (reads, h) (p .0), simp (reads, h) (p .1), simp (reads, h) (p .2), simp (reads, h) (p .3))
+
+  pub admit-rel : (l : List ℕ) (e k : ℕ) (q : List Arrival) (r : Running) (d : Values) → get l 1 < 64 → Rel n l k q r d
+      → Rel n (admit l e (get l 1) k) (k + 1) (arrival k e ∷ q) r d
+  unfolding admit
+  admit-rel l e k q r d b R =
+      let h : long l ≡ true = R .whole in
+      record {
+        whole = simp reads h;
+        few = simp (reads, h) (omega arith);
+        number = simp (reads, h);
+        queue = simp (reads, h) (rw (slots-push l (get l 1) k e h b) (List·Permᴰ·cons refl (R .queue)));
+        runs = admit-runs l e (get l 1) k r h (R .runs);
+        values = head-holds n small _ 1 (get l 1 + 1) d (omega arith) (omega arith)
+            (head-holds n small _ 0 (k + 1) d (omega arith) (omega arith) (slot-holds l (get l 1) k e d b (R .values)));
+      }
+
+  pub admit-kept : (l : List ℕ) (e m k : ℕ) → m < 64 → Kept l (admit l e m k)
+  unfolding admit
+  admit-kept l e m k b = kept-put _ 1 (m + 1) (omega arith) (kept-put _ 0 (k + 1) (omega arith) (kept-slot l m k e b (kept-all l)))
+
+  pub count-is : (l : List ℕ) (k : ℕ) (q : List Arrival) (r : Running) (d : Values) → Rel n l k q r d → get l 1 ≡ length q
+  count-is l k q r d R = sym (slots-length l (get l 1)) ∙ perm-length (R .queue)
