@@ -1,0 +1,63 @@
+-- What one recorded call is, by its kind, and what the loop over the calls keeps: what is left gives the whole. Assumes nothing.
+use Prim.Native.Nat.{ℕ, suc, _+_, _*_, _-_, _≤_, _<_}
+use mathlib.Core.Path.{_≡_, refl, sym, ap, _∙_}
+use mathlib.Core.Logic.{_≢_}
+use mathlib.Core.List.{List, [], _∷_}
+use native.Mathlib.Omega.{arith}
+use lib.ListN.{length, getD}
+use borrow.Author.Tests.{eq-eqb, ne-eqb}
+use Rattle.word.specs.Word.{getAt}
+use Rattle.model.specs.Model.{Call}
+use Rattle.round.specs.Start.{Result, result}
+use Rattle.requests.specs.Requests.{arriveOn, boardOn}
+use Rattle.machine.specs.Machine.{stepOn}
+use Rattle.refinement.specs.Refinement.{callOn, answersOn, roundAfter}
+use Rattle.engine.specs.Replay.{callOf, callsFrom, putAnswer, putAnswers}
+
+pub call-arrive : (t l : List ℕ) (kind n : ℕ) → kind ≡ 0 → arriveOn t l n ≡ callOn t (callOf kind n) l
+unfolding callOn callOf
+call-arrive t l kind n e = rw (eq-eqb kind 0 e)
+
+pub call-step : (t l : List ℕ) (kind n : ℕ) → kind ≢ 0 → kind ≡ 1 → stepOn t l ≡ callOn t (callOf kind n) l
+unfolding callOn callOf
+call-step t l kind n d e = rw (ne-eqb kind 0 d, eq-eqb kind 1 e)
+
+pub call-board : (t l : List ℕ) (kind n r : ℕ) → kind ≢ 0 → kind ≢ 1 → r ≡ boardOn t l n → result r l ≡ callOn t (callOf kind n) l
+unfolding callOn callOf
+call-board t l kind n r d f e = rw (ne-eqb kind 0 d, ne-eqb kind 1 f) (ap (λ (x : ℕ). result x l) e)
+
+-- n calls are made, i of them so far, with the round l and the answers a
+pub record Turn (t l₀ calls a₀ : List ℕ) (n : ℕ) (l a : List ℕ) (i : ℕ) : Type 0 where
+  pub rounds : roundAfter t (callsFrom calls i (n - i)) l ≡ roundAfter t (callsFrom calls 0 n) l₀
+  pub answers : putAnswers a i (answersOn t (callsFrom calls i (n - i)) l) ≡ putAnswers a₀ 0 (answersOn t (callsFrom calls 0 n) l₀)
+  pub within : i ≤ n
+  pub as-long : length a ≡ length a₀
+  pub round-long : length l ≡ length l₀
+
+pub begin : (t l calls a : List ℕ) (n : ℕ) → Turn t l calls a n l a 0
+begin t l calls a n =
+    let z : n - 0 ≡ n = omega arith in
+    record { rounds = rw z; answers = rw z; within = omega arith; as-long = refl; round-long = refl }
+
+module _ {t l₀ calls a₀ : List ℕ} {n : ℕ} {l a : List ℕ} {i : ℕ} (k : Turn t l₀ calls a₀ n l a i) where
+  pub turn : {r : ℕ} {l′ a′ : List ℕ} → i < n → result r l′ ≡ callOn t (callOf (getD calls (i * 5) 0) (getAt calls (i * 5 + 1))) l → a′ ≡ putAnswer a i r
+      → length a′ ≡ length a → length l′ ≡ length l → Turn t l₀ calls a₀ n l′ a′ (i + 1)
+  unfolding callsFrom roundAfter answersOn putAnswers
+  turn {r} {l′} {a′} h e f w x =
+      let s : n - i ≡ suc (n - (i + 1)) = omega arith in
+      let more : List Call = callsFrom calls (i + 1) (n - (i + 1)) in
+      record {
+        rounds = ap (λ (o : Result). roundAfter t more (o .1)) e ∙ (rw s at (k .rounds));
+        answers = rw f (ap (λ (o : Result). putAnswers (putAnswer a i (o .0)) (i + 1) (answersOn t more (o .1))) e ∙ (rw s at (k .answers)));
+        within = omega arith;
+        as-long = w ∙ k .as-long;
+        round-long = x ∙ k .round-long;
+      }
+
+  pub end-round : n ≤ i → l ≡ roundAfter t (callsFrom calls 0 n) l₀
+  unfolding callsFrom roundAfter
+  end-round h = let z : n - i ≡ 0 = omega arith in rw z at (k .rounds)
+
+  pub end-answers : n ≤ i → a ≡ putAnswers a₀ 0 (answersOn t (callsFrom calls 0 n) l₀)
+  unfolding callsFrom answersOn putAnswers
+  end-answers h = let z : n - i ≡ 0 = omega arith in rw z at (k .answers)

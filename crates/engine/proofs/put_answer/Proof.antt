@@ -1,0 +1,20 @@
+-- `engine::put_answer` meets its contract: its two words are those of `putAnswer`. Assumes nothing.
+use borrow.Author.Needs.{needs}
+use Rattle.engine.specs.Replay.{putAnswer}
+use Rattle.engine.proofs.put_answer.Statement.{statement}
+use Rattle.engine.proofs.put_answer.Tie as tie
+
+pub put-answer-spec : {M : Type 1} → statement M
+unfolding putAnswer
+put-answer-spec =
+    tie.close
+    (tie.spec
+    (λ c. search needs)
+    (λ c. search needs)
+    (λ c κs. search needs)
+    (λ c. search needs)
+    (λ c. search needs)
+    (λ c. search needs)
+    (λ c κs. search needs)
+    (λ c. search needs)
+    (λ c. cc (c .before .before .before .before .before .before .put-word .ensures, c .before .before .put-word2 .ensures)))

@@ -1,0 +1,108 @@
+-- Demands 2 and 3 as claims about the exported functions: `compileOn`, `startOn`, `arriveOn`, `stepOn` and `boardOn` are what their contracts cite.
+-- The model engine, and the sentences of demand 3 in its terms: crate model, Model.antt and Claims.antt. Calls on bytes, and what the round's bytes say: crate
+-- refinement, Refinement.antt.
+use Prim.Native.Nat.{ℕ, _≤_, _<_}
+use mathlib.Core.Bool.{true, false}
+use mathlib.Core.Path.{_≡_}
+use mathlib.Core.Logic.{_≢_}
+use mathlib.Core.List.{List, [], _∷_, _++_, map}
+use lib.ListN.{length, replicate}
+use Rattle.base.specs.Basics.{All}
+use Rattle.word.specs.Word.{words}
+use Rattle.language.specs.Syntax.{Program}
+use Rattle.language.specs.Dependence.{size, events, Independent}
+use Rattle.language.specs.Grammar.{encode}
+use Rattle.language.specs.Accepted.{Accepted}
+use Rattle.language.specs.Code.{code}
+use Rattle.semantics.specs.Rules.{Shows}
+use Rattle.semantics.specs.Meaning.{at, fresh}
+use Rattle.semantics.specs.Plays.{Plays}
+use Rattle.model.specs.Model.{Arrival, arrival, Call, arrive, step, Answer, takenIn, ran, started, committed, rank}
+use Rattle.model.specs.Claims.{after, said, committedIn, takenInBy, settlingIn, number, Idle, OnceEach, EqualsInOrder, LowerFirst, SettlesIn}
+use Rattle.image.specs.Image.{tableOf}
+use Rattle.round.specs.Start.{startOn}
+use Rattle.machine.specs.Machine.{stepOn}
+use Rattle.refinement.specs.Refinement.{coded, answersOn, roundAfter, View, Kept}
+use Rattle.compiler.specs.Verdict.{compileOn}
+
+-- the events of arrivals
+abbrev pub eventsOf : List Arrival → List ℕ
+eventsOf l = map (λ (a : Arrival). a .event) l
+
+-- the board of a round: the values of p's behaviours, as read from its bytes
+abbrev pub boardOf : Program → List ℕ → List ℕ
+boardOf p l = words l 136 (size p)
+
+-- "Idle: a step called now would answer idle."
+abbrev pub IdleNow : List ℕ → List ℕ → Type 0
+IdleNow t l = stepOn t l .0 ≡ 0
+
+-- the calls that take in an event and step it to its commit: the start, and each instruction
+abbrev pub alone : Program → ℕ → List Call
+alone p e = arrive e ∷ step ∷ replicate (length (code p e)) step
+
+-- ---- demand 3, one list of calls: on the table t of program p and the round l that start made fresh in the bytes l₀
+
+pub record OneList (p : Program) (t l₀ l : List ℕ) (cs : List Call) : Type 0 where
+  -- "every answer .. is what 01's model engine gives"
+  pub answers : answersOn t cs l ≡ map coded (said p cs)
+  -- ".. and the round after the list"
+  pub round : View p (roundAfter t cs l) (after p cs)
+  pub beyond : Kept l₀ (roundAfter t cs l)
+  -- a step called now answers idle exactly if the model engine's does
+  pub idle : (IdleNow t (roundAfter t cs l) → Idle p (after p cs)) × (Idle p (after p cs) → IdleNow t (roundAfter t cs l))
+  -- "After the list, unless a copy-back is under way, the board equals what demand 2's rules give for the committed events, one by one, undivided, in order of
+  -- commitment."
+  pub board : settlingIn p (after p cs) ≡ false → Plays p (eventsOf (committedIn p cs)) (fresh p) (boardOf p (roundAfter t cs l))
+  -- the rules lead to no other board
+  pub board-alone : settlingIn p (after p cs) ≡ false → (b : List ℕ) → Plays p (eventsOf (committedIn p cs)) (fresh p) b → b ≡ boardOf p (roundAfter t cs l)
+  -- "Each arrival taken in is committed at most once, exactly once when idle"
+  pub once : OnceEach p cs
+  -- ".. and after every earlier one of equal rank."
+  pub equals : EqualsInOrder p cs
+  -- "A lower rank precedes a higher one only if the higher was taken in after the lower's copy-back began."
+  pub lower : LowerFirst p cs
+  -- "Once no more are taken in, the round is idle within 01's count of steps."
+  pub settles : SettlesIn p cs
+  -- demand 2: "An event run alone leaves on the board, for every behaviour, the value that the paper's big-step rules give": from an idle round, an event that is
+  -- taken in and stepped to its commit
+  pub one-event : IdleNow t (roundAfter t cs l) → (e : ℕ) → e < events p → number (after p cs) < 1000000
+      → (committedIn p (cs ++ alone p e) ≡ committedIn p cs ++ (arrival (number (after p cs)) e ∷ []))
+      × Plays p (e ∷ []) (boardOf p (roundAfter t cs l)) (boardOf p (roundAfter t (cs ++ alone p e) l))
+
+-- ---- demand 3, every list of calls: for a sheet s that compile accepts, its table in t₀, and a round that start makes in l₀
+
+pub record EveryList (s t₀ l₀ : List ℕ) : Type 0 where
+  -- the sheet's program: it meets 01's grammar and limits, with no circle
+  pub program : Program
+  pub bytes : encode program ≡ s
+  pub accepted : Accepted program
+  -- "each event's code is the one 01 lists": the table holds `code program e` for each event e
+  pub table : compileOn s t₀ .1 ≡ tableOf program t₀
+  -- a fresh round: start answers 0, and the board has the start values with the passives worked out
+  pub begun : startOn (compileOn s t₀ .1) l₀ .0 ≡ 0
+  pub values : (i : ℕ) → i < size program → Shows program i (at (fresh program) i)
+  pub each : (cs : List Call) → OneList program (compileOn s t₀ .1) l₀ (startOn (compileOn s t₀ .1) l₀ .1) cs
+
+abbrev pub EverySheet : Type 0
+EverySheet = (s t₀ l₀ : List ℕ) → All (λ b. b < 256) s → 2048 ≤ length l₀ → compileOn s t₀ .0 ≡ 0 → EveryList s t₀ l₀
+
+-- ---- demand 3, two lists: "for every two such lists on one sheet, taking in the same events in the same order, those of unequal rank being independent: when
+-- both are idle, their boards are equal"
+
+abbrev pub TwoLists : Type 0
+TwoLists =
+    (s t₀ l₀ t₁ l₁ : List ℕ) → All (λ b. b < 256) s → 2048 ≤ length l₀ → 2048 ≤ length l₁ → compileOn s t₀ .0 ≡ 0 → compileOn s t₁ .0 ≡ 0
+    → (p : Program) → encode p ≡ s → Accepted p
+    → (cs ds : List Call)
+    → takenInBy p cs ≡ takenInBy p ds
+    → All (λ a. All (λ b. rank p a ≢ rank p b → Independent p (a .event) (b .event)) (takenInBy p cs)) (takenInBy p cs)
+    → IdleNow (compileOn s t₀ .1) (roundAfter (compileOn s t₀ .1) cs (startOn (compileOn s t₀ .1) l₀ .1))
+    → IdleNow (compileOn s t₁ .1) (roundAfter (compileOn s t₁ .1) ds (startOn (compileOn s t₁ .1) l₁ .1))
+    → boardOf p (roundAfter (compileOn s t₀ .1) cs (startOn (compileOn s t₀ .1) l₀ .1)) ≡ boardOf p (roundAfter (compileOn s t₁ .1) ds (startOn (compileOn s t₁ .1) l₁ .1))
+
+-- ---- demand 3, whole
+
+pub record Whole : Type 0 where
+  pub every-list : EverySheet
+  pub two-lists : TwoLists

@@ -1,0 +1,85 @@
+-- Demand 3 holds: for every sheet that compile accepts, every list of calls, and every two lists. The sheet's program comes from what compile accepts, and the
+-- claims about its table and a fresh round carry over.
+use Prim.Native.Nat.{ℕ, _≤_, _<_}
+use mathlib.Core.Path.{_≡_, refl, sym, ap, _∙_, subst}
+use mathlib.Core.Logic.{by-cases}
+use native.Mathlib.Decide.{decLt}
+use native.Mathlib.Omega.{arith}
+use mathlib.Core.List.{List}
+use lib.ListN.{length}
+use Rattle.base.specs.Basics.{All}
+use Rattle.language.specs.Syntax.{Program}
+use Rattle.language.specs.Dependence.{size}
+use Rattle.language.specs.Grammar.{encode}
+use Rattle.language.specs.Accepted.{Accepted}
+use Rattle.semantics.specs.Agreement.{fresh-shows}
+use Rattle.model.specs.Model.{Call}
+use Rattle.image.specs.Image.{tableOf}
+use Rattle.round.specs.Start.{Result, startOn, freshBytes}
+use Rattle.refinement.specs.Refinement.{roundAfter}
+use Rattle.refinement.specs.Refines.{valid, starts}
+use Rattle.compiler.specs.Verdict.{Compiled, compileOn}
+use Rattle.compiler.specs.JudgeLaws.{compile-short}
+use Rattle.compiler.specs.AcceptedExactly.{accepted-exactly}
+use Rattle.engine.specs.Demand.{boardOf, IdleNow, OneList, EveryList, EverySheet, TwoLists, Whole}
+use Rattle.engine.specs.OneHolds.{one-list}
+use Rattle.engine.specs.TwoHolds.{two-lists}
+
+-- compile accepts with a whole table only
+table-room : (s t : List ℕ) → compileOn s t .0 ≡ 0 → 34816 ≤ length t
+table-room s t h =
+    by-cases (decLt (length t) 34816) (λ a. let z : _≡_ {A = ℕ} 1 0 = sym (ap (λ (o : Compiled). o .0) (compile-short s t a)) ∙ h in absurd (omega arith)) (λ a. omega arith)
+
+-- a round that start has made from a program's table
+begun : (p : Program) → Accepted p → (t₀ l₀ t : List ℕ) → 34816 ≤ length t₀ → 2048 ≤ length l₀ → t ≡ tableOf p t₀ → startOn t l₀ ≡ (0, freshBytes (tableOf p t₀) l₀)
+begun p ok t₀ l₀ t a b e = ap (λ (x : List ℕ). startOn x l₀) e ∙ starts p ok t₀ l₀ a b
+
+one : (p : Program) → Accepted p → (t₀ l₀ t : List ℕ) → 34816 ≤ length t₀ → 2048 ≤ length l₀ → t ≡ tableOf p t₀ → (cs : List Call) → OneList p t l₀ (startOn t l₀ .1) cs
+one p ok t₀ l₀ t a b e cs =
+    subst (λ (x : List ℕ). OneList p t l₀ x cs) (sym (ap (λ (r : Result). r .1) (begun p ok t₀ l₀ t a b e)))
+    (subst (λ (x : List ℕ). OneList p x l₀ (freshBytes (tableOf p t₀) l₀) cs) (sym e) (one-list p ok t₀ l₀ a b cs))
+
+pub every-sheet : EverySheet
+every-sheet s t₀ l₀ bytes room h =
+    let a = table-room s t₀ h in
+    let k = accepted-exactly s t₀ bytes a .0 h in
+    let p = k .0 in
+    let ok = k .2 in
+    let e : compileOn s t₀ .1 ≡ tableOf p t₀ = ap (λ (o : Compiled). o .1) (k .3) in
+    record {
+      program = p;
+      bytes = k .1;
+      accepted = ok;
+      table = e;
+      begun = ap (λ (r : Result). r .0) (begun p ok t₀ l₀ (compileOn s t₀ .1) a room e);
+      values = fresh-shows p (valid p ok);
+      each = one p ok t₀ l₀ (compileOn s t₀ .1) a room e;
+    }
+
+-- the table and the round of an accepted program's sheet
+table-is : (s t₀ : List ℕ) → All (λ b. b < 256) s → (p : Program) → encode p ≡ s → Accepted p → 34816 ≤ length t₀ → compileOn s t₀ .1 ≡ tableOf p t₀
+table-is s t₀ bytes p e ok a = ap (λ (o : Compiled). o .1) (accepted-exactly s t₀ bytes a .1 p e ok)
+
+round-is : (p : Program) → Accepted p → (t₀ l₀ t : List ℕ) → 34816 ≤ length t₀ → 2048 ≤ length l₀ → t ≡ tableOf p t₀ → (cs : List Call)
+    → roundAfter t cs (startOn t l₀ .1) ≡ roundAfter (tableOf p t₀) cs (freshBytes (tableOf p t₀) l₀)
+round-is p ok t₀ l₀ t a b e cs =
+    ap (λ (r : Result). roundAfter t cs (r .1)) (begun p ok t₀ l₀ t a b e) ∙ ap (λ (x : List ℕ). roundAfter x cs (freshBytes (tableOf p t₀) l₀)) e
+
+pub two-phones : TwoLists
+two-phones s t₀ l₀ t₁ l₁ bytes r₀ r₁ h₀ h₁ p e ok cs ds same apart i₀ i₁ =
+    let a = table-room s t₀ h₀ in
+    let b = table-room s t₁ h₁ in
+    let x = table-is s t₀ bytes p e ok a in
+    let y = table-is s t₁ bytes p e ok b in
+    let u = round-is p ok t₀ l₀ (compileOn s t₀ .1) a r₀ x cs in
+    let v = round-is p ok t₁ l₁ (compileOn s t₁ .1) b r₁ y ds in
+    ap (boardOf p) u
+    ∙ two-lists p ok t₀ l₀ t₁ l₁ a r₀ b r₁ cs ds same apart (idle-moved x u i₀) (idle-moved y v i₁)
+    ∙ sym (ap (boardOf p) v)
+  where
+    idle-moved : {t t′ l l′ : List ℕ} → t ≡ t′ → l ≡ l′ → IdleNow t l → IdleNow t′ l′
+    idle-moved p q h = rw (← p, ← q) h
+
+-- demand 3
+pub whole : Whole
+whole = record { every-list = every-sheet; two-lists = two-phones }

@@ -1,0 +1,7 @@
+pub mod Demand
+pub mod Replay
+pub mod Refused
+pub mod Runs
+pub mod OneHolds
+pub mod TwoHolds
+pub mod Holds

@@ -1,0 +1,147 @@
+-- Every sentence of demand 3 about one list of calls, and demand 2's about one event, for an accepted program's table and a fresh round.
+-- The bytes refine the model engine, and the model engine's claims carry over.
+use Prim.Native.Nat.{ℕ, suc, _+_, _-_, _≤_, _<_}
+use mathlib.Core.Bool.{true, false}
+use mathlib.Core.Path.{_≡_, refl, sym, ap, _∙_, subst}
+use mathlib.Core.List.{List, [], _∷_, _++_, map, List·Permᴰ}
+use native.Mathlib.Omega.{arith}
+use lib.ListN.{length, replicate}
+use Rattle.base.specs.Basics.{All}
+use Rattle.base.specs.Tools.{all-perm, all-split}
+use Rattle.word.specs.Word.{words}
+use Rattle.language.specs.Syntax.{Program}
+use Rattle.language.specs.Dependence.{size, events, noEvent}
+use Rattle.language.specs.Accepted.{Accepted}
+use Rattle.language.specs.Code.{code}
+use Rattle.semantics.specs.Meaning.{fresh, event, play}
+use Rattle.semantics.specs.Plays.{Plays}
+use Rattle.semantics.specs.PlaysLaws.{plays, plays-alone}
+use Rattle.execution.specs.Execution.{Values}
+use Rattle.execution.specs.CodeFacts.{CodeFacts}
+use Rattle.execution.specs.CodeRight.{code-facts}
+use Rattle.model.specs.Model.{Arrival, arrival, rest, Engine, engine, initial, Call, step, Answer, idle, ran, act, run, answers}
+use Rattle.model.specs.Claims.{after, said, commits, committedIn, takenInBy, settlingIn, number, storeOf, inQueue, Idle}
+use Rattle.model.specs.Fresh.{length-fresh}
+use Rattle.model.specs.History.{run-append}
+use Rattle.model.specs.Reached.{Reached, reached}
+use Rattle.model.specs.Alone as lone
+use Rattle.model.specs.ModelHolds.{board-of-commits, once-each, equals-in-order, lower-first, settles-in}
+use Rattle.image.specs.Image.{tableOf}
+use Rattle.round.specs.Start.{freshBytes}
+use Rattle.machine.specs.Machine.{stepOn}
+use Rattle.refinement.specs.Refinement.{coded, callOn, answersOn, roundAfter, View, Agreement}
+use Rattle.refinement.specs.Coded.{answer-to, coded-injective}
+use Rattle.refinement.specs.Refines.{valid, refines}
+use Rattle.engine.specs.Demand.{eventsOf, boardOf, IdleNow, OneList, alone}
+use Rattle.engine.specs.Runs.{answers-append, commits-append, commits-ran, next-answer, Declared, taken-declared, at-rest}
+
+all-map : (p : Program) (l : List Arrival) → All (Declared p) l → All (λ e. e < events p) (eventsOf l)
+all-map p [] h = tt
+all-map p (a ∷ l) h = (h .0, all-map p l (h .1))
+
+store-view : (p : Program) (l : List ℕ) (w : Engine) → View p l w → boardOf p l ≡ storeOf w
+store-view p l (engine t q r d) v = v .store
+
+module _ (p : Program) (ok : Accepted p) (t₀ l₀ : List ℕ) (table-room : 34816 ≤ length t₀) (round-room : 2048 ≤ length l₀) where
+  abbrev table : List ℕ
+  table = tableOf p t₀
+
+  abbrev round : List ℕ
+  round = freshBytes table l₀
+
+  facts : CodeFacts p
+  facts = code-facts p (valid p ok)
+
+  agrees : (cs : List Call) → Agreement p table l₀ round cs (initial p)
+  agrees = refines p ok t₀ l₀ table-room round-room
+
+  -- the board of the bytes is the model's
+  pub board-is : (cs : List Call) → boardOf p (roundAfter table cs round) ≡ storeOf (after p cs)
+  board-is cs = store-view p (roundAfter table cs round) (after p cs) (agrees cs .viewed)
+
+  -- a step now answers as the model's
+  stepped : (cs : List Call) → stepOn table (roundAfter table cs round) .0 ≡ coded (act p step (after p cs) .answer)
+  unfolding callOn
+  stepped cs = next-answer p table cs step round (initial p) (agrees (cs ++ (step ∷ [])) .answered)
+
+  pub idle-both : (cs : List Call) → (IdleNow table (roundAfter table cs round) → Idle p (after p cs)) × (Idle p (after p cs) → IdleNow table (roundAfter table cs round))
+  idle-both cs =
+      let few : events p ≤ 256 = omega (arith, ok .fits .few-events) in
+      let r = reached p facts cs in (
+        (λ h. coded-injective step (act p step (after p cs) .answer) idle (answer-to p few step (after p cs) r) tt (sym (stepped cs) ∙ h)),
+        (λ h. stepped cs ∙ ap coded h),
+      )
+
+  committed-declared : (cs : List Call) → All (Declared p) (committedIn p cs)
+  committed-declared cs =
+      all-split (Declared p) (committedIn p cs) (inQueue (after p cs)) (all-perm (Declared p) (once-each p facts cs .0) (taken-declared p cs (initial p) 0)) .0
+
+  board-by-rules : (cs : List Call) → settlingIn p (after p cs) ≡ false → Plays p (eventsOf (committedIn p cs)) (fresh p) (boardOf p (roundAfter table cs round))
+  board-by-rules cs h =
+      let es = eventsOf (committedIn p cs) in
+      subst (λ (s : List ℕ). Plays p es (fresh p) s) (sym (board-is cs ∙ board-of-commits p facts cs h))
+      (plays p (valid p ok) es (all-map p (committedIn p cs) (committed-declared cs)) (fresh p) (length-fresh p))
+
+  board-alone : (cs : List Call) → settlingIn p (after p cs) ≡ false → (b : List ℕ) → Plays p (eventsOf (committedIn p cs)) (fresh p) b
+      → b ≡ boardOf p (roundAfter table cs round)
+  board-alone cs h b q =
+      let es = eventsOf (committedIn p cs) in
+      plays-alone p (valid p ok) es (all-map p (committedIn p cs) (committed-declared cs)) (fresh p) b (length-fresh p) q
+      ∙ sym (board-is cs ∙ board-of-commits p facts cs h)
+
+  -- ---- one event alone
+
+  module _ (cs : List Call) (e : ℕ) (declared : e < events p) where
+    abbrev Left : Engine → Type 0
+    Left w = (commits (answers p (alone p e) w) ≡ arrival (number w) e ∷ []) × (storeOf (run p (alone p e) w) ≡ event p e (storeOf w))
+
+    from-rest : (t : ℕ) (d : Values) → Reached p (engine t [] rest d) → t < 1000000 → Left (engine t [] rest d)
+    unfolding commits
+    from-rest t d r room =
+        let a = lone.alone p facts t e d declared room (ap length (r .done) ∙ r .sized) in
+        (ap commits (a .0) ∙ commits-ran (length (code p e) - 1) (arrival t e), ap storeOf (a .1) ∙ a .2)
+
+    alone-from : (w : Engine) → Idle p w → Reached p w → number w < 1000000 → Left w
+    alone-from w h r room =
+        let z = at-rest p w h in
+        subst Left (sym (z .2)) (from-rest (z .0) (z .1) (subst (Reached p) (z .2) r) (subst (λ (x : Engine). number x < 1000000) (z .2) room))
+
+    sized : (w : Engine) → Idle p w → Reached p w → length (storeOf w) ≡ size p
+    sized w h r =
+        let z = at-rest p w h in
+        let q = subst (Reached p) (z .2) r in
+        ap (λ (x : Engine). length (storeOf x)) (z .2) ∙ ap length (q .done) ∙ q .sized
+
+    played : (s : List ℕ) → length s ≡ size p → Plays p (e ∷ []) s (event p e s)
+    unfolding play
+    played s h = plays p (valid p ok) (e ∷ []) (declared, tt) s h
+
+    one-event : IdleNow table (roundAfter table cs round) → number (after p cs) < 1000000
+        → (committedIn p (cs ++ alone p e) ≡ committedIn p cs ++ (arrival (number (after p cs)) e ∷ []))
+        × Plays p (e ∷ []) (boardOf p (roundAfter table cs round)) (boardOf p (roundAfter table (cs ++ alone p e) round))
+    one-event h room =
+        let i = idle-both cs .0 h in
+        let r = reached p facts cs in
+        let l = alone-from (after p cs) i r room in
+        let s = storeOf (after p cs) in
+        let ran-on : storeOf (after p (cs ++ alone p e)) ≡ event p e s = ap storeOf (run-append p cs (alone p e) (initial p)) ∙ l .1 in (
+          ap commits (answers-append p cs (alone p e) (initial p)) ∙ commits-append (said p cs) (answers p (alone p e) (after p cs)) ∙ ap (λ (x : List Arrival). committedIn p cs ++ x) (l .0),
+          subst (λ (x : List ℕ). Plays p (e ∷ []) x (boardOf p (roundAfter table (cs ++ alone p e) round))) (sym (board-is cs))
+              (subst (λ (x : List ℕ). Plays p (e ∷ []) s x) (sym (board-is (cs ++ alone p e) ∙ ran-on))
+              (played s (sized (after p cs) i r))),
+        )
+
+  pub one-list : (cs : List Call) → OneList p table l₀ round cs
+  one-list cs = record {
+    answers = agrees cs .answered;
+    round = agrees cs .viewed;
+    beyond = agrees cs .kept;
+    idle = idle-both cs;
+    board = board-by-rules cs;
+    board-alone = board-alone cs;
+    once = once-each p facts cs;
+    equals = equals-in-order p facts cs;
+    lower = lower-first p facts cs;
+    settles = settles-in p facts cs;
+    one-event = λ h e d room. one-event cs e d h room;
+  }

@@ -1,0 +1,73 @@
+-- Demand 1: a refused start, arrival or step leaves the round as it was. By the branches of each call: an accepted step never answers 14.
+-- (A refused compile: crate compiler, AcceptedExactly. A board reading has the round as `&[u8]`.)
+use Prim.Native.Nat.{ℕ, _+_, _*_, _-_, _/_, _%_}
+use mathlib.Core.Bool.{Bool, true, false}
+use mathlib.Core.Path.{_≡_, refl}
+use mathlib.Core.Logic.{_≢_}
+use mathlib.Core.List.{List}
+use native.Mathlib.Omega.{arith}
+use lib.Dec.{ltb, leb, eqb}
+use lib.ListN.{length}
+use Rattle.base.specs.Basics.{pick}
+use Rattle.base.specs.Tools.{by-test}
+use Rattle.round.specs.Layout.{eventCount, eventWord, taken, waitingCount, runningFlag, runningEvent, runningNumber, position, depth, numberAt, eventAt, tableFits, ours}
+use Rattle.round.specs.Queue.{best, putSlot}
+use Rattle.round.specs.Start.{Result, startOn, freshBytes}
+use Rattle.instruction.specs.Instruction.{allowed, perform}
+use Rattle.requests.specs.Requests.{admit, full, arriveWith, arriveIn, arriveOn, masked}
+use Rattle.machine.specs.Machine.{said, run, startAt, preemptAt, countOn, executeOn, executeAt, advance, meet, contest, running, resting, stepWith, stepIn, stepOn}
+
+-- refused by a number that is not 0, with the round as it was
+abbrev Kept : List ℕ → Result → Type 0
+Kept l o = o .0 ≢ 0 → o .1 ≡ l
+
+pub start-refused : (t l : List ℕ) → startOn t l .0 ≢ 0 → startOn t l .1 ≡ l
+unfolding startOn
+start-refused t l =
+    by-test (Kept l) (tableFits t) (λ _. by-test (Kept l) (ltb (length l) 2048) (λ _ _. refl) (λ _ h. absurd (h refl))) (λ _ _. refl)
+
+pub arrive-refused : (t l : List ℕ) (e : ℕ) → arriveOn t l e .0 ≢ 0 → arriveOn t l e .1 ≡ l
+unfolding arriveOn arriveIn arriveWith
+arrive-refused t l e =
+    by-test (Kept l) (ours t l)
+    (λ _. by-test (Kept l) (leb (eventCount t) e) (λ _ _. refl)
+    (λ _. by-test (Kept l) (full (waitingCount l) (runningFlag l)) (λ _ _. refl)
+    (λ _. by-test (Kept l) (leb 1000000 (taken l)) (λ _ _. refl) (λ _ h. absurd (h refl)))))
+    (λ _ _. refl)
+
+-- ---- steps: 14 is the only refusal
+
+abbrev Foreign : List ℕ → Result → Type 0
+Foreign l o = o .0 ≡ 14 → o .1 ≡ l
+
+count-not : (l m : List ℕ) (c e n len : ℕ) → Foreign l (countOn m c e n len)
+unfolding countOn said
+count-not l m c e n len = by-test (Foreign l) (ltb (c + 1) len) (λ _ h. absurd (omega arith)) (λ _ h. absurd (omega arith))
+
+advance-kept : (t l : List ℕ) → Foreign l (advance t l)
+unfolding advance executeAt executeOn
+advance-kept t l =
+    by-test (Foreign l) (allowed _ _ (depth l)) (λ _. count-not l _ (position l) (runningEvent l) (runningNumber l) (eventWord t (runningEvent l) 2)) (λ _ _. refl)
+
+preempt-kept : (l : List ℕ) (b : ℕ) → Foreign l (preemptAt l b)
+unfolding preemptAt said
+preempt-kept l b h = absurd (omega arith)
+
+start-kept : (l : List ℕ) (b m : ℕ) → Foreign l (startAt l b m)
+unfolding startAt said
+start-kept l b m h = absurd (omega arith)
+
+contest-kept : (t l : List ℕ) (b : ℕ) → Foreign l (contest t l b)
+unfolding contest meet
+contest-kept t l b =
+    by-test (Foreign l) (masked (eventWord t (runningEvent l) 2) (eventWord t (runningEvent l) 3) (position l)) (λ _. advance-kept t l)
+    (λ _. by-test (Foreign l) (ltb (eventWord t (runningEvent l) 0) (eventWord t (eventAt l b) 0)) (λ _. preempt-kept l b) (λ _. advance-kept t l))
+
+pub step-refused : (t l : List ℕ) → stepOn t l .0 ≡ 14 → stepOn t l .1 ≡ l
+unfolding stepOn stepIn stepWith resting running
+step-refused t l =
+    by-test (Foreign l) (ours t l)
+    (λ _. by-test (Foreign l) (eqb (runningFlag l) 0)
+    (λ _. by-test (Foreign l) (eqb (waitingCount l) 0) (λ _ h. absurd (omega arith)) (λ _. start-kept l (best t l (waitingCount l)) (waitingCount l - 1)))
+    (λ _. by-test (Foreign l) (eqb (waitingCount l) 0) (λ _. advance-kept t l) (λ _. contest-kept t l (best t l (waitingCount l)))))
+    (λ _ _. refl)

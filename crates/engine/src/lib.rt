@@ -1,0 +1,102 @@
+// The exported calls. Each contract gives the answer and every byte at exit, for all bytes and numbers; none has a `requires`.
+// The table is lent as `&[u8]` to all but compile: they cannot change it.
+ghost use mathlib.Core.Path.{_≡_};
+ghost use Prim.Native.Nat.{_+_, _*_, _≤_, _<_};
+ghost use lib.ListN.{length};
+ghost use Rattle.compiler.specs.Verdict.{compiled, compileOn};
+ghost use Rattle.round.specs.Start.{result, startOn};
+ghost use Rattle.requests.specs.Requests.{arriveOn, boardOn};
+ghost use Rattle.machine.specs.Machine.{stepOn};
+ghost use Rattle.refinement.specs.Refinement.{callOn, answersOn, roundAfter};
+ghost use Rattle.engine.specs.Replay.{callOf, callsFrom, putAnswer, putAnswers, callCount};
+
+// A sheet's table. 0, or the refusal's number, 1 to 13, the table as it was.
+#[no_mangle]
+pub extern "C" fn compile(sheet: &[u8], table: &mut [u8]) -> u32
+    ensures { λ r. ⌜ compiled r (now (table .exit)) ≡ compileOn (now (sheet .entry)) (now (table .entry)) ⌝ }
+{
+    compiler::compile_at(sheet, table)
+}
+
+// A fresh round. 0, or 14.
+#[no_mangle]
+pub extern "C" fn start(table: &[u8], round: &mut [u8]) -> u32
+    ensures { λ r. ⌜ result r (now (round .exit)) ≡ startOn (now (table .entry)) (now (round .entry)) ⌝ }
+{
+    round::start_round(table, round)
+}
+
+// An event arrives. 0, or 14, 15, 16, 17.
+#[no_mangle]
+pub extern "C" fn arrive(table: &[u8], round: &mut [u8], event: u32) -> u32
+    ensures { λ r. ⌜ result r (now (round .exit)) ≡ arriveOn (now (table .entry)) (now (round .entry)) event ⌝ }
+{
+    requests::arrive_at(table, round, event)
+}
+
+// One step. 0 idle, 1 one instruction, 2 a start, 3 a commit, 4 a start that preempts, with event and arrival number; or 14.
+#[no_mangle]
+pub extern "C" fn step(table: &[u8], round: &mut [u8]) -> u64
+    ensures { λ r. ⌜ result r (now (round .exit)) ≡ stepOn (now (table .entry)) (now (round .entry)) ⌝ }
+{
+    machine::step_at(table, round)
+}
+
+// The value of a behaviour: 2 ^ 32 and the word; or 14, 18, 19.
+#[no_mangle]
+pub extern "C" fn board(table: &[u8], round: &[u8], behaviour: u32) -> u64
+    ensures { λ r. ⌜ r ≡ boardOn (now (table .entry)) (now (round .entry)) behaviour ⌝ }
+{
+    requests::board_at(table, round, behaviour)
+}
+
+// ---- a recorded list of calls
+
+// One call of the record.
+fn make_call(table: &[u8], round: &mut [u8], kind: u8, n: u32) -> u64
+    ensures { λ r. ⌜ result r (now (round .exit)) ≡ callOn (now (table .entry)) (callOf kind n) (now (round .entry)) ⌝ }
+{
+    if kind == 0 {
+        return arrive(table, round, n) as u64;
+    }
+    if kind == 1 {
+        return step(table, round);
+    }
+    board(table, round, n)
+}
+
+fn put_answer(answers: &mut [u8], i: usize, r: u64)
+    requires { ⌜ (i * 8 + 8 ≤ length (now answers)) × (i < 2305843009213693951) ⌝ }
+    ensures { λ _. ⌜ now (answers .exit) ≡ putAnswer (now (answers .entry)) i r ⌝ }
+{
+    word::put_word(answers, i * 2, (r / 4294967296) as u32);
+    word::put_word(answers, i * 2 + 1, (r % 4294967296) as u32);
+}
+
+fn call_count(calls: usize, answers: usize) -> usize
+    ensures { λ r. ⌜ r ≡ callCount calls answers ⌝ }
+    ensures { λ r. ⌜ (r * 5 ≤ calls) × (r * 8 ≤ answers) ⌝ }
+{
+    if calls / 5 < answers / 8 {
+        return calls / 5;
+    }
+    answers / 8
+}
+
+// Makes the recorded calls one after the other, and writes their answers: what a host needs to audit a round. How many were made.
+#[no_mangle]
+pub extern "C" fn replay(table: &[u8], round: &mut [u8], calls: &[u8], answers: &mut [u8]) -> usize
+    ensures { λ r. ⌜ r ≡ callCount (length (now (calls .entry))) (length (now (answers .entry))) ⌝ }
+    ensures { λ r. ⌜ now (round .exit) ≡ roundAfter (now (table .entry)) (callsFrom (now (calls .entry)) 0 r) (now (round .entry)) ⌝ }
+    ensures { λ r. ⌜ now (answers .exit) ≡ putAnswers (now (answers .entry)) 0 (answersOn (now (table .entry)) (callsFrom (now (calls .entry)) 0 r) (now (round .entry))) ⌝ }
+{
+    let n = call_count(calls.len(), answers.len());
+    let mut i = 0;
+    while i < n {
+        let k = i * 5;
+        let r = make_call(table, round, calls[k], word::get_at(calls, k + 1));
+        put_answer(answers, i, r);
+        i += 1;
+    }
+    n
+}

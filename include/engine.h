@@ -1,0 +1,85 @@
+/* The round engine, for C. Link target/staticlib/libengine.a (made by `rt staticlib engine`).
+ *
+ * Every call takes numbers and byte buffers only; a buffer is a pointer and its length in bytes. No call keeps a pointer, allocates, or touches
+ * anything but the buffers lent to it. Each call's result and every byte it leaves is proved for all bytes and numbers (docs/CLAIMS.md).
+ *
+ * Table: at least ENGINE_TABLE bytes. compile writes it; the other calls only read it. Round: at least ENGINE_ROUND bytes. start makes it fresh.
+ * Buffers lent to one call must not overlap. Bytes beyond these sizes are never touched. A refused call changes no byte. The program must not change table or round between calls.
+ */
+#ifndef ENGINE_H
+#define ENGINE_H
+
+#include <stddef.h>
+#include <stdint.h>
+
+#ifdef __cplusplus
+extern "C" {
+#endif
+
+#define ENGINE_TABLE 34816u
+#define ENGINE_ROUND 2048u
+
+/* Why a call was turned down. */
+enum engine_refusal {
+    ENGINE_SHORT_TABLE = 1,    /* compile: table under 34,816 bytes */
+    ENGINE_BLANK = 2,          /* sheet of no bytes */
+    ENGINE_LONG_SHEET = 3,     /* over 8,192 bytes */
+    ENGINE_TORN = 4,           /* under three bytes where a field is due, or a length past its enclosing end */
+    ENGINE_WRONG_TAG = 5,      /* a tag not allowed there; an event after a behaviour */
+    ENGINE_WRONG_LENGTH = 6,   /* fixed length differs; a due byte is missing; bytes left over */
+    ENGINE_CROWDED = 7,        /* 33rd event, 65th behaviour */
+    ENGINE_OFF_THE_SCALE = 8,  /* rank, event, phase or function byte not listed or not declared */
+    ENGINE_TOO_DEEP = 9,       /* an expression at nesting 17 */
+    ENGINE_DOUBLED = 10,       /* second handler for an event in one behaviour */
+    ENGINE_UNKNOWN_NAME = 11,  /* no such behaviour in the sheet */
+    ENGINE_CIRCLE = 12,        /* some event, or no event, has one */
+    ENGINE_OVERLONG = 13,      /* over 4,096 instructions */
+    ENGINE_FOREIGN = 14,       /* table or round is not one of this engine's */
+    ENGINE_NO_SUCH_EVENT = 15, /* not declared */
+    ENGINE_FULL_HAND = 16,     /* 64 in hand */
+    ENGINE_SPENT = 17,         /* 1,000,000 already taken in */
+    ENGINE_NO_SUCH_BEHAVIOUR = 18, /* number not in the sheet */
+    ENGINE_SETTLING = 19       /* board read during copy-back */
+};
+
+/* Compiles a sheet into the table. 0, or the refusal's number (1 to 13). */
+uint32_t compile(const uint8_t *sheet, size_t sheet_len, uint8_t *table, size_t table_len);
+
+/* Makes the round fresh for the table's sheet; its old bytes are not read. 0, or 14. */
+uint32_t start(const uint8_t *table, size_t table_len, uint8_t *round, size_t round_len);
+
+/* An event arrives. 0 where it is taken in, or 14, 15, 16, 17. */
+uint32_t arrive(const uint8_t *table, size_t table_len, uint8_t *round, size_t round_len, uint32_t event);
+
+/* One step, at most one instruction. The answer is packed: */
+uint64_t step(const uint8_t *table, size_t table_len, uint8_t *round, size_t round_len);
+
+enum engine_step {
+    ENGINE_IDLE = 0,      /* nothing in hand */
+    ENGINE_RAN = 1,       /* one instruction */
+    ENGINE_STARTED = 2,   /* the next starts */
+    ENGINE_COMMITTED = 3, /* one instruction, the last: the event is committed */
+    ENGINE_BROKE_IN = 4   /* the next starts, and the running one goes back to the hand */
+    /* 14: refused, foreign */
+};
+
+/* Which of these; for 2, 3 and 4 the event's number and the arrival's. */
+static inline uint32_t engine_step_kind(uint64_t answer) { return (uint32_t)(answer & 0xFF); }
+static inline uint32_t engine_step_event(uint64_t answer) { return (uint32_t)(answer >> 8 & 0xFF); }
+static inline uint32_t engine_step_arrival(uint64_t answer) { return (uint32_t)(answer >> 16); }
+
+/* The value of a behaviour on the board: 2^32 and the 32-bit word, or 14, 18, 19. */
+uint64_t board(const uint8_t *table, size_t table_len, const uint8_t *round, size_t round_len, uint32_t behaviour);
+
+static inline int engine_board_refused(uint64_t answer) { return answer >> 32 == 0; }
+static inline int32_t engine_board_value(uint64_t answer) { return (int32_t)(uint32_t)answer; }
+
+/* Makes recorded calls one after the other, to audit a round: five bytes for each call, its kind (0 arrival, 1 step, any other a board reading) and a
+ * big-endian number of 32 bits; eight bytes for each answer, big-endian. How many were made: it stops where a call is not whole or an answer has no room. */
+size_t replay(const uint8_t *table, size_t table_len, uint8_t *round, size_t round_len, const uint8_t *calls, size_t calls_len, uint8_t *answers, size_t answers_len);
+
+#ifdef __cplusplus
+}
+#endif
+
+#endif
