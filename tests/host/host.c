@@ -1,0 +1,129 @@
+/* A small host: plays the rounds of the scope through the C boundary, and a frame loop of a few steps at a time. */
+#include <stdio.h>
+#include <string.h>
+
+#include "engine.h"
+
+static uint8_t table[ENGINE_TABLE + 8];
+static uint8_t round_[ENGINE_ROUND + 8];
+static int faults;
+
+static void expect(int ok, const char *what)
+{
+    if (!ok) {
+        printf("differs: %s\n", what);
+        faults++;
+    }
+}
+
+static uint32_t load(const uint8_t *sheet, size_t n)
+{
+    uint32_t r = compile(sheet, n, table, sizeof table);
+    if (r == 0)
+        expect(start(table, sizeof table, round_, sizeof round_) == 0, "start");
+    return r;
+}
+
+static void take(uint32_t event)
+{
+    expect(arrive(table, sizeof table, round_, sizeof round_, event) == 0, "arrive");
+}
+
+static int32_t value(uint32_t i)
+{
+    uint64_t a = board(table, sizeof table, round_, sizeof round_, i);
+    expect(!engine_board_refused(a), "board");
+    return engine_board_value(a);
+}
+
+/* One frame: at most so many steps; 1 when idle. */
+static int frame(int steps)
+{
+    while (steps-- > 0)
+        if (engine_step_kind(step(table, sizeof table, round_, sizeof round_)) == ENGINE_IDLE)
+            return 1;
+    return 0;
+}
+
+static void settle(void)
+{
+    while (!frame(5))
+        ;
+}
+
+/* S of the scope, 74 bytes: b0 = init 1 {0 => b0 + b1}; b1 = init 1 {0 => b0 - b1 later, 1 => 1}. */
+static const uint8_t S[] = {
+    0x01, 0, 1, 1, 0x01, 0, 1, 2,
+    0x03, 0, 24, 0x04, 0, 4, 0, 0, 0, 1,
+        0x05, 0, 14, 0, 0, 0x12, 0, 9, 4, 0x11, 0, 1, 0, 0x11, 0, 1, 1,
+    0x03, 0, 36, 0x04, 0, 4, 0, 0, 0, 1,
+        0x05, 0, 14, 0, 1, 0x12, 0, 9, 5, 0x11, 0, 1, 0, 0x11, 0, 1, 1,
+        0x05, 0, 9, 1, 0, 0x10, 0, 4, 0, 0, 0, 1,
+};
+
+/* Equal ranks A, B; H of higher rank breaks in elsewhere: A => b0 + 1, B => b0 * 2, b0 = 1. */
+static const uint8_t equals[] = {
+    0x01, 0, 1, 1, 0x01, 0, 1, 1, 0x01, 0, 1, 9,
+    0x03, 0, 44, 0x04, 0, 4, 0, 0, 0, 1,
+        0x05, 0, 17, 0, 0, 0x12, 0, 12, 4, 0x11, 0, 1, 0, 0x10, 0, 4, 0, 0, 0, 1,
+        0x05, 0, 14, 1, 0, 0x12, 0, 9, 6, 0x11, 0, 1, 0, 0x11, 0, 1, 2,
+    0x03, 0, 19, 0x04, 0, 4, 0, 0, 0, 0,
+        0x05, 0, 9, 2, 0, 0x10, 0, 4, 0, 0, 0, 7,
+    0x02, 0, 7, 0x10, 0, 4, 0, 0, 0, 2,
+};
+
+/* A recorded round, made again: event 0 arrives, 18 steps, and the board is read. */
+static void audit(void)
+{
+    uint8_t calls[20 * 5] = {0}, answers[20 * 8];
+    int i;
+
+    load(S, sizeof S);
+    for (i = 1; i < 19; i++)
+        calls[i * 5] = 1;
+    calls[19 * 5] = 2;
+    expect(replay(table, sizeof table, round_, sizeof round_, calls, sizeof calls, answers, sizeof answers) == 20, "20 calls are made");
+    expect(answers[18 * 8 + 7] == ENGINE_COMMITTED, "the 18th step commits");
+    expect(answers[19 * 8 + 3] == 1 && answers[19 * 8 + 7] == 2, "b0 is 2");
+}
+
+int main(void)
+{
+    static const int32_t want[][2] = {{2, 1}, {3, 2}, {5, 3}};
+    int i, moved;
+
+    expect(sizeof S == 74, "S has 74 bytes");
+    expect(load(S, sizeof S) == 0, "S is accepted");
+    for (i = 0; i < 3; i++) {
+        take(0);
+        settle();
+        expect(value(0) == want[i][0] && value(1) == want[i][1], "three times event 0");
+    }
+    take(1);
+    settle();
+    take(0);
+    settle();
+    expect(value(0) == 6 && value(1) == 5, "then 1, 0");
+
+    expect(load(equals, sizeof equals) == 0, "the round of equal ranks is accepted");
+    take(0);
+    take(1);
+    expect(!frame(5), "A runs, past its copies");
+    take(2);
+    moved = engine_step_kind(step(table, sizeof table, round_, sizeof round_)) == ENGINE_BROKE_IN;
+    settle();
+    expect(moved, "H breaks in");
+    expect(value(0) == 4, "A before B: 4");
+
+    load(S, sizeof S);
+    for (i = 0; i < 64; i++)
+        take(0);
+    expect(arrive(table, sizeof table, round_, sizeof round_, 0) == ENGINE_FULL_HAND, "the 65th");
+    expect(arrive(table, sizeof table, round_, sizeof round_, 2) == ENGINE_NO_SUCH_EVENT, "event 2");
+    expect(board(table, sizeof table, round_, sizeof round_, 2) == ENGINE_NO_SUCH_BEHAVIOUR, "behaviour 2");
+    expect(step(table, 10, round_, sizeof round_) == ENGINE_FOREIGN, "a short table");
+    expect(compile(S, sizeof S, table, ENGINE_TABLE - 1) == ENGINE_SHORT_TABLE, "a table of 34,815 bytes");
+    audit();
+    puts(faults ? "host: faults" : "host: all as the scope says");
+    return faults != 0;
+}

@@ -1,0 +1,290 @@
+//! The proved engine held against the second one: sheets, tables, answers, rounds, guarded buffers, damaged bytes.
+use crate::desk;
+use crate::engine::{self, Answer, Call, Instr, Model};
+use crate::make::{self, Rng};
+use crate::proved::{self, ROUND, TABLE};
+use crate::words::{self, get as word};
+
+const GUARD: usize = 64;
+
+/// A buffer with guards on both sides, filled with a pattern.
+pub struct Guarded {
+    bytes: Vec<u8>,
+    len: usize,
+}
+
+impl Guarded {
+    pub fn new(len: usize, fill: u8) -> Guarded {
+        let mut bytes = vec![0xA5; len + 2 * GUARD];
+        bytes[GUARD..GUARD + len].fill(fill);
+        Guarded { bytes, len }
+    }
+
+    pub fn part(&self) -> &[u8] {
+        &self.bytes[GUARD..GUARD + self.len]
+    }
+
+    pub fn part_mut(&mut self) -> &mut [u8] {
+        &mut self.bytes[GUARD..GUARD + self.len]
+    }
+
+    pub fn check(&self) {
+        assert!(self.bytes[..GUARD].iter().chain(&self.bytes[GUARD + self.len..]).all(|b| *b == 0xA5), "a guard byte changed");
+    }
+}
+
+fn words_of(i: Instr) -> (u32, u32) {
+    match i {
+        Instr::Off => (256, 0),
+        Instr::On => (512, 0),
+        Instr::Copy(k) => (768 + k as u32, 0),
+        Instr::Restore(k) => (1024 + k as u32, 0),
+        Instr::Push(w) => (1280, w as u32),
+        Instr::Load(k) => (1536 + k as u32, 0),
+        Instr::Fetch(k) => (1792 + k as u32, 0),
+        Instr::Apply(f) => (2048 + f as u32, 0),
+        Instr::Save(k) => (2304 + k as u32, 0),
+        Instr::Defer(k) => (2560 + k as u32, 0),
+        Instr::Move(k) => (2816 + k as u32, 0),
+    }
+}
+
+/// The words that the table of a sheet must have.
+fn image(m: &Model) -> Vec<u32> {
+    let mut w = vec![0u32; 8704];
+    w[0] = m.sheet.ranks.len() as u32;
+    w[1] = m.board.len() as u32;
+    let mut at = 0;
+    for (e, code) in m.code.iter().enumerate() {
+        w[8 + 4 * e] = m.sheet.ranks[e] as u32;
+        w[9 + 4 * e] = at as u32;
+        w[10 + 4 * e] = code.len() as u32;
+        w[11 + 4 * e] = code.iter().filter(|i| matches!(i, Instr::Copy(_))).count() as u32;
+        for i in code {
+            let (a, b) = words_of(*i);
+            w[512 + 2 * at] = a;
+            w[513 + 2 * at] = b;
+            at += 1;
+        }
+        assert_eq!(code.len(), m.sheet.count(e), "01's count");
+    }
+    for (i, v) in m.board.iter().enumerate() {
+        w[136 + i] = *v as u32;
+    }
+    w
+}
+
+/// compile on both, with the table's bytes; the sheet where both accept it.
+pub fn compile(bytes: &[u8], table: &mut Guarded) -> Option<engine::Sheet> {
+    let before = table.part().to_vec();
+    let got = proved::compile(bytes, table.part_mut());
+    table.check();
+    match engine::compile(bytes) {
+        Err(n) => {
+            assert_eq!(got, n, "compile's refusal");
+            assert!(before == table.part(), "a refused compile changed the table");
+            None
+        }
+        Ok(sheet) => {
+            assert_eq!(got, 0, "compile refuses what is accepted");
+            let want = image(&Model::new(sheet.clone()));
+            for (k, w) in want.iter().enumerate() {
+                assert_eq!(word(table.part(), k), *w, "table word {k}");
+            }
+            assert!(before[TABLE..] == table.part()[TABLE..], "bytes beyond the table changed");
+            Some(sheet)
+        }
+    }
+}
+
+fn packed(a: Answer) -> u64 {
+    let about = |k: u64, n: u32, e: usize| n as u64 * 65536 + e as u64 * 256 + k;
+    match a {
+        Answer::Refused(n) => n as u64,
+        Answer::Taken | Answer::Idle => 0,
+        Answer::Value(v) => (1u64 << 32) + v as u32 as u64,
+        Answer::Ran => 1,
+        Answer::Started(n, e) => about(2, n, e),
+        Answer::Committed(n, e) => about(3, n, e),
+        Answer::BrokeIn(n, e) => about(4, n, e),
+    }
+}
+
+pub fn call(table: &[u8], round: &mut [u8], c: Call) -> u64 {
+    match c {
+        Call::Arrive(e) => proved::arrive(table, round, e) as u64,
+        Call::Step => proved::step(table, round),
+        Call::Board(i) => proved::board(table, round, i),
+    }
+}
+
+/// The round as read from its bytes against the model engine.
+fn same_round(l: &[u8], m: &Model) {
+    assert_eq!(word(l, 0), m.taken, "number taken in");
+    let mut hand: Vec<(u32, usize)> = (0..word(l, 1) as usize).map(|i| (word(l, 8 + 2 * i), word(l, 9 + 2 * i) as usize)).collect();
+    let mut want = m.waiting.clone();
+    hand.sort();
+    want.sort();
+    assert_eq!(hand, want, "waiting");
+    let running = (word(l, 2) != 0).then(|| (word(l, 4), word(l, 3) as usize, word(l, 5) as usize));
+    assert_eq!(running, m.running, "running");
+    let stack: Vec<i32> = (0..word(l, 6) as usize).map(|i| word(l, 328 + i) as i32).collect();
+    assert_eq!(stack, m.stack, "stack");
+    for i in 0..m.board.len() {
+        assert_eq!(word(l, 136 + i) as i32, m.board[i], "store {i}");
+        m.scratch[i].map(|v| assert_eq!(word(l, 200 + i) as i32, v, "scratch {i}"));
+        m.places[i].map(|v| assert_eq!(word(l, 264 + i) as i32, v, "deferred {i}"));
+    }
+}
+
+/// One list of calls on both engines, from a fresh round; the boards by the commits.
+pub fn run(sheet: &engine::Sheet, table: &Guarded, calls: &[Call]) -> (Model, Vec<usize>) {
+    let before = table.part().to_vec();
+    let mut round = Guarded::new(ROUND + 16, 0x5A);
+    assert_eq!(proved::start(table.part(), round.part_mut()), 0);
+    let mut m = Model::new(sheet.clone());
+    let mut by_commits = m.board.clone();
+    let mut commits = Vec::new();
+    for (k, c) in calls.iter().enumerate() {
+        let want = m.call(*c);
+        let got = call(table.part(), round.part_mut(), *c);
+        assert_eq!(got, packed(want), "answer {k} to {c:?}");
+        if let Answer::Committed(_, e) = want {
+            by_commits = sheet.event(e, &by_commits);
+            commits.push(e);
+        }
+        if !m.settling() {
+            assert_eq!(m.board, by_commits, "the board of the commits");
+        }
+        if k % 16 == 0 || k + 1 == calls.len() {
+            same_round(round.part(), &m);
+        }
+    }
+    round.check();
+    assert!(round.part()[ROUND..].iter().all(|b| *b == 0x5A), "bytes beyond the round changed");
+    assert!(before == table.part(), "the table changed");
+    (m, commits)
+}
+
+/// Idle within (k + 1) * (L + 1) steps.
+fn settle(sheet: &engine::Sheet, table: &Guarded, calls: &[Call]) -> Model {
+    let (m, _) = run(sheet, table, calls);
+    let longest = m.code.iter().map(Vec::len).max().unwrap_or(0);
+    let bound = if m.in_hand() == 0 { 0 } else { (m.in_hand() + 1) * (longest + 1) };
+    let mut all = calls.to_vec();
+    all.extend(std::iter::repeat(Call::Step).take(bound));
+    let (m, _) = run(sheet, table, &all);
+    assert_eq!(m.in_hand(), 0, "not idle within the count");
+    m
+}
+
+/// Two cuts of the same arrivals: equal boards where events of unequal rank are independent.
+fn two_phones(r: &mut Rng, sheet: &engine::Sheet, table: &Guarded) -> bool {
+    let n = sheet.ranks.len();
+    let apart = (0..n).all(|e| (0..n).all(|f| sheet.ranks[e] == sheet.ranks[f] || sheet.independent(e, f)));
+    if n == 0 || !apart {
+        return false;
+    }
+    let arrivals: Vec<u32> = (0..1 + r.below(12)).map(|_| r.below(n) as u32).collect();
+    let cut = |r: &mut Rng| {
+        let mut calls = Vec::new();
+        for e in &arrivals {
+            calls.push(Call::Arrive(*e));
+            calls.extend(std::iter::repeat(Call::Step).take(r.below(30)));
+        }
+        calls
+    };
+    let (a, b) = (cut(r), cut(r));
+    assert_eq!(settle(sheet, table, &a).board, settle(sheet, table, &b).board, "two phones");
+    true
+}
+
+/// Damaged table or round bytes: each call answers and leaves what the plain reading of the words says, and nothing else changes.
+fn foreign(r: &mut Rng, sheet: &engine::Sheet, table: &Guarded, tally: &mut Tally) {
+    let mut t = Guarded::new(TABLE + 8, 0);
+    t.part_mut().copy_from_slice(&table.part()[..TABLE + 8]);
+    let mut l = Guarded::new(ROUND + 8, 0x77);
+    proved::start(t.part(), l.part_mut());
+    for c in make::calls(r, sheet, 20) {
+        call(t.part(), l.part_mut(), c);
+    }
+    for _ in 0..1 + r.below(4) {
+        let (at, v) = (r.below(600), if r.one_in(2) { r.next() as u8 } else { r.below(70) as u8 });
+        match r.below(4) {
+            0 => t.part_mut()[at] = v,
+            1 => t.part_mut()[2048 + at] = v,
+            2 => l.part_mut()[r.below(40)] = v,
+            _ => l.part_mut()[r.below(ROUND)] = v,
+        }
+    }
+    let t0 = t.part().to_vec();
+    for c in make::calls(r, sheet, 40) {
+        let mut want = l.part().to_vec();
+        let before = want.clone();
+        let answer = words::call(t.part(), &mut want, c);
+        if answer == 14 {
+            want = before;
+            tally.foreign += 1;
+        }
+        assert_eq!(call(t.part(), l.part_mut(), c), answer, "damaged bytes, {c:?}");
+        assert!(want == l.part(), "damaged bytes, {c:?}: the round");
+    }
+    assert!(t0 == t.part(), "a call changed the table");
+    t.check();
+    l.check();
+}
+
+pub struct Tally {
+    pub accepted: usize,
+    pub refused: [usize; 32],
+    pub calls: usize,
+    pub pairs: usize,
+    pub foreign: usize,
+}
+
+/// The bytes of a seed's sheet.
+fn sheet_of(r: &mut Rng) -> Vec<u8> {
+    let bytes = make::encode(&make::sheet(r));
+    if r.one_in(2) { make::damaged(r, bytes) } else { bytes }
+}
+
+fn calls_of(r: &mut Rng, sheet: &engine::Sheet) -> Vec<Call> {
+    let n = if r.one_in(20) { 3000 } else { 200 };
+    make::calls(r, sheet, n)
+}
+
+/// A seed's sheet and calls as the desk program reads them: to replay a case that differs.
+pub fn script(seed: u64) -> Vec<u8> {
+    let r = &mut Rng::new(seed);
+    let bytes = sheet_of(r);
+    r.next();
+    let mut out = desk::sheet(&bytes);
+    if let Ok(sheet) = engine::compile(&bytes) {
+        for c in calls_of(r, &sheet) {
+            out.extend(match c {
+                Call::Arrive(e) => desk::arrive(e as u8),
+                Call::Step => desk::steps(1),
+                Call::Board(_) => desk::show(),
+            });
+        }
+    }
+    out
+}
+
+/// One seed's worth of everything.
+pub fn one(seed: u64, tally: &mut Tally) {
+    let r = &mut Rng::new(seed);
+    let bytes = sheet_of(r);
+    let mut table = Guarded::new(TABLE + 32, r.next() as u8);
+    match compile(&bytes, &mut table) {
+        None => tally.refused[proved::compile(&bytes, table.part_mut()) as usize] += 1,
+        Some(sheet) => {
+            tally.accepted += 1;
+            let calls = calls_of(r, &sheet);
+            tally.calls += calls.len();
+            settle(&sheet, &table, &calls);
+            tally.pairs += two_phones(r, &sheet, &table) as usize;
+            foreign(r, &sheet, &table, tally);
+        }
+    }
+}

@@ -1,0 +1,596 @@
+//! A plain second engine, written from the scope alone: a tree, the big-step meaning, the instruction lists and the model engine.
+//! It shares nothing with the proved engine and is as simple as possible; speed does not matter here.
+
+#[derive(Clone, Debug, PartialEq)]
+pub enum Expr {
+    Con(i32),
+    Name(usize),
+    App(u8, Vec<Expr>),
+}
+
+#[derive(Clone, Debug, PartialEq)]
+pub struct Handler {
+    pub event: usize,
+    pub later: bool,
+    pub expr: Expr,
+}
+
+#[derive(Clone, Debug, PartialEq)]
+pub enum Behaviour {
+    Passive(Expr),
+    Active(i32, Vec<Handler>),
+}
+
+#[derive(Clone, Debug, PartialEq)]
+pub struct Sheet {
+    pub ranks: Vec<u8>,
+    pub behaviours: Vec<Behaviour>,
+}
+
+// ---- arithmetic
+
+pub fn arity(f: u8) -> usize {
+    match f {
+        3 => 1,
+        14 => 3,
+        _ => 2,
+    }
+}
+
+pub fn apply(f: u8, a: &[i32]) -> i32 {
+    let t = |b: bool| if b { 1 } else { 0 };
+    match f {
+        1 => t(a[0] != 0 || a[1] != 0),
+        2 => t(a[0] != 0 && a[1] != 0),
+        3 => t(a[0] == 0),
+        4 => (a[0] as i64 + a[1] as i64) as i32,
+        5 => (a[0] as i64 - a[1] as i64) as i32,
+        6 => (a[0] as i64 * a[1] as i64) as i32,
+        7 if a[1] == 0 => 0,
+        7 => (a[0] as i64 / a[1] as i64) as i32,
+        8 => t(a[0] > a[1]),
+        9 => t(a[0] >= a[1]),
+        10 => t(a[0] < a[1]),
+        11 => t(a[0] <= a[1]),
+        12 => t(a[0] == a[1]),
+        13 => t(a[0] != a[1]),
+        14 => if a[0] != 0 { a[1] } else { a[2] },
+        _ => unreachable!(),
+    }
+}
+
+// ---- reading a sheet: the first fault from left to right
+
+/// The field at the front of `s`: tag, value, rest. 4 for its header, 5, 4 for its length.
+fn field<'a>(s: &'a [u8], lo: u8, hi: u8) -> Result<(u8, &'a [u8], &'a [u8]), u32> {
+    if s.len() < 3 {
+        return Err(4);
+    }
+    if s[0] < lo || s[0] > hi {
+        return Err(5);
+    }
+    let n = s[1] as usize * 256 + s[2] as usize;
+    if n > s.len() - 3 {
+        return Err(4);
+    }
+    Ok((s[0], &s[3..3 + n], &s[3 + n..]))
+}
+
+fn word(v: &[u8]) -> i32 {
+    i32::from_be_bytes([v[0], v[1], v[2], v[3]])
+}
+
+fn expr<'a>(s: &'a [u8], nesting: usize) -> Result<(Expr, &'a [u8]), u32> {
+    let (tag, v, rest) = field(s, 0x10, 0x12)?;
+    if nesting == 17 {
+        return Err(9);
+    }
+    match tag {
+        0x10 if v.len() != 4 => Err(6),
+        0x10 => Ok((Expr::Con(word(v)), rest)),
+        0x11 if v.len() != 1 => Err(6),
+        0x11 => Ok((Expr::Name(v[0] as usize), rest)),
+        _ => {
+            if v.is_empty() {
+                return Err(6);
+            }
+            if v[0] < 1 || v[0] > 14 {
+                return Err(8);
+            }
+            let mut args = Vec::new();
+            let mut left = &v[1..];
+            for _ in 0..arity(v[0]) {
+                let (a, l) = expr(left, nesting + 1)?;
+                args.push(a);
+                left = l;
+            }
+            if !left.is_empty() {
+                return Err(6);
+            }
+            Ok((Expr::App(v[0], args), rest))
+        }
+    }
+}
+
+fn whole_expr(v: &[u8]) -> Result<Expr, u32> {
+    let (e, left) = expr(v, 1)?;
+    if left.is_empty() { Ok(e) } else { Err(6) }
+}
+
+fn handler(v: &[u8], events: usize, so_far: &[Handler]) -> Result<Handler, u32> {
+    if v.is_empty() {
+        return Err(6);
+    }
+    let event = v[0] as usize;
+    if event >= events {
+        return Err(8);
+    }
+    if v.len() < 2 {
+        return Err(6);
+    }
+    if v[1] > 1 {
+        return Err(8);
+    }
+    if so_far.iter().any(|h| h.event == event) {
+        return Err(10);
+    }
+    Ok(Handler { event, later: v[1] == 1, expr: whole_expr(&v[2..])? })
+}
+
+fn active(v: &[u8], events: usize) -> Result<Behaviour, u32> {
+    let (_, w, mut rest) = field(v, 4, 4)?;
+    if w.len() != 4 {
+        return Err(6);
+    }
+    let mut hs = Vec::new();
+    while !rest.is_empty() {
+        let (_, v, r) = field(rest, 5, 5)?;
+        let h = handler(v, events, &hs)?;
+        hs.push(h);
+        rest = r;
+    }
+    Ok(Behaviour::Active(word(w), hs))
+}
+
+fn read(s: &[u8]) -> Result<Sheet, u32> {
+    let mut sheet = Sheet { ranks: vec![], behaviours: vec![] };
+    let mut s = s;
+    while !s.is_empty() {
+        let (tag, v, rest) = field(s, if sheet.behaviours.is_empty() { 1 } else { 2 }, 3)?;
+        if tag == 1 {
+            if sheet.ranks.len() == 32 {
+                return Err(7);
+            }
+            if v.len() != 1 {
+                return Err(6);
+            }
+            if v[0] > 15 {
+                return Err(8);
+            }
+            sheet.ranks.push(v[0]);
+        } else {
+            if sheet.behaviours.len() == 64 {
+                return Err(7);
+            }
+            let b = if tag == 2 { Behaviour::Passive(whole_expr(v)?) } else { active(v, sheet.ranks.len())? };
+            sheet.behaviours.push(b);
+        }
+        s = rest;
+    }
+    Ok(sheet)
+}
+
+fn names(e: &Expr, out: &mut Vec<usize>) {
+    match e {
+        Expr::Con(_) => {}
+        Expr::Name(i) => out.push(*i),
+        Expr::App(_, a) => a.iter().for_each(|x| names(x, out)),
+    }
+}
+
+fn size(e: &Expr) -> usize {
+    match e {
+        Expr::App(_, a) => 1 + a.iter().map(size).sum::<usize>(),
+        _ => 1,
+    }
+}
+
+/// What a behaviour does on an event (`None`: no event).
+pub enum Does<'a> {
+    Follows(&'a Expr),
+    Takes(&'a Expr),
+    Defers(&'a Expr),
+    Keeps,
+}
+
+impl Sheet {
+    pub fn does(&self, event: Option<usize>, i: usize) -> Does<'_> {
+        match &self.behaviours[i] {
+            Behaviour::Passive(e) => Does::Follows(e),
+            Behaviour::Active(_, hs) => match hs.iter().find(|h| Some(h.event) == event) {
+                None => Does::Keeps,
+                Some(h) if h.later => Does::Defers(&h.expr),
+                Some(h) => Does::Takes(&h.expr),
+            },
+        }
+    }
+
+    /// What i depends on.
+    fn needs(&self, event: Option<usize>, i: usize) -> Vec<usize> {
+        let mut out = Vec::new();
+        match self.does(event, i) {
+            Does::Follows(e) => names(e, &mut out),
+            Does::Takes(e) => {
+                names(e, &mut out);
+                out.retain(|&j| j != i);
+            }
+            _ => {}
+        }
+        out
+    }
+
+    fn reaches(&self, event: Option<usize>, from: usize, to: usize) -> bool {
+        let mut seen = vec![false; self.behaviours.len()];
+        let mut todo = self.needs(event, from);
+        while let Some(i) = todo.pop() {
+            if i == to {
+                return true;
+            }
+            if !seen[i] {
+                seen[i] = true;
+                todo.extend(self.needs(event, i));
+            }
+        }
+        false
+    }
+
+    fn cyclic(&self) -> bool {
+        let mut events: Vec<Option<usize>> = (0..self.ranks.len()).map(Some).collect();
+        events.push(None);
+        events.iter().any(|&e| (0..self.behaviours.len()).any(|i| self.reaches(e, i, i)))
+    }
+
+    fn unknown(&self) -> bool {
+        let mut all = Vec::new();
+        for b in &self.behaviours {
+            match b {
+                Behaviour::Passive(e) => names(e, &mut all),
+                Behaviour::Active(_, hs) => hs.iter().for_each(|h| names(&h.expr, &mut all)),
+            }
+        }
+        all.iter().any(|&i| i >= self.behaviours.len())
+    }
+
+    /// 01's count, by its formula.
+    pub fn count(&self, event: usize) -> usize {
+        4 + (0..self.behaviours.len())
+            .map(|i| match self.does(Some(event), i) {
+                Does::Follows(e) => 2 + 2 * (size(e) + 1),
+                Does::Takes(e) => 2 + size(e) + 1,
+                Does::Defers(e) => 2 + size(e) + 2,
+                Does::Keeps => 0,
+            })
+            .sum::<usize>()
+    }
+
+    // ---- the meaning of one event
+
+    fn value(&self, e: &Expr, look: &dyn Fn(usize) -> i32) -> i32 {
+        match e {
+            Expr::Con(w) => *w,
+            Expr::Name(i) => look(*i),
+            Expr::App(f, a) => {
+                let v: Vec<i32> = a.iter().map(|x| self.value(x, look)).collect();
+                apply(*f, &v)
+            }
+        }
+    }
+
+    /// First-phase value of i, kept once it is known.
+    fn first(&self, event: Option<usize>, board: &[i32], i: usize, known: &std::cell::RefCell<Vec<Option<i32>>>) -> i32 {
+        if let Some(v) = known.borrow()[i] {
+            return v;
+        }
+        let v = match self.does(event, i) {
+            Does::Follows(e) => self.value(e, &|j| self.first(event, board, j, known)),
+            Does::Takes(e) => self.value(e, &|j| if j == i { board[i] } else { self.first(event, board, j, known) }),
+            _ => board[i],
+        };
+        known.borrow_mut()[i] = Some(v);
+        v
+    }
+
+    pub fn first_phase(&self, event: Option<usize>, board: &[i32]) -> Vec<i32> {
+        let known = std::cell::RefCell::new(vec![None; board.len()]);
+        (0..board.len()).map(|i| self.first(event, board, i, &known)).collect()
+    }
+
+    /// The board after an event: later handlers over first-phase values, all together; then the passives again.
+    pub fn event(&self, event: usize, board: &[i32]) -> Vec<i32> {
+        let one = self.first_phase(Some(event), board);
+        let two: Vec<i32> = (0..board.len())
+            .map(|i| match self.does(Some(event), i) {
+                Does::Defers(e) => self.value(e, &|j| one[j]),
+                _ => one[i],
+            })
+            .collect();
+        self.first_phase(None, &two)
+    }
+
+    pub fn fresh(&self) -> Vec<i32> {
+        let start: Vec<i32> = self
+            .behaviours
+            .iter()
+            .map(|b| match b {
+                Behaviour::Active(s, _) => *s,
+                _ => 0,
+            })
+            .collect();
+        self.first_phase(None, &start)
+    }
+
+    // ---- the instruction list
+
+    fn in_c(&self, event: usize, i: usize) -> bool {
+        !matches!(self.does(Some(event), i), Does::Keeps)
+    }
+
+    fn postfix(&self, event: usize, e: &Expr, out: &mut Vec<Instr>) {
+        match e {
+            Expr::Con(w) => out.push(Instr::Push(*w)),
+            Expr::Name(i) if self.in_c(event, *i) => out.push(Instr::Fetch(*i)),
+            Expr::Name(i) => out.push(Instr::Load(*i)),
+            Expr::App(f, a) => {
+                a.iter().for_each(|x| self.postfix(event, x, out));
+                out.push(Instr::Apply(*f));
+            }
+        }
+    }
+
+    /// The lowest number first among those whose needs are met.
+    fn order(&self, event: usize) -> Vec<usize> {
+        let n = self.behaviours.len();
+        let early = |i: usize| matches!(self.does(Some(event), i), Does::Follows(_) | Does::Takes(_));
+        let mut order = Vec::new();
+        while let Some(i) = (0..n).find(|&i| early(i) && !order.contains(&i) && self.needs(Some(event), i).iter().all(|j| !early(*j) || order.contains(j))) {
+            order.push(i);
+        }
+        order
+    }
+
+    pub fn code(&self, event: usize) -> Vec<Instr> {
+        let n = self.behaviours.len();
+        let c: Vec<usize> = (0..n).filter(|&i| self.in_c(event, i)).collect();
+        let order = self.order(event);
+        let mut out = vec![Instr::Off];
+        out.extend(c.iter().map(|&i| Instr::Copy(i)));
+        out.push(Instr::On);
+        for &i in &order {
+            if let Does::Follows(e) | Does::Takes(e) = self.does(Some(event), i) {
+                self.postfix(event, e, &mut out);
+                out.push(Instr::Save(i));
+            }
+        }
+        for i in 0..n {
+            if let Does::Defers(e) = self.does(Some(event), i) {
+                self.postfix(event, e, &mut out);
+                out.push(Instr::Defer(i));
+            }
+        }
+        out.extend((0..n).filter(|&i| matches!(self.does(Some(event), i), Does::Defers(_))).map(Instr::Move));
+        for &i in &order {
+            if let Does::Follows(e) = self.does(Some(event), i) {
+                self.postfix(event, e, &mut out);
+                out.push(Instr::Save(i));
+            }
+        }
+        out.push(Instr::Off);
+        out.extend(c.iter().map(|&i| Instr::Restore(i)));
+        out.push(Instr::On);
+        out
+    }
+
+    /// The actives that an event writes, and those that it reads.
+    fn writes(&self, event: usize) -> Vec<usize> {
+        (0..self.behaviours.len()).filter(|&i| matches!(self.does(Some(event), i), Does::Takes(_) | Does::Defers(_))).collect()
+    }
+
+    fn reads(&self, event: usize) -> Vec<usize> {
+        let mut todo = Vec::new();
+        for i in 0..self.behaviours.len() {
+            if let Does::Takes(e) | Does::Defers(e) = self.does(Some(event), i) {
+                names(e, &mut todo);
+            }
+        }
+        let mut seen = Vec::new();
+        while let Some(i) = todo.pop() {
+            if !seen.contains(&i) {
+                seen.push(i);
+                if let Behaviour::Passive(e) = &self.behaviours[i] {
+                    names(e, &mut todo);
+                }
+            }
+        }
+        seen.retain(|&i| matches!(self.behaviours[i], Behaviour::Active(..)));
+        seen
+    }
+
+    pub fn independent(&self, e: usize, f: usize) -> bool {
+        let apart = |e: usize, f: usize| self.writes(e).iter().all(|i| !self.reads(f).contains(i) && !self.writes(f).contains(i));
+        apart(e, f) && apart(f, e)
+    }
+}
+
+/// compile, for a table of full size.
+pub fn compile(s: &[u8]) -> Result<Sheet, u32> {
+    if s.is_empty() {
+        return Err(2);
+    }
+    if s.len() > 8192 {
+        return Err(3);
+    }
+    let sheet = read(s)?;
+    if sheet.unknown() {
+        return Err(11);
+    }
+    if sheet.cyclic() {
+        return Err(12);
+    }
+    if (0..sheet.ranks.len()).map(|e| sheet.count(e)).sum::<usize>() > 4096 {
+        return Err(13);
+    }
+    Ok(sheet)
+}
+
+#[derive(Clone, Copy, Debug, PartialEq)]
+pub enum Instr {
+    Off,
+    On,
+    Copy(usize),
+    Restore(usize),
+    Push(i32),
+    Load(usize),
+    Fetch(usize),
+    Apply(u8),
+    Save(usize),
+    Defer(usize),
+    Move(usize),
+}
+
+// ---- the model engine
+
+#[derive(Clone, Copy, Debug, PartialEq)]
+pub enum Call {
+    Arrive(u32),
+    Step,
+    Board(u32),
+}
+
+#[derive(Clone, Copy, Debug, PartialEq)]
+pub enum Answer {
+    Refused(u32),
+    Taken,
+    Value(i32),
+    Idle,
+    Ran,
+    Started(u32, usize),
+    Committed(u32, usize),
+    BrokeIn(u32, usize),
+}
+
+pub struct Model {
+    pub sheet: Sheet,
+    pub code: Vec<Vec<Instr>>,
+    pub board: Vec<i32>,
+    pub taken: u32,
+    pub waiting: Vec<(u32, usize)>,
+    pub running: Option<(u32, usize, usize)>,
+    pub scratch: Vec<Option<i32>>,
+    pub stack: Vec<i32>,
+    pub places: Vec<Option<i32>>,
+}
+
+impl Model {
+    pub fn new(sheet: Sheet) -> Model {
+        let board = sheet.fresh();
+        let n = board.len();
+        let code = (0..sheet.ranks.len()).map(|e| sheet.code(e)).collect();
+        Model { sheet, code, board, taken: 0, waiting: vec![], running: None, scratch: vec![None; n], stack: vec![], places: vec![None; n] }
+    }
+
+    fn rank(&self, e: usize) -> u8 {
+        self.sheet.ranks[e]
+    }
+
+    /// The waiting one of highest rank, then lowest number.
+    fn next(&self) -> Option<usize> {
+        (0..self.waiting.len()).max_by_key(|&k| (self.rank(self.waiting[k].1), std::cmp::Reverse(self.waiting[k].0)))
+    }
+
+    fn begin(&mut self, k: usize) -> (u32, usize) {
+        let (n, e) = self.waiting.remove(k);
+        self.running = Some((n, e, 0));
+        self.scratch.iter_mut().for_each(|x| *x = None);
+        self.places.iter_mut().for_each(|x| *x = None);
+        self.stack.clear();
+        (n, e)
+    }
+
+    /// Offs done, and whether interrupts are masked, after c instructions.
+    fn masks(&self, e: usize, c: usize) -> (usize, bool) {
+        let done = &self.code[e][..c];
+        let offs = done.iter().filter(|i| **i == Instr::Off).count();
+        let ons = done.iter().filter(|i| **i == Instr::On).count();
+        (offs, ons < offs)
+    }
+
+    pub fn settling(&self) -> bool {
+        self.running.map_or(false, |(_, e, c)| self.masks(e, c) == (2, true))
+    }
+
+    fn execute(&mut self, i: Instr) {
+        match i {
+            Instr::Off | Instr::On => {}
+            Instr::Copy(k) => self.scratch[k] = Some(self.board[k]),
+            Instr::Restore(k) => self.board[k] = self.scratch[k].unwrap(),
+            Instr::Push(w) => self.stack.push(w),
+            Instr::Load(k) => self.stack.push(self.board[k]),
+            Instr::Fetch(k) => self.stack.push(self.scratch[k].unwrap()),
+            Instr::Apply(f) => {
+                let at = self.stack.len() - arity(f);
+                let args = self.stack.split_off(at);
+                self.stack.push(apply(f, &args));
+            }
+            Instr::Save(k) => self.scratch[k] = self.stack.pop(),
+            Instr::Defer(k) => self.places[k] = self.stack.pop(),
+            Instr::Move(k) => self.scratch[k] = self.places[k],
+        }
+    }
+
+    fn step(&mut self) -> Answer {
+        if let Some((n, e, c)) = self.running {
+            if let Some(k) = self.next() {
+                if !self.masks(e, c).1 && self.rank(self.waiting[k].1) > self.rank(e) {
+                    let (m, f) = self.begin(k);
+                    self.waiting.push((n, e));
+                    return Answer::BrokeIn(m, f);
+                }
+            }
+            self.execute(self.code[e][c]);
+            if c + 1 == self.code[e].len() {
+                self.running = None;
+                return Answer::Committed(n, e);
+            }
+            self.running = Some((n, e, c + 1));
+            return Answer::Ran;
+        }
+        match self.next() {
+            Some(k) => {
+                let (n, e) = self.begin(k);
+                Answer::Started(n, e)
+            }
+            None => Answer::Idle,
+        }
+    }
+
+    pub fn in_hand(&self) -> usize {
+        self.waiting.len() + self.running.is_some() as usize
+    }
+
+    pub fn call(&mut self, call: Call) -> Answer {
+        match call {
+            Call::Arrive(e) if e as usize >= self.sheet.ranks.len() => Answer::Refused(15),
+            Call::Arrive(_) if self.in_hand() == 64 => Answer::Refused(16),
+            Call::Arrive(_) if self.taken == 1_000_000 => Answer::Refused(17),
+            Call::Arrive(e) => {
+                self.waiting.push((self.taken, e as usize));
+                self.taken += 1;
+                Answer::Taken
+            }
+            Call::Board(i) if i as usize >= self.board.len() => Answer::Refused(18),
+            Call::Board(_) if self.settling() => Answer::Refused(19),
+            Call::Board(i) => Answer::Value(self.board[i as usize]),
+            Call::Step => self.step(),
+        }
+    }
+}

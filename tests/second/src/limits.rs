@@ -1,0 +1,158 @@
+//! Every refusal of compile, and both sides of each limit, on both engines.
+use crate::compare::{self, Guarded};
+use crate::engine;
+use crate::proved::{self, TABLE};
+
+pub fn field(tag: u8, v: &[u8]) -> Vec<u8> {
+    let mut out = vec![tag, (v.len() / 256) as u8, v.len() as u8];
+    out.extend(v);
+    out
+}
+
+pub fn con(w: i32) -> Vec<u8> {
+    field(0x10, &w.to_be_bytes())
+}
+
+pub fn name(i: u8) -> Vec<u8> {
+    field(0x11, &[i])
+}
+
+pub fn app(f: u8, args: &[Vec<u8>]) -> Vec<u8> {
+    let mut v = vec![f];
+    args.iter().for_each(|a| v.extend(a));
+    field(0x12, &v)
+}
+
+pub fn event(rank: u8) -> Vec<u8> {
+    field(1, &[rank])
+}
+
+pub fn passive(e: &[u8]) -> Vec<u8> {
+    field(2, e)
+}
+
+pub fn handler(event: u8, phase: u8, e: &[u8]) -> Vec<u8> {
+    let mut v = vec![event, phase];
+    v.extend(e);
+    field(5, &v)
+}
+
+pub fn active(start: i32, handlers: &[Vec<u8>]) -> Vec<u8> {
+    let mut v = field(4, &start.to_be_bytes());
+    handlers.iter().for_each(|h| v.extend(h));
+    field(3, &v)
+}
+
+pub fn join(parts: &[Vec<u8>]) -> Vec<u8> {
+    parts.concat()
+}
+
+/// `!` so many times round a constant.
+fn nots(n: usize) -> Vec<u8> {
+    (0..n).fold(con(1), |e, _| app(3, &[e]))
+}
+
+/// A sheet whose events have so many instructions together: eight events over four passives of 58 nodes, 484 each, and one active with handlers for the rest.
+fn of_length(total: usize) -> Vec<u8> {
+    let mut left = total - 8 * (4 + 4 * (2 + 2 * 59));
+    let mut handlers = Vec::new();
+    while left > 0 {
+        let take = left.min(103);
+        handlers.push(handler(handlers.len() as u8, 0, &tree_of(take - 3)));
+        left -= take;
+    }
+    join(&[join(&vec![event(1); 8]), join(&vec![passive(&tree_of(58)); 4]), active(0, &handlers)])
+}
+
+/// An expression of so many nodes, well within nesting 16.
+fn tree_of(size: usize) -> Vec<u8> {
+    match size {
+        1 => con(0),
+        2 => app(3, &[con(0)]),
+        _ => {
+            let left = (size - 1) / 2;
+            app(4, &[tree_of(left), tree_of(size - 1 - left)])
+        }
+    }
+}
+
+/// A sheet of passives that has so many bytes: the last is a sum of a constants and b names, 11 a + 8 b - 1 bytes.
+fn of_bytes(n: usize) -> Vec<u8> {
+    let mut s = passive(&con(1));
+    while n - s.len() > 400 {
+        s.extend(passive(&tree_of(40)));
+    }
+    let left = n - s.len() + 1;
+    let a = (0..8).find(|a| (left - 11 * a) % 8 == 0).unwrap();
+    let mut leaves: Vec<Vec<u8>> = (0..(left - 11 * a) / 8).map(|_| name(0)).collect();
+    leaves.extend((0..a).map(|_| con(2)));
+    while leaves.len() > 1 {
+        leaves = leaves.chunks(2).map(|c| if c.len() == 2 { app(4, c) } else { c[0].clone() }).collect();
+    }
+    s.extend(passive(&leaves[0]));
+    s
+}
+
+/// 1,000,000 arrivals pass, and the next is 17.
+fn spent() {
+    let mut table = vec![0u8; TABLE];
+    let mut round = vec![0u8; 2048];
+    assert_eq!(proved::compile(&event(0), &mut table), 0);
+    proved::start(&table, &mut round);
+    for _ in 0..1_000_000 {
+        assert_eq!(proved::arrive(&table, &mut round, 0), 0);
+        (0..5).for_each(|_| {
+            proved::step(&table, &mut round);
+        });
+    }
+    assert_eq!(proved::step(&table, &mut round), 0, "idle");
+    assert_eq!(proved::arrive(&table, &mut round, 0), 17, "the arrival after 1,000,000");
+}
+
+fn check(what: &str, sheet: &[u8], want: u32) {
+    let mut table = Guarded::new(TABLE + 8, 0x33);
+    compare::compile(sheet, &mut table);
+    let got = proved::compile(sheet, table.part_mut());
+    assert_eq!(got, want, "{what}");
+}
+
+pub fn run() {
+    let s = crate::desk::sheet_s();
+    let mut short = vec![0u8; TABLE - 1];
+    assert_eq!(proved::compile(&s, &mut short), 1, "a table of 34,815 bytes");
+    assert!(short.iter().all(|b| *b == 0));
+    check("blank", &[], 2);
+    assert_eq!(of_bytes(8192).len(), 8192);
+    check("8,192 bytes", &of_bytes(8192), 0);
+    check("8,193 bytes", &of_bytes(8193), 3);
+    check("torn", &s[..73], 4);
+    check("wrong tag", &join(&[passive(&con(1)), event(1)]), 5);
+    check("wrong length", &field(1, &[1, 2]), 6);
+    check("32 events", &join(&vec![event(1); 32]), 0);
+    check("33 events", &join(&vec![event(1); 33]), 7);
+    check("64 behaviours", &join(&vec![passive(&con(1)); 64]), 0);
+    check("65 behaviours", &join(&vec![passive(&con(1)); 65]), 7);
+    check("rank 15", &event(15), 0);
+    check("rank 16", &event(16), 8);
+    check("function 15", &passive(&app(15, &[con(1), con(1)])), 8);
+    check("15 times !", &passive(&nots(15)), 0);
+    check("16 times !", &passive(&nots(16)), 9);
+    check("doubled", &join(&[event(1), active(0, &[handler(0, 0, &con(1)), handler(0, 1, &con(1))])]), 10);
+    check("unknown name", &passive(&name(1)), 11);
+    check("a name further on", &join(&[passive(&name(1)), passive(&con(1))]), 0);
+    check("circle under no event", &passive(&name(0)), 12);
+    let both = |later: u8| join(&[event(1), active(1, &[handler(0, 0, &name(1))]), active(2, &[handler(0, later, &name(0))])]);
+    check("immediate and later", &both(1), 0);
+    check("both immediate", &both(0), 12);
+    for total in [4095, 4096, 4097] {
+        let s = of_length(total);
+        let counted: usize = engine::compile(&s).map(|p| (0..p.ranks.len()).map(|e| p.count(e)).sum()).unwrap_or(0);
+        check("instructions", &s, if total > 4096 { 13 } else { 0 });
+        assert!(total > 4096 || counted == total);
+    }
+    for size in [1, 100, TABLE - 1] {
+        assert_eq!(proved::step(&vec![0u8; size], &mut [0u8; 2048]), 14);
+    }
+    spent();
+    println!("limits: every refusal of compile, both sides of each limit, 1,000,000 arrivals");
+}

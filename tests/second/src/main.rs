@@ -1,0 +1,48 @@
+//! Holds the proved engine against a plain one.
+//!
+//! second compare FIRST COUNT   sheets, tables, answers, rounds and damaged bytes on COUNT seeds from FIRST on
+//! second limits                every refusal of compile, and both sides of each limit
+//! second bench [FILE.svg]      times against the plain engine, and the paper's experiment
+//! second desk PROGRAM SEEDS    the desk program on the scope's rounds and traps, torn input and scripts made at random
+mod bench;
+mod compare;
+mod desk;
+mod engine;
+mod limits;
+mod make;
+mod proved;
+mod words;
+
+fn main() {
+    let words: Vec<String> = std::env::args().collect();
+    let number = |k: usize, or: u64| words.get(k).and_then(|w| w.parse().ok()).unwrap_or(or);
+    match words.get(1).map(String::as_str) {
+        Some("compare") => compare(number(2, 1), number(3, 2000)),
+        Some("limits") => limits::run(),
+        Some("bench") => bench::run(words.get(2)),
+        Some("desk") => desk::run(&words[2], number(3, 200)),
+        _ => {
+            println!("second compare FIRST COUNT | limits | bench [FILE.svg] | desk PROGRAM SEEDS");
+            std::process::exit(2);
+        }
+    }
+}
+
+fn compare(first: u64, count: u64) {
+    let mut tally = compare::Tally { accepted: 0, refused: [0; 32], calls: 0, pairs: 0, foreign: 0 };
+    println!("seeds {first} to {}", first + count - 1);
+    for seed in first..first + count {
+        let done = std::panic::catch_unwind(std::panic::AssertUnwindSafe(|| compare::one(seed, &mut tally)));
+        if done.is_err() {
+            let file = format!("seed-{seed}.desk");
+            let _ = std::fs::write(&file, compare::script(seed));
+            println!("seed {seed} differs; {file} replays it at the desk program");
+            std::process::exit(1);
+        }
+    }
+    print!("accepted {}, calls {}, pairs of phones {}, foreign {}; sheets refused", tally.accepted, tally.calls, tally.pairs, tally.foreign);
+    for (n, k) in tally.refused.iter().enumerate().filter(|(_, k)| **k > 0) {
+        print!(" {n}:{k}");
+    }
+    println!();
+}

@@ -1,0 +1,149 @@
+//! Sheets and lists of calls, made at random from a seed.
+use crate::engine::{arity, Behaviour, Call, Expr, Handler, Sheet};
+
+/// xorshift64*: the same numbers on every machine.
+pub struct Rng(u64);
+
+impl Rng {
+    pub fn new(seed: u64) -> Rng {
+        Rng(seed.wrapping_mul(0x9E3779B97F4A7C15) | 1)
+    }
+
+    pub fn next(&mut self) -> u64 {
+        self.0 ^= self.0 >> 12;
+        self.0 ^= self.0 << 25;
+        self.0 ^= self.0 >> 27;
+        self.0.wrapping_mul(0x2545F4914F6CDD1D)
+    }
+
+    pub fn below(&mut self, n: usize) -> usize {
+        (self.next() >> 16) as usize % n
+    }
+
+    pub fn one_in(&mut self, n: usize) -> bool {
+        self.below(n) == 0
+    }
+}
+
+fn constant(r: &mut Rng) -> i32 {
+    match r.below(6) {
+        0 => i32::MIN,
+        1 => i32::MAX,
+        2 => -1,
+        3 => 46341,
+        _ => r.below(20) as i32 - 8,
+    }
+}
+
+fn expr(r: &mut Rng, depth: usize, names: &[usize]) -> Expr {
+    if depth == 1 || r.one_in(3) {
+        if names.is_empty() || r.one_in(3) { Expr::Con(constant(r)) } else { Expr::Name(names[r.below(names.len())]) }
+    } else {
+        let f = 1 + r.below(14) as u8;
+        Expr::App(f, (0..arity(f)).map(|_| expr(r, depth - 1, names)).collect())
+    }
+}
+
+/// A sheet that is mostly accepted: names mostly lead to behaviours further down in a hidden order.
+pub fn sheet(r: &mut Rng) -> Sheet {
+    let events = if r.one_in(12) { 32 } else { r.below(5) };
+    let n = if r.one_in(20) { 64 } else { r.below(8) };
+    let depth = if r.one_in(10) { 6 } else { 1 + r.below(3) };
+    let wild = r.one_in(6);
+    let place: Vec<usize> = (0..n).map(|_| r.below(1000)).collect();
+    let behaviours = (0..n)
+        .map(|i| {
+            let mut names: Vec<usize> = (0..n).filter(|&j| wild || place[j] < place[i] || j > 56).collect();
+            if r.one_in(30) {
+                names.push(n);
+            }
+            if r.one_in(3) {
+                return Behaviour::Passive(expr(r, depth, &names));
+            }
+            let mut hs = Vec::new();
+            for e in 0..events {
+                if r.one_in(if events > 8 { 12 } else { 2 }) {
+                    let later = r.one_in(2);
+                    let mut seen = names.clone();
+                    seen.push(i);
+                    if later {
+                        seen = (0..n).collect();
+                    }
+                    hs.push(Handler { event: e, later, expr: expr(r, depth, &seen) });
+                }
+            }
+            Behaviour::Active(constant(r), hs)
+        })
+        .collect();
+    Sheet { ranks: (0..events).map(|_| r.below(4) as u8).collect(), behaviours }
+}
+
+fn field(tag: u8, v: Vec<u8>) -> Vec<u8> {
+    let mut out = vec![tag, (v.len() / 256) as u8, v.len() as u8];
+    out.extend(v);
+    out
+}
+
+fn encode_expr(e: &Expr) -> Vec<u8> {
+    match e {
+        Expr::Con(w) => field(0x10, w.to_be_bytes().to_vec()),
+        Expr::Name(i) => field(0x11, vec![*i as u8]),
+        Expr::App(f, a) => {
+            let mut v = vec![*f];
+            a.iter().for_each(|x| v.extend(encode_expr(x)));
+            field(0x12, v)
+        }
+    }
+}
+
+pub fn encode(s: &Sheet) -> Vec<u8> {
+    let mut out = Vec::new();
+    s.ranks.iter().for_each(|r| out.extend(field(1, vec![*r])));
+    for b in &s.behaviours {
+        out.extend(match b {
+            Behaviour::Passive(e) => field(2, encode_expr(e)),
+            Behaviour::Active(w, hs) => {
+                let mut v = field(4, w.to_be_bytes().to_vec());
+                for h in hs {
+                    let mut x = vec![h.event as u8, h.later as u8];
+                    x.extend(encode_expr(&h.expr));
+                    v.extend(field(5, x));
+                }
+                field(3, v)
+            }
+        });
+    }
+    out
+}
+
+/// A sheet's bytes, some of them damaged.
+pub fn damaged(r: &mut Rng, mut s: Vec<u8>) -> Vec<u8> {
+    for _ in 0..1 + r.below(3) {
+        if s.is_empty() {
+            s.push(r.next() as u8);
+        }
+        let at = r.below(s.len());
+        match r.below(5) {
+            0 => s[at] = r.next() as u8,
+            1 => s[at] = s[at].wrapping_add(1),
+            2 => {
+                s.remove(at);
+            }
+            3 => s.insert(at, r.below(19) as u8),
+            _ => s.truncate(at),
+        }
+    }
+    s
+}
+
+pub fn calls(r: &mut Rng, sheet: &Sheet, n: usize) -> Vec<Call> {
+    let busy = 2 + r.below(20);
+    (0..n)
+        .map(|_| match r.below(busy + 3) {
+            0 => Call::Arrive(r.below(sheet.ranks.len() + 1) as u32),
+            1 if !sheet.ranks.is_empty() => Call::Arrive(r.below(sheet.ranks.len()) as u32),
+            2 => Call::Board(r.below(sheet.behaviours.len() + 2) as u32),
+            _ => Call::Step,
+        })
+        .collect()
+}

@@ -1,0 +1,34 @@
+//! The proved engine through its C boundary: each buffer as a pointer and a length.
+
+mod c {
+    extern "C" {
+        pub fn compile(sheet: *const u8, sheet_len: usize, table: *mut u8, table_len: usize) -> u32;
+        pub fn start(table: *const u8, table_len: usize, round: *mut u8, round_len: usize) -> u32;
+        pub fn arrive(table: *const u8, table_len: usize, round: *mut u8, round_len: usize, event: u32) -> u32;
+        pub fn step(table: *const u8, table_len: usize, round: *mut u8, round_len: usize) -> u64;
+        pub fn board(table: *const u8, table_len: usize, round: *const u8, round_len: usize, behaviour: u32) -> u64;
+    }
+}
+
+pub const TABLE: usize = 34816;
+pub const ROUND: usize = 2048;
+
+pub fn compile(sheet: &[u8], table: &mut [u8]) -> u32 {
+    unsafe { c::compile(sheet.as_ptr(), sheet.len(), table.as_mut_ptr(), table.len()) }
+}
+
+pub fn start(table: &[u8], round: &mut [u8]) -> u32 {
+    unsafe { c::start(table.as_ptr(), table.len(), round.as_mut_ptr(), round.len()) }
+}
+
+pub fn arrive(table: &[u8], round: &mut [u8], event: u32) -> u32 {
+    unsafe { c::arrive(table.as_ptr(), table.len(), round.as_mut_ptr(), round.len(), event) }
+}
+
+pub fn step(table: &[u8], round: &mut [u8]) -> u64 {
+    unsafe { c::step(table.as_ptr(), table.len(), round.as_mut_ptr(), round.len()) }
+}
+
+pub fn board(table: &[u8], round: &[u8], behaviour: u32) -> u64 {
+    unsafe { c::board(table.as_ptr(), table.len(), round.as_ptr(), round.len(), behaviour) }
+}

@@ -1,0 +1,164 @@
+//! The calls on any bytes, as plain as can be: the layout of docs and the scope's list of what is foreign. What a call on damaged bytes must answer and leave.
+use crate::engine::{apply, arity, Call};
+
+pub fn get(b: &[u8], k: usize) -> u32 {
+    u32::from_be_bytes([b[4 * k], b[4 * k + 1], b[4 * k + 2], b[4 * k + 3]])
+}
+
+fn put(b: &mut [u8], k: usize, w: u32) {
+    b[4 * k..4 * k + 4].copy_from_slice(&w.to_be_bytes());
+}
+
+/// Priority, start, length, members of C.
+fn record(t: &[u8], e: u32) -> [u32; 4] {
+    if e < 32 { std::array::from_fn(|k| get(t, 8 + 4 * e as usize + k)) } else { [0; 4] }
+}
+
+fn foreign(t: &[u8], l: &[u8]) -> bool {
+    if t.len() < 34816 || l.len() < 2048 || get(t, 0) > 32 || get(t, 1) > 64 {
+        return true;
+    }
+    let known = get(t, 0);
+    if (0..known).any(|e| record(t, e)[1] as u64 + record(t, e)[2] as u64 > 4096) {
+        return true;
+    }
+    let (waiting, runs) = (get(l, 1), get(l, 2) != 0);
+    if waiting as u64 + runs as u64 > 64 || get(l, 6) > 64 {
+        return true;
+    }
+    let event = get(l, 3);
+    (0..waiting as usize).any(|i| get(l, 9 + 2 * i) >= known) || runs && (event >= known || get(l, 5) >= record(t, event)[2])
+}
+
+fn copying_back(t: &[u8], l: &[u8]) -> bool {
+    let [_, _, len, members] = record(t, get(l, 3));
+    get(l, 2) != 0 && get(l, 5) as u64 + members as u64 + 1 >= len as u64
+}
+
+fn masked(t: &[u8], l: &[u8]) -> bool {
+    let c = get(l, 5);
+    copying_back(t, l) || c > 0 && c as u64 <= record(t, get(l, 3))[3] as u64 + 1
+}
+
+fn run(l: &mut [u8], n: u32, e: u32) {
+    [1, e, n, 0, 0].iter().enumerate().for_each(|(k, w)| put(l, 2 + k, *w));
+}
+
+fn said(kind: u64, n: u32, e: u32) -> u64 {
+    n as u64 * 65536 + e as u64 * 256 + kind
+}
+
+/// One instruction, or `None` where it is foreign.
+fn execute(l: &mut [u8], op: u32, slot: usize, w: u32) -> Option<()> {
+    let d = get(l, 6) as usize;
+    if slot > 63 {
+        return None;
+    }
+    let push = |l: &mut [u8], v: u32| {
+        (d < 64).then(|| {
+            put(l, 328 + d, v);
+            put(l, 6, d as u32 + 1);
+        })
+    };
+    let pop = |l: &mut [u8], k: usize| {
+        (d > 0).then(|| {
+            let v = get(l, 327 + d);
+            put(l, k, v);
+            put(l, 6, d as u32 - 1);
+        })
+    };
+    let copy = |l: &mut [u8], from: usize, to: usize| {
+        let v = get(l, from);
+        put(l, to, v);
+        Some(())
+    };
+    match op {
+        1 | 2 => Some(()),
+        3 => copy(l, 136 + slot, 200 + slot),
+        4 => copy(l, 200 + slot, 136 + slot),
+        5 => push(l, w),
+        6 => push(l, get(l, 136 + slot)),
+        7 => push(l, get(l, 200 + slot)),
+        8 if (1..=14).contains(&slot) && arity(slot as u8) <= d => {
+            let n = arity(slot as u8);
+            let args: Vec<i32> = (0..n).map(|k| get(l, 328 + d - n + k) as i32).collect();
+            put(l, 328 + d - n, apply(slot as u8, &args) as u32);
+            if n > 1 {
+                put(l, 6, (d - n + 1) as u32);
+            }
+            Some(())
+        }
+        9 => pop(l, 200 + slot),
+        10 => pop(l, 264 + slot),
+        11 => copy(l, 264 + slot, 200 + slot),
+        _ => None,
+    }
+}
+
+fn advance(t: &[u8], l: &mut [u8]) -> u64 {
+    let (e, n, c) = (get(l, 3), get(l, 4), get(l, 5));
+    let [_, start, len, _] = record(t, e);
+    let k = 512 + 2 * (start + c) as usize;
+    if execute(l, get(t, k) / 256, get(t, k) as usize % 256, get(t, k + 1)).is_none() {
+        return 14;
+    }
+    if c + 1 < len {
+        put(l, 5, c + 1);
+        return 1;
+    }
+    put(l, 2, 0);
+    said(3, n, e)
+}
+
+fn step(t: &[u8], l: &mut [u8]) -> u64 {
+    let waiting = get(l, 1) as usize;
+    let runs = get(l, 2) != 0;
+    let ahead = |i: usize, b: usize| {
+        let (p, q) = (record(t, get(l, 9 + 2 * i))[0], record(t, get(l, 9 + 2 * b))[0]);
+        p > q || p == q && get(l, 8 + 2 * i) < get(l, 8 + 2 * b)
+    };
+    let best = (0..waiting).fold(0, |b, i| if ahead(i, b) { i } else { b });
+    let (n, e) = if waiting > 0 { (get(l, 8 + 2 * best), get(l, 9 + 2 * best)) } else { (0, 0) };
+    if runs && waiting > 0 && !masked(t, l) && record(t, e)[0] > record(t, get(l, 3))[0] {
+        let (old_n, old_e) = (get(l, 4), get(l, 3));
+        put(l, 8 + 2 * best, old_n);
+        put(l, 9 + 2 * best, old_e);
+        run(l, n, e);
+        return said(4, n, e);
+    }
+    if runs {
+        return advance(t, l);
+    }
+    if waiting == 0 {
+        return 0;
+    }
+    let (last_n, last_e) = (get(l, 6 + 2 * waiting), get(l, 7 + 2 * waiting));
+    put(l, 8 + 2 * best, last_n);
+    put(l, 9 + 2 * best, last_e);
+    put(l, 1, waiting as u32 - 1);
+    run(l, n, e);
+    said(2, n, e)
+}
+
+pub fn call(t: &[u8], l: &mut [u8], c: Call) -> u64 {
+    if foreign(t, l) {
+        return 14;
+    }
+    match c {
+        Call::Arrive(e) if e >= get(t, 0) => 15,
+        Call::Arrive(_) if get(l, 1) + (get(l, 2) != 0) as u32 >= 64 => 16,
+        Call::Arrive(_) if get(l, 0) >= 1_000_000 => 17,
+        Call::Arrive(e) => {
+            let (n, k) = (get(l, 1), get(l, 0));
+            put(l, 8 + 2 * n as usize, k);
+            put(l, 9 + 2 * n as usize, e);
+            put(l, 0, k + 1);
+            put(l, 1, n + 1);
+            0
+        }
+        Call::Step => step(t, l),
+        Call::Board(i) if i >= get(t, 1) => 18,
+        Call::Board(_) if copying_back(t, l) => 19,
+        Call::Board(i) => (1 << 32) + get(l, 136 + i as usize) as u64,
+    }
+}
