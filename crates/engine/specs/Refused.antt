@@ -10,8 +10,8 @@ use lib.Dec.{ltb, leb, eqb}
 use lib.ListN.{length}
 use Rattle.base.specs.Basics.{pick}
 use Rattle.base.specs.Tools.{by-test}
-use Rattle.round.specs.Layout.{eventCount, eventWord, taken, waitingCount, runningFlag, runningEvent, runningNumber, position, depth, numberAt, eventAt, tableFits, ours}
-use Rattle.round.specs.Queue.{best, putSlot}
+use Rattle.layout.specs.Layout.{eventCount, eventWord, taken, waitingCount, runningFlag, runningEvent, runningNumber, position, depth, numberAt, eventAt, tableFits, ours}
+use Rattle.queue.specs.Queue.{best, putSlot}
 use Rattle.round.specs.Start.{Result, startOn, freshBytes}
 use Rattle.instruction.specs.Instruction.{allowed, perform}
 use Rattle.requests.specs.Requests.{admit, full, arriveWith, arriveIn, arriveOn, masked}

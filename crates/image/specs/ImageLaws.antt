@@ -16,7 +16,7 @@ use Rattle.language.specs.Dependence.{size, events}
 use Rattle.language.specs.Order.{upTo}
 use Rattle.language.specs.Code.{Instr, off, code, join, sum, members}
 use Rattle.semantics.specs.Meaning.{at, fresh}
-use Rattle.round.specs.Layout.{eventWord, codeFits, codesFit, tableWith, tableFits}
+use Rattle.layout.specs.Layout.{eventWord, codeFits, codesFit, tableWith, tableFits}
 use Rattle.image.specs.Image.{operation, constant, codeWords, allCode, startOf, eventRecord, padded, imageWords, putWords, tableOf}
 
 -- ---- lists

@@ -5,8 +5,8 @@ use mathlib.Core.Logic.{_≢_}
 use mathlib.Core.List.{List}
 use native.Mathlib.Omega.{arith}
 use Rattle.word.specs.Word.{get}
-use Rattle.round.specs.Layout.{eventWord}
-use Rattle.round.specs.Bounds.{Bounds}
+use Rattle.layout.specs.Layout.{eventWord}
+use Rattle.layout.specs.Bounds.{Bounds}
 
 pub in-code : {t l : List ℕ} {e c a : ℕ} → Bounds t l → get l 2 ≢ 0 → e ≡ get l 3 → c ≡ get l 5 → a ≡ eventWord t e 1 → a + c < 4096
 in-code {t} {l} {e} {c} {a} b n p q r =

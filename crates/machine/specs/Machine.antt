@@ -6,8 +6,8 @@ use mathlib.Core.List.{List}
 use lib.Dec.{ltb, eqb}
 use Rattle.base.specs.Basics.{pick}
 use Rattle.word.specs.Word.{get, put}
-use Rattle.round.specs.Layout.{eventWord, waitingCount, runningFlag, runningEvent, runningNumber, position, depth, numberAt, eventAt, ours}
-use Rattle.round.specs.Queue.{best, putSlot}
+use Rattle.layout.specs.Layout.{eventWord, waitingCount, runningFlag, runningEvent, runningNumber, position, depth, numberAt, eventAt, ours}
+use Rattle.queue.specs.Queue.{best, putSlot}
 use Rattle.round.specs.Start.{Result}
 use Rattle.instruction.specs.Instruction.{allowed, perform}
 use Rattle.requests.specs.Requests.{masked}

@@ -4,9 +4,9 @@ ghost use mathlib.Core.Logic.{_≢_};
 ghost use Prim.Native.Nat.{_-_, _≤_, _<_};
 ghost use lib.ListN.{length};
 ghost use Rattle.word.specs.Word.{get};
-ghost use Rattle.round.specs.Bounds.{Bounds};
+ghost use Rattle.layout.specs.Bounds.{Bounds};
 ghost use Rattle.round.specs.Start.{result};
-ghost use Rattle.round.specs.Queue.{best};
+ghost use Rattle.queue.specs.Queue.{best};
 ghost use Rattle.machine.specs.Machine.{said, run, startAt, preemptAt, countOn, executeOn, executeAt, advance, meet, contest, running, resting, stepWith, stepIn, stepOn};
 
 // The answer of kind k about arrival n of event e.
@@ -37,7 +37,7 @@ fn start_at(l: &mut [u8], b: usize, m: usize) -> u64
     let e = word::get_word(l, 9 + b * 2);
     let last_n = word::get_word(l, 8 + m * 2);
     let last_e = word::get_word(l, 9 + m * 2);
-    round::put_slot(l, b, last_n, last_e);
+    queue::put_slot(l, b, last_n, last_e);
     word::put_word(l, 1, m as u32);
     run_on(l, n, e);
     said_of(2, n, e)
@@ -52,7 +52,7 @@ fn preempt_at(l: &mut [u8], b: usize) -> u64
     let e = word::get_word(l, 9 + b * 2);
     let old_n = word::get_word(l, 4);
     let old_e = word::get_word(l, 3);
-    round::put_slot(l, b, old_n, old_e);
+    queue::put_slot(l, b, old_n, old_e);
     run_on(l, n, e);
     said_of(4, n, e)
 }
@@ -103,8 +103,8 @@ fn advance_on(t: &[u8], l: &mut [u8]) -> u64
     let e = word::get_word(l, 3);
     let n = word::get_word(l, 4);
     let c = word::get_word(l, 5);
-    let start = round::event_word(t, e, 1);
-    let len = round::event_word(t, e, 2);
+    let start = layout::event_word(t, e, 1);
+    let len = layout::event_word(t, e, 2);
     execute_at(t, l, (start + c) as usize, c, e, n, len)
 }
 
@@ -129,9 +129,9 @@ fn contest_on(t: &[u8], l: &mut [u8], b: usize) -> u64
     let e = word::get_word(l, 3);
     let c = word::get_word(l, 5);
     let f = word::get_word(l, 9 + b * 2);
-    let m = requests::is_masked(round::event_word(t, e, 2), round::event_word(t, e, 3), c);
-    let p = round::event_word(t, e, 0);
-    let q = round::event_word(t, f, 0);
+    let m = requests::is_masked(layout::event_word(t, e, 2), layout::event_word(t, e, 3), c);
+    let p = layout::event_word(t, e, 0);
+    let q = layout::event_word(t, f, 0);
     meet_on(t, l, b, m, p, q)
 }
 
@@ -139,7 +139,7 @@ fn challenge(t: &[u8], l: &mut [u8], n: usize) -> u64
     requires { ⌜ Bounds (now t) (now l) × (get (now l) 2 ≢ 0) × (n ≤ 64) ⌝ }
     ensures { λ r. ⌜ result r (now (l .exit)) ≡ contest (now (t .entry)) (now (l .entry)) (best (now (t .entry)) (now (l .entry)) n) ⌝ }
 {
-    let b = round::best_of(t, l, n);
+    let b = queue::best_of(t, l, n);
     contest_on(t, l, b)
 }
 
@@ -158,7 +158,7 @@ fn start_next(t: &[u8], l: &mut [u8], n: usize) -> u64
     requires { ⌜ Bounds (now t) (now l) × (n ≤ 64) × (0 < n) ⌝ }
     ensures { λ r. ⌜ result r (now (l .exit)) ≡ startAt (now (l .entry)) (best (now (t .entry)) (now (l .entry)) n) (n - 1) ⌝ }
 {
-    let b = round::best_of(t, l, n);
+    let b = queue::best_of(t, l, n);
     start_at(l, b, n - 1)
 }
 
@@ -196,7 +196,7 @@ fn step_in(t: &[u8], l: &mut [u8]) -> u64
 pub fn step_at(t: &[u8], l: &mut [u8]) -> u64
     ensures { λ r. ⌜ result r (now (l .exit)) ≡ stepOn (now (t .entry)) (now (l .entry)) ⌝ }
 {
-    if round::is_ours(t, l) {
+    if layout::is_ours(t, l) {
         return step_in(t, l);
     }
     14

@@ -28,8 +28,8 @@ use Rattle.model.specs.Choice.{numbers, perm-rest, Leads, leads-trans, before-s
 use Rattle.model.specs.Reached.{Fine, Reached, back-perm}
 use Rattle.image.specs.Image.{operation, constant}
 use Rattle.image.specs.ImageLaws.{Says}
-use Rattle.round.specs.Layout.{eventWord, numberAt, eventAt, slotsFit, runningFits, roundWith, roundIn, roundFits, ours}
-use Rattle.round.specs.Queue.{ahead, either, better, best, putSlot}
+use Rattle.layout.specs.Layout.{eventWord, numberAt, eventAt, slotsFit, runningFits, roundWith, roundIn, roundFits, ours}
+use Rattle.queue.specs.Queue.{ahead, either, better, best, putSlot}
 use Rattle.instruction.specs.Instruction.{perform}
 use Rattle.requests.specs.Requests.{full, arriveWith, arriveIn, arriveOn, copyingBack, masked, settling, boardWith, boardIn, boardOn}
 use Rattle.machine.specs.Machine as machine

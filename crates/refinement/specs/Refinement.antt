@@ -11,7 +11,7 @@ use Rattle.language.specs.Syntax.{Program}
 use Rattle.language.specs.Dependence.{size}
 use Rattle.execution.specs.Execution.{Values}
 use Rattle.model.specs.Model.{Arrival, arrival, Running, rest, busy, Engine, engine, Call, arrive, step, board, Answer, refused, takenIn, shows, idle, ran, started, preempted, committed, run, answers}
-use Rattle.round.specs.Layout.{taken, waitingCount, runningFlag, runningEvent, runningNumber, position, depth, numberAt, eventAt}
+use Rattle.layout.specs.Layout.{taken, waitingCount, runningFlag, runningEvent, runningNumber, position, depth, numberAt, eventAt}
 use Rattle.round.specs.Start.{Result}
 use Rattle.requests.specs.Requests.{arriveOn, boardOn}
 use Rattle.machine.specs.Machine.{said, stepOn}

@@ -14,7 +14,7 @@ use Rattle.word.specs.Laws.{long}
 use Rattle.execution.specs.Execution.{Values, emptied}
 use Rattle.model.specs.Model.{Arrival, arrival, Running, rest, busy, Engine, engine, queue, Outcome}
 use Rattle.model.specs.Choice.{perm-length}
-use Rattle.round.specs.Queue.{putSlot}
+use Rattle.queue.specs.Queue.{putSlot}
 use Rattle.round.specs.Start.{Result}
 use Rattle.requests.specs.Requests.{admit}
 use Rattle.machine.specs.Machine.{run}

@@ -15,8 +15,8 @@ use Rattle.base.specs.Basics.{pick}
 use Rattle.base.specs.Tools.{split}
 use Rattle.word.specs.Word.{get, put}
 use Rattle.word.specs.Laws.{long, length-put, long-put, get-put, get-other, get-same}
-use Rattle.round.specs.Layout.{numberAt, eventAt}
-use Rattle.round.specs.Queue.{putSlot}
+use Rattle.layout.specs.Layout.{numberAt, eventAt}
+use Rattle.queue.specs.Queue.{putSlot}
 use Rattle.machine.specs.Machine.{run}
 use Rattle.model.specs.Model.{Arrival, arrival}
 use Rattle.refinement.specs.Refinement.{slots, Kept}

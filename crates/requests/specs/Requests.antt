@@ -6,8 +6,8 @@ use mathlib.Core.List.{List}
 use lib.Dec.{leb, eqb}
 use Rattle.base.specs.Basics.{pick}
 use Rattle.word.specs.Word.{get, put}
-use Rattle.round.specs.Layout.{eventCount, behaviourCount, eventWord, taken, waitingCount, runningFlag, runningEvent, position, ours}
-use Rattle.round.specs.Queue.{putSlot}
+use Rattle.layout.specs.Layout.{eventCount, behaviourCount, eventWord, taken, waitingCount, runningFlag, runningEvent, position, ours}
+use Rattle.queue.specs.Queue.{putSlot}
 use Rattle.round.specs.Start.{Result}
 
 -- ---- arrivals. "Arrival: 14, 15, 16, 17." The answer is 0, or the refusal's number.

@@ -4,7 +4,7 @@ ghost use mathlib.Core.Path.{_≡_};
 ghost use mathlib.Core.Bool.{false};
 ghost use Prim.Native.Nat.{_≤_, _<_};
 ghost use lib.ListN.{length};
-ghost use Rattle.round.specs.Bounds.{Bounds};
+ghost use Rattle.layout.specs.Bounds.{Bounds};
 ghost use Rattle.round.specs.Start.{result};
 ghost use Rattle.requests.specs.Requests.{admit, full, arriveWith, arriveIn, arriveOn, copyingBack, masked, settling, boardWith, boardIn, boardOn, settlingIn, settlingOn};
 
@@ -14,7 +14,7 @@ fn admit_on(l: &mut [u8], e: u32, n: u32, k: u32)
     requires { ⌜ (2048 ≤ length (now l)) × (n < 64) × (k < 1000000) ⌝ }
     ensures { λ _. ⌜ now (l .exit) ≡ admit (now (l .entry)) e n k ⌝ }
 {
-    round::put_slot(l, n as usize, k, e);
+    queue::put_slot(l, n as usize, k, e);
     word::put_word(l, 0, k + 1);
     word::put_word(l, 1, n + 1);
 }
@@ -64,7 +64,7 @@ fn arrive_in(t: &[u8], l: &mut [u8], e: u32) -> u32
 pub fn arrive_at(t: &[u8], l: &mut [u8], e: u32) -> u32
     ensures { λ r. ⌜ result r (now (l .exit)) ≡ arriveOn (now (t .entry)) (now (l .entry)) e ⌝ }
 {
-    if round::is_ours(t, l) {
+    if layout::is_ours(t, l) {
         return arrive_in(t, l, e);
     }
     14
@@ -126,7 +126,12 @@ fn board_in(t: &[u8], l: &[u8], i: u32) -> u64
     let f = word::get_word(l, 2);
     let e = word::get_word(l, 3);
     let c = word::get_word(l, 5);
-    let s = is_settling(f, round::event_word(t, e, 2), round::event_word(t, e, 3), c);
+    let s = is_settling(
+        f,
+        layout::event_word(t, e, 2),
+        layout::event_word(t, e, 3),
+        c,
+    );
     board_with(l, i, n, s)
 }
 
@@ -134,7 +139,7 @@ fn board_in(t: &[u8], l: &[u8], i: u32) -> u64
 pub fn board_at(t: &[u8], l: &[u8], i: u32) -> u64
     ensures { λ r. ⌜ r ≡ boardOn (now (t .entry)) (now (l .entry)) i ⌝ }
 {
-    if round::is_ours(t, l) {
+    if layout::is_ours(t, l) {
         return board_in(t, l, i);
     }
     14
@@ -147,14 +152,19 @@ fn settling_in(t: &[u8], l: &[u8]) -> bool
     let f = word::get_word(l, 2);
     let e = word::get_word(l, 3);
     let c = word::get_word(l, 5);
-    is_settling(f, round::event_word(t, e, 2), round::event_word(t, e, 3), c)
+    is_settling(
+        f,
+        layout::event_word(t, e, 2),
+        layout::event_word(t, e, 3),
+        c,
+    )
 }
 
 // Whether a copy-back is under way; false where table or round is foreign.
 pub fn settling_at(t: &[u8], l: &[u8]) -> bool
     ensures { λ r. ⌜ r ≡ settlingOn (now (t .entry)) (now (l .entry)) ⌝ }
 {
-    if round::is_ours(t, l) {
+    if layout::is_ours(t, l) {
         return settling_in(t, l);
     }
     false

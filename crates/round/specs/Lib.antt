@@ -1,5 +1,1 @@
-pub mod Layout
-pub mod Bounds
-pub mod Queue
 pub mod Start
-pub mod BoundsLaws

@@ -6,7 +6,7 @@ use lib.Dec.{ltb}
 use Rattle.base.specs.Basics.{pick}
 use Rattle.word.specs.Word.{get, put}
 use Rattle.round.specs.declared.Round.{Round}
-use Rattle.round.specs.Layout.{tableFits}
+use Rattle.layout.specs.Layout.{tableFits}
 
 -- a call's answer, and the round's bytes after it
 abbrev pub Result : Type 0

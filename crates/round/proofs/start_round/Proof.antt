@@ -4,7 +4,7 @@ use Rattle.base.specs.Pick.{code}
 use Rattle.round.specs.declared.Round.{Round}
 use Rattle.round.specs.Start.{freshOf, image, freshBytes, startOn}
 use borrow.Author.Needs.{needs}
-use Rattle.round.proofs.Laws.{not-true, not-false}
+use borrow.Author.Tests.{not-true, not-false}
 use Rattle.round.proofs.start_round.Statement.{statement}
 use Rattle.round.proofs.start_round.Tie as tie
 
