@@ -50,7 +50,7 @@ fn print_board(table: &[u8], round: &[u8]) {
 
 // "During copy-back a show prints the one line R 19, with or without behaviours."
 fn show(table: &[u8], round: &[u8]) {
-    if requests::settling_at(table, round) {
+    if board::settling_at(table, round) {
         refuse(19);
         return;
     }

@@ -9,7 +9,8 @@ use borrow.Author.Tests.{eq-eqb, ne-eqb}
 use Rattle.word.specs.Word.{getAt}
 use Rattle.model.specs.Model.{Call}
 use Rattle.round.specs.Start.{Result, result}
-use Rattle.requests.specs.Requests.{arriveOn, boardOn}
+use Rattle.arrivals.specs.Arrivals.{arriveOn}
+use Rattle.board.specs.Board.{boardOn}
 use Rattle.machine.specs.Machine.{stepOn}
 use Rattle.refinement.specs.Refinement.{callOn, answersOn, roundAfter}
 use Rattle.engine.specs.Replay.{callOf, callsFrom, putAnswer, putAnswers}

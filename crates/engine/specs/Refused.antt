@@ -14,7 +14,8 @@ use Rattle.layout.specs.Layout.{eventCount, eventWord, taken, waitingCount, run
 use Rattle.queue.specs.Queue.{best, putSlot}
 use Rattle.round.specs.Start.{Result, startOn, freshBytes}
 use Rattle.instruction.specs.Instruction.{allowed, perform}
-use Rattle.requests.specs.Requests.{admit, full, arriveWith, arriveIn, arriveOn, masked}
+use Rattle.arrivals.specs.Arrivals.{admit, full, arriveWith, arriveIn, arriveOn}
+use Rattle.board.specs.Board.{masked}
 use Rattle.machine.specs.Machine.{said, run, startAt, preemptAt, countOn, executeOn, executeAt, advance, meet, contest, running, resting, stepWith, stepIn, stepOn}
 
 -- refused by a number that is not 0, with the round as it was

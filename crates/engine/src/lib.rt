@@ -5,7 +5,8 @@ ghost use Prim.Native.Nat.{_+_, _*_, _≤_, _<_};
 ghost use lib.ListN.{length};
 ghost use Rattle.compiler.specs.Verdict.{compiled, compileOn};
 ghost use Rattle.round.specs.Start.{result, startOn};
-ghost use Rattle.requests.specs.Requests.{arriveOn, boardOn};
+ghost use Rattle.arrivals.specs.Arrivals.{arriveOn};
+ghost use Rattle.board.specs.Board.{boardOn};
 ghost use Rattle.machine.specs.Machine.{stepOn};
 ghost use Rattle.refinement.specs.Refinement.{callOn, answersOn, roundAfter};
 ghost use Rattle.engine.specs.Replay.{callOf, callsFrom, putAnswer, putAnswers, callCount};
@@ -31,7 +32,7 @@ pub extern "C" fn start(table: &[u8], round: &mut [u8]) -> u32
 pub extern "C" fn arrive(table: &[u8], round: &mut [u8], event: u32) -> u32
     ensures { λ r. ⌜ result r (now (round .exit)) ≡ arriveOn (now (table .entry)) (now (round .entry)) event ⌝ }
 {
-    requests::arrive_at(table, round, event)
+    arrivals::arrive_at(table, round, event)
 }
 
 // One step. 0 idle, 1 one instruction, 2 a start, 3 a commit, 4 a start that preempts, with event and arrival number; or 14.
@@ -47,7 +48,7 @@ pub extern "C" fn step(table: &[u8], round: &mut [u8]) -> u64
 pub extern "C" fn board(table: &[u8], round: &[u8], behaviour: u32) -> u64
     ensures { λ r. ⌜ r ≡ boardOn (now (table .entry)) (now (round .entry)) behaviour ⌝ }
 {
-    requests::board_at(table, round, behaviour)
+    board::board_at(table, round, behaviour)
 }
 
 // ---- a recorded list of calls

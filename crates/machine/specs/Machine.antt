@@ -10,7 +10,7 @@ use Rattle.layout.specs.Layout.{eventWord, waitingCount, runningFlag, runningEv
 use Rattle.queue.specs.Queue.{best, putSlot}
 use Rattle.round.specs.Start.{Result}
 use Rattle.instruction.specs.Instruction.{allowed, perform}
-use Rattle.requests.specs.Requests.{masked}
+use Rattle.board.specs.Board.{masked}
 
 -- The answer: 0 idle; 1 one instruction; 2 the next starts; 3 a commit; 4 the next starts, and the running one goes back; each of 2, 3 and 4 with
 -- event number and arrival number; 14 foreign.

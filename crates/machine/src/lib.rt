@@ -129,7 +129,7 @@ fn contest_on(t: &[u8], l: &mut [u8], b: usize) -> u64
     let e = word::get_word(l, 3);
     let c = word::get_word(l, 5);
     let f = word::get_word(l, 9 + b * 2);
-    let m = requests::is_masked(layout::event_word(t, e, 2), layout::event_word(t, e, 3), c);
+    let m = board::is_masked(layout::event_word(t, e, 2), layout::event_word(t, e, 3), c);
     let p = layout::event_word(t, e, 0);
     let q = layout::event_word(t, f, 0);
     meet_on(t, l, b, m, p, q)

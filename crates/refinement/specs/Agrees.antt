@@ -31,7 +31,8 @@ use Rattle.image.specs.ImageLaws.{Says}
 use Rattle.layout.specs.Layout.{eventWord, numberAt, eventAt, slotsFit, runningFits, roundWith, roundIn, roundFits, ours}
 use Rattle.queue.specs.Queue.{ahead, either, better, best, putSlot}
 use Rattle.instruction.specs.Instruction.{perform}
-use Rattle.requests.specs.Requests.{full, arriveWith, arriveIn, arriveOn, copyingBack, masked, settling, boardWith, boardIn, boardOn}
+use Rattle.arrivals.specs.Arrivals.{full, arriveWith, arriveIn, arriveOn}
+use Rattle.board.specs.Board.{copyingBack, masked, settling, boardWith, boardIn, boardOn}
 use Rattle.machine.specs.Machine as machine
 use Rattle.machine.specs.Machine.{said, startAt, preemptAt, countOn, executeOn, executeAt, meet, contest, running, resting, stepWith, stepIn, stepOn}
 use Rattle.refinement.specs.Refinement.{coded, slots, callOn}

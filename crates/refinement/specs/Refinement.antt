@@ -13,7 +13,8 @@ use Rattle.execution.specs.Execution.{Values}
 use Rattle.model.specs.Model.{Arrival, arrival, Running, rest, busy, Engine, engine, Call, arrive, step, board, Answer, refused, takenIn, shows, idle, ran, started, preempted, committed, run, answers}
 use Rattle.layout.specs.Layout.{taken, waitingCount, runningFlag, runningEvent, runningNumber, position, depth, numberAt, eventAt}
 use Rattle.round.specs.Start.{Result}
-use Rattle.requests.specs.Requests.{arriveOn, boardOn}
+use Rattle.arrivals.specs.Arrivals.{arriveOn}
+use Rattle.board.specs.Board.{boardOn}
 use Rattle.machine.specs.Machine.{said, stepOn}
 
 -- an answer as the number that the call gives

@@ -16,7 +16,7 @@ use Rattle.model.specs.Model.{Arrival, arrival, Running, rest, busy, Engine, en
 use Rattle.model.specs.Choice.{perm-length}
 use Rattle.queue.specs.Queue.{putSlot}
 use Rattle.round.specs.Start.{Result}
-use Rattle.requests.specs.Requests.{admit}
+use Rattle.arrivals.specs.Arrivals.{admit}
 use Rattle.machine.specs.Machine.{run}
 use Rattle.refinement.specs.Refinement.{coded, slots, Kept}
 use Rattle.refinement.specs.Slots.{slot, slots-length, slots-push, reads, kept-all, kept-put, kept-slot}

@@ -1,0 +1,20 @@
+-- Each return is one branch of the definition; where the queue is not full there is a free slot.
+use Prim.Native.Nat.{_≤_}
+use Rattle.base.specs.Pick.{code}
+use native.Mathlib.Omega.{arith}
+use Rattle.arrivals.specs.Arrivals.{arriveWith}
+use borrow.Author.Needs.{needs}
+use Rattle.arrivals.proofs.arrive_with.Statement.{statement}
+use Rattle.arrivals.proofs.arrive_with.Tie as tie
+
+pub arrive-with-spec : {M : Type 1} → statement M
+unfolding arriveWith
+arrive-with-spec =
+    tie.close
+    (tie.spec
+    (λ c. let h : c .before .before .args .known ≤ c .before .before .args .e = omega arith in search code depth 12)
+    (λ c. search code depth 12)
+    (λ c. let h : 1000000 ≤ c .before .before .before .before .args .k = omega arith in search code depth 12)
+    (λ c κs. let h = c .before .before .before .before .before .pre .1 (c .before .before .if2 .left) in omega arith)
+    (λ c. search needs)
+    (λ c. rw (c .before .before .admit-on .ensures) (search code depth 12)))

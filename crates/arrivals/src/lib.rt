@@ -1,0 +1,69 @@
+// Arrivals on the round's bytes, refused by 14 where table or round is foreign.
+use round::Round;
+ghost use mathlib.Core.Path.{_≡_};
+ghost use mathlib.Core.Bool.{false};
+ghost use Prim.Native.Nat.{_≤_, _<_};
+ghost use lib.ListN.{length};
+ghost use Rattle.layout.specs.Bounds.{Bounds};
+ghost use Rattle.round.specs.Start.{result};
+ghost use Rattle.arrivals.specs.Arrivals.{admit, full, arriveWith, arriveIn, arriveOn};
+
+fn admit_on(l: &mut [u8], e: u32, n: u32, k: u32)
+    requires { ⌜ (2048 ≤ length (now l)) × (n < 64) × (k < 1000000) ⌝ }
+    ensures { λ _. ⌜ now (l .exit) ≡ admit (now (l .entry)) e n k ⌝ }
+{
+    queue::put_slot(l, n as usize, k, e);
+    word::put_word(l, 0, k + 1);
+    word::put_word(l, 1, n + 1);
+}
+
+// Whether the queue is full: n wait, and one runs where f is not 0.
+fn is_full(n: u32, f: u32) -> bool
+    ensures { λ r. ⌜ r ≡ full n f ⌝ }
+    ensures { λ r. ⌜ (r ≡ false → n < 64) ⌝ }
+{
+    if f == 0 {
+        return n >= Round::QUEUE;
+    }
+    n >= Round::QUEUE - 1
+}
+
+// Event e arrives; `known` are declared, n wait, h: the queue is full, k are taken in.
+fn arrive_with(l: &mut [u8], e: u32, known: u32, n: u32, h: bool, k: u32) -> u32
+    requires { ⌜ 2048 ≤ length (now l) ⌝ }
+    requires { ⌜ (h ≡ false → n < 64) ⌝ }
+    ensures { λ r. ⌜ result r (now (l .exit)) ≡ arriveWith (now (l .entry)) e known n h k ⌝ }
+{
+    if known <= e {
+        return 15;
+    }
+    if h {
+        return 16;
+    }
+    if k >= Round::ARRIVALS {
+        return 17;
+    }
+    admit_on(l, e, n, k);
+    0
+}
+
+fn arrive_in(t: &[u8], l: &mut [u8], e: u32) -> u32
+    requires { ⌜ Bounds (now t) (now l) ⌝ }
+    ensures { λ r. ⌜ result r (now (l .exit)) ≡ arriveIn (now (t .entry)) (now (l .entry)) e ⌝ }
+{
+    let known = word::get_word(t, 0);
+    let n = word::get_word(l, 1);
+    let h = is_full(n, word::get_word(l, 2));
+    let k = word::get_word(l, 0);
+    arrive_with(l, e, known, n, h, k)
+}
+
+// An arrival of event e. 0 where it is taken in, or the refusal's number: 14, 15, 16 or 17.
+pub fn arrive_at(t: &[u8], l: &mut [u8], e: u32) -> u32
+    ensures { λ r. ⌜ result r (now (l .exit)) ≡ arriveOn (now (t .entry)) (now (l .entry)) e ⌝ }
+{
+    if layout::is_ours(t, l) {
+        return arrive_in(t, l, e);
+    }
+    14
+}

@@ -1,0 +1,20 @@
+-- The reads are the definition's, by their contracts.
+use Rattle.board.specs.Board.{boardIn}
+use borrow.Author.Needs.{needs}
+use Rattle.board.proofs.board_in.Statement.{statement}
+use Rattle.board.proofs.board_in.Tie as tie
+
+pub board-in-spec : {M : Type 1} → statement M
+unfolding boardIn
+board-in-spec =
+    tie.close
+    (tie.spec
+    (λ c κs. search needs)
+    (λ c κs. search needs)
+    (λ c κs. search needs)
+    (λ c κs. search needs)
+    (λ c κs. search needs)
+    (λ c κs. search needs)
+    (λ c κs. search needs)
+    (λ c κs. search needs)
+    (λ c. cc (c .before .before .before .before .before .before .before .get-word .ensures, c .before .before .before .before .before .before .get-word2 .ensures, c .before .before .before .before .before .get-word3 .ensures, c .before .before .before .before .get-word4 .ensures, c .before .before .before .event-word .ensures, c .before .before .event-word2 .ensures, c .before .is-settling .ensures, c .board-with .ensures)))
