@@ -16,7 +16,8 @@ use Rattle.round.specs.Start.{Result, startOn, freshBytes}
 use Rattle.instruction.specs.Instruction.{allowed, perform}
 use Rattle.arrivals.specs.Arrivals.{admit, full, arriveWith, arriveIn, arriveOn}
 use Rattle.board.specs.Board.{masked}
-use Rattle.machine.specs.Machine.{said, run, startAt, preemptAt, countOn, executeOn, executeAt, advance, meet, contest, running, resting, stepWith, stepIn, stepOn}
+use Rattle.actions.specs.Actions.{said, run, startAt, preemptAt, countOn, executeOn, executeAt, advance}
+use Rattle.machine.specs.Machine.{meet, contest, running, resting, stepWith, stepIn, stepOn}
 
 -- refused by a number that is not 0, with the round as it was
 abbrev Kept : List ℕ → Result → Type 0

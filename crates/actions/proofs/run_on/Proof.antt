@@ -1,8 +1,8 @@
 -- The five writes are the definition's, by their contracts.
-use Rattle.machine.specs.Machine.{run}
+use Rattle.actions.specs.Actions.{run}
 use borrow.Author.Needs.{needs}
-use Rattle.machine.proofs.run_on.Statement.{statement}
-use Rattle.machine.proofs.run_on.Tie as tie
+use Rattle.actions.proofs.run_on.Statement.{statement}
+use Rattle.actions.proofs.run_on.Tie as tie
 
 pub run-on-spec : {M : Type 1} → statement M
 unfolding run

@@ -1,9 +1,9 @@
 -- Each return is one branch of the definition, with its write.
 use Rattle.base.specs.Pick.{code}
-use Rattle.machine.specs.Machine.{countOn}
+use Rattle.actions.specs.Actions.{countOn}
 use borrow.Author.Needs.{needs}
-use Rattle.machine.proofs.count_on.Statement.{statement}
-use Rattle.machine.proofs.count_on.Tie as tie
+use Rattle.actions.proofs.count_on.Statement.{statement}
+use Rattle.actions.proofs.count_on.Tie as tie
 
 pub count-on-spec : {M : Type 1} → statement M
 unfolding countOn
