@@ -1,7 +1,6 @@
 pub mod Verdict
 pub mod JudgeLaws
 pub mod AcceptedExactly
-pub mod TableWords
-pub mod TableLaws
-pub mod TableIs
+pub mod Judged
+pub mod DraftJudged
 pub mod ReadIs

@@ -13,7 +13,7 @@ use Rattle.reader.specs.declared.Draft.the-variants.{Ready, Broken}
 use Rattle.reader.specs.Whole.{finished, readOn}
 use Rattle.drafting.specs.Drafts.{empty, drafted-as}
 use Rattle.compiler.specs.Verdict.{compiled, judgeRead}
-use Rattle.compiler.specs.TableWords.{numberOf, Judged}
+use Rattle.compiler.specs.Judged.{Judged, numberOf}
 
 -- the bytes of a slice
 pub all-bytes : (s : List ℕ) → ((i : ℕ) → i < length s → getD s i 0 < 256) → All (λ b. b < 256) s

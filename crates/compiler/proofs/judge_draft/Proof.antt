@@ -5,7 +5,8 @@ use borrow.Author.Needs.{needs}
 use borrow.Author.Tests.{not-true, not-false}
 use Rattle.draft.specs.DraftLaws.{draft-long, draft-events, draft-behaviours}
 use Rattle.analysis.specs.DraftChecks.{draft-inside}
-use Rattle.compiler.specs.TableIs.{draft-planned, draft-unknown, draft-circular, draft-overlong, draft-passes}
+use Rattle.table.specs.TableIs.{draft-planned}
+use Rattle.compiler.specs.DraftJudged.{draft-unknown, draft-circular, draft-overlong, draft-passes}
 use Rattle.compiler.proofs.judge_draft.Statement.{statement}
 use Rattle.compiler.proofs.judge_draft.Tie as tie
 

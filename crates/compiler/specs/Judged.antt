@@ -1,0 +1,17 @@
+-- What the steps of compile say: the draft judged for its program, and the number of a refusal.
+use Prim.Native.Nat.{ℕ}
+use mathlib.Core.Path.{_≡_}
+use mathlib.Core.List.{List}
+use Rattle.draft.specs.Draft.{DraftOf}
+use Rattle.reader.specs.declared.Draft.{Draft}
+use Rattle.reader.specs.declared.Draft.the-variants.{Ready, Broken}
+use Rattle.compiler.specs.Verdict.{compiled, judge}
+
+-- the answer r and the table t′ are those for whatever program d is the draft of
+pub record Judged (ev bs n : ℕ) (d t : List ℕ) (r : ℕ) (t′ : List ℕ) : Type 0 where
+  pub each-program : (c : DraftOf ev bs n d) → compiled r t′ ≡ judge (c .program) t
+
+-- the number of a refusal
+abbrev pub numberOf : Draft → ℕ
+numberOf (Ready e b n) = 0
+numberOf (Broken k) = k

@@ -1,0 +1,21 @@
+-- `table::write_fresh` meets its contract: the values, and zeros up to word 512. Assumes nothing.
+use mathlib.Core.Path.{refl}
+use native.Mathlib.Omega.{arith}
+use borrow.Author.Needs.{needs}
+use Rattle.table.specs.TableLaws.{planned-inside, fresh-wrote}
+use Rattle.table.proofs.write_fresh.Statement.{statement}
+use Rattle.table.proofs.write_fresh.Tie as tie
+
+pub write-fresh-spec : {M : Type 1} → statement M
+write-fresh-spec =
+    tie.close
+    (tie.spec
+    (λ c. search needs)
+    (λ c κs. let p = c .before .before .before .pre .0 in (p .long, refl, omega (arith, p .few-events), p .few-behaviours, λ i b. planned-inside p _ i b (omega arith)))
+    (λ c. search needs)
+    (λ c κs. search needs)
+    (λ c. search needs)
+    (λ c κs. search needs)
+    (λ c κs. search needs)
+    (λ c. search needs)
+    (λ c. fresh-wrote _ _ _ (c .before .before .before .before .before .before .before .before .before .before .before .before .order-under .ensures) (c .before .before .before .before .before .before .before .before .before .fresh-values .ensures) (search needs) (c .before .before .before .before .before .before .write-values .ensures) (c .before .before .write-zeros .ensures)))

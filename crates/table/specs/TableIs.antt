@@ -1,0 +1,181 @@
+-- The words that the compiler writes for the draft of a program are the program's image: part by part, each by the theorem of the crate that makes it.
+use Prim.Native.Nat.{ℕ, zero, suc, _+_, _*_, _%_, _≤_, _<_}
+use mathlib.Core.Bool.{Bool, true, false, not}
+use mathlib.Core.Path.{_≡_, refl, sym, ap, _∙_}
+use mathlib.Core.List.{List, [], _∷_, _++_, append-assoc, append-nil}
+use native.Mathlib.Omega.{arith}
+use lib.Dec.{eqb}
+use lib.ListN.{length, getD}
+use Rattle.language.specs.Syntax.{Program}
+use Rattle.language.specs.Dependence.{Response, follows, takes, defers, keeps, size, events, response, dependsOn, NoCycle}
+use Rattle.language.specs.Order.{upTo, early, order, metAtOnce, phaseOne}
+use Rattle.language.specs.Grammar.{Fits}
+use Rattle.language.specs.Accepted.{Known, Valid}
+use Rattle.language.specs.Code.{Instr, code, join, sum, members, instructions, allInstructions}
+use Rattle.semantics.specs.Meaning.{fresh}
+use Rattle.semantics.specs.Lists.{upTo-same}
+use Rattle.semantics.specs.OrderLaws.{all-at}
+use Rattle.execution.specs.Sums.{length-join}
+use Rattle.execution.specs.Lengths.{length-counted}
+use Rattle.image.specs.Image.{codeWords, allCode, startOf, eventRecord, padded, imageWords}
+use Rattle.draft.specs.Draft.{entryOf, Drafted, DraftOf}
+use Rattle.draft.specs.DraftLaws.{Entry, entry-of, draft-long, draft-events, draft-behaviours}
+use Rattle.graph.specs.Matrix.{cell}
+use Rattle.graph.specs.OrderIs.{order-same}
+use Rattle.analysis.specs.Checks.{matrixOn, namesKnown, cyclicOn}
+use Rattle.analysis.specs.MatrixAgrees.{matrix-is}
+use Rattle.analysis.specs.CycleDecides.{cell-is, known-decides, cyclic-decides}
+use Rattle.analysis.specs.DraftChecks.{draft-inside, draft-names, draft-cyclic}
+use Rattle.evaluate.specs.FreshIs.{fresh-padded}
+use Rattle.emit.specs.Words.{each, total, countEvent, countMembers}
+use Rattle.emit.specs.ExprWords.{length-codeWords, codeWords-append}
+use Rattle.emit.specs.EventWords.{event-words, count-is, members-is}
+use Rattle.table.specs.TableWords.{markOf, orderUnder, countBefore, recordWords, freshWords, codeOf, tableWords, Planned}
+
+-- ---- one after the other
+
+join-snoc : {A : Type 0} (n : ℕ) (g : ℕ → List A) → join (upTo (suc n) g) ≡ join (upTo n g) ++ g n
+unfolding join upTo
+join-snoc zero g = append-nil (g 0)
+join-snoc (suc n) g = rw (join-snoc n (λ i. g (suc i))) (sym (append-assoc (g 0) (join (upTo n (λ i. g (suc i)))) (g (suc n))))
+
+each-none : (g : ℕ → List ℕ) → [] ≡ join (upTo 0 g)
+unfolding join upTo
+each-none g = refl
+
+each-join : (n : ℕ) (f g : ℕ → List ℕ) → ((i : ℕ) → i < n → f i ≡ g i) → each n f ≡ join (upTo n g)
+unfolding each
+each-join zero f g h = each-none g
+each-join (suc n) f g h = rw (join-snoc n g, each-join n f g (λ i b. h i (omega arith)), h n (omega arith))
+
+code-join : (n : ℕ) (g : ℕ → List Instr) → codeWords (join (upTo n g)) ≡ join (upTo n (λ i. codeWords (g i)))
+unfolding join upTo codeWords
+code-join zero g = refl
+code-join (suc n) g = rw (codeWords-append (g 0) (join (upTo n (λ i. g (suc i)))), code-join n (λ i. g (suc i)))
+
+sum-snoc : (n : ℕ) (g : ℕ → ℕ) → sum (upTo (suc n) g) ≡ sum (upTo n g) + g n
+unfolding sum upTo
+sum-snoc zero g = omega arith
+sum-snoc (suc n) g = omega (arith, sum-snoc n (λ i. g (suc i)))
+
+sum-none : (g : ℕ → ℕ) → 0 ≡ sum (upTo 0 g)
+unfolding sum upTo
+sum-none g = refl
+
+total-sum : (n : ℕ) (f g : ℕ → ℕ) → ((i : ℕ) → i < n → f i ≡ g i) → total n f ≡ sum (upTo n g)
+unfolding total
+total-sum zero f g h = sum-none g
+total-sum (suc n) f g h = rw (sum-snoc n g, total-sum n f g (λ i b. h i (omega arith)), h n (omega arith))
+
+-- ---- marks
+
+mark-early : (d : List ℕ) (v : ℕ) (r : Response) → Entry d v r → eqb (markOf v) 0 ≡ early r
+unfolding markOf
+mark-early d v (follows x) h = rw (h .kind-is)
+mark-early d v (takes x) h = rw (h .kind-is)
+mark-early d v (defers x) h = rw (h .kind-is)
+mark-early d v keeps h = rw h
+
+module _ (p : Program) (d : List ℕ) (n : ℕ) (dr : Drafted p d n) (fits : Fits p) (known : Known p) where
+  -- ---- counts
+
+  before-is : (e : ℕ) → e ≤ 32 → countBefore d (size p) e ≡ sum (upTo e (instructions p))
+  unfolding countBefore
+  before-is e b = total-sum e (λ f. countEvent d f (size p)) (instructions p) (λ f h. count-is p d n dr fits known f (omega arith))
+
+  pub all-is : countBefore d (size p) (events p) ≡ allInstructions p
+  unfolding allInstructions
+  all-is = before-is (events p) (fits .few-events)
+
+  module _ (acyclic : NoCycle p) where
+    valid : Valid p
+    valid = record { each = fits .each; known = known; acyclic = acyclic }
+
+    counted : (e : ℕ) → e < events p → instructions p e ≡ length (code p e)
+    counted e h = sym (length-counted p e valid (omega arith))
+
+    length-all : length (allCode p) ≡ allInstructions p
+    unfolding allCode allInstructions
+    length-all =
+        length-join (events p) (code p) ∙ ap sum (upTo-same (events p) (λ e. length (code p e)) (instructions p) (λ e h. sym (counted e h)))
+
+    -- ---- phase one's order
+
+    order-is : (e : ℕ) → e ≤ 32 → orderUnder d e (size p) ≡ phaseOne p e
+    unfolding orderUnder phaseOne metAtOnce
+    order-is e b =
+        let m = matrixOn d e (size p) in
+        let f : ℕ → Bool = λ i. not (eqb (markOf (entryOf d e i)) 0) in
+        let small : size p ≤ 64 = fits .few-behaviours in
+        order-same (size p) (λ i j. cell m i j) (dependsOn p e)
+        (λ i j h k. ap (λ (x : List ℕ). cell x i j) (matrix-is p d n e fits dr b) ∙ cell-is p e i j (omega arith) (omega arith)) (size p) (upTo (size p) f)
+        ∙ ap (order (size p) (dependsOn p e) (size p))
+        (upTo-same (size p) f (λ i. not (early (response p e i)))
+        (λ i h. ap not (mark-early d (entryOf d e i) (response p e i) (entry-of p d n dr e i b h))))
+
+    -- ---- the parts
+
+    record-is : (e : ℕ) → e < events p → recordWords d (size p) e ≡ eventRecord p e
+    unfolding recordWords startOf
+    record-is e h =
+        let few : events p ≤ 32 = fits .few-events in
+        let small = all-at (λ r. r ≤ 15) (p .priorities) e 0 (fits .scale) h in
+        let priority : getD d (4224 + e) 0 % 4294967296 ≡ getD (p .priorities) e 0 = rw (dr .priorities e h) (omega (arith, small)) in
+        let start : countBefore d (size p) e ≡ sum (upTo e (λ f. length (code p f))) =
+        before-is e (omega arith) ∙ ap sum (upTo-same e (instructions p) (λ f. length (code p f)) (λ f b. counted f (omega arith))) in
+        let count : countEvent d e (size p) ≡ length (code p e) = count-is p d n dr fits known e (omega arith) ∙ counted e h in
+        let copies : countMembers d e (size p) ≡ members p e = members-is p d n dr fits known e (omega arith) in
+        λ i. priority i ∷ start i ∷ count i ∷ copies i ∷ []
+
+    records-are : each (events p) (recordWords d (size p)) ≡ join (upTo (events p) (eventRecord p))
+    records-are = each-join (events p) (recordWords d (size p)) (eventRecord p) record-is
+
+    code-is : (e : ℕ) → e < events p → codeOf d (size p) e ≡ codeWords (code p e)
+    unfolding codeOf
+    code-is e h =
+        let b : e ≤ 32 = omega (arith, fits .few-events) in
+        rw (order-is e b) (event-words p d n dr fits known e b)
+
+    codes-are : each (events p) (codeOf d (size p)) ≡ codeWords (allCode p)
+    unfolding allCode
+    codes-are = each-join (events p) (codeOf d (size p)) (λ e. codeWords (code p e)) code-is ∙ sym (code-join (events p) (code p))
+
+    fresh-are : freshWords d (events p) (size p) ≡ padded 376 (fresh p)
+    unfolding freshWords padded
+    fresh-are = rw (order-is (events p) (fits .few-events)) (fresh-padded p d n dr fits valid 376 (omega arith))
+
+    pub table-is : tableWords d (events p) (size p) ≡ imageWords p
+    unfolding tableWords imageWords
+    table-is = rw (records-are, fresh-are, codes-are)
+
+    pub length-code : length (each (events p) (codeOf d (size p))) ≡ 2 * allInstructions p
+    length-code = ap length codes-are ∙ length-codeWords (allCode p) ∙ ap (λ (x : ℕ). 2 * x) length-all
+
+-- ---- a draft that passed the checks
+
+module _ {ev bs n : ℕ} {d : List ℕ} (c : DraftOf ev bs n d) where
+  named : namesKnown d bs n ≡ true → Known (c .program)
+  named k = known-decides (c .program) .0 (sym (draft-names c) ∙ k)
+
+  uncycled : namesKnown d bs n ≡ true → cyclicOn d ev bs ≡ false → NoCycle (c .program)
+  uncycled k a = cyclic-decides (c .program) (named k) (c .fits .few-behaviours) .0 (sym (draft-cyclic c) ∙ a)
+
+  pub count-all-is : namesKnown d bs n ≡ true → countBefore d bs ev ≡ allInstructions (c .program)
+  count-all-is k = rw (c .size-is, c .events-are) (all-is (c .program) d n (c .drafted) (c .fits) (named k))
+
+  -- what the code that writes the table asks for
+  pub draft-planned : namesKnown d bs n ≡ true → cyclicOn d ev bs ≡ false → countBefore d bs ev ≤ 4096 → Planned d ev bs
+  draft-planned k a h = record {
+    long = draft-long c;
+    few-events = draft-events c;
+    few-behaviours = draft-behaviours c;
+    inside = draft-inside c;
+    short = h;
+    code-fits =
+        let l : length (each ev (codeOf d bs)) ≡ 2 * allInstructions (c .program) =
+        rw (c .size-is, c .events-are) (length-code (c .program) d n (c .drafted) (c .fits) (named k) (uncycled k a)) in
+        omega (arith, l, count-all-is k);
+  }
+
+  pub draft-table : namesKnown d bs n ≡ true → cyclicOn d ev bs ≡ false → tableWords d ev bs ≡ imageWords (c .program)
+  draft-table k a = rw (c .size-is, c .events-are) (table-is (c .program) d n (c .drafted) (c .fits) (named k) (uncycled k a))
