@@ -5,6 +5,7 @@ use mathlib.Core.List.{List}
 use lib.Dec.{ltb}
 use Rattle.base.specs.Basics.{pick}
 use Rattle.word.specs.Word.{get, put}
+use Rattle.language.specs.Refusals.{foreign}
 use Rattle.layout.specs.Layout.{eventWord, runningEvent, runningNumber, position, depth, numberAt, eventAt}
 use Rattle.queue.specs.Queue.{putSlot}
 use Rattle.round.specs.Start.{Result}
@@ -35,7 +36,7 @@ countOn l c e n len = pick (ltb (c + 1) len) (1, put l 5 (c + 1)) (said 3 n e, p
 -- the instruction of first word a and constant w, at count c
 unfoldable pub executeOn : List ℕ → ℕ → ℕ → ℕ → ℕ → ℕ → ℕ → Result
 executeOn l a w c e n len =
-    pick (allowed (a / 256) (a % 256) (depth l)) (countOn (perform l (a / 256) (a % 256) w (depth l)) c e n len) (14, l)
+    pick (allowed (a / 256) (a % 256) (depth l)) (countOn (perform l (a / 256) (a % 256) w (depth l)) c e n len) (foreign, l)
 
 -- instruction k of the table
 unfoldable pub executeAt : List ℕ → List ℕ → ℕ → ℕ → ℕ → ℕ → ℕ → Result

@@ -6,6 +6,7 @@ use mathlib.Core.List.{List}
 use lib.Dec.{leb, eqb}
 use Rattle.base.specs.Basics.{pick}
 use Rattle.word.specs.Word.{put}
+use Rattle.language.specs.Refusals.{foreign, undeclaredEvent, fullQueue, spent}
 use Rattle.layout.specs.Layout.{eventCount, taken, waitingCount, runningFlag, ours}
 use Rattle.queue.specs.Queue.{putSlot}
 use Rattle.round.specs.Start.{Result}
@@ -19,10 +20,10 @@ unfoldable pub full : ℕ → ℕ → Bool
 full n f = pick (eqb f 0) (leb 64 n) (leb 63 n)
 
 unfoldable pub arriveWith : List ℕ → ℕ → ℕ → ℕ → Bool → ℕ → Result
-arriveWith l e known n h k = pick (leb known e) (15, l) (pick h (16, l) (pick (leb 1000000 k) (17, l) (0, admit l e n k)))
+arriveWith l e known n h k = pick (leb known e) (undeclaredEvent, l) (pick h (fullQueue, l) (pick (leb 1000000 k) (spent, l) (0, admit l e n k)))
 
 unfoldable pub arriveIn : List ℕ → List ℕ → ℕ → Result
 arriveIn t l e = arriveWith l e (eventCount t) (waitingCount l) (full (waitingCount l) (runningFlag l)) (taken l)
 
 unfoldable pub arriveOn : List ℕ → List ℕ → ℕ → Result
-arriveOn t l e = pick (ours t l) (arriveIn t l e) (14, l)
+arriveOn t l e = pick (ours t l) (arriveIn t l e) (foreign, l)

@@ -6,6 +6,7 @@ use mathlib.Core.List.{List}
 use lib.Dec.{leb, eqb}
 use Rattle.base.specs.Basics.{pick}
 use Rattle.word.specs.Word.{get}
+use Rattle.language.specs.Refusals as refusals
 use Rattle.layout.specs.Layout.{behaviourCount, eventWord, runningFlag, runningEvent, position, ours}
 
 -- ---- masking: of len instructions, with m members of C, c are done
@@ -22,14 +23,14 @@ unfoldable pub settling : ℕ → ℕ → ℕ → ℕ → Bool
 settling f len m c = pick (eqb f 0) false (copyingBack len m c)
 
 unfoldable pub boardWith : List ℕ → ℕ → ℕ → Bool → ℕ
-boardWith l i n s = pick (leb n i) 18 (pick s 19 (4294967296 + get l (136 + i)))
+boardWith l i n s = pick (leb n i) refusals.noBehaviour (pick s refusals.settling (4294967296 + get l (136 + i)))
 
 unfoldable pub boardIn : List ℕ → List ℕ → ℕ → ℕ
 boardIn t l i =
     boardWith l i (behaviourCount t) (settling (runningFlag l) (eventWord t (runningEvent l) 2) (eventWord t (runningEvent l) 3) (position l))
 
 unfoldable pub boardOn : List ℕ → List ℕ → ℕ → ℕ
-boardOn t l i = pick (ours t l) (boardIn t l i) 14
+boardOn t l i = pick (ours t l) (boardIn t l i) refusals.foreign
 
 -- ---- whether a copy-back is under way, for a host that shows no behaviour
 

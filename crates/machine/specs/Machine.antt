@@ -5,6 +5,7 @@ use mathlib.Core.Bool.{Bool}
 use mathlib.Core.List.{List}
 use lib.Dec.{ltb, eqb}
 use Rattle.base.specs.Basics.{pick}
+use Rattle.language.specs.Refusals.{foreign}
 use Rattle.layout.specs.Layout.{eventWord, waitingCount, runningFlag, runningEvent, position, eventAt, ours}
 use Rattle.queue.specs.Queue.{best}
 use Rattle.round.specs.Start.{Result}
@@ -34,4 +35,4 @@ unfoldable pub stepIn : List ℕ → List ℕ → Result
 stepIn t l = stepWith t l (waitingCount l) (runningFlag l)
 
 unfoldable pub stepOn : List ℕ → List ℕ → Result
-stepOn t l = pick (ours t l) (stepIn t l) (14, l)
+stepOn t l = pick (ours t l) (stepIn t l) (foreign, l)

@@ -5,6 +5,7 @@ use lib.ListN.{length, getD, set, replicate}
 use lib.Dec.{ltb}
 use Rattle.base.specs.Basics.{pick}
 use Rattle.word.specs.Word.{get, put}
+use Rattle.language.specs.Refusals.{foreign}
 use Rattle.round.specs.declared.Round.{Round}
 use Rattle.layout.specs.Layout.{tableFits}
 
@@ -42,4 +43,4 @@ freshBytes t l = image (freshOf (valuesIn t (replicate 64 0) 64)) l
 
 -- "Start: 14 for the two lengths and the table only; the round's old bytes are not read."
 unfoldable pub startOn : List ℕ → List ℕ → Result
-startOn t l = pick (tableFits t) (pick (ltb (length l) 2048) (14, l) (0, freshBytes t l)) (14, l)
+startOn t l = pick (tableFits t) (pick (ltb (length l) 2048) (foreign, l) (0, freshBytes t l)) (foreign, l)
