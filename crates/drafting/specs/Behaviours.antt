@@ -24,8 +24,8 @@ use Rattle.field.specs.declared.Field.{Field}
 use Rattle.field.specs.declared.Field.the-variants.{Value}
 use Rattle.field.specs.declared.Read.the-variants.{Done, Fault}
 use Rattle.draft.specs.Draft.{nodes, handlerNodes, behaviourNodes, entry}
-use Rattle.reader.specs.Handler.{slot, entryAt, handlersOf}
-use Rattle.reader.specs.Behaviour.{activeFrom, activeOf, valueAt, behaviourFrom, behaviourOf}
+use Rattle.behaviours.specs.Handler.{slot, entryAt, handlersOf}
+use Rattle.behaviours.specs.Behaviour.{activeFrom, activeOf, valueAt, behaviourFrom, behaviourOf}
 use Rattle.drafting.specs.Fields.{by-two, valueIn, span, SameField, same-field, value-length}
 use Rattle.drafting.specs.Entries.{same-entry, StandsBy, SaysBy, written-long, written-take, written-pool, written-there, written-same, written-other, Frame}
 use Rattle.drafting.specs.Handlers.{cell, Turn, SameHandlers, same-handlers}

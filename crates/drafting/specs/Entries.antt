@@ -19,7 +19,7 @@ use Rattle.language.specs.Reading.{Got, bad, got, whole, then, exprAt, exprIn, 
 use Rattle.field.specs.Expression.{Out, out, onward, exprOf}
 use Rattle.field.specs.declared.Read.the-variants.{Done, Fault}
 use Rattle.draft.specs.Draft.{nodes, entry}
-use Rattle.reader.specs.Handler.{entryAt, slot}
+use Rattle.behaviours.specs.Handler.{entryAt, slot}
 use Rattle.drafting.specs.Fields.{span, whole-at}
 use Rattle.drafting.specs.Stores.{getD-sets, take-sets, take-sets-all, take-drop}
 use Rattle.drafting.specs.Expressions.{nodes-length, some-nodes, SameExpr, same-expr}

@@ -22,7 +22,7 @@ use Rattle.field.specs.Expression.{Out, out, rest, onward}
 use Rattle.field.specs.declared.Field.{Field}
 use Rattle.field.specs.declared.Read.the-variants.{Done, Fault}
 use Rattle.draft.specs.Draft.{nodes, handlerNodes, entry}
-use Rattle.reader.specs.Handler.{slot, handlerAt, handlerFrom, handlerOf, handlersOf}
+use Rattle.behaviours.specs.Handler.{slot, handlerAt, handlerFrom, handlerOf, handlersOf}
 use Rattle.drafting.specs.Fields.{by-two, valueIn, span, SameField, same-field, value-length, rest-drop, end-test}
 use Rattle.drafting.specs.Entries.{same-entry, SaysBy, says-kept, written, written-long, written-take, written-pool, written-there, written-same, written-other, Frame, frame-on, handled-other, handled-new, cell-test}
 

@@ -20,7 +20,7 @@ use Rattle.field.specs.declared.Field.{Field}
 use Rattle.draft.specs.Draft.{Drafted}
 use Rattle.reader.specs.declared.Event.the-variants.{Declared, NoEvent}
 use Rattle.reader.specs.declared.Draft.the-variants.{Ready, Broken}
-use Rattle.reader.specs.Behaviour.{behaviourOf}
+use Rattle.behaviours.specs.Behaviour.{behaviourOf}
 use Rattle.reader.specs.Whole.{Made, made, priorityAt, eventFrom, eventOf, eventNext, eventsOf, Finish, finished, proceed, behavioursOf, readOn}
 use Rattle.drafting.specs.Fields.{by-two, span, SameField, same-field, value-length, rest-drop, end-test}
 use Rattle.drafting.specs.Behaviours.{SameBehaviour, same-behaviour, first-behaviour}

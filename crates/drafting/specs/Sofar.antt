@@ -14,7 +14,7 @@ use Rattle.language.specs.Syntax.{Expr, Behaviour, passive, active}
 use Rattle.language.specs.Dependence.{Response, follows, takes, defers, keeps, handled, respond}
 use Rattle.language.specs.Reading.{program}
 use Rattle.draft.specs.Draft.{nodes, behaviourNodes, programNodes, entryOf, Stands, Says, StartIs, Drafted}
-use Rattle.reader.specs.Handler.{slot}
+use Rattle.behaviours.specs.Handler.{slot}
 use Rattle.drafting.specs.Entries.{StandsBy, stands-kept, stands-some, SaysBy, says-kept, Frame}
 use Rattle.drafting.specs.Handlers.{cell}
 use Rattle.drafting.specs.Behaviours.{RowIs, Blank, Grown}

@@ -1,12 +1,13 @@
 -- One instruction on the round's bytes (layout: crate round). 01 "Handlers and steps"; "Why a call was turned down": foreign.
 -- Operations: 1 off, 2 on, 3 copy, 4 restore, 5 push, 6 load, 7 fetch, 8 apply (its slot is the function), 9 save, 10 defer, 11 move.
-use Prim.Native.Nat.{ℕ, _+_, _-_}
+use Prim.Native.Nat.{ℕ, _+_}
 use mathlib.Core.Bool.{Bool, true, false}
 use mathlib.Core.List.{List}
 use lib.Dec.{ltb, leb, eqb}
 use Rattle.base.specs.Basics.{pick}
 use Rattle.word.specs.Word.{get, put}
-use Rattle.arith.specs.Functions.{result, arity}
+use Rattle.arith.specs.Functions.{arity}
+use Rattle.stack.specs.Stack.{pushOn, popTo, applyOn}
 
 -- function f finds its arguments on a stack of depth d
 unfoldable pub applies : ℕ → ℕ → Bool
@@ -22,27 +23,6 @@ allowed op s d =
     (pick (eqb op 8) (applies s d)
     (pick (ltb op 11) (ltb 0 d)
     (eqb op 11))))))
-
--- v on top of a stack of depth d
-unfoldable pub pushOn : List ℕ → ℕ → ℕ → List ℕ
-pushOn l d v = put (put l (328 + d) v) 6 (d + 1)
-
--- the top of a stack of depth d goes to word k
-unfoldable pub popTo : List ℕ → ℕ → ℕ → List ℕ
-popTo l d k = put (put l k (get l (327 + d))) 6 (d - 1)
-
--- function f takes its arguments from a stack of depth d, and puts its result
-unfoldable pub applyOne : List ℕ → ℕ → ℕ → List ℕ
-applyOne l d f = put l (327 + d) (result f (get l (327 + d)) 0 0)
-
-unfoldable pub applyTwo : List ℕ → ℕ → ℕ → List ℕ
-applyTwo l d f = put (put l (326 + d) (result f (get l (326 + d)) (get l (327 + d)) 0)) 6 (d - 1)
-
-unfoldable pub applyThree : List ℕ → ℕ → ℕ → List ℕ
-applyThree l d f = put (put l (325 + d) (result f (get l (325 + d)) (get l (326 + d)) (get l (327 + d)))) 6 (d - 2)
-
-unfoldable pub applyOn : List ℕ → ℕ → ℕ → List ℕ
-applyOn l d f = pick (eqb f 3) (applyOne l d f) (pick (eqb f 14) (applyThree l d f) (applyTwo l d f))
 
 -- word k to word j
 unfoldable pub transfer : List ℕ → ℕ → ℕ → List ℕ

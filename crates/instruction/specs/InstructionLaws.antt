@@ -2,12 +2,10 @@
 use Prim.Native.Nat.{ℕ, _≤_, _<_}
 use mathlib.Core.Bool.{Bool, true, false, false≢true}
 use mathlib.Core.Path.{_≡_, refl}
-use mathlib.Core.Logic.{_≢_}
 use native.Mathlib.Omega.{arith}
 use lib.Dec.{ltb, leb, eqb}
-use borrow.Author.Tests.{ltb-true, ltb-false, leb-true, eqb-false, le-ltb, lt-ltb, ne-eqb, eq-eqb}
+use borrow.Author.Tests.{ltb-true, ltb-false, leb-true, le-ltb, lt-ltb, ne-eqb}
 use Rattle.base.specs.Basics.{pick}
-use Rattle.base.specs.Tools.{split}
 use Rattle.arith.specs.Functions.{arity}
 use Rattle.instruction.specs.Instruction.{applies, allowed}
 
@@ -22,23 +20,6 @@ applies-fits f d e =
     let p = past (eqb f 0) (pick (ltb 14 f) false (leb (arity f) d)) e in
     let q = past (ltb 14 f) (leb (arity f) d) (p .1) in
     (ltb-false 14 f (q .0), leb-true (arity f) d (q .1))
-
--- how deep a stack is that holds a function's arguments
-pub arity-one : (f d : ℕ) → arity f ≤ d → 0 < d
-unfolding arity
-arity-one f d h =
-    split (eqb f 3) (λ e. let k : 1 ≤ d = rw e at h in omega arith)
-    (λ e. split (eqb f 14) (λ g. let k : 3 ≤ d = rw (e, g) at h in omega arith) (λ g. let k : 2 ≤ d = rw (e, g) at h in omega arith))
-
-pub arity-two : (f d : ℕ) → arity f ≤ d → f ≢ 3 → 1 < d
-unfolding arity
-arity-two f d h n =
-    let e : eqb f 3 ≡ false = ne-eqb f 3 n in
-    split (eqb f 14) (λ g. let k : 3 ≤ d = rw (e, g) at h in omega arith) (λ g. let k : 2 ≤ d = rw (e, g) at h in omega arith)
-
-pub arity-three : (d : ℕ) → arity 14 ≤ d → 2 < d
-unfolding arity
-arity-three d h = omega arith
 
 -- what remains of `allowed` once the slot has passed
 abbrev rest : ℕ → ℕ → ℕ → Bool

@@ -1,11 +1,11 @@
 // One instruction on the round's bytes.
 ghost use mathlib.Core.Path.{_≡_};
 ghost use mathlib.Core.Bool.{true};
-ghost use Prim.Native.Nat.{_+_, _≤_, _<_};
+ghost use Prim.Native.Nat.{_≤_, _<_};
 ghost use lib.ListN.{length};
 ghost use Rattle.word.specs.Word.{get};
-ghost use Rattle.arith.specs.Functions.{arity};
-ghost use Rattle.instruction.specs.Instruction.{applies, allowed, pushOn, popTo, applyOne, applyTwo, applyThree, applyOn, transfer, perform};
+ghost use Rattle.stack.specs.Stack.{pushOn};
+ghost use Rattle.instruction.specs.Instruction.{applies, allowed, transfer, perform};
 
 fn arguments_there(f: u32, d: u32) -> bool
     ensures { λ r. ⌜ r ≡ applies f d ⌝ }
@@ -44,70 +44,6 @@ pub fn is_allowed(op: u32, s: u32, d: u32) -> bool
     op == 11
 }
 
-fn push_on(l: &mut [u8], d: u32, v: u32)
-    requires { ⌜ (2048 ≤ length (now l)) × (d < 64) ⌝ }
-    ensures { λ _. ⌜ now (l .exit) ≡ pushOn (now (l .entry)) d v ⌝ }
-{
-    word::put_word(l, 328 + (d as usize), v);
-    word::put_word(l, 6, d + 1);
-}
-
-fn pop_to(l: &mut [u8], d: u32, k: usize)
-    requires { ⌜ (2048 ≤ length (now l)) × (0 < d) × (d ≤ 64) × (k < 512) ⌝ }
-    ensures { λ _. ⌜ now (l .exit) ≡ popTo (now (l .entry)) d k ⌝ }
-{
-    let v = word::get_word(l, 327 + (d as usize));
-    word::put_word(l, k, v);
-    word::put_word(l, 6, d - 1);
-}
-
-fn apply_one(l: &mut [u8], d: u32, f: u8)
-    requires { ⌜ (2048 ≤ length (now l)) × (0 < d) × (d ≤ 64) ⌝ }
-    ensures { λ _. ⌜ now (l .exit) ≡ applyOne (now (l .entry)) d f ⌝ }
-{
-    let k = 327 + (d as usize);
-    let v = arith::apply(f, word::get_word(l, k), 0, 0);
-    word::put_word(l, k, v);
-}
-
-fn apply_two(l: &mut [u8], d: u32, f: u8)
-    requires { ⌜ (2048 ≤ length (now l)) × (1 < d) × (d ≤ 64) ⌝ }
-    ensures { λ _. ⌜ now (l .exit) ≡ applyTwo (now (l .entry)) d f ⌝ }
-{
-    let x = word::get_word(l, 326 + (d as usize));
-    let y = word::get_word(l, 327 + (d as usize));
-    let v = arith::apply(f, x, y, 0);
-    word::put_word(l, 326 + (d as usize), v);
-    word::put_word(l, 6, d - 1);
-}
-
-fn apply_three(l: &mut [u8], d: u32, f: u8)
-    requires { ⌜ (2048 ≤ length (now l)) × (2 < d) × (d ≤ 64) ⌝ }
-    ensures { λ _. ⌜ now (l .exit) ≡ applyThree (now (l .entry)) d f ⌝ }
-{
-    let x = word::get_word(l, 325 + (d as usize));
-    let y = word::get_word(l, 326 + (d as usize));
-    let z = word::get_word(l, 327 + (d as usize));
-    let v = arith::apply(f, x, y, z);
-    word::put_word(l, 325 + (d as usize), v);
-    word::put_word(l, 6, d - 2);
-}
-
-fn apply_on(l: &mut [u8], d: u32, f: u8)
-    requires { ⌜ (2048 ≤ length (now l)) × (d ≤ 64) × (arity f ≤ d) ⌝ }
-    ensures { λ _. ⌜ now (l .exit) ≡ applyOn (now (l .entry)) d f ⌝ }
-{
-    if f == 3 {
-        apply_one(l, d, f);
-        return;
-    }
-    if f == 14 {
-        apply_three(l, d, f);
-        return;
-    }
-    apply_two(l, d, f);
-}
-
 fn transfer_word(l: &mut [u8], k: usize, j: usize)
     requires { ⌜ (2048 ≤ length (now l)) × (k < 512) × (j < 512) ⌝ }
     ensures { λ _. ⌜ now (l .exit) ≡ transfer (now (l .entry)) k j ⌝ }
@@ -121,7 +57,7 @@ fn push_word(l: &mut [u8], d: u32, k: usize)
     ensures { λ _. ⌜ now (l .exit) ≡ pushOn (now (l .entry)) d (get (now (l .entry)) k) ⌝ }
 {
     let v = word::get_word(l, k);
-    push_on(l, d, v);
+    stack::push_on(l, d, v);
 }
 
 // Operation op, with slot s and constant w, on the round's bytes; its stack has depth d. It is one that `is_allowed` allows.
@@ -133,12 +69,12 @@ pub fn perform_on(l: &mut [u8], op: u32, s: u32, w: u32, d: u32)
     match op {
         3 => transfer_word(l, 136 + k, 200 + k),
         4 => transfer_word(l, 200 + k, 136 + k),
-        5 => push_on(l, d, w),
+        5 => stack::push_on(l, d, w),
         6 => push_word(l, d, 136 + k),
         7 => push_word(l, d, 200 + k),
-        8 => apply_on(l, d, s as u8),
-        9 => pop_to(l, d, 200 + k),
-        10 => pop_to(l, d, 264 + k),
+        8 => stack::apply_on(l, d, s as u8),
+        9 => stack::pop_to(l, d, 200 + k),
+        10 => stack::pop_to(l, d, 264 + k),
         11 => transfer_word(l, 264 + k, 200 + k),
         _ => {}
     }

@@ -10,11 +10,11 @@ use Rattle.field.specs.declared.Field.{Field}
 use Rattle.field.specs.declared.Field.the-variants.{Value, Refused}
 use Rattle.field.specs.declared.Read.{Read}
 use Rattle.field.specs.declared.Read.the-variants.{Done, Fault}
+use Rattle.behaviours.specs.Behaviour.{behaviourOf}
 use Rattle.reader.specs.declared.Event.{Event}
 use Rattle.reader.specs.declared.Event.the-variants.{Declared, Ended, NoEvent}
 use Rattle.reader.specs.declared.Draft.{Draft}
 use Rattle.reader.specs.declared.Draft.the-variants.{Ready, Broken}
-use Rattle.reader.specs.Behaviour.{behaviourOf}
 
 -- what stands where an event is due, and the draft
 abbrev pub Made : Type 0

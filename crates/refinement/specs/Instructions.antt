@@ -21,7 +21,8 @@ use Rattle.execution.specs.Execution.{Values, at, held, heldAt, top, apply1, ap
 use Rattle.execution.specs.Safe.{Filled, Ok, full, arity, Matches}
 use Rattle.execution.specs.SafeLaws.{full-some}
 use Rattle.image.specs.Image.{operation, constant}
-use Rattle.instruction.specs.Instruction.{applies, allowed, pushOn, popTo, applyOne, applyTwo, applyThree, applyOn, transfer, perform}
+use Rattle.stack.specs.Stack.{pushOn, popTo, applyOne, applyTwo, applyThree, applyOn}
+use Rattle.instruction.specs.Instruction.{applies, allowed, transfer, perform}
 use Rattle.refinement.specs.Refinement.{Kept}
 use Rattle.refinement.specs.Slots.{kept-all, kept-put}
 use Rattle.refinement.specs.Values.{Holds, value-at, store-holds, scratch-holds, deferred-holds, depth-holds, place-holds, top-holds}

@@ -1,0 +1,21 @@
+use native.Mathlib.Omega.{arith}
+use borrow.Author.Needs.{needs}
+use Rattle.base.specs.Pick.{code}
+use Rattle.behaviours.proofs.Laws.{counted-below}
+use Rattle.behaviours.specs.Behaviour.{valueAt}
+use Rattle.behaviours.proofs.read_value.Statement.{statement}
+use Rattle.behaviours.proofs.read_value.Tie as tie
+
+pub read-value-spec : {M : Type 1} → statement M
+unfolding valueAt
+read-value-spec =
+    tie.close
+    (tie.spec
+    (λ c. (search code depth 12, (tt, tt)))
+    (λ c. search needs)
+    (λ c κs. search needs)
+    (λ c. search needs)
+    (λ c. (rw (← c .before .before .read-entry .ensures .0) (search code depth 12), (c .before .before .read-entry .ensures .1, counted-below (c .before .before .before .before .before .before .before .before .args .i) (c .before .before .read-entry .result) (c .before .before .before .before .before .if1 .left))))
+    (λ c κs. search needs)
+    (λ c. search needs)
+    (λ c. (rw (← c .before .before .read-active .ensures .0) (search code depth 12), (c .before .before .read-active .ensures .1, counted-below (c .before .before .before .before .before .before .before .before .args .i) (c .before .before .read-active .result) (c .before .before .before .before .before .if1 .left)))))

@@ -1,0 +1,43 @@
+-- Behaviours as the reader reads them: from positions in the bytes, with the draft as it is written. 01: "02 passive: one expression. 03 active: a start
+-- field (04, length 4, signed 32-bit), then handlers until its end." At a field: 4, 5, 4, 7, then its contents.
+use Prim.Native.Nat.{ℕ, _+_, _<_}
+use mathlib.Core.List.{List}
+use lib.ListN.{length, set}
+use lib.Dec.{leb, eqb}
+use Rattle.base.specs.Basics.{pick}
+use Rattle.word.specs.Word.{getAt}
+use Rattle.field.specs.Field.{fieldOf, partOf}
+use Rattle.field.specs.Expression.{Out, out}
+use Rattle.field.specs.declared.Field.{Field}
+use Rattle.field.specs.declared.Field.the-variants.{Value, Refused}
+use Rattle.field.specs.declared.Read.{Read}
+use Rattle.field.specs.declared.Read.the-variants.{Done, Fault}
+use Rattle.behaviours.specs.Handler.{entryAt, handlersOf}
+
+-- an active's value v, where the answer for its start field is f, with the value w
+abbrev pub activeFrom : Field → List ℕ → List ℕ → ℕ → ℕ → List ℕ → ℕ → Out
+activeFrom (Refused k) w v events i d n = out (Fault k) d
+activeFrom (Value t size) w v events i d n =
+    pick (eqb size 4) (handlersOf (length v) v 7 events i (set d (4160 + i) (getAt w 0)) n) (out (Fault 6) d)
+
+unfoldable pub activeOf : List ℕ → ℕ → ℕ → List ℕ → ℕ → Out
+activeOf v events i d n = activeFrom (fieldOf v 4 4) (partOf v (fieldOf v 4 4)) v events i d n
+
+-- behaviour i, a field with tag t and value v
+unfoldable pub valueAt : ℕ → List ℕ → ℕ → ℕ → List ℕ → ℕ → Out
+valueAt t v events i d n =
+    pick (leb 64 i) (out (Fault 7) d)
+    (pick (eqb t 2) (entryAt v d n (4096 + i) 1 3) (activeOf v events i d n))
+
+abbrev pub behaviourFrom : Field → List ℕ → ℕ → ℕ → List ℕ → ℕ → Out
+behaviourFrom (Refused k) v events i d n = out (Fault k) d
+behaviourFrom (Value t size) v events i d n = valueAt t v events i d n
+
+-- behaviour i at the front of s
+unfoldable pub behaviourOf : List ℕ → ℕ → ℕ → List ℕ → ℕ → Out
+behaviourOf s events i d n = behaviourFrom (fieldOf s 2 3) (partOf s (fieldOf s 2 3)) events i d n
+
+-- that a behaviour read is one of 64: what is promised beside the equation
+abbrev pub Counted : ℕ → Read → Type 0
+Counted i (Done size m) = i < 64
+Counted i (Fault k) = Unit {0}

@@ -1,0 +1,2 @@
+pub mod Handler
+pub mod Behaviour

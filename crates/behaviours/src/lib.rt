@@ -1,0 +1,173 @@
+// The reader of one behaviour and its handlers: from the bytes of its field to its place in the draft, the first fault met from left to right.
+use field::Field;
+use field::Read;
+ghost use mathlib.Core.Path.{_≡_};
+ghost use Prim.Native.Nat.{_<_, _≤_, _*_, _+_};
+ghost use lib.ListN.{length};
+ghost use Rattle.field.specs.Expression.{out, ReadIn};
+ghost use Rattle.behaviours.specs.Handler.{entryAt, handlerAt, handlerOf, handlersOf, BodyIn, faultOf};
+ghost use Rattle.behaviours.specs.Behaviour.{activeOf, valueAt, behaviourOf, Counted};
+
+// The number of a refusal; 0 of a reading that is done.
+pub fn fault(r: Read) -> u8
+    ensures { λ k. ⌜ k ≡ faultOf r ⌝ }
+{
+    match r {
+        Read::Done(_, _) => 0,
+        Read::Fault(k) => k,
+    }
+}
+
+// An expression that fills v, of nesting at most 16; its entry goes to `place`. The field has `over` bytes before v.
+pub fn read_entry(
+    v: &[u8],
+    draft: &mut [u64],
+    n: usize,
+    place: usize,
+    kind: usize,
+    over: usize,
+) -> Read
+    requires { ⌜ n * 4 + length (now v) ≤ 8192 ⌝ }
+    requires { ⌜ length (now draft) ≡ 4256 ⌝ }
+    requires { ⌜ place < 4256 ⌝ }
+    requires { ⌜ kind ≤ 3 ⌝ }
+    requires { ⌜ over ≤ 5 ⌝ }
+    ensures { λ r. ⌜ out r (now (draft .exit)) ≡ entryAt (now (v .entry)) (now (draft .entry)) n place kind over ⌝ }
+    ensures { λ r. ⌜ BodyIn (length (now (v .entry)) + over) n r ⌝ }
+{
+    let r = field::read_expr(16, v, draft, n);
+    let Read::Done(size, m) = r else {
+        return r;
+    };
+    if size != v.len() {
+        return Read::Fault(6);
+    }
+    draft[place] = (((m - n) * 4096 + n) * 4 + kind) as u64;
+    Read::Done(size + over, m)
+}
+
+// A handler's value: event, phase, doubled, expression. `events` are declared; the handler is one of behaviour i.
+pub fn read_handler_value(v: &[u8], events: usize, i: usize, draft: &mut [u64], n: usize) -> Read
+    requires { ⌜ n * 4 + length (now v) ≤ 8192 ⌝ }
+    requires { ⌜ length (now draft) ≡ 4256 ⌝ }
+    requires { ⌜ events ≤ 32 ⌝ }
+    requires { ⌜ i < 64 ⌝ }
+    ensures { λ r. ⌜ out r (now (draft .exit)) ≡ handlerAt (now (v .entry)) events i (now (draft .entry)) n ⌝ }
+    ensures { λ r. ⌜ BodyIn (length (now (v .entry)) + 3) n r ⌝ }
+{
+    if v.len() == 0 {
+        return Read::Fault(6);
+    }
+    let e = v[0] as usize;
+    if events <= e {
+        return Read::Fault(8);
+    }
+    if v.len() == 1 {
+        return Read::Fault(6);
+    }
+    let phase = v[1] as usize;
+    if 1 < phase {
+        return Read::Fault(8);
+    }
+    let place = 2048 + i * 32 + e;
+    if draft[place] != 0 {
+        return Read::Fault(10);
+    }
+    read_entry(&v[2..], draft, n, place, 2 + phase, 5)
+}
+
+// A handler at the front of s.
+pub fn read_handler(s: &[u8], events: usize, i: usize, draft: &mut [u64], n: usize) -> Read
+    requires { ⌜ n * 4 + length (now s) ≤ 8192 ⌝ }
+    requires { ⌜ length (now draft) ≡ 4256 ⌝ }
+    requires { ⌜ events ≤ 32 ⌝ }
+    requires { ⌜ i < 64 ⌝ }
+    ensures { λ r. ⌜ out r (now (draft .exit)) ≡ handlerOf (now (s .entry)) events i (now (draft .entry)) n ⌝ }
+    ensures { λ r. ⌜ ReadIn (length (now (s .entry))) n r ⌝ }
+{
+    let a = field::field_answer(s, 5, 5);
+    let Field::Value(_, _) = a else {
+        return Read::Fault(field::number(a));
+    };
+    read_handler_value(field::field_value(s, 5, 5), events, i, draft, n)
+}
+
+// The handlers of behaviour i, whose value is v, after its start.
+pub fn read_handlers(v: &[u8], events: usize, i: usize, draft: &mut [u64], n: usize) -> Read
+    requires { ⌜ 7 ≤ length (now v) ⌝ }
+    requires { ⌜ n * 4 + length (now v) ≤ 8192 ⌝ }
+    requires { ⌜ length (now draft) ≡ 4256 ⌝ }
+    requires { ⌜ events ≤ 32 ⌝ }
+    requires { ⌜ i < 64 ⌝ }
+    ensures { λ r. ⌜ out r (now (draft .exit)) ≡ handlersOf (length (now (v .entry))) (now (v .entry)) 7 events i (now (draft .entry)) n ⌝ }
+    ensures { λ r. ⌜ BodyIn (length (now (v .entry)) + 3) n r ⌝ }
+{
+    let mut at = 7;
+    let mut m = n;
+    while at != v.len() {
+        let r = read_handler(&v[at..], events, i, draft, m);
+        let Read::Done(size, next) = r else {
+            return r;
+        };
+        at = at + size;
+        m = next;
+    }
+    Read::Done(at + 3, m)
+}
+
+// An active's value: its start, then its handlers.
+pub fn read_active(v: &[u8], events: usize, i: usize, draft: &mut [u64], n: usize) -> Read
+    requires { ⌜ n * 4 + length (now v) ≤ 8192 ⌝ }
+    requires { ⌜ length (now draft) ≡ 4256 ⌝ }
+    requires { ⌜ events ≤ 32 ⌝ }
+    requires { ⌜ i < 64 ⌝ }
+    ensures { λ r. ⌜ out r (now (draft .exit)) ≡ activeOf (now (v .entry)) events i (now (draft .entry)) n ⌝ }
+    ensures { λ r. ⌜ BodyIn (length (now (v .entry)) + 3) n r ⌝ }
+{
+    let a = field::field_answer(v, 4, 4);
+    let Field::Value(_, size) = a else {
+        return Read::Fault(field::number(a));
+    };
+    if size != 4 {
+        return Read::Fault(6);
+    }
+    let w = field::field_value(v, 4, 4);
+    draft[4160 + i] = word::get_at(w, 0) as u64;
+    read_handlers(v, events, i, draft, n)
+}
+
+// The value of a behaviour's field with tag t.
+pub fn read_value(t: u8, v: &[u8], events: usize, i: usize, draft: &mut [u64], n: usize) -> Read
+    requires { ⌜ n * 4 + length (now v) ≤ 8192 ⌝ }
+    requires { ⌜ length (now draft) ≡ 4256 ⌝ }
+    requires { ⌜ events ≤ 32 ⌝ }
+    requires { ⌜ i ≤ 64 ⌝ }
+    ensures { λ r. ⌜ out r (now (draft .exit)) ≡ valueAt t (now (v .entry)) events i (now (draft .entry)) n ⌝ }
+    ensures { λ r. ⌜ BodyIn (length (now (v .entry)) + 3) n r ⌝ }
+    ensures { λ r. ⌜ Counted i r ⌝ }
+{
+    if 64 <= i {
+        return Read::Fault(7);
+    }
+    if t == 2 {
+        return read_entry(v, draft, n, 4096 + i, 1, 3);
+    }
+    read_active(v, events, i, draft, n)
+}
+
+// Behaviour i at the front of s.
+pub fn read_behaviour(s: &[u8], events: usize, i: usize, draft: &mut [u64], n: usize) -> Read
+    requires { ⌜ n * 4 + length (now s) ≤ 8192 ⌝ }
+    requires { ⌜ length (now draft) ≡ 4256 ⌝ }
+    requires { ⌜ events ≤ 32 ⌝ }
+    requires { ⌜ i ≤ 64 ⌝ }
+    ensures { λ r. ⌜ out r (now (draft .exit)) ≡ behaviourOf (now (s .entry)) events i (now (draft .entry)) n ⌝ }
+    ensures { λ r. ⌜ ReadIn (length (now (s .entry))) n r ⌝ }
+    ensures { λ r. ⌜ Counted i r ⌝ }
+{
+    let a = field::field_answer(s, 2, 3);
+    let Field::Value(t, _) = a else {
+        return Read::Fault(field::number(a));
+    };
+    read_value(t, field::field_value(s, 2, 3), events, i, draft, n)
+}

@@ -1,0 +1,73 @@
+// The work stack in the round's bytes.
+ghost use mathlib.Core.Path.{_≡_};
+ghost use Prim.Native.Nat.{_≤_, _<_};
+ghost use lib.ListN.{length};
+ghost use Rattle.arith.specs.Functions.{arity};
+ghost use Rattle.stack.specs.Stack.{pushOn, popTo, applyOne, applyTwo, applyThree, applyOn};
+
+// v on top of a stack of depth d.
+pub fn push_on(l: &mut [u8], d: u32, v: u32)
+    requires { ⌜ (2048 ≤ length (now l)) × (d < 64) ⌝ }
+    ensures { λ _. ⌜ now (l .exit) ≡ pushOn (now (l .entry)) d v ⌝ }
+{
+    word::put_word(l, 328 + (d as usize), v);
+    word::put_word(l, 6, d + 1);
+}
+
+// The top of a stack of depth d goes to word k.
+pub fn pop_to(l: &mut [u8], d: u32, k: usize)
+    requires { ⌜ (2048 ≤ length (now l)) × (0 < d) × (d ≤ 64) × (k < 512) ⌝ }
+    ensures { λ _. ⌜ now (l .exit) ≡ popTo (now (l .entry)) d k ⌝ }
+{
+    let v = word::get_word(l, 327 + (d as usize));
+    word::put_word(l, k, v);
+    word::put_word(l, 6, d - 1);
+}
+
+fn apply_one(l: &mut [u8], d: u32, f: u8)
+    requires { ⌜ (2048 ≤ length (now l)) × (0 < d) × (d ≤ 64) ⌝ }
+    ensures { λ _. ⌜ now (l .exit) ≡ applyOne (now (l .entry)) d f ⌝ }
+{
+    let k = 327 + (d as usize);
+    let v = arith::apply(f, word::get_word(l, k), 0, 0);
+    word::put_word(l, k, v);
+}
+
+fn apply_two(l: &mut [u8], d: u32, f: u8)
+    requires { ⌜ (2048 ≤ length (now l)) × (1 < d) × (d ≤ 64) ⌝ }
+    ensures { λ _. ⌜ now (l .exit) ≡ applyTwo (now (l .entry)) d f ⌝ }
+{
+    let x = word::get_word(l, 326 + (d as usize));
+    let y = word::get_word(l, 327 + (d as usize));
+    let v = arith::apply(f, x, y, 0);
+    word::put_word(l, 326 + (d as usize), v);
+    word::put_word(l, 6, d - 1);
+}
+
+fn apply_three(l: &mut [u8], d: u32, f: u8)
+    requires { ⌜ (2048 ≤ length (now l)) × (2 < d) × (d ≤ 64) ⌝ }
+    ensures { λ _. ⌜ now (l .exit) ≡ applyThree (now (l .entry)) d f ⌝ }
+{
+    let x = word::get_word(l, 325 + (d as usize));
+    let y = word::get_word(l, 326 + (d as usize));
+    let z = word::get_word(l, 327 + (d as usize));
+    let v = arith::apply(f, x, y, z);
+    word::put_word(l, 325 + (d as usize), v);
+    word::put_word(l, 6, d - 2);
+}
+
+// Function f takes its arguments from a stack of depth d, and puts its result.
+pub fn apply_on(l: &mut [u8], d: u32, f: u8)
+    requires { ⌜ (2048 ≤ length (now l)) × (d ≤ 64) × (arity f ≤ d) ⌝ }
+    ensures { λ _. ⌜ now (l .exit) ≡ applyOn (now (l .entry)) d f ⌝ }
+{
+    if f == 3 {
+        apply_one(l, d, f);
+        return;
+    }
+    if f == 14 {
+        apply_three(l, d, f);
+        return;
+    }
+    apply_two(l, d, f);
+}
