@@ -3,16 +3,22 @@
 ghost use mathlib.Core.Path.{_≡_};
 ghost use Prim.Native.Nat.{_+_, _*_, _≤_, _<_};
 ghost use lib.ListN.{length};
-ghost use Rattle.graph.specs.Matrix.{cell, closeCell, closeRow, closeThrough, closeRows, closed};
+ghost use Rattle.graph.specs.Matrix.{cell, joined, closeCell, closeRow, closeThrough, closeRows, closed};
 ghost use Rattle.graph.specs.Placing.{lacks, metOn, readyOn, findOn, placed, orderOn};
 
+// 1 where x is set, else y.
+fn joined(x: u8, y: u8) -> u8
+    ensures { λ r. ⌜ r ≡ joined x y ⌝ }
+{
+    if x == 0 { y } else { 1 }
+}
+
+// The cell is always written, so that a whole row is worked on at a time.
 fn close_cell(m: &mut [u8], i: usize, k: usize, j: usize)
     requires { ⌜ (length (now m) ≡ 4096) × (i < 64) × (k < 64) × (j < 64) ⌝ }
     ensures { λ _. ⌜ now (m .exit) ≡ closeCell (now (m .entry)) i k j ⌝ }
 {
-    if m[k * 64 + j] != 0 {
-        m[i * 64 + j] = 1;
-    }
+    m[i * 64 + j] = joined(m[k * 64 + j], m[i * 64 + j]);
 }
 
 fn close_row(m: &mut [u8], i: usize, k: usize, n: usize)

@@ -1,5 +1,5 @@
-//! Times of the proved engine against the plain one: same process, same inputs, both built for release. Each figure is the median of several runs, with
-//! the least and the greatest; buffers are warm. And the paper's experiment (003, section 6) in steps.
+//! Times of the proved engine against the plain one: same process, same inputs, both built for release, run in turn. Each figure, the ratio too, is the
+//! median of several runs, with the least and the greatest; buffers are warm. And the paper's experiment (003, section 6) in steps.
 use std::time::Instant;
 
 use crate::engine::{self, Call, Model, Sheet};
@@ -7,26 +7,40 @@ use crate::limits::{active, app, con, event, handler, join, name, passive};
 use crate::make::Rng;
 use crate::proved::{self, ROUND, TABLE};
 
-const RUNS: usize = 9;
+const RUNS: usize = 15;
 
-/// Median, least and greatest of the nanoseconds that one of n repetitions takes.
-fn time(n: usize, mut f: impl FnMut()) -> (f64, f64, f64) {
-    let mut all: Vec<f64> = (0..RUNS)
-        .map(|_| {
-            let t = Instant::now();
-            f();
-            t.elapsed().as_nanos() as f64 / n as f64
-        })
-        .collect();
-    all.sort_by(|a, b| a.partial_cmp(b).unwrap());
-    (all[RUNS / 2], all[0], all[RUNS - 1])
+/// Median, least and greatest.
+#[derive(Clone, Copy)]
+struct Spread {
+    median: f64,
+    least: f64,
+    most: f64,
 }
 
-fn row(bars: &mut Vec<(String, f64)>, what: &str, ours: (f64, f64, f64), other: (f64, f64, f64)) {
-    bars.push((what.to_string(), ours.0 / other.0));
+fn spread(mut all: Vec<f64>) -> Spread {
+    all.sort_by(|a, b| a.partial_cmp(b).unwrap());
+    Spread { median: all[all.len() / 2], least: all[0], most: all[all.len() - 1] }
+}
+
+/// Nanoseconds that one of n repetitions takes.
+fn nanos(n: usize, f: &mut dyn FnMut()) -> f64 {
+    let t = Instant::now();
+    f();
+    t.elapsed().as_nanos() as f64 / n as f64
+}
+
+/// Both engines in turn, so that a ratio is of two times taken side by side; one run of each before counting.
+fn pair(bars: &mut Vec<(String, Spread)>, what: &str, n: usize, mut ours: impl FnMut(), mut other: impl FnMut()) {
+    ours();
+    other();
+    let runs: Vec<(f64, f64)> = (0..RUNS).map(|_| (nanos(n, &mut ours), nanos(n, &mut other))).collect();
+    let a = spread(runs.iter().map(|r| r.0).collect());
+    let b = spread(runs.iter().map(|r| r.1).collect());
+    let ratio = spread(runs.iter().map(|r| r.0 / r.1).collect());
+    bars.push((what.to_string(), ratio));
     println!(
-        "| {what} | {:.0} ({:.0} to {:.0}) | {:.0} ({:.0} to {:.0}) | {:.2} |",
-        ours.0, ours.1, ours.2, other.0, other.1, other.2, ours.0 / other.0
+        "| {what} | {:.0} ({:.0} to {:.0}) | {:.0} ({:.0} to {:.0}) | {:.2} ({:.2} to {:.2}) |",
+        a.median, a.least, a.most, b.median, b.least, b.most, ratio.median, ratio.least, ratio.most
     );
 }
 
@@ -45,7 +59,7 @@ fn ready(sheet: &[u8]) -> (Vec<u8>, Sheet) {
 }
 
 /// Steps with so many waiting: all of one rank, so the running one goes on.
-fn steps(bars: &mut Vec<(String, f64)>, waiting: usize) {
+fn steps(bars: &mut Vec<(String, Spread)>, waiting: usize) {
     let s = join(&[event(1), active(0, &[handler(0, 0, &tree(200, &|_| name(0)))])]);
     let (table, sheet) = ready(&s);
     let n = 200;
@@ -61,20 +75,20 @@ fn steps(bars: &mut Vec<(String, f64)>, waiting: usize) {
         crate::compare::call(&table, &mut round, c);
     });
     let fresh = round.clone();
-    let ours = time(n * 100, || {
+    let ours = || {
         for _ in 0..100 {
             round.copy_from_slice(&fresh);
             for _ in 0..n {
                 std::hint::black_box(proved::step(&table, &mut round));
             }
         }
-    });
+    };
     let mut m = Model::new(sheet);
     fill(&mut |c| {
         m.call(c);
     });
     let (waiting_, running) = (m.waiting.clone(), m.running);
-    let other = time(n * 100, || {
+    let other = || {
         for _ in 0..100 {
             m.waiting = waiting_.clone();
             m.running = running;
@@ -83,58 +97,60 @@ fn steps(bars: &mut Vec<(String, f64)>, waiting: usize) {
                 std::hint::black_box(m.call(Call::Step));
             }
         }
-    });
-    row(bars, &format!("a step, {waiting} waiting"), ours, other);
+    };
+    pair(bars, &format!("a step, {waiting} waiting"), n * 100, ours, other);
 }
 
 /// A whole event of so many nodes, from its arrival to its commit.
-fn events(bars: &mut Vec<(String, f64)>, size: usize) {
+fn events(bars: &mut Vec<(String, Spread)>, size: usize) {
     let s = join(&[event(1), active(0, &[handler(0, 0, &tree(size, &|_| con(1)))])]);
     let (table, sheet) = ready(&s);
     let mut round = vec![0u8; ROUND];
     proved::start(&table, &mut round);
-    let ours = time(200, || {
+    let ours = || {
         for _ in 0..200 {
             proved::arrive(&table, &mut round, 0);
             while proved::step(&table, &mut round) % 256 != 3 {}
         }
-    });
+    };
     let mut m = Model::new(sheet);
-    let other = time(200, || {
+    let other = || {
         for _ in 0..200 {
             m.call(Call::Arrive(0));
             while !matches!(m.call(Call::Step), engine::Answer::Committed(..)) {}
         }
-    });
-    row(bars, &format!("an event of {size} nodes"), ours, other);
+    };
+    pair(bars, &format!("an event of {size} nodes"), 200, ours, other);
 }
 
-fn compiles(bars: &mut Vec<(String, f64)>, what: &str, s: &[u8], n: usize) {
+fn compiles(bars: &mut Vec<(String, Spread)>, what: &str, s: &[u8], n: usize) {
     let mut table = vec![0u8; TABLE];
-    let ours = time(n, || {
+    let ours = || {
         for _ in 0..n {
             std::hint::black_box(proved::compile(s, &mut table));
         }
-    });
-    let other = time(n, || {
+    };
+    let other = || {
         for _ in 0..n {
             let sheet = engine::compile(s).unwrap();
             std::hint::black_box(Model::new(sheet));
         }
-    });
-    row(bars, &format!("compile, {what} ({} bytes)", s.len()), ours, other);
+    };
+    pair(bars, &format!("compile, {what} ({} bytes)", s.len()), n, ours, other);
 }
 
-/// The ratios as bars; the line is 1, as fast as the plain engine.
-fn plot(bars: &[(String, f64)], file: &str) {
-    let most = bars.iter().map(|b| b.1).fold(1.0, f64::max);
+/// The ratios as bars, with the least and the greatest as a line across; the upright line is 1, as fast as the plain engine.
+fn plot(bars: &[(String, Spread)], file: &str) {
+    let most = bars.iter().map(|b| b.1.most).fold(1.0, f64::max);
     let scale = 300.0 / most;
     let mut svg = format!("<svg xmlns=\"http://www.w3.org/2000/svg\" width=\"700\" height=\"{}\" font-family=\"sans-serif\" font-size=\"12\">\n", 30 + 20 * bars.len());
     svg += "<rect width=\"100%\" height=\"100%\" fill=\"white\"/>\n<text x=\"10\" y=\"16\">time of the proved engine / time of the plain one</text>\n";
     for (k, (what, ratio)) in bars.iter().enumerate() {
         let y = 26 + 20 * k;
-        svg += &format!("<text x=\"10\" y=\"{}\">{what}</text><rect x=\"330\" y=\"{y}\" width=\"{:.0}\" height=\"14\" fill=\"#4878a8\"/>", y + 11, ratio * scale);
-        svg += &format!("<text x=\"{:.0}\" y=\"{}\">{ratio:.2}</text>\n", 335.0 + ratio * scale, y + 11);
+        let at = |r: f64| 330.0 + r * scale;
+        svg += &format!("<text x=\"10\" y=\"{}\">{what}</text><rect x=\"330\" y=\"{y}\" width=\"{:.0}\" height=\"14\" fill=\"#4878a8\"/>", y + 11, ratio.median * scale);
+        svg += &format!("<line x1=\"{:.0}\" y1=\"{2}\" x2=\"{:.0}\" y2=\"{2}\" stroke=\"#c04040\" stroke-width=\"2\"/>", at(ratio.least), at(ratio.most), y + 7);
+        svg += &format!("<text x=\"{:.0}\" y=\"{}\">{:.2}</text>\n", at(ratio.most) + 5.0, y + 11, ratio.median);
     }
     svg += &format!("<line x1=\"{0:.0}\" y1=\"22\" x2=\"{0:.0}\" y2=\"{1}\" stroke=\"black\"/>\n</svg>\n", 330.0 + scale, 26 + 20 * bars.len());
     std::fs::write(file, svg).expect("the plot");
