@@ -16,7 +16,8 @@ use Rattle.round.specs.Start.{Result, startOn, freshBytes}
 use Rattle.instruction.specs.Instruction.{allowed, perform}
 use Rattle.arrivals.specs.Arrivals.{admit, full, arriveWith, arriveIn, arriveOn}
 use Rattle.board.specs.Board.{masked}
-use Rattle.actions.specs.Actions.{said, run, startAt, preemptAt, countOn, executeOn, executeAt, advance}
+use Rattle.dispatch.specs.Dispatch.{said, run, startAt, preemptAt}
+use Rattle.advance.specs.Advance.{countOn, executeOn, executeAt, advance}
 use Rattle.machine.specs.Machine.{meet, contest, running, resting, stepWith, stepIn, stepOn}
 
 -- refused by a number that is not 0, with the round as it was

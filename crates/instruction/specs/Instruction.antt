@@ -1,4 +1,4 @@
--- One instruction on the round's bytes (layout: crate round). 01 "Handlers and steps"; "Why a call was turned down": foreign.
+-- One instruction on the round's bytes (layout: crate layout). 01 "Handlers and steps"; "Why a call was turned down": foreign.
 -- Operations: 1 off, 2 on, 3 copy, 4 restore, 5 push, 6 load, 7 fetch, 8 apply (its slot is the function), 9 save, 10 defer, 11 move.
 use Prim.Native.Nat.{ℕ, _+_}
 use mathlib.Core.Bool.{Bool, true, false}

@@ -1,4 +1,4 @@
--- What step does to the round's bytes, for all bytes (layout: crate layout): which of its actions (crate actions). 01 "Handlers and steps", "Why a call was turned down".
+-- What step does to the round's bytes, for all bytes (layout: crate layout): which of them (crates dispatch and advance). 01 "Handlers and steps", "Why a call was turned down".
 -- A function that branches takes plain numbers; one that reads calls it.
 use Prim.Native.Nat.{ℕ, _-_}
 use mathlib.Core.Bool.{Bool}
@@ -10,7 +10,8 @@ use Rattle.layout.specs.Layout.{eventWord, waitingCount, runningFlag, runningEv
 use Rattle.queue.specs.Queue.{best}
 use Rattle.round.specs.Start.{Result}
 use Rattle.board.specs.Board.{masked}
-use Rattle.actions.specs.Actions.{startAt, preemptAt, advance}
+use Rattle.dispatch.specs.Dispatch.{startAt, preemptAt}
+use Rattle.advance.specs.Advance.{advance}
 
 -- slot b is the next, of priority q; one of priority p runs, masked or not
 unfoldable pub meet : List ℕ → List ℕ → ℕ → Bool → ℕ → ℕ → Result

@@ -1,4 +1,4 @@
-// Steps on the round's bytes, refused by 14 where table or round is foreign: which of its actions a step does.
+// Steps on the round's bytes, refused by 14 where table or round is foreign: which of a start, a preemption and an instruction a step does.
 ghost use mathlib.Core.Path.{_≡_};
 ghost use mathlib.Core.Logic.{_≢_};
 ghost use Prim.Native.Nat.{_-_, _≤_, _<_};
@@ -6,7 +6,7 @@ ghost use Rattle.word.specs.Word.{get};
 ghost use Rattle.layout.specs.Bounds.{Bounds};
 ghost use Rattle.round.specs.Start.{result};
 ghost use Rattle.queue.specs.Queue.{best};
-ghost use Rattle.actions.specs.Actions.{startAt};
+ghost use Rattle.dispatch.specs.Dispatch.{startAt};
 ghost use Rattle.machine.specs.Machine.{meet, contest, running, resting, stepWith, stepIn, stepOn};
 
 // Slot b is the next, of priority q; one of priority p runs, masked or not.
@@ -15,12 +15,12 @@ fn meet_on(t: &[u8], l: &mut [u8], b: usize, m: bool, p: u32, q: u32) -> u64
     ensures { λ r. ⌜ result r (now (l .exit)) ≡ meet (now (t .entry)) (now (l .entry)) b m p q ⌝ }
 {
     if m {
-        return actions::advance_on(t, l);
+        return advance::advance_on(t, l);
     }
     if p < q {
-        return actions::preempt_at(l, b);
+        return dispatch::preempt_at(l, b);
     }
-    actions::advance_on(t, l)
+    advance::advance_on(t, l)
 }
 
 fn contest_on(t: &[u8], l: &mut [u8], b: usize) -> u64
@@ -50,7 +50,7 @@ fn running_on(t: &[u8], l: &mut [u8], n: u32) -> u64
     ensures { λ r. ⌜ result r (now (l .exit)) ≡ running (now (t .entry)) (now (l .entry)) n ⌝ }
 {
     if n == 0 {
-        return actions::advance_on(t, l);
+        return advance::advance_on(t, l);
     }
     challenge(t, l, n as usize)
 }
@@ -60,7 +60,7 @@ fn start_next(t: &[u8], l: &mut [u8], n: usize) -> u64
     ensures { λ r. ⌜ result r (now (l .exit)) ≡ startAt (now (l .entry)) (best (now (t .entry)) (now (l .entry)) n) (n - 1) ⌝ }
 {
     let b = queue::best_of(t, l, n);
-    actions::start_at(l, b, n - 1)
+    dispatch::start_at(l, b, n - 1)
 }
 
 // None runs.

@@ -33,8 +33,9 @@ use Rattle.queue.specs.Queue.{ahead, either, better, best, putSlot}
 use Rattle.instruction.specs.Instruction.{perform}
 use Rattle.arrivals.specs.Arrivals.{full, arriveWith, arriveIn, arriveOn}
 use Rattle.board.specs.Board.{copyingBack, masked, settling, boardWith, boardIn, boardOn}
-use Rattle.actions.specs.Actions as actions
-use Rattle.actions.specs.Actions.{said, startAt, preemptAt, countOn, executeOn, executeAt}
+use Rattle.advance.specs.Advance as advancing
+use Rattle.dispatch.specs.Dispatch.{said, startAt, preemptAt}
+use Rattle.advance.specs.Advance.{countOn, executeOn, executeAt}
 use Rattle.machine.specs.Machine.{meet, contest, running, resting, stepWith, stepIn, stepOn}
 use Rattle.refinement.specs.Refinement.{coded, slots, callOn}
 use Rattle.refinement.specs.Slots.{slot, slots-same, slots-swap, take-out, reads, kept-all, kept-put, kept-slot, kept-run}
@@ -127,8 +128,8 @@ module _ (p : Program) (valid : Valid p) (t : List ℕ) (table : Says p t) where
     abbrev performed : List ℕ
     performed = let x = getD (code p (a .event)) c off in perform l (operation x / 256) (operation x % 256) (constant x) (get l 6)
 
-    advance-opens : actions.advance t l ≡ countOn performed c (a .event) (a .number) (length (code p (a .event)))
-    unfolding actions.advance executeAt executeOn
+    advance-opens : advancing.advance t l ≡ countOn performed c (a .event) (a .number) (length (code p (a .event)))
+    unfolding advancing.advance executeAt executeOn
     advance-opens =
         let e = declared in
         rw (
@@ -148,7 +149,7 @@ module _ (p : Program) (valid : Valid p) (t : List ℕ) (table : Says p t) where
         let f = instr-does .framed in
         rw (f .same 1 (omega arith) (omega arith)) (slots-same l performed (get l 1) (R .few) (λ j x y. f .same j y (omega arith)))
 
-    advance-agrees : Agree (size p) l (actions.advance t l) (model.advance p k q a c d)
+    advance-agrees : Agree (size p) l (advancing.advance t l) (model.advance p k q a c d)
     unfolding countOn
     advance-agrees =
         let x = instr-does in

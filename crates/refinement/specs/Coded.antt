@@ -21,7 +21,7 @@ use Rattle.model.specs.Choice.{choose-perm}
 use Rattle.model.specs.Reached.{Fine, Reached, act-keeps, initially}
 use Rattle.image.specs.Image.{tableOf}
 use Rattle.round.specs.Start.{freshBytes}
-use Rattle.actions.specs.Actions.{said}
+use Rattle.dispatch.specs.Dispatch.{said}
 use Rattle.refinement.specs.Refinement.{coded, answersOn}
 use Rattle.refinement.specs.Refines.{valid, refines}
 

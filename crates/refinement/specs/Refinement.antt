@@ -15,7 +15,7 @@ use Rattle.layout.specs.Layout.{taken, waitingCount, runningFlag, runningEvent,
 use Rattle.round.specs.Start.{Result}
 use Rattle.arrivals.specs.Arrivals.{arriveOn}
 use Rattle.board.specs.Board.{boardOn}
-use Rattle.actions.specs.Actions.{said}
+use Rattle.dispatch.specs.Dispatch.{said}
 use Rattle.machine.specs.Machine.{stepOn}
 
 -- an answer as the number that the call gives

@@ -17,7 +17,7 @@ use Rattle.model.specs.Choice.{perm-length}
 use Rattle.queue.specs.Queue.{putSlot}
 use Rattle.round.specs.Start.{Result}
 use Rattle.arrivals.specs.Arrivals.{admit}
-use Rattle.actions.specs.Actions.{run}
+use Rattle.dispatch.specs.Dispatch.{run}
 use Rattle.refinement.specs.Refinement.{coded, slots, Kept}
 use Rattle.refinement.specs.Slots.{slot, slots-length, slots-push, reads, kept-all, kept-put, kept-slot}
 use Rattle.refinement.specs.Values.{Holds, head-holds, start-holds}

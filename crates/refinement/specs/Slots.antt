@@ -17,7 +17,7 @@ use Rattle.word.specs.Word.{get, put}
 use Rattle.word.specs.Laws.{long, length-put, long-put, get-put, get-other, get-same}
 use Rattle.layout.specs.Layout.{numberAt, eventAt}
 use Rattle.queue.specs.Queue.{putSlot}
-use Rattle.actions.specs.Actions.{run}
+use Rattle.dispatch.specs.Dispatch.{run}
 use Rattle.model.specs.Model.{Arrival, arrival}
 use Rattle.refinement.specs.Refinement.{slots, Kept}
 

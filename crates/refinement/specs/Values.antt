@@ -14,7 +14,7 @@ use Rattle.word.specs.Word.{get, put, words, pile}
 use Rattle.word.specs.Laws.{long, long-put, get-same, get-other, words-out, words-in, words-get, pile-out, pile-push}
 use Rattle.execution.specs.Execution.{Values, at, emptied}
 use Rattle.execution.specs.Safe.{full}
-use Rattle.actions.specs.Actions.{run}
+use Rattle.dispatch.specs.Dispatch.{run}
 
 -- ---- values as far as filled, from word a on
 

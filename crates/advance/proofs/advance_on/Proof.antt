@@ -1,10 +1,10 @@
 -- The reads are the definition's, by their contracts; the instruction lies in the table, by `in-code`.
-use Rattle.actions.proofs.Laws.{in-code}
+use Rattle.advance.proofs.Laws.{in-code}
 use Rattle.base.specs.Pick.{code}
-use Rattle.actions.specs.Actions.{advance}
+use Rattle.advance.specs.Advance.{advance}
 use borrow.Author.Needs.{needs}
-use Rattle.actions.proofs.advance_on.Statement.{statement}
-use Rattle.actions.proofs.advance_on.Tie as tie
+use Rattle.advance.proofs.advance_on.Statement.{statement}
+use Rattle.advance.proofs.advance_on.Tie as tie
 
 pub advance-on-spec : {M : Type 1} → statement M
 unfolding advance

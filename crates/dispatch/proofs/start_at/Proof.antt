@@ -1,8 +1,8 @@
 -- The reads and the writes are the definition's, by their contracts.
-use Rattle.actions.specs.Actions.{startAt}
+use Rattle.dispatch.specs.Dispatch.{startAt}
 use borrow.Author.Needs.{needs}
-use Rattle.actions.proofs.start_at.Statement.{statement}
-use Rattle.actions.proofs.start_at.Tie as tie
+use Rattle.dispatch.proofs.start_at.Statement.{statement}
+use Rattle.dispatch.proofs.start_at.Tie as tie
 
 pub start-at-spec : {M : Type 1} → statement M
 unfolding startAt

@@ -1,8 +1,8 @@
 -- The reads and the writes are the definition's, by their contracts.
-use Rattle.actions.specs.Actions.{preemptAt}
+use Rattle.dispatch.specs.Dispatch.{preemptAt}
 use borrow.Author.Needs.{needs}
-use Rattle.actions.proofs.preempt_at.Statement.{statement}
-use Rattle.actions.proofs.preempt_at.Tie as tie
+use Rattle.dispatch.proofs.preempt_at.Statement.{statement}
+use Rattle.dispatch.proofs.preempt_at.Tie as tie
 
 pub preempt-at-spec : {M : Type 1} → statement M
 unfolding preemptAt

@@ -1,9 +1,9 @@
 -- The sum is the definition's.
 use Rattle.base.specs.Pick.{code}
-use Rattle.actions.specs.Actions.{said}
+use Rattle.dispatch.specs.Dispatch.{said}
 use borrow.Author.Needs.{needs}
-use Rattle.actions.proofs.said_of.Statement.{statement}
-use Rattle.actions.proofs.said_of.Tie as tie
+use Rattle.dispatch.proofs.said_of.Statement.{statement}
+use Rattle.dispatch.proofs.said_of.Tie as tie
 
 pub said-of-spec : {M : Type 1} → statement M
 unfolding said

@@ -1,9 +1,9 @@
 -- Each return is one branch of the definition, with its write.
 use Rattle.base.specs.Pick.{code}
-use Rattle.actions.specs.Actions.{countOn}
+use Rattle.advance.specs.Advance.{countOn}
 use borrow.Author.Needs.{needs}
-use Rattle.actions.proofs.count_on.Statement.{statement}
-use Rattle.actions.proofs.count_on.Tie as tie
+use Rattle.advance.proofs.count_on.Statement.{statement}
+use Rattle.advance.proofs.count_on.Tie as tie
 
 pub count-on-spec : {M : Type 1} → statement M
 unfolding countOn

@@ -1,10 +1,10 @@
 -- What is allowed is performed and counted, by the callees' contracts; the other return is the definition's other branch.
 use mathlib.Core.Path.{sym, _∙_}
 use Rattle.base.specs.Pick.{code}
-use Rattle.actions.specs.Actions.{executeOn}
+use Rattle.advance.specs.Advance.{executeOn}
 use borrow.Author.Needs.{needs}
-use Rattle.actions.proofs.execute_on.Statement.{statement}
-use Rattle.actions.proofs.execute_on.Tie as tie
+use Rattle.advance.proofs.execute_on.Statement.{statement}
+use Rattle.advance.proofs.execute_on.Tie as tie
 
 pub execute-on-spec : {M : Type 1} → statement M
 unfolding executeOn

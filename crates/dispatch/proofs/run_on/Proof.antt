@@ -1,8 +1,8 @@
 -- The five writes are the definition's, by their contracts.
-use Rattle.actions.specs.Actions.{run}
+use Rattle.dispatch.specs.Dispatch.{run}
 use borrow.Author.Needs.{needs}
-use Rattle.actions.proofs.run_on.Statement.{statement}
-use Rattle.actions.proofs.run_on.Tie as tie
+use Rattle.dispatch.proofs.run_on.Statement.{statement}
+use Rattle.dispatch.proofs.run_on.Tie as tie
 
 pub run-on-spec : {M : Type 1} → statement M
 unfolding run

@@ -1,8 +1,8 @@
 -- The two words of the instruction are read as the definition reads them.
-use Rattle.actions.specs.Actions.{executeAt}
+use Rattle.advance.specs.Advance.{executeAt}
 use borrow.Author.Needs.{needs}
-use Rattle.actions.proofs.execute_at.Statement.{statement}
-use Rattle.actions.proofs.execute_at.Tie as tie
+use Rattle.advance.proofs.execute_at.Statement.{statement}
+use Rattle.advance.proofs.execute_at.Tie as tie
 
 pub execute-at-spec : {M : Type 1} → statement M
 unfolding executeAt

@@ -1,0 +1,29 @@
+-- One instruction of the running arrival, on the round's bytes, for all bytes (layout: crate layout). 01 "Handlers and steps", "Why a call was turned down".
+-- A function that branches takes plain numbers; one that reads calls it.
+use Prim.Native.Nat.{ℕ, _+_, _*_, _/_, _%_}
+use mathlib.Core.List.{List}
+use lib.Dec.{ltb}
+use Rattle.base.specs.Basics.{pick}
+use Rattle.word.specs.Word.{get, put}
+use Rattle.language.specs.Refusals.{foreign}
+use Rattle.layout.specs.Layout.{eventWord, runningEvent, runningNumber, position, depth}
+use Rattle.round.specs.Start.{Result}
+use Rattle.instruction.specs.Instruction.{allowed, perform}
+use Rattle.dispatch.specs.Dispatch.{said}
+
+-- arrival n of event e has done c of len instructions and now one more
+unfoldable pub countOn : List ℕ → ℕ → ℕ → ℕ → ℕ → Result
+countOn l c e n len = pick (ltb (c + 1) len) (1, put l 5 (c + 1)) (said 3 n e, put l 2 0)
+
+-- the instruction of first word a and constant w, at count c
+unfoldable pub executeOn : List ℕ → ℕ → ℕ → ℕ → ℕ → ℕ → ℕ → Result
+executeOn l a w c e n len =
+    pick (allowed (a / 256) (a % 256) (depth l)) (countOn (perform l (a / 256) (a % 256) w (depth l)) c e n len) (foreign, l)
+
+-- instruction k of the table
+unfoldable pub executeAt : List ℕ → List ℕ → ℕ → ℕ → ℕ → ℕ → ℕ → Result
+executeAt t l k c e n len = executeOn l (get t (512 + k * 2)) (get t (513 + k * 2)) c e n len
+
+unfoldable pub advance : List ℕ → List ℕ → Result
+advance t l =
+    executeAt t l (eventWord t (runningEvent l) 1 + position l) (position l) (runningEvent l) (runningNumber l) (eventWord t (runningEvent l) 2)
