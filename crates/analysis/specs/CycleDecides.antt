@@ -1,27 +1,24 @@
 -- `known` and `cyclic` decide what they are named for. Names: by induction. Cycles: the closed matrix decides what is reached among the behaviours, and
 -- a program whose names are known depends on nothing else.
-use Prim.Native.Nat.{ℕ, zero, suc, _+_, _*_, _/_, _%_, _≤_, _<_}
+use Prim.Native.Nat.{ℕ, _+_, _*_, _/_, _%_, _≤_, _<_}
 use mathlib.Core.Path.{_≡_, refl, sym, _∙_}
-use mathlib.Core.Logic.{_⊎_, inl, inr, ⊎-elim, by-cases}
-use mathlib.Core.Bool.{Bool, true, false, not, _&&_, _||_, true≢false, false≢true}
+use mathlib.Core.Bool.{Bool, true, false, not, _&&_, true≢false}
 use mathlib.Core.List.{List, [], _∷_}
-use native.Mathlib.Decide.{decLt}
 use native.Mathlib.Omega.{arith}
 use lib.Dec.{eqb}
-use lib.ListN.{getD}
-use borrow.Author.Tests.{eqb-true, ltb-true, lt-ltb}
+use borrow.Author.Tests.{ltb-true, lt-ltb}
 use Rattle.base.specs.Basics.{All}
-use Rattle.base.specs.Tools.{split, by-elim, and-left, and-right}
-use Rattle.language.specs.Syntax.{Expr, con, name, app1, app2, app3, Phase, immediate, later, Handler, handler, Behaviour, passive, active, Program}
-use Rattle.language.specs.Dependence.{Response, follows, takes, defers, keeps, inPhase, handled, respond, behaviourAt, response, size, events}
-use Rattle.language.specs.Dependence.{mentions, needs, dependsOn, Reach, NoCycle}
+use Rattle.base.specs.Tools.{split, and-left, and-right}
+use Rattle.language.specs.Syntax.{Expr, con, name, app1, app2, app3, Handler, handler, Behaviour, passive, active, Program}
+use Rattle.language.specs.Dependence.{size, events, dependsOn, Reach, NoCycle}
 use Rattle.language.specs.Accepted.{NamesIn, HandlerNamesIn, BehaviourNamesIn, Known}
 use Rattle.language.specs.Code.{one?}
+use Rattle.language.specs.Laws.{depends-within}
 use Rattle.graph.specs.Matrix.{cell, below, closed}
 use Rattle.graph.specs.Closure.{below-says, below-is, reach-map, reach-within, closed-decides}
 use Rattle.analysis.specs.Faults.{knownIn, knownHandlers, knownBehaviour, knownBehaviours, known, matrixOf, cyclicUnder, cyclic}
 use Rattle.analysis.specs.Any.{any-none, any-never}
-use Rattle.analysis.specs.MatrixAgrees.{length-matrixOf, matrixOf-at, none-past}
+use Rattle.analysis.specs.MatrixAgrees.{length-matrixOf, matrixOf-at}
 
 -- ---- names
 
@@ -82,59 +79,6 @@ behaviours-are n (b ∷ bs) h = both (knownBehaviour n b) (knownBehaviours n bs)
 
 pub known-decides : (p : Program) → ((known p ≡ true → Known p) × (Known p → known p ≡ true))
 known-decides p = (behaviours-say (size p) (p .behaviours), behaviours-are (size p) (p .behaviours))
-
--- ---- what a program depends on is among its behaviours
-
-or-either : (b c : Bool) → b || c ≡ true → (b ≡ true) ⊎ (c ≡ true)
-or-either true c e = inl refl
-or-either false c e = inr e
-
-mention-in : (n j : ℕ) (x : Expr) → NamesIn n x → mentions j x ≡ true → j < n
-unfolding mentions
-mention-in n j (con w) h e = absurd (false≢true e)
-mention-in n j (name i) h e = let q = eqb-true i j e in omega arith
-mention-in n j (app1 f a) h e = mention-in n j a h e
-mention-in n j (app2 f a b) h e = ⊎-elim (mention-in n j a (h .0)) (mention-in n j b (h .1)) (or-either (mentions j a) (mentions j b) e)
-mention-in n j (app3 f a b c) h e =
-    ⊎-elim (mention-in n j a (h .0))
-    (λ r. ⊎-elim (mention-in n j b (h .1)) (mention-in n j c (h .2)) (or-either (mentions j b) (mentions j c) r))
-    (or-either (mentions j a) (mentions j b || mentions j c) e)
-
-abbrev ResponseIn : ℕ → Response → Type 0
-ResponseIn n (follows x) = NamesIn n x
-ResponseIn n (takes x) = NamesIn n x
-ResponseIn n (defers x) = NamesIn n x
-ResponseIn n keeps = Unit {0}
-
-phase-in : (n : ℕ) (φ : Phase) (x : Expr) → NamesIn n x → ResponseIn n (inPhase φ x)
-phase-in n immediate x h = h
-phase-in n later x h = h
-
-handled-in : (n e : ℕ) (hs : List Handler) → All (HandlerNamesIn n) hs → ResponseIn n (handled e hs)
-unfolding handled
-handled-in n e [] h = tt
-handled-in n e (handler f φ x ∷ hs) h = by-elim (ResponseIn n) (eqb e f) (λ t. phase-in n φ x (h .0)) (λ t. handled-in n e hs (h .1))
-
-respond-in : (n e : ℕ) (b : Behaviour) → BehaviourNamesIn n b → ResponseIn n (respond e b)
-respond-in n e (passive x) h = h
-respond-in n e (active s hs) h = handled-in n e hs h
-
-at-in : (n : ℕ) (bs : List Behaviour) (i : ℕ) → All (BehaviourNamesIn n) bs → BehaviourNamesIn n (getD bs i (active 0 []))
-at-in n [] i h = tt
-at-in n (b ∷ bs) zero h = h .0
-at-in n (b ∷ bs) (suc i) h = at-in n bs i (h .1)
-
-needs-in : (n i j : ℕ) (r : Response) → ResponseIn n r → needs i j r ≡ true → j < n
-needs-in n i j (follows x) h e = mention-in n j x h e
-needs-in n i j (takes x) h e = mention-in n j x h (and-left (mentions j x) (not (eqb i j)) e)
-needs-in n i j (defers x) h e = absurd (false≢true e)
-needs-in n i j keeps h e = absurd (false≢true e)
-
-pub depends-within : (p : Program) → Known p → (e i j : ℕ) → dependsOn p e i j ≡ true → (i < size p) × (j < size p)
-depends-within p k e i j h = (
-  by-cases (decLt i (size p)) (λ s. s) (λ s. absurd (true≢false (sym h ∙ none-past p e i j (omega arith)))),
-  needs-in (size p) i j (response p e i) (respond-in (size p) e (behaviourAt p i) (at-in (size p) (p .behaviours) i k)) h,
-)
 
 -- ---- cycles
 

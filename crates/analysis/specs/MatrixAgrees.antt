@@ -1,24 +1,24 @@
 -- The matrix that the code fills is the program's: each cell is followed through the marks, row by row, and the names of an expression are those of its nodes.
 use Prim.Native.Nat.{ℕ, zero, suc, _+_, _*_, _/_, _%_, _≤_, _<_, _^_}
-use mathlib.Core.Path.{_≡_, refl, sym, ap, _∙_, subst}
+use mathlib.Core.Path.{_≡_, refl, sym, _∙_, subst}
 use mathlib.Core.Logic.{_≢_, by-cases}
-use mathlib.Core.Bool.{Bool, true, false, not, _&&_, _||_}
+use mathlib.Core.Bool.{Bool, true, false, not, _&&_, _||_, or-false, or-true, and-true, and-false}
 use mathlib.Core.List.{List, [], _∷_, _++_}
 use native.Mathlib.Decide.{decLt}
 use native.Mathlib.Omega.{arith}
 use lib.Dec.{eqb, ltb}
-use lib.ListN.{length, getD, set, take, drop, length-set, length-drop, List·getD-eq-default}
+use lib.ListN.{length, getD, set, take, drop, length-set, length-drop}
 use lib.Seq.{getD-set-same, getD-set-other, getD-drop, take-suc, ext-getD}
 use borrow.Author.Tests.{eq-eqb, ne-eqb, eqb-true, eqb-false, ltb-true, ltb-false}
 use Rattle.base.specs.Tools.{by-test, split}
-use Rattle.language.specs.Syntax.{Expr, Behaviour, active, Program}
-use Rattle.language.specs.Dependence.{Response, follows, takes, defers, keeps, handled, mentions, needs, size, events, respond, response, dependsOn}
+use Rattle.language.specs.Syntax.{Expr, Program}
+use Rattle.language.specs.Dependence.{Response, follows, takes, defers, keeps, mentions, needs, size, events, response, dependsOn}
 use Rattle.language.specs.Grammar.{Arity, unary, ternary, binary, Nested, n-con, n-name, n-app1, n-app2, n-app3, Fits}
-use Rattle.language.specs.Order.{upTo}
 use Rattle.language.specs.Code.{one?}
+use Rattle.language.specs.Laws.{length-upTo, getD-upTo, none-past, ResponseNested, response-nested}
 use Rattle.draft.specs.Draft.{nodes, entryOf, Drafted}
 use Rattle.draft.specs.Entry.{kindOf, startOf, countOf, tagOf, wordOf}
-use Rattle.draft.specs.DraftLaws.{Holds, Entry, ResponseFits, entry-of, response-fits}
+use Rattle.draft.specs.DraftLaws.{Holds, Entry, entry-of}
 use Rattle.graph.specs.Matrix.{cell, closed}
 use Rattle.analysis.specs.Faults.{anyBelow, matrixOf, cyclicUnder, cyclic}
 use Rattle.analysis.specs.Checks.{blank, markNode, markNodes, markEntry, markRows, matrixOn, closedOn, cyclicOn}
@@ -33,22 +33,6 @@ at m a b = getD m (a * 64 + b) 0
 -- node x names b, which is not `but`
 unfoldable names : ℕ → ℕ → ℕ → Bool
 names but b x = eqb (tagOf x) 17 && (eqb (wordOf x) b && not (eqb but b))
-
-or-false : (b : Bool) → b || false ≡ b
-or-false true = refl
-or-false false = refl
-
-or-true : (b : Bool) → b || true ≡ true
-or-true true = refl
-or-true false = refl
-
-and-true : (b : Bool) → b && true ≡ b
-and-true true = refl
-and-true false = refl
-
-and-false : (b : Bool) → b && false ≡ false
-and-false true = refl
-and-false false = refl
 
 length-markNode : (m : List ℕ) (i but x : ℕ) → length (markNode m i but x) ≡ length m
 unfolding markNode
@@ -234,7 +218,7 @@ module _ (d m : List ℕ) (i v b : ℕ) (dl : length d ≡ 4256) (l : length m �
       let c : take (countOf v) (drop (startOf v) d) ≡ nodes x = rw (e .count-is) (e .there) in
       nodes-here d m i but (startOf v) (countOf v) b l p h s z ∙ rw (c, expr-names but b f)
 
-  entry-here : (r : Response) → Entry d v r → ResponseFits r → at (markEntry d m i v) i b ≡ one? (needs i b r)
+  entry-here : (r : Response) → Entry d v r → ResponseNested r → at (markEntry d m i v) i b ≡ one? (needs i b r)
   unfolding markEntry
   entry-here (follows x) e f =
       let q : eqb 64 b ≡ false = ne-eqb 64 b (λ t. omega arith) in
@@ -263,11 +247,6 @@ unfolding markRows
 rows-left d m e zero a b h k = refl
 rows-left d m e (suc n) a b h k = entry-other d (markRows d m e n) n (entryOf d e n) a b (omega arith) k ∙ rows-left d m e n a b (omega arith) k
 
--- past its end a program depends on nothing
-pub none-past : (p : Program) (e a b : ℕ) → size p ≤ a → dependsOn p e a b ≡ false
-unfolding handled
-none-past p e a b h = ap (λ (y : Behaviour). needs a b (respond e y)) (List·getD-eq-default (p .behaviours) (active 0 []) h)
-
 module _ (p : Program) (d : List ℕ) (k e : ℕ) (f : Fits p) (dr : Drafted p d k) (ev : e ≤ 32) (m : List ℕ) (l : length m ≡ 4096)
     (z : (a b : ℕ) → at m a b ≡ 0) where
   rows-done : (n : ℕ) → n ≤ size p → (a b : ℕ) → a < n → b < 64 → at (markRows d m e n) a b ≡ one? (dependsOn p e a b)
@@ -280,7 +259,7 @@ module _ (p : Program) (d : List ℕ) (k e : ℕ) (f : Fits p) (dr : Drafted p d
       (λ q. entry-other d w n (entryOf d e n) a b (omega arith) t ∙ rows-done n (omega arith) a b q t)
       (λ q. let c : n ≡ a = omega arith in subst (λ y. at (markEntry d w n (entryOf d e n)) y b ≡ one? (dependsOn p e y b)) c
       (entry-here d w n (entryOf d e n) b (dr .long) (length-markRows d m e n ∙ l) few t (rows-left d m e n n b (omega arith) t ∙ z n b)
-      (response p e n) (entry-of p d k dr e n ev (omega arith)) (response-fits p f e n)))
+      (response p e n) (entry-of p d k dr e n ev (omega arith)) (response-nested p (f .each) e n)))
 
   rows-are : (a b : ℕ) → b < 64 → at (markRows d m e (size p)) a b ≡ one? (dependsOn p e a b)
   rows-are a b t =
@@ -289,24 +268,13 @@ module _ (p : Program) (d : List ℕ) (k e : ℕ) (f : Fits p) (dr : Drafted p d
 
 -- ---- the matrix
 
-pub upTo-at : (n : ℕ) (f : ℕ → ℕ) (k : ℕ) → k < n → getD (upTo n f) k 0 ≡ f k
-unfolding upTo
-upTo-at zero f k h = absurd (omega arith)
-upTo-at (suc n) f zero h = refl
-upTo-at (suc n) f (suc k) h = upTo-at n (λ i. f (suc i)) k (omega arith)
-
-length-upTo : (n : ℕ) (f : ℕ → ℕ) → length (upTo n f) ≡ n
-unfolding upTo
-length-upTo zero f = refl
-length-upTo (suc n) f = ap suc (length-upTo n (λ i. f (suc i)))
-
 pub length-matrixOf : (p : Program) (e : ℕ) → length (matrixOf p e) ≡ 4096
 unfolding matrixOf
 length-matrixOf p e = length-upTo 4096 (λ k. one? (dependsOn p e (k / 64) (k % 64)))
 
 pub matrixOf-at : (p : Program) (e k : ℕ) → k < 4096 → getD (matrixOf p e) k 0 ≡ one? (dependsOn p e (k / 64) (k % 64))
 unfolding matrixOf
-matrixOf-at p e k h = upTo-at 4096 (λ k. one? (dependsOn p e (k / 64) (k % 64))) k h
+matrixOf-at p e k h = getD-upTo 4096 (λ k. one? (dependsOn p e (k / 64) (k % 64))) k 0 h
 
 pub matrix-is : (p : Program) (d : List ℕ) (n e : ℕ) → Fits p → Drafted p d n → e ≤ 32 → matrixOn d e (size p) ≡ matrixOf p e
 unfolding matrixOn

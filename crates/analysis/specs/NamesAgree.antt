@@ -1,7 +1,7 @@
 -- The pass over the nodes finds what `known` says of the program: a list of nodes is judged part by part, as the expressions are.
 use Prim.Native.Nat.{ℕ, zero, suc, _+_, _≤_, _<_, _^_}
 use mathlib.Core.Path.{_≡_, refl, _∙_}
-use mathlib.Core.Bool.{Bool, true, false, not, _&&_}
+use mathlib.Core.Bool.{Bool, true, false, not, _&&_, and-true, and-false, and-assoc}
 use mathlib.Core.List.{List, [], _∷_, _++_}
 use native.Mathlib.Omega.{arith}
 use lib.Dec.{ltb, leb}
@@ -22,20 +22,6 @@ use Rattle.analysis.specs.Checks.{stray, namesKnown}
 unfoldable fine : ℕ → List ℕ → Bool
 fine b [] = true
 fine b (x ∷ l) = not (stray x b) && fine b l
-
-and-true : (b : Bool) → b && true ≡ b
-and-true true = refl
-and-true false = refl
-
-and-assoc : (b c d : Bool) → (b && c) && d ≡ b && (c && d)
-and-assoc true c d = refl
-and-assoc false c d = refl
-
-and-comm : (b c : Bool) → b && c ≡ c && b
-and-comm true true = refl
-and-comm true false = refl
-and-comm false true = refl
-and-comm false false = refl
 
 fine-join : (b : ℕ) (l m : List ℕ) → fine b (l ++ m) ≡ fine b l && fine b m
 unfolding fine
@@ -121,7 +107,7 @@ pass-fine d b (suc n) h =
     let e : fine b (take (suc n) d) ≡ fine b (take n d) && not (stray (getD d n 0) b) =
     rw (take-suc d n 0 (omega arith), fine-join b (take n d) (getD d n 0 ∷ []), fine, and-true) in
     split (stray (getD d n 0) b)
-    (λ t. rw (e, t, namesKnown, and-comm (fine b (take n d)) false))
+    (λ t. rw (e, t, namesKnown, and-false (fine b (take n d))))
     (λ t. rw (e, t, namesKnown, and-true) ih)
 
 pub names-known-is : (p : Program) (d : List ℕ) (n : ℕ) → Fits p → Drafted p d n → namesKnown d (size p) n ≡ known p

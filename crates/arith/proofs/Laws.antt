@@ -7,7 +7,7 @@ use native.Mathlib.Nat.{div-le-self, div-zero}
 use lib.Dec.{ltb, eqb}
 use lib.IntN.{ℤ, pos, negsuc, negℤ, subℕ, _+ℤ_, _-ℤ_, _*ℤ_}
 use lib.Signed.{quotZ, ltZ}
-use borrow.Author.Tests.{ltb-true, ltb-false, lt-ltb, le-ltb, eqb-true, eqb-false, eq-eqb, ne-eqb}
+use borrow.Author.Tests.{ltb-true, ltb-false, lt-ltb, le-ltb, eq-eqb, ne-eqb}
 use Rattle.base.specs.Basics.{pick}
 use Rattle.arith.specs.Exact.{signed, wrapped}
 use Rattle.arith.specs.Functions.{isTrue, truth}

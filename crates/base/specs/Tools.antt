@@ -1,9 +1,11 @@
 -- General tools: tests kept as equations, `All`, permutations.
-use Prim.Native.Nat.{ℕ, zero, suc, _+_}
+use Prim.Native.Nat.{ℕ, zero, suc, _<_}
 use mathlib.Core.Bool.{Bool, true, false, _&&_, _||_, false≢true, true≢false}
 use mathlib.Core.Path.{_≡_, refl, subst}
-use mathlib.Core.Logic.{_≢_}
+use mathlib.Core.Logic.{_≢_, _⊎_, inl, inr}
+use mathlib.Core.Option.{Option, none, some}
 use native.Mathlib.Omega.{arith}
+use lib.ListN.{length, getD}
 use Rattle.base.specs.Basics.{pick, All, Distinct}
 use mathlib.Core.List.{List, [], _∷_, _++_}
 use mathlib.Core.List.{List·Permᴰ, List·Permᴰ·nil, List·Permᴰ·cons, List·Permᴰ·swap, List·Permᴰ·trans}
@@ -13,14 +15,6 @@ pub by-test {ℓ} : {A : Type ℓ} (P : A → Type 0) (b : Bool) {x y : A} → (
 by-test P true t f = t refl
 by-test P false t f = f refl
 
-pub or-left : (b c : Bool) → b || c ≡ false → b ≡ false
-or-left true c e = e
-or-left false c e = refl
-
-pub or-right : (b c : Bool) → b || c ≡ false → c ≡ false
-or-right true c e = absurd (true≢false e)
-or-right false c e = e
-
 pub and-left : (b c : Bool) → b && c ≡ true → b ≡ true
 and-left true c e = refl
 and-left false c e = e
@@ -29,15 +23,35 @@ pub and-right : (b c : Bool) → b && c ≡ true → c ≡ true
 and-right true c e = e
 and-right false c e = absurd (false≢true e)
 
+pub or-either : (b c : Bool) → b || c ≡ true → (b ≡ true) ⊎ (c ≡ true)
+or-either true c e = inl refl
+or-either false c e = inr e
+
+-- neither of two tests
+pub neither : (b c : Bool) → pick b true c ≡ false → (b ≡ false) × (c ≡ false)
+neither true c h = absurd (true≢false h)
+neither false c h = (refl, h)
+
 -- a test's two outcomes, where the goal does not branch on it
 pub split {ℓ} : {C : Type ℓ} (b : Bool) → (b ≡ true → C) → (b ≡ false → C) → C
 split true t f = t refl
 split false t f = f refl
 
+-- the same test on both sides
+pub by-two : {A B : Type 0} (P : A → B → Type 0) (b : Bool) {x y : A} {u v : B} → (b ≡ true → P x u) → (b ≡ false → P y v) → P (pick b x y) (pick b u v)
+by-two P true t f = t refl
+by-two P false t f = f refl
+
 -- the same for a branch written `elim b [ true ↦ .. | false ↦ .. ]`, whose arms wait: the form for a recursion that branches
 pub by-elim {ℓ} : {A : Type ℓ} (P : A → Type 0) (b : Bool) {x y : A} → (b ≡ true → P x) → (b ≡ false → P y) → P (elim b [ true ↦ x | false ↦ y ])
 by-elim P true t f = t refl
 by-elim P false t f = f refl
+
+-- to prove P of a match on an option
+pub by-option : {A B : Type 0} (P : B → Type 0) (o : Option A) {x : B} {f : A → B} → (o ≡ none → P x) → ((a : A) → o ≡ some a → P (f a))
+    → P (elim o [ none ↦ x | some a ↦ f a ])
+by-option P none h k = h refl
+by-option P (some a) h k = k a refl
 
 module _ {A : Type 0} (P : A → Type 0) where
   pub all-perm : {l m : List A} → List·Permᴰ l m → All P l → All P m
@@ -57,6 +71,17 @@ module _ {A : Type 0} (P : A → Type 0) where
   pub all-split : (l m : List A) → All P (l ++ m) → All P l × All P m
   all-split [] m h = (tt, h)
   all-split (x ∷ l) m h = let r = all-split l m (h .1) in ((h .0, r .0), r .1)
+
+  -- what holds of every member holds at a place within, or anywhere if it holds of the value beyond the end
+  pub all-at : (l : List A) (i : ℕ) (d : A) → All P l → i < length l → P (getD l i d)
+  all-at [] i d h b = absurd (omega arith)
+  all-at (x ∷ l) zero d h b = h .0
+  all-at (x ∷ l) (suc i) d h b = all-at l i d (h .1) (omega arith)
+
+  pub all-at-or : (l : List A) (i : ℕ) (d : A) → All P l → P d → P (getD l i d)
+  all-at-or [] i d h b = b
+  all-at-or (x ∷ l) zero d h b = h .0
+  all-at-or (x ∷ l) (suc i) d h b = all-at-or l i d (h .1) b
 
 pub distinct-perm : {l m : List ℕ} → List·Permᴰ l m → Distinct l → Distinct m
 distinct-perm List·Permᴰ·nil h = h

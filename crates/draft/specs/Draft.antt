@@ -5,7 +5,6 @@
 -- postfix order. An entry is 0 where there is none, else (count * 4096 + start) * 4 + kind: the expression's nodes, and 1 passive, 2 immediate, 3 later.
 use Prim.Native.Nat.{ℕ, _+_, _*_, _≤_, _<_}
 use mathlib.Core.Path.{_≡_}
-use mathlib.Core.Bool.{true, false}
 use mathlib.Core.List.{List, [], _∷_, _++_}
 use lib.ListN.{length, getD, take, drop}
 use lib.Dec.{eqb, ltb}

@@ -1,6 +1,6 @@
 // Reading the draft of a program (layout: specs/Draft.antt).
 ghost use mathlib.Core.Path.{_≡_};
-ghost use Prim.Native.Nat.{_<_, _≤_};
+ghost use Prim.Native.Nat.{_<_};
 ghost use lib.ListN.{length};
 ghost use Rattle.draft.specs.Draft.{entryOf};
 

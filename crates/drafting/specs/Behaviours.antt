@@ -11,7 +11,7 @@ use lib.Seq.{take-set-le, getD-set-same, getD-set-other, sets}
 use lib.Dec.{ltb, leb, eqb}
 use borrow.Author.Tests.{ltb-true, le-ltb, lt-leb, leb-false, eq-eqb, ne-eqb}
 use Rattle.base.specs.Basics.{pick}
-use Rattle.base.specs.Tools.{by-test}
+use Rattle.base.specs.Tools.{by-test, by-two}
 use Rattle.word.specs.Word.{getAt}
 use Rattle.language.specs.Syntax.{Expr, Handler, Behaviour, passive, active}
 use Rattle.language.specs.Dependence.{handled}
@@ -26,7 +26,7 @@ use Rattle.field.specs.declared.Read.the-variants.{Done, Fault}
 use Rattle.draft.specs.Draft.{nodes, handlerNodes, behaviourNodes, entry}
 use Rattle.behaviours.specs.Handler.{slot, entryAt, handlersOf}
 use Rattle.behaviours.specs.Behaviour.{activeFrom, activeOf, valueAt, behaviourFrom, behaviourOf}
-use Rattle.drafting.specs.Fields.{by-two, valueIn, span, SameField, same-field, value-length}
+use Rattle.drafting.specs.Fields.{valueIn, span, SameField, same-field, value-length}
 use Rattle.drafting.specs.Entries.{same-entry, StandsBy, SaysBy, written-long, written-take, written-pool, written-there, written-same, written-other, Frame}
 use Rattle.drafting.specs.Handlers.{cell, Turn, SameHandlers, same-handlers}
 

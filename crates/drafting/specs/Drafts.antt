@@ -5,10 +5,9 @@ use mathlib.Core.List.{List, []}
 use lib.ListN.{length, replicate, length-replicate, getD-replicate}
 use Rattle.base.specs.Basics.{All}
 use Rattle.language.specs.Syntax.{Program}
-use Rattle.language.specs.Dependence.{size, events}
 use Rattle.language.specs.Reading.{Got, bad, got, readProgram}
 use Rattle.grammar.specs.Programs.{reads-only}
-use Rattle.draft.specs.Draft.{Drafted, DraftOf}
+use Rattle.draft.specs.Draft.{DraftOf}
 use Rattle.reader.specs.declared.Draft.{Draft}
 use Rattle.reader.specs.declared.Draft.the-variants.{Ready, Broken}
 use Rattle.reader.specs.Whole.{Finish, finished, readOn}
@@ -26,20 +25,6 @@ empty = replicate 4256 0
 module _ (s : List ℕ) (bytes : All (λ b. b < 256) s) (some : 1 ≤ length s) (most : length s ≤ 8192) where
   same : SameProgram (readProgram s) (readOn s empty)
   same = same-program s most empty (length-replicate {A = ℕ} 4256 0) (λ j h. getD-replicate {A = ℕ} 4256 j 0 0 h)
-
-  pub drafts-bad : (k : ℕ) → readProgram s ≡ bad k → readOn s empty .0 ≡ Broken k
-  drafts-bad k e = go (readOn s empty) same
-    where
-      go : (o : Finish) → SameProgram (readProgram s) o → o .0 ≡ Broken k
-      go o h = rw e at h
-
-  pub drafts-got : (p : Program) → readProgram s ≡ got p [] → (n : ℕ) × (readOn s empty .0 ≡ Ready (events p) (size p) n) × Drafted p (readOn s empty .1) n
-  drafts-got p e = go (readOn s empty) same
-    where
-      go : (o : Finish) → SameProgram (readProgram s) o → (n : ℕ) × (o .0 ≡ Ready (events p) (size p) n) × Drafted p (o .1) n
-      go o h =
-          let r : SameProgram (got p []) o = rw e at h in
-          (r .1, r .2, r .3)
 
   outcome : (g : Got Program) (o : Finish) → readProgram s ≡ g → SameProgram g o → Outcome s (o .0) (o .1)
   outcome (bad k) o q h = rw h q

@@ -1,6 +1,6 @@
 -- An expression that stands in the draft with its entry, and that later writes leave it there: they go to nodes after it, and to other entries.
 use Prim.Native.Nat.{ℕ, _+_, _*_, _-_, _≤_, _<_}
-use mathlib.Core.Bool.{Bool, true, false, not, true≢false}
+use mathlib.Core.Bool.{false, not}
 use mathlib.Core.Path.{_≡_, refl, sym, ap, subst, _∙_}
 use mathlib.Core.Logic.{_≢_}
 use mathlib.Core.List.{List, [], _∷_, _++_}
@@ -11,18 +11,20 @@ use lib.Seq.{take-take, take-set-le, length-take-le, getD-set-same, getD-set-oth
 use lib.Dec.{eqb}
 use borrow.Author.Tests.{eq-eqb, ne-eqb}
 use Rattle.base.specs.Basics.{pick}
-use Rattle.base.specs.Tools.{split}
+use Rattle.base.specs.Tools.{split, neither}
 use Rattle.language.specs.Syntax.{Expr, Phase, immediate, later, Handler, handler}
 use Rattle.language.specs.Dependence.{Response, follows, takes, defers, keeps, inPhase, handled}
 use Rattle.language.specs.Code.{sizeOf}
 use Rattle.language.specs.Reading.{Got, bad, got, whole, then, exprAt, exprIn, handles}
+use Rattle.language.specs.Laws.{handled-here, handled-there}
 use Rattle.field.specs.Expression.{Out, out, onward, exprOf}
 use Rattle.field.specs.declared.Read.the-variants.{Done, Fault}
 use Rattle.draft.specs.Draft.{nodes, entry}
+use Rattle.draft.specs.DraftLaws.{length-nodes, size-positive}
 use Rattle.behaviours.specs.Handler.{entryAt, slot}
 use Rattle.drafting.specs.Fields.{span, whole-at}
 use Rattle.drafting.specs.Stores.{getD-sets, take-sets, take-sets-all, take-drop}
-use Rattle.drafting.specs.Expressions.{nodes-length, some-nodes, SameExpr, same-expr}
+use Rattle.drafting.specs.Expressions.{SameExpr, same-expr}
 
 -- ---- both readers
 
@@ -62,7 +64,7 @@ stands-kept d d′ n n′ kind v x h e (start, packed, within, there) = (
 )
 
 pub stands-some : (d : List ℕ) (n kind v : ℕ) (x : Expr) → StandsBy d n kind v x → v ≢ 0
-stands-some d n kind v x (start, packed, within, there) e = omega (arith, some-nodes x)
+stands-some d n kind v x (start, packed, within, there) e = omega (arith, size-positive x)
 
 abbrev pub SaysBy : List ℕ → ℕ → ℕ → Response → Type 0
 SaysBy d n v (follows x) = StandsBy d n 1 v x
@@ -91,7 +93,7 @@ module _ (d : List ℕ) (n : ℕ) (x : Expr) (p v : ℕ) (long : length d ≡ 42
   pub written-pool : take (n + sizeOf x) written ≡ take n d ++ nodes x
   written-pool =
       take-set-le (n + sizeOf x) (sets d n (nodes x)) p v (omega arith)
-      ∙ rw (nodes-length x) at (take-sets-all d n (nodes x) (omega (arith, nodes-length x)))
+      ∙ rw (length-nodes x) at (take-sets-all d n (nodes x) (omega (arith, length-nodes x)))
 
   pub written-there : take (sizeOf x) (drop n written) ≡ nodes x
   written-there = take-drop (sizeOf x) n written ∙ rw written-pool (drop-at (take n d) (nodes x) n (length-take-le n d (omega arith)))
@@ -100,7 +102,7 @@ module _ (d : List ℕ) (n : ℕ) (x : Expr) (p v : ℕ) (long : length d ≡ 42
   written-same = getD-set-same (sets d n (nodes x)) p v 0 (omega (arith, length-sets d n (nodes x)))
 
   pub written-other : (j : ℕ) → 2048 ≤ j → j ≢ p → getD written j 0 ≡ getD d j 0
-  written-other j h e = getD-set-other (sets d n (nodes x)) p j v 0 e ∙ getD-sets d n (nodes x) j (omega (arith, nodes-length x))
+  written-other j h e = getD-set-other (sets d n (nodes x)) p j v 0 e ∙ getD-sets d n (nodes x) j (omega (arith, length-nodes x))
 
 -- ---- only the first n nodes, and entries that are not of behaviour i, are sure to be as they were
 
@@ -117,31 +119,19 @@ frame-on i n m d d′ d″ h f g = (
 
 -- ---- handlers by their events
 
-both-false : (b c : Bool) → pick b true c ≡ false → (b ≡ false) × (c ≡ false)
-both-false true c h = absurd (true≢false h)
-both-false false c h = (refl, h)
-
-handled-hit : (e f : ℕ) (φ : Phase) (x : Expr) (hs : List Handler) → eqb e f ≡ true → handled e (handler f φ x ∷ hs) ≡ inPhase φ x
-unfolding handled
-handled-hit e f φ x hs c = rw (c, handled)
-
-handled-miss : (e f : ℕ) (φ : Phase) (x : Expr) (hs : List Handler) → eqb e f ≡ false → handled e (handler f φ x ∷ hs) ≡ handled e hs
-unfolding handled
-handled-miss e f φ x hs c = rw (c, handled)
-
 pub handled-other : (f e : ℕ) (φ : Phase) (x : Expr) (hs : List Handler) → f ≢ e → handled f (hs ++ (handler e φ x ∷ [])) ≡ handled f hs
-handled-other f e φ x [] h = handled-miss f e φ x [] (ne-eqb f e h)
+handled-other f e φ x [] h = handled-there f e φ x [] (ne-eqb f e h)
 handled-other f e φ x (handler g ψ y ∷ hs) h =
     split (eqb f g)
-    (λ c. handled-hit f g ψ y (hs ++ (handler e φ x ∷ [])) c ∙ sym (handled-hit f g ψ y hs c))
-    (λ c. handled-miss f g ψ y (hs ++ (handler e φ x ∷ [])) c ∙ handled-other f e φ x hs h ∙ sym (handled-miss f g ψ y hs c))
+    (λ c. handled-here f g ψ y (hs ++ (handler e φ x ∷ [])) c ∙ sym (handled-here f g ψ y hs c))
+    (λ c. handled-there f g ψ y (hs ++ (handler e φ x ∷ [])) c ∙ handled-other f e φ x hs h ∙ sym (handled-there f g ψ y hs c))
 
 pub handled-new : (e : ℕ) (φ : Phase) (x : Expr) (hs : List Handler) → handles e hs ≡ false → handled e (hs ++ (handler e φ x ∷ [])) ≡ inPhase φ x
 unfolding handles
-handled-new e φ x [] h = handled-hit e e φ x [] (eq-eqb e e refl)
+handled-new e φ x [] h = handled-here e e φ x [] (eq-eqb e e refl)
 handled-new e φ x (handler g ψ y ∷ hs) h =
-    let r = both-false (eqb e g) (handles e hs) h in
-    handled-miss e g ψ y (hs ++ (handler e φ x ∷ [])) (r .0) ∙ handled-new e φ x hs (r .1)
+    let r = neither (eqb e g) (handles e hs) h in
+    handled-there e g ψ y (hs ++ (handler e φ x ∷ [])) (r .0) ∙ handled-new e φ x hs (r .1)
 
 phase-some : (d : List ℕ) (n v : ℕ) (φ : Phase) (x : Expr) → SaysBy d n v (inPhase φ x) → v ≢ 0
 phase-some d n v immediate x h = stands-some d n 2 v x h
@@ -153,5 +143,5 @@ unfolding handled handles
 cell-test d n v e [] h = eq-eqb v 0 h
 cell-test d n v e (handler f φ x ∷ hs) h =
     split (eqb e f)
-    (λ c. rw c (ne-eqb v 0 (phase-some d n v φ x (subst (SaysBy d n v) (handled-hit e f φ x hs c) h))))
-    (λ c. rw c (cell-test d n v e hs (subst (SaysBy d n v) (handled-miss e f φ x hs c) h)))
+    (λ c. rw c (ne-eqb v 0 (phase-some d n v φ x (subst (SaysBy d n v) (handled-here e f φ x hs c) h))))
+    (λ c. rw c (cell-test d n v e hs (subst (SaysBy d n v) (handled-there e f φ x hs c) h)))

@@ -5,12 +5,12 @@ use mathlib.Core.Bool.{true, false}
 use mathlib.Core.Path.{_≡_, refl, sym, ap, _∙_}
 use mathlib.Core.List.{List, [], _∷_, _++_}
 use native.Mathlib.Omega.{arith}
-use lib.ListN.{length, getD, drop, set, length-drop, length-append}
+use lib.ListN.{length, getD, drop, set, length-drop}
 use lib.Seq.{drop-drop, sets}
 use lib.Dec.{ltb, eqb, eqb·suc-zero}
 use borrow.Author.Tests.{ne-eqb}
 use Rattle.base.specs.Basics.{pick}
-use Rattle.base.specs.Tools.{split}
+use Rattle.base.specs.Tools.{split, by-two}
 use Rattle.word.specs.Word.{getAt}
 use Rattle.arith.specs.Functions.{arity}
 use Rattle.language.specs.Syntax.{Expr, con, name, app1, app2, app3}
@@ -24,40 +24,15 @@ use Rattle.field.specs.declared.Head.{Head}
 use Rattle.field.specs.declared.Head.the-variants.{Leaf, Apply, NoHead}
 use Rattle.field.specs.declared.Read.the-variants.{Done, Fault}
 use Rattle.draft.specs.Draft.{nodes}
-use Rattle.drafting.specs.Fields.{by-two, valueIn, span, SameField, same-field, value-length, rest-drop, whole-at}
+use Rattle.draft.specs.DraftLaws.{length-nodes}
+use Rattle.drafting.specs.Fields.{valueIn, span, SameField, same-field, value-length, rest-drop, whole-at}
 use Rattle.drafting.specs.Stores.{sets-append}
 
 -- ---- nodes
 
-pub nodes-length : (x : Expr) → length (nodes x) ≡ sizeOf x
-unfolding nodes sizeOf
-nodes-length (con w) = refl
-nodes-length (name i) = refl
-nodes-length (app1 f a) = omega (arith, nodes-length a, length-append (nodes a) ((77309411328 + f) ∷ []))
-nodes-length (app2 f a b) =
-    omega (arith, nodes-length a, nodes-length b, length-append (nodes a) (nodes b ++ ((77309411328 + f) ∷ [])), length-append (nodes b) ((77309411328 + f) ∷ []))
-nodes-length (app3 f a b c) =
-    omega (
-      arith,
-      nodes-length a,
-      nodes-length b,
-      nodes-length c,
-      length-append (nodes a) (nodes b ++ (nodes c ++ ((77309411328 + f) ∷ []))),
-      length-append (nodes b) (nodes c ++ ((77309411328 + f) ∷ [])),
-      length-append (nodes c) ((77309411328 + f) ∷ []),
-    )
-
-pub some-nodes : (x : Expr) → 1 ≤ sizeOf x
-unfolding sizeOf
-some-nodes (con w) = omega arith
-some-nodes (name i) = omega arith
-some-nodes (app1 f a) = omega arith
-some-nodes (app2 f a b) = omega arith
-some-nodes (app3 f a b c) = omega arith
-
 -- the nodes of an expression, then others
 sets-nodes : (x : Expr) (l : List ℕ) (i : ℕ) (ys : List ℕ) → sets l i (nodes x ++ ys) ≡ sets (sets l i (nodes x)) (i + sizeOf x) ys
-sets-nodes x l i ys = sets-append l i (nodes x) ys ∙ rw (nodes-length x)
+sets-nodes x l i ys = sets-append l i (nodes x) ys ∙ rw (length-nodes x)
 
 -- ---- both readers
 

@@ -1,7 +1,6 @@
 -- Where the tree reader and the reader by positions meet: a field, the end of a value, and what is left over.
 -- Both readers make the same tests in the same order, so one walk follows both.
 use Prim.Native.Nat.{ℕ, _+_, _-_, _≤_, _<_}
-use mathlib.Core.Bool.{Bool, true, false}
 use mathlib.Core.Path.{_≡_, refl, sym, _∙_}
 use mathlib.Core.List.{List}
 use native.Mathlib.Omega.{arith}
@@ -10,7 +9,7 @@ use lib.Seq.{length-take-le, take-all, drop-cons}
 use lib.Dec.{ltb, eqb}
 use borrow.Author.Tests.{ltb-false, eqb-true, eqb-false, eq-eqb, ne-eqb}
 use Rattle.base.specs.Basics.{pick}
-use Rattle.base.specs.Tools.{split}
+use Rattle.base.specs.Tools.{split, by-two}
 use Rattle.language.specs.Refusals.{wrongLength}
 use Rattle.language.specs.Reading as tree
 use Rattle.language.specs.Reading.{refused, present, fieldAt, Got, bad, got, whole}
@@ -19,11 +18,6 @@ use Rattle.field.specs.Field.{stated, fieldOf}
 use Rattle.field.specs.Expression.{rest}
 use Rattle.field.specs.declared.Field.{Field}
 use Rattle.field.specs.declared.Field.the-variants.{Value, Refused}
-
--- the same test on both sides
-pub by-two : {A B : Type 0} (P : A → B → Type 0) (b : Bool) {x y : A} {u v : B} → (b ≡ true → P x u) → (b ≡ false → P y v) → P (pick b x y) (pick b u v)
-by-two P true t f = t refl
-by-two P false t f = f refl
 
 -- the bytes of a field's value, and the size of the field
 abbrev pub valueIn : List ℕ → List ℕ

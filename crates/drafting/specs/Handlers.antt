@@ -11,7 +11,7 @@ use lib.Seq.{drop-drop, sets}
 use lib.Dec.{ltb, leb, eqb, eqb·suc-zero}
 use borrow.Author.Tests.{lt-ltb, leb-false, ltb-false, eqb-true, eqb-false, eq-eqb, ne-eqb}
 use Rattle.base.specs.Basics.{pick}
-use Rattle.base.specs.Tools.{split}
+use Rattle.base.specs.Tools.{split, by-two}
 use Rattle.language.specs.Syntax.{Expr, Phase, immediate, later, Handler, handler}
 use Rattle.language.specs.Dependence.{handled, inPhase}
 use Rattle.language.specs.Code.{sizeOf}
@@ -23,7 +23,7 @@ use Rattle.field.specs.declared.Field.{Field}
 use Rattle.field.specs.declared.Read.the-variants.{Done, Fault}
 use Rattle.draft.specs.Draft.{nodes, handlerNodes, entry}
 use Rattle.behaviours.specs.Handler.{slot, handlerAt, handlerFrom, handlerOf, handlersOf}
-use Rattle.drafting.specs.Fields.{by-two, valueIn, span, SameField, same-field, value-length, rest-drop, end-test}
+use Rattle.drafting.specs.Fields.{valueIn, span, SameField, same-field, value-length, rest-drop, end-test}
 use Rattle.drafting.specs.Entries.{same-entry, SaysBy, says-kept, written, written-long, written-take, written-pool, written-there, written-same, written-other, Frame, frame-on, handled-other, handled-new, cell-test}
 
 -- ---- one handler

@@ -10,6 +10,7 @@ use lib.Seq.{drop-drop}
 use lib.Dec.{ltb, leb, eqb}
 use borrow.Author.Tests.{leb-false, eqb-true, eqb-false, eq-eqb, ne-eqb}
 use Rattle.base.specs.Basics.{pick}
+use Rattle.base.specs.Tools.{by-two}
 use Rattle.language.specs.Syntax.{Behaviour, Program}
 use Rattle.language.specs.Dependence.{size, events}
 use Rattle.language.specs.Reading as tree
@@ -22,7 +23,7 @@ use Rattle.reader.specs.declared.Event.the-variants.{Declared, NoEvent}
 use Rattle.reader.specs.declared.Draft.the-variants.{Ready, Broken}
 use Rattle.behaviours.specs.Behaviour.{behaviourOf}
 use Rattle.reader.specs.Whole.{Made, made, priorityAt, eventFrom, eventOf, eventNext, eventsOf, Finish, finished, proceed, behavioursOf, readOn}
-use Rattle.drafting.specs.Fields.{by-two, span, SameField, same-field, value-length, rest-drop, end-test}
+use Rattle.drafting.specs.Fields.{span, SameField, same-field, value-length, rest-drop, end-test}
 use Rattle.drafting.specs.Behaviours.{SameBehaviour, same-behaviour, first-behaviour}
 use Rattle.drafting.specs.Sofar.{Sofar, grow, declare, nothing-yet, all-read}
 

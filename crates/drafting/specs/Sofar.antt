@@ -1,6 +1,6 @@
 -- What the draft holds while a program is read, how a behaviour and an event add to it, and that at the end it is the program's draft.
 -- A behaviour's row is written once, and what is written later goes to other rows and to nodes after its own.
-use Prim.Native.Nat.{ℕ, _+_, _-_, _≤_, _<_}
+use Prim.Native.Nat.{ℕ, _+_, _≤_, _<_}
 use mathlib.Core.Path.{_≡_, refl, sym, _∙_}
 use mathlib.Core.Logic.{_≢_}
 use mathlib.Core.List.{List, [], _∷_, _++_, append-assoc, append-nil}
@@ -13,7 +13,7 @@ use Rattle.base.specs.Tools.{split}
 use Rattle.language.specs.Syntax.{Expr, Behaviour, passive, active}
 use Rattle.language.specs.Dependence.{Response, follows, takes, defers, keeps, handled, respond}
 use Rattle.language.specs.Reading.{program}
-use Rattle.draft.specs.Draft.{nodes, behaviourNodes, programNodes, entryOf, Stands, Says, StartIs, Drafted}
+use Rattle.draft.specs.Draft.{behaviourNodes, programNodes, entryOf, Stands, Says, StartIs, Drafted}
 use Rattle.behaviours.specs.Handler.{slot}
 use Rattle.drafting.specs.Entries.{StandsBy, stands-kept, stands-some, SaysBy, says-kept, Frame}
 use Rattle.drafting.specs.Handlers.{cell}

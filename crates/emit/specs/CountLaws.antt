@@ -4,20 +4,20 @@ use mathlib.Core.Path.{_≡_}
 use native.Mathlib.Omega.{arith}
 use native.Mathlib.Numerals.{add-one}
 use lib.Dec.{eqb}
-use Rattle.base.specs.Pick.{either}
+use Rattle.base.specs.Tools.{by-test}
 use Rattle.draft.specs.Entry.{kindOf, countOf}
 use Rattle.emit.specs.Words.{total, shareOf, isMember}
 
 pub share-small : (v : ℕ) → countOf v ≤ 2048 → shareOf v ≤ 4100
 unfolding shareOf
 share-small v h =
-    either (λ x. x ≤ 4100) _ _ (eqb (kindOf v) 1) (λ _. omega arith)
-    (λ _. either (λ x. x ≤ 4100) _ _ (eqb (kindOf v) 2) (λ _. omega arith)
-    (λ _. either (λ x. x ≤ 4100) _ _ (eqb (kindOf v) 3) (λ _. omega arith) (λ _. omega arith)))
+    by-test (λ x. x ≤ 4100) (eqb (kindOf v) 1) (λ _. omega arith)
+    (λ _. by-test (λ x. x ≤ 4100) (eqb (kindOf v) 2) (λ _. omega arith)
+    (λ _. by-test (λ x. x ≤ 4100) (eqb (kindOf v) 3) (λ _. omega arith) (λ _. omega arith)))
 
 pub member-small : (v : ℕ) → isMember v ≤ 1
 unfolding isMember
-member-small v = either (λ x. x ≤ 1) _ _ (eqb v 0) (λ _. omega arith) (λ _. omega arith)
+member-small v = by-test (λ x. x ≤ 1) (eqb v 0) (λ _. omega arith) (λ _. omega arith)
 
 total-one : (f : ℕ → ℕ) (i : ℕ) → total (i + 1) f ≡ total i f + f i
 unfolding total

@@ -1,42 +1,35 @@
 -- The words that the compiler writes for an event are those of its code, and its counts are 01's: part by part, from what each entry of the draft holds.
-use Prim.Native.Nat.{ℕ, zero, suc, _+_, _*_, _≤_, _<_}
+use Prim.Native.Nat.{ℕ, zero, suc, _+_, _≤_, _<_}
 use mathlib.Core.Path.{_≡_, refl, sym, ap, _∙_}
-use mathlib.Core.Logic.{by-cases}
-use mathlib.Core.Bool.{Bool, true, false, not, false≢true}
+use mathlib.Core.Bool.{Bool, true, false, false≢true}
 use mathlib.Core.List.{List, [], _∷_, _++_, append-assoc, append-nil}
-use native.Mathlib.Decide.{decLt}
 use native.Mathlib.Omega.{arith}
 use lib.Dec.{eqb}
-use lib.ListN.{length, take}
-use borrow.Author.Tests.{not-false}
 use Rattle.base.specs.Basics.{pick, All}
-use Rattle.base.specs.Tools.{all-imp, by-elim, and-left}
-use Rattle.language.specs.Syntax.{Expr, Phase, immediate, later, Handler, handler, Behaviour, passive, active, Program}
-use Rattle.language.specs.Dependence.{Response, follows, takes, defers, keeps, inPhase, handled, respond, size, response, behaviourAt, needs, dependsOn}
-use Rattle.language.specs.Order.{upTo, early, metAtOnce, phaseOne}
+use Rattle.base.specs.Tools.{all-imp}
+use Rattle.language.specs.Syntax.{Expr, Program}
+use Rattle.language.specs.Dependence.{Response, follows, takes, defers, keeps, size, response}
+use Rattle.language.specs.Order.{upTo, early, phaseOne}
 use Rattle.language.specs.Grammar.{Fits}
-use Rattle.language.specs.Accepted.{NamesIn, HandlerNamesIn, BehaviourNamesIn, Known}
+use Rattle.language.specs.Accepted.{NamesIn, Known}
 use Rattle.language.specs.Code.{Instr, on, copy, restore, save, defer, inC, join, postfix, ofC, firstCode, laterCode, moveCode, againCode, byNumber, inOrder, copyPart, firstPart, secondPart, restorePart, code, share, sum, instructions, one?, members}
-use Rattle.semantics.specs.Lists.{length-upTo, getD-upTo}
-use Rattle.semantics.specs.Graph.{Unmarked}
-use Rattle.semantics.specs.OrderLaws.{ordered-unmarked, order-ordered, named-in, all-at-or, ResponseNamesIn, late-needs, past-end}
+use Rattle.language.specs.Laws.{ResponseNamesIn, response-names, ResponseNested, response-nested}
+use Rattle.semantics.specs.OrderLaws.{phaseOne-early}
 use Rattle.image.specs.Image.{operation, constant, codeWords}
 use Rattle.draft.specs.Draft.{entryOf, Drafted}
 use Rattle.draft.specs.Entry.{kindOf}
-use Rattle.draft.specs.DraftLaws.{Holds, Entry, entry-of, ResponseFits, response-fits}
+use Rattle.draft.specs.DraftLaws.{Holds, Entry, entry-of}
 use Rattle.emit.specs.Words.{each, inTurn, total, turnWords, kindWords, moveWords, memberWords, maskedWords, firstWords, secondWords, eventWords, shareOf, countEvent, isMember, countMembers}
-use Rattle.emit.specs.Writing.{Listed}
-use Rattle.emit.specs.WritingLaws.{all-listed}
-use Rattle.emit.specs.ExprWords.{length-codeWords, codeWords-append, copied-is, expr-code}
+use Rattle.emit.specs.ExprWords.{codeWords-append, copied-is, expr-code}
 
 -- ---- by number, in turn, and sums
 
-join-snoc : {A : Type 0} (n : ℕ) (g : ℕ → List A) → join (upTo (suc n) g) ≡ join (upTo n g) ++ g n
+pub join-snoc : {A : Type 0} (n : ℕ) (g : ℕ → List A) → join (upTo (suc n) g) ≡ join (upTo n g) ++ g n
 unfolding join upTo
 join-snoc zero g = append-nil (g 0)
 join-snoc (suc n) g = rw (join-snoc n (λ i. g (suc i))) (sym (append-assoc (g 0) (join (upTo n (λ i. g (suc i)))) (g (suc n))))
 
-sum-snoc : (n : ℕ) (g : ℕ → ℕ) → sum (upTo (suc n) g) ≡ sum (upTo n g) + g n
+pub sum-snoc : (n : ℕ) (g : ℕ → ℕ) → sum (upTo (suc n) g) ≡ sum (upTo n g) + g n
 unfolding sum upTo
 sum-snoc zero g = omega arith
 sum-snoc (suc n) g = omega (arith, sum-snoc n (λ i. g (suc i)))
@@ -45,7 +38,7 @@ none-code : (g : ℕ → List Instr) → [] ≡ codeWords (join (upTo 0 g))
 unfolding codeWords join upTo
 none-code g = refl
 
-none-sum : (g : ℕ → ℕ) → 0 ≡ sum (upTo 0 g)
+pub none-sum : (g : ℕ → ℕ) → 0 ≡ sum (upTo 0 g)
 unfolding sum upTo
 none-sum g = refl
 
@@ -55,7 +48,7 @@ each-code zero f g h = none-code g
 each-code (suc n) f g h =
     rw (join-snoc n g, codeWords-append (join (upTo n g)) (g n), each-code n f g (λ i b. h i (omega arith)), h n (omega arith))
 
-total-sum : (n : ℕ) (f g : ℕ → ℕ) → ((i : ℕ) → i < n → f i ≡ g i) → total n f ≡ sum (upTo n g)
+pub total-sum : (n : ℕ) (f g : ℕ → ℕ) → ((i : ℕ) → i < n → f i ≡ g i) → total n f ≡ sum (upTo n g)
 unfolding total
 total-sum zero f g h = none-sum g
 total-sum (suc n) f g h = rw (sum-snoc n g, total-sum n f g (λ i b. h i (omega arith)), h n (omega arith))
@@ -65,49 +58,6 @@ turn-code : (p : Program) (e : ℕ) (f : ℕ → List ℕ) (g : ℕ → Response
 unfolding inTurn inOrder codeWords
 turn-code p e f g [] h = refl
 turn-code p e f g (i ∷ is) h = rw (codeWords-append (g i (response p e i)) (inOrder p e g is), h .0, turn-code p e f g is (h .1))
-
--- ---- names, and the order's members, of a program whose names are known
-
-phase-names : (n : ℕ) (φ : Phase) (x : Expr) → NamesIn n x → ResponseNamesIn n (inPhase φ x)
-phase-names n immediate x h = h
-phase-names n later x h = h
-
-handled-names : (n e : ℕ) (hs : List Handler) → All (HandlerNamesIn n) hs → ResponseNamesIn n (handled e hs)
-unfolding handled
-handled-names n e [] h = tt
-handled-names n e (handler f φ x ∷ hs) h = by-elim (ResponseNamesIn n) (eqb e f) (λ t. phase-names n φ x (h .0)) (λ t. handled-names n e hs (h .1))
-
-respond-names : (n e : ℕ) (b : Behaviour) → BehaviourNamesIn n b → ResponseNamesIn n (respond e b)
-unfolding handled
-respond-names n e (passive x) h = h
-respond-names n e (active s hs) h = handled-names n e hs h
-
-needs-in : (n i j : ℕ) (r : Response) → ResponseNamesIn n r → needs i j r ≡ true → j < n
-needs-in n i j (follows x) h e = named-in n j x h e
-needs-in n i j (takes x) h e = named-in n j x h (and-left _ _ e)
-needs-in n i j (defers x) h e = absurd (false≢true e)
-needs-in n i j keeps h e = absurd (false≢true e)
-
-module _ (p : Program) (known : Known p) (e : ℕ) where
-  response-known : (i : ℕ) → ResponseNamesIn (size p) (response p e i)
-  response-known i = respond-names (size p) e (behaviourAt p i) (all-at-or (BehaviourNamesIn (size p)) (p .behaviours) i (active 0 []) known tt)
-
-  within : (a b : ℕ) → dependsOn p e a b ≡ true → (a < size p) × (b < size p)
-  within a b h = (
-    by-cases (decLt a (size p)) (λ z. z) (λ z. absurd (late-needs a b (response p e a) (ap early (past-end e (p .behaviours) a (omega arith))) h)),
-    needs-in (size p) a b (response p e a) (response-known a) h,
-  )
-
-  unmet : (i : ℕ) → i < size p → Unmarked (metAtOnce p e) i → early (response p e i) ≡ true
-  unfolding metAtOnce
-  unmet i h m = not-false (early (response p e i)) (sym (getD-upTo (size p) (λ j. not (early (response p e j))) i false h) ∙ m)
-
-  pub turns-early : All (λ i. (i < size p) × (early (response p e i) ≡ true)) (phaseOne p e)
-  unfolding phaseOne metAtOnce
-  turns-early =
-      all-imp (λ i. (i < size p) × Unmarked (metAtOnce p e) i) (λ i. (i < size p) × (early (response p e i) ≡ true)) (λ i h. (h .0, unmet i (h .0) (h .1))) (phaseOne p e)
-      (ordered-unmarked (size p) (dependsOn p e) (phaseOne p e) (metAtOnce p e) (length-upTo (size p) (λ j. not (early (response p e j))))
-      (order-ordered (size p) (dependsOn p e) within (size p) (metAtOnce p e)))
 
 -- ---- what one entry gives
 
@@ -135,7 +85,7 @@ module _ (p : Program) (d : List ℕ) (n : ℕ) (dr : Drafted p d n) (fits : Fit
     held = entry-of p d n dr e i b h
 
     -- an expression, and one instruction on i
-    ended : (kind op : ℕ) (o : Instr) (x : Expr) (r : Response) → Holds d kind v x → ResponseFits (follows x) → NamesIn (size p) x
+    ended : (kind op : ℕ) (o : Instr) (x : Expr) (r : Response) → Holds d kind v x → ResponseNested (follows x) → NamesIn (size p) x
         → operation o ≡ op + i → constant o ≡ 0 → turnWords d e op i ≡ codeWords (postfix c x ++ (o ∷ []))
     unfolding turnWords codeWords
     ended kind op o x r k f a s z =
@@ -149,20 +99,20 @@ module _ (p : Program) (d : List ℕ) (n : ℕ) (dr : Drafted p d n) (fits : Fit
     unfolding moveWords
     move-kind k z = rw z
 
-    first-is : (r : Response) → Entry d v r → ResponseFits r → ResponseNamesIn (size p) r → early r ≡ true → turnWords d e 2304 i ≡ codeWords (firstCode c i r)
+    first-is : (r : Response) → Entry d v r → ResponseNested r → ResponseNamesIn (size p) r → early r ≡ true → turnWords d e 2304 i ≡ codeWords (firstCode c i r)
     first-is (follows x) k f a z = ended 1 2304 (save i) x (follows x) k f a refl refl
     first-is (takes x) k f a z = ended 2 2304 (save i) x (takes x) k f a refl refl
     first-is (defers x) k f a z = absurd (false≢true z)
     first-is keeps k f a z = absurd (false≢true z)
 
-    later-is : (r : Response) → Entry d v r → ResponseFits r → ResponseNamesIn (size p) r → kindWords d e 3 2560 i ≡ codeWords (laterCode c i r)
+    later-is : (r : Response) → Entry d v r → ResponseNested r → ResponseNamesIn (size p) r → kindWords d e 3 2560 i ≡ codeWords (laterCode c i r)
     unfolding codeWords
     later-is (follows x) k f a = by-kind 3 1 2560 (k .kind-is)
     later-is (takes x) k f a = by-kind 3 2 2560 (k .kind-is)
     later-is (defers x) k f a = by-kind 3 3 2560 (k .kind-is) ∙ ended 3 2560 (defer i) x (defers x) k f a refl refl
     later-is keeps k f a = by-kind 3 0 2560 (omega arith)
 
-    again-is : (r : Response) → Entry d v r → ResponseFits r → ResponseNamesIn (size p) r → kindWords d e 1 2304 i ≡ codeWords (againCode c i r)
+    again-is : (r : Response) → Entry d v r → ResponseNested r → ResponseNamesIn (size p) r → kindWords d e 1 2304 i ≡ codeWords (againCode c i r)
     unfolding codeWords
     again-is (follows x) k f a = by-kind 1 1 2304 (k .kind-is) ∙ ended 1 2304 (save i) x (follows x) k f a refl refl
     again-is (takes x) k f a = by-kind 1 2 2304 (k .kind-is)
@@ -192,11 +142,11 @@ module _ (p : Program) (d : List ℕ) (n : ℕ) (dr : Drafted p d n) (fits : Fit
 
   -- ---- the parts
 
-  fit : (i : ℕ) → ResponseFits (response p e i)
-  fit i = response-fits p fits e i
+  fit : (i : ℕ) → ResponseNested (response p e i)
+  fit i = response-nested p (fits .each) e i
 
   names : (i : ℕ) → ResponseNamesIn (size p) (response p e i)
-  names i = response-known p known e i
+  names i = response-names p known e i
 
   copies-are : maskedWords d e 768 (size p) ≡ codeWords (copyPart p e)
   unfolding maskedWords copyPart codeWords
@@ -220,7 +170,7 @@ module _ (p : Program) (d : List ℕ) (n : ℕ) (dr : Drafted p d n) (fits : Fit
       rw (
         turn-code p e (turnWords d e 2304) (firstCode c) (phaseOne p e)
             (all-imp (λ i. (i < size p) × (early (response p e i) ≡ true)) (λ i. turnWords d e 2304 i ≡ codeWords (firstCode c i (response p e i)))
-            (λ i h. first-is i (h .0) (response p e i) (held i (h .0)) (fit i) (names i) (h .1)) (phaseOne p e) (turns-early p known e)),
+            (λ i h. first-is i (h .0) (response p e i) (held i (h .0)) (fit i) (names i) (h .1)) (phaseOne p e) (phaseOne-early p e known)),
         each-code (size p) (kindWords d e 3 2560) (λ i. laterCode c i (response p e i)) (λ i h. later-is i h (response p e i) (held i h) (fit i) (names i)),
         codeWords-append (inOrder p e (firstCode c) (phaseOne p e)) (byNumber p e (laterCode c)),
       )
@@ -232,7 +182,7 @@ module _ (p : Program) (d : List ℕ) (n : ℕ) (dr : Drafted p d n) (fits : Fit
         each-code (size p) (moveWords d e) (λ i. moveCode i (response p e i)) (λ i h. move-is i h (response p e i) (held i h)),
         turn-code p e (kindWords d e 1 2304) (againCode c) (phaseOne p e)
             (all-imp (λ i. (i < size p) × (early (response p e i) ≡ true)) (λ i. kindWords d e 1 2304 i ≡ codeWords (againCode c i (response p e i)))
-            (λ i h. again-is i (h .0) (response p e i) (held i (h .0)) (fit i) (names i)) (phaseOne p e) (turns-early p known e)),
+            (λ i h. again-is i (h .0) (response p e i) (held i (h .0)) (fit i) (names i)) (phaseOne p e) (phaseOne-early p e known)),
         codeWords-append (byNumber p e moveCode) (inOrder p e (againCode c) (phaseOne p e)),
       )
 
@@ -250,15 +200,6 @@ module _ (p : Program) (d : List ℕ) (n : ℕ) (dr : Drafted p d n) (fits : Fit
         codeWords-append (firstPart p e) (secondPart p e ++ restorePart p e),
         codeWords-append (secondPart p e) (restorePart p e),
       )
-
-  pub event-length : length (eventWords d e (size p) (phaseOne p e)) ≡ 2 * length (code p e)
-  event-length = ap length event-words ∙ length-codeWords (code p e)
-
-  -- bytes that begin with the order of phase one
-  pub order-listed : (o : List ℕ) (count : ℕ) → count ≤ length o → take count o ≡ phaseOne p e → Listed o count (size p)
-  order-listed o count l q =
-      all-listed o count (size p) l
-      (rw q (all-imp (λ i. (i < size p) × (early (response p e i) ≡ true)) (λ i. i < size p) (λ i h. h .0) (phaseOne p e) (turns-early p known e)))
 
   pub count-is : countEvent d e (size p) ≡ instructions p e
   unfolding countEvent instructions

@@ -1,5 +1,5 @@
 -- The words of an expression's nodes are those of its postfix code, by induction on the expression.
-use Prim.Native.Nat.{ℕ, _+_, _*_, _%_, _≤_, _<_, _^_}
+use Prim.Native.Nat.{ℕ, _+_, _%_, _≤_, _<_, _^_}
 use mathlib.Core.Path.{_≡_, refl, sym, ap, _∙_}
 use mathlib.Core.Bool.{Bool, true, false}
 use mathlib.Core.List.{List, [], _∷_, _++_, append-assoc, append-nil}
@@ -15,6 +15,7 @@ use Rattle.language.specs.Grammar.{Arity, unary, ternary, binary, Nested, n-con
 use Rattle.language.specs.Accepted.{NamesIn}
 use Rattle.language.specs.Code.{Instr, load, fetch, apply, copied, inC, postfix}
 use Rattle.image.specs.Image.{operation, constant, codeWords}
+pub use Rattle.image.specs.ImageLaws.{length-codeWords}
 use Rattle.draft.specs.Draft.{nodes, entryOf, Drafted}
 use Rattle.draft.specs.Entry.{startOf, countOf, tagOf, wordOf}
 use Rattle.draft.specs.DraftLaws.{Holds, Entry, entry-of}
@@ -23,11 +24,6 @@ use Rattle.emit.specs.WritingLaws.{in-turn-each}
 use Rattle.emit.specs.BranchLaws.{node-push, node-name, node-apply}
 
 -- ---- words of instructions
-
-pub length-codeWords : (is : List Instr) → length (codeWords is) ≡ 2 * length is
-unfolding codeWords
-length-codeWords [] = refl
-length-codeWords (i ∷ is) = omega (arith, length-codeWords is)
 
 pub codeWords-append : (is js : List Instr) → codeWords (is ++ js) ≡ codeWords is ++ codeWords js
 unfolding codeWords

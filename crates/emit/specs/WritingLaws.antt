@@ -11,10 +11,8 @@ use lib.Seq.{take-suc}
 use Rattle.word.specs.Word.{put}
 use Rattle.image.specs.Image.{putWords}
 use Rattle.image.specs.PutWords.{length-putWords, putWords-append}
-use Rattle.draft.specs.Draft.{entryOf, DraftOf}
+use Rattle.draft.specs.Draft.{entryOf}
 use Rattle.draft.specs.Entry.{startOf, countOf}
-use Rattle.draft.specs.DraftLaws.{draft-long, draft-behaviours, bounded}
-use Rattle.base.specs.Basics.{All}
 use Rattle.emit.specs.Words.{each, inTurn}
 use Rattle.emit.specs.Writing.{Room, Wrote, Sound, Listed}
 
@@ -104,20 +102,8 @@ each-in-turn {o} {count} f h = sym (in-turn-each f o count (h .long))
 
 -- ---- what is asked of draft and order
 
-pub draft-sound : {ev bs n : ℕ} {d : List ℕ} → DraftOf ev bs n d → (e : ℕ) → e ≤ 32 → Sound d e bs
-draft-sound dr e b = record { long = draft-long dr; few = draft-behaviours dr; inside = λ i c. bounded dr e i b c }
-
 pub sound-at : {d : List ℕ} {e n i : ℕ} → Sound d e n → i < n → Sound d e (i + 1)
 sound-at s b = record { long = s .long; few = omega (arith, s .few); inside = λ j h. s .inside j (omega arith) }
 
 pub sound-inside : {d : List ℕ} {e n i v : ℕ} → Sound d e n → i < n → v ≡ entryOf d e i → startOf v + countOf v ≤ 2048
 sound-inside {i} s b is = rw is (s .inside i b)
-
-at-within : (P : ℕ → Type 0) (l : List ℕ) (n j : ℕ) → All P (take n l) → j < n → n ≤ length l → P (getD l j 0)
-at-within P l zero j h b c = absurd (omega arith)
-at-within P [] (suc n) j h b c = absurd (omega arith)
-at-within P (x ∷ l) (suc n) zero h b c = h .0
-at-within P (x ∷ l) (suc n) (suc j) h b c = at-within P l n j (h .1) (omega arith) (omega arith)
-
-pub all-listed : (o : List ℕ) (count n : ℕ) → count ≤ length o → All (λ i. i < n) (take count o) → Listed o count n
-all-listed o count n h a = record { long = h; below = λ j b. at-within (λ i. i < n) o count j a b h }

@@ -2,23 +2,22 @@
 -- The model engine, and the sentences of demand 3 in its terms: crate model, Model.antt and Claims.antt. Calls on bytes, and what the round's bytes say: crate
 -- refinement, Refinement.antt.
 use Prim.Native.Nat.{ℕ, _≤_, _<_}
-use mathlib.Core.Bool.{true, false}
+use mathlib.Core.Bool.{false}
 use mathlib.Core.Path.{_≡_}
 use mathlib.Core.Logic.{_≢_}
 use mathlib.Core.List.{List, [], _∷_, _++_, map}
-use lib.ListN.{length, replicate}
+use lib.ListN.{length}
 use Rattle.base.specs.Basics.{All}
 use Rattle.word.specs.Word.{words}
 use Rattle.language.specs.Syntax.{Program}
 use Rattle.language.specs.Dependence.{size, events, Independent}
 use Rattle.language.specs.Grammar.{encode}
 use Rattle.language.specs.Accepted.{Accepted}
-use Rattle.language.specs.Code.{code}
 use Rattle.semantics.specs.Rules.{Shows}
 use Rattle.semantics.specs.Meaning.{at, fresh}
 use Rattle.semantics.specs.Plays.{Plays}
-use Rattle.model.specs.Model.{Arrival, arrival, Call, arrive, step, Answer, takenIn, ran, started, committed, rank}
-use Rattle.model.specs.Claims.{after, said, committedIn, takenInBy, settlingIn, number, Idle, OnceEach, EqualsInOrder, LowerFirst, SettlesIn}
+use Rattle.model.specs.Model.{Arrival, arrival, Call, rank}
+use Rattle.model.specs.Claims.{after, said, committedIn, takenInBy, settlingIn, number, Idle, OnceEach, EqualsInOrder, LowerFirst, SettlesIn, aloneCalls}
 use Rattle.image.specs.Image.{tableOf}
 use Rattle.round.specs.Start.{startOn}
 use Rattle.machine.specs.Machine.{stepOn}
@@ -36,10 +35,6 @@ boardOf p l = words l 136 (size p)
 -- "Idle: a step called now would answer idle."
 abbrev pub IdleNow : List ℕ → List ℕ → Type 0
 IdleNow t l = stepOn t l .0 ≡ 0
-
--- the calls that take in an event and step it to its commit: the start, and each instruction
-abbrev pub alone : Program → ℕ → List Call
-alone p e = arrive e ∷ step ∷ replicate (length (code p e)) step
 
 -- ---- demand 3, one list of calls: on the table t of program p and the round l that start made fresh in the bytes l₀
 
@@ -67,8 +62,8 @@ pub record OneList (p : Program) (t l₀ l : List ℕ) (cs : List Call) : Type 0
   -- demand 2: "An event run alone leaves on the board, for every behaviour, the value that the paper's big-step rules give": from an idle round, an event that is
   -- taken in and stepped to its commit
   pub one-event : IdleNow t (roundAfter t cs l) → (e : ℕ) → e < events p → number (after p cs) < 1000000
-      → (committedIn p (cs ++ alone p e) ≡ committedIn p cs ++ (arrival (number (after p cs)) e ∷ []))
-      × Plays p (e ∷ []) (boardOf p (roundAfter t cs l)) (boardOf p (roundAfter t (cs ++ alone p e) l))
+      → (committedIn p (cs ++ aloneCalls p e) ≡ committedIn p cs ++ (arrival (number (after p cs)) e ∷ []))
+      × Plays p (e ∷ []) (boardOf p (roundAfter t cs l)) (boardOf p (roundAfter t (cs ++ aloneCalls p e) l))
 
 -- ---- demand 3, every list of calls: for a sheet s that compile accepts, its table in t₀, and a round that start makes in l₀
 

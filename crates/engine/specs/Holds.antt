@@ -1,7 +1,7 @@
 -- Demand 3 holds: for every sheet that compile accepts, every list of calls, and every two lists. The sheet's program comes from what compile accepts, and the
 -- claims about its table and a fresh round carry over.
 use Prim.Native.Nat.{ℕ, _≤_, _<_}
-use mathlib.Core.Path.{_≡_, refl, sym, ap, _∙_, subst}
+use mathlib.Core.Path.{_≡_, sym, ap, _∙_, subst}
 use mathlib.Core.Logic.{by-cases}
 use native.Mathlib.Decide.{decLt}
 use native.Mathlib.Omega.{arith}
@@ -9,7 +9,6 @@ use mathlib.Core.List.{List}
 use lib.ListN.{length}
 use Rattle.base.specs.Basics.{All}
 use Rattle.language.specs.Syntax.{Program}
-use Rattle.language.specs.Dependence.{size}
 use Rattle.language.specs.Grammar.{encode}
 use Rattle.language.specs.Accepted.{Accepted}
 use Rattle.semantics.specs.Agreement.{fresh-shows}
@@ -21,7 +20,7 @@ use Rattle.refinement.specs.Refines.{valid, starts}
 use Rattle.compiler.specs.Verdict.{Compiled, compileOn}
 use Rattle.compiler.specs.JudgeLaws.{compile-short}
 use Rattle.compiler.specs.AcceptedExactly.{accepted-exactly}
-use Rattle.engine.specs.Demand.{boardOf, IdleNow, OneList, EveryList, EverySheet, TwoLists, Whole}
+use Rattle.engine.specs.Demand.{boardOf, IdleNow, OneList, EverySheet, TwoLists, Whole}
 use Rattle.engine.specs.OneHolds.{one-list}
 use Rattle.engine.specs.TwoHolds.{two-lists}
 

@@ -1,39 +1,39 @@
 -- Every sentence of demand 3 about one list of calls, and demand 2's about one event, for an accepted program's table and a fresh round.
 -- The bytes refine the model engine, and the model engine's claims carry over.
-use Prim.Native.Nat.{ℕ, suc, _+_, _-_, _≤_, _<_}
-use mathlib.Core.Bool.{true, false}
-use mathlib.Core.Path.{_≡_, refl, sym, ap, _∙_, subst}
-use mathlib.Core.List.{List, [], _∷_, _++_, map, List·Permᴰ}
+use Prim.Native.Nat.{ℕ, _-_, _≤_, _<_}
+use mathlib.Core.Bool.{false}
+use mathlib.Core.Path.{_≡_, sym, ap, _∙_, subst}
+use mathlib.Core.List.{List, [], _∷_, _++_}
 use native.Mathlib.Omega.{arith}
-use lib.ListN.{length, replicate}
+use lib.ListN.{length}
 use Rattle.base.specs.Basics.{All}
 use Rattle.base.specs.Tools.{all-perm, all-split}
-use Rattle.word.specs.Word.{words}
 use Rattle.language.specs.Syntax.{Program}
-use Rattle.language.specs.Dependence.{size, events, noEvent}
+use Rattle.language.specs.Dependence.{size, events}
 use Rattle.language.specs.Accepted.{Accepted}
 use Rattle.language.specs.Code.{code}
 use Rattle.semantics.specs.Meaning.{fresh, event, play}
 use Rattle.semantics.specs.Plays.{Plays}
 use Rattle.semantics.specs.PlaysLaws.{plays, plays-alone}
+use Rattle.semantics.specs.Lengths.{length-fresh}
 use Rattle.execution.specs.Execution.{Values}
 use Rattle.execution.specs.CodeFacts.{CodeFacts}
 use Rattle.execution.specs.CodeRight.{code-facts}
-use Rattle.model.specs.Model.{Arrival, arrival, rest, Engine, engine, initial, Call, step, Answer, idle, ran, act, run, answers}
-use Rattle.model.specs.Claims.{after, said, commits, committedIn, takenInBy, settlingIn, number, storeOf, inQueue, Idle}
-use Rattle.model.specs.Fresh.{length-fresh}
+use Rattle.model.specs.Model.{Arrival, arrival, rest, Engine, engine, initial, Call, step, idle, act, run, answers}
+use Rattle.model.specs.Claims.{after, said, commits, committedIn, settlingIn, number, storeOf, inQueue, Idle, aloneCalls}
 use Rattle.model.specs.History.{run-append}
 use Rattle.model.specs.Reached.{Reached, reached}
 use Rattle.model.specs.Alone as lone
 use Rattle.model.specs.ModelHolds.{board-of-commits, once-each, equals-in-order, lower-first, settles-in}
+use Rattle.model.specs.Confluence.{Declared}
 use Rattle.image.specs.Image.{tableOf}
 use Rattle.round.specs.Start.{freshBytes}
 use Rattle.machine.specs.Machine.{stepOn}
-use Rattle.refinement.specs.Refinement.{coded, callOn, answersOn, roundAfter, View, Agreement}
+use Rattle.refinement.specs.Refinement.{coded, callOn, roundAfter, View, Agreement}
 use Rattle.refinement.specs.Coded.{answer-to, coded-injective}
 use Rattle.refinement.specs.Refines.{valid, refines}
-use Rattle.engine.specs.Demand.{eventsOf, boardOf, IdleNow, OneList, alone}
-use Rattle.engine.specs.Runs.{answers-append, commits-append, commits-ran, next-answer, Declared, taken-declared, at-rest}
+use Rattle.engine.specs.Demand.{eventsOf, boardOf, IdleNow, OneList}
+use Rattle.engine.specs.Runs.{answers-append, commits-append, commits-ran, next-answer, taken-declared, at-rest}
 
 all-map : (p : Program) (l : List Arrival) → All (Declared p) l → All (λ e. e < events p) (eventsOf l)
 all-map p [] h = tt
@@ -93,7 +93,7 @@ module _ (p : Program) (ok : Accepted p) (t₀ l₀ : List ℕ) (table-room : 34
 
   module _ (cs : List Call) (e : ℕ) (declared : e < events p) where
     abbrev Left : Engine → Type 0
-    Left w = (commits (answers p (alone p e) w) ≡ arrival (number w) e ∷ []) × (storeOf (run p (alone p e) w) ≡ event p e (storeOf w))
+    Left w = (commits (answers p (aloneCalls p e) w) ≡ arrival (number w) e ∷ []) × (storeOf (run p (aloneCalls p e) w) ≡ event p e (storeOf w))
 
     from-rest : (t : ℕ) (d : Values) → Reached p (engine t [] rest d) → t < 1000000 → Left (engine t [] rest d)
     unfolding commits
@@ -117,17 +117,17 @@ module _ (p : Program) (ok : Accepted p) (t₀ l₀ : List ℕ) (table-room : 34
     played s h = plays p (valid p ok) (e ∷ []) (declared, tt) s h
 
     one-event : IdleNow table (roundAfter table cs round) → number (after p cs) < 1000000
-        → (committedIn p (cs ++ alone p e) ≡ committedIn p cs ++ (arrival (number (after p cs)) e ∷ []))
-        × Plays p (e ∷ []) (boardOf p (roundAfter table cs round)) (boardOf p (roundAfter table (cs ++ alone p e) round))
+        → (committedIn p (cs ++ aloneCalls p e) ≡ committedIn p cs ++ (arrival (number (after p cs)) e ∷ []))
+        × Plays p (e ∷ []) (boardOf p (roundAfter table cs round)) (boardOf p (roundAfter table (cs ++ aloneCalls p e) round))
     one-event h room =
         let i = idle-both cs .0 h in
         let r = reached p facts cs in
         let l = alone-from (after p cs) i r room in
         let s = storeOf (after p cs) in
-        let ran-on : storeOf (after p (cs ++ alone p e)) ≡ event p e s = ap storeOf (run-append p cs (alone p e) (initial p)) ∙ l .1 in (
-          ap commits (answers-append p cs (alone p e) (initial p)) ∙ commits-append (said p cs) (answers p (alone p e) (after p cs)) ∙ ap (λ (x : List Arrival). committedIn p cs ++ x) (l .0),
-          subst (λ (x : List ℕ). Plays p (e ∷ []) x (boardOf p (roundAfter table (cs ++ alone p e) round))) (sym (board-is cs))
-              (subst (λ (x : List ℕ). Plays p (e ∷ []) s x) (sym (board-is (cs ++ alone p e) ∙ ran-on))
+        let ran-on : storeOf (after p (cs ++ aloneCalls p e)) ≡ event p e s = ap storeOf (run-append p cs (aloneCalls p e) (initial p)) ∙ l .1 in (
+          ap commits (answers-append p cs (aloneCalls p e) (initial p)) ∙ commits-append (said p cs) (answers p (aloneCalls p e) (after p cs)) ∙ ap (λ (x : List Arrival). committedIn p cs ++ x) (l .0),
+          subst (λ (x : List ℕ). Plays p (e ∷ []) x (boardOf p (roundAfter table (cs ++ aloneCalls p e) round))) (sym (board-is cs))
+              (subst (λ (x : List ℕ). Plays p (e ∷ []) s x) (sym (board-is (cs ++ aloneCalls p e) ∙ ran-on))
               (played s (sized (after p cs) i r))),
         )
 

@@ -1,22 +1,21 @@
--- Demand 1: a refused start, arrival or step leaves the round as it was. By the branches of each call: an accepted step never answers 14.
+-- Demand 1: a refused start, arrival or step leaves the round as it was. By the branches of each call: an accepted step never answers `foreign`.
 -- (A refused compile: crate compiler, AcceptedExactly. A board reading has the round as `&[u8]`.)
-use Prim.Native.Nat.{ℕ, _+_, _*_, _-_, _/_, _%_}
-use mathlib.Core.Bool.{Bool, true, false}
+use Prim.Native.Nat.{ℕ, _+_, _-_}
 use mathlib.Core.Path.{_≡_, refl}
 use mathlib.Core.Logic.{_≢_}
 use mathlib.Core.List.{List}
 use native.Mathlib.Omega.{arith}
 use lib.Dec.{ltb, leb, eqb}
 use lib.ListN.{length}
-use Rattle.base.specs.Basics.{pick}
 use Rattle.base.specs.Tools.{by-test}
-use Rattle.layout.specs.Layout.{eventCount, eventWord, taken, waitingCount, runningFlag, runningEvent, runningNumber, position, depth, numberAt, eventAt, tableFits, ours}
-use Rattle.queue.specs.Queue.{best, putSlot}
-use Rattle.round.specs.Start.{Result, startOn, freshBytes}
-use Rattle.instruction.specs.Instruction.{allowed, perform}
-use Rattle.arrivals.specs.Arrivals.{admit, full, arriveWith, arriveIn, arriveOn}
+use Rattle.language.specs.Refusals.{foreign}
+use Rattle.layout.specs.Layout.{eventCount, eventWord, taken, waitingCount, runningFlag, runningEvent, runningNumber, position, depth, eventAt, tableFits, ours}
+use Rattle.queue.specs.Queue.{best}
+use Rattle.round.specs.Start.{Result, startOn}
+use Rattle.instruction.specs.Instruction.{allowed}
+use Rattle.arrivals.specs.Arrivals.{full, arriveWith, arriveIn, arriveOn}
 use Rattle.board.specs.Board.{masked}
-use Rattle.dispatch.specs.Dispatch.{said, run, startAt, preemptAt}
+use Rattle.dispatch.specs.Dispatch.{said, startAt, preemptAt}
 use Rattle.advance.specs.Advance.{countOn, executeOn, executeAt, advance}
 use Rattle.machine.specs.Machine.{meet, contest, running, resting, stepWith, stepIn, stepOn}
 
@@ -38,10 +37,10 @@ arrive-refused t l e =
     (λ _. by-test (Kept l) (leb 1000000 (taken l)) (λ _ _. refl) (λ _ h. absurd (h refl)))))
     (λ _ _. refl)
 
--- ---- steps: 14 is the only refusal
+-- ---- steps: `foreign` is the only refusal
 
 abbrev Foreign : List ℕ → Result → Type 0
-Foreign l o = o .0 ≡ 14 → o .1 ≡ l
+Foreign l o = o .0 ≡ foreign → o .1 ≡ l
 
 count-not : (l m : List ℕ) (c e n len : ℕ) → Foreign l (countOn m c e n len)
 unfolding countOn said
@@ -66,7 +65,7 @@ contest-kept t l b =
     by-test (Foreign l) (masked (eventWord t (runningEvent l) 2) (eventWord t (runningEvent l) 3) (position l)) (λ _. advance-kept t l)
     (λ _. by-test (Foreign l) (ltb (eventWord t (runningEvent l) 0) (eventWord t (eventAt l b) 0)) (λ _. preempt-kept l b) (λ _. advance-kept t l))
 
-pub step-refused : (t l : List ℕ) → stepOn t l .0 ≡ 14 → stepOn t l .1 ≡ l
+pub step-refused : (t l : List ℕ) → stepOn t l .0 ≡ foreign → stepOn t l .1 ≡ l
 unfolding stepOn stepIn stepWith resting running
 step-refused t l =
     by-test (Foreign l) (ours t l)

@@ -1,7 +1,7 @@
 -- A recorded list of calls: five bytes for each, its kind (0 arrival, 1 step, else board reading) and a number of 32 bits; eight bytes for each answer.
 use Prim.Native.Nat.{ℕ, zero, suc, _+_, _*_, _/_, _%_}
 use mathlib.Core.List.{List, [], _∷_}
-use lib.ListN.{length, getD}
+use lib.ListN.{getD}
 use lib.Dec.{ltb, eqb}
 use Rattle.base.specs.Basics.{pick}
 use Rattle.word.specs.Word.{getAt, put}

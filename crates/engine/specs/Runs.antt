@@ -1,28 +1,23 @@
--- Lists of calls, one after the other: answers, commits and rounds of a joined list. By induction on the first list.
-use Prim.Native.Nat.{ℕ, zero, suc, _+_, _<_}
-use mathlib.Core.Bool.{Bool, true, false}
-use mathlib.Core.Path.{_≡_, refl, sym, ap, _∙_, subst}
+-- Lists of calls, one after the other: answers and commits of a joined list. By induction on the first list.
+use Prim.Native.Nat.{ℕ, zero, suc}
+use mathlib.Core.Path.{_≡_, refl, sym, ap, _∙_}
 use mathlib.Core.List.{List, [], _∷_, _++_, map}
 use native.Mathlib.Omega.{arith}
 use lib.Dec.{leb}
 use lib.ListN.{length, getD, replicate}
 use borrow.Author.Tests.{leb-false}
-use Rattle.base.specs.Basics.{pick, All}
-use Rattle.base.specs.Tools.{by-test, all-perm, all-split}
+use Rattle.base.specs.Basics.{All}
+use Rattle.base.specs.Tools.{by-test}
 use Rattle.language.specs.Syntax.{Program}
 use Rattle.language.specs.Dependence.{events}
 use Rattle.execution.specs.Execution.{Values}
-use Rattle.model.specs.Model.{Arrival, arrival, Running, rest, busy, Engine, engine, queue, Call, arrive, step, board, Answer, refused, takenIn, shows, idle, ran, started, preempted, committed, Outcome, act, run, answers}
+use Rattle.model.specs.Model.{Arrival, rest, busy, Engine, engine, queue, Call, arrive, step, board, Answer, refused, takenIn, shows, idle, ran, started, preempted, committed, Outcome, act, run, answers}
 use Rattle.model.specs.Claims.{ifCommitted, commits, ifTaken, takenFrom, Idle}
 use Rattle.model.specs.Once.{idle-empty}
+use Rattle.model.specs.Confluence.{Declared}
 use Rattle.refinement.specs.Refinement.{coded, callOn, answersOn, roundAfter}
 
 -- ---- joined lists
-
-pub round-append : (t : List ℕ) (cs ds : List Call) (l : List ℕ) → roundAfter t (cs ++ ds) l ≡ roundAfter t ds (roundAfter t cs l)
-unfolding roundAfter
-round-append t [] ds l = refl
-round-append t (c ∷ cs) ds l = round-append t cs ds (callOn t c l .1)
 
 pub answers-append : (p : Program) (cs ds : List Call) (w : Engine) → answers p (cs ++ ds) w ≡ answers p cs w ++ answers p ds (run p cs w)
 unfolding answers run
@@ -70,20 +65,17 @@ next-answer p t cs c l w e = sym (last-answer t cs c l) ∙ ap (λ (x : List ℕ
 -- ---- what is taken in is declared
 
 module _ (p : Program) where
-  abbrev pub Declared : Arrival → Type 0
-  Declared a = a .event < events p
-
-  taken-one : (c : Call) (w : Engine) (n : ℕ) (l : ℕ → List Arrival) → ((m : ℕ) → All Declared (l m)) → All Declared (ifTaken c (act p c w .answer) n l)
+  taken-one : (c : Call) (w : Engine) (n : ℕ) (l : ℕ → List Arrival) → ((m : ℕ) → All (Declared p) (l m)) → All (Declared p) (ifTaken c (act p c w .answer) n l)
   unfolding act
   taken-one (arrive e) (engine t waiting r d) n l h =
-      let P : Outcome → Type 0 = λ o. All Declared (ifTaken (arrive e) (o .answer) n l) in
+      let P : Outcome → Type 0 = λ o. All (Declared p) (ifTaken (arrive e) (o .answer) n l) in
       by-test P (leb (events p) e) (λ _. h n)
       (λ k. by-test P (leb 64 (length (queue waiting r))) (λ _. h n)
       (λ _. by-test P (leb 1000000 t) (λ _. h n) (λ _. (leb-false (events p) e k, h (suc n)))))
   taken-one step w n l h = h n
   taken-one (board i) w n l h = h n
 
-  pub taken-declared : (cs : List Call) (w : Engine) (n : ℕ) → All Declared (takenFrom cs (answers p cs w) n)
+  pub taken-declared : (cs : List Call) (w : Engine) (n : ℕ) → All (Declared p) (takenFrom cs (answers p cs w) n)
   unfolding takenFrom answers
   taken-declared [] w n = tt
   taken-declared (c ∷ cs) w n = taken-one c w n (takenFrom cs (answers p cs (act p c w .after))) (λ m. taken-declared cs (act p c w .after) m)

@@ -13,7 +13,7 @@ use Rattle.language.specs.Accepted.{Accepted}
 use Rattle.semantics.specs.Meaning.{event}
 use Rattle.semantics.specs.Commute.{commute}
 use Rattle.execution.specs.CodeRight.{code-facts}
-use Rattle.model.specs.Model.{Arrival, Call, rank}
+use Rattle.model.specs.Model.{Call, rank}
 use Rattle.model.specs.Claims.{takenInBy}
 use Rattle.model.specs.ModelHolds.{same-board}
 use Rattle.image.specs.Image.{tableOf}

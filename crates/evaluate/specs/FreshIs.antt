@@ -12,15 +12,16 @@ use lib.ListN.{length, getD, set, replicate, length-set, length-append, length-r
 use lib.Seq.{set-append-left, getD-set-same, getD-set-other, ext-getD}
 use borrow.Author.Tests.{lt-ltb}
 use Rattle.base.specs.Basics.{All}
+use Rattle.base.specs.Tools.{all-at}
 use Rattle.language.specs.Syntax.{Expr, Behaviour, passive, active, Program}
 use Rattle.language.specs.Dependence.{Response, follows, takes, defers, keeps, size, noEvent, response, behaviourAt}
 use Rattle.language.specs.Order.{early, phaseOne}
 use Rattle.language.specs.Grammar.{Nested, BehaviourFits, Fits}
 use Rattle.language.specs.Accepted.{NamesIn, Valid}
+use Rattle.language.specs.Laws.{getD-upTo}
 use Rattle.semantics.specs.Meaning.{value, at, firstStep, inTurn, firstPhase, startOf, starts, fresh}
-use Rattle.semantics.specs.Lists.{length-upTo, getD-upTo}
-use Rattle.semantics.specs.OrderLaws.{all-at, phaseOne-early}
-use Rattle.semantics.specs.Solution.{first-length}
+use Rattle.semantics.specs.OrderLaws.{phaseOne-early}
+use Rattle.semantics.specs.Lengths.{length-first, length-starts, length-fresh}
 use Rattle.execution.specs.Responses.{ResponseFits, response-fits}
 use Rattle.execution.specs.Running.{value-same}
 use Rattle.draft.specs.Draft.{entryOf, Stands, Says, StartIs, Drafted}
@@ -41,10 +42,10 @@ pad-at (x ∷ s) m (suc j) = pad-at s m j
 
 -- ---- the start values
 
-length-starts : (d : List ℕ) (n : ℕ) → length (startsOn d n) ≡ 64
+length-startsOn : (d : List ℕ) (n : ℕ) → length (startsOn d n) ≡ 64
 unfolding startsOn
-length-starts d zero = refl
-length-starts d (suc n) = length-set (startsOn d n) n _ ∙ length-starts d n
+length-startsOn d zero = refl
+length-startsOn d (suc n) = length-set (startsOn d n) n _ ∙ length-startsOn d n
 
 starts-past : (d : List ℕ) (n j : ℕ) → n ≤ j → getD (startsOn d n) j 0 ≡ 0
 unfolding startsOn
@@ -56,7 +57,7 @@ unfolding startsOn
 starts-below d zero j b h = absurd (omega arith)
 starts-below d (suc n) j b h =
     by-cases (ℕ-discrete j n)
-    (λ e. rw e (getD-set-same (startsOn d n) n _ 0 (omega (arith, length-starts d n))))
+    (λ e. rw e (getD-set-same (startsOn d n) n _ 0 (omega (arith, length-startsOn d n))))
     (λ e. getD-set-other (startsOn d n) n j _ 0 e ∙ starts-below d n j (omega arith) (omega arith))
 
 start-is : (d : List ℕ) (m i : ℕ) (b : Behaviour) → BehaviourFits m b → StartIs d i b → getD d (4160 + i) 0 % 4294967296 ≡ startOf b
@@ -75,17 +76,13 @@ module _ (p : Program) (d : List ℕ) (k : ℕ) (drafted : Drafted p d k) (fits 
       (all-at (BehaviourFits (length (p .priorities))) (p .behaviours) j (active 0 []) (fits .each) h) (drafted .starts j h)
       ∙ sym (getD-upTo (size p) (λ i. startOf (behaviourAt p i)) j 0 h)
 
-  length-of-starts : length (starts p) ≡ size p
-  unfolding starts
-  length-of-starts = length-upTo (size p) _
-
   starts-are : startsOn d (size p) ≡ starts p ++ rest
   starts-are =
       ext-getD 0 (startsOn d (size p)) (starts p ++ rest)
-      (length-starts d (size p) ∙ rw (length-append, length-of-starts, length-replicate) (omega (arith, fits .few-behaviours)))
+      (length-startsOn d (size p) ∙ rw (length-append, length-starts p, length-replicate) (omega (arith, fits .few-behaviours)))
       (λ j b. by-cases (decLt j (size p))
       (λ h. starts-at j h ∙ sym (pad-at (starts p) (64 - size p) j))
-      (λ h. starts-past d (size p) j (omega arith) ∙ sym (pad-at (starts p) (64 - size p) j ∙ List·getD-eq-default (starts p) 0 (omega (arith, length-of-starts)))))
+      (λ h. starts-past d (size p) j (omega arith) ∙ sym (pad-at (starts p) (64 - size p) j ∙ List·getD-eq-default (starts p) 0 (omega (arith, length-starts p)))))
 
   -- ---- one turn
 
@@ -109,19 +106,13 @@ module _ (p : Program) (d : List ℕ) (k : ℕ) (drafted : Drafted p d k) (fits 
     turn-is i s (defers x) y b l t h = absurd (false≢true y)
     turn-is i s keeps y b l t h = absurd (false≢true y)
 
-    turn-length : (i : ℕ) (s : List ℕ) (r : Response) → length s ≡ size p → length (firstStep i r s) ≡ size p
-    turn-length i s (follows x) l = length-set s i _ ∙ l
-    turn-length i s (takes x) l = length-set s i _ ∙ l
-    turn-length i s (defers x) l = l
-    turn-length i s keeps l = l
-
     turns-are : (is : List ℕ) → All (λ i. (i < size p) × (early (response p e i) ≡ true)) is → (s : List ℕ) → length s ≡ size p
         → turnsOn d e is (s ++ rest) ≡ inTurn p e firstStep is s ++ rest
     unfolding turnsOn inTurn
     turns-are [] a s l = refl
     turns-are (i ∷ is) a s l =
         ap (turnsOn d e is) (turn-is i s (response p e i) (a .0 .1) (a .0 .0) l (drafted .says e i known (a .0 .0)) (response-fits p valid e i))
-        ∙ turns-are is (a .1) (firstStep i (response p e i) s) (turn-length i s (response p e i) l)
+        ∙ turns-are is (a .1) (firstStep i (response p e i) s) (length-first i (response p e i) s ∙ l)
 
   -- ---- all of them
 
@@ -129,16 +120,12 @@ module _ (p : Program) (d : List ℕ) (k : ℕ) (drafted : Drafted p d k) (fits 
   unfolding freshOn fresh firstPhase
   fresh-is =
       ap (turnsOn d (noEvent p) (phaseOne p (noEvent p))) starts-are
-      ∙ turns-are (noEvent p) (fits .few-events) (phaseOne p (noEvent p)) (phaseOne-early p valid (noEvent p) (omega arith)) (starts p) length-of-starts
-
-  pub fresh-length : length (fresh p) ≡ size p
-  unfolding fresh
-  fresh-length = first-length p valid (noEvent p) (omega arith) (starts p) length-of-starts
+      ∙ turns-are (noEvent p) (fits .few-events) (phaseOne p (noEvent p)) (phaseOne-early p (noEvent p) (valid .known)) (starts p) (length-starts p)
 
   -- with more zeros after them, up to m
   pub fresh-padded : (m : ℕ) → 64 ≤ m
       → freshOn d (size p) (noEvent p) (phaseOne p (noEvent p)) ++ replicate (m - 64) 0 ≡ fresh p ++ replicate (m - length (fresh p)) 0
   fresh-padded m h =
       let few : size p ≤ 64 = fits .few-behaviours in
-      let e : 64 - size p + (m - 64) ≡ m - length (fresh p) = rw fresh-length (omega arith) in
+      let e : 64 - size p + (m - 64) ≡ m - length (fresh p) = rw (length-fresh p) (omega arith) in
       rw (fresh-is, append-assoc (fresh p) rest (replicate (m - 64) 0), replicate-append-replicate {A = ℕ} (64 - size p) (m - 64) 0, e)

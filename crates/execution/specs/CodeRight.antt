@@ -2,11 +2,12 @@
 use native.Mathlib.Omega.{arith}
 use Rattle.language.specs.Syntax.{Program}
 use Rattle.language.specs.Accepted.{Valid}
+use Rattle.semantics.specs.Lengths.{length-event}
 use Rattle.execution.specs.CodeFacts.{CodeFacts}
 use Rattle.execution.specs.Lengths.{length-code, length-counted}
 use Rattle.execution.specs.Masks.{marks}
 use Rattle.execution.specs.Quiet.{quiet}
-use Rattle.execution.specs.Right.{length-event, code-right}
+use Rattle.execution.specs.Right.{code-right}
 
 pub code-facts : (p : Program) → Valid p → CodeFacts p
 code-facts p v = record {
@@ -15,6 +16,6 @@ code-facts p v = record {
   masks = λ e c h b. marks p e c b .0;
   copies-back = λ e c h b. marks p e c b .1;
   quiet = λ e c h s l b k. quiet p e c s b k;
-  right = λ e h s l. code-right p v e (omega arith) s l;
+  right = λ e h s l. code-right p v e s l;
   kept = λ e h s l. length-event p e s;
 }

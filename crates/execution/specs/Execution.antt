@@ -1,10 +1,10 @@
 -- What an instruction does. 01 "Handlers and steps".
 use Prim.Native.Nat.{ℕ, _+_}
-use mathlib.Core.Bool.{Bool, true, false}
+use mathlib.Core.Bool.{Bool, false}
 use mathlib.Core.Option.{Option, none, some}
 use mathlib.Core.List.{List, [], _∷_}
 use lib.ListN.{length, getD, set, drop, replicate}
-use lib.Dec.{eqb, leb, ltb}
+use lib.Dec.{eqb, ltb}
 use Rattle.base.specs.Basics.{pick}
 use Rattle.arith.specs.Functions.{result}
 use Rattle.language.specs.Code.{Instr, off, on, copy, restore, load, fetch, save, defer, move, push, apply}

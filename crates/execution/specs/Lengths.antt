@@ -78,8 +78,8 @@ module _ (p : Program) (e : ℕ) where
         → length (inOrder p e f (phaseOne p e)) ≡ sum (upTo (size p) (lengths f))
     length-turns f late =
         length-inOrder f (phaseOne p e)
-        ∙ total-is-sum (size p) (dependsOn p e) (lengths f) (phaseOne p e) (metAtOnce p e) (length-met p v e) (phaseOne-ordered p v e declared)
-        (phaseOne-marks p v e declared) (λ i b m. late i (response p e i) (met-late p v e i b m))
+        ∙ total-is-sum (size p) (dependsOn p e) (lengths f) (phaseOne p e) (metAtOnce p e) (length-met p e) (phaseOne-ordered p e (v .known))
+        (phaseOne-marks p v e declared) (λ i b m. late i (response p e i) (met-late p e i b m))
 
     length-mid : length mid ≡ sum (upTo (size p) (λ i. between (inC p e) i (response p e i)))
     unfolding firstPart secondPart

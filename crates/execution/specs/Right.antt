@@ -7,17 +7,17 @@ use mathlib.Core.Option.{Option, none}
 use mathlib.Core.List.{List, [], _∷_, _++_}
 use native.Mathlib.Decide.{ℕ-discrete}
 use native.Mathlib.Omega.{arith}
-use lib.ListN.{length, length-set, length-replicate}
+use lib.ListN.{length, length-replicate}
 use lib.Seq.{ext-getD}
 use Rattle.base.specs.Basics.{pick, All}
 use Rattle.base.specs.Tools.{all-imp}
 use Rattle.language.specs.Syntax.{Program}
-use Rattle.language.specs.Dependence.{Response, follows, takes, defers, keeps, size, noEvent, response}
+use Rattle.language.specs.Dependence.{Response, size, response}
 use Rattle.language.specs.Order.{phaseOne}
 use Rattle.language.specs.Accepted.{Valid}
 use Rattle.language.specs.Code.{Instr, off, on, firstCode, laterCode, moveCode, againCode, inC, byNumber, inOrder, firstPart, secondPart, code}
+use Rattle.language.specs.Laws.{upTo-of}
 use Rattle.semantics.specs.Meaning.{firstStep, laterValue, againStep, inTurn, firstPhase, settle, event}
-use Rattle.semantics.specs.Lists.{length-upTo, upTo-of}
 use Rattle.semantics.specs.OrderLaws.{phaseOne-early}
 use Rattle.execution.specs.Execution.{Values, at, heldAt, execute, executeAll, emptied}
 use Rattle.execution.specs.Responses.{response-fits}
@@ -26,32 +26,7 @@ use Rattle.execution.specs.Lengths.{mid}
 use Rattle.execution.specs.Masks.{copies, restores, code-shape}
 use Rattle.execution.specs.Simulation.{View, first-one, again-one, Waits, later-one, LaterOne, move-one, MoveOne, Copied, copy-one, Restored, restore-one}
 
--- ---- the meaning keeps the store's length
-
-length-first : (i : ℕ) (r : Response) (t : List ℕ) → length (firstStep i r t) ≡ length t
-length-first i (follows x) t = length-set t i _
-length-first i (takes x) t = length-set t i _
-length-first i (defers x) t = refl
-length-first i keeps t = refl
-
-length-again : (i : ℕ) (r : Response) (t : List ℕ) → length (againStep i r t) ≡ length t
-length-again i (follows x) t = length-set t i _
-length-again i (takes x) t = refl
-length-again i (defers x) t = refl
-length-again i keeps t = refl
-
-module _ (p : Program) (e : ℕ) where
-  length-turn : (g : ℕ → Response → List ℕ → List ℕ) → ((i : ℕ) (r : Response) (t : List ℕ) → length (g i r t) ≡ length t)
-      → (is : List ℕ) (t : List ℕ) → length (inTurn p e g is t) ≡ length t
-  unfolding inTurn
-  length-turn g h [] t = refl
-  length-turn g h (i ∷ is) t = length-turn g h is (g i (response p e i) t) ∙ h i (response p e i) t
-
-  pub length-event : (s : List ℕ) → length (event p e s) ≡ size p
-  unfolding event settle
-  length-event s = length-turn againStep length-again (phaseOne p e) (settle p e (firstPhase p e s)) ∙ length-upTo (size p) _
-
-module _ (p : Program) (v : Valid p) (e : ℕ) (declared : e ≤ noEvent p) (s : List ℕ) where
+module _ (p : Program) (v : Valid p) (e : ℕ) (s : List ℕ) where
   abbrev Seen : Values → List ℕ → Type 0
   Seen d t = View (size p) (inC p e) s d t
 
@@ -66,7 +41,7 @@ module _ (p : Program) (v : Valid p) (e : ℕ) (declared : e ≤ noEvent p) (s :
         (turns is (a .1) (executeAll (f i (response p e i)) d) (g i (response p e i) t) (one d t i (a .0) h))
 
   below : All (λ i. i < size p) (phaseOne p e)
-  below = all-imp _ _ (λ i h. h .0) (phaseOne p e) (phaseOne-early p v e declared)
+  below = all-imp _ _ (λ i h. h .0) (phaseOne p e) (phaseOne-early p e (v .known))
 
   -- phase one
   after-first : (d : Values) (t : List ℕ) → Seen d t → Seen (executeAll (inOrder p e (firstCode (inC p e)) (phaseOne p e)) d) (firstPhase p e t)

@@ -13,7 +13,7 @@ use lib.ListN.{length, getD, set, drop, take, replicate, length-set, length-repl
 use lib.Seq.{getD-set-same, getD-set-other, drop-cons}
 use Rattle.base.specs.Tools.{split}
 use Rattle.language.specs.Syntax.{Program}
-use Rattle.language.specs.Dependence.{size, events}
+use Rattle.language.specs.Dependence.{size}
 use Rattle.language.specs.Accepted.{Valid}
 use Rattle.language.specs.Code.{code, Instr, off, on, copy, restore, load, fetch, save, defer, move, push, apply}
 use Rattle.execution.specs.Execution.{Values, at, heldAt, top, apply1, apply2, apply3, applied, execute, executeAll, emptied}
@@ -159,14 +159,10 @@ matches-at a is c d h m = after-matches (take c is) (drop c is) d a (subst (Safe
 
 -- ---- an event's code
 
--- it passes
-pub code-safe : (p : Program) → Valid p → size p ≤ 64 → (e : ℕ) → e < events p → Safe (start (size p)) (code p e)
-code-safe p v few e h = passes p v e (omega arith)
-
 -- at each count: the values are filled as the check has it, and the next instruction has what it needs
-pub code-at : (p : Program) → Valid p → size p ≤ 64 → (e : ℕ) → e < events p → (s : List ℕ) → length s ≡ size p → (c : ℕ) → c < length (code p e)
+pub code-at : (p : Program) → Valid p → (e : ℕ) (s : List ℕ) → length s ≡ size p → (c : ℕ) → c < length (code p e)
     → Matches (executeAll (take c (code p e)) (emptied s)) (after (start (size p)) (take c (code p e)))
     × Ok (after (start (size p)) (take c (code p e))) (getD (code p e) c off)
-code-at p v few e h s l c b =
-    let safe : Safe (start (size p)) (code p e) = code-safe p v few e h in
+code-at p v e s l c b =
+    let safe = passes p v e in
     (matches-at (start (size p)) (code p e) c (emptied s) safe (start-matches (size p) s l), safe-at (start (size p)) (code p e) c safe b)

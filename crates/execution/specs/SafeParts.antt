@@ -12,7 +12,7 @@ use lib.Seq.{getD-set-same, getD-set-other}
 use Rattle.base.specs.Basics.{pick, All}
 use Rattle.base.specs.Tools.{all-imp}
 use Rattle.language.specs.Syntax.{Expr, Program}
-use Rattle.language.specs.Dependence.{Response, follows, takes, defers, keeps, size, noEvent, response}
+use Rattle.language.specs.Dependence.{Response, follows, takes, defers, keeps, size, response}
 use Rattle.language.specs.Order.{upTo, phaseOne}
 use Rattle.language.specs.Grammar.{Nested, n-con, n-name, n-app1, n-app2, n-app3}
 use Rattle.language.specs.Accepted.{NamesIn, Valid}
@@ -267,7 +267,7 @@ module _ (n : ℕ) (c : ℕ → Bool) where
 
 -- ---- the whole code
 
-module _ (p : Program) (v : Valid p) (e : ℕ) (declared : e ≤ noEvent p) where
+module _ (p : Program) (v : Valid p) (e : ℕ) where
   abbrev Held : ℕ → Filled → Type 0
   Held k a = Ready (size p) (inC p e) k a
 
@@ -275,7 +275,7 @@ module _ (p : Program) (v : Valid p) (e : ℕ) (declared : e ≤ noEvent p) wher
   AllHeld a = Held (size p) a
 
   below : All (λ i. i < size p) (phaseOne p e)
-  below = all-imp _ _ (λ i h. h .0) (phaseOne p e) (phaseOne-early p v e declared)
+  below = all-imp _ _ (λ i h. h .0) (phaseOne p e) (phaseOne-early p e (v .known))
 
   copies-safe : Goes (start (size p)) (copies p e) AllHeld
   unfolding start

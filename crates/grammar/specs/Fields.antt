@@ -8,7 +8,7 @@ use native.Mathlib.Numerals.{add-three}
 use lib.ListN.{length, getD, take, drop, length-append, take-append-drop}
 use lib.Seq.{length-take-le, take-append-seam, drop-append-seam}
 use lib.Dec.{ltb}
-use borrow.Author.Tests.{ltb-false, le-ltb, lt-ltb}
+use borrow.Author.Tests.{ltb-false, le-ltb}
 use Rattle.base.specs.Basics.{pick, All}
 use Rattle.base.specs.Tools.{by-test, all-split}
 use Rattle.language.specs.Refusals.{torn, wrongTag}
@@ -36,24 +36,6 @@ field-by-position lo hi (t ∷ (h ∷ [])) = refl
 field-by-position lo hi (t ∷ (h ∷ (l ∷ bs))) =
     let q : suc (suc (suc (length bs))) - 3 ≡ length bs = omega arith in
     rw (le-ltb (suc (suc (suc (length bs)))) 3 (omega arith), q, add-three (h * 256 + l))
-
--- a field in bounds, whose tag is one of those due
-pub field-present : (lo hi : ℕ) (s : List ℕ) → 3 ≤ length s → lo ≤ getD s 0 0 → getD s 0 0 ≤ hi → stated s ≤ length s - 3
-    → fieldAt lo hi s ≡ present (getD s 0 0) (take (stated s) (drop 3 s)) (drop (stated s + 3) s)
-field-present lo hi s a b c d = rw (field-by-position lo hi s, le-ltb (length s) 3 a, le-ltb (getD s 0 0) lo b, le-ltb hi (getD s 0 0) c, le-ltb (length s - 3) (stated s) d)
-
--- the refusals: too few bytes, a tag below or above those due, a length past the end
-pub field-short : (lo hi : ℕ) (s : List ℕ) → length s < 3 → fieldAt lo hi s ≡ refused torn
-field-short lo hi s a = rw (field-by-position lo hi s, lt-ltb (length s) 3 a)
-
-pub field-tag-below : (lo hi : ℕ) (s : List ℕ) → 3 ≤ length s → getD s 0 0 < lo → fieldAt lo hi s ≡ refused wrongTag
-field-tag-below lo hi s a b = rw (field-by-position lo hi s, le-ltb (length s) 3 a, lt-ltb (getD s 0 0) lo b)
-
-pub field-tag-above : (lo hi : ℕ) (s : List ℕ) → 3 ≤ length s → lo ≤ getD s 0 0 → hi < getD s 0 0 → fieldAt lo hi s ≡ refused wrongTag
-field-tag-above lo hi s a b c = rw (field-by-position lo hi s, le-ltb (length s) 3 a, le-ltb (getD s 0 0) lo b, lt-ltb hi (getD s 0 0) c)
-
-pub field-torn : (lo hi : ℕ) (s : List ℕ) → 3 ≤ length s → lo ≤ getD s 0 0 → getD s 0 0 ≤ hi → length s - 3 < stated s → fieldAt lo hi s ≡ refused torn
-field-torn lo hi s a b c d = rw (field-by-position lo hi s, le-ltb (length s) 3 a, le-ltb (getD s 0 0) lo b, le-ltb hi (getD s 0 0) c, lt-ltb (length s - 3) (stated s) d)
 
 -- ---- reading back, and what is read
 

@@ -1,7 +1,7 @@
 -- Handlers: a list of handlers within its limits is read back after those already read, and what is read is such a list.
 -- The reader's test against the handlers read so far is the grammar's "none has two handlers", seen from the end; both go by induction on the list or the bound.
 use Prim.Native.Nat.{ℕ, zero, suc, _≤_, _<_}
-use mathlib.Core.Bool.{Bool, true, false, true≢false}
+use mathlib.Core.Bool.{true, false}
 use mathlib.Core.Path.{_≡_, refl, sym, _∙_}
 use mathlib.Core.Logic.{_≢_}
 use mathlib.Core.List.{List, [], _∷_, _++_, append-assoc, append-nil}
@@ -9,8 +9,7 @@ use native.Mathlib.Omega.{arith}
 use lib.ListN.{length, length-append}
 use lib.Dec.{ltb, leb, eqb}
 use borrow.Author.Tests.{ltb-false, leb-false, lt-leb, eqb-true, eqb-false, ne-eqb}
-use Rattle.base.specs.Basics.{pick}
-use Rattle.base.specs.Tools.{by-test, all-split}
+use Rattle.base.specs.Tools.{by-test, all-split, neither}
 use Rattle.language.specs.Syntax.{Expr, Phase, immediate, later, Handler, handler}
 use Rattle.language.specs.Grammar.{field, encodeExpr, encodePhase, encodeHandler, encodeHandlers, Nested, NoneFor, HandlersFit}
 use Rattle.language.specs.Reading.{Field, refused, present, fieldAt, Got, bad, got, exprIn, handles, phaseOf, phaseIn, handlerIn, handlerBody, handlersAt}
@@ -23,10 +22,6 @@ use Rattle.grammar.specs.Expressions.{expr-in-reads, expr-in-of}
 -- one handler fits after those of hs
 abbrev pub HandlerFits : ℕ → List Handler → Handler → Type 0
 HandlerFits n hs (handler e φ x) = (e < n) × Nested 16 x × (handles e hs ≡ false)
-
-neither : (b c : Bool) → pick b true c ≡ false → (b ≡ false) × (c ≡ false)
-neither true c h = absurd (true≢false h)
-neither false c h = (refl, h)
 
 none-snoc : (f e : ℕ) (φ : Phase) (x : Expr) (hs : List Handler) → NoneFor f hs → f ≢ e → NoneFor f (hs ++ (handler e φ x ∷ []))
 none-snoc f e φ x [] h d = (d, tt)

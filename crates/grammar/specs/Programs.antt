@@ -1,7 +1,7 @@
 -- Programs: the reader accepts exactly the encodings of programs within the limits, a program is determined by its bytes, and a fault has a number from 4 to 10.
 -- By induction on the events and behaviours left to read, and the other way on the bound of fields; `encode` of what is read so far, and the bytes left, stay the same bytes.
 use Prim.Native.Nat.{ℕ, zero, suc, _+_, _≤_, _<_}
-use mathlib.Core.Bool.{Bool, true, false, true≢false}
+use mathlib.Core.Bool.{true}
 use mathlib.Core.Path.{_≡_, refl, sym, ap, _∙_}
 use mathlib.Core.List.{List, [], _∷_, _++_, append-assoc, append-nil}
 use native.Mathlib.Omega.{arith}
@@ -259,12 +259,3 @@ encode-injective p q f g e = ap (gotten p) (sym (reads-back p f) ∙ ap readProg
 -- a fault of reading is one of 4 to 10
 pub fault-numbers : (s : List ℕ) (n : ℕ) → readProgram s ≡ bad n → (4 ≤ n) × (n ≤ 10)
 fault-numbers s n e = let h : SaysProgram (program [] []) s (bad n) = rw e at (program-says s) in h
-
-abbrev faulty : Got Program → Bool
-faulty (bad n) = true
-faulty (got q rest) = false
-
--- a fault is found only in what is no encoding
-pub bad-means-none : (s : List ℕ) (n : ℕ) → readProgram s ≡ bad n → (p : Program) → Fits p → encode p ≡ s → ⊥
-bad-means-none s n e p f q =
-    true≢false (ap faulty (sym e ∙ ap readProgram (sym q) ∙ reads-back p f))

@@ -1,7 +1,7 @@
 -- The closed matrix decides `Reach`: passing through k adds exactly the pairs (i, j) with i to k and k to j, so what is marked is reached,
 -- and the marks are closed under every node that is passed.
 use Prim.Native.Nat.{ℕ, zero, suc, _+_, _*_, _≤_, _<_}
-use mathlib.Core.Bool.{Bool, true, false, not, _&&_, _||_, false≢true}
+use mathlib.Core.Bool.{Bool, true, false, not, _&&_, _||_, false≢true, or-false, or-true}
 use mathlib.Core.Path.{_≡_, refl, sym, ap, _∙_, subst}
 use mathlib.Core.Logic.{_≢_, _⊎_, inl, inr, ⊎-elim, by-cases}
 use mathlib.Core.List.{List}
@@ -11,23 +11,11 @@ use lib.Dec.{eqb, ltb}
 use lib.ListN.{length, getD, set, length-set}
 use lib.Seq.{getD-set-same, getD-set-other}
 use borrow.Author.Tests.{ltb-true, lt-ltb}
-use Rattle.base.specs.Tools.{by-test, and-left, and-right}
+use Rattle.base.specs.Tools.{by-test, and-left, and-right, or-either}
 use Rattle.language.specs.Dependence.{Reach, one, more}
 use Rattle.graph.specs.Matrix.{cell, below, closeCell, closeRow, closeThrough, closeRows, closeBy, closed}
 
 -- ---- Booleans
-
-or-false : (b : Bool) → b ≡ b || false
-or-false true = refl
-or-false false = refl
-
-or-true : (b : Bool) → true ≡ b || true
-or-true true = refl
-or-true false = refl
-
-or-cases : (b c : Bool) → b || c ≡ true → (b ≡ true) ⊎ (c ≡ true)
-or-cases true c e = inl refl
-or-cases false c e = inr e
 
 absorb : (b c : Bool) → c || (b && c) ≡ c
 absorb true true = refl
@@ -59,10 +47,6 @@ pub length-closeBy : (m : List ℕ) (n k : ℕ) → length (closeBy m n k) ≡ l
 unfolding closeBy
 length-closeBy m n zero = refl
 length-closeBy m n (suc k) = length-closeRows (closeBy m n k) k n n ∙ length-closeBy m n k
-
-pub length-closed : (m : List ℕ) (n : ℕ) → length (closed m n) ≡ length m
-unfolding closed
-length-closed m n = length-closeBy m n n
 
 -- ---- one cell is set
 
@@ -98,8 +82,8 @@ row-in m i k (suc c) b l o p q =
     (λ e. set-other w i c i b (omega arith) (omega arith) (λ x y. omega arith) ∙ row-in m i k c b l o (omega arith) s))
     (λ s. let f : c ≡ b = omega arith in subst (λ z. cell (closeCell w i k c) i z ≡ cell m i z || cell m k z) f
     (by-test (λ x. cell x i c ≡ cell m i c || cell m k c) (eqb (getD w (k * 64 + c) 0) 0)
-    (λ e. let z : cell m k c ≡ false = sym here ∙ ap not e in rw z (mine ∙ or-false (cell m i c)))
-    (λ e. let z : cell m k c ≡ true = sym here ∙ ap not e in rw z (set-same w i c long o (omega arith) ∙ or-true (cell m i c)))))
+    (λ e. let z : cell m k c ≡ false = sym here ∙ ap not e in rw z (mine ∙ sym (or-false (cell m i c))))
+    (λ e. let z : cell m k c ≡ true = sym here ∙ ap not e in rw z (set-same w i c long o (omega arith) ∙ sym (or-true (cell m i c))))))
 
 -- ---- it does so only where i depends on k
 
@@ -113,7 +97,7 @@ through-in : (m : List ℕ) (i k n b : ℕ) → length m ≡ 4096 → i < 64 →
 unfolding closeThrough
 through-in m i k n b l o p q =
     by-test (λ x. cell x i b ≡ cell m i b || (cell m i k && cell m k b)) (eqb (getD m (i * 64 + k) 0) 0)
-    (λ e. let z : cell m i k ≡ false = ap not e in rw z (or-false (cell m i b)))
+    (λ e. let z : cell m i k ≡ false = ap not e in rw z (sym (or-false (cell m i b))))
     (λ e. let z : cell m i k ≡ true = ap not e in rw z (row-in m i k n b l o p q))
 
 -- ---- a pass through k: row k and column k stay as they were
@@ -183,13 +167,13 @@ module _ (m : List ℕ) (n : ℕ) (l : length m ≡ 4096) (small : n ≤ 64) whe
     down : (i j : ℕ) → i < n → j < n → cell v i j ≡ true → (cell w i j ≡ true) ⊎ ((cell w i k ≡ true) × (cell w k j ≡ true))
     down i j a b e =
         ⊎-elim inl (λ f. inr (and-left (cell w i k) (cell w k j) f, and-right (cell w i k) (cell w k j) f))
-        (or-cases (cell w i j) (cell w i k && cell w k j) (sym (is i j a b) ∙ e))
+        (or-either (cell w i j) (cell w i k && cell w k j) (sym (is i j a b) ∙ e))
 
     up : (i j : ℕ) → i < n → j < n → cell w i j ≡ true → cell v i j ≡ true
     up i j a b e = is i j a b ∙ rw e
 
     join : (i j : ℕ) → i < n → j < n → cell w i k ≡ true → cell w k j ≡ true → cell v i j ≡ true
-    join i j a b e f = is i j a b ∙ rw (e, f) (sym (or-true (cell w i j)))
+    join i j a b e f = is i j a b ∙ rw (e, f) (or-true (cell w i j))
 
     -- through an earlier node
     through : (i h j : ℕ) → i < n → h < k → j < n → cell v i h ≡ true → cell v h j ≡ true → cell v i j ≡ true

@@ -1,5 +1,5 @@
 -- Placing on bytes gives language's `order`: the marks as bytes and as Booleans agree at each step, so each test, and each choice, is the same.
-use Prim.Native.Nat.{ℕ, zero, suc, _+_, _*_, _-_, _≤_, _<_}
+use Prim.Native.Nat.{ℕ, zero, suc, _+_, _*_, _≤_, _<_}
 use mathlib.Core.Bool.{Bool, true, false, not, _&&_, true≢false, false≢true}
 use mathlib.Core.Path.{_≡_, refl, sym, ap, _∙_, subst}
 use mathlib.Core.Option.{Option, none, some}
@@ -8,20 +8,16 @@ use native.Mathlib.Omega.{arith}
 use native.Mathlib.Nat.{zero-add}
 use lib.Dec.{eqb, ltb}
 use lib.ListN.{length, getD, set, take, drop, length-set, List·getD-append, take-append-drop}
-use lib.Seq.{getD-set-same, getD-set-other, take-suc-set, drop-set-lt, take-append-seam, getD-append-add, getD-drop}
+use lib.Seq.{getD-set-same, getD-set-other, take-suc-set, drop-set-lt, take-append-seam}
 use borrow.Author.Tests.{lt-ltb, le-ltb, eqb-true, eqb-false}
 use Rattle.base.specs.Basics.{pick, All}
-use Rattle.base.specs.Tools.{split, by-elim}
+use Rattle.base.specs.Tools.{split, by-elim, by-option, all-at}
 use Rattle.language.specs.Order.{met, find, order, upTo}
+use Rattle.language.specs.Laws.{length-upTo, getD-upTo, upTo-same}
 use Rattle.graph.specs.Matrix.{cell}
 use Rattle.graph.specs.Placing.{lacks, metOn, readyOn, findOn, Placed, placed, orderOn, isMarked, ordered, Written}
 
 -- ---- branches
-
--- to prove P of a match on an option
-by-option : {A B : Type 0} (P : B → Type 0) (o : Option A) {x : B} {f : A → B} → (o ≡ none → P x) → ((a : A) → o ≡ some a → P (f a)) → P (elim o [ none ↦ x | some a ↦ f a ])
-by-option P none h k = h refl
-by-option P (some a) h k = k a refl
 
 branch-same : {A : Type 0} (b c : Bool) (f : A) {x y : A} → b ≡ c → x ≡ y → _≡_ {A = A} (elim b [ true ↦ f | false ↦ x ]) (elim c [ true ↦ f | false ↦ y ])
 branch-same true true f e p = refl
@@ -44,19 +40,6 @@ lacks-test false false = refl
 ready-test : (a b : Bool) → pick a b false ≡ not (not a) && b
 ready-test true b = refl
 ready-test false b = refl
-
--- ---- lists of the values below n
-
-pub length-upTo : {A : Type 0} (n : ℕ) (f : ℕ → A) → length (upTo n f) ≡ n
-unfolding upTo
-length-upTo zero f = refl
-length-upTo (suc n) f = ap suc (length-upTo n (λ i. f (suc i)))
-
-pub getD-upTo : {A : Type 0} (n : ℕ) (f : ℕ → A) (i : ℕ) (d : A) → i < n → getD (upTo n f) i d ≡ f i
-unfolding upTo
-getD-upTo zero f i d h = absurd (omega arith)
-getD-upTo (suc n) f zero d h = refl
-getD-upTo (suc n) f (suc i) d h = getD-upTo n (λ j. f (suc j)) i d (omega arith)
 
 -- ---- the order looks at dependence among the first n only
 
@@ -218,26 +201,11 @@ module _ (o out : List ℕ) (count : ℕ) (marks′ out′ : List ℕ) (w : Writ
   pub written-at : (k : ℕ) → k < length o → getD out′ k 0 ≡ getD o k 0
   written-at k h = rw (w .1) (List·getD-append o (drop (length o) out) 0 k h)
 
-  pub written-beyond : (k : ℕ) → count ≤ k → getD out′ k 0 ≡ getD out k 0
-  written-beyond k h =
-      let e : k ≡ length o + (k - length o) = omega (arith, w .0) in
-      rw (e, w .1) (getD-append-add o (drop (length o) out) (k - length o) 0 ∙ getD-drop (length o) out (k - length o) 0)
-
-pub upTo-same : {A : Type 0} (n : ℕ) (f g : ℕ → A) → ((i : ℕ) → i < n → f i ≡ g i) → upTo n f ≡ upTo n g
-unfolding upTo
-upTo-same zero f g h = refl
-upTo-same (suc n) f g h = cc (h 0 (omega arith), upTo-same n (λ i. f (suc i)) (λ i. g (suc i)) (λ i b. h (suc i) (omega arith)))
-
 -- the order by any dependence and any marks that agree with the bytes among the first n
 pub ordered-same : (m marks : List ℕ) (n : ℕ) (dep : ℕ → ℕ → Bool) (f : ℕ → Bool) → ((i j : ℕ) → i < n → j < n → cell m i j ≡ dep i j)
     → ((i : ℕ) → i < n → isMarked marks i ≡ f i) → ordered m n marks ≡ order n dep n (upTo n f)
 ordered-same m marks n dep f h k =
     order-same n (λ i j. cell m i j) dep h n (upTo n (λ i. isMarked marks i)) ∙ ap (order n dep n) (upTo-same n (λ i. isMarked marks i) f k)
-
-all-at : (n : ℕ) (o : List ℕ) (k : ℕ) → All (λ x. x < n) o → k < length o → getD o k 0 < n
-all-at n [] k h b = absurd (omega arith)
-all-at n (x ∷ o) zero h b = h .0
-all-at n (x ∷ o) (suc k) h b = all-at n o k (h .1) (omega arith)
 
 -- what a caller of `order_of` needs for its bounds: at most n are placed, each below n
 module _ (m marks out : List ℕ) (n : ℕ) (l : length marks ≡ 64) (o : length out ≡ 64) (small : n ≤ 64) (count : ℕ) (marks′ out′ : List ℕ)
@@ -251,4 +219,4 @@ module _ (m marks out : List ℕ) (n : ℕ) (l : length marks ≡ 64) (o : lengt
       let w = order-written m marks out n l o small count marks′ out′ e in
       let b : k < length (ordered m n marks) = omega (arith, w .0) in
       rw (written-at (ordered m n marks) out count marks′ out′ w k b)
-      (all-at n (ordered m n marks) k (order-bounds n (λ i j. cell m i j) n (upTo n (λ i. isMarked marks i))) b)
+      (all-at (λ x. x < n) (ordered m n marks) k 0 (order-bounds n (λ i j. cell m i j) n (upTo n (λ i. isMarked marks i))) b)

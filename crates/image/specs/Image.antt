@@ -1,6 +1,6 @@
 -- The table that compile leaves for a program: the words of its first 34,816 bytes (layout: crate layout). 01 "Handlers and steps": "each event's code is the one 01 lists".
 use Prim.Native.Nat.{ℕ, _+_, _*_, _-_}
-use mathlib.Core.List.{List, [], _∷_, _++_, map}
+use mathlib.Core.List.{List, [], _∷_, _++_}
 use lib.ListN.{length, getD, replicate}
 use Rattle.word.specs.Word.{put}
 use Rattle.language.specs.Syntax.{Program}

@@ -18,6 +18,7 @@ use Rattle.language.specs.Code.{Instr, off, code, join, sum, members}
 use Rattle.semantics.specs.Meaning.{at, fresh}
 use Rattle.layout.specs.Layout.{eventWord, codeFits, codesFit, tableWith, tableFits}
 use Rattle.image.specs.Image.{operation, constant, codeWords, allCode, startOf, eventRecord, padded, imageWords, putWords, tableOf}
+use Rattle.image.specs.PutWords.{length-putWords}
 
 -- ---- lists
 
@@ -28,7 +29,7 @@ getD-zeros [] (suc m) (suc k) = getD-zeros [] m k
 getD-zeros (w ∷ ws) m zero = refl
 getD-zeros (w ∷ ws) m (suc k) = getD-zeros ws m k
 
-length-padded : (n : ℕ) (ws : List ℕ) → length ws ≤ n → length (padded n ws) ≡ n
+pub length-padded : (n : ℕ) (ws : List ℕ) → length ws ≤ n → length (padded n ws) ≡ n
 unfolding padded
 length-padded n ws h = rw (length-append ws (replicate (n - length ws) 0), length-replicate {A = ℕ} (n - length ws) 0) (omega arith)
 
@@ -83,7 +84,7 @@ module _ {A : Type 0} (d : A) where
 
 -- ---- code
 
-length-codeWords : (is : List Instr) → length (codeWords is) ≡ length is * 2
+pub length-codeWords : (is : List Instr) → length (codeWords is) ≡ 2 * length is
 unfolding codeWords
 length-codeWords [] = refl
 length-codeWords (i ∷ is) = omega (arith, length-codeWords is)
@@ -111,11 +112,6 @@ byte-other l k w i h =
     let c : i ≢ k * 4 + 2 = omega arith in
     let d : i ≢ k * 4 + 3 = omega arith in
     simp getD-set-other
-
-pub length-putWords : (l : List ℕ) (k : ℕ) (ws : List ℕ) → length (putWords l k ws) ≡ length l
-unfolding putWords
-length-putWords l k [] = refl
-length-putWords l k (w ∷ ws) = length-putWords (put l k w) (k + 1) ws ∙ length-put l k w
 
 pub get-putWords-before : (l : List ℕ) (k : ℕ) (ws : List ℕ) (j : ℕ) → j < k → get (putWords l k ws) j ≡ get l j
 unfolding putWords

@@ -1,7 +1,5 @@
 -- Which sheets are accepted. 01 "The sheet", "Why a call was turned down": compile.
 use Prim.Native.Nat.{ℕ, _≤_, _<_}
-use mathlib.Core.Path.{_≡_}
-use mathlib.Core.Bool.{true}
 use lib.ListN.{length}
 use Rattle.base.specs.Basics.{All}
 use Rattle.language.specs.Syntax.{Expr, con, name, app1, app2, app3, Handler, handler, Behaviour, passive, active, Program}

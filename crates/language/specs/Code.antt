@@ -1,11 +1,10 @@
 -- Instructions, and the list of them for each event. 01 "Handlers and steps", after 003 Figure 3.
-use Prim.Native.Nat.{ℕ, zero, suc, _+_, _*_}
+use Prim.Native.Nat.{ℕ, _+_, _*_}
 use mathlib.Core.Bool.{Bool, true, false}
 use mathlib.Core.List.{List, [], _∷_, _++_}
-use lib.ListN.{length}
 use Rattle.base.specs.Basics.{pick}
 use Rattle.language.specs.Syntax.{Expr, con, name, app1, app2, app3, Program}
-use Rattle.language.specs.Dependence.{Response, follows, takes, defers, keeps, size, events, response, dependsOn}
+use Rattle.language.specs.Dependence.{Response, follows, takes, defers, keeps, size, events, response}
 use Rattle.language.specs.Order.{upTo, phaseOne}
 
 -- off and on mask interrupts; copy brings a value from the store (01: board) to scratch, restore from scratch to the store; push puts a constant on the

@@ -1,6 +1,6 @@
 -- What a behaviour does on an event, dependence and cycles (01: circles), what an event reads and writes, independence. 01 "The meaning of one event".
 -- An event is its number. A number that is not declared has no handler: so it is the case of no event.
-use Prim.Native.Nat.{ℕ, _≤_, _<_}
+use Prim.Native.Nat.{ℕ, _≤_}
 use mathlib.Core.Bool.{Bool, true, false, not, _&&_, _||_}
 use mathlib.Core.Path.{_≡_}
 use mathlib.Core.List.{List, [], _∷_}

@@ -1,6 +1,5 @@
 -- The grammar as an encoding of programs, and the limits that one field can show. 01 "The sheet".
-use Prim.Native.Nat.{ℕ, zero, suc, _+_, _/_, _%_, _≤_, _<_, _^_}
-use mathlib.Core.Path.{_≡_}
+use Prim.Native.Nat.{ℕ, suc, _/_, _%_, _≤_, _<_, _^_}
 use mathlib.Core.Logic.{_≢_}
 use mathlib.Core.List.{List, [], _∷_, _++_}
 use lib.ListN.{length}

@@ -6,3 +6,4 @@ pub mod Dependence
 pub mod Order
 pub mod Code
 pub mod Accepted
+pub mod Laws

@@ -1,24 +1,21 @@
 -- Demand 2, first sentence, of the model engine: in an idle engine, an event that is taken in and stepped alone to its commit leaves the store of its meaning.
 -- By induction on the instructions left: nothing waits, so each step is the next instruction.
 use Prim.Native.Nat.{ℕ, zero, suc, _+_, _-_, _≤_, _<_}
-use mathlib.Core.Bool.{true, false}
 use mathlib.Core.Path.{_≡_, refl, sym, ap, _∙_, subst}
 use mathlib.Core.List.{List, [], _∷_, _++_}
 use native.Mathlib.Omega.{arith}
 use native.Mathlib.Numerals.{add-one}
-use lib.Dec.{ltb, leb}
-use lib.ListN.{length, getD, drop, replicate}
+use lib.ListN.{length, getD, drop, replicate, drop-of-length-le}
 use lib.Seq.{drop-cons}
-use lib.ListN.{drop-of-length-le}
 use borrow.Author.Tests.{lt-ltb, le-ltb, lt-leb}
-use Rattle.base.specs.Basics.{pick}
 use Rattle.language.specs.Syntax.{Program}
 use Rattle.language.specs.Dependence.{size, events}
 use Rattle.language.specs.Code.{Instr, off, code}
 use Rattle.semantics.specs.Meaning.{event}
 use Rattle.execution.specs.Execution.{Values, execute, executeAll, emptied}
 use Rattle.execution.specs.CodeFacts.{CodeFacts}
-use Rattle.model.specs.Model.{Arrival, arrival, rest, busy, Engine, engine, Call, arrive, step, Answer, takenIn, ran, started, committed, Outcome, outcome, act, run, answers}
+use Rattle.model.specs.Model.{Arrival, arrival, rest, busy, engine, arrive, step, Answer, takenIn, ran, started, committed, Outcome, outcome, act, run, answers}
+use Rattle.model.specs.Claims.{aloneCalls}
 
 module _ (p : Program) where
   -- one instruction that is not the last, and the last
@@ -55,10 +52,7 @@ module _ (p : Program) where
         let ih = finish k (c + 1) (execute (getD is c off) d) (omega arith) in
         (rw (s .0, s .1, ih .0), ap (run p (replicate (suc k) step)) (s .1) ∙ ih .1 ∙ ap (engine t [] rest) (sym (rest-of c d (omega arith))))
 
-  -- the calls, their answers, and the store after them
-  abbrev pub aloneCalls : ℕ → List Call
-  aloneCalls e = arrive e ∷ step ∷ replicate (length (code p e)) step
-
+  -- the answers to those calls, and the store after them
   abbrev pub aloneAnswers : ℕ → ℕ → List Answer
   aloneAnswers t e = takenIn ∷ started (arrival t e) ∷ (replicate (length (code p e) - 1) ran ++ (committed (arrival t e) ∷ []))
 
@@ -90,8 +84,8 @@ module _ (p : Program) where
         ∙ ap (λ (o : Outcome). run p (replicate (suc k) step) (o .after)) starts
         ∙ f .1
 
-    pub alone : (answers p (aloneCalls e) (engine t [] rest d) ≡ aloneAnswers t e)
-        × (run p (aloneCalls e) (engine t [] rest d) ≡ engine (t + 1) [] rest (executeAll (code p e) (emptied (d .store))))
+    pub alone : (answers p (aloneCalls p e) (engine t [] rest d) ≡ aloneAnswers t e)
+        × (run p (aloneCalls p e) (engine t [] rest d) ≡ engine (t + 1) [] rest (executeAll (code p e) (emptied (d .store))))
         × (executeAll (code p e) (emptied (d .store)) .store ≡ event p e (d .store))
     alone =
         let k : ℕ = length (code p e) - 1 in

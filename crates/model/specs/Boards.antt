@@ -7,6 +7,7 @@ use lib.ListN.{length}
 use Rattle.language.specs.Syntax.{Program}
 use Rattle.language.specs.Dependence.{size}
 use Rattle.semantics.specs.Meaning.{event, fresh, play}
+use Rattle.semantics.specs.Lengths.{length-fresh}
 use Rattle.execution.specs.Execution.{emptied}
 use Rattle.execution.specs.CodeFacts.{CodeFacts}
 use Rattle.model.specs.Model.{Arrival, Engine, Call}
@@ -14,7 +15,6 @@ use Rattle.model.specs.Claims.{after, committedIn, BoardOfCommits}
 use Rattle.model.specs.Moves.{Effect, nothing, took, commit, Cases, cases-imp}
 use Rattle.model.specs.Reached.{DoneIn, onto, still, Computes, computes, reached}
 use Rattle.model.specs.History.{logged, Kept, always}
-use Rattle.model.specs.Fresh.{length-fresh}
 
 module _ (p : Program) where
   -- the store of these commits

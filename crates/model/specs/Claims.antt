@@ -1,19 +1,19 @@
 -- Demand 3 in terms of the model engine: what is said of every list of calls from the initial engine.
-use Prim.Native.Nat.{ℕ, zero, suc, _+_, _*_, _≤_, _<_}
+use Prim.Native.Nat.{ℕ, suc, _+_, _*_, _≤_, _<_}
 use mathlib.Core.Bool.{Bool, true, false}
 use mathlib.Core.Path.{_≡_}
 use mathlib.Core.Logic.{_≢_}
 use mathlib.Core.List.{List, [], _∷_, _++_, map, List·Permᴰ}
-use lib.ListN.{length, take}
+use lib.ListN.{length, take, replicate}
 use lib.Dec.{ltb}
 use Rattle.base.specs.Basics.{pick, All, Distinct}
 use Rattle.language.specs.Syntax.{Program}
-use Rattle.language.specs.Dependence.{size, events, Independent}
+use Rattle.language.specs.Dependence.{events, Independent}
 use Rattle.language.specs.Code.{code}
 use Rattle.language.specs.Order.{upTo}
 use Rattle.semantics.specs.Meaning.{fresh, play}
-use Rattle.execution.specs.Execution.{Values, copyingBackAfter}
-use Rattle.model.specs.Model.{Arrival, arrival, Running, rest, busy, Engine, engine, initial, queue, Call, arrive, step, board, Answer, refused, takenIn, shows, idle, ran, started, preempted, committed, rank, settling, act, run, answers}
+use Rattle.execution.specs.Execution.{copyingBackAfter}
+use Rattle.model.specs.Model.{Arrival, arrival, rest, busy, Engine, engine, initial, queue, Call, arrive, step, board, Answer, refused, takenIn, shows, idle, ran, started, preempted, committed, rank, settling, act, run, answers}
 
 -- ---- what the answers say
 
@@ -84,6 +84,10 @@ committedIn p cs = commits (said p cs)
 
 abbrev pub takenInBy : Program → List Call → List Arrival
 takenInBy p cs = takenFrom cs (said p cs) 0
+
+-- the calls that take in an event and step it to its commit: the start, and each instruction
+abbrev pub aloneCalls : Program → ℕ → List Call
+aloneCalls p e = arrive e ∷ step ∷ replicate (length (code p e)) step
 
 -- ---- the sentences of demand 3
 

@@ -2,7 +2,6 @@ pub mod Model
 pub mod Claims
 pub mod Choice
 pub mod Moves
-pub mod Fresh
 pub mod Reached
 pub mod History
 pub mod Boards

@@ -2,14 +2,14 @@
 -- It is fed the program and each call's kind and arguments, never an answer.
 use Prim.Native.Nat.{ℕ, _+_}
 use mathlib.Core.Bool.{Bool, true, false}
-use mathlib.Core.List.{List, [], _∷_, _++_}
+use mathlib.Core.List.{List, [], _∷_}
 use lib.ListN.{length, getD, take}
 use lib.Dec.{ltb, leb}
 use Rattle.base.specs.Basics.{pick}
 use Rattle.language.specs.Syntax.{Program}
 use Rattle.language.specs.Refusals as refusals
 use Rattle.language.specs.Dependence.{size, events}
-use Rattle.language.specs.Code.{Instr, off, code}
+use Rattle.language.specs.Code.{off, code}
 use Rattle.semantics.specs.Meaning.{fresh}
 use Rattle.execution.specs.Execution.{Values, at, execute, emptied, maskedAfter, copyingBackAfter}
 

@@ -4,7 +4,7 @@ use Prim.Native.Nat.{ℕ, suc, _+_, _≤_, _<_}
 use mathlib.Core.Bool.{Bool, false}
 use mathlib.Core.Path.{_≡_, refl, ap, _∙_, subst}
 use mathlib.Core.Logic.{_≢_}
-use mathlib.Core.List.{List, [], _∷_, _++_}
+use mathlib.Core.List.{List, [], _∷_}
 use mathlib.Core.List.{List·Permᴰ, List·Permᴰ·cons, List·Permᴰ·swap, List·Permᴰ·trans, Permᴰ·map}
 use native.Mathlib.Omega.{arith}
 use lib.Dec.{eqb}
@@ -16,13 +16,14 @@ use Rattle.language.specs.Syntax.{Program}
 use Rattle.language.specs.Dependence.{size, events}
 use Rattle.language.specs.Code.{Instr, off, code}
 use Rattle.semantics.specs.Meaning.{event, fresh}
+use Rattle.semantics.specs.Lengths.{length-fresh}
 use Rattle.execution.specs.Execution.{Values, execute, executeAll, emptied, offs, maskedAfter, copyingBackAfter}
 use Rattle.execution.specs.CodeFacts.{CodeFacts}
+use Rattle.execution.specs.Running.{execute-append}
 use Rattle.model.specs.Model.{Arrival, arrival, Running, rest, busy, Engine, engine, initial, queue, Call, choose, act, run}
 use Rattle.model.specs.Claims.{number, inQueue, storeOf, settlingIn, after}
 use Rattle.model.specs.Choice.{numbers, to-numbers, perm-length, choose-perm}
 use Rattle.model.specs.Moves.{Effect, nothing, took, commit, Cases, act-by}
-use Rattle.model.specs.Fresh.{length-fresh}
 
 module _ (p : Program) where
   -- ---- the statement
@@ -93,17 +94,12 @@ module _ (p : Program) where
 
   -- ---- values
 
-  executed-append : (xs ys : List Instr) (d : Values) → executeAll (xs ++ ys) d ≡ executeAll ys (executeAll xs d)
-  unfolding executeAll
-  executed-append [] ys d = refl
-  executed-append (x ∷ xs) ys d = executed-append xs ys (execute x d)
-
   executed-next : (is : List Instr) (c : ℕ) (d v : Values) → c < length is → d ≡ executeAll (take c is) v
       → execute (getD is c off) d ≡ executeAll (take (c + 1) is) v
   unfolding executeAll
   executed-next is c d v h q =
       let n : c + 1 ≡ suc c = omega arith in
-      rw (n, take-suc is c off h, executed-append (take c is) (getD is c off ∷ []) v, q)
+      rw (n, take-suc is c off h, execute-append (take c is) (getD is c off ∷ []) v, q)
 
   -- the store after an effect
   abbrev pub onto : Effect → List ℕ → List ℕ

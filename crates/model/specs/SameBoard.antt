@@ -12,11 +12,11 @@ use Rattle.base.specs.Tools.{all-perm, all-imp, distinct-perm}
 use Rattle.language.specs.Syntax.{Program}
 use Rattle.language.specs.Dependence.{size, events, Independent}
 use Rattle.semantics.specs.Meaning.{event, fresh}
+use Rattle.semantics.specs.Lengths.{length-fresh}
 use Rattle.execution.specs.CodeFacts.{CodeFacts}
 use Rattle.model.specs.Model.{Arrival, rest, busy, Engine, engine, Call, rank}
 use Rattle.model.specs.Claims.{number, inQueue, storeOf, settlingIn, Idle, after, committedIn, takenInBy, SameBoard}
 use Rattle.model.specs.Choice.{numbers}
-use Rattle.model.specs.Fresh.{length-fresh}
 use Rattle.model.specs.Reached.{Fine}
 use Rattle.model.specs.Boards.{storeAfter, board-of-commits}
 use Rattle.model.specs.Once.{once, once-each, idle-empty}

@@ -10,7 +10,7 @@ use lib.Dec.{ltb, leb, eqb, leb·suc-suc}
 use lib.ListN.{length, getD, take}
 use borrow.Author.Tests.{leb-true, leb-false, lt-ltb, le-ltb, lt-leb, ne-eqb}
 use Rattle.base.specs.Basics.{pick, Distinct, All}
-use Rattle.base.specs.Tools.{distinct-perm, by-test, all-perm, all-imp}
+use Rattle.base.specs.Tools.{distinct-perm, by-test, all-perm, all-imp, by-two}
 use Rattle.word.specs.Word.{get, put}
 use Rattle.word.specs.Laws.{long}
 use Rattle.language.specs.Syntax.{Program}
@@ -41,7 +41,7 @@ use Rattle.refinement.specs.Refinement.{coded, slots, callOn}
 use Rattle.refinement.specs.Slots.{slot, slots-same, slots-swap, take-out, reads, kept-all, kept-put, kept-slot, kept-run}
 use Rattle.refinement.specs.Values.{value-at, head-holds}
 use Rattle.refinement.specs.Instructions.{Does, does}
-use Rattle.refinement.specs.Relation.{Rel, Alike, Agree, both-test, slots-all, slot-holds, run-rel, admit-rel, admit-kept, count-is}
+use Rattle.refinement.specs.Relation.{Rel, Alike, Agree, slots-all, slot-holds, run-rel, admit-rel, admit-kept, count-is}
 
 -- ---- masking, as the table's counts give it
 
@@ -121,7 +121,7 @@ module _ (p : Program) (valid : Valid p) (t : List ℕ) (table : Says p t) where
 
     instr-does : let x = getD (code p (a .event)) c off in Does (size p) l (execute x d) (operation x / 256) (operation x % 256) (constant x)
     instr-does =
-        let s = code-at p valid small (a .event) declared (i .from) (i .sized) c within in
+        let s = code-at p valid (a .event) (i .from) (i .sized) c within in
         let f = after (start (size p)) (take c (code p (a .event))) in
         does (size p) small l d (R .whole) (R .values) f (subst (λ (v : Values). Matches v f) (sym (i .done .1)) (s .0)) (getD (code p (a .event)) c off) (s .1)
 
@@ -159,7 +159,7 @@ module _ (p : Program) (valid : Valid p) (t : List ℕ) (table : Says p t) where
         let n : get m 1 ≤ 64 = rw (f .same 1 (omega arith) (omega arith)) (R .few) in
         let u : List·Permᴰ (slots m (get m 1)) q = rw performed-slots (R .queue) in
         rw advance-opens
-        (both-test (Agree (size p) l) (ltb (c + 1) (length (code p (a .event))))
+        (by-two (Agree (size p) l) (ltb (c + 1) (length (code p (a .event))))
         (λ _. record {
           answered = refl;
           alike = record {
@@ -307,9 +307,9 @@ module _ (p : Program) (valid : Valid p) (t : List ℕ) (table : Says p t) where
         table .in-C (a .event) e,
         masked-agrees a c e (r .done .0),
       )
-      (both-test (Agree (size p) l) (model.masked p a c)
+      (by-two (Agree (size p) l) (model.masked p a c)
       (λ _. advance-agrees l k (b ∷ w) a c d R r)
-      (λ _. both-test (Agree (size p) l) (ltb (rank p a) (rank p o))
+      (λ _. by-two (Agree (size p) l) (ltb (rank p a) (rank p o))
       (λ _. preempt-agrees l m k b w a c d n R (r .distinct) x)
       (λ _. advance-agrees l k (b ∷ w) a c d R r)))
 
@@ -345,9 +345,9 @@ module _ (p : Program) (valid : Valid p) (t : List ℕ) (table : Says p t) where
   unfolding arriveOn arriveIn arriveWith act
   arrive-agrees l e (engine k q r d) R i =
       rw (ours-is l k q r d R i, full-is l k q r d R, table .event-count, R .number)
-      (both-test (Agree (size p) l) (leb (events p) e) (λ _. record { answered = refl; alike = R; kept = kept-all l })
-      (λ _. both-test (Agree (size p) l) (leb 64 (length (queue q r))) (λ _. record { answered = refl; alike = R; kept = kept-all l })
-      (λ x. both-test (Agree (size p) l) (leb 1000000 k) (λ _. record { answered = refl; alike = R; kept = kept-all l })
+      (by-two (Agree (size p) l) (leb (events p) e) (λ _. record { answered = refl; alike = R; kept = kept-all l })
+      (λ _. by-two (Agree (size p) l) (leb 64 (length (queue q r))) (λ _. record { answered = refl; alike = R; kept = kept-all l })
+      (λ x. by-two (Agree (size p) l) (leb 1000000 k) (λ _. record { answered = refl; alike = R; kept = kept-all l })
       (λ _. let b : get l 1 < 64 = room l k q r d R x in
       record { answered = refl; alike = admit-rel (size p) small l e k q r d b R; kept = admit-kept (size p) small l e (get l 1) k b }))))
 
@@ -368,8 +368,8 @@ module _ (p : Program) (valid : Valid p) (t : List ℕ) (table : Says p t) where
   unfolding boardOn boardIn boardWith
   board-answers l i k q r d R x =
       rw (ours-is l k q r d R x, settling-is l k q r d R x, table .behaviour-count)
-      (both-test (λ (v : ℕ) (x : Answer). v ≡ coded x) (leb (size p) i) (λ _. refl)
-      (λ b. both-test (λ (v : ℕ) (x : Answer). v ≡ coded x) (model.settling p r) (λ _. refl)
+      (by-two (λ (v : ℕ) (x : Answer). v ≡ coded x) (leb (size p) i) (λ _. refl)
+      (λ b. by-two (λ (v : ℕ) (x : Answer). v ≡ coded x) (model.settling p r) (λ _. refl)
       (λ _. ap (λ (v : ℕ). 4294967296 + v) (value-at (size p) small l d i (leb-false (size p) i b) (R .values)))))
 
   -- ---- any call

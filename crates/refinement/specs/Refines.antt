@@ -11,12 +11,12 @@ use Rattle.language.specs.Syntax.{Program}
 use Rattle.language.specs.Dependence.{size, events}
 use Rattle.language.specs.Code.{code, instructions, allInstructions}
 use Rattle.language.specs.Accepted.{Accepted, Valid}
-use Rattle.semantics.specs.Lists.{upTo-same}
+use Rattle.language.specs.Laws.{upTo-same}
+use Rattle.semantics.specs.Lengths.{length-fresh}
 use Rattle.execution.specs.Sums.{length-join}
 use Rattle.execution.specs.CodeRight.{code-facts}
 use Rattle.model.specs.Model.{Running, rest, busy, Engine, engine, initial, Call, act, run, answers}
 use Rattle.model.specs.Reached.{Reached, act-keeps, initially}
-use Rattle.model.specs.Fresh.{length-fresh}
 use Rattle.image.specs.Image.{allCode, tableOf}
 use Rattle.image.specs.ImageLaws.{Says, table-says}
 use Rattle.round.specs.Start.{startOn, freshBytes}

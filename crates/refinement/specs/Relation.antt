@@ -1,6 +1,6 @@
 -- When a round's bytes stand for an engine, and each change of the bytes but an instruction's: an arrival joins, the next starts. Field by field.
-use Prim.Native.Nat.{ℕ, zero, suc, _+_, _*_, _-_, _≤_, _<_}
-use mathlib.Core.Bool.{Bool, true, false}
+use Prim.Native.Nat.{ℕ, zero, suc, _+_, _*_, _≤_, _<_}
+use mathlib.Core.Bool.{true}
 use mathlib.Core.Path.{_≡_, refl, sym, ap, _∙_}
 use mathlib.Core.Logic.{by-cases}
 use native.Mathlib.Decide.{ℕ-discrete}
@@ -8,7 +8,7 @@ use mathlib.Core.List.{List, _∷_}
 use mathlib.Core.List.{List·Permᴰ, List·Permᴰ·cons}
 use native.Mathlib.Omega.{arith}
 use lib.ListN.{length}
-use Rattle.base.specs.Basics.{pick, All}
+use Rattle.base.specs.Basics.{All}
 use Rattle.word.specs.Word.{get, put, words}
 use Rattle.word.specs.Laws.{long}
 use Rattle.execution.specs.Execution.{Values, emptied}
@@ -43,12 +43,6 @@ pub record Agree (n : ℕ) (l : List ℕ) (x : Result) (o : Outcome) : Type 0 wh
   pub answered : x .0 ≡ coded (o .answer)
   pub alike : Alike n (x .1) (o .after)
   pub kept : Kept l (x .1)
-
--- the same test on both sides
-pub both-test : {A B : Type 0} (P : A → B → Type 0) (b : Bool) {x y : A} {x′ y′ : B} → (b ≡ true → P x x′) → (b ≡ false → P y y′)
-    → P (pick b x y) (pick b x′ y′)
-both-test P true f g = f refl
-both-test P false f g = g refl
 
 -- ---- the slots
 

@@ -6,18 +6,19 @@ use mathlib.Core.List.{List, []}
 use native.Mathlib.Omega.{arith}
 use lib.ListN.{length, getD}
 use lib.Seq.{ext-getD}
+use Rattle.base.specs.Tools.{all-at}
 use Rattle.language.specs.Syntax.{Expr, Handler, Behaviour, passive, active, Program}
 use Rattle.language.specs.Dependence.{Response, follows, takes, defers, keeps, handled, respond, size, noEvent, behaviourAt}
 use Rattle.language.specs.Order.{upTo}
 use Rattle.language.specs.Grammar.{BehaviourFits}
 use Rattle.language.specs.Accepted.{Valid}
+use Rattle.language.specs.Laws.{getD-upTo, upTo-of}
 use Rattle.semantics.specs.Rules.{behaviour, Yields, Updates, Steps, both, Runs, Shows}
 use Rattle.semantics.specs.Meaning.{value, at, firstPhase, event, startOf, starts, fresh, Settled, carry, withStore}
-use Rattle.semantics.specs.Lists.{length-upTo, getD-upTo, upTo-of}
-use Rattle.semantics.specs.OrderLaws.{all-at}
 use Rattle.semantics.specs.Solution.{firstOf, secondOf, Solves, value-same, own, own-same, first-length, first-solves, event-length, event-solves}
 use Rattle.semantics.specs.Handlers.{Says, handled-says, undeclared-keeps}
 use Rattle.semantics.specs.Derivations.{state-size, state-at, nextOf, next, yields-alone, updates-alone, yields, updates}
+use Rattle.semantics.specs.Lengths.{length-starts, length-fresh}
 
 -- ---- a settled store solves the equations of no event
 
@@ -125,10 +126,6 @@ carry-start (passive x) = refl
 carry-start (active s hs) = refl
 
 module _ (p : Program) where
-  pub starts-length : length (starts p) ≡ size p
-  unfolding starts
-  starts-length = length-upTo (size p) _
-
   starts-at : (i : ℕ) → i < size p → at (starts p) i ≡ startOf (behaviourAt p i)
   unfolding starts
   starts-at i b = getD-upTo (size p) _ i 0 b
@@ -144,14 +141,10 @@ module _ (p : Program) where
   module _ (v : Valid p) where
     fresh-solves : Solves p (noEvent p) (starts p) (at (fresh p))
     unfolding fresh
-    fresh-solves = first-solves p v (noEvent p) (omega arith) (starts p) starts-length
-
-    pub fresh-length : length (fresh p) ≡ size p
-    unfolding fresh
-    fresh-length = first-length p v (noEvent p) (omega arith) (starts p) starts-length
+    fresh-solves = first-solves p v (noEvent p) (omega arith) (starts p) (length-starts p)
 
     pub fresh-settled : Settled p (fresh p)
-    fresh-settled = (fresh-length, λ i x b t. fresh-solves i b ∙ ap (λ y. firstOf (starts p) (at (fresh p)) i (respond (noEvent p) y)) t)
+    fresh-settled = (length-fresh p, λ i x b t. fresh-solves i b ∙ ap (λ y. firstOf (starts p) (at (fresh p)) i (respond (noEvent p) y)) t)
 
     fresh-yields : (i : ℕ) → i < size p → Shows (withStore p (starts p)) i (at (fresh p) i)
     unfolding withStore
@@ -159,10 +152,3 @@ module _ (p : Program) where
 
     pub fresh-shows : (i : ℕ) → i < size p → Shows p i (at (fresh p) i)
     fresh-shows i b = subst (λ P. Shows P i (at (fresh p) i)) (sym with-starts) (fresh-yields i b)
-
-    starts-alone : (i c : ℕ) → i < size p → Shows (withStore p (starts p)) i c → c ≡ at (fresh p) i
-    unfolding withStore
-    starts-alone = yields-alone p v (noEvent p) (starts p) (at (fresh p)) fresh-solves
-
-    pub fresh-alone : (i c : ℕ) → i < size p → Shows p i c → c ≡ at (fresh p) i
-    fresh-alone i c b d = starts-alone i c b (subst (λ P. Shows P i c) with-starts d)

@@ -13,8 +13,9 @@ use Rattle.base.specs.Tools.{split, and-left}
 use Rattle.language.specs.Syntax.{Expr, Handler, Behaviour, passive, active, Program}
 use Rattle.language.specs.Dependence.{Response, follows, takes, defers, keeps, handled, respond, size, noEvent, behaviourAt, response, mentions, needs, isActive, written, writes, Named, in-immediate, in-later, through, Reads, Apart, Independent}
 use Rattle.language.specs.Accepted.{NamesIn, Valid}
+use Rattle.language.specs.Laws.{named-in, ResponseNamesIn, response-names}
 use Rattle.semantics.specs.Meaning.{at, firstPhase, event, Settled}
-use Rattle.semantics.specs.OrderLaws.{named-in, ResponseNamesIn, response-names, by-needs}
+use Rattle.semantics.specs.OrderLaws.{by-needs}
 use Rattle.semantics.specs.Solution.{own, firstOf, secondOf, value-same, pick-same, first-local, first-solves, event-length, event-solves, passives-unique}
 use Rattle.semantics.specs.Handlers.{Says, handled-says}
 use Rattle.semantics.specs.Agreement.{event-settled}
@@ -27,7 +28,7 @@ writes-active e (active c hs) h = refl
 
 module _ (p : Program) (v : Valid p) (e : ℕ) where
   named-at : (i j : ℕ) (r : Response) (x : Expr) → response p e i ≡ r → (ResponseNamesIn (size p) r → NamesIn (size p) x) → mentions j x ≡ true → j < size p
-  named-at i j r x q f m = named-in (size p) j x (f (subst (ResponseNamesIn (size p)) q (response-names p v e i))) m
+  named-at i j r x q f m = named-in (size p) j x (f (subst (ResponseNamesIn (size p)) q (response-names p (v .known) e i))) m
 
   named-below : {j : ℕ} → Named p e j → j < size p
   named-below {j} (in-immediate i {x = x} q m) = named-at i j (takes x) x q (λ h. h) m

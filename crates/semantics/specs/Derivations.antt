@@ -8,17 +8,17 @@ use mathlib.Core.List.{List, []}
 use lib.Dec.{eqb}
 use borrow.Author.Tests.{eqb-true, eqb-false, eq-eqb, ne-eqb}
 use Rattle.base.specs.Basics.{pick}
-use Rattle.base.specs.Tools.{by-test, split}
+use Rattle.base.specs.Tools.{by-test, split, or-either, all-at}
 use Rattle.arith.specs.Functions.{result}
 use Rattle.language.specs.Syntax.{Expr, con, name, app1, app2, app3, Phase, immediate, later, Handler, Behaviour, passive, active, Program}
 use Rattle.language.specs.Dependence.{Response, follows, takes, defers, keeps, inPhase, handled, respond, size, noEvent, behaviourAt, mentions, needs}
 use Rattle.language.specs.Order.{early}
 use Rattle.language.specs.Grammar.{BehaviourFits, HandlersFit}
 use Rattle.language.specs.Accepted.{Valid}
+use Rattle.language.specs.Laws.{length-upTo, getD-upTo, named-in, ResponseNamesIn, response-names, depends-within}
 use Rattle.semantics.specs.Rules.{substitute, Handles, Subject, expression, behaviour, Yields, y-name, y-con, y-app1, y-app2, y-app3, y-passive, y-immediate, y-still, Updates, u-passive, u-handled, u-still}
 use Rattle.semantics.specs.Meaning.{value, at, carry, withStore}
-use Rattle.semantics.specs.Lists.{length-upTo, getD-upTo}
-use Rattle.semantics.specs.OrderLaws.{all-at, named-in, ResponseNamesIn, response-names, within, by-needs}
+use Rattle.semantics.specs.OrderLaws.{by-needs}
 use Rattle.semantics.specs.Solution.{own, firstOf, Solves, or-first, or-second, needed}
 use Rattle.semantics.specs.Handlers.{Says, handles-handled, handled-says}
 
@@ -37,10 +37,6 @@ value-substitute look x c (name i) =
 value-substitute look x c (app1 f a) = ap (λ u. result f u 0 0) (value-substitute look x c a)
 value-substitute look x c (app2 f a b) = simp (value-substitute look x c a, value-substitute look x c b)
 value-substitute look x c (app3 f a b d) = simp (value-substitute look x c a, value-substitute look x c b, value-substitute look x c d)
-
-or-either : (b c : Bool) → b || c ≡ true → (b ≡ true) ⊎ (c ≡ true)
-or-either true c h = inl refl
-or-either false c h = inr h
 
 -- the names left are those of the expression but the own one
 abbrev Left : ℕ → ℕ → Expr → Type 0
@@ -226,7 +222,7 @@ module _ (p : Program) (v : Valid p) (e : ℕ) (s : List ℕ) (look : ℕ → �
         by-needs p v e declared (λ i. Yields (withStore p s) e (behaviour i (behaviourAt (withStore p s) i)) (look i)) (λ i b h.
         subst (Yields (withStore p s) e (behaviour i (behaviourAt (withStore p s) i))) (worth-at i b)
         (subst (λ x. Yields (withStore p s) e (behaviour i x) (worth e look (behaviour i x))) (sym (state-at p s i b))
-        (behaviour-yields i (at s i) (behaviourAt p i) (rw (state-at p s i b) at (once-at i b)) (λ j d. (within p v e i j d .1, h j d)))))
+        (behaviour-yields i (at s i) (behaviourAt p i) (rw (state-at p s i b) at (once-at i b)) (λ j d. (depends-within p (v .known) e i j d .1, h j d)))))
 
     has : (j : ℕ) → j < size p → Has j
     has j b = (b, yields j b)
@@ -247,4 +243,4 @@ module _ (p : Program) (v : Valid p) (e : ℕ) (s : List ℕ) (look : ℕ → �
         → Updates (withStore p s) e i (behaviourAt (withStore p s) i) (next e look i (behaviourAt (withStore p s) i))
     updates i b =
         subst (λ x. Updates (withStore p s) e i x (next e look i x)) (sym (state-at p s i b))
-        (behaviour-updates i (at s i) (behaviourAt p i) (response-names p v e i))
+        (behaviour-updates i (at s i) (behaviourAt p i) (response-names p (v .known) e i))

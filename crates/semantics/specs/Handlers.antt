@@ -1,6 +1,6 @@
 -- The handlers that the rules find are those that the evaluator looks up: with at most one for an event, `handled` is the one. By induction on the list.
 use Prim.Native.Nat.{ℕ, _≤_}
-use mathlib.Core.Bool.{true, false}
+use mathlib.Core.Bool.{false}
 use mathlib.Core.Path.{_≡_, refl, sym, _∙_, subst}
 use mathlib.Core.List.{List, [], _∷_}
 use native.Mathlib.Omega.{arith}
@@ -10,6 +10,7 @@ use Rattle.base.specs.Tools.{by-elim, split}
 use Rattle.language.specs.Syntax.{Expr, Phase, immediate, later, Handler, handler}
 use Rattle.language.specs.Dependence.{Response, follows, takes, defers, keeps, inPhase, handled}
 use Rattle.language.specs.Grammar.{NoneFor, HandlersFit}
+use Rattle.language.specs.Laws.{handled-here, handled-there}
 use Rattle.semantics.specs.Rules.{Handles, here, there}
 
 -- what a response says about handlers
@@ -22,14 +23,6 @@ Says e hs keeps = (φ : Phase) (x : Expr) → Handles e φ x hs → ⊥
 none-here : {e : ℕ} {φ : Phase} {d : Expr} {hs : List Handler} → Handles e φ d hs → NoneFor e hs → ⊥
 none-here here h = h .0 refl
 none-here (there {h = handler f ψ x} k) h = none-here k (h .1)
-
-handled-there : (e f : ℕ) (φ : Phase) (x : Expr) (hs : List Handler) → eqb e f ≡ false → handled e (handler f φ x ∷ hs) ≡ handled e hs
-unfolding handled
-handled-there e f φ x hs t = rw (t, handled)
-
-handled-here : (e f : ℕ) (φ : Phase) (x : Expr) (hs : List Handler) → eqb e f ≡ true → handled e (handler f φ x ∷ hs) ≡ inPhase φ x
-unfolding handled
-handled-here e f φ x hs t = rw (t, handled)
 
 -- the handler that the rules find is the one looked up
 pub handles-handled : (n : ℕ) {e : ℕ} {φ : Phase} {d : Expr} {hs : List Handler} → Handles e φ d hs → HandlersFit n hs → handled e hs ≡ inPhase φ d

@@ -5,6 +5,7 @@ pub mod Lists
 pub mod Graph
 pub mod OrderLaws
 pub mod Solution
+pub mod Lengths
 pub mod Handlers
 pub mod Derivations
 pub mod Agreement

@@ -1,10 +1,10 @@
 -- The meaning of one event as an evaluator. 01 "The meaning of one event".
 use Prim.Native.Nat.{ℕ, _<_}
 use mathlib.Core.Path.{_≡_}
-use mathlib.Core.List.{List, [], _∷_, _++_}
+use mathlib.Core.List.{List, [], _∷_}
 use lib.ListN.{length, getD, set}
 use Rattle.arith.specs.Functions.{result}
-use Rattle.language.specs.Syntax.{Expr, con, name, app1, app2, app3, Handler, Behaviour, passive, active, Program}
+use Rattle.language.specs.Syntax.{Expr, con, name, app1, app2, app3, Behaviour, passive, active, Program}
 use Rattle.language.specs.Dependence.{Response, follows, takes, defers, keeps, size, noEvent, response, behaviourAt}
 use Rattle.language.specs.Order.{upTo, phaseOne}
 

@@ -8,30 +8,20 @@ use mathlib.Core.Option.{Option, none, some}
 use mathlib.Core.List.{List, [], _∷_}
 use native.Mathlib.Decide.{decLt}
 use native.Mathlib.Omega.{arith}
-use lib.Dec.{eqb}
 use lib.ListN.{length, getD, set, length-set}
 use lib.Seq.{getD-set-same, getD-set-other}
-use borrow.Author.Tests.{eqb-true, not-true, not-false}
-use Rattle.base.specs.Basics.{All, Distinct}
-use Rattle.base.specs.Tools.{by-elim, split, and-left, and-right, all-imp}
-use Rattle.language.specs.Syntax.{Expr, con, name, app1, app2, app3, Phase, immediate, later, Handler, handler, Behaviour, passive, active, Program}
-use Rattle.language.specs.Dependence.{Response, follows, takes, defers, keeps, inPhase, handled, respond, size, noEvent, behaviourAt, response, mentions, needs, dependsOn, Reach}
+use borrow.Author.Tests.{not-true, not-false}
+use Rattle.base.specs.Basics.{All}
+pub use Rattle.base.specs.Tools.{all-at}
+use Rattle.base.specs.Tools.{by-elim, split, and-left, and-right, all-imp, by-option}
+use Rattle.language.specs.Syntax.{Program}
+use Rattle.language.specs.Dependence.{Response, follows, takes, defers, keeps, size, noEvent, response, needs, dependsOn, Reach}
 use Rattle.language.specs.Order.{met, find, order, early, metAtOnce, phaseOne}
-use Rattle.language.specs.Accepted.{NamesIn, HandlerNamesIn, BehaviourNamesIn, Valid}
-use Rattle.semantics.specs.Lists.{length-upTo, getD-upTo}
+use Rattle.language.specs.Accepted.{Valid, Known}
+use Rattle.language.specs.Laws.{length-upTo, getD-upTo, depends-within}
 use Rattle.semantics.specs.Graph.{Marked, Unmarked, free, free-set, free-le, marked-set, cycle}
 
--- to prove P of a match on an option
-by-option : {A B : Type 0} (P : B → Type 0) (o : Option A) {x : B} {f : A → B} → (o ≡ none → P x) → ((a : A) → o ≡ some a → P (f a))
-    → P (elim o [ none ↦ x | some a ↦ f a ])
-by-option P none h k = h refl
-by-option P (some a) h k = k a refl
-
 -- ---- marks and members
-
-abbrev pub Member : ℕ → List ℕ → Type 0
-Member x [] = ⊥
-Member x (y ∷ l) = (x ≡ y) ⊎ Member x l
 
 -- all of a list marked, one after the other
 abbrev pub markAll : List ℕ → List Bool → List Bool
@@ -42,12 +32,6 @@ pub unmarked-set : (m : List Bool) (j x : ℕ) → j < length m → Unmarked (se
 unmarked-set m j x h u =
     let other : j ≢ x = λ e. true≢false (sym (getD-set-same m j true false h) ∙ ap (λ y. getD (set m j true) y false) e ∙ u) in
     (other, sym (getD-set-other m j x true false (λ e. other (sym e))) ∙ u)
-
--- marked in the end: marked before or a member
-pub marked-all : (is : List ℕ) (m : List Bool) (x : ℕ) → Marked (markAll is m) x → Marked m x ⊎ Member x is
-marked-all [] m x h = inl h
-marked-all (i ∷ is) m x h =
-    ⊎-elim (λ p. ⊎-elim (λ e. inr (inl e)) (λ q. inl q) (marked-set m i x p)) (λ p. inr (inr p)) (marked-all is (set m i true) x h)
 
 -- below n, not marked before, its needs marked, and then it is: each member in turn
 abbrev pub Ordered : ℕ → (ℕ → ℕ → Bool) → List Bool → List ℕ → Type 0
@@ -98,14 +82,6 @@ module _ (n : ℕ) (dep : ℕ → ℕ → Bool) where
     all-imp _ _ (λ x h. (h .0, unmarked-set done i x (omega arith) (h .1) .1)) is (ordered-unmarked is (set done i true) (simp length-set l) (o .3)),
   )
 
-  pub ordered-distinct : (is : List ℕ) (done : List Bool) → length done ≡ n → Ordered n dep done is → Distinct is
-  ordered-distinct [] done l o = tt
-  ordered-distinct (i ∷ is) done l o =
-      let z : length (set done i true) ≡ n = simp length-set l in (
-        all-imp _ _ (λ x h. unmarked-set done i x (omega arith) (h .1) .0) is (ordered-unmarked is (set done i true) z (o .3)),
-        ordered-distinct is (set done i true) z (o .3),
-      )
-
   module _ (within : (a b : ℕ) → dep a b ≡ true → (a < n) × (b < n)) where
     -- ---- the order is ordered, and complete
 
@@ -142,56 +118,6 @@ module _ (n : ℕ) (dep : ℕ → ℕ → Bool) where
         let mine : P i = step i (o .0) (λ j d. h j (within i j d .1) (o .2 j d)) in
         along P step is (set done i true) (o .3) (λ x b p. ⊎-elim (λ e. subst P (sym e) mine) (λ q. h x b q) (marked-set done i x p))
 
--- ---- names are behaviours
-
-pub named-in : (n j : ℕ) (x : Expr) → NamesIn n x → mentions j x ≡ true → j < n
-unfolding mentions
-named-in n j (con w) h e = absurd (false≢true e)
-named-in n j (name i) h e = omega (arith, eqb-true i j e)
-named-in n j (app1 f a) h e = named-in n j a h e
-named-in n j (app2 f a b) h e = split (mentions j a) (λ t. named-in n j a (h .0) t) (λ t. named-in n j b (h .1) (let z : mentions j b ≡ true = cc in z))
-named-in n j (app3 f a b c) h e =
-    split (mentions j a) (λ t. named-in n j a (h .0) t)
-    (λ t. split (mentions j b) (λ u. named-in n j b (h .1) u) (λ u. named-in n j c (h .2) (let z : mentions j c ≡ true = cc in z)))
-
--- what holds of every member holds at a place within
-pub all-at : {A : Type 0} (P : A → Type 0) (l : List A) (i : ℕ) (d : A) → All P l → i < length l → P (getD l i d)
-all-at P [] i d h b = absurd (omega arith)
-all-at P (x ∷ l) zero d h b = h .0
-all-at P (x ∷ l) (suc i) d h b = all-at P l i d (h .1) (omega arith)
-
-pub all-at-or : {A : Type 0} (P : A → Type 0) (l : List A) (i : ℕ) (d : A) → All P l → P d → P (getD l i d)
-all-at-or P [] i d h b = b
-all-at-or P (x ∷ l) zero d h b = h .0
-all-at-or P (x ∷ l) (suc i) d h b = all-at-or P l i d (h .1) b
-
--- the expression of a response
-abbrev pub ResponseNamesIn : ℕ → Response → Type 0
-ResponseNamesIn n (follows x) = NamesIn n x
-ResponseNamesIn n (takes x) = NamesIn n x
-ResponseNamesIn n (defers x) = NamesIn n x
-ResponseNamesIn n keeps = Unit {0}
-
-phase-names : (n : ℕ) (φ : Phase) (x : Expr) → NamesIn n x → ResponseNamesIn n (inPhase φ x)
-phase-names n immediate x h = h
-phase-names n later x h = h
-
-handled-names : (n e : ℕ) (hs : List Handler) → All (HandlerNamesIn n) hs → ResponseNamesIn n (handled e hs)
-unfolding handled
-handled-names n e [] h = tt
-handled-names n e (handler f φ x ∷ hs) h = by-elim (ResponseNamesIn n) (eqb e f) (λ t. phase-names n φ x (h .0)) (λ t. handled-names n e hs (h .1))
-
-respond-names : (n e : ℕ) (b : Behaviour) → BehaviourNamesIn n b → ResponseNamesIn n (respond e b)
-unfolding handled
-respond-names n e (passive x) h = h
-respond-names n e (active s hs) h = handled-names n e hs h
-
-needs-in : (n i j : ℕ) (r : Response) → ResponseNamesIn n r → needs i j r ≡ true → j < n
-needs-in n i j (follows x) h e = named-in n j x h e
-needs-in n i j (takes x) h e = named-in n j x h (and-left _ _ e)
-needs-in n i j (defers x) h e = absurd (false≢true e)
-needs-in n i j keeps h e = absurd (false≢true e)
-
 -- who is not early needs nobody
 pub late-needs : (i j : ℕ) (r : Response) → early r ≡ false → needs i j r ≡ true → ⊥
 late-needs i j (follows x) h e = true≢false h
@@ -199,66 +125,44 @@ late-needs i j (takes x) h e = true≢false h
 late-needs i j (defers x) h e = false≢true e
 late-needs i j keeps h e = false≢true e
 
--- past its end a program's behaviours keep
-pub past-end : (e : ℕ) (l : List Behaviour) (i : ℕ) → length l ≤ i → respond e (getD l i (active 0 [])) ≡ keeps
-unfolding handled
-past-end e [] i h = refl
-past-end e (b ∷ l) zero h = absurd (omega arith)
-past-end e (b ∷ l) (suc i) h = past-end e l i (omega arith)
+-- ---- phase one of a program
 
--- ---- phase one of a valid program
-
-module _ (p : Program) (v : Valid p) (e : ℕ) where
-  pub response-names : (i : ℕ) → ResponseNamesIn (size p) (response p e i)
-  response-names i = respond-names (size p) e (behaviourAt p i) (all-at-or (BehaviourNamesIn (size p)) (p .behaviours) i (active 0 []) (v .known) tt)
-
-  pub within : (a b : ℕ) → dependsOn p e a b ≡ true → (a < size p) × (b < size p)
-  within a b d = (
-    by-cases (decLt a (size p)) (λ h. h) (λ h. absurd (late-needs a b (response p e a) (ap early (past-end e (p .behaviours) a (omega arith))) d)),
-    needs-in (size p) a b (response p e a) (response-names a) d,
-  )
-
+module _ (p : Program) (e : ℕ) where
   pub length-met : length (metAtOnce p e) ≡ size p
   unfolding metAtOnce
   length-met = length-upTo (size p) _
 
-  pub met-is : (i : ℕ) → i < size p → getD (metAtOnce p e) i false ≡ not (early (response p e i))
+  met-is : (i : ℕ) → i < size p → getD (metAtOnce p e) i false ≡ not (early (response p e i))
   unfolding metAtOnce
   met-is i h = getD-upTo (size p) _ i false h
 
   pub met-late : (i : ℕ) → i < size p → Marked (metAtOnce p e) i → early (response p e i) ≡ false
   met-late i h m = not-true _ (sym (met-is i h) ∙ m)
 
-  pub unmet-early : (i : ℕ) → i < size p → Unmarked (metAtOnce p e) i → early (response p e i) ≡ true
+  unmet-early : (i : ℕ) → i < size p → Unmarked (metAtOnce p e) i → early (response p e i) ≡ true
   unmet-early i h m = not-false _ (sym (met-is i h) ∙ m)
 
-  module _ (declared : e ≤ noEvent p) where
+  module _ (known : Known p) where
     pub phaseOne-ordered : Ordered (size p) (dependsOn p e) (metAtOnce p e) (phaseOne p e)
     unfolding phaseOne
-    phaseOne-ordered = order-ordered (size p) (dependsOn p e) within (size p) (metAtOnce p e)
+    phaseOne-ordered = order-ordered (size p) (dependsOn p e) (depends-within p known e) (size p) (metAtOnce p e)
 
-    -- in the end everyone is marked
-    pub phaseOne-marks : (i : ℕ) → i < size p → Marked (markAll (phaseOne p e) (metAtOnce p e)) i
-    unfolding phaseOne
-    phaseOne-marks =
-        order-complete (size p) (dependsOn p e) within (v .acyclic e declared) (size p) (metAtOnce p e) length-met
-        (omega (arith, free-le (metAtOnce p e), length-met))
-
-    -- it holds exactly those that have their turn in phase one, each once
+    -- it holds only those that have their turn in phase one
     pub phaseOne-early : All (λ i. (i < size p) × (early (response p e i) ≡ true)) (phaseOne p e)
     phaseOne-early =
         all-imp _ _ (λ i h. (h .0, unmet-early i (h .0) (h .1))) (phaseOne p e)
         (ordered-unmarked (size p) (dependsOn p e) (phaseOne p e) (metAtOnce p e) length-met phaseOne-ordered)
 
-    pub phaseOne-complete : (i : ℕ) → i < size p → early (response p e i) ≡ true → Member i (phaseOne p e)
-    phaseOne-complete i h t =
-        ⊎-elim (λ m. absurd (true≢false (sym t ∙ met-late i h m))) (λ m. m) (marked-all (phaseOne p e) (metAtOnce p e) i (phaseOne-marks i h))
+module _ (p : Program) (v : Valid p) (e : ℕ) (declared : e ≤ noEvent p) where
+  -- in the end everyone is marked
+  pub phaseOne-marks : (i : ℕ) → i < size p → Marked (markAll (phaseOne p e) (metAtOnce p e)) i
+  unfolding phaseOne
+  phaseOne-marks =
+      order-complete (size p) (dependsOn p e) (depends-within p (v .known) e) (v .acyclic e declared) (size p) (metAtOnce p e) (length-met p e)
+      (omega (arith, free-le (metAtOnce p e), length-met p e))
 
-    pub phaseOne-distinct : Distinct (phaseOne p e)
-    phaseOne-distinct = ordered-distinct (size p) (dependsOn p e) (phaseOne p e) (metAtOnce p e) length-met phaseOne-ordered
-
-    -- induction over needs
-    pub by-needs : (P : ℕ → Type 0) → ((i : ℕ) → i < size p → ((j : ℕ) → dependsOn p e i j ≡ true → P j) → P i) → (i : ℕ) → i < size p → P i
-    by-needs P step i h =
-        along (size p) (dependsOn p e) within P step (phaseOne p e) (metAtOnce p e) phaseOne-ordered
-        (λ x b m. step x b (λ j d. absurd (late-needs x j (response p e x) (met-late x b m) d))) i h (phaseOne-marks i h)
+  -- induction over needs
+  pub by-needs : (P : ℕ → Type 0) → ((i : ℕ) → i < size p → ((j : ℕ) → dependsOn p e i j ≡ true → P j) → P i) → (i : ℕ) → i < size p → P i
+  by-needs P step i h =
+      along (size p) (dependsOn p e) (depends-within p (v .known) e) P step (phaseOne p e) (metAtOnce p e) (phaseOne-ordered p e (v .known))
+      (λ x b m. step x b (λ j d. absurd (late-needs x j (response p e x) (met-late p e x b m) d))) i h (phaseOne-marks i h)

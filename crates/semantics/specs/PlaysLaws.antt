@@ -9,8 +9,8 @@ use Rattle.base.specs.Basics.{All}
 use Rattle.language.specs.Syntax.{Program}
 use Rattle.language.specs.Accepted.{Valid}
 use Rattle.language.specs.Dependence.{size, events, noEvent}
-use Rattle.semantics.specs.Rules.{Runs, Shows}
-use Rattle.semantics.specs.Meaning.{at, withStore, event, play, firstPhase}
+use Rattle.semantics.specs.Rules.{Shows}
+use Rattle.semantics.specs.Meaning.{at, withStore, event, play}
 use Rattle.semantics.specs.Solution.{event-length}
 use Rattle.semantics.specs.Agreement.{rules-give, rules-show, rules-alone, shows-alone}
 use Rattle.semantics.specs.Plays.{Plays, done, next}

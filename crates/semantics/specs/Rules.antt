@@ -3,12 +3,12 @@
 -- an active needs it there: here the program stays whole. An event is its number; one that is not declared is the case of no event.
 use Prim.Native.Nat.{ℕ, _<_}
 use mathlib.Core.Path.{_≡_}
-use mathlib.Core.List.{List, [], _∷_}
+use mathlib.Core.List.{List, _∷_}
 use lib.ListN.{length, getD}
 use lib.Dec.{eqb}
 use Rattle.base.specs.Basics.{pick}
 use Rattle.arith.specs.Functions.{result}
-use Rattle.language.specs.Syntax.{Expr, con, name, app1, app2, app3, Phase, immediate, later, Handler, handler, Behaviour, passive, active, Program}
+use Rattle.language.specs.Syntax.{Expr, con, name, app1, app2, app3, Phase, immediate, Handler, handler, Behaviour, passive, active, Program}
 use Rattle.language.specs.Dependence.{size, behaviourAt, noEvent}
 
 -- d[x := c]

@@ -17,10 +17,10 @@ use Rattle.language.specs.Syntax.{Expr, con, name, app1, app2, app3, Behaviour,
 use Rattle.language.specs.Dependence.{Response, follows, takes, defers, keeps, size, noEvent, response, respond, behaviourAt, isActive, mentions, needs, dependsOn}
 use Rattle.language.specs.Order.{early, metAtOnce, phaseOne}
 use Rattle.language.specs.Accepted.{Valid}
+use Rattle.language.specs.Laws.{length-upTo, getD-upTo, depends-within}
 use Rattle.semantics.specs.Meaning.{value, at, firstStep, laterValue, againStep, inTurn, firstPhase, settle, event}
-use Rattle.semantics.specs.Lists.{length-upTo, getD-upTo}
 use Rattle.semantics.specs.Graph.{Marked, Unmarked, marked-set, stays}
-use Rattle.semantics.specs.OrderLaws.{Ordered, markAll, unmarked-set, late-needs, within, length-met, met-late, phaseOne-ordered, phaseOne-marks, by-needs}
+use Rattle.semantics.specs.OrderLaws.{Ordered, markAll, unmarked-set, late-needs, length-met, met-late, phaseOne-ordered, phaseOne-marks, by-needs}
 
 -- ---- the equations
 
@@ -142,7 +142,7 @@ module _ (p : Program) (v : Valid p) (e : ℕ) (step : ℕ → Response → List
       let w : ℕ = rhs i (at s) in
       let same : (j : ℕ) → Marked m j → at s j ≡ at (set s i w) j = λ j k. sym (getD-set-other s i j w 0 (λ t. true≢false (sym k ∙ (rw t u)))) in
       let keep : (j : ℕ) → dependsOn p e x j ≡ true → Marked m j → Marked (set m i true) j =
-      λ j t k. stays m i j (let y = within p v e x j t in omega arith) k in
+      λ j t k. stays m i j (let y = depends-within p (v .known) e x j t in omega arith) k in
       ⊎-elim
       (λ t. (
         rw t (getD-set-same s i w 0 (omega arith) ∙ local i (at s) (at (set s i w)) (λ j k. same j (d j k))),
@@ -176,8 +176,8 @@ module _ (p : Program) (v : Valid p) (e : ℕ) (declared : e ≤ noEvent p) (s :
   unfolding firstPhase
   first-solved =
       let k = solve p v e firstStep (λ i look. firstOf s look i (response p e i)) s (λ i f g h. first-local s s i (response p e i) f g refl h)
-      (λ i t h. first-does s i (response p e i) t h) (phaseOne p e) (metAtOnce p e) s whole (length-met p v e) (phaseOne-ordered p v e declared)
-      (λ x b m. let n = met-late p v e x b m in (first-start (response p e x) (at s) x n, λ j d. absurd (late-needs x j (response p e x) n d))) (λ x u. refl) in
+      (λ i t h. first-does s i (response p e i) t h) (phaseOne p e) (metAtOnce p e) s whole (length-met p e) (phaseOne-ordered p e (v .known))
+      (λ x b m. let n = met-late p e x b m in (first-start (response p e x) (at s) x n, λ j d. absurd (late-needs x j (response p e x) n d))) (λ x u. refl) in
       (k .0, λ i b. k .1 i b (phaseOne-marks p v e declared i b) .0)
 
   pub first-length : length (firstPhase p e s) ≡ size p
@@ -215,8 +215,8 @@ module _ (p : Program) (v : Valid p) (e : ℕ) (declared : e ≤ noEvent p) (s :
   event-solved =
       let t : List ℕ = settle p e (firstPhase p e s) in
       let k = solve p v e againStep (λ i look. againOf t look i (response p e i)) t (λ i f g h. again-local t i (response p e i) f g h)
-      (λ i u h. again-does t i (response p e i) u h) (phaseOne p e) (metAtOnce p e) t settle-length (length-met p v e) (phaseOne-ordered p v e declared)
-      (λ x b m. let n = met-late p v e x b m in (again-start (response p e x) t (at t) x n, λ j d. absurd (late-needs x j (response p e x) n d))) (λ x u. refl) in (
+      (λ i u h. again-does t i (response p e i) u h) (phaseOne p e) (metAtOnce p e) t settle-length (length-met p e) (phaseOne-ordered p e (v .known))
+      (λ x b m. let n = met-late p e x b m in (again-start (response p e x) t (at t) x n, λ j d. absurd (late-needs x j (response p e x) n d))) (λ x u. refl) in (
         k .0,
         λ i b. k .1 i b (phaseOne-marks p v e declared i b) .0
             ∙ again-second (firstPhase p e s) t _ i (response p e i) (settle-at i b) (first-solves i b),
@@ -228,11 +228,6 @@ module _ (p : Program) (v : Valid p) (e : ℕ) (declared : e ≤ noEvent p) (s :
   -- second-phase values
   pub event-solves : (i : ℕ) → i < size p → at (event p e s) i ≡ secondOf s (at (firstPhase p e s)) (at (event p e s)) i (response p e i)
   event-solves = event-solved .1
-
-  -- no other first-phase values solve the equations
-  pub first-unique : (f g : ℕ → ℕ) → Solves p e s f → Solves p e s g → (i : ℕ) → i < size p → f i ≡ g i
-  first-unique f g hf hg =
-      by-needs p v e declared (λ i. f i ≡ g i) (λ i b h. hf i b ∙ first-local s s i (response p e i) f g refl h ∙ sym (hg i b))
 
 -- given the actives, no other values of the passives follow their expressions
 module _ (p : Program) (v : Valid p) (f g : ℕ → ℕ) (hf : Follows p f) (hg : Follows p g)

@@ -3,7 +3,7 @@ use Prim.Native.Nat.{ℕ, zero, suc, _+_, _*_, _/_, _%_, _≤_, _<_}
 use mathlib.Core.Bool.{Bool, true}
 use mathlib.Core.Path.{_≡_, refl}
 use mathlib.Core.Logic.{_≢_}
-use mathlib.Core.List.{List, [], _∷_}
+use mathlib.Core.List.{List, _∷_}
 use native.Mathlib.Omega.{arith}
 use native.Mathlib.Numerals.{add-one}
 use lib.ListN.{length, getD, set, length-set}
@@ -11,7 +11,7 @@ use lib.Seq.{getD-set-same, getD-set-other}
 use lib.Dec.{ltb, leb, eqb}
 use borrow.Author.Tests.{ltb-true, leb-true, eqb-true, eqb-false}
 use Rattle.base.specs.Basics.{pick}
-use Rattle.base.specs.Pick.{either}
+use Rattle.base.specs.Tools.{by-test}
 use Rattle.word.specs.Word.{getAt, get, put, words, pile, getHalf, putHalf}
 
 -- the round's bytes are all there
@@ -81,7 +81,7 @@ get-same l k w h =
 pub get-put : (l : List ℕ) (k w j : ℕ) → long l ≡ true → ltb k 512 ≡ true → get (put l k w) j ≡ pick (eqb j k) w (get l j)
 unfolding long
 get-put l k w j h b =
-    either (λ x. get (put l k w) j ≡ x) w (get l j) (eqb j k)
+    by-test (λ x. get (put l k w) j ≡ x) (eqb j k)
     (λ e. rw (eqb-true j k e) (get-same l k w (omega (arith, leb-true, ltb-true))))
     (λ e. get-other l k w j (eqb-false j k e))
 
@@ -90,17 +90,6 @@ pub words-out : (l : List ℕ) (k w a n : ℕ) → ((j : ℕ) → a ≤ j → j 
 unfolding words
 words-out l k w a zero h = refl
 words-out l k w a (suc n) h = rw (get-other l k w a (h a (omega arith) (omega arith)), words-out l k w (suc a) n (λ j p q. h j (omega arith) (omega arith)))
-
--- the same at numerals, for `simp`
-abbrev pub outside : ℕ → ℕ → ℕ → Bool
-outside k a n = pick (ltb k a) true (leb (a + n) k)
-
-pub words-off : (l : List ℕ) (k w a n : ℕ) → outside k a n ≡ true → words (put l k w) a n ≡ words l a n
-words-off l k w a n e =
-    words-out l k w a n
-    (either (λ (b : Bool). b ≡ true → (j : ℕ) → a ≤ j → j < a + n → j ≢ k) true (leb (a + n) k) (ltb k a)
-    (λ d _. omega (arith, ltb-true))
-    (λ d q. omega (arith, leb-true)) e)
 
 -- and inside it
 pub words-in : (l : List ℕ) (a n i w : ℕ) → long l ≡ true → a + n ≤ 512 → i < n → words (put l (a + i) w) a n ≡ set (words l a n) i w

@@ -3,7 +3,6 @@ use native.Mathlib.Omega.{arith}
 use borrow.Author.Needs.{needs}
 use Rattle.arith.proofs.multiply.Statement.{statement}
 use Rattle.arith.proofs.multiply.Tie as tie
-use Prim.Native.Nat.{ℕ}
 use native.Mathlib.Nat.{mul-le-mul-left, le-of-lt}
 use Rattle.arith.proofs.Laws.{view, product}
 

@@ -1,7 +1,6 @@
 -- `desk::main` is safe and ends: the turns left fall, and table and round keep their lengths. Assumes nothing.
-use mathlib.Core.Path.{_≡_, refl}
+use mathlib.Core.Path.{_≡_}
 use native.Mathlib.Omega.{arith}
-use mathlib.Core.Logic.{⊎-elim}
 use borrow.Author.Needs.{needs}
 use lib.ListN.{length}
 use Rattle.desk.proofs.main.Statement.{statement}

@@ -1,6 +1,5 @@
 -- `engine::call_count` meets its contract: each return is its branch of `callCount`, and whole calls and answers fit. Assumes nothing.
 use native.Mathlib.Omega.{arith}
-use borrow.Author.Needs.{needs}
 use Rattle.base.specs.Pick.{code}
 use Rattle.engine.specs.Replay.{callCount}
 use Rattle.engine.proofs.call_count.Statement.{statement}

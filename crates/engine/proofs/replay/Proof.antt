@@ -1,6 +1,5 @@
 -- `engine::replay` meets its contract. The loop keeps: the calls that are left, made where it stands, give the whole. Assumes nothing.
 use Prim.Native.Nat.{_-_}
-use mathlib.Core.Path.{_≡_, refl, sym, ap, _∙_}
 use native.Mathlib.Omega.{arith}
 use borrow.Author.Needs.{needs}
 use Rattle.engine.proofs.Laws.{Turn, begin, turn, end-round, end-answers}
