@@ -33,10 +33,5 @@ if-not-eq y z a b h p = if-false y z (eqb a b) (ne-eqb a b h) p
 
 pub ruleset branches = (if-lt, if-not-lt, if-le, if-not-le, if-eq, if-not-eq, if-true, if-false)
 
--- what holds of both branches holds of a pick
-pub either {ℓ} : {A : Type ℓ} (P : A → Type 0) (x y : A) (b : Bool) → (b ≡ true → P x) → (b ≡ false → P y) → P (pick b x y)
-either P x y true f g = f refl
-either P x y false f g = g refl
-
 -- the answer to try first at any need: `search code depth 12`
 pub ruleset code = (branches, needs)

@@ -27,6 +27,16 @@ pub or-either : (b c : Bool) → b || c ≡ true → (b ≡ true) ⊎ (c ≡ tru
 or-either true c e = inl refl
 or-either false c e = inr e
 
+-- a check that passes, and does not where b holds: b does not hold, and the rest passes
+pub past : (b x : Bool) → pick b false x ≡ true → (b ≡ false) × (x ≡ true)
+past true x e = absurd (false≢true e)
+past false x e = (refl, e)
+
+-- and where it does not unless b holds
+pub through : (b x : Bool) → pick b x false ≡ true → (b ≡ true) × (x ≡ true)
+through true x e = (refl, e)
+through false x e = absurd (false≢true e)
+
 -- neither of two tests
 pub neither : (b c : Bool) → pick b true c ≡ false → (b ≡ false) × (c ≡ false)
 neither true c h = absurd (true≢false h)

@@ -5,10 +5,11 @@ use mathlib.Core.Path.{_≡_, sym, _∙_}
 use mathlib.Core.List.{List}
 use native.Mathlib.Omega.{arith}
 use native.Mathlib.Numerals.{sub-one}
-use lib.ListN.{length, length-take, length-drop, set}
+use lib.ListN.{length, set}
 use borrow.Author.Tests.{eq-eqb, ne-eqb}
 use Rattle.word.specs.Word.{getAt}
 use Rattle.field.specs.Field.{fieldOf, partOf, numberOf}
+use Rattle.field.specs.RestLaws.{rest-length}
 use Rattle.field.specs.Expression.{out, rest, exprOf, ReadIn}
 use Rattle.field.specs.declared.Field.{Field}
 use Rattle.field.specs.declared.Field.the-variants.{Value, Refused}
@@ -44,7 +45,7 @@ body-read m size n (Fault k) h a = tt
 -- the bytes of a value after its first two
 pub body-over : (v : List ℕ) (n : ℕ) (r : Read) → BodyIn (length (rest 2 v) + 5) n r → 2 ≤ length v → BodyIn (length v + 3) n r
 body-over v n r h a =
-    let q : length (rest 2 v) + 5 ≡ length v + 3 = simp (length-take, length-drop) (omega arith) in
+    let q : length (rest 2 v) + 5 ≡ length v + 3 = omega (arith, rest-length 2 v) in
     rw q at h
 
 pub counted-below : (i : ℕ) (r : Read) → i < 64 → Counted i r
@@ -111,9 +112,6 @@ handlers-end : (k : ℕ) (v : List ℕ) (at events i : ℕ) (d : List ℕ) (m : 
 unfolding handlersOf
 handlers-end zero v at events i d m h = rw (eq-eqb at (length v) h)
 handlers-end (suc k) v at events i d m h = rw (eq-eqb at (length v) h)
-
-rest-length : (at : ℕ) (v : List ℕ) → length (rest at v) ≡ length v - at
-rest-length at v = simp (length-take, length-drop) (omega arith)
 
 module _ {v : List ℕ} {events i : ℕ} {d₀ : List ℕ} {n : ℕ} {d : List ℕ} {at m : ℕ} (t : HandlerTurn v events i d₀ n d at m) where
   pub handler-stops : {r : Read} {p : List ℕ} {j : ℕ} → (at ≡ length v → ⊥) → out r p ≡ handlerOf (rest at v) events i d m → r ≡ Fault j

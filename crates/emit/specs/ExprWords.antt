@@ -15,7 +15,6 @@ use Rattle.language.specs.Grammar.{Arity, unary, ternary, binary, Nested, n-con
 use Rattle.language.specs.Accepted.{NamesIn}
 use Rattle.language.specs.Code.{Instr, load, fetch, apply, copied, inC, postfix}
 use Rattle.image.specs.Image.{operation, constant, codeWords}
-pub use Rattle.image.specs.ImageLaws.{length-codeWords}
 use Rattle.draft.specs.Draft.{nodes, entryOf, Drafted}
 use Rattle.draft.specs.Entry.{startOf, countOf, tagOf, wordOf}
 use Rattle.draft.specs.DraftLaws.{Holds, Entry, entry-of}

@@ -4,10 +4,11 @@ use mathlib.Core.Path.{_≡_, refl, _∙_}
 use mathlib.Core.List.{List}
 use native.Mathlib.Omega.{arith}
 use native.Mathlib.Numerals.{sub-one}
-use lib.ListN.{length, length-take, length-drop}
+use lib.ListN.{length}
 use Rattle.field.specs.declared.Field.{Field}
 use Rattle.field.specs.declared.Field.the-variants.{Value, Refused}
 use Rattle.field.specs.Field.{fieldOf}
+use Rattle.field.specs.RestLaws.{rest-length}
 use Rattle.field.specs.Expression.{Out, out, rest, onward, argsOf, closeAt, bodyOf, headAt, headFrom, headOf, valueOf, exprOf, ReadIn, CloseIn}
 use Rattle.field.specs.declared.Read.{Read}
 use Rattle.field.specs.declared.Read.the-variants.{Done, Fault}
@@ -70,7 +71,7 @@ module _ {left : ℕ} {s draft₀ : List ℕ} {n f : ℕ} {v draft : List ℕ} {
       → Turn left s draft₀ n f v p (at + size) next (k - 1)
   turn-done {size} {next} h e d b l =
       let b′ : ReadIn (length (rest at v)) m (Done size next) = rw d at b in
-      let q : length (rest at v) ≡ length v - at = simp (length-take, length-drop) (omega arith) in
+      let q = rest-length at v in
       record {
         whole = rw (← args-done (exprOf (left - 1)) k v at draft m h e d) (i .whole);
         deep = i .deep;

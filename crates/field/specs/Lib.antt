@@ -1,2 +1,3 @@
 pub mod Field
 pub mod Expression
+pub mod RestLaws

@@ -1,18 +1,14 @@
 -- What an allowed instruction may count on: each test that it passed is a bound.
 use Prim.Native.Nat.{ℕ, _≤_, _<_}
-use mathlib.Core.Bool.{Bool, true, false, false≢true}
-use mathlib.Core.Path.{_≡_, refl}
+use mathlib.Core.Bool.{Bool, true, false}
+use mathlib.Core.Path.{_≡_}
 use native.Mathlib.Omega.{arith}
 use lib.Dec.{ltb, leb, eqb}
 use borrow.Author.Tests.{ltb-true, ltb-false, leb-true, le-ltb, lt-ltb, ne-eqb}
 use Rattle.base.specs.Basics.{pick}
+use Rattle.base.specs.Tools.{past}
 use Rattle.arith.specs.Functions.{arity}
 use Rattle.instruction.specs.Instruction.{applies, allowed}
-
--- a check that passes, and does not where b holds: b does not hold, and the rest passes
-past : (b x : Bool) → pick b false x ≡ true → (b ≡ false) × (x ≡ true)
-past true x e = absurd (false≢true e)
-past false x e = (refl, e)
 
 applies-fits : (f d : ℕ) → applies f d ≡ true → (f ≤ 14) × (arity f ≤ d)
 unfolding applies

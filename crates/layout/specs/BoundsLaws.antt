@@ -1,7 +1,7 @@
 -- A table and a round that are not foreign are within their bounds: each test that passed is a bound; the checks over events and slots by induction on how many.
 use Prim.Native.Nat.{ℕ, zero, suc, _+_, _-_, _≤_, _<_}
-use mathlib.Core.Bool.{Bool, true, false, false≢true}
-use mathlib.Core.Path.{_≡_, refl}
+use mathlib.Core.Bool.{Bool, true, false}
+use mathlib.Core.Path.{_≡_}
 use mathlib.Core.Logic.{_≢_}
 use mathlib.Core.List.{List}
 use native.Mathlib.Omega.{arith}
@@ -9,21 +9,11 @@ use lib.ListN.{length}
 use lib.Dec.{ltb, leb, eqb}
 use borrow.Author.Tests.{ltb-true, ltb-false, leb-true, leb-false, ne-eqb, eqb-true, eqb-false}
 use Rattle.base.specs.Basics.{pick}
-use Rattle.base.specs.Tools.{split}
+use Rattle.base.specs.Tools.{past, through, split}
 use Rattle.layout.specs.Layout.{eventCount, behaviourCount, eventWord, codeFits, codesFit, tableWith, tableFits}
 use Rattle.layout.specs.Layout.{waitingCount, runningFlag, runningEvent, position, depth, eventAt}
 use Rattle.layout.specs.Layout.{slotsFit, runningFits, roundWith, roundIn, roundFits, ours}
 use Rattle.layout.specs.Bounds.{TableBounds, RoundBounds, Bounds}
-
--- a check that passes, and does not where b holds: b does not hold, and the rest passes
-past : (b x : Bool) → pick b false x ≡ true → (b ≡ false) × (x ≡ true)
-past true x e = absurd (false≢true e)
-past false x e = (refl, e)
-
--- and where it does not unless b holds
-through : (b x : Bool) → pick b x false ≡ true → (b ≡ true) × (x ≡ true)
-through true x e = (refl, e)
-through false x e = absurd (false≢true e)
 
 -- ---- the table
 

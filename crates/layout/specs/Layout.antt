@@ -12,7 +12,7 @@ use mathlib.Core.List.{List}
 use lib.ListN.{length}
 use lib.Dec.{ltb, leb, eqb}
 use Rattle.base.specs.Basics.{pick}
-use Rattle.word.specs.Word.{get, put}
+use Rattle.word.specs.Word.{get}
 
 -- ---- the table
 

@@ -4,7 +4,7 @@ use mathlib.Core.Bool.{Bool, true, false}
 use mathlib.Core.List.{List}
 use lib.Dec.{ltb}
 use Rattle.base.specs.Basics.{pick}
-use Rattle.word.specs.Word.{get, put}
+use Rattle.word.specs.Word.{put}
 use Rattle.layout.specs.Layout.{eventWord, numberAt, eventAt}
 
 -- priority p, number n goes before priority q, number m

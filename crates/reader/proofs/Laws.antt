@@ -4,9 +4,10 @@ use mathlib.Core.Path.{_≡_, sym, _∙_}
 use mathlib.Core.List.{List}
 use native.Mathlib.Omega.{arith}
 use native.Mathlib.Numerals.{sub-one}
-use lib.ListN.{length, length-take, length-drop}
+use lib.ListN.{length}
 use borrow.Author.Tests.{eq-eqb, ne-eqb}
 use Rattle.field.specs.Field.{fieldOf, partOf, numberOf}
+use Rattle.field.specs.RestLaws.{rest-length}
 use Rattle.field.specs.Expression.{out, rest, ReadIn}
 use Rattle.field.specs.declared.Field.{Field}
 use Rattle.field.specs.declared.Field.the-variants.{Value, Refused}
@@ -36,9 +37,6 @@ pub event-in : (m size e : ℕ) (r : Event) → EventIn (size + 3) e r → size 
 event-in m size e Declared h a = (omega arith, h .1)
 event-in m size e Ended h a = tt
 event-in m size e (NoEvent k) h a = tt
-
-rest-length : (at : ℕ) (v : List ℕ) → length (rest at v) ≡ length v - at
-rest-length at v = simp (length-take, length-drop) (omega arith)
 
 -- ---- the loop over events
 

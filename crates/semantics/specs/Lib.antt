@@ -1,7 +1,6 @@
 pub mod Rules
 pub mod Meaning
 pub mod Rounds
-pub mod Lists
 pub mod Graph
 pub mod OrderLaws
 pub mod Solution

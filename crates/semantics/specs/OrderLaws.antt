@@ -12,7 +12,6 @@ use lib.ListN.{length, getD, set, length-set}
 use lib.Seq.{getD-set-same, getD-set-other}
 use borrow.Author.Tests.{not-true, not-false}
 use Rattle.base.specs.Basics.{All}
-pub use Rattle.base.specs.Tools.{all-at}
 use Rattle.base.specs.Tools.{by-elim, split, and-left, and-right, all-imp, by-option}
 use Rattle.language.specs.Syntax.{Program}
 use Rattle.language.specs.Dependence.{Response, follows, takes, defers, keeps, size, noEvent, response, needs, dependsOn, Reach}

@@ -2,10 +2,11 @@
 use Prim.Native.Nat.{ℕ, zero, suc, _+_, _*_, _%_, _≤_, _<_}
 use mathlib.Core.Bool.{Bool, true, false, not}
 use mathlib.Core.Path.{_≡_, refl, sym, ap, _∙_}
-use mathlib.Core.List.{List, [], _∷_, _++_, append-assoc, append-nil}
+use mathlib.Core.List.{List, [], _∷_, _++_}
 use native.Mathlib.Omega.{arith}
 use lib.Dec.{eqb}
 use lib.ListN.{length, getD}
+use Rattle.base.specs.Tools.{all-at}
 use Rattle.language.specs.Syntax.{Program}
 use Rattle.language.specs.Dependence.{Response, follows, takes, defers, keeps, size, events, response, dependsOn, NoCycle}
 use Rattle.language.specs.Order.{upTo, early, order, metAtOnce, phaseOne}
@@ -13,8 +14,7 @@ use Rattle.language.specs.Grammar.{Fits}
 use Rattle.language.specs.Accepted.{Known, Valid}
 use Rattle.language.specs.Code.{Instr, code, join, sum, members, instructions, allInstructions}
 use Rattle.semantics.specs.Meaning.{fresh}
-use Rattle.semantics.specs.Lists.{upTo-same}
-use Rattle.semantics.specs.OrderLaws.{all-at}
+use Rattle.language.specs.Laws.{upTo-same}
 use Rattle.execution.specs.Sums.{length-join}
 use Rattle.execution.specs.Lengths.{length-counted}
 use Rattle.image.specs.Image.{codeWords, allCode, startOf, eventRecord, padded, imageWords}
@@ -28,16 +28,12 @@ use Rattle.analysis.specs.CycleDecides.{cell-is, known-decides, cyclic-decides}
 use Rattle.analysis.specs.DraftChecks.{draft-inside, draft-names, draft-cyclic}
 use Rattle.evaluate.specs.FreshIs.{fresh-padded}
 use Rattle.emit.specs.Words.{each, total, countEvent, countMembers}
-use Rattle.emit.specs.ExprWords.{length-codeWords, codeWords-append}
-use Rattle.emit.specs.EventWords.{event-words, count-is, members-is}
+use Rattle.emit.specs.ExprWords.{codeWords-append}
+use Rattle.image.specs.ImageLaws.{length-codeWords}
+use Rattle.emit.specs.EventWords.{join-snoc, total-sum, event-words, count-is, members-is}
 use Rattle.table.specs.TableWords.{markOf, orderUnder, countBefore, recordWords, freshWords, codeOf, tableWords, Planned}
 
 -- ---- one after the other
-
-join-snoc : {A : Type 0} (n : ℕ) (g : ℕ → List A) → join (upTo (suc n) g) ≡ join (upTo n g) ++ g n
-unfolding join upTo
-join-snoc zero g = append-nil (g 0)
-join-snoc (suc n) g = rw (join-snoc n (λ i. g (suc i))) (sym (append-assoc (g 0) (join (upTo n (λ i. g (suc i)))) (g (suc n))))
 
 each-none : (g : ℕ → List ℕ) → [] ≡ join (upTo 0 g)
 unfolding join upTo
@@ -52,20 +48,6 @@ code-join : (n : ℕ) (g : ℕ → List Instr) → codeWords (join (upTo n g)) �
 unfolding join upTo codeWords
 code-join zero g = refl
 code-join (suc n) g = rw (codeWords-append (g 0) (join (upTo n (λ i. g (suc i)))), code-join n (λ i. g (suc i)))
-
-sum-snoc : (n : ℕ) (g : ℕ → ℕ) → sum (upTo (suc n) g) ≡ sum (upTo n g) + g n
-unfolding sum upTo
-sum-snoc zero g = omega arith
-sum-snoc (suc n) g = omega (arith, sum-snoc n (λ i. g (suc i)))
-
-sum-none : (g : ℕ → ℕ) → 0 ≡ sum (upTo 0 g)
-unfolding sum upTo
-sum-none g = refl
-
-total-sum : (n : ℕ) (f g : ℕ → ℕ) → ((i : ℕ) → i < n → f i ≡ g i) → total n f ≡ sum (upTo n g)
-unfolding total
-total-sum zero f g h = sum-none g
-total-sum (suc n) f g h = rw (sum-snoc n g, total-sum n f g (λ i b. h i (omega arith)), h n (omega arith))
 
 -- ---- marks
 

@@ -8,6 +8,7 @@ use native.Mathlib.Omega.{arith}
 use native.Mathlib.Numerals.{add-one}
 use lib.ListN.{length, getD, set, take, replicate, length-set, length-append, length-replicate}
 use lib.Seq.{getD-set-same, getD-set-other}
+use Rattle.image.specs.ImageLaws.{length-padded}
 use Rattle.image.specs.Image.{putWords, padded}
 use Rattle.draft.specs.Draft.{entryOf}
 use Rattle.graph.specs.Matrix.{cell}
@@ -168,10 +169,6 @@ unfolding padded
 wrote-padded {ws = ws} {k = k} {b = b} n w z =
     let s : k + n - b ≡ n - length ws = omega (arith, w .next) in
     wrote-then w (rw s at z)
-
-pub length-padded : (n : ℕ) (ws : List ℕ) → length ws ≤ n → length (padded n ws) ≡ n
-unfolding padded
-length-padded n ws h = rw (length-append ws (replicate (n - length ws) 0), length-replicate {A = ℕ} (n - length ws) 0) (omega arith)
 
 pub table-wrote : (d : List ℕ) (ev bs : ℕ) {t t₁ t₂ t₃ t₄ t₅ t₆ : List ℕ} {a b c r f g : ℕ} → ev ≤ 32
     → Wrote t 0 (padded 8 (ev ∷ bs ∷ [])) t₁ a → Wrote t₁ 8 (each ev (recordWords d bs)) t₂ b → Wrote t₂ b (replicate (136 - b) 0) t₃ c

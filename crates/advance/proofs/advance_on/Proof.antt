@@ -1,6 +1,5 @@
 -- The reads are the definition's, by their contracts; the instruction lies in the table, by `in-code`.
 use Rattle.advance.proofs.Laws.{in-code}
-use Rattle.base.specs.Pick.{code}
 use Rattle.advance.specs.Advance.{advance}
 use borrow.Author.Needs.{needs}
 use Rattle.advance.proofs.advance_on.Statement.{statement}

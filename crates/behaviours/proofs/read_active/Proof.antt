@@ -1,3 +1,4 @@
+-- The field's answer is taken apart as in `activeOf`; the start's four bytes are there, since the field has length 4.
 use mathlib.Core.Path.{sym, ap, _∙_}
 use native.Mathlib.Omega.{arith}
 use borrow.Author.Needs.{needs}

@@ -1,3 +1,4 @@
+-- The branches are those of `entryAt`; the entry's numbers are small, since a node takes four bytes or more.
 use native.Mathlib.Omega.{arith}
 use borrow.Author.Needs.{needs}
 use Rattle.behaviours.proofs.Laws.{entry-fault, entry-left, entry-done}

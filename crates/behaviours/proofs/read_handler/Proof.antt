@@ -1,3 +1,4 @@
+-- The field's answer is taken apart as in `handlerOf`; its value is a part of s, so there is room.
 use lib.ListN.{length}
 use native.Mathlib.Omega.{arith}
 use borrow.Author.Needs.{needs}

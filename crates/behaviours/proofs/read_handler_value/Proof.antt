@@ -1,3 +1,4 @@
+-- The tests are those of `handlerAt`, in its order; the entry's place lies in the draft.
 use native.Mathlib.Omega.{arith}
 use borrow.Author.Needs.{needs}
 use Rattle.base.specs.Pick.{code}

@@ -1,3 +1,4 @@
+-- The branches are those of `closeAt`.
 use Rattle.field.specs.Expression.{closeAt}
 use Rattle.base.specs.Pick.{branches}
 use native.Mathlib.Omega.{arith}

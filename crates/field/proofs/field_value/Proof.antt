@@ -1,3 +1,4 @@
+-- The part is the one that `partOf` names, within s.
 use Rattle.field.specs.Field.{partOf, sizeOf}
 use mathlib.Core.Path.{sym, ap, _∙_}
 use native.Mathlib.Nat.{add-sub-cancel}

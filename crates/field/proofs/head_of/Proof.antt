@@ -1,3 +1,4 @@
+-- The branches are those of `headAt`.
 use Rattle.field.specs.Expression.{headAt}
 use Rattle.base.specs.Pick.{branches}
 use native.Mathlib.Omega.{arith}

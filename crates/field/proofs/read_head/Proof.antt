@@ -1,3 +1,4 @@
+-- The tests are those of `headOf`, in its order; the bytes read are there, by the field's length.
 use native.Mathlib.Omega.{arith}
 use Rattle.field.specs.declared.Head.the-variants.{NoHead}
 use Rattle.field.specs.Expression.{headOf}

@@ -4,7 +4,7 @@ use mathlib.Core.Path.{_≡_, refl}
 use mathlib.Core.List.{List}
 use native.Mathlib.Omega.{arith}
 use native.Mathlib.Numerals.{add-one}
-use Rattle.base.specs.Pick.{either as both}
+use Rattle.base.specs.Tools.{by-test}
 use Rattle.layout.specs.Layout.{eventWord, numberAt, eventAt}
 use Rattle.queue.specs.Queue.{ahead, either, better, best}
 use Rattle.queue.proofs.best_of.Statement.{statement}
@@ -17,7 +17,7 @@ record Turn (t l : List ℕ) (n b i : ℕ) : Type 0 where
 
 below : (t l : List ℕ) (i b m : ℕ) → i < m → b < m → better t l i b < m
 unfolding better either
-below t l i b m p q = both (λ x. x < m) i b (ahead (eventWord t (eventAt l i) 0) (numberAt l i) (eventWord t (eventAt l b) 0) (numberAt l b)) (λ e. p) (λ e. q)
+below t l i b m p q = by-test (λ x. x < m) (ahead (eventWord t (eventAt l i) 0) (numberAt l i) (eventWord t (eventAt l b) 0) (numberAt l b)) (λ e. p) (λ e. q)
 
 turn : {t l : List ℕ} {n b i x : ℕ} → Turn t l n b i → i < n → n ≤ 64 → x ≡ better t l i b → Turn t l n x (i + 1)
 unfolding best

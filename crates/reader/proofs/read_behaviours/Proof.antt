@@ -1,3 +1,4 @@
+-- The loop keeps that what is left of `behavioursOf` gives the whole; each behaviour takes bytes, so it ends.
 use Prim.Native.Nat.{_-_}
 use mathlib.Core.Path.{refl}
 use lib.ListN.{length}

@@ -1,4 +1,4 @@
-use native.Mathlib.Omega.{arith}
+-- The tests are those of `priorityAt`, in its order.
 use borrow.Author.Needs.{needs}
 use Rattle.base.specs.Pick.{code}
 use Rattle.reader.specs.Whole.{priorityAt}

@@ -1,3 +1,4 @@
+-- The events, then the behaviours, as in `readOn`.
 use native.Mathlib.Omega.{arith}
 use borrow.Author.Needs.{needs}
 use Rattle.reader.proofs.Laws.{program-stops, program-goes}

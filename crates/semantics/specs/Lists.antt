@@ -1,2 +1,0 @@
--- `upTo-same`, passed on from the language.
-pub use Rattle.language.specs.Laws.{upTo-same}
