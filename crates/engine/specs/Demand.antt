@@ -21,7 +21,7 @@ use Rattle.model.specs.Claims.{after, said, committedIn, takenInBy, settlingIn,
 use Rattle.image.specs.Image.{tableOf}
 use Rattle.round.specs.Start.{startOn}
 use Rattle.machine.specs.Machine.{stepOn}
-use Rattle.refinement.specs.Refinement.{coded, answersOn, roundAfter, View, Kept}
+use Rattle.refinement.specs.Refinement.{coded, callOn, answersOn, roundAfter, View, Kept}
 use Rattle.compiler.specs.Verdict.{compileOn}
 
 -- the events of arrivals
@@ -36,11 +36,21 @@ boardOf p l = words l 136 (size p)
 abbrev pub IdleNow : List ℕ → List ℕ → Type 0
 IdleNow t l = stepOn t l .0 ≡ 0
 
+-- the two buffers lent to each call, and as its contract leaves them: the table as it was, the round as `callOn` says
+abbrev pub Buffers : Type 0
+Buffers = List ℕ × List ℕ
+
+unfoldable pub buffersAfter : List Call → Buffers → Buffers
+buffersAfter [] b = b
+buffersAfter (c ∷ cs) b = buffersAfter cs (b .0, callOn (b .0) c (b .1) .1)
+
 -- ---- demand 3, one list of calls: on the table t of program p and the round l that start made fresh in the bytes l₀
 
 pub record OneList (p : Program) (t l₀ l : List ℕ) (cs : List Call) : Type 0 where
   -- "every answer .. is what 01's model engine gives"
   pub answers : answersOn t cs l ≡ map coded (said p cs)
+  -- "The table is still as compile left it": after the list it is t, and the round is `roundAfter`
+  pub table : buffersAfter cs (t, l) ≡ (t, roundAfter t cs l)
   -- ".. and the round after the list"
   pub round : View p (roundAfter t cs l) (after p cs)
   pub beyond : Kept l₀ (roundAfter t cs l)

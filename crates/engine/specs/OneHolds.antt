@@ -2,7 +2,7 @@
 -- The bytes refine the model engine, and the model engine's claims carry over.
 use Prim.Native.Nat.{ℕ, _-_, _≤_, _<_}
 use mathlib.Core.Bool.{false}
-use mathlib.Core.Path.{_≡_, sym, ap, _∙_, subst}
+use mathlib.Core.Path.{_≡_, refl, sym, ap, _∙_, subst}
 use mathlib.Core.List.{List, [], _∷_, _++_}
 use native.Mathlib.Omega.{arith}
 use lib.ListN.{length}
@@ -32,7 +32,7 @@ use Rattle.machine.specs.Machine.{stepOn}
 use Rattle.refinement.specs.Refinement.{coded, callOn, roundAfter, View, Agreement}
 use Rattle.refinement.specs.Coded.{answer-to, coded-injective}
 use Rattle.refinement.specs.Refines.{valid, refines}
-use Rattle.engine.specs.Demand.{eventsOf, boardOf, IdleNow, OneList}
+use Rattle.engine.specs.Demand.{buffersAfter, eventsOf, boardOf, IdleNow, OneList}
 use Rattle.engine.specs.Runs.{answers-append, commits-append, commits-ran, next-answer, taken-declared, at-rest}
 
 all-map : (p : Program) (l : List Arrival) → All (Declared p) l → All (λ e. e < events p) (eventsOf l)
@@ -41,6 +41,12 @@ all-map p (a ∷ l) h = (h .0, all-map p l (h .1))
 
 store-view : (p : Program) (l : List ℕ) (w : Engine) → View p l w → boardOf p l ≡ storeOf w
 store-view p l (engine t q r d) v = v .store
+
+-- no call writes the table
+table-stays : (cs : List Call) (t l : List ℕ) → buffersAfter cs (t, l) ≡ (t, roundAfter t cs l)
+unfolding buffersAfter roundAfter
+table-stays [] t l = refl
+table-stays (c ∷ cs) t l = table-stays cs t (callOn t c l .1)
 
 module _ (p : Program) (ok : Accepted p) (t₀ l₀ : List ℕ) (table-room : 34816 ≤ length t₀) (round-room : 2048 ≤ length l₀) where
   abbrev table : List ℕ
@@ -134,6 +140,7 @@ module _ (p : Program) (ok : Accepted p) (t₀ l₀ : List ℕ) (table-room : 34
   pub one-list : (cs : List Call) → OneList p table l₀ round cs
   one-list cs = record {
     answers = agrees cs .answered;
+    table = table-stays cs _ _;
     round = agrees cs .viewed;
     beyond = agrees cs .kept;
     idle = idle-both cs;

@@ -1,5 +1,5 @@
 // The exported calls. Each contract gives the answer and every byte at exit, for all bytes and numbers; none has a `requires`.
-// The table is lent as `&[u8]` to all but compile: they cannot change it.
+// The table is lent as `&[u8]` to all but compile: they leave it as it was.
 ghost use mathlib.Core.Path.{_≡_};
 ghost use Prim.Native.Nat.{_+_, _*_, _≤_, _<_};
 ghost use lib.ListN.{length};
@@ -23,6 +23,7 @@ pub extern "C" fn compile(sheet: &[u8], table: &mut [u8]) -> u32
 #[no_mangle]
 pub extern "C" fn start(table: &[u8], round: &mut [u8]) -> u32
     ensures { λ r. ⌜ result r (now (round .exit)) ≡ startOn (now (table .entry)) (now (round .entry)) ⌝ }
+    ensures { λ _. ⌜ now (table .exit) ≡ now (table .entry) ⌝ }
 {
     round::start_round(table, round)
 }
@@ -31,6 +32,7 @@ pub extern "C" fn start(table: &[u8], round: &mut [u8]) -> u32
 #[no_mangle]
 pub extern "C" fn arrive(table: &[u8], round: &mut [u8], event: u32) -> u32
     ensures { λ r. ⌜ result r (now (round .exit)) ≡ arriveOn (now (table .entry)) (now (round .entry)) event ⌝ }
+    ensures { λ _. ⌜ now (table .exit) ≡ now (table .entry) ⌝ }
 {
     arrivals::arrive_at(table, round, event)
 }
@@ -39,6 +41,7 @@ pub extern "C" fn arrive(table: &[u8], round: &mut [u8], event: u32) -> u32
 #[no_mangle]
 pub extern "C" fn step(table: &[u8], round: &mut [u8]) -> u64
     ensures { λ r. ⌜ result r (now (round .exit)) ≡ stepOn (now (table .entry)) (now (round .entry)) ⌝ }
+    ensures { λ _. ⌜ now (table .exit) ≡ now (table .entry) ⌝ }
 {
     machine::step_at(table, round)
 }
@@ -47,6 +50,8 @@ pub extern "C" fn step(table: &[u8], round: &mut [u8]) -> u64
 #[no_mangle]
 pub extern "C" fn board(table: &[u8], round: &[u8], behaviour: u32) -> u64
     ensures { λ r. ⌜ r ≡ boardOn (now (table .entry)) (now (round .entry)) behaviour ⌝ }
+    ensures { λ _. ⌜ now (table .exit) ≡ now (table .entry) ⌝ }
+    ensures { λ _. ⌜ now (round .exit) ≡ now (round .entry) ⌝ }
 {
     board::board_at(table, round, behaviour)
 }
@@ -90,6 +95,7 @@ pub extern "C" fn replay(table: &[u8], round: &mut [u8], calls: &[u8], answers: 
     ensures { λ r. ⌜ r ≡ callCount (length (now (calls .entry))) (length (now (answers .entry))) ⌝ }
     ensures { λ r. ⌜ now (round .exit) ≡ roundAfter (now (table .entry)) (callsFrom (now (calls .entry)) 0 r) (now (round .entry)) ⌝ }
     ensures { λ r. ⌜ now (answers .exit) ≡ putAnswers (now (answers .entry)) 0 (answersOn (now (table .entry)) (callsFrom (now (calls .entry)) 0 r) (now (round .entry))) ⌝ }
+    ensures { λ _. ⌜ now (table .exit) ≡ now (table .entry) ⌝ }
 {
     let n = call_count(calls.len(), answers.len());
     let mut i = 0;

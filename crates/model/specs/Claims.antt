@@ -121,9 +121,11 @@ pub record Later (p : Program) (cs : List Call) (a b : Arrival) : Type 0 where
   pub copying : CopyingBack p a (after p past)
   pub not-yet : number (after p past) ≤ b .number
 
--- "A lower rank precedes a higher one only if the higher was taken in after the lower's copy-back began."
+-- "A lower rank precedes a higher one only if the higher was taken in after the lower's copy-back began.": among the commits, and before those still in the queue
 abbrev pub LowerFirst : Program → List Call → Type 0
-LowerFirst p cs = Pairs (λ a b. rank p a < rank p b → Later p cs a b) (committedIn p cs)
+LowerFirst p cs =
+    Pairs (λ a b. rank p a < rank p b → Later p cs a b) (committedIn p cs)
+    × All (λ a. All (λ b. rank p a < rank p b → Later p cs a b) (inQueue (after p cs))) (committedIn p cs)
 
 -- the longest event's instructions, over all events
 unfoldable pub greatest : List ℕ → ℕ

@@ -17,7 +17,7 @@ use Rattle.language.specs.Code.{code, members}
 use Rattle.execution.specs.Execution.{Values, offs, ons, maskedAfter, copyingBackAfter}
 use Rattle.execution.specs.CodeFacts.{CodeFacts, copyingBackAt, maskedAt}
 use Rattle.model.specs.Model.{Arrival, arrival, Running, rest, busy, Engine, engine, queue, Call, arrive, step, board, rank}
-use Rattle.model.specs.Claims.{number, CopyingBack, after, committedIn, takenInBy, Pairs, Later, LowerFirst}
+use Rattle.model.specs.Claims.{number, inQueue, CopyingBack, after, committedIn, takenInBy, Pairs, Later, LowerFirst}
 use Rattle.model.specs.Choice.{choose-perm}
 use Rattle.model.specs.Moves.{Cases}
 use Rattle.model.specs.Reached.{back-perm}
@@ -155,16 +155,24 @@ module _ (p : Program) where
 
     -- ---- as it is read
 
-    laters : (cs : List Call) (t : ℕ) (q log : List Arrival) → Marked cs t q log → Pairs (λ a b. rank p a < rank p b → Later p cs a b) log
-    laters cs t q [] h = tt
-    laters cs t q (a ∷ l) h = (
-      all-imp _ (λ b. rank p a < rank p b → Later p cs a b)
-          (λ b k r. record { past = h .0 .before; rest-of = h .0 .since; moment = h .0 .moment; copying = h .0 .copying; not-yet = k r }) l
-          (all-split (λ b. rank p a < rank p b → number (after p (h .0 .before)) ≤ b .number) l q (h .0 .behind) .0),
-      laters cs t q l (h .1),
-    )
+    -- what was behind a when its copy-back began came later
+    behind-later : (cs : List Call) (a : Arrival) (t : ℕ) (l m : List Arrival) → (b : Began cs a t l)
+        → All (λ x. rank p a < rank p x → number (after p (b .before)) ≤ x .number) m → All (λ x. rank p a < rank p x → Later p cs a x) m
+    behind-later cs a t l m b h =
+        all-imp _ (λ x. rank p a < rank p x → Later p cs a x)
+        (λ x k r. record { past = b .before; rest-of = b .since; moment = b .moment; copying = b .copying; not-yet = k r }) m h
 
-    lowered : (cs : List Call) (log taken : List Arrival) (w : Engine) → Lowered cs log taken w → Pairs (λ a b. rank p a < rank p b → Later p cs a b) log
+    laters : (cs : List Call) (t : ℕ) (q log : List Arrival) → Marked cs t q log
+        → Pairs (λ a b. rank p a < rank p b → Later p cs a b) log × All (λ a. All (λ b. rank p a < rank p b → Later p cs a b) q) log
+    laters cs t q [] h = (tt, tt)
+    laters cs t q (a ∷ l) h =
+        let b = h .0 in
+        let s = all-split (λ x. rank p a < rank p x → number (after p (b .before)) ≤ x .number) l q (b .behind) in
+        let r = laters cs t q l (h .1) in
+        ((behind-later cs a t (l ++ q) l b (s .0), r .0), (behind-later cs a t (l ++ q) q b (s .1), r .1))
+
+    lowered : (cs : List Call) (log taken : List Arrival) (w : Engine) → Lowered cs log taken w
+        → Pairs (λ a b. rank p a < rank p b → Later p cs a b) log × All (λ a. All (λ b. rank p a < rank p b → Later p cs a b) (inQueue w)) log
     lowered cs log taken (engine t waiting r d) h = laters cs t (queue waiting r) log (h .0)
 
     pub lower-first : (cs : List Call) → LowerFirst p cs

@@ -1,5 +1,6 @@
 -- `engine::replay` meets its contract. The loop keeps: the calls that are left, made where it stands, give the whole. Assumes nothing.
 use Prim.Native.Nat.{_-_}
+use mathlib.Core.Path.{refl}
 use native.Mathlib.Omega.{arith}
 use borrow.Author.Needs.{needs}
 use Rattle.engine.proofs.Laws.{Turn, begin, turn, end-round, end-answers}
@@ -36,4 +37,4 @@ replay-spec =
     (c .before .before .put-answer .ensures) (search needs) (search needs))
     (λ c. omega arith)
     (λ c. omega arith)
-    (λ c. (c .before .before .call-count .ensures .0, (end-round (c .before .loop .inv) (c .loop-test .left), end-answers (c .before .loop .inv) (c .loop-test .left)))))
+    (λ c. (c .before .before .call-count .ensures .0, (end-round (c .before .loop .inv) (c .loop-test .left), (end-answers (c .before .loop .inv) (c .loop-test .left), refl)))))
