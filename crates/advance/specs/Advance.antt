@@ -8,7 +8,8 @@ use Rattle.word.specs.Word.{get, put}
 use Rattle.language.specs.Refusals.{foreign}
 use Rattle.layout.specs.Layout.{eventWord, runningEvent, runningNumber, position, depth}
 use Rattle.round.specs.Start.{Result}
-use Rattle.instruction.specs.Instruction.{allowed, perform}
+use Rattle.allowed.specs.Allowed.{allowed}
+use Rattle.instruction.specs.Instruction.{perform}
 use Rattle.dispatch.specs.Dispatch.{said}
 
 -- arrival n of event e has done c of len instructions and now one more

@@ -29,7 +29,7 @@ fn execute_on(l: &mut [u8], a: u32, w: u32, c: u32, e: u32, n: u32, len: u32) ->
     let op = a / 256;
     let s = a % 256;
     let d = word::get_word(l, 6);
-    if instruction::is_allowed(op, s, d) {
+    if allowed::is_allowed(op, s, d) {
         instruction::perform_on(l, op, s, w, d);
         return count_on(l, c, e, n, len);
     }

@@ -62,7 +62,7 @@ fn arrive_in(t: &[u8], l: &mut [u8], e: u32) -> u32
 pub fn arrive_at(t: &[u8], l: &mut [u8], e: u32) -> u32
     ensures { λ r. ⌜ result r (now (l .exit)) ≡ arriveOn (now (t .entry)) (now (l .entry)) e ⌝ }
 {
-    if layout::is_ours(t, l) {
+    if foreign::is_ours(t, l) {
         return arrive_in(t, l, e);
     }
     14

@@ -74,7 +74,7 @@ fn board_in(t: &[u8], l: &[u8], i: u32) -> u64
 pub fn board_at(t: &[u8], l: &[u8], i: u32) -> u64
     ensures { λ r. ⌜ r ≡ boardOn (now (t .entry)) (now (l .entry)) i ⌝ }
 {
-    if layout::is_ours(t, l) {
+    if foreign::is_ours(t, l) {
         return board_in(t, l, i);
     }
     14
@@ -99,7 +99,7 @@ fn settling_in(t: &[u8], l: &[u8]) -> bool
 pub fn settling_at(t: &[u8], l: &[u8]) -> bool
     ensures { λ r. ⌜ r ≡ settlingOn (now (t .entry)) (now (l .entry)) ⌝ }
 {
-    if layout::is_ours(t, l) {
+    if foreign::is_ours(t, l) {
         return settling_in(t, l);
     }
     false

@@ -12,7 +12,7 @@ use Rattle.language.specs.Refusals.{foreign}
 use Rattle.layout.specs.Layout.{eventCount, eventWord, taken, waitingCount, runningFlag, runningEvent, runningNumber, position, depth, eventAt, tableFits, ours}
 use Rattle.queue.specs.Queue.{best}
 use Rattle.round.specs.Start.{Result, startOn}
-use Rattle.instruction.specs.Instruction.{allowed}
+use Rattle.allowed.specs.Allowed.{allowed}
 use Rattle.arrivals.specs.Arrivals.{full, arriveWith, arriveIn, arriveOn}
 use Rattle.board.specs.Board.{masked}
 use Rattle.dispatch.specs.Dispatch.{said, startAt, preemptAt}

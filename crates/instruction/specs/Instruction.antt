@@ -1,28 +1,11 @@
--- One instruction on the round's bytes (layout: crate layout). 01 "Handlers and steps"; "Why a call was turned down": foreign.
+-- One instruction on the round's bytes (layout: crate layout). 01 "Handlers and steps".
 -- Operations: 1 off, 2 on, 3 copy, 4 restore, 5 push, 6 load, 7 fetch, 8 apply (its slot is the function), 9 save, 10 defer, 11 move.
 use Prim.Native.Nat.{ℕ, _+_}
-use mathlib.Core.Bool.{Bool, true, false}
 use mathlib.Core.List.{List}
-use lib.Dec.{ltb, leb, eqb}
+use lib.Dec.{eqb}
 use Rattle.base.specs.Basics.{pick}
 use Rattle.word.specs.Word.{get, put}
-use Rattle.arith.specs.Functions.{arity}
 use Rattle.stack.specs.Stack.{pushOn, popTo, applyOn}
-
--- function f finds its arguments on a stack of depth d
-unfoldable pub applies : ℕ → ℕ → Bool
-applies f d = pick (eqb f 0) false (pick (ltb 14 f) false (leb (arity f) d))
-
--- not foreign: "an instruction not of this paper, with a slot above 63, or taking from an empty or adding to a full stack"
-unfoldable pub allowed : ℕ → ℕ → ℕ → Bool
-allowed op s d =
-    pick (ltb 63 s) false
-    (pick (eqb op 0) false
-    (pick (ltb op 5) true
-    (pick (ltb op 8) (ltb d 64)
-    (pick (eqb op 8) (applies s d)
-    (pick (ltb op 11) (ltb 0 d)
-    (eqb op 11))))))
 
 -- word k to word j
 unfoldable pub transfer : List ℕ → ℕ → ℕ → List ℕ

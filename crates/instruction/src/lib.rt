@@ -5,44 +5,8 @@ ghost use Prim.Native.Nat.{_≤_, _<_};
 ghost use lib.ListN.{length};
 ghost use Rattle.word.specs.Word.{get};
 ghost use Rattle.stack.specs.Stack.{pushOn};
-ghost use Rattle.instruction.specs.Instruction.{applies, allowed, transfer, perform};
-
-fn arguments_there(f: u32, d: u32) -> bool
-    ensures { λ r. ⌜ r ≡ applies f d ⌝ }
-{
-    if f == 0 {
-        return false;
-    }
-    if f > 14 {
-        return false;
-    }
-    (arith::arity_of(f as u8) as u32) <= d
-}
-
-// Whether operation op with slot s is one of ours and finds its stack, of depth d, as it needs it.
-pub fn is_allowed(op: u32, s: u32, d: u32) -> bool
-    ensures { λ r. ⌜ r ≡ allowed op s d ⌝ }
-{
-    if s > 63 {
-        return false;
-    }
-    if op == 0 {
-        return false;
-    }
-    if op < 5 {
-        return true;
-    }
-    if op < 8 {
-        return d < 64;
-    }
-    if op == 8 {
-        return arguments_there(s, d);
-    }
-    if op < 11 {
-        return 0 < d;
-    }
-    op == 11
-}
+ghost use Rattle.instruction.specs.Instruction.{transfer, perform};
+ghost use Rattle.allowed.specs.Allowed.{allowed};
 
 fn transfer_word(l: &mut [u8], k: usize, j: usize)
     requires { ⌜ (2048 ≤ length (now l)) × (k < 512) × (j < 512) ⌝ }

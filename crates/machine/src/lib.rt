@@ -97,7 +97,7 @@ fn step_in(t: &[u8], l: &mut [u8]) -> u64
 pub fn step_at(t: &[u8], l: &mut [u8]) -> u64
     ensures { λ r. ⌜ result r (now (l .exit)) ≡ stepOn (now (t .entry)) (now (l .entry)) ⌝ }
 {
-    if layout::is_ours(t, l) {
+    if foreign::is_ours(t, l) {
         return step_in(t, l);
     }
     14

@@ -22,7 +22,8 @@ use Rattle.execution.specs.Safe.{Filled, Ok, full, arity, Matches}
 use Rattle.execution.specs.SafeLaws.{full-some}
 use Rattle.image.specs.Image.{operation, constant}
 use Rattle.stack.specs.Stack.{pushOn, popTo, applyOne, applyTwo, applyThree, applyOn}
-use Rattle.instruction.specs.Instruction.{applies, allowed, transfer, perform}
+use Rattle.allowed.specs.Allowed.{applies, allowed}
+use Rattle.instruction.specs.Instruction.{transfer, perform}
 use Rattle.refinement.specs.Refinement.{Kept}
 use Rattle.refinement.specs.Slots.{kept-all, kept-put}
 use Rattle.refinement.specs.Values.{Holds, value-at, store-holds, scratch-holds, deferred-holds, depth-holds, place-holds, top-holds}

@@ -1,5 +1,5 @@
 -- In each arm op is a numeral: the definition computes to the callee's contract, and what is allowed bounds slot and depth; in the last no test holds.
-use Rattle.instruction.specs.InstructionLaws.{slot-small, push-room, apply-fits, pop-one}
+use Rattle.allowed.specs.AllowedLaws.{slot-small, push-room, apply-fits, pop-one}
 use Rattle.base.specs.Pick.{code}
 use native.Mathlib.Omega.{arith}
 use Rattle.instruction.specs.Instruction.{perform}

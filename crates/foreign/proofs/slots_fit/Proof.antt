@@ -8,9 +8,9 @@ use lib.Dec.{ltb}
 use borrow.Author.Tests.{lt-ltb, le-ltb}
 use Rattle.base.specs.Basics.{pick}
 use Rattle.word.specs.Word.{get}
 use Rattle.layout.specs.Layout.{slotsFit}
-use Rattle.layout.proofs.slots_fit.Statement.{statement}
-use Rattle.layout.proofs.slots_fit.Tie as tie
+use Rattle.foreign.proofs.slots_fit.Statement.{statement}
+use Rattle.foreign.proofs.slots_fit.Tie as tie
 
 record Turn (l : List ℕ) (known n i : ℕ) : Type 0 where
   whole : slotsFit l known n ≡ slotsFit l known i

@@ -1,9 +1,9 @@
 -- `round_with` is `roundWith`: each branch follows the definition's test.
 use Rattle.base.specs.Pick.{code}
 use Rattle.layout.specs.Layout.{roundWith}
 use borrow.Author.Needs.{needs}
-use Rattle.layout.proofs.round_with.Statement.{statement}
-use Rattle.layout.proofs.round_with.Tie as tie
+use Rattle.foreign.proofs.round_with.Statement.{statement}
+use Rattle.foreign.proofs.round_with.Tie as tie
 
 pub round-with-spec : {M : Type 1} → statement M
 unfolding roundWith

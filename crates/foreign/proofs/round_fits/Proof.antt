@@ -1,9 +1,9 @@
 -- `round_fits` is `roundFits`: each branch follows the definition's test.
 use Rattle.base.specs.Pick.{code}
 use Rattle.layout.specs.Layout.{roundFits}
 use borrow.Author.Needs.{needs}
-use Rattle.layout.proofs.round_fits.Statement.{statement}
-use Rattle.layout.proofs.round_fits.Tie as tie
+use Rattle.foreign.proofs.round_fits.Statement.{statement}
+use Rattle.foreign.proofs.round_fits.Tie as tie
 
 pub round-fits-spec : {M : Type 1} → statement M
 unfolding roundFits

@@ -2,10 +2,10 @@
 use Prim.Native.Nat.{_<_}
 use Rattle.base.specs.Pick.{code}
 use native.Mathlib.Omega.{arith}
-use Rattle.instruction.specs.Instruction.{applies}
+use Rattle.allowed.specs.Allowed.{applies}
 use borrow.Author.Needs.{needs}
-use Rattle.instruction.proofs.arguments_there.Statement.{statement}
-use Rattle.instruction.proofs.arguments_there.Tie as tie
+use Rattle.allowed.proofs.arguments_there.Statement.{statement}
+use Rattle.allowed.proofs.arguments_there.Tie as tie
 
 pub arguments-there-spec : {M : Type 1} → statement M
 unfolding applies

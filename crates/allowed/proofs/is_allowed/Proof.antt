@@ -2,10 +2,10 @@
 use Prim.Native.Nat.{_<_}
 use Rattle.base.specs.Pick.{code}
 use native.Mathlib.Omega.{arith}
-use Rattle.instruction.specs.Instruction.{allowed}
+use Rattle.allowed.specs.Allowed.{allowed}
 use borrow.Author.Needs.{needs}
-use Rattle.instruction.proofs.is_allowed.Statement.{statement}
-use Rattle.instruction.proofs.is_allowed.Tie as tie
+use Rattle.allowed.proofs.is_allowed.Statement.{statement}
+use Rattle.allowed.proofs.is_allowed.Tie as tie
 
 pub is-allowed-spec : {M : Type 1} → statement M
 unfolding allowed

@@ -1,8 +1,8 @@
 -- `round_in` is `roundIn`: what each call returns, put together.
 use Rattle.layout.specs.Layout.{roundIn}
 use borrow.Author.Needs.{needs}
-use Rattle.layout.proofs.round_in.Statement.{statement}
-use Rattle.layout.proofs.round_in.Tie as tie
+use Rattle.foreign.proofs.round_in.Statement.{statement}
+use Rattle.foreign.proofs.round_in.Tie as tie
 
 pub round-in-spec : {M : Type 1} → statement M
 unfolding roundIn

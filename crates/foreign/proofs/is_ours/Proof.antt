@@ -4,12 +4,12 @@ use mathlib.Core.Path.{_≡_, sym, _∙_}
 use Prim.Native.Nat.{ℕ}
 use mathlib.Core.List.{List}
 use Rattle.base.specs.Pick.{code}
 use Rattle.layout.specs.Layout.{ours}
 use Rattle.layout.specs.Bounds.{Bounds}
 use Rattle.layout.specs.BoundsLaws.{bounds}
 use borrow.Author.Needs.{needs}
-use Rattle.layout.proofs.is_ours.Statement.{statement}
-use Rattle.layout.proofs.is_ours.Tie as tie
+use Rattle.foreign.proofs.is_ours.Statement.{statement}
+use Rattle.foreign.proofs.is_ours.Tie as tie
 
 told : (t l : List ℕ) {x : Bool} → x ≡ ours t l → (x ≡ ours t l) × (x ≡ true → Bounds t l)
 told t l e = (e, λ h. bounds t l (sym e ∙ h))

@@ -8,7 +8,7 @@ use borrow.Author.Tests.{ltb-true, ltb-false, leb-true, le-ltb, lt-ltb, ne-eqb}
 use Rattle.base.specs.Basics.{pick}
 use Rattle.base.specs.Tools.{past}
 use Rattle.arith.specs.Functions.{arity}
-use Rattle.instruction.specs.Instruction.{applies, allowed}
+use Rattle.allowed.specs.Allowed.{applies, allowed}
 
 applies-fits : (f d : ℕ) → applies f d ≡ true → (f ≤ 14) × (arity f ≤ d)
 unfolding applies
