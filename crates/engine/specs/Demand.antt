@@ -17,7 +17,7 @@ use Rattle.semantics.specs.Rules.{Shows}
 use Rattle.semantics.specs.Meaning.{at, fresh}
 use Rattle.semantics.specs.Plays.{Plays}
 use Rattle.model.specs.Model.{Arrival, arrival, Call, rank}
-use Rattle.model.specs.Claims.{after, said, committedIn, takenInBy, settlingIn, number, Idle, OnceEach, EqualsInOrder, LowerFirst, SettlesIn, aloneCalls}
+use Rattle.model.specs.Claims.{after, said, committedIn, takenInBy, settlingIn, number, Idle, OnceEach, EqualsInOrder, LowerFirst, SettlesIn, NobodyWaits, aloneCalls}
 use Rattle.image.specs.Image.{tableOf}
 use Rattle.round.specs.Start.{startOn}
 use Rattle.machine.specs.Machine.{stepOn}
@@ -69,6 +69,8 @@ pub record OneList (p : Program) (t l₀ l : List ℕ) (cs : List Call) : Type 0
   pub lower : LowerFirst p cs
   -- "Once no more are taken in, the round is idle within 01's count of steps."
   pub settles : SettlesIn p cs
+  -- document 02, M-113: "If during the next (k + 1) × (L + 1) steps nothing of higher rank arrives .., that arrival is committed by the end of them."
+  pub nobody-waits : NobodyWaits p cs
   -- demand 2: "An event run alone leaves on the board, for every behaviour, the value that the paper's big-step rules give": from an idle round, an event that is
   -- taken in and stepped to its commit
   pub one-event : IdleNow t (roundAfter t cs l) → (e : ℕ) → e < events p → number (after p cs) < 1000000

@@ -24,7 +24,7 @@ use Rattle.model.specs.Claims.{after, said, commits, committedIn, settlingIn, n
 use Rattle.model.specs.History.{run-append}
 use Rattle.model.specs.Reached.{Reached, reached}
 use Rattle.model.specs.Alone as lone
-use Rattle.model.specs.ModelHolds.{board-of-commits, once-each, equals-in-order, lower-first, settles-in}
+use Rattle.model.specs.ModelHolds.{board-of-commits, once-each, equals-in-order, lower-first, settles-in, nobody-waits}
 use Rattle.model.specs.Confluence.{Declared}
 use Rattle.image.specs.Image.{tableOf}
 use Rattle.round.specs.Start.{freshBytes}
@@ -150,5 +150,6 @@ module _ (p : Program) (ok : Accepted p) (t₀ l₀ : List ℕ) (table-room : 34
     equals = equals-in-order p facts cs;
     lower = lower-first p facts cs;
     settles = settles-in p facts cs;
+    nobody-waits = nobody-waits p facts cs;
     one-event = λ h e d room. one-event cs e d h room;
   }

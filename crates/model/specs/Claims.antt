@@ -3,7 +3,7 @@ use Prim.Native.Nat.{ℕ, suc, _+_, _*_, _≤_, _<_}
 use mathlib.Core.Bool.{Bool, true, false}
 use mathlib.Core.Path.{_≡_}
 use mathlib.Core.Logic.{_≢_}
-use mathlib.Core.List.{List, [], _∷_, _++_, map, List·Permᴰ}
+use mathlib.Core.List.{List, [], _∷_, _++_, map, List·Permᴰ, List·Memᴰ}
 use lib.ListN.{length, take, replicate}
 use lib.Dec.{ltb}
 use Rattle.base.specs.Basics.{pick, All, Distinct}
@@ -155,3 +155,20 @@ SameBoard p cs ds =
     → All (λ a. All (λ b. rank p a ≢ rank p b → Independent p (a .event) (b .event)) (takenInBy p cs)) (takenInBy p cs)
     → Idle p (after p cs) → Idle p (after p ds)
     → storeOf (after p cs) ≡ storeOf (after p ds)
+
+-- ---- document 02, M-113
+
+-- those taken in, and those committed, by the calls ds after cs
+abbrev pub takenThen : Program → List Call → List Call → List Arrival
+takenThen p cs ds = takenFrom ds (answers p ds (after p cs)) (number (after p cs))
+
+abbrev pub committedThen : Program → List Call → List Call → List Arrival
+committedThen p cs ds = commits (answers p ds (after p cs))
+
+-- "let k be the number in hand at some moment and L as in 01. If during the next (k + 1) × (L + 1) steps nothing of higher rank arrives .., that arrival is committed
+-- by the end of them": those of its own or a lower priority may arrive
+abbrev pub NobodyWaits : Program → List Call → Type 0
+NobodyWaits p cs =
+    (ds : List Call) (a : Arrival) → List·Memᴰ a (inQueue (after p cs))
+    → All (λ b. rank p b ≤ rank p a) (takenThen p cs ds)
+    → (length (inQueue (after p cs)) + 1) * (longest p + 1) ≤ steps ds → List·Memᴰ a (committedThen p cs ds)

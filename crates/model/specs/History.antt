@@ -27,7 +27,7 @@ counted nothing n = n
 counted (took a) n = n + 1
 counted (commit a) n = n
 
-commits-logged : (c : Call) (x : Answer) (n : ℕ) (log l : List Arrival) → log ++ ifCommitted x l ≡ logged (effect c x n) log ++ l
+pub commits-logged : (c : Call) (x : Answer) (n : ℕ) (log l : List Arrival) → log ++ ifCommitted x l ≡ logged (effect c x n) log ++ l
 commits-logged c (refused k) n log l = refl
 commits-logged (arrive e) takenIn n log l = refl
 commits-logged step takenIn n log l = refl
@@ -51,7 +51,7 @@ none-gathered (started a) n taken l = refl
 none-gathered (preempted a) n taken l = refl
 none-gathered (committed a) n taken l = refl
 
-taken-gathered : (c : Call) (x : Answer) (n : ℕ) (taken : List Arrival) (l : ℕ → List Arrival)
+pub taken-gathered : (c : Call) (x : Answer) (n : ℕ) (taken : List Arrival) (l : ℕ → List Arrival)
     → taken ++ ifTaken c x n l ≡ gathered (effect c x n) taken ++ l (counted (effect c x n) n)
 taken-gathered (arrive e) (refused k) n taken l = refl
 taken-gathered (arrive e) takenIn n taken l =

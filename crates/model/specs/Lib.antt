@@ -9,6 +9,7 @@ pub mod Once
 pub mod Equals
 pub mod Lower
 pub mod Settles
+pub mod Waits
 pub mod Confluence
 pub mod SameBoard
 pub mod ModelHolds

@@ -8,12 +8,13 @@ use Rattle.language.specs.Dependence.{size, events, Independent}
 use Rattle.semantics.specs.Meaning.{event}
 use Rattle.execution.specs.CodeFacts.{CodeFacts}
 use Rattle.model.specs.Model.{Call}
-use Rattle.model.specs.Claims.{BoardOfCommits, OnceEach, EqualsInOrder, LowerFirst, SettlesIn, SameBoard}
+use Rattle.model.specs.Claims.{BoardOfCommits, OnceEach, EqualsInOrder, LowerFirst, SettlesIn, SameBoard, NobodyWaits}
 use Rattle.model.specs.Boards as boards
 use Rattle.model.specs.Once as once
 use Rattle.model.specs.Equals as equals
 use Rattle.model.specs.Lower as lower
 use Rattle.model.specs.Settles as settles
+use Rattle.model.specs.Waits as waits
 use Rattle.model.specs.SameBoard as same
 
 module _ (p : Program) (facts : CodeFacts p) where
@@ -31,6 +32,9 @@ module _ (p : Program) (facts : CodeFacts p) where
 
   pub settles-in : (cs : List Call) → SettlesIn p cs
   settles-in = settles.settles-in p facts
+
+  pub nobody-waits : (cs : List Call) → NobodyWaits p cs
+  nobody-waits = waits.nobody-waits p facts
 
   -- independent events commute: given of the program
   pub same-board : (commute : (e f : ℕ) → e < events p → f < events p → Independent p e f → (s : List ℕ) → length s ≡ size p

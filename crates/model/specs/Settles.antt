@@ -44,7 +44,7 @@ module _ (p : Program) where
   over a [] = false
   over a (b ∷ l) = ltb (rank p a) (rank p (choose p b l .next))
 
-  abbrev extra : Bool → ℕ
+  abbrev pub extra : Bool → ℕ
   extra true = longest p + 1
   extra false = 0
 
@@ -56,7 +56,7 @@ module _ (p : Program) where
   not-over a [] h = refl
   not-over a (b ∷ l) h = le-ltb _ _ (all-perm (Leads p a) (choose-perm p b l) h .0 .0)
 
-  extra-le : (b : Bool) → extra b ≤ longest p + 1
+  pub extra-le : (b : Bool) → extra b ≤ longest p + 1
   extra-le true = omega arith
   extra-le false = omega arith
 
@@ -65,7 +65,7 @@ module _ (p : Program) where
   begin-left t c d n e h k = rw (not-over (c .next) (c .others) h) rw e (omega (arith, longest-most p (c .next .event) k))
 
   -- the steps that a call allows
-  abbrev allowed : Call → ℕ → ℕ
+  abbrev pub allowed : Call → ℕ → ℕ
   allowed (arrive e) n = n
   allowed step n = suc n
   allowed (board i) n = n
@@ -100,7 +100,7 @@ module _ (p : Program) where
 
   -- ---- calls
 
-  steps-allowed : (c : Call) (ds : List Call) → steps (c ∷ ds) ≡ allowed c (steps ds)
+  pub steps-allowed : (c : Call) (ds : List Call) → steps (c ∷ ds) ≡ allowed c (steps ds)
   unfolding steps
   steps-allowed (arrive e) ds = refl
   steps-allowed step ds = refl
