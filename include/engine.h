@@ -74,6 +74,13 @@ uint64_t board(const uint8_t *table, size_t table_len, const uint8_t *round, siz
 static inline int engine_board_refused(uint64_t answer) { return answer >> 32 == 0; }
 static inline int32_t engine_board_value(uint64_t answer) { return (int32_t)(uint32_t)answer; }
 
+/* How many steps until idle if no arrival is taken in meanwhile: 2^32 and the number, or 14. With nothing running it is exact: the sum, over the hand, of each event's
+ * instructions plus one for its start. While an event runs it is a bound: (k + 1) * (L + 1), k being the number in hand, L the longest event's instructions. */
+uint64_t forecast(const uint8_t *table, size_t table_len, const uint8_t *round, size_t round_len);
+
+static inline int engine_forecast_refused(uint64_t answer) { return answer >> 32 == 0; }
+static inline uint32_t engine_forecast_steps(uint64_t answer) { return (uint32_t)answer; }
+
 /* Makes recorded calls one after the other, to audit a round: five bytes for each call, its kind (0 arrival, 1 step, any other a board reading) and a
  * big-endian number of 32 bits; eight bytes for each answer, big-endian. How many were made: it stops where a call is not whole or an answer has no room. */
 size_t replay(const uint8_t *table, size_t table_len, uint8_t *round, size_t round_len, const uint8_t *calls, size_t calls_len, uint8_t *answers, size_t answers_len);

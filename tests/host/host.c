@@ -87,6 +87,21 @@ static void audit(void)
     expect(answers[19 * 8 + 3] == 1 && answers[19 * 8 + 7] == 2, "b0 is 2");
 }
 
+/* The frame planner books the forecast's steps: with nothing running, idle comes after exactly those. */
+static void plan(void)
+{
+    uint64_t a;
+
+    load(S, sizeof S);
+    take(0);
+    take(1);
+    a = forecast(table, sizeof table, round_, sizeof round_);
+    expect(!engine_forecast_refused(a) && engine_forecast_steps(a) == 18 + 9, "27 steps to idle");
+    expect(!frame((int)engine_forecast_steps(a)), "27 steps are needed");
+    expect(frame(1), "and no more");
+    expect(forecast(table, 10, round_, sizeof round_) == ENGINE_FOREIGN, "a short table has no forecast");
+}
+
 int main(void)
 {
     static const int32_t want[][2] = {{2, 1}, {3, 2}, {5, 3}};
@@ -124,6 +139,7 @@ int main(void)
     expect(step(table, 10, round_, sizeof round_) == ENGINE_FOREIGN, "a short table");
     expect(compile(S, sizeof S, table, ENGINE_TABLE - 1) == ENGINE_SHORT_TABLE, "a table of 34,815 bytes");
     audit();
+    plan();
     puts(faults ? "host: faults" : "host: all as the scope says");
     return faults != 0;
 }

@@ -1,7 +1,8 @@
--- Demands 2 and 3 as claims about the exported functions: `compileOn`, `startOn`, `arriveOn`, `stepOn` and `boardOn` are what their contracts cite.
+-- Demands 2 and 3, and M-100 of document 02, as claims about the exported functions: `compileOn`, `startOn`, `arriveOn`, `stepOn`, `boardOn` and `forecastOn` are
+-- what their contracts cite.
 -- The model engine, and the sentences of demand 3 in its terms: crate model, Model.antt and Claims.antt. Calls on bytes, and what the round's bytes say: crate
 -- refinement, Refinement.antt.
-use Prim.Native.Nat.{ℕ, _≤_, _<_}
+use Prim.Native.Nat.{ℕ, _+_, _≤_, _<_}
 use mathlib.Core.Bool.{false}
 use mathlib.Core.Path.{_≡_}
 use mathlib.Core.Logic.{_≢_}
@@ -17,10 +18,11 @@ use Rattle.semantics.specs.Rules.{Shows}
 use Rattle.semantics.specs.Meaning.{at, fresh}
 use Rattle.semantics.specs.Plays.{Plays}
 use Rattle.model.specs.Model.{Arrival, arrival, Call, rank}
-use Rattle.model.specs.Claims.{after, said, committedIn, takenInBy, settlingIn, number, Idle, OnceEach, EqualsInOrder, LowerFirst, SettlesIn, NobodyWaits, aloneCalls}
+use Rattle.model.specs.Claims.{after, said, committedIn, takenInBy, settlingIn, number, Idle, OnceEach, EqualsInOrder, LowerFirst, SettlesIn, NobodyWaits, aloneCalls, QuietExactly, forecast}
 use Rattle.image.specs.Image.{tableOf}
 use Rattle.round.specs.Start.{startOn}
 use Rattle.machine.specs.Machine.{stepOn}
+use Rattle.forecast.specs.Forecast.{forecastOn}
 use Rattle.refinement.specs.Refinement.{coded, callOn, answersOn, roundAfter, View, Kept}
 use Rattle.compiler.specs.Verdict.{compileOn}
 
@@ -76,6 +78,11 @@ pub record OneList (p : Program) (t l₀ l : List ℕ) (cs : List Call) : Type 0
   pub one-event : IdleNow t (roundAfter t cs l) → (e : ℕ) → e < events p → number (after p cs) < 1000000
       → (committedIn p (cs ++ aloneCalls p e) ≡ committedIn p cs ++ (arrival (number (after p cs)) e ∷ []))
       × Plays p (e ∷ []) (boardOf p (roundAfter t cs l)) (boardOf p (roundAfter t (cs ++ aloneCalls p e) l))
+  -- 02, M-100: "From a round in one of demand 3's lists, with nothing running and no further arrivals, idle shall come after exactly the sum, over the hand, of each
+  -- event's instruction count plus one, where 01 only bounds it."
+  pub quiet : QuietExactly p cs
+  -- ".. The same number is offered as a call of its own on a round .. While something runs, that call gives 01's bound.": 2 ^ 32 and the number
+  pub forecast : forecastOn t (roundAfter t cs l) ≡ 4294967296 + forecast p (after p cs)
 
 -- ---- demand 3, every list of calls: for a sheet s that compile accepts, its table in t₀, and a round that start makes in l₀
 

@@ -8,6 +8,7 @@ ghost use Rattle.round.specs.Start.{result, startOn};
 ghost use Rattle.arrivals.specs.Arrivals.{arriveOn};
 ghost use Rattle.board.specs.Board.{boardOn};
 ghost use Rattle.machine.specs.Machine.{stepOn};
+ghost use Rattle.forecast.specs.Forecast.{forecastOn};
 ghost use Rattle.refinement.specs.Refinement.{callOn, answersOn, roundAfter};
 ghost use Rattle.engine.specs.Replay.{callOf, callsFrom, putAnswer, putAnswers, callCount};
 
@@ -54,6 +55,16 @@ pub extern "C" fn board(table: &[u8], round: &[u8], behaviour: u32) -> u64
     ensures { λ _. ⌜ now (round .exit) ≡ now (round .entry) ⌝ }
 {
     board::board_at(table, round, behaviour)
+}
+
+// The steps to idle if no arrival is taken in meanwhile, exact with nothing running, else 01's bound: 2 ^ 32 and their number; or 14.
+#[no_mangle]
+pub extern "C" fn forecast(table: &[u8], round: &[u8]) -> u64
+    ensures { λ r. ⌜ r ≡ forecastOn (now (table .entry)) (now (round .entry)) ⌝ }
+    ensures { λ _. ⌜ now (table .exit) ≡ now (table .entry) ⌝ }
+    ensures { λ _. ⌜ now (round .exit) ≡ now (round .entry) ⌝ }
+{
+    forecast::forecast_at(table, round)
 }
 
 // ---- a recorded list of calls

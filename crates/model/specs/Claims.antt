@@ -172,3 +172,27 @@ NobodyWaits p cs =
     (ds : List Call) (a : Arrival) → List·Memᴰ a (inQueue (after p cs))
     → All (λ b. rank p b ≤ rank p a) (takenThen p cs ds)
     → (length (inQueue (after p cs)) + 1) * (longest p + 1) ≤ steps ds → List·Memᴰ a (committedThen p cs ds)
+
+-- ---- document 02, M-100
+
+-- the sum, over arrivals, of each event's instruction count plus one
+unfoldable pub stepsOf : Program → List Arrival → ℕ
+stepsOf p [] = 0
+stepsOf p (a ∷ l) = (length (code p (a .event)) + 1) + stepsOf p l
+
+abbrev pub AtRest : Engine → Type 0
+AtRest (engine t waiting rest d) = Unit {0}
+AtRest (engine t waiting (busy a c) d) = ⊥
+
+-- "with nothing running and no further arrivals, idle shall come after exactly the sum, over the hand, of each event's instruction count plus one": not before,
+-- and from then on
+abbrev pub QuietExactly : Program → List Call → Type 0
+QuietExactly p cs =
+    AtRest (after p cs) → (ds : List Call) → number (after p (cs ++ ds)) ≡ number (after p cs)
+    → (steps ds < stepsOf p (inQueue (after p cs)) → Idle p (after p (cs ++ ds)) → ⊥)
+    × (stepsOf p (inQueue (after p cs)) ≤ steps ds → Idle p (after p (cs ++ ds)))
+
+-- "The same number is offered as a call of its own on a round .. While something runs, that call gives 01's bound."
+abbrev pub forecast : Program → Engine → ℕ
+forecast p (engine t waiting rest d) = stepsOf p waiting
+forecast p (engine t waiting (busy a c) d) = (length (a ∷ waiting) + 1) * (longest p + 1)

@@ -10,6 +10,7 @@ pub mod Equals
 pub mod Lower
 pub mod Settles
 pub mod Waits
+pub mod Quiet
 pub mod Confluence
 pub mod SameBoard
 pub mod ModelHolds

@@ -8,7 +8,7 @@ use Rattle.language.specs.Dependence.{size, events, Independent}
 use Rattle.semantics.specs.Meaning.{event}
 use Rattle.execution.specs.CodeFacts.{CodeFacts}
 use Rattle.model.specs.Model.{Call}
-use Rattle.model.specs.Claims.{BoardOfCommits, OnceEach, EqualsInOrder, LowerFirst, SettlesIn, SameBoard, NobodyWaits}
+use Rattle.model.specs.Claims.{BoardOfCommits, OnceEach, EqualsInOrder, LowerFirst, SettlesIn, SameBoard, NobodyWaits, QuietExactly}
 use Rattle.model.specs.Boards as boards
 use Rattle.model.specs.Once as once
 use Rattle.model.specs.Equals as equals
@@ -16,6 +16,7 @@ use Rattle.model.specs.Lower as lower
 use Rattle.model.specs.Settles as settles
 use Rattle.model.specs.Waits as waits
 use Rattle.model.specs.SameBoard as same
+use Rattle.model.specs.Quiet as quiet
 
 module _ (p : Program) (facts : CodeFacts p) where
   pub board-of-commits : (cs : List Call) → BoardOfCommits p cs
@@ -40,3 +41,6 @@ module _ (p : Program) (facts : CodeFacts p) where
   pub same-board : (commute : (e f : ℕ) → e < events p → f < events p → Independent p e f → (s : List ℕ) → length s ≡ size p
       → event p e (event p f s) ≡ event p f (event p e s)) → (cs ds : List Call) → SameBoard p cs ds
   same-board = same.same-board p facts
+
+  pub quiet-exactly : (cs : List Call) → QuietExactly p cs
+  quiet-exactly = quiet.quiet-exactly p facts

@@ -74,7 +74,7 @@ module _ (p : Program) (valid : Valid p) (t : List ℕ) (table : Says p t) where
 
   -- ---- neither table nor round is foreign
 
-  known-slots : (l : List ℕ) (k : ℕ) (q : List Arrival) (r : Running) (d : Values) → Rel (size p) l k q r d → Reached p (engine k q r d)
+  pub known-slots : (l : List ℕ) (k : ℕ) (q : List Arrival) (r : Running) (d : Values) → Rel (size p) l k q r d → Reached p (engine k q r d)
       → All (λ (a : Arrival). a .event < events p) (slots l (get l 1))
   known-slots l k q r d R i =
       all-perm _ (Permᴰ·symm (R .queue))
@@ -95,7 +95,7 @@ module _ (p : Program) (valid : Valid p) (t : List ℕ) (table : Says p t) where
       rw (R .runs .0, R .runs .1, R .runs .3, table .lengths (a .event) e, le-ltb 63 (get l 1) b, lt-leb (events p) (a .event) e)
       (lt-ltb c (length (code p (a .event))) (i .done .0))
 
-  ours-is : (l : List ℕ) (k : ℕ) (q : List Arrival) (r : Running) (d : Values) → Rel (size p) l k q r d → Reached p (engine k q r d) → ours t l ≡ true
+  pub ours-is : (l : List ℕ) (k : ℕ) (q : List Arrival) (r : Running) (d : Values) → Rel (size p) l k q r d → Reached p (engine k q r d) → ours t l ≡ true
   unfolding ours roundFits roundIn roundWith long
   ours-is l k q r d R i =
       let b : 2048 ≤ length l = leb-true 2048 (length l) (R .whole) in

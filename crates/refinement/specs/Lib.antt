@@ -4,6 +4,7 @@ pub mod Values
 pub mod Instructions
 pub mod Relation
 pub mod Agrees
+pub mod Forecasts
 pub mod FreshRound
 pub mod Refines
 pub mod Coded

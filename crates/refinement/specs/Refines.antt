@@ -1,9 +1,9 @@
 -- Every list of calls on a program's table and a round that start has made fresh: the answers are the model engine's, and the round agrees with it.
 -- By induction on the list, each call agreeing and keeping the engine reached.
-use Prim.Native.Nat.{ℕ, _≤_}
+use Prim.Native.Nat.{ℕ, _+_, _≤_}
 use mathlib.Core.Bool.{true}
 use mathlib.Core.Path.{_≡_, refl}
-use mathlib.Core.List.{List, [], _∷_}
+use mathlib.Core.List.{List, [], _∷_, map}
 use lib.ListN.{length}
 use borrow.Author.Tests.{le-ltb, le-leb}
 use Rattle.word.specs.Laws.{long}
@@ -16,14 +16,17 @@ use Rattle.semantics.specs.Lengths.{length-fresh}
 use Rattle.execution.specs.Sums.{length-join}
 use Rattle.execution.specs.CodeRight.{code-facts}
 use Rattle.model.specs.Model.{Running, rest, busy, Engine, engine, initial, Call, act, run, answers}
-use Rattle.model.specs.Reached.{Reached, act-keeps, initially}
+use Rattle.model.specs.Claims.{after, forecast}
+use Rattle.model.specs.Reached.{Reached, act-keeps, initially, reached}
 use Rattle.image.specs.Image.{allCode, tableOf}
 use Rattle.image.specs.ImageLaws.{Says, table-says}
 use Rattle.round.specs.Start.{startOn, freshBytes}
-use Rattle.refinement.specs.Refinement.{callOn, answersOn, roundAfter, runningIn, View, Kept, Agreement}
+use Rattle.forecast.specs.Forecast.{forecastOn}
+use Rattle.refinement.specs.Refinement.{coded, callOn, answersOn, roundAfter, runningIn, View, Kept, Agreement}
 use Rattle.refinement.specs.Slots.{kept-trans}
 use Rattle.refinement.specs.Relation.{RunIs, Alike}
 use Rattle.refinement.specs.Agrees.{call-agrees}
+use Rattle.refinement.specs.Forecasts.{forecast-agrees}
 use Rattle.refinement.specs.FreshRound.{fresh-kept, fresh-rel}
 
 -- ---- what an accepted program is known to satisfy
@@ -55,15 +58,21 @@ alike-view p l (engine k q r d) R = record {
 
 -- ---- whole runs
 
+-- `Agreement`, with what each call keeps in place of the view
+record Runs (p : Program) (t l₀ l : List ℕ) (cs : List Call) (w : Engine) : Type 0 where
+  answered : answersOn t cs l ≡ map coded (answers p cs w)
+  alike : Alike (size p) (roundAfter t cs l) (run p cs w)
+  kept : Kept l₀ (roundAfter t cs l)
+
 calls-agree : (p : Program) → Accepted p → (t : List ℕ) → Says p t → (l₀ l : List ℕ) (cs : List Call) (w : Engine)
-    → Alike (size p) l w → Reached p w → Kept l₀ l → Agreement p t l₀ l cs w
+    → Alike (size p) l w → Reached p w → Kept l₀ l → Runs p t l₀ l cs w
 unfolding answersOn roundAfter answers run
-calls-agree p ok t table l₀ l [] w R i h = record { answered = refl; viewed = alike-view p l w R; kept = h }
+calls-agree p ok t table l₀ l [] w R i h = record { answered = refl; alike = R; kept = h }
 calls-agree p ok t table l₀ l (c ∷ cs) w R i h =
     let a = call-agrees p (valid p ok) t table c l w R i in
     let j = act-keeps p (code-facts p (valid p ok)) c w i in
     let b = calls-agree p ok t table l₀ (callOn t c l .1) cs (act p c w .after) (a .alike) j (kept-trans h (a .kept)) in
-    record { answered = λ k. a .answered k ∷ b .answered k; viewed = b .viewed; kept = b .kept }
+    record { answered = λ k. a .answered k ∷ b .answered k; alike = b .alike; kept = b .kept }
 
 -- p is accepted; t₀ are the bytes lent for the table, l₀ those lent for the round
 module _ (p : Program) (ok : Accepted p) (t₀ l₀ : List ℕ) (table-room : 34816 ≤ length t₀) (round-room : 2048 ≤ length l₀) where
@@ -79,8 +88,19 @@ module _ (p : Program) (ok : Accepted p) (t₀ l₀ : List ℕ) (table-room : 34
   unfolding startOn
   starts = rw (says .fits, le-ltb (length l₀) 2048 round-room)
 
+  runs : (cs : List Call) → Runs p (tableOf p t₀) l₀ (freshBytes (tableOf p t₀) l₀) cs (initial p)
+  runs cs =
+      calls-agree p ok (tableOf p t₀) says l₀ (freshBytes (tableOf p t₀) l₀) cs (initial p)
+      (fresh-rel p (tableOf p t₀) says (length-fresh p) l₀ whole) (initially p (code-facts p (valid p ok))) (fresh-kept (tableOf p t₀) l₀ whole)
+
   -- and from there every list of calls agrees with the model
   pub refines : (cs : List Call) → Agreement p (tableOf p t₀) l₀ (freshBytes (tableOf p t₀) l₀) cs (initial p)
   refines cs =
-      calls-agree p ok (tableOf p t₀) says l₀ (freshBytes (tableOf p t₀) l₀) cs (initial p)
-      (fresh-rel p (tableOf p t₀) says (length-fresh p) l₀ whole) (initially p (code-facts p (valid p ok))) (fresh-kept (tableOf p t₀) l₀ whole)
+      let a = runs cs in
+      record { answered = a .answered; viewed = alike-view p (roundAfter (tableOf p t₀) cs (freshBytes (tableOf p t₀) l₀)) (after p cs) (a .alike); kept = a .kept }
+
+  -- and so does a forecast after it
+  pub forecasts : (cs : List Call) → forecastOn (tableOf p t₀) (roundAfter (tableOf p t₀) cs (freshBytes (tableOf p t₀) l₀)) ≡ 4294967296 + forecast p (after p cs)
+  forecasts cs =
+      forecast-agrees p (valid p ok) (tableOf p t₀) says (roundAfter (tableOf p t₀) cs (freshBytes (tableOf p t₀) l₀)) (after p cs) (runs cs .alike)
+      (reached p (code-facts p (valid p ok)) cs)

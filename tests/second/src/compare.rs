@@ -149,6 +149,7 @@ pub fn run(sheet: &engine::Sheet, table: &Guarded, calls: &[Call]) -> (Model, Ve
         let want = m.call(*c);
         let got = call(table.part(), round.part_mut(), *c);
         assert_eq!(got, packed(want), "answer {k} to {c:?}");
+        assert_eq!(proved::forecast(table.part(), round.part()), (1 << 32) + m.forecast() as u64, "forecast after {k}");
         if let Answer::Committed(_, e) = want {
             by_commits = sheet.event(e, &by_commits);
             commits.push(e);
@@ -166,16 +167,27 @@ pub fn run(sheet: &engine::Sheet, table: &Guarded, calls: &[Call]) -> (Model, Ve
     (m, commits)
 }
 
-/// Idle within (k + 1) * (L + 1) steps.
+/// Idle within the forecast's steps; after exactly those with nothing running.
 fn settle(sheet: &engine::Sheet, table: &Guarded, calls: &[Call]) -> Model {
     let (m, _) = run(sheet, table, calls);
-    let longest = m.code.iter().map(Vec::len).max().unwrap_or(0);
-    let bound = if m.in_hand() == 0 { 0 } else { (m.in_hand() + 1) * (longest + 1) };
-    let mut all = calls.to_vec();
-    all.extend(std::iter::repeat(Call::Step).take(bound));
-    let (m, _) = run(sheet, table, &all);
-    assert_eq!(m.in_hand(), 0, "not idle within the count");
+    let after = |steps: usize| {
+        let mut all = calls.to_vec();
+        all.extend(std::iter::repeat(Call::Step).take(steps));
+        run(sheet, table, &all).0
+    };
+    let steps = m.forecast();
+    if m.running.is_none() && steps > 0 {
+        assert!(after(steps - 1).in_hand() > 0, "idle before the forecast");
+    }
+    let m = after(steps);
+    assert_eq!(m.in_hand(), 0, "not idle within the forecast");
     m
+}
+
+/// Arrivals alone, so that nothing runs when the forecast is asked for.
+fn quiet(sheet: &engine::Sheet, table: &Guarded, calls: &[Call]) {
+    let arrivals: Vec<Call> = calls.iter().copied().filter(|c| matches!(c, Call::Arrive(_))).collect();
+    settle(sheet, table, &arrivals);
 }
 
 /// Two cuts of the same arrivals: equal boards where events of unequal rank are independent.
@@ -227,6 +239,7 @@ fn foreign(r: &mut Rng, sheet: &engine::Sheet, table: &Guarded, tally: &mut Tall
             tally.foreign += 1;
         }
         assert_eq!(call(t.part(), l.part_mut(), c), answer, "damaged bytes, {c:?}");
+        assert_eq!(proved::forecast(t.part(), l.part()), words::forecast(t.part(), l.part()), "damaged bytes, forecast after {c:?}");
         assert!(want == l.part(), "damaged bytes, {c:?}: the round");
     }
     assert!(t0 == t.part(), "a call changed the table");
@@ -283,6 +296,7 @@ pub fn one(seed: u64, tally: &mut Tally) {
             let calls = calls_of(r, &sheet);
             tally.calls += calls.len();
             settle(&sheet, &table, &calls);
+            quiet(&sheet, &table, &calls);
             tally.pairs += two_phones(r, &sheet, &table) as usize;
             foreign(r, &sheet, &table, tally);
         }

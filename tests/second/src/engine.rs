@@ -577,6 +577,14 @@ impl Model {
         self.waiting.len() + self.running.is_some() as usize
     }
 
+    /// Document 02, M-100: with nothing running, the sum over the hand of each event's count plus one; else 01's bound.
+    pub fn forecast(&self) -> usize {
+        match self.running {
+            None => self.waiting.iter().map(|(_, e)| self.code[*e].len() + 1).sum(),
+            Some(_) => (self.in_hand() + 1) * (self.code.iter().map(Vec::len).max().unwrap_or(0) + 1),
+        }
+    }
+
     pub fn call(&mut self, call: Call) -> Answer {
         match call {
             Call::Arrive(e) if e as usize >= self.sheet.ranks.len() => Answer::Refused(15),

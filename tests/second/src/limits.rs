@@ -109,6 +109,35 @@ fn spent() {
     assert_eq!(proved::arrive(&table, &mut round, 0), 17, "the arrival after 1,000,000");
 }
 
+/// S's events have 17 and 8 instructions: each arrival's and its start while nothing runs, the bound as soon as one does.
+fn forecast() {
+    let mut table = vec![0u8; TABLE];
+    let mut round = vec![0u8; 2048];
+    assert_eq!(proved::compile(&crate::desk::sheet_s(), &mut table), 0);
+    proved::start(&table, &mut round);
+    let steps = |round: &[u8]| proved::forecast(&table, round) - (1 << 32);
+    assert_eq!(steps(&round), 0, "an empty hand");
+    for e in [0, 1, 0] {
+        proved::arrive(&table, &mut round, e);
+    }
+    assert_eq!(steps(&round), 18 + 9 + 18, "three in hand");
+    for k in 0..45 {
+        assert!(proved::step(&table, &mut round) != 0, "idle after {k} steps");
+        match k {
+            7 => assert_eq!(steps(&round), (3 + 1) * (17 + 1), "one runs, two wait"),
+            8 => assert_eq!(steps(&round), 18 + 18, "after the commit"),
+            _ => {}
+        }
+    }
+    assert_eq!(proved::step(&table, &mut round), 0, "idle after 45 steps");
+    (0..64).for_each(|_| {
+        proved::arrive(&table, &mut round, 0);
+    });
+    assert_eq!(steps(&round), 64 * 18, "64 in hand");
+    assert_eq!(proved::forecast(&table[1..], &round), 14, "a table of 34,815 bytes");
+    assert_eq!(proved::forecast(&table, &round[1..]), 14, "a round of 2,047 bytes");
+}
+
 fn check(what: &str, sheet: &[u8], want: u32) {
     let mut table = Guarded::new(TABLE + 8, 0x33);
     compare::compile(sheet, &mut table);
@@ -153,6 +182,7 @@ pub fn run() {
     for size in [1, 100, TABLE - 1] {
         assert_eq!(proved::step(&vec![0u8; size], &mut [0u8; 2048]), 14);
     }
+    forecast();
     spent();
-    println!("limits: every refusal of compile, both sides of each limit, 1,000,000 arrivals");
+    println!("limits: every refusal of compile, both sides of each limit, forecasts, 1,000,000 arrivals");
 }

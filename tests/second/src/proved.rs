@@ -7,6 +7,7 @@ mod c {
         pub fn arrive(table: *const u8, table_len: usize, round: *mut u8, round_len: usize, event: u32) -> u32;
         pub fn step(table: *const u8, table_len: usize, round: *mut u8, round_len: usize) -> u64;
         pub fn board(table: *const u8, table_len: usize, round: *const u8, round_len: usize, behaviour: u32) -> u64;
+        pub fn forecast(table: *const u8, table_len: usize, round: *const u8, round_len: usize) -> u64;
     }
 }
 
@@ -31,4 +32,8 @@ pub fn step(table: &[u8], round: &mut [u8]) -> u64 {
 
 pub fn board(table: &[u8], round: &[u8], behaviour: u32) -> u64 {
     unsafe { c::board(table.as_ptr(), table.len(), round.as_ptr(), round.len(), behaviour) }
+}
+
+pub fn forecast(table: &[u8], round: &[u8]) -> u64 {
+    unsafe { c::forecast(table.as_ptr(), table.len(), round.as_ptr(), round.len()) }
 }

@@ -162,3 +162,18 @@ pub fn call(t: &[u8], l: &mut [u8], c: Call) -> u64 {
         Call::Board(i) => (1 << 32) + get(l, 136 + i as usize) as u64,
     }
 }
+
+/// Document 02, M-100: 2^32 and the steps to idle, or their bound where one runs; refused by 14 only.
+pub fn forecast(t: &[u8], l: &[u8]) -> u64 {
+    if foreign(t, l) {
+        return 14;
+    }
+    let len = |e: u32| record(t, e)[2] as u64;
+    let waiting = get(l, 1) as usize;
+    let steps: u64 = if get(l, 2) == 0 {
+        (0..waiting).map(|i| len(get(l, 9 + 2 * i)) + 1).sum()
+    } else {
+        (waiting as u64 + 1 + 1) * ((0..get(t, 0)).map(len).max().unwrap_or(0) + 1)
+    };
+    (1 << 32) + steps
+}
