@@ -3,14 +3,14 @@ use Prim.Native.Nat.{ℕ, zero, suc, _+_, _-_, _*_, _/_, _%_, _^_, _<_, _≤_}
 use mathlib.Core.Path.{_≡_, refl, sym, ap, _∙_}
 use mathlib.Core.Bool.{Bool, true, false, cond, not, _&&_, _||_}
 use native.Mathlib.Omega.{arith}
-use native.Mathlib.Nat.{div-le-self, div-zero}
+use native.Mathlib.Nat.{div-le-self}
 use lib.Dec.{ltb, eqb}
 use lib.IntN.{ℤ, pos, negsuc, negℤ, subℕ, _+ℤ_, _-ℤ_, _*ℤ_}
-use lib.Signed.{quotZ, ltZ}
+use lib.Signed.{ltZ}
 use borrow.Author.Tests.{ltb-true, ltb-false, lt-ltb, le-ltb, eq-eqb, ne-eqb}
 use Rattle.base.specs.Basics.{pick}
 use Rattle.arith.specs.Exact.{signed, wrapped}
-use Rattle.arith.specs.Functions.{isTrue, truth}
+use Rattle.arith.specs.Functions.{ceiling, floorZ, isTrue, truth}
 use Rattle.arith.specs.ArithLaws.{wrapped-signed, isTrue-signed}
 
 -- a word below 2^31 is itself, and another -(x + 1), with x + a = 2^32 - 1
@@ -66,31 +66,28 @@ product {a} {b} (high x f _) (high y g _) r e = e ∙ same-rest (a * b) (suc x *
 small : (n : ℕ) {a : ℕ} → n ≤ a → a < 2 ^ 32 → n ≡ wrapped (pos n)
 small n h k = omega arith
 
-pub by-zero : {a : ℕ} {z : ℤ} → View a z → 0 ≡ wrapped (quotZ z (pos 0))
-by-zero (low p) = rw div-zero
-by-zero (high x f _) = rw div-zero
-
--- the quotient of the magnitudes, for each pair of signs
-pub same-low : {a b : ℕ} {z w : ℤ} → View a z → View b w → a < 2 ^ 31 → b < 2 ^ 31 → a / b ≡ wrapped (quotZ z w)
+-- the quotient of the magnitudes, rounded up for different signs
+pub same-low : {a b : ℕ} {z w : ℤ} → View a z → View b w → a < 2 ^ 31 → b < 2 ^ 31 → a / b ≡ wrapped (floorZ z w)
 same-low {a} {b} (low p) (low q) h k = small (a / b) (div-le-self a b) (omega arith)
 same-low (low p) (high y g n) h k = absurd (omega arith)
 same-low (high x f n) w h k = absurd (omega arith)
 
-pub low-high : {a b : ℕ} {z w : ℤ} → View a z → View b w → a < 2 ^ 31 → 2 ^ 31 ≤ b → (r : ℕ) → r < 2 ^ 32 → (r + a / (4294967295 - b + 1)) % 2 ^ 32 ≡ 0 → r ≡ wrapped (quotZ z w)
+pub low-high : {a b : ℕ} {z w : ℤ} → View a z → View b w → a < 2 ^ 31 → 2 ^ 31 ≤ b → (r : ℕ) → r < 2 ^ 32 → (r + (a + (4294967295 - b)) / (4294967295 - b + 1)) % 2 ^ 32 ≡ 0 → r ≡ wrapped (floorZ z w)
 low-high (low p) (low q) h k r l e = absurd (omega arith)
 low-high {a} {b} (low p) (high y g n) h k r l e =
     let d : 4294967295 - b + 1 ≡ suc y = omega arith in
-    negative (a / suc y) r l (rw d at e)
+    let d′ : 4294967295 - b ≡ suc y - 1 = omega arith in
+    negative (ceiling a (suc y)) r l (rw (d, d′) at e)
 low-high (high x f n) w h k r l e = absurd (omega arith)
 
-pub high-low : {a b : ℕ} {z w : ℤ} → View a z → View b w → 2 ^ 31 ≤ a → b < 2 ^ 31 → (r : ℕ) → r < 2 ^ 32 → (r + (4294967295 - a + 1) / b) % 2 ^ 32 ≡ 0 → r ≡ wrapped (quotZ z w)
-high-low (low p) w h k r l e = absurd (omega arith)
-high-low {a} {b} (high x f n) (low q) h k r l e =
-    let d : 4294967295 - a + 1 ≡ suc x = omega arith in
-    negative (suc x / b) r l (rw d at e)
-high-low (high x f n) (high y g o) h k r l e = absurd (omega arith)
+pub high-low : {a b : ℕ} {z w : ℤ} → View a z → View b w → 2 ^ 31 ≤ a → 0 < b → b < 2 ^ 31 → (r : ℕ) → r < 2 ^ 32 → (r + (4294967295 - a + b) / b) % 2 ^ 32 ≡ 0 → r ≡ wrapped (floorZ z w)
+high-low (low p) w h _ k r l e = absurd (omega arith)
+high-low {a} {b} (high x f n) (low q) h i k r l e =
+    let d : 4294967295 - a + b ≡ suc x + (b - 1) = omega arith in
+    negative (ceiling (suc x) b) r l (rw d at e)
+high-low (high x f n) (high y g o) h _ k r l e = absurd (omega arith)
 
-pub same-high : {a b : ℕ} {z w : ℤ} → View a z → View b w → 2 ^ 31 ≤ a → 2 ^ 31 ≤ b → (4294967295 - a + 1) / (4294967295 - b + 1) ≡ wrapped (quotZ z w)
+pub same-high : {a b : ℕ} {z w : ℤ} → View a z → View b w → 2 ^ 31 ≤ a → 2 ^ 31 ≤ b → (4294967295 - a + 1) / (4294967295 - b + 1) ≡ wrapped (floorZ z w)
 same-high (low p) w h k = absurd (omega arith)
 same-high (high x f n) (low q) h k = absurd (omega arith)
 same-high {a} {b} (high x f n) (high y g o) h k =

@@ -1,4 +1,4 @@
--- The facts of 01 "Arithmetic", each by computing: functions by their numbers, on words. An argument that is not needed is given as 0.
+-- The facts of 01 "Arithmetic" and M-102, each by computing: functions by their numbers, on words. An argument that is not needed is given as 0.
 use Prim.Native.Nat.{ℕ, _-_, _^_}
 use mathlib.Core.Path.{_≡_, refl}
 use lib.IntN.{pos, negsuc}
@@ -38,22 +38,43 @@ pub product-of-signs : result 6 (minus 3) 4 0 ≡ minus 12
 unfolding result exact
 product-of-signs = refl
 
--- "Division drops the fraction toward zero; by zero it gives 0, and −2,147,483,648 / −1 gives −2,147,483,648."
-pub quotient-toward-zero : result 7 (minus 7) 2 0 ≡ minus 3
+-- "A quotient with a fraction goes to the next whole number below, so −7 / 2 is −4 and 7 / −2 is −4; 7 / 2 stays 3. By zero still gives 0, and
+-- −2,147,483,648 / −1 still wraps to itself."
+pub quotient-below : result 7 (minus 7) 2 0 ≡ minus 4
 unfolding result exact
-quotient-toward-zero = refl
+quotient-below = refl
 
-pub quotient-by-negative : result 7 7 (minus 2) 0 ≡ minus 3
+pub quotient-by-negative : result 7 7 (minus 2) 0 ≡ minus 4
 unfolding result exact
 quotient-by-negative = refl
+
+pub quotient-of-positives : result 7 7 2 0 ≡ 3
+unfolding result exact
+quotient-of-positives = refl
 
 pub quotient-of-negatives : result 7 (minus 7) (minus 2) 0 ≡ 3
 unfolding result exact
 quotient-of-negatives = refl
 
+pub quotient-without-fraction : result 7 (minus 6) 2 0 ≡ minus 3
+unfolding result exact
+quotient-without-fraction = refl
+
+pub quotient-of-zero : result 7 0 (minus 2) 0 ≡ 0
+unfolding result exact
+quotient-of-zero = refl
+
 pub quotient-by-zero : result 7 5 0 0 ≡ 0
 unfolding result exact
 quotient-by-zero = refl
+
+pub negative-by-zero : result 7 (minus 5) 0 0 ≡ 0
+unfolding result exact
+negative-by-zero = refl
+
+pub exact-least-by-minus-one : exact 7 (negsuc 2147483647) (negsuc 0) (pos 0) ≡ pos 2147483648
+unfolding exact
+exact-least-by-minus-one = refl
 
 pub least-by-minus-one : result 7 (minus 2147483648) (minus 1) 0 ≡ minus 2147483648
 unfolding result exact

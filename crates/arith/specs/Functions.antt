@@ -1,9 +1,9 @@
--- The fourteen functions, by their numbers: the exact whole-number result, and the 32-bit one. 01 "Arithmetic".
-use Prim.Native.Nat.{ℕ}
+-- The fourteen functions, by their numbers: the exact whole-number result, and the 32-bit one. 01 "Arithmetic", division as in M-102.
+use Prim.Native.Nat.{ℕ, suc, _+_, _-_, _/_}
 use mathlib.Core.Bool.{Bool, true, false, not, _&&_, _||_}
 use lib.Dec.{eqb}
-use lib.IntN.{ℤ, pos, negsuc, _+ℤ_, _-ℤ_, _*ℤ_}
-use lib.Signed.{quotZ, ltZ}
+use lib.IntN.{ℤ, pos, negsuc, negℤ, _+ℤ_, _-ℤ_, _*ℤ_}
+use lib.Signed.{ltZ}
 use Rattle.base.specs.Basics.{pick}
 use Rattle.arith.specs.Exact.{signed, wrapped}
 
@@ -16,8 +16,20 @@ abbrev pub truth : Bool → ℤ
 truth true = pos 1
 truth false = pos 0
 
+-- a quotient of natural numbers with any fraction rounded up; 0 for a zero divisor
+abbrev pub ceiling : ℕ → ℕ → ℕ
+ceiling a b = (a + (b - 1)) / b
+
+-- "A quotient with a fraction goes to the next whole number below [..] By zero still gives 0": of equal signs, the quotient of the magnitudes, whose
+-- fraction `/` drops; of different signs, minus that quotient rounded up. negsuc n is -(n + 1).
+abbrev pub floorZ : ℤ → ℤ → ℤ
+floorZ (pos a) (pos b) = pos (a / b)
+floorZ (pos a) (negsuc b) = negℤ (pos (ceiling a (suc b)))
+floorZ (negsuc a) (pos b) = negℤ (pos (ceiling (suc a) b))
+floorZ (negsuc a) (negsuc b) = pos (suc a / suc b)
+
 -- 1 `||`, 2 `&&`, 3 `!`, 4 `+`, 5 `-`, 6 `*`, 7 `/`, 8 `>`, 9 `>=`, 10 `<`, 11 `<=`, 12 `==`, 13 `!=`, 14 `if`; 0 for a number that is none of them.
--- An argument that a function does not need is not looked at. `quotZ` drops the fraction toward zero, and gives 0 for a zero divisor.
+-- An argument that a function does not need is not looked at.
 unfoldable pub exact : ℕ → ℤ → ℤ → ℤ → ℤ
 exact f x y z =
     pick (eqb f 1) (truth (isTrue x || isTrue y))
@@ -26,7 +38,7 @@ exact f x y z =
     (pick (eqb f 4) (x +ℤ y)
     (pick (eqb f 5) (x -ℤ y)
     (pick (eqb f 6) (x *ℤ y)
-    (pick (eqb f 7) (quotZ x y)
+    (pick (eqb f 7) (floorZ x y)
     (pick (eqb f 8) (truth (ltZ y x))
     (pick (eqb f 9) (truth (not (ltZ x y)))
     (pick (eqb f 10) (truth (ltZ x y))

@@ -1,4 +1,5 @@
 pub mod Exact
 pub mod Functions
 pub mod ArithLaws
+pub mod FloorLaws
 pub mod Examples

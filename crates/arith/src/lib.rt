@@ -3,10 +3,10 @@ ghost use mathlib.Core.Bool.{not, _&&_, _||_};
 ghost use mathlib.Core.Path.{_≡_};
 ghost use Prim.Native.Nat.{_≤_};
 ghost use lib.IntN.{_+ℤ_, _-ℤ_, _*ℤ_};
-ghost use lib.Signed.{quotZ, ltZ};
+ghost use lib.Signed.{ltZ};
 ghost use Rattle.base.specs.Basics.{pick};
 ghost use Rattle.arith.specs.Exact.{signed, wrapped};
-ghost use Rattle.arith.specs.Functions.{isTrue, truth, result, arity};
+ghost use Rattle.arith.specs.Functions.{floorZ, isTrue, truth, result, arity};
 
 pub fn add(a: u32, b: u32) -> u32
     ensures { λ r. ⌜ r ≡ wrapped (signed a +ℤ signed b) ⌝ }
@@ -26,9 +26,10 @@ pub fn multiply(a: u32, b: u32) -> u32
     (((a as u64) * (b as u64)) % 4294967296) as u32
 }
 
-// Division drops the fraction toward zero; by zero it gives 0, and the least number by -1 gives the least number.
+// M-102: a quotient with a fraction goes to the next whole number below; by zero it gives 0, and the least number by -1 gives the least number.
+// Of different signs, the quotient of the magnitudes is rounded up, (|a| + |b| - 1) / |b|, and the sign put back.
 pub fn divide(a: u32, b: u32) -> u32
-    ensures { λ r. ⌜ r ≡ wrapped (quotZ (signed a) (signed b)) ⌝ }
+    ensures { λ r. ⌜ r ≡ wrapped (floorZ (signed a) (signed b)) ⌝ }
 {
     if b == 0 {
         return 0;
@@ -37,10 +38,10 @@ pub fn divide(a: u32, b: u32) -> u32
         if b < 2147483648 {
             return a / b;
         }
-        return std::num::wrapping_sub_u32(0, a / (4294967295 - b + 1));
+        return std::num::wrapping_sub_u32(0, (a + (4294967295 - b)) / (4294967295 - b + 1));
     }
     if b < 2147483648 {
-        return std::num::wrapping_sub_u32(0, (4294967295 - a + 1) / b);
+        return std::num::wrapping_sub_u32(0, (4294967295 - a + b) / b);
     }
     (4294967295 - a + 1) / (4294967295 - b + 1)
 }

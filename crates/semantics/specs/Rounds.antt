@@ -1,4 +1,4 @@
--- The rounds that 01 marks P, as one table. 01 "Rounds to check (P: proved)".
+-- The rounds that 01 marks P, as one table. 01 "Rounds to check (P: proved)", the one on division as in M-102.
 use Prim.Native.Nat.{ℕ}
 use mathlib.Core.Path.{_≡_}
 use mathlib.Core.List.{List, [], _∷_, map}
@@ -77,8 +77,8 @@ rounds =
     ∷ record { program = halfLater; given = 0 ∷ []; board = pos 2 ∷ pos 2 ∷ [] }
     ∷ record { program = bothLater; given = 0 ∷ []; board = pos 2 ∷ pos 1 ∷ [] }
     ∷ record { program = throughPassive; given = 0 ∷ []; board = pos 1 ∷ pos 2 ∷ [] }
-    -- "2,147,483,647 + 1 = −2,147,483,648." "−7 / 2 = −3." "5 / 0 = 0."
+    -- "2,147,483,647 + 1 = −2,147,483,648." "5 / 0 = 0." M-102: "The P round on division in 01 becomes −4".
     ∷ record { program = taking (plus (num (pos 2147483647)) (num (pos 1))); given = 0 ∷ []; board = negsuc 2147483647 ∷ [] }
-    ∷ record { program = taking (over (num (negsuc 6)) (num (pos 2))); given = 0 ∷ []; board = negsuc 2 ∷ [] }
+    ∷ record { program = taking (over (num (negsuc 6)) (num (pos 2))); given = 0 ∷ []; board = negsuc 3 ∷ [] }
     ∷ record { program = taking (over (num (pos 5)) (num (pos 0))); given = 0 ∷ []; board = pos 0 ∷ [] }
     ∷ []

@@ -147,7 +147,7 @@ fn rounds() -> Vec<(&'static str, Vec<u8>, &'static str)> {
         ("passive, later", all(&follows(1), &[0]), "C 0 0\nB 1 2\n"),
         ("passive, immediate", sheet(&follows(0)), "R 12\n"),
         ("top of the range", all(&one(app(4, &[con(i32::MAX), con(1)])), &[0]), "C 0 0\nB -2147483648\n"),
-        ("-7 / 2", all(&one(app(7, &[con(-7), con(2)])), &[0]), "C 0 0\nB -3\n"),
+        ("-7 / 2", all(&one(app(7, &[con(-7), con(2)])), &[0]), "C 0 0\nB -4\n"),
         ("5 / 0", all(&one(app(7, &[con(5), con(0)])), &[0]), "C 0 0\nB 0\n"),
         ("64 pass", full(&[]), "R 16\n"),
         ("one more after a commit", full(&[steps(18), arrive(0), arrive(0)]), "R 16\nC 0 0\nR 16\n"),

@@ -37,6 +37,14 @@ pub fn arity(f: u8) -> usize {
     }
 }
 
+/// The quotient, one less where a fraction was dropped from a negative one; 0 by zero.
+fn floor(n: i64, d: i64) -> i64 {
+    if d == 0 {
+        return 0;
+    }
+    if n % d != 0 && (n < 0) != (d < 0) { n / d - 1 } else { n / d }
+}
+
 pub fn apply(f: u8, a: &[i32]) -> i32 {
     let t = |b: bool| if b { 1 } else { 0 };
     match f {
@@ -46,8 +54,7 @@ pub fn apply(f: u8, a: &[i32]) -> i32 {
         4 => (a[0] as i64 + a[1] as i64) as i32,
         5 => (a[0] as i64 - a[1] as i64) as i32,
         6 => (a[0] as i64 * a[1] as i64) as i32,
-        7 if a[1] == 0 => 0,
-        7 => (a[0] as i64 / a[1] as i64) as i32,
+        7 => floor(a[0] as i64, a[1] as i64) as i32,
         8 => t(a[0] > a[1]),
         9 => t(a[0] >= a[1]),
         10 => t(a[0] < a[1]),

@@ -1,4 +1,4 @@
-//! Every refusal of compile, and both sides of each limit, on both engines.
+//! Every refusal of compile, both sides of each limit, and M-102's quotients, on both engines.
 use crate::compare::{self, Guarded};
 use crate::engine;
 use crate::proved::{self, TABLE};
@@ -138,6 +138,27 @@ fn forecast() {
     assert_eq!(proved::forecast(&table, &round[1..]), 14, "a round of 2,047 bytes");
 }
 
+/// M-102's quotients, as compile works them out and as an event does.
+fn quotients() {
+    let (least, most) = (i32::MIN, i32::MAX);
+    let cases = [(-7, 2, -4), (7, -2, -4), (7, 2, 3), (-7, -2, 3), (-6, 2, -3), (6, -2, -3), (-1, 2, -1), (1, -2, -1), (0, -2, 0)];
+    let ends = [(5, 0, 0), (-5, 0, 0), (least, 0, 0), (least, -1, least), (least, 1, least), (most, -1, -most), (least, most, -2), (most, least, -1), (1, least, -1), (least, least, 1)];
+    for (n, d, want) in cases.into_iter().chain(ends) {
+        let quotient = app(7, &[con(n), con(d)]);
+        let sheet = join(&[event(0), active(0, &[handler(0, 0, &quotient)]), passive(&quotient)]);
+        check("a quotient", &sheet, 0);
+        let mut table = vec![0u8; TABLE];
+        let mut round = vec![0u8; 2048];
+        proved::compile(&sheet, &mut table);
+        proved::start(&table, &mut round);
+        assert_eq!(proved::board(&table, &round, 1) as i32, want, "{n} / {d} in a fresh round");
+        proved::arrive(&table, &mut round, 0);
+        while proved::step(&table, &mut round) != 0 {}
+        assert_eq!(proved::board(&table, &round, 0) as i32, want, "{n} / {d} in an event");
+        assert_eq!(engine::apply(7, &[n, d]), want, "{n} / {d} in the second engine");
+    }
+}
+
 fn check(what: &str, sheet: &[u8], want: u32) {
     let mut table = Guarded::new(TABLE + 8, 0x33);
     compare::compile(sheet, &mut table);
@@ -183,6 +204,7 @@ pub fn run() {
         assert_eq!(proved::step(&vec![0u8; size], &mut [0u8; 2048]), 14);
     }
     forecast();
+    quotients();
     spent();
-    println!("limits: every refusal of compile, both sides of each limit, forecasts, 1,000,000 arrivals");
+    println!("limits: every refusal of compile, both sides of each limit, forecasts, quotients, 1,000,000 arrivals");
 }
