@@ -11,7 +11,7 @@ fn arguments_there(f: u32, d: u32) -> bool
     if f > 14 {
         return false;
     }
-    (arith::arity_of(f as u8) as u32) <= d
+    (functions::arity_of(f as u8) as u32) <= d
 }
 
 // Whether operation op with slot s is one of ours and finds its stack, of depth d, as it needs it.

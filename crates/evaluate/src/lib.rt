@@ -49,7 +49,7 @@ fn apply_at(f: u8, n: usize, st: &[u32], i: usize) -> u32
     let a = argument_at(st, i, n, 0);
     let b = argument_at(st, i, n, 1);
     let c = argument_at(st, i, n, 2);
-    arith::apply(f, a, b, c)
+    functions::apply(f, a, b, c)
 }
 
 // Function f takes its n arguments from the stack and puts its result; without them the stack stays as it is. Its new depth.
@@ -83,7 +83,7 @@ fn eval_node(x: u64, v: &[u32], st: &mut [u32], k: usize) -> usize
         return push(st, k, u);
     }
     let f = (w % 256) as u8;
-    let n = arith::arity_of(f);
+    let n = functions::arity_of(f);
     apply_top(f, n, st, k)
 }
 

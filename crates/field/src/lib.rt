@@ -146,7 +146,7 @@ pub fn read_expr(left: usize, s: &[u8], draft: &mut [u64], n: usize) -> Read
             let v = field_value(s, 16, 18);
             let mut at = 1;
             let mut m = n;
-            let mut k = arith::arity_of(f);
+            let mut k = functions::arity_of(f);
             while k != 0 {
                 let r = read_expr(left - 1, &v[at..], draft, m);
                 let Read::Done(size, next) = r else {

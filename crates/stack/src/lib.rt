@@ -29,7 +29,7 @@ fn apply_one(l: &mut [u8], d: u32, f: u8)
     ensures { λ _. ⌜ now (l .exit) ≡ applyOne (now (l .entry)) d f ⌝ }
 {
     let k = 327 + (d as usize);
-    let v = arith::apply(f, word::get_word(l, k), 0, 0);
+    let v = functions::apply(f, word::get_word(l, k), 0, 0);
     word::put_word(l, k, v);
 }
 
@@ -39,7 +39,7 @@ fn apply_two(l: &mut [u8], d: u32, f: u8)
 {
     let x = word::get_word(l, 326 + (d as usize));
     let y = word::get_word(l, 327 + (d as usize));
-    let v = arith::apply(f, x, y, 0);
+    let v = functions::apply(f, x, y, 0);
     word::put_word(l, 326 + (d as usize), v);
     word::put_word(l, 6, d - 1);
 }
@@ -51,7 +51,7 @@ fn apply_three(l: &mut [u8], d: u32, f: u8)
     let x = word::get_word(l, 325 + (d as usize));
     let y = word::get_word(l, 326 + (d as usize));
     let z = word::get_word(l, 327 + (d as usize));
-    let v = arith::apply(f, x, y, z);
+    let v = functions::apply(f, x, y, z);
     word::put_word(l, 325 + (d as usize), v);
     word::put_word(l, 6, d - 2);
 }

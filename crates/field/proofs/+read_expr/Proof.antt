@@ -10,7 +10,7 @@ use borrow.Fn.PlainCycle.{Measures, is, falls, and}
 use Rattle.field.proofs.read_expr.Reads as read-expr
 use Rattle.field.proofs.read_expr.Kinds as read-expr-kinds
 use Rattle.field.proofs.+read_expr.Lts-read_expr as read-expr-lts
-use Rattle.arith.proofs.arity_of.Reads as arity-of-reads
+use Rattle.functions.proofs.arity_of.Reads as arity-of-reads
 use Rattle.field.proofs.close_at.Reads as close-at-reads
 use Rattle.field.proofs.read_head.Reads as read-head-reads
 use Rattle.field.proofs.field_value.Reads as field-value-reads

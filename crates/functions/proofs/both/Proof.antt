@@ -1,8 +1,8 @@
 -- `&&` by whether the first word is 0: the laws of truth, on the callee's bit.
 use Rattle.arith.proofs.Laws.{and-first-false, and-first-true}
 use borrow.Author.Needs.{needs}
-use Rattle.arith.proofs.both.Statement.{statement}
-use Rattle.arith.proofs.both.Tie as tie
+use Rattle.functions.proofs.both.Statement.{statement}
+use Rattle.functions.proofs.both.Tie as tie
 
 pub both-spec : {M : Type 1} → statement M
 both-spec =

@@ -1,8 +1,8 @@
 -- `||` by whether the first word is 0: the laws of truth, on the callee's bit.
 use Rattle.arith.proofs.Laws.{or-first-false, or-first-true}
 use borrow.Author.Needs.{needs}
-use Rattle.arith.proofs.either.Statement.{statement}
-use Rattle.arith.proofs.either.Tie as tie
+use Rattle.functions.proofs.either.Statement.{statement}
+use Rattle.functions.proofs.either.Tie as tie
 
 pub either-spec : {M : Type 1} → statement M
 either-spec =

@@ -1,12 +1,12 @@
 -- `!`: a word is false exactly when it is 0, carried through the callee's bit.
 use mathlib.Core.Bool.{Bool}
 use mathlib.Core.Path.{ap, _∙_}
 use Rattle.arith.specs.Exact.{wrapped}
 use Rattle.arith.specs.Functions.{truth}
 use Rattle.arith.proofs.Laws.{not-of}
 use borrow.Author.Needs.{needs}
-use Rattle.arith.proofs.opposite.Statement.{statement}
-use Rattle.arith.proofs.opposite.Tie as tie
+use Rattle.functions.proofs.opposite.Statement.{statement}
+use Rattle.functions.proofs.opposite.Tie as tie
 
 pub opposite-spec : {M : Type 1} → statement M
 opposite-spec =

@@ -3,11 +3,11 @@ use mathlib.Core.Bool.{Bool, not}
 use mathlib.Core.Path.{_≡_, ap, _∙_}
 use lib.IntN.{pos}
 use Rattle.base.specs.Pick.{code}
 use Rattle.arith.specs.Exact.{signed, wrapped}
 use Rattle.arith.specs.Functions.{truth, exact, result}
 use borrow.Author.Needs.{needs}
-use Rattle.arith.proofs.apply.Statement.{statement}
-use Rattle.arith.proofs.apply.Tie as tie
+use Rattle.functions.proofs.apply.Statement.{statement}
+use Rattle.functions.proofs.apply.Tie as tie
 
 pub apply-spec : {M : Type 1} → statement M
 unfolding result exact

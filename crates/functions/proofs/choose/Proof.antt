@@ -1,8 +1,8 @@
 -- `if` by whether the first word is 0; the word that is handed back is the word of the number that it stands for.
 use native.Mathlib.Omega.{arith}
 use Rattle.arith.proofs.Laws.{second-if, third-if}
-use Rattle.arith.proofs.choose.Statement.{statement}
-use Rattle.arith.proofs.choose.Tie as tie
+use Rattle.functions.proofs.choose.Statement.{statement}
+use Rattle.functions.proofs.choose.Tie as tie
 
 pub choose-spec : {M : Type 1} → statement M
 choose-spec =

@@ -1,9 +1,9 @@
 -- The code's tests are the definition's: each return follows its branch, and is a numeral.
 use native.Mathlib.Omega.{arith}
 use Rattle.base.specs.Pick.{code}
 use Rattle.arith.specs.Functions.{arity}
-use Rattle.arith.proofs.arity_of.Statement.{statement}
-use Rattle.arith.proofs.arity_of.Tie as tie
+use Rattle.functions.proofs.arity_of.Statement.{statement}
+use Rattle.functions.proofs.arity_of.Tie as tie
 
 pub arity-of-spec : {M : Type 1} → statement M
 unfolding arity

@@ -2,12 +2,12 @@
 use mathlib.Core.Bool.{Bool}
 use mathlib.Core.Path.{ap, _∙_}
 use native.Mathlib.Omega.{arith}
 use Rattle.arith.specs.Exact.{wrapped}
 use Rattle.arith.specs.Functions.{truth}
 use Rattle.arith.proofs.Laws.{view, same-words}
 use borrow.Author.Needs.{needs}
-use Rattle.arith.proofs.same.Statement.{statement}
-use Rattle.arith.proofs.same.Tie as tie
+use Rattle.functions.proofs.same.Statement.{statement}
+use Rattle.functions.proofs.same.Tie as tie
 
 pub same-spec : {M : Type 1} → statement M
 same-spec =
