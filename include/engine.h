@@ -19,10 +19,9 @@ extern "C" {
 #define ENGINE_TABLE 34816u
 #define ENGINE_ROUND 2048u
 
-/* Why a call was turned down. */
+/* Why a call was turned down. No call gives 2: a sheet of no bytes is accepted, with no events and no behaviours. */
 enum engine_refusal {
     ENGINE_SHORT_TABLE = 1,    /* compile: table under 34,816 bytes */
-    ENGINE_BLANK = 2,          /* sheet of no bytes */
     ENGINE_LONG_SHEET = 3,     /* over 8,192 bytes */
     ENGINE_TORN = 4,           /* under three bytes where a field is due, or a length past its enclosing end */
     ENGINE_WRONG_TAG = 5,      /* a tag not allowed there; an event after a behaviour */
@@ -42,7 +41,7 @@ enum engine_refusal {
     ENGINE_SETTLING = 19       /* board read during copy-back */
 };
 
-/* Compiles a sheet into the table. 0, or the refusal's number (1 to 13). */
+/* Compiles a sheet into the table. 0, or the refusal's number (1, 3 to 13). */
 uint32_t compile(const uint8_t *sheet, size_t sheet_len, uint8_t *table, size_t table_len);
 
 /* Makes the round fresh for the table's sheet; its old bytes are not read. 0, or 14. */

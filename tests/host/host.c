@@ -138,6 +138,10 @@ int main(void)
     expect(board(table, sizeof table, round_, sizeof round_, 2) == ENGINE_NO_SUCH_BEHAVIOUR, "behaviour 2");
     expect(step(table, 10, round_, sizeof round_) == ENGINE_FOREIGN, "a short table");
     expect(compile(S, sizeof S, table, ENGINE_TABLE - 1) == ENGINE_SHORT_TABLE, "a table of 34,815 bytes");
+    expect(load(S, 0) == 0, "a sheet of no bytes is accepted");
+    expect(frame(1), "and idle");
+    expect(arrive(table, sizeof table, round_, sizeof round_, 0) == ENGINE_NO_SUCH_EVENT, "it has no event");
+    expect(board(table, sizeof table, round_, sizeof round_, 0) == ENGINE_NO_SUCH_BEHAVIOUR, "and no behaviour");
     audit();
     plan();
     puts(faults ? "host: faults" : "host: all as the scope says");

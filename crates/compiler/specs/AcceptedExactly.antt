@@ -1,11 +1,11 @@
 -- compile takes exactly the encodings of the accepted programs, and leaves their table; whatever it turns down leaves the table as it was. 11, 12 and 13 stand exactly for what 01 says: 13
--- for a program that is fine but for its length. By the reader's theorem and the checks' (crates grammar, analysis), from the verdict's branches.
+-- for a program that is fine but for its length. 2 is never answered. By the reader's theorem and the checks' (crates grammar, analysis), from the verdict's branches.
 use Prim.Native.Nat.{ℕ, _≤_, _<_}
 use mathlib.Core.Bool.{true, false, true≢false}
 use mathlib.Core.Path.{_≡_, refl, sym, ap, _∙_, subst}
 use mathlib.Core.Logic.{_≢_, by-cases}
 use mathlib.Core.List.{List, []}
-use native.Mathlib.Decide.{decLt, ℕ-discrete}
+use native.Mathlib.Decide.{decLt}
 use native.Mathlib.Omega.{arith}
 use lib.ListN.{length}
 use Rattle.base.specs.Basics.{All}
@@ -21,7 +21,7 @@ use Rattle.analysis.specs.Faults.{known, cyclic}
 use Rattle.analysis.specs.CycleDecides.{known-decides, cyclic-decides}
 use Rattle.image.specs.Image.{tableOf}
 use Rattle.compiler.specs.Verdict.{Compiled, compiled, judge, judgeRead, compileOn}
-use Rattle.compiler.specs.JudgeLaws.{judge-long, judge-passes, Verdict, unknown, circular, long, passed, judge-says, compile-opens, compile-short, compile-blank, compile-long}
+use Rattle.compiler.specs.JudgeLaws.{judge-long, judge-passes, Verdict, unknown, circular, long, passed, judge-says, compile-opens, compile-short, compile-long}
 
 -- a program that is fine but for its length
 abbrev pub Fine : Program → Type 0
@@ -51,7 +51,7 @@ module _ (s t : List ℕ) (bytes : All (λ b. b < 256) s) (room : 34816 ≤ leng
   abbrev Told : Compiled → Type 0
   Told r = (r .0 ≡ 0 → Taken) × (r .0 ≡ 13 → TooLong) × (r .0 ≡ 11 → Stray) × (r .0 ≡ 12 → Circular)
 
-  module _ (lo : 1 ≤ length s) (hi : length s ≤ 8192) where
+  module _ (hi : length s ≤ 8192) where
     judged : (p : Program) → readProgram s ≡ got p [] → encode p ≡ s → Fits p → (r : Compiled) → judge p t ≡ r → Verdict p t r → Told r
     judged p e q f r j (unknown k) = (
       λ z. absurd (omega arith),
@@ -74,7 +74,7 @@ module _ (s t : List ℕ) (bytes : All (λ b. b < 256) s) (room : 34816 ≤ leng
             p,
             q,
             record { fits = f; known = w .0; acyclic = w .1; short = h },
-            compile-opens s t room lo hi ∙ ap (λ (g : Got Program). judgeRead g t) e ∙ judge-passes p t k c h,
+            compile-opens s t room hi ∙ ap (λ (g : Got Program). judgeRead g t) e ∙ judge-passes p t k c h,
             e,
           ),
           λ z. absurd (omega arith),
@@ -85,24 +85,21 @@ module _ (s t : List ℕ) (bytes : All (λ b. b < 256) s) (room : 34816 ≤ leng
     read : (g : Got Program) → readProgram s ≡ g → Told (judgeRead g t)
     read (bad k) e = let h = fault-numbers s k e in (λ z. absurd (omega arith), λ z. absurd (omega arith), λ z. absurd (omega arith), λ z. absurd (omega arith))
     read (got p rest) e =
-        let h = reads-only s bytes lo hi p rest e in
+        let h = reads-only s bytes hi p rest e in
         judged p (e ∙ ap (got p) (h .2)) (sym (h .0)) (h .1) (judge p t) refl (judge-says p t)
 
   told : Told (compileOn s t)
   told =
-      by-cases (ℕ-discrete (length s) 0)
-      (λ z. subst Told (sym (compile-blank s t room z)) (λ x. absurd (omega arith), λ x. absurd (omega arith), λ x. absurd (omega arith), λ x. absurd (omega arith)))
-      (λ z. by-cases (decLt 8192 (length s))
+      by-cases (decLt 8192 (length s))
       (λ l. subst Told (sym (compile-long s t room l)) (λ x. absurd (omega arith), λ x. absurd (omega arith), λ x. absurd (omega arith), λ x. absurd (omega arith)))
-      (λ l. subst Told (sym (compile-opens s t room (omega arith) (omega arith))) (read (omega arith) (omega arith) (readProgram s) refl)))
+      (λ l. subst Told (sym (compile-opens s t room (omega arith))) (read (omega arith) (readProgram s) refl))
 
   -- a program within the grammar is read and judged
   reaches : (p : Program) → encode p ≡ s → Fits p → compileOn s t ≡ judge p t
   reaches p q f =
-      let lo : 1 ≤ length s = rw q at (f .some-bytes) in
       let hi : length s ≤ 8192 = rw q at (f .few-bytes) in
       let e : readProgram s ≡ got p [] = rw q at (reads-back p f) in
-      compile-opens s t room lo hi ∙ ap (λ (g : Got Program). judgeRead g t) e
+      compile-opens s t room hi ∙ ap (λ (g : Got Program). judgeRead g t) e
 
   pub accepted-exactly :
       ((compileOn s t .0 ≡ 0 → (p : Program) × (encode p ≡ s) × Accepted p × (compileOn s t ≡ compiled 0 (tableOf p t)) × (readProgram s ≡ got p []))
@@ -162,8 +159,29 @@ pub refused-unchanged : (s t : List ℕ) → compileOn s t .0 ≢ 0 → compileO
 refused-unchanged s t =
     by-cases (decLt (length t) 34816)
     (λ a. rw (compile-short s t a) (λ z. refl))
-    (λ a. by-cases (ℕ-discrete (length s) 0)
-    (λ b. rw (compile-blank s t (omega arith) b) (λ z. refl))
-    (λ b. by-cases (decLt 8192 (length s))
+    (λ a. by-cases (decLt 8192 (length s))
     (λ c. rw (compile-long s t (omega arith) c) (λ z. refl))
-    (λ c. rw (compile-opens s t (omega arith) (omega arith) (omega arith)) (kept-read (readProgram s) t))))
+    (λ c. rw (compile-opens s t (omega arith) (omega arith)) (kept-read (readProgram s) t)))
+
+-- ---- 02, M-106: "Number 2 never occurs again."
+
+abbrev NotTwo : Compiled → Type 0
+NotTwo r = r .0 ≢ 2
+
+not-two-judge : (p : Program) (t : List ℕ) (r : Compiled) → Verdict p t r → NotTwo r
+not-two-judge p t r (unknown k) = omega arith
+not-two-judge p t r (circular k c) = omega arith
+not-two-judge p t r (long k c h) = omega arith
+not-two-judge p t r (passed k c h) = omega arith
+
+not-two-read : (s t : List ℕ) (g : Got Program) → readProgram s ≡ g → NotTwo (judgeRead g t)
+not-two-read s t (bad k) e = let h = fault-numbers s k e in omega arith
+not-two-read s t (got p rest) e = not-two-judge p t (judge p t) (judge-says p t)
+
+pub never-two : (s t : List ℕ) → compileOn s t .0 ≢ 2
+never-two s t =
+    by-cases (decLt (length t) 34816)
+    (λ a. rw (compile-short s t a) (omega arith))
+    (λ a. by-cases (decLt 8192 (length s))
+    (λ c. rw (compile-long s t (omega arith) c) (omega arith))
+    (λ c. rw (compile-opens s t (omega arith) (omega arith)) (not-two-read s t (readProgram s) refl)))

@@ -6,7 +6,7 @@ use mathlib.Core.List.{List}
 use native.Mathlib.Omega.{arith}
 use lib.ListN.{length}
 use lib.Dec.{ltb}
-use borrow.Author.Tests.{lt-ltb, le-ltb, ltb-true, ltb-false, ne-eqb, eq-eqb}
+use borrow.Author.Tests.{lt-ltb, le-ltb, ltb-true, ltb-false}
 use Rattle.base.specs.Tools.{by-test}
 use Rattle.language.specs.Syntax.{Program}
 use Rattle.language.specs.Reading.{readProgram}
@@ -49,19 +49,14 @@ module _ (p : Program) (t : List ℕ) where
 
 module _ (s t : List ℕ) where
   -- what is asked first
-  pub compile-opens : 34816 ≤ length t → 1 ≤ length s → length s ≤ 8192 → compileOn s t ≡ judgeRead (readProgram s) t
+  pub compile-opens : 34816 ≤ length t → length s ≤ 8192 → compileOn s t ≡ judgeRead (readProgram s) t
   unfolding compileOn
-  compile-opens a b c =
-      rw (le-ltb (length t) 34816 a, ne-eqb (length s) 0 (λ z. omega arith), le-ltb 8192 (length s) c)
+  compile-opens a c = rw (le-ltb (length t) 34816 a, le-ltb 8192 (length s) c)
 
   pub compile-short : length t < 34816 → compileOn s t ≡ compiled 1 t
   unfolding compileOn
   compile-short h = rw (lt-ltb (length t) 34816 h)
 
-  pub compile-blank : 34816 ≤ length t → length s ≡ 0 → compileOn s t ≡ compiled 2 t
-  unfolding compileOn
-  compile-blank a h = rw (le-ltb (length t) 34816 a, eq-eqb (length s) 0 h)
-
   pub compile-long : 34816 ≤ length t → 8192 < length s → compileOn s t ≡ compiled 3 t
   unfolding compileOn
-  compile-long a h = rw (le-ltb (length t) 34816 a, ne-eqb (length s) 0 (λ z. omega arith), lt-ltb 8192 (length s) h)
+  compile-long a h = rw (le-ltb (length t) 34816 a, lt-ltb 8192 (length s) h)

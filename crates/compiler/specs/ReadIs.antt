@@ -20,19 +20,19 @@ pub all-bytes : (s : List ℕ) → ((i : ℕ) → i < length s → getD s i 0 < 
 all-bytes [] h = tt
 all-bytes (b ∷ s) h = (h 0 (omega arith), all-bytes s (λ i c. h (suc i) (omega arith)))
 
-module _ (s : List ℕ) (bytes : All (λ b. b < 256) s) (lo : 1 ≤ length s) (hi : length s ≤ 8192) where
+module _ (s : List ℕ) (bytes : All (λ b. b < 256) s) (hi : length s ≤ 8192) where
   pub read-draft : (ev bs n : ℕ) (d : List ℕ) → finished (Ready ev bs n) d ≡ readOn s empty → DraftOf ev bs n d
-  read-draft ev bs n d q = drafted-as s bytes lo hi (Ready ev bs n) d (sym q) .0
+  read-draft ev bs n d q = drafted-as s bytes hi (Ready ev bs n) d (sym q) .0
 
   -- a fault is the sheet's
   pub read-fault : (a : Draft) (k : ℕ) (d t : List ℕ) → a ≡ Broken k → finished a d ≡ readOn s empty → compiled (numberOf a) t ≡ judgeRead (readProgram s) t
   read-fault a k d t b q =
-      let e : readProgram s ≡ bad k = drafted-as s bytes lo hi (Broken k) d (sym q ∙ ap (λ (x : Draft). finished x d) b) in
+      let e : readProgram s ≡ bad k = drafted-as s bytes hi (Broken k) d (sym q ∙ ap (λ (x : Draft). finished x d) b) in
       rw (b, e)
 
   -- the draft judged is the sheet judged
   pub read-judged : (ev bs n : ℕ) (d t : List ℕ) (r : ℕ) (t′ : List ℕ) → finished (Ready ev bs n) d ≡ readOn s empty → Judged ev bs n d t r t′
       → compiled r t′ ≡ judgeRead (readProgram s) t
   read-judged ev bs n d t r t′ q j =
-      let o = drafted-as s bytes lo hi (Ready ev bs n) d (sym q) in
+      let o = drafted-as s bytes hi (Ready ev bs n) d (sym q) in
       j .each-program (o .0) ∙ ap (λ (g : Got Program). judgeRead g t) (sym (o .1))

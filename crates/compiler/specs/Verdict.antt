@@ -1,11 +1,12 @@
 -- What compile answers, and the table's bytes at exit, for all bytes. 01 "Why a call was turned down": "Compile: 1, 2, 3; then left to right, the first fault met; then 11, 12, 13."
+-- 02, M-106: "Number 2 never occurs again."
 use Prim.Native.Nat.{ℕ}
 use mathlib.Core.List.{List}
 use lib.ListN.{length}
-use lib.Dec.{ltb, eqb}
+use lib.Dec.{ltb}
 use Rattle.base.specs.Basics.{pick}
 use Rattle.language.specs.Syntax.{Program}
-use Rattle.language.specs.Refusals.{shortTable, blank, longProgram, unknownName, cycle, overlong}
+use Rattle.language.specs.Refusals.{shortTable, longProgram, unknownName, cycle, overlong}
 use Rattle.language.specs.Reading.{Got, bad, got, readProgram}
 use Rattle.language.specs.Code.{allInstructions}
 use Rattle.analysis.specs.Faults.{known, cyclic}
@@ -33,6 +34,5 @@ judgeRead (got p rest) t = judge p t
 unfoldable pub compileOn : List ℕ → List ℕ → Compiled
 compileOn s t =
     pick (ltb (length t) 34816) (shortTable, t)
-    (pick (eqb (length s) 0) (blank, t)
     (pick (ltb 8192 (length s)) (longProgram, t)
-    (judgeRead (readProgram s) t)))
+    (judgeRead (readProgram s) t))

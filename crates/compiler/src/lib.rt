@@ -40,9 +40,9 @@ fn number_of(a: Draft) -> u32
     }
 }
 
-// A sheet of 1 to 8,192 bytes.
+// A sheet of up to 8,192 bytes.
 fn compile_read(sheet: &[u8], table: &mut [u8]) -> u32
-    requires { ⌜ (1 ≤ length (now sheet)) × (length (now sheet) ≤ 8192) × (34816 ≤ length (now table)) ⌝ }
+    requires { ⌜ (length (now sheet) ≤ 8192) × (34816 ≤ length (now table)) ⌝ }
     ensures { λ r. ⌜ compiled r (now (table .exit)) ≡ judgeRead (readProgram (now (sheet .entry))) (now (table .entry)) ⌝ }
 {
     let mut draft = [0u64; 4256];
@@ -59,9 +59,6 @@ pub fn compile_at(sheet: &[u8], table: &mut [u8]) -> u32
 {
     if table.len() < 34816 {
         return 1;
-    }
-    if sheet.len() == 0 {
-        return 2;
     }
     if sheet.len() > 8192 {
         return 3;

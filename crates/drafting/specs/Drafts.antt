@@ -22,7 +22,7 @@ Outcome s (Ready ev bs n) d = (of : DraftOf ev bs n d) × (readProgram s ≡ got
 abbrev pub empty : List ℕ
 empty = replicate 4256 0
 
-module _ (s : List ℕ) (bytes : All (λ b. b < 256) s) (some : 1 ≤ length s) (most : length s ≤ 8192) where
+module _ (s : List ℕ) (bytes : All (λ b. b < 256) s) (most : length s ≤ 8192) where
   same : SameProgram (readProgram s) (readOn s empty)
   same = same-program s most empty (length-replicate {A = ℕ} 4256 0) (λ j h. getD-replicate {A = ℕ} 4256 j 0 0 h)
 
@@ -31,7 +31,7 @@ module _ (s : List ℕ) (bytes : All (λ b. b < 256) s) (some : 1 ≤ length s) 
   outcome (got p r) o q h =
       let t : readProgram s ≡ got p [] = q ∙ ap (λ (l : List ℕ). got p l) (h .0) in
       rw (h .2) (
-        record { program = p; fits = reads-only s bytes some most p [] t .1; events-are = refl; size-is = refl; drafted = h .3 },
+        record { program = p; fits = reads-only s bytes most p [] t .1; events-are = refl; size-is = refl; drafted = h .3 },
         t,
       )
 

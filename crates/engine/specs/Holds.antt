@@ -30,10 +30,10 @@ table-room s t h =
     by-cases (decLt (length t) 34816) (λ a. let z : _≡_ {A = ℕ} 1 0 = sym (ap (λ (o : Compiled). o .0) (compile-short s t a)) ∙ h in absurd (omega arith)) (λ a. omega arith)
 
 -- a round that start has made from a program's table
-begun : (p : Program) → Accepted p → (t₀ l₀ t : List ℕ) → 34816 ≤ length t₀ → 2048 ≤ length l₀ → t ≡ tableOf p t₀ → startOn t l₀ ≡ (0, freshBytes (tableOf p t₀) l₀)
+pub begun : (p : Program) → Accepted p → (t₀ l₀ t : List ℕ) → 34816 ≤ length t₀ → 2048 ≤ length l₀ → t ≡ tableOf p t₀ → startOn t l₀ ≡ (0, freshBytes (tableOf p t₀) l₀)
 begun p ok t₀ l₀ t a b e = ap (λ (x : List ℕ). startOn x l₀) e ∙ starts p ok t₀ l₀ a b
 
-one : (p : Program) → Accepted p → (t₀ l₀ t : List ℕ) → 34816 ≤ length t₀ → 2048 ≤ length l₀ → t ≡ tableOf p t₀ → (cs : List Call) → OneList p t l₀ (startOn t l₀ .1) cs
+pub one : (p : Program) → Accepted p → (t₀ l₀ t : List ℕ) → 34816 ≤ length t₀ → 2048 ≤ length l₀ → t ≡ tableOf p t₀ → (cs : List Call) → OneList p t l₀ (startOn t l₀ .1) cs
 one p ok t₀ l₀ t a b e cs =
     subst (λ (x : List ℕ). OneList p t l₀ x cs) (sym (ap (λ (r : Result). r .1) (begun p ok t₀ l₀ t a b e)))
     (subst (λ (x : List ℕ). OneList p x l₀ (freshBytes (tableOf p t₀) l₀) cs) (sym e) (one-list p ok t₀ l₀ a b cs))

@@ -5,3 +5,4 @@ pub mod Runs
 pub mod OneHolds
 pub mod TwoHolds
 pub mod Holds
+pub mod RestDay

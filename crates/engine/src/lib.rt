@@ -12,7 +12,7 @@ ghost use Rattle.forecast.specs.Forecast.{forecastOn};
 ghost use Rattle.refinement.specs.Refinement.{callOn, answersOn, roundAfter};
 ghost use Rattle.engine.specs.Replay.{callOf, callsFrom, putAnswer, putAnswers, callCount};
 
-// A sheet's table. 0, or the refusal's number, 1 to 13, the table as it was.
+// A sheet's table. 0, or the refusal's number, 1 or 3 to 13, the table as it was.
 #[no_mangle]
 pub extern "C" fn compile(sheet: &[u8], table: &mut [u8]) -> u32
     ensures { λ r. ⌜ compiled r (now (table .exit)) ≡ compileOn (now (sheet .entry)) (now (table .entry)) ⌝ }

@@ -38,6 +38,12 @@ pub S-read : readProgram S-bytes ≡ got S []
 unfolding readProgram eventsAt behavioursAt handlersAt handles exprAt fieldAt
 S-read = refl
 
+-- ---- no bytes: no events and no behaviours (02, M-106)
+
+pub nothing-read : (readProgram [] ≡ got (program [] []) []) × (encode (program [] []) ≡ [])
+unfolding readProgram eventsAt encode encodeEvents encodeBehaviours
+nothing-read = (refl, refl)
+
 -- ---- nesting: `!` so many times round a constant
 
 abbrev pub nots : ℕ → Expr → Expr

@@ -220,10 +220,10 @@ program-says s = events-say (length s) [] s
 
 -- ---- the claims
 
-pub reads-only : (s : List ℕ) → All (λ b. b < 256) s → 1 ≤ length s → length s ≤ 8192 → (p : Program) (rest : List ℕ)
+pub reads-only : (s : List ℕ) → All (λ b. b < 256) s → length s ≤ 8192 → (p : Program) (rest : List ℕ)
     → readProgram s ≡ got p rest → (s ≡ encode p) × Fits p × (rest ≡ [])
 unfolding encode encodeEvents encodeBehaviours
-reads-only s b lo hi p rest e =
+reads-only s b hi p rest e =
     let h : SaysProgram (program [] []) s (got p rest) = rw e at (program-says s) in
     let r = h b (omega arith, omega arith, tt, tt) in
     let q : s ≡ encode p = r .0 in (
@@ -233,17 +233,16 @@ reads-only s b lo hi p rest e =
         few-behaviours = r .1 .1;
         scale = r .1 .2;
         each = r .1 .3;
-        some-bytes = rw q at lo;
         few-bytes = rw q at hi;
       },
       r .2,
     )
 
 -- the reader accepts s as p exactly if s is the encoding of p, and p within the limits
-pub accepts-exactly : (s : List ℕ) → All (λ b. b < 256) s → 1 ≤ length s → length s ≤ 8192
+pub accepts-exactly : (s : List ℕ) → All (λ b. b < 256) s → length s ≤ 8192
     → ((p : Program) → readProgram s ≡ got p [] → (encode p ≡ s) × Fits p) × ((p : Program) → encode p ≡ s → Fits p → readProgram s ≡ got p [])
-accepts-exactly s b lo hi = (
-  λ p e. let r = reads-only s b lo hi p [] e in (sym (r .0), r .1),
+accepts-exactly s b hi = (
+  λ p e. let r = reads-only s b hi p [] e in (sym (r .0), r .1),
   λ p e f. rw (sym e) (reads-back p f),
 )
 

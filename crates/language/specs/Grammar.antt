@@ -82,11 +82,11 @@ abbrev pub BehaviourFits : ℕ → Behaviour → Type 0
 BehaviourFits n (passive x) = Nested 16 x
 BehaviourFits n (active s hs) = (s < 2 ^ 32) × HandlersFit n hs
 
--- at most 32 events of priority 0 to 15 and 64 behaviours, each within its limits, in 1 to 8,192 bytes
+-- at most 32 events of priority 0 to 15 and 64 behaviours, each within its limits, in up to 8,192 bytes. 02, M-106: a sheet of no bytes "shall mean a sheet with
+-- no events and no behaviours"
 pub record Fits (p : Program) : Type 0 where
   pub few-events : length (p .priorities) ≤ 32
   pub few-behaviours : length (p .behaviours) ≤ 64
   pub scale : All (λ r. r ≤ 15) (p .priorities)
   pub each : All (BehaviourFits (length (p .priorities))) (p .behaviours)
-  pub some-bytes : 1 ≤ length (encode p)
   pub few-bytes : length (encode p) ≤ 8192

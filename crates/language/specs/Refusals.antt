@@ -1,11 +1,8 @@
--- The numbers of refusals with 01's words. 01 "Why a call was turned down".
+-- The numbers of refusals with 01's words. 01 "Why a call was turned down"; 02, M-106: "Number 2 never occurs again."
 use Prim.Native.Nat.{ℕ}
 
 abbrev pub shortTable : ℕ  -- short table: compile's table has under 34,816 bytes
 shortTable = 1
-
-abbrev pub blank : ℕ  -- blank: a sheet of no bytes
-blank = 2
 
 abbrev pub longProgram : ℕ  -- long sheet: over 8,192 bytes
 longProgram = 3

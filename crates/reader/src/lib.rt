@@ -109,7 +109,6 @@ pub fn read_behaviours(s: &[u8], from: usize, events: usize, draft: &mut [u64]) 
 
 // The program in s: its draft, or the first fault.
 pub fn read_program(s: &[u8], draft: &mut [u64]) -> Draft
-    requires { ⌜ 1 ≤ length (now s) ⌝ }
     requires { ⌜ length (now s) ≤ 8192 ⌝ }
     requires { ⌜ length (now draft) ≡ 4256 ⌝ }
     ensures { λ r. ⌜ finished r (now (draft .exit)) ≡ readOn (now (s .entry)) (now (draft .entry)) ⌝ }

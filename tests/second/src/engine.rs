@@ -430,9 +430,6 @@ impl Sheet {
 
 /// compile, for a table of full size.
 pub fn compile(s: &[u8]) -> Result<Sheet, u32> {
-    if s.is_empty() {
-        return Err(2);
-    }
     if s.len() > 8192 {
         return Err(3);
     }

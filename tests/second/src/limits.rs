@@ -1,6 +1,6 @@
 //! Every refusal of compile, both sides of each limit, and M-102's quotients, on both engines.
 use crate::compare::{self, Guarded};
-use crate::engine;
+use crate::engine::{self, Call};
 use crate::proved::{self, TABLE};
 
 pub fn field(tag: u8, v: &[u8]) -> Vec<u8> {
@@ -159,6 +159,27 @@ fn quotients() {
     }
 }
 
+/// A rest day: no bytes are a sheet with no events and no behaviours, whatever is called.
+fn rest_day() {
+    let mut table = Guarded::new(TABLE + 8, 0x33);
+    let sheet = compare::compile(&[], &mut table).expect("a sheet of no bytes");
+    assert!(sheet.ranks.is_empty() && sheet.behaviours.is_empty());
+    let calls: Vec<Call> = [0, 1, 31, 32, u32::MAX].iter().flat_map(|&n| [Call::Arrive(n), Call::Step, Call::Board(n)]).collect();
+    compare::run(&sheet, &table, &calls);
+    let mut round = vec![0u8; 2048];
+    assert_eq!(proved::start(table.part(), &mut round), 0);
+    let fresh = round.clone();
+    for c in calls {
+        let want = match c {
+            Call::Arrive(_) => 15,
+            Call::Step => 0,
+            Call::Board(_) => 18,
+        };
+        assert_eq!(compare::call(table.part(), &mut round, c), want, "a rest day, {c:?}");
+    }
+    assert!(round == fresh, "a rest day changed the round");
+}
+
 fn check(what: &str, sheet: &[u8], want: u32) {
     let mut table = Guarded::new(TABLE + 8, 0x33);
     compare::compile(sheet, &mut table);
@@ -171,7 +192,7 @@ pub fn run() {
     let mut short = vec![0u8; TABLE - 1];
     assert_eq!(proved::compile(&s, &mut short), 1, "a table of 34,815 bytes");
     assert!(short.iter().all(|b| *b == 0));
-    check("blank", &[], 2);
+    check("no bytes", &[], 0);
     assert_eq!(of_bytes(8192).len(), 8192);
     check("8,192 bytes", &of_bytes(8192), 0);
     check("8,193 bytes", &of_bytes(8193), 3);
@@ -205,6 +226,7 @@ pub fn run() {
     }
     forecast();
     quotients();
+    rest_day();
     spent();
-    println!("limits: every refusal of compile, both sides of each limit, forecasts, quotients, 1,000,000 arrivals");
+    println!("limits: every refusal of compile, both sides of each limit, forecasts, quotients, a rest day, 1,000,000 arrivals");
 }

@@ -2,7 +2,7 @@
 use mathlib.Core.Path.{sym, _∙_}
 use native.Mathlib.Omega.{arith}
 use borrow.Author.Needs.{needs}
-use Rattle.compiler.specs.JudgeLaws.{compile-opens, compile-short, compile-blank, compile-long}
+use Rattle.compiler.specs.JudgeLaws.{compile-opens, compile-short, compile-long}
 use Rattle.compiler.proofs.compile_at.Statement.{statement}
 use Rattle.compiler.proofs.compile_at.Tie as tie
 
@@ -11,8 +11,7 @@ compile-at-spec =
     tie.close
     (tie.spec
     (λ c. sym (compile-short _ _ (omega arith)))
-    (λ c. sym (compile-blank _ _ (omega arith) (omega arith)))
     (λ c. sym (compile-long _ _ (omega arith) (omega arith)))
     (λ c κs. search needs)
     (λ c. search needs)
-    (λ c. c .before .before .compile-read .ensures ∙ sym (compile-opens _ _ (omega arith) (omega arith) (omega arith))))
+    (λ c. c .before .before .compile-read .ensures ∙ sym (compile-opens _ _ (omega arith) (omega arith))))

@@ -1,0 +1,132 @@
+-- 02, M-106, "A rest day": what the exported calls do with a sheet of no bytes. By demand 3's theorem the calls answer as the model engine does, which for a program
+-- with no events and no behaviours stays as it began.
+use Prim.Native.Nat.{ℕ, _≤_}
+use mathlib.Core.Bool.{true≢false}
+use mathlib.Core.Path.{_≡_, refl, sym, ap, _∙_}
+use mathlib.Core.Logic.{_≢_}
+use mathlib.Core.List.{List, [], _∷_, _++_}
+use native.Mathlib.Omega.{arith}
+use lib.ListN.{length}
+use borrow.Author.Tests.{le-leb}
+use Rattle.language.specs.Syntax.{Program}
+use Rattle.language.specs.Dependence.{handled, dependsOn, Reach, one, more}
+use Rattle.language.specs.Grammar.{encodeBehaviours, encodeEvents, encode}
+use Rattle.language.specs.Order.{upTo}
+use Rattle.language.specs.Code.{sum, allInstructions}
+use Rattle.language.specs.Accepted.{Accepted}
+use Rattle.language.specs.Reading.{program}
+use Rattle.model.specs.Model.{Engine, initial, Call, arrive, step, board, act, run}
+use Rattle.model.specs.Claims.{after}
+use Rattle.image.specs.Image.{tableOf}
+use Rattle.round.specs.Start.{Result, startOn}
+use Rattle.arrivals.specs.Arrivals.{arriveOn}
+use Rattle.board.specs.Board.{boardOn}
+use Rattle.refinement.specs.Refinement.{coded, callOn, roundAfter}
+use Rattle.compiler.specs.Verdict.{Compiled, compiled, compileOn}
+use Rattle.compiler.specs.AcceptedExactly.{accepted-exactly, never-two}
+use Rattle.engine.specs.Demand.{IdleNow}
+use Rattle.engine.specs.Runs.{next-answer}
+use Rattle.engine.specs.Holds as holds
+
+-- "a sheet with no events and no behaviours"
+abbrev pub nothing : Program
+nothing = program [] []
+
+-- "its round idle, every arrival refused by 15 and every board reading by 18": after the calls cs on the table t and the round l
+pub record AtRest (t l : List ℕ) (cs : List Call) : Type 0 where
+  pub idle : IdleNow t (roundAfter t cs l)
+  pub arrivals : (e : ℕ) → arriveOn t (roundAfter t cs l) e .0 ≡ 15
+  pub readings : (i : ℕ) → boardOn t (roundAfter t cs l) i ≡ 18
+
+-- "On rest days the sheet store sends a sheet of no bytes. It shall mean a sheet with no events and no behaviours: accepted", in any table bytes t₀ and round bytes l₀
+-- of 01's lengths
+pub record RestDay : Type 0 where
+  -- no bytes are the encoding of that program, which meets 01's grammar and limits
+  pub bytes : encode nothing ≡ []
+  pub within : Accepted nothing
+  -- compile takes the sheet, and leaves that program's table
+  pub accepted : (t₀ : List ℕ) → 34816 ≤ length t₀ → compileOn [] t₀ .0 ≡ 0
+  pub table : (t₀ : List ℕ) → 34816 ≤ length t₀ → compileOn [] t₀ .1 ≡ tableOf nothing t₀
+  pub begun : (t₀ l₀ : List ℕ) → 34816 ≤ length t₀ → 2048 ≤ length l₀ → startOn (compileOn [] t₀ .1) l₀ .0 ≡ 0
+  pub at-rest : (t₀ l₀ : List ℕ) → 34816 ≤ length t₀ → 2048 ≤ length l₀ → (cs : List Call)
+      → AtRest (compileOn [] t₀ .1) (startOn (compileOn [] t₀ .1) l₀ .1) cs
+  -- "Number 2 never occurs again."
+  pub never-blank : (s t : List ℕ) → compileOn s t .0 ≢ 2
+
+-- ---- it is accepted
+
+no-bytes : encode nothing ≡ []
+unfolding encode encodeEvents encodeBehaviours
+no-bytes = refl
+
+-- nothing depends on anything
+no-chain : (e : ℕ) {i j : ℕ} → Reach (dependsOn nothing e) i j → ⊥
+unfolding handled
+no-chain e (one d) = true≢false (sym d)
+no-chain e (more r d) = no-chain e r
+
+nothing-accepted : Accepted nothing
+unfolding allInstructions sum upTo
+nothing-accepted = record {
+  fits = record {
+    few-events = omega arith;
+    few-behaviours = omega arith;
+    scale = tt;
+    each = tt;
+    few-bytes = rw no-bytes (omega arith);
+  };
+  known = tt;
+  acyclic = λ e _ i r. no-chain e r;
+  short = omega arith;
+}
+
+compiles : (t₀ : List ℕ) → 34816 ≤ length t₀ → compileOn [] t₀ ≡ compiled 0 (tableOf nothing t₀)
+compiles t₀ room = accepted-exactly [] t₀ tt room .1 nothing no-bytes nothing-accepted
+
+table-is : (t₀ : List ℕ) → 34816 ≤ length t₀ → compileOn [] t₀ .1 ≡ tableOf nothing t₀
+table-is t₀ room = ap (λ (r : Compiled). r .1) (compiles t₀ room)
+
+-- ---- its round rests
+
+stays : (cs : List Call) → after nothing cs ≡ initial nothing
+unfolding act run
+stays [] = refl
+stays (arrive e ∷ cs) = rw (le-leb 0 e (omega arith)) (stays cs)
+stays (step ∷ cs) = stays cs
+stays (board i ∷ cs) = stays cs
+
+module _ (t₀ l₀ : List ℕ) (room : 34816 ≤ length t₀) (round-room : 2048 ≤ length l₀) where
+  abbrev table : List ℕ
+  table = compileOn [] t₀ .1
+
+  abbrev round : List ℕ
+  round = startOn table l₀ .1
+
+  -- one more call is answered as by the model engine that has just begun
+  answers : (cs : List Call) (c : Call) → callOn table c (roundAfter table cs round) .0 ≡ coded (act nothing c (initial nothing) .answer)
+  answers cs c =
+      next-answer nothing table cs c round (initial nothing) (holds.one nothing nothing-accepted t₀ l₀ table room round-room (table-is t₀ room) (cs ++ (c ∷ [])) .answers)
+      ∙ ap (λ (w : Engine). coded (act nothing c w .answer)) (stays cs)
+
+  rests : (cs : List Call) → AtRest table round cs
+  unfolding callOn act
+  rests cs = record {
+    idle = answers cs step;
+    arrivals = λ e. rw (le-leb 0 e (omega arith)) at (answers cs (arrive e));
+    readings = λ i. rw (le-leb 0 i (omega arith)) at (answers cs (board i));
+  }
+
+  starts : startOn table l₀ .0 ≡ 0
+  starts = ap (λ (r : Result). r .0) (holds.begun nothing nothing-accepted t₀ l₀ table room round-room (table-is t₀ room))
+
+-- M-106
+pub rest-day : RestDay
+rest-day = record {
+  bytes = no-bytes;
+  within = nothing-accepted;
+  accepted = λ t₀ room. ap (λ (r : Compiled). r .0) (compiles t₀ room);
+  table = table-is;
+  begun = starts;
+  at-rest = rests;
+  never-blank = never-two;
+}
