@@ -1,4 +1,4 @@
-//! A plain second engine, written from the scope alone: a tree, the big-step meaning, the instruction lists and the model engine.
+//! A plain second engine, written from documents 01 and 02 alone: a tree, the big-step meaning, the instruction lists and the model engine.
 //! It shares nothing with the proved engine and is as simple as possible; speed does not matter here.
 
 #[derive(Clone, Debug, PartialEq)]
