@@ -19,14 +19,7 @@ pub fn fault(r: Read) -> u8
 }
 
 // An expression that fills v, of nesting at most 16; its entry goes to `place`. The field has `over` bytes before v.
-pub fn read_entry(
-    v: &[u8],
-    draft: &mut [u64],
-    n: usize,
-    place: usize,
-    kind: usize,
-    over: usize,
-) -> Read
+fn read_entry(v: &[u8], draft: &mut [u64], n: usize, place: usize, kind: usize, over: usize) -> Read
     requires { ⌜ n * 4 + length (now v) ≤ 8192 ⌝ }
     requires { ⌜ length (now draft) ≡ 4256 ⌝ }
     requires { ⌜ place < 4256 ⌝ }
@@ -47,7 +40,7 @@ pub fn read_entry(
 }
 
 // A handler's value: event, phase, doubled, expression. `events` are declared; the handler is one of behaviour i.
-pub fn read_handler_value(v: &[u8], events: usize, i: usize, draft: &mut [u64], n: usize) -> Read
+fn read_handler_value(v: &[u8], events: usize, i: usize, draft: &mut [u64], n: usize) -> Read
     requires { ⌜ n * 4 + length (now v) ≤ 8192 ⌝ }
     requires { ⌜ length (now draft) ≡ 4256 ⌝ }
     requires { ⌜ events ≤ 32 ⌝ }
@@ -77,7 +70,7 @@ pub fn read_handler_value(v: &[u8], events: usize, i: usize, draft: &mut [u64], 
 }
 
 // A handler at the front of s.
-pub fn read_handler(s: &[u8], events: usize, i: usize, draft: &mut [u64], n: usize) -> Read
+fn read_handler(s: &[u8], events: usize, i: usize, draft: &mut [u64], n: usize) -> Read
     requires { ⌜ n * 4 + length (now s) ≤ 8192 ⌝ }
     requires { ⌜ length (now draft) ≡ 4256 ⌝ }
     requires { ⌜ events ≤ 32 ⌝ }
@@ -93,7 +86,7 @@ pub fn read_handler(s: &[u8], events: usize, i: usize, draft: &mut [u64], n: usi
 }
 
 // The handlers of behaviour i, whose value is v, after its start.
-pub fn read_handlers(v: &[u8], events: usize, i: usize, draft: &mut [u64], n: usize) -> Read
+fn read_handlers(v: &[u8], events: usize, i: usize, draft: &mut [u64], n: usize) -> Read
     requires { ⌜ 7 ≤ length (now v) ⌝ }
     requires { ⌜ n * 4 + length (now v) ≤ 8192 ⌝ }
     requires { ⌜ length (now draft) ≡ 4256 ⌝ }
@@ -116,7 +109,7 @@ pub fn read_handlers(v: &[u8], events: usize, i: usize, draft: &mut [u64], n: us
 }
 
 // An active's value: its start, then its handlers.
-pub fn read_active(v: &[u8], events: usize, i: usize, draft: &mut [u64], n: usize) -> Read
+fn read_active(v: &[u8], events: usize, i: usize, draft: &mut [u64], n: usize) -> Read
     requires { ⌜ n * 4 + length (now v) ≤ 8192 ⌝ }
     requires { ⌜ length (now draft) ≡ 4256 ⌝ }
     requires { ⌜ events ≤ 32 ⌝ }
@@ -137,7 +130,7 @@ pub fn read_active(v: &[u8], events: usize, i: usize, draft: &mut [u64], n: usiz
 }
 
 // The value of a behaviour's field with tag t.
-pub fn read_value(t: u8, v: &[u8], events: usize, i: usize, draft: &mut [u64], n: usize) -> Read
+fn read_value(t: u8, v: &[u8], events: usize, i: usize, draft: &mut [u64], n: usize) -> Read
     requires { ⌜ n * 4 + length (now v) ≤ 8192 ⌝ }
     requires { ⌜ length (now draft) ≡ 4256 ⌝ }
     requires { ⌜ events ≤ 32 ⌝ }

@@ -7,7 +7,7 @@ ghost use Rattle.board.specs.Board.{copyingBack, masked, settling, board
 
 // ---- masking
 
-pub fn is_copying_back(len: u32, m: u32, c: u32) -> bool
+fn is_copying_back(len: u32, m: u32, c: u32) -> bool
     ensures { λ r. ⌜ r ≡ copyingBack len m c ⌝ }
 {
     if len <= m {

@@ -69,7 +69,7 @@ pub fn number(f: Field) -> u8
 }
 
 // What a field with tag t and value v begins, with `left` levels of nesting left.
-pub fn head_of(left: usize, t: u8, v: &[u8]) -> Head
+fn head_of(left: usize, t: u8, v: &[u8]) -> Head
     ensures { λ r. ⌜ r ≡ headAt left t (now (v .entry)) ⌝ }
     ensures { λ r. ⌜ HeadIn left (length (now (v .entry))) r ⌝ }
 {
@@ -101,7 +101,7 @@ pub fn head_of(left: usize, t: u8, v: &[u8]) -> Head
 }
 
 // What the expression field at the front of s begins.
-pub fn read_head(left: usize, s: &[u8]) -> Head
+fn read_head(left: usize, s: &[u8]) -> Head
     ensures { λ r. ⌜ r ≡ headOf left (now (s .entry)) ⌝ }
     ensures { λ r. ⌜ HeadIn left (length (valueOf (now (s .entry)))) r ⌝ }
     ensures { λ _. ⌜ length (valueOf (now (s .entry))) ≤ length (now (s .entry)) - 3 ⌝ }
@@ -114,7 +114,7 @@ pub fn read_head(left: usize, s: &[u8]) -> Head
 }
 
 // The node of an application whose arguments end at `at`, in a value of `size` bytes.
-pub fn close_at(f: u8, size: usize, at: usize, draft: &mut [u64], m: usize) -> Read
+fn close_at(f: u8, size: usize, at: usize, draft: &mut [u64], m: usize) -> Read
     requires { ⌜ m < length (now draft) ⌝ }
     requires { ⌜ length (now draft) < 2 ^ 32 ⌝ }
     requires { ⌜ at + 3 < 2 ^ 64 ⌝ }

@@ -21,7 +21,7 @@ pub enum Draft {
 }
 
 // A field with tag t and value v where event e or the first behaviour is due.
-pub fn read_priority(t: u8, v: &[u8], e: usize, draft: &mut [u64]) -> Event
+fn read_priority(t: u8, v: &[u8], e: usize, draft: &mut [u64]) -> Event
     requires { ⌜ length (now draft) ≡ 4256 ⌝ }
     requires { ⌜ e ≤ 32 ⌝ }
     ensures { λ r. ⌜ made r (now (draft .exit)) ≡ priorityAt t (now (v .entry)) e (now (draft .entry)) ⌝ }
@@ -44,7 +44,7 @@ pub fn read_priority(t: u8, v: &[u8], e: usize, draft: &mut [u64]) -> Event
 }
 
 // Event e, or the first behaviour, at the front of s.
-pub fn read_event(s: &[u8], e: usize, draft: &mut [u64]) -> Event
+fn read_event(s: &[u8], e: usize, draft: &mut [u64]) -> Event
     requires { ⌜ length (now draft) ≡ 4256 ⌝ }
     requires { ⌜ e ≤ 32 ⌝ }
     ensures { λ r. ⌜ made r (now (draft .exit)) ≡ eventOf (now (s .entry)) e (now (draft .entry)) ⌝ }
@@ -58,7 +58,7 @@ pub fn read_event(s: &[u8], e: usize, draft: &mut [u64]) -> Event
 }
 
 // The events of s: the place after them and their number.
-pub fn read_events(s: &[u8], draft: &mut [u64]) -> Read
+fn read_events(s: &[u8], draft: &mut [u64]) -> Read
     requires { ⌜ length (now s) ≤ 8192 ⌝ }
     requires { ⌜ length (now draft) ≡ 4256 ⌝ }
     ensures { λ r. ⌜ out r (now (draft .exit)) ≡ eventsOf (length (now (s .entry))) (now (s .entry)) 0 0 (now (draft .entry)) ⌝ }
@@ -85,7 +85,7 @@ pub fn read_events(s: &[u8], draft: &mut [u64]) -> Read
 }
 
 // The behaviours of s, from `from` on.
-pub fn read_behaviours(s: &[u8], from: usize, events: usize, draft: &mut [u64]) -> Draft
+fn read_behaviours(s: &[u8], from: usize, events: usize, draft: &mut [u64]) -> Draft
     requires { ⌜ length (now s) ≤ 8192 ⌝ }
     requires { ⌜ from ≤ length (now s) ⌝ }
     requires { ⌜ length (now draft) ≡ 4256 ⌝ }

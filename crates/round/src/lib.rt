@@ -1,6 +1,6 @@
 // A fresh round, and `start`.
 ghost use mathlib.Core.Path.{_≡_};
-ghost use Prim.Native.Nat.{_+_, _*_, _≤_, _<_};
+ghost use Prim.Native.Nat.{_+_, _≤_, _<_};
 ghost use lib.ListN.{length, replicate};
 ghost use Rattle.round.specs.Start.{result, freshOf, cleared, stored, image, valuesIn, startOn};
 

@@ -1,4 +1,4 @@
--- The work stack in the round's bytes (layout: crate round): its depth in word 6, its values from word 328 on. 01 "Handlers and steps".
+-- The evaluation stack in the round's bytes (layout: crate layout): its depth in word 6, its values from word 328 on. 01 "Handlers and steps".
 use Prim.Native.Nat.{ℕ, _+_, _-_}
 use mathlib.Core.List.{List}
 use lib.Dec.{eqb}

@@ -1,4 +1,4 @@
-// The work stack in the round's bytes.
+// The evaluation stack in the round's bytes.
 ghost use mathlib.Core.Path.{_≡_};
 ghost use Prim.Native.Nat.{_≤_, _<_};
 ghost use lib.ListN.{length};

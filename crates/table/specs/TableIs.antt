@@ -2,7 +2,7 @@
 use Prim.Native.Nat.{ℕ, zero, suc, _+_, _*_, _%_, _≤_, _<_}
 use mathlib.Core.Bool.{Bool, true, false, not}
 use mathlib.Core.Path.{_≡_, refl, sym, ap, _∙_}
-use mathlib.Core.List.{List, [], _∷_, _++_}
+use mathlib.Core.List.{List, [], _∷_}
 use native.Mathlib.Omega.{arith}
 use lib.Dec.{eqb}
 use lib.ListN.{length, getD}
@@ -27,7 +27,7 @@ use Rattle.analysis.specs.MatrixAgrees.{matrix-is}
 use Rattle.analysis.specs.CycleDecides.{cell-is, known-decides, cyclic-decides}
 use Rattle.analysis.specs.DraftChecks.{draft-inside, draft-names, draft-cyclic}
 use Rattle.evaluate.specs.FreshIs.{fresh-padded}
-use Rattle.emit.specs.Words.{each, total, countEvent, countMembers}
+use Rattle.emit.specs.Words.{each, countEvent, countMembers}
 use Rattle.emit.specs.ExprWords.{codeWords-append}
 use Rattle.image.specs.ImageLaws.{length-codeWords}
 use Rattle.emit.specs.EventWords.{join-snoc, total-sum, event-words, count-is, members-is}

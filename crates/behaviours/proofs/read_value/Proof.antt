@@ -1,5 +1,4 @@
 -- The tests are those of `valueAt`, in its order: 64 behaviours, then the tag.
-use native.Mathlib.Omega.{arith}
 use borrow.Author.Needs.{needs}
 use Rattle.base.specs.Pick.{code}
 use Rattle.behaviours.proofs.Laws.{counted-below}
