@@ -80,6 +80,10 @@ uint64_t forecast(const uint8_t *table, size_t table_len, const uint8_t *round, 
 static inline int engine_forecast_refused(uint64_t answer) { return answer >> 32 == 0; }
 static inline uint32_t engine_forecast_steps(uint64_t answer) { return (uint32_t)answer; }
 
+/* The value that a behaviour would show after this event's arrival and everything in hand had been run to idle: answered as by board, 2^32 and the 32-bit word. It is
+ * tried on a copy; the round stays. Refused as the arrival would be, 14, 15, 16, 17, then by 18; last by 14 where a step on the copy is. During copy-back it works. */
+uint64_t preview(const uint8_t *table, size_t table_len, const uint8_t *round, size_t round_len, uint32_t event, uint32_t behaviour);
+
 /* Makes recorded calls one after the other, to audit a round: five bytes for each call, its kind (0 arrival, 1 step, any other a board reading) and a
  * big-endian number of 32 bits; eight bytes for each answer, big-endian. How many were made: it stops where a call is not whole or an answer has no room. */
 size_t replay(const uint8_t *table, size_t table_len, uint8_t *round, size_t round_len, const uint8_t *calls, size_t calls_len, uint8_t *answers, size_t answers_len);

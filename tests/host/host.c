@@ -102,6 +102,26 @@ static void plan(void)
     expect(forecast(table, 10, round_, sizeof round_) == ENGINE_FOREIGN, "a short table has no forecast");
 }
 
+/* Hovering over a move: the value it would lead to, the round as it was; also while a copy-back is under way, when the board itself is refused. */
+static void hover(void)
+{
+    uint8_t before[sizeof round_];
+    uint64_t a;
+
+    load(S, sizeof S);
+    memcpy(before, round_, sizeof round_);
+    a = preview(table, sizeof table, round_, sizeof round_, 0, 0);
+    expect(!engine_board_refused(a) && engine_board_value(a) == 2, "event 0 would make b0 2");
+    expect(memcmp(before, round_, sizeof round_) == 0, "a preview leaves the round");
+    take(0);
+    while (board(table, sizeof table, round_, sizeof round_, 0) != ENGINE_SETTLING)
+        frame(1);
+    a = preview(table, sizeof table, round_, sizeof round_, 0, 0);
+    expect(!engine_board_refused(a) && engine_board_value(a) == 3, "during copy-back, another makes it 3");
+    expect(preview(table, sizeof table, round_, sizeof round_, 2, 2) == ENGINE_NO_SUCH_EVENT, "event 2 cannot be tried");
+    expect(preview(table, sizeof table, round_, sizeof round_, 0, 2) == ENGINE_NO_SUCH_BEHAVIOUR, "behaviour 2 cannot be shown");
+}
+
 int main(void)
 {
     static const int32_t want[][2] = {{2, 1}, {3, 2}, {5, 3}};
@@ -144,6 +164,7 @@ int main(void)
     expect(board(table, sizeof table, round_, sizeof round_, 0) == ENGINE_NO_SUCH_BEHAVIOUR, "and no behaviour");
     audit();
     plan();
+    hover();
     puts(faults ? "host: faults" : "host: all as the scope says");
     return faults != 0;
 }

@@ -1,5 +1,5 @@
--- Demands 2 and 3, and M-100 of document 02, as claims about the exported functions: `compileOn`, `startOn`, `arriveOn`, `stepOn`, `boardOn` and `forecastOn` are
--- what their contracts cite.
+-- Demands 2 and 3, and M-100 and M-101 of document 02, as claims about the exported functions: `compileOn`, `startOn`, `arriveOn`, `stepOn`, `boardOn`, `forecastOn`
+-- and `previewOn` are what their contracts cite.
 -- The model engine, and the sentences of demand 3 in its terms: crate model, Model.antt and Claims.antt. Calls on bytes, and what the round's bytes say: crate
 -- refinement, Refinement.antt.
 use Prim.Native.Nat.{ℕ, _+_, _≤_, _<_}
@@ -18,11 +18,12 @@ use Rattle.semantics.specs.Rules.{Shows}
 use Rattle.semantics.specs.Meaning.{at, fresh}
 use Rattle.semantics.specs.Plays.{Plays}
 use Rattle.model.specs.Model.{Arrival, arrival, Call, rank}
-use Rattle.model.specs.Claims.{after, said, committedIn, takenInBy, settlingIn, number, Idle, OnceEach, EqualsInOrder, LowerFirst, SettlesIn, NobodyWaits, aloneCalls, QuietExactly, forecast}
+use Rattle.model.specs.Claims.{after, said, committedIn, takenInBy, settlingIn, number, Idle, OnceEach, EqualsInOrder, LowerFirst, SettlesIn, NobodyWaits, aloneCalls, QuietExactly, forecast, previewed, PreviewRight}
 use Rattle.image.specs.Image.{tableOf}
 use Rattle.round.specs.Start.{startOn}
 use Rattle.machine.specs.Machine.{stepOn}
 use Rattle.forecast.specs.Forecast.{forecastOn}
+use Rattle.preview.specs.Preview.{previewOn}
 use Rattle.refinement.specs.Refinement.{coded, callOn, answersOn, roundAfter, View, Kept}
 use Rattle.compiler.specs.Verdict.{compileOn}
 
@@ -83,6 +84,11 @@ pub record OneList (p : Program) (t l₀ l : List ℕ) (cs : List Call) : Type 0
   pub quiet : QuietExactly p cs
   -- ".. The same number is offered as a call of its own on a round .. While something runs, that call gives 01's bound.": 2 ^ 32 and the number
   pub forecast : forecastOn t (roundAfter t cs l) ≡ 4294967296 + forecast p (after p cs)
+  -- 02, M-101: "A preview takes a round, an event and a behaviour, and tells the value that the board would show after this arrival and everything in hand had been run
+  -- to idle. It equals doing so on a copy .. It is turned down as the arrival would be, then by 18": of such a round a step never is, and 01's count is enough
+  pub preview : (e i : ℕ) → previewOn t (roundAfter t cs l) e i ≡ coded (previewed p (after p cs) e i)
+  -- and whichever way the round itself is then run to idle, its board shows that value
+  pub previews : PreviewRight p cs
 
 -- ---- demand 3, every list of calls: for a sheet s that compile accepts, its table in t₀, and a round that start makes in l₀
 

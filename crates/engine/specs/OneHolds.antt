@@ -1,4 +1,4 @@
--- Every sentence of demand 3 and of M-100 about one list of calls, and demand 2's about one event, for an accepted program's table and a fresh round.
+-- Every sentence of demand 3, of M-100 and of M-101 about one list of calls, and demand 2's about one event, for an accepted program's table and a fresh round.
 -- The bytes refine the model engine, and the model engine's claims carry over.
 use Prim.Native.Nat.{ℕ, _-_, _≤_, _<_}
 use mathlib.Core.Bool.{false}
@@ -24,7 +24,7 @@ use Rattle.model.specs.Claims.{after, said, commits, committedIn, settlingIn, n
 use Rattle.model.specs.History.{run-append}
 use Rattle.model.specs.Reached.{Reached, reached}
 use Rattle.model.specs.Alone as lone
-use Rattle.model.specs.ModelHolds.{board-of-commits, once-each, equals-in-order, lower-first, settles-in, nobody-waits, quiet-exactly}
+use Rattle.model.specs.ModelHolds.{board-of-commits, once-each, equals-in-order, lower-first, settles-in, nobody-waits, quiet-exactly, preview-right}
 use Rattle.model.specs.Confluence.{Declared}
 use Rattle.image.specs.Image.{tableOf}
 use Rattle.round.specs.Start.{freshBytes}
@@ -32,6 +32,7 @@ use Rattle.machine.specs.Machine.{stepOn}
 use Rattle.refinement.specs.Refinement.{coded, callOn, roundAfter, View, Agreement}
 use Rattle.refinement.specs.Coded.{answer-to, coded-injective}
 use Rattle.refinement.specs.Refines.{valid, refines, forecasts}
+use Rattle.refinement.specs.Previews.{previews}
 use Rattle.engine.specs.Demand.{buffersAfter, eventsOf, boardOf, IdleNow, OneList}
 use Rattle.engine.specs.Runs.{answers-append, commits-append, commits-ran, next-answer, taken-declared, at-rest}
 
@@ -154,4 +155,6 @@ module _ (p : Program) (ok : Accepted p) (t₀ l₀ : List ℕ) (table-room : 34
     one-event = λ h e d room. one-event cs e d h room;
     quiet = quiet-exactly p facts cs;
     forecast = forecasts p ok t₀ l₀ table-room round-room cs;
+    preview = previews p ok t₀ l₀ table-room round-room cs;
+    previews = preview-right p facts cs;
   }

@@ -9,6 +9,7 @@ ghost use Rattle.arrivals.specs.Arrivals.{arriveOn};
 ghost use Rattle.board.specs.Board.{boardOn};
 ghost use Rattle.machine.specs.Machine.{stepOn};
 ghost use Rattle.forecast.specs.Forecast.{forecastOn};
+ghost use Rattle.preview.specs.Preview.{previewOn};
 ghost use Rattle.refinement.specs.Refinement.{callOn, answersOn, roundAfter};
 ghost use Rattle.engine.specs.Replay.{callOf, callsFrom, putAnswer, putAnswers, callCount};
 
@@ -65,6 +66,16 @@ pub extern "C" fn forecast(table: &[u8], round: &[u8]) -> u64
     ensures { λ _. ⌜ now (round .exit) ≡ now (round .entry) ⌝ }
 {
     forecast::forecast_at(table, round)
+}
+
+// The value of a behaviour after an event's arrival and everything in hand, tried on a copy: 2 ^ 32 and the word; or 14, 15, 16, 17, 18.
+#[no_mangle]
+pub extern "C" fn preview(table: &[u8], round: &[u8], event: u32, behaviour: u32) -> u64
+    ensures { λ r. ⌜ r ≡ previewOn (now (table .entry)) (now (round .entry)) event behaviour ⌝ }
+    ensures { λ _. ⌜ now (table .exit) ≡ now (table .entry) ⌝ }
+    ensures { λ _. ⌜ now (round .exit) ≡ now (round .entry) ⌝ }
+{
+    preview::preview_at(table, round, event, behaviour)
 }
 
 // ---- a recorded list of calls

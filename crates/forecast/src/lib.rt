@@ -33,7 +33,7 @@ fn larger_of(a: u32, b: u32) -> u32
 }
 
 // The instructions of the longest of the first n events.
-fn longest_of(t: &[u8], n: u32) -> u32
+pub fn longest_of(t: &[u8], n: u32) -> u32
     requires { ⌜ TableBounds (now t) × (n ≤ eventCount (now t)) ⌝ }
     ensures { λ r. ⌜ r ≡ longestIn (now (t .entry)) n ⌝ }
     ensures { λ r. ⌜ r ≤ 4096 ⌝ }

@@ -5,14 +5,15 @@ use mathlib.Core.Path.{_≡_}
 use mathlib.Core.Logic.{_≢_}
 use mathlib.Core.List.{List, [], _∷_, _++_, map, List·Permᴰ, List·Memᴰ}
 use lib.ListN.{length, take, replicate}
-use lib.Dec.{ltb}
+use lib.Dec.{ltb, leb}
 use Rattle.base.specs.Basics.{pick, All, Distinct}
 use Rattle.language.specs.Syntax.{Program}
-use Rattle.language.specs.Dependence.{events, Independent}
+use Rattle.language.specs.Refusals as refusals
+use Rattle.language.specs.Dependence.{size, events, Independent}
 use Rattle.language.specs.Code.{code}
 use Rattle.language.specs.Order.{upTo}
 use Rattle.semantics.specs.Meaning.{fresh, play}
-use Rattle.execution.specs.Execution.{copyingBackAfter}
+use Rattle.execution.specs.Execution.{at, copyingBackAfter}
 use Rattle.model.specs.Model.{Arrival, arrival, rest, busy, Engine, engine, initial, queue, Call, arrive, step, board, Answer, refused, takenIn, shows, idle, ran, started, preempted, committed, rank, settling, act, run, answers}
 
 -- ---- what the answers say
@@ -196,3 +197,38 @@ QuietExactly p cs =
 abbrev pub forecast : Program → Engine → ℕ
 forecast p (engine t waiting rest d) = stepsOf p waiting
 forecast p (engine t waiting (busy a c) d) = (length (a ∷ waiting) + 1) * (longest p + 1)
+
+-- ---- document 02, M-101
+
+-- 01's count of steps, k being the number in hand
+abbrev pub countIn : Program → Engine → ℕ
+countIn p w = (length (inQueue w) + 1) * (longest p + 1)
+
+-- the value on the board after that many steps
+abbrev pub shownAfter : Program → Engine → ℕ → Answer
+shownAfter p w i = shows (at (storeOf (run p (replicate (countIn p w) step) w)) i)
+
+-- the arrival's refusal, or the other answer
+abbrev pub unlessRefused : Answer → Answer → Answer
+unlessRefused (refused n) x = refused n
+unlessRefused takenIn x = x
+unlessRefused (shows v) x = x
+unlessRefused idle x = x
+unlessRefused ran x = x
+unlessRefused (started a) x = x
+unlessRefused (preempted a) x = x
+unlessRefused (committed a) x = x
+
+-- "the value that the board would show after this arrival and everything in hand had been run to idle .. turned down as the arrival would be, then by 18"
+abbrev pub previewed : Program → Engine → ℕ → ℕ → Answer
+previewed p w e i =
+    unlessRefused (act p (arrive e) w .answer) (pick (leb (size p) i) (refused refusals.noBehaviour) (shownAfter p (act p (arrive e) w .after) i))
+
+-- whichever way the round is then run to idle, no further arrival taken in, the board shows the previewed value
+abbrev pub PreviewRight : Program → List Call → Type 0
+PreviewRight p cs =
+    (e i : ℕ) (ds : List Call) → i < size p
+    → act p (arrive e) (after p cs) .answer ≡ takenIn
+    → number (after p (cs ++ (arrive e ∷ ds))) ≡ number (after p cs) + 1
+    → Idle p (after p (cs ++ (arrive e ∷ ds)))
+    → previewed p (after p cs) e i ≡ shows (at (storeOf (after p (cs ++ (arrive e ∷ ds)))) i)

@@ -11,6 +11,7 @@ pub mod Lower
 pub mod Settles
 pub mod Waits
 pub mod Quiet
+pub mod Previews
 pub mod Confluence
 pub mod SameBoard
 pub mod ModelHolds

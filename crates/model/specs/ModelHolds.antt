@@ -8,7 +8,7 @@ use Rattle.language.specs.Dependence.{size, events, Independent}
 use Rattle.semantics.specs.Meaning.{event}
 use Rattle.execution.specs.CodeFacts.{CodeFacts}
 use Rattle.model.specs.Model.{Call}
-use Rattle.model.specs.Claims.{BoardOfCommits, OnceEach, EqualsInOrder, LowerFirst, SettlesIn, SameBoard, NobodyWaits, QuietExactly}
+use Rattle.model.specs.Claims.{BoardOfCommits, OnceEach, EqualsInOrder, LowerFirst, SettlesIn, SameBoard, NobodyWaits, QuietExactly, PreviewRight}
 use Rattle.model.specs.Boards as boards
 use Rattle.model.specs.Once as once
 use Rattle.model.specs.Equals as equals
@@ -17,6 +17,7 @@ use Rattle.model.specs.Settles as settles
 use Rattle.model.specs.Waits as waits
 use Rattle.model.specs.SameBoard as same
 use Rattle.model.specs.Quiet as quiet
+use Rattle.model.specs.Previews as previews
 
 module _ (p : Program) (facts : CodeFacts p) where
   pub board-of-commits : (cs : List Call) → BoardOfCommits p cs
@@ -44,3 +45,6 @@ module _ (p : Program) (facts : CodeFacts p) where
 
   pub quiet-exactly : (cs : List Call) → QuietExactly p cs
   quiet-exactly = quiet.quiet-exactly p facts
+
+  pub preview-right : (cs : List Call) → PreviewRight p cs
+  preview-right = previews.preview-right p facts

@@ -133,11 +133,14 @@ module _ (p : Program) where
     empty (engine t (b ∷ l) rest d) h = absurd (omega arith)
     empty (engine t waiting (busy a c) d) h = absurd (omega arith)
 
+    pub settles-from : (w : Engine) → Reached p w → (ds : List Call) → number (run p ds w) ≡ number w
+        → (length (inQueue w) + 1) * (longest p + 1) ≤ steps ds → Idle p (run p ds w)
+    settles-from w r ds e h = settle ds w r e (omega (arith, bound w r))
+
     pub settles-in : (cs : List Call) → SettlesIn p cs
     settles-in cs = (
       λ ds e h.
-          let r : Reached p (after p cs) = reached p facts cs in
           let q : run p (cs ++ ds) (initial p) ≡ run p ds (after p cs) = run-append p cs ds (initial p) in
-          rw q (settle ds (after p cs) r (sym (ap number q) ∙ e) (omega (arith, bound (after p cs) r))),
+          rw q (settles-from (after p cs) (reached p facts cs) ds (sym (ap number q) ∙ e) h),
       empty (after p cs),
     )

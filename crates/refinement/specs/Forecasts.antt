@@ -53,7 +53,7 @@ greatest-last (suc n) f =
     let g : ℕ → ℕ = λ i. f (suc i) in ap (larger (f 0)) (greatest-last n g) ∙ larger-comm (f 0) (f (suc n)) (greatest (upTo n g))
 
 module _ (p : Program) (valid : Valid p) (t : List ℕ) (table : Says p t) where
-  longest-is : (n : ℕ) → n ≤ events p → longestIn t n ≡ greatest (upTo n (λ e. length (code p e)))
+  pub longest-is : (n : ℕ) → n ≤ events p → longestIn t n ≡ greatest (upTo n (λ e. length (code p e)))
   unfolding longestIn greatest upTo
   longest-is zero h = refl
   longest-is (suc n) h = rw (table .lengths n (omega arith), longest-is n (omega arith)) (sym (greatest-last n (λ e. length (code p e))))

@@ -8,3 +8,4 @@ pub mod Forecasts
 pub mod FreshRound
 pub mod Refines
 pub mod Coded
+pub mod Previews

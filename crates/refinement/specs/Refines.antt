@@ -59,10 +59,10 @@ alike-view p l (engine k q r d) R = record {
 -- ---- whole runs
 
 -- `Agreement`, with what each call keeps in place of the view
-record Runs (p : Program) (t l₀ l : List ℕ) (cs : List Call) (w : Engine) : Type 0 where
-  answered : answersOn t cs l ≡ map coded (answers p cs w)
-  alike : Alike (size p) (roundAfter t cs l) (run p cs w)
-  kept : Kept l₀ (roundAfter t cs l)
+pub record Runs (p : Program) (t l₀ l : List ℕ) (cs : List Call) (w : Engine) : Type 0 where
+  pub answered : answersOn t cs l ≡ map coded (answers p cs w)
+  pub alike : Alike (size p) (roundAfter t cs l) (run p cs w)
+  pub kept : Kept l₀ (roundAfter t cs l)
 
 calls-agree : (p : Program) → Accepted p → (t : List ℕ) → Says p t → (l₀ l : List ℕ) (cs : List Call) (w : Engine)
     → Alike (size p) l w → Reached p w → Kept l₀ l → Runs p t l₀ l cs w
@@ -76,7 +76,7 @@ calls-agree p ok t table l₀ l (c ∷ cs) w R i h =
 
 -- p is accepted; t₀ are the bytes lent for the table, l₀ those lent for the round
 module _ (p : Program) (ok : Accepted p) (t₀ l₀ : List ℕ) (table-room : 34816 ≤ length t₀) (round-room : 2048 ≤ length l₀) where
-  says : Says p (tableOf p t₀)
+  pub says : Says p (tableOf p t₀)
   says = table-says p (ok .fits .few-events) (ok .fits .few-behaviours) (length-fresh p) (short-code p ok) t₀ table-room
 
   whole : long l₀ ≡ true
@@ -88,7 +88,7 @@ module _ (p : Program) (ok : Accepted p) (t₀ l₀ : List ℕ) (table-room : 34
   unfolding startOn
   starts = rw (says .fits, le-ltb (length l₀) 2048 round-room)
 
-  runs : (cs : List Call) → Runs p (tableOf p t₀) l₀ (freshBytes (tableOf p t₀) l₀) cs (initial p)
+  pub runs : (cs : List Call) → Runs p (tableOf p t₀) l₀ (freshBytes (tableOf p t₀) l₀) cs (initial p)
   runs cs =
       calls-agree p ok (tableOf p t₀) says l₀ (freshBytes (tableOf p t₀) l₀) cs (initial p)
       (fresh-rel p (tableOf p t₀) says (length-fresh p) l₀ whole) (initially p (code-facts p (valid p ok))) (fresh-kept (tableOf p t₀) l₀ whole)

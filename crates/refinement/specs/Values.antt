@@ -28,7 +28,7 @@ none-some : {v : ℕ} {C : Type 0} → none ≡ some v → C
 none-some e = absurd (false≢true (ap full e))
 
 -- only a place that there is can be filled
-filled-below : (s : List (Option ℕ)) (i v : ℕ) → getD s i none ≡ some v → i < length s
+pub filled-below : (s : List (Option ℕ)) (i v : ℕ) → getD s i none ≡ some v → i < length s
 filled-below s i v e =
     by-cases (decLt i (length s)) (λ h. h) (λ h. none-some (sym (List·getD-eq-default s none (omega arith)) ∙ e))
 

@@ -137,6 +137,14 @@ fn same_round(l: &[u8], m: &Model) {
     }
 }
 
+/// A preview of an event and a behaviour, declared or one past the last, against the model engine's; the round stays.
+fn same_preview(t: &[u8], l: &[u8], m: &Model, k: usize) {
+    let before = l.to_vec();
+    let (e, i) = ((k / 16 % (m.code.len() + 1)) as u32, (k / 5 % (m.board.len() + 1)) as u32);
+    assert_eq!(proved::preview(t, l, e, i), packed(m.preview(e, i)), "preview of {e} and {i} after {k}");
+    assert!(before == l, "a preview changed the round");
+}
+
 /// One list of calls on both engines, from a fresh round; the boards by the commits.
 pub fn run(sheet: &engine::Sheet, table: &Guarded, calls: &[Call]) -> (Model, Vec<usize>) {
     let before = table.part().to_vec();
@@ -158,6 +166,7 @@ pub fn run(sheet: &engine::Sheet, table: &Guarded, calls: &[Call]) -> (Model, Ve
             assert_eq!(m.board, by_commits, "the board of the commits");
         }
         if k % 16 == 0 || k + 1 == calls.len() {
+            same_preview(table.part(), round.part(), &m, k);
             same_round(round.part(), &m);
         }
     }
@@ -230,7 +239,7 @@ fn foreign(r: &mut Rng, sheet: &engine::Sheet, table: &Guarded, tally: &mut Tall
         }
     }
     let t0 = t.part().to_vec();
-    for c in make::calls(r, sheet, 40) {
+    for (k, c) in make::calls(r, sheet, 40).into_iter().enumerate() {
         let mut want = l.part().to_vec();
         let before = want.clone();
         let answer = words::call(t.part(), &mut want, c);
@@ -240,6 +249,10 @@ fn foreign(r: &mut Rng, sheet: &engine::Sheet, table: &Guarded, tally: &mut Tall
         }
         assert_eq!(call(t.part(), l.part_mut(), c), answer, "damaged bytes, {c:?}");
         assert_eq!(proved::forecast(t.part(), l.part()), words::forecast(t.part(), l.part()), "damaged bytes, forecast after {c:?}");
+        if k % 8 == 0 {
+            let (e, i) = ((k / 8 % (sheet.ranks.len() + 1)) as u32, (k / 8) as u32);
+            assert_eq!(proved::preview(t.part(), l.part(), e, i), words::preview(t.part(), l.part(), e, i), "damaged bytes, preview of {e} and {i}");
+        }
         assert!(want == l.part(), "damaged bytes, {c:?}: the round");
     }
     assert!(t0 == t.part(), "a call changed the table");

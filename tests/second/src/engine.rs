@@ -482,6 +482,7 @@ pub enum Answer {
     BrokeIn(u32, usize),
 }
 
+#[derive(Clone)]
 pub struct Model {
     pub sheet: Sheet,
     pub code: Vec<Vec<Instr>>,
@@ -586,6 +587,19 @@ impl Model {
         match self.running {
             None => self.waiting.iter().map(|(_, e)| self.code[*e].len() + 1).sum(),
             Some(_) => (self.in_hand() + 1) * (self.code.iter().map(Vec::len).max().unwrap_or(0) + 1),
+        }
+    }
+
+    /// Document 02, M-101: what the board shows once this arrival and everything in hand are run to idle, on a copy; turned down as the arrival, then by 18.
+    pub fn preview(&self, e: u32, i: u32) -> Answer {
+        let mut copy = self.clone();
+        match copy.call(Call::Arrive(e)) {
+            Answer::Taken if i as usize >= copy.board.len() => Answer::Refused(18),
+            Answer::Taken => {
+                while copy.step() != Answer::Idle {}
+                copy.call(Call::Board(i))
+            }
+            refused => refused,
         }
     }
 

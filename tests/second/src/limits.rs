@@ -107,6 +107,7 @@ fn spent() {
     }
     assert_eq!(proved::step(&table, &mut round), 0, "idle");
     assert_eq!(proved::arrive(&table, &mut round, 0), 17, "the arrival after 1,000,000");
+    assert_eq!(proved::preview(&table, &round, 0, 0), 17, "its preview");
 }
 
 /// S's events have 17 and 8 instructions: each arrival's and its start while nothing runs, the bound as soon as one does.
@@ -180,6 +181,40 @@ fn rest_day() {
     assert!(round == fresh, "a rest day changed the round");
 }
 
+/// Event 0 of S makes (1, 1) to (2, 1) and that to (3, 2); event 1 makes b1 1. A preview tells so and leaves the round, also during copy-back; then what turns it down.
+fn preview() {
+    let mut table = vec![0u8; TABLE];
+    let mut round = vec![0u8; 2048];
+    assert_eq!(proved::compile(&crate::desk::sheet_s(), &mut table), 0);
+    proved::start(&table, &mut round);
+    let value = |round: &[u8], e: u32, i: u32| {
+        let before = round.to_vec();
+        let v = proved::preview(&table, round, e, i) as i64 - (1 << 32);
+        assert!(before == round, "a preview changed the round");
+        v
+    };
+    assert_eq!((value(&round, 0, 0), value(&round, 0, 1)), (2, 1), "event 0 from fresh");
+    proved::arrive(&table, &mut round, 0);
+    assert_eq!((value(&round, 0, 0), value(&round, 0, 1)), (3, 2), "event 0 behind event 0");
+    while proved::board(&table, &round, 0) != 19 {
+        proved::step(&table, &mut round);
+    }
+    assert_eq!((value(&round, 0, 0), value(&round, 0, 1)), (3, 2), "event 0 during copy-back");
+    assert_eq!((value(&round, 1, 0), value(&round, 1, 1)), (2, 1), "event 1 during copy-back");
+    assert_eq!(proved::preview(&table, &round, 2, 2), 15, "15 before 18");
+    assert_eq!(proved::preview(&table, &round, 1, 2), 18, "behaviour 2");
+    assert_eq!(proved::preview(&table[1..], &round, 0, 0), 14, "a table of 34,815 bytes");
+    assert_eq!(proved::preview(&table, &round[1..], 0, 0), 14, "a round of 2,047 bytes");
+    while proved::arrive(&table, &mut round, 0) == 0 {}
+    assert_eq!(proved::preview(&table, &round, 2, 2), 15, "15 before 16");
+    assert_eq!(proved::preview(&table, &round, 0, 2), 16, "16 before 18");
+    proved::start(&table, &mut round);
+    table[2048..2052].fill(0);
+    assert_eq!(proved::preview(&table, &round, 0, 2), 18, "18 before the steps' 14");
+    assert_eq!(proved::preview(&table, &round, 0, 0), 14, "event 0's first instruction is foreign");
+    assert_eq!(proved::arrive(&table, &mut round, 0), 0, "the arrival is not");
+}
+
 fn check(what: &str, sheet: &[u8], want: u32) {
     let mut table = Guarded::new(TABLE + 8, 0x33);
     compare::compile(sheet, &mut table);
@@ -227,6 +262,7 @@ pub fn run() {
     forecast();
     quotients();
     rest_day();
+    preview();
     spent();
-    println!("limits: every refusal of compile, both sides of each limit, forecasts, quotients, a rest day, 1,000,000 arrivals");
+    println!("limits: every refusal of compile, both sides of each limit, forecasts, quotients, a rest day, previews, 1,000,000 arrivals");
 }

@@ -8,6 +8,7 @@ mod c {
         pub fn step(table: *const u8, table_len: usize, round: *mut u8, round_len: usize) -> u64;
         pub fn board(table: *const u8, table_len: usize, round: *const u8, round_len: usize, behaviour: u32) -> u64;
         pub fn forecast(table: *const u8, table_len: usize, round: *const u8, round_len: usize) -> u64;
+        pub fn preview(table: *const u8, table_len: usize, round: *const u8, round_len: usize, event: u32, behaviour: u32) -> u64;
     }
 }
 
@@ -36,4 +37,8 @@ pub fn board(table: &[u8], round: &[u8], behaviour: u32) -> u64 {
 
 pub fn forecast(table: &[u8], round: &[u8]) -> u64 {
     unsafe { c::forecast(table.as_ptr(), table.len(), round.as_ptr(), round.len()) }
+}
+
+pub fn preview(table: &[u8], round: &[u8], event: u32, behaviour: u32) -> u64 {
+    unsafe { c::preview(table.as_ptr(), table.len(), round.as_ptr(), round.len(), event, behaviour) }
 }

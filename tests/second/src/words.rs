@@ -177,3 +177,25 @@ pub fn forecast(t: &[u8], l: &[u8]) -> u64 {
     };
     (1 << 32) + steps
 }
+
+/// Document 02, M-101: the arrival, and steps until idle, on a copy. Turned down as the arrival, then by 18, last by 14 where a step is or 01's count runs out.
+pub fn preview(t: &[u8], l: &[u8], e: u32, i: u32) -> u64 {
+    let mut copy = l.to_vec();
+    let taken = call(t, &mut copy, Call::Arrive(e));
+    if taken != 0 {
+        return taken;
+    }
+    if i >= get(t, 1) {
+        return 18;
+    }
+    let in_hand = get(&copy, 1) + (get(&copy, 2) != 0) as u32;
+    let longest = (0..get(t, 0)).map(|e| record(t, e)[2]).max().unwrap_or(0);
+    for _ in 0..=(in_hand + 1) * (longest + 1) {
+        match call(t, &mut copy, Call::Step) {
+            0 => return (1 << 32) + get(&copy, 136 + i as usize) as u64,
+            14 => return 14,
+            _ => {}
+        }
+    }
+    14
+}

@@ -1,0 +1,128 @@
+-- A preview is the value on the board whichever way the round is run to idle: calls that take nothing in act as their steps alone, idle stays, and idle comes within
+-- 01's count.
+use Prim.Native.Nat.{ℕ, zero, suc, _+_, _-_, _≤_}
+use mathlib.Core.Path.{_≡_, refl, sym, ap, _∙_, subst}
+use mathlib.Core.Logic.{by-cases}
+use mathlib.Core.List.{List, [], _∷_, _++_}
+use native.Mathlib.Decide.{decLt}
+use native.Mathlib.Omega.{arith}
+use lib.Dec.{leb}
+use lib.ListN.{replicate}
+use borrow.Author.Tests.{lt-leb}
+use Rattle.base.specs.Basics.{pick}
+use Rattle.language.specs.Syntax.{Program}
+use Rattle.language.specs.Refusals as refusals
+use Rattle.language.specs.Dependence.{size}
+use Rattle.execution.specs.Execution.{at}
+use Rattle.execution.specs.CodeFacts.{CodeFacts}
+use Rattle.model.specs.Model.{rest, busy, Engine, engine, initial, Call, arrive, step, board, Answer, refused, shows, act, run}
+use Rattle.model.specs.Claims.{number, storeOf, Idle, after, steps, countIn, shownAfter, unlessRefused, PreviewRight}
+use Rattle.model.specs.Moves.{Effect, Cases, effect, act-by}
+use Rattle.model.specs.Reached.{Reached, act-keeps, reached}
+use Rattle.model.specs.History.{run-append, counted, act-number, act-grows, run-grows}
+use Rattle.model.specs.Once.{idle-empty}
+use Rattle.model.specs.Settles.{settles-from}
+
+abbrev pub onlySteps : ℕ → List Call
+onlySteps n = replicate n step
+
+abbrev IsStep : Call → Type 0
+IsStep (arrive e) = ⊥
+IsStep step = Unit {0}
+IsStep (board i) = ⊥
+
+module _ (p : Program) where
+  -- ---- calls that take nothing in
+
+  -- a step takes nothing in; any other call that takes nothing in changes nothing
+  abbrev Still : Call → Engine → Effect → Engine → Type 0
+  Still c w x v = (IsStep c → number v ≡ number w) × ((IsStep c → ⊥) → number v ≡ number w → v ≡ w)
+
+  still : Cases p Still
+  still = record {
+    refuses = λ e w. (λ s. refl, λ s z. refl);
+    takes = λ e t waiting r d k m n. (λ s. absurd s, λ s z. absurd (omega arith));
+    reads = λ i w. (λ s. refl, λ s z. refl);
+    idles = λ t d. (λ s. refl, λ s z. refl);
+    starts = λ t b l d. (λ s. refl, λ s z. absurd (s tt));
+    preempts = λ t b l a n d u o. (λ s. refl, λ s z. absurd (s tt));
+    runs = λ t waiting a n d k u. (λ s. refl, λ s z. absurd (s tt));
+    commits = λ t waiting a n d k u. (λ s. refl, λ s z. absurd (s tt));
+  }
+
+  as-steps : (ds : List Call) (w : Engine) → number (run p ds w) ≡ number w → run p ds w ≡ run p (onlySteps (steps ds)) w
+  unfolding run steps
+  as-steps [] w h = refl
+  as-steps (step ∷ ds) w h = as-steps ds (act p step w .after) (h ∙ sym (act-by p Still still step w .0 tt))
+  as-steps (arrive e ∷ ds) w h =
+      let v : Engine = act p (arrive e) w .after in
+      let a : number w ≤ number v = act-grows p (arrive e) w in
+      let b : number v ≤ number (run p ds v) = run-grows p ds v in
+      let same : number v ≡ number w = omega arith in
+      as-steps ds v (h ∙ sym same) ∙ ap (run p (onlySteps (steps ds))) (act-by p Still still (arrive e) w .1 (λ s. s) same)
+  as-steps (board i ∷ ds) w h =
+      let v : Engine = act p (board i) w .after in
+      let a : number w ≤ number v = act-grows p (board i) w in
+      let b : number v ≤ number (run p ds v) = run-grows p ds v in
+      let same : number v ≡ number w = omega arith in
+      as-steps ds v (h ∙ sym same) ∙ ap (run p (onlySteps (steps ds))) (act-by p Still still (board i) w .1 (λ s. s) same)
+
+  none-taken : (n : ℕ) (w : Engine) → number (run p (onlySteps n) w) ≡ number w
+  unfolding run
+  none-taken zero w = refl
+  none-taken (suc n) w = none-taken n (act p step w .after) ∙ act-by p Still still step w .0 tt
+
+  count-steps : (n : ℕ) → steps (onlySteps n) ≡ n
+  unfolding steps
+  count-steps zero = refl
+  count-steps (suc n) = ap suc (count-steps n)
+
+  -- ---- idle stays
+
+  pub idle-stays : (w : Engine) → Idle p w → act p step w .after ≡ w
+  unfolding act
+  idle-stays (engine t [] rest d) h = refl
+  idle-stays (engine t (b ∷ l) rest d) h = cc
+  idle-stays (engine t waiting (busy a c) d) h =
+      let z : _≡_ {A = ℕ} 1 0 = cc (idle-empty p (engine t waiting (busy a c) d) h) in absurd (omega arith)
+
+  pub idle-steps : (n : ℕ) (w : Engine) → Idle p w → run p (onlySteps n) w ≡ w
+  unfolding run
+  idle-steps zero w h = refl
+  idle-steps (suc n) w h = ap (run p (onlySteps n)) (idle-stays w h) ∙ idle-steps n w h
+
+  steps-add : (m n : ℕ) (w : Engine) → run p (onlySteps (m + n)) w ≡ run p (onlySteps n) (run p (onlySteps m) w)
+  unfolding run
+  steps-add zero n w = let z : 0 + n ≡ n = omega arith in rw z
+  steps-add (suc m) n w = let z : suc m + n ≡ suc (m + n) = omega arith in rw z (steps-add m n (act p step w .after))
+
+  longer : (m n : ℕ) (w : Engine) → m ≤ n → Idle p (run p (onlySteps m) w) → run p (onlySteps m) w ≡ run p (onlySteps n) w
+  longer m n w b h =
+      let z : n ≡ m + (n - m) = omega arith in
+      let q : run p (onlySteps (m + (n - m))) w ≡ run p (onlySteps m) w = steps-add m (n - m) w ∙ idle-steps (n - m) (run p (onlySteps m) w) h in
+      sym q ∙ ap (λ (k : ℕ). run p (onlySteps k) w) (sym z)
+
+  -- idle after m steps and after n: the same engine
+  one-idle : (m n : ℕ) (w : Engine) → Idle p (run p (onlySteps m) w) → Idle p (run p (onlySteps n) w) → run p (onlySteps m) w ≡ run p (onlySteps n) w
+  one-idle m n w h g = by-cases (decLt m n) (λ b. longer m n w (omega arith) h) (λ b. sym (longer n m w (omega arith) g))
+
+  module _ (facts : CodeFacts p) where
+    -- ---- 01's count is enough
+
+    pub idle-within : (w : Engine) → Reached p w → Idle p (run p (onlySteps (countIn p w)) w)
+    idle-within w r =
+        settles-from p facts w r (onlySteps (countIn p w)) (none-taken (countIn p w) w) (omega (arith, count-steps (countIn p w)))
+
+    pub preview-right : (cs : List Call) → PreviewRight p cs
+    unfolding run
+    preview-right cs e i ds b t h g =
+        let w : Engine = after p cs in
+        let v : Engine = act p (arrive e) w .after in
+        let q : after p (cs ++ (arrive e ∷ ds)) ≡ run p ds v = run-append p cs (arrive e ∷ ds) (initial p) in
+        let one : number v ≡ number w + 1 =
+        act-number p (arrive e) w ∙ ap (λ (a : Answer). counted (effect (arrive e) a (number w)) (number w)) t in
+        let k : run p ds v ≡ run p (onlySteps (steps ds)) v = as-steps ds v (sym (ap number q) ∙ h ∙ sym one) in
+        let settled : Idle p (run p (onlySteps (countIn p v)) v) = idle-within v (act-keeps p facts (arrive e) w (reached p facts cs)) in
+        let same = one-idle (countIn p v) (steps ds) v settled (subst (Idle p) (q ∙ k) g) in
+        ap (λ (a : Answer). unlessRefused a (pick (leb (size p) i) (refused refusals.noBehaviour) (shownAfter p v i))) t
+        ∙ rw (lt-leb (size p) i b) (ap (λ (u : Engine). shows (at (storeOf u) i)) (same ∙ sym k ∙ sym q))

@@ -1,0 +1,12 @@
+-- Each return is one branch of the definition.
+use Rattle.base.specs.Pick.{code}
+use Rattle.preview.specs.Preview.{previewAfter}
+use borrow.Author.Needs.{needs}
+use Rattle.preview.proofs.preview_after.Statement.{statement}
+use Rattle.preview.proofs.preview_after.Tie as tie
+
+pub preview-after-spec : {M : Type 1} → statement M
+unfolding previewAfter
+preview-after-spec =
+    tie.close
+    (tie.spec (λ c κs. search needs) (λ c. search needs) (λ c. rw (← c .before .before .preview-taken .ensures) (search code depth 12)) (λ c. search code depth 12))

@@ -1,0 +1,31 @@
+-- A foreign table refuses the arrival; any other is within its bounds, and then the callees' answers are put together.
+use Prim.Native.Nat.{ℕ}
+use mathlib.Core.Bool.{false}
+use mathlib.Core.Path.{_≡_, sym, ap, _∙_}
+use mathlib.Core.List.{List}
+use Rattle.layout.specs.Layout.{tableFits, ours}
+use Rattle.round.specs.Start.{Result, result}
+use Rattle.arrivals.specs.Arrivals.{arriveOn}
+use Rattle.preview.specs.Preview.{previewAfter, previewCopy}
+use borrow.Author.Needs.{needs}
+use Rattle.preview.proofs.preview_copy.Statement.{statement}
+use Rattle.preview.proofs.preview_copy.Tie as tie
+
+foreign-table : (t l : List ℕ) (e i : ℕ) → tableFits t ≡ false → 14 ≡ previewCopy t l e i
+unfolding previewCopy previewAfter arriveOn ours
+foreign-table t l e i h = rw h
+
+together : (t l : List ℕ) (e i : ℕ) {a x : ℕ} {m : List ℕ} → result a m ≡ arriveOn t l e → x ≡ previewAfter t (result a m) i → x ≡ previewCopy t l e i
+unfolding previewCopy
+together t l e i f g = g ∙ ap (λ (o : Result). previewAfter t o i) f
+
+pub preview-copy-spec : {M : Type 1} → statement M
+preview-copy-spec =
+    tie.close
+    (tie.spec
+    (λ c κs. search needs)
+    (λ c κs. search needs)
+    (λ c κs. (c .before .before .before .before .before .before .table-fits .ensures .1 (c .before .before .before .before .before .if1 .taken), search needs))
+    (λ c. search needs)
+    (λ c. together _ _ _ _ (c .before .before .before .before .before .before .arrive-at .ensures) (c .before .before .preview-after .ensures))
+    (λ c. foreign-table _ _ _ _ (sym (c .before .table-fits .ensures .0) ∙ c .if1 .left)))
