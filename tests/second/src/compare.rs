@@ -7,6 +7,11 @@ use crate::words::{self, get as word};
 
 const GUARD: usize = 64;
 
+/// Parts of a seed that have calls of their own.
+const ARRIVALS: &str = "arrivals";
+const TWO_PHONES: &str = "two-phones";
+pub const DAMAGED: &str = "damaged";
+
 /// A buffer with guards on both sides, filled with a pattern.
 pub struct Guarded {
     bytes: Vec<u8>,
@@ -194,17 +199,16 @@ fn settle(sheet: &engine::Sheet, table: &Guarded, calls: &[Call]) -> Model {
 }
 
 /// Arrivals alone, so that nothing runs when the forecast is asked for.
-fn quiet(sheet: &engine::Sheet, table: &Guarded, calls: &[Call]) {
-    let arrivals: Vec<Call> = calls.iter().copied().filter(|c| matches!(c, Call::Arrive(_))).collect();
-    settle(sheet, table, &arrivals);
+fn arrivals(calls: &[Call]) -> Vec<Call> {
+    calls.iter().copied().filter(|c| matches!(c, Call::Arrive(_))).collect()
 }
 
-/// Two cuts of the same arrivals: equal boards where events of unequal rank are independent.
-fn two_phones(r: &mut Rng, sheet: &engine::Sheet, table: &Guarded) -> bool {
+/// Two cuts of the same arrivals, where events of unequal rank are independent.
+fn phones_of(r: &mut Rng, sheet: &engine::Sheet) -> Option<[Vec<Call>; 2]> {
     let n = sheet.ranks.len();
     let apart = (0..n).all(|e| (0..n).all(|f| sheet.ranks[e] == sheet.ranks[f] || sheet.independent(e, f)));
     if n == 0 || !apart {
-        return false;
+        return None;
     }
     let arrivals: Vec<u32> = (0..1 + r.below(12)).map(|_| r.below(n) as u32).collect();
     let cut = |r: &mut Rng| {
@@ -215,19 +219,122 @@ fn two_phones(r: &mut Rng, sheet: &engine::Sheet, table: &Guarded) -> bool {
         }
         calls
     };
-    let (a, b) = (cut(r), cut(r));
-    assert_eq!(settle(sheet, table, &a).board, settle(sheet, table, &b).board, "two phones");
-    true
+    Some([cut(r), cut(r)])
+}
+
+/// The boards of two cuts are equal.
+fn two_phones(sheet: &engine::Sheet, table: &Guarded, [a, b]: &[Vec<Call>; 2]) {
+    assert_eq!(settle(sheet, table, a).board, settle(sheet, table, b).board, "two phones");
+}
+
+/// A length below, at or beyond the one due.
+fn length(r: &mut Rng, due: usize) -> usize {
+    match r.below(5) {
+        0 => due - 1,
+        1 => r.below(due),
+        2 => due,
+        _ => due + 8,
+    }
+}
+
+/// A table with a count or an event's code at its limit or one off, or with any byte among its counts, events and values changed.
+fn damage(r: &mut Rng, t: &mut [u8]) {
+    if t.len() < 800 {
+        return;
+    }
+    let near = |r: &mut Rng, limit: usize| (limit - 1 + r.below(3)) as u32;
+    match r.below(4) {
+        0 => words::put(t, 0, near(r, 32)),
+        1 => words::put(t, 1, near(r, 64)),
+        2 => {
+            let (e, from) = (r.below(word(t, 0).clamp(1, 32) as usize), r.below(4096) as u32);
+            words::put(t, 9 + 4 * e, from);
+            words::put(t, 10 + 4 * e, near(r, 4096) - from);
+        }
+        _ => t[r.below(800)] = r.next() as u8,
+    }
+}
+
+/// start on damaged tables and buffers of all lengths, over any old bytes: the answer and each byte as the plain reading of the words says.
+fn starts(r: &mut Rng, table: &Guarded, tally: &mut Tally) {
+    for _ in 0..8 {
+        let mut t = Guarded::new(length(r, TABLE), 0);
+        let n = t.part().len();
+        t.part_mut().copy_from_slice(&table.part()[..n]);
+        for _ in 0..r.below(3) {
+            damage(r, t.part_mut());
+        }
+        let mut l = Guarded::new(length(r, ROUND), r.next() as u8);
+        let (t0, mut want) = (t.part().to_vec(), l.part().to_vec());
+        let answer = words::start(&t0, &mut want);
+        assert_eq!(proved::start(t.part(), l.part_mut()), answer, "start");
+        assert!(want == l.part(), "start: the round");
+        assert!(t0 == t.part(), "start changed the table");
+        t.check();
+        l.check();
+        tally.starts[(answer == 0) as usize] += 1;
+    }
+}
+
+/// Five bytes for each call, as replay reads them; a board reading has any kind above 1.
+fn recorded(r: &mut Rng, calls: &[Call]) -> Vec<u8> {
+    let mut out = Vec::new();
+    for c in calls {
+        let (kind, n) = match c {
+            Call::Arrive(e) => (0, *e),
+            Call::Step => (1, r.next() as u32),
+            Call::Board(i) => (2 + r.below(254) as u8, *i),
+        };
+        out.push(kind);
+        out.extend(n.to_be_bytes());
+    }
+    out
+}
+
+/// replay of recorded bytes against the same calls made one by one: how many, the answers, the round, and nothing beyond.
+fn same_replay(t: &[u8], l: &[u8], calls: &[Call], bytes: &[u8], room: usize) {
+    let made = (bytes.len() / 5).min(room / 8);
+    let mut one_by_one = l.to_vec();
+    let mut want = vec![0xC3; room];
+    for (k, c) in calls[..made].iter().enumerate() {
+        want[8 * k..8 * k + 8].copy_from_slice(&call(t, &mut one_by_one, *c).to_be_bytes());
+    }
+    let (mut round, mut answers) = (Guarded::new(l.len(), 0), Guarded::new(room, 0xC3));
+    round.part_mut().copy_from_slice(l);
+    assert_eq!(proved::replay(t, round.part_mut(), bytes, answers.part_mut()), made, "replay: calls made");
+    assert!(want == answers.part(), "replay: answers");
+    assert!(one_by_one == round.part(), "replay: the round");
+    round.check();
+    answers.check();
+}
+
+/// replay of a list from a fresh round: whole, its last call torn, with too little room, from a damaged round, on short buffers.
+fn replays(r: &mut Rng, table: &Guarded, calls: &[Call]) {
+    let t = table.part().to_vec();
+    let mut l = vec![0x5A; ROUND + 8];
+    assert_eq!(proved::start(&t, &mut l), 0);
+    let bytes = recorded(r, calls);
+    let room = 8 * calls.len();
+    same_replay(&t, &l, calls, &bytes, room);
+    same_replay(&t, &l, calls, &bytes, room + r.below(20));
+    same_replay(&t, &l, calls, &bytes[..r.below(bytes.len() + 1)], room);
+    same_replay(&t, &l, calls, &bytes, r.below(room + 1));
+    same_replay(&t[..TABLE - 1], &l, calls, &bytes, room);
+    same_replay(&t, &l[..r.below(ROUND)], calls, &bytes, room);
+    let at = r.below(40);
+    l[at] = r.next() as u8;
+    same_replay(&t, &l, calls, &bytes, room);
+    assert!(t == table.part(), "replay changed the table");
 }
 
 /// Damaged table or round bytes: each call answers and leaves what the plain reading of the words says, and nothing else changes.
-fn foreign(r: &mut Rng, sheet: &engine::Sheet, table: &Guarded, tally: &mut Tally) {
+fn foreign(r: &mut Rng, sheet: &engine::Sheet, table: &Guarded, opening: &[Call], tally: &mut Tally) {
     let mut t = Guarded::new(TABLE + 8, 0);
     t.part_mut().copy_from_slice(&table.part()[..TABLE + 8]);
     let mut l = Guarded::new(ROUND + 8, 0x77);
     proved::start(t.part(), l.part_mut());
-    for c in make::calls(r, sheet, 20) {
-        call(t.part(), l.part_mut(), c);
+    for c in opening {
+        call(t.part(), l.part_mut(), *c);
     }
     for _ in 0..1 + r.below(4) {
         let (at, v) = (r.below(600), if r.one_in(2) { r.next() as u8 } else { r.below(70) as u8 });
@@ -260,38 +367,69 @@ fn foreign(r: &mut Rng, sheet: &engine::Sheet, table: &Guarded, tally: &mut Tall
     l.check();
 }
 
+#[derive(Default)]
 pub struct Tally {
     pub accepted: usize,
     pub refused: [usize; 32],
     pub calls: usize,
     pub pairs: usize,
     pub foreign: usize,
+    /// Refused and made.
+    pub starts: [usize; 2],
+    /// What a seed is being held against: named where it differs.
+    pub part: &'static str,
 }
 
-/// The bytes of a seed's sheet.
-fn sheet_of(r: &mut Rng) -> Vec<u8> {
-    let bytes = make::encode(&make::sheet(r));
-    if r.one_in(2) { make::damaged(r, bytes) } else { bytes }
+/// All that a seed stands for; what is drawn later comes from `rest`.
+struct Case {
+    bytes: Vec<u8>,
+    fill: u8,
+    calls: Vec<Call>,
+    phones: Option<[Vec<Call>; 2]>,
+    /// Calls before bytes are damaged.
+    opening: Vec<Call>,
+    rest: Rng,
 }
 
-fn calls_of(r: &mut Rng, sheet: &engine::Sheet) -> Vec<Call> {
-    let n = if r.one_in(20) { 3000 } else { 200 };
-    make::calls(r, sheet, n)
+impl Case {
+    fn new(seed: u64) -> Case {
+        let mut r = Rng::new(seed);
+        let whole = make::encode(&make::sheet(&mut r));
+        let bytes = if r.one_in(2) { make::damaged(&mut r, whole) } else { whole };
+        let fill = r.next() as u8;
+        let Ok(sheet) = engine::compile(&bytes) else {
+            return Case { bytes, fill, calls: vec![], phones: None, opening: vec![], rest: r };
+        };
+        let n = if r.one_in(20) { 3000 } else { 200 };
+        let calls = make::calls(&mut r, &sheet, n);
+        let phones = phones_of(&mut r, &sheet);
+        let opening = make::calls(&mut r, &sheet, 20);
+        Case { bytes, fill, calls, phones, opening, rest: r }
+    }
 }
 
-/// A seed's sheet and calls as the desk program reads them: to replay a case that differs.
-pub fn script(seed: u64) -> Vec<u8> {
-    let r = &mut Rng::new(seed);
-    let bytes = sheet_of(r);
-    r.next();
-    let mut out = desk::sheet(&bytes);
-    if let Ok(sheet) = engine::compile(&bytes) {
-        for c in calls_of(r, &sheet) {
+/// The part of a seed that differs, as the desk program reads it: its sheet and calls, run to idle, two phones one after the other; or the calls up to where bytes are damaged.
+pub fn script(seed: u64, part: &str) -> Vec<u8> {
+    let case = Case::new(seed);
+    let lists = match part {
+        ARRIVALS => vec![arrivals(&case.calls)],
+        TWO_PHONES => case.phones.unwrap().to_vec(),
+        DAMAGED => vec![case.opening],
+        _ => vec![case.calls],
+    };
+    let mut out = Vec::new();
+    for calls in lists {
+        out.extend(desk::sheet(&case.bytes));
+        for c in calls {
             out.extend(match c {
                 Call::Arrive(e) => desk::arrive(e as u8),
                 Call::Step => desk::steps(1),
                 Call::Board(_) => desk::show(),
             });
+        }
+        if part != DAMAGED {
+            (0..5).for_each(|_| out.extend(desk::steps(u16::MAX)));
+            out.extend(desk::show());
         }
     }
     out
@@ -299,19 +437,29 @@ pub fn script(seed: u64) -> Vec<u8> {
 
 /// One seed's worth of everything.
 pub fn one(seed: u64, tally: &mut Tally) {
-    let r = &mut Rng::new(seed);
-    let bytes = sheet_of(r);
-    let mut table = Guarded::new(TABLE + 32, r.next() as u8);
-    match compile(&bytes, &mut table) {
-        None => tally.refused[proved::compile(&bytes, table.part_mut()) as usize] += 1,
-        Some(sheet) => {
-            tally.accepted += 1;
-            let calls = calls_of(r, &sheet);
-            tally.calls += calls.len();
-            settle(&sheet, &table, &calls);
-            quiet(&sheet, &table, &calls);
-            tally.pairs += two_phones(r, &sheet, &table) as usize;
-            foreign(r, &sheet, &table, tally);
-        }
+    let mut case = Case::new(seed);
+    let r = &mut case.rest;
+    tally.part = "compile";
+    let mut table = Guarded::new(TABLE + 32, case.fill);
+    let Some(sheet) = compile(&case.bytes, &mut table) else {
+        tally.refused[proved::compile(&case.bytes, table.part_mut()) as usize] += 1;
+        return;
+    };
+    tally.accepted += 1;
+    tally.calls += case.calls.len();
+    tally.part = "list";
+    settle(&sheet, &table, &case.calls);
+    tally.part = ARRIVALS;
+    settle(&sheet, &table, &arrivals(&case.calls));
+    if let Some(phones) = &case.phones {
+        tally.part = TWO_PHONES;
+        tally.pairs += 1;
+        two_phones(&sheet, &table, phones);
     }
+    tally.part = DAMAGED;
+    foreign(r, &sheet, &table, &case.opening, tally);
+    tally.part = "start";
+    starts(r, &table, tally);
+    tally.part = "replay";
+    replays(r, &table, &case.calls);
 }

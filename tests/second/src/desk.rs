@@ -105,44 +105,29 @@ pub fn show() -> Vec<u8> {
     field(0x23, &[])
 }
 
-/// The rounds to check and the traps, each with what must be printed.
-fn rounds() -> Vec<(&'static str, Vec<u8>, &'static str)> {
+/// A script, what it is about, and what must be printed.
+type Round = (&'static str, Vec<u8>, &'static str);
+
+/// One event after the other, each run to idle, then a show.
+fn all(s: &[u8], events: &[u8]) -> Vec<u8> {
+    let runs: Vec<Vec<u8>> = events.iter().map(|e| join(&[arrive(*e), steps(60)])).collect();
+    join(&[sheet(s), join(&runs), show()])
+}
+
+/// The rounds to check.
+fn rounds() -> Vec<Round> {
     let s = sheet_s();
-    let all = |sheet_: &[u8], events: &[u8]| {
-        let mut v = sheet(sheet_);
-        for e in events {
-            v.extend(arrive(*e));
-            v.extend(steps(60));
-        }
-        v.extend(show());
-        v
-    };
     let pair = |a: u8, b: u8| join(&[event(1), active(1, &[handler(0, a, &name(1))]), active(2, &[handler(0, b, &name(0))])]);
     let one = |e: Vec<u8>| join(&[event(0), active(0, &[handler(0, 0, &e)])]);
     let follows = |phase: u8| join(&[event(1), active(0, &[handler(0, phase, &name(1))]), passive(&app(4, &[name(0), con(1)]))]);
-    let equals = join(&[
-        event(1),
-        event(1),
-        event(9),
-        active(1, &[handler(0, 0, &app(4, &[name(0), con(1)])), handler(1, 0, &app(6, &[name(0), con(2)]))]),
-        active(0, &[handler(2, 0, &con(7))]),
-    ]);
-    let full = |after: &[Vec<u8>]| {
-        let mut v = sheet(&s);
-        for _ in 0..65 {
-            v.extend(arrive(0));
-        }
-        after.iter().for_each(|a| v.extend(a));
-        v
-    };
+    let full = |after: &[Vec<u8>]| join(&[sheet(&s), join(&vec![arrive(0); 65]), join(after)]);
     vec![
         ("the example", join(&[sheet(&s), arrive(0), steps(18), show()]), "C 0 0\nB 2 1\n"),
         ("three times", all(&s, &[0, 0, 0]), "C 0 0\nC 1 0\nC 2 0\nB 5 3\n"),
         ("then 1, 0", all(&s, &[0, 0, 0, 1, 0]), "C 0 0\nC 1 0\nC 2 0\nC 3 1\nC 4 0\nB 6 5\n"),
         ("0, 1 instead", all(&s, &[0, 0, 0, 0, 1]), "C 0 0\nC 1 0\nC 2 0\nC 3 0\nC 4 1\nB 8 1\n"),
-        ("17 and 8 instructions", join(&[sheet(&s), arrive(0), steps(17), steps(1), arrive(1), steps(8), steps(1)]), "C 0 0\nC 1 1\n"),
+        ("17 and 8 instructions", join(&[sheet(&s), arrive(0), steps(17), show(), steps(1), arrive(1), steps(8), show(), steps(1)]), "R 19\nC 0 0\nR 19\nC 1 1\n"),
         ("immediate, later", all(&pair(0, 1), &[0]), "C 0 0\nB 2 2\n"),
-        ("both later", all(&pair(1, 1), &[0]), "C 0 0\nB 2 1\n"),
         ("both immediate", sheet(&pair(0, 0)), "R 12\n"),
         ("passive, later", all(&follows(1), &[0]), "C 0 0\nB 1 2\n"),
         ("passive, immediate", sheet(&follows(0)), "R 12\n"),
@@ -151,8 +136,38 @@ fn rounds() -> Vec<(&'static str, Vec<u8>, &'static str)> {
         ("5 / 0", all(&one(app(7, &[con(5), con(0)])), &[0]), "C 0 0\nB 0\n"),
         ("64 pass", full(&[]), "R 16\n"),
         ("one more after a commit", full(&[steps(18), arrive(0), arrive(0)]), "R 16\nC 0 0\nR 16\n"),
+    ]
+}
+
+/// The traps. The events of both sheets but H of the first have ten instructions: off, copy, on, two values, the function, the store, off, copy back, on; with the start, step n makes
+/// instruction n - 1. So a break-in is possible after steps 4 to 8, and steps 9 and 10 end in copy-back.
+fn traps() -> Vec<Round> {
+    let equals = join(&[
+        event(1),
+        event(1),
+        event(9),
+        active(1, &[handler(0, 0, &app(4, &[name(0), con(1)])), handler(1, 0, &app(6, &[name(0), con(2)]))]),
+        active(0, &[handler(2, 0, &con(7))]),
+    ]);
+    let same = join(&[event(1), event(2), active(1, &[handler(0, 0, &app(4, &[name(0), con(1)])), handler(1, 0, &app(6, &[name(0), con(10)]))])]);
+    let again = |n: u16| join(&[sheet(&same), arrive(0), steps(n), arrive(1), steps(11), show(), steps(11), show()]);
+    let swap = join(&[event(1), active(1, &[handler(0, 1, &name(1))]), active(2, &[handler(0, 1, &name(0))])]);
+    let late = join(&[arrive(2), show(), steps(1), show(), steps(1), show(), steps(60), show()]);
+    vec![
         ("equal ranks A, B", join(&[sheet(&equals), arrive(0), arrive(1), steps(3), arrive(2), steps(100), show()]), "C 2 2\nC 0 0\nC 1 1\nB 4 7\n"),
-        ("no break-in in copy-back", join(&[sheet(&equals), arrive(0), steps(11), arrive(2), steps(1), show()]), ""),
+        ("no old scratch, past the copies", again(4), "C 1 1\nB 10\nC 0 0\nB 11\n"),
+        ("no old stack", again(6), "C 1 1\nB 10\nC 0 0\nB 11\n"),
+        ("no old scratch, past the store", again(8), "C 1 1\nB 10\nC 0 0\nB 11\n"),
+        ("both later", all(&swap, &[0]), "C 0 0\nB 2 1\n"),
+        ("a break-in just before copy-back", join(&[sheet(&equals), arrive(0), steps(8), arrive(2), steps(60), show()]), "C 1 2\nC 0 0\nB 2 7\n"),
+        ("no break-in in copy-back", join(&[sheet(&equals), arrive(0), steps(9), late]), "R 19\nR 19\nC 0 0\nB 2 0\nC 1 2\nB 2 7\n"),
+    ]
+}
+
+/// What the desk program does with its fields.
+fn manners() -> Vec<Round> {
+    let s = sheet_s();
+    vec![
         ("no behaviours", join(&[sheet(&event(1)), show(), arrive(0), steps(4), show(), steps(1), show()]), "B\nR 19\nC 0 0\nB\n"),
         ("before a sheet", join(&[arrive(0), steps(1), show(), sheet(&s), show()]), "R 14\nR 14\nR 14\nB 1 1\n"),
         ("a refused sheet leaves the round", join(&[sheet(&s), arrive(0), steps(18), sheet(&[9]), show()]), "C 0 0\nR 4\nB 2 1\n"),
@@ -182,12 +197,9 @@ fn two_phones(program: &str) {
 }
 
 pub fn run(program: &str, seeds: u64) {
-    for (what, input, want) in rounds() {
-        let got = play(program, &input);
-        assert_eq!(got, expected(&input), "{what}: second engine");
-        if !want.is_empty() {
-            assert_eq!(got, want, "{what}");
-        }
+    for (what, input, want) in [rounds(), traps(), manners()].concat() {
+        assert_eq!(play(program, &input), want, "{what}");
+        assert_eq!(expected(&input), want, "{what}: second engine");
     }
     two_phones(program);
     let whole = join(&[sheet(&sheet_s()), arrive(0), steps(18), show()]);

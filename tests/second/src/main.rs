@@ -1,15 +1,17 @@
 //! Holds the proved engine against a plain one.
 //!
-//! second compare FIRST COUNT   sheets, tables, answers, rounds and damaged bytes on COUNT seeds from FIRST on
+//! second compare FIRST COUNT   sheets, tables, answers, rounds, damaged bytes, starts and replays on COUNT seeds from FIRST on
 //! second limits                every refusal of compile, and both sides of each limit
 //! second bench [FILE.svg]      times against the plain engine, and the paper's experiment
 //! second desk PROGRAM SEEDS    the desk program on the scope's rounds and traps, torn input and scripts made at random
+//! second page PAGE PROGRAM INPUT   the setter's page against the desk program and its example
 mod bench;
 mod compare;
 mod desk;
 mod engine;
 mod limits;
 mod make;
+mod page;
 mod proved;
 mod words;
 
@@ -21,26 +23,30 @@ fn main() {
         Some("limits") => limits::run(),
         Some("bench") => bench::run(words.get(2)),
         Some("desk") => desk::run(&words[2], number(3, 200)),
+        Some("page") => page::run(&words[2], &words[3], &words[4]),
         _ => {
-            println!("second compare FIRST COUNT | limits | bench [FILE.svg] | desk PROGRAM SEEDS");
+            println!("second compare FIRST COUNT | limits | bench [FILE.svg] | desk PROGRAM SEEDS | page PAGE PROGRAM INPUT");
             std::process::exit(2);
         }
     }
 }
 
 fn compare(first: u64, count: u64) {
-    let mut tally = compare::Tally { accepted: 0, refused: [0; 32], calls: 0, pairs: 0, foreign: 0 };
+    let mut tally = compare::Tally::default();
     println!("seeds {first} to {}", first + count - 1);
     for seed in first..first + count {
         let done = std::panic::catch_unwind(std::panic::AssertUnwindSafe(|| compare::one(seed, &mut tally)));
         if done.is_err() {
-            let file = format!("seed-{seed}.desk");
-            let _ = std::fs::write(&file, compare::script(seed));
-            println!("seed {seed} differs; {file} replays it at the desk program");
+            let part = tally.part;
+            let file = format!("seed-{seed}-{part}.desk");
+            let _ = std::fs::write(&file, compare::script(seed, part));
+            let until = if part == compare::DAMAGED { " up to the damage" } else { "" };
+            println!("seed {seed} differs, part {part}; {file} replays its sheet and calls{until} at the desk program");
             std::process::exit(1);
         }
     }
-    print!("accepted {}, calls {}, pairs of phones {}, foreign {}; sheets refused", tally.accepted, tally.calls, tally.pairs, tally.foreign);
+    let [not_started, started] = tally.starts;
+    print!("accepted {}, calls {}, pairs of phones {}, foreign {}, starts {started} and {not_started} refused; sheets refused", tally.accepted, tally.calls, tally.pairs, tally.foreign);
     for (n, k) in tally.refused.iter().enumerate().filter(|(_, k)| **k > 0) {
         print!(" {n}:{k}");
     }

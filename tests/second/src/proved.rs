@@ -6,6 +6,7 @@ mod c {
         pub fn start(table: *const u8, table_len: usize, round: *mut u8, round_len: usize) -> u32;
         pub fn arrive(table: *const u8, table_len: usize, round: *mut u8, round_len: usize, event: u32) -> u32;
         pub fn step(table: *const u8, table_len: usize, round: *mut u8, round_len: usize) -> u64;
+        pub fn replay(table: *const u8, table_len: usize, round: *mut u8, round_len: usize, calls: *const u8, calls_len: usize, answers: *mut u8, answers_len: usize) -> usize;
         pub fn board(table: *const u8, table_len: usize, round: *const u8, round_len: usize, behaviour: u32) -> u64;
         pub fn forecast(table: *const u8, table_len: usize, round: *const u8, round_len: usize) -> u64;
         pub fn preview(table: *const u8, table_len: usize, round: *const u8, round_len: usize, event: u32, behaviour: u32) -> u64;
@@ -29,6 +30,10 @@ pub fn arrive(table: &[u8], round: &mut [u8], event: u32) -> u32 {
 
 pub fn step(table: &[u8], round: &mut [u8]) -> u64 {
     unsafe { c::step(table.as_ptr(), table.len(), round.as_mut_ptr(), round.len()) }
+}
+
+pub fn replay(table: &[u8], round: &mut [u8], calls: &[u8], answers: &mut [u8]) -> usize {
+    unsafe { c::replay(table.as_ptr(), table.len(), round.as_mut_ptr(), round.len(), calls.as_ptr(), calls.len(), answers.as_mut_ptr(), answers.len()) }
 }
 
 pub fn board(table: &[u8], round: &[u8], behaviour: u32) -> u64 {

@@ -5,7 +5,7 @@ pub fn get(b: &[u8], k: usize) -> u32 {
     u32::from_be_bytes([b[4 * k], b[4 * k + 1], b[4 * k + 2], b[4 * k + 3]])
 }
 
-fn put(b: &mut [u8], k: usize, w: u32) {
+pub fn put(b: &mut [u8], k: usize, w: u32) {
     b[4 * k..4 * k + 4].copy_from_slice(&w.to_be_bytes());
 }
 
@@ -14,14 +14,15 @@ fn record(t: &[u8], e: u32) -> [u32; 4] {
     if e < 32 { std::array::from_fn(|k| get(t, 8 + 4 * e as usize + k)) } else { [0; 4] }
 }
 
+fn foreign_table(t: &[u8]) -> bool {
+    t.len() < 34816 || get(t, 0) > 32 || get(t, 1) > 64 || (0..get(t, 0)).any(|e| record(t, e)[1] as u64 + record(t, e)[2] as u64 > 4096)
+}
+
 fn foreign(t: &[u8], l: &[u8]) -> bool {
-    if t.len() < 34816 || l.len() < 2048 || get(t, 0) > 32 || get(t, 1) > 64 {
+    if foreign_table(t) || l.len() < 2048 {
         return true;
     }
     let known = get(t, 0);
-    if (0..known).any(|e| record(t, e)[1] as u64 + record(t, e)[2] as u64 > 4096) {
-        return true;
-    }
     let (waiting, runs) = (get(l, 1), get(l, 2) != 0);
     if waiting as u64 + runs as u64 > 64 || get(l, 6) > 64 {
         return true;
@@ -161,6 +162,16 @@ pub fn call(t: &[u8], l: &mut [u8], c: Call) -> u64 {
         Call::Board(_) if copying_back(t, l) => 19,
         Call::Board(i) => (1 << 32) + get(l, 136 + i as usize) as u64,
     }
+}
+
+/// 14 for the two lengths and the table only; else the fresh values stand in the store and all other words are 0, whatever the round's old bytes.
+pub fn start(t: &[u8], l: &mut [u8]) -> u32 {
+    if foreign_table(t) || l.len() < 2048 {
+        return 14;
+    }
+    l[..2048].fill(0);
+    (136..200).for_each(|k| put(l, k, get(t, k)));
+    0
 }
 
 /// Document 02, M-100: 2^32 and the steps to idle, or their bound where one runs; refused by 14 only.

@@ -1,0 +1,18 @@
+# The examples of a page for C, its indented blocks, each in braces between the host's `before` and `after`; an example is named by the first call in it.
+function close_block() {
+    if (open)
+        print "    }\n    after(round, \"" call "\");"
+    open = 0
+}
+/^    / {
+    if (!open) {
+        match($0, /[a-z]+\(/)
+        call = substr($0, RSTART, RLENGTH - 1)
+        print "    before(round);\n    {"
+        open = 1
+    }
+    print
+    next
+}
+NF { close_block() }
+END { close_block() }

@@ -1,0 +1,61 @@
+/* The examples of docs/HOST.md, cut out of the page by tests/run, each with events 0 and 1 of sheet S in hand. Standard input: the desk program's example, which begins with S. */
+#include <stdio.h>
+#include <string.h>
+
+#include "engine.h"
+
+static uint8_t table[ENGINE_TABLE];
+static int faults, examples;
+
+/* What the examples leave to the host. */
+uint32_t event = 0, behaviour = 0;
+static int32_t shown;
+
+void show(int32_t value)
+{
+    shown = value;
+}
+
+/* After the example of a call: the board, whether the round is idle, what was shown. Event 1 outranks event 0. */
+static const struct {
+    const char *call;
+    int32_t b0, b1;
+    int idle;
+    int32_t shown;
+} want[] = {{"arrive", 3, 2, 1, 0}, {"forecast", 2, 1, 1, 0}, {"preview", 1, 1, 0, 3}};
+
+static void before(uint8_t *round)
+{
+    if (start(table, sizeof table, round, ENGINE_ROUND) || arrive(table, sizeof table, round, ENGINE_ROUND, 0) || arrive(table, sizeof table, round, ENGINE_ROUND, 1))
+        faults++;
+    shown = 0;
+}
+
+static void after(uint8_t *round, const char *call)
+{
+    int32_t b0 = engine_board_value(board(table, sizeof table, round, ENGINE_ROUND, 0));
+    int32_t b1 = engine_board_value(board(table, sizeof table, round, ENGINE_ROUND, 1));
+    int idle = engine_step_kind(step(table, sizeof table, round, ENGINE_ROUND)) == ENGINE_IDLE;
+    size_t i;
+
+    examples++;
+    for (i = 0; i < sizeof want / sizeof *want; i++)
+        if (strcmp(want[i].call, call) == 0 && b0 == want[i].b0 && b1 == want[i].b1 && idle == want[i].idle && shown == want[i].shown)
+            return;
+    printf("docs/HOST.md, the example of %s: board %d %d, idle %d, shown %d\n", call, (int)b0, (int)b1, idle, (int)shown);
+    faults++;
+}
+
+int main(void)
+{
+    static uint8_t round[ENGINE_ROUND];
+    uint8_t in[3 + 74];
+
+    if (fread(in, 1, sizeof in, stdin) != sizeof in || compile(in + 3, sizeof in - 3, table, sizeof table) != 0) {
+        puts("no sheet S");
+        return 1;
+    }
+#include "pages.inc"
+    printf("pages: %d examples of docs/HOST.md\n", examples);
+    return faults != 0 || examples == 0;
+}

@@ -1,0 +1,44 @@
+//! The setter's page, docs/SHEETS.md: its worked sheet byte by byte, the boards it names, and what it says is printed, held against the desk program.
+use crate::desk::{arrive, play, sheet, show, steps};
+
+/// A section of the page, without its heading.
+fn section<'a>(page: &'a str, heading: &str) -> &'a str {
+    let (_, after) = page.split_once(&format!("\n## {heading}\n")).unwrap_or_else(|| panic!("the page has no section '{heading}'"));
+    after.split("\n## ").next().unwrap()
+}
+
+/// A section's indented lines, without their four spaces.
+fn example(section: &str) -> Vec<&str> {
+    section.lines().filter_map(|l| l.strip_prefix("    ")).collect()
+}
+
+/// The bytes of a line: hexadecimal digits in groups, up to two spaces and what they mean.
+fn bytes_of(line: &str) -> Vec<u8> {
+    let digits: String = line.trim_start().split("  ").next().unwrap().replace(' ', "");
+    (0..digits.len() / 2).map(|k| u8::from_str_radix(&digits[2 * k..2 * k + 2], 16).expect("a byte of the worked sheet")).collect()
+}
+
+/// The pairs in brackets that a section's text names, each as the desk program shows a board.
+fn boards(section: &str) -> Vec<String> {
+    let text = section.lines().filter(|l| !l.starts_with("    ")).collect::<Vec<_>>().join(" ");
+    text.split('(').skip(1).map(|p| format!("B {}\n", p.split(')').next().unwrap().replace(", ", " "))).collect()
+}
+
+pub fn run(page: &str, program: &str, input: &str) {
+    let page = std::fs::read_to_string(page).expect("the page");
+    let input = std::fs::read(input).expect("the desk program's example");
+    let worked = section(&page, "A worked sheet");
+    let bytes: Vec<u8> = example(worked).iter().flat_map(|l| bytes_of(l)).collect();
+    assert!(worked.contains(&format!("These are {} bytes.", bytes.len())), "the worked sheet has {} bytes", bytes.len());
+    assert_eq!([sheet(&bytes), arrive(0), steps(18), show()].concat(), input, "the example's sheet, arrival, 18 steps and show");
+
+    let boards = boards(worked);
+    assert_eq!(boards.len(), 3, "boards after event 0 once, twice, three times");
+    let script = [sheet(&bytes), [arrive(0), steps(60), show()].concat().repeat(3)].concat();
+    let want: String = boards.iter().enumerate().map(|(k, b)| format!("C {k} 0\n{b}")).collect();
+    assert_eq!(play(program, &script), want, "the boards of the worked sheet");
+
+    let printed: String = example(section(&page, "Playing it")).iter().map(|l| format!("{l}\n")).collect();
+    assert_eq!(play(program, &input), printed, "what the page says is printed");
+    println!("page: the worked sheet, its boards, what the desk program prints");
+}
