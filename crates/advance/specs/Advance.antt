@@ -6,6 +6,7 @@ use lib.Dec.{ltb}
 use Rattle.base.specs.Basics.{pick}
 use Rattle.word.specs.Word.{get, put}
 use Rattle.language.specs.Refusals.{foreign}
+use Rattle.language.specs.Answers as kinds
 use Rattle.layout.specs.Layout.{eventWord, runningEvent, runningNumber, position, depth}
 use Rattle.round.specs.Start.{Result}
 use Rattle.allowed.specs.Allowed.{allowed}
@@ -14,7 +15,7 @@ use Rattle.dispatch.specs.Dispatch.{said}
 
 -- arrival n of event e has done c of len instructions and now one more
 unfoldable pub countOn : List ℕ → ℕ → ℕ → ℕ → ℕ → Result
-countOn l c e n len = pick (ltb (c + 1) len) (1, put l 5 (c + 1)) (said 3 n e, put l 2 0)
+countOn l c e n len = pick (ltb (c + 1) len) (kinds.ran, put l 5 (c + 1)) (said kinds.committed n e, put l 2 0)
 
 -- the instruction of first word a and constant w, at count c
 unfoldable pub executeOn : List ℕ → ℕ → ℕ → ℕ → ℕ → ℕ → ℕ → Result

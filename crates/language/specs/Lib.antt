@@ -1,5 +1,6 @@
 pub mod Syntax
 pub mod Refusals
+pub mod Answers
 pub mod Grammar
 pub mod Reading
 pub mod Dependence

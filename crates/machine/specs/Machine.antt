@@ -6,6 +6,7 @@ use mathlib.Core.List.{List}
 use lib.Dec.{ltb, eqb}
 use Rattle.base.specs.Basics.{pick}
 use Rattle.language.specs.Refusals.{foreign}
+use Rattle.language.specs.Answers as kinds
 use Rattle.layout.specs.Layout.{eventWord, waitingCount, runningFlag, runningEvent, position, eventAt, ours}
 use Rattle.queue.specs.Queue.{best}
 use Rattle.round.specs.Start.{Result}
@@ -27,7 +28,7 @@ unfoldable pub running : List ℕ → List ℕ → ℕ → Result
 running t l n = pick (eqb n 0) (advance t l) (contest t l (best t l n))
 
 unfoldable pub resting : List ℕ → List ℕ → ℕ → Result
-resting t l n = pick (eqb n 0) (0, l) (startAt l (best t l n) (n - 1))
+resting t l n = pick (eqb n 0) (kinds.idle, l) (startAt l (best t l n) (n - 1))
 
 unfoldable pub stepWith : List ℕ → List ℕ → ℕ → ℕ → Result
 stepWith t l n f = pick (eqb f 0) (resting t l n) (running t l n)

@@ -16,13 +16,13 @@ use Rattle.language.specs.Accepted.{Accepted}
 use Rattle.execution.specs.Execution.{Values}
 use Rattle.execution.specs.CodeFacts.{CodeFacts}
 use Rattle.execution.specs.CodeRight.{code-facts}
-use Rattle.model.specs.Model.{Arrival, arrival, rest, busy, Engine, engine, initial, queue, Call, arrive, step, board, Answer, refused, takenIn, shows, idle, ran, started, preempted, committed, Outcome, rank, masked, settling, choose, advance, act, answers}
+use Rattle.model.specs.Model.{Arrival, rest, busy, Engine, engine, initial, queue, Call, arrive, step, board, Answer, refused, takenIn, shows, idle, ran, started, preempted, committed, Outcome, rank, masked, settling, choose, advance, act, answers}
 use Rattle.model.specs.Choice.{choose-perm}
 use Rattle.model.specs.Reached.{Fine, Reached, act-keeps, initially}
 use Rattle.image.specs.Image.{tableOf}
 use Rattle.round.specs.Start.{freshBytes}
 use Rattle.dispatch.specs.Dispatch.{said}
-use Rattle.refinement.specs.Refinement.{coded, answersOn}
+use Rattle.refinement.specs.Refinement.{coded, stepAnswer, decodedAll, decoded, answersOn}
 use Rattle.refinement.specs.Refines.{valid, refines}
 
 -- ---- the answers to an arrival, to a step and to a board reading, events being below 256
@@ -63,21 +63,6 @@ To step a = ToStep a
 To (board i) a = ToBoard a
 
 -- ---- reading back
-
-abbrev arrivalIn : ℕ → Arrival
-arrivalIn v = arrival (v / 65536) (v / 256 % 256)
-
-abbrev stepAnswer : ℕ → Answer
-stepAnswer v =
-    pick (eqb v 0) idle
-    (pick (eqb v 1) ran
-    (pick (eqb (v % 256) 2) (started (arrivalIn v))
-    (pick (eqb (v % 256) 3) (committed (arrivalIn v)) (preempted (arrivalIn v)))))
-
-abbrev pub decoded : Call → ℕ → Answer
-decoded (arrive e) v = pick (eqb v 0) takenIn (refused v)
-decoded step v = stepAnswer v
-decoded (board i) v = pick (ltb v 4294967296) (refused v) (shows (v - 4294967296))
 
 said-kind : (k n e : ℕ) → e < 256 → k < 256 → said k n e % 256 ≡ k
 unfolding said
@@ -171,12 +156,6 @@ module _ (p : Program) (few : events p ≤ 256) where
       (λ _. advance-to t (b ∷ l) a n d (i .fine .0 .1)))
   answer-to (board j) (engine t q r d) i =
       by-test ToBoard (leb (size p) j) (λ _. omega arith) (λ _. by-test ToBoard (settling p r) (λ _. omega arith) (λ _. tt))
-
--- the answers of a list of calls, read back from their numbers
-unfoldable pub decodedAll : List Call → List ℕ → List Answer
-decodedAll [] vs = []
-decodedAll (c ∷ cs) [] = []
-decodedAll (c ∷ cs) (v ∷ vs) = decoded c v ∷ decodedAll cs vs
 
 pub decoded-answers : (p : Program) → CodeFacts p → events p ≤ 256 → (cs : List Call) (w : Engine) → Reached p w
     → decodedAll cs (map coded (answers p cs w)) ≡ answers p cs w

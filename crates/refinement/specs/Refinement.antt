@@ -1,14 +1,15 @@
 -- Calls on the bytes, and when their answers and the round agree with the model engine. 01 "Whole runs".
-use Prim.Native.Nat.{ℕ, zero, suc, _+_, _≤_}
+use Prim.Native.Nat.{ℕ, zero, suc, _+_, _-_, _/_, _%_, _≤_}
 use mathlib.Core.Path.{_≡_}
 use mathlib.Core.Option.{none, some}
 use mathlib.Core.List.{List, [], _∷_, map, List·Permᴰ}
 use lib.ListN.{length, getD}
-use lib.Dec.{eqb}
+use lib.Dec.{ltb, eqb}
 use Rattle.base.specs.Basics.{pick}
 use Rattle.word.specs.Word.{get, words, pile}
 use Rattle.language.specs.Syntax.{Program}
 use Rattle.language.specs.Dependence.{size}
+use Rattle.language.specs.Answers as kinds
 use Rattle.execution.specs.Execution.{Values}
 use Rattle.model.specs.Model.{Arrival, arrival, Running, rest, busy, Engine, engine, Call, arrive, step, board, Answer, refused, takenIn, shows, idle, ran, started, preempted, committed, run, answers}
 use Rattle.layout.specs.Layout.{taken, waitingCount, runningFlag, runningEvent, runningNumber, position, depth, numberAt, eventAt}
@@ -23,11 +24,34 @@ abbrev pub coded : Answer → ℕ
 coded (refused n) = n
 coded takenIn = 0
 coded (shows v) = 4294967296 + v
-coded idle = 0
-coded ran = 1
-coded (started a) = said 2 (a .number) (a .event)
-coded (committed a) = said 3 (a .number) (a .event)
-coded (preempted a) = said 4 (a .number) (a .event)
+coded idle = kinds.idle
+coded ran = kinds.ran
+coded (started a) = said kinds.started (a .number) (a .event)
+coded (committed a) = said kinds.committed (a .number) (a .event)
+coded (preempted a) = said kinds.preempted (a .number) (a .event)
+
+-- ---- and back: the answer that a number names, by the kind of call
+
+abbrev pub arrivalIn : ℕ → Arrival
+arrivalIn v = arrival (v / 65536) (v / 256 % 256)
+
+abbrev pub stepAnswer : ℕ → Answer
+stepAnswer v =
+    pick (eqb v kinds.idle) idle
+    (pick (eqb v kinds.ran) ran
+    (pick (eqb (v % 256) kinds.started) (started (arrivalIn v))
+    (pick (eqb (v % 256) kinds.committed) (committed (arrivalIn v)) (preempted (arrivalIn v)))))
+
+abbrev pub decoded : Call → ℕ → Answer
+decoded (arrive e) v = pick (eqb v 0) takenIn (refused v)
+decoded step v = stepAnswer v
+decoded (board i) v = pick (ltb v 4294967296) (refused v) (shows (v - 4294967296))
+
+-- the answers of a list of calls, read back from their numbers
+unfoldable pub decodedAll : List Call → List ℕ → List Answer
+decodedAll [] vs = []
+decodedAll (c ∷ cs) [] = []
+decodedAll (c ∷ cs) (v ∷ vs) = decoded c v ∷ decodedAll cs vs
 
 -- ---- calls on a table's and a round's bytes
 

@@ -34,10 +34,14 @@ use Rattle.refinement.specs.FreshRound.{fresh-kept, fresh-rel}
 pub valid : (p : Program) → Accepted p → Valid p
 valid p ok = record { each = ok .fits .each; known = ok .known; acyclic = ok .acyclic }
 
-short-code : (p : Program) → Accepted p → length (allCode p) ≤ 4096
+pub short-code : (p : Program) → Accepted p → length (allCode p) ≤ 4096
 unfolding allCode allInstructions
 short-code p ok =
     rw (length-join (events p) (code p), upTo-same (events p) (λ e. length (code p e)) (instructions p) (code-facts p (valid p ok) .counted)) (ok .short)
+
+-- what its table says
+pub accepted-says : (p : Program) → Accepted p → (t₀ : List ℕ) → 34816 ≤ length t₀ → Says p (tableOf p t₀)
+accepted-says p ok t₀ room = table-says p (ok .fits .few-events) (ok .fits .few-behaviours) (length-fresh p) (short-code p ok) t₀ room
 
 -- ---- what the bytes say
 
@@ -77,7 +81,7 @@ calls-agree p ok t table l₀ l (c ∷ cs) w R i h =
 -- p is accepted; t₀ are the bytes lent for the table, l₀ those lent for the round
 module _ (p : Program) (ok : Accepted p) (t₀ l₀ : List ℕ) (table-room : 34816 ≤ length t₀) (round-room : 2048 ≤ length l₀) where
   pub says : Says p (tableOf p t₀)
-  says = table-says p (ok .fits .few-events) (ok .fits .few-behaviours) (length-fresh p) (short-code p ok) t₀ table-room
+  says = accepted-says p ok t₀ table-room
 
   whole : long l₀ ≡ true
   unfolding long
