@@ -6,6 +6,7 @@ use lib.ListN.{length, set}
 use lib.Dec.{leb, eqb}
 use Rattle.base.specs.Basics.{pick}
 use Rattle.word.specs.Word.{getAt}
+use Rattle.language.specs.Refusals.{wrongLength, crowded}
 use Rattle.field.specs.Field.{fieldOf, partOf}
 use Rattle.field.specs.Expression.{Out, out}
 use Rattle.field.specs.declared.Field.{Field}
@@ -18,7 +19,7 @@ use Rattle.behaviours.specs.Handler.{entryAt, handlersOf}
 abbrev pub activeFrom : Field → List ℕ → List ℕ → ℕ → ℕ → List ℕ → ℕ → Out
 activeFrom (Refused k) w v events i d n = out (Fault k) d
 activeFrom (Value t size) w v events i d n =
-    pick (eqb size 4) (handlersOf (length v) v 7 events i (set d (4160 + i) (getAt w 0)) n) (out (Fault 6) d)
+    pick (eqb size 4) (handlersOf (length v) v 7 events i (set d (4160 + i) (getAt w 0)) n) (out (Fault wrongLength) d)
 
 unfoldable pub activeOf : List ℕ → ℕ → ℕ → List ℕ → ℕ → Out
 activeOf v events i d n = activeFrom (fieldOf v 4 4) (partOf v (fieldOf v 4 4)) v events i d n
@@ -26,7 +27,7 @@ activeOf v events i d n = activeFrom (fieldOf v 4 4) (partOf v (fieldOf v 4 4)) 
 -- behaviour i, a field with tag t and value v
 unfoldable pub valueAt : ℕ → List ℕ → ℕ → ℕ → List ℕ → ℕ → Out
 valueAt t v events i d n =
-    pick (leb 64 i) (out (Fault 7) d)
+    pick (leb 64 i) (out (Fault crowded) d)
     (pick (eqb t 2) (entryAt v d n (4096 + i) 1 3) (activeOf v events i d n))
 
 abbrev pub behaviourFrom : Field → List ℕ → ℕ → ℕ → List ℕ → ℕ → Out

@@ -5,6 +5,7 @@ use mathlib.Core.List.{List}
 use lib.ListN.{length, getD, set}
 use lib.Dec.{ltb, leb, eqb}
 use Rattle.base.specs.Basics.{pick}
+use Rattle.language.specs.Refusals.{torn, wrongLength, offScale, doubled}
 use Rattle.field.specs.Field.{fieldOf, partOf}
 use Rattle.field.specs.Expression.{Out, out, rest, onward, exprOf}
 use Rattle.field.specs.declared.Field.{Field}
@@ -22,7 +23,7 @@ faultOf (Fault k) = k
 unfoldable pub entryAt : List ℕ → List ℕ → ℕ → ℕ → ℕ → ℕ → Out
 entryAt v d n place kind over =
     let o : Out = exprOf 16 v d n in
-    onward (o .0) (o .1) (λ size m. pick (eqb size (length v)) (out (Done (size + over) m) (set (o .1) place (entry kind n (m - n)))) (out (Fault 6) (o .1)))
+    onward (o .0) (o .1) (λ size m. pick (eqb size (length v)) (out (Done (size + over) m) (set (o .1) place (entry kind n (m - n)))) (out (Fault wrongLength) (o .1)))
 
 -- where the entry of behaviour i for event e stands
 abbrev pub slot : ℕ → ℕ → ℕ
@@ -31,13 +32,13 @@ slot i e = 2048 + i * 32 + e
 -- a handler's value v, of behaviour i, where so many events are declared
 unfoldable pub handlerAt : List ℕ → ℕ → ℕ → List ℕ → ℕ → Out
 handlerAt v events i d n =
-    pick (eqb (length v) 0) (out (Fault 6) d)
-    (pick (leb events (getD v 0 0)) (out (Fault 8) d)
-    (pick (eqb (length v) 1) (out (Fault 6) d)
-    (pick (ltb 1 (getD v 1 0)) (out (Fault 8) d)
+    pick (eqb (length v) 0) (out (Fault wrongLength) d)
+    (pick (leb events (getD v 0 0)) (out (Fault offScale) d)
+    (pick (eqb (length v) 1) (out (Fault wrongLength) d)
+    (pick (ltb 1 (getD v 1 0)) (out (Fault offScale) d)
     (pick (eqb (getD d (slot i (getD v 0 0)) 0) 0)
     (entryAt (rest 2 v) d n (slot i (getD v 0 0)) (2 + getD v 1 0) 5)
-    (out (Fault 10) d)))))
+    (out (Fault doubled) d)))))
 
 abbrev pub handlerFrom : Field → List ℕ → ℕ → ℕ → List ℕ → ℕ → Out
 handlerFrom (Refused k) v events i d n = out (Fault k) d
@@ -49,7 +50,7 @@ handlerOf s events i d n = handlerFrom (fieldOf s 5 5) (partOf s (fieldOf s 5 5)
 
 -- handlers in v from `at` on to its end; the first number bounds their count
 unfoldable pub handlersOf : ℕ → List ℕ → ℕ → ℕ → ℕ → List ℕ → ℕ → Out
-handlersOf zero v at events i d n = pick (eqb at (length v)) (out (Done (at + 3) n) d) (out (Fault 4) d)
+handlersOf zero v at events i d n = pick (eqb at (length v)) (out (Done (at + 3) n) d) (out (Fault torn) d)
 handlersOf (suc k) v at events i d n =
     pick (eqb at (length v)) (out (Done (at + 3) n) d)
     (let o : Out = handlerOf (rest at v) events i d n in

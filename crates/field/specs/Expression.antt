@@ -1,5 +1,5 @@
 -- Expressions: 10 constant (4 bytes), 11 name (1 byte), 12 application (a function byte, then its arguments), hexadecimal.
--- Reading one appends its nodes, in postfix order, to the draft: kind * 2^32 + word. Refusals 6 (wrong length), 8 (off the scale), 9 (too deep).
+-- Reading one appends its nodes, in postfix order, to the draft: kind * 2^32 + word.
 use Prim.Native.Nat.{ℕ, zero, suc, _+_, _*_, _-_, _≤_, _<_}
 use mathlib.Core.Path.{_≡_}
 use mathlib.Core.List.{List}
@@ -8,6 +8,7 @@ use lib.Dec.{ltb, eqb}
 use Rattle.base.specs.Basics.{pick}
 use Rattle.word.specs.Word.{getAt}
 use Rattle.arith.specs.Functions.{arity}
+use Rattle.language.specs.Refusals.{wrongLength, offScale, tooDeep}
 use Rattle.field.specs.Field.{fieldOf, partOf}
 use Rattle.field.specs.declared.Field.{Field}
 use Rattle.field.specs.declared.Field.the-variants.{Value, Refused}
@@ -19,14 +20,14 @@ use Rattle.field.specs.declared.Read.the-variants.{Done, Fault}
 -- what a field with tag t and value v begins, with `left` levels of nesting left: a leaf's node and size, an application's function, or a refusal
 unfoldable pub headAt : ℕ → ℕ → List ℕ → Head
 headAt left t v =
-    pick (eqb left 0) (NoHead 9)
+    pick (eqb left 0) (NoHead tooDeep)
     (pick (eqb t 16)
-    (pick (eqb (length v) 4) (Leaf (68719476736 + getAt v 0) 7) (NoHead 6))
+    (pick (eqb (length v) 4) (Leaf (68719476736 + getAt v 0) 7) (NoHead wrongLength))
     (pick (eqb t 17)
-    (pick (eqb (length v) 1) (Leaf (73014444032 + getD v 0 0) 4) (NoHead 6))
-    (pick (eqb (length v) 0) (NoHead 6)
-    (pick (eqb (getD v 0 0) 0) (NoHead 8)
-    (pick (ltb 14 (getD v 0 0)) (NoHead 8)
+    (pick (eqb (length v) 1) (Leaf (73014444032 + getD v 0 0) 4) (NoHead wrongLength))
+    (pick (eqb (length v) 0) (NoHead wrongLength)
+    (pick (eqb (getD v 0 0) 0) (NoHead offScale)
+    (pick (ltb 14 (getD v 0 0)) (NoHead offScale)
     (Apply (getD v 0 0)))))))
 
 abbrev pub headFrom : ℕ → Field → List ℕ → Head
@@ -71,7 +72,7 @@ argsOf rd (suc k) v at draft n =
 
 -- an application whose arguments end at `at` is closed by its own node, where nothing is left over
 unfoldable pub closeAt : ℕ → ℕ → ℕ → List ℕ → ℕ → Out
-closeAt f size at draft m = pick (eqb at size) (Done (at + 3) (m + 1), set draft m (77309411328 + f)) (Fault 6, draft)
+closeAt f size at draft m = pick (eqb at size) (Done (at + 3) (m + 1), set draft m (77309411328 + f)) (Fault wrongLength, draft)
 
 abbrev pub bodyOf : (List ℕ → List ℕ → ℕ → Out) → Head → List ℕ → List ℕ → ℕ → Out
 bodyOf rd (NoHead k) v draft n = (Fault k, draft)
@@ -82,7 +83,7 @@ bodyOf rd (Apply f) v draft n =
 
 -- one expression at the front of s, with `left` levels of nesting left, its nodes put into the draft from place n on
 unfoldable pub exprOf : ℕ → List ℕ → List ℕ → ℕ → Out
-exprOf zero s draft n = bodyOf (λ s′ p m. (Fault 9, p)) (headOf zero s) (valueOf s) draft n
+exprOf zero s draft n = bodyOf (λ s′ p m. (Fault tooDeep, p)) (headOf zero s) (valueOf s) draft n
 exprOf (suc left) s draft n = bodyOf (exprOf left) (headOf (suc left) s) (valueOf s) draft n
 
 -- that an answer is within s, and that a node takes four bytes at least: what `read_expr` promises beside the equation

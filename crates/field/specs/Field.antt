@@ -1,9 +1,10 @@
--- A field: a one-byte tag, a two-byte big-endian length, that many bytes of value. 01 "The sheet". Refusals 4 (torn), 5 (wrong tag).
+-- A field: a one-byte tag, a two-byte big-endian length, that many bytes of value. 01 "The sheet".
 use Prim.Native.Nat.{ℕ, _+_, _*_, _-_, _≤_}
 use mathlib.Core.List.{List, []}
 use lib.ListN.{length, getD, take, drop}
 use lib.Dec.{ltb}
 use Rattle.base.specs.Basics.{pick}
+use Rattle.language.specs.Refusals.{torn, wrongTag}
 use Rattle.field.specs.declared.Field.{Field}
 use Rattle.field.specs.declared.Field.the-variants.{Value, Refused}
 
@@ -14,10 +15,10 @@ stated s = getD s 1 0 * 256 + getD s 2 0
 -- what the front of s is, where a field with a tag from lo to hi is due: its tag and its length, or the refusal
 unfoldable pub fieldOf : List ℕ → ℕ → ℕ → Field
 fieldOf s lo hi =
-    pick (ltb (length s) 3) (Refused 4)
-    (pick (ltb (getD s 0 0) lo) (Refused 5)
-    (pick (ltb hi (getD s 0 0)) (Refused 5)
-    (pick (ltb (length s - 3) (stated s)) (Refused 4)
+    pick (ltb (length s) 3) (Refused torn)
+    (pick (ltb (getD s 0 0) lo) (Refused wrongTag)
+    (pick (ltb hi (getD s 0 0)) (Refused wrongTag)
+    (pick (ltb (length s - 3) (stated s)) (Refused torn)
     (Value (getD s 0 0) (stated s)))))
 
 -- the bytes of an answer, their number, and that they lie within s

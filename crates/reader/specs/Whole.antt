@@ -4,6 +4,7 @@ use mathlib.Core.List.{List}
 use lib.ListN.{length, getD, set}
 use lib.Dec.{ltb, leb, eqb}
 use Rattle.base.specs.Basics.{pick}
+use Rattle.language.specs.Refusals.{torn, wrongLength, crowded, offScale}
 use Rattle.field.specs.Field.{fieldOf, partOf}
 use Rattle.field.specs.Expression.{Out, out, rest}
 use Rattle.field.specs.declared.Field.{Field}
@@ -27,10 +28,10 @@ made r d = (r, d)
 unfoldable pub priorityAt : ℕ → List ℕ → ℕ → List ℕ → Made
 priorityAt t v e d =
     pick (eqb t 1)
-    (pick (leb 32 e) (made (NoEvent 7) d)
+    (pick (leb 32 e) (made (NoEvent crowded) d)
     (pick (eqb (length v) 1)
-    (pick (ltb 15 (getD v 0 0)) (made (NoEvent 8) d) (made Declared (set d (4224 + e) (getD v 0 0))))
-    (made (NoEvent 6) d)))
+    (pick (ltb 15 (getD v 0 0)) (made (NoEvent offScale) d) (made Declared (set d (4224 + e) (getD v 0 0))))
+    (made (NoEvent wrongLength) d)))
     (made Ended d)
 
 abbrev pub eventFrom : Field → List ℕ → ℕ → List ℕ → Made
@@ -49,7 +50,7 @@ eventNext (NoEvent k) d at e more = out (Fault k) d
 
 -- the events of s from `at` on: the place after them and their number. The first number bounds their count
 unfoldable pub eventsOf : ℕ → List ℕ → ℕ → ℕ → List ℕ → Out
-eventsOf zero s at e d = pick (eqb at (length s)) (out (Done at e) d) (out (Fault 4) d)
+eventsOf zero s at e d = pick (eqb at (length s)) (out (Done at e) d) (out (Fault torn) d)
 eventsOf (suc k) s at e d =
     pick (eqb at (length s)) (out (Done at e) d)
     (let o : Made = eventOf (rest at s) e d in eventNext (o .0) (o .1) at e (eventsOf k s (at + 4) (e + 1) (o .1)))
@@ -68,7 +69,7 @@ proceed (Fault k) d f = finished (Broken k) d
 
 -- the behaviours of s from `at` on, i before them and n nodes. The first number bounds their count
 unfoldable pub behavioursOf : ℕ → List ℕ → ℕ → ℕ → ℕ → List ℕ → ℕ → Finish
-behavioursOf zero s at events i d n = pick (eqb at (length s)) (finished (Ready events i n) d) (finished (Broken 4) d)
+behavioursOf zero s at events i d n = pick (eqb at (length s)) (finished (Ready events i n) d) (finished (Broken torn) d)
 behavioursOf (suc k) s at events i d n =
     pick (eqb at (length s)) (finished (Ready events i n) d)
     (let o : Out = behaviourOf (rest at s) events i d n in
