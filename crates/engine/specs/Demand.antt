@@ -2,29 +2,30 @@
 -- and `previewOn` are what their contracts cite.
 -- The model engine, and the sentences of demand 3 in its terms: crate model, Model.antt and Claims.antt. Calls on bytes, and what the round's bytes say: crate
 -- refinement, Refinement.antt.
-use Prim.Native.Nat.{ℕ, _+_, _≤_, _<_}
+use Prim.Native.Nat.{ℕ, _+_, _*_, _≤_, _<_}
 use mathlib.Core.Bool.{false}
 use mathlib.Core.Path.{_≡_}
 use mathlib.Core.Logic.{_≢_}
 use mathlib.Core.List.{List, [], _∷_, _++_, map}
-use lib.ListN.{length}
+use lib.ListN.{length, getD}
 use Rattle.base.specs.Basics.{All}
-use Rattle.word.specs.Word.{words}
+use Rattle.word.specs.Word.{get, words}
 use Rattle.language.specs.Syntax.{Program}
 use Rattle.language.specs.Dependence.{size, events, Independent}
 use Rattle.language.specs.Grammar.{encode}
 use Rattle.language.specs.Accepted.{Accepted}
+use Rattle.language.specs.Code.{off, code, members}
 use Rattle.semantics.specs.Rules.{Shows}
 use Rattle.semantics.specs.Meaning.{at, fresh}
 use Rattle.semantics.specs.Plays.{Plays}
 use Rattle.model.specs.Model.{Arrival, arrival, Call, rank}
 use Rattle.model.specs.Claims.{after, said, committedIn, takenInBy, settlingIn, number, Idle, OnceEach, EqualsInOrder, LowerFirst, SettlesIn, NobodyWaits, aloneCalls, QuietExactly, forecast, previewed, PreviewRight}
-use Rattle.image.specs.Image.{tableOf}
+use Rattle.image.specs.Image.{operation, constant, startOf, tableOf}
 use Rattle.round.specs.Start.{startOn}
 use Rattle.machine.specs.Machine.{stepOn}
 use Rattle.forecast.specs.Forecast.{forecastOn}
 use Rattle.preview.specs.Preview.{previewOn}
-use Rattle.refinement.specs.Refinement.{coded, callOn, answersOn, roundAfter, View, Kept}
+use Rattle.refinement.specs.Refinement.{coded, decodedAll, callOn, answersOn, roundAfter, View, Kept}
 use Rattle.compiler.specs.Verdict.{compileOn}
 
 -- the events of arrivals
@@ -52,6 +53,8 @@ buffersAfter (c ∷ cs) b = buffersAfter cs (b .0, callOn (b .0) c (b .1) .1)
 pub record OneList (p : Program) (t l₀ l : List ℕ) (cs : List Call) : Type 0 where
   -- "every answer .. is what 01's model engine gives"
   pub answers : answersOn t cs l ≡ map coded (said p cs)
+  -- the numbers name those answers: the committed and the taken in of the other parts are those that the calls' numbers name
+  pub read : decodedAll cs (answersOn t cs l) ≡ said p cs
   -- "The table is still as compile left it": after the list it is t, and the round is `roundAfter`
   pub table : buffersAfter cs (t, l) ≡ (t, roundAfter t cs l)
   -- ".. and the round after the list"
@@ -90,6 +93,19 @@ pub record OneList (p : Program) (t l₀ l : List ℕ) (cs : List Call) : Type 0
   -- and whichever way the round itself is then run to idle, its board shows that value
   pub previews : PreviewRight p cs
 
+-- ---- the code of event e in the table t of program p, word by word (layout: crate layout)
+
+pub record CodeIn (p : Program) (t : List ℕ) (e : ℕ) : Type 0 where
+  -- its record
+  pub priority : get t (8 + e * 4) ≡ getD (p .priorities) e 0
+  pub start : get t (9 + e * 4) ≡ startOf p e
+  pub count : get t (10 + e * 4) ≡ length (code p e)
+  pub in-C : get t (11 + e * 4) ≡ members p e
+  -- and from where the record says that it begins, two words for each instruction
+  pub within : get t (9 + e * 4) + get t (10 + e * 4) ≤ 4096
+  pub operations : (c : ℕ) → c < length (code p e) → get t (512 + (get t (9 + e * 4) + c) * 2) ≡ operation (getD (code p e) c off)
+  pub constants : (c : ℕ) → c < length (code p e) → get t (513 + (get t (9 + e * 4) + c) * 2) ≡ constant (getD (code p e) c off)
+
 -- ---- demand 3, every list of calls: for a sheet s that compile accepts, its table in t₀, and a round that start makes in l₀
 
 pub record EveryList (s t₀ l₀ : List ℕ) : Type 0 where
@@ -97,8 +113,9 @@ pub record EveryList (s t₀ l₀ : List ℕ) : Type 0 where
   pub program : Program
   pub bytes : encode program ≡ s
   pub accepted : Accepted program
-  -- "each event's code is the one 01 lists": the table holds `code program e` for each event e
+  -- "each event's code is the one 01 lists": the table is the program's, and its words are those of `code program e` for each event e
   pub table : compileOn s t₀ .1 ≡ tableOf program t₀
+  pub code : (e : ℕ) → e < events program → CodeIn program (compileOn s t₀ .1) e
   -- a fresh round: start answers 0, and the board has the start values with the passives worked out
   pub begun : startOn (compileOn s t₀ .1) l₀ .0 ≡ 0
   pub values : (i : ℕ) → i < size program → Shows program i (at (fresh program) i)

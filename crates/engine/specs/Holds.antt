@@ -1,31 +1,60 @@
 -- Demand 3 holds: for every sheet that compile accepts, every list of calls, and every two lists. The sheet's program comes from what compile accepts, and the
 -- claims about its table and a fresh round carry over.
-use Prim.Native.Nat.{ℕ, _≤_, _<_}
+use Prim.Native.Nat.{ℕ, _+_, _*_, _≤_, _<_}
+use mathlib.Core.Bool.{true}
 use mathlib.Core.Path.{_≡_, sym, ap, _∙_, subst}
 use mathlib.Core.Logic.{by-cases}
 use native.Mathlib.Decide.{decLt}
 use native.Mathlib.Omega.{arith}
 use mathlib.Core.List.{List}
 use lib.ListN.{length}
+use lib.Dec.{ltb}
+use borrow.Author.Tests.{lt-ltb}
 use Rattle.base.specs.Basics.{All}
+use Rattle.word.specs.Word.{get}
 use Rattle.language.specs.Syntax.{Program}
 use Rattle.language.specs.Grammar.{encode}
 use Rattle.language.specs.Accepted.{Accepted}
+use Rattle.language.specs.Dependence.{events}
+use Rattle.language.specs.Code.{code}
 use Rattle.semantics.specs.Agreement.{fresh-shows}
 use Rattle.model.specs.Model.{Call}
-use Rattle.image.specs.Image.{tableOf}
+use Rattle.layout.specs.Layout.{eventWord}
+use Rattle.image.specs.Image.{startOf, tableOf}
+use Rattle.image.specs.ImageLaws.{Says}
 use Rattle.round.specs.Start.{Result, startOn, freshBytes}
 use Rattle.refinement.specs.Refinement.{roundAfter}
-use Rattle.refinement.specs.Refines.{valid, starts}
+use Rattle.refinement.specs.Refines.{valid, starts, accepted-says}
 use Rattle.compiler.specs.Verdict.{Compiled, compileOn}
 use Rattle.compiler.specs.JudgeLaws.{compile-short}
 use Rattle.compiler.specs.AcceptedExactly.{accepted-exactly}
-use Rattle.engine.specs.Demand.{boardOf, IdleNow, OneList, EverySheet, TwoLists, Whole}
+use Rattle.engine.specs.Demand.{boardOf, IdleNow, OneList, CodeIn, EverySheet, TwoLists, Whole}
 use Rattle.engine.specs.OneHolds.{one-list}
 use Rattle.engine.specs.TwoHolds.{two-lists}
 
+-- what a table says of a program, read by `get`
+code-in : (p : Program) (t : List ℕ) → Says p t → (e : ℕ) → e < events p → CodeIn p t e
+unfolding eventWord
+code-in p t says e h =
+    let few : ltb e 32 ≡ true = lt-ltb e 32 (omega (arith, says .few-events)) in
+    let z₀ : 8 + e * 4 + 0 ≡ 8 + e * 4 = omega arith in
+    let z₁ : 8 + e * 4 + 1 ≡ 9 + e * 4 = omega arith in
+    let z₂ : 8 + e * 4 + 2 ≡ 10 + e * 4 = omega arith in
+    let z₃ : 8 + e * 4 + 3 ≡ 11 + e * 4 = omega arith in
+    let start : get t (9 + e * 4) ≡ startOf p e = rw (few, z₁) at (says .starts e h) in
+    let count : get t (10 + e * 4) ≡ length (code p e) = rw (few, z₂) at (says .lengths e h) in
+    record {
+      priority = rw (few, z₀) at (says .priorities e h);
+      start = start;
+      count = count;
+      in-C = rw (few, z₃) at (says .in-C e h);
+      within = rw (start, count) (says .within e h);
+      operations = λ c b. rw start (says .operations e c h b);
+      constants = λ c b. rw start (says .constants e c h b);
+    }
+
 -- compile accepts with a whole table only
-table-room : (s t : List ℕ) → compileOn s t .0 ≡ 0 → 34816 ≤ length t
+pub table-room : (s t : List ℕ) → compileOn s t .0 ≡ 0 → 34816 ≤ length t
 table-room s t h =
     by-cases (decLt (length t) 34816) (λ a. let z : _≡_ {A = ℕ} 1 0 = sym (ap (λ (o : Compiled). o .0) (compile-short s t a)) ∙ h in absurd (omega arith)) (λ a. omega arith)
 
@@ -50,6 +79,7 @@ every-sheet s t₀ l₀ bytes room h =
       bytes = k .1;
       accepted = ok;
       table = e;
+      code = λ x d. subst (λ (t : List ℕ). CodeIn p t x) (sym e) (code-in p (tableOf p t₀) (accepted-says p ok t₀ a) x d);
       begun = ap (λ (r : Result). r .0) (begun p ok t₀ l₀ (compileOn s t₀ .1) a room e);
       values = fresh-shows p (valid p ok);
       each = one p ok t₀ l₀ (compileOn s t₀ .1) a room e;

@@ -5,4 +5,5 @@ pub mod Runs
 pub mod OneHolds
 pub mod TwoHolds
 pub mod Holds
+pub mod Beyond
 pub mod RestDay

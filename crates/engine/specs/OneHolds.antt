@@ -30,7 +30,7 @@ use Rattle.image.specs.Image.{tableOf}
 use Rattle.round.specs.Start.{freshBytes}
 use Rattle.machine.specs.Machine.{stepOn}
 use Rattle.refinement.specs.Refinement.{coded, callOn, roundAfter, View, Agreement}
-use Rattle.refinement.specs.Coded.{answer-to, coded-injective}
+use Rattle.refinement.specs.Coded.{answer-to, coded-injective, answers-read}
 use Rattle.refinement.specs.Refines.{valid, refines, forecasts}
 use Rattle.refinement.specs.Previews.{previews}
 use Rattle.engine.specs.Demand.{buffersAfter, eventsOf, boardOf, IdleNow, OneList}
@@ -141,6 +141,7 @@ module _ (p : Program) (ok : Accepted p) (t₀ l₀ : List ℕ) (table-room : 34
   pub one-list : (cs : List Call) → OneList p table l₀ round cs
   one-list cs = record {
     answers = agrees cs .answered;
+    read = answers-read p ok t₀ l₀ table-room round-room cs;
     table = table-stays cs _ _;
     round = agrees cs .viewed;
     beyond = agrees cs .kept;

@@ -17,6 +17,7 @@ ghost use Rattle.engine.specs.Replay.{callOf, callsFrom, putAnswer, putA
 #[no_mangle]
 pub extern "C" fn compile(sheet: &[u8], table: &mut [u8]) -> u32
     ensures { λ r. ⌜ compiled r (now (table .exit)) ≡ compileOn (now (sheet .entry)) (now (table .entry)) ⌝ }
+    ensures { λ _. ⌜ now (sheet .exit) ≡ now (sheet .entry) ⌝ }
 {
     compiler::compile_at(sheet, table)
 }
@@ -118,6 +119,7 @@ pub extern "C" fn replay(table: &[u8], round: &mut [u8], calls: &[u8], answers: 
     ensures { λ r. ⌜ now (round .exit) ≡ roundAfter (now (table .entry)) (callsFrom (now (calls .entry)) 0 r) (now (round .entry)) ⌝ }
     ensures { λ r. ⌜ now (answers .exit) ≡ putAnswers (now (answers .entry)) 0 (answersOn (now (table .entry)) (callsFrom (now (calls .entry)) 0 r) (now (round .entry))) ⌝ }
     ensures { λ _. ⌜ now (table .exit) ≡ now (table .entry) ⌝ }
+    ensures { λ _. ⌜ now (calls .exit) ≡ now (calls .entry) ⌝ }
 {
     let n = call_count(calls.len(), answers.len());
     let mut i = 0;

@@ -37,4 +37,4 @@ replay-spec =
     (c .before .before .put-answer .ensures) (search needs) (search needs))
     (λ c. omega arith)
     (λ c. omega arith)
-    (λ c. (c .before .before .call-count .ensures .0, (end-round (c .before .loop .inv) (c .loop-test .left), (end-answers (c .before .loop .inv) (c .loop-test .left), refl)))))
+    (λ c. (c .before .before .call-count .ensures .0, (end-round (c .before .loop .inv) (c .loop-test .left), (end-answers (c .before .loop .inv) (c .loop-test .left), (refl, refl))))))
