@@ -1,74 +1,22 @@
-// The desk program: reads fields from standard input and plays rounds on the engine. Tags (hexadecimal): 20 a sheet, 21 an arrival (event byte), 22 steps
-// (two-byte count), 23 a show. It prints C for a commit, B for the board, R for a refusal.
+// The desk program: reads fields from standard input, calls the engine and writes the lines of `script`, which has the format. Tags (hexadecimal): 20 a sheet, 21 an arrival,
+// 22 steps, 23 a show.
 use libc::STDIN_FILENO;
 use libc::STDOUT_FILENO;
-ghost use Prim.Native.Nat.{_<_};
+ghost use Prim.Native.Nat.{_≤_, _<_};
+ghost use lib.ListN.{length};
+ghost use Rattle.io.specs.Counts.{Counts};
 
-fn say(text: &[u8]) {
-    io::write_all(STDOUT_FILENO, text);
-}
-
-// R and the number.
 fn refuse(n: u64) {
-    say(b"R ");
-    io::print_decimal(STDOUT_FILENO, n);
-    say(b"\n");
+    let mut line = [0u8; 64];
+    let size = script::refusal(n, &mut line);
+    io::write_all(STDOUT_FILENO, &line[..size]);
 }
 
-// A 32-bit word as a signed number.
-fn print_value(w: u32) {
-    if w < 2147483648 {
-        io::print_decimal(STDOUT_FILENO, w as u64);
-        return;
-    }
-    say(b"-");
-    io::print_decimal(STDOUT_FILENO, 4294967296 - (w as u64));
-}
-
-// C, the arrival's number and the event's, from a step's answer.
-fn print_commit(answer: u64) {
-    say(b"C ");
-    io::print_decimal(STDOUT_FILENO, answer / 65536);
-    say(b" ");
-    io::print_decimal(STDOUT_FILENO, answer / 256 % 256);
-    say(b"\n");
-}
-
-// The values in order, as many as the program has.
-fn print_board(table: &[u8], round: &[u8]) {
-    let mut i = 0;
-    while i < 64 {
-        let answer = engine::board(table, round, i);
-        if answer < 4294967296 {
-            return;
-        }
-        say(b" ");
-        print_value((answer % 4294967296) as u32);
-        i += 1;
-    }
-}
-
-// "During copy-back a show prints the one line R 19, with or without behaviours."
-fn show(table: &[u8], round: &[u8]) {
-    if board::settling_at(table, round) {
-        refuse(19);
-        return;
-    }
-    say(b"B");
-    print_board(table, round);
-    say(b"\n");
-}
-
-// One step; a commit is printed.
+// One step.
 fn step_once(table: &[u8], round: &mut [u8]) {
-    let answer = engine::step(table, round);
-    if answer == 14 {
-        refuse(14);
-        return;
-    }
-    if answer % 256 == 3 {
-        print_commit(answer);
-    }
+    let mut line = [0u8; 64];
+    let size = script::step_line(engine::step(table, round), &mut line);
+    io::write_all(STDOUT_FILENO, &line[..size]);
 }
 
 fn steps(table: &[u8], round: &mut [u8], count: u32) {
@@ -86,88 +34,82 @@ fn arrive(table: &[u8], round: &mut [u8], event: u32) {
     }
 }
 
-// A sheet. "An accepted sheet begins a fresh round": a refused one leaves the earlier round as it was. Whether it was accepted.
-fn load(sheet: &[u8], table: &mut [u8], round: &mut [u8]) -> bool {
+// The board's values, as many as the program has. How many.
+fn collect(table: &[u8], round: &[u8], values: &mut [u32]) -> usize
+    requires { ⌜ 64 ≤ length (now values) ⌝ }
+    ensures { λ r. ⌜ r ≤ 64 ⌝ }
+    ensures { λ r. ⌜ Counts r (now (values .exit)) ⌝ }
+{
+    let mut i = 0;
+    while i < 64 {
+        let answer = engine::board(table, round, i);
+        if answer < 4294967296 {
+            break;
+        }
+        values[i as usize] = (answer % 4294967296) as u32;
+        i += 1;
+    }
+    i as usize
+}
+
+// "During copy-back a show prints the one line R 19, with or without behaviours."
+fn show(table: &[u8], round: &[u8]) {
+    if board::settling_at(table, round) {
+        refuse(19);
+        return;
+    }
+    let mut values = [0u32; 64];
+    let count = collect(table, round, &mut values);
+    let mut line = [0u8; 2048];
+    let size = script::board_line(&values[..count], &mut line);
+    io::write_all(STDOUT_FILENO, &line[..size]);
+}
+
+// A sheet. "An accepted sheet begins a fresh round": a refused one leaves the earlier round as it was. 2 where it is accepted, else 1.
+fn load(sheet: &[u8], table: &mut [u8], round: &mut [u8]) -> u8 {
     let r = engine::compile(sheet, table);
     if r != 0 {
         refuse(r as u64);
-        return false;
+        return 1;
     }
     engine::start(table, round);
-    true
+    2
 }
 
-// The length that a field of this tag has; 0 for a sheet, whose length is free.
-fn due(tag: u8) -> usize {
+// What a field asks for that is not refused: 1, or 2 where a sheet was accepted.
+fn act(tag: u8, value: &[u8], table: &mut [u8], round: &mut [u8]) -> u8 {
+    if tag == 32 {
+        return load(value, table, round);
+    }
     if tag == 33 {
+        arrive(table, round, script::number(value));
         return 1;
     }
     if tag == 34 {
-        return 2;
-    }
-    0
-}
-
-fn wide(x: u8) -> u32 {
-    x as u32
-}
-
-// A well-formed arrival, count of steps or show.
-fn play(tag: u8, value: &[u8], table: &[u8], round: &mut [u8]) {
-    if tag == 33 {
-        if value.len() == 1 {
-            arrive(table, round, wide(value[0]));
-        }
-        return;
-    }
-    if tag == 34 {
-        if value.len() == 2 {
-            steps(table, round, word::get_half(value, 0) as u32);
-        }
-        return;
+        steps(table, round, script::number(value));
+        return 1;
     }
     show(table, round);
+    1
 }
 
-// What a field's value asks for; `ready` says whether a sheet was accepted. Whether to go on: 0 no, 1 yes, 2 yes, and a sheet was accepted.
-fn act(tag: u8, value: &[u8], table: &mut [u8], round: &mut [u8], ready: bool) -> u8 {
-    if tag == 32 {
-        if load(value, table, round) {
-            return 2;
-        }
-        return 1;
-    }
-    if value.len() != due(tag) {
-        refuse(6);
-        return 0;
-    }
-    if ready {
-        play(tag, value, table, round);
-        return 1;
-    }
-    refuse(14);
-    1
+// A field refused: 0 where the program ends, 1 where it goes on.
+fn pass_over(verdict: u8) -> u8 {
+    refuse(verdict as u64);
+    if script::ends(verdict) { 0 } else { 1 }
 }
 
 // The field whose header is given: its value is read and acted on.
 fn field(tag: u8, size: usize, table: &mut [u8], round: &mut [u8], ready: bool) -> u8
     requires { ⌜ size < 65536 ⌝ }
 {
-    if tag < 32 {
-        refuse(5);
-        return 0;
-    }
-    if tag > 35 {
-        refuse(5);
-        return 0;
-    }
     let mut space = io::large_buffer();
     let got = io::read_full(STDIN_FILENO, &mut space[..size]);
-    if got < size {
-        refuse(4);
-        return 0;
+    let verdict = script::judge_value(tag, size, got, ready);
+    if verdict != 0 {
+        return pass_over(verdict);
     }
-    act(tag, &space[..size], table, round, ready)
+    act(tag, &space[..size], table, round)
 }
 
 // One field of the input: 0 where the program ends, 1 where it goes on, 2 where a sheet was accepted.
@@ -177,9 +119,9 @@ fn turn(table: &mut [u8], round: &mut [u8], ready: bool) -> u8 {
     if got == 0 {
         return 0;
     }
-    if got < 3 {
-        refuse(4);
-        return 0;
+    let verdict = script::judge_head(got, head[0]);
+    if verdict != 0 {
+        return pass_over(verdict);
     }
     let size = word::get_half(&head, 1) as usize;
     field(head[0], size, table, round, ready)
