@@ -4,20 +4,19 @@ use mathlib.Core.Path.{_≡_, refl, sym, ap, _∙_}
 use mathlib.Core.Bool.{Bool, true, false}
 use mathlib.Core.List.{List, [], _∷_, _++_, append-assoc, append-nil}
 use native.Mathlib.Omega.{arith}
-use lib.Dec.{eqb}
 use lib.ListN.{length, getD, take, drop, length-drop}
 use lib.Seq.{getD-drop}
-use borrow.Author.Tests.{eq-eqb, ne-eqb}
 use Rattle.base.specs.Basics.{pick}
 use Rattle.language.specs.Syntax.{Expr, Program}
-use Rattle.language.specs.Dependence.{Response, follows, takes, defers, keeps, size, response}
+use Rattle.language.specs.Dependence.{size, response}
 use Rattle.language.specs.Grammar.{Arity, unary, ternary, binary, Nested, n-con, n-name, n-app1, n-app2, n-app3}
 use Rattle.language.specs.Accepted.{NamesIn}
-use Rattle.language.specs.Code.{Instr, load, fetch, apply, copied, inC, postfix}
+use Rattle.language.specs.Code.{Instr, load, fetch, apply, inC, postfix}
 use Rattle.image.specs.Image.{operation, constant, codeWords}
 use Rattle.draft.specs.Draft.{nodes, entryOf, Drafted}
 use Rattle.draft.specs.Entry.{startOf, countOf, tagOf, wordOf}
-use Rattle.draft.specs.DraftLaws.{Holds, Entry, entry-of}
+use Rattle.draft.specs.DraftLaws.{Holds, entry-of}
+use Rattle.counts.specs.CountIs.{copied-is}
 use Rattle.emit.specs.Words.{each, inTurn, nameWords, nodeWords, exprWords}
 use Rattle.emit.specs.WritingLaws.{in-turn-each}
 use Rattle.emit.specs.BranchLaws.{node-push, node-name, node-apply}
@@ -62,13 +61,6 @@ name-words d e i h =
     let t : tagOf (73014444032 + i) ≡ 17 = omega arith in
     let z : wordOf (73014444032 + i) % 64 ≡ i = omega arith in
     sym (node-name d e (73014444032 + i) (λ u. omega arith) t) ∙ ap (nameWords d e) z
-
--- copied exactly where the entry is not 0
-pub copied-is : (d : List ℕ) (v : ℕ) (r : Response) → Entry d v r → eqb v 0 ≡ elim (copied r) [ true ↦ false | false ↦ true ]
-copied-is d v (follows x) h = ne-eqb v 0 (λ z. omega (arith, h .some))
-copied-is d v (takes x) h = ne-eqb v 0 (λ z. omega (arith, h .some))
-copied-is d v (defers x) h = ne-eqb v 0 (λ z. omega (arith, h .some))
-copied-is d v keeps h = eq-eqb v 0 h
 
 fetched : (i : ℕ) (b : Bool) → pick (elim b [ true ↦ false | false ↦ true ]) ((1536 + i) ∷ 0 ∷ []) ((1792 + i) ∷ 0 ∷ []) ≡ codeWords (pick b (fetch i) (load i) ∷ [])
 unfolding codeWords

@@ -1,6 +1,6 @@
--- The words of one event's code, from the draft (crate draft) and the order of phase one, as the compiler writes them. An instruction is two words:
+-- The words of one behaviour's instructions on an event, from the draft (crate draft), as the compiler writes them. An instruction is two words:
 -- operation * 256 + slot, and a constant (crate image). 01 "Handlers and steps".
-use Prim.Native.Nat.{ℕ, zero, suc, _+_, _*_, _%_}
+use Prim.Native.Nat.{ℕ, zero, suc, _+_, _%_}
 use mathlib.Core.List.{List, [], _∷_, _++_}
 use lib.ListN.{getD}
 use lib.Dec.{eqb}
@@ -17,11 +17,6 @@ each (suc n) f = each n f ++ f n
 unfoldable pub inTurn : (ℕ → List ℕ) → List ℕ → List ℕ
 inTurn f [] = []
 inTurn f (i ∷ is) = f i ++ inTurn f is
-
--- the sum of f over the numbers below n
-unfoldable pub total : ℕ → (ℕ → ℕ) → ℕ
-total zero f = 0
-total (suc n) f = total n f + f n
 
 -- a name: what the event copies is fetched from scratch, the rest is loaded from the store
 unfoldable pub nameWords : List ℕ → ℕ → ℕ → List ℕ
@@ -52,37 +47,3 @@ moveWords d e i = pick (eqb (kindOf (entryOf d e i)) 3) ((2816 + i) ∷ 0 ∷ []
 -- op i, if the event copies i
 unfoldable pub memberWords : List ℕ → ℕ → ℕ → ℕ → List ℕ
 memberWords d e op i = pick (eqb (entryOf d e i) 0) [] ((op + i) ∷ 0 ∷ [])
-
--- off, op i of each behaviour that the event copies, on
-unfoldable pub maskedWords : List ℕ → ℕ → ℕ → ℕ → List ℕ
-maskedWords d e op n = (256 ∷ 0 ∷ []) ++ (each n (memberWords d e op) ++ (512 ∷ 0 ∷ []))
-
--- phase one in its order, then the later handlers; their moves, then the passives again
-unfoldable pub firstWords : List ℕ → ℕ → ℕ → List ℕ → List ℕ
-firstWords d e n is = inTurn (turnWords d e 2304) is ++ each n (kindWords d e 3 2560)
-
-unfoldable pub secondWords : List ℕ → ℕ → ℕ → List ℕ → List ℕ
-secondWords d e n is = each n (moveWords d e) ++ inTurn (kindWords d e 1 2304) is
-
--- the code of event e, of n behaviours, in the order is
-unfoldable pub eventWords : List ℕ → ℕ → ℕ → List ℕ → List ℕ
-eventWords d e n is = maskedWords d e 768 n ++ (firstWords d e n is ++ (secondWords d e n is ++ maskedWords d e 1024 n))
-
--- ---- 01's count
-
--- what an entry adds to the count of instructions
-unfoldable pub shareOf : ℕ → ℕ
-shareOf v =
-    pick (eqb (kindOf v) 1) (2 + 2 * (countOf v + 1))
-    (pick (eqb (kindOf v) 2) (2 + (countOf v + 1))
-    (pick (eqb (kindOf v) 3) (2 + (countOf v + 2)) 0))
-
-unfoldable pub countEvent : List ℕ → ℕ → ℕ → ℕ
-countEvent d e n = 4 + total n (λ i. shareOf (entryOf d e i))
-
--- how many behaviours the event copies
-unfoldable pub isMember : ℕ → ℕ
-isMember v = pick (eqb v 0) 0 1
-
-unfoldable pub countMembers : List ℕ → ℕ → ℕ → ℕ
-countMembers d e n = total n (λ i. isMember (entryOf d e i))

@@ -11,10 +11,8 @@ use lib.Seq.{take-suc}
 use Rattle.word.specs.Word.{put}
 use Rattle.image.specs.Image.{putWords}
 use Rattle.image.specs.PutWords.{length-putWords, putWords-append}
-use Rattle.draft.specs.Draft.{entryOf}
-use Rattle.draft.specs.Entry.{startOf, countOf}
 use Rattle.emit.specs.Words.{each, inTurn}
-use Rattle.emit.specs.Writing.{Room, Wrote, Sound, Listed}
+use Rattle.emit.specs.Writing.{Room, Wrote}
 
 -- ---- one after the other
 
@@ -96,14 +94,3 @@ pub in-turn-each : (f : ℕ → List ℕ) (o : List ℕ) (count : ℕ) → count
 unfolding each inTurn
 in-turn-each f o zero h = refl
 in-turn-each f o (suc j) h = rw (take-suc o j 0 (omega arith), inTurn-snoc f (take j o) (getD o j 0), in-turn-each f o j (omega arith))
-
-pub each-in-turn : {o : List ℕ} {count n : ℕ} (f : ℕ → List ℕ) → Listed o count n → each count (λ j. f (getD o j 0)) ≡ inTurn f (take count o)
-each-in-turn {o} {count} f h = sym (in-turn-each f o count (h .long))
-
--- ---- what is asked of draft and order
-
-pub sound-at : {d : List ℕ} {e n i : ℕ} → Sound d e n → i < n → Sound d e (i + 1)
-sound-at s b = record { long = s .long; few = omega (arith, s .few); inside = λ j h. s .inside j (omega arith) }
-
-pub sound-inside : {d : List ℕ} {e n i v : ℕ} → Sound d e n → i < n → v ≡ entryOf d e i → startOf v + countOf v ≤ 2048
-sound-inside {i} s b is = rw is (s .inside i b)

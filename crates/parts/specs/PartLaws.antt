@@ -1,5 +1,5 @@
--- The loops that write the table's parts: what is written so far goes on where it ended. A count is small, so that it fits a word.
-use Prim.Native.Nat.{ℕ, zero, suc, _+_, _*_, _-_, _≤_, _<_}
+-- The loops that write the table's parts: what is written so far goes on where it ended.
+use Prim.Native.Nat.{ℕ, _+_, _-_, _≤_, _<_}
 use mathlib.Core.Path.{_≡_, sym}
 use mathlib.Core.List.{List, [], _∷_}
 use native.Mathlib.Omega.{arith}
@@ -8,11 +8,8 @@ use lib.ListN.{length, getD, take, replicate, replicate-append-replicate}
 use lib.Seq.{take-suc, take-all}
 use Rattle.word.specs.Word.{put}
 use Rattle.image.specs.Image.{putWords}
-use Rattle.draft.specs.Draft.{entryOf}
-use Rattle.emit.specs.Words.{total, isMember, countMembers}
 use Rattle.emit.specs.Writing.{Wrote}
 use Rattle.emit.specs.WritingLaws.{wrote-none, wrote-then, wrote-as}
-use Rattle.emit.specs.CountLaws.{member-small}
 
 pub wrote-one : {t t′ : List ℕ} {k w : ℕ} → t′ ≡ put t k w → Wrote t k (w ∷ []) t′ (k + 1)
 unfolding putWords
@@ -70,17 +67,3 @@ values-turn {v} {j = j} u l h q =
 
 pub values-end : {v t₀ t : List ℕ} {k next j : ℕ} → Values v t₀ k t next j → length v ≡ 64 → 64 ≤ j → Wrote t₀ k v t next
 values-end {v} {j = j} u l h = wrote-as (take-all j v (omega arith)) (u .wrote)
-
--- ---- counts
-
-pub total-le : (f : ℕ → ℕ) (b n : ℕ) → ((i : ℕ) → i < n → f i ≤ b) → total n f ≤ n * b
-unfolding total
-total-le f b zero h = omega arith
-total-le f b (suc n) h = omega (arith, total-le f b n (λ i c. h i (omega arith)), h n (omega arith))
-
-pub members-small : (d : List ℕ) (e n : ℕ) → countMembers d e n ≤ n
-unfolding countMembers
-members-small d e n = omega (arith, total-le (λ i. isMember (entryOf d e i)) 1 n (λ i b. member-small (entryOf d e i)))
-
-pub members-fit : (d : List ℕ) (e n r : ℕ) → r ≡ countMembers d e n → n ≤ 64 → r ≤ 64
-members-fit d e n r q h = omega (arith, members-small d e n)

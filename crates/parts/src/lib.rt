@@ -4,7 +4,7 @@ ghost use mathlib.Core.List.{[], _∷_};
 ghost use Prim.Native.Nat.{_+_, _-_, _%_, _<_, _≤_};
 ghost use lib.ListN.{length, getD, replicate};
 ghost use Rattle.image.specs.Image.{padded};
-ghost use Rattle.emit.specs.Words.{countMembers};
+ghost use Rattle.counts.specs.Counts.{countMembers};
 ghost use Rattle.emit.specs.Writing.{Wrote};
 use word::put_word;
 
@@ -48,7 +48,7 @@ pub fn write_record(
     put_word(t, k, (d[4224 + e] % 4294967296) as u32);
     put_word(t, k + 1, start as u32);
     put_word(t, k + 2, count as u32);
-    put_word(t, k + 3, emit::count_members(d, e, bs) as u32);
+    put_word(t, k + 3, counts::count_members(d, e, bs) as u32);
     k + 4
 }
 

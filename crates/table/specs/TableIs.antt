@@ -1,15 +1,14 @@
 -- The words that the compiler writes for the draft of a program are the program's image: part by part, each by the theorem of the crate that makes it.
 use Prim.Native.Nat.{ℕ, zero, suc, _+_, _*_, _%_, _≤_, _<_}
-use mathlib.Core.Bool.{Bool, true, false, not}
+use mathlib.Core.Bool.{true, false}
 use mathlib.Core.Path.{_≡_, refl, sym, ap, _∙_}
 use mathlib.Core.List.{List, [], _∷_}
 use native.Mathlib.Omega.{arith}
-use lib.Dec.{eqb}
 use lib.ListN.{length, getD}
 use Rattle.base.specs.Tools.{all-at}
 use Rattle.language.specs.Syntax.{Program}
-use Rattle.language.specs.Dependence.{Response, follows, takes, defers, keeps, size, events, response, dependsOn, NoCycle}
-use Rattle.language.specs.Order.{upTo, early, order, metAtOnce, phaseOne}
+use Rattle.language.specs.Dependence.{size, events, NoCycle}
+use Rattle.language.specs.Order.{upTo}
 use Rattle.language.specs.Grammar.{Fits}
 use Rattle.language.specs.Accepted.{Known, Valid}
 use Rattle.language.specs.Code.{Instr, code, join, sum, members, instructions, allInstructions}
@@ -18,20 +17,22 @@ use Rattle.language.specs.Laws.{upTo-same}
 use Rattle.execution.specs.Sums.{length-join}
 use Rattle.execution.specs.Lengths.{length-counted}
 use Rattle.image.specs.Image.{codeWords, allCode, startOf, eventRecord, padded, imageWords}
-use Rattle.draft.specs.Draft.{entryOf, Drafted, DraftOf}
-use Rattle.draft.specs.DraftLaws.{Entry, entry-of, draft-long, draft-events, draft-behaviours}
-use Rattle.graph.specs.Matrix.{cell}
-use Rattle.graph.specs.OrderIs.{order-same}
-use Rattle.analysis.specs.Checks.{matrixOn, namesKnown, cyclicOn}
-use Rattle.analysis.specs.MatrixAgrees.{matrix-is}
-use Rattle.analysis.specs.CycleDecides.{cell-is, known-decides, cyclic-decides}
+use Rattle.image.specs.ImageLaws.{length-codeWords}
+use Rattle.draft.specs.Draft.{Drafted, DraftOf}
+use Rattle.draft.specs.DraftLaws.{draft-long, draft-events, draft-behaviours}
+use Rattle.analysis.specs.Checks.{namesKnown, cyclicOn}
+use Rattle.analysis.specs.CycleDecides.{known-decides, cyclic-decides}
 use Rattle.analysis.specs.DraftChecks.{draft-inside, draft-names, draft-cyclic}
 use Rattle.evaluate.specs.FreshIs.{fresh-padded}
-use Rattle.emit.specs.Words.{each, countEvent, countMembers}
+use Rattle.counts.specs.Counts.{countEvent, countMembers}
+use Rattle.counts.specs.CountIs.{total-sum, count-is, members-is}
+use Rattle.ordering.specs.OrderingIs.{order-is}
+use Rattle.emit.specs.Words.{each}
 use Rattle.emit.specs.ExprWords.{codeWords-append}
-use Rattle.image.specs.ImageLaws.{length-codeWords}
-use Rattle.emit.specs.EventWords.{join-snoc, total-sum, event-words, count-is, members-is}
-use Rattle.table.specs.TableWords.{markOf, orderUnder, countBefore, recordWords, freshWords, codeOf, tableWords, Planned}
+use Rattle.phases.specs.PhasesAre.{join-snoc}
+use Rattle.handlers.specs.Handlers.{codeOf}
+use Rattle.handlers.specs.HandlersAre.{code-words}
+use Rattle.table.specs.TableWords.{countBefore, recordWords, freshWords, tableWords, Planned}
 
 -- ---- one after the other
 
@@ -49,21 +50,12 @@ unfolding join upTo codeWords
 code-join zero g = refl
 code-join (suc n) g = rw (codeWords-append (g 0) (join (upTo n (λ i. g (suc i)))), code-join n (λ i. g (suc i)))
 
--- ---- marks
-
-mark-early : (d : List ℕ) (v : ℕ) (r : Response) → Entry d v r → eqb (markOf v) 0 ≡ early r
-unfolding markOf
-mark-early d v (follows x) h = rw (h .kind-is)
-mark-early d v (takes x) h = rw (h .kind-is)
-mark-early d v (defers x) h = rw (h .kind-is)
-mark-early d v keeps h = rw h
-
 module _ (p : Program) (d : List ℕ) (n : ℕ) (dr : Drafted p d n) (fits : Fits p) (known : Known p) where
   -- ---- counts
 
   before-is : (e : ℕ) → e ≤ 32 → countBefore d (size p) e ≡ sum (upTo e (instructions p))
   unfolding countBefore
-  before-is e b = total-sum e (λ f. countEvent d f (size p)) (instructions p) (λ f h. count-is p d n dr fits known f (omega arith))
+  before-is e b = total-sum e (λ f. countEvent d f (size p)) (instructions p) (λ f h. count-is p d n dr f (omega arith))
 
   pub all-is : countBefore d (size p) (events p) ≡ allInstructions p
   unfolding allInstructions
@@ -81,20 +73,6 @@ module _ (p : Program) (d : List ℕ) (n : ℕ) (dr : Drafted p d n) (fits : Fit
     length-all =
         length-join (events p) (code p) ∙ ap sum (upTo-same (events p) (λ e. length (code p e)) (instructions p) (λ e h. sym (counted e h)))
 
-    -- ---- phase one's order
-
-    order-is : (e : ℕ) → e ≤ 32 → orderUnder d e (size p) ≡ phaseOne p e
-    unfolding orderUnder phaseOne metAtOnce
-    order-is e b =
-        let m = matrixOn d e (size p) in
-        let f : ℕ → Bool = λ i. not (eqb (markOf (entryOf d e i)) 0) in
-        let small : size p ≤ 64 = fits .few-behaviours in
-        order-same (size p) (λ i j. cell m i j) (dependsOn p e)
-        (λ i j h k. ap (λ (x : List ℕ). cell x i j) (matrix-is p d n e fits dr b) ∙ cell-is p e i j (omega arith) (omega arith)) (size p) (upTo (size p) f)
-        ∙ ap (order (size p) (dependsOn p e) (size p))
-        (upTo-same (size p) f (λ i. not (early (response p e i)))
-        (λ i h. ap not (mark-early d (entryOf d e i) (response p e i) (entry-of p d n dr e i b h))))
-
     -- ---- the parts
 
     record-is : (e : ℕ) → e < events p → recordWords d (size p) e ≡ eventRecord p e
@@ -105,18 +83,15 @@ module _ (p : Program) (d : List ℕ) (n : ℕ) (dr : Drafted p d n) (fits : Fit
         let priority : getD d (4224 + e) 0 % 4294967296 ≡ getD (p .priorities) e 0 = rw (dr .priorities e h) (omega (arith, small)) in
         let start : countBefore d (size p) e ≡ sum (upTo e (λ f. length (code p f))) =
         before-is e (omega arith) ∙ ap sum (upTo-same e (instructions p) (λ f. length (code p f)) (λ f b. counted f (omega arith))) in
-        let count : countEvent d e (size p) ≡ length (code p e) = count-is p d n dr fits known e (omega arith) ∙ counted e h in
-        let copies : countMembers d e (size p) ≡ members p e = members-is p d n dr fits known e (omega arith) in
+        let count : countEvent d e (size p) ≡ length (code p e) = count-is p d n dr e (omega arith) ∙ counted e h in
+        let copies : countMembers d e (size p) ≡ members p e = members-is p d n dr e (omega arith) in
         λ i. priority i ∷ start i ∷ count i ∷ copies i ∷ []
 
     records-are : each (events p) (recordWords d (size p)) ≡ join (upTo (events p) (eventRecord p))
     records-are = each-join (events p) (recordWords d (size p)) (eventRecord p) record-is
 
     code-is : (e : ℕ) → e < events p → codeOf d (size p) e ≡ codeWords (code p e)
-    unfolding codeOf
-    code-is e h =
-        let b : e ≤ 32 = omega (arith, fits .few-events) in
-        rw (order-is e b) (event-words p d n dr fits known e b)
+    code-is e h = code-words p d n dr fits known e (omega (arith, fits .few-events)) (acyclic e (omega arith))
 
     codes-are : each (events p) (codeOf d (size p)) ≡ codeWords (allCode p)
     unfolding allCode
@@ -124,7 +99,7 @@ module _ (p : Program) (d : List ℕ) (n : ℕ) (dr : Drafted p d n) (fits : Fit
 
     fresh-are : freshWords d (events p) (size p) ≡ padded 376 (fresh p)
     unfolding freshWords padded
-    fresh-are = rw (order-is (events p) (fits .few-events)) (fresh-padded p d n dr fits valid 376 (omega arith))
+    fresh-are = rw (order-is p d n dr fits (events p) (fits .few-events)) (fresh-padded p d n dr fits valid 376 (omega arith))
 
     pub table-is : tableWords d (events p) (size p) ≡ imageWords p
     unfolding tableWords imageWords

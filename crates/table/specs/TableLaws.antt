@@ -1,74 +1,30 @@
 -- The loops that write the table, and its parts one after the other: what is written so far goes on where it ended. A count is small, so that the sum fits.
 use Prim.Native.Nat.{ℕ, zero, suc, _+_, _*_, _-_, _%_, _≤_, _<_}
-use mathlib.Core.Path.{_≡_, refl, ap, _∙_}
-use mathlib.Core.Logic.{_≢_, by-cases}
+use mathlib.Core.Path.{_≡_, refl}
+use mathlib.Core.Logic.{by-cases}
 use mathlib.Core.List.{List, [], _∷_}
 use native.Mathlib.Decide.{decLt}
 use native.Mathlib.Omega.{arith}
 use native.Mathlib.Numerals.{add-one}
-use lib.ListN.{length, getD, set, take, replicate, length-set, length-append, length-replicate}
-use lib.Seq.{getD-set-same, getD-set-other}
+use lib.ListN.{length, getD, take, replicate, length-append, length-replicate}
 use Rattle.image.specs.ImageLaws.{length-padded}
 use Rattle.image.specs.Image.{putWords, padded}
 use Rattle.draft.specs.Draft.{entryOf}
-use Rattle.graph.specs.Matrix.{cell}
-use Rattle.graph.specs.Placing.{placed, orderOn, ordered}
-use Rattle.graph.specs.OrderIs.{order-written, written-take, ordered-same, order-count, order-member}
-use Rattle.analysis.specs.Checks.{matrixOn, Inside, RowsInside, AllInside}
+use Rattle.analysis.specs.Checks.{Inside, RowsInside, AllInside}
 use Rattle.evaluate.specs.Evaluate.{freshOn}
-use Rattle.emit.specs.Words.{each, total, shareOf, countEvent, countMembers}
+use Rattle.counts.specs.Counts.{total, shareOf, countEvent, countMembers}
+use Rattle.counts.specs.CountLaws.{share-small, total-le}
+use Rattle.ordering.specs.Ordering.{orderUnder, Holds}
+use Rattle.emit.specs.Words.{each}
 use Rattle.emit.specs.Writing.{Room, Wrote}
 use Rattle.emit.specs.WritingLaws.{Turn, start, turn-room, turn, end, wrote-then}
-use Rattle.emit.specs.CountLaws.{share-small}
-use Rattle.parts.specs.PartLaws.{total-le}
-use Rattle.table.specs.TableWords.{markOf, MarksAre, orderUnder, Holds, countBefore, recordWords, freshWords, codeOf, tableWords, Planned}
+use Rattle.handlers.specs.Handlers.{codeOf}
+use Rattle.table.specs.TableWords.{countBefore, recordWords, freshWords, tableWords, Planned}
 
 -- ---- what a draft that is written from has
 
 pub planned-inside : {d : List ℕ} {ev bs : ℕ} → Planned d ev bs → (e i : ℕ) → i < bs → e ≤ ev → Inside d e i
 planned-inside p e i b h = p .inside e h i b
-
--- ---- marks and order
-
-pub record Marking (d : List ℕ) (e n : ℕ) (marks₀ marks : List ℕ) (i : ℕ) : Type 0 where
-  pub so-far : MarksAre d e i marks
-  pub within : i ≤ n
-  pub long : length marks ≡ length marks₀
-
-pub marking-start : (d : List ℕ) (e n : ℕ) (marks : List ℕ) → Marking d e n marks marks 0
-marking-start d e n marks = record { so-far = record { each-mark = λ i h. absurd (omega arith) }; within = omega arith; long = refl }
-
-pub marking-turn : {d : List ℕ} {e n : ℕ} {marks₀ marks : List ℕ} {i v m : ℕ} → Marking d e n marks₀ marks i → length marks₀ ≡ 64 → n ≤ 64 → i < n
-    → v ≡ entryOf d e i → m ≡ markOf v → Marking d e n marks₀ (set marks i m) (i + 1)
-marking-turn {d} {e} {n} {marks₀} {marks} {i} {v} {m} t l b h q r =
-    let s : i < length marks = omega (arith, t .long) in
-    record {
-      so-far = record {
-        each-mark = λ j c. by-cases (decLt j i)
-            (λ p. let x : j ≢ i = omega arith in getD-set-other marks i j m 0 x ∙ t .so-far .each-mark j p)
-            (λ p. let x : j ≡ i = omega arith in rw x (getD-set-same marks i m 0 s ∙ r ∙ ap markOf q));
-      };
-      within = omega arith;
-      long = rw length-set (t .long);
-    }
-
-pub marking-end : {d : List ℕ} {e n : ℕ} {marks₀ marks : List ℕ} {i : ℕ} → Marking d e n marks₀ marks i → n ≤ i → MarksAre d e n marks
-marking-end {n = n} {i = i} t h = let s : i ≡ n = omega (arith, t .within) in rw s at (t .so-far)
-
--- the bytes that `order_of` writes, from the matrix and the marks of event e
-pub order-holds : (d : List ℕ) (e n : ℕ) (m marks out : List ℕ) (count : ℕ) (marks′ out′ : List ℕ) → n ≤ 64 → m ≡ matrixOn d e n → length marks ≡ 64
-    → MarksAre d e n marks → length out ≡ 64 → placed count marks′ out′ ≡ orderOn m n n marks 0 out → length out′ ≡ 64 → Holds out′ count n (orderUnder d e n)
-unfolding orderUnder
-order-holds d e n m marks out count marks′ out′ small q l k o r l′ = record {
-  taken =
-      written-take (ordered m n marks) out count marks′ out′ (order-written m marks out n l o small count marks′ out′ r)
-      ∙ ordered-same m marks n (λ i j. cell (matrixOn d e n) i j) (λ i. _) (λ i j a b. ap (λ (x : List ℕ). cell x i j) q)
-      (λ i b. rw (k .each-mark i b));
-  listed = record {
-    long = omega (arith, order-count m marks out n l o small count marks′ out′ r);
-    below = order-member m marks out n l o small count marks′ out′ r;
-  };
-}
 
 -- ---- counts
 

@@ -1,7 +1,8 @@
 -- `emit::emit_turn` meets its contract: the words of the expression, and then those of the instruction. Assumes nothing.
 use native.Mathlib.Omega.{arith}
 use borrow.Author.Needs.{needs}
-use Rattle.emit.specs.WritingLaws.{wrote-as, wrote-then, room-as, room-first, room-then, sound-inside}
+use Rattle.counts.specs.CountLaws.{sound-inside}
+use Rattle.emit.specs.WritingLaws.{wrote-as, wrote-then, room-as, room-first, room-then}
 use Rattle.emit.specs.BranchLaws.{turn-is}
 use Rattle.emit.proofs.emit_turn.Statement.{statement}
 use Rattle.emit.proofs.emit_turn.Tie as tie

@@ -1,7 +1,8 @@
 -- `parts::write_record` meets its contract: four words. Assumes nothing.
 use native.Mathlib.Omega.{arith}
 use borrow.Author.Needs.{needs}
-use Rattle.parts.specs.PartLaws.{wrote-four, members-fit}
+use Rattle.counts.specs.CountLaws.{members-fit}
+use Rattle.parts.specs.PartLaws.{wrote-four}
 use Rattle.parts.proofs.write_record.Statement.{statement}
 use Rattle.parts.proofs.write_record.Tie as tie
 

@@ -2,7 +2,7 @@
 use Prim.Native.Nat.{_-_}
 use native.Mathlib.Omega.{arith}
 use Rattle.emit.specs.WritingLaws.{Turn, start, turn-room, turn, end, turn-long}
-use Rattle.table.specs.TableWords.{codeOf}
+use Rattle.handlers.specs.Handlers.{codeOf}
 use Rattle.table.proofs.write_codes.Statement.{statement}
 use Rattle.table.proofs.write_codes.Tie as tie
 
@@ -24,6 +24,6 @@ write-codes-spec =
     ((record { long = p .long; few = p .few-behaviours; inside = p .inside (c .before .before .loop .e) (omega arith) }, omega (arith, p .few-events)), turn-room (c .before .before .loop .inv) (c .before .loop-test .taken)))
     (λ c. omega arith)
     (λ c. omega arith)
-    (λ c. turn (c .before .before .before .before .before .loop .inv) (c .before .before .before .before .loop-test .taken) (c .before .before .write-code .ensures))
+    (λ c. turn (c .before .before .before .before .before .loop .inv) (c .before .before .before .before .loop-test .taken) (c .before .before .compile-event .ensures))
     (λ c. turn-long (c .before .loop .inv))
     (λ c. end (c .before .loop .inv) (c .loop-test .left)))

@@ -1,0 +1,5 @@
+pub mod Figure3
+pub mod InTable
+pub mod Parts
+pub mod Derived
+pub mod Compiles

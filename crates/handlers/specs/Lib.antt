@@ -1,0 +1,4 @@
+pub mod Handlers
+pub mod PutOrder
+pub mod HandlerLaws
+pub mod HandlersAre
