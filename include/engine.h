@@ -18,6 +18,7 @@ extern "C" {
 
 #define ENGINE_TABLE 34816u
 #define ENGINE_ROUND 2048u
+#define ENGINE_PARAMS 32u
 
 /* Why a call was turned down. No call gives 2: a sheet of no bytes is accepted, with no events and no behaviours. */
 enum engine_refusal {
@@ -27,7 +28,7 @@ enum engine_refusal {
     ENGINE_WRONG_TAG = 5,      /* a tag not allowed there; an event after a behaviour */
     ENGINE_WRONG_LENGTH = 6,   /* fixed length differs; a due byte is missing; bytes left over */
     ENGINE_CROWDED = 7,        /* 33rd event, 65th behaviour */
-    ENGINE_OFF_THE_SCALE = 8,  /* rank, event, phase or function byte not listed or not declared */
+    ENGINE_OFF_THE_SCALE = 8,  /* rank, event, phase, function or parameter byte not listed or not declared */
     ENGINE_TOO_DEEP = 9,       /* an expression at nesting 17 */
     ENGINE_DOUBLED = 10,       /* second handler for an event in one behaviour */
     ENGINE_UNKNOWN_NAME = 11,  /* no such behaviour in the sheet */
@@ -38,11 +39,13 @@ enum engine_refusal {
     ENGINE_FULL_HAND = 16,     /* 64 in hand */
     ENGINE_SPENT = 17,         /* 1,000,000 already taken in */
     ENGINE_NO_SUCH_BEHAVIOUR = 18, /* number not in the sheet */
-    ENGINE_SETTLING = 19       /* board read during copy-back */
+    ENGINE_SETTLING = 19,      /* board read during copy-back */
+    ENGINE_NO_PARAMETERS = 20  /* compile: the sheet uses a parameter and fewer than 32 bytes are lent */
 };
 
-/* Compiles a sheet into the table. 0, or the refusal's number (1, 3 to 13). */
-uint32_t compile(const uint8_t *sheet, size_t sheet_len, uint8_t *table, size_t table_len);
+/* Compiles a sheet into the table. 0, or the refusal's number (1, 3 to 13, 20; 20 is checked after 11). Parameters: eight big-endian signed values of 32 bits, ENGINE_PARAMS
+ * bytes, parameter n of the sheet standing for the n-th; bytes beyond are not read. A sheet that uses none may be lent none: a pointer to any byte, with length 0. */
+uint32_t compile(const uint8_t *sheet, size_t sheet_len, const uint8_t *params, size_t params_len, uint8_t *table, size_t table_len);
 
 /* Makes the round fresh for the table's sheet; its old bytes are not read. 0, or 14. */
 uint32_t start(const uint8_t *table, size_t table_len, uint8_t *round, size_t round_len);

@@ -6,11 +6,12 @@ function close_block() {
 }
 /^    / {
     if (!open) {
-        match($0, /[a-z]+\(/)
-        call = substr($0, RSTART, RLENGTH - 1)
         print "    before(round);\n    {"
         open = 1
+        call = ""
     }
+    if (call == "" && match($0, /[a-z]+\(/))
+        call = substr($0, RSTART, RLENGTH - 1)
     print
     next
 }

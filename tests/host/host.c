@@ -16,12 +16,20 @@ static void expect(int ok, const char *what)
     }
 }
 
-static uint32_t load(const uint8_t *sheet, size_t n)
+/* Parameter 0 is the easy or the hard number; the others are 0. */
+static const uint8_t easy[ENGINE_PARAMS] = {0, 0, 0, 1}, hard[ENGINE_PARAMS] = {0, 0, 0, 5};
+
+static uint32_t load_with(const uint8_t *sheet, size_t n, const uint8_t *params, size_t lent)
 {
-    uint32_t r = compile(sheet, n, table, sizeof table);
+    uint32_t r = compile(sheet, n, params, lent, table, sizeof table);
     if (r == 0)
         expect(start(table, sizeof table, round_, sizeof round_) == 0, "start");
     return r;
+}
+
+static uint32_t load(const uint8_t *sheet, size_t n)
+{
+    return load_with(sheet, n, easy, 0);
 }
 
 static void take(uint32_t event)
@@ -122,6 +130,26 @@ static void hover(void)
     expect(preview(table, sizeof table, round_, sizeof round_, 0, 2) == ENGINE_NO_SUCH_BEHAVIOUR, "behaviour 2 cannot be shown");
 }
 
+/* Easy and hard from one sheet: b0 = init 0 {0 => b0 + parameter 0}. */
+static void levels(void)
+{
+    static const uint8_t level[] = {
+        0x01, 0, 1, 0,
+        0x03, 0, 24, 0x04, 0, 4, 0, 0, 0, 0,
+            0x05, 0, 14, 0, 0, 0x12, 0, 9, 4, 0x11, 0, 1, 0, 0x13, 0, 1, 0,
+    };
+
+    expect(load_with(level, sizeof level, easy, sizeof easy) == 0, "the easy round");
+    take(0);
+    settle();
+    expect(value(0) == 1, "b0 is 1 in the easy round");
+    expect(load_with(level, sizeof level, hard, sizeof hard) == 0, "the hard round");
+    take(0);
+    settle();
+    expect(value(0) == 5, "b0 is 5 in the hard round");
+    expect(load_with(level, sizeof level, hard, sizeof hard - 1) == ENGINE_NO_PARAMETERS, "31 bytes of parameters");
+}
+
 int main(void)
 {
     static const int32_t want[][2] = {{2, 1}, {3, 2}, {5, 3}};
@@ -157,7 +185,7 @@ int main(void)
     expect(arrive(table, sizeof table, round_, sizeof round_, 2) == ENGINE_NO_SUCH_EVENT, "event 2");
     expect(board(table, sizeof table, round_, sizeof round_, 2) == ENGINE_NO_SUCH_BEHAVIOUR, "behaviour 2");
     expect(step(table, 10, round_, sizeof round_) == ENGINE_FOREIGN, "a short table");
-    expect(compile(S, sizeof S, table, ENGINE_TABLE - 1) == ENGINE_SHORT_TABLE, "a table of 34,815 bytes");
+    expect(compile(S, sizeof S, easy, 0, table, ENGINE_TABLE - 1) == ENGINE_SHORT_TABLE, "a table of 34,815 bytes");
     expect(load(S, 0) == 0, "a sheet of no bytes is accepted");
     expect(frame(1), "and idle");
     expect(arrive(table, sizeof table, round_, sizeof round_, 0) == ENGINE_NO_SUCH_EVENT, "it has no event");
@@ -165,6 +193,7 @@ int main(void)
     audit();
     plan();
     hover();
+    levels();
     puts(faults ? "host: faults" : "host: all as the scope says");
     return faults != 0;
 }

@@ -9,6 +9,7 @@ static int faults, examples;
 
 /* What the examples leave to the host. */
 uint32_t event = 0, behaviour = 0;
+static uint8_t sheet[74];
 static int32_t shown;
 
 void show(int32_t value)
@@ -22,7 +23,7 @@ static const struct {
     int32_t b0, b1;
     int idle;
     int32_t shown;
-} want[] = {{"arrive", 3, 2, 1, 0}, {"forecast", 2, 1, 1, 0}, {"preview", 1, 1, 0, 3}};
+} want[] = {{"arrive", 3, 2, 1, 0}, {"forecast", 2, 1, 1, 0}, {"preview", 1, 1, 0, 3}, {"compile", 1, 1, 0, 0}};
 
 static void before(uint8_t *round)
 {
@@ -51,10 +52,11 @@ int main(void)
     static uint8_t round[ENGINE_ROUND];
     uint8_t in[3 + 74];
 
-    if (fread(in, 1, sizeof in, stdin) != sizeof in || compile(in + 3, sizeof in - 3, table, sizeof table) != 0) {
+    if (fread(in, 1, sizeof in, stdin) != sizeof in || compile(in + 3, sizeof in - 3, in, 0, table, sizeof table) != 0) {
         puts("no sheet S");
         return 1;
     }
+    memcpy(sheet, in + 3, sizeof sheet);
 #include "pages.inc"
     printf("pages: %d examples of docs/HOST.md\n", examples);
     return faults != 0 || examples == 0;

@@ -1,6 +1,6 @@
 -- Each answer of `judge` and `compileOn` from the facts that lead to it, by the branches in turn; and back.
 use Prim.Native.Nat.{ℕ, _≤_, _<_}
-use mathlib.Core.Bool.{true, false}
+use mathlib.Core.Bool.{Bool, true, false}
 use mathlib.Core.Path.{_≡_}
 use mathlib.Core.List.{List}
 use lib.ListN.{length}
@@ -8,54 +8,60 @@ use lib.Dec.{ltb}
 use borrow.Author.Tests.{lt-ltb, le-ltb, ltb-true, ltb-false}
 use Rattle.base.specs.Tools.{by-test}
 use Rattle.language.specs.Syntax.{Program}
-use Rattle.language.specs.Reading.{readProgram}
+use Rattle.language.specs.Reading.{readSheet}
 use Rattle.language.specs.Code.{allInstructions}
 use Rattle.analysis.specs.Faults.{known, cyclic}
 use Rattle.image.specs.Image.{tableOf}
 use Rattle.compiler.specs.Verdict.{Compiled, compiled, judge, judgeRead, compileOn}
 
 module _ (p : Program) (t : List ℕ) where
-  pub judge-unknown : known p ≡ false → judge p t ≡ compiled 11 t
+  pub judge-unknown : (l : Bool) → known p ≡ false → judge p l t ≡ compiled 11 t
   unfolding judge
-  judge-unknown k = rw k
+  judge-unknown l k = rw k
 
-  pub judge-cycle : known p ≡ true → cyclic p ≡ true → judge p t ≡ compiled 12 t
+  pub judge-lacking : known p ≡ true → judge p true t ≡ compiled 20 t
+  unfolding judge
+  judge-lacking k = rw k
+
+  pub judge-cycle : known p ≡ true → cyclic p ≡ true → judge p false t ≡ compiled 12 t
   unfolding judge
   judge-cycle k c = rw (k, c)
 
-  pub judge-long : known p ≡ true → cyclic p ≡ false → 4096 < allInstructions p → judge p t ≡ compiled 13 t
+  pub judge-long : known p ≡ true → cyclic p ≡ false → 4096 < allInstructions p → judge p false t ≡ compiled 13 t
   unfolding judge
   judge-long k c h = rw (k, c, lt-ltb 4096 (allInstructions p) h)
 
-  pub judge-passes : known p ≡ true → cyclic p ≡ false → allInstructions p ≤ 4096 → judge p t ≡ compiled 0 (tableOf p t)
+  pub judge-passes : known p ≡ true → cyclic p ≡ false → allInstructions p ≤ 4096 → judge p false t ≡ compiled 0 (tableOf p t)
   unfolding judge
   judge-passes k c h = rw (k, c, le-ltb 4096 (allInstructions p) h)
 
   -- what led to an answer
-  pub data Verdict : Compiled → Type 0 where
-    unknown : known p ≡ false → Verdict (compiled 11 t)
-    circular : known p ≡ true → cyclic p ≡ true → Verdict (compiled 12 t)
-    long : known p ≡ true → cyclic p ≡ false → 4096 < allInstructions p → Verdict (compiled 13 t)
-    passed : known p ≡ true → cyclic p ≡ false → allInstructions p ≤ 4096 → Verdict (compiled 0 (tableOf p t))
+  pub data Verdict (l : Bool) : Compiled → Type 0 where
+    unknown : known p ≡ false → Verdict l (compiled 11 t)
+    lacking : known p ≡ true → l ≡ true → Verdict l (compiled 20 t)
+    circular : known p ≡ true → l ≡ false → cyclic p ≡ true → Verdict l (compiled 12 t)
+    long : known p ≡ true → l ≡ false → cyclic p ≡ false → 4096 < allInstructions p → Verdict l (compiled 13 t)
+    passed : known p ≡ true → l ≡ false → cyclic p ≡ false → allInstructions p ≤ 4096 → Verdict l (compiled 0 (tableOf p t))
 
-  pub judge-says : Verdict (judge p t)
+  pub judge-says : (l : Bool) → Verdict l (judge p l t)
   unfolding judge
-  judge-says =
-      by-test Verdict (known p)
-      (λ k. by-test Verdict (cyclic p) (λ c. circular k c)
-      (λ c. by-test Verdict (ltb 4096 (allInstructions p)) (λ h. long k c (ltb-true 4096 (allInstructions p) h)) (λ h. passed k c (ltb-false 4096 (allInstructions p) h))))
+  judge-says l =
+      by-test (Verdict l) (known p)
+      (λ k. by-test (Verdict l) l (λ b. lacking k b)
+      (λ b. by-test (Verdict l) (cyclic p) (λ c. circular k b c)
+      (λ c. by-test (Verdict l) (ltb 4096 (allInstructions p)) (λ h. long k b c (ltb-true 4096 (allInstructions p) h)) (λ h. passed k b c (ltb-false 4096 (allInstructions p) h)))))
       (λ k. unknown k)
 
-module _ (s t : List ℕ) where
+module _ (s ps t : List ℕ) where
   -- what is asked first
-  pub compile-opens : 34816 ≤ length t → length s ≤ 8192 → compileOn s t ≡ judgeRead (readProgram s) t
+  pub compile-opens : 34816 ≤ length t → length s ≤ 8192 → compileOn s ps t ≡ judgeRead (readSheet s) ps t
   unfolding compileOn
   compile-opens a c = rw (le-ltb (length t) 34816 a, le-ltb 8192 (length s) c)
 
-  pub compile-short : length t < 34816 → compileOn s t ≡ compiled 1 t
+  pub compile-short : length t < 34816 → compileOn s ps t ≡ compiled 1 t
   unfolding compileOn
   compile-short h = rw (lt-ltb (length t) 34816 h)
 
-  pub compile-long : 34816 ≤ length t → 8192 < length s → compileOn s t ≡ compiled 3 t
+  pub compile-long : 34816 ≤ length t → 8192 < length s → compileOn s ps t ≡ compiled 3 t
   unfolding compileOn
   compile-long a h = rw (le-ltb (length t) 34816 a, lt-ltb 8192 (length s) h)

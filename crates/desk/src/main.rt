@@ -67,7 +67,7 @@ fn show(table: &[u8], round: &[u8]) {
 
 // A sheet. "An accepted sheet begins a fresh round": a refused one leaves the earlier round as it was. 2 where it is accepted, else 1.
 fn load(sheet: &[u8], table: &mut [u8], round: &mut [u8]) -> u8 {
-    let r = engine::compile(sheet, table);
+    let r = engine::compile(sheet, &[], table);
     if r != 0 {
         refuse(r as u64);
         return 1;

@@ -1,7 +1,7 @@
 -- The draft of a program: what the reader hands to the compiler, in one buffer of 4,256 numbers, with no tree.
 -- From 0 on 2,048 nodes; from 2048 on an entry for behaviour i and event e at 2048 + i * 32 + e: an active's handler; from 4096 on an entry for each of 64
 -- behaviours: a passive's expression; from 4160 on each active's start value; from 4224 on the priority of each of 32 events.
--- A node is kind * 2 ^ 32 + word, its kind the tag of its field: 16 constant, 17 name, 18 application (its function). The nodes of an expression stand in
+-- A node is kind * 2 ^ 32 + word, its kind the tag of its field: 16 constant, 17 name, 18 application (its function), and 19 a parameter until it is filled in. The nodes of an expression stand in
 -- postfix order. An entry is 0 where there is none, else (count * 4096 + start) * 4 + kind: the expression's nodes, and 1 passive, 2 immediate, 3 later.
 use Prim.Native.Nat.{ℕ, _+_, _*_, _≤_, _<_}
 use mathlib.Core.Path.{_≡_}
@@ -10,8 +10,9 @@ use lib.ListN.{length, getD, take, drop}
 use lib.Dec.{eqb, ltb}
 use Rattle.base.specs.Basics.{pick}
 use Rattle.language.specs.Syntax.{Expr, con, name, app1, app2, app3, Handler, handler, Behaviour, passive, active, Program}
+use Rattle.language.specs.Sheet.{Sheet, fill}
 use Rattle.language.specs.Dependence.{Response, follows, takes, defers, keeps, size, events, response, behaviourAt}
-use Rattle.language.specs.Grammar.{Fits}
+use Rattle.language.specs.Grammar.{SheetFits, Fits}
 use Rattle.language.specs.Code.{sizeOf}
 
 -- the nodes of an expression
@@ -78,3 +79,17 @@ pub record DraftOf (ev bs n : ℕ) (d : List ℕ) : Type 0 where
   pub events-are : ev ≡ events program
   pub size-is : bs ≡ size program
   pub drafted : Drafted program d n
+
+-- ---- before the parameters are filled in (02, M-103)
+
+-- until then parameter n stands as a constant past the words, whose node is 19 * 2 ^ 32 + n
+abbrev pub unfilled : ℕ → ℕ
+unfilled n = 12884901888 + n
+
+-- the draft d of ev events, bs behaviours and n nodes is that of some sheet within the limits, its parameters not filled in
+pub record SheetDraft (ev bs n : ℕ) (d : List ℕ) : Type 0 where
+  pub sheet : Sheet
+  pub fits : SheetFits sheet
+  pub events-are : ev ≡ length (sheet .priorities)
+  pub size-is : bs ≡ length (sheet .items)
+  pub drafted : Drafted (fill unfilled sheet) d n

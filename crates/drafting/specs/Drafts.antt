@@ -1,13 +1,13 @@
--- What the reader leaves in the draft is the program that the grammar says, and a fault is the grammar's.
+-- What the reader leaves in the draft is the sheet that the grammar says, its parameters not filled in, and a fault is the grammar's.
 use Prim.Native.Nat.{ℕ, _≤_, _<_}
 use mathlib.Core.Path.{_≡_, refl, ap, _∙_}
 use mathlib.Core.List.{List, []}
 use lib.ListN.{length, replicate, length-replicate, getD-replicate}
 use Rattle.base.specs.Basics.{All}
-use Rattle.language.specs.Syntax.{Program}
-use Rattle.language.specs.Reading.{Got, bad, got, readProgram}
+use Rattle.language.specs.Sheet.{Sheet}
+use Rattle.language.specs.Reading.{Got, bad, got, readSheet}
 use Rattle.grammar.specs.Programs.{reads-only}
-use Rattle.draft.specs.Draft.{DraftOf}
+use Rattle.draft.specs.Draft.{SheetDraft}
 use Rattle.reader.specs.declared.Draft.{Draft}
 use Rattle.reader.specs.declared.Draft.the-variants.{Ready, Broken}
 use Rattle.reader.specs.Whole.{Finish, finished, readOn}
@@ -15,28 +15,28 @@ use Rattle.drafting.specs.Programs.{SameProgram, same-program}
 
 -- what an answer of the reader says of the bytes s, with the draft d that it leaves
 abbrev pub Outcome : List ℕ → Draft → List ℕ → Type 0
-Outcome s (Broken k) d = readProgram s ≡ bad k
-Outcome s (Ready ev bs n) d = (of : DraftOf ev bs n d) × (readProgram s ≡ got (of .program) [])
+Outcome s (Broken k) d = readSheet s ≡ bad k
+Outcome s (Ready ev bs n) d = (of : SheetDraft ev bs n d) × (readSheet s ≡ got (of .sheet) [])
 
 -- the draft before reading
 abbrev pub empty : List ℕ
 empty = replicate 4256 0
 
 module _ (s : List ℕ) (bytes : All (λ b. b < 256) s) (most : length s ≤ 8192) where
-  same : SameProgram (readProgram s) (readOn s empty)
+  same : SameProgram (readSheet s) (readOn s empty)
   same = same-program s most empty (length-replicate {A = ℕ} 4256 0) (λ j h. getD-replicate {A = ℕ} 4256 j 0 0 h)
 
-  outcome : (g : Got Program) (o : Finish) → readProgram s ≡ g → SameProgram g o → Outcome s (o .0) (o .1)
+  outcome : (g : Got Sheet) (o : Finish) → readSheet s ≡ g → SameProgram g o → Outcome s (o .0) (o .1)
   outcome (bad k) o q h = rw h q
   outcome (got p r) o q h =
-      let t : readProgram s ≡ got p [] = q ∙ ap (λ (l : List ℕ). got p l) (h .0) in
+      let t : readSheet s ≡ got p [] = q ∙ ap (λ (l : List ℕ). got p l) (h .0) in
       rw (h .2) (
-        record { program = p; fits = reads-only s bytes most p [] t .1; events-are = refl; size-is = refl; drafted = h .3 },
+        record { sheet = p; fits = reads-only s bytes most p [] t .1; events-are = refl; size-is = refl; drafted = h .3 },
         t,
       )
 
   pub drafted : Outcome s (readOn s empty .0) (readOn s empty .1)
-  drafted = outcome (readProgram s) (readOn s empty) refl same
+  drafted = outcome (readSheet s) (readOn s empty) refl same
 
   -- the same for an answer and a draft that are known by an equation
   pub drafted-as : (a : Draft) (d : List ℕ) → readOn s empty ≡ finished a d → Outcome s a d

@@ -12,39 +12,40 @@ use lib.Dec.{eqb}
 use borrow.Author.Tests.{eq-eqb, ne-eqb}
 use Rattle.base.specs.Basics.{pick}
 use Rattle.base.specs.Tools.{split, neither}
-use Rattle.language.specs.Syntax.{Expr, Phase, immediate, later, Handler, handler}
+use Rattle.language.specs.Syntax.{Expr, Phase, immediate, later, Handler}
+use Rattle.language.specs.Sheet.{Term, Clause, clause, fillClauses}
 use Rattle.language.specs.Dependence.{Response, follows, takes, defers, keeps, inPhase, handled}
 use Rattle.language.specs.Code.{sizeOf}
 use Rattle.language.specs.Reading.{Got, bad, got, whole, then, exprAt, exprIn, handles}
 use Rattle.language.specs.Laws.{handled-here, handled-there}
 use Rattle.field.specs.Expression.{Out, out, onward, exprOf}
 use Rattle.field.specs.declared.Read.the-variants.{Done, Fault}
-use Rattle.draft.specs.Draft.{nodes, entry}
+use Rattle.draft.specs.Draft.{nodes, entry, unfilled}
 use Rattle.draft.specs.DraftLaws.{length-nodes, size-positive}
 use Rattle.behaviours.specs.Handler.{entryAt, slot}
 use Rattle.drafting.specs.Fields.{span, whole-at}
 use Rattle.drafting.specs.Stores.{getD-sets, take-sets, take-sets-all, take-drop}
-use Rattle.drafting.specs.Expressions.{SameExpr, same-expr}
+use Rattle.drafting.specs.Expressions.{raw, SameExpr, same-expr}
 
 -- ---- both readers
 
 -- an expression that fills v
-pub same-entry : {A : Type 0} (P : Got A → Out → Type 0) (F : Expr → A) (v r d : List ℕ) (n place kind over : ℕ)
+pub same-entry : {A : Type 0} (P : Got A → Out → Type 0) (F : Term → A) (v r d : List ℕ) (n place kind over : ℕ)
     → ((k : ℕ) (o : Out) → o .0 ≡ Fault k → P (bad k) o)
-    → ((x : Expr) → sizeOf x * 4 ≤ length v
-    → P (got (F x) r) (out (Done (length v + over) (n + sizeOf x)) (set (sets d n (nodes x)) place (entry kind n (sizeOf x)))))
+    → ((x : Term) → sizeOf (raw x) * 4 ≤ length v
+    → P (got (F x) r) (out (Done (length v + over) (n + sizeOf (raw x))) (set (sets d n (nodes (raw x))) place (entry kind n (sizeOf (raw x))))))
     → P (exprIn F v r) (entryAt v d n place kind over)
 unfolding entryAt
 same-entry P F v r d n place kind over bads gots = go (exprAt 16 v) (exprOf 16 v d n) (same-expr 16 v d n)
   where
-    go : (g : Got Expr) (o : Out) → SameExpr v (span v) d n g o
+    go : (g : Got Term) (o : Out) → SameExpr v (span v) d n g o
         → P (then g (λ x left. whole (F x) left r))
         (onward (o .0) (o .1)
         (λ size m. pick (eqb size (length v)) (out (Done (size + over) m) (set (o .1) place (entry kind n (m - n)))) (out (Fault 6) (o .1))))
     go (bad k) o e = rw e (bads k (out (Fault k) (o .1)) refl)
     go (got x l) o h =
-        rw (h .3, h .0, add-sub-cancel-left n (sizeOf x))
-        (whole-at P (F x) v r (span v) _ _ (h .1) (λ e. rw e (gots x (omega arith))) (bads 6 (out (Fault 6) (sets d n (nodes x))) refl))
+        rw (h .3, h .0, add-sub-cancel-left n (sizeOf (raw x)))
+        (whole-at P (F x) v r (span v) _ _ (h .1) (λ e. rw e (gots x (omega arith))) (bads 6 (out (Fault 6) (sets d n (nodes (raw x)))) refl))
 
 -- ---- an expression that stands
 
@@ -119,29 +120,34 @@ frame-on i n m d d′ d″ h f g = (
 
 -- ---- handlers by their events
 
-pub handled-other : (f e : ℕ) (φ : Phase) (x : Expr) (hs : List Handler) → f ≢ e → handled f (hs ++ (handler e φ x ∷ [])) ≡ handled f hs
-handled-other f e φ x [] h = handled-there f e φ x [] (ne-eqb f e h)
-handled-other f e φ x (handler g ψ y ∷ hs) h =
-    split (eqb f g)
-    (λ c. handled-here f g ψ y (hs ++ (handler e φ x ∷ [])) c ∙ sym (handled-here f g ψ y hs c))
-    (λ c. handled-there f g ψ y (hs ++ (handler e φ x ∷ [])) c ∙ handled-other f e φ x hs h ∙ sym (handled-there f g ψ y hs c))
+-- the handlers as they stand in the draft
+abbrev pub raws : List Clause → List Handler
+raws hs = fillClauses unfilled hs
 
-pub handled-new : (e : ℕ) (φ : Phase) (x : Expr) (hs : List Handler) → handles e hs ≡ false → handled e (hs ++ (handler e φ x ∷ [])) ≡ inPhase φ x
-unfolding handles
-handled-new e φ x [] h = handled-here e e φ x [] (eq-eqb e e refl)
-handled-new e φ x (handler g ψ y ∷ hs) h =
+pub handled-other : (f e : ℕ) (φ : Phase) (x : Term) (hs : List Clause) → f ≢ e → handled f (raws (hs ++ (clause e φ x ∷ []))) ≡ handled f (raws hs)
+unfolding fillClauses
+handled-other f e φ x [] h = handled-there f e φ (raw x) [] (ne-eqb f e h)
+handled-other f e φ x (clause g ψ y ∷ hs) h =
+    split (eqb f g)
+    (λ c. handled-here f g ψ (raw y) (raws (hs ++ (clause e φ x ∷ []))) c ∙ sym (handled-here f g ψ (raw y) (raws hs) c))
+    (λ c. handled-there f g ψ (raw y) (raws (hs ++ (clause e φ x ∷ []))) c ∙ handled-other f e φ x hs h ∙ sym (handled-there f g ψ (raw y) (raws hs) c))
+
+pub handled-new : (e : ℕ) (φ : Phase) (x : Term) (hs : List Clause) → handles e hs ≡ false → handled e (raws (hs ++ (clause e φ x ∷ []))) ≡ inPhase φ (raw x)
+unfolding handles fillClauses
+handled-new e φ x [] h = handled-here e e φ (raw x) [] (eq-eqb e e refl)
+handled-new e φ x (clause g ψ y ∷ hs) h =
     let r = neither (eqb e g) (handles e hs) h in
-    handled-there e g ψ y (hs ++ (handler e φ x ∷ [])) (r .0) ∙ handled-new e φ x hs (r .1)
+    handled-there e g ψ (raw y) (raws (hs ++ (clause e φ x ∷ []))) (r .0) ∙ handled-new e φ x hs (r .1)
 
 phase-some : (d : List ℕ) (n v : ℕ) (φ : Phase) (x : Expr) → SaysBy d n v (inPhase φ x) → v ≢ 0
 phase-some d n v immediate x h = stands-some d n 2 v x h
 phase-some d n v later x h = stands-some d n 3 v x h
 
 -- the reader's test for a second handler
-pub cell-test : (d : List ℕ) (n v e : ℕ) (hs : List Handler) → SaysBy d n v (handled e hs) → eqb v 0 ≡ not (handles e hs)
-unfolding handled handles
+pub cell-test : (d : List ℕ) (n v e : ℕ) (hs : List Clause) → SaysBy d n v (handled e (raws hs)) → eqb v 0 ≡ not (handles e hs)
+unfolding handled handles fillClauses
 cell-test d n v e [] h = eq-eqb v 0 h
-cell-test d n v e (handler f φ x ∷ hs) h =
+cell-test d n v e (clause f φ x ∷ hs) h =
     split (eqb e f)
-    (λ c. rw c (ne-eqb v 0 (phase-some d n v φ x (subst (SaysBy d n v) (handled-here e f φ x hs c) h))))
-    (λ c. rw c (cell-test d n v e hs (subst (SaysBy d n v) (handled-there e f φ x hs c) h)))
+    (λ c. rw c (ne-eqb v 0 (phase-some d n v φ (raw x) (subst (SaysBy d n v) (handled-here e f φ (raw x) (raws hs) c) h))))
+    (λ c. rw c (cell-test d n v e hs (subst (SaysBy d n v) (handled-there e f φ (raw x) (raws hs) c) h)))

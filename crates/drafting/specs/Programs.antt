@@ -1,4 +1,4 @@
--- Programs: both readers find the same fault, or the draft is that of the tree reader's program.
+-- Sheets: both readers find the same fault, or the draft is that of the tree reader's sheet, its parameters not filled in.
 -- By induction on the bounds, first of behaviours, then of events; either reader's bound suffices, since a field has three bytes.
 use Prim.Native.Nat.{ℕ, zero, suc, _+_, _*_, _-_, _≤_, _<_}
 use mathlib.Core.Path.{_≡_, refl, sym, ap, subst, _∙_}
@@ -11,14 +11,13 @@ use lib.Dec.{ltb, leb, eqb}
 use borrow.Author.Tests.{leb-false, eqb-true, eqb-false, eq-eqb, ne-eqb}
 use Rattle.base.specs.Basics.{pick}
 use Rattle.base.specs.Tools.{by-two}
-use Rattle.language.specs.Syntax.{Behaviour, Program}
-use Rattle.language.specs.Dependence.{size, events}
+use Rattle.language.specs.Sheet.{Item, Sheet, fill}
 use Rattle.language.specs.Reading as tree
-use Rattle.language.specs.Reading.{refused, present, fieldAt, Got, bad, got, then, behaviourIn, priorityIn, program, behaviourBody, behavioursAt, eventsBody, eventsAt, readProgram}
+use Rattle.language.specs.Reading.{refused, present, fieldAt, Got, bad, got, then, behaviourIn, priorityIn, sheet, behaviourBody, behavioursAt, eventsBody, eventsAt, readSheet}
 use Rattle.field.specs.Field.{fieldOf, partOf}
 use Rattle.field.specs.Expression.{Out}
 use Rattle.field.specs.declared.Field.{Field}
-use Rattle.draft.specs.Draft.{Drafted}
+use Rattle.draft.specs.Draft.{Drafted, unfilled}
 use Rattle.reader.specs.declared.Event.the-variants.{Declared, NoEvent}
 use Rattle.reader.specs.declared.Draft.the-variants.{Ready, Broken}
 use Rattle.behaviours.specs.Behaviour.{behaviourOf}
@@ -27,27 +26,27 @@ use Rattle.drafting.specs.Fields.{span, SameField, same-field, value-len
 use Rattle.drafting.specs.Behaviours.{SameBehaviour, same-behaviour, first-behaviour}
 use Rattle.drafting.specs.Sofar.{Sofar, grow, declare, nothing-yet, all-read}
 
--- what both readers say of a program
-abbrev pub SameProgram : Got Program → Finish → Type 0
+-- what both readers say of a sheet
+abbrev pub SameProgram : Got Sheet → Finish → Type 0
 SameProgram (bad k) o = o .0 ≡ Broken k
-SameProgram (got p r) o = (r ≡ []) × (n : ℕ) × (o .0 ≡ Ready (events p) (size p) n) × Drafted p (o .1) n
+SameProgram (got p r) o = (r ≡ []) × (n : ℕ) × (o .0 ≡ Ready (length (p .priorities)) (length (p .items)) n) × Drafted (fill unfilled p) (o .1) n
 
 -- ---- behaviours
 
 module _ (s rs : List ℕ) where
   -- behaviours from `at` on are due
-  abbrev Due : ℕ → List Behaviour → List ℕ → ℕ → Type 0
+  abbrev Due : ℕ → List Item → List ℕ → ℕ → Type 0
   Due at bs d n = (at ≤ length s) × (n * 4 + (length s - at) ≤ 8192) × Sofar rs bs d n
 
-  ended : (at : ℕ) (bs : List Behaviour) (d : List ℕ) (n : ℕ) → Due at bs d n
-      → SameProgram (got (program rs bs) []) (finished (Ready (length rs) (length bs) n) d)
+  ended : (at : ℕ) (bs : List Item) (d : List ℕ) (n : ℕ) → Due at bs d n
+      → SameProgram (got (sheet rs bs) []) (finished (Ready (length rs) (length bs) n) d)
   ended at bs d n t = (refl, n, refl, all-read d n (omega arith) rs bs (t .2))
 
   -- one is read
-  next : (l at : ℕ) (bs : List Behaviour) (d : List ℕ) (n : ℕ) (F : Behaviour → List ℕ → Got Program) → Due at bs d n
-      → ((at′ : ℕ) (b : Behaviour) (d′ : List ℕ) (n′ : ℕ) → at < at′ → Due at′ (bs ++ (b ∷ [])) d′ n′
+  next : (l at : ℕ) (bs : List Item) (d : List ℕ) (n : ℕ) (F : Item → List ℕ → Got Sheet) → Due at bs d n
+      → ((at′ : ℕ) (b : Item) (d′ : List ℕ) (n′ : ℕ) → at < at′ → Due at′ (bs ++ (b ∷ [])) d′ n′
       → SameProgram (F b (drop at′ s)) (behavioursOf l s at′ (length rs) (length bs + 1) d′ n′))
-      → (g : Got Behaviour) (o : Out) → SameBehaviour (length bs) (drop at s) (span (drop at s)) d n g o
+      → (g : Got Item) (o : Out) → SameBehaviour (length bs) (drop at s) (span (drop at s)) d n g o
       → SameProgram (then g F) (proceed (o .0) (o .1) (λ size m. behavioursOf l s (at + size) (length rs) (length bs + 1) (o .1) m))
   next l at bs d n F t ih (bad k) o e = rw e refl
   next l at bs d n F t ih (got b r) o h =
@@ -56,7 +55,7 @@ module _ (s rs : List ℕ) where
       rw (h .3, p)
       (ih (at + span (drop at s)) b (o .1) (h .2) (omega arith) (omega arith, omega arith, grow rs bs b d (o .1) n (h .2) (t .2) (h .5)))
 
-  pub same-behaviours : (k l at : ℕ) (bs : List Behaviour) (d : List ℕ) (n : ℕ) → Due at bs d n → length s ≤ at + k → length s ≤ at + l
+  pub same-behaviours : (k l at : ℕ) (bs : List Item) (d : List ℕ) (n : ℕ) → Due at bs d n → length s ≤ at + k → length s ≤ at + l
       → SameProgram (behavioursAt k rs bs (drop at s)) (behavioursOf l s at (length rs) (length bs) d n)
   unfolding behavioursAt behavioursOf
   same-behaviours zero zero at bs d n t a b = rw (end-test at s (t .0), eq-eqb at (length s) (omega arith)) (ended at bs d n t)
@@ -73,7 +72,7 @@ module _ (s rs : List ℕ) where
 
   -- where the events end: at the end, or before a behaviour
   none-left : (l at : ℕ) (d : List ℕ) → Sofar rs [] d 0 → at ≡ length s → length s ≤ 8192
-      → SameProgram (got (program rs []) []) (behavioursOf l s at (length rs) 0 d 0)
+      → SameProgram (got (sheet rs []) []) (behavioursOf l s at (length rs) 0 d 0)
   unfolding behavioursOf
   none-left zero at d t e small = rw (eq-eqb at (length s) e) (ended at [] d 0 (omega arith, omega arith, t))
   none-left (suc l) at d t e small = rw (eq-eqb at (length s) e) (ended at [] d 0 (omega arith, omega arith, t))
@@ -102,7 +101,7 @@ module _ (s : List ℕ) (small : length s ≤ 8192) where
 
   module _ (k l at : ℕ) (rs d : List ℕ) (t : Early at rs d) (lt : at < length s) (a : length s ≤ at + suc k)
       (ih : (at′ : ℕ) (rs′ d′ : List ℕ) → at < at′ → Early at′ rs′ d′ → SameProgram (eventsAt k rs′ (drop at′ s)) (go-on (eventsOf l s at′ (length rs′) d′))) where
-    abbrev After : Got Program → Made → Type 0
+    abbrev After : Got Sheet → Made → Type 0
     After g o = SameProgram g (go-on (eventNext (o .0) (o .1) at (length rs) (eventsOf l s (at + 4) (length rs + 1) (o .1))))
 
     declared : (r : ℕ) (u : List ℕ) → length rs < 32 → u ≡ drop 4 (drop at s) → at + 4 ≤ length s
@@ -155,13 +154,13 @@ module _ (s : List ℕ) (small : length s ≤ 8192) where
       rw (end-test at s (t .0), eq-eqb at (length s) e) (none-left s rs (length s) at d (t .1) e small)
   same-events (suc k) (suc l) at rs d t a b =
       rw (end-test at s (t .0), rest-drop at s)
-      (by-two (λ (g : Got Program) (o : Out). SameProgram g (go-on o)) (eqb at (length s))
+      (by-two (λ (g : Got Sheet) (o : Out). SameProgram g (go-on o)) (eqb at (length s))
       (λ e. none-left s rs (length s) at d (t .1) (eqb-true at (length s) e) small)
       (λ e. event-here k l at rs d t (omega (arith, eqb-false at (length s) e)) a
       (λ at′ rs′ d′ h t′. same-events k l at′ rs′ d′ t′ (omega arith) (omega arith))))
 
   -- ---- the whole
 
-  pub same-program : (d : List ℕ) → length d ≡ 4256 → ((j : ℕ) → j < 4256 → getD d j 0 ≡ 0) → SameProgram (readProgram s) (readOn s d)
-  unfolding readProgram readOn
+  pub same-program : (d : List ℕ) → length d ≡ 4256 → ((j : ℕ) → j < 4256 → getD d j 0 ≡ 0) → SameProgram (readSheet s) (readOn s d)
+  unfolding readSheet readOn
   same-program d long zeros = same-events (length s) (length s) 0 [] d (omega arith, nothing-yet d long zeros) (omega arith) (omega arith)

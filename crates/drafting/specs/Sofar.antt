@@ -1,4 +1,4 @@
--- What the draft holds while a program is read, how a behaviour and an event add to it, and that at the end it is the program's draft.
+-- What the draft holds while a sheet is read, how a behaviour and an event add to it, and that at the end it is the sheet's draft, its parameters not filled in.
 -- A behaviour's row is written once, and what is written later goes to other rows and to nodes after its own.
 use Prim.Native.Nat.{ℕ, _+_, _≤_, _<_}
 use mathlib.Core.Path.{_≡_, refl, sym, _∙_}
@@ -12,18 +12,20 @@ use borrow.Author.Tests.{ltb-true, eqb-true, eqb-false, eq-eqb, ne-eqb}
 use Rattle.base.specs.Tools.{split}
 use Rattle.language.specs.Syntax.{Expr, Behaviour, passive, active}
 use Rattle.language.specs.Dependence.{Response, follows, takes, defers, keeps, handled, respond}
-use Rattle.language.specs.Reading.{program}
-use Rattle.draft.specs.Draft.{behaviourNodes, programNodes, entryOf, Stands, Says, StartIs, Drafted}
+use Rattle.language.specs.Sheet.{Item, state, fillItems, fill}
+use Rattle.language.specs.SheetLaws.{length-fill, fill-at}
+use Rattle.language.specs.Reading.{sheet}
+use Rattle.draft.specs.Draft.{behaviourNodes, programNodes, entryOf, Stands, Says, StartIs, Drafted, unfilled}
 use Rattle.behaviours.specs.Handler.{slot}
 use Rattle.drafting.specs.Entries.{StandsBy, stands-kept, stands-some, SaysBy, says-kept, Frame}
 use Rattle.drafting.specs.Handlers.{cell}
-use Rattle.drafting.specs.Behaviours.{RowIs, Blank, Grown}
+use Rattle.drafting.specs.Behaviours.{rawItem, RowIs, Blank, Grown}
 
-pub record Sofar (rs : List ℕ) (bs : List Behaviour) (d : List ℕ) (n : ℕ) : Type 0 where
+pub record Sofar (rs : List ℕ) (bs : List Item) (d : List ℕ) (n : ℕ) : Type 0 where
   pub few : length rs ≤ 32
   pub long : length d ≡ 4256
-  pub pool : take n d ≡ programNodes bs
-  pub rows : (i : ℕ) → i < length bs → RowIs d n i (getD bs i (active 0 []))
+  pub pool : take n d ≡ programNodes (fillItems unfilled bs)
+  pub rows : (i : ℕ) → i < length bs → RowIs d n i (rawItem (getD bs i (state 0 [])))
   pub blanks : (i : ℕ) → length bs ≤ i → i < 64 → Blank d i
   pub priorities : (e : ℕ) → e < length rs → getD d (4224 + e) 0 ≡ getD rs e 0
 
@@ -53,22 +55,23 @@ module _ (i n m : ℕ) (d d′ : List ℕ) (f : Frame i n d d′) (low : i < 64)
   blank-kept : Blank d j → Blank d′ j
   blank-kept h = (body-kept ∙ h .0, start-kept ∙ h .1, λ e k. slot-kept e k ∙ h .2 e k)
 
-program-snoc : (bs : List Behaviour) (b : Behaviour) → programNodes (bs ++ (b ∷ [])) ≡ programNodes bs ++ behaviourNodes b
-unfolding programNodes
-program-snoc [] b = append-nil (behaviourNodes b)
-program-snoc (c ∷ bs) b = rw (program-snoc bs b) (sym (append-assoc (behaviourNodes c) (programNodes bs) (behaviourNodes b)))
+program-snoc : (bs : List Item) (b : Item) → programNodes (fillItems unfilled (bs ++ (b ∷ []))) ≡ programNodes (fillItems unfilled bs) ++ behaviourNodes (rawItem b)
+unfolding programNodes fillItems
+program-snoc [] b = append-nil (behaviourNodes (rawItem b))
+program-snoc (c ∷ bs) b =
+    rw (program-snoc bs b) (sym (append-assoc (behaviourNodes (rawItem c)) (programNodes (fillItems unfilled bs)) (behaviourNodes (rawItem b))))
 
-module _ (rs : List ℕ) (bs : List Behaviour) (b : Behaviour) (d d′ : List ℕ) (n m : ℕ) (s : Sofar rs bs d n) (g : Grown (length bs) d n b d′ m) where
-  rows-more : (i : ℕ) → i < length (bs ++ (b ∷ [])) → RowIs d′ m i (getD (bs ++ (b ∷ [])) i (active 0 []))
+module _ (rs : List ℕ) (bs : List Item) (b : Item) (d d′ : List ℕ) (n m : ℕ) (s : Sofar rs bs d n) (g : Grown (length bs) d n (rawItem b) d′ m) where
+  rows-more : (i : ℕ) → i < length (bs ++ (b ∷ [])) → RowIs d′ m i (rawItem (getD (bs ++ (b ∷ [])) i (state 0 [])))
   rows-more i h =
       split (eqb i (length bs))
       (λ c.
       let q : i ≡ length bs = eqb-true i (length bs) c in
-      rw (q, getD-append-seam bs b [] (active 0 [])) (g .5))
+      rw (q, getD-append-seam bs b [] (state 0 [])) (g .5))
       (λ c.
       let q : i < length bs = omega (arith, eqb-false i (length bs) c, length-append bs (b ∷ [])) in
-      rw (List·getD-append bs (b ∷ []) (active 0 []) i q)
-      (row-kept (length bs) n m d d′ (g .2) (g .0) (g .3) i (omega (arith, g .0)) (omega arith) (getD bs i (active 0 [])) (s .rows i q)))
+      rw (List·getD-append bs (b ∷ []) (state 0 []) i q)
+      (row-kept (length bs) n m d d′ (g .2) (g .0) (g .3) i (omega (arith, g .0)) (omega arith) (rawItem (getD bs i (state 0 []))) (s .rows i q)))
 
   pub grow : Sofar rs (bs ++ (b ∷ [])) d′ m
   grow = record {
@@ -117,7 +120,7 @@ module _ (rs : List ℕ) (r : ℕ) (d : List ℕ) (s : Sofar rs [] d 0) (low : l
 -- ---- nothing read yet
 
 pub nothing-yet : (d : List ℕ) → length d ≡ 4256 → ((j : ℕ) → j < 4256 → getD d j 0 ≡ 0) → Sofar [] [] d 0
-unfolding programNodes
+unfolding programNodes fillItems
 nothing-yet d long zeros = record {
   few = omega arith;
   long = long;
@@ -148,12 +151,12 @@ module _ (d : List ℕ) (n : ℕ) (room : n ≤ 2048) where
   row-starts i (passive x) h = h .1
   row-starts i (active w hs) h = h .1
 
-  pub all-read : (rs : List ℕ) (bs : List Behaviour) → Sofar rs bs d n → Drafted (program rs bs) d n
+  pub all-read : (rs : List ℕ) (bs : List Item) → Sofar rs bs d n → Drafted (fill unfilled (sheet rs bs)) d n
   all-read rs bs s = record {
     long = s .long;
     few = room;
     pool = s .pool;
-    says = λ e i _ h. row-says e i (getD bs i (active 0 [])) (s .rows i h);
-    starts = λ i h. row-starts i (getD bs i (active 0 [])) (s .rows i h);
+    says = λ e i _ h. rw (fill-at unfilled bs i) (row-says e i (rawItem (getD bs i (state 0 []))) (s .rows i (omega (arith, length-fill unfilled bs))));
+    starts = λ i h. rw (fill-at unfilled bs i) (row-starts i (rawItem (getD bs i (state 0 []))) (s .rows i (omega (arith, length-fill unfilled bs))));
     priorities = s .priorities;
   }

@@ -36,9 +36,9 @@ use Rattle.refinement.specs.Slots.{kept-all, kept-put, kept-trans, kept-slot, k
 use Rattle.refinement.specs.Relation.{admit-kept}
 use Rattle.refinement.specs.FreshRound.{fresh-kept}
 use Rattle.refinement.specs.Refines.{short-code}
-use Rattle.compiler.specs.Verdict.{Compiled, compileOn}
+use Rattle.compiler.specs.Verdict.{Compiled, programOf, compileOn}
 use Rattle.compiler.specs.AcceptedExactly.{accepted-exactly, refused-unchanged}
-use Rattle.engine.specs.Holds.{table-room}
+use Rattle.engine.specs.Holds.{table-room, program-accepted}
 
 -- of the bytes l, lent and left as m, those from n on are as they were, and the length
 abbrev pub Untouched : ℕ → List ℕ → List ℕ → Type 0
@@ -197,16 +197,16 @@ calls-beyond t cs l = within l (roundAfter t cs l) (calls-keep t cs l)
 
 -- ---- compile
 
-pub compile-beyond : (s t : List ℕ) → All (λ b. b < 256) s → Untouched 34816 t (compileOn s t .1)
-compile-beyond s t bytes =
-    by-cases (ℕ-discrete (compileOn s t .0) 0)
+pub compile-beyond : (s ps t : List ℕ) → All (λ b. b < 256) s → All (λ b. b < 256) ps → Untouched 34816 t (compileOn s ps t .1)
+compile-beyond s ps t bytes words =
+    by-cases (ℕ-discrete (compileOn s ps t .0) 0)
     (λ h.
-    let room = table-room s t h in
-    let k = accepted-exactly s t bytes room .0 h in
-    let p = k .0 in
-    let ok = k .2 in
+    let room = table-room s ps t h in
+    let k = accepted-exactly s ps t bytes room .0 h in
+    let p = programOf ps (k .0) in
+    let ok = program-accepted ps words (k .0) (k .2) in
     let few = ok .fits .few-events in
     let small = ok .fits .few-behaviours in
     subst (λ (m : List ℕ). Untouched 34816 t m) (sym (ap (λ (o : Compiled). o .1) (k .3)))
     (untouched 34816 t (tableOf p t) (length-table p few small (length-fresh p) (short-code p ok) t room) (beyond-table p few small (length-fresh p) (short-code p ok) t room)))
-    (λ h. subst (λ (m : List ℕ). Untouched 34816 t m) (sym (refused-unchanged s t h)) (refl, refl))
+    (λ h. subst (λ (m : List ℕ). Untouched 34816 t m) (sym (refused-unchanged s ps t h)) (refl, refl))

@@ -12,8 +12,9 @@ use Rattle.base.specs.Basics.{All}
 use Rattle.word.specs.Word.{get, words}
 use Rattle.language.specs.Syntax.{Program}
 use Rattle.language.specs.Dependence.{size, events, Independent}
+use Rattle.language.specs.Sheet.{Sheet}
 use Rattle.language.specs.Grammar.{encode}
-use Rattle.language.specs.Accepted.{Accepted}
+use Rattle.language.specs.Accepted.{Accepted, SheetAccepted}
 use Rattle.language.specs.Code.{off, code, members}
 use Rattle.semantics.specs.Rules.{Shows}
 use Rattle.semantics.specs.Meaning.{at, fresh}
@@ -26,7 +27,7 @@ use Rattle.machine.specs.Machine.{stepOn}
 use Rattle.forecast.specs.Forecast.{forecastOn}
 use Rattle.preview.specs.Preview.{previewOn}
 use Rattle.refinement.specs.Refinement.{coded, decodedAll, callOn, answersOn, roundAfter, View, Kept}
-use Rattle.compiler.specs.Verdict.{compileOn}
+use Rattle.compiler.specs.Verdict.{programOf, compileOn}
 
 -- the events of arrivals
 abbrev pub eventsOf : List Arrival → List ℕ
@@ -106,37 +107,43 @@ pub record CodeIn (p : Program) (t : List ℕ) (e : ℕ) : Type 0 where
   pub operations : (c : ℕ) → c < length (code p e) → get t (512 + (get t (9 + e * 4) + c) * 2) ≡ operation (getD (code p e) c off)
   pub constants : (c : ℕ) → c < length (code p e) → get t (513 + (get t (9 + e * 4) + c) * 2) ≡ constant (getD (code p e) c off)
 
--- ---- demand 3, every list of calls: for a sheet s that compile accepts, its table in t₀, and a round that start makes in l₀
+-- ---- demand 3, every list of calls: for a sheet s that compile accepts with the bytes ps lent for its parameters, its table in t₀, and a round that start makes in l₀
 
-pub record EveryList (s t₀ l₀ : List ℕ) : Type 0 where
-  -- the sheet's program: it meets 01's grammar and limits, with no circle
-  pub program : Program
-  pub bytes : encode program ≡ s
-  pub accepted : Accepted program
-  -- "each event's code is the one 01 lists": the table is the program's, and its words are those of `code program e` for each event e
-  pub table : compileOn s t₀ .1 ≡ tableOf program t₀
-  pub code : (e : ℕ) → e < events program → CodeIn program (compileOn s t₀ .1) e
+pub record EveryList (s ps t₀ l₀ : List ℕ) : Type 0 where
+  -- the sheet: it meets 01's grammar and limits, with no circle, and uses a parameter only if 32 bytes are lent
+  pub sheet : Sheet
+  pub bytes : encode sheet ≡ s
+  pub taken : SheetAccepted (get ps) (length ps) sheet
+  -- its program, each parameter being the constant lent (02, M-103)
+  pub accepted : Accepted (programOf ps sheet)
+  -- "each event's code is the one 01 lists": the table is the program's, and its words are those of `code` for each event e
+  pub table : compileOn s ps t₀ .1 ≡ tableOf (programOf ps sheet) t₀
+  pub code : (e : ℕ) → e < events (programOf ps sheet) → CodeIn (programOf ps sheet) (compileOn s ps t₀ .1) e
   -- a fresh round: start answers 0, and the board has the start values with the passives worked out
-  pub begun : startOn (compileOn s t₀ .1) l₀ .0 ≡ 0
-  pub values : (i : ℕ) → i < size program → Shows program i (at (fresh program) i)
-  pub each : (cs : List Call) → OneList program (compileOn s t₀ .1) l₀ (startOn (compileOn s t₀ .1) l₀ .1) cs
+  pub begun : startOn (compileOn s ps t₀ .1) l₀ .0 ≡ 0
+  pub values : (i : ℕ) → i < size (programOf ps sheet) → Shows (programOf ps sheet) i (at (fresh (programOf ps sheet)) i)
+  pub each : (cs : List Call) → OneList (programOf ps sheet) (compileOn s ps t₀ .1) l₀ (startOn (compileOn s ps t₀ .1) l₀ .1) cs
 
 abbrev pub EverySheet : Type 0
-EverySheet = (s t₀ l₀ : List ℕ) → All (λ b. b < 256) s → 2048 ≤ length l₀ → compileOn s t₀ .0 ≡ 0 → EveryList s t₀ l₀
+EverySheet =
+    (s ps t₀ l₀ : List ℕ) → All (λ b. b < 256) s → All (λ b. b < 256) ps → 2048 ≤ length l₀ → compileOn s ps t₀ .0 ≡ 0 → EveryList s ps t₀ l₀
 
 -- ---- demand 3, two lists: "for every two such lists on one sheet, taking in the same events in the same order, those of unequal rank being independent: when
--- both are idle, their boards are equal"
+-- both are idle, their boards are equal", with the same parameters
 
 abbrev pub TwoLists : Type 0
 TwoLists =
-    (s t₀ l₀ t₁ l₁ : List ℕ) → All (λ b. b < 256) s → 2048 ≤ length l₀ → 2048 ≤ length l₁ → compileOn s t₀ .0 ≡ 0 → compileOn s t₁ .0 ≡ 0
-    → (p : Program) → encode p ≡ s → Accepted p
+    (s ps t₀ l₀ t₁ l₁ : List ℕ) → All (λ b. b < 256) s → All (λ b. b < 256) ps → 2048 ≤ length l₀ → 2048 ≤ length l₁
+    → compileOn s ps t₀ .0 ≡ 0 → compileOn s ps t₁ .0 ≡ 0
+    → (x : Sheet) → encode x ≡ s → SheetAccepted (get ps) (length ps) x
     → (cs ds : List Call)
-    → takenInBy p cs ≡ takenInBy p ds
-    → All (λ a. All (λ b. rank p a ≢ rank p b → Independent p (a .event) (b .event)) (takenInBy p cs)) (takenInBy p cs)
-    → IdleNow (compileOn s t₀ .1) (roundAfter (compileOn s t₀ .1) cs (startOn (compileOn s t₀ .1) l₀ .1))
-    → IdleNow (compileOn s t₁ .1) (roundAfter (compileOn s t₁ .1) ds (startOn (compileOn s t₁ .1) l₁ .1))
-    → boardOf p (roundAfter (compileOn s t₀ .1) cs (startOn (compileOn s t₀ .1) l₀ .1)) ≡ boardOf p (roundAfter (compileOn s t₁ .1) ds (startOn (compileOn s t₁ .1) l₁ .1))
+    → takenInBy (programOf ps x) cs ≡ takenInBy (programOf ps x) ds
+    → All (λ a. All (λ b. rank (programOf ps x) a ≢ rank (programOf ps x) b → Independent (programOf ps x) (a .event) (b .event)) (takenInBy (programOf ps x) cs))
+    (takenInBy (programOf ps x) cs)
+    → IdleNow (compileOn s ps t₀ .1) (roundAfter (compileOn s ps t₀ .1) cs (startOn (compileOn s ps t₀ .1) l₀ .1))
+    → IdleNow (compileOn s ps t₁ .1) (roundAfter (compileOn s ps t₁ .1) ds (startOn (compileOn s ps t₁ .1) l₁ .1))
+    → boardOf (programOf ps x) (roundAfter (compileOn s ps t₀ .1) cs (startOn (compileOn s ps t₀ .1) l₀ .1))
+    ≡ boardOf (programOf ps x) (roundAfter (compileOn s ps t₁ .1) ds (startOn (compileOn s ps t₁ .1) l₁ .1))
 
 -- ---- demand 3, whole
 

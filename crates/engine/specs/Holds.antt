@@ -13,8 +13,10 @@ use borrow.Author.Tests.{lt-ltb}
 use Rattle.base.specs.Basics.{All}
 use Rattle.word.specs.Word.{get}
 use Rattle.language.specs.Syntax.{Program}
+use Rattle.language.specs.Sheet.{Sheet}
+use Rattle.language.specs.SheetLaws.{filling-accepted}
 use Rattle.language.specs.Grammar.{encode}
-use Rattle.language.specs.Accepted.{Accepted}
+use Rattle.language.specs.Accepted.{Accepted, SheetAccepted}
 use Rattle.language.specs.Dependence.{events}
 use Rattle.language.specs.Code.{code}
 use Rattle.semantics.specs.Agreement.{fresh-shows}
@@ -25,7 +27,8 @@ use Rattle.image.specs.ImageLaws.{Says}
 use Rattle.round.specs.Start.{Result, startOn, freshBytes}
 use Rattle.refinement.specs.Refinement.{roundAfter}
 use Rattle.refinement.specs.Refines.{valid, starts, accepted-says}
-use Rattle.compiler.specs.Verdict.{Compiled, compileOn}
+use Rattle.filling.specs.Fills.{get-small}
+use Rattle.compiler.specs.Verdict.{Compiled, programOf, compileOn}
 use Rattle.compiler.specs.JudgeLaws.{compile-short}
 use Rattle.compiler.specs.AcceptedExactly.{accepted-exactly}
 use Rattle.engine.specs.Demand.{boardOf, IdleNow, OneList, CodeIn, EverySheet, TwoLists, Whole}
@@ -54,9 +57,13 @@ code-in p t says e h =
     }
 
 -- compile accepts with a whole table only
-pub table-room : (s t : List ℕ) → compileOn s t .0 ≡ 0 → 34816 ≤ length t
-table-room s t h =
-    by-cases (decLt (length t) 34816) (λ a. let z : _≡_ {A = ℕ} 1 0 = sym (ap (λ (o : Compiled). o .0) (compile-short s t a)) ∙ h in absurd (omega arith)) (λ a. omega arith)
+pub table-room : (s ps t : List ℕ) → compileOn s ps t .0 ≡ 0 → 34816 ≤ length t
+table-room s ps t h =
+    by-cases (decLt (length t) 34816) (λ a. let z : _≡_ {A = ℕ} 1 0 = sym (ap (λ (o : Compiled). o .0) (compile-short s ps t a)) ∙ h in absurd (omega arith)) (λ a. omega arith)
+
+-- the program of an accepted sheet is accepted
+pub program-accepted : (ps : List ℕ) → All (λ b. b < 256) ps → (x : Sheet) → SheetAccepted (get ps) (length ps) x → Accepted (programOf ps x)
+program-accepted ps bytes x ok = filling-accepted (get ps) (λ n _. get-small ps bytes n) (length ps) x ok
 
 -- a round that start has made from a program's table
 pub begun : (p : Program) → Accepted p → (t₀ l₀ t : List ℕ) → 34816 ≤ length t₀ → 2048 ≤ length l₀ → t ≡ tableOf p t₀ → startOn t l₀ ≡ (0, freshBytes (tableOf p t₀) l₀)
@@ -68,26 +75,28 @@ one p ok t₀ l₀ t a b e cs =
     (subst (λ (x : List ℕ). OneList p x l₀ (freshBytes (tableOf p t₀) l₀) cs) (sym e) (one-list p ok t₀ l₀ a b cs))
 
 pub every-sheet : EverySheet
-every-sheet s t₀ l₀ bytes room h =
-    let a = table-room s t₀ h in
-    let k = accepted-exactly s t₀ bytes a .0 h in
-    let p = k .0 in
-    let ok = k .2 in
-    let e : compileOn s t₀ .1 ≡ tableOf p t₀ = ap (λ (o : Compiled). o .1) (k .3) in
+every-sheet s ps t₀ l₀ bytes words room h =
+    let a = table-room s ps t₀ h in
+    let k = accepted-exactly s ps t₀ bytes a .0 h in
+    let p = programOf ps (k .0) in
+    let ok = program-accepted ps words (k .0) (k .2) in
+    let e : compileOn s ps t₀ .1 ≡ tableOf p t₀ = ap (λ (o : Compiled). o .1) (k .3) in
     record {
-      program = p;
+      sheet = k .0;
       bytes = k .1;
+      taken = k .2;
       accepted = ok;
       table = e;
       code = λ x d. subst (λ (t : List ℕ). CodeIn p t x) (sym e) (code-in p (tableOf p t₀) (accepted-says p ok t₀ a) x d);
-      begun = ap (λ (r : Result). r .0) (begun p ok t₀ l₀ (compileOn s t₀ .1) a room e);
+      begun = ap (λ (r : Result). r .0) (begun p ok t₀ l₀ (compileOn s ps t₀ .1) a room e);
       values = fresh-shows p (valid p ok);
-      each = one p ok t₀ l₀ (compileOn s t₀ .1) a room e;
+      each = one p ok t₀ l₀ (compileOn s ps t₀ .1) a room e;
     }
 
 -- the table and the round of an accepted program's sheet
-table-is : (s t₀ : List ℕ) → All (λ b. b < 256) s → (p : Program) → encode p ≡ s → Accepted p → 34816 ≤ length t₀ → compileOn s t₀ .1 ≡ tableOf p t₀
-table-is s t₀ bytes p e ok a = ap (λ (o : Compiled). o .1) (accepted-exactly s t₀ bytes a .1 p e ok)
+table-is : (s ps t₀ : List ℕ) → All (λ b. b < 256) s → (x : Sheet) → encode x ≡ s → SheetAccepted (get ps) (length ps) x → 34816 ≤ length t₀
+    → compileOn s ps t₀ .1 ≡ tableOf (programOf ps x) t₀
+table-is s ps t₀ bytes x e ok a = ap (λ (o : Compiled). o .1) (accepted-exactly s ps t₀ bytes a .1 x e ok)
 
 round-is : (p : Program) → Accepted p → (t₀ l₀ t : List ℕ) → 34816 ≤ length t₀ → 2048 ≤ length l₀ → t ≡ tableOf p t₀ → (cs : List Call)
     → roundAfter t cs (startOn t l₀ .1) ≡ roundAfter (tableOf p t₀) cs (freshBytes (tableOf p t₀) l₀)
@@ -95,13 +104,15 @@ round-is p ok t₀ l₀ t a b e cs =
     ap (λ (r : Result). roundAfter t cs (r .1)) (begun p ok t₀ l₀ t a b e) ∙ ap (λ (x : List ℕ). roundAfter x cs (freshBytes (tableOf p t₀) l₀)) e
 
 pub two-phones : TwoLists
-two-phones s t₀ l₀ t₁ l₁ bytes r₀ r₁ h₀ h₁ p e ok cs ds same apart i₀ i₁ =
-    let a = table-room s t₀ h₀ in
-    let b = table-room s t₁ h₁ in
-    let x = table-is s t₀ bytes p e ok a in
-    let y = table-is s t₁ bytes p e ok b in
-    let u = round-is p ok t₀ l₀ (compileOn s t₀ .1) a r₀ x cs in
-    let v = round-is p ok t₁ l₁ (compileOn s t₁ .1) b r₁ y ds in
+two-phones s ps t₀ l₀ t₁ l₁ bytes words r₀ r₁ h₀ h₁ sheet e taken cs ds same apart i₀ i₁ =
+    let p = programOf ps sheet in
+    let ok = program-accepted ps words sheet taken in
+    let a = table-room s ps t₀ h₀ in
+    let b = table-room s ps t₁ h₁ in
+    let x = table-is s ps t₀ bytes sheet e taken a in
+    let y = table-is s ps t₁ bytes sheet e taken b in
+    let u = round-is p ok t₀ l₀ (compileOn s ps t₀ .1) a r₀ x cs in
+    let v = round-is p ok t₁ l₁ (compileOn s ps t₁ .1) b r₁ y ds in
     ap (boardOf p) u
     ∙ two-lists p ok t₀ l₀ t₁ l₁ a r₀ b r₁ cs ds same apart (idle-moved x u i₀) (idle-moved y v i₁)
     ∙ sym (ap (boardOf p) v)

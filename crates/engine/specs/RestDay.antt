@@ -8,13 +8,15 @@ use mathlib.Core.List.{List, [], _∷_, _++_}
 use native.Mathlib.Omega.{arith}
 use lib.ListN.{length}
 use borrow.Author.Tests.{le-leb}
+use Rattle.word.specs.Word.{get}
 use Rattle.language.specs.Syntax.{Program}
+use Rattle.language.specs.Sheet.{Sheet, fillItems, usesItems}
 use Rattle.language.specs.Dependence.{handled, dependsOn, Reach, one, more}
 use Rattle.language.specs.Grammar.{encodeBehaviours, encodeEvents, encode}
 use Rattle.language.specs.Order.{upTo}
 use Rattle.language.specs.Code.{sum, allInstructions}
-use Rattle.language.specs.Accepted.{Accepted}
-use Rattle.language.specs.Reading.{program}
+use Rattle.language.specs.Accepted.{Accepted, SheetAccepted}
+use Rattle.language.specs.Reading.{sheet}
 use Rattle.model.specs.Model.{Engine, initial, Call, arrive, step, board, act, run}
 use Rattle.model.specs.Claims.{after}
 use Rattle.image.specs.Image.{tableOf}
@@ -22,15 +24,19 @@ use Rattle.round.specs.Start.{Result, startOn}
 use Rattle.arrivals.specs.Arrivals.{arriveOn}
 use Rattle.board.specs.Board.{boardOn}
 use Rattle.refinement.specs.Refinement.{coded, callOn, roundAfter}
-use Rattle.compiler.specs.Verdict.{Compiled, compiled, compileOn}
+use Rattle.compiler.specs.Verdict.{Compiled, compiled, programOf, compileOn}
 use Rattle.compiler.specs.AcceptedExactly.{accepted-exactly, never-two}
 use Rattle.engine.specs.Demand.{IdleNow}
 use Rattle.engine.specs.Runs.{next-answer}
 use Rattle.engine.specs.Holds as holds
 
 -- "a sheet with no events and no behaviours"
+abbrev pub blank : Sheet
+blank = sheet [] []
+
+-- the program that it means, whatever its parameters are
 abbrev pub nothing : Program
-nothing = program [] []
+nothing = record { priorities = []; behaviours = [] }
 
 -- "its round idle, every arrival refused by 15 and every board reading by 18": after the calls cs on the table t and the round l
 pub record AtRest (t l : List ℕ) (cs : List Call) : Type 0 where
@@ -41,21 +47,22 @@ pub record AtRest (t l : List ℕ) (cs : List Call) : Type 0 where
 -- "On rest days the sheet store sends a sheet of no bytes. It shall mean a sheet with no events and no behaviours: accepted", in any table bytes t₀ and round bytes l₀
 -- of 01's lengths
 pub record RestDay : Type 0 where
-  -- no bytes are the encoding of that program, which meets 01's grammar and limits
-  pub bytes : encode nothing ≡ []
-  pub within : Accepted nothing
+  -- no bytes are the encoding of that sheet, which meets 01's grammar and limits and means that program, whatever is lent for parameters
+  pub bytes : encode blank ≡ []
+  pub within : (ps : List ℕ) → SheetAccepted (get ps) (length ps) blank
+  pub means : (ps : List ℕ) → programOf ps blank ≡ nothing
   -- compile takes the sheet, and leaves that program's table
-  pub accepted : (t₀ : List ℕ) → 34816 ≤ length t₀ → compileOn [] t₀ .0 ≡ 0
-  pub table : (t₀ : List ℕ) → 34816 ≤ length t₀ → compileOn [] t₀ .1 ≡ tableOf nothing t₀
-  pub begun : (t₀ l₀ : List ℕ) → 34816 ≤ length t₀ → 2048 ≤ length l₀ → startOn (compileOn [] t₀ .1) l₀ .0 ≡ 0
-  pub at-rest : (t₀ l₀ : List ℕ) → 34816 ≤ length t₀ → 2048 ≤ length l₀ → (cs : List Call)
-      → AtRest (compileOn [] t₀ .1) (startOn (compileOn [] t₀ .1) l₀ .1) cs
+  pub accepted : (ps t₀ : List ℕ) → 34816 ≤ length t₀ → compileOn [] ps t₀ .0 ≡ 0
+  pub table : (ps t₀ : List ℕ) → 34816 ≤ length t₀ → compileOn [] ps t₀ .1 ≡ tableOf nothing t₀
+  pub begun : (ps t₀ l₀ : List ℕ) → 34816 ≤ length t₀ → 2048 ≤ length l₀ → startOn (compileOn [] ps t₀ .1) l₀ .0 ≡ 0
+  pub at-rest : (ps t₀ l₀ : List ℕ) → 34816 ≤ length t₀ → 2048 ≤ length l₀ → (cs : List Call)
+      → AtRest (compileOn [] ps t₀ .1) (startOn (compileOn [] ps t₀ .1) l₀ .1) cs
   -- "Number 2 never occurs again."
-  pub never-blank : (s t : List ℕ) → compileOn s t .0 ≢ 2
+  pub never-blank : (s ps t : List ℕ) → compileOn s ps t .0 ≢ 2
 
 -- ---- it is accepted
 
-no-bytes : encode nothing ≡ []
+no-bytes : encode blank ≡ []
 unfolding encode encodeEvents encodeBehaviours
 no-bytes = refl
 
@@ -73,18 +80,38 @@ nothing-accepted = record {
     few-behaviours = omega arith;
     scale = tt;
     each = tt;
-    few-bytes = rw no-bytes (omega arith);
   };
   known = tt;
   acyclic = λ e _ i r. no-chain e r;
   short = omega arith;
 }
 
-compiles : (t₀ : List ℕ) → 34816 ≤ length t₀ → compileOn [] t₀ ≡ compiled 0 (tableOf nothing t₀)
-compiles t₀ room = accepted-exactly [] t₀ tt room .1 nothing no-bytes nothing-accepted
+means-nothing : (ps : List ℕ) → programOf ps blank ≡ nothing
+unfolding fillItems
+means-nothing ps = refl
 
-table-is : (t₀ : List ℕ) → 34816 ≤ length t₀ → compileOn [] t₀ .1 ≡ tableOf nothing t₀
-table-is t₀ room = ap (λ (r : Compiled). r .1) (compiles t₀ room)
+blank-accepted : (ps : List ℕ) → SheetAccepted (get ps) (length ps) blank
+unfolding fillItems usesItems
+blank-accepted ps = record {
+  fits = record {
+    few-events = omega arith;
+    few-behaviours = omega arith;
+    scale = tt;
+    each = tt;
+    few-bytes = rw no-bytes (omega arith);
+  };
+  known = nothing-accepted .known;
+  given = λ u. absurd (true≢false (sym u));
+  acyclic = nothing-accepted .acyclic;
+  short = nothing-accepted .short;
+}
+
+compiles : (ps t₀ : List ℕ) → 34816 ≤ length t₀ → compileOn [] ps t₀ ≡ compiled 0 (tableOf nothing t₀)
+compiles ps t₀ room =
+    accepted-exactly [] ps t₀ tt room .1 blank no-bytes (blank-accepted ps) ∙ ap (λ (p : Program). compiled 0 (tableOf p t₀)) (means-nothing ps)
+
+table-is : (ps t₀ : List ℕ) → 34816 ≤ length t₀ → compileOn [] ps t₀ .1 ≡ tableOf nothing t₀
+table-is ps t₀ room = ap (λ (r : Compiled). r .1) (compiles ps t₀ room)
 
 -- ---- its round rests
 
@@ -95,9 +122,9 @@ stays (arrive e ∷ cs) = rw (le-leb 0 e (omega arith)) (stays cs)
 stays (step ∷ cs) = stays cs
 stays (board i ∷ cs) = stays cs
 
-module _ (t₀ l₀ : List ℕ) (room : 34816 ≤ length t₀) (round-room : 2048 ≤ length l₀) where
+module _ (ps t₀ l₀ : List ℕ) (room : 34816 ≤ length t₀) (round-room : 2048 ≤ length l₀) where
   abbrev table : List ℕ
-  table = compileOn [] t₀ .1
+  table = compileOn [] ps t₀ .1
 
   abbrev round : List ℕ
   round = startOn table l₀ .1
@@ -105,7 +132,7 @@ module _ (t₀ l₀ : List ℕ) (room : 34816 ≤ length t₀) (round-room : 204
   -- one more call is answered as by the model engine that has just begun
   answers : (cs : List Call) (c : Call) → callOn table c (roundAfter table cs round) .0 ≡ coded (act nothing c (initial nothing) .answer)
   answers cs c =
-      next-answer nothing table cs c round (initial nothing) (holds.one nothing nothing-accepted t₀ l₀ table room round-room (table-is t₀ room) (cs ++ (c ∷ [])) .answers)
+      next-answer nothing table cs c round (initial nothing) (holds.one nothing nothing-accepted t₀ l₀ table room round-room (table-is ps t₀ room) (cs ++ (c ∷ [])) .answers)
       ∙ ap (λ (w : Engine). coded (act nothing c w .answer)) (stays cs)
 
   rests : (cs : List Call) → AtRest table round cs
@@ -117,14 +144,15 @@ module _ (t₀ l₀ : List ℕ) (room : 34816 ≤ length t₀) (round-room : 204
   }
 
   starts : startOn table l₀ .0 ≡ 0
-  starts = ap (λ (r : Result). r .0) (holds.begun nothing nothing-accepted t₀ l₀ table room round-room (table-is t₀ room))
+  starts = ap (λ (r : Result). r .0) (holds.begun nothing nothing-accepted t₀ l₀ table room round-room (table-is ps t₀ room))
 
 -- M-106
 pub rest-day : RestDay
 rest-day = record {
   bytes = no-bytes;
-  within = nothing-accepted;
-  accepted = λ t₀ room. ap (λ (r : Compiled). r .0) (compiles t₀ room);
+  within = blank-accepted;
+  means = means-nothing;
+  accepted = λ ps t₀ room. ap (λ (r : Compiled). r .0) (compiles ps t₀ room);
   table = table-is;
   begun = starts;
   at-rest = rests;

@@ -13,13 +13,14 @@ ghost use Rattle.preview.specs.Preview.{previewOn};
 ghost use Rattle.refinement.specs.Refinement.{callOn, answersOn, roundAfter};
 ghost use Rattle.engine.specs.Replay.{callOf, callsFrom, putAnswer, putAnswers, callCount};
 
-// A sheet's table. 0, or the refusal's number, 1 or 3 to 13, the table as it was.
+// The table of a sheet with its parameters. 0, or the refusal's number, 1, 3 to 13 or 20, the table as it was.
 #[no_mangle]
-pub extern "C" fn compile(sheet: &[u8], table: &mut [u8]) -> u32
-    ensures { λ r. ⌜ compiled r (now (table .exit)) ≡ compileOn (now (sheet .entry)) (now (table .entry)) ⌝ }
+pub extern "C" fn compile(sheet: &[u8], params: &[u8], table: &mut [u8]) -> u32
+    ensures { λ r. ⌜ compiled r (now (table .exit)) ≡ compileOn (now (sheet .entry)) (now (params .entry)) (now (table .entry)) ⌝ }
     ensures { λ _. ⌜ now (sheet .exit) ≡ now (sheet .entry) ⌝ }
+    ensures { λ _. ⌜ now (params .exit) ≡ now (params .entry) ⌝ }
 {
-    compiler::compile_at(sheet, table)
+    compiler::compile_at(sheet, params, table)
 }
 
 // A fresh round. 0, or 14.

@@ -40,7 +40,7 @@ any-reader rd rd′ (Refused k) v draft n = refl
 
 pub unroll : (left : ℕ) (s draft : List ℕ) (n : ℕ) → exprOf left s draft n ≡ bodyOf (exprOf (left - 1)) (headOf left s) (valueOf s) draft n
 unfolding exprOf headOf
-unroll zero s draft n = any-reader _ _ (fieldOf s 16 18) (valueOf s) draft n
+unroll zero s draft n = any-reader _ _ (fieldOf s 16 19) (valueOf s) draft n
 unroll (suc left) s draft n = rw sub-one
 
 -- what the loop over the arguments keeps: what is left gives the whole, and there is room

@@ -1,4 +1,4 @@
--- Expressions: 10 constant (4 bytes), 11 name (1 byte), 12 application (a function byte, then its arguments), hexadecimal.
+-- Expressions: 10 constant (4 bytes), 11 name (1 byte), 12 application (a function byte, then its arguments), 13 parameter (1 byte, 0 to 7), hexadecimal.
 -- Reading one appends its nodes, in postfix order, to the draft: kind * 2^32 + word.
 use Prim.Native.Nat.{ℕ, zero, suc, _+_, _*_, _-_, _≤_, _<_}
 use mathlib.Core.Path.{_≡_}
@@ -25,10 +25,12 @@ headAt left t v =
     (pick (eqb (length v) 4) (Leaf (68719476736 + getAt v 0) 7) (NoHead wrongLength))
     (pick (eqb t 17)
     (pick (eqb (length v) 1) (Leaf (73014444032 + getD v 0 0) 4) (NoHead wrongLength))
+    (pick (eqb t 19)
+    (pick (eqb (length v) 1) (pick (ltb 7 (getD v 0 0)) (NoHead offScale) (Leaf (81604378624 + getD v 0 0) 4)) (NoHead wrongLength))
     (pick (eqb (length v) 0) (NoHead wrongLength)
     (pick (eqb (getD v 0 0) 0) (NoHead offScale)
     (pick (ltb 14 (getD v 0 0)) (NoHead offScale)
-    (Apply (getD v 0 0)))))))
+    (Apply (getD v 0 0))))))))
 
 abbrev pub headFrom : ℕ → Field → List ℕ → Head
 headFrom left (Refused k) v = NoHead k
@@ -36,10 +38,10 @@ headFrom left (Value t n) v = headAt left t v
 
 -- the value of the expression field at the front of s, and what the field begins
 abbrev pub valueOf : List ℕ → List ℕ
-valueOf s = partOf s (fieldOf s 16 18)
+valueOf s = partOf s (fieldOf s 16 19)
 
 unfoldable pub headOf : ℕ → List ℕ → Head
-headOf left s = headFrom left (fieldOf s 16 18) (valueOf s)
+headOf left s = headFrom left (fieldOf s 16 19) (valueOf s)
 
 -- that a head lies within a value of m bytes: what the reading of a head promises beside the equation
 abbrev pub HeadIn : ℕ → ℕ → Head → Type 0

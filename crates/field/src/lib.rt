@@ -88,6 +88,15 @@ fn head_of(left: usize, t: u8, v: &[u8]) -> Head
         }
         return Head::Leaf(73014444032 + (v[0] as u64), 4);
     }
+    if t == 19 {
+        if v.len() != 1 {
+            return Head::NoHead(6);
+        }
+        if 7 < v[0] {
+            return Head::NoHead(8);
+        }
+        return Head::Leaf(81604378624 + (v[0] as u64), 4);
+    }
     if v.len() == 0 {
         return Head::NoHead(6);
     }
@@ -106,11 +115,11 @@ fn read_head(left: usize, s: &[u8]) -> Head
     ensures { λ r. ⌜ HeadIn left (length (valueOf (now (s .entry)))) r ⌝ }
     ensures { λ _. ⌜ length (valueOf (now (s .entry))) ≤ length (now (s .entry)) - 3 ⌝ }
 {
-    let a = field_answer(s, 16, 18);
+    let a = field_answer(s, 16, 19);
     let Field::Value(t, _) = a else {
         return Head::NoHead(number(a));
     };
-    head_of(left, t, field_value(s, 16, 18))
+    head_of(left, t, field_value(s, 16, 19))
 }
 
 // The node of an application whose arguments end at `at`, in a value of `size` bytes.
@@ -143,7 +152,7 @@ pub fn read_expr(left: usize, s: &[u8], draft: &mut [u64], n: usize) -> Read
             Read::Done(size, n + 1)
         }
         Head::Apply(f) => {
-            let v = field_value(s, 16, 18);
+            let v = field_value(s, 16, 19);
             let mut at = 1;
             let mut m = n;
             let mut k = functions::arity_of(f);

@@ -1,20 +1,21 @@
--- Worked checks of the reader, each by computing: program S of 01 "Rounds to check", the nesting limit, and the numbers of faults
+-- Worked checks of the reader, each by computing: sheet S of 01 "Rounds to check", the nesting limit, and the numbers of faults
 -- where 01 "Why a call was turned down" wants care.
 use Prim.Native.Nat.{ℕ, zero, suc}
 use mathlib.Core.Path.{_≡_, refl}
 use mathlib.Core.List.{List, [], _∷_, _++_}
 use lib.ListN.{length, replicate}
-use Rattle.language.specs.Syntax.{Expr, con, name, app1, app2, immediate, later, handler, passive, active, Program}
+use Rattle.language.specs.Syntax.{immediate, later}
+use Rattle.language.specs.Sheet.{Term, literal, variable, param, apply1, apply2, clause, formula, state, Sheet}
 use Rattle.language.specs.Grammar.{field, word, encodeExpr, encodeHandlers, encodeBehaviours, encodeEvents, encode}
-use Rattle.language.specs.Reading.{fieldAt, bad, got, exprAt, handles, handlersAt, program, behavioursAt, eventsAt, readProgram}
+use Rattle.language.specs.Reading.{fieldAt, bad, got, exprAt, handles, handlersAt, sheet, behavioursAt, eventsAt, readSheet}
 
--- ---- program S: priority 1 then 2; b0 = init 1 {0 ⇒ b0 + b1}; b1 = init 1 {0 ⇒ b0 − b1 later, 1 ⇒ 1}
+-- ---- sheet S: priority 1 then 2; b0 = init 1 {0 ⇒ b0 + b1}; b1 = init 1 {0 ⇒ b0 − b1 later, 1 ⇒ 1}
 
-abbrev pub S : Program
+abbrev pub S : Sheet
 S =
-    program (1 ∷ 2 ∷ [])
-    (active 1 (handler 0 immediate (app2 4 (name 0) (name 1)) ∷ [])
-    ∷ active 1 (handler 0 later (app2 5 (name 0) (name 1)) ∷ handler 1 immediate (con 1) ∷ [])
+    sheet (1 ∷ 2 ∷ [])
+    (state 1 (clause 0 immediate (apply2 4 (variable 0) (variable 1)) ∷ [])
+    ∷ state 1 (clause 0 later (apply2 5 (variable 0) (variable 1)) ∷ clause 1 immediate (literal 1) ∷ [])
     ∷ [])
 
 abbrev pub S-bytes : List ℕ
@@ -34,21 +35,21 @@ pub S-encoded : encode S ≡ S-bytes
 unfolding encode encodeEvents encodeBehaviours encodeHandlers encodeExpr
 S-encoded = refl
 
-pub S-read : readProgram S-bytes ≡ got S []
-unfolding readProgram eventsAt behavioursAt handlersAt handles exprAt fieldAt
+pub S-read : readSheet S-bytes ≡ got S []
+unfolding readSheet eventsAt behavioursAt handlersAt handles exprAt fieldAt
 S-read = refl
 
 -- ---- no bytes: no events and no behaviours (02, M-106)
 
-pub nothing-read : (readProgram [] ≡ got (program [] []) []) × (encode (program [] []) ≡ [])
-unfolding readProgram eventsAt encode encodeEvents encodeBehaviours
+pub nothing-read : (readSheet [] ≡ got (sheet [] []) []) × (encode (sheet [] []) ≡ [])
+unfolding readSheet eventsAt encode encodeEvents encodeBehaviours
 nothing-read = (refl, refl)
 
 -- ---- nesting: `!` so many times round a constant
 
-abbrev pub nots : ℕ → Expr → Expr
+abbrev pub nots : ℕ → Term → Term
 nots zero x = x
-nots (suc n) x = app1 3 (nots n x)
+nots (suc n) x = apply1 3 (nots n x)
 
 -- the same in bytes, round any bytes
 abbrev pub wrapped : ℕ → List ℕ → List ℕ
@@ -58,13 +59,20 @@ wrapped (suc n) v = field 18 (3 ∷ wrapped n v)
 abbrev pub one : List ℕ
 one = field 16 (word 1)
 
-pub nots-pass : readProgram (field 2 (wrapped 15 one)) ≡ got (program [] (passive (nots 15 (con 1)) ∷ [])) []
-unfolding readProgram eventsAt behavioursAt exprAt fieldAt
+pub nots-pass : readSheet (field 2 (wrapped 15 one)) ≡ got (sheet [] (formula (nots 15 (literal 1)) ∷ [])) []
+unfolding readSheet eventsAt behavioursAt exprAt fieldAt
 nots-pass = refl
 
-pub nots-too-deep : readProgram (field 2 (wrapped 16 one)) ≡ bad 9
-unfolding readProgram eventsAt behavioursAt exprAt fieldAt
+pub nots-too-deep : readSheet (field 2 (wrapped 16 one)) ≡ bad 9
+unfolding readSheet eventsAt behavioursAt exprAt fieldAt
 nots-too-deep = refl
+
+-- ---- parameters (02, M-103): field 13 with the number 7 is read; 8 is off the scale, two bytes are a wrong length, and at nesting 17 it is too deep
+
+pub parameters : (readSheet (field 2 (field 19 (7 ∷ []))) ≡ got (sheet [] (formula (param 7) ∷ [])) []) × (readSheet (field 2 (field 19 (8 ∷ []))) ≡ bad 8)
+    × (readSheet (field 2 (field 19 (8 ∷ 0 ∷ []))) ≡ bad 6) × (readSheet (field 2 (wrapped 16 (field 19 (8 ∷ [])))) ≡ bad 9)
+unfolding readSheet eventsAt behavioursAt exprAt fieldAt
+parameters = (refl, refl, refl, refl)
 
 -- ---- the numbers of faults
 
@@ -82,51 +90,51 @@ abbrev pub first : List ℕ
 first = field 5 (0 ∷ 0 ∷ one)
 
 -- "under three bytes where a field is due": one or two stray bytes, at the end of the bytes, after a start and after a handler
-pub stray-bytes : (readProgram (events 1 (1 ∷ [])) ≡ bad 4) × (readProgram (events 1 (1 ∷ 0 ∷ [])) ≡ bad 4)
-    × (readProgram (handled (5 ∷ [])) ≡ bad 4) × (readProgram (handled (first ++ (5 ∷ 0 ∷ []))) ≡ bad 4)
-unfolding readProgram eventsAt behavioursAt handlersAt handles exprAt fieldAt
+pub stray-bytes : (readSheet (events 1 (1 ∷ [])) ≡ bad 4) × (readSheet (events 1 (1 ∷ 0 ∷ [])) ≡ bad 4)
+    × (readSheet (handled (5 ∷ [])) ≡ bad 4) × (readSheet (handled (first ++ (5 ∷ 0 ∷ []))) ≡ bad 4)
+unfolding readSheet eventsAt behavioursAt handlersAt handles exprAt fieldAt
 stray-bytes = (refl, refl, refl, refl)
 
 -- an empty passive or active, no expression in a handler, too few arguments
-pub missing-field : (readProgram (field 2 []) ≡ bad 4) × (readProgram (field 3 []) ≡ bad 4)
-    × (readProgram (handled (field 5 (0 ∷ 0 ∷ []))) ≡ bad 4) × (readProgram (field 2 (field 18 (4 ∷ one))) ≡ bad 4)
-unfolding readProgram eventsAt behavioursAt handlersAt handles exprAt fieldAt
+pub missing-field : (readSheet (field 2 []) ≡ bad 4) × (readSheet (field 3 []) ≡ bad 4)
+    × (readSheet (handled (field 5 (0 ∷ 0 ∷ []))) ≡ bad 4) × (readSheet (field 2 (field 18 (4 ∷ one))) ≡ bad 4)
+unfolding readSheet eventsAt behavioursAt handlersAt handles exprAt fieldAt
 missing-field = (refl, refl, refl, refl)
 
 -- no event, phase or function byte
-pub missing-byte : (readProgram (handled (field 5 [])) ≡ bad 6) × (readProgram (handled (field 5 (0 ∷ []))) ≡ bad 6)
-    × (readProgram (field 2 (field 18 [])) ≡ bad 6)
-unfolding readProgram eventsAt behavioursAt handlersAt handles exprAt fieldAt
+pub missing-byte : (readSheet (handled (field 5 [])) ≡ bad 6) × (readSheet (handled (field 5 (0 ∷ []))) ≡ bad 6)
+    × (readSheet (field 2 (field 18 [])) ≡ bad 6)
+unfolding readSheet eventsAt behavioursAt handlersAt handles exprAt fieldAt
 missing-byte = (refl, refl, refl)
 
 -- after the last expression of a passive, a handler or an application any byte is left over, a field too
-pub left-over : (readProgram (field 2 (one ++ (0 ∷ []))) ≡ bad 6) × (readProgram (field 2 (one ++ one)) ≡ bad 6)
-    × (readProgram (handled (field 5 (0 ∷ 0 ∷ (one ++ one)))) ≡ bad 6) × (readProgram (field 2 (field 18 (3 ∷ (one ++ one)))) ≡ bad 6)
-unfolding readProgram eventsAt behavioursAt handlersAt handles exprAt fieldAt
+pub left-over : (readSheet (field 2 (one ++ (0 ∷ []))) ≡ bad 6) × (readSheet (field 2 (one ++ one)) ≡ bad 6)
+    × (readSheet (handled (field 5 (0 ∷ 0 ∷ (one ++ one)))) ≡ bad 6) × (readSheet (field 2 (field 18 (3 ∷ (one ++ one)))) ≡ bad 6)
+unfolding readSheet eventsAt behavioursAt handlersAt handles exprAt fieldAt
 left-over = (refl, refl, refl, refl)
 
 -- "event, phase, 10, expression": an undeclared event alone; a bad phase and none on a doubled event; a doubled event with no expression
-pub handler-order : (readProgram (handled (field 5 (1 ∷ []))) ≡ bad 8) × (readProgram (handled (first ++ field 5 (0 ∷ 2 ∷ one))) ≡ bad 8)
-    × (readProgram (handled (first ++ field 5 (0 ∷ []))) ≡ bad 6) × (readProgram (handled (first ++ field 5 (0 ∷ 0 ∷ []))) ≡ bad 10)
-unfolding readProgram eventsAt behavioursAt handlersAt handles exprAt fieldAt
+pub handler-order : (readSheet (handled (field 5 (1 ∷ []))) ≡ bad 8) × (readSheet (handled (first ++ field 5 (0 ∷ 2 ∷ one))) ≡ bad 8)
+    × (readSheet (handled (first ++ field 5 (0 ∷ []))) ≡ bad 6) × (readSheet (handled (first ++ field 5 (0 ∷ 0 ∷ []))) ≡ bad 10)
+unfolding readSheet eventsAt behavioursAt handlersAt handles exprAt fieldAt
 handler-order = (refl, refl, refl, refl)
 
 -- "second handler for an event", whatever the phases
-pub second-handler : (readProgram (handled (first ++ first)) ≡ bad 10) × (readProgram (handled (first ++ field 5 (0 ∷ 1 ∷ one))) ≡ bad 10)
-    × (readProgram (handled (field 5 (0 ∷ 1 ∷ one) ++ first)) ≡ bad 10)
-unfolding readProgram eventsAt behavioursAt handlersAt handles exprAt fieldAt
+pub second-handler : (readSheet (handled (first ++ first)) ≡ bad 10) × (readSheet (handled (first ++ field 5 (0 ∷ 1 ∷ one))) ≡ bad 10)
+    × (readSheet (handled (field 5 (0 ∷ 1 ∷ one) ++ first)) ≡ bad 10)
+unfolding readSheet eventsAt behavioursAt handlersAt handles exprAt fieldAt
 second-handler = (refl, refl, refl)
 
 -- at nesting 17: a constant of wrong length, a wrong tag, a length past its end
-pub deep-order : (readProgram (field 2 (wrapped 16 (field 16 []))) ≡ bad 9) × (readProgram (field 2 (wrapped 16 (field 19 []))) ≡ bad 5)
-    × (readProgram (field 2 (wrapped 16 (16 ∷ 0 ∷ 4 ∷ 0 ∷ []))) ≡ bad 4)
-unfolding readProgram eventsAt behavioursAt exprAt fieldAt
+pub deep-order : (readSheet (field 2 (wrapped 16 (field 16 []))) ≡ bad 9) × (readSheet (field 2 (wrapped 16 (field 20 []))) ≡ bad 5)
+    × (readSheet (field 2 (wrapped 16 (16 ∷ 0 ∷ 4 ∷ 0 ∷ []))) ≡ bad 4)
+unfolding readSheet eventsAt behavioursAt exprAt fieldAt
 deep-order = (refl, refl, refl)
 
 -- the 33rd event: as such, of wrong length, of wrong priority, with a length past the end
-pub crowded-order : (readProgram (events 33 []) ≡ bad 7) × (readProgram (events 32 (field 1 [])) ≡ bad 7)
-    × (readProgram (events 32 (field 1 (16 ∷ []))) ≡ bad 7) × (readProgram (events 32 (1 ∷ 0 ∷ 1 ∷ [])) ≡ bad 4)
-unfolding readProgram eventsAt behavioursAt fieldAt
+pub crowded-order : (readSheet (events 33 []) ≡ bad 7) × (readSheet (events 32 (field 1 [])) ≡ bad 7)
+    × (readSheet (events 32 (field 1 (16 ∷ []))) ≡ bad 7) × (readSheet (events 32 (1 ∷ 0 ∷ 1 ∷ [])) ≡ bad 4)
+unfolding readSheet eventsAt behavioursAt fieldAt
 crowded-order = (refl, refl, refl, refl)
 
 -- 32 events and 64 behaviours pass, the 65th behaviour does not
@@ -134,18 +142,18 @@ abbrev pub passives : ℕ → List ℕ
 passives zero = []
 passives (suc n) = field 2 one ++ passives n
 
-pub counts : (readProgram (events 32 (passives 64)) ≡ got (program (replicate 32 0) (replicate 64 (passive (con 1)))) [])
-    × (readProgram (events 32 (passives 65)) ≡ bad 7)
-unfolding readProgram eventsAt behavioursAt exprAt fieldAt
+pub counts : (readSheet (events 32 (passives 64)) ≡ got (sheet (replicate 32 0) (replicate 64 (formula (literal 1)))) [])
+    × (readSheet (events 32 (passives 65)) ≡ bad 7)
+unfolding readSheet eventsAt behavioursAt exprAt fieldAt
 counts = (refl, refl)
 
 -- an event after a behaviour, also after 32 events, also with a length past the end
-pub late-event : (readProgram (field 2 one ++ events 1 []) ≡ bad 5) × (readProgram (events 32 (field 2 one ++ events 1 [])) ≡ bad 5)
-    × (readProgram (field 2 one ++ (1 ∷ 0 ∷ 9 ∷ [])) ≡ bad 5)
-unfolding readProgram eventsAt behavioursAt exprAt fieldAt
+pub late-event : (readSheet (field 2 one ++ events 1 []) ≡ bad 5) × (readSheet (events 32 (field 2 one ++ events 1 [])) ≡ bad 5)
+    × (readSheet (field 2 one ++ (1 ∷ 0 ∷ 9 ∷ [])) ≡ bad 5)
+unfolding readSheet eventsAt behavioursAt exprAt fieldAt
 late-event = (refl, refl, refl)
 
 -- a length past the end of its enclosing field, though not of the bytes
-pub enclosing-end : readProgram (field 2 (16 ∷ 0 ∷ 4 ∷ 0 ∷ 0 ∷ []) ++ field 2 one) ≡ bad 4
-unfolding readProgram eventsAt behavioursAt exprAt fieldAt
+pub enclosing-end : readSheet (field 2 (16 ∷ 0 ∷ 4 ∷ 0 ∷ 0 ∷ []) ++ field 2 one) ≡ bad 4
+unfolding readSheet eventsAt behavioursAt exprAt fieldAt
 enclosing-end = refl

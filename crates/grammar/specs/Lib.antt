@@ -4,4 +4,5 @@ pub mod Expressions
 pub mod Handlers
 pub mod Behaviours
 pub mod Programs
+pub mod Faults
 pub mod Examples

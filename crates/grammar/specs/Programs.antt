@@ -1,4 +1,4 @@
--- Programs: the reader accepts exactly the encodings of programs within the limits, a program is determined by its bytes, and a fault has a number from 4 to 10.
+-- Sheets: the reader accepts exactly the encodings of sheets within the limits, a sheet is determined by its bytes, and a fault has a number from 4 to 10.
 -- By induction on the events and behaviours left to read, and the other way on the bound of fields; `encode` of what is read so far, and the bytes left, stay the same bytes.
 use Prim.Native.Nat.{ℕ, zero, suc, _+_, _≤_, _<_}
 use mathlib.Core.Bool.{true}
@@ -10,9 +10,9 @@ use lib.Dec.{ltb, leb, eqb}
 use borrow.Author.Tests.{ltb-false, leb-false, lt-leb, le-ltb, eqb-true, eqb-false, ne-eqb}
 use Rattle.base.specs.Basics.{All}
 use Rattle.base.specs.Tools.{by-test, all-split, all-join}
-use Rattle.language.specs.Syntax.{Behaviour, Program}
-use Rattle.language.specs.Grammar.{field, encodeBehaviour, encodeBehaviours, encodeEvents, encode, BehaviourFits, Fits}
-use Rattle.language.specs.Reading.{Field, refused, present, fieldAt, Got, bad, got, then, behaviourIn, priorityIn, program, behaviourBody, behavioursAt, eventsBody, eventsAt, readProgram}
+use Rattle.language.specs.Sheet.{Item, Sheet}
+use Rattle.language.specs.Grammar.{field, encodeBehaviour, encodeBehaviours, encodeEvents, encode, ItemFits, SheetFits}
+use Rattle.language.specs.Reading.{Field, refused, present, fieldAt, Got, bad, got, then, behaviourIn, priorityIn, sheet, behaviourBody, behavioursAt, eventsBody, eventsAt, readSheet}
 use Rattle.grammar.specs.Fields.{Bytes, Headed, field-reads, field-says}
 use Rattle.grammar.specs.Results.{Says, then-of}
 use Rattle.grammar.specs.Behaviours.{tagOf, valueOf, behaviour-field, tag-least, tag-most, behaviour-reads, behaviour-says}
@@ -20,26 +20,26 @@ use Rattle.grammar.specs.Behaviours.{tagOf, valueOf, behaviour-field, ta
 -- ---- reading back
 
 -- at least one byte for each behaviour, and for each event
-behaviour-bytes : (b : Behaviour) (s : List ℕ) → 1 ≤ length (encodeBehaviour b ++ s)
+pub behaviour-bytes : (b : Item) (s : List ℕ) → 1 ≤ length (encodeBehaviour b ++ s)
 behaviour-bytes b s = rw (behaviour-field b) (omega arith)
 
-many-behaviours : (bs : List Behaviour) → length bs ≤ length (encodeBehaviours bs)
+pub many-behaviours : (bs : List Item) → length bs ≤ length (encodeBehaviours bs)
 unfolding encodeBehaviours
 many-behaviours [] = omega arith
 many-behaviours (b ∷ bs) =
     omega (arith, many-behaviours bs, length-append (encodeBehaviour b) (encodeBehaviours bs), length-append (encodeBehaviour b) [], behaviour-bytes b [])
 
-many-events : (rs : List ℕ) → length rs ≤ length (encodeEvents rs)
+pub many-events : (rs : List ℕ) → length rs ≤ length (encodeEvents rs)
 unfolding encodeEvents
 many-events [] = omega arith
 many-events (r ∷ rs) = omega (arith, many-events rs)
 
 -- a behaviour's field at the front, where a behaviour or any field is due
-behaviour-at : (lo : ℕ) (b : Behaviour) (rest : List ℕ) → lo ≤ 2 → fieldAt lo 3 (encodeBehaviour b ++ rest) ≡ present (tagOf b) (valueOf b) rest
+pub behaviour-at : (lo : ℕ) (b : Item) (rest : List ℕ) → lo ≤ 2 → fieldAt lo 3 (encodeBehaviour b ++ rest) ≡ present (tagOf b) (valueOf b) rest
 behaviour-at lo b rest h = rw (behaviour-field b) (field-reads lo 3 (tagOf b) (valueOf b) rest (omega (arith, tag-least b)) (tag-most b))
 
-behaviours-read : (k : ℕ) (rs : List ℕ) (bs cs : List Behaviour) → length cs ≤ k → length (bs ++ cs) ≤ 64 → All (BehaviourFits (length rs)) cs
-    → behavioursAt k rs bs (encodeBehaviours cs) ≡ got (program rs (bs ++ cs)) []
+behaviours-read : (k : ℕ) (rs : List ℕ) (bs cs : List Item) → length cs ≤ k → length (bs ++ cs) ≤ 64 → All (ItemFits (length rs)) cs
+    → behavioursAt k rs bs (encodeBehaviours cs) ≡ got (sheet rs (bs ++ cs)) []
 unfolding behavioursAt encodeBehaviours
 behaviours-read zero rs bs [] a b f = rw (append-nil bs)
 behaviours-read zero rs bs (c ∷ cs) a b f = absurd (omega arith)
@@ -55,8 +55,8 @@ behaviours-read (suc k) rs bs (c ∷ cs) a b f =
     )
 
 -- no event is left to read: the first behaviour is read here, the others there
-first-reads : (k : ℕ) (rs : List ℕ) (cs : List Behaviour) → length cs ≤ k → length cs ≤ 64 → All (BehaviourFits (length rs)) cs
-    → eventsAt k rs (encodeBehaviours cs) ≡ got (program rs cs) []
+first-reads : (k : ℕ) (rs : List ℕ) (cs : List Item) → length cs ≤ k → length cs ≤ 64 → All (ItemFits (length rs)) cs
+    → eventsAt k rs (encodeBehaviours cs) ≡ got (sheet rs cs) []
 unfolding eventsAt encodeBehaviours
 first-reads zero rs [] a b f = refl
 first-reads zero rs (c ∷ cs) a b f = absurd (omega arith)
@@ -69,9 +69,9 @@ first-reads (suc k) rs (c ∷ cs) a b f =
       behaviour-reads (length rs) c (encodeBehaviours cs) (f .0),
     ) (behaviours-read k rs (c ∷ []) cs (omega arith) b (f .1))
 
-events-read : (k : ℕ) (rs qs : List ℕ) (cs : List Behaviour) → length qs + length cs ≤ k → length (rs ++ qs) ≤ 32 → length cs ≤ 64
-    → All (λ r. r ≤ 15) qs → All (BehaviourFits (length (rs ++ qs))) cs
-    → eventsAt k rs (encodeEvents qs ++ encodeBehaviours cs) ≡ got (program (rs ++ qs) cs) []
+events-read : (k : ℕ) (rs qs : List ℕ) (cs : List Item) → length qs + length cs ≤ k → length (rs ++ qs) ≤ 32 → length cs ≤ 64
+    → All (λ r. r ≤ 15) qs → All (ItemFits (length (rs ++ qs))) cs
+    → eventsAt k rs (encodeEvents qs ++ encodeBehaviours cs) ≡ got (sheet (rs ++ qs) cs) []
 unfolding eventsAt encodeEvents
 events-read k rs [] cs a b c g f = rw (append-nil rs) (first-reads k rs cs (omega arith) c (rw (append-nil rs) at f))
 events-read zero rs (q ∷ qs) cs a b c g f = absurd (omega arith)
@@ -86,33 +86,33 @@ events-read (suc k) rs (q ∷ qs) cs a b c g f =
       e,
     )
 
-pub reads-back : (p : Program) → Fits p → readProgram (encode p) ≡ got p []
-unfolding readProgram encode
+pub reads-back : (p : Sheet) → SheetFits p → readSheet (encode p) ≡ got p []
+unfolding readSheet encode
 reads-back p h =
-    let bound : length (p .priorities) + length (p .behaviours) ≤ length (encodeEvents (p .priorities) ++ encodeBehaviours (p .behaviours)) =
-    omega (arith, many-events (p .priorities), many-behaviours (p .behaviours), length-append (encodeEvents (p .priorities)) (encodeBehaviours (p .behaviours))) in
-    events-read (length (encodeEvents (p .priorities) ++ encodeBehaviours (p .behaviours))) [] (p .priorities) (p .behaviours) bound
+    let bound : length (p .priorities) + length (p .items) ≤ length (encodeEvents (p .priorities) ++ encodeBehaviours (p .items)) =
+    omega (arith, many-events (p .priorities), many-behaviours (p .items), length-append (encodeEvents (p .priorities)) (encodeBehaviours (p .items))) in
+    events-read (length (encodeEvents (p .priorities) ++ encodeBehaviours (p .items))) [] (p .priorities) (p .items) bound
     (h .few-events) (h .few-behaviours) (h .scale) (h .each)
 
 -- ---- what is read
 
 -- the limits apart from the count of bytes
-abbrev pub Limits : Program → Type 0
+abbrev pub Limits : Sheet → Type 0
 Limits p =
-    (length (p .priorities) ≤ 32) × (length (p .behaviours) ≤ 64) × All (λ r. r ≤ 15) (p .priorities)
-    × All (BehaviourFits (length (p .priorities))) (p .behaviours)
+    (length (p .priorities) ≤ 32) × (length (p .items) ≤ 64) × All (λ r. r ≤ 15) (p .priorities)
+    × All (ItemFits (length (p .priorities))) (p .items)
 
--- the program got is the one read before, and then what s has, to its end
-abbrev SaysProgram : Program → List ℕ → Got Program → Type 0
+-- the sheet got is the one read before, and then what s has, to its end
+abbrev SaysProgram : Sheet → List ℕ → Got Sheet → Type 0
 SaysProgram p s (bad m) = (4 ≤ m) × (m ≤ 10)
 SaysProgram p s (got q rest) = Bytes s → Limits p → (encode p ++ s ≡ encode q) × Limits q × (rest ≡ [])
 
-behaviours-snoc : (bs : List Behaviour) (b : Behaviour) → encodeBehaviours (bs ++ (b ∷ [])) ≡ encodeBehaviours bs ++ encodeBehaviour b
+behaviours-snoc : (bs : List Item) (b : Item) → encodeBehaviours (bs ++ (b ∷ [])) ≡ encodeBehaviours bs ++ encodeBehaviour b
 unfolding encodeBehaviours
 behaviours-snoc [] b = append-nil (encodeBehaviour b)
 behaviours-snoc (c ∷ cs) b = rw (behaviours-snoc cs b, append-assoc (encodeBehaviour c) (encodeBehaviours cs) (encodeBehaviour b))
 
-encode-behaviour : (rs : List ℕ) (bs : List Behaviour) (b : Behaviour) → encode (program rs (bs ++ (b ∷ []))) ≡ encode (program rs bs) ++ encodeBehaviour b
+encode-behaviour : (rs : List ℕ) (bs : List Item) (b : Item) → encode (sheet rs (bs ++ (b ∷ []))) ≡ encode (sheet rs bs) ++ encodeBehaviour b
 unfolding encode
 encode-behaviour rs bs b = rw (behaviours-snoc bs b, append-assoc (encodeEvents rs) (encodeBehaviours bs) (encodeBehaviour b))
 
@@ -121,51 +121,51 @@ unfolding encodeEvents
 events-snoc [] r = refl
 events-snoc (q ∷ qs) r = rw (events-snoc qs r)
 
-encode-event : (rs : List ℕ) (r : ℕ) → encode (program (rs ++ (r ∷ [])) []) ≡ encode (program rs []) ++ field 1 (r ∷ [])
+encode-event : (rs : List ℕ) (r : ℕ) → encode (sheet (rs ++ (r ∷ [])) []) ≡ encode (sheet rs []) ++ field 1 (r ∷ [])
 unfolding encode encodeBehaviours
 encode-event rs r = rw (append-nil (encodeEvents (rs ++ (r ∷ []))), append-nil (encodeEvents rs)) (events-snoc rs r)
 
 -- one more field x is read, and the limits still hold: what is then said of the rest says it of all
-step-says : (p q : Program) (x s rest : List ℕ) → encode q ≡ encode p ++ x → (Bytes s → (s ≡ x ++ rest) × (Limits p → Limits q))
-    → (r : Got Program) → SaysProgram q rest r → SaysProgram p s r
+step-says : (p q : Sheet) (x s rest : List ℕ) → encode q ≡ encode p ++ x → (Bytes s → (s ≡ x ++ rest) × (Limits p → Limits q))
+    → (r : Got Sheet) → SaysProgram q rest r → SaysProgram p s r
 step-says p q x s rest e h (bad m) k = k
 step-says p q x s rest e h (got o left) k = λ b f.
     let d = h b in
     let g = k (all-split (λ b. b < 256) x rest (rw (d .0) at b) .1) (d .1 f) in
     (rw (d .0) (sym (append-assoc (encode p) x rest) ∙ rw e at (g .0)), g .1, g .2)
 
-end-says : (p : Program) (s : List ℕ) → eqb (length s) 0 ≡ true → SaysProgram p s (got p [])
+end-says : (p : Sheet) (s : List ℕ) → eqb (length s) 0 ≡ true → SaysProgram p s (got p [])
 end-says p [] e = λ b f. (append-nil (encode p), f, refl)
 end-says p (x ∷ s) e = absurd (omega (arith, eqb-true (length (x ∷ s)) 0 e))
 
 -- a behaviour after those of bs
-abbrev SaysBehaviour : List ℕ → List Behaviour → List ℕ → Got Behaviour → Type 0
+abbrev SaysBehaviour : List ℕ → List Item → List ℕ → Got Item → Type 0
 SaysBehaviour rs bs s (bad m) = (4 ≤ m) × (m ≤ 10)
-SaysBehaviour rs bs s (got x rest) = Bytes s → (s ≡ encodeBehaviour x ++ rest) × (Limits (program rs bs) → Limits (program rs (bs ++ (x ∷ []))))
+SaysBehaviour rs bs s (got x rest) = Bytes s → (s ≡ encodeBehaviour x ++ rest) × (Limits (sheet rs bs) → Limits (sheet rs (bs ++ (x ∷ []))))
 
-limits-behaviour : (rs : List ℕ) (bs : List Behaviour) (x : Behaviour) → length bs < 64 → BehaviourFits (length rs) x
-    → Limits (program rs bs) → Limits (program rs (bs ++ (x ∷ [])))
+limits-behaviour : (rs : List ℕ) (bs : List Item) (x : Item) → length bs < 64 → ItemFits (length rs) x
+    → Limits (sheet rs bs) → Limits (sheet rs (bs ++ (x ∷ [])))
 limits-behaviour rs bs x a f h =
-    (h .0, omega (arith, length-append bs (x ∷ [])), h .2, all-join (BehaviourFits (length rs)) bs (x ∷ []) (h .3) (f, tt))
+    (h .0, omega (arith, length-append bs (x ∷ [])), h .2, all-join (ItemFits (length rs)) bs (x ∷ []) (h .3) (f, tt))
 
-counted-says : (rs : List ℕ) (bs : List Behaviour) (s : List ℕ) → length bs < 64
-    → (r : Got Behaviour) → Says encodeBehaviour (BehaviourFits (length rs)) s r → SaysBehaviour rs bs s r
+counted-says : (rs : List ℕ) (bs : List Item) (s : List ℕ) → length bs < 64
+    → (r : Got Item) → Says encodeBehaviour (ItemFits (length rs)) s r → SaysBehaviour rs bs s r
 counted-says rs bs s a (bad m) h = h
 counted-says rs bs s a (got x rest) h = λ b. let r = h b in (r .0, limits-behaviour rs bs x a (r .1))
 
-behaviour-body-says : (rs : List ℕ) (bs : List Behaviour) (s : List ℕ) (x : Field) → Headed 2 3 s x → SaysBehaviour rs bs s (behaviourBody rs bs x)
+behaviour-body-says : (rs : List ℕ) (bs : List Item) (s : List ℕ) (x : Field) → Headed 2 3 s x → SaysBehaviour rs bs s (behaviourBody rs bs x)
 behaviour-body-says rs bs s (refused m) h = omega arith
 behaviour-body-says rs bs s (present t v rest) h =
     by-test (SaysBehaviour rs bs s) (leb 64 (length bs)) (λ e. omega arith)
     (λ e. counted-says rs bs s (leb-false 64 (length bs) e) (behaviourIn (length rs) t v rest) (behaviour-says (length rs) s t v rest (h .0) (h .1) (h .2)))
 
-behaviours-say : (k : ℕ) (rs : List ℕ) (bs : List Behaviour) (s : List ℕ) → SaysProgram (program rs bs) s (behavioursAt k rs bs s)
+behaviours-say : (k : ℕ) (rs : List ℕ) (bs : List Item) (s : List ℕ) → SaysProgram (sheet rs bs) s (behavioursAt k rs bs s)
 unfolding behavioursAt
-behaviours-say zero rs bs s = by-test (SaysProgram (program rs bs) s) (eqb (length s) 0) (end-says (program rs bs) s) (λ e. omega arith)
+behaviours-say zero rs bs s = by-test (SaysProgram (sheet rs bs) s) (eqb (length s) 0) (end-says (sheet rs bs) s) (λ e. omega arith)
 behaviours-say (suc k) rs bs s =
-    by-test (SaysProgram (program rs bs) s) (eqb (length s) 0) (end-says (program rs bs) s)
-    (λ e. then-of (SaysProgram (program rs bs) s) (SaysBehaviour rs bs s) _ (λ m h. h)
-    (λ x rest g. step-says (program rs bs) (program rs (bs ++ (x ∷ []))) (encodeBehaviour x) s rest (encode-behaviour rs bs x) g
+    by-test (SaysProgram (sheet rs bs) s) (eqb (length s) 0) (end-says (sheet rs bs) s)
+    (λ e. then-of (SaysProgram (sheet rs bs) s) (SaysBehaviour rs bs s) _ (λ m h. h)
+    (λ x rest g. step-says (sheet rs bs) (sheet rs (bs ++ (x ∷ []))) (encodeBehaviour x) s rest (encode-behaviour rs bs x) g
     (behavioursAt k rs (bs ++ (x ∷ [])) rest) (behaviours-say k rs (bs ++ (x ∷ [])) rest))
     (behaviourBody rs bs (fieldAt 2 3 s)) (behaviour-body-says rs bs s (fieldAt 2 3 s) (field-says 2 3 s)))
 
@@ -178,53 +178,53 @@ priority-says s [] rest h = omega arith
 priority-says s (r ∷ []) rest h = by-test (SaysEvent s) (ltb 15 r) (λ e. omega arith) (λ e b. (h b, ltb-false 15 r e))
 priority-says s (r ∷ (x ∷ v)) rest h = omega arith
 
-limits-event : (rs : List ℕ) (r : ℕ) → length rs < 32 → r ≤ 15 → Limits (program rs []) → Limits (program (rs ++ (r ∷ [])) [])
+limits-event : (rs : List ℕ) (r : ℕ) → length rs < 32 → r ≤ 15 → Limits (sheet rs []) → Limits (sheet (rs ++ (r ∷ [])) [])
 limits-event rs r a f h = (omega (arith, length-append rs (r ∷ [])), h .1, all-join (λ r. r ≤ 15) rs (r ∷ []) (h .2) (f, tt), tt)
 
-module _ (rs s : List ℕ) (more : List ℕ → List ℕ → Got Program) (others : List Behaviour → List ℕ → Got Program)
-    (more-say : (rs s : List ℕ) → SaysProgram (program rs []) s (more rs s))
-    (others-say : (bs : List Behaviour) (s : List ℕ) → SaysProgram (program rs bs) s (others bs s)) where
+module _ (rs s : List ℕ) (more : List ℕ → List ℕ → Got Sheet) (others : List Item → List ℕ → Got Sheet)
+    (more-say : (rs s : List ℕ) → SaysProgram (sheet rs []) s (more rs s))
+    (others-say : (bs : List Item) (s : List ℕ) → SaysProgram (sheet rs bs) s (others bs s)) where
   event-says : length rs < 32 → (v rest : List ℕ) → (Bytes s → s ≡ field 1 v ++ rest)
-      → SaysProgram (program rs []) s (then (priorityIn v rest) (λ r rest. more (rs ++ (r ∷ [])) rest))
+      → SaysProgram (sheet rs []) s (then (priorityIn v rest) (λ r rest. more (rs ++ (r ∷ [])) rest))
   event-says a v rest h =
-      then-of (SaysProgram (program rs []) s) (SaysEvent s) _ (λ m g. g)
-      (λ r left g. step-says (program rs []) (program (rs ++ (r ∷ [])) []) (field 1 (r ∷ [])) s left (encode-event rs r)
+      then-of (SaysProgram (sheet rs []) s) (SaysEvent s) _ (λ m g. g)
+      (λ r left g. step-says (sheet rs []) (sheet (rs ++ (r ∷ [])) []) (field 1 (r ∷ [])) s left (encode-event rs r)
       (λ b. let d = g b in (d .0, limits-event rs r a (d .1))) (more (rs ++ (r ∷ [])) left) (more-say (rs ++ (r ∷ [])) left))
       (priorityIn v rest) (priority-says s v rest h)
 
   first-says : (t : ℕ) (v rest : List ℕ) → 2 ≤ t → t ≤ 3 → (Bytes s → s ≡ field t v ++ rest)
-      → SaysProgram (program rs []) s (then (behaviourIn (length rs) t v rest) (λ x rest. others (x ∷ []) rest))
+      → SaysProgram (sheet rs []) s (then (behaviourIn (length rs) t v rest) (λ x rest. others (x ∷ []) rest))
   first-says t v rest lo hi h =
-      then-of (SaysProgram (program rs []) s) (SaysBehaviour rs [] s) _ (λ m g. g)
-      (λ x left g. step-says (program rs []) (program rs (x ∷ [])) (encodeBehaviour x) s left (encode-behaviour rs [] x) g (others (x ∷ []) left) (others-say (x ∷ []) left))
+      then-of (SaysProgram (sheet rs []) s) (SaysBehaviour rs [] s) _ (λ m g. g)
+      (λ x left g. step-says (sheet rs []) (sheet rs (x ∷ [])) (encodeBehaviour x) s left (encode-behaviour rs [] x) g (others (x ∷ []) left) (others-say (x ∷ []) left))
       (behaviourIn (length rs) t v rest) (counted-says rs [] s (omega arith) (behaviourIn (length rs) t v rest) (behaviour-says (length rs) s t v rest lo hi h))
 
-  events-body-says : (x : Field) → Headed 1 3 s x → SaysProgram (program rs []) s (eventsBody more others rs x)
+  events-body-says : (x : Field) → Headed 1 3 s x → SaysProgram (sheet rs []) s (eventsBody more others rs x)
   events-body-says (refused m) h = omega arith
   events-body-says (present t v rest) h =
-      by-test (SaysProgram (program rs []) s) (eqb t 1)
-      (λ e. by-test (SaysProgram (program rs []) s) (leb 32 (length rs)) (λ d. omega arith)
+      by-test (SaysProgram (sheet rs []) s) (eqb t 1)
+      (λ e. by-test (SaysProgram (sheet rs []) s) (leb 32 (length rs)) (λ d. omega arith)
       (λ d. event-says (leb-false 32 (length rs) d) v rest (λ b. rw (eqb-true t 1 e) at (h .2 b))))
       (λ e. first-says t v rest (omega (arith, eqb-false t 1 e)) (h .1) (h .2))
 
-events-say : (k : ℕ) (rs s : List ℕ) → SaysProgram (program rs []) s (eventsAt k rs s)
+events-say : (k : ℕ) (rs s : List ℕ) → SaysProgram (sheet rs []) s (eventsAt k rs s)
 unfolding eventsAt
-events-say zero rs s = by-test (SaysProgram (program rs []) s) (eqb (length s) 0) (end-says (program rs []) s) (λ e. omega arith)
+events-say zero rs s = by-test (SaysProgram (sheet rs []) s) (eqb (length s) 0) (end-says (sheet rs []) s) (λ e. omega arith)
 events-say (suc k) rs s =
-    by-test (SaysProgram (program rs []) s) (eqb (length s) 0) (end-says (program rs []) s)
+    by-test (SaysProgram (sheet rs []) s) (eqb (length s) 0) (end-says (sheet rs []) s)
     (λ e. events-body-says rs s (eventsAt k) (behavioursAt k rs) (events-say k) (behaviours-say k rs) (fieldAt 1 3 s) (field-says 1 3 s))
 
-program-says : (s : List ℕ) → SaysProgram (program [] []) s (readProgram s)
-unfolding readProgram
+program-says : (s : List ℕ) → SaysProgram (sheet [] []) s (readSheet s)
+unfolding readSheet
 program-says s = events-say (length s) [] s
 
 -- ---- the claims
 
-pub reads-only : (s : List ℕ) → All (λ b. b < 256) s → length s ≤ 8192 → (p : Program) (rest : List ℕ)
-    → readProgram s ≡ got p rest → (s ≡ encode p) × Fits p × (rest ≡ [])
+pub reads-only : (s : List ℕ) → All (λ b. b < 256) s → length s ≤ 8192 → (p : Sheet) (rest : List ℕ)
+    → readSheet s ≡ got p rest → (s ≡ encode p) × SheetFits p × (rest ≡ [])
 unfolding encode encodeEvents encodeBehaviours
 reads-only s b hi p rest e =
-    let h : SaysProgram (program [] []) s (got p rest) = rw e at (program-says s) in
+    let h : SaysProgram (sheet [] []) s (got p rest) = rw e at (program-says s) in
     let r = h b (omega arith, omega arith, tt, tt) in
     let q : s ≡ encode p = r .0 in (
       q,
@@ -240,21 +240,21 @@ reads-only s b hi p rest e =
 
 -- the reader accepts s as p exactly if s is the encoding of p, and p within the limits
 pub accepts-exactly : (s : List ℕ) → All (λ b. b < 256) s → length s ≤ 8192
-    → ((p : Program) → readProgram s ≡ got p [] → (encode p ≡ s) × Fits p) × ((p : Program) → encode p ≡ s → Fits p → readProgram s ≡ got p [])
+    → ((p : Sheet) → readSheet s ≡ got p [] → (encode p ≡ s) × SheetFits p) × ((p : Sheet) → encode p ≡ s → SheetFits p → readSheet s ≡ got p [])
 accepts-exactly s b hi = (
   λ p e. let r = reads-only s b hi p [] e in (sym (r .0), r .1),
   λ p e f. rw (sym e) (reads-back p f),
 )
 
--- the program in a result, or another in place of a fault
-abbrev gotten : Program → Got Program → Program
+-- the sheet in a result, or another in place of a fault
+abbrev gotten : Sheet → Got Sheet → Sheet
 gotten p (bad n) = p
 gotten p (got q rest) = q
 
--- the program is determined by the bytes
-pub encode-injective : (p q : Program) → Fits p → Fits q → encode p ≡ encode q → p ≡ q
-encode-injective p q f g e = ap (gotten p) (sym (reads-back p f) ∙ ap readProgram e ∙ reads-back q g)
+-- the sheet is determined by the bytes
+pub encode-injective : (p q : Sheet) → SheetFits p → SheetFits q → encode p ≡ encode q → p ≡ q
+encode-injective p q f g e = ap (gotten p) (sym (reads-back p f) ∙ ap readSheet e ∙ reads-back q g)
 
 -- a fault of reading is one of 4 to 10
-pub fault-numbers : (s : List ℕ) (n : ℕ) → readProgram s ≡ bad n → (4 ≤ n) × (n ≤ 10)
-fault-numbers s n e = let h : SaysProgram (program [] []) s (bad n) = rw e at (program-says s) in h
+pub fault-numbers : (s : List ℕ) (n : ℕ) → readSheet s ≡ bad n → (4 ≤ n) × (n ≤ 10)
+fault-numbers s n e = let h : SaysProgram (sheet [] []) s (bad n) = rw e at (program-says s) in h

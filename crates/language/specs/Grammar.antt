@@ -1,10 +1,11 @@
--- The grammar as an encoding of programs, and the limits that one field can show. 01 "The sheet".
+-- The grammar as an encoding of sheets, and the limits that one field can show, of a sheet and of the program that it means. 01 "The sheet"; 02, M-103.
 use Prim.Native.Nat.{ℕ, suc, _/_, _%_, _≤_, _<_, _^_}
 use mathlib.Core.Logic.{_≢_}
 use mathlib.Core.List.{List, [], _∷_, _++_}
 use lib.ListN.{length}
 use Rattle.base.specs.Basics.{All}
 use Rattle.language.specs.Syntax.{Expr, con, name, app1, app2, app3, Phase, immediate, later, Handler, handler, Behaviour, passive, active, Program}
+use Rattle.language.specs.Sheet.{Term, literal, variable, param, apply1, apply2, apply3, Clause, clause, Item, formula, state, Sheet}
 
 -- ---- bytes
 
@@ -16,30 +17,31 @@ field t v = t ∷ (length v / 256) ∷ (length v % 256) ∷ v
 abbrev pub word : ℕ → List ℕ
 word w = (w / 16777216) ∷ (w / 65536 % 256) ∷ (w / 256 % 256) ∷ (w % 256) ∷ []
 
--- 10 constant, 11 name, 12 application, hexadecimal
-unfoldable pub encodeExpr : Expr → List ℕ
-encodeExpr (con w) = field 16 (word w)
-encodeExpr (name i) = field 17 (i ∷ [])
-encodeExpr (app1 f a) = field 18 (f ∷ encodeExpr a)
-encodeExpr (app2 f a b) = field 18 (f ∷ (encodeExpr a ++ encodeExpr b))
-encodeExpr (app3 f a b c) = field 18 (f ∷ (encodeExpr a ++ (encodeExpr b ++ encodeExpr c)))
+-- 10 constant, 11 name, 12 application, 13 parameter, hexadecimal
+unfoldable pub encodeExpr : Term → List ℕ
+encodeExpr (literal w) = field 16 (word w)
+encodeExpr (variable i) = field 17 (i ∷ [])
+encodeExpr (param n) = field 19 (n ∷ [])
+encodeExpr (apply1 f a) = field 18 (f ∷ encodeExpr a)
+encodeExpr (apply2 f a b) = field 18 (f ∷ (encodeExpr a ++ encodeExpr b))
+encodeExpr (apply3 f a b c) = field 18 (f ∷ (encodeExpr a ++ (encodeExpr b ++ encodeExpr c)))
 
 abbrev pub encodePhase : Phase → ℕ
 encodePhase immediate = 0
 encodePhase later = 1
 
-abbrev pub encodeHandler : Handler → List ℕ
-encodeHandler (handler e φ x) = field 5 (e ∷ encodePhase φ ∷ encodeExpr x)
+abbrev pub encodeHandler : Clause → List ℕ
+encodeHandler (clause e φ x) = field 5 (e ∷ encodePhase φ ∷ encodeExpr x)
 
-unfoldable pub encodeHandlers : List Handler → List ℕ
+unfoldable pub encodeHandlers : List Clause → List ℕ
 encodeHandlers [] = []
 encodeHandlers (h ∷ hs) = encodeHandler h ++ encodeHandlers hs
 
-abbrev pub encodeBehaviour : Behaviour → List ℕ
-encodeBehaviour (passive x) = field 2 (encodeExpr x)
-encodeBehaviour (active s hs) = field 3 (field 4 (word s) ++ encodeHandlers hs)
+abbrev pub encodeBehaviour : Item → List ℕ
+encodeBehaviour (formula x) = field 2 (encodeExpr x)
+encodeBehaviour (state s hs) = field 3 (field 4 (word s) ++ encodeHandlers hs)
 
-unfoldable pub encodeBehaviours : List Behaviour → List ℕ
+unfoldable pub encodeBehaviours : List Item → List ℕ
 encodeBehaviours [] = []
 encodeBehaviours (b ∷ bs) = encodeBehaviour b ++ encodeBehaviours bs
 
@@ -48,8 +50,8 @@ encodeEvents [] = []
 encodeEvents (r ∷ rs) = field 1 (r ∷ []) ++ encodeEvents rs
 
 -- "Events come first", then behaviours
-unfoldable pub encode : Program → List ℕ
-encode p = encodeEvents (p .priorities) ++ encodeBehaviours (p .behaviours)
+unfoldable pub encode : Sheet → List ℕ
+encode s = encodeEvents (s .priorities) ++ encodeBehaviours (s .items)
 
 -- ---- limits
 
@@ -59,8 +61,57 @@ pub data Arity : ℕ → ℕ → Type 0 where
   ternary : Arity 14 3
   binary : {f : ℕ} → 0 < f → f < 14 → f ≢ 3 → Arity f 2
 
--- "A constant or name has nesting 1, an application one more than its deepest argument": an expression of nesting at most the first number,
--- each function with the arguments that it needs, each constant a word, each name a byte
+-- "A constant or name has nesting 1, an application one more than its deepest argument", a parameter being a constant: an expression of nesting at most the first
+-- number, each function with the arguments that it needs, each constant a word, each name a byte, each parameter one of 0 to 7
+pub data TermFits : ℕ → Term → Type 0 where
+  t-literal : {k w : ℕ} → w < 2 ^ 32 → TermFits (suc k) (literal w)
+  t-variable : {k i : ℕ} → i < 256 → TermFits (suc k) (variable i)
+  t-param : {k n : ℕ} → n < 8 → TermFits (suc k) (param n)
+  t-apply1 : {k f : ℕ} {a : Term} → Arity f 1 → TermFits k a → TermFits (suc k) (apply1 f a)
+  t-apply2 : {k f : ℕ} {a b : Term} → Arity f 2 → TermFits k a → TermFits k b → TermFits (suc k) (apply2 f a b)
+  t-apply3 : {k f : ℕ} {a b c : Term} → Arity f 3 → TermFits k a → TermFits k b → TermFits k c → TermFits (suc k) (apply3 f a b c)
+
+-- no handler for event e among these
+abbrev pub NoClauseFor : ℕ → List Clause → Type 0
+NoClauseFor e [] = Unit {0}
+NoClauseFor e (clause f φ x ∷ hs) = (e ≢ f) × NoClauseFor e hs
+
+-- each handler's event is one of n declared, none has two handlers, and each expression is nested at most 16 deep
+abbrev pub ClausesFit : ℕ → List Clause → Type 0
+ClausesFit n [] = Unit {0}
+ClausesFit n (clause e φ x ∷ hs) = (e < n) × TermFits 16 x × NoClauseFor e hs × ClausesFit n hs
+
+abbrev pub ItemFits : ℕ → Item → Type 0
+ItemFits n (formula x) = TermFits 16 x
+ItemFits n (state s hs) = (s < 2 ^ 32) × ClausesFit n hs
+
+-- at most 32 events of priority 0 to 15 and 64 behaviours, each within its limits, in up to 8,192 bytes as sent. 02, M-106: a sheet of no bytes "shall mean a sheet
+-- with no events and no behaviours"
+pub record SheetFits (s : Sheet) : Type 0 where
+  pub few-events : length (s .priorities) ≤ 32
+  pub few-behaviours : length (s .items) ≤ 64
+  pub scale : All (λ r. r ≤ 15) (s .priorities)
+  pub each : All (ItemFits (length (s .priorities))) (s .items)
+  pub few-bytes : length (encode s) ≤ 8192
+
+-- each parameter is one of 0 to 7, whatever else the sheet is
+abbrev pub ParamsIn : Term → Type 0
+ParamsIn (literal w) = Unit {0}
+ParamsIn (variable i) = Unit {0}
+ParamsIn (param n) = n < 8
+ParamsIn (apply1 f a) = ParamsIn a
+ParamsIn (apply2 f a b) = ParamsIn a × ParamsIn b
+ParamsIn (apply3 f a b c) = ParamsIn a × ParamsIn b × ParamsIn c
+
+abbrev pub ClauseParamsIn : Clause → Type 0
+ClauseParamsIn (clause e φ x) = ParamsIn x
+
+abbrev pub ItemParamsIn : Item → Type 0
+ItemParamsIn (formula x) = ParamsIn x
+ItemParamsIn (state s hs) = All ClauseParamsIn hs
+
+-- ---- the same limits of a program, which has no bytes: "3 counts the bytes as sent and not those of the filling"
+
 pub data Nested : ℕ → Expr → Type 0 where
   n-con : {k w : ℕ} → w < 2 ^ 32 → Nested (suc k) (con w)
   n-name : {k i : ℕ} → i < 256 → Nested (suc k) (name i)
@@ -68,12 +119,10 @@ pub data Nested : ℕ → Expr → Type 0 where
   n-app2 : {k f : ℕ} {a b : Expr} → Arity f 2 → Nested k a → Nested k b → Nested (suc k) (app2 f a b)
   n-app3 : {k f : ℕ} {a b c : Expr} → Arity f 3 → Nested k a → Nested k b → Nested k c → Nested (suc k) (app3 f a b c)
 
--- no handler for event e among these
 abbrev pub NoneFor : ℕ → List Handler → Type 0
 NoneFor e [] = Unit {0}
 NoneFor e (handler f φ x ∷ hs) = (e ≢ f) × NoneFor e hs
 
--- each handler's event is one of n declared, none has two handlers, and each expression is nested at most 16 deep
 abbrev pub HandlersFit : ℕ → List Handler → Type 0
 HandlersFit n [] = Unit {0}
 HandlersFit n (handler e φ x ∷ hs) = (e < n) × Nested 16 x × NoneFor e hs × HandlersFit n hs
@@ -82,11 +131,8 @@ abbrev pub BehaviourFits : ℕ → Behaviour → Type 0
 BehaviourFits n (passive x) = Nested 16 x
 BehaviourFits n (active s hs) = (s < 2 ^ 32) × HandlersFit n hs
 
--- at most 32 events of priority 0 to 15 and 64 behaviours, each within its limits, in up to 8,192 bytes. 02, M-106: a sheet of no bytes "shall mean a sheet with
--- no events and no behaviours"
 pub record Fits (p : Program) : Type 0 where
   pub few-events : length (p .priorities) ≤ 32
   pub few-behaviours : length (p .behaviours) ≤ 64
   pub scale : All (λ r. r ≤ 15) (p .priorities)
   pub each : All (BehaviourFits (length (p .priorities))) (p .behaviours)
-  pub few-bytes : length (encode p) ≤ 8192

@@ -1,4 +1,5 @@
 pub mod Syntax
+pub mod Sheet
 pub mod Refusals
 pub mod Answers
 pub mod Grammar
@@ -8,3 +9,4 @@ pub mod Order
 pub mod Code
 pub mod Accepted
 pub mod Laws
+pub mod SheetLaws

@@ -1,4 +1,4 @@
--- What a sheet's bytes are: a program, or the number of the first fault from left to right. 01 "The sheet", "Why a call was turned down".
+-- What bytes are: a sheet, or the number of the first fault from left to right. 01 "The sheet", "Why a call was turned down"; 02, M-103.
 -- "At a field: 4 for its header, 5, 4 for its length, 7, 9, 6 for a fixed length, contents in order, 6 for leftovers."
 use Prim.Native.Nat.{ℕ, zero, suc, _+_, _*_}
 use mathlib.Core.Bool.{Bool, true, false}
@@ -6,7 +6,8 @@ use mathlib.Core.List.{List, [], _∷_, _++_}
 use lib.ListN.{length, take, drop}
 use lib.Dec.{ltb, leb, eqb}
 use Rattle.base.specs.Basics.{pick}
-use Rattle.language.specs.Syntax.{Expr, con, name, app1, app2, app3, Phase, immediate, later, Handler, handler, Behaviour, passive, active, Program}
+use Rattle.language.specs.Syntax.{Phase, immediate, later}
+use Rattle.language.specs.Sheet.{Term, literal, variable, param, apply1, apply2, apply3, Clause, clause, Item, formula, state, Sheet}
 use Rattle.language.specs.Refusals.{torn, wrongTag, wrongLength, crowded, offScale, tooDeep, doubled}
 
 -- what stands where a field is due: its tag, its value and the bytes after it, or a refusal
@@ -55,62 +56,72 @@ then (bad n) f = bad n
 then (got x rest) f = f x rest
 
 -- the arguments of function f in v, each read by `arg`: `!` (3) needs one, `if` (14) three, the others two
-abbrev pub argsOf : (List ℕ → Got Expr) → ℕ → List ℕ → List ℕ → Got Expr
+abbrev pub argsOf : (List ℕ → Got Term) → ℕ → List ℕ → List ℕ → Got Term
 argsOf arg f v rest =
     then (arg v) (λ a v₁.
-    pick (eqb f 3) (whole (app1 f a) v₁ rest)
+    pick (eqb f 3) (whole (apply1 f a) v₁ rest)
     (then (arg v₁) (λ b v₂.
-    pick (eqb f 14) (then (arg v₂) (λ c v₃. whole (app3 f a b c) v₃ rest))
-    (whole (app2 f a b) v₂ rest))))
+    pick (eqb f 14) (then (arg v₂) (λ c v₃. whole (apply3 f a b c) v₃ rest))
+    (whole (apply2 f a b) v₂ rest))))
 
-abbrev pub appOf : (List ℕ → Got Expr) → List ℕ → List ℕ → Got Expr
+abbrev pub appOf : (List ℕ → Got Term) → List ℕ → List ℕ → Got Term
 appOf arg [] rest = bad wrongLength
 appOf arg (f ∷ v) rest = pick (eqb f 0) (bad offScale) (pick (ltb 14 f) (bad offScale) (argsOf arg f v rest))
 
-abbrev pub exprBody : (List ℕ → Got Expr) → Field → Got Expr
+-- 02, M-103: "tag 13 hexadecimal, length 1, names a parameter 0 to 7; a larger one is refused by 8"
+abbrev pub paramOf : List ℕ → List ℕ → Got Term
+paramOf [] rest = bad wrongLength
+paramOf (n ∷ []) rest = pick (ltb 7 n) (bad offScale) (got (param n) rest)
+paramOf (n ∷ (x ∷ v)) rest = bad wrongLength
+
+abbrev pub exprBody : (List ℕ → Got Term) → Field → Got Term
 exprBody arg (refused n) = bad n
-exprBody arg (present t v rest) = pick (eqb t 16) (wordOf con v rest) (pick (eqb t 17) (byteOf name v rest) (appOf arg v rest))
+exprBody arg (present t v rest) =
+    pick (eqb t 16) (wordOf literal v rest)
+    (pick (eqb t 17) (byteOf variable v rest)
+    (pick (eqb t 19) (paramOf v rest)
+    (appOf arg v rest)))
 
 -- an expression where no nesting is left: its header is judged first
-abbrev pub deepest : Field → Got Expr
+abbrev pub deepest : Field → Got Term
 deepest (refused n) = bad n
 deepest (present t v rest) = bad tooDeep
 
 -- an expression, with so many levels of nesting left
-unfoldable pub exprAt : ℕ → List ℕ → Got Expr
-exprAt zero s = deepest (fieldAt 16 18 s)
-exprAt (suc left) s = exprBody (exprAt left) (fieldAt 16 18 s)
+unfoldable pub exprAt : ℕ → List ℕ → Got Term
+exprAt zero s = deepest (fieldAt 16 19 s)
+exprAt (suc left) s = exprBody (exprAt left) (fieldAt 16 19 s)
 
 -- an expression of nesting at most 16 that fills the value v
-abbrev pub exprIn : {A : Type 0} → (Expr → A) → List ℕ → List ℕ → Got A
+abbrev pub exprIn : {A : Type 0} → (Term → A) → List ℕ → List ℕ → Got A
 exprIn f v rest = then (exprAt 16 v) (λ x left. whole (f x) left rest)
 
 -- ---- handlers. "In a handler: event, phase, 10, expression."
 
 -- a handler for event e is among these
-unfoldable pub handles : ℕ → List Handler → Bool
+unfoldable pub handles : ℕ → List Clause → Bool
 handles e [] = false
-handles e (handler f φ x ∷ hs) = pick (eqb e f) true (handles e hs)
+handles e (clause f φ x ∷ hs) = pick (eqb e f) true (handles e hs)
 
 abbrev pub phaseOf : ℕ → Phase
 phaseOf zero = immediate
 phaseOf (suc n) = later
 
-abbrev pub phaseIn : List Handler → ℕ → List ℕ → List ℕ → Got Handler
+abbrev pub phaseIn : List Clause → ℕ → List ℕ → List ℕ → Got Clause
 phaseIn hs e [] rest = bad wrongLength
-phaseIn hs e (φ ∷ v) rest = pick (ltb 1 φ) (bad offScale) (pick (handles e hs) (bad doubled) (exprIn (handler e (phaseOf φ)) v rest))
+phaseIn hs e (φ ∷ v) rest = pick (ltb 1 φ) (bad offScale) (pick (handles e hs) (bad doubled) (exprIn (clause e (phaseOf φ)) v rest))
 
 -- n events are declared, and the behaviour has the handlers hs so far
-abbrev pub handlerIn : ℕ → List Handler → List ℕ → List ℕ → Got Handler
+abbrev pub handlerIn : ℕ → List Clause → List ℕ → List ℕ → Got Clause
 handlerIn n hs [] rest = bad wrongLength
 handlerIn n hs (e ∷ v) rest = pick (leb n e) (bad offScale) (phaseIn hs e v rest)
 
-abbrev pub handlerBody : ℕ → List Handler → Field → Got Handler
+abbrev pub handlerBody : ℕ → List Clause → Field → Got Clause
 handlerBody n hs (refused k) = bad k
 handlerBody n hs (present t v rest) = handlerIn n hs v rest
 
 -- handlers until the end of the value; the first number bounds their count
-unfoldable pub handlersAt : ℕ → ℕ → List Handler → List ℕ → Got (List Handler)
+unfoldable pub handlersAt : ℕ → ℕ → List Clause → List ℕ → Got (List Clause)
 handlersAt zero n hs s = pick (eqb (length s) 0) (got hs []) (bad torn)
 handlersAt (suc k) n hs s =
     pick (eqb (length s) 0) (got hs [])
@@ -122,13 +133,13 @@ abbrev pub startBody : Field → Got ℕ
 startBody (refused k) = bad k
 startBody (present t v rest) = wordOf (λ w. w) v rest
 
-abbrev pub activeIn : ℕ → List ℕ → List ℕ → Got Behaviour
+abbrev pub activeIn : ℕ → List ℕ → List ℕ → Got Item
 activeIn n v rest =
     then (startBody (fieldAt 4 4 v)) (λ s left.
-    then (handlersAt (length left) n [] left) (λ hs over. whole (active s hs) over rest))
+    then (handlersAt (length left) n [] left) (λ hs over. whole (state s hs) over rest))
 
-abbrev pub behaviourIn : ℕ → ℕ → List ℕ → List ℕ → Got Behaviour
-behaviourIn n t v rest = pick (eqb t 2) (exprIn passive v rest) (activeIn n v rest)
+abbrev pub behaviourIn : ℕ → ℕ → List ℕ → List ℕ → Got Item
+behaviourIn n t v rest = pick (eqb t 2) (exprIn formula v rest) (activeIn n v rest)
 
 -- ---- the whole
 
@@ -137,35 +148,35 @@ priorityIn [] rest = bad wrongLength
 priorityIn (r ∷ []) rest = pick (ltb 15 r) (bad offScale) (got r rest)
 priorityIn (r ∷ (x ∷ v)) rest = bad wrongLength
 
--- a program as far as it is read
-abbrev pub program : List ℕ → List Behaviour → Program
-program rs bs = record { priorities = rs; behaviours = bs }
+-- a sheet as far as it is read
+abbrev pub sheet : List ℕ → List Item → Sheet
+sheet rs bs = record { priorities = rs; items = bs }
 
 -- behaviours, after all events; the first number bounds their count
-abbrev pub behaviourBody : List ℕ → List Behaviour → Field → Got Behaviour
+abbrev pub behaviourBody : List ℕ → List Item → Field → Got Item
 behaviourBody rs bs (refused k) = bad k
 behaviourBody rs bs (present t v rest) = pick (leb 64 (length bs)) (bad crowded) (behaviourIn (length rs) t v rest)
 
-unfoldable pub behavioursAt : ℕ → List ℕ → List Behaviour → List ℕ → Got Program
-behavioursAt zero rs bs s = pick (eqb (length s) 0) (got (program rs bs) []) (bad torn)
+unfoldable pub behavioursAt : ℕ → List ℕ → List Item → List ℕ → Got Sheet
+behavioursAt zero rs bs s = pick (eqb (length s) 0) (got (sheet rs bs) []) (bad torn)
 behavioursAt (suc k) rs bs s =
-    pick (eqb (length s) 0) (got (program rs bs) [])
+    pick (eqb (length s) 0) (got (sheet rs bs) [])
     (then (behaviourBody rs bs (fieldAt 2 3 s)) (λ x rest. behavioursAt k rs (bs ++ (x ∷ [])) rest))
 
 -- events, and with the first behaviour the behaviours
-abbrev pub eventsBody : (List ℕ → List ℕ → Got Program) → (List Behaviour → List ℕ → Got Program) → List ℕ → Field → Got Program
+abbrev pub eventsBody : (List ℕ → List ℕ → Got Sheet) → (List Item → List ℕ → Got Sheet) → List ℕ → Field → Got Sheet
 eventsBody more others rs (refused k) = bad k
 eventsBody more others rs (present t v rest) =
     pick (eqb t 1)
     (pick (leb 32 (length rs)) (bad crowded) (then (priorityIn v rest) (λ r rest. more (rs ++ (r ∷ [])) rest)))
     (then (behaviourIn (length rs) t v rest) (λ x rest. others (x ∷ []) rest))
 
-unfoldable pub eventsAt : ℕ → List ℕ → List ℕ → Got Program
-eventsAt zero rs s = pick (eqb (length s) 0) (got (program rs []) []) (bad torn)
+unfoldable pub eventsAt : ℕ → List ℕ → List ℕ → Got Sheet
+eventsAt zero rs s = pick (eqb (length s) 0) (got (sheet rs []) []) (bad torn)
 eventsAt (suc k) rs s =
-    pick (eqb (length s) 0) (got (program rs []) [])
+    pick (eqb (length s) 0) (got (sheet rs []) [])
     (eventsBody (eventsAt k) (behavioursAt k rs) rs (fieldAt 1 3 s))
 
 -- the bytes of a sheet; each field has three bytes at least, so their count bounds the fields'
-unfoldable pub readProgram : List ℕ → Got Program
-readProgram s = eventsAt (length s) [] s
+unfoldable pub readSheet : List ℕ → Got Sheet
+readSheet s = eventsAt (length s) [] s

@@ -1,4 +1,4 @@
--- The numbers of refusals with 01's words. 01 "Why a call was turned down"; 02, M-106: "Number 2 never occurs again."
+-- The numbers of refusals with 01's words. 01 "Why a call was turned down"; 02, M-103; M-106: "Number 2 never occurs again."
 use Prim.Native.Nat.{ℕ}
 
 abbrev pub shortTable : ℕ  -- short table: compile's table has under 34,816 bytes
@@ -54,3 +54,6 @@ noBehaviour = 18
 
 abbrev pub settling : ℕ  -- settling: board read during copy-back
 settling = 19
+
+abbrev pub noParameters : ℕ  -- 02, M-103: the sheet uses a parameter and fewer than 32 bytes are lent
+noParameters = 20

@@ -1,4 +1,4 @@
--- Abstract syntax of a program (01: a sheet). 01 "The sheet"; 003 section 2.
+-- Abstract syntax of a program: what a sheet (Sheet.antt) means. 01 "The sheet"; 003 section 2.
 use Prim.Native.Nat.{ℕ}
 use mathlib.Core.List.{List}
 

@@ -1,1 +1,1 @@
-// Definitions only: the language of programs (01: sheets), apart from any reader or engine. They stand in specs/.
+// Definitions only: the language of sheets and the programs that they mean, apart from any reader or engine. They stand in specs/.

@@ -54,8 +54,8 @@ fn tree(size: usize, leaf: &dyn Fn(usize) -> Vec<u8>) -> Vec<u8> {
 
 fn ready(sheet: &[u8]) -> (Vec<u8>, Sheet) {
     let mut table = vec![0u8; TABLE];
-    assert_eq!(proved::compile(sheet, &mut table), 0);
-    (table, engine::compile(sheet).unwrap())
+    assert_eq!(proved::compile(sheet, &[], &mut table), 0);
+    (table, engine::compile(sheet, &[]).unwrap())
 }
 
 /// Steps with so many waiting: all of one rank, so the running one goes on.
@@ -127,12 +127,12 @@ fn compiles(bars: &mut Vec<(String, Spread)>, what: &str, s: &[u8], n: usize) {
     let mut table = vec![0u8; TABLE];
     let ours = || {
         for _ in 0..n {
-            std::hint::black_box(proved::compile(s, &mut table));
+            std::hint::black_box(proved::compile(s, &[], &mut table));
         }
     };
     let other = || {
         for _ in 0..n {
-            let sheet = engine::compile(s).unwrap();
+            let sheet = engine::compile(s, &[]).unwrap();
             std::hint::black_box(Model::new(sheet));
         }
     };

@@ -79,12 +79,14 @@ fn image(m: &Model) -> Vec<u32> {
     w
 }
 
-/// compile on both, with the table's bytes; the sheet where both accept it.
-pub fn compile(bytes: &[u8], table: &mut Guarded) -> Option<engine::Sheet> {
+/// compile on both, with the table's bytes; the sheet, its parameters filled in, where both accept it.
+pub fn compile(bytes: &[u8], params: &[u8], table: &mut Guarded) -> Option<engine::Sheet> {
     let before = table.part().to_vec();
-    let got = proved::compile(bytes, table.part_mut());
+    let lent = (bytes.to_vec(), params.to_vec());
+    let got = proved::compile(bytes, params, table.part_mut());
+    assert!(lent == (bytes.to_vec(), params.to_vec()), "compile changed the sheet or its parameters");
     table.check();
-    match engine::compile(bytes) {
+    match engine::compile(bytes, params) {
         Err(n) => {
             assert_eq!(got, n, "compile's refusal");
             assert!(before == table.part(), "a refused compile changed the table");
@@ -97,9 +99,18 @@ pub fn compile(bytes: &[u8], table: &mut Guarded) -> Option<engine::Sheet> {
                 assert_eq!(word(table.part(), k), *w, "table word {k}");
             }
             assert!(before[TABLE..] == table.part()[TABLE..], "bytes beyond the table changed");
+            written_out(&make::encode(&sheet), table.part());
             Some(sheet)
         }
     }
+}
+
+/// The sheet with each parameter written out as its constant has the same table; 3 where it is too long.
+fn written_out(bytes: &[u8], table: &[u8]) {
+    let mut other = vec![0u8; TABLE];
+    let got = proved::compile(bytes, &[], &mut other);
+    assert_eq!(got, if bytes.len() > 8192 { 3 } else { 0 }, "the sheet written out");
+    assert!(got == 3 || other == table[..TABLE], "the table of the sheet written out");
 }
 
 fn packed(a: Answer) -> u64 {
@@ -386,6 +397,7 @@ pub struct Tally {
 /// All that a seed stands for; what is drawn later comes from `rest`.
 struct Case {
     bytes: Vec<u8>,
+    params: Vec<u8>,
     fill: u8,
     calls: Vec<Call>,
     phones: Option<[Vec<Call>; 2]>,
@@ -399,21 +411,24 @@ impl Case {
         let mut r = Rng::new(seed);
         let whole = make::encode(&make::sheet(&mut r));
         let bytes = if r.one_in(2) { make::damaged(&mut r, whole) } else { whole };
+        let params = make::params(&mut r);
         let fill = r.next() as u8;
-        let Ok(sheet) = engine::compile(&bytes) else {
-            return Case { bytes, fill, calls: vec![], phones: None, opening: vec![], rest: r };
+        let Ok(sheet) = engine::compile(&bytes, &params) else {
+            return Case { bytes, params, fill, calls: vec![], phones: None, opening: vec![], rest: r };
         };
         let n = if r.one_in(20) { 3000 } else { 200 };
         let calls = make::calls(&mut r, &sheet, n);
         let phones = phones_of(&mut r, &sheet);
         let opening = make::calls(&mut r, &sheet, 20);
-        Case { bytes, fill, calls, phones, opening, rest: r }
+        Case { bytes, params, fill, calls, phones, opening, rest: r }
     }
 }
 
-/// The part of a seed that differs, as the desk program reads it: its sheet and calls, run to idle, two phones one after the other; or the calls up to where bytes are damaged.
+/// The part of a seed that differs, as the desk program reads it: its sheet, parameters written out, and calls, run to idle, two phones one after the other; or the calls up to where
+/// bytes are damaged.
 pub fn script(seed: u64, part: &str) -> Vec<u8> {
     let case = Case::new(seed);
+    let bytes = engine::compile(&case.bytes, &case.params).map_or(case.bytes, |s| make::encode(&s));
     let lists = match part {
         ARRIVALS => vec![arrivals(&case.calls)],
         TWO_PHONES => case.phones.unwrap().to_vec(),
@@ -422,7 +437,7 @@ pub fn script(seed: u64, part: &str) -> Vec<u8> {
     };
     let mut out = Vec::new();
     for calls in lists {
-        out.extend(desk::sheet(&case.bytes));
+        out.extend(desk::sheet(&bytes));
         for c in calls {
             out.extend(match c {
                 Call::Arrive(e) => desk::arrive(e as u8),
@@ -444,8 +459,8 @@ pub fn one(seed: u64, tally: &mut Tally) {
     let r = &mut case.rest;
     tally.part = "compile";
     let mut table = Guarded::new(TABLE + 32, case.fill);
-    let Some(sheet) = compile(&case.bytes, &mut table) else {
-        tally.refused[proved::compile(&case.bytes, table.part_mut()) as usize] += 1;
+    let Some(sheet) = compile(&case.bytes, &case.params, &mut table) else {
+        tally.refused[proved::compile(&case.bytes, &case.params, table.part_mut()) as usize] += 1;
         return;
     };
     tally.accepted += 1;

@@ -3,7 +3,7 @@ use std::io::Write;
 use std::process::{Command, Stdio};
 
 use crate::engine::{self, Answer, Call, Model};
-use crate::limits::{active, app, con, event, field, handler, join, name, passive};
+use crate::limits::{active, app, con, event, field, handler, join, name, param, passive};
 use crate::make::{self, Rng};
 
 /// S of the scope, 74 bytes.
@@ -35,7 +35,7 @@ pub fn expected(input: &[u8]) -> String {
         let (tag, v) = (s[0], &s[3..3 + n]);
         s = &s[3 + n..];
         if tag == 0x20 {
-            match engine::compile(v) {
+            match engine::compile(v, &[]) {
                 Ok(sheet) => model = Some(Model::new(sheet)),
                 Err(n) => out += &format!("R {n}\n"),
             }
@@ -173,6 +173,7 @@ fn manners() -> Vec<Round> {
         ("a refused sheet leaves the round", join(&[sheet(&s), arrive(0), steps(18), sheet(&[9]), show()]), "C 0 0\nR 4\nB 2 1\n"),
         ("a rest day", join(&[sheet(&[]), show(), arrive(0), steps(100), show()]), "B\nR 15\nB\n"),
         ("a rest day after a round", join(&[sheet(&s), arrive(0), steps(18), sheet(&[]), arrive(0), show()]), "C 0 0\nR 15\nB\n"),
+        ("a parameter", join(&[sheet(&passive(&param(0))), show(), sheet(&s), show()]), "R 20\nR 14\nB 1 1\n"),
         ("a long sheet", join(&[sheet(&vec![0; 65535]), show()]), "R 3\nR 14\n"),
         ("another tag", join(&[sheet(&s), field(0x24, &[]), show()]), "R 5\n"),
         ("a wrong length", join(&[sheet(&s), field(0x23, &[1]), show()]), "R 6\n"),

@@ -5,6 +5,8 @@
 pub enum Expr {
     Con(i32),
     Name(usize),
+    /// Until compile fills it in.
+    Param(usize),
     App(u8, Vec<Expr>),
 }
 
@@ -88,7 +90,7 @@ fn word(v: &[u8]) -> i32 {
 }
 
 fn expr<'a>(s: &'a [u8], nesting: usize) -> Result<(Expr, &'a [u8]), u32> {
-    let (tag, v, rest) = field(s, 0x10, 0x12)?;
+    let (tag, v, rest) = field(s, 0x10, 0x13)?;
     if nesting == 17 {
         return Err(9);
     }
@@ -97,6 +99,9 @@ fn expr<'a>(s: &'a [u8], nesting: usize) -> Result<(Expr, &'a [u8]), u32> {
         0x10 => Ok((Expr::Con(word(v)), rest)),
         0x11 if v.len() != 1 => Err(6),
         0x11 => Ok((Expr::Name(v[0] as usize), rest)),
+        0x13 if v.len() != 1 => Err(6),
+        0x13 if v[0] > 7 => Err(8),
+        0x13 => Ok((Expr::Param(v[0] as usize), rest)),
         _ => {
             if v.is_empty() {
                 return Err(6);
@@ -189,9 +194,18 @@ fn read(s: &[u8]) -> Result<Sheet, u32> {
 
 fn names(e: &Expr, out: &mut Vec<usize>) {
     match e {
-        Expr::Con(_) => {}
+        Expr::Con(_) | Expr::Param(_) => {}
         Expr::Name(i) => out.push(*i),
         Expr::App(_, a) => a.iter().for_each(|x| names(x, out)),
+    }
+}
+
+/// An expression with each parameter as the constant lent for it.
+fn filled(e: &Expr, value: &dyn Fn(usize) -> i32) -> Expr {
+    match e {
+        Expr::Param(n) => Expr::Con(value(*n)),
+        Expr::App(f, a) => Expr::App(*f, a.iter().map(|x| filled(x, value)).collect()),
+        _ => e.clone(),
     }
 }
 
@@ -268,6 +282,15 @@ impl Sheet {
         all.iter().any(|&i| i >= self.behaviours.len())
     }
 
+    /// The sheet with each parameter as the constant that stands for it.
+    fn filled(&self, value: &dyn Fn(usize) -> i32) -> Sheet {
+        let one = |b: &Behaviour| match b {
+            Behaviour::Passive(e) => Behaviour::Passive(filled(e, value)),
+            Behaviour::Active(s, hs) => Behaviour::Active(*s, hs.iter().map(|h| Handler { expr: filled(&h.expr, value), ..h.clone() }).collect()),
+        };
+        Sheet { ranks: self.ranks.clone(), behaviours: self.behaviours.iter().map(one).collect() }
+    }
+
     /// 01's count, by its formula.
     pub fn count(&self, event: usize) -> usize {
         4 + (0..self.behaviours.len())
@@ -286,6 +309,7 @@ impl Sheet {
         match e {
             Expr::Con(w) => *w,
             Expr::Name(i) => look(*i),
+            Expr::Param(_) => unreachable!("filled in"),
             Expr::App(f, a) => {
                 let v: Vec<i32> = a.iter().map(|x| self.value(x, look)).collect();
                 apply(*f, &v)
@@ -347,6 +371,7 @@ impl Sheet {
             Expr::Con(w) => out.push(Instr::Push(*w)),
             Expr::Name(i) if self.in_c(event, *i) => out.push(Instr::Fetch(*i)),
             Expr::Name(i) => out.push(Instr::Load(*i)),
+            Expr::Param(_) => unreachable!("filled in"),
             Expr::App(f, a) => {
                 a.iter().for_each(|x| self.postfix(event, x, out));
                 out.push(Instr::Apply(*f));
@@ -428,8 +453,8 @@ impl Sheet {
     }
 }
 
-/// compile, for a table of full size.
-pub fn compile(s: &[u8]) -> Result<Sheet, u32> {
+/// compile, for a table of full size: the sheet with its parameters filled in.
+pub fn compile(s: &[u8], params: &[u8]) -> Result<Sheet, u32> {
     if s.len() > 8192 {
         return Err(3);
     }
@@ -437,6 +462,10 @@ pub fn compile(s: &[u8]) -> Result<Sheet, u32> {
     if sheet.unknown() {
         return Err(11);
     }
+    if sheet != sheet.filled(&|_| 0) && params.len() < 32 {
+        return Err(20);
+    }
+    let sheet = sheet.filled(&|n| word(&params[4 * n..]));
     if sheet.cyclic() {
         return Err(12);
     }

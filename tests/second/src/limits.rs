@@ -1,4 +1,4 @@
-//! Every refusal of compile, both sides of each limit, and M-102's quotients, on both engines.
+//! Every refusal of compile, both sides of each limit, M-102's quotients and M-103's parameters, on both engines.
 use crate::compare::{self, Guarded};
 use crate::engine::{self, Call};
 use crate::proved::{self, TABLE};
@@ -15,6 +15,10 @@ pub fn con(w: i32) -> Vec<u8> {
 
 pub fn name(i: u8) -> Vec<u8> {
     field(0x11, &[i])
+}
+
+pub fn param(n: u8) -> Vec<u8> {
+    field(0x13, &[n])
 }
 
 pub fn app(f: u8, args: &[Vec<u8>]) -> Vec<u8> {
@@ -53,38 +57,42 @@ fn nots(n: usize) -> Vec<u8> {
 }
 
 /// A sheet whose events have so many instructions together: eight events over four passives of 58 nodes, 484 each, and one active with handlers for the rest.
-fn of_length(total: usize) -> Vec<u8> {
+fn of_length(total: usize, leaf: &[u8]) -> Vec<u8> {
     let mut left = total - 8 * (4 + 4 * (2 + 2 * 59));
     let mut handlers = Vec::new();
     while left > 0 {
         let take = left.min(103);
-        handlers.push(handler(handlers.len() as u8, 0, &tree_of(take - 3)));
+        handlers.push(handler(handlers.len() as u8, 0, &tree_with(take - 3, leaf)));
         left -= take;
     }
-    join(&[join(&vec![event(1); 8]), join(&vec![passive(&tree_of(58)); 4]), active(0, &handlers)])
+    join(&[join(&vec![event(1); 8]), join(&vec![passive(&tree_with(58, leaf)); 4]), active(0, &handlers)])
 }
 
-/// An expression of so many nodes, well within nesting 16.
-fn tree_of(size: usize) -> Vec<u8> {
+/// An expression of so many nodes with such leaves, well within nesting 16.
+fn tree_with(size: usize, leaf: &[u8]) -> Vec<u8> {
     match size {
-        1 => con(0),
-        2 => app(3, &[con(0)]),
+        1 => leaf.to_vec(),
+        2 => app(3, &[leaf.to_vec()]),
         _ => {
             let left = (size - 1) / 2;
-            app(4, &[tree_of(left), tree_of(size - 1 - left)])
+            app(4, &[tree_with(left, leaf), tree_with(size - 1 - left, leaf)])
         }
     }
 }
 
-/// A sheet of passives that has so many bytes: the last is a sum of a constants and b names, 11 a + 8 b - 1 bytes.
-fn of_bytes(n: usize) -> Vec<u8> {
+fn tree_of(size: usize) -> Vec<u8> {
+    tree_with(size, &con(0))
+}
+
+/// A sheet of passives that has so many bytes: the last is a sum of a constants and b leaves of four bytes, 11 a + 8 b - 1 bytes.
+fn of_bytes(n: usize, leaf: &[u8]) -> Vec<u8> {
     let mut s = passive(&con(1));
     while n - s.len() > 400 {
         s.extend(passive(&tree_of(40)));
     }
     let left = n - s.len() + 1;
     let a = (0..8).find(|a| (left - 11 * a) % 8 == 0).unwrap();
-    let mut leaves: Vec<Vec<u8>> = (0..(left - 11 * a) / 8).map(|_| name(0)).collect();
+    let mut leaves: Vec<Vec<u8>> = (0..(left - 11 * a) / 8).map(|_| leaf.to_vec()).collect();
     leaves.extend((0..a).map(|_| con(2)));
     while leaves.len() > 1 {
         leaves = leaves.chunks(2).map(|c| if c.len() == 2 { app(4, c) } else { c[0].clone() }).collect();
@@ -97,7 +105,7 @@ fn of_bytes(n: usize) -> Vec<u8> {
 fn spent() {
     let mut table = vec![0u8; TABLE];
     let mut round = vec![0u8; 2048];
-    assert_eq!(proved::compile(&event(0), &mut table), 0);
+    assert_eq!(proved::compile(&event(0), &[], &mut table), 0);
     proved::start(&table, &mut round);
     for _ in 0..1_000_000 {
         assert_eq!(proved::arrive(&table, &mut round, 0), 0);
@@ -114,7 +122,7 @@ fn spent() {
 fn forecast() {
     let mut table = vec![0u8; TABLE];
     let mut round = vec![0u8; 2048];
-    assert_eq!(proved::compile(&crate::desk::sheet_s(), &mut table), 0);
+    assert_eq!(proved::compile(&crate::desk::sheet_s(), &[], &mut table), 0);
     proved::start(&table, &mut round);
     let steps = |round: &[u8]| proved::forecast(&table, round) - (1 << 32);
     assert_eq!(steps(&round), 0, "an empty hand");
@@ -150,7 +158,7 @@ fn quotients() {
         check("a quotient", &sheet, 0);
         let mut table = vec![0u8; TABLE];
         let mut round = vec![0u8; 2048];
-        proved::compile(&sheet, &mut table);
+        proved::compile(&sheet, &[], &mut table);
         proved::start(&table, &mut round);
         assert_eq!(proved::board(&table, &round, 1) as i32, want, "{n} / {d} in a fresh round");
         proved::arrive(&table, &mut round, 0);
@@ -163,7 +171,7 @@ fn quotients() {
 /// A rest day: no bytes are a sheet with no events and no behaviours, whatever is called.
 fn rest_day() {
     let mut table = Guarded::new(TABLE + 8, 0x33);
-    let sheet = compare::compile(&[], &mut table).expect("a sheet of no bytes");
+    let sheet = compare::compile(&[], &[], &mut table).expect("a sheet of no bytes");
     assert!(sheet.ranks.is_empty() && sheet.behaviours.is_empty());
     let calls: Vec<Call> = [0, 1, 31, 32, u32::MAX].iter().flat_map(|&n| [Call::Arrive(n), Call::Step, Call::Board(n)]).collect();
     compare::run(&sheet, &table, &calls);
@@ -185,7 +193,7 @@ fn rest_day() {
 fn preview() {
     let mut table = vec![0u8; TABLE];
     let mut round = vec![0u8; 2048];
-    assert_eq!(proved::compile(&crate::desk::sheet_s(), &mut table), 0);
+    assert_eq!(proved::compile(&crate::desk::sheet_s(), &[], &mut table), 0);
     proved::start(&table, &mut round);
     let value = |round: &[u8], e: u32, i: u32| {
         let before = round.to_vec();
@@ -216,21 +224,63 @@ fn preview() {
 }
 
 fn check(what: &str, sheet: &[u8], want: u32) {
+    check_with(what, sheet, &[], want);
+}
+
+fn check_with(what: &str, sheet: &[u8], params: &[u8], want: u32) {
     let mut table = Guarded::new(TABLE + 8, 0x33);
-    compare::compile(sheet, &mut table);
-    let got = proved::compile(sheet, table.part_mut());
+    compare::compile(sheet, params, &mut table);
+    let got = proved::compile(sheet, params, table.part_mut());
     assert_eq!(got, want, "{what}");
+}
+
+/// M-103: the field's own faults, 20 between 11 and 12, the limits of a sheet with parameters, and their values.
+fn parameters() {
+    let values = [1, -1, i32::MIN, i32::MAX, 0x01020304, 0, 7, -8];
+    let lent: Vec<u8> = values.iter().flat_map(|v| v.to_be_bytes()).collect();
+    let more = [lent.clone(), vec![0xEE; 8]].concat();
+    check_with("parameter 7", &passive(&param(7)), &lent, 0);
+    check_with("parameter 8", &passive(&param(8)), &lent, 8);
+    check_with("a parameter of no bytes", &passive(&field(0x13, &[])), &lent, 6);
+    check_with("a parameter of two bytes", &passive(&field(0x13, &[8, 0])), &lent, 6);
+    check_with("a parameter at nesting 16", &passive(&(0..15).fold(param(0), |e, _| app(3, &[e]))), &lent, 0);
+    check_with("a parameter at nesting 17", &passive(&(0..16).fold(field(0x13, &[]), |e, _| app(3, &[e]))), &lent, 9);
+    check_with("tag 14 hexadecimal", &passive(&field(0x14, &[0])), &lent, 5);
+    check_with("31 bytes", &passive(&param(0)), &lent[..31], 20);
+    check_with("none used, none lent", &passive(&con(0)), &[], 0);
+    check_with("more than 32 bytes", &passive(&param(0)), &more, 0);
+    check_with("11 before 20", &join(&[passive(&param(0)), passive(&name(2))]), &[], 11);
+    check_with("20 before 12", &join(&[passive(&param(0)), passive(&name(1))]), &[], 20);
+    check_with("12 with 32 bytes", &join(&[passive(&param(0)), passive(&name(1))]), &lent, 12);
+    for total in [4096, 4097] {
+        let s = of_length(total, &param(3));
+        check_with("20 before 13", &s, &lent[..31], 20);
+        check_with("instructions, with parameters", &s, &lent, if total > 4096 { 13 } else { 0 });
+    }
+    for n in [8192, 8193] {
+        let s = of_bytes(n, &param(5));
+        assert_eq!(s.len(), n);
+        check_with("bytes as sent", &s, &lent, if n > 8192 { 3 } else { 0 });
+    }
+    let sheet = join(&(0..8).map(|n| passive(&param(n))).collect::<Vec<_>>());
+    let mut table = vec![0u8; TABLE];
+    let mut round = vec![0u8; 2048];
+    assert_eq!(proved::compile(&sheet, &more, &mut table), 0);
+    proved::start(&table, &mut round);
+    for (i, v) in values.iter().enumerate() {
+        assert_eq!(proved::board(&table, &round, i as u32) as i32, *v, "parameter {i}");
+    }
 }
 
 pub fn run() {
     let s = crate::desk::sheet_s();
     let mut short = vec![0u8; TABLE - 1];
-    assert_eq!(proved::compile(&s, &mut short), 1, "a table of 34,815 bytes");
+    assert_eq!(proved::compile(&s, &[], &mut short), 1, "a table of 34,815 bytes");
     assert!(short.iter().all(|b| *b == 0));
     check("no bytes", &[], 0);
-    assert_eq!(of_bytes(8192).len(), 8192);
-    check("8,192 bytes", &of_bytes(8192), 0);
-    check("8,193 bytes", &of_bytes(8193), 3);
+    assert_eq!(of_bytes(8192, &name(0)).len(), 8192);
+    check("8,192 bytes", &of_bytes(8192, &name(0)), 0);
+    check("8,193 bytes", &of_bytes(8193, &name(0)), 3);
     check("torn", &s[..73], 4);
     check("wrong tag", &join(&[passive(&con(1)), event(1)]), 5);
     check("wrong length", &field(1, &[1, 2]), 6);
@@ -251,8 +301,8 @@ pub fn run() {
     check("immediate and later", &both(1), 0);
     check("both immediate", &both(0), 12);
     for total in [4095, 4096, 4097] {
-        let s = of_length(total);
-        let counted: usize = engine::compile(&s).map(|p| (0..p.ranks.len()).map(|e| p.count(e)).sum()).unwrap_or(0);
+        let s = of_length(total, &con(0));
+        let counted: usize = engine::compile(&s, &[]).map(|p| (0..p.ranks.len()).map(|e| p.count(e)).sum()).unwrap_or(0);
         check("instructions", &s, if total > 4096 { 13 } else { 0 });
         assert!(total > 4096 || counted == total);
     }
@@ -262,7 +312,8 @@ pub fn run() {
     forecast();
     quotients();
     rest_day();
+    parameters();
     preview();
     spent();
-    println!("limits: every refusal of compile, both sides of each limit, forecasts, quotients, a rest day, previews, 1,000,000 arrivals");
+    println!("limits: every refusal of compile, both sides of each limit, forecasts, quotients, a rest day, parameters, previews, 1,000,000 arrivals");
 }

@@ -35,13 +35,38 @@ fn constant(r: &mut Rng) -> i32 {
     }
 }
 
-fn expr(r: &mut Rng, depth: usize, names: &[usize]) -> Expr {
-    if depth == 1 || r.one_in(3) {
-        if names.is_empty() || r.one_in(3) { Expr::Con(constant(r)) } else { Expr::Name(names[r.below(names.len())]) }
+/// What may stand in an expression: its nesting, the names, and one parameter in so many leaves, 0 for none.
+struct Within<'a> {
+    depth: usize,
+    names: &'a [usize],
+    params: usize,
+}
+
+fn expr(r: &mut Rng, w: &Within) -> Expr {
+    if w.depth == 1 || r.one_in(3) {
+        if w.params > 0 && r.one_in(w.params) {
+            let known = if r.one_in(20) { 10 } else { 8 };
+            return Expr::Param(r.below(known));
+        }
+        if w.names.is_empty() || r.one_in(3) { Expr::Con(constant(r)) } else { Expr::Name(w.names[r.below(w.names.len())]) }
     } else {
         let f = 1 + r.below(14) as u8;
-        Expr::App(f, (0..arity(f)).map(|_| expr(r, depth - 1, names)).collect())
+        let inner = Within { depth: w.depth - 1, ..*w };
+        Expr::App(f, (0..arity(f)).map(|_| expr(r, &inner)).collect())
     }
+}
+
+/// The bytes lent for parameters: 32 mostly, at times fewer or more.
+pub fn params(r: &mut Rng) -> Vec<u8> {
+    let mut out: Vec<u8> = (0..16).flat_map(|_| constant(r).to_be_bytes()).collect();
+    out.truncate(match r.below(8) {
+        0 => 0,
+        1 => r.below(32),
+        2 => 31,
+        3 => 33 + r.below(31),
+        _ => 32,
+    });
+    out
 }
 
 /// A sheet that is mostly accepted: names mostly lead to behaviours further down in a hidden order.
@@ -50,6 +75,7 @@ pub fn sheet(r: &mut Rng) -> Sheet {
     let n = if r.one_in(20) { 64 } else { r.below(8) };
     let depth = if r.one_in(10) { 6 } else { 1 + r.below(3) };
     let wild = r.one_in(6);
+    let params = if r.one_in(3) { 1 + r.below(5) } else { 0 };
     let place: Vec<usize> = (0..n).map(|_| r.below(1000)).collect();
     let behaviours = (0..n)
         .map(|i| {
@@ -58,7 +84,7 @@ pub fn sheet(r: &mut Rng) -> Sheet {
                 names.push(n);
             }
             if r.one_in(3) {
-                return Behaviour::Passive(expr(r, depth, &names));
+                return Behaviour::Passive(expr(r, &Within { depth, names: &names, params }));
             }
             let mut hs = Vec::new();
             for e in 0..events {
@@ -69,7 +95,7 @@ pub fn sheet(r: &mut Rng) -> Sheet {
                     if later {
                         seen = (0..n).collect();
                     }
-                    hs.push(Handler { event: e, later, expr: expr(r, depth, &seen) });
+                    hs.push(Handler { event: e, later, expr: expr(r, &Within { depth, names: &seen, params }) });
                 }
             }
             Behaviour::Active(constant(r), hs)
@@ -88,6 +114,7 @@ fn encode_expr(e: &Expr) -> Vec<u8> {
     match e {
         Expr::Con(w) => field(0x10, w.to_be_bytes().to_vec()),
         Expr::Name(i) => field(0x11, vec![*i as u8]),
+        Expr::Param(n) => field(0x13, vec![*n as u8]),
         Expr::App(f, a) => {
             let mut v = vec![*f];
             a.iter().for_each(|x| v.extend(encode_expr(x)));
@@ -129,7 +156,7 @@ pub fn damaged(r: &mut Rng, mut s: Vec<u8>) -> Vec<u8> {
             2 => {
                 s.remove(at);
             }
-            3 => s.insert(at, r.below(19) as u8),
+            3 => s.insert(at, r.below(20) as u8),
             _ => s.truncate(at),
         }
     }

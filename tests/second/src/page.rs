@@ -1,5 +1,6 @@
 //! The setter's page, docs/SHEETS.md: its worked sheet byte by byte, the boards it names, and what it says is printed, held against the desk program.
 use crate::desk::{arrive, play, sheet, show, steps};
+use crate::proved::{self, ROUND, TABLE};
 
 /// A section of the page, without its heading.
 fn section<'a>(page: &'a str, heading: &str) -> &'a str {
@@ -24,6 +25,27 @@ fn boards(section: &str) -> Vec<String> {
     text.split('(').skip(1).map(|p| format!("B {}\n", p.split(')').next().unwrap().replace(", ", " "))).collect()
 }
 
+/// The sheet with a parameter: its bytes, what the desk program prints, and the pairs of a parameter and b0 after three events.
+fn parameters(section: &str, program: &str) {
+    let bytes: Vec<u8> = example(section).iter().flat_map(|l| bytes_of(l)).collect();
+    assert!(section.contains(&format!("These are {} bytes.", bytes.len())), "the sheet with a parameter has {} bytes", bytes.len());
+    let printed = play(program, &sheet(&bytes));
+    assert!(section.contains(&format!("it prints {}.", printed.trim())), "the sheet with a parameter prints {printed}");
+    let pairs = boards(section);
+    assert_eq!(pairs.len(), 3, "pairs of a parameter and b0");
+    for pair in pairs {
+        let numbers: Vec<i32> = pair.split_whitespace().skip(1).map(|n| n.parse().expect("a number of the page")).collect();
+        let mut params = [0u8; 32];
+        params[..4].copy_from_slice(&numbers[0].to_be_bytes());
+        let (mut table, mut round) = (vec![0u8; TABLE], vec![0u8; ROUND]);
+        assert_eq!(proved::compile(&bytes, &params, &mut table), 0, "the sheet with a parameter");
+        proved::start(&table, &mut round);
+        (0..3).for_each(|_| assert_eq!(proved::arrive(&table, &mut round, 0), 0));
+        while proved::step(&table, &mut round) != 0 {}
+        assert_eq!(proved::board(&table, &round, 0) as i32, numbers[1], "b0 with parameter {}", numbers[0]);
+    }
+}
+
 pub fn run(page: &str, program: &str, input: &str) {
     let page = std::fs::read_to_string(page).expect("the page");
     let input = std::fs::read(input).expect("the desk program's example");
@@ -40,5 +62,6 @@ pub fn run(page: &str, program: &str, input: &str) {
 
     let printed: String = example(section(&page, "Playing it")).iter().map(|l| format!("{l}\n")).collect();
     assert_eq!(play(program, &input), printed, "what the page says is printed");
-    println!("page: the worked sheet, its boards, what the desk program prints");
+    parameters(section(&page, "Easy and hard from one sheet"), program);
+    println!("page: the worked sheet, its boards, what the desk program prints, the sheet with a parameter");
 }

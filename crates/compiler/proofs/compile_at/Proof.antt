@@ -10,8 +10,8 @@ pub compile-at-spec : {M : Type 1} → statement M
 compile-at-spec =
     tie.close
     (tie.spec
-    (λ c. sym (compile-short _ _ (omega arith)))
-    (λ c. sym (compile-long _ _ (omega arith) (omega arith)))
+    (λ c. sym (compile-short _ _ _ (omega arith)))
+    (λ c. sym (compile-long _ _ _ (omega arith) (omega arith)))
     (λ c κs. search needs)
     (λ c. search needs)
-    (λ c. c .before .before .compile-read .ensures ∙ sym (compile-opens _ _ (omega arith) (omega arith))))
+    (λ c. c .before .before .compile-read .ensures ∙ sym (compile-opens _ _ _ (omega arith) (omega arith))))

@@ -1,0 +1,323 @@
+-- The reading of every sheet's encoding, also of one outside the limits: the sheet, or its first fault as a function on the sheet. By induction on the sheet.
+-- That fault does not depend on whether a parameter, of 0 to 7, or a constant stands in an expression.
+use Prim.Native.Nat.{ℕ, zero, suc, _+_, _*_, _/_, _%_, _≤_}
+use mathlib.Core.Path.{_≡_, refl, ap}
+use mathlib.Core.List.{List, [], _∷_, _++_, append-assoc, append-nil}
+use native.Mathlib.Omega.{arith}
+use lib.ListN.{length, length-append}
+use lib.Dec.{ltb, leb, eqb}
+use borrow.Author.Tests.{ne-eqb, le-ltb}
+use Rattle.base.specs.Basics.{pick, All}
+use Rattle.base.specs.Tools.{split}
+use Rattle.language.specs.Syntax.{Phase, immediate, later}
+use Rattle.language.specs.Sheet.{Term, literal, variable, param, apply1, apply2, apply3, Clause, clause, Item, formula, state, Sheet}
+use Rattle.language.specs.Sheet.{writeTerm, writeClauses, writeItem, writeItems, writtenOut}
+use Rattle.language.specs.Grammar.{field, word, encodeExpr, encodePhase, encodeHandler, encodeHandlers, encodeBehaviour, encodeBehaviours, encodeEvents, encode}
+use Rattle.language.specs.Grammar.{ParamsIn, ClauseParamsIn, ItemParamsIn}
+use Rattle.language.specs.Reading.{fieldAt, Got, bad, got, whole, wordOf, then, argsOf, exprAt, exprIn, handles, phaseIn, handlerBody, handlersAt, startBody, behaviourIn, sheet, behavioursAt, eventsAt, readSheet}
+use Rattle.grammar.specs.Fields.{field-reads}
+use Rattle.grammar.specs.Handlers.{many-handlers}
+use Rattle.grammar.specs.Behaviours.{tagOf, valueOf, tag-least}
+use Rattle.grammar.specs.Programs.{behaviour-bytes, many-behaviours, many-events, behaviour-at}
+
+-- ---- a result by its fault, 0 for none
+
+abbrev pub result : {A : Type 0} → ℕ → A → List ℕ → Got A
+result zero x rest = got x rest
+result (suc n) x rest = bad (suc n)
+
+-- the first of two faults
+abbrev first : ℕ → ℕ → ℕ
+first zero m = m
+first (suc n) m = suc n
+
+-- ---- expressions
+
+-- a function's byte is judged before its arguments
+abbrev judged : ℕ → ℕ → ℕ
+judged f m = pick (eqb f 0) 8 (pick (ltb 14 f) 8 m)
+
+-- with k levels of nesting left
+unfoldable pub exprFault : ℕ → Term → ℕ
+exprFault zero x = 9
+exprFault (suc k) (literal w) = 0
+exprFault (suc k) (variable i) = 0
+exprFault (suc k) (param n) = pick (ltb 7 n) 8 0
+exprFault (suc k) (apply1 f a) = judged f (first (exprFault k a) (pick (eqb f 3) 0 4))
+exprFault (suc k) (apply2 f a b) = judged f (first (exprFault k a) (pick (eqb f 3) 6 (first (exprFault k b) (pick (eqb f 14) 4 0))))
+exprFault (suc k) (apply3 f a b c) =
+    judged f (first (exprFault k a) (pick (eqb f 3) 6 (first (exprFault k b) (pick (eqb f 14) (first (exprFault k c) 0) 6))))
+
+word-any : {A : Type 0} (f : ℕ → A) (w : ℕ) (rest : List ℕ) → wordOf f (word w) rest ≡ got (f w) rest
+word-any f w rest =
+    let e : ((w / 16777216 * 256 + w / 65536 % 256) * 256 + w / 256 % 256) * 256 + w % 256 ≡ w = omega arith in
+    rw e
+
+-- nothing is left where an argument is due
+none-due : (k : ℕ) → exprAt k [] ≡ bad 4
+unfolding exprAt fieldAt
+none-due zero = refl
+none-due (suc k) = refl
+
+-- every expression's bytes begin with a tag
+some-bytes : (x : Term) (v rest : List ℕ) (y : Term) → whole y (encodeExpr x ++ v) rest ≡ bad 6
+unfolding encodeExpr
+some-bytes (literal w) v rest y = refl
+some-bytes (variable i) v rest y = refl
+some-bytes (param n) v rest y = refl
+some-bytes (apply1 f a) v rest y = refl
+some-bytes (apply2 f a b) v rest y = refl
+some-bytes (apply3 f a b c) v rest y = refl
+
+left-over : (x : Term) (rest : List ℕ) (y : Term) → whole y (encodeExpr x) rest ≡ bad 6
+left-over x rest y = rw (append-nil (encodeExpr x)) at (some-bytes x [] rest y)
+
+deep : (t : ℕ) (v rest : List ℕ) → 16 ≤ t → t ≤ 19 → exprAt 0 (field t v ++ rest) ≡ bad 9
+unfolding exprAt
+deep t v rest lo hi = rw (field-reads 16 19 t v rest lo hi)
+
+app-judged : (k f m : ℕ) (v rest : List ℕ) (x : Term) → argsOf (exprAt k) f v rest ≡ result m x rest → exprAt (suc k) (field 18 (f ∷ v) ++ rest) ≡ result (judged f m) x rest
+unfolding exprAt
+app-judged k f m v rest x h =
+    rw (field-reads 16 19 18 (f ∷ v) rest (omega arith) (omega arith))
+    (split (eqb f 0) (λ e. rw e) (λ e. split (ltb 14 f) (λ d. rw (e, d)) (λ d. rw (e, d) h)))
+
+module _ (k f : ℕ) (rest : List ℕ) where
+  one-arg : (a : Term) (n : ℕ) → exprAt k (encodeExpr a) ≡ result n a []
+      → argsOf (exprAt k) f (encodeExpr a) rest ≡ result (first n (pick (eqb f 3) 0 4)) (apply1 f a) rest
+  one-arg a zero h = rw h (split (eqb f 3) (λ e. rw e) (λ e. rw (e, none-due k)))
+  one-arg a (suc n) h = rw h
+
+  two-args : (a b : Term) (n m : ℕ) → exprAt k (encodeExpr a ++ encodeExpr b) ≡ result n a (encodeExpr b) → exprAt k (encodeExpr b) ≡ result m b []
+      → argsOf (exprAt k) f (encodeExpr a ++ encodeExpr b) rest ≡ result (first n (pick (eqb f 3) 6 (first m (pick (eqb f 14) 4 0)))) (apply2 f a b) rest
+  two-args a b (suc n) m h i = rw h
+  two-args a b zero (suc m) h i = rw h (split (eqb f 3) (λ e. rw e (left-over b rest (apply1 f a))) (λ e. rw (e, i)))
+  two-args a b zero zero h i =
+      rw h (split (eqb f 3) (λ e. rw e (left-over b rest (apply1 f a))) (λ e. rw (e, i) (split (eqb f 14) (λ d. rw (d, none-due k)) (λ d. rw d))))
+
+  three-args : (a b c : Term) (n m o : ℕ) → exprAt k (encodeExpr a ++ (encodeExpr b ++ encodeExpr c)) ≡ result n a (encodeExpr b ++ encodeExpr c)
+      → exprAt k (encodeExpr b ++ encodeExpr c) ≡ result m b (encodeExpr c) → exprAt k (encodeExpr c) ≡ result o c []
+      → argsOf (exprAt k) f (encodeExpr a ++ (encodeExpr b ++ encodeExpr c)) rest
+      ≡ result (first n (pick (eqb f 3) 6 (first m (pick (eqb f 14) (first o 0) 6)))) (apply3 f a b c) rest
+  three-args a b c (suc n) m o h i j = rw h
+  three-args a b c zero (suc m) o h i j = rw h (split (eqb f 3) (λ e. rw e (some-bytes b (encodeExpr c) rest (apply1 f a))) (λ e. rw (e, i)))
+  three-args a b c zero zero (suc o) h i j =
+      rw h
+      (split (eqb f 3) (λ e. rw e (some-bytes b (encodeExpr c) rest (apply1 f a)))
+      (λ e. rw (e, i) (split (eqb f 14) (λ d. rw (d, j)) (λ d. rw d (left-over c rest (apply2 f a b))))))
+  three-args a b c zero zero zero h i j =
+      rw h
+      (split (eqb f 3) (λ e. rw e (some-bytes b (encodeExpr c) rest (apply1 f a)))
+      (λ e. rw (e, i) (split (eqb f 14) (λ d. rw (d, j)) (λ d. rw d (left-over c rest (apply2 f a b))))))
+
+pub expr-result : (k : ℕ) (x : Term) (rest : List ℕ) → exprAt k (encodeExpr x ++ rest) ≡ result (exprFault k x) x rest
+unfolding encodeExpr exprFault exprAt
+expr-result zero (literal w) rest = deep 16 (word w) rest (omega arith) (omega arith)
+expr-result zero (variable i) rest = deep 17 (i ∷ []) rest (omega arith) (omega arith)
+expr-result zero (param n) rest = deep 19 (n ∷ []) rest (omega arith) (omega arith)
+expr-result zero (apply1 f a) rest = deep 18 (f ∷ encodeExpr a) rest (omega arith) (omega arith)
+expr-result zero (apply2 f a b) rest = deep 18 (f ∷ (encodeExpr a ++ encodeExpr b)) rest (omega arith) (omega arith)
+expr-result zero (apply3 f a b c) rest = deep 18 (f ∷ (encodeExpr a ++ (encodeExpr b ++ encodeExpr c))) rest (omega arith) (omega arith)
+expr-result (suc k) (literal w) rest = rw (field-reads 16 19 16 (word w) rest (omega arith) (omega arith)) (word-any literal w rest)
+expr-result (suc k) (variable i) rest = rw (field-reads 16 19 17 (i ∷ []) rest (omega arith) (omega arith))
+expr-result (suc k) (param n) rest = rw (field-reads 16 19 19 (n ∷ []) rest (omega arith) (omega arith)) (split (ltb 7 n) (λ e. rw e) (λ e. rw e))
+expr-result (suc k) (apply1 f a) rest =
+    app-judged k f (first (exprFault k a) (pick (eqb f 3) 0 4)) (encodeExpr a) rest (apply1 f a)
+    (one-arg k f rest a (exprFault k a) (rw (append-nil (encodeExpr a)) at (expr-result k a [])))
+expr-result (suc k) (apply2 f a b) rest =
+    app-judged k f (first (exprFault k a) (pick (eqb f 3) 6 (first (exprFault k b) (pick (eqb f 14) 4 0)))) (encodeExpr a ++ encodeExpr b) rest (apply2 f a b)
+    (two-args k f rest a b (exprFault k a) (exprFault k b) (expr-result k a (encodeExpr b)) (rw (append-nil (encodeExpr b)) at (expr-result k b [])))
+expr-result (suc k) (apply3 f a b c) rest =
+    app-judged k f (first (exprFault k a) (pick (eqb f 3) 6 (first (exprFault k b) (pick (eqb f 14) (first (exprFault k c) 0) 6))))
+    (encodeExpr a ++ (encodeExpr b ++ encodeExpr c)) rest (apply3 f a b c)
+    (three-args k f rest a b c (exprFault k a) (exprFault k b) (exprFault k c) (expr-result k a (encodeExpr b ++ encodeExpr c)) (expr-result k b (encodeExpr c))
+    (rw (append-nil (encodeExpr c)) at (expr-result k c [])))
+
+fills : {A : Type 0} (F : Term → A) (x : Term) (rest : List ℕ) (n : ℕ) → exprAt 16 (encodeExpr x) ≡ result n x [] → exprIn F (encodeExpr x) rest ≡ result n (F x) rest
+fills F x rest zero h = rw h
+fills F x rest (suc n) h = rw h
+
+in-result : {A : Type 0} (F : Term → A) (x : Term) (rest : List ℕ) → exprIn F (encodeExpr x) rest ≡ result (exprFault 16 x) (F x) rest
+in-result F x rest = fills F x rest (exprFault 16 x) (rw (append-nil (encodeExpr x)) at (expr-result 16 x []))
+
+-- ---- handlers
+
+abbrev pub clauseFault : ℕ → List Clause → Clause → ℕ
+clauseFault n hs (clause e φ x) = pick (leb n e) 8 (pick (handles e hs) 10 (exprFault 16 x))
+
+unfoldable pub clausesFault : ℕ → List Clause → List Clause → ℕ
+clausesFault n hs [] = 0
+clausesFault n hs (h ∷ ks) = first (clauseFault n hs h) (clausesFault n (hs ++ (h ∷ [])) ks)
+
+phase-result : (φ : Phase) (hs : List Clause) (e : ℕ) (x : Term) (rest : List ℕ)
+    → phaseIn hs e (encodePhase φ ∷ encodeExpr x) rest ≡ result (pick (handles e hs) 10 (exprFault 16 x)) (clause e φ x) rest
+phase-result immediate hs e x rest = split (handles e hs) (λ c. rw c) (λ c. rw c (in-result (clause e immediate) x rest))
+phase-result later hs e x rest = split (handles e hs) (λ c. rw c) (λ c. rw c (in-result (clause e later) x rest))
+
+handler-result : (n : ℕ) (hs : List Clause) (h : Clause) (rest : List ℕ) → handlerBody n hs (fieldAt 5 5 (encodeHandler h ++ rest)) ≡ result (clauseFault n hs h) h rest
+handler-result n hs (clause e φ x) rest =
+    rw (field-reads 5 5 5 (e ∷ encodePhase φ ∷ encodeExpr x) rest (omega arith) (omega arith))
+    (split (leb n e) (λ c. rw c) (λ c. rw c (phase-result φ hs e x rest)))
+
+next-handler : (k n : ℕ) (hs ks : List Clause) (h : Clause) (m o : ℕ) (g : Got Clause) → g ≡ result m h (encodeHandlers ks)
+    → handlersAt k n (hs ++ (h ∷ [])) (encodeHandlers ks) ≡ result o (hs ++ (h ∷ ks)) []
+    → then g (λ h rest. handlersAt k n (hs ++ (h ∷ [])) rest) ≡ result (first m o) (hs ++ (h ∷ ks)) []
+next-handler k n hs ks h zero o g e i = rw e i
+next-handler k n hs ks h (suc m) o g e i = rw e
+
+handlers-result : (k n : ℕ) (hs ks : List Clause) → length ks ≤ k → handlersAt k n hs (encodeHandlers ks) ≡ result (clausesFault n hs ks) (hs ++ ks) []
+unfolding handlersAt encodeHandlers clausesFault
+handlers-result zero n hs [] b = rw (append-nil hs)
+handlers-result zero n hs (g ∷ ks) b = absurd (omega arith)
+handlers-result (suc k) n hs [] b = rw (append-nil hs)
+handlers-result (suc k) n hs (clause e φ x ∷ ks) b =
+    rw (ne-eqb (length (encodeHandler (clause e φ x) ++ encodeHandlers ks)) 0 (omega arith))
+    (next-handler k n hs ks (clause e φ x) (clauseFault n hs (clause e φ x)) (clausesFault n (hs ++ (clause e φ x ∷ [])) ks)
+    (handlerBody n hs (fieldAt 5 5 (encodeHandler (clause e φ x) ++ encodeHandlers ks))) (handler-result n hs (clause e φ x) (encodeHandlers ks))
+    (rw (append-assoc hs (clause e φ x ∷ []) ks) at (handlers-result k n (hs ++ (clause e φ x ∷ [])) ks (omega arith))))
+
+-- ---- behaviours
+
+abbrev pub itemFault : ℕ → Item → ℕ
+itemFault n (formula x) = exprFault 16 x
+itemFault n (state s hs) = clausesFault n [] hs
+
+start-any : (w : ℕ) (rest : List ℕ) → startBody (fieldAt 4 4 (field 4 (word w) ++ rest)) ≡ got w rest
+start-any w rest = rw (field-reads 4 4 4 (word w) rest (omega arith) (omega arith)) (word-any (λ w. w) w rest)
+
+ends : (s : ℕ) (hs : List Clause) (rest : List ℕ) (m : ℕ) (g : Got (List Clause)) → g ≡ result m hs []
+    → then g (λ hs over. whole (state s hs) over rest) ≡ result m (state s hs) rest
+ends s hs rest zero g e = rw e
+ends s hs rest (suc m) g e = rw e
+
+item-result : (n : ℕ) (b : Item) (rest : List ℕ) → behaviourIn n (tagOf b) (valueOf b) rest ≡ result (itemFault n b) b rest
+item-result n (formula x) rest = in-result formula x rest
+item-result n (state s hs) rest =
+    rw (start-any s (encodeHandlers hs))
+    (ends s hs rest (clausesFault n [] hs) (handlersAt (length (encodeHandlers hs)) n [] (encodeHandlers hs))
+    (handlers-result (length (encodeHandlers hs)) n [] hs (many-handlers hs)))
+
+-- ---- the whole: n events are declared, and m behaviours before these
+
+unfoldable pub itemsFault : ℕ → ℕ → List Item → ℕ
+itemsFault n m [] = 0
+itemsFault n m (c ∷ cs) = pick (leb 64 m) 7 (first (itemFault n c) (itemsFault n (suc m) cs))
+
+unfoldable pub eventsFault : ℕ → List ℕ → List Item → ℕ
+eventsFault n [] cs = itemsFault n 0 cs
+eventsFault n (q ∷ qs) cs = pick (leb 32 n) 7 (pick (ltb 15 q) 8 (eventsFault (suc n) qs cs))
+
+next-item : (k : ℕ) (rs : List ℕ) (bs cs : List Item) (c : Item) (m o : ℕ) (g : Got Item) → g ≡ result m c (encodeBehaviours cs)
+    → behavioursAt k rs (bs ++ (c ∷ [])) (encodeBehaviours cs) ≡ result o (sheet rs (bs ++ (c ∷ cs))) []
+    → then g (λ x rest. behavioursAt k rs (bs ++ (x ∷ [])) rest) ≡ result (first m o) (sheet rs (bs ++ (c ∷ cs))) []
+next-item k rs bs cs c zero o g e i = rw e i
+next-item k rs bs cs c (suc m) o g e i = rw e
+
+behaviours-result : (k m : ℕ) (rs : List ℕ) (bs cs : List Item) → length bs ≡ m → length cs ≤ k
+    → behavioursAt k rs bs (encodeBehaviours cs) ≡ result (itemsFault (length rs) m cs) (sheet rs (bs ++ cs)) []
+unfolding behavioursAt encodeBehaviours itemsFault
+behaviours-result zero m rs bs [] l a = rw (append-nil bs)
+behaviours-result zero m rs bs (c ∷ cs) l a = absurd (omega arith)
+behaviours-result (suc k) m rs bs [] l a = rw (append-nil bs)
+behaviours-result (suc k) m rs bs (c ∷ cs) l a =
+    rw (
+      ne-eqb (length (encodeBehaviour c ++ encodeBehaviours cs)) 0 (omega (arith, behaviour-bytes c (encodeBehaviours cs))),
+      behaviour-at 2 c (encodeBehaviours cs) (omega arith),
+      l,
+    )
+    (split (leb 64 m) (λ e. rw e)
+    (λ e. rw e
+    (next-item k rs bs cs c (itemFault (length rs) c) (itemsFault (length rs) (suc m) cs) (behaviourIn (length rs) (tagOf c) (valueOf c) (encodeBehaviours cs))
+    (item-result (length rs) c (encodeBehaviours cs))
+    (rw (append-assoc bs (c ∷ []) cs) at (behaviours-result k (suc m) rs (bs ++ (c ∷ [])) cs (omega (arith, length-append bs (c ∷ []))) (omega arith))))))
+
+first-item : (k : ℕ) (rs : List ℕ) (cs : List Item) → length cs ≤ k → eventsAt k rs (encodeBehaviours cs) ≡ result (itemsFault (length rs) 0 cs) (sheet rs cs) []
+unfolding eventsAt encodeBehaviours itemsFault
+first-item zero rs [] a = refl
+first-item zero rs (c ∷ cs) a = absurd (omega arith)
+first-item (suc k) rs [] a = refl
+first-item (suc k) rs (c ∷ cs) a =
+    rw (
+      ne-eqb (length (encodeBehaviour c ++ encodeBehaviours cs)) 0 (omega (arith, behaviour-bytes c (encodeBehaviours cs))),
+      behaviour-at 1 c (encodeBehaviours cs) (omega arith),
+      ne-eqb (tagOf c) 1 (omega (arith, tag-least c)),
+    )
+    (next-item k rs [] cs c (itemFault (length rs) c) (itemsFault (length rs) 1 cs) (behaviourIn (length rs) (tagOf c) (valueOf c) (encodeBehaviours cs))
+    (item-result (length rs) c (encodeBehaviours cs)) (behaviours-result k 1 rs (c ∷ []) cs refl (omega arith)))
+
+events-result : (k n : ℕ) (rs qs : List ℕ) (cs : List Item) → length rs ≡ n → length qs + length cs ≤ k
+    → eventsAt k rs (encodeEvents qs ++ encodeBehaviours cs) ≡ result (eventsFault n qs cs) (sheet (rs ++ qs) cs) []
+unfolding eventsAt encodeEvents eventsFault
+events-result k n rs [] cs l a = rw (append-nil rs, ← l) (first-item k rs cs (omega arith))
+events-result zero n rs (q ∷ qs) cs l a = absurd (omega arith)
+events-result (suc k) n rs (q ∷ qs) cs l a =
+    rw (
+      ne-eqb (length (field 1 (q ∷ []) ++ (encodeEvents qs ++ encodeBehaviours cs))) 0 (omega arith),
+      field-reads 1 3 1 (q ∷ []) (encodeEvents qs ++ encodeBehaviours cs) (omega arith) (omega arith),
+      l,
+    )
+    (split (leb 32 n) (λ e. rw e)
+    (λ e. rw e
+    (split (ltb 15 q) (λ d. rw d)
+    (λ d. rw d (rw (append-assoc rs (q ∷ []) qs) at (events-result k (suc n) (rs ++ (q ∷ [])) qs cs (omega (arith, length-append rs (q ∷ []))) (omega arith)))))))
+
+-- the reading of a sheet's encoding
+unfoldable pub sheetFault : Sheet → ℕ
+sheetFault x = eventsFault 0 (x .priorities) (x .items)
+
+pub sheet-result : (x : Sheet) → readSheet (encode x) ≡ result (sheetFault x) x []
+unfolding readSheet encode sheetFault
+sheet-result x =
+    let bound : length (x .priorities) + length (x .items) ≤ length (encodeEvents (x .priorities) ++ encodeBehaviours (x .items)) =
+    omega (arith, many-events (x .priorities), many-behaviours (x .items), length-append (encodeEvents (x .priorities)) (encodeBehaviours (x .items))) in
+    events-result (length (encodeEvents (x .priorities) ++ encodeBehaviours (x .items))) 0 [] (x .priorities) (x .items) refl bound
+
+-- ---- parameters written out
+
+module _ (v : ℕ → ℕ) where
+  expr-written : (k : ℕ) (x : Term) → ParamsIn x → exprFault k (writeTerm v x) ≡ exprFault k x
+  unfolding exprFault writeTerm
+  expr-written zero x h = refl
+  expr-written (suc k) (literal w) h = refl
+  expr-written (suc k) (variable i) h = refl
+  expr-written (suc k) (param n) h = rw (le-ltb 7 n (omega arith))
+  expr-written (suc k) (apply1 f a) h = rw (expr-written k a h)
+  expr-written (suc k) (apply2 f a b) h = rw (expr-written k a (h .0), expr-written k b (h .1))
+  expr-written (suc k) (apply3 f a b c) h = rw (expr-written k a (h .0), expr-written k b (h .1), expr-written k c (h .2))
+
+  handles-written : (e : ℕ) (hs : List Clause) → handles e (writeClauses v hs) ≡ handles e hs
+  unfolding handles writeClauses
+  handles-written e [] = refl
+  handles-written e (clause f φ x ∷ hs) = rw (handles-written e hs)
+
+  write-snoc : (hs : List Clause) (e : ℕ) (φ : Phase) (x : Term) → writeClauses v (hs ++ (clause e φ x ∷ [])) ≡ writeClauses v hs ++ (clause e φ (writeTerm v x) ∷ [])
+  unfolding writeClauses
+  write-snoc [] e φ x = refl
+  write-snoc (clause f ψ y ∷ hs) e φ x = ap (λ (l : List Clause). clause f ψ (writeTerm v y) ∷ l) (write-snoc hs e φ x)
+
+  clauses-written : (n : ℕ) (hs ks : List Clause) → All ClauseParamsIn ks → clausesFault n (writeClauses v hs) (writeClauses v ks) ≡ clausesFault n hs ks
+  unfolding clausesFault writeClauses
+  clauses-written n hs [] h = refl
+  clauses-written n hs (clause e φ x ∷ ks) h =
+      let i = rw (write-snoc hs e φ x) at (clauses-written n (hs ++ (clause e φ x ∷ [])) ks (h .1)) in
+      rw (handles-written e hs, expr-written 16 x (h .0), i)
+
+  item-written : (n : ℕ) (b : Item) → ItemParamsIn b → itemFault n (writeItem v b) ≡ itemFault n b
+  unfolding writeClauses
+  item-written n (formula x) h = expr-written 16 x h
+  item-written n (state s hs) h = clauses-written n [] hs h
+
+  items-written : (n m : ℕ) (cs : List Item) → All ItemParamsIn cs → itemsFault n m (writeItems v cs) ≡ itemsFault n m cs
+  unfolding itemsFault writeItems
+  items-written n m [] h = refl
+  items-written n m (c ∷ cs) h = rw (item-written n c (h .0), items-written n (suc m) cs (h .1))
+
+  events-written : (n : ℕ) (qs : List ℕ) (cs : List Item) → All ItemParamsIn cs → eventsFault n qs (writeItems v cs) ≡ eventsFault n qs cs
+  unfolding eventsFault
+  events-written n [] cs h = items-written n 0 cs h
+  events-written n (q ∷ qs) cs h = rw (events-written (suc n) qs cs h)
+
+  -- a sheet and the sheet written out have the same first fault, or none
+  pub fault-written : (x : Sheet) → All ItemParamsIn (x .items) → sheetFault (writtenOut v x) ≡ sheetFault x
+  unfolding sheetFault
+  fault-written x h = events-written 0 (x .priorities) (x .items) h

@@ -1,0 +1,195 @@
+-- Laws of a sheet and its filling: a filling has the sheet's shape and limits, depends on the parameters used alone, and is that of the sheet written out.
+-- Each by induction on the sheet.
+use Prim.Native.Nat.{ℕ, zero, suc, _<_, _^_}
+use mathlib.Core.Path.{_≡_, refl, ap}
+use mathlib.Core.Bool.{Bool, true, false, _||_, true≢false}
+use mathlib.Core.List.{List, [], _∷_}
+use native.Mathlib.Omega.{arith}
+use lib.ListN.{length, getD}
+use Rattle.base.specs.Basics.{All}
+use Rattle.language.specs.Syntax.{Behaviour, active}
+use Rattle.language.specs.Sheet.{Term, literal, variable, param, apply1, apply2, apply3, Clause, clause, Item, formula, state, Sheet}
+use Rattle.language.specs.Sheet.{fillTerm, fillClauses, fillItem, fillItems, fill, writeTerm, writeClauses, writeItem, writeItems, writtenOut}
+use Rattle.language.specs.Sheet.{usesTerm, usesClauses, usesItem, usesItems, uses}
+use Rattle.language.specs.Grammar.{TermFits, t-literal, t-variable, t-param, t-apply1, t-apply2, t-apply3, NoClauseFor, ClausesFit, ItemFits, SheetFits}
+use Rattle.language.specs.Grammar.{Nested, n-con, n-name, n-app1, n-app2, n-app3, NoneFor, HandlersFit, BehaviourFits, Fits}
+use Rattle.language.specs.Code.{sizeOf}
+use Rattle.language.specs.Accepted.{Accepted, SheetAccepted}
+
+-- ---- its shape
+
+module _ (v : ℕ → ℕ) where
+  pub length-fill : (bs : List Item) → length (fillItems v bs) ≡ length bs
+  unfolding fillItems
+  length-fill [] = refl
+  length-fill (b ∷ bs) = ap suc (length-fill bs)
+
+  pub fill-at : (bs : List Item) (i : ℕ) → getD (fillItems v bs) i (active 0 []) ≡ fillItem v (getD bs i (state 0 []))
+  unfolding fillItems fillClauses
+  fill-at [] i = refl
+  fill-at (b ∷ bs) zero = refl
+  fill-at (b ∷ bs) (suc i) = fill-at bs i
+
+-- 02, M-103: a parameter "counts as one in an expression's size"
+pub param-size : (v : ℕ → ℕ) (n : ℕ) → sizeOf (fillTerm v (param n)) ≡ 1
+unfolding fillTerm sizeOf
+param-size v n = refl
+
+pub size-fill : (v w : ℕ → ℕ) (x : Term) → sizeOf (fillTerm v x) ≡ sizeOf (fillTerm w x)
+unfolding fillTerm sizeOf
+size-fill v w (literal z) = refl
+size-fill v w (variable i) = refl
+size-fill v w (param n) = refl
+size-fill v w (apply1 f a) = rw (size-fill v w a)
+size-fill v w (apply2 f a b) = rw (size-fill v w a, size-fill v w b)
+size-fill v w (apply3 f a b c) = rw (size-fill v w a, size-fill v w b, size-fill v w c)
+
+-- ---- with no parameter used, every filling is the same
+
+none-of : (b c : Bool) → b || c ≡ false → (b ≡ false) × (c ≡ false)
+none-of true c h = absurd (true≢false h)
+none-of false c h = (refl, h)
+
+module _ (v w : ℕ → ℕ) where
+  unused-term : (x : Term) → usesTerm x ≡ false → fillTerm v x ≡ fillTerm w x
+  unfolding fillTerm usesTerm
+  unused-term (literal z) h = refl
+  unused-term (variable i) h = refl
+  unused-term (param n) h = absurd (true≢false h)
+  unused-term (apply1 f a) h = rw (unused-term a h)
+  unused-term (apply2 f a b) h = let r = none-of (usesTerm a) (usesTerm b) h in rw (unused-term a (r .0), unused-term b (r .1))
+  unused-term (apply3 f a b c) h =
+      let r = none-of (usesTerm a) (usesTerm b || usesTerm c) h in
+      let q = none-of (usesTerm b) (usesTerm c) (r .1) in
+      rw (unused-term a (r .0), unused-term b (q .0), unused-term c (q .1))
+
+  unused-clauses : (cs : List Clause) → usesClauses cs ≡ false → fillClauses v cs ≡ fillClauses w cs
+  unfolding fillClauses usesClauses
+  unused-clauses [] h = refl
+  unused-clauses (clause e φ x ∷ cs) h = let r = none-of (usesTerm x) (usesClauses cs) h in rw (unused-term x (r .0), unused-clauses cs (r .1))
+
+  unused-item : (b : Item) → usesItem b ≡ false → fillItem v b ≡ fillItem w b
+  unused-item (formula x) h = rw (unused-term x h)
+  unused-item (state s cs) h = rw (unused-clauses cs h)
+
+  unused-items : (bs : List Item) → usesItems bs ≡ false → fillItems v bs ≡ fillItems w bs
+  unfolding fillItems usesItems
+  unused-items [] h = refl
+  unused-items (b ∷ bs) h = let r = none-of (usesItem b) (usesItems bs) h in rw (unused-item b (r .0), unused-items bs (r .1))
+
+  pub fill-unused : (s : Sheet) → uses s ≡ false → fill v s ≡ fill w s
+  fill-unused s h = ap (λ (bs : List Behaviour). record { priorities = s .priorities; behaviours = bs }) (unused-items (s .items) h)
+
+-- ---- only the parameters 0 to 7 matter
+
+module _ (v w : ℕ → ℕ) (same : (n : ℕ) → n < 8 → v n ≡ w n) where
+  same-term : {k : ℕ} {x : Term} → TermFits k x → fillTerm v x ≡ fillTerm w x
+  unfolding fillTerm
+  same-term (t-literal h) = refl
+  same-term (t-variable h) = refl
+  same-term (t-param {n = n} h) = rw (same n h)
+  same-term (t-apply1 r a) = rw (same-term a)
+  same-term (t-apply2 r a b) = rw (same-term a, same-term b)
+  same-term (t-apply3 r a b c) = rw (same-term a, same-term b, same-term c)
+
+  same-clauses : (n : ℕ) (cs : List Clause) → ClausesFit n cs → fillClauses v cs ≡ fillClauses w cs
+  unfolding fillClauses
+  same-clauses n [] h = refl
+  same-clauses n (clause e φ x ∷ cs) h = rw (same-term (h .1), same-clauses n cs (h .3))
+
+  same-item : (n : ℕ) (b : Item) → ItemFits n b → fillItem v b ≡ fillItem w b
+  same-item n (formula x) h = rw (same-term h)
+  same-item n (state s cs) h = rw (same-clauses n cs (h .1))
+
+  same-items : (n : ℕ) (bs : List Item) → All (ItemFits n) bs → fillItems v bs ≡ fillItems w bs
+  unfolding fillItems
+  same-items n [] h = refl
+  same-items n (b ∷ bs) h = rw (same-item n b (h .0), same-items n bs (h .1))
+
+  pub fill-same : (s : Sheet) → SheetFits s → fill v s ≡ fill w s
+  fill-same s h = ap (λ (bs : List Behaviour). record { priorities = s .priorities; behaviours = bs }) (same-items (length (s .priorities)) (s .items) (h .each))
+
+-- ---- the limits of a filling, with values that are words
+
+module _ (v : ℕ → ℕ) (small : (n : ℕ) → n < 8 → v n < 2 ^ 32) where
+  term-fits : {k : ℕ} {x : Term} → TermFits k x → Nested k (fillTerm v x)
+  unfolding fillTerm
+  term-fits (t-literal h) = n-con h
+  term-fits (t-variable h) = n-name h
+  term-fits (t-param {n = n} h) = n-con (small n h)
+  term-fits (t-apply1 r a) = n-app1 r (term-fits a)
+  term-fits (t-apply2 r a b) = n-app2 r (term-fits a) (term-fits b)
+  term-fits (t-apply3 r a b c) = n-app3 r (term-fits a) (term-fits b) (term-fits c)
+
+  none-fills : (e : ℕ) (cs : List Clause) → NoClauseFor e cs → NoneFor e (fillClauses v cs)
+  unfolding fillClauses
+  none-fills e [] h = tt
+  none-fills e (clause f φ x ∷ cs) h = (h .0, none-fills e cs (h .1))
+
+  clauses-fit : (n : ℕ) (cs : List Clause) → ClausesFit n cs → HandlersFit n (fillClauses v cs)
+  unfolding fillClauses
+  clauses-fit n [] h = tt
+  clauses-fit n (clause e φ x ∷ cs) h = (h .0, term-fits (h .1), none-fills e cs (h .2), clauses-fit n cs (h .3))
+
+  item-fits : (n : ℕ) (b : Item) → ItemFits n b → BehaviourFits n (fillItem v b)
+  item-fits n (formula x) h = term-fits h
+  item-fits n (state s cs) h = (h .0, clauses-fit n cs (h .1))
+
+  items-fit : (n : ℕ) (bs : List Item) → All (ItemFits n) bs → All (BehaviourFits n) (fillItems v bs)
+  unfolding fillItems
+  items-fit n [] h = tt
+  items-fit n (b ∷ bs) h = (item-fits n b (h .0), items-fit n bs (h .1))
+
+  pub fill-fits : (s : Sheet) → SheetFits s → Fits (fill v s)
+  fill-fits s h = record {
+    few-events = h .few-events;
+    few-behaviours = omega (arith, length-fill v (s .items), h .few-behaviours);
+    scale = h .scale;
+    each = items-fit (length (s .priorities)) (s .items) (h .each);
+  }
+
+  -- an accepted sheet's filling is an accepted program
+  pub filling-accepted : (lent : ℕ) (s : Sheet) → SheetAccepted v lent s → Accepted (fill v s)
+  filling-accepted lent s h = record { fits = fill-fits s (h .fits); known = h .known; acyclic = h .acyclic; short = h .short }
+
+-- ---- the sheet written out uses no parameter, and has the same filling
+
+module _ (v w : ℕ → ℕ) where
+  written-term : (x : Term) → (usesTerm (writeTerm v x) ≡ false) × (fillTerm w (writeTerm v x) ≡ fillTerm v x)
+  unfolding fillTerm writeTerm usesTerm
+  written-term (literal z) = (refl, refl)
+  written-term (variable i) = (refl, refl)
+  written-term (param n) = (refl, refl)
+  written-term (apply1 f a) = let p = written-term a in (p .0, rw (p .1))
+  written-term (apply2 f a b) = let p = written-term a in let q = written-term b in (rw (p .0) (q .0), rw (p .1, q .1))
+  written-term (apply3 f a b c) =
+      let p = written-term a in
+      let q = written-term b in
+      let r = written-term c in
+      (rw (p .0, q .0) (r .0), rw (p .1, q .1, r .1))
+
+  written-clauses : (cs : List Clause) → (usesClauses (writeClauses v cs) ≡ false) × (fillClauses w (writeClauses v cs) ≡ fillClauses v cs)
+  unfolding fillClauses writeClauses usesClauses
+  written-clauses [] = (refl, refl)
+  written-clauses (clause e φ x ∷ cs) =
+      let p = written-term x in
+      let q = written-clauses cs in
+      (rw (p .0) (q .0), rw (p .1, q .1))
+
+  written-item : (b : Item) → (usesItem (writeItem v b) ≡ false) × (fillItem w (writeItem v b) ≡ fillItem v b)
+  written-item (formula x) = let p = written-term x in (p .0, rw (p .1))
+  written-item (state s cs) = let p = written-clauses cs in (p .0, rw (p .1))
+
+  written-items : (bs : List Item) → (usesItems (writeItems v bs) ≡ false) × (fillItems w (writeItems v bs) ≡ fillItems v bs)
+  unfolding fillItems writeItems usesItems
+  written-items [] = (refl, refl)
+  written-items (b ∷ bs) =
+      let p = written-item b in
+      let q = written-items bs in
+      (rw (p .0) (q .0), rw (p .1, q .1))
+
+  pub written-unused : (s : Sheet) → uses (writtenOut v s) ≡ false
+  written-unused s = written-items (s .items) .0
+
+  pub fill-written : (s : Sheet) → fill w (writtenOut v s) ≡ fill v s
+  fill-written s = ap (λ (bs : List Behaviour). record { priorities = s .priorities; behaviours = bs }) (written-items (s .items) .1)
