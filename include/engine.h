@@ -65,10 +65,14 @@ enum engine_step {
     /* 14: refused, foreign */
 };
 
-/* Which of these; for 2, 3 and 4 the event's number and the arrival's. */
+/* With a commit: in the event's meaning some application ran over. Its exact whole-number result was not the 32-bit one, or it divided by zero. */
+#define ENGINE_OVER (UINT64_C(1) << 56)
+
+/* Which of these; for 2, 3 and 4 the event's number and the arrival's; for 3 whether it ran over. */
 static inline uint32_t engine_step_kind(uint64_t answer) { return (uint32_t)(answer & 0xFF); }
 static inline uint32_t engine_step_event(uint64_t answer) { return (uint32_t)(answer >> 8 & 0xFF); }
-static inline uint32_t engine_step_arrival(uint64_t answer) { return (uint32_t)(answer >> 16); }
+static inline uint32_t engine_step_arrival(uint64_t answer) { return (uint32_t)(answer >> 16 & 0xFFFFFFFF); }
+static inline int engine_step_over(uint64_t answer) { return (answer & ENGINE_OVER) != 0; }
 
 /* The value of a behaviour on the board: 2^32 and the 32-bit word, or 14, 18, 19. */
 uint64_t board(const uint8_t *table, size_t table_len, const uint8_t *round, size_t round_len, uint32_t behaviour);

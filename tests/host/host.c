@@ -80,6 +80,32 @@ static const uint8_t equals[] = {
     0x02, 0, 7, 0x10, 0, 4, 0, 0, 0, 2,
 };
 
+/* A score at the top of its range: b0 = init 2,147,483,647 {0 => b0 + 1}. */
+static const uint8_t top[] = {
+    0x01, 0, 1, 1,
+    0x03, 0, 27, 0x04, 0, 4, 0x7F, 0xFF, 0xFF, 0xFF,
+        0x05, 0, 17, 0, 0, 0x12, 0, 12, 4, 0x11, 0, 1, 0, 0x10, 0, 4, 0, 0, 0, 1,
+};
+
+/* The commit that passes the top says so, and the next, from the bottom, does not. */
+static void ran_over(void)
+{
+    uint32_t i;
+
+    expect(load(top, sizeof top) == 0, "a score at the top");
+    for (i = 0; i < 2; i++) {
+        uint64_t a;
+
+        take(0);
+        do
+            a = step(table, sizeof table, round_, sizeof round_);
+        while (engine_step_kind(a) != ENGINE_COMMITTED);
+        expect(engine_step_over(a) == (i == 0), "the first commit runs over, the second does not");
+        expect(engine_step_event(a) == 0 && engine_step_arrival(a) == i, "event and arrival beside the mark");
+        expect(value(0) == INT32_MIN + (int32_t)i, "and comes out negative");
+    }
+}
+
 /* A recorded round, made again: event 0 arrives, 18 steps, and the board is read. */
 static void audit(void)
 {
@@ -194,6 +220,7 @@ int main(void)
     plan();
     hover();
     levels();
+    ran_over();
     puts(faults ? "host: faults" : "host: all as the scope says");
     return faults != 0;
 }

@@ -23,7 +23,7 @@ static const struct {
     int32_t b0, b1;
     int idle;
     int32_t shown;
-} want[] = {{"arrive", 3, 2, 1, 0}, {"forecast", 2, 1, 1, 0}, {"preview", 1, 1, 0, 3}, {"compile", 1, 1, 0, 0}};
+} want[] = {{"arrive", 3, 2, 1, 0}, {"forecast", 2, 1, 1, 0}, {"preview", 1, 1, 0, 3}, {"compile", 1, 1, 0, 0}, {"step", 1, 1, 0, 0}};
 
 static void before(uint8_t *round)
 {

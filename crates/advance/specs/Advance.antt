@@ -2,20 +2,28 @@
 -- A function that branches takes plain numbers; one that reads calls it.
 use Prim.Native.Nat.{ℕ, _+_, _*_, _/_, _%_}
 use mathlib.Core.List.{List}
-use lib.Dec.{ltb}
+use lib.Dec.{ltb, eqb}
 use Rattle.base.specs.Basics.{pick}
 use Rattle.word.specs.Word.{get, put}
 use Rattle.language.specs.Refusals.{foreign}
 use Rattle.language.specs.Answers as kinds
-use Rattle.layout.specs.Layout.{eventWord, runningEvent, runningNumber, position, depth}
+use Rattle.layout.specs.Layout.{eventWord, runningEvent, runningNumber, position, depth, markWord}
 use Rattle.round.specs.Start.{Result}
 use Rattle.allowed.specs.Allowed.{allowed}
 use Rattle.instruction.specs.Instruction.{perform}
 use Rattle.dispatch.specs.Dispatch.{said}
 
+-- M-104: "the committing step's answer carries a mark", 2^56 more: arrival numbers, whatever the bytes, end below
+abbrev pub overMark : ℕ
+overMark = 72057594037927936
+
+-- the answer of a commit, w being the mark's word
+unfoldable pub commitSaid : ℕ → ℕ → ℕ → ℕ
+commitSaid n e w = pick (eqb w 0) (said kinds.committed n e) (overMark + said kinds.committed n e)
+
 -- arrival n of event e has done c of len instructions and now one more
 unfoldable pub countOn : List ℕ → ℕ → ℕ → ℕ → ℕ → Result
-countOn l c e n len = pick (ltb (c + 1) len) (kinds.ran, put l 5 (c + 1)) (said kinds.committed n e, put l 2 0)
+countOn l c e n len = pick (ltb (c + 1) len) (kinds.ran, put l 5 (c + 1)) (commitSaid n e (markWord l), put l 2 0)
 
 -- the instruction of first word a and constant w, at count c
 unfoldable pub executeOn : List ℕ → ℕ → ℕ → ℕ → ℕ → ℕ → ℕ → Result

@@ -6,7 +6,18 @@ ghost use lib.ListN.{length};
 ghost use Rattle.word.specs.Word.{get};
 ghost use Rattle.layout.specs.Bounds.{Bounds};
 ghost use Rattle.round.specs.Start.{result};
-ghost use Rattle.advance.specs.Advance.{countOn, executeOn, executeAt, advance};
+ghost use Rattle.advance.specs.Advance.{commitSaid, countOn, executeOn, executeAt, advance};
+
+// The answer of a commit: 2^56 more where the mark's word w is not 0.
+fn commit_of(n: u32, e: u32, w: u32) -> u64
+    ensures { λ r. ⌜ r ≡ commitSaid n e w ⌝ }
+{
+    let said = dispatch::said_of(3, n, e);
+    if w == 0 {
+        return said;
+    }
+    72057594037927936 + said
+}
 
 // Arrival n of event e has done c of len instructions, and now one more: the last commits it.
 fn count_on(l: &mut [u8], c: u32, e: u32, n: u32, len: u32) -> u64
@@ -17,8 +28,9 @@ fn count_on(l: &mut [u8], c: u32, e: u32, n: u32, len: u32) -> u64
         word::put_word(l, 5, c + 1);
         return 1;
     }
+    let w = word::get_word(l, 7);
     word::put_word(l, 2, 0);
-    dispatch::said_of(3, n, e)
+    commit_of(n, e, w)
 }
 
 // The instruction of first word a and constant w, at count c.

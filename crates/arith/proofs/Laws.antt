@@ -9,9 +9,9 @@ use lib.IntN.{ℤ, pos, negsuc, negℤ, subℕ, _+ℤ_, _-ℤ_, _*ℤ_}
 use lib.Signed.{ltZ}
 use borrow.Author.Tests.{ltb-true, ltb-false, lt-ltb, le-ltb, eq-eqb, ne-eqb}
 use Rattle.base.specs.Basics.{pick}
-use Rattle.arith.specs.Exact.{signed, wrapped}
+use Rattle.arith.specs.Exact.{signed, wrapped, beyond, reported}
 use Rattle.arith.specs.Functions.{ceiling, floorZ, isTrue, truth}
-use Rattle.arith.specs.ArithLaws.{wrapped-signed, isTrue-signed}
+use Rattle.arith.specs.ArithLaws.{wrapped-signed, isTrue-signed, word-within}
 
 -- a word below 2^31 is itself, and another -(x + 1), with x + a = 2^32 - 1
 pub data View (a : ℕ) : ℤ → Type 0 where
@@ -142,17 +142,23 @@ both-no false false = refl
 pub other-words : {a b : ℕ} {z w : ℤ} → View a z → View b w → not (eqb a b) ≡ ltZ z w || ltZ w z
 other-words {z = z} {w = w} v u = ap not (same-words v u) ∙ both-no (ltZ z w) (ltZ w z)
 
+-- what a word stands for, reported, is the word with no mark
+word-reported : (a : ℕ) → a < 2 ^ 32 → a ≡ reported (signed a)
+word-reported a h = rw (word-within a h) (sym (wrapped-signed a h))
+
 -- `||`, `&&`, `!` and `if` by the first word's being 0
-pub or-first-false : (a b r : ℕ) → a ≡ 0 → r ≡ wrapped (truth (not (eqb b 0))) → r ≡ wrapped (truth (isTrue (signed a) || isTrue (signed b)))
+pub or-first-false : (a b r : ℕ) → a ≡ 0 → r ≡ reported (truth (not (eqb b 0))) → r ≡ reported (truth (isTrue (signed a) || isTrue (signed b)))
 or-first-false a b r e p = rw (isTrue-signed a, isTrue-signed b, eq-eqb a 0 e) p
 
-pub or-first-true : (a b : ℕ) → (a ≡ 0 → ⊥) → 1 ≡ wrapped (truth (isTrue (signed a) || isTrue (signed b)))
+pub or-first-true : (a b : ℕ) → (a ≡ 0 → ⊥) → 1 ≡ reported (truth (isTrue (signed a) || isTrue (signed b)))
+unfolding beyond
 or-first-true a b n = rw (isTrue-signed a, ne-eqb a 0 n)
 
-pub and-first-false : (a b : ℕ) → a ≡ 0 → 0 ≡ wrapped (truth (isTrue (signed a) && isTrue (signed b)))
+pub and-first-false : (a b : ℕ) → a ≡ 0 → 0 ≡ reported (truth (isTrue (signed a) && isTrue (signed b)))
+unfolding beyond
 and-first-false a b e = rw (isTrue-signed a, eq-eqb a 0 e)
 
-pub and-first-true : (a b r : ℕ) → (a ≡ 0 → ⊥) → r ≡ wrapped (truth (not (eqb b 0))) → r ≡ wrapped (truth (isTrue (signed a) && isTrue (signed b)))
+pub and-first-true : (a b r : ℕ) → (a ≡ 0 → ⊥) → r ≡ reported (truth (not (eqb b 0))) → r ≡ reported (truth (isTrue (signed a) && isTrue (signed b)))
 and-first-true a b r n p = rw (isTrue-signed a, isTrue-signed b, ne-eqb a 0 n) p
 
 pub not-of : (a : ℕ) → eqb a 0 ≡ not (isTrue (signed a))
@@ -162,8 +168,8 @@ not-of a = rw (isTrue-signed a) (twice (eqb a 0))
     twice true = refl
     twice false = refl
 
-pub third-if : (a b c : ℕ) → a ≡ 0 → c < 2 ^ 32 → c ≡ wrapped (pick (isTrue (signed a)) (signed b) (signed c))
-third-if a b c e h = rw (isTrue-signed a, eq-eqb a 0 e) (sym (wrapped-signed c h))
+pub third-if : (a b c : ℕ) → a ≡ 0 → c < 2 ^ 32 → c ≡ reported (pick (isTrue (signed a)) (signed b) (signed c))
+third-if a b c e h = rw (isTrue-signed a, eq-eqb a 0 e) (word-reported c h)
 
-pub second-if : (a b c : ℕ) → (a ≡ 0 → ⊥) → b < 2 ^ 32 → b ≡ wrapped (pick (isTrue (signed a)) (signed b) (signed c))
-second-if a b c n h = rw (isTrue-signed a, ne-eqb a 0 n) (sym (wrapped-signed b h))
+pub second-if : (a b c : ℕ) → (a ≡ 0 → ⊥) → b < 2 ^ 32 → b ≡ reported (pick (isTrue (signed a)) (signed b) (signed c))
+second-if a b c n h = rw (isTrue-signed a, ne-eqb a 0 n) (word-reported b h)

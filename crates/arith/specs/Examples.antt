@@ -1,9 +1,10 @@
--- The facts of 01 "Arithmetic" and M-102, each by computing: functions by their numbers, on words. An argument that is not needed is given as 0.
+-- The facts of 01 "Arithmetic", M-102 and M-104, each by computing: functions by their numbers, on words. An argument that is not needed is given as 0.
 use Prim.Native.Nat.{ℕ, _-_, _^_}
+use mathlib.Core.Bool.{true, false}
 use mathlib.Core.Path.{_≡_, refl}
 use lib.IntN.{pos, negsuc}
-use Rattle.arith.specs.Exact.{signed}
-use Rattle.arith.specs.Functions.{exact, result}
+use Rattle.arith.specs.Exact.{signed, beyond}
+use Rattle.arith.specs.Functions.{exact, result, over}
 
 -- the word of -n
 abbrev pub minus : ℕ → ℕ
@@ -133,3 +134,60 @@ second-if-true = refl
 pub third-if-false : result 14 0 10 20 ≡ 20
 unfolding result exact
 third-if-false = refl
+
+-- M-104: "whether its exact whole-number result differed from the 32-bit one, or the divisor was zero"
+pub sum-over : over 4 2147483647 1 0 ≡ true
+unfolding over exact beyond
+sum-over = refl
+
+pub sum-at-the-top : over 4 2147483646 1 0 ≡ false
+unfolding over exact beyond
+sum-at-the-top = refl
+
+pub sum-over-below : over 4 (minus 2147483648) (minus 1) 0 ≡ true
+unfolding over exact beyond
+sum-over-below = refl
+
+pub sum-with-a-carry : over 4 (minus 1) (minus 1) 0 ≡ false
+unfolding over exact beyond
+sum-with-a-carry = refl
+
+pub difference-over : over 5 0 (minus 2147483648) 0 ≡ true
+unfolding over exact beyond
+difference-over = refl
+
+pub difference-at-the-top : over 5 (minus 1) (minus 2147483648) 0 ≡ false
+unfolding over exact beyond
+difference-at-the-top = refl
+
+pub product-over : over 6 46341 46341 0 ≡ true
+unfolding over exact beyond
+product-over = refl
+
+pub product-at-the-bottom : over 6 65536 (minus 32768) 0 ≡ false
+unfolding over exact beyond
+product-at-the-bottom = refl
+
+pub by-zero-over : over 7 5 0 0 ≡ true
+unfolding over exact beyond
+by-zero-over = refl
+
+pub zero-by-zero-over : over 7 0 0 0 ≡ true
+unfolding over exact beyond
+zero-by-zero-over = refl
+
+pub least-by-minus-one-over : over 7 (minus 2147483648) (minus 1) 0 ≡ true
+unfolding over exact beyond
+least-by-minus-one-over = refl
+
+pub fraction-dropped : over 7 (minus 7) 2 0 ≡ false
+unfolding over exact beyond
+fraction-dropped = refl
+
+pub test-of-zero : over 12 5 0 0 ≡ false
+unfolding over exact beyond
+test-of-zero = refl
+
+pub if-not-over : over 14 1 (minus 2147483648) 0 ≡ false
+unfolding over exact beyond
+if-not-over = refl

@@ -1,11 +1,11 @@
--- The fourteen functions, by their numbers: the exact whole-number result, and the 32-bit one. 01 "Arithmetic", division as in M-102.
+-- The fourteen functions, by their numbers: the exact whole-number result, the 32-bit one, and whether it ran over. 01 "Arithmetic", division as in M-102, M-104.
 use Prim.Native.Nat.{ℕ, suc, _+_, _-_, _/_}
 use mathlib.Core.Bool.{Bool, true, false, not, _&&_, _||_}
 use lib.Dec.{eqb}
 use lib.IntN.{ℤ, pos, negsuc, negℤ, _+ℤ_, _-ℤ_, _*ℤ_}
 use lib.Signed.{ltZ}
 use Rattle.base.specs.Basics.{pick}
-use Rattle.arith.specs.Exact.{signed, wrapped}
+use Rattle.arith.specs.Exact.{signed, wrapped, beyond, packed}
 
 -- "Zero is false, all else true; tests give 1 or 0."
 abbrev pub isTrue : ℤ → Bool
@@ -51,6 +51,14 @@ exact f x y z =
 -- the result on 32-bit words: the exact one of the numbers that they stand for, brought to 32 bits
 unfoldable pub result : ℕ → ℕ → ℕ → ℕ → ℕ
 result f a b c = wrapped (exact f (signed a) (signed b) (signed c))
+
+-- M-104: "whether its exact whole-number result differed from the 32-bit one, or the divisor was zero"
+unfoldable pub over : ℕ → ℕ → ℕ → ℕ → Bool
+over f a b c = (eqb f 7 && eqb b 0) || beyond (exact f (signed a) (signed b) (signed c))
+
+-- "Each function's answer shall also say": the 32-bit result, and 2^32 more where it ran over
+unfoldable pub answer : ℕ → ℕ → ℕ → ℕ → ℕ
+answer f a b c = packed (result f a b c) (over f a b c)
 
 -- "`!` needs one, `if` three, the others two."
 unfoldable pub arity : ℕ → ℕ

@@ -12,9 +12,9 @@ use Rattle.round.specs.Start.{Result}
 unfoldable pub said : ℕ → ℕ → ℕ → ℕ
 said k n e = n * 65536 + e * 256 + k
 
--- arrival n of event e runs, none of its instructions done, its stack empty
+-- arrival n of event e runs, none of its instructions done, its stack empty, with no mark
 unfoldable pub run : List ℕ → ℕ → ℕ → List ℕ
-run l n e = put (put (put (put (put l 2 1) 3 e) 4 n) 5 0) 6 0
+run l n e = put (put (put (put (put (put l 2 1) 3 e) 4 n) 5 0) 6 0) 7 0
 
 -- slot b starts, and the last, m, moves into its place
 unfoldable pub startAt : List ℕ → ℕ → ℕ → Result

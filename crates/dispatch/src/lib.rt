@@ -22,6 +22,7 @@ fn run_on(l: &mut [u8], n: u32, e: u32)
     word::put_word(l, 4, n);
     word::put_word(l, 5, 0);
     word::put_word(l, 6, 0);
+    word::put_word(l, 7, 0);
 }
 
 // Slot b starts, and the last, m, moves into its place.

@@ -1,7 +1,7 @@
 -- Demand 1, for all bytes: no call writes beyond the table's 34,816 bytes or the round's 2,048, and their lengths stay. Each call only puts words, and wherever its
 -- tests let it come to a put, the place is below word 8,704 or 512.
 use Prim.Native.Nat.{ℕ, zero, suc, _+_, _-_, _/_, _%_, _≤_, _<_}
-use mathlib.Core.Bool.{false}
+use mathlib.Core.Bool.{Bool, true, false}
 use mathlib.Core.Path.{_≡_, refl, sym, ap, _∙_, subst}
 use mathlib.Core.Logic.{by-cases}
 use mathlib.Core.List.{List, [], _∷_}
@@ -22,7 +22,7 @@ use Rattle.image.specs.Image.{tableOf}
 use Rattle.image.specs.ImageLaws.{length-table, beyond-table}
 use Rattle.queue.specs.Queue.{best, better, either, ahead}
 use Rattle.round.specs.Start.{Result, startOn}
-use Rattle.stack.specs.Stack.{pushOn, popTo, applyOne, applyTwo, applyThree, applyOn}
+use Rattle.stack.specs.Stack.{pushOn, popTo, noted, applyOne, applyTwo, applyThree, applyOn}
 use Rattle.allowed.specs.Allowed.{allowed}
 use Rattle.allowed.specs.AllowedLaws.{slot-small}
 use Rattle.instruction.specs.Instruction.{transfer, perform}
@@ -93,12 +93,17 @@ module _ (l : List ℕ) (d : ℕ) (shallow : d ≤ 64) where
   unfolding popTo
   pop-kept k b = kept-put _ 6 (d - 1) (omega arith) (kept-put l k _ b (kept-all l))
 
+  noted-kept : (m : Bool) → Kept l (noted l m)
+  unfolding noted
+  noted-kept true = kept-put l 7 1 (omega arith) (kept-all l)
+  noted-kept false = kept-all l
+
   apply-kept : (f : ℕ) → Kept l (applyOn l d f)
   unfolding applyOn applyOne applyTwo applyThree
   apply-kept f =
-      by-test (Kept l) (eqb f 3) (λ _. kept-put l (327 + d) _ (omega arith) (kept-all l))
-      (λ _. by-test (Kept l) (eqb f 14) (λ _. kept-put _ 6 (d - 2) (omega arith) (kept-put l (325 + d) _ (omega arith) (kept-all l)))
-      (λ _. kept-put _ 6 (d - 1) (omega arith) (kept-put l (326 + d) _ (omega arith) (kept-all l))))
+      by-test (Kept l) (eqb f 3) (λ _. kept-put _ (327 + d) _ (omega arith) (noted-kept _))
+      (λ _. by-test (Kept l) (eqb f 14) (λ _. kept-put _ 6 (d - 2) (omega arith) (kept-put _ (325 + d) _ (omega arith) (noted-kept _)))
+      (λ _. kept-put _ 6 (d - 1) (omega arith) (kept-put _ (326 + d) _ (omega arith) (noted-kept _))))
 
   transfer-kept : (k j : ℕ) → j < 512 → Kept l (transfer l k j)
   unfolding transfer

@@ -1,9 +1,9 @@
--- Demands 2 and 3, and M-100 and M-101 of document 02, as claims about the exported functions: `compileOn`, `startOn`, `arriveOn`, `stepOn`, `boardOn`, `forecastOn`
+-- Demands 2 and 3, and M-100, M-101 and M-104 of document 02, as claims about the exported functions: `compileOn`, `startOn`, `arriveOn`, `stepOn`, `boardOn`, `forecastOn`
 -- and `previewOn` are what their contracts cite.
 -- The model engine, and the sentences of demand 3 in its terms: crate model, Model.antt and Claims.antt. Calls on bytes, and what the round's bytes say: crate
 -- refinement, Refinement.antt.
 use Prim.Native.Nat.{ℕ, _+_, _*_, _≤_, _<_}
-use mathlib.Core.Bool.{false}
+use mathlib.Core.Bool.{Bool, true, false}
 use mathlib.Core.Path.{_≡_}
 use mathlib.Core.Logic.{_≢_}
 use mathlib.Core.List.{List, [], _∷_, _++_, map}
@@ -17,16 +17,17 @@ use Rattle.language.specs.Grammar.{encode}
 use Rattle.language.specs.Accepted.{Accepted, SheetAccepted}
 use Rattle.language.specs.Code.{off, code, members}
 use Rattle.semantics.specs.Rules.{Shows}
-use Rattle.semantics.specs.Meaning.{at, fresh}
+use Rattle.semantics.specs.Meaning.{at, fresh, withStore}
 use Rattle.semantics.specs.Plays.{Plays}
-use Rattle.model.specs.Model.{Arrival, arrival, Call, rank}
+use Rattle.semantics.specs.Over.{EventOver}
+use Rattle.model.specs.Model.{Arrival, arrival, Call, step, committed, rank}
 use Rattle.model.specs.Claims.{after, said, committedIn, takenInBy, settlingIn, number, Idle, OnceEach, EqualsInOrder, LowerFirst, SettlesIn, NobodyWaits, aloneCalls, QuietExactly, forecast, previewed, PreviewRight}
 use Rattle.image.specs.Image.{operation, constant, startOf, tableOf}
 use Rattle.round.specs.Start.{startOn}
 use Rattle.machine.specs.Machine.{stepOn}
 use Rattle.forecast.specs.Forecast.{forecastOn}
 use Rattle.preview.specs.Preview.{previewOn}
-use Rattle.refinement.specs.Refinement.{coded, decodedAll, callOn, answersOn, roundAfter, View, Kept}
+use Rattle.refinement.specs.Refinement.{coded, decoded, decodedAll, callOn, answersOn, roundAfter, View, Kept}
 use Rattle.compiler.specs.Verdict.{programOf, compileOn}
 
 -- the events of arrivals
@@ -48,6 +49,17 @@ Buffers = List ℕ × List ℕ
 unfoldable pub buffersAfter : List Call → Buffers → Buffers
 buffersAfter [] b = b
 buffersAfter (c ∷ cs) b = buffersAfter cs (b .0, callOn (b .0) c (b .1) .1)
+
+-- ---- 02, M-104: the mark m with which arrival a is committed, after the commits of the list cs
+
+pub record CommitMark (p : Program) (cs : List Call) (a : Arrival) (m : Bool) : Type 0 where
+  -- the board that the rules give for the events committed so far, and no other
+  pub before : List ℕ
+  pub played : Plays p (eventsOf (committedIn p cs)) (fresh p) before
+  pub alone : (b : List ℕ) → Plays p (eventsOf (committedIn p cs)) (fresh p) b → b ≡ before
+  -- "set exactly if some application in that event's meaning did so", in the program that carries this board
+  pub set-if : EventOver (withStore p before) (a .event) → m ≡ true
+  pub only-if : m ≡ true → EventOver (withStore p before) (a .event)
 
 -- ---- demand 3, one list of calls: on the table t of program p and the round l that start made fresh in the bytes l₀
 
@@ -93,6 +105,9 @@ pub record OneList (p : Program) (t l₀ l : List ℕ) (cs : List Call) : Type 0
   pub preview : (e i : ℕ) → previewOn t (roundAfter t cs l) e i ≡ coded (previewed p (after p cs) e i)
   -- and whichever way the round itself is then run to idle, its board shows that value
   pub previews : PreviewRight p cs
+  -- 02, M-104: "the committing step's answer carries a mark: set exactly if some application in that event's meaning did so. .. What a broken-in handler found is dropped": of
+  -- the step called next, as its number is read
+  pub mark : (a : Arrival) (m : Bool) → decoded step (stepOn t (roundAfter t cs l) .0) ≡ committed a m → CommitMark p cs a m
 
 -- ---- the code of event e in the table t of program p, word by word (layout: crate layout)
 

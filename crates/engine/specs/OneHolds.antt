@@ -1,7 +1,7 @@
--- Every sentence of demand 3, of M-100 and of M-101 about one list of calls, and demand 2's about one event, for an accepted program's table and a fresh round.
+-- Every sentence of demand 3, of M-100, M-101 and M-104 about one list of calls, and demand 2's about one event, for an accepted program's table and a fresh round.
 -- The bytes refine the model engine, and the model engine's claims carry over.
 use Prim.Native.Nat.{ℕ, _-_, _≤_, _<_}
-use mathlib.Core.Bool.{false}
+use mathlib.Core.Bool.{Bool, false}
 use mathlib.Core.Path.{_≡_, refl, sym, ap, _∙_, subst}
 use mathlib.Core.List.{List, [], _∷_, _++_}
 use native.Mathlib.Omega.{arith}
@@ -9,31 +9,34 @@ use lib.ListN.{length}
 use Rattle.base.specs.Basics.{All}
 use Rattle.base.specs.Tools.{all-perm, all-split}
 use Rattle.language.specs.Syntax.{Program}
-use Rattle.language.specs.Dependence.{size, events}
+use Rattle.language.specs.Dependence.{size, events, noEvent}
 use Rattle.language.specs.Accepted.{Accepted}
 use Rattle.language.specs.Code.{code}
 use Rattle.semantics.specs.Meaning.{fresh, event, play}
 use Rattle.semantics.specs.Plays.{Plays}
 use Rattle.semantics.specs.PlaysLaws.{plays, plays-alone}
+use Rattle.semantics.specs.OverMeaning.{eventOver}
+use Rattle.semantics.specs.OverAgrees.{rules-find, rules-find-only}
 use Rattle.semantics.specs.Lengths.{length-fresh}
 use Rattle.execution.specs.Execution.{Values}
 use Rattle.execution.specs.CodeFacts.{CodeFacts}
 use Rattle.execution.specs.CodeRight.{code-facts}
-use Rattle.model.specs.Model.{Arrival, arrival, rest, Engine, engine, initial, Call, step, idle, act, run, answers}
+use Rattle.model.specs.Model.{Arrival, arrival, rest, Engine, engine, initial, Call, step, idle, committed, act, run, answers}
 use Rattle.model.specs.Claims.{after, said, commits, committedIn, settlingIn, number, storeOf, inQueue, Idle, aloneCalls}
 use Rattle.model.specs.History.{run-append}
 use Rattle.model.specs.Reached.{Reached, reached}
+use Rattle.model.specs.Boards.{stored}
 use Rattle.model.specs.Alone as lone
-use Rattle.model.specs.ModelHolds.{board-of-commits, once-each, equals-in-order, lower-first, settles-in, nobody-waits, quiet-exactly, preview-right}
+use Rattle.model.specs.ModelHolds.{board-of-commits, once-each, equals-in-order, lower-first, settles-in, nobody-waits, quiet-exactly, preview-right, mark-right}
 use Rattle.model.specs.Confluence.{Declared}
 use Rattle.image.specs.Image.{tableOf}
 use Rattle.round.specs.Start.{freshBytes}
 use Rattle.machine.specs.Machine.{stepOn}
-use Rattle.refinement.specs.Refinement.{coded, callOn, roundAfter, View, Agreement}
-use Rattle.refinement.specs.Coded.{answer-to, coded-injective, answers-read}
+use Rattle.refinement.specs.Refinement.{coded, decoded, callOn, roundAfter, View, Agreement}
+use Rattle.refinement.specs.Coded.{answer-to, decoded-coded, coded-injective, answers-read}
 use Rattle.refinement.specs.Refines.{valid, refines, forecasts}
 use Rattle.refinement.specs.Previews.{previews}
-use Rattle.engine.specs.Demand.{buffersAfter, eventsOf, boardOf, IdleNow, OneList}
+use Rattle.engine.specs.Demand.{buffersAfter, eventsOf, boardOf, IdleNow, CommitMark, OneList}
 use Rattle.engine.specs.Runs.{answers-append, commits-append, commits-ran, next-answer, taken-declared, at-rest}
 
 all-map : (p : Program) (l : List Arrival) → All (Declared p) l → All (λ e. e < events p) (eventsOf l)
@@ -96,6 +99,33 @@ module _ (p : Program) (ok : Accepted p) (t₀ l₀ : List ℕ) (table-room : 34
       plays-alone p (valid p ok) es (all-map p (committedIn p cs) (committed-declared cs)) (fresh p) b (length-fresh p) q
       ∙ sym (board-is cs ∙ board-of-commits p facts cs h)
 
+  -- ---- a commit's mark
+
+  -- the number of the step called next is read as the model's answer
+  next-read : (cs : List Call) → decoded step (stepOn table (roundAfter table cs round) .0) ≡ act p step (after p cs) .answer
+  next-read cs =
+      let few : events p ≤ 256 = omega (arith, ok .fits .few-events) in
+      ap (decoded step) (stepped cs) ∙ decoded-coded step (act p step (after p cs) .answer) (answer-to p few step (after p cs) (reached p facts cs))
+
+  mark : (cs : List Call) (a : Arrival) (m : Bool) → decoded step (stepOn table (roundAfter table cs round) .0) ≡ committed a m → CommitMark p cs a m
+  mark cs a m h =
+      let es = eventsOf (committedIn p cs) in
+      let s = play p es (fresh p) in
+      let v = valid p ok in
+      let known = all-map p (committedIn p cs) (committed-declared cs) in
+      let q = plays p v es known (fresh p) (length-fresh p) in
+      let e : act p step (after p cs) .answer ≡ committed a m = sym (next-read cs) ∙ h in
+      let k : (a .event < events p) × (m ≡ eventOver p (a .event) s) = mark-right p facts cs a m e in
+      let d : a .event ≤ noEvent p = omega (arith, k .0) in
+      let n : length s ≡ size p = stored p facts cs .0 in
+      record {
+        before = s;
+        played = q;
+        alone = λ b r. plays-alone p v es known (fresh p) b (length-fresh p) r;
+        set-if = λ o. k .1 ∙ rules-find-only p v (a .event) d s n o;
+        only-if = λ o. rules-find p v (a .event) d s n (sym (k .1) ∙ o);
+      }
+
   -- ---- one event alone
 
   module _ (cs : List Call) (e : ℕ) (declared : e < events p) where
@@ -106,7 +136,7 @@ module _ (p : Program) (ok : Accepted p) (t₀ l₀ : List ℕ) (table-room : 34
     unfolding commits
     from-rest t d r room =
         let a = lone.alone p facts t e d declared room (ap length (r .done) ∙ r .sized) in
-        (ap commits (a .0) ∙ commits-ran (length (code p e) - 1) (arrival t e), ap storeOf (a .1) ∙ a .2)
+        (ap commits (a .0) ∙ commits-ran (length (code p e) - 1) (arrival t e) _, ap storeOf (a .1) ∙ a .2)
 
     alone-from : (w : Engine) → Idle p w → Reached p w → number w < 1000000 → Left w
     alone-from w h r room =
@@ -158,4 +188,5 @@ module _ (p : Program) (ok : Accepted p) (t₀ l₀ : List ℕ) (table-room : 34
     forecast = forecasts p ok t₀ l₀ table-room round-room cs;
     preview = previews p ok t₀ l₀ table-room round-room cs;
     previews = preview-right p facts cs;
+    mark = mark cs;
   }

@@ -16,7 +16,7 @@ use Rattle.allowed.specs.Allowed.{allowed}
 use Rattle.arrivals.specs.Arrivals.{full, arriveWith, arriveIn, arriveOn}
 use Rattle.board.specs.Board.{masked}
 use Rattle.dispatch.specs.Dispatch.{said, startAt, preemptAt}
-use Rattle.advance.specs.Advance.{countOn, executeOn, executeAt, advance}
+use Rattle.advance.specs.Advance.{commitSaid, countOn, executeOn, executeAt, advance}
 use Rattle.machine.specs.Machine.{meet, contest, running, resting, stepWith, stepIn, stepOn}
 
 -- refused by a number that is not 0, with the round as it was
@@ -42,9 +42,13 @@ arrive-refused t l e =
 abbrev Foreign : List ℕ → Result → Type 0
 Foreign l o = o .0 ≡ foreign → o .1 ≡ l
 
+commit-not : (n e w : ℕ) → commitSaid n e w ≢ foreign
+unfolding commitSaid said
+commit-not n e w = by-test (λ (x : ℕ). x ≢ foreign) (eqb w 0) (λ _. omega arith) (λ _. omega arith)
+
 count-not : (l m : List ℕ) (c e n len : ℕ) → Foreign l (countOn m c e n len)
-unfolding countOn said
-count-not l m c e n len = by-test (Foreign l) (ltb (c + 1) len) (λ _ h. absurd (omega arith)) (λ _ h. absurd (omega arith))
+unfolding countOn
+count-not l m c e n len = by-test (Foreign l) (ltb (c + 1) len) (λ _ h. absurd (omega arith)) (λ _ h. absurd (commit-not n e _ h))
 
 advance-kept : (t l : List ℕ) → Foreign l (advance t l)
 unfolding advance executeAt executeOn

@@ -1,5 +1,6 @@
 -- Lists of calls, one after the other: answers and commits of a joined list. By induction on the first list.
 use Prim.Native.Nat.{ℕ, zero, suc}
+use mathlib.Core.Bool.{Bool}
 use mathlib.Core.Path.{_≡_, refl, sym, ap, _∙_}
 use mathlib.Core.List.{List, [], _∷_, _++_, map}
 use native.Mathlib.Omega.{arith}
@@ -32,7 +33,7 @@ commits-one idle xs ys = refl
 commits-one ran xs ys = refl
 commits-one (started a) xs ys = refl
 commits-one (preempted a) xs ys = refl
-commits-one (committed a) xs ys = refl
+commits-one (committed a m) xs ys = refl
 
 pub commits-append : (xs ys : List Answer) → commits (xs ++ ys) ≡ commits xs ++ commits ys
 unfolding commits
@@ -40,10 +41,10 @@ commits-append [] ys = refl
 commits-append (a ∷ xs) ys = ap (ifCommitted a) (commits-append xs ys) ∙ commits-one a (commits xs) (commits ys)
 
 -- instructions that do not commit, and then a commit
-pub commits-ran : (k : ℕ) (a : Arrival) → commits (replicate k ran ++ (committed a ∷ [])) ≡ a ∷ []
+pub commits-ran : (k : ℕ) (a : Arrival) (m : Bool) → commits (replicate k ran ++ (committed a m ∷ [])) ≡ a ∷ []
 unfolding commits
-commits-ran zero a = refl
-commits-ran (suc k) a = commits-ran k a
+commits-ran zero a m = refl
+commits-ran (suc k) a m = commits-ran k a m
 
 -- ---- the answer to one more call
 

@@ -42,6 +42,7 @@ pub extern "C" fn arrive(table: &[u8], round: &mut [u8], event: u32) -> u32
 }
 
 // One step. 0 idle, 1 one instruction, 2 a start, 3 a commit, 4 a start that preempts, with event and arrival number; or 14.
+// With a commit 2 ^ 56 more where the event ran over (02, M-104).
 #[no_mangle]
 pub extern "C" fn step(table: &[u8], round: &mut [u8]) -> u64
     ensures { λ r. ⌜ result r (now (round .exit)) ≡ stepOn (now (table .entry)) (now (round .entry)) ⌝ }

@@ -49,7 +49,7 @@ fn apply_at(f: u8, n: usize, st: &[u32], i: usize) -> u32
     let a = argument_at(st, i, n, 0);
     let b = argument_at(st, i, n, 1);
     let c = argument_at(st, i, n, 2);
-    functions::apply(f, a, b, c)
+    functions::word_of(f, a, b, c)
 }
 
 // Function f takes its n arguments from the stack and puts its result; without them the stack stays as it is. Its new depth.

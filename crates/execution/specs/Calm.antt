@@ -25,7 +25,7 @@ abbrev pub Calm : Instr → Type 0
 Calm i = Plain i × Still i
 
 module _ (P : Instr → Type 0) where
-  all-parts : (n : ℕ) (f : ℕ → List Instr) → ((i : ℕ) → All P (f i)) → All P (join (upTo n f))
+  pub all-parts : (n : ℕ) (f : ℕ → List Instr) → ((i : ℕ) → All P (f i)) → All P (join (upTo n f))
   unfolding upTo join
   all-parts zero f h = tt
   all-parts (suc n) f h = all-join P (f 0) (join (upTo n (λ i. f (suc i)))) (h 0) (all-parts n (λ i. f (suc i)) (λ i. h (suc i)))
@@ -117,7 +117,7 @@ calm-moves i (takes x) = tt
 calm-moves i (defers x) = (calm-move i, tt)
 calm-moves i keeps = tt
 
-all-ofC : (P : Instr → Type 0) (f : ℕ → Instr) → ((i : ℕ) → P (f i)) → (i : ℕ) (r : Response) → All P (ofC f i r)
+pub all-ofC : (P : Instr → Type 0) (f : ℕ → Instr) → ((i : ℕ) → P (f i)) → (i : ℕ) (r : Response) → All P (ofC f i r)
 all-ofC P f h i (follows x) = (h i, tt)
 all-ofC P f h i (takes x) = (h i, tt)
 all-ofC P f h i (defers x) = (h i, tt)

@@ -1,4 +1,5 @@
--- What the engine relies on in an event's code: its count, where it is masked, that it leaves the store alone until copy-back, and that the whole of it is the event's meaning.
+-- What the engine relies on in an event's code: its count, where it is masked, that it leaves the store alone until copy-back, and that the whole of it is the event's meaning and
+-- marks what runs over there.
 use Prim.Native.Nat.{ℕ, _+_, _*_, _-_, _≤_, _<_}
 use mathlib.Core.Bool.{Bool, true, false}
 use mathlib.Core.Path.{_≡_}
@@ -10,6 +11,7 @@ use Rattle.language.specs.Syntax.{Program}
 use Rattle.language.specs.Dependence.{size, events}
 use Rattle.language.specs.Code.{code, members, instructions}
 use Rattle.semantics.specs.Meaning.{event}
+use Rattle.semantics.specs.OverMeaning.{eventOver}
 use Rattle.execution.specs.Execution.{executeAll, emptied, maskedAfter, copyingBackAfter}
 
 -- of an event of len instructions and m members of C, with c instructions done: a copy-back is under way; interrupts are masked
@@ -28,3 +30,4 @@ pub record CodeFacts (p : Program) : Type 0 where
       → executeAll (take c (code p e)) (emptied s) .store ≡ s
   pub right : (e : ℕ) → e < events p → (s : List ℕ) → length s ≡ size p → executeAll (code p e) (emptied s) .store ≡ event p e s
   pub kept : (e : ℕ) → e < events p → (s : List ℕ) → length s ≡ size p → length (event p e s) ≡ size p
+  pub marked : (e : ℕ) → e < events p → (s : List ℕ) → length s ≡ size p → executeAll (code p e) (emptied s) .mark ≡ eventOver p e s

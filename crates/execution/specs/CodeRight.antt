@@ -8,6 +8,7 @@ use Rattle.execution.specs.Lengths.{length-code, length-counted}
 use Rattle.execution.specs.Masks.{marks}
 use Rattle.execution.specs.Quiet.{quiet}
 use Rattle.execution.specs.Right.{code-right}
+use Rattle.execution.specs.MarkRight.{code-marked}
 
 pub code-facts : (p : Program) → Valid p → CodeFacts p
 code-facts p v = record {
@@ -18,4 +19,5 @@ code-facts p v = record {
   quiet = λ e c h s l b k. quiet p e c s b k;
   right = λ e h s l. code-right p v e s l;
   kept = λ e h s l. length-event p e s;
+  marked = λ e h s l. code-marked p v e s l;
 }

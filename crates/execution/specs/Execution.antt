@@ -1,21 +1,22 @@
 -- What an instruction does. 01 "Handlers and steps".
 use Prim.Native.Nat.{ℕ, _+_}
-use mathlib.Core.Bool.{Bool, false}
+use mathlib.Core.Bool.{Bool, false, _||_}
 use mathlib.Core.Option.{Option, none, some}
 use mathlib.Core.List.{List, [], _∷_}
 use lib.ListN.{length, getD, set, drop, replicate}
 use lib.Dec.{eqb, ltb}
 use Rattle.base.specs.Basics.{pick}
-use Rattle.arith.specs.Functions.{result}
+use Rattle.arith.specs.Functions.{result, over}
 use Rattle.language.specs.Code.{Instr, off, on, copy, restore, load, fetch, save, defer, move, push, apply}
 
 -- the values that instructions work on: the store (01: board), scratch, the evaluation stack (its top in front), and the deferred values (01: the later
--- handlers' places). What is not filled is `none`.
+-- handlers' places). What is not filled is `none`. The mark says whether an application ran over since the event started (02, M-104).
 pub record Values : Type 0 where
   pub store : List ℕ
   pub scratch : List (Option ℕ)
   pub stack : List ℕ
   pub deferred : List (Option ℕ)
+  pub mark : Bool
 
 -- a value of the store, and of scratch or the deferred ones; 0 where there is none
 abbrev pub at : List ℕ → ℕ → ℕ
@@ -52,30 +53,49 @@ apply3 f (c ∷ (b ∷ (a ∷ st))) = result f a b c ∷ st
 abbrev pub applied : ℕ → List ℕ → List ℕ
 applied f st = pick (eqb f 3) (apply1 f st) (pick (eqb f 14) (apply3 f st) (apply2 f st))
 
+-- whether it runs over with the arguments that it takes
+abbrev pub over1 : ℕ → List ℕ → Bool
+over1 f [] = false
+over1 f (a ∷ st) = over f a 0 0
+
+abbrev pub over2 : ℕ → List ℕ → Bool
+over2 f [] = false
+over2 f (b ∷ []) = false
+over2 f (b ∷ (a ∷ st)) = over f a b 0
+
+abbrev pub over3 : ℕ → List ℕ → Bool
+over3 f [] = false
+over3 f (c ∷ []) = false
+over3 f (c ∷ (b ∷ [])) = false
+over3 f (c ∷ (b ∷ (a ∷ st))) = over f a b c
+
+abbrev pub overOn : ℕ → List ℕ → Bool
+overOn f st = pick (eqb f 3) (over1 f st) (pick (eqb f 14) (over3 f st) (over2 f st))
+
 abbrev pub pushed : ℕ → Values → Values
-pushed w d = record { store = d .store; scratch = d .scratch; stack = w ∷ d .stack; deferred = d .deferred }
+pushed w d = record { store = d .store; scratch = d .scratch; stack = w ∷ d .stack; deferred = d .deferred; mark = d .mark }
 
 -- "No instruction changes any other value on board, scratch, stack or those places."
 unfoldable pub execute : Instr → Values → Values
 execute off d = d
 execute on d = d
-execute (copy i) d = record { store = d .store; scratch = set (d .scratch) i (some (at (d .store) i)); stack = d .stack; deferred = d .deferred }
-execute (restore i) d = record { store = set (d .store) i (heldAt (d .scratch) i); scratch = d .scratch; stack = d .stack; deferred = d .deferred }
+execute (copy i) d = record { store = d .store; scratch = set (d .scratch) i (some (at (d .store) i)); stack = d .stack; deferred = d .deferred; mark = d .mark }
+execute (restore i) d = record { store = set (d .store) i (heldAt (d .scratch) i); scratch = d .scratch; stack = d .stack; deferred = d .deferred; mark = d .mark }
 execute (load i) d = pushed (at (d .store) i) d
 execute (fetch i) d = pushed (heldAt (d .scratch) i) d
 execute (push w) d = pushed w d
-execute (apply f) d = record { store = d .store; scratch = d .scratch; stack = applied f (d .stack); deferred = d .deferred }
-execute (save i) d = record { store = d .store; scratch = set (d .scratch) i (some (top (d .stack))); stack = drop 1 (d .stack); deferred = d .deferred }
-execute (defer i) d = record { store = d .store; scratch = d .scratch; stack = drop 1 (d .stack); deferred = set (d .deferred) i (some (top (d .stack))) }
-execute (move i) d = record { store = d .store; scratch = set (d .scratch) i (some (heldAt (d .deferred) i)); stack = d .stack; deferred = d .deferred }
+execute (apply f) d = record { store = d .store; scratch = d .scratch; stack = applied f (d .stack); deferred = d .deferred; mark = overOn f (d .stack) || d .mark }
+execute (save i) d = record { store = d .store; scratch = set (d .scratch) i (some (top (d .stack))); stack = drop 1 (d .stack); deferred = d .deferred; mark = d .mark }
+execute (defer i) d = record { store = d .store; scratch = d .scratch; stack = drop 1 (d .stack); deferred = set (d .deferred) i (some (top (d .stack))); mark = d .mark }
+execute (move i) d = record { store = d .store; scratch = set (d .scratch) i (some (heldAt (d .deferred) i)); stack = d .stack; deferred = d .deferred; mark = d .mark }
 
 unfoldable pub executeAll : List Instr → Values → Values
 executeAll [] d = d
 executeAll (i ∷ is) d = executeAll is (execute i d)
 
--- an event starts with scratch, stack and deferred values empty
+-- an event starts with scratch, stack and deferred values empty, and with no mark: "What a broken-in handler found is dropped with its scratch."
 unfoldable pub emptied : List ℕ → Values
-emptied s = record { store = s; scratch = replicate (length s) none; stack = []; deferred = replicate (length s) none }
+emptied s = record { store = s; scratch = replicate (length s) none; stack = []; deferred = replicate (length s) none; mark = false }
 
 -- ---- masking. "Interrupts are masked between off and on. Copy-back runs from after the second off to the end of the second on".
 

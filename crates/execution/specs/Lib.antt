@@ -10,6 +10,7 @@ pub mod Quiet
 pub mod Responses
 pub mod Simulation
 pub mod Right
+pub mod MarkRight
 pub mod CodeRight
 pub mod SafeParts
 pub mod SafeLaws

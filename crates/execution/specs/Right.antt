@@ -27,7 +27,7 @@ use Rattle.execution.specs.Masks.{copies, restores, code-shape}
 use Rattle.execution.specs.Simulation.{View, first-one, again-one, Waits, later-one, LaterOne, move-one, MoveOne, Copied, copy-one, Restored, restore-one}
 
 module _ (p : Program) (v : Valid p) (e : ℕ) (s : List ℕ) where
-  abbrev Seen : Values → List ℕ → Type 0
+  abbrev pub Seen : Values → List ℕ → Type 0
   Seen d t = View (size p) (inC p e) s d t
 
   -- turn by turn
@@ -40,11 +40,11 @@ module _ (p : Program) (v : Valid p) (e : ℕ) (s : List ℕ) where
         rw (execute-append (f i (response p e i)) (inOrder p e f is) d)
         (turns is (a .1) (executeAll (f i (response p e i)) d) (g i (response p e i) t) (one d t i (a .0) h))
 
-  below : All (λ i. i < size p) (phaseOne p e)
+  pub below : All (λ i. i < size p) (phaseOne p e)
   below = all-imp _ _ (λ i h. h .0) (phaseOne p e) (phaseOne-early p e (v .known))
 
   -- phase one
-  after-first : (d : Values) (t : List ℕ) → Seen d t → Seen (executeAll (inOrder p e (firstCode (inC p e)) (phaseOne p e)) d) (firstPhase p e t)
+  pub after-first : (d : Values) (t : List ℕ) → Seen d t → Seen (executeAll (inOrder p e (firstCode (inC p e)) (phaseOne p e)) d) (firstPhase p e t)
   unfolding firstPhase
   after-first =
       turns (firstCode (inC p e)) firstStep (λ d t i. first-one (size p) (inC p e) s d t i (response p e i) (response-fits p v e i) refl) (phaseOne p e) below
@@ -55,10 +55,10 @@ module _ (p : Program) (v : Valid p) (e : ℕ) (s : List ℕ) where
 
   -- later handlers: all their values wait, of one store t
   module _ (t : List ℕ) where
-    abbrev Wait : List (Option ℕ) → ℕ → Type 0
+    abbrev pub Wait : List (Option ℕ) → ℕ → Type 0
     Wait places i = Waits (size p) (inC p e) s t places i (response p e i)
 
-    abbrev Later : ℕ → Values → Type 0
+    abbrev pub Later : ℕ → Values → Type 0
     Later k d = Seen d t × ((i : ℕ) → i < k → Wait (d .deferred) i)
 
     later-on : (k : ℕ) → k < size p → (d : Values) → Later k d → Later (suc k) (executeAll (laterCode (inC p e) k (response p e k)) d)
@@ -67,7 +67,7 @@ module _ (p : Program) (v : Valid p) (e : ℕ) (s : List ℕ) where
         later-one (size p) (inC p e) s d t k (response p e k) (response-fits p v e k) b (h .0) in
         (o .0, λ i l. by-cases (ℕ-discrete i k) (λ q. rw q (o .1)) (λ q. o .2 i (response p e i) q (h .1 i (omega arith))))
 
-    after-later : (d : Values) → Seen d t → Later (size p) (executeAll (byNumber p e (laterCode (inC p e))) d)
+    pub after-later : (d : Values) → Seen d t → Later (size p) (executeAll (byNumber p e (laterCode (inC p e))) d)
     after-later d h = parts (size p) _ Later later-on d (h, λ i l. absurd (omega arith))
 
     -- moves: below k the view has the waiting values
@@ -87,7 +87,7 @@ module _ (p : Program) (v : Valid p) (e : ℕ) (s : List ℕ) where
           λ i l. o .3 i (omega arith) ∙ h .4 i (omega arith),
         )
 
-    after-moves : (d : Values) → Later (size p) d → Seen (executeAll (byNumber p e moveCode) d) (settle p e t)
+    pub after-moves : (d : Values) → Later (size p) d → Seen (executeAll (byNumber p e moveCode) d) (settle p e t)
     unfolding settle
     after-moves d h =
         let m : Moved (size p) (executeAll (byNumber p e moveCode) d) = parts (size p) _ Moved move-on d (t, h .0, h .1, λ i l. absurd (omega arith), λ i l. refl) in
@@ -111,7 +111,7 @@ module _ (p : Program) (v : Valid p) (e : ℕ) (s : List ℕ) where
 
   module _ (sized : length s ≡ size p) where
     -- copies
-    after-copies : Seen (executeAll (copies p e) (emptied s)) s
+    pub after-copies : Seen (executeAll (copies p e) (emptied s)) s
     unfolding emptied
     after-copies =
         let m : Copied (size p) (inC p e) s (size p) (executeAll (copies p e) (emptied s)) =

@@ -1,7 +1,7 @@
 -- What the abstract check says of running: a prefix leaves the rest safe, and execution keeps the values filled exactly as the check has it, instruction by
 -- instruction. And that an event's code passes it.
 use Prim.Native.Nat.{ℕ, zero, suc, _+_, _-_, _≤_, _<_}
-use mathlib.Core.Bool.{Bool, true, false, false≢true}
+use mathlib.Core.Bool.{Bool, true, false, _||_, false≢true}
 use mathlib.Core.Path.{_≡_, refl, sym, ap, subst, _∙_}
 use mathlib.Core.Logic.{by-cases}
 use mathlib.Core.Option.{Option, none, some}
@@ -16,7 +16,7 @@ use Rattle.language.specs.Syntax.{Program}
 use Rattle.language.specs.Dependence.{size}
 use Rattle.language.specs.Accepted.{Valid}
 use Rattle.language.specs.Code.{code, Instr, off, on, copy, restore, load, fetch, save, defer, move, push, apply}
-use Rattle.execution.specs.Execution.{Values, at, heldAt, top, apply1, apply2, apply3, applied, execute, executeAll, emptied}
+use Rattle.execution.specs.Execution.{Values, at, heldAt, top, apply1, apply2, apply3, applied, overOn, execute, executeAll, emptied}
 use Rattle.execution.specs.Safe.{Filled, start, arity, Ok, withDepth, next, after, Safe, full, Matches}
 use Rattle.execution.specs.SafeParts.{passes}
 
@@ -62,7 +62,7 @@ length-applied f st h =
 module _ (d : Values) (a : Filled) where
   -- scratch place i filled, the stack changed
   scratch-matches : (i w : ℕ) (st : List ℕ) (n : ℕ) → i < length (a .scratch) → length st ≡ n → Matches d a
-      → Matches (record { store = d .store; scratch = set (d .scratch) i (some w); stack = st; deferred = d .deferred })
+      → Matches (record { store = d .store; scratch = set (d .scratch) i (some w); stack = st; deferred = d .deferred; mark = d .mark })
       (record { scratch = set (a .scratch) i true; deferred = a .deferred; depth = n })
   scratch-matches i w st n b e m = record {
     stored = m .stored ∙ sym (length-set (a .scratch) i true);
@@ -74,7 +74,7 @@ module _ (d : Values) (a : Filled) where
   }
 
   place-matches : (i w : ℕ) (st : List ℕ) (n : ℕ) → i < length (a .deferred) → length st ≡ n → Matches d a
-      → Matches (record { store = d .store; scratch = d .scratch; stack = st; deferred = set (d .deferred) i (some w) })
+      → Matches (record { store = d .store; scratch = d .scratch; stack = st; deferred = set (d .deferred) i (some w); mark = d .mark })
       (record { scratch = a .scratch; deferred = set (a .deferred) i true; depth = n })
   place-matches i w st n b e m = record {
     stored = m .stored;
@@ -85,9 +85,9 @@ module _ (d : Values) (a : Filled) where
     in-places = full-set (d .deferred) (a .deferred) i w (m .places) b (m .in-places);
   }
 
-  stack-matches : (st : List ℕ) (n : ℕ) → length st ≡ n → Matches d a
-      → Matches (record { store = d .store; scratch = d .scratch; stack = st; deferred = d .deferred }) (withDepth n a)
-  stack-matches st n e m = record {
+  stack-matches : (st : List ℕ) (n : ℕ) (b : Bool) → length st ≡ n → Matches d a
+      → Matches (record { store = d .store; scratch = d .scratch; stack = st; deferred = d .deferred; mark = b }) (withDepth n a)
+  stack-matches st n b e m = record {
     stored = m .stored;
     scratched = m .scratched;
     places = m .places;
@@ -97,7 +97,7 @@ module _ (d : Values) (a : Filled) where
   }
 
   store-matches : (l : List ℕ) → length l ≡ length (d .store) → Matches d a
-      → Matches (record { store = l; scratch = d .scratch; stack = d .stack; deferred = d .deferred }) a
+      → Matches (record { store = l; scratch = d .scratch; stack = d .stack; deferred = d .deferred; mark = d .mark }) a
   store-matches l e m = record {
     stored = e ∙ m .stored;
     scratched = m .scratched;
@@ -113,16 +113,16 @@ next-matches off d a k m = m
 next-matches on d a k m = m
 next-matches (copy i) d a k m = scratch-matches d a i (at (d .store) i) (d .stack) (a .depth) k (m .stacked) m
 next-matches (restore i) d a k m = store-matches d a (set (d .store) i (heldAt (d .scratch) i)) (length-set (d .store) i (heldAt (d .scratch) i)) m
-next-matches (load i) d a k m = stack-matches d a (at (d .store) i ∷ d .stack) (a .depth + 1) (omega (arith, m .stacked)) m
-next-matches (fetch i) d a k m = stack-matches d a (heldAt (d .scratch) i ∷ d .stack) (a .depth + 1) (omega (arith, m .stacked)) m
+next-matches (load i) d a k m = stack-matches d a (at (d .store) i ∷ d .stack) (a .depth + 1) (d .mark) (omega (arith, m .stacked)) m
+next-matches (fetch i) d a k m = stack-matches d a (heldAt (d .scratch) i ∷ d .stack) (a .depth + 1) (d .mark) (omega (arith, m .stacked)) m
 next-matches (save i) d a k m =
     scratch-matches d a i (top (d .stack)) (drop 1 (d .stack)) (a .depth - 1) (k .0) (length-drop 1 (d .stack) ∙ ap (λ n. n - 1) (m .stacked)) m
 next-matches (defer i) d a k m =
     place-matches d a i (top (d .stack)) (drop 1 (d .stack)) (a .depth - 1) (k .0) (length-drop 1 (d .stack) ∙ ap (λ n. n - 1) (m .stacked)) m
 next-matches (move i) d a k m = scratch-matches d a i (heldAt (d .deferred) i) (d .stack) (a .depth) (k .0) (m .stacked) m
-next-matches (push w) d a k m = stack-matches d a (w ∷ d .stack) (a .depth + 1) (omega (arith, m .stacked)) m
+next-matches (push w) d a k m = stack-matches d a (w ∷ d .stack) (a .depth + 1) (d .mark) (omega (arith, m .stacked)) m
 next-matches (apply f) d a k m =
-    stack-matches d a (applied f (d .stack)) (a .depth - arity f + 1)
+    stack-matches d a (applied f (d .stack)) (a .depth - arity f + 1) (overOn f (d .stack) || d .mark)
     (length-applied f (d .stack) (rw (m .stacked) (k .2)) ∙ ap (λ n. n - arity f + 1) (m .stacked)) m
 
 pub after-matches : (xs ys : List Instr) (d : Values) (a : Filled) → Safe a (xs ++ ys) → Matches d a → Matches (executeAll xs d) (after a xs)

@@ -16,9 +16,10 @@ use Rattle.language.specs.Grammar.{Nested}
 use Rattle.language.specs.Accepted.{NamesIn}
 use Rattle.language.specs.Code.{copy, restore, save, defer, postfix, ofC, firstCode, laterCode, moveCode, againCode, copied}
 use Rattle.semantics.specs.Meaning.{value, firstStep, laterValue, againStep}
+use Rattle.semantics.specs.OverMeaning.{overIn}
 use Rattle.execution.specs.Execution.{Values, at, held, heldAt, execute, executeAll}
 use Rattle.execution.specs.Responses.{ResponseFits}
-use Rattle.execution.specs.Running.{looked, run-postfix, value-same}
+use Rattle.execution.specs.Running.{looked, noted, run-postfix, value-same}
 
 -- the values are those of a store t, seen through scratch where c says so; the store itself is still s
 pub record View (n : ℕ) (c : ℕ → Bool) (s : List ℕ) (d : Values) (t : List ℕ) : Type 0 where
@@ -31,7 +32,7 @@ pub record View (n : ℕ) (c : ℕ → Bool) (s : List ℕ) (d : Values) (t : Li
 
 -- w put in place i of scratch
 abbrev pub filled : ℕ → ℕ → Values → Values
-filled i w d = record { store = d .store; scratch = set (d .scratch) i (some w); stack = d .stack; deferred = d .deferred }
+filled i w d = record { store = d .store; scratch = set (d .scratch) i (some w); stack = d .stack; deferred = d .deferred; mark = d .mark }
 
 -- one place filled where scratch counts: the view has the new value there and the old ones elsewhere
 pub look-same : (c : ℕ → Bool) (d : Values) (i w : ℕ) → i < length (d .scratch) → c i ≡ true → looked c (filled i w d) i ≡ w
@@ -53,12 +54,17 @@ module _ (n : ℕ) (c : ℕ → Bool) (s : List ℕ) where
         (λ e. look-other c d i j w e ∙ v .seen j h ∙ sym (getD-set-other t i j w 0 e));
   }
 
+  -- a mark changes no value
+  view-noted : (m : Bool) (d : Values) (t : List ℕ) → View n c s d t → View n c s (noted m d) t
+  view-noted m d t v = record { kept = v .kept; scratched = v .scratched; places = v .places; empty = v .empty; sized = v .sized; seen = v .seen }
+
   -- code of an expression and then a save: the meaning's store takes the value there
   view-save : (d : Values) (t : List ℕ) (i : ℕ) (x : Expr) (k : ℕ) → Nested k x → NamesIn n x → i < n → c i ≡ true → View n c s d t
       → View n c s (executeAll (postfix c x ++ (save i ∷ [])) d) (set t i (value (at t) x))
   unfolding executeAll execute
   view-save d t i x k h names b inside v =
-      rw (run-postfix c h (save i ∷ []) d, value-same n (looked c d) (at t) (v .seen) x names) (view-fill d t i (value (at t) x) b inside v)
+      let o = overIn (looked c d) x in
+      rw (run-postfix c h (save i ∷ []) d, value-same n (looked c d) (at t) (v .seen) x names) (view-fill (noted o d) t i (value (at t) x) b inside (view-noted o d t v))
 
   -- ---- phase one, and the second time
 
@@ -98,7 +104,7 @@ module _ (n : ℕ) (c : ℕ → Bool) (s : List ℕ) where
 
   -- w put in place i of the deferred values
   abbrev deferred : ℕ → ℕ → Values → Values
-  deferred i w d = record { store = d .store; scratch = d .scratch; stack = d .stack; deferred = set (d .deferred) i (some w) }
+  deferred i w d = record { store = d .store; scratch = d .scratch; stack = d .stack; deferred = set (d .deferred) i (some w); mark = d .mark }
 
   later-defers : (d : Values) (t : List ℕ) (i w : ℕ) (x : Expr) → w ≡ value (at t) x → i < n → View n c s d t → LaterOne t d (deferred i w d) i (defers x)
   later-defers d t i w x e b v = (
@@ -112,7 +118,9 @@ module _ (n : ℕ) (c : ℕ → Bool) (s : List ℕ) where
   later-one d t i (follows x) h b v = (v, tt, λ j q m k. k)
   later-one d t i (takes x) h b v = (v, tt, λ j q m k. k)
   later-one d t i (defers x) h b v =
-      rw (run-postfix c (h .0) (defer i ∷ []) d) (later-defers d t i (value (looked c d) x) x (value-same n (looked c d) (at t) (v .seen) x (h .1)) b v)
+      let o = overIn (looked c d) x in
+      rw (run-postfix c (h .0) (defer i ∷ []) d)
+      (later-defers (noted o d) t i (value (looked c d) x) x (value-same n (looked c d) (at t) (v .seen) x (h .1)) b (view-noted o d t v))
   later-one d t i keeps h b v = (v, tt, λ j q m k. k)
 
   -- ---- moves
@@ -180,7 +188,7 @@ module _ (n : ℕ) (c : ℕ → Bool) (s : List ℕ) where
 
     -- w put in place i of the store
     abbrev written : ℕ → ℕ → Values → Values
-    written i w d = record { store = set (d .store) i w; scratch = d .scratch; stack = d .stack; deferred = d .deferred }
+    written i w d = record { store = set (d .store) i w; scratch = d .scratch; stack = d .stack; deferred = d .deferred; mark = d .mark }
 
     restore-member : (d : Values) (k : ℕ) → true ≡ c k → k < n → Restored k d → Restored (suc k) (written k (heldAt (d .scratch) k) d)
     restore-member d k inside b v =

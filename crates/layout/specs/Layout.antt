@@ -4,7 +4,7 @@
 -- code, members of C; from word 136 on each behaviour's value in a fresh round; from word 512 on two words for each of 4,096 instructions:
 -- operation * 256 + slot, and a constant.
 -- Round (2,048 bytes): word 0 number taken in, 1 waiting count, 2 whether one runs, 3 its event, 4 its number, 5 its count of instructions done, 6 depth of the
--- evaluation stack; from 8 on the queue, number and event of each of 64 waiting; from 136 the store (01: board), 200 scratch, 264 deferred values (01: places),
+-- evaluation stack, 7 its mark: not 0 where one of its applications ran over (02, M-104); from 8 on the queue, number and event of each of 64 waiting; from 136 the store (01: board), 200 scratch, 264 deferred values (01: places),
 -- 328 the evaluation stack, 64 words each.
 use Prim.Native.Nat.{ℕ, zero, suc, _+_, _*_, _-_}
 use mathlib.Core.Bool.{Bool, true, false}
@@ -63,6 +63,9 @@ position l = get l 5
 
 abbrev pub depth : List ℕ → ℕ
 depth l = get l 6
+
+abbrev pub markWord : List ℕ → ℕ
+markWord l = get l 7
 
 abbrev pub numberAt : List ℕ → ℕ → ℕ
 numberAt l i = get l (8 + i * 2)

@@ -1,6 +1,7 @@
 -- Demand 2, first sentence, of the model engine: in an idle engine, an event that is taken in and stepped alone to its commit leaves the store of its meaning.
 -- By induction on the instructions left: nothing waits, so each step is the next instruction.
 use Prim.Native.Nat.{ℕ, zero, suc, _+_, _-_, _≤_, _<_}
+use mathlib.Core.Bool.{Bool}
 use mathlib.Core.Path.{_≡_, refl, sym, ap, _∙_, subst}
 use mathlib.Core.List.{List, [], _∷_, _++_}
 use native.Mathlib.Omega.{arith}
@@ -25,7 +26,7 @@ module _ (p : Program) where
   step-ran t a c d h = rw (lt-ltb (c + 1) (length (code p (a .event))) h) (refl, refl)
 
   step-last : (t : ℕ) (a : Arrival) (c : ℕ) (d : Values) → length (code p (a .event)) ≤ c + 1
-      → (act p step (engine t [] (busy a c) d) .answer ≡ committed a) × (act p step (engine t [] (busy a c) d) .after ≡ engine t [] rest (execute (getD (code p (a .event)) c off) d))
+      → (act p step (engine t [] (busy a c) d) .answer ≡ committed a (execute (getD (code p (a .event)) c off) d .mark)) × (act p step (engine t [] (busy a c) d) .after ≡ engine t [] rest (execute (getD (code p (a .event)) c off) d))
   unfolding act
   step-last t a c d h = rw (le-ltb (c + 1) (length (code p (a .event))) h) (refl, refl)
 
@@ -39,24 +40,27 @@ module _ (p : Program) where
 
     -- k instructions and the last
     finish : (k c : ℕ) (d : Values) → c + suc k ≡ length is
-        → (answers p (replicate (suc k) step) (engine t [] (busy a c) d) ≡ replicate k ran ++ (committed a ∷ []))
+        → (answers p (replicate (suc k) step) (engine t [] (busy a c) d) ≡ replicate k ran ++ (committed a (executeAll (drop c is) d .mark) ∷ []))
         × (run p (replicate (suc k) step) (engine t [] (busy a c) d) ≡ engine t [] rest (executeAll (drop c is) d))
     unfolding answers run executeAll
     finish zero c d h =
         let s = step-last t a c d (omega arith) in
         let b : length is ≤ c + 1 = omega arith in
         let z : drop (c + 1) is ≡ [] = drop-of-length-le is b in
-        (rw (s .0), rw (s .1, rest-of c d (omega arith), z))
+        (rw (s .0, rest-of c d (omega arith), z), rw (s .1, rest-of c d (omega arith), z))
     finish (suc k) c d h =
         let s = step-ran t a c d (omega arith) in
         let ih = finish k (c + 1) (execute (getD is c off) d) (omega arith) in
-        (rw (s .0, s .1, ih .0), ap (run p (replicate (suc k) step)) (s .1) ∙ ih .1 ∙ ap (engine t [] rest) (sym (rest-of c d (omega arith))))
+        (rw (s .0, s .1, ih .0, rest-of c d (omega arith)), ap (run p (replicate (suc k) step)) (s .1) ∙ ih .1 ∙ ap (engine t [] rest) (sym (rest-of c d (omega arith))))
 
   -- the answers to those calls, and the store after them
-  abbrev pub aloneAnswers : ℕ → ℕ → List Answer
-  aloneAnswers t e = takenIn ∷ started (arrival t e) ∷ (replicate (length (code p e) - 1) ran ++ (committed (arrival t e) ∷ []))
+  abbrev pub aloneAnswers : ℕ → ℕ → Bool → List Answer
+  aloneAnswers t e m = takenIn ∷ started (arrival t e) ∷ (replicate (length (code p e) - 1) ran ++ (committed (arrival t e) m ∷ []))
 
   module _ (facts : CodeFacts p) (t e : ℕ) (d : Values) (declared : e < events p) (room : t < 1000000) (whole : length (d .store) ≡ size p) where
+    abbrev marked : Bool
+    marked = executeAll (code p e) (emptied (d .store)) .mark
+
     -- the arrival, the start, and k instructions and the last
     taken-in : act p (arrive e) (engine t [] rest d) ≡ outcome takenIn (engine (t + 1) (arrival t e ∷ []) rest d)
     unfolding act
@@ -67,7 +71,7 @@ module _ (p : Program) where
     starts = refl
 
     said-alone : (k : ℕ) → suc k ≡ length (code p e)
-        → answers p (arrive e ∷ step ∷ replicate (suc k) step) (engine t [] rest d) ≡ takenIn ∷ started (arrival t e) ∷ (replicate k ran ++ (committed (arrival t e) ∷ []))
+        → answers p (arrive e ∷ step ∷ replicate (suc k) step) (engine t [] rest d) ≡ takenIn ∷ started (arrival t e) ∷ (replicate k ran ++ (committed (arrival t e) marked ∷ []))
     unfolding answers
     said-alone k n =
         let f = finish (t + 1) (arrival t e) k 0 (emptied (d .store)) (omega arith) in
@@ -84,13 +88,13 @@ module _ (p : Program) where
         ∙ ap (λ (o : Outcome). run p (replicate (suc k) step) (o .after)) starts
         ∙ f .1
 
-    pub alone : (answers p (aloneCalls p e) (engine t [] rest d) ≡ aloneAnswers t e)
+    pub alone : (answers p (aloneCalls p e) (engine t [] rest d) ≡ aloneAnswers t e marked)
         × (run p (aloneCalls p e) (engine t [] rest d) ≡ engine (t + 1) [] rest (executeAll (code p e) (emptied (d .store))))
         × (executeAll (code p e) (emptied (d .store)) .store ≡ event p e (d .store))
     alone =
         let k : ℕ = length (code p e) - 1 in
         let n : suc k ≡ length (code p e) = omega (arith, facts .long e declared) in (
-          subst (λ (m : ℕ). answers p (arrive e ∷ step ∷ replicate m step) (engine t [] rest d) ≡ aloneAnswers t e) n (said-alone k n),
+          subst (λ (m : ℕ). answers p (arrive e ∷ step ∷ replicate m step) (engine t [] rest d) ≡ aloneAnswers t e marked) n (said-alone k n),
           subst (λ (m : ℕ). run p (arrive e ∷ step ∷ replicate m step) (engine t [] rest d) ≡ engine (t + 1) [] rest (executeAll (code p e) (emptied (d .store)))) n (run-alone k n),
           facts .right e declared (d .store) whole,
         )

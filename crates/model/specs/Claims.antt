@@ -13,6 +13,7 @@ use Rattle.language.specs.Dependence.{size, events, Independent}
 use Rattle.language.specs.Code.{code}
 use Rattle.language.specs.Order.{upTo}
 use Rattle.semantics.specs.Meaning.{fresh, play}
+use Rattle.semantics.specs.OverMeaning.{eventOver}
 use Rattle.execution.specs.Execution.{at, copyingBackAfter}
 use Rattle.model.specs.Model.{Arrival, arrival, rest, busy, Engine, engine, initial, queue, Call, arrive, step, board, Answer, refused, takenIn, shows, idle, ran, started, preempted, committed, rank, settling, act, run, answers}
 
@@ -27,7 +28,7 @@ ifCommitted idle l = l
 ifCommitted ran l = l
 ifCommitted (started a) l = l
 ifCommitted (preempted a) l = l
-ifCommitted (committed a) l = a ∷ l
+ifCommitted (committed a m) l = a ∷ l
 
 unfoldable pub commits : List Answer → List Arrival
 commits [] = []
@@ -42,7 +43,7 @@ ifTaken (arrive e) idle n l = l n
 ifTaken (arrive e) ran n l = l n
 ifTaken (arrive e) (started a) n l = l n
 ifTaken (arrive e) (preempted a) n l = l n
-ifTaken (arrive e) (committed a) n l = l n
+ifTaken (arrive e) (committed a m) n l = l n
 ifTaken step a n l = l n
 ifTaken (board i) a n l = l n
 
@@ -217,7 +218,7 @@ unlessRefused idle x = x
 unlessRefused ran x = x
 unlessRefused (started a) x = x
 unlessRefused (preempted a) x = x
-unlessRefused (committed a) x = x
+unlessRefused (committed a m) x = x
 
 -- "the value that the board would show after this arrival and everything in hand had been run to idle .. turned down as the arrival would be, then by 18"
 abbrev pub previewed : Program → Engine → ℕ → ℕ → Answer
@@ -232,3 +233,12 @@ PreviewRight p cs =
     → number (after p (cs ++ (arrive e ∷ ds))) ≡ number (after p cs) + 1
     → Idle p (after p (cs ++ (arrive e ∷ ds)))
     → previewed p (after p cs) e i ≡ shows (at (storeOf (after p (cs ++ (arrive e ∷ ds)))) i)
+
+-- ---- document 02, M-104
+
+-- "the committing step's answer carries a mark: set exactly if some application in that event's meaning did so": of a step called after the list, a declared event's, on the
+-- store of the events committed by then
+abbrev pub MarkRight : Program → List Call → Type 0
+MarkRight p cs =
+    (a : Arrival) (m : Bool) → act p step (after p cs) .answer ≡ committed a m
+    → (a .event < events p) × (m ≡ eventOver p (a .event) (play p (map (λ (x : Arrival). x .event) (committedIn p cs)) (fresh p)))

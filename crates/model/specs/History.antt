@@ -37,7 +37,7 @@ commits-logged c idle n log l = refl
 commits-logged c ran n log l = refl
 commits-logged c (started a) n log l = refl
 commits-logged c (preempted a) n log l = refl
-commits-logged c (committed a) n log l = sym (append-assoc log (a ∷ []) l)
+commits-logged c (committed a m) n log l = sym (append-assoc log (a ∷ []) l)
 
 -- with no newcomer
 none-gathered : (x : Answer) (n : ℕ) (taken : List Arrival) (l : ℕ → List Arrival)
@@ -49,7 +49,7 @@ none-gathered idle n taken l = refl
 none-gathered ran n taken l = refl
 none-gathered (started a) n taken l = refl
 none-gathered (preempted a) n taken l = refl
-none-gathered (committed a) n taken l = refl
+none-gathered (committed a m) n taken l = refl
 
 pub taken-gathered : (c : Call) (x : Answer) (n : ℕ) (taken : List Arrival) (l : ℕ → List Arrival)
     → taken ++ ifTaken c x n l ≡ gathered (effect c x n) taken ++ l (counted (effect c x n) n)
@@ -62,7 +62,7 @@ taken-gathered (arrive e) idle n taken l = refl
 taken-gathered (arrive e) ran n taken l = refl
 taken-gathered (arrive e) (started a) n taken l = refl
 taken-gathered (arrive e) (preempted a) n taken l = refl
-taken-gathered (arrive e) (committed a) n taken l = refl
+taken-gathered (arrive e) (committed a m) n taken l = refl
 taken-gathered step x n taken l = none-gathered x n taken l
 taken-gathered (board i) x n taken l = none-gathered x n taken l
 

@@ -12,6 +12,7 @@ pub mod Settles
 pub mod Waits
 pub mod Quiet
 pub mod Previews
+pub mod Marks
 pub mod Confluence
 pub mod SameBoard
 pub mod ModelHolds

@@ -28,7 +28,7 @@ pub data Running : Type 0 where
   rest : Running
   busy : Arrival → ℕ → Running
 
--- the number taken in, the waiting arrivals, the running one, and the values (01: board, scratch, evaluation stack, the later handlers' places)
+-- the number taken in, the waiting arrivals, the running one, and the values (01: board, scratch, evaluation stack, the later handlers' places; 02, M-104: the mark)
 pub data Engine : Type 0 where
   engine : ℕ → List Arrival → Running → Values → Engine
 
@@ -56,7 +56,7 @@ pub data Answer : Type 0 where
   ran : Answer  -- one instruction
   started : Arrival → Answer  -- the next starts
   preempted : Arrival → Answer  -- the next starts, and the running one goes back to the hand (01: breaks in)
-  committed : Arrival → Answer  -- one instruction, the last
+  committed : Arrival → Bool → Answer  -- one instruction, the last; and whether the event ran over (02, M-104)
 
 -- an answer, and the engine after the call
 pub record Outcome : Type 0 where
@@ -108,11 +108,12 @@ module _ (p : Program) where
   begin t c d = engine t (c .others) (busy (c .next) 0) (emptied (d .store))
 
   -- "An instruction is the one at that count in the event's list, and the count grows by one; after the last, nothing runs."
+  -- M-104: "the committing step's answer carries a mark"
   abbrev pub advance : ℕ → List Arrival → Arrival → ℕ → Values → Outcome
   advance t waiting a c d =
       pick (ltb (c + 1) (length (code p (a .event))))
       (outcome ran (engine t waiting (busy a (c + 1)) (execute (getD (code p (a .event)) c off) d)))
-      (outcome (committed a) (engine t waiting rest (execute (getD (code p (a .event)) c off) d)))
+      (outcome (committed a (execute (getD (code p (a .event)) c off) d .mark)) (engine t waiting rest (execute (getD (code p (a .event)) c off) d)))
 
   -- something waits, the next being c, and a runs: it goes back to the hand under its old number where something outranks it, unmasked
   abbrev pub contest : ℕ → List Arrival → Chosen → Arrival → ℕ → Values → Outcome

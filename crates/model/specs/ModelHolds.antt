@@ -8,7 +8,7 @@ use Rattle.language.specs.Dependence.{size, events, Independent}
 use Rattle.semantics.specs.Meaning.{event}
 use Rattle.execution.specs.CodeFacts.{CodeFacts}
 use Rattle.model.specs.Model.{Call}
-use Rattle.model.specs.Claims.{BoardOfCommits, OnceEach, EqualsInOrder, LowerFirst, SettlesIn, SameBoard, NobodyWaits, QuietExactly, PreviewRight}
+use Rattle.model.specs.Claims.{BoardOfCommits, OnceEach, EqualsInOrder, LowerFirst, SettlesIn, SameBoard, NobodyWaits, QuietExactly, PreviewRight, MarkRight}
 use Rattle.model.specs.Boards as boards
 use Rattle.model.specs.Once as once
 use Rattle.model.specs.Equals as equals
@@ -18,6 +18,7 @@ use Rattle.model.specs.Waits as waits
 use Rattle.model.specs.SameBoard as same
 use Rattle.model.specs.Quiet as quiet
 use Rattle.model.specs.Previews as previews
+use Rattle.model.specs.Marks as marks
 
 module _ (p : Program) (facts : CodeFacts p) where
   pub board-of-commits : (cs : List Call) → BoardOfCommits p cs
@@ -48,3 +49,6 @@ module _ (p : Program) (facts : CodeFacts p) where
 
   pub preview-right : (cs : List Call) → PreviewRight p cs
   preview-right = previews.preview-right p facts
+
+  pub mark-right : (cs : List Call) → MarkRight p cs
+  mark-right = marks.mark-right p facts

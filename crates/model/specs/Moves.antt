@@ -36,7 +36,7 @@ said-by idle x = nothing
 said-by ran x = nothing
 said-by (started a) x = nothing
 said-by (preempted a) x = nothing
-said-by (committed a) x = commit a
+said-by (committed a m) x = commit a
 
 -- of a call with this answer, n arrivals having been taken in
 abbrev pub effect : Call → Answer → ℕ → Effect

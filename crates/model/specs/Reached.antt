@@ -94,7 +94,7 @@ module _ (p : Program) where
 
   -- ---- values
 
-  executed-next : (is : List Instr) (c : ℕ) (d v : Values) → c < length is → d ≡ executeAll (take c is) v
+  pub executed-next : (is : List Instr) (c : ℕ) (d v : Values) → c < length is → d ≡ executeAll (take c is) v
       → execute (getD is c off) d ≡ executeAll (take (c + 1) is) v
   unfolding executeAll
   executed-next is c d v h q =

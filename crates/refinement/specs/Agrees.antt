@@ -1,7 +1,7 @@
 -- Each call on the bytes agrees with the model's: it is never foreign, the bytes' choice is the model's, and each outcome stands for the model's engine.
 -- By clauses on the engine, following the same tests on both sides.
 use Prim.Native.Nat.{ℕ, zero, suc, _+_, _-_, _/_, _%_, _≤_, _<_}
-use mathlib.Core.Bool.{Bool, true, false}
+use mathlib.Core.Bool.{Bool, true, false, not}
 use mathlib.Core.Path.{_≡_, refl, sym, ap, _∙_, subst}
 use mathlib.Core.List.{List, [], _∷_}
 use mathlib.Core.List.{List·Permᴰ, List·Permᴰ·cons, List·Permᴰ·trans, Permᴰ·map, Permᴰ·symm}
@@ -35,7 +35,7 @@ use Rattle.arrivals.specs.Arrivals.{full, arriveWith, arriveIn, arriveOn}
 use Rattle.board.specs.Board.{copyingBack, masked, settling, boardWith, boardIn, boardOn}
 use Rattle.advance.specs.Advance as advancing
 use Rattle.dispatch.specs.Dispatch.{said, startAt, preemptAt}
-use Rattle.advance.specs.Advance.{countOn, executeOn, executeAt}
+use Rattle.advance.specs.Advance.{overMark, commitSaid, countOn, executeOn, executeAt}
 use Rattle.machine.specs.Machine.{meet, contest, running, resting, stepWith, stepIn, stepOn}
 use Rattle.refinement.specs.Refinement.{coded, slots, callOn}
 use Rattle.refinement.specs.Slots.{slot, slots-same, slots-swap, take-out, reads, kept-all, kept-put, kept-slot, kept-run}
@@ -59,6 +59,15 @@ masked-is len m c h = rw (copying-is len m c h) (ap (λ (x : Bool). pick (copyin
         let z : suc c - 1 ≡ c = omega arith in
         let y : m + 1 ≡ suc m = omega arith in
         rw (ne-eqb (suc c) 0 (omega arith), z, y) (sym (leb·suc-suc c m))
+
+-- a commit's answer, by the mark in the bytes
+commit-coded : (a : Arrival) (w : ℕ) (b : Bool) → not (eqb w 0) ≡ b → commitSaid (a .number) (a .event) w ≡ coded (model.committed a b)
+unfolding commitSaid
+commit-coded a w b h = subst (λ (x : Bool). commitSaid (a .number) (a .event) w ≡ coded (model.committed a x)) h (turned (eqb w 0))
+  where
+    turned : (t : Bool) → pick t (said 3 (a .number) (a .event)) (overMark + said 3 (a .number) (a .event)) ≡ coded (model.committed a (not t))
+    turned true = refl
+    turned false = refl
 
 slots-fit : (l : List ℕ) (known n : ℕ) → All (λ (a : Arrival). a .event < known) (slots l n) → slotsFit l known n ≡ true
 unfolding slots slotsFit
@@ -178,7 +187,7 @@ module _ (p : Program) (valid : Valid p) (t : List ℕ) (table : Says p t) where
           kept = kept-put m 5 (c + 1) (omega arith) (f .kept);
         })
         (λ _. record {
-          answered = refl;
+          answered = commit-coded a (get m 7) _ (x .holds .mark);
           alike = record {
             whole = simp reads h;
             few = simp (reads, h) n;

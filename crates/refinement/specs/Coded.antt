@@ -1,12 +1,13 @@
 -- No two answers to one kind of call have the same number: each is read back from it. Answer by answer.
 use Prim.Native.Nat.{ℕ, _+_, _-_, _/_, _%_, _≤_, _<_}
+use mathlib.Core.Bool.{true, false}
 use mathlib.Core.Path.{_≡_, refl, sym, ap, _∙_}
 use mathlib.Core.Logic.{_≢_}
 use mathlib.Core.List.{List, [], _∷_, map}
 use native.Mathlib.Omega.{arith}
 use lib.Dec.{ltb, leb, eqb}
 use lib.ListN.{length}
-use borrow.Author.Tests.{lt-ltb, le-ltb, ne-eqb}
+use borrow.Author.Tests.{lt-ltb, le-ltb, le-leb, lt-leb, ne-eqb}
 use Rattle.base.specs.Basics.{pick}
 use Rattle.base.specs.Tools.{by-test, all-perm}
 use Rattle.language.specs.Syntax.{Program}
@@ -22,10 +23,11 @@ use Rattle.model.specs.Reached.{Fine, Reached, act-keeps, initially}
 use Rattle.image.specs.Image.{tableOf}
 use Rattle.round.specs.Start.{freshBytes}
 use Rattle.dispatch.specs.Dispatch.{said}
+use Rattle.advance.specs.Advance.{overMark}
 use Rattle.refinement.specs.Refinement.{coded, stepAnswer, decodedAll, decoded, answersOn}
 use Rattle.refinement.specs.Refines.{valid, refines}
 
--- ---- the answers to an arrival, to a step and to a board reading, events being below 256
+-- ---- the answers to an arrival, to a step and to a board reading, events being below 256 and arrivals below 2^40
 
 abbrev pub ToArrive : Answer → Type 0
 ToArrive (refused n) = 0 < n
@@ -35,7 +37,10 @@ ToArrive idle = ⊥
 ToArrive ran = ⊥
 ToArrive (started a) = ⊥
 ToArrive (preempted a) = ⊥
-ToArrive (committed a) = ⊥
+ToArrive (committed a m) = ⊥
+
+abbrev pub Small : Arrival → Type 0
+Small a = (a .event < 256) × (a .number < 1099511627776)
 
 abbrev pub ToStep : Answer → Type 0
 ToStep (refused n) = ⊥
@@ -43,9 +48,9 @@ ToStep takenIn = ⊥
 ToStep (shows v) = ⊥
 ToStep idle = Unit {0}
 ToStep ran = Unit {0}
-ToStep (started a) = a .event < 256
-ToStep (preempted a) = a .event < 256
-ToStep (committed a) = a .event < 256
+ToStep (started a) = Small a
+ToStep (preempted a) = Small a
+ToStep (committed a m) = Small a
 
 abbrev pub ToBoard : Answer → Type 0
 ToBoard (refused n) = n < 4294967296
@@ -55,7 +60,7 @@ ToBoard idle = ⊥
 ToBoard ran = ⊥
 ToBoard (started a) = ⊥
 ToBoard (preempted a) = ⊥
-ToBoard (committed a) = ⊥
+ToBoard (committed a m) = ⊥
 
 abbrev pub To : Call → Answer → Type 0
 To (arrive e) a = ToArrive a
@@ -68,9 +73,9 @@ said-kind : (k n e : ℕ) → e < 256 → k < 256 → said k n e % 256 ≡ k
 unfolding said
 said-kind k n e h b = omega arith
 
-said-number : (k n e : ℕ) → e < 256 → k < 256 → said k n e / 65536 ≡ n
+said-number : (k n e : ℕ) → e < 256 → k < 256 → n < 1099511627776 → said k n e / 65536 % 1099511627776 ≡ n
 unfolding said
-said-number k n e h b = omega arith
+said-number k n e h b c = omega arith
 
 said-event : (k n e : ℕ) → e < 256 → k < 256 → said k n e / 256 % 256 ≡ e
 unfolding said
@@ -80,17 +85,48 @@ said-large : (k n e : ℕ) → 2 ≤ k → (said k n e ≢ 0) × (said k n e ≢
 unfolding said
 said-large k n e h = (omega arith, omega arith)
 
--- what is said of an arrival with kind k
-step-said : (k : ℕ) (a : Arrival) → 2 ≤ k → k < 256 → a .event < 256
-    → stepAnswer (said k (a .number) (a .event)) ≡ pick (eqb k 2) (started a) (pick (eqb k 3) (committed a) (preempted a))
+said-below : (k n e : ℕ) → e < 256 → k < 256 → n < 1099511627776 → said k n e < overMark
+unfolding said
+said-below k n e h b c = omega arith
+
+-- what is said of an arrival with kind k, without a mark
+step-said : (k : ℕ) (a : Arrival) → 2 ≤ k → k < 256 → Small a
+    → stepAnswer (said k (a .number) (a .event)) ≡ pick (eqb k 2) (started a) (pick (eqb k 3) (committed a false) (preempted a))
 step-said k a h b c =
     let z = said-large k (a .number) (a .event) h in
     rw (
       ne-eqb (said k (a .number) (a .event)) 0 (z .0),
       ne-eqb (said k (a .number) (a .event)) 1 (z .1),
-      said-kind k (a .number) (a .event) c b,
-      said-number k (a .number) (a .event) c b,
-      said-event k (a .number) (a .event) c b,
+      said-kind k (a .number) (a .event) (c .0) b,
+      said-number k (a .number) (a .event) (c .0) b (c .1),
+      said-event k (a .number) (a .event) (c .0) b,
+      lt-leb overMark (said k (a .number) (a .event)) (said-below k (a .number) (a .event) (c .0) b (c .1)),
+    )
+
+-- a mark is no part of the arrival's number, nor of the event's
+past-number : (v : ℕ) → (overMark + v) / 65536 % 1099511627776 ≡ v / 65536 % 1099511627776
+past-number v = let q : (overMark + v) / 65536 ≡ 1099511627776 + v / 65536 = omega arith in rw q (omega arith)
+
+past-event : (v : ℕ) → (overMark + v) / 256 % 256 ≡ v / 256 % 256
+past-event v = let q : (overMark + v) / 256 ≡ 281474976710656 + v / 256 = omega arith in rw q (omega arith)
+
+-- and of a commit with one
+step-marked : (a : Arrival) → Small a → stepAnswer (overMark + said 3 (a .number) (a .event)) ≡ committed a true
+step-marked a c =
+    let v = said 3 (a .number) (a .event) in
+    let k : v % 256 ≡ 3 = said-kind 3 (a .number) (a .event) (c .0) (omega arith) in
+    let n : v / 65536 % 1099511627776 ≡ a .number = said-number 3 (a .number) (a .event) (c .0) (omega arith) (c .1) in
+    let e : v / 256 % 256 ≡ a .event = said-event 3 (a .number) (a .event) (c .0) (omega arith) in
+    let kind : (overMark + v) % 256 ≡ 3 = omega arith in
+    let number : (overMark + v) / 65536 % 1099511627776 ≡ a .number = past-number v ∙ n in
+    let event : (overMark + v) / 256 % 256 ≡ a .event = past-event v ∙ e in
+    rw (
+      ne-eqb (overMark + v) 0 (omega arith),
+      ne-eqb (overMark + v) 1 (omega arith),
+      kind,
+      number,
+      event,
+      le-leb overMark (overMark + v) (omega arith),
     )
 
 pub decoded-arrive : (e : ℕ) (a : Answer) → ToArrive a → decoded (arrive e) (coded a) ≡ a
@@ -101,7 +137,7 @@ decoded-arrive e idle h = absurd h
 decoded-arrive e ran h = absurd h
 decoded-arrive e (started a) h = absurd h
 decoded-arrive e (preempted a) h = absurd h
-decoded-arrive e (committed a) h = absurd h
+decoded-arrive e (committed a m) h = absurd h
 
 pub decoded-step : (a : Answer) → ToStep a → decoded step (coded a) ≡ a
 decoded-step (refused n) h = absurd h
@@ -111,7 +147,8 @@ decoded-step idle h = refl
 decoded-step ran h = refl
 decoded-step (started a) h = step-said 2 a (omega arith) (omega arith) h
 decoded-step (preempted a) h = step-said 4 a (omega arith) (omega arith) h
-decoded-step (committed a) h = step-said 3 a (omega arith) (omega arith) h
+decoded-step (committed a false) h = step-said 3 a (omega arith) (omega arith) h
+decoded-step (committed a true) h = step-marked a h
 
 pub decoded-board : (i : ℕ) (a : Answer) → ToBoard a → decoded (board i) (coded a) ≡ a
 decoded-board i (refused n) h = rw (lt-ltb n 4294967296 h)
@@ -123,7 +160,7 @@ decoded-board i idle h = absurd h
 decoded-board i ran h = absurd h
 decoded-board i (started a) h = absurd h
 decoded-board i (preempted a) h = absurd h
-decoded-board i (committed a) h = absurd h
+decoded-board i (committed a m) h = absurd h
 
 pub decoded-coded : (c : Call) (a : Answer) → To c a → decoded c (coded a) ≡ a
 decoded-coded (arrive e) a h = decoded-arrive e a h
@@ -137,8 +174,8 @@ coded-injective c a b h k e = sym (decoded-coded c a h) ∙ ap (decoded c) e ∙
 -- ---- the model's answers are such
 
 module _ (p : Program) (few : events p ≤ 256) where
-  advance-to : (t : ℕ) (q : List Arrival) (a : Arrival) (n : ℕ) (d : Values) → a .event < events p → ToStep (advance p t q a n d .answer)
-  advance-to t q a n d h = by-test (λ (o : Outcome). ToStep (o .answer)) (ltb (n + 1) (length (code p (a .event)))) (λ _. tt) (λ _. omega arith)
+  advance-to : (t : ℕ) (q : List Arrival) (a : Arrival) (n : ℕ) (d : Values) → Fine p t a → t ≤ 1000000 → ToStep (advance p t q a n d .answer)
+  advance-to t q a n d h b = by-test (λ (o : Outcome). ToStep (o .answer)) (ltb (n + 1) (length (code p (a .event)))) (λ _. tt) (λ _. omega arith)
 
   pub answer-to : (c : Call) (w : Engine) → Reached p w → To c (act p c w .answer)
   unfolding act
@@ -147,13 +184,13 @@ module _ (p : Program) (few : events p ≤ 256) where
       (λ _. by-test (λ (o : Outcome). ToArrive (o .answer)) (leb 64 (length (queue q r))) (λ _. omega arith)
       (λ _. by-test (λ (o : Outcome). ToArrive (o .answer)) (leb 1000000 t) (λ _. omega arith) (λ _. tt)))
   answer-to step (engine t [] rest d) i = tt
-  answer-to step (engine t (b ∷ l) rest d) i = let f = all-perm (Fine p t) (choose-perm p b l) (i .fine) in omega (arith, f .0 .1)
-  answer-to step (engine t [] (busy a n) d) i = advance-to t [] a n d (i .fine .0 .1)
+  answer-to step (engine t (b ∷ l) rest d) i = let f = all-perm (Fine p t) (choose-perm p b l) (i .fine) in omega (arith, f .0, i .bounded)
+  answer-to step (engine t [] (busy a n) d) i = advance-to t [] a n d (i .fine .0) (i .bounded)
   answer-to step (engine t (b ∷ l) (busy a n) d) i =
       let f = all-perm (Fine p t) (choose-perm p b l) (i .fine .1) in
-      by-test (λ (o : Outcome). ToStep (o .answer)) (masked p a n) (λ _. advance-to t (b ∷ l) a n d (i .fine .0 .1))
-      (λ _. by-test (λ (o : Outcome). ToStep (o .answer)) (ltb (rank p a) (rank p (choose p b l .next))) (λ _. omega (arith, f .0 .1))
-      (λ _. advance-to t (b ∷ l) a n d (i .fine .0 .1)))
+      by-test (λ (o : Outcome). ToStep (o .answer)) (masked p a n) (λ _. advance-to t (b ∷ l) a n d (i .fine .0) (i .bounded))
+      (λ _. by-test (λ (o : Outcome). ToStep (o .answer)) (ltb (rank p a) (rank p (choose p b l .next))) (λ _. omega (arith, f .0, i .bounded))
+      (λ _. advance-to t (b ∷ l) a n d (i .fine .0) (i .bounded)))
   answer-to (board j) (engine t q r d) i =
       by-test ToBoard (leb (size p) j) (λ _. omega arith) (λ _. by-test ToBoard (settling p r) (λ _. omega arith) (λ _. tt))
 

@@ -146,5 +146,6 @@ module _ (p : Program) (t : List ℕ) (table : Says p t) (whole : length (fresh 
           placed = length-replicate (length (fresh p)) none ∙ whole;
           scratch = found-none (freshBytes t l) 200 (length (fresh p));
           deferred = found-none (freshBytes t l) 264 (length (fresh p));
+          mark = rw (head 7 (omega arith));
         };
       }

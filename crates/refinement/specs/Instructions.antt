@@ -1,7 +1,7 @@
 -- One instruction on the round's bytes is the model's, wherever the abstract check of the code lets it pass: it is allowed, the values in the bytes are then those
 -- that it leaves, and nothing else changes. Instruction by instruction.
 use Prim.Native.Nat.{ℕ, zero, suc, _+_, _*_, _-_, _/_, _%_, _≤_, _<_}
-use mathlib.Core.Bool.{true}
+use mathlib.Core.Bool.{Bool, true, false}
 use mathlib.Core.Path.{_≡_, refl, sym, ap, _∙_, subst}
 use mathlib.Core.Logic.{_≢_}
 use mathlib.Core.Option.{none, some}
@@ -15,25 +15,25 @@ use Rattle.base.specs.Tools.{split}
 use Rattle.word.specs.Word.{get, put, pile}
 use Rattle.word.specs.Laws.{long, long-put, get-other, pile-out, pile-push}
 use Rattle.arith.specs.Functions as arith32
-use Rattle.arith.specs.Functions.{result}
+use Rattle.arith.specs.Functions.{result, over}
 use Rattle.language.specs.Code.{Instr, off, on, copy, restore, load, fetch, save, defer, move, push, apply}
-use Rattle.execution.specs.Execution.{Values, at, held, heldAt, top, apply1, apply2, apply3, applied, execute}
+use Rattle.execution.specs.Execution.{Values, at, held, heldAt, top, apply1, apply2, apply3, applied, over1, over2, over3, overOn, execute}
 use Rattle.execution.specs.Safe.{Filled, Ok, full, arity, Matches}
 use Rattle.execution.specs.SafeLaws.{full-some}
 use Rattle.image.specs.Image.{operation, constant}
-use Rattle.stack.specs.Stack.{pushOn, popTo, applyOne, applyTwo, applyThree, applyOn}
+use Rattle.stack.specs.Stack.{pushOn, popTo, noted, applyOne, applyTwo, applyThree, applyOn}
 use Rattle.allowed.specs.Allowed.{applies, allowed}
 use Rattle.instruction.specs.Instruction.{transfer, perform}
 use Rattle.refinement.specs.Refinement.{Kept}
 use Rattle.refinement.specs.Slots.{kept-all, kept-put}
-use Rattle.refinement.specs.Values.{Holds, value-at, store-holds, scratch-holds, deferred-holds, depth-holds, place-holds, top-holds}
+use Rattle.refinement.specs.Values.{Holds, marked, value-at, store-holds, scratch-holds, deferred-holds, depth-holds, place-holds, top-holds, noted-holds}
 
--- ---- only values and the stack's depth change
+-- ---- only values, the stack's depth and the mark change
 
 pub record Framed (l m : List ℕ) : Type 0 where
   pub kept : Kept l m
   pub whole : long m ≡ long l
-  pub same : (j : ℕ) → j < 136 → j ≢ 6 → get m j ≡ get l j
+  pub same : (j : ℕ) → j < 136 → j / 2 ≢ 3 → get m j ≡ get l j
 
 framed-all : (l : List ℕ) → Framed l l
 framed-all l = record { kept = kept-all l; whole = refl; same = λ j b h. refl }
@@ -49,8 +49,34 @@ framed-depth : {l : List ℕ} (m : List ℕ) (w : ℕ) → Framed l m → Framed
 framed-depth m w h = record {
   kept = kept-put m 6 w (omega arith) (h .kept);
   whole = long-put m 6 w ∙ h .whole;
-  same = λ j a n. get-other m 6 w j n ∙ h .same j a n;
+  same = λ j a n. get-other m 6 w j (omega arith) ∙ h .same j a n;
 }
+
+framed-noted : {l : List ℕ} (m : List ℕ) (b : Bool) → Framed l m → Framed l (noted m b)
+unfolding noted
+framed-noted m false h = h
+framed-noted m true h = record {
+  kept = kept-put m 7 1 (omega arith) (h .kept);
+  whole = long-put m 7 1 ∙ h .whole;
+  same = λ j a n. get-other m 7 1 j (omega arith) ∙ h .same j a n;
+}
+
+-- a mark leaves length, depth and stack
+
+noted-long : (l : List ℕ) (b : Bool) → long (noted l b) ≡ long l
+unfolding noted
+noted-long l false = refl
+noted-long l true = long-put l 7 1
+
+noted-depth : (l : List ℕ) (b : Bool) → get (noted l b) 6 ≡ get l 6
+unfolding noted
+noted-depth l false = refl
+noted-depth l true = get-other l 7 1 6 (omega arith)
+
+noted-pile : (l : List ℕ) (b : Bool) (k : ℕ) → pile (noted l b) 328 k ≡ pile l 328 k
+unfolding noted
+noted-pile l false k = refl
+noted-pile l true k = pile-out l 7 1 328 k (omega arith)
 
 -- ---- the stack's uppermost
 
@@ -85,6 +111,23 @@ apply3-pile f l k =
     let y : k + 2 ≡ suc (suc k) = omega arith in
     rw (z, y, add-one k)
 
+over1-pile : (f : ℕ) (l : List ℕ) (k : ℕ) → over1 f (pile l 328 (k + 1)) ≡ over f (get l (328 + k)) 0 0
+unfolding pile
+over1-pile f l k = rw (add-one k)
+
+over2-pile : (f : ℕ) (l : List ℕ) (k : ℕ) → over2 f (pile l 328 (k + 2)) ≡ over f (get l (328 + k)) (get l (328 + (k + 1))) 0
+unfolding pile
+over2-pile f l k =
+    let z : k + 2 ≡ suc (suc k) = omega arith in
+    rw (z, add-one k)
+
+over3-pile : (f : ℕ) (l : List ℕ) (k : ℕ) → over3 f (pile l 328 (k + 3)) ≡ over f (get l (328 + k)) (get l (328 + (k + 1))) (get l (328 + (k + 2)))
+unfolding pile
+over3-pile f l k =
+    let z : k + 3 ≡ suc (suc (suc k)) = omega arith in
+    let y : k + 2 ≡ suc (suc k) = omega arith in
+    rw (z, y, add-one k)
+
 -- ---- what an instruction of operation op, slot s and constant w does: d are the values after it
 
 pub record Does (n : ℕ) (l : List ℕ) (d : Values) (op s w : ℕ) : Type 0 where
@@ -93,13 +136,13 @@ pub record Does (n : ℕ) (l : List ℕ) (d : Values) (op s w : ℕ) : Type 0 wh
   pub framed : Framed l (perform l op s w (get l 6))
 
 abbrev withStack : List ℕ → Values → Values
-withStack st d = record { store = d .store; scratch = d .scratch; stack = st; deferred = d .deferred }
+withStack st d = record { store = d .store; scratch = d .scratch; stack = st; deferred = d .deferred; mark = d .mark }
 
 abbrev withScratch : ℕ → ℕ → List ℕ → Values → Values
-withScratch i v st d = record { store = d .store; scratch = set (d .scratch) i (some v); stack = st; deferred = d .deferred }
+withScratch i v st d = record { store = d .store; scratch = set (d .scratch) i (some v); stack = st; deferred = d .deferred; mark = d .mark }
 
 abbrev withDeferred : ℕ → ℕ → List ℕ → Values → Values
-withDeferred i v st d = record { store = d .store; scratch = d .scratch; stack = st; deferred = set (d .deferred) i (some v) }
+withDeferred i v st d = record { store = d .store; scratch = d .scratch; stack = st; deferred = set (d .deferred) i (some v); mark = d .mark }
 
 module _ (n : ℕ) (few : n ≤ 64) (l : List ℕ) (d : Values) (g : long l ≡ true) (h : Holds n l d) where
   restack : (m : List ℕ) {x y : List ℕ} → x ≡ y → Holds n m (withStack x d) → Holds n m (withStack y d)
@@ -144,32 +187,48 @@ module _ (n : ℕ) (few : n ≤ 64) (l : List ℕ) (d : Values) (g : long l ≡ 
         framed-depth _ k (framed-put l (264 + i) (get l (328 + k)) (omega arith) (omega arith) (framed-all l)),
       )
 
-  one-does : (f k : ℕ) → get l 6 ≡ k + 1 → Holds n (applyOne l (get l 6) f) (withStack (apply1 f (d .stack)) d) × Framed l (applyOne l (get l 6) f)
+  -- a function that leaves the stack st, and one more mark where b says so
+  abbrev leaves : List ℕ → Bool → Values
+  leaves st b = marked b (withStack st d)
+
+  -- w on top of the lowest k, the mark noted first
+  put-result : (k v : ℕ) (b : Bool) → k < 64
+      → Holds n (put (put (noted l b) (328 + k) v) 6 (k + 1)) (leaves (v ∷ pile l 328 k) b) × Framed l (put (put (noted l b) (328 + k) v) 6 (k + 1))
+  put-result k v b c =
+      let m : List ℕ = put (put (noted l b) (328 + k) v) 6 (k + 1) in (
+        subst (λ (st : List ℕ). Holds n m (leaves (v ∷ st) b)) (noted-pile l b k)
+            (top-holds n few (noted l b) k v (marked b d) (noted-long l b ∙ g) c (noted-holds n few l b d g h)),
+        framed-depth _ (k + 1) (framed-put _ (328 + k) v (omega arith) (omega arith) (framed-noted l b (framed-all l))),
+      )
+
+  one-does : (f k : ℕ) → get l 6 ≡ k + 1
+      → Holds n (applyOne l (get l 6) f) (leaves (apply1 f (d .stack)) (over1 f (d .stack))) × Framed l (applyOne l (get l 6) f)
   unfolding applyOne
   one-does f k e =
       let z : 327 + (k + 1) ≡ 328 + k = omega arith in
       let c : k + 1 ≤ 64 = rw e at (h .shallow) in
       let v = result f (get l (328 + k)) 0 0 in
-      let s : pile (put l (328 + k) v) 328 (get l 6) ≡ v ∷ pile l 328 k = rw e (pile-push l 328 k v g (omega arith)) in
-      rw (e, z, stack-is (k + 1) e, apply1-pile f l k) (
-        restack (put l (328 + k) v) s (place-holds n few l k v d g (omega arith) h),
-        framed-put l (328 + k) v (omega arith) (omega arith) (framed-all l),
+      let b = over f (get l (328 + k)) 0 0 in
+      let m = put (noted l b) (328 + k) v in
+      let s : pile m 328 (get (noted l b) 6) ≡ v ∷ pile l 328 k =
+      rw (noted-depth l b, e) (pile-push (noted l b) 328 k v (noted-long l b ∙ g) (omega arith) ∙ ap (λ (st : List ℕ). v ∷ st) (noted-pile l b k)) in
+      rw (e, z, stack-is (k + 1) e, apply1-pile f l k, over1-pile f l k) (
+        subst (λ (st : List ℕ). Holds n m (leaves st b)) s (place-holds n few (noted l b) k v (marked b d) (noted-long l b ∙ g) (omega arith) (noted-holds n few l b d g h)),
+        framed-put _ (328 + k) v (omega arith) (omega arith) (framed-noted l b (framed-all l)),
       )
 
-  two-does : (f k : ℕ) → get l 6 ≡ k + 2 → Holds n (applyTwo l (get l 6) f) (withStack (apply2 f (d .stack)) d) × Framed l (applyTwo l (get l 6) f)
+  two-does : (f k : ℕ) → get l 6 ≡ k + 2
+      → Holds n (applyTwo l (get l 6) f) (leaves (apply2 f (d .stack)) (over2 f (d .stack))) × Framed l (applyTwo l (get l 6) f)
   unfolding applyTwo
   two-does f k e =
       let z : 326 + (k + 2) ≡ 328 + k = omega arith in
       let y : 327 + (k + 2) ≡ 328 + (k + 1) = omega arith in
       let x : k + 2 - 1 ≡ k + 1 = omega arith in
       let c : k + 2 ≤ 64 = rw e at (h .shallow) in
-      let v = result f (get l (328 + k)) (get l (328 + (k + 1))) 0 in
-      rw (e, z, y, x, stack-is (k + 2) e, apply2-pile f l k) (
-        top-holds n few l k v d g (omega arith) h,
-        framed-depth _ (k + 1) (framed-put l (328 + k) v (omega arith) (omega arith) (framed-all l)),
-      )
+      rw (e, z, y, x, stack-is (k + 2) e, apply2-pile f l k, over2-pile f l k) (put-result k _ _ (omega arith))
 
-  three-does : (f k : ℕ) → get l 6 ≡ k + 3 → Holds n (applyThree l (get l 6) f) (withStack (apply3 f (d .stack)) d) × Framed l (applyThree l (get l 6) f)
+  three-does : (f k : ℕ) → get l 6 ≡ k + 3
+      → Holds n (applyThree l (get l 6) f) (leaves (apply3 f (d .stack)) (over3 f (d .stack))) × Framed l (applyThree l (get l 6) f)
   unfolding applyThree
   three-does f k e =
       let z : 325 + (k + 3) ≡ 328 + k = omega arith in
@@ -177,13 +236,10 @@ module _ (n : ℕ) (few : n ≤ 64) (l : List ℕ) (d : Values) (g : long l ≡ 
       let x : 327 + (k + 3) ≡ 328 + (k + 2) = omega arith in
       let u : k + 3 - 2 ≡ k + 1 = omega arith in
       let c : k + 3 ≤ 64 = rw e at (h .shallow) in
-      let v = result f (get l (328 + k)) (get l (328 + (k + 1))) (get l (328 + (k + 2))) in
-      rw (e, z, y, x, u, stack-is (k + 3) e, apply3-pile f l k) (
-        top-holds n few l k v d g (omega arith) h,
-        framed-depth _ (k + 1) (framed-put l (328 + k) v (omega arith) (omega arith) (framed-all l)),
-      )
+      rw (e, z, y, x, u, stack-is (k + 3) e, apply3-pile f l k, over3-pile f l k) (put-result k _ _ (omega arith))
 
-  apply-does : (f : ℕ) → arity f ≤ get l 6 → Holds n (applyOn l (get l 6) f) (withStack (applied f (d .stack)) d) × Framed l (applyOn l (get l 6) f)
+  apply-does : (f : ℕ) → arity f ≤ get l 6
+      → Holds n (applyOn l (get l 6) f) (leaves (applied f (d .stack)) (overOn f (d .stack))) × Framed l (applyOn l (get l 6) f)
   unfolding applyOn
   apply-does f b =
       split (eqb f 3)

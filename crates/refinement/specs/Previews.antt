@@ -1,6 +1,6 @@
 -- Preview on the bytes is the model engine's: the copy stands for the same engine as the round, its words being the same, and each call on it agrees, until idle.
 use Prim.Native.Nat.{ℕ, zero, suc, _+_, _*_, _≤_, _<_}
-use mathlib.Core.Bool.{true, false}
+use mathlib.Core.Bool.{Bool, true, false}
 use mathlib.Core.Path.{_≡_, refl, sym, ap, _∙_, subst}
 use mathlib.Core.Logic.{_⊎_, inl, inr, ⊎-elim}
 use mathlib.Core.Option.{Option}
@@ -29,6 +29,7 @@ use Rattle.image.specs.ImageLaws.{Says}
 use Rattle.round.specs.Start.{Result, freshBytes}
 use Rattle.arrivals.specs.Arrivals.{arriveOn}
 use Rattle.dispatch.specs.Dispatch.{said}
+use Rattle.advance.specs.Advance.{overMark}
 use Rattle.machine.specs.Machine.{stepOn}
 use Rattle.preview.specs.Preview.{last, toIdle, inHand, countOn, shown, shownIn, previewTaken, previewAfter, previewCopy, previewOn}
 use Rattle.refinement.specs.Refinement.{coded, callOn, roundAfter}
@@ -80,6 +81,7 @@ module _ (l m : List ℕ) (same : (k : ℕ) → k < 512 → get m k ≡ get l k)
       placed = h .placed;
       scratch = found-same 200 (d .scratch) (omega (arith, h .scratched)) (h .scratch);
       deferred = found-same 264 (d .deferred) (omega (arith, h .placed)) (h .deferred);
+      mark = rw (same 7 (omega arith)) (h .mark);
     }
 
     alike-same : (w : Engine) → long m ≡ true → Alike n l w → Alike n m w
@@ -108,6 +110,13 @@ goes : (k n e : ℕ) → 1 < k → k < 14 → last (said k n e) ≡ false
 unfolding last said
 goes k n e h b = rw (ne-eqb (n * 65536 + e * 256 + k) 0 (omega arith)) (ne-eqb (n * 65536 + e * 256 + k) 14 (omega arith))
 
+marked-goes : (n e : ℕ) (m : Bool) → last (pick m (overMark + said 3 n e) (said 3 n e)) ≡ false
+unfolding last said
+marked-goes n e true =
+    let v : ℕ = n * 65536 + e * 256 + 3 in
+    rw (ne-eqb (72057594037927936 + v) 0 (omega arith)) (ne-eqb (72057594037927936 + v) 14 (omega arith))
+marked-goes n e false = goes 3 n e (omega arith) (omega arith)
+
 idle-or-goes : (a : Answer) → ToStep a → (a ≡ idle) ⊎ (last (coded a) ≡ false)
 unfolding last
 idle-or-goes (refused n) h = absurd h
@@ -117,7 +126,7 @@ idle-or-goes idle h = inl refl
 idle-or-goes ran h = inr refl
 idle-or-goes (started a) h = inr (goes 2 (a .number) (a .event) (omega arith) (omega arith))
 idle-or-goes (preempted a) h = inr (goes 4 (a .number) (a .event) (omega arith) (omega arith))
-idle-or-goes (committed a) h = inr (goes 3 (a .number) (a .event) (omega arith) (omega arith))
+idle-or-goes (committed a m) h = inr (marked-goes (a .number) (a .event) m)
 
 module _ (p : Program) (valid : Valid p) (t : List ℕ) (table : Says p t) where
   few : events p ≤ 256
@@ -213,7 +222,7 @@ module _ (p : Program) (valid : Valid p) (t : List ℕ) (table : Says p t) where
   after-agrees x ran y i h e g = absurd h
   after-agrees x (started a) y i h e g = absurd h
   after-agrees x (preempted a) y i h e g = absurd h
-  after-agrees x (committed a) y i h e g = absurd h
+  after-agrees x (committed a m) y i h e g = absurd h
 
   preview-agrees : (l : List ℕ) (w : Engine) (e i : ℕ) → Alike (size p) l w → Reached p w → previewOn t l e i ≡ coded (previewed p w e i)
   unfolding previewOn previewCopy

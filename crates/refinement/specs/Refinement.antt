@@ -1,10 +1,11 @@
 -- Calls on the bytes, and when their answers and the round agree with the model engine. 01 "Whole runs".
 use Prim.Native.Nat.{ℕ, zero, suc, _+_, _-_, _/_, _%_, _≤_}
+use mathlib.Core.Bool.{Bool, not}
 use mathlib.Core.Path.{_≡_}
 use mathlib.Core.Option.{none, some}
 use mathlib.Core.List.{List, [], _∷_, map, List·Permᴰ}
 use lib.ListN.{length, getD}
-use lib.Dec.{ltb, eqb}
+use lib.Dec.{ltb, leb, eqb}
 use Rattle.base.specs.Basics.{pick}
 use Rattle.word.specs.Word.{get, words, pile}
 use Rattle.language.specs.Syntax.{Program}
@@ -12,11 +13,12 @@ use Rattle.language.specs.Dependence.{size}
 use Rattle.language.specs.Answers as kinds
 use Rattle.execution.specs.Execution.{Values}
 use Rattle.model.specs.Model.{Arrival, arrival, Running, rest, busy, Engine, engine, Call, arrive, step, board, Answer, refused, takenIn, shows, idle, ran, started, preempted, committed, run, answers}
-use Rattle.layout.specs.Layout.{taken, waitingCount, runningFlag, runningEvent, runningNumber, position, depth, numberAt, eventAt}
+use Rattle.layout.specs.Layout.{taken, waitingCount, runningFlag, runningEvent, runningNumber, position, depth, markWord, numberAt, eventAt}
 use Rattle.round.specs.Start.{Result}
 use Rattle.arrivals.specs.Arrivals.{arriveOn}
 use Rattle.board.specs.Board.{boardOn}
 use Rattle.dispatch.specs.Dispatch.{said}
+use Rattle.advance.specs.Advance.{overMark}
 use Rattle.machine.specs.Machine.{stepOn}
 
 -- an answer as the number that the call gives
@@ -27,20 +29,24 @@ coded (shows v) = 4294967296 + v
 coded idle = kinds.idle
 coded ran = kinds.ran
 coded (started a) = said kinds.started (a .number) (a .event)
-coded (committed a) = said kinds.committed (a .number) (a .event)
+coded (committed a m) = pick m (overMark + said kinds.committed (a .number) (a .event)) (said kinds.committed (a .number) (a .event))
 coded (preempted a) = said kinds.preempted (a .number) (a .event)
 
 -- ---- and back: the answer that a number names, by the kind of call
 
+-- the mark at 2^56 is no part of the arrival's number
 abbrev pub arrivalIn : ℕ → Arrival
-arrivalIn v = arrival (v / 65536) (v / 256 % 256)
+arrivalIn v = arrival (v / 65536 % 1099511627776) (v / 256 % 256)
+
+abbrev pub markIn : ℕ → Bool
+markIn v = leb overMark v
 
 abbrev pub stepAnswer : ℕ → Answer
 stepAnswer v =
     pick (eqb v kinds.idle) idle
     (pick (eqb v kinds.ran) ran
     (pick (eqb (v % 256) kinds.started) (started (arrivalIn v))
-    (pick (eqb (v % 256) kinds.committed) (committed (arrivalIn v)) (preempted (arrivalIn v)))))
+    (pick (eqb (v % 256) kinds.committed) (committed (arrivalIn v) (markIn v)) (preempted (arrivalIn v)))))
 
 abbrev pub decoded : Call → ℕ → Answer
 decoded (arrive e) v = pick (eqb v 0) takenIn (refused v)
@@ -80,7 +86,8 @@ abbrev pub runningIn : List ℕ → Running
 runningIn l = pick (eqb (runningFlag l) 0) rest (busy (arrival (runningNumber l) (runningEvent l)) (position l))
 
 -- "as read from the round's bytes, board, hand (in whatever order it is kept), number taken in, running arrival with its count, stack, and scratch and places
--- as far as the model engine has filled them"; the board is the store, the hand the waiting and the running one, the places hold the deferred values
+-- as far as the model engine has filled them"; the board is the store, the hand the waiting and the running one, the places hold the deferred values. And the mark that
+-- 02, M-104 adds: any word but 0 is one
 pub record ViewOf (p : Program) (l : List ℕ) (n : ℕ) (waiting : List Arrival) (r : Running) (d : Values) : Type 0 where
   pub number : taken l ≡ n
   pub queue : List·Permᴰ (slots l (waitingCount l)) waiting
@@ -89,6 +96,7 @@ pub record ViewOf (p : Program) (l : List ℕ) (n : ℕ) (waiting : List Arrival
   pub stack : pile l 328 (depth l) ≡ d .stack
   pub scratch : (i v : ℕ) → getD (d .scratch) i none ≡ some v → get l (200 + i) ≡ v
   pub deferred : (i v : ℕ) → getD (d .deferred) i none ≡ some v → get l (264 + i) ≡ v
+  pub mark : not (eqb (markWord l) 0) ≡ d .mark
 
 abbrev pub View : Program → List ℕ → Engine → Type 0
 View p l (engine n waiting r d) = ViewOf p l n waiting r d

@@ -58,6 +58,7 @@ alike-view p l (engine k q r d) R = record {
   stack = R .values .stack;
   scratch = R .values .scratch;
   deferred = R .values .deferred;
+  mark = R .values .mark;
 }
 
 -- ---- whole runs

@@ -121,7 +121,7 @@ run-slots l n e m = simp slots-off
 
 -- the head, word by word
 pub run-head : (l : List ℕ) (n e j : ℕ) → long l ≡ true
-    → get (run l n e) j ≡ pick (eqb j 6) 0 (pick (eqb j 5) 0 (pick (eqb j 4) n (pick (eqb j 3) e (pick (eqb j 2) 1 (get l j)))))
+    → get (run l n e) j ≡ pick (eqb j 7) 0 (pick (eqb j 6) 0 (pick (eqb j 5) 0 (pick (eqb j 4) n (pick (eqb j 3) e (pick (eqb j 2) 1 (get l j))))))
 unfolding run
 run-head l n e j h = simp (get-put, long-put, h)
 
@@ -154,4 +154,5 @@ kept-slot m i n e b h = kept-put (put m (8 + i * 2) n) (9 + i * 2) e (omega arit
 pub kept-run : {l : List ℕ} (m : List ℕ) (n e : ℕ) → Kept l m → Kept l (run m n e)
 unfolding run
 kept-run m n e h =
-    kept-put _ 6 0 (omega arith) (kept-put _ 5 0 (omega arith) (kept-put _ 4 n (omega arith) (kept-put _ 3 e (omega arith) (kept-put _ 2 1 (omega arith) h))))
+    kept-put _ 7 0 (omega arith)
+    (kept-put _ 6 0 (omega arith) (kept-put _ 5 0 (omega arith) (kept-put _ 4 n (omega arith) (kept-put _ 3 e (omega arith) (kept-put _ 2 1 (omega arith) h)))))

@@ -27,7 +27,7 @@ settled-first : (n : ℕ) (s : List ℕ) (i : ℕ) (b : Behaviour) → Behaviour
 settled-first n s i (passive x) f h = h x refl
 settled-first n s i (active c hs) f h = sym (ap (firstOf s (at s) i) (undeclared-keeps n n hs (omega arith) (f .1)))
 
-settled-solves : (p : Program) → Valid p → (s : List ℕ) → Settled p s → Solves p (noEvent p) s (at s)
+pub settled-solves : (p : Program) → Valid p → (s : List ℕ) → Settled p s → Solves p (noEvent p) s (at s)
 settled-solves p v s h i b =
     settled-first (noEvent p) s i (behaviourAt p i) (all-at (BehaviourFits (noEvent p)) (p .behaviours) i (active 0 []) (v .each) b) (λ x t. h .1 i x b t)
 

@@ -150,11 +150,11 @@ module _ (p : Program) (v : Valid p) (e : ℕ) (s : List ℕ) (look : ℕ → �
   worth-at : (i : ℕ) → i < size p → worth e look (behaviour i (behaviourAt (withStore p s) i)) ≡ look i
   worth-at i h = ap (λ b. worth e look (behaviour i b)) (state-at p s i h) ∙ worth-carry e look s i (behaviourAt p i) ∙ sym (solves i h)
 
-  abbrev Fine : Subject → Type 0
+  abbrev pub Fine : Subject → Type 0
   Fine (expression d) = Unit {0}
   Fine (behaviour x b) = OnceEach (noEvent p) b
 
-  derived : {t : Subject} {c : ℕ} → Yields (withStore p s) e t c → Fine t → c ≡ worth e look t
+  pub derived : {t : Subject} {c : ℕ} → Yields (withStore p s) e t c → Fine t → c ≡ worth e look t
   unfolding value
   derived (y-name {x = x} h d) f = let b : x < size p = rw (state-size p s) at h in derived d (once-at x b) ∙ worth-at x b
   derived y-con f = refl
@@ -182,10 +182,10 @@ module _ (p : Program) (v : Valid p) (e : ℕ) (s : List ℕ) (look : ℕ → �
   updates-alone i b h u = updated u (once-at i h)
 
   -- ---- it is derived
-  abbrev Has : ℕ → Type 0
+  abbrev pub Has : ℕ → Type 0
   Has j = (j < size p) × Yields (withStore p s) e (behaviour j (behaviourAt (withStore p s) j)) (look j)
 
-  expression-yields : (d : Expr) → ((j : ℕ) → mentions j d ≡ true → Has j) → Yields (withStore p s) e (expression d) (value look d)
+  pub expression-yields : (d : Expr) → ((j : ℕ) → mentions j d ≡ true → Has j) → Yields (withStore p s) e (expression d) (value look d)
   unfolding value mentions
   expression-yields (con w) h = y-con
   expression-yields (name i) h = let k : Has i = h i (eq-eqb i i refl) in y-name {x = i} (rw (state-size p s) (k .0)) (k .1)
@@ -224,7 +224,7 @@ module _ (p : Program) (v : Valid p) (e : ℕ) (s : List ℕ) (look : ℕ → �
         (subst (λ x. Yields (withStore p s) e (behaviour i x) (worth e look (behaviour i x))) (sym (state-at p s i b))
         (behaviour-yields i (at s i) (behaviourAt p i) (rw (state-at p s i b) at (once-at i b)) (λ j d. (depends-within p (v .known) e i j d .1, h j d)))))
 
-    has : (j : ℕ) → j < size p → Has j
+    pub has : (j : ℕ) → j < size p → Has j
     has j b = (b, yields j b)
 
     active-updates : (i c : ℕ) (hs : List Handler) (r : Response) → Says e hs r → ResponseNamesIn (size p) r

@@ -12,3 +12,7 @@ pub mod Commute
 pub mod RoundsHold
 pub mod Plays
 pub mod PlaysLaws
+pub mod Over
+pub mod OverMeaning
+pub mod OverTurns
+pub mod OverAgrees

@@ -1,13 +1,17 @@
--- How deep a stack is that holds a function's arguments: by the arity's cases.
-use Prim.Native.Nat.{ℕ, _≤_, _<_}
+-- How deep a stack is that holds a function's arguments, by the arity's cases; and what a function's answer says, by its size.
+use Prim.Native.Nat.{ℕ, _-_, _≤_, _<_}
 use mathlib.Core.Bool.{false}
-use mathlib.Core.Path.{_≡_}
+use mathlib.Core.Path.{_≡_, refl}
 use mathlib.Core.Logic.{_≢_}
+use mathlib.Core.List.{List}
 use native.Mathlib.Omega.{arith}
 use lib.Dec.{eqb}
 use borrow.Author.Tests.{ne-eqb}
 use Rattle.base.specs.Tools.{split}
-use Rattle.arith.specs.Functions.{arity}
+use Rattle.word.specs.Word.{put}
+use Rattle.arith.specs.Functions.{result, over, answer, arity}
+use Rattle.arith.specs.ArithLaws.{result-word, answer-low, answer-high}
+use Rattle.stack.specs.Stack.{noted}
 
 pub arity-one : (f d : ℕ) → arity f ≤ d → 0 < d
 unfolding arity
@@ -24,3 +28,20 @@ arity-two f d h n =
 pub arity-three : (d : ℕ) → arity 14 ≤ d → 2 < d
 unfolding arity
 arity-three d h = omega arith
+
+-- an answer below 2^32 has no mark, and any other has one
+pub unmarked : (l : List ℕ) (f a b c v : ℕ) → v ≡ answer f a b c → v < 4294967296 → (v ≡ result f a b c) × (l ≡ noted l (over f a b c))
+unfolding noted
+unmarked l f a b c v e h =
+    let k = answer-low f a b c (rw e at h) in
+    rw (e, k .1) (k .0, refl)
+
+pub marked : (l : List ℕ) (f a b c v : ℕ) → v ≡ answer f a b c → 4294967296 ≤ v → (v - 4294967296 ≡ result f a b c) × (put l 7 1 ≡ noted l (over f a b c))
+unfolding noted
+marked l f a b c v e h =
+    let k = answer-high f a b c (rw e at h) in
+    rw (e, k .1) (k .0, refl)
+
+-- what is left of it is a word
+pub rest-word : (f a b c v : ℕ) → v ≡ answer f a b c → 4294967296 ≤ v → v - 4294967296 < 4294967296
+rest-word f a b c v e h = rw (e, answer-high f a b c (rw e at h) .0) (result-word f a b c)

@@ -1,9 +1,9 @@
-// The evaluation stack in the round's bytes.
+// The evaluation stack in the round's bytes, and the mark of what ran over.
 ghost use mathlib.Core.Path.{_≡_};
 ghost use Prim.Native.Nat.{_≤_, _<_};
 ghost use lib.ListN.{length};
-ghost use Rattle.arith.specs.Functions.{arity};
-ghost use Rattle.stack.specs.Stack.{pushOn, popTo, applyOne, applyTwo, applyThree, applyOn};
+ghost use Rattle.arith.specs.Functions.{result, over, arity};
+ghost use Rattle.stack.specs.Stack.{pushOn, popTo, noted, applyOne, applyTwo, applyThree, applyOn};
 
 // v on top of a stack of depth d.
 pub fn push_on(l: &mut [u8], d: u32, v: u32)
@@ -24,12 +24,27 @@ pub fn pop_to(l: &mut [u8], d: u32, k: usize)
     word::put_word(l, 6, d - 1);
 }
 
+// Function f on the words a, b and c: its word, and the mark set where it runs over.
+fn call_on(l: &mut [u8], f: u8, a: u32, b: u32, c: u32) -> u32
+    requires { ⌜ 2048 ≤ length (now l) ⌝ }
+    ensures { λ r. ⌜ r ≡ result f a b c ⌝ }
+    ensures { λ _. ⌜ now (l .exit) ≡ noted (now (l .entry)) (over f a b c) ⌝ }
+{
+    let v = functions::apply(f, a, b, c);
+    if v < 4294967296 {
+        return v as u32;
+    }
+    word::put_word(l, 7, 1);
+    (v - 4294967296) as u32
+}
+
 fn apply_one(l: &mut [u8], d: u32, f: u8)
     requires { ⌜ (2048 ≤ length (now l)) × (0 < d) × (d ≤ 64) ⌝ }
     ensures { λ _. ⌜ now (l .exit) ≡ applyOne (now (l .entry)) d f ⌝ }
 {
     let k = 327 + (d as usize);
-    let v = functions::apply(f, word::get_word(l, k), 0, 0);
+    let x = word::get_word(l, k);
+    let v = call_on(l, f, x, 0, 0);
     word::put_word(l, k, v);
 }
 
@@ -39,7 +54,7 @@ fn apply_two(l: &mut [u8], d: u32, f: u8)
 {
     let x = word::get_word(l, 326 + (d as usize));
     let y = word::get_word(l, 327 + (d as usize));
-    let v = functions::apply(f, x, y, 0);
+    let v = call_on(l, f, x, y, 0);
     word::put_word(l, 326 + (d as usize), v);
     word::put_word(l, 6, d - 1);
 }
@@ -51,7 +66,7 @@ fn apply_three(l: &mut [u8], d: u32, f: u8)
     let x = word::get_word(l, 325 + (d as usize));
     let y = word::get_word(l, 326 + (d as usize));
     let z = word::get_word(l, 327 + (d as usize));
-    let v = functions::apply(f, x, y, z);
+    let v = call_on(l, f, x, y, z);
     word::put_word(l, 325 + (d as usize), v);
     word::put_word(l, 6, d - 2);
 }

@@ -185,7 +185,7 @@ fn waits(ranks: [u8; 3], ticks: u64) -> [u64; 3] {
         let a = proved::step(&table, &mut round);
         if a % 256 == 3 {
             let e = (a / 256 % 256) as usize;
-            longest[e] = longest[e].max(now + 1 - born[(a / 65536) as usize]);
+            longest[e] = longest[e].max(now + 1 - born[(a / 65536 % (1 << 40)) as usize]);
         }
     }
     longest

@@ -121,7 +121,7 @@ fn packed(a: Answer) -> u64 {
         Answer::Value(v) => (1u64 << 32) + v as u32 as u64,
         Answer::Ran => 1,
         Answer::Started(n, e) => about(2, n, e),
-        Answer::Committed(n, e) => about(3, n, e),
+        Answer::Committed(n, e, m) => ((m as u64) << 56) + about(3, n, e),
         Answer::BrokeIn(n, e) => about(4, n, e),
     }
 }
@@ -146,6 +146,7 @@ fn same_round(l: &[u8], m: &Model) {
     assert_eq!(running, m.running, "running");
     let stack: Vec<i32> = (0..word(l, 6) as usize).map(|i| word(l, 328 + i) as i32).collect();
     assert_eq!(stack, m.stack, "stack");
+    assert_eq!(word(l, 7) != 0, m.mark, "mark");
     for i in 0..m.board.len() {
         assert_eq!(word(l, 136 + i) as i32, m.board[i], "store {i}");
         m.scratch[i].map(|v| assert_eq!(word(l, 200 + i) as i32, v, "scratch {i}"));
@@ -174,8 +175,10 @@ pub fn run(sheet: &engine::Sheet, table: &Guarded, calls: &[Call]) -> (Model, Ve
         let got = call(table.part(), round.part_mut(), *c);
         assert_eq!(got, packed(want), "answer {k} to {c:?}");
         assert_eq!(proved::forecast(table.part(), round.part()), (1 << 32) + m.forecast() as u64, "forecast after {k}");
-        if let Answer::Committed(_, e) = want {
-            by_commits = sheet.event(e, &by_commits);
+        if let Answer::Committed(_, e, mark) = want {
+            let over;
+            (by_commits, over) = sheet.event(e, &by_commits);
+            assert_eq!(mark, over, "the mark of answer {k}");
             commits.push(e);
         }
         if !m.settling() {

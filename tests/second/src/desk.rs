@@ -61,7 +61,7 @@ pub fn expected(input: &[u8]) -> String {
             }
             0x22 => {
                 for _ in 0..v[0] as usize * 256 + v[1] as usize {
-                    if let Answer::Committed(n, e) = m.call(Call::Step) {
+                    if let Answer::Committed(n, e, _) = m.call(Call::Step) {
                         out += &format!("C {n} {e}\n");
                     }
                 }

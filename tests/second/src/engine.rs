@@ -1,6 +1,8 @@
 //! A plain second engine, written from documents 01 and 02 alone: a tree, the big-step meaning, the instruction lists and the model engine.
 //! It shares nothing with the proved engine and is as simple as possible; speed does not matter here.
 
+use std::cell::{Cell, RefCell};
+
 #[derive(Clone, Debug, PartialEq)]
 pub enum Expr {
     Con(i32),
@@ -66,6 +68,19 @@ pub fn apply(f: u8, a: &[i32]) -> i32 {
         14 => if a[0] != 0 { a[1] } else { a[2] },
         _ => unreachable!(),
     }
+}
+
+/// Document 02, M-104: the exact whole-number result is not the 32-bit one, or the divisor is zero.
+pub fn over(f: u8, a: &[i32]) -> bool {
+    let exact = match f {
+        4 => a[0] as i64 + a[1] as i64,
+        5 => a[0] as i64 - a[1] as i64,
+        6 => a[0] as i64 * a[1] as i64,
+        7 if a[1] == 0 => return true,
+        7 => floor(a[0] as i64, a[1] as i64),
+        _ => return false,
+    };
+    i32::try_from(exact).is_err()
 }
 
 // ---- reading a sheet: the first fault from left to right
@@ -305,47 +320,50 @@ impl Sheet {
 
     // ---- the meaning of one event
 
-    fn value(&self, e: &Expr, look: &dyn Fn(usize) -> i32) -> i32 {
+    /// `mark` is set where some application runs over.
+    fn value(&self, e: &Expr, look: &dyn Fn(usize) -> i32, mark: &Cell<bool>) -> i32 {
         match e {
             Expr::Con(w) => *w,
             Expr::Name(i) => look(*i),
             Expr::Param(_) => unreachable!("filled in"),
             Expr::App(f, a) => {
-                let v: Vec<i32> = a.iter().map(|x| self.value(x, look)).collect();
+                let v: Vec<i32> = a.iter().map(|x| self.value(x, look, mark)).collect();
+                mark.set(mark.get() || over(*f, &v));
                 apply(*f, &v)
             }
         }
     }
 
     /// First-phase value of i, kept once it is known.
-    fn first(&self, event: Option<usize>, board: &[i32], i: usize, known: &std::cell::RefCell<Vec<Option<i32>>>) -> i32 {
+    fn first(&self, event: Option<usize>, board: &[i32], i: usize, known: &RefCell<Vec<Option<i32>>>, mark: &Cell<bool>) -> i32 {
         if let Some(v) = known.borrow()[i] {
             return v;
         }
         let v = match self.does(event, i) {
-            Does::Follows(e) => self.value(e, &|j| self.first(event, board, j, known)),
-            Does::Takes(e) => self.value(e, &|j| if j == i { board[i] } else { self.first(event, board, j, known) }),
+            Does::Follows(e) => self.value(e, &|j| self.first(event, board, j, known, mark), mark),
+            Does::Takes(e) => self.value(e, &|j| if j == i { board[i] } else { self.first(event, board, j, known, mark) }, mark),
             _ => board[i],
         };
         known.borrow_mut()[i] = Some(v);
         v
     }
 
-    pub fn first_phase(&self, event: Option<usize>, board: &[i32]) -> Vec<i32> {
-        let known = std::cell::RefCell::new(vec![None; board.len()]);
-        (0..board.len()).map(|i| self.first(event, board, i, &known)).collect()
+    fn first_phase(&self, event: Option<usize>, board: &[i32], mark: &Cell<bool>) -> Vec<i32> {
+        let known = RefCell::new(vec![None; board.len()]);
+        (0..board.len()).map(|i| self.first(event, board, i, &known, mark)).collect()
     }
 
-    /// The board after an event: later handlers over first-phase values, all together; then the passives again.
-    pub fn event(&self, event: usize, board: &[i32]) -> Vec<i32> {
-        let one = self.first_phase(Some(event), board);
+    /// The board after an event: later handlers over first-phase values, all together; then the passives again. And whether some application ran over.
+    pub fn event(&self, event: usize, board: &[i32]) -> (Vec<i32>, bool) {
+        let mark = Cell::new(false);
+        let one = self.first_phase(Some(event), board, &mark);
         let two: Vec<i32> = (0..board.len())
             .map(|i| match self.does(Some(event), i) {
-                Does::Defers(e) => self.value(e, &|j| one[j]),
+                Does::Defers(e) => self.value(e, &|j| one[j], &mark),
                 _ => one[i],
             })
             .collect();
-        self.first_phase(None, &two)
+        (self.first_phase(None, &two, &mark), mark.get())
     }
 
     pub fn fresh(&self) -> Vec<i32> {
@@ -357,7 +375,7 @@ impl Sheet {
                 _ => 0,
             })
             .collect();
-        self.first_phase(None, &start)
+        self.first_phase(None, &start, &Cell::new(false))
     }
 
     // ---- the instruction list
@@ -507,7 +525,8 @@ pub enum Answer {
     Idle,
     Ran,
     Started(u32, usize),
-    Committed(u32, usize),
+    /// With M-104's mark.
+    Committed(u32, usize, bool),
     BrokeIn(u32, usize),
 }
 
@@ -522,6 +541,8 @@ pub struct Model {
     pub scratch: Vec<Option<i32>>,
     pub stack: Vec<i32>,
     pub places: Vec<Option<i32>>,
+    /// Some application ran over since the running one started.
+    pub mark: bool,
 }
 
 impl Model {
@@ -529,7 +550,7 @@ impl Model {
         let board = sheet.fresh();
         let n = board.len();
         let code = (0..sheet.ranks.len()).map(|e| sheet.code(e)).collect();
-        Model { sheet, code, board, taken: 0, waiting: vec![], running: None, scratch: vec![None; n], stack: vec![], places: vec![None; n] }
+        Model { sheet, code, board, taken: 0, waiting: vec![], running: None, scratch: vec![None; n], stack: vec![], places: vec![None; n], mark: false }
     }
 
     fn rank(&self, e: usize) -> u8 {
@@ -547,6 +568,7 @@ impl Model {
         self.scratch.iter_mut().for_each(|x| *x = None);
         self.places.iter_mut().for_each(|x| *x = None);
         self.stack.clear();
+        self.mark = false;
         (n, e)
     }
 
@@ -573,6 +595,7 @@ impl Model {
             Instr::Apply(f) => {
                 let at = self.stack.len() - arity(f);
                 let args = self.stack.split_off(at);
+                self.mark |= over(f, &args);
                 self.stack.push(apply(f, &args));
             }
             Instr::Save(k) => self.scratch[k] = self.stack.pop(),
@@ -593,7 +616,7 @@ impl Model {
             self.execute(self.code[e][c]);
             if c + 1 == self.code[e].len() {
                 self.running = None;
-                return Answer::Committed(n, e);
+                return Answer::Committed(n, e, self.mark);
             }
             self.running = Some((n, e, c + 1));
             return Answer::Ran;

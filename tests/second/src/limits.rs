@@ -168,6 +168,48 @@ fn quotients() {
     }
 }
 
+/// The marks of the commits that these arrivals lead to, in order, on both engines.
+fn marks_of(sheet: &[u8], calls: &[Call]) -> Vec<bool> {
+    let mut table = Guarded::new(TABLE + 8, 0x33);
+    let plain = compare::compile(sheet, &mut table).expect("an accepted sheet");
+    let mut all = calls.to_vec();
+    all.extend(std::iter::repeat(Call::Step).take(200));
+    compare::run(&plain, &table, &all);
+    let mut round = vec![0u8; 2048];
+    assert_eq!(proved::start(table.part(), &mut round), 0);
+    let answers = all.iter().map(|c| compare::call(table.part(), &mut round, *c));
+    answers.filter(|a| a % 256 == 3).map(|a| a >> 56 == 1).collect()
+}
+
+/// M-104: a commit's mark, for each function at its ends and wherever the meaning evaluates.
+fn marks() {
+    let (least, most) = (i32::MIN, i32::MAX);
+    let sums = [(4, most, 1, true), (4, most, 0, false), (4, least, -1, true), (4, least, most, false), (4, -1, -1, false), (4, -1, 1, false)];
+    let differences = [(5, least, 1, true), (5, 0, least, true), (5, -1, least, false), (5, most, -1, true), (5, -2, most, true), (5, -1, most, false)];
+    let products = [(6, 46341, 46341, true), (6, 46340, 46340, false), (6, 65536, -32768, false), (6, 65536, 32768, true), (6, least, -1, true), (6, -65536, -32768, true), (6, -65537, 32768, true)];
+    let quotients = [(7, least, -1, true), (7, least, 1, false), (7, 5, 0, true), (7, 0, 0, true), (7, -7, 2, false), (7, least, 2, false), (7, least + 1, -1, false)];
+    let tests = [1, 2, 8, 9, 10, 11, 12, 13].map(|f| (f, least, most, false));
+    for (f, a, b, want) in sums.into_iter().chain(differences).chain(products).chain(quotients).chain(tests) {
+        let x = app(f, &[con(a), con(b)]);
+        for later in [0, 1] {
+            let sheet = join(&[event(0), active(0, &[handler(0, later, &x)])]);
+            assert_eq!(marks_of(&sheet, &[Call::Arrive(0)]), [want], "{f} of {a} and {b}");
+        }
+        let sheet = join(&[event(0), passive(&app(3, &[x.clone()]))]);
+        assert_eq!(marks_of(&sheet, &[Call::Arrive(0)]), [want], "{f} of {a} and {b} in a passive");
+    }
+    let over = app(4, &[con(most), con(1)]);
+    let unused = app(14, &[con(0), over.clone(), con(3)]);
+    assert_eq!(marks_of(&join(&[event(0), active(0, &[handler(0, 0, &unused)])]), &[Call::Arrive(0)]), [true], "`if` evaluates all three");
+    let unread = join(&[event(0), event(0), active(0, &[handler(1, 0, &over)])]);
+    assert_eq!(marks_of(&unread, &[Call::Arrive(0), Call::Arrive(1), Call::Arrive(0)]), [false, true, false], "each commit has its own");
+    let second = join(&[event(0), event(0), active(1, &[handler(0, 1, &con(0)), handler(1, 0, &con(1))]), passive(&app(7, &[con(5), name(0)]))]);
+    assert_eq!(marks_of(&second, &[Call::Arrive(0), Call::Arrive(1), Call::Arrive(1)]), [true, false, false], "in the second phase alone");
+    let broken = join(&[event(1), event(2), active(0, &[handler(0, 0, &over)]), active(0, &[handler(1, 0, &con(1))])]);
+    let calls = [&[Call::Arrive(0)][..], &[Call::Step; 7], &[Call::Arrive(1)]].concat();
+    assert_eq!(marks_of(&broken, &calls), [false, true], "what a broken-in handler found is dropped");
+}
+
 /// A rest day: no bytes are a sheet with no events and no behaviours, whatever is called.
 fn rest_day() {
     let mut table = Guarded::new(TABLE + 8, 0x33);
@@ -311,9 +353,10 @@ pub fn run() {
     }
     forecast();
     quotients();
+    marks();
     rest_day();
     parameters();
     preview();
     spent();
-    println!("limits: every refusal of compile, both sides of each limit, forecasts, quotients, a rest day, parameters, previews, 1,000,000 arrivals");
+    println!("limits: every refusal of compile, both sides of each limit, forecasts, quotients, marks, a rest day, parameters, previews, 1,000,000 arrivals");
 }

@@ -1,5 +1,5 @@
 //! The calls on any bytes, as plain as can be: the layout of docs and the scope's list of what is foreign. What a call on damaged bytes must answer and leave.
-use crate::engine::{apply, arity, Call};
+use crate::engine::{apply, arity, over, Call};
 
 pub fn get(b: &[u8], k: usize) -> u32 {
     u32::from_be_bytes([b[4 * k], b[4 * k + 1], b[4 * k + 2], b[4 * k + 3]])
@@ -42,7 +42,7 @@ fn masked(t: &[u8], l: &[u8]) -> bool {
 }
 
 fn run(l: &mut [u8], n: u32, e: u32) {
-    [1, e, n, 0, 0].iter().enumerate().for_each(|(k, w)| put(l, 2 + k, *w));
+    [1, e, n, 0, 0, 0].iter().enumerate().for_each(|(k, w)| put(l, 2 + k, *w));
 }
 
 fn said(kind: u64, n: u32, e: u32) -> u64 {
@@ -83,6 +83,9 @@ fn execute(l: &mut [u8], op: u32, slot: usize, w: u32) -> Option<()> {
         8 if (1..=14).contains(&slot) && arity(slot as u8) <= d => {
             let n = arity(slot as u8);
             let args: Vec<i32> = (0..n).map(|k| get(l, 328 + d - n + k) as i32).collect();
+            if over(slot as u8, &args) {
+                put(l, 7, 1);
+            }
             put(l, 328 + d - n, apply(slot as u8, &args) as u32);
             if n > 1 {
                 put(l, 6, (d - n + 1) as u32);
@@ -108,7 +111,7 @@ fn advance(t: &[u8], l: &mut [u8]) -> u64 {
         return 1;
     }
     put(l, 2, 0);
-    said(3, n, e)
+    (((get(l, 7) != 0) as u64) << 56) + said(3, n, e)
 }
 
 fn step(t: &[u8], l: &mut [u8]) -> u64 {

@@ -17,5 +17,7 @@ count-on-spec =
     (λ c. rw (c .before .before .put-word .ensures) (search code depth 12))
     (λ c κs. search needs)
     (λ c κs. search needs)
+    (λ c κs. search needs)
     (λ c. search needs)
-    (λ c. rw (c .before .before .before .put-word2 .ensures, c .said-of .ensures) (search code depth 12)))
+    (λ c.
+    rw (c .before .before .before .put-word2 .ensures, c .commit-of .ensures, c .before .before .before .before .before .get-word .ensures) (search code depth 12)))

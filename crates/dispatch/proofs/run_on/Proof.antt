@@ -1,4 +1,4 @@
--- The five writes are the definition's, by their contracts.
+-- The six writes are the definition's, by their contracts.
 use Rattle.dispatch.specs.Dispatch.{run}
 use borrow.Author.Needs.{needs}
 use Rattle.dispatch.proofs.run_on.Statement.{statement}
@@ -14,5 +14,6 @@ run-on-spec =
     (λ c κs. search needs)
     (λ c κs. search needs)
     (λ c κs. search needs)
+    (λ c κs. search needs)
     (λ c. search needs)
-    (λ c. cc (c .before .before .before .before .before .before .before .before .before .before .before .before .before .before .before .before .before .before .put-word .ensures, c .before .before .before .before .before .before .before .before .before .before .before .before .before .before .put-word2 .ensures, c .before .before .before .before .before .before .before .before .before .before .put-word3 .ensures, c .before .before .before .before .before .before .put-word4 .ensures, c .before .before .put-word5 .ensures)))
+    (λ c. cc (c .before .before .before .before .before .before .before .before .before .before .before .before .before .before .before .before .before .before .before .before .before .before .put-word .ensures, c .before .before .before .before .before .before .before .before .before .before .before .before .before .before .before .before .before .before .put-word2 .ensures, c .before .before .before .before .before .before .before .before .before .before .before .before .before .before .put-word3 .ensures, c .before .before .before .before .before .before .before .before .before .before .put-word4 .ensures, c .before .before .before .before .before .before .put-word5 .ensures, c .before .before .put-word6 .ensures)))

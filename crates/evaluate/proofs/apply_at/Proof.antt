@@ -11,4 +11,4 @@ apply-at-spec =
     (λ c κs. search needs)
     (λ c κs. search needs)
     (λ c κs. search needs)
-    (λ c. cc (c .apply .ensures, c .before .argument-at3 .ensures, c .before .before .argument-at2 .ensures, c .before .before .before .argument-at .ensures)))
+    (λ c. cc (c .word-of .ensures, c .before .argument-at3 .ensures, c .before .before .argument-at2 .ensures, c .before .before .before .argument-at .ensures)))

@@ -1,7 +1,7 @@
 -- `!`: a word is false exactly when it is 0, carried through the callee's bit.
 use mathlib.Core.Bool.{Bool}
 use mathlib.Core.Path.{ap, _∙_}
-use Rattle.arith.specs.Exact.{wrapped}
+use Rattle.arith.specs.Exact.{reported}
 use Rattle.arith.specs.Functions.{truth}
 use Rattle.arith.proofs.Laws.{not-of}
 use borrow.Author.Needs.{needs}
@@ -13,4 +13,4 @@ opposite-spec =
     tie.close
     (tie.spec
     (λ c κs. search needs)
-    (λ c. c .bit .ensures ∙ ap (λ (t : Bool). wrapped (truth t)) (not-of (c .before .args .a))))
+    (λ c. c .bit .ensures ∙ ap (λ (t : Bool). reported (truth t)) (not-of (c .before .args .a))))

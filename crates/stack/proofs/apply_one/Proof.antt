@@ -1,4 +1,4 @@
--- The read, the function and the write are the definition's, by their contracts.
+-- The read, the function and the writes are the definition's, by their contracts.
 use Rattle.stack.specs.Stack.{applyOne}
 use borrow.Author.Needs.{needs}
 use Rattle.stack.proofs.apply_one.Statement.{statement}
@@ -14,4 +14,4 @@ apply-one-spec =
     (λ c κs. search needs)
     (λ c κs. search needs)
     (λ c. search needs)
-    (λ c. cc (c .before .before .before .before .before .get-word .ensures, c .before .before .before .before .apply .ensures, c .before .before .put-word .ensures)))
+    (λ c. cc (c .before .before .before .before .before .before .before .before .get-word .ensures, c .before .before .before .before .before .before .call-on .ensures .0, c .before .before .before .before .before .before .call-on .ensures .1, c .before .before .put-word .ensures)))
