@@ -4,7 +4,7 @@ use Prim.Native.Nat.{ℕ, zero, suc, _+_, _≤_, _<_}
 use mathlib.Core.Bool.{Bool, true, false, not, true≢false, false≢true}
 use mathlib.Core.Path.{_≡_, refl, sym, ap, _∙_, subst}
 use mathlib.Core.Logic.{_≢_, _⊎_, inl, inr, ⊎-elim}
-use mathlib.Core.List.{List, [], _∷_}
+use mathlib.Core.List.{List, [], _∷_, sum}
 use native.Mathlib.Omega.{arith}
 use lib.Dec.{eqb}
 use lib.ListN.{length, set, length-set}
@@ -15,7 +15,7 @@ use Rattle.language.specs.Syntax.{Program}
 use Rattle.language.specs.Dependence.{Response, defers, keeps, size, events, response, needs, dependsOn, Reach, one, more, Acyclic}
 use Rattle.language.specs.Order.{upTo, early, metAtOnce, phaseOne}
 use Rattle.language.specs.Accepted.{Known, Accepted}
-use Rattle.language.specs.Code.{one?, sum, code}
+use Rattle.language.specs.Code.{one?, code}
 use Rattle.language.specs.Laws.{none-past, depends-within}
 use Rattle.semantics.specs.Graph.{Marked, free, free-set, free-le}
 use Rattle.semantics.specs.OrderLaws.{markAll, Ordered, length-met, late-needs, phaseOne-ordered, order-complete}
@@ -26,11 +26,11 @@ use Rattle.compilation.specs.Derived.{without-is, first-derived, second-
 
 -- ---- how many have a turn in phase one
 
-free-turns : (n : ℕ) (f : ℕ → Bool) → free (upTo n (λ i. not (f i))) ≡ sum (upTo n (λ i. one? (f i)))
+free-turns : (n : ℕ) (f : ℕ → Bool) → free (upTo n (λ i. not (f i))) ≡ sum _+_ 0 (upTo n (λ i. one? (f i)))
 unfolding upTo sum
 free-turns zero f = refl
 free-turns (suc n) f =
-    let ih : free (upTo n (λ i. not (f (suc i)))) ≡ sum (upTo n (λ i. one? (f (suc i)))) = free-turns n (λ i. f (suc i)) in
+    let ih : free (upTo n (λ i. not (f (suc i)))) ≡ sum _+_ 0 (upTo n (λ i. one? (f (suc i)))) = free-turns n (λ i. f (suc i)) in
     split (f 0) (λ t. rw t (omega arith)) (λ t. rw t (omega arith))
 
 free-none : (m : List Bool) → ((i : ℕ) → i < length m → Marked m i) → free m ≡ 0

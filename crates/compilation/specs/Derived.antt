@@ -4,7 +4,7 @@ use Prim.Native.Nat.{ℕ, zero, suc, _+_, _≤_, _<_}
 use mathlib.Core.Bool.{Bool, true, false, not, true≢false, false≢true}
 use mathlib.Core.Path.{_≡_, refl, sym, ap, _∙_, subst}
 use mathlib.Core.Logic.{_≢_, _⊎_, inl, inr, ⊎-elim}
-use mathlib.Core.List.{List, [], _∷_, _++_, append-assoc}
+use mathlib.Core.List.{List, [], _∷_, _++_, append-assoc, flatMap}
 use native.Mathlib.Omega.{arith}
 use lib.Dec.{eqb}
 use lib.ListN.{length, getD, set, length-set}
@@ -69,13 +69,13 @@ module _ (p : Program) (e : ℕ) where
 
   along-other : (f : ℕ → Response → List Assign) (j : ℕ) → ((k : ℕ) (r : Response) → k ≢ j → All (λ b. assigned j b ≡ false) (f k r))
       → (is : List ℕ) → All (λ k. k ≢ j) is → All (λ b. assigned j b ≡ false) (along p e f is)
-  unfolding along
+  unfolding along flatMap
   along-other f j h [] a = tt
   along-other f j h (i ∷ is) a =
       all-join (λ b. assigned j b ≡ false) (f i (resp i)) (along p e f is) (h i (resp i) (a .0)) (along-other f j h is (a .1))
 
   laters-other : (j : ℕ) (is : List ℕ) → All (λ b. assigned j b ≡ false) (along p e laterOf is)
-  unfolding along
+  unfolding along flatMap
   laters-other j [] = tt
   laters-other j (i ∷ is) = all-join (λ b. assigned j b ≡ false) (laterOf i (resp i)) (along p e laterOf is) (later-other j i (resp i)) (laters-other j is)
 
@@ -110,7 +110,7 @@ module _ (p : Program) (e : ℕ) where
     holds : (j : ℕ) → s ≤ j → j < s + k → early (resp j) ≡ false → P j ≡ true
 
   laters : (k s : ℕ) (P : ℕ → Bool) → Late s k P → First p e P (along p e laterOf (from s k))
-  unfolding along from
+  unfolding along from flatMap
   laters zero s P l = none₁ (λ j. split (P j) (λ t. let h = l .says j t in absurd (omega arith)) (λ t. t))
   laters (suc k) s P l =
       split (early (resp s))
@@ -160,7 +160,7 @@ module _ (p : Program) (e : ℕ) where
   module _ (within : (a b : ℕ) → dep a b ≡ true → (a < n) × (b < n)) where
     turns : (is : List ℕ) (done : List Bool) (P : ℕ → Bool) → length done ≡ n → Ordered n dep done is → Left done P
         → ((Q : ℕ → Bool) → Left (markAll is done) Q → First p e Q (along p e laterOf (from 0 n))) → First p e P (along p e turnOf is ++ along p e laterOf (from 0 n))
-    unfolding along
+    unfolding along flatMap
     turns [] done P l o w rest = rest P w
     turns (i ∷ is) done P l o w rest =
         let h : early (resp i) ≡ true = split (early (resp i)) (λ t. t) (λ t. absurd (true≢false (sym (w .late i (o .0) t) ∙ o .1))) in
@@ -198,7 +198,7 @@ module _ (p : Program) (e : ℕ) where
 
     agains : (is : List ℕ) (done : List Bool) (P : ℕ → Bool) → length done ≡ n → Ordered n dep done is → Again done P
         → ((j : ℕ) → j < n → Marked (markAll is done) j) → Second p e P (along p e againOf is)
-    unfolding along
+    unfolding along flatMap
     agains [] done P l o w all = none₂ (λ j. split (P j) (λ t. let h = w .says j t in absurd (true≢false (sym (all j (h .0)) ∙ h .2))) (λ t. t))
     agains (i ∷ is) done P l o w all =
         split (isFollows (resp i))
@@ -249,7 +249,7 @@ module _ (p : Program) (e : ℕ) where
 
     moves : (k s : ℕ) (P : ℕ → Bool) (A : List Assign) → Moving s k P → ((Q : ℕ → Bool) → Moving n 0 Q → Second p e Q A)
         → Second p e P (along p e moveOf (from s k) ++ A)
-    unfolding along from
+    unfolding along from flatMap
     moves zero s P A w rest = let q : s ≡ n = omega (arith, w .ends) in rest P (rw q at w)
     moves (suc k) s P A w rest =
         rw (append-assoc (moveOf s (resp s)) (along p e moveOf (from (suc s) k)) A)

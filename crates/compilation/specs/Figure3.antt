@@ -4,14 +4,14 @@
 use Prim.Native.Nat.{ℕ, _+_}
 use mathlib.Core.Bool.{Bool, true, false, not, _&&_}
 use mathlib.Core.Path.{_≡_}
-use mathlib.Core.List.{List, [], _∷_, _++_}
+use mathlib.Core.List.{List, [], _∷_, _++_, flatMap, sum}
 use lib.Dec.{eqb, ltb}
 use lib.ListN.{length}
 use Rattle.base.specs.Basics.{pick, All}
 use Rattle.language.specs.Syntax.{Expr, Program}
 use Rattle.language.specs.Dependence.{follows, takes, defers, keeps, size, response, mentions}
 use Rattle.language.specs.Order.{upTo, early}
-use Rattle.language.specs.Code.{Instr, save, defer, move, postfix, inC, one?, sum, members, copyPart, firstPart, secondPart, restorePart, code}
+use Rattle.language.specs.Code.{Instr, save, defer, move, postfix, inC, one?, members, copyPart, firstPart, secondPart, restorePart, code}
 
 -- an assignment of a phase: xt := d of a passive; xt := d of an immediate handler; _xt := d of a later one; xt := _xt
 pub data Assign : Type 0 where
@@ -66,7 +66,7 @@ pub data Second (p : Program) (e : ℕ) : (ℕ → Bool) → List Assign → Typ
 
 -- how many behaviours have a turn in phase one, before the later handlers: the check on dependence asks whether an order holds them all
 unfoldable pub turnsIn : Program → ℕ → ℕ
-turnsIn p e = sum (upTo (size p) (λ i. one? (early (response p e i))))
+turnsIn p e = sum _+_ 0 (upTo (size p) (λ i. one? (early (response p e i))))
 
 -- the instructions of an assignment, c saying which names mean scratch
 abbrev pub assignCode : (ℕ → Bool) → Assign → List Instr
@@ -76,8 +76,7 @@ assignCode c (postpone i d) = postfix c d ++ (defer i ∷ [])
 assignCode c (bring i) = move i ∷ []
 
 unfoldable pub instructionsOf : (ℕ → Bool) → List Assign → List Instr
-instructionsOf c [] = []
-instructionsOf c (a ∷ A) = assignCode c a ++ instructionsOf c A
+instructionsOf c = flatMap (assignCode c)
 
 -- ⟦P⟧ = Q for one event: its code is the copy's, phase one's, phase two's and the copy-back's in a row; the phases are those of the rules, and phase one begins behind
 -- off, the copies and on

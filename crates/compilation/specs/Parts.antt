@@ -2,12 +2,12 @@
 use Prim.Native.Nat.{ℕ, zero, suc, _+_}
 use mathlib.Core.Bool.{Bool}
 use mathlib.Core.Path.{_≡_, refl, sym}
-use mathlib.Core.List.{List, [], _∷_, _++_, append-assoc, append-nil}
+use mathlib.Core.List.{List, [], _∷_, _++_, append-assoc, append-nil, flatten, flatMap}
 use native.Mathlib.Omega.{arith}
 use Rattle.language.specs.Syntax.{Program}
 use Rattle.language.specs.Dependence.{Response, follows, takes, defers, keeps, size, response}
 use Rattle.language.specs.Order.{upTo, phaseOne}
-use Rattle.language.specs.Code.{Instr, inC, join, firstCode, laterCode, moveCode, againCode, byNumber, inOrder, firstPart, secondPart}
+use Rattle.language.specs.Code.{Instr, inC, firstCode, laterCode, moveCode, againCode, byNumber, inOrder, firstPart, secondPart}
 use Rattle.compilation.specs.Figure3.{Assign, follow, update, postpone, bring, assignCode, instructionsOf}
 
 -- ---- what each behaviour gives
@@ -44,8 +44,7 @@ from s (suc k) = s ∷ from (suc s) k
 module _ (p : Program) (e : ℕ) where
   -- f of each of these behaviours
   unfoldable pub along : (ℕ → Response → List Assign) → List ℕ → List Assign
-  along f [] = []
-  along f (i ∷ is) = f i (response p e i) ++ along f is
+  along f = flatMap (λ i. f i (response p e i))
 
   abbrev pub firstOf : List Assign
   firstOf = along turnOf (phaseOne p e) ++ along laterOf (from 0 (size p))
@@ -57,16 +56,16 @@ module _ (p : Program) (e : ℕ) where
 
 module _ (c : ℕ → Bool) where
   both : (A bs : List Assign) → instructionsOf c (A ++ bs) ≡ instructionsOf c A ++ instructionsOf c bs
-  unfolding instructionsOf
+  unfolding instructionsOf flatMap
   both [] bs = refl
   both (a ∷ A) bs = rw (both A bs) (sym (append-assoc (assignCode c a) (instructionsOf c A) (instructionsOf c bs)))
 
   only : (a : Assign) → assignCode c a ≡ instructionsOf c (a ∷ [])
-  unfolding instructionsOf
+  unfolding instructionsOf flatMap
   only a = sym (append-nil (assignCode c a))
 
   nothing : [] ≡ instructionsOf c []
-  unfolding instructionsOf
+  unfolding instructionsOf flatMap
   nothing = refl
 
   turn-gives : (i : ℕ) (r : Response) → firstCode c i r ≡ instructionsOf c (turnOf i r)
@@ -95,12 +94,12 @@ module _ (c : ℕ → Bool) where
 
   module _ (p : Program) (e : ℕ) (f : ℕ → Response → List Instr) (g : ℕ → Response → List Assign) (gives : (i : ℕ) (r : Response) → f i r ≡ instructionsOf c (g i r)) where
     in-order : (is : List ℕ) → inOrder p e f is ≡ instructionsOf c (along p e g is)
-    unfolding inOrder along
+    unfolding inOrder flatMap along
     in-order [] = nothing
     in-order (i ∷ is) = rw (both (g i (response p e i)) (along p e g is), gives i (response p e i), in-order is)
 
-    from-on : (k s : ℕ) (h : ℕ → List Instr) → ((i : ℕ) → h i ≡ f (s + i) (response p e (s + i))) → join (upTo k h) ≡ instructionsOf c (along p e g (from s k))
-    unfolding join upTo from along
+    from-on : (k s : ℕ) (h : ℕ → List Instr) → ((i : ℕ) → h i ≡ f (s + i) (response p e (s + i))) → flatten (upTo k h) ≡ instructionsOf c (along p e g (from s k))
+    unfolding flatten upTo from along flatMap
     from-on zero s h q = nothing
     from-on (suc k) s h q =
         let z : s + 0 ≡ s = omega arith in

@@ -2,30 +2,30 @@
 use Prim.Native.Nat.{ℕ, zero, suc, _+_, _≤_, _<_}
 use mathlib.Core.Path.{_≡_, refl, ap}
 use mathlib.Core.Bool.{Bool, true, false}
-use mathlib.Core.List.{List}
+use mathlib.Core.List.{List, sum}
 use native.Mathlib.Omega.{arith}
 use lib.Dec.{eqb}
 use borrow.Author.Tests.{eq-eqb, ne-eqb}
 use Rattle.language.specs.Syntax.{Program}
 use Rattle.language.specs.Dependence.{Response, follows, takes, defers, keeps, size, response}
 use Rattle.language.specs.Order.{upTo}
-use Rattle.language.specs.Code.{copied, inC, share, sum, instructions, one?, members}
+use Rattle.language.specs.Code.{copied, inC, share, instructions, one?, members}
 use Rattle.draft.specs.Draft.{entryOf, Drafted}
 use Rattle.draft.specs.DraftLaws.{Entry, entry-of}
 use Rattle.counts.specs.Counts.{total, shareOf, countEvent, isMember, countMembers}
 
 -- ---- sums
 
-sum-snoc : (n : ℕ) (g : ℕ → ℕ) → sum (upTo (suc n) g) ≡ sum (upTo n g) + g n
+sum-snoc : (n : ℕ) (g : ℕ → ℕ) → sum _+_ 0 (upTo (suc n) g) ≡ sum _+_ 0 (upTo n g) + g n
 unfolding sum upTo
 sum-snoc zero g = omega arith
 sum-snoc (suc n) g = omega (arith, sum-snoc n (λ i. g (suc i)))
 
-none-sum : (g : ℕ → ℕ) → 0 ≡ sum (upTo 0 g)
+none-sum : (g : ℕ → ℕ) → 0 ≡ sum _+_ 0 (upTo 0 g)
 unfolding sum upTo
 none-sum g = refl
 
-pub total-sum : (n : ℕ) (f g : ℕ → ℕ) → ((i : ℕ) → i < n → f i ≡ g i) → total n f ≡ sum (upTo n g)
+pub total-sum : (n : ℕ) (f g : ℕ → ℕ) → ((i : ℕ) → i < n → f i ≡ g i) → total n f ≡ sum _+_ 0 (upTo n g)
 unfolding total
 total-sum zero f g h = none-sum g
 total-sum (suc n) f g h = rw (sum-snoc n g, total-sum n f g (λ i b. h i (omega arith)), h n (omega arith))

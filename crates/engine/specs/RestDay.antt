@@ -4,7 +4,7 @@ use Prim.Native.Nat.{ℕ, _≤_}
 use mathlib.Core.Bool.{true≢false}
 use mathlib.Core.Path.{_≡_, refl, sym, ap, _∙_}
 use mathlib.Core.Logic.{_≢_}
-use mathlib.Core.List.{List, [], _∷_, _++_}
+use mathlib.Core.List.{List, [], _∷_, _++_, sum}
 use native.Mathlib.Omega.{arith}
 use lib.ListN.{length}
 use borrow.Author.Tests.{le-leb}
@@ -14,7 +14,7 @@ use Rattle.language.specs.Sheet.{Sheet, fillItems, usesItems}
 use Rattle.language.specs.Dependence.{handled, dependsOn, Reach, one, more}
 use Rattle.language.specs.Grammar.{encodeBehaviours, encodeEvents, encode}
 use Rattle.language.specs.Order.{upTo}
-use Rattle.language.specs.Code.{sum, allInstructions}
+use Rattle.language.specs.Code.{allInstructions}
 use Rattle.language.specs.Accepted.{Accepted, SheetAccepted}
 use Rattle.language.specs.Reading.{sheet}
 use Rattle.model.specs.Model.{Engine, initial, Call, arrive, step, board, act, run}

@@ -2,7 +2,7 @@
 use Prim.Native.Nat.{ℕ, zero, suc}
 use mathlib.Core.Bool.{Bool, true, false}
 use mathlib.Core.Path.{_≡_, refl, _∙_}
-use mathlib.Core.List.{List, [], _∷_, _++_}
+use mathlib.Core.List.{List, [], _∷_, _++_, flatten, flatMap}
 use lib.ListN.{take}
 use Rattle.base.specs.Basics.{pick, All}
 use Rattle.base.specs.Tools.{all-join}
@@ -10,7 +10,7 @@ use Rattle.language.specs.Syntax.{Expr, con, name, app1, app2, app3, Program}
 use Rattle.language.specs.Dependence.{Response, follows, takes, defers, keeps, size, response}
 use Rattle.language.specs.Order.{upTo, phaseOne}
 use Rattle.language.specs.Code.{Instr, off, on, copy, restore, load, fetch, save, defer, move, push, apply}
-use Rattle.language.specs.Code.{join, postfix, ofC, firstCode, laterCode, moveCode, againCode, inC, byNumber, inOrder, firstPart, secondPart}
+use Rattle.language.specs.Code.{postfix, ofC, firstCode, laterCode, moveCode, againCode, inC, byNumber, inOrder, firstPart, secondPart}
 use Rattle.execution.specs.Execution.{Values, execute, executeAll, isOff, isOn}
 use Rattle.execution.specs.Lengths.{mid}
 
@@ -25,13 +25,13 @@ abbrev pub Calm : Instr → Type 0
 Calm i = Plain i × Still i
 
 module _ (P : Instr → Type 0) where
-  pub all-parts : (n : ℕ) (f : ℕ → List Instr) → ((i : ℕ) → All P (f i)) → All P (join (upTo n f))
-  unfolding upTo join
+  pub all-parts : (n : ℕ) (f : ℕ → List Instr) → ((i : ℕ) → All P (f i)) → All P (flatten (upTo n f))
+  unfolding upTo flatten
   all-parts zero f h = tt
-  all-parts (suc n) f h = all-join P (f 0) (join (upTo n (λ i. f (suc i)))) (h 0) (all-parts n (λ i. f (suc i)) (λ i. h (suc i)))
+  all-parts (suc n) f h = all-join P (f 0) (flatten (upTo n (λ i. f (suc i)))) (h 0) (all-parts n (λ i. f (suc i)) (λ i. h (suc i)))
 
   all-turns : (p : Program) (e : ℕ) (f : ℕ → Response → List Instr) → ((i : ℕ) (r : Response) → All P (f i r)) → (is : List ℕ) → All P (inOrder p e f is)
-  unfolding inOrder
+  unfolding inOrder flatMap
   all-turns p e f h [] = tt
   all-turns p e f h (i ∷ is) = all-join P (f i (response p e i)) (inOrder p e f is) (h i (response p e i)) (all-turns p e f h is)
 

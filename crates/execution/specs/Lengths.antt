@@ -1,8 +1,8 @@
 -- The length of an event's code: of each part, and of the whole by 01's count. Phase one's order holds everyone that has a turn there, once: so a sum over it is one over all.
 use Prim.Native.Nat.{ℕ, _+_, _*_, _≤_}
 use mathlib.Core.Bool.{Bool, false, true≢false}
-use mathlib.Core.Path.{_≡_, refl, _∙_}
-use mathlib.Core.List.{List, [], _∷_, _++_}
+use mathlib.Core.Path.{_≡_, refl, ap, _∙_}
+use mathlib.Core.List.{List, [], _∷_, _++_, map, flatMap, sum}
 use native.Mathlib.Omega.{arith}
 use lib.ListN.{length, length-append}
 use Rattle.language.specs.Syntax.{Expr, con, name, app1, app2, app3, Program}
@@ -11,9 +11,10 @@ use Rattle.language.specs.Order.{upTo, early, phaseOne, metAtOnce}
 use Rattle.language.specs.Accepted.{Valid}
 use Rattle.language.specs.Code.{Instr, copy, restore}
 use Rattle.language.specs.Code.{postfix, ofC, firstCode, laterCode, moveCode, againCode, inC, copied, byNumber, inOrder, copyPart}
-use Rattle.language.specs.Code.{firstPart, secondPart, restorePart, code, sizeOf, share, sum, instructions, one?, members}
+use Rattle.language.specs.Code.{firstPart, secondPart, restorePart, code, sizeOf, share, instructions, one?, members}
+use Rattle.language.specs.Laws.{upTo-same}
 use Rattle.semantics.specs.OrderLaws.{phaseOne-ordered, phaseOne-marks, length-met, met-late}
-use Rattle.execution.specs.Sums.{length-join, sum-same, sum-add, total, total-is-sum}
+use Rattle.execution.specs.Sums.{length-flatten, sum-add, total-is-sum}
 
 pub length-postfix : (c : ℕ → Bool) (x : Expr) → length (postfix c x) ≡ sizeOf x
 unfolding postfix sizeOf
@@ -59,14 +60,14 @@ module _ (p : Program) (e : ℕ) where
   abbrev lengths : (ℕ → Response → List Instr) → ℕ → ℕ
   lengths f i = length (f i (response p e i))
 
-  length-inOrder : (f : ℕ → Response → List Instr) (is : List ℕ) → length (inOrder p e f is) ≡ total (lengths f) is
-  unfolding inOrder total
+  length-inOrder : (f : ℕ → Response → List Instr) (is : List ℕ) → length (inOrder p e f is) ≡ sum _+_ 0 (map (lengths f) is)
+  unfolding inOrder flatMap sum
   length-inOrder f [] = refl
   length-inOrder f (i ∷ is) = rw (length-append (f i (response p e i)) (inOrder p e f is), length-inOrder f is)
 
   pub length-C : (f : ℕ → Instr) → length (byNumber p e (ofC f)) ≡ members p e
   unfolding members
-  length-C f = length-join (size p) _ ∙ sum-same (size p) _ _ (λ i. length-ofC f i (response p e i))
+  length-C f = length-flatten (size p) _ ∙ ap (sum _+_ 0) (upTo-same (size p) _ _ (λ i _. length-ofC f i (response p e i)))
 
   -- masked stretches of known length, and the rest
   pub length-code : length (code p e) ≡ 4 + 2 * members p e + length mid
@@ -75,13 +76,13 @@ module _ (p : Program) (e : ℕ) where
 
   module _ (v : Valid p) (declared : e ≤ noEvent p) where
     length-turns : (f : ℕ → Response → List Instr) → ((i : ℕ) (r : Response) → early r ≡ false → length (f i r) ≡ 0)
-        → length (inOrder p e f (phaseOne p e)) ≡ sum (upTo (size p) (lengths f))
+        → length (inOrder p e f (phaseOne p e)) ≡ sum _+_ 0 (upTo (size p) (lengths f))
     length-turns f late =
         length-inOrder f (phaseOne p e)
         ∙ total-is-sum (size p) (dependsOn p e) (lengths f) (phaseOne p e) (metAtOnce p e) (length-met p e) (phaseOne-ordered p e (v .known))
         (phaseOne-marks p v e declared) (λ i b m. late i (response p e i) (met-late p e i b m))
 
-    length-mid : length mid ≡ sum (upTo (size p) (λ i. between (inC p e) i (response p e i)))
+    length-mid : length mid ≡ sum _+_ 0 (upTo (size p) (λ i. between (inC p e) i (response p e i)))
     unfolding firstPart secondPart
     length-mid =
         let c = inC p e in
@@ -90,10 +91,10 @@ module _ (p : Program) (e : ℕ) where
         let l = lengths (laterCode c) in
         let m = lengths moveCode in
         let a = lengths (againCode c) in
-        let first : length (inOrder p e (firstCode c) (phaseOne p e)) ≡ sum (upTo n f) = length-turns (firstCode c) (late-first c) in
-        let later : length (byNumber p e (laterCode c)) ≡ sum (upTo n l) = length-join n _ in
-        let moves : length (byNumber p e moveCode) ≡ sum (upTo n m) = length-join n _ in
-        let again : length (inOrder p e (againCode c) (phaseOne p e)) ≡ sum (upTo n a) = length-turns (againCode c) (late-again c) in
+        let first : length (inOrder p e (firstCode c) (phaseOne p e)) ≡ sum _+_ 0 (upTo n f) = length-turns (firstCode c) (late-first c) in
+        let later : length (byNumber p e (laterCode c)) ≡ sum _+_ 0 (upTo n l) = length-flatten n _ in
+        let moves : length (byNumber p e moveCode) ≡ sum _+_ 0 (upTo n m) = length-flatten n _ in
+        let again : length (inOrder p e (againCode c) (phaseOne p e)) ≡ sum _+_ 0 (upTo n a) = length-turns (againCode c) (late-again c) in
         simp length-append (omega (arith, first, later, moves, again, sum-add n (λ i. f i + l i) (λ i. m i + a i), sum-add n f l, sum-add n m a))
 
     pub length-counted : length (code p e) ≡ instructions p e
@@ -102,5 +103,5 @@ module _ (p : Program) (e : ℕ) where
         let n = size p in
         let o : ℕ → ℕ = λ i. one? (inC p e i) in
         let b : ℕ → ℕ = λ i. between (inC p e) i (response p e i) in
-        let shares : sum (upTo n (λ i. share (response p e i))) ≡ sum (upTo n (λ i. (o i + o i) + b i)) = sum-same n _ _ (λ i. share-is (inC p e) i (response p e i)) in
+        let shares : sum _+_ 0 (upTo n (λ i. share (response p e i))) ≡ sum _+_ 0 (upTo n (λ i. (o i + o i) + b i)) = ap (sum _+_ 0) (upTo-same n _ _ (λ i _. share-is (inC p e) i (response p e i))) in
         omega (arith, shares, sum-add n (λ i. o i + o i) b, sum-add n o o, length-mid, length-code)

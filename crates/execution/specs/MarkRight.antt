@@ -2,7 +2,7 @@
 use Prim.Native.Nat.{ℕ, zero, suc, _<_}
 use mathlib.Core.Bool.{Bool, true, false, _||_}
 use mathlib.Core.Path.{_≡_, refl, ap, _∙_}
-use mathlib.Core.List.{List, [], _∷_, _++_}
+use mathlib.Core.List.{List, [], _∷_, _++_, flatten, flatMap}
 use native.Mathlib.Omega.{arith}
 use lib.ListN.{length}
 use Rattle.base.specs.Basics.{All}
@@ -11,7 +11,7 @@ use Rattle.language.specs.Dependence.{Response, follows, takes, defers, keeps, 
 use Rattle.language.specs.Order.{upTo, phaseOne}
 use Rattle.language.specs.Grammar.{Nested}
 use Rattle.language.specs.Accepted.{NamesIn, Valid}
-use Rattle.language.specs.Code.{Instr, off, on, copy, restore, save, defer, move, join, postfix, firstCode, laterCode, moveCode, againCode, inC, byNumber, inOrder, firstPart, secondPart, code}
+use Rattle.language.specs.Code.{Instr, off, on, copy, restore, save, defer, move, postfix, firstCode, laterCode, moveCode, againCode, inC, byNumber, inOrder, firstPart, secondPart, code}
 use Rattle.semantics.specs.Meaning.{firstStep, againStep, firstPhase, settle}
 use Rattle.semantics.specs.OverMeaning.{overIn, firstOver, laterOver, againOver, anyOf, turnsOver, eventOver}
 use Rattle.execution.specs.Execution.{Values, at, execute, executeAll, emptied}
@@ -102,13 +102,13 @@ swapped false b m = refl
 
 parts-mark : (n : ℕ) (f : ℕ → List Instr) (g : ℕ → Bool) (Inv : Values → Type 0)
     → ((i : ℕ) → i < n → (d : Values) → Inv d → Inv (executeAll (f i) d) × (executeAll (f i) d .mark ≡ g i || d .mark))
-    → (d : Values) → Inv d → executeAll (join (upTo n f)) d .mark ≡ anyOf (upTo n g) || d .mark
-unfolding upTo join executeAll anyOf
+    → (d : Values) → Inv d → executeAll (flatten (upTo n f)) d .mark ≡ anyOf (upTo n g) || d .mark
+unfolding upTo flatten executeAll anyOf
 parts-mark zero f g Inv one d h = refl
 parts-mark (suc n) f g Inv one d h =
     let k = one 0 (omega arith) d h in
     let rest : Bool = anyOf (upTo n (λ i. g (suc i))) in
-    ap (λ (v : Values). v .mark) (execute-append (f 0) (join (upTo n (λ i. f (suc i)))) d)
+    ap (λ (v : Values). v .mark) (execute-append (f 0) (flatten (upTo n (λ i. f (suc i)))) d)
     ∙ parts-mark n (λ i. f (suc i)) (λ i. g (suc i)) Inv (λ i b. one (suc i) (omega arith)) (executeAll (f 0) d) (k .0)
     ∙ ap (λ (m : Bool). rest || m) (k .1) ∙ swapped (g 0) rest (d .mark)
 
@@ -118,7 +118,7 @@ module _ (p : Program) (v : Valid p) (e : ℕ) (s : List ℕ) where
       (marks : (d : Values) (t : List ℕ) (i : ℕ) → Seen p v e s d t → executeAll (f i (response p e i)) d .mark ≡ h t (response p e i) || d .mark) where
     turns-mark : (is : List ℕ) → All (λ i. i < size p) is → (d : Values) (t : List ℕ) → Seen p v e s d t
         → executeAll (inOrder p e f is) d .mark ≡ turnsOver p e h g is t || d .mark
-    unfolding inOrder executeAll turnsOver
+    unfolding inOrder flatMap executeAll turnsOver
     turns-mark [] a d t k = refl
     turns-mark (i ∷ is) a d t k =
         let r : Response = response p e i in

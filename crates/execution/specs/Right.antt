@@ -4,7 +4,7 @@ use Prim.Native.Nat.{ℕ, suc, _≤_, _<_}
 use mathlib.Core.Path.{_≡_, refl, sym, ap, subst, _∙_}
 use mathlib.Core.Logic.{by-cases}
 use mathlib.Core.Option.{Option, none}
-use mathlib.Core.List.{List, [], _∷_, _++_}
+use mathlib.Core.List.{List, [], _∷_, _++_, flatMap}
 use native.Mathlib.Decide.{ℕ-discrete}
 use native.Mathlib.Omega.{arith}
 use lib.ListN.{length, length-replicate}
@@ -34,7 +34,7 @@ module _ (p : Program) (v : Valid p) (e : ℕ) (s : List ℕ) where
   module _ (f : ℕ → Response → List Instr) (g : ℕ → Response → List ℕ → List ℕ)
       (one : (d : Values) (t : List ℕ) (i : ℕ) → i < size p → Seen d t → Seen (executeAll (f i (response p e i)) d) (g i (response p e i) t)) where
     turns : (is : List ℕ) → All (λ i. i < size p) is → (d : Values) (t : List ℕ) → Seen d t → Seen (executeAll (inOrder p e f is) d) (inTurn p e g is t)
-    unfolding inOrder inTurn executeAll
+    unfolding inOrder flatMap inTurn executeAll
     turns [] a d t h = h
     turns (i ∷ is) a d t h =
         rw (execute-append (f i (response p e i)) (inOrder p e f is) d)

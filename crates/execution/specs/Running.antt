@@ -3,7 +3,7 @@
 use Prim.Native.Nat.{ℕ, zero, suc, _<_, _≤_}
 use mathlib.Core.Bool.{Bool, true, false, _||_}
 use mathlib.Core.Path.{_≡_, refl}
-use mathlib.Core.List.{List, [], _∷_, _++_, append-assoc}
+use mathlib.Core.List.{List, [], _∷_, _++_, append-assoc, flatten}
 use native.Mathlib.Omega.{arith}
 use lib.Dec.{eqb}
 use borrow.Author.Tests.{ne-eqb}
@@ -14,7 +14,7 @@ use Rattle.language.specs.Syntax.{Expr, con, name, app1, app2, app3}
 use Rattle.language.specs.Grammar.{Arity, unary, ternary, binary, Nested, n-con, n-name, n-app1, n-app2, n-app3}
 use Rattle.language.specs.Accepted.{NamesIn}
 use Rattle.language.specs.Order.{upTo}
-use Rattle.language.specs.Code.{Instr, load, fetch, apply, join, postfix}
+use Rattle.language.specs.Code.{Instr, load, fetch, apply, postfix}
 use Rattle.semantics.specs.Meaning.{value}
 use Rattle.semantics.specs.OverMeaning.{overIn}
 use Rattle.execution.specs.Execution.{Values, at, heldAt, applied, overOn, pushed, execute, executeAll}
@@ -27,11 +27,11 @@ execute-append (x ∷ xs) ys d = execute-append xs ys (execute x d)
 
 -- what each number's part takes from one place of a chain to the next, all of them take from its start to its end
 pub parts : (n : ℕ) (f : ℕ → List Instr) (Inv : ℕ → Values → Type 0) → ((i : ℕ) → i < n → (d : Values) → Inv i d → Inv (suc i) (executeAll (f i) d))
-    → (d : Values) → Inv 0 d → Inv n (executeAll (join (upTo n f)) d)
-unfolding upTo join executeAll
+    → (d : Values) → Inv 0 d → Inv n (executeAll (flatten (upTo n f)) d)
+unfolding upTo flatten executeAll
 parts zero f Inv step d h = h
 parts (suc n) f Inv step d h =
-    rw (execute-append (f 0) (join (upTo n (λ i. f (suc i)))) d)
+    rw (execute-append (f 0) (flatten (upTo n (λ i. f (suc i)))) d)
     (parts n (λ i. f (suc i)) (λ i. Inv (suc i)) (λ i b. step (suc i) (omega arith)) (executeAll (f 0) d) (step 0 (omega arith) d h))
 
 -- what a name means: scratch where c says so, else the store

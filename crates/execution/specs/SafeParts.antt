@@ -4,7 +4,7 @@ use Prim.Native.Nat.{ℕ, zero, suc, _+_, _*_, _-_, _≤_, _<_}
 use mathlib.Core.Bool.{Bool, true, false, false≢true}
 use mathlib.Core.Path.{_≡_, refl, sym, ap, subst, _∙_}
 use mathlib.Core.Logic.{by-cases}
-use mathlib.Core.List.{List, [], _∷_, _++_}
+use mathlib.Core.List.{List, [], _∷_, _++_, flatten, flatMap}
 use native.Mathlib.Decide.{ℕ-discrete}
 use native.Mathlib.Omega.{arith}
 use lib.ListN.{length, getD, set, length-set, length-replicate}
@@ -17,7 +17,7 @@ use Rattle.language.specs.Order.{upTo, phaseOne}
 use Rattle.language.specs.Grammar.{Nested, n-con, n-name, n-app1, n-app2, n-app3}
 use Rattle.language.specs.Accepted.{NamesIn, Valid}
 use Rattle.language.specs.Code.{Instr, off, on, copy, restore, load, fetch, save, defer, apply}
-use Rattle.language.specs.Code.{join, postfix, ofC, firstCode, laterCode, moveCode, againCode}
+use Rattle.language.specs.Code.{postfix, ofC, firstCode, laterCode, moveCode, againCode}
 use Rattle.language.specs.Code.{copied, inC, byNumber, inOrder, firstPart, secondPart, code}
 use Rattle.semantics.specs.OrderLaws.{phaseOne-early}
 use Rattle.execution.specs.Safe.{Filled, start, arity, Ok, withDepth, next, after, Safe}
@@ -59,17 +59,17 @@ leads-on : (a b z : Filled) (xs ys : List Instr) → Leads a xs b → Leads b ys
 leads-on a b z xs ys h k = goes-join a xs ys (λ x. x ≡ b) (λ x. x ≡ z) h (λ x e. subst (λ y. Leads y ys z) (sym e) k)
 
 goes-parts : (n : ℕ) (f : ℕ → List Instr) (Inv : ℕ → Filled → Type 0) → ((i : ℕ) → i < n → (a : Filled) → Inv i a → Goes a (f i) (Inv (suc i)))
-    → (a : Filled) → Inv 0 a → Goes a (join (upTo n f)) (Inv n)
-unfolding upTo join after
+    → (a : Filled) → Inv 0 a → Goes a (flatten (upTo n f)) (Inv n)
+unfolding upTo flatten after
 goes-parts zero f Inv step a h = (tt, h)
 goes-parts (suc n) f Inv step a h =
-    goes-join a (f 0) (join (upTo n (λ i. f (suc i)))) (Inv 1) (Inv (suc n)) (step 0 (omega arith) a h)
+    goes-join a (f 0) (flatten (upTo n (λ i. f (suc i)))) (Inv 1) (Inv (suc n)) (step 0 (omega arith) a h)
     (goes-parts n (λ i. f (suc i)) (λ i. Inv (suc i)) (λ i b. step (suc i) (omega arith)))
 
 goes-turns : (p : Program) (e : ℕ) (f : ℕ → Response → List Instr) (P : Filled → Type 0)
     → ((i : ℕ) → i < size p → (a : Filled) → P a → Goes a (f i (response p e i)) P)
     → (is : List ℕ) → All (λ i. i < size p) is → (a : Filled) → P a → Goes a (inOrder p e f is) P
-unfolding inOrder after
+unfolding inOrder flatMap after
 goes-turns p e f P step [] b a h = (tt, h)
 goes-turns p e f P step (i ∷ is) b a h =
     goes-join a (f i (response p e i)) (inOrder p e f is) P P (step i (b .0) a h) (goes-turns p e f P step is (b .1))

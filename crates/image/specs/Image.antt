@@ -1,12 +1,12 @@
 -- The table that compile leaves for a program: the words of its first 34,816 bytes (layout: crate layout). 01 "Handlers and steps": "each event's code is the one 01 lists".
 use Prim.Native.Nat.{ℕ, _+_, _*_, _-_}
-use mathlib.Core.List.{List, [], _∷_, _++_}
+use mathlib.Core.List.{List, [], _∷_, _++_, flatten, sum}
 use lib.ListN.{length, getD, replicate}
 use Rattle.word.specs.Word.{put}
 use Rattle.language.specs.Syntax.{Program}
 use Rattle.language.specs.Dependence.{size, events}
 use Rattle.language.specs.Order.{upTo}
-use Rattle.language.specs.Code.{Instr, off, on, copy, restore, load, fetch, save, defer, move, push, apply, join, code, sum, members}
+use Rattle.language.specs.Code.{Instr, off, on, copy, restore, load, fetch, save, defer, move, push, apply, code, members}
 use Rattle.semantics.specs.Meaning.{fresh}
 
 -- an instruction's two words: operation * 256 + slot, and a constant
@@ -42,10 +42,10 @@ codeWords (i ∷ is) = operation i ∷ (constant i ∷ codeWords is)
 
 -- the events' code one after the other, and where event e's begins
 unfoldable pub allCode : Program → List Instr
-allCode p = join (upTo (events p) (code p))
+allCode p = flatten (upTo (events p) (code p))
 
 unfoldable pub startOf : Program → ℕ → ℕ
-startOf p e = sum (upTo e (λ f. length (code p f)))
+startOf p e = sum _+_ 0 (upTo e (λ f. length (code p f)))
 
 abbrev pub eventRecord : Program → ℕ → List ℕ
 eventRecord p e = getD (p .priorities) e 0 ∷ startOf p e ∷ length (code p e) ∷ members p e ∷ []
@@ -57,7 +57,7 @@ padded n ws = ws ++ replicate (n - length ws) 0
 unfoldable pub imageWords : Program → List ℕ
 imageWords p =
     padded 8 (events p ∷ size p ∷ [])
-    ++ (padded 128 (join (upTo (events p) (eventRecord p)))
+    ++ (padded 128 (flatten (upTo (events p) (eventRecord p)))
     ++ (padded 376 (fresh p)
     ++ padded 8192 (codeWords (allCode p))))
 

@@ -4,7 +4,7 @@ use Prim.Native.Nat.{ℕ, zero, suc, _+_, _*_, _-_, _≤_, _<_}
 use mathlib.Core.Bool.{true}
 use mathlib.Core.Path.{_≡_, refl, sym, ap, _∙_}
 use mathlib.Core.Logic.{_≢_}
-use mathlib.Core.List.{List, [], _∷_, _++_}
+use mathlib.Core.List.{List, [], _∷_, _++_, flatten, sum}
 use native.Mathlib.Omega.{arith}
 use lib.ListN.{length, getD, replicate, length-append, length-replicate, List·getD-append}
 use lib.Seq.{getD-append-add, getD-set-other}
@@ -14,7 +14,7 @@ use Rattle.word.specs.Laws.{length-put, get-same, get-other}
 use Rattle.language.specs.Syntax.{Program}
 use Rattle.language.specs.Dependence.{size, events}
 use Rattle.language.specs.Order.{upTo}
-use Rattle.language.specs.Code.{Instr, off, code, join, sum, members}
+use Rattle.language.specs.Code.{Instr, off, code, members}
 use Rattle.semantics.specs.Meaning.{at, fresh}
 use Rattle.layout.specs.Layout.{eventWord, codeFits, codesFit, tableWith, tableFits}
 use Rattle.image.specs.Image.{operation, constant, codeWords, allCode, startOf, eventRecord, padded, imageWords, putWords, tableOf}
@@ -43,44 +43,44 @@ getD-past xs ys n k h = rw (sym h) (getD-append-add xs ys k 0)
 
 -- ---- parts of equal length
 
-length-even : (m n : ℕ) (f : ℕ → List ℕ) → ((i : ℕ) → length (f i) ≡ m) → length (join (upTo n f)) ≡ n * m
-unfolding join upTo
+length-even : (m n : ℕ) (f : ℕ → List ℕ) → ((i : ℕ) → length (f i) ≡ m) → length (flatten (upTo n f)) ≡ n * m
+unfolding flatten upTo
 length-even m zero f h = omega arith
 length-even m (suc n) f h =
-    rw (length-append (f 0) (join (upTo n (λ i. f (suc i)))), h 0, length-even m n (λ i. f (suc i)) (λ i. h (suc i))) (omega arith)
+    rw (length-append (f 0) (flatten (upTo n (λ i. f (suc i)))), h 0, length-even m n (λ i. f (suc i)) (λ i. h (suc i))) (omega arith)
 
 getD-even : (m n : ℕ) (f : ℕ → List ℕ) (e k : ℕ) → ((i : ℕ) → length (f i) ≡ m) → e < n → k < m
-    → getD (join (upTo n f)) (e * m + k) 0 ≡ getD (f e) k 0
-unfolding join upTo
+    → getD (flatten (upTo n f)) (e * m + k) 0 ≡ getD (f e) k 0
+unfolding flatten upTo
 getD-even m zero f e k h b c = absurd (omega arith)
 getD-even m (suc n) f zero k h b c =
     let z : 0 * m + k ≡ k = omega arith in
     let l : k < length (f 0) = omega (arith, h 0) in
-    rw z (List·getD-append (f 0) (join (upTo n (λ i. f (suc i)))) 0 k l)
+    rw z (List·getD-append (f 0) (flatten (upTo n (λ i. f (suc i)))) 0 k l)
 getD-even m (suc n) f (suc e) k h b c =
     let z : suc e * m + k ≡ m + (e * m + k) = omega arith in
-    rw z (getD-past (f 0) (join (upTo n (λ i. f (suc i)))) m (e * m + k) (h 0) ∙ getD-even m n (λ i. f (suc i)) e k (λ i. h (suc i)) (omega arith) c)
+    rw z (getD-past (f 0) (flatten (upTo n (λ i. f (suc i)))) m (e * m + k) (h 0) ∙ getD-even m n (λ i. f (suc i)) e k (λ i. h (suc i)) (omega arith) c)
 
 -- ---- parts of any length: part e begins at the sum of those before it
 
 module _ {A : Type 0} (d : A) where
   getD-part : (n : ℕ) (f : ℕ → List A) (e c : ℕ) → e < n → c < length (f e)
-      → getD (join (upTo n f)) (sum (upTo e (λ i. length (f i))) + c) d ≡ getD (f e) c d
-  unfolding join upTo sum
+      → getD (flatten (upTo n f)) (sum _+_ 0 (upTo e (λ i. length (f i))) + c) d ≡ getD (f e) c d
+  unfolding flatten upTo sum
   getD-part zero f e c b h = absurd (omega arith)
-  getD-part (suc n) f zero c b h = let z : 0 + c ≡ c = omega arith in rw z (List·getD-append (f 0) (join (upTo n (λ i. f (suc i)))) d c h)
+  getD-part (suc n) f zero c b h = let z : 0 + c ≡ c = omega arith in rw z (List·getD-append (f 0) (flatten (upTo n (λ i. f (suc i)))) d c h)
   getD-part (suc n) f (suc e) c b h =
       let g : ℕ → List A = λ i. f (suc i) in
-      let z : length (f 0) + sum (upTo e (λ i. length (g i))) + c ≡ length (f 0) + (sum (upTo e (λ i. length (g i))) + c) = omega arith in
-      rw z (getD-append-add (f 0) (join (upTo n g)) (sum (upTo e (λ i. length (g i))) + c) d ∙ getD-part n g e c (omega arith) h)
+      let z : length (f 0) + sum _+_ 0 (upTo e (λ i. length (g i))) + c ≡ length (f 0) + (sum _+_ 0 (upTo e (λ i. length (g i))) + c) = omega arith in
+      rw z (getD-append-add (f 0) (flatten (upTo n g)) (sum _+_ 0 (upTo e (λ i. length (g i))) + c) d ∙ getD-part n g e c (omega arith) h)
 
-  part-within : (n : ℕ) (f : ℕ → List A) (e : ℕ) → e < n → sum (upTo e (λ i. length (f i))) + length (f e) ≤ length (join (upTo n f))
-  unfolding join upTo sum
+  part-within : (n : ℕ) (f : ℕ → List A) (e : ℕ) → e < n → sum _+_ 0 (upTo e (λ i. length (f i))) + length (f e) ≤ length (flatten (upTo n f))
+  unfolding flatten upTo sum
   part-within zero f e b = absurd (omega arith)
-  part-within (suc n) f zero b = rw (length-append (f 0) (join (upTo n (λ i. f (suc i))))) (omega arith)
+  part-within (suc n) f zero b = rw (length-append (f 0) (flatten (upTo n (λ i. f (suc i))))) (omega arith)
   part-within (suc n) f (suc e) b =
       let ih = part-within n (λ i. f (suc i)) e (omega arith) in
-      rw (length-append (f 0) (join (upTo n (λ i. f (suc i))))) (omega arith)
+      rw (length-append (f 0) (flatten (upTo n (λ i. f (suc i))))) (omega arith)
 
 -- ---- code
 
@@ -159,7 +159,7 @@ module _ (p : Program) (few : events p ≤ 32) (small : size p ≤ 64) (whole : 
   heads = padded 8 (events p ∷ size p ∷ [])
 
   abbrev records : List ℕ
-  records = padded 128 (join (upTo (events p) (eventRecord p)))
+  records = padded 128 (flatten (upTo (events p) (eventRecord p)))
 
   abbrev values : List ℕ
   values = padded 376 (fresh p)
@@ -172,7 +172,7 @@ module _ (p : Program) (few : events p ≤ 32) (small : size p ≤ 64) (whole : 
 
   length-records : length records ≡ 128
   length-records =
-      length-padded 128 (join (upTo (events p) (eventRecord p))) (rw (length-even 4 (events p) (eventRecord p) (λ i. refl)) (omega arith))
+      length-padded 128 (flatten (upTo (events p) (eventRecord p))) (rw (length-even 4 (events p) (eventRecord p) (λ i. refl)) (omega arith))
 
   length-values : length values ≡ 376
   length-values = length-padded 376 (fresh p) (omega arith)
@@ -200,12 +200,12 @@ module _ (p : Program) (few : events p ≤ 32) (small : size p ≤ 64) (whole : 
       let b : k < length heads = omega (arith, length-heads) in
       List·getD-append heads (records ++ (values ++ codes)) 0 k b ∙ getD-padded 8 (events p ∷ size p ∷ []) k
 
-  in-records : (k : ℕ) → k < 128 → getD (imageWords p) (8 + k) 0 ≡ getD (join (upTo (events p) (eventRecord p))) k 0
+  in-records : (k : ℕ) → k < 128 → getD (imageWords p) (8 + k) 0 ≡ getD (flatten (upTo (events p) (eventRecord p))) k 0
   unfolding imageWords
   in-records k h =
       let b : k < length records = omega (arith, length-records) in
       getD-past heads (records ++ (values ++ codes)) 8 k length-heads
-      ∙ List·getD-append records (values ++ codes) 0 k b ∙ getD-padded 128 (join (upTo (events p) (eventRecord p))) k
+      ∙ List·getD-append records (values ++ codes) 0 k b ∙ getD-padded 128 (flatten (upTo (events p) (eventRecord p))) k
 
   in-values : (k : ℕ) → k < 376 → getD (imageWords p) (136 + k) 0 ≡ getD (fresh p) k 0
   unfolding imageWords

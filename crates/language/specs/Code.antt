@@ -1,7 +1,7 @@
 -- Instructions, and the list of them for each event. 01 "Handlers and steps", after 003 Figure 3.
 use Prim.Native.Nat.{ℕ, _+_, _*_}
 use mathlib.Core.Bool.{Bool, true, false}
-use mathlib.Core.List.{List, [], _∷_, _++_}
+use mathlib.Core.List.{List, [], _∷_, _++_, flatten, flatMap, sum}
 use Rattle.base.specs.Basics.{pick}
 use Rattle.language.specs.Syntax.{Expr, con, name, app1, app2, app3, Program}
 use Rattle.language.specs.Dependence.{Response, follows, takes, defers, keeps, size, events, response}
@@ -24,11 +24,6 @@ copied keeps = false
 
 abbrev pub inC : Program → ℕ → ℕ → Bool
 inC p e i = copied (response p e i)
-
--- one list after the other
-unfoldable pub join : {A : Type 0} → List (List A) → List A
-join [] = []
-join (l ∷ ls) = l ++ join ls
 
 -- "Names in C mean scratch, others the board." An application's arguments' code stands before it in their order.
 unfoldable pub postfix : (ℕ → Bool) → Expr → List Instr
@@ -75,11 +70,10 @@ againCode c i keeps = []
 module _ (p : Program) (e : ℕ) where
   -- a part that goes by number, and one that goes in phase one's order
   abbrev pub byNumber : (ℕ → Response → List Instr) → List Instr
-  byNumber f = join (upTo (size p) (λ i. f i (response p e i)))
+  byNumber f = flatten (upTo (size p) (λ i. f i (response p e i)))
 
   unfoldable pub inOrder : (ℕ → Response → List Instr) → List ℕ → List Instr
-  inOrder f [] = []
-  inOrder f (i ∷ is) = f i (response p e i) ++ inOrder f is
+  inOrder f = flatMap (λ i. f i (response p e i))
 
   -- the two masked stretches, and what lies between them
   unfoldable pub copyPart : List Instr
@@ -114,16 +108,12 @@ share (takes x) = 2 + (sizeOf x + 1)
 share (defers x) = 2 + (sizeOf x + 2)
 share keeps = 0
 
-unfoldable pub sum : List ℕ → ℕ
-sum [] = 0
-sum (n ∷ ns) = n + sum ns
-
 -- "4 + 2 × (members of C) + .." for one event, and for all events together
 unfoldable pub instructions : Program → ℕ → ℕ
-instructions p e = 4 + sum (upTo (size p) (λ i. share (response p e i)))
+instructions p e = 4 + sum _+_ 0 (upTo (size p) (λ i. share (response p e i)))
 
 unfoldable pub allInstructions : Program → ℕ
-allInstructions p = sum (upTo (events p) (instructions p))
+allInstructions p = sum _+_ 0 (upTo (events p) (instructions p))
 
 -- members of C
 abbrev pub one? : Bool → ℕ
@@ -131,4 +121,4 @@ one? true = 1
 one? false = 0
 
 unfoldable pub members : Program → ℕ → ℕ
-members p e = sum (upTo (size p) (λ i. one? (inC p e i)))
+members p e = sum _+_ 0 (upTo (size p) (λ i. one? (inC p e i)))

@@ -2,7 +2,7 @@
 use Prim.Native.Nat.{ℕ, zero, suc, _+_, _≤_, _<_}
 use mathlib.Core.Path.{_≡_, refl, sym, _∙_}
 use mathlib.Core.Bool.{Bool, true, false≢true}
-use mathlib.Core.List.{List, [], _∷_, _++_, append-assoc, append-nil}
+use mathlib.Core.List.{List, [], _∷_, _++_, append-assoc, append-nil, flatten, flatMap}
 use native.Mathlib.Omega.{arith}
 use lib.Dec.{eqb}
 use Rattle.base.specs.Basics.{pick, All}
@@ -12,7 +12,7 @@ use Rattle.language.specs.Dependence.{Response, follows, takes, defers, keeps, 
 use Rattle.language.specs.Order.{upTo, early, phaseOne}
 use Rattle.language.specs.Grammar.{Fits}
 use Rattle.language.specs.Accepted.{NamesIn, Known}
-use Rattle.language.specs.Code.{Instr, save, defer, inC, join, postfix, firstCode, laterCode, moveCode, againCode, byNumber, inOrder, firstPart, secondPart}
+use Rattle.language.specs.Code.{Instr, save, defer, inC, postfix, firstCode, laterCode, moveCode, againCode, byNumber, inOrder, firstPart, secondPart}
 use Rattle.language.specs.Laws.{ResponseNamesIn, response-names, ResponseNested, response-nested}
 use Rattle.semantics.specs.OrderLaws.{phaseOne-early}
 use Rattle.image.specs.Image.{operation, constant, codeWords}
@@ -25,24 +25,24 @@ use Rattle.phases.specs.Phases.{firstWords, secondWords}
 
 -- ---- by number, and in turn
 
-pub join-snoc : {A : Type 0} (n : ℕ) (g : ℕ → List A) → join (upTo (suc n) g) ≡ join (upTo n g) ++ g n
-unfolding join upTo
-join-snoc zero g = append-nil (g 0)
-join-snoc (suc n) g = rw (join-snoc n (λ i. g (suc i))) (sym (append-assoc (g 0) (join (upTo n (λ i. g (suc i)))) (g (suc n))))
+pub flatten-snoc : {A : Type 0} (n : ℕ) (g : ℕ → List A) → flatten (upTo (suc n) g) ≡ flatten (upTo n g) ++ g n
+unfolding flatten upTo
+flatten-snoc zero g = append-nil (g 0)
+flatten-snoc (suc n) g = rw (flatten-snoc n (λ i. g (suc i))) (sym (append-assoc (g 0) (flatten (upTo n (λ i. g (suc i)))) (g (suc n))))
 
-none-code : (g : ℕ → List Instr) → [] ≡ codeWords (join (upTo 0 g))
-unfolding codeWords join upTo
+none-code : (g : ℕ → List Instr) → [] ≡ codeWords (flatten (upTo 0 g))
+unfolding codeWords flatten upTo
 none-code g = refl
 
-pub each-code : (n : ℕ) (f : ℕ → List ℕ) (g : ℕ → List Instr) → ((i : ℕ) → i < n → f i ≡ codeWords (g i)) → each n f ≡ codeWords (join (upTo n g))
+pub each-code : (n : ℕ) (f : ℕ → List ℕ) (g : ℕ → List Instr) → ((i : ℕ) → i < n → f i ≡ codeWords (g i)) → each n f ≡ codeWords (flatten (upTo n g))
 unfolding each
 each-code zero f g h = none-code g
 each-code (suc n) f g h =
-    rw (join-snoc n g, codeWords-append (join (upTo n g)) (g n), each-code n f g (λ i b. h i (omega arith)), h n (omega arith))
+    rw (flatten-snoc n g, codeWords-append (flatten (upTo n g)) (g n), each-code n f g (λ i b. h i (omega arith)), h n (omega arith))
 
 turn-code : (p : Program) (e : ℕ) (f : ℕ → List ℕ) (g : ℕ → Response → List Instr) (is : List ℕ) → All (λ i. f i ≡ codeWords (g i (response p e i))) is
     → inTurn f is ≡ codeWords (inOrder p e g is)
-unfolding inTurn inOrder codeWords
+unfolding inTurn inOrder flatMap codeWords
 turn-code p e f g [] h = refl
 turn-code p e f g (i ∷ is) h = rw (codeWords-append (g i (response p e i)) (inOrder p e g is), h .0, turn-code p e f g is (h .1))
 

@@ -13,7 +13,7 @@ use Rattle.language.specs.Code.{code, instructions, allInstructions}
 use Rattle.language.specs.Accepted.{Accepted, Valid}
 use Rattle.language.specs.Laws.{upTo-same}
 use Rattle.semantics.specs.Lengths.{length-fresh}
-use Rattle.execution.specs.Sums.{length-join}
+use Rattle.execution.specs.Sums.{length-flatten}
 use Rattle.execution.specs.CodeRight.{code-facts}
 use Rattle.model.specs.Model.{Running, rest, busy, Engine, engine, initial, Call, act, run, answers}
 use Rattle.model.specs.Claims.{after, forecast}
@@ -37,7 +37,7 @@ valid p ok = record { each = ok .fits .each; known = ok .known; acyclic = ok .ac
 pub short-code : (p : Program) → Accepted p → length (allCode p) ≤ 4096
 unfolding allCode allInstructions
 short-code p ok =
-    rw (length-join (events p) (code p), upTo-same (events p) (λ e. length (code p e)) (instructions p) (code-facts p (valid p ok) .counted)) (ok .short)
+    rw (length-flatten (events p) (code p), upTo-same (events p) (λ e. length (code p e)) (instructions p) (code-facts p (valid p ok) .counted)) (ok .short)
 
 -- what its table says
 pub accepted-says : (p : Program) → Accepted p → (t₀ : List ℕ) → 34816 ≤ length t₀ → Says p (tableOf p t₀)

@@ -2,7 +2,7 @@
 use Prim.Native.Nat.{ℕ, zero, suc, _+_, _*_, _%_, _≤_, _<_}
 use mathlib.Core.Bool.{true, false}
 use mathlib.Core.Path.{_≡_, refl, sym, ap, _∙_}
-use mathlib.Core.List.{List, [], _∷_}
+use mathlib.Core.List.{List, [], _∷_, flatten, sum}
 use native.Mathlib.Omega.{arith}
 use lib.ListN.{length, getD}
 use Rattle.base.specs.Tools.{all-at}
@@ -11,10 +11,10 @@ use Rattle.language.specs.Dependence.{size, events, NoCycle}
 use Rattle.language.specs.Order.{upTo}
 use Rattle.language.specs.Grammar.{Fits}
 use Rattle.language.specs.Accepted.{Known, Valid}
-use Rattle.language.specs.Code.{Instr, code, join, sum, members, instructions, allInstructions}
+use Rattle.language.specs.Code.{Instr, code, members, instructions, allInstructions}
 use Rattle.semantics.specs.Meaning.{fresh}
 use Rattle.language.specs.Laws.{upTo-same}
-use Rattle.execution.specs.Sums.{length-join}
+use Rattle.execution.specs.Sums.{length-flatten}
 use Rattle.execution.specs.Lengths.{length-counted}
 use Rattle.image.specs.Image.{codeWords, allCode, startOf, eventRecord, padded, imageWords}
 use Rattle.image.specs.ImageLaws.{length-codeWords}
@@ -29,31 +29,31 @@ use Rattle.counts.specs.CountIs.{total-sum, count-is, members-is}
 use Rattle.ordering.specs.OrderingIs.{order-is}
 use Rattle.emit.specs.Words.{each}
 use Rattle.emit.specs.ExprWords.{codeWords-append}
-use Rattle.phases.specs.PhasesAre.{join-snoc}
+use Rattle.phases.specs.PhasesAre.{flatten-snoc}
 use Rattle.handlers.specs.Handlers.{codeOf}
 use Rattle.handlers.specs.HandlersAre.{code-words}
 use Rattle.table.specs.TableWords.{countBefore, recordWords, freshWords, tableWords, Planned}
 
 -- ---- one after the other
 
-each-none : (g : ℕ → List ℕ) → [] ≡ join (upTo 0 g)
-unfolding join upTo
+each-none : (g : ℕ → List ℕ) → [] ≡ flatten (upTo 0 g)
+unfolding flatten upTo
 each-none g = refl
 
-each-join : (n : ℕ) (f g : ℕ → List ℕ) → ((i : ℕ) → i < n → f i ≡ g i) → each n f ≡ join (upTo n g)
+each-flatten : (n : ℕ) (f g : ℕ → List ℕ) → ((i : ℕ) → i < n → f i ≡ g i) → each n f ≡ flatten (upTo n g)
 unfolding each
-each-join zero f g h = each-none g
-each-join (suc n) f g h = rw (join-snoc n g, each-join n f g (λ i b. h i (omega arith)), h n (omega arith))
+each-flatten zero f g h = each-none g
+each-flatten (suc n) f g h = rw (flatten-snoc n g, each-flatten n f g (λ i b. h i (omega arith)), h n (omega arith))
 
-code-join : (n : ℕ) (g : ℕ → List Instr) → codeWords (join (upTo n g)) ≡ join (upTo n (λ i. codeWords (g i)))
-unfolding join upTo codeWords
-code-join zero g = refl
-code-join (suc n) g = rw (codeWords-append (g 0) (join (upTo n (λ i. g (suc i)))), code-join n (λ i. g (suc i)))
+code-flatten : (n : ℕ) (g : ℕ → List Instr) → codeWords (flatten (upTo n g)) ≡ flatten (upTo n (λ i. codeWords (g i)))
+unfolding flatten upTo codeWords
+code-flatten zero g = refl
+code-flatten (suc n) g = rw (codeWords-append (g 0) (flatten (upTo n (λ i. g (suc i)))), code-flatten n (λ i. g (suc i)))
 
 module _ (p : Program) (d : List ℕ) (n : ℕ) (dr : Drafted p d n) (fits : Fits p) (known : Known p) where
   -- ---- counts
 
-  before-is : (e : ℕ) → e ≤ 32 → countBefore d (size p) e ≡ sum (upTo e (instructions p))
+  before-is : (e : ℕ) → e ≤ 32 → countBefore d (size p) e ≡ sum _+_ 0 (upTo e (instructions p))
   unfolding countBefore
   before-is e b = total-sum e (λ f. countEvent d f (size p)) (instructions p) (λ f h. count-is p d n dr f (omega arith))
 
@@ -71,7 +71,7 @@ module _ (p : Program) (d : List ℕ) (n : ℕ) (dr : Drafted p d n) (fits : Fit
     length-all : length (allCode p) ≡ allInstructions p
     unfolding allCode allInstructions
     length-all =
-        length-join (events p) (code p) ∙ ap sum (upTo-same (events p) (λ e. length (code p e)) (instructions p) (λ e h. sym (counted e h)))
+        length-flatten (events p) (code p) ∙ ap (sum _+_ 0) (upTo-same (events p) (λ e. length (code p e)) (instructions p) (λ e h. sym (counted e h)))
 
     -- ---- the parts
 
@@ -81,21 +81,21 @@ module _ (p : Program) (d : List ℕ) (n : ℕ) (dr : Drafted p d n) (fits : Fit
         let few : events p ≤ 32 = fits .few-events in
         let small = all-at (λ r. r ≤ 15) (p .priorities) e 0 (fits .scale) h in
         let priority : getD d (4224 + e) 0 % 4294967296 ≡ getD (p .priorities) e 0 = rw (dr .priorities e h) (omega (arith, small)) in
-        let start : countBefore d (size p) e ≡ sum (upTo e (λ f. length (code p f))) =
-        before-is e (omega arith) ∙ ap sum (upTo-same e (instructions p) (λ f. length (code p f)) (λ f b. counted f (omega arith))) in
+        let start : countBefore d (size p) e ≡ sum _+_ 0 (upTo e (λ f. length (code p f))) =
+        before-is e (omega arith) ∙ ap (sum _+_ 0) (upTo-same e (instructions p) (λ f. length (code p f)) (λ f b. counted f (omega arith))) in
         let count : countEvent d e (size p) ≡ length (code p e) = count-is p d n dr e (omega arith) ∙ counted e h in
         let copies : countMembers d e (size p) ≡ members p e = members-is p d n dr e (omega arith) in
         λ i. priority i ∷ start i ∷ count i ∷ copies i ∷ []
 
-    records-are : each (events p) (recordWords d (size p)) ≡ join (upTo (events p) (eventRecord p))
-    records-are = each-join (events p) (recordWords d (size p)) (eventRecord p) record-is
+    records-are : each (events p) (recordWords d (size p)) ≡ flatten (upTo (events p) (eventRecord p))
+    records-are = each-flatten (events p) (recordWords d (size p)) (eventRecord p) record-is
 
     code-is : (e : ℕ) → e < events p → codeOf d (size p) e ≡ codeWords (code p e)
     code-is e h = code-words p d n dr fits known e (omega (arith, fits .few-events)) (acyclic e (omega arith))
 
     codes-are : each (events p) (codeOf d (size p)) ≡ codeWords (allCode p)
     unfolding allCode
-    codes-are = each-join (events p) (codeOf d (size p)) (λ e. codeWords (code p e)) code-is ∙ sym (code-join (events p) (code p))
+    codes-are = each-flatten (events p) (codeOf d (size p)) (λ e. codeWords (code p e)) code-is ∙ sym (code-flatten (events p) (code p))
 
     fresh-are : freshWords d (events p) (size p) ≡ padded 376 (fresh p)
     unfolding freshWords padded
