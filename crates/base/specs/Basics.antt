@@ -1,7 +1,5 @@
 -- How a definition branches on a test, and what is said of every member of a list.
-use Prim.Native.Nat.{ℕ}
 use mathlib.Core.Bool.{Bool, true, false}
-use mathlib.Core.Logic.{_≢_}
 use mathlib.Core.List.{List, [], _∷_}
 
 abbrev pub pick {ℓ} : {A : Type ℓ} → Bool → A → A → A
@@ -12,8 +10,3 @@ pick false a b = b
 abbrev pub All {ℓ} : {A : Type ℓ} → (A → Type 0) → List A → Type 0
 All P [] = Unit {0}
 All P (x ∷ l) = P x × All P l
-
--- no two members are equal
-abbrev pub Distinct : List ℕ → Type 0
-Distinct [] = Unit {0}
-Distinct (x ∷ l) = All (λ y. x ≢ y) l × Distinct l

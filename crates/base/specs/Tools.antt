@@ -1,14 +1,15 @@
 -- General tools: tests kept as equations, `All`, permutations.
 use Prim.Native.Nat.{ℕ, zero, suc, _<_}
 use mathlib.Core.Bool.{Bool, true, false, _&&_, _||_, false≢true, true≢false}
-use mathlib.Core.Path.{_≡_, refl, subst}
-use mathlib.Core.Logic.{_≢_, _⊎_, inl, inr}
+use mathlib.Core.Path.{_≡_, refl, sym, subst}
+use mathlib.Core.Logic.{_⊎_, inl, inr, ⊎-elim, ∥∥₁-elim}
 use mathlib.Core.Option.{Option, none, some}
 use native.Mathlib.Omega.{arith}
 use lib.ListN.{length, getD}
-use Rattle.base.specs.Basics.{pick, All, Distinct}
+use Rattle.base.specs.Basics.{pick, All}
 use mathlib.Core.List.{List, [], _∷_, _++_}
 use mathlib.Core.List.{List·Permᴰ, List·Permᴰ·nil, List·Permᴰ·cons, List·Permᴰ·swap, List·Permᴰ·trans}
+use mathlib.Core.List.{List·Memᴰ, List·Memᴰ·not-nil, List·Memᴰ·cases-cons, List·Mem, mem-cons-self, mem-cons-of-mem}
 
 -- to prove P of a branch: prove it of each arm, the test's outcome given as an equation
 pub by-test {ℓ} : {A : Type ℓ} (P : A → Type 0) (b : Bool) {x y : A} → (b ≡ true → P x) → (b ≡ false → P y) → P (pick b x y)
@@ -93,9 +94,14 @@ module _ {A : Type 0} (P : A → Type 0) where
   all-at-or (x ∷ l) zero d h b = h .0
   all-at-or (x ∷ l) (suc i) d h b = all-at-or l i d (h .1) b
 
-pub distinct-perm : {l m : List ℕ} → List·Permᴰ l m → Distinct l → Distinct m
-distinct-perm List·Permᴰ·nil h = h
-distinct-perm (List·Permᴰ·cons {l₁ = l} e d) h = (all-perm _ d (subst (λ x. All (λ y. x ≢ y) l) e (h .0)), distinct-perm d (h .1))
-distinct-perm (List·Permᴰ·swap {l = l} p q) h =
-    ((omega arith, subst (λ x. All (λ y. x ≢ y) l) q (h .1 .0)), (subst (λ x. All (λ y. x ≢ y) l) p (h .0 .1), h .1 .1))
-distinct-perm (List·Permᴰ·trans d e) h = distinct-perm e (distinct-perm d h)
+  -- what holds of all holds of a member, also of one that is merely known to be there; and back
+  pub all-member : {x : A} (l : List A) → All P l → List·Memᴰ x l → P x
+  all-member [] h m = absurd (List·Memᴰ·not-nil m)
+  all-member (y ∷ l) h m = ⊎-elim (λ e. subst P (sym e) (h .0)) (λ k. all-member l (h .1) k) (List·Memᴰ·cases-cons m)
+
+  pub all-mem : ((x : A) → IsProp (P x)) → (l : List A) → All P l → (x : A) → List·Mem x l → P x
+  all-mem p l h x m = ∥∥₁-elim m (p x) (all-member l h)
+
+  pub all-of-mem : (l : List A) → ((x : A) → List·Mem x l → P x) → All P l
+  all-of-mem [] h = tt
+  all-of-mem (x ∷ l) h = (h x mem-cons-self, all-of-mem l (λ y m. h y (mem-cons-of-mem x m)))

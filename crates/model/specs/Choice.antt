@@ -3,14 +3,14 @@ use Prim.Native.Nat.{ℕ, suc, _≤_}
 use mathlib.Core.Bool.{Bool, true, false, true≢false, false≢true}
 use mathlib.Core.Path.{_≡_, refl, sym, ap, _∙_, subst}
 use mathlib.Core.Logic.{_≢_}
-use mathlib.Core.List.{List, [], _∷_, map}
+use mathlib.Core.List.{List, [], _∷_, map, List·Mem, not-mem-nil, mem-of-ne-of-mem, mem-map-of-mem, List·Nodup, nodup-cons, rel-of-pairwise-cons, Perm·nodup}
 use mathlib.Core.List.{List·Permᴰ, List·Permᴰ·nil, List·Permᴰ·cons, List·Permᴰ·swap, List·Permᴰ·trans, Permᴰ·refl, Permᴰ·map, Permᴰ·symm}
 use native.Mathlib.Omega.{arith}
 use lib.Dec.{ltb, eqb}
 use lib.ListN.{length}
 use borrow.Author.Tests.{ltb-true, ltb-false, ne-eqb, eq-eqb}
-use Rattle.base.specs.Basics.{pick, Distinct, All}
-use Rattle.base.specs.Tools.{distinct-perm, by-test, all-perm, all-imp}
+use Rattle.base.specs.Basics.{pick, All}
+use Rattle.base.specs.Tools.{by-test, all-perm, all-imp, all-of-mem}
 use Rattle.language.specs.Syntax.{Program}
 use Rattle.model.specs.Model.{Arrival, Chosen, rank, before, choose}
 
@@ -55,20 +55,26 @@ without-none : (n : ℕ) (l : List Arrival) → All (λ y. n ≢ y .number) l �
 without-none n [] h = refl
 without-none n (x ∷ l) h = rw (ne-eqb (x .number) n (λ e. h .0 (sym e)), without-none n l (h .1))
 
-pub of-numbers : (P : ℕ → Type 0) (l : List Arrival) → All P (numbers l) → All (λ y. P (y .number)) l
-of-numbers P [] h = tt
-of-numbers P (a ∷ l) h = (h .0, of-numbers P l (h .1))
+pub distinct-numbers : {l m : List Arrival} → List·Permᴰ l m → List·Nodup (numbers l) → List·Nodup (numbers m)
+distinct-numbers d h = Perm·nodup ∣ Permᴰ·map _ d ∣₁ h
 
-pub to-numbers : (P : ℕ → Type 0) (l : List Arrival) → All (λ y. P (y .number)) l → All P (numbers l)
-to-numbers P [] h = tt
-to-numbers P (a ∷ l) h = (h .0, to-numbers P l (h .1))
+-- a number that no other has
+pub no-other : (n : ℕ) (l : List Arrival) → List·Nodup (n ∷ numbers l) → All (λ y. n ≢ y .number) l
+no-other n l h = all-of-mem _ l (λ y m. rel-of-pairwise-cons h (mem-map-of-mem _ m))
+
+absent : (n : ℕ) (l : List Arrival) → All (λ y. n ≢ y .number) l → List·Mem n (numbers l) → ⊥
+absent n [] h m = not-mem-nil m
+absent n (a ∷ l) h m = absent n l (h .1) (mem-of-ne-of-mem (h .0) m)
+
+pub new-number : (n : ℕ) (l : List Arrival) → All (λ y. n ≢ y .number) l → List·Nodup (numbers l) → List·Nodup (n ∷ numbers l)
+new-number n l h k = nodup-cons .1 (absent n l h, k)
 
 -- the same head may go
-pub perm-rest : (a : Arrival) {l m : List Arrival} → List·Permᴰ (a ∷ l) (a ∷ m) → Distinct (numbers (a ∷ m)) → List·Permᴰ l m
+pub perm-rest : (a : Arrival) {l m : List Arrival} → List·Permᴰ (a ∷ l) (a ∷ m) → List·Nodup (numbers (a ∷ m)) → List·Permᴰ l m
 perm-rest a {l} {m} d h =
     let n = a .number in
-    let k = distinct-perm (Permᴰ·map (λ (x : Arrival). x .number) (Permᴰ·symm d)) h in
-    rw (eq-eqb n n refl, without-none n l (of-numbers (λ x. n ≢ x) l (k .0)), without-none n m (of-numbers (λ x. n ≢ x) m (h .0))) at (without-perm n d)
+    let k = distinct-numbers (Permᴰ·symm d) h in
+    rw (eq-eqb n n refl, without-none n l (no-other n l k), without-none n m (no-other n m h)) at (without-perm n d)
 
 -- ---- the choice
 
@@ -112,10 +118,10 @@ module _ (p : Program) where
 
   -- two that lead the same list are one, if its numbers are distinct
   pub one-next : (a b : Arrival) (l m : List Arrival) → List·Permᴰ (a ∷ l) (b ∷ m) → All (Leads a) (a ∷ l) → All (Leads b) m
-      → Distinct (numbers (b ∷ m)) → a ≡ b
+      → List·Nodup (numbers (b ∷ m)) → a ≡ b
   one-next a b l m d q r h =
       let x : Leads a b = all-perm (Leads a) d q .0 in
       let y : Leads b a = all-perm (Leads b) (Permᴰ·symm d) ((omega arith, λ e. omega arith), r) .0 in
       let n : a .number ≡ b .number = omega (arith, x .1 (omega arith), y .1 (omega arith)) in
       all-perm (λ (z : Arrival). z .number ≡ b .number → z ≡ b) (Permᴰ·symm d)
-      ((λ e. refl), all-imp _ _ (λ z k e. absurd (k (sym e))) m (of-numbers (λ z. b .number ≢ z) m (h .0))) .0 n
+      ((λ e. refl), all-imp _ _ (λ z k e. absurd (k (sym e))) m (no-other (b .number) m h)) .0 n

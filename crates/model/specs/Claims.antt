@@ -3,10 +3,10 @@ use Prim.Native.Nat.{ℕ, suc, _+_, _*_, _≤_, _<_}
 use mathlib.Core.Bool.{Bool, true, false}
 use mathlib.Core.Path.{_≡_}
 use mathlib.Core.Logic.{_≢_}
-use mathlib.Core.List.{List, [], _∷_, _++_, map, List·Permᴰ, List·Memᴰ}
+use mathlib.Core.List.{List, [], _∷_, _++_, map, List·Permᴰ, List·Memᴰ, Pairwise, List·Nodup}
 use lib.ListN.{length, take, replicate}
 use lib.Dec.{ltb, leb}
-use Rattle.base.specs.Basics.{pick, All, Distinct}
+use Rattle.base.specs.Basics.{pick, All}
 use Rattle.language.specs.Syntax.{Program}
 use Rattle.language.specs.Refusals as refusals
 use Rattle.language.specs.Dependence.{size, events, Independent}
@@ -101,18 +101,13 @@ BoardOfCommits p cs = settlingIn p (after p cs) ≡ false → storeOf (after p c
 abbrev pub OnceEach : Program → List Call → Type 0
 OnceEach p cs =
     List·Permᴰ (takenInBy p cs) (committedIn p cs ++ inQueue (after p cs))
-    × Distinct (map (λ (a : Arrival). a .number) (takenInBy p cs))
+    × List·Nodup (map (λ (a : Arrival). a .number) (takenInBy p cs))
     × (Idle p (after p cs) → List·Permᴰ (takenInBy p cs) (committedIn p cs))
 
--- every earlier member of a list and every later one
-abbrev pub Pairs : (Arrival → Arrival → Type 0) → List Arrival → Type 0
-Pairs R [] = Unit {0}
-Pairs R (a ∷ l) = All (R a) l × Pairs R l
-
--- "and after every earlier one of equal rank": commits of equal priority are in order of number, and before those still in the queue
+-- "and after every earlier one of equal rank": commits of equal priority are in order of number, and before those still in the queue. Pairwise: of each member and each later one
 abbrev pub EqualsInOrder : Program → List Call → Type 0
 EqualsInOrder p cs =
-    Pairs (λ a b. rank p a ≡ rank p b → a .number < b .number) (committedIn p cs)
+    Pairwise (λ a b. rank p a ≡ rank p b → a .number < b .number) (committedIn p cs)
     × All (λ a. All (λ b. rank p a ≡ rank p b → a .number < b .number) (inQueue (after p cs))) (committedIn p cs)
 
 -- b was taken in after the copy-back of a began: at some moment it is under way, and b's number is not yet given
@@ -126,7 +121,7 @@ pub record Later (p : Program) (cs : List Call) (a b : Arrival) : Type 0 where
 -- "A lower rank precedes a higher one only if the higher was taken in after the lower's copy-back began.": among the commits, and before those still in the queue
 abbrev pub LowerFirst : Program → List Call → Type 0
 LowerFirst p cs =
-    Pairs (λ a b. rank p a < rank p b → Later p cs a b) (committedIn p cs)
+    Pairwise (λ a b. rank p a < rank p b → Later p cs a b) (committedIn p cs)
     × All (λ a. All (λ b. rank p a < rank p b → Later p cs a b) (inQueue (after p cs))) (committedIn p cs)
 
 -- the longest event's instructions, over all events

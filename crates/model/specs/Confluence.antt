@@ -4,21 +4,21 @@ use Prim.Native.Nat.{ℕ, _≤_, _<_}
 use mathlib.Core.Bool.{true, false}
 use mathlib.Core.Path.{_≡_, refl, sym, ap, ap₂, _∙_}
 use mathlib.Core.Logic.{_≢_, by-cases}
-use mathlib.Core.List.{List, [], _∷_, map, List·Permᴰ, List·Permᴰ·nil, List·Permᴰ·cons, List·Permᴰ·swap, List·Permᴰ·trans, Permᴰ·refl, Permᴰ·map}
+use mathlib.Core.List.{List, [], _∷_, map, List·Permᴰ, List·Permᴰ·nil, List·Permᴰ·cons, List·Permᴰ·swap, List·Permᴰ·trans, Permᴰ·refl}
+use mathlib.Core.List.{mem-cons-self, Pairwise, pairwise-cons, rel-of-pairwise-cons, Pairwise·of-cons, List·Nodup}
 use native.Mathlib.Decide.{decLt}
 use native.Mathlib.Omega.{arith}
 use lib.Dec.{ltb}
 use lib.ListN.{length}
 use borrow.Author.Tests.{ltb-true, lt-ltb, le-ltb}
-use Rattle.base.specs.Basics.{Distinct, All}
-use Rattle.base.specs.Tools.{distinct-perm, by-elim, all-perm, all-imp}
+use Rattle.base.specs.Basics.{All}
+use Rattle.base.specs.Tools.{by-elim, all-perm, all-imp, all-of-mem}
 use Rattle.language.specs.Syntax.{Program}
 use Rattle.language.specs.Dependence.{size, events}
 use Rattle.semantics.specs.Meaning.{event, play}
 use Rattle.execution.specs.CodeFacts.{CodeFacts}
 use Rattle.model.specs.Model.{Arrival, rank}
-use Rattle.model.specs.Claims.{Pairs}
-use Rattle.model.specs.Choice.{numbers}
+use Rattle.model.specs.Choice.{numbers, distinct-numbers}
 use Rattle.model.specs.Equals.{Sooner}
 
 -- ---- sorting by number
@@ -53,12 +53,12 @@ insert-swap a b (c ∷ l) h =
 insert-comm : (a b : Arrival) (l : List Arrival) → a .number ≢ b .number → insert a (insert b l) ≡ insert b (insert a l)
 insert-comm a b l h = by-cases (decLt (a .number) (b .number)) (λ p. insert-swap a b l p) (λ p. sym (insert-swap b a l (omega arith)))
 
-sort-same : {l m : List Arrival} → List·Permᴰ l m → Distinct (numbers l) → sort l ≡ sort m
+sort-same : {l m : List Arrival} → List·Permᴰ l m → List·Nodup (numbers l) → sort l ≡ sort m
 unfolding sort
 sort-same List·Permᴰ·nil h = refl
-sort-same (List·Permᴰ·cons e d) h = ap₂ insert e (sort-same d (h .1))
-sort-same (List·Permᴰ·swap {l = l} p q) h = insert-comm _ _ (sort l) (h .0 .0) ∙ ap₂ (λ x y. insert x (insert y (sort l))) q p
-sort-same (List·Permᴰ·trans d e) h = sort-same d h ∙ sort-same e (distinct-perm (Permᴰ·map _ d) h)
+sort-same (List·Permᴰ·cons e d) h = ap₂ insert e (sort-same d (Pairwise·of-cons h))
+sort-same (List·Permᴰ·swap {l = l} p q) h = insert-comm _ _ (sort l) (rel-of-pairwise-cons h mem-cons-self) ∙ ap₂ (λ x y. insert x (insert y (sort l))) q p
+sort-same (List·Permᴰ·trans d e) h = sort-same d h ∙ sort-same e (distinct-numbers d h)
 
 insert-perm : (a : Arrival) (l : List Arrival) → List·Permᴰ (a ∷ l) (insert a l)
 unfolding insert
@@ -73,13 +73,7 @@ unfolding sort
 sort-perm [] = List·Permᴰ·nil
 sort-perm (a ∷ l) = List·Permᴰ·trans (List·Permᴰ·cons refl (sort-perm l)) (insert-perm a (sort l))
 
--- ---- pairs
-
--- each with each, so each with those after it
-pairs-of : (R : Arrival → Arrival → Type 0) (l : List Arrival) → All (λ a. All (R a) l) l → Pairs R l
-pairs-of R [] h = tt
-pairs-of R (a ∷ l) h = (h .0 .1, pairs-of R l (all-imp _ _ (λ x k. k .1) l (h .1)))
-
+-- each with each
 pub each-perm : (R : Arrival → Arrival → Type 0) {l m : List Arrival} → List·Permᴰ l m → All (λ a. All (R a) l) l → All (λ a. All (R a) m) m
 each-perm R {l} {m} d h = all-perm (λ a. All (R a) m) d (all-imp _ _ (λ x k. all-perm (R x) d k) l h)
 
@@ -109,16 +103,17 @@ module _ (p : Program) where
         ∙ ap (played l) (c .0 (λ r. omega (arith, ltb-true, h .0 r)) s n))
         (λ e. refl)
 
-    play-sort : (l : List Arrival) (s : List ℕ) → length s ≡ size p → All Declared l → Pairs (Sooner p) l → Pairs Commute l
+    play-sort : (l : List Arrival) (s : List ℕ) → length s ≡ size p → All Declared l → Pairwise (Sooner p) l → All (λ a. All (Commute a) l) l
         → played (sort l) s ≡ played l s
     unfolding play sort
     play-sort [] s n f h c = refl
     play-sort (a ∷ l) s n f h c =
-        play-insert a (sort l) s n (all-perm Declared (sort-perm l) (f .1)) (all-perm _ (sort-perm l) (h .0)) (all-perm _ (sort-perm l) (c .0))
-        ∙ play-sort l (event p (a .event) s) (facts .kept (a .event) (f .0) s n) (f .1) (h .1) (c .1)
+        play-insert a (sort l) s n (all-perm Declared (sort-perm l) (f .1)) (all-perm _ (sort-perm l) (all-of-mem _ l (pairwise-cons .0 h .0)))
+        (all-perm _ (sort-perm l) (c .0 .1))
+        ∙ play-sort l (event p (a .event) s) (facts .kept (a .event) (f .0) s n) (f .1) (Pairwise·of-cons h) (all-imp _ _ (λ x k. k .1) l (c .1))
 
-    pub confluent : (l m : List Arrival) (s : List ℕ) → length s ≡ size p → List·Permᴰ l m → Distinct (numbers l) → All Declared l
-        → All (λ a. All (Commute a) l) l → Pairs (Sooner p) l → Pairs (Sooner p) m → played l s ≡ played m s
+    pub confluent : (l m : List Arrival) (s : List ℕ) → length s ≡ size p → List·Permᴰ l m → List·Nodup (numbers l) → All Declared l
+        → All (λ a. All (Commute a) l) l → Pairwise (Sooner p) l → Pairwise (Sooner p) m → played l s ≡ played m s
     confluent l m s n d h f c il im =
-        sym (play-sort l s n f il (pairs-of Commute l c)) ∙ ap (λ (x : List Arrival). played x s) (sort-same d h)
-        ∙ play-sort m s n (all-perm Declared d f) im (pairs-of Commute m (each-perm Commute d c))
+        sym (play-sort l s n f il c) ∙ ap (λ (x : List Arrival). played x s) (sort-same d h)
+        ∙ play-sort m s n (all-perm Declared d f) im (each-perm Commute d c)

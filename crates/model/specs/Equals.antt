@@ -1,30 +1,36 @@
 -- Commits of equal priority are in order of number: the running one has the lowest number of its priority, and what is committed stands before the queue.
 use Prim.Native.Nat.{ℕ, _+_, _<_}
 use mathlib.Core.Path.{_≡_, sym}
+use mathlib.Core.HLevel.{→-prop}
 use mathlib.Core.Logic.{_≢_}
-use mathlib.Core.List.{List, [], _∷_, _++_}
-use mathlib.Core.List.{List·Permᴰ, Permᴰ·map}
+use mathlib.Core.List.{List, [], _∷_, _++_, Pairwise, Pairwise·nil, pairwise-append, pairwise-singleton, List·Nodup}
+use mathlib.Core.List.{List·Permᴰ}
+use native.Mathlib.Bridge.{le-prop}
 use native.Mathlib.Omega.{arith}
-use Rattle.base.specs.Basics.{All, Distinct}
-use Rattle.base.specs.Tools.{all-perm, all-imp, all-join, distinct-perm}
+use Rattle.base.specs.Basics.{All}
+use Rattle.base.specs.Tools.{all-perm, all-imp, all-join, all-mem}
 use Rattle.language.specs.Syntax.{Program}
 use Rattle.execution.specs.CodeFacts.{CodeFacts}
 use Rattle.model.specs.Model.{Arrival, arrival, Running, rest, busy, Engine, engine, queue, Call, Chosen, rank, aside, choose}
-use Rattle.model.specs.Claims.{number, inQueue, Pairs, EqualsInOrder}
-use Rattle.model.specs.Choice.{numbers, choose-perm, choose-first, Leads}
+use Rattle.model.specs.Claims.{number, inQueue, EqualsInOrder}
+use Rattle.model.specs.Choice.{numbers, distinct-numbers, no-other, choose-perm, choose-first, Leads}
 use Rattle.model.specs.Moves.{Cases}
 use Rattle.model.specs.Reached.{Fine, back-perm}
 use Rattle.model.specs.History.{Kept, always}
 use Rattle.model.specs.Once.{joins}
 
-pub pairs-snoc : (R : Arrival → Arrival → Type 0) (l : List Arrival) (a : Arrival) → Pairs R l → All (λ y. R y a) l → Pairs R (l ++ (a ∷ []))
-pairs-snoc R [] a h k = (tt, tt)
-pairs-snoc R (y ∷ l) a h k = (all-join (R y) l (a ∷ []) (h .0) (k .0, tt), pairs-snoc R l a (h .1) (k .1))
-
 module _ (p : Program) where
   -- of equal priority, a has the lower number
   abbrev pub Sooner : Arrival → Arrival → Type 0
   Sooner a b = rank p a ≡ rank p b → a .number < b .number
+
+  sooner-prop : (a b : Arrival) → IsProp (Sooner a b)
+  sooner-prop a b = →-prop le-prop
+
+  one-more : (l : List Arrival) (a : Arrival) → Pairwise Sooner l → All (λ y. Sooner y a) l → Pairwise Sooner (l ++ (a ∷ []))
+  one-more l a h k =
+      pairwise-append sooner-prop .1
+      (h, pairwise-singleton Sooner a, λ y m b n. all-mem (Sooner y) (sooner-prop y) (a ∷ []) (all-mem _ (λ x. sooner-prop x a) l k y m, tt) b n)
 
   -- the running one, of its priority
   abbrev First : List Arrival → Running → Type 0
@@ -36,19 +42,19 @@ module _ (p : Program) where
 
   abbrev Ordered : List Call → List Arrival → List Arrival → Engine → Type 0
   Ordered past log taken w =
-      All (λ a. a .number < number w) log × Pairs Sooner log × All (λ a. All (Sooner a) (inQueue w)) log × FirstIn w
+      All (λ a. a .number < number w) log × Pairwise Sooner log × All (λ a. All (Sooner a) (inQueue w)) log × FirstIn w
 
   -- a leader with a number of its own is strictly sooner
-  strictly : (a : Arrival) (l : List Arrival) → All (Leads p a) l → All (λ x. a .number ≢ x) (numbers l) → All (Sooner a) l
+  strictly : (a : Arrival) (l : List Arrival) → All (Leads p a) l → All (λ x. a .number ≢ x .number) l → All (Sooner a) l
   strictly a [] h k = tt
   strictly a (b ∷ l) h k = ((λ e. omega (arith, h .0 .1 (sym e))), strictly a l (h .1) (k .1))
 
   begins : (t : ℕ) (q : List Arrival) (c : Chosen) (log : List Arrival) → List·Permᴰ q (c .next ∷ c .others) → All (Leads p (c .next)) (c .others)
-      → Distinct (numbers q) → All (λ a. All (Sooner a) q) log
+      → List·Nodup (numbers q) → All (λ a. All (Sooner a) q) log
       → All (λ a. All (Sooner a) (c .next ∷ c .others)) log × All (Sooner (c .next)) (c .others)
   begins t q c log d f h b = (
     all-imp _ _ (λ y k. all-perm (Sooner y) d k) log b,
-    strictly (c .next) (c .others) f (distinct-perm (Permᴰ·map _ d) h .0),
+    strictly (c .next) (c .others) f (no-other (c .next .number) (c .others) (distinct-numbers d h)),
   )
 
   -- a newcomer is later than whatever has a number
@@ -82,11 +88,11 @@ module _ (p : Program) where
       runs = λ t waiting a n d k u r past log taken here i. i;
       commits = λ t waiting a n d k u r past log taken here i. (
         all-join (λ x. x .number < t) log (a ∷ []) (i .0) (r .fine .0 .0, tt),
-        pairs-snoc Sooner log a (i .1) (all-imp _ _ (λ y h. h .0) log (i .2)),
+        one-more log a (i .1) (all-imp _ _ (λ y h. h .0) log (i .2)),
         all-join (λ x. All (Sooner x) waiting) log (a ∷ []) (all-imp _ _ (λ y h. h .1) log (i .2)) (i .3, tt),
         tt,
       );
     }
 
     pub equals-in-order : (cs : List Call) → EqualsInOrder p cs
-    equals-in-order cs = let h = always p facts Ordered kept (tt, tt, tt, tt) cs in (h .1, h .2)
+    equals-in-order cs = let h = always p facts Ordered kept (tt, Pairwise·nil, tt, tt) cs in (h .1, h .2)

@@ -3,21 +3,23 @@
 use Prim.Native.Nat.{ℕ, _+_, _*_, _-_, _≤_, _<_}
 use mathlib.Core.Bool.{Bool, true, false, false≢true}
 use mathlib.Core.Path.{_≡_, refl, sym, _∙_, subst}
-use mathlib.Core.List.{List, [], _∷_, _++_, append-assoc, append-nil}
+use mathlib.Core.HLevel.{→-prop}
+use mathlib.Core.List.{List, [], _∷_, _++_, append-assoc, append-nil, Pairwise, Pairwise·nil, Pairwise·cons}
 use mathlib.Core.List.{List·Permᴰ, Permᴰ·append-left, Permᴰ·refl}
+use native.Mathlib.Bridge.{le-prop}
 use native.Mathlib.Omega.{arith}
 use lib.Dec.{eqb}
 use lib.ListN.{length, take}
 use borrow.Author.Tests.{leb-true, leb-false, le-leb, lt-leb}
 use Rattle.base.specs.Basics.{All}
-use Rattle.base.specs.Tools.{all-perm, all-imp, all-join, all-split, split, by-test}
+use Rattle.base.specs.Tools.{all-perm, all-imp, all-join, all-split, all-mem, split, by-test}
 use Rattle.language.specs.Syntax.{Program}
 use Rattle.language.specs.Dependence.{events}
 use Rattle.language.specs.Code.{code, members}
 use Rattle.execution.specs.Execution.{Values, offs, ons, maskedAfter, copyingBackAfter}
 use Rattle.execution.specs.CodeFacts.{CodeFacts, copyingBackAt, maskedAt}
 use Rattle.model.specs.Model.{Arrival, arrival, Running, rest, busy, Engine, engine, queue, Call, arrive, step, board, rank}
-use Rattle.model.specs.Claims.{number, inQueue, CopyingBack, after, committedIn, takenInBy, Pairs, Later, LowerFirst}
+use Rattle.model.specs.Claims.{number, inQueue, CopyingBack, after, committedIn, takenInBy, Later, LowerFirst}
 use Rattle.model.specs.Choice.{choose-perm}
 use Rattle.model.specs.Moves.{Cases}
 use Rattle.model.specs.Reached.{back-perm}
@@ -156,23 +158,22 @@ module _ (p : Program) where
     -- ---- as it is read
 
     -- what was behind a when its copy-back began came later
-    behind-later : (cs : List Call) (a : Arrival) (t : ℕ) (l m : List Arrival) → (b : Began cs a t l)
-        → All (λ x. rank p a < rank p x → number (after p (b .before)) ≤ x .number) m → All (λ x. rank p a < rank p x → Later p cs a x) m
-    behind-later cs a t l m b h =
-        all-imp _ (λ x. rank p a < rank p x → Later p cs a x)
-        (λ x k r. record { past = b .before; rest-of = b .since; moment = b .moment; copying = b .copying; not-yet = k r }) m h
+    behind-later : (cs : List Call) (a : Arrival) (t : ℕ) (l : List Arrival) (b : Began cs a t l) (x : Arrival)
+        → (rank p a < rank p x → number (after p (b .before)) ≤ x .number) → rank p a < rank p x → Later p cs a x
+    behind-later cs a t l b x k r = record { past = b .before; rest-of = b .since; moment = b .moment; copying = b .copying; not-yet = k r }
 
     laters : (cs : List Call) (t : ℕ) (q log : List Arrival) → Marked cs t q log
-        → Pairs (λ a b. rank p a < rank p b → Later p cs a b) log × All (λ a. All (λ b. rank p a < rank p b → Later p cs a b) q) log
-    laters cs t q [] h = (tt, tt)
+        → Pairwise (λ a b. rank p a < rank p b → Later p cs a b) log × All (λ a. All (λ b. rank p a < rank p b → Later p cs a b) q) log
+    laters cs t q [] h = (Pairwise·nil, tt)
     laters cs t q (a ∷ l) h =
         let b = h .0 in
         let s = all-split (λ x. rank p a < rank p x → number (after p (b .before)) ≤ x .number) l q (b .behind) in
         let r = laters cs t q l (h .1) in
-        ((behind-later cs a t (l ++ q) l b (s .0), r .0), (behind-later cs a t (l ++ q) q b (s .1), r .1))
+        let later = behind-later cs a t (l ++ q) b in
+        (Pairwise·cons (λ x m. later x (all-mem _ (λ y. →-prop le-prop) l (s .0) x m)) (r .0), (all-imp _ _ later q (s .1), r .1))
 
     lowered : (cs : List Call) (log taken : List Arrival) (w : Engine) → Lowered cs log taken w
-        → Pairs (λ a b. rank p a < rank p b → Later p cs a b) log × All (λ a. All (λ b. rank p a < rank p b → Later p cs a b) (inQueue w)) log
+        → Pairwise (λ a b. rank p a < rank p b → Later p cs a b) log × All (λ a. All (λ b. rank p a < rank p b → Later p cs a b) (inQueue w)) log
     lowered cs log taken (engine t waiting r d) h = laters cs t (queue waiting r) log (h .0)
 
     pub lower-first : (cs : List Call) → LowerFirst p cs

@@ -3,13 +3,13 @@ use Prim.Native.Nat.{ℕ, _+_, _<_}
 use mathlib.Core.Bool.{true, false, true≢false}
 use mathlib.Core.Path.{_≡_, refl}
 use mathlib.Core.Logic.{_≢_}
-use mathlib.Core.List.{List, [], _∷_, _++_, append-assoc, append-nil}
-use mathlib.Core.List.{List·Permᴰ, List·Permᴰ·nil, List·Permᴰ·cons, List·Permᴰ·swap, List·Permᴰ·trans, Permᴰ·refl, Permᴰ·symm, Permᴰ·map, Permᴰ·append-left, Permᴰ·middle, Permᴰ·append-nil}
+use mathlib.Core.List.{List, [], _∷_, _++_, append-assoc, append-nil, List·Nodup, Pairwise·nil}
+use mathlib.Core.List.{List·Permᴰ, List·Permᴰ·nil, List·Permᴰ·cons, List·Permᴰ·swap, List·Permᴰ·trans, Permᴰ·refl, Permᴰ·symm, Permᴰ·append-left, Permᴰ·middle, Permᴰ·append-nil}
 use native.Mathlib.Omega.{arith}
 use lib.Dec.{ltb}
 use lib.ListN.{length}
-use Rattle.base.specs.Basics.{All, Distinct}
-use Rattle.base.specs.Tools.{by-test, all-perm, all-imp, distinct-perm}
+use Rattle.base.specs.Basics.{All}
+use Rattle.base.specs.Tools.{by-test, all-perm, all-imp}
 use Rattle.language.specs.Syntax.{Program}
 use Rattle.language.specs.Dependence.{events}
 use Rattle.language.specs.Code.{code}
@@ -17,7 +17,7 @@ use Rattle.execution.specs.Execution.{Values}
 use Rattle.execution.specs.CodeFacts.{CodeFacts}
 use Rattle.model.specs.Model.{Arrival, arrival, Running, rest, busy, Engine, engine, queue, Call, idle, Outcome, Chosen, rank, masked, advance, contest, choose, act}
 use Rattle.model.specs.Claims.{number, inQueue, after, committedIn, takenInBy, Idle, OnceEach}
-use Rattle.model.specs.Choice.{numbers, to-numbers, choose-perm}
+use Rattle.model.specs.Choice.{numbers, distinct-numbers, new-number, choose-perm}
 use Rattle.model.specs.Moves.{Cases}
 use Rattle.model.specs.Reached.{Fine, back-perm}
 use Rattle.model.specs.History.{Kept, always}
@@ -32,25 +32,25 @@ joins a waiting (busy b c) = List·Permᴰ·swap refl refl
 
 module _ (p : Program) where
   abbrev pub Once : List Call → List Arrival → List Arrival → Engine → Type 0
-  Once past log taken w = List·Permᴰ taken (log ++ inQueue w) × All (Fine p (number w)) taken × Distinct (numbers taken)
+  Once past log taken w = List·Permᴰ taken (log ++ inQueue w) × All (Fine p (number w)) taken × List·Nodup (numbers taken)
 
   moved : (log taken : List Arrival) {q r : List Arrival} → List·Permᴰ q r → List·Permᴰ taken (log ++ q) → List·Permᴰ taken (log ++ r)
   moved log taken d h = List·Permᴰ·trans h (Permᴰ·append-left log d)
 
   takes-once : (e t : ℕ) (waiting : List Arrival) (r : Running) (log taken : List Arrival) → e < events p
-      → List·Permᴰ taken (log ++ queue waiting r) × All (Fine p t) taken × Distinct (numbers taken)
+      → List·Permᴰ taken (log ++ queue waiting r) × All (Fine p t) taken × List·Nodup (numbers taken)
       → List·Permᴰ (taken ++ (arrival t e ∷ [])) (log ++ queue (arrival t e ∷ waiting) r) × All (Fine p (t + 1)) (taken ++ (arrival t e ∷ []))
-      × Distinct (numbers (taken ++ (arrival t e ∷ [])))
+      × List·Nodup (numbers (taken ++ (arrival t e ∷ [])))
   takes-once e t waiting r log taken k h =
       let a : Arrival = arrival t e in
       let d : List·Permᴰ (a ∷ taken) (log ++ queue (a ∷ waiting) r) =
       List·Permᴰ·trans (List·Permᴰ·cons refl (h .0))
       (List·Permᴰ·trans (Permᴰ·symm (Permᴰ·middle a log (queue waiting r))) (Permᴰ·append-left log (joins a waiting r))) in
       let f : All (Fine p (t + 1)) (a ∷ taken) = ((omega arith, k), all-imp (Fine p t) (Fine p (t + 1)) (λ x y. (omega arith, y .1)) taken (h .1)) in
-      let g : Distinct (numbers (a ∷ taken)) =
-      (to-numbers (λ x. t ≢ x) taken (all-imp (Fine p t) (λ x. t ≢ x .number) (λ x y. omega arith) taken (h .1)), h .2) in
+      let g : List·Nodup (numbers (a ∷ taken)) =
+      new-number t taken (all-imp (Fine p t) (λ x. t ≢ x .number) (λ x y. omega arith) taken (h .1)) (h .2) in
       let m : List·Permᴰ (a ∷ taken) (taken ++ (a ∷ [])) = snoc-perm taken a in
-      (List·Permᴰ·trans (Permᴰ·symm m) d, all-perm (Fine p (t + 1)) m f, distinct-perm (Permᴰ·map _ m) g)
+      (List·Permᴰ·trans (Permᴰ·symm m) d, all-perm (Fine p (t + 1)) m f, distinct-numbers m g)
 
   -- ---- idle: nothing is in the queue
 
@@ -88,7 +88,7 @@ module _ (p : Program) where
     }
 
     pub once : (cs : List Call) → Once cs (committedIn p cs) (takenInBy p cs) (after p cs)
-    once cs = always p facts Once kept (List·Permᴰ·nil, tt, tt) cs
+    once cs = always p facts Once kept (List·Permᴰ·nil, tt, Pairwise·nil) cs
 
     pub once-each : (cs : List Call) → OnceEach p cs
     once-each cs = let h = once cs in (h .0, h .2, λ z. rw (idle-empty (after p cs) z, append-nil) at (h .0))

@@ -4,14 +4,14 @@ use Prim.Native.Nat.{ℕ, suc, _+_, _≤_, _<_}
 use mathlib.Core.Bool.{Bool, false}
 use mathlib.Core.Path.{_≡_, refl, ap, _∙_, subst}
 use mathlib.Core.Logic.{_≢_}
-use mathlib.Core.List.{List, [], _∷_}
-use mathlib.Core.List.{List·Permᴰ, List·Permᴰ·cons, List·Permᴰ·swap, List·Permᴰ·trans, Permᴰ·map}
+use mathlib.Core.List.{List, [], _∷_, List·Nodup, Pairwise·nil, Pairwise·of-cons}
+use mathlib.Core.List.{List·Permᴰ, List·Permᴰ·cons, List·Permᴰ·swap, List·Permᴰ·trans}
 use native.Mathlib.Omega.{arith}
 use lib.Dec.{eqb}
 use lib.ListN.{length, take, getD}
 use lib.Seq.{take-suc, take-all}
-use Rattle.base.specs.Basics.{All, Distinct}
-use Rattle.base.specs.Tools.{by-test, all-perm, all-imp, distinct-perm}
+use Rattle.base.specs.Basics.{All}
+use Rattle.base.specs.Tools.{by-test, all-perm, all-imp}
 use Rattle.language.specs.Syntax.{Program}
 use Rattle.language.specs.Dependence.{size, events}
 use Rattle.language.specs.Code.{Instr, off, code}
@@ -22,7 +22,7 @@ use Rattle.execution.specs.CodeFacts.{CodeFacts}
 use Rattle.execution.specs.Running.{execute-append}
 use Rattle.model.specs.Model.{Arrival, arrival, Running, rest, busy, Engine, engine, initial, queue, Call, choose, act, run}
 use Rattle.model.specs.Claims.{number, inQueue, storeOf, settlingIn, after}
-use Rattle.model.specs.Choice.{numbers, to-numbers, perm-length, choose-perm}
+use Rattle.model.specs.Choice.{numbers, distinct-numbers, new-number, perm-length, choose-perm}
 use Rattle.model.specs.Moves.{Effect, nothing, took, commit, Cases, act-by}
 
 module _ (p : Program) where
@@ -42,7 +42,7 @@ module _ (p : Program) where
 
   pub record Reached (w : Engine) : Type 0 where
     pub fine : All (Fine (number w)) (inQueue w)
-    pub distinct : Distinct (numbers (inQueue w))
+    pub distinct : List·Nodup (numbers (inQueue w))
     pub few : length (inQueue w) ≤ 64
     pub bounded : number w ≤ 1000000
     pub from : List ℕ
@@ -52,24 +52,24 @@ module _ (p : Program) where
   -- ---- queue
 
   abbrev Queued : Engine → Type 0
-  Queued w = All (Fine (number w)) (inQueue w) × Distinct (numbers (inQueue w)) × (length (inQueue w) ≤ 64) × (number w ≤ 1000000)
+  Queued w = All (Fine (number w)) (inQueue w) × List·Nodup (numbers (inQueue w)) × (length (inQueue w) ≤ 64) × (number w ≤ 1000000)
 
   abbrev Keeps : Call → Engine → Effect → Engine → Type 0
   Keeps c w x v = Queued w → Queued v
 
-  permuted : (t : ℕ) {q r : List Arrival} → List·Permᴰ q r → All (Fine t) q → Distinct (numbers q) → length q ≤ 64
-      → All (Fine t) r × Distinct (numbers r) × (length r ≤ 64)
-  permuted t d f h n = (all-perm (Fine t) d f, distinct-perm (Permᴰ·map _ d) h, subst (λ (k : ℕ). k ≤ 64) (perm-length d) n)
+  permuted : (t : ℕ) {q r : List Arrival} → List·Permᴰ q r → All (Fine t) q → List·Nodup (numbers q) → length q ≤ 64
+      → All (Fine t) r × List·Nodup (numbers r) × (length r ≤ 64)
+  permuted t d f h n = (all-perm (Fine t) d f, distinct-numbers d h, subst (λ (k : ℕ). k ≤ 64) (perm-length d) n)
 
   -- the running one goes back, the next is in front
   pub back-perm : (a b : Arrival) (l : List Arrival) → List·Permᴰ (a ∷ (b ∷ l)) (choose p b l .next ∷ (a ∷ choose p b l .others))
   back-perm a b l = List·Permᴰ·trans (List·Permᴰ·cons refl (choose-perm p b l)) (List·Permᴰ·swap refl refl)
 
-  new-fine : (t e : ℕ) (q : List Arrival) → e < events p → All (Fine t) q → Distinct (numbers q)
-      → All (Fine (t + 1)) (arrival t e ∷ q) × Distinct (numbers (arrival t e ∷ q))
+  new-fine : (t e : ℕ) (q : List Arrival) → e < events p → All (Fine t) q → List·Nodup (numbers q)
+      → All (Fine (t + 1)) (arrival t e ∷ q) × List·Nodup (numbers (arrival t e ∷ q))
   new-fine t e q k f h = (
     ((omega arith, k), all-imp (Fine t) (Fine (t + 1)) (λ x y. (omega arith, y .1)) q f),
-    (to-numbers (λ x. t ≢ x) q (all-imp (Fine t) (λ x. t ≢ x .number) (λ x y. omega arith) q f), h),
+    new-number t q (all-imp (Fine t) (λ x. t ≢ x .number) (λ x y. omega arith) q f) h,
   )
 
   takes-queued : (e t : ℕ) (waiting : List Arrival) (r : Running) (d : Values) → e < events p → length (queue waiting r) < 64 → t < 1000000
@@ -89,7 +89,7 @@ module _ (p : Program) where
     starts = λ t b l d h. let g = permuted t (choose-perm p b l) (h .0) (h .1) (h .2) in (g .0, g .1, g .2, h .3);
     preempts = λ t b l a n d u o h. let g = permuted t (back-perm a b l) (h .0) (h .1) (h .2) in (g .0, g .1, g .2, h .3);
     runs = λ t waiting a n d k u h. h;
-    commits = λ t waiting a n d k u h. (h .0 .1, h .1 .1, omega arith, h .3);
+    commits = λ t waiting a n d k u h. (h .0 .1, Pairwise·of-cons (h .1), omega arith, h .3);
   }
 
   -- ---- values
@@ -164,7 +164,7 @@ module _ (p : Program) where
 
     pub initially : Reached (initial p)
     unfolding emptied
-    initially = record { fine = tt; distinct = tt; few = omega arith; bounded = omega arith; from = fresh p; sized = length-fresh p; done = refl }
+    initially = record { fine = tt; distinct = Pairwise·nil; few = omega arith; bounded = omega arith; from = fresh p; sized = length-fresh p; done = refl }
 
     pub reached : (cs : List Call) → Reached (after p cs)
     reached cs = run-keeps cs (initial p) initially

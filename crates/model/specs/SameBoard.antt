@@ -4,11 +4,11 @@ use Prim.Native.Nat.{ℕ, _<_}
 use mathlib.Core.Bool.{false}
 use mathlib.Core.Path.{_≡_, refl, sym, _∙_, subst}
 use mathlib.Core.Logic.{_≢_}
-use mathlib.Core.List.{List, [], _∷_}
-use mathlib.Core.List.{List·Permᴰ, List·Permᴰ·trans, Permᴰ·symm, Permᴰ·map}
+use mathlib.Core.List.{List, [], _∷_, List·Nodup}
+use mathlib.Core.List.{List·Permᴰ, List·Permᴰ·trans, Permᴰ·symm}
 use lib.ListN.{length}
-use Rattle.base.specs.Basics.{All, Distinct}
-use Rattle.base.specs.Tools.{all-perm, all-imp, distinct-perm}
+use Rattle.base.specs.Basics.{All}
+use Rattle.base.specs.Tools.{all-perm, all-imp}
 use Rattle.language.specs.Syntax.{Program}
 use Rattle.language.specs.Dependence.{size, events, Independent}
 use Rattle.semantics.specs.Meaning.{event, fresh}
@@ -16,7 +16,7 @@ use Rattle.semantics.specs.Lengths.{length-fresh}
 use Rattle.execution.specs.CodeFacts.{CodeFacts}
 use Rattle.model.specs.Model.{Arrival, rest, busy, Engine, engine, Call, rank}
 use Rattle.model.specs.Claims.{number, inQueue, storeOf, settlingIn, Idle, after, committedIn, takenInBy, SameBoard}
-use Rattle.model.specs.Choice.{numbers}
+use Rattle.model.specs.Choice.{numbers, distinct-numbers}
 use Rattle.model.specs.Reached.{Fine}
 use Rattle.model.specs.Boards.{storeAfter, board-of-commits}
 use Rattle.model.specs.Once.{once, once-each, idle-empty}
@@ -55,7 +55,7 @@ module _ (p : Program) (facts : CodeFacts p) where
         let ld : List Arrival = committedIn p ds in
         let dc : List·Permᴰ tc lc = once-each p facts cs .2 ic in
         let dd : List·Permᴰ tc ld = subst (λ (l : List Arrival). List·Permᴰ l ld) (sym same) (once-each p facts ds .2 id) in
-        let n : Distinct (numbers lc) = distinct-perm (Permᴰ·map _ dc) (once-each p facts cs .1) in
+        let n : List·Nodup (numbers lc) = distinct-numbers dc (once-each p facts cs .1) in
         let c : All (λ a. All (Commute p a) lc) lc =
         each-perm (Commute p) dc (each-commutes tc tc (declared cs) (declared cs) apart) in
         idle-store cs ic

@@ -11,7 +11,7 @@ use lib.Dec.{ltb}
 use lib.ListN.{length}
 use borrow.Author.Tests.{ltb-true, ltb-false, lt-ltb, le-ltb}
 use Rattle.base.specs.Basics.{pick, All}
-use Rattle.base.specs.Tools.{by-test, split, all-perm, all-imp, all-split}
+use Rattle.base.specs.Tools.{by-test, split, all-perm, all-imp, all-split, all-member}
 use Rattle.language.specs.Syntax.{Program}
 use Rattle.language.specs.Code.{code}
 use Rattle.execution.specs.Execution.{Values}
@@ -27,17 +27,12 @@ use Rattle.model.specs.Settles.{longest-most, extra, extra-le, allowed, 
 
 -- ---- members
 
--- what holds of all holds of a member
-of-member : (P : Arrival → Type 0) {a : Arrival} (l : List Arrival) → All P l → List·Memᴰ a l → P a
-of-member P [] h m = absurd (List·Memᴰ·not-nil m)
-of-member P (x ∷ l) h m = ⊎-elim (λ e. subst P (sym e) (h .0)) (λ k. of-member P l (h .1) k) (List·Memᴰ·cases-cons m)
-
 each-in : (l : List Arrival) → All (λ x. List·Memᴰ x l) l
 each-in [] = tt
 each-in (x ∷ l) = (List·Memᴰ·head refl, all-imp (λ y. List·Memᴰ y l) (λ y. List·Memᴰ y (x ∷ l)) (λ y m. List·Memᴰ·tail m) l (each-in l))
 
 mem-perm : {a : Arrival} {l m : List Arrival} → List·Permᴰ l m → List·Memᴰ a l → List·Memᴰ a m
-mem-perm {a} {l} {m} d h = of-member (λ x. List·Memᴰ x m) l (all-perm (λ x. List·Memᴰ x m) (Permᴰ·symm d) (each-in m)) h
+mem-perm {a} {l} {m} d h = all-member (λ x. List·Memᴰ x m) l (all-perm (λ x. List·Memᴰ x m) (Permᴰ·symm d) (each-in m)) h
 
 or-neither : (b c : Bool) → b || c ≡ false → (b ≡ false) × (c ≡ false)
 or-neither true c e = absurd (true≢false e)
@@ -128,15 +123,15 @@ module _ (p : Program) (a : Arrival) where
   extra-same : (r b : Arrival) (l : List Arrival) → List·Memᴰ a (r ∷ l) → rank p b ≤ rank p a → extra p (over p r (b ∷ l)) ≤ extra p (over p r l)
   extra-same r b l m h =
       split (over p r l) (λ e. rw e (extra-le p (ltb (rank p r) (rank p b) || true)))
-      (λ e. let k : rank p a ≤ rank p r = of-member (λ x. rank p x ≤ rank p r) (r ∷ l) (omega arith, none-over p r l e) m in
+      (λ e. let k : rank p a ≤ rank p r = all-member (λ x. rank p x ≤ rank p r) (r ∷ l) (omega arith, none-over p r l e) m in
       rw (not-over p r (b ∷ l) (omega arith, none-over p r l e)) (omega arith))
 
   takes-left : (e t : ℕ) (waiting : List Arrival) (r : Running) (d : Values) → Reached p (engine t waiting r d) → List·Memᴰ a (queue waiting r)
       → rank p (arrival t e) ≤ rank p a → left (engine (t + 1) (arrival t e ∷ waiting) r d) ≤ left (engine t waiting r d)
   takes-left e t waiting rest d reach m h =
-      let k : share (arrival t e) ≡ 0 = share-behind (arrival t e) h (of-member (Fine p t) waiting (reach .fine) m .0) in omega arith
+      let k : share (arrival t e) ≡ 0 = share-behind (arrival t e) h (all-member (Fine p t) waiting (reach .fine) m .0) in omega arith
   takes-left e t waiting (busy r c) d reach m h =
-      let k : share (arrival t e) ≡ 0 = share-behind (arrival t e) h (of-member (Fine p t) (r ∷ waiting) (reach .fine) m .0) in
+      let k : share (arrival t e) ≡ 0 = share-behind (arrival t e) h (all-member (Fine p t) (r ∷ waiting) (reach .fine) m .0) in
       omega (arith, extra-same r (arrival t e) waiting m h)
 
   -- ---- a start and a preemption
@@ -146,7 +141,7 @@ module _ (p : Program) (a : Arrival) where
   starts-left t b l d r m =
       let c = choose p b l in
       let first : Leads p (c .next) a =
-      of-member (Leads p (c .next)) (b ∷ l) (all-perm (Leads p (c .next)) (Permᴰ·symm (choose-perm p b l)) (same-leads p (c .next), choose-first p b l .1)) m in
+      all-member (Leads p (c .next)) (b ∷ l) (all-perm (Leads p (c .next)) (Permᴰ·symm (choose-perm p b l)) (same-leads p (c .next), choose-first p b l .1)) m in
       rw (leader p (c .next) (c .others) (choose-first p b l .1))
       (omega (
         arith,
@@ -162,7 +157,7 @@ module _ (p : Program) (a : Arrival) where
       let c = choose p b l in
       let leads : All (Leads p (c .next)) (r ∷ c .others) = ((omega arith, λ e. absurd (omega arith)), choose-first p b l .1) in
       let first : Leads p (c .next) a =
-      of-member (Leads p (c .next)) (r ∷ (b ∷ l)) (all-perm (Leads p (c .next)) (Permᴰ·symm (back-perm p r b l)) (same-leads p (c .next), leads)) m in
+      all-member (Leads p (c .next)) (r ∷ (b ∷ l)) (all-perm (Leads p (c .next)) (Permᴰ·symm (back-perm p r b l)) (same-leads p (c .next), leads)) m in
       let again : over p r (b ∷ l) ≡ true =
       split (over p r (b ∷ l)) (λ e. e)
       (λ e. absurd (omega (arith, all-perm (λ (x : Arrival). rank p x ≤ rank p r) (choose-perm p b l) (none-over p r (b ∷ l) e) .0))) in

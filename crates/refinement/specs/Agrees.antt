@@ -3,14 +3,14 @@
 use Prim.Native.Nat.{ℕ, zero, suc, _+_, _-_, _/_, _%_, _≤_, _<_}
 use mathlib.Core.Bool.{Bool, true, false, not}
 use mathlib.Core.Path.{_≡_, refl, sym, ap, _∙_, subst}
-use mathlib.Core.List.{List, [], _∷_}
-use mathlib.Core.List.{List·Permᴰ, List·Permᴰ·cons, List·Permᴰ·trans, Permᴰ·map, Permᴰ·symm}
+use mathlib.Core.List.{List, [], _∷_, List·Nodup, Pairwise·of-cons}
+use mathlib.Core.List.{List·Permᴰ, List·Permᴰ·cons, List·Permᴰ·trans, Permᴰ·symm}
 use native.Mathlib.Omega.{arith}
 use lib.Dec.{ltb, leb, eqb, leb·suc-suc}
 use lib.ListN.{length, getD, take}
 use borrow.Author.Tests.{leb-true, leb-false, lt-ltb, le-ltb, lt-leb, ne-eqb}
-use Rattle.base.specs.Basics.{pick, Distinct, All}
-use Rattle.base.specs.Tools.{distinct-perm, by-test, all-perm, all-imp, by-two}
+use Rattle.base.specs.Basics.{pick, All}
+use Rattle.base.specs.Tools.{by-test, all-perm, all-imp, by-two}
 use Rattle.word.specs.Word.{get, put}
 use Rattle.word.specs.Laws.{long}
 use Rattle.language.specs.Syntax.{Program}
@@ -24,7 +24,7 @@ use Rattle.execution.specs.Safe.{start, after, Matches}
 use Rattle.execution.specs.SafeLaws.{code-at}
 use Rattle.model.specs.Model as model
 use Rattle.model.specs.Model.{Arrival, Running, rest, busy, Engine, engine, queue, Call, arrive, step, board, Answer, Chosen, rank, before, aside, choose, act}
-use Rattle.model.specs.Choice.{numbers, perm-rest, Leads, leads-trans, before-says, choose-perm, choose-first, one-next}
+use Rattle.model.specs.Choice.{numbers, distinct-numbers, perm-rest, Leads, leads-trans, before-says, choose-perm, choose-first, one-next}
 use Rattle.model.specs.Reached.{Fine, Reached, back-perm}
 use Rattle.image.specs.Image.{operation, constant}
 use Rattle.image.specs.ImageLaws.{Says}
@@ -224,7 +224,7 @@ module _ (p : Program) (valid : Valid p) (t : List ℕ) (table : Says p t) where
     pub best-below : best t l (suc m) ≤ m
 
   next-agrees : (l : List ℕ) (m : ℕ) (b : Arrival) (w : List Arrival) → long l ≡ true → suc m ≤ 64
-      → All (λ (a : Arrival). a .event < events p) (slots l (suc m)) → List·Permᴰ (slots l (suc m)) (b ∷ w) → Distinct (numbers (b ∷ w)) → Next l m (choose p b w)
+      → All (λ (a : Arrival). a .event < events p) (slots l (suc m)) → List·Permᴰ (slots l (suc m)) (b ∷ w) → List·Nodup (numbers (b ∷ w)) → Next l m (choose p b w)
   next-agrees l m b w h f u d k =
       let i = best t l (suc m) in
       let c = choose p b w in
@@ -233,7 +233,7 @@ module _ (p : Program) (valid : Valid p) (t : List ℕ) (table : Says p t) where
       let q = slots (putSlot l i (numberAt l m) (eventAt l m)) m in
       let x = take-out l i m h f n in
       let y : List·Permᴰ (slot l i ∷ q) (c .next ∷ c .others) = List·Permᴰ·trans (Permᴰ·symm x) (List·Permᴰ·trans d (choose-perm p b w)) in
-      let z = distinct-perm (Permᴰ·map (λ (a : Arrival). a .number) (choose-perm p b w)) k in
+      let z = distinct-numbers (choose-perm p b w) k in
       let e = one-next p (slot l i) (c .next) q (c .others) y (all-perm (Leads p (slot l i)) x (g .0)) (choose-first p b w .1) z in
       record {
         next-is = e;
@@ -263,7 +263,7 @@ module _ (p : Program) (valid : Valid p) (t : List ℕ) (table : Says p t) where
       }
 
   preempt-agrees : (l : List ℕ) (m k : ℕ) (b : Arrival) (w : List Arrival) (a : Arrival) (c : ℕ) (d : Values) → get l 1 ≡ suc m
-      → Rel (size p) l k (b ∷ w) (busy a c) d → Distinct (numbers (a ∷ (b ∷ w))) → Next l m (choose p b w)
+      → Rel (size p) l k (b ∷ w) (busy a c) d → List·Nodup (numbers (a ∷ (b ∷ w))) → Next l m (choose p b w)
       → Agree (size p) l (preemptAt l (best t l (suc m))) (model.outcome (model.preempted (choose p b w .next)) (model.begin p k (aside p a (choose p b w)) d))
   unfolding preemptAt
   preempt-agrees l m k b w a c d n R u x =
@@ -278,7 +278,7 @@ module _ (p : Program) (valid : Valid p) (t : List ℕ) (table : Says p t) where
       slots-swap l i (a .number) (a .event) (suc m) h f (omega (arith, x .best-below)) in
       let y : List·Permᴰ (slot l i ∷ slots s (suc m)) (o .next ∷ (a ∷ o .others)) =
       List·Permᴰ·trans (Permᴰ·symm e) (List·Permᴰ·trans (List·Permᴰ·cons refl v) (back-perm p a b w)) in
-      let z = distinct-perm (Permᴰ·map (λ (y : Arrival). y .number) (back-perm p a b w)) u in
+      let z = distinct-numbers (back-perm p a b w) u in
       let r = perm-rest (o .next) (subst (λ (y : Arrival). List·Permᴰ (y ∷ slots s (suc m)) (o .next ∷ (a ∷ o .others))) (x .next-is) y) z in
       rw (R .runs .1, R .runs .2)
       (record {
@@ -303,7 +303,7 @@ module _ (p : Program) (valid : Valid p) (t : List ℕ) (table : Says p t) where
   contest-agrees l m k b w a c d n R r =
       let e : a .event < events p = r .fine .0 .1 in
       let u : All (λ (y : Arrival). y .event < events p) (slots l (suc m)) = rw n at (known-slots l k (b ∷ w) (busy a c) d R r) in
-      let x = next-agrees l m b w (R .whole) (omega (arith, R .few)) u (rw n at (R .queue)) (r .distinct .1) in
+      let x = next-agrees l m b w (R .whole) (omega (arith, R .few)) u (rw n at (R .queue)) (Pairwise·of-cons (r .distinct)) in
       let o = choose p b w .next in
       let y : o .event < events p = all-perm (Fine p k) (choose-perm p b w) (r .fine .1) .0 .1 in
       rw (
