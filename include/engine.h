@@ -40,7 +40,10 @@ enum engine_refusal {
     ENGINE_SPENT = 17,         /* 1,000,000 already taken in */
     ENGINE_NO_SUCH_BEHAVIOUR = 18, /* number not in the sheet */
     ENGINE_SETTLING = 19,      /* board read during copy-back */
-    ENGINE_NO_PARAMETERS = 20  /* compile: the sheet uses a parameter and fewer than 32 bytes are lent */
+    ENGINE_NO_PARAMETERS = 20, /* compile: the sheet uses a parameter and fewer than 32 bytes are lent */
+    ENGINE_NO_FORMULA = 21,    /* formula: the text is outside the grammar or over 1,024 bytes */
+    ENGINE_LARGE_NUMBER = 22,  /* formula: a number exceeds 2,147,483,647 */
+    ENGINE_SHORT_BUFFER = 23   /* formula: the buffer is too short for the field */
 };
 
 /* Compiles a sheet into the table. 0, or the refusal's number (1, 3 to 13, 20; 20 is checked after 11). Parameters: eight big-endian signed values of 32 bits, ENGINE_PARAMS
@@ -90,6 +93,13 @@ static inline uint32_t engine_forecast_steps(uint64_t answer) { return (uint32_t
 /* The value that a behaviour would show after this event's arrival and everything in hand had been run to idle: answered as by board, 2^32 and the 32-bit word. It is
  * tried on a copy; the round stays. Refused as the arrival would be, 14, 15, 16, 17, then by 18; last by 14 where a step on the copy is. During copy-back it works. */
 uint64_t preview(const uint8_t *table, size_t table_len, const uint8_t *round, size_t round_len, uint32_t event, uint32_t behaviour);
+
+/* A formula, as text of at most 1,024 bytes, becomes one expression field (01's 10, 11 or 12) at the start of the buffer, whose other bytes stay: 2^32 and the field's
+ * length; or 21, then 22, then 9 where the expression nests over 16 deep, last 23, and the buffer is as it was. The text is not kept. docs/SHEETS.md has the grammar. */
+uint64_t formula(const uint8_t *text, size_t text_len, uint8_t *buffer, size_t buffer_len);
+
+static inline int engine_formula_refused(uint64_t answer) { return answer >> 32 == 0; }
+static inline uint32_t engine_formula_length(uint64_t answer) { return (uint32_t)answer; }
 
 /* Makes recorded calls one after the other, to audit a round: five bytes for each call, its kind (0 arrival, 1 step, any other a board reading) and a
  * big-endian number of 32 bits; eight bytes for each answer, big-endian. How many were made: it stops where a call is not whole or an answer has no room. */

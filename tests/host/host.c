@@ -176,6 +176,24 @@ static void levels(void)
     expect(load_with(level, sizeof level, hard, sizeof hard - 1) == ENGINE_NO_PARAMETERS, "31 bytes of parameters");
 }
 
+/* A setter's formulas: the field at the start of the buffer, or the refusal, the buffer as it was. */
+static void write_formulas(void)
+{
+    static const uint8_t sum[] = {0x12, 0, 12, 4, 0x11, 0, 1, 0, 0x10, 0, 4, 0, 0, 0, 1};
+    uint8_t sheet[3 + 64] = {0x02, 0, 15};
+    uint64_t a = formula((const uint8_t *)"b0 + 1", 6, sheet + 3, 64);
+
+    expect(!engine_formula_refused(a) && engine_formula_length(a) == sizeof sum && memcmp(sheet + 3, sum, sizeof sum) == 0, "b0 + 1");
+    expect(sheet[3 + sizeof sum] == 0, "the bytes behind stay");
+    a = formula((const uint8_t *)"7", 1, sheet + 3, 7);
+    sheet[2] = 7;
+    expect(engine_formula_length(a) == 7 && load(sheet, 10) == 0 && value(0) == 7, "7, as a passive of a sheet");
+    expect(formula((const uint8_t *)"b0 +", 4, sheet, sizeof sheet) == ENGINE_NO_FORMULA, "b0 +");
+    expect(formula((const uint8_t *)"2147483648", 10, sheet, sizeof sheet) == ENGINE_LARGE_NUMBER, "2147483648");
+    expect(formula((const uint8_t *)"!!!!!!!!!!!!!!!!1", 17, sheet, sizeof sheet) == ENGINE_TOO_DEEP, "16 times !");
+    expect(formula((const uint8_t *)"1", 1, sheet, 6) == ENGINE_SHORT_BUFFER && sheet[0] == 0x02, "a buffer of six bytes");
+}
+
 int main(void)
 {
     static const int32_t want[][2] = {{2, 1}, {3, 2}, {5, 3}};
@@ -221,6 +239,7 @@ int main(void)
     hover();
     levels();
     ran_over();
+    write_formulas();
     puts(faults ? "host: faults" : "host: all as the scope says");
     return faults != 0;
 }

@@ -12,6 +12,9 @@ uint32_t event = 0, behaviour = 0;
 static uint8_t sheet[74];
 static int32_t shown;
 
+static const uint8_t text[] = {'b', '0', ' ', '*', ' ', '2'};
+static uint8_t field[64];
+
 void show(int32_t value)
 {
     shown = value;
@@ -23,7 +26,7 @@ static const struct {
     int32_t b0, b1;
     int idle;
     int32_t shown;
-} want[] = {{"arrive", 3, 2, 1, 0}, {"forecast", 2, 1, 1, 0}, {"preview", 1, 1, 0, 3}, {"compile", 1, 1, 0, 0}, {"step", 1, 1, 0, 0}};
+} want[] = {{"arrive", 3, 2, 1, 0}, {"forecast", 2, 1, 1, 0}, {"preview", 1, 1, 0, 3}, {"compile", 1, 1, 0, 0}, {"step", 1, 1, 0, 0}, {"formula", 1, 1, 0, 15}};
 
 static void before(uint8_t *round)
 {

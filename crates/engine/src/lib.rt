@@ -10,6 +10,7 @@ ghost use Rattle.board.specs.Board.{boardOn};
 ghost use Rattle.machine.specs.Machine.{stepOn};
 ghost use Rattle.forecast.specs.Forecast.{forecastOn};
 ghost use Rattle.preview.specs.Preview.{previewOn};
+ghost use Rattle.formula.specs.Answer.{answered, formulaOn};
 ghost use Rattle.refinement.specs.Refinement.{callOn, answersOn, roundAfter};
 ghost use Rattle.engine.specs.Replay.{callOf, callsFrom, putAnswer, putAnswers, callCount};
 
@@ -79,6 +80,15 @@ pub extern "C" fn preview(table: &[u8], round: &[u8], event: u32, behaviour: u32
     ensures { λ _. ⌜ now (round .exit) ≡ now (round .entry) ⌝ }
 {
     preview::preview_at(table, round, event, behaviour)
+}
+
+// A formula's expression field at the start of the buffer: 2 ^ 32 and its length; or 21, 22, 9, 23, the buffer as it was.
+#[no_mangle]
+pub extern "C" fn formula(text: &[u8], buffer: &mut [u8]) -> u64
+    ensures { λ r. ⌜ answered r (now (buffer .exit)) ≡ formulaOn (now (text .entry)) (now (buffer .entry)) ⌝ }
+    ensures { λ _. ⌜ now (text .exit) ≡ now (text .entry) ⌝ }
+{
+    translate::formula_at(text, buffer)
 }
 
 // ---- a recorded list of calls

@@ -393,6 +393,8 @@ pub struct Tally {
     pub foreign: usize,
     /// Refused and made.
     pub starts: [usize; 2],
+    /// Written, at 0, and refused by number.
+    pub formulas: [usize; 32],
     /// What a seed is being held against: named where it differs.
     pub part: &'static str,
 }
@@ -460,6 +462,8 @@ pub fn script(seed: u64, part: &str) -> Vec<u8> {
 pub fn one(seed: u64, tally: &mut Tally) {
     let mut case = Case::new(seed);
     let r = &mut case.rest;
+    tally.part = "formula";
+    crate::formula::one(seed, &mut tally.formulas);
     tally.part = "compile";
     let mut table = Guarded::new(TABLE + 32, case.fill);
     let Some(sheet) = compile(&case.bytes, &case.params, &mut table) else {

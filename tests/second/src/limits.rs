@@ -357,6 +357,7 @@ pub fn run() {
     rest_day();
     parameters();
     preview();
+    crate::formula::limits();
     spent();
-    println!("limits: every refusal of compile, both sides of each limit, forecasts, quotients, marks, a rest day, parameters, previews, 1,000,000 arrivals");
+    println!("limits: every refusal of compile, both sides of each limit, forecasts, quotients, marks, a rest day, parameters, previews, formulas, 1,000,000 arrivals");
 }

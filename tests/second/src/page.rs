@@ -1,5 +1,6 @@
-//! The setter's page, docs/SHEETS.md: its worked sheet byte by byte, the boards it names, and what it says is printed, held against the desk program.
+//! The setter's page, docs/SHEETS.md: its worked sheet byte by byte, the boards it names, and what it says is printed, held against the desk program; its formulas and their fields.
 use crate::desk::{arrive, play, sheet, show, steps};
+use crate::formula;
 use crate::proved::{self, ROUND, TABLE};
 
 /// A section of the page, without its heading.
@@ -63,5 +64,8 @@ pub fn run(page: &str, program: &str, input: &str) {
     let printed: String = example(section(&page, "Playing it")).iter().map(|l| format!("{l}\n")).collect();
     assert_eq!(play(program, &input), printed, "what the page says is printed");
     parameters(section(&page, "Easy and hard from one sheet"), program);
-    println!("page: the worked sheet, its boards, what the desk program prints, the sheet with a parameter");
+    let formulas = example(section(&page, "Formulas"));
+    assert!(!formulas.is_empty(), "formulas with their fields");
+    formulas.iter().for_each(|l| formula::example(l));
+    println!("page: the worked sheet, its boards, what the desk program prints, the sheet with a parameter, {} formulas", formulas.len());
 }

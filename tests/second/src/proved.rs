@@ -10,6 +10,7 @@ mod c {
         pub fn board(table: *const u8, table_len: usize, round: *const u8, round_len: usize, behaviour: u32) -> u64;
         pub fn forecast(table: *const u8, table_len: usize, round: *const u8, round_len: usize) -> u64;
         pub fn preview(table: *const u8, table_len: usize, round: *const u8, round_len: usize, event: u32, behaviour: u32) -> u64;
+        pub fn formula(text: *const u8, text_len: usize, buffer: *mut u8, buffer_len: usize) -> u64;
     }
 }
 
@@ -46,4 +47,8 @@ pub fn forecast(table: &[u8], round: &[u8]) -> u64 {
 
 pub fn preview(table: &[u8], round: &[u8], event: u32, behaviour: u32) -> u64 {
     unsafe { c::preview(table.as_ptr(), table.len(), round.as_ptr(), round.len(), event, behaviour) }
+}
+
+pub fn formula(text: &[u8], buffer: &mut [u8]) -> u64 {
+    unsafe { c::formula(text.as_ptr(), text.len(), buffer.as_mut_ptr(), buffer.len()) }
 }

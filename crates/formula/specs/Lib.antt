@@ -1,0 +1,11 @@
+pub mod Tokens
+pub mod Grammar
+pub mod Reader
+pub mod Answer
+pub mod Scans
+pub mod Parses
+pub mod Readings
+pub mod Answers
+pub mod Deeper
+pub mod Sheets
+pub mod Examples
