@@ -22,7 +22,7 @@ extern "C" {
 
 /* Why a call was turned down. No call gives 2: a sheet of no bytes is accepted, with no events and no behaviours. */
 enum engine_refusal {
-    ENGINE_SHORT_TABLE = 1,    /* compile: table under 34,816 bytes */
+    ENGINE_SHORT_TABLE = 1,    /* compile: table under 34,816 bytes; circle: list under 64 bytes */
     ENGINE_LONG_SHEET = 3,     /* over 8,192 bytes */
     ENGINE_TORN = 4,           /* under three bytes where a field is due, or a length past its enclosing end */
     ENGINE_WRONG_TAG = 5,      /* a tag not allowed there; an event after a behaviour */
@@ -49,6 +49,19 @@ enum engine_refusal {
 /* Compiles a sheet into the table. 0, or the refusal's number (1, 3 to 13, 20; 20 is checked after 11). Parameters: eight big-endian signed values of 32 bits, ENGINE_PARAMS
  * bytes, parameter n of the sheet standing for the n-th; bytes beyond are not read. A sheet that uses none may be lent none: a pointer to any byte, with length 0. */
 uint32_t compile(const uint8_t *sheet, size_t sheet_len, const uint8_t *params, size_t params_len, uint8_t *table, size_t table_len);
+
+/* Shows why a sheet is turned down with these parameters: compile's number, 0, 3 to 13 or 20, and the list as it was; but for a sheet that compile turns down by 12 a packed answer, and the behaviours of a circle in the first
+ * bytes of the list, each depending on the next and the last on the first, the list's other bytes as they were. No circle of fewer behaviours exists under an event or under none. The list has at least
+ * ENGINE_CIRCLE_LIST bytes, else 1. */
+uint64_t circle(const uint8_t *sheet, size_t sheet_len, const uint8_t *params, size_t params_len, uint8_t *list, size_t list_len);
+
+#define ENGINE_CIRCLE_LIST 64u
+#define ENGINE_NO_EVENT 255u
+
+/* The refusal's number, or 0; for 12 the event that the circle arises under, ENGINE_NO_EVENT for none, and how many behaviours it has. */
+static inline uint32_t engine_circle_number(uint64_t answer) { return (uint32_t)(answer & 0xFF); }
+static inline uint32_t engine_circle_event(uint64_t answer) { return (uint32_t)(answer >> 8 & 0xFF); }
+static inline uint32_t engine_circle_length(uint64_t answer) { return (uint32_t)(answer >> 16); }
 
 /* Makes the round fresh for the table's sheet; its old bytes are not read. 0, or 14. */
 uint32_t start(const uint8_t *table, size_t table_len, uint8_t *round, size_t round_len);

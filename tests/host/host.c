@@ -194,6 +194,27 @@ static void write_formulas(void)
     expect(formula((const uint8_t *)"1", 1, sheet, 6) == ENGINE_SHORT_BUFFER && sheet[0] == 0x02, "a buffer of six bytes");
 }
 
+/* A setter's sheet with a circle: which behaviours, and under which event. */
+static void show_circle(void)
+{
+    /* one event; b0 = init 1 {0 => b1}; b1 = init 2 {0 => b0} */
+    static const uint8_t both[] = {1, 0, 1, 1, 3, 0, 16, 4, 0, 4, 0, 0, 0, 1, 5, 0, 6, 0, 0, 0x11, 0, 1, 1, 3, 0, 16, 4, 0, 4, 0, 0, 0, 2, 5, 0, 6, 0, 0, 0x11, 0, 1, 0};
+    static const uint8_t one[] = {2, 0, 4, 0x13, 0, 1, 0};
+    uint8_t level[sizeof both + sizeof one], list[ENGINE_CIRCLE_LIST] = {7, 7, 7};
+    uint64_t a = circle(both, sizeof both, hard, 0, list, sizeof list);
+
+    expect(engine_circle_number(a) == ENGINE_CIRCLE && engine_circle_event(a) == 0 && engine_circle_length(a) == 2, "a circle of two under event 0");
+    expect(list[0] + list[1] == 1 && list[2] == 7, "b0 and b1, and nothing else");
+    expect(circle(S, sizeof S, hard, 0, list, sizeof list) == 0, "S has none");
+    expect(circle(both, sizeof both, hard, 0, list, ENGINE_CIRCLE_LIST - 1) == ENGINE_SHORT_TABLE, "a list of 63 bytes");
+
+    /* the same with a parameter beside: b2 = parameter 0 */
+    memcpy(level, both, sizeof both);
+    memcpy(level + sizeof both, one, sizeof one);
+    expect(circle(level, sizeof level, hard, sizeof hard - 1, list, sizeof list) == ENGINE_NO_PARAMETERS, "31 bytes of parameters, and no list");
+    expect(circle(level, sizeof level, hard, sizeof hard, list, sizeof list) == a, "the same circle with 32");
+}
+
 int main(void)
 {
     static const int32_t want[][2] = {{2, 1}, {3, 2}, {5, 3}};
@@ -240,6 +261,7 @@ int main(void)
     levels();
     ran_over();
     write_formulas();
+    show_circle();
     puts(faults ? "host: faults" : "host: all as the scope says");
     return faults != 0;
 }

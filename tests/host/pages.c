@@ -10,6 +10,8 @@ static int faults, examples;
 /* What the examples leave to the host. */
 uint32_t event = 0, behaviour = 0;
 static uint8_t sheet[74];
+static uint8_t list[ENGINE_CIRCLE_LIST], params[ENGINE_PARAMS];
+static const uint8_t refused[] = {2, 0, 4, 0x11, 0, 1, 1, 2, 0, 4, 0x11, 0, 1, 1}; /* b0 = b1, b1 = b1 */
 static int32_t shown;
 
 static const uint8_t text[] = {'b', '0', ' ', '*', ' ', '2'};
@@ -26,7 +28,7 @@ static const struct {
     int32_t b0, b1;
     int idle;
     int32_t shown;
-} want[] = {{"arrive", 3, 2, 1, 0}, {"forecast", 2, 1, 1, 0}, {"preview", 1, 1, 0, 3}, {"compile", 1, 1, 0, 0}, {"step", 1, 1, 0, 0}, {"formula", 1, 1, 0, 15}};
+} want[] = {{"arrive", 3, 2, 1, 0}, {"forecast", 2, 1, 1, 0}, {"preview", 1, 1, 0, 3}, {"circle", 1, 1, 0, 1}, {"compile", 1, 1, 0, 0}, {"step", 1, 1, 0, 0}, {"formula", 1, 1, 0, 15}};
 
 static void before(uint8_t *round)
 {

@@ -4,6 +4,7 @@ ghost use mathlib.Core.Path.{_≡_};
 ghost use Prim.Native.Nat.{_+_, _*_, _≤_, _<_};
 ghost use lib.ListN.{length};
 ghost use Rattle.compiler.specs.Verdict.{compiled, compileOn};
+ghost use Rattle.witness.specs.Witness.{Witnessed};
 ghost use Rattle.round.specs.Start.{result, startOn};
 ghost use Rattle.arrivals.specs.Arrivals.{arriveOn};
 ghost use Rattle.board.specs.Board.{boardOn};
@@ -22,6 +23,17 @@ pub extern "C" fn compile(sheet: &[u8], params: &[u8], table: &mut [u8]) -> u32
     ensures { λ _. ⌜ now (params .exit) ≡ now (params .entry) ⌝ }
 {
     compiler::compile_at(sheet, params, table)
+}
+
+// Why a sheet is turned down: compile's number, as with a full table, the list as it was; with 12 a shortest circle in the list's first bytes, its event times 256 (255 for none) and its length times 65,536. 1 for a
+// list under 64 bytes.
+#[no_mangle]
+pub extern "C" fn circle(sheet: &[u8], params: &[u8], list: &mut [u8]) -> u64
+    ensures { λ r. ⌜ Witnessed (now (sheet .entry)) (now (params .entry)) (now (list .entry)) r (now (list .exit)) ⌝ }
+    ensures { λ _. ⌜ now (sheet .exit) ≡ now (sheet .entry) ⌝ }
+    ensures { λ _. ⌜ now (params .exit) ≡ now (params .entry) ⌝ }
+{
+    witness::circle_at(sheet, params, list)
 }
 
 // A fresh round. 0, or 14.

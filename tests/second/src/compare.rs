@@ -79,8 +79,32 @@ fn image(m: &Model) -> Vec<u32> {
     w
 }
 
+/// circle on both: compile's number and the list as it was; for 12 a circle, as short as any, in the list's first bytes.
+pub fn circle(bytes: &[u8], params: &[u8], room: usize) {
+    let mut list = Guarded::new(room, 0x5A);
+    let lent = (bytes.to_vec(), params.to_vec());
+    let got = proved::circle(bytes, params, list.part_mut());
+    assert!(lent == (bytes.to_vec(), params.to_vec()), "circle changed the sheet or its parameters");
+    list.check();
+    let number = if room < 64 { 1 } else { engine::compile(bytes, params).err().unwrap_or(0) };
+    if number != 12 {
+        assert_eq!(got, number as u64, "circle's number");
+        assert!(list.part().iter().all(|b| *b == 0x5A), "the list changed");
+        return;
+    }
+    let sheet = engine::read(bytes).expect("a sheet with a circle is read");
+    let (event, count) = (got as usize / 256 % 256, got as usize / 65536);
+    assert_eq!(got % 256, 12, "circle's number");
+    assert!(event < sheet.ranks.len() || event == 255, "circle's event");
+    assert_eq!(Some(count), sheet.shortest(), "circle's length");
+    let members: Vec<usize> = list.part()[..count].iter().map(|b| *b as usize).collect();
+    assert!(sheet.is_circle((event < 255).then_some(event), &members), "no circle: {members:?} on {event}");
+    assert!(list.part()[count..].iter().all(|b| *b == 0x5A), "bytes past the circle changed");
+}
+
 /// compile on both, with the table's bytes; the sheet, its parameters filled in, where both accept it.
 pub fn compile(bytes: &[u8], params: &[u8], table: &mut Guarded) -> Option<engine::Sheet> {
+    circle(bytes, params, 64);
     let before = table.part().to_vec();
     let lent = (bytes.to_vec(), params.to_vec());
     let got = proved::compile(bytes, params, table.part_mut());

@@ -179,7 +179,7 @@ fn active(v: &[u8], events: usize) -> Result<Behaviour, u32> {
     Ok(Behaviour::Active(word(w), hs))
 }
 
-fn read(s: &[u8]) -> Result<Sheet, u32> {
+pub fn read(s: &[u8]) -> Result<Sheet, u32> {
     let mut sheet = Sheet { ranks: vec![], behaviours: vec![] };
     let mut s = s;
     while !s.is_empty() {
@@ -280,10 +280,33 @@ impl Sheet {
         false
     }
 
+    /// The events, and none.
+    fn cases(&self) -> Vec<Option<usize>> {
+        (0..self.ranks.len()).map(Some).chain([None]).collect()
+    }
+
     fn cyclic(&self) -> bool {
-        let mut events: Vec<Option<usize>> = (0..self.ranks.len()).map(Some).collect();
-        events.push(None);
-        events.iter().any(|&e| (0..self.behaviours.len()).any(|i| self.reaches(e, i, i)))
+        self.cases().iter().any(|&e| (0..self.behaviours.len()).any(|i| self.reaches(e, i, i)))
+    }
+
+    /// The least number of behaviours in a circle, over all events and none: from each behaviour outward, as far as it takes to come back.
+    pub fn shortest(&self) -> Option<usize> {
+        let n = self.behaviours.len();
+        let back = |e: Option<usize>, i: usize| {
+            let mut seen = vec![false; n];
+            let mut front = vec![i];
+            (1..=n).find(|_| {
+                let mut next: Vec<usize> = front.iter().flat_map(|&j| self.needs(e, j)).filter(|&j| !std::mem::replace(&mut seen[j], true)).collect();
+                std::mem::swap(&mut front, &mut next);
+                front.contains(&i)
+            })
+        };
+        self.cases().iter().flat_map(|&e| (0..n).filter_map(move |i| back(e, i))).min()
+    }
+
+    /// Whether each of these depends on the next, and the last on the first.
+    pub fn is_circle(&self, event: Option<usize>, list: &[usize]) -> bool {
+        !list.is_empty() && list.iter().zip(list.iter().cycle().skip(1)).all(|(&i, j)| i < self.behaviours.len() && self.needs(event, i).contains(j))
     }
 
     fn unknown(&self) -> bool {

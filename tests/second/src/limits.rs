@@ -171,7 +171,7 @@ fn quotients() {
 /// The marks of the commits that these arrivals lead to, in order, on both engines.
 fn marks_of(sheet: &[u8], calls: &[Call]) -> Vec<bool> {
     let mut table = Guarded::new(TABLE + 8, 0x33);
-    let plain = compare::compile(sheet, &mut table).expect("an accepted sheet");
+    let plain = compare::compile(sheet, &[], &mut table).expect("an accepted sheet");
     let mut all = calls.to_vec();
     all.extend(std::iter::repeat(Call::Step).take(200));
     compare::run(&plain, &table, &all);
@@ -263,6 +263,34 @@ fn preview() {
     assert_eq!(proved::preview(&table, &round, 0, 2), 18, "18 before the steps' 14");
     assert_eq!(proved::preview(&table, &round, 0, 0), 14, "event 0's first instruction is foreign");
     assert_eq!(proved::arrive(&table, &mut round, 0), 0, "the arrival is not");
+}
+
+/// 02, M-108: a circle of 64 under the last of 32 events, a shorter one beside it, one of itself, one under no event, a list of 63 bytes, and parameters lent, too few, or none.
+fn circles() {
+    let events = join(&vec![event(1); 32]);
+    let ring = |n: u8, to: u8| (0..n).map(|i| active(0, &[handler(31, 0, &name(if i == to { 0 } else { (i + 1) % n }))])).collect::<Vec<_>>().concat();
+    let answer = |sheet: &[u8], params: &[u8]| {
+        let mut list = [0u8; 64];
+        compare::circle(sheet, params, 64);
+        compare::circle(sheet, params, 100);
+        compare::circle(sheet, params, 63);
+        proved::circle(sheet, params, &mut list)
+    };
+    assert_eq!(answer(&join(&[events.clone(), ring(64, 64)]), &[]), 12 + 31 * 256 + 64 * 65536, "64 behaviours");
+    assert_eq!(answer(&join(&[events.clone(), ring(64, 20)]), &[]), 12 + 31 * 256 + 21 * 65536, "21 of 64");
+    assert_eq!(answer(&join(&[events.clone(), ring(62, 62), passive(&app(4, &[name(62), con(1)])), passive(&name(63))]), &[]) % 65536, 12, "itself, under event 0");
+    assert_eq!(answer(&join(&[passive(&name(1)), passive(&name(0))]), &[]), 12 + 255 * 256 + 2 * 65536, "under none, with no event");
+    assert_eq!(answer(&crate::desk::sheet_s(), &[]), 0, "no circle");
+    let with = join(&[events, ring(61, 61), passive(&app(4, &[param(7), name(62)])), passive(&app(4, &[param(0), name(61)]))]);
+    for lent in [0, 31] {
+        assert_eq!(answer(&with, &vec![0x80; lent]), 20, "{lent} bytes lent");
+    }
+    for lent in [32, 33, 64] {
+        let a = answer(&with, &vec![0x80; lent]);
+        assert_eq!((a % 256, a / 65536), (12, 2), "{lent} bytes lent");
+    }
+    assert_eq!(answer(&join(&[passive(&param(0)), passive(&name(2))]), &[]), 11, "11 before 20");
+    assert_eq!(answer(&passive(&param(0)), &[0; 32]), 0, "a parameter and no circle");
 }
 
 fn check(what: &str, sheet: &[u8], want: u32) {
@@ -358,6 +386,7 @@ pub fn run() {
     parameters();
     preview();
     crate::formula::limits();
+    circles();
     spent();
-    println!("limits: every refusal of compile, both sides of each limit, forecasts, quotients, marks, a rest day, parameters, previews, formulas, 1,000,000 arrivals");
+    println!("limits: every refusal of compile, both sides of each limit, forecasts, quotients, marks, a rest day, parameters, previews, formulas, circles, 1,000,000 arrivals");
 }

@@ -3,6 +3,7 @@
 mod c {
     extern "C" {
         pub fn compile(sheet: *const u8, sheet_len: usize, params: *const u8, params_len: usize, table: *mut u8, table_len: usize) -> u32;
+        pub fn circle(sheet: *const u8, sheet_len: usize, params: *const u8, params_len: usize, list: *mut u8, list_len: usize) -> u64;
         pub fn start(table: *const u8, table_len: usize, round: *mut u8, round_len: usize) -> u32;
         pub fn arrive(table: *const u8, table_len: usize, round: *mut u8, round_len: usize, event: u32) -> u32;
         pub fn step(table: *const u8, table_len: usize, round: *mut u8, round_len: usize) -> u64;
@@ -19,6 +20,10 @@ pub const ROUND: usize = 2048;
 
 pub fn compile(sheet: &[u8], params: &[u8], table: &mut [u8]) -> u32 {
     unsafe { c::compile(sheet.as_ptr(), sheet.len(), params.as_ptr(), params.len(), table.as_mut_ptr(), table.len()) }
+}
+
+pub fn circle(sheet: &[u8], params: &[u8], list: &mut [u8]) -> u64 {
+    unsafe { c::circle(sheet.as_ptr(), sheet.len(), params.as_ptr(), params.len(), list.as_mut_ptr(), list.len()) }
 }
 
 pub fn start(table: &[u8], round: &mut [u8]) -> u32 {

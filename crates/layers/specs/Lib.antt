@@ -1,0 +1,6 @@
+pub mod Circle
+pub mod Layers
+pub mod Shorter
+pub mod Walks
+pub mod LayerLaws
+pub mod WalkLaws
