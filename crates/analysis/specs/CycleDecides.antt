@@ -2,13 +2,13 @@
 -- a program whose names are known depends on nothing else.
 use Prim.Native.Nat.{ℕ, _+_, _*_, _/_, _%_, _≤_, _<_}
 use mathlib.Core.Path.{_≡_, refl, sym, _∙_}
-use mathlib.Core.Bool.{Bool, true, false, not, _&&_, true≢false}
+use mathlib.Core.Bool.{Bool, true, false, not, _&&_, true≢false, and-eq-true-iff}
 use mathlib.Core.List.{List, [], _∷_}
 use native.Mathlib.Omega.{arith}
 use lib.Dec.{eqb}
 use borrow.Author.Tests.{ltb-true, lt-ltb}
 use Rattle.base.specs.Basics.{All}
-use Rattle.base.specs.Tools.{split, and-left, and-right}
+use Rattle.base.specs.Tools.{split}
 use Rattle.language.specs.Syntax.{Expr, con, name, app1, app2, app3, Handler, handler, Behaviour, passive, active, Program}
 use Rattle.language.specs.Dependence.{size, events, dependsOn, Reach, NoCycle}
 use Rattle.language.specs.Accepted.{NamesIn, HandlerNamesIn, BehaviourNamesIn, Known}
@@ -22,41 +22,37 @@ use Rattle.analysis.specs.MatrixAgrees.{length-matrixOf, matrixOf-at}
 
 -- ---- names
 
-both : (b c : Bool) → b ≡ true → c ≡ true → b && c ≡ true
-both b c e f = rw (e, f)
-
 in-says : (n : ℕ) (x : Expr) → knownIn n x ≡ true → NamesIn n x
 unfolding knownIn
 in-says n (con w) e = tt
 in-says n (name i) e = ltb-true i n e
 in-says n (app1 f a) e = in-says n a e
-in-says n (app2 f a b) e = (in-says n a (and-left (knownIn n a) (knownIn n b) e), in-says n b (and-right (knownIn n a) (knownIn n b) e))
+in-says n (app2 f a b) e = let q = and-eq-true-iff (knownIn n a) (knownIn n b) .0 e in (in-says n a (q .0), in-says n b (q .1))
 in-says n (app3 f a b c) e =
-    let r = and-right (knownIn n a) (knownIn n b && knownIn n c) e in (
-      in-says n a (and-left (knownIn n a) (knownIn n b && knownIn n c) e),
-      in-says n b (and-left (knownIn n b) (knownIn n c) r),
-      in-says n c (and-right (knownIn n b) (knownIn n c) r),
-    )
+    let q = and-eq-true-iff (knownIn n a) (knownIn n b && knownIn n c) .0 e in
+    let r = and-eq-true-iff (knownIn n b) (knownIn n c) .0 (q .1) in
+    (in-says n a (q .0), in-says n b (r .0), in-says n c (r .1))
 
 in-is : (n : ℕ) (x : Expr) → NamesIn n x → knownIn n x ≡ true
 unfolding knownIn
 in-is n (con w) h = refl
 in-is n (name i) h = lt-ltb i n h
 in-is n (app1 f a) h = in-is n a h
-in-is n (app2 f a b) h = both (knownIn n a) (knownIn n b) (in-is n a (h .0)) (in-is n b (h .1))
+in-is n (app2 f a b) h = and-eq-true-iff (knownIn n a) (knownIn n b) .1 (in-is n a (h .0), in-is n b (h .1))
 in-is n (app3 f a b c) h =
-    both (knownIn n a) (knownIn n b && knownIn n c) (in-is n a (h .0)) (both (knownIn n b) (knownIn n c) (in-is n b (h .1)) (in-is n c (h .2)))
+    and-eq-true-iff (knownIn n a) (knownIn n b && knownIn n c) .1
+    (in-is n a (h .0), and-eq-true-iff (knownIn n b) (knownIn n c) .1 (in-is n b (h .1), in-is n c (h .2)))
 
 handlers-say : (n : ℕ) (hs : List Handler) → knownHandlers n hs ≡ true → All (HandlerNamesIn n) hs
 unfolding knownHandlers
 handlers-say n [] e = tt
 handlers-say n (handler f φ x ∷ hs) e =
-    (in-says n x (and-left (knownIn n x) (knownHandlers n hs) e), handlers-say n hs (and-right (knownIn n x) (knownHandlers n hs) e))
+    let q = and-eq-true-iff (knownIn n x) (knownHandlers n hs) .0 e in (in-says n x (q .0), handlers-say n hs (q .1))
 
 handlers-are : (n : ℕ) (hs : List Handler) → All (HandlerNamesIn n) hs → knownHandlers n hs ≡ true
 unfolding knownHandlers
 handlers-are n [] h = refl
-handlers-are n (handler f φ x ∷ hs) h = both (knownIn n x) (knownHandlers n hs) (in-is n x (h .0)) (handlers-are n hs (h .1))
+handlers-are n (handler f φ x ∷ hs) h = and-eq-true-iff (knownIn n x) (knownHandlers n hs) .1 (in-is n x (h .0), handlers-are n hs (h .1))
 
 behaviour-says : (n : ℕ) (b : Behaviour) → knownBehaviour n b ≡ true → BehaviourNamesIn n b
 behaviour-says n (passive x) e = in-says n x e
@@ -70,12 +66,12 @@ behaviours-say : (n : ℕ) (bs : List Behaviour) → knownBehaviours n bs ≡ tr
 unfolding knownBehaviours
 behaviours-say n [] e = tt
 behaviours-say n (b ∷ bs) e =
-    (behaviour-says n b (and-left (knownBehaviour n b) (knownBehaviours n bs) e), behaviours-say n bs (and-right (knownBehaviour n b) (knownBehaviours n bs) e))
+    let q = and-eq-true-iff (knownBehaviour n b) (knownBehaviours n bs) .0 e in (behaviour-says n b (q .0), behaviours-say n bs (q .1))
 
 behaviours-are : (n : ℕ) (bs : List Behaviour) → All (BehaviourNamesIn n) bs → knownBehaviours n bs ≡ true
 unfolding knownBehaviours
 behaviours-are n [] h = refl
-behaviours-are n (b ∷ bs) h = both (knownBehaviour n b) (knownBehaviours n bs) (behaviour-is n b (h .0)) (behaviours-are n bs (h .1))
+behaviours-are n (b ∷ bs) h = and-eq-true-iff (knownBehaviour n b) (knownBehaviours n bs) .1 (behaviour-is n b (h .0), behaviours-are n bs (h .1))
 
 pub known-decides : (p : Program) → ((known p ≡ true → Known p) × (Known p → known p ≡ true))
 known-decides p = (behaviours-say (size p) (p .behaviours), behaviours-are (size p) (p .behaviours))

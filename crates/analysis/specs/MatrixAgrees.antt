@@ -2,7 +2,7 @@
 use Prim.Native.Nat.{ℕ, zero, suc, _+_, _*_, _/_, _%_, _≤_, _<_, _^_}
 use mathlib.Core.Path.{_≡_, refl, sym, _∙_, subst}
 use mathlib.Core.Logic.{_≢_, by-cases}
-use mathlib.Core.Bool.{Bool, true, false, not, _&&_, _||_, or-false, or-true, and-true, and-false}
+use mathlib.Core.Bool.{Bool, true, false, not, _&&_, _||_, or-false, or-true, and-true, and-false, or-assoc, and-or-distrib-right}
 use mathlib.Core.List.{List, [], _∷_, _++_}
 use native.Mathlib.Decide.{decLt}
 use native.Mathlib.Omega.{arith}
@@ -107,10 +107,6 @@ unfoldable named : ℕ → ℕ → List ℕ → Bool
 named but b [] = false
 named but b (x ∷ l) = names but b x || named but b l
 
-or-assoc : (b c d : Bool) → (b || c) || d ≡ b || (c || d)
-or-assoc true c d = refl
-or-assoc false c d = refl
-
 named-join : (but b : ℕ) (l m : List ℕ) → named but b (l ++ m) ≡ named but b l || named but b m
 unfolding named
 named-join but b [] m = refl
@@ -143,13 +139,6 @@ nodes-here d m i but start (suc k) b l p h q z =
 
 -- ---- the nodes of an expression
 
-and-or : (b c d : Bool) → (b && d) || (c && d) ≡ (b || c) && d
-and-or true true true = refl
-and-or true true false = refl
-and-or true false true = refl
-and-or true false false = refl
-and-or false c d = refl
-
 con-names : (but b w : ℕ) → w < 2 ^ 32 → named but b ((68719476736 + w) ∷ []) ≡ false
 unfolding named
 con-names but b w h = rw (no-name but b (68719476736 + w) (ne-eqb (tagOf (68719476736 + w)) 17 (λ e. omega arith)), named)
@@ -181,7 +170,7 @@ expr-names but b (n-app2 {f = f} {a = x} {b = y} h hx hy) =
       or-false,
       expr-names but b hx,
       expr-names but b hy,
-    ) (and-or (mentions b x) (mentions b y) (not (eqb but b)))
+    ) (sym (and-or-distrib-right (mentions b x) (mentions b y) (not (eqb but b))))
 expr-names but b (n-app3 {f = f} {a = x} {b = y} {c = z} h hx hy hz) =
     rw (
       named-join but b (nodes x) (nodes y ++ (nodes z ++ ((77309411328 + f) ∷ []))),
@@ -193,7 +182,7 @@ expr-names but b (n-app3 {f = f} {a = x} {b = y} {c = z} h hx hy hz) =
       expr-names but b hy,
       expr-names but b hz,
     )
-    (rw (and-or (mentions b y) (mentions b z) (not (eqb but b))) (and-or (mentions b x) (mentions b y || mentions b z) (not (eqb but b))))
+    (rw (← and-or-distrib-right (mentions b y) (mentions b z) (not (eqb but b))) (sym (and-or-distrib-right (mentions b x) (mentions b y || mentions b z) (not (eqb but b)))))
 
 -- ---- a row
 

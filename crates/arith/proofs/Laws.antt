@@ -1,7 +1,7 @@
 -- The exact sum, difference, product, quotient and order of two words, in natural numbers: by the cases of the two signs (`View`), each by `omega`.
 use Prim.Native.Nat.{ℕ, zero, suc, _+_, _-_, _*_, _/_, _%_, _^_, _<_, _≤_}
 use mathlib.Core.Path.{_≡_, refl, sym, ap, _∙_}
-use mathlib.Core.Bool.{Bool, true, false, cond, not, _&&_, _||_}
+use mathlib.Core.Bool.{Bool, true, false, cond, not, _&&_, _||_, Bool·not-not}
 use native.Mathlib.Omega.{arith}
 use native.Mathlib.Nat.{div-le-self}
 use lib.Dec.{ltb, eqb}
@@ -162,11 +162,7 @@ pub and-first-true : (a b r : ℕ) → (a ≡ 0 → ⊥) → r ≡ reported (tru
 and-first-true a b r n p = rw (isTrue-signed a, isTrue-signed b, ne-eqb a 0 n) p
 
 pub not-of : (a : ℕ) → eqb a 0 ≡ not (isTrue (signed a))
-not-of a = rw (isTrue-signed a) (twice (eqb a 0))
-  where
-    twice : (t : Bool) → t ≡ not (not t)
-    twice true = refl
-    twice false = refl
+not-of a = rw (isTrue-signed a) (sym (Bool·not-not (eqb a 0)))
 
 pub third-if : (a b c : ℕ) → a ≡ 0 → c < 2 ^ 32 → c ≡ reported (pick (isTrue (signed a)) (signed b) (signed c))
 third-if a b c e h = rw (isTrue-signed a, eq-eqb a 0 e) (word-reported c h)

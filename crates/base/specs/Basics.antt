@@ -1,10 +1,7 @@
 -- How a definition branches on a test, and what is said of every member of a list.
-use mathlib.Core.Bool.{Bool, true, false}
 use mathlib.Core.List.{List, [], _∷_}
-
-abbrev pub pick {ℓ} : {A : Type ℓ} → Bool → A → A → A
-pick true a b = a
-pick false a b = b
+-- pick b x y is x if b holds, and else y
+pub use mathlib.Core.Bool.{cond as pick}
 
 -- every member
 abbrev pub All {ℓ} : {A : Type ℓ} → (A → Type 0) → List A → Type 0

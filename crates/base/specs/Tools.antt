@@ -1,6 +1,6 @@
 -- General tools: tests kept as equations, `All`, permutations.
 use Prim.Native.Nat.{ℕ, zero, suc, _<_}
-use mathlib.Core.Bool.{Bool, true, false, _&&_, _||_, false≢true, true≢false}
+use mathlib.Core.Bool.{Bool, true, false, _||_, false≢true, true≢false}
 use mathlib.Core.Path.{_≡_, refl, sym, subst}
 use mathlib.Core.Logic.{_⊎_, inl, inr, ⊎-elim, ∥∥₁-elim}
 use mathlib.Core.Option.{Option, none, some}
@@ -15,14 +15,6 @@ use mathlib.Core.List.{List·Memᴰ, List·Memᴰ·not-nil, List·Memᴰ·cases-
 pub by-test {ℓ} : {A : Type ℓ} (P : A → Type 0) (b : Bool) {x y : A} → (b ≡ true → P x) → (b ≡ false → P y) → P (pick b x y)
 by-test P true t f = t refl
 by-test P false t f = f refl
-
-pub and-left : (b c : Bool) → b && c ≡ true → b ≡ true
-and-left true c e = refl
-and-left false c e = e
-
-pub and-right : (b c : Bool) → b && c ≡ true → c ≡ true
-and-right true c e = e
-and-right false c e = absurd (false≢true e)
 
 pub or-either : (b c : Bool) → b || c ≡ true → (b ≡ true) ⊎ (c ≡ true)
 or-either true c e = inl refl

@@ -1,5 +1,5 @@
 -- The search for a shortest circle on a draft, in the code's order, and what it finds. The steps from a behaviour back to itself are packed with it and the event, so that the least number is that of a shortest walk.
-use Prim.Native.Nat.{ℕ, zero, suc, _+_, _*_, _≤_}
+use Prim.Native.Nat.{ℕ, zero, suc, _+_, _*_, _≤_, min}
 use mathlib.Core.Path.{_≡_}
 use mathlib.Core.List.{List}
 use lib.Dec.{ltb}
@@ -9,9 +9,6 @@ use Rattle.graph.specs.Matrix.{cell, below}
 use Rattle.analysis.specs.Checks.{matrixOn}
 use Rattle.layers.specs.Circle.{Circle}
 use Rattle.layers.specs.Layers.{stepsBack, Walked}
-
-unfoldable pub lower : ℕ → ℕ → ℕ
-lower a b = pick (ltb b a) b a
 
 -- the steps from i back to i on event e
 unfoldable pub backOn : List ℕ → ℕ → ℕ → ℕ → ℕ
@@ -23,7 +20,7 @@ packed d e n i = (backOn d e n i * 64 + i) * 64 + e
 -- over the first k behaviours of n on event e, and over the first k events
 unfoldable pub bestOf : List ℕ → ℕ → ℕ → ℕ → ℕ → ℕ
 bestOf d e n zero b = b
-bestOf d e n (suc k) b = lower (bestOf d e n k b) (packed d e n k)
+bestOf d e n (suc k) b = min (bestOf d e n k b) (packed d e n k)
 
 unfoldable pub bestAll : List ℕ → ℕ → ℕ → ℕ → ℕ
 bestAll d n zero b = b

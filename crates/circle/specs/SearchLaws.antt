@@ -1,5 +1,5 @@
 -- The least packed number is that of some behaviour on some event, if there is a circle at all; no circle has fewer members than it has steps.
-use Prim.Native.Nat.{ℕ, zero, suc, _+_, _*_, _-_, _/_, _%_, _≤_, _<_}
+use Prim.Native.Nat.{ℕ, zero, suc, _+_, _*_, _-_, _/_, _%_, _≤_, _<_, min}
 use mathlib.Core.Bool.{Bool, true, false, true≢false}
 use mathlib.Core.Path.{_≡_, refl, sym, _∙_}
 use mathlib.Core.Logic.{_⊎_, inl, inr, ⊎-elim, by-cases}
@@ -9,7 +9,7 @@ use native.Mathlib.Omega.{arith}
 use native.Mathlib.Numerals.{add-one}
 use lib.Dec.{ltb}
 use lib.ListN.{length}
-use borrow.Author.Tests.{ltb-true, ltb-false}
+use borrow.Author.Tests.{ltb-true}
 use Rattle.base.specs.Tools.{by-test, split}
 use Rattle.graph.specs.Matrix.{cell, below}
 use Rattle.graph.specs.Closure.{closed-decides}
@@ -19,21 +19,12 @@ use Rattle.layers.specs.Circle.{Circle}
 use Rattle.layers.specs.Layers.{layer, stepsBack, Layered, Back, Walked}
 use Rattle.layers.specs.Shorter.{reach-chain}
 use Rattle.layers.specs.Walks.{least-most, least-from, least-holds, circle-back, some-back}
-use Rattle.circle.specs.Search.{lower, backOn, packed, bestOf, bestAll, shortestOn, eventNumber, Wide, Found}
+use Rattle.circle.specs.Search.{backOn, packed, bestOf, bestAll, shortestOn, eventNumber, Wide, Found}
 
 -- ---- the lower of two
 
-lower-left : (a b : ℕ) → lower a b ≤ a
-unfolding lower
-lower-left a b = by-test (λ x. x ≤ a) (ltb b a) (λ t. omega (arith, ltb-true b a t)) (λ t. omega arith)
-
-lower-right : (a b : ℕ) → lower a b ≤ b
-unfolding lower
-lower-right a b = by-test (λ x. x ≤ b) (ltb b a) (λ t. omega arith) (λ t. omega (arith, ltb-false b a t))
-
-lower-is : (a b : ℕ) → (lower a b ≡ a) ⊎ (lower a b ≡ b)
-unfolding lower
-lower-is a b = by-test (λ x. (x ≡ a) ⊎ (x ≡ b)) (ltb b a) (λ t. inr refl) (λ t. inl refl)
+lower-is : (a b : ℕ) → (min a b ≡ a) ⊎ (min a b ≡ b)
+lower-is a b = by-cases (decLt b a) (λ t. inr (omega arith)) (λ t. inl (omega arith))
 
 module _ (d : List ℕ) (n : ℕ) where
   -- ---- on one event
@@ -41,14 +32,14 @@ module _ (d : List ℕ) (n : ℕ) where
   best-most : (e k b : ℕ) → bestOf d e n k b ≤ b
   unfolding bestOf
   best-most e zero b = omega arith
-  best-most e (suc k) b = omega (arith, best-most e k b, lower-left (bestOf d e n k b) (packed d e n k))
+  best-most e (suc k) b = omega (arith, best-most e k b)
 
   best-le : (e k b i : ℕ) → i < k → bestOf d e n k b ≤ packed d e n i
   unfolding bestOf
   best-le e zero b i h = absurd (omega arith)
   best-le e (suc k) b i h =
-      by-cases (decLt i k) (λ s. omega (arith, best-le e k b i s, lower-left (bestOf d e n k b) (packed d e n k)))
-      (λ s. let q : i ≡ k = omega arith in rw q (lower-right (bestOf d e n k b) (packed d e n k)))
+      by-cases (decLt i k) (λ s. omega (arith, best-le e k b i s))
+      (λ s. let q : i ≡ k = omega arith in rw q (omega arith))
 
   best-is : (e k b : ℕ) → (bestOf d e n k b ≡ b) ⊎ ((i : ℕ) × (i < k) × (bestOf d e n k b ≡ packed d e n i))
   unfolding bestOf
@@ -176,7 +167,7 @@ unfolding bestOf
 trying-start d e n b s l = record { whole = refl; within = omega arith; long = l }
 
 pub trying-turn : {d : List ℕ} {e n b : ℕ} {s : List ℕ} {least i : ℕ} {s′ : List ℕ} {r v : ℕ} → Trying d e n b s least i → i < n → r ≡ backOn d e n i
-    → v ≡ lower least ((r * 64 + i) * 64 + e) → length s′ ≡ length s → Trying d e n b s′ v (i + 1)
+    → v ≡ min least ((r * 64 + i) * 64 + e) → length s′ ≡ length s → Trying d e n b s′ v (i + 1)
 unfolding bestOf
 trying-turn {d} {e} {n} {b} {s} {least} {i} {s′} {r} {v} t h q p l =
     record { whole = rw (add-one i) (p ∙ rw (q, t .whole)); within = omega arith; long = l ∙ t .long }

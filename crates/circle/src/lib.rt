@@ -2,13 +2,13 @@
 // Time: for each of ev events and for none, and for each of bs behaviours, up to bs layers of bs * bs steps: in all (ev + 1) * bs * bs * bs * bs at the most.
 ghost use mathlib.Core.Path.{_≡_};
 ghost use mathlib.Core.Bool.{true};
-ghost use Prim.Native.Nat.{_≤_};
+ghost use Prim.Native.Nat.{_≤_, min};
 ghost use lib.ListN.{length};
 ghost use Rattle.analysis.specs.Checks.{cyclicOn, RowsInside, AllInside};
-ghost use Rattle.circle.specs.Search.{lower, bestOf, shortestOn, eventNumber, Wide, Found};
+ghost use Rattle.circle.specs.Search.{bestOf, shortestOn, eventNumber, Wide, Found};
 
 fn lower(a: usize, b: usize) -> usize
-    ensures { λ r. ⌜ r ≡ lower a b ⌝ }
+    ensures { λ r. ⌜ r ≡ min a b ⌝ }
 {
     if b < a {
         return b;

@@ -1,7 +1,7 @@
 -- compile takes exactly the encodings of the accepted sheets, and leaves the table of their filling; whatever it turns down leaves the table as it was. 11, 20, 12 and 13 stand exactly for
 -- what 01 and 02 say: 13 for a sheet that is fine but for its length. 2 is never answered. By the reader's theorem and the checks' (crates grammar, analysis), from the verdict's branches.
 use Prim.Native.Nat.{ℕ, _≤_, _<_}
-use mathlib.Core.Bool.{true, false, true≢false}
+use mathlib.Core.Bool.{true, false, true≢false, and-eq-true-iff}
 use mathlib.Core.Path.{_≡_, refl, sym, ap, _∙_, subst}
 use mathlib.Core.Logic.{_≢_, by-cases}
 use mathlib.Core.List.{List, []}
@@ -11,7 +11,7 @@ use lib.ListN.{length}
 use lib.Dec.{ltb}
 use borrow.Author.Tests.{lt-ltb, le-ltb, ltb-true, ltb-false}
 use Rattle.base.specs.Basics.{All}
-use Rattle.base.specs.Tools.{split, and-left, and-right}
+use Rattle.base.specs.Tools.{split}
 use Rattle.word.specs.Word.{get}
 use Rattle.language.specs.Sheet.{Sheet, uses}
 use Rattle.language.specs.Dependence.{size, NoCycle}
@@ -39,7 +39,7 @@ Fine ps s = SheetFits s × Known (programOf ps s) × Given ps s × NoCycle (prog
 
 -- the test for 20, and what it stands for
 lacks-says : (ps : List ℕ) (s : Sheet) → lacks s ps ≡ true → (uses s ≡ true) × (length ps < 32)
-lacks-says ps s h = (and-left (uses s) (ltb (length ps) 32) h, ltb-true (length ps) 32 (and-right (uses s) (ltb (length ps) 32) h))
+lacks-says ps s h = let q = and-eq-true-iff (uses s) (ltb (length ps) 32) .0 h in (q .0, ltb-true (length ps) 32 (q .1))
 
 lacks-is : (ps : List ℕ) (s : Sheet) → uses s ≡ true → length ps < 32 → lacks s ps ≡ true
 lacks-is ps s u h = rw (u, lt-ltb (length ps) 32 h)

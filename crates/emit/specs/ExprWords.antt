@@ -2,7 +2,7 @@
 use Prim.Native.Nat.{ℕ, _+_, _%_, _≤_, _<_, _^_}
 use mathlib.Core.Path.{_≡_, refl, sym, ap, _∙_}
 use mathlib.Core.Bool.{Bool, true, false}
-use mathlib.Core.List.{List, [], _∷_, _++_, append-assoc, append-nil}
+use mathlib.Core.List.{List, [], _∷_, _++_, append-assoc, append-nil, flatMap}
 use native.Mathlib.Omega.{arith}
 use lib.ListN.{length, getD, take, drop, length-drop}
 use lib.Seq.{getD-drop}
@@ -17,7 +17,7 @@ use Rattle.draft.specs.Draft.{nodes, entryOf, Drafted}
 use Rattle.draft.specs.Entry.{startOf, countOf, tagOf, wordOf}
 use Rattle.draft.specs.DraftLaws.{Holds, entry-of}
 use Rattle.counts.specs.CountIs.{copied-is}
-use Rattle.emit.specs.Words.{each, inTurn, nameWords, nodeWords, exprWords}
+use Rattle.emit.specs.Words.{each, nameWords, nodeWords, exprWords}
 use Rattle.emit.specs.WritingLaws.{in-turn-each}
 use Rattle.emit.specs.BranchLaws.{node-push, node-name, node-apply}
 
@@ -28,14 +28,14 @@ unfolding codeWords
 codeWords-append [] js = refl
 codeWords-append (i ∷ is) js = ap (λ (l : List ℕ). operation i ∷ constant i ∷ l) (codeWords-append is js)
 
-inTurn-append : (f : ℕ → List ℕ) (xs ys : List ℕ) → inTurn f (xs ++ ys) ≡ inTurn f xs ++ inTurn f ys
-unfolding inTurn
-inTurn-append f [] ys = refl
-inTurn-append f (x ∷ xs) ys = rw (inTurn-append f xs ys, append-assoc)
+flatMap-append : (f : ℕ → List ℕ) (xs ys : List ℕ) → flatMap f (xs ++ ys) ≡ flatMap f xs ++ flatMap f ys
+unfolding flatMap
+flatMap-append f [] ys = refl
+flatMap-append f (x ∷ xs) ys = rw (flatMap-append f xs ys, append-assoc)
 
-inTurn-one : (f : ℕ → List ℕ) (x : ℕ) → inTurn f (x ∷ []) ≡ f x
-unfolding inTurn
-inTurn-one f x = append-nil (f x)
+flatMap-one : (f : ℕ → List ℕ) (x : ℕ) → flatMap f (x ∷ []) ≡ f x
+unfolding flatMap
+flatMap-one f x = append-nil (f x)
 
 -- ---- nodes
 
@@ -74,17 +74,17 @@ module _ (p : Program) (d : List ℕ) (n : ℕ) (dr : Drafted p d n) (few : size
   unfolding nameWords
   name-code i h = rw (copied-is d (entryOf d e i) (response p e i) (entry-of p d n dr e i b h)) (fetched i (inC p e i))
 
-  nodes-code : {k : ℕ} {x : Expr} → Nested k x → NamesIn (size p) x → inTurn (nodeWords d e) (nodes x) ≡ codeWords (postfix (inC p e) x)
+  nodes-code : {k : ℕ} {x : Expr} → Nested k x → NamesIn (size p) x → flatMap (nodeWords d e) (nodes x) ≡ codeWords (postfix (inC p e) x)
   unfolding nodes postfix codeWords
-  nodes-code (n-con {w = w} h) k = inTurn-one (nodeWords d e) (68719476736 + w) ∙ con-words d e w h
-  nodes-code (n-name {i = i} h) k = inTurn-one (nodeWords d e) (73014444032 + i) ∙ name-words d e i (omega arith) ∙ name-code i k
+  nodes-code (n-con {w = w} h) k = flatMap-one (nodeWords d e) (68719476736 + w) ∙ con-words d e w h
+  nodes-code (n-name {i = i} h) k = flatMap-one (nodeWords d e) (73014444032 + i) ∙ name-words d e i (omega arith) ∙ name-code i k
   nodes-code (n-app1 {f = f} {a = x} h hx) k =
-      rw (inTurn-append, inTurn-one, app-words d e f (arity-low h), nodes-code hx k) (sym (codeWords-append (postfix (inC p e) x) (apply f ∷ [])))
+      rw (flatMap-append, flatMap-one, app-words d e f (arity-low h), nodes-code hx k) (sym (codeWords-append (postfix (inC p e) x) (apply f ∷ [])))
   nodes-code (n-app2 {f = f} {a = x} {b = y} h hx hy) k =
       rw (
-        inTurn-append (nodeWords d e) (nodes x),
-        inTurn-append (nodeWords d e) (nodes y),
-        inTurn-one,
+        flatMap-append (nodeWords d e) (nodes x),
+        flatMap-append (nodeWords d e) (nodes y),
+        flatMap-one,
         app-words d e f (arity-low h),
         nodes-code hx (k .0),
         nodes-code hy (k .1),
@@ -93,10 +93,10 @@ module _ (p : Program) (d : List ℕ) (n : ℕ) (dr : Drafted p d n) (few : size
       )
   nodes-code (n-app3 {f = f} {a = x} {b = y} {c = z} h hx hy hz) k =
       rw (
-        inTurn-append (nodeWords d e) (nodes x),
-        inTurn-append (nodeWords d e) (nodes y),
-        inTurn-append (nodeWords d e) (nodes z),
-        inTurn-one,
+        flatMap-append (nodeWords d e) (nodes x),
+        flatMap-append (nodeWords d e) (nodes y),
+        flatMap-append (nodeWords d e) (nodes z),
+        flatMap-one,
         app-words d e f (arity-low h),
         nodes-code hx (k .0),
         nodes-code hy (k .1),
@@ -112,7 +112,7 @@ module _ (p : Program) (d : List ℕ) (n : ℕ) (dr : Drafted p d n) (few : size
   unfolding exprWords
   expr-code kind v x h f k =
       let l : countOf v ≤ length (drop (startOf v) d) = rw (length-drop (startOf v) d) (omega (arith, h .inside, dr .long)) in
-      let s : inTurn (nodeWords d e) (take (countOf v) (drop (startOf v) d)) ≡ each (countOf v) (λ j. nodeWords d e (getD (drop (startOf v) d) j 0)) =
+      let s : flatMap (nodeWords d e) (take (countOf v) (drop (startOf v) d)) ≡ each (countOf v) (λ j. nodeWords d e (getD (drop (startOf v) d) j 0)) =
       in-turn-each (nodeWords d e) (drop (startOf v) d) (countOf v) l in
-      let g : inTurn (nodeWords d e) (take (countOf v) (drop (startOf v) d)) ≡ each (countOf v) (λ j. nodeWords d e (getD d (startOf v + j) 0)) = simp getD-drop at s in
+      let g : flatMap (nodeWords d e) (take (countOf v) (drop (startOf v) d)) ≡ each (countOf v) (λ j. nodeWords d e (getD d (startOf v + j) 0)) = simp getD-drop at s in
       sym g ∙ rw (h .count-is, h .there) (nodes-code f k)

@@ -13,11 +13,6 @@ unfoldable pub each : ℕ → (ℕ → List ℕ) → List ℕ
 each zero f = []
 each (suc n) f = each n f ++ f n
 
--- f of each number of a list
-unfoldable pub inTurn : (ℕ → List ℕ) → List ℕ → List ℕ
-inTurn f [] = []
-inTurn f (i ∷ is) = f i ++ inTurn f is
-
 -- a name: what the event copies is fetched from scratch, the rest is loaded from the store
 unfoldable pub nameWords : List ℕ → ℕ → ℕ → List ℕ
 nameWords d e j = pick (eqb (entryOf d e j) 0) ((1536 + j) ∷ 0 ∷ []) ((1792 + j) ∷ 0 ∷ [])

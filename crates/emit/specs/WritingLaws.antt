@@ -2,7 +2,7 @@
 use Prim.Native.Nat.{ℕ, zero, suc, _+_, _≤_, _<_}
 use mathlib.Core.Path.{_≡_, refl, sym, ap, _∙_}
 use mathlib.Core.Logic.{by-cases}
-use mathlib.Core.List.{List, [], _∷_, _++_, append-assoc, append-nil}
+use mathlib.Core.List.{List, [], _∷_, _++_, append-assoc, append-nil, flatMap}
 use native.Mathlib.Decide.{decLt}
 use native.Mathlib.Omega.{arith}
 use native.Mathlib.Numerals.{add-one}
@@ -11,7 +11,7 @@ use lib.Seq.{take-suc}
 use Rattle.word.specs.Word.{put}
 use Rattle.image.specs.Image.{putWords}
 use Rattle.image.specs.PutWords.{length-putWords, putWords-append}
-use Rattle.emit.specs.Words.{each, inTurn}
+use Rattle.emit.specs.Words.{each}
 use Rattle.emit.specs.Writing.{Room, Wrote}
 
 -- ---- one after the other
@@ -85,12 +85,12 @@ module _ {f : ℕ → List ℕ} {n : ℕ} {t : List ℕ} {k : ℕ} where
   turn-long u = wrote-long (u .wrote)
 
 -- a list's members by their places
-inTurn-snoc : (f : ℕ → List ℕ) (xs : List ℕ) (x : ℕ) → inTurn f (xs ++ (x ∷ [])) ≡ inTurn f xs ++ f x
-unfolding inTurn
-inTurn-snoc f [] x = append-nil (f x)
-inTurn-snoc f (y ∷ xs) x = rw (inTurn-snoc f xs x, append-assoc)
+flatMap-snoc : (f : ℕ → List ℕ) (xs : List ℕ) (x : ℕ) → flatMap f (xs ++ (x ∷ [])) ≡ flatMap f xs ++ f x
+unfolding flatMap
+flatMap-snoc f [] x = append-nil (f x)
+flatMap-snoc f (y ∷ xs) x = rw (flatMap-snoc f xs x, append-assoc)
 
-pub in-turn-each : (f : ℕ → List ℕ) (o : List ℕ) (count : ℕ) → count ≤ length o → inTurn f (take count o) ≡ each count (λ j. f (getD o j 0))
-unfolding each inTurn
+pub in-turn-each : (f : ℕ → List ℕ) (o : List ℕ) (count : ℕ) → count ≤ length o → flatMap f (take count o) ≡ each count (λ j. f (getD o j 0))
+unfolding each flatMap
 in-turn-each f o zero h = refl
-in-turn-each f o (suc j) h = rw (take-suc o j 0 (omega arith), inTurn-snoc f (take j o) (getD o j 0), in-turn-each f o j (omega arith))
+in-turn-each f o (suc j) h = rw (take-suc o j 0 (omega arith), flatMap-snoc f (take j o) (getD o j 0), in-turn-each f o j (omega arith))

@@ -1,4 +1,4 @@
--- Demands 2 and 3, and M-100, M-101 and M-104 of document 02, as claims about the exported functions: `compileOn`, `startOn`, `arriveOn`, `stepOn`, `boardOn`, `forecastOn`
+-- Demands 2 and 3, and M-100, M-101, M-104 and M-113 of document 02, as claims about the exported functions: `compileOn`, `startOn`, `arriveOn`, `stepOn`, `boardOn`, `forecastOn`
 -- and `previewOn` are what their contracts cite.
 -- The model engine, and the sentences of demand 3 in its terms: crate model, Model.antt and Claims.antt. Calls on bytes, and what the round's bytes say: crate
 -- refinement, Refinement.antt.
@@ -6,7 +6,7 @@ use Prim.Native.Nat.{ℕ, _+_, _*_, _≤_, _<_}
 use mathlib.Core.Bool.{Bool, true, false}
 use mathlib.Core.Path.{_≡_}
 use mathlib.Core.Logic.{_≢_}
-use mathlib.Core.List.{List, [], _∷_, _++_, map}
+use mathlib.Core.List.{List, [], _∷_, _++_, map, zipWith}
 use lib.ListN.{length, getD}
 use Rattle.base.specs.Basics.{All}
 use Rattle.word.specs.Word.{get, words}
@@ -27,7 +27,7 @@ use Rattle.round.specs.Start.{startOn}
 use Rattle.machine.specs.Machine.{stepOn}
 use Rattle.forecast.specs.Forecast.{forecastOn}
 use Rattle.preview.specs.Preview.{previewOn}
-use Rattle.refinement.specs.Refinement.{coded, decoded, decodedAll, callOn, answersOn, roundAfter, View, Kept}
+use Rattle.refinement.specs.Refinement.{coded, decoded, callOn, answersOn, roundAfter, View, Kept}
 use Rattle.compiler.specs.Verdict.{programOf, compileOn}
 
 -- the events of arrivals
@@ -67,7 +67,7 @@ pub record OneList (p : Program) (t l₀ l : List ℕ) (cs : List Call) : Type 0
   -- "every answer .. is what 01's model engine gives"
   pub answers : answersOn t cs l ≡ map coded (said p cs)
   -- the numbers name those answers: the committed and the taken in of the other parts are those that the calls' numbers name
-  pub read : decodedAll cs (answersOn t cs l) ≡ said p cs
+  pub read : zipWith decoded cs (answersOn t cs l) ≡ said p cs
   -- "The table is still as compile left it": after the list it is t, and the round is `roundAfter`
   pub table : buffersAfter cs (t, l) ≡ (t, roundAfter t cs l)
   -- ".. and the round after the list"

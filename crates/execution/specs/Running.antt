@@ -1,8 +1,8 @@
 -- Running a list of instructions: lists one after the other, a part for each number, and that an expression's code pushes its value, marks what ran over in it and changes nothing else.
 -- By induction on the list, the number and the expression.
 use Prim.Native.Nat.{ℕ, zero, suc, _<_, _≤_}
-use mathlib.Core.Bool.{Bool, true, false, _||_}
-use mathlib.Core.Path.{_≡_, refl}
+use mathlib.Core.Bool.{Bool, true, false, _||_, or-assoc}
+use mathlib.Core.Path.{_≡_, refl, sym}
 use mathlib.Core.List.{List, [], _∷_, _++_, append-assoc, flatten}
 use native.Mathlib.Omega.{arith}
 use lib.Dec.{eqb}
@@ -73,10 +73,6 @@ module _ (f : ℕ) where
 abbrev pub noted : Bool → Values → Values
 noted m d = record { store = d .store; scratch = d .scratch; stack = d .stack; deferred = d .deferred; mark = m || d .mark }
 
-pub or-one : (o a m : Bool) → o || (a || m) ≡ (o || a) || m
-or-one true a m = refl
-or-one false a m = refl
-
 or-two : (o a b m : Bool) → o || (b || (a || m)) ≡ (o || (a || b)) || m
 or-two true a b m = refl
 or-two false true true m = refl
@@ -112,7 +108,7 @@ module _ (c : ℕ → Bool) where
         run-postfix ha (apply f ∷ rest) d,
         one-argument f va (d .stack) (arity-is r .0),
         one-over f va (d .stack) (arity-is r .0),
-        or-one (over f va 0 0) oa (d .mark),
+        sym (or-assoc (over f va 0 0) oa (d .mark)),
       )
   run-postfix (n-app2 {f = f} {a = a} {b = b} r ha hb) rest d =
       let va = value (looked c d) a in

@@ -3,9 +3,9 @@ use Prim.Native.Nat.{ℕ, zero, suc, _+_, _*_, _-_, _%_, _≤_, _<_, _^_}
 use mathlib.Core.Path.{_≡_, refl, sym, ap, subst, _∙_}
 use mathlib.Core.Logic.{_≢_}
 use mathlib.Core.Bool.{Bool, true, false, _&&_, _||_, and-true, and-false, or-true, or-false, or-assoc}
-use mathlib.Core.List.{List, [], _∷_, _++_}
+use mathlib.Core.List.{List, [], _∷_, _++_, map, map-append}
 use native.Mathlib.Omega.{arith}
-use lib.ListN.{length, getD, take, drop, length-drop, length-set}
+use lib.ListN.{length, getD, take, drop, length-drop, length-set, length-map}
 use lib.Seq.{length-take-le, take-suc, getD-take, getD-drop, getD-set-same, getD-set-other, ext-getD}
 use lib.Dec.{eqb, ltb}
 use borrow.Author.Tests.{eqb-true, eqb-false, eq-eqb, ne-eqb}
@@ -43,13 +43,11 @@ value-small ps h n b = by-test (λ (z : ℕ). z < 2 ^ 32) (ltb (length ps) 32) (
 
 module _ (ps : List ℕ) where
   unfoldable fillAll : List ℕ → List ℕ
-  fillAll [] = []
-  fillAll (x ∷ l) = filled ps x ∷ fillAll l
+  fillAll = map (filled ps)
 
   fill-append : (l m : List ℕ) → fillAll (l ++ m) ≡ fillAll l ++ fillAll m
   unfolding fillAll
-  fill-append [] m = refl
-  fill-append (x ∷ l) m = ap (λ (r : List ℕ). filled ps x ∷ r) (fill-append l m)
+  fill-append l m = map-append (filled ps) l m
 
   other-node : (x : ℕ) → tagOf x ≢ 19 → filled ps x ≡ x
   unfolding filled
@@ -115,8 +113,7 @@ module _ (ps : List ℕ) where
 
   length-fillAll : (l : List ℕ) → length (fillAll l) ≡ length l
   unfolding fillAll
-  length-fillAll [] = refl
-  length-fillAll (x ∷ l) = ap suc (length-fillAll l)
+  length-fillAll l = length-map l (filled ps)
 
   getD-fillAll : (l : List ℕ) (i : ℕ) → i < length l → getD (fillAll l) i 0 ≡ filled ps (getD l i 0)
   unfolding fillAll

@@ -1,8 +1,8 @@
 -- What forecast reads from the table's and the round's bytes, for all bytes (layout: crate layout). 02, M-100: the steps to idle while nothing runs, else 01's bound.
 -- A function that branches takes plain numbers; one that reads calls it.
-use Prim.Native.Nat.{ℕ, zero, suc, _+_, _*_}
+use Prim.Native.Nat.{ℕ, zero, suc, _+_, _*_, max}
 use mathlib.Core.List.{List}
-use lib.Dec.{ltb, eqb}
+use lib.Dec.{eqb}
 use Rattle.base.specs.Basics.{pick}
 use Rattle.language.specs.Refusals as refusals
 use Rattle.layout.specs.Layout.{eventCount, eventWord, waitingCount, runningFlag, eventAt, ours}
@@ -15,13 +15,10 @@ stepsIn t l (suc n) = (eventWord t (eventAt l n) 2 + 1) + stepsIn t l n
 
 -- ---- something runs: "(k + 1) × (L + 1) steps .., k being the number in hand .., L the longest event's instructions"
 
-unfoldable pub larger : ℕ → ℕ → ℕ
-larger a b = pick (ltb a b) b a
-
 -- the longest of the first n events
 unfoldable pub longestIn : List ℕ → ℕ → ℕ
 longestIn t zero = 0
-longestIn t (suc n) = larger (eventWord t n 2) (longestIn t n)
+longestIn t (suc n) = max (eventWord t n 2) (longestIn t n)
 
 -- n wait beside the running one
 unfoldable pub bound : ℕ → ℕ → ℕ

@@ -1,9 +1,9 @@
 // The steps to idle, read from the table's and the round's bytes: exact while nothing runs, else 01's bound. Refused by 14 where table or round is foreign.
 ghost use mathlib.Core.Path.{_≡_};
-ghost use Prim.Native.Nat.{_≤_};
+ghost use Prim.Native.Nat.{_≤_, max};
 ghost use Rattle.layout.specs.Layout.{eventCount, waitingCount};
 ghost use Rattle.layout.specs.Bounds.{TableBounds, Bounds};
-ghost use Rattle.forecast.specs.Forecast.{stepsIn, larger, longestIn, bound, forecastWith, forecastIn, forecastOn};
+ghost use Rattle.forecast.specs.Forecast.{stepsIn, longestIn, bound, forecastWith, forecastIn, forecastOn};
 
 // ---- nothing runs
 
@@ -24,7 +24,7 @@ fn steps_in(t: &[u8], l: &[u8], n: usize) -> u32
 // ---- something runs
 
 fn larger_of(a: u32, b: u32) -> u32
-    ensures { λ r. ⌜ r ≡ larger a b ⌝ }
+    ensures { λ r. ⌜ r ≡ max a b ⌝ }
 {
     if a < b {
         return b;

@@ -1,5 +1,5 @@
 -- What a text answers, and what it leaves in the lent buffer. 02, M-105.
-use Prim.Native.Nat.{ℕ, suc, _+_}
+use Prim.Native.Nat.{ℕ, suc, _+_, max}
 use mathlib.Core.Bool.{Bool, true, false}
 use mathlib.Core.List.{List, _++_}
 use mathlib.Core.Option.{Option, none, some}
@@ -31,7 +31,7 @@ large (app2 f a b) = pick (large a) true (large b)
 large (app3 f a b c) = pick (large a) true (pick (large b) true (large c))
 
 abbrev pub deeper : ℕ → ℕ → ℕ
-deeper a b = pick (ltb a b) b a
+deeper a b = max a b
 
 -- 01: "A constant or name has nesting 1, an application one more than its deepest argument"; brackets leave no trace in an expression, and so "add no nesting"
 unfoldable pub nesting : Expr → ℕ

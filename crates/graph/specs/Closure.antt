@@ -1,7 +1,7 @@
 -- The closed matrix decides `Reach`: passing through k adds exactly the pairs (i, j) with i to k and k to j, so what is marked is reached,
 -- and the marks are closed under every node that is passed.
 use Prim.Native.Nat.{ℕ, zero, suc, _+_, _*_, _≤_, _<_}
-use mathlib.Core.Bool.{Bool, true, false, not, _&&_, _||_, false≢true, or-false, or-true}
+use mathlib.Core.Bool.{Bool, true, false, not, _&&_, _||_, false≢true, or-false, or-true, and-eq-true-iff}
 use mathlib.Core.Path.{_≡_, refl, sym, ap, _∙_, subst}
 use mathlib.Core.Logic.{_≢_, _⊎_, inl, inr, ⊎-elim, by-cases}
 use mathlib.Core.List.{List}
@@ -11,7 +11,7 @@ use lib.Dec.{eqb, ltb}
 use lib.ListN.{length, getD, set, length-set}
 use lib.Seq.{getD-set-same, getD-set-other}
 use borrow.Author.Tests.{ltb-true, lt-ltb}
-use Rattle.base.specs.Tools.{by-test, and-left, and-right, or-either}
+use Rattle.base.specs.Tools.{by-test, or-either}
 use Rattle.language.specs.Dependence.{Reach, one, more}
 use Rattle.graph.specs.Matrix.{cell, below, closeCell, closeRow, closeThrough, closeRows, closeBy, closed}
 
@@ -166,7 +166,7 @@ module _ (m : List ℕ) (n : ℕ) (l : length m ≡ 4096) (small : n ≤ 64) whe
       (is : (i j : ℕ) → i < n → j < n → cell v i j ≡ cell w i j || (cell w i k && cell w k j)) where
     down : (i j : ℕ) → i < n → j < n → cell v i j ≡ true → (cell w i j ≡ true) ⊎ ((cell w i k ≡ true) × (cell w k j ≡ true))
     down i j a b e =
-        ⊎-elim inl (λ f. inr (and-left (cell w i k) (cell w k j) f, and-right (cell w i k) (cell w k j) f))
+        ⊎-elim inl (λ f. inr (and-eq-true-iff (cell w i k) (cell w k j) .0 f))
         (or-either (cell w i j) (cell w i k && cell w k j) (sym (is i j a b) ∙ e))
 
     up : (i j : ℕ) → i < n → j < n → cell w i j ≡ true → cell v i j ≡ true

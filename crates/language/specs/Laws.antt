@@ -3,7 +3,7 @@
 use Prim.Native.Nat.{ℕ, zero, suc, _≤_, _<_}
 use mathlib.Core.Path.{_≡_, refl, sym, ap, _∙_}
 use mathlib.Core.Logic.{⊎-elim, by-cases}
-use mathlib.Core.Bool.{true, false, not, _||_, true≢false, false≢true}
+use mathlib.Core.Bool.{true, false, not, _||_, true≢false, false≢true, and-eq-true-iff}
 use mathlib.Core.List.{List, [], _∷_}
 use native.Mathlib.Decide.{decLt}
 use native.Mathlib.Omega.{arith}
@@ -12,7 +12,7 @@ use lib.ListN.{length, getD, List·getD-eq-default}
 use lib.Seq.{ext-getD}
 use borrow.Author.Tests.{eqb-true}
 use Rattle.base.specs.Basics.{All}
-use Rattle.base.specs.Tools.{by-elim, and-left, or-either, all-at-or}
+use Rattle.base.specs.Tools.{by-elim, or-either, all-at-or}
 use Rattle.language.specs.Syntax.{Expr, con, name, app1, app2, app3, Phase, immediate, later, Handler, handler, Behaviour, passive, active, Program}
 use Rattle.language.specs.Dependence.{Response, follows, takes, defers, keeps, inPhase, handled, respond, size, events, behaviourAt, response, mentions, needs, dependsOn}
 use Rattle.language.specs.Order.{upTo}
@@ -86,7 +86,7 @@ named-in n j (app3 f a b c) h e =
 
 needs-in : (n i j : ℕ) (r : Response) → ResponseNamesIn n r → needs i j r ≡ true → j < n
 needs-in n i j (follows x) h e = named-in n j x h e
-needs-in n i j (takes x) h e = named-in n j x h (and-left (mentions j x) (not (eqb i j)) e)
+needs-in n i j (takes x) h e = named-in n j x h (and-eq-true-iff (mentions j x) (not (eqb i j)) .0 e .0)
 needs-in n i j (defers x) h e = absurd (false≢true e)
 needs-in n i j keeps h e = absurd (false≢true e)
 

@@ -2,7 +2,7 @@
 -- 02, M-103: a parameter "means the same as the constant written there".
 use Prim.Native.Nat.{ℕ}
 use mathlib.Core.Bool.{Bool, true, false, _||_}
-use mathlib.Core.List.{List, [], _∷_}
+use mathlib.Core.List.{List, [], _∷_, map}
 use Rattle.language.specs.Syntax.{Expr, con, name, app1, app2, app3, Phase, Handler, handler, Behaviour, passive, active, Program}
 
 -- an expression: a constant is a 32-bit word, a name a behaviour's number, a parameter its own, an application has its function's number
@@ -46,8 +46,7 @@ module _ (v : ℕ → ℕ) where
   fillItem (state s cs) = active s (fillClauses cs)
 
   unfoldable pub fillItems : List Item → List Behaviour
-  fillItems [] = []
-  fillItems (b ∷ bs) = fillItem b ∷ fillItems bs
+  fillItems = map fillItem
 
   abbrev pub fill : Sheet → Program
   fill s = record { priorities = s .priorities; behaviours = fillItems (s .items) }
@@ -72,8 +71,7 @@ module _ (v : ℕ → ℕ) where
   writeItem (state s cs) = state s (writeClauses cs)
 
   unfoldable pub writeItems : List Item → List Item
-  writeItems [] = []
-  writeItems (b ∷ bs) = writeItem b ∷ writeItems bs
+  writeItems = map writeItem
 
   abbrev pub writtenOut : Sheet → Sheet
   writtenOut s = record { priorities = s .priorities; items = writeItems (s .items) }

@@ -1,11 +1,11 @@
 -- Laws of a sheet and its filling: a filling has the sheet's shape and limits, depends on the parameters used alone, and is that of the sheet written out.
 -- Each by induction on the sheet.
-use Prim.Native.Nat.{ℕ, zero, suc, _<_, _^_}
+use Prim.Native.Nat.{ℕ, _<_, _^_}
 use mathlib.Core.Path.{_≡_, refl, ap}
 use mathlib.Core.Bool.{Bool, true, false, _||_, true≢false}
 use mathlib.Core.List.{List, [], _∷_}
 use native.Mathlib.Omega.{arith}
-use lib.ListN.{length, getD}
+use lib.ListN.{length, getD, length-map, List·getD-map}
 use Rattle.base.specs.Basics.{All}
 use Rattle.language.specs.Syntax.{Behaviour, active}
 use Rattle.language.specs.Sheet.{Term, literal, variable, param, apply1, apply2, apply3, Clause, clause, Item, formula, state, Sheet}
@@ -21,14 +21,11 @@ use Rattle.language.specs.Accepted.{Accepted, SheetAccepted}
 module _ (v : ℕ → ℕ) where
   pub length-fill : (bs : List Item) → length (fillItems v bs) ≡ length bs
   unfolding fillItems
-  length-fill [] = refl
-  length-fill (b ∷ bs) = ap suc (length-fill bs)
+  length-fill bs = length-map bs (fillItem v)
 
   pub fill-at : (bs : List Item) (i : ℕ) → getD (fillItems v bs) i (active 0 []) ≡ fillItem v (getD bs i (state 0 []))
   unfolding fillItems fillClauses
-  fill-at [] i = refl
-  fill-at (b ∷ bs) zero = refl
-  fill-at (b ∷ bs) (suc i) = fill-at bs i
+  fill-at bs i = List·getD-map (fillItem v) bs i (state 0 [])
 
 -- 02, M-103: a parameter "counts as one in an expression's size"
 pub param-size : (v : ℕ → ℕ) (n : ℕ) → sizeOf (fillTerm v (param n)) ≡ 1

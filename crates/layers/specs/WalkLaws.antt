@@ -1,6 +1,6 @@
 -- What the loop that lists a walk keeps: those listed lead from i to where it stands, and from there as many steps as are left lead to i.
 use Prim.Native.Nat.{ℕ, suc, _+_, _-_, _≤_, _<_}
-use mathlib.Core.Bool.{Bool, true, _&&_}
+use mathlib.Core.Bool.{Bool, true, _&&_, and-eq-true-iff}
 use mathlib.Core.Path.{_≡_, refl, sym, ap, _∙_, subst}
 use mathlib.Core.List.{List, [], _∷_, _++_, append-assoc}
 use native.Mathlib.Omega.{arith}
@@ -10,7 +10,7 @@ use lib.ListN.{length, getD, set, drop, length-set, length-append}
 use lib.Seq.{drop-cons, set-at}
 use borrow.Author.Tests.{ltb-true, eqb-true}
 use Rattle.base.specs.Basics.{All}
-use Rattle.base.specs.Tools.{and-left, and-right, all-join}
+use Rattle.base.specs.Tools.{all-join}
 use Rattle.graph.specs.Matrix.{cell}
 use Rattle.analysis.specs.Any.{any-same}
 use Rattle.layers.specs.Circle.{Chain, Circle}
@@ -71,7 +71,8 @@ module _ (m : List ℕ) (n i r : ℕ) (list₀ : List ℕ) where
       (λ x c. onward-is m s k at x ∙ ap (λ v. dep at x && v) (w .walks k x (omega arith) c)) in
       let found : h < n = ltb-true h n (lowest-any low ∙ same ∙ (rw z at e)) in
       let both : dep at h && cell s k h ≡ true = sym (onward-is m s k at h) ∙ low .found found in
-      (found, and-left (dep at h) (cell s k h) both, rw y (sym (w .walks k h (omega arith) found) ∙ and-right (dep at h) (cell s k h) both))
+      let q = and-eq-true-iff (dep at h) (cell s k h) .0 both in
+      (found, q .0, rw y (sym (w .walks k h (omega arith) found) ∙ q .1))
 
   pub going-turn : {s list : List ℕ} {at t h : ℕ} → Going list at t → 64 ≤ length list₀ → n ≤ 64 → r ≤ n → Layered m n i s (r - 1) → t < r
       → Lowest (onward m s (r - 1 - t) at) n h → Going (set list t at) h (t + 1)

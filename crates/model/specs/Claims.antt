@@ -1,11 +1,11 @@
 -- Demand 3 in terms of the model engine: what is said of every list of calls from the initial engine.
-use Prim.Native.Nat.{ℕ, suc, _+_, _*_, _≤_, _<_}
+use Prim.Native.Nat.{ℕ, suc, _+_, _*_, _≤_, _<_, max}
 use mathlib.Core.Bool.{Bool, true, false}
 use mathlib.Core.Path.{_≡_}
 use mathlib.Core.Logic.{_≢_}
-use mathlib.Core.List.{List, [], _∷_, _++_, map, List·Permᴰ, List·Memᴰ, Pairwise, List·Nodup}
+use mathlib.Core.List.{List, [], _∷_, _++_, map, List·Permᴰ, List·Memᴰ, Pairwise, List·Nodup, foldr, sum}
 use lib.ListN.{length, take, replicate}
-use lib.Dec.{ltb, leb}
+use lib.Dec.{leb}
 use Rattle.base.specs.Basics.{pick, All}
 use Rattle.language.specs.Syntax.{Program}
 use Rattle.language.specs.Refusals as refusals
@@ -125,12 +125,8 @@ LowerFirst p cs =
     × All (λ a. All (λ b. rank p a < rank p b → Later p cs a b) (inQueue (after p cs))) (committedIn p cs)
 
 -- the longest event's instructions, over all events
-unfoldable pub greatest : List ℕ → ℕ
-greatest [] = 0
-greatest (n ∷ ns) = pick (ltb n (greatest ns)) (greatest ns) n
-
 unfoldable pub longest : Program → ℕ
-longest p = greatest (upTo (events p) (λ e. length (code p e)))
+longest p = foldr max 0 (upTo (events p) (λ e. length (code p e)))
 
 unfoldable pub steps : List Call → ℕ
 steps [] = 0
@@ -174,8 +170,7 @@ NobodyWaits p cs =
 
 -- the sum, over arrivals, of each event's instruction count plus one
 unfoldable pub stepsOf : Program → List Arrival → ℕ
-stepsOf p [] = 0
-stepsOf p (a ∷ l) = (length (code p (a .event)) + 1) + stepsOf p l
+stepsOf p l = sum _+_ 0 (map (λ (a : Arrival). length (code p (a .event)) + 1) l)
 
 abbrev pub AtRest : Engine → Type 0
 AtRest (engine t waiting rest d) = Unit {0}

@@ -2,7 +2,7 @@
 -- until it is 0, nothing waiting outranking the running one, and idle is exactly where it is 0.
 use Prim.Native.Nat.{ℕ, _+_, _-_, _≤_}
 use mathlib.Core.Path.{_≡_, refl, sym, ap, _∙_}
-use mathlib.Core.List.{List, [], _∷_, _++_}
+use mathlib.Core.List.{List, [], _∷_, _++_, sum}
 use mathlib.Core.List.{List·Permᴰ, List·Permᴰ·nil, List·Permᴰ·cons, List·Permᴰ·swap, List·Permᴰ·trans}
 use native.Mathlib.Omega.{arith}
 use lib.ListN.{length}
@@ -23,7 +23,7 @@ module _ (p : Program) where
   -- ---- the steps of arrivals in any order
 
   pub steps-perm : {l m : List Arrival} → List·Permᴰ l m → stepsOf p l ≡ stepsOf p m
-  unfolding stepsOf
+  unfolding stepsOf sum
   steps-perm List·Permᴰ·nil = refl
   steps-perm (List·Permᴰ·cons e d) = rw (e, steps-perm d)
   steps-perm (List·Permᴰ·swap e f) = rw (e, f) (omega arith)
@@ -50,7 +50,7 @@ module _ (p : Program) where
   Spends c w x v = Reached p w → number v ≡ number w → Leading w → Leading v × (left v ≡ left w - spent c)
 
   spends : Cases p Spends
-  unfolding stepsOf
+  unfolding stepsOf sum
   spends = record {
     refuses = λ e w r z h. (h, omega arith);
     takes = λ e t waiting q d k m o r z h. absurd (omega arith);
@@ -76,13 +76,13 @@ module _ (p : Program) where
   -- ---- idle is where nothing is left
 
   idle-left : (w : Engine) → Idle p w → left w ≡ 0
-  unfolding stepsOf
+  unfolding stepsOf sum
   idle-left (engine t waiting rest d) h = ap (stepsOf p) (idle-empty p (engine t waiting rest d) h)
   idle-left (engine t waiting (busy a c) d) h =
       let z : _≡_ {A = ℕ} 1 0 = cc (idle-empty p (engine t waiting (busy a c) d) h) in absurd (omega arith)
 
   left-idle : (w : Engine) → Reached p w → left w ≡ 0 → Idle p w
-  unfolding act stepsOf
+  unfolding act stepsOf sum
   left-idle (engine t [] rest d) r h = refl
   left-idle (engine t (b ∷ l) rest d) r h = absurd (omega arith)
   left-idle (engine t waiting (busy a c) d) r h = absurd (omega (arith, r .done .0))

@@ -1,14 +1,14 @@
 -- Once no more are taken in, idle comes within (k + 1) × (L + 1) steps: a measure of what is left to do falls at each step until it is 0, and 0 is idle.
-use Prim.Native.Nat.{ℕ, zero, suc, _+_, _*_, _-_, _≤_, _<_}
+use Prim.Native.Nat.{ℕ, zero, suc, _+_, _*_, _-_, _≤_, _<_, max}
 use mathlib.Core.Bool.{Bool, true, false}
 use mathlib.Core.Path.{_≡_, refl, sym, ap, _∙_}
-use mathlib.Core.List.{List, [], _∷_, _++_}
+use mathlib.Core.List.{List, [], _∷_, _++_, foldr}
 use native.Mathlib.Omega.{arith}
 use lib.Dec.{ltb}
 use lib.ListN.{length}
-use borrow.Author.Tests.{ltb-true, ltb-false, lt-ltb, le-ltb}
-use Rattle.base.specs.Basics.{pick, All}
-use Rattle.base.specs.Tools.{by-test, all-perm}
+use borrow.Author.Tests.{lt-ltb, le-ltb}
+use Rattle.base.specs.Basics.{All}
+use Rattle.base.specs.Tools.{all-perm}
 use Rattle.language.specs.Syntax.{Program}
 use Rattle.language.specs.Dependence.{events}
 use Rattle.language.specs.Code.{code}
@@ -16,7 +16,7 @@ use Rattle.language.specs.Order.{upTo}
 use Rattle.execution.specs.Execution.{Values}
 use Rattle.execution.specs.CodeFacts.{CodeFacts}
 use Rattle.model.specs.Model.{Arrival, rest, busy, Engine, engine, initial, Call, arrive, step, board, Chosen, rank, aside, choose, begin, act, run}
-use Rattle.model.specs.Claims.{number, inQueue, Idle, after, greatest, longest, steps, SettlesIn}
+use Rattle.model.specs.Claims.{number, inQueue, Idle, after, longest, steps, SettlesIn}
 use Rattle.model.specs.Choice.{Leads, choose-perm, choose-first, choose-length}
 use Rattle.model.specs.Moves.{Effect, Cases, act-by}
 use Rattle.model.specs.Reached.{Fine, Reached, back-perm, act-keeps, reached}
@@ -24,18 +24,15 @@ use Rattle.model.specs.History.{run-append, act-grows, run-grows}
 
 -- ---- the longest event
 
-larger : (n m : ℕ) → (n ≤ pick (ltb n m) m n) × (m ≤ pick (ltb n m) m n)
-larger n m = by-test (λ (k : ℕ). (n ≤ k) × (m ≤ k)) (ltb n m) (λ e. omega (arith, ltb-true)) (λ e. omega (arith, ltb-false))
-
-greatest-upTo : (n : ℕ) (f : ℕ → ℕ) (e : ℕ) → e < n → f e ≤ greatest (upTo n f)
-unfolding greatest upTo
-greatest-upTo zero f e h = absurd (omega arith)
-greatest-upTo (suc n) f zero h = larger (f 0) (greatest (upTo n (λ i. f (suc i)))) .0
-greatest-upTo (suc n) f (suc e) h = omega (arith, greatest-upTo n (λ i. f (suc i)) e (omega arith), larger (f 0) (greatest (upTo n (λ i. f (suc i)))) .1)
+max-upTo : (n : ℕ) (f : ℕ → ℕ) (e : ℕ) → e < n → f e ≤ foldr max 0 (upTo n f)
+unfolding upTo
+max-upTo zero f e h = absurd (omega arith)
+max-upTo (suc n) f zero h = omega arith
+max-upTo (suc n) f (suc e) h = omega (arith, max-upTo n (λ i. f (suc i)) e (omega arith))
 
 pub longest-most : (p : Program) (e : ℕ) → e < events p → length (code p e) ≤ longest p
 unfolding longest
-longest-most p e h = greatest-upTo (events p) (λ i. length (code p i)) e h
+longest-most p e h = max-upTo (events p) (λ i. length (code p i)) e h
 
 module _ (p : Program) where
   -- ---- the measure: the instructions of the running one, a whole event for each waiting, and one more if the running one is to start again

@@ -19,7 +19,7 @@ use Rattle.image.specs.Image.{operation, constant, codeWords}
 use Rattle.draft.specs.Draft.{entryOf, Drafted}
 use Rattle.draft.specs.Entry.{kindOf}
 use Rattle.draft.specs.DraftLaws.{Holds, Entry, entry-of}
-use Rattle.emit.specs.Words.{each, inTurn, turnWords, kindWords, moveWords}
+use Rattle.emit.specs.Words.{each, turnWords, kindWords, moveWords}
 use Rattle.emit.specs.ExprWords.{codeWords-append, expr-code}
 use Rattle.phases.specs.Phases.{firstWords, secondWords}
 
@@ -41,8 +41,8 @@ each-code (suc n) f g h =
     rw (flatten-snoc n g, codeWords-append (flatten (upTo n g)) (g n), each-code n f g (λ i b. h i (omega arith)), h n (omega arith))
 
 turn-code : (p : Program) (e : ℕ) (f : ℕ → List ℕ) (g : ℕ → Response → List Instr) (is : List ℕ) → All (λ i. f i ≡ codeWords (g i (response p e i))) is
-    → inTurn f is ≡ codeWords (inOrder p e g is)
-unfolding inTurn inOrder flatMap codeWords
+    → flatMap f is ≡ codeWords (inOrder p e g is)
+unfolding inOrder flatMap codeWords
 turn-code p e f g [] h = refl
 turn-code p e f g (i ∷ is) h = rw (codeWords-append (g i (response p e i)) (inOrder p e g is), h .0, turn-code p e f g is (h .1))
 

@@ -2,10 +2,11 @@
 // on and returns the next word.
 ghost use mathlib.Core.Path.{_≡_};
 ghost use Prim.Native.Nat.{_≤_};
+ghost use mathlib.Core.List.{flatMap};
 ghost use lib.ListN.{length, take};
 ghost use Rattle.counts.specs.Counts.{Sound};
 ghost use Rattle.ordering.specs.Ordering.{Listed};
-ghost use Rattle.emit.specs.Words.{each, inTurn, turnWords, kindWords, moveWords};
+ghost use Rattle.emit.specs.Words.{each, turnWords, kindWords, moveWords};
 ghost use Rattle.emit.specs.Writing.{Room, Wrote};
 ghost use Rattle.phases.specs.Phases.{firstWords, secondWords};
 use emit::emit_kind;
@@ -23,8 +24,8 @@ fn emit_turns(
     k: usize,
 ) -> usize
     requires { ⌜ Sound (now d) e n × Listed (now o) count n ⌝ }
-    requires { ⌜ Room (now t) k (inTurn (turnWords (now d) e 2304) (take count (now o))) ⌝ }
-    ensures { λ r. ⌜ Wrote (now (t .entry)) k (inTurn (turnWords (now (d .entry)) e 2304) (take count (now (o .entry)))) (now (t .exit)) r ⌝ }
+    requires { ⌜ Room (now t) k (flatMap (turnWords (now d) e 2304) (take count (now o))) ⌝ }
+    ensures { λ r. ⌜ Wrote (now (t .entry)) k (flatMap (turnWords (now (d .entry)) e 2304) (take count (now (o .entry)))) (now (t .exit)) r ⌝ }
 {
     let mut next = k;
     let mut j = 0;
@@ -94,8 +95,8 @@ fn emit_again(
     k: usize,
 ) -> usize
     requires { ⌜ Sound (now d) e n × Listed (now o) count n ⌝ }
-    requires { ⌜ Room (now t) k (inTurn (kindWords (now d) e 1 2304) (take count (now o))) ⌝ }
-    ensures { λ r. ⌜ Wrote (now (t .entry)) k (inTurn (kindWords (now (d .entry)) e 1 2304) (take count (now (o .entry)))) (now (t .exit)) r ⌝ }
+    requires { ⌜ Room (now t) k (flatMap (kindWords (now d) e 1 2304) (take count (now o))) ⌝ }
+    ensures { λ r. ⌜ Wrote (now (t .entry)) k (flatMap (kindWords (now (d .entry)) e 1 2304) (take count (now (o .entry)))) (now (t .exit)) r ⌝ }
 {
     let mut next = k;
     let mut j = 0;

@@ -3,7 +3,7 @@ use Prim.Native.Nat.{ℕ, _+_, _-_, _/_, _%_, _≤_, _<_}
 use mathlib.Core.Bool.{true, false}
 use mathlib.Core.Path.{_≡_, refl, sym, ap, _∙_}
 use mathlib.Core.Logic.{_≢_}
-use mathlib.Core.List.{List, [], _∷_, map}
+use mathlib.Core.List.{List, [], _∷_, map, zipWith}
 use native.Mathlib.Omega.{arith}
 use lib.Dec.{ltb, leb, eqb}
 use lib.ListN.{length}
@@ -24,7 +24,7 @@ use Rattle.image.specs.Image.{tableOf}
 use Rattle.round.specs.Start.{freshBytes}
 use Rattle.dispatch.specs.Dispatch.{said}
 use Rattle.advance.specs.Advance.{overMark}
-use Rattle.refinement.specs.Refinement.{coded, stepAnswer, decodedAll, decoded, answersOn}
+use Rattle.refinement.specs.Refinement.{coded, stepAnswer, decoded, answersOn}
 use Rattle.refinement.specs.Refines.{valid, refines}
 
 -- ---- the answers to an arrival, to a step and to a board reading, events being below 256 and arrivals below 2^40
@@ -195,16 +195,16 @@ module _ (p : Program) (few : events p ≤ 256) where
       by-test ToBoard (leb (size p) j) (λ _. omega arith) (λ _. by-test ToBoard (settling p r) (λ _. omega arith) (λ _. tt))
 
 pub decoded-answers : (p : Program) → CodeFacts p → events p ≤ 256 → (cs : List Call) (w : Engine) → Reached p w
-    → decodedAll cs (map coded (answers p cs w)) ≡ answers p cs w
-unfolding decodedAll answers
+    → zipWith decoded cs (map coded (answers p cs w)) ≡ answers p cs w
+unfolding zipWith answers
 decoded-answers p facts few [] w i = refl
 decoded-answers p facts few (c ∷ cs) w i = λ k.
     decoded-coded c (act p c w .answer) (answer-to p few c w i) k ∷ decoded-answers p facts few cs (act p c w .after) (act-keeps p facts c w i) k
 
 -- so the model's answers are read back from those on the bytes
 pub answers-read : (p : Program) → Accepted p → (t₀ l₀ : List ℕ) → 34816 ≤ length t₀ → 2048 ≤ length l₀ → (cs : List Call)
-    → decodedAll cs (answersOn (tableOf p t₀) cs (freshBytes (tableOf p t₀) l₀)) ≡ answers p cs (initial p)
+    → zipWith decoded cs (answersOn (tableOf p t₀) cs (freshBytes (tableOf p t₀) l₀)) ≡ answers p cs (initial p)
 answers-read p ok t₀ l₀ g h cs =
     let facts = code-facts p (valid p ok) in
     let few : events p ≤ 256 = omega (arith, ok .fits .few-events) in
-    ap (decodedAll cs) (refines p ok t₀ l₀ g h cs .answered) ∙ decoded-answers p facts few cs (initial p) (initially p facts)
+    ap (zipWith decoded cs) (refines p ok t₀ l₀ g h cs .answered) ∙ decoded-answers p facts few cs (initial p) (initially p facts)

@@ -1,14 +1,11 @@
 -- Forecast on the bytes is the model engine's: each slot's event has its code's length in the table, the slots are the waiting in any order, and the longest event is the
 -- same counted from either end.
-use Prim.Native.Nat.{ℕ, zero, suc, _+_, _≤_, _<_}
-use mathlib.Core.Path.{_≡_, refl, sym, ap, _∙_}
-use mathlib.Core.List.{List}
+use Prim.Native.Nat.{ℕ, zero, suc, _+_, _≤_, _<_, max}
+use mathlib.Core.Path.{_≡_, refl, sym}
+use mathlib.Core.List.{List, foldr, sum}
 use native.Mathlib.Omega.{arith}
-use lib.Dec.{ltb}
 use lib.ListN.{length}
-use borrow.Author.Tests.{ltb-true, ltb-false}
 use Rattle.base.specs.Basics.{All}
-use Rattle.base.specs.Tools.{by-test}
 use Rattle.word.specs.Word.{get}
 use Rattle.language.specs.Syntax.{Program}
 use Rattle.language.specs.Dependence.{size, events}
@@ -16,50 +13,31 @@ use Rattle.language.specs.Order.{upTo}
 use Rattle.language.specs.Code.{code}
 use Rattle.language.specs.Accepted.{Valid}
 use Rattle.model.specs.Model.{Arrival, rest, busy, Engine, engine}
-use Rattle.model.specs.Claims.{greatest, longest, stepsOf, forecast}
+use Rattle.model.specs.Claims.{longest, stepsOf, forecast}
 use Rattle.model.specs.Reached.{Reached}
 use Rattle.model.specs.Quiet.{steps-perm}
 use Rattle.image.specs.ImageLaws.{Says}
 use Rattle.layout.specs.Layout.{eventAt}
-use Rattle.forecast.specs.Forecast.{stepsIn, larger, longestIn, bound, forecastWith, forecastIn, forecastOn}
+use Rattle.forecast.specs.Forecast.{stepsIn, longestIn, bound, forecastWith, forecastIn, forecastOn}
 use Rattle.refinement.specs.Refinement.{slots}
 use Rattle.refinement.specs.Relation.{Alike, count-is}
 use Rattle.refinement.specs.Agrees.{known-slots, ours-is}
 
 -- ---- the greatest of a list, from either end
 
--- x is the larger of a and b: at least both, and no more than whatever is
-abbrev Most : ℕ → ℕ → ℕ → Type 0
-Most a b x = (a ≤ x) × (b ≤ x) × ((k : ℕ) → a ≤ k → b ≤ k → x ≤ k)
-
-most : (a b : ℕ) → Most a b (larger a b)
-unfolding larger
-most a b =
-    by-test (Most a b) (ltb a b) (λ e. (omega (arith, ltb-true), omega arith, λ k h g. g)) (λ e. (omega arith, omega (arith, ltb-false), λ k h g. h))
-
-larger-le : (a b c : ℕ) → larger a (larger b c) ≤ larger b (larger a c)
-larger-le a b c =
-    let x = most a c in
-    let y = most b (larger a c) in
-    most a (larger b c) .2 (larger b (larger a c)) (omega arith) (most b c .2 (larger b (larger a c)) (y .0) (omega arith))
-
-larger-comm : (a b c : ℕ) → larger a (larger b c) ≡ larger b (larger a c)
-larger-comm a b c = omega (arith, larger-le a b c, larger-le b a c)
-
-greatest-last : (n : ℕ) (f : ℕ → ℕ) → greatest (upTo (suc n) f) ≡ larger (f n) (greatest (upTo n f))
-unfolding greatest upTo larger
-greatest-last zero f = refl
-greatest-last (suc n) f =
-    let g : ℕ → ℕ = λ i. f (suc i) in ap (larger (f 0)) (greatest-last n g) ∙ larger-comm (f 0) (f (suc n)) (greatest (upTo n g))
+max-last : (n : ℕ) (f : ℕ → ℕ) → foldr max 0 (upTo (suc n) f) ≡ max (f n) (foldr max 0 (upTo n f))
+unfolding upTo
+max-last zero f = refl
+max-last (suc n) f = omega (arith, max-last n (λ i. f (suc i)))
 
 module _ (p : Program) (valid : Valid p) (t : List ℕ) (table : Says p t) where
-  pub longest-is : (n : ℕ) → n ≤ events p → longestIn t n ≡ greatest (upTo n (λ e. length (code p e)))
-  unfolding longestIn greatest upTo
+  pub longest-is : (n : ℕ) → n ≤ events p → longestIn t n ≡ foldr max 0 (upTo n (λ e. length (code p e)))
+  unfolding longestIn upTo
   longest-is zero h = refl
-  longest-is (suc n) h = rw (table .lengths n (omega arith), longest-is n (omega arith)) (sym (greatest-last n (λ e. length (code p e))))
+  longest-is (suc n) h = rw (table .lengths n (omega arith), longest-is n (omega arith)) (sym (max-last n (λ e. length (code p e))))
 
   steps-are : (l : List ℕ) (n : ℕ) → All (λ (a : Arrival). a .event < events p) (slots l n) → stepsIn t l n ≡ stepsOf p (slots l n)
-  unfolding stepsIn stepsOf slots
+  unfolding stepsIn stepsOf sum slots
   steps-are l zero h = refl
   steps-are l (suc n) h = rw (table .lengths (eventAt l n) (h .0), steps-are l n (h .1))
 

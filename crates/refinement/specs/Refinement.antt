@@ -54,10 +54,6 @@ decoded step v = stepAnswer v
 decoded (board i) v = pick (ltb v 4294967296) (refused v) (shows (v - 4294967296))
 
 -- the answers of a list of calls, read back from their numbers
-unfoldable pub decodedAll : List Call → List ℕ → List Answer
-decodedAll [] vs = []
-decodedAll (c ∷ cs) [] = []
-decodedAll (c ∷ cs) (v ∷ vs) = decoded c v ∷ decodedAll cs vs
 
 -- ---- calls on a table's and a round's bytes
 

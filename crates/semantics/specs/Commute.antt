@@ -1,7 +1,7 @@
 -- Independent events commute. An event's new values hang on the actives that it reads alone, since what evaluation looks at is named directly or through
 -- passives; and passives are a function of the actives.
 use Prim.Native.Nat.{ℕ, _≤_, _<_}
-use mathlib.Core.Bool.{true, false, true≢false, false≢true}
+use mathlib.Core.Bool.{true, false, true≢false, false≢true, and-eq-true-iff}
 use mathlib.Core.Path.{_≡_, refl, sym, ap, _∙_, subst}
 use mathlib.Core.List.{List}
 use native.Mathlib.Omega.{arith}
@@ -9,7 +9,7 @@ use lib.Dec.{eqb}
 use lib.ListN.{length}
 use lib.Seq.{ext-getD}
 use borrow.Author.Tests.{eqb-true}
-use Rattle.base.specs.Tools.{split, and-left}
+use Rattle.base.specs.Tools.{split}
 use Rattle.language.specs.Syntax.{Expr, Handler, Behaviour, passive, active, Program}
 use Rattle.language.specs.Dependence.{Response, follows, takes, defers, keeps, handled, respond, size, noEvent, behaviourAt, response, mentions, needs, isActive, written, writes, Named, in-immediate, in-later, through, Reads, Apart, Independent}
 use Rattle.language.specs.Accepted.{NamesIn, Valid}
@@ -57,7 +57,7 @@ module _ (p : Program) (v : Valid p) (e : ℕ) (declared : e ≤ noEvent p) (s :
   module _ (t : List ℕ) (lt : length t ≡ size p) (same : (j : ℕ) → Reads p e j → at s j ≡ at t j) where
     immediate-named : (i j : ℕ) (hs : List Handler) (r : Response) → response p e i ≡ r → Says e hs r → needs i j r ≡ true → Named p e j
     immediate-named i j hs (follows x) q k d = absurd k
-    immediate-named i j hs (takes x) q k d = in-immediate i q (and-left _ _ d)
+    immediate-named i j hs (takes x) q k d = in-immediate i q (and-eq-true-iff _ _ .0 d .0)
     immediate-named i j hs (defers x) q k d = absurd (false≢true d)
     immediate-named i j hs keeps q k d = absurd (false≢true d)
 

@@ -1,7 +1,7 @@
 -- The order of phase one: each member once, after its needs, and without a cycle everybody. What is left over with nobody ready is a set of which every
 -- member needs a member. From it, induction over needs: what follows from its needs holds of everyone.
 use Prim.Native.Nat.{ℕ, zero, suc, _+_, _≤_, _<_}
-use mathlib.Core.Bool.{Bool, true, false, not, _&&_, true≢false, false≢true}
+use mathlib.Core.Bool.{Bool, true, false, not, _&&_, true≢false, false≢true, and-eq-true-iff}
 use mathlib.Core.Path.{_≡_, refl, sym, ap, _∙_, subst}
 use mathlib.Core.Logic.{_≢_, _⊎_, inl, inr, ⊎-elim, by-cases}
 use mathlib.Core.Option.{Option, none, some}
@@ -12,7 +12,7 @@ use lib.ListN.{length, getD, set, length-set}
 use lib.Seq.{getD-set-same, getD-set-other}
 use borrow.Author.Tests.{not-true, not-false}
 use Rattle.base.specs.Basics.{All}
-use Rattle.base.specs.Tools.{by-elim, split, and-left, and-right, all-imp, by-option}
+use Rattle.base.specs.Tools.{by-elim, split, all-imp, by-option}
 use Rattle.language.specs.Syntax.{Program}
 use Rattle.language.specs.Dependence.{Response, follows, takes, defers, keeps, size, noEvent, response, needs, dependsOn, Reach}
 use Rattle.language.specs.Order.{met, find, order, early, metAtOnce, phaseOne}
@@ -51,7 +51,7 @@ module _ (n : ℕ) (dep : ℕ → ℕ → Bool) where
   met-says i zero m = inl (refl, λ j p d. absurd (omega arith))
   met-says i (suc k) m =
       by-elim (Met i (suc k) m) (dep i k && not (getD m k false))
-      (λ e. inr (refl, (k, and-left (dep i k) _ e, not-true _ (and-right (dep i k) _ e))))
+      (λ e. inr (refl, (k, and-eq-true-iff (dep i k) _ .0 e .0, not-true _ (and-eq-true-iff (dep i k) _ .0 e .1))))
       (λ e. ⊎-elim (λ p. inl (p .0, λ j q d. by-cases (decLt j k) (λ r. p .1 j r d) (λ r. let w : j ≡ k = omega arith in split (getD m j false) (λ x. x) (λ x. cc))))
       (λ q. inr q) (met-says i k m))
 
@@ -68,7 +68,7 @@ module _ (n : ℕ) (dep : ℕ → ℕ → Bool) where
   find-says zero i m = λ x p q. absurd (omega arith)
   find-says (suc k) i m =
       by-elim (Finds (suc k) i m) (not (getD m i false) && met n dep i n m)
-      (λ e. (omega arith, not-true _ (and-left _ _ e), ⊎-elim (λ p. p .1) (λ q. absurd (false≢true (sym (q .0) ∙ and-right (not (getD m i false)) _ e))) (met-says i n m)))
+      (λ e. (omega arith, not-true _ (and-eq-true-iff _ _ .0 e .0), ⊎-elim (λ p. p .1) (λ q. absurd (false≢true (sym (q .0) ∙ and-eq-true-iff (not (getD m i false)) _ .0 e .1))) (met-says i n m)))
       (λ e. finds-on k i m (find n dep k (suc i) m) (λ u. ⊎-elim (λ p. absurd (true≢false (let z : true ≡ false = cc in z))) (λ q. q .1) (met-says i n m))
       (find-says k (suc i) m))
 

@@ -1,14 +1,12 @@
 -- `longest_of` is `longestIn`, at most 4,096: the loop keeps `m ≡ longestIn t e`; the larger of two is one of them.
-use Prim.Native.Nat.{ℕ, _+_, _-_, _≤_, _<_}
+use Prim.Native.Nat.{ℕ, _+_, _-_, _≤_, _<_, max}
 use mathlib.Core.Path.{_≡_, refl}
 use mathlib.Core.List.{List}
 use native.Mathlib.Omega.{arith}
 use native.Mathlib.Numerals.{add-one}
-use lib.Dec.{ltb}
-use Rattle.base.specs.Tools.{by-test}
 use Rattle.layout.specs.Layout.{eventCount, eventWord}
 use Rattle.layout.specs.Bounds.{TableBounds}
-use Rattle.forecast.specs.Forecast.{larger, longestIn}
+use Rattle.forecast.specs.Forecast.{longestIn}
 use Rattle.forecast.proofs.longest_of.Statement.{statement}
 use Rattle.forecast.proofs.longest_of.Tie as tie
 
@@ -17,15 +15,11 @@ record Turn (t : List ℕ) (n m e : ℕ) : Type 0 where
   small : m ≤ 4096
   within : e ≤ n
 
-within-both : (a b k : ℕ) → a ≤ k → b ≤ k → larger a b ≤ k
-unfolding larger
-within-both a b k p q = by-test (λ x. x ≤ k) (ltb a b) (λ _. q) (λ _. p)
-
-turn : {t : List ℕ} {n m e w x : ℕ} → Turn t n m e → TableBounds t → n ≤ eventCount t → e < n → w ≡ eventWord t e 2 → x ≡ larger w m → Turn t n x (e + 1)
+turn : {t : List ℕ} {n m e w x : ℕ} → Turn t n m e → TableBounds t → n ≤ eventCount t → e < n → w ≡ eventWord t e 2 → x ≡ max w m → Turn t n x (e + 1)
 unfolding longestIn
 turn {t} {n} {m} {e} {w} {x} k b h g p q = record {
   same = rw (add-one e, ← p, ← k .same) q;
-  small = rw q (within-both w m 4096 (rw p (omega (arith, b .codes e (omega arith)))) (k .small));
+  small = omega (arith, b .codes e (omega arith), k .small);
   within = omega arith;
 }
 

@@ -1,5 +1,5 @@
--- The branches are those of `deeper`.
-use Rattle.base.specs.Pick.{code}
+-- `deeper` is the library's `max`, by arithmetic in each branch.
+use native.Mathlib.Omega.{arith}
 use Rattle.phrase.proofs.deeper.Statement.{statement}
 use Rattle.phrase.proofs.deeper.Tie as tie
 
@@ -7,5 +7,5 @@ pub deeper-spec : {M : Type 1} → statement M
 deeper-spec =
     tie.close
     (tie.spec
-    (λ c. search code depth 16)
-    (λ c. search code depth 16))
+    (λ c. (omega arith, omega arith))
+    (λ c. (omega arith, omega arith)))

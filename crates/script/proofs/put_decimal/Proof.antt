@@ -1,10 +1,10 @@
 -- The library's digits, put; they are the number in decimal.
 use mathlib.Core.Path.{_∙_, ap}
 use mathlib.Core.List.{List, _++_}
-use Prim.Native.Nat.{ℕ, _+_, _*_, _-_, _≤_}
+use Prim.Native.Nat.{ℕ, _≤_}
 use native.Mathlib.Omega.{arith}
 use borrow.Author.Needs.{needs}
-use lib.ListN.{take, length}
+use lib.ListN.{take}
 use Rattle.script.proofs.Laws.{at-most, spelled}
 use Rattle.script.proofs.put_decimal.Statement.{statement}
 use Rattle.script.proofs.put_decimal.Tie as tie

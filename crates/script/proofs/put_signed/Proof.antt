@@ -1,7 +1,7 @@
 -- A word below 2^31 is put as it is, another after its sign.
 use mathlib.Core.Path.{ap}
 use mathlib.Core.List.{List, [], _∷_, _++_}
-use Prim.Native.Nat.{ℕ, _+_, _*_, _-_, _≤_}
+use Prim.Native.Nat.{ℕ, _-_}
 use native.Mathlib.Omega.{arith}
 use Rattle.base.specs.Pick.{code}
 use borrow.Author.Needs.{needs}
