@@ -35,6 +35,10 @@ pub neither : (b c : Bool) → pick b true c ≡ false → (b ≡ false) × (c �
 neither true c h = absurd (true≢false h)
 neither false c h = (refl, h)
 
+pub none-of : (b c : Bool) → b || c ≡ false → (b ≡ false) × (c ≡ false)
+none-of true c h = absurd (true≢false h)
+none-of false c h = (refl, h)
+
 -- a test's two outcomes, where the goal does not branch on it
 pub split {ℓ} : {C : Type ℓ} (b : Bool) → (b ≡ true → C) → (b ≡ false → C) → C
 split true t f = t refl

@@ -7,6 +7,7 @@ use mathlib.Core.List.{List, [], _∷_}
 use native.Mathlib.Omega.{arith}
 use lib.ListN.{length, getD, length-map, List·getD-map}
 use Rattle.base.specs.Basics.{All}
+use Rattle.base.specs.Tools.{none-of}
 use Rattle.language.specs.Syntax.{Behaviour, active}
 use Rattle.language.specs.Sheet.{Term, literal, variable, param, apply1, apply2, apply3, Clause, clause, Item, formula, state, Sheet}
 use Rattle.language.specs.Sheet.{fillTerm, fillClauses, fillItem, fillItems, fill, writeTerm, writeClauses, writeItem, writeItems, writtenOut}
@@ -42,10 +43,6 @@ size-fill v w (apply2 f a b) = rw (size-fill v w a, size-fill v w b)
 size-fill v w (apply3 f a b c) = rw (size-fill v w a, size-fill v w b, size-fill v w c)
 
 -- ---- with no parameter used, every filling is the same
-
-none-of : (b c : Bool) → b || c ≡ false → (b ≡ false) × (c ≡ false)
-none-of true c h = absurd (true≢false h)
-none-of false c h = (refl, h)
 
 module _ (v w : ℕ → ℕ) where
   unused-term : (x : Term) → usesTerm x ≡ false → fillTerm v x ≡ fillTerm w x

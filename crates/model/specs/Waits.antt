@@ -1,7 +1,7 @@
 -- Nobody waits for ever: an arrival in the queue is committed within (k + 1) × (L + 1) steps if nothing of higher priority is taken in. What is left to do before
 -- that commit falls at each step and is never 0, and arrivals of its own or a lower priority do not raise it.
 use Prim.Native.Nat.{ℕ, _+_, _*_, _-_, _≤_, _<_}
-use mathlib.Core.Bool.{Bool, true, false, _||_, true≢false}
+use mathlib.Core.Bool.{Bool, true, false, _||_}
 use mathlib.Core.Path.{_≡_, refl, sym, ap, _∙_, subst}
 use mathlib.Core.Logic.{_⊎_, inl, inr, ⊎-elim}
 use mathlib.Core.List.{List, [], _∷_, List·Memᴰ, List·Memᴰ·head, List·Memᴰ·tail, List·Memᴰ·not-nil, List·Memᴰ·cases-cons, Memᴰ·append-left, Memᴰ·append-right}
@@ -11,7 +11,7 @@ use lib.Dec.{ltb}
 use lib.ListN.{length}
 use borrow.Author.Tests.{ltb-true, ltb-false, lt-ltb, le-ltb}
 use Rattle.base.specs.Basics.{pick, All}
-use Rattle.base.specs.Tools.{by-test, split, all-perm, all-imp, all-split, all-member}
+use Rattle.base.specs.Tools.{by-test, split, all-perm, all-imp, all-split, all-member, none-of}
 use Rattle.language.specs.Syntax.{Program}
 use Rattle.language.specs.Code.{code}
 use Rattle.execution.specs.Execution.{Values}
@@ -34,10 +34,6 @@ each-in (x ∷ l) = (List·Memᴰ·head refl, all-imp (λ y. List·Memᴰ y l) (
 mem-perm : {a : Arrival} {l m : List Arrival} → List·Permᴰ l m → List·Memᴰ a l → List·Memᴰ a m
 mem-perm {a} {l} {m} d h = all-member (λ x. List·Memᴰ x m) l (all-perm (λ x. List·Memᴰ x m) (Permᴰ·symm d) (each-in m)) h
 
-or-neither : (b c : Bool) → b || c ≡ false → (b ≡ false) × (c ≡ false)
-or-neither true c e = absurd (true≢false e)
-or-neither false c e = (refl, e)
-
 module _ (p : Program) where
   -- ---- is the running one outranked?
 
@@ -52,7 +48,7 @@ module _ (p : Program) where
   none-over : (r : Arrival) (l : List Arrival) → over r l ≡ false → All (λ x. rank p x ≤ rank p r) l
   none-over r [] h = tt
   none-over r (b ∷ l) h =
-      let k = or-neither (ltb (rank p r) (rank p b)) (over r l) h in (ltb-false _ _ (k .0), none-over r l (k .1))
+      let k = none-of (ltb (rank p r) (rank p b)) (over r l) h in (ltb-false _ _ (k .0), none-over r l (k .1))
 
   same-leads : (b : Arrival) → Leads p b b
   same-leads b = (omega arith, λ e. omega arith)

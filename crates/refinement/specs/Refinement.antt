@@ -53,8 +53,6 @@ decoded (arrive e) v = pick (eqb v 0) takenIn (refused v)
 decoded step v = stepAnswer v
 decoded (board i) v = pick (ltb v 4294967296) (refused v) (shows (v - 4294967296))
 
--- the answers of a list of calls, read back from their numbers
-
 -- ---- calls on a table's and a round's bytes
 
 unfoldable pub callOn : List ℕ → Call → List ℕ → Result

@@ -85,9 +85,6 @@ module _ (p : Program) (v : Valid p) (e : ℕ) (s : List ℕ) (look : ℕ → �
   within f (inl h) = inl (f h)
   within f (inr h) = inr h
 
-  in-one : (o a : Bool) → a ≡ true → o || a ≡ true
-  in-one o a h = or-second o a h
-
   in-two : (o a b : Bool) → (a ≡ true) ⊎ (b ≡ true) → o || (a || b) ≡ true
   in-two o a b (inl h) = or-second o (a || b) (or-first a b h)
   in-two o a b (inr h) = or-second o (a || b) (or-second a b h)
@@ -112,7 +109,7 @@ module _ (p : Program) (v : Valid p) (e : ℕ) (s : List ℕ) (look : ℕ → �
       let r : value look b ≡ w = sym (made z tt) in
       let m : value look d ≡ x = sym (made t tt) in
       inl (or-first (over f (value look a) (value look b) (value look d)) (overIn look a || (overIn look b || overIn look d)) (rw (q, r, m) h))
-  over-found (o-only {f = f} {a = a} y) k = within (in-one (over f (value look a) 0 0) (overIn look a)) (over-found y tt)
+  over-found (o-only {f = f} {a = a} y) k = within (or-second (over f (value look a) 0 0) (overIn look a)) (over-found y tt)
   over-found (o-first2 {f = f} {a = a} {b = b} y) k =
       within (λ h. in-two (over f (value look a) (value look b) 0) (overIn look a) (overIn look b) (inl h)) (over-found y tt)
   over-found (o-second2 {f = f} {a = a} {b = b} y) k =
