@@ -6,6 +6,8 @@ use native.Mathlib.Omega.{arith}
 use native.Mathlib.Numerals.{add-one, add-two, add-three, add-four, add-five, add-six}
 use lib.ListN.{length, getD, take, drop, set, length-set, length-append, length-drop, take-append-drop, List·getD-append}
 use lib.Seq.{slice, sets, sets-eq, slice-empty, slice-cons, length-slice, take-suc, length-take-le, set-at, getD-take, take-append-le, take-take, drop-at}
+use Rattle.word.specs.Word.{putHalf}
+use Rattle.word.specs.Laws.{length-putHalf}
 use Rattle.language.specs.Grammar.{field}
 use Rattle.fields.specs.Fields.{placed, shifted}
 
@@ -86,10 +88,16 @@ head-placed start end f o h g =
     let e : start + suc (suc (suc (suc (length v)))) ≡ end + 4 = omega arith in
     rw (t, d, e, n)
 
+pub wrapped-long : (start end n : ℕ) (o p q : List ℕ) → start ≤ end → end + 4 ≤ length o → p ≡ shifted start end o → q ≡ putHalf (set p start 18) (start + 1) n
+    → length q ≡ length o
+wrapped-long start end n o p q h g e r = rw (r, length-putHalf (set p start 18) (start + 1) n, length-set p start 18, e) (shifted-long start end o h g)
+
 pub wrapped : (start end f : ℕ) (o p : List ℕ) → start ≤ end → end + 4 ≤ length o → p ≡ shifted start end o
-    → set (set (set (set p start 18) (start + 1) ((end - start + 1) / 256)) (start + 2) ((end - start + 1) % 256)) (start + 3) f
-    ≡ placed start (field 18 (f ∷ slice start end o)) o
+    → set (putHalf (set p start 18) (start + 1) (end - start + 1)) (start + 3) f ≡ placed start (field 18 (f ∷ slice start end o)) o
+unfolding putHalf
 wrapped start end f o p h g e =
     let l : length p ≡ length o = ap length e ∙ shifted-long start end o h g in
-    four p start 18 ((end - start + 1) / 256) ((end - start + 1) % 256) f (omega arith)
-    ∙ rw e (head-placed start end f o h g)
+    let z : start + 1 + 1 ≡ start + 2 = omega arith in
+    rw z
+    (four p start 18 ((end - start + 1) / 256) ((end - start + 1) % 256) f (omega arith)
+    ∙ rw e (head-placed start end f o h g))

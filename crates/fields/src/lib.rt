@@ -53,9 +53,7 @@ pub fn wrap(out: &mut [u8], start: usize, end: usize, f: u8)
     ensures { λ _. ⌜ now (out .exit) ≡ placed start (field 18 (f ∷ slice start end (now (out .entry)))) (now (out .entry)) ⌝ }
 {
     shift(out, start, end);
-    let n = end - start + 1;
     out[start] = 18;
-    out[start + 1] = (n / 256) as u8;
-    out[start + 2] = (n % 256) as u8;
+    word::put_half(out, start + 1, (end - start + 1) as u16);
     out[start + 3] = f;
 }
