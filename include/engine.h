@@ -43,7 +43,9 @@ enum engine_refusal {
     ENGINE_NO_PARAMETERS = 20, /* compile: the sheet uses a parameter and fewer than 32 bytes are lent */
     ENGINE_NO_FORMULA = 21,    /* formula: the text is outside the grammar or over 1,024 bytes */
     ENGINE_LARGE_NUMBER = 22,  /* formula: a number exceeds 2,147,483,647 */
-    ENGINE_SHORT_BUFFER = 23   /* formula: the buffer is too short for the field */
+    ENGINE_SHORT_BUFFER = 23,  /* formula: the buffer is too short for the field */
+    ENGINE_NO_PLAYER = 24,     /* the player is above 7 */
+    ENGINE_NO_RIGHT = 25       /* the player may not send this event, or may not see this behaviour */
 };
 
 /* Compiles a sheet into the table. 0, or the refusal's number (1, 3 to 13, 20; 20 is checked after 11). Parameters: eight big-endian signed values of 32 bits, ENGINE_PARAMS
@@ -66,10 +68,14 @@ static inline uint32_t engine_circle_length(uint64_t answer) { return (uint32_t)
 /* Makes the round fresh for the table's sheet; its old bytes are not read. 0, or 14. */
 uint32_t start(const uint8_t *table, size_t table_len, uint8_t *round, size_t round_len);
 
-/* An event arrives. 0 where it is taken in, or 14, 15, 16, 17. */
-uint32_t arrive(const uint8_t *table, size_t table_len, uint8_t *round, size_t round_len, uint32_t event);
+/* Up to eight players, 0 to 7, share a round. The host may do everything; the others what the sheet lets them. */
+#define ENGINE_HOST 0u
+#define ENGINE_PLAYERS 8u
 
-/* One step, at most one instruction. The answer is packed: */
+/* An event arrives, sent by a player. 0 where it is taken in, or 14, 24, 15, 25, 16, 17. */
+uint32_t arrive(const uint8_t *table, size_t table_len, uint8_t *round, size_t round_len, uint32_t event, uint32_t player);
+
+/* One step, at most one instruction. The answer is packed, and the host's: */
 uint64_t step(const uint8_t *table, size_t table_len, uint8_t *round, size_t round_len);
 
 enum engine_step {
@@ -84,14 +90,18 @@ enum engine_step {
 /* With a commit: in the event's meaning some application ran over. Its exact whole-number result was not the 32-bit one, or it divided by zero. */
 #define ENGINE_OVER (UINT64_C(1) << 56)
 
-/* Which of these; for 2, 3 and 4 the event's number and the arrival's; for 3 whether it ran over. */
-static inline uint32_t engine_step_kind(uint64_t answer) { return (uint32_t)(answer & 0xFF); }
+/* A step's answer as the other players are told it: without ENGINE_OVER. */
+uint64_t told(uint64_t answer);
+
+/* Which of these; for 2, 3 and 4 the player who sent the event, its number and the arrival's; for 3 whether it ran over. */
+static inline uint32_t engine_step_kind(uint64_t answer) { return (uint32_t)(answer & 0xF); }
+static inline uint32_t engine_step_player(uint64_t answer) { return (uint32_t)(answer >> 4 & 0xF); }
 static inline uint32_t engine_step_event(uint64_t answer) { return (uint32_t)(answer >> 8 & 0xFF); }
 static inline uint32_t engine_step_arrival(uint64_t answer) { return (uint32_t)(answer >> 16 & 0xFFFFFFFF); }
 static inline int engine_step_over(uint64_t answer) { return (answer & ENGINE_OVER) != 0; }
 
-/* The value of a behaviour on the board: 2^32 and the 32-bit word, or 14, 18, 19. */
-uint64_t board(const uint8_t *table, size_t table_len, const uint8_t *round, size_t round_len, uint32_t behaviour);
+/* The value of a behaviour on the board, for a player: 2^32 and the 32-bit word, or 14, 24, 18, 25, 19. */
+uint64_t board(const uint8_t *table, size_t table_len, const uint8_t *round, size_t round_len, uint32_t behaviour, uint32_t player);
 
 static inline int engine_board_refused(uint64_t answer) { return answer >> 32 == 0; }
 static inline int32_t engine_board_value(uint64_t answer) { return (int32_t)(uint32_t)answer; }
@@ -104,8 +114,9 @@ static inline int engine_forecast_refused(uint64_t answer) { return answer >> 32
 static inline uint32_t engine_forecast_steps(uint64_t answer) { return (uint32_t)answer; }
 
 /* The value that a behaviour would show after this event's arrival and everything in hand had been run to idle: answered as by board, 2^32 and the 32-bit word. It is
- * tried on a copy; the round stays. Refused as the arrival would be, 14, 15, 16, 17, then by 18; last by 14 where a step on the copy is. During copy-back it works. */
-uint64_t preview(const uint8_t *table, size_t table_len, const uint8_t *round, size_t round_len, uint32_t event, uint32_t behaviour);
+ * tried on a copy; the round stays. Refused as the arrival of this player would be, 14, 24, 15, 25, 16, 17, then by 18, then by 25 for the behaviour; last by 14 where a step on the copy is.
+ * During copy-back it works. */
+uint64_t preview(const uint8_t *table, size_t table_len, const uint8_t *round, size_t round_len, uint32_t event, uint32_t behaviour, uint32_t player);
 
 /* A formula, as text of at most 1,024 bytes, becomes one expression field (01's 10, 11 or 12) at the start of the buffer, whose other bytes stay: 2^32 and the field's
  * length; or 21, then 22, then 9 where the expression nests over 16 deep, last 23, and the buffer is as it was. The text is not kept. docs/SHEETS.md has the grammar. */
@@ -114,8 +125,8 @@ uint64_t formula(const uint8_t *text, size_t text_len, uint8_t *buffer, size_t b
 static inline int engine_formula_refused(uint64_t answer) { return answer >> 32 == 0; }
 static inline uint32_t engine_formula_length(uint64_t answer) { return (uint32_t)answer; }
 
-/* Makes recorded calls one after the other, to audit a round: five bytes for each call, its kind (0 arrival, 1 step, any other a board reading) and a
- * big-endian number of 32 bits; eight bytes for each answer, big-endian. How many were made: it stops where a call is not whole or an answer has no room. */
+/* Makes recorded calls one after the other, to audit a round: six bytes for each call, its kind (0 arrival, 1 step, any other a board reading), a
+ * big-endian number of 32 bits and the player; eight bytes for each answer, big-endian. How many were made: it stops where a call is not whole or an answer has no room. */
 size_t replay(const uint8_t *table, size_t table_len, uint8_t *round, size_t round_len, const uint8_t *calls, size_t calls_len, uint8_t *answers, size_t answers_len);
 
 #ifdef __cplusplus

@@ -34,12 +34,12 @@ static uint32_t load(const uint8_t *sheet, size_t n)
 
 static void take(uint32_t event)
 {
-    expect(arrive(table, sizeof table, round_, sizeof round_, event) == 0, "arrive");
+    expect(arrive(table, sizeof table, round_, sizeof round_, event, ENGINE_HOST) == 0, "arrive");
 }
 
 static int32_t value(uint32_t i)
 {
-    uint64_t a = board(table, sizeof table, round_, sizeof round_, i);
+    uint64_t a = board(table, sizeof table, round_, sizeof round_, i, ENGINE_HOST);
     expect(!engine_board_refused(a), "board");
     return engine_board_value(a);
 }
@@ -109,13 +109,13 @@ static void ran_over(void)
 /* A recorded round, made again: event 0 arrives, 18 steps, and the board is read. */
 static void audit(void)
 {
-    uint8_t calls[20 * 5] = {0}, answers[20 * 8];
+    uint8_t calls[20 * 6] = {0}, answers[20 * 8];
     int i;
 
     load(S, sizeof S);
     for (i = 1; i < 19; i++)
-        calls[i * 5] = 1;
-    calls[19 * 5] = 2;
+        calls[i * 6] = 1;
+    calls[19 * 6] = 2;
     expect(replay(table, sizeof table, round_, sizeof round_, calls, sizeof calls, answers, sizeof answers) == 20, "20 calls are made");
     expect(answers[18 * 8 + 7] == ENGINE_COMMITTED, "the 18th step commits");
     expect(answers[19 * 8 + 3] == 1 && answers[19 * 8 + 7] == 2, "b0 is 2");
@@ -144,16 +144,47 @@ static void hover(void)
 
     load(S, sizeof S);
     memcpy(before, round_, sizeof round_);
-    a = preview(table, sizeof table, round_, sizeof round_, 0, 0);
+    a = preview(table, sizeof table, round_, sizeof round_, 0, 0, ENGINE_HOST);
     expect(!engine_board_refused(a) && engine_board_value(a) == 2, "event 0 would make b0 2");
     expect(memcmp(before, round_, sizeof round_) == 0, "a preview leaves the round");
     take(0);
-    while (board(table, sizeof table, round_, sizeof round_, 0) != ENGINE_SETTLING)
+    while (board(table, sizeof table, round_, sizeof round_, 0, ENGINE_HOST) != ENGINE_SETTLING)
         frame(1);
-    a = preview(table, sizeof table, round_, sizeof round_, 0, 0);
+    a = preview(table, sizeof table, round_, sizeof round_, 0, 0, ENGINE_HOST);
     expect(!engine_board_refused(a) && engine_board_value(a) == 3, "during copy-back, another makes it 3");
-    expect(preview(table, sizeof table, round_, sizeof round_, 2, 2) == ENGINE_NO_SUCH_EVENT, "event 2 cannot be tried");
-    expect(preview(table, sizeof table, round_, sizeof round_, 0, 2) == ENGINE_NO_SUCH_BEHAVIOUR, "behaviour 2 cannot be shown");
+    expect(preview(table, sizeof table, round_, sizeof round_, 2, 2, ENGINE_HOST) == ENGINE_NO_SUCH_EVENT, "event 2 cannot be tried");
+    expect(preview(table, sizeof table, round_, sizeof round_, 0, 2, ENGINE_HOST) == ENGINE_NO_SUCH_BEHAVIOUR, "behaviour 2 cannot be shown");
+}
+
+/* A sheet for two sides: event 0, which runs b0 over, is player 1's to send; b0 is for player 2 to see, b1 for everybody. */
+static void share(void)
+{
+    static const uint8_t sides[] = {
+        0x01, 0, 2, 1, 0x02, 0x01, 0, 1, 1,
+        0x03, 0, 31, 0x04, 0, 4, 0x7F, 0xFF, 0xFF, 0xFF,
+            0x05, 0, 17, 0, 0, 0x12, 0, 12, 4, 0x11, 0, 1, 0, 0x10, 0, 4, 0, 0, 0, 1,
+            0x08, 0, 1, 0x04,
+        0x03, 0, 7, 0x04, 0, 4, 0, 0, 0, 9,
+    };
+    uint32_t p;
+    uint64_t a;
+
+    expect(load(sides, sizeof sides) == 0, "a sheet with rights");
+    for (p = 0; p < ENGINE_PLAYERS; p++) {
+        expect((board(table, sizeof table, round_, sizeof round_, 0, p) == ENGINE_NO_RIGHT) == (p != ENGINE_HOST && p != 2), "who may see b0");
+        expect(engine_board_value(board(table, sizeof table, round_, sizeof round_, 1, p)) == 9, "everybody sees b1");
+        expect((preview(table, sizeof table, round_, sizeof round_, 0, 1, p) == ENGINE_NO_RIGHT) == (p > 1), "who may try event 0");
+    }
+    expect(preview(table, sizeof table, round_, sizeof round_, 0, 0, 1) == ENGINE_NO_RIGHT, "a preview needs both rights");
+    expect(arrive(table, sizeof table, round_, sizeof round_, 0, 2) == ENGINE_NO_RIGHT, "player 2 may not send event 0");
+    expect(arrive(table, sizeof table, round_, sizeof round_, 0, ENGINE_PLAYERS) == ENGINE_NO_PLAYER, "nor is there a player 8");
+    expect(arrive(table, sizeof table, round_, sizeof round_, 0, 1) == 0, "player 1 may");
+    do
+        a = step(table, sizeof table, round_, sizeof round_);
+    while (engine_step_kind(a) != ENGINE_COMMITTED);
+    expect(engine_step_player(a) == 1 && engine_step_event(a) == 0, "the commit keeps its player");
+    expect(engine_step_over(a) && !engine_step_over(told(a)), "only the host is told that it ran over");
+    expect(engine_step_kind(told(a)) == ENGINE_COMMITTED && engine_step_player(told(a)) == 1, "and the others all else");
 }
 
 /* Easy and hard from one sheet: b0 = init 0 {0 => b0 + parameter 0}. */
@@ -246,20 +277,21 @@ int main(void)
     load(S, sizeof S);
     for (i = 0; i < 64; i++)
         take(0);
-    expect(arrive(table, sizeof table, round_, sizeof round_, 0) == ENGINE_FULL_HAND, "the 65th");
-    expect(arrive(table, sizeof table, round_, sizeof round_, 2) == ENGINE_NO_SUCH_EVENT, "event 2");
-    expect(board(table, sizeof table, round_, sizeof round_, 2) == ENGINE_NO_SUCH_BEHAVIOUR, "behaviour 2");
+    expect(arrive(table, sizeof table, round_, sizeof round_, 0, ENGINE_HOST) == ENGINE_FULL_HAND, "the 65th");
+    expect(arrive(table, sizeof table, round_, sizeof round_, 2, ENGINE_HOST) == ENGINE_NO_SUCH_EVENT, "event 2");
+    expect(board(table, sizeof table, round_, sizeof round_, 2, ENGINE_HOST) == ENGINE_NO_SUCH_BEHAVIOUR, "behaviour 2");
     expect(step(table, 10, round_, sizeof round_) == ENGINE_FOREIGN, "a short table");
     expect(compile(S, sizeof S, easy, 0, table, ENGINE_TABLE - 1) == ENGINE_SHORT_TABLE, "a table of 34,815 bytes");
     expect(load(S, 0) == 0, "a sheet of no bytes is accepted");
     expect(frame(1), "and idle");
-    expect(arrive(table, sizeof table, round_, sizeof round_, 0) == ENGINE_NO_SUCH_EVENT, "it has no event");
-    expect(board(table, sizeof table, round_, sizeof round_, 0) == ENGINE_NO_SUCH_BEHAVIOUR, "and no behaviour");
+    expect(arrive(table, sizeof table, round_, sizeof round_, 0, ENGINE_HOST) == ENGINE_NO_SUCH_EVENT, "it has no event");
+    expect(board(table, sizeof table, round_, sizeof round_, 0, ENGINE_HOST) == ENGINE_NO_SUCH_BEHAVIOUR, "and no behaviour");
     audit();
     plan();
     hover();
     levels();
     ran_over();
+    share();
     write_formulas();
     show_circle();
     puts(faults ? "host: faults" : "host: all as the scope says");

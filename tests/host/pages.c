@@ -8,7 +8,7 @@ static uint8_t table[ENGINE_TABLE];
 static int faults, examples;
 
 /* What the examples leave to the host. */
-uint32_t event = 0, behaviour = 0;
+uint32_t event = 0, behaviour = 0, player = 1;
 static uint8_t sheet[74];
 static uint8_t list[ENGINE_CIRCLE_LIST], params[ENGINE_PARAMS];
 static const uint8_t refused[] = {2, 0, 4, 0x11, 0, 1, 1, 2, 0, 4, 0x11, 0, 1, 1}; /* b0 = b1, b1 = b1 */
@@ -28,19 +28,19 @@ static const struct {
     int32_t b0, b1;
     int idle;
     int32_t shown;
-} want[] = {{"arrive", 3, 2, 1, 0}, {"forecast", 2, 1, 1, 0}, {"preview", 1, 1, 0, 3}, {"circle", 1, 1, 0, 1}, {"compile", 1, 1, 0, 0}, {"step", 1, 1, 0, 0}, {"formula", 1, 1, 0, 15}};
+} want[] = {{"arrive", 3, 2, 1, 0}, {"forecast", 2, 1, 1, 0}, {"preview", 1, 1, 0, 3}, {"circle", 1, 1, 0, 1}, {"compile", 1, 1, 0, 0}, {"step", 1, 1, 0, 0}, {"board", 1, 1, 0, 1}, {"formula", 1, 1, 0, 15}};
 
 static void before(uint8_t *round)
 {
-    if (start(table, sizeof table, round, ENGINE_ROUND) || arrive(table, sizeof table, round, ENGINE_ROUND, 0) || arrive(table, sizeof table, round, ENGINE_ROUND, 1))
+    if (start(table, sizeof table, round, ENGINE_ROUND) || arrive(table, sizeof table, round, ENGINE_ROUND, 0, ENGINE_HOST) || arrive(table, sizeof table, round, ENGINE_ROUND, 1, ENGINE_HOST))
         faults++;
     shown = 0;
 }
 
 static void after(uint8_t *round, const char *call)
 {
-    int32_t b0 = engine_board_value(board(table, sizeof table, round, ENGINE_ROUND, 0));
-    int32_t b1 = engine_board_value(board(table, sizeof table, round, ENGINE_ROUND, 1));
+    int32_t b0 = engine_board_value(board(table, sizeof table, round, ENGINE_ROUND, 0, ENGINE_HOST));
+    int32_t b1 = engine_board_value(board(table, sizeof table, round, ENGINE_ROUND, 1, ENGINE_HOST));
     int idle = engine_step_kind(step(table, sizeof table, round, ENGINE_ROUND)) == ENGINE_IDLE;
     size_t i;
 

@@ -5,12 +5,12 @@ use mathlib.Core.Logic.{_≢_}
 use mathlib.Core.List.{List}
 use native.Mathlib.Omega.{arith}
 use Rattle.word.specs.Word.{get}
-use Rattle.layout.specs.Layout.{eventWord}
+use Rattle.layout.specs.Layout.{eventWord, eventOf, runningEvent}
 use Rattle.layout.specs.Bounds.{Bounds}
 
-pub in-code : {t l : List ℕ} {e c a : ℕ} → Bounds t l → get l 2 ≢ 0 → e ≡ get l 3 → c ≡ get l 5 → a ≡ eventWord t e 1 → a + c < 4096
-in-code {t} {l} {e} {c} {a} b n p q r =
-    let k : eventWord t (get l 3) 1 + eventWord t (get l 3) 2 ≤ 4096 = b .table .codes (get l 3) (b .round .running-known n) in
-    let h : get l 5 < eventWord t (get l 3) 2 = b .round .running-within n in
-    let s : a ≡ eventWord t (get l 3) 1 = rw p at r in
+pub in-code : {t l : List ℕ} {hand e c a : ℕ} → Bounds t l → get l 2 ≢ 0 → hand ≡ get l 3 → e ≡ eventOf hand → c ≡ get l 5 → a ≡ eventWord t e 1 → a + c < 4096
+in-code {t} {l} {hand} {e} {c} {a} b n o p q r =
+    let k : eventWord t (runningEvent l) 1 + eventWord t (runningEvent l) 2 ≤ 4096 = b .table .codes (runningEvent l) (b .round .running-known n) in
+    let h : get l 5 < eventWord t (runningEvent l) 2 = b .round .running-within n in
+    let s : a ≡ eventWord t (runningEvent l) 1 = rw (p, o) at r in
     omega arith

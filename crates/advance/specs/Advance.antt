@@ -7,33 +7,33 @@ use Rattle.base.specs.Basics.{pick}
 use Rattle.word.specs.Word.{get, put}
 use Rattle.language.specs.Refusals.{foreign}
 use Rattle.language.specs.Answers as kinds
-use Rattle.layout.specs.Layout.{eventWord, runningEvent, runningNumber, position, depth, markWord}
+use Rattle.layout.specs.Layout.{eventWord, runningWord, runningEvent, runningNumber, position, depth, markWord}
 use Rattle.round.specs.Start.{Result}
 use Rattle.allowed.specs.Allowed.{allowed}
 use Rattle.instruction.specs.Instruction.{perform}
-use Rattle.dispatch.specs.Dispatch.{said}
+use Rattle.dispatch.specs.Dispatch.{saidOf}
 
 -- M-104: "the committing step's answer carries a mark", 2^56 more: arrival numbers, whatever the bytes, end below
 abbrev pub overMark : ℕ
 overMark = 72057594037927936
 
--- the answer of a commit, w being the mark's word
+-- the answer of a commit: `hand` is the word of event and player, w the mark's
 unfoldable pub commitSaid : ℕ → ℕ → ℕ → ℕ
-commitSaid n e w = pick (eqb w 0) (said kinds.committed n e) (overMark + said kinds.committed n e)
+commitSaid n hand w = pick (eqb w 0) (saidOf kinds.committed n hand) (overMark + saidOf kinds.committed n hand)
 
--- arrival n of event e has done c of len instructions and now one more
+-- arrival n, `hand` its word of event and player, has done c of len instructions and now one more
 unfoldable pub countOn : List ℕ → ℕ → ℕ → ℕ → ℕ → Result
-countOn l c e n len = pick (ltb (c + 1) len) (kinds.ran, put l 5 (c + 1)) (commitSaid n e (markWord l), put l 2 0)
+countOn l c hand n len = pick (ltb (c + 1) len) (kinds.ran, put l 5 (c + 1)) (commitSaid n hand (markWord l), put l 2 0)
 
 -- the instruction of first word a and constant w, at count c
 unfoldable pub executeOn : List ℕ → ℕ → ℕ → ℕ → ℕ → ℕ → ℕ → Result
-executeOn l a w c e n len =
-    pick (allowed (a / 256) (a % 256) (depth l)) (countOn (perform l (a / 256) (a % 256) w (depth l)) c e n len) (foreign, l)
+executeOn l a w c hand n len =
+    pick (allowed (a / 256) (a % 256) (depth l)) (countOn (perform l (a / 256) (a % 256) w (depth l)) c hand n len) (foreign, l)
 
 -- instruction k of the table
 unfoldable pub executeAt : List ℕ → List ℕ → ℕ → ℕ → ℕ → ℕ → ℕ → Result
-executeAt t l k c e n len = executeOn l (get t (512 + k * 2)) (get t (513 + k * 2)) c e n len
+executeAt t l k c hand n len = executeOn l (get t (512 + k * 2)) (get t (513 + k * 2)) c hand n len
 
 unfoldable pub advance : List ℕ → List ℕ → Result
 advance t l =
-    executeAt t l (eventWord t (runningEvent l) 1 + position l) (position l) (runningEvent l) (runningNumber l) (eventWord t (runningEvent l) 2)
+    executeAt t l (eventWord t (runningEvent l) 1 + position l) (position l) (runningWord l) (runningNumber l) (eventWord t (runningEvent l) 2)

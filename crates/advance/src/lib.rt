@@ -8,21 +8,21 @@ ghost use Rattle.layout.specs.Bounds.{Bounds};
 ghost use Rattle.round.specs.Start.{result};
 ghost use Rattle.advance.specs.Advance.{commitSaid, countOn, executeOn, executeAt, advance};
 
-// The answer of a commit: 2^56 more where the mark's word w is not 0.
-fn commit_of(n: u32, e: u32, w: u32) -> u64
-    ensures { λ r. ⌜ r ≡ commitSaid n e w ⌝ }
+// The answer of a commit, `hand` being the word of event and player: 2^56 more where the mark's word w is not 0.
+fn commit_of(n: u32, hand: u32, w: u32) -> u64
+    ensures { λ r. ⌜ r ≡ commitSaid n hand w ⌝ }
 {
-    let said = dispatch::said_of(3, n, e);
+    let said = dispatch::said_of(3, n, hand);
     if w == 0 {
         return said;
     }
     72057594037927936 + said
 }
 
-// Arrival n of event e has done c of len instructions, and now one more: the last commits it.
-fn count_on(l: &mut [u8], c: u32, e: u32, n: u32, len: u32) -> u64
+// Arrival n, `hand` the word of its event and player, has done c of len instructions, and now one more: the last commits it.
+fn count_on(l: &mut [u8], c: u32, hand: u32, n: u32, len: u32) -> u64
     requires { ⌜ (2048 ≤ length (now l)) × (c < 4096) ⌝ }
-    ensures { λ r. ⌜ result r (now (l .exit)) ≡ countOn (now (l .entry)) c e n len ⌝ }
+    ensures { λ r. ⌜ result r (now (l .exit)) ≡ countOn (now (l .entry)) c hand n len ⌝ }
 {
     if c + 1 < len {
         word::put_word(l, 5, c + 1);
@@ -30,32 +30,32 @@ fn count_on(l: &mut [u8], c: u32, e: u32, n: u32, len: u32) -> u64
     }
     let w = word::get_word(l, 7);
     word::put_word(l, 2, 0);
-    commit_of(n, e, w)
+    commit_of(n, hand, w)
 }
 
 // The instruction of first word a and constant w, at count c.
-fn execute_on(l: &mut [u8], a: u32, w: u32, c: u32, e: u32, n: u32, len: u32) -> u64
+fn execute_on(l: &mut [u8], a: u32, w: u32, c: u32, hand: u32, n: u32, len: u32) -> u64
     requires { ⌜ (2048 ≤ length (now l)) × (c < 4096) × (get (now l) 6 ≤ 64) ⌝ }
-    ensures { λ r. ⌜ result r (now (l .exit)) ≡ executeOn (now (l .entry)) a w c e n len ⌝ }
+    ensures { λ r. ⌜ result r (now (l .exit)) ≡ executeOn (now (l .entry)) a w c hand n len ⌝ }
 {
     let op = a / 256;
     let s = a % 256;
     let d = word::get_word(l, 6);
     if allowed::is_allowed(op, s, d) {
         instruction::perform_on(l, op, s, w, d);
-        return count_on(l, c, e, n, len);
+        return count_on(l, c, hand, n, len);
     }
     14
 }
 
 // Instruction k of the table.
-fn execute_at(t: &[u8], l: &mut [u8], k: usize, c: u32, e: u32, n: u32, len: u32) -> u64
+fn execute_at(t: &[u8], l: &mut [u8], k: usize, c: u32, hand: u32, n: u32, len: u32) -> u64
     requires { ⌜ (34816 ≤ length (now t)) × (2048 ≤ length (now l)) × (k < 4096) × (c < 4096) × (get (now l) 6 ≤ 64) ⌝ }
-    ensures { λ r. ⌜ result r (now (l .exit)) ≡ executeAt (now (t .entry)) (now (l .entry)) k c e n len ⌝ }
+    ensures { λ r. ⌜ result r (now (l .exit)) ≡ executeAt (now (t .entry)) (now (l .entry)) k c hand n len ⌝ }
 {
     let a = word::get_word(t, 512 + k * 2);
     let w = word::get_word(t, 513 + k * 2);
-    execute_on(l, a, w, c, e, n, len)
+    execute_on(l, a, w, c, hand, n, len)
 }
 
 // One instruction of the running arrival.
@@ -63,10 +63,11 @@ pub fn advance_on(t: &[u8], l: &mut [u8]) -> u64
     requires { ⌜ Bounds (now t) (now l) × (get (now l) 2 ≢ 0) ⌝ }
     ensures { λ r. ⌜ result r (now (l .exit)) ≡ advance (now (t .entry)) (now (l .entry)) ⌝ }
 {
-    let e = word::get_word(l, 3);
+    let hand = word::get_word(l, 3);
     let n = word::get_word(l, 4);
     let c = word::get_word(l, 5);
+    let e = layout::event_of(hand);
     let start = layout::event_word(t, e, 1);
     let len = layout::event_word(t, e, 2);
-    execute_at(t, l, (start + c) as usize, c, e, n, len)
+    execute_at(t, l, (start + c) as usize, c, hand, n, len)
 }

@@ -16,7 +16,7 @@ use Rattle.language.specs.Dependence.{Response, follows, takes, defers, keeps, 
 use Rattle.language.specs.Grammar.{Arity, unary, ternary, binary, Nested, n-con, n-name, n-app1, n-app2, n-app3, Fits}
 use Rattle.language.specs.Code.{one?}
 use Rattle.language.specs.Laws.{length-upTo, getD-upTo, none-past, ResponseNested, response-nested}
-use Rattle.draft.specs.Draft.{nodes, entryOf, Drafted}
+use Rattle.draft.specs.Draft.{draftLength, nodes, entryOf, Drafted}
 use Rattle.draft.specs.Entry.{kindOf, startOf, countOf, tagOf, wordOf}
 use Rattle.draft.specs.DraftLaws.{Holds, Entry, entry-of}
 use Rattle.graph.specs.Matrix.{cell, closed}
@@ -198,7 +198,7 @@ entry-other d m i v a b n h =
     by-test (λ w. at w a b ≡ at m a b) (eqb (kindOf v) 1) (λ e. nodes-other d m i 64 (startOf v) (countOf v) a b n h)
     (λ e. by-test (λ w. at w a b ≡ at m a b) (eqb (kindOf v) 2) (λ f. nodes-other d m i i (startOf v) (countOf v) a b n h) (λ f. refl))
 
-module _ (d m : List ℕ) (i v b : ℕ) (dl : length d ≡ 4256) (l : length m ≡ 4096) (p : i < 64) (h : b < 64) (z : at m i b ≡ 0) where
+module _ (d m : List ℕ) (i v b : ℕ) (dl : length d ≡ draftLength) (l : length m ≡ 4096) (p : i < 64) (h : b < 64) (z : at m i b ≡ 0) where
   -- the names of the expression that the entry holds
   held : (but kind : ℕ) (x : Expr) → Holds d kind v x → Nested 16 x
       → at (markNodes d m i but (startOf v) (countOf v)) i b ≡ one? (mentions b x && not (eqb but b))

@@ -5,6 +5,7 @@ ghost use mathlib.Core.Path.{_≡_};
 ghost use Prim.Native.Nat.{_+_, _*_, _≤_, _<_};
 ghost use lib.ListN.{length};
 ghost use Rattle.draft.specs.Entry.{startOf, countOf};
+ghost use Rattle.draft.specs.Draft.{draftLength};
 ghost use Rattle.analysis.specs.Checks.{stray, namesKnown, blank, markNode, markNodes, markEntry, matrixOn, closedOn, cyclicOn, RowsInside, AllInside};
 
 fn is_stray(x: u64, b: usize) -> bool
@@ -18,7 +19,7 @@ fn is_stray(x: u64, b: usize) -> bool
 
 // Whether every name among the first n nodes is that of one of b behaviours.
 pub fn names_known(d: &[u64], n: usize, b: usize) -> bool
-    requires { ⌜ (length (now d) ≡ 4256) × (n ≤ 2048) ⌝ }
+    requires { ⌜ (length (now d) ≡ draftLength) × (n ≤ 2048) ⌝ }
     ensures { λ r. ⌜ r ≡ namesKnown (now (d .entry)) b n ⌝ }
 {
     let mut k = n;
@@ -57,7 +58,7 @@ fn mark_node(m: &mut [u8], i: usize, but: usize, x: u64)
 }
 
 fn mark_nodes(d: &[u64], m: &mut [u8], i: usize, but: usize, start: usize, count: usize)
-    requires { ⌜ (length (now d) ≡ 4256) × (length (now m) ≡ 4096) × (i < 64) × (start + count ≤ 2048) ⌝ }
+    requires { ⌜ (length (now d) ≡ draftLength) × (length (now m) ≡ 4096) × (i < 64) × (start + count ≤ 2048) ⌝ }
     ensures { λ _. ⌜ now (m .exit) ≡ markNodes (now (d .entry)) (now (m .entry)) i but start count ⌝ }
 {
     let mut k = 0;
@@ -69,7 +70,7 @@ fn mark_nodes(d: &[u64], m: &mut [u8], i: usize, but: usize, start: usize, count
 
 // The needs of behaviour i with entry v: later handlers have none, an active's own name is none.
 fn mark_entry(d: &[u64], m: &mut [u8], i: usize, v: u64)
-    requires { ⌜ (length (now d) ≡ 4256) × (length (now m) ≡ 4096) × (i < 64) × (startOf v + countOf v ≤ 2048) ⌝ }
+    requires { ⌜ (length (now d) ≡ draftLength) × (length (now m) ≡ 4096) × (i < 64) × (startOf v + countOf v ≤ 2048) ⌝ }
     ensures { λ _. ⌜ now (m .exit) ≡ markEntry (now (d .entry)) (now (m .entry)) i v ⌝ }
 {
     let start = (v / 4 % 4096) as usize;
@@ -85,7 +86,7 @@ fn mark_entry(d: &[u64], m: &mut [u8], i: usize, v: u64)
 
 // The dependence matrix of the first n behaviours on event e.
 pub fn fill_matrix(d: &[u64], e: usize, n: usize, m: &mut [u8])
-    requires { ⌜ (length (now d) ≡ 4256) × (length (now m) ≡ 4096) × (e ≤ 32) × (n ≤ 64) × RowsInside (now d) e n ⌝ }
+    requires { ⌜ (length (now d) ≡ draftLength) × (length (now m) ≡ 4096) × (e ≤ 32) × (n ≤ 64) × RowsInside (now d) e n ⌝ }
     ensures { λ _. ⌜ now (m .exit) ≡ matrixOn (now (d .entry)) e n ⌝ }
 {
     clear(m);
@@ -98,7 +99,7 @@ pub fn fill_matrix(d: &[u64], e: usize, n: usize, m: &mut [u8])
 
 // The same with whatever is reached by a chain.
 fn close_under(d: &[u64], e: usize, n: usize, m: &mut [u8])
-    requires { ⌜ (length (now d) ≡ 4256) × (length (now m) ≡ 4096) × (e ≤ 32) × (n ≤ 64) × RowsInside (now d) e n ⌝ }
+    requires { ⌜ (length (now d) ≡ draftLength) × (length (now m) ≡ 4096) × (e ≤ 32) × (n ≤ 64) × RowsInside (now d) e n ⌝ }
     ensures { λ _. ⌜ now (m .exit) ≡ closedOn (now (d .entry)) e n ⌝ }
 {
     fill_matrix(d, e, n, m);
@@ -107,7 +108,7 @@ fn close_under(d: &[u64], e: usize, n: usize, m: &mut [u8])
 
 // Whether, on one of ev events or on none, one of bs behaviours is reached from itself (01: a circle).
 pub fn has_cycle(d: &[u64], ev: usize, bs: usize) -> bool
-    requires { ⌜ (length (now d) ≡ 4256) × (ev ≤ 32) × (bs ≤ 64) × AllInside (now d) ev bs ⌝ }
+    requires { ⌜ (length (now d) ≡ draftLength) × (ev ≤ 32) × (bs ≤ 64) × AllInside (now d) ev bs ⌝ }
     ensures { λ r. ⌜ r ≡ cyclicOn (now (d .entry)) ev bs ⌝ }
 {
     let mut m = [0u8; 4096];

@@ -5,7 +5,7 @@ use mathlib.Core.Path.{_≡_, sym, _∙_}
 use mathlib.Core.List.{List}
 use native.Mathlib.Omega.{arith}
 use native.Mathlib.Numerals.{sub-one}
-use lib.ListN.{length, set}
+use lib.ListN.{length, getD, set}
 use borrow.Author.Tests.{eq-eqb, ne-eqb}
 use Rattle.word.specs.Word.{getAt}
 use Rattle.field.specs.Field.{fieldOf, partOf, numberOf}
@@ -15,9 +15,10 @@ use Rattle.field.specs.declared.Field.{Field}
 use Rattle.field.specs.declared.Field.the-variants.{Value, Refused}
 use Rattle.field.specs.declared.Read.{Read}
 use Rattle.field.specs.declared.Read.the-variants.{Done, Fault}
-use Rattle.draft.specs.Draft.{entry}
+use Rattle.draft.specs.Draft.{draftLength, entry}
+use Rattle.ending.specs.Ending.{endingOf, EndIn}
 use Rattle.behaviours.specs.Handler.{entryAt, handlerAt, handlerOf, handlersOf, BodyIn}
-use Rattle.behaviours.specs.Behaviour.{activeOf, valueAt, behaviourOf, Counted}
+use Rattle.behaviours.specs.Behaviour.{passiveOf, bodyOf, activeOf, valueAt, behaviourOf, Counted}
 
 -- ---- an expression and its entry
 
@@ -80,7 +81,7 @@ module _ (s d : List ℕ) (events i n : ℕ) {a : Field} where
   active-long {size = size} e t h = rw (sym e ∙ t, ne-eqb size 4 h)
 
   pub active-taken : {t size x : ℕ} {w p : List ℕ} {r : Read} → a ≡ fieldOf s 4 4 → a ≡ Value t size → size ≡ 4 → w ≡ partOf s (fieldOf s 4 4)
-      → x ≡ getAt w 0 → out r p ≡ handlersOf (length s) s 7 events i (set d (4160 + i) x) n → out r p ≡ activeOf s events i d n
+      → x ≡ getAt w 0 → out r p ≡ bodyOf s events i (set d (4160 + i) x) n → out r p ≡ activeOf s events i d n
   unfolding activeOf
   active-taken {size = size} e t z w x h = rw (← w, sym e ∙ t, eq-eqb size 4 z, ← x) h
 
@@ -90,47 +91,55 @@ pub record HandlerTurn (v : List ℕ) (events i : ℕ) (d₀ : List ℕ) (n : �
   pub fuel : ℕ
   pub whole : handlersOf fuel v at events i d m ≡ handlersOf (length v) v 7 events i d₀ n
   pub enough : length v ≤ at + fuel
+  pub begun : 7 ≤ at
   pub reached : at ≤ length v
   pub nodes : m * 4 ≤ n * 4 + at
   pub onwards : n ≤ m
   pub room : n * 4 + length v ≤ 8192
-  pub kept : length d ≡ 4256
+  pub kept : length d ≡ draftLength
 
-module _ (v : List ℕ) (at events i : ℕ) (d : List ℕ) (m : ℕ) {r : Read} {p : List ℕ} (h : at ≡ length v → ⊥) (g : at ≤ length v)
+module _ (v : List ℕ) (at events i : ℕ) (d : List ℕ) (m : ℕ) {r : Read} {p : List ℕ} (h : at ≡ length v → ⊥) (q : getD v at 0 ≡ 8 → ⊥) (g : at ≤ length v)
     (e : out r p ≡ handlerOf (rest at v) events i d m) where
   handlers-done : (k : ℕ) {size next : ℕ} → length v ≤ at + k → r ≡ Done size next → handlersOf k v at events i d m ≡ handlersOf (k - 1) v (at + size) events i p next
   unfolding handlersOf
   handlers-done zero b t = absurd (h (omega arith))
-  handlers-done (suc k) b t = rw (ne-eqb at (length v) h, sub-one, ← e, t)
+  handlers-done (suc k) b t = rw (ne-eqb at (length v) h, ne-eqb (getD v at 0) 8 q, sub-one, ← e, t)
 
   handlers-fault : (k : ℕ) {j : ℕ} → length v ≤ at + k → r ≡ Fault j → handlersOf k v at events i d m ≡ out (Fault j) p
   unfolding handlersOf
   handlers-fault zero b t = absurd (h (omega arith))
-  handlers-fault (suc k) b t = rw (ne-eqb at (length v) h, ← e, t)
+  handlers-fault (suc k) b t = rw (ne-eqb at (length v) h, ne-eqb (getD v at 0) 8 q, ← e, t)
 
-handlers-end : (k : ℕ) (v : List ℕ) (at events i : ℕ) (d : List ℕ) (m : ℕ) → at ≡ length v → handlersOf k v at events i d m ≡ out (Done (at + 3) m) d
+handlers-end : (k : ℕ) (v : List ℕ) (at events i : ℕ) (d : List ℕ) (m : ℕ) → at ≡ length v → handlersOf k v at events i d m ≡ out (Done at m) d
 unfolding handlersOf
 handlers-end zero v at events i d m h = rw (eq-eqb at (length v) h)
 handlers-end (suc k) v at events i d m h = rw (eq-eqb at (length v) h)
 
-module _ {v : List ℕ} {events i : ℕ} {d₀ : List ℕ} {n : ℕ} {d : List ℕ} {at m : ℕ} (t : HandlerTurn v events i d₀ n d at m) where
-  pub handler-stops : {r : Read} {p : List ℕ} {j : ℕ} → (at ≡ length v → ⊥) → out r p ≡ handlerOf (rest at v) events i d m → r ≡ Fault j
-      → (out r p ≡ handlersOf (length v) v 7 events i d₀ n) × BodyIn (length v + 3) n r
-  handler-stops h e f = rw f (rw (handlers-fault v at events i d m h (t .reached) e (t .fuel) (t .enough) f) at (t .whole), tt)
+handlers-eight : (k : ℕ) (v : List ℕ) (at events i : ℕ) (d : List ℕ) (m : ℕ) → (at ≡ length v → ⊥) → getD v at 0 ≡ 8 → handlersOf k v at events i d m ≡ out (Done at m) d
+unfolding handlersOf
+handlers-eight zero v at events i d m h q = rw (ne-eqb at (length v) h, eq-eqb (getD v at 0) 8 q)
+handlers-eight (suc k) v at events i d m h q = rw (ne-eqb at (length v) h, eq-eqb (getD v at 0) 8 q)
 
-  pub handler-turns : {r : Read} {p : List ℕ} {size next : ℕ} → (at ≡ length v → ⊥) → out r p ≡ handlerOf (rest at v) events i d m → r ≡ Done size next
+module _ {v : List ℕ} {events i : ℕ} {d₀ : List ℕ} {n : ℕ} {d : List ℕ} {at m : ℕ} (t : HandlerTurn v events i d₀ n d at m) where
+  pub handler-stops : {r : Read} {p : List ℕ} {j : ℕ} → (at ≡ length v → ⊥) → (getD v at 0 ≡ 8 → ⊥) → out r p ≡ handlerOf (rest at v) events i d m → r ≡ Fault j
+      → (out r p ≡ handlersOf (length v) v 7 events i d₀ n) × ReadIn (length v) n r
+  handler-stops h q e f = rw f (rw (handlers-fault v at events i d m h q (t .reached) e (t .fuel) (t .enough) f) at (t .whole), tt)
+
+  pub handler-turns : {r : Read} {p : List ℕ} {size next : ℕ} → (at ≡ length v → ⊥) → (getD v at 0 ≡ 8 → ⊥) → out r p ≡ handlerOf (rest at v) events i d m → r ≡ Done size next
       → ReadIn (length (rest at v)) m r → length p ≡ length d → HandlerTurn v events i d₀ n p (at + size) next
-  handler-turns {size} {next} h e f b l =
+  handler-turns {size} {next} h q₈ e f b l =
       let b′ : ReadIn (length (rest at v)) m (Done size next) = rw f at b in
       let q = rest-length at v in
       let enough = t .enough in
       let reached = t .reached in
       let nodes = t .nodes in
       let onwards = t .onwards in
+      let begun = t .begun in
       record {
         fuel = t .fuel - 1;
-        whole = rw (← handlers-done v at events i d m h (t .reached) e (t .fuel) (t .enough) f) (t .whole);
+        whole = rw (← handlers-done v at events i d m h q₈ (t .reached) e (t .fuel) (t .enough) f) (t .whole);
         enough = omega arith;
+        begun = omega arith;
         reached = omega arith;
         nodes = omega arith;
         onwards = omega arith;
@@ -138,7 +147,37 @@ module _ {v : List ℕ} {events i : ℕ} {d₀ : List ℕ} {n : ℕ} {d : List �
         kept = l ∙ t .kept;
       }
 
-  pub handler-ends : at ≡ length v → (out (Done (at + 3) m) d ≡ handlersOf (length v) v 7 events i d₀ n) × BodyIn (length v + 3) n (Done (at + 3) m)
-  handler-ends h =
-      let nodes = t .nodes in
-      (rw (handlers-end (t .fuel) v at events i d m h) at (t .whole), (omega arith, omega arith, t .onwards))
+  within : ReadIn (length v) n (Done at m)
+  within = (omega (arith, t .begun), t .reached, t .nodes, t .onwards)
+
+  pub handler-ends : at ≡ length v → (out (Done at m) d ≡ handlersOf (length v) v 7 events i d₀ n) × ReadIn (length v) n (Done at m)
+  handler-ends h = (rw (handlers-end (t .fuel) v at events i d m h) at (t .whole), within)
+
+  pub handler-eight : (at ≡ length v → ⊥) → getD v at 0 ≡ 8 → (out (Done at m) d ≡ handlersOf (length v) v 7 events i d₀ n) × ReadIn (length v) n (Done at m)
+  handler-eight h q = (rw (handlers-eight (t .fuel) v at events i d m h q) at (t .whole), within)
+
+-- ---- the ending after a behaviour's own part
+
+-- what the own part took lies within the value, and the ending keeps its numbers
+pub ended-body : (all n : ℕ) {size m : ℕ} → m * 4 ≤ n * 4 + size → n ≤ m → size ≤ all → (r : Read) → EndIn all m r → BodyIn all n r
+ended-body all n a b c (Done z k) h = (h .0, omega arith, omega arith)
+ended-body all n a b c (Fault k) h = tt
+
+module _ (v d : List ℕ) (i n : ℕ) {r : Read} {p : List ℕ} (e : out r p ≡ exprOf 16 v d n) where
+  pub passive-fault : {k : ℕ} → r ≡ Fault k → (out r p ≡ passiveOf v i d n) × BodyIn (length v + 3) n r
+  unfolding passiveOf
+  passive-fault t = rw t (rw (← e, t), tt)
+
+  pub passive-ends : {size m : ℕ} {r₁ : Read} {p₁ : List ℕ} → r ≡ Done size m
+      → out r₁ p₁ ≡ endingOf (rest size v) i (set p (4096 + i) (entry 1 n (m - n))) (length v + 3) m → out r₁ p₁ ≡ passiveOf v i d n
+  unfolding passiveOf
+  passive-ends t h = rw (← e, t) h
+
+module _ (v d : List ℕ) (events i n : ℕ) {r : Read} {p : List ℕ} (e : out r p ≡ handlersOf (length v) v 7 events i d n) where
+  pub handlers-stop : {k : ℕ} → r ≡ Fault k → (out r p ≡ bodyOf v events i d n) × BodyIn (length v + 3) n r
+  unfolding bodyOf
+  handlers-stop t = rw t (rw (← e, t), tt)
+
+  pub body-ends : {at m : ℕ} {r₁ : Read} {p₁ : List ℕ} → r ≡ Done at m → out r₁ p₁ ≡ endingOf (rest at v) i p (length v + 3) m → out r₁ p₁ ≡ bodyOf v events i d n
+  unfolding bodyOf
+  body-ends t h = rw (← e, t) h

@@ -1,6 +1,6 @@
 -- Behaviours as the reader reads them: from positions in the bytes, with the draft as it is written. 01: "02 passive: one expression. 03 active: a start
--- field (04, length 4, signed 32-bit), then handlers until its end." At a field: 4, 5, 4, 7, then its contents.
-use Prim.Native.Nat.{ℕ, _+_, _<_}
+-- field (04, length 4, signed 32-bit), then handlers until its end." At a field: 4, 5, 4, 7, then its contents. 02, M-107: both may end with a field 08.
+use Prim.Native.Nat.{ℕ, _+_, _-_, _<_}
 use mathlib.Core.List.{List}
 use lib.ListN.{length, set}
 use lib.Dec.{leb, eqb}
@@ -8,18 +8,32 @@ use Rattle.base.specs.Basics.{pick}
 use Rattle.word.specs.Word.{getAt}
 use Rattle.language.specs.Refusals.{wrongLength, crowded}
 use Rattle.field.specs.Field.{fieldOf, partOf}
-use Rattle.field.specs.Expression.{Out, out}
+use Rattle.field.specs.Expression.{Out, out, rest, onward, exprOf}
 use Rattle.field.specs.declared.Field.{Field}
 use Rattle.field.specs.declared.Field.the-variants.{Value, Refused}
 use Rattle.field.specs.declared.Read.{Read}
 use Rattle.field.specs.declared.Read.the-variants.{Done, Fault}
-use Rattle.behaviours.specs.Handler.{entryAt, handlersOf}
+use Rattle.draft.specs.Draft.{entry}
+use Rattle.ending.specs.Ending.{endingOf}
+use Rattle.behaviours.specs.Handler.{handlersOf}
+
+-- the value v of behaviour i, a passive: its expression, and who may see it
+unfoldable pub passiveOf : List ℕ → ℕ → List ℕ → ℕ → Out
+passiveOf v i d n =
+    let o : Out = exprOf 16 v d n in
+    onward (o .0) (o .1) (λ size m. endingOf (rest size v) i (set (o .1) (4096 + i) (entry 1 n (m - n))) (length v + 3) m)
+
+-- what follows the start in the value v of behaviour i, an active: its handlers, and who may see it
+unfoldable pub bodyOf : List ℕ → ℕ → ℕ → List ℕ → ℕ → Out
+bodyOf v events i d n =
+    let o : Out = handlersOf (length v) v 7 events i d n in
+    onward (o .0) (o .1) (λ at m. endingOf (rest at v) i (o .1) (length v + 3) m)
 
 -- an active's value v, where the answer for its start field is f, with the value w
 abbrev pub activeFrom : Field → List ℕ → List ℕ → ℕ → ℕ → List ℕ → ℕ → Out
 activeFrom (Refused k) w v events i d n = out (Fault k) d
 activeFrom (Value t size) w v events i d n =
-    pick (eqb size 4) (handlersOf (length v) v 7 events i (set d (4160 + i) (getAt w 0)) n) (out (Fault wrongLength) d)
+    pick (eqb size 4) (bodyOf v events i (set d (4160 + i) (getAt w 0)) n) (out (Fault wrongLength) d)
 
 unfoldable pub activeOf : List ℕ → ℕ → ℕ → List ℕ → ℕ → Out
 activeOf v events i d n = activeFrom (fieldOf v 4 4) (partOf v (fieldOf v 4 4)) v events i d n
@@ -28,7 +42,7 @@ activeOf v events i d n = activeFrom (fieldOf v 4 4) (partOf v (fieldOf v 4 4)) 
 unfoldable pub valueAt : ℕ → List ℕ → ℕ → ℕ → List ℕ → ℕ → Out
 valueAt t v events i d n =
     pick (leb 64 i) (out (Fault crowded) d)
-    (pick (eqb t 2) (entryAt v d n (4096 + i) 1 3) (activeOf v events i d n))
+    (pick (eqb t 2) (passiveOf v i d n) (activeOf v events i d n))
 
 abbrev pub behaviourFrom : Field → List ℕ → ℕ → ℕ → List ℕ → ℕ → Out
 behaviourFrom (Refused k) v events i d n = out (Fault k) d

@@ -48,13 +48,16 @@ handlerFrom (Value t size) v events i d n = handlerAt v events i d n
 unfoldable pub handlerOf : List ℕ → ℕ → ℕ → List ℕ → ℕ → Out
 handlerOf s events i d n = handlerFrom (fieldOf s 5 5) (partOf s (fieldOf s 5 5)) events i d n
 
--- handlers in v from `at` on to its end; the first number bounds their count
+-- handlers in v from `at` on to its end or to a tag 08 (02, M-107): the place after them; the first number bounds their count
 unfoldable pub handlersOf : ℕ → List ℕ → ℕ → ℕ → ℕ → List ℕ → ℕ → Out
-handlersOf zero v at events i d n = pick (eqb at (length v)) (out (Done (at + 3) n) d) (out (Fault torn) d)
+handlersOf zero v at events i d n =
+    pick (eqb at (length v)) (out (Done at n) d)
+    (pick (eqb (getD v at 0) 8) (out (Done at n) d) (out (Fault torn) d))
 handlersOf (suc k) v at events i d n =
-    pick (eqb at (length v)) (out (Done (at + 3) n) d)
+    pick (eqb at (length v)) (out (Done at n) d)
+    (pick (eqb (getD v at 0) 8) (out (Done at n) d)
     (let o : Out = handlerOf (rest at v) events i d n in
-    onward (o .0) (o .1) (λ size m. handlersOf k v (at + size) events i (o .1) m))
+    onward (o .0) (o .1) (λ size m. handlersOf k v (at + size) events i (o .1) m)))
 
 -- that a field of so many bytes is taken whole, and that a node takes four bytes at least: what is promised beside the equation
 abbrev pub BodyIn : ℕ → ℕ → Read → Type 0

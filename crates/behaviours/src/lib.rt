@@ -5,8 +5,9 @@ ghost use mathlib.Core.Path.{_≡_};
 ghost use Prim.Native.Nat.{_<_, _≤_, _*_, _+_};
 ghost use lib.ListN.{length};
 ghost use Rattle.field.specs.Expression.{out, ReadIn};
+ghost use Rattle.draft.specs.Draft.{draftLength};
 ghost use Rattle.behaviours.specs.Handler.{entryAt, handlerAt, handlerOf, handlersOf, BodyIn, faultOf};
-ghost use Rattle.behaviours.specs.Behaviour.{activeOf, valueAt, behaviourOf, Counted};
+ghost use Rattle.behaviours.specs.Behaviour.{passiveOf, bodyOf, activeOf, valueAt, behaviourOf, Counted};
 
 // The number of a refusal; 0 of a reading that is done.
 pub fn fault(r: Read) -> u8
@@ -21,8 +22,8 @@ pub fn fault(r: Read) -> u8
 // An expression that fills v, of nesting at most 16; its entry goes to `place`. The field has `over` bytes before v.
 fn read_entry(v: &[u8], draft: &mut [u64], n: usize, place: usize, kind: usize, over: usize) -> Read
     requires { ⌜ n * 4 + length (now v) ≤ 8192 ⌝ }
-    requires { ⌜ length (now draft) ≡ 4256 ⌝ }
-    requires { ⌜ place < 4256 ⌝ }
+    requires { ⌜ length (now draft) ≡ draftLength ⌝ }
+    requires { ⌜ place < draftLength ⌝ }
     requires { ⌜ kind ≤ 3 ⌝ }
     requires { ⌜ over ≤ 5 ⌝ }
     ensures { λ r. ⌜ out r (now (draft .exit)) ≡ entryAt (now (v .entry)) (now (draft .entry)) n place kind over ⌝ }
@@ -42,7 +43,7 @@ fn read_entry(v: &[u8], draft: &mut [u64], n: usize, place: usize, kind: usize, 
 // A handler's value: event, phase, doubled, expression. `events` are declared; the handler is one of behaviour i.
 fn read_handler_value(v: &[u8], events: usize, i: usize, draft: &mut [u64], n: usize) -> Read
     requires { ⌜ n * 4 + length (now v) ≤ 8192 ⌝ }
-    requires { ⌜ length (now draft) ≡ 4256 ⌝ }
+    requires { ⌜ length (now draft) ≡ draftLength ⌝ }
     requires { ⌜ events ≤ 32 ⌝ }
     requires { ⌜ i < 64 ⌝ }
     ensures { λ r. ⌜ out r (now (draft .exit)) ≡ handlerAt (now (v .entry)) events i (now (draft .entry)) n ⌝ }
@@ -72,7 +73,7 @@ fn read_handler_value(v: &[u8], events: usize, i: usize, draft: &mut [u64], n: u
 // A handler at the front of s.
 fn read_handler(s: &[u8], events: usize, i: usize, draft: &mut [u64], n: usize) -> Read
     requires { ⌜ n * 4 + length (now s) ≤ 8192 ⌝ }
-    requires { ⌜ length (now draft) ≡ 4256 ⌝ }
+    requires { ⌜ length (now draft) ≡ draftLength ⌝ }
     requires { ⌜ events ≤ 32 ⌝ }
     requires { ⌜ i < 64 ⌝ }
     ensures { λ r. ⌜ out r (now (draft .exit)) ≡ handlerOf (now (s .entry)) events i (now (draft .entry)) n ⌝ }
@@ -85,19 +86,22 @@ fn read_handler(s: &[u8], events: usize, i: usize, draft: &mut [u64], n: usize) 
     read_handler_value(field::field_value(s, 5, 5), events, i, draft, n)
 }
 
-// The handlers of behaviour i, whose value is v, after its start.
+// The handlers of behaviour i, whose value is v, after its start, up to the end or a tag 08: the place after them.
 fn read_handlers(v: &[u8], events: usize, i: usize, draft: &mut [u64], n: usize) -> Read
     requires { ⌜ 7 ≤ length (now v) ⌝ }
     requires { ⌜ n * 4 + length (now v) ≤ 8192 ⌝ }
-    requires { ⌜ length (now draft) ≡ 4256 ⌝ }
+    requires { ⌜ length (now draft) ≡ draftLength ⌝ }
     requires { ⌜ events ≤ 32 ⌝ }
     requires { ⌜ i < 64 ⌝ }
     ensures { λ r. ⌜ out r (now (draft .exit)) ≡ handlersOf (length (now (v .entry))) (now (v .entry)) 7 events i (now (draft .entry)) n ⌝ }
-    ensures { λ r. ⌜ BodyIn (length (now (v .entry)) + 3) n r ⌝ }
+    ensures { λ r. ⌜ ReadIn (length (now (v .entry))) n r ⌝ }
 {
     let mut at = 7;
     let mut m = n;
     while at != v.len() {
+        if v[at] == 8 {
+            return Read::Done(at, m);
+        }
         let r = read_handler(&v[at..], events, i, draft, m);
         let Read::Done(size, next) = r else {
             return r;
@@ -105,13 +109,30 @@ fn read_handlers(v: &[u8], events: usize, i: usize, draft: &mut [u64], n: usize)
         at = at + size;
         m = next;
     }
-    Read::Done(at + 3, m)
+    Read::Done(at, m)
 }
 
-// An active's value: its start, then its handlers.
+// What follows an active's start in its value v: its handlers, then who may see it.
+fn read_body(v: &[u8], events: usize, i: usize, draft: &mut [u64], n: usize) -> Read
+    requires { ⌜ 7 ≤ length (now v) ⌝ }
+    requires { ⌜ n * 4 + length (now v) ≤ 8192 ⌝ }
+    requires { ⌜ length (now draft) ≡ draftLength ⌝ }
+    requires { ⌜ events ≤ 32 ⌝ }
+    requires { ⌜ i < 64 ⌝ }
+    ensures { λ r. ⌜ out r (now (draft .exit)) ≡ bodyOf (now (v .entry)) events i (now (draft .entry)) n ⌝ }
+    ensures { λ r. ⌜ BodyIn (length (now (v .entry)) + 3) n r ⌝ }
+{
+    let r = read_handlers(v, events, i, draft, n);
+    let Read::Done(at, m) = r else {
+        return r;
+    };
+    ending::read_ending(&v[at..], i, draft, v.len() + 3, m)
+}
+
+// An active's value: its start, then its handlers and who may see it.
 fn read_active(v: &[u8], events: usize, i: usize, draft: &mut [u64], n: usize) -> Read
     requires { ⌜ n * 4 + length (now v) ≤ 8192 ⌝ }
-    requires { ⌜ length (now draft) ≡ 4256 ⌝ }
+    requires { ⌜ length (now draft) ≡ draftLength ⌝ }
     requires { ⌜ events ≤ 32 ⌝ }
     requires { ⌜ i < 64 ⌝ }
     ensures { λ r. ⌜ out r (now (draft .exit)) ≡ activeOf (now (v .entry)) events i (now (draft .entry)) n ⌝ }
@@ -126,13 +147,29 @@ fn read_active(v: &[u8], events: usize, i: usize, draft: &mut [u64], n: usize) -
     }
     let w = field::field_value(v, 4, 4);
     draft[4160 + i] = word::get_at(w, 0) as u64;
-    read_handlers(v, events, i, draft, n)
+    read_body(v, events, i, draft, n)
+}
+
+// A passive's value: its expression, then who may see it.
+fn read_passive(v: &[u8], i: usize, draft: &mut [u64], n: usize) -> Read
+    requires { ⌜ n * 4 + length (now v) ≤ 8192 ⌝ }
+    requires { ⌜ length (now draft) ≡ draftLength ⌝ }
+    requires { ⌜ i < 64 ⌝ }
+    ensures { λ r. ⌜ out r (now (draft .exit)) ≡ passiveOf (now (v .entry)) i (now (draft .entry)) n ⌝ }
+    ensures { λ r. ⌜ BodyIn (length (now (v .entry)) + 3) n r ⌝ }
+{
+    let r = field::read_expr(16, v, draft, n);
+    let Read::Done(size, m) = r else {
+        return r;
+    };
+    draft[4096 + i] = (((m - n) * 4096 + n) * 4 + 1) as u64;
+    ending::read_ending(&v[size..], i, draft, v.len() + 3, m)
 }
 
 // The value of a behaviour's field with tag t.
 fn read_value(t: u8, v: &[u8], events: usize, i: usize, draft: &mut [u64], n: usize) -> Read
     requires { ⌜ n * 4 + length (now v) ≤ 8192 ⌝ }
-    requires { ⌜ length (now draft) ≡ 4256 ⌝ }
+    requires { ⌜ length (now draft) ≡ draftLength ⌝ }
     requires { ⌜ events ≤ 32 ⌝ }
     requires { ⌜ i ≤ 64 ⌝ }
     ensures { λ r. ⌜ out r (now (draft .exit)) ≡ valueAt t (now (v .entry)) events i (now (draft .entry)) n ⌝ }
@@ -143,7 +180,7 @@ fn read_value(t: u8, v: &[u8], events: usize, i: usize, draft: &mut [u64], n: us
         return Read::Fault(7);
     }
     if t == 2 {
-        return read_entry(v, draft, n, 4096 + i, 1, 3);
+        return read_passive(v, i, draft, n);
     }
     read_active(v, events, i, draft, n)
 }
@@ -151,7 +188,7 @@ fn read_value(t: u8, v: &[u8], events: usize, i: usize, draft: &mut [u64], n: us
 // Behaviour i at the front of s.
 pub fn read_behaviour(s: &[u8], events: usize, i: usize, draft: &mut [u64], n: usize) -> Read
     requires { ⌜ n * 4 + length (now s) ≤ 8192 ⌝ }
-    requires { ⌜ length (now draft) ≡ 4256 ⌝ }
+    requires { ⌜ length (now draft) ≡ draftLength ⌝ }
     requires { ⌜ events ≤ 32 ⌝ }
     requires { ⌜ i ≤ 64 ⌝ }
     ensures { λ r. ⌜ out r (now (draft .exit)) ≡ behaviourOf (now (s .entry)) events i (now (draft .entry)) n ⌝ }

@@ -5,6 +5,7 @@ ghost use mathlib.Core.Bool.{true};
 ghost use Prim.Native.Nat.{_≤_, min};
 ghost use lib.ListN.{length};
 ghost use Rattle.analysis.specs.Checks.{cyclicOn, RowsInside, AllInside};
+ghost use Rattle.draft.specs.Draft.{draftLength};
 ghost use Rattle.circle.specs.Search.{bestOf, shortestOn, eventNumber, Wide, Found};
 
 fn lower(a: usize, b: usize) -> usize
@@ -18,7 +19,7 @@ fn lower(a: usize, b: usize) -> usize
 
 // The lowest of best and, for each behaviour, the steps from it back to itself on event e, packed with both.
 fn best_under(d: &[u64], e: usize, n: usize, m: &mut [u8], s: &mut [u8], best: usize) -> usize
-    requires { ⌜ (length (now d) ≡ 4256) × (length (now m) ≡ 4096) × (length (now s) ≡ 4160) × (e ≤ 32) × (n ≤ 64) × RowsInside (now d) e n ⌝ }
+    requires { ⌜ (length (now d) ≡ draftLength) × (length (now m) ≡ 4096) × (length (now s) ≡ 4160) × (e ≤ 32) × (n ≤ 64) × RowsInside (now d) e n ⌝ }
     ensures { λ r. ⌜ r ≡ bestOf (now (d .entry)) e n n best ⌝ }
 {
     analysis::fill_matrix(d, e, n, m);
@@ -33,7 +34,7 @@ fn best_under(d: &[u64], e: usize, n: usize, m: &mut [u8], s: &mut [u8], best: u
 
 // The same over ev events and none.
 fn shortest(d: &[u64], ev: usize, n: usize) -> usize
-    requires { ⌜ (length (now d) ≡ 4256) × (ev ≤ 32) × (n ≤ 64) × AllInside (now d) ev n ⌝ }
+    requires { ⌜ (length (now d) ≡ draftLength) × (ev ≤ 32) × (n ≤ 64) × AllInside (now d) ev n ⌝ }
     ensures { λ r. ⌜ r ≡ shortestOn (now (d .entry)) ev n ⌝ }
 {
     let mut m = [0u8; 4096];
@@ -59,7 +60,7 @@ fn event_number(e: usize, ev: usize) -> u64
 
 // A shortest circle: its members in the list's first bytes. 12, its event times 256 and their number times 65,536.
 pub fn list_circle(d: &[u64], ev: usize, n: usize, list: &mut [u8]) -> u64
-    requires { ⌜ (length (now d) ≡ 4256) × (ev ≤ 32) × (n ≤ 64) × AllInside (now d) ev n ⌝ }
+    requires { ⌜ (length (now d) ≡ draftLength) × (ev ≤ 32) × (n ≤ 64) × AllInside (now d) ev n ⌝ }
     requires { ⌜ (64 ≤ length (now list)) × Wide (now d) ev n × (cyclicOn (now d) ev n ≡ true) ⌝ }
     ensures { λ r. ⌜ Found (now (d .entry)) ev n (now (list .entry)) r (now (list .exit)) ⌝ }
 {

@@ -52,7 +52,7 @@ given-is ps s g = split (uses s) (λ u. rw (u, le-ltb (length ps) 32 (g u))) (λ
 
 -- the checks' answers, and what they stand for
 few : (ps : List ℕ) (s : Sheet) → SheetFits s → size (programOf ps s) ≤ 64
-few ps s f = omega (arith, length-fill (get ps) (s .items), f .few-behaviours)
+few ps s f = omega (arith, length-fill (get ps) (s .entries), f .few-behaviours)
 
 fine-known : (ps : List ℕ) (s : Sheet) → SheetFits s → known (programOf ps s) ≡ true → cyclic (programOf ps s) ≡ false → Known (programOf ps s) × NoCycle (programOf ps s)
 fine-known ps s f k c = let h = known-decides (programOf ps s) .0 k in (h, cyclic-decides (programOf ps s) h (few ps s f) .0 c)

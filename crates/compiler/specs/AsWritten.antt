@@ -12,7 +12,7 @@ use borrow.Author.Tests.{le-ltb}
 use Rattle.base.specs.Basics.{All}
 use Rattle.word.specs.Word.{getAt, get}
 use Rattle.language.specs.Syntax.{Program}
-use Rattle.language.specs.Sheet.{Sheet, writtenOut}
+use Rattle.language.specs.Sheet.{Entry, Sheet, writtenOut}
 use Rattle.language.specs.Grammar.{encode, ItemParamsIn, SheetFits}
 use Rattle.language.specs.Reading.{Got, bad, got, readSheet}
 use Rattle.language.specs.SheetLaws.{fill-same, written-unused, fill-written}
@@ -24,7 +24,7 @@ use Rattle.compiler.specs.JudgeLaws.{compile-opens, compile-short, compi
 -- the sheet x with the parameters ps, 32 bytes or more, and the sheet in which each is written out as its constant
 pub record AsWritten (x : Sheet) (ps : List ℕ) : Type 0 where
   -- compile's answer, a refusal too, and the table's bytes are the same for both, with whatever the second is lent, where neither has over 8,192 bytes and no parameter is above 7
-  pub same : All ItemParamsIn (x .items) → length (encode x) ≤ 8192 → length (encode (writtenOut (get ps) x)) ≤ 8192
+  pub same : All (λ (b : Entry). ItemParamsIn (b .item)) (x .entries) → length (encode x) ≤ 8192 → length (encode (writtenOut (get ps) x)) ≤ 8192
       → (qs t : List ℕ) → compileOn (encode x) ps t ≡ compileOn (encode (writtenOut (get ps) x)) qs t
   -- 3 counts the bytes as sent: where they are not over 8,192 the filling is judged, however many bytes it would have
   pub sent : SheetFits x → (t : List ℕ) → 34816 ≤ length t → compileOn (encode x) ps t ≡ judge (programOf ps x) false t
@@ -43,7 +43,7 @@ module _ (x : Sheet) (ps : List ℕ) (enough : 32 ≤ length ps) where
   alike zero qs t = written-judged qs t
   alike (suc n) qs t = refl
 
-  read-alike : All ItemParamsIn (x .items) → (qs t : List ℕ) → judgeRead (readSheet (encode x)) ps t ≡ judgeRead (readSheet (encode (writtenOut (get ps) x))) qs t
+  read-alike : All (λ (b : Entry). ItemParamsIn (b .item)) (x .entries) → (qs t : List ℕ) → judgeRead (readSheet (encode x)) ps t ≡ judgeRead (readSheet (encode (writtenOut (get ps) x))) qs t
   read-alike h qs t =
       rw (sheet-result x, sheet-result (writtenOut (get ps) x), fault-written (get ps) x h) (alike (sheetFault x) qs t)
 

@@ -9,8 +9,8 @@ use Rattle.base.specs.Basics.{All}
 use Rattle.base.specs.Tools.{split}
 use Rattle.word.specs.Word.{get}
 use Rattle.language.specs.Syntax.{Program}
-use Rattle.language.specs.Sheet.{Term, literal, variable, param, apply1, apply2, apply3, Clause, clause, Item, formula, state, Sheet}
-use Rattle.language.specs.Sheet.{fillTerm, fillClauses, fillItem, fillItems, fill, uses}
+use Rattle.language.specs.Sheet.{Term, literal, variable, param, apply1, apply2, apply3, Clause, clause, Item, formula, state, Entry, Sheet}
+use Rattle.language.specs.Sheet.{fillTerm, fillClauses, fillItem, fillEntries, fill, uses}
 use Rattle.language.specs.SheetLaws.{length-fill, fill-unused}
 use Rattle.analysis.specs.Faults.{knownIn, knownHandlers, knownBehaviour, knownBehaviours, known}
 use Rattle.filling.specs.Filling.{valueOf, fillTo, lacksParam}
@@ -37,14 +37,14 @@ module _ (v w : ℕ → ℕ) (n : ℕ) where
   item-known (formula x) = term-known x
   item-known (state s cs) = clauses-known cs
 
-  items-known : (bs : List Item) → knownBehaviours n (fillItems v bs) ≡ knownBehaviours n (fillItems w bs)
-  unfolding fillItems knownBehaviours
-  items-known [] = refl
-  items-known (b ∷ bs) = rw (item-known b, items-known bs)
+  entries-known : (bs : List Entry) → knownBehaviours n (fillEntries v bs) ≡ knownBehaviours n (fillEntries w bs)
+  unfolding fillEntries knownBehaviours
+  entries-known [] = refl
+  entries-known (b ∷ bs) = rw (item-known (b .item), entries-known bs)
 
 -- the names of a sheet are known whatever its parameters are
 known-fill : (v w : ℕ → ℕ) (s : Sheet) → known (fill v s) ≡ known (fill w s)
-known-fill v w s = rw (length-fill v (s .items), length-fill w (s .items)) (items-known v w (length (s .items)) (s .items))
+known-fill v w s = rw (length-fill v (s .entries), length-fill w (s .entries)) (entries-known v w (length (s .entries)) (s .entries))
 
 -- the values that the code fills in are those lent, wherever they matter
 filled-judged : (s : Sheet) (ps t : List ℕ) → judge (fill (valueOf ps) s) (lacks s ps) t ≡ judge (fill (get ps) s) (lacks s ps) t

@@ -5,12 +5,12 @@ use mathlib.Core.List.{List}
 use lib.ListN.{length}
 use lib.Dec.{eqb}
 use Rattle.base.specs.Basics.{pick}
-use Rattle.draft.specs.Draft.{entryOf}
+use Rattle.draft.specs.Draft.{draftLength, entryOf}
 use Rattle.draft.specs.Entry.{kindOf, startOf, countOf}
 
 -- the draft d of n behaviours: each entry for event e lies within the nodes
 pub record Sound (d : List ℕ) (e n : ℕ) : Type 0 where
-  pub long : length d ≡ 4256
+  pub long : length d ≡ draftLength
   pub few : n ≤ 64
   pub inside : (i : ℕ) → i < n → startOf (entryOf d e i) + countOf (entryOf d e i) ≤ 2048
 

@@ -3,6 +3,7 @@ ghost use mathlib.Core.Path.{_≡_};
 ghost use Prim.Native.Nat.{_≤_};
 ghost use lib.ListN.{length};
 ghost use Rattle.draft.specs.Entry.{countOf};
+ghost use Rattle.draft.specs.Draft.{draftLength};
 ghost use Rattle.counts.specs.Counts.{Sound, shareOf, countEvent, isMember, countMembers};
 use draft::entry_of;
 
@@ -48,7 +49,7 @@ fn is_member(v: u64) -> usize
 
 // How many behaviours event e copies.
 pub fn count_members(d: &[u64], e: usize, n: usize) -> usize
-    requires { ⌜ (length (now d) ≡ 4256) × (n ≤ 64) ⌝ }
+    requires { ⌜ (length (now d) ≡ draftLength) × (n ≤ 64) ⌝ }
     ensures { λ r. ⌜ r ≡ countMembers (now (d .entry)) e n ⌝ }
 {
     let mut sum = 0;

@@ -27,8 +27,9 @@ fn steps(table: &[u8], round: &mut [u8], count: u32) {
     }
 }
 
+// "the desk program's arrivals and readings are the host's": player 0
 fn arrive(table: &[u8], round: &mut [u8], event: u32) {
-    let r = engine::arrive(table, round, event);
+    let r = engine::arrive(table, round, event, 0);
     if r != 0 {
         refuse(r as u64);
     }
@@ -42,7 +43,7 @@ fn collect(table: &[u8], round: &[u8], values: &mut [u32]) -> usize
 {
     let mut i = 0;
     while i < 64 {
-        let answer = engine::board(table, round, i);
+        let answer = engine::board(table, round, i, 0);
         if answer < 4294967296 {
             break;
         }

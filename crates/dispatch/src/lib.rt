@@ -3,22 +3,24 @@ ghost use mathlib.Core.Path.{_≡_};
 ghost use Prim.Native.Nat.{_≤_, _<_};
 ghost use lib.ListN.{length};
 ghost use Rattle.round.specs.Start.{result};
-ghost use Rattle.dispatch.specs.Dispatch.{said, run, startAt, preemptAt};
+ghost use Rattle.dispatch.specs.Dispatch.{saidOf, run, startAt, preemptAt};
 
-// The answer of kind k about arrival n of event e.
-pub fn said_of(k: u64, n: u32, e: u32) -> u64
+// The answer of kind k about arrival n, w being the word of its event and player.
+pub fn said_of(k: u64, n: u32, w: u32) -> u64
     requires { ⌜ k < 16 ⌝ }
-    ensures { λ r. ⌜ r ≡ said k n e ⌝ }
+    ensures { λ r. ⌜ r ≡ saidOf k n w ⌝ }
 {
-    (n as u64) * 65536 + (e as u64) * 256 + k
+    let e = layout::event_of(w) as u64;
+    let who = layout::player_of(w) as u64;
+    (n as u64) * 65536 + e * 256 + who * 16 + k
 }
 
-fn run_on(l: &mut [u8], n: u32, e: u32)
+fn run_on(l: &mut [u8], n: u32, w: u32)
     requires { ⌜ 2048 ≤ length (now l) ⌝ }
-    ensures { λ _. ⌜ now (l .exit) ≡ run (now (l .entry)) n e ⌝ }
+    ensures { λ _. ⌜ now (l .exit) ≡ run (now (l .entry)) n w ⌝ }
 {
     word::put_word(l, 2, 1);
-    word::put_word(l, 3, e);
+    word::put_word(l, 3, w);
     word::put_word(l, 4, n);
     word::put_word(l, 5, 0);
     word::put_word(l, 6, 0);
@@ -31,13 +33,13 @@ pub fn start_at(l: &mut [u8], b: usize, m: usize) -> u64
     ensures { λ r. ⌜ result r (now (l .exit)) ≡ startAt (now (l .entry)) b m ⌝ }
 {
     let n = word::get_word(l, 8 + b * 2);
-    let e = word::get_word(l, 9 + b * 2);
+    let w = word::get_word(l, 9 + b * 2);
     let last_n = word::get_word(l, 8 + m * 2);
-    let last_e = word::get_word(l, 9 + m * 2);
-    queue::put_slot(l, b, last_n, last_e);
+    let last_w = word::get_word(l, 9 + m * 2);
+    queue::put_slot(l, b, last_n, last_w);
     word::put_word(l, 1, m as u32);
-    run_on(l, n, e);
-    said_of(2, n, e)
+    run_on(l, n, w);
+    said_of(2, n, w)
 }
 
 // Slot b starts, and the running one goes into its place under its old number.
@@ -46,10 +48,10 @@ pub fn preempt_at(l: &mut [u8], b: usize) -> u64
     ensures { λ r. ⌜ result r (now (l .exit)) ≡ preemptAt (now (l .entry)) b ⌝ }
 {
     let n = word::get_word(l, 8 + b * 2);
-    let e = word::get_word(l, 9 + b * 2);
+    let w = word::get_word(l, 9 + b * 2);
     let old_n = word::get_word(l, 4);
-    let old_e = word::get_word(l, 3);
-    queue::put_slot(l, b, old_n, old_e);
-    run_on(l, n, e);
-    said_of(4, n, e)
+    let old_w = word::get_word(l, 3);
+    queue::put_slot(l, b, old_n, old_w);
+    run_on(l, n, w);
+    said_of(4, n, w)
 }

@@ -1,6 +1,7 @@
--- The draft of a program: what the reader hands to the compiler, in one buffer of 4,256 numbers, with no tree.
+-- The draft of a program: what the reader hands to the compiler, in one buffer of 4,352 numbers, with no tree.
 -- From 0 on 2,048 nodes; from 2048 on an entry for behaviour i and event e at 2048 + i * 32 + e: an active's handler; from 4096 on an entry for each of 64
--- behaviours: a passive's expression; from 4160 on each active's start value; from 4224 on the priority of each of 32 events.
+-- behaviours: a passive's expression; from 4160 on each active's start value; from 4224 on the priority of each of 32 events;
+-- from 4256 on who may see each of 64 behaviours and from 4320 on who may send each of 32 events, one byte each, 255 where the sheet says nothing (02, M-107).
 -- A node is kind * 2 ^ 32 + word, its kind the tag of its field: 16 constant, 17 name, 18 application (its function), and 19 a parameter until it is filled in. The nodes of an expression stand in
 -- postfix order. An entry is 0 where there is none, else (count * 4096 + start) * 4 + kind: the expression's nodes, and 1 passive, 2 immediate, 3 later.
 use Prim.Native.Nat.{ℕ, _+_, _*_, _≤_, _<_}
@@ -14,6 +15,10 @@ use Rattle.language.specs.Sheet.{Sheet, fill}
 use Rattle.language.specs.Dependence.{Response, follows, takes, defers, keeps, size, events, response, behaviourAt}
 use Rattle.language.specs.Grammar.{SheetFits, Fits}
 use Rattle.language.specs.Code.{sizeOf}
+
+-- how many numbers it has
+abbrev pub draftLength : ℕ
+draftLength = 4352
 
 -- the nodes of an expression
 unfoldable pub nodes : Expr → List ℕ
@@ -65,12 +70,14 @@ StartIs d i (active s hs) = getD d (4160 + i) 0 ≡ s
 
 -- the draft d, of n nodes, is that of program p
 pub record Drafted (p : Program) (d : List ℕ) (n : ℕ) : Type 0 where
-  pub long : length d ≡ 4256
+  pub long : length d ≡ draftLength
   pub few : n ≤ 2048
   pub pool : take n d ≡ programNodes (p .behaviours)
   pub says : (e i : ℕ) → e ≤ 32 → i < size p → Says d (entryOf d e i) (response p e i)
   pub starts : (i : ℕ) → i < size p → StartIs d i (behaviourAt p i)
   pub priorities : (e : ℕ) → e < events p → getD d (4224 + e) 0 ≡ getD (p .priorities) e 0
+  pub viewers : (i : ℕ) → i < size p → getD d (4256 + i) 0 ≡ getD (p .viewers) i 0
+  pub senders : (e : ℕ) → e < events p → getD d (4320 + e) 0 ≡ getD (p .senders) e 0
 
 -- the draft d of ev events, bs behaviours and n nodes is that of some program within the limits
 pub record DraftOf (ev bs n : ℕ) (d : List ℕ) : Type 0 where
@@ -90,6 +97,6 @@ unfilled n = 12884901888 + n
 pub record SheetDraft (ev bs n : ℕ) (d : List ℕ) : Type 0 where
   pub sheet : Sheet
   pub fits : SheetFits sheet
-  pub events-are : ev ≡ length (sheet .priorities)
-  pub size-is : bs ≡ length (sheet .items)
+  pub events-are : ev ≡ length (sheet .signals)
+  pub size-is : bs ≡ length (sheet .entries)
   pub drafted : Drafted (fill unfilled sheet) d n

@@ -7,7 +7,7 @@ use lib.ListN.{length, take, drop, length-append}
 use Rattle.language.specs.Syntax.{Expr, con, name, app1, app2, app3, Program}
 use Rattle.language.specs.Dependence.{Response, follows, takes, defers, keeps, size, response}
 use Rattle.language.specs.Code.{sizeOf}
-use Rattle.draft.specs.Draft.{nodes, entry, entryOf, Stands, Says, Drafted, DraftOf}
+use Rattle.draft.specs.Draft.{draftLength, nodes, entry, entryOf, Stands, Says, Drafted, DraftOf}
 use Rattle.draft.specs.Entry.{kindOf, startOf, countOf}
 
 -- ---- entries
@@ -93,7 +93,7 @@ length-nodes (app3 f a b c) = simp (length-append, length-nodes a, length-nodes 
 -- ---- plain bounds
 
 module _ {ev bs n : ℕ} {d : List ℕ} (dr : DraftOf ev bs n d) where
-  pub draft-long : length d ≡ 4256
+  pub draft-long : length d ≡ draftLength
   draft-long = dr .drafted .long
 
   pub draft-events : ev ≤ 32

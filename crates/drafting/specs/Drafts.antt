@@ -7,7 +7,7 @@ use Rattle.base.specs.Basics.{All}
 use Rattle.language.specs.Sheet.{Sheet}
 use Rattle.language.specs.Reading.{Got, bad, got, readSheet}
 use Rattle.grammar.specs.Programs.{reads-only}
-use Rattle.draft.specs.Draft.{SheetDraft}
+use Rattle.draft.specs.Draft.{draftLength, SheetDraft}
 use Rattle.reader.specs.declared.Draft.{Draft}
 use Rattle.reader.specs.declared.Draft.the-variants.{Ready, Broken}
 use Rattle.reader.specs.Whole.{Finish, finished, readOn}
@@ -20,11 +20,11 @@ Outcome s (Ready ev bs n) d = (of : SheetDraft ev bs n d) × (readSheet s ≡ go
 
 -- the draft before reading
 abbrev pub empty : List ℕ
-empty = replicate 4256 0
+empty = replicate draftLength 0
 
 module _ (s : List ℕ) (bytes : All (λ b. b < 256) s) (most : length s ≤ 8192) where
   same : SameProgram (readSheet s) (readOn s empty)
-  same = same-program s most empty (length-replicate {A = ℕ} 4256 0) (λ j h. getD-replicate {A = ℕ} 4256 j 0 0 h)
+  same = same-program s most empty (length-replicate {A = ℕ} draftLength 0) (λ j h. getD-replicate {A = ℕ} draftLength j 0 0 h)
 
   outcome : (g : Got Sheet) (o : Finish) → readSheet s ≡ g → SameProgram g o → Outcome s (o .0) (o .1)
   outcome (bad k) o q h = rw h q

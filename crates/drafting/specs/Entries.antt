@@ -20,7 +20,7 @@ use Rattle.language.specs.Reading.{Got, bad, got, whole, then, exprAt, exprIn, 
 use Rattle.language.specs.Laws.{handled-here, handled-there}
 use Rattle.field.specs.Expression.{Out, out, onward, exprOf}
 use Rattle.field.specs.declared.Read.the-variants.{Done, Fault}
-use Rattle.draft.specs.Draft.{nodes, entry, unfilled}
+use Rattle.draft.specs.Draft.{draftLength, nodes, entry, unfilled}
 use Rattle.draft.specs.DraftLaws.{length-nodes, size-positive}
 use Rattle.behaviours.specs.Handler.{entryAt, slot}
 use Rattle.drafting.specs.Fields.{span, whole-at}
@@ -81,11 +81,11 @@ says-kept d d′ n n′ v keeps h e s = s
 
 -- ---- the nodes of x written after n others, and an entry
 
-module _ (d : List ℕ) (n : ℕ) (x : Expr) (p v : ℕ) (long : length d ≡ 4256) (room : n + sizeOf x ≤ 2048) (lo : 2048 ≤ p) (hi : p < 4256) where
+module _ (d : List ℕ) (n : ℕ) (x : Expr) (p v : ℕ) (long : length d ≡ draftLength) (room : n + sizeOf x ≤ 2048) (lo : 2048 ≤ p) (hi : p < draftLength) where
   abbrev pub written : List ℕ
   written = set (sets d n (nodes x)) p v
 
-  pub written-long : length written ≡ 4256
+  pub written-long : length written ≡ draftLength
   written-long = length-set (sets d n (nodes x)) p v ∙ length-sets d n (nodes x) ∙ long
 
   pub written-take : take n written ≡ take n d
@@ -110,12 +110,12 @@ module _ (d : List ℕ) (n : ℕ) (x : Expr) (p v : ℕ) (long : length d ≡ 42
 abbrev pub Frame : ℕ → ℕ → List ℕ → List ℕ → Type 0
 Frame i n d d′ =
     (take n d′ ≡ take n d)
-    × ((j : ℕ) → 2048 ≤ j → ((e : ℕ) → e < 32 → j ≢ slot i e) → j ≢ 4096 + i → j ≢ 4160 + i → getD d′ j 0 ≡ getD d j 0)
+    × ((j : ℕ) → 2048 ≤ j → ((e : ℕ) → e < 32 → j ≢ slot i e) → j ≢ 4096 + i → j ≢ 4160 + i → j ≢ 4256 + i → getD d′ j 0 ≡ getD d j 0)
 
 pub frame-on : (i n m : ℕ) (d d′ d″ : List ℕ) → n ≤ m → Frame i n d d′ → Frame i m d′ d″ → Frame i n d d″
 frame-on i n m d d′ d″ h f g = (
   take-less n m d′ d″ h (g .0) ∙ f .0,
-  λ j a b c e. g .1 j a b c e ∙ f .1 j a b c e,
+  λ j a b c e x. g .1 j a b c e x ∙ f .1 j a b c e x,
 )
 
 -- ---- handlers by their events

@@ -12,7 +12,7 @@ use Rattle.base.specs.Basics.{pick}
 use Rattle.base.specs.Tools.{split, by-two}
 use Rattle.language.specs.Refusals.{wrongLength}
 use Rattle.language.specs.Reading as tree
-use Rattle.language.specs.Reading.{refused, present, fieldAt, Got, bad, got, whole}
+use Rattle.language.specs.Reading.{refused, present, fieldAt, Got, bad, got, whole, ends}
 use Rattle.grammar.specs.Fields.{field-by-position}
 use Rattle.field.specs.Field.{stated, fieldOf}
 use Rattle.field.specs.Expression.{rest}
@@ -74,3 +74,13 @@ end-test at v h =
     split (eqb at (length v))
     (λ e. eq-eqb (length (drop at v)) 0 (omega (arith, eqb-true at (length v) e, length-drop at v)) ∙ sym e)
     (λ e. ne-eqb (length (drop at v)) 0 (λ q. eqb-false at (length v) e (omega (arith, length-drop at v))) ∙ sym e)
+
+-- and for the end of a behaviour's own part, which is there or at a tag 08 (02, M-107)
+pub ends-test : {A B : Type 0} (P : A → B → Type 0) (at : ℕ) (v : List ℕ) (a b : A) (a′ b′ : B) → at ≤ length v → P a a′ → ((at ≡ length v → ⊥) → P b b′)
+    → P (pick (ends (drop at v)) a b) (pick (eqb at (length v)) a′ (pick (eqb (getD v at 0) 8) a′ b′))
+ends-test P at v a b a′ b′ h f g =
+    split (eqb at (length v))
+    (λ e. let q : at ≡ length v = eqb-true at (length v) e in rw (e, drop-of-length-le v {i = at} (omega arith)) f)
+    (λ e.
+    let q : at < length v = omega (arith, eqb-false at (length v) e) in
+    rw (e, drop-cons v at 0 q) (by-two P (eqb (getD v at 0) 8) (λ c. f) (λ c. g (eqb-false at (length v) e))))

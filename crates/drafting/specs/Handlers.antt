@@ -9,7 +9,7 @@ use native.Mathlib.Omega.{arith}
 use lib.ListN.{length, getD, take, drop, set, length-drop}
 use lib.Seq.{drop-drop, sets}
 use lib.Dec.{ltb, leb, eqb, eqb·suc-zero}
-use borrow.Author.Tests.{lt-ltb, leb-false, ltb-false, eqb-true, eqb-false, eq-eqb, ne-eqb}
+use borrow.Author.Tests.{lt-ltb, leb-false, ltb-false, eqb-true, eqb-false, ne-eqb}
 use Rattle.base.specs.Basics.{pick}
 use Rattle.base.specs.Tools.{split, by-two}
 use Rattle.language.specs.Syntax.{Phase, immediate, later}
@@ -22,9 +22,9 @@ use Rattle.field.specs.Field.{fieldOf, partOf}
 use Rattle.field.specs.Expression.{Out, out, rest, onward}
 use Rattle.field.specs.declared.Field.{Field}
 use Rattle.field.specs.declared.Read.the-variants.{Done, Fault}
-use Rattle.draft.specs.Draft.{nodes, handlerNodes, entry}
+use Rattle.draft.specs.Draft.{draftLength, nodes, handlerNodes, entry}
 use Rattle.behaviours.specs.Handler.{slot, handlerAt, handlerFrom, handlerOf, handlersOf}
-use Rattle.drafting.specs.Fields.{valueIn, span, SameField, same-field, value-length, rest-drop, end-test}
+use Rattle.drafting.specs.Fields.{valueIn, span, SameField, same-field, value-length, rest-drop, ends-test}
 use Rattle.drafting.specs.Expressions.{raw}
 use Rattle.drafting.specs.Entries.{same-entry, raws, SaysBy, says-kept, written, written-long, written-take, written-pool, written-there, written-same, written-other, Frame, frame-on, handled-other, handled-new, cell-test}
 
@@ -85,7 +85,7 @@ cell d i e = pick (ltb e 32) (getD d (slot i e) 0) 0
 
 -- the draft while handlers are read: those of hs, of behaviour i with start value w, from the draft d₀ with n₀ nodes on
 pub record Turn (i w : ℕ) (d₀ : List ℕ) (n₀ : ℕ) (hs : List Clause) (d : List ℕ) (n : ℕ) : Type 0 where
-  pub long : length d ≡ 4256
+  pub long : length d ≡ draftLength
   pub frame : Frame i n₀ d₀ d
   pub grown : n₀ ≤ n
   pub pool : take n d ≡ take n₀ d₀ ++ handlerNodes (raws hs)
@@ -130,7 +130,7 @@ module _ (i w : ℕ) (d₀ : List ℕ) (n₀ : ℕ) (low : i < 64) where
     turn = record {
       long = written-long d n (raw x) (slot i e) (entry (phaseKind φ) n (sizeOf (raw x))) (t .long) room (omega arith) (omega arith);
       frame = frame-on i n₀ n d₀ d new (t .grown) (t .frame)
-          (written-take d n (raw x) (slot i e) (entry (phaseKind φ) n (sizeOf (raw x))) (t .long) room (omega arith) (omega arith), λ j a b _ _. other j a (b e le));
+          (written-take d n (raw x) (slot i e) (entry (phaseKind φ) n (sizeOf (raw x))) (t .long) room (omega arith) (omega arith), λ j a b _ _ _. other j a (b e le));
       grown = omega (arith, t .grown);
       pool = written-pool d n (raw x) (slot i e) (entry (phaseKind φ) n (sizeOf (raw x))) (t .long) room (omega arith) (omega arith)
           ∙ rw (t .pool, nodes-snoc hs e φ x) (append-assoc (take n₀ d₀) (handlerNodes (raws hs)) (nodes (raw x)));
@@ -139,12 +139,12 @@ module _ (i w : ℕ) (d₀ : List ℕ) (n₀ : ℕ) (low : i < 64) where
       rows = row-says;
     }
 
--- ---- handlers to the end of a value
+-- ---- handlers to the end of a value, or to a tag 08
 
--- what both readers say of handlers in v to its end; `most` bounds four times the nodes
+-- what both readers say of handlers in v: the place where they end; `most` bounds four times the nodes
 abbrev pub SameHandlers : ℕ → ℕ → List ℕ → ℕ → List ℕ → ℕ → Got (List Clause) → Out → Type 0
 SameHandlers i w d₀ n₀ v most (bad k) o = o .0 ≡ Fault k
-SameHandlers i w d₀ n₀ v most (got hs r) o = (r ≡ []) × (m : ℕ) × (o .0 ≡ Done (length v + 3) m) × (m * 4 ≤ most) × Turn i w d₀ n₀ hs (o .1) m
+SameHandlers i w d₀ n₀ v most (got hs r) o = (at : ℕ) × (r ≡ drop at v) × (m : ℕ) × (o .0 ≡ Done at m) × (m * 4 ≤ most) × Turn i w d₀ n₀ hs (o .1) m
 
 module _ (events i w : ℕ) (d₀ : List ℕ) (n₀ : ℕ) (v : List ℕ) (most : ℕ) (few : events ≤ 32) (low : i < 64) (small : most ≤ 8192) where
   abbrev Both : Got (List Clause) → Out → Type 0
@@ -154,8 +154,8 @@ module _ (events i w : ℕ) (d₀ : List ℕ) (n₀ : ℕ) (v : List ℕ) (most 
   abbrev Due : ℕ → List Clause → List ℕ → ℕ → Type 0
   Due at hs d n = (at ≤ length v) × (n * 4 + (length v - at) ≤ most) × Turn i w d₀ n₀ hs d n
 
-  ended : (at : ℕ) (hs : List Clause) (d : List ℕ) (n : ℕ) → Due at hs d n → at ≡ length v → Both (got hs []) (out (Done (at + 3) n) d)
-  ended at hs d n t e = (refl, n, rw e, omega arith, t .2)
+  ended : (at : ℕ) (hs : List Clause) (d : List ℕ) (n : ℕ) → Due at hs d n → Both (got hs (drop at v)) (out (Done at n) d)
+  ended at hs d n t = (at, refl, n, refl, omega arith, t .2)
 
   turn-test : (hs : List Clause) (d : List ℕ) (n : ℕ) → Turn i w d₀ n₀ hs d n → (e : ℕ) → e < events → eqb (getD d (slot i e) 0) 0 ≡ not (handles e hs)
   turn-test hs d n t e h =
@@ -178,18 +178,12 @@ module _ (events i w : ℕ) (d₀ : List ℕ) (n₀ : ℕ) (v : List ℕ) (most 
   pub same-handlers : (k l at : ℕ) (hs : List Clause) (d : List ℕ) (n : ℕ) → Due at hs d n → length v ≤ at + k → length v ≤ at + l
       → Both (handlersAt k events hs (drop at v)) (handlersOf l v at events i d n)
   unfolding handlersAt handlersOf
-  same-handlers zero zero at hs d n t a b =
-      let e : at ≡ length v = omega arith in
-      rw (end-test at v (t .0), eq-eqb at (length v) e) (ended at hs d n t e)
-  same-handlers zero (suc l) at hs d n t a b =
-      let e : at ≡ length v = omega arith in
-      rw (end-test at v (t .0), eq-eqb at (length v) e) (ended at hs d n t e)
-  same-handlers (suc k) zero at hs d n t a b =
-      let e : at ≡ length v = omega arith in
-      rw (end-test at v (t .0), eq-eqb at (length v) e) (ended at hs d n t e)
+  same-handlers zero zero at hs d n t a b = ends-test Both at v _ _ _ _ (t .0) (ended at hs d n t) (λ q. absurd (q (omega arith)))
+  same-handlers zero (suc l) at hs d n t a b = ends-test Both at v _ _ _ _ (t .0) (ended at hs d n t) (λ q. absurd (q (omega arith)))
+  same-handlers (suc k) zero at hs d n t a b = ends-test Both at v _ _ _ _ (t .0) (ended at hs d n t) (λ q. absurd (q (omega arith)))
   same-handlers (suc k) (suc l) at hs d n t a b =
-      rw (end-test at v (t .0), rest-drop at v)
-      (by-two Both (eqb at (length v)) (λ e. ended at hs d n t (eqb-true at (length v) e))
+      rw (rest-drop at v)
+      (ends-test Both at v _ _ _ _ (t .0) (ended at hs d n t)
       (λ e. next k l at hs d n t (λ at′ hs′ d′ n′ h t′. same-handlers k l at′ hs′ d′ n′ t′ (omega arith) (omega arith))
       (handlerBody events hs (fieldAt 5 5 (drop at v))) (handlerOf (drop at v) events i d n)
       (same-handler events hs i d n (turn-test hs d n (t .2)) (drop at v))))

@@ -3,6 +3,7 @@ pub mod Stores
 pub mod Expressions
 pub mod Entries
 pub mod Handlers
+pub mod Endings
 pub mod Behaviours
 pub mod Sofar
 pub mod Programs

@@ -3,25 +3,24 @@
 use Prim.Native.Nat.{ℕ, zero, suc, _+_, _*_, _-_, _≤_, _<_}
 use mathlib.Core.Path.{_≡_, refl, sym, ap, subst, _∙_}
 use mathlib.Core.Logic.{_≢_}
+use mathlib.Core.Option.{none, some}
 use mathlib.Core.List.{List, [], _∷_, _++_}
 use native.Mathlib.Omega.{arith}
 use lib.ListN.{length, getD, drop, set, length-drop, length-append}
 use lib.Seq.{drop-drop}
 use lib.Dec.{ltb, leb, eqb}
-use borrow.Author.Tests.{leb-false, eqb-true, eqb-false, eq-eqb, ne-eqb}
-use Rattle.base.specs.Basics.{pick}
+use borrow.Author.Tests.{lt-ltb, leb-false, eqb-true, eqb-false, eq-eqb, ne-eqb}
 use Rattle.base.specs.Tools.{by-two}
-use Rattle.language.specs.Sheet.{Item, Sheet, fill}
+use Rattle.language.specs.Sheet.{Signal, Entry, Sheet, allowed, fill}
 use Rattle.language.specs.Reading as tree
-use Rattle.language.specs.Reading.{refused, present, fieldAt, Got, bad, got, then, behaviourIn, priorityIn, sheet, behaviourBody, behavioursAt, eventsBody, eventsAt, readSheet}
+use Rattle.language.specs.Reading.{refused, present, fieldAt, Got, bad, got, then, behaviourIn, signal, signalIn, sheet, behaviourBody, behavioursAt, eventsBody, eventsAt, readSheet}
 use Rattle.field.specs.Field.{fieldOf, partOf}
 use Rattle.field.specs.Expression.{Out}
 use Rattle.field.specs.declared.Field.{Field}
-use Rattle.draft.specs.Draft.{Drafted, unfilled}
-use Rattle.reader.specs.declared.Event.the-variants.{Declared, NoEvent}
+use Rattle.draft.specs.Draft.{draftLength, Drafted, unfilled}
 use Rattle.reader.specs.declared.Draft.the-variants.{Ready, Broken}
 use Rattle.behaviours.specs.Behaviour.{behaviourOf}
-use Rattle.reader.specs.Whole.{Made, made, priorityAt, eventFrom, eventOf, eventNext, eventsOf, Finish, finished, proceed, behavioursOf, readOn}
+use Rattle.reader.specs.Whole.{Made, sender, signalAt, priorityAt, eventFrom, eventOf, eventNext, eventsOf, Finish, finished, proceed, behavioursOf, readOn}
 use Rattle.drafting.specs.Fields.{span, SameField, same-field, value-length, rest-drop, end-test}
 use Rattle.drafting.specs.Behaviours.{SameBehaviour, same-behaviour, first-behaviour}
 use Rattle.drafting.specs.Sofar.{Sofar, grow, declare, nothing-yet, all-read}
@@ -29,24 +28,24 @@ use Rattle.drafting.specs.Sofar.{Sofar, grow, declare, nothing-yet, all-
 -- what both readers say of a sheet
 abbrev pub SameProgram : Got Sheet → Finish → Type 0
 SameProgram (bad k) o = o .0 ≡ Broken k
-SameProgram (got p r) o = (r ≡ []) × (n : ℕ) × (o .0 ≡ Ready (length (p .priorities)) (length (p .items)) n) × Drafted (fill unfilled p) (o .1) n
+SameProgram (got p r) o = (r ≡ []) × (n : ℕ) × (o .0 ≡ Ready (length (p .signals)) (length (p .entries)) n) × Drafted (fill unfilled p) (o .1) n
 
 -- ---- behaviours
 
-module _ (s rs : List ℕ) where
+module _ (s : List ℕ) (rs : List Signal) where
   -- behaviours from `at` on are due
-  abbrev Due : ℕ → List Item → List ℕ → ℕ → Type 0
+  abbrev Due : ℕ → List Entry → List ℕ → ℕ → Type 0
   Due at bs d n = (at ≤ length s) × (n * 4 + (length s - at) ≤ 8192) × Sofar rs bs d n
 
-  ended : (at : ℕ) (bs : List Item) (d : List ℕ) (n : ℕ) → Due at bs d n
+  ended : (at : ℕ) (bs : List Entry) (d : List ℕ) (n : ℕ) → Due at bs d n
       → SameProgram (got (sheet rs bs) []) (finished (Ready (length rs) (length bs) n) d)
   ended at bs d n t = (refl, n, refl, all-read d n (omega arith) rs bs (t .2))
 
   -- one is read
-  next : (l at : ℕ) (bs : List Item) (d : List ℕ) (n : ℕ) (F : Item → List ℕ → Got Sheet) → Due at bs d n
-      → ((at′ : ℕ) (b : Item) (d′ : List ℕ) (n′ : ℕ) → at < at′ → Due at′ (bs ++ (b ∷ [])) d′ n′
+  next : (l at : ℕ) (bs : List Entry) (d : List ℕ) (n : ℕ) (F : Entry → List ℕ → Got Sheet) → Due at bs d n
+      → ((at′ : ℕ) (b : Entry) (d′ : List ℕ) (n′ : ℕ) → at < at′ → Due at′ (bs ++ (b ∷ [])) d′ n′
       → SameProgram (F b (drop at′ s)) (behavioursOf l s at′ (length rs) (length bs + 1) d′ n′))
-      → (g : Got Item) (o : Out) → SameBehaviour (length bs) (drop at s) (span (drop at s)) d n g o
+      → (g : Got Entry) (o : Out) → SameBehaviour (length bs) (drop at s) (span (drop at s)) d n g o
       → SameProgram (then g F) (proceed (o .0) (o .1) (λ size m. behavioursOf l s (at + size) (length rs) (length bs + 1) (o .1) m))
   next l at bs d n F t ih (bad k) o e = rw e refl
   next l at bs d n F t ih (got b r) o h =
@@ -55,7 +54,7 @@ module _ (s rs : List ℕ) where
       rw (h .3, p)
       (ih (at + span (drop at s)) b (o .1) (h .2) (omega arith) (omega arith, omega arith, grow rs bs b d (o .1) n (h .2) (t .2) (h .5)))
 
-  pub same-behaviours : (k l at : ℕ) (bs : List Item) (d : List ℕ) (n : ℕ) → Due at bs d n → length s ≤ at + k → length s ≤ at + l
+  pub same-behaviours : (k l at : ℕ) (bs : List Entry) (d : List ℕ) (n : ℕ) → Due at bs d n → length s ≤ at + k → length s ≤ at + l
       → SameProgram (behavioursAt k rs bs (drop at s)) (behavioursOf l s at (length rs) (length bs) d n)
   unfolding behavioursAt behavioursOf
   same-behaviours zero zero at bs d n t a b = rw (end-test at s (t .0), eq-eqb at (length s) (omega arith)) (ended at bs d n t)
@@ -96,33 +95,41 @@ module _ (s : List ℕ) (small : length s ≤ 8192) where
   abbrev go-on : Out → Finish
   go-on o = proceed (o .0) (o .1) (λ at e. behavioursOf (length s) s at e 0 (o .1) 0)
 
-  abbrev Early : ℕ → List ℕ → List ℕ → Type 0
+  abbrev Early : ℕ → List Signal → List ℕ → Type 0
   Early at rs d = (at ≤ length s) × Sofar rs [] d 0
 
-  module _ (k l at : ℕ) (rs d : List ℕ) (t : Early at rs d) (lt : at < length s) (a : length s ≤ at + suc k)
-      (ih : (at′ : ℕ) (rs′ d′ : List ℕ) → at < at′ → Early at′ rs′ d′ → SameProgram (eventsAt k rs′ (drop at′ s)) (go-on (eventsOf l s at′ (length rs′) d′))) where
+  module _ (k l at : ℕ) (rs : List Signal) (d : List ℕ) (t : Early at rs d) (lt : at < length s) (a : length s ≤ at + suc k)
+      (ih : (at′ : ℕ) (rs′ : List Signal) (d′ : List ℕ) → at < at′ → Early at′ rs′ d′ → SameProgram (eventsAt k rs′ (drop at′ s)) (go-on (eventsOf l s at′ (length rs′) d′))) where
     abbrev After : Got Sheet → Made → Type 0
-    After g o = SameProgram g (go-on (eventNext (o .0) (o .1) at (length rs) (eventsOf l s (at + 4) (length rs + 1) (o .1))))
+    After g o = SameProgram g (go-on (eventNext (o .0) (o .1) at (length rs) (λ size. eventsOf l s (at + size) (length rs + 1) (o .1))))
 
-    declared : (r : ℕ) (u : List ℕ) → length rs < 32 → u ≡ drop 4 (drop at s) → at + 4 ≤ length s
-        → SameProgram (eventsAt k (rs ++ (r ∷ [])) u) (go-on (eventsOf l s (at + 4) (length rs + 1) (set d (4224 + length rs) r)))
-    declared r u low e h =
-        let q : u ≡ drop (at + 4) s = e ∙ drop-drop 4 at s in
+    -- the draft with event r after those of rs
+    abbrev with : Signal → List ℕ
+    with r = set (set d (4224 + length rs) (r .priority)) (sender (length rs)) (allowed (r .sender))
+
+    declared : (r : Signal) (z : ℕ) (u : List ℕ) → length rs < 32 → u ≡ drop z (drop at s) → 0 < z → at + z ≤ length s
+        → SameProgram (eventsAt k (rs ++ (r ∷ [])) u) (go-on (eventsOf l s (at + z) (length rs + 1) (with r)))
+    declared r z u low e b h =
+        let q : u ≡ drop (at + z) s = e ∙ drop-drop z at s in
         let p : length (rs ++ (r ∷ [])) ≡ length rs + 1 = length-append rs (r ∷ []) in
-        rw (q, sym p) (ih (at + 4) (rs ++ (r ∷ [])) (set d (4224 + length rs) r) (omega arith) (h, declare rs r d (t .1) low))
+        rw (q, sym p) (ih (at + z) (rs ++ (r ∷ [])) (with r) (omega arith) (h, declare rs r d (t .1) low))
 
-    priority-value : (v u : List ℕ) (z : ℕ) → length v + 3 ≡ z → u ≡ drop z (drop at s) → z ≤ length (drop at s) → length rs < 32
-        → After (then (priorityIn v u) (λ r w. eventsAt k (rs ++ (r ∷ [])) w))
-        (pick (eqb (length v) 1)
-        (pick (ltb 15 (getD v 0 0)) (made (NoEvent 8) d) (made Declared (set d (4224 + length rs) (getD v 0 0))))
-        (made (NoEvent 6) d))
-    priority-value [] u z q e h low = refl
-    priority-value (r ∷ []) u z q e h low =
+    signal-value : (v u : List ℕ) (z : ℕ) → length v + 3 ≡ z → u ≡ drop z (drop at s) → z ≤ length (drop at s) → length rs < 32
+        → After (then (signalIn v u) (λ r w. eventsAt k (rs ++ (r ∷ [])) w)) (signalAt v (length rs) d)
+    unfolding signalAt
+    signal-value [] u z q e h low = refl
+    signal-value (r ∷ []) u z q e h low =
         let p : z ≡ 4 = omega arith in
         let c : length (drop at s) ≡ length s - at = length-drop at s in
-        by-two (λ (g : Got ℕ) (o : Made). After (then g (λ r w. eventsAt k (rs ++ (r ∷ [])) w)) o) (ltb 15 r) (λ b. refl)
-        (λ b. declared r u low (e ∙ rw p) (omega arith))
-    priority-value (r ∷ (x ∷ v)) u z q e h low = rw (ne-eqb (length (r ∷ (x ∷ v))) 1 (omega arith)) refl
+        by-two (λ (g : Got Signal) (o : Made). After (then g (λ r w. eventsAt k (rs ++ (r ∷ [])) w)) o) (ltb 15 r) (λ b. refl)
+        (λ b. declared (signal r none) 4 u low (e ∙ rw p) (omega arith) (omega arith))
+    signal-value (r ∷ (m ∷ [])) u z q e h low =
+        let p : z ≡ 5 = omega arith in
+        let c : length (drop at s) ≡ length s - at = length-drop at s in
+        by-two (λ (g : Got Signal) (o : Made). After (then g (λ r w. eventsAt k (rs ++ (r ∷ [])) w)) o) (ltb 15 r) (λ b. refl)
+        (λ b. declared (signal r (some m)) 5 u low (e ∙ rw p) (omega arith) (omega arith))
+    signal-value (r ∷ (m ∷ (x ∷ v))) u z q e h low =
+        rw (ne-eqb (length (r ∷ (m ∷ (x ∷ v)))) 0 (omega arith), lt-ltb 2 (length (r ∷ (m ∷ (x ∷ v)))) (omega arith)) refl
 
     event-field : (x : tree.Field) (f : Field) → SameField 1 3 (drop at s) x f
         → After (eventsBody (eventsAt k) (behavioursAt k rs) rs x) (eventFrom f (partOf (drop at s) f) (length rs) d)
@@ -133,14 +140,14 @@ module _ (s : List ℕ) (small : length s ≤ 8192) where
         (subst (λ (u : List ℕ). After (eventsBody (eventsAt k) (behavioursAt k rs) rs (present y v r)) (priorityAt y u (length rs) d)) (h .1)
         (by-two After (eqb y 1)
         (λ e. by-two After (leb 32 (length rs)) (λ c. refl)
-        (λ c. priority-value v r (span (drop at s)) (ap (λ (u : List ℕ). length u + 3) (h .1) ∙ value-length (drop at s) (h .3)) (h .2) (h .3) (leb-false 32 (length rs) c)))
+        (λ c. signal-value v r (span (drop at s)) (ap (λ (u : List ℕ). length u + 3) (h .1) ∙ value-length (drop at s) (h .3)) (h .2) (h .3) (leb-false 32 (length rs) c)))
         (λ e. others s rs k (length s) at d (t .1) lt small a (omega arith) y v r f h (eqb-false y 1 e))))
 
     event-here : After (eventsBody (eventsAt k) (behavioursAt k rs) rs (fieldAt 1 3 (drop at s))) (eventOf (drop at s) (length rs) d)
     unfolding eventOf
     event-here = event-field (fieldAt 1 3 (drop at s)) (fieldOf (drop at s) 1 3) (same-field 1 3 (drop at s))
 
-  same-events : (k l at : ℕ) (rs d : List ℕ) → Early at rs d → length s ≤ at + k → length s ≤ at + l
+  same-events : (k l at : ℕ) (rs : List Signal) (d : List ℕ) → Early at rs d → length s ≤ at + k → length s ≤ at + l
       → SameProgram (eventsAt k rs (drop at s)) (go-on (eventsOf l s at (length rs) d))
   unfolding eventsAt eventsOf
   same-events zero zero at rs d t a b =
@@ -161,6 +168,6 @@ module _ (s : List ℕ) (small : length s ≤ 8192) where
 
   -- ---- the whole
 
-  pub same-program : (d : List ℕ) → length d ≡ 4256 → ((j : ℕ) → j < 4256 → getD d j 0 ≡ 0) → SameProgram (readSheet s) (readOn s d)
+  pub same-program : (d : List ℕ) → length d ≡ draftLength → ((j : ℕ) → j < draftLength → getD d j 0 ≡ 0) → SameProgram (readSheet s) (readOn s d)
   unfolding readSheet readOn
   same-program d long zeros = same-events (length s) (length s) 0 [] d (omega arith, nothing-yet d long zeros) (omega arith) (omega arith)

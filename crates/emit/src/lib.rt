@@ -5,6 +5,7 @@ ghost use mathlib.Core.List.{[], _∷_};
 ghost use Prim.Native.Nat.{_+_, _<_, _≤_};
 ghost use lib.ListN.{length};
 ghost use Rattle.counts.specs.Counts.{Sound};
+ghost use Rattle.draft.specs.Draft.{draftLength};
 ghost use Rattle.emit.specs.Words.{nameWords, nodeWords, exprWords, turnWords, kindWords, moveWords, memberWords};
 ghost use Rattle.emit.specs.Writing.{Room, Wrote};
 use draft::entry_of;
@@ -22,7 +23,7 @@ pub fn emit_instr(t: &mut [u8], k: usize, operation: u32, constant: u32) -> usiz
 
 // A name: fetched from scratch if the event copies it, else loaded from the store.
 fn emit_name(d: &[u64], e: usize, j: usize, t: &mut [u8], k: usize) -> usize
-    requires { ⌜ (length (now d) ≡ 4256) × (j < 64) ⌝ }
+    requires { ⌜ (length (now d) ≡ draftLength) × (j < 64) ⌝ }
     requires { ⌜ Room (now t) k (nameWords (now d) e j) ⌝ }
     ensures { λ r. ⌜ Wrote (now (t .entry)) k (nameWords (now (d .entry)) e j) (now (t .exit)) r ⌝ }
 {
@@ -34,7 +35,7 @@ fn emit_name(d: &[u64], e: usize, j: usize, t: &mut [u8], k: usize) -> usize
 
 // A node.
 fn emit_node(d: &[u64], e: usize, x: u64, t: &mut [u8], k: usize) -> usize
-    requires { ⌜ length (now d) ≡ 4256 ⌝ }
+    requires { ⌜ length (now d) ≡ draftLength ⌝ }
     requires { ⌜ Room (now t) k (nodeWords (now d) e x) ⌝ }
     ensures { λ r. ⌜ Wrote (now (t .entry)) k (nodeWords (now (d .entry)) e x) (now (t .exit)) r ⌝ }
 {
@@ -49,7 +50,7 @@ fn emit_node(d: &[u64], e: usize, x: u64, t: &mut [u8], k: usize) -> usize
 
 // An expression of count nodes from start on.
 fn emit_expr(d: &[u64], e: usize, start: usize, count: usize, t: &mut [u8], k: usize) -> usize
-    requires { ⌜ (length (now d) ≡ 4256) × (start + count ≤ 2048) ⌝ }
+    requires { ⌜ (length (now d) ≡ draftLength) × (start + count ≤ 2048) ⌝ }
     requires { ⌜ Room (now t) k (exprWords (now d) e start count) ⌝ }
     ensures { λ r. ⌜ Wrote (now (t .entry)) k (exprWords (now (d .entry)) e start count) (now (t .exit)) r ⌝ }
 {
@@ -87,7 +88,7 @@ pub fn emit_kind(d: &[u64], e: usize, kind: u64, op: u32, i: usize, t: &mut [u8]
 
 // The move of a later handler's value.
 pub fn emit_move(d: &[u64], e: usize, i: usize, t: &mut [u8], k: usize) -> usize
-    requires { ⌜ (length (now d) ≡ 4256) × (i < 64) ⌝ }
+    requires { ⌜ (length (now d) ≡ draftLength) × (i < 64) ⌝ }
     requires { ⌜ Room (now t) k (moveWords (now d) e i) ⌝ }
     ensures { λ r. ⌜ Wrote (now (t .entry)) k (moveWords (now (d .entry)) e i) (now (t .exit)) r ⌝ }
 {
@@ -99,7 +100,7 @@ pub fn emit_move(d: &[u64], e: usize, i: usize, t: &mut [u8], k: usize) -> usize
 
 // op i, if the event copies i.
 pub fn emit_member(d: &[u64], e: usize, op: u32, i: usize, t: &mut [u8], k: usize) -> usize
-    requires { ⌜ (length (now d) ≡ 4256) × (i < 64) × (op ≤ 1024) ⌝ }
+    requires { ⌜ (length (now d) ≡ draftLength) × (i < 64) × (op ≤ 1024) ⌝ }
     requires { ⌜ Room (now t) k (memberWords (now d) e op i) ⌝ }
     ensures { λ r. ⌜ Wrote (now (t .entry)) k (memberWords (now (d .entry)) e op i) (now (t .exit)) r ⌝ }
 {

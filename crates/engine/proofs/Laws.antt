@@ -15,17 +15,17 @@ use Rattle.machine.specs.Machine.{stepOn}
 use Rattle.refinement.specs.Refinement.{callOn, answersOn, roundAfter}
 use Rattle.engine.specs.Replay.{callOf, callsFrom, putAnswer, putAnswers}
 
-pub call-arrive : (t l : List ℕ) (kind n : ℕ) → kind ≡ 0 → arriveOn t l n ≡ callOn t (callOf kind n) l
+pub call-arrive : (t l : List ℕ) (kind n who : ℕ) → kind ≡ 0 → arriveOn t l n who ≡ callOn t (callOf kind n who) l
 unfolding callOn callOf
-call-arrive t l kind n e = rw (eq-eqb kind 0 e)
+call-arrive t l kind n who e = rw (eq-eqb kind 0 e)
 
-pub call-step : (t l : List ℕ) (kind n : ℕ) → kind ≢ 0 → kind ≡ 1 → stepOn t l ≡ callOn t (callOf kind n) l
+pub call-step : (t l : List ℕ) (kind n who : ℕ) → kind ≢ 0 → kind ≡ 1 → stepOn t l ≡ callOn t (callOf kind n who) l
 unfolding callOn callOf
-call-step t l kind n d e = rw (ne-eqb kind 0 d, eq-eqb kind 1 e)
+call-step t l kind n who d e = rw (ne-eqb kind 0 d, eq-eqb kind 1 e)
 
-pub call-board : (t l : List ℕ) (kind n r : ℕ) → kind ≢ 0 → kind ≢ 1 → r ≡ boardOn t l n → result r l ≡ callOn t (callOf kind n) l
+pub call-board : (t l : List ℕ) (kind n who r : ℕ) → kind ≢ 0 → kind ≢ 1 → r ≡ boardOn t l n who → result r l ≡ callOn t (callOf kind n who) l
 unfolding callOn callOf
-call-board t l kind n r d f e = rw (ne-eqb kind 0 d, ne-eqb kind 1 f) (ap (λ (x : ℕ). result x l) e)
+call-board t l kind n who r d f e = rw (ne-eqb kind 0 d, ne-eqb kind 1 f) (ap (λ (x : ℕ). result x l) e)
 
 -- n calls are made, i of them so far, with the round l and the answers a
 pub record Turn (t l₀ calls a₀ : List ℕ) (n : ℕ) (l a : List ℕ) (i : ℕ) : Type 0 where
@@ -41,7 +41,7 @@ begin t l calls a n =
     record { rounds = rw z; answers = rw z; within = omega arith; as-long = refl; round-long = refl }
 
 module _ {t l₀ calls a₀ : List ℕ} {n : ℕ} {l a : List ℕ} {i : ℕ} (k : Turn t l₀ calls a₀ n l a i) where
-  pub turn : {r : ℕ} {l′ a′ : List ℕ} → i < n → result r l′ ≡ callOn t (callOf (getD calls (i * 5) 0) (getAt calls (i * 5 + 1))) l → a′ ≡ putAnswer a i r
+  pub turn : {r : ℕ} {l′ a′ : List ℕ} → i < n → result r l′ ≡ callOn t (callOf (getD calls (i * 6) 0) (getAt calls (i * 6 + 1)) (getD calls (i * 6 + 5) 0)) l → a′ ≡ putAnswer a i r
       → length a′ ≡ length a → length l′ ≡ length l → Turn t l₀ calls a₀ n l′ a′ (i + 1)
   unfolding callsFrom roundAfter answersOn putAnswers
   turn {r} {l′} {a′} h e f w x =

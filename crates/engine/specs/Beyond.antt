@@ -14,9 +14,10 @@ use borrow.Author.Tests.{ltb-false, leb-false, le-leb}
 use Rattle.base.specs.Basics.{All}
 use Rattle.base.specs.Tools.{by-test}
 use Rattle.word.specs.Laws.{long}
+use Rattle.language.specs.Rights.{may}
 use Rattle.semantics.specs.Lengths.{length-fresh}
 use Rattle.model.specs.Model.{Call, arrive, step, board}
-use Rattle.layout.specs.Layout.{eventCount, eventWord, taken, waitingCount, runningFlag, runningEvent, runningNumber, position, depth, numberAt, eventAt, tableFits, ours}
+use Rattle.layout.specs.Layout.{eventCount, eventWord, sendersAt, taken, waitingCount, runningFlag, runningWord, runningEvent, runningNumber, position, depth, numberAt, wordAt, eventAt, tableFits, ours}
 use Rattle.layout.specs.BoundsLaws.{bounds}
 use Rattle.image.specs.Image.{tableOf}
 use Rattle.image.specs.ImageLaws.{length-table, beyond-table}
@@ -26,7 +27,7 @@ use Rattle.stack.specs.Stack.{pushOn, popTo, noted, applyOne, applyTwo, applyTh
 use Rattle.allowed.specs.Allowed.{allowed}
 use Rattle.allowed.specs.AllowedLaws.{slot-small}
 use Rattle.instruction.specs.Instruction.{transfer, perform}
-use Rattle.arrivals.specs.Arrivals.{full, arriveWith, arriveIn, arriveOn}
+use Rattle.arrivals.specs.Arrivals.{full, arriveWith, arriveKnown, arriveIn, arriveOn}
 use Rattle.board.specs.Board.{masked}
 use Rattle.dispatch.specs.Dispatch.{startAt, preemptAt}
 use Rattle.advance.specs.Advance.{countOn, executeOn, executeAt, advance}
@@ -72,14 +73,17 @@ unfolding full
 full-room n f =
     by-test (λ b. b ≡ false → n < 64) (eqb f 0) (λ _ h. leb-false 64 n h) (λ _ h. let k : n < 63 = leb-false 63 n h in omega arith)
 
-arrive-keeps : (t l : List ℕ) (e : ℕ) → Keeps l (arriveOn t l e)
-unfolding arriveOn arriveIn arriveWith
-arrive-keeps t l e =
+arrive-keeps : (t l : List ℕ) (e who : ℕ) → Keeps l (arriveOn t l e who)
+unfolding arriveOn arriveIn arriveKnown arriveWith
+arrive-keeps t l e who =
     by-test (Keeps l) (ours t l)
+    (λ _. by-test (Keeps l) (leb 8 who) (λ _. kept-all l)
     (λ _. by-test (Keeps l) (leb (eventCount t) e) (λ _. kept-all l)
+    (λ _. by-test (Keeps l) (may (sendersAt t e) who)
     (λ _. by-test (Keeps l) (full (waitingCount l) (runningFlag l)) (λ _. kept-all l)
     (λ h. by-test (Keeps l) (leb 1000000 (taken l)) (λ _. kept-all l)
-    (λ _. admit-kept 0 (omega arith) l e (waitingCount l) (taken l) (full-room (waitingCount l) (runningFlag l) h)))))
+    (λ _. admit-kept 0 (omega arith) l e who (waitingCount l) (taken l) (full-room (waitingCount l) (runningFlag l) h))))
+    (λ _. kept-all l))))
     (λ _. kept-all l)
 
 -- ---- one instruction
@@ -136,7 +140,7 @@ execute-keeps l a w c e n len b =
 
 advance-keeps : (t l : List ℕ) → depth l ≤ 64 → Keeps l (advance t l)
 unfolding advance executeAt
-advance-keeps t l b = execute-keeps l _ _ (position l) (runningEvent l) (runningNumber l) (eventWord t (runningEvent l) 2) b
+advance-keeps t l b = execute-keeps l _ _ (position l) (runningWord l) (runningNumber l) (eventWord t (runningEvent l) 2) b
 
 -- ---- steps
 
@@ -149,11 +153,11 @@ best-low t l (suc n) =
 
 start-at-keeps : (l : List ℕ) (b m : ℕ) → b < 64 → Keeps l (startAt l b m)
 unfolding startAt
-start-at-keeps l b m h = kept-run _ (numberAt l b) (eventAt l b) (kept-put _ 1 m (omega arith) (kept-slot l b (numberAt l m) (eventAt l m) h (kept-all l)))
+start-at-keeps l b m h = kept-run _ (numberAt l b) (wordAt l b) (kept-put _ 1 m (omega arith) (kept-slot l b (numberAt l m) (wordAt l m) h (kept-all l)))
 
 preempt-keeps : (l : List ℕ) (b : ℕ) → b < 64 → Keeps l (preemptAt l b)
 unfolding preemptAt
-preempt-keeps l b h = kept-run _ (numberAt l b) (eventAt l b) (kept-slot l b (runningNumber l) (runningEvent l) h (kept-all l))
+preempt-keeps l b h = kept-run _ (numberAt l b) (wordAt l b) (kept-slot l b (runningNumber l) (runningWord l) h (kept-all l))
 
 contest-keeps : (t l : List ℕ) (b : ℕ) → depth l ≤ 64 → b < 64 → Keeps l (contest t l b)
 unfolding contest meet
@@ -180,17 +184,17 @@ step-keeps t l =
 pub start-beyond : (t l : List ℕ) → Untouched 2048 l (startOn t l .1)
 start-beyond t l = within l (startOn t l .1) (start-keeps t l)
 
-pub arrive-beyond : (t l : List ℕ) (e : ℕ) → Untouched 2048 l (arriveOn t l e .1)
-arrive-beyond t l e = within l (arriveOn t l e .1) (arrive-keeps t l e)
+pub arrive-beyond : (t l : List ℕ) (e who : ℕ) → Untouched 2048 l (arriveOn t l e who .1)
+arrive-beyond t l e who = within l (arriveOn t l e who .1) (arrive-keeps t l e who)
 
 pub step-beyond : (t l : List ℕ) → Untouched 2048 l (stepOn t l .1)
 step-beyond t l = within l (stepOn t l .1) (step-keeps t l)
 
 call-keeps : (t : List ℕ) (c : Call) (l : List ℕ) → Keeps l (callOn t c l)
 unfolding callOn
-call-keeps t (arrive e) l = arrive-keeps t l e
+call-keeps t (arrive e who) l = arrive-keeps t l e who
 call-keeps t step l = step-keeps t l
-call-keeps t (board i) l = kept-all l
+call-keeps t (board i who) l = kept-all l
 
 calls-keep : (t : List ℕ) (cs : List Call) (l : List ℕ) → Kept l (roundAfter t cs l)
 unfolding roundAfter
@@ -212,6 +216,8 @@ compile-beyond s ps t bytes words =
     let ok = program-accepted ps words (k .0) (k .2) in
     let few = ok .fits .few-events in
     let small = ok .fits .few-behaviours in
+    let seen : length (p .viewers) ≤ 64 = omega (arith, ok .fits .all-viewers) in
+    let sent : length (p .senders) ≤ 248 = omega (arith, ok .fits .all-senders) in
     subst (λ (m : List ℕ). Untouched 34816 t m) (sym (ap (λ (o : Compiled). o .1) (k .3)))
-    (untouched 34816 t (tableOf p t) (length-table p few small (length-fresh p) (short-code p ok) t room) (beyond-table p few small (length-fresh p) (short-code p ok) t room)))
+    (untouched 34816 t (tableOf p t) (length-table p few small (length-fresh p) (short-code p ok) seen sent t room) (beyond-table p few small (length-fresh p) (short-code p ok) seen sent t room)))
     (λ h. subst (λ (m : List ℕ). Untouched 34816 t m) (sym (refused-unchanged s ps t h)) (refl, refl))

@@ -1,4 +1,4 @@
--- Demands 2 and 3, and M-100, M-101, M-104 and M-113 of document 02, as claims about the exported functions: `compileOn`, `startOn`, `arriveOn`, `stepOn`, `boardOn`, `forecastOn`
+-- Demands 2 and 3, and M-100, M-101, M-104, M-107 and M-113 of document 02, as claims about the exported functions: `compileOn`, `startOn`, `arriveOn`, `stepOn`, `boardOn`, `forecastOn`
 -- and `previewOn` are what their contracts cite.
 -- The model engine, and the sentences of demand 3 in its terms: crate model, Model.antt and Claims.antt. Calls on bytes, and what the round's bytes say: crate
 -- refinement, Refinement.antt.
@@ -20,19 +20,16 @@ use Rattle.semantics.specs.Rules.{Shows}
 use Rattle.semantics.specs.Meaning.{at, fresh, withStore}
 use Rattle.semantics.specs.Plays.{Plays}
 use Rattle.semantics.specs.Over.{EventOver}
-use Rattle.model.specs.Model.{Arrival, arrival, Call, step, committed, rank}
-use Rattle.model.specs.Claims.{after, said, committedIn, takenInBy, settlingIn, number, Idle, OnceEach, EqualsInOrder, LowerFirst, SettlesIn, NobodyWaits, aloneCalls, QuietExactly, forecast, previewed, PreviewRight}
+use Rattle.language.specs.Rights.{maySend}
+use Rattle.model.specs.Model.{Arrival, arrival, Call, step, committed, unmarked, rank, act}
+use Rattle.model.specs.Claims.{after, said, committedIn, takenInBy, eventsOf, settlingIn, number, Idle, OnceEach, EqualsInOrder, LowerFirst, SettlesIn, NobodyWaits, aloneCalls, QuietExactly, forecast, previewed, PreviewRight}
 use Rattle.image.specs.Image.{operation, constant, startOf, tableOf}
 use Rattle.round.specs.Start.{startOn}
 use Rattle.machine.specs.Machine.{stepOn}
 use Rattle.forecast.specs.Forecast.{forecastOn}
 use Rattle.preview.specs.Preview.{previewOn}
-use Rattle.refinement.specs.Refinement.{coded, decoded, callOn, answersOn, roundAfter, View, Kept}
+use Rattle.refinement.specs.Refinement.{coded, decoded, toldOn, callOn, answersOn, roundAfter, View, Kept}
 use Rattle.compiler.specs.Verdict.{programOf, compileOn}
-
--- the events of arrivals
-abbrev pub eventsOf : List Arrival → List ℕ
-eventsOf l = map (λ (a : Arrival). a .event) l
 
 -- the board of a round: the values of p's behaviours, as read from its bytes
 abbrev pub boardOf : Program → List ℕ → List ℕ
@@ -91,23 +88,27 @@ pub record OneList (p : Program) (t l₀ l : List ℕ) (cs : List Call) : Type 0
   -- document 02, M-113: "If during the next (k + 1) × (L + 1) steps nothing of higher rank arrives .., that arrival is committed by the end of them."
   pub nobody-waits : NobodyWaits p cs
   -- demand 2: "An event run alone leaves on the board, for every behaviour, the value that the paper's big-step rules give": from an idle round, an event that is
-  -- taken in and stepped to its commit
-  pub one-event : IdleNow t (roundAfter t cs l) → (e : ℕ) → e < events p → number (after p cs) < 1000000
-      → (committedIn p (cs ++ aloneCalls p e) ≡ committedIn p cs ++ (arrival (number (after p cs)) e ∷ []))
-      × Plays p (e ∷ []) (boardOf p (roundAfter t cs l)) (boardOf p (roundAfter t (cs ++ aloneCalls p e) l))
+  -- taken in, from whoever may send it, and stepped to its commit
+  pub one-event : IdleNow t (roundAfter t cs l) → (e who : ℕ) → e < events p → who < 8 → maySend p who e ≡ true → number (after p cs) < 1000000
+      → (committedIn p (cs ++ aloneCalls p e who) ≡ committedIn p cs ++ (arrival (number (after p cs)) e who ∷ []))
+      × Plays p (e ∷ []) (boardOf p (roundAfter t cs l)) (boardOf p (roundAfter t (cs ++ aloneCalls p e who) l))
   -- 02, M-100: "From a round in one of demand 3's lists, with nothing running and no further arrivals, idle shall come after exactly the sum, over the hand, of each
   -- event's instruction count plus one, where 01 only bounds it."
   pub quiet : QuietExactly p cs
   -- ".. The same number is offered as a call of its own on a round .. While something runs, that call gives 01's bound.": 2 ^ 32 and the number
   pub forecast : forecastOn t (roundAfter t cs l) ≡ 4294967296 + forecast p (after p cs)
   -- 02, M-101: "A preview takes a round, an event and a behaviour, and tells the value that the board would show after this arrival and everything in hand had been run
-  -- to idle. It equals doing so on a copy .. It is turned down as the arrival would be, then by 18": of such a round a step never is, and 01's count is enough
-  pub preview : (e i : ℕ) → previewOn t (roundAfter t cs l) e i ≡ coded (previewed p (after p cs) e i)
+  -- to idle. It equals doing so on a copy .. It is turned down as the arrival would be, then by 18": of such a round a step never is, and 01's count is enough. M-107: "Each
+  -- arrival, board reading and preview now carries its player .. A preview needs both rights"
+  pub preview : (e i who : ℕ) → previewOn t (roundAfter t cs l) e i who ≡ coded (previewed p (after p cs) e i who)
   -- and whichever way the round itself is then run to idle, its board shows that value
   pub previews : PreviewRight p cs
   -- 02, M-104: "the committing step's answer carries a mark: set exactly if some application in that event's meaning did so. .. What a broken-in handler found is dropped": of
   -- the step called next, as its number is read
   pub mark : (a : Arrival) (m : Bool) → decoded step (stepOn t (roundAfter t cs l) .0) ≡ committed a m → CommitMark p cs a m
+  -- 02, M-107: "only the host is told M-104's mark: a step carries no player and returns the host's answer, and a further call turns that into the others', without the
+  -- mark": of the step called next
+  pub told : toldOn (stepOn t (roundAfter t cs l) .0) ≡ coded (unmarked (act p step (after p cs) .answer))
 
 -- ---- the code of event e in the table t of program p, word by word (layout: crate layout)
 
@@ -144,7 +145,7 @@ EverySheet =
     (s ps t₀ l₀ : List ℕ) → All (λ b. b < 256) s → All (λ b. b < 256) ps → 2048 ≤ length l₀ → compileOn s ps t₀ .0 ≡ 0 → EveryList s ps t₀ l₀
 
 -- ---- demand 3, two lists: "for every two such lists on one sheet, taking in the same events in the same order, those of unequal rank being independent: when
--- both are idle, their boards are equal", with the same parameters
+-- both are idle, their boards are equal", with the same parameters, whoever sent the events
 
 abbrev pub TwoLists : Type 0
 TwoLists =
@@ -152,7 +153,7 @@ TwoLists =
     → compileOn s ps t₀ .0 ≡ 0 → compileOn s ps t₁ .0 ≡ 0
     → (x : Sheet) → encode x ≡ s → SheetAccepted (get ps) (length ps) x
     → (cs ds : List Call)
-    → takenInBy (programOf ps x) cs ≡ takenInBy (programOf ps x) ds
+    → eventsOf (takenInBy (programOf ps x) cs) ≡ eventsOf (takenInBy (programOf ps x) ds)
     → All (λ a. All (λ b. rank (programOf ps x) a ≢ rank (programOf ps x) b → Independent (programOf ps x) (a .event) (b .event)) (takenInBy (programOf ps x) cs))
     (takenInBy (programOf ps x) cs)
     → IdleNow (compileOn s ps t₀ .1) (roundAfter (compileOn s ps t₀ .1) cs (startOn (compileOn s ps t₀ .1) l₀ .1))

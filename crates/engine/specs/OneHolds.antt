@@ -1,7 +1,7 @@
 -- Every sentence of demand 3, of M-100, M-101 and M-104 about one list of calls, and demand 2's about one event, for an accepted program's table and a fresh round.
 -- The bytes refine the model engine, and the model engine's claims carry over.
 use Prim.Native.Nat.{ℕ, _-_, _≤_, _<_}
-use mathlib.Core.Bool.{Bool, false}
+use mathlib.Core.Bool.{Bool, true, false}
 use mathlib.Core.Path.{_≡_, refl, sym, ap, _∙_, subst}
 use mathlib.Core.List.{List, [], _∷_, _++_}
 use native.Mathlib.Omega.{arith}
@@ -11,6 +11,7 @@ use Rattle.base.specs.Tools.{all-perm, all-split}
 use Rattle.language.specs.Syntax.{Program}
 use Rattle.language.specs.Dependence.{size, events, noEvent}
 use Rattle.language.specs.Accepted.{Accepted}
+use Rattle.language.specs.Rights.{maySend}
 use Rattle.language.specs.Code.{code}
 use Rattle.semantics.specs.Meaning.{fresh, event, play}
 use Rattle.semantics.specs.Plays.{Plays}
@@ -21,8 +22,8 @@ use Rattle.semantics.specs.Lengths.{length-fresh}
 use Rattle.execution.specs.Execution.{Values}
 use Rattle.execution.specs.CodeFacts.{CodeFacts}
 use Rattle.execution.specs.CodeRight.{code-facts}
-use Rattle.model.specs.Model.{Arrival, arrival, rest, Engine, engine, initial, Call, step, idle, committed, act, run, answers}
-use Rattle.model.specs.Claims.{after, said, commits, committedIn, settlingIn, number, storeOf, inQueue, Idle, aloneCalls}
+use Rattle.model.specs.Model.{Arrival, arrival, rest, Engine, engine, initial, Call, step, idle, committed, unmarked, act, run, answers}
+use Rattle.model.specs.Claims.{after, said, commits, committedIn, eventsOf, settlingIn, number, storeOf, inQueue, Idle, aloneCalls}
 use Rattle.model.specs.History.{run-append}
 use Rattle.model.specs.Reached.{Reached, reached}
 use Rattle.model.specs.Boards.{stored}
@@ -32,11 +33,11 @@ use Rattle.model.specs.Confluence.{Declared}
 use Rattle.image.specs.Image.{tableOf}
 use Rattle.round.specs.Start.{freshBytes}
 use Rattle.machine.specs.Machine.{stepOn}
-use Rattle.refinement.specs.Refinement.{coded, decoded, callOn, roundAfter, View, Agreement}
-use Rattle.refinement.specs.Coded.{answer-to, decoded-coded, coded-injective, answers-read}
+use Rattle.refinement.specs.Refinement.{coded, decoded, toldOn, callOn, roundAfter, View, Agreement}
+use Rattle.refinement.specs.Coded.{answer-to, decoded-coded, coded-injective, answers-read, told-coded}
 use Rattle.refinement.specs.Refines.{valid, refines, forecasts}
 use Rattle.refinement.specs.Previews.{previews}
-use Rattle.engine.specs.Demand.{buffersAfter, eventsOf, boardOf, IdleNow, CommitMark, OneList}
+use Rattle.engine.specs.Demand.{buffersAfter, boardOf, IdleNow, CommitMark, OneList}
 use Rattle.engine.specs.Runs.{answers-append, commits-append, commits-ran, next-answer, taken-declared, at-rest}
 
 all-map : (p : Program) (l : List Arrival) → All (Declared p) l → All (λ e. e < events p) (eventsOf l)
@@ -107,6 +108,11 @@ module _ (p : Program) (ok : Accepted p) (t₀ l₀ : List ℕ) (table-room : 34
       let few : events p ≤ 256 = omega (arith, ok .fits .few-events) in
       ap (decoded step) (stepped cs) ∙ decoded-coded step (act p step (after p cs) .answer) (answer-to p few step (after p cs) (reached p facts cs))
 
+  told : (cs : List Call) → toldOn (stepOn table (roundAfter table cs round) .0) ≡ coded (unmarked (act p step (after p cs) .answer))
+  told cs =
+      let few : events p ≤ 256 = omega (arith, ok .fits .few-events) in
+      ap toldOn (stepped cs) ∙ told-coded (act p step (after p cs) .answer) (answer-to p few step (after p cs) (reached p facts cs))
+
   mark : (cs : List Call) (a : Arrival) (m : Bool) → decoded step (stepOn table (roundAfter table cs round) .0) ≡ committed a m → CommitMark p cs a m
   mark cs a m h =
       let es = eventsOf (committedIn p cs) in
@@ -128,15 +134,15 @@ module _ (p : Program) (ok : Accepted p) (t₀ l₀ : List ℕ) (table-room : 34
 
   -- ---- one event alone
 
-  module _ (cs : List Call) (e : ℕ) (declared : e < events p) where
+  module _ (cs : List Call) (e who : ℕ) (declared : e < events p) (eight : who < 8) (sends : maySend p who e ≡ true) where
     abbrev Left : Engine → Type 0
-    Left w = (commits (answers p (aloneCalls p e) w) ≡ arrival (number w) e ∷ []) × (storeOf (run p (aloneCalls p e) w) ≡ event p e (storeOf w))
+    Left w = (commits (answers p (aloneCalls p e who) w) ≡ arrival (number w) e who ∷ []) × (storeOf (run p (aloneCalls p e who) w) ≡ event p e (storeOf w))
 
     from-rest : (t : ℕ) (d : Values) → Reached p (engine t [] rest d) → t < 1000000 → Left (engine t [] rest d)
     unfolding commits
     from-rest t d r room =
-        let a = lone.alone p facts t e d declared room (ap length (r .done) ∙ r .sized) in
-        (ap commits (a .0) ∙ commits-ran (length (code p e) - 1) (arrival t e) _, ap storeOf (a .1) ∙ a .2)
+        let a = lone.alone p facts t e who d declared eight sends room (ap length (r .done) ∙ r .sized) in
+        (ap commits (a .0) ∙ commits-ran (length (code p e) - 1) (arrival t e who) _, ap storeOf (a .1) ∙ a .2)
 
     alone-from : (w : Engine) → Idle p w → Reached p w → number w < 1000000 → Left w
     alone-from w h r room =
@@ -154,17 +160,17 @@ module _ (p : Program) (ok : Accepted p) (t₀ l₀ : List ℕ) (table-room : 34
     played s h = plays p (valid p ok) (e ∷ []) (declared, tt) s h
 
     one-event : IdleNow table (roundAfter table cs round) → number (after p cs) < 1000000
-        → (committedIn p (cs ++ aloneCalls p e) ≡ committedIn p cs ++ (arrival (number (after p cs)) e ∷ []))
-        × Plays p (e ∷ []) (boardOf p (roundAfter table cs round)) (boardOf p (roundAfter table (cs ++ aloneCalls p e) round))
+        → (committedIn p (cs ++ aloneCalls p e who) ≡ committedIn p cs ++ (arrival (number (after p cs)) e who ∷ []))
+        × Plays p (e ∷ []) (boardOf p (roundAfter table cs round)) (boardOf p (roundAfter table (cs ++ aloneCalls p e who) round))
     one-event h room =
         let i = idle-both cs .0 h in
         let r = reached p facts cs in
         let l = alone-from (after p cs) i r room in
         let s = storeOf (after p cs) in
-        let ran-on : storeOf (after p (cs ++ aloneCalls p e)) ≡ event p e s = ap storeOf (run-append p cs (aloneCalls p e) (initial p)) ∙ l .1 in (
-          ap commits (answers-append p cs (aloneCalls p e) (initial p)) ∙ commits-append (said p cs) (answers p (aloneCalls p e) (after p cs)) ∙ ap (λ (x : List Arrival). committedIn p cs ++ x) (l .0),
-          subst (λ (x : List ℕ). Plays p (e ∷ []) x (boardOf p (roundAfter table (cs ++ aloneCalls p e) round))) (sym (board-is cs))
-              (subst (λ (x : List ℕ). Plays p (e ∷ []) s x) (sym (board-is (cs ++ aloneCalls p e) ∙ ran-on))
+        let ran-on : storeOf (after p (cs ++ aloneCalls p e who)) ≡ event p e s = ap storeOf (run-append p cs (aloneCalls p e who) (initial p)) ∙ l .1 in (
+          ap commits (answers-append p cs (aloneCalls p e who) (initial p)) ∙ commits-append (said p cs) (answers p (aloneCalls p e who) (after p cs)) ∙ ap (λ (x : List Arrival). committedIn p cs ++ x) (l .0),
+          subst (λ (x : List ℕ). Plays p (e ∷ []) x (boardOf p (roundAfter table (cs ++ aloneCalls p e who) round))) (sym (board-is cs))
+              (subst (λ (x : List ℕ). Plays p (e ∷ []) s x) (sym (board-is (cs ++ aloneCalls p e who) ∙ ran-on))
               (played s (sized (after p cs) i r))),
         )
 
@@ -183,10 +189,11 @@ module _ (p : Program) (ok : Accepted p) (t₀ l₀ : List ℕ) (table-room : 34
     lower = lower-first p facts cs;
     settles = settles-in p facts cs;
     nobody-waits = nobody-waits p facts cs;
-    one-event = λ h e d room. one-event cs e d h room;
+    one-event = λ h e who d eight sends room. one-event cs e who d eight sends h room;
     quiet = quiet-exactly p facts cs;
     forecast = forecasts p ok t₀ l₀ table-room round-room cs;
     preview = previews p ok t₀ l₀ table-room round-room cs;
     previews = preview-right p facts cs;
     mark = mark cs;
+    told = told cs;
   }

@@ -9,11 +9,12 @@ use lib.Dec.{ltb, leb, eqb}
 use lib.ListN.{length}
 use Rattle.base.specs.Tools.{by-test}
 use Rattle.language.specs.Refusals.{foreign}
-use Rattle.layout.specs.Layout.{eventCount, eventWord, taken, waitingCount, runningFlag, runningEvent, runningNumber, position, depth, eventAt, tableFits, ours}
+use Rattle.language.specs.Rights.{may}
+use Rattle.layout.specs.Layout.{eventCount, eventWord, sendersAt, taken, waitingCount, runningFlag, runningWord, runningEvent, runningNumber, position, depth, eventAt, tableFits, ours}
 use Rattle.queue.specs.Queue.{best}
 use Rattle.round.specs.Start.{Result, startOn}
 use Rattle.allowed.specs.Allowed.{allowed}
-use Rattle.arrivals.specs.Arrivals.{full, arriveWith, arriveIn, arriveOn}
+use Rattle.arrivals.specs.Arrivals.{full, arriveWith, arriveKnown, arriveIn, arriveOn}
 use Rattle.board.specs.Board.{masked}
 use Rattle.dispatch.specs.Dispatch.{said, startAt, preemptAt}
 use Rattle.advance.specs.Advance.{commitSaid, countOn, executeOn, executeAt, advance}
@@ -28,13 +29,16 @@ unfolding startOn
 start-refused t l =
     by-test (Kept l) (tableFits t) (λ _. by-test (Kept l) (ltb (length l) 2048) (λ _ _. refl) (λ _ h. absurd (h refl))) (λ _ _. refl)
 
-pub arrive-refused : (t l : List ℕ) (e : ℕ) → arriveOn t l e .0 ≢ 0 → arriveOn t l e .1 ≡ l
-unfolding arriveOn arriveIn arriveWith
-arrive-refused t l e =
+pub arrive-refused : (t l : List ℕ) (e who : ℕ) → arriveOn t l e who .0 ≢ 0 → arriveOn t l e who .1 ≡ l
+unfolding arriveOn arriveIn arriveKnown arriveWith
+arrive-refused t l e who =
     by-test (Kept l) (ours t l)
+    (λ _. by-test (Kept l) (leb 8 who) (λ _ _. refl)
     (λ _. by-test (Kept l) (leb (eventCount t) e) (λ _ _. refl)
+    (λ _. by-test (Kept l) (may (sendersAt t e) who)
     (λ _. by-test (Kept l) (full (waitingCount l) (runningFlag l)) (λ _ _. refl)
-    (λ _. by-test (Kept l) (leb 1000000 (taken l)) (λ _ _. refl) (λ _ h. absurd (h refl)))))
+    (λ _. by-test (Kept l) (leb 1000000 (taken l)) (λ _ _. refl) (λ _ h. absurd (h refl))))
+    (λ _ _. refl))))
     (λ _ _. refl)
 
 -- ---- steps: `foreign` is the only refusal
@@ -53,7 +57,7 @@ count-not l m c e n len = by-test (Foreign l) (ltb (c + 1) len) (λ _ h. absurd 
 advance-kept : (t l : List ℕ) → Foreign l (advance t l)
 unfolding advance executeAt executeOn
 advance-kept t l =
-    by-test (Foreign l) (allowed _ _ (depth l)) (λ _. count-not l _ (position l) (runningEvent l) (runningNumber l) (eventWord t (runningEvent l) 2)) (λ _ _. refl)
+    by-test (Foreign l) (allowed _ _ (depth l)) (λ _. count-not l _ (position l) (runningWord l) (runningNumber l) (eventWord t (runningEvent l) 2)) (λ _ _. refl)
 
 preempt-kept : (l : List ℕ) (b : ℕ) → Foreign l (preemptAt l b)
 unfolding preemptAt said

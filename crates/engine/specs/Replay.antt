@@ -1,4 +1,4 @@
--- A recorded list of calls: five bytes for each, its kind (0 arrival, 1 step, else board reading) and a number of 32 bits; eight bytes for each answer.
+-- A recorded list of calls: six bytes for each, its kind (0 arrival, 1 step, else board reading), a number of 32 bits and the player; eight bytes for each answer.
 use Prim.Native.Nat.{ℕ, zero, suc, _+_, _*_, _/_, _%_}
 use mathlib.Core.List.{List, [], _∷_}
 use lib.ListN.{getD}
@@ -7,13 +7,13 @@ use Rattle.base.specs.Basics.{pick}
 use Rattle.word.specs.Word.{getAt, put}
 use Rattle.model.specs.Model.{Call, arrive, step, board}
 
-unfoldable pub callOf : ℕ → ℕ → Call
-callOf kind n = pick (eqb kind 0) (arrive n) (pick (eqb kind 1) step (board n))
+unfoldable pub callOf : ℕ → ℕ → ℕ → Call
+callOf kind n who = pick (eqb kind 0) (arrive n who) (pick (eqb kind 1) step (board n who))
 
 -- k calls of the record, from call i on
 unfoldable pub callsFrom : List ℕ → ℕ → ℕ → List Call
 callsFrom b i zero = []
-callsFrom b i (suc k) = callOf (getD b (i * 5) 0) (getAt b (i * 5 + 1)) ∷ callsFrom b (i + 1) k
+callsFrom b i (suc k) = callOf (getD b (i * 6) 0) (getAt b (i * 6 + 1)) (getD b (i * 6 + 5) 0) ∷ callsFrom b (i + 1) k
 
 -- answers put one after the other from place i on
 unfoldable pub putAnswer : List ℕ → ℕ → ℕ → List ℕ
@@ -25,4 +25,4 @@ putAnswers a i (r ∷ rs) = putAnswers (putAnswer a i r) (i + 1) rs
 
 -- how many calls are made: those that are whole, and whose answer has room
 unfoldable pub callCount : ℕ → ℕ → ℕ
-callCount calls answers = pick (ltb (calls / 5) (answers / 8)) (calls / 5) (answers / 8)
+callCount calls answers = pick (ltb (calls / 6) (answers / 8)) (calls / 6) (answers / 8)

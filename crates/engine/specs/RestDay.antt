@@ -1,23 +1,25 @@
 -- 02, M-106, "A rest day": what the exported calls do with a sheet of no bytes. By demand 3's theorem the calls answer as the model engine does, which for a program
 -- with no events and no behaviours stays as it began.
-use Prim.Native.Nat.{ℕ, _≤_}
+use Prim.Native.Nat.{ℕ, _≤_, _<_}
 use mathlib.Core.Bool.{true≢false}
 use mathlib.Core.Path.{_≡_, refl, sym, ap, _∙_}
 use mathlib.Core.Logic.{_≢_}
 use mathlib.Core.List.{List, [], _∷_, _++_, sum}
 use native.Mathlib.Omega.{arith}
 use lib.ListN.{length}
-use borrow.Author.Tests.{le-leb}
+use lib.Dec.{leb}
+use borrow.Author.Tests.{le-leb, lt-leb}
+use Rattle.base.specs.Tools.{by-test}
 use Rattle.word.specs.Word.{get}
 use Rattle.language.specs.Syntax.{Program}
-use Rattle.language.specs.Sheet.{Sheet, fillItems, usesItems}
+use Rattle.language.specs.Sheet.{Sheet, fillEntries, usesEntries}
 use Rattle.language.specs.Dependence.{handled, dependsOn, Reach, one, more}
 use Rattle.language.specs.Grammar.{encodeBehaviours, encodeEvents, encode}
 use Rattle.language.specs.Order.{upTo}
 use Rattle.language.specs.Code.{allInstructions}
 use Rattle.language.specs.Accepted.{Accepted, SheetAccepted}
 use Rattle.language.specs.Reading.{sheet}
-use Rattle.model.specs.Model.{Engine, initial, Call, arrive, step, board, act, run}
+use Rattle.model.specs.Model.{Engine, initial, Call, arrive, step, board, Outcome, act, run}
 use Rattle.model.specs.Claims.{after}
 use Rattle.image.specs.Image.{tableOf}
 use Rattle.round.specs.Start.{Result, startOn}
@@ -36,13 +38,14 @@ blank = sheet [] []
 
 -- the program that it means, whatever its parameters are
 abbrev pub nothing : Program
-nothing = record { priorities = []; behaviours = [] }
+nothing = record { priorities = []; senders = []; behaviours = []; viewers = [] }
 
--- "its round idle, every arrival refused by 15 and every board reading by 18": after the calls cs on the table t and the round l
+-- "its round idle, every arrival refused by 15 and every board reading by 18": after the calls cs on the table t and the round l, of each of the eight players (02, M-107: 24 for
+-- others)
 pub record AtRest (t l : List ℕ) (cs : List Call) : Type 0 where
   pub idle : IdleNow t (roundAfter t cs l)
-  pub arrivals : (e : ℕ) → arriveOn t (roundAfter t cs l) e .0 ≡ 15
-  pub readings : (i : ℕ) → boardOn t (roundAfter t cs l) i ≡ 18
+  pub arrivals : (e who : ℕ) → who < 8 → arriveOn t (roundAfter t cs l) e who .0 ≡ 15
+  pub readings : (i who : ℕ) → who < 8 → boardOn t (roundAfter t cs l) i who ≡ 18
 
 -- "On rest days the sheet store sends a sheet of no bytes. It shall mean a sheet with no events and no behaviours: accepted", in any table bytes t₀ and round bytes l₀
 -- of 01's lengths
@@ -80,6 +83,10 @@ nothing-accepted = record {
     few-behaviours = omega arith;
     scale = tt;
     each = tt;
+    all-senders = refl;
+    all-viewers = refl;
+    send-bytes = tt;
+    view-bytes = tt;
   };
   known = tt;
   acyclic = λ e _ i r. no-chain e r;
@@ -87,11 +94,11 @@ nothing-accepted = record {
 }
 
 means-nothing : (ps : List ℕ) → programOf ps blank ≡ nothing
-unfolding fillItems
+unfolding fillEntries
 means-nothing ps = refl
 
 blank-accepted : (ps : List ℕ) → SheetAccepted (get ps) (length ps) blank
-unfolding fillItems usesItems
+unfolding fillEntries usesEntries
 blank-accepted ps = record {
   fits = record {
     few-events = omega arith;
@@ -115,12 +122,18 @@ table-is ps t₀ room = ap (λ (r : Compiled). r .1) (compiles ps t₀ room)
 
 -- ---- its round rests
 
+-- no arrival changes it
+refuses : (e who : ℕ) → act nothing (arrive e who) (initial nothing) .after ≡ initial nothing
+unfolding act
+refuses e who =
+    by-test (λ (o : Outcome). o .after ≡ initial nothing) (leb 8 who) (λ _. refl) (λ _. rw (le-leb 0 e (omega arith)))
+
 stays : (cs : List Call) → after nothing cs ≡ initial nothing
 unfolding act run
 stays [] = refl
-stays (arrive e ∷ cs) = rw (le-leb 0 e (omega arith)) (stays cs)
+stays (arrive e who ∷ cs) = ap (λ (w : Engine). run nothing cs w) (refuses e who) ∙ stays cs
 stays (step ∷ cs) = stays cs
-stays (board i ∷ cs) = stays cs
+stays (board i who ∷ cs) = stays cs
 
 module _ (ps t₀ l₀ : List ℕ) (room : 34816 ≤ length t₀) (round-room : 2048 ≤ length l₀) where
   abbrev table : List ℕ
@@ -139,8 +152,8 @@ module _ (ps t₀ l₀ : List ℕ) (room : 34816 ≤ length t₀) (round-room : 
   unfolding callOn act
   rests cs = record {
     idle = answers cs step;
-    arrivals = λ e. rw (le-leb 0 e (omega arith)) at (answers cs (arrive e));
-    readings = λ i. rw (le-leb 0 i (omega arith)) at (answers cs (board i));
+    arrivals = λ e who h. rw (lt-leb 8 who h, le-leb 0 e (omega arith)) at (answers cs (arrive e who));
+    readings = λ i who h. rw (lt-leb 8 who h, le-leb 0 i (omega arith)) at (answers cs (board i who));
   }
 
   starts : startOn table l₀ .0 ≡ 0

@@ -11,6 +11,7 @@ use Rattle.base.specs.Basics.{All}
 use Rattle.base.specs.Tools.{by-test}
 use Rattle.language.specs.Syntax.{Program}
 use Rattle.language.specs.Dependence.{events}
+use Rattle.language.specs.Rights.{maySend}
 use Rattle.execution.specs.Execution.{Values}
 use Rattle.model.specs.Model.{Arrival, rest, busy, Engine, engine, queue, Call, arrive, step, board, Answer, refused, takenIn, shows, idle, ran, started, preempted, committed, Outcome, act, run, answers}
 use Rattle.model.specs.Claims.{ifCommitted, commits, ifTaken, takenFrom, Idle}
@@ -68,13 +69,16 @@ next-answer p t cs c l w e = sym (last-answer t cs c l) ∙ ap (λ (x : List ℕ
 module _ (p : Program) where
   taken-one : (c : Call) (w : Engine) (n : ℕ) (l : ℕ → List Arrival) → ((m : ℕ) → All (Declared p) (l m)) → All (Declared p) (ifTaken c (act p c w .answer) n l)
   unfolding act
-  taken-one (arrive e) (engine t waiting r d) n l h =
-      let P : Outcome → Type 0 = λ o. All (Declared p) (ifTaken (arrive e) (o .answer) n l) in
-      by-test P (leb (events p) e) (λ _. h n)
-      (λ k. by-test P (leb 64 (length (queue waiting r))) (λ _. h n)
+  taken-one (arrive e who) (engine t waiting r d) n l h =
+      let P : Outcome → Type 0 = λ o. All (Declared p) (ifTaken (arrive e who) (o .answer) n l) in
+      by-test P (leb 8 who) (λ _. h n)
+      (λ _. by-test P (leb (events p) e) (λ _. h n)
+      (λ k. by-test P (maySend p who e)
+      (λ _. by-test P (leb 64 (length (queue waiting r))) (λ _. h n)
       (λ _. by-test P (leb 1000000 t) (λ _. h n) (λ _. (leb-false (events p) e k, h (suc n)))))
+      (λ _. h n)))
   taken-one step w n l h = h n
-  taken-one (board i) w n l h = h n
+  taken-one (board i who) w n l h = h n
 
   pub taken-declared : (cs : List Call) (w : Engine) (n : ℕ) → All (Declared p) (takenFrom cs (answers p cs w) n)
   unfolding takenFrom answers

@@ -14,7 +14,7 @@ use Rattle.semantics.specs.Meaning.{event}
 use Rattle.semantics.specs.Commute.{commute}
 use Rattle.execution.specs.CodeRight.{code-facts}
 use Rattle.model.specs.Model.{Call, rank}
-use Rattle.model.specs.Claims.{takenInBy}
+use Rattle.model.specs.Claims.{takenInBy, eventsOf}
 use Rattle.model.specs.ModelHolds.{same-board}
 use Rattle.image.specs.Image.{tableOf}
 use Rattle.round.specs.Start.{freshBytes}
@@ -31,7 +31,7 @@ module _ (p : Program) (ok : Accepted p) where
       commute p (valid p ok) e f a b i s w
 
   pub two-lists : (t₀ l₀ t₁ l₁ : List ℕ) → 34816 ≤ length t₀ → 2048 ≤ length l₀ → 34816 ≤ length t₁ → 2048 ≤ length l₁ → (cs ds : List Call)
-      → takenInBy p cs ≡ takenInBy p ds
+      → eventsOf (takenInBy p cs) ≡ eventsOf (takenInBy p ds)
       → All (λ a. All (λ b. rank p a ≢ rank p b → Independent p (a .event) (b .event)) (takenInBy p cs)) (takenInBy p cs)
       → IdleNow (tableOf p t₀) (roundAfter (tableOf p t₀) cs (freshBytes (tableOf p t₀) l₀))
       → IdleNow (tableOf p t₁) (roundAfter (tableOf p t₁) ds (freshBytes (tableOf p t₁) l₁))

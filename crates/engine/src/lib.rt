@@ -12,7 +12,7 @@ ghost use Rattle.machine.specs.Machine.{stepOn};
 ghost use Rattle.forecast.specs.Forecast.{forecastOn};
 ghost use Rattle.preview.specs.Preview.{previewOn};
 ghost use Rattle.formula.specs.Answer.{answered, formulaOn};
-ghost use Rattle.refinement.specs.Refinement.{callOn, answersOn, roundAfter};
+ghost use Rattle.refinement.specs.Refinement.{toldOn, callOn, answersOn, roundAfter};
 ghost use Rattle.engine.specs.Replay.{callOf, callsFrom, putAnswer, putAnswers, callCount};
 
 // The table of a sheet with its parameters. 0, or the refusal's number, 1, 3 to 13 or 20, the table as it was.
@@ -45,17 +45,17 @@ pub extern "C" fn start(table: &[u8], round: &mut [u8]) -> u32
     round::start_round(table, round)
 }
 
-// An event arrives. 0, or 14, 15, 16, 17.
+// An event arrives, sent by a player. 0, or 14, 24, 15, 25, 16, 17.
 #[no_mangle]
-pub extern "C" fn arrive(table: &[u8], round: &mut [u8], event: u32) -> u32
-    ensures { λ r. ⌜ result r (now (round .exit)) ≡ arriveOn (now (table .entry)) (now (round .entry)) event ⌝ }
+pub extern "C" fn arrive(table: &[u8], round: &mut [u8], event: u32, player: u32) -> u32
+    ensures { λ r. ⌜ result r (now (round .exit)) ≡ arriveOn (now (table .entry)) (now (round .entry)) event player ⌝ }
     ensures { λ _. ⌜ now (table .exit) ≡ now (table .entry) ⌝ }
 {
-    arrivals::arrive_at(table, round, event)
+    arrivals::arrive_at(table, round, event, player)
 }
 
-// One step. 0 idle, 1 one instruction, 2 a start, 3 a commit, 4 a start that preempts, with event and arrival number; or 14.
-// With a commit 2 ^ 56 more where the event ran over (02, M-104).
+// One step. 0 idle, 1 one instruction, 2 a start, 3 a commit, 4 a start that preempts, with player, event and arrival number; or 14.
+// With a commit 2 ^ 56 more where the event ran over (02, M-104): the host's answer.
 #[no_mangle]
 pub extern "C" fn step(table: &[u8], round: &mut [u8]) -> u64
     ensures { λ r. ⌜ result r (now (round .exit)) ≡ stepOn (now (table .entry)) (now (round .entry)) ⌝ }
@@ -64,14 +64,22 @@ pub extern "C" fn step(table: &[u8], round: &mut [u8]) -> u64
     machine::step_at(table, round)
 }
 
-// The value of a behaviour: 2 ^ 32 and the word; or 14, 18, 19.
+// A step's answer as the other players are told it: without the mark (02, M-107).
 #[no_mangle]
-pub extern "C" fn board(table: &[u8], round: &[u8], behaviour: u32) -> u64
-    ensures { λ r. ⌜ r ≡ boardOn (now (table .entry)) (now (round .entry)) behaviour ⌝ }
+pub extern "C" fn told(answer: u64) -> u64
+    ensures { λ r. ⌜ r ≡ toldOn answer ⌝ }
+{
+    answer % 72057594037927936
+}
+
+// The value of a behaviour, for a player: 2 ^ 32 and the word; or 14, 24, 18, 25, 19.
+#[no_mangle]
+pub extern "C" fn board(table: &[u8], round: &[u8], behaviour: u32, player: u32) -> u64
+    ensures { λ r. ⌜ r ≡ boardOn (now (table .entry)) (now (round .entry)) behaviour player ⌝ }
     ensures { λ _. ⌜ now (table .exit) ≡ now (table .entry) ⌝ }
     ensures { λ _. ⌜ now (round .exit) ≡ now (round .entry) ⌝ }
 {
-    board::board_at(table, round, behaviour)
+    board::board_at(table, round, behaviour, player)
 }
 
 // The steps to idle if no arrival is taken in meanwhile, exact with nothing running, else 01's bound: 2 ^ 32 and their number; or 14.
@@ -84,14 +92,20 @@ pub extern "C" fn forecast(table: &[u8], round: &[u8]) -> u64
     forecast::forecast_at(table, round)
 }
 
-// The value of a behaviour after an event's arrival and everything in hand, tried on a copy: 2 ^ 32 and the word; or 14, 15, 16, 17, 18.
+// The value of a behaviour after an event's arrival and everything in hand, tried on a copy: 2 ^ 32 and the word; or 14, 24, 15, 25, 16, 17, 18, 25.
 #[no_mangle]
-pub extern "C" fn preview(table: &[u8], round: &[u8], event: u32, behaviour: u32) -> u64
-    ensures { λ r. ⌜ r ≡ previewOn (now (table .entry)) (now (round .entry)) event behaviour ⌝ }
+pub extern "C" fn preview(
+    table: &[u8],
+    round: &[u8],
+    event: u32,
+    behaviour: u32,
+    player: u32,
+) -> u64
+    ensures { λ r. ⌜ r ≡ previewOn (now (table .entry)) (now (round .entry)) event behaviour player ⌝ }
     ensures { λ _. ⌜ now (table .exit) ≡ now (table .entry) ⌝ }
     ensures { λ _. ⌜ now (round .exit) ≡ now (round .entry) ⌝ }
 {
-    preview::preview_at(table, round, event, behaviour)
+    preview::preview_at(table, round, event, behaviour, player)
 }
 
 // A formula's expression field at the start of the buffer: 2 ^ 32 and its length; or 21, 22, 9, 23, the buffer as it was.
@@ -106,16 +120,16 @@ pub extern "C" fn formula(text: &[u8], buffer: &mut [u8]) -> u64
 // ---- a recorded list of calls
 
 // One call of the record.
-fn make_call(table: &[u8], round: &mut [u8], kind: u8, n: u32) -> u64
-    ensures { λ r. ⌜ result r (now (round .exit)) ≡ callOn (now (table .entry)) (callOf kind n) (now (round .entry)) ⌝ }
+fn make_call(table: &[u8], round: &mut [u8], kind: u8, n: u32, player: u32) -> u64
+    ensures { λ r. ⌜ result r (now (round .exit)) ≡ callOn (now (table .entry)) (callOf kind n player) (now (round .entry)) ⌝ }
 {
     if kind == 0 {
-        return arrive(table, round, n) as u64;
+        return arrive(table, round, n, player) as u64;
     }
     if kind == 1 {
         return step(table, round);
     }
-    board(table, round, n)
+    board(table, round, n, player)
 }
 
 fn put_answer(answers: &mut [u8], i: usize, r: u64)
@@ -128,10 +142,10 @@ fn put_answer(answers: &mut [u8], i: usize, r: u64)
 
 fn call_count(calls: usize, answers: usize) -> usize
     ensures { λ r. ⌜ r ≡ callCount calls answers ⌝ }
-    ensures { λ r. ⌜ (r * 5 ≤ calls) × (r * 8 ≤ answers) ⌝ }
+    ensures { λ r. ⌜ (r * 6 ≤ calls) × (r * 8 ≤ answers) ⌝ }
 {
-    if calls / 5 < answers / 8 {
-        return calls / 5;
+    if calls / 6 < answers / 8 {
+        return calls / 6;
     }
     answers / 8
 }
@@ -148,8 +162,14 @@ pub extern "C" fn replay(table: &[u8], round: &mut [u8], calls: &[u8], answers: 
     let n = call_count(calls.len(), answers.len());
     let mut i = 0;
     while i < n {
-        let k = i * 5;
-        let r = make_call(table, round, calls[k], word::get_at(calls, k + 1));
+        let k = i * 6;
+        let r = make_call(
+            table,
+            round,
+            calls[k],
+            word::get_at(calls, k + 1),
+            calls[k + 5] as u32,
+        );
         put_answer(answers, i, r);
         i += 1;
     }

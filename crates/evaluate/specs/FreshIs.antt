@@ -4,11 +4,11 @@ use Prim.Native.Nat.{ℕ, zero, suc, _+_, _-_, _%_, _≤_, _<_}
 use mathlib.Core.Bool.{true, false≢true}
 use mathlib.Core.Path.{_≡_, refl, sym, ap, _∙_}
 use mathlib.Core.Logic.{by-cases}
-use mathlib.Core.List.{List, [], _∷_, _++_, append-assoc}
+use mathlib.Core.List.{List, [], _∷_, _++_}
 use native.Mathlib.Decide.{decLt, ℕ-discrete}
 use native.Mathlib.Omega.{arith}
 use lib.Dec.{ltb}
-use lib.ListN.{length, getD, set, replicate, length-set, length-append, length-replicate, replicate-append-replicate, List·getD-eq-default}
+use lib.ListN.{length, getD, set, replicate, length-set, length-append, length-replicate, List·getD-eq-default}
 use lib.Seq.{set-append-left, getD-set-same, getD-set-other, ext-getD}
 use borrow.Author.Tests.{lt-ltb}
 use Rattle.base.specs.Basics.{All}
@@ -122,10 +122,6 @@ module _ (p : Program) (d : List ℕ) (k : ℕ) (drafted : Drafted p d k) (fits 
       ap (turnsOn d (noEvent p) (phaseOne p (noEvent p))) starts-are
       ∙ turns-are (noEvent p) (fits .few-events) (phaseOne p (noEvent p)) (phaseOne-early p (noEvent p) (valid .known)) (starts p) (length-starts p)
 
-  -- with more zeros after them, up to m
-  pub fresh-padded : (m : ℕ) → 64 ≤ m
-      → freshOn d (size p) (noEvent p) (phaseOne p (noEvent p)) ++ replicate (m - 64) 0 ≡ fresh p ++ replicate (m - length (fresh p)) 0
-  fresh-padded m h =
-      let few : size p ≤ 64 = fits .few-behaviours in
-      let e : 64 - size p + (m - 64) ≡ m - length (fresh p) = rw (length-fresh p) (omega arith) in
-      rw (fresh-is, append-assoc (fresh p) rest (replicate (m - 64) 0), replicate-append-replicate {A = ℕ} (64 - size p) (m - 64) 0, e)
+  -- the zeros counted from their number
+  pub fresh-padded : freshOn d (size p) (noEvent p) (phaseOne p (noEvent p)) ≡ fresh p ++ replicate (64 - length (fresh p)) 0
+  fresh-padded = rw (length-fresh p) fresh-is

@@ -2,6 +2,7 @@
 ghost use mathlib.Core.Path.{_≡_};
 ghost use Prim.Native.Nat.{_+_, _-_, _%_, _<_, _≤_};
 ghost use lib.ListN.{length, take, drop};
+ghost use Rattle.draft.specs.Draft.{draftLength};
 ghost use Rattle.evaluate.specs.Evaluate.{pushDepth, pushStack, look, argument, applied, applyDepth, applyStack, nodeDepth, nodeStack, evaluated};
 ghost use Rattle.evaluate.specs.Evaluate.{entryValue, startsOn, turnOn, freshOn};
 
@@ -104,7 +105,7 @@ fn eval_nodes(d: &[u64], start: usize, count: usize, v: &[u32]) -> u32
 
 // The value of the expression of entry w.
 fn eval_entry(d: &[u64], v: &[u32], w: u64) -> u32
-    requires { ⌜ (length (now d) ≡ 4256) × (length (now v) ≡ 64) ⌝ }
+    requires { ⌜ (length (now d) ≡ draftLength) × (length (now v) ≡ 64) ⌝ }
     ensures { λ r. ⌜ r ≡ entryValue (now (d .entry)) (now (v .entry)) w ⌝ }
 {
     let start = (w / 4 % 4096) as usize;
@@ -117,7 +118,7 @@ fn eval_entry(d: &[u64], v: &[u32], w: u64) -> u32
 
 // The start values of n behaviours.
 fn start_values(d: &[u64], n: usize) -> [u32; 64]
-    requires { ⌜ (length (now d) ≡ 4256) × (n ≤ 64) ⌝ }
+    requires { ⌜ (length (now d) ≡ draftLength) × (n ≤ 64) ⌝ }
     ensures { λ r. ⌜ r ≡ startsOn (now (d .entry)) n ⌝ }
 {
     let mut v = [0u32; 64];
@@ -131,7 +132,7 @@ fn start_values(d: &[u64], n: usize) -> [u32; 64]
 
 // Behaviour i takes the value of its expression on event e.
 fn take_turn(d: &[u64], e: usize, i: usize, v: &mut [u32])
-    requires { ⌜ (length (now d) ≡ 4256) × (length (now v) ≡ 64) ⌝ }
+    requires { ⌜ (length (now d) ≡ draftLength) × (length (now v) ≡ 64) ⌝ }
     ensures { λ _. ⌜ now (v .exit) ≡ turnOn (now (d .entry)) e i (now (v .entry)) ⌝ }
 {
     if i < 64 {
@@ -143,7 +144,7 @@ fn take_turn(d: &[u64], e: usize, i: usize, v: &mut [u32])
 
 // The values of a fresh round of n behaviours: the start values, and then those of the first count behaviours of the order o, in turn, on event e.
 pub fn fresh_values(d: &[u64], n: usize, e: usize, o: &[u8], count: usize) -> [u32; 64]
-    requires { ⌜ (length (now d) ≡ 4256) × (n ≤ 64) × (count ≤ length (now o)) ⌝ }
+    requires { ⌜ (length (now d) ≡ draftLength) × (n ≤ 64) × (count ≤ length (now o)) ⌝ }
     ensures { λ r. ⌜ r ≡ freshOn (now (d .entry)) n e (take count (now (o .entry))) ⌝ }
 {
     let mut v = start_values(d, n);

@@ -5,6 +5,7 @@ use mathlib.Core.List.{List}
 use native.Mathlib.Omega.{arith}
 use native.Mathlib.Numerals.{sub-one}
 use lib.ListN.{length}
+use Rattle.draft.specs.Draft.{draftLength}
 use Rattle.field.specs.declared.Field.{Field}
 use Rattle.field.specs.declared.Field.the-variants.{Value, Refused}
 use Rattle.field.specs.Field.{fieldOf}
@@ -56,7 +57,7 @@ pub record Turn (left : ℕ) (s draft₀ : List ℕ) (n f : ℕ) (v draft : List
   pub nodes : m * 4 + 1 ≤ n * 4 + at
   pub onwards : n ≤ m
   pub room : n * 4 + length s ≤ 8192
-  pub kept : length draft ≡ 4256
+  pub kept : length draft ≡ draftLength
   pub few : k ≤ 3
 
 module _ {left : ℕ} {s draft₀ : List ℕ} {n f : ℕ} {v draft : List ℕ} {at m k : ℕ} (i : Turn left s draft₀ n f v draft at m k) where

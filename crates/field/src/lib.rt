@@ -2,6 +2,7 @@
 ghost use mathlib.Core.Path.{_≡_};
 ghost use Prim.Native.Nat.{_<_, _≤_, _*_, _+_, _-_, _^_};
 ghost use lib.ListN.{length};
+ghost use Rattle.draft.specs.Draft.{draftLength};
 ghost use Rattle.field.specs.Field.{fieldOf, partOf, sizeOf, numberOf, Within};
 ghost use Rattle.field.specs.Expression.{headAt, headOf, valueOf, HeadIn, out, closeAt, exprOf, ReadIn, CloseIn};
 
@@ -140,7 +141,7 @@ fn close_at(f: u8, size: usize, at: usize, draft: &mut [u64], m: usize) -> Read
 // One expression at the front of s, with `left` levels of nesting left. Its nodes go into the draft from place n on.
 pub fn read_expr(left: usize, s: &[u8], draft: &mut [u64], n: usize) -> Read
     requires { ⌜ n * 4 + length (now s) ≤ 8192 ⌝ }
-    requires { ⌜ length (now draft) ≡ 4256 ⌝ }
+    requires { ⌜ length (now draft) ≡ draftLength ⌝ }
     ensures { λ r. ⌜ out r (now (draft .exit)) ≡ exprOf left (now (s .entry)) (now (draft .entry)) n ⌝ }
     ensures { λ r. ⌜ ReadIn (length (now (s .entry))) n r ⌝ }
 {

@@ -13,14 +13,14 @@ use Rattle.base.specs.Basics.{All}
 use Rattle.base.specs.Tools.{split, by-test, all-at, all-at-or}
 use Rattle.word.specs.Word.{getAt, get}
 use Rattle.language.specs.Syntax.{Phase, immediate, later}
-use Rattle.language.specs.Sheet.{Term, Clause, clause, Item, formula, state, Sheet}
-use Rattle.language.specs.Sheet.{fillTerm, fillClauses, fillItem, fillItems, fill, usesTerm, usesClauses, usesItem, usesItems, uses}
+use Rattle.language.specs.Sheet.{Term, Clause, clause, Item, formula, state, Entry, Sheet}
+use Rattle.language.specs.Sheet.{fillTerm, fillClauses, fillItem, fillEntries, fill, usesTerm, usesClauses, usesItem, usesEntries, uses}
 use Rattle.language.specs.Dependence.{handled, inPhase, respond}
-use Rattle.language.specs.Grammar.{Arity, unary, ternary, binary, TermFits, t-literal, t-variable, t-param, t-apply1, t-apply2, t-apply3, ClausesFit, ItemFits, SheetFits}
+use Rattle.language.specs.Grammar.{Arity, unary, ternary, binary, TermFits, t-literal, t-variable, t-param, t-apply1, t-apply2, t-apply3, ClausesFit, ItemFits, EntryFits, SheetFits}
 use Rattle.language.specs.Code.{sizeOf}
 use Rattle.language.specs.Laws.{handled-here, handled-there}
-use Rattle.language.specs.SheetLaws.{length-fill, fill-at, size-fill, fill-fits}
-use Rattle.draft.specs.Draft.{nodes, handlerNodes, behaviourNodes, programNodes, entryOf, Stands, Says, StartIs, Drafted, DraftOf, unfilled, SheetDraft}
+use Rattle.language.specs.SheetLaws.{blank, length-priorities, length-fill, fill-at, size-fill, fill-fits}
+use Rattle.draft.specs.Draft.{draftLength, nodes, handlerNodes, behaviourNodes, programNodes, entryOf, Stands, Says, StartIs, Drafted, DraftOf, unfilled, SheetDraft}
 use Rattle.draft.specs.Entry.{tagOf}
 use Rattle.filling.specs.Filling.{valueOf, filled, fillTo, anyParam, lacksParam}
 
@@ -103,11 +103,11 @@ module _ (ps : List ℕ) where
   item-nodes n (formula x) h = term-nodes h
   item-nodes n (state s cs) h = clause-nodes n cs (h .1)
 
-  items-nodes : (n : ℕ) (bs : List Item) → All (ItemFits n) bs → fillAll (programNodes (fillItems unfilled bs)) ≡ programNodes (fillItems (valueOf ps) bs)
-  unfolding fillAll fillItems programNodes
-  items-nodes n [] h = refl
-  items-nodes n (b ∷ bs) h =
-      rw (fill-append (behaviourNodes (fillItem unfilled b)) (programNodes (fillItems unfilled bs)), item-nodes n b (h .0), items-nodes n bs (h .1))
+  entries-nodes : (n : ℕ) (bs : List Entry) → All (EntryFits n) bs → fillAll (programNodes (fillEntries unfilled bs)) ≡ programNodes (fillEntries (valueOf ps) bs)
+  unfolding fillAll fillEntries programNodes
+  entries-nodes n [] h = refl
+  entries-nodes n (b ∷ bs) h =
+      rw (fill-append (behaviourNodes (fillItem unfilled (b .item))) (programNodes (fillEntries unfilled bs)), item-nodes n (b .item) (h .0 .0), entries-nodes n bs (h .1))
 
   -- ---- the draft
 
@@ -147,10 +147,10 @@ module _ (ps : List ℕ) where
       let q : j ≢ k = eqb-false j k c in
       getD-set-other (fillTo ps d k) k j (filled ps (getD (fillTo ps d k) k 0)) 0 q ∙ before-fillTo d k j (omega arith) (omega arith))
 
-  part-filled : (d : List ℕ) → length d ≡ 4256 → (a m : ℕ) → a + m ≤ 2048 → take m (drop a (fillTo ps d 2048)) ≡ fillAll (take m (drop a d))
+  part-filled : (d : List ℕ) → length d ≡ draftLength → (a m : ℕ) → a + m ≤ 2048 → take m (drop a (fillTo ps d 2048)) ≡ fillAll (take m (drop a d))
   part-filled d long a m h =
-      let l₁ : length (drop a (fillTo ps d 2048)) ≡ 4256 - a = length-drop a (fillTo ps d 2048) ∙ rw (length-fillTo d 2048, long) in
-      let l₂ : length (drop a d) ≡ 4256 - a = length-drop a d ∙ rw long in
+      let l₁ : length (drop a (fillTo ps d 2048)) ≡ draftLength - a = length-drop a (fillTo ps d 2048) ∙ rw (length-fillTo d 2048, long) in
+      let l₂ : length (drop a d) ≡ draftLength - a = length-drop a d ∙ rw long in
       let e₁ : length (take m (drop a (fillTo ps d 2048))) ≡ m = length-take-le m (drop a (fillTo ps d 2048)) (omega arith) in
       let e₂ : length (take m (drop a d)) ≡ m = length-take-le m (drop a d) (omega arith) in
       ext-getD 0 (take m (drop a (fillTo ps d 2048))) (fillAll (take m (drop a d))) (e₁ ∙ sym (length-fillAll (take m (drop a d)) ∙ e₂))
@@ -159,7 +159,7 @@ module _ (ps : List ℕ) where
       getD-take m (drop a (fillTo ps d 2048)) i 0 c ∙ getD-drop a (fillTo ps d 2048) i 0 ∙ before-fillTo d 2048 (a + i) (omega arith) (omega arith)
       ∙ sym (getD-fillAll (take m (drop a d)) i (omega arith) ∙ ap (filled ps) (getD-take m (drop a d) i 0 c ∙ getD-drop a d i 0)))
 
-  module _ (d : List ℕ) (long : length d ≡ 4256) where
+  module _ (d : List ℕ) (long : length d ≡ draftLength) where
     abbrev d′ : List ℕ
     d′ = fillTo ps d 2048
 
@@ -203,18 +203,20 @@ module _ (ps : List ℕ) where
     fill-drafted n s f h = record {
       long = length-fillTo d 2048 ∙ long;
       few = h .few;
-      pool = part-filled d long 0 n (omega (arith, h .few)) ∙ ap fillAll (h .pool) ∙ items-nodes (length (s .priorities)) (s .items) (f .each);
+      pool = part-filled d long 0 n (omega (arith, h .few)) ∙ ap fillAll (h .pool) ∙ entries-nodes (length (s .signals)) (s .entries) (f .each);
       says = λ e i a b.
-          let c : i < length (s .items) = omega (arith, length-fill (valueOf ps) (s .items)) in
-          rw (entry-filled e i, fill-at (valueOf ps) (s .items) i)
-          (item-filled (length (s .priorities)) e (entryOf d e i) (getD (s .items) i (state 0 []))
-          (all-at (ItemFits (length (s .priorities))) (s .items) i (state 0 []) (f .each) c)
-          (rw (fill-at unfilled (s .items) i) at (h .says e i a (omega (arith, length-fill unfilled (s .items))))));
+          let c : i < length (s .entries) = omega (arith, length-fill (valueOf ps) (s .entries)) in
+          rw (entry-filled e i, fill-at (valueOf ps) (s .entries) i)
+          (item-filled (length (s .signals)) e (entryOf d e i) (getD (s .entries) i blank .item)
+          (all-at (EntryFits (length (s .signals))) (s .entries) i blank (f .each) c .0)
+          (rw (fill-at unfilled (s .entries) i) at (h .says e i a (omega (arith, length-fill unfilled (s .entries))))));
       starts = λ i b.
-          rw (fill-at (valueOf ps) (s .items) i)
-          (start-filled i (getD (s .items) i (state 0 []))
-          (rw (fill-at unfilled (s .items) i) at (h .starts i (omega (arith, length-fill unfilled (s .items), length-fill (valueOf ps) (s .items))))));
+          rw (fill-at (valueOf ps) (s .entries) i)
+          (start-filled i (getD (s .entries) i blank .item)
+          (rw (fill-at unfilled (s .entries) i) at (h .starts i (omega (arith, length-fill unfilled (s .entries), length-fill (valueOf ps) (s .entries))))));
       priorities = λ e b. after-fillTo d 2048 (4224 + e) (omega arith) ∙ h .priorities e b;
+      viewers = λ i b. after-fillTo d 2048 (4256 + i) (omega arith) ∙ h .viewers i (omega (arith, length-fill unfilled (s .entries), length-fill (valueOf ps) (s .entries)));
+      senders = λ e b. after-fillTo d 2048 (4320 + e) (omega arith) ∙ h .senders e b;
     }
 
 -- the draft of a sheet, filled in, is that of its filling
@@ -222,8 +224,8 @@ pub draft-filled : {ev bs n : ℕ} {d : List ℕ} (ps : List ℕ) → All (λ b.
 draft-filled {d = d} ps bytes o = record {
   program = fill (valueOf ps) (o .sheet);
   fits = fill-fits (valueOf ps) (value-small ps bytes) (o .sheet) (o .fits);
-  events-are = o .events-are;
-  size-is = o .size-is ∙ sym (length-fill (valueOf ps) (o .sheet .items));
+  events-are = o .events-are ∙ sym (length-priorities (o .sheet .signals));
+  size-is = o .size-is ∙ sym (length-fill (valueOf ps) (o .sheet .entries));
   drafted = fill-drafted ps d (o .drafted .long) _ (o .sheet) (o .fits) (o .drafted);
 }
 
@@ -294,10 +296,11 @@ item-any : (n : ℕ) (b : Item) → ItemFits n b → anyIn (behaviourNodes (fill
 item-any n (formula x) h = term-any h
 item-any n (state s cs) h = clauses-any n cs (h .1)
 
-items-any : (n : ℕ) (bs : List Item) → All (ItemFits n) bs → anyIn (programNodes (fillItems unfilled bs)) ≡ usesItems bs
-unfolding anyIn fillItems programNodes usesItems
-items-any n [] h = refl
-items-any n (b ∷ bs) h = rw (any-append (behaviourNodes (fillItem unfilled b)) (programNodes (fillItems unfilled bs)), item-any n b (h .0), items-any n bs (h .1))
+entries-any : (n : ℕ) (bs : List Entry) → All (EntryFits n) bs → anyIn (programNodes (fillEntries unfilled bs)) ≡ usesEntries bs
+unfolding anyIn fillEntries programNodes usesEntries
+entries-any n [] h = refl
+entries-any n (b ∷ bs) h =
+    rw (any-append (behaviourNodes (fillItem unfilled (b .item))) (programNodes (fillEntries unfilled bs)), item-any n (b .item) (h .0 .0), entries-any n bs (h .1))
 
 pass-any : (d : List ℕ) (n : ℕ) → n ≤ length d → anyParam d n ≡ anyIn (take n d)
 unfolding anyParam anyIn
@@ -313,7 +316,7 @@ pass-any d (suc n) h =
 draft-uses : {ev bs n : ℕ} {d : List ℕ} (o : SheetDraft ev bs n d) → anyParam d n ≡ uses (o .sheet)
 draft-uses {n = n} {d = d} o =
     pass-any d n (omega (arith, o .drafted .long, o .drafted .few))
-    ∙ rw (o .drafted .pool) (items-any (length (o .sheet .priorities)) (o .sheet .items) (o .fits .each))
+    ∙ rw (o .drafted .pool) (entries-any (length (o .sheet .signals)) (o .sheet .entries) (o .fits .each))
 
 pub draft-lacks : {ev bs n : ℕ} {d : List ℕ} (o : SheetDraft ev bs n d) (ps : List ℕ) → lacksParam d n ps ≡ uses (o .sheet) && ltb (length ps) 32
 unfolding lacksParam

@@ -3,6 +3,7 @@
 ghost use mathlib.Core.Path.{_≡_};
 ghost use Prim.Native.Nat.{_<_, _≤_, _^_};
 ghost use lib.ListN.{length};
+ghost use Rattle.draft.specs.Draft.{draftLength};
 ghost use Rattle.filling.specs.Filling.{valueOf, filled, fillTo, anyParam, lacksParam};
 
 // The value of parameter k: a word of the bytes lent, 0 where fewer than 32 are.
@@ -29,7 +30,7 @@ fn fill_node(params: &[u8], x: u64) -> u64
 
 // Fills in the nodes of a draft.
 pub fn fill_draft(d: &mut [u64], params: &[u8])
-    requires { ⌜ length (now d) ≡ 4256 ⌝ }
+    requires { ⌜ length (now d) ≡ draftLength ⌝ }
     ensures { λ _. ⌜ now (d .exit) ≡ fillTo (now (params .entry)) (now (d .entry)) 2048 ⌝ }
 {
     let mut k = 0;
@@ -41,7 +42,7 @@ pub fn fill_draft(d: &mut [u64], params: &[u8])
 
 // Whether a parameter is among the first n nodes.
 fn has_param(d: &[u64], n: usize) -> bool
-    requires { ⌜ (length (now d) ≡ 4256) × (n ≤ 2048) ⌝ }
+    requires { ⌜ (length (now d) ≡ draftLength) × (n ≤ 2048) ⌝ }
     ensures { λ r. ⌜ r ≡ anyParam (now (d .entry)) n ⌝ }
 {
     let mut k = n;
@@ -56,7 +57,7 @@ fn has_param(d: &[u64], n: usize) -> bool
 
 // Whether a parameter is among the first n nodes and fewer than 32 bytes are lent.
 pub fn lacks_param(d: &[u64], n: usize, params: &[u8]) -> bool
-    requires { ⌜ (length (now d) ≡ 4256) × (n ≤ 2048) ⌝ }
+    requires { ⌜ (length (now d) ≡ draftLength) × (n ≤ 2048) ⌝ }
     ensures { λ r. ⌜ r ≡ lacksParam (now (d .entry)) n (now (params .entry)) ⌝ }
 {
     if params.len() < 32 {

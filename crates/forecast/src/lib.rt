@@ -15,7 +15,7 @@ fn steps_in(t: &[u8], l: &[u8], n: usize) -> u32
     let mut s = 0;
     let mut i = 0;
     while i < n {
-        s += layout::event_word(t, word::get_word(l, 9 + i * 2), 2) + 1;
+        s += layout::event_word(t, layout::event_at(l, 9 + i * 2), 2) + 1;
         i += 1;
     }
     s

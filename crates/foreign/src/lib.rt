@@ -3,8 +3,18 @@ ghost use mathlib.Core.Path.{_≡_};
 ghost use mathlib.Core.Bool.{true};
 ghost use Prim.Native.Nat.{_≤_};
 ghost use lib.ListN.{length};
-ghost use Rattle.layout.specs.Layout.{slotsFit, runningFits, roundWith, roundIn, roundFits, ours};
+ghost use Rattle.layout.specs.Layout.{handFits, slotsFit, runningFits, roundWith, roundIn, roundFits, ours};
 ghost use Rattle.layout.specs.Bounds.{Bounds};
+
+// Whether w is the word of one of `known` events and one of eight players.
+fn hand_fits(known: u32, w: u32) -> bool
+    ensures { λ r. ⌜ r ≡ handFits known w ⌝ }
+{
+    if known <= layout::event_of(w) {
+        return false;
+    }
+    layout::player_of(w) < 8
+}
 
 fn slots_fit(l: &[u8], known: u32, n: u32) -> bool
     requires { ⌜ (2048 ≤ length (now l)) × (n ≤ 64) ⌝ }
@@ -13,15 +23,15 @@ fn slots_fit(l: &[u8], known: u32, n: u32) -> bool
     let mut i = n;
     while i > 0 {
         i -= 1;
-        if word::get_word(l, 9 + (i as usize) * 2) >= known {
+        if !hand_fits(known, word::get_word(l, 9 + (i as usize) * 2)) {
             return false;
         }
     }
     true
 }
 
-fn running_fits(n: u32, f: u32, e: u32, c: u32, len: u32, known: u32) -> bool
-    ensures { λ r. ⌜ r ≡ runningFits n f e c len known ⌝ }
+fn running_fits(n: u32, f: u32, fits: bool, c: u32, len: u32) -> bool
+    ensures { λ r. ⌜ r ≡ runningFits n f fits c len ⌝ }
 {
     if f == 0 {
         return true;
@@ -29,10 +39,10 @@ fn running_fits(n: u32, f: u32, e: u32, c: u32, len: u32, known: u32) -> bool
     if n > 63 {
         return false;
     }
-    if known <= e {
-        return false;
+    if fits {
+        return c < len;
     }
-    c < len
+    false
 }
 
 fn round_with(l: &[u8], n: u32, known: u32, d: u32, running: bool) -> bool
@@ -57,11 +67,12 @@ fn round_in(t: &[u8], l: &[u8]) -> bool
 {
     let n = word::get_word(l, 1);
     let f = word::get_word(l, 2);
-    let e = word::get_word(l, 3);
+    let w = word::get_word(l, 3);
     let c = word::get_word(l, 5);
     let d = word::get_word(l, 6);
     let known = word::get_word(t, 0);
-    let running = running_fits(n, f, e, c, layout::event_word(t, e, 2), known);
+    let len = layout::event_word(t, layout::event_of(w), 2);
+    let running = running_fits(n, f, hand_fits(known, w), c, len);
     round_with(l, n, known, d, running)
 }
 

@@ -2,20 +2,28 @@
 -- where 01 "Why a call was turned down" wants care.
 use Prim.Native.Nat.{ℕ, zero, suc}
 use mathlib.Core.Path.{_≡_, refl}
+use mathlib.Core.Option.{none, some}
 use mathlib.Core.List.{List, [], _∷_, _++_}
 use lib.ListN.{length, replicate}
 use Rattle.language.specs.Syntax.{immediate, later}
-use Rattle.language.specs.Sheet.{Term, literal, variable, param, apply1, apply2, clause, formula, state, Sheet}
+use Rattle.language.specs.Sheet.{Term, literal, variable, param, apply1, apply2, clause, Item, formula, state, Signal, Entry, Sheet}
 use Rattle.language.specs.Grammar.{field, word, encodeExpr, encodeHandlers, encodeBehaviours, encodeEvents, encode}
-use Rattle.language.specs.Reading.{fieldAt, bad, got, exprAt, handles, handlersAt, sheet, behavioursAt, eventsAt, readSheet}
+use Rattle.language.specs.Reading.{fieldAt, bad, got, exprAt, handles, handlersAt, entry, signal, sheet, behavioursAt, eventsAt, readSheet}
+
+-- an event and a behaviour that say nothing of players
+abbrev pub plain : ℕ → Signal
+plain r = signal r none
+
+abbrev pub bare : Item → Entry
+bare x = entry x none
 
 -- ---- sheet S: priority 1 then 2; b0 = init 1 {0 ⇒ b0 + b1}; b1 = init 1 {0 ⇒ b0 − b1 later, 1 ⇒ 1}
 
 abbrev pub S : Sheet
 S =
-    sheet (1 ∷ 2 ∷ [])
-    (state 1 (clause 0 immediate (apply2 4 (variable 0) (variable 1)) ∷ [])
-    ∷ state 1 (clause 0 later (apply2 5 (variable 0) (variable 1)) ∷ clause 1 immediate (literal 1) ∷ [])
+    sheet (plain 1 ∷ plain 2 ∷ [])
+    (bare (state 1 (clause 0 immediate (apply2 4 (variable 0) (variable 1)) ∷ []))
+    ∷ bare (state 1 (clause 0 later (apply2 5 (variable 0) (variable 1)) ∷ clause 1 immediate (literal 1) ∷ []))
     ∷ [])
 
 abbrev pub S-bytes : List ℕ
@@ -59,7 +67,7 @@ wrapped (suc n) v = field 18 (3 ∷ wrapped n v)
 abbrev pub one : List ℕ
 one = field 16 (word 1)
 
-pub nots-pass : readSheet (field 2 (wrapped 15 one)) ≡ got (sheet [] (formula (nots 15 (literal 1)) ∷ [])) []
+pub nots-pass : readSheet (field 2 (wrapped 15 one)) ≡ got (sheet [] (bare (formula (nots 15 (literal 1))) ∷ [])) []
 unfolding readSheet eventsAt behavioursAt exprAt fieldAt
 nots-pass = refl
 
@@ -69,7 +77,7 @@ nots-too-deep = refl
 
 -- ---- parameters (02, M-103): field 13 with the number 7 is read; 8 is off the scale, two bytes are a wrong length, and at nesting 17 it is too deep
 
-pub parameters : (readSheet (field 2 (field 19 (7 ∷ []))) ≡ got (sheet [] (formula (param 7) ∷ [])) []) × (readSheet (field 2 (field 19 (8 ∷ []))) ≡ bad 8)
+pub parameters : (readSheet (field 2 (field 19 (7 ∷ []))) ≡ got (sheet [] (bare (formula (param 7)) ∷ [])) []) × (readSheet (field 2 (field 19 (8 ∷ []))) ≡ bad 8)
     × (readSheet (field 2 (field 19 (8 ∷ 0 ∷ []))) ≡ bad 6) × (readSheet (field 2 (wrapped 16 (field 19 (8 ∷ [])))) ≡ bad 9)
 unfolding readSheet eventsAt behavioursAt exprAt fieldAt
 parameters = (refl, refl, refl, refl)
@@ -142,7 +150,7 @@ abbrev pub passives : ℕ → List ℕ
 passives zero = []
 passives (suc n) = field 2 one ++ passives n
 
-pub counts : (readSheet (events 32 (passives 64)) ≡ got (sheet (replicate 32 0) (replicate 64 (formula (literal 1)))) [])
+pub counts : (readSheet (events 32 (passives 64)) ≡ got (sheet (replicate 32 (plain 0)) (replicate 64 (bare (formula (literal 1))))) [])
     × (readSheet (events 32 (passives 65)) ≡ bad 7)
 unfolding readSheet eventsAt behavioursAt exprAt fieldAt
 counts = (refl, refl)
@@ -157,3 +165,36 @@ late-event = (refl, refl, refl)
 pub enclosing-end : readSheet (field 2 (16 ∷ 0 ∷ 4 ∷ 0 ∷ 0 ∷ []) ++ field 2 one) ≡ bad 4
 unfolding readSheet eventsAt behavioursAt exprAt fieldAt
 enclosing-end = refl
+
+-- ---- players (02, M-107)
+
+-- an event of length 2 is read; no byte and three are a wrong length, also before the rank
+pub senders : (readSheet (field 1 (15 ∷ 6 ∷ [])) ≡ got (sheet (signal 15 (some 6) ∷ []) []) []) × (readSheet (field 1 []) ≡ bad 6)
+    × (readSheet (field 1 (16 ∷ 0 ∷ 0 ∷ [])) ≡ bad 6) × (readSheet (field 1 (16 ∷ 0 ∷ [])) ≡ bad 8)
+unfolding readSheet eventsAt behavioursAt exprAt fieldAt
+senders = (refl, refl, refl, refl)
+
+-- a field 08 of one byte
+abbrev pub seen : ℕ → List ℕ
+seen m = field 8 (m ∷ [])
+
+-- a passive, an active with no handler and one with a handler end with a field 08
+pub viewers : (readSheet (field 2 (one ++ seen 2)) ≡ got (sheet [] (entry (formula (literal 1)) (some 2) ∷ [])) [])
+    × (readSheet (handled (seen 0)) ≡ got (sheet (plain 0 ∷ []) (entry (state 1 []) (some 0) ∷ [])) [])
+    × (readSheet (handled (first ++ seen 255)) ≡ got (sheet (plain 0 ∷ []) (entry (state 1 (clause 0 immediate (literal 1) ∷ [])) (some 255) ∷ [])) [])
+unfolding readSheet eventsAt behavioursAt handlersAt handles exprAt fieldAt
+viewers = (refl, refl, refl)
+
+-- "Past a passive's expression only tag 08 begins a field": then its header and its length are judged as any field's, and its fixed length of 1
+pub viewer-field : (readSheet (field 2 (one ++ (8 ∷ 0 ∷ []))) ≡ bad 4) × (readSheet (field 2 (one ++ (8 ∷ 0 ∷ 1 ∷ []))) ≡ bad 4)
+    × (readSheet (field 2 (one ++ field 8 [])) ≡ bad 6) × (readSheet (field 2 (one ++ field 8 (0 ∷ 0 ∷ []))) ≡ bad 6)
+    × (readSheet (handled (8 ∷ 0 ∷ [])) ≡ bad 4) × (readSheet (handled (field 8 [])) ≡ bad 6)
+unfolding readSheet eventsAt behavioursAt handlersAt handles exprAt fieldAt
+viewer-field = (refl, refl, refl, refl, refl, refl)
+
+-- "other bytes being 6, as are all past an 08": a handler's tag, a header cut short; a second field 08, a handler, one byte. In an active another tag than 05 and 08 is wrong
+pub past-viewer : (readSheet (field 2 (one ++ first)) ≡ bad 6) × (readSheet (field 2 (one ++ (9 ∷ []))) ≡ bad 6)
+    × (readSheet (field 2 (one ++ (seen 1 ++ seen 1))) ≡ bad 6) × (readSheet (handled (seen 1 ++ first)) ≡ bad 6)
+    × (readSheet (handled (first ++ (seen 1 ++ (8 ∷ [])))) ≡ bad 6) × (readSheet (handled (field 9 (0 ∷ []))) ≡ bad 5)
+unfolding readSheet eventsAt behavioursAt handlersAt handles exprAt fieldAt
+past-viewer = (refl, refl, refl, refl, refl, refl)

@@ -1,7 +1,9 @@
 -- The reading of every sheet's encoding, also of one outside the limits: the sheet, or its first fault as a function on the sheet. By induction on the sheet.
 -- That fault does not depend on whether a parameter, of 0 to 7, or a constant stands in an expression.
 use Prim.Native.Nat.{ℕ, zero, suc, _+_, _*_, _/_, _%_, _≤_}
-use mathlib.Core.Path.{_≡_, refl, ap}
+use mathlib.Core.Path.{_≡_, refl, ap, _∙_}
+use mathlib.Core.Bool.{true}
+use mathlib.Core.Option.{Option, none, some}
 use mathlib.Core.List.{List, [], _∷_, _++_, append-assoc, append-nil}
 use native.Mathlib.Omega.{arith}
 use lib.ListN.{length, length-append}
@@ -10,14 +12,15 @@ use borrow.Author.Tests.{ne-eqb, le-ltb}
 use Rattle.base.specs.Basics.{pick, All}
 use Rattle.base.specs.Tools.{split}
 use Rattle.language.specs.Syntax.{Phase, immediate, later}
-use Rattle.language.specs.Sheet.{Term, literal, variable, param, apply1, apply2, apply3, Clause, clause, Item, formula, state, Sheet}
-use Rattle.language.specs.Sheet.{writeTerm, writeClauses, writeItem, writeItems, writtenOut}
-use Rattle.language.specs.Grammar.{field, word, encodeExpr, encodePhase, encodeHandler, encodeHandlers, encodeBehaviour, encodeBehaviours, encodeEvents, encode}
+use Rattle.language.specs.Sheet.{Term, literal, variable, param, apply1, apply2, apply3, Clause, clause, Item, formula, state, Signal, Entry, Sheet}
+use Rattle.language.specs.Sheet.{writeTerm, writeClauses, writeItem, writeEntries, writtenOut}
+use Rattle.language.specs.Grammar.{field, word, encodeExpr, encodePhase, encodeHandler, encodeHandlers, tagOf, encodeViewer, encodeBehaviour, encodeBehaviours, encodeSender, encodeEvent, encodeEvents, encode}
 use Rattle.language.specs.Grammar.{ParamsIn, ClauseParamsIn, ItemParamsIn}
-use Rattle.language.specs.Reading.{fieldAt, Got, bad, got, whole, wordOf, then, argsOf, exprAt, exprIn, handles, phaseIn, handlerBody, handlersAt, startBody, behaviourIn, sheet, behavioursAt, eventsAt, readSheet}
+use Rattle.language.specs.Reading.{fieldAt, Got, bad, got, whole, wordOf, then, argsOf, exprAt, exprIn, handles, phaseIn, handlerBody, ends, handlersAt, startBody, entry, endingIn, behaviourIn, signal, signalIn, sheet, behavioursAt, eventsAt, readSheet}
 use Rattle.grammar.specs.Fields.{field-reads}
 use Rattle.grammar.specs.Handlers.{many-handlers}
-use Rattle.grammar.specs.Behaviours.{tagOf, valueOf, tag-least}
+use Rattle.grammar.specs.Endings.{ends-encoded, ending-reads}
+use Rattle.grammar.specs.Behaviours.{valueOf, tag-least}
 use Rattle.grammar.specs.Programs.{behaviour-bytes, many-behaviours, many-events, behaviour-at}
 
 -- ---- a result by its fault, 0 for none
@@ -159,22 +162,23 @@ handler-result n hs (clause e φ x) rest =
     rw (field-reads 5 5 5 (e ∷ encodePhase φ ∷ encodeExpr x) rest (omega arith) (omega arith))
     (split (leb n e) (λ c. rw c) (λ c. rw c (phase-result φ hs e x rest)))
 
-next-handler : (k n : ℕ) (hs ks : List Clause) (h : Clause) (m o : ℕ) (g : Got Clause) → g ≡ result m h (encodeHandlers ks)
-    → handlersAt k n (hs ++ (h ∷ [])) (encodeHandlers ks) ≡ result o (hs ++ (h ∷ ks)) []
-    → then g (λ h rest. handlersAt k n (hs ++ (h ∷ [])) rest) ≡ result (first m o) (hs ++ (h ∷ ks)) []
-next-handler k n hs ks h zero o g e i = rw e i
-next-handler k n hs ks h (suc m) o g e i = rw e
+next-handler : (k n : ℕ) (hs ks : List Clause) (rest : List ℕ) (h : Clause) (m o : ℕ) (g : Got Clause) → g ≡ result m h (encodeHandlers ks ++ rest)
+    → handlersAt k n (hs ++ (h ∷ [])) (encodeHandlers ks ++ rest) ≡ result o (hs ++ (h ∷ ks)) rest
+    → then g (λ h rest. handlersAt k n (hs ++ (h ∷ [])) rest) ≡ result (first m o) (hs ++ (h ∷ ks)) rest
+next-handler k n hs ks rest h zero o g e i = rw e i
+next-handler k n hs ks rest h (suc m) o g e i = rw e
 
-handlers-result : (k n : ℕ) (hs ks : List Clause) → length ks ≤ k → handlersAt k n hs (encodeHandlers ks) ≡ result (clausesFault n hs ks) (hs ++ ks) []
+handlers-result : (k n : ℕ) (hs ks : List Clause) (rest : List ℕ) → ends rest ≡ true → length ks ≤ k
+    → handlersAt k n hs (encodeHandlers ks ++ rest) ≡ result (clausesFault n hs ks) (hs ++ ks) rest
 unfolding handlersAt encodeHandlers clausesFault
-handlers-result zero n hs [] b = rw (append-nil hs)
-handlers-result zero n hs (g ∷ ks) b = absurd (omega arith)
-handlers-result (suc k) n hs [] b = rw (append-nil hs)
-handlers-result (suc k) n hs (clause e φ x ∷ ks) b =
-    rw (ne-eqb (length (encodeHandler (clause e φ x) ++ encodeHandlers ks)) 0 (omega arith))
-    (next-handler k n hs ks (clause e φ x) (clauseFault n hs (clause e φ x)) (clausesFault n (hs ++ (clause e φ x ∷ [])) ks)
-    (handlerBody n hs (fieldAt 5 5 (encodeHandler (clause e φ x) ++ encodeHandlers ks))) (handler-result n hs (clause e φ x) (encodeHandlers ks))
-    (rw (append-assoc hs (clause e φ x ∷ []) ks) at (handlers-result k n (hs ++ (clause e φ x ∷ [])) ks (omega arith))))
+handlers-result zero n hs [] rest z b = rw (append-nil hs, z)
+handlers-result zero n hs (g ∷ ks) rest z b = absurd (omega arith)
+handlers-result (suc k) n hs [] rest z b = rw (append-nil hs, z)
+handlers-result (suc k) n hs (clause e φ x ∷ ks) rest z b =
+    rw (append-assoc (encodeHandler (clause e φ x)) (encodeHandlers ks) rest)
+    (next-handler k n hs ks rest (clause e φ x) (clauseFault n hs (clause e φ x)) (clausesFault n (hs ++ (clause e φ x ∷ [])) ks)
+    (handlerBody n hs (fieldAt 5 5 (encodeHandler (clause e φ x) ++ (encodeHandlers ks ++ rest)))) (handler-result n hs (clause e φ x) (encodeHandlers ks ++ rest))
+    (rw (append-assoc hs (clause e φ x ∷ []) ks) at (handlers-result k n (hs ++ (clause e φ x ∷ [])) ks rest z (omega arith))))
 
 -- ---- behaviours
 
@@ -185,37 +189,47 @@ itemFault n (state s hs) = clausesFault n [] hs
 start-any : (w : ℕ) (rest : List ℕ) → startBody (fieldAt 4 4 (field 4 (word w) ++ rest)) ≡ got w rest
 start-any w rest = rw (field-reads 4 4 4 (word w) rest (omega arith) (omega arith)) (word-any (λ w. w) w rest)
 
-ends : (s : ℕ) (hs : List Clause) (rest : List ℕ) (m : ℕ) (g : Got (List Clause)) → g ≡ result m hs []
-    → then g (λ hs over. whole (state s hs) over rest) ≡ result m (state s hs) rest
-ends s hs rest zero g e = rw e
-ends s hs rest (suc m) g e = rw e
+passive-ends : (x : Term) (m : Option ℕ) (rest : List ℕ) (k : ℕ) (g : Got Term) → g ≡ result k x (encodeViewer m)
+    → then g (λ x left. endingIn (formula x) left rest) ≡ result k (entry (formula x) m) rest
+passive-ends x m rest zero g e = rw e (ending-reads (formula x) m rest)
+passive-ends x m rest (suc k) g e = rw e
 
-item-result : (n : ℕ) (b : Item) (rest : List ℕ) → behaviourIn n (tagOf b) (valueOf b) rest ≡ result (itemFault n b) b rest
-item-result n (formula x) rest = in-result formula x rest
-item-result n (state s hs) rest =
-    rw (start-any s (encodeHandlers hs))
-    (ends s hs rest (clausesFault n [] hs) (handlersAt (length (encodeHandlers hs)) n [] (encodeHandlers hs))
-    (handlers-result (length (encodeHandlers hs)) n [] hs (many-handlers hs)))
+active-ends : (s : ℕ) (hs : List Clause) (m : Option ℕ) (rest : List ℕ) (k : ℕ) (g : Got (List Clause)) → g ≡ result k hs (encodeViewer m)
+    → then g (λ hs over. endingIn (state s hs) over rest) ≡ result k (entry (state s hs) m) rest
+active-ends s hs m rest zero g e = rw e (ending-reads (state s hs) m rest)
+active-ends s hs m rest (suc k) g e = rw e
+
+item-result : (n : ℕ) (b : Item) (m : Option ℕ) (rest : List ℕ) → behaviourIn n (tagOf b) (valueOf (entry b m)) rest ≡ result (itemFault n b) (entry b m) rest
+item-result n (formula x) m rest = passive-ends x m rest (exprFault 16 x) (exprAt 16 (encodeExpr x ++ encodeViewer m)) (expr-result 16 x (encodeViewer m))
+item-result n (state s hs) m rest =
+    let few : length hs ≤ length (encodeHandlers hs ++ encodeViewer m) =
+    omega (arith, many-handlers hs, length-append (encodeHandlers hs) (encodeViewer m)) in
+    rw (start-any s (encodeHandlers hs ++ encodeViewer m))
+    (active-ends s hs m rest (clausesFault n [] hs) (handlersAt (length (encodeHandlers hs ++ encodeViewer m)) n [] (encodeHandlers hs ++ encodeViewer m))
+    (handlers-result (length (encodeHandlers hs ++ encodeViewer m)) n [] hs (encodeViewer m) (ends-encoded m) few))
+
+entry-result : (n : ℕ) (b : Entry) (rest : List ℕ) → behaviourIn n (tagOf (b .item)) (valueOf b) rest ≡ result (itemFault n (b .item)) b rest
+entry-result n b rest = item-result n (b .item) (b .viewer) rest
 
 -- ---- the whole: n events are declared, and m behaviours before these
 
-unfoldable pub itemsFault : ℕ → ℕ → List Item → ℕ
-itemsFault n m [] = 0
-itemsFault n m (c ∷ cs) = pick (leb 64 m) 7 (first (itemFault n c) (itemsFault n (suc m) cs))
+unfoldable pub entriesFault : ℕ → ℕ → List Entry → ℕ
+entriesFault n m [] = 0
+entriesFault n m (c ∷ cs) = pick (leb 64 m) 7 (first (itemFault n (c .item)) (entriesFault n (suc m) cs))
 
-unfoldable pub eventsFault : ℕ → List ℕ → List Item → ℕ
-eventsFault n [] cs = itemsFault n 0 cs
-eventsFault n (q ∷ qs) cs = pick (leb 32 n) 7 (pick (ltb 15 q) 8 (eventsFault (suc n) qs cs))
+unfoldable pub eventsFault : ℕ → List Signal → List Entry → ℕ
+eventsFault n [] cs = entriesFault n 0 cs
+eventsFault n (q ∷ qs) cs = pick (leb 32 n) 7 (pick (ltb 15 (q .priority)) 8 (eventsFault (suc n) qs cs))
 
-next-item : (k : ℕ) (rs : List ℕ) (bs cs : List Item) (c : Item) (m o : ℕ) (g : Got Item) → g ≡ result m c (encodeBehaviours cs)
+next-entry : (k : ℕ) (rs : List Signal) (bs cs : List Entry) (c : Entry) (m o : ℕ) (g : Got Entry) → g ≡ result m c (encodeBehaviours cs)
     → behavioursAt k rs (bs ++ (c ∷ [])) (encodeBehaviours cs) ≡ result o (sheet rs (bs ++ (c ∷ cs))) []
     → then g (λ x rest. behavioursAt k rs (bs ++ (x ∷ [])) rest) ≡ result (first m o) (sheet rs (bs ++ (c ∷ cs))) []
-next-item k rs bs cs c zero o g e i = rw e i
-next-item k rs bs cs c (suc m) o g e i = rw e
+next-entry k rs bs cs c zero o g e i = rw e i
+next-entry k rs bs cs c (suc m) o g e i = rw e
 
-behaviours-result : (k m : ℕ) (rs : List ℕ) (bs cs : List Item) → length bs ≡ m → length cs ≤ k
-    → behavioursAt k rs bs (encodeBehaviours cs) ≡ result (itemsFault (length rs) m cs) (sheet rs (bs ++ cs)) []
-unfolding behavioursAt encodeBehaviours itemsFault
+behaviours-result : (k m : ℕ) (rs : List Signal) (bs cs : List Entry) → length bs ≡ m → length cs ≤ k
+    → behavioursAt k rs bs (encodeBehaviours cs) ≡ result (entriesFault (length rs) m cs) (sheet rs (bs ++ cs)) []
+unfolding behavioursAt encodeBehaviours entriesFault
 behaviours-result zero m rs bs [] l a = rw (append-nil bs)
 behaviours-result zero m rs bs (c ∷ cs) l a = absurd (omega arith)
 behaviours-result (suc k) m rs bs [] l a = rw (append-nil bs)
@@ -227,50 +241,56 @@ behaviours-result (suc k) m rs bs (c ∷ cs) l a =
     )
     (split (leb 64 m) (λ e. rw e)
     (λ e. rw e
-    (next-item k rs bs cs c (itemFault (length rs) c) (itemsFault (length rs) (suc m) cs) (behaviourIn (length rs) (tagOf c) (valueOf c) (encodeBehaviours cs))
-    (item-result (length rs) c (encodeBehaviours cs))
+    (next-entry k rs bs cs c (itemFault (length rs) (c .item)) (entriesFault (length rs) (suc m) cs) (behaviourIn (length rs) (tagOf (c .item)) (valueOf c) (encodeBehaviours cs))
+    (entry-result (length rs) c (encodeBehaviours cs))
     (rw (append-assoc bs (c ∷ []) cs) at (behaviours-result k (suc m) rs (bs ++ (c ∷ [])) cs (omega (arith, length-append bs (c ∷ []))) (omega arith))))))
 
-first-item : (k : ℕ) (rs : List ℕ) (cs : List Item) → length cs ≤ k → eventsAt k rs (encodeBehaviours cs) ≡ result (itemsFault (length rs) 0 cs) (sheet rs cs) []
-unfolding eventsAt encodeBehaviours itemsFault
-first-item zero rs [] a = refl
-first-item zero rs (c ∷ cs) a = absurd (omega arith)
-first-item (suc k) rs [] a = refl
-first-item (suc k) rs (c ∷ cs) a =
+first-entry : (k : ℕ) (rs : List Signal) (cs : List Entry) → length cs ≤ k → eventsAt k rs (encodeBehaviours cs) ≡ result (entriesFault (length rs) 0 cs) (sheet rs cs) []
+unfolding eventsAt encodeBehaviours entriesFault
+first-entry zero rs [] a = refl
+first-entry zero rs (c ∷ cs) a = absurd (omega arith)
+first-entry (suc k) rs [] a = refl
+first-entry (suc k) rs (c ∷ cs) a =
     rw (
       ne-eqb (length (encodeBehaviour c ++ encodeBehaviours cs)) 0 (omega (arith, behaviour-bytes c (encodeBehaviours cs))),
       behaviour-at 1 c (encodeBehaviours cs) (omega arith),
-      ne-eqb (tagOf c) 1 (omega (arith, tag-least c)),
+      ne-eqb (tagOf (c .item)) 1 (omega (arith, tag-least (c .item))),
     )
-    (next-item k rs [] cs c (itemFault (length rs) c) (itemsFault (length rs) 1 cs) (behaviourIn (length rs) (tagOf c) (valueOf c) (encodeBehaviours cs))
-    (item-result (length rs) c (encodeBehaviours cs)) (behaviours-result k 1 rs (c ∷ []) cs refl (omega arith)))
+    (next-entry k rs [] cs c (itemFault (length rs) (c .item)) (entriesFault (length rs) 1 cs) (behaviourIn (length rs) (tagOf (c .item)) (valueOf c) (encodeBehaviours cs))
+    (entry-result (length rs) c (encodeBehaviours cs)) (behaviours-result k 1 rs (c ∷ []) cs refl (omega arith)))
 
-events-result : (k n : ℕ) (rs qs : List ℕ) (cs : List Item) → length rs ≡ n → length qs + length cs ≤ k
+signal-any : (r : ℕ) (m : Option ℕ) (rest : List ℕ) → signalIn (r ∷ encodeSender m) rest ≡ pick (ltb 15 r) (bad 8) (got (signal r m) rest)
+signal-any r none rest = refl
+signal-any r (some m) rest = refl
+
+events-result : (k n : ℕ) (rs qs : List Signal) (cs : List Entry) → length rs ≡ n → length qs + length cs ≤ k
     → eventsAt k rs (encodeEvents qs ++ encodeBehaviours cs) ≡ result (eventsFault n qs cs) (sheet (rs ++ qs) cs) []
 unfolding eventsAt encodeEvents eventsFault
-events-result k n rs [] cs l a = rw (append-nil rs, ← l) (first-item k rs cs (omega arith))
+events-result k n rs [] cs l a = rw (append-nil rs, ← l) (first-entry k rs cs (omega arith))
 events-result zero n rs (q ∷ qs) cs l a = absurd (omega arith)
 events-result (suc k) n rs (q ∷ qs) cs l a =
-    rw (
-      ne-eqb (length (field 1 (q ∷ []) ++ (encodeEvents qs ++ encodeBehaviours cs))) 0 (omega arith),
-      field-reads 1 3 1 (q ∷ []) (encodeEvents qs ++ encodeBehaviours cs) (omega arith) (omega arith),
+    ap (eventsAt (suc k) rs) (append-assoc (encodeEvent q) (encodeEvents qs) (encodeBehaviours cs))
+    ∙ rw (
+      ne-eqb (length (encodeEvent q ++ (encodeEvents qs ++ encodeBehaviours cs))) 0 (omega arith),
+      field-reads 1 3 1 (q .priority ∷ encodeSender (q .sender)) (encodeEvents qs ++ encodeBehaviours cs) (omega arith) (omega arith),
+      signal-any (q .priority) (q .sender) (encodeEvents qs ++ encodeBehaviours cs),
       l,
     )
     (split (leb 32 n) (λ e. rw e)
     (λ e. rw e
-    (split (ltb 15 q) (λ d. rw d)
+    (split (ltb 15 (q .priority)) (λ d. rw d)
     (λ d. rw d (rw (append-assoc rs (q ∷ []) qs) at (events-result k (suc n) (rs ++ (q ∷ [])) qs cs (omega (arith, length-append rs (q ∷ []))) (omega arith)))))))
 
 -- the reading of a sheet's encoding
 unfoldable pub sheetFault : Sheet → ℕ
-sheetFault x = eventsFault 0 (x .priorities) (x .items)
+sheetFault x = eventsFault 0 (x .signals) (x .entries)
 
 pub sheet-result : (x : Sheet) → readSheet (encode x) ≡ result (sheetFault x) x []
 unfolding readSheet encode sheetFault
 sheet-result x =
-    let bound : length (x .priorities) + length (x .items) ≤ length (encodeEvents (x .priorities) ++ encodeBehaviours (x .items)) =
-    omega (arith, many-events (x .priorities), many-behaviours (x .items), length-append (encodeEvents (x .priorities)) (encodeBehaviours (x .items))) in
-    events-result (length (encodeEvents (x .priorities) ++ encodeBehaviours (x .items))) 0 [] (x .priorities) (x .items) refl bound
+    let bound : length (x .signals) + length (x .entries) ≤ length (encodeEvents (x .signals) ++ encodeBehaviours (x .entries)) =
+    omega (arith, many-events (x .signals), many-behaviours (x .entries), length-append (encodeEvents (x .signals)) (encodeBehaviours (x .entries))) in
+    events-result (length (encodeEvents (x .signals) ++ encodeBehaviours (x .entries))) 0 [] (x .signals) (x .entries) refl bound
 
 -- ---- parameters written out
 
@@ -307,17 +327,17 @@ module _ (v : ℕ → ℕ) where
   item-written n (formula x) h = expr-written 16 x h
   item-written n (state s hs) h = clauses-written n [] hs h
 
-  items-written : (n m : ℕ) (cs : List Item) → All ItemParamsIn cs → itemsFault n m (writeItems v cs) ≡ itemsFault n m cs
-  unfolding itemsFault writeItems
-  items-written n m [] h = refl
-  items-written n m (c ∷ cs) h = rw (item-written n c (h .0), items-written n (suc m) cs (h .1))
+  entries-written : (n m : ℕ) (cs : List Entry) → All (λ (c : Entry). ItemParamsIn (c .item)) cs → entriesFault n m (writeEntries v cs) ≡ entriesFault n m cs
+  unfolding entriesFault writeEntries
+  entries-written n m [] h = refl
+  entries-written n m (c ∷ cs) h = rw (item-written n (c .item) (h .0), entries-written n (suc m) cs (h .1))
 
-  events-written : (n : ℕ) (qs : List ℕ) (cs : List Item) → All ItemParamsIn cs → eventsFault n qs (writeItems v cs) ≡ eventsFault n qs cs
+  events-written : (n : ℕ) (qs : List Signal) (cs : List Entry) → All (λ (c : Entry). ItemParamsIn (c .item)) cs → eventsFault n qs (writeEntries v cs) ≡ eventsFault n qs cs
   unfolding eventsFault
-  events-written n [] cs h = items-written n 0 cs h
+  events-written n [] cs h = entries-written n 0 cs h
   events-written n (q ∷ qs) cs h = rw (events-written (suc n) qs cs h)
 
   -- a sheet and the sheet written out have the same first fault, or none
-  pub fault-written : (x : Sheet) → All ItemParamsIn (x .items) → sheetFault (writtenOut v x) ≡ sheetFault x
+  pub fault-written : (x : Sheet) → All (λ (c : Entry). ItemParamsIn (c .item)) (x .entries) → sheetFault (writtenOut v x) ≡ sheetFault x
   unfolding sheetFault
-  fault-written x h = events-written 0 (x .priorities) (x .items) h
+  fault-written x h = events-written 0 (x .signals) (x .entries) h

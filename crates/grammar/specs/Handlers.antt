@@ -1,4 +1,4 @@
--- Handlers: a list of handlers within its limits is read back after those already read, and what is read is such a list.
+-- Handlers: a list of handlers within its limits is read back after those already read, up to the end or a tag 08 (02, M-107), and what is read is such a list.
 -- The reader's test against the handlers read so far is the grammar's "none has two handlers", seen from the end; both go by induction on the list or the bound.
 use Prim.Native.Nat.{ℕ, zero, suc, _≤_, _<_}
 use mathlib.Core.Bool.{true, false}
@@ -8,12 +8,12 @@ use mathlib.Core.List.{List, [], _∷_, _++_, append-assoc, append-nil}
 use native.Mathlib.Omega.{arith}
 use lib.ListN.{length, length-append}
 use lib.Dec.{ltb, leb, eqb}
-use borrow.Author.Tests.{ltb-false, leb-false, lt-leb, eqb-true, eqb-false, ne-eqb}
+use borrow.Author.Tests.{ltb-false, leb-false, lt-leb, eqb-false, ne-eqb}
 use Rattle.base.specs.Tools.{by-test, all-split, neither}
 use Rattle.language.specs.Syntax.{Phase, immediate, later}
 use Rattle.language.specs.Sheet.{Term, Clause, clause}
 use Rattle.language.specs.Grammar.{field, encodeExpr, encodePhase, encodeHandler, encodeHandlers, TermFits, NoClauseFor, ClausesFit}
-use Rattle.language.specs.Reading.{Field, refused, present, fieldAt, Got, bad, got, exprIn, handles, phaseOf, phaseIn, handlerIn, handlerBody, handlersAt}
+use Rattle.language.specs.Reading.{Field, refused, present, fieldAt, Got, bad, got, exprIn, handles, phaseOf, phaseIn, handlerIn, handlerBody, ends, handlersAt}
 use Rattle.grammar.specs.Fields.{Bytes, Headed, field-reads, field-says, field-bytes}
 use Rattle.grammar.specs.Results.{Says, then-of}
 use Rattle.grammar.specs.Expressions.{expr-in-reads, expr-in-of}
@@ -66,16 +66,17 @@ many-handlers [] = omega arith
 many-handlers (clause e φ x ∷ hs) =
     omega (arith, many-handlers hs, length-append (encodeExpr x) (encodeHandlers hs))
 
-pub handlers-read : (k n : ℕ) (hs ks : List Clause) → length ks ≤ k → ClausesFit n (hs ++ ks) → handlersAt k n hs (encodeHandlers ks) ≡ got (hs ++ ks) []
+pub handlers-read : (k n : ℕ) (hs ks : List Clause) (rest : List ℕ) → ends rest ≡ true → length ks ≤ k → ClausesFit n (hs ++ ks)
+    → handlersAt k n hs (encodeHandlers ks ++ rest) ≡ got (hs ++ ks) rest
 unfolding handlersAt encodeHandlers
-handlers-read zero n hs [] b h = rw (append-nil hs)
-handlers-read zero n hs (g ∷ ks) b h = absurd (omega arith)
-handlers-read (suc k) n hs [] b h = rw (append-nil hs)
-handlers-read (suc k) n hs (clause e φ x ∷ ks) b h =
+handlers-read zero n hs [] rest z b h = rw (append-nil hs, z)
+handlers-read zero n hs (g ∷ ks) rest z b h = absurd (omega arith)
+handlers-read (suc k) n hs [] rest z b h = rw (append-nil hs, z)
+handlers-read (suc k) n hs (clause e φ x ∷ ks) rest z b h =
     rw (
-      ne-eqb (length (encodeHandler (clause e φ x) ++ encodeHandlers ks)) 0 (omega arith),
-      handler-reads n hs (clause e φ x) (encodeHandlers ks) (fit-at n e φ x hs ks h),
-      handlers-read k n (hs ++ (clause e φ x ∷ [])) ks (omega arith) (rw (append-assoc hs (clause e φ x ∷ []) ks) h),
+      append-assoc (encodeHandler (clause e φ x)) (encodeHandlers ks) rest,
+      handler-reads n hs (clause e φ x) (encodeHandlers ks ++ rest) (fit-at n e φ x hs ks h),
+      handlers-read k n (hs ++ (clause e φ x ∷ [])) ks rest z (omega arith) (rw (append-assoc hs (clause e φ x ∷ []) ks) h),
       append-assoc hs (clause e φ x ∷ []) ks,
     )
 
@@ -107,10 +108,10 @@ module _ (n : ℕ) (hs : List Clause) (s : List ℕ) where
   handler-says (refused m) h = omega arith
   handler-says (present t v rest) h = let q : t ≡ 5 = omega arith in handler-in-says v rest (λ b. rw q at (h .2 b))
 
--- the handlers got are those of hs and then those of s, to its end
+-- the handlers got are those of hs and then those of s, up to the bytes that are left
 abbrev pub SaysHandlers : ℕ → List Clause → List ℕ → Got (List Clause) → Type 0
 SaysHandlers n hs s (bad m) = (4 ≤ m) × (m ≤ 10)
-SaysHandlers n hs s (got ks rest) = Bytes s → ClausesFit n hs → (encodeHandlers hs ++ s ≡ encodeHandlers ks) × ClausesFit n ks × (rest ≡ [])
+SaysHandlers n hs s (got ks rest) = Bytes s → ClausesFit n hs → (encodeHandlers hs ++ s ≡ encodeHandlers ks ++ rest) × ClausesFit n ks
 
 encode-snoc : (hs : List Clause) (h : Clause) → encodeHandlers (hs ++ (h ∷ [])) ≡ encodeHandlers hs ++ encodeHandler h
 unfolding encodeHandlers
@@ -124,17 +125,16 @@ snoc-says n hs s (clause e φ x) rest g (got ks left) k = λ b f.
     let r = g b in
     let br : Bytes rest = all-split (λ b. b < 256) (encodeHandler (clause e φ x)) rest (rw (r .0) at b) .1 in
     let q = k br (fit-snoc n e φ x hs f (r .1)) in
-    (rw (r .0) (sym (append-assoc (encodeHandlers hs) (encodeHandler (clause e φ x)) rest) ∙ rw (encode-snoc hs (clause e φ x)) at (q .0)), q .1, q .2)
+    (rw (r .0) (sym (append-assoc (encodeHandlers hs) (encodeHandler (clause e φ x)) rest) ∙ rw (encode-snoc hs (clause e φ x)) at (q .0)), q .1)
 
-end-says : (n : ℕ) (hs : List Clause) (s : List ℕ) → eqb (length s) 0 ≡ true → SaysHandlers n hs s (got hs [])
-end-says n hs [] e = λ b f. (append-nil (encodeHandlers hs), f, refl)
-end-says n hs (x ∷ s) e = absurd (omega (arith, eqb-true (length (x ∷ s)) 0 e))
+end-says : (n : ℕ) (hs : List Clause) (s : List ℕ) → SaysHandlers n hs s (got hs s)
+end-says n hs s = λ b f. (refl, f)
 
 pub handlers-say : (k n : ℕ) (hs : List Clause) (s : List ℕ) → SaysHandlers n hs s (handlersAt k n hs s)
 unfolding handlersAt
-handlers-say zero n hs s = by-test (SaysHandlers n hs s) (eqb (length s) 0) (end-says n hs s) (λ e. omega arith)
+handlers-say zero n hs s = by-test (SaysHandlers n hs s) (ends s) (λ e. end-says n hs s) (λ e. omega arith)
 handlers-say (suc k) n hs s =
-    by-test (SaysHandlers n hs s) (eqb (length s) 0) (end-says n hs s)
+    by-test (SaysHandlers n hs s) (ends s) (λ e. end-says n hs s)
     (λ e. then-of (SaysHandlers n hs s) (Says encodeHandler (HandlerFits n hs) s) _ (λ m h. h)
     (λ h rest g. snoc-says n hs s h rest g (handlersAt k n (hs ++ (h ∷ [])) rest) (handlers-say k n (hs ++ (h ∷ [])) rest))
     (handlerBody n hs (fieldAt 5 5 s)) (handler-says n hs s (fieldAt 5 5 s) (field-says 5 5 s)))

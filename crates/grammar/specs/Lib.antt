@@ -2,6 +2,7 @@ pub mod Fields
 pub mod Results
 pub mod Expressions
 pub mod Handlers
+pub mod Endings
 pub mod Behaviours
 pub mod Programs
 pub mod Faults

@@ -3,6 +3,7 @@
 use Prim.Native.Nat.{ℕ, zero, suc, _+_, _≤_, _<_}
 use mathlib.Core.Bool.{true}
 use mathlib.Core.Path.{_≡_, refl, sym, ap, _∙_}
+use mathlib.Core.Option.{Option, none, some}
 use mathlib.Core.List.{List, [], _∷_, _++_, append-assoc, append-nil}
 use native.Mathlib.Omega.{arith}
 use lib.ListN.{length, length-append}
@@ -10,35 +11,40 @@ use lib.Dec.{ltb, leb, eqb}
 use borrow.Author.Tests.{ltb-false, leb-false, lt-leb, le-ltb, eqb-true, eqb-false, ne-eqb}
 use Rattle.base.specs.Basics.{All}
 use Rattle.base.specs.Tools.{by-test, all-split, all-join}
-use Rattle.language.specs.Sheet.{Item, Sheet}
-use Rattle.language.specs.Grammar.{field, encodeBehaviour, encodeBehaviours, encodeEvents, encode, ItemFits, SheetFits}
-use Rattle.language.specs.Reading.{Field, refused, present, fieldAt, Got, bad, got, then, behaviourIn, priorityIn, sheet, behaviourBody, behavioursAt, eventsBody, eventsAt, readSheet}
-use Rattle.grammar.specs.Fields.{Bytes, Headed, field-reads, field-says}
+use Rattle.language.specs.Sheet.{Signal, Entry, Sheet}
+use Rattle.language.specs.Grammar.{field, tagOf, encodeBehaviour, encodeBehaviours, encodeSender, encodeEvent, encodeEvents, encode, SignalFits, EntryFits, SheetFits}
+use Rattle.language.specs.Reading.{Field, refused, present, fieldAt, Got, bad, got, then, behaviourIn, signal, signalIn, sheet, behaviourBody, behavioursAt, eventsBody, eventsAt, readSheet}
+use Rattle.grammar.specs.Fields.{Bytes, Headed, field-reads, field-says, field-bytes}
 use Rattle.grammar.specs.Results.{Says, then-of}
-use Rattle.grammar.specs.Behaviours.{tagOf, valueOf, behaviour-field, tag-least, tag-most, behaviour-reads, behaviour-says}
+use Rattle.grammar.specs.Behaviours.{valueOf, tag-least, tag-most, behaviour-reads, behaviour-says}
 
 -- ---- reading back
 
 -- at least one byte for each behaviour, and for each event
-pub behaviour-bytes : (b : Item) (s : List ℕ) → 1 ≤ length (encodeBehaviour b ++ s)
-behaviour-bytes b s = rw (behaviour-field b) (omega arith)
+pub behaviour-bytes : (b : Entry) (s : List ℕ) → 1 ≤ length (encodeBehaviour b ++ s)
+behaviour-bytes b s = omega arith
 
-pub many-behaviours : (bs : List Item) → length bs ≤ length (encodeBehaviours bs)
+pub many-behaviours : (bs : List Entry) → length bs ≤ length (encodeBehaviours bs)
 unfolding encodeBehaviours
 many-behaviours [] = omega arith
 many-behaviours (b ∷ bs) =
     omega (arith, many-behaviours bs, length-append (encodeBehaviour b) (encodeBehaviours bs), length-append (encodeBehaviour b) [], behaviour-bytes b [])
 
-pub many-events : (rs : List ℕ) → length rs ≤ length (encodeEvents rs)
+pub many-events : (rs : List Signal) → length rs ≤ length (encodeEvents rs)
 unfolding encodeEvents
 many-events [] = omega arith
-many-events (r ∷ rs) = omega (arith, many-events rs)
+many-events (r ∷ rs) = omega (arith, many-events rs, length-append (encodeEvent r) (encodeEvents rs))
 
 -- a behaviour's field at the front, where a behaviour or any field is due
-pub behaviour-at : (lo : ℕ) (b : Item) (rest : List ℕ) → lo ≤ 2 → fieldAt lo 3 (encodeBehaviour b ++ rest) ≡ present (tagOf b) (valueOf b) rest
-behaviour-at lo b rest h = rw (behaviour-field b) (field-reads lo 3 (tagOf b) (valueOf b) rest (omega (arith, tag-least b)) (tag-most b))
+pub behaviour-at : (lo : ℕ) (b : Entry) (rest : List ℕ) → lo ≤ 2 → fieldAt lo 3 (encodeBehaviour b ++ rest) ≡ present (tagOf (b .item)) (valueOf b) rest
+behaviour-at lo b rest h = field-reads lo 3 (tagOf (b .item)) (valueOf b) rest (omega (arith, tag-least (b .item))) (tag-most (b .item))
 
-behaviours-read : (k : ℕ) (rs : List ℕ) (bs cs : List Item) → length cs ≤ k → length (bs ++ cs) ≤ 64 → All (ItemFits (length rs)) cs
+-- an event's value is read
+sender-reads : (r : ℕ) (m : Option ℕ) (rest : List ℕ) → r ≤ 15 → signalIn (r ∷ encodeSender m) rest ≡ got (signal r m) rest
+sender-reads r none rest h = rw (le-ltb 15 r h)
+sender-reads r (some m) rest h = rw (le-ltb 15 r h)
+
+behaviours-read : (k : ℕ) (rs : List Signal) (bs cs : List Entry) → length cs ≤ k → length (bs ++ cs) ≤ 64 → All (EntryFits (length rs)) cs
     → behavioursAt k rs bs (encodeBehaviours cs) ≡ got (sheet rs (bs ++ cs)) []
 unfolding behavioursAt encodeBehaviours
 behaviours-read zero rs bs [] a b f = rw (append-nil bs)
@@ -55,7 +61,7 @@ behaviours-read (suc k) rs bs (c ∷ cs) a b f =
     )
 
 -- no event is left to read: the first behaviour is read here, the others there
-first-reads : (k : ℕ) (rs : List ℕ) (cs : List Item) → length cs ≤ k → length cs ≤ 64 → All (ItemFits (length rs)) cs
+first-reads : (k : ℕ) (rs : List Signal) (cs : List Entry) → length cs ≤ k → length cs ≤ 64 → All (EntryFits (length rs)) cs
     → eventsAt k rs (encodeBehaviours cs) ≡ got (sheet rs cs) []
 unfolding eventsAt encodeBehaviours
 first-reads zero rs [] a b f = refl
@@ -65,23 +71,24 @@ first-reads (suc k) rs (c ∷ cs) a b f =
     rw (
       ne-eqb (length (encodeBehaviour c ++ encodeBehaviours cs)) 0 (omega (arith, behaviour-bytes c (encodeBehaviours cs))),
       behaviour-at 1 c (encodeBehaviours cs) (omega arith),
-      ne-eqb (tagOf c) 1 (omega (arith, tag-least c)),
+      ne-eqb (tagOf (c .item)) 1 (omega (arith, tag-least (c .item))),
       behaviour-reads (length rs) c (encodeBehaviours cs) (f .0),
     ) (behaviours-read k rs (c ∷ []) cs (omega arith) b (f .1))
 
-events-read : (k : ℕ) (rs qs : List ℕ) (cs : List Item) → length qs + length cs ≤ k → length (rs ++ qs) ≤ 32 → length cs ≤ 64
-    → All (λ r. r ≤ 15) qs → All (ItemFits (length (rs ++ qs))) cs
+events-read : (k : ℕ) (rs qs : List Signal) (cs : List Entry) → length qs + length cs ≤ k → length (rs ++ qs) ≤ 32 → length cs ≤ 64
+    → All SignalFits qs → All (EntryFits (length (rs ++ qs))) cs
     → eventsAt k rs (encodeEvents qs ++ encodeBehaviours cs) ≡ got (sheet (rs ++ qs) cs) []
 unfolding eventsAt encodeEvents
 events-read k rs [] cs a b c g f = rw (append-nil rs) (first-reads k rs cs (omega arith) c (rw (append-nil rs) at f))
 events-read zero rs (q ∷ qs) cs a b c g f = absurd (omega arith)
 events-read (suc k) rs (q ∷ qs) cs a b c g f =
     let e = append-assoc rs (q ∷ []) qs in
-    rw (
-      ne-eqb (length (field 1 (q ∷ []) ++ (encodeEvents qs ++ encodeBehaviours cs))) 0 (omega arith),
-      field-reads 1 3 1 (q ∷ []) (encodeEvents qs ++ encodeBehaviours cs) (omega arith) (omega arith),
+    ap (eventsAt (suc k) rs) (append-assoc (encodeEvent q) (encodeEvents qs) (encodeBehaviours cs))
+    ∙ rw (
+      ne-eqb (length (encodeEvent q ++ (encodeEvents qs ++ encodeBehaviours cs))) 0 (omega arith),
+      field-reads 1 3 1 (q .priority ∷ encodeSender (q .sender)) (encodeEvents qs ++ encodeBehaviours cs) (omega arith) (omega arith),
       lt-leb 32 (length rs) (omega (arith, length-append rs (q ∷ qs))),
-      le-ltb 15 q (g .0),
+      sender-reads (q .priority) (q .sender) (encodeEvents qs ++ encodeBehaviours cs) (g .0 .0),
       events-read k (rs ++ (q ∷ [])) qs cs (omega arith) (rw e b) c (g .1) (rw e f),
       e,
     )
@@ -89,9 +96,9 @@ events-read (suc k) rs (q ∷ qs) cs a b c g f =
 pub reads-back : (p : Sheet) → SheetFits p → readSheet (encode p) ≡ got p []
 unfolding readSheet encode
 reads-back p h =
-    let bound : length (p .priorities) + length (p .items) ≤ length (encodeEvents (p .priorities) ++ encodeBehaviours (p .items)) =
-    omega (arith, many-events (p .priorities), many-behaviours (p .items), length-append (encodeEvents (p .priorities)) (encodeBehaviours (p .items))) in
-    events-read (length (encodeEvents (p .priorities) ++ encodeBehaviours (p .items))) [] (p .priorities) (p .items) bound
+    let bound : length (p .signals) + length (p .entries) ≤ length (encodeEvents (p .signals) ++ encodeBehaviours (p .entries)) =
+    omega (arith, many-events (p .signals), many-behaviours (p .entries), length-append (encodeEvents (p .signals)) (encodeBehaviours (p .entries))) in
+    events-read (length (encodeEvents (p .signals) ++ encodeBehaviours (p .entries))) [] (p .signals) (p .entries) bound
     (h .few-events) (h .few-behaviours) (h .scale) (h .each)
 
 -- ---- what is read
@@ -99,29 +106,29 @@ reads-back p h =
 -- the limits apart from the count of bytes
 abbrev pub Limits : Sheet → Type 0
 Limits p =
-    (length (p .priorities) ≤ 32) × (length (p .items) ≤ 64) × All (λ r. r ≤ 15) (p .priorities)
-    × All (ItemFits (length (p .priorities))) (p .items)
+    (length (p .signals) ≤ 32) × (length (p .entries) ≤ 64) × All SignalFits (p .signals)
+    × All (EntryFits (length (p .signals))) (p .entries)
 
 -- the sheet got is the one read before, and then what s has, to its end
 abbrev SaysProgram : Sheet → List ℕ → Got Sheet → Type 0
 SaysProgram p s (bad m) = (4 ≤ m) × (m ≤ 10)
 SaysProgram p s (got q rest) = Bytes s → Limits p → (encode p ++ s ≡ encode q) × Limits q × (rest ≡ [])
 
-behaviours-snoc : (bs : List Item) (b : Item) → encodeBehaviours (bs ++ (b ∷ [])) ≡ encodeBehaviours bs ++ encodeBehaviour b
+behaviours-snoc : (bs : List Entry) (b : Entry) → encodeBehaviours (bs ++ (b ∷ [])) ≡ encodeBehaviours bs ++ encodeBehaviour b
 unfolding encodeBehaviours
 behaviours-snoc [] b = append-nil (encodeBehaviour b)
 behaviours-snoc (c ∷ cs) b = rw (behaviours-snoc cs b, append-assoc (encodeBehaviour c) (encodeBehaviours cs) (encodeBehaviour b))
 
-encode-behaviour : (rs : List ℕ) (bs : List Item) (b : Item) → encode (sheet rs (bs ++ (b ∷ []))) ≡ encode (sheet rs bs) ++ encodeBehaviour b
+encode-behaviour : (rs : List Signal) (bs : List Entry) (b : Entry) → encode (sheet rs (bs ++ (b ∷ []))) ≡ encode (sheet rs bs) ++ encodeBehaviour b
 unfolding encode
 encode-behaviour rs bs b = rw (behaviours-snoc bs b, append-assoc (encodeEvents rs) (encodeBehaviours bs) (encodeBehaviour b))
 
-events-snoc : (rs : List ℕ) (r : ℕ) → encodeEvents (rs ++ (r ∷ [])) ≡ encodeEvents rs ++ field 1 (r ∷ [])
+events-snoc : (rs : List Signal) (r : Signal) → encodeEvents (rs ++ (r ∷ [])) ≡ encodeEvents rs ++ encodeEvent r
 unfolding encodeEvents
-events-snoc [] r = refl
-events-snoc (q ∷ qs) r = rw (events-snoc qs r)
+events-snoc [] r = append-nil (encodeEvent r)
+events-snoc (q ∷ qs) r = rw (events-snoc qs r, append-assoc (encodeEvent q) (encodeEvents qs) (encodeEvent r))
 
-encode-event : (rs : List ℕ) (r : ℕ) → encode (sheet (rs ++ (r ∷ [])) []) ≡ encode (sheet rs []) ++ field 1 (r ∷ [])
+encode-event : (rs : List Signal) (r : Signal) → encode (sheet (rs ++ (r ∷ [])) []) ≡ encode (sheet rs []) ++ encodeEvent r
 unfolding encode encodeBehaviours
 encode-event rs r = rw (append-nil (encodeEvents (rs ++ (r ∷ []))), append-nil (encodeEvents rs)) (events-snoc rs r)
 
@@ -139,27 +146,27 @@ end-says p [] e = λ b f. (append-nil (encode p), f, refl)
 end-says p (x ∷ s) e = absurd (omega (arith, eqb-true (length (x ∷ s)) 0 e))
 
 -- a behaviour after those of bs
-abbrev SaysBehaviour : List ℕ → List Item → List ℕ → Got Item → Type 0
+abbrev SaysBehaviour : List Signal → List Entry → List ℕ → Got Entry → Type 0
 SaysBehaviour rs bs s (bad m) = (4 ≤ m) × (m ≤ 10)
 SaysBehaviour rs bs s (got x rest) = Bytes s → (s ≡ encodeBehaviour x ++ rest) × (Limits (sheet rs bs) → Limits (sheet rs (bs ++ (x ∷ []))))
 
-limits-behaviour : (rs : List ℕ) (bs : List Item) (x : Item) → length bs < 64 → ItemFits (length rs) x
+limits-behaviour : (rs : List Signal) (bs : List Entry) (x : Entry) → length bs < 64 → EntryFits (length rs) x
     → Limits (sheet rs bs) → Limits (sheet rs (bs ++ (x ∷ [])))
 limits-behaviour rs bs x a f h =
-    (h .0, omega (arith, length-append bs (x ∷ [])), h .2, all-join (ItemFits (length rs)) bs (x ∷ []) (h .3) (f, tt))
+    (h .0, omega (arith, length-append bs (x ∷ [])), h .2, all-join (EntryFits (length rs)) bs (x ∷ []) (h .3) (f, tt))
 
-counted-says : (rs : List ℕ) (bs : List Item) (s : List ℕ) → length bs < 64
-    → (r : Got Item) → Says encodeBehaviour (ItemFits (length rs)) s r → SaysBehaviour rs bs s r
+counted-says : (rs : List Signal) (bs : List Entry) (s : List ℕ) → length bs < 64
+    → (r : Got Entry) → Says encodeBehaviour (EntryFits (length rs)) s r → SaysBehaviour rs bs s r
 counted-says rs bs s a (bad m) h = h
 counted-says rs bs s a (got x rest) h = λ b. let r = h b in (r .0, limits-behaviour rs bs x a (r .1))
 
-behaviour-body-says : (rs : List ℕ) (bs : List Item) (s : List ℕ) (x : Field) → Headed 2 3 s x → SaysBehaviour rs bs s (behaviourBody rs bs x)
+behaviour-body-says : (rs : List Signal) (bs : List Entry) (s : List ℕ) (x : Field) → Headed 2 3 s x → SaysBehaviour rs bs s (behaviourBody rs bs x)
 behaviour-body-says rs bs s (refused m) h = omega arith
 behaviour-body-says rs bs s (present t v rest) h =
     by-test (SaysBehaviour rs bs s) (leb 64 (length bs)) (λ e. omega arith)
     (λ e. counted-says rs bs s (leb-false 64 (length bs) e) (behaviourIn (length rs) t v rest) (behaviour-says (length rs) s t v rest (h .0) (h .1) (h .2)))
 
-behaviours-say : (k : ℕ) (rs : List ℕ) (bs : List Item) (s : List ℕ) → SaysProgram (sheet rs bs) s (behavioursAt k rs bs s)
+behaviours-say : (k : ℕ) (rs : List Signal) (bs : List Entry) (s : List ℕ) → SaysProgram (sheet rs bs) s (behavioursAt k rs bs s)
 unfolding behavioursAt
 behaviours-say zero rs bs s = by-test (SaysProgram (sheet rs bs) s) (eqb (length s) 0) (end-says (sheet rs bs) s) (λ e. omega arith)
 behaviours-say (suc k) rs bs s =
@@ -170,27 +177,30 @@ behaviours-say (suc k) rs bs s =
     (behaviourBody rs bs (fieldAt 2 3 s)) (behaviour-body-says rs bs s (fieldAt 2 3 s) (field-says 2 3 s)))
 
 -- an event
-abbrev SaysEvent : List ℕ → Got ℕ → Type 0
-SaysEvent = Says (λ r. field 1 (r ∷ [])) (λ r. r ≤ 15)
+abbrev SaysEvent : List ℕ → Got Signal → Type 0
+SaysEvent = Says encodeEvent SignalFits
 
-priority-says : (s v rest : List ℕ) → (Bytes s → s ≡ field 1 v ++ rest) → SaysEvent s (priorityIn v rest)
-priority-says s [] rest h = omega arith
-priority-says s (r ∷ []) rest h = by-test (SaysEvent s) (ltb 15 r) (λ e. omega arith) (λ e b. (h b, ltb-false 15 r e))
-priority-says s (r ∷ (x ∷ v)) rest h = omega arith
+signal-says : (s v rest : List ℕ) → (Bytes s → s ≡ field 1 v ++ rest) → SaysEvent s (signalIn v rest)
+signal-says s [] rest h = omega arith
+signal-says s (r ∷ []) rest h = by-test (SaysEvent s) (ltb 15 r) (λ e. omega arith) (λ e b. (h b, (ltb-false 15 r e, tt)))
+signal-says s (r ∷ (m ∷ [])) rest h =
+    by-test (SaysEvent s) (ltb 15 r) (λ e. omega arith)
+    (λ e b. (h b, (ltb-false 15 r e, field-bytes 1 (r ∷ m ∷ []) rest s b (h b) .0 .1 .0)))
+signal-says s (r ∷ (m ∷ (x ∷ v))) rest h = omega arith
 
-limits-event : (rs : List ℕ) (r : ℕ) → length rs < 32 → r ≤ 15 → Limits (sheet rs []) → Limits (sheet (rs ++ (r ∷ [])) [])
-limits-event rs r a f h = (omega (arith, length-append rs (r ∷ [])), h .1, all-join (λ r. r ≤ 15) rs (r ∷ []) (h .2) (f, tt), tt)
+limits-event : (rs : List Signal) (r : Signal) → length rs < 32 → SignalFits r → Limits (sheet rs []) → Limits (sheet (rs ++ (r ∷ [])) [])
+limits-event rs r a f h = (omega (arith, length-append rs (r ∷ [])), h .1, all-join SignalFits rs (r ∷ []) (h .2) (f, tt), tt)
 
-module _ (rs s : List ℕ) (more : List ℕ → List ℕ → Got Sheet) (others : List Item → List ℕ → Got Sheet)
-    (more-say : (rs s : List ℕ) → SaysProgram (sheet rs []) s (more rs s))
-    (others-say : (bs : List Item) (s : List ℕ) → SaysProgram (sheet rs bs) s (others bs s)) where
+module _ (rs : List Signal) (s : List ℕ) (more : List Signal → List ℕ → Got Sheet) (others : List Entry → List ℕ → Got Sheet)
+    (more-say : (rs : List Signal) (s : List ℕ) → SaysProgram (sheet rs []) s (more rs s))
+    (others-say : (bs : List Entry) (s : List ℕ) → SaysProgram (sheet rs bs) s (others bs s)) where
   event-says : length rs < 32 → (v rest : List ℕ) → (Bytes s → s ≡ field 1 v ++ rest)
-      → SaysProgram (sheet rs []) s (then (priorityIn v rest) (λ r rest. more (rs ++ (r ∷ [])) rest))
+      → SaysProgram (sheet rs []) s (then (signalIn v rest) (λ r rest. more (rs ++ (r ∷ [])) rest))
   event-says a v rest h =
       then-of (SaysProgram (sheet rs []) s) (SaysEvent s) _ (λ m g. g)
-      (λ r left g. step-says (sheet rs []) (sheet (rs ++ (r ∷ [])) []) (field 1 (r ∷ [])) s left (encode-event rs r)
+      (λ r left g. step-says (sheet rs []) (sheet (rs ++ (r ∷ [])) []) (encodeEvent r) s left (encode-event rs r)
       (λ b. let d = g b in (d .0, limits-event rs r a (d .1))) (more (rs ++ (r ∷ [])) left) (more-say (rs ++ (r ∷ [])) left))
-      (priorityIn v rest) (priority-says s v rest h)
+      (signalIn v rest) (signal-says s v rest h)
 
   first-says : (t : ℕ) (v rest : List ℕ) → 2 ≤ t → t ≤ 3 → (Bytes s → s ≡ field t v ++ rest)
       → SaysProgram (sheet rs []) s (then (behaviourIn (length rs) t v rest) (λ x rest. others (x ∷ []) rest))
@@ -207,7 +217,7 @@ module _ (rs s : List ℕ) (more : List ℕ → List ℕ → Got Sheet) (others 
       (λ d. event-says (leb-false 32 (length rs) d) v rest (λ b. rw (eqb-true t 1 e) at (h .2 b))))
       (λ e. first-says t v rest (omega (arith, eqb-false t 1 e)) (h .1) (h .2))
 
-events-say : (k : ℕ) (rs s : List ℕ) → SaysProgram (sheet rs []) s (eventsAt k rs s)
+events-say : (k : ℕ) (rs : List Signal) (s : List ℕ) → SaysProgram (sheet rs []) s (eventsAt k rs s)
 unfolding eventsAt
 events-say zero rs s = by-test (SaysProgram (sheet rs []) s) (eqb (length s) 0) (end-says (sheet rs []) s) (λ e. omega arith)
 events-say (suc k) rs s =

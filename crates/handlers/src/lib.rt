@@ -6,6 +6,7 @@ ghost use lib.ListN.{length};
 ghost use Rattle.counts.specs.Counts.{Sound};
 ghost use Rattle.emit.specs.Words.{each, memberWords};
 ghost use Rattle.emit.specs.Writing.{Room, Wrote};
+ghost use Rattle.draft.specs.Draft.{draftLength};
 ghost use Rattle.handlers.specs.Handlers.{maskedWords, codeOf};
 use emit::emit_instr;
 use emit::emit_member;
@@ -13,7 +14,7 @@ use ordering::Order;
 
 // op i of each behaviour that the event copies.
 fn emit_members(d: &[u64], e: usize, op: u32, n: usize, t: &mut [u8], k: usize) -> usize
-    requires { ⌜ (length (now d) ≡ 4256) × (n ≤ 64) × (op ≤ 1024) ⌝ }
+    requires { ⌜ (length (now d) ≡ draftLength) × (n ≤ 64) × (op ≤ 1024) ⌝ }
     requires { ⌜ Room (now t) k (each n (memberWords (now d) e op)) ⌝ }
     ensures { λ r. ⌜ Wrote (now (t .entry)) k (each n (memberWords (now (d .entry)) e op)) (now (t .exit)) r ⌝ }
 {
@@ -28,7 +29,7 @@ fn emit_members(d: &[u64], e: usize, op: u32, n: usize, t: &mut [u8], k: usize) 
 
 // Interrupts off, op i of each behaviour that the event copies, interrupts on.
 fn emit_masked(d: &[u64], e: usize, op: u32, n: usize, t: &mut [u8], k: usize) -> usize
-    requires { ⌜ (length (now d) ≡ 4256) × (n ≤ 64) × (op ≤ 1024) ⌝ }
+    requires { ⌜ (length (now d) ≡ draftLength) × (n ≤ 64) × (op ≤ 1024) ⌝ }
     requires { ⌜ Room (now t) k (maskedWords (now d) e op n) ⌝ }
     ensures { λ r. ⌜ Wrote (now (t .entry)) k (maskedWords (now (d .entry)) e op n) (now (t .exit)) r ⌝ }
 {

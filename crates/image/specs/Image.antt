@@ -54,11 +54,15 @@ eventRecord p e = getD (p .priorities) e 0 ∷ startOf p e ∷ length (code p e)
 unfoldable pub padded : ℕ → List ℕ → List ℕ
 padded n ws = ws ++ replicate (n - length ws) 0
 
+-- the values of a fresh round, who may see each behaviour and who may send each event (02, M-107)
+unfoldable pub boardWords : Program → List ℕ
+boardWords p = padded 64 (fresh p) ++ (padded 64 (p .viewers) ++ padded 248 (p .senders))
+
 unfoldable pub imageWords : Program → List ℕ
 imageWords p =
     padded 8 (events p ∷ size p ∷ [])
     ++ (padded 128 (flatten (upTo (events p) (eventRecord p)))
-    ++ (padded 376 (fresh p)
+    ++ (boardWords p
     ++ padded 8192 (codeWords (allCode p))))
 
 -- words put one after the other from word k on

@@ -17,7 +17,7 @@ use Rattle.language.specs.Order.{upTo}
 use Rattle.language.specs.Code.{Instr, off, code, members}
 use Rattle.semantics.specs.Meaning.{at, fresh}
 use Rattle.layout.specs.Layout.{eventWord, codeFits, codesFit, tableWith, tableFits}
-use Rattle.image.specs.Image.{operation, constant, codeWords, allCode, startOf, eventRecord, padded, imageWords, putWords, tableOf}
+use Rattle.image.specs.Image.{operation, constant, codeWords, allCode, startOf, eventRecord, padded, boardWords, imageWords, putWords, tableOf}
 use Rattle.image.specs.PutWords.{length-putWords}
 
 -- ---- lists
@@ -149,12 +149,15 @@ pub record Says (p : Program) (t : List ℕ) : Type 0 where
   pub lengths : (e : ℕ) → e < events p → eventWord t e 2 ≡ length (code p e)
   pub in-C : (e : ℕ) → e < events p → eventWord t e 3 ≡ members p e
   pub values : (i : ℕ) → i < size p → get t (136 + i) ≡ at (fresh p) i
+  pub viewers : (i : ℕ) → i < size p → get t (200 + i) ≡ getD (p .viewers) i 0
+  pub senders : (e : ℕ) → e < events p → get t (264 + e) ≡ getD (p .senders) e 0
   pub within : (e : ℕ) → e < events p → startOf p e + length (code p e) ≤ 4096
   pub operations : (e c : ℕ) → e < events p → c < length (code p e) → get t (512 + (startOf p e + c) * 2) ≡ operation (getD (code p e) c off)
   pub constants : (e c : ℕ) → e < events p → c < length (code p e) → get t (513 + (startOf p e + c) * 2) ≡ constant (getD (code p e) c off)
   pub fits : tableFits t ≡ true
 
-module _ (p : Program) (few : events p ≤ 32) (small : size p ≤ 64) (whole : length (fresh p) ≡ size p) (short : length (allCode p) ≤ 4096) where
+module _ (p : Program) (few : events p ≤ 32) (small : size p ≤ 64) (whole : length (fresh p) ≡ size p)
+    (short : length (allCode p) ≤ 4096) (seen : length (p .viewers) ≤ 64) (sent : length (p .senders) ≤ 248) where
   abbrev heads : List ℕ
   heads = padded 8 (events p ∷ size p ∷ [])
 
@@ -162,7 +165,7 @@ module _ (p : Program) (few : events p ≤ 32) (small : size p ≤ 64) (whole : 
   records = padded 128 (flatten (upTo (events p) (eventRecord p)))
 
   abbrev values : List ℕ
-  values = padded 376 (fresh p)
+  values = boardWords p
 
   abbrev codes : List ℕ
   codes = padded 8192 (codeWords (allCode p))
@@ -175,7 +178,15 @@ module _ (p : Program) (few : events p ≤ 32) (small : size p ≤ 64) (whole : 
       length-padded 128 (flatten (upTo (events p) (eventRecord p))) (rw (length-even 4 (events p) (eventRecord p) (λ i. refl)) (omega arith))
 
   length-values : length values ≡ 376
-  length-values = length-padded 376 (fresh p) (omega arith)
+  unfolding boardWords
+  length-values =
+      rw (
+        length-append (padded 64 (fresh p)) (padded 64 (p .viewers) ++ padded 248 (p .senders)),
+        length-append (padded 64 (p .viewers)) (padded 248 (p .senders)),
+        length-padded 64 (fresh p) (omega arith),
+        length-padded 64 (p .viewers) seen,
+        length-padded 248 (p .senders) sent,
+      )
 
   length-codes : length codes ≡ 8192
   length-codes = length-padded 8192 (codeWords (allCode p)) (rw (length-codeWords (allCode p)) (omega arith))
@@ -207,14 +218,35 @@ module _ (p : Program) (few : events p ≤ 32) (small : size p ≤ 64) (whole : 
       getD-past heads (records ++ (values ++ codes)) 8 k length-heads
       ∙ List·getD-append records (values ++ codes) 0 k b ∙ getD-padded 128 (flatten (upTo (events p) (eventRecord p))) k
 
-  in-values : (k : ℕ) → k < 376 → getD (imageWords p) (136 + k) 0 ≡ getD (fresh p) k 0
+  in-board : (k : ℕ) → k < 376 → getD (imageWords p) (136 + k) 0 ≡ getD (boardWords p) k 0
   unfolding imageWords
-  in-values k h =
+  in-board k h =
       let b : k < length values = omega (arith, length-values) in
       let z : 136 + k ≡ 8 + (128 + k) = omega arith in
       rw z
       (getD-past heads (records ++ (values ++ codes)) 8 (128 + k) length-heads ∙ getD-past records (values ++ codes) 128 k length-records
-      ∙ List·getD-append values codes 0 k b ∙ getD-padded 376 (fresh p) k)
+      ∙ List·getD-append values codes 0 k b)
+
+  in-values : (k : ℕ) → k < 64 → getD (boardWords p) k 0 ≡ getD (fresh p) k 0
+  unfolding boardWords
+  in-values k h =
+      let b : k < length (padded 64 (fresh p)) = rw (length-padded 64 (fresh p) (omega arith)) h in
+      List·getD-append (padded 64 (fresh p)) (padded 64 (p .viewers) ++ padded 248 (p .senders)) 0 k b ∙ getD-padded 64 (fresh p) k
+
+  in-viewers : (k : ℕ) → k < 64 → getD (boardWords p) (64 + k) 0 ≡ getD (p .viewers) k 0
+  unfolding boardWords
+  in-viewers k h =
+      let b : k < length (padded 64 (p .viewers)) = rw (length-padded 64 (p .viewers) seen) h in
+      getD-past (padded 64 (fresh p)) (padded 64 (p .viewers) ++ padded 248 (p .senders)) 64 k (length-padded 64 (fresh p) (omega arith))
+      ∙ List·getD-append (padded 64 (p .viewers)) (padded 248 (p .senders)) 0 k b ∙ getD-padded 64 (p .viewers) k
+
+  in-senders : (k : ℕ) → getD (boardWords p) (128 + k) 0 ≡ getD (p .senders) k 0
+  unfolding boardWords
+  in-senders k =
+      let z : 128 + k ≡ 64 + (64 + k) = omega arith in
+      rw z
+      (getD-past (padded 64 (fresh p)) (padded 64 (p .viewers) ++ padded 248 (p .senders)) 64 (64 + k) (length-padded 64 (fresh p) (omega arith))
+      ∙ getD-past (padded 64 (p .viewers)) (padded 248 (p .senders)) 64 k (length-padded 64 (p .viewers) seen) ∙ getD-padded 248 (p .senders) k)
 
   in-codes : (k : ℕ) → getD (imageWords p) (512 + k) 0 ≡ getD (codeWords (allCode p)) k 0
   unfolding imageWords
@@ -303,7 +335,13 @@ module _ (p : Program) (few : events p ≤ 32) (small : size p ≤ 64) (whole : 
       starts = λ e h. event-word e 1 h (omega arith);
       lengths = λ e h. event-word e 2 h (omega arith);
       in-C = λ e h. event-word e 3 h (omega arith);
-      values = λ i h. get-table (136 + i) (omega arith) ∙ in-values i (omega arith);
+      values = λ i h. get-table (136 + i) (omega arith) ∙ in-board i (omega arith) ∙ in-values i (omega arith);
+      viewers = λ i h.
+          let z : 200 + i ≡ 136 + (64 + i) = omega arith in
+          rw z (get-table (136 + (64 + i)) (omega arith) ∙ in-board (64 + i) (omega arith) ∙ in-viewers i (omega arith));
+      senders = λ e h.
+          let z : 264 + e ≡ 136 + (128 + e) = omega arith in
+          rw z (get-table (136 + (128 + e)) (omega arith) ∙ in-board (128 + e) (omega arith) ∙ in-senders e);
       within = code-within;
       operations = λ e c h b.
           let k = startOf p e + c in

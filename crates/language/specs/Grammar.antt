@@ -1,11 +1,13 @@
--- The grammar as an encoding of sheets, and the limits that one field can show, of a sheet and of the program that it means. 01 "The sheet"; 02, M-103.
+-- The grammar as an encoding of sheets, and the limits that one field can show, of a sheet and of the program that it means. 01 "The sheet"; 02, M-103, M-107.
 use Prim.Native.Nat.{ℕ, suc, _/_, _%_, _≤_, _<_, _^_}
+use mathlib.Core.Path.{_≡_}
 use mathlib.Core.Logic.{_≢_}
+use mathlib.Core.Option.{Option, none, some}
 use mathlib.Core.List.{List, [], _∷_, _++_}
 use lib.ListN.{length}
 use Rattle.base.specs.Basics.{All}
 use Rattle.language.specs.Syntax.{Expr, con, name, app1, app2, app3, Phase, immediate, later, Handler, handler, Behaviour, passive, active, Program}
-use Rattle.language.specs.Sheet.{Term, literal, variable, param, apply1, apply2, apply3, Clause, clause, Item, formula, state, Sheet}
+use Rattle.language.specs.Sheet.{Term, literal, variable, param, apply1, apply2, apply3, Clause, clause, Item, formula, state, Signal, Entry, Sheet}
 
 -- ---- bytes
 
@@ -37,21 +39,42 @@ unfoldable pub encodeHandlers : List Clause → List ℕ
 encodeHandlers [] = []
 encodeHandlers (h ∷ hs) = encodeHandler h ++ encodeHandlers hs
 
-abbrev pub encodeBehaviour : Item → List ℕ
-encodeBehaviour (formula x) = field 2 (encodeExpr x)
-encodeBehaviour (state s hs) = field 3 (field 4 (word s) ++ encodeHandlers hs)
+-- 02 passive, 03 active
+abbrev pub tagOf : Item → ℕ
+tagOf (formula x) = 2
+tagOf (state s hs) = 3
 
-unfoldable pub encodeBehaviours : List Item → List ℕ
+abbrev pub encodeItem : Item → List ℕ
+encodeItem (formula x) = encodeExpr x
+encodeItem (state s hs) = field 4 (word s) ++ encodeHandlers hs
+
+-- M-107: "A behaviour may end with a field 08 of length 1"
+abbrev pub encodeViewer : Option ℕ → List ℕ
+encodeViewer none = []
+encodeViewer (some m) = field 8 (m ∷ [])
+
+abbrev pub encodeBehaviour : Entry → List ℕ
+encodeBehaviour x = field (tagOf (x .item)) (encodeItem (x .item) ++ encodeViewer (x .viewer))
+
+unfoldable pub encodeBehaviours : List Entry → List ℕ
 encodeBehaviours [] = []
 encodeBehaviours (b ∷ bs) = encodeBehaviour b ++ encodeBehaviours bs
 
-unfoldable pub encodeEvents : List ℕ → List ℕ
+-- M-107: "An event field may have length 2, its second byte saying who may send it"
+abbrev pub encodeSender : Option ℕ → List ℕ
+encodeSender none = []
+encodeSender (some m) = m ∷ []
+
+abbrev pub encodeEvent : Signal → List ℕ
+encodeEvent x = field 1 (x .priority ∷ encodeSender (x .sender))
+
+unfoldable pub encodeEvents : List Signal → List ℕ
 encodeEvents [] = []
-encodeEvents (r ∷ rs) = field 1 (r ∷ []) ++ encodeEvents rs
+encodeEvents (r ∷ rs) = encodeEvent r ++ encodeEvents rs
 
 -- "Events come first", then behaviours
 unfoldable pub encode : Sheet → List ℕ
-encode s = encodeEvents (s .priorities) ++ encodeBehaviours (s .items)
+encode s = encodeEvents (s .signals) ++ encodeBehaviours (s .entries)
 
 -- ---- limits
 
@@ -85,13 +108,24 @@ abbrev pub ItemFits : ℕ → Item → Type 0
 ItemFits n (formula x) = TermFits 16 x
 ItemFits n (state s hs) = (s < 2 ^ 32) × ClausesFit n hs
 
+-- who may send or see is a byte, where there is one
+abbrev pub ByteFits : Option ℕ → Type 0
+ByteFits none = Unit {0}
+ByteFits (some m) = m < 256
+
+abbrev pub SignalFits : Signal → Type 0
+SignalFits x = (x .priority ≤ 15) × ByteFits (x .sender)
+
+abbrev pub EntryFits : ℕ → Entry → Type 0
+EntryFits n x = ItemFits n (x .item) × ByteFits (x .viewer)
+
 -- at most 32 events of priority 0 to 15 and 64 behaviours, each within its limits, in up to 8,192 bytes as sent. 02, M-106: a sheet of no bytes "shall mean a sheet
 -- with no events and no behaviours"
 pub record SheetFits (s : Sheet) : Type 0 where
-  pub few-events : length (s .priorities) ≤ 32
-  pub few-behaviours : length (s .items) ≤ 64
-  pub scale : All (λ r. r ≤ 15) (s .priorities)
-  pub each : All (ItemFits (length (s .priorities))) (s .items)
+  pub few-events : length (s .signals) ≤ 32
+  pub few-behaviours : length (s .entries) ≤ 64
+  pub scale : All SignalFits (s .signals)
+  pub each : All (EntryFits (length (s .signals))) (s .entries)
   pub few-bytes : length (encode s) ≤ 8192
 
 -- each parameter is one of 0 to 7, whatever else the sheet is
@@ -136,3 +170,7 @@ pub record Fits (p : Program) : Type 0 where
   pub few-behaviours : length (p .behaviours) ≤ 64
   pub scale : All (λ r. r ≤ 15) (p .priorities)
   pub each : All (BehaviourFits (length (p .priorities))) (p .behaviours)
+  pub all-senders : length (p .senders) ≡ length (p .priorities)
+  pub all-viewers : length (p .viewers) ≡ length (p .behaviours)
+  pub send-bytes : All (λ m. m < 256) (p .senders)
+  pub view-bytes : All (λ m. m < 256) (p .viewers)

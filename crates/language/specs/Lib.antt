@@ -2,6 +2,7 @@ pub mod Syntax
 pub mod Sheet
 pub mod Refusals
 pub mod Answers
+pub mod Rights
 pub mod Grammar
 pub mod Reading
 pub mod Dependence

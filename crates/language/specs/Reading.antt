@@ -1,13 +1,14 @@
--- What bytes are: a sheet, or the number of the first fault from left to right. 01 "The sheet", "Why a call was turned down"; 02, M-103.
+-- What bytes are: a sheet, or the number of the first fault from left to right. 01 "The sheet", "Why a call was turned down"; 02, M-103, M-107.
 -- "At a field: 4 for its header, 5, 4 for its length, 7, 9, 6 for a fixed length, contents in order, 6 for leftovers."
 use Prim.Native.Nat.{ℕ, zero, suc, _+_, _*_}
 use mathlib.Core.Bool.{Bool, true, false}
+use mathlib.Core.Option.{Option, none, some}
 use mathlib.Core.List.{List, [], _∷_, _++_}
 use lib.ListN.{length, take, drop}
 use lib.Dec.{ltb, leb, eqb}
 use Rattle.base.specs.Basics.{pick}
 use Rattle.language.specs.Syntax.{Phase, immediate, later}
-use Rattle.language.specs.Sheet.{Term, literal, variable, param, apply1, apply2, apply3, Clause, clause, Item, formula, state, Sheet}
+use Rattle.language.specs.Sheet.{Term, literal, variable, param, apply1, apply2, apply3, Clause, clause, Item, formula, state, Signal, Entry, Sheet}
 use Rattle.language.specs.Refusals.{torn, wrongTag, wrongLength, crowded, offScale, tooDeep, doubled}
 
 -- what stands where a field is due: its tag, its value and the bytes after it, or a refusal
@@ -120,11 +121,16 @@ abbrev pub handlerBody : ℕ → List Clause → Field → Got Clause
 handlerBody n hs (refused k) = bad k
 handlerBody n hs (present t v rest) = handlerIn n hs v rest
 
--- handlers until the end of the value; the first number bounds their count
+-- M-107: the bytes begin with tag 08, or there are none: a behaviour's own part ends here
+abbrev pub ends : List ℕ → Bool
+ends [] = true
+ends (t ∷ bs) = eqb t 8
+
+-- handlers until the end of the value or a tag 08; the first number bounds their count
 unfoldable pub handlersAt : ℕ → ℕ → List Clause → List ℕ → Got (List Clause)
-handlersAt zero n hs s = pick (eqb (length s) 0) (got hs []) (bad torn)
+handlersAt zero n hs s = pick (ends s) (got hs s) (bad torn)
 handlersAt (suc k) n hs s =
-    pick (eqb (length s) 0) (got hs [])
+    pick (ends s) (got hs s)
     (then (handlerBody n hs (fieldAt 5 5 s)) (λ h rest. handlersAt k n (hs ++ (h ∷ [])) rest))
 
 -- ---- behaviours
@@ -133,45 +139,66 @@ abbrev pub startBody : Field → Got ℕ
 startBody (refused k) = bad k
 startBody (present t v rest) = wordOf (λ w. w) v rest
 
-abbrev pub activeIn : ℕ → List ℕ → List ℕ → Got Item
+-- M-107: "Past a passive's expression only tag 08 begins a field, other bytes being 6, as are all past an 08.": what is left of a behaviour's value v after its own part
+abbrev pub entry : Item → Option ℕ → Entry
+entry x m = record { item = x; viewer = m }
+
+abbrev pub viewerBody : Item → List ℕ → Field → Got Entry
+viewerBody x rest (refused k) = bad k
+viewerBody x rest (present t [] over) = bad wrongLength
+viewerBody x rest (present t (m ∷ []) over) = whole (entry x (some m)) over rest
+viewerBody x rest (present t (m ∷ (y ∷ v)) over) = bad wrongLength
+
+abbrev pub endingIn : Item → List ℕ → List ℕ → Got Entry
+endingIn x [] rest = got (entry x none) rest
+endingIn x (t ∷ bs) rest = pick (eqb t 8) (viewerBody x rest (fieldAt 8 8 (t ∷ bs))) (bad wrongLength)
+
+abbrev pub passiveIn : List ℕ → List ℕ → Got Entry
+passiveIn v rest = then (exprAt 16 v) (λ x left. endingIn (formula x) left rest)
+
+abbrev pub activeIn : ℕ → List ℕ → List ℕ → Got Entry
 activeIn n v rest =
     then (startBody (fieldAt 4 4 v)) (λ s left.
-    then (handlersAt (length left) n [] left) (λ hs over. whole (state s hs) over rest))
+    then (handlersAt (length left) n [] left) (λ hs over. endingIn (state s hs) over rest))
 
-abbrev pub behaviourIn : ℕ → ℕ → List ℕ → List ℕ → Got Item
-behaviourIn n t v rest = pick (eqb t 2) (exprIn formula v rest) (activeIn n v rest)
+abbrev pub behaviourIn : ℕ → ℕ → List ℕ → List ℕ → Got Entry
+behaviourIn n t v rest = pick (eqb t 2) (passiveIn v rest) (activeIn n v rest)
 
 -- ---- the whole
 
-abbrev pub priorityIn : List ℕ → List ℕ → Got ℕ
-priorityIn [] rest = bad wrongLength
-priorityIn (r ∷ []) rest = pick (ltb 15 r) (bad offScale) (got r rest)
-priorityIn (r ∷ (x ∷ v)) rest = bad wrongLength
+abbrev pub signal : ℕ → Option ℕ → Signal
+signal r m = record { priority = r; sender = m }
+
+abbrev pub signalIn : List ℕ → List ℕ → Got Signal
+signalIn [] rest = bad wrongLength
+signalIn (r ∷ []) rest = pick (ltb 15 r) (bad offScale) (got (signal r none) rest)
+signalIn (r ∷ (m ∷ [])) rest = pick (ltb 15 r) (bad offScale) (got (signal r (some m)) rest)
+signalIn (r ∷ (m ∷ (x ∷ v))) rest = bad wrongLength
 
 -- a sheet as far as it is read
-abbrev pub sheet : List ℕ → List Item → Sheet
-sheet rs bs = record { priorities = rs; items = bs }
+abbrev pub sheet : List Signal → List Entry → Sheet
+sheet rs bs = record { signals = rs; entries = bs }
 
 -- behaviours, after all events; the first number bounds their count
-abbrev pub behaviourBody : List ℕ → List Item → Field → Got Item
+abbrev pub behaviourBody : List Signal → List Entry → Field → Got Entry
 behaviourBody rs bs (refused k) = bad k
 behaviourBody rs bs (present t v rest) = pick (leb 64 (length bs)) (bad crowded) (behaviourIn (length rs) t v rest)
 
-unfoldable pub behavioursAt : ℕ → List ℕ → List Item → List ℕ → Got Sheet
+unfoldable pub behavioursAt : ℕ → List Signal → List Entry → List ℕ → Got Sheet
 behavioursAt zero rs bs s = pick (eqb (length s) 0) (got (sheet rs bs) []) (bad torn)
 behavioursAt (suc k) rs bs s =
     pick (eqb (length s) 0) (got (sheet rs bs) [])
     (then (behaviourBody rs bs (fieldAt 2 3 s)) (λ x rest. behavioursAt k rs (bs ++ (x ∷ [])) rest))
 
 -- events, and with the first behaviour the behaviours
-abbrev pub eventsBody : (List ℕ → List ℕ → Got Sheet) → (List Item → List ℕ → Got Sheet) → List ℕ → Field → Got Sheet
+abbrev pub eventsBody : (List Signal → List ℕ → Got Sheet) → (List Entry → List ℕ → Got Sheet) → List Signal → Field → Got Sheet
 eventsBody more others rs (refused k) = bad k
 eventsBody more others rs (present t v rest) =
     pick (eqb t 1)
-    (pick (leb 32 (length rs)) (bad crowded) (then (priorityIn v rest) (λ r rest. more (rs ++ (r ∷ [])) rest)))
+    (pick (leb 32 (length rs)) (bad crowded) (then (signalIn v rest) (λ r rest. more (rs ++ (r ∷ [])) rest)))
     (then (behaviourIn (length rs) t v rest) (λ x rest. others (x ∷ []) rest))
 
-unfoldable pub eventsAt : ℕ → List ℕ → List ℕ → Got Sheet
+unfoldable pub eventsAt : ℕ → List Signal → List ℕ → Got Sheet
 eventsAt zero rs s = pick (eqb (length s) 0) (got (sheet rs []) []) (bad torn)
 eventsAt (suc k) rs s =
     pick (eqb (length s) 0) (got (sheet rs []) [])

@@ -1,4 +1,4 @@
--- The numbers of refusals with 01's words. 01 "Why a call was turned down"; 02, M-103; M-106: "Number 2 never occurs again."
+-- The numbers of refusals with 01's words. 01 "Why a call was turned down"; 02, M-103, M-107; M-106: "Number 2 never occurs again."
 use Prim.Native.Nat.{ℕ}
 
 abbrev pub shortTable : ℕ  -- short table: compile's table has under 34,816 bytes
@@ -57,3 +57,9 @@ settling = 19
 
 abbrev pub noParameters : ℕ  -- 02, M-103: the sheet uses a parameter and fewer than 32 bytes are lent
 noParameters = 20
+
+abbrev pub noPlayer : ℕ  -- 02, M-107: "the player is above 7"
+noPlayer = 24
+
+abbrev pub noRight : ℕ  -- 02, M-107: "the right is missing"
+noRight = 25

@@ -1,7 +1,8 @@
 -- Abstract syntax of a sheet as it is sent, apart from the program that it means (Syntax.antt), and the filling that leads from one to the other. 01 "The sheet";
--- 02, M-103: a parameter "means the same as the constant written there".
+-- 02, M-103: a parameter "means the same as the constant written there"; M-107: who may send an event and see a behaviour.
 use Prim.Native.Nat.{ℕ}
 use mathlib.Core.Bool.{Bool, true, false, _||_}
+use mathlib.Core.Option.{Option, none, some}
 use mathlib.Core.List.{List, [], _∷_, map}
 use Rattle.language.specs.Syntax.{Expr, con, name, app1, app2, app3, Phase, Handler, handler, Behaviour, passive, active, Program}
 
@@ -21,10 +22,34 @@ pub data Item : Type 0 where
   formula : Term → Item
   state : ℕ → List Clause → Item
 
--- the priority (01: rank) of each event, and the behaviours, both numbered from 0
+-- M-107: "An event field may have length 2, its second byte saying who may send it (bit n for player n)": its priority (01: rank), and that byte where there is one
+pub record Signal : Type 0 where
+  pub priority : ℕ
+  pub sender : Option ℕ
+
+-- "A behaviour may end with a field 08 of length 1, saying likewise who may see it."
+pub record Entry : Type 0 where
+  pub item : Item
+  pub viewer : Option ℕ
+
+-- the events and the behaviours, both numbered from 0
 pub record Sheet : Type 0 where
-  pub priorities : List ℕ
-  pub items : List Item
+  pub signals : List Signal
+  pub entries : List Entry
+
+abbrev pub prioritiesOf : List Signal → List ℕ
+prioritiesOf = map (λ (x : Signal). x .priority)
+
+-- "Where either is missing, everybody may."
+abbrev pub allowed : Option ℕ → ℕ
+allowed none = 255
+allowed (some m) = m
+
+abbrev pub sendersOf : List Signal → List ℕ
+sendersOf = map (λ (x : Signal). allowed (x .sender))
+
+abbrev pub viewersOf : List Entry → List ℕ
+viewersOf = map (λ (x : Entry). allowed (x .viewer))
 
 -- ---- the program that a sheet means, parameter n having the value v n
 
@@ -45,11 +70,16 @@ module _ (v : ℕ → ℕ) where
   fillItem (formula x) = passive (fillTerm x)
   fillItem (state s cs) = active s (fillClauses cs)
 
-  unfoldable pub fillItems : List Item → List Behaviour
-  fillItems = map fillItem
+  unfoldable pub fillEntries : List Entry → List Behaviour
+  fillEntries = map (λ (x : Entry). fillItem (x .item))
 
   abbrev pub fill : Sheet → Program
-  fill s = record { priorities = s .priorities; behaviours = fillItems (s .items) }
+  fill s = record {
+    priorities = prioritiesOf (s .signals);
+    senders = sendersOf (s .signals);
+    behaviours = fillEntries (s .entries);
+    viewers = viewersOf (s .entries);
+  }
 
 -- ---- the same written as a sheet: each parameter written out as its constant
 
@@ -70,11 +100,14 @@ module _ (v : ℕ → ℕ) where
   writeItem (formula x) = formula (writeTerm x)
   writeItem (state s cs) = state s (writeClauses cs)
 
-  unfoldable pub writeItems : List Item → List Item
-  writeItems = map writeItem
+  abbrev pub writeEntry : Entry → Entry
+  writeEntry x = record { item = writeItem (x .item); viewer = x .viewer }
+
+  unfoldable pub writeEntries : List Entry → List Entry
+  writeEntries = map writeEntry
 
   abbrev pub writtenOut : Sheet → Sheet
-  writtenOut s = record { priorities = s .priorities; items = writeItems (s .items) }
+  writtenOut s = record { signals = s .signals; entries = writeEntries (s .entries) }
 
 -- ---- "when the sheet uses a parameter"
 
@@ -94,9 +127,9 @@ abbrev pub usesItem : Item → Bool
 usesItem (formula x) = usesTerm x
 usesItem (state s cs) = usesClauses cs
 
-unfoldable pub usesItems : List Item → Bool
-usesItems [] = false
-usesItems (b ∷ bs) = usesItem b || usesItems bs
+unfoldable pub usesEntries : List Entry → Bool
+usesEntries [] = false
+usesEntries (b ∷ bs) = usesItem (b .item) || usesEntries bs
 
 abbrev pub uses : Sheet → Bool
-uses s = usesItems (s .items)
+uses s = usesEntries (s .entries)

@@ -1,32 +1,46 @@
 -- Laws of a sheet and its filling: a filling has the sheet's shape and limits, depends on the parameters used alone, and is that of the sheet written out.
 -- Each by induction on the sheet.
-use Prim.Native.Nat.{ℕ, _<_, _^_}
-use mathlib.Core.Path.{_≡_, refl, ap}
+use Prim.Native.Nat.{ℕ, _≤_, _<_, _^_}
+use mathlib.Core.Path.{_≡_, refl, sym, ap, _∙_}
 use mathlib.Core.Bool.{Bool, true, false, _||_, true≢false}
+use mathlib.Core.Option.{Option, none, some}
 use mathlib.Core.List.{List, [], _∷_}
 use native.Mathlib.Omega.{arith}
 use lib.ListN.{length, getD, length-map, List·getD-map}
 use Rattle.base.specs.Basics.{All}
 use Rattle.base.specs.Tools.{none-of}
 use Rattle.language.specs.Syntax.{Behaviour, active}
-use Rattle.language.specs.Sheet.{Term, literal, variable, param, apply1, apply2, apply3, Clause, clause, Item, formula, state, Sheet}
-use Rattle.language.specs.Sheet.{fillTerm, fillClauses, fillItem, fillItems, fill, writeTerm, writeClauses, writeItem, writeItems, writtenOut}
-use Rattle.language.specs.Sheet.{usesTerm, usesClauses, usesItem, usesItems, uses}
-use Rattle.language.specs.Grammar.{TermFits, t-literal, t-variable, t-param, t-apply1, t-apply2, t-apply3, NoClauseFor, ClausesFit, ItemFits, SheetFits}
+use Rattle.language.specs.Sheet.{Term, literal, variable, param, apply1, apply2, apply3, Clause, clause, Item, formula, state, Signal, Entry, Sheet, allowed, prioritiesOf, sendersOf, viewersOf}
+use Rattle.language.specs.Sheet.{fillTerm, fillClauses, fillItem, fillEntries, fill, writeTerm, writeClauses, writeItem, writeEntries, writtenOut}
+use Rattle.language.specs.Sheet.{usesTerm, usesClauses, usesItem, usesEntries, uses}
+use Rattle.language.specs.Grammar.{TermFits, t-literal, t-variable, t-param, t-apply1, t-apply2, t-apply3, NoClauseFor, ClausesFit, ItemFits, ByteFits, SignalFits, EntryFits, SheetFits}
 use Rattle.language.specs.Grammar.{Nested, n-con, n-name, n-app1, n-app2, n-app3, NoneFor, HandlersFit, BehaviourFits, Fits}
 use Rattle.language.specs.Code.{sizeOf}
 use Rattle.language.specs.Accepted.{Accepted, SheetAccepted}
 
 -- ---- its shape
 
-module _ (v : ℕ → ℕ) where
-  pub length-fill : (bs : List Item) → length (fillItems v bs) ≡ length bs
-  unfolding fillItems
-  length-fill bs = length-map bs (fillItem v)
+-- what stands past the last behaviour
+abbrev pub blank : Entry
+blank = record { item = state 0 []; viewer = none }
 
-  pub fill-at : (bs : List Item) (i : ℕ) → getD (fillItems v bs) i (active 0 []) ≡ fillItem v (getD bs i (state 0 []))
-  unfolding fillItems fillClauses
-  fill-at bs i = List·getD-map (fillItem v) bs i (state 0 [])
+pub length-priorities : (l : List Signal) → length (prioritiesOf l) ≡ length l
+length-priorities l = length-map l (λ (x : Signal). x .priority)
+
+pub length-senders : (l : List Signal) → length (sendersOf l) ≡ length l
+length-senders l = length-map l (λ (x : Signal). allowed (x .sender))
+
+pub length-viewers : (l : List Entry) → length (viewersOf l) ≡ length l
+length-viewers l = length-map l (λ (x : Entry). allowed (x .viewer))
+
+module _ (v : ℕ → ℕ) where
+  pub length-fill : (bs : List Entry) → length (fillEntries v bs) ≡ length bs
+  unfolding fillEntries
+  length-fill bs = length-map bs (λ (x : Entry). fillItem v (x .item))
+
+  pub fill-at : (bs : List Entry) (i : ℕ) → getD (fillEntries v bs) i (active 0 []) ≡ fillItem v (getD bs i blank .item)
+  unfolding fillEntries fillClauses
+  fill-at bs i = List·getD-map (λ (x : Entry). fillItem v (x .item)) bs i blank
 
 -- 02, M-103: a parameter "counts as one in an expression's size"
 pub param-size : (v : ℕ → ℕ) (n : ℕ) → sizeOf (fillTerm v (param n)) ≡ 1
@@ -66,13 +80,13 @@ module _ (v w : ℕ → ℕ) where
   unused-item (formula x) h = rw (unused-term x h)
   unused-item (state s cs) h = rw (unused-clauses cs h)
 
-  unused-items : (bs : List Item) → usesItems bs ≡ false → fillItems v bs ≡ fillItems w bs
-  unfolding fillItems usesItems
-  unused-items [] h = refl
-  unused-items (b ∷ bs) h = let r = none-of (usesItem b) (usesItems bs) h in rw (unused-item b (r .0), unused-items bs (r .1))
+  unused-entries : (bs : List Entry) → usesEntries bs ≡ false → fillEntries v bs ≡ fillEntries w bs
+  unfolding fillEntries usesEntries
+  unused-entries [] h = refl
+  unused-entries (b ∷ bs) h = let r = none-of (usesItem (b .item)) (usesEntries bs) h in rw (unused-item (b .item) (r .0), unused-entries bs (r .1))
 
   pub fill-unused : (s : Sheet) → uses s ≡ false → fill v s ≡ fill w s
-  fill-unused s h = ap (λ (bs : List Behaviour). record { priorities = s .priorities; behaviours = bs }) (unused-items (s .items) h)
+  fill-unused s h = ap (λ (bs : List Behaviour). record { priorities = prioritiesOf (s .signals); senders = sendersOf (s .signals); behaviours = bs; viewers = viewersOf (s .entries) }) (unused-entries (s .entries) h)
 
 -- ---- only the parameters 0 to 7 matter
 
@@ -95,15 +109,31 @@ module _ (v w : ℕ → ℕ) (same : (n : ℕ) → n < 8 → v n ≡ w n) where
   same-item n (formula x) h = rw (same-term h)
   same-item n (state s cs) h = rw (same-clauses n cs (h .1))
 
-  same-items : (n : ℕ) (bs : List Item) → All (ItemFits n) bs → fillItems v bs ≡ fillItems w bs
-  unfolding fillItems
-  same-items n [] h = refl
-  same-items n (b ∷ bs) h = rw (same-item n b (h .0), same-items n bs (h .1))
+  same-entries : (n : ℕ) (bs : List Entry) → All (EntryFits n) bs → fillEntries v bs ≡ fillEntries w bs
+  unfolding fillEntries
+  same-entries n [] h = refl
+  same-entries n (b ∷ bs) h = rw (same-item n (b .item) (h .0 .0), same-entries n bs (h .1))
 
   pub fill-same : (s : Sheet) → SheetFits s → fill v s ≡ fill w s
-  fill-same s h = ap (λ (bs : List Behaviour). record { priorities = s .priorities; behaviours = bs }) (same-items (length (s .priorities)) (s .items) (h .each))
+  fill-same s h = ap (λ (bs : List Behaviour). record { priorities = prioritiesOf (s .signals); senders = sendersOf (s .signals); behaviours = bs; viewers = viewersOf (s .entries) }) (same-entries (length (s .signals)) (s .entries) (h .each))
 
 -- ---- the limits of a filling, with values that are words
+
+scale-fits : (l : List Signal) → All SignalFits l → All (λ r. r ≤ 15) (prioritiesOf l)
+scale-fits [] h = tt
+scale-fits (x ∷ l) h = (h .0 .0, scale-fits l (h .1))
+
+allowed-fits : (m : Option ℕ) → ByteFits m → allowed m < 256
+allowed-fits none h = omega arith
+allowed-fits (some m) h = h
+
+senders-fit : (l : List Signal) → All SignalFits l → All (λ m. m < 256) (sendersOf l)
+senders-fit [] h = tt
+senders-fit (x ∷ l) h = (allowed-fits (x .sender) (h .0 .1), senders-fit l (h .1))
+
+viewers-fit : (n : ℕ) (l : List Entry) → All (EntryFits n) l → All (λ m. m < 256) (viewersOf l)
+viewers-fit n [] h = tt
+viewers-fit n (x ∷ l) h = (allowed-fits (x .viewer) (h .0 .1), viewers-fit n l (h .1))
 
 module _ (v : ℕ → ℕ) (small : (n : ℕ) → n < 8 → v n < 2 ^ 32) where
   term-fits : {k : ℕ} {x : Term} → TermFits k x → Nested k (fillTerm v x)
@@ -129,17 +159,21 @@ module _ (v : ℕ → ℕ) (small : (n : ℕ) → n < 8 → v n < 2 ^ 32) where
   item-fits n (formula x) h = term-fits h
   item-fits n (state s cs) h = (h .0, clauses-fit n cs (h .1))
 
-  items-fit : (n : ℕ) (bs : List Item) → All (ItemFits n) bs → All (BehaviourFits n) (fillItems v bs)
-  unfolding fillItems
-  items-fit n [] h = tt
-  items-fit n (b ∷ bs) h = (item-fits n b (h .0), items-fit n bs (h .1))
+  entries-fit : (n : ℕ) (bs : List Entry) → All (EntryFits n) bs → All (BehaviourFits n) (fillEntries v bs)
+  unfolding fillEntries
+  entries-fit n [] h = tt
+  entries-fit n (b ∷ bs) h = (item-fits n (b .item) (h .0 .0), entries-fit n bs (h .1))
 
   pub fill-fits : (s : Sheet) → SheetFits s → Fits (fill v s)
   fill-fits s h = record {
-    few-events = h .few-events;
-    few-behaviours = omega (arith, length-fill v (s .items), h .few-behaviours);
-    scale = h .scale;
-    each = items-fit (length (s .priorities)) (s .items) (h .each);
+    few-events = rw (length-priorities (s .signals)) (h .few-events);
+    few-behaviours = omega (arith, length-fill v (s .entries), h .few-behaviours);
+    scale = scale-fits (s .signals) (h .scale);
+    each = rw (length-priorities (s .signals)) (entries-fit (length (s .signals)) (s .entries) (h .each));
+    all-senders = length-senders (s .signals) ∙ sym (length-priorities (s .signals));
+    all-viewers = length-viewers (s .entries) ∙ sym (length-fill v (s .entries));
+    send-bytes = senders-fit (s .signals) (h .scale);
+    view-bytes = viewers-fit (length (s .signals)) (s .entries) (h .each);
   }
 
   -- an accepted sheet's filling is an accepted program
@@ -174,16 +208,26 @@ module _ (v w : ℕ → ℕ) where
   written-item (formula x) = let p = written-term x in (p .0, rw (p .1))
   written-item (state s cs) = let p = written-clauses cs in (p .0, rw (p .1))
 
-  written-items : (bs : List Item) → (usesItems (writeItems v bs) ≡ false) × (fillItems w (writeItems v bs) ≡ fillItems v bs)
-  unfolding fillItems writeItems usesItems
-  written-items [] = (refl, refl)
-  written-items (b ∷ bs) =
-      let p = written-item b in
-      let q = written-items bs in
+  written-entries : (bs : List Entry) → (usesEntries (writeEntries v bs) ≡ false) × (fillEntries w (writeEntries v bs) ≡ fillEntries v bs)
+  unfolding fillEntries writeEntries usesEntries
+  written-entries [] = (refl, refl)
+  written-entries (b ∷ bs) =
+      let p = written-item (b .item) in
+      let q = written-entries bs in
       (rw (p .0) (q .0), rw (p .1, q .1))
 
+  written-viewers : (bs : List Entry) → viewersOf (writeEntries v bs) ≡ viewersOf bs
+  unfolding writeEntries
+  written-viewers [] = refl
+  written-viewers (b ∷ bs) = rw (written-viewers bs)
+
   pub written-unused : (s : Sheet) → uses (writtenOut v s) ≡ false
-  written-unused s = written-items (s .items) .0
+  written-unused s = written-entries (s .entries) .0
 
   pub fill-written : (s : Sheet) → fill w (writtenOut v s) ≡ fill v s
-  fill-written s = ap (λ (bs : List Behaviour). record { priorities = s .priorities; behaviours = bs }) (written-items (s .items) .1)
+  fill-written s = λ t. record {
+    priorities = prioritiesOf (s .signals);
+    senders = sendersOf (s .signals);
+    behaviours = written-entries (s .entries) .1 t;
+    viewers = written-viewers (s .entries) t;
+  }

@@ -24,7 +24,10 @@ pub data Behaviour : Type 0 where
   passive : Expr → Behaviour
   active : ℕ → List Handler → Behaviour
 
--- the priority (01: rank) of each event, and the behaviours, both numbered from 0
+-- the priority (01: rank) of each event, and the behaviours, both numbered from 0; and who may send each event and see each behaviour, one byte each, bit n for player n
+-- (02, M-107)
 pub record Program : Type 0 where
   pub priorities : List ℕ
+  pub senders : List ℕ
   pub behaviours : List Behaviour
+  pub viewers : List ℕ

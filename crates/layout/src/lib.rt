@@ -1,9 +1,10 @@
 // The table and the round as words, and which tables are foreign. Layout: specs/Layout.antt.
 ghost use mathlib.Core.Path.{_≡_};
 ghost use mathlib.Core.Bool.{true};
-ghost use Prim.Native.Nat.{_≤_, _<_};
+ghost use Prim.Native.Nat.{_+_, _*_, _≤_, _<_};
 ghost use lib.ListN.{length};
-ghost use Rattle.layout.specs.Layout.{eventWord, codeFits, codesFit, tableWith, tableFits};
+ghost use Rattle.word.specs.Word.{get};
+ghost use Rattle.layout.specs.Layout.{eventWord, eventOf, playerOf, codeFits, codesFit, tableWith, tableFits};
 ghost use Rattle.layout.specs.Bounds.{TableBounds};
 
 // Word k of event e's record in the table: 0 priority, 1 start of the code, 2 its length, 3 members of C.
@@ -15,6 +16,27 @@ pub fn event_word(t: &[u8], e: u32, k: usize) -> u32
         return word::get_word(t, 8 + (e as usize) * 4 + k);
     }
     0
+}
+
+// The event and the player of an arrival in hand, from their word: event + 256 * player.
+pub fn event_of(w: u32) -> u32
+    ensures { λ r. ⌜ r ≡ eventOf w ⌝ }
+{
+    w % 256
+}
+
+pub fn player_of(w: u32) -> u32
+    ensures { λ r. ⌜ r ≡ playerOf w ⌝ }
+{
+    w / 256
+}
+
+// The event of the arrival in hand whose word is word k of the round.
+pub fn event_at(l: &[u8], k: usize) -> u32
+    requires { ⌜ k * 4 + 4 ≤ length (now l) ⌝ }
+    ensures { λ r. ⌜ r ≡ eventOf (get (now (l .entry)) k) ⌝ }
+{
+    event_of(word::get_word(l, k))
 }
 
 fn code_fits(start: u32, len: u32) -> bool

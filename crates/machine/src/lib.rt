@@ -27,9 +27,9 @@ fn contest_on(t: &[u8], l: &mut [u8], b: usize) -> u64
     requires { ⌜ Bounds (now t) (now l) × (get (now l) 2 ≢ 0) × (b < 64) ⌝ }
     ensures { λ r. ⌜ result r (now (l .exit)) ≡ contest (now (t .entry)) (now (l .entry)) b ⌝ }
 {
-    let e = word::get_word(l, 3);
+    let e = layout::event_at(l, 3);
     let c = word::get_word(l, 5);
-    let f = word::get_word(l, 9 + b * 2);
+    let f = layout::event_at(l, 9 + b * 2);
     let m = board::is_masked(layout::event_word(t, e, 2), layout::event_word(t, e, 3), c);
     let p = layout::event_word(t, e, 0);
     let q = layout::event_word(t, f, 0);

@@ -1,7 +1,7 @@
 -- Demand 2, first sentence, of the model engine: in an idle engine, an event that is taken in and stepped alone to its commit leaves the store of its meaning.
 -- By induction on the instructions left: nothing waits, so each step is the next instruction.
 use Prim.Native.Nat.{ℕ, zero, suc, _+_, _-_, _≤_, _<_}
-use mathlib.Core.Bool.{Bool}
+use mathlib.Core.Bool.{Bool, true}
 use mathlib.Core.Path.{_≡_, refl, sym, ap, _∙_, subst}
 use mathlib.Core.List.{List, [], _∷_, _++_}
 use native.Mathlib.Omega.{arith}
@@ -11,6 +11,7 @@ use lib.Seq.{drop-cons}
 use borrow.Author.Tests.{lt-ltb, le-ltb, lt-leb}
 use Rattle.language.specs.Syntax.{Program}
 use Rattle.language.specs.Dependence.{size, events}
+use Rattle.language.specs.Rights.{maySend}
 use Rattle.language.specs.Code.{Instr, off, code}
 use Rattle.semantics.specs.Meaning.{event}
 use Rattle.execution.specs.Execution.{Values, execute, executeAll, emptied}
@@ -54,47 +55,47 @@ module _ (p : Program) where
         (rw (s .0, s .1, ih .0, rest-of c d (omega arith)), ap (run p (replicate (suc k) step)) (s .1) ∙ ih .1 ∙ ap (engine t [] rest) (sym (rest-of c d (omega arith))))
 
   -- the answers to those calls, and the store after them
-  abbrev pub aloneAnswers : ℕ → ℕ → Bool → List Answer
-  aloneAnswers t e m = takenIn ∷ started (arrival t e) ∷ (replicate (length (code p e) - 1) ran ++ (committed (arrival t e) m ∷ []))
+  abbrev pub aloneAnswers : ℕ → ℕ → ℕ → Bool → List Answer
+  aloneAnswers t e who m = takenIn ∷ started (arrival t e who) ∷ (replicate (length (code p e) - 1) ran ++ (committed (arrival t e who) m ∷ []))
 
-  module _ (facts : CodeFacts p) (t e : ℕ) (d : Values) (declared : e < events p) (room : t < 1000000) (whole : length (d .store) ≡ size p) where
+  module _ (facts : CodeFacts p) (t e who : ℕ) (d : Values) (declared : e < events p) (eight : who < 8) (sends : maySend p who e ≡ true) (room : t < 1000000) (whole : length (d .store) ≡ size p) where
     abbrev marked : Bool
     marked = executeAll (code p e) (emptied (d .store)) .mark
 
     -- the arrival, the start, and k instructions and the last
-    taken-in : act p (arrive e) (engine t [] rest d) ≡ outcome takenIn (engine (t + 1) (arrival t e ∷ []) rest d)
+    taken-in : act p (arrive e who) (engine t [] rest d) ≡ outcome takenIn (engine (t + 1) (arrival t e who ∷ []) rest d)
     unfolding act
-    taken-in = rw (lt-leb (events p) e declared, lt-leb 1000000 t room)
+    taken-in = rw (lt-leb 8 who eight, lt-leb (events p) e declared, sends, lt-leb 1000000 t room)
 
-    starts : act p step (engine (t + 1) (arrival t e ∷ []) rest d) ≡ outcome (started (arrival t e)) (engine (t + 1) [] (busy (arrival t e) 0) (emptied (d .store)))
+    starts : act p step (engine (t + 1) (arrival t e who ∷ []) rest d) ≡ outcome (started (arrival t e who)) (engine (t + 1) [] (busy (arrival t e who) 0) (emptied (d .store)))
     unfolding act
     starts = refl
 
     said-alone : (k : ℕ) → suc k ≡ length (code p e)
-        → answers p (arrive e ∷ step ∷ replicate (suc k) step) (engine t [] rest d) ≡ takenIn ∷ started (arrival t e) ∷ (replicate k ran ++ (committed (arrival t e) marked ∷ []))
+        → answers p (arrive e who ∷ step ∷ replicate (suc k) step) (engine t [] rest d) ≡ takenIn ∷ started (arrival t e who) ∷ (replicate k ran ++ (committed (arrival t e who) marked ∷ []))
     unfolding answers
     said-alone k n =
-        let f = finish (t + 1) (arrival t e) k 0 (emptied (d .store)) (omega arith) in
+        let f = finish (t + 1) (arrival t e who) k 0 (emptied (d .store)) (omega arith) in
         ap (λ (o : Outcome). o .answer ∷ answers p (step ∷ replicate (suc k) step) (o .after)) taken-in
         ∙ ap (λ (o : Outcome). takenIn ∷ o .answer ∷ answers p (replicate (suc k) step) (o .after)) starts
-        ∙ ap (λ (l : List Answer). takenIn ∷ started (arrival t e) ∷ l) (f .0)
+        ∙ ap (λ (l : List Answer). takenIn ∷ started (arrival t e who) ∷ l) (f .0)
 
     run-alone : (k : ℕ) → suc k ≡ length (code p e)
-        → run p (arrive e ∷ step ∷ replicate (suc k) step) (engine t [] rest d) ≡ engine (t + 1) [] rest (executeAll (code p e) (emptied (d .store)))
+        → run p (arrive e who ∷ step ∷ replicate (suc k) step) (engine t [] rest d) ≡ engine (t + 1) [] rest (executeAll (code p e) (emptied (d .store)))
     unfolding run
     run-alone k n =
-        let f = finish (t + 1) (arrival t e) k 0 (emptied (d .store)) (omega arith) in
+        let f = finish (t + 1) (arrival t e who) k 0 (emptied (d .store)) (omega arith) in
         ap (λ (o : Outcome). run p (step ∷ replicate (suc k) step) (o .after)) taken-in
         ∙ ap (λ (o : Outcome). run p (replicate (suc k) step) (o .after)) starts
         ∙ f .1
 
-    pub alone : (answers p (aloneCalls p e) (engine t [] rest d) ≡ aloneAnswers t e marked)
-        × (run p (aloneCalls p e) (engine t [] rest d) ≡ engine (t + 1) [] rest (executeAll (code p e) (emptied (d .store))))
+    pub alone : (answers p (aloneCalls p e who) (engine t [] rest d) ≡ aloneAnswers t e who marked)
+        × (run p (aloneCalls p e who) (engine t [] rest d) ≡ engine (t + 1) [] rest (executeAll (code p e) (emptied (d .store))))
         × (executeAll (code p e) (emptied (d .store)) .store ≡ event p e (d .store))
     alone =
         let k : ℕ = length (code p e) - 1 in
         let n : suc k ≡ length (code p e) = omega (arith, facts .long e declared) in (
-          subst (λ (m : ℕ). answers p (arrive e ∷ step ∷ replicate m step) (engine t [] rest d) ≡ aloneAnswers t e marked) n (said-alone k n),
-          subst (λ (m : ℕ). run p (arrive e ∷ step ∷ replicate m step) (engine t [] rest d) ≡ engine (t + 1) [] rest (executeAll (code p e) (emptied (d .store)))) n (run-alone k n),
+          subst (λ (m : ℕ). answers p (arrive e who ∷ step ∷ replicate m step) (engine t [] rest d) ≡ aloneAnswers t e who marked) n (said-alone k n),
+          subst (λ (m : ℕ). run p (arrive e who ∷ step ∷ replicate m step) (engine t [] rest d) ≡ engine (t + 1) [] rest (executeAll (code p e) (emptied (d .store)))) n (run-alone k n),
           facts .right e declared (d .store) whole,
         )

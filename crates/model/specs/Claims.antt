@@ -10,6 +10,7 @@ use Rattle.base.specs.Basics.{pick, All}
 use Rattle.language.specs.Syntax.{Program}
 use Rattle.language.specs.Refusals as refusals
 use Rattle.language.specs.Dependence.{size, events, Independent}
+use Rattle.language.specs.Rights.{maySee}
 use Rattle.language.specs.Code.{code}
 use Rattle.language.specs.Order.{upTo}
 use Rattle.semantics.specs.Meaning.{fresh, play}
@@ -36,16 +37,16 @@ commits (a ∷ l) = ifCommitted a (commits l)
 
 -- the arrivals taken in, numbered from n on: "An arrival is taken in if its call wasn't refused"
 abbrev pub ifTaken : Call → Answer → ℕ → (ℕ → List Arrival) → List Arrival
-ifTaken (arrive e) (refused k) n l = l n
-ifTaken (arrive e) takenIn n l = arrival n e ∷ l (suc n)
-ifTaken (arrive e) (shows v) n l = l n
-ifTaken (arrive e) idle n l = l n
-ifTaken (arrive e) ran n l = l n
-ifTaken (arrive e) (started a) n l = l n
-ifTaken (arrive e) (preempted a) n l = l n
-ifTaken (arrive e) (committed a m) n l = l n
+ifTaken (arrive e who) (refused k) n l = l n
+ifTaken (arrive e who) takenIn n l = arrival n e who ∷ l (suc n)
+ifTaken (arrive e who) (shows v) n l = l n
+ifTaken (arrive e who) idle n l = l n
+ifTaken (arrive e who) ran n l = l n
+ifTaken (arrive e who) (started a) n l = l n
+ifTaken (arrive e who) (preempted a) n l = l n
+ifTaken (arrive e who) (committed a m) n l = l n
 ifTaken step a n l = l n
-ifTaken (board i) a n l = l n
+ifTaken (board i who) a n l = l n
 
 unfoldable pub takenFrom : List Call → List Answer → ℕ → List Arrival
 takenFrom [] l n = []
@@ -88,8 +89,8 @@ abbrev pub takenInBy : Program → List Call → List Arrival
 takenInBy p cs = takenFrom cs (said p cs) 0
 
 -- the calls that take in an event and step it to its commit: the start, and each instruction
-abbrev pub aloneCalls : Program → ℕ → List Call
-aloneCalls p e = arrive e ∷ step ∷ replicate (length (code p e)) step
+abbrev pub aloneCalls : Program → ℕ → ℕ → List Call
+aloneCalls p e who = arrive e who ∷ step ∷ replicate (length (code p e)) step
 
 -- ---- the sentences of demand 3
 
@@ -130,9 +131,9 @@ longest p = foldr max 0 (upTo (events p) (λ e. length (code p e)))
 
 unfoldable pub steps : List Call → ℕ
 steps [] = 0
-steps (arrive e ∷ cs) = steps cs
+steps (arrive e who ∷ cs) = steps cs
 steps (step ∷ cs) = suc (steps cs)
-steps (board i ∷ cs) = steps cs
+steps (board i who ∷ cs) = steps cs
 
 -- "Once no more are taken in, the round is idle within 01's count of steps", (k + 1) × (L + 1); "k = 0 is idle already"
 abbrev pub SettlesIn : Program → List Call → Type 0
@@ -141,10 +142,15 @@ SettlesIn p cs =
     → (length (inQueue (after p cs)) + 1) * (longest p + 1) ≤ steps ds → Idle p (after p (cs ++ ds)))
     × (length (inQueue (after p cs)) ≡ 0 → Idle p (after p cs))
 
--- "for every two such lists on one sheet, taking in the same events in the same order, those of unequal rank being independent: when both are idle, their boards are equal"
+-- the events of arrivals, whoever sent them
+abbrev pub eventsOf : List Arrival → List ℕ
+eventsOf l = map (λ (a : Arrival). a .event) l
+
+-- "for every two such lists on one sheet, taking in the same events in the same order, those of unequal rank being independent: when both are idle, their boards are equal";
+-- 02, M-107: "Arrivals in hand commit as before, whoever sent them"
 abbrev pub SameBoard : Program → List Call → List Call → Type 0
 SameBoard p cs ds =
-    takenInBy p cs ≡ takenInBy p ds
+    eventsOf (takenInBy p cs) ≡ eventsOf (takenInBy p ds)
     → All (λ a. All (λ b. rank p a ≢ rank p b → Independent p (a .event) (b .event)) (takenInBy p cs)) (takenInBy p cs)
     → Idle p (after p cs) → Idle p (after p ds)
     → storeOf (after p cs) ≡ storeOf (after p ds)
@@ -211,18 +217,21 @@ unlessRefused (preempted a) x = x
 unlessRefused (committed a m) x = x
 
 -- "the value that the board would show after this arrival and everything in hand had been run to idle .. turned down as the arrival would be, then by 18"
-abbrev pub previewed : Program → Engine → ℕ → ℕ → Answer
-previewed p w e i =
-    unlessRefused (act p (arrive e) w .answer) (pick (leb (size p) i) (refused refusals.noBehaviour) (shownAfter p (act p (arrive e) w .after) i))
+-- 02, M-107: "A preview needs both rights .. 25 when the right is missing, after 15 for an arrival, a preview's too, and after 18 for a behaviour"
+abbrev pub previewed : Program → Engine → ℕ → ℕ → ℕ → Answer
+previewed p w e i who =
+    unlessRefused (act p (arrive e who) w .answer)
+    (pick (leb (size p) i) (refused refusals.noBehaviour)
+    (pick (maySee p who i) (shownAfter p (act p (arrive e who) w .after) i) (refused refusals.noRight)))
 
 -- whichever way the round is then run to idle, no further arrival taken in, the board shows the previewed value
 abbrev pub PreviewRight : Program → List Call → Type 0
 PreviewRight p cs =
-    (e i : ℕ) (ds : List Call) → i < size p
-    → act p (arrive e) (after p cs) .answer ≡ takenIn
-    → number (after p (cs ++ (arrive e ∷ ds))) ≡ number (after p cs) + 1
-    → Idle p (after p (cs ++ (arrive e ∷ ds)))
-    → previewed p (after p cs) e i ≡ shows (at (storeOf (after p (cs ++ (arrive e ∷ ds)))) i)
+    (e i who : ℕ) (ds : List Call) → i < size p → maySee p who i ≡ true
+    → act p (arrive e who) (after p cs) .answer ≡ takenIn
+    → number (after p (cs ++ (arrive e who ∷ ds))) ≡ number (after p cs) + 1
+    → Idle p (after p (cs ++ (arrive e who ∷ ds)))
+    → previewed p (after p cs) e i who ≡ shows (at (storeOf (after p (cs ++ (arrive e who ∷ ds)))) i)
 
 -- ---- document 02, M-104
 

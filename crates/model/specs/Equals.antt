@@ -24,7 +24,7 @@ module _ (p : Program) where
   abbrev pub Sooner : Arrival → Arrival → Type 0
   Sooner a b = rank p a ≡ rank p b → a .number < b .number
 
-  sooner-prop : (a b : Arrival) → IsProp (Sooner a b)
+  pub sooner-prop : (a b : Arrival) → IsProp (Sooner a b)
   sooner-prop a b = →-prop le-prop
 
   one-more : (l : List Arrival) (a : Arrival) → Pairwise Sooner l → All (λ y. Sooner y a) l → Pairwise Sooner (l ++ (a ∷ []))
@@ -58,26 +58,26 @@ module _ (p : Program) where
   )
 
   -- a newcomer is later than whatever has a number
-  newer : (e t : ℕ) (waiting : List Arrival) (r : Running) (log : List Arrival) → All (λ a. a .number < t) log
-      → All (λ a. All (Sooner a) (queue waiting r)) log → All (λ a. All (Sooner a) (queue (arrival t e ∷ waiting) r)) log
-  newer e t waiting r [] s b = tt
-  newer e t waiting r (a ∷ l) s b = (all-perm (Sooner a) (joins (arrival t e) waiting r) ((λ _. s .0), b .0), newer e t waiting r l (s .1) (b .1))
+  newer : (e who t : ℕ) (waiting : List Arrival) (r : Running) (log : List Arrival) → All (λ a. a .number < t) log
+      → All (λ a. All (Sooner a) (queue waiting r)) log → All (λ a. All (Sooner a) (queue (arrival t e who ∷ waiting) r)) log
+  newer e who t waiting r [] s b = tt
+  newer e who t waiting r (a ∷ l) s b = (all-perm (Sooner a) (joins (arrival t e who) waiting r) ((λ _. s .0), b .0), newer e who t waiting r l (s .1) (b .1))
 
-  newer-first : (e t : ℕ) (waiting : List Arrival) (r : Running) → All (Fine p t) (queue waiting r) → First waiting r → First (arrival t e ∷ waiting) r
-  newer-first e t waiting rest f h = tt
-  newer-first e t waiting (busy a c) f h = ((λ _. f .0 .0), h)
+  newer-first : (e who t : ℕ) (waiting : List Arrival) (r : Running) → All (Fine p t) (queue waiting r) → First waiting r → First (arrival t e who ∷ waiting) r
+  newer-first e who t waiting rest f h = tt
+  newer-first e who t waiting (busy a c) f h = ((λ _. f .0 .0), h)
 
   module _ (facts : CodeFacts p) where
     kept : Cases p (Kept p facts Ordered)
     kept = record {
-      refuses = λ e w r past log taken here i. i;
-      takes = λ e t waiting r d k m n reach past log taken here i. (
+      refuses = λ e who w r past log taken here i. i;
+      takes = λ e who t waiting r d k eight m n reach past log taken here i. (
         all-imp (λ a. a .number < t) (λ a. a .number < t + 1) (λ x y. omega arith) log (i .0),
         i .1,
-        newer e t waiting r log (i .0) (i .2),
-        newer-first e t waiting r (reach .fine) (i .3),
+        newer e who t waiting r log (i .0) (i .2),
+        newer-first e who t waiting r (reach .fine) (i .3),
       );
-      reads = λ j w r past log taken here i. i;
+      reads = λ j who w r past log taken here i. i;
       idles = λ t d r past log taken here i. i;
       starts = λ t b l d r past log taken here i.
           let g = begins t (b ∷ l) (choose p b l) log (choose-perm p b l) (choose-first p b l .1) (r .distinct) (i .2) in (i .0, i .1, g .0, g .1);

@@ -29,9 +29,9 @@ counted (commit a) n = n
 
 pub commits-logged : (c : Call) (x : Answer) (n : ℕ) (log l : List Arrival) → log ++ ifCommitted x l ≡ logged (effect c x n) log ++ l
 commits-logged c (refused k) n log l = refl
-commits-logged (arrive e) takenIn n log l = refl
+commits-logged (arrive e who) takenIn n log l = refl
 commits-logged step takenIn n log l = refl
-commits-logged (board i) takenIn n log l = refl
+commits-logged (board i who) takenIn n log l = refl
 commits-logged c (shows v) n log l = refl
 commits-logged c idle n log l = refl
 commits-logged c ran n log l = refl
@@ -53,18 +53,18 @@ none-gathered (committed a m) n taken l = refl
 
 pub taken-gathered : (c : Call) (x : Answer) (n : ℕ) (taken : List Arrival) (l : ℕ → List Arrival)
     → taken ++ ifTaken c x n l ≡ gathered (effect c x n) taken ++ l (counted (effect c x n) n)
-taken-gathered (arrive e) (refused k) n taken l = refl
-taken-gathered (arrive e) takenIn n taken l =
+taken-gathered (arrive e who) (refused k) n taken l = refl
+taken-gathered (arrive e who) takenIn n taken l =
     let s : suc n ≡ n + 1 = omega arith in
-    sym (append-assoc taken (arrival n e ∷ []) (l (suc n))) ∙ ap (λ (k : ℕ). (taken ++ (arrival n e ∷ [])) ++ l k) s
-taken-gathered (arrive e) (shows v) n taken l = refl
-taken-gathered (arrive e) idle n taken l = refl
-taken-gathered (arrive e) ran n taken l = refl
-taken-gathered (arrive e) (started a) n taken l = refl
-taken-gathered (arrive e) (preempted a) n taken l = refl
-taken-gathered (arrive e) (committed a m) n taken l = refl
+    sym (append-assoc taken (arrival n e who ∷ []) (l (suc n))) ∙ ap (λ (k : ℕ). (taken ++ (arrival n e who ∷ [])) ++ l k) s
+taken-gathered (arrive e who) (shows v) n taken l = refl
+taken-gathered (arrive e who) idle n taken l = refl
+taken-gathered (arrive e who) ran n taken l = refl
+taken-gathered (arrive e who) (started a) n taken l = refl
+taken-gathered (arrive e who) (preempted a) n taken l = refl
+taken-gathered (arrive e who) (committed a m) n taken l = refl
 taken-gathered step x n taken l = none-gathered x n taken l
-taken-gathered (board i) x n taken l = none-gathered x n taken l
+taken-gathered (board i who) x n taken l = none-gathered x n taken l
 
 pub run-append : (p : Program) (cs ds : List Call) (w : Engine) → run p (cs ++ ds) w ≡ run p ds (run p cs w)
 unfolding run
@@ -79,9 +79,9 @@ module _ (p : Program) where
 
   counts : Cases p Counts
   counts = record {
-    refuses = λ e w. refl;
-    takes = λ e t waiting r d k m n. refl;
-    reads = λ i w. refl;
+    refuses = λ e who w. refl;
+    takes = λ e who t waiting r d k eight m n. refl;
+    reads = λ i who w. refl;
     idles = λ t d. refl;
     starts = λ t b l d. refl;
     preempts = λ t b l a n d u o. refl;

@@ -14,6 +14,7 @@ pub mod Quiet
 pub mod Previews
 pub mod Marks
 pub mod Confluence
+pub mod Unsigned
 pub mod SameBoard
 pub mod ModelHolds
 pub mod Alone

@@ -85,19 +85,19 @@ module _ (p : Program) where
 
   -- ---- an arrival
 
-  marked-new : (c : Call) (past : List Call) (e t : ℕ) (waiting : List Arrival) (r : Running) (log : List Arrival) → Marked past t (queue waiting r) log
-      → Marked (past ++ (c ∷ [])) (t + 1) (queue (arrival t e ∷ waiting) r) log
-  marked-new c past e t waiting r [] h = tt
-  marked-new c past e t waiting r (a ∷ l) h = (
-    began-on c (t + 1) (l ++ queue (arrival t e ∷ waiting) r) (omega arith)
-        (λ n k g. let s = all-split _ l (queue waiting r) g in all-join _ l _ (s .0) (all-perm _ (joins (arrival t e) waiting r) ((λ _. k), s .1))) (h .0),
-    marked-new c past e t waiting r l (h .1),
+  marked-new : (c : Call) (past : List Call) (e who t : ℕ) (waiting : List Arrival) (r : Running) (log : List Arrival) → Marked past t (queue waiting r) log
+      → Marked (past ++ (c ∷ [])) (t + 1) (queue (arrival t e who ∷ waiting) r) log
+  marked-new c past e who t waiting r [] h = tt
+  marked-new c past e who t waiting r (a ∷ l) h = (
+    began-on c (t + 1) (l ++ queue (arrival t e who ∷ waiting) r) (omega arith)
+        (λ n k g. let s = all-split _ l (queue waiting r) g in all-join _ l _ (s .0) (all-perm _ (joins (arrival t e who) waiting r) ((λ _. k), s .1))) (h .0),
+    marked-new c past e who t waiting r l (h .1),
   )
 
-  turned-new : (c : Call) (past : List Call) (e t : ℕ) (waiting : List Arrival) (r : Running) → Turned past t waiting r
-      → Turned (past ++ (c ∷ [])) (t + 1) (arrival t e ∷ waiting) r
-  turned-new c past e t waiting rest h = tt
-  turned-new c past e t waiting (busy a n) h = λ q. began-on c (t + 1) (arrival t e ∷ waiting) (omega arith) (λ n k g. ((λ _. k), g)) (h q)
+  turned-new : (c : Call) (past : List Call) (e who t : ℕ) (waiting : List Arrival) (r : Running) → Turned past t waiting r
+      → Turned (past ++ (c ∷ [])) (t + 1) (arrival t e who ∷ waiting) r
+  turned-new c past e who t waiting rest h = tt
+  turned-new c past e who t waiting (busy a n) h = λ q. began-on c (t + 1) (arrival t e who ∷ waiting) (omega arith) (λ n k g. ((λ _. k), g)) (h q)
 
   -- ---- a commit
 
@@ -138,10 +138,10 @@ module _ (p : Program) where
     kept : Cases p (Kept p facts Lowered)
     unfolding offs ons
     kept = record {
-      refuses = λ e w r past log taken here i. same (arrive e) w past log taken i;
-      takes = λ e t waiting r d k m n reach past log taken here i.
-          (marked-new (arrive e) past e t waiting r log (i .0), turned-new (arrive e) past e t waiting r (i .1));
-      reads = λ j w r past log taken here i. same (board j) w past log taken i;
+      refuses = λ e who w r past log taken here i. same (arrive e who) w past log taken i;
+      takes = λ e who t waiting r d k eight m n reach past log taken here i.
+          (marked-new (arrive e who) past e who t waiting r log (i .0), turned-new (arrive e who) past e who t waiting r (i .1));
+      reads = λ j who w r past log taken here i. same (board j who) w past log taken i;
       idles = λ t d r past log taken here i. same step (engine t [] rest d) past log taken i;
       starts = λ t b l d r past log taken here i. (marked-same step past t (b ∷ l) _ log (choose-perm p b l) (i .0), λ e. absurd (false≢true e));
       preempts = λ t b l a n d u o r past log taken here i.

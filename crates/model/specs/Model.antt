@@ -1,27 +1,29 @@
--- The model engine. 01 "Whole runs", "Handlers and steps".
+-- The model engine. 01 "Whole runs", "Handlers and steps"; 02, M-104 and M-107.
 -- It is fed the program and each call's kind and arguments, never an answer.
 use Prim.Native.Nat.{ℕ, _+_}
 use mathlib.Core.Bool.{Bool, true, false}
 use mathlib.Core.List.{List, [], _∷_}
 use lib.ListN.{length, getD, take}
-use lib.Dec.{ltb, leb}
+use lib.Dec.{ltb, leb, eqb}
 use Rattle.base.specs.Basics.{pick}
 use Rattle.language.specs.Syntax.{Program}
 use Rattle.language.specs.Refusals as refusals
 use Rattle.language.specs.Dependence.{size, events}
+use Rattle.language.specs.Rights.{maySend, maySee}
 use Rattle.language.specs.Code.{off, code}
 use Rattle.semantics.specs.Meaning.{fresh}
 use Rattle.execution.specs.Execution.{Values, at, execute, emptied, maskedAfter, copyingBackAfter}
 
 -- ---- what it keeps
 
--- an arrival taken in: its number and its event
+-- an arrival taken in: its number, its event, and the player who sent it (02, M-107: "the hand and the step answers keep it")
 pub record Arrival : Type 0 where
   pub number : ℕ
   pub event : ℕ
+  pub player : ℕ
 
-abbrev pub arrival : ℕ → ℕ → Arrival
-arrival n e = record { number = n; event = e }
+abbrev pub arrival : ℕ → ℕ → ℕ → Arrival
+arrival n e who = record { number = n; event = e; player = who }
 
 -- nothing runs, or an arrival runs with its count of instructions done
 pub data Running : Type 0 where
@@ -43,10 +45,11 @@ queue waiting (busy a c) = a ∷ waiting
 
 -- ---- calls and answers
 
+-- 02, M-107: "Each arrival, board reading and preview now carries its player": the event and the player; the behaviour and the player
 pub data Call : Type 0 where
-  arrive : ℕ → Call
+  arrive : ℕ → ℕ → Call
   step : Call
-  board : ℕ → Call
+  board : ℕ → ℕ → Call
 
 pub data Answer : Type 0 where
   refused : ℕ → Answer  -- by this number
@@ -57,6 +60,21 @@ pub data Answer : Type 0 where
   started : Arrival → Answer  -- the next starts
   preempted : Arrival → Answer  -- the next starts, and the running one goes back to the hand (01: breaks in)
   committed : Arrival → Bool → Answer  -- one instruction, the last; and whether the event ran over (02, M-104)
+
+-- "only the host is told M-104's mark: a step carries no player and returns the host's answer, and a further call turns that into the others', without the mark"
+abbrev pub unmarked : Answer → Answer
+unmarked (refused n) = refused n
+unmarked takenIn = takenIn
+unmarked (shows v) = shows v
+unmarked idle = idle
+unmarked ran = ran
+unmarked (started a) = started a
+unmarked (preempted a) = preempted a
+unmarked (committed a m) = committed a false
+
+-- what a player is told of a step's answer
+abbrev pub toldTo : ℕ → Answer → Answer
+toldTo who a = pick (eqb who 0) a (unmarked a)
 
 -- an answer, and the engine after the call
 pub record Outcome : Type 0 where
@@ -129,25 +147,32 @@ module _ (p : Program) where
 
   -- ---- an arrival and a board reading
 
-  abbrev pub arrived : ℕ → ℕ → List Arrival → Running → Values → Outcome
-  arrived e t waiting r d =
-      pick (leb (events p) e) (outcome (refused refusals.undeclaredEvent) (engine t waiting r d))
+  -- M-107: "24 when the player is above 7, after 14 ..; 25 when the right is missing, after 15 for an arrival, .. and after 18 for a behaviour"
+  abbrev pub arrived : ℕ → ℕ → ℕ → List Arrival → Running → Values → Outcome
+  arrived e who t waiting r d =
+      pick (leb 8 who) (outcome (refused refusals.noPlayer) (engine t waiting r d))
+      (pick (leb (events p) e) (outcome (refused refusals.undeclaredEvent) (engine t waiting r d))
+      (pick (maySend p who e)
       (pick (leb 64 (length (queue waiting r))) (outcome (refused refusals.fullQueue) (engine t waiting r d))
       (pick (leb 1000000 t) (outcome (refused refusals.spent) (engine t waiting r d))
-      (outcome takenIn (engine (t + 1) (arrival t e ∷ waiting) r d))))
+      (outcome takenIn (engine (t + 1) (arrival t e who ∷ waiting) r d))))
+      (outcome (refused refusals.noRight) (engine t waiting r d))))
 
-  abbrev pub read : ℕ → Running → Values → Answer
-  read i r d =
-      pick (leb (size p) i) (refused refusals.noBehaviour)
+  abbrev pub read : ℕ → ℕ → Running → Values → Answer
+  read i who r d =
+      pick (leb 8 who) (refused refusals.noPlayer)
+      (pick (leb (size p) i) (refused refusals.noBehaviour)
+      (pick (maySee p who i)
       (pick (settling r) (refused refusals.settling)
       (shows (at (d .store) i)))
+      (refused refusals.noRight)))
 
   -- ---- one call, and a list of calls
 
   unfoldable pub act : Call → Engine → Outcome
-  act (arrive e) (engine t waiting r d) = arrived e t waiting r d
+  act (arrive e who) (engine t waiting r d) = arrived e who t waiting r d
   act step (engine t waiting r d) = stepped t waiting r d
-  act (board i) (engine t waiting r d) = outcome (read i r d) (engine t waiting r d)
+  act (board i who) (engine t waiting r d) = outcome (read i who r d) (engine t waiting r d)
 
   unfoldable pub run : List Call → Engine → Engine
   run [] w = w

@@ -12,6 +12,7 @@ use Rattle.base.specs.Tools.{by-test, all-perm, all-imp}
 use mathlib.Core.List.{Permᴰ·symm}
 use Rattle.language.specs.Syntax.{Program}
 use Rattle.language.specs.Dependence.{size, events}
+use Rattle.language.specs.Rights.{maySend, maySee}
 use Rattle.language.specs.Code.{off, code}
 use Rattle.execution.specs.Execution.{Values, execute}
 use Rattle.model.specs.Model.{Arrival, arrival, Running, rest, busy, Engine, engine, queue, Call, arrive, step, board, Answer, refused, takenIn, shows, idle, ran, started, preempted, committed, Outcome, rank, masked, settling, choose, aside, begin, advance, act}
@@ -24,9 +25,9 @@ pub data Effect : Type 0 where
   took commit : Arrival → Effect
 
 abbrev pub newcomer : Call → ℕ → Effect
-newcomer (arrive e) n = took (arrival n e)
+newcomer (arrive e who) n = took (arrival n e who)
 newcomer step n = nothing
-newcomer (board i) n = nothing
+newcomer (board i who) n = nothing
 
 abbrev pub said-by : Answer → Effect → Effect
 said-by (refused k) x = nothing
@@ -48,10 +49,10 @@ module _ (p : Program) where
   Unchallenged waiting a n = masked p a n ≡ false → All (λ x. rank p x ≤ rank p a) waiting
 
   pub record Cases (P : Call → Engine → Effect → Engine → Type 0) : Type 0 where
-    pub refuses : (e : ℕ) (w : Engine) → P (arrive e) w nothing w
-    pub takes : (e t : ℕ) (waiting : List Arrival) (r : Running) (d : Values) → e < events p → length (queue waiting r) < 64 → t < 1000000
-        → P (arrive e) (engine t waiting r d) (took (arrival t e)) (engine (t + 1) (arrival t e ∷ waiting) r d)
-    pub reads : (i : ℕ) (w : Engine) → P (board i) w nothing w
+    pub refuses : (e who : ℕ) (w : Engine) → P (arrive e who) w nothing w
+    pub takes : (e who t : ℕ) (waiting : List Arrival) (r : Running) (d : Values) → e < events p → who < 8 → length (queue waiting r) < 64 → t < 1000000
+        → P (arrive e who) (engine t waiting r d) (took (arrival t e who)) (engine (t + 1) (arrival t e who ∷ waiting) r d)
+    pub reads : (i who : ℕ) (w : Engine) → P (board i who) w nothing w
     pub idles : (t : ℕ) (d : Values) → P step (engine t [] rest d) nothing (engine t [] rest d)
     pub starts : (t : ℕ) (b : Arrival) (l : List Arrival) (d : Values) → P step (engine t (b ∷ l) rest d) nothing (begin p t (choose p b l) d)
     pub preempts : (t : ℕ) (b : Arrival) (l : List Arrival) (a : Arrival) (n : ℕ) (d : Values) → masked p a n ≡ false
@@ -80,16 +81,22 @@ module _ (p : Program) where
 
     pub act-by : (c : Call) (w : Engine) → Does c w (act p c w)
     unfolding act
-    act-by (arrive e) (engine t waiting r d) =
-        by-test (Does (arrive e) (engine t waiting r d)) (leb (events p) e) (λ _. m .refuses e (engine t waiting r d))
-        (λ x. by-test (Does (arrive e) (engine t waiting r d)) (leb 64 (length (queue waiting r))) (λ _. m .refuses e (engine t waiting r d))
-        (λ y. by-test (Does (arrive e) (engine t waiting r d)) (leb 1000000 t) (λ _. m .refuses e (engine t waiting r d))
-        (λ z. m .takes e t waiting r d (leb-false _ _ x) (leb-false _ _ y) (leb-false _ _ z))))
-    act-by (board i) (engine t waiting r d) =
-        by-test (λ (x : Answer). P (board i) (engine t waiting r d) (said-by x nothing) (engine t waiting r d)) (leb (size p) i)
-        (λ _. m .reads i (engine t waiting r d))
-        (λ _. by-test (λ (x : Answer). P (board i) (engine t waiting r d) (said-by x nothing) (engine t waiting r d)) (settling p r)
-        (λ _. m .reads i (engine t waiting r d)) (λ _. m .reads i (engine t waiting r d)))
+    act-by (arrive e who) (engine t waiting r d) =
+        let no = m .refuses e who (engine t waiting r d) in
+        by-test (Does (arrive e who) (engine t waiting r d)) (leb 8 who) (λ _. no)
+        (λ v. by-test (Does (arrive e who) (engine t waiting r d)) (leb (events p) e) (λ _. no)
+        (λ x. by-test (Does (arrive e who) (engine t waiting r d)) (maySend p who e)
+        (λ _. by-test (Does (arrive e who) (engine t waiting r d)) (leb 64 (length (queue waiting r))) (λ _. no)
+        (λ y. by-test (Does (arrive e who) (engine t waiting r d)) (leb 1000000 t) (λ _. no)
+        (λ z. m .takes e who t waiting r d (leb-false _ _ x) (leb-false _ _ v) (leb-false _ _ y) (leb-false _ _ z))))
+        (λ _. no)))
+    act-by (board i who) (engine t waiting r d) =
+        let yes = m .reads i who (engine t waiting r d) in
+        by-test (λ (x : Answer). P (board i who) (engine t waiting r d) (said-by x nothing) (engine t waiting r d)) (leb 8 who) (λ _. yes)
+        (λ _. by-test (λ (x : Answer). P (board i who) (engine t waiting r d) (said-by x nothing) (engine t waiting r d)) (leb (size p) i) (λ _. yes)
+        (λ _. by-test (λ (x : Answer). P (board i who) (engine t waiting r d) (said-by x nothing) (engine t waiting r d)) (maySee p who i)
+        (λ _. by-test (λ (x : Answer). P (board i who) (engine t waiting r d) (said-by x nothing) (engine t waiting r d)) (settling p r) (λ _. yes) (λ _. yes))
+        (λ _. yes)))
     act-by step (engine t [] rest d) = m .idles t d
     act-by step (engine t (b ∷ l) rest d) = m .starts t b l d
     act-by step (engine t [] (busy a n) d) = advance-by t [] a n d (λ u. tt)
@@ -104,9 +111,9 @@ module _ (p : Program) where
   pub cases-imp : (P Q : Call → Engine → Effect → Engine → Type 0)
       → ((c : Call) (w : Engine) (x : Effect) (v : Engine) → P c w x v → Q c w x v) → Cases P → Cases Q
   cases-imp P Q f m = record {
-    refuses = λ e w. f (arrive e) w nothing w (m .refuses e w);
-    takes = λ e t waiting r d k n h. f (arrive e) _ _ _ (m .takes e t waiting r d k n h);
-    reads = λ i w. f (board i) w nothing w (m .reads i w);
+    refuses = λ e who w. f (arrive e who) w nothing w (m .refuses e who w);
+    takes = λ e who t waiting r d k eight n h. f (arrive e who) _ _ _ (m .takes e who t waiting r d k eight n h);
+    reads = λ i who w. f (board i who) w nothing w (m .reads i who w);
     idles = λ t d. f step _ nothing _ (m .idles t d);
     starts = λ t b l d. f step _ nothing _ (m .starts t b l d);
     preempts = λ t b l a n d u o. f step _ nothing _ (m .preempts t b l a n d u o);

@@ -37,16 +37,16 @@ module _ (p : Program) where
   moved : (log taken : List Arrival) {q r : List Arrival} → List·Permᴰ q r → List·Permᴰ taken (log ++ q) → List·Permᴰ taken (log ++ r)
   moved log taken d h = List·Permᴰ·trans h (Permᴰ·append-left log d)
 
-  takes-once : (e t : ℕ) (waiting : List Arrival) (r : Running) (log taken : List Arrival) → e < events p
+  takes-once : (e who t : ℕ) (waiting : List Arrival) (r : Running) (log taken : List Arrival) → e < events p → who < 8
       → List·Permᴰ taken (log ++ queue waiting r) × All (Fine p t) taken × List·Nodup (numbers taken)
-      → List·Permᴰ (taken ++ (arrival t e ∷ [])) (log ++ queue (arrival t e ∷ waiting) r) × All (Fine p (t + 1)) (taken ++ (arrival t e ∷ []))
-      × List·Nodup (numbers (taken ++ (arrival t e ∷ [])))
-  takes-once e t waiting r log taken k h =
-      let a : Arrival = arrival t e in
+      → List·Permᴰ (taken ++ (arrival t e who ∷ [])) (log ++ queue (arrival t e who ∷ waiting) r) × All (Fine p (t + 1)) (taken ++ (arrival t e who ∷ []))
+      × List·Nodup (numbers (taken ++ (arrival t e who ∷ [])))
+  takes-once e who t waiting r log taken k eight h =
+      let a : Arrival = arrival t e who in
       let d : List·Permᴰ (a ∷ taken) (log ++ queue (a ∷ waiting) r) =
       List·Permᴰ·trans (List·Permᴰ·cons refl (h .0))
       (List·Permᴰ·trans (Permᴰ·symm (Permᴰ·middle a log (queue waiting r))) (Permᴰ·append-left log (joins a waiting r))) in
-      let f : All (Fine p (t + 1)) (a ∷ taken) = ((omega arith, k), all-imp (Fine p t) (Fine p (t + 1)) (λ x y. (omega arith, y .1)) taken (h .1)) in
+      let f : All (Fine p (t + 1)) (a ∷ taken) = ((omega arith, k, eight), all-imp (Fine p t) (Fine p (t + 1)) (λ x y. (omega arith, y .1, y .2)) taken (h .1)) in
       let g : List·Nodup (numbers (a ∷ taken)) =
       new-number t taken (all-imp (Fine p t) (λ x. t ≢ x .number) (λ x y. omega arith) taken (h .1)) (h .2) in
       let m : List·Permᴰ (a ∷ taken) (taken ++ (a ∷ [])) = snoc-perm taken a in
@@ -77,9 +77,9 @@ module _ (p : Program) where
   module _ (facts : CodeFacts p) where
     kept : Cases p (Kept p facts Once)
     kept = record {
-      refuses = λ e w r past log taken here i. i;
-      takes = λ e t waiting r d k m n reach past log taken here i. takes-once e t waiting r log taken k i;
-      reads = λ j w r past log taken here i. i;
+      refuses = λ e who w r past log taken here i. i;
+      takes = λ e who t waiting r d k eight m n reach past log taken here i. takes-once e who t waiting r log taken k eight i;
+      reads = λ j who w r past log taken here i. i;
       idles = λ t d r past log taken here i. i;
       starts = λ t b l d r past log taken here i. (moved log taken (choose-perm p b l) (i .0), i .1, i .2);
       preempts = λ t b l a n d u o r past log taken here i. (moved log taken (back-perm p a b l) (i .0), i .1, i .2);

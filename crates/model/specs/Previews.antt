@@ -13,6 +13,7 @@ use Rattle.base.specs.Basics.{pick}
 use Rattle.language.specs.Syntax.{Program}
 use Rattle.language.specs.Refusals as refusals
 use Rattle.language.specs.Dependence.{size}
+use Rattle.language.specs.Rights.{maySee}
 use Rattle.execution.specs.Execution.{at}
 use Rattle.execution.specs.CodeFacts.{CodeFacts}
 use Rattle.model.specs.Model.{rest, busy, Engine, engine, initial, Call, arrive, step, board, Answer, refused, shows, act, run}
@@ -27,9 +28,9 @@ abbrev pub onlySteps : ℕ → List Call
 onlySteps n = replicate n step
 
 abbrev IsStep : Call → Type 0
-IsStep (arrive e) = ⊥
+IsStep (arrive e who) = ⊥
 IsStep step = Unit {0}
-IsStep (board i) = ⊥
+IsStep (board i who) = ⊥
 
 module _ (p : Program) where
   -- ---- calls that take nothing in
@@ -40,9 +41,9 @@ module _ (p : Program) where
 
   still : Cases p Still
   still = record {
-    refuses = λ e w. (λ s. refl, λ s z. refl);
-    takes = λ e t waiting r d k m n. (λ s. absurd s, λ s z. absurd (omega arith));
-    reads = λ i w. (λ s. refl, λ s z. refl);
+    refuses = λ e who w. (λ s. refl, λ s z. refl);
+    takes = λ e who t waiting r d k eight m n. (λ s. absurd s, λ s z. absurd (omega arith));
+    reads = λ i who w. (λ s. refl, λ s z. refl);
     idles = λ t d. (λ s. refl, λ s z. refl);
     starts = λ t b l d. (λ s. refl, λ s z. absurd (s tt));
     preempts = λ t b l a n d u o. (λ s. refl, λ s z. absurd (s tt));
@@ -54,18 +55,18 @@ module _ (p : Program) where
   unfolding run steps
   as-steps [] w h = refl
   as-steps (step ∷ ds) w h = as-steps ds (act p step w .after) (h ∙ sym (act-by p Still still step w .0 tt))
-  as-steps (arrive e ∷ ds) w h =
-      let v : Engine = act p (arrive e) w .after in
-      let a : number w ≤ number v = act-grows p (arrive e) w in
+  as-steps (arrive e who ∷ ds) w h =
+      let v : Engine = act p (arrive e who) w .after in
+      let a : number w ≤ number v = act-grows p (arrive e who) w in
       let b : number v ≤ number (run p ds v) = run-grows p ds v in
       let same : number v ≡ number w = omega arith in
-      as-steps ds v (h ∙ sym same) ∙ ap (run p (onlySteps (steps ds))) (act-by p Still still (arrive e) w .1 (λ s. s) same)
-  as-steps (board i ∷ ds) w h =
-      let v : Engine = act p (board i) w .after in
-      let a : number w ≤ number v = act-grows p (board i) w in
+      as-steps ds v (h ∙ sym same) ∙ ap (run p (onlySteps (steps ds))) (act-by p Still still (arrive e who) w .1 (λ s. s) same)
+  as-steps (board i who ∷ ds) w h =
+      let v : Engine = act p (board i who) w .after in
+      let a : number w ≤ number v = act-grows p (board i who) w in
       let b : number v ≤ number (run p ds v) = run-grows p ds v in
       let same : number v ≡ number w = omega arith in
-      as-steps ds v (h ∙ sym same) ∙ ap (run p (onlySteps (steps ds))) (act-by p Still still (board i) w .1 (λ s. s) same)
+      as-steps ds v (h ∙ sym same) ∙ ap (run p (onlySteps (steps ds))) (act-by p Still still (board i who) w .1 (λ s. s) same)
 
   none-taken : (n : ℕ) (w : Engine) → number (run p (onlySteps n) w) ≡ number w
   unfolding run
@@ -115,14 +116,15 @@ module _ (p : Program) where
 
     pub preview-right : (cs : List Call) → PreviewRight p cs
     unfolding run
-    preview-right cs e i ds b t h g =
+    preview-right cs e i who ds b sees t h g =
         let w : Engine = after p cs in
-        let v : Engine = act p (arrive e) w .after in
-        let q : after p (cs ++ (arrive e ∷ ds)) ≡ run p ds v = run-append p cs (arrive e ∷ ds) (initial p) in
+        let v : Engine = act p (arrive e who) w .after in
+        let q : after p (cs ++ (arrive e who ∷ ds)) ≡ run p ds v = run-append p cs (arrive e who ∷ ds) (initial p) in
         let one : number v ≡ number w + 1 =
-        act-number p (arrive e) w ∙ ap (λ (a : Answer). counted (effect (arrive e) a (number w)) (number w)) t in
+        act-number p (arrive e who) w ∙ ap (λ (a : Answer). counted (effect (arrive e who) a (number w)) (number w)) t in
         let k : run p ds v ≡ run p (onlySteps (steps ds)) v = as-steps ds v (sym (ap number q) ∙ h ∙ sym one) in
-        let settled : Idle p (run p (onlySteps (countIn p v)) v) = idle-within v (act-keeps p facts (arrive e) w (reached p facts cs)) in
+        let settled : Idle p (run p (onlySteps (countIn p v)) v) = idle-within v (act-keeps p facts (arrive e who) w (reached p facts cs)) in
         let same = one-idle (countIn p v) (steps ds) v settled (subst (Idle p) (q ∙ k) g) in
-        ap (λ (a : Answer). unlessRefused a (pick (leb (size p) i) (refused refusals.noBehaviour) (shownAfter p v i))) t
-        ∙ rw (lt-leb (size p) i b) (ap (λ (u : Engine). shows (at (storeOf u) i)) (same ∙ sym k ∙ sym q))
+        ap (λ (a : Answer). unlessRefused a
+        (pick (leb (size p) i) (refused refusals.noBehaviour) (pick (maySee p who i) (shownAfter p v i) (refused refusals.noRight)))) t
+        ∙ rw (lt-leb (size p) i b, sees) (ap (λ (u : Engine). shows (at (storeOf u) i)) (same ∙ sym k ∙ sym q))

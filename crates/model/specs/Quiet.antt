@@ -42,9 +42,9 @@ module _ (p : Program) where
 
   -- the steps in a call
   abbrev spent : Call → ℕ
-  spent (arrive e) = 0
+  spent (arrive e who) = 0
   spent step = 1
-  spent (board i) = 0
+  spent (board i who) = 0
 
   abbrev Spends : Call → Engine → Effect → Engine → Type 0
   Spends c w x v = Reached p w → number v ≡ number w → Leading w → Leading v × (left v ≡ left w - spent c)
@@ -52,9 +52,9 @@ module _ (p : Program) where
   spends : Cases p Spends
   unfolding stepsOf sum
   spends = record {
-    refuses = λ e w r z h. (h, omega arith);
-    takes = λ e t waiting q d k m o r z h. absurd (omega arith);
-    reads = λ i w r z h. (h, omega arith);
+    refuses = λ e who w r z h. (h, omega arith);
+    takes = λ e who t waiting q d k eight m o r z h. absurd (omega arith);
+    reads = λ i who w r z h. (h, omega arith);
     idles = λ t d r z h. (tt, omega arith);
     starts = λ t b l d r z h. (
       all-imp (Leads p (choose p b l .next)) _ (λ x k. k .0) (choose p b l .others) (choose-first p b l .1),
@@ -69,9 +69,9 @@ module _ (p : Program) where
 
   steps-spent : (c : Call) (ds : List Call) → steps (c ∷ ds) ≡ spent c + steps ds
   unfolding steps
-  steps-spent (arrive e) ds = omega arith
+  steps-spent (arrive e who) ds = omega arith
   steps-spent step ds = omega arith
-  steps-spent (board i) ds = omega arith
+  steps-spent (board i who) ds = omega arith
 
   -- ---- idle is where nothing is left
 

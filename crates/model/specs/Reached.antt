@@ -28,9 +28,9 @@ use Rattle.model.specs.Moves.{Effect, nothing, took, commit, Cases, act-
 module _ (p : Program) where
   -- ---- the statement
 
-  -- its number is given, its event declared
+  -- its number is given, its event declared, its player one of the eight
   abbrev pub Fine : ℕ → Arrival → Type 0
-  Fine t a = (a .number < t) × (a .event < events p)
+  Fine t a = (a .number < t) × (a .event < events p) × (a .player < 8)
 
   -- at rest the store is s; a running event has its first c instructions done, from s
   abbrev pub Done : List ℕ → Running → Values → Type 0
@@ -65,26 +65,26 @@ module _ (p : Program) where
   pub back-perm : (a b : Arrival) (l : List Arrival) → List·Permᴰ (a ∷ (b ∷ l)) (choose p b l .next ∷ (a ∷ choose p b l .others))
   back-perm a b l = List·Permᴰ·trans (List·Permᴰ·cons refl (choose-perm p b l)) (List·Permᴰ·swap refl refl)
 
-  new-fine : (t e : ℕ) (q : List Arrival) → e < events p → All (Fine t) q → List·Nodup (numbers q)
-      → All (Fine (t + 1)) (arrival t e ∷ q) × List·Nodup (numbers (arrival t e ∷ q))
-  new-fine t e q k f h = (
-    ((omega arith, k), all-imp (Fine t) (Fine (t + 1)) (λ x y. (omega arith, y .1)) q f),
+  new-fine : (t e who : ℕ) (q : List Arrival) → e < events p → who < 8 → All (Fine t) q → List·Nodup (numbers q)
+      → All (Fine (t + 1)) (arrival t e who ∷ q) × List·Nodup (numbers (arrival t e who ∷ q))
+  new-fine t e who q k eight f h = (
+    ((omega arith, k, eight), all-imp (Fine t) (Fine (t + 1)) (λ x y. (omega arith, y .1, y .2)) q f),
     new-number t q (all-imp (Fine t) (λ x. t ≢ x .number) (λ x y. omega arith) q f) h,
   )
 
-  takes-queued : (e t : ℕ) (waiting : List Arrival) (r : Running) (d : Values) → e < events p → length (queue waiting r) < 64 → t < 1000000
-      → Queued (engine t waiting r d) → Queued (engine (t + 1) (arrival t e ∷ waiting) r d)
-  takes-queued e t waiting rest d k n m h = let f = new-fine t e waiting k (h .0) (h .1) in (f .0, f .1, omega arith, omega arith)
-  takes-queued e t waiting (busy a c) d k n m h =
-      let f = new-fine t e (a ∷ waiting) k (h .0) (h .1) in
+  takes-queued : (e who t : ℕ) (waiting : List Arrival) (r : Running) (d : Values) → e < events p → who < 8 → length (queue waiting r) < 64 → t < 1000000
+      → Queued (engine t waiting r d) → Queued (engine (t + 1) (arrival t e who ∷ waiting) r d)
+  takes-queued e who t waiting rest d k eight n m h = let f = new-fine t e who waiting k eight (h .0) (h .1) in (f .0, f .1, omega arith, omega arith)
+  takes-queued e who t waiting (busy a c) d k eight n m h =
+      let f = new-fine t e who (a ∷ waiting) k eight (h .0) (h .1) in
       let g = permuted (t + 1) (List·Permᴰ·swap {l = waiting} refl refl) (f .0) (f .1) (omega arith) in
       (g .0, g .1, g .2, omega arith)
 
   keeps-queued : Cases p Keeps
   keeps-queued = record {
-    refuses = λ e w h. h;
+    refuses = λ e who w h. h;
     takes = takes-queued;
-    reads = λ i w h. h;
+    reads = λ i who w h. h;
     idles = λ t d h. h;
     starts = λ t b l d h. let g = permuted t (choose-perm p b l) (h .0) (h .1) (h .2) in (g .0, g .1, g .2, h .3);
     preempts = λ t b l a n d u o h. let g = permuted t (back-perm a b l) (h .0) (h .1) (h .2) in (g .0, g .1, g .2, h .3);
@@ -135,9 +135,9 @@ module _ (p : Program) where
     pub computes : Cases p Computes
     unfolding executeAll
     computes = record {
-      refuses = λ e w f s n q. (n, q);
-      takes = λ e t waiting r d k m o f s n q. (n, q);
-      reads = λ i w f s n q. (n, q);
+      refuses = λ e who w f s n q. (n, q);
+      takes = λ e who t waiting r d k eight m o f s n q. (n, q);
+      reads = λ i who w f s n q. (n, q);
       idles = λ t d f s n q. (n, q);
       starts = λ t b l d f s n q. (n, (some _ (all-perm (Fine t) (choose-perm p b l) f .0 .1), ap emptied q));
       preempts = λ t b l a c d u o f s n q.

@@ -2,25 +2,26 @@
 -- each commits what it took in, with equals in order, and independent events commute.
 use Prim.Native.Nat.{ℕ, _<_}
 use mathlib.Core.Bool.{false}
-use mathlib.Core.Path.{_≡_, refl, sym, _∙_, subst}
+use mathlib.Core.Path.{_≡_, refl, sym, ap, _∙_, subst}
 use mathlib.Core.Logic.{_≢_}
 use mathlib.Core.List.{List, [], _∷_, List·Nodup}
-use mathlib.Core.List.{List·Permᴰ, List·Permᴰ·trans, Permᴰ·symm}
+use mathlib.Core.List.{List·Permᴰ, List·Permᴰ·trans, Permᴰ·symm, Permᴰ·map}
 use lib.ListN.{length}
 use Rattle.base.specs.Basics.{All}
 use Rattle.base.specs.Tools.{all-perm, all-imp}
 use Rattle.language.specs.Syntax.{Program}
 use Rattle.language.specs.Dependence.{size, events, Independent}
-use Rattle.semantics.specs.Meaning.{event, fresh}
+use Rattle.semantics.specs.Meaning.{event, fresh, play}
 use Rattle.semantics.specs.Lengths.{length-fresh}
 use Rattle.execution.specs.CodeFacts.{CodeFacts}
 use Rattle.model.specs.Model.{Arrival, rest, busy, Engine, engine, Call, rank}
-use Rattle.model.specs.Claims.{number, inQueue, storeOf, settlingIn, Idle, after, committedIn, takenInBy, SameBoard}
+use Rattle.model.specs.Claims.{number, inQueue, storeOf, settlingIn, Idle, after, said, committedIn, takenInBy, SameBoard}
 use Rattle.model.specs.Choice.{numbers, distinct-numbers}
 use Rattle.model.specs.Reached.{Fine}
 use Rattle.model.specs.Boards.{storeAfter, board-of-commits}
 use Rattle.model.specs.Once.{once, once-each, idle-empty}
 use Rattle.model.specs.Equals.{equals-in-order}
+use Rattle.model.specs.Unsigned.{unsigned, allUnsigned, numbered, taken-numbered, same-events, same-numbers, all-unsigned, pairs-unsigned}
 use Rattle.model.specs.Confluence.{Commute, Declared, each-perm, confluent}
 
 module _ (p : Program) (facts : CodeFacts p) where
@@ -34,6 +35,16 @@ module _ (p : Program) (facts : CodeFacts p) where
 
   declared : (cs : List Call) → All (Declared p) (takenInBy p cs)
   declared cs = all-imp (Fine p (number (after p cs))) _ (λ x h. h .1) (takenInBy p cs) (once p facts cs .1)
+
+  -- who sent them does not matter
+  plays-unsigned : (l : List Arrival) → storeAfter p (allUnsigned l) ≡ storeAfter p l
+  plays-unsigned l = ap (λ (es : List ℕ). play p es (fresh p)) (same-events l)
+
+  apart-unsigned : (l : List Arrival) → All (λ a. All (λ b. rank p a ≢ rank p b → Independent p (a .event) (b .event)) l) l
+      → All (λ a. All (λ b. rank p a ≢ rank p b → Independent p (a .event) (b .event)) (allUnsigned l)) (allUnsigned l)
+  apart-unsigned l h =
+      all-unsigned (λ a. All (λ b. rank p a ≢ rank p b → Independent p (a .event) (b .event)) (allUnsigned l)) l
+      (all-imp _ _ (λ a k. all-unsigned (λ b. rank p a ≢ rank p b → Independent p (a .event) (b .event)) l k) l h)
 
   module _ (commute : (e f : ℕ) → e < events p → f < events p → Independent p e f → (s : List ℕ) → length s ≡ size p
       → event p e (event p f s) ≡ event p f (event p e s)) where
@@ -50,15 +61,19 @@ module _ (p : Program) (facts : CodeFacts p) where
 
     pub same-board : (cs ds : List Call) → SameBoard p cs ds
     same-board cs ds same apart ic id =
-        let tc : List Arrival = takenInBy p cs in
-        let lc : List Arrival = committedIn p cs in
-        let ld : List Arrival = committedIn p ds in
-        let dc : List·Permᴰ tc lc = once-each p facts cs .2 ic in
-        let dd : List·Permᴰ tc ld = subst (λ (l : List Arrival). List·Permᴰ l ld) (sym same) (once-each p facts ds .2 id) in
-        let n : List·Nodup (numbers lc) = distinct-numbers dc (once-each p facts cs .1) in
-        let c : All (λ a. All (Commute p a) lc) lc =
-        each-perm (Commute p) dc (each-commutes tc tc (declared cs) (declared cs) apart) in
+        let tc : List Arrival = allUnsigned (takenInBy p cs) in
+        let lc : List Arrival = allUnsigned (committedIn p cs) in
+        let ld : List Arrival = allUnsigned (committedIn p ds) in
+        let taken : allUnsigned (takenInBy p ds) ≡ tc =
+        taken-numbered ds (said p ds) 0 ∙ ap (numbered 0) (sym same) ∙ sym (taken-numbered cs (said p cs) 0) in
+        let dc : List·Permᴰ tc lc = Permᴰ·map unsigned (once-each p facts cs .2 ic) in
+        let dd : List·Permᴰ tc ld = subst (λ (l : List Arrival). List·Permᴰ l ld) taken (Permᴰ·map unsigned (once-each p facts ds .2 id)) in
+        let n : List·Nodup (numbers lc) = rw (same-numbers (committedIn p cs)) (distinct-numbers (once-each p facts cs .2 ic) (once-each p facts cs .1)) in
+        let f : All (Declared p) tc = all-unsigned (Declared p) (takenInBy p cs) (declared cs) in
+        let c : All (λ a. All (Commute p a) lc) lc = each-perm (Commute p) dc (each-commutes tc tc f f (apart-unsigned (takenInBy p cs) apart)) in
         idle-store cs ic
-        ∙ confluent p facts lc ld (fresh p) (length-fresh p) (List·Permᴰ·trans (Permᴰ·symm dc) dd) n (all-perm _ dc (declared cs)) c
-        (equals-in-order p facts cs .0) (equals-in-order p facts ds .0)
+        ∙ sym (plays-unsigned (committedIn p cs))
+        ∙ confluent p facts lc ld (fresh p) (length-fresh p) (List·Permᴰ·trans (Permᴰ·symm dc) dd) n (all-perm _ dc f) c
+        (pairs-unsigned p (committedIn p cs) (equals-in-order p facts cs .0)) (pairs-unsigned p (committedIn p ds) (equals-in-order p facts ds .0))
+        ∙ plays-unsigned (committedIn p ds)
         ∙ sym (idle-store ds id)

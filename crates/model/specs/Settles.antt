@@ -63,9 +63,9 @@ module _ (p : Program) where
 
   -- the steps that a call allows
   abbrev pub allowed : Call → ℕ → ℕ
-  allowed (arrive e) n = n
+  allowed (arrive e who) n = n
   allowed step n = suc n
-  allowed (board i) n = n
+  allowed (board i who) n = n
 
   abbrev Falls : Call → Engine → Effect → Engine → Type 0
   Falls c w x v = Reached p w → number v ≡ number w → (n : ℕ) → left w ≤ allowed c n → left v ≤ n
@@ -82,9 +82,9 @@ module _ (p : Program) where
 
   falls : Cases p Falls
   falls = record {
-    refuses = λ e w r z n h. h;
-    takes = λ e t waiting q d k m o r z n h. absurd (omega arith);
-    reads = λ i w r z n h. h;
+    refuses = λ e who w r z n h. h;
+    takes = λ e who t waiting q d k eight m o r z n h. absurd (omega arith);
+    reads = λ i who w r z n h. h;
     idles = λ t d r z n h. omega arith;
     starts = λ t b l d r z n h.
         let g : left (begin p t (choose p b l) d) < (length l + 1) * (longest p + 1) =
@@ -99,9 +99,9 @@ module _ (p : Program) where
 
   pub steps-allowed : (c : Call) (ds : List Call) → steps (c ∷ ds) ≡ allowed c (steps ds)
   unfolding steps
-  steps-allowed (arrive e) ds = refl
+  steps-allowed (arrive e who) ds = refl
   steps-allowed step ds = refl
-  steps-allowed (board i) ds = refl
+  steps-allowed (board i who) ds = refl
 
   settled : (w : Engine) → Reached p w → left w ≤ 0 → Idle p w
   unfolding act

@@ -122,13 +122,13 @@ module _ (p : Program) (a : Arrival) where
       (λ e. let k : rank p a ≤ rank p r = all-member (λ x. rank p x ≤ rank p r) (r ∷ l) (omega arith, none-over p r l e) m in
       rw (not-over p r (b ∷ l) (omega arith, none-over p r l e)) (omega arith))
 
-  takes-left : (e t : ℕ) (waiting : List Arrival) (r : Running) (d : Values) → Reached p (engine t waiting r d) → List·Memᴰ a (queue waiting r)
-      → rank p (arrival t e) ≤ rank p a → left (engine (t + 1) (arrival t e ∷ waiting) r d) ≤ left (engine t waiting r d)
-  takes-left e t waiting rest d reach m h =
-      let k : share (arrival t e) ≡ 0 = share-behind (arrival t e) h (all-member (Fine p t) waiting (reach .fine) m .0) in omega arith
-  takes-left e t waiting (busy r c) d reach m h =
-      let k : share (arrival t e) ≡ 0 = share-behind (arrival t e) h (all-member (Fine p t) (r ∷ waiting) (reach .fine) m .0) in
-      omega (arith, extra-same r (arrival t e) waiting m h)
+  takes-left : (e who t : ℕ) (waiting : List Arrival) (r : Running) (d : Values) → Reached p (engine t waiting r d) → List·Memᴰ a (queue waiting r)
+      → rank p (arrival t e who) ≤ rank p a → left (engine (t + 1) (arrival t e who ∷ waiting) r d) ≤ left (engine t waiting r d)
+  takes-left e who t waiting rest d reach m h =
+      let k : share (arrival t e who) ≡ 0 = share-behind (arrival t e who) h (all-member (Fine p t) waiting (reach .fine) m .0) in omega arith
+  takes-left e who t waiting (busy r c) d reach m h =
+      let k : share (arrival t e who) ≡ 0 = share-behind (arrival t e who) h (all-member (Fine p t) (r ∷ waiting) (reach .fine) m .0) in
+      omega (arith, extra-same r (arrival t e who) waiting m h)
 
   -- ---- a start and a preemption
 
@@ -169,10 +169,10 @@ module _ (p : Program) (a : Arrival) where
 
   nearer : Cases p Nearer
   nearer = record {
-    refuses = λ e w r m g n h. inr (m, h);
-    takes = λ e t waiting q d k o u r m g n h.
-        inr (mem-perm (joins (arrival t e) waiting q) (List·Memᴰ·tail m), omega (arith, takes-left e t waiting q d r m (g .0)));
-    reads = λ i w r m g n h. inr (m, h);
+    refuses = λ e who w r m g n h. inr (m, h);
+    takes = λ e who t waiting q d k eight o u r m g n h.
+        inr (mem-perm (joins (arrival t e who) waiting q) (List·Memᴰ·tail m), omega (arith, takes-left e who t waiting q d r m (g .0)));
+    reads = λ i who w r m g n h. inr (m, h);
     idles = λ t d r m g n h. absurd (List·Memᴰ·not-nil m);
     starts = λ t b l d r m g n h. inr (mem-perm (choose-perm p b l) m, omega (arith, starts-left t b l d r m));
     preempts = λ t b l q c d u o r m g n h. inr (mem-perm (back-perm p q b l) m, omega (arith, preempts-left t b l q c d o r m));

@@ -3,6 +3,7 @@ ghost use mathlib.Core.Path.{_≡_};
 ghost use Prim.Native.Nat.{_≤_};
 ghost use lib.ListN.{length};
 ghost use Rattle.analysis.specs.Checks.{RowsInside};
+ghost use Rattle.draft.specs.Draft.{draftLength};
 ghost use Rattle.ordering.specs.Ordering.{markOf, MarksAre, orderUnder, Holds, countTurns, Checked};
 
 // How many behaviours have their turn in phase one, in an order that is complete; or a circle.
@@ -25,7 +26,7 @@ fn mark_of(v: u64) -> u8
 
 // The marks of n behaviours on event e.
 fn set_marks(d: &[u64], e: usize, n: usize, marks: &mut [u8])
-    requires { ⌜ (length (now d) ≡ 4256) × (length (now marks) ≡ 64) × (n ≤ 64) ⌝ }
+    requires { ⌜ (length (now d) ≡ draftLength) × (length (now marks) ≡ 64) × (n ≤ 64) ⌝ }
     ensures { λ _. ⌜ MarksAre (now (d .entry)) e n (now (marks .exit)) ⌝ }
 {
     let mut i = 0;
@@ -37,7 +38,7 @@ fn set_marks(d: &[u64], e: usize, n: usize, marks: &mut [u8])
 
 // Phase one's order of n behaviours on event e, in the first bytes of o. Returns how many: those in a circle, and whoever needs them, are left out.
 pub fn order_under(d: &[u64], e: usize, n: usize, o: &mut [u8]) -> usize
-    requires { ⌜ (length (now d) ≡ 4256) × (length (now o) ≡ 64) × (e ≤ 32) × (n ≤ 64) × RowsInside (now d) e n ⌝ }
+    requires { ⌜ (length (now d) ≡ draftLength) × (length (now o) ≡ 64) × (e ≤ 32) × (n ≤ 64) × RowsInside (now d) e n ⌝ }
     ensures { λ r. ⌜ Holds (now (o .exit)) r n (orderUnder (now (d .entry)) e n) ⌝ }
 {
     let mut m = [0u8; 4096];
@@ -49,7 +50,7 @@ pub fn order_under(d: &[u64], e: usize, n: usize, o: &mut [u8]) -> usize
 
 // How many of n behaviours have their turn in phase one: the passives and the immediate handlers.
 fn count_turns(d: &[u64], e: usize, n: usize) -> usize
-    requires { ⌜ (length (now d) ≡ 4256) × (n ≤ 64) ⌝ }
+    requires { ⌜ (length (now d) ≡ draftLength) × (n ≤ 64) ⌝ }
     ensures { λ r. ⌜ r ≡ countTurns (now (d .entry)) e n ⌝ }
 {
     let mut sum = 0;
@@ -63,7 +64,7 @@ fn count_turns(d: &[u64], e: usize, n: usize) -> usize
 
 // The check: whether all of them stand in the order.
 pub fn check_dependence(d: &[u64], e: usize, n: usize, o: &mut [u8]) -> Order
-    requires { ⌜ (length (now d) ≡ 4256) × (length (now o) ≡ 64) × (e ≤ 32) × (n ≤ 64) × RowsInside (now d) e n ⌝ }
+    requires { ⌜ (length (now d) ≡ draftLength) × (length (now o) ≡ 64) × (e ≤ 32) × (n ≤ 64) × RowsInside (now d) e n ⌝ }
     ensures { λ r. ⌜ Checked (now (d .entry)) e n r (now (o .exit)) ⌝ }
 {
     let count = order_under(d, e, n, o);

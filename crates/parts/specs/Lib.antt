@@ -1,1 +1,2 @@
+pub mod RightWords
 pub mod PartLaws

@@ -1,15 +1,18 @@
 -- The loops that write the table's parts: what is written so far goes on where it ended.
-use Prim.Native.Nat.{ℕ, _+_, _-_, _≤_, _<_}
-use mathlib.Core.Path.{_≡_, sym}
+use Prim.Native.Nat.{ℕ, zero, suc, _+_, _-_, _%_, _≤_, _<_}
+use mathlib.Core.Path.{_≡_, refl, sym}
 use mathlib.Core.List.{List, [], _∷_}
 use native.Mathlib.Omega.{arith}
 use native.Mathlib.Numerals.{add-one}
-use lib.ListN.{length, getD, take, replicate, replicate-append-replicate}
+use lib.ListN.{length, getD, take, replicate, length-append, replicate-append-replicate}
 use lib.Seq.{take-suc, take-all}
 use Rattle.word.specs.Word.{put}
-use Rattle.image.specs.Image.{putWords}
-use Rattle.emit.specs.Writing.{Wrote}
+use Rattle.image.specs.Image.{putWords, padded}
+use Rattle.image.specs.ImageLaws.{length-padded}
+use Rattle.emit.specs.Words.{each}
+use Rattle.emit.specs.Writing.{Room, Wrote}
 use Rattle.emit.specs.WritingLaws.{wrote-none, wrote-then, wrote-as}
+use Rattle.parts.specs.RightWords.{numberAt, rightWords}
 
 pub wrote-one : {t t′ : List ℕ} {k w : ℕ} → t′ ≡ put t k w → Wrote t k (w ∷ []) t′ (k + 1)
 unfolding putWords
@@ -67,3 +70,40 @@ values-turn {v} {j = j} u l h q =
 
 pub values-end : {v t₀ t : List ℕ} {k next j : ℕ} → Values v t₀ k t next j → length v ≡ 64 → 64 ≤ j → Wrote t₀ k v t next
 values-end {v} {j = j} u l h = wrote-as (take-all j v (omega arith)) (u .wrote)
+
+-- words, and zeros up to n of them
+pub wrote-padded : {t t′ t″ ws : List ℕ} {k b c : ℕ} (n : ℕ) → Wrote t k ws t′ b → Wrote t′ b (replicate (k + n - b) 0) t″ c → Wrote t k (padded n ws) t″ c
+unfolding padded
+wrote-padded {ws = ws} {k = k} {b = b} n w z =
+    let s : k + n - b ≡ n - length ws = omega (arith, w .next) in
+    wrote-then w (rw s at z)
+
+-- ---- numbers of the draft
+
+pub number-wrote : (d : List ℕ) (from j : ℕ) {t t′ : List ℕ} {k : ℕ} → t′ ≡ put t k (getD d (from + j) 0 % 4294967296) → Wrote t k (numberAt d from j) t′ (k + 1)
+unfolding numberAt
+number-wrote d from j q = wrote-one q
+
+-- each has one word
+pub length-numbers : (d : List ℕ) (from n : ℕ) → length (each n (numberAt d from)) ≡ n
+unfolding each numberAt
+length-numbers d from zero = refl
+length-numbers d from (suc n) = rw length-append (omega (arith, length-numbers d from n))
+
+-- there is room for a word where there is for one of them
+pub number-room : (d : List ℕ) (from j : ℕ) {t : List ℕ} {k : ℕ} → Room t k (numberAt d from j) → (k + 1 ≤ 8704) × (34816 ≤ length t)
+unfolding numberAt
+number-room d from j r = (omega (arith, r .within), r .long)
+
+pub numbers-room : (d : List ℕ) (from n : ℕ) {t : List ℕ} {k : ℕ} → k + n ≤ 8704 → 34816 ≤ length t → Room t k (each n (numberAt d from))
+numbers-room d from n a b = record { within = omega (arith, length-numbers d from n); long = b }
+
+pub rights-wrote : (d : List ℕ) (ev bs : ℕ) {t t₁ t₂ t₃ t₄ : List ℕ} {a b c r : ℕ} → ev ≤ 32 → bs ≤ 64 → Wrote t 200 (each bs (numberAt d 4256)) t₁ a
+    → Wrote t₁ a (replicate (264 - a) 0) t₂ b → Wrote t₂ 264 (each ev (numberAt d 4320)) t₃ c → Wrote t₃ c (replicate (512 - c) 0) t₄ r
+    → Wrote t 200 (rightWords d ev bs) t₄ r × (r ≡ 512)
+unfolding rightWords
+rights-wrote d ev bs {b = b} {r = r} few small w x y z =
+    let seen = wrote-padded 64 w x in
+    let p : b ≡ 264 = omega (arith, seen .next, length-padded 64 (each bs (numberAt d 4256)) (omega (arith, length-numbers d 4256 bs))) in
+    let sent = wrote-padded 248 y z in
+    (wrote-then (rw p at seen) sent, omega (arith, sent .next, length-padded 248 (each ev (numberAt d 4320)) (omega (arith, length-numbers d 4320 ev))))

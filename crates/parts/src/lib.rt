@@ -1,11 +1,14 @@
-// The table's parts that take no order: zeros, values, the head, and the record of one event. Each writes from word k on, and returns the word after.
+// The table's parts that take no order: zeros, values, the head, the record of one event, and who may see and send. Each writes from word k on, and returns the word after.
 ghost use mathlib.Core.Path.{_≡_};
 ghost use mathlib.Core.List.{[], _∷_};
 ghost use Prim.Native.Nat.{_+_, _-_, _%_, _<_, _≤_};
 ghost use lib.ListN.{length, getD, replicate};
 ghost use Rattle.image.specs.Image.{padded};
 ghost use Rattle.counts.specs.Counts.{countMembers};
-ghost use Rattle.emit.specs.Writing.{Wrote};
+ghost use Rattle.emit.specs.Words.{each};
+ghost use Rattle.emit.specs.Writing.{Room, Wrote};
+ghost use Rattle.draft.specs.Draft.{draftLength};
+ghost use Rattle.parts.specs.RightWords.{numberAt, rightWords};
 use word::put_word;
 
 // Zeros from word k up to word end.
@@ -41,7 +44,7 @@ pub fn write_record(
     t: &mut [u8],
     k: usize,
 ) -> usize
-    requires { ⌜ (length (now d) ≡ 4256) × (e < 32) × (bs ≤ 64) × (start ≤ 4096) × (count ≤ 4096) ⌝ }
+    requires { ⌜ (length (now d) ≡ draftLength) × (e < 32) × (bs ≤ 64) × (start ≤ 4096) × (count ≤ 4096) ⌝ }
     requires { ⌜ (34816 ≤ length (now t)) × (k ≤ 8700) ⌝ }
     ensures { λ r. ⌜ Wrote (now (t .entry)) k ((getD (now (d .entry)) (4224 + e) 0 % 4294967296) ∷ start ∷ count ∷ countMembers (now (d .entry)) e bs ∷ []) (now (t .exit)) r ⌝ }
 {
@@ -65,4 +68,32 @@ pub fn write_values(v: &[u32], t: &mut [u8], k: usize) -> usize
         j += 1;
     }
     next
+}
+
+// The numbers of the draft from place `from` on, `count` of them, a word for each.
+fn write_numbers(d: &[u64], from: usize, count: usize, t: &mut [u8], k: usize) -> usize
+    requires { ⌜ (length (now d) ≡ draftLength) × (from + count ≤ draftLength) ⌝ }
+    requires { ⌜ Room (now t) k (each count (numberAt (now d) from)) ⌝ }
+    ensures { λ r. ⌜ Wrote (now (t .entry)) k (each count (numberAt (now (d .entry)) from)) (now (t .exit)) r ⌝ }
+{
+    let mut next = k;
+    let mut j = 0;
+    while j < count {
+        put_word(t, next, (d[from + j] % 4294967296) as u32);
+        next += 1;
+        j += 1;
+    }
+    next
+}
+
+// Who may see each behaviour, from word 200 on, and who may send each event, from word 264 on; zeros up to word 512.
+pub fn write_rights(d: &[u64], ev: usize, bs: usize, t: &mut [u8]) -> usize
+    requires { ⌜ (length (now d) ≡ draftLength) × (ev ≤ 32) × (bs ≤ 64) × (34816 ≤ length (now t)) ⌝ }
+    ensures { λ r. ⌜ Wrote (now (t .entry)) 200 (rightWords (now (d .entry)) ev bs) (now (t .exit)) r ⌝ }
+    ensures { λ r. ⌜ r ≡ 512 ⌝ }
+{
+    let seen = write_numbers(d, 4256, bs, t, 200);
+    write_zeros(t, seen, 264);
+    let sent = write_numbers(d, 4320, ev, t, 264);
+    write_zeros(t, sent, 512)
 }

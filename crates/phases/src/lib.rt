@@ -8,6 +8,7 @@ ghost use Rattle.counts.specs.Counts.{Sound};
 ghost use Rattle.ordering.specs.Ordering.{Listed};
 ghost use Rattle.emit.specs.Words.{each, turnWords, kindWords, moveWords};
 ghost use Rattle.emit.specs.Writing.{Room, Wrote};
+ghost use Rattle.draft.specs.Draft.{draftLength};
 ghost use Rattle.phases.specs.Phases.{firstWords, secondWords};
 use emit::emit_kind;
 use emit::emit_move;
@@ -71,7 +72,7 @@ pub fn phase_one(
 
 // Their values, moved to scratch.
 fn emit_moves(d: &[u64], e: usize, n: usize, t: &mut [u8], k: usize) -> usize
-    requires { ⌜ (length (now d) ≡ 4256) × (n ≤ 64) ⌝ }
+    requires { ⌜ (length (now d) ≡ draftLength) × (n ≤ 64) ⌝ }
     requires { ⌜ Room (now t) k (each n (moveWords (now d) e)) ⌝ }
     ensures { λ r. ⌜ Wrote (now (t .entry)) k (each n (moveWords (now (d .entry)) e)) (now (t .exit)) r ⌝ }
 {

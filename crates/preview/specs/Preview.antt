@@ -8,7 +8,8 @@ use lib.Dec.{ltb, leb, eqb}
 use Rattle.base.specs.Basics.{pick}
 use Rattle.word.specs.Word.{get}
 use Rattle.language.specs.Refusals as refusals
-use Rattle.layout.specs.Layout.{eventCount, behaviourCount, waitingCount, runningFlag}
+use Rattle.language.specs.Rights.{may}
+use Rattle.layout.specs.Layout.{eventCount, behaviourCount, viewersAt, waitingCount, runningFlag}
 use Rattle.round.specs.Start.{Result}
 use Rattle.arrivals.specs.Arrivals.{arriveOn}
 use Rattle.machine.specs.Machine.{stepOn}
@@ -42,16 +43,20 @@ unfoldable pub shownIn : Result → ℕ → ℕ
 shownIn r i = shown (r .0) (get (r .1) (136 + i))
 
 -- "then by 18, and last by 14 where a step on the copy would be or 01's count runs out": the count's steps, and one more that answers idle
-unfoldable pub previewTaken : List ℕ → List ℕ → ℕ → ℕ
-previewTaken t l i = pick (leb (behaviourCount t) i) refusals.noBehaviour (shownIn (toIdle t (countOn t l + 1) l) i)
+-- 02, M-107: "A preview needs both rights", 25 "after 18 for a behaviour"
+unfoldable pub previewSeen : List ℕ → List ℕ → ℕ → Bool → ℕ
+previewSeen t l i right = pick right (shownIn (toIdle t (countOn t l + 1) l) i) refusals.noRight
+
+unfoldable pub previewTaken : List ℕ → List ℕ → ℕ → ℕ → ℕ
+previewTaken t l i who = pick (leb (behaviourCount t) i) refusals.noBehaviour (previewSeen t l i (may (viewersAt t i) who))
 
 -- "It is turned down as the arrival would be": r is the arrival's answer, and the copy after it
-unfoldable pub previewAfter : List ℕ → Result → ℕ → ℕ
-previewAfter t r i = pick (eqb (r .0) 0) (previewTaken t (r .1) i) (r .0)
+unfoldable pub previewAfter : List ℕ → Result → ℕ → ℕ → ℕ
+previewAfter t r i who = pick (eqb (r .0) 0) (previewTaken t (r .1) i who) (r .0)
 
-unfoldable pub previewCopy : List ℕ → List ℕ → ℕ → ℕ → ℕ
-previewCopy t l e i = previewAfter t (arriveOn t l e) i
+unfoldable pub previewCopy : List ℕ → List ℕ → ℕ → ℕ → ℕ → ℕ
+previewCopy t l e i who = previewAfter t (arriveOn t l e who) i who
 
 -- "It equals doing so on a copy": of the round's 2,048 bytes
-unfoldable pub previewOn : List ℕ → List ℕ → ℕ → ℕ → ℕ
-previewOn t l e i = pick (ltb (length l) 2048) refusals.foreign (previewCopy t (take 2048 l) e i)
+unfoldable pub previewOn : List ℕ → List ℕ → ℕ → ℕ → ℕ → ℕ
+previewOn t l e i who = pick (ltb (length l) 2048) refusals.foreign (previewCopy t (take 2048 l) e i who)

@@ -1,11 +1,11 @@
 // The value that the board would show after an arrival and everything in hand had been run to idle, tried on a copy of the round.
-// Turned down as the arrival would be (14, 15, 16, 17), then by 18, last by 14 where a step on the copy would be or 01's count runs out.
+// Turned down as the arrival would be (14, 24, 15, 25, 16, 17), then by 18 and 25, last by 14 where a step on the copy would be or 01's count runs out.
 ghost use mathlib.Core.Path.{_≡_};
 ghost use Prim.Native.Nat.{_≤_, _<_};
 ghost use lib.ListN.{length};
 ghost use Rattle.layout.specs.Bounds.{TableBounds};
 ghost use Rattle.round.specs.Start.{result};
-ghost use Rattle.preview.specs.Preview.{last, toIdle, inHand, countOn, shown, shownIn, previewTaken, previewAfter, previewCopy, previewOn};
+ghost use Rattle.preview.specs.Preview.{last, toIdle, inHand, countOn, shown, shownIn, previewSeen, previewTaken, previewAfter, previewCopy, previewOn};
 
 // ---- to idle
 
@@ -77,49 +77,61 @@ fn shown_in(t: &[u8], l: &mut [u8], n: u64, i: u32) -> u64
     shown_by(a, word::get_word(l, 136 + (i as usize)))
 }
 
-// The arrival is taken in.
-fn preview_taken(t: &[u8], l: &mut [u8], i: u32) -> u64
-    requires { ⌜ TableBounds (now t) × (2048 ≤ length (now l)) ⌝ }
-    ensures { λ r. ⌜ r ≡ previewTaken (now (t .entry)) (now (l .entry)) i ⌝ }
+// The arrival is taken in; right: the player may see behaviour i.
+fn preview_seen(t: &[u8], l: &mut [u8], i: u32, right: bool) -> u64
+    requires { ⌜ TableBounds (now t) × (2048 ≤ length (now l)) × (i < 64) ⌝ }
+    ensures { λ r. ⌜ r ≡ previewSeen (now (t .entry)) (now (l .entry)) i right ⌝ }
 {
-    if word::get_word(t, 1) <= i {
-        return 18;
+    if !right {
+        return 25;
     }
     let n = count_of(t, l);
     shown_in(t, l, n + 1, i)
 }
 
+fn preview_taken(t: &[u8], l: &mut [u8], i: u32, who: u32) -> u64
+    requires { ⌜ TableBounds (now t) × (2048 ≤ length (now l)) × (who < 8) ⌝ }
+    ensures { λ r. ⌜ r ≡ previewTaken (now (t .entry)) (now (l .entry)) i who ⌝ }
+{
+    if word::get_word(t, 1) <= i {
+        return 18;
+    }
+    let right = rights::may_see(t, i, who);
+    preview_seen(t, l, i, right)
+}
+
 // The arrival was answered by a.
-fn preview_after(t: &[u8], l: &mut [u8], a: u32, i: u32) -> u64
+fn preview_after(t: &[u8], l: &mut [u8], a: u32, i: u32, who: u32) -> u64
     requires { ⌜ TableBounds (now t) × (2048 ≤ length (now l)) ⌝ }
-    ensures { λ r. ⌜ r ≡ previewAfter (now (t .entry)) (result a (now (l .entry))) i ⌝ }
+    requires { ⌜ (a ≡ 0 → who < 8) ⌝ }
+    ensures { λ r. ⌜ r ≡ previewAfter (now (t .entry)) (result a (now (l .entry))) i who ⌝ }
 {
     if a == 0 {
-        return preview_taken(t, l, i);
+        return preview_taken(t, l, i, who);
     }
     a as u64
 }
 
 // The round is the copy.
-fn preview_copy(t: &[u8], l: &mut [u8], e: u32, i: u32) -> u64
+fn preview_copy(t: &[u8], l: &mut [u8], e: u32, i: u32, who: u32) -> u64
     requires { ⌜ 2048 ≤ length (now l) ⌝ }
-    ensures { λ r. ⌜ r ≡ previewCopy (now (t .entry)) (now (l .entry)) e i ⌝ }
+    ensures { λ r. ⌜ r ≡ previewCopy (now (t .entry)) (now (l .entry)) e i who ⌝ }
 {
     if layout::table_fits(t) {
-        let a = arrivals::arrive_at(t, l, e);
-        return preview_after(t, l, a, i);
+        let a = arrivals::arrive_at(t, l, e, who);
+        return preview_after(t, l, a, i, who);
     }
     14
 }
 
-// The value of behaviour i once event e has arrived and everything in hand is run to idle: 2 ^ 32 and the word; or 14 to 18.
-pub fn preview_at(t: &[u8], l: &[u8], e: u32, i: u32) -> u64
-    ensures { λ r. ⌜ r ≡ previewOn (now (t .entry)) (now (l .entry)) e i ⌝ }
+// The value of behaviour i once event e of player who has arrived and everything in hand is run to idle: 2 ^ 32 and the word; or 14 to 18, 24 or 25.
+pub fn preview_at(t: &[u8], l: &[u8], e: u32, i: u32, who: u32) -> u64
+    ensures { λ r. ⌜ r ≡ previewOn (now (t .entry)) (now (l .entry)) e i who ⌝ }
 {
     if l.len() < 2048 {
         return 14;
     }
     let mut copy = [0u8; 2048];
     bytes::copy(&l[0..2048], &mut copy);
-    preview_copy(t, &mut copy, e, i)
+    preview_copy(t, &mut copy, e, i, who)
 }

@@ -22,5 +22,6 @@ unfoldable pub best : List ℕ → List ℕ → ℕ → ℕ
 best t l zero = 0
 best t l (suc n) = better t l n (best t l n)
 
+-- arrival n, with the word of its event and player
 unfoldable pub putSlot : List ℕ → ℕ → ℕ → ℕ → List ℕ
-putSlot l i n e = put (put l (8 + i * 2) n) (9 + i * 2) e
+putSlot l i n w = put (put l (8 + i * 2) n) (9 + i * 2) w

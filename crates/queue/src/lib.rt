@@ -30,8 +30,8 @@ fn better_of(t: &[u8], l: &[u8], i: usize, b: usize) -> usize
     requires { ⌜ (34816 ≤ length (now t)) × (2048 ≤ length (now l)) × (i < 64) × (b < 64) ⌝ }
     ensures { λ r. ⌜ r ≡ better (now (t .entry)) (now (l .entry)) i b ⌝ }
 {
-    let p = layout::event_word(t, word::get_word(l, 9 + i * 2), 0);
-    let q = layout::event_word(t, word::get_word(l, 9 + b * 2), 0);
+    let p = layout::event_word(t, layout::event_at(l, 9 + i * 2), 0);
+    let q = layout::event_word(t, layout::event_at(l, 9 + b * 2), 0);
     let n = word::get_word(l, 8 + i * 2);
     let m = word::get_word(l, 8 + b * 2);
     one_of(is_ahead(p, n, q, m), i, b)
@@ -52,10 +52,11 @@ pub fn best_of(t: &[u8], l: &[u8], n: usize) -> usize
     b
 }
 
-pub fn put_slot(l: &mut [u8], i: usize, n: u32, e: u32)
+// Arrival n, with the word of its event and player, waits in slot i.
+pub fn put_slot(l: &mut [u8], i: usize, n: u32, w: u32)
     requires { ⌜ (2048 ≤ length (now l)) × (i < 64) ⌝ }
-    ensures { λ _. ⌜ now (l .exit) ≡ putSlot (now (l .entry)) i n e ⌝ }
+    ensures { λ _. ⌜ now (l .exit) ≡ putSlot (now (l .entry)) i n w ⌝ }
 {
     word::put_word(l, 8 + i * 2, n);
-    word::put_word(l, 9 + i * 2, e);
+    word::put_word(l, 9 + i * 2, w);
 }

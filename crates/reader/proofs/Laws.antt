@@ -15,6 +15,7 @@ use Rattle.field.specs.declared.Read.{Read}
 use Rattle.field.specs.declared.Read.the-variants.{Done, Fault}
 use Rattle.behaviours.specs.Handler.{faultOf}
 use Rattle.behaviours.specs.Behaviour.{behaviourOf, Counted}
+use Rattle.draft.specs.Draft.{draftLength}
 use Rattle.reader.specs.declared.Event.{Event}
 use Rattle.reader.specs.declared.Event.the-variants.{Declared, Ended, NoEvent}
 use Rattle.reader.specs.declared.Draft.{Draft}
@@ -34,7 +35,7 @@ module _ (s d : List ℕ) (e : ℕ) {a : Field} where
   event-taken f t w h = rw (← w, sym f ∙ t) h
 
 pub event-in : (m size e : ℕ) (r : Event) → EventIn (size + 3) e r → size + 3 ≤ m → EventIn m e r
-event-in m size e Declared h a = (omega arith, h .1)
+event-in m size e (Declared all) h a = (h .0, omega arith, h .2)
 event-in m size e Ended h a = tt
 event-in m size e (NoEvent k) h a = tt
 
@@ -47,11 +48,11 @@ pub record EventTurn (s d₀ d : List ℕ) (at e : ℕ) : Type 0 where
   pub reached : at ≤ length s
   pub few : e ≤ 32
   pub room : length s ≤ 8192
-  pub kept : length d ≡ 4256
+  pub kept : length d ≡ draftLength
 
 module _ (s : List ℕ) (at e : ℕ) (d : List ℕ) {r : Event} {p : List ℕ} (h : at ≡ length s → ⊥) (g : at ≤ length s)
     (w : made r p ≡ eventOf (rest at s) e d) where
-  events-more : (k : ℕ) → length s ≤ at + k → r ≡ Declared → eventsOf k s at e d ≡ eventsOf (k - 1) s (at + 4) (e + 1) p
+  events-more : (k : ℕ) {size : ℕ} → length s ≤ at + k → r ≡ Declared size → eventsOf k s at e d ≡ eventsOf (k - 1) s (at + size) (e + 1) p
   unfolding eventsOf
   events-more zero b t = absurd (h (omega arith))
   events-more (suc k) b t = rw (ne-eqb at (length s) h, sub-one, ← w, t)
@@ -80,10 +81,10 @@ module _ {s d₀ d : List ℕ} {at e : ℕ} (t : EventTurn s d₀ d at e) where
       → (out (Done at e) p ≡ eventsOf (length s) s 0 0 d₀) × EventsIn (length s) (Done at e)
   event-ends h w f = (rw (events-ended s at e d h (t .reached) w (t .fuel) (t .enough) f) at (t .whole), (t .reached, t .few))
 
-  pub event-turns : {r : Event} {p : List ℕ} → (at ≡ length s → ⊥) → made r p ≡ eventOf (rest at s) e d → r ≡ Declared
-      → EventIn (length (rest at s)) e r → length p ≡ length d → EventTurn s d₀ p (at + 4) (e + 1)
-  event-turns h w f b l =
-      let b′ : EventIn (length (rest at s)) e Declared = rw f at b in
+  pub event-turns : {r : Event} {p : List ℕ} {size : ℕ} → (at ≡ length s → ⊥) → made r p ≡ eventOf (rest at s) e d → r ≡ Declared size
+      → EventIn (length (rest at s)) e r → length p ≡ length d → EventTurn s d₀ p (at + size) (e + 1)
+  event-turns {size = size} h w f b l =
+      let b′ : EventIn (length (rest at s)) e (Declared size) = rw f at b in
       let q = rest-length at s in
       let enough = t .enough in
       let reached = t .reached in
@@ -110,7 +111,7 @@ pub record BehaviourTurn (s : List ℕ) (from events : ℕ) (d₀ d : List ℕ) 
   pub nodes : n * 4 ≤ at
   pub few : i ≤ 64
   pub room : length s ≤ 8192
-  pub kept : length d ≡ 4256
+  pub kept : length d ≡ draftLength
 
 module _ (s : List ℕ) (at events i : ℕ) (d : List ℕ) (n : ℕ) {r : Read} {p : List ℕ} (h : at ≡ length s → ⊥) (g : at ≤ length s)
     (w : out r p ≡ behaviourOf (rest at s) events i d n) where

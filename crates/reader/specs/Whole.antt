@@ -1,4 +1,5 @@
 -- A program as the reader reads it: from positions in the bytes, with the draft as it is written. 01: "Events come first, at most 32", "Then behaviours, at most 64".
+-- 02, M-107: "An event field may have length 2, its second byte saying who may send it (bit n for player n). .. Where either is missing, everybody may."
 use Prim.Native.Nat.{ℕ, zero, suc, _+_, _≤_, _<_}
 use mathlib.Core.List.{List}
 use lib.ListN.{length, getD, set}
@@ -24,14 +25,25 @@ Made = Event × List ℕ
 abbrev pub made : Event → List ℕ → Made
 made r d = (r, d)
 
+-- where the draft has who may send event e
+abbrev pub sender : ℕ → ℕ
+sender e = 4320 + e
+
+-- the value v of event e
+unfoldable pub signalAt : List ℕ → ℕ → List ℕ → Made
+signalAt v e d =
+    pick (eqb (length v) 0) (made (NoEvent wrongLength) d)
+    (pick (ltb 2 (length v)) (made (NoEvent wrongLength) d)
+    (pick (ltb 15 (getD v 0 0)) (made (NoEvent offScale) d)
+    (pick (eqb (length v) 1)
+    (made (Declared 4) (set (set d (4224 + e) (getD v 0 0)) (sender e) 255))
+    (made (Declared 5) (set (set d (4224 + e) (getD v 0 0)) (sender e) (getD v 1 0))))))
+
 -- a field with tag t and value v where event e or the first behaviour is due
 unfoldable pub priorityAt : ℕ → List ℕ → ℕ → List ℕ → Made
 priorityAt t v e d =
     pick (eqb t 1)
-    (pick (leb 32 e) (made (NoEvent crowded) d)
-    (pick (eqb (length v) 1)
-    (pick (ltb 15 (getD v 0 0)) (made (NoEvent offScale) d) (made Declared (set d (4224 + e) (getD v 0 0))))
-    (made (NoEvent wrongLength) d)))
+    (pick (leb 32 e) (made (NoEvent crowded) d) (signalAt v e d))
     (made Ended d)
 
 abbrev pub eventFrom : Field → List ℕ → ℕ → List ℕ → Made
@@ -43,8 +55,8 @@ unfoldable pub eventOf : List ℕ → ℕ → List ℕ → Made
 eventOf s e d = eventFrom (fieldOf s 1 3) (partOf s (fieldOf s 1 3)) e d
 
 -- go on after an event; the events end at `at` where a behaviour stands
-abbrev pub eventNext : Event → List ℕ → ℕ → ℕ → Out → Out
-eventNext Declared d at e more = more
+abbrev pub eventNext : Event → List ℕ → ℕ → ℕ → (ℕ → Out) → Out
+eventNext (Declared size) d at e more = more size
 eventNext Ended d at e more = out (Done at e) d
 eventNext (NoEvent k) d at e more = out (Fault k) d
 
@@ -53,7 +65,7 @@ unfoldable pub eventsOf : ℕ → List ℕ → ℕ → ℕ → List ℕ → Out
 eventsOf zero s at e d = pick (eqb at (length s)) (out (Done at e) d) (out (Fault torn) d)
 eventsOf (suc k) s at e d =
     pick (eqb at (length s)) (out (Done at e) d)
-    (let o : Made = eventOf (rest at s) e d in eventNext (o .0) (o .1) at e (eventsOf k s (at + 4) (e + 1) (o .1)))
+    (let o : Made = eventOf (rest at s) e d in eventNext (o .0) (o .1) at e (λ size. eventsOf k s (at + size) (e + 1) (o .1)))
 
 -- the answer and the draft
 abbrev pub Finish : Type 0
@@ -83,7 +95,7 @@ readOn s d =
 
 -- bounds that are promised beside the equations
 abbrev pub EventIn : ℕ → ℕ → Event → Type 0
-EventIn size e Declared = (4 ≤ size) × (e < 32)
+EventIn size e (Declared all) = (4 ≤ all) × (all ≤ size) × (e < 32)
 EventIn size e Ended = Unit {0}
 EventIn size e (NoEvent k) = Unit {0}
 

@@ -2,14 +2,15 @@
 use field::Field;
 use field::Read;
 ghost use mathlib.Core.Path.{_≡_};
-ghost use Prim.Native.Nat.{_≤_, _+_};
+ghost use Prim.Native.Nat.{_<_, _≤_, _+_};
 ghost use lib.ListN.{length};
 ghost use Rattle.field.specs.Expression.{out};
-ghost use Rattle.reader.specs.Whole.{made, priorityAt, eventOf, eventsOf, finished, behavioursOf, readOn, EventIn, EventsIn};
+ghost use Rattle.draft.specs.Draft.{draftLength};
+ghost use Rattle.reader.specs.Whole.{made, signalAt, priorityAt, eventOf, eventsOf, finished, behavioursOf, readOn, EventIn, EventsIn};
 
-// What stands where an event or the first behaviour is due.
+// What stands where an event or the first behaviour is due: an event's field of so many bytes, or another field, or a refusal by its number.
 pub enum Event {
-    Declared,
+    Declared(usize),
     Ended,
     NoEvent(u8),
 }
@@ -20,9 +21,34 @@ pub enum Draft {
     Broken(u8),
 }
 
+// The value v of event e: its priority, and who may send it where a second byte says so.
+fn take_event(v: &[u8], e: usize, draft: &mut [u64]) -> Event
+    requires { ⌜ length (now draft) ≡ draftLength ⌝ }
+    requires { ⌜ e < 32 ⌝ }
+    ensures { λ r. ⌜ made r (now (draft .exit)) ≡ signalAt (now (v .entry)) e (now (draft .entry)) ⌝ }
+    ensures { λ r. ⌜ EventIn (length (now (v .entry)) + 3) e r ⌝ }
+{
+    if v.len() == 0 {
+        return Event::NoEvent(6);
+    }
+    if 2 < v.len() {
+        return Event::NoEvent(6);
+    }
+    if 15 < v[0] {
+        return Event::NoEvent(8);
+    }
+    draft[4224 + e] = v[0] as u64;
+    if v.len() == 1 {
+        draft[4320 + e] = 255;
+        return Event::Declared(4);
+    }
+    draft[4320 + e] = v[1] as u64;
+    Event::Declared(5)
+}
+
 // A field with tag t and value v where event e or the first behaviour is due.
 fn read_priority(t: u8, v: &[u8], e: usize, draft: &mut [u64]) -> Event
-    requires { ⌜ length (now draft) ≡ 4256 ⌝ }
+    requires { ⌜ length (now draft) ≡ draftLength ⌝ }
     requires { ⌜ e ≤ 32 ⌝ }
     ensures { λ r. ⌜ made r (now (draft .exit)) ≡ priorityAt t (now (v .entry)) e (now (draft .entry)) ⌝ }
     ensures { λ r. ⌜ EventIn (length (now (v .entry)) + 3) e r ⌝ }
@@ -33,19 +59,12 @@ fn read_priority(t: u8, v: &[u8], e: usize, draft: &mut [u64]) -> Event
     if 32 <= e {
         return Event::NoEvent(7);
     }
-    if v.len() != 1 {
-        return Event::NoEvent(6);
-    }
-    if 15 < v[0] {
-        return Event::NoEvent(8);
-    }
-    draft[4224 + e] = v[0] as u64;
-    Event::Declared
+    take_event(v, e, draft)
 }
 
 // Event e, or the first behaviour, at the front of s.
 fn read_event(s: &[u8], e: usize, draft: &mut [u64]) -> Event
-    requires { ⌜ length (now draft) ≡ 4256 ⌝ }
+    requires { ⌜ length (now draft) ≡ draftLength ⌝ }
     requires { ⌜ e ≤ 32 ⌝ }
     ensures { λ r. ⌜ made r (now (draft .exit)) ≡ eventOf (now (s .entry)) e (now (draft .entry)) ⌝ }
     ensures { λ r. ⌜ EventIn (length (now (s .entry))) e r ⌝ }
@@ -60,7 +79,7 @@ fn read_event(s: &[u8], e: usize, draft: &mut [u64]) -> Event
 // The events of s: the place after them and their number.
 fn read_events(s: &[u8], draft: &mut [u64]) -> Read
     requires { ⌜ length (now s) ≤ 8192 ⌝ }
-    requires { ⌜ length (now draft) ≡ 4256 ⌝ }
+    requires { ⌜ length (now draft) ≡ draftLength ⌝ }
     ensures { λ r. ⌜ out r (now (draft .exit)) ≡ eventsOf (length (now (s .entry))) (now (s .entry)) 0 0 (now (draft .entry)) ⌝ }
     ensures { λ r. ⌜ EventsIn (length (now (s .entry))) r ⌝ }
 {
@@ -75,8 +94,8 @@ fn read_events(s: &[u8], draft: &mut [u64]) -> Read
             Event::Ended => {
                 return Read::Done(at, e);
             }
-            Event::Declared => {
-                at = at + 4;
+            Event::Declared(size) => {
+                at = at + size;
                 e = e + 1;
             }
         }
@@ -88,7 +107,7 @@ fn read_events(s: &[u8], draft: &mut [u64]) -> Read
 fn read_behaviours(s: &[u8], from: usize, events: usize, draft: &mut [u64]) -> Draft
     requires { ⌜ length (now s) ≤ 8192 ⌝ }
     requires { ⌜ from ≤ length (now s) ⌝ }
-    requires { ⌜ length (now draft) ≡ 4256 ⌝ }
+    requires { ⌜ length (now draft) ≡ draftLength ⌝ }
     requires { ⌜ events ≤ 32 ⌝ }
     ensures { λ r. ⌜ finished r (now (draft .exit)) ≡ behavioursOf (length (now (s .entry))) (now (s .entry)) from events 0 (now (draft .entry)) 0 ⌝ }
 {
@@ -110,7 +129,7 @@ fn read_behaviours(s: &[u8], from: usize, events: usize, draft: &mut [u64]) -> D
 // The program in s: its draft, or the first fault.
 pub fn read_program(s: &[u8], draft: &mut [u64]) -> Draft
     requires { ⌜ length (now s) ≤ 8192 ⌝ }
-    requires { ⌜ length (now draft) ≡ 4256 ⌝ }
+    requires { ⌜ length (now draft) ≡ draftLength ⌝ }
     ensures { λ r. ⌜ finished r (now (draft .exit)) ≡ readOn (now (s .entry)) (now (draft .entry)) ⌝ }
 {
     let r = read_events(s, draft);

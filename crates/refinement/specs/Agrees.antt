@@ -17,6 +17,7 @@ use Rattle.language.specs.Syntax.{Program}
 use Rattle.language.specs.Dependence.{size, events}
 use Rattle.language.specs.Code.{off, code, members}
 use Rattle.language.specs.Accepted.{Valid}
+use Rattle.language.specs.Rights.{maySend, maySee}
 use Rattle.execution.specs.Execution.{Values, execute}
 use Rattle.execution.specs.CodeFacts.{CodeFacts, maskedAt, copyingBackAt}
 use Rattle.execution.specs.CodeRight.{code-facts}
@@ -28,16 +29,16 @@ use Rattle.model.specs.Choice.{numbers, distinct-numbers, perm-rest, Leads, lea
 use Rattle.model.specs.Reached.{Fine, Reached, back-perm}
 use Rattle.image.specs.Image.{operation, constant}
 use Rattle.image.specs.ImageLaws.{Says}
-use Rattle.layout.specs.Layout.{eventWord, numberAt, eventAt, slotsFit, runningFits, roundWith, roundIn, roundFits, ours}
+use Rattle.layout.specs.Layout.{eventWord, eventOf, playerOf, numberAt, wordAt, eventAt, handFits, slotsFit, runningFits, roundWith, roundIn, roundFits, ours}
 use Rattle.queue.specs.Queue.{ahead, either, better, best, putSlot}
 use Rattle.instruction.specs.Instruction.{perform}
-use Rattle.arrivals.specs.Arrivals.{full, arriveWith, arriveIn, arriveOn}
-use Rattle.board.specs.Board.{copyingBack, masked, settling, boardWith, boardIn, boardOn}
+use Rattle.arrivals.specs.Arrivals.{full, arriveWith, arriveKnown, arriveIn, arriveOn}
+use Rattle.board.specs.Board.{copyingBack, masked, settling, settlingIn, boardWith, boardKnown, boardIn, boardOn}
 use Rattle.advance.specs.Advance as advancing
 use Rattle.dispatch.specs.Dispatch.{said, startAt, preemptAt}
 use Rattle.advance.specs.Advance.{overMark, commitSaid, countOn, executeOn, executeAt}
 use Rattle.machine.specs.Machine.{meet, contest, running, resting, stepWith, stepIn, stepOn}
-use Rattle.refinement.specs.Refinement.{coded, slots, callOn}
+use Rattle.refinement.specs.Refinement.{coded, arrivalOf, slots, callOn}
 use Rattle.refinement.specs.Slots.{slot, slots-same, slots-swap, take-out, reads, kept-all, kept-put, kept-slot, kept-run}
 use Rattle.refinement.specs.Values.{value-at, head-holds}
 use Rattle.refinement.specs.Instructions.{Does, does}
@@ -61,18 +62,32 @@ masked-is len m c h = rw (copying-is len m c h) (ap (λ (x : Bool). pick (copyin
         rw (ne-eqb (suc c) 0 (omega arith), z, y) (sym (leb·suc-suc c m))
 
 -- a commit's answer, by the mark in the bytes
-commit-coded : (a : Arrival) (w : ℕ) (b : Bool) → not (eqb w 0) ≡ b → commitSaid (a .number) (a .event) w ≡ coded (model.committed a b)
+commit-coded : (a : Arrival) (hand w : ℕ) (b : Bool) → eventOf hand ≡ a .event → playerOf hand ≡ a .player → not (eqb w 0) ≡ b
+    → commitSaid (a .number) hand w ≡ coded (model.committed a b)
 unfolding commitSaid
-commit-coded a w b h = subst (λ (x : Bool). commitSaid (a .number) (a .event) w ≡ coded (model.committed a x)) h (turned (eqb w 0))
+commit-coded a hand w b e u h =
+    rw (e, u)
+    (subst (λ (x : Bool). pick (eqb w 0) (said 3 (a .number) (a .event) (a .player)) (overMark + said 3 (a .number) (a .event) (a .player)) ≡ coded (model.committed a x)) h
+    (turned (eqb w 0)))
   where
-    turned : (t : Bool) → pick t (said 3 (a .number) (a .event)) (overMark + said 3 (a .number) (a .event)) ≡ coded (model.committed a (not t))
+    turned : (t : Bool)
+        → pick t (said 3 (a .number) (a .event) (a .player)) (overMark + said 3 (a .number) (a .event) (a .player)) ≡ coded (model.committed a (not t))
     turned true = refl
     turned false = refl
 
-slots-fit : (l : List ℕ) (known n : ℕ) → All (λ (a : Arrival). a .event < known) (slots l n) → slotsFit l known n ≡ true
+-- an arrival of one of `known` events and one of eight players
+abbrev pub Signed : ℕ → Arrival → Type 0
+Signed known a = (a .event < known) × (a .player < 8)
+
+hand-fits : (known w e who : ℕ) → eventOf w ≡ e → playerOf w ≡ who → e < known → who < 8 → handFits known w ≡ true
+unfolding handFits
+hand-fits known w e who p q h k = rw (p, q, lt-leb known e h) (lt-ltb who 8 k)
+
+slots-fit : (l : List ℕ) (known n : ℕ) → All (Signed known) (slots l n) → slotsFit l known n ≡ true
 unfolding slots slotsFit
 slots-fit l known zero h = refl
-slots-fit l known (suc n) h = rw (lt-ltb (eventAt l n) known (h .0)) (slots-fit l known n (h .1))
+slots-fit l known (suc n) h =
+    rw (hand-fits known (wordAt l n) (eventOf (wordAt l n)) (playerOf (wordAt l n)) refl refl (h .0 .0) (h .0 .1)) (slots-fit l known n (h .1))
 
 module _ (p : Program) (valid : Valid p) (t : List ℕ) (table : Says p t) where
   facts : CodeFacts p
@@ -83,25 +98,30 @@ module _ (p : Program) (valid : Valid p) (t : List ℕ) (table : Says p t) where
 
   -- ---- neither table nor round is foreign
 
-  pub known-slots : (l : List ℕ) (k : ℕ) (q : List Arrival) (r : Running) (d : Values) → Rel (size p) l k q r d → Reached p (engine k q r d)
-      → All (λ (a : Arrival). a .event < events p) (slots l (get l 1))
-  known-slots l k q r d R i =
-      all-perm _ (Permᴰ·symm (R .queue))
-      (all-imp (Fine p k) (λ (a : Arrival). a .event < events p) (λ a f. f .1) q (waiting-fine r (i .fine)))
+  signed-slots : (l : List ℕ) (k : ℕ) (q : List Arrival) (r : Running) (d : Values) → Rel (size p) l k q r d → Reached p (engine k q r d)
+      → All (Signed (events p)) (slots l (get l 1))
+  signed-slots l k q r d R i =
+      all-perm _ (Permᴰ·symm (R .queue)) (all-imp (Fine p k) (Signed (events p)) (λ a f. (f .1, f .2)) q (waiting-fine r (i .fine)))
     where
       waiting-fine : (r : Running) → All (Fine p k) (queue q r) → All (Fine p k) q
       waiting-fine rest f = f
       waiting-fine (busy a c) f = f .1
 
+  pub known-slots : (l : List ℕ) (k : ℕ) (q : List Arrival) (r : Running) (d : Values) → Rel (size p) l k q r d → Reached p (engine k q r d)
+      → All (λ (a : Arrival). a .event < events p) (slots l (get l 1))
+  known-slots l k q r d R i =
+      all-imp (Signed (events p)) (λ (a : Arrival). a .event < events p) (λ a f. f .0) (slots l (get l 1)) (signed-slots l k q r d R i)
+
   running-fits : (l : List ℕ) (k : ℕ) (q : List Arrival) (r : Running) (d : Values) → Rel (size p) l k q r d → Reached p (engine k q r d)
-      → runningFits (get l 1) (get l 2) (get l 3) (get l 5) (eventWord t (get l 3) 2) (events p) ≡ true
+      → runningFits (get l 1) (get l 2) (handFits (events p) (get l 3)) (get l 5) (eventWord t (eventOf (get l 3)) 2) ≡ true
   unfolding runningFits
   running-fits l k q rest d R i = rw (R .runs)
   running-fits l k q (busy a c) d R i =
       let n = count-is (size p) small l k q (busy a c) d R in
       let e : a .event < events p = i .fine .0 .1 in
       let b : get l 1 ≤ 63 = omega (arith, i .few) in
-      rw (R .runs .0, R .runs .1, R .runs .3, table .lengths (a .event) e, le-ltb 63 (get l 1) b, lt-leb (events p) (a .event) e)
+      let f = hand-fits (events p) (get l 3) (a .event) (a .player) (R .runs .1) (R .runs .4) e (i .fine .0 .2) in
+      rw (R .runs .0, f, R .runs .1, R .runs .3, table .lengths (a .event) e, le-ltb 63 (get l 1) b)
       (lt-ltb c (length (code p (a .event))) (i .done .0))
 
   pub ours-is : (l : List ℕ) (k : ℕ) (q : List Arrival) (r : Running) (d : Values) → Rel (size p) l k q r d → Reached p (engine k q r d) → ours t l ≡ true
@@ -115,7 +135,7 @@ module _ (p : Program) (valid : Valid p) (t : List ℕ) (table : Says p t) where
         le-ltb 64 (get l 6) (R .values .shallow),
         table .event-count,
         running-fits l k q r d R i,
-      ) (slots-fit l (events p) (get l 1) (known-slots l k q r d R i))
+      ) (slots-fit l (events p) (get l 1) (signed-slots l k q r d R i))
 
   -- ---- one instruction
 
@@ -137,7 +157,7 @@ module _ (p : Program) (valid : Valid p) (t : List ℕ) (table : Says p t) where
     abbrev performed : List ℕ
     performed = let x = getD (code p (a .event)) c off in perform l (operation x / 256) (operation x % 256) (constant x) (get l 6)
 
-    advance-opens : advancing.advance t l ≡ countOn performed c (a .event) (a .number) (length (code p (a .event)))
+    advance-opens : advancing.advance t l ≡ countOn performed c (get l 3) (a .number) (length (code p (a .event)))
     unfolding advancing.advance executeAt executeOn
     advance-opens =
         let e = declared in
@@ -178,16 +198,17 @@ module _ (p : Program) (valid : Valid p) (t : List ℕ) (table : Says p t) where
             queue = simp (reads, h) u;
             runs = (
               simp (reads, h) (f .same 2 (omega arith) (omega arith) ∙ R .runs .0),
-              simp (reads, h) (f .same 3 (omega arith) (omega arith) ∙ R .runs .1),
+              simp (reads, h) (ap eventOf (f .same 3 (omega arith) (omega arith)) ∙ R .runs .1),
               simp (reads, h) (f .same 4 (omega arith) (omega arith) ∙ R .runs .2),
               simp (reads, h),
+              simp (reads, h) (ap playerOf (f .same 3 (omega arith) (omega arith)) ∙ R .runs .4),
             );
             values = head-holds (size p) small m 5 (c + 1) (execute (getD (code p (a .event)) c off) d) (omega arith) (omega arith) (x .holds);
           };
           kept = kept-put m 5 (c + 1) (omega arith) (f .kept);
         })
         (λ _. record {
-          answered = commit-coded a (get m 7) _ (x .holds .mark);
+          answered = commit-coded a (get l 3) (get m 7) _ (R .runs .1) (R .runs .4) (x .holds .mark);
           alike = record {
             whole = simp reads h;
             few = simp (reads, h) n;
@@ -220,7 +241,7 @@ module _ (p : Program) (valid : Valid p) (t : List ℕ) (table : Says p t) where
   -- it is the model's choice, and what is left of the slots is what is left of the waiting
   pub record Next (l : List ℕ) (m : ℕ) (c : Chosen) : Type 0 where
     pub next-is : slot l (best t l (suc m)) ≡ c .next
-    pub others-are : List·Permᴰ (slots (putSlot l (best t l (suc m)) (numberAt l m) (eventAt l m)) m) (c .others)
+    pub others-are : List·Permᴰ (slots (putSlot l (best t l (suc m)) (numberAt l m) (wordAt l m)) m) (c .others)
     pub best-below : best t l (suc m) ≤ m
 
   next-agrees : (l : List ℕ) (m : ℕ) (b : Arrival) (w : List Arrival) → long l ≡ true → suc m ≤ 64
@@ -230,7 +251,7 @@ module _ (p : Program) (valid : Valid p) (t : List ℕ) (table : Says p t) where
       let c = choose p b w in
       let g = best-leads l (suc m) (λ j x. slots-all (λ (a : Arrival). a .event < events p) l (suc m) j x u) in
       let n : i ≤ m = omega arith in
-      let q = slots (putSlot l i (numberAt l m) (eventAt l m)) m in
+      let q = slots (putSlot l i (numberAt l m) (wordAt l m)) m in
       let x = take-out l i m h f n in
       let y : List·Permᴰ (slot l i ∷ q) (c .next ∷ c .others) = List·Permᴰ·trans (Permᴰ·symm x) (List·Permᴰ·trans d (choose-perm p b w)) in
       let z = distinct-numbers (choose-perm p b w) k in
@@ -252,14 +273,14 @@ module _ (p : Program) (valid : Valid p) (t : List ℕ) (table : Says p t) where
       let f : suc m ≤ 64 = omega (arith, R .few) in
       let i = best t l (suc m) in
       let j : i < 64 = omega (arith, x .best-below) in
-      let s = putSlot l i (numberAt l m) (eventAt l m) in
+      let s = putSlot l i (numberAt l m) (wordAt l m) in
       record {
-        answered = ap (λ (y : Arrival). said 2 (y .number) (y .event)) (x .next-is);
-        alike = run-rel (size p) small (put s 1 m) k (choose p b w .others) d (slot l i) (choose p b w .next)
+        answered = ap (λ (y : Arrival). said 2 (y .number) (y .event) (y .player)) (x .next-is);
+        alike = run-rel (size p) small (put s 1 m) k (choose p b w .others) d (numberAt l i) (wordAt l i) (choose p b w .next)
             (simp reads h) (simp (reads, h) (omega arith)) (simp (reads, h) (R .number)) (simp (reads, h) (x .others-are))
-            (head-holds (size p) small s 1 m d (omega arith) (omega arith) (slot-holds (size p) small l i (numberAt l m) (eventAt l m) d j (R .values)))
+            (head-holds (size p) small s 1 m d (omega arith) (omega arith) (slot-holds (size p) small l i (numberAt l m) (wordAt l m) d j (R .values)))
             (x .next-is);
-        kept = kept-run (put s 1 m) (numberAt l i) (eventAt l i) (kept-put s 1 m (omega arith) (kept-slot l i (numberAt l m) (eventAt l m) j (kept-all l)));
+        kept = kept-run (put s 1 m) (numberAt l i) (wordAt l i) (kept-put s 1 m (omega arith) (kept-slot l i (numberAt l m) (wordAt l m) j (kept-all l)));
       }
 
   preempt-agrees : (l : List ℕ) (m k : ℕ) (b : Arrival) (w : List Arrival) (a : Arrival) (c : ℕ) (d : Values) → get l 1 ≡ suc m
@@ -273,20 +294,23 @@ module _ (p : Program) (valid : Valid p) (t : List ℕ) (table : Says p t) where
       let i = best t l (suc m) in
       let j : i < 64 = omega (arith, x .best-below) in
       let o = choose p b w in
-      let s = putSlot l i (a .number) (a .event) in
+      let hand = get l 3 in
+      let s = putSlot l i (a .number) hand in
+      let own : arrivalOf (a .number) hand ≡ a = λ j. model.arrival (a .number) (R .runs .1 j) (R .runs .4 j) in
       let e : List·Permᴰ (a ∷ slots l (suc m)) (slot l i ∷ slots s (suc m)) =
-      slots-swap l i (a .number) (a .event) (suc m) h f (omega (arith, x .best-below)) in
+      subst (λ (z : Arrival). List·Permᴰ (z ∷ slots l (suc m)) (slot l i ∷ slots s (suc m))) own
+      (slots-swap l i (a .number) hand (suc m) h f (omega (arith, x .best-below))) in
       let y : List·Permᴰ (slot l i ∷ slots s (suc m)) (o .next ∷ (a ∷ o .others)) =
       List·Permᴰ·trans (Permᴰ·symm e) (List·Permᴰ·trans (List·Permᴰ·cons refl v) (back-perm p a b w)) in
       let z = distinct-numbers (back-perm p a b w) u in
       let r = perm-rest (o .next) (subst (λ (y : Arrival). List·Permᴰ (y ∷ slots s (suc m)) (o .next ∷ (a ∷ o .others))) (x .next-is) y) z in
-      rw (R .runs .1, R .runs .2)
+      rw (R .runs .2)
       (record {
-        answered = ap (λ (y : Arrival). said 4 (y .number) (y .event)) (x .next-is);
-        alike = run-rel (size p) small s k (a ∷ o .others) d (slot l i) (o .next)
+        answered = ap (λ (y : Arrival). said 4 (y .number) (y .event) (y .player)) (x .next-is);
+        alike = run-rel (size p) small s k (a ∷ o .others) d (numberAt l i) (wordAt l i) (o .next)
             (simp reads h) (simp reads (R .few)) (simp reads (R .number)) (simp (reads, n) r)
-            (slot-holds (size p) small l i (a .number) (a .event) d j (R .values)) (x .next-is);
-        kept = kept-run s (numberAt l i) (eventAt l i) (kept-slot l i (a .number) (a .event) j (kept-all l));
+            (slot-holds (size p) small l i (a .number) hand d j (R .values)) (x .next-is);
+        kept = kept-run s (numberAt l i) (wordAt l i) (kept-slot l i (a .number) hand j (kept-all l));
       })
 
   -- ---- steps
@@ -350,21 +374,31 @@ module _ (p : Program) (valid : Valid p) (t : List ℕ) (table : Says p t) where
   room l k q rest d R x = omega (arith, count-is (size p) small l k q rest d R, leb-false)
   room l k q (busy a c) d R x = omega (arith, count-is (size p) small l k q (busy a c) d R, leb-false)
 
-  arrive-agrees : (l : List ℕ) (e : ℕ) (w : Engine) → Alike (size p) l w → Reached p w → Agree (size p) l (arriveOn t l e) (act p (arrive e) w)
-  unfolding arriveOn arriveIn arriveWith act
-  arrive-agrees l e (engine k q r d) R i =
+  arrive-agrees : (l : List ℕ) (e who : ℕ) (w : Engine) → Alike (size p) l w → Reached p w → Agree (size p) l (arriveOn t l e who) (act p (arrive e who) w)
+  unfolding arriveOn arriveIn arriveKnown arriveWith act
+  arrive-agrees l e who (engine k q r d) R i =
       rw (ours-is l k q r d R i, full-is l k q r d R, table .event-count, R .number)
-      (by-two (Agree (size p) l) (leb (events p) e) (λ _. record { answered = refl; alike = R; kept = kept-all l })
+      (by-two (Agree (size p) l) (leb 8 who) (λ _. record { answered = refl; alike = R; kept = kept-all l })
+      (λ _. by-two (Agree (size p) l) (leb (events p) e) (λ _. record { answered = refl; alike = R; kept = kept-all l })
+      (λ y. let few : e < events p = leb-false (events p) e y in
+      rw (table .senders e few)
+      (by-two (Agree (size p) l) (maySend p who e)
       (λ _. by-two (Agree (size p) l) (leb 64 (length (queue q r))) (λ _. record { answered = refl; alike = R; kept = kept-all l })
       (λ x. by-two (Agree (size p) l) (leb 1000000 k) (λ _. record { answered = refl; alike = R; kept = kept-all l })
       (λ _. let b : get l 1 < 64 = room l k q r d R x in
-      record { answered = refl; alike = admit-rel (size p) small l e k q r d b R; kept = admit-kept (size p) small l e (get l 1) k b }))))
+      let small-event : e < 256 = omega (arith, table .few-events) in
+      record {
+        answered = refl;
+        alike = admit-rel (size p) small l e who k q r d small-event b R;
+        kept = admit-kept (size p) small l e who (get l 1) k b;
+      })))
+      (λ _. record { answered = refl; alike = R; kept = kept-all l })))))
 
   -- ---- board readings
 
   settling-is : (l : List ℕ) (k : ℕ) (q : List Arrival) (r : Running) (d : Values) → Rel (size p) l k q r d → Reached p (engine k q r d)
-      → settling (get l 2) (eventWord t (get l 3) 2) (eventWord t (get l 3) 3) (get l 5) ≡ model.settling p r
-  unfolding settling
+      → settlingIn t l ≡ model.settling p r
+  unfolding settlingIn settling
   settling-is l k q rest d R i = rw (R .runs)
   settling-is l k q (busy a c) d R i =
       let e : a .event < events p = i .fine .0 .1 in
@@ -372,19 +406,24 @@ module _ (p : Program) (valid : Valid p) (t : List ℕ) (table : Says p t) where
       (copying-is (length (code p (a .event))) (members p (a .event)) c (omega (arith, facts .long (a .event) e))
       ∙ sym (facts .copies-back (a .event) c e (i .done .0)))
 
-  board-answers : (l : List ℕ) (i k : ℕ) (q : List Arrival) (r : Running) (d : Values) → Rel (size p) l k q r d → Reached p (engine k q r d)
-      → boardOn t l i ≡ coded (model.read p i r d)
-  unfolding boardOn boardIn boardWith
-  board-answers l i k q r d R x =
+  board-answers : (l : List ℕ) (i who k : ℕ) (q : List Arrival) (r : Running) (d : Values) → Rel (size p) l k q r d → Reached p (engine k q r d)
+      → boardOn t l i who ≡ coded (model.read p i who r d)
+  unfolding boardOn boardIn boardKnown boardWith
+  board-answers l i who k q r d R x =
       rw (ours-is l k q r d R x, settling-is l k q r d R x, table .behaviour-count)
-      (by-two (λ (v : ℕ) (x : Answer). v ≡ coded x) (leb (size p) i) (λ _. refl)
-      (λ b. by-two (λ (v : ℕ) (x : Answer). v ≡ coded x) (model.settling p r) (λ _. refl)
-      (λ _. ap (λ (v : ℕ). 4294967296 + v) (value-at (size p) small l d i (leb-false (size p) i b) (R .values)))))
+      (by-two (λ (v : ℕ) (x : Answer). v ≡ coded x) (leb 8 who) (λ _. refl)
+      (λ _. by-two (λ (v : ℕ) (x : Answer). v ≡ coded x) (leb (size p) i) (λ _. refl)
+      (λ b. let here : i < size p = leb-false (size p) i b in
+      rw (table .viewers i here)
+      (by-two (λ (v : ℕ) (x : Answer). v ≡ coded x) (maySee p who i)
+      (λ _. by-two (λ (v : ℕ) (x : Answer). v ≡ coded x) (model.settling p r) (λ _. refl)
+      (λ _. ap (λ (v : ℕ). 4294967296 + v) (value-at (size p) small l d i here (R .values))))
+      (λ _. refl)))))
 
   -- ---- any call
 
   pub call-agrees : (c : Call) (l : List ℕ) (w : Engine) → Alike (size p) l w → Reached p w → Agree (size p) l (callOn t c l) (act p c w)
   unfolding callOn act
-  call-agrees (arrive e) l w R i = arrive-agrees l e w R i
+  call-agrees (arrive e who) l w R i = arrive-agrees l e who w R i
   call-agrees step l w R i = step-agrees l w R i
-  call-agrees (board i) l (engine k q r d) R x = record { answered = board-answers l i k q r d R x; alike = R; kept = kept-all l }
+  call-agrees (board i who) l (engine k q r d) R x = record { answered = board-answers l i who k q r d R x; alike = R; kept = kept-all l }

@@ -18,6 +18,7 @@ use Rattle.language.specs.Syntax.{Program}
 use Rattle.language.specs.Refusals as refusals
 use Rattle.language.specs.Dependence.{size, events}
 use Rattle.language.specs.Accepted.{Accepted, Valid}
+use Rattle.language.specs.Rights.{maySee}
 use Rattle.execution.specs.Execution.{Values, at}
 use Rattle.execution.specs.CodeRight.{code-facts}
 use Rattle.model.specs.Model.{Running, rest, busy, Engine, engine, Call, arrive, step, Answer, refused, takenIn, shows, idle, ran, started, preempted, committed, act, run}
@@ -26,12 +27,13 @@ use Rattle.model.specs.Reached.{Reached, act-keeps, reached}
 use Rattle.model.specs.Previews.{onlySteps, idle-stays, idle-steps, idle-within}
 use Rattle.image.specs.Image.{tableOf}
 use Rattle.image.specs.ImageLaws.{Says}
+use Rattle.layout.specs.Layout.{eventOf, playerOf}
 use Rattle.round.specs.Start.{Result, freshBytes}
 use Rattle.arrivals.specs.Arrivals.{arriveOn}
 use Rattle.dispatch.specs.Dispatch.{said}
 use Rattle.advance.specs.Advance.{overMark}
 use Rattle.machine.specs.Machine.{stepOn}
-use Rattle.preview.specs.Preview.{last, toIdle, inHand, countOn, shown, shownIn, previewTaken, previewAfter, previewCopy, previewOn}
+use Rattle.preview.specs.Preview.{last, toIdle, inHand, countOn, shown, shownIn, previewSeen, previewTaken, previewAfter, previewCopy, previewOn}
 use Rattle.refinement.specs.Refinement.{coded, callOn, roundAfter}
 use Rattle.refinement.specs.Slots.{slots-same}
 use Rattle.refinement.specs.Values.{Found, filled-below, Holds, value-at}
@@ -69,7 +71,7 @@ module _ (l m : List ℕ) (same : (k : ℕ) → k < 512 → get m k ≡ get l k)
 
   runs-same : (r : Running) → RunIs l r → RunIs m r
   runs-same rest h = same 2 (omega arith) ∙ h
-  runs-same (busy a c) h = (same 2 (omega arith) ∙ h .0, same 3 (omega arith) ∙ h .1, same 4 (omega arith) ∙ h .2, same 5 (omega arith) ∙ h .3)
+  runs-same (busy a c) h = (same 2 (omega arith) ∙ h .0, ap eventOf (same 3 (omega arith)) ∙ h .1, same 4 (omega arith) ∙ h .2, same 5 (omega arith) ∙ h .3, ap playerOf (same 3 (omega arith)) ∙ h .4)
 
   module _ (n : ℕ) (small : n ≤ 64) where
     holds-same : (d : Values) → Holds n l d → Holds n m d
@@ -106,16 +108,18 @@ copy-alike n l w small R =
 
 -- ---- the last step
 
-goes : (k n e : ℕ) → 1 < k → k < 14 → last (said k n e) ≡ false
+goes : (k n e who : ℕ) → 1 < k → k < 14 → last (said k n e who) ≡ false
 unfolding last said
-goes k n e h b = rw (ne-eqb (n * 65536 + e * 256 + k) 0 (omega arith)) (ne-eqb (n * 65536 + e * 256 + k) 14 (omega arith))
+goes k n e who h b =
+    let v : ℕ = n * 65536 + e * 256 + who * 16 + k in
+    rw (ne-eqb v 0 (omega arith)) (ne-eqb v 14 (omega arith))
 
-marked-goes : (n e : ℕ) (m : Bool) → last (pick m (overMark + said 3 n e) (said 3 n e)) ≡ false
+marked-goes : (n e who : ℕ) (m : Bool) → last (pick m (overMark + said 3 n e who) (said 3 n e who)) ≡ false
 unfolding last said
-marked-goes n e true =
-    let v : ℕ = n * 65536 + e * 256 + 3 in
+marked-goes n e who true =
+    let v : ℕ = n * 65536 + e * 256 + who * 16 + 3 in
     rw (ne-eqb (72057594037927936 + v) 0 (omega arith)) (ne-eqb (72057594037927936 + v) 14 (omega arith))
-marked-goes n e false = goes 3 n e (omega arith) (omega arith)
+marked-goes n e who false = goes 3 n e who (omega arith) (omega arith)
 
 idle-or-goes : (a : Answer) → ToStep a → (a ≡ idle) ⊎ (last (coded a) ≡ false)
 unfolding last
@@ -124,9 +128,9 @@ idle-or-goes takenIn h = absurd h
 idle-or-goes (shows v) h = absurd h
 idle-or-goes idle h = inl refl
 idle-or-goes ran h = inr refl
-idle-or-goes (started a) h = inr (goes 2 (a .number) (a .event) (omega arith) (omega arith))
-idle-or-goes (preempted a) h = inr (goes 4 (a .number) (a .event) (omega arith) (omega arith))
-idle-or-goes (committed a m) h = inr (marked-goes (a .number) (a .event) m)
+idle-or-goes (started a) h = inr (goes 2 (a .number) (a .event) (a .player) (omega arith) (omega arith))
+idle-or-goes (preempted a) h = inr (goes 4 (a .number) (a .event) (a .player) (omega arith) (omega arith))
+idle-or-goes (committed a m) h = inr (marked-goes (a .number) (a .event) (a .player) m)
 
 module _ (p : Program) (valid : Valid p) (t : List ℕ) (table : Says p t) where
   few : events p ≤ 256
@@ -136,9 +140,9 @@ module _ (p : Program) (valid : Valid p) (t : List ℕ) (table : Says p t) where
   unfolding callOn
   step-agrees l w R r = call-agrees p valid t table step l w R r
 
-  arrive-agrees : (e : ℕ) (l : List ℕ) (w : Engine) → Alike (size p) l w → Reached p w → Agree (size p) l (arriveOn t l e) (act p (arrive e) w)
+  arrive-agrees : (e who : ℕ) (l : List ℕ) (w : Engine) → Alike (size p) l w → Reached p w → Agree (size p) l (arriveOn t l e who) (act p (arrive e who) w)
   unfolding callOn
-  arrive-agrees e l w R r = call-agrees p valid t table (arrive e) l w R r
+  arrive-agrees e who l w R r = call-agrees p valid t table (arrive e who) l w R r
 
   -- ---- to idle
 
@@ -199,45 +203,50 @@ module _ (p : Program) (valid : Valid p) (t : List ℕ) (table : Says p t) where
   unfolding shownIn shown
   shown-agrees x v i b h = rw (h .0, value-in (x .1) v i b (h .1))
 
-  taken-agrees : (l : List ℕ) (w : Engine) (i : ℕ) → Alike (size p) l w → Reached p w
-      → previewTaken t l i ≡ coded (pick (leb (size p) i) (refused refusals.noBehaviour) (shownAfter p w i))
-  unfolding previewTaken
-  taken-agrees l w i R r =
+  taken-agrees : (l : List ℕ) (w : Engine) (i who : ℕ) → Alike (size p) l w → Reached p w
+      → previewTaken t l i who
+      ≡ coded (pick (leb (size p) i) (refused refusals.noBehaviour) (pick (maySee p who i) (shownAfter p w i) (refused refusals.noRight)))
+  unfolding previewTaken previewSeen
+  taken-agrees l w i who R r =
       let n : countOn t l + 1 ≡ suc (countIn p w) = ap (λ (k : ℕ). k + 1) (count-agrees l w R) ∙ omega arith in
       rw (table .behaviour-count, n)
       (by-two (λ (x : ℕ) (y : Answer). x ≡ coded y) (leb (size p) i) (λ _. refl)
-      (λ b.
-      shown-agrees (toIdle t (suc (countIn p w)) l) (run p (onlySteps (countIn p w)) w) i (leb-false (size p) i b)
-      (to-idle (countIn p w) l w R r (idle-within p (code-facts p valid) w r))))
+      (λ b. let here : i < size p = leb-false (size p) i b in
+      rw (table .viewers i here)
+      (by-two (λ (x : ℕ) (y : Answer). x ≡ coded y) (maySee p who i)
+      (λ _.
+      shown-agrees (toIdle t (suc (countIn p w)) l) (run p (onlySteps (countIn p w)) w) i here
+      (to-idle (countIn p w) l w R r (idle-within p (code-facts p valid) w r)))
+      (λ _. refl))))
 
   -- ---- turned down as the arrival would be
 
-  after-agrees : (x : Result) (a y : Answer) (i : ℕ) → ToArrive a → x .0 ≡ coded a → previewTaken t (x .1) i ≡ coded y
-      → previewAfter t x i ≡ coded (unlessRefused a y)
+  after-agrees : (x : Result) (a y : Answer) (i who : ℕ) → ToArrive a → x .0 ≡ coded a → previewTaken t (x .1) i who ≡ coded y
+      → previewAfter t x i who ≡ coded (unlessRefused a y)
   unfolding previewAfter
-  after-agrees x (refused n) y i h e g = rw (e, ne-eqb n 0 (omega arith))
-  after-agrees x takenIn y i h e g = rw e g
-  after-agrees x (shows v) y i h e g = absurd h
-  after-agrees x idle y i h e g = absurd h
-  after-agrees x ran y i h e g = absurd h
-  after-agrees x (started a) y i h e g = absurd h
-  after-agrees x (preempted a) y i h e g = absurd h
-  after-agrees x (committed a m) y i h e g = absurd h
+  after-agrees x (refused n) y i who h e g = rw (e, ne-eqb n 0 (omega arith))
+  after-agrees x takenIn y i who h e g = rw e g
+  after-agrees x (shows v) y i who h e g = absurd h
+  after-agrees x idle y i who h e g = absurd h
+  after-agrees x ran y i who h e g = absurd h
+  after-agrees x (started a) y i who h e g = absurd h
+  after-agrees x (preempted a) y i who h e g = absurd h
+  after-agrees x (committed a m) y i who h e g = absurd h
 
-  preview-agrees : (l : List ℕ) (w : Engine) (e i : ℕ) → Alike (size p) l w → Reached p w → previewOn t l e i ≡ coded (previewed p w e i)
+  preview-agrees : (l : List ℕ) (w : Engine) (e i who : ℕ) → Alike (size p) l w → Reached p w → previewOn t l e i who ≡ coded (previewed p w e i who)
   unfolding previewOn previewCopy
-  preview-agrees l w e i R r =
+  preview-agrees l w e i who R r =
       let m : List ℕ = take 2048 l in
-      let a = arrive-agrees e m w (copy-alike (size p) l w (table .few-behaviours) R) r in
-      let v : Engine = act p (arrive e) w .after in
+      let a = arrive-agrees e who m w (copy-alike (size p) l w (table .few-behaviours) R) r in
+      let v : Engine = act p (arrive e who) w .after in
       rw (le-ltb (length l) 2048 (whole-of (size p) l w R))
-      (after-agrees (arriveOn t m e) (act p (arrive e) w .answer) _ i (answer-to p few (arrive e) w r) (a .answered)
-      (taken-agrees (arriveOn t m e .1) v i (a .alike) (act-keeps p (code-facts p valid) (arrive e) w r)))
+      (after-agrees (arriveOn t m e who) (act p (arrive e who) w .answer) _ i who (answer-to p few (arrive e who) w r) (a .answered)
+      (taken-agrees (arriveOn t m e who .1) v i who (a .alike) (act-keeps p (code-facts p valid) (arrive e who) w r)))
 
 -- p is accepted; t₀ are the bytes lent for the table, l₀ those lent for the round
 module _ (p : Program) (ok : Accepted p) (t₀ l₀ : List ℕ) (table-room : 34816 ≤ length t₀) (round-room : 2048 ≤ length l₀) where
-  pub previews : (cs : List Call) (e i : ℕ)
-      → previewOn (tableOf p t₀) (roundAfter (tableOf p t₀) cs (freshBytes (tableOf p t₀) l₀)) e i ≡ coded (previewed p (after p cs) e i)
-  previews cs e i =
-      preview-agrees p (valid p ok) (tableOf p t₀) (says p ok t₀ l₀ table-room round-room) (roundAfter (tableOf p t₀) cs (freshBytes (tableOf p t₀) l₀)) (after p cs) e i
+  pub previews : (cs : List Call) (e i who : ℕ)
+      → previewOn (tableOf p t₀) (roundAfter (tableOf p t₀) cs (freshBytes (tableOf p t₀) l₀)) e i who ≡ coded (previewed p (after p cs) e i who)
+  previews cs e i who =
+      preview-agrees p (valid p ok) (tableOf p t₀) (says p ok t₀ l₀ table-room round-room) (roundAfter (tableOf p t₀) cs (freshBytes (tableOf p t₀) l₀)) (after p cs) e i who
       (runs p ok t₀ l₀ table-room round-room cs .alike) (reached p (code-facts p (valid p ok)) cs)

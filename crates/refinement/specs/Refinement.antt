@@ -13,7 +13,7 @@ use Rattle.language.specs.Dependence.{size}
 use Rattle.language.specs.Answers as kinds
 use Rattle.execution.specs.Execution.{Values}
 use Rattle.model.specs.Model.{Arrival, arrival, Running, rest, busy, Engine, engine, Call, arrive, step, board, Answer, refused, takenIn, shows, idle, ran, started, preempted, committed, run, answers}
-use Rattle.layout.specs.Layout.{taken, waitingCount, runningFlag, runningEvent, runningNumber, position, depth, markWord, numberAt, eventAt}
+use Rattle.layout.specs.Layout.{eventOf, playerOf, taken, waitingCount, runningFlag, runningWord, runningNumber, position, depth, markWord, numberAt, wordAt}
 use Rattle.round.specs.Start.{Result}
 use Rattle.arrivals.specs.Arrivals.{arriveOn}
 use Rattle.board.specs.Board.{boardOn}
@@ -28,15 +28,16 @@ coded takenIn = 0
 coded (shows v) = 4294967296 + v
 coded idle = kinds.idle
 coded ran = kinds.ran
-coded (started a) = said kinds.started (a .number) (a .event)
-coded (committed a m) = pick m (overMark + said kinds.committed (a .number) (a .event)) (said kinds.committed (a .number) (a .event))
-coded (preempted a) = said kinds.preempted (a .number) (a .event)
+coded (started a) = said kinds.started (a .number) (a .event) (a .player)
+coded (committed a m) =
+    pick m (overMark + said kinds.committed (a .number) (a .event) (a .player)) (said kinds.committed (a .number) (a .event) (a .player))
+coded (preempted a) = said kinds.preempted (a .number) (a .event) (a .player)
 
 -- ---- and back: the answer that a number names, by the kind of call
 
 -- the mark at 2^56 is no part of the arrival's number
 abbrev pub arrivalIn : ℕ → Arrival
-arrivalIn v = arrival (v / 65536 % 1099511627776) (v / 256 % 256)
+arrivalIn v = arrival (v / 65536 % 1099511627776) (v / 256 % 256) (v / 16 % 16)
 
 abbrev pub markIn : ℕ → Bool
 markIn v = leb overMark v
@@ -45,20 +46,24 @@ abbrev pub stepAnswer : ℕ → Answer
 stepAnswer v =
     pick (eqb v kinds.idle) idle
     (pick (eqb v kinds.ran) ran
-    (pick (eqb (v % 256) kinds.started) (started (arrivalIn v))
-    (pick (eqb (v % 256) kinds.committed) (committed (arrivalIn v) (markIn v)) (preempted (arrivalIn v)))))
+    (pick (eqb (v % 16) kinds.started) (started (arrivalIn v))
+    (pick (eqb (v % 16) kinds.committed) (committed (arrivalIn v) (markIn v)) (preempted (arrivalIn v)))))
 
 abbrev pub decoded : Call → ℕ → Answer
-decoded (arrive e) v = pick (eqb v 0) takenIn (refused v)
+decoded (arrive e who) v = pick (eqb v 0) takenIn (refused v)
 decoded step v = stepAnswer v
-decoded (board i) v = pick (ltb v 4294967296) (refused v) (shows (v - 4294967296))
+decoded (board i who) v = pick (ltb v 4294967296) (refused v) (shows (v - 4294967296))
+
+-- 02, M-107: "only the host is told M-104's mark: .. a further call turns that into the others', without the mark"
+abbrev pub toldOn : ℕ → ℕ
+toldOn v = v % overMark
 
 -- ---- calls on a table's and a round's bytes
 
 unfoldable pub callOn : List ℕ → Call → List ℕ → Result
-callOn t (arrive e) l = arriveOn t l e
+callOn t (arrive e who) l = arriveOn t l e who
 callOn t step l = stepOn t l
-callOn t (board i) l = (boardOn t l i, l)
+callOn t (board i who) l = (boardOn t l i who, l)
 
 -- the answers of a list of calls, and the round's bytes after it
 unfoldable pub answersOn : List ℕ → List Call → List ℕ → List ℕ
@@ -71,13 +76,17 @@ roundAfter t (c ∷ cs) l = roundAfter t cs (callOn t c l .1)
 
 -- ---- what the round's bytes say
 
+-- arrival n, w being the word of its event and player
+abbrev pub arrivalOf : ℕ → ℕ → Arrival
+arrivalOf n w = arrival n (eventOf w) (playerOf w)
+
 -- the waiting arrivals of the first n slots
 unfoldable pub slots : List ℕ → ℕ → List Arrival
 slots l zero = []
-slots l (suc n) = arrival (numberAt l n) (eventAt l n) ∷ slots l n
+slots l (suc n) = arrivalOf (numberAt l n) (wordAt l n) ∷ slots l n
 
 abbrev pub runningIn : List ℕ → Running
-runningIn l = pick (eqb (runningFlag l) 0) rest (busy (arrival (runningNumber l) (runningEvent l)) (position l))
+runningIn l = pick (eqb (runningFlag l) 0) rest (busy (arrivalOf (runningNumber l) (runningWord l)) (position l))
 
 -- "as read from the round's bytes, board, hand (in whatever order it is kept), number taken in, running arrival with its count, stack, and scratch and places
 -- as far as the model engine has filled them"; the board is the store, the hand the waiting and the running one, the places hold the deferred values. And the mark that

@@ -4,6 +4,7 @@ use Prim.Native.Nat.{ℕ, _+_, _≤_}
 use mathlib.Core.Bool.{true}
 use mathlib.Core.Path.{_≡_, refl}
 use mathlib.Core.List.{List, [], _∷_, map}
+use native.Mathlib.Omega.{arith}
 use lib.ListN.{length}
 use borrow.Author.Tests.{le-ltb, le-leb}
 use Rattle.word.specs.Laws.{long}
@@ -41,13 +42,14 @@ short-code p ok =
 
 -- what its table says
 pub accepted-says : (p : Program) → Accepted p → (t₀ : List ℕ) → 34816 ≤ length t₀ → Says p (tableOf p t₀)
-accepted-says p ok t₀ room = table-says p (ok .fits .few-events) (ok .fits .few-behaviours) (length-fresh p) (short-code p ok) t₀ room
+accepted-says p ok t₀ room = table-says p (ok .fits .few-events) (ok .fits .few-behaviours) (length-fresh p) (short-code p ok)
+    (omega (arith, ok .fits .all-viewers, ok .fits .few-behaviours)) (omega (arith, ok .fits .all-senders, ok .fits .few-events)) t₀ room
 
 -- ---- what the bytes say
 
 run-is : (l : List ℕ) (r : Running) → RunIs l r → runningIn l ≡ r
 run-is l rest h = rw h
-run-is l (busy a c) h = rw (h .0, h .1, h .2, h .3)
+run-is l (busy a c) h = rw (h .0, h .1, h .2, h .3, h .4)
 
 alike-view : (p : Program) (l : List ℕ) (w : Engine) → Alike (size p) l w → View p l w
 alike-view p l (engine k q r d) R = record {

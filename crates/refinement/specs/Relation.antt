@@ -14,18 +14,19 @@ use Rattle.word.specs.Laws.{long}
 use Rattle.execution.specs.Execution.{Values, emptied}
 use Rattle.model.specs.Model.{Arrival, arrival, Running, rest, busy, Engine, engine, queue, Outcome}
 use Rattle.model.specs.Choice.{perm-length}
+use Rattle.layout.specs.Layout.{handWord, eventOf, playerOf}
 use Rattle.queue.specs.Queue.{putSlot}
 use Rattle.round.specs.Start.{Result}
 use Rattle.arrivals.specs.Arrivals.{admit}
 use Rattle.dispatch.specs.Dispatch.{run}
-use Rattle.refinement.specs.Refinement.{coded, slots, Kept}
+use Rattle.refinement.specs.Refinement.{coded, arrivalOf, slots, Kept}
 use Rattle.refinement.specs.Slots.{slot, slots-length, slots-push, reads, kept-all, kept-put, kept-slot}
 use Rattle.refinement.specs.Values.{Holds, head-holds, start-holds}
 
 -- what runs, as read from the bytes
 abbrev pub RunIs : List ℕ → Running → Type 0
 RunIs l rest = get l 2 ≡ 0
-RunIs l (busy a c) = (get l 2 ≡ 1) × (get l 3 ≡ a .event) × (get l 4 ≡ a .number) × (get l 5 ≡ c)
+RunIs l (busy a c) = (get l 2 ≡ 1) × (eventOf (get l 3) ≡ a .event) × (get l 4 ≡ a .number) × (get l 5 ≡ c) × (playerOf (get l 3) ≡ a .player)
 
 pub record Rel (n : ℕ) (l : List ℕ) (k : ℕ) (waiting : List Arrival) (r : Running) (d : Values) : Type 0 where
   pub whole : long l ≡ true
@@ -67,41 +68,56 @@ module _ (n : ℕ) (small : n ≤ 64) where
   store-length l d h = ap (λ (s : List ℕ). length s) (sym (h .store)) ∙ words-length l 136 n
 
   -- something starts
-  pub run-rel : (l : List ℕ) (k : ℕ) (q : List Arrival) (d : Values) (a x : Arrival) → long l ≡ true → get l 1 ≤ 64 → get l 0 ≡ k
-      → List·Permᴰ (slots l (get l 1)) q → Holds n l d → a ≡ x → Rel n (run l (a .number) (a .event)) k q (busy x 0) (emptied (d .store))
-  run-rel l k q d a x h f m p v e = record {
+  pub run-rel : (l : List ℕ) (k : ℕ) (q : List Arrival) (d : Values) (m w : ℕ) (x : Arrival) → long l ≡ true → get l 1 ≤ 64 → get l 0 ≡ k
+      → List·Permᴰ (slots l (get l 1)) q → Holds n l d → arrivalOf m w ≡ x → Rel n (run l m w) k q (busy x 0) (emptied (d .store))
+  run-rel l k q d m w x h f c p v e = record {
     whole = simp reads h;
     few = simp (reads, h) f;
-    number = simp (reads, h) m;
+    number = simp (reads, h) c;
     queue = simp (reads, h) p;
-    runs = (simp (reads, h), simp (reads, h) (ap (λ (y : Arrival). y .event) e), simp (reads, h) (ap (λ (y : Arrival). y .number) e), simp (reads, h));
-    values = start-holds n small l (a .number) (a .event) (d .store) h (store-length l d v) (v .store);
+    runs = (
+      simp (reads, h),
+      simp (reads, h) (ap (λ (y : Arrival). y .event) e),
+      simp (reads, h) (ap (λ (y : Arrival). y .number) e),
+      simp (reads, h),
+      simp (reads, h) (ap (λ (y : Arrival). y .player) e),
+    );
+    values = start-holds n small l m w (d .store) h (store-length l d v) (v .store);
   }
 
   -- an arrival joins
-  admit-runs : (l : List ℕ) (e m k : ℕ) (r : Running) → long l ≡ true → RunIs l r → RunIs (admit l e m k) r
+  admit-runs : (l : List ℕ) (e who m k : ℕ) (r : Running) → long l ≡ true → RunIs l r → RunIs (admit l e who m k) r
   unfolding admit
-  admit-runs l e m k rest h p = simp (reads, h) p
-  admit-runs l e m k (busy a c) h p = (simp (reads, h) (p .0), simp (reads, h) (p .1), simp (reads, h) (p .2), simp (reads, h) (p .3))
+  admit-runs l e who m k rest h p = simp (reads, h) p
+  admit-runs l e who m k (busy a c) h p =
+      (simp (reads, h) (p .0), simp (reads, h) (p .1), simp (reads, h) (p .2), simp (reads, h) (p .3), simp (reads, h) (p .4))
 
-  pub admit-rel : (l : List ℕ) (e k : ℕ) (q : List Arrival) (r : Running) (d : Values) → get l 1 < 64 → Rel n l k q r d
-      → Rel n (admit l e (get l 1) k) (k + 1) (arrival k e ∷ q) r d
+  -- its word is taken apart again
+  signed : (k e who : ℕ) → e < 256 → arrivalOf k (handWord e who) ≡ arrival k e who
+  signed k e who b =
+      let x : eventOf (handWord e who) ≡ e = omega arith in
+      let y : playerOf (handWord e who) ≡ who = omega arith in
+      λ i. arrival k (x i) (y i)
+
+  pub admit-rel : (l : List ℕ) (e who k : ℕ) (q : List Arrival) (r : Running) (d : Values) → e < 256 → get l 1 < 64 → Rel n l k q r d
+      → Rel n (admit l e who (get l 1) k) (k + 1) (arrival k e who ∷ q) r d
   unfolding admit
-  admit-rel l e k q r d b R =
+  admit-rel l e who k q r d few b R =
       let h : long l ≡ true = R .whole in
+      let w : ℕ = handWord e who in
       record {
         whole = simp reads h;
         few = simp (reads, h) (omega arith);
         number = simp (reads, h);
-        queue = simp (reads, h) (rw (slots-push l (get l 1) k e h b) (List·Permᴰ·cons refl (R .queue)));
-        runs = admit-runs l e (get l 1) k r h (R .runs);
+        queue = simp (reads, h) (rw (slots-push l (get l 1) k w h b) (List·Permᴰ·cons (signed k e who few) (R .queue)));
+        runs = admit-runs l e who (get l 1) k r h (R .runs);
         values = head-holds n small _ 1 (get l 1 + 1) d (omega arith) (omega arith)
-            (head-holds n small _ 0 (k + 1) d (omega arith) (omega arith) (slot-holds l (get l 1) k e d b (R .values)));
+            (head-holds n small _ 0 (k + 1) d (omega arith) (omega arith) (slot-holds l (get l 1) k w d b (R .values)));
       }
 
-  pub admit-kept : (l : List ℕ) (e m k : ℕ) → m < 64 → Kept l (admit l e m k)
+  pub admit-kept : (l : List ℕ) (e who m k : ℕ) → m < 64 → Kept l (admit l e who m k)
   unfolding admit
-  admit-kept l e m k b = kept-put _ 1 (m + 1) (omega arith) (kept-put _ 0 (k + 1) (omega arith) (kept-slot l m k e b (kept-all l)))
+  admit-kept l e who m k b = kept-put _ 1 (m + 1) (omega arith) (kept-put _ 0 (k + 1) (omega arith) (kept-slot l m k (handWord e who) b (kept-all l)))
 
   pub count-is : (l : List ℕ) (k : ℕ) (q : List Arrival) (r : Running) (d : Values) → Rel n l k q r d → get l 1 ≡ length q
   count-is l k q r d R = sym (slots-length l (get l 1)) ∙ perm-length (R .queue)

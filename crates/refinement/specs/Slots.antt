@@ -15,22 +15,22 @@ use Rattle.base.specs.Basics.{pick}
 use Rattle.base.specs.Tools.{split}
 use Rattle.word.specs.Word.{get, put}
 use Rattle.word.specs.Laws.{long, length-put, long-put, get-put, get-other, get-same}
-use Rattle.layout.specs.Layout.{numberAt, eventAt}
+use Rattle.layout.specs.Layout.{numberAt, wordAt}
 use Rattle.queue.specs.Queue.{putSlot}
 use Rattle.dispatch.specs.Dispatch.{run}
-use Rattle.model.specs.Model.{Arrival, arrival}
-use Rattle.refinement.specs.Refinement.{slots, Kept}
+use Rattle.model.specs.Model.{Arrival}
+use Rattle.refinement.specs.Refinement.{arrivalOf, slots, Kept}
 
 abbrev pub slot : List ℕ → ℕ → Arrival
-slot l i = arrival (numberAt l i) (eventAt l i)
+slot l i = arrivalOf (numberAt l i) (wordAt l i)
 
 pub slots-length : (l : List ℕ) (n : ℕ) → length (slots l n) ≡ n
 unfolding slots
 slots-length l zero = refl
 slots-length l (suc n) = ap suc (slots-length l n)
 
-same-arrival : {n m e f : ℕ} → n ≡ m → e ≡ f → arrival n e ≡ arrival m f
-same-arrival p q = λ i. arrival (p i) (q i)
+same-arrival : {n m e f : ℕ} → n ≡ m → e ≡ f → arrivalOf n e ≡ arrivalOf m f
+same-arrival p q = λ i. arrivalOf (p i) (q i)
 
 -- two rounds whose queues are the same words
 pub slots-same : (l m : List ℕ) (n : ℕ) → n ≤ 64 → ((j : ℕ) → 8 ≤ j → j < 136 → get m j ≡ get l j) → slots m n ≡ slots l n
@@ -61,7 +61,7 @@ unfolding putSlot
 slot-head l i n e k h =
     get-other (put l (8 + i * 2) n) (9 + i * 2) e k (omega (arith, ltb-true)) ∙ get-other l (8 + i * 2) n k (omega (arith, ltb-true))
 
-slot-same : (l : List ℕ) (i n e : ℕ) → long l ≡ true → i < 64 → slot (putSlot l i n e) i ≡ arrival n e
+slot-same : (l : List ℕ) (i n e : ℕ) → long l ≡ true → i < 64 → slot (putSlot l i n e) i ≡ arrivalOf n e
 unfolding putSlot long
 slot-same l i n e h b =
     same-arrival
@@ -83,7 +83,7 @@ slots-above l i m e (suc n) h = λ k. slot-other l i m e n (omega arith) k ∷ s
 
 -- among them: it changes places with what was there
 pub slots-swap : (l : List ℕ) (i m e n : ℕ) → long l ≡ true → n ≤ 64 → i < n
-    → List·Permᴰ (arrival m e ∷ slots l n) (slot l i ∷ slots (putSlot l i m e) n)
+    → List·Permᴰ (arrivalOf m e ∷ slots l n) (slot l i ∷ slots (putSlot l i m e) n)
 unfolding slots
 slots-swap l i m e zero g b h = absurd (omega arith)
 slots-swap l i m e (suc n) g b h =
@@ -97,15 +97,15 @@ slots-swap l i m e (suc n) g b h =
 
 -- the last of the first m + 1 slots moves to i
 pub take-out : (l : List ℕ) (i m : ℕ) → long l ≡ true → suc m ≤ 64 → i ≤ m
-    → List·Permᴰ (slots l (suc m)) (slot l i ∷ slots (putSlot l i (numberAt l m) (eventAt l m)) m)
+    → List·Permᴰ (slots l (suc m)) (slot l i ∷ slots (putSlot l i (numberAt l m) (wordAt l m)) m)
 unfolding slots
 take-out l i m g b h =
     split (eqb i m)
-    (λ p. rw (eqb-true i m p, slots-above l m (numberAt l m) (eventAt l m) m (omega arith)) (Permᴰ·refl (slot l m ∷ slots l m)))
-    (λ p. let d : i ≢ m = eqb-false i m p in slots-swap l i (numberAt l m) (eventAt l m) m g (omega arith) (omega arith))
+    (λ p. rw (eqb-true i m p, slots-above l m (numberAt l m) (wordAt l m) m (omega arith)) (Permᴰ·refl (slot l m ∷ slots l m)))
+    (λ p. let d : i ≢ m = eqb-false i m p in slots-swap l i (numberAt l m) (wordAt l m) m g (omega arith) (omega arith))
 
 -- the first free slot is filled
-pub slots-push : (l : List ℕ) (n m e : ℕ) → long l ≡ true → n < 64 → slots (putSlot l n m e) (n + 1) ≡ arrival m e ∷ slots l n
+pub slots-push : (l : List ℕ) (n m e : ℕ) → long l ≡ true → n < 64 → slots (putSlot l n m e) (n + 1) ≡ arrivalOf m e ∷ slots l n
 unfolding slots
 slots-push l n m e g h = rw add-one (λ k. slot-same l n m e g h k ∷ slots-above l n m e n (omega arith) k)
 

@@ -54,7 +54,7 @@ commitLine n e = 67 ∷ 32 ∷ (decimal n ++ (32 ∷ (decimal e ++ (10 ∷ [])))
 
 -- What a step's answer prints: R 14, or a commit (kind 3). "Steps without a commit print nothing." 02, M-104: "The desk program doesn't print it", the mark at 2^56.
 unfoldable pub stepLine : ℕ → List ℕ
-stepLine answer = pick (eqb answer 14) (refusalLine 14) (pick (eqb (answer % 256) 3) (commitLine (answer / 65536 % 1099511627776) (answer / 256 % 256)) [])
+stepLine answer = pick (eqb answer 14) (refusalLine 14) (pick (eqb (answer % 16) 3) (commitLine (answer / 65536 % 1099511627776) (answer / 256 % 256)) [])
 
 -- each value after a space
 unfoldable pub valuesText : List ℕ → List ℕ

@@ -165,7 +165,7 @@ pub fn step_line(answer: u64, out: &mut [u8]) -> usize
     if answer == 14 {
         return refusal(14, out);
     }
-    if answer % 256 == 3 {
+    if answer % 16 == 3 {
         return commit(answer / 65536 % 1099511627776, answer / 256 % 256, out);
     }
     0

@@ -83,6 +83,8 @@ module _ (p : Program) (v : Valid p) (e : ℕ) (declared : e ≤ noEvent p) (s :
   unfolding withStore
   rules-give = record {
     same-events = refl;
+    same-senders = refl;
+    same-viewers = refl;
     same-size = state-size p (event p e s) ∙ sym (state-size p s);
     stored = first-length p v e declared s whole ∙ sym (state-size p s);
     each = λ x h.
@@ -111,7 +113,7 @@ module _ (p : Program) (v : Valid p) (e : ℕ) (declared : e ≤ noEvent p) (s :
       updates-alone p v e s (at (firstPhase p e s)) (first-solves p v e declared s whole) i (behaviourAt P′ i) b
       (steps-update (r .each i (rw (state-size p s) b)))
       ∙ next-is i b ∙ state-at p (event p e s) i b) in
-      λ t. record { priorities = r .same-events t; behaviours = same t }
+      λ t. record { priorities = r .same-events t; senders = r .same-senders t; behaviours = same t; viewers = r .same-viewers t }
 
   pub rules-alone : (S : List ℕ) (P′ : Program) → Runs (withStore p s) e S P′ → (S ≡ firstPhase p e s) × (P′ ≡ withStore p (event p e s))
   rules-alone S P′ r = (first-alone S P′ r, next-alone S P′ r)
@@ -136,7 +138,7 @@ module _ (p : Program) where
   with-starts =
       let same : p .behaviours ≡ upTo (size p) (λ i. carry (at (starts p) i) (behaviourAt p i)) =
       upTo-of (active 0 []) (p .behaviours) (size p) _ refl (λ i b. carry-start (behaviourAt p i) ∙ ap (λ c. carry c (behaviourAt p i)) (sym (starts-at i b))) in
-      λ t. record { priorities = p .priorities; behaviours = same t }
+      λ t. record { priorities = p .priorities; senders = p .senders; behaviours = same t; viewers = p .viewers }
 
   module _ (v : Valid p) where
     fresh-solves : Solves p (noEvent p) (starts p) (at (fresh p))

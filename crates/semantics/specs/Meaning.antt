@@ -86,4 +86,9 @@ carry v (passive x) = passive x
 carry v (active s hs) = active v hs
 
 unfoldable pub withStore : Program → List ℕ → Program
-withStore p s = record { priorities = p .priorities; behaviours = upTo (size p) (λ i. carry (at s i) (behaviourAt p i)) }
+withStore p s = record {
+  priorities = p .priorities;
+  senders = p .senders;
+  behaviours = upTo (size p) (λ i. carry (at s i) (behaviourAt p i));
+  viewers = p .viewers;
+}

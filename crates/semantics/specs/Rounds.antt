@@ -36,15 +36,17 @@ over a b = app2 7 a b
 abbrev pub S : Program
 S = record {
   priorities = 1 ∷ 2 ∷ [];
+  senders = 255 ∷ 255 ∷ [];
   behaviours =
       active 1 (handler 0 immediate (plus (name 0) (name 1)) ∷ [])
       ∷ active 1 (handler 0 later (minus (name 0) (name 1)) ∷ handler 1 immediate (num (pos 1)) ∷ [])
       ∷ [];
+  viewers = 255 ∷ 255 ∷ [];
 }
 
 -- one event, of rank 1
 abbrev pub withOne : List Behaviour → Program
-withOne bs = record { priorities = 1 ∷ []; behaviours = bs }
+withOne bs = record { priorities = 1 ∷ []; senders = 255 ∷ []; behaviours = bs; viewers = map (λ b. 255) bs }
 
 -- "init 1 {0 ⇒ b1}, init 2 {0 ⇒ b0 later}"
 abbrev pub halfLater : Program

@@ -56,6 +56,8 @@ pub data Steps (P : Program) (I : ℕ) : ℕ → Behaviour → ℕ → Behaviour
 -- P →I S; P′: the store S holds first-phase values
 pub record Runs (P : Program) (I : ℕ) (S : List ℕ) (P′ : Program) : Type 0 where
   pub same-events : P′ .priorities ≡ P .priorities
+  pub same-senders : P′ .senders ≡ P .senders
+  pub same-viewers : P′ .viewers ≡ P .viewers
   pub same-size : size P′ ≡ size P
   pub stored : length S ≡ size P
   pub each : (x : ℕ) → x < size P → Steps P I x (behaviourAt P x) (getD S x 0) (behaviourAt P′ x)

@@ -2,9 +2,11 @@
 use Prim.Native.Nat.{ℕ, zero, suc, _+_, _*_, _%_, _≤_, _<_}
 use mathlib.Core.Bool.{true, false}
 use mathlib.Core.Path.{_≡_, refl, sym, ap, _∙_}
-use mathlib.Core.List.{List, [], _∷_, flatten, sum}
+use mathlib.Core.List.{List, [], _∷_, _++_, flatten, sum}
 use native.Mathlib.Omega.{arith}
-use lib.ListN.{length, getD}
+use lib.ListN.{length, getD, take}
+use lib.Seq.{take-suc, take-all}
+use Rattle.base.specs.Basics.{All}
 use Rattle.base.specs.Tools.{all-at}
 use Rattle.language.specs.Syntax.{Program}
 use Rattle.language.specs.Dependence.{size, events, NoCycle}
@@ -12,11 +14,10 @@ use Rattle.language.specs.Order.{upTo}
 use Rattle.language.specs.Grammar.{Fits}
 use Rattle.language.specs.Accepted.{Known, Valid}
 use Rattle.language.specs.Code.{Instr, code, members, instructions, allInstructions}
-use Rattle.semantics.specs.Meaning.{fresh}
 use Rattle.language.specs.Laws.{upTo-same}
 use Rattle.execution.specs.Sums.{length-flatten}
 use Rattle.execution.specs.Lengths.{length-counted}
-use Rattle.image.specs.Image.{codeWords, allCode, startOf, eventRecord, padded, imageWords}
+use Rattle.image.specs.Image.{codeWords, allCode, startOf, eventRecord, padded, boardWords, imageWords}
 use Rattle.image.specs.ImageLaws.{length-codeWords}
 use Rattle.draft.specs.Draft.{Drafted, DraftOf}
 use Rattle.draft.specs.DraftLaws.{draft-long, draft-events, draft-behaviours}
@@ -32,6 +33,7 @@ use Rattle.emit.specs.ExprWords.{codeWords-append}
 use Rattle.phases.specs.PhasesAre.{flatten-snoc}
 use Rattle.handlers.specs.Handlers.{codeOf}
 use Rattle.handlers.specs.HandlersAre.{code-words}
+use Rattle.parts.specs.RightWords.{numberAt, rightWords}
 use Rattle.table.specs.TableWords.{countBefore, recordWords, freshWords, tableWords, Planned}
 
 -- ---- one after the other
@@ -49,6 +51,20 @@ code-flatten : (n : ℕ) (g : ℕ → List Instr) → codeWords (flatten (upTo n
 unfolding flatten upTo codeWords
 code-flatten zero g = refl
 code-flatten (suc n) g = rw (codeWords-append (g 0) (flatten (upTo n (λ i. g (suc i)))), code-flatten n (λ i. g (suc i)))
+
+-- numbers of the draft that are the bytes of a list
+numbers-take : (d : List ℕ) (from : ℕ) (l : List ℕ) → All (λ m. m < 256) l → ((i : ℕ) → i < length l → getD d (from + i) 0 ≡ getD l i 0)
+    → (n : ℕ) → n ≤ length l → each n (numberAt d from) ≡ take n l
+unfolding each numberAt
+numbers-take d from l bytes h zero b = refl
+numbers-take d from l bytes h (suc n) b =
+    let small = all-at (λ m. m < 256) l n 0 bytes (omega arith) in
+    let same : getD d (from + n) 0 % 4294967296 ≡ getD l n 0 = rw (h n (omega arith)) (omega (arith, small)) in
+    rw (take-suc l n 0 (omega arith), numbers-take d from l bytes h n (omega arith), same)
+
+numbers-are : (d : List ℕ) (from : ℕ) (l : List ℕ) (n : ℕ) → length l ≡ n → All (λ m. m < 256) l → ((i : ℕ) → i < n → getD d (from + i) 0 ≡ getD l i 0)
+    → each n (numberAt d from) ≡ l
+numbers-are d from l n long bytes h = numbers-take d from l bytes (λ i b. h i (omega arith)) n (omega arith) ∙ take-all n l (omega arith)
 
 module _ (p : Program) (d : List ℕ) (n : ℕ) (dr : Drafted p d n) (fits : Fits p) (known : Known p) where
   -- ---- counts
@@ -97,9 +113,17 @@ module _ (p : Program) (d : List ℕ) (n : ℕ) (dr : Drafted p d n) (fits : Fit
     unfolding allCode
     codes-are = each-flatten (events p) (codeOf d (size p)) (λ e. codeWords (code p e)) code-is ∙ sym (code-flatten (events p) (code p))
 
-    fresh-are : freshWords d (events p) (size p) ≡ padded 376 (fresh p)
-    unfolding freshWords padded
-    fresh-are = rw (order-is p d n dr fits (events p) (fits .few-events)) (fresh-padded p d n dr fits valid 376 (omega arith))
+    rights-are : rightWords d (events p) (size p) ≡ padded 64 (p .viewers) ++ padded 248 (p .senders)
+    unfolding rightWords
+    rights-are =
+        rw (
+          numbers-are d 4256 (p .viewers) (size p) (fits .all-viewers) (fits .view-bytes) (dr .viewers),
+          numbers-are d 4320 (p .senders) (events p) (fits .all-senders) (fits .send-bytes) (dr .senders),
+        )
+
+    fresh-are : freshWords d (events p) (size p) ≡ boardWords p
+    unfolding freshWords boardWords padded
+    fresh-are = rw (order-is p d n dr fits (events p) (fits .few-events), fresh-padded p d n dr fits valid, rights-are)
 
     pub table-is : tableWords d (events p) (size p) ≡ imageWords p
     unfolding tableWords imageWords

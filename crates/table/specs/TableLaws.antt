@@ -6,7 +6,7 @@ use mathlib.Core.List.{List, [], _∷_}
 use native.Mathlib.Decide.{decLt}
 use native.Mathlib.Omega.{arith}
 use native.Mathlib.Numerals.{add-one}
-use lib.ListN.{length, getD, take, replicate, length-append, length-replicate}
+use lib.ListN.{length, getD, take, replicate, length-append}
 use Rattle.image.specs.ImageLaws.{length-padded}
 use Rattle.image.specs.Image.{putWords, padded}
 use Rattle.draft.specs.Draft.{entryOf}
@@ -19,6 +19,8 @@ use Rattle.emit.specs.Words.{each}
 use Rattle.emit.specs.Writing.{Room, Wrote}
 use Rattle.emit.specs.WritingLaws.{Turn, start, turn-room, turn, end, wrote-then}
 use Rattle.handlers.specs.Handlers.{codeOf}
+use Rattle.parts.specs.RightWords.{rightWords}
+use Rattle.parts.specs.PartLaws.{wrote-padded}
 use Rattle.table.specs.TableWords.{countBefore, recordWords, freshWords, tableWords, Planned}
 
 -- ---- what a draft that is written from has
@@ -106,25 +108,16 @@ length-records d bs (suc n) = rw length-append (omega (arith, length-records d b
 pub records-end : (d : List ℕ) (bs ev : ℕ) {t t′ : List ℕ} {r : ℕ} → Wrote t 8 (each ev (recordWords d bs)) t′ r → ev ≤ 32 → r ≤ 136
 records-end d bs ev w h = omega (arith, w .next, length-records d bs ev)
 
--- ---- the values of a fresh round
+-- ---- the values of a fresh round, and rights
 
 pub fresh-wrote : (d : List ℕ) (ev bs : ℕ) {o v t t₁ t₂ : List ℕ} {count n r : ℕ} → Holds o count bs (orderUnder d ev bs) → v ≡ freshOn d bs ev (take count o)
-    → length v ≡ 64 → Wrote t 136 v t₁ n → Wrote t₁ n (replicate (512 - n) 0) t₂ r → Wrote t 136 (freshWords d ev bs) t₂ r × (r ≡ 512)
+    → length v ≡ 64 → Wrote t 136 v t₁ n → Wrote t₁ 200 (rightWords d ev bs) t₂ r → Wrote t 136 (freshWords d ev bs) t₂ r
 unfolding freshWords
 fresh-wrote d ev bs {n = n} {r = r} h q l w z =
     let m : n ≡ 200 = omega (arith, w .next) in
-    let zeros = rw m at z in
-    let values = rw (m, q, h .taken) at w in
-    (wrote-then values zeros, omega (arith, zeros .next, length-replicate {A = ℕ} 312 0))
+    wrote-then (rw (m, q, h .taken) at w) z
 
 -- ---- the parts one after the other
-
--- words, and zeros up to n of them
-pub wrote-padded : {t t′ t″ ws : List ℕ} {k b c : ℕ} (n : ℕ) → Wrote t k ws t′ b → Wrote t′ b (replicate (k + n - b) 0) t″ c → Wrote t k (padded n ws) t″ c
-unfolding padded
-wrote-padded {ws = ws} {k = k} {b = b} n w z =
-    let s : k + n - b ≡ n - length ws = omega (arith, w .next) in
-    wrote-then w (rw s at z)
 
 pub table-wrote : (d : List ℕ) (ev bs : ℕ) {t t₁ t₂ t₃ t₄ t₅ t₆ : List ℕ} {a b c r f g : ℕ} → ev ≤ 32
     → Wrote t 0 (padded 8 (ev ∷ bs ∷ [])) t₁ a → Wrote t₁ 8 (each ev (recordWords d bs)) t₂ b → Wrote t₂ b (replicate (136 - b) 0) t₃ c

@@ -7,6 +7,7 @@ ghost use Rattle.analysis.specs.Checks.{AllInside};
 ghost use Rattle.emit.specs.Words.{each};
 ghost use Rattle.emit.specs.Writing.{Room, Wrote};
 ghost use Rattle.handlers.specs.Handlers.{codeOf};
+ghost use Rattle.draft.specs.Draft.{draftLength};
 ghost use Rattle.table.specs.TableWords.{countBefore, recordWords, freshWords, tableWords, Planned};
 
 fn write_records(d: &[u64], ev: usize, bs: usize, t: &mut [u8], k: usize) -> usize
@@ -26,7 +27,7 @@ fn write_records(d: &[u64], ev: usize, bs: usize, t: &mut [u8], k: usize) -> usi
     next
 }
 
-// The values of a fresh round: phase one under no event.
+// The values of a fresh round, phase one under no event, and who may see and send.
 fn write_fresh(d: &[u64], ev: usize, bs: usize, t: &mut [u8]) -> usize
     requires { ⌜ Planned (now d) ev bs ⌝ }
     requires { ⌜ 34816 ≤ length (now t) ⌝ }
@@ -36,8 +37,8 @@ fn write_fresh(d: &[u64], ev: usize, bs: usize, t: &mut [u8]) -> usize
     let mut o = [0u8; 64];
     let count = ordering::order_under(d, ev, bs, &mut o);
     let v = evaluate::fresh_values(d, bs, ev, &o, count);
-    let next = parts::write_values(&v, t, 136);
-    parts::write_zeros(t, next, 512)
+    parts::write_values(&v, t, 136);
+    parts::write_rights(d, ev, bs, t)
 }
 
 // The code of each event.
@@ -71,7 +72,7 @@ pub fn write_table(d: &[u64], ev: usize, bs: usize, t: &mut [u8])
 
 // How many instructions the events have together.
 pub fn count_all(d: &[u64], ev: usize, bs: usize) -> usize
-    requires { ⌜ (length (now d) ≡ 4256) × (ev ≤ 32) × (bs ≤ 64) × AllInside (now d) ev bs ⌝ }
+    requires { ⌜ (length (now d) ≡ draftLength) × (ev ≤ 32) × (bs ≤ 64) × AllInside (now d) ev bs ⌝ }
     ensures { λ r. ⌜ r ≡ countBefore (now (d .entry)) bs ev ⌝ }
 {
     let mut sum = 0;

@@ -65,7 +65,7 @@ fn steps(bars: &mut Vec<(String, Spread)>, waiting: usize) {
     let n = 200;
     let fill = |m: &mut dyn FnMut(Call)| {
         for _ in 0..=waiting {
-            m(Call::Arrive(0));
+            m(Call::Arrive(0, 0));
         }
         m(Call::Step);
     };
@@ -109,14 +109,14 @@ fn events(bars: &mut Vec<(String, Spread)>, size: usize) {
     proved::start(&table, &mut round);
     let ours = || {
         for _ in 0..200 {
-            proved::arrive(&table, &mut round, 0);
+            proved::arrive(&table, &mut round, 0, 0);
             while proved::step(&table, &mut round) % 256 != 3 {}
         }
     };
     let mut m = Model::new(sheet);
     let other = || {
         for _ in 0..200 {
-            m.call(Call::Arrive(0));
+            m.call(Call::Arrive(0, 0));
             while !matches!(m.call(Call::Step), engine::Answer::Committed(..)) {}
         }
     };
@@ -177,7 +177,7 @@ fn waits(ranks: [u8; 3], ticks: u64) -> [u64; 3] {
     let mut longest = [0u64; 3];
     for now in 0..ticks {
         for e in 0..3 {
-            if next[e] == now && proved::arrive(&table, &mut round, e as u32) == 0 {
+            if next[e] == now && proved::arrive(&table, &mut round, e as u32, 0) == 0 {
                 born.push(now);
                 next[e] = now + 130 + r.below(21) as u64;
             }

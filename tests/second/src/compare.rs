@@ -1,6 +1,6 @@
 //! The proved engine held against the second one: sheets, tables, answers, rounds, guarded buffers, damaged bytes.
 use crate::desk;
-use crate::engine::{self, Answer, Call, Instr, Model};
+use crate::engine::{self, Answer, Arrival, Call, Instr, Model};
 use crate::make::{self, Rng};
 use crate::proved::{self, ROUND, TABLE};
 use crate::words::{self, get as word};
@@ -75,6 +75,10 @@ fn image(m: &Model) -> Vec<u32> {
     }
     for (i, v) in m.board.iter().enumerate() {
         w[136 + i] = *v as u32;
+        w[200 + i] = m.sheet.viewers[i].unwrap_or(255) as u32;
+    }
+    for (e, m) in m.sheet.senders.iter().enumerate() {
+        w[264 + e] = m.unwrap_or(255) as u32;
     }
     w
 }
@@ -138,35 +142,36 @@ fn written_out(bytes: &[u8], table: &[u8]) {
 }
 
 fn packed(a: Answer) -> u64 {
-    let about = |k: u64, n: u32, e: usize| n as u64 * 65536 + e as u64 * 256 + k;
+    let about = |k: u64, (n, e, who): Arrival| n as u64 * 65536 + e as u64 * 256 + who as u64 * 16 + k;
     match a {
         Answer::Refused(n) => n as u64,
         Answer::Taken | Answer::Idle => 0,
         Answer::Value(v) => (1u64 << 32) + v as u32 as u64,
         Answer::Ran => 1,
-        Answer::Started(n, e) => about(2, n, e),
-        Answer::Committed(n, e, m) => ((m as u64) << 56) + about(3, n, e),
-        Answer::BrokeIn(n, e) => about(4, n, e),
+        Answer::Started(a) => about(2, a),
+        Answer::Committed(a, m) => ((m as u64) << 56) + about(3, a),
+        Answer::BrokeIn(a) => about(4, a),
     }
 }
 
 pub fn call(table: &[u8], round: &mut [u8], c: Call) -> u64 {
     match c {
-        Call::Arrive(e) => proved::arrive(table, round, e) as u64,
+        Call::Arrive(e, who) => proved::arrive(table, round, e, who) as u64,
         Call::Step => proved::step(table, round),
-        Call::Board(i) => proved::board(table, round, i),
+        Call::Board(i, who) => proved::board(table, round, i, who),
     }
 }
 
 /// The round as read from its bytes against the model engine.
 fn same_round(l: &[u8], m: &Model) {
     assert_eq!(word(l, 0), m.taken, "number taken in");
-    let mut hand: Vec<(u32, usize)> = (0..word(l, 1) as usize).map(|i| (word(l, 8 + 2 * i), word(l, 9 + 2 * i) as usize)).collect();
+    let arrival = |n: u32, w: u32| (n, w as usize % 256, w / 256);
+    let mut hand: Vec<Arrival> = (0..word(l, 1) as usize).map(|i| arrival(word(l, 8 + 2 * i), word(l, 9 + 2 * i))).collect();
     let mut want = m.waiting.clone();
     hand.sort();
     want.sort();
     assert_eq!(hand, want, "waiting");
-    let running = (word(l, 2) != 0).then(|| (word(l, 4), word(l, 3) as usize, word(l, 5) as usize));
+    let running = (word(l, 2) != 0).then(|| (arrival(word(l, 4), word(l, 3)), word(l, 5) as usize));
     assert_eq!(running, m.running, "running");
     let stack: Vec<i32> = (0..word(l, 6) as usize).map(|i| word(l, 328 + i) as i32).collect();
     assert_eq!(stack, m.stack, "stack");
@@ -181,8 +186,8 @@ fn same_round(l: &[u8], m: &Model) {
 /// A preview of an event and a behaviour, declared or one past the last, against the model engine's; the round stays.
 fn same_preview(t: &[u8], l: &[u8], m: &Model, k: usize) {
     let before = l.to_vec();
-    let (e, i) = ((k / 16 % (m.code.len() + 1)) as u32, (k / 5 % (m.board.len() + 1)) as u32);
-    assert_eq!(proved::preview(t, l, e, i), packed(m.preview(e, i)), "preview of {e} and {i} after {k}");
+    let (e, i, who) = ((k / 16 % (m.code.len() + 1)) as u32, (k / 5 % (m.board.len() + 1)) as u32, (k / 64 % 9) as u32);
+    assert_eq!(proved::preview(t, l, e, i, who), packed(m.preview(e, i, who)), "preview of {e} and {i} by {who} after {k}");
     assert!(before == l, "a preview changed the round");
 }
 
@@ -199,11 +204,15 @@ pub fn run(sheet: &engine::Sheet, table: &Guarded, calls: &[Call]) -> (Model, Ve
         let got = call(table.part(), round.part_mut(), *c);
         assert_eq!(got, packed(want), "answer {k} to {c:?}");
         assert_eq!(proved::forecast(table.part(), round.part()), (1 << 32) + m.forecast() as u64, "forecast after {k}");
-        if let Answer::Committed(_, e, mark) = want {
+        if let Answer::Committed(a, mark) = want {
+            assert_eq!(proved::told(got), packed(Answer::Committed(a, false)), "what the others are told of answer {k}");
+            let e = a.1;
             let over;
             (by_commits, over) = sheet.event(e, &by_commits);
             assert_eq!(mark, over, "the mark of answer {k}");
             commits.push(e);
+        } else if *c == Call::Step {
+            assert_eq!(proved::told(got), got, "what the others are told of answer {k}");
         }
         if !m.settling() {
             assert_eq!(m.board, by_commits, "the board of the commits");
@@ -241,10 +250,10 @@ fn settle(sheet: &engine::Sheet, table: &Guarded, calls: &[Call]) -> Model {
 
 /// Arrivals alone, so that nothing runs when the forecast is asked for.
 fn arrivals(calls: &[Call]) -> Vec<Call> {
-    calls.iter().copied().filter(|c| matches!(c, Call::Arrive(_))).collect()
+    calls.iter().copied().filter(|c| matches!(c, Call::Arrive(..))).collect()
 }
 
-/// Two cuts of the same arrivals, where events of unequal rank are independent.
+/// Two cuts of the same arrivals, whoever of those that may sends them, where events of unequal rank are independent.
 fn phones_of(r: &mut Rng, sheet: &engine::Sheet) -> Option<[Vec<Call>; 2]> {
     let n = sheet.ranks.len();
     let apart = (0..n).all(|e| (0..n).all(|f| sheet.ranks[e] == sheet.ranks[f] || sheet.independent(e, f)));
@@ -255,7 +264,8 @@ fn phones_of(r: &mut Rng, sheet: &engine::Sheet) -> Option<[Vec<Call>; 2]> {
     let cut = |r: &mut Rng| {
         let mut calls = Vec::new();
         for e in &arrivals {
-            calls.push(Call::Arrive(*e));
+            let senders: Vec<u32> = (0..8).filter(|who| engine::may(sheet.senders[*e as usize], *who)).collect();
+            calls.push(Call::Arrive(*e, senders[r.below(senders.len())]));
             calls.extend(std::iter::repeat(Call::Step).take(r.below(30)));
         }
         calls
@@ -317,24 +327,25 @@ fn starts(r: &mut Rng, table: &Guarded, tally: &mut Tally) {
     }
 }
 
-/// Five bytes for each call, as replay reads them; a board reading has any kind above 1.
+/// Six bytes for each call, as replay reads them; a board reading has any kind above 1. A player that does not fit a byte is recorded as 255, and refused alike.
 fn recorded(r: &mut Rng, calls: &[Call]) -> Vec<u8> {
     let mut out = Vec::new();
     for c in calls {
-        let (kind, n) = match c {
-            Call::Arrive(e) => (0, *e),
-            Call::Step => (1, r.next() as u32),
-            Call::Board(i) => (2 + r.below(254) as u8, *i),
+        let (kind, n, who) = match c {
+            Call::Arrive(e, who) => (0, *e, *who),
+            Call::Step => (1, r.next() as u32, r.next() as u32),
+            Call::Board(i, who) => (2 + r.below(254) as u8, *i, *who),
         };
         out.push(kind);
         out.extend(n.to_be_bytes());
+        out.push(who.min(255) as u8);
     }
     out
 }
 
 /// replay of recorded bytes against the same calls made one by one: how many, the answers, the round, and nothing beyond.
 fn same_replay(t: &[u8], l: &[u8], calls: &[Call], bytes: &[u8], room: usize) {
-    let made = (bytes.len() / 5).min(room / 8);
+    let made = (bytes.len() / 6).min(room / 8);
     let mut one_by_one = l.to_vec();
     let mut want = vec![0xC3; room];
     for (k, c) in calls[..made].iter().enumerate() {
@@ -398,8 +409,8 @@ fn foreign(r: &mut Rng, sheet: &engine::Sheet, table: &Guarded, opening: &[Call]
         assert_eq!(call(t.part(), l.part_mut(), c), answer, "damaged bytes, {c:?}");
         assert_eq!(proved::forecast(t.part(), l.part()), words::forecast(t.part(), l.part()), "damaged bytes, forecast after {c:?}");
         if k % 64 == 8 {
-            let (e, i) = ((k / 8 % (sheet.ranks.len() + 1)) as u32, (k / 8) as u32);
-            assert_eq!(proved::preview(t.part(), l.part(), e, i), words::preview(t.part(), l.part(), e, i), "damaged bytes, preview of {e} and {i}");
+            let (e, i, who) = ((k / 8 % (sheet.ranks.len() + 1)) as u32, (k / 8) as u32, make::player(r));
+            assert_eq!(proved::preview(t.part(), l.part(), e, i, who), words::preview(t.part(), l.part(), e, i, who), "damaged bytes, preview of {e} and {i} by {who}");
         }
         assert!(want == l.part(), "damaged bytes, {c:?}: the round");
     }
@@ -453,7 +464,7 @@ impl Case {
     }
 }
 
-/// The part of a seed that differs, as the desk program reads it: its sheet, parameters written out, and calls, run to idle, two phones one after the other; or the calls up to where
+/// The part of a seed that differs, as the desk program reads it, every call being the host's there: its sheet, parameters written out, and calls, run to idle, two phones one after the other; or the calls up to where
 /// bytes are damaged.
 pub fn script(seed: u64, part: &str) -> Vec<u8> {
     let case = Case::new(seed);
@@ -469,9 +480,9 @@ pub fn script(seed: u64, part: &str) -> Vec<u8> {
         out.extend(desk::sheet(&bytes));
         for c in calls {
             out.extend(match c {
-                Call::Arrive(e) => desk::arrive(e as u8),
+                Call::Arrive(e, _) => desk::arrive(e as u8),
                 Call::Step => desk::steps(1),
-                Call::Board(_) => desk::show(),
+                Call::Board(..) => desk::show(),
             });
         }
         if part != DAMAGED {

@@ -55,13 +55,13 @@ pub fn expected(input: &[u8]) -> String {
         };
         match tag {
             0x21 => {
-                if let Answer::Refused(n) = m.call(Call::Arrive(v[0] as u32)) {
+                if let Answer::Refused(n) = m.call(Call::Arrive(v[0] as u32, 0)) {
                     out += &format!("R {n}\n");
                 }
             }
             0x22 => {
                 for _ in 0..v[0] as usize * 256 + v[1] as usize {
-                    if let Answer::Committed(n, e, _) = m.call(Call::Step) {
+                    if let Answer::Committed((n, e, _), _) = m.call(Call::Step) {
                         out += &format!("C {n} {e}\n");
                     }
                 }

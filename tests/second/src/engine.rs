@@ -29,6 +29,9 @@ pub enum Behaviour {
 pub struct Sheet {
     pub ranks: Vec<u8>,
     pub behaviours: Vec<Behaviour>,
+    /// Document 02, M-107: who may send each event and see each behaviour, bit n for player n, where the sheet says so.
+    pub senders: Vec<Option<u8>>,
+    pub viewers: Vec<Option<u8>>,
 }
 
 // ---- arithmetic
@@ -164,23 +167,43 @@ fn handler(v: &[u8], events: usize, so_far: &[Handler]) -> Result<Handler, u32> 
     Ok(Handler { event, later: v[1] == 1, expr: whole_expr(&v[2..])? })
 }
 
-fn active(v: &[u8], events: usize) -> Result<Behaviour, u32> {
+/// What is left of a behaviour's value: a field 08 of length 1 and nothing else, or nothing. Other bytes are 6, as are all past the field.
+fn ending(left: &[u8]) -> Result<Option<u8>, u32> {
+    if left.is_empty() {
+        return Ok(None);
+    }
+    if left[0] != 8 {
+        return Err(6);
+    }
+    let (_, v, over) = field(left, 8, 8)?;
+    if v.len() != 1 || !over.is_empty() {
+        return Err(6);
+    }
+    Ok(Some(v[0]))
+}
+
+fn passive(v: &[u8]) -> Result<(Behaviour, Option<u8>), u32> {
+    let (e, left) = expr(v, 1)?;
+    Ok((Behaviour::Passive(e), ending(left)?))
+}
+
+fn active(v: &[u8], events: usize) -> Result<(Behaviour, Option<u8>), u32> {
     let (_, w, mut rest) = field(v, 4, 4)?;
     if w.len() != 4 {
         return Err(6);
     }
     let mut hs = Vec::new();
-    while !rest.is_empty() {
+    while !rest.is_empty() && rest[0] != 8 {
         let (_, v, r) = field(rest, 5, 5)?;
         let h = handler(v, events, &hs)?;
         hs.push(h);
         rest = r;
     }
-    Ok(Behaviour::Active(word(w), hs))
+    Ok((Behaviour::Active(word(w), hs), ending(rest)?))
 }
 
 pub fn read(s: &[u8]) -> Result<Sheet, u32> {
-    let mut sheet = Sheet { ranks: vec![], behaviours: vec![] };
+    let mut sheet = Sheet { ranks: vec![], behaviours: vec![], senders: vec![], viewers: vec![] };
     let mut s = s;
     while !s.is_empty() {
         let (tag, v, rest) = field(s, if sheet.behaviours.is_empty() { 1 } else { 2 }, 3)?;
@@ -188,19 +211,21 @@ pub fn read(s: &[u8]) -> Result<Sheet, u32> {
             if sheet.ranks.len() == 32 {
                 return Err(7);
             }
-            if v.len() != 1 {
+            if v.is_empty() || v.len() > 2 {
                 return Err(6);
             }
             if v[0] > 15 {
                 return Err(8);
             }
             sheet.ranks.push(v[0]);
+            sheet.senders.push(v.get(1).copied());
         } else {
             if sheet.behaviours.len() == 64 {
                 return Err(7);
             }
-            let b = if tag == 2 { Behaviour::Passive(whole_expr(v)?) } else { active(v, sheet.ranks.len())? };
+            let (b, viewer) = if tag == 2 { passive(v)? } else { active(v, sheet.ranks.len())? };
             sheet.behaviours.push(b);
+            sheet.viewers.push(viewer);
         }
         s = rest;
     }
@@ -326,7 +351,7 @@ impl Sheet {
             Behaviour::Passive(e) => Behaviour::Passive(filled(e, value)),
             Behaviour::Active(s, hs) => Behaviour::Active(*s, hs.iter().map(|h| Handler { expr: filled(&h.expr, value), ..h.clone() }).collect()),
         };
-        Sheet { ranks: self.ranks.clone(), behaviours: self.behaviours.iter().map(one).collect() }
+        Sheet { behaviours: self.behaviours.iter().map(one).collect(), ..self.clone() }
     }
 
     /// 01's count, by its formula.
@@ -531,14 +556,24 @@ pub enum Instr {
     Move(usize),
 }
 
+// ---- players: "Where either is missing, everybody may. The host may do everything"
+
+pub fn may(said: Option<u8>, who: u32) -> bool {
+    who == 0 || said.map_or(true, |byte| byte & (1 << who) != 0)
+}
+
 // ---- the model engine
 
+/// An event and its player; a behaviour and its player (document 02, M-107).
 #[derive(Clone, Copy, Debug, PartialEq)]
 pub enum Call {
-    Arrive(u32),
+    Arrive(u32, u32),
     Step,
-    Board(u32),
+    Board(u32, u32),
 }
+
+/// Number, event and player of an arrival taken in.
+pub type Arrival = (u32, usize, u32);
 
 #[derive(Clone, Copy, Debug, PartialEq)]
 pub enum Answer {
@@ -547,10 +582,10 @@ pub enum Answer {
     Value(i32),
     Idle,
     Ran,
-    Started(u32, usize),
+    Started(Arrival),
     /// With M-104's mark.
-    Committed(u32, usize, bool),
-    BrokeIn(u32, usize),
+    Committed(Arrival, bool),
+    BrokeIn(Arrival),
 }
 
 #[derive(Clone)]
@@ -559,8 +594,9 @@ pub struct Model {
     pub code: Vec<Vec<Instr>>,
     pub board: Vec<i32>,
     pub taken: u32,
-    pub waiting: Vec<(u32, usize)>,
-    pub running: Option<(u32, usize, usize)>,
+    pub waiting: Vec<Arrival>,
+    /// With its count of instructions done.
+    pub running: Option<(Arrival, usize)>,
     pub scratch: Vec<Option<i32>>,
     pub stack: Vec<i32>,
     pub places: Vec<Option<i32>>,
@@ -585,14 +621,14 @@ impl Model {
         (0..self.waiting.len()).max_by_key(|&k| (self.rank(self.waiting[k].1), std::cmp::Reverse(self.waiting[k].0)))
     }
 
-    fn begin(&mut self, k: usize) -> (u32, usize) {
-        let (n, e) = self.waiting.remove(k);
-        self.running = Some((n, e, 0));
+    fn begin(&mut self, k: usize) -> Arrival {
+        let a = self.waiting.remove(k);
+        self.running = Some((a, 0));
         self.scratch.iter_mut().for_each(|x| *x = None);
         self.places.iter_mut().for_each(|x| *x = None);
         self.stack.clear();
         self.mark = false;
-        (n, e)
+        a
     }
 
     /// Offs done, and whether interrupts are masked, after c instructions.
@@ -604,7 +640,7 @@ impl Model {
     }
 
     pub fn settling(&self) -> bool {
-        self.running.map_or(false, |(_, e, c)| self.masks(e, c) == (2, true))
+        self.running.map_or(false, |((_, e, _), c)| self.masks(e, c) == (2, true))
     }
 
     fn execute(&mut self, i: Instr) {
@@ -628,27 +664,25 @@ impl Model {
     }
 
     fn step(&mut self) -> Answer {
-        if let Some((n, e, c)) = self.running {
+        if let Some((a, c)) = self.running {
+            let e = a.1;
             if let Some(k) = self.next() {
                 if !self.masks(e, c).1 && self.rank(self.waiting[k].1) > self.rank(e) {
-                    let (m, f) = self.begin(k);
-                    self.waiting.push((n, e));
-                    return Answer::BrokeIn(m, f);
+                    let b = self.begin(k);
+                    self.waiting.push(a);
+                    return Answer::BrokeIn(b);
                 }
             }
             self.execute(self.code[e][c]);
             if c + 1 == self.code[e].len() {
                 self.running = None;
-                return Answer::Committed(n, e, self.mark);
+                return Answer::Committed(a, self.mark);
             }
-            self.running = Some((n, e, c + 1));
+            self.running = Some((a, c + 1));
             return Answer::Ran;
         }
         match self.next() {
-            Some(k) => {
-                let (n, e) = self.begin(k);
-                Answer::Started(n, e)
-            }
+            Some(k) => Answer::Started(self.begin(k)),
             None => Answer::Idle,
         }
     }
@@ -660,19 +694,18 @@ impl Model {
     /// Document 02, M-100: with nothing running, the sum over the hand of each event's count plus one; else 01's bound.
     pub fn forecast(&self) -> usize {
         match self.running {
-            None => self.waiting.iter().map(|(_, e)| self.code[*e].len() + 1).sum(),
+            None => self.waiting.iter().map(|(_, e, _)| self.code[*e].len() + 1).sum(),
             Some(_) => (self.in_hand() + 1) * (self.code.iter().map(Vec::len).max().unwrap_or(0) + 1),
         }
     }
 
-    /// Document 02, M-101: what the board shows once this arrival and everything in hand are run to idle, on a copy; turned down as the arrival, then by 18.
-    pub fn preview(&self, e: u32, i: u32) -> Answer {
+    /// Document 02, M-101: what the board shows once this arrival and everything in hand are run to idle, on a copy; turned down as the arrival, then by 18; M-107: then by 25.
+    pub fn preview(&self, e: u32, i: u32, who: u32) -> Answer {
         let mut copy = self.clone();
-        match copy.call(Call::Arrive(e)) {
-            Answer::Taken if i as usize >= copy.board.len() => Answer::Refused(18),
+        match copy.call(Call::Arrive(e, who)) {
             Answer::Taken => {
                 while copy.step() != Answer::Idle {}
-                copy.call(Call::Board(i))
+                copy.call(Call::Board(i, who))
             }
             refused => refused,
         }
@@ -680,17 +713,20 @@ impl Model {
 
     pub fn call(&mut self, call: Call) -> Answer {
         match call {
-            Call::Arrive(e) if e as usize >= self.sheet.ranks.len() => Answer::Refused(15),
-            Call::Arrive(_) if self.in_hand() == 64 => Answer::Refused(16),
-            Call::Arrive(_) if self.taken == 1_000_000 => Answer::Refused(17),
-            Call::Arrive(e) => {
-                self.waiting.push((self.taken, e as usize));
+            Call::Arrive(_, who) | Call::Board(_, who) if who > 7 => Answer::Refused(24),
+            Call::Arrive(e, _) if e as usize >= self.sheet.ranks.len() => Answer::Refused(15),
+            Call::Arrive(e, who) if !may(self.sheet.senders[e as usize], who) => Answer::Refused(25),
+            Call::Arrive(..) if self.in_hand() == 64 => Answer::Refused(16),
+            Call::Arrive(..) if self.taken == 1_000_000 => Answer::Refused(17),
+            Call::Arrive(e, who) => {
+                self.waiting.push((self.taken, e as usize, who));
                 self.taken += 1;
                 Answer::Taken
             }
-            Call::Board(i) if i as usize >= self.board.len() => Answer::Refused(18),
-            Call::Board(_) if self.settling() => Answer::Refused(19),
-            Call::Board(i) => Answer::Value(self.board[i as usize]),
+            Call::Board(i, _) if i as usize >= self.board.len() => Answer::Refused(18),
+            Call::Board(i, who) if !may(self.sheet.viewers[i as usize], who) => Answer::Refused(25),
+            Call::Board(..) if self.settling() => Answer::Refused(19),
+            Call::Board(i, _) => Answer::Value(self.board[i as usize]),
             Call::Step => self.step(),
         }
     }

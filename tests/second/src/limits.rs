@@ -108,14 +108,14 @@ fn spent() {
     assert_eq!(proved::compile(&event(0), &[], &mut table), 0);
     proved::start(&table, &mut round);
     for _ in 0..1_000_000 {
-        assert_eq!(proved::arrive(&table, &mut round, 0), 0);
+        assert_eq!(proved::arrive(&table, &mut round, 0, 0), 0);
         (0..5).for_each(|_| {
             proved::step(&table, &mut round);
         });
     }
     assert_eq!(proved::step(&table, &mut round), 0, "idle");
-    assert_eq!(proved::arrive(&table, &mut round, 0), 17, "the arrival after 1,000,000");
-    assert_eq!(proved::preview(&table, &round, 0, 0), 17, "its preview");
+    assert_eq!(proved::arrive(&table, &mut round, 0, 0), 17, "the arrival after 1,000,000");
+    assert_eq!(proved::preview(&table, &round, 0, 0, 0), 17, "its preview");
 }
 
 /// S's events have 17 and 8 instructions: each arrival's and its start while nothing runs, the bound as soon as one does.
@@ -127,7 +127,7 @@ fn forecast() {
     let steps = |round: &[u8]| proved::forecast(&table, round) - (1 << 32);
     assert_eq!(steps(&round), 0, "an empty hand");
     for e in [0, 1, 0] {
-        proved::arrive(&table, &mut round, e);
+        proved::arrive(&table, &mut round, e, 0);
     }
     assert_eq!(steps(&round), 18 + 9 + 18, "three in hand");
     for k in 0..45 {
@@ -140,7 +140,7 @@ fn forecast() {
     }
     assert_eq!(proved::step(&table, &mut round), 0, "idle after 45 steps");
     (0..64).for_each(|_| {
-        proved::arrive(&table, &mut round, 0);
+        proved::arrive(&table, &mut round, 0, 0);
     });
     assert_eq!(steps(&round), 64 * 18, "64 in hand");
     assert_eq!(proved::forecast(&table[1..], &round), 14, "a table of 34,815 bytes");
@@ -160,10 +160,10 @@ fn quotients() {
         let mut round = vec![0u8; 2048];
         proved::compile(&sheet, &[], &mut table);
         proved::start(&table, &mut round);
-        assert_eq!(proved::board(&table, &round, 1) as i32, want, "{n} / {d} in a fresh round");
-        proved::arrive(&table, &mut round, 0);
+        assert_eq!(proved::board(&table, &round, 1, 0) as i32, want, "{n} / {d} in a fresh round");
+        proved::arrive(&table, &mut round, 0, 0);
         while proved::step(&table, &mut round) != 0 {}
-        assert_eq!(proved::board(&table, &round, 0) as i32, want, "{n} / {d} in an event");
+        assert_eq!(proved::board(&table, &round, 0, 0) as i32, want, "{n} / {d} in an event");
         assert_eq!(engine::apply(7, &[n, d]), want, "{n} / {d} in the second engine");
     }
 }
@@ -178,7 +178,7 @@ fn marks_of(sheet: &[u8], calls: &[Call]) -> Vec<bool> {
     let mut round = vec![0u8; 2048];
     assert_eq!(proved::start(table.part(), &mut round), 0);
     let answers = all.iter().map(|c| compare::call(table.part(), &mut round, *c));
-    answers.filter(|a| a % 256 == 3).map(|a| a >> 56 == 1).collect()
+    answers.filter(|a| a % 16 == 3).map(|a| a >> 56 == 1).collect()
 }
 
 /// M-104: a commit's mark, for each function at its ends and wherever the meaning evaluates.
@@ -193,20 +193,20 @@ fn marks() {
         let x = app(f, &[con(a), con(b)]);
         for later in [0, 1] {
             let sheet = join(&[event(0), active(0, &[handler(0, later, &x)])]);
-            assert_eq!(marks_of(&sheet, &[Call::Arrive(0)]), [want], "{f} of {a} and {b}");
+            assert_eq!(marks_of(&sheet, &[Call::Arrive(0, 0)]), [want], "{f} of {a} and {b}");
         }
         let sheet = join(&[event(0), passive(&app(3, &[x.clone()]))]);
-        assert_eq!(marks_of(&sheet, &[Call::Arrive(0)]), [want], "{f} of {a} and {b} in a passive");
+        assert_eq!(marks_of(&sheet, &[Call::Arrive(0, 0)]), [want], "{f} of {a} and {b} in a passive");
     }
     let over = app(4, &[con(most), con(1)]);
     let unused = app(14, &[con(0), over.clone(), con(3)]);
-    assert_eq!(marks_of(&join(&[event(0), active(0, &[handler(0, 0, &unused)])]), &[Call::Arrive(0)]), [true], "`if` evaluates all three");
+    assert_eq!(marks_of(&join(&[event(0), active(0, &[handler(0, 0, &unused)])]), &[Call::Arrive(0, 0)]), [true], "`if` evaluates all three");
     let unread = join(&[event(0), event(0), active(0, &[handler(1, 0, &over)])]);
-    assert_eq!(marks_of(&unread, &[Call::Arrive(0), Call::Arrive(1), Call::Arrive(0)]), [false, true, false], "each commit has its own");
+    assert_eq!(marks_of(&unread, &[Call::Arrive(0, 0), Call::Arrive(1, 0), Call::Arrive(0, 0)]), [false, true, false], "each commit has its own");
     let second = join(&[event(0), event(0), active(1, &[handler(0, 1, &con(0)), handler(1, 0, &con(1))]), passive(&app(7, &[con(5), name(0)]))]);
-    assert_eq!(marks_of(&second, &[Call::Arrive(0), Call::Arrive(1), Call::Arrive(1)]), [true, false, false], "in the second phase alone");
+    assert_eq!(marks_of(&second, &[Call::Arrive(0, 0), Call::Arrive(1, 0), Call::Arrive(1, 0)]), [true, false, false], "in the second phase alone");
     let broken = join(&[event(1), event(2), active(0, &[handler(0, 0, &over)]), active(0, &[handler(1, 0, &con(1))])]);
-    let calls = [&[Call::Arrive(0)][..], &[Call::Step; 7], &[Call::Arrive(1)]].concat();
+    let calls = [&[Call::Arrive(0, 0)][..], &[Call::Step; 7], &[Call::Arrive(1, 0)]].concat();
     assert_eq!(marks_of(&broken, &calls), [false, true], "what a broken-in handler found is dropped");
 }
 
@@ -215,16 +215,16 @@ fn rest_day() {
     let mut table = Guarded::new(TABLE + 8, 0x33);
     let sheet = compare::compile(&[], &[], &mut table).expect("a sheet of no bytes");
     assert!(sheet.ranks.is_empty() && sheet.behaviours.is_empty());
-    let calls: Vec<Call> = [0, 1, 31, 32, u32::MAX].iter().flat_map(|&n| [Call::Arrive(n), Call::Step, Call::Board(n)]).collect();
+    let calls: Vec<Call> = [0, 1, 31, 32, u32::MAX].iter().flat_map(|&n| [Call::Arrive(n, 0), Call::Step, Call::Board(n, 0)]).collect();
     compare::run(&sheet, &table, &calls);
     let mut round = vec![0u8; 2048];
     assert_eq!(proved::start(table.part(), &mut round), 0);
     let fresh = round.clone();
     for c in calls {
         let want = match c {
-            Call::Arrive(_) => 15,
+            Call::Arrive(..) => 15,
             Call::Step => 0,
-            Call::Board(_) => 18,
+            Call::Board(..) => 18,
         };
         assert_eq!(compare::call(table.part(), &mut round, c), want, "a rest day, {c:?}");
     }
@@ -239,30 +239,30 @@ fn preview() {
     proved::start(&table, &mut round);
     let value = |round: &[u8], e: u32, i: u32| {
         let before = round.to_vec();
-        let v = proved::preview(&table, round, e, i) as i64 - (1 << 32);
+        let v = proved::preview(&table, round, e, i, 0) as i64 - (1 << 32);
         assert!(before == round, "a preview changed the round");
         v
     };
     assert_eq!((value(&round, 0, 0), value(&round, 0, 1)), (2, 1), "event 0 from fresh");
-    proved::arrive(&table, &mut round, 0);
+    proved::arrive(&table, &mut round, 0, 0);
     assert_eq!((value(&round, 0, 0), value(&round, 0, 1)), (3, 2), "event 0 behind event 0");
-    while proved::board(&table, &round, 0) != 19 {
+    while proved::board(&table, &round, 0, 0) != 19 {
         proved::step(&table, &mut round);
     }
     assert_eq!((value(&round, 0, 0), value(&round, 0, 1)), (3, 2), "event 0 during copy-back");
     assert_eq!((value(&round, 1, 0), value(&round, 1, 1)), (2, 1), "event 1 during copy-back");
-    assert_eq!(proved::preview(&table, &round, 2, 2), 15, "15 before 18");
-    assert_eq!(proved::preview(&table, &round, 1, 2), 18, "behaviour 2");
-    assert_eq!(proved::preview(&table[1..], &round, 0, 0), 14, "a table of 34,815 bytes");
-    assert_eq!(proved::preview(&table, &round[1..], 0, 0), 14, "a round of 2,047 bytes");
-    while proved::arrive(&table, &mut round, 0) == 0 {}
-    assert_eq!(proved::preview(&table, &round, 2, 2), 15, "15 before 16");
-    assert_eq!(proved::preview(&table, &round, 0, 2), 16, "16 before 18");
+    assert_eq!(proved::preview(&table, &round, 2, 2, 0), 15, "15 before 18");
+    assert_eq!(proved::preview(&table, &round, 1, 2, 0), 18, "behaviour 2");
+    assert_eq!(proved::preview(&table[1..], &round, 0, 0, 0), 14, "a table of 34,815 bytes");
+    assert_eq!(proved::preview(&table, &round[1..], 0, 0, 0), 14, "a round of 2,047 bytes");
+    while proved::arrive(&table, &mut round, 0, 0) == 0 {}
+    assert_eq!(proved::preview(&table, &round, 2, 2, 0), 15, "15 before 16");
+    assert_eq!(proved::preview(&table, &round, 0, 2, 0), 16, "16 before 18");
     proved::start(&table, &mut round);
     table[2048..2052].fill(0);
-    assert_eq!(proved::preview(&table, &round, 0, 2), 18, "18 before the steps' 14");
-    assert_eq!(proved::preview(&table, &round, 0, 0), 14, "event 0's first instruction is foreign");
-    assert_eq!(proved::arrive(&table, &mut round, 0), 0, "the arrival is not");
+    assert_eq!(proved::preview(&table, &round, 0, 2, 0), 18, "18 before the steps' 14");
+    assert_eq!(proved::preview(&table, &round, 0, 0, 0), 14, "event 0's first instruction is foreign");
+    assert_eq!(proved::arrive(&table, &mut round, 0, 0), 0, "the arrival is not");
 }
 
 /// 02, M-108: a circle of 64 under the last of 32 events, a shorter one beside it, one of itself, one under no event, a list of 63 bytes, and parameters lent, too few, or none.
@@ -338,7 +338,96 @@ fn parameters() {
     assert_eq!(proved::compile(&sheet, &more, &mut table), 0);
     proved::start(&table, &mut round);
     for (i, v) in values.iter().enumerate() {
-        assert_eq!(proved::board(&table, &round, i as u32) as i32, *v, "parameter {i}");
+        assert_eq!(proved::board(&table, &round, i as u32, 0) as i32, *v, "parameter {i}");
+    }
+}
+
+/// M-107 in the sheet: an event of length 2, a field 08 at the end of a passive and of an active, and what is refused there.
+fn rights() {
+    let seen = |m: u8| field(8, &[m]);
+    let with = |end: &[u8]| passive(&join(&[con(1), end.to_vec()]));
+    let handled = |end: &[u8]| join(&[event(0), active(1, &[handler(0, 0, &con(1)), end.to_vec()])]);
+    check("an event of length 2", &field(1, &[15, 0]), 0);
+    check("an event of length 3", &field(1, &[16, 0, 0]), 6);
+    check("rank 16 in two bytes", &field(1, &[16, 0]), 8);
+    check("who may see a passive", &with(&seen(0)), 0);
+    check("who may see an active", &handled(&seen(255)), 0);
+    check("who may see an active with no handler", &active(1, &[seen(2)]), 0);
+    for both in [with as fn(&[u8]) -> Vec<u8>, handled as fn(&[u8]) -> Vec<u8>] {
+        check("a field 08 of no bytes", &both(&field(8, &[])), 6);
+        check("a field 08 of two bytes", &both(&field(8, &[0, 0])), 6);
+        check("a field 08 cut short", &both(&[8, 0]), 4);
+        check("a field 08 past its end", &both(&[8, 0, 1]), 4);
+        check("two fields 08", &both(&join(&[seen(1), seen(1)])), 6);
+        check("a byte past a field 08", &both(&join(&[seen(1), vec![8]])), 6);
+        check("a handler past a field 08", &both(&join(&[seen(1), handler(0, 0, &con(1))])), 6);
+    }
+    check("another field past an expression", &with(&field(9, &[0])), 6);
+    check("one byte past an expression", &with(&[5]), 6);
+    check("another field past a handler", &handled(&field(9, &[0])), 5);
+    check("one byte past a handler", &handled(&[9]), 4);
+    check("a field 08 before the start", &field(3, &seen(1)), 5);
+    check("a field 08 in a handler", &join(&[event(0), active(0, &[handler(0, 0, &join(&[con(1), seen(1)]))])]), 6);
+    check("a field 08 alone", &seen(1), 5);
+}
+
+/// M-107 in a round: event 0 is player 1's, event 1 everybody's; b0 is hidden from all but the host and player 2, b1 is seen by all. Which refusal comes first, what the hand and the answers keep, what the
+/// others are told.
+fn players() {
+    let over = app(4, &[con(i32::MAX), con(1)]);
+    let sheet = join(&[
+        field(1, &[1, 2]),
+        event(2),
+        active(5, &[handler(0, 0, &over), field(8, &[4])]),
+        active(7, &[]),
+    ]);
+    let (mut table, mut round) = (vec![0u8; TABLE], vec![0u8; proved::ROUND]);
+    assert_eq!(proved::compile(&sheet, &[], &mut table), 0);
+    proved::start(&table, &mut round);
+    for who in 0..10 {
+        let arrives = |e: u32| proved::arrive(&table, &mut round.clone(), e, who);
+        let reads = |i: u32| proved::board(&table, &round, i, who);
+        let tries = |e: u32, i: u32| proved::preview(&table, &round, e, i, who);
+        let no = |right: bool, n: u64| if who > 7 { 24 } else if right { n } else { 25 };
+        let value = |v: u64| (1u64 << 32) + v;
+        assert_eq!(arrives(0) as u64, no(who < 2, 0), "event 0 of {who}");
+        assert_eq!(arrives(1) as u64, no(true, 0), "event 1 of {who}");
+        assert_eq!(arrives(2) as u64, no(true, 15), "event 2 of {who}");
+        assert_eq!(proved::arrive(&table[1..], &mut round.clone(), 0, who), 14, "14 before 24");
+        assert_eq!(reads(0), no(who == 0 || who == 2, value(5)), "b0 for {who}");
+        assert_eq!(reads(1), no(true, value(7)), "b1 for {who}");
+        assert_eq!(reads(2), no(true, 18), "b2 for {who}");
+        assert_eq!(proved::board(&table, &round[1..], 0, who), 14, "14 before 24");
+        assert_eq!(tries(0, 0), no(who == 0, value(1 << 31)), "both rights, {who}");
+        assert_eq!(tries(0, 1), no(who < 2, value(7)), "the event's right, {who}");
+        assert_eq!(tries(1, 0), no(who == 0 || who == 2, value(5)), "the behaviour's right, {who}");
+        assert_eq!(tries(0, 2), no(who < 2, 18), "25 for the event before 18, {who}");
+        assert_eq!(tries(2, 0), no(true, 15), "15 before 25, {who}");
+        assert_eq!(proved::preview(&table, &round[1..], 0, 0, who), 14, "14 before 24");
+    }
+    proved::arrive(&table, &mut round, 0, 1);
+    assert_eq!(proved::step(&table, &mut round), 2 + 16, "event 0 of player 1 starts");
+    proved::arrive(&table, &mut round, 1, 7);
+    let mut said = vec![];
+    while said.last() != Some(&0) {
+        said.push(proved::step(&table, &mut round));
+    }
+    said.retain(|a| *a > 1);
+    let both = |kind: u64, n: u64, e: u64, who: u64| n * 65536 + e * 256 + who * 16 + kind;
+    let over = both(3, 0, 0, 1) + (1 << 56);
+    assert_eq!(said, [both(4, 1, 1, 7), both(3, 1, 1, 7), both(2, 0, 0, 1), over], "the answers keep the players");
+    assert_eq!(said.iter().map(|a| proved::told(*a)).collect::<Vec<_>>(), [said[0], said[1], said[2], both(3, 0, 0, 1)], "told without the mark");
+    (0..64).for_each(|_| assert_eq!(proved::arrive(&table, &mut round, 1, 3), 0));
+    assert_eq!(proved::arrive(&table, &mut round, 0, 3), 25, "25 before 16");
+    assert_eq!(proved::arrive(&table, &mut round, 1, 3), 16, "a full hand");
+    let good = round.clone();
+    for at in [9, 9 + 2 * 63] {
+        let w = crate::words::get(&good, at);
+        for (word, want) in [(w % 256 + 7 * 256, 2), (w % 256 + 8 * 256, 14), (2 + 256, 14)] {
+            round.copy_from_slice(&good);
+            crate::words::put(&mut round, at, word);
+            assert_eq!(proved::step(&table, &mut round) % 16, want, "word {word} in hand at {at}");
+        }
     }
 }
 
@@ -353,7 +442,7 @@ pub fn run() {
     check("8,193 bytes", &of_bytes(8193, &name(0)), 3);
     check("torn", &s[..73], 4);
     check("wrong tag", &join(&[passive(&con(1)), event(1)]), 5);
-    check("wrong length", &field(1, &[1, 2]), 6);
+    check("wrong length", &field(1, &[]), 6);
     check("32 events", &join(&vec![event(1); 32]), 0);
     check("33 events", &join(&vec![event(1); 33]), 7);
     check("64 behaviours", &join(&vec![passive(&con(1)); 64]), 0);
@@ -384,9 +473,11 @@ pub fn run() {
     marks();
     rest_day();
     parameters();
+    rights();
+    players();
     preview();
     crate::formula::limits();
     circles();
     spent();
-    println!("limits: every refusal of compile, both sides of each limit, forecasts, quotients, marks, a rest day, parameters, previews, formulas, circles, 1,000,000 arrivals");
+    println!("limits: every refusal of compile, both sides of each limit, forecasts, quotients, marks, a rest day, parameters, rights in sheets, players, previews, formulas, circles, 1,000,000 arrivals");
 }

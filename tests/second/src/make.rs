@@ -69,6 +69,11 @@ pub fn params(r: &mut Rng) -> Vec<u8> {
     out
 }
 
+/// So many bytes on who may send or see, some of them missing; all are where none is said.
+fn rights(r: &mut Rng, n: usize, said: bool) -> Vec<Option<u8>> {
+    (0..n).map(|_| (said && !r.one_in(3)).then(|| r.next() as u8)).collect()
+}
+
 /// A sheet that is mostly accepted: names mostly lead to behaviours further down in a hidden order.
 pub fn sheet(r: &mut Rng) -> Sheet {
     let events = if r.one_in(12) { 32 } else { r.below(5) };
@@ -101,7 +106,9 @@ pub fn sheet(r: &mut Rng) -> Sheet {
             Behaviour::Active(constant(r), hs)
         })
         .collect();
-    Sheet { ranks: (0..events).map(|_| r.below(4) as u8).collect(), behaviours }
+    let ranks = (0..events).map(|_| r.below(4) as u8).collect();
+    let said = r.one_in(2);
+    Sheet { ranks, behaviours, senders: rights(r, events, said), viewers: rights(r, n, said) }
 }
 
 fn field(tag: u8, v: Vec<u8>) -> Vec<u8> {
@@ -125,10 +132,12 @@ fn encode_expr(e: &Expr) -> Vec<u8> {
 
 pub fn encode(s: &Sheet) -> Vec<u8> {
     let mut out = Vec::new();
-    s.ranks.iter().for_each(|r| out.extend(field(1, vec![*r])));
-    for b in &s.behaviours {
-        out.extend(match b {
-            Behaviour::Passive(e) => field(2, encode_expr(e)),
+    for (rank, sender) in s.ranks.iter().zip(&s.senders) {
+        out.extend(field(1, [*rank].into_iter().chain(*sender).collect()));
+    }
+    for (b, viewer) in s.behaviours.iter().zip(&s.viewers) {
+        let (tag, mut v) = match b {
+            Behaviour::Passive(e) => (2, encode_expr(e)),
             Behaviour::Active(w, hs) => {
                 let mut v = field(4, w.to_be_bytes().to_vec());
                 for h in hs {
@@ -136,9 +145,11 @@ pub fn encode(s: &Sheet) -> Vec<u8> {
                     x.extend(encode_expr(&h.expr));
                     v.extend(field(5, x));
                 }
-                field(3, v)
+                (3, v)
             }
-        });
+        };
+        viewer.iter().for_each(|m| v.extend(field(8, vec![*m])));
+        out.extend(field(tag, v));
     }
     out
 }
@@ -163,13 +174,18 @@ pub fn damaged(r: &mut Rng, mut s: Vec<u8>) -> Vec<u8> {
     s
 }
 
+/// One of the eight, mostly, or 8 or 9; now and then a large number.
+pub fn player(r: &mut Rng) -> u32 {
+    if r.one_in(50) { r.next() as u32 } else { r.below(10) as u32 }
+}
+
 pub fn calls(r: &mut Rng, sheet: &Sheet, n: usize) -> Vec<Call> {
     let busy = 2 + r.below(20);
     (0..n)
         .map(|_| match r.below(busy + 3) {
-            0 => Call::Arrive(r.below(sheet.ranks.len() + 1) as u32),
-            1 if !sheet.ranks.is_empty() => Call::Arrive(r.below(sheet.ranks.len()) as u32),
-            2 => Call::Board(r.below(sheet.behaviours.len() + 2) as u32),
+            0 => Call::Arrive(r.below(sheet.ranks.len() + 1) as u32, player(r)),
+            1 if !sheet.ranks.is_empty() => Call::Arrive(r.below(sheet.ranks.len()) as u32, player(r)),
+            2 => Call::Board(r.below(sheet.behaviours.len() + 2) as u32, player(r)),
             _ => Call::Step,
         })
         .collect()

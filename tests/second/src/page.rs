@@ -41,9 +41,9 @@ fn parameters(section: &str, program: &str) {
         let (mut table, mut round) = (vec![0u8; TABLE], vec![0u8; ROUND]);
         assert_eq!(proved::compile(&bytes, &params, &mut table), 0, "the sheet with a parameter");
         proved::start(&table, &mut round);
-        (0..3).for_each(|_| assert_eq!(proved::arrive(&table, &mut round, 0), 0));
+        (0..3).for_each(|_| assert_eq!(proved::arrive(&table, &mut round, 0, 0), 0));
         while proved::step(&table, &mut round) != 0 {}
-        assert_eq!(proved::board(&table, &round, 0) as i32, numbers[1], "b0 with parameter {}", numbers[0]);
+        assert_eq!(proved::board(&table, &round, 0, 0) as i32, numbers[1], "b0 with parameter {}", numbers[0]);
     }
 }
 

@@ -5,12 +5,13 @@ mod c {
         pub fn compile(sheet: *const u8, sheet_len: usize, params: *const u8, params_len: usize, table: *mut u8, table_len: usize) -> u32;
         pub fn circle(sheet: *const u8, sheet_len: usize, params: *const u8, params_len: usize, list: *mut u8, list_len: usize) -> u64;
         pub fn start(table: *const u8, table_len: usize, round: *mut u8, round_len: usize) -> u32;
-        pub fn arrive(table: *const u8, table_len: usize, round: *mut u8, round_len: usize, event: u32) -> u32;
+        pub fn arrive(table: *const u8, table_len: usize, round: *mut u8, round_len: usize, event: u32, player: u32) -> u32;
         pub fn step(table: *const u8, table_len: usize, round: *mut u8, round_len: usize) -> u64;
         pub fn replay(table: *const u8, table_len: usize, round: *mut u8, round_len: usize, calls: *const u8, calls_len: usize, answers: *mut u8, answers_len: usize) -> usize;
-        pub fn board(table: *const u8, table_len: usize, round: *const u8, round_len: usize, behaviour: u32) -> u64;
+        pub fn board(table: *const u8, table_len: usize, round: *const u8, round_len: usize, behaviour: u32, player: u32) -> u64;
         pub fn forecast(table: *const u8, table_len: usize, round: *const u8, round_len: usize) -> u64;
-        pub fn preview(table: *const u8, table_len: usize, round: *const u8, round_len: usize, event: u32, behaviour: u32) -> u64;
+        pub fn preview(table: *const u8, table_len: usize, round: *const u8, round_len: usize, event: u32, behaviour: u32, player: u32) -> u64;
+        pub fn told(answer: u64) -> u64;
         pub fn formula(text: *const u8, text_len: usize, buffer: *mut u8, buffer_len: usize) -> u64;
     }
 }
@@ -30,8 +31,8 @@ pub fn start(table: &[u8], round: &mut [u8]) -> u32 {
     unsafe { c::start(table.as_ptr(), table.len(), round.as_mut_ptr(), round.len()) }
 }
 
-pub fn arrive(table: &[u8], round: &mut [u8], event: u32) -> u32 {
-    unsafe { c::arrive(table.as_ptr(), table.len(), round.as_mut_ptr(), round.len(), event) }
+pub fn arrive(table: &[u8], round: &mut [u8], event: u32, player: u32) -> u32 {
+    unsafe { c::arrive(table.as_ptr(), table.len(), round.as_mut_ptr(), round.len(), event, player) }
 }
 
 pub fn step(table: &[u8], round: &mut [u8]) -> u64 {
@@ -42,16 +43,20 @@ pub fn replay(table: &[u8], round: &mut [u8], calls: &[u8], answers: &mut [u8]) 
     unsafe { c::replay(table.as_ptr(), table.len(), round.as_mut_ptr(), round.len(), calls.as_ptr(), calls.len(), answers.as_mut_ptr(), answers.len()) }
 }
 
-pub fn board(table: &[u8], round: &[u8], behaviour: u32) -> u64 {
-    unsafe { c::board(table.as_ptr(), table.len(), round.as_ptr(), round.len(), behaviour) }
+pub fn board(table: &[u8], round: &[u8], behaviour: u32, player: u32) -> u64 {
+    unsafe { c::board(table.as_ptr(), table.len(), round.as_ptr(), round.len(), behaviour, player) }
 }
 
 pub fn forecast(table: &[u8], round: &[u8]) -> u64 {
     unsafe { c::forecast(table.as_ptr(), table.len(), round.as_ptr(), round.len()) }
 }
 
-pub fn preview(table: &[u8], round: &[u8], event: u32, behaviour: u32) -> u64 {
-    unsafe { c::preview(table.as_ptr(), table.len(), round.as_ptr(), round.len(), event, behaviour) }
+pub fn preview(table: &[u8], round: &[u8], event: u32, behaviour: u32, player: u32) -> u64 {
+    unsafe { c::preview(table.as_ptr(), table.len(), round.as_ptr(), round.len(), event, behaviour, player) }
+}
+
+pub fn told(answer: u64) -> u64 {
+    unsafe { c::told(answer) }
 }
 
 pub fn formula(text: &[u8], buffer: &mut [u8]) -> u64 {

@@ -18,6 +18,19 @@ fn foreign_table(t: &[u8]) -> bool {
     t.len() < 34816 || get(t, 0) > 32 || get(t, 1) > 64 || (0..get(t, 0)).any(|e| record(t, e)[1] as u64 + record(t, e)[2] as u64 > 4096)
 }
 
+/// Event and player of a word in hand.
+fn event(w: u32) -> u32 {
+    w % 256
+}
+
+fn player(w: u32) -> u32 {
+    w / 256
+}
+
+fn may(byte: u32, who: u32) -> bool {
+    who == 0 || byte >> who & 1 == 1
+}
+
 fn foreign(t: &[u8], l: &[u8]) -> bool {
     if foreign_table(t) || l.len() < 2048 {
         return true;
@@ -27,26 +40,26 @@ fn foreign(t: &[u8], l: &[u8]) -> bool {
     if waiting as u64 + runs as u64 > 64 || get(l, 6) > 64 {
         return true;
     }
-    let event = get(l, 3);
-    (0..waiting as usize).any(|i| get(l, 9 + 2 * i) >= known) || runs && (event >= known || get(l, 5) >= record(t, event)[2])
+    let stray = |w: u32| event(w) >= known || player(w) > 7;
+    (0..waiting as usize).any(|i| stray(get(l, 9 + 2 * i))) || runs && (stray(get(l, 3)) || get(l, 5) >= record(t, event(get(l, 3)))[2])
 }
 
 fn copying_back(t: &[u8], l: &[u8]) -> bool {
-    let [_, _, len, members] = record(t, get(l, 3));
+    let [_, _, len, members] = record(t, event(get(l, 3)));
     get(l, 2) != 0 && get(l, 5) as u64 + members as u64 + 1 >= len as u64
 }
 
 fn masked(t: &[u8], l: &[u8]) -> bool {
     let c = get(l, 5);
-    copying_back(t, l) || c > 0 && c as u64 <= record(t, get(l, 3))[3] as u64 + 1
+    copying_back(t, l) || c > 0 && c as u64 <= record(t, event(get(l, 3)))[3] as u64 + 1
 }
 
 fn run(l: &mut [u8], n: u32, e: u32) {
     [1, e, n, 0, 0, 0].iter().enumerate().for_each(|(k, w)| put(l, 2 + k, *w));
 }
 
-fn said(kind: u64, n: u32, e: u32) -> u64 {
-    n as u64 * 65536 + e as u64 * 256 + kind
+fn said(kind: u64, n: u32, w: u32) -> u64 {
+    n as u64 * 65536 + event(w) as u64 * 256 + player(w) as u64 * 16 + kind
 }
 
 /// One instruction, or `None` where it is foreign.
@@ -101,7 +114,7 @@ fn execute(l: &mut [u8], op: u32, slot: usize, w: u32) -> Option<()> {
 
 fn advance(t: &[u8], l: &mut [u8]) -> u64 {
     let (e, n, c) = (get(l, 3), get(l, 4), get(l, 5));
-    let [_, start, len, _] = record(t, e);
+    let [_, start, len, _] = record(t, event(e));
     let k = 512 + 2 * (start + c) as usize;
     if execute(l, get(t, k) / 256, get(t, k) as usize % 256, get(t, k + 1)).is_none() {
         return 14;
@@ -118,12 +131,12 @@ fn step(t: &[u8], l: &mut [u8]) -> u64 {
     let waiting = get(l, 1) as usize;
     let runs = get(l, 2) != 0;
     let ahead = |i: usize, b: usize| {
-        let (p, q) = (record(t, get(l, 9 + 2 * i))[0], record(t, get(l, 9 + 2 * b))[0]);
+        let (p, q) = (record(t, event(get(l, 9 + 2 * i)))[0], record(t, event(get(l, 9 + 2 * b)))[0]);
         p > q || p == q && get(l, 8 + 2 * i) < get(l, 8 + 2 * b)
     };
     let best = (0..waiting).fold(0, |b, i| if ahead(i, b) { i } else { b });
     let (n, e) = if waiting > 0 { (get(l, 8 + 2 * best), get(l, 9 + 2 * best)) } else { (0, 0) };
-    if runs && waiting > 0 && !masked(t, l) && record(t, e)[0] > record(t, get(l, 3))[0] {
+    if runs && waiting > 0 && !masked(t, l) && record(t, event(e))[0] > record(t, event(get(l, 3)))[0] {
         let (old_n, old_e) = (get(l, 4), get(l, 3));
         put(l, 8 + 2 * best, old_n);
         put(l, 9 + 2 * best, old_e);
@@ -149,21 +162,24 @@ pub fn call(t: &[u8], l: &mut [u8], c: Call) -> u64 {
         return 14;
     }
     match c {
-        Call::Arrive(e) if e >= get(t, 0) => 15,
-        Call::Arrive(_) if get(l, 1) + (get(l, 2) != 0) as u32 >= 64 => 16,
-        Call::Arrive(_) if get(l, 0) >= 1_000_000 => 17,
-        Call::Arrive(e) => {
+        Call::Arrive(_, who) | Call::Board(_, who) if who > 7 => 24,
+        Call::Arrive(e, _) if e >= get(t, 0) => 15,
+        Call::Arrive(e, who) if !may(get(t, 264 + e as usize), who) => 25,
+        Call::Arrive(..) if get(l, 1) + (get(l, 2) != 0) as u32 >= 64 => 16,
+        Call::Arrive(..) if get(l, 0) >= 1_000_000 => 17,
+        Call::Arrive(e, who) => {
             let (n, k) = (get(l, 1), get(l, 0));
             put(l, 8 + 2 * n as usize, k);
-            put(l, 9 + 2 * n as usize, e);
+            put(l, 9 + 2 * n as usize, 256 * who + e);
             put(l, 0, k + 1);
             put(l, 1, n + 1);
             0
         }
         Call::Step => step(t, l),
-        Call::Board(i) if i >= get(t, 1) => 18,
-        Call::Board(_) if copying_back(t, l) => 19,
-        Call::Board(i) => (1 << 32) + get(l, 136 + i as usize) as u64,
+        Call::Board(i, _) if i >= get(t, 1) => 18,
+        Call::Board(i, who) if !may(get(t, 200 + i as usize), who) => 25,
+        Call::Board(..) if copying_back(t, l) => 19,
+        Call::Board(i, _) => (1 << 32) + get(l, 136 + i as usize) as u64,
     }
 }
 
@@ -185,22 +201,25 @@ pub fn forecast(t: &[u8], l: &[u8]) -> u64 {
     let len = |e: u32| record(t, e)[2] as u64;
     let waiting = get(l, 1) as usize;
     let steps: u64 = if get(l, 2) == 0 {
-        (0..waiting).map(|i| len(get(l, 9 + 2 * i)) + 1).sum()
+        (0..waiting).map(|i| len(event(get(l, 9 + 2 * i))) + 1).sum()
     } else {
         (waiting as u64 + 1 + 1) * ((0..get(t, 0)).map(len).max().unwrap_or(0) + 1)
     };
     (1 << 32) + steps
 }
 
-/// Document 02, M-101: the arrival, and steps until idle, on a copy. Turned down as the arrival, then by 18, last by 14 where a step is or 01's count runs out.
-pub fn preview(t: &[u8], l: &[u8], e: u32, i: u32) -> u64 {
+/// Document 02, M-101: the arrival, and steps until idle, on a copy. Turned down as the arrival, then by 18 and 25, last by 14 where a step is or 01's count runs out.
+pub fn preview(t: &[u8], l: &[u8], e: u32, i: u32, who: u32) -> u64 {
     let mut copy = l.to_vec();
-    let taken = call(t, &mut copy, Call::Arrive(e));
+    let taken = call(t, &mut copy, Call::Arrive(e, who));
     if taken != 0 {
         return taken;
     }
     if i >= get(t, 1) {
         return 18;
+    }
+    if !may(get(t, 200 + i as usize), who) {
+        return 25;
     }
     let in_hand = get(&copy, 1) + (get(&copy, 2) != 0) as u32;
     let longest = (0..get(t, 0)).map(|e| record(t, e)[2]).max().unwrap_or(0);

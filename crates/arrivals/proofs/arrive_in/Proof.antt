@@ -1,4 +1,5 @@
--- The reads are the definition's, by their contracts.
+-- Each return is one branch of the definition.
+use Rattle.base.specs.Pick.{code}
 use Rattle.arrivals.specs.Arrivals.{arriveIn}
 use borrow.Author.Needs.{needs}
 use Rattle.arrivals.proofs.arrive_in.Statement.{statement}
@@ -9,11 +10,9 @@ unfolding arriveIn
 arrive-in-spec =
     tie.close
     (tie.spec
+    (λ c. search code depth 12)
     (λ c κs. search needs)
-    (λ c κs. search needs)
-    (λ c κs. search needs)
-    (λ c κs. search needs)
-    (λ c κs. search needs)
+    (λ c. rw (← c .before .get-word .ensures) (search code depth 12))
     (λ c κs. search needs)
     (λ c. search needs)
-    (λ c. cc (c .before .before .before .before .before .before .before .before .before .before .before .get-word .ensures, c .before .before .before .before .before .before .before .before .before .get-word2 .ensures, c .before .before .before .before .before .before .before .get-word3 .ensures, c .before .before .before .before .before .before .is-full .ensures .0, c .before .before .before .before .get-word4 .ensures, c .before .before .arrive-with .ensures)))
+    (λ c. rw (← c .before .before .before .before .before .get-word .ensures, c .before .before .arrive-known .ensures) (search code depth 12)))

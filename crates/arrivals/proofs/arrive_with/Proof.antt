@@ -2,6 +2,7 @@
 use Prim.Native.Nat.{_≤_}
 use Rattle.base.specs.Pick.{code}
 use native.Mathlib.Omega.{arith}
+use borrow.Author.Tests.{not-true, not-false}
 use Rattle.arrivals.specs.Arrivals.{arriveWith}
 use borrow.Author.Needs.{needs}
 use Rattle.arrivals.proofs.arrive_with.Statement.{statement}
@@ -12,9 +13,9 @@ unfolding arriveWith
 arrive-with-spec =
     tie.close
     (tie.spec
-    (λ c. let h : c .before .before .args .known ≤ c .before .before .args .e = omega arith in search code depth 12)
-    (λ c. search code depth 12)
-    (λ c. let h : 1000000 ≤ c .before .before .before .before .args .k = omega arith in search code depth 12)
+    (λ c. let h = not-true (c .before .before .args .right) (c .if1 .taken) in rw h)
+    (λ c. let h = not-false (c .before .before .before .args .right) (c .before .if1 .left) in rw (h, c .if2 .taken))
+    (λ c. let h = not-false (c .before .before .before .before .args .right) (c .before .before .if1 .left) in let k : 1000000 ≤ c .before .before .before .before .args .k = omega arith in rw h (search code depth 12))
     (λ c κs. let h = c .before .before .before .before .before .pre .1 (c .before .before .if2 .left) in omega arith)
     (λ c. search needs)
-    (λ c. rw (c .before .before .admit-on .ensures) (search code depth 12)))
+    (λ c. let h = not-false (c .before .before .before .before .before .before .before .before .args .right) (c .before .before .before .before .before .before .if1 .left) in rw (h, c .before .before .admit-on .ensures) (search code depth 12)))

@@ -29,9 +29,9 @@ read-active-spec =
     (λ c κs.
     let h = rw (c .before .before .before .before .before .a .given .1) at (c .before .before .before .before .before .before .before .field-answer .ensures .1) in
     simp length-set (omega arith))
-    (λ c. rw length-set at (c .before .before .read-handlers .kept .1 .1 .1 .0))
+    (λ c. rw length-set at (c .before .before .read-body .kept .1 .1 .1 .0))
     (λ c. (
       active-taken _ _ _ _ _ (c .before .before .before .before .before .before .before .before .before .before .field-answer .ensures .0) (c .before .before .before .before .before .before .before .before .a .given .1) (c .before .before .before .before .before .before .if1 .left) (c .before .before .before .before .before .field-value .ensures .0) (c .before .before .before .before .get-at .ensures)
-          (c .before .before .read-handlers .ensures .0),
-      c .before .before .read-handlers .ensures .1,
+          (c .before .before .read-body .ensures .0),
+      c .before .before .read-body .ensures .1,
     )))

@@ -1,4 +1,5 @@
--- The reads are the definition's, by their contracts.
+-- Each return is one branch of the definition.
+use Rattle.base.specs.Pick.{code}
 use Rattle.board.specs.Board.{boardIn}
 use borrow.Author.Needs.{needs}
 use Rattle.board.proofs.board_in.Statement.{statement}
@@ -9,12 +10,8 @@ unfolding boardIn
 board-in-spec =
     tie.close
     (tie.spec
+    (λ c. search code depth 12)
     (λ c κs. search needs)
+    (λ c. rw (← c .before .get-word .ensures) (search code depth 12))
     (λ c κs. search needs)
-    (λ c κs. search needs)
-    (λ c κs. search needs)
-    (λ c κs. search needs)
-    (λ c κs. search needs)
-    (λ c κs. search needs)
-    (λ c κs. search needs)
-    (λ c. cc (c .before .before .before .before .before .before .before .get-word .ensures, c .before .before .before .before .before .before .get-word2 .ensures, c .before .before .before .before .before .get-word3 .ensures, c .before .before .before .before .get-word4 .ensures, c .before .before .before .event-word .ensures, c .before .before .event-word2 .ensures, c .before .is-settling .ensures, c .board-with .ensures)))
+    (λ c. rw (← c .before .before .get-word .ensures) (search code depth 12)))

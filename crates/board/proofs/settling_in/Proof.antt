@@ -15,4 +15,4 @@ settling-in-spec =
     (λ c κs. search needs)
     (λ c κs. search needs)
     (λ c κs. search needs)
-    (λ c. cc (c .before .before .before .before .before .get-word .ensures, c .before .before .before .before .get-word2 .ensures, c .before .before .before .get-word3 .ensures, c .before .before .event-word .ensures, c .before .event-word2 .ensures, c .is-settling .ensures)))
+    (λ c. cc (c .before .before .before .before .before .get-word .ensures, c .before .before .before .before .event-at .ensures, c .before .before .before .get-word2 .ensures, c .before .before .event-word .ensures, c .before .event-word2 .ensures, c .is-settling .ensures)))

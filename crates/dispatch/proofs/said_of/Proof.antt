@@ -1,6 +1,6 @@
 -- The sum is the definition's.
-use Rattle.base.specs.Pick.{code}
 use Rattle.dispatch.specs.Dispatch.{said}
+use Rattle.base.specs.Pick.{code}
 use borrow.Author.Needs.{needs}
 use Rattle.dispatch.proofs.said_of.Statement.{statement}
 use Rattle.dispatch.proofs.said_of.Tie as tie
@@ -10,8 +10,14 @@ unfolding said
 said-of-spec =
     tie.close
     (tie.spec
+    (λ c κs. search needs)
+    (λ c. search needs)
+    (λ c κs. search needs)
     (λ c. search needs)
     (λ c. search needs)
     (λ c. search needs)
     (λ c. search needs)
-    (λ c. search code depth 12))
+    (λ c. search needs)
+    (λ c. search needs)
+    (λ c. search needs)
+    (λ c. rw (c .player-of .ensures, c .before .event-of .ensures) (search code depth 12)))

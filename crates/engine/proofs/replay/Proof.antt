@@ -1,5 +1,5 @@
 -- `engine::replay` meets its contract. The loop keeps: the calls that are left, made where it stands, give the whole. Assumes nothing.
-use Prim.Native.Nat.{_-_}
+use Prim.Native.Nat.{_+_, _*_, _-_}
 use mathlib.Core.Path.{refl}
 use native.Mathlib.Omega.{arith}
 use borrow.Author.Needs.{needs}
@@ -25,15 +25,18 @@ replay-spec =
     (λ c. omega arith)
     (λ c. omega arith)
     (λ c κs. omega arith)
+    (λ c. omega arith)
+    (λ c. omega arith)
+    (λ c. omega (arith, c .shared-slice-known4 .given (c .before .before .before .before .before .loop .i * 6 + 5)))
     (λ c κs. search needs)
     (λ c κs. omega arith)
     (λ c. omega arith)
     (λ c. omega arith)
     (λ c.
     let call = c .before .before .before .before .before .before .make-call in
-    turn (c .before .before .before .before .before .before .before .before .before .before .before .loop .inv)
-    (c .before .before .before .before .before .before .before .before .before .before .loop-test .taken)
-    (rw (c .before .before .before .before .before .before .before .get-at .ensures) at (call .ensures))
+    turn (c .before .before .before .before .before .before .before .before .before .before .before .before .loop .inv)
+    (c .before .before .before .before .before .before .before .before .before .before .before .loop-test .taken)
+    (rw (c .before .before .before .before .before .before .before .before .get-at .ensures) at (call .ensures))
     (c .before .before .put-answer .ensures) (search needs) (search needs))
     (λ c. omega arith)
     (λ c. omega arith)

@@ -37,7 +37,7 @@ abbrev μ-loop : tie.MeasureT-loop
 -- what the loop reads
 read : (c : tie.After-event-word Inv-loop μ-loop) → c .event-word .result ≤ 4096
 read c =
-    short _ _ (c .before .before .before .loop .i) (c .before .before .before .before .before .before .pre .0) (omega arith) (c .before .get-word .ensures)
+    short _ _ (c .before .before .before .loop .i) (c .before .before .before .before .before .before .pre .0) (omega arith) (c .before .event-at .ensures)
     (c .event-word .ensures)
 
 pub steps-in-spec : {M : Type 1} → statement M
@@ -56,7 +56,7 @@ steps-in-spec =
     (λ c. omega (arith, read c, c .before .before .before .loop .inv .small))
     (λ c. omega arith)
     (λ c. omega arith)
-    (λ c. turn (c .before .before .before .loop .inv) (c .before .before .before .before .before .before .pre .0) (omega arith) (omega arith) (c .before .get-word .ensures) (c .event-word .ensures))
+    (λ c. turn (c .before .before .before .loop .inv) (c .before .before .before .before .before .before .pre .0) (omega arith) (omega arith) (c .before .event-at .ensures) (c .event-word .ensures))
     (λ c.
     let e : c .before .loop .i ≡ c .before .before .before .before .args .n = omega arith in
     rw e at (c .before .loop .inv .same)))

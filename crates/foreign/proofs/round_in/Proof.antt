@@ -18,14 +18,18 @@ round-in-spec =
     (λ c κs. search needs)
     (λ c κs. search needs)
     (λ c κs. search needs)
+    (λ c κs. search needs)
+    (λ c κs. search needs)
     (λ c.
     rw (
-      ← c .before .before .before .before .before .before .before .before .get-word .ensures,
-      ← c .before .before .before .before .before .before .before .get-word2 .ensures,
-      ← c .before .before .before .before .before .before .get-word3 .ensures,
-      ← c .before .before .before .before .before .get-word4 .ensures,
-      ← c .before .before .before .before .get-word5 .ensures,
-      ← c .before .before .before .get-word6 .ensures,
-      ← c .before .before .event-word .ensures,
+      ← c .before .before .before .before .before .before .before .before .before .before .get-word .ensures,
+      ← c .before .before .before .before .before .before .before .before .before .get-word2 .ensures,
+      ← c .before .before .before .before .before .before .before .before .get-word3 .ensures,
+      ← c .before .before .before .before .before .before .before .get-word4 .ensures,
+      ← c .before .before .before .before .before .before .get-word5 .ensures,
+      ← c .before .before .before .before .before .get-word6 .ensures,
+      ← c .before .before .before .before .event-of .ensures,
+      ← c .before .before .before .event-word .ensures,
+      ← c .before .before .hand-fits .ensures,
       ← c .before .running-fits .ensures,
     ) (c .round-with .ensures)))

@@ -1,14 +1,13 @@
 -- `slots_fit` is `slotsFit`: the loop keeps that the first i waiting decide: `slotsFit l known n ≡ slotsFit l known i`.
 use Prim.Native.Nat.{ℕ, zero, suc, _+_, _*_, _-_, _≤_, _<_}
-use mathlib.Core.Bool.{true, false}
+use mathlib.Core.Bool.{Bool, true, false}
 use mathlib.Core.Path.{_≡_, refl, sym, _∙_}
 use mathlib.Core.List.{List}
 use native.Mathlib.Omega.{arith}
-use lib.Dec.{ltb}
-use borrow.Author.Tests.{lt-ltb, le-ltb}
+use borrow.Author.Tests.{not-true, not-false}
 use Rattle.base.specs.Basics.{pick}
 use Rattle.word.specs.Word.{get}
-use Rattle.layout.specs.Layout.{slotsFit}
+use Rattle.layout.specs.Layout.{handFits, slotsFit}
 use Rattle.foreign.proofs.slots_fit.Statement.{statement}
 use Rattle.foreign.proofs.slots_fit.Tie as tie
 
@@ -16,20 +15,16 @@ record Turn (l : List ℕ) (known n i : ℕ) : Type 0 where
   whole : slotsFit l known n ≡ slotsFit l known i
   within : i ≤ n
 
-unroll : (l : List ℕ) (known i : ℕ) → 0 < i → slotsFit l known i ≡ pick (ltb (get l (9 + (i - 1) * 2)) known) (slotsFit l known (i - 1)) false
+unroll : (l : List ℕ) (known i : ℕ) → 0 < i → slotsFit l known i ≡ pick (handFits known (get l (9 + (i - 1) * 2))) (slotsFit l known (i - 1)) false
 unfolding slotsFit
 unroll l known zero h = absurd (omega arith)
 unroll l known (suc i) h = let s : suc i - 1 ≡ i = omega arith in rw s
 
-fails : {l : List ℕ} {known n i x : ℕ} → Turn l known n i → 0 < i → x ≡ get l (9 + (i - 1) * 2) → known ≤ x → false ≡ slotsFit l known n
-fails {l} {known} {n} {i} {x} k h e b =
-    let f : ltb (get l (9 + (i - 1) * 2)) known ≡ false = le-ltb _ _ (rw e at b) in
-    sym (k .whole ∙ rw (unroll l known i h, f))
+fails : {l : List ℕ} {known n i w : ℕ} {x : Bool} → Turn l known n i → 0 < i → w ≡ get l (9 + (i - 1) * 2) → x ≡ handFits known w → x ≡ false → false ≡ slotsFit l known n
+fails {l} {known} {n} {i} k h d e f = sym (k .whole ∙ rw (unroll l known i h, ← d, ← e, f))
 
-turn : {l : List ℕ} {known n i x : ℕ} → Turn l known n i → 0 < i → x ≡ get l (9 + (i - 1) * 2) → x < known → Turn l known n (i - 1)
-turn {l} {known} {n} {i} {x} k h e b =
-    let f : ltb (get l (9 + (i - 1) * 2)) known ≡ true = lt-ltb _ _ (rw e at b) in
-    record { whole = k .whole ∙ rw (unroll l known i h, f); within = omega arith }
+turn : {l : List ℕ} {known n i w : ℕ} {x : Bool} → Turn l known n i → 0 < i → w ≡ get l (9 + (i - 1) * 2) → x ≡ handFits known w → x ≡ true → Turn l known n (i - 1)
+turn {l} {known} {n} {i} k h d e f = record { whole = k .whole ∙ rw (unroll l known i h, ← d, ← e, f); within = omega arith }
 
 end : {l : List ℕ} {known n i : ℕ} → Turn l known n i → i ≤ 0 → true ≡ slotsFit l known n
 unfolding slotsFit
@@ -53,7 +48,8 @@ slots-fit-spec =
     (λ c. omega arith)
     (λ c. omega arith)
     (λ c κs. omega arith)
-    (λ c. fails (c .before .before .before .loop .inv) (omega arith) (c .before .get-word .ensures) (c .if1 .taken))
+    (λ c κs. tt)
+    (λ c. fails (c .before .before .before .before .loop .inv) (omega arith) (c .before .before .get-word .ensures) (c .before .hand-fits .ensures) (not-true _ (c .if1 .taken)))
     (λ c. omega arith)
-    (λ c. turn (c .before .before .before .loop .inv) (omega arith) (c .before .get-word .ensures) (c .if1 .left))
+    (λ c. turn (c .before .before .before .before .loop .inv) (omega arith) (c .before .before .get-word .ensures) (c .before .hand-fits .ensures) (not-false _ (c .if1 .left)))
     (λ c. end (c .before .loop .inv) (c .loop-test .left)))

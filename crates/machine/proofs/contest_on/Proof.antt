@@ -21,4 +21,4 @@ contest-on-spec =
     (λ c κs. search needs)
     (λ c κs. search needs)
     (λ c. search needs)
-    (λ c. cc (c .before .before .before .before .before .before .before .before .before .before .before .before .before .get-word .ensures, c .before .before .before .before .before .before .before .before .before .before .before .get-word2 .ensures, c .before .before .before .before .before .before .before .before .before .get-word3 .ensures, c .before .before .before .before .before .before .before .before .event-word .ensures, c .before .before .before .before .before .before .before .event-word2 .ensures, c .before .before .before .before .before .before .is-masked .ensures, c .before .before .before .before .before .event-word3 .ensures, c .before .before .before .before .event-word4 .ensures, c .before .before .meet-on .ensures)))
+    (λ c. cc (c .before .before .before .before .before .before .before .before .before .before .before .before .before .event-at .ensures, c .before .before .before .before .before .before .before .before .before .before .before .get-word .ensures, c .before .before .before .before .before .before .before .before .before .event-at2 .ensures, c .before .before .before .before .before .before .before .before .event-word .ensures, c .before .before .before .before .before .before .before .event-word2 .ensures, c .before .before .before .before .before .before .is-masked .ensures, c .before .before .before .before .before .event-word3 .ensures, c .before .before .before .before .event-word4 .ensures, c .before .before .meet-on .ensures)))

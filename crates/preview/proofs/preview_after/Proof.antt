@@ -9,4 +9,6 @@ pub preview-after-spec : {M : Type 1} → statement M
 unfolding previewAfter
 preview-after-spec =
     tie.close
-    (tie.spec (λ c κs. search needs) (λ c. search needs) (λ c. rw (← c .before .before .preview-taken .ensures) (search code depth 12)) (λ c. search code depth 12))
+    (tie.spec
+    (λ c κs. let h = c .before .before .before .before .pre .1 (c .before .if1 .taken) in search needs)
+    (λ c. search needs) (λ c. rw (← c .before .before .preview-taken .ensures) (search code depth 12)) (λ c. search code depth 12))

@@ -27,12 +27,12 @@ better-of-spec =
     (λ c κs. search needs)
     (λ c.
     cc (
-      c .before .before .before .before .before .before .before .get-word .ensures,
+      c .before .before .before .before .before .before .before .event-at .ensures,
       c .before .before .before .before .before .before .event-word .ensures,
-      c .before .before .before .before .before .get-word2 .ensures,
+      c .before .before .before .before .before .event-at2 .ensures,
       c .before .before .before .before .event-word2 .ensures,
-      c .before .before .before .get-word3 .ensures,
-      c .before .before .get-word4 .ensures,
+      c .before .before .before .get-word .ensures,
+      c .before .before .get-word2 .ensures,
       c .before .is-ahead .ensures,
       c .one-of .ensures,
     )))

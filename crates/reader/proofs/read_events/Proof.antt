@@ -45,19 +45,19 @@ read-events-spec =
     (λ c. event-ends (c .before .before .before .before .before .before .before .before .loop .inv) (c .before .before .before .before .before .before .before .loop-test .taken) (c .before .before .before .before .read-event .ensures .0) (c .enum-told .given .1))
     (λ c. search needs)
     (λ c.
-    let h = rw (c .enum-told2 .given .1) at (c .before .before .before .before .read-event .ensures .1) in
-    let t = c .before .before .before .before .before .before .before .before .loop .inv in
-    omega (arith, t .reached, t .room, t .few, c .before .before .before .before .before .before .read-event-arg .given))
+    let h = rw (c .before .r2 .given .1) at (c .before .before .before .before .before .read-event .ensures .1) in
+    let t = c .before .before .before .before .before .before .before .before .before .loop .inv in
+    omega (arith, t .reached, t .room, t .few, c .before .before .before .before .before .before .before .read-event-arg .given))
     (λ c.
-    let h = rw (c .enum-told2 .given .1) at (c .before .before .before .before .read-event .ensures .1) in
-    let t = c .before .before .before .before .before .before .before .before .loop .inv in
-    omega (arith, t .reached, t .room, t .few, c .before .before .before .before .before .before .read-event-arg .given))
+    let h = rw (c .before .r2 .given .1) at (c .before .before .before .before .before .read-event .ensures .1) in
+    let t = c .before .before .before .before .before .before .before .before .before .loop .inv in
+    omega (arith, t .reached, t .room, t .few, c .before .before .before .before .before .before .before .read-event-arg .given))
     (λ c.
-    let h = rw (c .enum-told2 .given .1) at (c .before .before .before .before .read-event .ensures .1) in
-    let t = c .before .before .before .before .before .before .before .before .loop .inv in
-    omega (arith, t .reached, t .room, t .few, c .before .before .before .before .before .before .read-event-arg .given))
+    let h = rw (c .before .r2 .given .1) at (c .before .before .before .before .before .read-event .ensures .1) in
+    let t = c .before .before .before .before .before .before .before .before .before .loop .inv in
+    omega (arith, t .reached, t .room, t .few, c .before .before .before .before .before .before .before .read-event-arg .given))
     (λ c.
-    let call = c .before .before .before .before .read-event in
-    event-turns (c .before .before .before .before .before .before .before .before .loop .inv) (c .before .before .before .before .before .before .before .loop-test .taken) (call .ensures .0) (c .enum-told2 .given .1) (call .ensures .1) (call .kept .1 .1 .0))
+    let call = c .before .before .before .before .before .read-event in
+    event-turns (c .before .before .before .before .before .before .before .before .before .loop .inv) (c .before .before .before .before .before .before .before .before .loop-test .taken) (call .ensures .0) (c .before .r2 .given .1) (call .ensures .1) (call .kept .1 .1 .0))
     (λ c. omega (arith, c .before .loop .inv .kept))
     (λ c. events-over (c .before .loop .inv) (c .loop-test .left)))

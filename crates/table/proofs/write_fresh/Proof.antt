@@ -1,4 +1,4 @@
--- `table::write_fresh` meets its contract: the values, and zeros up to word 512. Assumes nothing.
+-- `table::write_fresh` meets its contract: the values, then the rights up to word 512. Assumes nothing.
 use mathlib.Core.Path.{refl}
 use native.Mathlib.Omega.{arith}
 use borrow.Author.Needs.{needs}
@@ -18,4 +18,6 @@ write-fresh-spec =
     (λ c κs. search needs)
     (λ c κs. search needs)
     (λ c. search needs)
-    (λ c. fresh-wrote _ _ _ (c .before .before .before .before .before .before .before .before .before .before .before .before .order-under .ensures) (c .before .before .before .before .before .before .before .before .before .fresh-values .ensures) (search needs) (c .before .before .before .before .before .before .write-values .ensures) (c .before .before .write-zeros .ensures)))
+    (λ c.
+    let rights = c .before .before .write-rights .ensures in
+    (fresh-wrote _ _ _ (c .before .before .before .before .before .before .before .before .before .before .before .before .order-under .ensures) (c .before .before .before .before .before .before .before .before .before .fresh-values .ensures) (search needs) (c .before .before .before .before .before .before .write-values .ensures) (rights .0), rights .1)))
