@@ -5,7 +5,7 @@ use mathlib.Core.List.{List}
 use lib.ListN.{getD, set, replicate}
 use lib.Dec.{eqb, ltb, leb}
 use Rattle.base.specs.Basics.{pick}
-use Rattle.draft.specs.Draft.{entryOf}
+use Rattle.draft.specs.Draft.{entryOf, usedBy}
 use Rattle.draft.specs.Entry.{kindOf, startOf, countOf, tagOf, wordOf}
 use Rattle.graph.specs.Matrix.{cell, closed}
 use Rattle.analysis.specs.Faults.{anyBelow}
@@ -35,11 +35,11 @@ unfoldable pub markNodes : List ℕ → List ℕ → ℕ → ℕ → ℕ → ℕ
 markNodes d m i but start zero = m
 markNodes d m i but start (suc k) = markNode (markNodes d m i but start k) i but (getD d (start + k) 0)
 
--- by its entry v, a passive depends on every name, 64 being none; an immediate handler on every name but its own
+-- by its entry v, a passive depends on every name, 64 being none; an immediate handler on every name but its own. The names are those that behaviour i means (02, M-110)
 unfoldable pub markEntry : List ℕ → List ℕ → ℕ → ℕ → List ℕ
 markEntry d m i v =
-    pick (eqb (kindOf v) 1) (markNodes d m i 64 (startOf v) (countOf v))
-    (pick (eqb (kindOf v) 2) (markNodes d m i i (startOf v) (countOf v)) m)
+    pick (eqb (kindOf v) 1) (markNodes (usedBy d i) m i 64 (startOf v) (countOf v))
+    (pick (eqb (kindOf v) 2) (markNodes (usedBy d i) m i i (startOf v) (countOf v)) m)
 
 -- the rows of the first n behaviours, on event e
 unfoldable pub markRows : List ℕ → List ℕ → ℕ → ℕ → List ℕ

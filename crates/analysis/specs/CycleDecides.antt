@@ -62,13 +62,13 @@ behaviour-is : (n : ℕ) (b : Behaviour) → BehaviourNamesIn n b → knownBehav
 behaviour-is n (passive x) h = in-is n x h
 behaviour-is n (active s hs) h = handlers-are n hs h
 
-behaviours-say : (n : ℕ) (bs : List Behaviour) → knownBehaviours n bs ≡ true → All (BehaviourNamesIn n) bs
+pub behaviours-say : (n : ℕ) (bs : List Behaviour) → knownBehaviours n bs ≡ true → All (BehaviourNamesIn n) bs
 unfolding knownBehaviours
 behaviours-say n [] e = tt
 behaviours-say n (b ∷ bs) e =
     let q = and-eq-true-iff (knownBehaviour n b) (knownBehaviours n bs) .0 e in (behaviour-says n b (q .0), behaviours-say n bs (q .1))
 
-behaviours-are : (n : ℕ) (bs : List Behaviour) → All (BehaviourNamesIn n) bs → knownBehaviours n bs ≡ true
+pub behaviours-are : (n : ℕ) (bs : List Behaviour) → All (BehaviourNamesIn n) bs → knownBehaviours n bs ≡ true
 unfolding knownBehaviours
 behaviours-are n [] h = refl
 behaviours-are n (b ∷ bs) h = and-eq-true-iff (knownBehaviour n b) (knownBehaviours n bs) .1 (behaviour-is n b (h .0), behaviours-are n bs (h .1))

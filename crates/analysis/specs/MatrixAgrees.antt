@@ -16,9 +16,9 @@ use Rattle.language.specs.Dependence.{Response, follows, takes, defers, keeps, 
 use Rattle.language.specs.Grammar.{Arity, unary, ternary, binary, Nested, n-con, n-name, n-app1, n-app2, n-app3, Fits}
 use Rattle.language.specs.Code.{one?}
 use Rattle.language.specs.Laws.{length-upTo, getD-upTo, none-past, ResponseNested, response-nested}
-use Rattle.draft.specs.Draft.{draftLength, nodes, entryOf, Drafted}
+use Rattle.draft.specs.Draft.{draftLength, nodes, entryOf, usedBy, Drafted}
 use Rattle.draft.specs.Entry.{kindOf, startOf, countOf, tagOf, wordOf}
-use Rattle.draft.specs.DraftLaws.{Holds, Entry, entry-of}
+use Rattle.draft.specs.DraftLaws.{Holds, Entry, entry-of, length-used}
 use Rattle.graph.specs.Matrix.{cell, closed}
 use Rattle.analysis.specs.Faults.{anyBelow, matrixOf, cyclicUnder, cyclic}
 use Rattle.analysis.specs.Checks.{blank, markNode, markNodes, markEntry, markRows, matrixOn, closedOn, cyclicOn}
@@ -189,25 +189,25 @@ expr-names but b (n-app3 {f = f} {a = x} {b = y} {c = z} h hx hy hz) =
 length-markEntry : (d m : List ℕ) (i v : ℕ) → length (markEntry d m i v) ≡ length m
 unfolding markEntry
 length-markEntry d m i v =
-    by-test (λ (w : List ℕ). length w ≡ length m) (eqb (kindOf v) 1) (λ e. length-markNodes d m i 64 (startOf v) (countOf v))
-    (λ e. by-test (λ (w : List ℕ). length w ≡ length m) (eqb (kindOf v) 2) (λ f. length-markNodes d m i i (startOf v) (countOf v)) (λ f. refl))
+    by-test (λ (w : List ℕ). length w ≡ length m) (eqb (kindOf v) 1) (λ e. length-markNodes (usedBy d i) m i 64 (startOf v) (countOf v))
+    (λ e. by-test (λ (w : List ℕ). length w ≡ length m) (eqb (kindOf v) 2) (λ f. length-markNodes (usedBy d i) m i i (startOf v) (countOf v)) (λ f. refl))
 
 entry-other : (d m : List ℕ) (i v a b : ℕ) → a ≢ i → b < 64 → at (markEntry d m i v) a b ≡ at m a b
 unfolding markEntry
 entry-other d m i v a b n h =
-    by-test (λ w. at w a b ≡ at m a b) (eqb (kindOf v) 1) (λ e. nodes-other d m i 64 (startOf v) (countOf v) a b n h)
-    (λ e. by-test (λ w. at w a b ≡ at m a b) (eqb (kindOf v) 2) (λ f. nodes-other d m i i (startOf v) (countOf v) a b n h) (λ f. refl))
+    by-test (λ w. at w a b ≡ at m a b) (eqb (kindOf v) 1) (λ e. nodes-other (usedBy d i) m i 64 (startOf v) (countOf v) a b n h)
+    (λ e. by-test (λ w. at w a b ≡ at m a b) (eqb (kindOf v) 2) (λ f. nodes-other (usedBy d i) m i i (startOf v) (countOf v) a b n h) (λ f. refl))
 
 module _ (d m : List ℕ) (i v b : ℕ) (dl : length d ≡ draftLength) (l : length m ≡ 4096) (p : i < 64) (h : b < 64) (z : at m i b ≡ 0) where
   -- the names of the expression that the entry holds
-  held : (but kind : ℕ) (x : Expr) → Holds d kind v x → Nested 16 x
-      → at (markNodes d m i but (startOf v) (countOf v)) i b ≡ one? (mentions b x && not (eqb but b))
+  held : (but kind : ℕ) (x : Expr) → Holds (usedBy d i) kind v x → Nested 16 x
+      → at (markNodes (usedBy d i) m i but (startOf v) (countOf v)) i b ≡ one? (mentions b x && not (eqb but b))
   held but kind x e f =
-      let s : startOf v + countOf v ≤ length d = omega (arith, e .inside) in
-      let c : take (countOf v) (drop (startOf v) d) ≡ nodes x = rw (e .count-is) (e .there) in
-      nodes-here d m i but (startOf v) (countOf v) b l p h s z ∙ rw (c, expr-names but b f)
+      let s : startOf v + countOf v ≤ length (usedBy d i) = omega (arith, e .inside, length-used d i) in
+      let c : take (countOf v) (drop (startOf v) (usedBy d i)) ≡ nodes x = rw (e .count-is) (e .there) in
+      nodes-here (usedBy d i) m i but (startOf v) (countOf v) b l p h s z ∙ rw (c, expr-names but b f)
 
-  entry-here : (r : Response) → Entry d v r → ResponseNested r → at (markEntry d m i v) i b ≡ one? (needs i b r)
+  entry-here : (r : Response) → Entry (usedBy d i) v r → ResponseNested r → at (markEntry d m i v) i b ≡ one? (needs i b r)
   unfolding markEntry
   entry-here (follows x) e f =
       let q : eqb 64 b ≡ false = ne-eqb 64 b (λ t. omega arith) in

@@ -10,12 +10,11 @@ use lib.Seq.{take-suc}
 use borrow.Author.Tests.{ne-eqb, ltb-true, ltb-false, lt-leb, le-leb}
 use Rattle.base.specs.Basics.{All}
 use Rattle.base.specs.Tools.{split}
-use Rattle.language.specs.Syntax.{Expr, Handler, handler, Behaviour, passive, active, Program}
-use Rattle.language.specs.Dependence.{size, events}
-use Rattle.language.specs.Grammar.{Arity, unary, ternary, binary, Nested, n-con, n-name, n-app1, n-app2, n-app3, HandlersFit, BehaviourFits, Fits}
-use Rattle.draft.specs.Draft.{nodes, handlerNodes, behaviourNodes, programNodes, Drafted}
+use Rattle.language.specs.Syntax.{Expr, Handler, handler, Behaviour, passive, active}
+use Rattle.language.specs.Grammar.{Arity, unary, ternary, binary, Nested, n-con, n-name, n-app1, n-app2, n-app3, HandlersFit, BehaviourFits}
+use Rattle.draft.specs.Draft.{nodes, handlerNodes, behaviourNodes, programNodes}
 use Rattle.draft.specs.Entry.{tagOf, wordOf}
-use Rattle.analysis.specs.Faults.{knownIn, knownHandlers, knownBehaviour, knownBehaviours, known}
+use Rattle.analysis.specs.Faults.{knownIn, knownHandlers, knownBehaviour, knownBehaviours}
 use Rattle.analysis.specs.Checks.{stray, namesKnown}
 
 -- none of these nodes is stray
@@ -110,6 +109,6 @@ pass-fine d b (suc n) h =
     (λ t. rw (e, t, namesKnown, and-false (fine b (take n d))))
     (λ t. rw (e, t, namesKnown, and-true) ih)
 
-pub names-known-is : (p : Program) (d : List ℕ) (n : ℕ) → Fits p → Drafted p d n → namesKnown d (size p) n ≡ known p
-names-known-is p d n f dr =
-    pass-fine d (size p) n (omega (arith, dr .long, dr .few)) ∙ rw (dr .pool) (program-fine (size p) (events p) (p .behaviours) (f .each))
+-- of n nodes that are those of the behaviours ys
+pub names-known-is : (d : List ℕ) (b n m : ℕ) (ys : List Behaviour) → n ≤ length d → take n d ≡ programNodes ys → All (BehaviourFits m) ys → namesKnown d b n ≡ knownBehaviours b ys
+names-known-is d b n m ys h e f = pass-fine d b n h ∙ rw e (program-fine b m ys f)

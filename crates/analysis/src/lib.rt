@@ -5,7 +5,7 @@ ghost use mathlib.Core.Path.{_≡_};
 ghost use Prim.Native.Nat.{_+_, _*_, _≤_, _<_};
 ghost use lib.ListN.{length};
 ghost use Rattle.draft.specs.Entry.{startOf, countOf};
-ghost use Rattle.draft.specs.Draft.{draftLength};
+ghost use Rattle.draft.specs.Draft.{draftLength, usedBy};
 ghost use Rattle.analysis.specs.Checks.{stray, namesKnown, blank, markNode, markNodes, markEntry, matrixOn, closedOn, cyclicOn, RowsInside, AllInside};
 
 fn is_stray(x: u64, b: usize) -> bool
@@ -57,13 +57,14 @@ fn mark_node(m: &mut [u8], i: usize, but: usize, x: u64)
     }
 }
 
+// The names among count nodes from start on, as behaviour i means them.
 fn mark_nodes(d: &[u64], m: &mut [u8], i: usize, but: usize, start: usize, count: usize)
     requires { ⌜ (length (now d) ≡ draftLength) × (length (now m) ≡ 4096) × (i < 64) × (start + count ≤ 2048) ⌝ }
-    ensures { λ _. ⌜ now (m .exit) ≡ markNodes (now (d .entry)) (now (m .entry)) i but start count ⌝ }
+    ensures { λ _. ⌜ now (m .exit) ≡ markNodes (usedBy (now (d .entry)) i) (now (m .entry)) i but start count ⌝ }
 {
     let mut k = 0;
     while k < count {
-        mark_node(m, i, but, d[start + k]);
+        mark_node(m, i, but, draft::moved_node(d, i, d[start + k]));
         k += 1;
     }
 }

@@ -16,9 +16,10 @@ use Rattle.field.specs.declared.Field.the-variants.{Value, Refused}
 use Rattle.field.specs.declared.Read.{Read}
 use Rattle.field.specs.declared.Read.the-variants.{Done, Fault}
 use Rattle.draft.specs.Draft.{draftLength, entry}
+use Rattle.cells.specs.Cells.{leastOf, mostOf, rowCopied}
 use Rattle.ending.specs.Ending.{endingOf, EndIn}
 use Rattle.behaviours.specs.Handler.{entryAt, handlerAt, handlerOf, handlersOf, BodyIn}
-use Rattle.behaviours.specs.Behaviour.{passiveOf, bodyOf, activeOf, valueAt, behaviourOf, Counted}
+use Rattle.behaviours.specs.Behaviour.{passiveOf, bodyOf, activeOf, cellsOf, valueAt, behaviourOf, Counted}
 
 -- ---- an expression and its entry
 
@@ -63,14 +64,14 @@ module _ (s d : List ℕ) (events i n : ℕ) {a : Field} where
   unfolding handlerOf
   handler-taken e t w h = rw (← w, sym e ∙ t) h
 
-  pub behaviour-refused : {k q : ℕ} → a ≡ fieldOf s 2 3 → a ≡ Refused k → q ≡ numberOf a → out (Fault q) d ≡ behaviourOf s events i d n
+  pub behaviour-refused : {k q lo hi : ℕ} → lo ≡ leastOf s 2 → hi ≡ mostOf s → a ≡ fieldOf s lo hi → a ≡ Refused k → q ≡ numberOf a → out (Fault q) d ≡ behaviourOf s events i d n
   unfolding behaviourOf
-  behaviour-refused e t h = rw (sym e ∙ t, h, t)
+  behaviour-refused l m e t h = rw (← l, ← m, sym e ∙ t, h, t)
 
-  pub behaviour-taken : {t size : ℕ} {v p : List ℕ} {r : Read} → a ≡ fieldOf s 2 3 → a ≡ Value t size → v ≡ partOf s (fieldOf s 2 3)
+  pub behaviour-taken : {t size lo hi : ℕ} {v p : List ℕ} {r : Read} → lo ≡ leastOf s 2 → hi ≡ mostOf s → a ≡ fieldOf s lo hi → a ≡ Value t size → v ≡ partOf s (fieldOf s lo hi)
       → out r p ≡ valueAt t v events i d n → out r p ≡ behaviourOf s events i d n
   unfolding behaviourOf
-  behaviour-taken e t w h = rw (← w, sym e ∙ t) h
+  behaviour-taken l m e t w h = rw (← l, ← m, ← w, sym e ∙ t) h
 
   pub active-refused : {k q : ℕ} → a ≡ fieldOf s 4 4 → a ≡ Refused k → q ≡ numberOf a → out (Fault q) d ≡ activeOf s events i d n
   unfolding activeOf
@@ -181,3 +182,20 @@ module _ (v d : List ℕ) (events i n : ℕ) {r : Read} {p : List ℕ} (e : out 
   pub body-ends : {at m : ℕ} {r₁ : Read} {p₁ : List ℕ} → r ≡ Done at m → out r₁ p₁ ≡ endingOf (rest at v) i p (length v + 3) m → out r₁ p₁ ≡ bodyOf v events i d n
   unfolding bodyOf
   body-ends t h = rw (← e, t) h
+
+-- ---- a row
+
+module _ (v d : List ℕ) (c events i n : ℕ) {r : Read} {p : List ℕ} (e : out r p ≡ activeOf v events i d n) where
+  pub cells-fault : {k : ℕ} → r ≡ Fault k → (out r p ≡ cellsOf v c events i d n) × BodyIn (length v + 4) n r
+  unfolding cellsOf
+  cells-fault t = rw t (rw (← e, t), tt)
+
+  pub cells-done : {size m : ℕ} {q : List ℕ} → r ≡ Done size m → BodyIn (length v + 3) n r → q ≡ rowCopied p i c → (out (Done (size + 1) m) q ≡ cellsOf v c events i d n) × BodyIn (length v + 4) n (Done (size + 1) m)
+  unfolding cellsOf
+  cells-done t b h = let z = rw t at b in (rw (← e, t, h), omega arith)
+
+-- the bytes of a value after its first
+pub row-over : (v : List ℕ) (n : ℕ) (r : Read) → BodyIn (length (rest 1 v) + 4) n r → 1 ≤ length v → BodyIn (length v + 3) n r
+row-over v n r h a =
+    let q : length (rest 1 v) + 4 ≡ length v + 3 = omega (arith, rest-length 1 v) in
+    rw q at h

@@ -1,12 +1,13 @@
 -- Behaviours as the reader reads them: from positions in the bytes, with the draft as it is written. 01: "02 passive: one expression. 03 active: a start
 -- field (04, length 4, signed 32-bit), then handlers until its end." At a field: 4, 5, 4, 7, then its contents. 02, M-107: both may end with a field 08.
+-- M-110: "A new field 06 in place of 03 begins with a one-byte cell count of 2 to 16 (else 8), then goes on as an active. .. past the first cell, 7 is checked after the count."
 use Prim.Native.Nat.{ℕ, _+_, _-_, _<_}
 use mathlib.Core.List.{List}
-use lib.ListN.{length, set}
-use lib.Dec.{leb, eqb}
+use lib.ListN.{length, getD, set}
+use lib.Dec.{ltb, leb, eqb}
 use Rattle.base.specs.Basics.{pick}
 use Rattle.word.specs.Word.{getAt}
-use Rattle.language.specs.Refusals.{wrongLength, crowded}
+use Rattle.language.specs.Refusals.{wrongLength, crowded, offScale}
 use Rattle.field.specs.Field.{fieldOf, partOf}
 use Rattle.field.specs.Expression.{Out, out, rest, onward, exprOf}
 use Rattle.field.specs.declared.Field.{Field}
@@ -14,6 +15,7 @@ use Rattle.field.specs.declared.Field.the-variants.{Value, Refused}
 use Rattle.field.specs.declared.Read.{Read}
 use Rattle.field.specs.declared.Read.the-variants.{Done, Fault}
 use Rattle.draft.specs.Draft.{entry}
+use Rattle.cells.specs.Cells.{leastOf, mostOf, rowCopied}
 use Rattle.ending.specs.Ending.{endingOf}
 use Rattle.behaviours.specs.Handler.{handlersOf}
 
@@ -38,11 +40,26 @@ activeFrom (Value t size) w v events i d n =
 unfoldable pub activeOf : List ℕ → ℕ → ℕ → List ℕ → ℕ → Out
 activeOf v events i d n = activeFrom (fieldOf v 4 4) (partOf v (fieldOf v 4 4)) v events i d n
 
+-- a row of c cells, the first of which is behaviour i, with the value v after the count: it is read as an active, and the other cells are its copies
+unfoldable pub cellsOf : List ℕ → ℕ → ℕ → ℕ → List ℕ → ℕ → Out
+cellsOf v c events i d n =
+    let o : Out = activeOf v events i d n in
+    onward (o .0) (o .1) (λ size m. out (Done (size + 1) m) (rowCopied (o .1) i c))
+
+-- a row's value v
+unfoldable pub rowOf : List ℕ → ℕ → ℕ → List ℕ → ℕ → Out
+rowOf v events i d n =
+    pick (eqb (length v) 0) (out (Fault wrongLength) d)
+    (pick (ltb (getD v 0 0) 2) (out (Fault offScale) d)
+    (pick (ltb 16 (getD v 0 0)) (out (Fault offScale) d)
+    (pick (ltb 64 (i + getD v 0 0)) (out (Fault crowded) d)
+    (cellsOf (rest 1 v) (getD v 0 0) events i d n))))
+
 -- behaviour i, a field with tag t and value v
 unfoldable pub valueAt : ℕ → List ℕ → ℕ → ℕ → List ℕ → ℕ → Out
 valueAt t v events i d n =
     pick (leb 64 i) (out (Fault crowded) d)
-    (pick (eqb t 2) (passiveOf v i d n) (activeOf v events i d n))
+    (pick (eqb t 2) (passiveOf v i d n) (pick (eqb t 6) (rowOf v events i d n) (activeOf v events i d n)))
 
 abbrev pub behaviourFrom : Field → List ℕ → ℕ → ℕ → List ℕ → ℕ → Out
 behaviourFrom (Refused k) v events i d n = out (Fault k) d
@@ -50,7 +67,7 @@ behaviourFrom (Value t size) v events i d n = valueAt t v events i d n
 
 -- behaviour i at the front of s
 unfoldable pub behaviourOf : List ℕ → ℕ → ℕ → List ℕ → ℕ → Out
-behaviourOf s events i d n = behaviourFrom (fieldOf s 2 3) (partOf s (fieldOf s 2 3)) events i d n
+behaviourOf s events i d n = behaviourFrom (fieldOf s (leastOf s 2) (mostOf s)) (partOf s (fieldOf s (leastOf s 2) (mostOf s))) events i d n
 
 -- that a behaviour read is one of 64: what is promised beside the equation
 abbrev pub Counted : ℕ → Read → Type 0

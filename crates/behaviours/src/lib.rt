@@ -7,7 +7,7 @@ ghost use lib.ListN.{length};
 ghost use Rattle.field.specs.Expression.{out, ReadIn};
 ghost use Rattle.draft.specs.Draft.{draftLength};
 ghost use Rattle.behaviours.specs.Handler.{entryAt, handlerAt, handlerOf, handlersOf, BodyIn, faultOf};
-ghost use Rattle.behaviours.specs.Behaviour.{passiveOf, bodyOf, activeOf, valueAt, behaviourOf, Counted};
+ghost use Rattle.behaviours.specs.Behaviour.{passiveOf, bodyOf, activeOf, cellsOf, rowOf, valueAt, behaviourOf, Counted};
 
 // The number of a refusal; 0 of a reading that is done.
 pub fn fault(r: Read) -> u8
@@ -166,12 +166,54 @@ fn read_passive(v: &[u8], i: usize, draft: &mut [u64], n: usize) -> Read
     ending::read_ending(&v[size..], i, draft, v.len() + 3, m)
 }
 
+// A row of count cells from behaviour i on, with the value v after the count: the first is read as an active, the others are its copies.
+fn read_cells(v: &[u8], count: usize, events: usize, i: usize, draft: &mut [u64], n: usize) -> Read
+    requires { ⌜ n * 4 + length (now v) ≤ 8192 ⌝ }
+    requires { ⌜ length (now draft) ≡ draftLength ⌝ }
+    requires { ⌜ events ≤ 32 ⌝ }
+    requires { ⌜ i < 64 ⌝ }
+    requires { ⌜ i + count ≤ 64 ⌝ }
+    ensures { λ r. ⌜ out r (now (draft .exit)) ≡ cellsOf (now (v .entry)) count events i (now (draft .entry)) n ⌝ }
+    ensures { λ r. ⌜ BodyIn (length (now (v .entry)) + 4) n r ⌝ }
+{
+    let r = read_active(v, events, i, draft, n);
+    let Read::Done(size, m) = r else {
+        return r;
+    };
+    cells::copy_row(draft, i, count);
+    Read::Done(size + 1, m)
+}
+
+// A row's value: its cell count, then as an active.
+fn read_row(v: &[u8], events: usize, i: usize, draft: &mut [u64], n: usize) -> Read
+    requires { ⌜ n * 4 + length (now v) ≤ 8192 ⌝ }
+    requires { ⌜ length (now draft) ≡ draftLength ⌝ }
+    requires { ⌜ events ≤ 32 ⌝ }
+    requires { ⌜ i < 64 ⌝ }
+    ensures { λ r. ⌜ out r (now (draft .exit)) ≡ rowOf (now (v .entry)) events i (now (draft .entry)) n ⌝ }
+    ensures { λ r. ⌜ BodyIn (length (now (v .entry)) + 3) n r ⌝ }
+{
+    if v.len() == 0 {
+        return Read::Fault(6);
+    }
+    let count = v[0] as usize;
+    if count < 2 {
+        return Read::Fault(8);
+    }
+    if 16 < count {
+        return Read::Fault(8);
+    }
+    if 64 < i + count {
+        return Read::Fault(7);
+    }
+    read_cells(&v[1..], count, events, i, draft, n)
+}
+
 // The value of a behaviour's field with tag t.
 fn read_value(t: u8, v: &[u8], events: usize, i: usize, draft: &mut [u64], n: usize) -> Read
     requires { ⌜ n * 4 + length (now v) ≤ 8192 ⌝ }
     requires { ⌜ length (now draft) ≡ draftLength ⌝ }
     requires { ⌜ events ≤ 32 ⌝ }
-    requires { ⌜ i ≤ 64 ⌝ }
     ensures { λ r. ⌜ out r (now (draft .exit)) ≡ valueAt t (now (v .entry)) events i (now (draft .entry)) n ⌝ }
     ensures { λ r. ⌜ BodyIn (length (now (v .entry)) + 3) n r ⌝ }
     ensures { λ r. ⌜ Counted i r ⌝ }
@@ -182,6 +224,9 @@ fn read_value(t: u8, v: &[u8], events: usize, i: usize, draft: &mut [u64], n: us
     if t == 2 {
         return read_passive(v, i, draft, n);
     }
+    if t == 6 {
+        return read_row(v, events, i, draft, n);
+    }
     read_active(v, events, i, draft, n)
 }
 
@@ -190,14 +235,15 @@ pub fn read_behaviour(s: &[u8], events: usize, i: usize, draft: &mut [u64], n: u
     requires { ⌜ n * 4 + length (now s) ≤ 8192 ⌝ }
     requires { ⌜ length (now draft) ≡ draftLength ⌝ }
     requires { ⌜ events ≤ 32 ⌝ }
-    requires { ⌜ i ≤ 64 ⌝ }
     ensures { λ r. ⌜ out r (now (draft .exit)) ≡ behaviourOf (now (s .entry)) events i (now (draft .entry)) n ⌝ }
     ensures { λ r. ⌜ ReadIn (length (now (s .entry))) n r ⌝ }
     ensures { λ r. ⌜ Counted i r ⌝ }
 {
-    let a = field::field_answer(s, 2, 3);
+    let lo = cells::least_tag(s, 2);
+    let hi = cells::most_tag(s);
+    let a = field::field_answer(s, lo, hi);
     let Field::Value(t, _) = a else {
         return Read::Fault(field::number(a));
     };
-    read_value(t, field::field_value(s, 2, 3), events, i, draft, n)
+    read_value(t, field::field_value(s, lo, hi), events, i, draft, n)
 }

@@ -13,12 +13,13 @@ use borrow.Author.Tests.{lt-ltb, le-ltb, ltb-true, ltb-false}
 use Rattle.base.specs.Basics.{All}
 use Rattle.base.specs.Tools.{split}
 use Rattle.word.specs.Word.{get}
-use Rattle.language.specs.Sheet.{Sheet, uses}
+use Rattle.language.specs.Sheet.{Sheet, rowsOut, uses}
 use Rattle.language.specs.Dependence.{size, NoCycle}
 use Rattle.language.specs.Grammar.{encode, SheetFits}
 use Rattle.language.specs.Accepted.{Known, SheetAccepted}
 use Rattle.language.specs.Reading.{Got, bad, got, readSheet}
 use Rattle.language.specs.Code.{allInstructions}
+use Rattle.language.specs.RowLaws.{length-out}
 use Rattle.language.specs.SheetLaws.{length-fill}
 use Rattle.grammar.specs.Programs.{reads-back, reads-only, fault-numbers}
 use Rattle.analysis.specs.Faults.{known, cyclic}
@@ -52,7 +53,7 @@ given-is ps s g = split (uses s) (λ u. rw (u, le-ltb (length ps) 32 (g u))) (λ
 
 -- the checks' answers, and what they stand for
 few : (ps : List ℕ) (s : Sheet) → SheetFits s → size (programOf ps s) ≤ 64
-few ps s f = omega (arith, length-fill (get ps) (s .entries), f .few-behaviours)
+few ps s f = omega (arith, length-fill (get ps) (rowsOut s .entries), length-out (s .entries) (s .entries), f .few-behaviours)
 
 fine-known : (ps : List ℕ) (s : Sheet) → SheetFits s → known (programOf ps s) ≡ true → cyclic (programOf ps s) ≡ false → Known (programOf ps s) × NoCycle (programOf ps s)
 fine-known ps s f k c = let h = known-decides (programOf ps s) .0 k in (h, cyclic-decides (programOf ps s) h (few ps s f) .0 c)

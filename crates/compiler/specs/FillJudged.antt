@@ -9,7 +9,7 @@ use Rattle.base.specs.Basics.{All}
 use Rattle.base.specs.Tools.{split}
 use Rattle.word.specs.Word.{get}
 use Rattle.language.specs.Syntax.{Program}
-use Rattle.language.specs.Sheet.{Term, literal, variable, param, apply1, apply2, apply3, Clause, clause, Item, formula, state, Entry, Sheet}
+use Rattle.language.specs.Sheet.{Term, literal, variable, param, apply1, apply2, apply3, Clause, clause, Item, formula, state, row, Entry, Sheet, rowsOut}
 use Rattle.language.specs.Sheet.{fillTerm, fillClauses, fillItem, fillEntries, fill, uses}
 use Rattle.language.specs.SheetLaws.{length-fill, fill-unused}
 use Rattle.analysis.specs.Faults.{knownIn, knownHandlers, knownBehaviour, knownBehaviours, known}
@@ -36,6 +36,7 @@ module _ (v w : ℕ → ℕ) (n : ℕ) where
   item-known : (b : Item) → knownBehaviour n (fillItem v b) ≡ knownBehaviour n (fillItem w b)
   item-known (formula x) = term-known x
   item-known (state s cs) = clauses-known cs
+  item-known (row c s cs) = clauses-known cs
 
   entries-known : (bs : List Entry) → knownBehaviours n (fillEntries v bs) ≡ knownBehaviours n (fillEntries w bs)
   unfolding fillEntries knownBehaviours
@@ -44,7 +45,9 @@ module _ (v w : ℕ → ℕ) (n : ℕ) where
 
 -- the names of a sheet are known whatever its parameters are
 known-fill : (v w : ℕ → ℕ) (s : Sheet) → known (fill v s) ≡ known (fill w s)
-known-fill v w s = rw (length-fill v (s .entries), length-fill w (s .entries)) (entries-known v w (length (s .entries)) (s .entries))
+known-fill v w s =
+    let out = rowsOut s .entries in
+    rw (length-fill v out, length-fill w out) (entries-known v w (length out) out)
 
 -- the values that the code fills in are those lent, wherever they matter
 filled-judged : (s : Sheet) (ps t : List ℕ) → judge (fill (valueOf ps) s) (lacks s ps) t ≡ judge (fill (get ps) s) (lacks s ps) t

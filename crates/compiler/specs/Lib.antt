@@ -6,3 +6,4 @@ pub mod DraftJudged
 pub mod FillJudged
 pub mod ReadIs
 pub mod AsWritten
+pub mod RowsOut

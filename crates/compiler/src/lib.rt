@@ -59,7 +59,7 @@ fn compile_read(sheet: &[u8], params: &[u8], table: &mut [u8]) -> u32
     requires { ⌜ (length (now sheet) ≤ 8192) × (34816 ≤ length (now table)) ⌝ }
     ensures { λ r. ⌜ compiled r (now (table .exit)) ≡ judgeRead (readSheet (now (sheet .entry))) (now (params .entry)) (now (table .entry)) ⌝ }
 {
-    let mut draft = [0u64; 4352];
+    let mut draft = [0u64; 4416];
     let a = reader::read_program(sheet, &mut draft);
     let Draft::Ready(ev, bs, n) = a else {
         return number_of(a);

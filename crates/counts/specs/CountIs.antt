@@ -10,7 +10,7 @@ use Rattle.language.specs.Syntax.{Program}
 use Rattle.language.specs.Dependence.{Response, follows, takes, defers, keeps, size, response}
 use Rattle.language.specs.Order.{upTo}
 use Rattle.language.specs.Code.{copied, inC, share, instructions, one?, members}
-use Rattle.draft.specs.Draft.{entryOf, Drafted}
+use Rattle.draft.specs.Draft.{entryOf, usedBy, Drafted}
 use Rattle.draft.specs.DraftLaws.{Entry, entry-of}
 use Rattle.counts.specs.Counts.{total, shareOf, countEvent, isMember, countMembers}
 
@@ -59,10 +59,10 @@ module _ (p : Program) (d : List ℕ) (n : ℕ) (dr : Drafted p d n) (e : ℕ) (
   count-is =
       ap (λ (s : ℕ). 4 + s)
       (total-sum (size p) (λ i. shareOf (entryOf d e i)) (λ i. share (response p e i))
-      (λ i h. share-is d (entryOf d e i) (response p e i) (entry-of p d n dr e i b h)))
+      (λ i h. share-is (usedBy d i) (entryOf d e i) (response p e i) (entry-of p d n dr e i b h)))
 
   pub members-is : countMembers d e (size p) ≡ members p e
   unfolding countMembers members
   members-is =
       total-sum (size p) (λ i. isMember (entryOf d e i)) (λ i. one? (inC p e i))
-      (λ i h. member-is (entryOf d e i) (inC p e i) (copied-is d (entryOf d e i) (response p e i) (entry-of p d n dr e i b h)))
+      (λ i h. member-is (entryOf d e i) (inC p e i) (copied-is (usedBy d i) (entryOf d e i) (response p e i) (entry-of p d n dr e i b h)))

@@ -1,14 +1,14 @@
 -- What the compiler may rely on in a draft: its entries taken apart, by the division of a packed entry, and the nodes of its expressions, by induction.
-use Prim.Native.Nat.{ℕ, _+_, _≤_, _<_}
-use mathlib.Core.Path.{_≡_, refl}
-use mathlib.Core.List.{List}
+use Prim.Native.Nat.{ℕ, zero, suc, _+_, _≤_, _<_}
+use mathlib.Core.Path.{_≡_, refl, ap}
+use mathlib.Core.List.{List, [], _∷_, map}
 use native.Mathlib.Omega.{arith}
-use lib.ListN.{length, take, drop, length-append}
+use lib.ListN.{length, getD, take, drop, length-append, length-map, List·getD-map}
 use Rattle.language.specs.Syntax.{Expr, con, name, app1, app2, app3, Program}
 use Rattle.language.specs.Dependence.{Response, follows, takes, defers, keeps, size, response}
 use Rattle.language.specs.Code.{sizeOf}
-use Rattle.draft.specs.Draft.{draftLength, nodes, entry, entryOf, Stands, Says, Drafted, DraftOf}
-use Rattle.draft.specs.Entry.{kindOf, startOf, countOf}
+use Rattle.draft.specs.Draft.{draftLength, nodes, entry, entryOf, placeOf, moved, usedBy, Stands, Says, Drafted, DraftOf}
+use Rattle.draft.specs.Entry.{kindOf, startOf, countOf, wordOf}
 
 -- ---- entries
 
@@ -74,11 +74,11 @@ entry-bounded d v (defers x) h = h .inside
 entry-bounded d v keeps h = omega arith
 
 module _ (p : Program) (d : List ℕ) (n : ℕ) (dr : Drafted p d n) (e i : ℕ) (b : e ≤ 32) (c : i < size p) where
-  pub entry-of : Entry d (entryOf d e i) (response p e i)
-  entry-of = entry-says d (entryOf d e i) (response p e i) (dr .says e i b c)
+  pub entry-of : Entry (usedBy d i) (entryOf d e i) (response p e i)
+  entry-of = entry-says (usedBy d i) (entryOf d e i) (response p e i) (dr .says e i b c)
 
   pub entry-inside : startOf (entryOf d e i) + countOf (entryOf d e i) ≤ 2048
-  entry-inside = entry-bounded d (entryOf d e i) (response p e i) entry-of
+  entry-inside = entry-bounded (usedBy d i) (entryOf d e i) (response p e i) entry-of
 
 -- ---- nodes
 
@@ -89,6 +89,35 @@ length-nodes (name i) = refl
 length-nodes (app1 f a) = simp (length-append, length-nodes a)
 length-nodes (app2 f a b) = simp (length-append, length-nodes a, length-nodes b) (omega arith)
 length-nodes (app3 f a b c) = simp (length-append, length-nodes a, length-nodes b, length-nodes c) (omega arith)
+
+-- ---- nodes as a behaviour uses them
+
+pub length-used : (d : List ℕ) (i : ℕ) → length (usedBy d i) ≡ length d
+unfolding usedBy
+length-used d i = length-map d (moved d i)
+
+pub used-at : (d : List ℕ) (i k : ℕ) → getD (usedBy d i) k 0 ≡ moved d i (getD d k 0)
+unfolding usedBy moved
+used-at d i k = List·getD-map (moved d i) d k 0
+
+pub take-used : (d : List ℕ) (i n a : ℕ) → take n (drop a (usedBy d i)) ≡ map (moved d i) (take n (drop a d))
+unfolding usedBy
+take-used d i n a = drop-map (moved d i) a d n
+  where
+    take-map : (f : ℕ → ℕ) (n : ℕ) (l : List ℕ) → take n (map f l) ≡ map f (take n l)
+    take-map f zero l = refl
+    take-map f (suc n) [] = refl
+    take-map f (suc n) (x ∷ l) = ap (λ (m : List ℕ). f x ∷ m) (take-map f n l)
+
+    drop-map : (f : ℕ → ℕ) (a : ℕ) (l : List ℕ) (n : ℕ) → take n (drop a (map f l)) ≡ map f (take n (drop a l))
+    drop-map f zero l n = take-map f n l
+    drop-map f (suc a) [] n = take-map f n []
+    drop-map f (suc a) (x ∷ l) n = drop-map f a l n
+
+-- the draft is read for places alone
+pub moved-places : (d d′ : List ℕ) (i x : ℕ) → ((j : ℕ) → placeOf d′ j ≡ placeOf d j) → moved d′ i x ≡ moved d i x
+unfolding moved
+moved-places d d′ i x h = rw (h (wordOf x), h i)
 
 -- ---- plain bounds
 

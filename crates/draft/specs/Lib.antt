@@ -1,3 +1,3 @@
-pub mod Draft
 pub mod Entry
+pub mod Draft
 pub mod DraftLaws

@@ -9,18 +9,18 @@ use mathlib.Core.List.{List, [], _∷_, _++_, append-nil}
 use native.Mathlib.Omega.{arith}
 use native.Mathlib.Nat.{add-sub-cancel-left}
 use lib.ListN.{length, getD, take, drop, set, length-set, length-drop}
-use lib.Seq.{take-set-le, getD-set-same, getD-set-other, sets}
-use lib.Dec.{ltb, leb, eqb}
-use borrow.Author.Tests.{ltb-true, le-ltb, lt-leb, leb-false, eq-eqb, ne-eqb}
+use lib.Seq.{take-set-le, getD-set-same, getD-set-other, getD-take, getD-drop, sets}
+use lib.Dec.{ltb, leb, eqb, eqb·suc-zero}
+use borrow.Author.Tests.{ltb-true, ltb-false, le-ltb, lt-leb, leb-false, eqb-true, eqb-false, eq-eqb, ne-eqb}
 use Rattle.base.specs.Basics.{pick}
 use Rattle.base.specs.Tools.{split, by-test, by-two}
 use Rattle.word.specs.Word.{getAt}
 use Rattle.language.specs.Syntax.{Behaviour, passive, active}
-use Rattle.language.specs.Sheet.{Term, Clause, Item, formula, state, Signal, Entry, allowed, fillClauses, fillItem}
+use Rattle.language.specs.Sheet.{Term, Clause, Item, formula, state, row, Signal, Entry, cells, cellCount, allowed, fillClauses, fillItem}
 use Rattle.language.specs.Dependence.{handled}
 use Rattle.language.specs.Code.{sizeOf}
 use Rattle.language.specs.Reading as tree
-use Rattle.language.specs.Reading.{refused, present, fieldAt, Got, bad, got, wordOf, then, exprAt, handlersAt, startBody, entry, endingIn, passiveIn, activeIn, behaviourIn, behaviourBody}
+use Rattle.language.specs.Reading.{refused, present, fieldAt, Got, bad, got, wordOf, then, exprAt, handlersAt, startBody, entry, endingIn, passiveIn, activeAs, activeIn, rowIn, behaviourIn, least, most, dueAt, behaviourBody}
 use Rattle.field.specs.Field.{stated, fieldOf, partOf}
 use Rattle.field.specs.Expression.{Out, out, rest, onward, exprOf}
 use Rattle.field.specs.declared.Field.{Field}
@@ -28,9 +28,10 @@ use Rattle.field.specs.declared.Field.the-variants.{Value}
 use Rattle.field.specs.declared.Read.the-variants.{Done, Fault}
 use Rattle.draft.specs.Draft as draft
 use Rattle.draft.specs.Draft.{draftLength, nodes, handlerNodes, behaviourNodes, unfilled}
+use Rattle.cells.specs.Cells.{leastOf, mostOf, cellsAt, rowCopied}
 use Rattle.ending.specs.Ending.{viewer, endingOf}
 use Rattle.behaviours.specs.Handler.{slot, handlersOf}
-use Rattle.behaviours.specs.Behaviour.{passiveOf, bodyOf, activeFrom, activeOf, valueAt, behaviourFrom, behaviourOf}
+use Rattle.behaviours.specs.Behaviour.{passiveOf, bodyOf, activeFrom, activeOf, cellsOf, rowOf, valueAt, behaviourFrom, behaviourOf}
 use Rattle.drafting.specs.Fields.{valueIn, span, SameField, same-field, value-length, rest-drop}
 use Rattle.drafting.specs.Expressions.{raw, SameExpr, same-expr}
 use Rattle.drafting.specs.Entries.{StandsBy, stands-kept, SaysBy, says-kept, written-long, written-take, written-pool, written-there, written-same, written-other, Frame}
@@ -99,26 +100,24 @@ part-ended i n d d₁ m x low room p w = (
   getD-set-same d₁ (viewer i) (allowed w) 0 (omega arith),
 )
 
--- what both readers say of behaviour i, a field of `size` bytes at the front of s
-abbrev pub SameBehaviour : ℕ → List ℕ → ℕ → List ℕ → ℕ → Got Entry → Out → Type 0
-SameBehaviour i s size d n (bad k) o = o .0 ≡ Fault k
-SameBehaviour i s size d n (got b r) o =
-    (r ≡ drop size s) × (size ≤ length s) × (m : ℕ) × (o .0 ≡ Done size m) × (m * 4 ≤ n * 4 + size) × Grown i d n b (o .1) m
+-- a behaviour or a row is put into the draft, the first of its cells as the i-th: a row is an active, and its copies (02, M-110)
+abbrev pub GrownBy : ℕ → List ℕ → ℕ → Item → Option ℕ → List ℕ → ℕ → Type 0
+GrownBy i d n (formula x) w d′ m = Grown i d n (entry (formula x) w) d′ m
+GrownBy i d n (state y hs) w d′ m = Grown i d n (entry (state y hs) w) d′ m
+GrownBy i d n (row c y hs) w d′ m = (1 ≤ c) × (i + c ≤ 64) × (d₁ : List ℕ) × Grown i d n (entry (state y hs) w) d₁ m × (d′ ≡ rowCopied d₁ i c)
+
+-- what both readers say of behaviour i, a field of `size` bytes at the front of s that makes `count` behaviours
+abbrev pub SameBehaviour : ℕ → ℕ → List ℕ → ℕ → List ℕ → ℕ → Got Entry → Out → Type 0
+SameBehaviour i count s size d n (bad k) o = o .0 ≡ Fault k
+SameBehaviour i count s size d n (got b r) o =
+    (r ≡ drop size s) × (size ≤ length s) × (m : ℕ) × (o .0 ≡ Done size m) × (m * 4 ≤ n * 4 + size) × GrownBy i d n (b .item) (b .viewer) (o .1) m × (count ≡ cells (b .item))
 
 module _ (events i : ℕ) (d : List ℕ) (n : ℕ) (few : events ≤ 32) (low : i < 64) (long : length d ≡ draftLength) (blank : Blank d i)
-    (s : List ℕ) (size : ℕ) (small : n * 4 + size ≤ 8192) (r : List ℕ) (after : r ≡ drop size s) (fits : size ≤ length s) where
+    (s : List ℕ) (size : ℕ) (small : n * 4 + size ≤ 8192) (r : List ℕ) (after : r ≡ drop size s) (fits : size ≤ length s) (count : ℕ) where
   abbrev Same : Got Entry → Out → Type 0
-  Same = SameBehaviour i s size d n
+  Same = SameBehaviour i count s size d n
 
-  module _ (v : List ℕ) (full : length v + 3 ≡ size) where
-    -- ---- the ending
-
-    ending-value : (x : Item) (d₁ : List ℕ) (m : ℕ) → m * 4 ≤ n * 4 + length v → Part i d n (rawItem x) d₁ m
-        → (left : List ℕ) → Same (endingIn x left r) (endingOf left i d₁ (length v + 3) m)
-    ending-value x d₁ m h p left =
-        same-ending Same x r i d₁ (length v + 3) m (λ k o e. e)
-        (λ w. (after, fits, m, rw full, omega arith, part-ended i n d d₁ m x low (omega arith) p w)) left
-
+  module _ (v : List ℕ) (full : length v + 3 ≡ size) (one : count ≡ 1) where
     -- ---- a passive
 
     part-passive : (x : Term) → sizeOf (raw x) * 4 ≤ length v
@@ -151,15 +150,27 @@ module _ (events i : ℕ) (d : List ℕ) (n : ℕ) (few : events ≤ 32) (low : 
     passive-on (bad k) o e = rw e refl
     passive-on (got x l) o h =
         rw (h .3, h .0, add-sub-cancel-left n (sizeOf (raw x)), rest-drop (span v) v)
-        (ending-value (formula x) (set (sets d n (nodes (raw x))) (4096 + i) (draft.entry 1 n (sizeOf (raw x)))) (n + sizeOf (raw x)) (omega arith)
-        (part-passive x (omega arith)) (drop (span v) v))
+        (same-ending Same (formula x) r i (set (sets d n (nodes (raw x))) (4096 + i) (draft.entry 1 n (sizeOf (raw x)))) (length v + 3) (n + sizeOf (raw x)) (λ k o e. e)
+        (λ w. (
+          after,
+          fits,
+          n + sizeOf (raw x),
+          rw full,
+          omega arith,
+          part-ended i n d (set (sets d n (nodes (raw x))) (4096 + i) (draft.entry 1 n (sizeOf (raw x)))) (n + sizeOf (raw x)) (formula x) low (omega arith) (part-passive x (omega arith)) w,
+          one,
+        ))
+        (drop (span v) v))
 
     passive-value : Same (passiveIn v r) (passiveOf v i d n)
     unfolding passiveOf
     passive-value = passive-on (exprAt 16 v) (exprOf 16 v d n) (same-expr 16 v d n)
 
-    -- ---- an active
+  -- ---- an active, and what begins like one: P holds of what `make` makes of its start and handlers
 
+  module _ (make : ℕ → List Clause → Item) (P : Got Entry → Out → Type 0) (v : List ℕ) (room : n * 4 + length v + 3 ≤ 8192) (bads : (k : ℕ) (o : Out) → o .0 ≡ Fault k → P (bad k) o)
+      (gots : (w : ℕ) (hs : List Clause) (x : Option ℕ) (d₁ : List ℕ) (m : ℕ) → m * 4 ≤ n * 4 + length v → Part i d n (active w (fillClauses unfilled hs)) d₁ m
+      → P (got (entry (make w hs) x) r) (out (Done (length v + 3) m) (set d₁ (viewer i) (allowed x)))) where
     no-handlers : (w : ℕ) → Turn i w d n [] (set d (4160 + i) w) n
     unfolding handlerNodes handled fillClauses
     no-handlers w = record {
@@ -174,15 +185,16 @@ module _ (events i : ℕ) (d : List ℕ) (n : ℕ) (few : events ≤ 32) (low : 
     }
 
     active-end : (w : ℕ) (g : Got (List Clause)) (o : Out) → SameHandlers i w d n v (n * 4 + length v) g o
-        → Same (then g (λ hs over. endingIn (state w hs) over r)) (onward (o .0) (o .1) (λ at m. endingOf (rest at v) i (o .1) (length v + 3) m))
-    active-end w (bad k) o e = rw e refl
+        → P (then g (λ hs over. endingIn (make w hs) over r)) (onward (o .0) (o .1) (λ at m. endingOf (rest at v) i (o .1) (length v + 3) m))
+    active-end w (bad k) o e = rw e (bads k (out (Fault k) (o .1)) refl)
     active-end w (got hs over) o h =
         let t = h .5 in
         rw (h .3, h .1, rest-drop (h .0) v)
-        (ending-value (state w hs) (o .1) (h .2) (h .4) (t .long, t .frame, t .grown, t .pool, (t .body, t .start, t .rows)) (drop (h .0) v))
+        (same-ending P (make w hs) r i (o .1) (length v + 3) (h .2) bads
+        (λ x. gots w hs x (o .1) (h .2) (h .4) (t .long, t .frame, t .grown, t .pool, (t .body, t .start, t .rows))) (drop (h .0) v))
 
     active-on : (w : ℕ) (left : List ℕ) → left ≡ drop 7 v → 7 ≤ length v
-        → Same (then (handlersAt (length left) events [] left) (λ hs over. endingIn (state w hs) over r)) (bodyOf v events i (set d (4160 + i) w) n)
+        → P (then (handlersAt (length left) events [] left) (λ hs over. endingIn (make w hs) over r)) (bodyOf v events i (set d (4160 + i) w) n)
     unfolding bodyOf
     active-on w left e h =
         let q : length (drop 7 v) ≡ length v - 7 = length-drop 7 v in
@@ -192,35 +204,96 @@ module _ (events i : ℕ) (d : List ℕ) (n : ℕ) (few : events ≤ 32) (low : 
         (h, omega arith, no-handlers w) (omega arith) (omega arith)))
 
     start-value : (u left : List ℕ) (z : ℕ) → length u ≡ z → left ≡ drop (z + 3) v → z + 3 ≤ length v
-        → Same (then (wordOf (λ w. w) u left) (λ w left. then (handlersAt (length left) events [] left) (λ hs over. endingIn (state w hs) over r)))
+        → P (then (wordOf (λ w. w) u left) (λ w left. then (handlersAt (length left) events [] left) (λ hs over. endingIn (make w hs) over r)))
         (pick (eqb z 4) (bodyOf v events i (set d (4160 + i) (getAt u 0)) n) (out (Fault 6) d))
     unfolding getAt
-    start-value [] left z q e h = rw (ne-eqb z 4 (omega arith)) refl
-    start-value (a ∷ []) left z q e h = rw (ne-eqb z 4 (omega arith)) refl
-    start-value (a ∷ (b ∷ [])) left z q e h = rw (ne-eqb z 4 (omega arith)) refl
-    start-value (a ∷ (b ∷ (c ∷ []))) left z q e h = rw (ne-eqb z 4 (omega arith)) refl
+    start-value [] left z q e h = rw (ne-eqb z 4 (omega arith)) (bads 6 (out (Fault 6) d) refl)
+    start-value (a ∷ []) left z q e h = rw (ne-eqb z 4 (omega arith)) (bads 6 (out (Fault 6) d) refl)
+    start-value (a ∷ (b ∷ [])) left z q e h = rw (ne-eqb z 4 (omega arith)) (bads 6 (out (Fault 6) d) refl)
+    start-value (a ∷ (b ∷ (c ∷ []))) left z q e h = rw (ne-eqb z 4 (omega arith)) (bads 6 (out (Fault 6) d) refl)
     start-value (a ∷ (b ∷ (c ∷ (f ∷ [])))) left z q e h =
         let p : z + 3 ≡ 7 = omega arith in
         rw (eq-eqb z 4 (omega arith)) (active-on (((a * 256 + b) * 256 + c) * 256 + f) left (e ∙ rw p) (omega arith))
-    start-value (a ∷ (b ∷ (c ∷ (f ∷ (g ∷ u))))) left z q e h = rw (ne-eqb z 4 (omega arith)) refl
+    start-value (a ∷ (b ∷ (c ∷ (f ∷ (g ∷ u))))) left z q e h = rw (ne-eqb z 4 (omega arith)) (bads 6 (out (Fault 6) d) refl)
 
     start-field : (x : tree.Field) (f : Field) → SameField 4 4 v x f
-        → Same (then (startBody x) (λ w left. then (handlersAt (length left) events [] left) (λ hs over. endingIn (state w hs) over r))) (activeFrom f (partOf v f) v events i d n)
-    start-field (refused k) f h = rw h refl
+        → P (then (startBody x) (λ w left. then (handlersAt (length left) events [] left) (λ hs over. endingIn (make w hs) over r))) (activeFrom f (partOf v f) v events i d n)
+    start-field (refused k) f h = rw h (bads k (out (Fault k) d) refl)
     start-field (present t u left) f h =
         rw (h .0, h .1) (start-value (valueIn v) left (stated v) (omega (arith, value-length v (h .3))) (h .2) (h .3))
 
-    active-value : Same (activeIn events v r) (activeOf v events i d n)
+    active-value : P (activeAs make events v r) (activeOf v events i d n)
     unfolding activeOf
     active-value = start-field (fieldAt 4 4 v) (fieldOf v 4 4) (same-field 4 4 v)
 
-    -- ---- either
+  module _ (v : List ℕ) (full : length v + 3 ≡ size) where
+    active-same : count ≡ 1 → Same (activeIn events v r) (activeOf v events i d n)
+    active-same one =
+        active-value state Same v (omega arith) (λ k o e. e)
+        (λ w hs x d₁ m h p. (after, fits, m, rw full, omega arith, part-ended i n d d₁ m (state w hs) low (omega arith) p x, one))
 
-    pub value-same : (t : ℕ) → Same (behaviourIn events t v r) (valueAt t v events i d n)
-    unfolding valueAt
-    value-same t = rw (lt-leb 64 i low) (by-two Same (eqb t 2) (λ e. passive-value) (λ e. active-value))
+  -- ---- a row
+
+  module _ (c : ℕ) (v : List ℕ) (full : length v + 4 ≡ size) (is : count ≡ c) (some : 1 ≤ c) (within : i + c ≤ 64) where
+    abbrev SameCells : Got Entry → Out → Type 0
+    SameCells g o = Same g (onward (o .0) (o .1) (λ z m. out (Done (z + 1) m) (rowCopied (o .1) i c)))
+
+    cells-same : Same (activeAs (row c) events v r) (cellsOf v c events i d n)
+    unfolding cellsOf
+    cells-same =
+        active-value (row c) SameCells v (omega arith) (λ k o e. rw e refl)
+        (λ w hs x d₁ m h p.
+        let q : length v + 3 + 1 ≡ size = omega arith in
+        (after, fits, m, rw q, omega arith, (some, within, set d₁ (viewer i) (allowed x), part-ended i n d d₁ m (state w hs) low (omega arith) p x, refl), is))
+
+  row-same : (v : List ℕ) → length v + 3 ≡ size → ((c : ℕ) (u : List ℕ) → v ≡ c ∷ u → count ≡ c) → Same (rowIn events i v r) (rowOf v events i d n)
+  unfolding rowOf
+  row-same [] full many = refl
+  row-same (c ∷ v) full many =
+      rw (eqb·suc-zero (length v))
+      (by-two Same (ltb c 2) (λ e. refl)
+      (λ e. by-two Same (ltb 16 c) (λ a. refl)
+      (λ a. by-two Same (ltb 64 (i + c)) (λ b. refl)
+      (λ b. rw (rest-drop 1 (c ∷ v)) (cells-same c v (omega arith) (many c v refl) (omega (arith, ltb-false c 2 e)) (ltb-false 64 (i + c) b))))))
+
+  -- ---- either
+
+  pub value-same : (t : ℕ) (v : List ℕ) → length v + 3 ≡ size → (t ≢ 6 → count ≡ 1) → (t ≡ 6 → (c : ℕ) (u : List ℕ) → v ≡ c ∷ u → count ≡ c)
+      → Same (behaviourIn events i t v r) (valueAt t v events i d n)
+  unfolding valueAt
+  value-same t v full one many =
+      rw (lt-leb 64 i low)
+      (by-two Same (eqb t 2) (λ e. passive-value v full (one (λ z. omega (arith, eqb-true t 2 e))))
+      (λ e. by-two Same (eqb t 6) (λ b. row-same v full (many (eqb-true t 6 b))) (λ b. active-same v full (one (eqb-false t 6 b)))))
 
 -- ---- behaviour i at the front of s
+
+-- the tags due, and how many behaviours the field makes, as both readers find them
+pub due-least : (lo : ℕ) (s : List ℕ) → leastOf s lo ≡ least lo s
+unfolding leastOf
+due-least lo [] = refl
+due-least lo (t ∷ s) = rw (eqb·suc-zero (length s))
+
+pub due-most : (s : List ℕ) → mostOf s ≡ most s
+unfolding mostOf
+due-most [] = refl
+due-most (t ∷ s) = rw (eqb·suc-zero (length s))
+
+cells-one : (s : List ℕ) → getD s 0 0 ≢ 6 → cellsAt s ≡ 1
+unfolding cellsAt
+cells-one s h = rw (ne-eqb (getD s 0 0) 6 h) (by-test (λ (z : ℕ). z ≡ 1) (ltb (length s) 4) (λ e. refl) (λ e. refl))
+
+cells-many : (s : List ℕ) → span s ≤ length s → getD s 0 0 ≡ 6 → (c : ℕ) (u : List ℕ) → valueIn s ≡ c ∷ u → cellsAt s ≡ c
+unfolding cellsAt
+cells-many s fits h c u e =
+    let l : length (valueIn s) ≡ length (c ∷ u) = ap (λ (v : List ℕ). length v) e in
+    let big : 4 ≤ length s = omega (arith, value-length s fits) in
+    let k : c ≡ getD s 3 0 = sym (ap (λ (v : List ℕ). getD v 0 0) e) ∙ getD-take (stated s) (drop 3 s) 0 0 (omega (arith, value-length s fits)) ∙ getD-drop 3 s 0 0 in
+    rw (le-ltb (length s) 4 big, eq-eqb (getD s 0 0) 6 h) (sym k)
+
+least-second : (s : List ℕ) (t : ℕ) → least 1 s ≤ t → t ≢ 1 → least 2 s ≤ t
+least-second [] t a e = omega arith
+least-second (x ∷ s) t a e = split (eqb x 6) (λ c. let b : 6 ≤ t = rw c at a in rw c b) (λ c. let b : 1 ≤ t = rw c at a in rw c (omega arith))
 
 module _ (rs : List Signal) (i : ℕ) (d : List ℕ) (n : ℕ) (few : length rs ≤ 32) (long : length d ≡ draftLength) (blank : i < 64 → Blank d i)
     (s : List ℕ) (small : n * 4 + length s ≤ 8192) where
@@ -228,30 +301,42 @@ module _ (rs : List Signal) (i : ℕ) (d : List ℕ) (n : ℕ) (few : length rs 
   unfolding valueAt
   crowded t v e = rw e refl
 
-  behaviour-field : (bs : List Entry) → length bs ≡ i → (x : tree.Field) (f : Field) → SameField 2 3 s x f
-      → SameBehaviour i s (span s) d n (behaviourBody rs bs x) (behaviourFrom f (partOf s f) (length rs) i d n)
-  behaviour-field bs q (refused k) f h = rw h refl
-  behaviour-field bs q (present t v r) f h =
-      rw (h .0, h .1, q)
-      (by-test (λ (g : Got Entry). SameBehaviour i s (span s) d n g (valueAt t (valueIn s) (length rs) i d n)) (leb 64 i)
-      (λ e. crowded t (valueIn s) e)
-      (λ e. value-same (length rs) i d n few (leb-false 64 i e) long (blank (leb-false 64 i e)) s (span s) (omega arith) r (h .2) (h .3) (valueIn s) (value-length s (h .3)) t))
+  abbrev SameHere : Got Entry → Out → Type 0
+  SameHere = SameBehaviour i (cellsAt s) s (span s) d n
 
-  pub same-behaviour : (bs : List Entry) → length bs ≡ i
-      → SameBehaviour i s (span s) d n (behaviourBody rs bs (fieldAt 2 3 s)) (behaviourOf s (length rs) i d n)
+  -- a field with tag t, whatever tags were due
+  tagged : (t : ℕ) (r : List ℕ) → i < 64 → r ≡ drop (span s) s → span s ≤ length s → t ≡ getD s 0 0
+      → SameHere (behaviourIn (length rs) i t (valueIn s) r) (valueAt t (valueIn s) (length rs) i d n)
+  tagged t r low after fits q =
+      value-same (length rs) i d n few low long (blank low) s (span s) (omega arith) r after fits (cellsAt s) t (valueIn s) (value-length s fits)
+      (λ z. cells-one s (λ y. z (q ∙ y))) (λ z. cells-many s fits (sym q ∙ z))
+
+  behaviour-field : (lo hi : ℕ) (bs : List Entry) → cellCount bs ≡ i → (x : tree.Field) (f : Field) → SameField lo hi s x f
+      → SameHere (behaviourBody rs bs x) (behaviourFrom f (partOf s f) (length rs) i d n)
+  behaviour-field lo hi bs q (refused k) f h = rw h refl
+  behaviour-field lo hi bs q (present t v r) f h =
+      rw (h .0, h .1, q)
+      (by-test (λ (g : Got Entry). SameHere g (valueAt t (valueIn s) (length rs) i d n)) (leb 64 i)
+      (λ e. crowded t (valueIn s) e)
+      (λ e. tagged t r (leb-false 64 i e) (h .2) (h .3) (h .6)))
+
+  pub same-behaviour : (bs : List Entry) → cellCount bs ≡ i → SameHere (behaviourBody rs bs (dueAt 2 s)) (behaviourOf s (length rs) i d n)
   unfolding behaviourOf
-  same-behaviour bs q = behaviour-field bs q (fieldAt 2 3 s) (fieldOf s 2 3) (same-field 2 3 s)
+  same-behaviour bs q =
+      rw (due-least 2 s, due-most s)
+      (behaviour-field (least 2 s) (most s) bs q (dueAt 2 s) (fieldOf s (least 2 s) (most s)) (same-field (least 2 s) (most s) s))
 
   -- the first, where an event could also stand: its tag is none of an event, so the second look finds the same field
-  second-look : (t : ℕ) (v r : List ℕ) (f : Field) → SameField 1 3 s (present t v r) f → t ≢ 1 → fieldOf s 2 3 ≡ Value t (stated s)
+  second-look : (t : ℕ) (v r : List ℕ) (f : Field) → SameField (least 1 s) (most s) s (present t v r) f → t ≢ 1 → fieldOf s (least 2 s) (most s) ≡ Value t (stated s)
   unfolding fieldOf
   second-look t v r f h e =
-      rw (le-ltb (length s) 3 (omega arith), le-ltb (getD s 0 0) 2 (omega arith), le-ltb 3 (getD s 0 0) (omega arith), le-ltb (length s - 3) (stated s) (omega arith))
+      let a : least 2 s ≤ getD s 0 0 = rw (h .6) at (least-second s t (h .4) e) in
+      let b : getD s 0 0 ≤ most s = rw (h .6) at (h .5) in
+      rw (le-ltb (length s) 3 (omega arith), le-ltb (getD s 0 0) (least 2 s) a, le-ltb (most s) (getD s 0 0) b, le-ltb (length s - 3) (stated s) (omega arith))
       (ap (λ (z : ℕ). Value z (stated s)) (sym (h .6)))
 
-  pub first-behaviour : i < 64 → (t : ℕ) (v r : List ℕ) (f : Field) → SameField 1 3 s (present t v r) f → t ≢ 1
-      → SameBehaviour i s (span s) d n (behaviourIn (length rs) t v r) (behaviourOf s (length rs) i d n)
+  pub first-behaviour : i < 64 → (t : ℕ) (v r : List ℕ) (f : Field) → SameField (least 1 s) (most s) s (present t v r) f → t ≢ 1
+      → SameHere (behaviourIn (length rs) i t v r) (behaviourOf s (length rs) i d n)
   unfolding behaviourOf
   first-behaviour low t v r f h e =
-      rw (second-look t v r f h e, h .1)
-      (value-same (length rs) i d n few low long (blank low) s (span s) (omega arith) r (h .2) (h .3) (valueIn s) (value-length s (h .3)) t)
+      rw (due-least 2 s, due-most s, second-look t v r f h e, h .1) (tagged t r low (h .2) (h .3) (h .6))

@@ -6,11 +6,13 @@ use lib.ListN.{length, replicate, length-replicate, getD-replicate}
 use Rattle.base.specs.Basics.{All}
 use Rattle.language.specs.Sheet.{Sheet}
 use Rattle.language.specs.Reading.{Got, bad, got, readSheet}
+use Rattle.language.specs.Grammar.{SheetFits}
 use Rattle.grammar.specs.Programs.{reads-only}
 use Rattle.draft.specs.Draft.{draftLength, SheetDraft}
 use Rattle.reader.specs.declared.Draft.{Draft}
 use Rattle.reader.specs.declared.Draft.the-variants.{Ready, Broken}
 use Rattle.reader.specs.Whole.{Finish, finished, readOn}
+use Rattle.drafting.specs.Sofar.{all-read}
 use Rattle.drafting.specs.Programs.{SameProgram, same-program}
 
 -- what an answer of the reader says of the bytes s, with the draft d that it leaves
@@ -30,8 +32,16 @@ module _ (s : List ℕ) (bytes : All (λ b. b < 256) s) (most : length s ≤ 819
   outcome (bad k) o q h = rw h q
   outcome (got p r) o q h =
       let t : readSheet s ≡ got p [] = q ∙ ap (λ (l : List ℕ). got p l) (h .0) in
+      let f : SheetFits p = reads-only s bytes most p [] t .1 in
       rw (h .2) (
-        record { sheet = p; fits = reads-only s bytes most p [] t .1; events-are = refl; size-is = refl; drafted = h .3 },
+        record {
+          sheet = p;
+          fits = f;
+          events-are = refl;
+          size-is = refl;
+          drafted = all-read (o .1) (h .1) (h .3) (p .signals) (p .entries) (h .4) (length (p .signals)) (f .each) (f .few-behaviours);
+          pool = h .4 .pool;
+        },
         t,
       )
 

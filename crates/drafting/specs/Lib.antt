@@ -5,6 +5,7 @@ pub mod Entries
 pub mod Handlers
 pub mod Endings
 pub mod Behaviours
+pub mod Spread
 pub mod Sofar
 pub mod Programs
 pub mod Drafts

@@ -11,24 +11,32 @@ use lib.Seq.{drop-drop}
 use lib.Dec.{ltb, leb, eqb}
 use borrow.Author.Tests.{lt-ltb, leb-false, eqb-true, eqb-false, eq-eqb, ne-eqb}
 use Rattle.base.specs.Tools.{by-two}
-use Rattle.language.specs.Sheet.{Signal, Entry, Sheet, allowed, fill}
+use Rattle.language.specs.Sheet.{Signal, Entry, Sheet, cells, cellCount, allowed}
+use Rattle.language.specs.RowLaws.{count-append}
 use Rattle.language.specs.Reading as tree
-use Rattle.language.specs.Reading.{refused, present, fieldAt, Got, bad, got, then, behaviourIn, signal, signalIn, sheet, behaviourBody, behavioursAt, eventsBody, eventsAt, readSheet}
+use Rattle.language.specs.Reading.{refused, present, Got, bad, got, then, behaviourIn, least, most, dueAt, signal, signalIn, sheet, behaviourBody, behavioursAt, eventsBody, eventsAt, readSheet}
 use Rattle.field.specs.Field.{fieldOf, partOf}
 use Rattle.field.specs.Expression.{Out}
 use Rattle.field.specs.declared.Field.{Field}
-use Rattle.draft.specs.Draft.{draftLength, Drafted, unfilled}
+use Rattle.draft.specs.Draft.{draftLength}
+use Rattle.cells.specs.Cells.{cellsAt}
 use Rattle.reader.specs.declared.Draft.the-variants.{Ready, Broken}
 use Rattle.behaviours.specs.Behaviour.{behaviourOf}
 use Rattle.reader.specs.Whole.{Made, sender, signalAt, priorityAt, eventFrom, eventOf, eventNext, eventsOf, Finish, finished, proceed, behavioursOf, readOn}
 use Rattle.drafting.specs.Fields.{span, SameField, same-field, value-length, rest-drop, end-test}
-use Rattle.drafting.specs.Behaviours.{SameBehaviour, same-behaviour, first-behaviour}
-use Rattle.drafting.specs.Sofar.{Sofar, grow, declare, nothing-yet, all-read}
+use Rattle.drafting.specs.Behaviours.{GrownBy, SameBehaviour, due-least, due-most, same-behaviour, first-behaviour}
+use Rattle.drafting.specs.Spread.{length-spread}
+use Rattle.drafting.specs.Sofar.{Sofar, grow, declare, nothing-yet}
 
 -- what both readers say of a sheet
 abbrev pub SameProgram : Got Sheet → Finish → Type 0
 SameProgram (bad k) o = o .0 ≡ Broken k
-SameProgram (got p r) o = (r ≡ []) × (n : ℕ) × (o .0 ≡ Ready (length (p .signals)) (length (p .entries)) n) × Drafted (fill unfilled p) (o .1) n
+SameProgram (got p r) o =
+    (r ≡ []) × (n : ℕ) × (o .0 ≡ Ready (length (p .signals)) (cellCount (p .entries)) n) × (n ≤ 2048) × Sofar (p .signals) (p .entries) (o .1) n
+
+count-snoc : (bs : List Entry) (x : Entry) → cellCount (bs ++ (x ∷ [])) ≡ cellCount bs + cells (x .item)
+unfolding cellCount
+count-snoc bs x = count-append bs (x ∷ []) ∙ omega arith
 
 -- ---- behaviours
 
@@ -38,24 +46,28 @@ module _ (s : List ℕ) (rs : List Signal) where
   Due at bs d n = (at ≤ length s) × (n * 4 + (length s - at) ≤ 8192) × Sofar rs bs d n
 
   ended : (at : ℕ) (bs : List Entry) (d : List ℕ) (n : ℕ) → Due at bs d n
-      → SameProgram (got (sheet rs bs) []) (finished (Ready (length rs) (length bs) n) d)
-  ended at bs d n t = (refl, n, refl, all-read d n (omega arith) rs bs (t .2))
+      → SameProgram (got (sheet rs bs) []) (finished (Ready (length rs) (cellCount bs) n) d)
+  ended at bs d n t = (refl, n, refl, omega arith, t .2)
 
   -- one is read
   next : (l at : ℕ) (bs : List Entry) (d : List ℕ) (n : ℕ) (F : Entry → List ℕ → Got Sheet) → Due at bs d n
       → ((at′ : ℕ) (b : Entry) (d′ : List ℕ) (n′ : ℕ) → at < at′ → Due at′ (bs ++ (b ∷ [])) d′ n′
-      → SameProgram (F b (drop at′ s)) (behavioursOf l s at′ (length rs) (length bs + 1) d′ n′))
-      → (g : Got Entry) (o : Out) → SameBehaviour (length bs) (drop at s) (span (drop at s)) d n g o
-      → SameProgram (then g F) (proceed (o .0) (o .1) (λ size m. behavioursOf l s (at + size) (length rs) (length bs + 1) (o .1) m))
+      → SameProgram (F b (drop at′ s)) (behavioursOf l s at′ (length rs) (cellCount bs + cells (b .item)) d′ n′))
+      → (g : Got Entry) (o : Out) → SameBehaviour (cellCount bs) (cellsAt (drop at s)) (drop at s) (span (drop at s)) d n g o
+      → SameProgram (then g F) (proceed (o .0) (o .1) (λ size m. behavioursOf l s (at + size) (length rs) (cellCount bs + cellsAt (drop at s)) (o .1) m))
   next l at bs d n F t ih (bad k) o e = rw e refl
   next l at bs d n F t ih (got b r) o h =
       let q : length (drop at s) ≡ length s - at = length-drop at s in
       let p : r ≡ drop (at + span (drop at s)) s = h .0 ∙ drop-drop (span (drop at s)) at s in
-      rw (h .3, p)
-      (ih (at + span (drop at s)) b (o .1) (h .2) (omega arith) (omega arith, omega arith, grow rs bs b d (o .1) n (h .2) (t .2) (h .5)))
+      rw (h .3, h .6, p)
+      (ih (at + span (drop at s)) b (o .1) (h .2) (omega arith) (
+        omega arith,
+        omega arith,
+        grow rs bs d (o .1) n (h .2) (t .2) (omega arith) (b .item) (b .viewer) (subst (λ (z : ℕ). GrownBy z d n (b .item) (b .viewer) (o .1) (h .2)) (sym (length-spread bs)) (h .5)),
+      ))
 
   pub same-behaviours : (k l at : ℕ) (bs : List Entry) (d : List ℕ) (n : ℕ) → Due at bs d n → length s ≤ at + k → length s ≤ at + l
-      → SameProgram (behavioursAt k rs bs (drop at s)) (behavioursOf l s at (length rs) (length bs) d n)
+      → SameProgram (behavioursAt k rs bs (drop at s)) (behavioursOf l s at (length rs) (cellCount bs) d n)
   unfolding behavioursAt behavioursOf
   same-behaviours zero zero at bs d n t a b = rw (end-test at s (t .0), eq-eqb at (length s) (omega arith)) (ended at bs d n t)
   same-behaviours zero (suc l) at bs d n t a b = rw (end-test at s (t .0), eq-eqb at (length s) (omega arith)) (ended at bs d n t)
@@ -64,29 +76,30 @@ module _ (s : List ℕ) (rs : List Signal) where
       rw (end-test at s (t .0), rest-drop at s)
       (by-two SameProgram (eqb at (length s)) (λ e. ended at bs d n t)
       (λ e. next l at bs d n (λ x r. behavioursAt k rs (bs ++ (x ∷ [])) r) t
-      (λ at′ x d′ n′ h t′. subst (λ (z : ℕ). SameProgram (behavioursAt k rs (bs ++ (x ∷ [])) (drop at′ s)) (behavioursOf l s at′ (length rs) z d′ n′)) (length-append bs (x ∷ []))
+      (λ at′ x d′ n′ h t′. subst (λ (z : ℕ). SameProgram (behavioursAt k rs (bs ++ (x ∷ [])) (drop at′ s)) (behavioursOf l s at′ (length rs) z d′ n′)) (count-snoc bs x)
       (same-behaviours k l at′ (bs ++ (x ∷ [])) d′ n′ t′ (omega arith) (omega arith)))
-      (behaviourBody rs bs (fieldAt 2 3 (drop at s))) (behaviourOf (drop at s) (length rs) (length bs) d n)
-      (same-behaviour rs (length bs) d n (t .2 .few) (t .2 .long) (λ h. t .2 .blanks (length bs) (omega arith) h) (drop at s) (omega (arith, length-drop at s)) bs refl)))
+      (behaviourBody rs bs (dueAt 2 (drop at s))) (behaviourOf (drop at s) (length rs) (cellCount bs) d n)
+      (same-behaviour rs (cellCount bs) d n (t .2 .flat .few) (t .2 .flat .long) (λ h. t .2 .flat .blanks (cellCount bs) (omega (arith, length-spread bs)) h) (drop at s) (omega (arith, length-drop at s)) bs refl)))
 
   -- where the events end: at the end, or before a behaviour
   none-left : (l at : ℕ) (d : List ℕ) → Sofar rs [] d 0 → at ≡ length s → length s ≤ 8192
       → SameProgram (got (sheet rs []) []) (behavioursOf l s at (length rs) 0 d 0)
-  unfolding behavioursOf
+  unfolding behavioursOf cellCount
   none-left zero at d t e small = rw (eq-eqb at (length s) e) (ended at [] d 0 (omega arith, omega arith, t))
   none-left (suc l) at d t e small = rw (eq-eqb at (length s) e) (ended at [] d 0 (omega arith, omega arith, t))
 
   others : (k l at : ℕ) (d : List ℕ) → Sofar rs [] d 0 → at < length s → length s ≤ 8192 → length s ≤ at + suc k → length s ≤ at + l
-      → (t : ℕ) (v r : List ℕ) (f : Field) → SameField 1 3 (drop at s) (present t v r) f → t ≢ 1
-      → SameProgram (then (behaviourIn (length rs) t v r) (λ x r. behavioursAt k rs (x ∷ []) r)) (behavioursOf l s at (length rs) 0 d 0)
-  unfolding behavioursOf
+      → (t : ℕ) (v r : List ℕ) (f : Field) → SameField (least 1 (drop at s)) (most (drop at s)) (drop at s) (present t v r) f → t ≢ 1
+      → SameProgram (then (behaviourIn (length rs) 0 t v r) (λ x r. behavioursAt k rs (x ∷ []) r)) (behavioursOf l s at (length rs) 0 d 0)
+  unfolding behavioursOf cellCount
   others k zero at d so lt small a b t v r f h e = absurd (omega arith)
   others k (suc l) at d so lt small a b t v r f h e =
       rw (ne-eqb at (length s) (omega arith), rest-drop at s)
       (next l at [] d 0 (λ x r. behavioursAt k rs (x ∷ []) r) (omega arith, omega arith, so)
-      (λ at′ x d′ n′ c t′. same-behaviours k l at′ (x ∷ []) d′ n′ t′ (omega arith) (omega arith))
-      (behaviourIn (length rs) t v r) (behaviourOf (drop at s) (length rs) 0 d 0)
-      (first-behaviour rs 0 d 0 (so .few) (so .long) (λ c. so .blanks 0 (omega arith) c) (drop at s) (omega (arith, length-drop at s)) (omega arith) t v r f h e))
+      (λ at′ x d′ n′ c t′. subst (λ (z : ℕ). SameProgram (behavioursAt k rs (x ∷ []) (drop at′ s)) (behavioursOf l s at′ (length rs) z d′ n′)) (count-snoc [] x)
+      (same-behaviours k l at′ (x ∷ []) d′ n′ t′ (omega arith) (omega arith)))
+      (behaviourIn (length rs) 0 t v r) (behaviourOf (drop at s) (length rs) 0 d 0)
+      (first-behaviour rs 0 d 0 (so .flat .few) (so .flat .long) (λ c. so .flat .blanks 0 (omega (arith, length-spread [])) c) (drop at s) (omega (arith, length-drop at s)) (omega arith) t v r f h e))
 
 -- ---- events
 
@@ -131,7 +144,7 @@ module _ (s : List ℕ) (small : length s ≤ 8192) where
     signal-value (r ∷ (m ∷ (x ∷ v))) u z q e h low =
         rw (ne-eqb (length (r ∷ (m ∷ (x ∷ v)))) 0 (omega arith), lt-ltb 2 (length (r ∷ (m ∷ (x ∷ v)))) (omega arith)) refl
 
-    event-field : (x : tree.Field) (f : Field) → SameField 1 3 (drop at s) x f
+    event-field : (x : tree.Field) (f : Field) → SameField (least 1 (drop at s)) (most (drop at s)) (drop at s) x f
         → After (eventsBody (eventsAt k) (behavioursAt k rs) rs x) (eventFrom f (partOf (drop at s) f) (length rs) d)
     unfolding priorityAt
     event-field (refused j) f h = rw h refl
@@ -143,9 +156,11 @@ module _ (s : List ℕ) (small : length s ≤ 8192) where
         (λ c. signal-value v r (span (drop at s)) (ap (λ (u : List ℕ). length u + 3) (h .1) ∙ value-length (drop at s) (h .3)) (h .2) (h .3) (leb-false 32 (length rs) c)))
         (λ e. others s rs k (length s) at d (t .1) lt small a (omega arith) y v r f h (eqb-false y 1 e))))
 
-    event-here : After (eventsBody (eventsAt k) (behavioursAt k rs) rs (fieldAt 1 3 (drop at s))) (eventOf (drop at s) (length rs) d)
+    event-here : After (eventsBody (eventsAt k) (behavioursAt k rs) rs (dueAt 1 (drop at s))) (eventOf (drop at s) (length rs) d)
     unfolding eventOf
-    event-here = event-field (fieldAt 1 3 (drop at s)) (fieldOf (drop at s) 1 3) (same-field 1 3 (drop at s))
+    event-here =
+        rw (due-least 1 (drop at s), due-most (drop at s))
+        (event-field (dueAt 1 (drop at s)) (fieldOf (drop at s) (least 1 (drop at s)) (most (drop at s))) (same-field (least 1 (drop at s)) (most (drop at s)) (drop at s)))
 
   same-events : (k l at : ℕ) (rs : List Signal) (d : List ℕ) → Early at rs d → length s ≤ at + k → length s ≤ at + l
       → SameProgram (eventsAt k rs (drop at s)) (go-on (eventsOf l s at (length rs) d))

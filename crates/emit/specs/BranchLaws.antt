@@ -40,7 +40,7 @@ module _ (d : List ℕ) (e j v : ℕ) (is : v ≡ entryOf d e j) where
   unfolding moveWords
   move-none h = if-not-eq _ _ (kindOf (entryOf d e j)) 3 (rw (← is) h) refl
 
-  pub turn-is : (op : ℕ) → exprWords d e (startOf v) (countOf v) ++ ((op + j) ∷ 0 ∷ []) ≡ turnWords d e op j
+  pub turn-is : (op : ℕ) → exprWords d e j (startOf v) (countOf v) ++ ((op + j) ∷ 0 ∷ []) ≡ turnWords d e op j
   unfolding turnWords
   turn-is op = rw is
 

@@ -1,5 +1,5 @@
 -- The words of an expression's nodes are those of its postfix code, by induction on the expression.
-use Prim.Native.Nat.{ℕ, _+_, _%_, _≤_, _<_, _^_}
+use Prim.Native.Nat.{ℕ, _+_, _-_, _%_, _≤_, _<_, _^_}
 use mathlib.Core.Path.{_≡_, refl, sym, ap, _∙_}
 use mathlib.Core.Bool.{Bool, true, false}
 use mathlib.Core.List.{List, [], _∷_, _++_, append-assoc, append-nil, flatMap}
@@ -13,9 +13,9 @@ use Rattle.language.specs.Grammar.{Arity, unary, ternary, binary, Nested, n-con
 use Rattle.language.specs.Accepted.{NamesIn}
 use Rattle.language.specs.Code.{Instr, load, fetch, apply, inC, postfix}
 use Rattle.image.specs.Image.{operation, constant, codeWords}
-use Rattle.draft.specs.Draft.{nodes, entryOf, Drafted}
+use Rattle.draft.specs.Draft.{nodes, entryOf, moved, usedBy, Drafted}
 use Rattle.draft.specs.Entry.{startOf, countOf, tagOf, wordOf}
-use Rattle.draft.specs.DraftLaws.{Holds, entry-of}
+use Rattle.draft.specs.DraftLaws.{Holds, entry-of, length-used, used-at}
 use Rattle.counts.specs.CountIs.{copied-is}
 use Rattle.emit.specs.Words.{each, nameWords, nodeWords, exprWords}
 use Rattle.emit.specs.WritingLaws.{in-turn-each}
@@ -72,7 +72,7 @@ fetched i false = refl
 module _ (p : Program) (d : List ℕ) (n : ℕ) (dr : Drafted p d n) (few : size p ≤ 64) (e : ℕ) (b : e ≤ 32) where
   name-code : (i : ℕ) → i < size p → nameWords d e i ≡ codeWords (pick (inC p e i) (fetch i) (load i) ∷ [])
   unfolding nameWords
-  name-code i h = rw (copied-is d (entryOf d e i) (response p e i) (entry-of p d n dr e i b h)) (fetched i (inC p e i))
+  name-code i h = rw (copied-is (usedBy d i) (entryOf d e i) (response p e i) (entry-of p d n dr e i b h)) (fetched i (inC p e i))
 
   nodes-code : {k : ℕ} {x : Expr} → Nested k x → NamesIn (size p) x → flatMap (nodeWords d e) (nodes x) ≡ codeWords (postfix (inC p e) x)
   unfolding nodes postfix codeWords
@@ -106,13 +106,15 @@ module _ (p : Program) (d : List ℕ) (n : ℕ) (dr : Drafted p d n) (few : size
         codeWords-append (postfix (inC p e) z),
       )
 
-  -- where its nodes stand
-  pub expr-code : (kind v : ℕ) (x : Expr) → Holds d kind v x → Nested 16 x → NamesIn (size p) x
-      → exprWords d e (startOf v) (countOf v) ≡ codeWords (postfix (inC p e) x)
+  -- where its nodes stand, as behaviour i uses them
+  pub expr-code : (i kind v : ℕ) (x : Expr) → Holds (usedBy d i) kind v x → Nested 16 x → NamesIn (size p) x
+      → exprWords d e i (startOf v) (countOf v) ≡ codeWords (postfix (inC p e) x)
   unfolding exprWords
-  expr-code kind v x h f k =
-      let l : countOf v ≤ length (drop (startOf v) d) = rw (length-drop (startOf v) d) (omega (arith, h .inside, dr .long)) in
-      let s : flatMap (nodeWords d e) (take (countOf v) (drop (startOf v) d)) ≡ each (countOf v) (λ j. nodeWords d e (getD (drop (startOf v) d) j 0)) =
-      in-turn-each (nodeWords d e) (drop (startOf v) d) (countOf v) l in
-      let g : flatMap (nodeWords d e) (take (countOf v) (drop (startOf v) d)) ≡ each (countOf v) (λ j. nodeWords d e (getD d (startOf v + j) 0)) = simp getD-drop at s in
+  expr-code i kind v x h f k =
+      let u : length (drop (startOf v) (usedBy d i)) ≡ length d - startOf v = length-drop (startOf v) (usedBy d i) ∙ rw (length-used d i) in
+      let l : countOf v ≤ length (drop (startOf v) (usedBy d i)) = omega (arith, h .inside, dr .long) in
+      let s : flatMap (nodeWords d e) (take (countOf v) (drop (startOf v) (usedBy d i))) ≡ each (countOf v) (λ j. nodeWords d e (getD (drop (startOf v) (usedBy d i)) j 0)) =
+      in-turn-each (nodeWords d e) (drop (startOf v) (usedBy d i)) (countOf v) l in
+      let g : flatMap (nodeWords d e) (take (countOf v) (drop (startOf v) (usedBy d i))) ≡ each (countOf v) (λ j. nodeWords d e (moved d i (getD d (startOf v + j) 0))) =
+      simp (getD-drop, used-at) at s in
       sym g ∙ rw (h .count-is, h .there) (nodes-code f k)

@@ -5,7 +5,7 @@ use mathlib.Core.List.{List, [], _∷_, _++_}
 use lib.ListN.{getD}
 use lib.Dec.{eqb}
 use Rattle.base.specs.Basics.{pick}
-use Rattle.draft.specs.Draft.{entryOf}
+use Rattle.draft.specs.Draft.{entryOf, moved}
 use Rattle.draft.specs.Entry.{kindOf, startOf, countOf, tagOf, wordOf}
 
 -- f of each number below n, one after the other
@@ -23,13 +23,13 @@ nodeWords d e x =
     pick (eqb (tagOf x) 16) (1280 ∷ wordOf x ∷ [])
     (pick (eqb (tagOf x) 17) (nameWords d e (wordOf x % 64)) ((2048 + wordOf x % 16) ∷ 0 ∷ []))
 
--- an expression of count nodes from start on
-unfoldable pub exprWords : List ℕ → ℕ → ℕ → ℕ → List ℕ
-exprWords d e start count = each count (λ j. nodeWords d e (getD d (start + j) 0))
+-- behaviour i's expression of count nodes from start on, as it uses them
+unfoldable pub exprWords : List ℕ → ℕ → ℕ → ℕ → ℕ → List ℕ
+exprWords d e i start count = each count (λ j. nodeWords d e (moved d i (getD d (start + j) 0)))
 
 -- the expression of behaviour i, and then op i
 unfoldable pub turnWords : List ℕ → ℕ → ℕ → ℕ → List ℕ
-turnWords d e op i = exprWords d e (startOf (entryOf d e i)) (countOf (entryOf d e i)) ++ ((op + i) ∷ 0 ∷ [])
+turnWords d e op i = exprWords d e i (startOf (entryOf d e i)) (countOf (entryOf d e i)) ++ ((op + i) ∷ 0 ∷ [])
 
 -- the same, if its entry is of this kind
 unfoldable pub kindWords : List ℕ → ℕ → ℕ → ℕ → ℕ → List ℕ

@@ -9,6 +9,7 @@ ghost use Rattle.draft.specs.Draft.{draftLength};
 ghost use Rattle.emit.specs.Words.{nameWords, nodeWords, exprWords, turnWords, kindWords, moveWords, memberWords};
 ghost use Rattle.emit.specs.Writing.{Room, Wrote};
 use draft::entry_of;
+use draft::moved_node;
 use word::put_word;
 
 // One instruction.
@@ -48,16 +49,24 @@ fn emit_node(d: &[u64], e: usize, x: u64, t: &mut [u8], k: usize) -> usize
     emit_instr(t, k, 2048 + (x % 4294967296 % 16) as u32, 0)
 }
 
-// An expression of count nodes from start on.
-fn emit_expr(d: &[u64], e: usize, start: usize, count: usize, t: &mut [u8], k: usize) -> usize
-    requires { ⌜ (length (now d) ≡ draftLength) × (start + count ≤ 2048) ⌝ }
-    requires { ⌜ Room (now t) k (exprWords (now d) e start count) ⌝ }
-    ensures { λ r. ⌜ Wrote (now (t .entry)) k (exprWords (now (d .entry)) e start count) (now (t .exit)) r ⌝ }
+// Behaviour i's expression of count nodes from start on, as it uses them.
+fn emit_expr(
+    d: &[u64],
+    e: usize,
+    i: usize,
+    start: usize,
+    count: usize,
+    t: &mut [u8],
+    k: usize,
+) -> usize
+    requires { ⌜ (length (now d) ≡ draftLength) × (i < 64) × (start + count ≤ 2048) ⌝ }
+    requires { ⌜ Room (now t) k (exprWords (now d) e i start count) ⌝ }
+    ensures { λ r. ⌜ Wrote (now (t .entry)) k (exprWords (now (d .entry)) e i start count) (now (t .exit)) r ⌝ }
 {
     let mut next = k;
     let mut j = 0;
     while j < count {
-        next = emit_node(d, e, d[start + j], t, next);
+        next = emit_node(d, e, moved_node(d, i, d[start + j]), t, next);
         j += 1;
     }
     next
@@ -70,7 +79,7 @@ pub fn emit_turn(d: &[u64], e: usize, op: u32, i: usize, t: &mut [u8], k: usize)
     ensures { λ r. ⌜ Wrote (now (t .entry)) k (turnWords (now (d .entry)) e op i) (now (t .exit)) r ⌝ }
 {
     let v = entry_of(d, e, i);
-    let next = emit_expr(d, e, (v / 4 % 4096) as usize, (v / 16384) as usize, t, k);
+    let next = emit_expr(d, e, i, (v / 4 % 4096) as usize, (v / 16384) as usize, t, k);
     emit_instr(t, next, op + i as u32, 0)
 }
 

@@ -4,7 +4,7 @@ use Prim.Native.Nat.{ℕ, _≤_, _<_}
 use mathlib.Core.Bool.{true≢false}
 use mathlib.Core.Path.{_≡_, refl, sym, ap, _∙_}
 use mathlib.Core.Logic.{_≢_}
-use mathlib.Core.List.{List, [], _∷_, _++_, sum}
+use mathlib.Core.List.{List, [], _∷_, _++_, sum, flatMap}
 use native.Mathlib.Omega.{arith}
 use lib.ListN.{length}
 use lib.Dec.{leb}
@@ -12,7 +12,7 @@ use borrow.Author.Tests.{le-leb, lt-leb}
 use Rattle.base.specs.Tools.{by-test}
 use Rattle.word.specs.Word.{get}
 use Rattle.language.specs.Syntax.{Program}
-use Rattle.language.specs.Sheet.{Sheet, fillEntries, usesEntries}
+use Rattle.language.specs.Sheet.{Sheet, cellCount, entriesOut, fillEntries, usesEntries}
 use Rattle.language.specs.Dependence.{handled, dependsOn, Reach, one, more}
 use Rattle.language.specs.Grammar.{encodeBehaviours, encodeEvents, encode}
 use Rattle.language.specs.Order.{upTo}
@@ -94,11 +94,11 @@ nothing-accepted = record {
 }
 
 means-nothing : (ps : List ℕ) → programOf ps blank ≡ nothing
-unfolding fillEntries
+unfolding fillEntries entriesOut flatMap
 means-nothing ps = refl
 
 blank-accepted : (ps : List ℕ) → SheetAccepted (get ps) (length ps) blank
-unfolding fillEntries usesEntries
+unfolding fillEntries usesEntries entriesOut flatMap cellCount
 blank-accepted ps = record {
   fits = record {
     few-events = omega arith;

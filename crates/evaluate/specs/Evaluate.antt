@@ -6,7 +6,7 @@ use lib.ListN.{getD, set, take, drop, replicate}
 use lib.Dec.{eqb, ltb}
 use Rattle.base.specs.Basics.{pick}
 use Rattle.arith.specs.Functions.{result, arity}
-use Rattle.draft.specs.Draft.{entryOf}
+use Rattle.draft.specs.Draft.{entryOf, usedBy}
 use Rattle.draft.specs.Entry.{startOf, countOf, tagOf, wordOf}
 
 -- ---- one node, on the stack s of depth k; v has the values of names
@@ -71,9 +71,9 @@ unfoldable pub startsOn : List ℕ → ℕ → List ℕ
 startsOn d zero = replicate 64 0
 startsOn d (suc n) = set (startsOn d n) n (getD d (4160 + n) 0 % 4294967296)
 
--- behaviour i takes the value of its expression on event e
+-- behaviour i takes the value of its expression on event e, its nodes as it uses them
 unfoldable pub turnOn : List ℕ → ℕ → ℕ → List ℕ → List ℕ
-turnOn d e i v = pick (ltb i 64) (set v i (entryValue d v (entryOf d e i))) v
+turnOn d e i v = pick (ltb i 64) (set v i (entryValue (usedBy d i) v (entryOf d e i))) v
 
 unfoldable pub turnsOn : List ℕ → ℕ → List ℕ → List ℕ → List ℕ
 turnsOn d e [] v = v

@@ -24,7 +24,7 @@ use Rattle.semantics.specs.OrderLaws.{phaseOne-early}
 use Rattle.semantics.specs.Lengths.{length-first, length-starts, length-fresh}
 use Rattle.execution.specs.Responses.{ResponseFits, response-fits}
 use Rattle.execution.specs.Running.{value-same}
-use Rattle.draft.specs.Draft.{entryOf, Stands, Says, StartIs, Drafted}
+use Rattle.draft.specs.Draft.{entryOf, usedBy, Stands, Says, StartIs, Drafted}
 use Rattle.evaluate.specs.Evaluate.{startsOn, turnOn, turnsOn, freshOn}
 use Rattle.evaluate.specs.NodesAre.{entry-is}
 
@@ -87,7 +87,7 @@ module _ (p : Program) (d : List ℕ) (k : ℕ) (drafted : Drafted p d k) (fits 
   -- ---- one turn
 
   module _ (e : ℕ) (known : e ≤ 32) where
-    sets-value : (i : ℕ) (s : List ℕ) (kind : ℕ) (x : Expr) → kind < 4 → i < size p → length s ≡ size p → Stands d kind (entryOf d e i) x → Nested 16 x
+    sets-value : (i : ℕ) (s : List ℕ) (kind : ℕ) (x : Expr) → kind < 4 → i < size p → length s ≡ size p → Stands (usedBy d i) kind (entryOf d e i) x → Nested 16 x
         → NamesIn (size p) x → turnOn d e i (s ++ rest) ≡ set s i (value (at s) x) ++ rest
     unfolding turnOn
     sets-value i s kind x q b l t h n =
@@ -95,11 +95,11 @@ module _ (p : Program) (d : List ℕ) (k : ℕ) (drafted : Drafted p d k) (fits 
         let g : ltb i 64 ≡ true = lt-ltb i 64 (omega arith) in
         rw (
           g,
-          entry-is (s ++ rest) d kind (entryOf d e i) x q t h (size p) few n,
+          entry-is (s ++ rest) (usedBy d i) kind (entryOf d e i) x q t h (size p) few n,
           value-same (size p) (at (s ++ rest)) (at s) (λ j c. pad-at s (64 - size p) j) x n,
         ) (set-append-left s rest i (value (at s) x) (omega arith))
 
-    turn-is : (i : ℕ) (s : List ℕ) (r : Response) → early r ≡ true → i < size p → length s ≡ size p → Says d (entryOf d e i) r → ResponseFits (size p) r
+    turn-is : (i : ℕ) (s : List ℕ) (r : Response) → early r ≡ true → i < size p → length s ≡ size p → Says (usedBy d i) (entryOf d e i) r → ResponseFits (size p) r
         → turnOn d e i (s ++ rest) ≡ firstStep i r s ++ rest
     turn-is i s (follows x) y b l t h = sets-value i s 1 x (omega arith) b l t (h .0) (h .1)
     turn-is i s (takes x) y b l t h = sets-value i s 2 x (omega arith) b l t (h .0) (h .1)

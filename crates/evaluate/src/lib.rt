@@ -2,7 +2,7 @@
 ghost use mathlib.Core.Path.{_≡_};
 ghost use Prim.Native.Nat.{_+_, _-_, _%_, _<_, _≤_};
 ghost use lib.ListN.{length, take, drop};
-ghost use Rattle.draft.specs.Draft.{draftLength};
+ghost use Rattle.draft.specs.Draft.{draftLength, usedBy};
 ghost use Rattle.evaluate.specs.Evaluate.{pushDepth, pushStack, look, argument, applied, applyDepth, applyStack, nodeDepth, nodeStack, evaluated};
 ghost use Rattle.evaluate.specs.Evaluate.{entryValue, startsOn, turnOn, freshOn};
 
@@ -88,32 +88,32 @@ fn eval_node(x: u64, v: &[u32], st: &mut [u32], k: usize) -> usize
     apply_top(f, n, st, k)
 }
 
-// The value of the expression whose nodes are count of the draft from start on, v the values of names.
-fn eval_nodes(d: &[u64], start: usize, count: usize, v: &[u32]) -> u32
-    requires { ⌜ (start + count ≤ length (now d)) × (length (now v) ≡ 64) ⌝ }
-    ensures { λ r. ⌜ r ≡ evaluated (now (v .entry)) (take count (drop start (now (d .entry)))) ⌝ }
+// The value of the expression whose nodes are count of the draft from start on, as behaviour b uses them; v the values of names.
+fn eval_nodes(d: &[u64], b: usize, start: usize, count: usize, v: &[u32]) -> u32
+    requires { ⌜ (length (now d) ≡ draftLength) × (b < 64) × (start + count ≤ 2048) × (length (now v) ≡ 64) ⌝ }
+    ensures { λ r. ⌜ r ≡ evaluated (now (v .entry)) (take count (drop start (usedBy (now (d .entry)) b))) ⌝ }
 {
     let mut st = [0u32; 64];
     let mut k = 0;
     let mut i = 0;
     while i < count {
-        k = eval_node(d[start + i], v, &mut st, k);
+        k = eval_node(draft::moved_node(d, b, d[start + i]), v, &mut st, k);
         i += 1;
     }
     st[0]
 }
 
-// The value of the expression of entry w.
-fn eval_entry(d: &[u64], v: &[u32], w: u64) -> u32
-    requires { ⌜ (length (now d) ≡ draftLength) × (length (now v) ≡ 64) ⌝ }
-    ensures { λ r. ⌜ r ≡ entryValue (now (d .entry)) (now (v .entry)) w ⌝ }
+// The value of the expression of behaviour i with entry w.
+fn eval_entry(d: &[u64], i: usize, v: &[u32], w: u64) -> u32
+    requires { ⌜ (length (now d) ≡ draftLength) × (i < 64) × (length (now v) ≡ 64) ⌝ }
+    ensures { λ r. ⌜ r ≡ entryValue (usedBy (now (d .entry)) i) (now (v .entry)) w ⌝ }
 {
     let start = (w / 4 % 4096) as usize;
     let count = (w / 16384) as usize;
     if 2048 < start + count {
         return 0;
     }
-    eval_nodes(d, start, count, v)
+    eval_nodes(d, i, start, count, v)
 }
 
 // The start values of n behaviours.
@@ -137,7 +137,7 @@ fn take_turn(d: &[u64], e: usize, i: usize, v: &mut [u32])
 {
     if i < 64 {
         let w = draft::entry_of(d, e, i);
-        let u = eval_entry(d, v, w);
+        let u = eval_entry(d, i, v, w);
         v[i] = u;
     }
 }

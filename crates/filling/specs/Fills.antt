@@ -1,5 +1,5 @@
 -- A draft that is filled in is that of the sheet's filling, and a parameter is found in it exactly if the sheet uses one: node by node, each by induction on the sheet.
-use Prim.Native.Nat.{ℕ, zero, suc, _+_, _*_, _-_, _%_, _≤_, _<_, _^_}
+use Prim.Native.Nat.{ℕ, zero, suc, _+_, _*_, _-_, _/_, _%_, _≤_, _<_, _^_}
 use mathlib.Core.Path.{_≡_, refl, sym, ap, subst, _∙_}
 use mathlib.Core.Logic.{_≢_}
 use mathlib.Core.Bool.{Bool, true, false, _&&_, _||_, and-true, and-false, or-true, or-false, or-assoc}
@@ -8,20 +8,23 @@ use native.Mathlib.Omega.{arith}
 use lib.ListN.{length, getD, take, drop, length-drop, length-set, length-map}
 use lib.Seq.{length-take-le, take-suc, getD-take, getD-drop, getD-set-same, getD-set-other, ext-getD}
 use lib.Dec.{eqb, ltb}
-use borrow.Author.Tests.{eqb-true, eqb-false, eq-eqb, ne-eqb}
+use borrow.Author.Tests.{eqb-true, eqb-false, eq-eqb, ne-eqb, ltb-true}
 use Rattle.base.specs.Basics.{All}
 use Rattle.base.specs.Tools.{split, by-test, all-at, all-at-or}
 use Rattle.word.specs.Word.{getAt, get}
 use Rattle.language.specs.Syntax.{Phase, immediate, later}
-use Rattle.language.specs.Sheet.{Term, Clause, clause, Item, formula, state, Entry, Sheet}
+use Rattle.language.specs.Sheet.{Term, Clause, clause, Item, formula, state, row, Entry, Sheet, rowsOut, prioritiesOf}
 use Rattle.language.specs.Sheet.{fillTerm, fillClauses, fillItem, fillEntries, fill, usesTerm, usesClauses, usesItem, usesEntries, uses}
 use Rattle.language.specs.Dependence.{handled, inPhase, respond}
 use Rattle.language.specs.Grammar.{Arity, unary, ternary, binary, TermFits, t-literal, t-variable, t-param, t-apply1, t-apply2, t-apply3, ClausesFit, ItemFits, EntryFits, SheetFits}
 use Rattle.language.specs.Code.{sizeOf}
 use Rattle.language.specs.Laws.{handled-here, handled-there}
-use Rattle.language.specs.SheetLaws.{blank, length-priorities, length-fill, fill-at, size-fill, fill-fits}
-use Rattle.draft.specs.Draft.{draftLength, nodes, handlerNodes, behaviourNodes, programNodes, entryOf, Stands, Says, StartIs, Drafted, DraftOf, unfilled, SheetDraft}
-use Rattle.draft.specs.Entry.{tagOf}
+use Rattle.language.specs.RowLaws.{length-out, rows-fit}
+use Rattle.language.specs.RowNames.{names-sent}
+use Rattle.language.specs.SheetLaws.{blank, length-priorities, length-fill, fill-at, size-fill, entries-fit, fill-fits}
+use Rattle.draft.specs.Draft.{draftLength, nodes, handlerNodes, behaviourNodes, programNodes, entryOf, placeOf, moved, usedBy, Stands, Says, StartIs, Drafted, DraftOf, unfilled, SheetDraft}
+use Rattle.draft.specs.DraftLaws.{take-used, moved-places}
+use Rattle.draft.specs.Entry.{tagOf, wordOf}
 use Rattle.filling.specs.Filling.{valueOf, filled, fillTo, anyParam, lacksParam}
 
 -- ---- values are words
@@ -102,6 +105,7 @@ module _ (ps : List ℕ) where
   item-nodes : (n : ℕ) (b : Item) → ItemFits n b → fillAll (behaviourNodes (fillItem unfilled b)) ≡ behaviourNodes (fillItem (valueOf ps) b)
   item-nodes n (formula x) h = term-nodes h
   item-nodes n (state s cs) h = clause-nodes n cs (h .1)
+  item-nodes n (row c s cs) h = clause-nodes n cs (h .3)
 
   entries-nodes : (n : ℕ) (bs : List Entry) → All (EntryFits n) bs → fillAll (programNodes (fillEntries unfilled bs)) ≡ programNodes (fillEntries (valueOf ps) bs)
   unfolding fillAll fillEntries programNodes
@@ -159,75 +163,130 @@ module _ (ps : List ℕ) where
       getD-take m (drop a (fillTo ps d 2048)) i 0 c ∙ getD-drop a (fillTo ps d 2048) i 0 ∙ before-fillTo d 2048 (a + i) (omega arith) (omega arith)
       ∙ sym (getD-fillAll (take m (drop a d)) i (omega arith) ∙ ap (filled ps) (getD-take m (drop a d) i 0 c ∙ getD-drop a d i 0)))
 
-  module _ (d : List ℕ) (long : length d ≡ draftLength) where
+  -- a node that a behaviour uses, filled in (02, M-110): its name is moved before or after
+  module _ (bytes : All (λ b. b < 256) ps) (d : List ℕ) (i : ℕ) where
+    constant-node : (x : ℕ) → tagOf (68719476736 + valueOf ps (x % 8)) ≢ 17
+    constant-node x e = omega (arith, value-small ps bytes (x % 8) (omega arith))
+
+    moved-tag : (x : ℕ) → tagOf x ≡ 17 → tagOf (moved d i x) ≡ 17
+    unfolding moved
+    moved-tag x e =
+        by-test (λ (y : ℕ). tagOf y ≡ 17) (eqb (tagOf x) 17)
+        (λ a. by-test (λ (y : ℕ). tagOf y ≡ 17) (ltb (wordOf x) 64)
+        (λ b. by-test (λ (y : ℕ). tagOf y ≡ 17) (eqb (placeOf d (wordOf x)) (placeOf d i / 16 * 16)) (λ c. omega (arith, ltb-true (wordOf x) 64 b)) (λ c. e))
+        (λ b. e))
+        (λ a. e)
+
+    not-moved : (x : ℕ) → tagOf x ≢ 17 → moved d i x ≡ x
+    unfolding moved
+    not-moved x h = rw (ne-eqb (tagOf x) 17 h)
+
+    still : (x : ℕ) → tagOf x ≢ 17 → tagOf (filled ps x) ≢ 17
+    unfolding filled
+    still x h = by-test (λ (y : ℕ). tagOf y ≢ 17) (eqb (tagOf x) 19) (λ _. constant-node x) (λ _. h)
+
+    moved-filled : (x : ℕ) → moved d i (filled ps x) ≡ filled ps (moved d i x)
+    moved-filled x =
+        split (eqb (tagOf x) 17)
+        (λ t.
+        let e : tagOf x ≡ 17 = eqb-true (tagOf x) 17 t in
+        let m = moved-tag x e in
+        ap (moved d i) (other-node x (omega arith)) ∙ sym (other-node (moved d i x) (omega arith)))
+        (λ t. let e : tagOf x ≢ 17 = eqb-false (tagOf x) 17 t in not-moved (filled ps x) (still x e) ∙ ap (filled ps) (sym (not-moved x e)))
+
+    fill-moved : (l : List ℕ) → map (moved d i) (fillAll l) ≡ fillAll (map (moved d i) l)
+    unfolding fillAll
+    fill-moved [] = refl
+    fill-moved (x ∷ l) = λ t. moved-filled x t ∷ fill-moved l t
+
+  module _ (bytes : All (λ b. b < 256) ps) (d : List ℕ) (long : length d ≡ draftLength) where
     abbrev d′ : List ℕ
     d′ = fillTo ps d 2048
 
-    stands-filled : (kind v : ℕ) (x : Term) {k : ℕ} → TermFits k x → Stands d kind v (fillTerm unfilled x) → Stands d′ kind v (fillTerm (valueOf ps) x)
-    stands-filled kind v x f s =
+    same-moves : (i : ℕ) (l : List ℕ) → map (moved d′ i) l ≡ map (moved d i) l
+    same-moves i [] = refl
+    same-moves i (x ∷ l) = λ t. moved-places d d′ i x (λ j. after-fillTo d 2048 (4352 + j) (omega arith)) t ∷ same-moves i l t
+
+    used-filled : (i a m : ℕ) → a + m ≤ 2048 → take m (drop a (usedBy d′ i)) ≡ fillAll (take m (drop a (usedBy d i)))
+    used-filled i a m h =
+        take-used d′ i m a ∙ ap (map (moved d′ i)) (part-filled d long a m h) ∙ same-moves i (fillAll (take m (drop a d))) ∙ fill-moved bytes d i (take m (drop a d))
+        ∙ ap fillAll (sym (take-used d i m a))
+
+    stands-filled : (kind v : ℕ) (x : Term) {k : ℕ} → TermFits k x → (i : ℕ) → Stands (usedBy d i) kind v (fillTerm unfilled x) → Stands (usedBy d′ i) kind v (fillTerm (valueOf ps) x)
+    stands-filled kind v x f i s =
         let z = size-fill (valueOf ps) unfilled x in
         record {
           start = s .start;
           packed = rw z (s .packed);
           within = rw z (s .within);
-          there = rw z (part-filled d long (s .start) (sizeOf (fillTerm unfilled x)) (s .within) ∙ ap fillAll (s .there) ∙ term-nodes f);
+          there = rw z (used-filled i (s .start) (sizeOf (fillTerm unfilled x)) (s .within) ∙ ap fillAll (s .there) ∙ term-nodes f);
         }
 
-    phase-filled : (v : ℕ) (φ : Phase) (x : Term) {k : ℕ} → TermFits k x → Says d v (inPhase φ (fillTerm unfilled x)) → Says d′ v (inPhase φ (fillTerm (valueOf ps) x))
-    phase-filled v immediate x f s = stands-filled 2 v x f s
-    phase-filled v later x f s = stands-filled 3 v x f s
+    phase-filled : (i v : ℕ) (φ : Phase) (x : Term) {k : ℕ} → TermFits k x → Says (usedBy d i) v (inPhase φ (fillTerm unfilled x)) → Says (usedBy d′ i) v (inPhase φ (fillTerm (valueOf ps) x))
+    phase-filled i v immediate x f s = stands-filled 2 v x f i s
+    phase-filled i v later x f s = stands-filled 3 v x f i s
 
-    handled-filled : (n e v : ℕ) (cs : List Clause) → ClausesFit n cs → Says d v (handled e (fillClauses unfilled cs)) → Says d′ v (handled e (fillClauses (valueOf ps) cs))
+    handled-filled : (i n e v : ℕ) (cs : List Clause) → ClausesFit n cs → Says (usedBy d i) v (handled e (fillClauses unfilled cs)) → Says (usedBy d′ i) v (handled e (fillClauses (valueOf ps) cs))
     unfolding handled fillClauses
-    handled-filled n e v [] f s = s
-    handled-filled n e v (clause g φ x ∷ cs) f s =
+    handled-filled i n e v [] f s = s
+    handled-filled i n e v (clause g φ x ∷ cs) f s =
         split (eqb e g)
-        (λ c. subst (Says d′ v) (sym (handled-here e g φ (fillTerm (valueOf ps) x) (fillClauses (valueOf ps) cs) c))
-        (phase-filled v φ x (f .1) (subst (Says d v) (handled-here e g φ (fillTerm unfilled x) (fillClauses unfilled cs) c) s)))
-        (λ c. subst (Says d′ v) (sym (handled-there e g φ (fillTerm (valueOf ps) x) (fillClauses (valueOf ps) cs) c))
-        (handled-filled n e v cs (f .3) (subst (Says d v) (handled-there e g φ (fillTerm unfilled x) (fillClauses unfilled cs) c) s)))
+        (λ c. subst (Says (usedBy d′ i) v) (sym (handled-here e g φ (fillTerm (valueOf ps) x) (fillClauses (valueOf ps) cs) c))
+        (phase-filled i v φ x (f .1) (subst (Says (usedBy d i) v) (handled-here e g φ (fillTerm unfilled x) (fillClauses unfilled cs) c) s)))
+        (λ c. subst (Says (usedBy d′ i) v) (sym (handled-there e g φ (fillTerm (valueOf ps) x) (fillClauses (valueOf ps) cs) c))
+        (handled-filled i n e v cs (f .3) (subst (Says (usedBy d i) v) (handled-there e g φ (fillTerm unfilled x) (fillClauses unfilled cs) c) s)))
 
-    item-filled : (n e v : ℕ) (b : Item) → ItemFits n b → Says d v (respond e (fillItem unfilled b)) → Says d′ v (respond e (fillItem (valueOf ps) b))
-    item-filled n e v (formula x) f s = stands-filled 1 v x f s
-    item-filled n e v (state w cs) f s = handled-filled n e v cs (f .1) s
+    item-filled : (i n e v : ℕ) (b : Item) → ItemFits n b → Says (usedBy d i) v (respond e (fillItem unfilled b)) → Says (usedBy d′ i) v (respond e (fillItem (valueOf ps) b))
+    item-filled i n e v (formula x) f s = stands-filled 1 v x f i s
+    item-filled i n e v (state w cs) f s = handled-filled i n e v cs (f .1) s
+    item-filled i n e v (row c w cs) f s = handled-filled i n e v cs (f .3) s
 
     start-filled : (i : ℕ) (b : Item) → StartIs d i (fillItem unfilled b) → StartIs d′ i (fillItem (valueOf ps) b)
     start-filled i (formula x) h = after-fillTo d 2048 (4160 + i) (omega arith) ∙ h
     start-filled i (state w cs) h = after-fillTo d 2048 (4160 + i) (omega arith) ∙ h
+    start-filled i (row c w cs) h = after-fillTo d 2048 (4160 + i) (omega arith) ∙ h
 
     entry-filled : (e i : ℕ) → entryOf d′ e i ≡ entryOf d e i
     unfolding entryOf
     entry-filled e i = rw (after-fillTo d 2048 (4096 + i) (omega arith), after-fillTo d 2048 (2048 + i * 32 + e) (omega arith))
 
     fill-drafted : (n : ℕ) (s : Sheet) → SheetFits s → Drafted (fill unfilled s) d n → Drafted (fill (valueOf ps) s) d′ n
-    fill-drafted n s f h = record {
-      long = length-fillTo d 2048 ∙ long;
-      few = h .few;
-      pool = part-filled d long 0 n (omega (arith, h .few)) ∙ ap fillAll (h .pool) ∙ entries-nodes (length (s .signals)) (s .entries) (f .each);
-      says = λ e i a b.
-          let c : i < length (s .entries) = omega (arith, length-fill (valueOf ps) (s .entries)) in
-          rw (entry-filled e i, fill-at (valueOf ps) (s .entries) i)
-          (item-filled (length (s .signals)) e (entryOf d e i) (getD (s .entries) i blank .item)
-          (all-at (EntryFits (length (s .signals))) (s .entries) i blank (f .each) c .0)
-          (rw (fill-at unfilled (s .entries) i) at (h .says e i a (omega (arith, length-fill unfilled (s .entries))))));
-      starts = λ i b.
-          rw (fill-at (valueOf ps) (s .entries) i)
-          (start-filled i (getD (s .entries) i blank .item)
-          (rw (fill-at unfilled (s .entries) i) at (h .starts i (omega (arith, length-fill unfilled (s .entries), length-fill (valueOf ps) (s .entries))))));
-      priorities = λ e b. after-fillTo d 2048 (4224 + e) (omega arith) ∙ h .priorities e b;
-      viewers = λ i b. after-fillTo d 2048 (4256 + i) (omega arith) ∙ h .viewers i (omega (arith, length-fill unfilled (s .entries), length-fill (valueOf ps) (s .entries)));
-      senders = λ e b. after-fillTo d 2048 (4320 + e) (omega arith) ∙ h .senders e b;
-    }
+    fill-drafted n s f h =
+        let out = rowsOut s .entries in
+        let l = length (s .signals) in
+        let p : length (fillEntries unfilled out) ≡ length out = length-fill unfilled out in
+        let q : length (fillEntries (valueOf ps) out) ≡ length out = length-fill (valueOf ps) out in
+        record {
+          long = length-fillTo d 2048 ∙ long;
+          few = h .few;
+          says = λ e i a b.
+              rw (entry-filled e i, fill-at (valueOf ps) out i)
+              (item-filled i l e (entryOf d e i) (getD out i blank .item)
+              (all-at (EntryFits l) out i blank (rows-fit s f) (omega arith) .0)
+              (rw (fill-at unfilled out i) at (h .says e i a (omega arith))));
+          starts = λ i b.
+              rw (fill-at (valueOf ps) out i) (start-filled i (getD out i blank .item) (rw (fill-at unfilled out i) at (h .starts i (omega arith))));
+          priorities = λ e b. after-fillTo d 2048 (4224 + e) (omega arith) ∙ h .priorities e b;
+          viewers = λ i b. after-fillTo d 2048 (4256 + i) (omega arith) ∙ h .viewers i (omega arith);
+          senders = λ e b. after-fillTo d 2048 (4320 + e) (omega arith) ∙ h .senders e b;
+        }
 
 -- the draft of a sheet, filled in, is that of its filling
 pub draft-filled : {ev bs n : ℕ} {d : List ℕ} (ps : List ℕ) → All (λ b. b < 256) ps → SheetDraft ev bs n d → DraftOf ev bs n (fillTo ps d 2048)
-draft-filled {d = d} ps bytes o = record {
-  program = fill (valueOf ps) (o .sheet);
-  fits = fill-fits (valueOf ps) (value-small ps bytes) (o .sheet) (o .fits);
-  events-are = o .events-are ∙ sym (length-priorities (o .sheet .signals));
-  size-is = o .size-is ∙ sym (length-fill (valueOf ps) (o .sheet .entries));
-  drafted = fill-drafted ps d (o .drafted .long) _ (o .sheet) (o .fits) (o .drafted);
-}
+draft-filled {n = n} {d = d} ps bytes o =
+    let s = o .sheet in
+    let l : length (prioritiesOf (s .signals)) ≡ length (s .signals) = length-priorities (s .signals) in
+    record {
+      program = fill (valueOf ps) s;
+      fits = fill-fits (valueOf ps) (value-small ps bytes) s (o .fits);
+      events-are = o .events-are ∙ sym l;
+      size-is = o .size-is ∙ sym (length-fill (valueOf ps) (rowsOut s .entries) ∙ length-out (s .entries) (s .entries));
+      drafted = fill-drafted ps bytes d (o .drafted .long) n s (o .fits) (o .drafted);
+      sent = fillEntries (valueOf ps) (s .entries);
+      pool = part-filled ps d (o .drafted .long) 0 n (omega (arith, o .drafted .few)) ∙ ap (fillAll ps) (o .pool) ∙ entries-nodes ps (length (s .signals)) (s .entries) (o .fits .each);
+      sent-fits = rw l (entries-fit (valueOf ps) (value-small ps bytes) (length (s .signals)) (s .entries) (o .fits .each));
+      sent-known = names-sent (valueOf ps) s (o .fits);
+    }
 
 pub filled-program : {ev bs n : ℕ} {d : List ℕ} (ps : List ℕ) (bytes : All (λ b. b < 256) ps) (o : SheetDraft ev bs n d)
     → draft-filled ps bytes o .program ≡ fill (valueOf ps) (o .sheet)
@@ -295,6 +354,7 @@ clauses-any n (clause e φ x ∷ cs) h =
 item-any : (n : ℕ) (b : Item) → ItemFits n b → anyIn (behaviourNodes (fillItem unfilled b)) ≡ usesItem b
 item-any n (formula x) h = term-any h
 item-any n (state s cs) h = clauses-any n cs (h .1)
+item-any n (row c s cs) h = clauses-any n cs (h .3)
 
 entries-any : (n : ℕ) (bs : List Entry) → All (EntryFits n) bs → anyIn (programNodes (fillEntries unfilled bs)) ≡ usesEntries bs
 unfolding anyIn fillEntries programNodes usesEntries
@@ -316,7 +376,7 @@ pass-any d (suc n) h =
 draft-uses : {ev bs n : ℕ} {d : List ℕ} (o : SheetDraft ev bs n d) → anyParam d n ≡ uses (o .sheet)
 draft-uses {n = n} {d = d} o =
     pass-any d n (omega (arith, o .drafted .long, o .drafted .few))
-    ∙ rw (o .drafted .pool) (entries-any (length (o .sheet .signals)) (o .sheet .entries) (o .fits .each))
+    ∙ rw (o .pool) (entries-any (length (o .sheet .signals)) (o .sheet .entries) (o .fits .each))
 
 pub draft-lacks : {ev bs n : ℕ} {d : List ℕ} (o : SheetDraft ev bs n d) (ps : List ℕ) → lacksParam d n ps ≡ uses (o .sheet) && ltb (length ps) 32
 unfolding lacksParam

@@ -12,11 +12,12 @@ use borrow.Author.Tests.{ne-eqb, le-ltb}
 use Rattle.base.specs.Basics.{pick, All}
 use Rattle.base.specs.Tools.{split}
 use Rattle.language.specs.Syntax.{Phase, immediate, later}
-use Rattle.language.specs.Sheet.{Term, literal, variable, param, apply1, apply2, apply3, Clause, clause, Item, formula, state, Signal, Entry, Sheet}
+use Rattle.language.specs.Sheet.{Term, literal, variable, param, apply1, apply2, apply3, Clause, clause, Item, formula, state, row, Signal, Entry, Sheet, cells, cellCount}
+use Rattle.language.specs.RowLaws.{count-append, written-cells-count}
 use Rattle.language.specs.Sheet.{writeTerm, writeClauses, writeItem, writeEntries, writtenOut}
 use Rattle.language.specs.Grammar.{field, word, encodeExpr, encodePhase, encodeHandler, encodeHandlers, tagOf, encodeViewer, encodeBehaviour, encodeBehaviours, encodeSender, encodeEvent, encodeEvents, encode}
 use Rattle.language.specs.Grammar.{ParamsIn, ClauseParamsIn, ItemParamsIn}
-use Rattle.language.specs.Reading.{fieldAt, Got, bad, got, whole, wordOf, then, argsOf, exprAt, exprIn, handles, phaseIn, handlerBody, ends, handlersAt, startBody, entry, endingIn, behaviourIn, signal, signalIn, sheet, behavioursAt, eventsAt, readSheet}
+use Rattle.language.specs.Reading.{fieldAt, Got, bad, got, whole, wordOf, then, argsOf, exprAt, exprIn, handles, phaseIn, handlerBody, ends, handlersAt, startBody, entry, endingIn, activeAs, behaviourIn, signal, signalIn, sheet, behavioursAt, eventsAt, readSheet}
 use Rattle.grammar.specs.Fields.{field-reads}
 use Rattle.grammar.specs.Handlers.{many-handlers}
 use Rattle.grammar.specs.Endings.{ends-encoded, ending-reads}
@@ -30,7 +31,7 @@ result zero x rest = got x rest
 result (suc n) x rest = bad (suc n)
 
 -- the first of two faults
-abbrev first : ℕ → ℕ → ℕ
+abbrev pub first : ℕ → ℕ → ℕ
 first zero m = m
 first (suc n) m = suc n
 
@@ -182,9 +183,11 @@ handlers-result (suc k) n hs (clause e φ x ∷ ks) rest z b =
 
 -- ---- behaviours
 
-abbrev pub itemFault : ℕ → Item → ℕ
-itemFault n (formula x) = exprFault 16 x
-itemFault n (state s hs) = clausesFault n [] hs
+-- after i others
+abbrev pub itemFault : ℕ → ℕ → Item → ℕ
+itemFault n i (formula x) = exprFault 16 x
+itemFault n i (state s hs) = clausesFault n [] hs
+itemFault n i (row c s hs) = pick (ltb c 2) 8 (pick (ltb 16 c) 8 (pick (ltb 64 (i + c)) 7 (clausesFault n [] hs)))
 
 start-any : (w : ℕ) (rest : List ℕ) → startBody (fieldAt 4 4 (field 4 (word w) ++ rest)) ≡ got w rest
 start-any w rest = rw (field-reads 4 4 4 (word w) rest (omega arith) (omega arith)) (word-any (λ w. w) w rest)
@@ -194,28 +197,36 @@ passive-ends : (x : Term) (m : Option ℕ) (rest : List ℕ) (k : ℕ) (g : Got 
 passive-ends x m rest zero g e = rw e (ending-reads (formula x) m rest)
 passive-ends x m rest (suc k) g e = rw e
 
-active-ends : (s : ℕ) (hs : List Clause) (m : Option ℕ) (rest : List ℕ) (k : ℕ) (g : Got (List Clause)) → g ≡ result k hs (encodeViewer m)
-    → then g (λ hs over. endingIn (state s hs) over rest) ≡ result k (entry (state s hs) m) rest
-active-ends s hs m rest zero g e = rw e (ending-reads (state s hs) m rest)
-active-ends s hs m rest (suc k) g e = rw e
+active-ends : (make : ℕ → List Clause → Item) (s : ℕ) (hs : List Clause) (m : Option ℕ) (rest : List ℕ) (k : ℕ) (g : Got (List Clause)) → g ≡ result k hs (encodeViewer m)
+    → then g (λ hs over. endingIn (make s hs) over rest) ≡ result k (entry (make s hs) m) rest
+active-ends make s hs m rest zero g e = rw e (ending-reads (make s hs) m rest)
+active-ends make s hs m rest (suc k) g e = rw e
 
-item-result : (n : ℕ) (b : Item) (m : Option ℕ) (rest : List ℕ) → behaviourIn n (tagOf b) (valueOf (entry b m)) rest ≡ result (itemFault n b) (entry b m) rest
-item-result n (formula x) m rest = passive-ends x m rest (exprFault 16 x) (exprAt 16 (encodeExpr x ++ encodeViewer m)) (expr-result 16 x (encodeViewer m))
-item-result n (state s hs) m rest =
+active-result : (make : ℕ → List Clause → Item) (n s : ℕ) (hs : List Clause) (m : Option ℕ) (rest : List ℕ)
+    → activeAs make n (valueOf (entry (state s hs) m)) rest ≡ result (clausesFault n [] hs) (entry (make s hs) m) rest
+active-result make n s hs m rest =
     let few : length hs ≤ length (encodeHandlers hs ++ encodeViewer m) =
     omega (arith, many-handlers hs, length-append (encodeHandlers hs) (encodeViewer m)) in
     rw (start-any s (encodeHandlers hs ++ encodeViewer m))
-    (active-ends s hs m rest (clausesFault n [] hs) (handlersAt (length (encodeHandlers hs ++ encodeViewer m)) n [] (encodeHandlers hs ++ encodeViewer m))
+    (active-ends make s hs m rest (clausesFault n [] hs) (handlersAt (length (encodeHandlers hs ++ encodeViewer m)) n [] (encodeHandlers hs ++ encodeViewer m))
     (handlers-result (length (encodeHandlers hs ++ encodeViewer m)) n [] hs (encodeViewer m) (ends-encoded m) few))
 
-entry-result : (n : ℕ) (b : Entry) (rest : List ℕ) → behaviourIn n (tagOf (b .item)) (valueOf b) rest ≡ result (itemFault n (b .item)) b rest
-entry-result n b rest = item-result n (b .item) (b .viewer) rest
+pub item-result : (n i : ℕ) (b : Item) (m : Option ℕ) (rest : List ℕ) → behaviourIn n i (tagOf b) (valueOf (entry b m)) rest ≡ result (itemFault n i b) (entry b m) rest
+item-result n i (formula x) m rest = passive-ends x m rest (exprFault 16 x) (exprAt 16 (encodeExpr x ++ encodeViewer m)) (expr-result 16 x (encodeViewer m))
+item-result n i (state s hs) m rest = active-result state n s hs m rest
+item-result n i (row c s hs) m rest =
+    split (ltb c 2) (λ e. rw e)
+    (λ e. split (ltb 16 c) (λ d. rw (e, d))
+    (λ d. split (ltb 64 (i + c)) (λ o. rw (e, d, o)) (λ o. rw (e, d, o) (active-result (row c) n s hs m rest))))
+
+entry-result : (n i : ℕ) (b : Entry) (rest : List ℕ) → behaviourIn n i (tagOf (b .item)) (valueOf b) rest ≡ result (itemFault n i (b .item)) b rest
+entry-result n i b rest = item-result n i (b .item) (b .viewer) rest
 
 -- ---- the whole: n events are declared, and m behaviours before these
 
 unfoldable pub entriesFault : ℕ → ℕ → List Entry → ℕ
 entriesFault n m [] = 0
-entriesFault n m (c ∷ cs) = pick (leb 64 m) 7 (first (itemFault n (c .item)) (entriesFault n (suc m) cs))
+entriesFault n m (c ∷ cs) = pick (leb 64 m) 7 (first (itemFault n m (c .item)) (entriesFault n (m + cells (c .item)) cs))
 
 unfoldable pub eventsFault : ℕ → List Signal → List Entry → ℕ
 eventsFault n [] cs = entriesFault n 0 cs
@@ -227,9 +238,9 @@ next-entry : (k : ℕ) (rs : List Signal) (bs cs : List Entry) (c : Entry) (m o 
 next-entry k rs bs cs c zero o g e i = rw e i
 next-entry k rs bs cs c (suc m) o g e i = rw e
 
-behaviours-result : (k m : ℕ) (rs : List Signal) (bs cs : List Entry) → length bs ≡ m → length cs ≤ k
+behaviours-result : (k m : ℕ) (rs : List Signal) (bs cs : List Entry) → cellCount bs ≡ m → length cs ≤ k
     → behavioursAt k rs bs (encodeBehaviours cs) ≡ result (entriesFault (length rs) m cs) (sheet rs (bs ++ cs)) []
-unfolding behavioursAt encodeBehaviours entriesFault
+unfolding behavioursAt encodeBehaviours entriesFault cellCount
 behaviours-result zero m rs bs [] l a = rw (append-nil bs)
 behaviours-result zero m rs bs (c ∷ cs) l a = absurd (omega arith)
 behaviours-result (suc k) m rs bs [] l a = rw (append-nil bs)
@@ -241,12 +252,12 @@ behaviours-result (suc k) m rs bs (c ∷ cs) l a =
     )
     (split (leb 64 m) (λ e. rw e)
     (λ e. rw e
-    (next-entry k rs bs cs c (itemFault (length rs) (c .item)) (entriesFault (length rs) (suc m) cs) (behaviourIn (length rs) (tagOf (c .item)) (valueOf c) (encodeBehaviours cs))
-    (entry-result (length rs) c (encodeBehaviours cs))
-    (rw (append-assoc bs (c ∷ []) cs) at (behaviours-result k (suc m) rs (bs ++ (c ∷ [])) cs (omega (arith, length-append bs (c ∷ []))) (omega arith))))))
+    (next-entry k rs bs cs c (itemFault (length rs) m (c .item)) (entriesFault (length rs) (m + cells (c .item)) cs) (behaviourIn (length rs) m (tagOf (c .item)) (valueOf c) (encodeBehaviours cs))
+    (entry-result (length rs) m c (encodeBehaviours cs))
+    (rw (append-assoc bs (c ∷ []) cs) at (behaviours-result k (m + cells (c .item)) rs (bs ++ (c ∷ [])) cs (omega (arith, count-append bs (c ∷ []))) (omega arith))))))
 
 first-entry : (k : ℕ) (rs : List Signal) (cs : List Entry) → length cs ≤ k → eventsAt k rs (encodeBehaviours cs) ≡ result (entriesFault (length rs) 0 cs) (sheet rs cs) []
-unfolding eventsAt encodeBehaviours entriesFault
+unfolding eventsAt encodeBehaviours entriesFault cellCount
 first-entry zero rs [] a = refl
 first-entry zero rs (c ∷ cs) a = absurd (omega arith)
 first-entry (suc k) rs [] a = refl
@@ -256,8 +267,8 @@ first-entry (suc k) rs (c ∷ cs) a =
       behaviour-at 1 c (encodeBehaviours cs) (omega arith),
       ne-eqb (tagOf (c .item)) 1 (omega (arith, tag-least (c .item))),
     )
-    (next-entry k rs [] cs c (itemFault (length rs) (c .item)) (entriesFault (length rs) 1 cs) (behaviourIn (length rs) (tagOf (c .item)) (valueOf c) (encodeBehaviours cs))
-    (entry-result (length rs) c (encodeBehaviours cs)) (behaviours-result k 1 rs (c ∷ []) cs refl (omega arith)))
+    (next-entry k rs [] cs c (itemFault (length rs) 0 (c .item)) (entriesFault (length rs) (0 + cells (c .item)) cs) (behaviourIn (length rs) 0 (tagOf (c .item)) (valueOf c) (encodeBehaviours cs))
+    (entry-result (length rs) 0 c (encodeBehaviours cs)) (behaviours-result k (0 + cells (c .item)) rs (c ∷ []) cs (omega arith) (omega arith)))
 
 signal-any : (r : ℕ) (m : Option ℕ) (rest : List ℕ) → signalIn (r ∷ encodeSender m) rest ≡ pick (ltb 15 r) (bad 8) (got (signal r m) rest)
 signal-any r none rest = refl
@@ -322,15 +333,16 @@ module _ (v : ℕ → ℕ) where
       let i = rw (write-snoc hs e φ x) at (clauses-written n (hs ++ (clause e φ x ∷ [])) ks (h .1)) in
       rw (handles-written e hs, expr-written 16 x (h .0), i)
 
-  item-written : (n : ℕ) (b : Item) → ItemParamsIn b → itemFault n (writeItem v b) ≡ itemFault n b
+  item-written : (n i : ℕ) (b : Item) → ItemParamsIn b → itemFault n i (writeItem v b) ≡ itemFault n i b
   unfolding writeClauses
-  item-written n (formula x) h = expr-written 16 x h
-  item-written n (state s hs) h = clauses-written n [] hs h
+  item-written n i (formula x) h = expr-written 16 x h
+  item-written n i (state s hs) h = clauses-written n [] hs h
+  item-written n i (row c s hs) h = rw (clauses-written n [] hs h)
 
   entries-written : (n m : ℕ) (cs : List Entry) → All (λ (c : Entry). ItemParamsIn (c .item)) cs → entriesFault n m (writeEntries v cs) ≡ entriesFault n m cs
   unfolding entriesFault writeEntries
   entries-written n m [] h = refl
-  entries-written n m (c ∷ cs) h = rw (item-written n (c .item) (h .0), entries-written n (suc m) cs (h .1))
+  entries-written n m (c ∷ cs) h = rw (item-written n m (c .item) (h .0), written-cells-count v (c .item), entries-written n (m + cells (c .item)) cs (h .1))
 
   events-written : (n : ℕ) (qs : List Signal) (cs : List Entry) → All (λ (c : Entry). ItemParamsIn (c .item)) cs → eventsFault n qs (writeEntries v cs) ≡ eventsFault n qs cs
   unfolding eventsFault

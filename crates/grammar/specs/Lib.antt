@@ -6,4 +6,6 @@ pub mod Endings
 pub mod Behaviours
 pub mod Programs
 pub mod Faults
+pub mod Rows
 pub mod Examples
+pub mod RowExamples

@@ -3,6 +3,7 @@
 use Prim.Native.Nat.{ℕ, zero, suc, _+_, _≤_, _<_}
 use mathlib.Core.Bool.{true}
 use mathlib.Core.Path.{_≡_, refl, sym, ap, _∙_}
+use mathlib.Core.Logic.{_≢_}
 use mathlib.Core.Option.{Option, none, some}
 use mathlib.Core.List.{List, [], _∷_, _++_, append-assoc, append-nil}
 use native.Mathlib.Omega.{arith}
@@ -10,13 +11,14 @@ use lib.ListN.{length, length-append}
 use lib.Dec.{ltb, leb, eqb}
 use borrow.Author.Tests.{ltb-false, leb-false, lt-leb, le-ltb, eqb-true, eqb-false, ne-eqb}
 use Rattle.base.specs.Basics.{All}
-use Rattle.base.specs.Tools.{by-test, all-split, all-join}
-use Rattle.language.specs.Sheet.{Signal, Entry, Sheet}
-use Rattle.language.specs.Grammar.{field, tagOf, encodeBehaviour, encodeBehaviours, encodeSender, encodeEvent, encodeEvents, encode, SignalFits, EntryFits, SheetFits}
-use Rattle.language.specs.Reading.{Field, refused, present, fieldAt, Got, bad, got, then, behaviourIn, signal, signalIn, sheet, behaviourBody, behavioursAt, eventsBody, eventsAt, readSheet}
+use Rattle.base.specs.Tools.{by-test, split, all-split, all-join}
+use Rattle.language.specs.Sheet.{Item, formula, state, row, Signal, Entry, Sheet, cells, cellCount}
+use Rattle.language.specs.RowLaws.{count-append}
+use Rattle.language.specs.Grammar.{field, tagOf, encodeBehaviour, encodeBehaviours, encodeSender, encodeEvent, encodeEvents, encode, ItemFits, SignalFits, EntryFits, SheetFits}
+use Rattle.language.specs.Reading.{Field, refused, present, Got, bad, got, then, behaviourIn, least, most, dueAt, signal, signalIn, sheet, behaviourBody, behavioursAt, eventsBody, eventsAt, readSheet}
 use Rattle.grammar.specs.Fields.{Bytes, Headed, field-reads, field-says, field-bytes}
 use Rattle.grammar.specs.Results.{Says, then-of}
-use Rattle.grammar.specs.Behaviours.{valueOf, tag-least, tag-most, behaviour-reads, behaviour-says}
+use Rattle.grammar.specs.Behaviours.{valueOf, tag-least, tag-one, behaviour-reads, behaviour-says}
 
 -- ---- reading back
 
@@ -36,34 +38,52 @@ many-events [] = omega arith
 many-events (r ∷ rs) = omega (arith, many-events rs, length-append (encodeEvent r) (encodeEvents rs))
 
 -- a behaviour's field at the front, where a behaviour or any field is due
-pub behaviour-at : (lo : ℕ) (b : Entry) (rest : List ℕ) → lo ≤ 2 → fieldAt lo 3 (encodeBehaviour b ++ rest) ≡ present (tagOf (b .item)) (valueOf b) rest
-behaviour-at lo b rest h = field-reads lo 3 (tagOf (b .item)) (valueOf b) rest (omega (arith, tag-least (b .item))) (tag-most (b .item))
+pub behaviour-at : (lo : ℕ) (b : Entry) (rest : List ℕ) → lo ≤ 2 → dueAt lo (encodeBehaviour b ++ rest) ≡ present (tagOf (b .item)) (valueOf b) rest
+behaviour-at lo b rest h =
+    split (eqb (tagOf (b .item)) 6)
+    (λ e. let q = eqb-true (tagOf (b .item)) 6 e in rw e (field-reads 6 6 (tagOf (b .item)) (valueOf b) rest (omega arith) (omega arith)))
+    (λ e. rw e (field-reads lo 3 (tagOf (b .item)) (valueOf b) rest (omega (arith, tag-least (b .item))) (tag-one (b .item) (eqb-false (tagOf (b .item)) 6 e))))
+
+-- what stands there has one of the tags due: from lo to 03, or 06
+pub due-tags : (lo : ℕ) (s : List ℕ) (t : ℕ) → lo ≤ 2 → least lo s ≤ t → t ≤ most s → (lo ≤ t) × (t ≢ 6 → t ≤ 3)
+due-tags lo [] t h a b = (a, λ _. b)
+due-tags lo (x ∷ s) t h a b = split (eqb x 6) (λ e. let c : 6 ≤ t = rw e at a in let d : t ≤ 6 = rw e at b in (omega arith, λ z. absurd (z (omega arith)))) (λ e. (rw e at a, λ _. rw e at b))
+
+-- a behaviour is one of the 64 at least
+cells-some : (n : ℕ) (c : Entry) → EntryFits n c → 1 ≤ cells (c .item)
+cells-some n c h = item-some (c .item) (h .0)
+  where
+    item-some : (x : Item) → ItemFits n x → 1 ≤ cells x
+    item-some (formula x) f = omega arith
+    item-some (state s hs) f = omega arith
+    item-some (row k s hs) f = omega (arith, f .0)
 
 -- an event's value is read
 sender-reads : (r : ℕ) (m : Option ℕ) (rest : List ℕ) → r ≤ 15 → signalIn (r ∷ encodeSender m) rest ≡ got (signal r m) rest
 sender-reads r none rest h = rw (le-ltb 15 r h)
 sender-reads r (some m) rest h = rw (le-ltb 15 r h)
 
-behaviours-read : (k : ℕ) (rs : List Signal) (bs cs : List Entry) → length cs ≤ k → length (bs ++ cs) ≤ 64 → All (EntryFits (length rs)) cs
+behaviours-read : (k : ℕ) (rs : List Signal) (bs cs : List Entry) → length cs ≤ k → cellCount (bs ++ cs) ≤ 64 → All (EntryFits (length rs)) cs
     → behavioursAt k rs bs (encodeBehaviours cs) ≡ got (sheet rs (bs ++ cs)) []
-unfolding behavioursAt encodeBehaviours
+unfolding behavioursAt encodeBehaviours cellCount
 behaviours-read zero rs bs [] a b f = rw (append-nil bs)
 behaviours-read zero rs bs (c ∷ cs) a b f = absurd (omega arith)
 behaviours-read (suc k) rs bs [] a b f = rw (append-nil bs)
 behaviours-read (suc k) rs bs (c ∷ cs) a b f =
+    let q : cellCount (bs ++ (c ∷ cs)) ≡ cellCount bs + (cells (c .item) + cellCount cs) = count-append bs (c ∷ cs) in
     rw (
       ne-eqb (length (encodeBehaviour c ++ encodeBehaviours cs)) 0 (omega (arith, behaviour-bytes c (encodeBehaviours cs))),
       behaviour-at 2 c (encodeBehaviours cs) (omega arith),
-      lt-leb 64 (length bs) (omega (arith, length-append bs (c ∷ cs))),
-      behaviour-reads (length rs) c (encodeBehaviours cs) (f .0),
+      lt-leb 64 (cellCount bs) (omega (arith, q, cells-some (length rs) c (f .0))),
+      behaviour-reads (length rs) (cellCount bs) c (encodeBehaviours cs) (omega (arith, q)) (f .0),
       behaviours-read k rs (bs ++ (c ∷ [])) cs (omega arith) (rw (append-assoc bs (c ∷ []) cs) b) (f .1),
       append-assoc bs (c ∷ []) cs,
     )
 
 -- no event is left to read: the first behaviour is read here, the others there
-first-reads : (k : ℕ) (rs : List Signal) (cs : List Entry) → length cs ≤ k → length cs ≤ 64 → All (EntryFits (length rs)) cs
+first-reads : (k : ℕ) (rs : List Signal) (cs : List Entry) → length cs ≤ k → cellCount cs ≤ 64 → All (EntryFits (length rs)) cs
     → eventsAt k rs (encodeBehaviours cs) ≡ got (sheet rs cs) []
-unfolding eventsAt encodeBehaviours
+unfolding eventsAt encodeBehaviours cellCount
 first-reads zero rs [] a b f = refl
 first-reads zero rs (c ∷ cs) a b f = absurd (omega arith)
 first-reads (suc k) rs [] a b f = refl
@@ -72,10 +92,10 @@ first-reads (suc k) rs (c ∷ cs) a b f =
       ne-eqb (length (encodeBehaviour c ++ encodeBehaviours cs)) 0 (omega (arith, behaviour-bytes c (encodeBehaviours cs))),
       behaviour-at 1 c (encodeBehaviours cs) (omega arith),
       ne-eqb (tagOf (c .item)) 1 (omega (arith, tag-least (c .item))),
-      behaviour-reads (length rs) c (encodeBehaviours cs) (f .0),
+      behaviour-reads (length rs) 0 c (encodeBehaviours cs) (omega arith) (f .0),
     ) (behaviours-read k rs (c ∷ []) cs (omega arith) b (f .1))
 
-events-read : (k : ℕ) (rs qs : List Signal) (cs : List Entry) → length qs + length cs ≤ k → length (rs ++ qs) ≤ 32 → length cs ≤ 64
+events-read : (k : ℕ) (rs qs : List Signal) (cs : List Entry) → length qs + length cs ≤ k → length (rs ++ qs) ≤ 32 → cellCount cs ≤ 64
     → All SignalFits qs → All (EntryFits (length (rs ++ qs))) cs
     → eventsAt k rs (encodeEvents qs ++ encodeBehaviours cs) ≡ got (sheet (rs ++ qs) cs) []
 unfolding eventsAt encodeEvents
@@ -106,7 +126,7 @@ reads-back p h =
 -- the limits apart from the count of bytes
 abbrev pub Limits : Sheet → Type 0
 Limits p =
-    (length (p .signals) ≤ 32) × (length (p .entries) ≤ 64) × All SignalFits (p .signals)
+    (length (p .signals) ≤ 32) × (cellCount (p .entries) ≤ 64) × All SignalFits (p .signals)
     × All (EntryFits (length (p .signals))) (p .entries)
 
 -- the sheet got is the one read before, and then what s has, to its end
@@ -150,21 +170,24 @@ abbrev SaysBehaviour : List Signal → List Entry → List ℕ → Got Entry →
 SaysBehaviour rs bs s (bad m) = (4 ≤ m) × (m ≤ 10)
 SaysBehaviour rs bs s (got x rest) = Bytes s → (s ≡ encodeBehaviour x ++ rest) × (Limits (sheet rs bs) → Limits (sheet rs (bs ++ (x ∷ []))))
 
-limits-behaviour : (rs : List Signal) (bs : List Entry) (x : Entry) → length bs < 64 → EntryFits (length rs) x
+limits-behaviour : (rs : List Signal) (bs : List Entry) (x : Entry) → cellCount bs + cells (x .item) ≤ 64 → EntryFits (length rs) x
     → Limits (sheet rs bs) → Limits (sheet rs (bs ++ (x ∷ [])))
+unfolding cellCount
 limits-behaviour rs bs x a f h =
-    (h .0, omega (arith, length-append bs (x ∷ [])), h .2, all-join (EntryFits (length rs)) bs (x ∷ []) (h .3) (f, tt))
+    (h .0, omega (arith, count-append bs (x ∷ [])), h .2, all-join (EntryFits (length rs)) bs (x ∷ []) (h .3) (f, tt))
 
-counted-says : (rs : List Signal) (bs : List Entry) (s : List ℕ) → length bs < 64
-    → (r : Got Entry) → Says encodeBehaviour (EntryFits (length rs)) s r → SaysBehaviour rs bs s r
-counted-says rs bs s a (bad m) h = h
-counted-says rs bs s a (got x rest) h = λ b. let r = h b in (r .0, limits-behaviour rs bs x a (r .1))
+counted-says : (rs : List Signal) (bs : List Entry) (s : List ℕ)
+    → (r : Got Entry) → Says encodeBehaviour (λ (x : Entry). EntryFits (length rs) x × (cellCount bs + cells (x .item) ≤ 64)) s r → SaysBehaviour rs bs s r
+counted-says rs bs s (bad m) h = h
+counted-says rs bs s (got x rest) h = λ b. let r = h b in (r .0, limits-behaviour rs bs x (r .1 .1) (r .1 .0))
 
-behaviour-body-says : (rs : List Signal) (bs : List Entry) (s : List ℕ) (x : Field) → Headed 2 3 s x → SaysBehaviour rs bs s (behaviourBody rs bs x)
+behaviour-body-says : (rs : List Signal) (bs : List Entry) (s : List ℕ) (x : Field) → Headed (least 2 s) (most s) s x → SaysBehaviour rs bs s (behaviourBody rs bs x)
 behaviour-body-says rs bs s (refused m) h = omega arith
 behaviour-body-says rs bs s (present t v rest) h =
-    by-test (SaysBehaviour rs bs s) (leb 64 (length bs)) (λ e. omega arith)
-    (λ e. counted-says rs bs s (leb-false 64 (length bs) e) (behaviourIn (length rs) t v rest) (behaviour-says (length rs) s t v rest (h .0) (h .1) (h .2)))
+    let d = due-tags 2 s t (omega arith) (h .0) (h .1) in
+    by-test (SaysBehaviour rs bs s) (leb 64 (cellCount bs)) (λ e. omega arith)
+    (λ e. counted-says rs bs s (behaviourIn (length rs) (cellCount bs) t v rest)
+    (behaviour-says (length rs) (cellCount bs) s t v rest (leb-false 64 (cellCount bs) e) (d .0) (d .1) (h .2)))
 
 behaviours-say : (k : ℕ) (rs : List Signal) (bs : List Entry) (s : List ℕ) → SaysProgram (sheet rs bs) s (behavioursAt k rs bs s)
 unfolding behavioursAt
@@ -174,7 +197,7 @@ behaviours-say (suc k) rs bs s =
     (λ e. then-of (SaysProgram (sheet rs bs) s) (SaysBehaviour rs bs s) _ (λ m h. h)
     (λ x rest g. step-says (sheet rs bs) (sheet rs (bs ++ (x ∷ []))) (encodeBehaviour x) s rest (encode-behaviour rs bs x) g
     (behavioursAt k rs (bs ++ (x ∷ [])) rest) (behaviours-say k rs (bs ++ (x ∷ [])) rest))
-    (behaviourBody rs bs (fieldAt 2 3 s)) (behaviour-body-says rs bs s (fieldAt 2 3 s) (field-says 2 3 s)))
+    (behaviourBody rs bs (dueAt 2 s)) (behaviour-body-says rs bs s (dueAt 2 s) (field-says (least 2 s) (most s) s)))
 
 -- an event
 abbrev SaysEvent : List ℕ → Got Signal → Type 0
@@ -202,27 +225,28 @@ module _ (rs : List Signal) (s : List ℕ) (more : List Signal → List ℕ → 
       (λ b. let d = g b in (d .0, limits-event rs r a (d .1))) (more (rs ++ (r ∷ [])) left) (more-say (rs ++ (r ∷ [])) left))
       (signalIn v rest) (signal-says s v rest h)
 
-  first-says : (t : ℕ) (v rest : List ℕ) → 2 ≤ t → t ≤ 3 → (Bytes s → s ≡ field t v ++ rest)
-      → SaysProgram (sheet rs []) s (then (behaviourIn (length rs) t v rest) (λ x rest. others (x ∷ []) rest))
+  first-says : (t : ℕ) (v rest : List ℕ) → 2 ≤ t → (t ≢ 6 → t ≤ 3) → (Bytes s → s ≡ field t v ++ rest)
+      → SaysProgram (sheet rs []) s (then (behaviourIn (length rs) 0 t v rest) (λ x rest. others (x ∷ []) rest))
+  unfolding cellCount
   first-says t v rest lo hi h =
       then-of (SaysProgram (sheet rs []) s) (SaysBehaviour rs [] s) _ (λ m g. g)
       (λ x left g. step-says (sheet rs []) (sheet rs (x ∷ [])) (encodeBehaviour x) s left (encode-behaviour rs [] x) g (others (x ∷ []) left) (others-say (x ∷ []) left))
-      (behaviourIn (length rs) t v rest) (counted-says rs [] s (omega arith) (behaviourIn (length rs) t v rest) (behaviour-says (length rs) s t v rest lo hi h))
+      (behaviourIn (length rs) 0 t v rest) (counted-says rs [] s (behaviourIn (length rs) 0 t v rest) (behaviour-says (length rs) 0 s t v rest (omega arith) lo hi h))
 
-  events-body-says : (x : Field) → Headed 1 3 s x → SaysProgram (sheet rs []) s (eventsBody more others rs x)
+  events-body-says : (x : Field) → Headed (least 1 s) (most s) s x → SaysProgram (sheet rs []) s (eventsBody more others rs x)
   events-body-says (refused m) h = omega arith
   events-body-says (present t v rest) h =
       by-test (SaysProgram (sheet rs []) s) (eqb t 1)
       (λ e. by-test (SaysProgram (sheet rs []) s) (leb 32 (length rs)) (λ d. omega arith)
       (λ d. event-says (leb-false 32 (length rs) d) v rest (λ b. rw (eqb-true t 1 e) at (h .2 b))))
-      (λ e. first-says t v rest (omega (arith, eqb-false t 1 e)) (h .1) (h .2))
+      (λ e. let d = due-tags 1 s t (omega arith) (h .0) (h .1) in first-says t v rest (omega (arith, eqb-false t 1 e, d .0)) (d .1) (h .2))
 
 events-say : (k : ℕ) (rs : List Signal) (s : List ℕ) → SaysProgram (sheet rs []) s (eventsAt k rs s)
 unfolding eventsAt
 events-say zero rs s = by-test (SaysProgram (sheet rs []) s) (eqb (length s) 0) (end-says (sheet rs []) s) (λ e. omega arith)
 events-say (suc k) rs s =
     by-test (SaysProgram (sheet rs []) s) (eqb (length s) 0) (end-says (sheet rs []) s)
-    (λ e. events-body-says rs s (eventsAt k) (behavioursAt k rs) (events-say k) (behaviours-say k rs) (fieldAt 1 3 s) (field-says 1 3 s))
+    (λ e. events-body-says rs s (eventsAt k) (behavioursAt k rs) (events-say k) (behaviours-say k rs) (dueAt 1 s) (field-says (least 1 s) (most s) s))
 
 program-says : (s : List ℕ) → SaysProgram (sheet [] []) s (readSheet s)
 unfolding readSheet
@@ -232,7 +256,7 @@ program-says s = events-say (length s) [] s
 
 pub reads-only : (s : List ℕ) → All (λ b. b < 256) s → length s ≤ 8192 → (p : Sheet) (rest : List ℕ)
     → readSheet s ≡ got p rest → (s ≡ encode p) × SheetFits p × (rest ≡ [])
-unfolding encode encodeEvents encodeBehaviours
+unfolding encode encodeEvents encodeBehaviours cellCount
 reads-only s b hi p rest e =
     let h : SaysProgram (sheet [] []) s (got p rest) = rw e at (program-says s) in
     let r = h b (omega arith, omega arith, tt, tt) in

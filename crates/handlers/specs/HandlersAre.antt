@@ -11,7 +11,7 @@ use Rattle.language.specs.Grammar.{Fits}
 use Rattle.language.specs.Accepted.{Known}
 use Rattle.language.specs.Code.{on, copy, restore, ofC, byNumber, copyPart, firstPart, secondPart, restorePart, code}
 use Rattle.image.specs.Image.{codeWords}
-use Rattle.draft.specs.Draft.{entryOf, Drafted}
+use Rattle.draft.specs.Draft.{entryOf, usedBy, Drafted}
 use Rattle.draft.specs.DraftLaws.{Entry, entry-of}
 use Rattle.counts.specs.CountIs.{copied-is}
 use Rattle.ordering.specs.Ordering.{orderUnder, isOrdered}
@@ -31,22 +31,22 @@ pub record Steps (p : Program) (d : List ℕ) (e : ℕ) : Type 0 where
   pub in-a-row : eventWords d e (size p) (orderUnder d e (size p)) ≡ codeWords (copyPart p e ++ (firstPart p e ++ (secondPart p e ++ restorePart p e)))
   pub checked : ((isOrdered d e (size p) ≡ true → Acyclic p e) × (Acyclic p e → isOrdered d e (size p) ≡ true))
 
-copy-is : (d : List ℕ) (e i : ℕ) (r : Response) → Entry d (entryOf d e i) r → memberWords d e 768 i ≡ codeWords (ofC copy i r)
+copy-is : (d : List ℕ) (e i : ℕ) (r : Response) → Entry (usedBy d i) (entryOf d e i) r → memberWords d e 768 i ≡ codeWords (ofC copy i r)
 unfolding memberWords codeWords
-copy-is d e i (follows x) k = rw (copied-is d (entryOf d e i) (follows x) k)
-copy-is d e i (takes x) k = rw (copied-is d (entryOf d e i) (takes x) k)
-copy-is d e i (defers x) k = rw (copied-is d (entryOf d e i) (defers x) k)
-copy-is d e i keeps k = rw (copied-is d (entryOf d e i) keeps k)
+copy-is d e i (follows x) k = rw (copied-is (usedBy d i) (entryOf d e i) (follows x) k)
+copy-is d e i (takes x) k = rw (copied-is (usedBy d i) (entryOf d e i) (takes x) k)
+copy-is d e i (defers x) k = rw (copied-is (usedBy d i) (entryOf d e i) (defers x) k)
+copy-is d e i keeps k = rw (copied-is (usedBy d i) (entryOf d e i) keeps k)
 
-restore-is : (d : List ℕ) (e i : ℕ) (r : Response) → Entry d (entryOf d e i) r → memberWords d e 1024 i ≡ codeWords (ofC restore i r)
+restore-is : (d : List ℕ) (e i : ℕ) (r : Response) → Entry (usedBy d i) (entryOf d e i) r → memberWords d e 1024 i ≡ codeWords (ofC restore i r)
 unfolding memberWords codeWords
-restore-is d e i (follows x) k = rw (copied-is d (entryOf d e i) (follows x) k)
-restore-is d e i (takes x) k = rw (copied-is d (entryOf d e i) (takes x) k)
-restore-is d e i (defers x) k = rw (copied-is d (entryOf d e i) (defers x) k)
-restore-is d e i keeps k = rw (copied-is d (entryOf d e i) keeps k)
+restore-is d e i (follows x) k = rw (copied-is (usedBy d i) (entryOf d e i) (follows x) k)
+restore-is d e i (takes x) k = rw (copied-is (usedBy d i) (entryOf d e i) (takes x) k)
+restore-is d e i (defers x) k = rw (copied-is (usedBy d i) (entryOf d e i) (defers x) k)
+restore-is d e i keeps k = rw (copied-is (usedBy d i) (entryOf d e i) keeps k)
 
 module _ (p : Program) (d : List ℕ) (n : ℕ) (dr : Drafted p d n) (fits : Fits p) (known : Known p) (e : ℕ) (b : e ≤ 32) where
-  held : (i : ℕ) → i < size p → Entry d (entryOf d e i) (response p e i)
+  held : (i : ℕ) → i < size p → Entry (usedBy d i) (entryOf d e i) (response p e i)
   held i h = entry-of p d n dr e i b h
 
   copies-are : maskedWords d e 768 (size p) ≡ codeWords (copyPart p e)

@@ -1,4 +1,4 @@
--- The grammar as an encoding of sheets, and the limits that one field can show, of a sheet and of the program that it means. 01 "The sheet"; 02, M-103, M-107.
+-- The grammar as an encoding of sheets, and the limits that one field can show, of a sheet and of the program that it means. 01 "The sheet"; 02, M-103, M-107, M-110.
 use Prim.Native.Nat.{ℕ, suc, _/_, _%_, _≤_, _<_, _^_}
 use mathlib.Core.Path.{_≡_}
 use mathlib.Core.Logic.{_≢_}
@@ -7,7 +7,7 @@ use mathlib.Core.List.{List, [], _∷_, _++_}
 use lib.ListN.{length}
 use Rattle.base.specs.Basics.{All}
 use Rattle.language.specs.Syntax.{Expr, con, name, app1, app2, app3, Phase, immediate, later, Handler, handler, Behaviour, passive, active, Program}
-use Rattle.language.specs.Sheet.{Term, literal, variable, param, apply1, apply2, apply3, Clause, clause, Item, formula, state, Signal, Entry, Sheet}
+use Rattle.language.specs.Sheet.{Term, literal, variable, param, apply1, apply2, apply3, Clause, clause, Item, formula, state, row, Signal, Entry, Sheet, cellCount}
 
 -- ---- bytes
 
@@ -39,14 +39,17 @@ unfoldable pub encodeHandlers : List Clause → List ℕ
 encodeHandlers [] = []
 encodeHandlers (h ∷ hs) = encodeHandler h ++ encodeHandlers hs
 
--- 02 passive, 03 active
+-- 02 passive, 03 active, 06 a row
 abbrev pub tagOf : Item → ℕ
 tagOf (formula x) = 2
 tagOf (state s hs) = 3
+tagOf (row c s hs) = 6
 
+-- M-110: "A new field 06 in place of 03 begins with a one-byte cell count of 2 to 16 (else 8), then goes on as an active."
 abbrev pub encodeItem : Item → List ℕ
 encodeItem (formula x) = encodeExpr x
 encodeItem (state s hs) = field 4 (word s) ++ encodeHandlers hs
+encodeItem (row c s hs) = c ∷ (field 4 (word s) ++ encodeHandlers hs)
 
 -- M-107: "A behaviour may end with a field 08 of length 1"
 abbrev pub encodeViewer : Option ℕ → List ℕ
@@ -107,6 +110,7 @@ ClausesFit n (clause e φ x ∷ hs) = (e < n) × TermFits 16 x × NoClauseFor e 
 abbrev pub ItemFits : ℕ → Item → Type 0
 ItemFits n (formula x) = TermFits 16 x
 ItemFits n (state s hs) = (s < 2 ^ 32) × ClausesFit n hs
+ItemFits n (row c s hs) = (2 ≤ c) × (c ≤ 16) × (s < 2 ^ 32) × ClausesFit n hs
 
 -- who may send or see is a byte, where there is one
 abbrev pub ByteFits : Option ℕ → Type 0
@@ -119,11 +123,11 @@ SignalFits x = (x .priority ≤ 15) × ByteFits (x .sender)
 abbrev pub EntryFits : ℕ → Entry → Type 0
 EntryFits n x = ItemFits n (x .item) × ByteFits (x .viewer)
 
--- at most 32 events of priority 0 to 15 and 64 behaviours, each within its limits, in up to 8,192 bytes as sent. 02, M-106: a sheet of no bytes "shall mean a sheet
+-- at most 32 events of priority 0 to 15 and 64 behaviours (M-110: a row's cells "counted toward the 64"), each within its limits, in up to 8,192 bytes as sent. 02, M-106: a sheet of no bytes "shall mean a sheet
 -- with no events and no behaviours"
 pub record SheetFits (s : Sheet) : Type 0 where
   pub few-events : length (s .signals) ≤ 32
-  pub few-behaviours : length (s .entries) ≤ 64
+  pub few-behaviours : cellCount (s .entries) ≤ 64
   pub scale : All SignalFits (s .signals)
   pub each : All (EntryFits (length (s .signals))) (s .entries)
   pub few-bytes : length (encode s) ≤ 8192
@@ -143,6 +147,7 @@ ClauseParamsIn (clause e φ x) = ParamsIn x
 abbrev pub ItemParamsIn : Item → Type 0
 ItemParamsIn (formula x) = ParamsIn x
 ItemParamsIn (state s hs) = All ClauseParamsIn hs
+ItemParamsIn (row c s hs) = All ClauseParamsIn hs
 
 -- ---- the same limits of a program, which has no bytes: "3 counts the bytes as sent and not those of the filling"
 

@@ -10,4 +10,6 @@ pub mod Order
 pub mod Code
 pub mod Accepted
 pub mod Laws
+pub mod RowLaws
 pub mod SheetLaws
+pub mod RowNames

@@ -1,4 +1,4 @@
--- What bytes are: a sheet, or the number of the first fault from left to right. 01 "The sheet", "Why a call was turned down"; 02, M-103, M-107.
+-- What bytes are: a sheet, or the number of the first fault from left to right. 01 "The sheet", "Why a call was turned down"; 02, M-103, M-107, M-110.
 -- "At a field: 4 for its header, 5, 4 for its length, 7, 9, 6 for a fixed length, contents in order, 6 for leftovers."
 use Prim.Native.Nat.{ℕ, zero, suc, _+_, _*_}
 use mathlib.Core.Bool.{Bool, true, false}
@@ -8,7 +8,7 @@ use lib.ListN.{length, take, drop}
 use lib.Dec.{ltb, leb, eqb}
 use Rattle.base.specs.Basics.{pick}
 use Rattle.language.specs.Syntax.{Phase, immediate, later}
-use Rattle.language.specs.Sheet.{Term, literal, variable, param, apply1, apply2, apply3, Clause, clause, Item, formula, state, Signal, Entry, Sheet}
+use Rattle.language.specs.Sheet.{Term, literal, variable, param, apply1, apply2, apply3, Clause, clause, Item, formula, state, row, Signal, Entry, Sheet, cellCount}
 use Rattle.language.specs.Refusals.{torn, wrongTag, wrongLength, crowded, offScale, tooDeep, doubled}
 
 -- what stands where a field is due: its tag, its value and the bytes after it, or a refusal
@@ -156,13 +156,38 @@ endingIn x (t ∷ bs) rest = pick (eqb t 8) (viewerBody x rest (fieldAt 8 8 (t �
 abbrev pub passiveIn : List ℕ → List ℕ → Got Entry
 passiveIn v rest = then (exprAt 16 v) (λ x left. endingIn (formula x) left rest)
 
-abbrev pub activeIn : ℕ → List ℕ → List ℕ → Got Entry
-activeIn n v rest =
+-- a start, then handlers, and the ending: what they make is an active, or a row of so many cells
+abbrev pub activeAs : (ℕ → List Clause → Item) → ℕ → List ℕ → List ℕ → Got Entry
+activeAs make n v rest =
     then (startBody (fieldAt 4 4 v)) (λ s left.
-    then (handlersAt (length left) n [] left) (λ hs over. endingIn (state s hs) over rest))
+    then (handlersAt (length left) n [] left) (λ hs over. endingIn (make s hs) over rest))
 
-abbrev pub behaviourIn : ℕ → ℕ → List ℕ → List ℕ → Got Entry
-behaviourIn n t v rest = pick (eqb t 2) (passiveIn v rest) (activeIn n v rest)
+abbrev pub activeIn : ℕ → List ℕ → List ℕ → Got Entry
+activeIn = activeAs state
+
+-- M-110, where i behaviours stand before the row: "a one-byte cell count of 2 to 16 (else 8), then goes on as an active. .. past the first cell, 7 is checked after the count."
+abbrev pub rowIn : ℕ → ℕ → List ℕ → List ℕ → Got Entry
+rowIn n i [] rest = bad wrongLength
+rowIn n i (c ∷ v) rest =
+    pick (ltb c 2) (bad offScale)
+    (pick (ltb 16 c) (bad offScale)
+    (pick (ltb 64 (i + c)) (bad crowded)
+    (activeAs (row c) n v rest)))
+
+abbrev pub behaviourIn : ℕ → ℕ → ℕ → List ℕ → List ℕ → Got Entry
+behaviourIn n i t v rest = pick (eqb t 2) (passiveIn v rest) (pick (eqb t 6) (rowIn n i v rest) (activeIn n v rest))
+
+-- the tags that may stand where a behaviour is due: 06 if that stands there, else those from lo to 03
+abbrev pub least : ℕ → List ℕ → ℕ
+least lo [] = lo
+least lo (t ∷ bs) = pick (eqb t 6) 6 lo
+
+abbrev pub most : List ℕ → ℕ
+most [] = 3
+most (t ∷ bs) = pick (eqb t 6) 6 3
+
+abbrev pub dueAt : ℕ → List ℕ → Field
+dueAt lo s = fieldAt (least lo s) (most s) s
 
 -- ---- the whole
 
@@ -182,13 +207,13 @@ sheet rs bs = record { signals = rs; entries = bs }
 -- behaviours, after all events; the first number bounds their count
 abbrev pub behaviourBody : List Signal → List Entry → Field → Got Entry
 behaviourBody rs bs (refused k) = bad k
-behaviourBody rs bs (present t v rest) = pick (leb 64 (length bs)) (bad crowded) (behaviourIn (length rs) t v rest)
+behaviourBody rs bs (present t v rest) = pick (leb 64 (cellCount bs)) (bad crowded) (behaviourIn (length rs) (cellCount bs) t v rest)
 
 unfoldable pub behavioursAt : ℕ → List Signal → List Entry → List ℕ → Got Sheet
 behavioursAt zero rs bs s = pick (eqb (length s) 0) (got (sheet rs bs) []) (bad torn)
 behavioursAt (suc k) rs bs s =
     pick (eqb (length s) 0) (got (sheet rs bs) [])
-    (then (behaviourBody rs bs (fieldAt 2 3 s)) (λ x rest. behavioursAt k rs (bs ++ (x ∷ [])) rest))
+    (then (behaviourBody rs bs (dueAt 2 s)) (λ x rest. behavioursAt k rs (bs ++ (x ∷ [])) rest))
 
 -- events, and with the first behaviour the behaviours
 abbrev pub eventsBody : (List Signal → List ℕ → Got Sheet) → (List Entry → List ℕ → Got Sheet) → List Signal → Field → Got Sheet
@@ -196,13 +221,13 @@ eventsBody more others rs (refused k) = bad k
 eventsBody more others rs (present t v rest) =
     pick (eqb t 1)
     (pick (leb 32 (length rs)) (bad crowded) (then (signalIn v rest) (λ r rest. more (rs ++ (r ∷ [])) rest)))
-    (then (behaviourIn (length rs) t v rest) (λ x rest. others (x ∷ []) rest))
+    (then (behaviourIn (length rs) 0 t v rest) (λ x rest. others (x ∷ []) rest))
 
 unfoldable pub eventsAt : ℕ → List Signal → List ℕ → Got Sheet
 eventsAt zero rs s = pick (eqb (length s) 0) (got (sheet rs []) []) (bad torn)
 eventsAt (suc k) rs s =
     pick (eqb (length s) 0) (got (sheet rs []) [])
-    (eventsBody (eventsAt k) (behavioursAt k rs) rs (fieldAt 1 3 s))
+    (eventsBody (eventsAt k) (behavioursAt k rs) rs (dueAt 1 s))
 
 -- the bytes of a sheet; each field has three bytes at least, so their count bounds the fields'
 unfoldable pub readSheet : List ℕ → Got Sheet

@@ -2,7 +2,7 @@
 -- Each by induction on the sheet.
 use Prim.Native.Nat.{ℕ, _≤_, _<_, _^_}
 use mathlib.Core.Path.{_≡_, refl, sym, ap, _∙_}
-use mathlib.Core.Bool.{Bool, true, false, _||_, true≢false}
+use mathlib.Core.Bool.{false, _||_, true≢false}
 use mathlib.Core.Option.{Option, none, some}
 use mathlib.Core.List.{List, [], _∷_}
 use native.Mathlib.Omega.{arith}
@@ -10,13 +10,14 @@ use lib.ListN.{length, getD, length-map, List·getD-map}
 use Rattle.base.specs.Basics.{All}
 use Rattle.base.specs.Tools.{none-of}
 use Rattle.language.specs.Syntax.{Behaviour, active}
-use Rattle.language.specs.Sheet.{Term, literal, variable, param, apply1, apply2, apply3, Clause, clause, Item, formula, state, Signal, Entry, Sheet, allowed, prioritiesOf, sendersOf, viewersOf}
-use Rattle.language.specs.Sheet.{fillTerm, fillClauses, fillItem, fillEntries, fill, writeTerm, writeClauses, writeItem, writeEntries, writtenOut}
+use Rattle.language.specs.Sheet.{Term, literal, variable, param, apply1, apply2, apply3, Clause, clause, Item, formula, state, row, Signal, Entry, Sheet, allowed, prioritiesOf, sendersOf, viewersOf}
+use Rattle.language.specs.Sheet.{rowsOut, fillTerm, fillClauses, fillItem, fillEntries, fillCells, fill, writeTerm, writeClauses, writeItem, writeEntries, writtenOut}
 use Rattle.language.specs.Sheet.{usesTerm, usesClauses, usesItem, usesEntries, uses}
 use Rattle.language.specs.Grammar.{TermFits, t-literal, t-variable, t-param, t-apply1, t-apply2, t-apply3, NoClauseFor, ClausesFit, ItemFits, ByteFits, SignalFits, EntryFits, SheetFits}
 use Rattle.language.specs.Grammar.{Nested, n-con, n-name, n-app1, n-app2, n-app3, NoneFor, HandlersFit, BehaviourFits, Fits}
 use Rattle.language.specs.Code.{sizeOf}
 use Rattle.language.specs.Accepted.{Accepted, SheetAccepted}
+use Rattle.language.specs.RowLaws.{length-out, out-unused, rows-fit, written-rows}
 
 -- ---- its shape
 
@@ -79,6 +80,7 @@ module _ (v w : ℕ → ℕ) where
   unused-item : (b : Item) → usesItem b ≡ false → fillItem v b ≡ fillItem w b
   unused-item (formula x) h = rw (unused-term x h)
   unused-item (state s cs) h = rw (unused-clauses cs h)
+  unused-item (row c s cs) h = rw (unused-clauses cs h)
 
   unused-entries : (bs : List Entry) → usesEntries bs ≡ false → fillEntries v bs ≡ fillEntries w bs
   unfolding fillEntries usesEntries
@@ -86,7 +88,10 @@ module _ (v w : ℕ → ℕ) where
   unused-entries (b ∷ bs) h = let r = none-of (usesItem (b .item)) (usesEntries bs) h in rw (unused-item (b .item) (r .0), unused-entries bs (r .1))
 
   pub fill-unused : (s : Sheet) → uses s ≡ false → fill v s ≡ fill w s
-  fill-unused s h = ap (λ (bs : List Behaviour). record { priorities = prioritiesOf (s .signals); senders = sendersOf (s .signals); behaviours = bs; viewers = viewersOf (s .entries) }) (unused-entries (s .entries) h)
+  fill-unused s h =
+      let t = rowsOut s in
+      ap (λ (bs : List Behaviour). record { priorities = prioritiesOf (t .signals); senders = sendersOf (t .signals); behaviours = bs; viewers = viewersOf (t .entries) })
+      (unused-entries (t .entries) (out-unused (s .entries) (s .entries) h))
 
 -- ---- only the parameters 0 to 7 matter
 
@@ -108,6 +113,7 @@ module _ (v w : ℕ → ℕ) (same : (n : ℕ) → n < 8 → v n ≡ w n) where
   same-item : (n : ℕ) (b : Item) → ItemFits n b → fillItem v b ≡ fillItem w b
   same-item n (formula x) h = rw (same-term h)
   same-item n (state s cs) h = rw (same-clauses n cs (h .1))
+  same-item n (row c s cs) h = rw (same-clauses n cs (h .3))
 
   same-entries : (n : ℕ) (bs : List Entry) → All (EntryFits n) bs → fillEntries v bs ≡ fillEntries w bs
   unfolding fillEntries
@@ -115,7 +121,10 @@ module _ (v w : ℕ → ℕ) (same : (n : ℕ) → n < 8 → v n ≡ w n) where
   same-entries n (b ∷ bs) h = rw (same-item n (b .item) (h .0 .0), same-entries n bs (h .1))
 
   pub fill-same : (s : Sheet) → SheetFits s → fill v s ≡ fill w s
-  fill-same s h = ap (λ (bs : List Behaviour). record { priorities = prioritiesOf (s .signals); senders = sendersOf (s .signals); behaviours = bs; viewers = viewersOf (s .entries) }) (same-entries (length (s .signals)) (s .entries) (h .each))
+  fill-same s h =
+      let t = rowsOut s in
+      ap (λ (bs : List Behaviour). record { priorities = prioritiesOf (t .signals); senders = sendersOf (t .signals); behaviours = bs; viewers = viewersOf (t .entries) })
+      (same-entries (length (s .signals)) (t .entries) (rows-fit s h))
 
 -- ---- the limits of a filling, with values that are words
 
@@ -158,23 +167,26 @@ module _ (v : ℕ → ℕ) (small : (n : ℕ) → n < 8 → v n < 2 ^ 32) where
   item-fits : (n : ℕ) (b : Item) → ItemFits n b → BehaviourFits n (fillItem v b)
   item-fits n (formula x) h = term-fits h
   item-fits n (state s cs) h = (h .0, clauses-fit n cs (h .1))
+  item-fits n (row c s cs) h = (h .2, clauses-fit n cs (h .3))
 
-  entries-fit : (n : ℕ) (bs : List Entry) → All (EntryFits n) bs → All (BehaviourFits n) (fillEntries v bs)
+  pub entries-fit : (n : ℕ) (bs : List Entry) → All (EntryFits n) bs → All (BehaviourFits n) (fillEntries v bs)
   unfolding fillEntries
   entries-fit n [] h = tt
   entries-fit n (b ∷ bs) h = (item-fits n (b .item) (h .0 .0), entries-fit n bs (h .1))
 
   pub fill-fits : (s : Sheet) → SheetFits s → Fits (fill v s)
-  fill-fits s h = record {
-    few-events = rw (length-priorities (s .signals)) (h .few-events);
-    few-behaviours = omega (arith, length-fill v (s .entries), h .few-behaviours);
-    scale = scale-fits (s .signals) (h .scale);
-    each = rw (length-priorities (s .signals)) (entries-fit (length (s .signals)) (s .entries) (h .each));
-    all-senders = length-senders (s .signals) ∙ sym (length-priorities (s .signals));
-    all-viewers = length-viewers (s .entries) ∙ sym (length-fill v (s .entries));
-    send-bytes = senders-fit (s .signals) (h .scale);
-    view-bytes = viewers-fit (length (s .signals)) (s .entries) (h .each);
-  }
+  fill-fits s h =
+      let out = rowsOut s .entries in
+      record {
+        few-events = rw (length-priorities (s .signals)) (h .few-events);
+        few-behaviours = omega (arith, length-fill v out, length-out (s .entries) (s .entries), h .few-behaviours);
+        scale = scale-fits (s .signals) (h .scale);
+        each = rw (length-priorities (s .signals)) (entries-fit (length (s .signals)) out (rows-fit s h));
+        all-senders = length-senders (s .signals) ∙ sym (length-priorities (s .signals));
+        all-viewers = length-viewers out ∙ sym (length-fill v out);
+        send-bytes = senders-fit (s .signals) (h .scale);
+        view-bytes = viewers-fit (length (s .signals)) out (rows-fit s h);
+      }
 
   -- an accepted sheet's filling is an accepted program
   pub filling-accepted : (lent : ℕ) (s : Sheet) → SheetAccepted v lent s → Accepted (fill v s)
@@ -207,6 +219,7 @@ module _ (v w : ℕ → ℕ) where
   written-item : (b : Item) → (usesItem (writeItem v b) ≡ false) × (fillItem w (writeItem v b) ≡ fillItem v b)
   written-item (formula x) = let p = written-term x in (p .0, rw (p .1))
   written-item (state s cs) = let p = written-clauses cs in (p .0, rw (p .1))
+  written-item (row c s cs) = let p = written-clauses cs in (p .0, rw (p .1))
 
   written-entries : (bs : List Entry) → (usesEntries (writeEntries v bs) ≡ false) × (fillEntries w (writeEntries v bs) ≡ fillEntries v bs)
   unfolding fillEntries writeEntries usesEntries
@@ -224,10 +237,13 @@ module _ (v w : ℕ → ℕ) where
   pub written-unused : (s : Sheet) → uses (writtenOut v s) ≡ false
   written-unused s = written-entries (s .entries) .0
 
-  pub fill-written : (s : Sheet) → fill w (writtenOut v s) ≡ fill v s
-  fill-written s = λ t. record {
+  written-cells : (s : Sheet) → fillCells w (writtenOut v s) ≡ fillCells v s
+  written-cells s = λ t. record {
     priorities = prioritiesOf (s .signals);
     senders = sendersOf (s .signals);
     behaviours = written-entries (s .entries) .1 t;
     viewers = written-viewers (s .entries) t;
   }
+
+  pub fill-written : (s : Sheet) → fill w (writtenOut v s) ≡ fill v s
+  fill-written s = ap (fillCells w) (written-rows v s) ∙ written-cells (rowsOut s)

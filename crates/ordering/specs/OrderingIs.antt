@@ -14,7 +14,7 @@ use Rattle.language.specs.Grammar.{Fits}
 use Rattle.language.specs.Accepted.{Known}
 use Rattle.language.specs.Code.{one?}
 use Rattle.language.specs.Laws.{upTo-same}
-use Rattle.draft.specs.Draft.{entryOf, Drafted}
+use Rattle.draft.specs.Draft.{entryOf, usedBy, Drafted}
 use Rattle.draft.specs.DraftLaws.{Entry, entry-of}
 use Rattle.graph.specs.Matrix.{cell}
 use Rattle.graph.specs.OrderIs.{order-same}
@@ -51,13 +51,13 @@ module _ (p : Program) (d : List ℕ) (n : ℕ) (dr : Drafted p d n) (fits : Fit
       (λ i j h k. ap (λ (x : List ℕ). cell x i j) (matrix-is p d n e fits dr b) ∙ cell-is p e i j (omega arith) (omega arith)) (size p) (upTo (size p) f)
       ∙ ap (order (size p) (dependsOn p e) (size p))
       (upTo-same (size p) f (λ i. not (early (response p e i)))
-      (λ i h. ap not (mark-early d (entryOf d e i) (response p e i) (entry-of p d n dr e i b h))))
+      (λ i h. ap not (mark-early (usedBy d i) (entryOf d e i) (response p e i) (entry-of p d n dr e i b h))))
 
   turns-are : countTurns d e (size p) ≡ turnsIn p e
   unfolding countTurns turnsIn
   turns-are =
       total-sum (size p) (λ i. 1 - markOf (entryOf d e i)) (λ i. one? (early (response p e i)))
-      (λ i h. turn-early d (entryOf d e i) (response p e i) (entry-of p d n dr e i b h))
+      (λ i h. turn-early (usedBy d i) (entryOf d e i) (response p e i) (entry-of p d n dr e i b h))
 
   -- the check passes exactly if no behaviour reaches itself on the event
   pub ordered-exactly : Known p → ((isOrdered d e (size p) ≡ true → Acyclic p e) × (Acyclic p e → isOrdered d e (size p) ≡ true))

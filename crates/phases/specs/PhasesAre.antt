@@ -16,7 +16,7 @@ use Rattle.language.specs.Code.{Instr, save, defer, inC, postfix, firstCode, la
 use Rattle.language.specs.Laws.{ResponseNamesIn, response-names, ResponseNested, response-nested}
 use Rattle.semantics.specs.OrderLaws.{phaseOne-early}
 use Rattle.image.specs.Image.{operation, constant, codeWords}
-use Rattle.draft.specs.Draft.{entryOf, Drafted}
+use Rattle.draft.specs.Draft.{entryOf, usedBy, Drafted}
 use Rattle.draft.specs.Entry.{kindOf}
 use Rattle.draft.specs.DraftLaws.{Holds, Entry, entry-of}
 use Rattle.emit.specs.Words.{each, turnWords, kindWords, moveWords}
@@ -56,15 +56,15 @@ module _ (p : Program) (d : List ℕ) (n : ℕ) (dr : Drafted p d n) (fits : Fit
     abbrev v : ℕ
     v = entryOf d e i
 
-    held : Entry d v (response p e i)
+    held : Entry (usedBy d i) v (response p e i)
     held = entry-of p d n dr e i b h
 
     -- an expression, and one instruction on i
-    ended : (kind op : ℕ) (o : Instr) (x : Expr) (r : Response) → Holds d kind v x → ResponseNested (follows x) → NamesIn (size p) x
+    ended : (kind op : ℕ) (o : Instr) (x : Expr) (r : Response) → Holds (usedBy d i) kind v x → ResponseNested (follows x) → NamesIn (size p) x
         → operation o ≡ op + i → constant o ≡ 0 → turnWords d e op i ≡ codeWords (postfix c x ++ (o ∷ []))
     unfolding turnWords codeWords
     ended kind op o x r k f a s z =
-        rw (codeWords-append (postfix c x) (o ∷ []), expr-code p d n dr (fits .few-behaviours) e b kind v x k f a, s, z)
+        rw (codeWords-append (postfix c x) (o ∷ []), expr-code p d n dr (fits .few-behaviours) e b i kind v x k f a, s, z)
 
     by-kind : (kind k op : ℕ) → kindOf v ≡ k → kindWords d e kind op i ≡ pick (eqb k kind) (turnWords d e op i) []
     unfolding kindWords
@@ -74,27 +74,27 @@ module _ (p : Program) (d : List ℕ) (n : ℕ) (dr : Drafted p d n) (fits : Fit
     unfolding moveWords
     move-kind k z = rw z
 
-    first-is : (r : Response) → Entry d v r → ResponseNested r → ResponseNamesIn (size p) r → early r ≡ true → turnWords d e 2304 i ≡ codeWords (firstCode c i r)
+    first-is : (r : Response) → Entry (usedBy d i) v r → ResponseNested r → ResponseNamesIn (size p) r → early r ≡ true → turnWords d e 2304 i ≡ codeWords (firstCode c i r)
     first-is (follows x) k f a z = ended 1 2304 (save i) x (follows x) k f a refl refl
     first-is (takes x) k f a z = ended 2 2304 (save i) x (takes x) k f a refl refl
     first-is (defers x) k f a z = absurd (false≢true z)
     first-is keeps k f a z = absurd (false≢true z)
 
-    later-is : (r : Response) → Entry d v r → ResponseNested r → ResponseNamesIn (size p) r → kindWords d e 3 2560 i ≡ codeWords (laterCode c i r)
+    later-is : (r : Response) → Entry (usedBy d i) v r → ResponseNested r → ResponseNamesIn (size p) r → kindWords d e 3 2560 i ≡ codeWords (laterCode c i r)
     unfolding codeWords
     later-is (follows x) k f a = by-kind 3 1 2560 (k .kind-is)
     later-is (takes x) k f a = by-kind 3 2 2560 (k .kind-is)
     later-is (defers x) k f a = by-kind 3 3 2560 (k .kind-is) ∙ ended 3 2560 (defer i) x (defers x) k f a refl refl
     later-is keeps k f a = by-kind 3 0 2560 (omega arith)
 
-    again-is : (r : Response) → Entry d v r → ResponseNested r → ResponseNamesIn (size p) r → kindWords d e 1 2304 i ≡ codeWords (againCode c i r)
+    again-is : (r : Response) → Entry (usedBy d i) v r → ResponseNested r → ResponseNamesIn (size p) r → kindWords d e 1 2304 i ≡ codeWords (againCode c i r)
     unfolding codeWords
     again-is (follows x) k f a = by-kind 1 1 2304 (k .kind-is) ∙ ended 1 2304 (save i) x (follows x) k f a refl refl
     again-is (takes x) k f a = by-kind 1 2 2304 (k .kind-is)
     again-is (defers x) k f a = by-kind 1 3 2304 (k .kind-is)
     again-is keeps k f a = by-kind 1 0 2304 (omega arith)
 
-    move-is : (r : Response) → Entry d v r → moveWords d e i ≡ codeWords (moveCode i r)
+    move-is : (r : Response) → Entry (usedBy d i) v r → moveWords d e i ≡ codeWords (moveCode i r)
     unfolding codeWords
     move-is (follows x) k = move-kind 1 (k .kind-is)
     move-is (takes x) k = move-kind 2 (k .kind-is)

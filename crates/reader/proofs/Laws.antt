@@ -1,5 +1,5 @@
 -- Laws of the reader's definitions that its proofs cite, over plain variables, and what its loops keep: what is left gives the whole, and there is room.
-use Prim.Native.Nat.{ℕ, zero, suc, _+_, _*_, _-_, _≤_}
+use Prim.Native.Nat.{ℕ, zero, suc, _+_, _*_, _-_, _≤_, _<_}
 use mathlib.Core.Path.{_≡_, sym, _∙_}
 use mathlib.Core.List.{List}
 use native.Mathlib.Omega.{arith}
@@ -13,6 +13,7 @@ use Rattle.field.specs.declared.Field.{Field}
 use Rattle.field.specs.declared.Field.the-variants.{Value, Refused}
 use Rattle.field.specs.declared.Read.{Read}
 use Rattle.field.specs.declared.Read.the-variants.{Done, Fault}
+use Rattle.cells.specs.Cells.{leastOf, mostOf, cellsAt}
 use Rattle.behaviours.specs.Handler.{faultOf}
 use Rattle.behaviours.specs.Behaviour.{behaviourOf, Counted}
 use Rattle.draft.specs.Draft.{draftLength}
@@ -25,14 +26,14 @@ use Rattle.reader.specs.Whole.{made, priorityAt, eventOf, eventsOf, fini
 -- ---- a field's answer taken apart
 
 module _ (s d : List ℕ) (e : ℕ) {a : Field} where
-  pub event-refused : {k q : ℕ} → a ≡ fieldOf s 1 3 → a ≡ Refused k → q ≡ numberOf a → made (NoEvent q) d ≡ eventOf s e d
+  pub event-refused : {k q lo hi : ℕ} → lo ≡ leastOf s 1 → hi ≡ mostOf s → a ≡ fieldOf s lo hi → a ≡ Refused k → q ≡ numberOf a → made (NoEvent q) d ≡ eventOf s e d
   unfolding eventOf
-  event-refused f t h = rw (sym f ∙ t, h, t)
+  event-refused l m f t h = rw (← l, ← m, sym f ∙ t, h, t)
 
-  pub event-taken : {t size : ℕ} {v p : List ℕ} {r : Event} → a ≡ fieldOf s 1 3 → a ≡ Value t size → v ≡ partOf s (fieldOf s 1 3)
+  pub event-taken : {t size lo hi : ℕ} {v p : List ℕ} {r : Event} → lo ≡ leastOf s 1 → hi ≡ mostOf s → a ≡ fieldOf s lo hi → a ≡ Value t size → v ≡ partOf s (fieldOf s lo hi)
       → made r p ≡ priorityAt t v e d → made r p ≡ eventOf s e d
   unfolding eventOf
-  event-taken f t w h = rw (← w, sym f ∙ t) h
+  event-taken l m f t w h = rw (← l, ← m, ← w, sym f ∙ t) h
 
 pub event-in : (m size e : ℕ) (r : Event) → EventIn (size + 3) e r → size + 3 ≤ m → EventIn m e r
 event-in m size e (Declared all) h a = (h .0, omega arith, h .2)
@@ -109,13 +110,13 @@ pub record BehaviourTurn (s : List ℕ) (from events : ℕ) (d₀ d : List ℕ) 
   pub enough : length s ≤ at + fuel
   pub reached : at ≤ length s
   pub nodes : n * 4 ≤ at
-  pub few : i ≤ 64
+  pub few : i ≤ 319
   pub room : length s ≤ 8192
   pub kept : length d ≡ draftLength
 
 module _ (s : List ℕ) (at events i : ℕ) (d : List ℕ) (n : ℕ) {r : Read} {p : List ℕ} (h : at ≡ length s → ⊥) (g : at ≤ length s)
     (w : out r p ≡ behaviourOf (rest at s) events i d n) where
-  behaviours-more : (k : ℕ) {size next : ℕ} → length s ≤ at + k → r ≡ Done size next → behavioursOf k s at events i d n ≡ behavioursOf (k - 1) s (at + size) events (i + 1) p next
+  behaviours-more : (k : ℕ) {size next : ℕ} → length s ≤ at + k → r ≡ Done size next → behavioursOf k s at events i d n ≡ behavioursOf (k - 1) s (at + size) events (i + cellsAt (rest at s)) p next
   unfolding behavioursOf
   behaviours-more zero b t = absurd (h (omega arith))
   behaviours-more (suc k) b t = rw (ne-eqb at (length s) h, sub-one, ← w, t)
@@ -136,8 +137,8 @@ module _ {s : List ℕ} {from events : ℕ} {d₀ d : List ℕ} {at i n : ℕ} (
   behaviour-stops h w f z = rw (z, f) (rw (behaviours-fault s at events i d n h (t .reached) w (t .fuel) (t .enough) f) at (t .whole))
 
   pub behaviour-turns : {r : Read} {p : List ℕ} {size next : ℕ} → (at ≡ length s → ⊥) → out r p ≡ behaviourOf (rest at s) events i d n → r ≡ Done size next
-      → ReadIn (length (rest at s)) n r → Counted i r → length p ≡ length d → BehaviourTurn s from events d₀ p (at + size) (i + 1) next
-  behaviour-turns {size} {next} h w f b c l =
+      → ReadIn (length (rest at s)) n r → Counted i r → length p ≡ length d → {z : ℕ} → z ≡ cellsAt (rest at s) → z < 256 → BehaviourTurn s from events d₀ p (at + size) (i + z) next
+  behaviour-turns {size} {next} h w f b c l y x =
       let b′ : ReadIn (length (rest at s)) n (Done size next) = rw f at b in
       let c′ : Counted i (Done size next) = rw f at c in
       let q = rest-length at s in
@@ -146,7 +147,7 @@ module _ {s : List ℕ} {from events : ℕ} {d₀ d : List ℕ} {at i n : ℕ} (
       let nodes = t .nodes in
       record {
         fuel = t .fuel - 1;
-        whole = rw (← behaviours-more s at events i d n h (t .reached) w (t .fuel) (t .enough) f) (t .whole);
+        whole = rw (y, ← behaviours-more s at events i d n h (t .reached) w (t .fuel) (t .enough) f) (t .whole);
         enough = omega arith;
         reached = omega arith;
         nodes = omega arith;

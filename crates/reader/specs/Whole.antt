@@ -12,6 +12,7 @@ use Rattle.field.specs.declared.Field.{Field}
 use Rattle.field.specs.declared.Field.the-variants.{Value, Refused}
 use Rattle.field.specs.declared.Read.{Read}
 use Rattle.field.specs.declared.Read.the-variants.{Done, Fault}
+use Rattle.cells.specs.Cells.{leastOf, mostOf, cellsAt}
 use Rattle.behaviours.specs.Behaviour.{behaviourOf}
 use Rattle.reader.specs.declared.Event.{Event}
 use Rattle.reader.specs.declared.Event.the-variants.{Declared, Ended, NoEvent}
@@ -52,7 +53,7 @@ eventFrom (Value t size) v e d = priorityAt t v e d
 
 -- event e, or the first behaviour, at the front of s
 unfoldable pub eventOf : List ℕ → ℕ → List ℕ → Made
-eventOf s e d = eventFrom (fieldOf s 1 3) (partOf s (fieldOf s 1 3)) e d
+eventOf s e d = eventFrom (fieldOf s (leastOf s 1) (mostOf s)) (partOf s (fieldOf s (leastOf s 1) (mostOf s))) e d
 
 -- go on after an event; the events end at `at` where a behaviour stands
 abbrev pub eventNext : Event → List ℕ → ℕ → ℕ → (ℕ → Out) → Out
@@ -85,7 +86,7 @@ behavioursOf zero s at events i d n = pick (eqb at (length s)) (finished (Ready 
 behavioursOf (suc k) s at events i d n =
     pick (eqb at (length s)) (finished (Ready events i n) d)
     (let o : Out = behaviourOf (rest at s) events i d n in
-    proceed (o .0) (o .1) (λ size m. behavioursOf k s (at + size) events (i + 1) (o .1) m))
+    proceed (o .0) (o .1) (λ size m. behavioursOf k s (at + size) events (i + cellsAt (rest at s)) (o .1) m))
 
 -- the program in s, from the draft d
 unfoldable pub readOn : List ℕ → List ℕ → Finish

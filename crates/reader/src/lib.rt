@@ -69,11 +69,13 @@ fn read_event(s: &[u8], e: usize, draft: &mut [u64]) -> Event
     ensures { λ r. ⌜ made r (now (draft .exit)) ≡ eventOf (now (s .entry)) e (now (draft .entry)) ⌝ }
     ensures { λ r. ⌜ EventIn (length (now (s .entry))) e r ⌝ }
 {
-    let a = field::field_answer(s, 1, 3);
+    let lo = cells::least_tag(s, 1);
+    let hi = cells::most_tag(s);
+    let a = field::field_answer(s, lo, hi);
     let Field::Value(t, _) = a else {
         return Event::NoEvent(field::number(a));
     };
-    read_priority(t, field::field_value(s, 1, 3), e, draft)
+    read_priority(t, field::field_value(s, lo, hi), e, draft)
 }
 
 // The events of s: the place after them and their number.
@@ -119,9 +121,9 @@ fn read_behaviours(s: &[u8], from: usize, events: usize, draft: &mut [u64]) -> D
         let Read::Done(size, next) = r else {
             return Draft::Broken(behaviours::fault(r));
         };
+        i = i + cells::cells_at(&s[at..]);
         at = at + size;
         n = next;
-        i = i + 1;
     }
     Draft::Ready(events, i, n)
 }

@@ -10,7 +10,7 @@ use lib.ListN.{replicate}
 use Rattle.arith.specs.Exact.{beyond}
 use Rattle.arith.specs.Functions.{exact, result, over}
 use Rattle.language.specs.Syntax.{immediate}
-use Rattle.language.specs.Sheet.{literal, variable, apply2, clause, formula, state, Sheet, fillTerm, fillClauses, fillEntries, fill}
+use Rattle.language.specs.Sheet.{literal, variable, apply2, clause, formula, state, Sheet, entriesOut, fillTerm, fillClauses, fillEntries, fill}
 use Rattle.language.specs.Reading.{entry, signal, sheet}
 use Rattle.language.specs.Dependence.{handled, mentions}
 use Rattle.language.specs.Order.{met, find, order, upTo, metAtOnce, phaseOne}
@@ -46,11 +46,11 @@ shown (some (preempted a) ∷ l) = 0
 shown (some (committed a m) ∷ l) = 0
 
 one : shown (heard 1 (fill none-lent (leaky 1)) (board 0 1 ∷ [])) ≡ 1
-unfolding zipWith fillTerm fillClauses fillEntries handled mentions met find order upTo metAtOnce phaseOne value inTurn firstPhase starts fresh emptied act answers
+unfolding zipWith flatMap entriesOut fillTerm fillClauses fillEntries handled mentions met find order upTo metAtOnce phaseOne value inTurn firstPhase starts fresh emptied act answers
 one = refl
 
 two : shown (heard 1 (fill none-lent (leaky 2)) (board 0 1 ∷ [])) ≡ 2
-unfolding zipWith fillTerm fillClauses fillEntries handled mentions met find order upTo metAtOnce phaseOne value inTurn firstPhase starts fresh emptied act answers
+unfolding zipWith flatMap entriesOut fillTerm fillClauses fillEntries handled mentions met find order upTo metAtOnce phaseOne value inTurn firstPhase starts fresh emptied act answers
 two = refl
 
 -- player 1 sees b0 and reads it
@@ -81,11 +81,11 @@ marked (preempted a ∷ l) = marked l
 marked (committed a m ∷ l) = m
 
 over-marked : marked (said (fill none-lent (closed 2147483647)) calls) ≡ true
-unfolding flatten flatMap beyond exact result over fillTerm fillClauses fillEntries handled mentions met find order upTo metAtOnce phaseOne postfix inOrder copyPart firstPart secondPart restorePart code value inTurn firstPhase starts fresh execute emptied offs ons act answers
+unfolding flatten flatMap beyond exact result over entriesOut fillTerm fillClauses fillEntries handled mentions met find order upTo metAtOnce phaseOne postfix inOrder copyPart firstPart secondPart restorePart code value inTurn firstPhase starts fresh execute emptied offs ons act answers
 over-marked = refl
 
 not-marked : marked (said (fill none-lent (closed 0)) calls) ≡ false
-unfolding flatten flatMap beyond exact result over fillTerm fillClauses fillEntries handled mentions met find order upTo metAtOnce phaseOne postfix inOrder copyPart firstPart secondPart restorePart code value inTurn firstPhase starts fresh execute emptied offs ons act answers
+unfolding flatten flatMap beyond exact result over entriesOut fillTerm fillClauses fillEntries handled mentions met find order upTo metAtOnce phaseOne postfix inOrder copyPart firstPart secondPart restorePart code value inTurn firstPhase starts fresh execute emptied offs ons act answers
 not-marked = refl
 
 -- the answers with their marks differ, though player 1 sees nothing

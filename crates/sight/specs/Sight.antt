@@ -9,7 +9,7 @@ use mathlib.Core.List.{List, [], _∷_, zipWith}
 use lib.Dec.{eqb}
 use Rattle.base.specs.Basics.{pick}
 use Rattle.language.specs.Syntax.{Handler, handler, Behaviour, passive, active, Program}
-use Rattle.language.specs.Sheet.{Item, formula, state, Entry, Sheet, allowed, fill}
+use Rattle.language.specs.Sheet.{Item, formula, state, row, Entry, Sheet, allowed, fill}
 use Rattle.language.specs.Rights.{may, maySee}
 use Rattle.language.specs.Dependence.{behaviourAt, mentions, Reach}
 use Rattle.language.specs.Accepted.{Accepted}
@@ -37,12 +37,17 @@ Sealed p player = (i j : ℕ) → maySee p player i ≡ true → Reach (names p)
 
 -- ---- "their sheets differing only in start values of hidden behaviours"
 
--- two behaviours, seen or hidden: the same but for the start value of a hidden active
+-- two behaviours or rows, seen or hidden: the same but for the start value of a hidden active or of a hidden row's cells
 abbrev pub ItemAlike : Bool → Item → Item → Type 0
 ItemAlike seen (formula x) (formula y) = x ≡ y
-ItemAlike seen (formula x) (state t cs) = ⊥
+ItemAlike seen (formula x) (state t ds) = ⊥
+ItemAlike seen (formula x) (row k t ds) = ⊥
 ItemAlike seen (state s cs) (formula y) = ⊥
 ItemAlike seen (state s cs) (state t ds) = (seen ≡ true → s ≡ t) × (cs ≡ ds)
+ItemAlike seen (state s cs) (row k t ds) = ⊥
+ItemAlike seen (row c s cs) (formula y) = ⊥
+ItemAlike seen (row c s cs) (state t ds) = ⊥
+ItemAlike seen (row c s cs) (row k t ds) = (c ≡ k) × (seen ≡ true → s ≡ t) × (cs ≡ ds)
 
 abbrev pub EntryAlike : ℕ → Entry → Entry → Type 0
 EntryAlike player x y = (x .viewer ≡ y .viewer) × ItemAlike (may (allowed (x .viewer)) player) (x .item) (y .item)

@@ -10,7 +10,7 @@ fn circle_in(sheet: &[u8], params: &[u8], list: &mut [u8]) -> u64
     requires { ⌜ (64 ≤ length (now list)) × (numberOn (now sheet) (now params) ≡ 12) ⌝ }
     ensures { λ r. ⌜ EachListed (now (sheet .entry)) (now (params .entry)) (now (list .entry)) r (now (list .exit)) ⌝ }
 {
-    let mut draft = [0u64; 4352];
+    let mut draft = [0u64; 4416];
     let a = reader::read_program(sheet, &mut draft);
     let Draft::Ready(ev, bs, _) = a else {
         return 12;

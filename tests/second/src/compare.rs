@@ -133,7 +133,7 @@ pub fn compile(bytes: &[u8], params: &[u8], table: &mut Guarded) -> Option<engin
     }
 }
 
-/// The sheet with each parameter written out as its constant has the same table; 3 where it is too long.
+/// The sheet with each parameter written out as its constant, and each cell of a row as an active, has the same table; 3 where it is too long.
 fn written_out(bytes: &[u8], table: &[u8]) {
     let mut other = vec![0u8; TABLE];
     let got = proved::compile(bytes, &[], &mut other);
@@ -449,7 +449,7 @@ struct Case {
 impl Case {
     fn new(seed: u64) -> Case {
         let mut r = Rng::new(seed);
-        let whole = make::encode(&make::sheet(&mut r));
+        let whole = if r.one_in(3) { make::rowed(&mut r) } else { make::encode(&make::sheet(&mut r)) };
         let bytes = if r.one_in(2) { make::damaged(&mut r, whole) } else { whole };
         let params = make::params(&mut r);
         let fill = r.next() as u8;

@@ -202,11 +202,38 @@ fn active(v: &[u8], events: usize) -> Result<(Behaviour, Option<u8>), u32> {
     Ok((Behaviour::Active(word(w), hs), ending(rest)?))
 }
 
+/// Document 02, M-110: the cell count at the front of a row's value, and the rest; `first` is the number of its first cell.
+fn cell_count(v: &[u8], first: usize) -> Result<(usize, &[u8]), u32> {
+    if v.is_empty() {
+        return Err(6);
+    }
+    if v[0] < 2 || v[0] > 16 {
+        return Err(8);
+    }
+    if first + v[0] as usize > 64 {
+        return Err(7);
+    }
+    Ok((v[0] as usize, &v[1..]))
+}
+
+/// An expression in cell `place` of a row of `count`: the first cell of a row with the same count means the cell at the same place.
+fn in_cell(e: &Expr, rows: &[(usize, usize)], count: usize, place: usize) -> Expr {
+    match e {
+        Expr::Name(m) if rows.contains(&(*m, count)) => Expr::Name(m + place),
+        Expr::App(f, a) => Expr::App(*f, a.iter().map(|x| in_cell(x, rows, count, place)).collect()),
+        _ => e.clone(),
+    }
+}
+
+/// The sheet in the bytes, its rows written out.
 pub fn read(s: &[u8]) -> Result<Sheet, u32> {
     let mut sheet = Sheet { ranks: vec![], behaviours: vec![], senders: vec![], viewers: vec![] };
+    // the first cell and the count of each row
+    let mut rows = Vec::new();
     let mut s = s;
     while !s.is_empty() {
-        let (tag, v, rest) = field(s, if sheet.behaviours.is_empty() { 1 } else { 2 }, 3)?;
+        let lowest = if sheet.behaviours.is_empty() { 1 } else { 2 };
+        let (tag, v, rest) = if s[0] == 6 { field(s, 6, 6)? } else { field(s, lowest, 3)? };
         if tag == 1 {
             if sheet.ranks.len() == 32 {
                 return Err(7);
@@ -220,14 +247,28 @@ pub fn read(s: &[u8]) -> Result<Sheet, u32> {
             sheet.ranks.push(v[0]);
             sheet.senders.push(v.get(1).copied());
         } else {
-            if sheet.behaviours.len() == 64 {
+            let first = sheet.behaviours.len();
+            if first == 64 {
                 return Err(7);
             }
+            let (count, v) = if tag == 6 { cell_count(v, first)? } else { (1, v) };
             let (b, viewer) = if tag == 2 { passive(v)? } else { active(v, sheet.ranks.len())? };
-            sheet.behaviours.push(b);
-            sheet.viewers.push(viewer);
+            if tag == 6 {
+                rows.push((first, count));
+            }
+            for _ in 0..count {
+                sheet.behaviours.push(b.clone());
+                sheet.viewers.push(viewer);
+            }
         }
         s = rest;
+    }
+    for &(first, count) in &rows {
+        for place in 0..count {
+            if let Behaviour::Active(_, hs) = &mut sheet.behaviours[first + place] {
+                hs.iter_mut().for_each(|h| h.expr = in_cell(&h.expr, &rows, count, place));
+            }
+        }
     }
     Ok(sheet)
 }

@@ -111,6 +111,58 @@ pub fn sheet(r: &mut Rng) -> Sheet {
     Sheet { ranks, behaviours, senders: rights(r, events, said), viewers: rights(r, n, said) }
 }
 
+/// Handlers, some for an event: immediate ones name `seen`, later ones any of n behaviours.
+fn handlers(r: &mut Rng, events: usize, seen: &[usize], n: usize, depth: usize) -> Vec<Handler> {
+    let all: Vec<usize> = (0..n).collect();
+    let mut hs = Vec::new();
+    for event in 0..events {
+        if r.one_in(2) {
+            let later = r.one_in(2);
+            let names = if later { &all[..] } else { seen };
+            hs.push(Handler { event, later, expr: expr(r, &Within { depth, names, params: 0 }) });
+        }
+    }
+    hs
+}
+
+/// The bytes of a sheet with rows (02, M-110) among its behaviours, mostly accepted: immediate handlers and passives name what is further down in a hidden order of the fields, first cells
+/// above all, and a row its own first cell.
+pub fn rowed(r: &mut Rng) -> Vec<u8> {
+    let events = r.below(4);
+    let fields = 1 + r.below(6);
+    let few = 2 + r.below(3);
+    let counts: Vec<usize> = (0..fields).map(|_| [1, 1, 1, 2, few, few, 2 + r.below(15), 16][r.below(8)]).collect();
+    let first: Vec<usize> = (0..fields).map(|k| counts[..k].iter().sum()).collect();
+    let n = counts.iter().sum();
+    let place: Vec<usize> = (0..fields).map(|_| r.below(1000)).collect();
+    let wild = r.one_in(6);
+    let mut out: Vec<u8> = (0..events).flat_map(|_| field(1, vec![r.below(4) as u8])).collect();
+    for k in 0..fields {
+        let mut names: Vec<usize> = first.clone();
+        names.extend(0..n);
+        names.retain(|&j| wild || (0..fields).any(|f| place[f] < place[k] && first[f] <= j && j < first[f] + counts[f]));
+        if r.one_in(30) {
+            names.push(n);
+        }
+        let depth = 1 + r.below(3);
+        if counts[k] == 1 && r.one_in(2) {
+            out.extend(behaviour(2, &[], &encode_expr(&expr(r, &Within { depth, names: &names, params: 0 })), r));
+            continue;
+        }
+        names.push(first[k]);
+        let v = encode_active(constant(r), &handlers(r, events, &names, n, depth));
+        let count = if r.one_in(60) { r.below(20) } else { counts[k] } as u8;
+        out.extend(if counts[k] == 1 { behaviour(3, &[], &v, r) } else { behaviour(6, &[count], &v, r) });
+    }
+    out
+}
+
+/// A behaviour's field, at times with who may see it.
+fn behaviour(tag: u8, front: &[u8], own: &[u8], r: &mut Rng) -> Vec<u8> {
+    let end = if r.one_in(4) { field(8, vec![r.next() as u8]) } else { vec![] };
+    field(tag, [front, own, &end].concat())
+}
+
 fn field(tag: u8, v: Vec<u8>) -> Vec<u8> {
     let mut out = vec![tag, (v.len() / 256) as u8, v.len() as u8];
     out.extend(v);
@@ -130,6 +182,17 @@ fn encode_expr(e: &Expr) -> Vec<u8> {
     }
 }
 
+/// An active's start and handlers.
+fn encode_active(start: i32, handlers: &[Handler]) -> Vec<u8> {
+    let mut v = field(4, start.to_be_bytes().to_vec());
+    for h in handlers {
+        let mut x = vec![h.event as u8, h.later as u8];
+        x.extend(encode_expr(&h.expr));
+        v.extend(field(5, x));
+    }
+    v
+}
+
 pub fn encode(s: &Sheet) -> Vec<u8> {
     let mut out = Vec::new();
     for (rank, sender) in s.ranks.iter().zip(&s.senders) {
@@ -138,15 +201,7 @@ pub fn encode(s: &Sheet) -> Vec<u8> {
     for (b, viewer) in s.behaviours.iter().zip(&s.viewers) {
         let (tag, mut v) = match b {
             Behaviour::Passive(e) => (2, encode_expr(e)),
-            Behaviour::Active(w, hs) => {
-                let mut v = field(4, w.to_be_bytes().to_vec());
-                for h in hs {
-                    let mut x = vec![h.event as u8, h.later as u8];
-                    x.extend(encode_expr(&h.expr));
-                    v.extend(field(5, x));
-                }
-                (3, v)
-            }
+            Behaviour::Active(w, hs) => (3, encode_active(*w, hs)),
         };
         viewer.iter().for_each(|m| v.extend(field(8, vec![*m])));
         out.extend(field(tag, v));

@@ -47,6 +47,16 @@ fn parameters(section: &str, program: &str) {
     }
 }
 
+/// The sheet with rows: its bytes, and the boards after event 0 and event 1.
+fn rows(section: &str, program: &str) {
+    let bytes: Vec<u8> = example(section).iter().flat_map(|l| bytes_of(l)).collect();
+    assert!(section.contains(&format!("These are {} bytes.", bytes.len())), "the sheet with rows has {} bytes", bytes.len());
+    let boards: Vec<String> = boards(section).into_iter().filter(|b| b.matches(' ').count() == 6).collect();
+    assert_eq!(boards.len(), 2, "boards of the sheet with rows");
+    let script = [sheet(&bytes), arrive(0), steps(60), show(), arrive(1), steps(60), show()].concat();
+    assert_eq!(play(program, &script), format!("C 0 0\n{}C 1 1\n{}", boards[0], boards[1]), "the boards of the sheet with rows");
+}
+
 pub fn run(page: &str, program: &str, input: &str) {
     let page = std::fs::read_to_string(page).expect("the page");
     let input = std::fs::read(input).expect("the desk program's example");
@@ -64,8 +74,9 @@ pub fn run(page: &str, program: &str, input: &str) {
     let printed: String = example(section(&page, "Playing it")).iter().map(|l| format!("{l}\n")).collect();
     assert_eq!(play(program, &input), printed, "what the page says is printed");
     parameters(section(&page, "Easy and hard from one sheet"), program);
+    rows(section(&page, "Rows"), program);
     let formulas = example(section(&page, "Formulas"));
     assert!(!formulas.is_empty(), "formulas with their fields");
     formulas.iter().for_each(|l| formula::example(l));
-    println!("page: the worked sheet, its boards, what the desk program prints, the sheet with a parameter, {} formulas", formulas.len());
+    println!("page: the worked sheet, its boards, what the desk program prints, the sheet with a parameter, the sheet with rows, {} formulas", formulas.len());
 }

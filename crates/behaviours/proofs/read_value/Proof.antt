@@ -17,4 +17,7 @@ read-value-spec =
     (λ c. (rw (← c .before .before .read-passive .ensures .0) (search code depth 12), (c .before .before .read-passive .ensures .1, counted-below (c .before .before .before .before .before .before .before .before .args .i) (c .before .before .read-passive .result) (c .before .before .before .before .before .if1 .left))))
     (λ c κs. search needs)
     (λ c. search needs)
-    (λ c. (rw (← c .before .before .read-active .ensures .0) (search code depth 12), (c .before .before .read-active .ensures .1, counted-below (c .before .before .before .before .before .before .before .before .args .i) (c .before .before .read-active .result) (c .before .before .before .before .before .if1 .left)))))
+    (λ c. (rw (← c .before .before .read-row .ensures .0) (search code depth 12), (c .before .before .read-row .ensures .1, counted-below (c .before .before .before .before .before .before .before .before .before .args .i) (c .before .before .read-row .result) (c .before .before .before .before .before .before .if1 .left))))
+    (λ c κs. search needs)
+    (λ c. search needs)
+    (λ c. (rw (← c .before .before .read-active .ensures .0) (search code depth 12), (c .before .before .read-active .ensures .1, counted-below (c .before .before .before .before .before .before .before .before .before .args .i) (c .before .before .read-active .result) (c .before .before .before .before .before .before .if1 .left)))))

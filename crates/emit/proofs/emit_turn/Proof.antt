@@ -12,7 +12,7 @@ emit-turn-spec =
     tie.close
     (tie.spec
     (λ c κs. search needs)
-    (λ c κs. ((c .before .before .before .before .pre .0 .0 .long, sound-inside (c .before .before .before .before .pre .0 .0) (omega arith) (c .before .entry-of .ensures)), room-first _ _ (room-as (turn-is _ _ _ _ (c .before .entry-of .ensures) _) (c .before .before .before .before .pre .1))))
+    (λ c κs. ((c .before .before .before .before .pre .0 .0 .long, omega (arith, c .before .before .before .before .pre .0 .0 .few), sound-inside (c .before .before .before .before .pre .0 .0) (omega arith) (c .before .entry-of .ensures)), room-first _ _ (room-as (turn-is _ _ _ _ (c .before .entry-of .ensures) _) (c .before .before .before .before .pre .1))))
     (λ c. search needs)
     (λ c. search needs)
     (λ c κs. room-then (c .before .before .before .emit-expr .ensures) (room-as (turn-is _ _ _ _ (c .before .before .before .before .before .entry-of .ensures) _) (c .before .before .before .before .before .before .before .before .pre .1)))

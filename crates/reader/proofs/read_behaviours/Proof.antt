@@ -55,8 +55,21 @@ read-behaviours-spec =
     let h = rw (c .before .r .given .1) at (c .before .before .before .before .before .read-behaviour .ensures .1 .0) in
     let t = c .before .before .before .before .before .before .before .before .before .loop .inv in
     omega (arith, t .reached, t .room, t .few, c .before .before .before .before .before .before .before .read-behaviour-arg .given))
+    (λ c κs. search needs)
     (λ c.
-    let call = c .before .before .before .before .before .read-behaviour in
-    behaviour-turns (c .before .before .before .before .before .before .before .before .before .loop .inv) (c .before .before .before .before .before .before .before .before .loop-test .taken) (call .ensures .0) (c .before .r .given .1) (call .ensures .1 .0) (call .ensures .1 .1) (call .kept .1 .1 .1 .0))
+    let h = rw (c .before .before .before .r .given .1) at (c .before .before .before .before .before .before .before .read-behaviour .ensures .1 .0) in
+    let t = c .before .before .before .before .before .before .before .before .before .before .before .loop .inv in
+    omega (arith, t .reached, t .room, t .few, c .before .before .before .before .before .before .before .before .before .read-behaviour-arg .given, c .cells-at .ensures .1))
+    (λ c.
+    let h = rw (c .before .before .before .r .given .1) at (c .before .before .before .before .before .before .before .read-behaviour .ensures .1 .0) in
+    let t = c .before .before .before .before .before .before .before .before .before .before .before .loop .inv in
+    omega (arith, t .reached, t .room, t .few, c .before .before .before .before .before .before .before .before .before .read-behaviour-arg .given, c .cells-at .ensures .1))
+    (λ c.
+    let h = rw (c .before .before .before .r .given .1) at (c .before .before .before .before .before .before .before .read-behaviour .ensures .1 .0) in
+    let t = c .before .before .before .before .before .before .before .before .before .before .before .loop .inv in
+    omega (arith, t .reached, t .room, t .few, c .before .before .before .before .before .before .before .before .before .read-behaviour-arg .given, c .cells-at .ensures .1))
+    (λ c.
+    let call = c .before .before .before .before .before .before .before .read-behaviour in
+    behaviour-turns (c .before .before .before .before .before .before .before .before .before .before .before .loop .inv) (c .before .before .before .before .before .before .before .before .before .before .loop-test .taken) (call .ensures .0) (c .before .before .before .r .given .1) (call .ensures .1 .0) (call .ensures .1 .1) (call .kept .1 .1 .1 .0) (c .cells-at .ensures .0) (c .cells-at .ensures .1))
     (λ c. omega (arith, c .before .loop .inv .kept))
     (λ c. behaviours-end (c .before .loop .inv) (c .loop-test .left)))
