@@ -45,7 +45,9 @@ enum engine_refusal {
     ENGINE_LARGE_NUMBER = 22,  /* formula: a number exceeds 2,147,483,647 */
     ENGINE_SHORT_BUFFER = 23,  /* formula: the buffer is too short for the field */
     ENGINE_NO_PLAYER = 24,     /* the player is above 7 */
-    ENGINE_NO_RIGHT = 25       /* the player may not send this event, or may not see this behaviour */
+    ENGINE_NO_RIGHT = 25,      /* the player may not send this event, or may not see this behaviour */
+    ENGINE_UNLIKE_RANKS = 26,  /* join: the sheets give one event different ranks */
+    ENGINE_SHORT_JOIN = 27     /* join: the buffer is too short for the joined sheet */
 };
 
 /* Compiles a sheet into the table. 0, or the refusal's number (1, 3 to 13, 20; 20 is checked after 11). Parameters: eight big-endian signed values of 32 bits, ENGINE_PARAMS
@@ -124,6 +126,13 @@ uint64_t formula(const uint8_t *text, size_t text_len, uint8_t *buffer, size_t b
 
 static inline int engine_formula_refused(uint64_t answer) { return answer >> 32 == 0; }
 static inline uint32_t engine_formula_length(uint64_t answer) { return (uint32_t)answer; }
+
+/* Writes one sheet from two accepted ones to the start of the buffer, the buffer's other bytes as they were: 2^32 and its length, or compile's number of the first sheet, then of the second, both as with a full table, 26, 3, 7, 13
+ * (of the joined sheet, in this order), 27. Events are shared by number, behaviours of the second follow those of the first. Parameters are lent as to compile; lend the same to compile for the joined sheet. */
+uint64_t join(const uint8_t *first, size_t first_len, const uint8_t *second, size_t second_len, const uint8_t *params, size_t params_len, uint8_t *buffer, size_t buffer_len);
+
+static inline int engine_join_refused(uint64_t answer) { return answer >> 32 == 0; }
+static inline uint32_t engine_join_length(uint64_t answer) { return (uint32_t)answer; }
 
 /* Makes recorded calls one after the other, to audit a round: six bytes for each call, its kind (0 arrival, 1 step, any other a board reading), a
  * big-endian number of 32 bits and the player; eight bytes for each answer, big-endian. How many were made: it stops where a call is not whole or an answer has no room. */

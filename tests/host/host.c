@@ -246,6 +246,33 @@ static void show_circle(void)
     expect(circle(level, sizeof level, hard, sizeof hard, list, sizeof list) == a, "the same circle with 32");
 }
 
+/* The league's bonus beside S: b2 = init 10 {1 => b2 + b2}, of an event that both declare. */
+static void pool_sheets(void)
+{
+    static const uint8_t bonus[] = {
+        0x01, 0, 1, 1, 0x01, 0, 2, 2, 5,
+        0x03, 0, 24, 0x04, 0, 4, 0, 0, 0, 10,
+            0x05, 0, 14, 1, 0, 0x12, 0, 9, 4, 0x11, 0, 1, 0, 0x11, 0, 1, 0,
+    };
+    static const uint8_t other[] = {0x01, 0, 1, 7};
+    static uint8_t both[8192];
+    uint64_t a = join(S, sizeof S, bonus, sizeof bonus, hard, 0, both, sizeof both);
+
+    expect(!engine_join_refused(a) && engine_join_length(a) == sizeof S + 1 + 27, "S and the bonus");
+    expect(both[engine_join_length(a)] == 0, "the bytes behind stay");
+    expect(load(both, engine_join_length(a)) == 0, "the joined sheet is accepted");
+    take(0);
+    settle();
+    expect(value(0) == 2 && value(1) == 1 && value(2) == 10, "event 0 passes the bonus over");
+    take(1);
+    settle();
+    expect(value(1) == 1 && value(2) == 20, "event 1 is shared");
+    expect(arrive(table, sizeof table, round_, sizeof round_, 1, 1) == ENGINE_NO_RIGHT, "player 1 may not send it in the bonus");
+    expect(arrive(table, sizeof table, round_, sizeof round_, 1, 2) == 0, "player 2 may in both");
+    expect(join(S, sizeof S, other, sizeof other, hard, 0, both, sizeof both) == ENGINE_UNLIKE_RANKS, "another rank for event 0");
+    expect(join(S, sizeof S, bonus, sizeof bonus, hard, 0, both, engine_join_length(a) - 1) == ENGINE_SHORT_JOIN, "one byte too few");
+}
+
 int main(void)
 {
     static const int32_t want[][2] = {{2, 1}, {3, 2}, {5, 3}};
@@ -294,6 +321,7 @@ int main(void)
     share();
     write_formulas();
     show_circle();
+    pool_sheets();
     puts(faults ? "host: faults" : "host: all as the scope says");
     return faults != 0;
 }

@@ -12,6 +12,8 @@ uint32_t event = 0, behaviour = 0, player = 1;
 static uint8_t sheet[74];
 static uint8_t list[ENGINE_CIRCLE_LIST], params[ENGINE_PARAMS];
 static const uint8_t refused[] = {2, 0, 4, 0x11, 0, 1, 1, 2, 0, 4, 0x11, 0, 1, 1}; /* b0 = b1, b1 = b1 */
+static const uint8_t bonus[] = {1, 0, 1, 1, 2, 0, 7, 0x10, 0, 4, 0, 0, 0, 9}; /* b0 = 9, and S's event 0 */
+static uint8_t both[8192];
 static int32_t shown;
 
 static const uint8_t text[] = {'b', '0', ' ', '*', ' ', '2'};
@@ -28,7 +30,7 @@ static const struct {
     int32_t b0, b1;
     int idle;
     int32_t shown;
-} want[] = {{"arrive", 3, 2, 1, 0}, {"forecast", 2, 1, 1, 0}, {"preview", 1, 1, 0, 3}, {"circle", 1, 1, 0, 1}, {"compile", 1, 1, 0, 0}, {"step", 1, 1, 0, 0}, {"board", 1, 1, 0, 1}, {"formula", 1, 1, 0, 15}};
+} want[] = {{"arrive", 3, 2, 1, 0}, {"forecast", 2, 1, 1, 0}, {"preview", 1, 1, 0, 3}, {"circle", 1, 1, 0, 1}, {"compile", 1, 1, 0, 0}, {"step", 1, 1, 0, 0}, {"board", 1, 1, 0, 1}, {"formula", 1, 1, 0, 15}, {"join", 1, 1, 0, 84}};
 
 static void before(uint8_t *round)
 {

@@ -12,6 +12,7 @@ ghost use Rattle.machine.specs.Machine.{stepOn};
 ghost use Rattle.forecast.specs.Forecast.{forecastOn};
 ghost use Rattle.preview.specs.Preview.{previewOn};
 ghost use Rattle.formula.specs.Answer.{answered, formulaOn};
+ghost use Rattle.join.specs.Join.{joined, joinOn};
 ghost use Rattle.refinement.specs.Refinement.{toldOn, callOn, answersOn, roundAfter};
 ghost use Rattle.engine.specs.Replay.{callOf, callsFrom, putAnswer, putAnswers, callCount};
 
@@ -115,6 +116,17 @@ pub extern "C" fn formula(text: &[u8], buffer: &mut [u8]) -> u64
     ensures { λ _. ⌜ now (text .exit) ≡ now (text .entry) ⌝ }
 {
     translate::formula_at(text, buffer)
+}
+
+// One sheet from two accepted ones, at the start of the buffer: 2 ^ 32 and its length; or compile's number of the first, of the second, 26, 3, 7, 13, 27, the buffer as it was.
+#[no_mangle]
+pub extern "C" fn join(first: &[u8], second: &[u8], params: &[u8], buffer: &mut [u8]) -> u64
+    ensures { λ r. ⌜ joined r (now (buffer .exit)) ≡ joinOn (now (first .entry)) (now (second .entry)) (now (params .entry)) (now (buffer .entry)) ⌝ }
+    ensures { λ _. ⌜ now (first .exit) ≡ now (first .entry) ⌝ }
+    ensures { λ _. ⌜ now (second .exit) ≡ now (second .entry) ⌝ }
+    ensures { λ _. ⌜ now (params .exit) ≡ now (params .entry) ⌝ }
+{
+    join::join_at(first, second, params, buffer)
 }
 
 // ---- a recorded list of calls

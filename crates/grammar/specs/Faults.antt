@@ -219,7 +219,7 @@ item-result n i (row c s hs) m rest =
     (λ e. split (ltb 16 c) (λ d. rw (e, d))
     (λ d. split (ltb 64 (i + c)) (λ o. rw (e, d, o)) (λ o. rw (e, d, o) (active-result (row c) n s hs m rest))))
 
-entry-result : (n i : ℕ) (b : Entry) (rest : List ℕ) → behaviourIn n i (tagOf (b .item)) (valueOf b) rest ≡ result (itemFault n i (b .item)) b rest
+pub entry-result : (n i : ℕ) (b : Entry) (rest : List ℕ) → behaviourIn n i (tagOf (b .item)) (valueOf b) rest ≡ result (itemFault n i (b .item)) b rest
 entry-result n i b rest = item-result n i (b .item) (b .viewer) rest
 
 -- ---- the whole: n events are declared, and m behaviours before these

@@ -430,6 +430,7 @@ pub struct Tally {
     pub starts: [usize; 2],
     /// Written, at 0, and refused by number.
     pub formulas: [usize; 32],
+    pub joins: [usize; 32],
     /// What a seed is being held against: named where it differs.
     pub part: &'static str,
 }
@@ -499,6 +500,8 @@ pub fn one(seed: u64, tally: &mut Tally) {
     let r = &mut case.rest;
     tally.part = "formula";
     crate::formula::one(seed, &mut tally.formulas);
+    tally.part = "join";
+    crate::pool::one(seed, &case.bytes, &case.params, &mut tally.joins);
     tally.part = "compile";
     let mut table = Guarded::new(TABLE + 32, case.fill);
     let Some(sheet) = compile(&case.bytes, &case.params, &mut table) else {

@@ -85,7 +85,7 @@ fn tree_of(size: usize) -> Vec<u8> {
 }
 
 /// A sheet of passives that has so many bytes: the last is a sum of a constants and b leaves of four bytes, 11 a + 8 b - 1 bytes.
-fn of_bytes(n: usize, leaf: &[u8]) -> Vec<u8> {
+pub fn of_bytes(n: usize, leaf: &[u8]) -> Vec<u8> {
     let mut s = passive(&con(1));
     while n - s.len() > 400 {
         s.extend(passive(&tree_of(40)));
@@ -371,69 +371,6 @@ fn rights() {
     check("a field 08 alone", &seen(1), 5);
 }
 
-/// M-110: cell counts, the order of a row's faults, the 64 behaviours, names in a row's handlers, and the limits of a sheet with rows.
-fn rows() {
-    let row = |count: u8, start: i32, parts: &[Vec<u8>]| field(6, &join(&[vec![count], field(4, &start.to_be_bytes()), join(parts)]));
-    let ones = |n: usize| join(&vec![passive(&con(1)); n]);
-    for count in [0, 1, 2, 16, 17, 255] {
-        check("a cell count", &row(count, 1, &[]), if (2..=16).contains(&count) { 0 } else { 8 });
-        check("a cell count, and nothing", &field(6, &[count]), if (2..=16).contains(&count) { 4 } else { 8 });
-    }
-    check("a row of no bytes", &field(6, &[]), 6);
-    check("a row cut short", &[6, 0], 4);
-    check("a row past the end", &[6, 0, 1], 4);
-    check("an event after a row", &join(&[row(2, 0, &[]), event(1)]), 5);
-    check("a field 07", &field(7, &[2]), 5);
-    check("the first cell is the 65th behaviour", &join(&[ones(64), field(6, &[])]), 7);
-    check("the first cell is the 64th, no count", &join(&[ones(63), field(6, &[])]), 6);
-    check("the count before 7", &join(&[ones(63), field(6, &[17])]), 8);
-    check("7 before the start", &join(&[ones(63), field(6, &[2])]), 7);
-    check("the last cell is the 64th", &join(&[ones(48), row(16, 1, &[])]), 0);
-    check("the last cell is the 65th", &join(&[ones(49), row(16, 1, &[])]), 7);
-    check("four rows of 16", &join(&vec![row(16, 1, &[]); 4]), 0);
-    check("and a passive", &join(&[join(&vec![row(16, 1, &[]); 4]), ones(1)]), 7);
-    check("who may see a row", &row(3, 1, &[field(8, &[2])]), 0);
-    check("a handler past a row's field 08", &join(&[event(0), row(3, 1, &[field(8, &[2]), handler(0, 0, &con(1))])]), 6);
-    check("a doubled handler", &join(&[event(0), row(3, 1, &[handler(0, 0, &con(1)), handler(0, 1, &con(1))])]), 10);
-    let own = |f: u8, n: u8| handler(0, f, &app(4, &[name(n), con(1)]));
-    check("a row names its own first cell", &join(&[event(0), row(16, 0, &[own(0, 0)])]), 0);
-    check("a row names its last cell", &join(&[event(0), row(16, 0, &[own(0, 15)])]), 0);
-    check("past its last cell", &join(&[event(0), row(16, 0, &[own(0, 16)])]), 11);
-    check("two rows of a count in a circle", &join(&[event(0), row(3, 0, &[own(0, 3)]), row(3, 0, &[own(0, 0)])]), 12);
-    check("one of them later", &join(&[event(0), row(3, 0, &[own(0, 3)]), row(3, 0, &[own(1, 0)])]), 0);
-    check("a parameter in a row, none lent", &join(&[event(0), row(2, 0, &[handler(0, 0, &param(0))])]), 20);
-    // two rows of 2 and one of 3, each cell starting apart by an event of its own; then the second row's cells move to the first row's, the third's to b0
-    let sheet = join(&[
-        event(0),
-        event(0),
-        row(2, 10, &[handler(1, 0, &app(4, &[name(0), name(2)]))]),
-        row(2, 20, &[handler(0, 0, &app(6, &[name(2), con(2)])), handler(1, 1, &name(0))]),
-        row(3, 30, &[handler(1, 0, &app(5, &[name(4), name(0)]))]),
-        passive(&app(4, &[name(0), name(1)])),
-    ]);
-    check("rows", &sheet, 0);
-    let mut table = vec![0u8; TABLE];
-    let mut round = vec![0u8; proved::ROUND];
-    assert_eq!(proved::compile(&sheet, &[], &mut table), 0);
-    proved::start(&table, &mut round);
-    let board = |round: &[u8]| (0..8).map(|i| proved::board(&table, round, i, 0) as i32).collect::<Vec<_>>();
-    assert_eq!(board(&round), [10, 10, 20, 20, 30, 30, 30, 20], "a fresh round");
-    for (e, want) in [(0, [10, 10, 40, 40, 30, 30, 30, 20]), (1, [50, 50, 50, 50, -20, -20, -20, 100])] {
-        proved::arrive(&table, &mut round, e, 0);
-        while proved::step(&table, &mut round) != 0 {}
-        assert_eq!(board(&round), want, "after event {e}");
-    }
-    // 64 cells with one handler of n nodes: 4 + 64 (n + 3) instructions
-    for (n, want) in [(60, 0), (61, 13)] {
-        let rows: Vec<Vec<u8>> = (0..4).map(|_| row(16, 0, &[handler(0, 0, &tree_of(n))])).collect();
-        check("instructions of rows", &join(&[event(0), join(&rows)]), want);
-    }
-    // 3 counts the bytes as sent: written out, these 34 cells with 20 handlers of 12 bytes would be over 8,192
-    let many: Vec<Vec<u8>> = (0..20).map(|e| handler(e, 0, &con(7))).collect();
-    check("rows that are long when written out", &join(&[join(&vec![event(0); 20]), row(16, 0, &many), row(16, 0, &many), row(2, 0, &many)]), 0);
-    check("8,193 bytes with a row", &join(&[row(2, 0, &[]), of_bytes(8193 - row(2, 0, &[]).len(), &name(0))]), 3);
-}
-
 /// M-107 in a round: event 0 is player 1's, event 1 everybody's; b0 is hidden from all but the host and player 2, b1 is seen by all. Which refusal comes first, what the hand and the answers keep, what the
 /// others are told.
 fn players() {
@@ -494,6 +431,69 @@ fn players() {
     }
 }
 
+/// M-110: cell counts, the order of a row's faults, the 64 behaviours, names in a row's handlers, and the limits of a sheet with rows.
+fn rows() {
+    let row = |count: u8, start: i32, parts: &[Vec<u8>]| field(6, &join(&[vec![count], field(4, &start.to_be_bytes()), join(parts)]));
+    let ones = |n: usize| join(&vec![passive(&con(1)); n]);
+    for count in [0, 1, 2, 16, 17, 255] {
+        check("a cell count", &row(count, 1, &[]), if (2..=16).contains(&count) { 0 } else { 8 });
+        check("a cell count, and nothing", &field(6, &[count]), if (2..=16).contains(&count) { 4 } else { 8 });
+    }
+    check("a row of no bytes", &field(6, &[]), 6);
+    check("a row cut short", &[6, 0], 4);
+    check("a row past the end", &[6, 0, 1], 4);
+    check("an event after a row", &join(&[row(2, 0, &[]), event(1)]), 5);
+    check("a field 07", &field(7, &[2]), 5);
+    check("the first cell is the 65th behaviour", &join(&[ones(64), field(6, &[])]), 7);
+    check("the first cell is the 64th, no count", &join(&[ones(63), field(6, &[])]), 6);
+    check("the count before 7", &join(&[ones(63), field(6, &[17])]), 8);
+    check("7 before the start", &join(&[ones(63), field(6, &[2])]), 7);
+    check("the last cell is the 64th", &join(&[ones(48), row(16, 1, &[])]), 0);
+    check("the last cell is the 65th", &join(&[ones(49), row(16, 1, &[])]), 7);
+    check("four rows of 16", &join(&vec![row(16, 1, &[]); 4]), 0);
+    check("and a passive", &join(&[join(&vec![row(16, 1, &[]); 4]), ones(1)]), 7);
+    check("who may see a row", &row(3, 1, &[field(8, &[2])]), 0);
+    check("a handler past a row's field 08", &join(&[event(0), row(3, 1, &[field(8, &[2]), handler(0, 0, &con(1))])]), 6);
+    check("a doubled handler", &join(&[event(0), row(3, 1, &[handler(0, 0, &con(1)), handler(0, 1, &con(1))])]), 10);
+    let own = |f: u8, n: u8| handler(0, f, &app(4, &[name(n), con(1)]));
+    check("a row names its own first cell", &join(&[event(0), row(16, 0, &[own(0, 0)])]), 0);
+    check("a row names its last cell", &join(&[event(0), row(16, 0, &[own(0, 15)])]), 0);
+    check("past its last cell", &join(&[event(0), row(16, 0, &[own(0, 16)])]), 11);
+    check("two rows of a count in a circle", &join(&[event(0), row(3, 0, &[own(0, 3)]), row(3, 0, &[own(0, 0)])]), 12);
+    check("one of them later", &join(&[event(0), row(3, 0, &[own(0, 3)]), row(3, 0, &[own(1, 0)])]), 0);
+    check("a parameter in a row, none lent", &join(&[event(0), row(2, 0, &[handler(0, 0, &param(0))])]), 20);
+    // two rows of 2 and one of 3, each cell starting apart by an event of its own; then the second row's cells move to the first row's, the third's to b0
+    let sheet = join(&[
+        event(0),
+        event(0),
+        row(2, 10, &[handler(1, 0, &app(4, &[name(0), name(2)]))]),
+        row(2, 20, &[handler(0, 0, &app(6, &[name(2), con(2)])), handler(1, 1, &name(0))]),
+        row(3, 30, &[handler(1, 0, &app(5, &[name(4), name(0)]))]),
+        passive(&app(4, &[name(0), name(1)])),
+    ]);
+    check("rows", &sheet, 0);
+    let mut table = vec![0u8; TABLE];
+    let mut round = vec![0u8; 2048];
+    assert_eq!(proved::compile(&sheet, &[], &mut table), 0);
+    proved::start(&table, &mut round);
+    let board = |round: &[u8]| (0..8).map(|i| proved::board(&table, round, i, 0) as i32).collect::<Vec<_>>();
+    assert_eq!(board(&round), [10, 10, 20, 20, 30, 30, 30, 20], "a fresh round");
+    for (e, want) in [(0, [10, 10, 40, 40, 30, 30, 30, 20]), (1, [50, 50, 50, 50, -20, -20, -20, 100])] {
+        proved::arrive(&table, &mut round, e, 0);
+        while proved::step(&table, &mut round) != 0 {}
+        assert_eq!(board(&round), want, "after event {e}");
+    }
+    // 64 cells with one handler of n nodes: 4 + 64 (n + 3) instructions
+    for (n, want) in [(60, 0), (61, 13)] {
+        let rows: Vec<Vec<u8>> = (0..4).map(|_| row(16, 0, &[handler(0, 0, &tree_of(n))])).collect();
+        check("instructions of rows", &join(&[event(0), join(&rows)]), want);
+    }
+    // 3 counts the bytes as sent: written out, these 34 cells with 20 handlers of 12 bytes would be over 8,192
+    let many: Vec<Vec<u8>> = (0..20).map(|e| handler(e, 0, &con(7))).collect();
+    check("rows that are long when written out", &join(&[join(&vec![event(0); 20]), row(16, 0, &many), row(16, 0, &many), row(2, 0, &many)]), 0);
+    check("8,193 bytes with a row", &join(&[row(2, 0, &[]), of_bytes(8193 - row(2, 0, &[]).len(), &name(0))]), 3);
+}
+
 pub fn run() {
     let s = crate::desk::sheet_s();
     let mut short = vec![0u8; TABLE - 1];
@@ -537,11 +537,12 @@ pub fn run() {
     rest_day();
     parameters();
     rights();
-    rows();
     players();
+    rows();
     preview();
     crate::formula::limits();
     circles();
+    crate::pool::limits();
     spent();
-    println!("limits: every refusal of compile, both sides of each limit, forecasts, quotients, marks, a rest day, parameters, rights in sheets, rows, players, previews, formulas, circles, 1,000,000 arrivals");
+    println!("limits: every refusal of compile, both sides of each limit, forecasts, quotients, marks, a rest day, parameters, rights in sheets, players, rows, previews, formulas, circles, joins, 1,000,000 arrivals");
 }

@@ -1,6 +1,6 @@
 //! Holds the proved engine against a plain one.
 //!
-//! second compare FIRST COUNT   sheets, tables, answers, rounds, damaged bytes, starts, replays and formulas on COUNT seeds from FIRST on
+//! second compare FIRST COUNT   sheets, tables, answers, rounds, damaged bytes, starts, replays, formulas and joins on COUNT seeds from FIRST on
 //! second limits                every refusal of compile, and both sides of each limit
 //! second bench [FILE.svg]      times against the plain engine, and the paper's experiment
 //! second desk PROGRAM SEEDS    the desk program on the scope's rounds and traps, torn input and scripts made at random
@@ -13,6 +13,7 @@ mod formula;
 mod limits;
 mod make;
 mod page;
+mod pool;
 mod proved;
 mod words;
 
@@ -53,6 +54,10 @@ fn compare(first: u64, count: u64) {
     }
     print!("; formulas written {}, refused", tally.formulas[0]);
     for (n, k) in tally.formulas.iter().enumerate().skip(1).filter(|(_, k)| **k > 0) {
+        print!(" {n}:{k}");
+    }
+    print!("; joined {}, refused", tally.joins[0]);
+    for (n, k) in tally.joins.iter().enumerate().skip(1).filter(|(_, k)| **k > 0) {
         print!(" {n}:{k}");
     }
     println!();

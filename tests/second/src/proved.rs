@@ -12,6 +12,7 @@ mod c {
         pub fn forecast(table: *const u8, table_len: usize, round: *const u8, round_len: usize) -> u64;
         pub fn preview(table: *const u8, table_len: usize, round: *const u8, round_len: usize, event: u32, behaviour: u32, player: u32) -> u64;
         pub fn told(answer: u64) -> u64;
+        pub fn join(first: *const u8, first_len: usize, second: *const u8, second_len: usize, params: *const u8, params_len: usize, buffer: *mut u8, buffer_len: usize) -> u64;
         pub fn formula(text: *const u8, text_len: usize, buffer: *mut u8, buffer_len: usize) -> u64;
     }
 }
@@ -61,4 +62,8 @@ pub fn told(answer: u64) -> u64 {
 
 pub fn formula(text: &[u8], buffer: &mut [u8]) -> u64 {
     unsafe { c::formula(text.as_ptr(), text.len(), buffer.as_mut_ptr(), buffer.len()) }
+}
+
+pub fn join(first: &[u8], second: &[u8], params: &[u8], buffer: &mut [u8]) -> u64 {
+    unsafe { c::join(first.as_ptr(), first.len(), second.as_ptr(), second.len(), params.as_ptr(), params.len(), buffer.as_mut_ptr(), buffer.len()) }
 }

@@ -1,0 +1,4 @@
+pub mod Join
+pub mod JoinLaws
+pub mod Limits
+pub mod Says

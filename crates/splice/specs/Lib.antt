@@ -1,0 +1,4 @@
+pub mod Splice
+pub mod BehavioursAre
+pub mod EventsAre
+pub mod Spliced
