@@ -39,7 +39,7 @@ enum engine_refusal {
     ENGINE_FULL_HAND = 16,     /* 64 in hand */
     ENGINE_SPENT = 17,         /* 1,000,000 already taken in */
     ENGINE_NO_SUCH_BEHAVIOUR = 18, /* number not in the sheet */
-    ENGINE_SETTLING = 19,      /* board read during copy-back */
+    ENGINE_SETTLING = 19,      /* board read, or sheet changed, during copy-back */
     ENGINE_NO_PARAMETERS = 20, /* compile: the sheet uses a parameter and fewer than 32 bytes are lent */
     ENGINE_NO_FORMULA = 21,    /* formula: the text is outside the grammar or over 1,024 bytes */
     ENGINE_LARGE_NUMBER = 22,  /* formula: a number exceeds 2,147,483,647 */
@@ -47,7 +47,8 @@ enum engine_refusal {
     ENGINE_NO_PLAYER = 24,     /* the player is above 7 */
     ENGINE_NO_RIGHT = 25,      /* the player may not send this event, or may not see this behaviour */
     ENGINE_UNLIKE_RANKS = 26,  /* join: the sheets give one event different ranks */
-    ENGINE_SHORT_JOIN = 27     /* join: the buffer is too short for the joined sheet */
+    ENGINE_SHORT_JOIN = 27,    /* join: the buffer is too short for the joined sheet */
+    ENGINE_STRANGE_HAND = 28   /* mend: the hand holds an event that the new sheet does not declare */
 };
 
 /* Compiles a sheet into the table. 0, or the refusal's number (1, 3 to 13, 20; 20 is checked after 11). Parameters: eight big-endian signed values of 32 bits, ENGINE_PARAMS
@@ -119,6 +120,11 @@ static inline uint32_t engine_forecast_steps(uint64_t answer) { return (uint32_t
  * tried on a copy; the round stays. Refused as the arrival of this player would be, 14, 24, 15, 25, 16, 17, then by 18, then by 25 for the behaviour; last by 14 where a step on the copy is.
  * During copy-back it works. */
 uint64_t preview(const uint8_t *table, size_t table_len, const uint8_t *round, size_t round_len, uint32_t event, uint32_t behaviour, uint32_t player);
+
+/* The round goes on under a newly compiled table: 0, or 14, 19 during copy-back, then 28 where the hand holds an event that the new table does not declare. The hand with its players, arrival
+ * numbers and the number taken in stay; the running event goes back to the hand. Behaviours that are active in both sheets keep their value, other actives take the new start, passives are worked out anew.
+ * From then on lend the new table; the old one is not kept. A refused change leaves the round to its old table. */
+uint32_t mend(const uint8_t *old_table, size_t old_table_len, const uint8_t *table, size_t table_len, uint8_t *round, size_t round_len);
 
 /* A formula, as text of at most 1,024 bytes, becomes one expression field (01's 10, 11 or 12) at the start of the buffer, whose other bytes stay: 2^32 and the field's
  * length; or 21, then 22, then 9 where the expression nests over 16 deep, last 23, and the buffer is as it was. The text is not kept. docs/SHEETS.md has the grammar. */

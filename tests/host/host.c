@@ -187,6 +187,38 @@ static void share(void)
     expect(engine_step_kind(told(a)) == ENGINE_COMMITTED && engine_step_player(told(a)) == 1, "and the others all else");
 }
 
+/* A wrong bonus is mended without ending the round: event 1 should make b1 5, not 1. */
+static void mend_bonus(void)
+{
+    static uint8_t other[ENGINE_TABLE], small[ENGINE_TABLE];
+    uint8_t mended[sizeof S], before[sizeof round_];
+
+    memcpy(mended, S, sizeof S);
+    mended[sizeof S - 1] = 5;
+    expect(compile(mended, sizeof mended, easy, 0, other, sizeof other) == 0, "the mended sheet");
+    expect(compile(S, 4, easy, 0, small, sizeof small) == 0, "a sheet of one event alone");
+    load(S, sizeof S);
+    take(0);
+    settle();
+    take(1);
+    take(0);
+    frame(3);
+    memcpy(before, round_, sizeof round_);
+    expect(mend(table, sizeof table, small, sizeof small, round_, sizeof round_) == ENGINE_STRANGE_HAND, "event 1 is in hand");
+    expect(mend(table, sizeof table, other, 10, round_, sizeof round_) == ENGINE_FOREIGN, "a short table is no table");
+    expect(memcmp(before, round_, sizeof round_) == 0, "a refused change leaves the round");
+    expect(mend(table, sizeof table, other, sizeof other, round_, sizeof round_) == 0, "the sheet is changed");
+    memcpy(table, other, sizeof other);
+    expect(value(0) == 2 && value(1) == 1, "actives keep their values");
+    expect(engine_forecast_steps(forecast(table, sizeof table, round_, sizeof round_)) == 9 + 18, "both wait again");
+    settle();
+    expect(value(0) == 7 && value(1) == 2, "the new bonus, then event 0");
+    take(0);
+    while (board(table, sizeof table, round_, sizeof round_, 0, ENGINE_HOST) != ENGINE_SETTLING)
+        frame(1);
+    expect(mend(table, sizeof table, other, sizeof other, round_, sizeof round_) == ENGINE_SETTLING, "not during copy-back");
+}
+
 /* Easy and hard from one sheet: b0 = init 0 {0 => b0 + parameter 0}. */
 static void levels(void)
 {
@@ -319,6 +351,7 @@ int main(void)
     levels();
     ran_over();
     share();
+    mend_bonus();
     write_formulas();
     show_circle();
     pool_sheets();

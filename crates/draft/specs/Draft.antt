@@ -44,6 +44,12 @@ unfoldable pub programNodes : List Behaviour → List ℕ
 programNodes [] = []
 programNodes (b ∷ bs) = behaviourNodes b ++ programNodes bs
 
+-- how many of them are passives'
+unfoldable pub passiveNodes : List Behaviour → ℕ
+passiveNodes [] = 0
+passiveNodes (passive x ∷ bs) = sizeOf x + passiveNodes bs
+passiveNodes (active s hs ∷ bs) = passiveNodes bs
+
 -- an entry
 abbrev pub entry : ℕ → ℕ → ℕ → ℕ
 entry kind start count = (count * 4096 + start) * 4 + kind
@@ -106,6 +112,7 @@ pub record DraftOf (ev bs n : ℕ) (d : List ℕ) : Type 0 where
   pub drafted : Drafted program d n
   pub sent : List Behaviour
   pub pool : take n d ≡ programNodes sent
+  pub few-passives : passiveNodes (program .behaviours) ≤ n
   pub sent-fits : All (BehaviourFits (events program)) sent
   pub sent-known : (All (BehaviourNamesIn (size program)) sent → Known program) × (Known program → All (BehaviourNamesIn (size program)) sent)
 

@@ -3,14 +3,14 @@
 use Prim.Native.Nat.{ℕ, zero, suc, _+_, _-_, _/_, _%_, _≤_, _<_}
 use mathlib.Core.Bool.{Bool, true, false}
 use mathlib.Core.Path.{_≡_, refl, sym, ap, _∙_, subst}
-use mathlib.Core.Logic.{by-cases}
+use mathlib.Core.Logic.{_≢_, by-cases}
 use mathlib.Core.List.{List, [], _∷_}
 use native.Mathlib.Decide.{ℕ-discrete}
 use native.Mathlib.Omega.{arith}
 use lib.Dec.{ltb, leb, eqb}
-use lib.ListN.{length, getD, drop, length-drop}
+use lib.ListN.{length, getD, drop, replicate, length-drop}
 use lib.Seq.{getD-drop, ext-getD}
-use borrow.Author.Tests.{ltb-false, leb-false, le-leb}
+use borrow.Author.Tests.{ltb-false, leb-false, le-leb, eqb-false}
 use Rattle.base.specs.Basics.{All}
 use Rattle.base.specs.Tools.{by-test}
 use Rattle.word.specs.Laws.{long}
@@ -28,7 +28,9 @@ use Rattle.allowed.specs.Allowed.{allowed}
 use Rattle.allowed.specs.AllowedLaws.{slot-small}
 use Rattle.instruction.specs.Instruction.{transfer, perform}
 use Rattle.arrivals.specs.Arrivals.{full, arriveWith, arriveKnown, arriveIn, arriveOn}
-use Rattle.board.specs.Board.{masked}
+use Rattle.board.specs.Board.{masked, settlingOn}
+use Rattle.carry.specs.Carry.{carryOn, shownFor, shown}
+use Rattle.mending.specs.Mending.{handKnown, backInHand, rested, verdict, mended, mendWith, mendAfter, mendIn, mendOn}
 use Rattle.dispatch.specs.Dispatch.{startAt, preemptAt}
 use Rattle.advance.specs.Advance.{countOn, executeOn, executeAt, advance}
 use Rattle.machine.specs.Machine.{meet, contest, running, resting, stepWith, stepIn, stepOn}
@@ -179,6 +181,41 @@ unfolding stepOn
 step-keeps t l =
     by-test (Keeps l) (ours t l) (λ o. let r = bounds t l o .round in step-in-keeps t l (r .few-waiting) (r .shallow)) (λ _. kept-all l)
 
+-- ---- a change of sheets
+
+back-keeps : (l : List ℕ) (n f k w : ℕ) → (f ≢ 0 → n ≤ 63) → Kept l (backInHand l n f k w)
+unfolding backInHand
+back-keeps l n f k w h =
+    by-test (Kept l) (eqb f 0) (λ _. kept-all l)
+    (λ e. let room : n ≤ 63 = h (eqb-false f 0 e) in kept-put _ 1 (n + 1) (omega arith) (kept-slot l n k w (omega arith) (kept-all l)))
+
+rested-keeps : {l : List ℕ} (m : List ℕ) → Kept l m → Kept l (rested m)
+unfolding rested
+rested-keeps m h = kept-put _ 7 0 (omega arith) (kept-put _ 6 0 (omega arith) (kept-put m 2 0 (omega arith) h))
+
+shown-keeps : (t m : List ℕ) {l : List ℕ} (o : List ℕ) (n : ℕ) → n ≤ 64 → Kept l o → Kept l (shown t m o n)
+unfolding shown
+shown-keeps t m o zero b h = h
+shown-keeps t m o (suc n) b h = kept-put _ (136 + n) (shownFor t m n) (omega arith) (shown-keeps t m o n (omega arith) h)
+
+mended-keeps : (t m l : List ℕ) → (runningFlag l ≢ 0 → waitingCount l ≤ 63) → Kept l (mended t m l)
+unfolding mended
+mended-keeps t m l h =
+    shown-keeps t m _ 64 (omega arith) (rested-keeps _ (back-keeps l (waitingCount l) (runningFlag l) (runningNumber l) (runningWord l) h))
+
+mend-keeps : (old t l : List ℕ) → Keeps l (mendOn old t l)
+unfolding mendOn mendIn mendAfter mendWith
+mend-keeps old t l =
+    let r = carryOn old t l (replicate 2048 0) in
+    by-test (Keeps l) (ours old l)
+    (λ o. by-test (Keeps l) (tableFits t)
+    (λ _. by-test (Keeps l) (eqb (verdict (r .0) (settlingOn old l) (handKnown t l)) 0) (λ _. mended-keeps t (r .1) l (bounds old l o .round .room)) (λ _. kept-all l))
+    (λ _. kept-all l))
+    (λ _. kept-all l)
+
+pub mend-beyond : (old t l : List ℕ) → Untouched 2048 l (mendOn old t l .1)
+mend-beyond old t l = within l (mendOn old t l .1) (mend-keeps old t l)
+
 -- ---- every call, and every list of calls
 
 pub start-beyond : (t l : List ℕ) → Untouched 2048 l (startOn t l .1)
@@ -217,7 +254,7 @@ compile-beyond s ps t bytes words =
     let few = ok .fits .few-events in
     let small = ok .fits .few-behaviours in
     let seen : length (p .viewers) ≤ 64 = omega (arith, ok .fits .all-viewers) in
-    let sent : length (p .senders) ≤ 248 = omega (arith, ok .fits .all-senders) in
+    let sent : length (p .senders) ≤ 32 = omega (arith, ok .fits .all-senders) in
     subst (λ (m : List ℕ). Untouched 34816 t m) (sym (ap (λ (o : Compiled). o .1) (k .3)))
     (untouched 34816 t (tableOf p t) (length-table p few small (length-fresh p) (short-code p ok) seen sent t room) (beyond-table p few small (length-fresh p) (short-code p ok) seen sent t room)))
     (λ h. subst (λ (m : List ℕ). Untouched 34816 t m) (sym (refused-unchanged s ps t h)) (refl, refl))

@@ -29,6 +29,7 @@ use Rattle.machine.specs.Machine.{stepOn}
 use Rattle.forecast.specs.Forecast.{forecastOn}
 use Rattle.preview.specs.Preview.{previewOn}
 use Rattle.refinement.specs.Refinement.{coded, decoded, toldOn, callOn, answersOn, roundAfter, View, Kept}
+use Rattle.rounds.specs.Rounds.{WholeRounds}
 use Rattle.compiler.specs.Verdict.{programOf, compileOn}
 
 -- the board of a round: the values of p's behaviours, as read from its bytes
@@ -166,3 +167,5 @@ TwoLists =
 pub record Whole : Type 0 where
   pub every-list : EverySheet
   pub two-lists : TwoLists
+  -- 02, M-112: "Demand 3's lists may hold such changes": the same of every list of calls and of changes of sheets
+  pub rounds : WholeRounds

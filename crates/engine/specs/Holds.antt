@@ -28,6 +28,7 @@ use Rattle.round.specs.Start.{Result, startOn, freshBytes}
 use Rattle.refinement.specs.Refinement.{roundAfter}
 use Rattle.refinement.specs.Refines.{valid, starts, accepted-says}
 use Rattle.filling.specs.Fills.{get-small}
+use Rattle.rounds.specs.RoundsHold.{whole-rounds}
 use Rattle.compiler.specs.Verdict.{Compiled, programOf, compileOn}
 use Rattle.compiler.specs.JudgeLaws.{compile-short}
 use Rattle.compiler.specs.AcceptedExactly.{accepted-exactly}
@@ -122,4 +123,4 @@ two-phones s ps t₀ l₀ t₁ l₁ bytes words r₀ r₁ h₀ h₁ sheet e take
 
 -- demand 3
 pub whole : Whole
-whole = record { every-list = every-sheet; two-lists = two-phones }
+whole = record { every-list = every-sheet; two-lists = two-phones; rounds = whole-rounds }

@@ -1,4 +1,4 @@
--- Demand 1: a refused start, arrival or step leaves the round as it was. By the branches of each call: an accepted step never answers `foreign`.
+-- Demand 1: a refused start, arrival, step or change of sheets leaves the round as it was. By the branches of each call: an accepted step never answers `foreign`.
 -- (A refused compile: crate compiler, AcceptedExactly. A board reading has the round as `&[u8]`.)
 use Prim.Native.Nat.{ℕ, _+_, _-_}
 use mathlib.Core.Path.{_≡_, refl}
@@ -6,7 +6,7 @@ use mathlib.Core.Logic.{_≢_}
 use mathlib.Core.List.{List}
 use native.Mathlib.Omega.{arith}
 use lib.Dec.{ltb, leb, eqb}
-use lib.ListN.{length}
+use lib.ListN.{length, replicate}
 use Rattle.base.specs.Tools.{by-test}
 use Rattle.language.specs.Refusals.{foreign}
 use Rattle.language.specs.Rights.{may}
@@ -15,7 +15,9 @@ use Rattle.queue.specs.Queue.{best}
 use Rattle.round.specs.Start.{Result, startOn}
 use Rattle.allowed.specs.Allowed.{allowed}
 use Rattle.arrivals.specs.Arrivals.{full, arriveWith, arriveKnown, arriveIn, arriveOn}
-use Rattle.board.specs.Board.{masked}
+use Rattle.board.specs.Board.{masked, settlingOn}
+use Rattle.carry.specs.Carry.{carryOn}
+use Rattle.mending.specs.Mending.{handKnown, verdict, mendWith, mendAfter, mendIn, mendOn}
 use Rattle.dispatch.specs.Dispatch.{said, startAt, preemptAt}
 use Rattle.advance.specs.Advance.{commitSaid, countOn, executeOn, executeAt, advance}
 use Rattle.machine.specs.Machine.{meet, contest, running, resting, stepWith, stepIn, stepOn}
@@ -39,6 +41,16 @@ arrive-refused t l e who =
     (λ _. by-test (Kept l) (full (waitingCount l) (runningFlag l)) (λ _ _. refl)
     (λ _. by-test (Kept l) (leb 1000000 (taken l)) (λ _ _. refl) (λ _ h. absurd (h refl))))
     (λ _ _. refl))))
+    (λ _ _. refl)
+
+pub mend-refused : (old t l : List ℕ) → mendOn old t l .0 ≢ 0 → mendOn old t l .1 ≡ l
+unfolding mendOn mendIn mendAfter mendWith
+mend-refused old t l =
+    let a = carryOn old t l (replicate 2048 0) .0 in
+    by-test (Kept l) (ours old l)
+    (λ _. by-test (Kept l) (tableFits t)
+    (λ _. by-test (Kept l) (eqb (verdict a (settlingOn old l) (handKnown t l)) 0) (λ _ h. absurd (h refl)) (λ _ _. refl))
+    (λ _ _. refl))
     (λ _ _. refl)
 
 -- ---- steps: `foreign` is the only refusal

@@ -8,6 +8,7 @@ ghost use Rattle.witness.specs.Witness.{Witnessed};
 ghost use Rattle.round.specs.Start.{result, startOn};
 ghost use Rattle.arrivals.specs.Arrivals.{arriveOn};
 ghost use Rattle.board.specs.Board.{boardOn};
+ghost use Rattle.mending.specs.Mending.{mendOn};
 ghost use Rattle.machine.specs.Machine.{stepOn};
 ghost use Rattle.forecast.specs.Forecast.{forecastOn};
 ghost use Rattle.preview.specs.Preview.{previewOn};
@@ -107,6 +108,16 @@ pub extern "C" fn preview(
     ensures { λ _. ⌜ now (round .exit) ≡ now (round .entry) ⌝ }
 {
     preview::preview_at(table, round, event, behaviour, player)
+}
+
+// A round goes on under a newly compiled table: hand and numbers stay, the running event goes back to the hand, actives of both sheets keep their value. 0, or 14, 19, 28, the round as it was.
+#[no_mangle]
+pub extern "C" fn mend(old: &[u8], table: &[u8], round: &mut [u8]) -> u32
+    ensures { λ r. ⌜ result r (now (round .exit)) ≡ mendOn (now (old .entry)) (now (table .entry)) (now (round .entry)) ⌝ }
+    ensures { λ _. ⌜ now (old .exit) ≡ now (old .entry) ⌝ }
+    ensures { λ _. ⌜ now (table .exit) ≡ now (table .entry) ⌝ }
+{
+    mending::mend_at(old, table, round)
 }
 
 // A formula's expression field at the start of the buffer: 2 ^ 32 and its length; or 21, 22, 9, 23, the buffer as it was.

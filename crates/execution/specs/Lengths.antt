@@ -46,7 +46,7 @@ late-first c i (takes x) h = absurd (true≢false h)
 late-first c i (defers x) h = refl
 late-first c i keeps h = refl
 
-late-again : (c : ℕ → Bool) (i : ℕ) (r : Response) → early r ≡ false → length (againCode c i r) ≡ 0
+pub late-again : (c : ℕ → Bool) (i : ℕ) (r : Response) → early r ≡ false → length (againCode c i r) ≡ 0
 late-again c i (follows x) h = absurd (true≢false h)
 late-again c i (takes x) h = refl
 late-again c i (defers x) h = refl
@@ -75,7 +75,7 @@ module _ (p : Program) (e : ℕ) where
   length-code = simp length-append (omega (arith, length-C copy, length-C restore))
 
   module _ (v : Valid p) (declared : e ≤ noEvent p) where
-    length-turns : (f : ℕ → Response → List Instr) → ((i : ℕ) (r : Response) → early r ≡ false → length (f i r) ≡ 0)
+    pub length-turns : (f : ℕ → Response → List Instr) → ((i : ℕ) (r : Response) → early r ≡ false → length (f i r) ≡ 0)
         → length (inOrder p e f (phaseOne p e)) ≡ sum _+_ 0 (upTo (size p) (lengths f))
     length-turns f late =
         length-inOrder f (phaseOne p e)

@@ -49,7 +49,7 @@ module _ (p : Program) (v : Valid p) (e : ℕ) (s : List ℕ) where
   after-first =
       turns (firstCode (inC p e)) firstStep (λ d t i. first-one (size p) (inC p e) s d t i (response p e i) (response-fits p v e i) refl) (phaseOne p e) below
 
-  after-again : (d : Values) (t : List ℕ) → Seen d t → Seen (executeAll (inOrder p e (againCode (inC p e)) (phaseOne p e)) d) (inTurn p e againStep (phaseOne p e) t)
+  pub after-again : (d : Values) (t : List ℕ) → Seen d t → Seen (executeAll (inOrder p e (againCode (inC p e)) (phaseOne p e)) d) (inTurn p e againStep (phaseOne p e) t)
   after-again =
       turns (againCode (inC p e)) againStep (λ d t i. again-one (size p) (inC p e) s d t i (response p e i) (response-fits p v e i) refl) (phaseOne p e) below
 

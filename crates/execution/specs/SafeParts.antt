@@ -268,10 +268,10 @@ module _ (n : ℕ) (c : ℕ → Bool) where
 -- ---- the whole code
 
 module _ (p : Program) (v : Valid p) (e : ℕ) where
-  abbrev Held : ℕ → Filled → Type 0
+  abbrev pub Held : ℕ → Filled → Type 0
   Held k a = Ready (size p) (inC p e) k a
 
-  abbrev AllHeld : Filled → Type 0
+  abbrev pub AllHeld : Filled → Type 0
   AllHeld a = Held (size p) a
 
   below : All (λ i. i < size p) (phaseOne p e)
@@ -304,12 +304,24 @@ module _ (p : Program) (v : Valid p) (e : ℕ) where
       (goes-turns p e (firstCode (inC p e)) AllHeld (λ i b x. first-safe (size p) (inC p e) x i (response p e i) (response-fits p v e i) b) (phaseOne p e) below a h)
       (λ x k. goes-parts (size p) _ Wait later-on x (k, λ i l. absurd (omega arith)))
 
+  agains-safe : (a : Filled) → AllHeld a → Goes a (inOrder p e (againCode (inC p e)) (phaseOne p e)) AllHeld
+  agains-safe a h =
+      goes-turns p e (againCode (inC p e)) AllHeld (λ i b y. again-safe (size p) (inC p e) y i (response p e i) (response-fits p v e i) b) (phaseOne p e) below a h
+
+  -- the passives' code alone, where all of C is in scratch
+  pub again-passes : (a : Filled) → AllHeld a → Safe a (inOrder p e (againCode (inC p e)) (phaseOne p e))
+  again-passes a h = let g = agains-safe a h in safe-of a (inOrder p e (againCode (inC p e)) (phaseOne p e)) (g .0, g .1 .level)
+
+  -- and all of C is in scratch after it
+  pub again-held : (a : Filled) → AllHeld a → AllHeld (after a (inOrder p e (againCode (inC p e)) (phaseOne p e)))
+  again-held a h = agains-safe a h .1
+
   seconds-safe : (a : Filled) → Wait (size p) a → Goes a (secondPart p e) AllHeld
   unfolding secondPart
   seconds-safe a h =
       goes-join a (byNumber p e moveCode) (inOrder p e (againCode (inC p e)) (phaseOne p e)) (Wait (size p)) AllHeld
       (goes-parts (size p) _ (λ k. Wait (size p)) move-on a h)
-      (λ x k. goes-turns p e (againCode (inC p e)) AllHeld (λ i b y. again-safe (size p) (inC p e) y i (response p e i) (response-fits p v e i) b) (phaseOne p e) below x (k .0))
+      (λ x k. agains-safe x (k .0))
 
   mid-safe : (a : Filled) → AllHeld a → Goes a (mid p e) AllHeld
   mid-safe a h = goes-join a (firstPart p e) (secondPart p e) (Wait (size p)) AllHeld (firsts-safe a h) seconds-safe

@@ -25,6 +25,7 @@ use Rattle.language.specs.SheetLaws.{blank, length-priorities, length-fill, fil
 use Rattle.draft.specs.Draft.{draftLength, nodes, handlerNodes, behaviourNodes, programNodes, entryOf, placeOf, moved, usedBy, Stands, Says, StartIs, Drafted, DraftOf, unfilled, SheetDraft}
 use Rattle.draft.specs.DraftLaws.{take-used, moved-places}
 use Rattle.draft.specs.Entry.{tagOf, wordOf}
+use Rattle.filling.specs.PassiveNodes.{passives-few}
 use Rattle.filling.specs.Filling.{valueOf, filled, fillTo, anyParam, lacksParam}
 
 -- ---- values are words
@@ -276,6 +277,8 @@ pub draft-filled : {ev bs n : ℕ} {d : List ℕ} (ps : List ℕ) → All (λ b.
 draft-filled {n = n} {d = d} ps bytes o =
     let s = o .sheet in
     let l : length (prioritiesOf (s .signals)) ≡ length (s .signals) = length-priorities (s .signals) in
+    let same-pool : take n (fillTo ps d 2048) ≡ programNodes (fillEntries (valueOf ps) (s .entries)) =
+    part-filled ps d (o .drafted .long) 0 n (omega (arith, o .drafted .few)) ∙ ap (fillAll ps) (o .pool) ∙ entries-nodes ps (length (s .signals)) (s .entries) (o .fits .each) in
     record {
       program = fill (valueOf ps) s;
       fits = fill-fits (valueOf ps) (value-small ps bytes) s (o .fits);
@@ -283,7 +286,10 @@ draft-filled {n = n} {d = d} ps bytes o =
       size-is = o .size-is ∙ sym (length-fill (valueOf ps) (rowsOut s .entries) ∙ length-out (s .entries) (s .entries));
       drafted = fill-drafted ps bytes d (o .drafted .long) n s (o .fits) (o .drafted);
       sent = fillEntries (valueOf ps) (s .entries);
-      pool = part-filled ps d (o .drafted .long) 0 n (omega (arith, o .drafted .few)) ∙ ap (fillAll ps) (o .pool) ∙ entries-nodes ps (length (s .signals)) (s .entries) (o .fits .each);
+      pool = same-pool;
+      few-passives =
+          let m : length (programNodes (fillEntries (valueOf ps) (s .entries))) ≤ n = omega (arith, ap length same-pool, length-take-le n (fillTo ps d 2048) (omega (arith, length-fillTo ps d 2048, o .drafted .long, o .drafted .few))) in
+          omega (arith, passives-few (valueOf ps) (s .entries) (s .entries), m);
       sent-fits = rw l (entries-fit (valueOf ps) (value-small ps bytes) (length (s .signals)) (s .entries) (o .fits .each));
       sent-known = names-sent (valueOf ps) s (o .fits);
     }

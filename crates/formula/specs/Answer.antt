@@ -6,21 +6,11 @@ use mathlib.Core.Option.{Option, none, some}
 use lib.ListN.{length, drop}
 use lib.Dec.{ltb}
 use Rattle.base.specs.Basics.{pick}
-use Rattle.language.specs.Refusals.{tooDeep}
+use Rattle.language.specs.Refusals.{tooDeep, noFormula, largeNumber, shortField}
 use Rattle.language.specs.Syntax.{Expr, con, name, app1, app2, app3}
 use Rattle.language.specs.Sheet.{Term, literal, variable, apply1, apply2, apply3}
 use Rattle.language.specs.Grammar.{encodeExpr}
 use Rattle.formula.specs.Reader.{readFormula}
-
--- 21 "when the text is outside this grammar or over 1,024 bytes"; 22 "when a number exceeds 2,147,483,647"; 23 "when the buffer is too short for the field"
-abbrev pub noFormula : ℕ
-noFormula = 21
-
-abbrev pub largeNumber : ℕ
-largeNumber = 22
-
-abbrev pub shortBuffer : ℕ
-shortBuffer = 23
 
 -- a number exceeds 2,147,483,647
 unfoldable pub large : Expr → Bool
@@ -62,7 +52,7 @@ unfoldable pub written : Expr → List ℕ → ℕ × List ℕ
 written e buffer =
     pick (large e) (answered largeNumber buffer)
     (pick (ltb 16 (nesting e)) (answered tooDeep buffer)
-    (pick (ltb (length buffer) (length (fieldOf e))) (answered shortBuffer buffer)
+    (pick (ltb (length buffer) (length (fieldOf e))) (answered shortField buffer)
     (answered (4294967296 + length (fieldOf e)) (fieldOf e ++ drop (length (fieldOf e)) buffer))))
 
 abbrev pub answerTo : Option Expr → List ℕ → ℕ × List ℕ

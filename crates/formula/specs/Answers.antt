@@ -12,7 +12,8 @@ use Rattle.base.specs.Tools.{by-test}
 use Rattle.language.specs.Syntax.{Expr}
 use Rattle.formula.specs.Grammar.{Formula}
 use Rattle.formula.specs.Reader.{readFormula}
-use Rattle.formula.specs.Answer.{noFormula, large, nesting, fieldOf, answered, written, answerTo, formulaOn}
+use Rattle.language.specs.Refusals.{noFormula}
+use Rattle.formula.specs.Answer.{large, nesting, fieldOf, answered, written, answerTo, formulaOn}
 use Rattle.formula.specs.Readings.{reading-is, outside-none, none-outside}
 
 -- a text within the grammar is answered for the one expression that it stands for

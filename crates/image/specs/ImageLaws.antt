@@ -4,20 +4,23 @@ use Prim.Native.Nat.{ℕ, zero, suc, _+_, _*_, _-_, _≤_, _<_}
 use mathlib.Core.Bool.{true}
 use mathlib.Core.Path.{_≡_, refl, sym, ap, _∙_}
 use mathlib.Core.Logic.{_≢_}
-use mathlib.Core.List.{List, [], _∷_, _++_, flatten, sum}
+use mathlib.Core.List.{List, [], _∷_, _++_, flatten, sum, append-assoc}
 use native.Mathlib.Omega.{arith}
-use lib.ListN.{length, getD, replicate, length-append, length-replicate, List·getD-append}
-use lib.Seq.{getD-append-add, getD-set-other}
-use borrow.Author.Tests.{lt-ltb, le-ltb, le-leb}
+use lib.ListN.{length, getD, take, replicate, length-append, length-replicate, List·getD-append}
+use lib.Seq.{getD-append-add, getD-set-other, take-all}
+use lib.Dec.{eqb}
+use borrow.Author.Tests.{lt-ltb, le-ltb, le-leb, ne-eqb, eqb-true, eqb-false}
+use Rattle.base.specs.Tools.{by-test, split}
 use Rattle.word.specs.Word.{get, put}
 use Rattle.word.specs.Laws.{length-put, get-same, get-other}
 use Rattle.language.specs.Syntax.{Program}
-use Rattle.language.specs.Dependence.{size, events}
+use Rattle.language.specs.Dependence.{size, events, behaviourAt}
 use Rattle.language.specs.Order.{upTo}
-use Rattle.language.specs.Code.{Instr, off, code, members}
+use Rattle.language.specs.Code.{Instr, off, secondPart, restorePart, code, members}
+use Rattle.language.specs.Laws.{length-upTo, getD-upTo}
 use Rattle.semantics.specs.Meaning.{at, fresh}
 use Rattle.layout.specs.Layout.{eventWord, codeFits, codesFit, tableWith, tableFits}
-use Rattle.image.specs.Image.{operation, constant, codeWords, allCode, startOf, eventRecord, padded, boardWords, imageWords, putWords, tableOf}
+use Rattle.image.specs.Image.{operation, constant, codeWords, allCode, startOf, eventRecord, padded, kindOf, passivesCode, beforePassives, tableCode, passivesAt, kindWords, passiveWords, boardWords, imageWords, putWords, tableOf}
 use Rattle.image.specs.PutWords.{length-putWords}
 
 -- ---- lists
@@ -40,6 +43,11 @@ getD-padded n ws k = getD-zeros ws (n - length ws) k
 -- a part of length n is passed over
 getD-past : (xs ys : List ℕ) (n k : ℕ) → length xs ≡ n → getD (xs ++ ys) (n + k) 0 ≡ getD ys k 0
 getD-past xs ys n k h = rw (sym h) (getD-append-add xs ys k 0)
+
+length-take-most : {A : Type 0} (n : ℕ) (l : List A) → length (take n l) ≤ n
+length-take-most zero l = omega arith
+length-take-most (suc n) [] = omega arith
+length-take-most (suc n) (x ∷ l) = omega (arith, length-take-most n l)
 
 -- ---- parts of equal length
 
@@ -155,9 +163,17 @@ pub record Says (p : Program) (t : List ℕ) : Type 0 where
   pub operations : (e c : ℕ) → e < events p → c < length (code p e) → get t (512 + (startOf p e + c) * 2) ≡ operation (getD (code p e) c off)
   pub constants : (e c : ℕ) → e < events p → c < length (code p e) → get t (513 + (startOf p e + c) * 2) ≡ constant (getD (code p e) c off)
   pub fits : tableFits t ≡ true
+  pub kinds : (i : ℕ) → i < size p → get t (296 + i) ≡ kindOf (behaviourAt p i)
+  pub passives-start : get t 360 ≡ passivesAt p
+  pub passives-length : get t 361 ≡ length (passivesCode p)
+  pub passives-within : length (passivesCode p) ≤ 4096 → passivesAt p + length (passivesCode p) ≤ 4096
+  pub passives-operations : length (passivesCode p) ≤ 4096 → (c : ℕ) → c < length (passivesCode p)
+      → get t (512 + (passivesAt p + c) * 2) ≡ operation (getD (passivesCode p) c off)
+  pub passives-constants : length (passivesCode p) ≤ 4096 → (c : ℕ) → c < length (passivesCode p)
+      → get t (513 + (passivesAt p + c) * 2) ≡ constant (getD (passivesCode p) c off)
 
 module _ (p : Program) (few : events p ≤ 32) (small : size p ≤ 64) (whole : length (fresh p) ≡ size p)
-    (short : length (allCode p) ≤ 4096) (seen : length (p .viewers) ≤ 64) (sent : length (p .senders) ≤ 248) where
+    (short : length (allCode p) ≤ 4096) (seen : length (p .viewers) ≤ 64) (sent : length (p .senders) ≤ 32) where
   abbrev heads : List ℕ
   heads = padded 8 (events p ∷ size p ∷ [])
 
@@ -168,7 +184,7 @@ module _ (p : Program) (few : events p ≤ 32) (small : size p ≤ 64) (whole : 
   values = boardWords p
 
   abbrev codes : List ℕ
-  codes = padded 8192 (codeWords (allCode p))
+  codes = padded 8192 (codeWords (tableCode p))
 
   length-heads : length heads ≡ 8
   length-heads = length-padded 8 (events p ∷ size p ∷ []) (omega arith)
@@ -177,19 +193,47 @@ module _ (p : Program) (few : events p ≤ 32) (small : size p ≤ 64) (whole : 
   length-records =
       length-padded 128 (flatten (upTo (events p) (eventRecord p))) (rw (length-even 4 (events p) (eventRecord p) (λ i. refl)) (omega arith))
 
+  abbrev from-viewers : List ℕ
+  from-viewers = padded 64 (p .viewers) ++ (padded 32 (p .senders) ++ passiveWords p)
+
+  abbrev from-senders : List ℕ
+  from-senders = padded 32 (p .senders) ++ passiveWords p
+
+  abbrev stretch : List ℕ
+  stretch = passivesAt p ∷ length (passivesCode p) ∷ []
+
+  length-kinds : length (kindWords p) ≤ 64
+  unfolding kindWords
+  length-kinds = rw (length-upTo (size p) (λ i. kindOf (behaviourAt p i))) small
+
+  length-passives : length (passiveWords p) ≡ 216
+  unfolding passiveWords
+  length-passives =
+      rw (
+        length-append (padded 64 (kindWords p)) (padded 152 stretch),
+        length-padded 64 (kindWords p) length-kinds,
+        length-padded 152 stretch (omega arith),
+      )
+
   length-values : length values ≡ 376
   unfolding boardWords
   length-values =
       rw (
-        length-append (padded 64 (fresh p)) (padded 64 (p .viewers) ++ padded 248 (p .senders)),
-        length-append (padded 64 (p .viewers)) (padded 248 (p .senders)),
+        length-append (padded 64 (fresh p)) from-viewers,
+        length-append (padded 64 (p .viewers)) from-senders,
+        length-append (padded 32 (p .senders)) (passiveWords p),
         length-padded 64 (fresh p) (omega arith),
         length-padded 64 (p .viewers) seen,
-        length-padded 248 (p .senders) sent,
+        length-padded 32 (p .senders) sent,
+        length-passives,
       )
 
+  length-tableCode : length (tableCode p) ≤ 4096
+  unfolding tableCode
+  length-tableCode = by-test (λ (x : List Instr). length x ≤ 4096) (eqb (events p) 0) (λ _. length-take-most 4096 (passivesCode p)) (λ _. short)
+
   length-codes : length codes ≡ 8192
-  length-codes = length-padded 8192 (codeWords (allCode p)) (rw (length-codeWords (allCode p)) (omega arith))
+  length-codes = length-padded 8192 (codeWords (tableCode p)) (rw (length-codeWords (tableCode p)) (omega (arith, length-tableCode)))
 
   pub length-image : length (imageWords p) ≡ 8704
   unfolding imageWords
@@ -231,42 +275,116 @@ module _ (p : Program) (few : events p ≤ 32) (small : size p ≤ 64) (whole : 
   unfolding boardWords
   in-values k h =
       let b : k < length (padded 64 (fresh p)) = rw (length-padded 64 (fresh p) (omega arith)) h in
-      List·getD-append (padded 64 (fresh p)) (padded 64 (p .viewers) ++ padded 248 (p .senders)) 0 k b ∙ getD-padded 64 (fresh p) k
+      List·getD-append (padded 64 (fresh p)) from-viewers 0 k b ∙ getD-padded 64 (fresh p) k
+
+  past-values : (k : ℕ) → getD (boardWords p) (64 + k) 0 ≡ getD from-viewers k 0
+  unfolding boardWords
+  past-values k = getD-past (padded 64 (fresh p)) from-viewers 64 k (length-padded 64 (fresh p) (omega arith))
 
   in-viewers : (k : ℕ) → k < 64 → getD (boardWords p) (64 + k) 0 ≡ getD (p .viewers) k 0
-  unfolding boardWords
   in-viewers k h =
       let b : k < length (padded 64 (p .viewers)) = rw (length-padded 64 (p .viewers) seen) h in
-      getD-past (padded 64 (fresh p)) (padded 64 (p .viewers) ++ padded 248 (p .senders)) 64 k (length-padded 64 (fresh p) (omega arith))
-      ∙ List·getD-append (padded 64 (p .viewers)) (padded 248 (p .senders)) 0 k b ∙ getD-padded 64 (p .viewers) k
+      past-values k ∙ List·getD-append (padded 64 (p .viewers)) from-senders 0 k b ∙ getD-padded 64 (p .viewers) k
 
-  in-senders : (k : ℕ) → getD (boardWords p) (128 + k) 0 ≡ getD (p .senders) k 0
-  unfolding boardWords
-  in-senders k =
+  past-viewers : (k : ℕ) → getD (boardWords p) (128 + k) 0 ≡ getD from-senders k 0
+  past-viewers k =
       let z : 128 + k ≡ 64 + (64 + k) = omega arith in
-      rw z
-      (getD-past (padded 64 (fresh p)) (padded 64 (p .viewers) ++ padded 248 (p .senders)) 64 (64 + k) (length-padded 64 (fresh p) (omega arith))
-      ∙ getD-past (padded 64 (p .viewers)) (padded 248 (p .senders)) 64 k (length-padded 64 (p .viewers) seen) ∙ getD-padded 248 (p .senders) k)
+      rw z (past-values (64 + k) ∙ getD-past (padded 64 (p .viewers)) from-senders 64 k (length-padded 64 (p .viewers) seen))
 
-  in-codes : (k : ℕ) → getD (imageWords p) (512 + k) 0 ≡ getD (codeWords (allCode p)) k 0
+  in-senders : (k : ℕ) → k < 32 → getD (boardWords p) (128 + k) 0 ≡ getD (p .senders) k 0
+  in-senders k h =
+      let b : k < length (padded 32 (p .senders)) = rw (length-padded 32 (p .senders) sent) h in
+      past-viewers k ∙ List·getD-append (padded 32 (p .senders)) (passiveWords p) 0 k b ∙ getD-padded 32 (p .senders) k
+
+  past-senders : (k : ℕ) → getD (boardWords p) (160 + k) 0 ≡ getD (passiveWords p) k 0
+  past-senders k =
+      let z : 160 + k ≡ 128 + (32 + k) = omega arith in
+      rw z (past-viewers (32 + k) ∙ getD-past (padded 32 (p .senders)) (passiveWords p) 32 k (length-padded 32 (p .senders) sent))
+
+  in-kinds : (i : ℕ) → i < size p → getD (boardWords p) (160 + i) 0 ≡ kindOf (behaviourAt p i)
+  unfolding passiveWords kindWords
+  in-kinds i h =
+      let b : i < length (padded 64 (kindWords p)) = rw (length-padded 64 (kindWords p) length-kinds) (omega arith) in
+      past-senders i ∙ List·getD-append (padded 64 (kindWords p)) (padded 152 stretch) 0 i b ∙ getD-padded 64 (kindWords p) i
+      ∙ getD-upTo (size p) (λ j. kindOf (behaviourAt p j)) i 0 h
+
+  in-stretch : (k : ℕ) → getD (boardWords p) (224 + k) 0 ≡ getD stretch k 0
+  unfolding passiveWords
+  in-stretch k =
+      let z : 224 + k ≡ 160 + (64 + k) = omega arith in
+      rw z
+      (past-senders (64 + k) ∙ getD-past (padded 64 (kindWords p)) (padded 152 stretch) 64 k (length-padded 64 (kindWords p) length-kinds)
+      ∙ getD-padded 152 stretch k)
+
+  in-codes : (k : ℕ) → getD (imageWords p) (512 + k) 0 ≡ getD (codeWords (tableCode p)) k 0
   unfolding imageWords
   in-codes k =
       let z : 512 + k ≡ 8 + (128 + (376 + k)) = omega arith in
       rw z
       (getD-past heads (records ++ (values ++ codes)) 8 (128 + (376 + k)) length-heads ∙ getD-past records (values ++ codes) 128 (376 + k) length-records
-      ∙ getD-past values codes 376 k length-values ∙ getD-padded 8192 (codeWords (allCode p)) k)
+      ∙ getD-past values codes 376 k length-values ∙ getD-padded 8192 (codeWords (tableCode p)) k)
 
   pub code-within : (e : ℕ) → e < events p → startOf p e + length (code p e) ≤ 4096
   unfolding startOf allCode
   code-within e h = omega (arith, part-within off (events p) (code p) e h, short)
 
-  at-code : (e c : ℕ) → e < events p → c < length (code p e) → getD (allCode p) (startOf p e + c) off ≡ getD (code p e) c off
-  unfolding startOf allCode
-  at-code e c h b = getD-part off (events p) (code p) e c h b
+  -- where an event is declared, the instructions are those of all events
+  declared-code : (e : ℕ) → e < events p → tableCode p ≡ allCode p
+  unfolding tableCode
+  declared-code e h = rw (ne-eqb (events p) 0 (omega arith))
 
-  at-code-within : (e c : ℕ) → e < events p → c < length (code p e) → startOf p e + c < length (allCode p)
+  at-code : (e c : ℕ) → e < events p → c < length (code p e) → getD (tableCode p) (startOf p e + c) off ≡ getD (code p e) c off
   unfolding startOf allCode
-  at-code-within e c h b = omega (arith, part-within off (events p) (code p) e h)
+  at-code e c h b = rw (declared-code e h) (getD-part off (events p) (code p) e c h b)
+
+  at-code-within : (e c : ℕ) → e < events p → c < length (code p e) → startOf p e + c < length (tableCode p)
+  unfolding startOf allCode
+  at-code-within e c h b = rw (declared-code e h) (omega (arith, part-within off (events p) (code p) e h))
+
+  -- event 0's code is what comes before the passives, these, and the copy-back
+  code-parts : code p 0 ≡ beforePassives p ++ (passivesCode p ++ restorePart p 0)
+  unfolding code secondPart beforePassives passivesCode
+  code-parts = simp append-assoc
+
+  passives-in-code : length (beforePassives p) + length (passivesCode p) ≤ length (code p 0)
+  passives-in-code =
+      rw (code-parts, length-append (beforePassives p) (passivesCode p ++ restorePart p 0), length-append (passivesCode p) (restorePart p 0)) (omega arith)
+
+  passives-code : (c : ℕ) → c < length (passivesCode p) → getD (code p 0) (length (beforePassives p) + c) off ≡ getD (passivesCode p) c off
+  passives-code c h =
+      rw code-parts
+      (getD-append-add (beforePassives p) (passivesCode p ++ restorePart p 0) c off ∙ List·getD-append (passivesCode p) (restorePart p 0) off c h)
+
+  start-zero : startOf p 0 ≡ 0
+  unfolding startOf upTo sum
+  start-zero = refl
+
+  module _ (alone : length (passivesCode p) ≤ 4096) where
+    passives-fit : passivesAt p + length (passivesCode p) ≤ 4096
+    unfolding passivesAt
+    passives-fit =
+        by-test (λ (k : ℕ). k + length (passivesCode p) ≤ 4096) (eqb (events p) 0) (λ _. omega arith) (λ e.
+        omega (arith, passives-in-code, start-zero, code-within 0 (omega (arith, eqb-false (events p) 0 e))))
+
+    none : (c : ℕ) → c < length (passivesCode p) → events p ≡ 0 → (0 + c < length (tableCode p)) × (getD (tableCode p) (0 + c) off ≡ getD (passivesCode p) c off)
+    unfolding tableCode
+    none c h e = let z : 0 + c ≡ c = omega arith in rw (e, take-all 4096 (passivesCode p) alone, z) (h, refl)
+
+    some : (c : ℕ) → c < length (passivesCode p) → 0 < events p
+        → (length (beforePassives p) + c < length (tableCode p)) × (getD (tableCode p) (length (beforePassives p) + c) off ≡ getD (passivesCode p) c off)
+    some c h e =
+        let k = length (beforePassives p) + c in
+        let b : k < length (code p 0) = omega (arith, passives-in-code) in
+        let z : startOf p 0 + k ≡ k = omega (arith, start-zero) in
+        (rw z at (at-code-within 0 k e b), (rw z at (at-code 0 k e b)) ∙ passives-code c h)
+
+    at-passives : (c : ℕ) → c < length (passivesCode p)
+        → (passivesAt p + c < length (tableCode p)) × (getD (tableCode p) (passivesAt p + c) off ≡ getD (passivesCode p) c off)
+    unfolding passivesAt
+    at-passives c h =
+        split (eqb (events p) 0)
+        (λ e. rw e (none c h (eqb-true (events p) 0 e)))
+        (λ e. rw e (some c h (omega (arith, eqb-false (events p) 0 e))))
 
   module _ (t₀ : List ℕ) (room : 34816 ≤ length t₀) where
     pub length-table : length (tableOf p t₀) ≡ length t₀
@@ -324,6 +442,14 @@ module _ (p : Program) (few : events p ≤ 32) (small : size p ≤ 64) (whole : 
           codes-fit (events p) (omega arith),
         )
 
+    operation-at : (k : ℕ) → k < length (tableCode p) → get (tableOf p t₀) (512 + k * 2) ≡ operation (getD (tableCode p) k off)
+    operation-at k g = get-table (512 + k * 2) (omega (arith, length-tableCode)) ∙ in-codes (k * 2) ∙ getD-operation (tableCode p) k g
+
+    constant-at : (k : ℕ) → k < length (tableCode p) → get (tableOf p t₀) (513 + k * 2) ≡ constant (getD (tableCode p) k off)
+    constant-at k g =
+        let z : 513 + k * 2 ≡ 512 + (k * 2 + 1) = omega arith in
+        rw z (get-table (512 + (k * 2 + 1)) (omega (arith, length-tableCode)) ∙ in-codes (k * 2 + 1) ∙ getD-constant (tableCode p) k g)
+
     pub table-says : Says p (tableOf p t₀)
     table-says = record {
       long = rw length-table room;
@@ -341,16 +467,25 @@ module _ (p : Program) (few : events p ≤ 32) (small : size p ≤ 64) (whole : 
           rw z (get-table (136 + (64 + i)) (omega arith) ∙ in-board (64 + i) (omega arith) ∙ in-viewers i (omega arith));
       senders = λ e h.
           let z : 264 + e ≡ 136 + (128 + e) = omega arith in
-          rw z (get-table (136 + (128 + e)) (omega arith) ∙ in-board (128 + e) (omega arith) ∙ in-senders e);
+          rw z (get-table (136 + (128 + e)) (omega arith) ∙ in-board (128 + e) (omega arith) ∙ in-senders e (omega arith));
       within = code-within;
       operations = λ e c h b.
           let k = startOf p e + c in
-          let g : k < length (allCode p) = at-code-within e c h b in
-          get-table (512 + k * 2) (omega arith) ∙ in-codes (k * 2) ∙ getD-operation (allCode p) k g ∙ ap operation (at-code e c h b);
+          operation-at k (at-code-within e c h b) ∙ ap operation (at-code e c h b);
       constants = λ e c h b.
           let k = startOf p e + c in
-          let g : k < length (allCode p) = at-code-within e c h b in
-          let z : 513 + k * 2 ≡ 512 + (k * 2 + 1) = omega arith in
-          rw z (get-table (512 + (k * 2 + 1)) (omega arith) ∙ in-codes (k * 2 + 1) ∙ getD-constant (allCode p) k g ∙ ap constant (at-code e c h b));
+          constant-at k (at-code-within e c h b) ∙ ap constant (at-code e c h b);
       fits = table-fits;
+      kinds = λ i h.
+          let z : 296 + i ≡ 136 + (160 + i) = omega arith in
+          rw z (get-table (136 + (160 + i)) (omega arith) ∙ in-board (160 + i) (omega arith) ∙ in-kinds i h);
+      passives-start = get-table 360 (omega arith) ∙ in-board 224 (omega arith) ∙ in-stretch 0;
+      passives-length = get-table 361 (omega arith) ∙ in-board 225 (omega arith) ∙ in-stretch 1;
+      passives-within = passives-fit;
+      passives-operations = λ alone c h.
+          let q = at-passives alone c h in
+          operation-at (passivesAt p + c) (q .0) ∙ ap operation (q .1);
+      passives-constants = λ alone c h.
+          let q = at-passives alone c h in
+          constant-at (passivesAt p + c) (q .0) ∙ ap constant (q .1);
     }

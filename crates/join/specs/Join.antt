@@ -6,17 +6,12 @@ use mathlib.Core.List.{List, _++_}
 use lib.ListN.{length, drop}
 use lib.Dec.{ltb, eqb}
 use Rattle.base.specs.Basics.{pick}
+use Rattle.language.specs.Refusals.{unlikeRanks, shortJoin}
 use Rattle.language.specs.Sheet.{Sheet}
 use Rattle.language.specs.Grammar.{encode}
 use Rattle.language.specs.Reading.{Got, bad, got, readSheet}
 use Rattle.pooling.specs.Pooled.{pooled, sameRanks}
 use Rattle.witness.specs.Witness.{numberOn}
-
-abbrev pub unlikeRanks : ℕ  -- "the sheets give one event different ranks"
-unlikeRanks = 26
-
-abbrev pub shortBuffer : ℕ  -- "the buffer is too short"
-shortBuffer = 27
 
 -- an answer, and the buffer's bytes after the call
 abbrev pub Joined : Type 0
@@ -27,7 +22,7 @@ joined r l = (r, l)
 
 -- the bytes v at the start of the buffer: 2^32 and their number, as `formula` answers
 unfoldable pub deliveredIn : List ℕ → List ℕ → Joined
-deliveredIn v buffer = pick (ltb (length buffer) (length v)) (joined shortBuffer buffer) (joined (4294967296 + length v) (v ++ drop (length v) buffer))
+deliveredIn v buffer = pick (ltb (length buffer) (length v)) (joined shortJoin buffer) (joined (4294967296 + length v) (v ++ drop (length v) buffer))
 
 -- where compile takes the joined sheet
 unfoldable pub resultOn : List ℕ → List ℕ → List ℕ → Joined

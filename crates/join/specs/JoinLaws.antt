@@ -10,6 +10,7 @@ use lib.Dec.{ltb, eqb}
 use borrow.Author.Tests.{le-ltb, lt-ltb, eq-eqb, ne-eqb}
 use Rattle.base.specs.Basics.{All}
 use Rattle.word.specs.Word.{get}
+use Rattle.language.specs.Refusals.{unlikeRanks}
 use Rattle.language.specs.Sheet.{Sheet}
 use Rattle.language.specs.Grammar.{encode}
 use Rattle.language.specs.Accepted.{SheetAccepted}
@@ -21,7 +22,7 @@ use Rattle.splice.specs.Splice.{spliced}
 use Rattle.splice.specs.Spliced.{spliced-are, ranks-agree}
 use Rattle.compiler.specs.AcceptedExactly.{accepted-exactly}
 use Rattle.witness.specs.Witness.{numberOn}
-use Rattle.join.specs.Join.{unlikeRanks, shortBuffer, Joined, joined, deliveredIn, resultOn, poolOn, poolRead, joinOn}
+use Rattle.join.specs.Join.{Joined, joined, deliveredIn, resultOn, poolOn, poolRead, joinOn}
 
 -- a sheet that compile takes
 pub record Read (s ps : List ℕ) : Type 0 where

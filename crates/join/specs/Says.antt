@@ -29,7 +29,7 @@ use Rattle.pooling.specs.PooledAccepted.{valid-filling, pooled-valid, pooled-ac
 use Rattle.filling.specs.Fills.{get-small}
 use Rattle.compiler.specs.Verdict.{programOf}
 use Rattle.witness.specs.Witness.{numberOn}
-use Rattle.join.specs.Join.{Joined, joined, unlikeRanks, shortBuffer, deliveredIn, resultOn, poolOn, poolRead, joinOn}
+use Rattle.join.specs.Join.{Joined, joined, deliveredIn, resultOn, poolOn, poolRead, joinOn}
 use Rattle.join.specs.JoinLaws.{Read, taken}
 use Rattle.join.specs.Limits.{limits, pooled-number}
 

@@ -1,4 +1,4 @@
--- The numbers of refusals with 01's words. 01 "Why a call was turned down"; 02, M-103, M-107; M-106: "Number 2 never occurs again."
+-- The numbers of refusals with 01's words. 01 "Why a call was turned down"; 02, M-103, M-105, M-107, M-111, M-112; M-106: "Number 2 never occurs again."
 use Prim.Native.Nat.{ℕ}
 
 abbrev pub shortTable : ℕ  -- short table: compile's table has under 34,816 bytes
@@ -58,8 +58,26 @@ settling = 19
 abbrev pub noParameters : ℕ  -- 02, M-103: the sheet uses a parameter and fewer than 32 bytes are lent
 noParameters = 20
 
+abbrev pub noFormula : ℕ  -- 02, M-105: "the text is outside this grammar or over 1,024 bytes"
+noFormula = 21
+
+abbrev pub largeNumber : ℕ  -- 02, M-105: "a number exceeds 2,147,483,647"
+largeNumber = 22
+
+abbrev pub shortField : ℕ  -- 02, M-105: "the buffer is too short for the field"
+shortField = 23
+
 abbrev pub noPlayer : ℕ  -- 02, M-107: "the player is above 7"
 noPlayer = 24
 
 abbrev pub noRight : ℕ  -- 02, M-107: "the right is missing"
 noRight = 25
+
+abbrev pub unlikeRanks : ℕ  -- 02, M-111: "the sheets give one event different ranks"
+unlikeRanks = 26
+
+abbrev pub shortJoin : ℕ  -- 02, M-111: "the buffer is too short"
+shortJoin = 27
+
+abbrev pub undeclaredInHand : ℕ  -- 02, M-112: "the hand holds an event that the new sheet doesn't declare"
+undeclaredInHand = 28

@@ -17,7 +17,7 @@ use Rattle.layout.specs.Bounds.{TableBounds, RoundBounds, Bounds}
 
 -- ---- the table
 
-code-bound : (a n : ℕ) → codeFits a n ≡ true → a + n ≤ 4096
+pub code-bound : (a n : ℕ) → codeFits a n ≡ true → a + n ≤ 4096
 unfolding codeFits
 code-bound a n e =
     let p = past (ltb 4096 a) (leb n (4096 - a)) e in

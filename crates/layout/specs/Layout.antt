@@ -2,7 +2,7 @@
 --
 -- Table (34,816 bytes): word 0 counts the events, word 1 the behaviours; from word 8 on four words for each of 32 events: priority, start and length of its
 -- code, members of C; from word 136 on each behaviour's value in a fresh round; from word 200 on who may see each behaviour, from word 264 on who may send each event, bit n for player n (02,
--- M-107); from word 512 on two words for each of 4,096 instructions:
+-- M-107); from word 296 on 1 for each passive, words 360 and 361 the start and length of a stretch of instructions that works the passives out (02, M-112); from word 512 on two words for each of 4,096 instructions:
 -- operation * 256 + slot, and a constant.
 -- Round (2,048 bytes): word 0 number taken in, 1 waiting count, 2 whether one runs, 3 its event and player, 4 its number, 5 its count of instructions done, 6 depth of the
 -- evaluation stack, 7 its mark: not 0 where one of its applications ran over (02, M-104); from 8 on the queue, of each of 64 waiting its number, and its event and player; from 136 the store (01: board), 200 scratch, 264 deferred values (01: places),
@@ -33,6 +33,16 @@ viewersAt t i = get t (200 + i)
 
 abbrev pub sendersAt : List ℕ → ℕ → ℕ
 sendersAt t e = get t (264 + e)
+
+-- not 0 where behaviour i is a passive; where the stretch of instructions that works the passives out begins, and its length
+abbrev pub kindAt : List ℕ → ℕ → ℕ
+kindAt t i = get t (296 + i)
+
+abbrev pub passivesStart : List ℕ → ℕ
+passivesStart t = get t 360
+
+abbrev pub passivesLength : List ℕ → ℕ
+passivesLength t = get t 361
 
 -- code from `start` on, of len instructions, lies within 4,096
 unfoldable pub codeFits : ℕ → ℕ → Bool

@@ -39,7 +39,8 @@ pub fn event_at(l: &[u8], k: usize) -> u32
     event_of(word::get_word(l, k))
 }
 
-fn code_fits(start: u32, len: u32) -> bool
+// Whether code from `start` on, of len instructions, lies within 4,096.
+pub fn code_fits(start: u32, len: u32) -> bool
     ensures { λ r. ⌜ r ≡ codeFits start len ⌝ }
 {
     if start > 4096 {

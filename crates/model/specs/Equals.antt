@@ -33,7 +33,7 @@ module _ (p : Program) where
       (h, pairwise-singleton Sooner a, λ y m b n. all-mem (Sooner y) (sooner-prop y) (a ∷ []) (all-mem _ (λ x. sooner-prop x a) l k y m, tt) b n)
 
   -- the running one, of its priority
-  abbrev First : List Arrival → Running → Type 0
+  abbrev pub First : List Arrival → Running → Type 0
   First waiting rest = Unit {0}
   First waiting (busy a c) = All (Sooner a) waiting
 
@@ -45,7 +45,7 @@ module _ (p : Program) where
       All (λ a. a .number < number w) log × Pairwise Sooner log × All (λ a. All (Sooner a) (inQueue w)) log × FirstIn w
 
   -- a leader with a number of its own is strictly sooner
-  strictly : (a : Arrival) (l : List Arrival) → All (Leads p a) l → All (λ x. a .number ≢ x .number) l → All (Sooner a) l
+  pub strictly : (a : Arrival) (l : List Arrival) → All (Leads p a) l → All (λ x. a .number ≢ x .number) l → All (Sooner a) l
   strictly a [] h k = tt
   strictly a (b ∷ l) h k = ((λ e. omega (arith, h .0 .1 (sym e))), strictly a l (h .1) (k .1))
 
@@ -63,7 +63,7 @@ module _ (p : Program) where
   newer e who t waiting r [] s b = tt
   newer e who t waiting r (a ∷ l) s b = (all-perm (Sooner a) (joins (arrival t e who) waiting r) ((λ _. s .0), b .0), newer e who t waiting r l (s .1) (b .1))
 
-  newer-first : (e who t : ℕ) (waiting : List Arrival) (r : Running) → All (Fine p t) (queue waiting r) → First waiting r → First (arrival t e who ∷ waiting) r
+  pub newer-first : (e who t : ℕ) (waiting : List Arrival) (r : Running) → All (Fine p t) (queue waiting r) → First waiting r → First (arrival t e who ∷ waiting) r
   newer-first e who t waiting rest f h = tt
   newer-first e who t waiting (busy a c) f h = ((λ _. f .0 .0), h)
 

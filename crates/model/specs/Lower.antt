@@ -111,11 +111,11 @@ module _ (p : Program) where
 
   module _ (facts : CodeFacts p) where
     -- the last instruction stands in the copy-back
-    last : (e n : ℕ) → e < events p → n < length (code p e) → length (code p e) ≤ n + 1 → copyingBackAfter (take n (code p e)) ≡ true
+    pub last : (e n : ℕ) → e < events p → n < length (code p e) → length (code p e) ≤ n + 1 → copyingBackAfter (take n (code p e)) ≡ true
     last e n h k m = rw (facts .copies-back e n h k) (le-leb (length (code p e) - (members p e + 1)) n (omega arith))
 
     -- the instruction before the copy-back is the second off, and it is not masked
-    at-off : (e n : ℕ) → e < events p → n + 1 < length (code p e) → copyingBackAfter (take n (code p e)) ≡ false
+    pub at-off : (e n : ℕ) → e < events p → n + 1 < length (code p e) → copyingBackAfter (take n (code p e)) ≡ false
         → copyingBackAfter (take (n + 1) (code p e)) ≡ true → maskedAfter (take n (code p e)) ≡ false
     at-off e n h k f t =
         let l : n < length (code p e) = omega arith in

@@ -54,7 +54,7 @@ module _ (p : Program) (facts : CodeFacts p) (s : List ℕ) (sized : length s �
       by-test (λ (o : Outcome). Right (o .answer)) (ltb (c + 1) (length (code p (a .event)))) (λ _. other ran refl)
       (λ e. commit-right a _ f (last-mark a c d f (ltb-false _ _ e) q))
 
-  step-right : (w : Engine) → Reached p w → DoneIn p s w → Right (act p step w .answer)
+  pub step-right : (w : Engine) → Reached p w → DoneIn p s w → Right (act p step w .answer)
   unfolding act
   step-right (engine t [] rest d) r q = other idle refl
   step-right (engine t (b ∷ l) rest d) r q = other (started (choose p b l .next)) refl

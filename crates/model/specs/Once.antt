@@ -22,7 +22,7 @@ use Rattle.model.specs.Moves.{Cases}
 use Rattle.model.specs.Reached.{Fine, back-perm}
 use Rattle.model.specs.History.{Kept, always}
 
-snoc-perm : (l : List Arrival) (a : Arrival) → List·Permᴰ (a ∷ l) (l ++ (a ∷ []))
+pub snoc-perm : (l : List Arrival) (a : Arrival) → List·Permᴰ (a ∷ l) (l ++ (a ∷ []))
 snoc-perm l a = Permᴰ·symm (List·Permᴰ·trans (Permᴰ·middle a l []) (List·Permᴰ·cons refl (Permᴰ·append-nil l)))
 
 -- the newcomer joins the waiting, behind the running one

@@ -1,6 +1,7 @@
 -- A preview is the value on the board whichever way the round is run to idle: calls that take nothing in act as their steps alone, idle stays, and idle comes within
 -- 01's count.
-use Prim.Native.Nat.{ℕ, zero, suc, _+_, _-_, _≤_}
+use Prim.Native.Nat.{ℕ, zero, suc, _+_, _-_, _≤_, _<_}
+use mathlib.Core.Bool.{true}
 use mathlib.Core.Path.{_≡_, refl, sym, ap, _∙_, subst}
 use mathlib.Core.Logic.{by-cases}
 use mathlib.Core.List.{List, [], _∷_, _++_}
@@ -16,8 +17,8 @@ use Rattle.language.specs.Dependence.{size}
 use Rattle.language.specs.Rights.{maySee}
 use Rattle.execution.specs.Execution.{at}
 use Rattle.execution.specs.CodeFacts.{CodeFacts}
-use Rattle.model.specs.Model.{rest, busy, Engine, engine, initial, Call, arrive, step, board, Answer, refused, shows, act, run}
-use Rattle.model.specs.Claims.{number, storeOf, Idle, after, steps, countIn, shownAfter, unlessRefused, PreviewRight}
+use Rattle.model.specs.Model.{rest, busy, Engine, engine, initial, Call, arrive, step, board, Answer, refused, takenIn, shows, act, run}
+use Rattle.model.specs.Claims.{number, storeOf, Idle, after, steps, countIn, shownAfter, unlessRefused, previewed, PreviewRight}
 use Rattle.model.specs.Moves.{Effect, Cases, effect, act-by}
 use Rattle.model.specs.Reached.{Reached, act-keeps, reached}
 use Rattle.model.specs.History.{run-append, counted, act-number, act-grows, run-grows}
@@ -114,17 +115,24 @@ module _ (p : Program) where
     idle-within w r =
         settles-from p facts w r (onlySteps (countIn p w)) (none-taken (countIn p w) w) (omega (arith, count-steps (countIn p w)))
 
-    pub preview-right : (cs : List Call) → PreviewRight p cs
+    pub preview-from : (w : Engine) → Reached p w → (e i who : ℕ) (ds : List Call) → i < size p → maySee p who i ≡ true
+        → act p (arrive e who) w .answer ≡ takenIn
+        → number (run p (arrive e who ∷ ds) w) ≡ number w + 1
+        → Idle p (run p (arrive e who ∷ ds) w)
+        → previewed p w e i who ≡ shows (at (storeOf (run p (arrive e who ∷ ds) w)) i)
     unfolding run
-    preview-right cs e i who ds b sees t h g =
-        let w : Engine = after p cs in
+    preview-from w r e i who ds b sees t h g =
         let v : Engine = act p (arrive e who) w .after in
-        let q : after p (cs ++ (arrive e who ∷ ds)) ≡ run p ds v = run-append p cs (arrive e who ∷ ds) (initial p) in
         let one : number v ≡ number w + 1 =
         act-number p (arrive e who) w ∙ ap (λ (a : Answer). counted (effect (arrive e who) a (number w)) (number w)) t in
-        let k : run p ds v ≡ run p (onlySteps (steps ds)) v = as-steps ds v (sym (ap number q) ∙ h ∙ sym one) in
-        let settled : Idle p (run p (onlySteps (countIn p v)) v) = idle-within v (act-keeps p facts (arrive e who) w (reached p facts cs)) in
-        let same = one-idle (countIn p v) (steps ds) v settled (subst (Idle p) (q ∙ k) g) in
+        let k : run p ds v ≡ run p (onlySteps (steps ds)) v = as-steps ds v (h ∙ sym one) in
+        let settled : Idle p (run p (onlySteps (countIn p v)) v) = idle-within v (act-keeps p facts (arrive e who) w r) in
+        let same = one-idle (countIn p v) (steps ds) v settled (subst (Idle p) k g) in
         ap (λ (a : Answer). unlessRefused a
         (pick (leb (size p) i) (refused refusals.noBehaviour) (pick (maySee p who i) (shownAfter p v i) (refused refusals.noRight)))) t
-        ∙ rw (lt-leb (size p) i b, sees) (ap (λ (u : Engine). shows (at (storeOf u) i)) (same ∙ sym k ∙ sym q))
+        ∙ rw (lt-leb (size p) i b, sees) (ap (λ (u : Engine). shows (at (storeOf u) i)) (same ∙ sym k))
+
+    pub preview-right : (cs : List Call) → PreviewRight p cs
+    preview-right cs e i who ds b sees t h g =
+        let q : after p (cs ++ (arrive e who ∷ ds)) ≡ run p (arrive e who ∷ ds) (after p cs) = run-append p cs (arrive e who ∷ ds) (initial p) in
+        rw q (preview-from (after p cs) (reached p facts cs) e i who ds b sees t (sym (ap number q) ∙ h) (subst (Idle p) q g))

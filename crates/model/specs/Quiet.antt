@@ -1,6 +1,6 @@
 -- From rest, with nothing more taken in, idle comes after exactly the instructions of those in the queue and one start each: what is left falls by one at each step
 -- until it is 0, nothing waiting outranking the running one, and idle is exactly where it is 0.
-use Prim.Native.Nat.{ℕ, _+_, _-_, _≤_}
+use Prim.Native.Nat.{ℕ, _+_, _-_, _≤_, _<_}
 use mathlib.Core.Path.{_≡_, refl, sym, ap, _∙_}
 use mathlib.Core.List.{List, [], _∷_, _++_, sum}
 use mathlib.Core.List.{List·Permᴰ, List·Permᴰ·nil, List·Permᴰ·cons, List·Permᴰ·swap, List·Permᴰ·trans}
@@ -15,7 +15,7 @@ use Rattle.model.specs.Model.{Arrival, rest, busy, Engine, engine, initi
 use Rattle.model.specs.Claims.{number, inQueue, Idle, after, steps, stepsOf, AtRest, QuietExactly}
 use Rattle.model.specs.Choice.{Leads, choose-perm, choose-first}
 use Rattle.model.specs.Moves.{Effect, Cases, act-by}
-use Rattle.model.specs.Reached.{Reached, act-keeps, reached}
+use Rattle.model.specs.Reached.{Reached, act-keeps, run-keeps, reached}
 use Rattle.model.specs.History.{run-append, act-grows, run-grows}
 use Rattle.model.specs.Once.{idle-empty}
 
@@ -103,11 +103,14 @@ module _ (p : Program) where
     from-rest : (w : Engine) → AtRest w → Leading w × (left w ≡ stepsOf p (inQueue w))
     from-rest (engine t waiting rest d) h = (tt, refl)
 
+    pub quiet-from : (w : Engine) → Reached p w → AtRest w → (ds : List Call) → number (run p ds w) ≡ number w
+        → (steps ds < stepsOf p (inQueue w) → Idle p (run p ds w) → ⊥) × (stepsOf p (inQueue w) ≤ steps ds → Idle p (run p ds w))
+    quiet-from w r h ds e =
+        let k = from-rest w h in
+        let m : left (run p ds w) ≡ stepsOf p (inQueue w) - steps ds = falls ds w r (k .0) e ∙ ap (λ (n : ℕ). n - steps ds) (k .1) in
+        (λ b i. omega (arith, idle-left (run p ds w) i), λ b. left-idle (run p ds w) (run-keeps p facts ds w r) (omega arith))
+
     pub quiet-exactly : (cs : List Call) → QuietExactly p cs
     quiet-exactly cs h ds e =
-        let w : Engine = after p cs in
-        let q : after p (cs ++ ds) ≡ run p ds w = run-append p cs ds (initial p) in
-        let k = from-rest w h in
-        let m : left (after p (cs ++ ds)) ≡ stepsOf p (inQueue w) - steps ds =
-        ap left q ∙ falls ds w (reached p facts cs) (k .0) (sym (ap number q) ∙ e) ∙ ap (λ (n : ℕ). n - steps ds) (k .1) in
-        (λ b i. omega (arith, idle-left (after p (cs ++ ds)) i), λ b. left-idle (after p (cs ++ ds)) (reached p facts (cs ++ ds)) (omega arith))
+        let q : after p (cs ++ ds) ≡ run p ds (after p cs) = run-append p cs ds (initial p) in
+        rw q (quiet-from (after p cs) (reached p facts cs) h ds (sym (ap number q) ∙ e))

@@ -25,7 +25,7 @@ use Rattle.model.specs.Unsigned.{unsigned, allUnsigned, numbered, taken-
 use Rattle.model.specs.Confluence.{Commute, Declared, each-perm, confluent}
 
 module _ (p : Program) (facts : CodeFacts p) where
-  at-rest : (w : Engine) → inQueue w ≡ [] → settlingIn p w ≡ false
+  pub at-rest : (w : Engine) → inQueue w ≡ [] → settlingIn p w ≡ false
   at-rest (engine t waiting rest d) h = refl
   at-rest (engine t waiting (busy a c) d) h = cc
 
@@ -40,7 +40,7 @@ module _ (p : Program) (facts : CodeFacts p) where
   plays-unsigned : (l : List Arrival) → storeAfter p (allUnsigned l) ≡ storeAfter p l
   plays-unsigned l = ap (λ (es : List ℕ). play p es (fresh p)) (same-events l)
 
-  apart-unsigned : (l : List Arrival) → All (λ a. All (λ b. rank p a ≢ rank p b → Independent p (a .event) (b .event)) l) l
+  pub apart-unsigned : (l : List Arrival) → All (λ a. All (λ b. rank p a ≢ rank p b → Independent p (a .event) (b .event)) l) l
       → All (λ a. All (λ b. rank p a ≢ rank p b → Independent p (a .event) (b .event)) (allUnsigned l)) (allUnsigned l)
   apart-unsigned l h =
       all-unsigned (λ a. All (λ b. rank p a ≢ rank p b → Independent p (a .event) (b .event)) (allUnsigned l)) l
@@ -54,7 +54,7 @@ module _ (p : Program) (facts : CodeFacts p) where
     one-commutes a [] f g h = tt
     one-commutes a (b ∷ l) f g h = ((λ r s n. commute (a .event) (b .event) f (g .0) (h .0 r) s n), one-commutes a l f (g .1) (h .1))
 
-    each-commutes : (l m : List Arrival) → All (Declared p) l → All (Declared p) m
+    pub each-commutes : (l m : List Arrival) → All (Declared p) l → All (Declared p) m
         → All (λ a. All (λ b. rank p a ≢ rank p b → Independent p (a .event) (b .event)) m) l → All (λ a. All (Commute p a) m) l
     each-commutes [] m f g h = tt
     each-commutes (a ∷ l) m f g h = (one-commutes a m (f .0) g (h .0), each-commutes l m (f .1) g (h .1))

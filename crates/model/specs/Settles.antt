@@ -124,7 +124,7 @@ module _ (p : Program) where
         let same : number v ≡ number w = omega arith in
         settle ds v (act-keeps p facts c w r) (e ∙ sym same) (act-by p Falls falls c w r same (steps ds) (rw (steps-allowed c ds) at h))
 
-    empty : (w : Engine) → length (inQueue w) ≡ 0 → Idle p w
+    pub empty : (w : Engine) → length (inQueue w) ≡ 0 → Idle p w
     unfolding act
     empty (engine t [] rest d) h = refl
     empty (engine t (b ∷ l) rest d) h = absurd (omega arith)

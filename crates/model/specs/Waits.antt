@@ -213,7 +213,10 @@ module _ (p : Program) (a : Arrival) where
         (act-by p Nearer nearer c w r m (both .0) (steps ds) (rw (steps-allowed p c ds) at h)))
 
 module _ (p : Program) (facts : CodeFacts p) where
+  pub waits-from : (w : Engine) → Reached p w → (ds : List Call) (a : Arrival) → List·Memᴰ a (inQueue w)
+      → All (λ b. rank p b ≤ rank p a) (takenFrom ds (answers p ds w) (number w))
+      → (length (inQueue w) + 1) * (longest p + 1) ≤ steps ds → List·Memᴰ a (commits (answers p ds w))
+  waits-from w r ds a m g h = comes p a facts ds w r m g (omega (arith, bound p a w r))
+
   pub nobody-waits : (cs : List Call) → NobodyWaits p cs
-  nobody-waits cs ds a m g h =
-      let r : Reached p (after p cs) = reached p facts cs in
-      comes p a facts ds (after p cs) r m g (omega (arith, bound p a (after p cs) r))
+  nobody-waits cs = waits-from (after p cs) (reached p facts cs)

@@ -99,11 +99,11 @@ pub numbers-room : (d : List ℕ) (from n : ℕ) {t : List ℕ} {k : ℕ} → k 
 numbers-room d from n a b = record { within = omega (arith, length-numbers d from n); long = b }
 
 pub rights-wrote : (d : List ℕ) (ev bs : ℕ) {t t₁ t₂ t₃ t₄ : List ℕ} {a b c r : ℕ} → ev ≤ 32 → bs ≤ 64 → Wrote t 200 (each bs (numberAt d 4256)) t₁ a
-    → Wrote t₁ a (replicate (264 - a) 0) t₂ b → Wrote t₂ 264 (each ev (numberAt d 4320)) t₃ c → Wrote t₃ c (replicate (512 - c) 0) t₄ r
-    → Wrote t 200 (rightWords d ev bs) t₄ r × (r ≡ 512)
+    → Wrote t₁ a (replicate (264 - a) 0) t₂ b → Wrote t₂ 264 (each ev (numberAt d 4320)) t₃ c → Wrote t₃ c (replicate (296 - c) 0) t₄ r
+    → Wrote t 200 (rightWords d ev bs) t₄ r × (r ≡ 296)
 unfolding rightWords
 rights-wrote d ev bs {b = b} {r = r} few small w x y z =
     let seen = wrote-padded 64 w x in
     let p : b ≡ 264 = omega (arith, seen .next, length-padded 64 (each bs (numberAt d 4256)) (omega (arith, length-numbers d 4256 bs))) in
-    let sent = wrote-padded 248 y z in
-    (wrote-then (rw p at seen) sent, omega (arith, sent .next, length-padded 248 (each ev (numberAt d 4320)) (omega (arith, length-numbers d 4320 ev))))
+    let sent = wrote-padded 32 y z in
+    (wrote-then (rw p at seen) sent, omega (arith, sent .next, length-padded 32 (each ev (numberAt d 4320)) (omega (arith, length-numbers d 4320 ev))))

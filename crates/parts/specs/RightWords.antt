@@ -10,4 +10,4 @@ unfoldable pub numberAt : List ℕ → ℕ → ℕ → List ℕ
 numberAt d from j = (getD d (from + j) 0 % 4294967296) ∷ []
 
 unfoldable pub rightWords : List ℕ → ℕ → ℕ → List ℕ
-rightWords d ev bs = padded 64 (each bs (numberAt d 4256)) ++ padded 248 (each ev (numberAt d 4320))
+rightWords d ev bs = padded 64 (each bs (numberAt d 4256)) ++ padded 32 (each ev (numberAt d 4320))

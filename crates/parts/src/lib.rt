@@ -86,14 +86,14 @@ fn write_numbers(d: &[u64], from: usize, count: usize, t: &mut [u8], k: usize) -
     next
 }
 
-// Who may see each behaviour, from word 200 on, and who may send each event, from word 264 on; zeros up to word 512.
+// Who may see each behaviour, from word 200 on, and who may send each event, from word 264 on; zeros up to word 296.
 pub fn write_rights(d: &[u64], ev: usize, bs: usize, t: &mut [u8]) -> usize
     requires { ⌜ (length (now d) ≡ draftLength) × (ev ≤ 32) × (bs ≤ 64) × (34816 ≤ length (now t)) ⌝ }
     ensures { λ r. ⌜ Wrote (now (t .entry)) 200 (rightWords (now (d .entry)) ev bs) (now (t .exit)) r ⌝ }
-    ensures { λ r. ⌜ r ≡ 512 ⌝ }
+    ensures { λ r. ⌜ r ≡ 296 ⌝ }
 {
     let seen = write_numbers(d, 4256, bs, t, 200);
     write_zeros(t, seen, 264);
     let sent = write_numbers(d, 4320, ev, t, 264);
-    write_zeros(t, sent, 512)
+    write_zeros(t, sent, 296)
 }

@@ -120,13 +120,17 @@ module _ (p : Program) (d : List ℕ) (n : ℕ) (dr : Drafted p d n) (fits : Fit
         codeWords-append (inOrder p e (firstCode c) (phaseOne p e)) (byNumber p e (laterCode c)),
       )
 
+  pub again-are : flatMap (kindWords d e 1 2304) (phaseOne p e) ≡ codeWords (inOrder p e (againCode c) (phaseOne p e))
+  again-are =
+      turn-code p e (kindWords d e 1 2304) (againCode c) (phaseOne p e)
+      (all-imp (λ i. (i < size p) × (early (response p e i) ≡ true)) (λ i. kindWords d e 1 2304 i ≡ codeWords (againCode c i (response p e i)))
+      (λ i h. again-is i (h .0) (response p e i) (held i (h .0)) (fit i) (names i)) (phaseOne p e) (phaseOne-early p e known))
+
   pub second-are : secondWords d e (size p) (phaseOne p e) ≡ codeWords (secondPart p e)
   unfolding secondWords secondPart
   second-are =
       rw (
         each-code (size p) (moveWords d e) (λ i. moveCode i (response p e i)) (λ i h. move-is i h (response p e i) (held i h)),
-        turn-code p e (kindWords d e 1 2304) (againCode c) (phaseOne p e)
-            (all-imp (λ i. (i < size p) × (early (response p e i) ≡ true)) (λ i. kindWords d e 1 2304 i ≡ codeWords (againCode c i (response p e i)))
-            (λ i h. again-is i (h .0) (response p e i) (held i (h .0)) (fit i) (names i)) (phaseOne p e) (phaseOne-early p e known)),
+        again-are,
         codeWords-append (byNumber p e moveCode) (inOrder p e (againCode c) (phaseOne p e)),
       )

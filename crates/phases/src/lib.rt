@@ -86,7 +86,7 @@ fn emit_moves(d: &[u64], e: usize, n: usize, t: &mut [u8], k: usize) -> usize
 }
 
 // The passives again, in the same order.
-fn emit_again(
+pub fn emit_again(
     d: &[u64],
     e: usize,
     n: usize,

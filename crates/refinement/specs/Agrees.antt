@@ -396,7 +396,7 @@ module _ (p : Program) (valid : Valid p) (t : List ℕ) (table : Says p t) where
 
   -- ---- board readings
 
-  settling-is : (l : List ℕ) (k : ℕ) (q : List Arrival) (r : Running) (d : Values) → Rel (size p) l k q r d → Reached p (engine k q r d)
+  pub settling-is : (l : List ℕ) (k : ℕ) (q : List Arrival) (r : Running) (d : Values) → Rel (size p) l k q r d → Reached p (engine k q r d)
       → settlingIn t l ≡ model.settling p r
   unfolding settlingIn settling
   settling-is l k q rest d R i = rw (R .runs)

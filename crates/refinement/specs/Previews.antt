@@ -233,7 +233,7 @@ module _ (p : Program) (valid : Valid p) (t : List ℕ) (table : Says p t) where
   after-agrees x (preempted a) y i who h e g = absurd h
   after-agrees x (committed a m) y i who h e g = absurd h
 
-  preview-agrees : (l : List ℕ) (w : Engine) (e i who : ℕ) → Alike (size p) l w → Reached p w → previewOn t l e i who ≡ coded (previewed p w e i who)
+  pub preview-agrees : (l : List ℕ) (w : Engine) (e i who : ℕ) → Alike (size p) l w → Reached p w → previewOn t l e i who ≡ coded (previewed p w e i who)
   unfolding previewOn previewCopy
   preview-agrees l w e i who R r =
       let m : List ℕ = take 2048 l in

@@ -51,7 +51,7 @@ run-is : (l : List ℕ) (r : Running) → RunIs l r → runningIn l ≡ r
 run-is l rest h = rw h
 run-is l (busy a c) h = rw (h .0, h .1, h .2, h .3, h .4)
 
-alike-view : (p : Program) (l : List ℕ) (w : Engine) → Alike (size p) l w → View p l w
+pub alike-view : (p : Program) (l : List ℕ) (w : Engine) → Alike (size p) l w → View p l w
 alike-view p l (engine k q r d) R = record {
   number = R .number;
   queue = R .queue;

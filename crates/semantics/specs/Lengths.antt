@@ -22,7 +22,7 @@ length-again i (defers x) s = refl
 length-again i keeps s = refl
 
 module _ (p : Program) where
-  length-turns : (e : ℕ) (g : ℕ → Response → List ℕ → List ℕ) → ((i : ℕ) (r : Response) (s : List ℕ) → length (g i r s) ≡ length s)
+  pub length-turns : (e : ℕ) (g : ℕ → Response → List ℕ → List ℕ) → ((i : ℕ) (r : Response) (s : List ℕ) → length (g i r s) ≡ length s)
       → (is : List ℕ) (s : List ℕ) → length (inTurn p e g is s) ≡ length s
   unfolding inTurn
   length-turns e g h [] s = refl

@@ -104,7 +104,7 @@ first-does s₀ i (defers x) s h = keep-set s i (at s₀ i) h
 first-does s₀ i keeps s h = keep-set s i (at s₀ i) h
 
 -- the second time over
-abbrev againOf : List ℕ → (ℕ → ℕ) → ℕ → Response → ℕ
+abbrev pub againOf : List ℕ → (ℕ → ℕ) → ℕ → Response → ℕ
 againOf s look i (follows x) = value look x
 againOf s look i (takes x) = at s i
 againOf s look i (defers x) = at s i
@@ -163,6 +163,26 @@ module _ (p : Program) (v : Valid p) (e : ℕ) (step : ℕ → Response → List
       (solve is (set m i true) (set s i (rhs i (at s))) (simp length-set l) (simp length-set z) (o .3) (solved-on m s i l z (o .0) (o .1) (o .2) h)
       (rest-on m s i (rhs i (at s)) (omega arith) k))
 
+-- ---- the second time over, from any store
+
+-- what does not follow an expression starts the second time over as it ends
+again-start : (r : Response) (t : List ℕ) (look : ℕ → ℕ) (i : ℕ) → early r ≡ false → at t i ≡ againOf t look i r
+again-start (follows x) t look i h = absurd (true≢false h)
+again-start (takes x) t look i h = refl
+again-start (defers x) t look i h = refl
+again-start keeps t look i h = refl
+
+module _ (p : Program) (v : Valid p) (e : ℕ) (declared : e ≤ noEvent p) where
+  pub again-solved : (t : List ℕ) → length t ≡ size p
+      → (length (inTurn p e againStep (phaseOne p e) t) ≡ size p)
+      × ((i : ℕ) → i < size p
+      → at (inTurn p e againStep (phaseOne p e) t) i ≡ againOf t (at (inTurn p e againStep (phaseOne p e) t)) i (response p e i))
+  again-solved t whole =
+      let k = solve p v e againStep (λ i look. againOf t look i (response p e i)) t (λ i f g h. again-local t i (response p e i) f g h)
+      (λ i u h. again-does t i (response p e i) u h) (phaseOne p e) (metAtOnce p e) t whole (length-met p e) (phaseOne-ordered p e (v .known))
+      (λ x b m. let n = met-late p e x b m in (again-start (response p e x) t (at t) x n, λ j d. absurd (late-needs x j (response p e x) n d))) (λ x u. refl) in
+      (k .0, λ i b. k .1 i b (phaseOne-marks p v e declared i b) .0)
+
 -- ---- both phases
 
 module _ (p : Program) (v : Valid p) (e : ℕ) (declared : e ≤ noEvent p) (s : List ℕ) (whole : length s ≡ size p) where
@@ -187,13 +207,6 @@ module _ (p : Program) (v : Valid p) (e : ℕ) (declared : e ≤ noEvent p) (s :
   pub first-solves : Solves p e s (at (firstPhase p e s))
   first-solves = first-solved .1
 
-  -- what does not follow an expression starts the second time over as it ends
-  again-start : (r : Response) (t : List ℕ) (look : ℕ → ℕ) (i : ℕ) → early r ≡ false → at t i ≡ againOf t look i r
-  again-start (follows x) t look i h = absurd (true≢false h)
-  again-start (takes x) t look i h = refl
-  again-start (defers x) t look i h = refl
-  again-start keeps t look i h = refl
-
   again-second : (first t : List ℕ) (look : ℕ → ℕ) (i : ℕ) (r : Response) → at t i ≡ laterValue first i r → at first i ≡ firstOf s (at first) i r
       → againOf t look i r ≡ secondOf s (at first) look i r
   again-second first t look i (follows x) h k = refl
@@ -214,13 +227,8 @@ module _ (p : Program) (v : Valid p) (e : ℕ) (declared : e ≤ noEvent p) (s :
   unfolding event
   event-solved =
       let t : List ℕ = settle p e (firstPhase p e s) in
-      let k = solve p v e againStep (λ i look. againOf t look i (response p e i)) t (λ i f g h. again-local t i (response p e i) f g h)
-      (λ i u h. again-does t i (response p e i) u h) (phaseOne p e) (metAtOnce p e) t settle-length (length-met p e) (phaseOne-ordered p e (v .known))
-      (λ x b m. let n = met-late p e x b m in (again-start (response p e x) t (at t) x n, λ j d. absurd (late-needs x j (response p e x) n d))) (λ x u. refl) in (
-        k .0,
-        λ i b. k .1 i b (phaseOne-marks p v e declared i b) .0
-            ∙ again-second (firstPhase p e s) t _ i (response p e i) (settle-at i b) (first-solves i b),
-      )
+      let k = again-solved p v e declared t settle-length in
+      (k .0, λ i b. k .1 i b ∙ again-second (firstPhase p e s) t _ i (response p e i) (settle-at i b) (first-solves i b))
 
   pub event-length : length (event p e s) ≡ size p
   event-length = event-solved .0

@@ -62,7 +62,7 @@ module _ (p : Program) (facts : CodeFacts p) where
   declared cs = always p facts Declared declared-kept tt cs
 
 -- an idle engine copies nothing back
-idle-settled : (p : Program) (w : Engine) → Idle p w → settlingIn p w ≡ false
+pub idle-settled : (p : Program) (w : Engine) → Idle p w → settlingIn p w ≡ false
 idle-settled p (engine t waiting rest d) h = refl
 idle-settled p (engine t waiting (busy a c) d) h = let z : _≡_ {A = ℕ} 1 0 = cc (idle-empty p (engine t waiting (busy a c) d) h) in absurd (omega arith)
 
@@ -87,7 +87,7 @@ module _ (player : ℕ) (p q : Program) (alike : Alike player p q) (sealed : Sea
 
   -- ---- a board reading of the player's
 
-  read-agree : (i : ℕ) (w x : Engine) → control w ≡ control x
+  pub read-agree : (i : ℕ) (w x : Engine) → control w ≡ control x
       → (settlingIn p w ≡ false → i < size p → maySee p player i ≡ true → at (storeOf w) i ≡ at (storeOf x) i)
       → act p (board i player) w .answer ≡ act q (board i player) x .answer
   unfolding act
@@ -186,7 +186,7 @@ behaviour-equal (passive x) (active t hs) h = absurd h
 behaviour-equal (active s hs) (passive y) h = absurd h
 behaviour-equal (active s hs) (active t gs) h = λ z. active (h .0 refl z) (h .1 z)
 
-host-same : (p q : Program) → Alike 0 p q → p ≡ q
+pub host-same : (p q : Program) → Alike 0 p q → p ≡ q
 host-same p q alike =
     let same : p .behaviours ≡ q .behaviours =
     ext-getD (active 0 []) (p .behaviours) (q .behaviours) (alike .sizes) (λ i h. behaviour-equal (behaviourAt p i) (behaviourAt q i) (alike .each i)) in
@@ -198,7 +198,7 @@ host-answers p q alike cs =
 
 -- ---- everybody
 
-valid : (p : Program) → Accepted p → Valid p
+pub valid : (p : Program) → Accepted p → Valid p
 valid p a = record { each = a .fits .each; known = a .known; acyclic = a .acyclic }
 
 pub equal-answers : (player : ℕ) (p q : Program) → Alike player p q → Sealed p player → Accepted p → Accepted q → (cs : List Call) → EqualAnswers player p q cs

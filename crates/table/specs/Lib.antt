@@ -1,3 +1,4 @@
 pub mod TableWords
 pub mod TableLaws
+pub mod PassivesAre
 pub mod TableIs

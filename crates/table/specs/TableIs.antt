@@ -1,13 +1,14 @@
 -- The words that the compiler writes for the draft of a program are the program's image: part by part, each by the theorem of the crate that makes it.
-use Prim.Native.Nat.{ℕ, zero, suc, _+_, _*_, _%_, _≤_, _<_}
+use Prim.Native.Nat.{ℕ, zero, suc, _+_, _%_, _≤_, _<_}
 use mathlib.Core.Bool.{true, false}
 use mathlib.Core.Path.{_≡_, refl, sym, ap, _∙_}
-use mathlib.Core.List.{List, [], _∷_, _++_, flatten, sum}
+use mathlib.Core.List.{List, [], _∷_, _++_, flatten, sum, append-assoc}
 use native.Mathlib.Omega.{arith}
 use lib.ListN.{length, getD, take}
 use lib.Seq.{take-suc, take-all}
+use lib.Dec.{eqb}
 use Rattle.base.specs.Basics.{All}
-use Rattle.base.specs.Tools.{all-at}
+use Rattle.base.specs.Tools.{all-at, by-test, split}
 use Rattle.language.specs.Syntax.{Program}
 use Rattle.language.specs.Dependence.{size, events, NoCycle}
 use Rattle.language.specs.Order.{upTo}
@@ -17,9 +18,9 @@ use Rattle.language.specs.Code.{Instr, code, members, instructions, allInstruct
 use Rattle.language.specs.Laws.{upTo-same}
 use Rattle.execution.specs.Sums.{length-flatten}
 use Rattle.execution.specs.Lengths.{length-counted}
-use Rattle.image.specs.Image.{codeWords, allCode, startOf, eventRecord, padded, boardWords, imageWords}
+use Rattle.image.specs.Image.{codeWords, allCode, startOf, eventRecord, padded, passivesCode, tableCode, boardWords, imageWords}
 use Rattle.image.specs.ImageLaws.{length-codeWords}
-use Rattle.draft.specs.Draft.{Drafted, DraftOf}
+use Rattle.draft.specs.Draft.{passiveNodes, Drafted, DraftOf}
 use Rattle.draft.specs.DraftLaws.{draft-long, draft-events, draft-behaviours}
 use Rattle.analysis.specs.Checks.{namesKnown, cyclicOn}
 use Rattle.analysis.specs.CycleDecides.{known-decides, cyclic-decides}
@@ -34,7 +35,8 @@ use Rattle.phases.specs.PhasesAre.{flatten-snoc}
 use Rattle.handlers.specs.Handlers.{codeOf}
 use Rattle.handlers.specs.HandlersAre.{code-words}
 use Rattle.parts.specs.RightWords.{numberAt, rightWords}
-use Rattle.table.specs.TableWords.{countBefore, recordWords, freshWords, tableWords, Planned}
+use Rattle.table.specs.TableWords.{countBefore, recordWords, freshWords, codesOf, tableWords, Planned}
+use Rattle.table.specs.PassivesAre.{short-passives, settle-are, alone-are}
 
 -- ---- one after the other
 
@@ -77,7 +79,7 @@ module _ (p : Program) (d : List ℕ) (n : ℕ) (dr : Drafted p d n) (fits : Fit
   unfolding allInstructions
   all-is = before-is (events p) (fits .few-events)
 
-  module _ (acyclic : NoCycle p) where
+  module _ (acyclic : NoCycle p) (few : passiveNodes (p .behaviours) ≤ 2048) where
     valid : Valid p
     valid = record { each = fits .each; known = known; acyclic = acyclic }
 
@@ -109,11 +111,21 @@ module _ (p : Program) (d : List ℕ) (n : ℕ) (dr : Drafted p d n) (fits : Fit
     code-is : (e : ℕ) → e < events p → codeOf d (size p) e ≡ codeWords (code p e)
     code-is e h = code-words p d n dr fits known e (omega (arith, fits .few-events)) (acyclic e (omega arith))
 
-    codes-are : each (events p) (codeOf d (size p)) ≡ codeWords (allCode p)
+    events-are : each (events p) (codeOf d (size p)) ≡ codeWords (allCode p)
     unfolding allCode
-    codes-are = each-flatten (events p) (codeOf d (size p)) (λ e. codeWords (code p e)) code-is ∙ sym (code-flatten (events p) (code p))
+    events-are = each-flatten (events p) (codeOf d (size p)) (λ e. codeWords (code p e)) code-is ∙ sym (code-flatten (events p) (code p))
 
-    rights-are : rightWords d (events p) (size p) ≡ padded 64 (p .viewers) ++ padded 248 (p .senders)
+    short : length (passivesCode p) ≤ 4096
+    short = omega (arith, short-passives p d n dr fits known valid few)
+
+    codes-are : codesOf d (events p) (size p) ≡ codeWords (tableCode p)
+    unfolding codesOf tableCode
+    codes-are =
+        split (eqb (events p) 0)
+        (λ e. rw e (alone-are p d n dr fits known valid few ∙ ap codeWords (sym (take-all 4096 (passivesCode p) short))))
+        (λ e. rw e events-are)
+
+    rights-are : rightWords d (events p) (size p) ≡ padded 64 (p .viewers) ++ padded 32 (p .senders)
     unfolding rightWords
     rights-are =
         rw (
@@ -123,14 +135,21 @@ module _ (p : Program) (d : List ℕ) (n : ℕ) (dr : Drafted p d n) (fits : Fit
 
     fresh-are : freshWords d (events p) (size p) ≡ boardWords p
     unfolding freshWords boardWords padded
-    fresh-are = rw (order-is p d n dr fits (events p) (fits .few-events), fresh-padded p d n dr fits valid, rights-are)
+    fresh-are =
+        rw (order-is p d n dr fits (events p) (fits .few-events), fresh-padded p d n dr fits valid, rights-are, settle-are p d n dr fits known valid few)
+        (simp append-assoc)
 
     pub table-is : tableWords d (events p) (size p) ≡ imageWords p
     unfolding tableWords imageWords
     table-is = rw (records-are, fresh-are, codes-are)
 
-    pub length-code : length (each (events p) (codeOf d (size p))) ≡ 2 * allInstructions p
-    length-code = ap length codes-are ∙ length-codeWords (allCode p) ∙ ap (λ (x : ℕ). 2 * x) length-all
+    length-tableCode : allInstructions p ≤ 4096 → length (tableCode p) ≤ 4096
+    unfolding tableCode
+    length-tableCode h =
+        by-test (λ (x : List Instr). length x ≤ 4096) (eqb (events p) 0) (λ _. rw (take-all 4096 (passivesCode p) short) short) (λ _. omega (arith, length-all))
+
+    pub length-code : allInstructions p ≤ 4096 → length (codesOf d (events p) (size p)) ≤ 8192
+    length-code h = omega (arith, ap length codes-are ∙ length-codeWords (tableCode p), length-tableCode h)
 
 -- ---- a draft that passed the checks
 
@@ -140,6 +159,9 @@ module _ {ev bs n : ℕ} {d : List ℕ} (c : DraftOf ev bs n d) where
 
   uncycled : namesKnown d bs n ≡ true → cyclicOn d ev bs ≡ false → NoCycle (c .program)
   uncycled k a = cyclic-decides (c .program) (named k) (c .fits .few-behaviours) .0 (sym (draft-cyclic c) ∙ a)
+
+  few : passiveNodes (c .program .behaviours) ≤ 2048
+  few = omega (arith, c .few-passives, c .drafted .few)
 
   pub count-all-is : namesKnown d bs n ≡ true → countBefore d bs ev ≡ allInstructions (c .program)
   count-all-is k = rw (c .size-is, c .events-are) (all-is (c .program) d n (c .drafted) (c .fits) (named k))
@@ -153,10 +175,9 @@ module _ {ev bs n : ℕ} {d : List ℕ} (c : DraftOf ev bs n d) where
     inside = draft-inside c;
     short = h;
     code-fits =
-        let l : length (each ev (codeOf d bs)) ≡ 2 * allInstructions (c .program) =
-        rw (c .size-is, c .events-are) (length-code (c .program) d n (c .drafted) (c .fits) (named k) (uncycled k a)) in
-        omega (arith, l, count-all-is k);
+        rw (c .size-is, c .events-are)
+        (length-code (c .program) d n (c .drafted) (c .fits) (named k) (uncycled k a) few (omega (arith, count-all-is k)));
   }
 
   pub draft-table : namesKnown d bs n ≡ true → cyclicOn d ev bs ≡ false → tableWords d ev bs ≡ imageWords (c .program)
-  draft-table k a = rw (c .size-is, c .events-are) (table-is (c .program) d n (c .drafted) (c .fits) (named k) (uncycled k a))
+  draft-table k a = rw (c .size-is, c .events-are) (table-is (c .program) d n (c .drafted) (c .fits) (named k) (uncycled k a) few)

@@ -1,32 +1,37 @@
 -- The loops that write the table, and its parts one after the other: what is written so far goes on where it ended. A count is small, so that the sum fits.
 use Prim.Native.Nat.{ℕ, zero, suc, _+_, _*_, _-_, _%_, _≤_, _<_}
 use mathlib.Core.Path.{_≡_, refl}
-use mathlib.Core.Logic.{by-cases}
-use mathlib.Core.List.{List, [], _∷_}
+use mathlib.Core.Logic.{_≢_, by-cases}
+use mathlib.Core.List.{List, [], _∷_, flatMap}
 use native.Mathlib.Decide.{decLt}
 use native.Mathlib.Omega.{arith}
 use native.Mathlib.Numerals.{add-one}
+use borrow.Author.Tests.{ne-eqb}
 use lib.ListN.{length, getD, take, replicate, length-append}
 use Rattle.image.specs.ImageLaws.{length-padded}
 use Rattle.image.specs.Image.{putWords, padded}
 use Rattle.draft.specs.Draft.{entryOf}
 use Rattle.analysis.specs.Checks.{Inside, RowsInside, AllInside}
 use Rattle.evaluate.specs.Evaluate.{freshOn}
-use Rattle.counts.specs.Counts.{total, shareOf, countEvent, countMembers}
+use Rattle.counts.specs.Counts.{Sound, total, shareOf, countEvent, countMembers}
 use Rattle.counts.specs.CountLaws.{share-small, total-le}
 use Rattle.ordering.specs.Ordering.{orderUnder, Holds}
-use Rattle.emit.specs.Words.{each}
+use Rattle.emit.specs.Words.{each, kindWords}
 use Rattle.emit.specs.Writing.{Room, Wrote}
 use Rattle.emit.specs.WritingLaws.{Turn, start, turn-room, turn, end, wrote-then}
 use Rattle.handlers.specs.Handlers.{codeOf}
 use Rattle.parts.specs.RightWords.{rightWords}
 use Rattle.parts.specs.PartLaws.{wrote-padded}
-use Rattle.table.specs.TableWords.{countBefore, recordWords, freshWords, tableWords, Planned}
+use Rattle.passives.specs.PassiveWords.{settleWords}
+use Rattle.table.specs.TableWords.{countBefore, recordWords, freshWords, aloneWords, codesOf, tableWords, Planned}
 
 -- ---- what a draft that is written from has
 
 pub planned-inside : {d : List ℕ} {ev bs : ℕ} → Planned d ev bs → (e i : ℕ) → i < bs → e ≤ ev → Inside d e i
 planned-inside p e i b h = p .inside e h i b
+
+pub planned-sound : {d : List ℕ} {ev bs : ℕ} → Planned d ev bs → Sound d 0 bs
+planned-sound p = record { long = p .long; few = p .few-behaviours; inside = p .inside 0 (omega arith) }
 
 -- ---- counts
 
@@ -108,20 +113,35 @@ length-records d bs (suc n) = rw length-append (omega (arith, length-records d b
 pub records-end : (d : List ℕ) (bs ev : ℕ) {t t′ : List ℕ} {r : ℕ} → Wrote t 8 (each ev (recordWords d bs)) t′ r → ev ≤ 32 → r ≤ 136
 records-end d bs ev w h = omega (arith, w .next, length-records d bs ev)
 
--- ---- the values of a fresh round, and rights
+-- ---- the values of a fresh round, rights, and passives
 
-pub fresh-wrote : (d : List ℕ) (ev bs : ℕ) {o v t t₁ t₂ : List ℕ} {count n r : ℕ} → Holds o count bs (orderUnder d ev bs) → v ≡ freshOn d bs ev (take count o)
-    → length v ≡ 64 → Wrote t 136 v t₁ n → Wrote t₁ 200 (rightWords d ev bs) t₂ r → Wrote t 136 (freshWords d ev bs) t₂ r
+pub fresh-wrote : (d : List ℕ) (ev bs : ℕ) {o v t t₁ t₂ t₃ : List ℕ} {count n r s : ℕ} → Holds o count bs (orderUnder d ev bs) → v ≡ freshOn d bs ev (take count o)
+    → length v ≡ 64 → Wrote t 136 v t₁ n → Wrote t₁ 200 (rightWords d ev bs) t₂ r → r ≡ 296 → Wrote t₂ 296 (settleWords d ev bs) t₃ s
+    → Wrote t 136 (freshWords d ev bs) t₃ s
 unfolding freshWords
-fresh-wrote d ev bs {n = n} {r = r} h q l w z =
+fresh-wrote d ev bs {n = n} {r = r} h q l w z e x =
     let m : n ≡ 200 = omega (arith, w .next) in
-    wrote-then (rw (m, q, h .taken) at w) z
+    wrote-then (rw (m, q, h .taken) at w) (wrote-then (rw e at z) x)
+
+-- ---- the instructions
+
+pub alone-as : (d : List ℕ) (bs : ℕ) {o : List ℕ} {count : ℕ} → Holds o count bs (orderUnder d 0 bs) → flatMap (kindWords d 0 1 2304) (take count o) ≡ aloneWords d bs
+unfolding aloneWords
+alone-as d bs h = rw (h .taken)
+
+pub codes-alone : (d : List ℕ) (ev bs : ℕ) → ev ≡ 0 → codesOf d ev bs ≡ aloneWords d bs
+unfolding codesOf
+codes-alone d ev bs z = rw z
+
+pub codes-events : (d : List ℕ) (ev bs : ℕ) → ev ≢ 0 → codesOf d ev bs ≡ each ev (codeOf d bs)
+unfolding codesOf
+codes-events d ev bs h = rw (ne-eqb ev 0 h)
 
 -- ---- the parts one after the other
 
 pub table-wrote : (d : List ℕ) (ev bs : ℕ) {t t₁ t₂ t₃ t₄ t₅ t₆ : List ℕ} {a b c r f g : ℕ} → ev ≤ 32
     → Wrote t 0 (padded 8 (ev ∷ bs ∷ [])) t₁ a → Wrote t₁ 8 (each ev (recordWords d bs)) t₂ b → Wrote t₂ b (replicate (136 - b) 0) t₃ c
-    → Wrote t₃ 136 (freshWords d ev bs) t₄ r → r ≡ 512 → Wrote t₄ 512 (each ev (codeOf d bs)) t₅ f → Wrote t₅ f (replicate (8704 - f) 0) t₆ g
+    → Wrote t₃ 136 (freshWords d ev bs) t₄ r → r ≡ 512 → Wrote t₄ 512 (codesOf d ev bs) t₅ f → Wrote t₅ f (replicate (8704 - f) 0) t₆ g
     → t₆ ≡ putWords t 0 (tableWords d ev bs)
 unfolding tableWords
 table-wrote d ev bs {a = a} {c = c} h x y z u e v w =

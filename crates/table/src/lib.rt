@@ -8,7 +8,7 @@ ghost use Rattle.emit.specs.Words.{each};
 ghost use Rattle.emit.specs.Writing.{Room, Wrote};
 ghost use Rattle.handlers.specs.Handlers.{codeOf};
 ghost use Rattle.draft.specs.Draft.{draftLength};
-ghost use Rattle.table.specs.TableWords.{countBefore, recordWords, freshWords, tableWords, Planned};
+ghost use Rattle.table.specs.TableWords.{countBefore, recordWords, freshWords, aloneWords, codesOf, tableWords, Planned};
 
 fn write_records(d: &[u64], ev: usize, bs: usize, t: &mut [u8], k: usize) -> usize
     requires { ⌜ Planned (now d) ev bs ⌝ }
@@ -27,7 +27,7 @@ fn write_records(d: &[u64], ev: usize, bs: usize, t: &mut [u8], k: usize) -> usi
     next
 }
 
-// The values of a fresh round, phase one under no event, and who may see and send.
+// The values of a fresh round, phase one under no event; who may see and send; how passives are worked out.
 fn write_fresh(d: &[u64], ev: usize, bs: usize, t: &mut [u8]) -> usize
     requires { ⌜ Planned (now d) ev bs ⌝ }
     requires { ⌜ 34816 ≤ length (now t) ⌝ }
@@ -38,11 +38,12 @@ fn write_fresh(d: &[u64], ev: usize, bs: usize, t: &mut [u8]) -> usize
     let count = ordering::order_under(d, ev, bs, &mut o);
     let v = evaluate::fresh_values(d, bs, ev, &o, count);
     parts::write_values(&v, t, 136);
-    parts::write_rights(d, ev, bs, t)
+    parts::write_rights(d, ev, bs, t);
+    passives::write_passives(d, ev, bs, t)
 }
 
 // The code of each event.
-fn write_codes(d: &[u64], ev: usize, bs: usize, t: &mut [u8], k: usize) -> usize
+fn write_events(d: &[u64], ev: usize, bs: usize, t: &mut [u8], k: usize) -> usize
     requires { ⌜ Planned (now d) ev bs ⌝ }
     requires { ⌜ Room (now t) k (each ev (codeOf (now d) bs)) ⌝ }
     ensures { λ r. ⌜ Wrote (now (t .entry)) k (each ev (codeOf (now (d .entry)) bs)) (now (t .exit)) r ⌝ }
@@ -54,6 +55,29 @@ fn write_codes(d: &[u64], ev: usize, bs: usize, t: &mut [u8], k: usize) -> usize
         e += 1;
     }
     next
+}
+
+// The instructions that work the passives out, alone.
+fn write_alone(d: &[u64], ev: usize, bs: usize, t: &mut [u8], k: usize) -> usize
+    requires { ⌜ Planned (now d) ev bs ⌝ }
+    requires { ⌜ Room (now t) k (aloneWords (now d) bs) ⌝ }
+    ensures { λ r. ⌜ Wrote (now (t .entry)) k (aloneWords (now (d .entry)) bs) (now (t .exit)) r ⌝ }
+{
+    let mut o = [0u8; 64];
+    let count = ordering::order_under(d, 0, bs, &mut o);
+    phases::emit_again(d, 0, bs, &o, count, t, k)
+}
+
+// The instructions: each event's, or where none is declared those for the passives.
+fn write_codes(d: &[u64], ev: usize, bs: usize, t: &mut [u8], k: usize) -> usize
+    requires { ⌜ Planned (now d) ev bs ⌝ }
+    requires { ⌜ Room (now t) k (codesOf (now d) ev bs) ⌝ }
+    ensures { λ r. ⌜ Wrote (now (t .entry)) k (codesOf (now (d .entry)) ev bs) (now (t .exit)) r ⌝ }
+{
+    if ev == 0 {
+        return write_alone(d, ev, bs, t, k);
+    }
+    write_events(d, ev, bs, t, k)
 }
 
 // The table.

@@ -17,7 +17,8 @@ use Rattle.language.specs.Syntax.{Expr, con, name, app1, app2, app3}
 use Rattle.formula.specs.Tokens.{Token, number, behaviour, function, opening, closing, comma}
 use Rattle.formula.specs.Grammar.{Derives, tighter, two-sided, negated, a-number, a-name, bracketed, choice}
 use Rattle.formula.specs.Reader.{Got, bad, got, wholly, readAt, tokensOf, readFormula}
-use Rattle.formula.specs.Answer.{noFormula, large, nesting, fieldOf, answered, written, answerTo, formulaOn}
+use Rattle.language.specs.Refusals.{noFormula}
+use Rattle.formula.specs.Answer.{large, nesting, fieldOf, answered, written, answerTo, formulaOn}
 use Rattle.formula.specs.Deeper.{deeper-none}
 use Rattle.formula.specs.Scans.{Fine, Made, scans-only, tokens-fine}
 use Rattle.formula.specs.Parses.{Sound, reads-only}

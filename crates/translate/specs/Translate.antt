@@ -6,10 +6,10 @@ use mathlib.Core.List.{List, [], _∷_, _++_, map}
 use lib.ListN.{length, drop}
 use lib.Dec.{ltb, eqb}
 use Rattle.base.specs.Basics.{pick, All}
-use Rattle.language.specs.Refusals.{tooDeep}
+use Rattle.language.specs.Refusals.{tooDeep, largeNumber, shortField}
 use Rattle.formula.specs.Tokens.{Token}
 use Rattle.formula.specs.Reader.{wholly, readAt}
-use Rattle.formula.specs.Answer.{largeNumber, shortBuffer, answered, answerTo}
+use Rattle.formula.specs.Answer.{answered, answerTo}
 use Rattle.formula.specs.Scans.{Fine}
 use Rattle.tokens.specs.Codes.{code}
 
@@ -25,7 +25,7 @@ unfoldable pub delivered : Bool → ℕ → List ℕ → List ℕ → ℕ × Lis
 delivered large depth v buffer =
     pick large (answered largeNumber buffer)
     (pick (ltb 16 depth) (answered tooDeep buffer)
-    (pick (ltb (length buffer) (length v)) (answered shortBuffer buffer)
+    (pick (ltb (length buffer) (length v)) (answered shortField buffer)
     (answered (4294967296 + length v) (v ++ drop (length v) buffer))))
 
 -- for whatever tokens the numbers cs stand for: the answer is that to their reading

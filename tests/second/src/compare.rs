@@ -73,9 +73,19 @@ fn image(m: &Model) -> Vec<u32> {
         }
         assert_eq!(code.len(), m.sheet.count(e), "01's count");
     }
+    let passives = m.sheet.passives();
+    w[361] = passives.len() as u32;
+    match m.code.first() {
+        Some(code) => {
+            w[360] = (code.len() - w[11] as usize - 2 - passives.len()) as u32;
+            assert_eq!(code[w[360] as usize..][..passives.len()], passives, "the passives in event 0's code");
+        }
+        None => passives.iter().enumerate().for_each(|(k, i)| (w[512 + 2 * k], w[513 + 2 * k]) = words_of(*i)),
+    }
     for (i, v) in m.board.iter().enumerate() {
         w[136 + i] = *v as u32;
         w[200 + i] = m.sheet.viewers[i].unwrap_or(255) as u32;
+        w[296 + i] = matches!(m.sheet.behaviours[i], engine::Behaviour::Passive(_)) as u32;
     }
     for (e, m) in m.sheet.senders.iter().enumerate() {
         w[264 + e] = m.unwrap_or(255) as u32;
@@ -419,6 +429,90 @@ fn foreign(r: &mut Rng, sheet: &engine::Sheet, table: &Guarded, opening: &[Call]
     l.check();
 }
 
+/// A list of calls from a fresh round with changes to other sheets in it: answers, rounds, boards, and the forecast under the sheet in force.
+fn mends(r: &mut Rng, sheet: &engine::Sheet, table: &Guarded, tally: &mut Tally) {
+    let mut t = Guarded::new(TABLE, 0);
+    t.part_mut().copy_from_slice(&table.part()[..TABLE]);
+    let mut l = Guarded::new(ROUND + 8, 0x3C);
+    assert_eq!(proved::start(t.part(), l.part_mut()), 0);
+    let mut m = Model::new(sheet.clone());
+    let mut by_commits = m.board.clone();
+    for _ in 0..6 {
+        let n = r.below(60);
+        for c in make::calls(r, &m.sheet.clone(), n) {
+            let want = m.call(c);
+            assert_eq!(call(t.part(), l.part_mut(), c), packed(want), "answer to {c:?} between changes");
+            if let Answer::Committed((_, e, _), _) = want {
+                by_commits = m.sheet.event(e, &by_commits).0;
+            }
+        }
+        let other = make::near(r, &m.sheet);
+        let mut u = Guarded::new(TABLE, 0);
+        if proved::compile(&make::encode(&other), &[], u.part_mut()) != 0 {
+            continue;
+        }
+        let (t0, u0, old) = (t.part().to_vec(), u.part().to_vec(), m.sheet.clone());
+        let before = l.part().to_vec();
+        let answer = m.change(&other);
+        assert_eq!(proved::mend(t.part(), u.part(), l.part_mut()), answer, "a change of sheets");
+        assert!(t0 == t.part() && u0 == u.part(), "a change of sheets changed a table");
+        if answer == 0 {
+            by_commits = other.carried(&old, &by_commits);
+            t = u;
+        } else {
+            assert!(before == l.part(), "a refused change changed the round");
+        }
+        same_round(l.part(), &m);
+        assert_eq!(proved::forecast(t.part(), l.part()), (1 << 32) + m.forecast() as u64, "forecast after a change");
+        if !m.settling() {
+            assert_eq!(m.board, by_commits, "the board of the commits and changes");
+        }
+        tally.mends[answer as usize] += 1;
+    }
+    assert!(l.part()[ROUND..].iter().all(|b| *b == 0x3C), "bytes beyond the round changed");
+    l.check();
+}
+
+/// A change of sheets on damaged bytes and short buffers: answer and round as the plain reading of the words says.
+fn damaged_mends(r: &mut Rng, sheet: &engine::Sheet, table: &Guarded, opening: &[Call], tally: &mut Tally) {
+    for _ in 0..8 {
+        let mut t = Guarded::new(TABLE, 0);
+        t.part_mut().copy_from_slice(&table.part()[..TABLE]);
+        let mut l = Guarded::new(ROUND, 0);
+        assert_eq!(proved::start(t.part(), l.part_mut()), 0);
+        for c in opening {
+            call(t.part(), l.part_mut(), *c);
+        }
+        let mut u = Guarded::new(TABLE, 0);
+        if r.one_in(2) || proved::compile(&make::encode(&make::near(r, sheet)), &[], u.part_mut()) != 0 {
+            u.part_mut().copy_from_slice(t.part());
+        }
+        for _ in 0..r.below(3) {
+            let v = if r.one_in(2) { r.next() as u8 } else { r.below(70) as u8 };
+            match r.below(5) {
+                0 => t.part_mut()[r.below(1500)] = v,
+                1 => u.part_mut()[r.below(1500)] = v,
+                2 => words::put(u.part_mut(), 360 + r.below(2), r.below(4200) as u32),
+                3 => u.part_mut()[2048 + r.below(300)] = v,
+                _ => l.part_mut()[r.below(600)] = v,
+            }
+        }
+        let cut = |r: &mut Rng, n: usize| if r.one_in(12) { r.below(n) } else { n };
+        let (a, b, c) = (cut(r, TABLE), cut(r, TABLE), cut(r, ROUND));
+        let (t0, u0, mut want) = (t.part().to_vec(), u.part().to_vec(), l.part()[..c].to_vec());
+        let before = want.clone();
+        let answer = words::mend(&t0[..a], &u0[..b], &mut want);
+        if answer != 0 {
+            want = before;
+        }
+        assert_eq!(proved::mend(&t.part()[..a], &u.part()[..b], &mut l.part_mut()[..c]), answer, "damaged bytes, a change of sheets");
+        assert!(want == l.part()[..c], "damaged bytes, a change of sheets: the round");
+        assert!(t0 == t.part() && u0 == u.part(), "a change of sheets changed a table");
+        l.check();
+        tally.mends[answer as usize] += 1;
+    }
+}
+
 #[derive(Default)]
 pub struct Tally {
     pub accepted: usize,
@@ -428,6 +522,8 @@ pub struct Tally {
     pub foreign: usize,
     /// Refused and made.
     pub starts: [usize; 2],
+    /// Changes of sheets made, at 0, and refused by number.
+    pub mends: [usize; 32],
     /// Written, at 0, and refused by number.
     pub formulas: [usize; 32],
     pub joins: [usize; 32],
@@ -525,4 +621,8 @@ pub fn one(seed: u64, tally: &mut Tally) {
     starts(r, &table, tally);
     tally.part = "replay";
     replays(r, &table, &case.calls);
+    tally.part = "mend";
+    mends(r, &sheet, &table, tally);
+    tally.part = "damaged-mend";
+    damaged_mends(r, &sheet, &table, &case.opening, tally);
 }

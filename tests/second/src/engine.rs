@@ -467,6 +467,18 @@ impl Sheet {
         self.first_phase(None, &start, &Cell::new(false))
     }
 
+    /// Document 02, M-112: the board with which a round of the old sheet goes on under this one.
+    pub fn carried(&self, old: &Sheet, board: &[i32]) -> Vec<i32> {
+        let begun: Vec<i32> = (0..self.behaviours.len())
+            .map(|i| match (&self.behaviours[i], old.behaviours.get(i)) {
+                (Behaviour::Active(..), Some(Behaviour::Active(..))) => board[i],
+                (Behaviour::Active(s, _), _) => *s,
+                _ => 0,
+            })
+            .collect();
+        self.first_phase(None, &begun, &Cell::new(false))
+    }
+
     // ---- the instruction list
 
     fn in_c(&self, event: usize, i: usize) -> bool {
@@ -526,6 +538,18 @@ impl Sheet {
         out.push(Instr::Off);
         out.extend(c.iter().map(|&i| Instr::Restore(i)));
         out.push(Instr::On);
+        out
+    }
+
+    /// The second time over the passives: event 0's, or of no event where none is declared.
+    pub fn passives(&self) -> Vec<Instr> {
+        let mut out = Vec::new();
+        for i in self.order(0) {
+            if let Behaviour::Passive(e) = &self.behaviours[i] {
+                self.postfix(0, e, &mut out);
+                out.push(Instr::Save(i));
+            }
+        }
         out
     }
 
@@ -750,6 +774,23 @@ impl Model {
             }
             refused => refused,
         }
+    }
+
+    /// Document 02, M-112: the round goes on under a new sheet. 0, or 19 during copy-back, then 28.
+    pub fn change(&mut self, sheet: &Sheet) -> u32 {
+        if self.settling() {
+            return 19;
+        }
+        let back = self.running.map(|(a, _)| a);
+        if self.waiting.iter().chain(&back).any(|a| a.1 >= sheet.ranks.len()) {
+            return 28;
+        }
+        let mut new = Model::new(sheet.clone());
+        new.board = sheet.carried(&self.sheet, &self.board);
+        new.taken = self.taken;
+        new.waiting = self.waiting.iter().copied().chain(back).collect();
+        *self = new;
+        0
     }
 
     pub fn call(&mut self, call: Call) -> Answer {

@@ -494,6 +494,45 @@ fn rows() {
     check("8,193 bytes with a row", &join(&[row(2, 0, &[]), of_bytes(8193 - row(2, 0, &[]).len(), &name(0))]), 3);
 }
 
+/// Document 02, M-112: a round goes on under a sheet without events, whose passives follow what was kept; 28 with something in hand, 19 in copy-back before it, 14 for the passives' instructions before both.
+fn changes() {
+    let table_of = |sheet: &[u8]| {
+        let mut t = vec![0u8; TABLE];
+        assert_eq!(proved::compile(sheet, &[], &mut t), 0);
+        t
+    };
+    let old = table_of(&join(&[event(1), active(3, &[handler(0, 0, &app(4, &[name(0), con(1)]))]), passive(&con(8)), active(5, &[])]));
+    // an active kept, an active that was a passive, a passive that was an active, and one past the old sheet's end
+    let new = table_of(&join(&[active(9, &[]), active(7, &[]), passive(&app(6, &[name(0), name(1)])), active(6, &[])]));
+    let mut round = vec![0u8; 2048];
+    let value = |t: &[u8], l: &[u8], i: u32| proved::board(t, l, i, 0) as u32 as i32;
+    proved::start(&old, &mut round);
+    proved::arrive(&old, &mut round, 0, 5);
+    assert_eq!(proved::mend(&old, &new, &mut round), 28, "an event in hand that the new sheet does not declare");
+    while proved::board(&old, &round, 0, 0) != 19 {
+        assert_eq!(proved::mend(&old, &new, &mut round), 28, "an undeclared event that waits or runs");
+        proved::step(&old, &mut round);
+    }
+    assert_eq!(proved::mend(&old, &new, &mut round), 19, "19 before 28");
+    let words: Vec<(usize, u32)> = vec![(0, 33), (1, 65), (360, 4097), (361, 4096), (512, 0), (512, 6 * 256 + 64), (516, 8 * 256 + 14)];
+    for (k, w) in words.iter().copied().chain([(361, 4097)]) {
+        let mut bad = new.clone();
+        crate::words::put(&mut bad, k, w);
+        assert_eq!(proved::mend(&old, &bad, &mut round), 14, "word {k} of the new table as {w}: 14 before 19");
+    }
+    assert_eq!(proved::mend(&old, &new[..TABLE - 1], &mut round), 14, "a short new table");
+    assert_eq!(proved::mend(&old[..TABLE - 1], &new, &mut round), 14, "a short old table");
+    while proved::step(&old, &mut round) != 0 {}
+    assert_eq!(proved::mend(&old, &new, &mut round), 0, "a sheet without events");
+    assert_eq!((0..4).map(|i| value(&new, &round, i)).collect::<Vec<_>>(), [4, 7, 28, 6], "kept, new start, worked out anew, new start");
+    assert_eq!(crate::words::get(&round, 0), 1, "the number taken in");
+    let full = table_of(&of_bytes(8192, &name(0)));
+    assert_eq!(proved::mend(&new, &full, &mut round), 0, "as many passives as a sheet can hold");
+    let mut fresh = vec![0u8; 2048];
+    proved::start(&full, &mut fresh);
+    assert!(fresh[4 * 136..4 * 200] == round[4 * 136..4 * 200], "passives alone are those of a fresh round");
+}
+
 pub fn run() {
     let s = crate::desk::sheet_s();
     let mut short = vec![0u8; TABLE - 1];
@@ -539,10 +578,11 @@ pub fn run() {
     rights();
     players();
     rows();
+    changes();
     preview();
     crate::formula::limits();
     circles();
     crate::pool::limits();
     spent();
-    println!("limits: every refusal of compile, both sides of each limit, forecasts, quotients, marks, a rest day, parameters, rights in sheets, players, rows, previews, formulas, circles, joins, 1,000,000 arrivals");
+    println!("limits: every refusal of compile, both sides of each limit, forecasts, quotients, marks, a rest day, parameters, rights in sheets, rows, players, changes of sheets, previews, formulas, circles, joins, 1,000,000 arrivals");
 }

@@ -1,6 +1,6 @@
 //! Holds the proved engine against a plain one.
 //!
-//! second compare FIRST COUNT   sheets, tables, answers, rounds, damaged bytes, starts, replays, formulas and joins on COUNT seeds from FIRST on
+//! second compare FIRST COUNT   sheets, tables, answers, rounds, damaged bytes, starts, replays, changes of sheets, formulas and joins on COUNT seeds from FIRST on
 //! second limits                every refusal of compile, and both sides of each limit
 //! second bench [FILE.svg]      times against the plain engine, and the paper's experiment
 //! second desk PROGRAM SEEDS    the desk program on the scope's rounds and traps, torn input and scripts made at random
@@ -50,6 +50,10 @@ fn compare(first: u64, count: u64) {
     let [not_started, started] = tally.starts;
     print!("accepted {}, calls {}, pairs of phones {}, foreign {}, starts {started} and {not_started} refused; sheets refused", tally.accepted, tally.calls, tally.pairs, tally.foreign);
     for (n, k) in tally.refused.iter().enumerate().filter(|(_, k)| **k > 0) {
+        print!(" {n}:{k}");
+    }
+    print!("; changes of sheets {}, refused", tally.mends[0]);
+    for (n, k) in tally.mends.iter().enumerate().skip(1).filter(|(_, k)| **k > 0) {
         print!(" {n}:{k}");
     }
     print!("; formulas written {}, refused", tally.formulas[0]);

@@ -163,6 +163,43 @@ fn behaviour(tag: u8, front: &[u8], own: &[u8], r: &mut Rng) -> Vec<u8> {
     field(tag, [front, own, &end].concat())
 }
 
+/// Another sheet for a round of this one: mended in places, or any; its parameters filled in already.
+pub fn near(r: &mut Rng, old: &Sheet) -> Sheet {
+    let other = sheet(r);
+    if r.one_in(4) {
+        return other;
+    }
+    let mut new = old.clone();
+    for i in 0..new.behaviours.len() {
+        if r.one_in(3) {
+            if let Some(b) = other.behaviours.get(i) {
+                new.behaviours[i] = b.clone();
+            }
+        }
+    }
+    match r.below(6) {
+        0 => {
+            new.ranks.pop();
+            new.senders.pop();
+        }
+        1 if new.ranks.len() < 32 => {
+            new.ranks.push(r.below(4) as u8);
+            new.senders.push(None);
+        }
+        2 => {
+            new.behaviours.pop();
+            new.viewers.pop();
+        }
+        3 if new.behaviours.len() < 64 => {
+            new.behaviours.push(Behaviour::Active(constant(r), vec![]));
+            new.viewers.push(None);
+        }
+        4 => new.ranks.iter_mut().for_each(|rank| *rank = r.below(4) as u8),
+        _ => {}
+    }
+    new
+}
+
 fn field(tag: u8, v: Vec<u8>) -> Vec<u8> {
     let mut out = vec![tag, (v.len() / 256) as u8, v.len() as u8];
     out.extend(v);

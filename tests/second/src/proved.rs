@@ -13,6 +13,7 @@ mod c {
         pub fn preview(table: *const u8, table_len: usize, round: *const u8, round_len: usize, event: u32, behaviour: u32, player: u32) -> u64;
         pub fn told(answer: u64) -> u64;
         pub fn join(first: *const u8, first_len: usize, second: *const u8, second_len: usize, params: *const u8, params_len: usize, buffer: *mut u8, buffer_len: usize) -> u64;
+        pub fn mend(old: *const u8, old_len: usize, table: *const u8, table_len: usize, round: *mut u8, round_len: usize) -> u32;
         pub fn formula(text: *const u8, text_len: usize, buffer: *mut u8, buffer_len: usize) -> u64;
     }
 }
@@ -58,6 +59,10 @@ pub fn preview(table: &[u8], round: &[u8], event: u32, behaviour: u32, player: u
 
 pub fn told(answer: u64) -> u64 {
     unsafe { c::told(answer) }
+}
+
+pub fn mend(old: &[u8], table: &[u8], round: &mut [u8]) -> u32 {
+    unsafe { c::mend(old.as_ptr(), old.len(), table.as_ptr(), table.len(), round.as_mut_ptr(), round.len()) }
 }
 
 pub fn formula(text: &[u8], buffer: &mut [u8]) -> u64 {

@@ -232,3 +232,38 @@ pub fn preview(t: &[u8], l: &[u8], e: u32, i: u32, who: u32) -> u64 {
     }
     14
 }
+
+/// Document 02, M-112: the round goes on under table t. 14 for the round with the old table, for t, and for the instructions of its passives, tried in bytes of their own; then 19, then 28.
+pub fn mend(old: &[u8], t: &[u8], l: &mut [u8]) -> u32 {
+    if foreign(old, l) || foreign_table(t) {
+        return 14;
+    }
+    let active = |t: &[u8], i: usize| i < get(t, 1) as usize && get(t, 296 + i) == 0;
+    let mut own = vec![0u8; 2048];
+    for i in 0..64 {
+        let v = get(if active(old, i) && active(t, i) { l } else { t }, 136 + i);
+        put(&mut own, 136 + i, v);
+        put(&mut own, 200 + i, v);
+    }
+    let (from, count) = (get(t, 360) as u64, get(t, 361) as u64);
+    let mut stretch = (from..from + count).map(|k| 512 + 2 * k as usize);
+    if from + count > 4096 || stretch.any(|k| execute(&mut own, get(t, k) / 256, get(t, k) as usize % 256, get(t, k + 1)).is_none()) {
+        return 14;
+    }
+    if copying_back(old, l) {
+        return 19;
+    }
+    let (waiting, runs) = (get(l, 1) as usize, get(l, 2) != 0);
+    if (0..waiting).map(|i| 9 + 2 * i).chain(runs.then_some(3)).any(|k| event(get(l, k)) >= get(t, 0)) {
+        return 28;
+    }
+    if runs {
+        let (n, w) = (get(l, 4), get(l, 3));
+        put(l, 8 + 2 * waiting, n);
+        put(l, 9 + 2 * waiting, w);
+        put(l, 1, waiting as u32 + 1);
+    }
+    [2, 6, 7].iter().for_each(|k| put(l, *k, 0));
+    (0..64).for_each(|i| put(l, 136 + i, get(&own, if get(t, 296 + i) == 0 { 136 + i } else { 200 + i })));
+    0
+}

@@ -1,29 +1,18 @@
--- `table::write_codes` meets its contract. The loop keeps: the code of the events passed is written. Assumes nothing.
-use Prim.Native.Nat.{_-_}
-use native.Mathlib.Omega.{arith}
-use Rattle.emit.specs.WritingLaws.{Turn, start, turn-room, turn, end, turn-long}
-use Rattle.handlers.specs.Handlers.{codeOf}
+-- `table::write_codes` meets its contract: each return is its branch. Assumes nothing.
+use mathlib.Core.Path.{sym}
+use borrow.Author.Needs.{needs}
+use Rattle.emit.specs.WritingLaws.{wrote-as, room-as}
+use Rattle.table.specs.TableLaws.{codes-alone, codes-events}
 use Rattle.table.proofs.write_codes.Statement.{statement}
 use Rattle.table.proofs.write_codes.Tie as tie
-
-abbrev Inv-loop : tie.InvT-loop
-Inv-loop d ev bs t₀ k next₀ e₀ t next e = Turn (codeOf d bs) ev t₀ k e t next
-
-abbrev μ-loop : tie.MeasureT-loop
-μ-loop d ev bs t₀ k next₀ e₀ t next e = ev - e
 
 pub write-codes-spec : {M : Type 1} → statement M
 write-codes-spec =
     tie.close
     (tie.spec
-    Inv-loop
-    μ-loop
-    (λ c. start (c .before .before .pre .1))
-    (λ c κs.
-    let p = c .before .before .before .before .before .pre .0 in
-    ((record { long = p .long; few = p .few-behaviours; inside = p .inside (c .before .before .loop .e) (omega arith) }, omega (arith, p .few-events)), turn-room (c .before .before .loop .inv) (c .before .loop-test .taken)))
-    (λ c. omega arith)
-    (λ c. omega arith)
-    (λ c. turn (c .before .before .before .before .before .loop .inv) (c .before .before .before .before .loop-test .taken) (c .before .before .compile-event .ensures))
-    (λ c. turn-long (c .before .loop .inv))
-    (λ c. end (c .before .loop .inv) (c .loop-test .left)))
+    (λ c κs. let p = c .before .before .before .before .pre in (p .0, room-as (sym (codes-alone _ _ _ (c .before .if1 .taken))) (p .1)))
+    (λ c. search needs)
+    (λ c. wrote-as (sym (codes-alone _ _ _ (c .before .before .before .before .if1 .taken))) (c .before .before .write-alone .ensures))
+    (λ c κs. let p = c .before .before .before .before .pre in (p .0, room-as (sym (codes-events _ _ _ (c .before .if1 .left))) (p .1)))
+    (λ c. search needs)
+    (λ c. wrote-as (sym (codes-events _ _ _ (c .before .before .before .before .if1 .left))) (c .before .before .write-events .ensures)))

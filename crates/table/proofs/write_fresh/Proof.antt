@@ -1,8 +1,8 @@
--- `table::write_fresh` meets its contract: the values, then the rights up to word 512. Assumes nothing.
+-- `table::write_fresh` meets its contract: the values, the rights, and how passives are worked out, up to word 512. Assumes nothing.
 use mathlib.Core.Path.{refl}
 use native.Mathlib.Omega.{arith}
 use borrow.Author.Needs.{needs}
-use Rattle.table.specs.TableLaws.{planned-inside, fresh-wrote}
+use Rattle.table.specs.TableLaws.{planned-inside, planned-sound, fresh-wrote}
 use Rattle.table.proofs.write_fresh.Statement.{statement}
 use Rattle.table.proofs.write_fresh.Tie as tie
 
@@ -17,7 +17,11 @@ write-fresh-spec =
     (λ c. search needs)
     (λ c κs. search needs)
     (λ c κs. search needs)
+    (λ c κs. (planned-sound (c .before .before .before .before .before .before .before .before .before .before .before .before .before .before .before .before .before .pre .0), search needs))
     (λ c. search needs)
     (λ c.
-    let rights = c .before .before .write-rights .ensures in
-    (fresh-wrote _ _ _ (c .before .before .before .before .before .before .before .before .before .before .before .before .order-under .ensures) (c .before .before .before .before .before .before .before .before .before .fresh-values .ensures) (search needs) (c .before .before .before .before .before .before .write-values .ensures) (rights .0), rights .1)))
+    let rights = c .before .before .before .before .before .before .write-rights .ensures in
+    let passives = c .before .before .write-passives .ensures in (
+      fresh-wrote _ _ _ (c .before .before .before .before .before .before .before .before .before .before .before .before .before .before .before .before .order-under .ensures) (c .before .before .before .before .before .before .before .before .before .before .before .before .before .fresh-values .ensures) (search needs) (c .before .before .before .before .before .before .before .before .before .before .write-values .ensures) (rights .0) (rights .1) (passives .0),
+      passives .1,
+    )))

@@ -1,0 +1,14 @@
+pub mod Turns
+pub mod Claims
+pub mod History
+pub mod Boards
+pub mod Once
+pub mod Equals
+pub mod Replaying
+pub mod Lower
+pub mod Counts
+pub mod Courses
+pub mod SameBoard
+pub mod Alone
+pub mod ChangesHold
+pub mod Examples

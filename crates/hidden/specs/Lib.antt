@@ -1,0 +1,5 @@
+pub mod Hidden
+pub mod Twins
+pub mod Mended
+pub mod HiddenHolds
+pub mod Needed

@@ -1,0 +1,3 @@
+pub mod Carried
+pub mod Carries
+pub mod Passives

@@ -1,0 +1,2 @@
+pub mod PassiveWords
+pub mod PassiveLaws
