@@ -41,7 +41,7 @@ use Rattle.refinement.specs.FreshRound.{fresh-kept}
 use Rattle.refinement.specs.Refines.{short-code}
 use Rattle.compiler.specs.Verdict.{Compiled, programOf, compileOn}
 use Rattle.compiler.specs.AcceptedExactly.{accepted-exactly, refused-unchanged}
-use Rattle.engine.specs.Holds.{table-room, program-accepted}
+use Rattle.rounds.specs.Sheets.{table-room, program-accepted}
 
 -- of the bytes l, lent and left as m, those from n on are as they were, and the length
 abbrev pub Untouched : ℕ → List ℕ → List ℕ → Type 0

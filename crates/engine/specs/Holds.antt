@@ -3,8 +3,6 @@
 use Prim.Native.Nat.{ℕ, _+_, _*_, _≤_, _<_}
 use mathlib.Core.Bool.{true}
 use mathlib.Core.Path.{_≡_, sym, ap, _∙_, subst}
-use mathlib.Core.Logic.{by-cases}
-use native.Mathlib.Decide.{decLt}
 use native.Mathlib.Omega.{arith}
 use mathlib.Core.List.{List}
 use lib.ListN.{length}
@@ -14,7 +12,6 @@ use Rattle.base.specs.Basics.{All}
 use Rattle.word.specs.Word.{get}
 use Rattle.language.specs.Syntax.{Program}
 use Rattle.language.specs.Sheet.{Sheet}
-use Rattle.language.specs.SheetLaws.{filling-accepted}
 use Rattle.language.specs.Grammar.{encode}
 use Rattle.language.specs.Accepted.{Accepted, SheetAccepted}
 use Rattle.language.specs.Dependence.{events}
@@ -27,10 +24,9 @@ use Rattle.image.specs.ImageLaws.{Says}
 use Rattle.round.specs.Start.{Result, startOn, freshBytes}
 use Rattle.refinement.specs.Refinement.{roundAfter}
 use Rattle.refinement.specs.Refines.{valid, starts, accepted-says}
-use Rattle.filling.specs.Fills.{get-small}
+use Rattle.rounds.specs.Sheets.{table-room, program-accepted, begun}
 use Rattle.rounds.specs.RoundsHold.{whole-rounds}
 use Rattle.compiler.specs.Verdict.{Compiled, programOf, compileOn}
-use Rattle.compiler.specs.JudgeLaws.{compile-short}
 use Rattle.compiler.specs.AcceptedExactly.{accepted-exactly}
 use Rattle.engine.specs.Demand.{boardOf, IdleNow, OneList, CodeIn, EverySheet, TwoLists, Whole}
 use Rattle.engine.specs.OneHolds.{one-list}
@@ -56,19 +52,6 @@ code-in p t says e h =
       operations = λ c b. rw start (says .operations e c h b);
       constants = λ c b. rw start (says .constants e c h b);
     }
-
--- compile accepts with a whole table only
-pub table-room : (s ps t : List ℕ) → compileOn s ps t .0 ≡ 0 → 34816 ≤ length t
-table-room s ps t h =
-    by-cases (decLt (length t) 34816) (λ a. let z : _≡_ {A = ℕ} 1 0 = sym (ap (λ (o : Compiled). o .0) (compile-short s ps t a)) ∙ h in absurd (omega arith)) (λ a. omega arith)
-
--- the program of an accepted sheet is accepted
-pub program-accepted : (ps : List ℕ) → All (λ b. b < 256) ps → (x : Sheet) → SheetAccepted (get ps) (length ps) x → Accepted (programOf ps x)
-program-accepted ps bytes x ok = filling-accepted (get ps) (λ n _. get-small ps bytes n) (length ps) x ok
-
--- a round that start has made from a program's table
-pub begun : (p : Program) → Accepted p → (t₀ l₀ t : List ℕ) → 34816 ≤ length t₀ → 2048 ≤ length l₀ → t ≡ tableOf p t₀ → startOn t l₀ ≡ (0, freshBytes (tableOf p t₀) l₀)
-begun p ok t₀ l₀ t a b e = ap (λ (x : List ℕ). startOn x l₀) e ∙ starts p ok t₀ l₀ a b
 
 pub one : (p : Program) → Accepted p → (t₀ l₀ t : List ℕ) → 34816 ≤ length t₀ → 2048 ≤ length l₀ → t ≡ tableOf p t₀ → (cs : List Call) → OneList p t l₀ (startOn t l₀ .1) cs
 one p ok t₀ l₀ t a b e cs =

@@ -30,6 +30,7 @@ use Rattle.compiler.specs.Verdict.{Compiled, compiled, programOf, compileOn}
 use Rattle.compiler.specs.AcceptedExactly.{accepted-exactly, never-two}
 use Rattle.engine.specs.Demand.{IdleNow}
 use Rattle.engine.specs.Runs.{next-answer}
+use Rattle.rounds.specs.Sheets.{begun}
 use Rattle.engine.specs.Holds as holds
 
 -- "a sheet with no events and no behaviours"
@@ -157,7 +158,7 @@ module _ (ps t₀ l₀ : List ℕ) (room : 34816 ≤ length t₀) (round-room : 
   }
 
   starts : startOn table l₀ .0 ≡ 0
-  starts = ap (λ (r : Result). r .0) (holds.begun nothing nothing-accepted t₀ l₀ table room round-room (table-is ps t₀ room))
+  starts = ap (λ (r : Result). r .0) (begun nothing nothing-accepted t₀ l₀ table room round-room (table-is ps t₀ room))
 
 -- M-106
 pub rest-day : RestDay

@@ -18,7 +18,8 @@ use Rattle.refinement.specs.Refinement.{coded, answersOn}
 use Rattle.compiler.specs.Verdict.{Compiled, programOf, compileOn}
 use Rattle.compiler.specs.AcceptedExactly.{accepted-exactly}
 use Rattle.engine.specs.Demand.{OneList}
-use Rattle.engine.specs.Holds.{table-room, program-accepted, one}
+use Rattle.rounds.specs.Sheets.{table-room, program-accepted}
+use Rattle.engine.specs.Holds.{one}
 use Rattle.seen.specs.Seen.{hearsOn, PlayersRuleOn}
 use Rattle.seen.specs.Told.{recoded, all-recoded}
 

@@ -37,7 +37,7 @@ recoded player (arrive e who) (some a) = some (coded a)
 recoded player step (some a) = some (tells player (coded a))
 recoded player (board i who) (some a) = some (coded a)
 
-one-recoded : (player : ℕ) (c : Call) (a : Answer) → hearsOn player c (coded a) ≡ recoded player c (hears player c a)
+pub one-recoded : (player : ℕ) (c : Call) (a : Answer) → hearsOn player c (coded a) ≡ recoded player c (hears player c a)
 one-recoded player (arrive e who) a = by-two (λ x y. x ≡ recoded player (arrive e who) y) (eqb who player) (λ z. refl) (λ z. refl)
 one-recoded player step a = ap (λ (n : ℕ). some n) (tells-coded player a)
 one-recoded player (board i who) a = by-two (λ x y. x ≡ recoded player (board i who) y) (eqb who player) (λ z. refl) (λ z. refl)
