@@ -12,9 +12,9 @@ use Rattle.language.specs.Code.{postfix, inOrder, copyPart, firstPart, secondPa
 use Rattle.semantics.specs.Meaning.{value, inTurn, firstPhase, settle, event, starts, fresh}
 use Rattle.execution.specs.Execution.{execute, executeAll, emptied, offs, ons}
 use Rattle.mended.specs.Carried.{carriedActives, carried}
-use Rattle.model.specs.Model.{arrival, Call, arrive, step, refused, act}
-use Rattle.changes.specs.Turns.{Turn, call, change, Reply, says, carriedOver, turn, runTurns, replies, begun}
-use Rattle.changes.specs.Claims.{Moment, commits, changes, moments, storeIn, after, historyOf}
+use Rattle.model.specs.Model.{arrival, arrive, step, refused, act}
+use Rattle.changes.specs.Turns.{Turn, call, change, says, carriedOver, turn, runTurns, replies}
+use Rattle.changes.specs.Claims.{commits, changes, moments, storeIn, after, historyOf}
 
 -- a bonus of 5, and b1 twice the score
 abbrev pub wrong : Program

@@ -1,6 +1,5 @@
 -- The model engine with changes of sheets. 02, M-112: "A round is carried to a newly compiled table. .. Demand 3's lists may hold such changes, the model engine making them too".
 -- It is fed the programs and each call's kind and arguments, never an answer.
-use Prim.Native.Nat.{ℕ}
 use mathlib.Core.Bool.{Bool, true, false}
 use mathlib.Core.List.{List, [], _∷_}
 use lib.Dec.{ltb}

@@ -5,10 +5,9 @@ use mathlib.Core.Option.{Option}
 use mathlib.Core.List.{List, [], _∷_, _++_, map, map-append, flatMap}
 use native.Mathlib.Omega.{arith}
 use lib.ListN.{length, length-append}
-use Rattle.language.specs.Syntax.{Expr, con, name, app1, app2, app3, Behaviour, passive, active}
-use Rattle.language.specs.Sheet.{Clause, Item, formula, state, row, Entry, Sheet, meant, renameClauses, cellsOut, entryOut, entriesOut, fillTerm, fillClauses, fillItem, fillEntries}
+use Rattle.language.specs.Syntax.{Behaviour}
+use Rattle.language.specs.Sheet.{Clause, Item, formula, state, row, Entry, meant, renameClauses, cellsOut, entryOut, entriesOut, fillTerm, fillItem, fillEntries}
 use Rattle.language.specs.Order.{upTo}
-use Rattle.language.specs.Code.{sizeOf}
 use Rattle.draft.specs.Draft.{behaviourNodes, programNodes, passiveNodes}
 use Rattle.draft.specs.DraftLaws.{length-nodes}
 

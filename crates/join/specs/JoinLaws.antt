@@ -6,15 +6,14 @@ use mathlib.Core.List.{List, [], _++_}
 use native.Mathlib.Omega.{arith}
 use lib.ListN.{length, take, drop, replicate, length-replicate}
 use lib.Seq.{take-length}
-use lib.Dec.{ltb, eqb}
-use borrow.Author.Tests.{le-ltb, lt-ltb, eq-eqb, ne-eqb}
+use borrow.Author.Tests.{le-ltb, eq-eqb, ne-eqb}
 use Rattle.base.specs.Basics.{All}
 use Rattle.word.specs.Word.{get}
 use Rattle.language.specs.Refusals.{unlikeRanks}
 use Rattle.language.specs.Sheet.{Sheet}
 use Rattle.language.specs.Grammar.{encode}
 use Rattle.language.specs.Accepted.{SheetAccepted}
-use Rattle.language.specs.Reading.{Got, got, readSheet}
+use Rattle.language.specs.Reading.{got, readSheet}
 use Rattle.pooling.specs.Pooled.{pooled, sameRanks}
 use Rattle.merging.specs.Merging.{agreeFrom}
 use Rattle.merging.specs.Written.{Written}

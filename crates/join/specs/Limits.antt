@@ -6,13 +6,12 @@ use mathlib.Core.Path.{_≡_, refl, sym, ap, _∙_}
 use mathlib.Core.List.{List, [], _∷_}
 use native.Mathlib.Omega.{arith}
 use lib.ListN.{length, replicate, length-replicate}
-use lib.Dec.{ltb, leb, eqb}
-use borrow.Author.Tests.{le-ltb, lt-ltb, ltb-true, ltb-false, leb-true, leb-false, lt-leb, le-leb}
+use lib.Dec.{ltb, leb}
+use borrow.Author.Tests.{le-ltb, lt-ltb, ltb-true, ltb-false, leb-false, lt-leb}
 use Rattle.base.specs.Basics.{pick, All}
-use Rattle.base.specs.Tools.{split, by-test}
+use Rattle.base.specs.Tools.{split}
 use Rattle.word.specs.Word.{get}
-use Rattle.language.specs.Syntax.{Program}
-use Rattle.language.specs.Sheet.{Item, formula, state, row, Signal, Entry, Sheet, cells, cellCount, fill, uses}
+use Rattle.language.specs.Sheet.{Item, formula, state, row, Signal, Entry, Sheet, cells, cellCount, uses}
 use Rattle.language.specs.Grammar.{encode, ItemFits, SignalFits, EntryFits, SheetFits}
 use Rattle.language.specs.Accepted.{SheetAccepted}
 use Rattle.language.specs.Reading.{Got, bad, got, readSheet}

@@ -1,15 +1,15 @@
 -- What a join's answer says, case by case, and what the joined sheet is: accepted, its board the two boards in a row, its events sent by whom both sheets let. From the definitions' branches, the limits that
 -- a pooled sheet can pass (Limits.antt) and what is known of two programs side by side (crate pooling).
 use Prim.Native.Nat.{ℕ, _+_, _≤_, _<_, _^_}
-use mathlib.Core.Bool.{true, false, _&&_}
-use mathlib.Core.Path.{_≡_, refl, sym, ap, _∙_, subst}
+use mathlib.Core.Bool.{true, false}
+use mathlib.Core.Path.{_≡_, _∙_, subst}
 use mathlib.Core.Logic.{_≢_}
-use mathlib.Core.List.{List, [], _∷_, _++_}
+use mathlib.Core.List.{List, [], _++_}
 use native.Mathlib.Omega.{arith}
 use lib.ListN.{length, drop}
 use lib.Dec.{ltb, eqb}
-use borrow.Author.Tests.{eqb-true, eqb-false, eq-eqb, ltb-true, ltb-false, le-ltb, lt-ltb}
-use Rattle.base.specs.Basics.{pick, All}
+use borrow.Author.Tests.{eqb-true, eqb-false, ltb-true, ltb-false}
+use Rattle.base.specs.Basics.{All}
 use Rattle.base.specs.Tools.{by-test, split}
 use Rattle.word.specs.Word.{get}
 use Rattle.language.specs.Syntax.{Program}
@@ -17,7 +17,6 @@ use Rattle.language.specs.Sheet.{Sheet}
 use Rattle.language.specs.Grammar.{encode}
 use Rattle.language.specs.Dependence.{events}
 use Rattle.language.specs.Accepted.{SheetAccepted, Valid}
-use Rattle.language.specs.Reading.{readSheet}
 use Rattle.language.specs.Code.{allInstructions}
 use Rattle.semantics.specs.Meaning.{fresh, play}
 use Rattle.semantics.specs.Plays.{Plays}
@@ -29,7 +28,7 @@ use Rattle.pooling.specs.PooledAccepted.{valid-filling, pooled-valid, pooled-ac
 use Rattle.filling.specs.Fills.{get-small}
 use Rattle.compiler.specs.Verdict.{programOf}
 use Rattle.witness.specs.Witness.{numberOn}
-use Rattle.join.specs.Join.{Joined, joined, deliveredIn, resultOn, poolOn, poolRead, joinOn}
+use Rattle.join.specs.Join.{Joined, joined, deliveredIn, resultOn, poolOn, joinOn}
 use Rattle.join.specs.JoinLaws.{Read, taken}
 use Rattle.join.specs.Limits.{limits, pooled-number}
 

@@ -6,7 +6,7 @@ use mathlib.Core.Option.{Option, none, some}
 use mathlib.Core.List.{List, [], _∷_, _++_, map}
 use lib.ListN.{length}
 use lib.Bits.{bitAnd}
-use Rattle.language.specs.Syntax.{Expr, Handler, Behaviour, Program}
+use Rattle.language.specs.Syntax.{Behaviour}
 use Rattle.language.specs.Sheet.{Term, literal, variable, param, apply1, apply2, apply3, Clause, clause, Item, formula, state, row, Signal, Entry, Sheet, allowed, prioritiesOf, sendersOf, viewersOf}
 use Rattle.language.specs.Sheet.{renameTerm, renameClauses, rowsOut, fillTerm, fillClauses, fillItem, fillEntries, fillCells, fill}
 use Rattle.language.specs.Sheet.{usesTerm, usesClauses, usesItem, usesEntries, uses}
@@ -15,7 +15,7 @@ use Rattle.language.specs.Grammar.{SheetFits}
 use Rattle.language.specs.Accepted.{Known}
 use Rattle.language.specs.RowLaws.{length-out}
 use Rattle.language.specs.SheetLaws.{length-fill}
-use Rattle.pooling.specs.Pooled.{shared, bothSend, poolSignal, poolSignals, moveTerm, moveClauses, moveItem, moveEntry, moveEntries, count, pooled}
+use Rattle.pooling.specs.Pooled.{shared, bothSend, poolSignals, moveTerm, moveClauses, moveItem, moveEntries, count, pooled}
 use Rattle.pooling.specs.Together.{moveExpr, moveHandlers, moveBehaviour, together}
 use Rattle.pooling.specs.Rows.{fill-append, rows-pooled}
 

@@ -1,20 +1,20 @@
 -- "After the same commits, each half of the joined board equals that sheet's own board, events that it doesn't declare being passed over." The values of a part satisfy its own equations, and these have
 -- one solution (crate semantics): first-phase values and passives by induction over needs.
 use Prim.Native.Nat.{ℕ, _+_, _-_, _≤_, _<_}
-use mathlib.Core.Bool.{true, false, false≢true}
+use mathlib.Core.Bool.{true, false≢true}
 use mathlib.Core.Path.{_≡_, refl, sym, ap, _∙_}
 use mathlib.Core.Logic.{by-cases}
 use mathlib.Core.List.{List, [], _∷_, _++_}
 use native.Mathlib.Decide.{decLt}
 use native.Mathlib.Omega.{arith}
 use lib.Dec.{ltb}
-use lib.ListN.{length, getD, length-append, List·getD-append}
+use lib.ListN.{length, length-append, List·getD-append}
 use lib.Seq.{ext-getD, getD-append-add}
-use borrow.Author.Tests.{lt-ltb, le-ltb, ltb-true, ltb-false}
+use borrow.Author.Tests.{ltb-true, ltb-false}
 use Rattle.base.specs.Basics.{All}
 use Rattle.base.specs.Tools.{split, by-elim, all-at}
-use Rattle.language.specs.Syntax.{Expr, Handler, Behaviour, passive, active, Program}
-use Rattle.language.specs.Dependence.{Response, follows, takes, defers, keeps, handled, respond, size, events, noEvent, behaviourAt, response, mentions, needs, isActive}
+use Rattle.language.specs.Syntax.{Expr, Behaviour, passive, active, Program}
+use Rattle.language.specs.Dependence.{Response, follows, takes, defers, keeps, respond, size, events, noEvent, behaviourAt, response, needs, isActive}
 use Rattle.language.specs.Grammar.{BehaviourFits}
 use Rattle.language.specs.Accepted.{Valid}
 use Rattle.language.specs.Laws.{getD-upTo, named-in, ResponseNamesIn, response-names}

@@ -1,22 +1,20 @@
 -- A program that is part of another, its names moved up: what each of its behaviours does on an event, needs and gives is the same, moved. By induction on expressions and handlers.
-use Prim.Native.Nat.{ℕ, zero, suc, _+_, _-_, _≤_, _<_}
-use mathlib.Core.Bool.{Bool, true, false, not, _||_, _&&_, false≢true, true≢false, and-eq-true-iff}
+use Prim.Native.Nat.{ℕ, _+_, _-_, _≤_, _<_}
+use mathlib.Core.Bool.{true, not, _||_, false≢true, and-eq-true-iff}
 use mathlib.Core.Path.{_≡_, refl, sym, ap, _∙_}
-use mathlib.Core.Logic.{_⊎_, inl, inr, ⊎-elim}
+use mathlib.Core.Logic.{_⊎_, ⊎-elim}
 use mathlib.Core.List.{List, [], _∷_, map}
 use native.Mathlib.Omega.{arith}
 use lib.Dec.{eqb}
-use lib.ListN.{length, getD, length-append, length-map, List·getD-append, List·getD-map}
+use lib.ListN.{getD, length-append, length-map, List·getD-append, List·getD-map}
 use lib.Seq.{getD-append-add}
 use borrow.Author.Tests.{eqb-true, eqb-false, eq-eqb, ne-eqb}
-use Rattle.base.specs.Basics.{pick}
-use Rattle.base.specs.Tools.{split, by-elim, or-either}
+use Rattle.base.specs.Tools.{split, or-either}
 use Rattle.language.specs.Syntax.{Expr, con, name, app1, app2, app3, Phase, immediate, later, Handler, handler, Behaviour, passive, active, Program}
-use Rattle.language.specs.Dependence.{Response, follows, takes, defers, keeps, inPhase, handled, respond, size, events, behaviourAt, response, mentions, needs, dependsOn, Reach, one, more}
-use Rattle.language.specs.Laws.{handled-here, handled-there}
+use Rattle.language.specs.Dependence.{Response, follows, takes, defers, keeps, inPhase, handled, respond, size, behaviourAt, response, mentions, needs, dependsOn}
 use Rattle.semantics.specs.Meaning.{value, at}
 use Rattle.semantics.specs.Solution.{own, firstOf, secondOf, value-same, or-first, or-second}
-use Rattle.pooling.specs.Together.{moveExpr, moveHandler, moveHandlers, moveBehaviour, together}
+use Rattle.pooling.specs.Together.{moveExpr, moveHandlers, moveBehaviour, together}
 
 -- behaviour i of p is behaviour n + i of r, its names moved up by n
 pub record Part (p r : Program) (n : ℕ) : Type 0 where

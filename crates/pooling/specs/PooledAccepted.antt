@@ -1,24 +1,23 @@
 -- The sheet pooled from two accepted ones is accepted, but for 3, 7 and 13: names are known, parameters are lent, there is no circle, each field is within its limits. From the two programs side by side.
 use Prim.Native.Nat.{ℕ, _+_, _≤_, _<_, _^_}
 use mathlib.Core.Bool.{true}
-use mathlib.Core.Path.{_≡_, refl, sym, ap, _∙_, subst}
+use mathlib.Core.Path.{_≡_, sym, ap, _∙_}
 use mathlib.Core.Logic.{⊎-elim}
 use mathlib.Core.Option.{Option, none, some}
-use mathlib.Core.List.{List, [], _∷_, _++_, map}
+use mathlib.Core.List.{List, [], _∷_}
 use native.Mathlib.Omega.{arith}
 use lib.ListN.{length}
 use lib.Bits.{and-le-l, and-le-r}
 use Rattle.base.specs.Basics.{All}
 use Rattle.base.specs.Tools.{or-either, all-imp, all-join}
-use Rattle.language.specs.Syntax.{Program}
 use Rattle.language.specs.Sheet.{Term, Clause, clause, Item, formula, state, row, Signal, Entry, Sheet, renameTerm, renameClauses, fillTerm, fillClauses, fillItem, fillEntries, fill, uses}
-use Rattle.language.specs.Dependence.{size, events, NoCycle}
-use Rattle.language.specs.Grammar.{TermFits, t-literal, t-variable, t-param, t-apply1, t-apply2, t-apply3, NoClauseFor, ClausesFit, ItemFits, ByteFits, SignalFits, EntryFits, SheetFits, encode}
+use Rattle.language.specs.Dependence.{size, NoCycle}
+use Rattle.language.specs.Grammar.{TermFits, t-literal, t-variable, t-param, t-apply1, t-apply2, t-apply3, NoClauseFor, ClausesFit, ItemFits, ByteFits, SignalFits, EntryFits, encode}
 use Rattle.language.specs.Code.{allInstructions}
-use Rattle.language.specs.Accepted.{NamesIn, HandlerNamesIn, BehaviourNamesIn, Known, Accepted, SheetAccepted, Valid}
+use Rattle.language.specs.Accepted.{NamesIn, HandlerNamesIn, BehaviourNamesIn, Known, SheetAccepted, Valid}
 use Rattle.language.specs.RowLaws.{count-append}
 use Rattle.language.specs.SheetLaws.{filling-accepted}
-use Rattle.pooling.specs.Pooled.{shared, bothSend, poolSignal, poolSignals, moveTerm, moveClauses, moveItem, moveEntry, moveEntries, count, pooled}
+use Rattle.pooling.specs.Pooled.{shared, bothSend, poolSignal, poolSignals, moveTerm, moveClauses, moveItem, moveEntries, count, pooled}
 use Rattle.pooling.specs.Together.{together}
 use Rattle.pooling.specs.TogetherValid.{shared-first, shared-second, shared-most, together-valid}
 use Rattle.pooling.specs.Filled.{size-fill, fill-pooled, uses-pooled}

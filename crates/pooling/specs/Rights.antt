@@ -1,20 +1,19 @@
 -- "A player may send a shared event only where both sheets allow it", an event of one sheet alone where that allows it; who may see a behaviour stays. An event's rank is the one that both give. By the
 -- places of the lists.
 use Prim.Native.Nat.{ℕ, zero, suc, _+_, _≤_, _<_}
-use mathlib.Core.Bool.{Bool, true, false, _&&_, false≢true}
-use mathlib.Core.Path.{_≡_, refl, sym, ap, _∙_}
-use mathlib.Core.List.{List, [], _∷_, _++_}
+use mathlib.Core.Bool.{true, _&&_}
+use mathlib.Core.Path.{_≡_, refl, ap, _∙_}
+use mathlib.Core.List.{List, [], _∷_}
 use native.Mathlib.Omega.{arith}
 use lib.Dec.{eqb}
 use lib.Bits.{bitAnd}
 use lib.ListN.{length, getD, List·getD-append}
 use lib.Seq.{getD-append-add}
 use borrow.Author.Tests.{eqb-true}
-use Rattle.base.specs.Basics.{pick}
 use Rattle.base.specs.Tools.{through}
 use Rattle.language.specs.Syntax.{Program}
 use Rattle.language.specs.Sheet.{Signal, Sheet, prioritiesOf, fill}
-use Rattle.language.specs.Dependence.{size, events}
+use Rattle.language.specs.Dependence.{events}
 use Rattle.language.specs.Rights.{may, maySend, maySee}
 use Rattle.pooling.specs.Pooled.{shared, sameRanks}
 use Rattle.pooling.specs.Together.{together}

@@ -1,15 +1,13 @@
 -- The rows of the pooled sheet, written out, are those of the first and then those of the second, moved: a name of the first means what it meant there, since the first's numbers are
 -- unchanged, and a name of the second, moved up, means what it meant, moved up. By induction on entries and expressions.
 use Prim.Native.Nat.{ℕ, zero, suc, _+_, _-_, _≤_, _<_}
-use mathlib.Core.Bool.{true, false}
 use mathlib.Core.Path.{_≡_, refl, sym, ap, _∙_}
 use mathlib.Core.Option.{Option}
 use mathlib.Core.List.{List, [], _∷_, _++_, map, flatMap, map-append, append-assoc}
 use native.Mathlib.Omega.{arith}
 use lib.Dec.{eqb, ltb}
-use lib.ListN.{length}
-use borrow.Author.Tests.{eq-eqb, ne-eqb, lt-ltb, le-ltb, ltb-true, ltb-false, eqb-true, eqb-false}
-use Rattle.base.specs.Basics.{pick, All}
+use borrow.Author.Tests.{ne-eqb, le-ltb, ltb-false}
+use Rattle.base.specs.Basics.{All}
 use Rattle.base.specs.Tools.{by-test, split, all-split}
 use Rattle.language.specs.Order.{upTo}
 use Rattle.language.specs.Laws.{upTo-same}
@@ -17,7 +15,7 @@ use Rattle.language.specs.Sheet.{Term, literal, variable, param, apply1, apply2
 use Rattle.language.specs.Sheet.{fillTerm, fillClauses, fillItem, fillEntries}
 use Rattle.language.specs.Grammar.{ItemFits, EntryFits}
 use Rattle.language.specs.Accepted.{NamesIn, HandlerNamesIn, BehaviourNamesIn}
-use Rattle.pooling.specs.Pooled.{moveTerm, moveClauses, moveItem, moveEntry, moveEntries}
+use Rattle.pooling.specs.Pooled.{moveClauses, moveItem, moveEntry, moveEntries}
 
 -- ---- the first cells of rows
 

@@ -3,20 +3,20 @@ use Prim.Native.Nat.{ℕ, zero, suc, _+_, _-_, _≤_, _<_}
 use mathlib.Core.Bool.{true}
 use mathlib.Core.Path.{_≡_, refl, sym, ap, _∙_, subst}
 use mathlib.Core.Logic.{by-cases}
-use mathlib.Core.List.{List, [], _∷_, _++_, map}
+use mathlib.Core.List.{List, [], _∷_, map}
 use native.Mathlib.Decide.{decLt}
 use native.Mathlib.Omega.{arith}
 use lib.ListN.{length}
 use Rattle.base.specs.Basics.{All}
 use Rattle.base.specs.Tools.{all-imp, all-join, all-at-or}
 use Rattle.language.specs.Syntax.{Expr, con, name, app1, app2, app3, Handler, handler, Behaviour, passive, active, Program}
-use Rattle.language.specs.Dependence.{Response, handled, respond, size, events, noEvent, behaviourAt, response, needs, dependsOn, Reach, one, more, Acyclic, NoCycle}
+use Rattle.language.specs.Dependence.{respond, size, events, noEvent, behaviourAt, needs, dependsOn, Reach, one, more, Acyclic}
 use Rattle.language.specs.Grammar.{Nested, n-con, n-name, n-app1, n-app2, n-app3, NoneFor, HandlersFit, BehaviourFits}
 use Rattle.language.specs.Accepted.{NamesIn, HandlerNamesIn, BehaviourNamesIn, Known, Valid}
 use Rattle.language.specs.Laws.{depends-within}
 use Rattle.semantics.specs.Handlers.{undeclared-keeps}
 use Rattle.pooling.specs.Pooled.{shared}
-use Rattle.pooling.specs.Together.{moveExpr, moveHandler, moveHandlers, moveBehaviour, together}
+use Rattle.pooling.specs.Together.{moveExpr, moveHandlers, moveBehaviour, together}
 use Rattle.pooling.specs.Moving.{Part, depends-moved, size-together, first-part, second-part}
 
 -- ---- as many events as the longer list

@@ -1,11 +1,11 @@
 -- Laws of the turns over behaviours: counting them, copying them with their names moved up, and parts written one after another.
-use Prim.Native.Nat.{ℕ, zero, suc, _+_, _-_, _*_, _≤_, _<_}
+use Prim.Native.Nat.{ℕ, suc, _+_, _-_, _*_, _≤_, _<_}
 use mathlib.Core.Path.{_≡_, refl, sym, ap, _∙_}
 use mathlib.Core.List.{List, [], _∷_, _++_, append-assoc, append-nil}
 use native.Mathlib.Omega.{arith}
 use native.Mathlib.Numerals.{add-one}
 use lib.ListN.{length, getD, take, drop, set, length-set, length-append, length-drop, drop-of-length-le}
-use lib.Seq.{drop-cons, take-suc-set, length-take-le}
+use lib.Seq.{drop-cons, take-suc-set}
 use Rattle.merging.specs.Written.{Written}
 use Rattle.splice.specs.Splice.{cellsAt, nextAt, countFrom, onward, movedByte, scan, spliced}
 use Rattle.merging.specs.Merging.{eventsFrom, endFrom}

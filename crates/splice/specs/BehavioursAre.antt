@@ -1,21 +1,18 @@
 -- The bytes of behaviours copied with each name moved up are those of the behaviours moved up, and the fields counted are the behaviours. By induction on the sheet: a copy goes from tag to tag.
 use Prim.Native.Nat.{ℕ, zero, suc, _+_, _-_, _*_, _/_, _%_, _≤_, _<_}
-use mathlib.Core.Bool.{true, false}
 use mathlib.Core.Path.{_≡_, refl, sym, ap, _∙_}
 use mathlib.Core.Option.{Option, none, some}
-use mathlib.Core.List.{List, [], _∷_, _++_, append-assoc, append-nil}
+use mathlib.Core.List.{List, [], _∷_, _++_, append-assoc}
 use native.Mathlib.Omega.{arith}
-use native.Mathlib.Numerals.{add-one, add-three}
 use lib.Dec.{ltb, eqb}
-use lib.ListN.{length, getD, drop, length-append, length-drop, drop-of-length-le}
+use lib.ListN.{length, getD, drop, length-append, length-drop}
 use lib.Seq.{getD-drop, drop-drop, drop-append-seam, drop-length}
-use borrow.Author.Tests.{lt-ltb, le-ltb, ltb-true, ltb-false}
+use borrow.Author.Tests.{le-ltb, ltb-false}
 use Rattle.base.specs.Basics.{pick, All}
 use Rattle.base.specs.Tools.{by-test, split}
 use Rattle.language.specs.Sheet.{Term, literal, variable, param, apply1, apply2, apply3, Clause, clause, Item, formula, state, row, Entry, cells, cellCount, renameTerm, renameClauses}
-use Rattle.language.specs.Grammar.{field, word, encodeExpr, encodePhase, encodeHandler, encodeHandlers, tagOf, encodeItem, encodeViewer, encodeBehaviour, encodeBehaviours}
+use Rattle.language.specs.Grammar.{field, encodeExpr, encodeHandlers, tagOf, encodeItem, encodeViewer, encodeBehaviour, encodeBehaviours}
 use Rattle.language.specs.Sheet.{fillTerm, fillClauses, fillItem, fillEntries}
-use Rattle.language.specs.Grammar.{ItemFits, EntryFits}
 use Rattle.language.specs.Accepted.{NamesIn, HandlerNamesIn, BehaviourNamesIn}
 use Rattle.pooling.specs.Pooled.{moveTerm, moveClauses, moveItem, moveEntry, moveEntries}
 use Rattle.splice.specs.Splice.{cellsAt, nextAt, countFrom, opens, onward, movedByte, scan}

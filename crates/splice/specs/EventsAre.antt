@@ -1,15 +1,15 @@
 -- The events worked out from the bytes of two sheets are those of the pooled sheet, in as many turns as the longer list has events. By induction on the turns: each looks at the front of what is left.
-use Prim.Native.Nat.{ℕ, zero, suc, _+_, _-_, _/_, _%_, _≤_, _<_}
-use mathlib.Core.Bool.{Bool, true, false}
+use Prim.Native.Nat.{ℕ, zero, suc, _+_, _-_, _/_, _%_, _≤_}
+use mathlib.Core.Bool.{false}
 use mathlib.Core.Path.{_≡_, refl, sym, ap, _∙_}
 use mathlib.Core.Option.{Option, none, some}
 use mathlib.Core.List.{List, [], _∷_, _++_, append-assoc}
 use native.Mathlib.Omega.{arith}
 use lib.Dec.{ltb, eqb}
-use lib.Bits.{bitAnd, and-le-l, and-le-r}
+use lib.Bits.{and-le-l, and-le-r}
 use lib.ListN.{length, getD, drop, length-drop}
 use lib.Seq.{getD-drop, drop-drop}
-use borrow.Author.Tests.{le-ltb, ne-eqb, eq-eqb}
+use borrow.Author.Tests.{le-ltb, ne-eqb}
 use Rattle.base.specs.Basics.{pick, All}
 use Rattle.base.specs.Tools.{split}
 use Rattle.language.specs.Sheet.{Item, formula, state, row, Signal, Entry}

@@ -1,5 +1,5 @@
 -- The bytes worked out from those of two sheets are the pooled sheet's, and their ranks agree where the sheets' do: from the events and the behaviours.
-use Prim.Native.Nat.{ℕ, zero, suc, _+_, _-_, _≤_, _<_}
+use Prim.Native.Nat.{ℕ, zero, suc, _+_, _-_, _≤_}
 use mathlib.Core.Path.{_≡_, refl, sym, ap, _∙_}
 use mathlib.Core.List.{List, [], _∷_, _++_, append-assoc}
 use native.Mathlib.Omega.{arith}
@@ -8,7 +8,7 @@ use lib.ListN.{length, getD, drop}
 use borrow.Author.Tests.{ltb-false}
 use Rattle.base.specs.Basics.{All}
 use Rattle.base.specs.Tools.{by-test}
-use Rattle.language.specs.Sheet.{Item, formula, state, row, Signal, Entry, Sheet, cells, cellCount, fillEntries, fill}
+use Rattle.language.specs.Sheet.{Item, formula, state, row, Entry, Sheet, cells, cellCount, fillEntries, fill}
 use Rattle.language.specs.Grammar.{encode, encodeEvents, encodeBehaviour, encodeBehaviours, ItemFits, EntryFits, SheetFits}
 use Rattle.language.specs.Accepted.{BehaviourNamesIn, Known}
 use Rattle.pooling.specs.Pooled.{poolSignals, moveEntries, count, pooled, sameRanks}

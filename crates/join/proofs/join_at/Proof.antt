@@ -1,5 +1,4 @@
 -- Either sheet's number is not 0, or both are accepted.
-use mathlib.Core.Path.{sym, _∙_}
 use borrow.Author.Needs.{needs}
 use Rattle.join.specs.JoinLaws.{first-refused, second-refused, both-taken}
 use Rattle.join.proofs.join_at.Statement.{statement}
