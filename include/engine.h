@@ -28,7 +28,7 @@ enum engine_refusal {
     ENGINE_WRONG_TAG = 5,      /* a tag not allowed there; an event after a behaviour */
     ENGINE_WRONG_LENGTH = 6,   /* fixed length differs; a due byte is missing; bytes left over */
     ENGINE_CROWDED = 7,        /* 33rd event, 65th behaviour */
-    ENGINE_OFF_THE_SCALE = 8,  /* rank, event, phase, function or parameter byte not listed or not declared */
+    ENGINE_OFF_THE_SCALE = 8,  /* rank, event, phase, function or parameter byte or a row's cell count not listed or not declared */
     ENGINE_TOO_DEEP = 9,       /* an expression at nesting 17 */
     ENGINE_DOUBLED = 10,       /* second handler for an event in one behaviour */
     ENGINE_UNKNOWN_NAME = 11,  /* no such behaviour in the sheet */
@@ -40,7 +40,7 @@ enum engine_refusal {
     ENGINE_SPENT = 17,         /* 1,000,000 already taken in */
     ENGINE_NO_SUCH_BEHAVIOUR = 18, /* number not in the sheet */
     ENGINE_SETTLING = 19,      /* board read, or sheet changed, during copy-back */
-    ENGINE_NO_PARAMETERS = 20, /* compile: the sheet uses a parameter and fewer than 32 bytes are lent */
+    ENGINE_NO_PARAMETERS = 20, /* the sheet uses a parameter and fewer than 32 bytes are lent */
     ENGINE_NO_FORMULA = 21,    /* formula: the text is outside the grammar or over 1,024 bytes */
     ENGINE_LARGE_NUMBER = 22,  /* formula: a number exceeds 2,147,483,647 */
     ENGINE_SHORT_BUFFER = 23,  /* formula: the buffer is too short for the field */
@@ -117,7 +117,7 @@ static inline int engine_forecast_refused(uint64_t answer) { return answer >> 32
 static inline uint32_t engine_forecast_steps(uint64_t answer) { return (uint32_t)answer; }
 
 /* The value that a behaviour would show after this event's arrival and everything in hand had been run to idle: answered as by board, 2^32 and the 32-bit word. It is
- * tried on a copy; the round stays. Refused as the arrival of this player would be, 14, 24, 15, 25, 16, 17, then by 18, then by 25 for the behaviour; last by 14 where a step on the copy is.
+ * tried on a copy; the round stays. Refused as the arrival of this player would be, 14, 24, 15, 25, 16, 17, then by 18, then by 25 for the behaviour; last by 14 where a step on the copy is or 01's count of steps runs out.
  * During copy-back it works. */
 uint64_t preview(const uint8_t *table, size_t table_len, const uint8_t *round, size_t round_len, uint32_t event, uint32_t behaviour, uint32_t player);
 

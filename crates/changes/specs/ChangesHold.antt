@@ -4,7 +4,7 @@ use Rattle.base.specs.Basics.{All}
 use Rattle.language.specs.Syntax.{Program}
 use Rattle.language.specs.Accepted.{Valid}
 use Rattle.changes.specs.Turns.{Turn}
-use Rattle.changes.specs.Claims.{Sound, BoardOfCommits, BoardByRules, OnceEach, EqualsInOrder, LowerFirst, SettlesIn, QuietExactly, NobodyWaits, AloneRight, PreviewRight, MarkRight, SameBoard}
+use Rattle.changes.specs.Claims.{Sound, SameBoard, Holds}
 use Rattle.changes.specs.Boards as boards
 use Rattle.changes.specs.Replaying as replaying
 use Rattle.changes.specs.Once as once
@@ -13,20 +13,6 @@ use Rattle.changes.specs.Lower as lower
 use Rattle.changes.specs.Counts as counts
 use Rattle.changes.specs.Alone as alone
 use Rattle.changes.specs.SameBoard as same
-
--- every sentence about one list
-pub record Holds (p : Program) (ts : List Turn) : Type 0 where
-  pub board : BoardOfCommits p ts
-  pub by-rules : BoardByRules p ts
-  pub once : OnceEach p ts
-  pub equals : EqualsInOrder p ts
-  pub lower : LowerFirst p ts
-  pub settles : SettlesIn p ts
-  pub quiet : QuietExactly p ts
-  pub nobody-waits : NobodyWaits p ts
-  pub one-event : AloneRight p ts
-  pub previews : PreviewRight p ts
-  pub mark : MarkRight p ts
 
 module _ (p : Program) (v : Valid p) where
   pub holds : (ts : List Turn) → All Sound ts → Holds p ts

@@ -296,3 +296,18 @@ SameBoard p ts us =
     → ApartEach p (courseOf (historyOf p ts))
     → IdleIn (after p ts) → IdleIn (after p us)
     → storeIn (after p ts) ≡ storeIn (after p us)
+
+-- ---- every sentence about one list
+
+pub record Holds (p : Program) (ts : List Turn) : Type 0 where
+  pub board : BoardOfCommits p ts
+  pub by-rules : BoardByRules p ts
+  pub once : OnceEach p ts
+  pub equals : EqualsInOrder p ts
+  pub lower : LowerFirst p ts
+  pub settles : SettlesIn p ts
+  pub quiet : QuietExactly p ts
+  pub nobody-waits : NobodyWaits p ts
+  pub one-event : AloneRight p ts
+  pub previews : PreviewRight p ts
+  pub mark : MarkRight p ts

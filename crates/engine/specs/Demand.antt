@@ -1,5 +1,5 @@
--- Demands 2 and 3, and M-100, M-101, M-104, M-107 and M-113 of document 02, as claims about the exported functions: `compileOn`, `startOn`, `arriveOn`, `stepOn`, `boardOn`, `forecastOn`
--- and `previewOn` are what their contracts cite.
+-- Demands 2 and 3, and M-100, M-101, M-104, M-107, M-112 and M-113 of document 02, as claims about the exported functions: `compileOn`, `startOn`, `arriveOn`, `stepOn`, `boardOn`, `forecastOn`,
+-- `previewOn`, `toldOn` and, for changes of sheets, `mendOn` are what their contracts cite. M-107's rule for a player stands above: crate seen, and with changes crate heard.
 -- The model engine, and the sentences of demand 3 in its terms: crate model, Model.antt and Claims.antt. Calls on bytes, and what the round's bytes say: crate
 -- refinement, Refinement.antt.
 use Prim.Native.Nat.{ℕ, _+_, _*_, _≤_, _<_}

@@ -94,7 +94,8 @@ pub extern "C" fn forecast(table: &[u8], round: &[u8]) -> u64
     forecast::forecast_at(table, round)
 }
 
-// The value of a behaviour after an event's arrival and everything in hand, tried on a copy: 2 ^ 32 and the word; or 14, 24, 15, 25, 16, 17, 18, 25.
+// The value of a behaviour after an event's arrival and everything in hand, tried on a copy: 2 ^ 32 and the word; or 14, 24, 15, 25, 16, 17, 18, 25,
+// and last 14 where a step on the copy is refused or 01's count runs out.
 #[no_mangle]
 pub extern "C" fn preview(
     table: &[u8],

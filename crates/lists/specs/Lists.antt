@@ -1,10 +1,11 @@
 -- Demand 3 with changes of sheets, of the bytes: what is said of every list of turns, calls and changes, on a program's table and a round that start has just made fresh from it. 02, M-112.
 -- The sentences of the model engine: crate changes, Claims.antt. Turns on bytes: crate reconcile, Reconcile.antt.
-use Prim.Native.Nat.{ℕ, _+_, _<_}
+use Prim.Native.Nat.{ℕ, _+_, _≤_, _<_}
 use mathlib.Core.Bool.{Bool, true, false}
 use mathlib.Core.Path.{_≡_}
 use mathlib.Core.List.{List, [], _∷_, _++_, map, zipWith}
 use lib.Dec.{eqb}
+use lib.ListN.{length}
 use Rattle.base.specs.Basics.{pick}
 use Rattle.word.specs.Word.{words}
 use Rattle.language.specs.Syntax.{Program}
@@ -16,8 +17,8 @@ use Rattle.semantics.specs.Over.{EventOver}
 use Rattle.model.specs.Model.{Arrival, arrival, step, refused, committed, unmarked, act}
 use Rattle.model.specs.Claims.{settlingIn, aloneCalls, forecast, previewed, eventsOf}
 use Rattle.changes.specs.Turns.{Turn, call, Reply, says, carriedOver, replies, begun}
-use Rattle.changes.specs.Claims.{inForce, engineIn, numberIn, IdleIn, after, historyOf, takenInBy, commits, Replays, courseOf, SameChanges, ApartEach}
-use Rattle.changes.specs.ChangesHold.{Holds}
+use Rattle.changes.specs.Claims.{inForce, engineIn, numberIn, IdleIn, after, historyOf, takenInBy, commits, Replays, courseOf, SameChanges, ApartEach, Holds}
+use Rattle.image.specs.Image.{tableOf}
 use Rattle.machine.specs.Machine.{stepOn}
 use Rattle.forecast.specs.Forecast.{forecastOn}
 use Rattle.preview.specs.Preview.{previewOn}
@@ -37,6 +38,10 @@ abbrev pub decodedReply : ByteTurn → ℕ → Reply
 decodedReply (calls c) v = says (decoded c v)
 decodedReply (mends u) v = pick (eqb v 0) carriedOver (says (refused v))
 
+-- the bytes u are the table that compile leaves for the program q, in bytes lent for it
+abbrev pub Left : Program → List ℕ → Type 0
+Left q u = (lent : List ℕ) × (34816 ≤ length lent) × (u ≡ tableOf q lent)
+
 -- 02, M-104: the mark m with which arrival a is committed after the turns ts
 pub record CommitMark (p : Program) (ts : List Turn) (a : Arrival) (m : Bool) : Type 0 where
   -- the board that the rules give for the history so far, and no other
@@ -53,6 +58,8 @@ pub record OneList (p : Program) (l₀ : List ℕ) (b : Bytes) (xs : List ByteTu
   -- "every answer .. is what 01's model engine gives", and the numbers name those answers
   pub answers : numbersOn xs b ≡ map codedReply (replies ts (begun p))
   pub read : zipWith decodedReply xs (numbersOn xs b) ≡ replies ts (begun p)
+  -- "The table is still as compile left it": the one in force, for the program in force
+  pub table : Left (inForce (after p ts)) (bytesAfter xs b .table)
   -- ".. and the round after the list"
   pub round : ViewIn (bytesAfter xs b .round) (after p ts)
   pub beyond : Kept l₀ (bytesAfter xs b .round)

@@ -20,12 +20,12 @@ use Rattle.semantics.specs.OverAgrees.{rules-find, rules-find-only}
 use Rattle.model.specs.Model.{Arrival, arrival, Call, step, Answer, committed, act}
 use Rattle.model.specs.Claims.{settlingIn, aloneCalls}
 use Rattle.changes.specs.Turns.{Turn, call, State, state, says, turn, runTurns, begun}
-use Rattle.changes.specs.Claims.{commits, inForce, engineIn, numberIn, storeIn, IdleIn, after, historyOf, Sound, Replays}
+use Rattle.changes.specs.Claims.{commits, inForce, engineIn, numberIn, storeIn, IdleIn, after, historyOf, Sound, Replays, Holds}
 use Rattle.changes.specs.History.{runs-append, Fit}
 use Rattle.changes.specs.Boards.{storeAfter, stored}
 use Rattle.changes.specs.Replaying.{proper, replays, replays-alone}
 use Rattle.changes.specs.Alone.{calls-run}
-use Rattle.changes.specs.ChangesHold.{Holds, holds, same-board}
+use Rattle.changes.specs.ChangesHold.{holds, same-board}
 use Rattle.machine.specs.Machine.{stepOn}
 use Rattle.refinement.specs.Refinement.{decoded}
 use Rattle.refinement.specs.Relation.{words-length}
@@ -34,6 +34,7 @@ use Rattle.reconcile.specs.Reconcile.{ByteTurn, calls, Bytes, bytesAfter, AllMe
 use Rattle.reconcile.specs.TurnsRefine.{Stand, runs, turns-refine, mean-sound, fresh-stand}
 use Rattle.reconcile.specs.TurnsRefine as refine
 use Rattle.lists.specs.Lists.{boardOf, IdleNow, CommitMark, OneList, TwoLists, decodedReply}
+use Rattle.lists.specs.Tables.{turns-left}
 use Rattle.lists.specs.Standing.{board-of, idle-both, next-read, told-next, forecast-of, preview-of, all-read}
 
 -- calls alone mean themselves
@@ -156,6 +157,7 @@ module _ (p : Program) (ok : Accepted p) (t₀ l₀ : List ℕ) (table-room : 34
       record {
         answers = agrees .answered;
         read = ap (zipWith decodedReply xs) (agrees .answered) ∙ all-read l₀ bytes xs ts (begun p) mean (fresh-stand p ok t₀ l₀ table-room round-room);
+        table = turns-left l₀ bytes xs ts (begun p) mean (fresh-stand p ok t₀ l₀ table-room round-room) (t₀, table-room, refl);
         round = agrees .viewed;
         beyond = agrees .kept;
         idle = idle-is xs ts mean;
