@@ -1,0 +1,2 @@
+pub mod HalfBoards
+pub mod HalvesHold
