@@ -8,14 +8,14 @@ ghost use Rattle.io.specs.Counts.{Counts};
 
 fn refuse(n: u64) {
     let mut line = [0u8; 64];
-    let size = script::refusal(n, &mut line);
+    let size = desk_format::refusal(n, &mut line);
     io::write_all(STDOUT_FILENO, &line[..size]);
 }
 
 // One step.
 fn step_once(table: &[u8], round: &mut [u8]) {
     let mut line = [0u8; 64];
-    let size = script::step_line(engine::step(table, round), &mut line);
+    let size = desk_format::step_line(engine::step(table, round), &mut line);
     io::write_all(STDOUT_FILENO, &line[..size]);
 }
 
@@ -55,14 +55,14 @@ fn collect(table: &[u8], round: &[u8], values: &mut [u32]) -> usize
 
 // "During copy-back a show prints the one line R 19, with or without behaviours."
 fn show(table: &[u8], round: &[u8]) {
-    if board::settling_at(table, round) {
+    if run_board::settling_at(table, round) {
         refuse(19);
         return;
     }
     let mut values = [0u32; 64];
     let count = collect(table, round, &mut values);
     let mut line = [0u8; 2048];
-    let size = script::board_line(&values[..count], &mut line);
+    let size = desk_format::board_line(&values[..count], &mut line);
     io::write_all(STDOUT_FILENO, &line[..size]);
 }
 
@@ -83,11 +83,11 @@ fn act(tag: u8, value: &[u8], table: &mut [u8], round: &mut [u8]) -> u8 {
         return load(value, table, round);
     }
     if tag == 33 {
-        arrive(table, round, script::number(value));
+        arrive(table, round, desk_format::number(value));
         return 1;
     }
     if tag == 34 {
-        steps(table, round, script::number(value));
+        steps(table, round, desk_format::number(value));
         return 1;
     }
     show(table, round);
@@ -97,7 +97,7 @@ fn act(tag: u8, value: &[u8], table: &mut [u8], round: &mut [u8]) -> u8 {
 // A field refused: 0 where the program ends, 1 where it goes on.
 fn pass_over(verdict: u8) -> u8 {
     refuse(verdict as u64);
-    if script::ends(verdict) { 0 } else { 1 }
+    if desk_format::ends(verdict) { 0 } else { 1 }
 }
 
 // The field whose header is given: its value is read and acted on.
@@ -106,7 +106,7 @@ fn field(tag: u8, size: usize, table: &mut [u8], round: &mut [u8], ready: bool) 
 {
     let mut space = io::large_buffer();
     let got = io::read_full(STDIN_FILENO, &mut space[..size]);
-    let verdict = script::judge_value(tag, size, got, ready);
+    let verdict = desk_format::judge_value(tag, size, got, ready);
     if verdict != 0 {
         return pass_over(verdict);
     }
@@ -120,11 +120,11 @@ fn turn(table: &mut [u8], round: &mut [u8], ready: bool) -> u8 {
     if got == 0 {
         return 0;
     }
-    let verdict = script::judge_head(got, head[0]);
+    let verdict = desk_format::judge_head(got, head[0]);
     if verdict != 0 {
         return pass_over(verdict);
     }
-    let size = word::get_half(&head, 1) as usize;
+    let size = lib_word::get_half(&head, 1) as usize;
     field(head[0], size, table, round, ready)
 }
 

@@ -6,13 +6,13 @@ use mathlib.Core.List.{List}
 use native.Mathlib.Omega.{arith}
 use lib.ListN.{length, getD}
 use borrow.Author.Tests.{eq-eqb, ne-eqb}
-use Rattle.word.specs.Word.{getAt}
-use Rattle.model.specs.Model.{Call}
-use Rattle.round.specs.Start.{Result, result}
-use Rattle.arrivals.specs.Arrivals.{arriveOn}
-use Rattle.board.specs.Board.{boardOn}
-use Rattle.machine.specs.Machine.{stepOn}
-use Rattle.refinement.specs.Refinement.{callOn, answersOn, roundAfter}
+use Rattle.lib_word.specs.Word.{getAt}
+use Rattle.spec_model.specs.Model.{Call}
+use Rattle.run_start.specs.Start.{Result, result}
+use Rattle.run_arrive.specs.Arrivals.{arriveOn}
+use Rattle.run_board.specs.Board.{boardOn}
+use Rattle.run_step.specs.Machine.{stepOn}
+use Rattle.refine_calls.specs.Refinement.{callOn, answersOn, roundAfter}
 use Rattle.engine.specs.Replay.{callOf, callsFrom, putAnswer, putAnswers}
 
 pub call-arrive : (t l : List ℕ) (kind n who : ℕ) → kind ≡ 0 → arriveOn t l n who ≡ callOn t (callOf kind n who) l

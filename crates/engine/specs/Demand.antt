@@ -8,29 +8,29 @@ use mathlib.Core.Path.{_≡_}
 use mathlib.Core.Logic.{_≢_}
 use mathlib.Core.List.{List, [], _∷_, _++_, map, zipWith}
 use lib.ListN.{length, getD}
-use Rattle.base.specs.Basics.{All}
-use Rattle.word.specs.Word.{get, words}
-use Rattle.language.specs.Syntax.{Program}
-use Rattle.language.specs.Dependence.{size, events, Independent}
-use Rattle.language.specs.Sheet.{Sheet}
-use Rattle.language.specs.Grammar.{encode}
-use Rattle.language.specs.Accepted.{Accepted, SheetAccepted}
-use Rattle.language.specs.Code.{off, code, members}
-use Rattle.semantics.specs.Rules.{Shows}
-use Rattle.semantics.specs.Meaning.{at, fresh, withStore}
-use Rattle.semantics.specs.Plays.{Plays}
-use Rattle.semantics.specs.Over.{EventOver}
-use Rattle.language.specs.Rights.{maySend}
-use Rattle.model.specs.Model.{Arrival, arrival, Call, step, committed, unmarked, rank, act}
-use Rattle.model.specs.Claims.{after, said, committedIn, takenInBy, eventsOf, settlingIn, number, Idle, OnceEach, EqualsInOrder, LowerFirst, SettlesIn, NobodyWaits, aloneCalls, QuietExactly, forecast, previewed, PreviewRight}
-use Rattle.image.specs.Image.{operation, constant, startOf, tableOf}
-use Rattle.round.specs.Start.{startOn}
-use Rattle.machine.specs.Machine.{stepOn}
-use Rattle.forecast.specs.Forecast.{forecastOn}
-use Rattle.preview.specs.Preview.{previewOn}
-use Rattle.refinement.specs.Refinement.{coded, decoded, toldOn, callOn, answersOn, roundAfter, View, Kept}
-use Rattle.rounds.specs.Rounds.{WholeRounds}
-use Rattle.compiler.specs.Verdict.{programOf, compileOn}
+use Rattle.lib_base.specs.Basics.{All}
+use Rattle.lib_word.specs.Word.{get, words}
+use Rattle.spec_language.specs.Syntax.{Program}
+use Rattle.spec_language.specs.Dependence.{size, events, Independent}
+use Rattle.spec_language.specs.Sheet.{Sheet}
+use Rattle.spec_language.specs.Grammar.{encode}
+use Rattle.spec_language.specs.Accepted.{Accepted, SheetAccepted}
+use Rattle.spec_language.specs.Code.{off, code, members}
+use Rattle.spec_semantics.specs.Rules.{Shows}
+use Rattle.spec_semantics.specs.Meaning.{at, fresh, withStore}
+use Rattle.spec_semantics.specs.Plays.{Plays}
+use Rattle.spec_semantics.specs.Over.{EventOver}
+use Rattle.spec_language.specs.Rights.{maySend}
+use Rattle.spec_model.specs.Model.{Arrival, arrival, Call, step, committed, unmarked, rank, act}
+use Rattle.spec_model.specs.Claims.{after, said, committedIn, takenInBy, eventsOf, settlingIn, number, Idle, OnceEach, EqualsInOrder, LowerFirst, SettlesIn, NobodyWaits, aloneCalls, QuietExactly, forecast, previewed, PreviewRight}
+use Rattle.format_image.specs.Image.{operation, constant, startOf, tableOf}
+use Rattle.run_start.specs.Start.{startOn}
+use Rattle.run_step.specs.Machine.{stepOn}
+use Rattle.run_forecast.specs.Forecast.{forecastOn}
+use Rattle.run_preview.specs.Preview.{previewOn}
+use Rattle.refine_calls.specs.Refinement.{coded, decoded, toldOn, callOn, answersOn, roundAfter, View, Kept}
+use Rattle.refine_lists.specs.Rounds.{WholeRounds}
+use Rattle.back_compile.specs.Verdict.{programOf, compileOn}
 
 -- the board of a round: the values of p's behaviours, as read from its bytes
 abbrev pub boardOf : Program → List ℕ → List ℕ

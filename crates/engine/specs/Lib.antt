@@ -1,9 +1,2 @@
 pub mod Demand
 pub mod Replay
-pub mod Refused
-pub mod Runs
-pub mod OneHolds
-pub mod TwoHolds
-pub mod Holds
-pub mod Beyond
-pub mod RestDay

@@ -3,9 +3,9 @@ use Prim.Native.Nat.{ℕ, zero, suc, _+_, _*_, _/_, _%_}
 use mathlib.Core.List.{List, [], _∷_}
 use lib.ListN.{getD}
 use lib.Dec.{ltb, eqb}
-use Rattle.base.specs.Basics.{pick}
-use Rattle.word.specs.Word.{getAt, put}
-use Rattle.model.specs.Model.{Call, arrive, step, board}
+use Rattle.lib_base.specs.Basics.{pick}
+use Rattle.lib_word.specs.Word.{getAt, put}
+use Rattle.spec_model.specs.Model.{Call, arrive, step, board}
 
 unfoldable pub callOf : ℕ → ℕ → ℕ → Call
 callOf kind n who = pick (eqb kind 0) (arrive n who) (pick (eqb kind 1) step (board n who))

@@ -3,18 +3,18 @@
 ghost use mathlib.Core.Path.{_≡_};
 ghost use Prim.Native.Nat.{_+_, _*_, _≤_, _<_};
 ghost use lib.ListN.{length};
-ghost use Rattle.compiler.specs.Verdict.{compiled, compileOn};
-ghost use Rattle.witness.specs.Witness.{Witnessed};
-ghost use Rattle.round.specs.Start.{result, startOn};
-ghost use Rattle.arrivals.specs.Arrivals.{arriveOn};
-ghost use Rattle.board.specs.Board.{boardOn};
-ghost use Rattle.mending.specs.Mending.{mendOn};
-ghost use Rattle.machine.specs.Machine.{stepOn};
-ghost use Rattle.forecast.specs.Forecast.{forecastOn};
-ghost use Rattle.preview.specs.Preview.{previewOn};
-ghost use Rattle.formula.specs.Answer.{answered, formulaOn};
-ghost use Rattle.join.specs.Join.{joined, joinOn};
-ghost use Rattle.refinement.specs.Refinement.{toldOn, callOn, answersOn, roundAfter};
+ghost use Rattle.back_compile.specs.Verdict.{compiled, compileOn};
+ghost use Rattle.check_circle.specs.Witness.{Witnessed};
+ghost use Rattle.run_start.specs.Start.{result, startOn};
+ghost use Rattle.run_arrive.specs.Arrivals.{arriveOn};
+ghost use Rattle.run_board.specs.Board.{boardOn};
+ghost use Rattle.run_mend.specs.Mending.{mendOn};
+ghost use Rattle.run_step.specs.Machine.{stepOn};
+ghost use Rattle.run_forecast.specs.Forecast.{forecastOn};
+ghost use Rattle.run_preview.specs.Preview.{previewOn};
+ghost use Rattle.text_formula.specs.Answer.{answered, formulaOn};
+ghost use Rattle.link_join.specs.Join.{joined, joinOn};
+ghost use Rattle.refine_calls.specs.Refinement.{toldOn, callOn, answersOn, roundAfter};
 ghost use Rattle.engine.specs.Replay.{callOf, callsFrom, putAnswer, putAnswers, callCount};
 
 // The table of a sheet with its parameters. 0, or the refusal's number, 1, 3 to 13 or 20, the table as it was.
@@ -24,7 +24,7 @@ pub extern "C" fn compile(sheet: &[u8], params: &[u8], table: &mut [u8]) -> u32
     ensures { λ _. ⌜ now (sheet .exit) ≡ now (sheet .entry) ⌝ }
     ensures { λ _. ⌜ now (params .exit) ≡ now (params .entry) ⌝ }
 {
-    compiler::compile_at(sheet, params, table)
+    back_compile::compile_at(sheet, params, table)
 }
 
 // Why a sheet is turned down: compile's number, as with a full table, the list as it was; with 12 a shortest circle in the list's first bytes, its event times 256 (255 for none) and its length times 65,536. 1 for a
@@ -35,7 +35,7 @@ pub extern "C" fn circle(sheet: &[u8], params: &[u8], list: &mut [u8]) -> u64
     ensures { λ _. ⌜ now (sheet .exit) ≡ now (sheet .entry) ⌝ }
     ensures { λ _. ⌜ now (params .exit) ≡ now (params .entry) ⌝ }
 {
-    witness::circle_at(sheet, params, list)
+    check_circle::circle_at(sheet, params, list)
 }
 
 // A fresh round. 0, or 14.
@@ -44,7 +44,7 @@ pub extern "C" fn start(table: &[u8], round: &mut [u8]) -> u32
     ensures { λ r. ⌜ result r (now (round .exit)) ≡ startOn (now (table .entry)) (now (round .entry)) ⌝ }
     ensures { λ _. ⌜ now (table .exit) ≡ now (table .entry) ⌝ }
 {
-    round::start_round(table, round)
+    run_start::start_round(table, round)
 }
 
 // An event arrives, sent by a player. 0, or 14, 24, 15, 25, 16, 17.
@@ -53,7 +53,7 @@ pub extern "C" fn arrive(table: &[u8], round: &mut [u8], event: u32, player: u32
     ensures { λ r. ⌜ result r (now (round .exit)) ≡ arriveOn (now (table .entry)) (now (round .entry)) event player ⌝ }
     ensures { λ _. ⌜ now (table .exit) ≡ now (table .entry) ⌝ }
 {
-    arrivals::arrive_at(table, round, event, player)
+    run_arrive::arrive_at(table, round, event, player)
 }
 
 // One step. 0 idle, 1 one instruction, 2 a start, 3 a commit, 4 a start that preempts, with player, event and arrival number; or 14.
@@ -63,7 +63,7 @@ pub extern "C" fn step(table: &[u8], round: &mut [u8]) -> u64
     ensures { λ r. ⌜ result r (now (round .exit)) ≡ stepOn (now (table .entry)) (now (round .entry)) ⌝ }
     ensures { λ _. ⌜ now (table .exit) ≡ now (table .entry) ⌝ }
 {
-    machine::step_at(table, round)
+    run_step::step_at(table, round)
 }
 
 // A step's answer as the other players are told it: without the mark (02, M-107).
@@ -81,7 +81,7 @@ pub extern "C" fn board(table: &[u8], round: &[u8], behaviour: u32, player: u32)
     ensures { λ _. ⌜ now (table .exit) ≡ now (table .entry) ⌝ }
     ensures { λ _. ⌜ now (round .exit) ≡ now (round .entry) ⌝ }
 {
-    board::board_at(table, round, behaviour, player)
+    run_board::board_at(table, round, behaviour, player)
 }
 
 // The steps to idle if no arrival is taken in meanwhile, exact with nothing running, else 01's bound: 2 ^ 32 and their number; or 14.
@@ -91,7 +91,7 @@ pub extern "C" fn forecast(table: &[u8], round: &[u8]) -> u64
     ensures { λ _. ⌜ now (table .exit) ≡ now (table .entry) ⌝ }
     ensures { λ _. ⌜ now (round .exit) ≡ now (round .entry) ⌝ }
 {
-    forecast::forecast_at(table, round)
+    run_forecast::forecast_at(table, round)
 }
 
 // The value of a behaviour after an event's arrival and everything in hand, tried on a copy: 2 ^ 32 and the word; or 14, 24, 15, 25, 16, 17, 18, 25,
@@ -108,7 +108,7 @@ pub extern "C" fn preview(
     ensures { λ _. ⌜ now (table .exit) ≡ now (table .entry) ⌝ }
     ensures { λ _. ⌜ now (round .exit) ≡ now (round .entry) ⌝ }
 {
-    preview::preview_at(table, round, event, behaviour, player)
+    run_preview::preview_at(table, round, event, behaviour, player)
 }
 
 // A round goes on under a newly compiled table: hand and numbers stay, the running event goes back to the hand, actives of both sheets keep their value. 0, or 14, 19, 28, the round as it was.
@@ -118,7 +118,7 @@ pub extern "C" fn mend(old: &[u8], table: &[u8], round: &mut [u8]) -> u32
     ensures { λ _. ⌜ now (old .exit) ≡ now (old .entry) ⌝ }
     ensures { λ _. ⌜ now (table .exit) ≡ now (table .entry) ⌝ }
 {
-    mending::mend_at(old, table, round)
+    run_mend::mend_at(old, table, round)
 }
 
 // A formula's expression field at the start of the buffer: 2 ^ 32 and its length; or 21, 22, 9, 23, the buffer as it was.
@@ -127,7 +127,7 @@ pub extern "C" fn formula(text: &[u8], buffer: &mut [u8]) -> u64
     ensures { λ r. ⌜ answered r (now (buffer .exit)) ≡ formulaOn (now (text .entry)) (now (buffer .entry)) ⌝ }
     ensures { λ _. ⌜ now (text .exit) ≡ now (text .entry) ⌝ }
 {
-    translate::formula_at(text, buffer)
+    text_translate::formula_at(text, buffer)
 }
 
 // One sheet from two accepted ones, at the start of the buffer: 2 ^ 32 and its length; or compile's number of the first, of the second, 26, 3, 7, 13, 27, the buffer as it was.
@@ -138,7 +138,7 @@ pub extern "C" fn join(first: &[u8], second: &[u8], params: &[u8], buffer: &mut 
     ensures { λ _. ⌜ now (second .exit) ≡ now (second .entry) ⌝ }
     ensures { λ _. ⌜ now (params .exit) ≡ now (params .entry) ⌝ }
 {
-    join::join_at(first, second, params, buffer)
+    link_join::join_at(first, second, params, buffer)
 }
 
 // ---- a recorded list of calls
@@ -160,8 +160,8 @@ fn put_answer(answers: &mut [u8], i: usize, r: u64)
     requires { ⌜ (i * 8 + 8 ≤ length (now answers)) × (i < 2305843009213693951) ⌝ }
     ensures { λ _. ⌜ now (answers .exit) ≡ putAnswer (now (answers .entry)) i r ⌝ }
 {
-    word::put_word(answers, i * 2, (r / 4294967296) as u32);
-    word::put_word(answers, i * 2 + 1, (r % 4294967296) as u32);
+    lib_word::put_word(answers, i * 2, (r / 4294967296) as u32);
+    lib_word::put_word(answers, i * 2 + 1, (r % 4294967296) as u32);
 }
 
 fn call_count(calls: usize, answers: usize) -> usize
@@ -191,7 +191,7 @@ pub extern "C" fn replay(table: &[u8], round: &mut [u8], calls: &[u8], answers: 
             table,
             round,
             calls[k],
-            word::get_at(calls, k + 1),
+            lib_word::get_at(calls, k + 1),
             calls[k + 5] as u32,
         );
         put_answer(answers, i, r);

@@ -1,6 +1,6 @@
 -- `engine::call_count` meets its contract: each return is its branch of `callCount`, and whole calls and answers fit. Assumes nothing.
 use native.Mathlib.Omega.{arith}
-use Rattle.base.specs.Pick.{code}
+use Rattle.lib_base.proofs.Pick.{code}
 use Rattle.engine.specs.Replay.{callCount}
 use Rattle.engine.proofs.call_count.Statement.{statement}
 use Rattle.engine.proofs.call_count.Tie as tie

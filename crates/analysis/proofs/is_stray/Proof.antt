@@ -1,9 +1,0 @@
--- The branch is the definition's.
-use Rattle.base.specs.Pick.{code}
-use Rattle.analysis.specs.Checks.{stray}
-use Rattle.analysis.proofs.is_stray.Statement.{statement}
-use Rattle.analysis.proofs.is_stray.Tie as tie
-
-pub is-stray-spec : {M : Type 1} → statement M
-unfolding stray
-is-stray-spec = tie.close (tie.spec (λ c. search code depth 12) (λ c. search code depth 12))

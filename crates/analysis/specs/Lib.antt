@@ -1,8 +1,0 @@
-pub mod Faults
-pub mod Checks
-pub mod Blank
-pub mod Any
-pub mod NamesAgree
-pub mod MatrixAgrees
-pub mod CycleDecides
-pub mod DraftChecks

@@ -1,5 +1,0 @@
-pub mod Exact
-pub mod Functions
-pub mod ArithLaws
-pub mod FloorLaws
-pub mod Examples

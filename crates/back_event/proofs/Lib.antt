@@ -1,0 +1,3 @@
+pub mod PutOrder
+pub mod HandlerLaws
+pub mod HandlersAre

@@ -1,0 +1,4 @@
+pub mod InTable
+pub mod Parts
+pub mod Derived
+pub mod Compiles

@@ -1,0 +1,91 @@
+-- Figure 3 of 003, "Compilation of P-FRP", as document 01 has it: the two phases of an event's handler as lists of assignments, rule by rule, and the handler around them.
+-- 003 has for each behaviour x a scratch variable xt and beside it _xt, the old value. 01 has scratch for each of C, and a place of its own for a later handler's value. So an
+-- immediate handler's own name means what its scratch still holds (003: d[x := _xt]), a later handler assigns its place (003: _xt), and an immediate one has nothing to do in phase two (003: _xt := xt).
+use Prim.Native.Nat.{ℕ, _+_}
+use mathlib.Core.Bool.{Bool, true, false, not, _&&_}
+use mathlib.Core.Path.{_≡_}
+use mathlib.Core.List.{List, [], _∷_, _++_, flatMap, sum}
+use lib.Dec.{eqb, ltb}
+use lib.ListN.{length}
+use Rattle.lib_base.specs.Basics.{pick, All}
+use Rattle.spec_language.specs.Syntax.{Expr, Program}
+use Rattle.spec_language.specs.Dependence.{follows, takes, defers, keeps, size, response, mentions}
+use Rattle.spec_language.specs.Order.{upTo, early}
+use Rattle.spec_language.specs.Code.{Instr, save, defer, move, postfix, inC, one?, members, copyPart, firstPart, secondPart, restorePart, code}
+
+-- an assignment of a phase: xt := d of a passive; xt := d of an immediate handler; _xt := d of a later one; xt := _xt
+pub data Assign : Type 0 where
+  follow update postpone : ℕ → Expr → Assign
+  bring : ℕ → Assign
+
+-- FV(d): name j stands in it; an immediate handler's own name is its old value, and does not count
+abbrev pub named : ℕ → Assign → Bool
+named j (follow i x) = mentions j x
+named j (update i x) = mentions j x && not (eqb i j)
+named j (postpone i x) = mentions j x
+named j (bring i) = false
+
+-- it assigns the scratch of j; a place is no name's
+abbrev pub assigned : ℕ → Assign → Bool
+assigned j (follow i x) = eqb i j
+assigned j (update i x) = eqb i j
+assigned j (postpone i x) = false
+assigned j (bring i) = eqb i j
+
+-- (x := d) < A: "d does not depend on x or any variable updated in A"
+abbrev pub DependsNot : Assign → List Assign → Type 0
+DependsNot a A = (j : ℕ) → named j a ≡ true → All (λ b. assigned j b ≡ false) (a ∷ A)
+
+-- a part P of a program: which behaviours are in it; all; P without i, so that P is {x = b} ⊎ (P without x)
+abbrev pub whole : Program → ℕ → Bool
+whole p j = ltb j (size p)
+
+abbrev pub without : ℕ → (ℕ → Bool) → ℕ → Bool
+without i P j = pick (eqb i j) false (P j)
+
+-- ⟨P⟩¹ = A: A is the first phase of the event's handler
+pub data First (p : Program) (e : ℕ) : (ℕ → Bool) → List Assign → Type 0 where
+  none₁ : {P : ℕ → Bool} → ((j : ℕ) → P j ≡ false) → First p e P []
+  passive₁ : {P : ℕ → Bool} (i : ℕ) {d : Expr} {A : List Assign} → P i ≡ true → response p e i ≡ follows d → First p e (without i P) A
+      → DependsNot (follow i d) A → First p e P (follow i d ∷ A)
+  immediate₁ : {P : ℕ → Bool} (i : ℕ) {d : Expr} {A : List Assign} → P i ≡ true → response p e i ≡ takes d → First p e (without i P) A
+      → DependsNot (update i d) A → First p e P (update i d ∷ A)
+  later₁ : {P : ℕ → Bool} (i : ℕ) {d : Expr} {A : List Assign} → P i ≡ true → response p e i ≡ defers d → First p e (without i P) A
+      → DependsNot (postpone i d) A → First p e P (postpone i d ∷ A)
+  unhandled₁ : {P : ℕ → Bool} (i : ℕ) {A : List Assign} → P i ≡ true → response p e i ≡ keeps → First p e (without i P) A → First p e P A
+
+-- ⟨P⟩² = A: A is the second phase
+pub data Second (p : Program) (e : ℕ) : (ℕ → Bool) → List Assign → Type 0 where
+  none₂ : {P : ℕ → Bool} → ((j : ℕ) → P j ≡ false) → Second p e P []
+  passive₂ : {P : ℕ → Bool} (i : ℕ) {d : Expr} {A : List Assign} → P i ≡ true → response p e i ≡ follows d → Second p e (without i P) A
+      → DependsNot (follow i d) A → Second p e P (follow i d ∷ A)
+  immediate₂ : {P : ℕ → Bool} (i : ℕ) {d : Expr} {A : List Assign} → P i ≡ true → response p e i ≡ takes d → Second p e (without i P) A → Second p e P A
+  later₂ : {P : ℕ → Bool} (i : ℕ) {d : Expr} {A : List Assign} → P i ≡ true → response p e i ≡ defers d → Second p e (without i P) A
+      → Second p e P (bring i ∷ A)
+  unhandled₂ : {P : ℕ → Bool} (i : ℕ) {A : List Assign} → P i ≡ true → response p e i ≡ keeps → Second p e (without i P) A → Second p e P A
+
+-- how many behaviours have a turn in phase one, before the later handlers: the check on dependence asks whether an order holds them all
+unfoldable pub turnsIn : Program → ℕ → ℕ
+turnsIn p e = sum _+_ 0 (upTo (size p) (λ i. one? (early (response p e i))))
+
+-- the instructions of an assignment, c saying which names mean scratch
+abbrev pub assignCode : (ℕ → Bool) → Assign → List Instr
+assignCode c (follow i d) = postfix c d ++ (save i ∷ [])
+assignCode c (update i d) = postfix c d ++ (save i ∷ [])
+assignCode c (postpone i d) = postfix c d ++ (defer i ∷ [])
+assignCode c (bring i) = move i ∷ []
+
+unfoldable pub instructionsOf : (ℕ → Bool) → List Assign → List Instr
+instructionsOf c = flatMap (assignCode c)
+
+-- ⟦P⟧ = Q for one event: its code is the copy's, phase one's, phase two's and the copy-back's in a row; the phases are those of the rules, and phase one begins behind
+-- off, the copies and on
+pub record Handler (p : Program) (e : ℕ) : Type 0 where
+  pub first : List Assign
+  pub second : List Assign
+  pub phase-one : First p e (whole p) first
+  pub phase-two : Second p e (whole p) second
+  pub first-gives : firstPart p e ≡ instructionsOf (inC p e) first
+  pub second-gives : secondPart p e ≡ instructionsOf (inC p e) second
+  pub in-a-row : code p e ≡ copyPart p e ++ (firstPart p e ++ (secondPart p e ++ restorePart p e))
+  pub begins : length (copyPart p e) ≡ 2 + members p e

@@ -1,0 +1,3 @@
+pub mod EvaluateLaws
+pub mod NodesAre
+pub mod FreshIs

@@ -1,0 +1,2 @@
+pub mod PhaseLaws
+pub mod PhasesAre

@@ -1,0 +1,2 @@
+pub mod OrderingLaws
+pub mod OrderingIs

@@ -1,0 +1,51 @@
+-- The check on dependence of one event, on its draft (crate draft): phase one's order, and whether everyone that has a turn there stands in it.
+use Prim.Native.Nat.{ℕ, _-_, _≤_, _<_}
+use mathlib.Core.Bool.{Bool, true, false, not}
+use mathlib.Core.Path.{_≡_}
+use mathlib.Core.List.{List}
+use lib.ListN.{length, getD, take}
+use lib.Dec.{eqb, ltb}
+use Rattle.lib_base.specs.Basics.{pick}
+use Rattle.spec_language.specs.Order.{order, upTo}
+use Rattle.front_draft.specs.Draft.{entryOf}
+use Rattle.front_draft.specs.Entry.{kindOf}
+use Rattle.check_graph.specs.Matrix.{cell}
+use Rattle.check_faults.specs.Checks.{matrixOn}
+use Rattle.back_counts.specs.Counts.{total}
+use Rattle.back_schedule.specs.declared.Order.{Order}
+use Rattle.back_schedule.specs.declared.Order.the-variants.{Complete, Circular}
+
+-- the mark of a behaviour whose entry is v: 0 for a passive or an immediate handler, 1 for whoever is met at once
+unfoldable pub markOf : ℕ → ℕ
+markOf v = pick (eqb (kindOf v) 1) 0 (pick (eqb (kindOf v) 2) 0 1)
+
+-- the first n marks on event e
+pub record MarksAre (d : List ℕ) (e n : ℕ) (marks : List ℕ) : Type 0 where
+  pub each-mark : (i : ℕ) → i < n → getD marks i 0 ≡ markOf (entryOf d e i)
+
+-- the order of n behaviours on event e
+unfoldable pub orderUnder : List ℕ → ℕ → ℕ → List ℕ
+orderUnder d e n = order n (λ i j. cell (matrixOn d e n) i j) n (upTo n (λ i. not (eqb (markOf (entryOf d e i)) 0)))
+
+-- the first count bytes of o are behaviours
+pub record Listed (o : List ℕ) (count n : ℕ) : Type 0 where
+  pub long : count ≤ length o
+  pub below : (j : ℕ) → j < count → getD o j 0 < n
+
+-- they are the order is, of n behaviours
+pub record Holds (o : List ℕ) (count n : ℕ) (is : List ℕ) : Type 0 where
+  pub taken : take count o ≡ is
+  pub listed : Listed o count n
+
+-- how many have a turn in phase one
+unfoldable pub countTurns : List ℕ → ℕ → ℕ → ℕ
+countTurns d e n = total n (λ i. 1 - markOf (entryOf d e i))
+
+-- all of them stand in the order
+unfoldable pub isOrdered : List ℕ → ℕ → ℕ → Bool
+isOrdered d e n = not (ltb (length (orderUnder d e n)) (countTurns d e n))
+
+-- what the check found, and the bytes of the order
+abbrev pub Checked : List ℕ → ℕ → ℕ → Order → List ℕ → Type 0
+Checked d e n (Complete count) o = (isOrdered d e n ≡ true) × Holds o count n (orderUnder d e n)
+Checked d e n Circular o = isOrdered d e n ≡ false

@@ -1,3 +1,0 @@
-pub mod Basics
-pub mod Pick
-pub mod Tools

@@ -1,2 +1,0 @@
-pub mod Carry
-pub mod CarryLaws

@@ -1,0 +1,47 @@
+-- What the call `circle` answers, and the list's bytes at exit, for all bytes. 02, M-108: "For a sheet refused by 12, a call lists the behaviours of a circle, each depending on the next, with the event it arises
+-- under, or none. No circle of fewer behaviours exists under an event or under none. It is lent a sheet and parameters; any other sheet gets compile's number as with a full table, or 0, and no list."
+use Prim.Native.Nat.{ℕ, _+_, _*_, _≤_, _<_}
+use mathlib.Core.Path.{_≡_}
+use mathlib.Core.Logic.{_≢_}
+use mathlib.Core.List.{List, _++_, List·Nodup}
+use lib.ListN.{length, drop, replicate}
+use Rattle.spec_language.specs.Syntax.{Program}
+use Rattle.spec_language.specs.Sheet.{Sheet}
+use Rattle.spec_language.specs.Dependence.{noEvent, dependsOn}
+use Rattle.spec_language.specs.Grammar.{encode, SheetFits}
+use Rattle.check_distance.specs.Circle.{Circle}
+use Rattle.check_shortest.specs.Search.{eventNumber}
+use Rattle.back_compile.specs.Verdict.{programOf, compileOn}
+
+-- compile's number for a sheet and the bytes lent for its parameters, with a full table
+unfoldable pub numberOn : List ℕ → List ℕ → ℕ
+numberOn s ps = compileOn s ps (replicate 34816 0) .0
+
+-- an answer, and the list's bytes after the call
+abbrev pub Answered : Type 0
+Answered = ℕ × List ℕ
+
+abbrev pub answered : ℕ → List ℕ → Answered
+answered r l = (r, l)
+
+-- a shortest circle of p, in the first bytes of the list, the others as they were; the answer is 12, the event's number (255 for none) times 256 and the circle's length times 65,536
+pub record Listed (p : Program) (list : List ℕ) (r : ℕ) (list′ : List ℕ) : Type 0 where
+  pub event : ℕ
+  pub declared : event ≤ noEvent p
+  pub members : List ℕ
+  pub circle : Circle (dependsOn p event) members
+  pub shortest : (f : ℕ) → f ≤ noEvent p → (l : List ℕ) → Circle (dependsOn p f) l → length members ≤ length l
+  pub distinct : List·Nodup members
+  pub few : length members ≤ 64
+  pub answer : r ≡ 12 + eventNumber event (noEvent p) * 256 + length members * 65536
+  pub bytes : list′ ≡ members ++ drop (length members) list
+
+-- of the program of the sheet that the bytes s encode, the bytes ps being lent for its parameters
+pub record EachListed (s ps list : List ℕ) (r : ℕ) (list′ : List ℕ) : Type 0 where
+  pub each-sheet : (x : Sheet) → encode x ≡ s → SheetFits x → Listed (programOf ps x) list r list′
+
+-- a list under 64 bytes is refused by 1, before anything else
+pub record Witnessed (s ps list : List ℕ) (r : ℕ) (list′ : List ℕ) : Type 0 where
+  pub short : length list < 64 → answered r list′ ≡ answered 1 list
+  pub other : 64 ≤ length list → numberOn s ps ≢ 12 → answered r list′ ≡ answered (numberOn s ps) list
+  pub circular : 64 ≤ length list → numberOn s ps ≡ 12 → EachListed s ps list r list′

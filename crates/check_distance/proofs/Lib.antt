@@ -1,0 +1,4 @@
+pub mod Shorter
+pub mod Walks
+pub mod LayerLaws
+pub mod WalkLaws

@@ -1,0 +1,31 @@
+-- `layers::walk` meets its contract. The loop keeps: those listed lead to where it stands, and the steps left lead to i. Assumes nothing.
+use Prim.Native.Nat.{_-_}
+use native.Mathlib.Omega.{arith}
+use Rattle.check_distance.proofs.WalkLaws.{Going, going-start, going-turn, going-end}
+use Rattle.check_distance.proofs.walk.Statement.{statement}
+use Rattle.check_distance.proofs.walk.Tie as tie
+
+abbrev Inv-loop : tie.InvT-loop
+Inv-loop m s i r n list₀ at₀ t₀ list at t = Going m n i r list₀ list at t
+
+abbrev μ-loop : tie.MeasureT-loop
+μ-loop m s i r n list₀ at₀ t₀ list at t = r - t
+
+pub walk-spec : {M : Type 1} → statement M
+walk-spec =
+    tie.close
+    (tie.spec
+    Inv-loop
+    μ-loop
+    (λ c. let p = c .before .before .before .pre in going-start _ _ _ _ _ (p .0 .2) (p .1 .2))
+    (λ c. omega (arith, c .before .loop .inv .here))
+    (λ c. omega (arith, c .before .loop .inv .long))
+    (λ c. omega arith)
+    (λ c. omega arith)
+    (λ c κs. let p = c .before .before .before .before .before .pre .0 in (p .0, p .1, omega arith, omega (arith, c .before .loop .inv .here), p .3))
+    (λ c. omega arith)
+    (λ c. omega arith)
+    (λ c. let p = c .before .before .before .before .before .before .pre in
+    going-turn _ _ _ _ _ (c .before .before .loop .inv) (p .0 .5) (p .0 .3) (p .0 .4) (p .1 .1) (c .before .loop-test .taken) (c .find-onward .ensures))
+    (λ c. c .before .loop .inv .long)
+    (λ c. let p = c .before .before .before .before .before .pre in going-end _ _ _ _ _ (c .before .loop .inv) (p .1 .0) (c .loop-test .left)))

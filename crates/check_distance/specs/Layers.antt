@@ -1,0 +1,66 @@
+-- Walks that end at behaviour i, by their number of steps, on a matrix of 64 columns: cell m j h, that j depends on h (crate graph); cell s k j, that there is a walk of k steps from j.
+use Prim.Native.Nat.{ℕ, zero, suc, _+_, _*_, _-_, _≤_, _<_}
+use mathlib.Core.Bool.{Bool, true, false, _&&_}
+use mathlib.Core.Path.{_≡_}
+use mathlib.Core.List.{List, _++_}
+use lib.Dec.{eqb, ltb}
+use lib.ListN.{length, getD, drop}
+use Rattle.lib_base.specs.Basics.{pick, All}
+use Rattle.check_graph.specs.Matrix.{cell}
+use Rattle.check_faults.specs.Faults.{anyBelow}
+use Rattle.check_distance.specs.Circle.{Circle}
+
+-- there is a walk of k steps from j to i among the first n
+unfoldable pub layer : (ℕ → ℕ → Bool) → ℕ → ℕ → ℕ → ℕ → Bool
+layer dep n zero i j = eqb i j
+layer dep n (suc k) i j = anyBelow n (λ h. dep j h && layer dep n k i h)
+
+-- the lowest of k numbers from a on of which f is true; if there is none, the number after them
+unfoldable pub least : (ℕ → Bool) → ℕ → ℕ → ℕ
+least f zero a = a
+least f (suc k) a = elim (f a) [ true ↦ a | false ↦ least f k (suc a) ]
+
+-- how many steps lead from i back to i, at least one and at most n; n + 1 if there is no such walk
+unfoldable pub stepsBack : (ℕ → ℕ → Bool) → ℕ → ℕ → ℕ
+stepsBack dep n i = least (λ k. layer dep n k i i) n 1
+
+-- ---- what the code does
+
+-- r is the lowest below n of which f is true, n if there is none
+pub record Lowest (f : ℕ → Bool) (n r : ℕ) : Type 0 where
+  pub within : r ≤ n
+  pub before : (h : ℕ) → h < r → f h ≡ false
+  pub found : r < n → f r ≡ true
+
+-- from j on to one that has a walk of k steps
+unfoldable pub onward : List ℕ → List ℕ → ℕ → ℕ → ℕ → Bool
+onward m s k j h = pick (eqb (getD m (j * 64 + h) 0) 0) false (cell s k h)
+
+unfoldable pub bit : ℕ → ℕ → ℕ
+bit r n = pick (ltb r n) 1 0
+
+-- the walks of 0 steps to i
+pub record Begun (n i : ℕ) (s : List ℕ) : Type 0 where
+  pub row : (j : ℕ) → j < n → cell s 0 j ≡ eqb i j
+
+-- those of k + 1 steps, from those of k
+pub record Filled (m : List ℕ) (n k : ℕ) (s s′ : List ℕ) : Type 0 where
+  pub same : (x : ℕ) → x < (k + 1) * 64 → getD s′ x 0 ≡ getD s x 0
+  pub row : (j : ℕ) → j < n → cell s′ (k + 1) j ≡ anyBelow n (λ h. onward m s k j h)
+
+-- s has the walks to i of up to k steps
+pub record Layered (m : List ℕ) (n i : ℕ) (s : List ℕ) (k : ℕ) : Type 0 where
+  pub walks : (q j : ℕ) → q ≤ k → j < n → cell s q j ≡ layer (λ a b. cell m a b) n q i j
+
+-- r steps lead from i back to i, and s has the walks of fewer
+pub record Back (m : List ℕ) (n i r : ℕ) (s : List ℕ) : Type 0 where
+  pub steps : r ≡ stepsBack (λ a b. cell m a b) n i
+  pub layers : r ≤ n → Layered m n i s (r - 1)
+
+-- r of the first n, each depending on the next and the last on the first, are the first bytes of the list; its other bytes are as they were
+pub record Walked (m : List ℕ) (n r : ℕ) (list list′ : List ℕ) : Type 0 where
+  pub members : List ℕ
+  pub count : length members ≡ r
+  pub below : All (λ j. j < n) members
+  pub circle : Circle (λ a b. cell m a b) members
+  pub bytes : list′ ≡ members ++ drop r list

@@ -1,0 +1,25 @@
+-- The empty matrix: its length, and a zero everywhere.
+use Prim.Native.Nat.{ℕ, zero, suc, _<_}
+use mathlib.Core.Path.{_≡_, refl}
+use mathlib.Core.List.{List}
+use native.Mathlib.Omega.{arith}
+use lib.ListN.{length, getD, replicate, length-replicate}
+use lib.Seq.{ext-getD}
+use Rattle.check_faults.specs.Checks.{blank}
+
+zero-in : (n i : ℕ) → getD {A = ℕ} (replicate n 0) i 0 ≡ 0
+zero-in zero i = refl
+zero-in (suc n) zero = refl
+zero-in (suc n) (suc i) = zero-in n i
+
+pub blank-at : (n i : ℕ) → getD (blank n) i 0 ≡ 0
+unfolding blank
+blank-at n i = zero-in n i
+
+pub length-blank : (n : ℕ) → length (blank n) ≡ n
+unfolding blank
+length-blank n = length-replicate n 0
+
+-- zeros everywhere make it
+pub blank-is : (n : ℕ) (m : List ℕ) → length m ≡ n → ((i : ℕ) → i < n → getD m i 0 ≡ 0) → m ≡ blank n
+blank-is n m l h = ext-getD 0 m (blank n) (rw length-blank l) (λ i b. rw blank-at (h i (omega arith)))

@@ -1,0 +1,6 @@
+pub mod Blank
+pub mod Any
+pub mod NamesAgree
+pub mod MatrixAgrees
+pub mod CycleDecides
+pub mod DraftChecks

@@ -1,0 +1,131 @@
+// The checks of a whole program, on its draft (layout: draft, specs/Draft.antt): names that no behaviour has, cycles.
+// Time: the names take one pass over the nodes. The cycles take, for each of ev events and for none, a pass over the nodes of the entries for their names,
+// and the closure of a matrix of bs behaviours: in all (ev + 1) * (nodes + bs * bs * bs), and 4096 for clearing each matrix.
+ghost use mathlib.Core.Path.{_≡_};
+ghost use Prim.Native.Nat.{_+_, _*_, _≤_, _<_};
+ghost use lib.ListN.{length};
+ghost use Rattle.front_draft.specs.Entry.{startOf, countOf};
+ghost use Rattle.front_draft.specs.Draft.{draftLength, usedBy};
+ghost use Rattle.check_faults.specs.Checks.{stray, namesKnown, blank, markNode, markNodes, markEntry, matrixOn, closedOn, cyclicOn, RowsInside, AllInside};
+
+fn is_stray(x: u64, b: usize) -> bool
+    ensures { λ r. ⌜ r ≡ stray x b ⌝ }
+{
+    if x / 4294967296 == 17 {
+        return x % 4294967296 >= b as u64;
+    }
+    false
+}
+
+// Whether every name among the first n nodes is that of one of b behaviours.
+pub fn names_known(d: &[u64], n: usize, b: usize) -> bool
+    requires { ⌜ (length (now d) ≡ draftLength) × (n ≤ 2048) ⌝ }
+    ensures { λ r. ⌜ r ≡ namesKnown (now (d .entry)) b n ⌝ }
+{
+    let mut k = n;
+    while k > 0 {
+        k -= 1;
+        if is_stray(d[k], b) {
+            return false;
+        }
+    }
+    true
+}
+
+fn clear(m: &mut [u8])
+    requires { ⌜ length (now m) ≡ 4096 ⌝ }
+    ensures { λ _. ⌜ now (m .exit) ≡ blank 4096 ⌝ }
+{
+    let mut k = 0;
+    while k < 4096 {
+        m[k] = 0;
+        k += 1;
+    }
+}
+
+fn mark_node(m: &mut [u8], i: usize, but: usize, x: u64)
+    requires { ⌜ (length (now m) ≡ 4096) × (i < 64) ⌝ }
+    ensures { λ _. ⌜ now (m .exit) ≡ markNode (now (m .entry)) i but x ⌝ }
+{
+    if x / 4294967296 == 17 {
+        let j = (x % 4294967296) as usize;
+        if j < 64 {
+            if j != but {
+                m[i * 64 + j] = 1;
+            }
+        }
+    }
+}
+
+// The names among count nodes from start on, as behaviour i means them.
+fn mark_nodes(d: &[u64], m: &mut [u8], i: usize, but: usize, start: usize, count: usize)
+    requires { ⌜ (length (now d) ≡ draftLength) × (length (now m) ≡ 4096) × (i < 64) × (start + count ≤ 2048) ⌝ }
+    ensures { λ _. ⌜ now (m .exit) ≡ markNodes (usedBy (now (d .entry)) i) (now (m .entry)) i but start count ⌝ }
+{
+    let mut k = 0;
+    while k < count {
+        mark_node(m, i, but, front_draft::moved_node(d, i, d[start + k]));
+        k += 1;
+    }
+}
+
+// The needs of behaviour i with entry v: later handlers have none, an active's own name is none.
+fn mark_entry(d: &[u64], m: &mut [u8], i: usize, v: u64)
+    requires { ⌜ (length (now d) ≡ draftLength) × (length (now m) ≡ 4096) × (i < 64) × (startOf v + countOf v ≤ 2048) ⌝ }
+    ensures { λ _. ⌜ now (m .exit) ≡ markEntry (now (d .entry)) (now (m .entry)) i v ⌝ }
+{
+    let start = (v / 4 % 4096) as usize;
+    let count = (v / 16384) as usize;
+    if v % 4 == 1 {
+        mark_nodes(d, m, i, 64, start, count);
+        return;
+    }
+    if v % 4 == 2 {
+        mark_nodes(d, m, i, i, start, count);
+    }
+}
+
+// The dependence matrix of the first n behaviours on event e.
+pub fn fill_matrix(d: &[u64], e: usize, n: usize, m: &mut [u8])
+    requires { ⌜ (length (now d) ≡ draftLength) × (length (now m) ≡ 4096) × (e ≤ 32) × (n ≤ 64) × RowsInside (now d) e n ⌝ }
+    ensures { λ _. ⌜ now (m .exit) ≡ matrixOn (now (d .entry)) e n ⌝ }
+{
+    clear(m);
+    let mut i = 0;
+    while i < n {
+        mark_entry(d, m, i, front_draft::entry_of(d, e, i));
+        i += 1;
+    }
+}
+
+// The same with whatever is reached by a chain.
+fn close_under(d: &[u64], e: usize, n: usize, m: &mut [u8])
+    requires { ⌜ (length (now d) ≡ draftLength) × (length (now m) ≡ 4096) × (e ≤ 32) × (n ≤ 64) × RowsInside (now d) e n ⌝ }
+    ensures { λ _. ⌜ now (m .exit) ≡ closedOn (now (d .entry)) e n ⌝ }
+{
+    fill_matrix(d, e, n, m);
+    check_graph::close_matrix(m, n);
+}
+
+// Whether, on one of ev events or on none, one of bs behaviours is reached from itself (01: a circle).
+pub fn has_cycle(d: &[u64], ev: usize, bs: usize) -> bool
+    requires { ⌜ (length (now d) ≡ draftLength) × (ev ≤ 32) × (bs ≤ 64) × AllInside (now d) ev bs ⌝ }
+    ensures { λ r. ⌜ r ≡ cyclicOn (now (d .entry)) ev bs ⌝ }
+{
+    let mut m = [0u8; 4096];
+    let mut found = false;
+    let mut e = 0;
+    'search: while e <= ev {
+        close_under(d, e, bs, &mut m);
+        let mut b = 0;
+        while b < bs {
+            if check_graph::reaches_itself(&m, b) {
+                found = true;
+                break 'search;
+            }
+            b += 1;
+        }
+        e += 1;
+    }
+    found
+}

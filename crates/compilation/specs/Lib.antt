@@ -1,5 +1,0 @@
-pub mod Figure3
-pub mod InTable
-pub mod Parts
-pub mod Derived
-pub mod Compiles

@@ -1,0 +1,187 @@
+// The desk program's format: how its fields are judged, and the lines that it prints. 01 "The desk program". Tags are 20 to 23 in hexadecimal, 32 to 35 in decimal.
+ghost use mathlib.Core.Path.{_≡_};
+ghost use mathlib.Core.List.{_++_, _∷_};
+ghost use Prim.Native.Nat.{_+_, _*_, _≤_};
+ghost use lib.ListN.{length, take};
+ghost use Rattle.io.specs.Counts.{Counts};
+ghost use Rattle.desk_format.specs.Script.{headVerdict, due, playVerdict, valueVerdict, endsAfter, numberIn, decimal, signedText, refusalLine, commitLine, stepLine, boardLine};
+
+// What a field's header is refused for: 4 where fewer than 3 bytes were there, 5 for another tag; else 0.
+pub fn judge_head(got: usize, tag: u8) -> u8
+    ensures { λ r. ⌜ r ≡ headVerdict got tag ⌝ }
+{
+    if got < 3 {
+        return 4;
+    }
+    if tag < 32 {
+        return 5;
+    }
+    if tag > 35 {
+        return 5;
+    }
+    0
+}
+
+// The length that an arrival, a count of steps or a show has.
+fn due_length(tag: u8) -> usize
+    ensures { λ r. ⌜ r ≡ due tag ⌝ }
+{
+    if tag == 33 {
+        return 1;
+    }
+    if tag == 34 {
+        return 2;
+    }
+    0
+}
+
+// An arrival, a count of steps or a show that is whole; `ready` says whether a sheet was accepted.
+fn judge_play(size: usize, length: usize, ready: bool) -> u8
+    ensures { λ r. ⌜ r ≡ playVerdict size length ready ⌝ }
+{
+    if size != length {
+        return 6;
+    }
+    if ready {
+        return 0;
+    }
+    14
+}
+
+// What a field's value is refused for: 4 where fewer bytes were there than its size; 6 and 14 for an arrival, a count of steps or a show; else 0.
+pub fn judge_value(tag: u8, size: usize, got: usize, ready: bool) -> u8
+    ensures { λ r. ⌜ r ≡ valueVerdict tag size got ready ⌝ }
+{
+    if got < size {
+        return 4;
+    }
+    if tag == 32 {
+        return 0;
+    }
+    judge_play(size, due_length(tag), ready)
+}
+
+// Whether the program ends after a field of this verdict.
+pub fn ends(verdict: u8) -> bool
+    ensures { λ r. ⌜ r ≡ endsAfter verdict ⌝ }
+{
+    if verdict == 0 {
+        return false;
+    }
+    if verdict == 14 {
+        return false;
+    }
+    true
+}
+
+// The event byte of an arrival, or the two-byte count of steps.
+pub fn number(value: &[u8]) -> u32
+    ensures { λ r. ⌜ r ≡ numberIn (now (value .entry)) ⌝ }
+{
+    if value.len() == 1 {
+        return value[0] as u32;
+    }
+    if value.len() == 2 {
+        return lib_word::get_half(value, 0) as u32;
+    }
+    0
+}
+
+// Puts text after the first `at` bytes of out; where it ends.
+fn put(out: &mut [u8], at: usize, text: &[u8]) -> usize
+    requires { ⌜ at + length (now text) ≤ length (now out) ⌝ }
+    ensures { λ r. ⌜ Counts r (now (out .exit)) ⌝ }
+    ensures { λ r. ⌜ r ≡ at + length (now (text .entry)) ⌝ }
+    ensures { λ r. ⌜ take r (now (out .exit)) ≡ take at (now (out .entry)) ++ now (text .entry) ⌝ }
+{
+    let n = bytes::copy(text, &mut out[at..]);
+    at + n
+}
+
+// Puts n in decimal.
+fn put_decimal(out: &mut [u8], at: usize, n: u64) -> usize
+    requires { ⌜ at + 20 ≤ length (now out) ⌝ }
+    ensures { λ r. ⌜ r ≤ at + 20 ⌝ }
+    ensures { λ r. ⌜ take r (now (out .exit)) ≡ take at (now (out .entry)) ++ decimal n ⌝ }
+{
+    let mut digits = [0u8; 20];
+    let k = io::decimal(n, &mut digits);
+    put(out, at, &digits[..k])
+}
+
+// Puts the signed number that a 32-bit word stands for.
+fn put_signed(out: &mut [u8], at: usize, w: u32) -> usize
+    requires { ⌜ at + 21 ≤ length (now out) ⌝ }
+    ensures { λ r. ⌜ r ≤ at + 21 ⌝ }
+    ensures { λ r. ⌜ take r (now (out .exit)) ≡ take at (now (out .entry)) ++ signedText w ⌝ }
+{
+    if w < 2147483648 {
+        return put_decimal(out, at, w as u64);
+    }
+    let n = put(out, at, b"-");
+    put_decimal(out, n, 4294967296 - (w as u64))
+}
+
+// Puts a space and a value.
+fn put_value(out: &mut [u8], at: usize, w: u32) -> usize
+    requires { ⌜ at + 22 ≤ length (now out) ⌝ }
+    ensures { λ r. ⌜ r ≤ at + 22 ⌝ }
+    ensures { λ r. ⌜ take r (now (out .exit)) ≡ take at (now (out .entry)) ++ (32 ∷ signedText w) ⌝ }
+{
+    let n = put(out, at, b" ");
+    put_signed(out, n, w)
+}
+
+// The line of a refusal: R and its number. How many bytes it has.
+pub fn refusal(n: u64, out: &mut [u8]) -> usize
+    requires { ⌜ 64 ≤ length (now out) ⌝ }
+    ensures { λ r. ⌜ Counts r (now (out .exit)) ⌝ }
+    ensures { λ r. ⌜ take r (now (out .exit)) ≡ refusalLine n ⌝ }
+{
+    let a = put(out, 0, b"R ");
+    let b = put_decimal(out, a, n);
+    put(out, b, b"\n")
+}
+
+// The line of a commit: C, the arrival's number and the event's.
+fn commit(n: u64, e: u64, out: &mut [u8]) -> usize
+    requires { ⌜ 64 ≤ length (now out) ⌝ }
+    ensures { λ r. ⌜ Counts r (now (out .exit)) ⌝ }
+    ensures { λ r. ⌜ take r (now (out .exit)) ≡ commitLine n e ⌝ }
+{
+    let a = put(out, 0, b"C ");
+    let b = put_decimal(out, a, n);
+    let c = put(out, b, b" ");
+    let d = put_decimal(out, c, e);
+    put(out, d, b"\n")
+}
+
+// What a step's answer prints; nothing where it is neither a refusal nor a commit.
+pub fn step_line(answer: u64, out: &mut [u8]) -> usize
+    requires { ⌜ 64 ≤ length (now out) ⌝ }
+    ensures { λ r. ⌜ Counts r (now (out .exit)) ⌝ }
+    ensures { λ r. ⌜ take r (now (out .exit)) ≡ stepLine answer ⌝ }
+{
+    if answer == 14 {
+        return refusal(14, out);
+    }
+    if answer % 16 == 3 {
+        return commit(answer / 65536 % 1099511627776, answer / 256 % 256, out);
+    }
+    0
+}
+
+// The line of a show: B and the values in order.
+pub fn board_line(values: &[u32], out: &mut [u8]) -> usize
+    requires { ⌜ 2 + length (now values) * 22 ≤ length (now out) ⌝ }
+    ensures { λ r. ⌜ Counts r (now (out .exit)) ⌝ }
+    ensures { λ r. ⌜ take r (now (out .exit)) ≡ boardLine (now (values .entry)) ⌝ }
+{
+    let mut at = put(out, 0, b"B");
+    let mut i = 0;
+    while i < values.len() {
+        at = put_value(out, at, values[i]);
+        i += 1;
+    }
+    put(out, at, b"\n")
+}

@@ -1,3 +1,0 @@
-pub mod Entry
-pub mod Draft
-pub mod DraftLaws

@@ -1,0 +1,174 @@
+-- 02, M-106, "A rest day": what the exported calls do with a sheet of no bytes. By demand 3's theorem the calls answer as the model engine does, which for a program
+-- with no events and no behaviours stays as it began.
+use Prim.Native.Nat.{ℕ, _≤_, _<_}
+use mathlib.Core.Bool.{true≢false}
+use mathlib.Core.Path.{_≡_, refl, sym, ap, _∙_}
+use mathlib.Core.Logic.{_≢_}
+use mathlib.Core.List.{List, [], _∷_, _++_, sum, flatMap}
+use native.Mathlib.Omega.{arith}
+use lib.ListN.{length}
+use lib.Dec.{leb}
+use borrow.Author.Tests.{le-leb, lt-leb}
+use Rattle.lib_base.proofs.Tools.{by-test}
+use Rattle.lib_word.specs.Word.{get}
+use Rattle.spec_language.specs.Syntax.{Program}
+use Rattle.spec_language.specs.Sheet.{Sheet, cellCount, entriesOut, fillEntries, usesEntries}
+use Rattle.spec_language.specs.Dependence.{handled, dependsOn, Reach, one, more}
+use Rattle.spec_language.specs.Grammar.{encodeBehaviours, encodeEvents, encode}
+use Rattle.spec_language.specs.Order.{upTo}
+use Rattle.spec_language.specs.Code.{allInstructions}
+use Rattle.spec_language.specs.Accepted.{Accepted, SheetAccepted}
+use Rattle.spec_language.specs.Reading.{sheet}
+use Rattle.spec_model.specs.Model.{Engine, initial, Call, arrive, step, board, Outcome, act, run}
+use Rattle.spec_model.specs.Claims.{after}
+use Rattle.format_image.specs.Image.{tableOf}
+use Rattle.run_start.specs.Start.{Result, startOn}
+use Rattle.run_arrive.specs.Arrivals.{arriveOn}
+use Rattle.run_board.specs.Board.{boardOn}
+use Rattle.refine_calls.specs.Refinement.{coded, callOn, roundAfter}
+use Rattle.back_compile.specs.Verdict.{Compiled, compiled, programOf, compileOn}
+use Rattle.back_compile.proofs.AcceptedExactly.{accepted-exactly, never-two}
+use Rattle.engine.specs.Demand.{IdleNow}
+use Rattle.engine.proofs.Runs.{next-answer}
+use Rattle.refine_lists.proofs.Sheets.{begun}
+use Rattle.engine.proofs.Holds as holds
+
+-- "a sheet with no events and no behaviours"
+abbrev pub blank : Sheet
+blank = sheet [] []
+
+-- the program that it means, whatever its parameters are
+abbrev pub nothing : Program
+nothing = record { priorities = []; senders = []; behaviours = []; viewers = [] }
+
+-- "its round idle, every arrival refused by 15 and every board reading by 18": after the calls cs on the table t and the round l, of each of the eight players (02, M-107: 24 for
+-- others)
+pub record AtRest (t l : List ℕ) (cs : List Call) : Type 0 where
+  pub idle : IdleNow t (roundAfter t cs l)
+  pub arrivals : (e who : ℕ) → who < 8 → arriveOn t (roundAfter t cs l) e who .0 ≡ 15
+  pub readings : (i who : ℕ) → who < 8 → boardOn t (roundAfter t cs l) i who ≡ 18
+
+-- "On rest days the sheet store sends a sheet of no bytes. It shall mean a sheet with no events and no behaviours: accepted", in any table bytes t₀ and round bytes l₀
+-- of 01's lengths
+pub record RestDay : Type 0 where
+  -- no bytes are the encoding of that sheet, which meets 01's grammar and limits and means that program, whatever is lent for parameters
+  pub bytes : encode blank ≡ []
+  pub within : (ps : List ℕ) → SheetAccepted (get ps) (length ps) blank
+  pub means : (ps : List ℕ) → programOf ps blank ≡ nothing
+  -- compile takes the sheet, and leaves that program's table
+  pub accepted : (ps t₀ : List ℕ) → 34816 ≤ length t₀ → compileOn [] ps t₀ .0 ≡ 0
+  pub table : (ps t₀ : List ℕ) → 34816 ≤ length t₀ → compileOn [] ps t₀ .1 ≡ tableOf nothing t₀
+  pub begun : (ps t₀ l₀ : List ℕ) → 34816 ≤ length t₀ → 2048 ≤ length l₀ → startOn (compileOn [] ps t₀ .1) l₀ .0 ≡ 0
+  pub at-rest : (ps t₀ l₀ : List ℕ) → 34816 ≤ length t₀ → 2048 ≤ length l₀ → (cs : List Call)
+      → AtRest (compileOn [] ps t₀ .1) (startOn (compileOn [] ps t₀ .1) l₀ .1) cs
+  -- "Number 2 never occurs again."
+  pub never-blank : (s ps t : List ℕ) → compileOn s ps t .0 ≢ 2
+
+-- ---- it is accepted
+
+no-bytes : encode blank ≡ []
+unfolding encode encodeEvents encodeBehaviours
+no-bytes = refl
+
+-- nothing depends on anything
+no-chain : (e : ℕ) {i j : ℕ} → Reach (dependsOn nothing e) i j → ⊥
+unfolding handled
+no-chain e (one d) = true≢false (sym d)
+no-chain e (more r d) = no-chain e r
+
+nothing-accepted : Accepted nothing
+unfolding allInstructions sum upTo
+nothing-accepted = record {
+  fits = record {
+    few-events = omega arith;
+    few-behaviours = omega arith;
+    scale = tt;
+    each = tt;
+    all-senders = refl;
+    all-viewers = refl;
+    send-bytes = tt;
+    view-bytes = tt;
+  };
+  known = tt;
+  acyclic = λ e _ i r. no-chain e r;
+  short = omega arith;
+}
+
+means-nothing : (ps : List ℕ) → programOf ps blank ≡ nothing
+unfolding fillEntries entriesOut flatMap
+means-nothing ps = refl
+
+blank-accepted : (ps : List ℕ) → SheetAccepted (get ps) (length ps) blank
+unfolding fillEntries usesEntries entriesOut flatMap cellCount
+blank-accepted ps = record {
+  fits = record {
+    few-events = omega arith;
+    few-behaviours = omega arith;
+    scale = tt;
+    each = tt;
+    few-bytes = rw no-bytes (omega arith);
+  };
+  known = nothing-accepted .known;
+  given = λ u. absurd (true≢false (sym u));
+  acyclic = nothing-accepted .acyclic;
+  short = nothing-accepted .short;
+}
+
+compiles : (ps t₀ : List ℕ) → 34816 ≤ length t₀ → compileOn [] ps t₀ ≡ compiled 0 (tableOf nothing t₀)
+compiles ps t₀ room =
+    accepted-exactly [] ps t₀ tt room .1 blank no-bytes (blank-accepted ps) ∙ ap (λ (p : Program). compiled 0 (tableOf p t₀)) (means-nothing ps)
+
+table-is : (ps t₀ : List ℕ) → 34816 ≤ length t₀ → compileOn [] ps t₀ .1 ≡ tableOf nothing t₀
+table-is ps t₀ room = ap (λ (r : Compiled). r .1) (compiles ps t₀ room)
+
+-- ---- its round rests
+
+-- no arrival changes it
+refuses : (e who : ℕ) → act nothing (arrive e who) (initial nothing) .after ≡ initial nothing
+unfolding act
+refuses e who =
+    by-test (λ (o : Outcome). o .after ≡ initial nothing) (leb 8 who) (λ _. refl) (λ _. rw (le-leb 0 e (omega arith)))
+
+stays : (cs : List Call) → after nothing cs ≡ initial nothing
+unfolding act run
+stays [] = refl
+stays (arrive e who ∷ cs) = ap (λ (w : Engine). run nothing cs w) (refuses e who) ∙ stays cs
+stays (step ∷ cs) = stays cs
+stays (board i who ∷ cs) = stays cs
+
+module _ (ps t₀ l₀ : List ℕ) (room : 34816 ≤ length t₀) (round-room : 2048 ≤ length l₀) where
+  abbrev table : List ℕ
+  table = compileOn [] ps t₀ .1
+
+  abbrev round : List ℕ
+  round = startOn table l₀ .1
+
+  -- one more call is answered as by the model engine that has just begun
+  answers : (cs : List Call) (c : Call) → callOn table c (roundAfter table cs round) .0 ≡ coded (act nothing c (initial nothing) .answer)
+  answers cs c =
+      next-answer nothing table cs c round (initial nothing) (holds.one nothing nothing-accepted t₀ l₀ table room round-room (table-is ps t₀ room) (cs ++ (c ∷ [])) .answers)
+      ∙ ap (λ (w : Engine). coded (act nothing c w .answer)) (stays cs)
+
+  rests : (cs : List Call) → AtRest table round cs
+  unfolding callOn act
+  rests cs = record {
+    idle = answers cs step;
+    arrivals = λ e who h. rw (lt-leb 8 who h, le-leb 0 e (omega arith)) at (answers cs (arrive e who));
+    readings = λ i who h. rw (lt-leb 8 who h, le-leb 0 i (omega arith)) at (answers cs (board i who));
+  }
+
+  starts : startOn table l₀ .0 ≡ 0
+  starts = ap (λ (r : Result). r .0) (begun nothing nothing-accepted t₀ l₀ table room round-room (table-is ps t₀ room))
+
+-- M-106
+pub rest-day : RestDay
+rest-day = record {
+  bytes = no-bytes;
+  within = blank-accepted;
+  means = means-nothing;
+  accepted = λ ps t₀ room. ap (λ (r : Compiled). r .0) (compiles ps t₀ room);
+  table = table-is;
+  begun = starts;
+  at-rest = rests;
+  never-blank = never-two;
+}

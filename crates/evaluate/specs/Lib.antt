@@ -1,4 +1,0 @@
-pub mod Evaluate
-pub mod EvaluateLaws
-pub mod NodesAre
-pub mod FreshIs

@@ -1,3 +1,0 @@
-pub mod Field
-pub mod Expression
-pub mod RestLaws

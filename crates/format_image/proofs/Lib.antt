@@ -1,0 +1,2 @@
+pub mod PutWords
+pub mod ImageLaws

@@ -1,0 +1,249 @@
+// The reader of one behaviour and its handlers: from the bytes of its field to its place in the draft, the first fault met from left to right.
+use front_field::Field;
+use front_field::Read;
+ghost use mathlib.Core.Path.{_≡_};
+ghost use Prim.Native.Nat.{_<_, _≤_, _*_, _+_};
+ghost use lib.ListN.{length};
+ghost use Rattle.front_field.specs.Expression.{out, ReadIn};
+ghost use Rattle.front_draft.specs.Draft.{draftLength};
+ghost use Rattle.front_behaviours.specs.Handler.{entryAt, handlerAt, handlerOf, handlersOf, BodyIn, faultOf};
+ghost use Rattle.front_behaviours.specs.Behaviour.{passiveOf, bodyOf, activeOf, cellsOf, rowOf, valueAt, behaviourOf, Counted};
+
+// The number of a refusal; 0 of a reading that is done.
+pub fn fault(r: Read) -> u8
+    ensures { λ k. ⌜ k ≡ faultOf r ⌝ }
+{
+    match r {
+        Read::Done(_, _) => 0,
+        Read::Fault(k) => k,
+    }
+}
+
+// An expression that fills v, of nesting at most 16; its entry goes to `place`. The field has `over` bytes before v.
+fn read_entry(v: &[u8], draft: &mut [u64], n: usize, place: usize, kind: usize, over: usize) -> Read
+    requires { ⌜ n * 4 + length (now v) ≤ 8192 ⌝ }
+    requires { ⌜ length (now draft) ≡ draftLength ⌝ }
+    requires { ⌜ place < draftLength ⌝ }
+    requires { ⌜ kind ≤ 3 ⌝ }
+    requires { ⌜ over ≤ 5 ⌝ }
+    ensures { λ r. ⌜ out r (now (draft .exit)) ≡ entryAt (now (v .entry)) (now (draft .entry)) n place kind over ⌝ }
+    ensures { λ r. ⌜ BodyIn (length (now (v .entry)) + over) n r ⌝ }
+{
+    let r = front_field::read_expr(16, v, draft, n);
+    let Read::Done(size, m) = r else {
+        return r;
+    };
+    if size != v.len() {
+        return Read::Fault(6);
+    }
+    draft[place] = (((m - n) * 4096 + n) * 4 + kind) as u64;
+    Read::Done(size + over, m)
+}
+
+// A handler's value: event, phase, doubled, expression. `events` are declared; the handler is one of behaviour i.
+fn read_handler_value(v: &[u8], events: usize, i: usize, draft: &mut [u64], n: usize) -> Read
+    requires { ⌜ n * 4 + length (now v) ≤ 8192 ⌝ }
+    requires { ⌜ length (now draft) ≡ draftLength ⌝ }
+    requires { ⌜ events ≤ 32 ⌝ }
+    requires { ⌜ i < 64 ⌝ }
+    ensures { λ r. ⌜ out r (now (draft .exit)) ≡ handlerAt (now (v .entry)) events i (now (draft .entry)) n ⌝ }
+    ensures { λ r. ⌜ BodyIn (length (now (v .entry)) + 3) n r ⌝ }
+{
+    if v.len() == 0 {
+        return Read::Fault(6);
+    }
+    let e = v[0] as usize;
+    if events <= e {
+        return Read::Fault(8);
+    }
+    if v.len() == 1 {
+        return Read::Fault(6);
+    }
+    let phase = v[1] as usize;
+    if 1 < phase {
+        return Read::Fault(8);
+    }
+    let place = 2048 + i * 32 + e;
+    if draft[place] != 0 {
+        return Read::Fault(10);
+    }
+    read_entry(&v[2..], draft, n, place, 2 + phase, 5)
+}
+
+// A handler at the front of s.
+fn read_handler(s: &[u8], events: usize, i: usize, draft: &mut [u64], n: usize) -> Read
+    requires { ⌜ n * 4 + length (now s) ≤ 8192 ⌝ }
+    requires { ⌜ length (now draft) ≡ draftLength ⌝ }
+    requires { ⌜ events ≤ 32 ⌝ }
+    requires { ⌜ i < 64 ⌝ }
+    ensures { λ r. ⌜ out r (now (draft .exit)) ≡ handlerOf (now (s .entry)) events i (now (draft .entry)) n ⌝ }
+    ensures { λ r. ⌜ ReadIn (length (now (s .entry))) n r ⌝ }
+{
+    let a = front_field::field_answer(s, 5, 5);
+    let Field::Value(_, _) = a else {
+        return Read::Fault(front_field::number(a));
+    };
+    read_handler_value(front_field::field_value(s, 5, 5), events, i, draft, n)
+}
+
+// The handlers of behaviour i, whose value is v, after its start, up to the end or a tag 08: the place after them.
+fn read_handlers(v: &[u8], events: usize, i: usize, draft: &mut [u64], n: usize) -> Read
+    requires { ⌜ 7 ≤ length (now v) ⌝ }
+    requires { ⌜ n * 4 + length (now v) ≤ 8192 ⌝ }
+    requires { ⌜ length (now draft) ≡ draftLength ⌝ }
+    requires { ⌜ events ≤ 32 ⌝ }
+    requires { ⌜ i < 64 ⌝ }
+    ensures { λ r. ⌜ out r (now (draft .exit)) ≡ handlersOf (length (now (v .entry))) (now (v .entry)) 7 events i (now (draft .entry)) n ⌝ }
+    ensures { λ r. ⌜ ReadIn (length (now (v .entry))) n r ⌝ }
+{
+    let mut at = 7;
+    let mut m = n;
+    while at != v.len() {
+        if v[at] == 8 {
+            return Read::Done(at, m);
+        }
+        let r = read_handler(&v[at..], events, i, draft, m);
+        let Read::Done(size, next) = r else {
+            return r;
+        };
+        at = at + size;
+        m = next;
+    }
+    Read::Done(at, m)
+}
+
+// What follows an active's start in its value v: its handlers, then who may see it.
+fn read_body(v: &[u8], events: usize, i: usize, draft: &mut [u64], n: usize) -> Read
+    requires { ⌜ 7 ≤ length (now v) ⌝ }
+    requires { ⌜ n * 4 + length (now v) ≤ 8192 ⌝ }
+    requires { ⌜ length (now draft) ≡ draftLength ⌝ }
+    requires { ⌜ events ≤ 32 ⌝ }
+    requires { ⌜ i < 64 ⌝ }
+    ensures { λ r. ⌜ out r (now (draft .exit)) ≡ bodyOf (now (v .entry)) events i (now (draft .entry)) n ⌝ }
+    ensures { λ r. ⌜ BodyIn (length (now (v .entry)) + 3) n r ⌝ }
+{
+    let r = read_handlers(v, events, i, draft, n);
+    let Read::Done(at, m) = r else {
+        return r;
+    };
+    front_viewers::read_ending(&v[at..], i, draft, v.len() + 3, m)
+}
+
+// An active's value: its start, then its handlers and who may see it.
+fn read_active(v: &[u8], events: usize, i: usize, draft: &mut [u64], n: usize) -> Read
+    requires { ⌜ n * 4 + length (now v) ≤ 8192 ⌝ }
+    requires { ⌜ length (now draft) ≡ draftLength ⌝ }
+    requires { ⌜ events ≤ 32 ⌝ }
+    requires { ⌜ i < 64 ⌝ }
+    ensures { λ r. ⌜ out r (now (draft .exit)) ≡ activeOf (now (v .entry)) events i (now (draft .entry)) n ⌝ }
+    ensures { λ r. ⌜ BodyIn (length (now (v .entry)) + 3) n r ⌝ }
+{
+    let a = front_field::field_answer(v, 4, 4);
+    let Field::Value(_, size) = a else {
+        return Read::Fault(front_field::number(a));
+    };
+    if size != 4 {
+        return Read::Fault(6);
+    }
+    let w = front_field::field_value(v, 4, 4);
+    draft[4160 + i] = lib_word::get_at(w, 0) as u64;
+    read_body(v, events, i, draft, n)
+}
+
+// A passive's value: its expression, then who may see it.
+fn read_passive(v: &[u8], i: usize, draft: &mut [u64], n: usize) -> Read
+    requires { ⌜ n * 4 + length (now v) ≤ 8192 ⌝ }
+    requires { ⌜ length (now draft) ≡ draftLength ⌝ }
+    requires { ⌜ i < 64 ⌝ }
+    ensures { λ r. ⌜ out r (now (draft .exit)) ≡ passiveOf (now (v .entry)) i (now (draft .entry)) n ⌝ }
+    ensures { λ r. ⌜ BodyIn (length (now (v .entry)) + 3) n r ⌝ }
+{
+    let r = front_field::read_expr(16, v, draft, n);
+    let Read::Done(size, m) = r else {
+        return r;
+    };
+    draft[4096 + i] = (((m - n) * 4096 + n) * 4 + 1) as u64;
+    front_viewers::read_ending(&v[size..], i, draft, v.len() + 3, m)
+}
+
+// A row of count cells from behaviour i on, with the value v after the count: the first is read as an active, the others are its copies.
+fn read_cells(v: &[u8], count: usize, events: usize, i: usize, draft: &mut [u64], n: usize) -> Read
+    requires { ⌜ n * 4 + length (now v) ≤ 8192 ⌝ }
+    requires { ⌜ length (now draft) ≡ draftLength ⌝ }
+    requires { ⌜ events ≤ 32 ⌝ }
+    requires { ⌜ i < 64 ⌝ }
+    requires { ⌜ i + count ≤ 64 ⌝ }
+    ensures { λ r. ⌜ out r (now (draft .exit)) ≡ cellsOf (now (v .entry)) count events i (now (draft .entry)) n ⌝ }
+    ensures { λ r. ⌜ BodyIn (length (now (v .entry)) + 4) n r ⌝ }
+{
+    let r = read_active(v, events, i, draft, n);
+    let Read::Done(size, m) = r else {
+        return r;
+    };
+    front_rows::copy_row(draft, i, count);
+    Read::Done(size + 1, m)
+}
+
+// A row's value: its cell count, then as an active.
+fn read_row(v: &[u8], events: usize, i: usize, draft: &mut [u64], n: usize) -> Read
+    requires { ⌜ n * 4 + length (now v) ≤ 8192 ⌝ }
+    requires { ⌜ length (now draft) ≡ draftLength ⌝ }
+    requires { ⌜ events ≤ 32 ⌝ }
+    requires { ⌜ i < 64 ⌝ }
+    ensures { λ r. ⌜ out r (now (draft .exit)) ≡ rowOf (now (v .entry)) events i (now (draft .entry)) n ⌝ }
+    ensures { λ r. ⌜ BodyIn (length (now (v .entry)) + 3) n r ⌝ }
+{
+    if v.len() == 0 {
+        return Read::Fault(6);
+    }
+    let count = v[0] as usize;
+    if count < 2 {
+        return Read::Fault(8);
+    }
+    if 16 < count {
+        return Read::Fault(8);
+    }
+    if 64 < i + count {
+        return Read::Fault(7);
+    }
+    read_cells(&v[1..], count, events, i, draft, n)
+}
+
+// The value of a behaviour's field with tag t.
+fn read_value(t: u8, v: &[u8], events: usize, i: usize, draft: &mut [u64], n: usize) -> Read
+    requires { ⌜ n * 4 + length (now v) ≤ 8192 ⌝ }
+    requires { ⌜ length (now draft) ≡ draftLength ⌝ }
+    requires { ⌜ events ≤ 32 ⌝ }
+    ensures { λ r. ⌜ out r (now (draft .exit)) ≡ valueAt t (now (v .entry)) events i (now (draft .entry)) n ⌝ }
+    ensures { λ r. ⌜ BodyIn (length (now (v .entry)) + 3) n r ⌝ }
+    ensures { λ r. ⌜ Counted i r ⌝ }
+{
+    if 64 <= i {
+        return Read::Fault(7);
+    }
+    if t == 2 {
+        return read_passive(v, i, draft, n);
+    }
+    if t == 6 {
+        return read_row(v, events, i, draft, n);
+    }
+    read_active(v, events, i, draft, n)
+}
+
+// Behaviour i at the front of s.
+pub fn read_behaviour(s: &[u8], events: usize, i: usize, draft: &mut [u64], n: usize) -> Read
+    requires { ⌜ n * 4 + length (now s) ≤ 8192 ⌝ }
+    requires { ⌜ length (now draft) ≡ draftLength ⌝ }
+    requires { ⌜ events ≤ 32 ⌝ }
+    ensures { λ r. ⌜ out r (now (draft .exit)) ≡ behaviourOf (now (s .entry)) events i (now (draft .entry)) n ⌝ }
+    ensures { λ r. ⌜ ReadIn (length (now (s .entry))) n r ⌝ }
+    ensures { λ r. ⌜ Counted i r ⌝ }
+{
+    let lo = front_rows::least_tag(s, 2);
+    let hi = front_rows::most_tag(s);
+    let a = front_field::field_answer(s, lo, hi);
+    let Field::Value(t, _) = a else {
+        return Read::Fault(front_field::number(a));
+    };
+    read_value(t, front_field::field_value(s, lo, hi), events, i, draft, n)
+}

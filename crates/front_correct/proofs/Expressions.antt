@@ -1,0 +1,188 @@
+-- The reader by positions finds the fault of the tree reader, or puts the nodes of its expression into the draft.
+-- By induction on the levels left; within an application each argument moves both readers on alike.
+use Prim.Native.Nat.{ℕ, zero, suc, _+_, _*_, _-_, _≤_}
+use mathlib.Core.Bool.{true, false}
+use mathlib.Core.Path.{_≡_, refl, sym, ap, _∙_}
+use mathlib.Core.List.{List, [], _∷_, _++_}
+use native.Mathlib.Omega.{arith}
+use lib.ListN.{length, getD, drop, set, length-drop}
+use lib.Seq.{drop-drop, sets}
+use lib.Dec.{ltb, eqb, eqb·suc-zero}
+use borrow.Author.Tests.{ne-eqb}
+use Rattle.lib_base.specs.Basics.{pick}
+use Rattle.lib_base.proofs.Tools.{split, by-two}
+use Rattle.lib_word.specs.Word.{getAt}
+use Rattle.lib_arith.specs.Functions.{arity}
+use Rattle.spec_language.specs.Syntax.{Expr}
+use Rattle.spec_language.specs.Sheet.{Term, literal, variable, apply1, apply2, apply3, fillTerm}
+use Rattle.spec_language.specs.Code.{sizeOf}
+use Rattle.spec_language.specs.Reading as tree
+use Rattle.spec_language.specs.Reading.{refused, present, fieldAt, Got, bad, got, whole, wordOf, byteOf, then, appOf, paramOf, exprBody, deepest, exprAt}
+use Rattle.front_field.specs.Field.{fieldOf, partOf}
+use Rattle.front_field.specs.Expression.{headAt, headFrom, headOf, Out, out, onward, argsOf, closeAt, bodyOf, exprOf}
+use Rattle.front_field.specs.declared.Field.{Field}
+use Rattle.front_field.specs.declared.Head.{Head}
+use Rattle.front_field.specs.declared.Head.the-variants.{Leaf, Apply, NoHead}
+use Rattle.front_field.specs.declared.Read.the-variants.{Done, Fault}
+use Rattle.front_draft.specs.Draft.{nodes, unfilled}
+use Rattle.front_draft.proofs.DraftLaws.{length-nodes}
+use Rattle.front_correct.proofs.Fields.{valueIn, span, SameField, same-field, value-length, rest-drop, whole-at}
+use Rattle.front_correct.proofs.Stores.{sets-append}
+
+-- ---- nodes
+
+-- an expression as it stands in the draft, its parameters not filled in
+abbrev pub raw : Term → Expr
+raw x = fillTerm unfilled x
+
+-- the nodes of an expression, then others
+sets-nodes : (x : Expr) (l : List ℕ) (i : ℕ) (ys : List ℕ) → sets l i (nodes x ++ ys) ≡ sets (sets l i (nodes x)) (i + sizeOf x) ys
+sets-nodes x l i ys = sets-append l i (nodes x) ys ∙ rw (length-nodes x)
+
+-- ---- both readers
+
+-- what both say of an expression at the front of s that takes `size` bytes, with n nodes in the draft d before it
+abbrev pub SameExpr : List ℕ → ℕ → List ℕ → ℕ → Got Term → Out → Type 0
+SameExpr s size d n (bad k) o = o .0 ≡ Fault k
+SameExpr s size d n (got x r) o =
+    (r ≡ drop size s) × (size ≤ length s) × (sizeOf (raw x) * 4 ≤ size) × (o ≡ out (Done size (n + sizeOf (raw x))) (sets d n (nodes (raw x))))
+
+-- an application's value is v, of the field at the front of s
+module _ (arg : List ℕ → Got Term) (rd : List ℕ → List ℕ → ℕ → Out)
+    (ih : (u d : List ℕ) (n : ℕ) → SameExpr u (span u) d n (arg u) (rd u d n))
+    (s : List ℕ) (size : ℕ) (d₀ : List ℕ) (n₀ : ℕ) (r : List ℕ) (after : r ≡ drop size s) (fits : size ≤ length s) where
+  abbrev Same : Got Term → Out → Type 0
+  Same = SameExpr s size d₀ n₀
+
+  module _ (f : ℕ) (v : List ℕ) (full : length v + 3 ≡ size) where
+    abbrev close : Out → Out
+    close o = onward (o .0) (o .1) (λ at m. closeAt f (length v) at (o .1) m)
+
+    -- one argument, from `at` on
+    step-on : (k at : ℕ) (d : List ℕ) (m : ℕ) (F : Term → List ℕ → Got Term) → at ≤ length v
+        → ((a : Term) (next : ℕ) → next ≤ length v → at + sizeOf (raw a) * 4 ≤ next → Same (F a (drop next v)) (close (argsOf rd k v next (sets d m (nodes (raw a))) (m + sizeOf (raw a)))))
+        → (g : Got Term) (o : Out) → SameExpr (drop at v) (span (drop at v)) d m g o
+        → Same (then g F) (close (onward (o .0) (o .1) (λ size m. argsOf rd k v (at + size) (o .1) m)))
+    step-on k at d m F h go (bad j) o e = rw e refl
+    step-on k at d m F h go (got a u) o e =
+        let q : length (drop at v) ≡ length v - at = length-drop at v in
+        let p : u ≡ drop (at + span (drop at v)) v = e .0 ∙ drop-drop (span (drop at v)) at v in
+        rw (e .3, p) (go a (at + span (drop at v)) (omega arith) (omega arith))
+
+    step : (k at : ℕ) (d : List ℕ) (m : ℕ) (F : Term → List ℕ → Got Term) → at ≤ length v
+        → ((a : Term) (next : ℕ) → next ≤ length v → at + sizeOf (raw a) * 4 ≤ next → Same (F a (drop next v)) (close (argsOf rd k v next (sets d m (nodes (raw a))) (m + sizeOf (raw a)))))
+        → Same (then (arg (drop at v)) F) (close (argsOf rd (suc k) v at d m))
+    unfolding argsOf
+    step k at d m F h go = rw (rest-drop at v) (step-on k at d m F h go (arg (drop at v)) (rd (drop at v) d m) (ih (drop at v) d m))
+
+    -- the end of the arguments
+    end : (at : ℕ) (d : List ℕ) (m : ℕ) (x : Term) → at ≤ length v → sizeOf (raw x) * 4 ≤ at + 3
+        → m + 1 ≡ n₀ + sizeOf (raw x) → set d m (77309411328 + f) ≡ sets d₀ n₀ (nodes (raw x))
+        → Same (whole x (drop at v) r) (close (argsOf rd 0 v at d m))
+    unfolding argsOf closeAt
+    end at d m x h few count same =
+        whole-at Same x v r at _ _ h (λ e. (after, fits, omega arith, (let q : at + 3 ≡ size = omega arith in rw (q, count, same)))) refl
+
+  module _ (f : ℕ) (w : List ℕ) (full : length (f ∷ w) + 3 ≡ size) where
+    one-arg : eqb f 3 ≡ true → Same (tree.argsOf arg f w r) (bodyOf rd (Apply f) (f ∷ w) d₀ n₀)
+    unfolding arity fillTerm nodes sizeOf
+    one-arg e =
+        let q : arity f ≡ 1 = rw e in
+        rw q
+        (step f (f ∷ w) full 0 1 d₀ n₀ _ (omega arith)
+        (λ a i h k. rw e (end f (f ∷ w) full i (sets d₀ n₀ (nodes (raw a))) (n₀ + sizeOf (raw a)) (apply1 f a) h (omega arith) (omega arith)
+        (sym (sets-nodes (raw a) d₀ n₀ ((77309411328 + f) ∷ []))))))
+
+    two-args : eqb f 3 ≡ false → eqb f 14 ≡ false → Same (tree.argsOf arg f w r) (bodyOf rd (Apply f) (f ∷ w) d₀ n₀)
+    unfolding arity fillTerm nodes sizeOf
+    two-args e c =
+        let q : arity f ≡ 2 = rw (e, c) in
+        rw q
+        (step f (f ∷ w) full 1 1 d₀ n₀ _ (omega arith)
+        (λ a i h k. rw e (step f (f ∷ w) full 0 i (sets d₀ n₀ (nodes (raw a))) (n₀ + sizeOf (raw a)) _ h
+        (λ b j h₁ k₁. rw c (end f (f ∷ w) full j (sets (sets d₀ n₀ (nodes (raw a))) (n₀ + sizeOf (raw a)) (nodes (raw b))) (n₀ + sizeOf (raw a) + sizeOf (raw b)) (apply2 f a b) h₁ (omega arith) (omega arith)
+        (sym (sets-nodes (raw a) d₀ n₀ (nodes (raw b) ++ ((77309411328 + f) ∷ [])) ∙ sets-nodes (raw b) (sets d₀ n₀ (nodes (raw a))) (n₀ + sizeOf (raw a)) ((77309411328 + f) ∷ []))))))))
+
+    three-args : eqb f 3 ≡ false → eqb f 14 ≡ true → Same (tree.argsOf arg f w r) (bodyOf rd (Apply f) (f ∷ w) d₀ n₀)
+    unfolding arity fillTerm nodes sizeOf
+    three-args e c =
+        let q : arity f ≡ 3 = rw (e, c) in
+        rw q
+        (step f (f ∷ w) full 2 1 d₀ n₀ _ (omega arith)
+        (λ a i h k. rw e (step f (f ∷ w) full 1 i (sets d₀ n₀ (nodes (raw a))) (n₀ + sizeOf (raw a)) _ h
+        (λ b j h₁ k₁. rw c (step f (f ∷ w) full 0 j (sets (sets d₀ n₀ (nodes (raw a))) (n₀ + sizeOf (raw a)) (nodes (raw b))) (n₀ + sizeOf (raw a) + sizeOf (raw b)) _ h₁
+        (λ x l h₂ k₂. end f (f ∷ w) full l (sets (sets (sets d₀ n₀ (nodes (raw a))) (n₀ + sizeOf (raw a)) (nodes (raw b))) (n₀ + sizeOf (raw a) + sizeOf (raw b)) (nodes (raw x)))
+        (n₀ + sizeOf (raw a) + sizeOf (raw b) + sizeOf (raw x)) (apply3 f a b x) h₂ (omega arith) (omega arith)
+        (sym (sets-nodes (raw a) d₀ n₀ (nodes (raw b) ++ (nodes (raw x) ++ ((77309411328 + f) ∷ [])))
+        ∙ sets-nodes (raw b) (sets d₀ n₀ (nodes (raw a))) (n₀ + sizeOf (raw a)) (nodes (raw x) ++ ((77309411328 + f) ∷ []))
+        ∙ sets-nodes (raw x) (sets (sets d₀ n₀ (nodes (raw a))) (n₀ + sizeOf (raw a)) (nodes (raw b))) (n₀ + sizeOf (raw a) + sizeOf (raw b)) ((77309411328 + f) ∷ [])))))))))
+
+    args : Same (tree.argsOf arg f w r) (bodyOf rd (Apply f) (f ∷ w) d₀ n₀)
+    args = split (eqb f 3) one-arg (λ e. split (eqb f 14) (three-args e) (two-args e))
+
+  -- by the tag, with the value w
+  abbrev Begins : List ℕ → Got Term → Head → Type 0
+  Begins w g h = Same g (bodyOf rd h w d₀ n₀)
+
+  word-begins : (w : List ℕ) → length w + 3 ≡ size → Begins w (wordOf literal w r) (pick (eqb (length w) 4) (Leaf (68719476736 + getAt w 0) 7) (NoHead 6))
+  unfolding fillTerm nodes sizeOf getAt
+  word-begins [] full = refl
+  word-begins (a ∷ []) full = refl
+  word-begins (a ∷ (b ∷ [])) full = refl
+  word-begins (a ∷ (b ∷ (c ∷ []))) full = refl
+  word-begins (a ∷ (b ∷ (c ∷ (e ∷ [])))) full =
+      let q : 7 ≡ size = omega arith in
+      (after, fits, omega arith, ap (λ (z : ℕ). out (Done z (n₀ + 1)) (set d₀ n₀ (68719476736 + (((a * 256 + b) * 256 + c) * 256 + e)))) q)
+  word-begins (a ∷ (b ∷ (c ∷ (e ∷ (g ∷ w))))) full = rw (ne-eqb (length (a ∷ (b ∷ (c ∷ (e ∷ (g ∷ w)))))) 4 (omega arith)) refl
+
+  byte-begins : (w : List ℕ) → length w + 3 ≡ size → Begins w (byteOf variable w r) (pick (eqb (length w) 1) (Leaf (73014444032 + getD w 0 0) 4) (NoHead 6))
+  unfolding fillTerm nodes sizeOf
+  byte-begins [] full = refl
+  byte-begins (a ∷ []) full =
+      let q : 4 ≡ size = omega arith in
+      (after, fits, omega arith, ap (λ (z : ℕ). out (Done z (n₀ + 1)) (set d₀ n₀ (73014444032 + a))) q)
+  byte-begins (a ∷ (b ∷ w)) full = rw (ne-eqb (length (a ∷ (b ∷ w))) 1 (omega arith)) refl
+
+  param-begins : (w : List ℕ) → length w + 3 ≡ size
+      → Begins w (paramOf w r) (pick (eqb (length w) 1) (pick (ltb 7 (getD w 0 0)) (NoHead 8) (Leaf (81604378624 + getD w 0 0) 4)) (NoHead 6))
+  unfolding fillTerm nodes sizeOf
+  param-begins [] full = refl
+  param-begins (a ∷ []) full =
+      let q : 4 ≡ size = omega arith in
+      let p : 81604378624 + a ≡ 68719476736 + (12884901888 + a) = omega arith in
+      by-two (Begins (a ∷ [])) (ltb 7 a) (λ e. refl)
+      (λ e. (after, fits, omega arith, rw p (ap (λ (z : ℕ). out (Done z (n₀ + 1)) (set d₀ n₀ (68719476736 + (12884901888 + a)))) q)))
+  param-begins (a ∷ (b ∷ w)) full = rw (ne-eqb (length (a ∷ (b ∷ w))) 1 (omega arith)) refl
+
+  app-begins : (w : List ℕ) → length w + 3 ≡ size
+      → Begins w (appOf arg w r)
+      (pick (eqb (length w) 0) (NoHead 6) (pick (eqb (getD w 0 0) 0) (NoHead 8) (pick (ltb 14 (getD w 0 0)) (NoHead 8) (Apply (getD w 0 0)))))
+  app-begins [] full = refl
+  app-begins (f ∷ w) full =
+      rw (eqb·suc-zero (length w))
+      (by-two (Begins (f ∷ w)) (eqb f 0) (λ e. refl) (λ e. by-two (Begins (f ∷ w)) (ltb 14 f) (λ c. refl) (λ c. args f w full)))
+
+  begins : (left t : ℕ) (w : List ℕ) → length w + 3 ≡ size → Begins w (exprBody arg (present t w r)) (headAt (suc left) t w)
+  unfolding headAt
+  begins left t w full =
+      rw (eqb·suc-zero left)
+      (by-two (Begins w) (eqb t 16) (λ e. word-begins w full) (λ e. by-two (Begins w) (eqb t 17) (λ c. byte-begins w full)
+      (λ c. by-two (Begins w) (eqb t 19) (λ b. param-begins w full) (λ b. app-begins w full))))
+
+body : (arg : List ℕ → Got Term) (rd : List ℕ → List ℕ → ℕ → Out) → ((u d : List ℕ) (n : ℕ) → SameExpr u (span u) d n (arg u) (rd u d n))
+    → (left : ℕ) (s d : List ℕ) (n : ℕ) (x : tree.Field) (f : Field) → SameField 16 19 s x f
+    → SameExpr s (span s) d n (exprBody arg x) (bodyOf rd (headFrom (suc left) f (partOf s f)) (partOf s f) d n)
+body arg rd ih left s d n (refused k) f h = rw h refl
+body arg rd ih left s d n (present t v r) f h =
+    rw (h .0, h .1) (begins arg rd ih s (span s) d n r (h .2) (h .3) left t (valueIn s) (value-length s (h .3)))
+
+bottom : (rd : List ℕ → List ℕ → ℕ → Out) (s d : List ℕ) (n : ℕ) (x : tree.Field) (f : Field) → SameField 16 19 s x f
+    → SameExpr s (span s) d n (deepest x) (bodyOf rd (headFrom 0 f (partOf s f)) (partOf s f) d n)
+unfolding headAt
+bottom rd s d n (refused k) f h = rw h refl
+bottom rd s d n (present t v r) f h = rw (h .0) refl
+
+pub same-expr : (left : ℕ) (s d : List ℕ) (n : ℕ) → SameExpr s (span s) d n (exprAt left s) (exprOf left s d n)
+unfolding exprAt exprOf headOf
+same-expr zero s d n = bottom _ s d n (fieldAt 16 19 s) (fieldOf s 16 19) (same-field 16 19 s)
+same-expr (suc left) s d n = body (exprAt left) (exprOf left) (same-expr left) left s d n (fieldAt 16 19 s) (fieldOf s 16 19) (same-field 16 19 s)

@@ -1,0 +1,26 @@
+-- `draft::entry_of` meets its contract: each return is its branch of `entryOf`. Assumes nothing.
+use borrow.Author.Needs.{needs}
+use Rattle.lib_base.proofs.Pick.{code}
+use Rattle.front_draft.specs.Draft.{entryOf}
+use Rattle.front_draft.proofs.entry_of.Statement.{statement}
+use Rattle.front_draft.proofs.entry_of.Tie as tie
+
+pub entry-of-spec : {M : Type 1} → statement M
+unfolding entryOf
+entry-of-spec =
+    tie.close
+    (tie.spec
+    (λ c. search needs)
+    (λ c. search needs)
+    (λ c. search needs)
+    (λ c. search needs)
+    (λ c. search needs)
+    (λ c. search needs)
+    (λ c. search needs)
+    (λ c. search needs)
+    (λ c. search code depth 12)
+    (λ c. search code depth 12)
+    (λ c. search needs)
+    (λ c. search needs)
+    (λ c. search needs)
+    (λ c. search code depth 12))

@@ -1,0 +1,29 @@
+-- `draft::moved_node` meets its contract: each return is its branch of `moved`. Assumes nothing.
+use Prim.Native.Nat.{_+_}
+use native.Mathlib.Omega.{arith}
+use borrow.Author.Needs.{needs}
+use Rattle.lib_base.proofs.Pick.{code}
+use Rattle.front_draft.specs.Draft.{moved}
+use Rattle.front_draft.proofs.moved_node.Statement.{statement}
+use Rattle.front_draft.proofs.moved_node.Tie as tie
+
+pub moved-node-spec : {M : Type 1} → statement M
+unfolding moved
+moved-node-spec =
+    tie.close
+    (tie.spec
+    (λ c. search needs)
+    (λ c. search needs)
+    (λ c. search needs)
+    (λ c. search needs)
+    (λ c. search needs)
+    (λ c. search needs)
+    (λ c. omega (arith, c .shared-slice-known2 .given (4352 + c .before .before .before .before .args .i)))
+    (λ c. search needs)
+    (λ c. search needs)
+    (λ c. search needs)
+    (λ c. search needs)
+    (λ c. search code depth 12)
+    (λ c. search code depth 12)
+    (λ c. search code depth 12)
+    (λ c. search code depth 12))

@@ -1,0 +1,172 @@
+// Fields of a program, and the reader of expressions.
+ghost use mathlib.Core.Path.{_≡_};
+ghost use Prim.Native.Nat.{_<_, _≤_, _*_, _+_, _-_, _^_};
+ghost use lib.ListN.{length};
+ghost use Rattle.front_draft.specs.Draft.{draftLength};
+ghost use Rattle.front_field.specs.Field.{fieldOf, partOf, sizeOf, numberOf, Within};
+ghost use Rattle.front_field.specs.Expression.{headAt, headOf, valueOf, HeadIn, out, closeAt, exprOf, ReadIn, CloseIn};
+
+// What stands where a field is due: its tag and the size of its value, or a refusal by its number.
+pub enum Field {
+    Value(u8, usize),
+    Refused(u8),
+}
+
+// What an expression field begins with: a leaf's node and size, an application's function, or a refusal.
+pub enum Head {
+    Leaf(u64, usize),
+    Apply(u8),
+    NoHead(u8),
+}
+
+// What a reading gives: the bytes that it takes and the next free place for a node, or a refusal.
+pub enum Read {
+    Done(usize, usize),
+    Fault(u8),
+}
+
+// The answer of the field reader, where a tag from `lo` to `hi` is due.
+pub fn field_answer(s: &[u8], lo: u8, hi: u8) -> Field
+    ensures { λ r. ⌜ r ≡ fieldOf (now (s .entry)) lo hi ⌝ }
+    ensures { λ r. ⌜ Within (now (s .entry)) r ⌝ }
+{
+    if s.len() < 3 {
+        return Field::Refused(4);
+    }
+    if s[0] < lo {
+        return Field::Refused(5);
+    }
+    if hi < s[0] {
+        return Field::Refused(5);
+    }
+    let n = (s[1] as usize) * 256 + (s[2] as usize);
+    if s.len() - 3 < n {
+        return Field::Refused(4);
+    }
+    Field::Value(s[0], n)
+}
+
+// The value as a part of the caller's own slice; an empty part where the reader refuses.
+pub fn field_value(s: &[u8], lo: u8, hi: u8) -> &[u8]
+    ensures { λ r. ⌜ now r ≡ partOf (now (s .entry)) (fieldOf (now (s .entry)) lo hi) ⌝ }
+    ensures { λ r. ⌜ length (now r) ≡ sizeOf (fieldOf (now (s .entry)) lo hi) ⌝ }
+    ensures { λ r. ⌜ length (now r) ≤ length (now (s .entry)) - 3 ⌝ }
+{
+    let Field::Value(_, n) = field_answer(s, lo, hi) else {
+        return &s[0..0];
+    };
+    let e = n + 3;
+    &s[3..e]
+}
+
+// The number of a refusal; 0 of a value.
+pub fn number(f: Field) -> u8
+    ensures { λ r. ⌜ r ≡ numberOf f ⌝ }
+{
+    match f {
+        Field::Value(_, _) => 0,
+        Field::Refused(k) => k,
+    }
+}
+
+// What a field with tag t and value v begins, with `left` levels of nesting left.
+fn head_of(left: usize, t: u8, v: &[u8]) -> Head
+    ensures { λ r. ⌜ r ≡ headAt left t (now (v .entry)) ⌝ }
+    ensures { λ r. ⌜ HeadIn left (length (now (v .entry))) r ⌝ }
+{
+    if left == 0 {
+        return Head::NoHead(9);
+    }
+    if t == 16 {
+        if v.len() != 4 {
+            return Head::NoHead(6);
+        }
+        return Head::Leaf(68719476736 + (lib_word::get_at(v, 0) as u64), 7);
+    }
+    if t == 17 {
+        if v.len() != 1 {
+            return Head::NoHead(6);
+        }
+        return Head::Leaf(73014444032 + (v[0] as u64), 4);
+    }
+    if t == 19 {
+        if v.len() != 1 {
+            return Head::NoHead(6);
+        }
+        if 7 < v[0] {
+            return Head::NoHead(8);
+        }
+        return Head::Leaf(81604378624 + (v[0] as u64), 4);
+    }
+    if v.len() == 0 {
+        return Head::NoHead(6);
+    }
+    if v[0] == 0 {
+        return Head::NoHead(8);
+    }
+    if 14 < v[0] {
+        return Head::NoHead(8);
+    }
+    Head::Apply(v[0])
+}
+
+// What the expression field at the front of s begins.
+fn read_head(left: usize, s: &[u8]) -> Head
+    ensures { λ r. ⌜ r ≡ headOf left (now (s .entry)) ⌝ }
+    ensures { λ r. ⌜ HeadIn left (length (valueOf (now (s .entry)))) r ⌝ }
+    ensures { λ _. ⌜ length (valueOf (now (s .entry))) ≤ length (now (s .entry)) - 3 ⌝ }
+{
+    let a = field_answer(s, 16, 19);
+    let Field::Value(t, _) = a else {
+        return Head::NoHead(number(a));
+    };
+    head_of(left, t, field_value(s, 16, 19))
+}
+
+// The node of an application whose arguments end at `at`, in a value of `size` bytes.
+fn close_at(f: u8, size: usize, at: usize, draft: &mut [u64], m: usize) -> Read
+    requires { ⌜ m < length (now draft) ⌝ }
+    requires { ⌜ length (now draft) < 2 ^ 32 ⌝ }
+    requires { ⌜ at + 3 < 2 ^ 64 ⌝ }
+    ensures { λ r. ⌜ out r (now (draft .exit)) ≡ closeAt f size at (now (draft .entry)) m ⌝ }
+    ensures { λ r. ⌜ CloseIn size at m r ⌝ }
+{
+    if at != size {
+        return Read::Fault(6);
+    }
+    draft[m] = 77309411328 + (f as u64);
+    Read::Done(at + 3, m + 1)
+}
+
+// One expression at the front of s, with `left` levels of nesting left. Its nodes go into the draft from place n on.
+pub fn read_expr(left: usize, s: &[u8], draft: &mut [u64], n: usize) -> Read
+    requires { ⌜ n * 4 + length (now s) ≤ 8192 ⌝ }
+    requires { ⌜ length (now draft) ≡ draftLength ⌝ }
+    ensures { λ r. ⌜ out r (now (draft .exit)) ≡ exprOf left (now (s .entry)) (now (draft .entry)) n ⌝ }
+    ensures { λ r. ⌜ ReadIn (length (now (s .entry))) n r ⌝ }
+{
+    let h = read_head(left, s);
+    match h {
+        Head::NoHead(k) => Read::Fault(k),
+        Head::Leaf(node, size) => {
+            draft[n] = node;
+            Read::Done(size, n + 1)
+        }
+        Head::Apply(f) => {
+            let v = field_value(s, 16, 19);
+            let mut at = 1;
+            let mut m = n;
+            let mut k = lib_functions::arity_of(f);
+            while k != 0 {
+                let r = read_expr(left - 1, &v[at..], draft, m);
+                let Read::Done(size, next) = r else {
+                    return r;
+                };
+                at = at + size;
+                m = next;
+                k = k - 1;
+            }
+            close_at(f, v.len(), at, draft, m)
+        }
+    }
+}

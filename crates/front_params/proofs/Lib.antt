@@ -1,0 +1,2 @@
+pub mod PassiveNodes
+pub mod Fills

@@ -1,0 +1,44 @@
+-- The loop keeps: the nodes passed are filled in.
+use Prim.Native.Nat.{ℕ, _+_, _-_, _≤_, _<_}
+use mathlib.Core.Path.{_≡_, refl, _∙_}
+use mathlib.Core.List.{List}
+use native.Mathlib.Omega.{arith}
+use native.Mathlib.Numerals.{add-one}
+use lib.ListN.{length, getD, set, length-set}
+use Rattle.front_params.specs.Filling.{filled, fillTo}
+use Rattle.front_params.proofs.fill_draft.Statement.{statement}
+use Rattle.front_params.proofs.fill_draft.Tie as tie
+
+record Turn (ps d₀ d : List ℕ) (k : ℕ) : Type 0 where
+  same : d ≡ fillTo ps d₀ k
+  within : k ≤ 2048
+  long : length d ≡ length d₀
+
+turn : {ps d₀ d : List ℕ} {k x : ℕ} → Turn ps d₀ d k → k < 2048 → x ≡ filled ps (getD d k 0) → Turn ps d₀ (set d k x) (k + 1)
+unfolding fillTo
+turn {ps} {d₀} {d} {k} {x} t h e = record { same = rw (add-one k, ← t .same, ← e); within = omega arith; long = length-set d k x ∙ t .long }
+
+abbrev Inv-loop : tie.InvT-loop
+Inv-loop d₀ params k₀ d k = Turn params d₀ d k
+
+abbrev μ-loop : tie.MeasureT-loop
+μ-loop d₀ params k₀ d k = 2048 - k
+
+pub fill-draft-spec : {M : Type 1} → statement M
+unfolding fillTo
+fill-draft-spec =
+    tie.close
+    (tie.spec
+    Inv-loop
+    μ-loop
+    (λ c. record { same = refl; within = omega arith; long = refl })
+    (λ c. omega arith)
+    (λ c. omega arith)
+    (λ c κs. tt)
+    (λ c. omega arith)
+    (λ c. omega arith)
+    (λ c. omega arith)
+    (λ c. omega arith)
+    (λ c. turn (c .before .before .before .loop .inv) (omega arith) (c .fill-node .ensures))
+    (λ c. c .before .loop .inv .long)
+    (λ c. let e : c .before .loop .k ≡ 2048 = omega arith in rw e at (c .before .loop .inv .same)))

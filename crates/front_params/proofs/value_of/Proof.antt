@@ -1,0 +1,17 @@
+-- The branch is the definition's; a word has 32 bits.
+use native.Mathlib.Omega.{arith}
+use borrow.Author.Needs.{needs}
+use Rattle.lib_base.proofs.Pick.{code}
+use Rattle.front_params.specs.Filling.{valueOf}
+use Rattle.front_params.proofs.value_of.Statement.{statement}
+use Rattle.front_params.proofs.value_of.Tie as tie
+
+pub value-of-spec : {M : Type 1} → statement M
+unfolding valueOf
+value-of-spec =
+    tie.close
+    (tie.spec
+    (λ c. (search code depth 12, omega arith))
+    (λ c κs. search needs)
+    (λ c. search needs)
+    (λ c. (rw (← c .get-word .ensures) (search code depth 12), omega arith)))

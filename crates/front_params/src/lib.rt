@@ -1,0 +1,67 @@
+// Parameters in the draft of a sheet (layout: draft, specs/Draft.antt; 02, M-103): whether one stands there, and each node of one replaced by its constant's.
+// Time: one pass over the nodes for either.
+ghost use mathlib.Core.Path.{_≡_};
+ghost use Prim.Native.Nat.{_<_, _≤_, _^_};
+ghost use lib.ListN.{length};
+ghost use Rattle.front_draft.specs.Draft.{draftLength};
+ghost use Rattle.front_params.specs.Filling.{valueOf, filled, fillTo, anyParam, lacksParam};
+
+// The value of parameter k: a word of the bytes lent, 0 where fewer than 32 are.
+fn value_of(params: &[u8], k: usize) -> u64
+    requires { ⌜ k < 8 ⌝ }
+    ensures { λ r. ⌜ r ≡ valueOf (now (params .entry)) k ⌝ }
+    ensures { λ r. ⌜ r < 2 ^ 32 ⌝ }
+{
+    if params.len() < 32 {
+        return 0;
+    }
+    lib_word::get_word(params, k) as u64
+}
+
+// The node that stands for x where the parameters are known.
+fn fill_node(params: &[u8], x: u64) -> u64
+    ensures { λ r. ⌜ r ≡ filled (now (params .entry)) x ⌝ }
+{
+    if x / 4294967296 == 19 {
+        return 68719476736 + value_of(params, (x % 8) as usize);
+    }
+    x
+}
+
+// Fills in the nodes of a draft.
+pub fn fill_draft(d: &mut [u64], params: &[u8])
+    requires { ⌜ length (now d) ≡ draftLength ⌝ }
+    ensures { λ _. ⌜ now (d .exit) ≡ fillTo (now (params .entry)) (now (d .entry)) 2048 ⌝ }
+{
+    let mut k = 0;
+    while k < 2048 {
+        d[k] = fill_node(params, d[k]);
+        k += 1;
+    }
+}
+
+// Whether a parameter is among the first n nodes.
+fn has_param(d: &[u64], n: usize) -> bool
+    requires { ⌜ (length (now d) ≡ draftLength) × (n ≤ 2048) ⌝ }
+    ensures { λ r. ⌜ r ≡ anyParam (now (d .entry)) n ⌝ }
+{
+    let mut k = n;
+    while k > 0 {
+        k -= 1;
+        if d[k] / 4294967296 == 19 {
+            return true;
+        }
+    }
+    false
+}
+
+// Whether a parameter is among the first n nodes and fewer than 32 bytes are lent.
+pub fn lacks_param(d: &[u64], n: usize, params: &[u8]) -> bool
+    requires { ⌜ (length (now d) ≡ draftLength) × (n ≤ 2048) ⌝ }
+    ensures { λ r. ⌜ r ≡ lacksParam (now (d .entry)) n (now (params .entry)) ⌝ }
+{
+    if params.len() < 32 {
+        return has_param(d, n);
+    }
+    false
+}

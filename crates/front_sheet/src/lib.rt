@@ -1,0 +1,142 @@
+// The reader: from the bytes of a program to its draft, the first fault met from left to right.
+use front_field::Field;
+use front_field::Read;
+ghost use mathlib.Core.Path.{_≡_};
+ghost use Prim.Native.Nat.{_<_, _≤_, _+_};
+ghost use lib.ListN.{length};
+ghost use Rattle.front_field.specs.Expression.{out};
+ghost use Rattle.front_draft.specs.Draft.{draftLength};
+ghost use Rattle.front_sheet.specs.Whole.{made, signalAt, priorityAt, eventOf, eventsOf, finished, behavioursOf, readOn, EventIn, EventsIn};
+
+// What stands where an event or the first behaviour is due: an event's field of so many bytes, or another field, or a refusal by its number.
+pub enum Event {
+    Declared(usize),
+    Ended,
+    NoEvent(u8),
+}
+
+// What reading a program gives: its numbers of events, behaviours and nodes, or a refusal by its number.
+pub enum Draft {
+    Ready(usize, usize, usize),
+    Broken(u8),
+}
+
+// The value v of event e: its priority, and who may send it where a second byte says so.
+fn take_event(v: &[u8], e: usize, draft: &mut [u64]) -> Event
+    requires { ⌜ length (now draft) ≡ draftLength ⌝ }
+    requires { ⌜ e < 32 ⌝ }
+    ensures { λ r. ⌜ made r (now (draft .exit)) ≡ signalAt (now (v .entry)) e (now (draft .entry)) ⌝ }
+    ensures { λ r. ⌜ EventIn (length (now (v .entry)) + 3) e r ⌝ }
+{
+    if v.len() == 0 {
+        return Event::NoEvent(6);
+    }
+    if 2 < v.len() {
+        return Event::NoEvent(6);
+    }
+    if 15 < v[0] {
+        return Event::NoEvent(8);
+    }
+    draft[4224 + e] = v[0] as u64;
+    if v.len() == 1 {
+        draft[4320 + e] = 255;
+        return Event::Declared(4);
+    }
+    draft[4320 + e] = v[1] as u64;
+    Event::Declared(5)
+}
+
+// A field with tag t and value v where event e or the first behaviour is due.
+fn read_priority(t: u8, v: &[u8], e: usize, draft: &mut [u64]) -> Event
+    requires { ⌜ length (now draft) ≡ draftLength ⌝ }
+    requires { ⌜ e ≤ 32 ⌝ }
+    ensures { λ r. ⌜ made r (now (draft .exit)) ≡ priorityAt t (now (v .entry)) e (now (draft .entry)) ⌝ }
+    ensures { λ r. ⌜ EventIn (length (now (v .entry)) + 3) e r ⌝ }
+{
+    if t != 1 {
+        return Event::Ended;
+    }
+    if 32 <= e {
+        return Event::NoEvent(7);
+    }
+    take_event(v, e, draft)
+}
+
+// Event e, or the first behaviour, at the front of s.
+fn read_event(s: &[u8], e: usize, draft: &mut [u64]) -> Event
+    requires { ⌜ length (now draft) ≡ draftLength ⌝ }
+    requires { ⌜ e ≤ 32 ⌝ }
+    ensures { λ r. ⌜ made r (now (draft .exit)) ≡ eventOf (now (s .entry)) e (now (draft .entry)) ⌝ }
+    ensures { λ r. ⌜ EventIn (length (now (s .entry))) e r ⌝ }
+{
+    let lo = front_rows::least_tag(s, 1);
+    let hi = front_rows::most_tag(s);
+    let a = front_field::field_answer(s, lo, hi);
+    let Field::Value(t, _) = a else {
+        return Event::NoEvent(front_field::number(a));
+    };
+    read_priority(t, front_field::field_value(s, lo, hi), e, draft)
+}
+
+// The events of s: the place after them and their number.
+fn read_events(s: &[u8], draft: &mut [u64]) -> Read
+    requires { ⌜ length (now s) ≤ 8192 ⌝ }
+    requires { ⌜ length (now draft) ≡ draftLength ⌝ }
+    ensures { λ r. ⌜ out r (now (draft .exit)) ≡ eventsOf (length (now (s .entry))) (now (s .entry)) 0 0 (now (draft .entry)) ⌝ }
+    ensures { λ r. ⌜ EventsIn (length (now (s .entry))) r ⌝ }
+{
+    let mut at = 0;
+    let mut e = 0;
+    while at != s.len() {
+        let r = read_event(&s[at..], e, draft);
+        match r {
+            Event::NoEvent(k) => {
+                return Read::Fault(k);
+            }
+            Event::Ended => {
+                return Read::Done(at, e);
+            }
+            Event::Declared(size) => {
+                at = at + size;
+                e = e + 1;
+            }
+        }
+    }
+    Read::Done(at, e)
+}
+
+// The behaviours of s, from `from` on.
+fn read_behaviours(s: &[u8], from: usize, events: usize, draft: &mut [u64]) -> Draft
+    requires { ⌜ length (now s) ≤ 8192 ⌝ }
+    requires { ⌜ from ≤ length (now s) ⌝ }
+    requires { ⌜ length (now draft) ≡ draftLength ⌝ }
+    requires { ⌜ events ≤ 32 ⌝ }
+    ensures { λ r. ⌜ finished r (now (draft .exit)) ≡ behavioursOf (length (now (s .entry))) (now (s .entry)) from events 0 (now (draft .entry)) 0 ⌝ }
+{
+    let mut at = from;
+    let mut i = 0;
+    let mut n = 0;
+    while at != s.len() {
+        let r = front_behaviours::read_behaviour(&s[at..], events, i, draft, n);
+        let Read::Done(size, next) = r else {
+            return Draft::Broken(front_behaviours::fault(r));
+        };
+        i = i + front_rows::cells_at(&s[at..]);
+        at = at + size;
+        n = next;
+    }
+    Draft::Ready(events, i, n)
+}
+
+// The program in s: its draft, or the first fault.
+pub fn read_program(s: &[u8], draft: &mut [u64]) -> Draft
+    requires { ⌜ length (now s) ≤ 8192 ⌝ }
+    requires { ⌜ length (now draft) ≡ draftLength ⌝ }
+    ensures { λ r. ⌜ finished r (now (draft .exit)) ≡ readOn (now (s .entry)) (now (draft .entry)) ⌝ }
+{
+    let r = read_events(s, draft);
+    let Read::Done(at, e) = r else {
+        return Draft::Broken(front_behaviours::fault(r));
+    };
+    read_behaviours(s, at, e, draft)
+}

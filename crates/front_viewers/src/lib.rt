@@ -1,0 +1,57 @@
+// The end of a behaviour's value: who may see it, from a field 08 or from nothing (02, M-107).
+use front_field::Field;
+use front_field::Read;
+ghost use mathlib.Core.Path.{_≡_};
+ghost use Prim.Native.Nat.{_<_};
+ghost use lib.ListN.{length};
+ghost use Rattle.front_draft.specs.Draft.{draftLength};
+ghost use Rattle.front_field.specs.Expression.{out};
+ghost use Rattle.front_viewers.specs.Ending.{viewerAt, viewerOf, endingOf, EndIn};
+
+// The value v of a field 08 at the front of `left` bytes: who may see behaviour i. The behaviour's field takes `all` bytes, the next node goes to place n.
+fn take_viewer(v: &[u8], left: usize, i: usize, draft: &mut [u64], all: usize, n: usize) -> Read
+    requires { ⌜ length (now draft) ≡ draftLength ⌝ }
+    requires { ⌜ i < 64 ⌝ }
+    ensures { λ r. ⌜ out r (now (draft .exit)) ≡ viewerAt (now (v .entry)) left i (now (draft .entry)) all n ⌝ }
+    ensures { λ r. ⌜ EndIn all n r ⌝ }
+{
+    if v.len() != 1 {
+        return Read::Fault(6);
+    }
+    if left != 4 {
+        return Read::Fault(6);
+    }
+    draft[4256 + i] = v[0] as u64;
+    Read::Done(all, n)
+}
+
+// A field 08 at the front of s.
+fn read_viewer(s: &[u8], i: usize, draft: &mut [u64], all: usize, n: usize) -> Read
+    requires { ⌜ length (now draft) ≡ draftLength ⌝ }
+    requires { ⌜ i < 64 ⌝ }
+    ensures { λ r. ⌜ out r (now (draft .exit)) ≡ viewerOf (now (s .entry)) i (now (draft .entry)) all n ⌝ }
+    ensures { λ r. ⌜ EndIn all n r ⌝ }
+{
+    let a = front_field::field_answer(s, 8, 8);
+    let Field::Value(_, _) = a else {
+        return Read::Fault(front_field::number(a));
+    };
+    take_viewer(front_field::field_value(s, 8, 8), s.len(), i, draft, all, n)
+}
+
+// What is left of behaviour i's value after its own part: a field 08 and nothing else, or nothing.
+pub fn read_ending(s: &[u8], i: usize, draft: &mut [u64], all: usize, n: usize) -> Read
+    requires { ⌜ length (now draft) ≡ draftLength ⌝ }
+    requires { ⌜ i < 64 ⌝ }
+    ensures { λ r. ⌜ out r (now (draft .exit)) ≡ endingOf (now (s .entry)) i (now (draft .entry)) all n ⌝ }
+    ensures { λ r. ⌜ EndIn all n r ⌝ }
+{
+    if s.len() == 0 {
+        draft[4256 + i] = 255;
+        return Read::Done(all, n);
+    }
+    if s[0] != 8 {
+        return Read::Fault(6);
+    }
+    read_viewer(s, i, draft, all, n)
+}

@@ -1,4 +1,0 @@
-pub mod Matrix
-pub mod Placing
-pub mod Closure
-pub mod OrderIs

@@ -1,2 +1,0 @@
-pub mod HalfBoards
-pub mod HalvesHold

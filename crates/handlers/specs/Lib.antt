@@ -1,4 +1,0 @@
-pub mod Handlers
-pub mod PutOrder
-pub mod HandlerLaws
-pub mod HandlersAre

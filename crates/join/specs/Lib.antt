@@ -1,4 +1,0 @@
-pub mod Join
-pub mod JoinLaws
-pub mod Limits
-pub mod Says

@@ -1,9 +1,0 @@
--- `layers::bit` meets its contract: each return is its branch of `bit`. Assumes nothing.
-use Rattle.base.specs.Pick.{code}
-use Rattle.layers.specs.Layers.{bit}
-use Rattle.layers.proofs.bit.Statement.{statement}
-use Rattle.layers.proofs.bit.Tie as tie
-
-pub bit-spec : {M : Type 1} → statement M
-unfolding bit
-bit-spec = tie.close (tie.spec (λ c. search code depth 12) (λ c. search code depth 12))

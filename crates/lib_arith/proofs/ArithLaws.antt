@@ -1,0 +1,116 @@
+-- Words and the numbers that they stand for: a word comes back, and it is true unless it is 0; which numbers differ from their word's reading, and what an answer with a mark says.
+-- By the two cases of `signed`.
+use Prim.Native.Nat.{ℕ, _-_, _%_, _^_, _≤_, _<_}
+use mathlib.Core.Bool.{Bool, true, false, not, _&&_, _||_}
+use mathlib.Core.Path.{_≡_, refl, sym, _∙_}
+use mathlib.Core.Logic.{_≢_}
+use native.Mathlib.Omega.{arith}
+use lib.Dec.{ltb, eqb}
+use lib.IntN.{ℤ, pos, negsuc}
+use lib.Signed.{ltZ}
+use borrow.Author.Tests.{ltb-true, ltb-false, lt-ltb, le-ltb, eq-eqb, ne-eqb}
+use Rattle.lib_base.proofs.Tools.{by-test, split}
+use Rattle.lib_arith.specs.Exact.{signed, wrapped, differZ, beyond, packed}
+use Rattle.lib_arith.specs.Functions.{isTrue, truth, exact, result, over, answer}
+
+-- a word stands for a number whose word it is
+pub wrapped-signed : (a : ℕ) → a < 2 ^ 32 → wrapped (signed a) ≡ a
+wrapped-signed a h =
+    by-test (λ z. wrapped z ≡ a) (ltb a (2 ^ 31))
+    (λ e. omega arith)
+    (λ e. omega (arith, ltb-false a (2 ^ 31) e))
+
+-- a word is true unless it is 0
+pub isTrue-signed : (a : ℕ) → isTrue (signed a) ≡ not (eqb a 0)
+isTrue-signed a =
+    by-test (λ z. isTrue z ≡ not (eqb a 0)) (ltb a (2 ^ 31))
+    (λ e. refl)
+    (λ e. rw (ne-eqb a 0 (omega (arith, ltb-false a (2 ^ 31) e))))
+
+-- ---- which numbers differ from their word's reading: those of 2^31 and more, and those below -2^31
+
+pub beyond-pos : (n : ℕ) → beyond (pos n) ≡ ltb 2147483647 n
+unfolding beyond
+beyond-pos n =
+    by-test (λ z. differZ (pos n) z ≡ ltb 2147483647 n) (ltb (n % 2 ^ 32) (2 ^ 31))
+    (λ e. split (ltb 2147483647 n)
+    (λ t. rw (t, ne-eqb n (n % 2 ^ 32) (omega (arith, ltb-true (n % 2 ^ 32) (2 ^ 31) e, ltb-true 2147483647 n t))))
+    (λ t. rw (t, eq-eqb n (n % 2 ^ 32) (omega (arith, ltb-false 2147483647 n t)))))
+    (λ e. sym (lt-ltb 2147483647 n (omega (arith, ltb-false (n % 2 ^ 32) (2 ^ 31) e))))
+
+pub beyond-neg : (n : ℕ) → beyond (negsuc n) ≡ ltb 2147483647 n
+unfolding beyond
+beyond-neg n =
+    let w : ℕ = 2 ^ 32 - 1 - n % 2 ^ 32 in
+    by-test (λ z. differZ (negsuc n) z ≡ ltb 2147483647 n) (ltb w (2 ^ 31))
+    (λ e. sym (lt-ltb 2147483647 n (omega (arith, ltb-true w (2 ^ 31) e))))
+    (λ e. split (ltb 2147483647 n)
+    (λ t. rw (t, ne-eqb n (2 ^ 32 - 1 - w) (omega (arith, ltb-false w (2 ^ 31) e, ltb-true 2147483647 n t))))
+    (λ t. rw (t, eq-eqb n (2 ^ 32 - 1 - w) (omega (arith, ltb-false 2147483647 n t)))))
+
+-- what a word stands for is not one of them, nor is what a test gives
+pub word-within : (a : ℕ) → a < 2 ^ 32 → beyond (signed a) ≡ false
+word-within a h =
+    by-test (λ z. beyond z ≡ false) (ltb a (2 ^ 31))
+    (λ e. beyond-pos a ∙ le-ltb 2147483647 a (omega (arith, ltb-true a (2 ^ 31) e)))
+    (λ e. beyond-neg (2 ^ 32 - 1 - a) ∙ le-ltb 2147483647 (2 ^ 32 - 1 - a) (omega (arith, ltb-false a (2 ^ 31) e)))
+
+pub truth-within : (t : Bool) → beyond (truth t) ≡ false
+truth-within true = beyond-pos 1
+truth-within false = beyond-pos 0
+
+-- so no function but `+`, `-`, `*` and `/` runs over
+pub within-others : (f a b c : ℕ) → b < 2 ^ 32 → c < 2 ^ 32 → f ≢ 4 → f ≢ 5 → f ≢ 6 → f ≢ 7 → over f a b c ≡ false
+unfolding over exact
+within-others f a b c hb hc n4 n5 n6 n7 =
+    let P : ℤ → Type 0 = λ z. beyond z ≡ false in
+    let x : ℤ = signed a in
+    let y : ℤ = signed b in
+    rw (ne-eqb f 4 n4, ne-eqb f 5 n5, ne-eqb f 6 n6, ne-eqb f 7 n7)
+    (by-test P (eqb f 1) (λ _. truth-within (isTrue x || isTrue y))
+    (λ _. by-test P (eqb f 2) (λ _. truth-within (isTrue x && isTrue y))
+    (λ _. by-test P (eqb f 3) (λ _. truth-within (not (isTrue x)))
+    (λ _. by-test P (eqb f 8) (λ _. truth-within (ltZ y x))
+    (λ _. by-test P (eqb f 9) (λ _. truth-within (not (ltZ x y)))
+    (λ _. by-test P (eqb f 10) (λ _. truth-within (ltZ x y))
+    (λ _. by-test P (eqb f 11) (λ _. truth-within (not (ltZ y x)))
+    (λ _. by-test P (eqb f 12) (λ _. truth-within (not (ltZ x y) && not (ltZ y x)))
+    (λ _. by-test P (eqb f 13) (λ _. truth-within (ltZ x y || ltZ y x))
+    (λ _. by-test P (eqb f 14)
+    (λ _. by-test P (isTrue (signed a)) (λ _. word-within b hb) (λ _. word-within c hc))
+    (λ _. beyond-pos 0)))))))))))
+
+-- ---- an answer with a mark
+
+wrapped-word : (z : ℤ) → wrapped z < 2 ^ 32
+wrapped-word (pos n) = omega arith
+wrapped-word (negsuc n) = omega arith
+
+pub result-word : (f a b c : ℕ) → result f a b c < 4294967296
+unfolding result
+result-word f a b c = wrapped-word (exact f (signed a) (signed b) (signed c))
+
+packed-low : (w : ℕ) (m : Bool) → packed w m < 4294967296 → (packed w m ≡ w) × (m ≡ false)
+packed-low w true h = absurd (omega arith)
+packed-low w false h = (refl, refl)
+
+packed-high : (w : ℕ) (m : Bool) → w < 4294967296 → 4294967296 ≤ packed w m → (packed w m - 4294967296 ≡ w) × (m ≡ true)
+packed-high w true h k = (omega arith, refl)
+packed-high w false h k = absurd (omega arith)
+
+packed-rest : (w : ℕ) (m : Bool) → w < 4294967296 → packed w m % 4294967296 ≡ w
+packed-rest w true h = omega arith
+packed-rest w false h = omega arith
+
+-- a function's answer: with no mark it is the word, with one 2^32 more, and its word is what 2^32 leaves
+pub answer-low : (f a b c : ℕ) → answer f a b c < 4294967296 → (answer f a b c ≡ result f a b c) × (over f a b c ≡ false)
+unfolding answer
+answer-low f a b c h = packed-low (result f a b c) (over f a b c) h
+
+pub answer-high : (f a b c : ℕ) → 4294967296 ≤ answer f a b c → (answer f a b c - 4294967296 ≡ result f a b c) × (over f a b c ≡ true)
+unfolding answer
+answer-high f a b c h = packed-high (result f a b c) (over f a b c) (result-word f a b c) h
+
+pub answer-rest : (f a b c : ℕ) → answer f a b c % 4294967296 ≡ result f a b c
+unfolding answer
+answer-rest f a b c = packed-rest (result f a b c) (over f a b c) (result-word f a b c)

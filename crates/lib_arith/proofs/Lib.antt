@@ -1,0 +1,4 @@
+pub mod Laws
+pub mod ArithLaws
+pub mod FloorLaws
+pub mod Examples

@@ -1,0 +1,60 @@
+// Arithmetic on 32-bit words that stand for signed numbers. Each result is the exact value, brought to 32 bits.
+ghost use mathlib.Core.Path.{_≡_};
+ghost use lib.IntN.{_+ℤ_, _-ℤ_, _*ℤ_};
+ghost use lib.Signed.{ltZ};
+ghost use Rattle.lib_arith.specs.Exact.{signed, wrapped};
+ghost use Rattle.lib_arith.specs.Functions.{floorZ};
+
+pub fn add(a: u32, b: u32) -> u32
+    ensures { λ r. ⌜ r ≡ wrapped (signed a +ℤ signed b) ⌝ }
+{
+    std::num::wrapping_add_u32(a, b)
+}
+
+pub fn subtract(a: u32, b: u32) -> u32
+    ensures { λ r. ⌜ r ≡ wrapped (signed a -ℤ signed b) ⌝ }
+{
+    std::num::wrapping_sub_u32(a, b)
+}
+
+pub fn multiply(a: u32, b: u32) -> u32
+    ensures { λ r. ⌜ r ≡ wrapped (signed a *ℤ signed b) ⌝ }
+{
+    (((a as u64) * (b as u64)) % 4294967296) as u32
+}
+
+// M-102: a quotient with a fraction goes to the next whole number below; by zero it gives 0, and the least number by -1 gives the least number.
+// Of different signs, the quotient of the magnitudes is rounded up, (|a| + |b| - 1) / |b|, and the sign put back.
+pub fn divide(a: u32, b: u32) -> u32
+    ensures { λ r. ⌜ r ≡ wrapped (floorZ (signed a) (signed b)) ⌝ }
+{
+    if b == 0 {
+        return 0;
+    }
+    if a < 2147483648 {
+        if b < 2147483648 {
+            return a / b;
+        }
+        return std::num::wrapping_sub_u32(0, (a + (4294967295 - b)) / (4294967295 - b + 1));
+    }
+    if b < 2147483648 {
+        return std::num::wrapping_sub_u32(0, (4294967295 - a + b) / b);
+    }
+    (4294967295 - a + 1) / (4294967295 - b + 1)
+}
+
+// Whether a is below b as signed numbers.
+pub fn below(a: u32, b: u32) -> bool
+    ensures { λ r. ⌜ r ≡ ltZ (signed a) (signed b) ⌝ }
+{
+    if a < 2147483648 {
+        if b < 2147483648 {
+            return a < b;
+        }
+        return false;
+    }
+    if b < 2147483648 {
+        return true;
+    }
+    a < b
+}

@@ -1,0 +1,101 @@
+// The fourteen functions by their numbers, on 32-bit words that stand for signed numbers. 01 "Arithmetic". Each answers its word, and 2^32 more where it ran over (02, M-104).
+ghost use mathlib.Core.Bool.{not, _&&_, _||_};
+ghost use mathlib.Core.Path.{_≡_};
+ghost use Prim.Native.Nat.{_≤_};
+ghost use lib.Signed.{ltZ};
+ghost use Rattle.lib_base.specs.Basics.{pick};
+ghost use Rattle.lib_arith.specs.Exact.{signed, reported};
+ghost use Rattle.lib_arith.specs.Functions.{isTrue, truth, result, answer, arity};
+
+// What a test gives: 1 or 0.
+fn bit(t: bool) -> u64
+    ensures { λ r. ⌜ r ≡ reported (truth t) ⌝ }
+{
+    if t { 1 } else { 0 }
+}
+
+// `||`
+fn either(a: u32, b: u32) -> u64
+    ensures { λ r. ⌜ r ≡ reported (truth (isTrue (signed a) || isTrue (signed b))) ⌝ }
+{
+    if a == 0 { bit(b != 0) } else { 1 }
+}
+
+// `&&`
+fn both(a: u32, b: u32) -> u64
+    ensures { λ r. ⌜ r ≡ reported (truth (isTrue (signed a) && isTrue (signed b))) ⌝ }
+{
+    if a == 0 { 0 } else { bit(b != 0) }
+}
+
+// `!`
+fn opposite(a: u32) -> u64
+    ensures { λ r. ⌜ r ≡ reported (truth (not (isTrue (signed a)))) ⌝ }
+{
+    bit(a == 0)
+}
+
+// `==`: neither is below the other.
+fn same(a: u32, b: u32) -> u64
+    ensures { λ r. ⌜ r ≡ reported (truth (not (ltZ (signed a) (signed b)) && not (ltZ (signed b) (signed a)))) ⌝ }
+{
+    bit(a == b)
+}
+
+// `!=`: one is below the other.
+fn differ(a: u32, b: u32) -> u64
+    ensures { λ r. ⌜ r ≡ reported (truth (ltZ (signed a) (signed b) || ltZ (signed b) (signed a))) ⌝ }
+{
+    bit(a != b)
+}
+
+// `if`
+fn choose(a: u32, b: u32, c: u32) -> u64
+    ensures { λ r. ⌜ r ≡ reported (pick (isTrue (signed a)) (signed b) (signed c)) ⌝ }
+{
+    if a == 0 { c as u64 } else { b as u64 }
+}
+
+// The function with the number f on the words a, b and c; it looks only at those that it needs. Its word, and 2^32 more where it ran over. A number that is no function's gives 0.
+pub fn apply(f: u8, a: u32, b: u32, c: u32) -> u64
+    ensures { λ r. ⌜ r ≡ answer f a b c ⌝ }
+{
+    match f {
+        1 => either(a, b),
+        2 => both(a, b),
+        3 => opposite(a),
+        4 => lib_overflow::sum(a, b),
+        5 => lib_overflow::difference(a, b),
+        6 => lib_overflow::product(a, b),
+        7 => lib_overflow::quotient(a, b),
+        8 => bit(lib_arith::below(b, a)),
+        9 => bit(!lib_arith::below(a, b)),
+        10 => bit(lib_arith::below(a, b)),
+        11 => bit(!lib_arith::below(b, a)),
+        12 => same(a, b),
+        13 => differ(a, b),
+        14 => choose(a, b, c),
+        _ => 0,
+    }
+}
+
+// Its word alone.
+pub fn word_of(f: u8, a: u32, b: u32, c: u32) -> u32
+    ensures { λ r. ⌜ r ≡ result f a b c ⌝ }
+{
+    (apply(f, a, b, c) % 4294967296) as u32
+}
+
+// How many arguments the function with the number f needs.
+pub fn arity_of(f: u8) -> usize
+    ensures { λ r. ⌜ r ≡ arity f ⌝ }
+    ensures { λ r. ⌜ r ≤ 3 ⌝ }
+{
+    if f == 3 {
+        return 1;
+    }
+    if f == 14 {
+        return 3;
+    }
+    2
+}

@@ -1,0 +1,4 @@
+pub mod Laws
+pub mod BehavioursAre
+pub mod EventsAre
+pub mod Spliced

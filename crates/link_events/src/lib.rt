@@ -1,0 +1,171 @@
+// The events of two sheets joined by number (02, M-111), from the sheets' bytes: their fields, the place where they end, and whether two ranks differ.
+// Time: at most 32 turns, a field of each sheet a turn.
+ghost use mathlib.Core.Path.{_≡_};
+ghost use Prim.Native.Nat.{_≤_, _+_, _-_};
+ghost use lib.ListN.{length};
+ghost use Rattle.link_events.specs.Merging.{widthAt, rankAt, senderAt, merged, eventBytes, pairBytes, eventsFrom, endFrom, agreeFrom};
+ghost use Rattle.link_events.specs.Written.{Written};
+
+// How many bytes the event's field at place i has; 0 where none stands.
+fn width(s: &[u8], i: usize) -> usize
+    requires { ⌜ i ≤ length (now s) ⌝ }
+    ensures { λ r. ⌜ r ≡ widthAt (now (s .entry)) i ⌝ }
+    ensures { λ r. ⌜ (i + r ≤ length (now (s .entry))) × (r ≤ 5) ⌝ }
+{
+    let left = s.len() - i;
+    if left < 4 {
+        return 0;
+    }
+    if s[i] != 1 {
+        return 0;
+    }
+    if s[i + 2] == 1 {
+        return 4;
+    }
+    if left < 5 {
+        return 0;
+    }
+    5
+}
+
+// The priority in a field of w bytes.
+fn rank(s: &[u8], i: usize, w: usize) -> u8
+    requires { ⌜ i + w ≤ length (now s) ⌝ }
+    ensures { λ r. ⌜ r ≡ rankAt (now (s .entry)) i w ⌝ }
+{
+    if w < 4 {
+        return 0;
+    }
+    s[i + 3]
+}
+
+// Who may send it, 256 where no byte says it.
+fn sender(s: &[u8], i: usize, w: usize) -> usize
+    requires { ⌜ i + w ≤ length (now s) ⌝ }
+    ensures { λ r. ⌜ r ≡ senderAt (now (s .entry)) i w ⌝ }
+{
+    if w == 5 {
+        return s[i + 4] as usize;
+    }
+    256
+}
+
+// Who may send by both.
+fn merge(x: usize, y: usize) -> usize
+    ensures { λ r. ⌜ r ≡ merged x y ⌝ }
+{
+    if x == 256 {
+        return y;
+    }
+    if y == 256 {
+        return x;
+    }
+    x & y
+}
+
+// An event's field from place k on.
+fn put_event(out: &mut [u8], k: usize, r: u8, m: usize) -> usize
+    requires { ⌜ k + 5 ≤ length (now out) ⌝ }
+    ensures { λ n. ⌜ Written (now (out .entry)) k (eventBytes r m) (now (out .exit)) n ⌝ }
+    ensures { λ n. ⌜ n ≤ k + 5 ⌝ }
+{
+    if m == 256 {
+        out[k] = 1;
+        out[k + 1] = 0;
+        out[k + 2] = 1;
+        out[k + 3] = r;
+        return k + 4;
+    }
+    out[k] = 1;
+    out[k + 1] = 0;
+    out[k + 2] = 2;
+    out[k + 3] = r;
+    out[k + 4] = (m % 256) as u8;
+    k + 5
+}
+
+// The field of the events at place i of s and at place j of t, which have a and b bytes.
+fn put_pair(
+    s: &[u8],
+    i: usize,
+    a: usize,
+    t: &[u8],
+    j: usize,
+    b: usize,
+    out: &mut [u8],
+    k: usize,
+) -> usize
+    requires { ⌜ (i + a ≤ length (now s)) × (j + b ≤ length (now t)) × (k + 5 ≤ length (now out)) ⌝ }
+    ensures { λ n. ⌜ Written (now (out .entry)) k (pairBytes (now (s .entry)) i a (now (t .entry)) j b) (now (out .exit)) n ⌝ }
+    ensures { λ n. ⌜ n ≤ k + 5 ⌝ }
+{
+    let m = merge(sender(s, i, a), sender(t, j, b));
+    if a != 0 {
+        return put_event(out, k, rank(s, i, a), m);
+    }
+    if b != 0 {
+        return put_event(out, k, rank(t, j, b), m);
+    }
+    k
+}
+
+// The events of both, from the buffer's start on.
+pub fn put_events(s: &[u8], t: &[u8], out: &mut [u8]) -> usize
+    requires { ⌜ 160 ≤ length (now out) ⌝ }
+    ensures { λ n. ⌜ Written (now (out .entry)) 0 (eventsFrom 32 (now (s .entry)) 0 (now (t .entry)) 0) (now (out .exit)) n ⌝ }
+    ensures { λ n. ⌜ n ≤ 160 ⌝ }
+{
+    let mut i = 0;
+    let mut j = 0;
+    let mut k = 0;
+    let mut n = 0usize;
+    while n < 32 {
+        let a = width(s, i);
+        let b = width(t, j);
+        k = put_pair(s, i, a, t, j, b, out, k);
+        i += a;
+        j += b;
+        n += 1;
+    }
+    k
+}
+
+// The place after the events.
+pub fn events_end(s: &[u8]) -> usize
+    ensures { λ r. ⌜ r ≡ endFrom 32 (now (s .entry)) 0 ⌝ }
+    ensures { λ r. ⌜ r ≤ length (now (s .entry)) ⌝ }
+{
+    let mut i = 0;
+    let mut n = 0usize;
+    while n < 32 {
+        i += width(s, i);
+        n += 1;
+    }
+    i
+}
+
+// Whether every event that both declare has one rank.
+pub fn ranks_agree(s: &[u8], t: &[u8]) -> bool
+    ensures { λ r. ⌜ r ≡ agreeFrom 32 (now (s .entry)) 0 (now (t .entry)) 0 ⌝ }
+{
+    let mut i = 0;
+    let mut j = 0;
+    let mut n = 0usize;
+    while n < 32 {
+        let a = width(s, i);
+        let b = width(t, j);
+        if a == 0 {
+            return true;
+        }
+        if b == 0 {
+            return true;
+        }
+        if rank(s, i, a) != rank(t, j, b) {
+            return false;
+        }
+        i += a;
+        j += b;
+        n += 1;
+    }
+    true
+}

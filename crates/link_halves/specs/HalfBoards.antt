@@ -1,0 +1,69 @@
+-- What a joined sheet is beside its two sheets, as a claim about the exported functions: `joinOn`, `compileOn`, `startOn` and, within `roundAfter`, the calls' are what their contracts cite. 02, M-111: "After
+-- the same commits, each half of the joined board equals that sheet's own board, events that it doesn't declare being passed over." and "A player may send a shared event only where both sheets allow it".
+use Prim.Native.Nat.{ℕ, _+_, _≤_, _<_}
+use mathlib.Core.Bool.{false, _&&_}
+use mathlib.Core.Path.{_≡_}
+use mathlib.Core.List.{List, _++_}
+use lib.ListN.{length, getD, drop}
+use Rattle.lib_base.specs.Basics.{All}
+use Rattle.lib_word.specs.Word.{get}
+use Rattle.spec_language.specs.Syntax.{Program}
+use Rattle.spec_language.specs.Sheet.{Sheet}
+use Rattle.spec_language.specs.Grammar.{encode}
+use Rattle.spec_language.specs.Dependence.{size, events}
+use Rattle.spec_language.specs.Accepted.{SheetAccepted}
+use Rattle.spec_language.specs.Rights.{maySend, maySee}
+use Rattle.link_pooled.specs.Pooled.{pooled}
+use Rattle.link_pooled.specs.Together.{declared}
+use Rattle.spec_model.specs.Model.{Call}
+use Rattle.spec_model.specs.Claims.{after, committedIn, eventsOf, settlingIn}
+use Rattle.back_compile.specs.Verdict.{programOf, compileOn}
+use Rattle.link_join.specs.Join.{joined, joinOn}
+use Rattle.run_start.specs.Start.{startOn}
+use Rattle.refine_calls.specs.Refinement.{roundAfter}
+use Rattle.engine.specs.Demand.{boardOf}
+
+-- the board after the calls cs on the table t of program p and the round that start makes fresh in the bytes l
+abbrev pub boardAfter : Program → List ℕ → List ℕ → List Call → List ℕ
+boardAfter p t l cs = boardOf p (roundAfter t cs (startOn t l .1))
+
+-- "After the same commits, .. events that it doesn't declare being passed over": of the events that j commits in the calls cs, p commits in the calls ds those that it declares, in the same order
+abbrev pub SameCommits : Program → List Call → Program → List Call → Type 0
+SameCommits j cs p ds = eventsOf (committedIn p ds) ≡ declared p (eventsOf (committedIn j cs))
+
+-- "unless a copy-back is under way" (demand 3)
+abbrev pub Settled : Program → List Call → Type 0
+Settled p cs = settlingIn p (after p cs) ≡ false
+
+-- the programs p and q of the two sheets, that of the joined sheet, j, and their tables
+pub record Halves (p q j : Program) (t₀ l₀ t₁ l₁ t₂ l₂ : List ℕ) : Type 0 where
+  -- "each half of the joined board equals that sheet's own board": as many values as the first sheet has behaviours, then those of the second
+  pub boards : (cs cs₁ cs₂ : List Call) → Settled j cs → Settled p cs₁ → Settled q cs₂ → SameCommits j cs p cs₁ → SameCommits j cs q cs₂
+      → boardAfter j t₀ l₀ cs ≡ boardAfter p t₁ l₁ cs₁ ++ boardAfter q t₂ l₂ cs₂
+  -- "A player may send a shared event only where both sheets allow it", another where its sheet does
+  pub send-shared : (player e : ℕ) → e < events p → e < events q → maySend j player e ≡ maySend p player e && maySend q player e
+  pub send-first : (player e : ℕ) → events q ≤ e → maySend j player e ≡ maySend p player e
+  pub send-second : (player e : ℕ) → events p ≤ e → maySend j player e ≡ maySend q player e
+  -- who sees a behaviour stays
+  pub see-first : (player i : ℕ) → i < size p → maySee j player i ≡ maySee p player i
+  pub see-second : (player i : ℕ) → maySee j player (size p + i) ≡ maySee q player i
+  -- an event has the rank that each sheet gives it
+  pub rank-first : (e : ℕ) → e < events p → getD (j .priorities) e 0 ≡ getD (p .priorities) e 0
+  pub rank-second : (e : ℕ) → e < events q → getD (j .priorities) e 0 ≡ getD (q .priorities) e 0
+
+-- the joined sheet is the one pooled from both, compile takes its bytes v in a table of 01's length, and its round is the two sheets' side by side
+pub record JoinedRound (x y : Sheet) (s z ps v t₀ l₀ t₁ l₁ t₂ l₂ : List ℕ) : Type 0 where
+  pub bytes : encode (pooled x y) ≡ v
+  pub taken : SheetAccepted (get ps) (length ps) (pooled x y)
+  pub compiles : compileOn v ps t₀ .0 ≡ 0
+  pub halves : Halves (programOf ps x) (programOf ps y) (programOf ps (pooled x y)) (compileOn v ps t₀ .1) l₀ (compileOn s ps t₁ .1) l₁ (compileOn z ps t₂ .1) l₂
+
+-- every two sheets x and y that compile accepts as the bytes s and z with the same parameters ps, in any table and round bytes of 01's lengths, where join has delivered the bytes v in the buffer
+abbrev pub HalfBoards : Type 0
+HalfBoards =
+    (s z ps buffer v t₀ l₀ t₁ l₁ t₂ l₂ : List ℕ) → All (λ b. b < 256) s → All (λ b. b < 256) z → All (λ b. b < 256) ps
+    → 34816 ≤ length t₀ → 2048 ≤ length l₀ → 2048 ≤ length l₁ → 2048 ≤ length l₂
+    → compileOn s ps t₁ .0 ≡ 0 → compileOn z ps t₂ .0 ≡ 0
+    → (x y : Sheet) → encode x ≡ s → encode y ≡ z → SheetAccepted (get ps) (length ps) x → SheetAccepted (get ps) (length ps) y
+    → joinOn s z ps buffer ≡ joined (4294967296 + length v) (v ++ drop (length v) buffer)
+    → JoinedRound x y s z ps v t₀ l₀ t₁ l₁ t₂ l₂

@@ -1,0 +1,68 @@
+// One sheet from two accepted ones (02, M-111): compile's number for each, 26, compile's number for the joined one, 27, or 2 ^ 32 and its length.
+// Time: that of compile for each of the three, and one pass over the bytes of both.
+ghost use mathlib.Core.Path.{_≡_};
+ghost use Prim.Native.Nat.{_≤_};
+ghost use lib.ListN.{length};
+ghost use Rattle.spec_language.specs.Reading.{readSheet};
+ghost use Rattle.check_circle.specs.Witness.{numberOn};
+ghost use Rattle.link_join.specs.Join.{joined, deliveredIn, resultOn, poolRead, joinOn};
+
+// compile's number, as with a full table.
+fn number(sheet: &[u8], params: &[u8]) -> u32
+    ensures { λ r. ⌜ r ≡ numberOn (now (sheet .entry)) (now (params .entry)) ⌝ }
+{
+    let mut table = [0u8; 34816];
+    back_compile::compile_at(sheet, params, &mut table)
+}
+
+// The bytes at the start of the buffer, where it has room for them.
+fn deliver(v: &[u8], buffer: &mut [u8]) -> u64
+    requires { ⌜ length (now v) ≤ 16544 ⌝ }
+    ensures { λ r. ⌜ joined r (now (buffer .exit)) ≡ deliveredIn (now (v .entry)) (now (buffer .entry)) ⌝ }
+{
+    if buffer.len() < v.len() {
+        return 27;
+    }
+    bytes::copy(v, buffer);
+    4294967296 + (v.len() as u64)
+}
+
+// The joined sheet, where compile takes it.
+fn result_at(v: &[u8], params: &[u8], buffer: &mut [u8]) -> u64
+    requires { ⌜ length (now v) ≤ 16544 ⌝ }
+    ensures { λ r. ⌜ joined r (now (buffer .exit)) ≡ resultOn (now (v .entry)) (now (params .entry)) (now (buffer .entry)) ⌝ }
+{
+    let n = number(v, params);
+    if n != 0 {
+        return n as u64;
+    }
+    deliver(v, buffer)
+}
+
+// Two sheets that compile takes.
+fn pool_at(first: &[u8], second: &[u8], params: &[u8], buffer: &mut [u8]) -> u64
+    requires { ⌜ (numberOn (now first) (now params) ≡ 0) × (numberOn (now second) (now params) ≡ 0) ⌝ }
+    ensures { λ r. ⌜ joined r (now (buffer .exit)) ≡ poolRead (readSheet (now (first .entry))) (readSheet (now (second .entry))) (now (params .entry)) (now (buffer .entry)) ⌝ }
+{
+    if !link_events::ranks_agree(first, second) {
+        return 26;
+    }
+    let mut out = [0u8; 16544];
+    let n = link_bytes::splice(first, second, &mut out);
+    result_at(&out[0..n], params, buffer)
+}
+
+// The joined sheet's bytes at the start of the buffer: 2 ^ 32 and their number; or compile's number, 26, 27.
+pub fn join_at(first: &[u8], second: &[u8], params: &[u8], buffer: &mut [u8]) -> u64
+    ensures { λ r. ⌜ joined r (now (buffer .exit)) ≡ joinOn (now (first .entry)) (now (second .entry)) (now (params .entry)) (now (buffer .entry)) ⌝ }
+{
+    let x = number(first, params);
+    if x != 0 {
+        return x as u64;
+    }
+    let y = number(second, params);
+    if y != 0 {
+        return y as u64;
+    }
+    pool_at(first, second, params, buffer)
+}

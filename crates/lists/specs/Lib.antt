@@ -1,4 +1,0 @@
-pub mod Lists
-pub mod Standing
-pub mod Tables
-pub mod ListsHold

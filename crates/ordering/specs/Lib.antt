@@ -1,3 +1,0 @@
-pub mod Ordering
-pub mod OrderingLaws
-pub mod OrderingIs

@@ -1,2 +1,0 @@
-pub mod RightWords
-pub mod PartLaws

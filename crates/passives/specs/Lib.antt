@@ -1,2 +1,0 @@
-pub mod PassiveWords
-pub mod PassiveLaws

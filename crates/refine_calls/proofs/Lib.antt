@@ -1,0 +1,10 @@
+pub mod Slots
+pub mod Values
+pub mod Instructions
+pub mod Relation
+pub mod Agrees
+pub mod Forecasts
+pub mod FreshRound
+pub mod Refines
+pub mod Coded
+pub mod Previews

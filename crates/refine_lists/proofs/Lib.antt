@@ -1,0 +1,5 @@
+pub mod Standing
+pub mod Tables
+pub mod ListsHold
+pub mod Sheets
+pub mod RoundsHold

@@ -1,0 +1,25 @@
+-- `shown_in` is `shownIn` of `toIdle`: the callees' answers put together.
+use Prim.Native.Nat.{ℕ, _+_}
+use mathlib.Core.Path.{_≡_, ap, _∙_}
+use mathlib.Core.List.{List}
+use Rattle.lib_word.specs.Word.{get}
+use Rattle.run_start.specs.Start.{Result, result}
+use Rattle.run_preview.specs.Preview.{shown, shownIn}
+use borrow.Author.Needs.{needs}
+use Rattle.run_preview.proofs.shown_in.Statement.{statement}
+use Rattle.run_preview.proofs.shown_in.Tie as tie
+
+together : (o : Result) (i : ℕ) {a v x : ℕ} {m : List ℕ} → result a m ≡ o → v ≡ get m (136 + i) → x ≡ shown a v → x ≡ shownIn o i
+unfolding shownIn
+together o i {a} {v} {x} {m} e f g = g ∙ ap (shown a) f ∙ ap (λ (o : Result). shown (o .0) (get (o .1) (136 + i))) e
+
+pub shown-in-spec : {M : Type 1} → statement M
+shown-in-spec =
+    tie.close
+    (tie.spec
+    (λ c κs. search needs)
+    (λ c. search needs)
+    (λ c κs. search needs)
+    (λ c κs. search needs)
+    (λ c. search needs)
+    (λ c. together _ _ (c .before .before .before .before .before .run-to-idle .ensures) (c .before .get-word .ensures) (c .shown-by .ensures)))

@@ -1,0 +1,17 @@
+-- The read, the function and the writes are the definition's, by their contracts.
+use Rattle.run_stack.specs.Stack.{applyOne}
+use borrow.Author.Needs.{needs}
+use Rattle.run_stack.proofs.apply_one.Statement.{statement}
+use Rattle.run_stack.proofs.apply_one.Tie as tie
+
+pub apply-one-spec : {M : Type 1} → statement M
+unfolding applyOne
+apply-one-spec =
+    tie.close
+    (tie.spec
+    (λ c. search needs)
+    (λ c κs. search needs)
+    (λ c κs. search needs)
+    (λ c κs. search needs)
+    (λ c. search needs)
+    (λ c. cc (c .before .before .before .before .before .before .before .before .get-word .ensures, c .before .before .before .before .before .before .call-on .ensures .0, c .before .before .before .before .before .before .call-on .ensures .1, c .before .before .put-word .ensures)))

@@ -1,0 +1,4 @@
+pub mod Told
+pub mod SeenHolds
+pub mod Turned
+pub mod HeardHolds

@@ -1,0 +1,9 @@
+pub mod Programs
+pub mod Stores
+pub mod Control
+pub mod Answered
+pub mod Needed
+pub mod Twins
+pub mod Mended
+pub mod HiddenHolds
+pub mod NeededWithChanges

@@ -1,0 +1,147 @@
+-- A change to programs alike keeps two such states so, and is answered alike: the tests of a change look at the control alone, and the carried stores agree on what the player sees, since
+-- the same behaviours were hidden before.
+use Prim.Native.Nat.{ℕ, _<_}
+use mathlib.Core.Bool.{Bool, true, false, _&&_}
+use mathlib.Core.Path.{_≡_, refl, sym, ap, _∙_, subst}
+use mathlib.Core.List.{List, [], _∷_}
+use native.Mathlib.Omega.{arith}
+use lib.Dec.{ltb}
+use Rattle.lib_base.specs.Basics.{pick}
+use Rattle.lib_base.proofs.Tools.{by-two}
+use Rattle.spec_language.specs.Syntax.{Behaviour, passive, active, Program}
+use Rattle.spec_language.specs.Refusals as refusals
+use Rattle.spec_language.specs.Rights.{maySee}
+use Rattle.spec_language.specs.Dependence.{size, events, noEvent, behaviourAt, isActive}
+use Rattle.spec_language.specs.Accepted.{Valid}
+use Rattle.spec_semantics.specs.Meaning.{firstPhase}
+use Rattle.spec_execution.specs.Execution.{at, emptied}
+use Rattle.spec_changes.specs.Carried.{activeIn, begins, carriedActives, carried}
+use Rattle.spec_changes.proofs.Carries.{active-below, length-actives, actives-at, length-carried}
+use Rattle.spec_model.specs.Model.{Arrival, rest, Engine, engine, queue, refused}
+use Rattle.spec_model.specs.Claims.{inQueue, settlingIn}
+use Rattle.spec_changes.specs.Turns.{change, state, says, carriedOver, Result, result, declaredIn, carriedTo, turn}
+use Rattle.spec_changes.proofs.History.{all-declared, reached-carried}
+use Rattle.spec_changes.proofs.Boards.{carried-done}
+use Rattle.secrecy_model.specs.Sight.{Sealed}
+use Rattle.secrecy_model.proofs.Programs.{BehaviourAlike, Alike, events-same}
+use Rattle.secrecy_model.proofs.Stores.{sealed-direct, first-agree}
+use Rattle.secrecy_model.proofs.Control.{control, settling-both}
+use Rattle.secrecy_model.specs.Hidden.{Sees}
+use Rattle.secrecy_model.proofs.Twins.{Agree, Twin, TwinStates, store-here, store-there}
+
+-- ---- what the actives begin with
+
+active-same : (seen : Bool) (b c : Behaviour) → BehaviourAlike seen b c → isActive b ≡ isActive c
+active-same seen (passive x) (passive y) h = refl
+active-same seen (passive x) (active t hs) h = absurd h
+active-same seen (active s hs) (passive y) h = absurd h
+active-same seen (active s hs) (active t gs) h = refl
+
+pick-begins : (k : Bool) (v u c d : ℕ) → c ≡ d → (k ≡ true → v ≡ u) → pick k v c ≡ pick k u d
+pick-begins true v u c d e h = h refl
+pick-begins false v u c d e h = e
+
+begins-same : (k : Bool) (v u : ℕ) (b c : Behaviour) → BehaviourAlike true b c → (k ≡ true → v ≡ u) → begins k v b ≡ begins k u c
+begins-same k v u (passive x) (passive y) h e = refl
+begins-same k v u (passive x) (active t hs) h e = absurd h
+begins-same k v u (active s hs) (passive y) h e = absurd h
+begins-same k v u (active s hs) (active t gs) h e = pick-begins k v u s t (h .0 refl) e
+
+-- ---- the tests of a change
+
+-- a change with these outcomes of its two tests
+abbrev changedBy : Bool → Bool → Program → Program → Engine → Result
+changedBy settles known p q w =
+    pick settles (result (says (refused refusals.settling)) (state p w))
+    (pick known (result carriedOver (state q (carriedTo p q w))) (result (says (refused refusals.undeclaredInHand)) (state p w)))
+
+changed-by : (p q : Program) (w : Engine) → turn (change q) (state p w) ≡ changedBy (settlingIn p w) (declaredIn q (inQueue w)) p q w
+unfolding turn
+changed-by p q (engine t waiting r d) = refl
+
+-- by the number of events alone
+declared-same : (q r : Program) → events q ≡ events r → (l : List Arrival) → declaredIn q l ≡ declaredIn r l
+declared-same q r e [] = refl
+declared-same q r e (a ∷ l) = λ i. pick (ltb (a .event) (e i)) (declared-same q r e l i) false
+
+queue-control : (w : Engine) → inQueue w ≡ inQueue (control w)
+queue-control (engine t waiting r d) = refl
+
+-- the control after a change
+abbrev rested : Engine → Engine
+rested (engine t waiting r d) = engine t (queue waiting r) rest (emptied [])
+
+rested-control : (p q : Program) (w : Engine) → control (carriedTo p q w) ≡ rested (control w)
+rested-control p q (engine t waiting r d) = refl
+
+module _ (player : ℕ) (seen : ℕ → Bool) (p : Program) (w : Engine) (q : Program) (x : Engine) (twin : Twin player seen p w q x)
+    (p′ q′ : Program) (alike : Alike player p′ q′) (sealed : Sealed p′ player) (sees : Sees player seen p′) (v : Valid p′) (u : Valid q′) where
+  in-both : (i : ℕ) → activeIn p i ≡ activeIn q i
+  in-both i = λ z. ltb i (twin .alike .sizes z) && active-same (maySee p player i) (behaviourAt p i) (behaviourAt q i) (twin .alike .each i) z
+
+  -- what is seen now was seen before
+  value-same : (i : ℕ) → i < size p′ → maySee p′ player i ≡ true → activeIn p i ≡ true → at (twin .here) i ≡ at (twin .there) i
+  value-same i b m k =
+      let l : i < size p = active-below p i k .0 in
+      twin .agree i l (twin .sees i l ∙ sym (sees i b) ∙ m)
+
+  actives-agree : Agree player seen p′ (carriedActives p p′ (twin .here)) (carriedActives q q′ (twin .there))
+  actives-agree i b m =
+      actives-at p p′ (twin .here) i b
+      ∙ begins-same (activeIn p i) (at (twin .here) i) (at (twin .there) i) (behaviourAt p′ i) (behaviourAt q′ i)
+      (subst (λ (k : Bool). BehaviourAlike k (behaviourAt p′ i) (behaviourAt q′ i)) m (alike .each i)) (value-same i b m)
+      ∙ ap (λ (k : Bool). begins k (at (twin .there) i) (behaviourAt q′ i)) (in-both i)
+      ∙ sym (actives-at q q′ (twin .there) i (omega (arith, alike .sizes)))
+
+  carried-agree : Agree player seen p′ (carried p p′ (twin .here)) (carried q q′ (twin .there))
+  unfolding carried
+  carried-agree =
+      subst (λ (n : ℕ). Agree player seen p′ (firstPhase p′ (noEvent p′) (carriedActives p p′ (twin .here))) (firstPhase q′ n (carriedActives q q′ (twin .there))))
+      (events-same player p′ q′ alike)
+      (first-agree player p′ q′ alike (sealed-direct p′ player sealed) v u (noEvent p′) (omega arith) (carriedActives p p′ (twin .here)) (carriedActives q q′ (twin .there))
+      (length-actives p p′ (twin .here)) (length-actives q q′ (twin .there)) actives-agree)
+
+  -- ---- a change that is made
+
+  hand-same : inQueue w ≡ inQueue x
+  hand-same = queue-control w ∙ ap inQueue (twin .together) ∙ sym (queue-control x)
+
+  known-same : declaredIn p′ (inQueue w) ≡ declaredIn q′ (inQueue x)
+  known-same = declared-same p′ q′ (events-same player p′ q′ alike) (inQueue w) ∙ ap (declaredIn q′) hand-same
+
+  twin-made : settlingIn p w ≡ false → declaredIn p′ (inQueue w) ≡ true → Twin player seen p′ (carriedTo p p′ w) q′ (carriedTo q q′ x)
+  twin-made h k = record {
+    alike = alike;
+    sealed = sealed;
+    sees = sees;
+    one = (v, reached-carried p p′ w (twin .one .1) (all-declared p′ (inQueue w) k));
+    other = (u, reached-carried q q′ x (twin .other .1) (all-declared q′ (inQueue x) (sym known-same ∙ k)));
+    together = rested-control p p′ w ∙ ap rested (twin .together) ∙ sym (rested-control q q′ x);
+    here = carried p p′ (twin .here);
+    there = carried q q′ (twin .there);
+    sized = length-carried p p′ (twin .here);
+    sized-other = length-carried q q′ (twin .there);
+    done = carried-done p p′ p w (twin .here) (store-here player seen p w q x twin h);
+    done-other = carried-done q q′ q x (twin .there) (store-there player seen p w q x twin h);
+    agree = carried-agree;
+  }
+
+  -- ---- a change
+
+  abbrev TwinResults : Result → Result → Type 0
+  TwinResults y z = (y .reply ≡ z .reply) × TwinStates player seen (y .after) (z .after)
+
+  tests-same : turn (change q′) (state q x) ≡ changedBy (settlingIn p w) (declaredIn p′ (inQueue w)) q q′ x
+  tests-same =
+      changed-by q q′ x
+      ∙ (λ i. changedBy (sym (settling-both player p q (twin .alike) w x (twin .together)) i) (sym known-same i) q q′ x)
+
+  by-tests : TwinResults (changedBy (settlingIn p w) (declaredIn p′ (inQueue w)) p p′ w) (changedBy (settlingIn p w) (declaredIn p′ (inQueue w)) q q′ x)
+  by-tests =
+      by-two TwinResults (settlingIn p w) (λ h. (refl, twin))
+      (λ h. by-two TwinResults (declaredIn p′ (inQueue w)) (λ k. (refl, twin-made h k)) (λ k. (refl, twin)))
+
+  pub twin-change : (turn (change p′) (state p w) .reply ≡ turn (change q′) (state q x) .reply)
+      × TwinStates player seen (turn (change p′) (state p w) .after) (turn (change q′) (state q x) .after)
+  twin-change = subst (λ (y : Result). TwinResults y (turn (change q′) (state q x))) (sym (changed-by p p′ w))
+      (subst (λ (z : Result). TwinResults (changedBy (settlingIn p w) (declaredIn p′ (inQueue w)) p p′ w) z) (sym tests-same) by-tests)

@@ -1,1 +1,0 @@
-// Definitions and theorems only: the rule for a player, of the numbers that the exported functions give. They stand in specs/.

@@ -1,0 +1,34 @@
+-- Demand 3 holds of the model engine on every list of turns, the first program and each that a change goes to being valid. The sentences are those of Claims.
+use mathlib.Core.List.{List}
+use Rattle.lib_base.specs.Basics.{All}
+use Rattle.spec_language.specs.Syntax.{Program}
+use Rattle.spec_language.specs.Accepted.{Valid}
+use Rattle.spec_changes.specs.Turns.{Turn}
+use Rattle.spec_changes.specs.Claims.{Sound, SameBoard, Holds}
+use Rattle.spec_changes.proofs.Boards as boards
+use Rattle.spec_changes.proofs.Replaying as replaying
+use Rattle.spec_changes.proofs.Once as once
+use Rattle.spec_changes.proofs.Equals as equals
+use Rattle.spec_changes.proofs.Lower as lower
+use Rattle.spec_changes.proofs.Counts as counts
+use Rattle.spec_changes.proofs.Alone as alone
+use Rattle.spec_changes.proofs.SameBoard as same
+
+module _ (p : Program) (v : Valid p) where
+  pub holds : (ts : List Turn) → All Sound ts → Holds p ts
+  holds ts g = record {
+    board = boards.board-of-commits p v ts g;
+    by-rules = replaying.board-by-rules p v ts g;
+    once = once.once-each p v ts g;
+    equals = equals.equals-in-order p v ts g;
+    lower = lower.lower-first p v ts g;
+    settles = counts.settles-in p v ts g;
+    quiet = counts.quiet-exactly p v ts g;
+    nobody-waits = counts.nobody-waits p v ts g;
+    one-event = alone.alone-right p v ts g;
+    previews = counts.preview-right p v ts g;
+    mark = counts.mark-right p v ts g;
+  }
+
+  pub same-board : (ts us : List Turn) → All Sound ts → All Sound us → SameBoard p ts us
+  same-board = same.same-board p v

@@ -1,0 +1,14 @@
+pub mod Carries
+pub mod Passives
+pub mod History
+pub mod Boards
+pub mod Once
+pub mod Equals
+pub mod Replaying
+pub mod Lower
+pub mod Counts
+pub mod Courses
+pub mod SameBoard
+pub mod Alone
+pub mod ChangesHold
+pub mod Examples

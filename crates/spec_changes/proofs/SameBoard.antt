@@ -1,0 +1,70 @@
+-- Two lists of turns that take in the same events in the same order, with the same changes after the same commits and independence in each sheet, end in one store when both are idle:
+-- each commits what it took in, so their courses hold the same arrivals.
+use Prim.Native.Nat.{ℕ, suc}
+use mathlib.Core.Bool.{false}
+use mathlib.Core.Path.{_≡_, refl, sym, ap, _∙_, subst}
+use mathlib.Core.List.{List, [], _∷_, List·Nodup, List·Permᴰ, List·Permᴰ·trans, Permᴰ·symm, Permᴰ·map}
+use Rattle.lib_base.specs.Basics.{All}
+use Rattle.spec_language.specs.Syntax.{Program}
+use Rattle.spec_language.specs.Accepted.{Valid}
+use Rattle.spec_semantics.specs.Meaning.{fresh}
+use Rattle.spec_semantics.proofs.Lengths.{length-fresh}
+use Rattle.spec_execution.proofs.CodeRight.{code-facts}
+use Rattle.spec_model.specs.Model.{Arrival, arrival, arrive, step, board, refused, takenIn, shows, idle, ran, started, preempted, committed}
+use Rattle.spec_model.specs.Claims.{settlingIn, eventsOf}
+use Rattle.spec_model.proofs.Choice.{numbers, distinct-numbers}
+use Rattle.spec_model.proofs.Unsigned.{unsigned, allUnsigned, numbered}
+use Rattle.spec_model.proofs.SameBoard.{at-rest}
+use Rattle.spec_changes.specs.Turns.{Turn, call, change, State, state, Reply, says, carriedOver, replies, begun}
+use Rattle.spec_changes.specs.Claims.{Moment, takenTurns, inForce, engineIn, handIn, storeIn, IdleIn, after, historyOf, takenInBy, Sound, replayed, courseOf, SameBoard}
+use Rattle.spec_changes.proofs.History.{Fit, fits}
+use Rattle.spec_changes.proofs.Boards.{board-of-commits}
+use Rattle.spec_changes.proofs.Replaying.{proper}
+use Rattle.spec_changes.proofs.Once.{once-each, idle-hand}
+use Rattle.spec_changes.proofs.Equals.{equals-in-order}
+use Rattle.spec_changes.proofs.Courses.{replay-along, allOf, committed-all, orderly, known, same-course}
+
+-- the arrivals taken in, without their players, are their events numbered from n on
+taken-numbered : (ts : List Turn) (l : List Reply) (n : ℕ) → allUnsigned (takenTurns ts l n) ≡ numbered n (eventsOf (takenTurns ts l n))
+unfolding takenTurns
+taken-numbered [] l n = refl
+taken-numbered (t ∷ ts) [] n = refl
+taken-numbered (call (arrive e who) ∷ ts) (says (refused k) ∷ l) n = taken-numbered ts l n
+taken-numbered (call (arrive e who) ∷ ts) (says takenIn ∷ l) n = ap (λ (m : List Arrival). arrival n e 0 ∷ m) (taken-numbered ts l (suc n))
+taken-numbered (call (arrive e who) ∷ ts) (says (shows v) ∷ l) n = taken-numbered ts l n
+taken-numbered (call (arrive e who) ∷ ts) (says idle ∷ l) n = taken-numbered ts l n
+taken-numbered (call (arrive e who) ∷ ts) (says ran ∷ l) n = taken-numbered ts l n
+taken-numbered (call (arrive e who) ∷ ts) (says (started a) ∷ l) n = taken-numbered ts l n
+taken-numbered (call (arrive e who) ∷ ts) (says (preempted a) ∷ l) n = taken-numbered ts l n
+taken-numbered (call (arrive e who) ∷ ts) (says (committed a m) ∷ l) n = taken-numbered ts l n
+taken-numbered (call step ∷ ts) (says a ∷ l) n = taken-numbered ts l n
+taken-numbered (call (board i who) ∷ ts) (says a ∷ l) n = taken-numbered ts l n
+taken-numbered (call c ∷ ts) (carriedOver ∷ l) n = taken-numbered ts l n
+taken-numbered (change q ∷ ts) (r ∷ l) n = taken-numbered ts l n
+
+module _ (p : Program) (v : Valid p) where
+  not-settling : (s : State) → Fit s → handIn s ≡ [] → settlingIn (inForce s) (engineIn s) ≡ false
+  not-settling (state q w) f h = at-rest q (code-facts q (f .0)) w h
+
+  -- when idle, the store is that of the course, and the course's arrivals are those taken in
+  idle-store : (ts : List Turn) → All Sound ts → IdleIn (after p ts) → storeIn (after p ts) ≡ replayed p (historyOf p ts) (fresh p)
+  idle-store ts g h = board-of-commits p v ts g (not-settling (after p ts) (fits p v ts g) (idle-hand p v (after p ts) h))
+
+  idle-course : (ts : List Turn) → All Sound ts → IdleIn (after p ts) → List·Permᴰ (takenInBy p ts) (allOf (courseOf (historyOf p ts)))
+  idle-course ts g h = subst (List·Permᴰ (takenInBy p ts)) (committed-all (historyOf p ts)) (once-each p v ts g .2 h)
+
+  pub same-board : (ts us : List Turn) → All Sound ts → All Sound us → SameBoard p ts us
+  same-board ts us gt gu same kept apart it iu =
+      let ht : List Moment = historyOf p ts in
+      let hu : List Moment = historyOf p us in
+      let dt = idle-course ts gt it in
+      let du = idle-course us gu iu in
+      let taken : allUnsigned (takenInBy p us) ≡ allUnsigned (takenInBy p ts) =
+      taken-numbered us (replies us (begun p)) 0 ∙ ap (numbered 0) (sym same) ∙ sym (taken-numbered ts (replies ts (begun p)) 0) in
+      let d : List·Permᴰ (allUnsigned (allOf (courseOf ht))) (allUnsigned (allOf (courseOf hu))) =
+      List·Permᴰ·trans (Permᴰ·symm (Permᴰ·map unsigned dt)) (subst (λ (l : List Arrival). List·Permᴰ l (allUnsigned (allOf (courseOf hu)))) taken (Permᴰ·map unsigned du)) in
+      let n : List·Nodup (numbers (allOf (courseOf ht))) = distinct-numbers dt (once-each p v ts gt .1) in
+      idle-store ts gt it ∙ replay-along p ht (fresh p)
+      ∙ same-course p (courseOf ht) (courseOf hu) (fresh p) (length-fresh p) kept d n (known p ht v (proper p v ts gt)) apart
+      (orderly p ht (equals-in-order p v ts gt .0)) (orderly p hu (equals-in-order p v us gu .0))
+      ∙ sym (replay-along p hu (fresh p)) ∙ sym (idle-store us gu iu)

@@ -1,0 +1,313 @@
+-- Demand 3 with changes of sheets, in terms of the model engine: what is said of every list of turns from the initial engine of a program. 02, M-112. Without a change they are the
+-- sentences of model's Claims.
+use Prim.Native.Nat.{ℕ, _+_, _*_, _≤_, _<_}
+use mathlib.Core.Bool.{Bool, true, false}
+use mathlib.Core.Path.{_≡_}
+use mathlib.Core.Logic.{_≢_}
+use mathlib.Core.List.{List, [], _∷_, _++_, map, List·Permᴰ, List·Memᴰ, Pairwise, List·Nodup}
+use lib.ListN.{length}
+use Rattle.lib_base.specs.Basics.{All}
+use Rattle.spec_language.specs.Syntax.{Program}
+use Rattle.spec_language.specs.Dependence.{size, events, Independent}
+use Rattle.spec_language.specs.Rights.{maySend, maySee}
+use Rattle.spec_language.specs.Accepted.{Valid}
+use Rattle.spec_semantics.specs.Rules.{Runs, Shows}
+use Rattle.spec_semantics.specs.Meaning.{at, event, fresh, withStore}
+use Rattle.spec_semantics.specs.OverMeaning.{eventOver}
+use Rattle.spec_changes.specs.Carried.{carried, Carries}
+use Rattle.spec_model.specs.Model.{Arrival, arrival, Engine, Call, arrive, step, Answer, refused, takenIn, shows, idle, ran, started, preempted, committed, rank}
+use Rattle.spec_model.specs.Claims.{ifTaken, number, inQueue, storeOf, settlingIn, Idle, CopyingBack, eventsOf, aloneCalls, longest, steps, stepsOf, AtRest, previewed}
+use Rattle.spec_changes.specs.Turns.{Turn, call, change, State, state, Reply, says, carriedOver, turn, runTurns, replies, begun}
+
+-- ---- what the replies say
+
+-- the history of a board, in order: an arrival is committed, or the sheet is changed to this program
+pub data Moment : Type 0 where
+  commits : Arrival → Moment
+  changes : Program → Moment
+
+abbrev pub ifCommits : Answer → List Moment → List Moment
+ifCommits (refused n) l = l
+ifCommits takenIn l = l
+ifCommits (shows v) l = l
+ifCommits idle l = l
+ifCommits ran l = l
+ifCommits (started a) l = l
+ifCommits (preempted a) l = l
+ifCommits (committed a m) l = commits a ∷ l
+
+abbrev pub momentOf : Turn → Reply → List Moment → List Moment
+momentOf (call c) (says a) l = ifCommits a l
+momentOf (call c) carriedOver l = l
+momentOf (change q) (says a) l = l
+momentOf (change q) carriedOver l = changes q ∷ l
+
+unfoldable pub moments : List Turn → List Reply → List Moment
+moments [] l = []
+moments (t ∷ ts) [] = []
+moments (t ∷ ts) (r ∷ l) = momentOf t r (moments ts l)
+
+-- the arrivals committed, in order of commitment
+abbrev pub committedBy : List Moment → List Arrival
+committedBy [] = []
+committedBy (commits a ∷ h) = a ∷ committedBy h
+committedBy (changes q ∷ h) = committedBy h
+
+-- and each with the program in force when it commits, p being the first
+pub record Commit : Type 0 where
+  pub under : Program
+  pub what : Arrival
+
+abbrev pub commitUnder : Program → Arrival → Commit
+commitUnder p a = record { under = p; what = a }
+
+unfoldable pub commitsUnder : Program → List Moment → List Commit
+commitsUnder p [] = []
+commitsUnder p (commits a ∷ h) = commitUnder p a ∷ commitsUnder p h
+commitsUnder p (changes q ∷ h) = commitsUnder q h
+
+-- the arrivals taken in, numbered from n on
+abbrev pub ifTakenIn : Turn → Reply → ℕ → (ℕ → List Arrival) → List Arrival
+ifTakenIn (call c) (says a) n l = ifTaken c a n l
+ifTakenIn (call c) carriedOver n l = l n
+ifTakenIn (change q) r n l = l n
+
+unfoldable pub takenTurns : List Turn → List Reply → ℕ → List Arrival
+takenTurns [] l n = []
+takenTurns (t ∷ ts) [] n = []
+takenTurns (t ∷ ts) (r ∷ l) n = ifTakenIn t r n (takenTurns ts l)
+
+-- ---- what a state says
+
+abbrev pub inForce : State → Program
+inForce (state p w) = p
+
+abbrev pub engineIn : State → Engine
+engineIn (state p w) = w
+
+abbrev pub numberIn : State → ℕ
+numberIn s = number (engineIn s)
+
+abbrev pub handIn : State → List Arrival
+handIn s = inQueue (engineIn s)
+
+abbrev pub storeIn : State → List ℕ
+storeIn s = storeOf (engineIn s)
+
+-- "Idle: a step called now would answer idle."
+abbrev pub IdleIn : State → Type 0
+IdleIn s = Idle (inForce s) (engineIn s)
+
+-- ---- of a list of turns from a fresh round of p
+
+abbrev pub after : Program → List Turn → State
+after p ts = runTurns ts (begun p)
+
+abbrev pub historyOf : Program → List Turn → List Moment
+historyOf p ts = moments ts (replies ts (begun p))
+
+abbrev pub committedIn : Program → List Turn → List Arrival
+committedIn p ts = committedBy (historyOf p ts)
+
+abbrev pub takenInBy : Program → List Turn → List Arrival
+takenInBy p ts = takenTurns ts (replies ts (begun p)) 0
+
+-- the changes are to programs as compile accepts them
+abbrev pub Sound : Turn → Type 0
+Sound (call c) = Unit {0}
+Sound (change q) = Valid q
+
+-- ---- the board. "Commits before the change follow the old sheet and later ones the new"
+
+-- what a history does to a store, p being in force
+unfoldable pub replayed : Program → List Moment → List ℕ → List ℕ
+replayed p [] s = s
+replayed p (commits a ∷ h) s = replayed p h (event p (a .event) s)
+replayed p (changes q ∷ h) s = replayed q h (carried p q s)
+
+-- "unless a copy-back is under way, the board equals what demand 2's rules give for the committed events, one by one, undivided, in order of commitment"
+abbrev pub BoardOfCommits : Program → List Turn → Type 0
+BoardOfCommits p ts = settlingIn (inForce (after p ts)) (engineIn (after p ts)) ≡ false → storeIn (after p ts) ≡ replayed p (historyOf p ts) (fresh p)
+
+-- the same by Figure 1's rules: p being in force, the history leads from the store s to the last store
+pub data Replays : Program → List Moment → List ℕ → List ℕ → Type 0 where
+  done : {p : Program} {s : List ℕ} → Replays p [] s s
+  next : {p : Program} {a : Arrival} {h : List Moment} {s first s′ last : List ℕ} → Runs (withStore p s) (a .event) first (withStore p s′) → length s′ ≡ size p
+      → ((i : ℕ) → i < size p → Shows (withStore p s′) i (at s′ i)) → Replays p h s′ last → Replays p (commits a ∷ h) s last
+  turns : {p q : Program} {h : List Moment} {s s′ last : List ℕ} → Carries p q s s′ → Replays q h s′ last → Replays p (changes q ∷ h) s last
+
+-- the rules lead there, and to no other store
+abbrev pub BoardByRules : Program → List Turn → Type 0
+BoardByRules p ts =
+    settlingIn (inForce (after p ts)) (engineIn (after p ts)) ≡ false
+    → Replays p (historyOf p ts) (fresh p) (storeIn (after p ts)) × ((s : List ℕ) → Replays p (historyOf p ts) (fresh p) s → s ≡ storeIn (after p ts))
+
+-- ---- order
+
+-- "Each arrival taken in is committed at most once, exactly once when idle"
+abbrev pub OnceEach : Program → List Turn → Type 0
+OnceEach p ts =
+    List·Permᴰ (takenInBy p ts) (committedIn p ts ++ handIn (after p ts))
+    × List·Nodup (map (λ (a : Arrival). a .number) (takenInBy p ts))
+    × (IdleIn (after p ts) → List·Permᴰ (takenInBy p ts) (committedIn p ts))
+
+-- "between two events, ranks are those in force when the first commits": of this commit and a later one, or one still in hand
+abbrev pub EqualTo : Commit → Arrival → Type 0
+EqualTo x b = rank (x .under) (x .what) ≡ rank (x .under) b
+
+abbrev pub LowerThan : Commit → Arrival → Type 0
+LowerThan x b = rank (x .under) (x .what) < rank (x .under) b
+
+-- "and after every earlier one of equal rank"
+abbrev pub EqualsInOrder : Program → List Turn → Type 0
+EqualsInOrder p ts =
+    Pairwise (λ (x y : Commit). EqualTo x (y .what) → x .what .number < y .what .number) (commitsUnder p (historyOf p ts))
+    × All (λ (x : Commit). All (λ b. EqualTo x b → x .what .number < b .number) (handIn (after p ts))) (commitsUnder p (historyOf p ts))
+
+-- b was taken in after the copy-back of a began: at some moment it is under way, and b's number is not yet given
+pub record Later (p : Program) (ts : List Turn) (a b : Arrival) : Type 0 where
+  pub past : List Turn
+  pub rest-of : List Turn
+  pub moment : ts ≡ past ++ rest-of
+  pub copying : CopyingBack (inForce (after p past)) a (engineIn (after p past))
+  pub not-yet : numberIn (after p past) ≤ b .number
+
+-- "A lower rank precedes a higher one only if the higher was taken in after the lower's copy-back began."
+abbrev pub LowerFirst : Program → List Turn → Type 0
+LowerFirst p ts =
+    Pairwise (λ (x y : Commit). LowerThan x (y .what) → Later p ts (x .what) (y .what)) (commitsUnder p (historyOf p ts))
+    × All (λ (x : Commit). All (λ b. LowerThan x b → Later p ts (x .what) b) (handIn (after p ts))) (commitsUnder p (historyOf p ts))
+
+-- ---- counts of steps. "counts of steps, M-100's too, run from the last" change: the turns us after ts change no sheet, L and the instruction counts being those of the program in force
+
+abbrev pub NotCarried : Reply → Type 0
+NotCarried (says a) = Unit {0}
+NotCarried carriedOver = ⊥
+
+-- "no sheet is changed": every change among them is refused
+abbrev pub Unchanged : List Turn → State → Type 0
+Unchanged us s = All NotCarried (replies us s)
+
+-- the calls among turns
+abbrev pub callsOf : List Turn → List Call
+callsOf [] = []
+callsOf (call c ∷ ts) = c ∷ callsOf ts
+callsOf (change q ∷ ts) = callsOf ts
+
+abbrev pub stepsIn : List Turn → ℕ
+stepsIn ts = steps (callsOf ts)
+
+-- (k + 1) × (L + 1), k being the number in hand and L the longest event's instructions
+abbrev pub countIn : State → ℕ
+countIn s = (length (handIn s) + 1) * (longest (inForce s) + 1)
+
+-- "Once no more are taken in, the round is idle within 01's count of steps"; "k = 0 is idle already"
+abbrev pub SettlesIn : Program → List Turn → Type 0
+SettlesIn p ts =
+    ((us : List Turn) → Unchanged us (after p ts) → numberIn (after p (ts ++ us)) ≡ numberIn (after p ts)
+    → countIn (after p ts) ≤ stepsIn us → IdleIn (after p (ts ++ us)))
+    × (length (handIn (after p ts)) ≡ 0 → IdleIn (after p ts))
+
+-- M-100: "with nothing running and no further arrivals, idle shall come after exactly the sum, over the hand, of each event's instruction count plus one"
+abbrev pub QuietExactly : Program → List Turn → Type 0
+QuietExactly p ts =
+    AtRest (engineIn (after p ts)) → (us : List Turn) → Unchanged us (after p ts) → numberIn (after p (ts ++ us)) ≡ numberIn (after p ts)
+    → (stepsIn us < stepsOf (inForce (after p ts)) (handIn (after p ts)) → IdleIn (after p (ts ++ us)) → ⊥)
+    × (stepsOf (inForce (after p ts)) (handIn (after p ts)) ≤ stepsIn us → IdleIn (after p (ts ++ us)))
+
+-- M-113: "If during the next (k + 1) × (L + 1) steps nothing of higher rank arrives and no sheet is changed, that arrival is committed by the end of them."
+abbrev pub takenThen : Program → List Turn → List Turn → List Arrival
+takenThen p ts us = takenTurns us (replies us (after p ts)) (numberIn (after p ts))
+
+abbrev pub committedThen : Program → List Turn → List Turn → List Arrival
+committedThen p ts us = committedBy (moments us (replies us (after p ts)))
+
+abbrev pub NobodyWaits : Program → List Turn → Type 0
+NobodyWaits p ts =
+    (us : List Turn) (a : Arrival) → List·Memᴰ a (handIn (after p ts)) → Unchanged us (after p ts)
+    → All (λ b. rank (inForce (after p ts)) b ≤ rank (inForce (after p ts)) a) (takenThen p ts us)
+    → countIn (after p ts) ≤ stepsIn us → List·Memᴰ a (committedThen p ts us)
+
+-- ---- demand 2, M-101 and M-104, with the program in force
+
+-- "An event run alone": from an idle round, an event that is taken in and stepped to its commit leaves the store of its meaning
+abbrev pub AloneRight : Program → List Turn → Type 0
+AloneRight p ts =
+    IdleIn (after p ts) → (e who : ℕ) → e < events (inForce (after p ts)) → who < 8 → maySend (inForce (after p ts)) who e ≡ true → numberIn (after p ts) < 1000000
+    → (historyOf p (ts ++ map call (aloneCalls (inForce (after p ts)) e who)) ≡ historyOf p ts ++ (commits (arrival (numberIn (after p ts)) e who) ∷ []))
+    × (storeIn (after p (ts ++ map call (aloneCalls (inForce (after p ts)) e who))) ≡ event (inForce (after p ts)) e (storeIn (after p ts)))
+
+-- whichever way the round is then run to idle, no further arrival taken in and no sheet changed, the board shows the previewed value
+abbrev pub PreviewRight : Program → List Turn → Type 0
+PreviewRight p ts =
+    (e i who : ℕ) (us : List Turn) → i < size (inForce (after p ts)) → maySee (inForce (after p ts)) who i ≡ true
+    → turn (call (arrive e who)) (after p ts) .reply ≡ says takenIn
+    → Unchanged (call (arrive e who) ∷ us) (after p ts)
+    → numberIn (after p (ts ++ (call (arrive e who) ∷ us))) ≡ numberIn (after p ts) + 1
+    → IdleIn (after p (ts ++ (call (arrive e who) ∷ us)))
+    → previewed (inForce (after p ts)) (engineIn (after p ts)) e i who ≡ shows (at (storeIn (after p (ts ++ (call (arrive e who) ∷ us)))) i)
+
+-- "the committing step's answer carries a mark: set exactly if some application in that event's meaning did so": of a step called after the list, on the store of the history so far
+abbrev pub MarkRight : Program → List Turn → Type 0
+MarkRight p ts =
+    (a : Arrival) (m : Bool) → turn (call step) (after p ts) .reply ≡ says (committed a m)
+    → (a .event < events (inForce (after p ts))) × (m ≡ eventOver (inForce (after p ts)) (a .event) (replayed p (historyOf p ts) (fresh p)))
+
+-- ---- two lists. "equal boards on two phones need independence in each sheet and the same change after the same commits"
+
+-- a history by sheets: the commits under one, then the change to the next and what follows
+pub data Course : Type 0 where
+  last : List Arrival → Course
+  then : List Arrival → Program → Course → Course
+
+abbrev pub onward : Arrival → Course → Course
+onward a (last l) = last (a ∷ l)
+onward a (then l q c) = then (a ∷ l) q c
+
+unfoldable pub courseOf : List Moment → Course
+courseOf [] = last []
+courseOf (commits a ∷ h) = onward a (courseOf h)
+courseOf (changes q ∷ h) = then [] q (courseOf h)
+
+-- an arrival whoever sent it: as if the host had (02, M-107: "Arrivals in hand commit as before, whoever sent them")
+abbrev pub unsigned : Arrival → Arrival
+unsigned a = arrival (a .number) (a .event) 0
+
+-- "the same change after the same commits": in any order
+abbrev pub SameChanges : Course → Course → Type 0
+SameChanges (last l) (last m) = Unit {0}
+SameChanges (last l) (then m r d) = ⊥
+SameChanges (then l q c) (last m) = ⊥
+SameChanges (then l q c) (then m r d) = List·Permᴰ (map unsigned l) (map unsigned m) × (q ≡ r) × SameChanges c d
+
+-- "those of unequal rank being independent", in each sheet: of the commits under it
+abbrev pub ApartIn : Program → List Arrival → Type 0
+ApartIn p l = All (λ a. All (λ b. rank p a ≢ rank p b → Independent p (a .event) (b .event)) l) l
+
+abbrev pub ApartEach : Program → Course → Type 0
+ApartEach p (last l) = ApartIn p l
+ApartEach p (then l q c) = ApartIn p l × ApartEach q c
+
+-- "for every two such lists on one sheet, taking in the same events in the same order, ..: when both are idle, their boards are equal"
+abbrev pub SameBoard : Program → List Turn → List Turn → Type 0
+SameBoard p ts us =
+    eventsOf (takenInBy p ts) ≡ eventsOf (takenInBy p us)
+    → SameChanges (courseOf (historyOf p ts)) (courseOf (historyOf p us))
+    → ApartEach p (courseOf (historyOf p ts))
+    → IdleIn (after p ts) → IdleIn (after p us)
+    → storeIn (after p ts) ≡ storeIn (after p us)
+
+-- ---- every sentence about one list
+
+pub record Holds (p : Program) (ts : List Turn) : Type 0 where
+  pub board : BoardOfCommits p ts
+  pub by-rules : BoardByRules p ts
+  pub once : OnceEach p ts
+  pub equals : EqualsInOrder p ts
+  pub lower : LowerFirst p ts
+  pub settles : SettlesIn p ts
+  pub quiet : QuietExactly p ts
+  pub nobody-waits : NobodyWaits p ts
+  pub one-event : AloneRight p ts
+  pub previews : PreviewRight p ts
+  pub mark : MarkRight p ts

@@ -1,0 +1,13 @@
+pub mod Running
+pub mod Sums
+pub mod Lengths
+pub mod Calm
+pub mod Masks
+pub mod Quiet
+pub mod Responses
+pub mod Simulation
+pub mod Right
+pub mod MarkRight
+pub mod CodeRight
+pub mod SafeParts
+pub mod SafeLaws

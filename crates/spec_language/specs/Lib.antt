@@ -1,0 +1,11 @@
+pub mod Syntax
+pub mod Sheet
+pub mod Refusals
+pub mod Answers
+pub mod Rights
+pub mod Grammar
+pub mod Reading
+pub mod Dependence
+pub mod Order
+pub mod Code
+pub mod Accepted

@@ -1,0 +1,183 @@
+-- The model engine. 01 "Whole runs", "Handlers and steps"; 02, M-104 and M-107.
+-- It is fed the program and each call's kind and arguments, never an answer.
+use Prim.Native.Nat.{ℕ, _+_}
+use mathlib.Core.Bool.{Bool, true, false}
+use mathlib.Core.List.{List, [], _∷_}
+use lib.ListN.{length, getD, take}
+use lib.Dec.{ltb, leb, eqb}
+use Rattle.lib_base.specs.Basics.{pick}
+use Rattle.spec_language.specs.Syntax.{Program}
+use Rattle.spec_language.specs.Refusals as refusals
+use Rattle.spec_language.specs.Dependence.{size, events}
+use Rattle.spec_language.specs.Rights.{maySend, maySee}
+use Rattle.spec_language.specs.Code.{off, code}
+use Rattle.spec_semantics.specs.Meaning.{fresh}
+use Rattle.spec_execution.specs.Execution.{Values, at, execute, emptied, maskedAfter, copyingBackAfter}
+
+-- ---- what it keeps
+
+-- an arrival taken in: its number, its event, and the player who sent it (02, M-107: "the hand and the step answers keep it")
+pub record Arrival : Type 0 where
+  pub number : ℕ
+  pub event : ℕ
+  pub player : ℕ
+
+abbrev pub arrival : ℕ → ℕ → ℕ → Arrival
+arrival n e who = record { number = n; event = e; player = who }
+
+-- nothing runs, or an arrival runs with its count of instructions done
+pub data Running : Type 0 where
+  rest : Running
+  busy : Arrival → ℕ → Running
+
+-- the number taken in, the waiting arrivals, the running one, and the values (01: board, scratch, evaluation stack, the later handlers' places; 02, M-104: the mark)
+pub data Engine : Type 0 where
+  engine : ℕ → List Arrival → Running → Values → Engine
+
+-- "It begins with a fresh round's board, none taken in and all else empty."
+abbrev pub initial : Program → Engine
+initial p = engine 0 [] rest (emptied (fresh p))
+
+-- the queue (01: hand): "the waiting arrivals and the running one"
+abbrev pub queue : List Arrival → Running → List Arrival
+queue waiting rest = waiting
+queue waiting (busy a c) = a ∷ waiting
+
+-- ---- calls and answers
+
+-- 02, M-107: "Each arrival, board reading and preview now carries its player": the event and the player; the behaviour and the player
+pub data Call : Type 0 where
+  arrive : ℕ → ℕ → Call
+  step : Call
+  board : ℕ → ℕ → Call
+
+pub data Answer : Type 0 where
+  refused : ℕ → Answer  -- by this number
+  takenIn : Answer  -- an arrival
+  shows : ℕ → Answer  -- a board reading: the behaviour's value
+  idle : Answer  -- a step, and the four that follow
+  ran : Answer  -- one instruction
+  started : Arrival → Answer  -- the next starts
+  preempted : Arrival → Answer  -- the next starts, and the running one goes back to the hand (01: breaks in)
+  committed : Arrival → Bool → Answer  -- one instruction, the last; and whether the event ran over (02, M-104)
+
+-- "only the host is told M-104's mark: a step carries no player and returns the host's answer, and a further call turns that into the others', without the mark"
+abbrev pub unmarked : Answer → Answer
+unmarked (refused n) = refused n
+unmarked takenIn = takenIn
+unmarked (shows v) = shows v
+unmarked idle = idle
+unmarked ran = ran
+unmarked (started a) = started a
+unmarked (preempted a) = preempted a
+unmarked (committed a m) = committed a false
+
+-- what a player is told of a step's answer
+abbrev pub toldTo : ℕ → Answer → Answer
+toldTo who a = pick (eqb who 0) a (unmarked a)
+
+-- an answer, and the engine after the call
+pub record Outcome : Type 0 where
+  pub answer : Answer
+  pub after : Engine
+
+abbrev pub outcome : Answer → Engine → Outcome
+outcome a w = record { answer = a; after = w }
+
+-- ---- the choice. "Next means highest rank, then lowest arrival number."
+
+-- the next of the waiting, and the others
+pub record Chosen : Type 0 where
+  pub next : Arrival
+  pub others : List Arrival
+
+module _ (p : Program) where
+  -- 01: rank
+  abbrev pub priority : ℕ → ℕ
+  priority e = getD (p .priorities) e 0
+
+  abbrev pub rank : Arrival → ℕ
+  rank a = priority (a .event)
+
+  -- b goes before a
+  abbrev pub before : Arrival → Arrival → Bool
+  before b a = pick (ltb (rank a) (rank b)) true (pick (ltb (rank b) (rank a)) false (ltb (b .number) (a .number)))
+
+  abbrev pub aside : Arrival → Chosen → Chosen
+  aside x c = record { next = c .next; others = x ∷ c .others }
+
+  abbrev pub choose : Arrival → List Arrival → Chosen
+  choose a [] = record { next = a; others = [] }
+  choose a (b ∷ l) = pick (before b a) (aside a (choose b l)) (aside b (choose a l))
+
+  -- ---- masking and copy-back follow from the count
+
+  abbrev pub masked : Arrival → ℕ → Bool
+  masked a c = maskedAfter (take c (code p (a .event)))
+
+  abbrev pub settling : Running → Bool
+  settling rest = false
+  settling (busy a c) = copyingBackAfter (take c (code p (a .event)))
+
+  -- ---- a step
+
+  -- "A start takes the next out of the waiting, its count 0, with scratch, stack and places empty."
+  abbrev pub begin : ℕ → Chosen → Values → Engine
+  begin t c d = engine t (c .others) (busy (c .next) 0) (emptied (d .store))
+
+  -- "An instruction is the one at that count in the event's list, and the count grows by one; after the last, nothing runs."
+  -- M-104: "the committing step's answer carries a mark"
+  abbrev pub advance : ℕ → List Arrival → Arrival → ℕ → Values → Outcome
+  advance t waiting a c d =
+      pick (ltb (c + 1) (length (code p (a .event))))
+      (outcome ran (engine t waiting (busy a (c + 1)) (execute (getD (code p (a .event)) c off) d)))
+      (outcome (committed a (execute (getD (code p (a .event)) c off) d .mark)) (engine t waiting rest (execute (getD (code p (a .event)) c off) d)))
+
+  -- something waits, the next being c, and a runs: it goes back to the hand under its old number where something outranks it, unmasked
+  abbrev pub contest : ℕ → List Arrival → Chosen → Arrival → ℕ → Values → Outcome
+  contest t waiting c a n d =
+      pick (masked a n) (advance t waiting a n d)
+      (pick (ltb (rank a) (rank (c .next))) (outcome (preempted (c .next)) (begin t (aside a c) d)) (advance t waiting a n d))
+
+  abbrev pub stepped : ℕ → List Arrival → Running → Values → Outcome
+  stepped t [] rest d = outcome idle (engine t [] rest d)
+  stepped t (b ∷ l) rest d = outcome (started (choose b l .next)) (begin t (choose b l) d)
+  stepped t [] (busy a n) d = advance t [] a n d
+  stepped t (b ∷ l) (busy a n) d = contest t (b ∷ l) (choose b l) a n d
+
+  -- ---- an arrival and a board reading
+
+  -- M-107: "24 when the player is above 7, after 14 ..; 25 when the right is missing, after 15 for an arrival, .. and after 18 for a behaviour"
+  abbrev pub arrived : ℕ → ℕ → ℕ → List Arrival → Running → Values → Outcome
+  arrived e who t waiting r d =
+      pick (leb 8 who) (outcome (refused refusals.noPlayer) (engine t waiting r d))
+      (pick (leb (events p) e) (outcome (refused refusals.undeclaredEvent) (engine t waiting r d))
+      (pick (maySend p who e)
+      (pick (leb 64 (length (queue waiting r))) (outcome (refused refusals.fullQueue) (engine t waiting r d))
+      (pick (leb 1000000 t) (outcome (refused refusals.spent) (engine t waiting r d))
+      (outcome takenIn (engine (t + 1) (arrival t e who ∷ waiting) r d))))
+      (outcome (refused refusals.noRight) (engine t waiting r d))))
+
+  abbrev pub read : ℕ → ℕ → Running → Values → Answer
+  read i who r d =
+      pick (leb 8 who) (refused refusals.noPlayer)
+      (pick (leb (size p) i) (refused refusals.noBehaviour)
+      (pick (maySee p who i)
+      (pick (settling r) (refused refusals.settling)
+      (shows (at (d .store) i)))
+      (refused refusals.noRight)))
+
+  -- ---- one call, and a list of calls
+
+  unfoldable pub act : Call → Engine → Outcome
+  act (arrive e who) (engine t waiting r d) = arrived e who t waiting r d
+  act step (engine t waiting r d) = stepped t waiting r d
+  act (board i who) (engine t waiting r d) = outcome (read i who r d) (engine t waiting r d)
+
+  unfoldable pub run : List Call → Engine → Engine
+  run [] w = w
+  run (c ∷ cs) w = run cs (act c w .after)
+
+  unfoldable pub answers : List Call → Engine → List Answer
+  answers [] w = []
+  answers (c ∷ cs) w = act c w .answer ∷ answers cs (act c w .after)

@@ -1,0 +1,12 @@
+pub mod Graph
+pub mod OrderLaws
+pub mod Solution
+pub mod Lengths
+pub mod Handlers
+pub mod Derivations
+pub mod Agreement
+pub mod Commute
+pub mod RoundsHold
+pub mod PlaysLaws
+pub mod OverTurns
+pub mod OverAgrees

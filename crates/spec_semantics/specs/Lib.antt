@@ -1,0 +1,6 @@
+pub mod Rules
+pub mod Meaning
+pub mod Rounds
+pub mod Plays
+pub mod Over
+pub mod OverMeaning

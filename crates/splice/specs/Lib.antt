@@ -1,4 +1,0 @@
-pub mod Splice
-pub mod BehavioursAre
-pub mod EventsAre
-pub mod Spliced

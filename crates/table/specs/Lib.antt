@@ -1,4 +1,0 @@
-pub mod TableWords
-pub mod TableLaws
-pub mod PassivesAre
-pub mod TableIs

@@ -1,0 +1,59 @@
+// Writing expression fields into a buffer: constants and names at its end, an application's head in front of its arguments.
+ghost use mathlib.Core.Path.{_≡_};
+ghost use mathlib.Core.List.{[], _∷_};
+ghost use Prim.Native.Nat.{_≤_, _+_, _/_, _%_};
+ghost use lib.ListN.{length};
+ghost use lib.Seq.{slice};
+ghost use Rattle.spec_language.specs.Grammar.{field};
+ghost use Rattle.text_encode.specs.Fields.{placed, shifted};
+
+// A constant from place n on: the low four bytes of t.
+pub fn put_number(out: &mut [u8], n: usize, t: u64)
+    requires { ⌜ n + 7 ≤ length (now out) ⌝ }
+    ensures { λ _. ⌜ now (out .exit) ≡ placed n (16 ∷ 0 ∷ 4 ∷ (t / 16777216 % 256) ∷ (t / 65536 % 256) ∷ (t / 256 % 256) ∷ (t % 256) ∷ []) (now (out .entry)) ⌝ }
+{
+    out[n] = 16;
+    out[n + 1] = 0;
+    out[n + 2] = 4;
+    out[n + 3] = (t / 16777216 % 256) as u8;
+    out[n + 4] = (t / 65536 % 256) as u8;
+    out[n + 5] = (t / 256 % 256) as u8;
+    out[n + 6] = (t % 256) as u8;
+}
+
+// A name from place n on: the low byte of t.
+pub fn put_name(out: &mut [u8], n: usize, t: u64)
+    requires { ⌜ n + 4 ≤ length (now out) ⌝ }
+    ensures { λ _. ⌜ now (out .exit) ≡ placed n (17 ∷ 0 ∷ 1 ∷ (t % 256) ∷ []) (now (out .entry)) ⌝ }
+{
+    out[n] = 17;
+    out[n + 1] = 0;
+    out[n + 2] = 1;
+    out[n + 3] = (t % 256) as u8;
+}
+
+// The bytes from `start` to `end` go on by four places, the last first.
+fn shift(out: &mut [u8], start: usize, end: usize)
+    requires { ⌜ start ≤ end ⌝ }
+    requires { ⌜ end + 4 ≤ length (now out) ⌝ }
+    ensures { λ _. ⌜ now (out .exit) ≡ shifted start end (now (out .entry)) ⌝ }
+{
+    let mut i = end;
+    while start < i {
+        i = i - 1;
+        out[i + 4] = out[i];
+    }
+}
+
+// The arguments from `start` to `end` become an application of function f.
+pub fn wrap(out: &mut [u8], start: usize, end: usize, f: u8)
+    requires { ⌜ start ≤ end ⌝ }
+    requires { ⌜ end + 4 ≤ length (now out) ⌝ }
+    requires { ⌜ length (now out) ≤ 65535 ⌝ }
+    ensures { λ _. ⌜ now (out .exit) ≡ placed start (field 18 (f ∷ slice start end (now (out .entry)))) (now (out .entry)) ⌝ }
+{
+    shift(out, start, end);
+    out[start] = 18;
+    lib_word::put_half(out, start + 1, (end - start + 1) as u16);
+    out[start + 3] = f;
+}

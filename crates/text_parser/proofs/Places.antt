@@ -1,0 +1,115 @@
+-- A place of the tokens' numbers is one of the tokens; and the bytes after a write, in terms of what stood before.
+use Prim.Native.Nat.{ℕ, zero, suc, _+_, _/_, _%_, _≤_, _<_}
+use mathlib.Core.Bool.{true}
+use mathlib.Core.Path.{_≡_, refl, sym, ap, _∙_}
+use mathlib.Core.List.{List, [], _∷_, _++_, map, append-assoc}
+use native.Mathlib.Omega.{arith}
+use native.Mathlib.Numerals.{add-one}
+use lib.ListN.{length, getD, take, drop, length-append, length-map, drop-of-length-le}
+use lib.Seq.{slice, length-take-le, take-at, drop-at, take-take}
+use lib.Dec.{ltb}
+use borrow.Author.Tests.{lt-ltb, le-ltb}
+use Rattle.lib_base.specs.Basics.{All}
+use Rattle.spec_language.specs.Grammar.{field}
+use Rattle.text_formula.specs.Tokens.{Token, number, behaviour, function, opening, closing, comma}
+use Rattle.text_formula.specs.Reader.{levelOf, operatorOf, markOf}
+use Rattle.text_formula.proofs.Scans.{Fine}
+use Rattle.text_lexer.specs.Codes.{capped, code}
+use Rattle.text_lexer.proofs.CodeLaws.{capped-most}
+use Rattle.text_encode.specs.Fields.{placed}
+use Rattle.text_phrase.specs.Phrase.{levelCode, levelIn, markCode, markIn}
+
+-- ---- tokens and their numbers
+
+level-code : (t : Token) → Fine t → levelCode (code t) ≡ levelOf t
+unfolding levelCode
+level-code (number n) h = let q : (68719476736 + capped n) / 4294967296 ≡ 16 = omega (arith, capped-most n) in rw q
+level-code (behaviour i) h = let q : (73014444032 + i) / 4294967296 ≡ 17 = omega arith in rw q
+level-code (function f) h =
+    let q : (77309411328 + f) / 4294967296 ≡ 18 = omega arith in
+    let p : (77309411328 + f) % 4294967296 ≡ f = omega arith in
+    rw (q, p)
+level-code opening h = refl
+level-code closing h = refl
+level-code comma h = refl
+
+mark-code : (t : Token) → Fine t → markCode (code t) ≡ markOf t
+unfolding markCode
+mark-code (number n) h = let q : (68719476736 + capped n) / 4294967296 ≡ 16 = omega (arith, capped-most n) in rw q
+mark-code (behaviour i) h = let q : (73014444032 + i) / 4294967296 ≡ 17 = omega arith in rw q
+mark-code (function f) h = let q : (77309411328 + f) / 4294967296 ≡ 18 = omega arith in rw q
+mark-code opening h = refl
+mark-code closing h = refl
+mark-code comma h = refl
+
+operator-byte : (t : Token) → Fine t → 0 < levelOf t → code t % 256 ≡ operatorOf t
+operator-byte (number n) h g = absurd (omega arith)
+operator-byte (behaviour i) h g = absurd (omega arith)
+operator-byte (function f) h g = omega arith
+operator-byte opening h g = absurd (omega arith)
+operator-byte closing h g = absurd (omega arith)
+operator-byte comma h g = absurd (omega arith)
+
+-- the token at a place
+pub record Here (ts : List Token) (cs : List ℕ) (at : ℕ) : Type 0 where
+  pub token : Token
+  pub number-is : getD cs at 0 ≡ code token
+  pub onward : drop at ts ≡ token ∷ drop (at + 1) ts
+  pub fine : Fine token
+  pub level-is : levelIn cs at ≡ levelOf token
+  pub mark-is : markIn cs at ≡ markOf token
+  pub byte-is : 0 < levelOf token → getD cs at 0 % 256 ≡ operatorOf token
+
+record There (ts : List Token) (at : ℕ) : Type 0 where
+  pub token : Token
+  pub number-is : getD (map code ts) at 0 ≡ code token
+  pub onward : drop at ts ≡ token ∷ drop (suc at) ts
+  pub fine : Fine token
+
+there : (ts : List Token) → All Fine ts → (at : ℕ) → at < length ts → There ts at
+there [] h at g = absurd (omega arith)
+there (t ∷ ts) h zero g = record { token = t; number-is = refl; onward = refl; fine = h .0 }
+there (t ∷ ts) h (suc at) g = let r = there ts (h .1) at (omega arith) in record { token = r .token; number-is = r .number-is; onward = r .onward; fine = r .fine }
+
+pub here : (ts : List Token) (cs : List ℕ) → All Fine ts → cs ≡ map code ts → (at : ℕ) → at < length cs → Here ts cs at
+unfolding levelIn markIn
+here ts cs h e at g =
+    let l : length cs ≡ length ts = ap length e ∙ length-map ts code in
+    let r = there ts h at (omega arith) in
+    let n : getD cs at 0 ≡ code (r .token) = ap (λ (x : List ℕ). getD x at 0) e ∙ r .number-is in
+    let b : ltb at (length cs) ≡ true = lt-ltb at (length cs) g in
+    record {
+      token = r .token;
+      number-is = n;
+      onward = rw (add-one at) (r .onward);
+      fine = r .fine;
+      level-is = rw (b, n) (level-code (r .token) (r .fine));
+      mark-is = rw (b, n) (mark-code (r .token) (r .fine));
+      byte-is = λ p. rw n (operator-byte (r .token) (r .fine) p);
+    }
+
+-- past the last there is none
+pub nowhere : (ts : List Token) (cs : List ℕ) → cs ≡ map code ts → (at : ℕ) → length cs ≤ at → drop at ts ≡ []
+nowhere ts cs e at g = let l : length cs ≡ length ts = ap length e ∙ length-map ts code in let h : length ts ≤ at = omega arith in drop-of-length-le ts h
+
+pub no-mark : (cs : List ℕ) (at : ℕ) → length cs ≤ at → markIn cs at ≡ 0
+unfolding markIn
+no-mark cs at h = rw (le-ltb at (length cs) h)
+
+-- ---- bytes
+
+pub placed-front : (n : ℕ) (v o : List ℕ) → n + length v ≤ length o → take (n + length v) (placed n v o) ≡ take n o ++ v
+unfolding placed
+placed-front n v o h =
+    let l : length (take n o ++ v) ≡ n + length v = length-append (take n o) v ∙ rw (length-take-le n o (omega arith)) in
+    rw (sym (append-assoc (take n o) v (drop (n + length v) o))) (take-at (take n o ++ v) (drop (n + length v) o) (n + length v) l)
+
+-- an application around the bytes v, which stand from n to the end
+pub closed-bytes : (n end f : ℕ) (v o p : List ℕ) → take end p ≡ take n o ++ v → end ≡ n + length v → n ≤ length o → end + 4 ≤ length p
+    → take (end + 4) (placed n (field 18 (f ∷ slice n end p)) p) ≡ take n o ++ field 18 (f ∷ v)
+closed-bytes n end f v o p e s h g =
+    let l : length (take n o) ≡ n = length-take-le n o h in
+    let q : slice n end p ≡ v = ap (drop n) e ∙ drop-at (take n o) v n l in
+    let t : take n p ≡ take n o = sym (take-take n end p (omega arith)) ∙ ap (take n) e ∙ take-at (take n o) v n l in
+    let m : end + 4 ≡ n + length (field 18 (f ∷ v)) = omega arith in
+    rw (q, m) (placed-front n (field 18 (f ∷ v)) p (omega arith) ∙ rw t)

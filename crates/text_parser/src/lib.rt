@@ -1,0 +1,192 @@
+// The reader of formulas: one function a precedence level, from `||` down to `!` and the primaries; brackets and `if` call back to the first.
+// Each call has fewer tokens left, or as many and a lower level. What is read is written to `out` from place n on, as an expression field.
+use text_phrase::Read;
+ghost use mathlib.Core.Path.{_≡_};
+ghost use Prim.Native.Nat.{_<_, _≤_, _*_, _+_};
+ghost use lib.ListN.{length};
+ghost use Rattle.text_parser.specs.Parser.{Reading, Within, Chosen, Argued, ArgumentIn};
+
+// Level 6: `||`, and so a formula.
+pub fn disjunction(ts: &[u64], at: usize, out: &mut [u8], n: usize) -> Read
+    requires { ⌜ n ≤ at * 7 ⌝ }
+    requires { ⌜ length (now ts) ≤ 1024 ⌝ }
+    requires { ⌜ length (now out) ≡ 7168 ⌝ }
+    ensures { λ r. ⌜ Reading 6 (now (ts .entry)) at n (now (out .entry)) (now (out .exit)) r ⌝ }
+    ensures { λ r. ⌜ Within (length (now (ts .entry))) at n 0 r ⌝ }
+{
+    let mut r = conjunction(ts, at, out, n);
+    loop {
+        let Read::Done(f, end, d) = r else {
+            return r;
+        };
+        if text_phrase::level_at(ts, f) != 6 {
+            return r;
+        }
+        let q = conjunction(ts, f + 1, out, end);
+        r = text_phrase::close((ts[f] % 256) as u8, n, d, q, out);
+    }
+}
+
+// Level 5: `&&`.
+fn conjunction(ts: &[u64], at: usize, out: &mut [u8], n: usize) -> Read
+    requires { ⌜ n ≤ at * 7 ⌝ }
+    requires { ⌜ length (now ts) ≤ 1024 ⌝ }
+    requires { ⌜ length (now out) ≡ 7168 ⌝ }
+    ensures { λ r. ⌜ Reading 5 (now (ts .entry)) at n (now (out .entry)) (now (out .exit)) r ⌝ }
+    ensures { λ r. ⌜ Within (length (now (ts .entry))) at n 0 r ⌝ }
+{
+    let mut r = equality(ts, at, out, n);
+    loop {
+        let Read::Done(f, end, d) = r else {
+            return r;
+        };
+        if text_phrase::level_at(ts, f) != 5 {
+            return r;
+        }
+        let q = equality(ts, f + 1, out, end);
+        r = text_phrase::close((ts[f] % 256) as u8, n, d, q, out);
+    }
+}
+
+// Level 4: `== !=`.
+fn equality(ts: &[u64], at: usize, out: &mut [u8], n: usize) -> Read
+    requires { ⌜ n ≤ at * 7 ⌝ }
+    requires { ⌜ length (now ts) ≤ 1024 ⌝ }
+    requires { ⌜ length (now out) ≡ 7168 ⌝ }
+    ensures { λ r. ⌜ Reading 4 (now (ts .entry)) at n (now (out .entry)) (now (out .exit)) r ⌝ }
+    ensures { λ r. ⌜ Within (length (now (ts .entry))) at n 0 r ⌝ }
+{
+    let mut r = ordering(ts, at, out, n);
+    loop {
+        let Read::Done(f, end, d) = r else {
+            return r;
+        };
+        if text_phrase::level_at(ts, f) != 4 {
+            return r;
+        }
+        let q = ordering(ts, f + 1, out, end);
+        r = text_phrase::close((ts[f] % 256) as u8, n, d, q, out);
+    }
+}
+
+// Level 3: `> >= < <=`.
+fn ordering(ts: &[u64], at: usize, out: &mut [u8], n: usize) -> Read
+    requires { ⌜ n ≤ at * 7 ⌝ }
+    requires { ⌜ length (now ts) ≤ 1024 ⌝ }
+    requires { ⌜ length (now out) ≡ 7168 ⌝ }
+    ensures { λ r. ⌜ Reading 3 (now (ts .entry)) at n (now (out .entry)) (now (out .exit)) r ⌝ }
+    ensures { λ r. ⌜ Within (length (now (ts .entry))) at n 0 r ⌝ }
+{
+    let mut r = sum(ts, at, out, n);
+    loop {
+        let Read::Done(f, end, d) = r else {
+            return r;
+        };
+        if text_phrase::level_at(ts, f) != 3 {
+            return r;
+        }
+        let q = sum(ts, f + 1, out, end);
+        r = text_phrase::close((ts[f] % 256) as u8, n, d, q, out);
+    }
+}
+
+// Level 2: `+ -`.
+fn sum(ts: &[u64], at: usize, out: &mut [u8], n: usize) -> Read
+    requires { ⌜ n ≤ at * 7 ⌝ }
+    requires { ⌜ length (now ts) ≤ 1024 ⌝ }
+    requires { ⌜ length (now out) ≡ 7168 ⌝ }
+    ensures { λ r. ⌜ Reading 2 (now (ts .entry)) at n (now (out .entry)) (now (out .exit)) r ⌝ }
+    ensures { λ r. ⌜ Within (length (now (ts .entry))) at n 0 r ⌝ }
+{
+    let mut r = product(ts, at, out, n);
+    loop {
+        let Read::Done(f, end, d) = r else {
+            return r;
+        };
+        if text_phrase::level_at(ts, f) != 2 {
+            return r;
+        }
+        let q = product(ts, f + 1, out, end);
+        r = text_phrase::close((ts[f] % 256) as u8, n, d, q, out);
+    }
+}
+
+// Level 1: `* /`.
+fn product(ts: &[u64], at: usize, out: &mut [u8], n: usize) -> Read
+    requires { ⌜ n ≤ at * 7 ⌝ }
+    requires { ⌜ length (now ts) ≤ 1024 ⌝ }
+    requires { ⌜ length (now out) ≡ 7168 ⌝ }
+    ensures { λ r. ⌜ Reading 1 (now (ts .entry)) at n (now (out .entry)) (now (out .exit)) r ⌝ }
+    ensures { λ r. ⌜ Within (length (now (ts .entry))) at n 0 r ⌝ }
+{
+    let mut r = operand(ts, at, out, n);
+    loop {
+        let Read::Done(f, end, d) = r else {
+            return r;
+        };
+        if text_phrase::level_at(ts, f) != 1 {
+            return r;
+        }
+        let q = operand(ts, f + 1, out, end);
+        r = text_phrase::close((ts[f] % 256) as u8, n, d, q, out);
+    }
+}
+
+// Level 0: `!`, numbers, names, brackets and `if`.
+fn operand(ts: &[u64], at: usize, out: &mut [u8], n: usize) -> Read
+    requires { ⌜ n ≤ at * 7 ⌝ }
+    requires { ⌜ length (now ts) ≤ 1024 ⌝ }
+    requires { ⌜ length (now out) ≡ 7168 ⌝ }
+    ensures { λ r. ⌜ Reading 0 (now (ts .entry)) at n (now (out .entry)) (now (out .exit)) r ⌝ }
+    ensures { λ r. ⌜ Within (length (now (ts .entry))) at n 0 r ⌝ }
+{
+    if ts.len() <= at {
+        return Read::Fault;
+    }
+    let t = ts[at];
+    if t == 77309411331 {
+        let r = operand(ts, at + 1, out, n);
+        return text_phrase::close(3, n, 0, r, out);
+    }
+    if t == 77309411342 {
+        return choice(ts, at, out, n);
+    }
+    if t == 81604378625 {
+        let r = argument(ts, 1, Read::Done(at, n, 0), out);
+        return text_phrase::ended(ts, r);
+    }
+    text_phrase::leaf(t, at, out, n)
+}
+
+// `if`, which stands at the place, and its three arguments.
+fn choice(ts: &[u64], at: usize, out: &mut [u8], n: usize) -> Read
+    requires { ⌜ n ≤ at * 7 ⌝ }
+    requires { ⌜ at < length (now ts) ⌝ }
+    requires { ⌜ length (now ts) ≤ 1024 ⌝ }
+    requires { ⌜ length (now out) ≡ 7168 ⌝ }
+    ensures { λ r. ⌜ Chosen (now (ts .entry)) at n (now (out .entry)) (now (out .exit)) r ⌝ }
+    ensures { λ r. ⌜ Within (length (now (ts .entry))) at n 0 r ⌝ }
+{
+    let a = argument(ts, 1, Read::Done(at + 1, n, 0), out);
+    let b = argument(ts, 3, a, out);
+    let c = argument(ts, 3, b, out);
+    text_phrase::close(14, n, 0, text_phrase::ended(ts, c), out)
+}
+
+// A bracket or comma of number m, which is due, and a formula; what was read before is r.
+fn argument(ts: &[u64], m: u64, r: Read, out: &mut [u8]) -> Read
+    requires { ⌜ ArgumentIn r ⌝ }
+    requires { ⌜ 0 < m ⌝ }
+    requires { ⌜ length (now ts) ≤ 1024 ⌝ }
+    requires { ⌜ length (now out) ≡ 7168 ⌝ }
+    ensures { λ q. ⌜ Argued m (now (ts .entry)) (now (out .entry)) (now (out .exit)) r q ⌝ }
+{
+    let Read::Done(at, n, d) = r else {
+        return r;
+    };
+    if text_phrase::mark_at(ts, at) != m {
+        return Read::Fault;
+    }
+    let q = disjunction(ts, at + 1, out, n);
+    text_phrase::under(d, q)
+}

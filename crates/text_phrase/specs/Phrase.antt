@@ -1,0 +1,58 @@
+-- Levels and marks by a token's number, and what the small steps of a reading give. A token's number is kind * 2 ^ 32 + word.
+use Prim.Native.Nat.{ℕ, _+_, _/_, _%_, _≤_, _<_}
+use mathlib.Core.List.{List, [], _∷_}
+use lib.ListN.{length, getD}
+use lib.Seq.{slice}
+use lib.Dec.{ltb, eqb}
+use Rattle.lib_base.specs.Basics.{pick}
+use Rattle.spec_language.specs.Grammar.{field}
+use Rattle.text_formula.specs.Reader.{level}
+use Rattle.text_formula.specs.Answer.{deeper}
+use Rattle.text_encode.specs.Fields.{placed}
+use Rattle.text_phrase.specs.declared.Read.{Read}
+use Rattle.text_phrase.specs.declared.Read.the-variants.{Done, Fault}
+
+unfoldable pub levelCode : ℕ → ℕ
+levelCode t = pick (eqb (t / 4294967296) 18) (level (t % 4294967296)) 0
+
+unfoldable pub levelIn : List ℕ → ℕ → ℕ
+levelIn ts at = pick (ltb at (length ts)) (levelCode (getD ts at 0)) 0
+
+unfoldable pub markCode : ℕ → ℕ
+markCode t = pick (eqb (t / 4294967296) 19) (t % 4294967296) 0
+
+unfoldable pub markIn : List ℕ → ℕ → ℕ
+markIn ts at = pick (ltb at (length ts)) (markCode (getD ts at 0)) 0
+
+abbrev pub underOf : ℕ → Read → Read
+underOf d Fault = Fault
+underOf d (Done at end e) = Done at end (deeper d e)
+
+-- an application of the arguments from start on: four bytes more, and one level of nesting
+abbrev pub closedOf : ℕ → Read → Read
+closedOf d Fault = Fault
+closedOf d (Done at end e) = Done at (end + 4) (deeper d e + 1)
+
+abbrev pub wrappedIn : ℕ → ℕ → Read → List ℕ → List ℕ
+wrappedIn f start Fault o = o
+wrappedIn f start (Done at end e) o = placed start (field 18 (f ∷ slice start end o)) o
+
+abbrev pub Closable : ℕ → ℕ → ℕ → Read → Type 0
+Closable start d room Fault = Unit {0}
+Closable start d room (Done at end e) = (start ≤ end) × (end + 4 ≤ room) × (d + e < 65536)
+
+abbrev pub endedIn : List ℕ → Read → Read
+endedIn ts Fault = Fault
+endedIn ts (Done at end e) = pick (eqb (markIn ts at) 2) (Done (at + 1) end e) Fault
+
+-- 16 a number, 17 a name
+unfoldable pub leafRead : ℕ → ℕ → ℕ → Read
+leafRead t at n =
+    pick (eqb (t / 4294967296) 16) (Done (at + 1) (n + 7) 1)
+    (pick (eqb (t / 4294967296) 17) (Done (at + 1) (n + 4) 1) Fault)
+
+unfoldable pub leafOut : ℕ → ℕ → List ℕ → List ℕ
+leafOut t n o =
+    pick (eqb (t / 4294967296) 16)
+    (placed n (16 ∷ 0 ∷ 4 ∷ (t / 16777216 % 256) ∷ (t / 65536 % 256) ∷ (t / 256 % 256) ∷ (t % 256) ∷ []) o)
+    (pick (eqb (t / 4294967296) 17) (placed n (17 ∷ 0 ∷ 1 ∷ (t % 256) ∷ []) o) o)

@@ -1,3 +1,0 @@
-pub mod Codes
-pub mod CodeLaws
-pub mod Scanned

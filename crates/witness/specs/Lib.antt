@@ -1,3 +1,0 @@
-pub mod Witness
-pub mod WitnessLaws
-pub mod Shown
