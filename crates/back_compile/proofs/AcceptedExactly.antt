@@ -1,5 +1,7 @@
--- compile takes exactly the encodings of the accepted sheets, and leaves the table of their filling; whatever it turns down leaves the table as it was. 11, 20, 12 and 13 stand exactly for
--- what 01 and 02 say: 13 for a sheet that is fine but for its length. 2 is never answered. By the reader's theorem and the checks' (crates grammar, analysis), from the verdict's branches.
+-- compile takes exactly the encodings of the accepted sheets, and leaves the table of their filling; whatever it turns
+-- down leaves the table as it was. 11, 20, 12 and 13 stand exactly for what 01 and 02 say: 13 for a sheet that is fine
+-- but for its length. 2 is never answered. By the reader's theorem and the checks' (crates spec_grammar, analysis),
+-- from the verdict's branches.
 use Prim.Native.Nat.{ℕ, _≤_, _<_}
 use mathlib.Core.Bool.{true, false, true≢false, and-eq-true-iff}
 use mathlib.Core.Path.{_≡_, refl, sym, ap, _∙_, subst}

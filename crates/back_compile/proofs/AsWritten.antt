@@ -1,5 +1,6 @@
--- 02, M-103: a parameter "means the same as the constant written there. So everything known of a sheet without parameters is known of each filling, except that 3 counts
--- the bytes as sent and not those of the filling." The sheet written out has the same first fault, or none, and the same filling; bytes lent beyond 32 are not looked at.
+-- 02, M-103: a parameter "means the same as the constant written there. So everything known of a sheet without
+-- parameters is known of each filling, except that 3 counts the bytes as sent and not those of the filling." The sheet
+-- written out has the same first fault, or none, and the same filling; bytes lent beyond 32 are not looked at.
 use Prim.Native.Nat.{ℕ, zero, suc, _+_, _*_, _≤_, _<_}
 use mathlib.Core.Bool.{Bool, false, and-false}
 use mathlib.Core.Path.{_≡_, refl, sym, ap, _∙_}
@@ -23,7 +24,8 @@ use Rattle.back_compile.proofs.JudgeLaws.{compile-opens, compile-short,
 
 -- the sheet x with the parameters ps, 32 bytes or more, and the sheet in which each is written out as its constant
 pub record AsWritten (x : Sheet) (ps : List ℕ) : Type 0 where
-  -- compile's answer, a refusal too, and the table's bytes are the same for both, with whatever the second is lent, where neither has over 8,192 bytes and no parameter is above 7
+  -- compile's answer, a refusal too, and the table's bytes are the same for both, with whatever the second is lent,
+  -- where neither has over 8,192 bytes and no parameter is above 7
   pub same : All (λ (b : Entry). ItemParamsIn (b .item)) (x .entries) → length (encode x) ≤ 8192 → length (encode (writtenOut (get ps) x)) ≤ 8192
       → (qs t : List ℕ) → compileOn (encode x) ps t ≡ compileOn (encode (writtenOut (get ps) x)) qs t
   -- 3 counts the bytes as sent: where they are not over 8,192 the filling is judged, however many bytes it would have

@@ -1,4 +1,5 @@
--- A draft judged: each answer is a branch of `judge` for the draft's program, by the theorems on the checks and on the table (crates analysis, table).
+-- A draft judged: each answer is a branch of `judge` for the draft's program, by the theorems on the checks and on the
+-- table (crates check_faults, table).
 use Prim.Native.Nat.{ℕ, _≤_, _<_}
 use mathlib.Core.Bool.{Bool, true, false}
 use mathlib.Core.Path.{_≡_, sym, ap, _∙_}

@@ -1,4 +1,5 @@
--- A draft filled in and judged is the sheet judged: by the theorem on the filling (crate filling), and since the values do not matter where no parameter is used, nor for its names.
+-- A draft filled in and judged is the sheet judged: by the theorem on the filling (crate front_params), and since the
+-- values do not matter where no parameter is used, nor for its names.
 use Prim.Native.Nat.{ℕ, _<_}
 use mathlib.Core.Path.{_≡_, refl, ap, _∙_}
 use mathlib.Core.Bool.{Bool, false}

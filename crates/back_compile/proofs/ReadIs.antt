@@ -1,4 +1,4 @@
--- What the reader hands on is judged as the sheet is: by the theorem on the reader's draft (crate drafting).
+-- What the reader hands on is judged as the sheet is: by the theorem on the reader's draft (crate front_correct).
 use Prim.Native.Nat.{ℕ, suc, _≤_, _<_}
 use mathlib.Core.Path.{_≡_, sym, ap, _∙_}
 use mathlib.Core.List.{List, [], _∷_}

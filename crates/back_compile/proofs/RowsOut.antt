@@ -1,5 +1,7 @@
--- 02, M-110: a row "means the sheet in which each cell is written out as an active, only that 3 counts the bytes as sent. .. Circles, rights, instruction counts and commits are those of the sheet
--- written out. The facts are shown for every cell count together." The sheet written out has the same first fault, or none (crate grammar), uses the same parameters and means the same program.
+-- 02, M-110: a row "means the sheet in which each cell is written out as an active, only that 3 counts the bytes as
+-- sent. .. Circles, rights, instruction counts and commits are those of the sheet written out. The facts are shown for
+-- every cell count together." The sheet written out has the same first fault, or none (crate spec_grammar), uses the
+-- same parameters and means the same program.
 use Prim.Native.Nat.{ℕ, zero, suc, _≤_, _<_}
 use mathlib.Core.Path.{_≡_, refl, sym, ap, _∙_}
 use mathlib.Core.Logic.{by-cases}
@@ -22,11 +24,13 @@ use Rattle.back_compile.proofs.JudgeLaws.{compile-opens, compile-short,
 
 -- the sheet x, and the sheet in which each cell of its rows is written out
 pub record AsRows (x : Sheet) : Type 0 where
-  -- compile's answer, a refusal too, and the table's bytes are the same for both, where neither has over 8,192 bytes and each field of x is within its own limits: however many behaviours
-  -- they make, whatever they name, whether in a circle or overlong, and whatever is lent
+  -- compile's answer, a refusal too, and the table's bytes are the same for both, where neither has over 8,192 bytes
+  -- and each field of x is within its own limits: however many behaviours they make, whatever they name, whether in a
+  -- circle or overlong, and whatever is lent
   pub same : All (EntryFits (length (x .signals))) (x .entries) → length (encode x) ≤ 8192 → length (encode (rowsOut x)) ≤ 8192
       → (ps t : List ℕ) → compileOn (encode x) ps t ≡ compileOn (encode (rowsOut x)) ps t
-  -- 3 counts the bytes as sent: where they are not over 8,192 the sheet written out is judged, however many bytes it would have
+  -- 3 counts the bytes as sent: where they are not over 8,192 the sheet written out is judged, however many bytes it
+  -- would have
   pub sent : SheetFits x → (ps t : List ℕ) → 34816 ≤ length t → compileOn (encode x) ps t ≡ judge (programOf ps (rowsOut x)) (lacks (rowsOut x) ps) t
   -- and where they are, 3 is the answer
   pub long : 8192 < length (encode x) → (ps t : List ℕ) → 34816 ≤ length t → compileOn (encode x) ps t ≡ compiled 3 t

@@ -1,5 +1,6 @@
--- What compile answers, and the table's bytes at exit, for all bytes. 01 "Why a call was turned down": "Compile: 1, 2, 3; then left to right, the first fault met; then 11, 12, 13."
--- 02, M-103: "20 when the sheet uses a parameter and fewer than 32 bytes are lent, checked after 11"; M-106: "Number 2 never occurs again."
+-- What compile answers, and the table's bytes at exit, for all bytes. 01 "Why a call was turned down": "Compile: 1, 2,
+-- 3; then left to right, the first fault met; then 11, 12, 13." 02, M-103: "20 when the sheet uses a parameter and
+-- fewer than 32 bytes are lent, checked after 11"; M-106: "Number 2 never occurs again."
 use Prim.Native.Nat.{ℕ}
 use mathlib.Core.Bool.{Bool, _&&_}
 use mathlib.Core.List.{List}

@@ -1,4 +1,5 @@
--- 01's count of an event's instructions, and the number of behaviours that it copies, from the draft (crate draft). 01 "Handlers and steps".
+-- 01's count of an event's instructions, and the number of behaviours that it copies, from the draft (crate
+-- front_draft). 01 "Handlers and steps".
 use Prim.Native.Nat.{ℕ, zero, suc, _+_, _*_, _≤_, _<_}
 use mathlib.Core.Path.{_≡_}
 use mathlib.Core.List.{List}

@@ -1,4 +1,4 @@
-// 01's count of an event's instructions, and how many behaviours it copies, from the draft (crate draft).
+// 01's count of an event's instructions, and how many behaviours it copies, from the draft (crate front_draft).
 ghost use mathlib.Core.Path.{_≡_};
 ghost use Prim.Native.Nat.{_≤_};
 ghost use lib.ListN.{length};

@@ -1,4 +1,5 @@
--- Writing goes on where it ended: what is written by one function and then by another, and what a loop has written so far.
+-- Writing goes on where it ended: what is written by one function and then by another, and what a loop has written so
+-- far.
 use Prim.Native.Nat.{ℕ, zero, suc, _+_, _≤_, _<_}
 use mathlib.Core.Path.{_≡_, refl, sym, ap, _∙_}
 use mathlib.Core.Logic.{by-cases}

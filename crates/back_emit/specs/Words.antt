@@ -1,5 +1,6 @@
--- The words of one behaviour's instructions on an event, from the draft (crate draft), as the compiler writes them. An instruction is two words:
--- operation * 256 + slot, and a constant (crate image). 01 "Handlers and steps".
+-- The words of one behaviour's instructions on an event, from the draft (crate front_draft), as the compiler writes
+-- them. An instruction is two words: operation * 256 + slot, and a constant (crate format_image). 01 "Handlers and
+-- steps".
 use Prim.Native.Nat.{ℕ, zero, suc, _+_, _%_}
 use mathlib.Core.List.{List, [], _∷_, _++_}
 use lib.ListN.{getD}

@@ -1,5 +1,6 @@
-// The instructions of one behaviour on an event, written into the table from the draft (crate draft). Each function writes from word k on and returns
-// the next word. An instruction is two words: operation * 256 + slot, and a constant (crate image).
+// The instructions of one behaviour on an event, written into the table from the draft (crate front_draft). Each
+// function writes from word k on and returns the next word. An instruction is two words: operation * 256 + slot, and a
+// constant (crate format_image).
 ghost use mathlib.Core.Path.{_≡_};
 ghost use mathlib.Core.List.{[], _∷_};
 ghost use Prim.Native.Nat.{_+_, _<_, _≤_};

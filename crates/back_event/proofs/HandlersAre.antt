@@ -1,5 +1,6 @@
--- 02, M-109: which instructions each step gives. The words that the copy, phase one, phase two and the copy-back write for an event are those of the four parts of its code, and in a row they are the code: from
--- what each entry of the draft holds. With a cycle the check on dependence fails; without, it passes, and the code is written.
+-- 02, M-109: which instructions each step gives. The words that the copy, phase one, phase two and the copy-back write
+-- for an event are those of the four parts of its code, and in a row they are the code: from what each entry of the
+-- draft holds. With a cycle the check on dependence fails; without, it passes, and the code is written.
 use Prim.Native.Nat.{ℕ, _≤_, _<_}
 use mathlib.Core.Bool.{true}
 use mathlib.Core.Path.{_≡_}

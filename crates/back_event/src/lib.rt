@@ -1,5 +1,6 @@
-// The handler of one event (003, Figure 3; 01: its code), written into the table from its draft (crate draft), in the order of Figure 3: the check on dependence, phase one, phase two, and then the
-// copy and the copy-back around them. Each function writes from word k on and returns the next word.
+// The handler of one event (003, Figure 3; 01: its code), written into the table from its draft (crate front_draft), in
+// the order of Figure 3: the check on dependence, phase one, phase two, and then the copy and the copy-back around
+// them. Each function writes from word k on and returns the next word.
 ghost use mathlib.Core.Path.{_≡_};
 ghost use Prim.Native.Nat.{_≤_};
 ghost use lib.ListN.{length};

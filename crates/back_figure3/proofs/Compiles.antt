@@ -1,5 +1,6 @@
--- The check on dependence passes exactly if the event has no cycle, and then the event's code is a handler by the rules of Figure 3; a phase one by those rules is there for no other event.
--- Everyone stands in the order if nobody is left unmarked, by counting; a cycle cannot be derived, since whoever is placed names only those placed before.
+-- The check on dependence passes exactly if the event has no cycle, and then the event's code is a handler by the rules
+-- of Figure 3; a phase one by those rules is there for no other event. Everyone stands in the order if nobody is left
+-- unmarked, by counting; a cycle cannot be derived, since whoever is placed names only those placed before.
 use Prim.Native.Nat.{ℕ, zero, suc, _+_, _≤_, _<_}
 use mathlib.Core.Bool.{Bool, true, false, not, true≢false, false≢true}
 use mathlib.Core.Path.{_≡_, refl, sym, ap, _∙_, subst}

@@ -1,5 +1,6 @@
--- 01's order of each phase is derived by the rules of Figure 3, if everyone that has a turn in phase one stands in it. Along the order: whatever an expression names is marked by then,
--- and who comes later is not. The part of the program still to come is who is not marked, or goes by number.
+-- 01's order of each phase is derived by the rules of Figure 3, if everyone that has a turn in phase one stands in it.
+-- Along the order: whatever an expression names is marked by then, and who comes later is not. The part of the program
+-- still to come is who is not marked, or goes by number.
 use Prim.Native.Nat.{ℕ, zero, suc, _+_, _≤_, _<_}
 use mathlib.Core.Bool.{Bool, true, false, not, true≢false, false≢true}
 use mathlib.Core.Path.{_≡_, refl, sym, ap, _∙_, subst}

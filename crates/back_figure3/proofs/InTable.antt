@@ -1,5 +1,6 @@
--- Where the instructions of the four steps stand in a table that says a program, as every accepted sheet's does (crate image, `Says`): the copy's from the event's start on, phase one's behind it, then phase
--- two's and the copy-back's. Each part is found in the event's code behind those before it.
+-- Where the instructions of the four steps stand in a table that says a program, as every accepted sheet's does (crate
+-- format_image, `Says`): the copy's from the event's start on, phase one's behind it, then phase two's and the
+-- copy-back's. Each part is found in the event's code behind those before it.
 use Prim.Native.Nat.{ℕ, _+_, _*_, _<_}
 use mathlib.Core.Path.{_≡_, refl, sym, ap, _∙_}
 use mathlib.Core.List.{List, [], _++_, append-assoc, append-nil}

@@ -1,4 +1,5 @@
--- The assignments that 01's order of each phase gives, and that their instructions are the two parts of an event's code: list by list.
+-- The assignments that 01's order of each phase gives, and that their instructions are the two parts of an event's
+-- code: list by list.
 use Prim.Native.Nat.{ℕ, zero, suc, _+_}
 use mathlib.Core.Bool.{Bool}
 use mathlib.Core.Path.{_≡_, refl, sym}

@@ -1,6 +1,8 @@
--- Figure 3 of 003, "Compilation of P-FRP", as document 01 has it: the two phases of an event's handler as lists of assignments, rule by rule, and the handler around them.
--- 003 has for each behaviour x a scratch variable xt and beside it _xt, the old value. 01 has scratch for each of C, and a place of its own for a later handler's value. So an
--- immediate handler's own name means what its scratch still holds (003: d[x := _xt]), a later handler assigns its place (003: _xt), and an immediate one has nothing to do in phase two (003: _xt := xt).
+-- Figure 3 of 003, "Compilation of P-FRP", as document 01 has it: the two phases of an event's handler as lists of
+-- assignments, rule by rule, and the handler around them. 003 has for each behaviour x a scratch variable xt and beside
+-- it _xt, the old value. 01 has scratch for each of C, and a place of its own for a later handler's value. So an
+-- immediate handler's own name means what its scratch still holds (003: d[x := _xt]), a later handler assigns its place
+-- (003: _xt), and an immediate one has nothing to do in phase two (003: _xt := xt).
 use Prim.Native.Nat.{ℕ, _+_}
 use mathlib.Core.Bool.{Bool, true, false, not, _&&_}
 use mathlib.Core.Path.{_≡_}
@@ -64,7 +66,8 @@ pub data Second (p : Program) (e : ℕ) : (ℕ → Bool) → List Assign → Typ
       → Second p e P (bring i ∷ A)
   unhandled₂ : {P : ℕ → Bool} (i : ℕ) {A : List Assign} → P i ≡ true → response p e i ≡ keeps → Second p e (without i P) A → Second p e P A
 
--- how many behaviours have a turn in phase one, before the later handlers: the check on dependence asks whether an order holds them all
+-- how many behaviours have a turn in phase one, before the later handlers: the check on dependence asks whether an
+-- order holds them all
 unfoldable pub turnsIn : Program → ℕ → ℕ
 turnsIn p e = sum _+_ 0 (upTo (size p) (λ i. one? (early (response p e i))))
 
@@ -78,8 +81,8 @@ assignCode c (bring i) = move i ∷ []
 unfoldable pub instructionsOf : (ℕ → Bool) → List Assign → List Instr
 instructionsOf c = flatMap (assignCode c)
 
--- ⟦P⟧ = Q for one event: its code is the copy's, phase one's, phase two's and the copy-back's in a row; the phases are those of the rules, and phase one begins behind
--- off, the copies and on
+-- ⟦P⟧ = Q for one event: its code is the copy's, phase one's, phase two's and the copy-back's in a row; the phases are
+-- those of the rules, and phase one begins behind off, the copies and on
 pub record Handler (p : Program) (e : ℕ) : Type 0 where
   pub first : List Assign
   pub second : List Assign

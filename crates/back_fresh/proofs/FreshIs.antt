@@ -1,5 +1,6 @@
--- What compile works out from a draft are the values of a fresh round: the start values are the draft's, and each turn of the order is one of phase one under no
--- event. The 64 values are those of the behaviours, and zeros; so a turn on them is a turn on the behaviours' values alone.
+-- What compile works out from a draft are the values of a fresh round: the start values are the draft's, and each turn
+-- of the order is one of phase one under no event. The 64 values are those of the behaviours, and zeros; so a turn on
+-- them is a turn on the behaviours' values alone.
 use Prim.Native.Nat.{ℕ, zero, suc, _+_, _-_, _%_, _≤_, _<_}
 use mathlib.Core.Bool.{true, false≢true}
 use mathlib.Core.Path.{_≡_, refl, sym, ap, _∙_}

@@ -1,5 +1,6 @@
--- Evaluating the nodes of an expression gives its value, and so does its entry: from a stack of depth k they push it, and leave the places below k as they are.
--- By induction on the nesting; an expression nested m deep takes at most 2 × m − 1 places.
+-- Evaluating the nodes of an expression gives its value, and so does its entry: from a stack of depth k they push it,
+-- and leave the places below k as they are. By induction on the nesting; an expression nested m deep takes at most 2 ×
+-- m − 1 places.
 use Prim.Native.Nat.{ℕ, _+_, _-_, _*_, _≤_, _<_}
 use mathlib.Core.Bool.{true, false}
 use mathlib.Core.Path.{_≡_, refl, sym, ap, subst, _∙_}

@@ -1,5 +1,6 @@
--- How compile evaluates a draft: the nodes of an expression on a stack of 64 words, and from that the values of a fresh round.
--- A node changes the stack and its depth. A push on a full stack, an application without its arguments and a name past 63 do no harm.
+-- How compile evaluates a draft: the nodes of an expression on a stack of 64 words, and from that the values of a fresh
+-- round. A node changes the stack and its depth. A push on a full stack, an application without its arguments and a
+-- name past 63 do no harm.
 use Prim.Native.Nat.{ℕ, zero, suc, _+_, _-_, _%_}
 use mathlib.Core.List.{List, [], _∷_}
 use lib.ListN.{getD, set, take, drop, replicate}

@@ -53,7 +53,8 @@ fn apply_at(f: u8, n: usize, st: &[u32], i: usize) -> u32
     lib_functions::word_of(f, a, b, c)
 }
 
-// Function f takes its n arguments from the stack and puts its result; without them the stack stays as it is. Its new depth.
+// Function f takes its n arguments from the stack and puts its result; without them the stack stays as it is. Its new
+// depth.
 fn apply_top(f: u8, n: usize, st: &mut [u32], k: usize) -> usize
     requires { ⌜ (length (now st) ≡ 64) × (0 < n) × (k ≤ 64) ⌝ }
     ensures { λ r. ⌜ r ≡ applyDepth n k ⌝ }
@@ -88,7 +89,8 @@ fn eval_node(x: u64, v: &[u32], st: &mut [u32], k: usize) -> usize
     apply_top(f, n, st, k)
 }
 
-// The value of the expression whose nodes are count of the draft from start on, as behaviour b uses them; v the values of names.
+// The value of the expression whose nodes are count of the draft from start on, as behaviour b uses them; v the values
+// of names.
 fn eval_nodes(d: &[u64], b: usize, start: usize, count: usize, v: &[u32]) -> u32
     requires { ⌜ (length (now d) ≡ draftLength) × (b < 64) × (start + count ≤ 2048) × (length (now v) ≡ 64) ⌝ }
     ensures { λ r. ⌜ r ≡ evaluated (now (v .entry)) (take count (drop start (usedBy (now (d .entry)) b))) ⌝ }
@@ -142,7 +144,8 @@ fn take_turn(d: &[u64], e: usize, i: usize, v: &mut [u32])
     }
 }
 
-// The values of a fresh round of n behaviours: the start values, and then those of the first count behaviours of the order o, in turn, on event e.
+// The values of a fresh round of n behaviours: the start values, and then those of the first count behaviours of the
+// order o, in turn, on event e.
 pub fn fresh_values(d: &[u64], n: usize, e: usize, o: &[u8], count: usize) -> [u32; 64]
     requires { ⌜ (length (now d) ≡ draftLength) × (n ≤ 64) × (count ≤ length (now o)) ⌝ }
     ensures { λ r. ⌜ r ≡ freshOn (now (d .entry)) n e (take count (now (o .entry))) ⌝ }

@@ -1,4 +1,5 @@
--- The table's words on rights, from the draft (crate draft): who may see each behaviour, and who may send each event. 02, M-107.
+-- The table's words on rights, from the draft (crate front_draft): who may see each behaviour, and who may send each
+-- event. 02, M-107.
 use Prim.Native.Nat.{ℕ, _+_, _%_}
 use mathlib.Core.List.{List, [], _∷_, _++_}
 use lib.ListN.{getD}

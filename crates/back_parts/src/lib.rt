@@ -1,4 +1,5 @@
-// The table's parts that take no order: zeros, values, the head, the record of one event, and who may see and send. Each writes from word k on, and returns the word after.
+// The table's parts that take no order: zeros, values, the head, the record of one event, and who may see and send.
+// Each writes from word k on, and returns the word after.
 ghost use mathlib.Core.Path.{_≡_};
 ghost use mathlib.Core.List.{[], _∷_};
 ghost use Prim.Native.Nat.{_+_, _-_, _%_, _<_, _≤_};

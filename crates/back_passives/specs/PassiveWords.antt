@@ -1,5 +1,7 @@
--- The table's words on passives, from the draft (crate draft): which behaviours are passives, and where the instructions that work them out begin and how many they are. 02, M-112.
--- They are those of event 0's second time over the passives, which stand before its copy-back; where no event is declared its number is that of no event, and they stand alone.
+-- The table's words on passives, from the draft (crate front_draft): which behaviours are passives, and where the
+-- instructions that work them out begin and how many they are. 02, M-112. They are those of event 0's second time over
+-- the passives, which stand before its copy-back; where no event is declared its number is that of no event, and they
+-- stand alone.
 use Prim.Native.Nat.{ℕ, _+_, _-_}
 use mathlib.Core.List.{List, [], _∷_, _++_}
 use lib.Dec.{eqb}
@@ -21,7 +23,8 @@ againShare v = pick (eqb (kindOf v) 1) (countOf v + 1) 0
 unfoldable pub countAgain : List ℕ → ℕ → ℕ
 countAgain d n = total n (λ i. againShare (entryOf d 0 i))
 
--- where they begin: ev events are declared; event 0 has `all` instructions, `count` of them these, and copies m behaviours back
+-- where they begin: ev events are declared; event 0 has `all` instructions, `count` of them these, and copies m
+-- behaviours back
 unfoldable pub againStart : ℕ → ℕ → ℕ → ℕ → ℕ
 againStart ev all m count = pick (eqb ev 0) 0 (all - (count + (m + 2)))
 

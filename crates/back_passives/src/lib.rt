@@ -77,7 +77,8 @@ fn start_again(ev: usize, all: usize, m: usize, count: usize) -> usize
     all - (count + (m + 2))
 }
 
-// Which behaviours are passives, from word 296 on, and the start and length of their instructions, in words 360 and 361; zeros up to word 512.
+// Which behaviours are passives, from word 296 on, and the start and length of their instructions, in words 360 and
+// 361; zeros up to word 512.
 pub fn write_passives(d: &[u64], ev: usize, bs: usize, t: &mut [u8]) -> usize
     requires { ⌜ Sound (now d) 0 bs × (34816 ≤ length (now t)) ⌝ }
     ensures { λ r. ⌜ Wrote (now (t .entry)) 296 (settleWords (now (d .entry)) ev bs) (now (t .exit)) r ⌝ }

@@ -1,4 +1,5 @@
--- The words that the compiler writes for the two phases are those of the event's code: from what each entry of the draft holds.
+-- The words that the compiler writes for the two phases are those of the event's code: from what each entry of the
+-- draft holds.
 use Prim.Native.Nat.{ℕ, zero, suc, _+_, _≤_, _<_}
 use mathlib.Core.Path.{_≡_, refl, sym, _∙_}
 use mathlib.Core.Bool.{Bool, true, false≢true}

@@ -1,5 +1,5 @@
-// The two phases of an event's handler (003, Figure 3), written into the table from its draft (crate draft) and the order that the check on dependence gives. Each function writes from word k
-// on and returns the next word.
+// The two phases of an event's handler (003, Figure 3), written into the table from its draft (crate front_draft) and
+// the order that the check on dependence gives. Each function writes from word k on and returns the next word.
 ghost use mathlib.Core.Path.{_≡_};
 ghost use Prim.Native.Nat.{_≤_};
 ghost use mathlib.Core.List.{flatMap};

@@ -1,4 +1,5 @@
--- On the draft of a program the order is phase one's, and the check passes exactly if the event has no cycle: by the theorem on that order (crate compilation).
+-- On the draft of a program the order is phase one's, and the check passes exactly if the event has no cycle: by the
+-- theorem on that order (crate back_figure3).
 use Prim.Native.Nat.{ℕ, _-_, _≤_}
 use mathlib.Core.Bool.{Bool, true, not}
 use mathlib.Core.Path.{_≡_, ap, _∙_}

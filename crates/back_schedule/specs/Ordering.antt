@@ -1,4 +1,5 @@
--- The check on dependence of one event, on its draft (crate draft): phase one's order, and whether everyone that has a turn there stands in it.
+-- The check on dependence of one event, on its draft (crate front_draft): phase one's order, and whether everyone that
+-- has a turn there stands in it.
 use Prim.Native.Nat.{ℕ, _-_, _≤_, _<_}
 use mathlib.Core.Bool.{Bool, true, false, not}
 use mathlib.Core.Path.{_≡_}

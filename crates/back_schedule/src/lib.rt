@@ -1,4 +1,5 @@
-// The check on dependence of one event (003, Figure 3): an order in which each behaviour comes after its needs, or that there is none.
+// The check on dependence of one event (003, Figure 3): an order in which each behaviour comes after its needs, or that
+// there is none.
 ghost use mathlib.Core.Path.{_≡_};
 ghost use Prim.Native.Nat.{_≤_};
 ghost use lib.ListN.{length};
@@ -36,7 +37,8 @@ fn set_marks(d: &[u64], e: usize, n: usize, marks: &mut [u8])
     }
 }
 
-// Phase one's order of n behaviours on event e, in the first bytes of o. Returns how many: those in a circle, and whoever needs them, are left out.
+// Phase one's order of n behaviours on event e, in the first bytes of o. Returns how many: those in a circle, and
+// whoever needs them, are left out.
 pub fn order_under(d: &[u64], e: usize, n: usize, o: &mut [u8]) -> usize
     requires { ⌜ (length (now d) ≡ draftLength) × (length (now o) ≡ 64) × (e ≤ 32) × (n ≤ 64) × RowsInside (now d) e n ⌝ }
     ensures { λ r. ⌜ Holds (now (o .exit)) r n (orderUnder (now (d .entry)) e n) ⌝ }

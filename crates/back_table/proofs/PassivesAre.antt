@@ -1,4 +1,5 @@
--- The words that the compiler writes on passives are the image's: by what each entry of the draft holds. Their instructions fit: the draft has room for 2,048 nodes.
+-- The words that the compiler writes on passives are the image's: by what each entry of the draft holds. Their
+-- instructions fit: the draft has room for 2,048 nodes.
 use Prim.Native.Nat.{ℕ, zero, suc, _+_, _≤_, _<_}
 use mathlib.Core.Path.{_≡_, refl, sym, ap, _∙_}
 use mathlib.Core.List.{List, [], _∷_, _++_, sum}

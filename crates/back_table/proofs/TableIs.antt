@@ -1,4 +1,5 @@
--- The words that the compiler writes for the draft of a program are the program's image: part by part, each by the theorem of the crate that makes it.
+-- The words that the compiler writes for the draft of a program are the program's image: part by part, each by the
+-- theorem of the crate that makes it.
 use Prim.Native.Nat.{ℕ, zero, suc, _+_, _%_, _≤_, _<_}
 use mathlib.Core.Bool.{true, false}
 use mathlib.Core.Path.{_≡_, refl, sym, ap, _∙_}

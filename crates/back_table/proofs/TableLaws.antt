@@ -1,4 +1,5 @@
--- The loops that write the table, and its parts one after the other: what is written so far goes on where it ended. A count is small, so that the sum fits.
+-- The loops that write the table, and its parts one after the other: what is written so far goes on where it ended. A
+-- count is small, so that the sum fits.
 use Prim.Native.Nat.{ℕ, zero, suc, _+_, _*_, _-_, _%_, _≤_, _<_}
 use mathlib.Core.Path.{_≡_, refl}
 use mathlib.Core.Logic.{_≢_, by-cases}

@@ -1,4 +1,5 @@
--- The words of the table from the draft (crate draft), as the compiler writes them: the image's parts (crate image) one after the other.
+-- The words of the table from the draft (crate front_draft), as the compiler writes them: the image's parts (crate
+-- image) one after the other.
 use Prim.Native.Nat.{ℕ, _+_, _%_, _≤_}
 use mathlib.Core.Path.{_≡_}
 use mathlib.Core.List.{List, [], _∷_, _++_, flatMap}

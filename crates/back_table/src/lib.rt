@@ -1,4 +1,4 @@
-// Writes the table of a draft (crate draft) whose faults are judged: the image's parts one after the other.
+// Writes the table of a draft (crate front_draft) whose faults are judged: the image's parts one after the other.
 ghost use mathlib.Core.Path.{_≡_};
 ghost use Prim.Native.Nat.{_≤_};
 ghost use lib.ListN.{length};

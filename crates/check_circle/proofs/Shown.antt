@@ -1,4 +1,5 @@
--- 02, M-108: for a sheet that compile turns down by 12, the call lists a shortest circle of the sheet's program: by what 12 says of a sheet (crate compiler, `twelve`).
+-- 02, M-108: for a sheet that compile turns down by 12, the call lists a shortest circle of the sheet's program: by
+-- what 12 says of a sheet (crate back_compile, `twelve`).
 use Prim.Native.Nat.{ℕ, _≤_, _<_}
 use mathlib.Core.Path.{_≡_}
 use mathlib.Core.List.{List}

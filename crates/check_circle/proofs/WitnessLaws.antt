@@ -1,5 +1,6 @@
--- What is found on the draft, its parameters filled in, is a shortest circle of the sheet's program: the matrix is its dependence (crate analysis), and a shortest circle has distinct members. The draft is judged as
--- compile judges the sheet: with 12 no parameter lacks, so that the values filled in are those lent.
+-- What is found on the draft, its parameters filled in, is a shortest circle of the sheet's program: the matrix is its
+-- dependence (crate check_faults), and a shortest circle has distinct members. The draft is judged as compile judges
+-- the sheet: with 12 no parameter lacks, so that the values filled in are those lent.
 use Prim.Native.Nat.{ℕ, _≤_, _<_}
 use mathlib.Core.Bool.{Bool, true, false}
 use mathlib.Core.Path.{_≡_, refl, sym, ap, _∙_, subst}

@@ -1,5 +1,7 @@
--- What the call `circle` answers, and the list's bytes at exit, for all bytes. 02, M-108: "For a sheet refused by 12, a call lists the behaviours of a circle, each depending on the next, with the event it arises
--- under, or none. No circle of fewer behaviours exists under an event or under none. It is lent a sheet and parameters; any other sheet gets compile's number as with a full table, or 0, and no list."
+-- What the call `circle` answers, and the list's bytes at exit, for all bytes. 02, M-108: "For a sheet refused by 12, a
+-- call lists the behaviours of a circle, each depending on the next, with the event it arises under, or none. No circle
+-- of fewer behaviours exists under an event or under none. It is lent a sheet and parameters; any other sheet gets
+-- compile's number as with a full table, or 0, and no list."
 use Prim.Native.Nat.{ℕ, _+_, _*_, _≤_, _<_}
 use mathlib.Core.Path.{_≡_}
 use mathlib.Core.Logic.{_≢_}
@@ -24,7 +26,8 @@ Answered = ℕ × List ℕ
 abbrev pub answered : ℕ → List ℕ → Answered
 answered r l = (r, l)
 
--- a shortest circle of p, in the first bytes of the list, the others as they were; the answer is 12, the event's number (255 for none) times 256 and the circle's length times 65,536
+-- a shortest circle of p, in the first bytes of the list, the others as they were; the answer is 12, the event's number
+-- (255 for none) times 256 and the circle's length times 65,536
 pub record Listed (p : Program) (list : List ℕ) (r : ℕ) (list′ : List ℕ) : Type 0 where
   pub event : ℕ
   pub declared : event ≤ noEvent p

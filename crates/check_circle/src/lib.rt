@@ -19,7 +19,8 @@ fn circle_in(sheet: &[u8], params: &[u8], list: &mut [u8]) -> u64
     check_shortest::list_circle(&draft, ev, bs, list)
 }
 
-// compile's number, as with a full table, and the list as it was; with 12, the circle in the list's first bytes, its event times 256 (255 for none) and its length times 65,536. A list under 64 bytes is 1.
+// compile's number, as with a full table, and the list as it was; with 12, the circle in the list's first bytes, its
+// event times 256 (255 for none) and its length times 65,536. A list under 64 bytes is 1.
 pub fn circle_at(sheet: &[u8], params: &[u8], list: &mut [u8]) -> u64
     ensures { λ r. ⌜ Witnessed (now (sheet .entry)) (now (params .entry)) (now (list .entry)) r (now (list .exit)) ⌝ }
 {

@@ -1,4 +1,5 @@
--- A circle in which a behaviour stands twice has a shorter one in it: from the first time to the second. So a shortest circle has distinct members, as many as there are numbers at the most.
+-- A circle in which a behaviour stands twice has a shorter one in it: from the first time to the second. So a shortest
+-- circle has distinct members, as many as there are numbers at the most.
 use Prim.Native.Nat.{ℕ, _+_, _≤_, _<_}
 use mathlib.Core.Bool.{Bool, true, false}
 use mathlib.Core.Path.{_≡_, sym, _∙_, subst}

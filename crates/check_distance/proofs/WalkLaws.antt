@@ -1,4 +1,5 @@
--- What the loop that lists a walk keeps: those listed lead from i to where it stands, and from there as many steps as are left lead to i.
+-- What the loop that lists a walk keeps: those listed lead from i to where it stands, and from there as many steps as
+-- are left lead to i.
 use Prim.Native.Nat.{ℕ, suc, _+_, _-_, _≤_, _<_}
 use mathlib.Core.Bool.{Bool, true, _&&_, and-eq-true-iff}
 use mathlib.Core.Path.{_≡_, refl, sym, ap, _∙_, subst}

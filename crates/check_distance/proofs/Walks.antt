@@ -1,4 +1,5 @@
--- A circle of k members through i is a walk of k steps from i back to i, so no circle is shorter than the steps back; and where there is a circle, there is one of at most n members.
+-- A circle of k members through i is a walk of k steps from i back to i, so no circle is shorter than the steps back;
+-- and where there is a circle, there is one of at most n members.
 use Prim.Native.Nat.{ℕ, zero, suc, _+_, _≤_, _<_}
 use mathlib.Core.Bool.{Bool, true, _&&_, true≢false}
 use mathlib.Core.Path.{_≡_, refl, sym, _∙_}

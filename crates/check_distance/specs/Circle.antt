@@ -1,4 +1,5 @@
--- A circle of behaviours. 01: "A behaviour reached from itself is a circle"; 02, M-108: "the behaviours of a circle, each depending on the next".
+-- A circle of behaviours. 01: "A behaviour reached from itself is a circle"; 02, M-108: "the behaviours of a circle,
+-- each depending on the next".
 use Prim.Native.Nat.{ℕ}
 use mathlib.Core.Bool.{Bool, true}
 use mathlib.Core.Path.{_≡_}

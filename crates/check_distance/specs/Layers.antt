@@ -1,4 +1,5 @@
--- Walks that end at behaviour i, by their number of steps, on a matrix of 64 columns: cell m j h, that j depends on h (crate graph); cell s k j, that there is a walk of k steps from j.
+-- Walks that end at behaviour i, by their number of steps, on a matrix of 64 columns: cell m j h, that j depends on h
+-- (crate check_graph); cell s k j, that there is a walk of k steps from j.
 use Prim.Native.Nat.{ℕ, zero, suc, _+_, _*_, _-_, _≤_, _<_}
 use mathlib.Core.Bool.{Bool, true, false, _&&_}
 use mathlib.Core.Path.{_≡_}
@@ -57,7 +58,8 @@ pub record Back (m : List ℕ) (n i r : ℕ) (s : List ℕ) : Type 0 where
   pub steps : r ≡ stepsBack (λ a b. cell m a b) n i
   pub layers : r ≤ n → Layered m n i s (r - 1)
 
--- r of the first n, each depending on the next and the last on the first, are the first bytes of the list; its other bytes are as they were
+-- r of the first n, each depending on the next and the last on the first, are the first bytes of the list; its other
+-- bytes are as they were
 pub record Walked (m : List ℕ) (n r : ℕ) (list list′ : List ℕ) : Type 0 where
   pub members : List ℕ
   pub count : length members ≡ r

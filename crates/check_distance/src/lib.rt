@@ -1,5 +1,6 @@
-// Walks along a dependence matrix (crate graph) that end at one behaviour i, by their number of steps, and a shortest one from i back to i.
-// m[j * 64 + h] != 0: j depends on h. s[k * 64 + j] != 0: there is a walk of k steps from j to i.
+// Walks along a dependence matrix (crate check_graph) that end at one behaviour i, by their number of steps, and a
+// shortest one from i back to i. m[j * 64 + h] != 0: j depends on h. s[k * 64 + j] != 0: there is a walk of k steps
+// from j to i.
 ghost use mathlib.Core.Path.{_≡_};
 ghost use mathlib.Core.Bool.{true};
 ghost use Prim.Native.Nat.{_-_, _≤_, _<_};

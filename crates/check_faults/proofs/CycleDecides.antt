@@ -1,5 +1,5 @@
--- `known` and `cyclic` decide what they are named for. Names: by induction. Cycles: the closed matrix decides what is reached among the behaviours, and
--- a program whose names are known depends on nothing else.
+-- `known` and `cyclic` decide what they are named for. Names: by induction. Cycles: the closed matrix decides what is
+-- reached among the behaviours, and a program whose names are known depends on nothing else.
 use Prim.Native.Nat.{ℕ, _+_, _*_, _/_, _%_, _≤_, _<_}
 use mathlib.Core.Path.{_≡_, refl, sym, _∙_}
 use mathlib.Core.Bool.{Bool, true, false, not, _&&_, true≢false, and-eq-true-iff}

@@ -1,4 +1,5 @@
--- The matrix that the code fills is the program's: each cell is followed through the marks, row by row, and the names of an expression are those of its nodes.
+-- The matrix that the code fills is the program's: each cell is followed through the marks, row by row, and the names
+-- of an expression are those of its nodes.
 use Prim.Native.Nat.{ℕ, zero, suc, _+_, _*_, _/_, _%_, _≤_, _<_, _^_}
 use mathlib.Core.Path.{_≡_, refl, sym, _∙_, subst}
 use mathlib.Core.Logic.{_≢_, by-cases}

@@ -1,4 +1,5 @@
--- The pass over the nodes finds what `known` says of the program: a list of nodes is judged part by part, as the expressions are.
+-- The pass over the nodes finds what `known` says of the program: a list of nodes is judged part by part, as the
+-- expressions are.
 use Prim.Native.Nat.{ℕ, zero, suc, _+_, _≤_, _<_, _^_}
 use mathlib.Core.Path.{_≡_, refl, _∙_}
 use mathlib.Core.Bool.{Bool, true, false, not, _&&_, and-true, and-false, and-assoc}

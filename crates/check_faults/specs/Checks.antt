@@ -35,7 +35,8 @@ unfoldable pub markNodes : List ℕ → List ℕ → ℕ → ℕ → ℕ → ℕ
 markNodes d m i but start zero = m
 markNodes d m i but start (suc k) = markNode (markNodes d m i but start k) i but (getD d (start + k) 0)
 
--- by its entry v, a passive depends on every name, 64 being none; an immediate handler on every name but its own. The names are those that behaviour i means (02, M-110)
+-- by its entry v, a passive depends on every name, 64 being none; an immediate handler on every name but its own. The
+-- names are those that behaviour i means (02, M-110)
 unfoldable pub markEntry : List ℕ → List ℕ → ℕ → ℕ → List ℕ
 markEntry d m i v =
     pick (eqb (kindOf v) 1) (markNodes (usedBy d i) m i 64 (startOf v) (countOf v))

@@ -1,6 +1,7 @@
-// The checks of a whole program, on its draft (layout: draft, specs/Draft.antt): names that no behaviour has, cycles.
-// Time: the names take one pass over the nodes. The cycles take, for each of ev events and for none, a pass over the nodes of the entries for their names,
-// and the closure of a matrix of bs behaviours: in all (ev + 1) * (nodes + bs * bs * bs), and 4096 for clearing each matrix.
+// The checks of a whole program, on its draft (layout: front_draft, specs/Draft.antt): names that no behaviour has,
+// cycles. Time: the names take one pass over the nodes. The cycles take, for each of ev events and for none, a pass
+// over the nodes of the entries for their names, and the closure of a matrix of bs behaviours: in all (ev + 1) * (nodes
+// + bs * bs * bs), and 4096 for clearing each matrix.
 ghost use mathlib.Core.Path.{_≡_};
 ghost use Prim.Native.Nat.{_+_, _*_, _≤_, _<_};
 ghost use lib.ListN.{length};

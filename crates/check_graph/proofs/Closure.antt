@@ -1,5 +1,5 @@
--- The closed matrix decides `Reach`: passing through k adds exactly the pairs (i, j) with i to k and k to j, so what is marked is reached,
--- and the marks are closed under every node that is passed.
+-- The closed matrix decides `Reach`: passing through k adds exactly the pairs (i, j) with i to k and k to j, so what is
+-- marked is reached, and the marks are closed under every node that is passed.
 use Prim.Native.Nat.{ℕ, zero, suc, _+_, _*_, _≤_, _<_}
 use mathlib.Core.Bool.{Bool, true, false, not, _&&_, _||_, false≢true, or-false, or-true, and-eq-true-iff}
 use mathlib.Core.Path.{_≡_, refl, sym, ap, _∙_, subst}

@@ -1,4 +1,5 @@
--- Placing on bytes gives language's `order`: the marks as bytes and as Booleans agree at each step, so each test, and each choice, is the same.
+-- Placing on bytes gives language's `order`: the marks as bytes and as Booleans agree at each step, so each test, and
+-- each choice, is the same.
 use Prim.Native.Nat.{ℕ, zero, suc, _+_, _*_, _≤_, _<_}
 use mathlib.Core.Bool.{Bool, true, false, not, _&&_, true≢false, false≢true}
 use mathlib.Core.Path.{_≡_, refl, sym, ap, _∙_, subst}

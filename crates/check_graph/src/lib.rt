@@ -120,7 +120,8 @@ fn find_next(m: &[u8], marks: &[u8], n: usize) -> usize
     i
 }
 
-// Places each of the first n that is not marked and whose needs are met, the lowest number first, chosen anew after each. Returns how many.
+// Places each of the first n that is not marked and whose needs are met, the lowest number first, chosen anew after
+// each. Returns how many.
 pub fn order_of(m: &[u8], marks: &mut [u8], n: usize, out: &mut [u8]) -> usize
     requires { ⌜ (length (now m) ≡ 4096) × (length (now marks) ≡ 64) × (length (now out) ≡ 64) × (n ≤ 64) ⌝ }
     ensures { λ r. ⌜ placed r (now (marks .exit)) (now (out .exit)) ≡ orderOn (now (m .entry)) n n (now (marks .entry)) 0 (now (out .entry)) ⌝ }

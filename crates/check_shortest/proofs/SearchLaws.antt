@@ -1,4 +1,5 @@
--- The least packed number is that of some behaviour on some event, if there is a circle at all; no circle has fewer members than it has steps.
+-- The least packed number is that of some behaviour on some event, if there is a circle at all; no circle has fewer
+-- members than it has steps.
 use Prim.Native.Nat.{ℕ, zero, suc, _+_, _*_, _-_, _/_, _%_, _≤_, _<_, min}
 use mathlib.Core.Bool.{Bool, true, true≢false}
 use mathlib.Core.Path.{_≡_, refl, sym, _∙_}

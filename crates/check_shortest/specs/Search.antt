@@ -1,4 +1,5 @@
--- The search for a shortest circle on a draft, in the code's order, and what it finds. The steps from a behaviour back to itself are packed with it and the event, so that the least number is that of a shortest walk.
+-- The search for a shortest circle on a draft, in the code's order, and what it finds. The steps from a behaviour back
+-- to itself are packed with it and the event, so that the least number is that of a shortest walk.
 use Prim.Native.Nat.{ℕ, zero, suc, _+_, _*_, _≤_, min}
 use mathlib.Core.Path.{_≡_}
 use mathlib.Core.List.{List}
@@ -37,7 +38,8 @@ eventNumber e ev = pick (ltb e ev) e 255
 abbrev pub Wide : List ℕ → ℕ → ℕ → Type 0
 Wide d ev n = (e : ℕ) → e ≤ ev → length (matrixOn d e n) ≡ 4096
 
--- what is found: on some event or on none a circle, listed in the first bytes, and no circle on any event or none has fewer members
+-- what is found: on some event or on none a circle, listed in the first bytes, and no circle on any event or none has
+-- fewer members
 pub record Found (d : List ℕ) (ev n : ℕ) (list : List ℕ) (r : ℕ) (list′ : List ℕ) : Type 0 where
   pub event : ℕ
   pub declared : event ≤ ev

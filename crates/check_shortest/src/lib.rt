@@ -1,5 +1,6 @@
-// A shortest circle of a draft (crate draft), over all events and none (02, M-108).
-// Time: for each of ev events and for none, and for each of bs behaviours, up to bs layers of bs * bs steps: in all (ev + 1) * bs * bs * bs * bs at the most.
+// A shortest circle of a draft (crate front_draft), over all events and none (02, M-108). Time: for each of ev events
+// and for none, and for each of bs behaviours, up to bs layers of bs * bs steps: in all (ev + 1) * bs * bs * bs * bs at
+// the most.
 ghost use mathlib.Core.Path.{_≡_};
 ghost use mathlib.Core.Bool.{true};
 ghost use Prim.Native.Nat.{_≤_, min};

@@ -1,5 +1,5 @@
-// The desk program: reads fields from standard input, calls the engine and writes the lines of `script`, which has the format. Tags (hexadecimal): 20 a sheet, 21 an arrival,
-// 22 steps, 23 a show.
+// The desk program: reads fields from standard input, calls the engine and writes the lines of `script`, which has the
+// format. Tags (hexadecimal): 20 a sheet, 21 an arrival, 22 steps, 23 a show.
 use libc::STDIN_FILENO;
 use libc::STDOUT_FILENO;
 ghost use Prim.Native.Nat.{_≤_, _<_};
@@ -66,7 +66,8 @@ fn show(table: &[u8], round: &[u8]) {
     io::write_all(STDOUT_FILENO, &line[..size]);
 }
 
-// A sheet. "An accepted sheet begins a fresh round": a refused one leaves the earlier round as it was. 2 where it is accepted, else 1.
+// A sheet. "An accepted sheet begins a fresh round": a refused one leaves the earlier round as it was. 2 where it is
+// accepted, else 1.
 fn load(sheet: &[u8], table: &mut [u8], round: &mut [u8]) -> u8 {
     let r = engine::compile(sheet, &[], table);
     if r != 0 {
@@ -128,7 +129,8 @@ fn turn(table: &mut [u8], round: &mut [u8], ready: bool) -> u8 {
     field(head[0], size, table, round, ready)
 }
 
-// Field after field. A proved loop has to end, and nothing says that the input does: it counts its turns down, from a number that no run uses up.
+// Field after field. A proved loop has to end, and nothing says that the input does: it counts its turns down, from a
+// number that no run uses up.
 fn main() {
     let mut table = [0u8; 34816];
     let mut round = [0u8; 2048];

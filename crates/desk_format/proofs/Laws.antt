@@ -1,4 +1,5 @@
--- Text put after what a buffer holds; the library's fewest digits of a number are the number in decimal, by induction on how many they are.
+-- Text put after what a buffer holds; the library's fewest digits of a number are the number in decimal, by induction
+-- on how many they are.
 use Prim.Native.Nat.{ℕ, zero, suc, _+_, _*_, _-_, _/_, _%_, _^_, _≤_, _<_}
 use mathlib.Core.Path.{_≡_, refl, sym, ap, _∙_}
 use mathlib.Core.List.{List, [], _∷_, _++_, append-assoc, append-nil}

@@ -1,4 +1,5 @@
--- What the desk program refuses and prints. 01: "The desk program reads fields from standard input: 20 a sheet, 21 arrival (event byte), 22 steps (two-byte count), 23 show (length 0)."
+-- What the desk program refuses and prints. 01: "The desk program reads fields from standard input: 20 a sheet, 21
+-- arrival (event byte), 22 steps (two-byte count), 23 show (length 0)."
 use Prim.Native.Nat.{ℕ, zero, suc, _+_, _-_, _/_, _%_}
 use mathlib.Core.Bool.{Bool, true, false}
 use mathlib.Core.List.{List, [], _∷_, _++_}
@@ -15,11 +16,13 @@ headVerdict got tag = pick (ltb got 3) 4 (pick (ltb tag 32) 5 (pick (ltb 35 tag)
 unfoldable pub due : ℕ → ℕ
 due tag = pick (eqb tag 33) 1 (pick (eqb tag 34) 2 0)
 
--- An arrival, a count or a show that is whole: ".. a wrong length R 6 ..; a well-formed 21, 22 or 23 before an accepted sheet prints R 14"
+-- An arrival, a count or a show that is whole: ".. a wrong length R 6 ..; a well-formed 21, 22 or 23 before an accepted
+-- sheet prints R 14"
 unfoldable pub playVerdict : ℕ → ℕ → Bool → ℕ
 playVerdict size length ready = pick (eqb size length) (pick ready 0 14) 6
 
--- Its value of `size` bytes, of which `got` were there: "a torn field prints R 4, .. a wrong length R 6 ..; a well-formed 21, 22 or 23 before an accepted sheet prints R 14"
+-- Its value of `size` bytes, of which `got` were there: "a torn field prints R 4, .. a wrong length R 6 ..; a
+-- well-formed 21, 22 or 23 before an accepted sheet prints R 14"
 unfoldable pub valueVerdict : ℕ → ℕ → ℕ → Bool → ℕ
 valueVerdict tag size got ready = pick (ltb got size) 4 (pick (eqb tag 32) 0 (playVerdict size (due tag) ready))
 
@@ -52,7 +55,8 @@ refusalLine n = 82 ∷ 32 ∷ (decimal n ++ (10 ∷ []))
 unfoldable pub commitLine : ℕ → ℕ → List ℕ
 commitLine n e = 67 ∷ 32 ∷ (decimal n ++ (32 ∷ (decimal e ++ (10 ∷ []))))
 
--- What a step's answer prints: R 14, or a commit (kind 3). "Steps without a commit print nothing." 02, M-104: "The desk program doesn't print it", the mark at 2^56.
+-- What a step's answer prints: R 14, or a commit (kind 3). "Steps without a commit print nothing." 02, M-104: "The desk
+-- program doesn't print it", the mark at 2^56.
 unfoldable pub stepLine : ℕ → List ℕ
 stepLine answer = pick (eqb answer 14) (refusalLine 14) (pick (eqb (answer % 16) 3) (commitLine (answer / 65536 % 1099511627776) (answer / 256 % 256)) [])
 

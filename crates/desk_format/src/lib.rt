@@ -1,4 +1,5 @@
-// The desk program's format: how its fields are judged, and the lines that it prints. 01 "The desk program". Tags are 20 to 23 in hexadecimal, 32 to 35 in decimal.
+// The desk program's format: how its fields are judged, and the lines that it prints. 01 "The desk program". Tags are
+// 20 to 23 in hexadecimal, 32 to 35 in decimal.
 ghost use mathlib.Core.Path.{_≡_};
 ghost use mathlib.Core.List.{_++_, _∷_};
 ghost use Prim.Native.Nat.{_+_, _*_, _≤_};
@@ -48,7 +49,8 @@ fn judge_play(size: usize, length: usize, ready: bool) -> u8
     14
 }
 
-// What a field's value is refused for: 4 where fewer bytes were there than its size; 6 and 14 for an arrival, a count of steps or a show; else 0.
+// What a field's value is refused for: 4 where fewer bytes were there than its size; 6 and 14 for an arrival, a count
+// of steps or a show; else 0.
 pub fn judge_value(tag: u8, size: usize, got: usize, ready: bool) -> u8
     ensures { λ r. ⌜ r ≡ valueVerdict tag size got ready ⌝ }
 {

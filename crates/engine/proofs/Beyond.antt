@@ -1,5 +1,5 @@
--- Demand 1, for all bytes: no call writes beyond the table's 34,816 bytes or the round's 2,048, and their lengths stay. Each call only puts words, and wherever its
--- tests let it come to a put, the place is below word 8,704 or 512.
+-- Demand 1, for all bytes: no call writes beyond the table's 34,816 bytes or the round's 2,048, and their lengths stay.
+-- Each call only puts words, and wherever its tests let it come to a put, the place is below word 8,704 or 512.
 use Prim.Native.Nat.{ℕ, zero, suc, _+_, _-_, _/_, _%_, _≤_, _<_}
 use mathlib.Core.Bool.{Bool, true, false}
 use mathlib.Core.Path.{_≡_, refl, sym, ap, _∙_, subst}

@@ -1,5 +1,5 @@
--- Demand 3 holds: for every sheet that compile accepts, every list of calls, and every two lists. The sheet's program comes from what compile accepts, and the
--- claims about its table and a fresh round carry over.
+-- Demand 3 holds: for every sheet that compile accepts, every list of calls, and every two lists. The sheet's program
+-- comes from what compile accepts, and the claims about its table and a fresh round carry over.
 use Prim.Native.Nat.{ℕ, _+_, _*_, _≤_, _<_}
 use mathlib.Core.Bool.{true}
 use mathlib.Core.Path.{_≡_, sym, ap, _∙_, subst}

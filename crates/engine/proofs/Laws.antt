@@ -1,4 +1,5 @@
--- What one recorded call is, by its kind, and what the loop over the calls keeps: what is left gives the whole. Assumes nothing.
+-- What one recorded call is, by its kind, and what the loop over the calls keeps: what is left gives the whole. Assumes
+-- nothing.
 use Prim.Native.Nat.{ℕ, suc, _+_, _*_, _-_, _≤_, _<_}
 use mathlib.Core.Path.{_≡_, refl, ap, _∙_}
 use mathlib.Core.Logic.{_≢_}

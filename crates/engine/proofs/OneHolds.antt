@@ -1,5 +1,6 @@
--- Every sentence of demand 3, of M-100, M-101 and M-104 about one list of calls, and demand 2's about one event, for an accepted program's table and a fresh round.
--- The bytes refine the model engine, and the model engine's claims carry over.
+-- Every sentence of demand 3, of M-100, M-101 and M-104 about one list of calls, and demand 2's about one event, for an
+-- accepted program's table and a fresh round. The bytes refine the model engine, and the model engine's claims carry
+-- over.
 use Prim.Native.Nat.{ℕ, _-_, _≤_, _<_}
 use mathlib.Core.Bool.{Bool, true, false}
 use mathlib.Core.Path.{_≡_, refl, sym, ap, _∙_, subst}

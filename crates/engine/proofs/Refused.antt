@@ -1,5 +1,6 @@
--- Demand 1: a refused start, arrival, step or change of sheets leaves the round as it was. By the branches of each call: an accepted step never answers `foreign`.
--- (A refused compile: crate compiler, AcceptedExactly. A board reading has the round as `&[u8]`.)
+-- Demand 1: a refused start, arrival, step or change of sheets leaves the round as it was. By the branches of each
+-- call: an accepted step never answers `foreign`. (A refused compile: crate back_compile, AcceptedExactly. A board
+-- reading has the round as `&[u8]`.)
 use Prim.Native.Nat.{ℕ, _+_, _-_}
 use mathlib.Core.Path.{_≡_, refl}
 use mathlib.Core.Logic.{_≢_}

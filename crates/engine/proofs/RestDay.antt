@@ -1,5 +1,5 @@
--- 02, M-106, "A rest day": what the exported calls do with a sheet of no bytes. By demand 3's theorem the calls answer as the model engine does, which for a program
--- with no events and no behaviours stays as it began.
+-- 02, M-106, "A rest day": what the exported calls do with a sheet of no bytes. By demand 3's theorem the calls answer
+-- as the model engine does, which for a program with no events and no behaviours stays as it began.
 use Prim.Native.Nat.{ℕ, _≤_, _<_}
 use mathlib.Core.Bool.{true≢false}
 use mathlib.Core.Path.{_≡_, refl, sym, ap, _∙_}
@@ -41,17 +41,18 @@ blank = sheet [] []
 abbrev pub nothing : Program
 nothing = record { priorities = []; senders = []; behaviours = []; viewers = [] }
 
--- "its round idle, every arrival refused by 15 and every board reading by 18": after the calls cs on the table t and the round l, of each of the eight players (02, M-107: 24 for
--- others)
+-- "its round idle, every arrival refused by 15 and every board reading by 18": after the calls cs on the table t and
+-- the round l, of each of the eight players (02, M-107: 24 for others)
 pub record AtRest (t l : List ℕ) (cs : List Call) : Type 0 where
   pub idle : IdleNow t (roundAfter t cs l)
   pub arrivals : (e who : ℕ) → who < 8 → arriveOn t (roundAfter t cs l) e who .0 ≡ 15
   pub readings : (i who : ℕ) → who < 8 → boardOn t (roundAfter t cs l) i who ≡ 18
 
--- "On rest days the sheet store sends a sheet of no bytes. It shall mean a sheet with no events and no behaviours: accepted", in any table bytes t₀ and round bytes l₀
--- of 01's lengths
+-- "On rest days the sheet store sends a sheet of no bytes. It shall mean a sheet with no events and no behaviours:
+-- accepted", in any table bytes t₀ and round bytes l₀ of 01's lengths
 pub record RestDay : Type 0 where
-  -- no bytes are the encoding of that sheet, which meets 01's grammar and limits and means that program, whatever is lent for parameters
+  -- no bytes are the encoding of that sheet, which meets 01's grammar and limits and means that program, whatever is
+  -- lent for parameters
   pub bytes : encode blank ≡ []
   pub within : (ps : List ℕ) → SheetAccepted (get ps) (length ps) blank
   pub means : (ps : List ℕ) → programOf ps blank ≡ nothing

@@ -1,5 +1,5 @@
--- Two lists on one program, each with a table and a round of its own: the boards are equal when both are idle. By the model engine's claim, independent events
--- commuting by the meaning.
+-- Two lists on one program, each with a table and a round of its own: the boards are equal when both are idle. By the
+-- model engine's claim, independent events commuting by the meaning.
 use Prim.Native.Nat.{ℕ, _≤_, _<_}
 use mathlib.Core.Path.{_≡_, sym, _∙_}
 use mathlib.Core.Logic.{_≢_}

@@ -1,7 +1,9 @@
--- Demands 2 and 3, and M-100, M-101, M-104, M-107, M-112 and M-113 of document 02, as claims about the exported functions: `compileOn`, `startOn`, `arriveOn`, `stepOn`, `boardOn`, `forecastOn`,
--- `previewOn`, `toldOn` and, for changes of sheets, `mendOn` are what their contracts cite. M-107's rule for a player stands above: crate seen, and with changes crate heard.
--- The model engine, and the sentences of demand 3 in its terms: crate model, Model.antt and Claims.antt. Calls on bytes, and what the round's bytes say: crate
--- refinement, Refinement.antt.
+-- Demands 2 and 3, and M-100, M-101, M-104, M-107, M-112 and M-113 of document 02, as claims about the exported
+-- functions: `compileOn`, `startOn`, `arriveOn`, `stepOn`, `boardOn`, `forecastOn`, `previewOn`, `toldOn` and, for
+-- changes of sheets, `mendOn` are what their contracts cite. M-107's rule for a player stands above: crate
+-- secrecy_engine, and with changes crate heard. The model engine, and the sentences of demand 3 in its terms: crate
+-- spec_model, Model.antt and Claims.antt. Calls on bytes, and what the round's bytes say: crate refinement,
+-- Refinement.antt.
 use Prim.Native.Nat.{ℕ, _+_, _*_, _≤_, _<_}
 use mathlib.Core.Bool.{Bool, true, false}
 use mathlib.Core.Path.{_≡_}
@@ -64,7 +66,8 @@ pub record CommitMark (p : Program) (cs : List Call) (a : Arrival) (m : Bool) : 
 pub record OneList (p : Program) (t l₀ l : List ℕ) (cs : List Call) : Type 0 where
   -- "every answer .. is what 01's model engine gives"
   pub answers : answersOn t cs l ≡ map coded (said p cs)
-  -- the numbers name those answers: the committed and the taken in of the other parts are those that the calls' numbers name
+  -- the numbers name those answers: the committed and the taken in of the other parts are those that the calls' numbers
+  -- name
   pub read : zipWith decoded cs (answersOn t cs l) ≡ said p cs
   -- "The table is still as compile left it": after the list it is t, and the round is `roundAfter`
   pub table : buffersAfter cs (t, l) ≡ (t, roundAfter t cs l)
@@ -73,8 +76,8 @@ pub record OneList (p : Program) (t l₀ l : List ℕ) (cs : List Call) : Type 0
   pub beyond : Kept l₀ (roundAfter t cs l)
   -- a step called now answers idle exactly if the model engine's does
   pub idle : (IdleNow t (roundAfter t cs l) → Idle p (after p cs)) × (Idle p (after p cs) → IdleNow t (roundAfter t cs l))
-  -- "After the list, unless a copy-back is under way, the board equals what demand 2's rules give for the committed events, one by one, undivided, in order of
-  -- commitment."
+  -- "After the list, unless a copy-back is under way, the board equals what demand 2's rules give for the committed
+  -- events, one by one, undivided, in order of commitment."
   pub board : settlingIn p (after p cs) ≡ false → Plays p (eventsOf (committedIn p cs)) (fresh p) (boardOf p (roundAfter t cs l))
   -- the rules lead to no other board
   pub board-alone : settlingIn p (after p cs) ≡ false → (b : List ℕ) → Plays p (eventsOf (committedIn p cs)) (fresh p) b → b ≡ boardOf p (roundAfter t cs l)
@@ -86,32 +89,35 @@ pub record OneList (p : Program) (t l₀ l : List ℕ) (cs : List Call) : Type 0
   pub lower : LowerFirst p cs
   -- "Once no more are taken in, the round is idle within 01's count of steps."
   pub settles : SettlesIn p cs
-  -- document 02, M-113: "If during the next (k + 1) × (L + 1) steps nothing of higher rank arrives .., that arrival is committed by the end of them."
+  -- document 02, M-113: "If during the next (k + 1) × (L + 1) steps nothing of higher rank arrives .., that arrival is
+  -- committed by the end of them."
   pub nobody-waits : NobodyWaits p cs
-  -- demand 2: "An event run alone leaves on the board, for every behaviour, the value that the paper's big-step rules give": from an idle round, an event that is
-  -- taken in, from whoever may send it, and stepped to its commit
+  -- demand 2: "An event run alone leaves on the board, for every behaviour, the value that the paper's big-step rules
+  -- give": from an idle round, an event that is taken in, from whoever may send it, and stepped to its commit
   pub one-event : IdleNow t (roundAfter t cs l) → (e who : ℕ) → e < events p → who < 8 → maySend p who e ≡ true → number (after p cs) < 1000000
       → (committedIn p (cs ++ aloneCalls p e who) ≡ committedIn p cs ++ (arrival (number (after p cs)) e who ∷ []))
       × Plays p (e ∷ []) (boardOf p (roundAfter t cs l)) (boardOf p (roundAfter t (cs ++ aloneCalls p e who) l))
-  -- 02, M-100: "From a round in one of demand 3's lists, with nothing running and no further arrivals, idle shall come after exactly the sum, over the hand, of each
-  -- event's instruction count plus one, where 01 only bounds it."
+  -- 02, M-100: "From a round in one of demand 3's lists, with nothing running and no further arrivals, idle shall come
+  -- after exactly the sum, over the hand, of each event's instruction count plus one, where 01 only bounds it."
   pub quiet : QuietExactly p cs
-  -- ".. The same number is offered as a call of its own on a round .. While something runs, that call gives 01's bound.": 2 ^ 32 and the number
+  -- ".. The same number is offered as a call of its own on a round .. While something runs, that call gives 01's
+  -- bound.": 2 ^ 32 and the number
   pub forecast : forecastOn t (roundAfter t cs l) ≡ 4294967296 + forecast p (after p cs)
-  -- 02, M-101: "A preview takes a round, an event and a behaviour, and tells the value that the board would show after this arrival and everything in hand had been run
-  -- to idle. It equals doing so on a copy .. It is turned down as the arrival would be, then by 18": of such a round a step never is, and 01's count is enough. M-107: "Each
-  -- arrival, board reading and preview now carries its player .. A preview needs both rights"
+  -- 02, M-101: "A preview takes a round, an event and a behaviour, and tells the value that the board would show after
+  -- this arrival and everything in hand had been run to idle. It equals doing so on a copy .. It is turned down as the
+  -- arrival would be, then by 18": of such a round a step never is, and 01's count is enough. M-107: "Each arrival,
+  -- board reading and preview now carries its player .. A preview needs both rights"
   pub preview : (e i who : ℕ) → previewOn t (roundAfter t cs l) e i who ≡ coded (previewed p (after p cs) e i who)
   -- and whichever way the round itself is then run to idle, its board shows that value
   pub previews : PreviewRight p cs
-  -- 02, M-104: "the committing step's answer carries a mark: set exactly if some application in that event's meaning did so. .. What a broken-in handler found is dropped": of
-  -- the step called next, as its number is read
+  -- 02, M-104: "the committing step's answer carries a mark: set exactly if some application in that event's meaning
+  -- did so. .. What a broken-in handler found is dropped": of the step called next, as its number is read
   pub mark : (a : Arrival) (m : Bool) → decoded step (stepOn t (roundAfter t cs l) .0) ≡ committed a m → CommitMark p cs a m
-  -- 02, M-107: "only the host is told M-104's mark: a step carries no player and returns the host's answer, and a further call turns that into the others', without the
-  -- mark": of the step called next
+  -- 02, M-107: "only the host is told M-104's mark: a step carries no player and returns the host's answer, and a
+  -- further call turns that into the others', without the mark": of the step called next
   pub told : toldOn (stepOn t (roundAfter t cs l) .0) ≡ coded (unmarked (act p step (after p cs) .answer))
 
--- ---- the code of event e in the table t of program p, word by word (layout: crate layout)
+-- ---- the code of event e in the table t of program p, word by word (layout: crate format_layout)
 
 pub record CodeIn (p : Program) (t : List ℕ) (e : ℕ) : Type 0 where
   -- its record
@@ -124,7 +130,8 @@ pub record CodeIn (p : Program) (t : List ℕ) (e : ℕ) : Type 0 where
   pub operations : (c : ℕ) → c < length (code p e) → get t (512 + (get t (9 + e * 4) + c) * 2) ≡ operation (getD (code p e) c off)
   pub constants : (c : ℕ) → c < length (code p e) → get t (513 + (get t (9 + e * 4) + c) * 2) ≡ constant (getD (code p e) c off)
 
--- ---- demand 3, every list of calls: for a sheet s that compile accepts with the bytes ps lent for its parameters, its table in t₀, and a round that start makes in l₀
+-- ---- demand 3, every list of calls: for a sheet s that compile accepts with the bytes ps lent for its parameters, its
+-- table in t₀, and a round that start makes in l₀
 
 pub record EveryList (s ps t₀ l₀ : List ℕ) : Type 0 where
   -- the sheet: it meets 01's grammar and limits, with no circle, and uses a parameter only if 32 bytes are lent
@@ -133,7 +140,8 @@ pub record EveryList (s ps t₀ l₀ : List ℕ) : Type 0 where
   pub taken : SheetAccepted (get ps) (length ps) sheet
   -- its program, each parameter being the constant lent (02, M-103)
   pub accepted : Accepted (programOf ps sheet)
-  -- "each event's code is the one 01 lists": the table is the program's, and its words are those of `code` for each event e
+  -- "each event's code is the one 01 lists": the table is the program's, and its words are those of `code` for each
+  -- event e
   pub table : compileOn s ps t₀ .1 ≡ tableOf (programOf ps sheet) t₀
   pub code : (e : ℕ) → e < events (programOf ps sheet) → CodeIn (programOf ps sheet) (compileOn s ps t₀ .1) e
   -- a fresh round: start answers 0, and the board has the start values with the passives worked out
@@ -145,7 +153,8 @@ abbrev pub EverySheet : Type 0
 EverySheet =
     (s ps t₀ l₀ : List ℕ) → All (λ b. b < 256) s → All (λ b. b < 256) ps → 2048 ≤ length l₀ → compileOn s ps t₀ .0 ≡ 0 → EveryList s ps t₀ l₀
 
--- ---- demand 3, two lists: "for every two such lists on one sheet, taking in the same events in the same order, those of unequal rank being independent: when
+-- ---- demand 3, two lists: "for every two such lists on one sheet, taking in the same events in the same order, those
+-- of unequal rank being independent: when
 -- both are idle, their boards are equal", with the same parameters, whoever sent the events
 
 abbrev pub TwoLists : Type 0

@@ -1,4 +1,5 @@
--- A recorded list of calls: six bytes for each, its kind (0 arrival, 1 step, else board reading), a number of 32 bits and the player; eight bytes for each answer.
+-- A recorded list of calls: six bytes for each, its kind (0 arrival, 1 step, else board reading), a number of 32 bits
+-- and the player; eight bytes for each answer.
 use Prim.Native.Nat.{ℕ, zero, suc, _+_, _*_, _/_, _%_}
 use mathlib.Core.List.{List, [], _∷_}
 use lib.ListN.{getD}

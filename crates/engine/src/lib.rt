@@ -1,5 +1,5 @@
-// The exported calls. Each contract gives the answer and every byte at exit, for all bytes and numbers; none has a `requires`.
-// The table is lent as `&[u8]` to all but compile: they leave it as it was.
+// The exported calls. Each contract gives the answer and every byte at exit, for all bytes and numbers; none has a
+// `requires`. The table is lent as `&[u8]` to all but compile: they leave it as it was.
 ghost use mathlib.Core.Path.{_≡_};
 ghost use Prim.Native.Nat.{_+_, _*_, _≤_, _<_};
 ghost use lib.ListN.{length};
@@ -27,8 +27,8 @@ pub extern "C" fn compile(sheet: &[u8], params: &[u8], table: &mut [u8]) -> u32
     back_compile::compile_at(sheet, params, table)
 }
 
-// Why a sheet is turned down: compile's number, as with a full table, the list as it was; with 12 a shortest circle in the list's first bytes, its event times 256 (255 for none) and its length times 65,536. 1 for a
-// list under 64 bytes.
+// Why a sheet is turned down: compile's number, as with a full table, the list as it was; with 12 a shortest circle in
+// the list's first bytes, its event times 256 (255 for none) and its length times 65,536. 1 for a list under 64 bytes.
 #[no_mangle]
 pub extern "C" fn circle(sheet: &[u8], params: &[u8], list: &mut [u8]) -> u64
     ensures { λ r. ⌜ Witnessed (now (sheet .entry)) (now (params .entry)) (now (list .entry)) r (now (list .exit)) ⌝ }
@@ -56,8 +56,8 @@ pub extern "C" fn arrive(table: &[u8], round: &mut [u8], event: u32, player: u32
     run_arrive::arrive_at(table, round, event, player)
 }
 
-// One step. 0 idle, 1 one instruction, 2 a start, 3 a commit, 4 a start that preempts, with player, event and arrival number; or 14.
-// With a commit 2 ^ 56 more where the event ran over (02, M-104): the host's answer.
+// One step. 0 idle, 1 one instruction, 2 a start, 3 a commit, 4 a start that preempts, with player, event and arrival
+// number; or 14. With a commit 2 ^ 56 more where the event ran over (02, M-104): the host's answer.
 #[no_mangle]
 pub extern "C" fn step(table: &[u8], round: &mut [u8]) -> u64
     ensures { λ r. ⌜ result r (now (round .exit)) ≡ stepOn (now (table .entry)) (now (round .entry)) ⌝ }
@@ -84,7 +84,8 @@ pub extern "C" fn board(table: &[u8], round: &[u8], behaviour: u32, player: u32)
     run_board::board_at(table, round, behaviour, player)
 }
 
-// The steps to idle if no arrival is taken in meanwhile, exact with nothing running, else 01's bound: 2 ^ 32 and their number; or 14.
+// The steps to idle if no arrival is taken in meanwhile, exact with nothing running, else 01's bound: 2 ^ 32 and their
+// number; or 14.
 #[no_mangle]
 pub extern "C" fn forecast(table: &[u8], round: &[u8]) -> u64
     ensures { λ r. ⌜ r ≡ forecastOn (now (table .entry)) (now (round .entry)) ⌝ }
@@ -94,8 +95,8 @@ pub extern "C" fn forecast(table: &[u8], round: &[u8]) -> u64
     run_forecast::forecast_at(table, round)
 }
 
-// The value of a behaviour after an event's arrival and everything in hand, tried on a copy: 2 ^ 32 and the word; or 14, 24, 15, 25, 16, 17, 18, 25,
-// and last 14 where a step on the copy is refused or 01's count runs out.
+// The value of a behaviour after an event's arrival and everything in hand, tried on a copy: 2 ^ 32 and the word; or
+// 14, 24, 15, 25, 16, 17, 18, 25, and last 14 where a step on the copy is refused or 01's count runs out.
 #[no_mangle]
 pub extern "C" fn preview(
     table: &[u8],
@@ -111,7 +112,8 @@ pub extern "C" fn preview(
     run_preview::preview_at(table, round, event, behaviour, player)
 }
 
-// A round goes on under a newly compiled table: hand and numbers stay, the running event goes back to the hand, actives of both sheets keep their value. 0, or 14, 19, 28, the round as it was.
+// A round goes on under a newly compiled table: hand and numbers stay, the running event goes back to the hand, actives
+// of both sheets keep their value. 0, or 14, 19, 28, the round as it was.
 #[no_mangle]
 pub extern "C" fn mend(old: &[u8], table: &[u8], round: &mut [u8]) -> u32
     ensures { λ r. ⌜ result r (now (round .exit)) ≡ mendOn (now (old .entry)) (now (table .entry)) (now (round .entry)) ⌝ }
@@ -121,7 +123,8 @@ pub extern "C" fn mend(old: &[u8], table: &[u8], round: &mut [u8]) -> u32
     run_mend::mend_at(old, table, round)
 }
 
-// A formula's expression field at the start of the buffer: 2 ^ 32 and its length; or 21, 22, 9, 23, the buffer as it was.
+// A formula's expression field at the start of the buffer: 2 ^ 32 and its length; or 21, 22, 9, 23, the buffer as it
+// was.
 #[no_mangle]
 pub extern "C" fn formula(text: &[u8], buffer: &mut [u8]) -> u64
     ensures { λ r. ⌜ answered r (now (buffer .exit)) ≡ formulaOn (now (text .entry)) (now (buffer .entry)) ⌝ }
@@ -130,7 +133,8 @@ pub extern "C" fn formula(text: &[u8], buffer: &mut [u8]) -> u64
     text_translate::formula_at(text, buffer)
 }
 
-// One sheet from two accepted ones, at the start of the buffer: 2 ^ 32 and its length; or compile's number of the first, of the second, 26, 3, 7, 13, 27, the buffer as it was.
+// One sheet from two accepted ones, at the start of the buffer: 2 ^ 32 and its length; or compile's number of the
+// first, of the second, 26, 3, 7, 13, 27, the buffer as it was.
 #[no_mangle]
 pub extern "C" fn join(first: &[u8], second: &[u8], params: &[u8], buffer: &mut [u8]) -> u64
     ensures { λ r. ⌜ joined r (now (buffer .exit)) ≡ joinOn (now (first .entry)) (now (second .entry)) (now (params .entry)) (now (buffer .entry)) ⌝ }
@@ -174,7 +178,8 @@ fn call_count(calls: usize, answers: usize) -> usize
     answers / 8
 }
 
-// Makes the recorded calls one after the other, and writes their answers: what a host needs to audit a round. How many were made.
+// Makes the recorded calls one after the other, and writes their answers: what a host needs to audit a round. How many
+// were made.
 #[no_mangle]
 pub extern "C" fn replay(table: &[u8], round: &mut [u8], calls: &[u8], answers: &mut [u8]) -> usize
     ensures { λ r. ⌜ r ≡ callCount (length (now (calls .entry))) (length (now (answers .entry))) ⌝ }

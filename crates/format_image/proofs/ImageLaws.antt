@@ -1,5 +1,5 @@
--- What the table of a program says, word by word: each part of the image is found at its place, and the bytes beyond are as they were.
--- By induction over the parts, each of a fixed length.
+-- What the table of a program says, word by word: each part of the image is found at its place, and the bytes beyond
+-- are as they were. By induction over the parts, each of a fixed length.
 use Prim.Native.Nat.{ℕ, zero, suc, _+_, _*_, _-_, _≤_, _<_}
 use mathlib.Core.Bool.{true}
 use mathlib.Core.Path.{_≡_, refl, sym, ap, _∙_}

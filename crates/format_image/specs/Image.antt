@@ -1,4 +1,5 @@
--- The table that compile leaves for a program: the words of its first 34,816 bytes (layout: crate layout). 01 "Handlers and steps": "each event's code is the one 01 lists".
+-- The table that compile leaves for a program: the words of its first 34,816 bytes (layout: crate format_layout). 01
+-- "Handlers and steps": "each event's code is the one 01 lists".
 use Prim.Native.Nat.{ℕ, _+_, _*_, _-_}
 use mathlib.Core.List.{List, [], _∷_, _++_, flatten, sum}
 use lib.ListN.{length, getD, take, replicate}
@@ -71,7 +72,8 @@ passivesCode p = inOrder p 0 (againCode (inC p 0)) (phaseOne p 0)
 unfoldable pub beforePassives : Program → List Instr
 beforePassives p = copyPart p 0 ++ (firstPart p 0 ++ byNumber p 0 moveCode)
 
--- the instructions of the table: all events' code; where no event is declared, that for the passives (of which a sheet's bytes hold fewer than 4,096), from the first instruction on
+-- the instructions of the table: all events' code; where no event is declared, that for the passives (of which a
+-- sheet's bytes hold fewer than 4,096), from the first instruction on
 unfoldable pub tableCode : Program → List Instr
 tableCode p = pick (eqb (events p) 0) (take 4096 (passivesCode p)) (allCode p)
 
@@ -86,7 +88,8 @@ passiveWords p = padded 64 (kindWords p) ++ padded 152 (passivesAt p ∷ length 
 
 -- ---- the table
 
--- the values of a fresh round, who may see each behaviour and who may send each event (02, M-107), and how passives are worked out
+-- the values of a fresh round, who may see each behaviour and who may send each event (02, M-107), and how passives are
+-- worked out
 unfoldable pub boardWords : Program → List ℕ
 boardWords p = padded 64 (fresh p) ++ (padded 64 (p .viewers) ++ (padded 32 (p .senders) ++ passiveWords p))
 

@@ -1,4 +1,5 @@
--- A table and a round that are not foreign are within their bounds: each test that passed is a bound; the checks over events and slots by induction on how many.
+-- A table and a round that are not foreign are within their bounds: each test that passed is a bound; the checks over
+-- events and slots by induction on how many.
 use Prim.Native.Nat.{ℕ, zero, suc, _+_, _-_, _≤_, _<_}
 use mathlib.Core.Bool.{Bool, true, false}
 use mathlib.Core.Path.{_≡_}

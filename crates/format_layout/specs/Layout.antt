@@ -1,12 +1,17 @@
--- The table and the round as words of four bytes, big-endian; which of them are foreign. 01 "Why a call was turned down": foreign.
+-- The table and the round as words of four bytes, big-endian; which of them are foreign. 01 "Why a call was turned
+-- down": foreign.
 --
--- Table (34,816 bytes): word 0 counts the events, word 1 the behaviours; from word 8 on four words for each of 32 events: priority, start and length of its
--- code, members of C; from word 136 on each behaviour's value in a fresh round; from word 200 on who may see each behaviour, from word 264 on who may send each event, bit n for player n (02,
--- M-107); from word 296 on 1 for each passive, words 360 and 361 the start and length of a stretch of instructions that works the passives out (02, M-112); from word 512 on two words for each of 4,096 instructions:
--- operation * 256 + slot, and a constant.
--- Round (2,048 bytes): word 0 number taken in, 1 waiting count, 2 whether one runs, 3 its event and player, 4 its number, 5 its count of instructions done, 6 depth of the
--- evaluation stack, 7 its mark: not 0 where one of its applications ran over (02, M-104); from 8 on the queue, of each of 64 waiting its number, and its event and player; from 136 the store (01: board), 200 scratch, 264 deferred values (01: places),
--- 328 the evaluation stack, 64 words each. Event and player are one word, player * 256 + event (02, M-107: "the hand .. keep[s] it").
+-- Table (34,816 bytes): word 0 counts the events, word 1 the behaviours; from word 8 on four words for each of 32
+-- events: priority, start and length of its code, members of C; from word 136 on each behaviour's value in a fresh
+-- round; from word 200 on who may see each behaviour, from word 264 on who may send each event, bit n for player n (02,
+-- M-107); from word 296 on 1 for each passive, words 360 and 361 the start and length of a stretch of instructions that
+-- works the passives out (02, M-112); from word 512 on two words for each of 4,096 instructions: operation * 256 +
+-- slot, and a constant.
+-- Round (2,048 bytes): word 0 number taken in, 1 waiting count, 2 whether one runs, 3 its event and player, 4 its
+-- number, 5 its count of instructions done, 6 depth of the evaluation stack, 7 its mark: not 0 where one of its
+-- applications ran over (02, M-104); from 8 on the queue, of each of 64 waiting its number, and its event and player;
+-- from 136 the store (01: board), 200 scratch, 264 deferred values (01: places), 328 the evaluation stack, 64 words
+-- each. Event and player are one word, player * 256 + event (02, M-107: "the hand .. keep[s] it").
 use Prim.Native.Nat.{ℕ, zero, suc, _+_, _*_, _-_, _/_, _%_}
 use mathlib.Core.Bool.{Bool, true, false}
 use mathlib.Core.List.{List}
@@ -34,7 +39,8 @@ viewersAt t i = get t (200 + i)
 abbrev pub sendersAt : List ℕ → ℕ → ℕ
 sendersAt t e = get t (264 + e)
 
--- not 0 where behaviour i is a passive; where the stretch of instructions that works the passives out begins, and its length
+-- not 0 where behaviour i is a passive; where the stretch of instructions that works the passives out begins, and its
+-- length
 abbrev pub kindAt : List ℕ → ℕ → ℕ
 kindAt t i = get t (296 + i)
 
@@ -114,7 +120,8 @@ eventAt l i = eventOf (wordAt l i)
 abbrev pub playerAt : List ℕ → ℕ → ℕ
 playerAt l i = playerOf (wordAt l i)
 
--- w is the word of one of `known` events and one of eight players: 02, M-107: "14, which also covers such a player in hand"
+-- w is the word of one of `known` events and one of eight players: 02, M-107: "14, which also covers such a player in
+-- hand"
 unfoldable pub handFits : ℕ → ℕ → Bool
 handFits known w = pick (leb known (eventOf w)) false (ltb (playerOf w) 8)
 

@@ -1,5 +1,5 @@
--- Laws of the definitions of behaviours and handlers that the proofs cite, over plain variables, and what the loop over handlers keeps: what is left gives the
--- whole, and there is room.
+-- Laws of the definitions of behaviours and handlers that the proofs cite, over plain variables, and what the loop over
+-- handlers keeps: what is left gives the whole, and there is room.
 use Prim.Native.Nat.{ℕ, zero, suc, _+_, _*_, _-_, _≤_, _<_}
 use mathlib.Core.Path.{_≡_, sym, _∙_}
 use mathlib.Core.List.{List}

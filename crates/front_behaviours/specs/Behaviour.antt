@@ -1,6 +1,8 @@
--- Behaviours as the reader reads them: from positions in the bytes, with the draft as it is written. 01: "02 passive: one expression. 03 active: a start
--- field (04, length 4, signed 32-bit), then handlers until its end." At a field: 4, 5, 4, 7, then its contents. 02, M-107: both may end with a field 08.
--- M-110: "A new field 06 in place of 03 begins with a one-byte cell count of 2 to 16 (else 8), then goes on as an active. .. past the first cell, 7 is checked after the count."
+-- Behaviours as the reader reads them: from positions in the bytes, with the draft as it is written. 01: "02 passive:
+-- one expression. 03 active: a start field (04, length 4, signed 32-bit), then handlers until its end." At a field: 4,
+-- 5, 4, 7, then its contents. 02, M-107: both may end with a field 08. M-110: "A new field 06 in place of 03 begins
+-- with a one-byte cell count of 2 to 16 (else 8), then goes on as an active. .. past the first cell, 7 is checked after
+-- the count."
 use Prim.Native.Nat.{ℕ, _+_, _-_, _<_}
 use mathlib.Core.List.{List}
 use lib.ListN.{length, getD, set}
@@ -40,7 +42,8 @@ activeFrom (Value t size) w v events i d n =
 unfoldable pub activeOf : List ℕ → ℕ → ℕ → List ℕ → ℕ → Out
 activeOf v events i d n = activeFrom (fieldOf v 4 4) (partOf v (fieldOf v 4 4)) v events i d n
 
--- a row of c cells, the first of which is behaviour i, with the value v after the count: it is read as an active, and the other cells are its copies
+-- a row of c cells, the first of which is behaviour i, with the value v after the count: it is read as an active, and
+-- the other cells are its copies
 unfoldable pub cellsOf : List ℕ → ℕ → ℕ → ℕ → List ℕ → ℕ → Out
 cellsOf v c events i d n =
     let o : Out = activeOf v events i d n in

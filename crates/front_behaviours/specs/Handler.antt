@@ -1,4 +1,5 @@
--- Handlers as the reader reads them: from positions in the bytes, with the draft as it is written. 01: "In a handler: event, phase, 10, expression."
+-- Handlers as the reader reads them: from positions in the bytes, with the draft as it is written. 01: "In a handler:
+-- event, phase, 10, expression."
 use Prim.Native.Nat.{ℕ, zero, suc, _+_, _*_, _-_, _≤_}
 use mathlib.Core.Path.{_≡_}
 use mathlib.Core.List.{List}
@@ -48,7 +49,8 @@ handlerFrom (Value t size) v events i d n = handlerAt v events i d n
 unfoldable pub handlerOf : List ℕ → ℕ → ℕ → List ℕ → ℕ → Out
 handlerOf s events i d n = handlerFrom (fieldOf s 5 5) (partOf s (fieldOf s 5 5)) events i d n
 
--- handlers in v from `at` on to its end or to a tag 08 (02, M-107): the place after them; the first number bounds their count
+-- handlers in v from `at` on to its end or to a tag 08 (02, M-107): the place after them; the first number bounds their
+-- count
 unfoldable pub handlersOf : ℕ → List ℕ → ℕ → ℕ → ℕ → List ℕ → ℕ → Out
 handlersOf zero v at events i d n =
     pick (eqb at (length v)) (out (Done at n) d)
@@ -59,7 +61,8 @@ handlersOf (suc k) v at events i d n =
     (let o : Out = handlerOf (rest at v) events i d n in
     onward (o .0) (o .1) (λ size m. handlersOf k v (at + size) events i (o .1) m)))
 
--- that a field of so many bytes is taken whole, and that a node takes four bytes at least: what is promised beside the equation
+-- that a field of so many bytes is taken whole, and that a node takes four bytes at least: what is promised beside the
+-- equation
 abbrev pub BodyIn : ℕ → ℕ → Read → Type 0
 BodyIn size n (Done all next) = (all ≡ size) × (next * 4 ≤ n * 4 + size) × (n ≤ next)
 BodyIn size n (Fault k) = Unit {0}

@@ -1,4 +1,5 @@
-// The reader of one behaviour and its handlers: from the bytes of its field to its place in the draft, the first fault met from left to right.
+// The reader of one behaviour and its handlers: from the bytes of its field to its place in the draft, the first fault
+// met from left to right.
 use front_field::Field;
 use front_field::Read;
 ghost use mathlib.Core.Path.{_≡_};
@@ -166,7 +167,8 @@ fn read_passive(v: &[u8], i: usize, draft: &mut [u64], n: usize) -> Read
     front_viewers::read_ending(&v[size..], i, draft, v.len() + 3, m)
 }
 
-// A row of count cells from behaviour i on, with the value v after the count: the first is read as an active, the others are its copies.
+// A row of count cells from behaviour i on, with the value v after the count: the first is read as an active, the
+// others are its copies.
 fn read_cells(v: &[u8], count: usize, events: usize, i: usize, draft: &mut [u64], n: usize) -> Read
     requires { ⌜ n * 4 + length (now v) ≤ 8192 ⌝ }
     requires { ⌜ length (now draft) ≡ draftLength ⌝ }

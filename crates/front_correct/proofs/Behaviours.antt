@@ -1,5 +1,5 @@
--- Behaviours: both readers find the same fault, or the draft has the behaviour of the tree in its row, and is else as it was.
--- From the facts on an expression at the front of a value, on handlers and on the ending.
+-- Behaviours: both readers find the same fault, or the draft has the behaviour of the tree in its row, and is else as
+-- it was. From the facts on an expression at the front of a value, on handlers and on the ending.
 use Prim.Native.Nat.{ℕ, _+_, _*_, _-_, _≤_, _<_}
 use mathlib.Core.Bool.{true}
 use mathlib.Core.Path.{_≡_, refl, sym, ap, _∙_}
@@ -100,7 +100,8 @@ part-ended i n d d₁ m x low room p w = (
   getD-set-same d₁ (viewer i) (allowed w) 0 (omega arith),
 )
 
--- a behaviour or a row is put into the draft, the first of its cells as the i-th: a row is an active, and its copies (02, M-110)
+-- a behaviour or a row is put into the draft, the first of its cells as the i-th: a row is an active, and its copies
+-- (02, M-110)
 abbrev pub GrownBy : ℕ → List ℕ → ℕ → Item → Option ℕ → List ℕ → ℕ → Type 0
 GrownBy i d n (formula x) w d′ m = Grown i d n (entry (formula x) w) d′ m
 GrownBy i d n (state y hs) w d′ m = Grown i d n (entry (state y hs) w) d′ m

@@ -1,4 +1,5 @@
--- What the reader leaves in the draft is the sheet that the grammar says, its parameters not filled in, and a fault is the grammar's.
+-- What the reader leaves in the draft is the sheet that the grammar says, its parameters not filled in, and a fault is
+-- the grammar's.
 use Prim.Native.Nat.{ℕ, _≤_, _<_}
 use mathlib.Core.Path.{_≡_, refl, ap, _∙_}
 use mathlib.Core.List.{List, []}

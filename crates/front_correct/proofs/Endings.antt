@@ -1,5 +1,5 @@
--- Endings: both readers find the same fault, or the draft has who may see the behaviour, 255 where the sheet says nothing (02, M-107).
--- By cases on the bytes that are left of the value.
+-- Endings: both readers find the same fault, or the draft has who may see the behaviour, 255 where the sheet says
+-- nothing (02, M-107). By cases on the bytes that are left of the value.
 use Prim.Native.Nat.{ℕ, _+_, _≤_, _<_}
 use mathlib.Core.Path.{_≡_, refl, sym, _∙_}
 use mathlib.Core.Option.{Option, none, some}

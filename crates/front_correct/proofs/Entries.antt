@@ -1,4 +1,5 @@
--- An expression that stands in the draft with its entry, and that later writes leave it there: they go to nodes after it, and to other entries.
+-- An expression that stands in the draft with its entry, and that later writes leave it there: they go to nodes after
+-- it, and to other entries.
 use Prim.Native.Nat.{ℕ, _+_, _*_, _-_, _≤_, _<_}
 use mathlib.Core.Bool.{false, not}
 use mathlib.Core.Path.{_≡_, refl, sym, ap, subst, _∙_}

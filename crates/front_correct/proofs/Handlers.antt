@@ -1,5 +1,6 @@
--- Handlers: both readers find the same fault, or the draft has an entry for each handler of the tree and no other in the behaviour's row.
--- By induction on the bound of the tree reader, with an invariant of the draft; either bound suffices, since a field has three bytes.
+-- Handlers: both readers find the same fault, or the draft has an entry for each handler of the tree and no other in
+-- the behaviour's row. By induction on the bound of the tree reader, with an invariant of the draft; either bound
+-- suffices, since a field has three bytes.
 use Prim.Native.Nat.{ℕ, zero, suc, _+_, _*_, _-_, _≤_, _<_}
 use mathlib.Core.Bool.{false, not}
 use mathlib.Core.Path.{_≡_, refl, sym, subst, _∙_}

@@ -1,5 +1,6 @@
--- Sheets: both readers find the same fault, or the draft is that of the tree reader's sheet, its parameters not filled in.
--- By induction on the bounds, first of behaviours, then of events; either reader's bound suffices, since a field has three bytes.
+-- Sheets: both readers find the same fault, or the draft is that of the tree reader's sheet, its parameters not filled
+-- in. By induction on the bounds, first of behaviours, then of events; either reader's bound suffices, since a field
+-- has three bytes.
 use Prim.Native.Nat.{ℕ, zero, suc, _+_, _*_, _-_, _≤_, _<_}
 use mathlib.Core.Path.{_≡_, refl, sym, ap, subst, _∙_}
 use mathlib.Core.Logic.{_≢_}

@@ -1,5 +1,6 @@
--- What the draft holds while a sheet is read, how a behaviour and an event add to it, and that at the end it is the sheet's draft, its parameters not filled in.
--- A behaviour's row is written once, and what is written later goes to other rows and to nodes after its own.
+-- What the draft holds while a sheet is read, how a behaviour and an event add to it, and that at the end it is the
+-- sheet's draft, its parameters not filled in. A behaviour's row is written once, and what is written later goes to
+-- other rows and to nodes after its own.
 use Prim.Native.Nat.{ℕ, zero, suc, _+_, _*_, _-_, _≤_, _<_}
 use mathlib.Core.Path.{_≡_, refl, sym, ap, subst, _∙_}
 use mathlib.Core.Logic.{_≢_}

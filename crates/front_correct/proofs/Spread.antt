@@ -1,5 +1,6 @@
--- The cells of a sheet before names are moved, each with its place in its row, as the reader leaves them in the draft; and that the nodes as a cell uses them are those of the cell written
--- out (02, M-110). A row's places tell where rows of a count begin; the rest by induction on the entries, and on the expressions.
+-- The cells of a sheet before names are moved, each with its place in its row, as the reader leaves them in the draft;
+-- and that the nodes as a cell uses them are those of the cell written out (02, M-110). A row's places tell where rows
+-- of a count begin; the rest by induction on the entries, and on the expressions.
 use Prim.Native.Nat.{ℕ, zero, suc, _+_, _*_, _-_, _/_, _%_, _≤_, _<_}
 use mathlib.Core.Path.{_≡_, refl, sym, ap, _∙_}
 use mathlib.Core.Logic.{_≢_, by-cases}

@@ -1,4 +1,5 @@
--- What the compiler may rely on in a draft: its entries taken apart, by the division of a packed entry, and the nodes of its expressions, by induction.
+-- What the compiler may rely on in a draft: its entries taken apart, by the division of a packed entry, and the nodes
+-- of its expressions, by induction.
 use Prim.Native.Nat.{ℕ, zero, suc, _+_, _≤_, _<_}
 use mathlib.Core.Path.{_≡_, refl, ap}
 use mathlib.Core.List.{List, [], _∷_, map}

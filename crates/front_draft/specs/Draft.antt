@@ -1,10 +1,13 @@
--- The draft of a program: what the reader hands to the compiler, in one buffer of 4,416 numbers, with no tree.
--- From 0 on 2,048 nodes; from 2048 on an entry for behaviour i and event e at 2048 + i * 32 + e: an active's handler; from 4096 on an entry for each of 64
--- behaviours: a passive's expression; from 4160 on each active's start value; from 4224 on the priority of each of 32 events;
--- from 4256 on who may see each of 64 behaviours and from 4320 on who may send each of 32 events, one byte each, 255 where the sheet says nothing (02, M-107);
--- from 4352 on the place of each of 64 behaviours in a row, cell count * 16 + place, 0 outside rows (02, M-110). A row's nodes stand once, as sent, and each cell's entries lead there.
--- A node is kind * 2 ^ 32 + word, its kind the tag of its field: 16 constant, 17 name, 18 application (its function), and 19 a parameter until it is filled in. The nodes of an expression stand in
--- postfix order. An entry is 0 where there is none, else (count * 4096 + start) * 4 + kind: the expression's nodes, and 1 passive, 2 immediate, 3 later.
+-- The draft of a program: what the reader hands to the compiler, in one buffer of 4,416 numbers, with no tree. From 0
+-- on 2,048 nodes; from 2048 on an entry for behaviour i and event e at 2048 + i * 32 + e: an active's handler; from
+-- 4096 on an entry for each of 64 behaviours: a passive's expression; from 4160 on each active's start value; from 4224
+-- on the priority of each of 32 events; from 4256 on who may see each of 64 behaviours and from 4320 on who may send
+-- each of 32 events, one byte each, 255 where the sheet says nothing (02, M-107); from 4352 on the place of each of 64
+-- behaviours in a row, cell count * 16 + place, 0 outside rows (02, M-110). A row's nodes stand once, as sent, and each
+-- cell's entries lead there. A node is kind * 2 ^ 32 + word, its kind the tag of its field: 16 constant, 17 name, 18
+-- application (its function), and 19 a parameter until it is filled in. The nodes of an expression stand in postfix
+-- order. An entry is 0 where there is none, else (count * 4096 + start) * 4 + kind: the expression's nodes, and 1
+-- passive, 2 immediate, 3 later.
 use Prim.Native.Nat.{ℕ, _+_, _*_, _/_, _%_, _≤_, _<_}
 use mathlib.Core.Path.{_≡_}
 use mathlib.Core.List.{List, [], _∷_, _++_, map}
@@ -62,7 +65,8 @@ entryOf d e i = pick (eqb (getD d (4096 + i) 0) 0) (pick (ltb e 32) (getD d (204
 abbrev pub placeOf : List ℕ → ℕ → ℕ
 placeOf d i = getD d (4352 + i) 0
 
--- the node x as behaviour i uses it: in a row's cell, the name of the first cell of a row with the same count means the cell at the same place
+-- the node x as behaviour i uses it: in a row's cell, the name of the first cell of a row with the same count means the
+-- cell at the same place
 unfoldable pub moved : List ℕ → ℕ → ℕ → ℕ
 moved d i x =
     pick (eqb (tagOf x) 17)
@@ -102,8 +106,9 @@ pub record Drafted (p : Program) (d : List ℕ) (n : ℕ) : Type 0 where
   pub viewers : (i : ℕ) → i < size p → getD d (4256 + i) 0 ≡ getD (p .viewers) i 0
   pub senders : (e : ℕ) → e < events p → getD d (4320 + e) 0 ≡ getD (p .senders) e 0
 
--- the draft d of ev events, bs behaviours and n nodes is that of some program within the limits. Its nodes are those of the behaviours as they were sent, a row being one
--- of them: these name none but bs behaviours exactly if the program does
+-- the draft d of ev events, bs behaviours and n nodes is that of some program within the limits. Its nodes are those of
+-- the behaviours as they were sent, a row being one of them: these name none but bs behaviours exactly if the program
+-- does
 pub record DraftOf (ev bs n : ℕ) (d : List ℕ) : Type 0 where
   pub program : Program
   pub fits : Fits program
@@ -122,7 +127,8 @@ pub record DraftOf (ev bs n : ℕ) (d : List ℕ) : Type 0 where
 abbrev pub unfilled : ℕ → ℕ
 unfilled n = 12884901888 + n
 
--- the draft d of ev events, bs behaviours and n nodes is that of some sheet within the limits, its parameters not filled in
+-- the draft d of ev events, bs behaviours and n nodes is that of some sheet within the limits, its parameters not
+-- filled in
 pub record SheetDraft (ev bs n : ℕ) (d : List ℕ) : Type 0 where
   pub sheet : Sheet
   pub fits : SheetFits sheet

@@ -18,7 +18,8 @@ pub fn entry_of(d: &[u64], e: usize, i: usize) -> u64
     d[4096 + i]
 }
 
-// The node x as behaviour i uses it: in a row's cell, the name of the first cell of a row with the same count means the cell at the same place.
+// The node x as behaviour i uses it: in a row's cell, the name of the first cell of a row with the same count means the
+// cell at the same place.
 pub fn moved_node(d: &[u64], i: usize, x: u64) -> u64
     requires { ⌜ (length (now d) ≡ draftLength) × (i < 64) ⌝ }
     ensures { λ r. ⌜ r ≡ moved (now (d .entry)) i x ⌝ }

@@ -1,5 +1,6 @@
--- Expressions: 10 constant (4 bytes), 11 name (1 byte), 12 application (a function byte, then its arguments), 13 parameter (1 byte, 0 to 7), hexadecimal.
--- Reading one appends its nodes, in postfix order, to the draft: kind * 2^32 + word.
+-- Expressions: 10 constant (4 bytes), 11 name (1 byte), 12 application (a function byte, then its arguments), 13
+-- parameter (1 byte, 0 to 7), hexadecimal. Reading one appends its nodes, in postfix order, to the draft: kind * 2^32 +
+-- word.
 use Prim.Native.Nat.{ℕ, zero, suc, _+_, _*_, _-_, _≤_, _<_}
 use mathlib.Core.Path.{_≡_}
 use mathlib.Core.List.{List}
@@ -17,7 +18,8 @@ use Rattle.front_field.specs.declared.Head.the-variants.{Leaf, Apply, No
 use Rattle.front_field.specs.declared.Read.{Read}
 use Rattle.front_field.specs.declared.Read.the-variants.{Done, Fault}
 
--- what a field with tag t and value v begins, with `left` levels of nesting left: a leaf's node and size, an application's function, or a refusal
+-- what a field with tag t and value v begins, with `left` levels of nesting left: a leaf's node and size, an
+-- application's function, or a refusal
 unfoldable pub headAt : ℕ → ℕ → List ℕ → Head
 headAt left t v =
     pick (eqb left 0) (NoHead tooDeep)

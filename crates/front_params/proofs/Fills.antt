@@ -1,4 +1,5 @@
--- A draft that is filled in is that of the sheet's filling, and a parameter is found in it exactly if the sheet uses one: node by node, each by induction on the sheet.
+-- A draft that is filled in is that of the sheet's filling, and a parameter is found in it exactly if the sheet uses
+-- one: node by node, each by induction on the sheet.
 use Prim.Native.Nat.{ℕ, zero, suc, _+_, _*_, _-_, _/_, _%_, _≤_, _<_, _^_}
 use mathlib.Core.Path.{_≡_, refl, sym, ap, subst, _∙_}
 use mathlib.Core.Logic.{_≢_}

@@ -1,4 +1,5 @@
--- The passives of a sheet written out are those that were sent, so their nodes are among the draft's: a row has none. By induction on the sheet.
+-- The passives of a sheet written out are those that were sent, so their nodes are among the draft's: a row has none.
+-- By induction on the sheet.
 use Prim.Native.Nat.{ℕ, zero, suc, _+_, _≤_}
 use mathlib.Core.Path.{_≡_, refl, ap, _∙_}
 use mathlib.Core.Option.{Option}

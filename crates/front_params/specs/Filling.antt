@@ -1,4 +1,5 @@
--- The parameters of a draft filled in, in the code's tests and order. 02, M-103: "Compile is lent eight signed 32-bit values, 32 bytes."
+-- The parameters of a draft filled in, in the code's tests and order. 02, M-103: "Compile is lent eight signed 32-bit
+-- values, 32 bytes."
 use Prim.Native.Nat.{ℕ, zero, suc, _+_, _%_}
 use mathlib.Core.Bool.{Bool, true, false}
 use mathlib.Core.List.{List}

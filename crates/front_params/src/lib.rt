@@ -1,5 +1,5 @@
-// Parameters in the draft of a sheet (layout: draft, specs/Draft.antt; 02, M-103): whether one stands there, and each node of one replaced by its constant's.
-// Time: one pass over the nodes for either.
+// Parameters in the draft of a sheet (layout: front_draft, specs/Draft.antt; 02, M-103): whether one stands there, and
+// each node of one replaced by its constant's. Time: one pass over the nodes for either.
 ghost use mathlib.Core.Path.{_≡_};
 ghost use Prim.Native.Nat.{_<_, _≤_, _^_};
 ghost use lib.ListN.{length};

@@ -1,4 +1,5 @@
--- What copying a cell leaves: the cell's words are those of the first, all others as they were. By the laws of one store after another.
+-- What copying a cell leaves: the cell's words are those of the first, all others as they were. By the laws of one
+-- store after another.
 use Prim.Native.Nat.{ℕ, zero, suc, _+_, _*_, _≤_, _<_}
 use mathlib.Core.Path.{_≡_, refl, _∙_}
 use mathlib.Core.Logic.{_≢_, by-cases}

@@ -1,5 +1,6 @@
-// Rows in the reader (02, M-110): which tags are due where a behaviour may stand, how many behaviours the field there makes, and the cells of a row after the first, which the draft
-// (layout: draft, specs/Draft.antt) has as copies of the first.
+// Rows in the reader (02, M-110): which tags are due where a behaviour may stand, how many behaviours the field there
+// makes, and the cells of a row after the first, which the draft (layout: front_draft, specs/Draft.antt) has as copies
+// of the first.
 // Time: 36 words for each cell.
 ghost use mathlib.Core.Path.{_≡_};
 ghost use Prim.Native.Nat.{_+_, _<_, _≤_};

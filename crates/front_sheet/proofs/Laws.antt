@@ -1,4 +1,5 @@
--- Laws of the reader's definitions that its proofs cite, over plain variables, and what its loops keep: what is left gives the whole, and there is room.
+-- Laws of the reader's definitions that its proofs cite, over plain variables, and what its loops keep: what is left
+-- gives the whole, and there is room.
 use Prim.Native.Nat.{ℕ, zero, suc, _+_, _*_, _-_, _≤_, _<_}
 use mathlib.Core.Path.{_≡_, sym, _∙_}
 use mathlib.Core.List.{List}

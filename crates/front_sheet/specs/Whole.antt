@@ -1,5 +1,6 @@
--- A program as the reader reads it: from positions in the bytes, with the draft as it is written. 01: "Events come first, at most 32", "Then behaviours, at most 64".
--- 02, M-107: "An event field may have length 2, its second byte saying who may send it (bit n for player n). .. Where either is missing, everybody may."
+-- A program as the reader reads it: from positions in the bytes, with the draft as it is written. 01: "Events come
+-- first, at most 32", "Then behaviours, at most 64". 02, M-107: "An event field may have length 2, its second byte
+-- saying who may send it (bit n for player n). .. Where either is missing, everybody may."
 use Prim.Native.Nat.{ℕ, zero, suc, _+_, _≤_, _<_}
 use mathlib.Core.List.{List}
 use lib.ListN.{length, getD, set}

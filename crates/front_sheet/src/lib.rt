@@ -8,7 +8,8 @@ ghost use Rattle.front_field.specs.Expression.{out};
 ghost use Rattle.front_draft.specs.Draft.{draftLength};
 ghost use Rattle.front_sheet.specs.Whole.{made, signalAt, priorityAt, eventOf, eventsOf, finished, behavioursOf, readOn, EventIn, EventsIn};
 
-// What stands where an event or the first behaviour is due: an event's field of so many bytes, or another field, or a refusal by its number.
+// What stands where an event or the first behaviour is due: an event's field of so many bytes, or another field, or a
+// refusal by its number.
 pub enum Event {
     Declared(usize),
     Ended,

@@ -1,6 +1,7 @@
--- The end of a behaviour's value as the reader reads it: from positions in the bytes, with the draft as it is written. 02, M-107: "A behaviour may end with a field 08
--- of length 1, saying likewise who may see it. Past a passive's expression only tag 08 begins a field, other bytes being 6, as are all past an 08. Where either is
--- missing, everybody may."
+-- The end of a behaviour's value as the reader reads it: from positions in the bytes, with the draft as it is written.
+-- 02, M-107: "A behaviour may end with a field 08 of length 1, saying likewise who may see it. Past a passive's
+-- expression only tag 08 begins a field, other bytes being 6, as are all past an 08. Where either is missing, everybody
+-- may."
 use Prim.Native.Nat.{ℕ, _+_}
 use mathlib.Core.Path.{_≡_}
 use mathlib.Core.List.{List}
@@ -19,7 +20,8 @@ use Rattle.front_field.specs.declared.Read.the-variants.{Done, Fault}
 abbrev pub viewer : ℕ → ℕ
 viewer i = 4256 + i
 
--- the value v of a field 08 where so many bytes are left of behaviour i's value; its field takes `all` bytes, the next node goes to place n
+-- the value v of a field 08 where so many bytes are left of behaviour i's value; its field takes `all` bytes, the next
+-- node goes to place n
 unfoldable pub viewerAt : List ℕ → ℕ → ℕ → List ℕ → ℕ → ℕ → Out
 viewerAt v left i d all n =
     pick (eqb (length v) 1)

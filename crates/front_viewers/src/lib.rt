@@ -8,7 +8,8 @@ ghost use Rattle.front_draft.specs.Draft.{draftLength};
 ghost use Rattle.front_field.specs.Expression.{out};
 ghost use Rattle.front_viewers.specs.Ending.{viewerAt, viewerOf, endingOf, EndIn};
 
-// The value v of a field 08 at the front of `left` bytes: who may see behaviour i. The behaviour's field takes `all` bytes, the next node goes to place n.
+// The value v of a field 08 at the front of `left` bytes: who may see behaviour i. The behaviour's field takes `all`
+// bytes, the next node goes to place n.
 fn take_viewer(v: &[u8], left: usize, i: usize, draft: &mut [u64], all: usize, n: usize) -> Read
     requires { ⌜ length (now draft) ≡ draftLength ⌝ }
     requires { ⌜ i < 64 ⌝ }

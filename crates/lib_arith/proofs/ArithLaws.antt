@@ -1,5 +1,5 @@
--- Words and the numbers that they stand for: a word comes back, and it is true unless it is 0; which numbers differ from their word's reading, and what an answer with a mark says.
--- By the two cases of `signed`.
+-- Words and the numbers that they stand for: a word comes back, and it is true unless it is 0; which numbers differ
+-- from their word's reading, and what an answer with a mark says. By the two cases of `signed`.
 use Prim.Native.Nat.{ℕ, _-_, _%_, _^_, _≤_, _<_}
 use mathlib.Core.Bool.{Bool, true, false, not, _&&_, _||_}
 use mathlib.Core.Path.{_≡_, refl, sym, _∙_}

@@ -1,4 +1,5 @@
--- The facts of 01 "Arithmetic", M-102 and M-104, each by computing: functions by their numbers, on words. An argument that is not needed is given as 0.
+-- The facts of 01 "Arithmetic", M-102 and M-104, each by computing: functions by their numbers, on words. An argument
+-- that is not needed is given as 0.
 use Prim.Native.Nat.{ℕ, _-_, _^_}
 use mathlib.Core.Bool.{true, false}
 use mathlib.Core.Path.{_≡_, refl}
@@ -39,8 +40,8 @@ pub product-of-signs : result 6 (minus 3) 4 0 ≡ minus 12
 unfolding result exact
 product-of-signs = refl
 
--- "A quotient with a fraction goes to the next whole number below, so −7 / 2 is −4 and 7 / −2 is −4; 7 / 2 stays 3. By zero still gives 0, and
--- −2,147,483,648 / −1 still wraps to itself."
+-- "A quotient with a fraction goes to the next whole number below, so −7 / 2 is −4 and 7 / −2 is −4; 7 / 2 stays 3. By
+-- zero still gives 0, and −2,147,483,648 / −1 still wraps to itself."
 pub quotient-below : result 7 (minus 7) 2 0 ≡ minus 4
 unfolding result exact
 quotient-below = refl

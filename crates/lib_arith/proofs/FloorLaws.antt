@@ -1,4 +1,5 @@
--- `floorZ` is the quotient rounded down: for a positive divisor its product with it is at most the dividend, and one more is too much; for a negative one turned round. By the dividend's sign.
+-- `floorZ` is the quotient rounded down: for a positive divisor its product with it is at most the dividend, and one
+-- more is too much; for a negative one turned round. By the dividend's sign.
 use Prim.Native.Nat.{ℕ, zero, suc, _+_, _-_, _*_, _/_, _<_, _≤_}
 use mathlib.Core.Path.{_≡_, refl, sym, _∙_}
 use native.Mathlib.Omega.{arith}

@@ -1,4 +1,5 @@
--- The exact sum, difference, product, quotient and order of two words, in natural numbers: by the cases of the two signs (`View`), each by `omega`.
+-- The exact sum, difference, product, quotient and order of two words, in natural numbers: by the cases of the two
+-- signs (`View`), each by `omega`.
 use Prim.Native.Nat.{ℕ, zero, suc, _+_, _-_, _*_, _/_, _%_, _^_, _<_, _≤_}
 use mathlib.Core.Path.{_≡_, refl, sym, ap, _∙_}
 use mathlib.Core.Bool.{Bool, true, false, cond, not, _&&_, _||_, Bool·not-not}

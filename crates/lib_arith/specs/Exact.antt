@@ -1,4 +1,5 @@
--- Words of 32 bits, read as two's complement, whole numbers brought to 32 bits, and which of them do not fit (02, M-104).
+-- Words of 32 bits, read as two's complement, whole numbers brought to 32 bits, and which of them do not fit (02,
+-- M-104).
 use Prim.Native.Nat.{ℕ, _+_, _-_, _%_, _^_}
 use mathlib.Core.Bool.{Bool, true, not}
 use lib.Dec.{ltb, eqb}

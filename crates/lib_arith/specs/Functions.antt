@@ -1,4 +1,5 @@
--- The fourteen functions, by their numbers: the exact whole-number result, the 32-bit one, and whether it ran over. 01 "Arithmetic", division as in M-102, M-104.
+-- The fourteen functions, by their numbers: the exact whole-number result, the 32-bit one, and whether it ran over. 01
+-- "Arithmetic", division as in M-102, M-104.
 use Prim.Native.Nat.{ℕ, suc, _+_, _-_, _/_}
 use mathlib.Core.Bool.{Bool, true, false, not, _&&_, _||_}
 use lib.Dec.{eqb}
@@ -20,16 +21,17 @@ truth false = pos 0
 abbrev pub ceiling : ℕ → ℕ → ℕ
 ceiling a b = (a + (b - 1)) / b
 
--- "A quotient with a fraction goes to the next whole number below [..] By zero still gives 0": of equal signs, the quotient of the magnitudes, whose
--- fraction `/` drops; of different signs, minus that quotient rounded up. negsuc n is -(n + 1).
+-- "A quotient with a fraction goes to the next whole number below [..] By zero still gives 0": of equal signs, the
+-- quotient of the magnitudes, whose fraction `/` drops; of different signs, minus that quotient rounded up. negsuc n is
+-- -(n + 1).
 abbrev pub floorZ : ℤ → ℤ → ℤ
 floorZ (pos a) (pos b) = pos (a / b)
 floorZ (pos a) (negsuc b) = negℤ (pos (ceiling a (suc b)))
 floorZ (negsuc a) (pos b) = negℤ (pos (ceiling (suc a) b))
 floorZ (negsuc a) (negsuc b) = pos (suc a / suc b)
 
--- 1 `||`, 2 `&&`, 3 `!`, 4 `+`, 5 `-`, 6 `*`, 7 `/`, 8 `>`, 9 `>=`, 10 `<`, 11 `<=`, 12 `==`, 13 `!=`, 14 `if`; 0 for a number that is none of them.
--- An argument that a function does not need is not looked at.
+-- 1 `||`, 2 `&&`, 3 `!`, 4 `+`, 5 `-`, 6 `*`, 7 `/`, 8 `>`, 9 `>=`, 10 `<`, 11 `<=`, 12 `==`, 13 `!=`, 14 `if`; 0 for a
+-- number that is none of them. An argument that a function does not need is not looked at.
 unfoldable pub exact : ℕ → ℤ → ℤ → ℤ → ℤ
 exact f x y z =
     pick (eqb f 1) (truth (isTrue x || isTrue y))

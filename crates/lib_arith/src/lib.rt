@@ -23,8 +23,9 @@ pub fn multiply(a: u32, b: u32) -> u32
     (((a as u64) * (b as u64)) % 4294967296) as u32
 }
 
-// M-102: a quotient with a fraction goes to the next whole number below; by zero it gives 0, and the least number by -1 gives the least number.
-// Of different signs, the quotient of the magnitudes is rounded up, (|a| + |b| - 1) / |b|, and the sign put back.
+// M-102: a quotient with a fraction goes to the next whole number below; by zero it gives 0, and the least number by -1
+// gives the least number. Of different signs, the quotient of the magnitudes is rounded up, (|a| + |b| - 1) / |b|, and
+// the sign put back.
 pub fn divide(a: u32, b: u32) -> u32
     ensures { λ r. ⌜ r ≡ wrapped (floorZ (signed a) (signed b)) ⌝ }
 {

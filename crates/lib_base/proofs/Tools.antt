@@ -49,7 +49,8 @@ pub by-two : {A B : Type 0} (P : A → B → Type 0) (b : Bool) {x y : A} {u v :
 by-two P true t f = t refl
 by-two P false t f = f refl
 
--- the same for a branch written `elim b [ true ↦ .. | false ↦ .. ]`, whose arms wait: the form for a recursion that branches
+-- the same for a branch written `elim b [ true ↦ .. | false ↦ .. ]`, whose arms wait: the form for a recursion that
+-- branches
 pub by-elim {ℓ} : {A : Type ℓ} (P : A → Type 0) (b : Bool) {x y : A} → (b ≡ true → P x) → (b ≡ false → P y) → P (elim b [ true ↦ x | false ↦ y ])
 by-elim P true t f = t refl
 by-elim P false t f = f refl

@@ -1,4 +1,5 @@
-// The fourteen functions by their numbers, on 32-bit words that stand for signed numbers. 01 "Arithmetic". Each answers its word, and 2^32 more where it ran over (02, M-104).
+// The fourteen functions by their numbers, on 32-bit words that stand for signed numbers. 01 "Arithmetic". Each answers
+// its word, and 2^32 more where it ran over (02, M-104).
 ghost use mathlib.Core.Bool.{not, _&&_, _||_};
 ghost use mathlib.Core.Path.{_≡_};
 ghost use Prim.Native.Nat.{_≤_};
@@ -56,7 +57,8 @@ fn choose(a: u32, b: u32, c: u32) -> u64
     if a == 0 { c as u64 } else { b as u64 }
 }
 
-// The function with the number f on the words a, b and c; it looks only at those that it needs. Its word, and 2^32 more where it ran over. A number that is no function's gives 0.
+// The function with the number f on the words a, b and c; it looks only at those that it needs. Its word, and 2^32 more
+// where it ran over. A number that is no function's gives 0.
 pub fn apply(f: u8, a: u32, b: u32, c: u32) -> u64
     ensures { λ r. ⌜ r ≡ answer f a b c ⌝ }
 {

@@ -1,4 +1,5 @@
--- Which exact sums, differences, products and quotients of two words differ from the 32-bit one, in natural numbers: by the cases of the two signs (`View`).
+-- Which exact sums, differences, products and quotients of two words differ from the 32-bit one, in natural numbers: by
+-- the cases of the two signs (`View`).
 use Prim.Native.Nat.{ℕ, zero, suc, _+_, _-_, _*_, _/_, _^_, _<_, _≤_}
 use mathlib.Core.Bool.{Bool, true, false, cond}
 use mathlib.Core.Path.{_≡_, refl, sym, _∙_}

@@ -1,4 +1,5 @@
-// The four functions that can run over, on 32-bit words that stand for signed numbers: the word of the exact result, and 2^32 more where the two differ or the divisor is zero (02, M-104).
+// The four functions that can run over, on 32-bit words that stand for signed numbers: the word of the exact result,
+// and 2^32 more where the two differ or the divisor is zero (02, M-104).
 ghost use mathlib.Core.Bool.{_||_};
 ghost use mathlib.Core.Path.{_≡_};
 ghost use lib.Dec.{eqb};

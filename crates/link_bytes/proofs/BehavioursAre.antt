@@ -1,4 +1,5 @@
--- The bytes of behaviours copied with each name moved up are those of the behaviours moved up, and the fields counted are the behaviours. By induction on the sheet: a copy goes from tag to tag.
+-- The bytes of behaviours copied with each name moved up are those of the behaviours moved up, and the fields counted
+-- are the behaviours. By induction on the sheet: a copy goes from tag to tag.
 use Prim.Native.Nat.{ℕ, zero, suc, _+_, _-_, _*_, _/_, _%_, _≤_, _<_}
 use mathlib.Core.Path.{_≡_, refl, sym, ap, _∙_}
 use mathlib.Core.Option.{Option, none, some}

@@ -1,4 +1,5 @@
--- The events worked out from the bytes of two sheets are those of the pooled sheet, in as many turns as the longer list has events. By induction on the turns: each looks at the front of what is left.
+-- The events worked out from the bytes of two sheets are those of the pooled sheet, in as many turns as the longer list
+-- has events. By induction on the turns: each looks at the front of what is left.
 use Prim.Native.Nat.{ℕ, zero, suc, _+_, _-_, _/_, _%_, _≤_}
 use mathlib.Core.Bool.{false}
 use mathlib.Core.Path.{_≡_, refl, sym, ap, _∙_}

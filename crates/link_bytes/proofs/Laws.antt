@@ -1,4 +1,5 @@
--- Laws of the turns over behaviours: counting them, copying them with their names moved up, and parts written one after another.
+-- Laws of the turns over behaviours: counting them, copying them with their names moved up, and parts written one after
+-- another.
 use Prim.Native.Nat.{ℕ, suc, _+_, _-_, _*_, _≤_, _<_}
 use mathlib.Core.Path.{_≡_, refl, sym, ap, _∙_}
 use mathlib.Core.List.{List, [], _∷_, _++_, append-assoc, append-nil}

@@ -1,4 +1,5 @@
--- The bytes worked out from those of two sheets are the pooled sheet's, and their ranks agree where the sheets' do: from the events and the behaviours.
+-- The bytes worked out from those of two sheets are the pooled sheet's, and their ranks agree where the sheets' do:
+-- from the events and the behaviours.
 use Prim.Native.Nat.{ℕ, zero, suc, _+_, _-_, _≤_}
 use mathlib.Core.Path.{_≡_, refl, sym, ap, _∙_}
 use mathlib.Core.List.{List, [], _∷_, _++_, append-assoc}

@@ -1,4 +1,5 @@
--- The joined bytes, worked out from the bytes of two sheets alone, as the code does. 02, M-111. That these are the bytes of the pooled sheet is shown in Spliced.antt.
+-- The joined bytes, worked out from the bytes of two sheets alone, as the code does. 02, M-111. That these are the
+-- bytes of the pooled sheet is shown in Spliced.antt.
 use Prim.Native.Nat.{ℕ, zero, suc, _+_, _-_, _*_, _%_}
 use mathlib.Core.List.{List, [], _∷_, _++_}
 use lib.ListN.{length, getD, drop}

@@ -1,5 +1,6 @@
-// The bytes of two accepted sheets joined into one (02, M-111): their events by number, the behaviours of the first, then those of the second with their names moved up.
-// Time: one pass over the bytes of both, and at most 64 turns to count the behaviours of the first.
+// The bytes of two accepted sheets joined into one (02, M-111): their events by number, the behaviours of the first,
+// then those of the second with their names moved up. Time: one pass over the bytes of both, and at most 64 turns to
+// count the behaviours of the first.
 ghost use mathlib.Core.Path.{_≡_};
 ghost use Prim.Native.Nat.{_≤_, _+_, _-_};
 ghost use lib.ListN.{length, drop};

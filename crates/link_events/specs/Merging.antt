@@ -1,4 +1,5 @@
--- The events of two sheets by number, worked out from the sheets' bytes alone, as the code does. 02, M-111. That these are the pooled sheet's is shown in crate `splice`.
+-- The events of two sheets by number, worked out from the sheets' bytes alone, as the code does. 02, M-111. That these
+-- are the pooled sheet's is shown in crate `splice`.
 use Prim.Native.Nat.{ℕ, zero, suc, _+_, _-_, _%_}
 use mathlib.Core.Bool.{Bool, true, false}
 use mathlib.Core.List.{List, [], _∷_, _++_}
@@ -7,7 +8,8 @@ use lib.Dec.{ltb, eqb}
 use lib.Bits.{bitAnd}
 use Rattle.lib_base.specs.Basics.{pick}
 
--- how many bytes the event's field at place i has: 4, or 5 with a byte that says who may send it; 0 where no event stands
+-- how many bytes the event's field at place i has: 4, or 5 with a byte that says who may send it; 0 where no event
+-- stands
 unfoldable pub widthAt : List ℕ → ℕ → ℕ
 widthAt s i =
     pick (ltb (length s - i) 4) 0

@@ -1,5 +1,5 @@
-// The events of two sheets joined by number (02, M-111), from the sheets' bytes: their fields, the place where they end, and whether two ranks differ.
-// Time: at most 32 turns, a field of each sheet a turn.
+// The events of two sheets joined by number (02, M-111), from the sheets' bytes: their fields, the place where they
+// end, and whether two ranks differ. Time: at most 32 turns, a field of each sheet a turn.
 ghost use mathlib.Core.Path.{_≡_};
 ghost use Prim.Native.Nat.{_≤_, _+_, _-_};
 ghost use lib.ListN.{length};

@@ -1,4 +1,5 @@
--- The joined round is the two rounds side by side: join's answer names the pooled sheet, demand 3's theorem gives the three boards by the rules, and the rules lead to the two boards in a row (crate join).
+-- The joined round is the two rounds side by side: join's answer names the pooled sheet, demand 3's theorem gives the
+-- three boards by the rules, and the rules lead to the two boards in a row (crate link_join).
 use Prim.Native.Nat.{ℕ, _+_, _≤_, _<_}
 use mathlib.Core.Bool.{Bool, true, false}
 use mathlib.Core.Path.{_≡_, sym, ap, ap₂, _∙_, subst}

@@ -1,5 +1,7 @@
--- What a joined sheet is beside its two sheets, as a claim about the exported functions: `joinOn`, `compileOn`, `startOn` and, within `roundAfter`, the calls' are what their contracts cite. 02, M-111: "After
--- the same commits, each half of the joined board equals that sheet's own board, events that it doesn't declare being passed over." and "A player may send a shared event only where both sheets allow it".
+-- What a joined sheet is beside its two sheets, as a claim about the exported functions: `joinOn`, `compileOn`,
+-- `startOn` and, within `roundAfter`, the calls' are what their contracts cite. 02, M-111: "After the same commits,
+-- each half of the joined board equals that sheet's own board, events that it doesn't declare being passed over." and
+-- "A player may send a shared event only where both sheets allow it".
 use Prim.Native.Nat.{ℕ, _+_, _≤_, _<_}
 use mathlib.Core.Bool.{false, _&&_}
 use mathlib.Core.Path.{_≡_}
@@ -27,7 +29,8 @@ use Rattle.engine.specs.Demand.{boardOf}
 abbrev pub boardAfter : Program → List ℕ → List ℕ → List Call → List ℕ
 boardAfter p t l cs = boardOf p (roundAfter t cs (startOn t l .1))
 
--- "After the same commits, .. events that it doesn't declare being passed over": of the events that j commits in the calls cs, p commits in the calls ds those that it declares, in the same order
+-- "After the same commits, .. events that it doesn't declare being passed over": of the events that j commits in the
+-- calls cs, p commits in the calls ds those that it declares, in the same order
 abbrev pub SameCommits : Program → List Call → Program → List Call → Type 0
 SameCommits j cs p ds = eventsOf (committedIn p ds) ≡ declared p (eventsOf (committedIn j cs))
 
@@ -37,7 +40,8 @@ Settled p cs = settlingIn p (after p cs) ≡ false
 
 -- the programs p and q of the two sheets, that of the joined sheet, j, and their tables
 pub record Halves (p q j : Program) (t₀ l₀ t₁ l₁ t₂ l₂ : List ℕ) : Type 0 where
-  -- "each half of the joined board equals that sheet's own board": as many values as the first sheet has behaviours, then those of the second
+  -- "each half of the joined board equals that sheet's own board": as many values as the first sheet has behaviours,
+  -- then those of the second
   pub boards : (cs cs₁ cs₂ : List Call) → Settled j cs → Settled p cs₁ → Settled q cs₂ → SameCommits j cs p cs₁ → SameCommits j cs q cs₂
       → boardAfter j t₀ l₀ cs ≡ boardAfter p t₁ l₁ cs₁ ++ boardAfter q t₂ l₂ cs₂
   -- "A player may send a shared event only where both sheets allow it", another where its sheet does
@@ -51,14 +55,16 @@ pub record Halves (p q j : Program) (t₀ l₀ t₁ l₁ t₂ l₂ : List ℕ) :
   pub rank-first : (e : ℕ) → e < events p → getD (j .priorities) e 0 ≡ getD (p .priorities) e 0
   pub rank-second : (e : ℕ) → e < events q → getD (j .priorities) e 0 ≡ getD (q .priorities) e 0
 
--- the joined sheet is the one pooled from both, compile takes its bytes v in a table of 01's length, and its round is the two sheets' side by side
+-- the joined sheet is the one pooled from both, compile takes its bytes v in a table of 01's length, and its round is
+-- the two sheets' side by side
 pub record JoinedRound (x y : Sheet) (s z ps v t₀ l₀ t₁ l₁ t₂ l₂ : List ℕ) : Type 0 where
   pub bytes : encode (pooled x y) ≡ v
   pub taken : SheetAccepted (get ps) (length ps) (pooled x y)
   pub compiles : compileOn v ps t₀ .0 ≡ 0
   pub halves : Halves (programOf ps x) (programOf ps y) (programOf ps (pooled x y)) (compileOn v ps t₀ .1) l₀ (compileOn s ps t₁ .1) l₁ (compileOn z ps t₂ .1) l₂
 
--- every two sheets x and y that compile accepts as the bytes s and z with the same parameters ps, in any table and round bytes of 01's lengths, where join has delivered the bytes v in the buffer
+-- every two sheets x and y that compile accepts as the bytes s and z with the same parameters ps, in any table and
+-- round bytes of 01's lengths, where join has delivered the bytes v in the buffer
 abbrev pub HalfBoards : Type 0
 HalfBoards =
     (s z ps buffer v t₀ l₀ t₁ l₁ t₂ l₂ : List ℕ) → All (λ b. b < 256) s → All (λ b. b < 256) z → All (λ b. b < 256) ps

@@ -1,4 +1,5 @@
--- What compile's 0 says of both sheets: the bytes spliced are those of the sheet pooled from the two that were read. Each answer from the facts that lead to it.
+-- What compile's 0 says of both sheets: the bytes spliced are those of the sheet pooled from the two that were read.
+-- Each answer from the facts that lead to it.
 use Prim.Native.Nat.{ℕ, _+_, _-_, _≤_, _<_}
 use mathlib.Core.Bool.{Bool, true, false, not, true≢false, false≢true}
 use mathlib.Core.Path.{_≡_, refl, sym, ap, _∙_}

@@ -1,5 +1,6 @@
--- "The result must pass compile's 3, 7 and 13, checked in that order": no other number can be compile's for the sheet pooled from two accepted ones, and each stands exactly for its limit. From what is
--- known of the pooled sheet (crate pooling) by compile's branches; with too many behaviours the first fault is the one that passes 64.
+-- "The result must pass compile's 3, 7 and 13, checked in that order": no other number can be compile's for the sheet
+-- pooled from two accepted ones, and each stands exactly for its limit. From what is known of the pooled sheet (crate
+-- link_pooled) by compile's branches; with too many behaviours the first fault is the one that passes 64.
 use Prim.Native.Nat.{ℕ, zero, suc, _+_, _≤_, _<_, _^_}
 use mathlib.Core.Bool.{Bool, true, false}
 use mathlib.Core.Path.{_≡_, refl, sym, ap, _∙_}

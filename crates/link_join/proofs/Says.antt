@@ -1,5 +1,6 @@
--- What a join's answer says, case by case, and what the joined sheet is: accepted, its board the two boards in a row, its events sent by whom both sheets let. From the definitions' branches, the limits that
--- a pooled sheet can pass (Limits.antt) and what is known of two programs side by side (crate pooling).
+-- What a join's answer says, case by case, and what the joined sheet is: accepted, its board the two boards in a row,
+-- its events sent by whom both sheets let. From the definitions' branches, the limits that a pooled sheet can pass
+-- (Limits.antt) and what is known of two programs side by side (crate link_pooled).
 use Prim.Native.Nat.{ℕ, _+_, _≤_, _<_, _^_}
 use mathlib.Core.Bool.{true, false}
 use mathlib.Core.Path.{_≡_, _∙_, subst}
@@ -97,7 +98,8 @@ module _ (s t ps buffer : List ℕ) (bs : All (λ b. b < 256) s) (bt : All (λ b
       (λ d. second-refused (eqb-true (numberOn s ps) 0 e) (eqb-false (numberOn t ps) 0 d)))
       (λ e. first-refused (eqb-false (numberOn s ps) 0 e))
 
--- "After the same commits, each half of the joined board equals that sheet's own board, events that it doesn't declare being passed over."
+-- "After the same commits, each half of the joined board equals that sheet's own board, events that it doesn't declare
+-- being passed over."
 module _ {s t ps : List ℕ} (bp : All (λ b. b < 256) ps) (x : Read s ps) (y : Read t ps) where
   means : programOf ps (pooled (x .sheet) (y .sheet)) ≡ together (programOf ps (x .sheet)) (programOf ps (y .sheet))
   means = fill-pooled (get ps) (x .sheet) (y .sheet) (x .accepted .fits) (x .accepted .known)

@@ -1,6 +1,9 @@
--- What the call `join` answers, and the buffer's bytes at exit, for all bytes. 02, M-111: "A join writes one sheet from two accepted ones to the start of a lent buffer, whose other bytes stay, and returns
--- its length. .. A sheet that compile turns down gives compile's number, the first sheet's before the second's; parameters are lent as to compile and filled alike in all three. The result must pass compile's
--- 3, 7 and 13, checked in that order after 26. 26 when the sheets give one event different ranks, checked once both are accepted; 27 when the buffer is too short, checked last."
+-- What the call `join` answers, and the buffer's bytes at exit, for all bytes. 02, M-111: "A join writes one sheet from
+-- two accepted ones to the start of a lent buffer, whose other bytes stay, and returns its length. .. A sheet that
+-- compile turns down gives compile's number, the first sheet's before the second's; parameters are lent as to compile
+-- and filled alike in all three. The result must pass compile's 3, 7 and 13, checked in that order after 26. 26 when
+-- the sheets give one event different ranks, checked once both are accepted; 27 when the buffer is too short, checked
+-- last."
 use Prim.Native.Nat.{ℕ, _+_}
 use mathlib.Core.List.{List, _++_}
 use lib.ListN.{length, drop}

@@ -1,5 +1,5 @@
-// One sheet from two accepted ones (02, M-111): compile's number for each, 26, compile's number for the joined one, 27, or 2 ^ 32 and its length.
-// Time: that of compile for each of the three, and one pass over the bytes of both.
+// One sheet from two accepted ones (02, M-111): compile's number for each, 26, compile's number for the joined one, 27,
+// or 2 ^ 32 and its length. Time: that of compile for each of the three, and one pass over the bytes of both.
 ghost use mathlib.Core.Path.{_≡_};
 ghost use Prim.Native.Nat.{_≤_};
 ghost use lib.ListN.{length};

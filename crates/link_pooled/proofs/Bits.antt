@@ -1,4 +1,5 @@
--- "A player may send a shared event only where both sheets allow it": the bits set in both bytes. By induction on the player's number, bit by bit.
+-- "A player may send a shared event only where both sheets allow it": the bits set in both bytes. By induction on the
+-- player's number, bit by bit.
 use Prim.Native.Nat.{ℕ, zero, suc, _*_, _/_, _%_, _^_, _≤_, _<_, min}
 use mathlib.Core.Bool.{_&&_}
 use mathlib.Core.Path.{_≡_, refl, _∙_}

@@ -1,4 +1,5 @@
--- The joined sheet means the two programs side by side: "parameters are lent as to compile and filled alike in all three". By induction on the sheets.
+-- The joined sheet means the two programs side by side: "parameters are lent as to compile and filled alike in all
+-- three". By induction on the sheets.
 use Prim.Native.Nat.{ℕ, _+_}
 use mathlib.Core.Bool.{Bool, true, false, _||_}
 use mathlib.Core.Path.{_≡_, refl, sym, ap, _∙_}

@@ -1,5 +1,6 @@
--- "After the same commits, each half of the joined board equals that sheet's own board, events that it doesn't declare being passed over." The values of a part satisfy its own equations, and these have
--- one solution (crate semantics): first-phase values and passives by induction over needs.
+-- "After the same commits, each half of the joined board equals that sheet's own board, events that it doesn't declare
+-- being passed over." The values of a part satisfy its own equations, and these have one solution (crate
+-- spec_semantics): first-phase values and passives by induction over needs.
 use Prim.Native.Nat.{ℕ, _+_, _-_, _≤_, _<_}
 use mathlib.Core.Bool.{true, false≢true}
 use mathlib.Core.Path.{_≡_, refl, sym, ap, _∙_}

@@ -1,4 +1,5 @@
--- A program that is part of another, its names moved up: what each of its behaviours does on an event, needs and gives is the same, moved. By induction on expressions and handlers.
+-- A program that is part of another, its names moved up: what each of its behaviours does on an event, needs and gives
+-- is the same, moved. By induction on expressions and handlers.
 use Prim.Native.Nat.{ℕ, _+_, _-_, _≤_, _<_}
 use mathlib.Core.Bool.{true, not, _||_, false≢true, and-eq-true-iff}
 use mathlib.Core.Path.{_≡_, refl, sym, ap, _∙_}

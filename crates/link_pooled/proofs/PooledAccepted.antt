@@ -1,4 +1,5 @@
--- The sheet pooled from two accepted ones is accepted, but for 3, 7 and 13: names are known, parameters are lent, there is no circle, each field is within its limits. From the two programs side by side.
+-- The sheet pooled from two accepted ones is accepted, but for 3, 7 and 13: names are known, parameters are lent, there
+-- is no circle, each field is within its limits. From the two programs side by side.
 use Prim.Native.Nat.{ℕ, _+_, _≤_, _<_, _^_}
 use mathlib.Core.Bool.{true}
 use mathlib.Core.Path.{_≡_, sym, ap, _∙_}

@@ -1,5 +1,5 @@
--- "A player may send a shared event only where both sheets allow it", an event of one sheet alone where that allows it; who may see a behaviour stays. An event's rank is the one that both give. By the
--- places of the lists.
+-- "A player may send a shared event only where both sheets allow it", an event of one sheet alone where that allows it;
+-- who may see a behaviour stays. An event's rank is the one that both give. By the places of the lists.
 use Prim.Native.Nat.{ℕ, zero, suc, _+_, _≤_, _<_}
 use mathlib.Core.Bool.{true, _&&_}
 use mathlib.Core.Path.{_≡_, refl, ap, _∙_}

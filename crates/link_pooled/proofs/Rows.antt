@@ -1,5 +1,6 @@
--- The rows of the pooled sheet, written out, are those of the first and then those of the second, moved: a name of the first means what it meant there, since the first's numbers are
--- unchanged, and a name of the second, moved up, means what it meant, moved up. By induction on entries and expressions.
+-- The rows of the pooled sheet, written out, are those of the first and then those of the second, moved: a name of the
+-- first means what it meant there, since the first's numbers are unchanged, and a name of the second, moved up, means
+-- what it meant, moved up. By induction on entries and expressions.
 use Prim.Native.Nat.{ℕ, zero, suc, _+_, _-_, _≤_, _<_}
 use mathlib.Core.Path.{_≡_, refl, sym, ap, _∙_}
 use mathlib.Core.Option.{Option}

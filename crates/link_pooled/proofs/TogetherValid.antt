@@ -1,4 +1,5 @@
--- Two programs side by side are valid where both are: names stay inside their part, and a chain of dependence never leaves the part that it begins in. Rank and rights are those that both give.
+-- Two programs side by side are valid where both are: names stay inside their part, and a chain of dependence never
+-- leaves the part that it begins in. Rank and rights are those that both give.
 use Prim.Native.Nat.{ℕ, zero, suc, _+_, _-_, _≤_, _<_}
 use mathlib.Core.Bool.{true}
 use mathlib.Core.Path.{_≡_, refl, sym, ap, _∙_, subst}

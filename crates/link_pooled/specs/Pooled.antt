@@ -1,5 +1,6 @@
--- One sheet from two. 02, M-111: "events are shared by number, behaviours of the second move up by the first's count, names with them, and rows stay rows. A player may send a shared event only where
--- both sheets allow it; its field has length 2 if either sheet's has, with the bits set in both, a missing byte counting as 255."
+-- One sheet from two. 02, M-111: "events are shared by number, behaviours of the second move up by the first's count,
+-- names with them, and rows stay rows. A player may send a shared event only where both sheets allow it; its field has
+-- length 2 if either sheet's has, with the bits set in both, a missing byte counting as 255."
 use Prim.Native.Nat.{ℕ, _+_}
 use mathlib.Core.Bool.{Bool, true, false}
 use mathlib.Core.Option.{Option, none, some}

@@ -1,5 +1,6 @@
--- The program of two programs side by side, and the events that one of them declares. 02, M-111: "After the same commits, each half of the joined board equals that sheet's own board, events that it
--- doesn't declare being passed over."
+-- The program of two programs side by side, and the events that one of them declares. 02, M-111: "After the same
+-- commits, each half of the joined board equals that sheet's own board, events that it doesn't declare being passed
+-- over."
 use Prim.Native.Nat.{ℕ, _+_}
 use mathlib.Core.Bool.{true, false}
 use mathlib.Core.List.{List, [], _∷_, _++_, map}

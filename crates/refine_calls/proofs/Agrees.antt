@@ -1,5 +1,5 @@
--- Each call on the bytes agrees with the model's: it is never foreign, the bytes' choice is the model's, and each outcome stands for the model's engine.
--- By clauses on the engine, following the same tests on both sides.
+-- Each call on the bytes agrees with the model's: it is never foreign, the bytes' choice is the model's, and each
+-- outcome stands for the model's engine. By clauses on the engine, following the same tests on both sides.
 use Prim.Native.Nat.{ℕ, zero, suc, _+_, _-_, _/_, _%_, _≤_, _<_}
 use mathlib.Core.Bool.{Bool, true, false, not}
 use mathlib.Core.Path.{_≡_, refl, sym, ap, _∙_, subst}

@@ -28,7 +28,8 @@ use Rattle.run_advance.specs.Advance.{overMark}
 use Rattle.refine_calls.specs.Refinement.{coded, stepAnswer, decoded, toldOn, answersOn}
 use Rattle.refine_calls.proofs.Refines.{valid, refines}
 
--- ---- the answers to an arrival, to a step and to a board reading, events being below 256, arrivals below 2^40 and players below 16
+-- ---- the answers to an arrival, to a step and to a board reading, events being below 256, arrivals below 2^40 and
+-- players below 16
 
 abbrev pub ToArrive : Answer → Type 0
 ToArrive (refused n) = 0 < n

@@ -1,5 +1,5 @@
--- Forecast on the bytes is the model engine's: each slot's event has its code's length in the table, the slots are the waiting in any order, and the longest event is the
--- same counted from either end.
+-- Forecast on the bytes is the model engine's: each slot's event has its code's length in the table, the slots are the
+-- waiting in any order, and the longest event is the same counted from either end.
 use Prim.Native.Nat.{ℕ, zero, suc, _+_, _≤_, _<_, max}
 use mathlib.Core.Path.{_≡_, refl, sym}
 use mathlib.Core.List.{List, foldr, sum}

@@ -1,5 +1,5 @@
--- The bytes that start leaves stand for the model's initial engine: words cleared, the head 0, the store the table's values of a fresh round. By induction on how many
--- words are written.
+-- The bytes that start leaves stand for the model's initial engine: words cleared, the head 0, the store the table's
+-- values of a fresh round. By induction on how many words are written.
 use Prim.Native.Nat.{ℕ, zero, suc, _+_, _≤_, _<_}
 use mathlib.Core.Bool.{true}
 use mathlib.Core.Path.{_≡_, refl, sym, _∙_}

@@ -1,5 +1,5 @@
--- One instruction on the round's bytes is the model's, wherever the abstract check of the code lets it pass: it is allowed, the values in the bytes are then those
--- that it leaves, and nothing else changes. Instruction by instruction.
+-- One instruction on the round's bytes is the model's, wherever the abstract check of the code lets it pass: it is
+-- allowed, the values in the bytes are then those that it leaves, and nothing else changes. Instruction by instruction.
 use Prim.Native.Nat.{ℕ, zero, suc, _+_, _*_, _-_, _/_, _%_, _≤_, _<_}
 use mathlib.Core.Bool.{Bool, true, false}
 use mathlib.Core.Path.{_≡_, refl, sym, ap, _∙_, subst}

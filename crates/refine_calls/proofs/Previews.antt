@@ -1,4 +1,5 @@
--- Preview on the bytes is the model engine's: the copy stands for the same engine as the round, its words being the same, and each call on it agrees, until idle.
+-- Preview on the bytes is the model engine's: the copy stands for the same engine as the round, its words being the
+-- same, and each call on it agrees, until idle.
 use Prim.Native.Nat.{ℕ, zero, suc, _+_, _*_, _≤_, _<_}
 use mathlib.Core.Bool.{Bool, true, false}
 use mathlib.Core.Path.{_≡_, refl, sym, ap, _∙_, subst}

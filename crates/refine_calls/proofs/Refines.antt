@@ -1,5 +1,5 @@
--- Every list of calls on a program's table and a round that start has made fresh: the answers are the model engine's, and the round agrees with it.
--- By induction on the list, each call agreeing and keeping the engine reached.
+-- Every list of calls on a program's table and a round that start has made fresh: the answers are the model engine's,
+-- and the round agrees with it. By induction on the list, each call agreeing and keeping the engine reached.
 use Prim.Native.Nat.{ℕ, _+_, _≤_}
 use mathlib.Core.Bool.{true}
 use mathlib.Core.Path.{_≡_, refl}

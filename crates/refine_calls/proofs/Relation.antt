@@ -1,4 +1,5 @@
--- When a round's bytes stand for an engine, and each change of the bytes but an instruction's: an arrival joins, the next starts. Field by field.
+-- When a round's bytes stand for an engine, and each change of the bytes but an instruction's: an arrival joins, the
+-- next starts. Field by field.
 use Prim.Native.Nat.{ℕ, zero, suc, _+_, _*_, _≤_, _<_}
 use mathlib.Core.Bool.{true}
 use mathlib.Core.Path.{_≡_, refl, sym, ap, _∙_}

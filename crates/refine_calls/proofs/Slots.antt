@@ -1,4 +1,5 @@
--- The queue and the head of the round in the bytes, and what each write leaves of them. Word by word from the laws of `put`.
+-- The queue and the head of the round in the bytes, and what each write leaves of them. Word by word from the laws of
+-- `put`.
 use Prim.Native.Nat.{ℕ, zero, suc, _+_, _*_, _≤_, _<_}
 use mathlib.Core.Bool.{true}
 use mathlib.Core.Path.{_≡_, refl, sym, ap, _∙_}

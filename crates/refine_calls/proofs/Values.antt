@@ -1,4 +1,5 @@
--- Store, scratch, stack, deferred values and mark in the round's bytes, and what each write leaves of them. Region by region: a write is outside, or sets one value.
+-- Store, scratch, stack, deferred values and mark in the round's bytes, and what each write leaves of them. Region by
+-- region: a write is outside, or sets one value.
 use Prim.Native.Nat.{ℕ, zero, suc, _+_, _/_, _≤_, _<_}
 use mathlib.Core.Bool.{Bool, true, false, not, _||_, false≢true}
 use mathlib.Core.Path.{_≡_, refl, sym, ap, _∙_}

@@ -88,9 +88,10 @@ slots l (suc n) = arrivalOf (numberAt l n) (wordAt l n) ∷ slots l n
 abbrev pub runningIn : List ℕ → Running
 runningIn l = pick (eqb (runningFlag l) 0) rest (busy (arrivalOf (runningNumber l) (runningWord l)) (position l))
 
--- "as read from the round's bytes, board, hand (in whatever order it is kept), number taken in, running arrival with its count, stack, and scratch and places
--- as far as the model engine has filled them"; the board is the store, the hand the waiting and the running one, the places hold the deferred values. And the mark that
--- 02, M-104 adds: any word but 0 is one
+-- "as read from the round's bytes, board, hand (in whatever order it is kept), number taken in, running arrival with
+-- its count, stack, and scratch and places as far as the model engine has filled them"; the board is the store, the
+-- hand the waiting and the running one, the places hold the deferred values. And the mark that 02, M-104 adds: any word
+-- but 0 is one
 pub record ViewOf (p : Program) (l : List ℕ) (n : ℕ) (waiting : List Arrival) (r : Running) (d : Values) : Type 0 where
   pub number : taken l ≡ n
   pub queue : List·Permᴰ (slots l (waitingCount l)) waiting
@@ -109,8 +110,8 @@ pub record Kept (l m : List ℕ) : Type 0 where
   pub as-long : length m ≡ length l
   pub beyond : (j : ℕ) → 2048 ≤ j → getD m j 0 ≡ getD l j 0
 
--- calls on the table t, from a round's bytes l and an engine w: the answers equal the engine's, the round then agrees with it, and of the bytes lent, l₀, only the
--- round's have changed
+-- calls on the table t, from a round's bytes l and an engine w: the answers equal the engine's, the round then agrees
+-- with it, and of the bytes lent, l₀, only the round's have changed
 pub record Agreement (p : Program) (t l₀ l : List ℕ) (cs : List Call) (w : Engine) : Type 0 where
   pub answered : answersOn t cs l ≡ map coded (answers p cs w)
   pub viewed : View p (roundAfter t cs l) (run p cs w)

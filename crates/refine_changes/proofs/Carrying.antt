@@ -1,5 +1,6 @@
--- What a table says of the actives is what the program says; the values that a change begins with are the model's, and the stretch of the new table's instructions works out the passives of
--- the carried store. From the laws of the passives' code.
+-- What a table says of the actives is what the program says; the values that a change begins with are the model's, and
+-- the stretch of the new table's instructions works out the passives of the carried store. From the laws of the
+-- passives' code.
 use Prim.Native.Nat.{ℕ, zero, suc, _+_, _*_, _-_, _≤_, _<_}
 use mathlib.Core.Bool.{true, false}
 use mathlib.Core.Path.{_≡_, refl, sym, ap, _∙_, subst}

@@ -1,4 +1,5 @@
--- The bytes that a change is worked out in: each behaviour's value stands in store and scratch, nothing else is filled. By induction on the behaviours.
+-- The bytes that a change is worked out in: each behaviour's value stands in store and scratch, nothing else is filled.
+-- By induction on the behaviours.
 use Prim.Native.Nat.{ℕ, zero, suc, _+_, _≤_, _<_}
 use mathlib.Core.Bool.{true, false}
 use mathlib.Core.Path.{_≡_, refl, sym, ap, _∙_}

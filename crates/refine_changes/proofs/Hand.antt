@@ -1,4 +1,5 @@
--- The hand in the bytes at a change: its events are declared in the new table exactly if they are in the new program, and the running one goes back to it. Slot by slot.
+-- The hand in the bytes at a change: its events are declared in the new table exactly if they are in the new program,
+-- and the running one goes back to it. Slot by slot.
 use Prim.Native.Nat.{ℕ, zero, suc, _+_, _≤_, _<_}
 use mathlib.Core.Bool.{Bool, true, false}
 use mathlib.Core.Path.{_≡_, refl, _∙_}

@@ -1,4 +1,5 @@
--- mend on the bytes agrees with the model engine's change: it is never foreign, both look at the same copy-back and the same hand, and the round then stands for the carried engine.
+-- mend on the bytes agrees with the model engine's change: it is never foreign, both look at the same copy-back and the
+-- same hand, and the round then stands for the carried engine.
 use Prim.Native.Nat.{ℕ, zero, suc, _+_, _≤_, _<_}
 use mathlib.Core.Bool.{Bool, true, false}
 use mathlib.Core.Path.{_≡_, refl, sym, _∙_}

@@ -1,5 +1,6 @@
--- The passives' code of a sheet's program fits into 4,096 instructions, also where no event is declared: each constant, name and application has four bytes of the sheet at least, a behaviour's
--- head three, a row no passive, and a sheet has 8,192. By induction on expressions and behaviours.
+-- The passives' code of a sheet's program fits into 4,096 instructions, also where no event is declared: each constant,
+-- name and application has four bytes of the sheet at least, a behaviour's head three, a row no passive, and a sheet
+-- has 8,192. By induction on expressions and behaviours.
 use Prim.Native.Nat.{ℕ, zero, suc, _+_, _*_, _≤_}
 use mathlib.Core.Path.{_≡_, refl, ap, _∙_}
 use mathlib.Core.Option.{Option}

@@ -1,5 +1,6 @@
--- A stretch of a table's instructions on the round's bytes is these instructions run on the values, where the abstract check lets each pass: none is refused, and the bytes then hold the
--- values that they lead to. By induction on the instructions.
+-- A stretch of a table's instructions on the round's bytes is these instructions run on the values, where the abstract
+-- check lets each pass: none is refused, and the bytes then hold the values that they lead to. By induction on the
+-- instructions.
 use Prim.Native.Nat.{ℕ, suc, _+_, _*_, _/_, _%_, _≤_, _<_}
 use mathlib.Core.Bool.{true}
 use mathlib.Core.Path.{_≡_, refl, _∙_}

@@ -1,5 +1,6 @@
--- Every list of turns on a program's table and a round that start has made fresh: the numbers are the model engine's replies, and the round agrees with it. By induction on the list, each
--- call and each change agreeing, and the table in force saying the program in force.
+-- Every list of turns on a program's table and a round that start has made fresh: the numbers are the model engine's
+-- replies, and the round agrees with it. By induction on the list, each call and each change agreeing, and the table in
+-- force saying the program in force.
 use Prim.Native.Nat.{ℕ, _≤_}
 use mathlib.Core.Bool.{true}
 use mathlib.Core.Path.{_≡_, refl, sym, subst}

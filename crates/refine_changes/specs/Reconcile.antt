@@ -1,4 +1,5 @@
--- Turns on the bytes, and when their answers and the round agree with the model engine's. 02, M-112: "Demand 3's lists may hold such changes, the model engine making them too".
+-- Turns on the bytes, and when their answers and the round agree with the model engine's. 02, M-112: "Demand 3's lists
+-- may hold such changes, the model engine making them too".
 use Prim.Native.Nat.{ℕ, _≤_}
 use mathlib.Core.Path.{_≡_}
 use mathlib.Core.List.{List, [], _∷_, map}
@@ -55,7 +56,8 @@ unfoldable pub bytesAfter : List ByteTurn → Bytes → Bytes
 bytesAfter [] b = b
 bytesAfter (x ∷ xs) b = bytesAfter xs (turnOn x b .after)
 
--- ---- the turns of the model engine that they are: a change is to the table that compile leaves for an accepted program, whose passives' code fits into 4,096 instructions
+-- ---- the turns of the model engine that they are: a change is to the table that compile leaves for an accepted
+-- program, whose passives' code fits into 4,096 instructions
 
 pub record TableFor (q : Program) (u : List ℕ) : Type 0 where
   pub accepted : Accepted q
@@ -80,7 +82,8 @@ AllMean (x ∷ xs) (t ∷ ts) = Means x t × AllMean xs ts
 abbrev pub ViewIn : List ℕ → State → Type 0
 ViewIn l (state p w) = View p l w
 
--- turns from the bytes b and a state s: the numbers are the model engine's replies, the round then agrees with it, and of the round's bytes lent, l₀, only the round's have changed
+-- turns from the bytes b and a state s: the numbers are the model engine's replies, the round then agrees with it, and
+-- of the round's bytes lent, l₀, only the round's have changed
 pub record Agreement (l₀ : List ℕ) (b : Bytes) (xs : List ByteTurn) (s : State) (ts : List Turn) : Type 0 where
   pub answered : numbersOn xs b ≡ map codedReply (replies ts s)
   pub viewed : ViewIn (bytesAfter xs b .round) (runTurns ts s)

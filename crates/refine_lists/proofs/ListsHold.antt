@@ -1,4 +1,5 @@
--- Demand 3 with changes of sheets holds of the bytes: they refine the model engine turn by turn, and the model engine's sentences carry over, for an accepted program's table and a fresh round.
+-- Demand 3 with changes of sheets holds of the bytes: they refine the model engine turn by turn, and the model engine's
+-- sentences carry over, for an accepted program's table and a fresh round.
 use Prim.Native.Nat.{ℕ, _+_, _≤_, _<_}
 use mathlib.Core.Bool.{Bool, true, false}
 use mathlib.Core.Path.{_≡_, refl, sym, ap, _∙_, subst}

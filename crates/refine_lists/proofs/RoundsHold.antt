@@ -1,4 +1,5 @@
--- Demand 3 with changes of sheets holds from sheets on: the table that compile leaves for an accepted sheet is its program's, and its passives fit.
+-- Demand 3 with changes of sheets holds from sheets on: the table that compile leaves for an accepted sheet is its
+-- program's, and its passives fit.
 use Prim.Native.Nat.{ℕ, _≤_, _<_}
 use mathlib.Core.Path.{_≡_, refl, sym, ap, subst}
 use mathlib.Core.List.{List, [], _∷_, map}

@@ -1,4 +1,5 @@
--- What compile's answer 0 says of a sheet and its table: there is room for a table, and the sheet's program is accepted; and start makes a fresh round of it. From the laws of compile and of the filling.
+-- What compile's answer 0 says of a sheet and its table: there is room for a table, and the sheet's program is
+-- accepted; and start makes a fresh round of it. From the laws of compile and of the filling.
 use Prim.Native.Nat.{ℕ, _≤_, _<_}
 use mathlib.Core.Path.{_≡_, sym, ap, _∙_}
 use mathlib.Core.Logic.{by-cases}

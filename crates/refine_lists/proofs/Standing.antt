@@ -1,4 +1,5 @@
--- What the bytes say where the table in force says the program in force and the round stands for the engine: the board, the step called next, a forecast and a preview. Each call agrees.
+-- What the bytes say where the table in force says the program in force and the round stands for the engine: the board,
+-- the step called next, a forecast and a preview. Each call agrees.
 use Prim.Native.Nat.{ℕ, _+_, _≤_}
 use mathlib.Core.Path.{_≡_, refl, sym, ap, _∙_}
 use mathlib.Core.List.{List, [], _∷_, map, zipWith}

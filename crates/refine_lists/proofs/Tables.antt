@@ -1,4 +1,5 @@
--- The table in force is the one that compile left for the program in force: a call leaves it, a change puts its table in force exactly if it is made. By induction on the turns.
+-- The table in force is the one that compile left for the program in force: a call leaves it, a change puts its table
+-- in force exactly if it is made. By induction on the turns.
 use Prim.Native.Nat.{ℕ}
 use mathlib.Core.Path.{_≡_}
 use mathlib.Core.List.{List, [], _∷_}

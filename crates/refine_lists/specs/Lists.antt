@@ -1,5 +1,6 @@
--- Demand 3 with changes of sheets, of the bytes: what is said of every list of turns, calls and changes, on a program's table and a round that start has just made fresh from it. 02, M-112.
--- The sentences of the model engine: crate changes, Claims.antt. Turns on bytes: crate reconcile, Reconcile.antt.
+-- Demand 3 with changes of sheets, of the bytes: what is said of every list of turns, calls and changes, on a program's
+-- table and a round that start has just made fresh from it. 02, M-112. The sentences of the model engine: crate
+-- spec_changes, Claims.antt. Turns on bytes: crate reconcile, Reconcile.antt.
 use Prim.Native.Nat.{ℕ, _+_, _≤_, _<_}
 use mathlib.Core.Bool.{Bool, true, false}
 use mathlib.Core.Path.{_≡_}
@@ -52,7 +53,8 @@ pub record CommitMark (p : Program) (ts : List Turn) (a : Arrival) (m : Bool) : 
   pub set-if : EventOver (withStore (inForce (after p ts)) before) (a .event) → m ≡ true
   pub only-if : m ≡ true → EventOver (withStore (inForce (after p ts)) before) (a .event)
 
--- ---- one list: the turns xs on the bytes b, a fresh round of p in the bytes l₀, which are the turns ts of the model engine
+-- ---- one list: the turns xs on the bytes b, a fresh round of p in the bytes l₀, which are the turns ts of the model
+-- engine
 
 pub record OneList (p : Program) (l₀ : List ℕ) (b : Bytes) (xs : List ByteTurn) (ts : List Turn) : Type 0 where
   -- "every answer .. is what 01's model engine gives", and the numbers name those answers
@@ -64,12 +66,14 @@ pub record OneList (p : Program) (l₀ : List ℕ) (b : Bytes) (xs : List ByteTu
   pub round : ViewIn (bytesAfter xs b .round) (after p ts)
   pub beyond : Kept l₀ (bytesAfter xs b .round)
   pub idle : (IdleNow (bytesAfter xs b) → IdleIn (after p ts)) × (IdleIn (after p ts) → IdleNow (bytesAfter xs b))
-  -- "unless a copy-back is under way, the board equals what demand 2's rules give": "Commits before the change follow the old sheet and later ones the new"; and no other board
+  -- "unless a copy-back is under way, the board equals what demand 2's rules give": "Commits before the change follow
+  -- the old sheet and later ones the new"; and no other board
   pub board : settlingIn (inForce (after p ts)) (engineIn (after p ts)) ≡ false
       → Replays p (historyOf p ts) (fresh p) (boardOf (inForce (after p ts)) (bytesAfter xs b .round))
   pub board-alone : settlingIn (inForce (after p ts)) (engineIn (after p ts)) ≡ false → (s : List ℕ) → Replays p (historyOf p ts) (fresh p) s
       → s ≡ boardOf (inForce (after p ts)) (bytesAfter xs b .round)
-  -- once each, equals in order, lower first, idle within 01's count, M-100, M-113, M-101: of the model engine, whose answers these are
+  -- once each, equals in order, lower first, idle within 01's count, M-100, M-113, M-101: of the model engine, whose
+  -- answers these are
   pub sentences : Holds p ts
   -- demand 2, under the program in force
   pub one-event : IdleNow (bytesAfter xs b) → (e who : ℕ) → e < events (inForce (after p ts)) → who < 8 → maySend (inForce (after p ts)) who e ≡ true
@@ -85,7 +89,8 @@ pub record OneList (p : Program) (l₀ : List ℕ) (b : Bytes) (xs : List ByteTu
   pub mark : (a : Arrival) (m : Bool) → decoded step (stepOn (bytesAfter xs b .table) (bytesAfter xs b .round) .0) ≡ committed a m → CommitMark p ts a m
   pub told : toldOn (stepOn (bytesAfter xs b .table) (bytesAfter xs b .round) .0) ≡ coded (unmarked (act (inForce (after p ts)) step (engineIn (after p ts)) .answer))
 
--- ---- two lists, from fresh rounds of one program in bytes of their own: "equal boards on two phones need independence in each sheet and the same change after the same commits"
+-- ---- two lists, from fresh rounds of one program in bytes of their own: "equal boards on two phones need independence
+-- in each sheet and the same change after the same commits"
 
 abbrev pub TwoLists : Program → Bytes → Bytes → Type 0
 TwoLists p b c =

@@ -1,5 +1,5 @@
--- Demand 3 with changes of sheets, from sheets on: a round of a sheet that compile accepts, and every list of calls and of changes to sheets that compile accepts. 02, M-112. What is said of
--- each list: crate lists, Lists.antt.
+-- Demand 3 with changes of sheets, from sheets on: a round of a sheet that compile accepts, and every list of calls and
+-- of changes to sheets that compile accepts. 02, M-112. What is said of each list: crate refine_lists, Lists.antt.
 use Prim.Native.Nat.{ℕ, _≤_, _<_}
 use mathlib.Core.Path.{_≡_}
 use mathlib.Core.List.{List, [], _∷_, map}
@@ -18,7 +18,8 @@ use Rattle.back_compile.specs.Verdict.{programOf, compileOn}
 use Rattle.refine_changes.specs.Reconcile.{ByteTurn, calls, mends, Bytes, bytes, bytesAfter}
 use Rattle.refine_lists.specs.Lists.{boardOf, IdleNow, OneList}
 
--- a call, or a change: compile is lent a sheet, parameters and bytes for a table, and the round is carried to that table
+-- a call, or a change: compile is lent a sheet, parameters and bytes for a table, and the round is carried to that
+-- table
 pub data SheetTurn : Type 0 where
   calling : Call → SheetTurn
   mending : List ℕ → List ℕ → List ℕ → SheetTurn
@@ -58,7 +59,8 @@ EveryRound =
     → (xs : List SheetTurn) → All Compiles xs
     → (ts : List Turn) × AllMean xs ts × OneList (programOf ps x) l₀ (fresh s ps t₀ l₀) (map onBytes xs) ts
 
--- two lists on one sheet, with the same parameters: "equal boards on two phones need independence in each sheet and the same change after the same commits"
+-- two lists on one sheet, with the same parameters: "equal boards on two phones need independence in each sheet and the
+-- same change after the same commits"
 abbrev pub TwoRounds : Type 0
 TwoRounds =
     (s ps t₀ l₀ t₁ l₁ : List ℕ) → All (λ b. b < 256) s → All (λ b. b < 256) ps → 2048 ≤ length l₀ → 2048 ≤ length l₁

@@ -1,5 +1,6 @@
--- One instruction of the running arrival, on the round's bytes, for all bytes (layout: crate layout). 01 "Handlers and steps", "Why a call was turned down".
--- A function that branches takes plain numbers; one that reads calls it.
+-- One instruction of the running arrival, on the round's bytes, for all bytes (layout: crate format_layout). 01
+-- "Handlers and steps", "Why a call was turned down". A function that branches takes plain numbers; one that reads
+-- calls it.
 use Prim.Native.Nat.{ℕ, _+_, _*_, _/_, _%_}
 use mathlib.Core.List.{List}
 use lib.Dec.{ltb, eqb}

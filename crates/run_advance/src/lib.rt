@@ -19,7 +19,8 @@ fn commit_of(n: u32, hand: u32, w: u32) -> u64
     72057594037927936 + said
 }
 
-// Arrival n, `hand` the word of its event and player, has done c of len instructions, and now one more: the last commits it.
+// Arrival n, `hand` the word of its event and player, has done c of len instructions, and now one more: the last
+// commits it.
 fn count_on(l: &mut [u8], c: u32, hand: u32, n: u32, len: u32) -> u64
     requires { ⌜ (2048 ≤ length (now l)) × (c < 4096) ⌝ }
     ensures { λ r. ⌜ result r (now (l .exit)) ≡ countOn (now (l .entry)) c hand n len ⌝ }

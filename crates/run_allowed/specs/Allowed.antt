@@ -1,4 +1,4 @@
--- Which instructions may run. 01 "Why a call was turned down": foreign. Operations: see crate instruction.
+-- Which instructions may run. 01 "Why a call was turned down": foreign. Operations: see crate run_instruction.
 use Prim.Native.Nat.{ℕ}
 use mathlib.Core.Bool.{Bool, true, false}
 use lib.Dec.{ltb, leb, eqb}
@@ -9,7 +9,8 @@ use Rattle.lib_arith.specs.Functions.{arity}
 unfoldable pub applies : ℕ → ℕ → Bool
 applies f d = pick (eqb f 0) false (pick (ltb 14 f) false (leb (arity f) d))
 
--- not foreign: "an instruction not of this paper, with a slot above 63, or taking from an empty or adding to a full stack"
+-- not foreign: "an instruction not of this paper, with a slot above 63, or taking from an empty or adding to a full
+-- stack"
 unfoldable pub allowed : ℕ → ℕ → ℕ → Bool
 allowed op s d =
     pick (ltb 63 s) false

@@ -1,5 +1,6 @@
--- What arrive does to the round's bytes, for all bytes (layout: crate layout). 01 "Handlers and steps", "Why a call was turned down": "Arrival: 14, 15, 16, 17."; 02, M-107: 24 after 14,
--- 25 after 15. The answer is 0, or the refusal's number. A function that branches takes plain numbers; one that reads calls it.
+-- What arrive does to the round's bytes, for all bytes (layout: crate format_layout). 01 "Handlers and steps", "Why a
+-- call was turned down": "Arrival: 14, 15, 16, 17."; 02, M-107: 24 after 14, 25 after 15. The answer is 0, or the
+-- refusal's number. A function that branches takes plain numbers; one that reads calls it.
 use Prim.Native.Nat.{ℕ, _+_}
 use mathlib.Core.Bool.{Bool}
 use mathlib.Core.List.{List}

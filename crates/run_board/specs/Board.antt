@@ -1,5 +1,5 @@
--- What board reads from the round's bytes, for all bytes (layout: crate layout), and masking. 01 "Handlers and steps", "Why a call was turned down".
--- A function that branches takes plain numbers; one that reads calls it.
+-- What board reads from the round's bytes, for all bytes (layout: crate format_layout), and masking. 01 "Handlers and
+-- steps", "Why a call was turned down". A function that branches takes plain numbers; one that reads calls it.
 use Prim.Native.Nat.{ℕ, _+_, _-_}
 use mathlib.Core.Bool.{Bool, true, false}
 use mathlib.Core.List.{List}
@@ -18,7 +18,8 @@ copyingBack len m c = pick (leb len m) true (leb (len - m - 1) c)
 unfoldable pub masked : ℕ → ℕ → ℕ → Bool
 masked len m c = pick (copyingBack len m c) true (pick (eqb c 0) false (leb (c - 1) m))
 
--- ---- board readings. "Board: 14, 18, 19."; 02, M-107: 24 after 14, 25 after 18. The answer is the refusal's number, or 2 ^ 32 and the value.
+-- ---- board readings. "Board: 14, 18, 19."; 02, M-107: 24 after 14, 25 after 18. The answer is the refusal's number,
+-- or 2 ^ 32 and the value.
 
 unfoldable pub settling : ℕ → ℕ → ℕ → ℕ → Bool
 settling f len m c = pick (eqb f 0) false (copyingBack len m c)

@@ -1,4 +1,5 @@
-// Board readings on the round's bytes, refused by 14 where table or round is foreign, and when the running one is masked.
+// Board readings on the round's bytes, refused by 14 where table or round is foreign, and when the running one is
+// masked.
 ghost use mathlib.Core.Path.{_≡_};
 ghost use Prim.Native.Nat.{_≤_, _<_};
 ghost use lib.ListN.{length};

@@ -1,4 +1,5 @@
--- The filling leaves the length and the head's words: by induction over the behaviours, each write at a place of its own.
+-- The filling leaves the length and the head's words: by induction over the behaviours, each write at a place of its
+-- own.
 use Prim.Native.Nat.{ℕ, zero, suc, _+_, _<_}
 use mathlib.Core.Path.{_≡_, refl, _∙_}
 use mathlib.Core.List.{List}

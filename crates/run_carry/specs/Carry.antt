@@ -1,6 +1,7 @@
--- The values that a round is carried to a new table with, for all bytes (layout: crate layout): 02, M-112: "Actives that are active in both keep their value, other
--- actives take the new start, passives are worked out anew." They are worked out in bytes of their own, by the new table's instructions. A function that branches takes plain numbers; one that
--- reads calls it.
+-- The values that a round is carried to a new table with, for all bytes (layout: crate format_layout): 02, M-112:
+-- "Actives that are active in both keep their value, other actives take the new start, passives are worked out anew."
+-- They are worked out in bytes of their own, by the new table's instructions. A function that branches takes plain
+-- numbers; one that reads calls it.
 use Prim.Native.Nat.{ℕ, zero, suc, _+_}
 use mathlib.Core.Bool.{Bool, false}
 use mathlib.Core.List.{List}

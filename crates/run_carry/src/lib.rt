@@ -1,4 +1,5 @@
-// The values that a round is carried to a new table with: those that stay, the new starts, and the passives worked out by the new table's instructions.
+// The values that a round is carried to a new table with: those that stay, the new starts, and the passives worked out
+// by the new table's instructions.
 ghost use mathlib.Core.Path.{_≡_};
 ghost use Prim.Native.Nat.{_+_, _≤_, _<_};
 ghost use lib.ListN.{length};
@@ -83,7 +84,8 @@ fn work_out(t: &[u8], k: u32, n: u32, m: &mut [u8]) -> u32
     14
 }
 
-// Every behaviour's value, a passive's in m's scratch, an active's in its store: 0, or 14 where the new table's instructions for its passives may not run.
+// Every behaviour's value, a passive's in m's scratch, an active's in its store: 0, or 14 where the new table's
+// instructions for its passives may not run.
 pub fn carry_on(old: &[u8], t: &[u8], l: &[u8], m: &mut [u8]) -> u32
     requires { ⌜ (34816 ≤ length (now old)) × (34816 ≤ length (now t)) × (2048 ≤ length (now l)) × (2048 ≤ length (now m)) ⌝ }
     requires { ⌜ get (now m) 6 ≤ 64 ⌝ }

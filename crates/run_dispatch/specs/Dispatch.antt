@@ -1,4 +1,5 @@
--- The next starts or preempts, on the round's bytes, for all bytes (layout: crate layout), and what a step kinds. 01 "Handlers and steps".
+-- The next starts or preempts, on the round's bytes, for all bytes (layout: crate format_layout), and what a step
+-- kinds. 01 "Handlers and steps".
 use Prim.Native.Nat.{ℕ, _+_, _*_}
 use mathlib.Core.List.{List}
 use Rattle.lib_word.specs.Word.{put}
@@ -7,7 +8,8 @@ use Rattle.format_layout.specs.Layout.{eventOf, playerOf, runningWord, runningN
 use Rattle.run_queue.specs.Queue.{putSlot}
 use Rattle.run_start.specs.Start.{Result}
 
--- The answer of a step: one of the kinds of crate language, Answers.antt, those of a start or a commit with player, event number and arrival number; or foreign.
+-- The answer of a step: one of the kinds of crate spec_language, Answers.antt, those of a start or a commit with
+-- player, event number and arrival number; or foreign.
 
 unfoldable pub said : ℕ → ℕ → ℕ → ℕ → ℕ
 said k n e who = n * 65536 + e * 256 + who * 16 + k

@@ -1,5 +1,6 @@
--- What forecast reads from the table's and the round's bytes, for all bytes (layout: crate layout). 02, M-100: the steps to idle while nothing runs, else 01's bound.
--- A function that branches takes plain numbers; one that reads calls it.
+-- What forecast reads from the table's and the round's bytes, for all bytes (layout: crate format_layout). 02, M-100:
+-- the steps to idle while nothing runs, else 01's bound. A function that branches takes plain numbers; one that reads
+-- calls it.
 use Prim.Native.Nat.{ℕ, zero, suc, _+_, _*_, max}
 use mathlib.Core.List.{List}
 use lib.Dec.{eqb}

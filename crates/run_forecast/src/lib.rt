@@ -1,4 +1,5 @@
-// The steps to idle, read from the table's and the round's bytes: exact while nothing runs, else 01's bound. Refused by 14 where table or round is foreign.
+// The steps to idle, read from the table's and the round's bytes: exact while nothing runs, else 01's bound. Refused by
+// 14 where table or round is foreign.
 ghost use mathlib.Core.Path.{_≡_};
 ghost use Prim.Native.Nat.{_≤_, max};
 ghost use Rattle.format_layout.specs.Layout.{eventCount, waitingCount};

@@ -1,5 +1,5 @@
--- One instruction on the round's bytes (layout: crate layout). 01 "Handlers and steps".
--- Operations: 1 off, 2 on, 3 copy, 4 restore, 5 push, 6 load, 7 fetch, 8 apply (its slot is the function), 9 save, 10 defer, 11 move.
+-- One instruction on the round's bytes (layout: crate format_layout). 01 "Handlers and steps". Operations: 1 off, 2 on,
+-- 3 copy, 4 restore, 5 push, 6 load, 7 fetch, 8 apply (its slot is the function), 9 save, 10 defer, 11 move.
 use Prim.Native.Nat.{ℕ, _+_}
 use mathlib.Core.List.{List}
 use lib.Dec.{eqb}

@@ -24,7 +24,8 @@ fn push_word(l: &mut [u8], d: u32, k: usize)
     run_stack::push_on(l, d, v);
 }
 
-// Operation op, with slot s and constant w, on the round's bytes; its stack has depth d. It is one that `is_allowed` allows.
+// Operation op, with slot s and constant w, on the round's bytes; its stack has depth d. It is one that `is_allowed`
+// allows.
 pub fn perform_on(l: &mut [u8], op: u32, s: u32, w: u32, d: u32)
     requires { ⌜ (2048 ≤ length (now l)) × (d ≤ 64) × (allowed op s d ≡ true) ⌝ }
     ensures { λ _. ⌜ now (l .exit) ≡ perform (now (l .entry)) op s w d ⌝ }

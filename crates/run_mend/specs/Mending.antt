@@ -1,5 +1,6 @@
--- What mend does to the round's bytes, for all bytes (layout: crate layout). 02, M-112: a round is carried to a newly compiled table. The answer is 0, or the refusal's number.
--- A function that branches takes plain numbers; one that reads calls it.
+-- What mend does to the round's bytes, for all bytes (layout: crate format_layout). 02, M-112: a round is carried to a
+-- newly compiled table. The answer is 0, or the refusal's number. A function that branches takes plain numbers; one
+-- that reads calls it.
 use Prim.Native.Nat.{ℕ, zero, suc, _+_}
 use mathlib.Core.Bool.{Bool, true, false}
 use mathlib.Core.List.{List}
@@ -38,7 +39,8 @@ rested l = put (put (put l 2 0) 6 0) 7 0
 
 -- ---- the call
 
--- "refused by 19, checked after 14, .. 28 .., checked after 19": a: what working the passives out answered; s: a copy-back is under way; k: the hand's events are known
+-- "refused by 19, checked after 14, .. 28 .., checked after 19": a: what working the passives out answered; s: a
+-- copy-back is under way; k: the hand's events are known
 unfoldable pub verdict : ℕ → Bool → Bool → ℕ
 verdict a s k = pick (eqb a 0) (pick s settling (pick k 0 undeclaredInHand)) a
 
@@ -56,6 +58,7 @@ mendAfter old t l r = mendWith t (r .1) l (verdict (r .0) (settlingOn old l) (ha
 unfoldable pub mendIn : List ℕ → List ℕ → List ℕ → Result
 mendIn old t l = mendAfter old t l (carryOn old t l (replicate 2048 0))
 
--- "14, which looks at the round with the old table, at the new table's length, counts and code, and at each instruction that the passives need"
+-- "14, which looks at the round with the old table, at the new table's length, counts and code, and at each instruction
+-- that the passives need"
 unfoldable pub mendOn : List ℕ → List ℕ → List ℕ → Result
 mendOn old t l = pick (ours old l) (pick (tableFits t) (mendIn old t l) (foreign, l)) (foreign, l)

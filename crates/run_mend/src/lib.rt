@@ -1,4 +1,5 @@
-// A round is carried to a newly compiled table. Refused by 14 where the round is foreign with the old table, or the new table or its instructions for the passives are, then by 19 and 28.
+// A round is carried to a newly compiled table. Refused by 14 where the round is foreign with the old table, or the new
+// table or its instructions for the passives are, then by 19 and 28.
 ghost use mathlib.Core.Path.{_≡_};
 ghost use mathlib.Core.Logic.{_≢_};
 ghost use Prim.Native.Nat.{_≤_, _<_};

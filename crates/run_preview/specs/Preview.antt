@@ -1,5 +1,6 @@
--- What preview reads, for all bytes (layout: crate layout). 02, M-101: the value that the board would show after an arrival and everything in hand had been run to idle on
--- a copy of the round. A function that branches takes plain numbers; one that reads calls it.
+-- What preview reads, for all bytes (layout: crate format_layout). 02, M-101: the value that the board would show after
+-- an arrival and everything in hand had been run to idle on a copy of the round. A function that branches takes plain
+-- numbers; one that reads calls it.
 use Prim.Native.Nat.{ℕ, zero, suc, _+_, _*_}
 use mathlib.Core.Bool.{Bool, true}
 use mathlib.Core.List.{List}
@@ -42,8 +43,8 @@ shown a v = pick (eqb a 0) (4294967296 + v) refusals.foreign
 unfoldable pub shownIn : Result → ℕ → ℕ
 shownIn r i = shown (r .0) (get (r .1) (136 + i))
 
--- "then by 18, and last by 14 where a step on the copy would be or 01's count runs out": the count's steps, and one more that answers idle
--- 02, M-107: "A preview needs both rights", 25 "after 18 for a behaviour"
+-- "then by 18, and last by 14 where a step on the copy would be or 01's count runs out": the count's steps, and one
+-- more that answers idle 02, M-107: "A preview needs both rights", 25 "after 18 for a behaviour"
 unfoldable pub previewSeen : List ℕ → List ℕ → ℕ → Bool → ℕ
 previewSeen t l i right = pick right (shownIn (toIdle t (countOn t l + 1) l) i) refusals.noRight
 

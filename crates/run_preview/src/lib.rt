@@ -1,5 +1,6 @@
-// The value that the board would show after an arrival and everything in hand had been run to idle, tried on a copy of the round.
-// Turned down as the arrival would be (14, 24, 15, 25, 16, 17), then by 18 and 25, last by 14 where a step on the copy would be or 01's count runs out.
+// The value that the board would show after an arrival and everything in hand had been run to idle, tried on a copy of
+// the round. Turned down as the arrival would be (14, 24, 15, 25, 16, 17), then by 18 and 25, last by 14 where a step
+// on the copy would be or 01's count runs out.
 ghost use mathlib.Core.Path.{_≡_};
 ghost use Prim.Native.Nat.{_≤_, _<_};
 ghost use lib.ListN.{length};
@@ -124,7 +125,8 @@ fn preview_copy(t: &[u8], l: &mut [u8], e: u32, i: u32, who: u32) -> u64
     14
 }
 
-// The value of behaviour i once event e of player who has arrived and everything in hand is run to idle: 2 ^ 32 and the word; or 14 to 18, 24 or 25.
+// The value of behaviour i once event e of player who has arrived and everything in hand is run to idle: 2 ^ 32 and the
+// word; or 14 to 18, 24 or 25.
 pub fn preview_at(t: &[u8], l: &[u8], e: u32, i: u32, who: u32) -> u64
     ensures { λ r. ⌜ r ≡ previewOn (now (t .entry)) (now (l .entry)) e i who ⌝ }
 {

@@ -1,4 +1,5 @@
--- The queue in the round's bytes: the choice of the next, and writing a waiting arrival. 01 "Next means highest rank, then lowest arrival number."
+-- The queue in the round's bytes: the choice of the next, and writing a waiting arrival. 01 "Next means highest rank,
+-- then lowest arrival number."
 use Prim.Native.Nat.{ℕ, zero, suc, _+_, _*_}
 use mathlib.Core.Bool.{Bool, true, false}
 use mathlib.Core.List.{List}

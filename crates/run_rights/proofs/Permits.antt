@@ -1,5 +1,6 @@
--- What the rights that a sheet says come to, for each player. 02, M-107: "(bit n for player n)", "Where either is missing, everybody may.", "The host may do everything".
--- By computing at each of eight players, and by induction on the events.
+-- What the rights that a sheet says come to, for each player. 02, M-107: "(bit n for player n)", "Where either is
+-- missing, everybody may.", "The host may do everything". By computing at each of eight players, and by induction on
+-- the events.
 use Prim.Native.Nat.{ℕ, zero, suc, _<_}
 use mathlib.Core.Bool.{true}
 use mathlib.Core.Path.{_≡_, refl}

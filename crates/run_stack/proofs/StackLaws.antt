@@ -1,4 +1,5 @@
--- How deep a stack is that holds a function's arguments, by the arity's cases; and what a function's answer says, by its size.
+-- How deep a stack is that holds a function's arguments, by the arity's cases; and what a function's answer says, by
+-- its size.
 use Prim.Native.Nat.{ℕ, _-_, _≤_, _<_}
 use mathlib.Core.Bool.{false}
 use mathlib.Core.Path.{_≡_, refl}

@@ -1,4 +1,5 @@
--- The evaluation stack in the round's bytes (layout: crate layout): its depth in word 6, its values from word 328 on; and the mark in word 7. 01 "Handlers and steps", 02 M-104.
+-- The evaluation stack in the round's bytes (layout: crate format_layout): its depth in word 6, its values from word
+-- 328 on; and the mark in word 7. 01 "Handlers and steps", 02 M-104.
 use Prim.Native.Nat.{ℕ, _+_, _-_}
 use mathlib.Core.Bool.{Bool}
 use mathlib.Core.List.{List}

@@ -1,4 +1,5 @@
--- A fresh round, and what `start` does. 01 "A fresh round has start values, passives worked out from them by compile, an empty hand."
+-- A fresh round, and what `start` does. 01 "A fresh round has start values, passives worked out from them by compile,
+-- an empty hand."
 use Prim.Native.Nat.{ℕ, zero, suc, _+_}
 use mathlib.Core.List.{List}
 use lib.ListN.{length, getD, set, replicate}

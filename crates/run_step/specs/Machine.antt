@@ -1,5 +1,6 @@
--- What step does to the round's bytes, for all bytes (layout: crate layout): which of them (crates dispatch and advance). 01 "Handlers and steps", "Why a call was turned down".
--- A function that branches takes plain numbers; one that reads calls it.
+-- What step does to the round's bytes, for all bytes (layout: crate format_layout): which of them (crates dispatch and
+-- advance). 01 "Handlers and steps", "Why a call was turned down". A function that branches takes plain numbers; one
+-- that reads calls it.
 use Prim.Native.Nat.{ℕ, _-_}
 use mathlib.Core.Bool.{Bool}
 use mathlib.Core.List.{List}

@@ -1,4 +1,5 @@
-// Steps on the round's bytes, refused by 14 where table or round is foreign: which of a start, a preemption and an instruction a step does.
+// Steps on the round's bytes, refused by 14 where table or round is foreign: which of a start, a preemption and an
+// instruction a step does.
 ghost use mathlib.Core.Path.{_≡_};
 ghost use mathlib.Core.Logic.{_≢_};
 ghost use Prim.Native.Nat.{_-_, _≤_, _<_};
@@ -97,7 +98,8 @@ fn step_in(t: &[u8], l: &mut [u8]) -> u64
     step_with(t, l, n, f)
 }
 
-// One step: the next preempts, one instruction, the next starts, or idle. 14 where table, round or instruction is foreign.
+// One step: the next preempts, one instruction, the next starts, or idle. 14 where table, round or instruction is
+// foreign.
 pub fn step_at(t: &[u8], l: &mut [u8]) -> u64
     ensures { λ r. ⌜ result r (now (l .exit)) ≡ stepOn (now (t .entry)) (now (l .entry)) ⌝ }
 {

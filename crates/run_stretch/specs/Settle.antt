@@ -1,5 +1,6 @@
--- A stretch of a table's instructions on the round's bytes, for all bytes (layout: crate layout). 02, M-112: "at each instruction that the passives need".
--- The answer is 0, or foreign where one of them may not run (01 "Why a call was turned down"). A function that branches takes plain numbers; one that reads calls it.
+-- A stretch of a table's instructions on the round's bytes, for all bytes (layout: crate format_layout). 02, M-112: "at
+-- each instruction that the passives need". The answer is 0, or foreign where one of them may not run (01 "Why a call
+-- was turned down"). A function that branches takes plain numbers; one that reads calls it.
 use Prim.Native.Nat.{ℕ, zero, suc, _+_, _*_, _/_, _%_}
 use mathlib.Core.List.{List}
 use lib.Dec.{eqb}

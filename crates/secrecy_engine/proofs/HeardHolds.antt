@@ -1,5 +1,6 @@
--- The rule for a player with changes of sheets holds of the exported functions: by demand 3 with changes (crate rounds) their numbers are those of the two model engines, and of these the rule
--- holds (crate hidden). Which turns of the model engine are meant is settled by the sheets' bytes.
+-- The rule for a player with changes of sheets holds of the exported functions: by demand 3 with changes (crate
+-- refine_lists) their numbers are those of the two model engines, and of these the rule holds (crate secrecy_model).
+-- Which turns of the model engine are meant is settled by the sheets' bytes.
 use Prim.Native.Nat.{ℕ, _+_, _≤_, _<_}
 use mathlib.Core.Path.{_≡_, refl, sym, ap, _∙_, subst}
 use mathlib.Core.List.{List, [], _∷_, map, zipWith}

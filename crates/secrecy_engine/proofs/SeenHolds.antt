@@ -1,4 +1,5 @@
--- The rule for a player holds of the exported functions: by demand 3's theorem their numbers are those of the two sheets' model engines, and of these the rule holds (crate sight).
+-- The rule for a player holds of the exported functions: by demand 3's theorem their numbers are those of the two
+-- sheets' model engines, and of these the rule holds (crate secrecy_model).
 use Prim.Native.Nat.{ℕ, _+_, _≤_, _<_}
 use mathlib.Core.Path.{_≡_, sym, ap, _∙_}
 use mathlib.Core.List.{List, zipWith}

@@ -1,4 +1,5 @@
--- What a player gets of the numbers is a function of what it gets of the model engine's answers: a number that is told without its mark is the same whether the mark was set or not.
+-- What a player gets of the numbers is a function of what it gets of the model engine's answers: a number that is told
+-- without its mark is the same whether the mark was set or not.
 use Prim.Native.Nat.{ℕ}
 use mathlib.Core.Bool.{true, false}
 use mathlib.Core.Path.{_≡_, refl, ap}

@@ -1,5 +1,6 @@
--- Two matching lists of turns from sheets are one list of crate hidden's pairs, turn by turn; and what a player gets of the numbers is a function of that list and of what it gets of the
--- model engine's replies. By induction on the two lists.
+-- Two matching lists of turns from sheets are one list of crate secrecy_model's pairs, turn by turn; and what a player
+-- gets of the numbers is a function of that list and of what it gets of the model engine's replies. By induction on the
+-- two lists.
 use Prim.Native.Nat.{ℕ, _<_}
 use mathlib.Core.Bool.{Bool}
 use mathlib.Core.Path.{_≡_, refl, sym, ap, _∙_, subst}

@@ -1,6 +1,8 @@
--- The rule for a player with changes of sheets as a claim about the exported functions: `compileOn`, `startOn`, `callOn`, `mendOn`, `previewOn`, `forecastOn` and `toldOn` are what their
--- contracts cite. 02, M-112: "M-107's rule for a player needs its condition of both sheets, with the same behaviours hidden." Without changes: crate seen, Seen.antt. Turns from sheets, which
--- changes are among: crate rounds, Rounds.antt. `Sealed` and `AlikeBut` are crate sight's, `Sees` crate hidden's.
+-- The rule for a player with changes of sheets as a claim about the exported functions: `compileOn`, `startOn`,
+-- `callOn`, `mendOn`, `previewOn`, `forecastOn` and `toldOn` are what their contracts cite. 02, M-112: "M-107's rule
+-- for a player needs its condition of both sheets, with the same behaviours hidden." Without changes: crate
+-- secrecy_engine, Seen.antt. Turns from sheets, which changes are among: crate refine_lists, Rounds.antt. `Sealed` and
+-- `AlikeBut` are crate sight's, `Sees` crate hidden's.
 use Prim.Native.Nat.{ℕ, _≤_, _<_}
 use mathlib.Core.Bool.{Bool}
 use mathlib.Core.Path.{_≡_}
@@ -23,8 +25,8 @@ use Rattle.refine_lists.specs.Rounds.{SheetTurn, calling, mending, Compiles, on
 
 -- ---- "its condition of both sheets, with the same behaviours hidden"
 
--- the bytes s and z, with the parameters ps, are of two sheets that differ only in start values of hidden behaviours; no behaviour that the player sees depends on a hidden one; and those
--- that it sees are the ones in `seen`
+-- the bytes s and z, with the parameters ps, are of two sheets that differ only in start values of hidden behaviours;
+-- no behaviour that the player sees depends on a hidden one; and those that it sees are the ones in `seen`
 pub record Condition (player : ℕ) (seen : ℕ → Bool) (ps s z : List ℕ) : Type 0 where
   pub one : Sheet
   pub other : Sheet
@@ -36,7 +38,8 @@ pub record Condition (player : ℕ) (seen : ℕ → Bool) (ps s z : List ℕ) : 
   pub sealed : Sealed (programOf ps one) player
   pub sees : Sees player seen (programOf ps one)
 
--- ---- "the same calls in the same order and the same parameters": a turn in one round and the turn in the other, in tables of their own
+-- ---- "the same calls in the same order and the same parameters": a turn in one round and the turn in the other, in
+-- tables of their own
 
 abbrev pub Matches : ℕ → (ℕ → Bool) → SheetTurn → SheetTurn → Type 0
 Matches player seen (calling c) (calling d) = c ≡ d
@@ -57,7 +60,8 @@ abbrev pub hearsIn : ℕ → SheetTurn → ℕ → Option ℕ
 hearsIn player (calling c) v = hearsOn player c v
 hearsIn player (mending s ps t) v = some v
 
--- of the turns xs on the bytes b, and ys on the bytes c; and of a preview of this player's and the count of steps to idle, called after them on the table then in force
+-- of the turns xs on the bytes b, and ys on the bytes c; and of a preview of this player's and the count of steps to
+-- idle, called after them on the table then in force
 pub record HeardAlike (player : ℕ) (b : Bytes) (xs : List SheetTurn) (c : Bytes) (ys : List SheetTurn) : Type 0 where
   pub turns : zipWith (hearsIn player) xs (numbersOn (map onBytes xs) b) ≡ zipWith (hearsIn player) ys (numbersOn (map onBytes ys) c)
   pub preview : (e i : ℕ)
@@ -66,7 +70,8 @@ pub record HeardAlike (player : ℕ) (b : Bytes) (xs : List SheetTurn) (c : Byte
   pub forecast : forecastOn (bytesAfter (map onBytes xs) b .table) (bytesAfter (map onBytes xs) b .round)
       ≡ forecastOn (bytesAfter (map onBytes ys) c .table) (bytesAfter (map onBytes ys) c .round)
 
--- every player, every two such sheets that compile accepts as the bytes s and z with the same parameters ps, in any table and round bytes of 01's lengths, and every two such lists
+-- every player, every two such sheets that compile accepts as the bytes s and z with the same parameters ps, in any
+-- table and round bytes of 01's lengths, and every two such lists
 abbrev pub RuleOn : Type 0
 RuleOn =
     (player : ℕ) (seen : ℕ → Bool) (s z ps t₀ l₀ t₁ l₁ : List ℕ) → All (λ b. b < 256) s → All (λ b. b < 256) z → All (λ b. b < 256) ps → 2048 ≤ length l₀ → 2048 ≤ length l₁

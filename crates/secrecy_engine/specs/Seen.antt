@@ -1,7 +1,9 @@
--- The rule for a player as a claim about the exported functions: `compileOn`, `startOn`, `arriveOn`, `stepOn`, `boardOn`, `previewOn`, `forecastOn` and `toldOn` are what their contracts
--- cite. 02, M-107: "For a player it shall hold: if no behaviour this player sees depends on a hidden one (by a name in its expression or in a handler of either phase, directly or
--- by a chain), then two rounds, from fresh on with the same calls in the same order and the same parameters, their sheets differing only in start values of hidden behaviours, give
--- this player equal answers, refusals included." `Sealed` and `AlikeBut` are crate sight's, Sight.antt.
+-- The rule for a player as a claim about the exported functions: `compileOn`, `startOn`, `arriveOn`, `stepOn`,
+-- `boardOn`, `previewOn`, `forecastOn` and `toldOn` are what their contracts cite. 02, M-107: "For a player it shall
+-- hold: if no behaviour this player sees depends on a hidden one (by a name in its expression or in a handler of either
+-- phase, directly or by a chain), then two rounds, from fresh on with the same calls in the same order and the same
+-- parameters, their sheets differing only in start values of hidden behaviours, give this player equal answers,
+-- refusals included." `Sealed` and `AlikeBut` are crate secrecy_model's, Sight.antt.
 use Prim.Native.Nat.{ℕ, _≤_, _<_}
 use mathlib.Core.Path.{_≡_}
 use mathlib.Core.Option.{Option, none, some}
@@ -21,20 +23,22 @@ use Rattle.run_preview.specs.Preview.{previewOn}
 use Rattle.refine_calls.specs.Refinement.{toldOn, answersOn, roundAfter}
 use Rattle.back_compile.specs.Verdict.{programOf, compileOn}
 
--- what a player gets of the number that a call gives: that of its own arrival or board reading, a step's as the host alone gets it and the others by the further call, and none of
--- the others' calls
+-- what a player gets of the number that a call gives: that of its own arrival or board reading, a step's as the host
+-- alone gets it and the others by the further call, and none of the others' calls
 abbrev pub hearsOn : ℕ → Call → ℕ → Option ℕ
 hearsOn player (arrive e who) v = pick (eqb who player) (some v) none
 hearsOn player step v = some (pick (eqb player 0) v (toldOn v))
 hearsOn player (board i who) v = pick (eqb who player) (some v) none
 
--- of the calls cs on the table t and the round l, and on the table u and the round m; and of a preview of this player's and the count of steps to idle, called after them
+-- of the calls cs on the table t and the round l, and on the table u and the round m; and of a preview of this player's
+-- and the count of steps to idle, called after them
 pub record SeenAlike (player : ℕ) (t l u m : List ℕ) (cs : List Call) : Type 0 where
   pub calls : zipWith (hearsOn player) cs (answersOn t cs l) ≡ zipWith (hearsOn player) cs (answersOn u cs m)
   pub preview : (e i : ℕ) → previewOn t (roundAfter t cs l) e i player ≡ previewOn u (roundAfter u cs m) e i player
   pub forecast : forecastOn t (roundAfter t cs l) ≡ forecastOn u (roundAfter u cs m)
 
--- every player, every two sheets x and y that compile accepts as the bytes s and z with the same parameters ps, in any table and round bytes of 01's lengths, and every list of calls
+-- every player, every two sheets x and y that compile accepts as the bytes s and z with the same parameters ps, in any
+-- table and round bytes of 01's lengths, and every list of calls
 abbrev pub PlayersRuleOn : Type 0
 PlayersRuleOn =
     (player : ℕ) (s z ps t₀ l₀ t₁ l₁ : List ℕ) → All (λ b. b < 256) s → All (λ b. b < 256) z → All (λ b. b < 256) ps → 2048 ≤ length l₀ → 2048 ≤ length l₁

@@ -1,5 +1,6 @@
--- The rule for a player holds of model engines. Both engines have the same control, so the same refusals, steps and commits; where a board is read or shown after a preview, no
--- copy-back is under way, and the store is that of the commits, on which the two agree in what the player sees. To the host nothing is hidden: both programs are one.
+-- The rule for a player holds of model engines. Both engines have the same control, so the same refusals, steps and
+-- commits; where a board is read or shown after a preview, no copy-back is under way, and the store is that of the
+-- commits, on which the two agree in what the player sees. To the host nothing is hidden: both programs are one.
 use Prim.Native.Nat.{ℕ, _<_}
 use mathlib.Core.Bool.{true, false}
 use mathlib.Core.Path.{_≡_, refl, sym, ap, _∙_, subst}

@@ -1,5 +1,6 @@
--- What an engine does next hangs on its control alone, the number taken in, the waiting and the running one, and not on its values: these are seen only by a board reading and
--- in a commit's mark. So two engines whose programs have the same code go on alike. An engine is held against the one with its control and no values.
+-- What an engine does next hangs on its control alone, the number taken in, the waiting and the running one, and not on
+-- its values: these are seen only by a board reading and in a commit's mark. So two engines whose programs have the
+-- same code go on alike. An engine is held against the one with its control and no values.
 use Prim.Native.Nat.{ℕ, _+_, max}
 use mathlib.Core.Path.{_≡_, refl, sym, ap, _∙_}
 use mathlib.Core.List.{List, [], _∷_, map, foldr, sum}

@@ -1,4 +1,5 @@
--- The rule for a player holds with changes of sheets: two fresh rounds are twins, and each turn keeps them so. To the host nothing is hidden: both rounds are one. By induction on the turns.
+-- The rule for a player holds with changes of sheets: two fresh rounds are twins, and each turn keeps them so. To the
+-- host nothing is hidden: both rounds are one. By induction on the turns.
 use Prim.Native.Nat.{ℕ}
 use mathlib.Core.Bool.{Bool, false}
 use mathlib.Core.Path.{_≡_, refl, sym, ap, subst}

@@ -1,5 +1,5 @@
--- A change to programs alike keeps two such states so, and is answered alike: the tests of a change look at the control alone, and the carried stores agree on what the player sees, since
--- the same behaviours were hidden before.
+-- A change to programs alike keeps two such states so, and is answered alike: the tests of a change look at the control
+-- alone, and the carried stores agree on what the player sees, since the same behaviours were hidden before.
 use Prim.Native.Nat.{ℕ, _<_}
 use mathlib.Core.Bool.{Bool, true, false, _&&_}
 use mathlib.Core.Path.{_≡_, refl, sym, ap, _∙_, subst}

@@ -1,5 +1,6 @@
--- Both conditions of the rule are needed: a player who sees a behaviour that follows a hidden one gets other values, and one who were told the mark would get other marks. Two pairs
--- of sheets, each pair alike but for a hidden start value, and the model engine computes what it answers.
+-- Both conditions of the rule are needed: a player who sees a behaviour that follows a hidden one gets other values,
+-- and one who were told the mark would get other marks. Two pairs of sheets, each pair alike but for a hidden start
+-- value, and the model engine computes what it answers.
 use Prim.Native.Nat.{ℕ}
 use mathlib.Core.Bool.{Bool, true, false, true≢false}
 use mathlib.Core.Path.{_≡_, refl, sym, ap, _∙_}

@@ -1,5 +1,6 @@
--- That the same behaviours are hidden is needed: where the host alone sees b0 and a change shows it to all, player 1 reads the start value that was hidden from it. Two sheets alike but for
--- that value, both changed to one sheet, and the model engine computes what it answers.
+-- That the same behaviours are hidden is needed: where the host alone sees b0 and a change shows it to all, player 1
+-- reads the start value that was hidden from it. Two sheets alike but for that value, both changed to one sheet, and
+-- the model engine computes what it answers.
 use Prim.Native.Nat.{ℕ}
 use mathlib.Core.Bool.{true≢false}
 use mathlib.Core.Path.{_≡_, refl, sym, ap, _∙_}

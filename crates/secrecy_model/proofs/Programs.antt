@@ -1,5 +1,6 @@
--- The programs of two sheets that are alike but for hidden start values: the same but for these, so that every event has the same code in both. The code is written as
--- a function of the number of behaviours and of what each does on the event; start values are in neither.
+-- The programs of two sheets that are alike but for hidden start values: the same but for these, so that every event
+-- has the same code in both. The code is written as a function of the number of behaviours and of what each does on the
+-- event; start values are in neither.
 use Prim.Native.Nat.{ℕ, zero, suc, _+_, _-_}
 use mathlib.Core.Bool.{Bool, true, false, not}
 use mathlib.Core.Path.{_≡_, refl, sym, ap, _∙_, subst}
@@ -31,7 +32,8 @@ pub record Alike (player : ℕ) (p q : Program) : Type 0 where
   pub sizes : size p ≡ size q
   pub each : (i : ℕ) → BehaviourAlike (maySee p player i) (behaviourAt p i) (behaviourAt q i)
 
--- ---- of two sheets, their rows written out: the same numbers are first cells of rows in both, so the cells' names mean the same
+-- ---- of two sheets, their rows written out: the same numbers are first cells of rows in both, so the cells' names
+-- mean the same
 
 module _ (player : ℕ) where
   cells-same : (seen : Bool) (x y : Item) → ItemAlike seen x y → cells x ≡ cells y

@@ -1,5 +1,5 @@
--- Stores that agree on what a player sees agree on it after an event, from fresh on: what is seen hangs on what is seen. Along the needs of each phase, both stores solving
--- the same equations.
+-- Stores that agree on what a player sees agree on it after an event, from fresh on: what is seen hangs on what is
+-- seen. Along the needs of each phase, both stores solving the same equations.
 use Prim.Native.Nat.{ℕ, _≤_, _<_}
 use mathlib.Core.Bool.{Bool, true, false, not, false≢true, and-eq-true-iff}
 use mathlib.Core.Path.{_≡_, refl, sym, ap, _∙_, subst}
@@ -70,7 +70,8 @@ response-in n j (takes x) h e = named-in n j x h e
 response-in n j (defers x) h e = named-in n j x h e
 response-in n j keeps h e = absurd (false≢true e)
 
--- the second-phase value of i hangs on the old value and the first-phase value of i, and on the values in both phases of the names in its expression
+-- the second-phase value of i hangs on the old value and the first-phase value of i, and on the values in both phases
+-- of the names in its expression
 second-local : (s t : List ℕ) (i : ℕ) (r : Response) (f g look see : ℕ → ℕ) → at s i ≡ at t i → f i ≡ g i → ((j : ℕ) → inResponse j r ≡ true → f j ≡ g j)
     → ((j : ℕ) → needs i j r ≡ true → look j ≡ see j) → secondOf s f look i r ≡ secondOf t g see i r
 second-local s t i (follows x) f g look see o k h n = value-same look see x n

@@ -1,5 +1,6 @@
--- Two states of programs alike, with the same control and with stores that agree on what the player sees, stay so at the same call, and answer the player alike. The stores meant are those
--- that the running event began from: what it has done so far follows from them.
+-- Two states of programs alike, with the same control and with stores that agree on what the player sees, stay so at
+-- the same call, and answer the player alike. The stores meant are those that the running event began from: what it has
+-- done so far follows from them.
 use Prim.Native.Nat.{ℕ, _≤_, _<_}
 use mathlib.Core.Bool.{Bool, true, false}
 use mathlib.Core.Path.{_≡_, refl, sym, ap, _∙_, subst}

@@ -1,5 +1,5 @@
--- The rule for a player with changes of sheets. 02, M-112: "M-107's rule for a player needs its condition of both sheets, with the same behaviours hidden." Here of model engines. The
--- rule itself: crate sight, Sight.antt.
+-- The rule for a player with changes of sheets. 02, M-112: "M-107's rule for a player needs its condition of both
+-- sheets, with the same behaviours hidden." Here of model engines. The rule itself: crate secrecy_model, Sight.antt.
 use Prim.Native.Nat.{ℕ, _<_}
 use mathlib.Core.Bool.{Bool}
 use mathlib.Core.Path.{_≡_}
@@ -23,7 +23,8 @@ use Rattle.secrecy_model.specs.Sight.{Sealed, AlikeBut, hears}
 abbrev pub Sees : ℕ → (ℕ → Bool) → Program → Type 0
 Sees player seen p = (i : ℕ) → i < size p → maySee p player i ≡ seen i
 
--- two sheets, with the same parameters, differ only in start values of hidden behaviours, and no behaviour that the player sees depends on a hidden one
+-- two sheets, with the same parameters, differ only in start values of hidden behaviours, and no behaviour that the
+-- player sees depends on a hidden one
 pub record Condition (player : ℕ) (seen : ℕ → Bool) (v : ℕ → ℕ) (s t : Sheet) : Type 0 where
   pub alike : AlikeBut player s t
   pub sealed : Sealed (fill v s) player
@@ -64,7 +65,8 @@ hearsOf player (change q) r = some r
 abbrev pub heardOf : ℕ → List Turn → State → List (Option Reply)
 heardOf player ts s = zipWith (hearsOf player) ts (replies ts s)
 
--- of the turns l, from fresh rounds of p and q; and of a preview of this player's and the count of steps to idle after them
+-- of the turns l, from fresh rounds of p and q; and of a preview of this player's and the count of steps to idle after
+-- them
 pub record EqualReplies (player : ℕ) (p q : Program) (l : List Pair) : Type 0 where
   pub turns : heardOf player (map inOne l) (begun p) ≡ heardOf player (map inOther l) (begun q)
   pub preview : (e i : ℕ)

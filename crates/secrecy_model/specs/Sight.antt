@@ -1,6 +1,8 @@
--- The rule for a player. 02, M-107: "For a player it shall hold: if no behaviour this player sees depends on a hidden one (by a name in its expression or in a handler of either
--- phase, directly or by a chain), then two rounds, from fresh on with the same calls in the same order and the same parameters, their sheets differing only in start values of
--- hidden behaviours, give this player equal answers, refusals included." Here of model engines; of the exported functions' numbers: crate seen, Seen.antt.
+-- The rule for a player. 02, M-107: "For a player it shall hold: if no behaviour this player sees depends on a hidden
+-- one (by a name in its expression or in a handler of either phase, directly or by a chain), then two rounds, from
+-- fresh on with the same calls in the same order and the same parameters, their sheets differing only in start values
+-- of hidden behaviours, give this player equal answers, refusals included." Here of model engines; of the exported
+-- functions' numbers: crate secrecy_engine, Seen.antt.
 use Prim.Native.Nat.{ℕ}
 use mathlib.Core.Bool.{Bool, true, false, _||_}
 use mathlib.Core.Path.{_≡_}
@@ -31,13 +33,15 @@ inBehaviour j (active s hs) = inHandlers j hs
 abbrev pub names : Program → ℕ → ℕ → Bool
 names p i j = inBehaviour j (behaviourAt p i)
 
--- "no behaviour this player sees depends on a hidden one .. directly or by a chain": whatever a chain of names leads to from one that it sees, it sees
+-- "no behaviour this player sees depends on a hidden one .. directly or by a chain": whatever a chain of names leads to
+-- from one that it sees, it sees
 abbrev pub Sealed : Program → ℕ → Type 0
 Sealed p player = (i j : ℕ) → maySee p player i ≡ true → Reach (names p) i j → maySee p player j ≡ true
 
 -- ---- "their sheets differing only in start values of hidden behaviours"
 
--- two behaviours or rows, seen or hidden: the same but for the start value of a hidden active or of a hidden row's cells
+-- two behaviours or rows, seen or hidden: the same but for the start value of a hidden active or of a hidden row's
+-- cells
 abbrev pub ItemAlike : Bool → Item → Item → Type 0
 ItemAlike seen (formula x) (formula y) = x ≡ y
 ItemAlike seen (formula x) (state t ds) = ⊥
@@ -63,7 +67,8 @@ AlikeBut player s t = (s .signals ≡ t .signals) × EntriesAlike player (s .ent
 
 -- ---- "equal answers, refusals included"
 
--- what a player gets of a call's answer: that to its own arrival or board reading, a step's as it is told to this player, and none of the others' calls
+-- what a player gets of a call's answer: that to its own arrival or board reading, a step's as it is told to this
+-- player, and none of the others' calls
 abbrev pub hears : ℕ → Call → Answer → Option Answer
 hears player (arrive e who) a = pick (eqb who player) (some a) none
 hears player step a = some (toldTo player a)
@@ -73,7 +78,8 @@ hears player (board i who) a = pick (eqb who player) (some a) none
 abbrev pub heard : ℕ → Program → List Call → List (Option Answer)
 heard player p cs = zipWith (hears player) cs (said p cs)
 
--- of the calls cs, from fresh rounds of p and q; and of the calls that leave a round as it is, made after them: a preview of this player's, and the count of steps to idle
+-- of the calls cs, from fresh rounds of p and q; and of the calls that leave a round as it is, made after them: a
+-- preview of this player's, and the count of steps to idle
 pub record EqualAnswers (player : ℕ) (p q : Program) (cs : List Call) : Type 0 where
   pub calls : heard player p cs ≡ heard player q cs
   pub preview : (e i : ℕ) → previewed p (after p cs) e i player ≡ previewed q (after q cs) e i player

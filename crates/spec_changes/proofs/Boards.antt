@@ -1,5 +1,6 @@
--- Unless a copy-back is under way, the store is that of the history: each commit under its sheet, each change at its place. The running event has done its first instructions from that
--- store and left it alone, so a change carries that store.
+-- Unless a copy-back is under way, the store is that of the history: each commit under its sheet, each change at its
+-- place. The running event has done its first instructions from that store and left it alone, so a change carries that
+-- store.
 use Prim.Native.Nat.{ℕ}
 use mathlib.Core.Bool.{false}
 use mathlib.Core.Path.{_≡_, refl, sym, ap, _∙_, subst}

@@ -1,5 +1,5 @@
--- The carried store is settled, and it is the one that the rules give: under no event the actives keep what they begin with, and the passives follow from the actives. From one program
--- to itself a settled store stays.
+-- The carried store is settled, and it is the one that the rules give: under no event the actives keep what they begin
+-- with, and the passives follow from the actives. From one program to itself a settled store stays.
 use Prim.Native.Nat.{ℕ, _<_}
 use mathlib.Core.Bool.{true, false, false≢true, and-eq-true-iff}
 use mathlib.Core.Path.{_≡_, refl, sym, ap, _∙_, subst}

@@ -1,4 +1,5 @@
--- Demand 3 holds of the model engine on every list of turns, the first program and each that a change goes to being valid. The sentences are those of Claims.
+-- Demand 3 holds of the model engine on every list of turns, the first program and each that a change goes to being
+-- valid. The sentences are those of Claims.
 use mathlib.Core.List.{List}
 use Rattle.lib_base.specs.Basics.{All}
 use Rattle.spec_language.specs.Syntax.{Program}

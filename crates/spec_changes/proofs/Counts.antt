@@ -1,4 +1,5 @@
--- Counts of steps run from the last change: turns that change no sheet act as their calls do under the program in force, of which model's theorems hold from every engine that is reached.
+-- Counts of steps run from the last change: turns that change no sheet act as their calls do under the program in
+-- force, of which model's theorems hold from every engine that is reached.
 use Prim.Native.Nat.{ℕ, suc, _+_, _≤_, _<_}
 use mathlib.Core.Bool.{Bool, true}
 use mathlib.Core.Path.{_≡_, refl, sym, ap, _∙_, subst}

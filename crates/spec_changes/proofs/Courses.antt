@@ -1,5 +1,7 @@
--- Two courses with the same changes after the same commits lead to one store, if in each sheet those of unequal priority are independent and those of equal priority go by number: under each
--- sheet the commits are confluent, and a change is a function of the store. What was committed under the last sheet is what is left of the same arrivals. By induction on the courses.
+-- Two courses with the same changes after the same commits lead to one store, if in each sheet those of unequal
+-- priority are independent and those of equal priority go by number: under each sheet the commits are confluent, and a
+-- change is a function of the store. What was committed under the last sheet is what is left of the same arrivals. By
+-- induction on the courses.
 use Prim.Native.Nat.{ℕ, _<_}
 use mathlib.Core.Path.{_≡_, refl, sym, ap, _∙_, subst}
 use mathlib.Core.List.{List, [], _∷_, _++_, List·Nodup, nodup-append, Pairwise, Pairwise·nil, Pairwise·cons, pairwise-cons, Pairwise·of-cons}

@@ -1,5 +1,6 @@
--- Commits of equal priority are in order of number, by the priorities in force at the first of them: the running one has the lowest number of its priority, so what is committed stands
--- before the hand, and stays so when the sheet changes, since it was said of the old priorities.
+-- Commits of equal priority are in order of number, by the priorities in force at the first of them: the running one
+-- has the lowest number of its priority, so what is committed stands before the hand, and stays so when the sheet
+-- changes, since it was said of the old priorities.
 use Prim.Native.Nat.{ℕ, _+_, _<_}
 use mathlib.Core.Path.{_≡_, refl, ap}
 use mathlib.Core.HLevel.{→-prop}

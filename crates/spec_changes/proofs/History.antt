@@ -1,5 +1,6 @@
--- What each turn keeps, of a state with its history, holds after every list of turns. A call makes one of model's moves under the program in force; a change is refused and leaves all
--- as it is, or carries the engine to the new program. By induction on the turns still to come, those made being a parameter.
+-- What each turn keeps, of a state with its history, holds after every list of turns. A call makes one of model's moves
+-- under the program in force; a change is refused and leaves all as it is, or carries the engine to the new program. By
+-- induction on the turns still to come, those made being a parameter.
 use Prim.Native.Nat.{ℕ, _+_, _<_}
 use mathlib.Core.Bool.{true, false}
 use mathlib.Core.Path.{_≡_, refl, sym, ap, _∙_, subst}

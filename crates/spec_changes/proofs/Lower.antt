@@ -1,5 +1,7 @@
--- A lower priority, by those in force when it commits, goes before a higher one only if that was taken in after the lower's copy-back began. At the second off nothing waiting outranks the
--- running one, and no sheet changes during a copy-back: so what outranks it at its commit has a later number, and the priorities of a later sheet say nothing about it.
+-- A lower priority, by those in force when it commits, goes before a higher one only if that was taken in after the
+-- lower's copy-back began. At the second off nothing waiting outranks the running one, and no sheet changes during a
+-- copy-back: so what outranks it at its commit has a later number, and the priorities of a later sheet say nothing
+-- about it.
 use Prim.Native.Nat.{ℕ, _+_, _≤_, _<_}
 use mathlib.Core.Bool.{true, false≢true}
 use mathlib.Core.Path.{_≡_, refl, sym, subst}
@@ -36,7 +38,8 @@ abbrev After : Program → Arrival → ℕ → Arrival → Type 0
 After p a n b = rank p a < rank p b → n ≤ b .number
 
 module _ (p₀ : Program) where
-  -- ---- a moment at which the copy-back of a is under way: what outranks a, among these, has no number yet, and fewer than t are taken in
+  -- ---- a moment at which the copy-back of a is under way: what outranks a, among these, has no number yet, and fewer
+  -- than t are taken in
 
   pub record Began (past : List Turn) (p : Program) (a : Arrival) (t : ℕ) (l : List Arrival) : Type 0 where
     pub before : List Turn

@@ -1,4 +1,5 @@
--- Each arrival taken in is committed once or is in the hand, whatever changes are made: taken in are the committed and those in hand, up to order, and each turn keeps that.
+-- Each arrival taken in is committed once or is in the hand, whatever changes are made: taken in are the committed and
+-- those in hand, up to order, and each turn keeps that.
 use Prim.Native.Nat.{ℕ, _+_, _<_}
 use mathlib.Core.Path.{_≡_, refl}
 use mathlib.Core.Logic.{_≢_}

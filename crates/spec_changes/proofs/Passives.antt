@@ -1,5 +1,6 @@
--- The instructions that work out the passives, of an event or of none (language `againCode`), run with all of the store in scratch: they give the passives of the carried store, use no
--- more than the stack has and leave it empty. By the laws of the second phase, and since the passives follow from the actives alone.
+-- The instructions that work out the passives, of an event or of none (language `againCode`), run with all of the store
+-- in scratch: they give the passives of the carried store, use no more than the stack has and leave it empty. By the
+-- laws of the second phase, and since the passives follow from the actives alone.
 use Prim.Native.Nat.{ℕ, _+_, _≤_, _<_}
 use mathlib.Core.Bool.{true, false, false≢true}
 use mathlib.Core.Path.{_≡_, refl, sym, ap, _∙_, subst}

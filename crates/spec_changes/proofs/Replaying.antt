@@ -1,5 +1,6 @@
--- By the rules of Figure 1 a history leads to the store that it replays, and to no other: every commit's event is declared in the program in force, which each turn keeps, and rules and
--- evaluator agree on each moment. By induction on the history.
+-- By the rules of Figure 1 a history leads to the store that it replays, and to no other: every commit's event is
+-- declared in the program in force, which each turn keeps, and rules and evaluator agree on each moment. By induction
+-- on the history.
 use Prim.Native.Nat.{ℕ, _≤_, _<_}
 use mathlib.Core.Path.{_≡_, refl, sym, _∙_, subst}
 use mathlib.Core.List.{List, [], _∷_, _++_}

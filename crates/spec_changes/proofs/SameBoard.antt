@@ -1,5 +1,6 @@
--- Two lists of turns that take in the same events in the same order, with the same changes after the same commits and independence in each sheet, end in one store when both are idle:
--- each commits what it took in, so their courses hold the same arrivals.
+-- Two lists of turns that take in the same events in the same order, with the same changes after the same commits and
+-- independence in each sheet, end in one store when both are idle: each commits what it took in, so their courses hold
+-- the same arrivals.
 use Prim.Native.Nat.{ℕ, suc}
 use mathlib.Core.Bool.{false}
 use mathlib.Core.Path.{_≡_, refl, sym, ap, _∙_, subst}

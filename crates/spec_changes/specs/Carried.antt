@@ -16,8 +16,9 @@ use Rattle.spec_semantics.specs.Rules.{Shows}
 abbrev pub activeIn : Program → ℕ → Bool
 activeIn p i = ltb i (size p) && isActive (behaviourAt p i)
 
--- "Actives that are active in both keep their value, other actives take the new start": of a behaviour of the new program, its number being an active's in the old or not, and its
--- value there. A passive's place is 0 until it is worked out.
+-- "Actives that are active in both keep their value, other actives take the new start": of a behaviour of the new
+-- program, its number being an active's in the old or not, and its value there. A passive's place is 0 until it is
+-- worked out.
 abbrev pub begins : Bool → ℕ → Behaviour → ℕ
 begins both v (passive x) = 0
 begins both v (active c hs) = pick both v c

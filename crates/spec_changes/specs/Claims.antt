@@ -1,5 +1,5 @@
--- Demand 3 with changes of sheets, in terms of the model engine: what is said of every list of turns from the initial engine of a program. 02, M-112. Without a change they are the
--- sentences of model's Claims.
+-- Demand 3 with changes of sheets, in terms of the model engine: what is said of every list of turns from the initial
+-- engine of a program. 02, M-112. Without a change they are the sentences of model's Claims.
 use Prim.Native.Nat.{ℕ, _+_, _*_, _≤_, _<_}
 use mathlib.Core.Bool.{Bool, true, false}
 use mathlib.Core.Path.{_≡_}
@@ -125,7 +125,8 @@ replayed p [] s = s
 replayed p (commits a ∷ h) s = replayed p h (event p (a .event) s)
 replayed p (changes q ∷ h) s = replayed q h (carried p q s)
 
--- "unless a copy-back is under way, the board equals what demand 2's rules give for the committed events, one by one, undivided, in order of commitment"
+-- "unless a copy-back is under way, the board equals what demand 2's rules give for the committed events, one by one,
+-- undivided, in order of commitment"
 abbrev pub BoardOfCommits : Program → List Turn → Type 0
 BoardOfCommits p ts = settlingIn (inForce (after p ts)) (engineIn (after p ts)) ≡ false → storeIn (after p ts) ≡ replayed p (historyOf p ts) (fresh p)
 
@@ -151,7 +152,8 @@ OnceEach p ts =
     × List·Nodup (map (λ (a : Arrival). a .number) (takenInBy p ts))
     × (IdleIn (after p ts) → List·Permᴰ (takenInBy p ts) (committedIn p ts))
 
--- "between two events, ranks are those in force when the first commits": of this commit and a later one, or one still in hand
+-- "between two events, ranks are those in force when the first commits": of this commit and a later one, or one still
+-- in hand
 abbrev pub EqualTo : Commit → Arrival → Type 0
 EqualTo x b = rank (x .under) (x .what) ≡ rank (x .under) b
 
@@ -178,7 +180,8 @@ LowerFirst p ts =
     Pairwise (λ (x y : Commit). LowerThan x (y .what) → Later p ts (x .what) (y .what)) (commitsUnder p (historyOf p ts))
     × All (λ (x : Commit). All (λ b. LowerThan x b → Later p ts (x .what) b) (handIn (after p ts))) (commitsUnder p (historyOf p ts))
 
--- ---- counts of steps. "counts of steps, M-100's too, run from the last" change: the turns us after ts change no sheet, L and the instruction counts being those of the program in force
+-- ---- counts of steps. "counts of steps, M-100's too, run from the last" change: the turns us after ts change no
+-- sheet, L and the instruction counts being those of the program in force
 
 abbrev pub NotCarried : Reply → Type 0
 NotCarried (says a) = Unit {0}
@@ -208,14 +211,16 @@ SettlesIn p ts =
     → countIn (after p ts) ≤ stepsIn us → IdleIn (after p (ts ++ us)))
     × (length (handIn (after p ts)) ≡ 0 → IdleIn (after p ts))
 
--- M-100: "with nothing running and no further arrivals, idle shall come after exactly the sum, over the hand, of each event's instruction count plus one"
+-- M-100: "with nothing running and no further arrivals, idle shall come after exactly the sum, over the hand, of each
+-- event's instruction count plus one"
 abbrev pub QuietExactly : Program → List Turn → Type 0
 QuietExactly p ts =
     AtRest (engineIn (after p ts)) → (us : List Turn) → Unchanged us (after p ts) → numberIn (after p (ts ++ us)) ≡ numberIn (after p ts)
     → (stepsIn us < stepsOf (inForce (after p ts)) (handIn (after p ts)) → IdleIn (after p (ts ++ us)) → ⊥)
     × (stepsOf (inForce (after p ts)) (handIn (after p ts)) ≤ stepsIn us → IdleIn (after p (ts ++ us)))
 
--- M-113: "If during the next (k + 1) × (L + 1) steps nothing of higher rank arrives and no sheet is changed, that arrival is committed by the end of them."
+-- M-113: "If during the next (k + 1) × (L + 1) steps nothing of higher rank arrives and no sheet is changed, that
+-- arrival is committed by the end of them."
 abbrev pub takenThen : Program → List Turn → List Turn → List Arrival
 takenThen p ts us = takenTurns us (replies us (after p ts)) (numberIn (after p ts))
 
@@ -230,14 +235,16 @@ NobodyWaits p ts =
 
 -- ---- demand 2, M-101 and M-104, with the program in force
 
--- "An event run alone": from an idle round, an event that is taken in and stepped to its commit leaves the store of its meaning
+-- "An event run alone": from an idle round, an event that is taken in and stepped to its commit leaves the store of its
+-- meaning
 abbrev pub AloneRight : Program → List Turn → Type 0
 AloneRight p ts =
     IdleIn (after p ts) → (e who : ℕ) → e < events (inForce (after p ts)) → who < 8 → maySend (inForce (after p ts)) who e ≡ true → numberIn (after p ts) < 1000000
     → (historyOf p (ts ++ map call (aloneCalls (inForce (after p ts)) e who)) ≡ historyOf p ts ++ (commits (arrival (numberIn (after p ts)) e who) ∷ []))
     × (storeIn (after p (ts ++ map call (aloneCalls (inForce (after p ts)) e who))) ≡ event (inForce (after p ts)) e (storeIn (after p ts)))
 
--- whichever way the round is then run to idle, no further arrival taken in and no sheet changed, the board shows the previewed value
+-- whichever way the round is then run to idle, no further arrival taken in and no sheet changed, the board shows the
+-- previewed value
 abbrev pub PreviewRight : Program → List Turn → Type 0
 PreviewRight p ts =
     (e i who : ℕ) (us : List Turn) → i < size (inForce (after p ts)) → maySee (inForce (after p ts)) who i ≡ true
@@ -247,13 +254,15 @@ PreviewRight p ts =
     → IdleIn (after p (ts ++ (call (arrive e who) ∷ us)))
     → previewed (inForce (after p ts)) (engineIn (after p ts)) e i who ≡ shows (at (storeIn (after p (ts ++ (call (arrive e who) ∷ us)))) i)
 
--- "the committing step's answer carries a mark: set exactly if some application in that event's meaning did so": of a step called after the list, on the store of the history so far
+-- "the committing step's answer carries a mark: set exactly if some application in that event's meaning did so": of a
+-- step called after the list, on the store of the history so far
 abbrev pub MarkRight : Program → List Turn → Type 0
 MarkRight p ts =
     (a : Arrival) (m : Bool) → turn (call step) (after p ts) .reply ≡ says (committed a m)
     → (a .event < events (inForce (after p ts))) × (m ≡ eventOver (inForce (after p ts)) (a .event) (replayed p (historyOf p ts) (fresh p)))
 
--- ---- two lists. "equal boards on two phones need independence in each sheet and the same change after the same commits"
+-- ---- two lists. "equal boards on two phones need independence in each sheet and the same change after the same
+-- commits"
 
 -- a history by sheets: the commits under one, then the change to the next and what follows
 pub data Course : Type 0 where
@@ -288,7 +297,8 @@ abbrev pub ApartEach : Program → Course → Type 0
 ApartEach p (last l) = ApartIn p l
 ApartEach p (then l q c) = ApartIn p l × ApartEach q c
 
--- "for every two such lists on one sheet, taking in the same events in the same order, ..: when both are idle, their boards are equal"
+-- "for every two such lists on one sheet, taking in the same events in the same order, ..: when both are idle, their
+-- boards are equal"
 abbrev pub SameBoard : Program → List Turn → List Turn → Type 0
 SameBoard p ts us =
     eventsOf (takenInBy p ts) ≡ eventsOf (takenInBy p us)

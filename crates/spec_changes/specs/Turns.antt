@@ -1,5 +1,6 @@
--- The model engine with changes of sheets. 02, M-112: "A round is carried to a newly compiled table. .. Demand 3's lists may hold such changes, the model engine making them too".
--- It is fed the programs and each call's kind and arguments, never an answer.
+-- The model engine with changes of sheets. 02, M-112: "A round is carried to a newly compiled table. .. Demand 3's
+-- lists may hold such changes, the model engine making them too". It is fed the programs and each call's kind and
+-- arguments, never an answer.
 use mathlib.Core.Bool.{Bool, true, false}
 use mathlib.Core.List.{List, [], _∷_}
 use lib.Dec.{ltb}
@@ -37,12 +38,14 @@ abbrev pub declaredIn : Program → List Arrival → Bool
 declaredIn q [] = true
 declaredIn q (a ∷ l) = pick (ltb (a .event) (events q)) (declaredIn q l) false
 
--- "Actives that are active in both keep their value, other actives take the new start, passives are worked out anew. The hand, its players, arrival numbers and the number taken in
--- remain; the running event goes back to the hand.": nothing runs, and scratch, stack and places are empty
+-- "Actives that are active in both keep their value, other actives take the new start, passives are worked out anew.
+-- The hand, its players, arrival numbers and the number taken in remain; the running event goes back to the hand.":
+-- nothing runs, and scratch, stack and places are empty
 abbrev pub carriedTo : Program → Program → Engine → Engine
 carriedTo p q (engine t waiting r d) = engine t (queue waiting r) rest (emptied (carried p q (d .store)))
 
--- "During copy-back it is refused by 19 .. 28 when the hand holds an event that the new sheet doesn't declare, checked after 19": a refusal changes nothing
+-- "During copy-back it is refused by 19 .. 28 when the hand holds an event that the new sheet doesn't declare, checked
+-- after 19": a refusal changes nothing
 abbrev pub changed : Program → Program → Engine → Result
 changed p q (engine t waiting r d) =
     pick (settling p r) (result (says (refused refusals.settling)) (state p (engine t waiting r d)))

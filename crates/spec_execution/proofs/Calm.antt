@@ -1,4 +1,5 @@
--- Which parts of an event's code neither mask nor write the store: all but the offs, the ons and the copies back. Part by part.
+-- Which parts of an event's code neither mask nor write the store: all but the offs, the ons and the copies back. Part
+-- by part.
 use Prim.Native.Nat.{ℕ, zero, suc}
 use mathlib.Core.Bool.{Bool, true, false}
 use mathlib.Core.Path.{_≡_, refl, _∙_}

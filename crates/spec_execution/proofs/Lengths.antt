@@ -1,4 +1,5 @@
--- The length of an event's code: of each part, and of the whole by 01's count. Phase one's order holds everyone that has a turn there, once: so a sum over it is one over all.
+-- The length of an event's code: of each part, and of the whole by 01's count. Phase one's order holds everyone that
+-- has a turn there, once: so a sum over it is one over all.
 use Prim.Native.Nat.{ℕ, _+_, _*_, _≤_}
 use mathlib.Core.Bool.{Bool, false, true≢false}
 use mathlib.Core.Path.{_≡_, refl, ap, _∙_}

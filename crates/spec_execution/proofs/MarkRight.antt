@@ -1,4 +1,5 @@
--- Running an event's code marks exactly what the event's meaning finds to run over: part by part, on the store that the view follows. Copies and moves mark nothing.
+-- Running an event's code marks exactly what the event's meaning finds to run over: part by part, on the store that the
+-- view follows. Copies and moves mark nothing.
 use Prim.Native.Nat.{ℕ, zero, suc, _<_}
 use mathlib.Core.Bool.{Bool, true, false, _||_}
 use mathlib.Core.Path.{_≡_, refl, ap, _∙_}

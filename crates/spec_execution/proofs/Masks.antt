@@ -1,4 +1,5 @@
--- Where an event's code masks interrupts and where its copy-back is: by counting offs and ons in its first c instructions, in each of the four stretches that c can lie in.
+-- Where an event's code masks interrupts and where its copy-back is: by counting offs and ons in its first c
+-- instructions, in each of the four stretches that c can lie in.
 use Prim.Native.Nat.{ℕ, suc, _+_, _*_, _-_, _≤_, _<_}
 use mathlib.Core.Bool.{true, false}
 use mathlib.Core.Path.{_≡_, refl, sym, subst}

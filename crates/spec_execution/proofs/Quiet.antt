@@ -1,4 +1,5 @@
--- Until its copy-back an event's code leaves the store alone: only a restore writes it, and none stands before the second off.
+-- Until its copy-back an event's code leaves the store alone: only a restore writes it, and none stands before the
+-- second off.
 use Prim.Native.Nat.{ℕ, _+_, _-_, _≤_, _<_}
 use mathlib.Core.Bool.{false}
 use mathlib.Core.Path.{_≡_, sym, _∙_}

@@ -1,4 +1,5 @@
--- What a valid program's responses hold: expressions nested at most 16 deep, each function with its arguments, whose names are behaviours. By the language's laws of responses.
+-- What a valid program's responses hold: expressions nested at most 16 deep, each function with its arguments, whose
+-- names are behaviours. By the language's laws of responses.
 use Prim.Native.Nat.{ℕ}
 use Rattle.spec_language.specs.Syntax.{Expr, Program}
 use Rattle.spec_language.specs.Dependence.{Response, follows, takes, defers, keeps, size, response}

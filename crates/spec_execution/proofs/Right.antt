@@ -1,5 +1,5 @@
--- Running an event's code is the event's meaning. The view follows the meaning's store through the parts of the code; the copies back then write exactly the
--- members of C, and outside C the view is the store as it was.
+-- Running an event's code is the event's meaning. The view follows the meaning's store through the parts of the code;
+-- the copies back then write exactly the members of C, and outside C the view is the store as it was.
 use Prim.Native.Nat.{ℕ, suc, _≤_, _<_}
 use mathlib.Core.Path.{_≡_, refl, sym, ap, subst, _∙_}
 use mathlib.Core.Logic.{by-cases}

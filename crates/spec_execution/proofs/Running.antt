@@ -1,5 +1,6 @@
--- Running a list of instructions: lists one after the other, a part for each number, and that an expression's code pushes its value, marks what ran over in it and changes nothing else.
--- By induction on the list, the number and the expression.
+-- Running a list of instructions: lists one after the other, a part for each number, and that an expression's code
+-- pushes its value, marks what ran over in it and changes nothing else. By induction on the list, the number and the
+-- expression.
 use Prim.Native.Nat.{ℕ, zero, suc, _<_, _≤_}
 use mathlib.Core.Bool.{Bool, true, false, _||_, or-assoc}
 use mathlib.Core.Path.{_≡_, refl, sym}

@@ -1,5 +1,5 @@
--- What the abstract check says of running: a prefix leaves the rest safe, and execution keeps the values filled exactly as the check has it, instruction by
--- instruction. And that an event's code passes it.
+-- What the abstract check says of running: a prefix leaves the rest safe, and execution keeps the values filled exactly
+-- as the check has it, instruction by instruction. And that an event's code passes it.
 use Prim.Native.Nat.{ℕ, zero, suc, _+_, _-_, _≤_, _<_}
 use mathlib.Core.Bool.{Bool, true, false, _||_, false≢true}
 use mathlib.Core.Path.{_≡_, refl, sym, ap, subst, _∙_}

@@ -1,5 +1,5 @@
--- An event's code passes the abstract check, part by part: copies fill C's places of scratch, later handlers their own, and an expression nested k deep
--- takes at most 2 × k − 1 places of the stack.
+-- An event's code passes the abstract check, part by part: copies fill C's places of scratch, later handlers their own,
+-- and an expression nested k deep takes at most 2 × k − 1 places of the stack.
 use Prim.Native.Nat.{ℕ, zero, suc, _+_, _*_, _-_, _≤_, _<_}
 use mathlib.Core.Bool.{Bool, true, false, false≢true}
 use mathlib.Core.Path.{_≡_, refl, sym, ap, subst, _∙_}

@@ -1,4 +1,5 @@
--- What one behaviour's code does, part by part: the view (scratch for members of C, else the store) takes the step that the meaning's store takes.
+-- What one behaviour's code does, part by part: the view (scratch for members of C, else the store) takes the step that
+-- the meaning's store takes.
 use Prim.Native.Nat.{ℕ, suc, _≤_, _<_}
 use mathlib.Core.Bool.{Bool, true, false}
 use mathlib.Core.Path.{_≡_, refl, sym, ap, _∙_}

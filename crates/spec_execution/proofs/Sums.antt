@@ -1,4 +1,5 @@
--- Sums over the numbers below n, and over a list that holds some of them: what is not marked yet is what is still to be added. By induction.
+-- Sums over the numbers below n, and over a list that holds some of them: what is not marked yet is what is still to be
+-- added. By induction.
 use Prim.Native.Nat.{ℕ, zero, suc, _+_, _<_}
 use mathlib.Core.Bool.{Bool, true, false, true≢false, false≢true}
 use mathlib.Core.Path.{_≡_, refl, _∙_}
@@ -57,7 +58,8 @@ module _ (n : ℕ) (dep : ℕ → ℕ → Bool) (g : ℕ → ℕ) where
   length-marks [] m = refl
   length-marks (i ∷ is) m = length-marks is (set m i true) ∙ length-set m i true
 
-  -- an order in which everyone is marked in the end adds up to everyone, if those marked at the start have nothing to add
+  -- an order in which everyone is marked in the end adds up to everyone, if those marked at the start have nothing to
+  -- add
   pub total-is-sum : (is : List ℕ) (m : List Bool) → length m ≡ n → Ordered n dep m is → ((i : ℕ) → i < n → Marked (markAll is m) i)
       → ((i : ℕ) → i < n → Marked m i → g i ≡ 0) → sum _+_ 0 (map g is) ≡ sum _+_ 0 (upTo n g)
   total-is-sum is m l o all late =

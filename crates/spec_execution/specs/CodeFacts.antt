@@ -1,5 +1,5 @@
--- What the engine relies on in an event's code: its count, where it is masked, that it leaves the store alone until copy-back, and that the whole of it is the event's meaning and
--- marks what runs over there.
+-- What the engine relies on in an event's code: its count, where it is masked, that it leaves the store alone until
+-- copy-back, and that the whole of it is the event's meaning and marks what runs over there.
 use Prim.Native.Nat.{ℕ, _+_, _*_, _-_, _≤_, _<_}
 use mathlib.Core.Bool.{Bool, true, false}
 use mathlib.Core.Path.{_≡_}
@@ -14,7 +14,8 @@ use Rattle.spec_semantics.specs.Meaning.{event}
 use Rattle.spec_semantics.specs.OverMeaning.{eventOver}
 use Rattle.spec_execution.specs.Execution.{executeAll, emptied, maskedAfter, copyingBackAfter}
 
--- of an event of len instructions and m members of C, with c instructions done: a copy-back is under way; interrupts are masked
+-- of an event of len instructions and m members of C, with c instructions done: a copy-back is under way; interrupts
+-- are masked
 abbrev pub copyingBackAt : ℕ → ℕ → ℕ → Bool
 copyingBackAt len m c = leb (len - (m + 1)) c
 

@@ -9,8 +9,9 @@ use Rattle.lib_base.specs.Basics.{pick}
 use Rattle.lib_arith.specs.Functions.{result, over}
 use Rattle.spec_language.specs.Code.{Instr, off, on, copy, restore, load, fetch, save, defer, move, push, apply}
 
--- the values that instructions work on: the store (01: board), scratch, the evaluation stack (its top in front), and the deferred values (01: the later
--- handlers' places). What is not filled is `none`. The mark says whether an application ran over since the event started (02, M-104).
+-- the values that instructions work on: the store (01: board), scratch, the evaluation stack (its top in front), and
+-- the deferred values (01: the later handlers' places). What is not filled is `none`. The mark says whether an
+-- application ran over since the event started (02, M-104).
 pub record Values : Type 0 where
   pub store : List ℕ
   pub scratch : List (Option ℕ)
@@ -33,7 +34,8 @@ heldAt s i = held (getD s i none)
 abbrev pub top : List ℕ → ℕ
 top st = at st 0
 
--- a function takes its arguments, the last from the top, and puts its result; a stack that is too short is left as it is
+-- a function takes its arguments, the last from the top, and puts its result; a stack that is too short is left as it
+-- is
 abbrev pub apply1 : ℕ → List ℕ → List ℕ
 apply1 f [] = []
 apply1 f (a ∷ st) = result f a 0 0 ∷ st
@@ -93,11 +95,13 @@ unfoldable pub executeAll : List Instr → Values → Values
 executeAll [] d = d
 executeAll (i ∷ is) d = executeAll is (execute i d)
 
--- an event starts with scratch, stack and deferred values empty, and with no mark: "What a broken-in handler found is dropped with its scratch."
+-- an event starts with scratch, stack and deferred values empty, and with no mark: "What a broken-in handler found is
+-- dropped with its scratch."
 unfoldable pub emptied : List ℕ → Values
 emptied s = record { store = s; scratch = replicate (length s) none; stack = []; deferred = replicate (length s) none; mark = false }
 
--- ---- masking. "Interrupts are masked between off and on. Copy-back runs from after the second off to the end of the second on".
+-- ---- masking. "Interrupts are masked between off and on. Copy-back runs from after the second off to the end of the
+-- second on".
 
 -- 1 for an off, and for an on
 abbrev pub isOff : Instr → ℕ

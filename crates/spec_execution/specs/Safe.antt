@@ -1,5 +1,5 @@
--- An abstract check of instructions: which places are filled and how deep the stack is, no values. A list that passes reads filled places alone,
--- stays within the stack, and leaves it empty.
+-- An abstract check of instructions: which places are filled and how deep the stack is, no values. A list that passes
+-- reads filled places alone, stays within the stack, and leaves it empty.
 use Prim.Native.Nat.{ℕ, _+_, _-_, _≤_, _<_, _^_}
 use mathlib.Core.Bool.{Bool, true, false}
 use mathlib.Core.Path.{_≡_}

@@ -1,1 +1,2 @@
-// Definitions and theorems only: what an instruction does, and that an event's code has the meaning of the event. They stand in specs/.
+// Definitions and theorems only: what an instruction does, and that an event's code has the meaning of the event. They
+// stand in specs/.

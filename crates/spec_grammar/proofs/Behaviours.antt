@@ -1,5 +1,5 @@
--- Behaviours: the value of a behaviour's field within its limits is read back, and what is read from a value is such a behaviour.
--- From the start word, and the facts on expressions, handlers and endings, with the reader's connectives.
+-- Behaviours: the value of a behaviour's field within its limits is read back, and what is read from a value is such a
+-- behaviour. From the start word, and the facts on expressions, handlers and endings, with the reader's connectives.
 use Prim.Native.Nat.{ℕ, _+_, _≤_, _<_, _^_}
 use mathlib.Core.Path.{_≡_, refl, sym, ap, _∙_}
 use mathlib.Core.Logic.{_≢_}

@@ -1,5 +1,5 @@
--- Endings: who may see a behaviour is read back from the end of its value, and what is read there is such an ending (02, M-107).
--- By cases on the bytes of the field 08.
+-- Endings: who may see a behaviour is read back from the end of its value, and what is read there is such an ending
+-- (02, M-107). By cases on the bytes of the field 08.
 use Prim.Native.Nat.{ℕ, _≤_, _<_}
 use mathlib.Core.Bool.{true}
 use mathlib.Core.Path.{_≡_, refl}

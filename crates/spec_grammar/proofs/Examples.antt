@@ -1,5 +1,5 @@
--- Worked checks of the reader, each by computing: sheet S of 01 "Rounds to check", the nesting limit, and the numbers of faults
--- where 01 "Why a call was turned down" wants care.
+-- Worked checks of the reader, each by computing: sheet S of 01 "Rounds to check", the nesting limit, and the numbers
+-- of faults where 01 "Why a call was turned down" wants care.
 use Prim.Native.Nat.{ℕ, zero, suc}
 use mathlib.Core.Path.{_≡_, refl}
 use mathlib.Core.Option.{none, some}
@@ -75,7 +75,8 @@ pub nots-too-deep : readSheet (field 2 (wrapped 16 one)) ≡ bad 9
 unfolding readSheet eventsAt behavioursAt exprAt fieldAt cellCount
 nots-too-deep = refl
 
--- ---- parameters (02, M-103): field 13 with the number 7 is read; 8 is off the scale, two bytes are a wrong length, and at nesting 17 it is too deep
+-- ---- parameters (02, M-103): field 13 with the number 7 is read; 8 is off the scale, two bytes are a wrong length,
+-- and at nesting 17 it is too deep
 
 pub parameters : (readSheet (field 2 (field 19 (7 ∷ []))) ≡ got (sheet [] (bare (formula (param 7)) ∷ [])) []) × (readSheet (field 2 (field 19 (8 ∷ []))) ≡ bad 8)
     × (readSheet (field 2 (field 19 (8 ∷ 0 ∷ []))) ≡ bad 6) × (readSheet (field 2 (wrapped 16 (field 19 (8 ∷ [])))) ≡ bad 9)
@@ -97,7 +98,8 @@ handled v = events 1 (field 3 (field 4 (word 1) ++ v))
 abbrev pub first : List ℕ
 first = field 5 (0 ∷ 0 ∷ one)
 
--- "under three bytes where a field is due": one or two stray bytes, at the end of the bytes, after a start and after a handler
+-- "under three bytes where a field is due": one or two stray bytes, at the end of the bytes, after a start and after a
+-- handler
 pub stray-bytes : (readSheet (events 1 (1 ∷ [])) ≡ bad 4) × (readSheet (events 1 (1 ∷ 0 ∷ [])) ≡ bad 4)
     × (readSheet (handled (5 ∷ [])) ≡ bad 4) × (readSheet (handled (first ++ (5 ∷ 0 ∷ []))) ≡ bad 4)
 unfolding readSheet eventsAt behavioursAt handlersAt handles exprAt fieldAt cellCount
@@ -121,7 +123,8 @@ pub left-over : (readSheet (field 2 (one ++ (0 ∷ []))) ≡ bad 6) × (readShee
 unfolding readSheet eventsAt behavioursAt handlersAt handles exprAt fieldAt cellCount
 left-over = (refl, refl, refl, refl)
 
--- "event, phase, 10, expression": an undeclared event alone; a bad phase and none on a doubled event; a doubled event with no expression
+-- "event, phase, 10, expression": an undeclared event alone; a bad phase and none on a doubled event; a doubled event
+-- with no expression
 pub handler-order : (readSheet (handled (field 5 (1 ∷ []))) ≡ bad 8) × (readSheet (handled (first ++ field 5 (0 ∷ 2 ∷ one))) ≡ bad 8)
     × (readSheet (handled (first ++ field 5 (0 ∷ []))) ≡ bad 6) × (readSheet (handled (first ++ field 5 (0 ∷ 0 ∷ []))) ≡ bad 10)
 unfolding readSheet eventsAt behavioursAt handlersAt handles exprAt fieldAt cellCount
@@ -185,14 +188,16 @@ pub viewers : (readSheet (field 2 (one ++ seen 2)) ≡ got (sheet [] (entry (for
 unfolding readSheet eventsAt behavioursAt handlersAt handles exprAt fieldAt cellCount
 viewers = (refl, refl, refl)
 
--- "Past a passive's expression only tag 08 begins a field": then its header and its length are judged as any field's, and its fixed length of 1
+-- "Past a passive's expression only tag 08 begins a field": then its header and its length are judged as any field's,
+-- and its fixed length of 1
 pub viewer-field : (readSheet (field 2 (one ++ (8 ∷ 0 ∷ []))) ≡ bad 4) × (readSheet (field 2 (one ++ (8 ∷ 0 ∷ 1 ∷ []))) ≡ bad 4)
     × (readSheet (field 2 (one ++ field 8 [])) ≡ bad 6) × (readSheet (field 2 (one ++ field 8 (0 ∷ 0 ∷ []))) ≡ bad 6)
     × (readSheet (handled (8 ∷ 0 ∷ [])) ≡ bad 4) × (readSheet (handled (field 8 [])) ≡ bad 6)
 unfolding readSheet eventsAt behavioursAt handlersAt handles exprAt fieldAt cellCount
 viewer-field = (refl, refl, refl, refl, refl, refl)
 
--- "other bytes being 6, as are all past an 08": a handler's tag, a header cut short; a second field 08, a handler, one byte. In an active another tag than 05 and 08 is wrong
+-- "other bytes being 6, as are all past an 08": a handler's tag, a header cut short; a second field 08, a handler, one
+-- byte. In an active another tag than 05 and 08 is wrong
 pub past-viewer : (readSheet (field 2 (one ++ first)) ≡ bad 6) × (readSheet (field 2 (one ++ (9 ∷ []))) ≡ bad 6)
     × (readSheet (field 2 (one ++ (seen 1 ++ seen 1))) ≡ bad 6) × (readSheet (handled (seen 1 ++ first)) ≡ bad 6)
     × (readSheet (handled (first ++ (seen 1 ++ (8 ∷ [])))) ≡ bad 6) × (readSheet (handled (field 9 (0 ∷ []))) ≡ bad 5)

@@ -1,5 +1,6 @@
--- The reading of every sheet's encoding, also of one outside the limits: the sheet, or its first fault as a function on the sheet. By induction on the sheet.
--- That fault does not depend on whether a parameter, of 0 to 7, or a constant stands in an expression.
+-- The reading of every sheet's encoding, also of one outside the limits: the sheet, or its first fault as a function on
+-- the sheet. By induction on the sheet. That fault does not depend on whether a parameter, of 0 to 7, or a constant
+-- stands in an expression.
 use Prim.Native.Nat.{ℕ, zero, suc, _+_, _*_, _/_, _%_, _≤_}
 use mathlib.Core.Path.{_≡_, refl, ap, _∙_}
 use mathlib.Core.Bool.{true}

@@ -1,5 +1,5 @@
--- The field reader: what it says by positions in the bytes, that it reads back every field, and that what it reads is a field.
--- By cases on the first three bytes; the rest is arithmetic on the length and `take`/`drop` at the seam.
+-- The field reader: what it says by positions in the bytes, that it reads back every field, and that what it reads is a
+-- field. By cases on the first three bytes; the rest is arithmetic on the length and `take`/`drop` at the seam.
 use Prim.Native.Nat.{ℕ, suc, _+_, _*_, _/_, _%_, _-_, _≤_, _<_}
 use mathlib.Core.Path.{_≡_, refl}
 use mathlib.Core.List.{List, [], _∷_, _++_}
@@ -51,7 +51,8 @@ field-reads lo hi t v rest b c =
 abbrev pub Bytes : List ℕ → Type 0
 Bytes l = All (λ b. b < 256) l
 
--- what a field answer says of the bytes: a refusal is 4 or 5; else they are that field and the rest, and the tag is one of those due
+-- what a field answer says of the bytes: a refusal is 4 or 5; else they are that field and the rest, and the tag is one
+-- of those due
 abbrev pub Headed : ℕ → ℕ → List ℕ → Field → Type 0
 Headed lo hi s (refused n) = (4 ≤ n) × (n ≤ 5)
 Headed lo hi s (present t v rest) = (lo ≤ t) × (t ≤ hi) × (Bytes s → s ≡ field t v ++ rest)

@@ -1,5 +1,6 @@
--- Handlers: a list of handlers within its limits is read back after those already read, up to the end or a tag 08 (02, M-107), and what is read is such a list.
--- The reader's test against the handlers read so far is the grammar's "none has two handlers", seen from the end; both go by induction on the list or the bound.
+-- Handlers: a list of handlers within its limits is read back after those already read, up to the end or a tag 08 (02,
+-- M-107), and what is read is such a list. The reader's test against the handlers read so far is the grammar's "none
+-- has two handlers", seen from the end; both go by induction on the list or the bound.
 use Prim.Native.Nat.{ℕ, zero, suc, _≤_, _<_}
 use mathlib.Core.Bool.{true, false}
 use mathlib.Core.Path.{_≡_, refl, sym, _∙_}

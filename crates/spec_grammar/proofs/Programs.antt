@@ -1,5 +1,6 @@
--- Sheets: the reader accepts exactly the encodings of sheets within the limits, a sheet is determined by its bytes, and a fault has a number from 4 to 10.
--- By induction on the events and behaviours left to read, and the other way on the bound of fields; `encode` of what is read so far, and the bytes left, stay the same bytes.
+-- Sheets: the reader accepts exactly the encodings of sheets within the limits, a sheet is determined by its bytes, and
+-- a fault has a number from 4 to 10. By induction on the events and behaviours left to read, and the other way on the
+-- bound of fields; `encode` of what is read so far, and the bytes left, stay the same bytes.
 use Prim.Native.Nat.{ℕ, zero, suc, _+_, _≤_, _<_}
 use mathlib.Core.Bool.{true}
 use mathlib.Core.Path.{_≡_, refl, sym, ap, _∙_}

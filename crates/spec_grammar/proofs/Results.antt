@@ -1,5 +1,6 @@
--- What a result of a reader says of the bytes, and that the reader's connectives (`then`, `whole`, `wordOf`, `byteOf`) carry it.
--- By clauses on the result: a fault has a number from 4 to 10, and what is got is an encoding within its limits.
+-- What a result of a reader says of the bytes, and that the reader's connectives (`then`, `whole`, `wordOf`, `byteOf`)
+-- carry it. By clauses on the result: a fault has a number from 4 to 10, and what is got is an encoding within its
+-- limits.
 use Prim.Native.Nat.{ℕ, _+_, _*_, _/_, _%_, _≤_, _<_, _^_}
 use mathlib.Core.Path.{_≡_, refl}
 use mathlib.Core.List.{List, [], _∷_, _++_}

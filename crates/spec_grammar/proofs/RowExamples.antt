@@ -1,4 +1,5 @@
--- Worked checks of rows (02, M-110), each by computing: what a row reads as, what it is written out to, and the numbers of its faults in their order.
+-- Worked checks of rows (02, M-110), each by computing: what a row reads as, what it is written out to, and the numbers
+-- of its faults in their order.
 use Prim.Native.Nat.{ℕ, zero, suc}
 use mathlib.Core.Path.{_≡_, refl}
 use mathlib.Core.Option.{some}
@@ -12,8 +13,9 @@ use Rattle.spec_grammar.proofs.Examples.{plain, bare, one, events, firs
 
 -- ---- written out
 
--- two rows of 2 cells, b0 and b1, b2 and b3; a row of 3, b4 to b6; and a passive, b7. In the first row's handler b0 is its own cell and b2 the second row's at the same place; b3, which begins no row, b4,
--- which begins one of another count, and b7 are what they say. In the passive b0 is b0, and so in an active's handler
+-- two rows of 2 cells, b0 and b1, b2 and b3; a row of 3, b4 to b6; and a passive, b7. In the first row's handler b0 is
+-- its own cell and b2 the second row's at the same place; b3, which begins no row, b4, which begins one of another
+-- count, and b7 are what they say. In the passive b0 is b0, and so in an active's handler
 abbrev pub rows : Sheet
 rows =
     sheet (plain 0 ∷ [])
@@ -66,7 +68,8 @@ abbrev pub after : ℕ → List ℕ → List ℕ
 after zero s = s
 after (suc n) s = field 2 one ++ after n s
 
--- "counted toward the 64; past the first cell, 7 is checked after the count": the first cell is the 65th; a later one, before what follows the count; a wrong count
+-- "counted toward the 64; past the first cell, 7 is checked after the count": the first cell is the 65th; a later one,
+-- before what follows the count; a wrong count
 pub crowded-rows : (readSheet (after 64 (field 6 [])) ≡ bad 7) × (readSheet (after 63 (field 6 [])) ≡ bad 6) × (readSheet (after 63 (field 6 (17 ∷ []))) ≡ bad 8)
     × (readSheet (after 63 (field 6 (2 ∷ []))) ≡ bad 7) × (readSheet (after 62 (field 6 (2 ∷ []))) ≡ bad 4) × (readSheet (after 64 (6 ∷ 0 ∷ 1 ∷ [])) ≡ bad 4)
 unfolding readSheet eventsAt behavioursAt handlersAt handles exprAt fieldAt cellCount

@@ -1,5 +1,6 @@
--- Rows and the order of faults (02, M-110): a sheet whose fields are within their limits, and the sheet written out, have the same first fault or none: 7 where they make more than 64 behaviours.
--- Names written otherwise change no fault; the rest by induction on the entries, counting behaviours.
+-- Rows and the order of faults (02, M-110): a sheet whose fields are within their limits, and the sheet written out,
+-- have the same first fault or none: 7 where they make more than 64 behaviours. Names written otherwise change no
+-- fault; the rest by induction on the entries, counting behaviours.
 use Prim.Native.Nat.{ℕ, zero, suc, _+_, _≤_}
 use mathlib.Core.Path.{_≡_, refl, sym, ap, subst, _∙_}
 use mathlib.Core.Option.{Option, none}

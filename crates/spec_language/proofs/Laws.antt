@@ -1,5 +1,5 @@
--- Laws of these definitions that several crates use: the list of f of each number below n, the handler looked up, the names and the nesting of a response.
--- By induction.
+-- Laws of these definitions that several crates use: the list of f of each number below n, the handler looked up, the
+-- names and the nesting of a response. By induction.
 use Prim.Native.Nat.{ℕ, zero, suc, _≤_, _<_}
 use mathlib.Core.Path.{_≡_, refl, sym, ap, _∙_}
 use mathlib.Core.Logic.{⊎-elim, by-cases}

@@ -1,5 +1,5 @@
--- Laws of a sheet whose rows are written out: its number of behaviours, its limits, the parameters that it uses, and that writing out what has no row changes nothing.
--- Each by induction on the entries, with all entries kept apart.
+-- Laws of a sheet whose rows are written out: its number of behaviours, its limits, the parameters that it uses, and
+-- that writing out what has no row changes nothing. Each by induction on the entries, with all entries kept apart.
 use Prim.Native.Nat.{ℕ, zero, suc, _+_, _-_, _≤_, _<_}
 use mathlib.Core.Path.{_≡_, refl, sym, ap, _∙_}
 use mathlib.Core.Bool.{Bool, true, false, _||_, false≢true, or-assoc}

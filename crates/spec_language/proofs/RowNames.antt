@@ -1,4 +1,5 @@
--- 11 and rows: names exist as a row means them exactly if they exist as they are sent, since a row that begins within the sheet ends there. By induction on the sheet.
+-- 11 and rows: names exist as a row means them exactly if they exist as they are sent, since a row that begins within
+-- the sheet ends there. By induction on the sheet.
 use Prim.Native.Nat.{ℕ, zero, suc, _<_}
 use mathlib.Core.Path.{_≡_, _∙_}
 use mathlib.Core.Option.{Option}

@@ -1,5 +1,5 @@
--- Laws of a sheet and its filling: a filling has the sheet's shape and limits, depends on the parameters used alone, and is that of the sheet written out.
--- Each by induction on the sheet.
+-- Laws of a sheet and its filling: a filling has the sheet's shape and limits, depends on the parameters used alone,
+-- and is that of the sheet written out. Each by induction on the sheet.
 use Prim.Native.Nat.{ℕ, _≤_, _<_, _^_}
 use mathlib.Core.Path.{_≡_, refl, sym, ap, _∙_}
 use mathlib.Core.Bool.{false, _||_, true≢false}

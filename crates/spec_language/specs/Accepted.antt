@@ -35,8 +35,9 @@ pub record Accepted (p : Program) : Type 0 where
   pub acyclic : NoCycle p
   pub short : allInstructions p ≤ 4096
 
--- a sheet that is accepted where so many bytes of parameters are lent and parameter n has the value v n: it is within 01's grammar and limits, uses a parameter only if 32
--- bytes are lent, and its filling names behaviours that exist, has no cycle and is not overlong
+-- a sheet that is accepted where so many bytes of parameters are lent and parameter n has the value v n: it is within
+-- 01's grammar and limits, uses a parameter only if 32 bytes are lent, and its filling names behaviours that exist, has
+-- no cycle and is not overlong
 pub record SheetAccepted (v : ℕ → ℕ) (lent : ℕ) (s : Sheet) : Type 0 where
   pub fits : SheetFits s
   pub known : Known (fill v s)

@@ -1,4 +1,5 @@
--- The numbers of a step's answers with 01's words. 01 "A step does the first that fits .. The answer names which, with arrival and event number where one starts or commits."
+-- The numbers of a step's answers with 01's words. 01 "A step does the first that fits .. The answer names which, with
+-- arrival and event number where one starts or commits."
 use Prim.Native.Nat.{ℕ}
 
 abbrev pub idle : ℕ  -- else idle

@@ -7,9 +7,10 @@ use Rattle.spec_language.specs.Syntax.{Expr, con, name, app1, app2, app3
 use Rattle.spec_language.specs.Dependence.{Response, follows, takes, defers, keeps, size, events, response}
 use Rattle.spec_language.specs.Order.{upTo, phaseOne}
 
--- off and on mask interrupts; copy brings a value from the store (01: board) to scratch, restore from scratch to the store; push puts a constant on the
--- evaluation stack, load a value of the store, fetch one of scratch; apply takes a function's arguments and puts its result; save takes the top into scratch,
--- defer into a place of its own; move brings a deferred value to scratch
+-- off and on mask interrupts; copy brings a value from the store (01: board) to scratch, restore from scratch to the
+-- store; push puts a constant on the evaluation stack, load a value of the store, fetch one of scratch; apply takes a
+-- function's arguments and puts its result; save takes the top into scratch, defer into a place of its own; move brings
+-- a deferred value to scratch
 pub data Instr : Type 0 where
   off on : Instr
   copy restore load fetch save defer move : ℕ → Instr
@@ -101,7 +102,8 @@ sizeOf (app1 f a) = sizeOf a + 1
 sizeOf (app2 f a b) = sizeOf a + sizeOf b + 1
 sizeOf (app3 f a b c) = sizeOf a + sizeOf b + sizeOf c + 1
 
--- what a behaviour adds: 2 as a member of C; 2 × (size + 1) for a passive, size + 1 for an immediate handler, size + 2 for a later one
+-- what a behaviour adds: 2 as a member of C; 2 × (size + 1) for a passive, size + 1 for an immediate handler, size + 2
+-- for a later one
 abbrev pub share : Response → ℕ
 share (follows x) = 2 + 2 * (sizeOf x + 1)
 share (takes x) = 2 + (sizeOf x + 1)

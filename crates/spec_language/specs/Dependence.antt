@@ -1,5 +1,6 @@
--- What a behaviour does on an event, dependence and cycles (01: circles), what an event reads and writes, independence. 01 "The meaning of one event".
--- An event is its number. A number that is not declared has no handler: so it is the case of no event.
+-- What a behaviour does on an event, dependence and cycles (01: circles), what an event reads and writes, independence.
+-- 01 "The meaning of one event". An event is its number. A number that is not declared has no handler: so it is the
+-- case of no event.
 use Prim.Native.Nat.{ℕ, _≤_}
 use mathlib.Core.Bool.{Bool, true, false, not, _&&_, _||_}
 use mathlib.Core.Path.{_≡_}
@@ -19,8 +20,8 @@ events p = length (p .priorities)
 abbrev pub noEvent : Program → ℕ
 noEvent p = events p
 
--- what a behaviour does on an event: a passive follows its expression; an active takes the value of an immediate handler's expression,
--- defers to the second phase that of a later handler's, or keeps its value
+-- what a behaviour does on an event: a passive follows its expression; an active takes the value of an immediate
+-- handler's expression, defers to the second phase that of a later handler's, or keeps its value
 pub data Response : Type 0 where
   follows takes defers : Expr → Response
   keeps : Response
@@ -52,7 +53,8 @@ mentions j (app1 f a) = mentions j a
 mentions j (app2 f a b) = mentions j a || mentions j b
 mentions j (app3 f a b c) = mentions j a || (mentions j b || mentions j c)
 
--- "for an event, a passive depends on every name in it, an active with an immediate handler on every name but its own, other actives on nothing"
+-- "for an event, a passive depends on every name in it, an active with an immediate handler on every name but its own,
+-- other actives on nothing"
 abbrev pub needs : ℕ → ℕ → Response → Bool
 needs i j (follows x) = mentions j x
 needs i j (takes x) = mentions j x && not (eqb i j)

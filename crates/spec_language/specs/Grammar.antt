@@ -1,4 +1,5 @@
--- The grammar as an encoding of sheets, and the limits that one field can show, of a sheet and of the program that it means. 01 "The sheet"; 02, M-103, M-107, M-110.
+-- The grammar as an encoding of sheets, and the limits that one field can show, of a sheet and of the program that it
+-- means. 01 "The sheet"; 02, M-103, M-107, M-110.
 use Prim.Native.Nat.{ℕ, suc, _/_, _%_, _≤_, _<_, _^_}
 use mathlib.Core.Path.{_≡_}
 use mathlib.Core.Logic.{_≢_}
@@ -45,7 +46,8 @@ tagOf (formula x) = 2
 tagOf (state s hs) = 3
 tagOf (row c s hs) = 6
 
--- M-110: "A new field 06 in place of 03 begins with a one-byte cell count of 2 to 16 (else 8), then goes on as an active."
+-- M-110: "A new field 06 in place of 03 begins with a one-byte cell count of 2 to 16 (else 8), then goes on as an
+-- active."
 abbrev pub encodeItem : Item → List ℕ
 encodeItem (formula x) = encodeExpr x
 encodeItem (state s hs) = field 4 (word s) ++ encodeHandlers hs
@@ -87,8 +89,9 @@ pub data Arity : ℕ → ℕ → Type 0 where
   ternary : Arity 14 3
   binary : {f : ℕ} → 0 < f → f < 14 → f ≢ 3 → Arity f 2
 
--- "A constant or name has nesting 1, an application one more than its deepest argument", a parameter being a constant: an expression of nesting at most the first
--- number, each function with the arguments that it needs, each constant a word, each name a byte, each parameter one of 0 to 7
+-- "A constant or name has nesting 1, an application one more than its deepest argument", a parameter being a constant:
+-- an expression of nesting at most the first number, each function with the arguments that it needs, each constant a
+-- word, each name a byte, each parameter one of 0 to 7
 pub data TermFits : ℕ → Term → Type 0 where
   t-literal : {k w : ℕ} → w < 2 ^ 32 → TermFits (suc k) (literal w)
   t-variable : {k i : ℕ} → i < 256 → TermFits (suc k) (variable i)
@@ -123,8 +126,9 @@ SignalFits x = (x .priority ≤ 15) × ByteFits (x .sender)
 abbrev pub EntryFits : ℕ → Entry → Type 0
 EntryFits n x = ItemFits n (x .item) × ByteFits (x .viewer)
 
--- at most 32 events of priority 0 to 15 and 64 behaviours (M-110: a row's cells "counted toward the 64"), each within its limits, in up to 8,192 bytes as sent. 02, M-106: a sheet of no bytes "shall mean a sheet
--- with no events and no behaviours"
+-- at most 32 events of priority 0 to 15 and 64 behaviours (M-110: a row's cells "counted toward the 64"), each within
+-- its limits, in up to 8,192 bytes as sent. 02, M-106: a sheet of no bytes "shall mean a sheet with no events and no
+-- behaviours"
 pub record SheetFits (s : Sheet) : Type 0 where
   pub few-events : length (s .signals) ≤ 32
   pub few-behaviours : cellCount (s .entries) ≤ 64

@@ -1,5 +1,6 @@
--- What bytes are: a sheet, or the number of the first fault from left to right. 01 "The sheet", "Why a call was turned down"; 02, M-103, M-107, M-110.
--- "At a field: 4 for its header, 5, 4 for its length, 7, 9, 6 for a fixed length, contents in order, 6 for leftovers."
+-- What bytes are: a sheet, or the number of the first fault from left to right. 01 "The sheet", "Why a call was turned
+-- down"; 02, M-103, M-107, M-110. "At a field: 4 for its header, 5, 4 for its length, 7, 9, 6 for a fixed length,
+-- contents in order, 6 for leftovers."
 use Prim.Native.Nat.{ℕ, zero, suc, _+_, _*_}
 use mathlib.Core.Bool.{Bool, true, false}
 use mathlib.Core.Option.{Option, none, some}
@@ -139,7 +140,8 @@ abbrev pub startBody : Field → Got ℕ
 startBody (refused k) = bad k
 startBody (present t v rest) = wordOf (λ w. w) v rest
 
--- M-107: "Past a passive's expression only tag 08 begins a field, other bytes being 6, as are all past an 08.": what is left of a behaviour's value v after its own part
+-- M-107: "Past a passive's expression only tag 08 begins a field, other bytes being 6, as are all past an 08.": what is
+-- left of a behaviour's value v after its own part
 abbrev pub entry : Item → Option ℕ → Entry
 entry x m = record { item = x; viewer = m }
 
@@ -165,7 +167,8 @@ activeAs make n v rest =
 abbrev pub activeIn : ℕ → List ℕ → List ℕ → Got Entry
 activeIn = activeAs state
 
--- M-110, where i behaviours stand before the row: "a one-byte cell count of 2 to 16 (else 8), then goes on as an active. .. past the first cell, 7 is checked after the count."
+-- M-110, where i behaviours stand before the row: "a one-byte cell count of 2 to 16 (else 8), then goes on as an
+-- active. .. past the first cell, 7 is checked after the count."
 abbrev pub rowIn : ℕ → ℕ → List ℕ → List ℕ → Got Entry
 rowIn n i [] rest = bad wrongLength
 rowIn n i (c ∷ v) rest =

@@ -1,4 +1,5 @@
--- The numbers of refusals with 01's words. 01 "Why a call was turned down"; 02, M-103, M-105, M-107, M-111, M-112; M-106: "Number 2 never occurs again."
+-- The numbers of refusals with 01's words. 01 "Why a call was turned down"; 02, M-103, M-105, M-107, M-111, M-112;
+-- M-106: "Number 2 never occurs again."
 use Prim.Native.Nat.{ℕ}
 
 abbrev pub shortTable : ℕ  -- short table: compile's table has under 34,816 bytes

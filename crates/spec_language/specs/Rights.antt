@@ -1,4 +1,5 @@
--- Who may send an event and who may see a behaviour. 02, M-107: "Up to eight players, 0 to 7, share a round, 0 being the host. .. The host may do everything".
+-- Who may send an event and who may see a behaviour. 02, M-107: "Up to eight players, 0 to 7, share a round, 0 being
+-- the host. .. The host may do everything".
 use Prim.Native.Nat.{ℕ, _/_, _%_, _^_}
 use mathlib.Core.Bool.{Bool, true}
 use lib.ListN.{getD}

@@ -1,5 +1,6 @@
--- Abstract syntax of a sheet as it is sent, apart from the program that it means (Syntax.antt), and the filling that leads from one to the other. 01 "The sheet";
--- 02, M-103: a parameter "means the same as the constant written there"; M-107: who may send an event and see a behaviour; M-110: rows.
+-- Abstract syntax of a sheet as it is sent, apart from the program that it means (Syntax.antt), and the filling that
+-- leads from one to the other. 01 "The sheet"; 02, M-103: a parameter "means the same as the constant written there";
+-- M-107: who may send an event and see a behaviour; M-110: rows.
 use Prim.Native.Nat.{ℕ, _+_, _-_}
 use mathlib.Core.Bool.{Bool, true, false, _||_}
 use mathlib.Core.Option.{Option, none, some}
@@ -9,7 +10,8 @@ use Rattle.lib_base.specs.Basics.{pick}
 use Rattle.spec_language.specs.Syntax.{Expr, con, name, app1, app2, app3, Phase, Handler, handler, Behaviour, passive, active, Program}
 use Rattle.spec_language.specs.Order.{upTo}
 
--- an expression: a constant is a 32-bit word, a name a behaviour's number, a parameter its own, an application has its function's number
+-- an expression: a constant is a 32-bit word, a name a behaviour's number, a parameter its own, an application has its
+-- function's number
 pub data Term : Type 0 where
   literal variable param : ℕ → Term
   apply1 : ℕ → Term → Term
@@ -20,13 +22,15 @@ pub data Term : Type 0 where
 pub data Clause : Type 0 where
   clause : ℕ → Phase → Term → Clause
 
--- a behaviour: a passive has a formula, an active a start value and handlers; or a row of so many (M-110), with a start value and handlers
+-- a behaviour: a passive has a formula, an active a start value and handlers; or a row of so many (M-110), with a start
+-- value and handlers
 pub data Item : Type 0 where
   formula : Term → Item
   state : ℕ → List Clause → Item
   row : ℕ → ℕ → List Clause → Item
 
--- M-107: "An event field may have length 2, its second byte saying who may send it (bit n for player n)": its priority (01: rank), and that byte where there is one
+-- M-107: "An event field may have length 2, its second byte saying who may send it (bit n for player n)": its priority
+-- (01: rank), and that byte where there is one
 pub record Signal : Type 0 where
   pub priority : ℕ
   pub sender : Option ℕ
@@ -55,7 +59,8 @@ sendersOf = map (λ (x : Signal). allowed (x .sender))
 abbrev pub viewersOf : List Entry → List ℕ
 viewersOf = map (λ (x : Entry). allowed (x .viewer))
 
--- ---- rows. M-110: "It takes that many consecutive behaviour numbers"; behaviours are numbered from 0, a row's cells among them
+-- ---- rows. M-110: "It takes that many consecutive behaviour numbers"; behaviours are numbered from 0, a row's cells
+-- among them
 
 abbrev pub cells : Item → ℕ
 cells (formula x) = 1
@@ -77,7 +82,8 @@ unfoldable pub heads : List Entry → ℕ → ℕ → Bool
 heads [] c m = false
 heads (x ∷ xs) c m = pick (eqb m 0) (isRow c (x .item)) (pick (ltb m (cells (x .item))) false (heads xs c (m - cells (x .item))))
 
--- "In a row's handler, the number of the first cell of a row with the same count means the cell at the same place; other names mean what they did.": name m, in cell j of a row of c
+-- "In a row's handler, the number of the first cell of a row with the same count means the cell at the same place;
+-- other names mean what they did.": name m, in cell j of a row of c
 abbrev pub meant : List Entry → ℕ → ℕ → ℕ → ℕ
 meant xs c j m = pick (heads xs c m) (m + j) m
 

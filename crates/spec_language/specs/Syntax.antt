@@ -2,8 +2,8 @@
 use Prim.Native.Nat.{ℕ}
 use mathlib.Core.List.{List}
 
--- 01 "Expressions": a constant is a 32-bit word, a name is a behaviour's number, an application has its function's number.
--- `!` (3) needs one argument, `if` (14) three, the others two.
+-- 01 "Expressions": a constant is a 32-bit word, a name is a behaviour's number, an application has its function's
+-- number. `!` (3) needs one argument, `if` (14) three, the others two.
 pub data Expr : Type 0 where
   con : ℕ → Expr
   name : ℕ → Expr
@@ -24,8 +24,8 @@ pub data Behaviour : Type 0 where
   passive : Expr → Behaviour
   active : ℕ → List Handler → Behaviour
 
--- the priority (01: rank) of each event, and the behaviours, both numbered from 0; and who may send each event and see each behaviour, one byte each, bit n for player n
--- (02, M-107)
+-- the priority (01: rank) of each event, and the behaviours, both numbered from 0; and who may send each event and see
+-- each behaviour, one byte each, bit n for player n (02, M-107)
 pub record Program : Type 0 where
   pub priorities : List ℕ
   pub senders : List ℕ

@@ -1,5 +1,6 @@
--- Demand 2, first sentence, of the model engine: in an idle engine, an event that is taken in and stepped alone to its commit leaves the store of its meaning.
--- By induction on the instructions left: nothing waits, so each step is the next instruction.
+-- Demand 2, first sentence, of the model engine: in an idle engine, an event that is taken in and stepped alone to its
+-- commit leaves the store of its meaning. By induction on the instructions left: nothing waits, so each step is the
+-- next instruction.
 use Prim.Native.Nat.{ℕ, zero, suc, _+_, _-_, _≤_, _<_}
 use mathlib.Core.Bool.{Bool, true}
 use mathlib.Core.Path.{_≡_, refl, sym, ap, _∙_, subst}

@@ -1,5 +1,5 @@
--- Unless a copy-back is under way, the store is that of the committed events: the running one has done its first instructions from that store, and they left it
--- alone.
+-- Unless a copy-back is under way, the store is that of the committed events: the running one has done its first
+-- instructions from that store, and they left it alone.
 use Prim.Native.Nat.{ℕ}
 use mathlib.Core.Path.{_≡_, refl, sym, subst}
 use mathlib.Core.List.{List, [], _∷_, _++_, map}

@@ -1,4 +1,5 @@
--- The choice of the next is a leader of the waiting, and the only one: so it does not depend on their order. By induction on the list, and by distinct numbers.
+-- The choice of the next is a leader of the waiting, and the only one: so it does not depend on their order. By
+-- induction on the list, and by distinct numbers.
 use Prim.Native.Nat.{ℕ, suc, _≤_}
 use mathlib.Core.Bool.{Bool, true, false, true≢false, false≢true}
 use mathlib.Core.Path.{_≡_, refl, sym, ap, _∙_, subst}

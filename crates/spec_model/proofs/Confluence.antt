@@ -1,5 +1,5 @@
--- Two orders of the same commits give one store, if each has those of equal priority in order of number and those of unequal priority commute:
--- both play as the list sorted by number does.
+-- Two orders of the same commits give one store, if each has those of equal priority in order of number and those of
+-- unequal priority commute: both play as the list sorted by number does.
 use Prim.Native.Nat.{ℕ, _≤_, _<_}
 use mathlib.Core.Bool.{true, false}
 use mathlib.Core.Path.{_≡_, refl, sym, ap, ap₂, _∙_}

@@ -1,4 +1,5 @@
--- Commits of equal priority are in order of number: the running one has the lowest number of its priority, and what is committed stands before the queue.
+-- Commits of equal priority are in order of number: the running one has the lowest number of its priority, and what is
+-- committed stands before the queue.
 use Prim.Native.Nat.{ℕ, _+_, _<_}
 use mathlib.Core.Path.{_≡_, sym}
 use mathlib.Core.HLevel.{→-prop}

@@ -1,5 +1,5 @@
--- What each move keeps, of an engine with its history, holds after every list of calls. The history is what the answers say: the commits and the arrivals taken in.
--- By induction on the calls still to come, those made being a parameter.
+-- What each move keeps, of an engine with its history, holds after every list of calls. The history is what the answers
+-- say: the commits and the arrivals taken in. By induction on the calls still to come, those made being a parameter.
 use Prim.Native.Nat.{ℕ, suc, _+_, _≤_}
 use mathlib.Core.Path.{_≡_, refl, sym, ap, _∙_, subst}
 use mathlib.Core.List.{List, [], _∷_, _++_, append-assoc, append-nil}

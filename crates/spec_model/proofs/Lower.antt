@@ -1,5 +1,6 @@
--- A lower priority is committed before a higher one only if that was taken in after the lower's copy-back began: the second off is done unmasked, so nothing
--- waiting outranks the running one at the moment at which its copy-back begins, and what outranks it later has a later number.
+-- A lower priority is committed before a higher one only if that was taken in after the lower's copy-back began: the
+-- second off is done unmasked, so nothing waiting outranks the running one at the moment at which its copy-back begins,
+-- and what outranks it later has a later number.
 use Prim.Native.Nat.{ℕ, _+_, _*_, _-_, _≤_, _<_}
 use mathlib.Core.Bool.{Bool, true, false, false≢true}
 use mathlib.Core.Path.{_≡_, refl, sym, _∙_, subst}
@@ -34,7 +35,8 @@ at-count len m n h f t =
     rw f (by-test (λ (x : Bool). x ≡ false) (eqb n 0) (λ _. refl) (λ _. lt-leb n (m + 1) (omega arith)))
 
 module _ (p : Program) where
-  -- ---- a moment at which the copy-back of a is under way: what outranks a, among these, has no number yet, and fewer than t are taken in
+  -- ---- a moment at which the copy-back of a is under way: what outranks a, among these, has no number yet, and fewer
+  -- than t are taken in
 
   pub record Began (past : List Call) (a : Arrival) (t : ℕ) (l : List Arrival) : Type 0 where
     pub before : List Call

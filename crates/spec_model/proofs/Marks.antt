@@ -1,5 +1,5 @@
--- A commit's mark is that of the event's meaning on the store of the commits: the running one's values are those of its first instructions over that store, and the last one makes
--- them the whole code's.
+-- A commit's mark is that of the event's meaning on the store of the commits: the running one's values are those of its
+-- first instructions over that store, and the last one makes them the whole code's.
 use Prim.Native.Nat.{ℕ, _+_, _≤_, _<_}
 use mathlib.Core.Bool.{Bool, true, false, false≢true}
 use mathlib.Core.Path.{_≡_, refl, sym, ap, _∙_, subst}

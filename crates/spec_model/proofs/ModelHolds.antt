@@ -1,4 +1,5 @@
--- Demand 3 holds of the model engine on every list of calls, given what it relies on in the program's code. The sentences are those of Claims.
+-- Demand 3 holds of the model engine on every list of calls, given what it relies on in the program's code. The
+-- sentences are those of Claims.
 use Prim.Native.Nat.{ℕ, _<_}
 use mathlib.Core.Path.{_≡_}
 use mathlib.Core.List.{List}

@@ -1,4 +1,5 @@
--- Every call makes one of eight moves. What is to be shown of all calls is shown of each move, the tests of the model having been followed here once.
+-- Every call makes one of eight moves. What is to be shown of all calls is shown of each move, the tests of the model
+-- having been followed here once.
 use Prim.Native.Nat.{ℕ, _+_, _≤_, _<_}
 use mathlib.Core.Bool.{false, true≢false}
 use mathlib.Core.Path.{_≡_, sym, _∙_}

@@ -1,4 +1,5 @@
--- Each arrival taken in is committed once or is in the queue: taken in are the committed and those in the queue, up to order, and each move keeps that.
+-- Each arrival taken in is committed once or is in the queue: taken in are the committed and those in the queue, up to
+-- order, and each move keeps that.
 use Prim.Native.Nat.{ℕ, _+_, _<_}
 use mathlib.Core.Bool.{true, false, true≢false}
 use mathlib.Core.Path.{_≡_, refl}

@@ -1,5 +1,5 @@
--- A preview is the value on the board whichever way the round is run to idle: calls that take nothing in act as their steps alone, idle stays, and idle comes within
--- 01's count.
+-- A preview is the value on the board whichever way the round is run to idle: calls that take nothing in act as their
+-- steps alone, idle stays, and idle comes within 01's count.
 use Prim.Native.Nat.{ℕ, zero, suc, _+_, _-_, _≤_, _<_}
 use mathlib.Core.Bool.{true}
 use mathlib.Core.Path.{_≡_, refl, sym, ap, _∙_, subst}

@@ -1,5 +1,6 @@
--- From rest, with nothing more taken in, idle comes after exactly the instructions of those in the queue and one start each: what is left falls by one at each step
--- until it is 0, nothing waiting outranking the running one, and idle is exactly where it is 0.
+-- From rest, with nothing more taken in, idle comes after exactly the instructions of those in the queue and one start
+-- each: what is left falls by one at each step until it is 0, nothing waiting outranking the running one, and idle is
+-- exactly where it is 0.
 use Prim.Native.Nat.{ℕ, _+_, _-_, _≤_, _<_}
 use mathlib.Core.Path.{_≡_, refl, sym, ap, _∙_}
 use mathlib.Core.List.{List, [], _∷_, _++_, sum}

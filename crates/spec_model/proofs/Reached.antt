@@ -1,5 +1,5 @@
--- What holds of every engine that is reached: the queue's limits, numbers and events, and the values as the first instructions of the running event over a store.
--- Each move keeps it.
+-- What holds of every engine that is reached: the queue's limits, numbers and events, and the values as the first
+-- instructions of the running event over a store. Each move keeps it.
 use Prim.Native.Nat.{ℕ, suc, _+_, _≤_, _<_}
 use mathlib.Core.Bool.{Bool, false}
 use mathlib.Core.Path.{_≡_, refl, ap, _∙_, subst}

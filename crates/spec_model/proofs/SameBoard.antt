@@ -1,5 +1,5 @@
--- Two lists of calls that take in the same events in the same order, those of unequal priority independent, end in one store when both are idle:
--- each commits what it took in, with equals in order, and independent events commute.
+-- Two lists of calls that take in the same events in the same order, those of unequal priority independent, end in one
+-- store when both are idle: each commits what it took in, with equals in order, and independent events commute.
 use Prim.Native.Nat.{ℕ, _<_}
 use mathlib.Core.Bool.{false}
 use mathlib.Core.Path.{_≡_, refl, sym, ap, _∙_, subst}

@@ -1,4 +1,5 @@
--- Once no more are taken in, idle comes within (k + 1) × (L + 1) steps: a measure of what is left to do falls at each step until it is 0, and 0 is idle.
+-- Once no more are taken in, idle comes within (k + 1) × (L + 1) steps: a measure of what is left to do falls at each
+-- step until it is 0, and 0 is idle.
 use Prim.Native.Nat.{ℕ, zero, suc, _+_, _*_, _-_, _≤_, _<_, max}
 use mathlib.Core.Bool.{Bool, true, false}
 use mathlib.Core.Path.{_≡_, refl, sym, ap, _∙_}
@@ -35,7 +36,8 @@ unfolding longest
 longest-most p e h = max-upTo (events p) (λ i. length (code p i)) e h
 
 module _ (p : Program) where
-  -- ---- the measure: the instructions of the running one, a whole event for each waiting, and one more if the running one is to start again
+  -- ---- the measure: the instructions of the running one, a whole event for each waiting, and one more if the running
+  -- one is to start again
 
   abbrev over : Arrival → List Arrival → Bool
   over a [] = false

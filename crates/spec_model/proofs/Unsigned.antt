@@ -1,5 +1,6 @@
--- Who sent an arrival changes neither its priority nor its meaning: what holds of arrivals holds of them without their players, and the arrivals taken in, without their players, are
--- their events numbered from 0. By induction on the lists.
+-- Who sent an arrival changes neither its priority nor its meaning: what holds of arrivals holds of them without their
+-- players, and the arrivals taken in, without their players, are their events numbered from 0. By induction on the
+-- lists.
 use Prim.Native.Nat.{ℕ, suc}
 use mathlib.Core.Path.{_≡_, refl, ap}
 use mathlib.Core.List.{List, [], _∷_, map, Pairwise, Pairwise·nil, Pairwise·cons, pairwise-cons, Pairwise·of-cons}

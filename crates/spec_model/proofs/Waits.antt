@@ -1,5 +1,6 @@
--- Nobody waits for ever: an arrival in the queue is committed within (k + 1) × (L + 1) steps if nothing of higher priority is taken in. What is left to do before
--- that commit falls at each step and is never 0, and arrivals of its own or a lower priority do not raise it.
+-- Nobody waits for ever: an arrival in the queue is committed within (k + 1) × (L + 1) steps if nothing of higher
+-- priority is taken in. What is left to do before that commit falls at each step and is never 0, and arrivals of its
+-- own or a lower priority do not raise it.
 use Prim.Native.Nat.{ℕ, _+_, _*_, _-_, _≤_, _<_}
 use mathlib.Core.Bool.{Bool, true, false, _||_}
 use mathlib.Core.Path.{_≡_, refl, sym, ap, _∙_, subst}
@@ -101,7 +102,8 @@ module _ (p : Program) (a : Arrival) where
   shares-le [] = omega arith
   shares-le (b ∷ l) = omega (arith, share-le b, shares-le l)
 
-  -- ---- the measure: the instructions of the running one, the shares of the waiting, and one more event if the running one is to start again
+  -- ---- the measure: the instructions of the running one, the shares of the waiting, and one more event if the running
+  -- one is to start again
 
   abbrev left : Engine → ℕ
   left (engine t waiting rest d) = shares waiting

@@ -94,18 +94,21 @@ aloneCalls p e who = arrive e who ∷ step ∷ replicate (length (code p e)) ste
 
 -- ---- the sentences of demand 3
 
--- "unless a copy-back is under way, the board equals what demand 2's rules give for the committed events, one by one, undivided, in order of commitment"
+-- "unless a copy-back is under way, the board equals what demand 2's rules give for the committed events, one by one,
+-- undivided, in order of commitment"
 abbrev pub BoardOfCommits : Program → List Call → Type 0
 BoardOfCommits p cs = settlingIn p (after p cs) ≡ false → storeOf (after p cs) ≡ play p (map (λ (a : Arrival). a .event) (committedIn p cs)) (fresh p)
 
--- "Each arrival taken in is committed at most once, exactly once when idle": taken in are the committed and those in the queue, each once
+-- "Each arrival taken in is committed at most once, exactly once when idle": taken in are the committed and those in
+-- the queue, each once
 abbrev pub OnceEach : Program → List Call → Type 0
 OnceEach p cs =
     List·Permᴰ (takenInBy p cs) (committedIn p cs ++ inQueue (after p cs))
     × List·Nodup (map (λ (a : Arrival). a .number) (takenInBy p cs))
     × (Idle p (after p cs) → List·Permᴰ (takenInBy p cs) (committedIn p cs))
 
--- "and after every earlier one of equal rank": commits of equal priority are in order of number, and before those still in the queue. Pairwise: of each member and each later one
+-- "and after every earlier one of equal rank": commits of equal priority are in order of number, and before those still
+-- in the queue. Pairwise: of each member and each later one
 abbrev pub EqualsInOrder : Program → List Call → Type 0
 EqualsInOrder p cs =
     Pairwise (λ a b. rank p a ≡ rank p b → a .number < b .number) (committedIn p cs)
@@ -119,7 +122,8 @@ pub record Later (p : Program) (cs : List Call) (a b : Arrival) : Type 0 where
   pub copying : CopyingBack p a (after p past)
   pub not-yet : number (after p past) ≤ b .number
 
--- "A lower rank precedes a higher one only if the higher was taken in after the lower's copy-back began.": among the commits, and before those still in the queue
+-- "A lower rank precedes a higher one only if the higher was taken in after the lower's copy-back began.": among the
+-- commits, and before those still in the queue
 abbrev pub LowerFirst : Program → List Call → Type 0
 LowerFirst p cs =
     Pairwise (λ a b. rank p a < rank p b → Later p cs a b) (committedIn p cs)
@@ -146,8 +150,9 @@ SettlesIn p cs =
 abbrev pub eventsOf : List Arrival → List ℕ
 eventsOf l = map (λ (a : Arrival). a .event) l
 
--- "for every two such lists on one sheet, taking in the same events in the same order, those of unequal rank being independent: when both are idle, their boards are equal";
--- 02, M-107: "Arrivals in hand commit as before, whoever sent them"
+-- "for every two such lists on one sheet, taking in the same events in the same order, those of unequal rank being
+-- independent: when both are idle, their boards are equal"; 02, M-107: "Arrivals in hand commit as before, whoever sent
+-- them"
 abbrev pub SameBoard : Program → List Call → List Call → Type 0
 SameBoard p cs ds =
     eventsOf (takenInBy p cs) ≡ eventsOf (takenInBy p ds)
@@ -164,8 +169,9 @@ takenThen p cs ds = takenFrom ds (answers p ds (after p cs)) (number (after p cs
 abbrev pub committedThen : Program → List Call → List Call → List Arrival
 committedThen p cs ds = commits (answers p ds (after p cs))
 
--- "let k be the number in hand at some moment and L as in 01. If during the next (k + 1) × (L + 1) steps nothing of higher rank arrives .., that arrival is committed
--- by the end of them": those of its own or a lower priority may arrive
+-- "let k be the number in hand at some moment and L as in 01. If during the next (k + 1) × (L + 1) steps nothing of
+-- higher rank arrives .., that arrival is committed by the end of them": those of its own or a lower priority may
+-- arrive
 abbrev pub NobodyWaits : Program → List Call → Type 0
 NobodyWaits p cs =
     (ds : List Call) (a : Arrival) → List·Memᴰ a (inQueue (after p cs))
@@ -182,8 +188,8 @@ abbrev pub AtRest : Engine → Type 0
 AtRest (engine t waiting rest d) = Unit {0}
 AtRest (engine t waiting (busy a c) d) = ⊥
 
--- "with nothing running and no further arrivals, idle shall come after exactly the sum, over the hand, of each event's instruction count plus one": not before,
--- and from then on
+-- "with nothing running and no further arrivals, idle shall come after exactly the sum, over the hand, of each event's
+-- instruction count plus one": not before, and from then on
 abbrev pub QuietExactly : Program → List Call → Type 0
 QuietExactly p cs =
     AtRest (after p cs) → (ds : List Call) → number (after p (cs ++ ds)) ≡ number (after p cs)
@@ -216,8 +222,9 @@ unlessRefused (started a) x = x
 unlessRefused (preempted a) x = x
 unlessRefused (committed a m) x = x
 
--- "the value that the board would show after this arrival and everything in hand had been run to idle .. turned down as the arrival would be, then by 18"
--- 02, M-107: "A preview needs both rights .. 25 when the right is missing, after 15 for an arrival, a preview's too, and after 18 for a behaviour"
+-- "the value that the board would show after this arrival and everything in hand had been run to idle .. turned down as
+-- the arrival would be, then by 18" 02, M-107: "A preview needs both rights .. 25 when the right is missing, after 15
+-- for an arrival, a preview's too, and after 18 for a behaviour"
 abbrev pub previewed : Program → Engine → ℕ → ℕ → ℕ → Answer
 previewed p w e i who =
     unlessRefused (act p (arrive e who) w .answer)
@@ -235,8 +242,8 @@ PreviewRight p cs =
 
 -- ---- document 02, M-104
 
--- "the committing step's answer carries a mark: set exactly if some application in that event's meaning did so": of a step called after the list, a declared event's, on the
--- store of the events committed by then
+-- "the committing step's answer carries a mark: set exactly if some application in that event's meaning did so": of a
+-- step called after the list, a declared event's, on the store of the events committed by then
 abbrev pub MarkRight : Program → List Call → Type 0
 MarkRight p cs =
     (a : Arrival) (m : Bool) → act p step (after p cs) .answer ≡ committed a m

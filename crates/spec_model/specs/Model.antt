@@ -16,7 +16,8 @@ use Rattle.spec_execution.specs.Execution.{Values, at, execute, emptied, masked
 
 -- ---- what it keeps
 
--- an arrival taken in: its number, its event, and the player who sent it (02, M-107: "the hand and the step answers keep it")
+-- an arrival taken in: its number, its event, and the player who sent it (02, M-107: "the hand and the step answers
+-- keep it")
 pub record Arrival : Type 0 where
   pub number : ℕ
   pub event : ℕ
@@ -30,7 +31,8 @@ pub data Running : Type 0 where
   rest : Running
   busy : Arrival → ℕ → Running
 
--- the number taken in, the waiting arrivals, the running one, and the values (01: board, scratch, evaluation stack, the later handlers' places; 02, M-104: the mark)
+-- the number taken in, the waiting arrivals, the running one, and the values (01: board, scratch, evaluation stack, the
+-- later handlers' places; 02, M-104: the mark)
 pub data Engine : Type 0 where
   engine : ℕ → List Arrival → Running → Values → Engine
 
@@ -45,7 +47,8 @@ queue waiting (busy a c) = a ∷ waiting
 
 -- ---- calls and answers
 
--- 02, M-107: "Each arrival, board reading and preview now carries its player": the event and the player; the behaviour and the player
+-- 02, M-107: "Each arrival, board reading and preview now carries its player": the event and the player; the behaviour
+-- and the player
 pub data Call : Type 0 where
   arrive : ℕ → ℕ → Call
   step : Call
@@ -61,7 +64,8 @@ pub data Answer : Type 0 where
   preempted : Arrival → Answer  -- the next starts, and the running one goes back to the hand (01: breaks in)
   committed : Arrival → Bool → Answer  -- one instruction, the last; and whether the event ran over (02, M-104)
 
--- "only the host is told M-104's mark: a step carries no player and returns the host's answer, and a further call turns that into the others', without the mark"
+-- "only the host is told M-104's mark: a step carries no player and returns the host's answer, and a further call turns
+-- that into the others', without the mark"
 abbrev pub unmarked : Answer → Answer
 unmarked (refused n) = refused n
 unmarked takenIn = takenIn
@@ -125,15 +129,16 @@ module _ (p : Program) where
   abbrev pub begin : ℕ → Chosen → Values → Engine
   begin t c d = engine t (c .others) (busy (c .next) 0) (emptied (d .store))
 
-  -- "An instruction is the one at that count in the event's list, and the count grows by one; after the last, nothing runs."
-  -- M-104: "the committing step's answer carries a mark"
+  -- "An instruction is the one at that count in the event's list, and the count grows by one; after the last, nothing
+  -- runs." M-104: "the committing step's answer carries a mark"
   abbrev pub advance : ℕ → List Arrival → Arrival → ℕ → Values → Outcome
   advance t waiting a c d =
       pick (ltb (c + 1) (length (code p (a .event))))
       (outcome ran (engine t waiting (busy a (c + 1)) (execute (getD (code p (a .event)) c off) d)))
       (outcome (committed a (execute (getD (code p (a .event)) c off) d .mark)) (engine t waiting rest (execute (getD (code p (a .event)) c off) d)))
 
-  -- something waits, the next being c, and a runs: it goes back to the hand under its old number where something outranks it, unmasked
+  -- something waits, the next being c, and a runs: it goes back to the hand under its old number where something
+  -- outranks it, unmasked
   abbrev pub contest : ℕ → List Arrival → Chosen → Arrival → ℕ → Values → Outcome
   contest t waiting c a n d =
       pick (masked a n) (advance t waiting a n d)
@@ -147,7 +152,8 @@ module _ (p : Program) where
 
   -- ---- an arrival and a board reading
 
-  -- M-107: "24 when the player is above 7, after 14 ..; 25 when the right is missing, after 15 for an arrival, .. and after 18 for a behaviour"
+  -- M-107: "24 when the player is above 7, after 14 ..; 25 when the right is missing, after 15 for an arrival, .. and
+  -- after 18 for a behaviour"
   abbrev pub arrived : ℕ → ℕ → ℕ → List Arrival → Running → Values → Outcome
   arrived e who t waiting r d =
       pick (leb 8 who) (outcome (refused refusals.noPlayer) (engine t waiting r d))

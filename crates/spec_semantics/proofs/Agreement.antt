@@ -1,5 +1,6 @@
--- The rules and the evaluator agree: on every event the rules give first-phase values and an updated program, exactly one of each, and they are the
--- evaluator's. The evaluator solves the equations, and a derivation is held against any solution of them.
+-- The rules and the evaluator agree: on every event the rules give first-phase values and an updated program, exactly
+-- one of each, and they are the evaluator's. The evaluator solves the equations, and a derivation is held against any
+-- solution of them.
 use Prim.Native.Nat.{ℕ, _≤_, _<_}
 use mathlib.Core.Path.{_≡_, refl, sym, ap, _∙_, subst}
 use mathlib.Core.List.{List, []}

@@ -1,5 +1,5 @@
--- Independent events commute. An event's new values hang on the actives that it reads alone, since what evaluation looks at is named directly or through
--- passives; and passives are a function of the actives.
+-- Independent events commute. An event's new values hang on the actives that it reads alone, since what evaluation
+-- looks at is named directly or through passives; and passives are a function of the actives.
 use Prim.Native.Nat.{ℕ, _≤_, _<_}
 use mathlib.Core.Bool.{true, false, true≢false, false≢true, and-eq-true-iff}
 use mathlib.Core.Path.{_≡_, refl, sym, ap, _∙_, subst}

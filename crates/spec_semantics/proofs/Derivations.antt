@@ -1,5 +1,5 @@
--- The rules against the equations: whatever is derived is the value of any solution, by induction on the derivation; and it is derived, by induction over
--- needs. So for updates.
+-- The rules against the equations: whatever is derived is the value of any solution, by induction on the derivation;
+-- and it is derived, by induction over needs. So for updates.
 use Prim.Native.Nat.{ℕ, _≤_, _<_}
 use mathlib.Core.Bool.{Bool, true, false, _||_, true≢false, false≢true}
 use mathlib.Core.Path.{_≡_, refl, sym, ap, _∙_, subst}

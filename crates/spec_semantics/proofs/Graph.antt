@@ -1,5 +1,5 @@
--- A non-empty set of which every member needs a member has one that reaches itself. Walk from a member to one that it needs and mark on the way:
--- the unmarked get fewer, and to land on a mark closes the cycle.
+-- A non-empty set of which every member needs a member has one that reaches itself. Walk from a member to one that it
+-- needs and mark on the way: the unmarked get fewer, and to land on a mark closes the cycle.
 use Prim.Native.Nat.{ℕ, zero, suc, _≤_, _<_}
 use mathlib.Core.Bool.{Bool, true, false, true≢false}
 use mathlib.Core.Path.{_≡_, refl, sym, ap, _∙_}

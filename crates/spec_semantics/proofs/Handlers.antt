@@ -1,4 +1,5 @@
--- The handlers that the rules find are those that the evaluator looks up: with at most one for an event, `handled` is the one. By induction on the list.
+-- The handlers that the rules find are those that the evaluator looks up: with at most one for an event, `handled` is
+-- the one. By induction on the list.
 use Prim.Native.Nat.{ℕ, _≤_}
 use mathlib.Core.Bool.{false}
 use mathlib.Core.Path.{_≡_, refl, sym, _∙_, subst}

@@ -1,4 +1,5 @@
--- The meaning keeps the store's length, a value for each behaviour: each turn only sets a value. By induction on the turns.
+-- The meaning keeps the store's length, a value for each behaviour: each turn only sets a value. By induction on the
+-- turns.
 use Prim.Native.Nat.{ℕ}
 use mathlib.Core.Path.{_≡_, refl, _∙_}
 use mathlib.Core.List.{List, [], _∷_}

@@ -1,5 +1,6 @@
--- The order of phase one: each member once, after its needs, and without a cycle everybody. What is left over with nobody ready is a set of which every
--- member needs a member. From it, induction over needs: what follows from its needs holds of everyone.
+-- The order of phase one: each member once, after its needs, and without a cycle everybody. What is left over with
+-- nobody ready is a set of which every member needs a member. From it, induction over needs: what follows from its
+-- needs holds of everyone.
 use Prim.Native.Nat.{ℕ, zero, suc, _+_, _≤_, _<_}
 use mathlib.Core.Bool.{Bool, true, false, not, _&&_, true≢false, false≢true, and-eq-true-iff}
 use mathlib.Core.Path.{_≡_, refl, sym, ap, _∙_, subst}

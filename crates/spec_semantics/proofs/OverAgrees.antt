@@ -1,5 +1,5 @@
--- By the rules an event runs over exactly if the evaluator finds that it does. A derivation finds an application in what it evaluates itself or, behind a name, in a behaviour's
--- turn; and what a turn finds is derived.
+-- By the rules an event runs over exactly if the evaluator finds that it does. A derivation finds an application in
+-- what it evaluates itself or, behind a name, in a behaviour's turn; and what a turn finds is derived.
 use Prim.Native.Nat.{ℕ, _≤_, _<_}
 use mathlib.Core.Bool.{Bool, true, false, _||_, true≢false, false≢true}
 use mathlib.Core.Path.{_≡_, refl, sym, ap, _∙_, subst}

@@ -1,5 +1,5 @@
--- What the evaluator finds turn by turn is what is found with the values that each phase ends in: a turn comes after its needs, whose values stay. So an event runs over
--- exactly if some behaviour does in one of its turns.
+-- What the evaluator finds turn by turn is what is found with the values that each phase ends in: a turn comes after
+-- its needs, whose values stay. So an event runs over exactly if some behaviour does in one of its turns.
 use Prim.Native.Nat.{ℕ, zero, suc, _≤_, _<_}
 use mathlib.Core.Bool.{Bool, true, false, _||_, true≢false, false≢true}
 use mathlib.Core.Path.{_≡_, refl, sym, ap, _∙_}

@@ -1,4 +1,5 @@
--- The rules play any list of declared events, to one store only: the evaluator's. By induction on the list, from the agreement of rules and evaluator.
+-- The rules play any list of declared events, to one store only: the evaluator's. By induction on the list, from the
+-- agreement of rules and evaluator.
 use Prim.Native.Nat.{ℕ, _<_, _≤_}
 use mathlib.Core.Path.{_≡_, refl, sym, _∙_, subst}
 use mathlib.Core.List.{List, [], _∷_}

@@ -1,5 +1,6 @@
--- The evaluator solves the equations of both phases, and nothing else does. Along the order, what is marked solves its equation and has its needs marked,
--- and what is not marked is as it was: so a behaviour's turn finds the values of its needs, and its own old one.
+-- The evaluator solves the equations of both phases, and nothing else does. Along the order, what is marked solves its
+-- equation and has its needs marked, and what is not marked is as it was: so a behaviour's turn finds the values of its
+-- needs, and its own old one.
 use Prim.Native.Nat.{ℕ, _≤_, _<_}
 use mathlib.Core.Bool.{Bool, true, false, _||_, true≢false, false≢true}
 use mathlib.Core.Path.{_≡_, refl, sym, ap, _∙_}

@@ -20,7 +20,8 @@ value look (app3 f a b c) = result f (value look a) (value look b) (value look c
 abbrev pub at : List ℕ → ℕ → ℕ
 at s i = getD s i 0
 
--- ---- phase one, in its order. "Its own name there means its old value; another name means that behaviour's first-phase value."
+-- ---- phase one, in its order. "Its own name there means its old value; another name means that behaviour's
+-- first-phase value."
 
 abbrev pub firstStep : ℕ → Response → List ℕ → List ℕ
 firstStep i (follows x) s = set s i (value (at s) x)
@@ -28,7 +29,8 @@ firstStep i (takes x) s = set s i (value (at s) x)
 firstStep i (defers x) s = s
 firstStep i keeps s = s
 
--- ---- phase two. "Later handlers are then all evaluated over first-phase values, and take effect together. Passives follow their expression in each phase."
+-- ---- phase two. "Later handlers are then all evaluated over first-phase values, and take effect together. Passives
+-- follow their expression in each phase."
 
 abbrev pub laterValue : List ℕ → ℕ → Response → ℕ
 laterValue s i (follows x) = at s i

@@ -1,5 +1,5 @@
--- When an event runs over, by the rules of Figure 1. 02, M-104: "set exactly if some application in that event's meaning did so. An application is counted wherever the
--- meaning evaluates it, `if` evaluating all three arguments."
+-- When an event runs over, by the rules of Figure 1. 02, M-104: "set exactly if some application in that event's
+-- meaning did so. An application is counted wherever the meaning evaluates it, `if` evaluating all three arguments."
 use Prim.Native.Nat.{ℕ, _<_}
 use mathlib.Core.Bool.{true}
 use mathlib.Core.Path.{_≡_}
@@ -29,8 +29,8 @@ pub data Over (P : Program) (I : ℕ) : Subject → Type 0 where
   o-immediate : {x c : ℕ} {H : List Handler} {d : Expr} → Handles I immediate d H → Over P I (expression (substitute x c d))
       → Over P I (behaviour x (active c H))
 
--- on event I the program P runs over: in what `Steps` evaluates of a behaviour, its first-phase value (`Yields`) or, whichever the handler's phase, its new one
--- (`Updates`), or in what the updated program then shows (`Shows`)
+-- on event I the program P runs over: in what `Steps` evaluates of a behaviour, its first-phase value (`Yields`) or,
+-- whichever the handler's phase, its new one (`Updates`), or in what the updated program then shows (`Shows`)
 pub data EventOver (P : Program) (I : ℕ) : Type 0 where
   o-value : {x : ℕ} → x < size P → Over P I (behaviour x (behaviourAt P x)) → EventOver P I
   o-update : {x c : ℕ} {H : List Handler} {d : Expr} {φ : Phase} → x < size P → behaviourAt P x ≡ active c H → Handles I φ d H

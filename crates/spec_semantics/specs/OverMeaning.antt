@@ -1,4 +1,5 @@
--- Whether an event runs over, as the evaluator finds it, turn by turn. 02, M-104: "The evaluation of an expression and the handler pass it up".
+-- Whether an event runs over, as the evaluator finds it, turn by turn. 02, M-104: "The evaluation of an expression and
+-- the handler pass it up".
 use Prim.Native.Nat.{ℕ}
 use mathlib.Core.Bool.{Bool, false, _||_}
 use mathlib.Core.List.{List, [], _∷_}

@@ -1,4 +1,5 @@
--- Events one by one, undivided, by Figure 1's rules. 01 demand 3: "the board equals what demand 2's rules give for the committed events".
+-- Events one by one, undivided, by Figure 1's rules. 01 demand 3: "the board equals what demand 2's rules give for the
+-- committed events".
 use Prim.Native.Nat.{ℕ, _<_}
 use mathlib.Core.Path.{_≡_}
 use mathlib.Core.List.{List, [], _∷_}

@@ -1,6 +1,7 @@
--- The big-step rules, all four judgments. 003 Figure 1, with 01 "The meaning of one event".
--- The figure keeps the state in the program: an active's start value is its value now. Its rule for a name drops that name from the program, and its rule for
--- an active needs it there: here the program stays whole. An event is its number; one that is not declared is the case of no event.
+-- The big-step rules, all four judgments. 003 Figure 1, with 01 "The meaning of one event". The figure keeps the state
+-- in the program: an active's start value is its value now. Its rule for a name drops that name from the program, and
+-- its rule for an active needs it there: here the program stays whole. An event is its number; one that is not declared
+-- is the case of no event.
 use Prim.Native.Nat.{ℕ, _<_}
 use mathlib.Core.Path.{_≡_}
 use mathlib.Core.List.{List, _∷_}

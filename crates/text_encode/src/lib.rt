@@ -1,4 +1,5 @@
-// Writing expression fields into a buffer: constants and names at its end, an application's head in front of its arguments.
+// Writing expression fields into a buffer: constants and names at its end, an application's head in front of its
+// arguments.
 ghost use mathlib.Core.Path.{_≡_};
 ghost use mathlib.Core.List.{[], _∷_};
 ghost use Prim.Native.Nat.{_≤_, _+_, _/_, _%_};

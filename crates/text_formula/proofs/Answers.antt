@@ -1,4 +1,5 @@
--- What `formulaOn` answers, in terms of the grammar alone: the reader stands in none of these statements. From the reader's exactness (`Readings`).
+-- What `formulaOn` answers, in terms of the grammar alone: the reader stands in none of these statements. From the
+-- reader's exactness (`Readings`).
 use Prim.Native.Nat.{ℕ, _≤_, _<_}
 use mathlib.Core.Path.{_≡_, refl}
 use mathlib.Core.Logic.{_⊎_, inl, inr}
@@ -27,7 +28,8 @@ unfolding formulaOn
 outside text buffer (inl h) = rw (lt-ltb 1024 (length text) h)
 outside text buffer (inr f) = by-test (λ (a : ℕ × List ℕ). a ≡ answered noFormula buffer) (ltb 1024 (length text)) (λ e. refl) (λ e. rw (outside-none text f))
 
--- what is written for an expression: 9, 22, 23, or more than 2 ^ 32; a refusal leaves the buffer as it was, and no answer changes its length
+-- what is written for an expression: 9, 22, 23, or more than 2 ^ 32; a refusal leaves the buffer as it was, and no
+-- answer changes its length
 pub record Kept (buffer : List ℕ) (a : ℕ × List ℕ) : Type 0 where
   pub not-21 : a .0 ≡ noFormula → ⊥
   pub unchanged : a .0 < 4294967296 → a .1 ≡ buffer

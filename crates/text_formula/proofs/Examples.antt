@@ -1,4 +1,5 @@
--- Formulas and what they stand for, each by computing: precedence, grouping, spaces, leading zeros, texts outside the grammar, and the order of refusals.
+-- Formulas and what they stand for, each by computing: precedence, grouping, spaces, leading zeros, texts outside the
+-- grammar, and the order of refusals.
 use Prim.Native.Nat.{_+_}
 use mathlib.Core.Path.{_≡_, refl}
 use mathlib.Core.List.{[], _∷_, _++_}

@@ -1,5 +1,6 @@
--- The levels' functions read exactly what the grammar derives. What they read is derived: by induction on the bound, level by level (`Sound`).
--- What is derived is read: by induction on the derivation; after it the level's function stands in its `chain`, which ends where what follows is no operator as tight (`reach`).
+-- The levels' functions read exactly what the grammar derives. What they read is derived: by induction on the bound,
+-- level by level (`Sound`). What is derived is read: by induction on the derivation; after it the level's function
+-- stands in its `chain`, which ends where what follows is no operator as tight (`reach`).
 use Prim.Native.Nat.{ℕ, zero, suc, _≤_, _<_}
 use mathlib.Core.Path.{_≡_, refl, sym, subst, _∙_}
 use mathlib.Core.List.{List, [], _∷_, _++_, append-assoc, append-nil}

@@ -1,5 +1,5 @@
--- "each text has one reading, and all texts outside it are turned down": the reader gives an expression exactly where the grammar has one, and the same one.
--- From the two halves for tokens (`Scans`) and for expressions (`Parses`).
+-- "each text has one reading, and all texts outside it are turned down": the reader gives an expression exactly where
+-- the grammar has one, and the same one. From the two halves for tokens (`Scans`) and for expressions (`Parses`).
 use Prim.Native.Nat.{ℕ}
 use mathlib.Core.Path.{_≡_, refl, sym, _∙_}
 use mathlib.Core.List.{List, [], _∷_, append-nil}

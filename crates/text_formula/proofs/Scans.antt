@@ -1,5 +1,5 @@
--- The tokens that the reader takes from a text are exactly those that the text is made of: at its front, by the tests on up to four bytes and the run of digits
--- (`first-says`, `first-reads`), and for the whole by induction.
+-- The tokens that the reader takes from a text are exactly those that the text is made of: at its front, by the tests
+-- on up to four bytes and the run of digits (`first-says`, `first-reads`), and for the whole by induction.
 use Prim.Native.Nat.{ℕ, zero, suc, _+_, _*_, _-_, _≤_, _<_}
 use mathlib.Core.Bool.{true, false, true≢false}
 use mathlib.Core.Path.{_≡_, refl, sym, ap, subst, _∙_}

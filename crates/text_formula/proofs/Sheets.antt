@@ -1,6 +1,6 @@
--- The field that is written is one of a sheet: the sheet's expression reader accepts it and reads the formula's expression (01 "The sheet").
--- A formula's names and functions are a sheet's, by induction on the derivation; `nesting` is what `Nested` bounds, by induction on the expression; then the
--- grammar crate's `expr-reads`.
+-- The field that is written is one of a sheet: the sheet's expression reader accepts it and reads the formula's
+-- expression (01 "The sheet"). A formula's names and functions are a sheet's, by induction on the derivation; `nesting`
+-- is what `Nested` bounds, by induction on the expression; then the grammar crate's `expr-reads`.
 use Prim.Native.Nat.{ℕ, zero, suc, _+_, _≤_, _<_}
 use mathlib.Core.Bool.{true, false}
 use mathlib.Core.Path.{_≡_, refl, sym}

@@ -23,7 +23,8 @@ large (app3 f a b c) = pick (large a) true (pick (large b) true (large c))
 abbrev pub deeper : ℕ → ℕ → ℕ
 deeper a b = max a b
 
--- 01: "A constant or name has nesting 1, an application one more than its deepest argument"; brackets leave no trace in an expression, and so "add no nesting"
+-- 01: "A constant or name has nesting 1, an application one more than its deepest argument"; brackets leave no trace in
+-- an expression, and so "add no nesting"
 unfoldable pub nesting : Expr → ℕ
 nesting (con n) = 1
 nesting (name i) = 1
@@ -46,8 +47,8 @@ fieldOf e = encodeExpr (asSent e)
 abbrev pub answered : ℕ → List ℕ → ℕ × List ℕ
 answered r l = (r, l)
 
--- "22, checked next", "9 comes after 22", "23, checked last"; else the field stands "at the start of a lent buffer, whose other bytes stay", and its
--- length is answered, with 2 ^ 32 to tell it from a refusal
+-- "22, checked next", "9 comes after 22", "23, checked last"; else the field stands "at the start of a lent buffer,
+-- whose other bytes stay", and its length is answered, with 2 ^ 32 to tell it from a refusal
 unfoldable pub written : Expr → List ℕ → ℕ × List ℕ
 written e buffer =
     pick (large e) (answered largeNumber buffer)

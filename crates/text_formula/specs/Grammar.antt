@@ -4,8 +4,8 @@ use mathlib.Core.List.{List, [], _∷_, _++_}
 use Rattle.spec_language.specs.Syntax.{Expr, con, name, app1, app2, app3}
 use Rattle.text_formula.specs.Tokens.{Token, number, behaviour, function, opening, closing, comma, Tokens}
 
--- "Precedence falls from `!` through `* /`, `+ -`, the four orderings, the two equalities and then `&&` to `||`": level 0 is `!` and the
--- primaries, and the two-sided operators, by 01's function number, have levels 1 to 6
+-- "Precedence falls from `!` through `* /`, `+ -`, the four orderings, the two equalities and then `&&` to `||`": level
+-- 0 is `!` and the primaries, and the two-sided operators, by 01's function number, have levels 1 to 6
 pub data Operator : ℕ → ℕ → Type 0 where
   times : Operator 1 6
   divided : Operator 1 7
@@ -20,8 +20,8 @@ pub data Operator : ℕ → ℕ → Type 0 where
   both : Operator 5 2
   either : Operator 6 1
 
--- tokens that are an expression at a level. Each level has the tighter one's; "all two-sided ones grouping to the left": the operand on the right is
--- of the tighter level. "`!` stands before its operand and may be repeated."
+-- tokens that are an expression at a level. Each level has the tighter one's; "all two-sided ones grouping to the
+-- left": the operand on the right is of the tighter level. "`!` stands before its operand and may be repeated."
 pub data Derives : ℕ → List Token → Expr → Type 0 where
   tighter : {l : ℕ} {ts : List Token} {e : Expr} → Derives l ts e → Derives (suc l) ts e
   two-sided : {l f : ℕ} {ts us : List Token} {a b : Expr} → Operator (suc l) f → Derives (suc l) ts a → Derives l us b

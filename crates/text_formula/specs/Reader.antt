@@ -143,7 +143,8 @@ abbrev pub past : ℕ → (List Token → Got) → List Token → Got
 past m f [] = bad
 past m f (t ∷ ts) = pick (eqb (markOf t) m) (f ts) bad
 
--- after the operand a at level l: operators of that level, each with an operand that `next` reads; the number bounds them
+-- after the operand a at level l: operators of that level, each with an operand that `next` reads; the number bounds
+-- them
 unfoldable pub chain : ℕ → (List Token → Got) → ℕ → Expr → List Token → Got
 chain l next zero a ts = got a ts
 chain l next (suc k) a [] = got a []

@@ -1,10 +1,12 @@
--- The tokens of a formula, and how a text is made of them. 02, M-105 "Formulas as we write them". Bytes are those of ASCII.
+-- The tokens of a formula, and how a text is made of them. 02, M-105 "Formulas as we write them". Bytes are those of
+-- ASCII.
 use Prim.Native.Nat.{ℕ, _+_, _*_, _-_, _≤_, _<_}
 use mathlib.Core.Path.{_≡_}
 use mathlib.Core.List.{List, [], _∷_, _++_}
 use Rattle.lib_base.specs.Basics.{All}
 
--- "decimal numbers", "names b0 to b63", operators and `if` by 01's function number, brackets and the comma between `if`'s arguments
+-- "decimal numbers", "names b0 to b63", operators and `if` by 01's function number, brackets and the comma between
+-- `if`'s arguments
 pub data Token : Type 0 where
   number : ℕ → Token
   behaviour : ℕ → Token
@@ -24,8 +26,8 @@ abbrev pub NotFirst : (ℕ → Type 0) → List ℕ → Type 0
 NotFirst P [] = Unit {0}
 NotFirst P (b ∷ bs) = P b → ⊥
 
--- a text begins with a token, and the rest follows. A number and a name take all digits that follow, `!`, `>` and `<` the `=`.
--- "leading zeros allowed" in numbers; names "without leading zeros"
+-- a text begins with a token, and the rest follows. A number and a name take all digits that follow, `!`, `>` and `<`
+-- the `=`. "leading zeros allowed" in numbers; names "without leading zeros"
 pub data Begins : List ℕ → Token → List ℕ → Type 0 where
   b-number : (b : ℕ) (ds rest : List ℕ) → Digit b → All Digit ds → NotFirst Digit rest → Begins (b ∷ (ds ++ rest)) (number (decimal 0 (b ∷ ds))) rest
   b-digit : (d : ℕ) (rest : List ℕ) → d < 10 → NotFirst Digit rest → Begins (98 ∷ (48 + d) ∷ rest) (behaviour d) rest

@@ -1,4 +1,5 @@
--- The number that stands for a token in the code: kind * 2 ^ 32 + word, the kinds of numbers, names and functions being the tags of their fields (16, 17, 18).
+-- The number that stands for a token in the code: kind * 2 ^ 32 + word, the kinds of numbers, names and functions being
+-- the tags of their fields (16, 17, 18).
 use Prim.Native.Nat.{ℕ, _+_}
 use lib.Dec.{ltb}
 use Rattle.lib_base.specs.Basics.{pick}

@@ -1,4 +1,5 @@
--- What the reader's functions promise: that they read what the definition's functions read (`readAt`), and write its bytes.
+-- What the reader's functions promise: that they read what the definition's functions read (`readAt`), and write its
+-- bytes.
 use Prim.Native.Nat.{ℕ, suc, _+_, _*_, _-_, _≤_, _<_}
 use mathlib.Core.Path.{_≡_}
 use mathlib.Core.List.{List, _++_, map}
@@ -24,7 +25,8 @@ bounded (app3 f a b c) = app3 f (bounded a) (bounded b) (bounded c)
 unfoldable pub bytes : Expr → List ℕ
 bytes e = fieldOf (bounded e)
 
--- an expression is read up to a place, and its field stands from n to the end; with those before it, nested d deep, it nests so deep
+-- an expression is read up to a place, and its field stands from n to the end; with those before it, nested d deep, it
+-- nests so deep
 pub record Wrote (ts : List Token) (d n : ℕ) (o p : List ℕ) (at end depth : ℕ) (e : Expr) (rest : List Token) : Type 0 where
   pub onward : rest ≡ drop at ts
   pub size : end ≡ n + length (bytes e)

@@ -1,5 +1,6 @@
-// The reader of formulas: one function a precedence level, from `||` down to `!` and the primaries; brackets and `if` call back to the first.
-// Each call has fewer tokens left, or as many and a lower level. What is read is written to `out` from place n on, as an expression field.
+// The reader of formulas: one function a precedence level, from `||` down to `!` and the primaries; brackets and `if`
+// call back to the first. Each call has fewer tokens left, or as many and a lower level. What is read is written to
+// `out` from place n on, as an expression field.
 use text_phrase::Read;
 ghost use mathlib.Core.Path.{_≡_};
 ghost use Prim.Native.Nat.{_<_, _≤_, _*_, _+_};

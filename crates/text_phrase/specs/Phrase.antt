@@ -1,4 +1,5 @@
--- Levels and marks by a token's number, and what the small steps of a reading give. A token's number is kind * 2 ^ 32 + word.
+-- Levels and marks by a token's number, and what the small steps of a reading give. A token's number is kind * 2 ^ 32 +
+-- word.
 use Prim.Native.Nat.{ℕ, _+_, _/_, _%_, _≤_, _<_}
 use mathlib.Core.List.{List, [], _∷_}
 use lib.ListN.{length, getD}

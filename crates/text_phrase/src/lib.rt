@@ -1,4 +1,5 @@
-// What stands at a place of a formula's tokens, and what a reading has come to: the parts of the level functions that do not call them.
+// What stands at a place of a formula's tokens, and what a reading has come to: the parts of the level functions that
+// do not call them.
 ghost use mathlib.Core.Path.{_≡_};
 ghost use Prim.Native.Nat.{_<_, _≤_, _+_};
 ghost use lib.ListN.{length};

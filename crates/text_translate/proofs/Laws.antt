@@ -1,5 +1,6 @@
--- That the checks by tokens' numbers are those of the definition: a number among the tokens is too large exactly if one in the expression is, by induction on the
--- derivation; and where none is, the bytes that the reader wrote are the expression's field.
+-- That the checks by tokens' numbers are those of the definition: a number among the tokens is too large exactly if one
+-- in the expression is, by induction on the derivation; and where none is, the bytes that the reader wrote are the
+-- expression's field.
 use Prim.Native.Nat.{ℕ, _+_, _-_, _/_, _%_, _≤_, _<_}
 use mathlib.Core.Bool.{Bool, true, false}
 use mathlib.Core.Path.{_≡_, refl, sym, ap, _∙_}

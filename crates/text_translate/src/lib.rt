@@ -1,4 +1,5 @@
-// A formula's text becomes an expression field at the start of a lent buffer: 21, 22, 9 and 23, or 2 ^ 32 and the field's length.
+// A formula's text becomes an expression field at the start of a lent buffer: 21, 22, 9 and 23, or 2 ^ 32 and the
+// field's length.
 use text_lexer::Text;
 use text_phrase::Read;
 ghost use mathlib.Core.Path.{_≡_};

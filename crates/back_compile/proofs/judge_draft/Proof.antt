@@ -1,4 +1,5 @@
--- `compiler::judge_draft` meets its contract: each answer is a branch of `judge` for the program of the draft. Assumes nothing.
+-- `compiler::judge_draft` meets its contract: each answer is a branch of `judge` for the program of the draft. Assumes
+-- nothing.
 use mathlib.Core.Path.{sym, _∙_}
 use native.Mathlib.Omega.{arith}
 use borrow.Author.Needs.{needs}

@@ -1,4 +1,5 @@
--- `counts::count_members` meets its contract. The loop keeps: what the behaviours passed add is in the sum. Assumes nothing.
+-- `counts::count_members` meets its contract. The loop keeps: what the behaviours passed add is in the sum. Assumes
+-- nothing.
 use Prim.Native.Nat.{_-_}
 use mathlib.Core.Path.{ap, _∙_}
 use native.Mathlib.Omega.{arith}

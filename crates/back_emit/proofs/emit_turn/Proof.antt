@@ -1,4 +1,5 @@
--- `emit::emit_turn` meets its contract: the words of the expression, and then those of the instruction. Assumes nothing.
+-- `emit::emit_turn` meets its contract: the words of the expression, and then those of the instruction. Assumes
+-- nothing.
 use native.Mathlib.Omega.{arith}
 use borrow.Author.Needs.{needs}
 use Rattle.back_counts.proofs.CountLaws.{sound-inside}

@@ -1,4 +1,5 @@
--- `handlers::compile_event` meets its contract: the check finds a cycle, or the order in which the steps are written; what they write stands in a row. Assumes nothing.
+-- `handlers::compile_event` meets its contract: the check finds a cycle, or the order in which the steps are written;
+-- what they write stands in a row. Assumes nothing.
 use native.Mathlib.Omega.{arith}
 use borrow.Author.Needs.{needs}
 use Rattle.back_counts.proofs.CountLaws.{members-fit}

@@ -1,4 +1,5 @@
--- `handlers::emit_members` meets its contract. The loop keeps: the words of the behaviours passed are written. Assumes nothing.
+-- `handlers::emit_members` meets its contract. The loop keeps: the words of the behaviours passed are written. Assumes
+-- nothing.
 use Prim.Native.Nat.{_-_}
 use native.Mathlib.Omega.{arith}
 use Rattle.back_emit.specs.Words.{memberWords}

@@ -1,4 +1,5 @@
--- `phases::emit_moves` meets its contract. The loop keeps: the moves of the behaviours passed are written. Assumes nothing.
+-- `phases::emit_moves` meets its contract. The loop keeps: the moves of the behaviours passed are written. Assumes
+-- nothing.
 use Prim.Native.Nat.{_-_}
 use native.Mathlib.Omega.{arith}
 use Rattle.back_emit.specs.Words.{moveWords}

@@ -1,4 +1,5 @@
--- `ordering::count_turns` meets its contract. The loop keeps: the turns of the behaviours passed are in the sum. Assumes nothing.
+-- `ordering::count_turns` meets its contract. The loop keeps: the turns of the behaviours passed are in the sum.
+-- Assumes nothing.
 use Prim.Native.Nat.{_-_}
 use native.Mathlib.Omega.{arith}
 use borrow.Author.Needs.{needs}

@@ -1,4 +1,5 @@
--- `ordering::set_marks` meets its contract. The loop keeps: the marks of the behaviours passed are set. Assumes nothing.
+-- `ordering::set_marks` meets its contract. The loop keeps: the marks of the behaviours passed are set. Assumes
+-- nothing.
 use Prim.Native.Nat.{_-_}
 use native.Mathlib.Omega.{arith}
 use Rattle.back_schedule.proofs.OrderingLaws.{Marking, marking-start, marking-turn, marking-end}

@@ -1,4 +1,5 @@
--- `table::count_all` meets its contract. The loop keeps: the counts of the events passed are in the sum. Assumes nothing.
+-- `table::count_all` meets its contract. The loop keeps: the counts of the events passed are in the sum. Assumes
+-- nothing.
 use Prim.Native.Nat.{_-_}
 use native.Mathlib.Omega.{arith}
 use Rattle.back_table.proofs.TableLaws.{count-small, Counting, counting-start, counting-turn, counting-end}

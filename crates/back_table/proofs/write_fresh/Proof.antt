@@ -1,4 +1,5 @@
--- `table::write_fresh` meets its contract: the values, the rights, and how passives are worked out, up to word 512. Assumes nothing.
+-- `table::write_fresh` meets its contract: the values, the rights, and how passives are worked out, up to word 512.
+-- Assumes nothing.
 use mathlib.Core.Path.{refl}
 use native.Mathlib.Omega.{arith}
 use borrow.Author.Needs.{needs}

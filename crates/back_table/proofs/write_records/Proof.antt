@@ -1,4 +1,5 @@
--- `table::write_records` meets its contract. The loop keeps: the records of the events passed are written, and where the next one's code begins. Assumes nothing.
+-- `table::write_records` meets its contract. The loop keeps: the records of the events passed are written, and where
+-- the next one's code begins. Assumes nothing.
 use Prim.Native.Nat.{_-_}
 use native.Mathlib.Omega.{arith}
 use Rattle.back_emit.proofs.WritingLaws.{turn-long}

@@ -1,4 +1,5 @@
--- `witness::circle_in` meets its contract: the draft, filled in, is that of the sheet's program, and what is found on it is a shortest circle. Assumes nothing.
+-- `witness::circle_in` meets its contract: the draft, filled in, is that of the sheet's program, and what is found on
+-- it is a shortest circle. Assumes nothing.
 use mathlib.Core.Path.{sym, ap, _∙_}
 use native.Mathlib.Omega.{arith}
 use borrow.Author.Needs.{needs}

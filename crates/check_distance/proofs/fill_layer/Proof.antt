@@ -1,4 +1,5 @@
--- `layers::fill_layer` meets its contract. The loop keeps: the row below is as it was, and this row is filled so far. Assumes nothing.
+-- `layers::fill_layer` meets its contract. The loop keeps: the row below is as it was, and this row is filled so far.
+-- Assumes nothing.
 use Prim.Native.Nat.{_-_}
 use native.Mathlib.Omega.{arith}
 use Rattle.check_distance.proofs.LayerLaws.{Filling, filling-start, filling-turn, filling-end}

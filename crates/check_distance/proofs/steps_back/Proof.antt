@@ -1,4 +1,5 @@
--- `layers::steps_back` meets its contract. The loop keeps: the walks of up to k steps stand in s, and the least number of steps is among those left. Assumes nothing.
+-- `layers::steps_back` meets its contract. The loop keeps: the walks of up to k steps stand in s, and the least number
+-- of steps is among those left. Assumes nothing.
 use Prim.Native.Nat.{_-_}
 use mathlib.Core.Path.{sym, _∙_}
 use native.Mathlib.Omega.{arith}

@@ -1,4 +1,5 @@
--- `layers::walk` meets its contract. The loop keeps: those listed lead to where it stands, and the steps left lead to i. Assumes nothing.
+-- `layers::walk` meets its contract. The loop keeps: those listed lead to where it stands, and the steps left lead to
+-- i. Assumes nothing.
 use Prim.Native.Nat.{_-_}
 use native.Mathlib.Omega.{arith}
 use Rattle.check_distance.proofs.WalkLaws.{Going, going-start, going-turn, going-end}

@@ -1,4 +1,5 @@
--- The outer loop keeps: on no event passed does a behaviour reach itself; the inner: none of the behaviours passed does, on this event.
+-- The outer loop keeps: on no event passed does a behaviour reach itself; the inner: none of the behaviours passed
+-- does, on this event.
 use Prim.Native.Nat.{ℕ, _+_, _-_, _≤_, _<_}
 use mathlib.Core.Bool.{Bool, true, false}
 use mathlib.Core.Path.{_≡_, refl, sym, _∙_}

@@ -1,4 +1,5 @@
--- `circle::list_circle` meets its contract: the least packed number is taken apart, and the walk that it stands for listed. Assumes nothing.
+-- `circle::list_circle` meets its contract: the least packed number is taken apart, and the walk that it stands for
+-- listed. Assumes nothing.
 use mathlib.Core.Path.{refl}
 use native.Mathlib.Omega.{arith}
 use borrow.Author.Needs.{needs}

@@ -1,4 +1,5 @@
--- `engine::call_count` meets its contract: each return is its branch of `callCount`, and whole calls and answers fit. Assumes nothing.
+-- `engine::call_count` meets its contract: each return is its branch of `callCount`, and whole calls and answers fit.
+-- Assumes nothing.
 use native.Mathlib.Omega.{arith}
 use Rattle.lib_base.proofs.Pick.{code}
 use Rattle.engine.specs.Replay.{callCount}

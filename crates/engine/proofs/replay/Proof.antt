@@ -1,4 +1,5 @@
--- `engine::replay` meets its contract. The loop keeps: the calls that are left, made where it stands, give the whole. Assumes nothing.
+-- `engine::replay` meets its contract. The loop keeps: the calls that are left, made where it stands, give the whole.
+-- Assumes nothing.
 use Prim.Native.Nat.{_+_, _*_, _-_}
 use mathlib.Core.Path.{refl}
 use native.Mathlib.Omega.{arith}

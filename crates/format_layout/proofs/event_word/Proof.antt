@@ -1,4 +1,5 @@
--- `event_word` is `eventWord`: each branch follows the definition's test; the word lies within the table as e < 32 and k < 4.
+-- `event_word` is `eventWord`: each branch follows the definition's test; the word lies within the table as e < 32 and
+-- k < 4.
 use Rattle.lib_base.proofs.Pick.{code}
 use Rattle.format_layout.specs.Layout.{eventWord}
 use borrow.Author.Needs.{needs}

@@ -1,4 +1,5 @@
--- The expression, its entry, then the ending, as in `passiveOf`; the entry's numbers are small, since a node takes four bytes or more.
+-- The expression, its entry, then the ending, as in `passiveOf`; the entry's numbers are small, since a node takes four
+-- bytes or more.
 use mathlib.Core.Path.{_∙_}
 use native.Mathlib.Omega.{arith}
 use lib.ListN.{length-set}

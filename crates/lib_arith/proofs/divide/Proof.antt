@@ -1,4 +1,5 @@
--- The quotient of the magnitudes, rounded up and with the sign put back where the signs differ, is the exact one brought to 32 bits: one law for each branch, by the signs of the two words.
+-- The quotient of the magnitudes, rounded up and with the sign put back where the signs differ, is the exact one
+-- brought to 32 bits: one law for each branch, by the signs of the two words.
 use native.Mathlib.Omega.{arith}
 use borrow.Author.Needs.{needs}
 use Rattle.lib_arith.specs.Exact.{signed}

@@ -1,4 +1,5 @@
--- The product of the words, by 2^32, is the exact one brought to 32 bits: the words of negative numbers add multiples of 2^32. It fits 64 bits, as each word fits 32.
+-- The product of the words, by 2^32, is the exact one brought to 32 bits: the words of negative numbers add multiples
+-- of 2^32. It fits 64 bits, as each word fits 32.
 use native.Mathlib.Omega.{arith}
 use borrow.Author.Needs.{needs}
 use Rattle.lib_arith.proofs.multiply.Statement.{statement}

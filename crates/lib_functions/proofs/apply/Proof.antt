@@ -1,4 +1,5 @@
--- The dispatch is the definition's: in each arm f is a numeral, so `answer` computes to the callee's contract; in the last no test of the definition holds.
+-- The dispatch is the definition's: in each arm f is a numeral, so `answer` computes to the callee's contract; in the
+-- last no test of the definition holds.
 use mathlib.Core.Bool.{Bool, false, not}
 use mathlib.Core.Path.{_≡_, ap, _∙_}
 use lib.Dec.{eqb}

@@ -1,4 +1,5 @@
--- The word at byte i is its four bytes put together: each byte is below 256, so no step leaves 32 bits, and the result is the definition's text.
+-- The word at byte i is its four bytes put together: each byte is below 256, so no step leaves 32 bits, and the result
+-- is the definition's text.
 use Rattle.lib_word.specs.Word.{getAt}
 use borrow.Author.Needs.{needs}
 use Rattle.lib_word.proofs.get_at.Statement.{statement}

@@ -1,4 +1,5 @@
--- What is allowed is performed and counted, by the callees' contracts; the other return is the definition's other branch.
+-- What is allowed is performed and counted, by the callees' contracts; the other return is the definition's other
+-- branch.
 use mathlib.Core.Path.{sym, _∙_}
 use Rattle.lib_base.proofs.Pick.{code}
 use Rattle.run_advance.specs.Advance.{executeOn}

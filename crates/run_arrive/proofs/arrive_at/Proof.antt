@@ -1,4 +1,5 @@
--- Where table and round are not foreign they are within their bounds; each return is one branch of the definition. What is taken in has one of the eight players: 24 is no 0.
+-- Where table and round are not foreign they are within their bounds; each return is one branch of the definition. What
+-- is taken in has one of the eight players: 24 is no 0.
 use Prim.Native.Nat.{ℕ, _<_}
 use mathlib.Core.Path.{_≡_, sym, ap, _∙_}
 use mathlib.Core.List.{List}

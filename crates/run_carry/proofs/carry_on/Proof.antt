@@ -1,4 +1,5 @@
--- The filling leaves the stack's depth, so that the instructions may run; the reads are the definition's, by their contracts.
+-- The filling leaves the stack's depth, so that the instructions may run; the reads are the definition's, by their
+-- contracts.
 use Prim.Native.Nat.{ℕ, _≤_}
 use mathlib.Core.Path.{_≡_}
 use mathlib.Core.List.{List}

@@ -1,4 +1,5 @@
--- In each arm op is a numeral: the definition computes to the callee's contract, and what is allowed bounds slot and depth; in the last no test holds.
+-- In each arm op is a numeral: the definition computes to the callee's contract, and what is allowed bounds slot and
+-- depth; in the last no test holds.
 use Rattle.run_allowed.proofs.AllowedLaws.{slot-small, push-room, apply-fits, pop-one}
 use Rattle.lib_base.proofs.Pick.{code}
 use native.Mathlib.Omega.{arith}

@@ -1,4 +1,5 @@
--- Where neither table nor the round is foreign they are within their bounds; each return is one branch of the definition.
+-- Where neither table nor the round is foreign they are within their bounds; each return is one branch of the
+-- definition.
 use Prim.Native.Nat.{ℕ}
 use mathlib.Core.Bool.{Bool, true, false}
 use mathlib.Core.Path.{_≡_}

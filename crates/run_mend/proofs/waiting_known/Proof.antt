@@ -1,4 +1,5 @@
--- `waiting_known` is `waitingKnown`: the loop keeps that the first i waiting decide: `waitingKnown l known n ≡ waitingKnown l known i`.
+-- `waiting_known` is `waitingKnown`: the loop keeps that the first i waiting decide: `waitingKnown l known n ≡
+-- waitingKnown l known i`.
 use Prim.Native.Nat.{ℕ, zero, suc, _+_, _*_, _-_, _≤_, _<_}
 use mathlib.Core.Bool.{true, false}
 use mathlib.Core.Path.{_≡_, refl, sym, _∙_}

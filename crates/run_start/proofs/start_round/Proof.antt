@@ -1,4 +1,5 @@
--- `start_round` is `startOn`: each branch follows the definition's test; the round written is the fresh one of the table's values.
+-- `start_round` is `startOn`: each branch follows the definition's test; the round written is the fresh one of the
+-- table's values.
 use mathlib.Core.Path.{ap, _∙_}
 use Rattle.lib_base.proofs.Pick.{code}
 use Rattle.run_start.specs.declared.Round.{Round}

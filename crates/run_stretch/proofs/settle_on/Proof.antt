@@ -1,4 +1,5 @@
--- What is allowed is performed, by the callees' contracts, and leaves a shallow stack; the other return is the definition's other branch.
+-- What is allowed is performed, by the callees' contracts, and leaves a shallow stack; the other return is the
+-- definition's other branch.
 use Prim.Native.Nat.{ℕ, _/_, _%_, _≤_}
 use mathlib.Core.Bool.{Bool, true, false}
 use mathlib.Core.Path.{_≡_, sym, _∙_}

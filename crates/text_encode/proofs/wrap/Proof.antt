@@ -1,4 +1,5 @@
--- After the shift the tag, the length's two bytes and the function's place the head; with the moved bytes it is the field.
+-- After the shift the tag, the length's two bytes and the function's place the head; with the moved bytes it is the
+-- field.
 use native.Mathlib.Omega.{arith}
 use borrow.Author.Needs.{needs}
 use lib.ListN.{length-set}

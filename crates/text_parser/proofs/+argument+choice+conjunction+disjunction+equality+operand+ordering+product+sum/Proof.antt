@@ -1,4 +1,5 @@
--- One function a level: each call has fewer tokens left, or as many and a lower level (the measure); the levels' loops keep `Turn`, the others are `Operands`.
+-- One function a level: each call has fewer tokens left, or as many and a lower level (the measure); the levels' loops
+-- keep `Turn`, the others are `Operands`.
 use Prim.Native.Nat.{ℕ, _<_, _+_, _*_, _-_}
 use mathlib.Core.Path.{sym, _∙_}
 use native.Mathlib.Omega.{arith}

@@ -1,4 +1,5 @@
--- A fault or a reading that leaves tokens over is 21; else the field is delivered, by the reader's agreement with the definition.
+-- A fault or a reading that leaves tokens over is 21; else the field is delivered, by the reader's agreement with the
+-- definition.
 use native.Mathlib.Omega.{arith}
 use borrow.Author.Needs.{needs}
 use lib.ListN.{length-take, length-drop}
