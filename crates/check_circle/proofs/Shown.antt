@@ -10,7 +10,8 @@ use Rattle.spec_language.specs.Sheet.{Sheet}
 use Rattle.spec_language.specs.Grammar.{encode, SheetFits}
 use Rattle.spec_language.specs.Accepted.{Known}
 use Rattle.back_compile.specs.Verdict.{programOf}
-use Rattle.back_compile.proofs.AcceptedExactly.{Given, twelve}
+use Rattle.back_compile.proofs.AcceptedExactly.{twelve}
+use Rattle.back_compile.specs.Statements.{Given}
 use Rattle.check_circle.specs.Witness.{numberOn, Listed, Witnessed}
 
 pub shown : (s ps list : List ℕ) → All (λ b. b < 256) s → 64 ≤ length list → numberOn s ps ≡ 12 → {r : ℕ} {list′ : List ℕ} → Witnessed s ps list r list′

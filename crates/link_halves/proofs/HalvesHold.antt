@@ -34,8 +34,8 @@ use Rattle.back_compile.specs.Verdict.{Compiled, compiled, judge, lacks, judgeR
 use Rattle.back_compile.proofs.JudgeLaws.{judge-passes, compile-opens}
 use Rattle.check_circle.specs.Witness.{numberOn}
 use Rattle.link_join.specs.Join.{Joined, joined}
-use Rattle.link_join.proofs.JoinLaws.{Read}
-use Rattle.link_join.proofs.Says.{Answer, first-refused, second-refused, unlike, long, crowded, overlong, short, done, join-says, rules-board}
+use Rattle.link_join.specs.Statements.{Read, Answer, first-refused, second-refused, unlike, long, crowded, overlong, short, done}
+use Rattle.link_join.proofs.Says.{join-says, rules-board}
 use Rattle.run_start.specs.Start.{startOn}
 use Rattle.refine_calls.specs.Refinement.{roundAfter}
 use Rattle.refine_lists.proofs.Sheets.{table-room, program-accepted}

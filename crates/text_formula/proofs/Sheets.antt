@@ -1,7 +1,7 @@
 -- The field that is written is one of a sheet: the sheet's expression reader accepts it and reads the formula's
 -- expression (01 "The sheet"). A formula's names and functions are a sheet's, by induction on the derivation; `nesting`
 -- is what `Nested` bounds, by induction on the expression; then the grammar crate's `expr-reads`.
-use Prim.Native.Nat.{ℕ, zero, suc, _+_, _≤_, _<_}
+use Prim.Native.Nat.{ℕ, zero, suc, _≤_, _<_}
 use mathlib.Core.Bool.{true, false}
 use mathlib.Core.Path.{_≡_, refl, sym}
 use mathlib.Core.List.{List, [], _∷_, _++_}
@@ -15,7 +15,6 @@ use Rattle.lib_base.proofs.Tools.{by-test, all-split, neither}
 use Rattle.spec_language.specs.Syntax.{Expr, con, name, app1, app2, app3}
 use Rattle.spec_language.specs.Sheet.{fillTerm}
 use Rattle.spec_language.specs.Grammar.{Arity, unary, ternary, binary, Nested, n-con, n-name, n-app1, n-app2, n-app3, TermFits, t-literal, t-variable, t-apply1, t-apply2, t-apply3}
-use Rattle.spec_language.specs.Reading.{got, exprAt}
 use Rattle.spec_grammar.proofs.Expressions.{expr-reads}
 use Rattle.text_formula.specs.Tokens.{Token, function, closing, comma}
 use Rattle.text_formula.specs.Grammar.{Operator, times, divided, plus, minus, above, at-least, below, at-most, equal, different, both, either, Derives, tighter, two-sided, negated, a-number, a-name, bracketed, choice, Formula, formula}
@@ -24,6 +23,7 @@ use Rattle.text_formula.specs.Answer.{large, nesting, deeper, asSent, fi
 use Rattle.text_formula.proofs.Deeper.{deeper-left, deeper-right, deeper-most}
 use Rattle.text_formula.proofs.Scans.{Fine, tokens-fine}
 use Rattle.text_formula.proofs.Readings.{reading-only}
+use Rattle.text_formula.specs.Statements.{Fields}
 
 -- names of behaviours, and functions with the arguments that they need
 unfoldable pub Proper : Expr → Type 0
@@ -121,20 +121,6 @@ sent-means v (app2 f a b) = rw (sent-means v a, sent-means v b)
 sent-means v (app3 f a b c) = rw (sent-means v a, sent-means v b, sent-means v c)
 
 -- ---- the field that is written
-
-pub record Field (text buffer : List ℕ) (n : ℕ) (after : List ℕ) : Type 0 where
-  pub expression : Expr
-  pub reading : Formula text expression
-  pub length-is : n ≡ length (fieldOf expression)
-  pub fits : n ≤ length buffer
-  pub bytes : after ≡ fieldOf expression ++ drop n buffer
-  pub nests : Nested 16 expression
-  pub read-back : exprAt 16 after ≡ got (asSent expression) (drop n buffer)
-  pub means : (v : ℕ → ℕ) → fillTerm v (asSent expression) ≡ expression
-
--- of an answer beyond the refusals
-abbrev pub Fields : List ℕ → List ℕ → ℕ × List ℕ → Type 0
-Fields text buffer a = (n : ℕ) → a .0 ≡ 4294967296 + n → Field text buffer n (a .1)
 
 field-of : (text buffer : List ℕ) (e : Expr) → Formula text e → Fields text buffer (written e buffer)
 unfolding written

@@ -1,0 +1,2 @@
+pub mod Demand1Holds
+pub mod RequestsHold
