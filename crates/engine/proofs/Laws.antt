@@ -13,7 +13,7 @@ use Rattle.run_start.specs.Start.{Result, result}
 use Rattle.run_arrive.specs.Arrivals.{arriveOn}
 use Rattle.run_board.specs.Board.{boardOn}
 use Rattle.run_step.specs.Machine.{stepOn}
-use Rattle.refine_calls.specs.Refinement.{callOn, answersOn, roundAfter}
+use Rattle.refine_calls.specs.Refinement.{callOn, turnOn, numbersOn, bytesAfter, answersOn, roundAfter}
 use Rattle.engine.specs.Replay.{callOf, callsFrom, putAnswer, putAnswers}
 
 pub call-arrive : (t l : List ℕ) (kind n who : ℕ) → kind ≡ 0 → arriveOn t l n who ≡ callOn t (callOf kind n who) l
@@ -44,7 +44,7 @@ begin t l calls a n =
 module _ {t l₀ calls a₀ : List ℕ} {n : ℕ} {l a : List ℕ} {i : ℕ} (k : Turn t l₀ calls a₀ n l a i) where
   pub turn : {r : ℕ} {l′ a′ : List ℕ} → i < n → result r l′ ≡ callOn t (callOf (getD calls (i * 6) 0) (getAt calls (i * 6 + 1)) (getD calls (i * 6 + 5) 0)) l → a′ ≡ putAnswer a i r
       → length a′ ≡ length a → length l′ ≡ length l → Turn t l₀ calls a₀ n l′ a′ (i + 1)
-  unfolding callsFrom roundAfter answersOn putAnswers
+  unfolding callsFrom roundAfter answersOn bytesAfter numbersOn turnOn putAnswers
   turn {r} {l′} {a′} h e f w x =
       let s : n - i ≡ suc (n - (i + 1)) = omega arith in
       let more : List Call = callsFrom calls (i + 1) (n - (i + 1)) in
@@ -57,9 +57,9 @@ module _ {t l₀ calls a₀ : List ℕ} {n : ℕ} {l a : List ℕ} {i : ℕ} (k 
       }
 
   pub end-round : n ≤ i → l ≡ roundAfter t (callsFrom calls 0 n) l₀
-  unfolding callsFrom roundAfter
+  unfolding callsFrom roundAfter bytesAfter
   end-round h = let z : n - i ≡ 0 = omega arith in rw z at (k .rounds)
 
   pub end-answers : n ≤ i → a ≡ putAnswers a₀ 0 (answersOn t (callsFrom calls 0 n) l₀)
-  unfolding callsFrom answersOn putAnswers
+  unfolding callsFrom answersOn numbersOn putAnswers
   end-answers h = let z : n - i ≡ 0 = omega arith in rw z at (k .answers)
