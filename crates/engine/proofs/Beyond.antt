@@ -36,7 +36,7 @@ use Rattle.run_mend.specs.Mending.{handKnown, backInHand, rested, verdict, mend
 use Rattle.run_dispatch.specs.Dispatch.{startAt, preemptAt}
 use Rattle.run_advance.specs.Advance.{countOn, executeOn, executeAt, advance}
 use Rattle.run_step.specs.Machine.{meet, contest, running, resting, stepWith, stepIn, stepOn}
-use Rattle.refine_calls.specs.Refinement.{callOn, turnOn, bytesAfter, roundAfter, Kept}
+use Rattle.refine_calls.specs.Refinement.{callOn, turnOnBytes, bytesAfter, roundAfter, Kept}
 use Rattle.refine_calls.proofs.Slots.{kept-all, kept-put, kept-trans, kept-slot, kept-run}
 use Rattle.refine_calls.proofs.Relation.{admit-kept}
 use Rattle.refine_calls.proofs.FreshRound.{fresh-kept}
@@ -234,7 +234,7 @@ call-keeps t step l = step-keeps t l
 call-keeps t (board i who) l = kept-all l
 
 calls-keep : (t : List ℕ) (cs : List Call) (l : List ℕ) → Kept l (roundAfter t cs l)
-unfolding roundAfter bytesAfter turnOn
+unfolding roundAfter bytesAfter turnOnBytes
 calls-keep t [] l = kept-all l
 calls-keep t (c ∷ cs) l = kept-trans (call-keeps t c l) (calls-keep t cs (callOn t c l .1))
 

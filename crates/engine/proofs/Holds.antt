@@ -31,7 +31,7 @@ use Rattle.back_compile.proofs.AcceptedExactly.{accepted-exactly}
 use Rattle.run_start.specs.Start.{Result}
 use Rattle.refine_calls.specs.Refinement.{bytesAfter}
 use Rattle.refine_calls.proofs.Refines.{valid, accepted-says}
-use Rattle.refine_lists.specs.Lists.{boardOf, freshOn, OnlyCalls}
+use Rattle.refine_lists.specs.Lists.{boardOf, freshRoundOn, OnlyCalls}
 use Rattle.refine_lists.proofs.Sheets.{table-room, program-accepted, begun}
 use Rattle.refine_lists.proofs.FromSheets.{some-turns, list-of, calls-of, two-lists-hold, two-only-calls-hold}
 use Rattle.engine.specs.Demand.{CodeIn, EverySheet, Whole}
@@ -65,7 +65,7 @@ fresh-alone p v i c b d =
     (subst (λ (q : Program). Shows q i c) (with-starts p) d)
 
 -- the empty list has the fresh board
-fresh-board : (p : Program) (s ps t₀ l₀ : List ℕ) → OnlyCalls p l₀ (freshOn s ps t₀ l₀) [] → boardOf p (freshOn s ps t₀ l₀ .round) ≡ fresh p
+fresh-board : (p : Program) (s ps t₀ l₀ : List ℕ) → OnlyCalls p l₀ (freshRoundOn s ps t₀ l₀) [] → boardOf p (freshRoundOn s ps t₀ l₀ .round) ≡ fresh p
 unfolding runTurns moments bytesAfter
 fresh-board p s ps t₀ l₀ h = sym (h .board-alone refl (fresh p) done)
 

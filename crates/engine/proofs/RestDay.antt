@@ -28,7 +28,7 @@ use Rattle.run_start.specs.Start.{Result, startOn}
 use Rattle.run_arrive.specs.Arrivals.{arriveOn}
 use Rattle.run_board.specs.Board.{boardOn}
 use Rattle.run_step.specs.Machine.{stepOn}
-use Rattle.refine_calls.specs.Refinement.{coded, callOn, roundAfter, calls, Bytes, bytes, turnOn, bytesAfter}
+use Rattle.refine_calls.specs.Refinement.{coded, callOn, roundAfter, calls, Bytes, bytes, turnOnBytes, bytesAfter}
 use Rattle.refine_calls.proofs.TurnsRefine.{Stand}
 use Rattle.refine_calls.proofs.TurnsRefine as refine
 use Rattle.refine_lists.proofs.Sheets.{begun as begins}
@@ -157,7 +157,7 @@ module _ (ps t₀ l₀ : List ℕ) (room : 34816 ≤ length t₀) (round-room : 
 
   -- so one more call is answered as by that engine
   answers : (cs : List Call) (c : Call) → callOn table c (roundAfter table cs round) .0 ≡ coded (act nothing c (initial nothing) .answer)
-  unfolding roundAfter turnOn turn
+  unfolding roundAfter turnOnBytes turn
   answers cs c =
       ap (λ (t : List ℕ). callOn t c (bytesAfter (map calls cs) (bytes table round) .round) .0) (sym (table-stays cs (bytes table round)))
       ∙ refine.turned l₀ (bytesAfter (map calls cs) (bytes table round)) (calls c) (begun nothing) (call c) refl (stands cs) .answered

@@ -22,7 +22,7 @@ use Rattle.spec_model.specs.Model.{Call, Turn}
 use Rattle.format_image.specs.Image.{operation, constant, startOf, tableOf}
 use Rattle.back_compile.specs.Verdict.{programOf, compileOn}
 use Rattle.run_start.specs.Start.{startOn}
-use Rattle.refine_lists.specs.Lists.{boardOf, OneList, OnlyCalls, SheetTurn, Compiles, onBytes, AllMean, freshOn, TwoLists, TwoOnlyCalls}
+use Rattle.refine_lists.specs.Lists.{boardOf, OneList, OnlyCalls, SheetTurn, Compiles, onBytes, AllMean, freshRoundOn, TwoLists, TwoOnlyCalls}
 
 -- ---- the code of event e in the table t of program p, word by word (layout: crate format_layout)
 
@@ -54,15 +54,15 @@ pub record EveryList (s ps t₀ l₀ : List ℕ) : Type 0 where
   -- a fresh round: start answers 0, and the board has the start values with the passives worked out, which is what the
   -- rules show under no event, these values and no others
   pub begun : startOn (compileOn s ps t₀ .1) l₀ .0 ≡ 0
-  pub board : boardOf (programOf ps sheet) (freshOn s ps t₀ l₀ .round) ≡ fresh (programOf ps sheet)
+  pub board : boardOf (programOf ps sheet) (freshRoundOn s ps t₀ l₀ .round) ≡ fresh (programOf ps sheet)
   pub values : (i : ℕ) → i < size (programOf ps sheet) → Shows (programOf ps sheet) i (at (fresh (programOf ps sheet)) i)
   pub values-alone : (i v : ℕ) → i < size (programOf ps sheet) → Shows (programOf ps sheet) i v → v ≡ at (fresh (programOf ps sheet)) i
   -- every list of calls and of changes to sheets that compile accepts (02, M-112: "Demand 3's lists may hold such
   -- changes"): the turns of the model engine that it is, and what is said of it
   pub each : (xs : List SheetTurn) → All Compiles xs
-      → (ts : List Turn) × AllMean xs ts × OneList (programOf ps sheet) l₀ (freshOn s ps t₀ l₀) (map onBytes xs) ts
+      → (ts : List Turn) × AllMean xs ts × OneList (programOf ps sheet) l₀ (freshRoundOn s ps t₀ l₀) (map onBytes xs) ts
   -- and demand 3 as 01 words it, "every list of arrivals, steps and board readings, refused ones included"
-  pub calls : (cs : List Call) → OnlyCalls (programOf ps sheet) l₀ (freshOn s ps t₀ l₀) cs
+  pub calls : (cs : List Call) → OnlyCalls (programOf ps sheet) l₀ (freshRoundOn s ps t₀ l₀) cs
 
 abbrev pub EverySheet : Type 0
 EverySheet =

@@ -38,7 +38,7 @@ use Rattle.link_join.proofs.JoinLaws.{Read}
 use Rattle.link_join.proofs.Says.{Answer, first-refused, second-refused, unlike, long, crowded, overlong, short, done, join-says, rules-board}
 use Rattle.run_start.specs.Start.{Result}
 use Rattle.refine_calls.specs.Refinement.{calls, Bytes, bytes, bytesAfter}
-use Rattle.refine_lists.specs.Lists.{boardOf, freshOn, OnlyCalls}
+use Rattle.refine_lists.specs.Lists.{boardOf, freshRoundOn, OnlyCalls}
 use Rattle.refine_lists.proofs.Sheets.{table-room, program-accepted, begun}
 use Rattle.refine_lists.proofs.OnlyCallsHold.{known, only-calls}
 use Rattle.link_halves.specs.HalfBoards.{boardAfter, SameCommits, NotSettling, Halves, HalfBoards}
@@ -68,7 +68,7 @@ module _ (ps : List ℕ) (x : Sheet) (ok : SheetAccepted (get ps) (length ps) x)
 
 -- a list of calls on its table, by demand 3
 list-of : (ps : List ℕ) → All (λ b. b < 256) ps → (x : Sheet) → SheetAccepted (get ps) (length ps) x → (s t₀ l₀ : List ℕ) → encode x ≡ s → 34816 ≤ length t₀ → 2048 ≤ length l₀
-    → (cs : List Call) → OnlyCalls (programOf ps x) l₀ (freshOn s ps t₀ l₀) cs
+    → (cs : List Call) → OnlyCalls (programOf ps x) l₀ (freshRoundOn s ps t₀ l₀) cs
 list-of ps words x ok s t₀ l₀ e a b cs =
     let p = programOf ps x in
     let accepted = program-accepted ps words x ok in
@@ -180,7 +180,7 @@ module _ (ps : List ℕ) (words : All (λ b. b < 256) ps) {s z : List ℕ} (x : 
       let c = cut cs h in
       let mine = list-of ps words (x .sheet) (x .accepted) s t₁ l₁ (x .bytes) a₁ b₁ ds in
       ap (take (size p)) (c .row) ∙ front (size p) (c .one) (c .two) (c .long-one)
-      ∙ by-rules p l₁ (freshOn s ps t₁ l₁) ds mine h₁ (declared p (eventsOf (committedIn j (map call cs)))) (c .one) same (c .first-plays)
+      ∙ by-rules p l₁ (freshRoundOn s ps t₁ l₁) ds mine h₁ (declared p (eventsOf (committedIn j (map call cs)))) (c .one) same (c .first-plays)
 
   second-half : (cs ds : List Call) → NotSettling j cs → NotSettling q ds → SameCommits j cs q ds
       → drop (size p) (boardAfter j (compileOn v ps t₀ .1) l₀ cs) ≡ boardAfter q (compileOn z ps t₂ .1) l₂ ds
@@ -188,7 +188,7 @@ module _ (ps : List ℕ) (words : All (λ b. b < 256) ps) {s z : List ℕ} (x : 
       let c = cut cs h in
       let mine = list-of ps words (y .sheet) (y .accepted) z t₂ l₂ (y .bytes) a₂ b₂ ds in
       ap (drop (size p)) (c .row) ∙ behind (size p) (c .one) (c .two) (c .long-one)
-      ∙ by-rules q l₂ (freshOn z ps t₂ l₂) ds mine h₂ (declared q (eventsOf (committedIn j (map call cs)))) (c .two) same (c .second-plays)
+      ∙ by-rules q l₂ (freshRoundOn z ps t₂ l₂) ds mine h₂ (declared q (eventsOf (committedIn j (map call cs)))) (c .two) same (c .second-plays)
 
   -- ---- rights and ranks
 

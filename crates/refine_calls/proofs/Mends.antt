@@ -69,7 +69,7 @@ module _ (u m x : List ℕ) (whole : long x ≡ true) where
 abbrev pub AlikeIn : List ℕ → State → Type 0
 AlikeIn l (state p w) = Alike (size p) l w
 
-pub record Agree (l : List ℕ) (x : Result) (o : TurnOutcome) : Type 0 where
+pub record AgreeChange (l : List ℕ) (x : Result) (o : TurnOutcome) : Type 0 where
   pub answered : x .0 ≡ codedReply (o .reply)
   pub alike : AlikeIn (x .1) (o .after)
   pub kept : Kept l (x .1)
@@ -136,7 +136,7 @@ module _ (p q : Program) (vp : Valid p) (vq : Valid q) (t u : List ℕ) (old : S
       pick settling (turnOutcome (says (refused refusals.settling)) (state p (engine k waiting r d)))
       (pick known (turnOutcome carriedOver (state q (carriedTo p q (engine k waiting r d)))) (turnOutcome (says (refused refusals.undeclaredInHand)) (state p (engine k waiting r d))))
 
-  by-tests : (settling known : Bool) → Agree l (onBytes settling known) (inModel settling known)
+  by-tests : (settling known : Bool) → AgreeChange l (onBytes settling known) (inModel settling known)
   unfolding mendWith mended
   by-tests true known = record { answered = refl; alike = R; kept = kept-all l }
   by-tests false true = record { answered = refl; alike = rel-after; kept = shown-kept u (worked .1) (backOf l) (gone-back .whole) 64 (omega arith) (gone-back .kept) }
@@ -157,7 +157,7 @@ module _ (p q : Program) (vp : Valid p) (vq : Valid q) (t u : List ℕ) (old : S
   unfolding turn
   model-opens = refl
 
-  pub mend-agrees : Agree l (mendOn t u l) (turn (change q) (state p (engine k waiting r d)))
+  pub mend-agrees : AgreeChange l (mendOn t u l) (turn (change q) (state p (engine k waiting r d)))
   mend-agrees = rw (opens, model-opens) (by-tests (model.settling p r) (declaredIn q (queue waiting r)))
 
   -- ---- the table in force after it

@@ -18,7 +18,7 @@ use Rattle.spec_model.proofs.History.{Fit, turn-fits, begun-fits}
 use Rattle.format_image.specs.Image.{tableOf}
 use Rattle.format_image.proofs.ImageLaws.{Says}
 use Rattle.run_start.specs.Start.{freshBytes}
-use Rattle.refine_calls.specs.Refinement.{Kept, codedReply, ByteTurn, calls, mends, Bytes, bytes, turnOn, numbersOn, bytesAfter, TableFor, IsTurn, AreTurns, ViewIn, Agreement}
+use Rattle.refine_calls.specs.Refinement.{Kept, codedReply, ByteTurn, calls, mends, Bytes, bytes, turnOnBytes, numbersOn, bytesAfter, TableFor, IsTurn, AreTurns, ViewIn, Agreement}
 use Rattle.refine_calls.proofs.Slots.{kept-trans}
 use Rattle.refine_calls.proofs.Agrees.{call-agrees}
 use Rattle.refine_calls.proofs.FreshRound.{fresh-kept, fresh-rel}
@@ -37,11 +37,11 @@ table-for q u f = subst (Says q) (sym (f .left)) (accepted-says q (f .accepted) 
 
 -- one turn: its number, and how the bytes stand after it
 pub record Turned (l₀ : List ℕ) (b : Bytes) (x : ByteTurn) (s : State) (t : Turn) : Type 0 where
-  pub answered : turnOn x b .number ≡ codedReply (turn t s .reply)
-  pub stand : Stand l₀ (turnOn x b .after) (turn t s .after)
+  pub answered : turnOnBytes x b .number ≡ codedReply (turn t s .reply)
+  pub stand : Stand l₀ (turnOnBytes x b .after) (turn t s .after)
 
 call-turned : (l₀ : List ℕ) (b : Bytes) (c : Call) (s : State) → Stand l₀ b s → Turned l₀ b (calls c) s (call c)
-unfolding turn turnOn
+unfolding turn turnOnBytes
 call-turned l₀ b c (state p w) h =
     let a = call-agrees p (h .fit .0) (b .table) (h .says) c (b .round) w (h .alike) (h .fit .1) in
     record {
@@ -50,7 +50,7 @@ call-turned l₀ b c (state p w) h =
     }
 
 change-turned : (l₀ : List ℕ) (b : Bytes) (u : List ℕ) (q : Program) (s : State) → TableFor q u → Stand l₀ b s → Turned l₀ b (mends u) s (change q)
-unfolding turnOn
+unfolding turnOnBytes
 change-turned l₀ b u q (state p (engine k waiting r d)) f h =
     let vq = valid q (f .accepted) in
     let new = table-for q u f in
@@ -84,7 +84,7 @@ turns-agree l₀ b [] s (t ∷ ts) m h = absurd m
 turns-agree l₀ b (x ∷ xs) s [] m h = absurd m
 turns-agree l₀ b (x ∷ xs) s (t ∷ ts) m h =
     let o = turned l₀ b x s t (m .0) h in
-    let k = turns-agree l₀ (turnOn x b .after) xs (turn t s .after) ts (m .1) (o .stand) in
+    let k = turns-agree l₀ (turnOnBytes x b .after) xs (turn t s .after) ts (m .1) (o .stand) in
     record { answered = λ z. o .answered z ∷ k .answered z; stand = k .stand }
 
 view-in : (l : List ℕ) (s : State) → AlikeIn l s → ViewIn l s

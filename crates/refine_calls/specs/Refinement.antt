@@ -102,19 +102,19 @@ byteOutcome n b = record { number = n; after = b }
 abbrev pub inForceAfter : ℕ → List ℕ → List ℕ → List ℕ
 inForceAfter n u t = pick (eqb n 0) u t
 
-unfoldable pub turnOn : ByteTurn → Bytes → ByteOutcome
-turnOn (calls c) b = byteOutcome (callOn (b .table) c (b .round) .0) (bytes (b .table) (callOn (b .table) c (b .round) .1))
-turnOn (mends u) b =
+unfoldable pub turnOnBytes : ByteTurn → Bytes → ByteOutcome
+turnOnBytes (calls c) b = byteOutcome (callOn (b .table) c (b .round) .0) (bytes (b .table) (callOn (b .table) c (b .round) .1))
+turnOnBytes (mends u) b =
     byteOutcome (mendOn (b .table) u (b .round) .0) (bytes (inForceAfter (mendOn (b .table) u (b .round) .0) u (b .table)) (mendOn (b .table) u (b .round) .1))
 
 -- the numbers of a list of turns, and the bytes after it
 unfoldable pub numbersOn : List ByteTurn → Bytes → List ℕ
 numbersOn [] b = []
-numbersOn (x ∷ xs) b = turnOn x b .number ∷ numbersOn xs (turnOn x b .after)
+numbersOn (x ∷ xs) b = turnOnBytes x b .number ∷ numbersOn xs (turnOnBytes x b .after)
 
 unfoldable pub bytesAfter : List ByteTurn → Bytes → Bytes
 bytesAfter [] b = b
-bytesAfter (x ∷ xs) b = bytesAfter xs (turnOn x b .after)
+bytesAfter (x ∷ xs) b = bytesAfter xs (turnOnBytes x b .after)
 
 -- calls alone, on one table: what a replay makes
 unfoldable pub answersOn : List ℕ → List Call → List ℕ → List ℕ

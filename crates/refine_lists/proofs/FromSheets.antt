@@ -20,7 +20,7 @@ use Rattle.refine_calls.specs.Refinement.{IsTurn, AreTurns, calls, bytesAfter, 
 use Rattle.refine_calls.proofs.Refines.{valid}
 use Rattle.refine_calls.proofs.Short.{sheet-short}
 use Rattle.refine_calls.proofs.TurnsRefine as refine
-use Rattle.refine_lists.specs.Lists.{OneList, TwoLists, boardOf, IdleNow, SheetTurn, calling, mending, Compiles, onBytes, Means, AllMean, freshOn, OnlyCalls, TwoRounds, TwoOnlyCalls}
+use Rattle.refine_lists.specs.Lists.{OneList, TwoLists, boardOf, IdleNow, SheetTurn, calling, mending, Compiles, onBytes, Means, AllMean, freshRoundOn, OnlyCalls, TwoRounds, TwoOnlyCalls}
 use Rattle.refine_lists.proofs.Sheets.{table-room, program-accepted, begun}
 use Rattle.refine_lists.proofs.ListsHold.{one-list, two-lists}
 use Rattle.refine_lists.proofs.OnlyCallsHold.{only-calls, two-only-calls}
@@ -77,7 +77,7 @@ some-turns (x ∷ xs) k =
 -- ---- fresh rounds
 
 fresh-is : (s ps t₀ l₀ : List ℕ) → All (λ b. b < 256) s → (x : Sheet) → encode x ≡ s → SheetAccepted (get ps) (length ps) x
-    → (ok : Accepted (programOf ps x)) (a : 34816 ≤ length t₀) (b : 2048 ≤ length l₀) → refine.freshFrom (programOf ps x) ok t₀ l₀ a b ≡ freshOn s ps t₀ l₀
+    → (ok : Accepted (programOf ps x)) (a : 34816 ≤ length t₀) (b : 2048 ≤ length l₀) → refine.freshFrom (programOf ps x) ok t₀ l₀ a b ≡ freshRoundOn s ps t₀ l₀
 fresh-is s ps t₀ l₀ small x e taken ok a b =
     let t : compileOn s ps t₀ .1 ≡ tableOf (programOf ps x) t₀ = table-is s ps t₀ small x e taken a in
     let r = ap (λ (o : Result). o .1) (begun (programOf ps x) ok t₀ l₀ (compileOn s ps t₀ .1) a b t) in
@@ -87,14 +87,14 @@ fresh-is s ps t₀ l₀ small x e taken ok a b =
 
 module _ (s ps t₀ l₀ : List ℕ) (small : All (λ b. b < 256) s) (words : All (λ b. b < 256) ps) (room : 2048 ≤ length l₀) (h : compileOn s ps t₀ .0 ≡ 0)
     (x : Sheet) (e : encode x ≡ s) (taken : SheetAccepted (get ps) (length ps) x) where
-  pub list-of : (xs : List SheetTurn) → All Compiles xs → (ts : List Turn) → AllMean xs ts → OneList (programOf ps x) l₀ (freshOn s ps t₀ l₀) (map onBytes xs) ts
+  pub list-of : (xs : List SheetTurn) → All Compiles xs → (ts : List Turn) → AllMean xs ts → OneList (programOf ps x) l₀ (freshRoundOn s ps t₀ l₀) (map onBytes xs) ts
   list-of xs k ts m =
       let ok = program-accepted ps words x taken in
       let a = table-room s ps t₀ h in
       subst (λ (b : Bytes). OneList (programOf ps x) l₀ b (map onBytes xs) ts) (fresh-is s ps t₀ l₀ small x e taken ok a room)
       (one-list (programOf ps x) ok t₀ l₀ a room (map onBytes xs) ts (all-bytes xs ts k m))
 
-  pub calls-of : (cs : List Call) → OnlyCalls (programOf ps x) l₀ (freshOn s ps t₀ l₀) cs
+  pub calls-of : (cs : List Call) → OnlyCalls (programOf ps x) l₀ (freshRoundOn s ps t₀ l₀) cs
   calls-of cs =
       let ok = program-accepted ps words x taken in
       let a = table-room s ps t₀ h in
@@ -119,19 +119,19 @@ module _ (s ps qs t₀ l₀ t₁ l₁ : List ℕ) (x : Sheet) (r : TwoRounds s p
   abbrev other : Bytes
   other = refine.freshFrom p ok t₁ l₁ b (r .other-room)
 
-  one-is : one ≡ freshOn s ps t₀ l₀
+  one-is : one ≡ freshRoundOn s ps t₀ l₀
   one-is = fresh-is s ps t₀ l₀ (r .sheet-bytes) x (r .sheet-is) (r .one-taken) ok a (r .one-room)
 
   -- the other's parameters fill in the same program
-  other-is : other ≡ freshOn s qs t₁ l₁
+  other-is : other ≡ freshRoundOn s qs t₁ l₁
   other-is =
       let t : compileOn s qs t₁ .1 ≡ tableOf p t₁ =
       table-is s qs t₁ (r .sheet-bytes) x (r .sheet-is) (r .other-taken) b ∙ ap (λ (q : Program). tableOf q t₁) (r .filled) in
       let m = ap (λ (o : Result). o .1) (begun p ok t₁ l₁ (compileOn s qs t₁ .1) b (r .other-room) t) in
       λ i. bytes (sym t i) (sym m i)
 
-  moved : (P : Bytes → Bytes → Type 0) → P one other → P (freshOn s ps t₀ l₀) (freshOn s qs t₁ l₁)
-  moved P h = subst (λ (c : Bytes). P c (freshOn s qs t₁ l₁)) one-is (subst (P one) other-is h)
+  moved : (P : Bytes → Bytes → Type 0) → P one other → P (freshRoundOn s ps t₀ l₀) (freshRoundOn s qs t₁ l₁)
+  moved P h = subst (λ (c : Bytes). P c (freshRoundOn s qs t₁ l₁)) one-is (subst (P one) other-is h)
 
 pub two-lists-hold : TwoLists
 two-lists-hold s ps qs t₀ l₀ t₁ l₁ x r xs ys kx ky ts us mt mu same kept apart =

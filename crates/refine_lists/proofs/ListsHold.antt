@@ -19,7 +19,7 @@ use Rattle.spec_semantics.proofs.PlaysLaws.{plays}
 use Rattle.spec_semantics.proofs.Lengths.{length-fresh}
 use Rattle.spec_semantics.proofs.OverAgrees.{rules-find, rules-find-only}
 use Rattle.spec_model.specs.Model.{Arrival, arrival, Call, step, Answer, committed, act, Turn, call, State, state, says, turn, runTurns, begun}
-use Rattle.spec_model.specs.Claims.{settlingIn, aloneCalls, eventsOf, takenInBy, courseOf, SameChanges, ApartEach, commits, inForce, engineIn, numberIn, storeIn, IdleIn, after, historyOf, Sound, Replays, Holds}
+use Rattle.spec_model.specs.Claims.{settlingIn, aloneCalls, eventsOf, takenInBy, courseOf, SameChanges, ApartEach, commits, inForce, engineIn, numberIn, storeIn, IdleIn, after, historyOf, Sound, Replays, Sentences}
 use Rattle.spec_model.proofs.History.{runs-append, Fit}
 use Rattle.spec_model.proofs.Boards.{storeAfter, stored}
 use Rattle.spec_model.proofs.Replaying.{proper, replays, replays-alone}
@@ -73,7 +73,7 @@ module _ (p : Program) (ok : Accepted p) (t₀ l₀ : List ℕ) (table-room : 34
     pub idle-is : (IdleNow (bytesAfter xs bytes) → IdleIn (after p ts)) × (IdleIn (after p ts) → IdleNow (bytesAfter xs bytes))
     idle-is = idle-both l₀ (bytesAfter xs bytes) (after p ts) stand
 
-    all : Holds p ts
+    all : Sentences p ts
     all = holds p v ts sound
 
     -- ---- the board

@@ -14,12 +14,12 @@ use Rattle.spec_semantics.specs.Meaning.{event, fresh, play}
 use Rattle.spec_semantics.specs.Plays.{Plays}
 use Rattle.spec_semantics.proofs.PlaysLaws.{plays, plays-alone}
 use Rattle.spec_semantics.proofs.Lengths.{length-fresh}
-use Rattle.spec_model.specs.Model.{Arrival, Call, begun, call}
-use Rattle.spec_model.specs.Claims.{Moment, commits, committedIn, eventsOf, engineIn, inForce, after, historyOf, takenInBy, replayed, settlingIn, storeIn, courseOf, last, onward, SameChanges, ApartIn, ApartEach, Course}
+use Rattle.spec_model.specs.Model.{Arrival, Call, State, state, call, turn, replies, begun}
+use Rattle.spec_model.specs.Claims.{Moment, Unchanged, commits, committedIn, eventsOf, engineIn, inForce, after, historyOf, takenInBy, replayed, settlingIn, storeIn, courseOf, last, onward, SameChanges, ApartIn, ApartEach, Course}
 use Rattle.spec_model.proofs.Alone.{only-commits}
 use Rattle.spec_model.proofs.Confluence.{each-perm}
 use Rattle.spec_model.proofs.Replaying.{Proper, proper}
-use Rattle.refine_calls.specs.Refinement.{calls, Bytes, bytesAfter, turnOn, AreTurns}
+use Rattle.refine_calls.specs.Refinement.{calls, Bytes, bytesAfter, turnOnBytes, AreTurns}
 use Rattle.refine_calls.proofs.Refines.{valid}
 use Rattle.refine_calls.proofs.TurnsRefine.{turns-sound}
 use Rattle.refine_calls.proofs.TurnsRefine as refine
@@ -43,9 +43,15 @@ one-sheet [] = refl
 one-sheet (a ∷ l) = ap (onward a) (one-sheet l)
 
 pub table-stays : (cs : List Call) (b : Bytes) → bytesAfter (map calls cs) b .table ≡ b .table
-unfolding bytesAfter turnOn
+unfolding bytesAfter turnOnBytes
 table-stays [] b = refl
-table-stays (c ∷ cs) b = table-stays cs (turnOn (calls c) b .after)
+table-stays (c ∷ cs) b = table-stays cs (turnOnBytes (calls c) b .after)
+
+-- a call is no change
+calls-say : (ds : List Call) (s : State) → Unchanged (map call ds) s
+unfolding replies turn
+calls-say [] s = tt
+calls-say (d ∷ ds) (state p w) = (tt, calls-say ds (turn (call d) (state p w) .after))
 
 are-calls : (cs : List Call) → AreTurns (map calls cs) (map call cs)
 are-calls cs = turns-calls [] [] cs tt
@@ -86,6 +92,8 @@ module _ (p : Program) (ok : Accepted p) where
         let es : List ℕ = eventsOf (committedIn p (map call cs)) in
         record {
           list = list cs;
+          history = history cs;
+          unchanged = λ ds. calls-say ds (after p (map call cs));
           in-force = stays cs;
           table = table-stays cs first;
           board = λ h. subst (Plays p es (fresh p)) (sym (at-rules cs h)) (plays p (valid p ok) es (known cs) (fresh p) (length-fresh p));

@@ -12,7 +12,7 @@ use Rattle.spec_model.specs.Claims.{forecast, previewed, inForce, engineIn, sto
 use Rattle.run_step.specs.Machine.{stepOn}
 use Rattle.run_forecast.specs.Forecast.{forecastOn}
 use Rattle.run_preview.specs.Preview.{previewOn}
-use Rattle.refine_calls.specs.Refinement.{coded, decoded, toldOn, callOn, codedReply, ByteTurn, calls, mends, Bytes, turnOn, IsTurn, AreTurns}
+use Rattle.refine_calls.specs.Refinement.{coded, decoded, toldOn, callOn, codedReply, ByteTurn, calls, mends, Bytes, turnOnBytes, IsTurn, AreTurns}
 use Rattle.refine_calls.proofs.Coded.{answer-to, decoded-coded, coded-injective, told-coded}
 use Rattle.refine_calls.proofs.Agrees.{call-agrees}
 use Rattle.refine_calls.proofs.Forecasts.{forecast-agrees}
@@ -81,5 +81,5 @@ all-read l₀ b [] [] s m h = refl
 all-read l₀ b [] (t ∷ ts) s m h = absurd m
 all-read l₀ b (x ∷ xs) [] s m h = absurd m
 all-read l₀ b (x ∷ xs) (t ∷ ts) s m h =
-    let k = all-read l₀ (turnOn x b .after) xs ts (turn t s .after) (m .1) (turned l₀ b x s t (m .0) h .stand) in
+    let k = all-read l₀ (turnOnBytes x b .after) xs ts (turn t s .after) (m .1) (turned l₀ b x s t (m .0) h .stand) in
     λ z. one-read l₀ b x t s (m .0) h z ∷ k z

@@ -7,7 +7,7 @@ use Rattle.lib_base.proofs.Tools.{by-test}
 use Rattle.spec_language.specs.Syntax.{Program}
 use Rattle.spec_model.specs.Model.{engine, queue, settling, Turn, call, change, State, state, TurnOutcome, declaredIn, turn, runTurns}
 use Rattle.spec_model.specs.Claims.{inForce}
-use Rattle.refine_calls.specs.Refinement.{codedReply, ByteTurn, calls, mends, Bytes, inForceAfter, turnOn, bytesAfter, IsTurn, AreTurns}
+use Rattle.refine_calls.specs.Refinement.{codedReply, ByteTurn, calls, mends, Bytes, inForceAfter, turnOnBytes, bytesAfter, IsTurn, AreTurns}
 use Rattle.refine_calls.proofs.TurnsRefine.{Stand, turned}
 use Rattle.refine_lists.specs.Lists.{Left}
 
@@ -19,8 +19,8 @@ change-left u t q n (state p (engine k waiting r d)) old new =
     by-test P (settling p r) (λ _ e. rw e old) (λ _. by-test P (declaredIn q (queue waiting r)) (λ _ e. rw e new) (λ _ e. rw e old))
 
 turn-left : (l₀ : List ℕ) (b : Bytes) (x : ByteTurn) (t : Turn) (s : State) → IsTurn x t → Stand l₀ b s → Left (inForce s) (b .table)
-    → Left (inForce (turn t s .after)) (turnOn x b .after .table)
-unfolding turn turnOn
+    → Left (inForce (turn t s .after)) (turnOnBytes x b .after .table)
+unfolding turn turnOnBytes
 turn-left l₀ b (calls c) (call e) (state p w) m h k = k
 turn-left l₀ b (calls c) (change q) s m h k = absurd m
 turn-left l₀ b (mends u) (call e) s m h k = absurd m
@@ -33,4 +33,4 @@ turns-left l₀ b [] [] s m h k = k
 turns-left l₀ b [] (t ∷ ts) s m h k = absurd m
 turns-left l₀ b (x ∷ xs) [] s m h k = absurd m
 turns-left l₀ b (x ∷ xs) (t ∷ ts) s m h k =
-    turns-left l₀ (turnOn x b .after) xs ts (turn t s .after) (m .1) (turned l₀ b x s t (m .0) h .stand) (turn-left l₀ b x t s (m .0) h k)
+    turns-left l₀ (turnOnBytes x b .after) xs ts (turn t s .after) (m .1) (turned l₀ b x s t (m .0) h .stand) (turn-left l₀ b x t s (m .0) h k)

@@ -18,7 +18,7 @@ use Rattle.spec_language.specs.Syntax.{Program}
 use Rattle.spec_semantics.specs.Meaning.{fresh, withStore}
 use Rattle.spec_semantics.specs.Over.{EventOver}
 use Rattle.spec_semantics.specs.Plays.{Plays}
-use Rattle.spec_model.specs.Claims.{inForce, after, historyOf, takenInBy, courseOf, SameChanges, ApartEach, engineIn, numberIn, IdleIn, commits, Replays, Holds, eventsOf, settlingIn, aloneCalls, forecast, previewed, committedIn, ApartIn}
+use Rattle.spec_model.specs.Claims.{inForce, after, historyOf, takenInBy, courseOf, SameChanges, ApartEach, engineIn, numberIn, IdleIn, commits, Replays, Sentences, eventsOf, settlingIn, aloneCalls, forecast, previewed, committedIn, ApartIn, Unchanged}
 use Rattle.spec_model.specs.Model.{Turn, call, Reply, says, carriedOver, replies, begun, change, Arrival, arrival, step, refused, committed, unmarked, act, Call}
 use Rattle.format_image.specs.Image.{tableOf}
 use Rattle.back_compile.specs.Verdict.{programOf, compileOn}
@@ -82,7 +82,7 @@ pub record OneList (p : Program) (l₀ : List ℕ) (b : Bytes) (xs : List ByteTu
   -- after the lower's copy-back began. Once no more are taken in, the round is idle within 01's count of steps."; M-100's
   -- exact count; M-101, that whichever way the round is run to idle its board shows the previewed value; M-113, that
   -- nobody waits for ever
-  pub sentences : Holds p ts
+  pub sentences : Sentences p ts
   -- demand 2: "An event run alone leaves on the board, for every behaviour, the value that the paper's big-step rules
   -- give": from an idle round, an event that is taken in, from whoever may send it, and stepped to its commit
   pub one-event : IdleNow (bytesAfter xs b) → (e who : ℕ) → e < events (inForce (after p ts)) → who < 8 → maySend (inForce (after p ts)) who e ≡ true
@@ -110,6 +110,9 @@ pub record OneList (p : Program) (l₀ : List ℕ) (b : Bytes) (xs : List ByteTu
 
 pub record OnlyCalls (p : Program) (l₀ : List ℕ) (b : Bytes) (cs : List Call) : Type 0 where
   pub list : OneList p l₀ b (map calls cs) (map call cs)
+  -- the history is the commits, and further calls change no sheet either: so the sentences of what follows hold of them
+  pub history : historyOf p (map call cs) ≡ map commits (committedIn p (map call cs))
+  pub unchanged : (ds : List Call) → Unchanged (map call ds) (after p (map call cs))
   -- the sheet stays in force, and "The table is still as compile left it"
   pub in-force : inForce (after p (map call cs)) ≡ p
   pub table : bytesAfter (map calls cs) b .table ≡ b .table
@@ -152,8 +155,8 @@ AllMean (x ∷ xs) [] = ⊥
 AllMean (x ∷ xs) (t ∷ ts) = Means x t × AllMean xs ts
 
 -- the table that compile leaves, and the round that start makes fresh from it
-abbrev pub freshOn : List ℕ → List ℕ → List ℕ → List ℕ → Bytes
-freshOn s ps t₀ l₀ = bytes (compileOn s ps t₀ .1) (startOn (compileOn s ps t₀ .1) l₀ .1)
+abbrev pub freshRoundOn : List ℕ → List ℕ → List ℕ → List ℕ → Bytes
+freshRoundOn s ps t₀ l₀ = bytes (compileOn s ps t₀ .1) (startOn (compileOn s ps t₀ .1) l₀ .1)
 
 -- ---- two lists on one sheet, each on a table and a round of its own. The parameters lent may differ where the program
 -- filled in is the same: none to one and 32 bytes to the other of a sheet that uses none, for instance
@@ -182,9 +185,9 @@ TwoLists =
     → eventsOf (takenInBy (programOf ps x) ts) ≡ eventsOf (takenInBy (programOf ps x) us)
     → SameChanges (courseOf (historyOf (programOf ps x) ts)) (courseOf (historyOf (programOf ps x) us))
     → ApartEach (programOf ps x) (courseOf (historyOf (programOf ps x) ts))
-    → IdleNow (bytesAfter (map onBytes xs) (freshOn s ps t₀ l₀)) → IdleNow (bytesAfter (map onBytes ys) (freshOn s qs t₁ l₁))
-    → boardOf (inForce (after (programOf ps x) ts)) (bytesAfter (map onBytes xs) (freshOn s ps t₀ l₀) .round)
-    ≡ boardOf (inForce (after (programOf ps x) us)) (bytesAfter (map onBytes ys) (freshOn s qs t₁ l₁) .round)
+    → IdleNow (bytesAfter (map onBytes xs) (freshRoundOn s ps t₀ l₀)) → IdleNow (bytesAfter (map onBytes ys) (freshRoundOn s qs t₁ l₁))
+    → boardOf (inForce (after (programOf ps x) ts)) (bytesAfter (map onBytes xs) (freshRoundOn s ps t₀ l₀) .round)
+    ≡ boardOf (inForce (after (programOf ps x) us)) (bytesAfter (map onBytes ys) (freshRoundOn s qs t₁ l₁) .round)
 
 -- of calls alone, as 01 words it: "those of unequal rank being independent", of the arrivals taken in; 02, M-107:
 -- "Arrivals in hand commit as before, whoever sent them"
@@ -194,6 +197,6 @@ TwoOnlyCalls =
     → (cs ds : List Call)
     → eventsOf (takenInBy (programOf ps x) (map call cs)) ≡ eventsOf (takenInBy (programOf ps x) (map call ds))
     → ApartIn (programOf ps x) (takenInBy (programOf ps x) (map call cs))
-    → IdleNow (bytesAfter (map calls cs) (freshOn s ps t₀ l₀)) → IdleNow (bytesAfter (map calls ds) (freshOn s qs t₁ l₁))
-    → boardOf (programOf ps x) (bytesAfter (map calls cs) (freshOn s ps t₀ l₀) .round)
-    ≡ boardOf (programOf ps x) (bytesAfter (map calls ds) (freshOn s qs t₁ l₁) .round)
+    → IdleNow (bytesAfter (map calls cs) (freshRoundOn s ps t₀ l₀)) → IdleNow (bytesAfter (map calls ds) (freshRoundOn s qs t₁ l₁))
+    → boardOf (programOf ps x) (bytesAfter (map calls cs) (freshRoundOn s ps t₀ l₀) .round)
+    ≡ boardOf (programOf ps x) (bytesAfter (map calls ds) (freshRoundOn s qs t₁ l₁) .round)

@@ -13,7 +13,7 @@ use Rattle.refine_calls.specs.Refinement.{coded}
 use Rattle.refine_lists.specs.Lists.{calling, Compiles, AllMean}
 use Rattle.refine_lists.proofs.Sheets.{program-accepted}
 use Rattle.refine_lists.proofs.FromSheets.{list-of}
-use Rattle.secrecy_model.specs.Sight.{Condition, both, inOne, inOther, AllFit}
+use Rattle.secrecy_model.specs.Sight.{Condition, both, inOne, inOther, ConditionAll}
 use Rattle.secrecy_model.proofs.RuleHolds.{players-rule}
 use Rattle.secrecy_engine.specs.Heard.{TwoSheets, hearsIn, WithChanges, OfCalls, RuleOn}
 use Rattle.secrecy_engine.proofs.Told.{renumbered, turns-heard, same-kinds}
@@ -47,7 +47,7 @@ with-changes player s z ps qs t₀ l₀ t₁ l₁ x y h l f xs ys kx ky mx my =
 
 -- ---- calls alone
 
-calls-fit : (player : ℕ) (cs : List Call) (x y : State) → AllFit player (map both cs) x y
+calls-fit : (player : ℕ) (cs : List Call) (x y : State) → ConditionAll player (map both cs) x y
 calls-fit player [] x y = tt
 calls-fit player (c ∷ cs) x y = (tt, calls-fit player cs (turn (inOne (both c)) x .after) (turn (inOther (both c)) y .after))
 

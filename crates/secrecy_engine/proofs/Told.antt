@@ -12,7 +12,7 @@ use Rattle.lib_base.proofs.Tools.{by-two, split}
 use Rattle.spec_model.specs.Model.{Call, arrive, step, board, Answer, refused, takenIn, shows, idle, ran, started, preempted, committed, toldTo, unmarked, Turn, call, change, Reply, says, carriedOver}
 use Rattle.refine_calls.specs.Refinement.{codedReply, coded, toldOn}
 use Rattle.refine_lists.specs.Lists.{SheetTurn, calling, mending, Means, AllMean}
-use Rattle.secrecy_model.specs.Sight.{hears, said, hearsOf, Pair, both, each, inOne, inOther}
+use Rattle.secrecy_model.specs.Sight.{hears, asReply, hearsOf, Pair, both, each, inOne, inOther}
 use Rattle.secrecy_engine.specs.Heard.{hearsOn, hearsIn}
 
 told-coded : (a : Answer) → toldOn (coded a) ≡ toldOn (coded (unmarked a))
@@ -52,7 +52,7 @@ renumbered player (call c) (some carriedOver) = hearsOn player c 0
 renumbered player (change q) none = none
 renumbered player (change q) (some r) = some (codedReply r)
 
-said-renumbered : (player : ℕ) (c : Call) (a : Option Answer) → recoded player c a ≡ renumbered player (call c) (said a)
+said-renumbered : (player : ℕ) (c : Call) (a : Option Answer) → recoded player c a ≡ renumbered player (call c) (asReply a)
 said-renumbered player c none = refl
 said-renumbered player c (some a) = refl
 

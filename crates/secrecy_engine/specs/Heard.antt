@@ -21,8 +21,8 @@ use Rattle.back_compile.specs.Verdict.{programOf, compileOn}
 use Rattle.run_forecast.specs.Forecast.{forecastOn}
 use Rattle.run_preview.specs.Preview.{previewOn}
 use Rattle.refine_calls.specs.Refinement.{toldOn, Bytes, numbersOn, bytesAfter}
-use Rattle.refine_lists.specs.Lists.{SheetTurn, calling, mending, Compiles, onBytes, AllMean, freshOn}
-use Rattle.secrecy_model.specs.Sight.{Sealed, AlikeBut, Pair, inOne, inOther, AllFit}
+use Rattle.refine_lists.specs.Lists.{SheetTurn, calling, mending, Compiles, onBytes, AllMean, freshRoundOn}
+use Rattle.secrecy_model.specs.Sight.{Sealed, AlikeBut, Pair, inOne, inOther, ConditionAll}
 
 -- ---- the two sheets x and y, which compile accepts as the bytes s and z with the parameters ps and qs, in any table and
 -- round bytes of 01's lengths
@@ -76,15 +76,15 @@ pub record HeardAlike (player : ℕ) (b : Bytes) (xs : List SheetTurn) (c : Byte
 abbrev pub WithChanges : Type 0
 WithChanges =
     (player : ℕ) (s z ps qs t₀ l₀ t₁ l₁ : List ℕ) (x y : Sheet) → TwoSheets player s z ps qs t₀ l₀ t₁ l₁ x y
-    → (l : List Pair) → AllFit player l (begun (programOf ps x)) (begun (programOf qs y))
+    → (l : List Pair) → ConditionAll player l (begun (programOf ps x)) (begun (programOf qs y))
     → (xs ys : List SheetTurn) → All Compiles xs → All Compiles ys → AllMean xs (map inOne l) → AllMean ys (map inOther l)
-    → HeardAlike player (freshOn s ps t₀ l₀) xs (freshOn z qs t₁ l₁) ys
+    → HeardAlike player (freshRoundOn s ps t₀ l₀) xs (freshRoundOn z qs t₁ l₁) ys
 
 -- as M-107 words it, of the same calls in both rounds
 abbrev pub OfCalls : Type 0
 OfCalls =
     (player : ℕ) (s z ps qs t₀ l₀ t₁ l₁ : List ℕ) (x y : Sheet) → TwoSheets player s z ps qs t₀ l₀ t₁ l₁ x y
-    → (cs : List Call) → HeardAlike player (freshOn s ps t₀ l₀) (map calling cs) (freshOn z qs t₁ l₁) (map calling cs)
+    → (cs : List Call) → HeardAlike player (freshRoundOn s ps t₀ l₀) (map calling cs) (freshRoundOn z qs t₁ l₁) (map calling cs)
 
 pub record RuleOn : Type 0 where
   pub with-changes : WithChanges

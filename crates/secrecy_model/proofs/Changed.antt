@@ -22,7 +22,7 @@ use Rattle.spec_model.specs.Claims.{inQueue, settlingIn}
 use Rattle.spec_model.proofs.Carries.{active-below, length-actives, actives-at, length-carried}
 use Rattle.spec_model.proofs.History.{all-declared, reached-carried}
 use Rattle.spec_model.proofs.Boards.{carried-done}
-use Rattle.secrecy_model.specs.Sight.{Sealed, SameHidden, Made}
+use Rattle.secrecy_model.specs.Sight.{Sealed, SameHidden, EitherMakes}
 use Rattle.secrecy_model.proofs.Programs.{BehaviourAlike, Alike, events-same}
 use Rattle.secrecy_model.proofs.Stores.{sealed-direct, first-agree}
 use Rattle.secrecy_model.proofs.Control.{control, settling-both}
@@ -61,7 +61,7 @@ changed-by p q (engine t waiting r d) = refl
 -- both rounds refuse it alike, or one of them makes it
 pub refused-or-made : (p : Program) (w : Engine) (q : Program) (x : Engine) → settlingIn p w ≡ settlingIn q x → (p′ q′ : Program) (P : TurnOutcome → TurnOutcome → Type 0)
     → ((a : Answer) → P (turnOutcome (says a) (state p w)) (turnOutcome (says a) (state q x)))
-    → (Made (change p′) (state p w) (change q′) (state q x) → P (turn (change p′) (state p w)) (turn (change q′) (state q x)))
+    → (EitherMakes (change p′) (state p w) (change q′) (state q x) → P (turn (change p′) (state p w)) (turn (change q′) (state q x)))
     → P (turn (change p′) (state p w)) (turn (change q′) (state q x))
 refused-or-made p w q x same p′ q′ P refuse make =
     let one = changed-by p p′ w in

@@ -17,7 +17,7 @@ use Rattle.spec_execution.specs.Execution.{emptied}
 use Rattle.spec_model.specs.Model.{Engine, TurnOutcome, change, State, state, Reply, turn, runTurns, replies, begun}
 use Rattle.spec_model.specs.Claims.{forecast, previewed, inForce, engineIn, after}
 use Rattle.spec_model.proofs.History.{begun-fits}
-use Rattle.secrecy_model.specs.Sight.{Sealed, AlikeBut, Condition, Pair, both, each, inOne, inOther, SameHidden, Fits, AllFit, said, hearsOf, heardOf, EqualReplies, PlayersRule}
+use Rattle.secrecy_model.specs.Sight.{Sealed, AlikeBut, Condition, Pair, both, each, inOne, inOther, SameHidden, ConditionAt, ConditionAll, asReply, hearsOf, heardOf, EqualReplies, PlayersRule}
 use Rattle.secrecy_model.proofs.Programs.{Alike, sheets-alike}
 use Rattle.secrecy_model.proofs.Stores.{sealed-direct, fresh-agree}
 use Rattle.secrecy_model.proofs.Answered.{host-same, valid}
@@ -28,15 +28,15 @@ use Rattle.secrecy_model.proofs.Control.{settling-both}
 -- ---- what each turn keeps holds after every list, and what is heard of each is heard of the list
 
 module _ (player : ℕ) (R : State → State → Type 0)
-    (go : (c : Pair) (x y : State) → R x y → Fits player c x y
+    (go : (c : Pair) (x y : State) → R x y → ConditionAt player c x y
     → (hearsOf player (inOne c) (turn (inOne c) x .reply) ≡ hearsOf player (inOther c) (turn (inOther c) y .reply))
     × R (turn (inOne c) x .after) (turn (inOther c) y .after)) where
-  runs : (l : List Pair) (x y : State) → R x y → AllFit player l x y → R (runTurns (map inOne l) x) (runTurns (map inOther l) y)
+  runs : (l : List Pair) (x y : State) → R x y → ConditionAll player l x y → R (runTurns (map inOne l) x) (runTurns (map inOther l) y)
   unfolding runTurns
   runs [] x y r f = r
   runs (c ∷ l) x y r f = runs l (turn (inOne c) x .after) (turn (inOther c) y .after) (go c x y r (f .0) .1) (f .1)
 
-  all-heard : (l : List Pair) (x y : State) → R x y → AllFit player l x y → heardOf player (map inOne l) x ≡ heardOf player (map inOther l) y
+  all-heard : (l : List Pair) (x y : State) → R x y → ConditionAll player l x y → heardOf player (map inOne l) x ≡ heardOf player (map inOther l) y
   unfolding replies zipWith
   all-heard [] x y r f = refl
   all-heard (c ∷ l) x y r f =
@@ -56,11 +56,11 @@ module _ (player : ℕ) (guest : eqb player 0 ≡ false) where
       subst (λ (r : Program). Both (turn (change (fill v s)) (state p x)) (turn (change r) (state q y))) (sym (c .filled))
       (twin-change player p x q y h (fill v s) (fill v t) (sheets-alike v player s t (c .alike)) (c .sealed) hidden (valid (fill v s) (c .one)) (valid (fill v t) (c .other)))
 
-  twin-turn : (c : Pair) (x y : State) → TwinStates player x y → Fits player c x y
+  twin-turn : (c : Pair) (x y : State) → TwinStates player x y → ConditionAt player c x y
       → (hearsOf player (inOne c) (turn (inOne c) x .reply) ≡ hearsOf player (inOther c) (turn (inOther c) y .reply))
       × TwinStates player (turn (inOne c) x .after) (turn (inOther c) y .after)
   unfolding turn
-  twin-turn (both c) (state p x) (state q y) h f = (ap said (call-heard player p x q y h guest c), twin-call player p x q y h c)
+  twin-turn (both c) (state p x) (state q y) h f = (ap asReply (call-heard player p x q y h guest c), twin-call player p x q y h c)
   twin-turn (each v w s t) (state p x) (state q y) h f =
       let k : Both (turn (change (fill v s)) (state p x)) (turn (change (fill w t)) (state q y)) =
       refused-or-made p x q y (settling-both player p q (h .alike) x y (h .together)) (fill v s) (fill w t) Both (λ a. (refl, h))
@@ -97,7 +97,7 @@ module _ (player : ℕ) (guest : eqb player 0 ≡ false) where
         agree = fresh-agree player p q alike (sealed-direct p player sealed) vp vq;
       }
 
-  guest-replies : (v w : ℕ → ℕ) (s t : Sheet) → Condition player v w s t → (l : List Pair) → AllFit player l (begun (fill v s)) (begun (fill w t))
+  guest-replies : (v w : ℕ → ℕ) (s t : Sheet) → Condition player v w s t → (l : List Pair) → ConditionAll player l (begun (fill v s)) (begun (fill w t))
       → EqualReplies player (fill v s) (fill w t) l
   guest-replies v w s t c l f =
       let start : TwinStates player (begun (fill v s)) (begun (fill w t)) =
@@ -117,7 +117,7 @@ host-sheets v w s t c = host-same (fill v s) (fill v t) (sheets-alike v 0 s t (c
 abbrev Same : TurnOutcome → TurnOutcome → Type 0
 Same a b = (a .reply ≡ b .reply) × (a .after ≡ b .after)
 
-host-here : (c : Pair) (x : State) → Fits 0 c x x
+host-here : (c : Pair) (x : State) → ConditionAt 0 c x x
     → (hearsOf 0 (inOne c) (turn (inOne c) x .reply) ≡ hearsOf 0 (inOther c) (turn (inOther c) x .reply)) × (turn (inOne c) x .after ≡ turn (inOther c) x .after)
 host-here (both c) x f = (refl, refl)
 host-here (each v w s t) (state p x) f =
@@ -126,13 +126,13 @@ host-here (each v w s t) (state p x) f =
     (λ m. subst (λ (r : Program). Same (turn (change (fill v s)) (state p x)) (turn (change r) (state p x))) (host-sheets v w s t (f m .0)) (refl, refl)) in
     (ap (λ (r : Reply). some r) (k .0), k .1)
 
-host-turn : (c : Pair) (x y : State) → x ≡ y → Fits 0 c x y
+host-turn : (c : Pair) (x y : State) → x ≡ y → ConditionAt 0 c x y
     → (hearsOf 0 (inOne c) (turn (inOne c) x .reply) ≡ hearsOf 0 (inOther c) (turn (inOther c) y .reply)) × (turn (inOne c) x .after ≡ turn (inOther c) y .after)
 host-turn c x y e =
-    subst (λ (z : State). Fits 0 c x z → (hearsOf 0 (inOne c) (turn (inOne c) x .reply) ≡ hearsOf 0 (inOther c) (turn (inOther c) z .reply))
+    subst (λ (z : State). ConditionAt 0 c x z → (hearsOf 0 (inOne c) (turn (inOne c) x .reply) ≡ hearsOf 0 (inOther c) (turn (inOther c) z .reply))
     × (turn (inOne c) x .after ≡ turn (inOther c) z .after)) e (host-here c x)
 
-host-replies : (v w : ℕ → ℕ) (s t : Sheet) → Condition 0 v w s t → (l : List Pair) → AllFit 0 l (begun (fill v s)) (begun (fill w t)) → EqualReplies 0 (fill v s) (fill w t) l
+host-replies : (v w : ℕ → ℕ) (s t : Sheet) → Condition 0 v w s t → (l : List Pair) → ConditionAll 0 l (begun (fill v s)) (begun (fill w t)) → EqualReplies 0 (fill v s) (fill w t) l
 host-replies v w s t c l f =
     let start : begun (fill v s) ≡ begun (fill w t) = ap begun (host-sheets v w s t c) in
     let late : after (fill v s) (map inOne l) ≡ after (fill w t) (map inOther l) = runs 0 (λ (x y : State). x ≡ y) host-turn l (begun (fill v s)) (begun (fill w t)) start f in
@@ -149,6 +149,6 @@ players-rule player v w s t c l f =
     split (eqb player 0)
     (λ z.
     let host : player ≡ 0 = eqb-true player 0 z in
-    subst (λ (k : ℕ). Condition k v w s t → AllFit k l (begun (fill v s)) (begun (fill w t)) → EqualReplies k (fill v s) (fill w t) l) (sym host)
+    subst (λ (k : ℕ). Condition k v w s t → ConditionAll k l (begun (fill v s)) (begun (fill w t)) → EqualReplies k (fill v s) (fill w t) l) (sym host)
     (λ d g. host-replies v w s t d l g) c f)
     (λ z. guest-replies player z v w s t c l f)

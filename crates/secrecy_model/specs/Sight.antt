@@ -96,18 +96,18 @@ abbrev pub SameHidden : ℕ → Program → Program → Type 0
 SameHidden player p q = (i : ℕ) → i < size p → i < size q → maySee p player i ≡ maySee q player i
 
 -- either round makes the change: one that both refuse is under no condition
-abbrev pub Made : Turn → State → Turn → State → Type 0
-Made t x u y = (turn t x .reply ≡ carriedOver) ⊎ (turn u y .reply ≡ carriedOver)
+abbrev pub EitherMakes : Turn → State → Turn → State → Type 0
+EitherMakes t x u y = (turn t x .reply ≡ carriedOver) ⊎ (turn u y .reply ≡ carriedOver)
 
 -- "M-107's rule for a player needs its condition of both sheets, with the same behaviours hidden": at each change that
 -- is made, the rounds being in these states
-abbrev pub Fits : ℕ → Pair → State → State → Type 0
-Fits player (both c) x y = Unit {0}
-Fits player (each v w s t) x y = Made (change (fill v s)) x (change (fill w t)) y → Condition player v w s t × SameHidden player (inForce x) (fill v s)
+abbrev pub ConditionAt : ℕ → Pair → State → State → Type 0
+ConditionAt player (both c) x y = Unit {0}
+ConditionAt player (each v w s t) x y = EitherMakes (change (fill v s)) x (change (fill w t)) y → Condition player v w s t × SameHidden player (inForce x) (fill v s)
 
-abbrev pub AllFit : ℕ → List Pair → State → State → Type 0
-AllFit player [] x y = Unit {0}
-AllFit player (c ∷ l) x y = Fits player c x y × AllFit player l (turn (inOne c) x .after) (turn (inOther c) y .after)
+abbrev pub ConditionAll : ℕ → List Pair → State → State → Type 0
+ConditionAll player [] x y = Unit {0}
+ConditionAll player (c ∷ l) x y = ConditionAt player c x y × ConditionAll player l (turn (inOne c) x .after) (turn (inOther c) y .after)
 
 -- ---- "equal answers, refusals included"
 
@@ -118,13 +118,13 @@ hears player (arrive e who) a = pick (eqb who player) (some a) none
 hears player step a = some (toldTo player a)
 hears player (board i who) a = pick (eqb who player) (some a) none
 
-abbrev pub said : Option Answer → Option Reply
-said none = none
-said (some a) = some (says a)
+abbrev pub asReply : Option Answer → Option Reply
+asReply none = none
+asReply (some a) = some (says a)
 
 -- what a player gets of a reply: of a call's as above, of a change's all
 abbrev pub hearsOf : ℕ → Turn → Reply → Option Reply
-hearsOf player (call c) (says a) = said (hears player c a)
+hearsOf player (call c) (says a) = asReply (hears player c a)
 hearsOf player (call c) carriedOver = some carriedOver
 hearsOf player (change q) r = some r
 
@@ -145,4 +145,4 @@ pub record EqualReplies (player : ℕ) (p q : Program) (l : List Pair) : Type 0 
 abbrev pub PlayersRule : Type 0
 PlayersRule =
     (player : ℕ) (v w : ℕ → ℕ) (s t : Sheet) → Condition player v w s t
-    → (l : List Pair) → AllFit player l (begun (fill v s)) (begun (fill w t)) → EqualReplies player (fill v s) (fill w t) l
+    → (l : List Pair) → ConditionAll player l (begun (fill v s)) (begun (fill w t)) → EqualReplies player (fill v s) (fill w t) l

@@ -87,11 +87,6 @@ taken-gathered (arrive e who) (committed a m) n taken l = refl
 taken-gathered step x n taken l = none-gathered x n taken l
 taken-gathered (board i who) x n taken l = none-gathered x n taken l
 
-pub run-append : (p : Program) (cs ds : List Call) (w : Engine) → run p (cs ++ ds) w ≡ run p ds (run p cs w)
-unfolding run
-run-append p [] ds w = refl
-run-append p (c ∷ cs) ds w = run-append p cs ds (act p c w .after)
-
 -- ---- the number taken in
 
 module _ (p : Program) where

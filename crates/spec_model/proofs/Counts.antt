@@ -14,7 +14,7 @@ use Rattle.spec_semantics.specs.Meaning.{at}
 use Rattle.spec_semantics.specs.OverMeaning.{eventOver}
 use Rattle.spec_execution.proofs.CodeRight.{code-facts}
 use Rattle.spec_model.specs.Model.{Arrival, arrival, Engine, Call, arrive, step, board, Answer, refused, takenIn, shows, idle, ran, started, preempted, committed, rank, act, run, Turn, call, change, State, state, Reply, says, carriedOver, TurnOutcome, turn, runTurns, replies, begun}
-use Rattle.spec_model.specs.Claims.{number, stepsOf, AtRest, previewed, Moment, committedBy, ifCommits, momentOf, moments, ifTakenIn, takenTurns, inForce, engineIn, numberIn, handIn, storeIn, IdleIn, after, historyOf, Sound, NotCarried, Unchanged, callsOf, stepsIn, countFrom, IdleWithin, QuietExactly, NobodyWaits, PreviewRight, MarkRight}
+use Rattle.spec_model.specs.Claims.{number, stepsOf, AtRest, previewed, Moment, committedBy, ifCommits, momentOf, moments, ifTakenIn, takenTurns, inForce, engineIn, numberIn, handIn, storeIn, IdleIn, after, historyOf, Sound, NotCarried, Unchanged, callsOf, stepsAmong, countNow, IdleWithin, QuietExactly, NobodyWaits, PreviewRight, MarkRight}
 use Rattle.spec_model.proofs.Calls.{answers, commitsOf, takenFrom}
 use Rattle.spec_model.proofs.Reached.{DoneIn}
 use Rattle.spec_model.proofs.IdleWithin.{idle-from, empty}
@@ -93,7 +93,7 @@ as-taken (change q ∷ us) p w n h =
 
 -- ---- from a state that fits
 
-idle-here : (s : State) → Fit s → (us : List Turn) → Unchanged us s → numberIn (runTurns us s) ≡ numberIn s → countFrom s ≤ stepsIn us → IdleIn (runTurns us s)
+idle-here : (s : State) → Fit s → (us : List Turn) → Unchanged us s → numberIn (runTurns us s) ≡ numberIn s → countNow s ≤ stepsAmong us → IdleIn (runTurns us s)
 idle-here (state p w) f us h e b =
     let q = as-calls us p w h in
     rw q (idle-from p (code-facts p (f .0)) w (f .1) (callsOf us) (sym (ap numberIn q) ∙ e) b)
@@ -102,14 +102,14 @@ empty-here : (s : State) → Fit s → length (handIn s) ≡ 0 → IdleIn s
 empty-here (state p w) f h = empty p (code-facts p (f .0)) w h
 
 quiet-here : (s : State) → Fit s → AtRest (engineIn s) → (us : List Turn) → Unchanged us s → numberIn (runTurns us s) ≡ numberIn s
-    → (stepsIn us < stepsOf (inForce s) (handIn s) → IdleIn (runTurns us s) → ⊥) × (stepsOf (inForce s) (handIn s) ≤ stepsIn us → IdleIn (runTurns us s))
+    → (stepsAmong us < stepsOf (inForce s) (handIn s) → IdleIn (runTurns us s) → ⊥) × (stepsOf (inForce s) (handIn s) ≤ stepsAmong us → IdleIn (runTurns us s))
 quiet-here (state p w) f r us h e =
     let q = as-calls us p w h in
     rw q (quiet-from p (code-facts p (f .0)) w (f .1) r (callsOf us) (sym (ap numberIn q) ∙ e))
 
 waits-here : (s : State) → Fit s → (us : List Turn) (a : Arrival) → List·Memᴰ a (handIn s) → Unchanged us s
     → All (λ b. rank (inForce s) b ≤ rank (inForce s) a) (takenTurns us (replies us s) (numberIn s))
-    → countFrom s ≤ stepsIn us → List·Memᴰ a (committedBy (moments us (replies us s)))
+    → countNow s ≤ stepsAmong us → List·Memᴰ a (committedBy (moments us (replies us s)))
 waits-here (state p w) f us a m h g b =
     rw (as-commits us p w h)
     (waits-from p (code-facts p (f .0)) w (f .1) (callsOf us) a m (rw (as-taken us p w (number w) h) at g) b)

@@ -92,9 +92,6 @@ change-by p q (engine t waiting r d) P refuse carry =
 number-carried : (p q : Program) (w : Engine) → number (carriedTo p q w) ≡ number w
 number-carried p q (engine t waiting r d) = refl
 
-pub queue-carried : (p q : Program) (w : Engine) → inQueue (carriedTo p q w) ≡ inQueue w
-queue-carried p q (engine t waiting r d) = refl
-
 pub number-turn : (t : Turn) (s : State) → numberIn (turn t s .after) ≡ countTurn t (turn t s .reply) (numberIn s)
 unfolding turn
 number-turn (call c) (state p w) = act-number p c w

@@ -5,7 +5,7 @@ use Rattle.lib_base.specs.Basics.{All}
 use Rattle.spec_language.specs.Syntax.{Program}
 use Rattle.spec_language.specs.Accepted.{Valid}
 use Rattle.spec_model.specs.Model.{Turn}
-use Rattle.spec_model.specs.Claims.{Sound, SameBoard, Holds}
+use Rattle.spec_model.specs.Claims.{Sound, SameBoard, Sentences}
 use Rattle.spec_model.proofs.Boards as boards
 use Rattle.spec_model.proofs.Replaying as replaying
 use Rattle.spec_model.proofs.Once as once
@@ -16,7 +16,7 @@ use Rattle.spec_model.proofs.Alone as alone
 use Rattle.spec_model.proofs.SameBoard as same
 
 module _ (p : Program) (v : Valid p) where
-  pub holds : (ts : List Turn) → All Sound ts → Holds p ts
+  pub holds : (ts : List Turn) → All Sound ts → Sentences p ts
   holds ts g = record {
     board = boards.board-of-commits p v ts g;
     by-rules = replaying.board-by-rules p v ts g;

@@ -103,9 +103,6 @@ module _ (q : Program) (v : Valid q) (e : ℕ) (declared : e ≤ noEvent q) wher
       pub passives-stack : executeAll (passivesCode q e) d .stack ≡ []
       passives-stack = seen-last .empty
 
-      pub passives-scratch : length (executeAll (passivesCode q e) d .scratch) ≡ size q
-      passives-scratch = seen-last .scratched
-
       -- each passive's scratch is its carried value
       pub passives-right : (i : ℕ) (x : Expr) → i < size q → behaviourAt q i ≡ passive x → heldAt (executeAll (passivesCode q e) d .scratch) i ≡ at (carried p q s) i
       passives-right i x l h =

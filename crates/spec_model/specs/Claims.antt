@@ -53,7 +53,7 @@ eventsOf l = map (λ (a : Arrival). a .event) l
 abbrev pub aloneCalls : Program → ℕ → ℕ → List Call
 aloneCalls p e who = arrive e who ∷ step ∷ replicate (length (code p e)) step
 
--- ---- counts of steps
+-- ---- numbers of steps
 
 -- the longest event's instructions, over all events
 unfoldable pub longest : Program → ℕ
@@ -298,17 +298,17 @@ callsOf [] = []
 callsOf (call c ∷ ts) = c ∷ callsOf ts
 callsOf (change q ∷ ts) = callsOf ts
 
-abbrev pub stepsIn : List Turn → ℕ
-stepsIn ts = steps (callsOf ts)
+abbrev pub stepsAmong : List Turn → ℕ
+stepsAmong ts = steps (callsOf ts)
 
-abbrev pub countFrom : State → ℕ
-countFrom s = countIn (inForce s) (engineIn s)
+abbrev pub countNow : State → ℕ
+countNow s = countIn (inForce s) (engineIn s)
 
 -- "Once no more are taken in, the round is idle within 01's count of steps"; "k = 0 is idle already"
 abbrev pub IdleWithin : Program → List Turn → Type 0
 IdleWithin p ts =
     ((us : List Turn) → Unchanged us (after p ts) → numberIn (after p (ts ++ us)) ≡ numberIn (after p ts)
-    → countFrom (after p ts) ≤ stepsIn us → IdleIn (after p (ts ++ us)))
+    → countNow (after p ts) ≤ stepsAmong us → IdleIn (after p (ts ++ us)))
     × (length (handIn (after p ts)) ≡ 0 → IdleIn (after p ts))
 
 -- M-100: "with nothing running and no further arrivals, idle shall come after exactly the sum, over the hand, of each
@@ -316,8 +316,8 @@ IdleWithin p ts =
 abbrev pub QuietExactly : Program → List Turn → Type 0
 QuietExactly p ts =
     AtRest (engineIn (after p ts)) → (us : List Turn) → Unchanged us (after p ts) → numberIn (after p (ts ++ us)) ≡ numberIn (after p ts)
-    → (stepsIn us < stepsOf (inForce (after p ts)) (handIn (after p ts)) → IdleIn (after p (ts ++ us)) → ⊥)
-    × (stepsOf (inForce (after p ts)) (handIn (after p ts)) ≤ stepsIn us → IdleIn (after p (ts ++ us)))
+    → (stepsAmong us < stepsOf (inForce (after p ts)) (handIn (after p ts)) → IdleIn (after p (ts ++ us)) → ⊥)
+    × (stepsOf (inForce (after p ts)) (handIn (after p ts)) ≤ stepsAmong us → IdleIn (after p (ts ++ us)))
 
 -- M-113: "If during the next (k + 1) × (L + 1) steps nothing of higher rank arrives and no sheet is changed, that
 -- arrival is committed by the end of them."
@@ -331,7 +331,7 @@ abbrev pub NobodyWaits : Program → List Turn → Type 0
 NobodyWaits p ts =
     (us : List Turn) (a : Arrival) → List·Memᴰ a (handIn (after p ts)) → Unchanged us (after p ts)
     → All (λ b. rank (inForce (after p ts)) b ≤ rank (inForce (after p ts)) a) (takenThen p ts us)
-    → countFrom (after p ts) ≤ stepsIn us → List·Memᴰ a (committedThen p ts us)
+    → countNow (after p ts) ≤ stepsAmong us → List·Memᴰ a (committedThen p ts us)
 
 -- ---- demand 2, M-101 and M-104, with the program in force
 
@@ -409,7 +409,7 @@ SameBoard p ts us =
 
 -- ---- every sentence about one list
 
-pub record Holds (p : Program) (ts : List Turn) : Type 0 where
+pub record Sentences (p : Program) (ts : List Turn) : Type 0 where
   pub board : BoardOfCommits p ts
   pub by-rules : BoardByRules p ts
   pub once : OnceEach p ts
