@@ -17,7 +17,7 @@ use Rattle.spec_language.specs.Dependence.{size, events}
 use Rattle.spec_language.specs.Accepted.{SheetAccepted}
 use Rattle.spec_language.specs.Rights.{maySend, maySee}
 use Rattle.spec_model.specs.Model.{Call, call}
-use Rattle.spec_model.specs.Claims.{engineIn, after, committedIn, eventsOf, settlingIn}
+use Rattle.spec_model.specs.Claims.{engineAfter, committedIn, eventsOf, settlingIn}
 use Rattle.back_compile.specs.Verdict.{programOf, compileOn}
 use Rattle.link_pooled.specs.Pooled.{pooled}
 use Rattle.link_pooled.specs.Together.{declared}
@@ -37,7 +37,7 @@ SameCommits j cs p ds = eventsOf (committedIn p (map call ds)) ≡ declared p (e
 
 -- "unless a copy-back is under way" (demand 3)
 abbrev pub NotSettling : Program → List Call → Type 0
-NotSettling p cs = settlingIn p (engineIn (after p (map call cs))) ≡ false
+NotSettling p cs = settlingIn p (engineAfter p (map call cs)) ≡ false
 
 -- the programs p and q of the two sheets, that of the joined sheet, j, and their tables
 pub record Halves (p q j : Program) (t₀ l₀ t₁ l₁ t₂ l₂ : List ℕ) : Type 0 where

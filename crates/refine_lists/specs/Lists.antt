@@ -18,7 +18,7 @@ use Rattle.spec_language.specs.Syntax.{Program}
 use Rattle.spec_semantics.specs.Meaning.{fresh, withStore}
 use Rattle.spec_semantics.specs.Over.{EventOver}
 use Rattle.spec_semantics.specs.Plays.{Plays}
-use Rattle.spec_model.specs.Claims.{inForce, after, historyOf, takenInBy, courseOf, SameChanges, ApartEach, engineIn, numberIn, IdleIn, commits, Replays, Sentences, eventsOf, settlingIn, aloneCalls, forecast, previewed, committedIn, ApartIn, Unchanged}
+use Rattle.spec_model.specs.Claims.{programAfter, engineAfter, settlingAfter, after, historyOf, takenInBy, courseOf, SameChanges, ApartEach, numberIn, IdleIn, commits, Replays, Sentences, eventsOf, settlingIn, aloneCalls, forecast, previewed, committedIn, ApartIn, Unchanged}
 use Rattle.spec_model.specs.Model.{Turn, call, Reply, says, carriedOver, replies, begun, change, Arrival, arrival, step, refused, committed, unmarked, act, Call}
 use Rattle.format_image.specs.Image.{tableOf}
 use Rattle.back_compile.specs.Verdict.{programOf, compileOn}
@@ -52,8 +52,8 @@ pub record CommitMark (p : Program) (ts : List Turn) (a : Arrival) (m : Bool) : 
   pub played : Replays p (historyOf p ts) (fresh p) before
   pub alone : (b : List ℕ) → Replays p (historyOf p ts) (fresh p) b → b ≡ before
   -- "set exactly if some application in that event's meaning did so", in the program in force that carries this board
-  pub set-if : EventOver (withStore (inForce (after p ts)) before) (a .event) → m ≡ true
-  pub only-if : m ≡ true → EventOver (withStore (inForce (after p ts)) before) (a .event)
+  pub set-if : EventOver (withStore (programAfter p ts) before) (a .event) → m ≡ true
+  pub only-if : m ≡ true → EventOver (withStore (programAfter p ts) before) (a .event)
 
 -- ---- one list: the turns xs on the bytes b, a fresh round of p in the bytes l₀, which are the turns ts of the model
 -- engine
@@ -64,7 +64,7 @@ pub record OneList (p : Program) (l₀ : List ℕ) (b : Bytes) (xs : List ByteTu
   -- the numbers name those answers: the committed and the taken in of the other parts are those that they name
   pub read : zipWith decodedReply xs (numbersOn xs b) ≡ replies ts (begun p)
   -- "The table is still as compile left it": the one in force, for the program in force
-  pub table : Left (inForce (after p ts)) (bytesAfter xs b .table)
+  pub table : Left (programAfter p ts) (bytesAfter xs b .table)
   -- ".. and the round after the list"
   pub round : ViewIn (bytesAfter xs b .round) (after p ts)
   pub beyond : Kept l₀ (bytesAfter xs b .round)
@@ -73,10 +73,10 @@ pub record OneList (p : Program) (l₀ : List ℕ) (b : Bytes) (xs : List ByteTu
   -- "After the list, unless a copy-back is under way, the board equals what demand 2's rules give for the committed
   -- events, one by one, undivided, in order of commitment." 02, M-112: "Commits before the change follow the old sheet
   -- and later ones the new"; and the rules lead to no other board
-  pub board : settlingIn (inForce (after p ts)) (engineIn (after p ts)) ≡ false
-      → Replays p (historyOf p ts) (fresh p) (boardOf (inForce (after p ts)) (bytesAfter xs b .round))
-  pub board-alone : settlingIn (inForce (after p ts)) (engineIn (after p ts)) ≡ false → (s : List ℕ) → Replays p (historyOf p ts) (fresh p) s
-      → s ≡ boardOf (inForce (after p ts)) (bytesAfter xs b .round)
+  pub board : settlingAfter p ts ≡ false
+      → Replays p (historyOf p ts) (fresh p) (boardOf (programAfter p ts) (bytesAfter xs b .round))
+  pub board-alone : settlingAfter p ts ≡ false → (s : List ℕ) → Replays p (historyOf p ts) (fresh p) s
+      → s ≡ boardOf (programAfter p ts) (bytesAfter xs b .round)
   -- of the model engine, whose answers these are: "Each arrival taken in is committed at most once, exactly once when
   -- idle, and after every earlier one of equal rank. A lower rank precedes a higher one only if the higher was taken in
   -- after the lower's copy-back began. Once no more are taken in, the round is idle within 01's count of steps."; M-100's
@@ -85,26 +85,26 @@ pub record OneList (p : Program) (l₀ : List ℕ) (b : Bytes) (xs : List ByteTu
   pub sentences : Sentences p ts
   -- demand 2: "An event run alone leaves on the board, for every behaviour, the value that the paper's big-step rules
   -- give": from an idle round, an event that is taken in, from whoever may send it, and stepped to its commit
-  pub one-event : IdleNow (bytesAfter xs b) → (e who : ℕ) → e < events (inForce (after p ts)) → who < 8 → maySend (inForce (after p ts)) who e ≡ true
+  pub one-event : IdleNow (bytesAfter xs b) → (e who : ℕ) → e < events (programAfter p ts) → who < 8 → maySend (programAfter p ts) who e ≡ true
       → numberIn (after p ts) < 1000000
-      → (historyOf p (ts ++ map call (aloneCalls (inForce (after p ts)) e who)) ≡ historyOf p ts ++ (commits (arrival (numberIn (after p ts)) e who) ∷ []))
-      × Plays (inForce (after p ts)) (e ∷ []) (boardOf (inForce (after p ts)) (bytesAfter xs b .round))
-      (boardOf (inForce (after p ts)) (bytesAfter (xs ++ map calls (aloneCalls (inForce (after p ts)) e who)) b .round))
+      → (historyOf p (ts ++ map call (aloneCalls (programAfter p ts) e who)) ≡ historyOf p ts ++ (commits (arrival (numberIn (after p ts)) e who) ∷ []))
+      × Plays (programAfter p ts) (e ∷ []) (boardOf (programAfter p ts) (bytesAfter xs b .round))
+      (boardOf (programAfter p ts) (bytesAfter (xs ++ map calls (aloneCalls (programAfter p ts) e who)) b .round))
   -- 02, M-100: "The same number is offered as a call of its own on a round .. While something runs, that call gives 01's
   -- bound.": 2 ^ 32 and the number
-  pub forecast : forecastOn (bytesAfter xs b .table) (bytesAfter xs b .round) ≡ 4294967296 + forecast (inForce (after p ts)) (engineIn (after p ts))
+  pub forecast : forecastOn (bytesAfter xs b .table) (bytesAfter xs b .round) ≡ 4294967296 + forecast (programAfter p ts) (engineAfter p ts)
   -- 02, M-101: "A preview takes a round, an event and a behaviour, and tells the value that the board would show after
   -- this arrival and everything in hand had been run to idle. It equals doing so on a copy .. It is turned down as the
   -- arrival would be, then by 18": of such a round a step never is, and 01's count is enough. M-107: "Each arrival, board
   -- reading and preview now carries its player .. A preview needs both rights"
   pub preview : (e i who : ℕ)
-      → previewOn (bytesAfter xs b .table) (bytesAfter xs b .round) e i who ≡ coded (previewed (inForce (after p ts)) (engineIn (after p ts)) e i who)
+      → previewOn (bytesAfter xs b .table) (bytesAfter xs b .round) e i who ≡ coded (previewed (programAfter p ts) (engineAfter p ts) e i who)
   -- 02, M-104: "the committing step's answer carries a mark: set exactly if some application in that event's meaning did
   -- so. .. What a broken-in handler found is dropped": of the step called next, as its number is read
   pub mark : (a : Arrival) (m : Bool) → decoded step (stepOn (bytesAfter xs b .table) (bytesAfter xs b .round) .0) ≡ committed a m → CommitMark p ts a m
   -- 02, M-107: "only the host is told M-104's mark: a step carries no player and returns the host's answer, and a further
   -- call turns that into the others', without the mark": of the step called next
-  pub told : toldOn (stepOn (bytesAfter xs b .table) (bytesAfter xs b .round) .0) ≡ coded (unmarked (act (inForce (after p ts)) step (engineIn (after p ts)) .answer))
+  pub told : toldOn (stepOn (bytesAfter xs b .table) (bytesAfter xs b .round) .0) ≡ coded (unmarked (act (programAfter p ts) step (engineAfter p ts) .answer))
 
 -- ---- lists of calls alone, as 01 words them: each is a list of turns, so all of the above holds of it
 
@@ -114,13 +114,13 @@ pub record OnlyCalls (p : Program) (l₀ : List ℕ) (b : Bytes) (cs : List Call
   pub history : historyOf p (map call cs) ≡ map commits (committedIn p (map call cs))
   pub unchanged : (ds : List Call) → Unchanged (map call ds) (after p (map call cs))
   -- the sheet stays in force, and "The table is still as compile left it"
-  pub in-force : inForce (after p (map call cs)) ≡ p
+  pub in-force : programAfter p (map call cs) ≡ p
   pub table : bytesAfter (map calls cs) b .table ≡ b .table
   -- "After the list, unless a copy-back is under way, the board equals what demand 2's rules give for the committed
   -- events, one by one, undivided, in order of commitment."; and no other board
-  pub board : settlingIn p (engineIn (after p (map call cs))) ≡ false
+  pub board : settlingIn p (engineAfter p (map call cs)) ≡ false
       → Plays p (eventsOf (committedIn p (map call cs))) (fresh p) (boardOf p (bytesAfter (map calls cs) b .round))
-  pub board-alone : settlingIn p (engineIn (after p (map call cs))) ≡ false → (s : List ℕ)
+  pub board-alone : settlingIn p (engineAfter p (map call cs)) ≡ false → (s : List ℕ)
       → Plays p (eventsOf (committedIn p (map call cs))) (fresh p) s → s ≡ boardOf p (bytesAfter (map calls cs) b .round)
 
 -- ---- turns from sheets
@@ -186,8 +186,8 @@ TwoLists =
     → SameChanges (courseOf (historyOf (programOf ps x) ts)) (courseOf (historyOf (programOf ps x) us))
     → ApartEach (programOf ps x) (courseOf (historyOf (programOf ps x) ts))
     → IdleNow (bytesAfter (map onBytes xs) (freshRoundOn s ps t₀ l₀)) → IdleNow (bytesAfter (map onBytes ys) (freshRoundOn s qs t₁ l₁))
-    → boardOf (inForce (after (programOf ps x) ts)) (bytesAfter (map onBytes xs) (freshRoundOn s ps t₀ l₀) .round)
-    ≡ boardOf (inForce (after (programOf ps x) us)) (bytesAfter (map onBytes ys) (freshRoundOn s qs t₁ l₁) .round)
+    → boardOf (programAfter (programOf ps x) ts) (bytesAfter (map onBytes xs) (freshRoundOn s ps t₀ l₀) .round)
+    ≡ boardOf (programAfter (programOf ps x) us) (bytesAfter (map onBytes ys) (freshRoundOn s qs t₁ l₁) .round)
 
 -- of calls alone, as 01 words it: "those of unequal rank being independent", of the arrivals taken in; 02, M-107:
 -- "Arrivals in hand commit as before, whoever sent them"

@@ -18,7 +18,7 @@ use Rattle.spec_language.specs.Rights.{may, maySee}
 use Rattle.spec_language.specs.Dependence.{size, behaviourAt, mentions, Reach}
 use Rattle.spec_language.specs.Accepted.{Accepted}
 use Rattle.spec_model.specs.Model.{Call, arrive, step, board, Answer, toldTo, Turn, call, change, State, Reply, says, carriedOver, turn, replies, begun}
-use Rattle.spec_model.specs.Claims.{forecast, previewed, inForce, engineIn, after}
+use Rattle.spec_model.specs.Claims.{forecast, previewed, inForce, programAfter, engineAfter}
 
 -- ---- dependence by names, whatever the event
 
@@ -136,10 +136,10 @@ heardOf player ts s = zipWith (hearsOf player) ts (replies ts s)
 pub record EqualReplies (player : ℕ) (p q : Program) (l : List Pair) : Type 0 where
   pub turns : heardOf player (map inOne l) (begun p) ≡ heardOf player (map inOther l) (begun q)
   pub preview : (e i : ℕ)
-      → previewed (inForce (after p (map inOne l))) (engineIn (after p (map inOne l))) e i player
-      ≡ previewed (inForce (after q (map inOther l))) (engineIn (after q (map inOther l))) e i player
-  pub forecast : forecast (inForce (after p (map inOne l))) (engineIn (after p (map inOne l)))
-      ≡ forecast (inForce (after q (map inOther l))) (engineIn (after q (map inOther l)))
+      → previewed (programAfter p (map inOne l)) (engineAfter p (map inOne l)) e i player
+      ≡ previewed (programAfter q (map inOther l)) (engineAfter q (map inOther l)) e i player
+  pub forecast : forecast (programAfter p (map inOne l)) (engineAfter p (map inOne l))
+      ≡ forecast (programAfter q (map inOther l)) (engineAfter q (map inOther l))
 
 -- every player, every two such sheets, and every list of calls and changes
 abbrev pub PlayersRule : Type 0

@@ -204,6 +204,16 @@ IdleIn s = Idle (inForce s) (engineIn s)
 abbrev pub after : Program → List Turn → State
 after p ts = runTurns ts (begun p)
 
+-- the program in force, and the engine; a copy-back is under way
+abbrev pub programAfter : Program → List Turn → Program
+programAfter p ts = inForce (after p ts)
+
+abbrev pub engineAfter : Program → List Turn → Engine
+engineAfter p ts = engineIn (after p ts)
+
+abbrev pub settlingAfter : Program → List Turn → Bool
+settlingAfter p ts = settlingIn (programAfter p ts) (engineAfter p ts)
+
 abbrev pub historyOf : Program → List Turn → List Moment
 historyOf p ts = moments ts (replies ts (begun p))
 
@@ -229,7 +239,7 @@ replayed p (changes q ∷ h) s = replayed q h (carried p q s)
 -- "unless a copy-back is under way, the board equals what demand 2's rules give for the committed events, one by one,
 -- undivided, in order of commitment"
 abbrev pub BoardOfCommits : Program → List Turn → Type 0
-BoardOfCommits p ts = settlingIn (inForce (after p ts)) (engineIn (after p ts)) ≡ false → storeIn (after p ts) ≡ replayed p (historyOf p ts) (fresh p)
+BoardOfCommits p ts = settlingAfter p ts ≡ false → storeIn (after p ts) ≡ replayed p (historyOf p ts) (fresh p)
 
 -- the same by Figure 1's rules: p being in force, the history leads from the store s to the last store
 pub data Replays : Program → List Moment → List ℕ → List ℕ → Type 0 where
@@ -241,7 +251,7 @@ pub data Replays : Program → List Moment → List ℕ → List ℕ → Type 0 
 -- the rules lead there, and to no other store
 abbrev pub BoardByRules : Program → List Turn → Type 0
 BoardByRules p ts =
-    settlingIn (inForce (after p ts)) (engineIn (after p ts)) ≡ false
+    settlingAfter p ts ≡ false
     → Replays p (historyOf p ts) (fresh p) (storeIn (after p ts)) × ((s : List ℕ) → Replays p (historyOf p ts) (fresh p) s → s ≡ storeIn (after p ts))
 
 -- ---- order
@@ -272,7 +282,7 @@ pub record Later (p : Program) (ts : List Turn) (a b : Arrival) : Type 0 where
   pub past : List Turn
   pub rest-of : List Turn
   pub moment : ts ≡ past ++ rest-of
-  pub copying : CopyingBack (inForce (after p past)) a (engineIn (after p past))
+  pub copying : CopyingBack (programAfter p past) a (engineAfter p past)
   pub not-yet : numberIn (after p past) ≤ b .number
 
 -- "A lower rank precedes a higher one only if the higher was taken in after the lower's copy-back began."
@@ -315,9 +325,9 @@ IdleWithin p ts =
 -- event's instruction count plus one"
 abbrev pub QuietExactly : Program → List Turn → Type 0
 QuietExactly p ts =
-    AtRest (engineIn (after p ts)) → (us : List Turn) → Unchanged us (after p ts) → numberIn (after p (ts ++ us)) ≡ numberIn (after p ts)
-    → (stepsAmong us < stepsOf (inForce (after p ts)) (handIn (after p ts)) → IdleIn (after p (ts ++ us)) → ⊥)
-    × (stepsOf (inForce (after p ts)) (handIn (after p ts)) ≤ stepsAmong us → IdleIn (after p (ts ++ us)))
+    AtRest (engineAfter p ts) → (us : List Turn) → Unchanged us (after p ts) → numberIn (after p (ts ++ us)) ≡ numberIn (after p ts)
+    → (stepsAmong us < stepsOf (programAfter p ts) (handIn (after p ts)) → IdleIn (after p (ts ++ us)) → ⊥)
+    × (stepsOf (programAfter p ts) (handIn (after p ts)) ≤ stepsAmong us → IdleIn (after p (ts ++ us)))
 
 -- M-113: "If during the next (k + 1) × (L + 1) steps nothing of higher rank arrives and no sheet is changed, that
 -- arrival is committed by the end of them."
@@ -330,7 +340,7 @@ committedThen p ts us = committedBy (moments us (replies us (after p ts)))
 abbrev pub NobodyWaits : Program → List Turn → Type 0
 NobodyWaits p ts =
     (us : List Turn) (a : Arrival) → List·Memᴰ a (handIn (after p ts)) → Unchanged us (after p ts)
-    → All (λ b. rank (inForce (after p ts)) b ≤ rank (inForce (after p ts)) a) (takenThen p ts us)
+    → All (λ b. rank (programAfter p ts) b ≤ rank (programAfter p ts) a) (takenThen p ts us)
     → countNow (after p ts) ≤ stepsAmong us → List·Memᴰ a (committedThen p ts us)
 
 -- ---- demand 2, M-101 and M-104, with the program in force
@@ -339,27 +349,27 @@ NobodyWaits p ts =
 -- meaning
 abbrev pub AloneRight : Program → List Turn → Type 0
 AloneRight p ts =
-    IdleIn (after p ts) → (e who : ℕ) → e < events (inForce (after p ts)) → who < 8 → maySend (inForce (after p ts)) who e ≡ true → numberIn (after p ts) < 1000000
-    → (historyOf p (ts ++ map call (aloneCalls (inForce (after p ts)) e who)) ≡ historyOf p ts ++ (commits (arrival (numberIn (after p ts)) e who) ∷ []))
-    × (storeIn (after p (ts ++ map call (aloneCalls (inForce (after p ts)) e who))) ≡ event (inForce (after p ts)) e (storeIn (after p ts)))
+    IdleIn (after p ts) → (e who : ℕ) → e < events (programAfter p ts) → who < 8 → maySend (programAfter p ts) who e ≡ true → numberIn (after p ts) < 1000000
+    → (historyOf p (ts ++ map call (aloneCalls (programAfter p ts) e who)) ≡ historyOf p ts ++ (commits (arrival (numberIn (after p ts)) e who) ∷ []))
+    × (storeIn (after p (ts ++ map call (aloneCalls (programAfter p ts) e who))) ≡ event (programAfter p ts) e (storeIn (after p ts)))
 
 -- whichever way the round is then run to idle, no further arrival taken in and no sheet changed, the board shows the
 -- previewed value
 abbrev pub PreviewRight : Program → List Turn → Type 0
 PreviewRight p ts =
-    (e i who : ℕ) (us : List Turn) → i < size (inForce (after p ts)) → maySee (inForce (after p ts)) who i ≡ true
+    (e i who : ℕ) (us : List Turn) → i < size (programAfter p ts) → maySee (programAfter p ts) who i ≡ true
     → turn (call (arrive e who)) (after p ts) .reply ≡ says takenIn
     → Unchanged (call (arrive e who) ∷ us) (after p ts)
     → numberIn (after p (ts ++ (call (arrive e who) ∷ us))) ≡ numberIn (after p ts) + 1
     → IdleIn (after p (ts ++ (call (arrive e who) ∷ us)))
-    → previewed (inForce (after p ts)) (engineIn (after p ts)) e i who ≡ shows (at (storeIn (after p (ts ++ (call (arrive e who) ∷ us)))) i)
+    → previewed (programAfter p ts) (engineAfter p ts) e i who ≡ shows (at (storeIn (after p (ts ++ (call (arrive e who) ∷ us)))) i)
 
 -- "the committing step's answer carries a mark: set exactly if some application in that event's meaning did so": of a
 -- step called after the list, on the store of the history so far
 abbrev pub MarkRight : Program → List Turn → Type 0
 MarkRight p ts =
     (a : Arrival) (m : Bool) → turn (call step) (after p ts) .reply ≡ says (committed a m)
-    → (a .event < events (inForce (after p ts))) × (m ≡ eventOver (inForce (after p ts)) (a .event) (replayed p (historyOf p ts) (fresh p)))
+    → (a .event < events (programAfter p ts)) × (m ≡ eventOver (programAfter p ts) (a .event) (replayed p (historyOf p ts) (fresh p)))
 
 -- ---- two lists. "equal boards on two phones need independence in each sheet and the same change after the same
 -- commits"
