@@ -1,5 +1,6 @@
 // The exported calls. Each contract gives the answer and every byte at exit, for all bytes and numbers; none has a
 // `requires`. The table is lent as `&[u8]` to all but compile: they leave it as it was.
+use spec_language::answers;
 ghost use mathlib.Core.Path.{_≡_};
 ghost use Prim.Native.Nat.{_+_, _*_, _≤_, _<_};
 ghost use lib.ListN.{length};
@@ -71,7 +72,7 @@ pub extern "C" fn step(table: &[u8], round: &mut [u8]) -> u64
 pub extern "C" fn told(answer: u64) -> u64
     ensures { λ r. ⌜ r ≡ toldOn answer ⌝ }
 {
-    answer % 72057594037927936
+    answer % answers::OVER
 }
 
 // The value of a behaviour, for a player: 2 ^ 32 and the word; or 14, 24, 18, 25, 19.
