@@ -17,12 +17,12 @@ use Rattle.spec_language.specs.Sheet.{fillTerm}
 use Rattle.spec_language.specs.Grammar.{Arity, unary, ternary, binary, Nested, n-con, n-name, n-app1, n-app2, n-app3, TermFits, t-literal, t-variable, t-apply1, t-apply2, t-apply3}
 use Rattle.spec_language.specs.Reading.{got, exprAt}
 use Rattle.spec_grammar.proofs.Expressions.{expr-reads}
-use Rattle.text_formula.specs.Tokens.{Token, function, closing, comma}
+use Rattle.text_formula.specs.Tokens.{Token, function, closing, comma, InRange}
 use Rattle.text_formula.specs.Grammar.{Operator, times, divided, plus, minus, above, at-least, below, at-most, equal, different, both, either, Derives, tighter, two-sided, negated, a-number, a-name, bracketed, choice, Formula, formula}
 use Rattle.text_formula.specs.Reader.{readFormula}
 use Rattle.text_formula.specs.Answer.{large, nesting, deeper, asSent, fieldOf, written, answerTo, formulaOn}
 use Rattle.text_formula.proofs.Deeper.{deeper-left, deeper-right, deeper-most}
-use Rattle.text_formula.proofs.Scans.{Fine, tokens-fine}
+use Rattle.text_formula.proofs.Scans.{tokens-fine}
 use Rattle.text_formula.proofs.Readings.{reading-only}
 
 -- names of behaviours, and functions with the arguments that they need
@@ -47,19 +47,19 @@ operator-binary different = binary {f = 13} (omega arith) (omega arith) (omega a
 operator-binary both = binary {f = 2} (omega arith) (omega arith) (omega arith)
 operator-binary either = binary {f = 1} (omega arith) (omega arith) (omega arith)
 
-derives-proper : {l : ℕ} {ts : List Token} {e : Expr} → Derives l ts e → All Fine ts → Proper e
+derives-proper : {l : ℕ} {ts : List Token} {e : Expr} → Derives l ts e → All InRange ts → Proper e
 unfolding Proper
 derives-proper (tighter d) h = derives-proper d h
 derives-proper (two-sided {l} {f} {ts} {us} o p q) h =
-    let s = all-split Fine ts (function f ∷ us) h in (operator-binary o, derives-proper p (s .0), derives-proper q (s .1 .1))
+    let s = all-split InRange ts (function f ∷ us) h in (operator-binary o, derives-proper p (s .0), derives-proper q (s .1 .1))
 derives-proper (negated d) h = (unary, derives-proper d (h .1))
 derives-proper a-number h = tt
 derives-proper a-name h = h .0
-derives-proper (bracketed {ts} d) h = derives-proper d (all-split Fine ts (closing ∷ []) (h .1) .0)
+derives-proper (bracketed {ts} d) h = derives-proper d (all-split InRange ts (closing ∷ []) (h .1) .0)
 derives-proper (choice {ts} {us} {vs} p q r) h =
-    let x = all-split Fine ts (comma ∷ (us ++ (comma ∷ (vs ++ (closing ∷ []))))) (h .1 .1) in
-    let y = all-split Fine us (comma ∷ (vs ++ (closing ∷ []))) (x .1 .1) in
-    let z = all-split Fine vs (closing ∷ []) (y .1 .1) in
+    let x = all-split InRange ts (comma ∷ (us ++ (comma ∷ (vs ++ (closing ∷ []))))) (h .1 .1) in
+    let y = all-split InRange us (comma ∷ (vs ++ (closing ∷ []))) (x .1 .1) in
+    let z = all-split InRange vs (closing ∷ []) (y .1 .1) in
     (ternary, derives-proper p (x .0), derives-proper q (y .0), derives-proper r (z .0))
 
 pub formula-proper : {text : List ℕ} {e : Expr} → Formula text e → Proper e

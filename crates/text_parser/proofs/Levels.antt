@@ -11,11 +11,10 @@ use Rattle.lib_base.specs.Basics.{All}
 use Rattle.lib_base.proofs.Tools.{split}
 use Rattle.spec_language.specs.Syntax.{Expr, app2}
 use Rattle.spec_language.specs.Grammar.{field, encodeExpr}
-use Rattle.text_formula.specs.Tokens.{Token}
+use Rattle.text_formula.specs.Tokens.{Token, InRange}
 use Rattle.text_formula.specs.Reader.{levelOf, operatorOf, Got, bad, got, then, chain, tower, readAt}
 use Rattle.text_formula.specs.Answer.{deeper, nesting, asSent}
 use Rattle.text_formula.proofs.Deeper.{deeper-sum, deeper-none}
-use Rattle.text_formula.proofs.Scans.{Fine}
 use Rattle.text_lexer.specs.Codes.{code}
 use Rattle.text_phrase.specs.Phrase.{levelIn, closedOf, wrappedIn, Closable}
 use Rattle.text_phrase.specs.declared.Read.{Read}
@@ -39,7 +38,7 @@ Chained m ts k n o p Fault g = g ≡ bad
 Chained m ts k n o p (Done at end depth) g = Midway m ts k n o p at end depth g
 
 pub record Turn (m : ℕ) (cs : List ℕ) (at n : ℕ) (o p : List ℕ) (r : Read) : Type 0 where
-  pub whole : (ts : List Token) → All Fine ts → cs ≡ map code ts → (k : ℕ) → length cs - at ≤ k → Chained m ts k n o p r (readAt (suc m) k (drop at ts))
+  pub whole : (ts : List Token) → All InRange ts → cs ≡ map code ts → (k : ℕ) → length cs - at ≤ k → Chained m ts k n o p r (readAt (suc m) k (drop at ts))
   pub inside : Within (length cs) at n 0 r
   pub room : n ≤ at * 7
   pub few : length cs ≤ 1024
@@ -114,7 +113,7 @@ done-here m ts k n o p at end depth g w h =
     rw e record { onward = refl; size = w .size; written = w .written; nests = w .nests ∙ sym (deeper-none (nesting (w .expr))) }
 
 -- no operator of the level stands at the place
-no-operator : (l : ℕ) (ts : List Token) (cs : List ℕ) (at : ℕ) → All Fine ts → cs ≡ map code ts → (levelIn cs at ≡ l → ⊥) → (t : Token) (us : List Token) → drop at ts ≡ t ∷ us → levelOf t ≡ l → ⊥
+no-operator : (l : ℕ) (ts : List Token) (cs : List ℕ) (at : ℕ) → All InRange ts → cs ≡ map code ts → (levelIn cs at ≡ l → ⊥) → (t : Token) (us : List Token) → drop at ts ≡ t ∷ us → levelOf t ≡ l → ⊥
 no-operator l ts cs at fine e h t us q d =
     split (ltb at (length cs))
     (λ b. let w = here ts cs fine e at (ltb-true at (length cs) b) in

@@ -1,11 +1,17 @@
 // The reader of formulas: one function a precedence level, from `||` down to `!` and the primaries; brackets and `if`
 // call back to the first. Each call has fewer tokens left, or as many and a lower level. What is read is written to
 // `out` from place n on, as an expression field.
+use spec_language::functions;
+use text_formula::levels;
+use text_formula::tokens;
 use text_phrase::Read;
 ghost use mathlib.Core.Path.{_≡_};
 ghost use Prim.Native.Nat.{_<_, _≤_, _*_, _+_};
 ghost use lib.ListN.{length};
 ghost use Rattle.text_parser.specs.Parser.{Reading, Within, Chosen, Argued, ArgumentIn};
+
+// A function token's last byte is its function.
+const BYTE: u64 = 256;
 
 // Level 6: `||`, and so a formula.
 pub fn disjunction(ts: &[u64], at: usize, out: &mut [u8], n: usize) -> Read
@@ -20,11 +26,11 @@ pub fn disjunction(ts: &[u64], at: usize, out: &mut [u8], n: usize) -> Read
         let Read::Done(f, end, d) = r else {
             return r;
         };
-        if text_phrase::level_at(ts, f) != 6 {
+        if text_phrase::level_at(ts, f) != levels::DISJUNCTION {
             return r;
         }
         let q = conjunction(ts, f + 1, out, end);
-        r = text_phrase::close((ts[f] % 256) as u8, n, d, q, out);
+        r = text_phrase::close((ts[f] % BYTE) as u8, n, d, q, out);
     }
 }
 
@@ -41,11 +47,11 @@ fn conjunction(ts: &[u64], at: usize, out: &mut [u8], n: usize) -> Read
         let Read::Done(f, end, d) = r else {
             return r;
         };
-        if text_phrase::level_at(ts, f) != 5 {
+        if text_phrase::level_at(ts, f) != levels::CONJUNCTION {
             return r;
         }
         let q = equality(ts, f + 1, out, end);
-        r = text_phrase::close((ts[f] % 256) as u8, n, d, q, out);
+        r = text_phrase::close((ts[f] % BYTE) as u8, n, d, q, out);
     }
 }
 
@@ -62,11 +68,11 @@ fn equality(ts: &[u64], at: usize, out: &mut [u8], n: usize) -> Read
         let Read::Done(f, end, d) = r else {
             return r;
         };
-        if text_phrase::level_at(ts, f) != 4 {
+        if text_phrase::level_at(ts, f) != levels::EQUALITY {
             return r;
         }
         let q = ordering(ts, f + 1, out, end);
-        r = text_phrase::close((ts[f] % 256) as u8, n, d, q, out);
+        r = text_phrase::close((ts[f] % BYTE) as u8, n, d, q, out);
     }
 }
 
@@ -83,11 +89,11 @@ fn ordering(ts: &[u64], at: usize, out: &mut [u8], n: usize) -> Read
         let Read::Done(f, end, d) = r else {
             return r;
         };
-        if text_phrase::level_at(ts, f) != 3 {
+        if text_phrase::level_at(ts, f) != levels::ORDERING {
             return r;
         }
         let q = sum(ts, f + 1, out, end);
-        r = text_phrase::close((ts[f] % 256) as u8, n, d, q, out);
+        r = text_phrase::close((ts[f] % BYTE) as u8, n, d, q, out);
     }
 }
 
@@ -104,11 +110,11 @@ fn sum(ts: &[u64], at: usize, out: &mut [u8], n: usize) -> Read
         let Read::Done(f, end, d) = r else {
             return r;
         };
-        if text_phrase::level_at(ts, f) != 2 {
+        if text_phrase::level_at(ts, f) != levels::SUM {
             return r;
         }
         let q = product(ts, f + 1, out, end);
-        r = text_phrase::close((ts[f] % 256) as u8, n, d, q, out);
+        r = text_phrase::close((ts[f] % BYTE) as u8, n, d, q, out);
     }
 }
 
@@ -125,11 +131,11 @@ fn product(ts: &[u64], at: usize, out: &mut [u8], n: usize) -> Read
         let Read::Done(f, end, d) = r else {
             return r;
         };
-        if text_phrase::level_at(ts, f) != 1 {
+        if text_phrase::level_at(ts, f) != levels::PRODUCT {
             return r;
         }
         let q = operand(ts, f + 1, out, end);
-        r = text_phrase::close((ts[f] % 256) as u8, n, d, q, out);
+        r = text_phrase::close((ts[f] % BYTE) as u8, n, d, q, out);
     }
 }
 
@@ -145,15 +151,15 @@ fn operand(ts: &[u64], at: usize, out: &mut [u8], n: usize) -> Read
         return Read::Fault;
     }
     let t = ts[at];
-    if t == 77309411331 {
+    if t == tokens::NOT {
         let r = operand(ts, at + 1, out, n);
-        return text_phrase::close(3, n, 0, r, out);
+        return text_phrase::close(functions::NOT, n, 0, r, out);
     }
-    if t == 77309411342 {
+    if t == tokens::IF {
         return choice(ts, at, out, n);
     }
-    if t == 81604378625 {
-        let r = argument(ts, 1, Read::Done(at, n, 0), out);
+    if t == tokens::OPENING {
+        let r = argument(ts, tokens::OPENING_MARK, Read::Done(at, n, 0), out);
         return text_phrase::ended(ts, r);
     }
     text_phrase::leaf(t, at, out, n)
@@ -168,10 +174,10 @@ fn choice(ts: &[u64], at: usize, out: &mut [u8], n: usize) -> Read
     ensures { λ r. ⌜ Chosen (now (ts .entry)) at n (now (out .entry)) (now (out .exit)) r ⌝ }
     ensures { λ r. ⌜ Within (length (now (ts .entry))) at n 0 r ⌝ }
 {
-    let a = argument(ts, 1, Read::Done(at + 1, n, 0), out);
-    let b = argument(ts, 3, a, out);
-    let c = argument(ts, 3, b, out);
-    text_phrase::close(14, n, 0, text_phrase::ended(ts, c), out)
+    let a = argument(ts, tokens::OPENING_MARK, Read::Done(at + 1, n, 0), out);
+    let b = argument(ts, tokens::COMMA_MARK, a, out);
+    let c = argument(ts, tokens::COMMA_MARK, b, out);
+    text_phrase::close(functions::IF, n, 0, text_phrase::ended(ts, c), out)
 }
 
 // A bracket or comma of number m, which is due, and a formula; what was read before is r.

@@ -7,10 +7,9 @@ use lib.ListN.{length, drop}
 use lib.Dec.{ltb, eqb}
 use Rattle.lib_base.specs.Basics.{pick, All}
 use Rattle.spec_language.specs.Refusals.{tooDeep, largeNumber, shortField}
-use Rattle.text_formula.specs.Tokens.{Token}
+use Rattle.text_formula.specs.Tokens.{Token, InRange}
 use Rattle.text_formula.specs.Reader.{wholly, readAt}
 use Rattle.text_formula.specs.Answer.{answered, answerTo}
-use Rattle.text_formula.proofs.Scans.{Fine}
 use Rattle.text_lexer.specs.Codes.{code}
 
 unfoldable pub largeCode : ℕ → Bool
@@ -30,4 +29,4 @@ delivered large depth v buffer =
 
 -- for whatever tokens the numbers cs stand for: the answer is that to their reading
 abbrev pub Translated : List ℕ → List ℕ → ℕ × List ℕ → Type 0
-Translated cs buffer a = (ts : List Token) → All Fine ts → cs ≡ map code ts → a ≡ answerTo (wholly (readAt 6 (length ts) ts)) buffer
+Translated cs buffer a = (ts : List Token) → All InRange ts → cs ≡ map code ts → a ≡ answerTo (wholly (readAt 6 (length ts) ts)) buffer

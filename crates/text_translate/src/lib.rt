@@ -1,5 +1,8 @@
 // A formula's text becomes an expression field at the start of a lent buffer: 21, 22, 9 and 23, or 2 ^ 32 and the
 // field's length.
+use spec_language::limits;
+use spec_language::refusals;
+use text_formula::tokens;
 use text_lexer::Text;
 use text_phrase::Read;
 ghost use mathlib.Core.Path.{_≡_};
@@ -8,14 +11,28 @@ ghost use lib.ListN.{length};
 ghost use Rattle.text_formula.specs.Answer.{answered, formulaOn};
 ghost use Rattle.text_translate.specs.Translate.{largeCode, anyLarge, delivered, Translated};
 
+// What is added to a field's length, so that it is told from a refusal.
+const ACCEPTED: u64 = 4294967296;
+
+// The most bytes of a formula's field: a token has a byte or more, and gives at most seven.
+const FIELD_BYTES: usize = limits::FORMULA_BYTES * 7;
+
+const NO_FORMULA: u64 = refusals::NO_FORMULA as u64;
+
+const LARGE_NUMBER: u64 = refusals::LARGE_NUMBER as u64;
+
+const TOO_DEEP: u64 = refusals::TOO_DEEP as u64;
+
+const SHORT_FIELD: u64 = refusals::SHORT_FIELD as u64;
+
 // Whether a token is a number above 2,147,483,647.
 fn is_large(t: u64) -> bool
     ensures { λ r. ⌜ r ≡ largeCode t ⌝ }
 {
-    if t / 4294967296 != 16 {
+    if t / tokens::WORDS != tokens::NUMBER_KIND {
         return false;
     }
-    2147483647 < t % 4294967296
+    tokens::LARGEST_NUMBER < t % tokens::WORDS
 }
 
 fn any_large(ts: &[u64]) -> bool
@@ -38,16 +55,16 @@ fn deliver(large: bool, depth: usize, field: &[u8], buffer: &mut [u8]) -> u64
     ensures { λ r. ⌜ answered r (now (buffer .exit)) ≡ delivered large depth (now (field .entry)) (now (buffer .entry)) ⌝ }
 {
     if large {
-        return 22;
+        return LARGE_NUMBER;
     }
-    if 16 < depth {
-        return 9;
+    if limits::NESTING < depth {
+        return TOO_DEEP;
     }
     if buffer.len() < field.len() {
-        return 23;
+        return SHORT_FIELD;
     }
     bytes::copy(field, buffer);
-    4294967296 + (field.len() as u64)
+    ACCEPTED + (field.len() as u64)
 }
 
 // From the tokens on; `out` is where the field is made.
@@ -58,10 +75,10 @@ fn from_tokens(ts: &[u64], out: &mut [u8], buffer: &mut [u8]) -> u64
 {
     let r = text_parser::disjunction(ts, 0, out, 0);
     let Read::Done(at, end, depth) = r else {
-        return 21;
+        return NO_FORMULA;
     };
     if at != ts.len() {
-        return 21;
+        return NO_FORMULA;
     }
     deliver(any_large(ts), depth, &out[0..end], buffer)
 }
@@ -70,14 +87,14 @@ fn from_tokens(ts: &[u64], out: &mut [u8], buffer: &mut [u8]) -> u64
 pub fn formula_at(text: &[u8], buffer: &mut [u8]) -> u64
     ensures { λ r. ⌜ answered r (now (buffer .exit)) ≡ formulaOn (now (text .entry)) (now (buffer .entry)) ⌝ }
 {
-    if 1024 < text.len() {
-        return 21;
+    if limits::FORMULA_BYTES < text.len() {
+        return NO_FORMULA;
     }
-    let mut numbers = [0u64; 1024];
+    let mut numbers = [0u64; limits::FORMULA_BYTES];
     let s = text_lexer::scan(text, &mut numbers);
     let Text::Tokens(n) = s else {
-        return 21;
+        return NO_FORMULA;
     };
-    let mut out = [0u8; 7168];
+    let mut out = [0u8; FIELD_BYTES];
     from_tokens(&numbers[0..n], &mut out, buffer)
 }
