@@ -86,9 +86,9 @@ level-start m cs at n o p r a w h f l j =
 abbrev pub Keeps : ℕ → List ℕ → ℕ → ℕ → List ℕ → Read → List ℕ → Read → Type 0
 Keeps m cs at n p₀ r₀ p r = (o : List ℕ) → Turn m cs at n o p₀ r₀ → Turn m cs at n o p r
 
-pub so-far : (m : ℕ) (cs : List ℕ) (at n : ℕ) (o p₀ : List ℕ) (r₀ : Read) (p : List ℕ) (r : Read) → Keeps m cs at n p₀ r₀ p r → Reading m cs at n o p₀ r₀ → Within (length cs) at n 0 r₀
-    → (n ≤ at * 7) × ((length cs ≤ 1024) × (length o ≡ 7168)) → length p₀ ≡ length o → Turn m cs at n o p r
-so-far m cs at n o p₀ r₀ p r f rd w h l = f o (level-start m cs at n o p₀ r₀ rd w (h .0) (h .1 .0) (l ∙ h .1 .1) (h .1 .1))
+pub so-far : {m : ℕ} {cs : List ℕ} {at n : ℕ} {p₀ : List ℕ} {r₀ : Read} {p : List ℕ} {r : Read} (o : List ℕ) → Keeps m cs at n p₀ r₀ p r → Reading m cs at n o p₀ r₀
+    → Within (length cs) at n 0 r₀ × (length p₀ ≡ 7168) → (n ≤ at * 7) × ((length cs ≤ 1024) × (length o ≡ 7168)) → Turn m cs at n o p r
+so-far {m} {cs} {at} {n} {p₀} {r₀} {p} {r} o f rd w h = f o (level-start m cs at n o p₀ r₀ rd (w .0) (h .0) (h .1 .0) (w .1) (h .1 .1))
 
 -- ---- its end
 
@@ -99,9 +99,10 @@ chain-ends l next zero a ts h = refl
 chain-ends l next (suc k) a [] h = refl
 chain-ends l next (suc k) a (t ∷ us) h = rw (ne-eqb (levelOf t) l (h t us refl))
 
-pub level-fault : {m : ℕ} {cs : List ℕ} {at n : ℕ} {o p : List ℕ} {r : Read} → Turn m cs at n o p r → r ≡ Fault → Reading (suc m) cs at n o p r × Within (length cs) at n 0 r
+pub level-fault : {m : ℕ} {cs : List ℕ} {at n : ℕ} {o p : List ℕ} {r : Read} → Turn m cs at n o p r → r ≡ Fault
+    → Reading (suc m) cs at n o p r × (Within (length cs) at n 0 r × (length p ≡ 7168))
 level-fault {m} {cs} {at} {n} {o} {p} {r} t q =
-    (λ ts fine e k g. ended ts k (rw q at (t .whole ts fine e k g)), t .inside)
+    (λ ts fine e k g. ended ts k (rw q at (t .whole ts fine e k g)), (t .inside, t .kept))
   where
     ended : (ts : List Token) (k : ℕ) → readAt (suc m) k (drop at ts) ≡ bad → Agrees ts 0 n o p r (readAt (suc m) k (drop at ts))
     ended ts k z = rw (q, z) tt
@@ -124,9 +125,9 @@ no-operator l ts cs at fine e h t us q d =
     let z : _≡_ {A = ℕ} 0 1 = cc in omega arith)
 
 pub level-end : {m : ℕ} {cs : List ℕ} {at n : ℕ} {o p : List ℕ} {r : Read} (to end depth : ℕ) → Turn m cs at n o p r → r ≡ Done to end depth → (levelIn cs to ≡ suc m → ⊥)
-    → Reading (suc m) cs at n o p (Done to end depth) × Within (length cs) at n 0 (Done to end depth)
+    → Reading (suc m) cs at n o p (Done to end depth) × (Within (length cs) at n 0 (Done to end depth) × (length p ≡ 7168))
 level-end {m} {cs} {at} {n} {o} {p} {r} to end depth t q h =
-    (λ ts fine e k g. done-here m ts k n o p to end depth (readAt (suc m) k (drop at ts)) (rw q at (t .whole ts fine e k g)) (no-operator (suc m) ts cs to fine e h), rw q at (t .inside))
+    (λ ts fine e k g. done-here m ts k n o p to end depth (readAt (suc m) k (drop at ts)) (rw q at (t .whole ts fine e k g)) (no-operator (suc m) ts cs to fine e h), (rw q at (t .inside), t .kept))
 
 -- ---- a turn: an operator of the level and its operand
 

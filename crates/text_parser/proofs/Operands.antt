@@ -375,3 +375,7 @@ pub argued-left : (m : ℕ) (cs o p : List ℕ) (r q : Read) → Argued m cs o p
 argued-left m cs o p Fault q a = rw a (omega arith)
 argued-left m cs o p (Done at n d) Fault a = omega arith
 argued-left m cs o p (Done at n d) (Done to end depth) a = let w = a .1 in omega arith
+
+-- what was read, with the buffer's length beside it
+pub with-length : {A B C : Type 0} → A × B → C → A × (B × C)
+with-length h l = (h .0, (h .1, l))

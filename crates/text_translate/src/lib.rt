@@ -6,16 +6,13 @@ use text_formula::tokens;
 use text_lexer::Text;
 use text_phrase::Read;
 ghost use mathlib.Core.Path.{_≡_};
-ghost use Prim.Native.Nat.{_<_, _≤_};
+ghost use Prim.Native.Nat.{_<_, _≤_, _+_};
 ghost use lib.ListN.{length};
 ghost use Rattle.text_formula.specs.Answer.{answered, formulaOn};
-ghost use Rattle.text_translate.specs.Translate.{largeCode, anyLarge, delivered, Translated};
+ghost use Rattle.text_translate.specs.Translate.{largeCode, anyLarge, openAfter, balancedFrom, delivered, Translated};
 
 // What is added to a field's length, so that it is told from a refusal.
 const ACCEPTED: u64 = 4294967296;
-
-// The most bytes of a formula's field: a token has a byte or more, and gives at most seven.
-const FIELD_BYTES: usize = limits::FORMULA_BYTES * 7;
 
 const NO_FORMULA: u64 = refusals::NO_FORMULA as u64;
 
@@ -49,6 +46,39 @@ fn any_large(ts: &[u64]) -> bool
     false
 }
 
+// How many brackets are open after a token, and one; 0 where one is closed that was not opened.
+fn open_after(n: usize, t: u64) -> usize
+    requires { ⌜ (0 < n) × (n ≤ 1024) ⌝ }
+    ensures { λ r. ⌜ r ≡ openAfter n t ⌝ }
+    ensures { λ r. ⌜ r ≤ n + 1 ⌝ }
+{
+    if t == tokens::OPENING {
+        return n + 1;
+    }
+    if t == tokens::CLOSING {
+        return n - 1;
+    }
+    n
+}
+
+// Whether the brackets match. The reader calls itself for each that is open, so a text where they do not is turned down
+// before: half of its tokens, at most, are opening ones.
+fn balanced(ts: &[u64]) -> bool
+    requires { ⌜ length (now ts) ≤ 1024 ⌝ }
+    ensures { λ r. ⌜ r ≡ balancedFrom 1 (now (ts .entry)) ⌝ }
+{
+    let mut nested = 1usize;
+    let mut i = 0;
+    while i < ts.len() {
+        if nested == 0 {
+            return false;
+        }
+        nested = open_after(nested, ts[i]);
+        i += 1;
+    }
+    nested == 1
+}
+
 // The field of a formula that was read, unless a number is too large, the nesting too deep or the buffer too short.
 fn deliver(large: bool, depth: usize, field: &[u8], buffer: &mut [u8]) -> u64
     requires { ⌜ length (now field) ≤ 7168 ⌝ }
@@ -68,12 +98,15 @@ fn deliver(large: bool, depth: usize, field: &[u8], buffer: &mut [u8]) -> u64
 }
 
 // From the tokens on; `out` is where the field is made.
-fn from_tokens(ts: &[u64], out: &mut [u8], buffer: &mut [u8]) -> u64
+fn from_tokens(ts: &[u64], buffer: &mut [u8]) -> u64
     requires { ⌜ length (now ts) ≤ 1024 ⌝ }
-    requires { ⌜ length (now out) ≡ 7168 ⌝ }
     ensures { λ r. ⌜ Translated (now (ts .entry)) (now (buffer .entry)) (answered r (now (buffer .exit))) ⌝ }
 {
-    let r = text_parser::disjunction(ts, 0, out, 0);
+    if !balanced(ts) {
+        return NO_FORMULA;
+    }
+    let mut out = [0u8; text_parser::FIELD_BYTES];
+    let r = text_parser::disjunction(ts, 0, &mut out, 0);
     let Read::Done(at, end, depth) = r else {
         return NO_FORMULA;
     };
@@ -95,6 +128,5 @@ pub fn formula_at(text: &[u8], buffer: &mut [u8]) -> u64
     let Text::Tokens(n) = s else {
         return NO_FORMULA;
     };
-    let mut out = [0u8; FIELD_BYTES];
-    from_tokens(&numbers[0..n], &mut out, buffer)
+    from_tokens(&numbers[0..n], buffer)
 }
