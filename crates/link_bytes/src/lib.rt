@@ -1,6 +1,7 @@
 // The bytes of two accepted sheets joined into one (02, M-111): their events by number, the behaviours of the first,
 // then those of the second with their names moved up. Time: one pass over the bytes of both, and at most 64 turns to
 // count the behaviours of the first.
+use front_field::Field;
 use spec_language::limits;
 use spec_language::tags;
 ghost use mathlib.Core.Path.{_≡_};
@@ -44,20 +45,17 @@ fn cells(s: &[u8], i: usize) -> usize
     1
 }
 
-// The place after it.
+// The place after it, by the field reader, whatever its tag; the end where the reader finds none.
 fn next(s: &[u8], i: usize) -> usize
     requires { ⌜ i ≤ length (now s) ⌝ }
     ensures { λ r. ⌜ r ≡ nextAt (now (s .entry)) i ⌝ }
     ensures { λ r. ⌜ r ≤ length (now (s .entry)) ⌝ }
 {
-    if s.len() - i < 3 {
+    let f = front_field::field_answer(&s[i..], 0, u8::MAX);
+    let Field::Value(_, n) = f else {
         return s.len();
-    }
-    let n = (s[i + 1] as usize) * BYTE + (s[i + 2] as usize) + 3;
-    if s.len() - i < n {
-        return s.len();
-    }
-    i + n
+    };
+    i + n + 3
 }
 
 // How many behaviours stand from place i on.
