@@ -10,7 +10,10 @@ ghost use Rattle.spec_language.specs.Reading.{readSheet};
 ghost use Rattle.front_draft.specs.Draft.{DraftOf, SheetDraft};
 ghost use Rattle.back_compile.specs.Verdict.{compiled, judgeRead, compileOn};
 ghost use Rattle.back_compile.specs.Judged.{Judged, SheetJudged, numberOf};
+use format_layout::table;
 use front_sheet::Draft;
+use spec_language::limits;
+use spec_language::refusals;
 
 // A draft with its faults, in their order, or the table.
 fn judge_draft(d: &[u64], ev: usize, bs: usize, n: usize, lacking: bool, t: &mut [u8]) -> u32
@@ -19,16 +22,16 @@ fn judge_draft(d: &[u64], ev: usize, bs: usize, n: usize, lacking: bool, t: &mut
     ensures { λ r. ⌜ Judged ev bs n (now (d .entry)) lacking (now (t .entry)) r (now (t .exit)) ⌝ }
 {
     if !check_faults::names_known(d, n, bs) {
-        return 11;
+        return refusals::UNKNOWN_NAME;
     }
     if lacking {
-        return 20;
+        return refusals::NO_PARAMETERS;
     }
     if check_faults::has_cycle(d, ev, bs) {
-        return 12;
+        return refusals::CYCLE;
     }
-    if back_table::count_all(d, ev, bs) > 4096 {
-        return 13;
+    if back_table::count_all(d, ev, bs) > limits::INSTRUCTIONS {
+        return refusals::OVERLONG;
     }
     back_table::write_table(d, ev, bs, t);
     0
@@ -60,7 +63,7 @@ fn compile_read(sheet: &[u8], params: &[u8], table: &mut [u8]) -> u32
     requires { ⌜ (length (now sheet) ≤ 8192) × (34816 ≤ length (now table)) ⌝ }
     ensures { λ r. ⌜ compiled r (now (table .exit)) ≡ judgeRead (readSheet (now (sheet .entry))) (now (params .entry)) (now (table .entry)) ⌝ }
 {
-    let mut draft = [0u64; 4416];
+    let mut draft = [0u64; front_draft::layout::LENGTH];
     let a = front_sheet::read_program(sheet, &mut draft);
     let Draft::Ready(ev, bs, n) = a else {
         return number_of(a);
@@ -72,11 +75,11 @@ fn compile_read(sheet: &[u8], params: &[u8], table: &mut [u8]) -> u32
 pub fn compile_at(sheet: &[u8], params: &[u8], table: &mut [u8]) -> u32
     ensures { λ r. ⌜ compiled r (now (table .exit)) ≡ compileOn (now (sheet .entry)) (now (params .entry)) (now (table .entry)) ⌝ }
 {
-    if table.len() < 34816 {
-        return 1;
+    if table.len() < table::BYTES {
+        return refusals::SHORT_TABLE;
     }
-    if sheet.len() > 8192 {
-        return 3;
+    if sheet.len() > limits::SHEET_BYTES {
+        return refusals::LONG_SHEET;
     }
     compile_read(sheet, params, table)
 }

@@ -6,6 +6,7 @@ ghost use lib.ListN.{length};
 ghost use Rattle.check_faults.specs.Checks.{RowsInside};
 ghost use Rattle.front_draft.specs.Draft.{draftLength};
 ghost use Rattle.back_schedule.specs.Ordering.{markOf, MarksAre, orderUnder, Holds, countTurns, Checked};
+use front_draft::layout;
 
 // How many behaviours have their turn in phase one, in an order that is complete; or a circle.
 pub enum Order {
@@ -16,10 +17,10 @@ pub enum Order {
 fn mark_of(v: u64) -> u8
     ensures { λ r. ⌜ r ≡ markOf v ⌝ }
 {
-    if v % 4 == 1 {
+    if v % layout::KINDS == layout::PASSIVE {
         return 0;
     }
-    if v % 4 == 2 {
+    if v % layout::KINDS == layout::IMMEDIATE {
         return 0;
     }
     1
@@ -43,8 +44,8 @@ pub fn order_under(d: &[u64], e: usize, n: usize, o: &mut [u8]) -> usize
     requires { ⌜ (length (now d) ≡ draftLength) × (length (now o) ≡ 64) × (e ≤ 32) × (n ≤ 64) × RowsInside (now d) e n ⌝ }
     ensures { λ r. ⌜ Holds (now (o .exit)) r n (orderUnder (now (d .entry)) e n) ⌝ }
 {
-    let mut m = [0u8; 4096];
-    let mut marks = [0u8; 64];
+    let mut m = [0u8; check_graph::CELLS];
+    let mut marks = [0u8; check_graph::ROW];
     check_faults::fill_matrix(d, e, n, &mut m);
     set_marks(d, e, n, &mut marks);
     check_graph::order_of(&m, &mut marks, n, o)

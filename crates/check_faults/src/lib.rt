@@ -8,12 +8,14 @@ ghost use lib.ListN.{length};
 ghost use Rattle.front_draft.specs.Entry.{startOf, countOf};
 ghost use Rattle.front_draft.specs.Draft.{draftLength, usedBy};
 ghost use Rattle.check_faults.specs.Checks.{stray, namesKnown, blank, markNode, markNodes, markEntry, matrixOn, closedOn, cyclicOn, RowsInside, AllInside};
+use front_draft::layout;
+use spec_language::limits;
 
 fn is_stray(x: u64, b: usize) -> bool
     ensures { λ r. ⌜ r ≡ stray x b ⌝ }
 {
-    if x / 4294967296 == 17 {
-        return x % 4294967296 >= b as u64;
+    if x / layout::WORD == layout::NAME {
+        return x % layout::WORD >= b as u64;
     }
     false
 }
@@ -38,7 +40,7 @@ fn clear(m: &mut [u8])
     ensures { λ _. ⌜ now (m .exit) ≡ blank 4096 ⌝ }
 {
     let mut k = 0;
-    while k < 4096 {
+    while k < check_graph::CELLS {
         m[k] = 0;
         k += 1;
     }
@@ -48,11 +50,11 @@ fn mark_node(m: &mut [u8], i: usize, but: usize, x: u64)
     requires { ⌜ (length (now m) ≡ 4096) × (i < 64) ⌝ }
     ensures { λ _. ⌜ now (m .exit) ≡ markNode (now (m .entry)) i but x ⌝ }
 {
-    if x / 4294967296 == 17 {
-        let j = (x % 4294967296) as usize;
-        if j < 64 {
+    if x / layout::WORD == layout::NAME {
+        let j = (x % layout::WORD) as usize;
+        if j < limits::BEHAVIOURS {
             if j != but {
-                m[i * 64 + j] = 1;
+                m[i * check_graph::ROW + j] = 1;
             }
         }
     }
@@ -75,13 +77,13 @@ fn mark_entry(d: &[u64], m: &mut [u8], i: usize, v: u64)
     requires { ⌜ (length (now d) ≡ draftLength) × (length (now m) ≡ 4096) × (i < 64) × (startOf v + countOf v ≤ 2048) ⌝ }
     ensures { λ _. ⌜ now (m .exit) ≡ markEntry (now (d .entry)) (now (m .entry)) i v ⌝ }
 {
-    let start = (v / 4 % 4096) as usize;
-    let count = (v / 16384) as usize;
-    if v % 4 == 1 {
-        mark_nodes(d, m, i, 64, start, count);
+    let start = (v / layout::KINDS % layout::FIRSTS) as usize;
+    let count = (v / layout::COUNTS) as usize;
+    if v % layout::KINDS == layout::PASSIVE {
+        mark_nodes(d, m, i, limits::BEHAVIOURS, start, count);
         return;
     }
-    if v % 4 == 2 {
+    if v % layout::KINDS == layout::IMMEDIATE {
         mark_nodes(d, m, i, i, start, count);
     }
 }
@@ -113,7 +115,7 @@ pub fn has_cycle(d: &[u64], ev: usize, bs: usize) -> bool
     requires { ⌜ (length (now d) ≡ draftLength) × (ev ≤ 32) × (bs ≤ 64) × AllInside (now d) ev bs ⌝ }
     ensures { λ r. ⌜ r ≡ cyclicOn (now (d .entry)) ev bs ⌝ }
 {
-    let mut m = [0u8; 4096];
+    let mut m = [0u8; check_graph::CELLS];
     let mut found = false;
     let mut e = 0;
     'search: while e <= ev {

@@ -6,6 +6,11 @@ ghost use lib.ListN.{length};
 ghost use Rattle.check_graph.specs.Matrix.{cell, joined, closeCell, closeRow, closeThrough, closeRows, closed};
 ghost use Rattle.check_graph.specs.Placing.{lacks, metOn, readyOn, findOn, placed, orderOn};
 
+// A row of the matrix, and the whole of it.
+pub const ROW: usize = spec_language::limits::BEHAVIOURS;
+
+pub const CELLS: usize = ROW * ROW;
+
 // 1 where x is set, else y.
 fn joined(x: u8, y: u8) -> u8
     ensures { λ r. ⌜ r ≡ joined x y ⌝ }
@@ -18,7 +23,7 @@ fn close_cell(m: &mut [u8], i: usize, k: usize, j: usize)
     requires { ⌜ (length (now m) ≡ 4096) × (i < 64) × (k < 64) × (j < 64) ⌝ }
     ensures { λ _. ⌜ now (m .exit) ≡ closeCell (now (m .entry)) i k j ⌝ }
 {
-    m[i * 64 + j] = joined(m[k * 64 + j], m[i * 64 + j]);
+    m[i * ROW + j] = joined(m[k * ROW + j], m[i * ROW + j]);
 }
 
 fn close_row(m: &mut [u8], i: usize, k: usize, n: usize)
@@ -36,7 +41,7 @@ fn close_through(m: &mut [u8], i: usize, k: usize, n: usize)
     requires { ⌜ (length (now m) ≡ 4096) × (i < 64) × (k < 64) × (n ≤ 64) ⌝ }
     ensures { λ _. ⌜ now (m .exit) ≡ closeThrough (now (m .entry)) i k n ⌝ }
 {
-    if m[i * 64 + k] != 0 {
+    if m[i * ROW + k] != 0 {
         close_row(m, i, k, n);
     }
 }
@@ -68,14 +73,14 @@ pub fn reaches_itself(m: &[u8], b: usize) -> bool
     requires { ⌜ (length (now m) ≡ 4096) × (b < 64) ⌝ }
     ensures { λ r. ⌜ r ≡ cell (now (m .entry)) b b ⌝ }
 {
-    m[b * 64 + b] != 0
+    m[b * ROW + b] != 0
 }
 
 fn lacks(m: &[u8], marks: &[u8], i: usize, j: usize) -> bool
     requires { ⌜ (length (now m) ≡ 4096) × (length (now marks) ≡ 64) × (i < 64) × (j < 64) ⌝ }
     ensures { λ r. ⌜ r ≡ lacks (now (m .entry)) (now (marks .entry)) i j ⌝ }
 {
-    if m[i * 64 + j] == 0 {
+    if m[i * ROW + j] == 0 {
         return false;
     }
     marks[j] == 0

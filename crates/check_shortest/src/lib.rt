@@ -9,6 +9,21 @@ ghost use Rattle.check_faults.specs.Checks.{cyclicOn, RowsInside, AllInside};
 ghost use Rattle.front_draft.specs.Draft.{draftLength};
 ghost use Rattle.check_shortest.specs.Search.{bestOf, shortestOn, eventNumber, Wide, Found};
 
+// How the steps from a behaviour back to itself are packed with it and the event: both are below 64.
+const BEHAVIOURS: usize = 64;
+
+const EVENTS: usize = 64;
+// Above every packed number.
+const BEYOND: usize = 300000;
+// An answer: the refusal, the event times EVENT, NO_EVENT for none, and how many members times COUNT.
+const CYCLE: u64 = spec_language::refusals::CYCLE as u64;
+
+const NO_EVENT: u64 = 255;
+
+const EVENT: u64 = 256;
+
+const COUNT: u64 = 65536;
+
 fn lower(a: usize, b: usize) -> usize
     ensures { λ r. ⌜ r ≡ min a b ⌝ }
 {
@@ -29,7 +44,7 @@ fn best_under(d: &[u64], e: usize, n: usize, m: &mut [u8], s: &mut [u8], best: u
     while i < n {
         least = lower(
             least,
-            (check_distance::steps_back(m, s, i, n) * 64 + i) * 64 + e,
+            (check_distance::steps_back(m, s, i, n) * BEHAVIOURS + i) * EVENTS + e,
         );
         i += 1;
     }
@@ -41,9 +56,9 @@ fn shortest(d: &[u64], ev: usize, n: usize) -> usize
     requires { ⌜ (length (now d) ≡ draftLength) × (ev ≤ 32) × (n ≤ 64) × AllInside (now d) ev n ⌝ }
     ensures { λ r. ⌜ r ≡ shortestOn (now (d .entry)) ev n ⌝ }
 {
-    let mut m = [0u8; 4096];
-    let mut s = [0u8; 4160];
-    let mut least = 300000;
+    let mut m = [0u8; check_graph::CELLS];
+    let mut s = [0u8; check_distance::LAYERS];
+    let mut least = BEYOND;
     let mut e = 0;
     while e <= ev {
         least = best_under(d, e, n, &mut m, &mut s, least);
@@ -59,7 +74,7 @@ fn event_number(e: usize, ev: usize) -> u64
     if e < ev {
         return e as u64;
     }
-    255
+    NO_EVENT
 }
 
 // A shortest circle: its members in the list's first bytes. 12, its event times 256 and their number times 65,536.
@@ -69,12 +84,12 @@ pub fn list_circle(d: &[u64], ev: usize, n: usize, list: &mut [u8]) -> u64
     ensures { λ r. ⌜ Found (now (d .entry)) ev n (now (list .entry)) r (now (list .exit)) ⌝ }
 {
     let best = shortest(d, ev, n);
-    let e = best % 64;
-    let i = best / 64 % 64;
-    let mut m = [0u8; 4096];
-    let mut s = [0u8; 4160];
+    let e = best % EVENTS;
+    let i = best / EVENTS % BEHAVIOURS;
+    let mut m = [0u8; check_graph::CELLS];
+    let mut s = [0u8; check_distance::LAYERS];
     check_faults::fill_matrix(d, e, n, &mut m);
     let r = check_distance::steps_back(&m, &mut s, i, n);
     check_distance::walk(&m, &s, i, r, n, list);
-    12 + event_number(e, ev) * 256 + r as u64 * 65536
+    CYCLE + event_number(e, ev) * EVENT + r as u64 * COUNT
 }
