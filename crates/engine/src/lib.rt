@@ -27,8 +27,8 @@ pub extern "C" fn compile(sheet: &[u8], params: &[u8], table: &mut [u8]) -> u32
     back_compile::compile_at(sheet, params, table)
 }
 
-// Why a sheet is turned down: compile's number, as with a full table, the list as it was; with 12 a shortest circle in
-// the list's first bytes, its event times 256 (255 for none) and its length times 65,536. 1 for a list under 64 bytes.
+// Why a sheet is turned down: compile's number, as with a full table, the list as it was; with 12 a shortest circle's
+// event times 256 (255 for none) and its length times 65,536, and it in the list's first bytes, where it has room.
 #[no_mangle]
 pub extern "C" fn circle(sheet: &[u8], params: &[u8], list: &mut [u8]) -> u64
     ensures { λ r. ⌜ Witnessed (now (sheet .entry)) (now (params .entry)) (now (list .entry)) r (now (list .exit)) ⌝ }

@@ -100,7 +100,7 @@ pub fn circle(bytes: &[u8], params: &[u8], room: usize) {
     let got = proved::circle(bytes, params, list.part_mut());
     assert!(lent == (bytes.to_vec(), params.to_vec()), "circle changed the sheet or its parameters");
     list.check();
-    let number = if room < 64 { 1 } else { engine::compile(bytes, params).err().unwrap_or(0) };
+    let number = engine::compile(bytes, params).err().unwrap_or(0);
     if number != 12 {
         assert_eq!(got, number as u64, "circle's number");
         assert!(list.part().iter().all(|b| *b == 0x5A), "the list changed");
@@ -111,6 +111,10 @@ pub fn circle(bytes: &[u8], params: &[u8], room: usize) {
     assert_eq!(got % 256, 12, "circle's number");
     assert!(event < sheet.ranks.len() || event == 255, "circle's event");
     assert_eq!(Some(count), sheet.shortest(), "circle's length");
+    if room < count {
+        assert!(list.part().iter().all(|b| *b == 0x5A), "a list too short for the circle changed");
+        return;
+    }
     let members: Vec<usize> = list.part()[..count].iter().map(|b| *b as usize).collect();
     assert!(sheet.is_circle((event < 255).then_some(event), &members), "no circle: {members:?} on {event}");
     assert!(list.part()[count..].iter().all(|b| *b == 0x5A), "bytes past the circle changed");
