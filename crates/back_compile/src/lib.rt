@@ -1,8 +1,8 @@
 // compile: from the bytes of a sheet and of its parameters to the table of the program that it means, or the number of
 // a refusal. Time: reading takes one pass over the bytes, unknown names one pass over the nodes. The rest is done for
-// each of ev events and for none: a pass over the nodes for the names, and for bs behaviours the closure of a matrix
-// and an order, each choice looking at every need anew. In all bytes + (ev + 1) * (names + 2 * bs * bs * bs + 4096),
-// the 4096 for clearing a matrix, and the instructions written, at most 4096.
+// each of ev events and for none, twice: a pass over the nodes for the names, and an order of bs behaviours, each choice
+// looking at one set for each of them. In all bytes + 2 * (ev + 1) * (names + bs * bs), and the instructions written, at
+// most 4096.
 ghost use mathlib.Core.Path.{_≡_};
 ghost use Prim.Native.Nat.{_≤_};
 ghost use lib.ListN.{length, replicate};
