@@ -1,7 +1,6 @@
 -- A frame, for all bytes: the steps that it makes are those of `stepOn`, one after the other, and the answers of those
 -- that commit are written to the bytes lent for them, eight each.
 use Prim.Native.Nat.{ℕ, zero, suc, _+_, _*_, _/_, _%_}
-use mathlib.Core.Bool.{Bool}
 use mathlib.Core.List.{List}
 use lib.ListN.{length}
 use lib.Dec.{ltb, leb, eqb}
@@ -10,6 +9,7 @@ use Rattle.lib_word.specs.Word.{put}
 use Rattle.spec_language.specs.Refusals.{foreign}
 use Rattle.spec_language.specs.Answers as kinds
 use Rattle.run_step.specs.Machine.{stepOn}
+use Rattle.run_burst.specs.Burst.{commits}
 
 -- ---- the answer
 
@@ -46,9 +46,6 @@ roomFor bytes = pick (ltb (bytes / 8) 16777215) (bytes / 8) 16777215
 unfoldable pub putAnswer : List ℕ → ℕ → ℕ → List ℕ
 putAnswer b n a = put (put b (n * 2) (a / 4294967296)) (n * 2 + 1) (a % 4294967296)
 
-abbrev pub commits : ℕ → Bool
-commits a = eqb (a % 16) kinds.committed
-
 -- after a step that answered a: how many are written, and the bytes
 unfoldable pub countAfter : ℕ → ℕ → ℕ
 countAfter a n = pick (commits a) (n + 1) n
@@ -66,6 +63,10 @@ frameFrom t room (suc k) m n l b =
     (pick (eqb (stepOn t l .0) kinds.idle) (frameSaid metIdle m n, l, b)
     (pick (eqb (stepOn t l .0) foreign) (frameSaid metRefusal m n, l, b)
     (frameFrom t room k (m + 1) (countAfter (stepOn t l .0) n) (stepOn t l .1) (commitsAfter (stepOn t l .0) n b))))
+
+-- of a foreign table or round: no step is made
+unfoldable pub refusedFrame : ℕ → ℕ → ℕ
+refusedFrame steps room = pick (eqb steps 0) (frameSaid allMade 0 0) (pick (eqb room 0) (frameSaid noRoom 0 0) (frameSaid metRefusal 0 0))
 
 unfoldable pub frameOn : List ℕ → List ℕ → ℕ → List ℕ → Framed
 frameOn t l steps b = frameFrom t (roomFor (length b)) steps 0 0 l b

@@ -2,7 +2,8 @@
 ghost use mathlib.Core.Path.{_≡_};
 ghost use Prim.Native.Nat.{_+_, _*_, _≤_, _<_};
 ghost use lib.ListN.{length};
-ghost use Rattle.run_frame.specs.Frame.{roomFor, frameSaid, putAnswer, countAfter, commitsAfter, framed, frameOn};
+ghost use Rattle.run_frame.specs.Frame.{roomFor, frameSaid, putAnswer, countAfter, commitsAfter, framed, frameFrom, refusedFrame, frameOn};
+ghost use Rattle.run_burst.specs.Sound.{Sound};
 
 // Why a frame ended: all steps made, nothing to do, a step refused, no room for a further commit.
 pub const ALL_MADE: u64 = 0;
@@ -68,27 +69,52 @@ fn note(commits: &mut [u8], n: u32, answer: u64) -> u32
     n
 }
 
+// Of a foreign table or round no step is made.
+fn refused_of(steps: u32, room: u32) -> u64
+    ensures { λ r. ⌜ r ≡ refusedFrame steps room ⌝ }
+{
+    if steps == 0 {
+        return said_of(ALL_MADE, 0, 0);
+    }
+    if room == 0 {
+        return said_of(NO_ROOM, 0, 0);
+    }
+    said_of(REFUSED, 0, 0)
+}
+
+// Table and round are judged. There is room for so many commits.
+fn frame_in(table: &[u8], round: &mut [u8], steps: u32, room: u32, commits: &mut [u8]) -> u64
+    requires { ⌜ Sound (now table) (now round) × (room < 16777216) × (room * 8 ≤ length (now commits)) ⌝ }
+    ensures { λ r. ⌜ framed r (now (round .exit)) (now (commits .exit)) ≡ frameFrom (now (table .entry)) room steps 0 0 (now (round .entry)) (now (commits .entry)) ⌝ }
+{
+    let mut left = steps;
+    let mut written = 0;
+    while left > 0 {
+        if room <= written {
+            return said_of(NO_ROOM, steps - left, written);
+        }
+        let stop = run_burst::burst_on(&*table, round, left);
+        let answer = stop.answer;
+        left = stop.left;
+        if answer == spec_language::answers::IDLE {
+            return said_of(IDLE, steps - left, written);
+        }
+        if answer == FOREIGN {
+            return said_of(REFUSED, steps - left, written);
+        }
+        written = note(commits, written, answer);
+    }
+    said_of(ALL_MADE, steps, written)
+}
+
 // Up to so many steps, until one is idle or refused or there is no room for a further commit: how many were made, the
 // commits written, and why it ended.
 pub fn frame_at(table: &[u8], round: &mut [u8], steps: u32, commits: &mut [u8]) -> u64
     ensures { λ r. ⌜ framed r (now (round .exit)) (now (commits .exit)) ≡ frameOn (now (table .entry)) (now (round .entry)) steps (now (commits .entry)) ⌝ }
 {
     let room = room_of(commits.len());
-    let mut made = 0;
-    let mut written = 0;
-    while made < steps {
-        if room <= written {
-            return said_of(NO_ROOM, made, written);
-        }
-        let answer = run_step::step_at(&*table, round);
-        if answer == spec_language::answers::IDLE {
-            return said_of(IDLE, made, written);
-        }
-        if answer == FOREIGN {
-            return said_of(REFUSED, made, written);
-        }
-        written = note(commits, written, answer);
-        made += 1;
+    if run_validate::is_ours(&*table, round) {
+        return frame_in(&*table, round, steps, room, commits);
     }
-    said_of(ALL_MADE, made, written)
+    refused_of(steps, room)
 }
