@@ -1,0 +1,6 @@
+pub mod Gathering
+pub mod NameLaws
+pub mod Filling
+pub mod Named
+pub mod Agrees
+pub mod Decides
