@@ -4,3 +4,4 @@ pub mod Filling
 pub mod Named
 pub mod Agrees
 pub mod Decides
+pub mod FirstLaws
