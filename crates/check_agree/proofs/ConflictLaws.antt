@@ -37,6 +37,24 @@ unfolding leastIn
 least-none set n e f h =
     sym (first-none n 0 (λ i. pick (bit set i) (packed e f i) 0) (λ i a b. rw (h, bit-none i)))
 
+pub packed-some : (e f i : ℕ) → packed e f i ≡ 0 → ⊥
+unfolding packed
+packed-some e f i h = omega arith
+
+-- ---- a pair, by the sets of its events
+
+pub pair-alike : (d : List ℕ) (n : ℕ) (w m : ℕ → ℕ → Bool) (e f : ℕ) → getD d (4224 + e) 0 ≡ getD d (4224 + f) 0 → 0 ≡ conflictWith d n w m e f
+unfolding conflictWith
+pair-alike d n w m e f h = rw (eq-eqb (getD d (4224 + e) 0) (getD d (4224 + f) 0) h)
+
+pub pair-is : (d : List ℕ) (n : ℕ) (writes named : List ℕ) (e f set r : ℕ) → (getD d (4224 + e) 0 ≡ getD d (4224 + f) 0 → ⊥)
+    → ((i : ℕ) → bit set i ≡ clash (member writes e i) (member named e i) (member writes f i) (member named f i)) → r ≡ leastIn set n e f
+    → r ≡ conflictWith d n (member writes) (member named) e f
+unfolding conflictWith conflictAt leastIn
+pair-is d n writes named e f set r h g q =
+    rw (ne-eqb (getD d (4224 + e) 0) (getD d (4224 + f) 0) h)
+    (q ∙ first-same n 0 (λ i. pick (bit set i) (packed e f i) 0) (conflictAt d n (member writes) (member named) e f) (λ i a b. rw (g i)))
+
 -- ---- the same sets, the same conflict
 
 module _ (d : List ℕ) (n ev : ℕ) (w m w′ m′ : ℕ → ℕ → Bool)
@@ -73,7 +91,7 @@ module _ (p : Program) (d : List ℕ) (n : ℕ) (fits : Fits p) (dr : Drafted p 
 
   in-same : conflictBy d (size p) (writes p) (namedBy p) (events p) ≡ clashIn p
   unfolding conflictBy clashIn
-  in-same = rw sub-zero (first-same (events p) 0 (conflictFrom d (size p) (writes p) (namedBy p) (events p)) (clashFrom p) (λ e b c. begins-same e c))
+  in-same = rw sub-zero (first-same (events p) 0 (conflictFrom d (size p) (writes p) (namedBy p) (events p)) (clashFrom p) (λ e b c. begins-same e (omega arith)))
 
   drafted-clash : conflictOn d (events p) (size p) ≡ clashIn p
   drafted-clash =

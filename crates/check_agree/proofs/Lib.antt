@@ -1,1 +1,2 @@
 pub mod ConflictLaws
+pub mod Decides

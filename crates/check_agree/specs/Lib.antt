@@ -1,3 +1,4 @@
 pub mod Answer
 pub mod Conflict
 pub mod Agree
+pub mod Claims
