@@ -59,6 +59,6 @@ pub record Answered (s ps : List ℕ) (x : Sheet) : Type 0 where
 
 abbrev pub Answers : Type 0
 Answers =
-    (s ps : List ℕ) → All (λ b. b < 256) s
+    (s ps : List ℕ) → All (λ b. b < 256) s → All (λ b. b < 256) ps
     → ((x : Sheet) → encode x ≡ s → SheetAccepted (get ps) (length ps) x → Answered s ps x)
     × (numberOn s ps ≢ 0 → agreeOn s ps ≡ numberOn s ps)

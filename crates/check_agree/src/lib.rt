@@ -14,12 +14,17 @@ use check_judge::Judgement;
 
 // The answer: this number, and the first event, the second and a behaviour, each in bits of its own.
 const PHONES_MAY_DIFFER: u64 = 29;
+
 const FIRST: u64 = 256;
+
 const SECOND: u64 = 65536;
+
 const BEHAVIOUR: u64 = 16777216;
 // Where the draft has the priorities; its length, and that of a buffer of a word for each event.
 const PRIORITIES: usize = 4224;
+
 const DRAFT: usize = 4416;
+
 const EVENTS: usize = 32;
 
 // What one of two events writes and the other writes or names.

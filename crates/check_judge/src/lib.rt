@@ -7,8 +7,13 @@ ghost use Rattle.front_correct.proofs.Drafts.{empty};
 ghost use Rattle.back_compile.specs.Judged.{numberOf};
 ghost use Rattle.check_judge.specs.Judging.{FaultIs, judgementOf, JudgedAs};
 use front_sheet::Draft;
-use spec_language::limits::{INSTRUCTIONS, SHEET_BYTES};
-use spec_language::refusals::{CYCLE, LONG_SHEET, NO_PARAMETERS, OVERLONG, UNKNOWN_NAME};
+use spec_language::limits::INSTRUCTIONS;
+use spec_language::limits::SHEET_BYTES;
+use spec_language::refusals::CYCLE;
+use spec_language::refusals::LONG_SHEET;
+use spec_language::refusals::NO_PARAMETERS;
+use spec_language::refusals::OVERLONG;
+use spec_language::refusals::UNKNOWN_NAME;
 
 // The numbers of events and behaviours of a sheet that compile accepts, or compile's number.
 pub enum Judgement {

@@ -5,6 +5,8 @@ ghost use Prim.Native.Nat.{_+_, _*_, _≤_, _<_};
 ghost use lib.ListN.{length};
 ghost use Rattle.back_compile.specs.Verdict.{compiled, compileOn};
 ghost use Rattle.check_circle.specs.Witness.{Witnessed};
+ghost use Rattle.check_agree.specs.Agree.{agreeOn};
+ghost use Rattle.check_leak.specs.Leak.{leakOn};
 ghost use Rattle.run_start.specs.Start.{result, startOn};
 ghost use Rattle.run_arrive.specs.Arrivals.{arriveOn};
 ghost use Rattle.run_board.specs.Board.{boardOn};
@@ -203,4 +205,30 @@ pub extern "C" fn replay(table: &[u8], round: &mut [u8], calls: &[u8], answers: 
         i += 1;
     }
     n
+}
+
+// ---- what a sheet promises
+
+// Will two phones agree? compile's number, as with a full table; 0 where every two declared events of unequal rank are
+// independent; else 29, the first event times 256, the second times 65,536 and times 2 ^ 24 a behaviour that one of them
+// writes and the other reads or writes: the least first event, then the least second, then the least behaviour.
+#[no_mangle]
+pub extern "C" fn agree(sheet: &[u8], params: &[u8]) -> u64
+    ensures { λ r. ⌜ r ≡ agreeOn (now (sheet .entry)) (now (params .entry)) ⌝ }
+    ensures { λ _. ⌜ now (sheet .exit) ≡ now (sheet .entry) ⌝ }
+    ensures { λ _. ⌜ now (params .exit) ≡ now (params .entry) ⌝ }
+{
+    check_agree::agree_at(sheet, params)
+}
+
+// May a hidden value leak to a player? compile's number, as with a full table; 24 for a player above 7; 0 where no
+// behaviour that the player sees depends on a hidden one; else 30, the least behaviour that it sees and that names a
+// hidden one times 256, and times 65,536 the least hidden one that this names.
+#[no_mangle]
+pub extern "C" fn leak(sheet: &[u8], params: &[u8], player: u32) -> u64
+    ensures { λ r. ⌜ r ≡ leakOn (now (sheet .entry)) (now (params .entry)) player ⌝ }
+    ensures { λ _. ⌜ now (sheet .exit) ≡ now (sheet .entry) ⌝ }
+    ensures { λ _. ⌜ now (params .exit) ≡ now (params .entry) ⌝ }
+{
+    check_leak::leak_at(sheet, params, player)
 }
