@@ -96,7 +96,7 @@ module _ (p : Program) (d : List ℕ) (n : ℕ) (fits : Fits p) (dr : Drafted p 
   drafted-clash : conflictOn d (events p) (size p) ≡ clashIn p
   drafted-clash =
       by-same d (size p) (events p) (writesOn d) (namedOn d (events p) (size p)) (writes p) (namedBy p)
-      (λ e i a b. writes-are p d n fits dr e i (omega (arith, fits .few-events)) b) (λ e i a b. named-are p d n fits dr e i (omega (arith, fits .few-events)))
+      (λ e i a b. writes-are p d n fits dr e i (omega (arith, fits .few-events)) b) (λ e i a b. named-are p d n fits dr e i (omega (arith, fits .few-events)) b)
       ∙ in-same
 
 pub draft-clash : {ev bs n : ℕ} {d : List ℕ} (c : DraftOf ev bs n d) → conflictOn d ev bs ≡ clashIn (c .program)

@@ -1,8 +1,8 @@
 -- What the call `agree` answers, for all bytes: will two phones that take in the same events in the same order end with
 -- equal boards? compile's number for a sheet that compile turns down; 0 where every two declared events of unequal rank
--- are independent; else two that are not, and a behaviour that one writes and the other reads or writes: the least first
--- event, then the least second, then the least behaviour. 01: "Two events are independent if neither writes what the
--- other reads or writes."
+-- are independent; else two that are not, and a behaviour that one writes and the other reads or writes: the least
+-- first event, then the least second, then the least behaviour. 01: "Two events are independent if neither writes what
+-- the other reads or writes."
 use Prim.Native.Nat.{ℕ, _+_, _-_}
 use mathlib.Core.Bool.{Bool, _&&_, _||_}
 use mathlib.Core.List.{List}

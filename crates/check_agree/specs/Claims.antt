@@ -1,6 +1,6 @@
 -- What the answer of `agree` says of an accepted sheet's program, in 01's terms: "An event writes the actives with a
--- handler for it. It reads the actives named in those handlers, directly or through passives. Two events are independent
--- if neither writes what the other reads or writes."
+-- handler for it. It reads the actives named in those handlers, directly or through passives. Two events are
+-- independent if neither writes what the other reads or writes."
 use Prim.Native.Nat.{ℕ, _≤_, _<_}
 use mathlib.Core.Bool.{true}
 use mathlib.Core.Path.{_≡_}
@@ -33,8 +33,8 @@ pub data Shared (p : Program) (e f i : ℕ) : Type 0 where
   first-writes : writes p e i ≡ true → Reads p f i → Shared p e f i
   second-writes : writes p f i ≡ true → Reads p e i → Shared p e f i
 
--- the answer names two events of unequal rank that are not independent, and what they share: the least first event, then
--- the least second, then the least behaviour
+-- the answer names two events of unequal rank that are not independent, and what they share: the least first event,
+-- then the least second, then the least behaviour
 pub record Named (p : Program) (answer : ℕ) : Type 0 where
   pub first : ℕ
   pub second : ℕ

@@ -1,6 +1,6 @@
 // Whether two phones agree: whether every two declared events of unequal rank are independent (01, "The meaning of one
-// event"; demand 3's last sentence). Time: compile's without writing the table, a pass over the nodes, one closure, and a
-// few operations for each pair of events. No recursion; the draft, a matrix and some sets lie on the stack.
+// event"; demand 3's last sentence). Time: compile's without writing the table, a pass over the nodes, one closure, and
+// a few operations for each pair of events. No recursion; the draft, a matrix and some sets lie on the stack.
 ghost use mathlib.Core.Path.{_≡_};
 ghost use mathlib.Core.Bool.{_&&_, _||_};
 ghost use Prim.Native.Nat.{ℕ, _+_, _-_, _≤_, _<_};
@@ -110,9 +110,9 @@ fn clash_in(d: &[u64], ev: usize, n: usize) -> u64
     clash_by(d, &writes, &named, n, ev)
 }
 
-// compile's number, as with a full table; 0 where every two declared events of unequal rank are independent; else 29, the
-// first event times 256, the second times 65,536 and times 2 ^ 24 a behaviour that one writes and the other reads or
-// writes.
+// compile's number, as with a full table; 0 where every two declared events of unequal rank are independent; else 29,
+// the first event times 256, the second times 65,536 and times 2 ^ 24 a behaviour that one writes and the other reads
+// or writes.
 pub fn agree_at(sheet: &[u8], params: &[u8]) -> u64
     ensures { λ r. ⌜ r ≡ agreeOn (now (sheet .entry)) (now (params .entry)) ⌝ }
 {

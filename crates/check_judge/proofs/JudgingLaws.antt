@@ -1,5 +1,5 @@
--- A sheet judged without its table has compile's number: by compile's own theorems on the draft (crate back_compile). The
--- program of an accepted sheet's draft is the sheet's.
+-- A sheet judged without its table has compile's number: by compile's own theorems on the draft (crate back_compile).
+-- The program of an accepted sheet's draft is the sheet's.
 use Prim.Native.Nat.{ℕ, _≤_, _<_}
 use mathlib.Core.Bool.{Bool, true, false}
 use mathlib.Core.Path.{_≡_, refl, sym, ap, _∙_}

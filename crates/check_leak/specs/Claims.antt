@@ -1,5 +1,5 @@
--- What the answer of `leak` says of an accepted sheet's program, by names; that it is M-107's condition with its chains:
--- crate secrecy_leak.
+-- What the answer of `leak` says of an accepted sheet's program, by names; that it is M-107's condition with its
+-- chains: crate secrecy_leak.
 use Prim.Native.Nat.{ℕ, _≤_, _<_}
 use mathlib.Core.Bool.{true, false}
 use mathlib.Core.Path.{_≡_}

@@ -1,8 +1,8 @@
--- What the call `leak` answers, for all bytes and every player: does a behaviour that the player sees depend on a hidden
--- one? compile's number for a sheet that compile turns down; 24 for a player above 7; 0 where none does; else a behaviour
--- that it sees and a hidden one that this names, the least of each. 02, M-107: "by a name in its expression or in a
--- handler of either phase, directly or by a chain": a chain from a seen behaviour to a hidden one has a step from a seen
--- one to a hidden one, so that names decide it.
+-- What the call `leak` answers, for all bytes and every player: does a behaviour that the player sees depend on a
+-- hidden one? compile's number for a sheet that compile turns down; 24 for a player above 7; 0 where none does; else a
+-- behaviour that it sees and a hidden one that this names, the least of each. 02, M-107: "by a name in its expression
+-- or in a handler of either phase, directly or by a chain": a chain from a seen behaviour to a hidden one has a step
+-- from a seen one to a hidden one, so that names decide it.
 use Prim.Native.Nat.{ℕ, _+_}
 use mathlib.Core.Bool.{Bool, not}
 use mathlib.Core.List.{List}

@@ -137,8 +137,8 @@ fn leak_of(d: &[u64], ev: usize, n: usize, player: u32) -> u64
     leak_in(d, ev, n, player as usize)
 }
 
-// compile's number, as with a full table; 24 for a player above 7; 0 where no behaviour that the player sees depends on a
-// hidden one; else 30, a behaviour that it sees times 256 and times 65,536 a hidden one that this names.
+// compile's number, as with a full table; 24 for a player above 7; 0 where no behaviour that the player sees depends on
+// a hidden one; else 30, a behaviour that it sees times 256 and times 65,536 a hidden one that this names.
 pub fn leak_at(sheet: &[u8], params: &[u8], player: u32) -> u64
     ensures { λ r. ⌜ r ≡ leakOn (now (sheet .entry)) (now (params .entry)) player ⌝ }
 {

@@ -1,7 +1,7 @@
 -- The sets that the code gathers on a draft are those of its program: the names of an expression are those of its
 -- nodes, by induction, and an entry holds what the behaviour does.
 use Prim.Native.Nat.{ℕ, zero, suc, _+_, _≤_, _<_, _^_}
-use mathlib.Core.Bool.{Bool, true, false, _&&_, _||_, or-false, or-assoc}
+use mathlib.Core.Bool.{Bool, true, false, _&&_, _||_, true≢false, or-false, or-assoc}
 use mathlib.Core.Path.{_≡_, refl, sym, ap, _∙_}
 use mathlib.Core.List.{List, [], _∷_, _++_}
 use native.Mathlib.Omega.{arith}
@@ -9,21 +9,24 @@ use lib.Dec.{eqb, leb}
 use lib.ListN.{length, getD, take, drop, length-drop}
 use lib.Seq.{getD-drop, take-suc}
 use borrow.Author.Tests.{ne-eqb}
-use Rattle.spec_language.specs.Syntax.{Expr, Program}
-use Rattle.spec_language.specs.Dependence.{Response, follows, takes, defers, keeps, size, events, response, mentions, written, writes}
-use Rattle.spec_language.specs.Grammar.{Arity, unary, ternary, binary, Nested, n-con, n-name, n-app1, n-app2, n-app3, Fits}
+use Rattle.lib_base.proofs.Tools.{all-at-or}
+use Rattle.spec_language.specs.Syntax.{Expr, Behaviour, passive, active, Program}
+use Rattle.spec_language.specs.Dependence.{Response, follows, takes, defers, keeps, size, events, noEvent, respond, response, behaviourAt, mentions, needs, dependsOn, written, writes}
+use Rattle.spec_language.specs.Grammar.{Arity, unary, ternary, binary, Nested, n-con, n-name, n-app1, n-app2, n-app3, BehaviourFits, Fits}
 use Rattle.spec_language.proofs.Laws.{ResponseNested, response-nested}
 use Rattle.front_draft.specs.Draft.{draftLength, nodes, entryOf, usedBy, Drafted}
 use Rattle.front_draft.specs.Entry.{kindOf, startOf, countOf, tagOf, wordOf}
 use Rattle.front_draft.proofs.DraftLaws.{Holds, Entry, entry-of, length-used}
-use Rattle.check_graph.specs.Matrix.{cell, closed}
+use Rattle.check_graph.specs.Matrix.{cell, closeBy, closed}
+use Rattle.check_graph.proofs.Closure.{length-closeBy, pass-is}
 use Rattle.check_faults.specs.Faults.{matrixOf, anyBelow}
-use Rattle.check_faults.specs.Checks.{matrixOn, closedOn}
 use Rattle.check_faults.proofs.Any.{any-same}
-use Rattle.check_faults.proofs.MatrixAgrees.{matrix-is}
-use Rattle.check_reads.specs.Sets.{isName, namedAmong, namesOn, writesOn, handlersName, namedOn}
+use Rattle.check_faults.proofs.MatrixAgrees.{length-matrixOf}
+use Rattle.check_faults.proofs.CycleDecides.{cell-is}
+use Rattle.check_reads.specs.Sets.{isName, namedAmong, namesOn, writesOn, handlersName, passiveOn, closedBy, namedOn}
 use Rattle.check_reads.specs.Named.{inResponse, namedIn, throughPassives, namedBy}
 use Rattle.check_reads.proofs.Gathering.{any-more}
+use Rattle.check_reads.proofs.Decides.{none-handled}
 
 -- ---- a list of nodes
 
@@ -117,6 +120,29 @@ module _ (d : List ℕ) (v : ℕ) (dl : length d ≡ draftLength) where
   entry-writes (defers x) e = rw (e .kind-is)
   entry-writes keeps e = rw e
 
+-- ---- chains: the matrix in bytes and the rows agree after each pass
+
+cells-closed : (m : List ℕ) (n : ℕ) → length m ≡ 4096 → n ≤ 64 → (k i j : ℕ) → i < n → j < n → k ≤ n → cell (closeBy m n k) i j ≡ closedBy k (λ x y. cell m x y) i j
+unfolding closeBy closedBy
+cells-closed m n l few zero i j a b h = refl
+cells-closed m n l few (suc k) i j a b h =
+    pass-is (closeBy m n k) k n (length-closeBy m n k ∙ l) few (omega arith) i j a b
+    ∙ rw (
+      cells-closed m n l few k i j a b (omega arith),
+      cells-closed m n l few k i k a (omega arith) (omega arith),
+      cells-closed m n l few k k j (omega arith) b (omega arith),
+    )
+
+closed-same : (n : ℕ) (dep dep′ : ℕ → ℕ → Bool) → ((x y : ℕ) → x < n → y < n → dep x y ≡ dep′ x y) → (k i j : ℕ) → i < n → j < n → k ≤ n → closedBy k dep i j ≡ closedBy k dep′ i j
+unfolding closedBy
+closed-same n dep dep′ h zero i j a b c = h i j a b
+closed-same n dep dep′ h (suc k) i j a b c =
+    rw (
+      closed-same n dep dep′ h k i j a b (omega arith),
+      closed-same n dep dep′ h k i k a (omega arith) (omega arith),
+      closed-same n dep dep′ h k k j (omega arith) b (omega arith),
+    )
+
 -- ---- the draft of a program
 
 module _ (p : Program) (d : List ℕ) (n : ℕ) (f : Fits p) (dr : Drafted p d n) where
@@ -137,10 +163,36 @@ module _ (p : Program) (d : List ℕ) (n : ℕ) (f : Fits p) (dr : Drafted p d n
       any-same (size p) (λ i. writesOn d e i && namesOn d e i j) (λ i. writes p e i && inResponse j (response p e i))
       (λ i b. rw (writes-are e i h b, names-are e i j h b))
 
-  pub named-are : (e j : ℕ) → e ≤ 32 → namedOn d (events p) (size p) e j ≡ namedBy p e j
-  unfolding namedOn namedBy throughPassives closedOn
-  named-are e j h =
-      rw (handlers-are e j h, matrix-is p d n (events p) f dr (f .few-events))
+  -- ---- through passives: under no event an active has no handler
+
+  plain : (b : Behaviour) → BehaviourFits (events p) b → written (respond (noEvent p) b) ≡ false
+  plain (passive x) h = refl
+  plain (active z hs) h = ap written (none-handled (events p) hs (h .1))
+
+  passive-entry : (v i j : ℕ) (r : Response) → Entry (usedBy d i) v r → ResponseNested r → written r ≡ false
+      → eqb (kindOf v) 1 && namedAmong (usedBy d i) j (startOf v) (countOf v) ≡ needs i j r
+  passive-entry v i j (follows x) e g w = rw (e .kind-is) (entry-names (usedBy d i) v (long i) j (follows x) e g)
+  passive-entry v i j (takes x) e g w = absurd (true≢false w)
+  passive-entry v i j (defers x) e g w = absurd (true≢false w)
+  passive-entry v i j keeps e g w = rw e
+
+  passives-are : (i j : ℕ) → i < size p → passiveOn d (events p) i j ≡ dependsOn p (noEvent p) i j
+  unfolding passiveOn namesOn
+  passives-are i j b =
+      passive-entry (entryOf d (events p) i) i j (response p (events p) i) (entry-of p d n dr (events p) i (f .few-events) b) (response-nested p (f .each) (events p) i)
+      (plain (behaviourAt p i) (all-at-or (BehaviourFits (events p)) (p .behaviours) i (active 0 []) (f .each) (omega arith, tt)))
+
+  chains-are : (i j : ℕ) → i < size p → j < size p → closedBy (size p) (passiveOn d (events p)) i j ≡ throughPassives p i j
+  unfolding throughPassives closed
+  chains-are i j a b =
+      closed-same (size p) (passiveOn d (events p)) (λ x y. cell (matrixOf p (noEvent p)) x y)
+      (λ x y h k. passives-are x y h ∙ sym (cell-is p (noEvent p) x y (omega (arith, f .few-behaviours)) (omega (arith, f .few-behaviours)))) (size p) i j a b (omega arith)
+      ∙ sym (cells-closed (matrixOf p (noEvent p)) (size p) (length-matrixOf p (noEvent p)) (f .few-behaviours) (size p) i j a b (omega arith))
+
+  pub named-are : (e j : ℕ) → e ≤ 32 → j < size p → namedOn d (events p) (size p) e j ≡ namedBy p e j
+  unfolding namedOn namedBy
+  named-are e j h c =
+      rw (handlers-are e j h)
       (ap (λ (x : Bool). namedIn p e j || x)
-      (any-same (size p) (λ i. handlersName d e (size p) i && cell (closed (matrixOf p (events p)) (size p)) i j) (λ i. namedIn p e i && cell (closed (matrixOf p (events p)) (size p)) i j)
-      (λ i b. rw (handlers-are e i h))))
+      (any-same (size p) (λ i. handlersName d e (size p) i && closedBy (size p) (passiveOn d (events p)) i j) (λ i. namedIn p e i && throughPassives p i j)
+      (λ i b. rw (handlers-are e i h, chains-are i j b c))))

@@ -35,7 +35,7 @@ any-found (suc n) f h =
 
 -- ---- no event: a passive needs its names, an active nothing
 
-none-handled : (n : ℕ) (hs : List Handler) → HandlersFit n hs → handled n hs ≡ keeps
+pub none-handled : (n : ℕ) (hs : List Handler) → HandlersFit n hs → handled n hs ≡ keeps
 unfolding handled
 none-handled n [] h = refl
 none-handled n (handler f φ x ∷ hs) h = handled-there n f φ x hs (ne-eqb n f (λ q. omega (arith, h .0))) ∙ none-handled n hs (h .3)

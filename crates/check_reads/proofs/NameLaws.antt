@@ -1,10 +1,10 @@
 -- A node as the name that it is: the branches of the code.
 use Prim.Native.Nat.{ℕ, _<_, _≤_}
-use mathlib.Core.Bool.{Bool, true, false, not, _||_, or-false, and-false}
+use mathlib.Core.Bool.{Bool, true, false, _||_, or-false, and-false}
 use mathlib.Core.Path.{_≡_, refl, sym, ap, _∙_}
 use native.Mathlib.Omega.{arith}
-use lib.Dec.{eqb, leb}
-use borrow.Author.Tests.{eq-eqb, ne-eqb, eqb-true, eqb-false, le-leb, lt-leb}
+use lib.Dec.{eqb}
+use borrow.Author.Tests.{eq-eqb, ne-eqb, eqb-true, eqb-false}
 use Rattle.lib_base.proofs.Tools.{split}
 use Rattle.lib_bits.specs.Bits.{bit}
 use Rattle.front_draft.specs.Entry.{tagOf, wordOf}
@@ -24,7 +24,3 @@ no-name x j set t = rw (ne-eqb (tagOf x) 17 t) (sym (or-false (bit set j)))
 pub far-name : (x j set : ℕ) → 64 ≤ wordOf x → j < 64 → bit set j ≡ bit set j || isName j x
 unfolding isName
 far-name x j set h b = rw (ne-eqb (wordOf x) j (λ q. omega arith), and-false (eqb (tagOf x) 17)) (sym (or-false (bit set j)))
-
--- a byte that is set
-pub some-set : (v : ℕ) → leb 1 v ≡ not (eqb v 0)
-some-set v = split (eqb v 0) (λ t. rw t (lt-leb 1 v (omega (arith, eqb-true v 0 t)))) (λ t. rw t (le-leb 1 v (let d = eqb-false v 0 t in omega arith)))

@@ -1,18 +1,17 @@
 // What each event writes, and what its handlers name, directly or through passives, as sets of behaviours: on the draft
-// of a program (layout: front_draft, specs/Draft.antt). Time: a pass over the nodes of the handlers, and once the closure
-// of a matrix of n behaviours.
+// of a program (layout: front_draft, specs/Draft.antt). Time: a pass over the nodes of the handlers and of the passives,
+// and n * n operations on words for the chains of n behaviours.
 ghost use mathlib.Core.Path.{_≡_};
-ghost use mathlib.Core.Bool.{_&&_, _||_};
+ghost use mathlib.Core.Bool.{Bool, _&&_, _||_};
 ghost use Prim.Native.Nat.{ℕ, _+_, _≤_, _<_};
 ghost use lib.ListN.{length, getD};
 ghost use lib.Dec.{eqb, leb};
 ghost use Rattle.lib_bits.specs.Bits.{bit, Gathers};
 ghost use Rattle.front_draft.specs.Draft.{draftLength, usedBy};
 ghost use Rattle.front_draft.specs.Entry.{kindOf, startOf, countOf};
-ghost use Rattle.check_graph.specs.Matrix.{cell};
 ghost use Rattle.check_faults.specs.Faults.{anyBelow};
-ghost use Rattle.check_faults.specs.Checks.{closedOn, RowsInside, AllInside};
-ghost use Rattle.check_reads.specs.Sets.{isName, namedAmong, writesOn, handlersName, RowsOf, WritesIn, NamedIn};
+ghost use Rattle.check_faults.specs.Checks.{RowsInside, AllInside};
+ghost use Rattle.check_reads.specs.Sets.{isName, namedAmong, writesOn, handlersName, passiveOn, closedBy, RowsBy, Passed, WritesIn, NamedIn};
 
 // A node is kind * 2 ^ 32 + word; a name's kind is the tag of its field.
 const WORD: u64 = 4294967296;
@@ -25,11 +24,11 @@ const FIRSTS: u64 = 4096;
 
 const COUNTS: u64 = FIRSTS * KINDS;
 
+const PASSIVE: u64 = 1;
+
 const IMMEDIATE: u64 = 2;
 
 const BEHAVIOURS: usize = 64;
-
-const CELLS: usize = 4096;
 
 // The set with the name that node x is.
 fn add_name(set: u64, x: u64) -> u64
@@ -90,7 +89,7 @@ fn add_names(d: &[u64], set: u64, i: usize, v: u64) -> u64
     requires { ⌜ (length (now d) ≡ draftLength) × (i < 64) × (startOf v + countOf v ≤ 2048) ⌝ }
     ensures { λ r. ⌜ Gathers 64 r (λ j. bit set j || (leb 2 (kindOf v) && namedAmong (usedBy (now (d .entry)) i) j (startOf v) (countOf v))) ⌝ }
 {
-    if IMMEDIATE <= v % KINDS {
+    if v % KINDS >= IMMEDIATE {
         return lib_bits::union_of(set, names_in(d, i, v));
     }
     set
@@ -110,51 +109,27 @@ fn handler_names(d: &[u64], e: usize, n: usize) -> u64
     set
 }
 
-// The set with j where the cell is marked.
-fn add_cell(set: u64, j: usize, marked: u8) -> u64
-    requires { ⌜ j < 64 ⌝ }
-    ensures { λ r. ⌜ ((h : ℕ) → bit r h ≡ bit set h || (leb 1 marked && eqb h j)) ⌝ }
+// The names in entry v of behaviour i where it is a passive's.
+fn passive_names(d: &[u64], i: usize, v: u64) -> u64
+    requires { ⌜ (length (now d) ≡ draftLength) × (i < 64) × (startOf v + countOf v ≤ 2048) ⌝ }
+    ensures { λ r. ⌜ Gathers 64 r (λ j. eqb (kindOf v) 1 && namedAmong (usedBy (now (d .entry)) i) j (startOf v) (countOf v)) ⌝ }
 {
-    if 1 <= marked {
-        return lib_bits::insert(set, j);
+    if v % KINDS == PASSIVE {
+        return names_in(d, i, v);
     }
-    set
+    0
 }
 
-// Row i of a matrix, its first n columns.
-fn row_of(m: &[u8], i: usize, n: usize) -> u64
-    requires { ⌜ (length (now m) ≡ 4096) × (i < 64) × (n ≤ 64) ⌝ }
-    ensures { λ r. ⌜ Gathers n r (λ j. cell (now (m .entry)) i j) ⌝ }
-{
-    let mut set = 0;
-    let mut j = 0;
-    while j < n {
-        set = add_cell(set, j, m[i * BEHAVIOURS + j]);
-        j += 1;
-    }
-    set
-}
-
-fn rows_of(m: &[u8], n: usize, rows: &mut [u64])
-    requires { ⌜ (length (now m) ≡ 4096) × (length (now rows) ≡ 64) × (n ≤ 64) ⌝ }
-    ensures { λ _. ⌜ RowsOf (now (m .entry)) n (now (rows .exit)) ⌝ }
+// What each of n behaviours names as a passive: ev is the number of no event.
+fn fill_rows(d: &[u64], ev: usize, n: usize, rows: &mut [u64])
+    requires { ⌜ (length (now d) ≡ draftLength) × (length (now rows) ≡ 64) × (ev ≤ 32) × (n ≤ 64) × RowsInside (now d) ev n ⌝ }
+    ensures { λ _. ⌜ RowsBy (passiveOn (now (d .entry)) ev) n (now (rows .exit)) ⌝ }
 {
     let mut i = 0;
     while i < n {
-        rows[i] = row_of(m, i, n);
+        rows[i] = passive_names(d, i, front_draft::entry_of(d, ev, i));
         i += 1;
     }
-}
-
-// What each of n behaviours names through passives, ev being the number of no event: under it actives need nothing.
-fn passive_rows(d: &[u64], ev: usize, n: usize, rows: &mut [u64])
-    requires { ⌜ (length (now d) ≡ draftLength) × (length (now rows) ≡ 64) × (ev ≤ 32) × (n ≤ 64) × RowsInside (now d) ev n ⌝ }
-    ensures { λ _. ⌜ RowsOf (closedOn (now (d .entry)) ev n) n (now (rows .exit)) ⌝ }
-{
-    let mut m = [0u8; CELLS];
-    check_faults::fill_matrix(d, ev, n, &mut m);
-    check_graph::close_matrix(&mut m, n);
-    rows_of(&m, n, rows);
 }
 
 // The set with i's row where i is among the names.
@@ -166,6 +141,39 @@ fn add_row(set: u64, names: u64, i: usize, row: u64) -> u64
         return lib_bits::union_of(set, row);
     }
     set
+}
+
+// Each row that has k takes in row k.
+fn pass_through(rows: &mut [u64], k: usize, n: usize)
+    requires { ⌜ (length (now rows) ≡ 64) × (k < n) × (n ≤ 64) ⌝ }
+    ensures { λ _. ⌜ Passed (now (rows .entry)) (now (rows .exit)) k n ⌝ }
+{
+    let mut i = 0;
+    while i < n {
+        rows[i] = add_row(rows[i], rows[i], k, rows[k]);
+        i += 1;
+    }
+}
+
+// The rows with whatever is reached by a chain, in place.
+fn close_rows(rows: &mut [u64], n: usize)
+    requires { ⌜ (length (now rows) ≡ 64) × (n ≤ 64) ⌝ }
+    ensures { λ _. ⌜ ((dep : ℕ → ℕ → Bool) → RowsBy dep n (now (rows .entry)) → RowsBy (closedBy n dep) n (now (rows .exit))) ⌝ }
+{
+    let mut k = 0;
+    while k < n {
+        pass_through(rows, k, n);
+        k += 1;
+    }
+}
+
+// What each of n behaviours names through passives.
+fn passive_rows(d: &[u64], ev: usize, n: usize, rows: &mut [u64])
+    requires { ⌜ (length (now d) ≡ draftLength) × (length (now rows) ≡ 64) × (ev ≤ 32) × (n ≤ 64) × RowsInside (now d) ev n ⌝ }
+    ensures { λ _. ⌜ RowsBy (closedBy n (passiveOn (now (d .entry)) ev)) n (now (rows .exit)) ⌝ }
+{
+    fill_rows(d, ev, n, rows);
+    close_rows(rows, n);
 }
 
 // The names, and whatever they lead to.
@@ -196,7 +204,7 @@ pub fn fill_writes(d: &[u64], ev: usize, n: usize, writes: &mut [u64])
 
 // Which its handlers name, where the rows say what is named through passives.
 fn fill_names(d: &[u64], ev: usize, n: usize, rows: &[u64], named: &mut [u64])
-    requires { ⌜ (length (now d) ≡ draftLength) × (length (now rows) ≡ 64) × (length (now named) ≡ 32) × (ev ≤ 32) × (n ≤ 64) × AllInside (now d) ev n × RowsOf (closedOn (now d) ev n) n (now rows) ⌝ }
+    requires { ⌜ (length (now d) ≡ draftLength) × (length (now rows) ≡ 64) × (length (now named) ≡ 32) × (ev ≤ 32) × (n ≤ 64) × AllInside (now d) ev n × RowsBy (closedBy n (passiveOn (now d) ev)) n (now rows) ⌝ }
     ensures { λ _. ⌜ NamedIn (now (d .entry)) ev n (now (named .exit)) ⌝ }
 {
     let mut e = 0;
