@@ -210,8 +210,8 @@ pub extern "C" fn replay(table: &[u8], round: &mut [u8], calls: &[u8], answers: 
 // ---- what a sheet promises
 
 // Will two phones agree? compile's number, as with a full table; 0 where every two declared events of unequal rank are
-// independent; else 29, the first event times 256, the second times 65,536 and times 2 ^ 24 a behaviour that one of them
-// writes and the other reads or writes: the least first event, then the least second, then the least behaviour.
+// independent; else 29, the first event times 256, the second times 65,536 and times 2 ^ 24 a behaviour that one of
+// them writes and the other reads or writes: the least first event, then the least second, then the least behaviour.
 #[no_mangle]
 pub extern "C" fn agree(sheet: &[u8], params: &[u8]) -> u64
     ensures { λ r. ⌜ r ≡ agreeOn (now (sheet .entry)) (now (params .entry)) ⌝ }

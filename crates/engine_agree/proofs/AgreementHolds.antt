@@ -1,5 +1,5 @@
--- On a sheet that `agree` answers 0 for, any two events of unequal rank are independent, which is the condition of demand
--- 3's last sentence; with changes, of every sheet of the course.
+-- On a sheet that `agree` answers 0 for, any two events of unequal rank are independent, which is the condition of
+-- demand 3's last sentence; with changes, of every sheet of the course.
 use Prim.Native.Nat.{ℕ, _≤_, _<_}
 use mathlib.Core.Bool.{true, false}
 use mathlib.Core.Path.{_≡_, refl, sym, ap, _∙_, subst}

@@ -1,7 +1,7 @@
 -- The condition is needed: a final in which two phones take in the same events in the same order and end with other
 -- points. A hit, of rank 2, adds 10 points unless time is up; the time-up, of rank 9, says that it is. On one phone the
--- time-up arrives while both hits wait, and goes first: no points. On the other each hit has been settled before the next
--- event arrives: 20 points.
+-- time-up arrives while both hits wait, and goes first: no points. On the other each hit has been settled before the
+-- next event arrives: 20 points.
 use Prim.Native.Nat.{ℕ, _≤_}
 use mathlib.Core.Option.{none}
 use mathlib.Core.Path.{_≡_}

@@ -1,5 +1,5 @@
--- Names decide M-107's condition: the names that the entries of a behaviour have, event by event, are all its names; and
--- a chain from a behaviour that is seen stays among those that are seen, step by step.
+-- Names decide M-107's condition: the names that the entries of a behaviour have, event by event, are all its names;
+-- and a chain from a behaviour that is seen stays among those that are seen, step by step.
 use Prim.Native.Nat.{ℕ, _+_, _≤_, _<_}
 use mathlib.Core.Bool.{Bool, true, false, _||_, true≢false, false≢true, or-true}
 use mathlib.Core.Path.{_≡_, refl, sym, ap, _∙_}

@@ -1,8 +1,8 @@
 -- What the call `leak` says of M-107's condition, and the rule for a player with no condition left. 02, M-107: "For a
 -- player it shall hold: if no behaviour this player sees depends on a hidden one (by a name in its expression or in a
--- handler of either phase, directly or by a chain), then two rounds, from fresh on with the same calls in the same order
--- and the same parameters, their sheets differing only in start values of hidden behaviours, give this player equal
--- answers, refusals included." The condition is `Sealed` of crate secrecy_model, Sight.antt.
+-- handler of either phase, directly or by a chain), then two rounds, from fresh on with the same calls in the same
+-- order and the same parameters, their sheets differing only in start values of hidden behaviours, give this player
+-- equal answers, refusals included." The condition is `Sealed` of crate secrecy_model, Sight.antt.
 use Prim.Native.Nat.{ℕ, _≤_, _<_}
 use mathlib.Core.Bool.{Bool}
 use mathlib.Core.Path.{_≡_}
