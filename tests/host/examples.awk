@@ -10,8 +10,8 @@ function close_block() {
         open = 1
         call = ""
     }
-    if (call == "" && match($0, /[a-z]+\(/))
-        call = substr($0, RSTART, RLENGTH - 1)
+    if (call == "" && match($0, /engine_[a-z]+\(/))
+        call = substr($0, RSTART + 7, RLENGTH - 8)
     print
     next
 }

@@ -21,9 +21,9 @@ static const uint8_t easy[ENGINE_PARAMS] = {0, 0, 0, 1}, hard[ENGINE_PARAMS] = {
 
 static uint32_t load_with(const uint8_t *sheet, size_t n, const uint8_t *params, size_t lent)
 {
-    uint32_t r = compile(sheet, n, params, lent, table, sizeof table);
+    uint32_t r = engine_compile(sheet, n, params, lent, table, sizeof table);
     if (r == 0)
-        expect(start(table, sizeof table, round_, sizeof round_) == 0, "start");
+        expect(engine_start(table, sizeof table, round_, sizeof round_) == 0, "start");
     return r;
 }
 
@@ -34,12 +34,12 @@ static uint32_t load(const uint8_t *sheet, size_t n)
 
 static void take(uint32_t event)
 {
-    expect(arrive(table, sizeof table, round_, sizeof round_, event, ENGINE_HOST) == 0, "arrive");
+    expect(engine_arrive(table, sizeof table, round_, sizeof round_, event, ENGINE_HOST) == 0, "arrive");
 }
 
 static int32_t value(uint32_t i)
 {
-    uint64_t a = board(table, sizeof table, round_, sizeof round_, i, ENGINE_HOST);
+    uint64_t a = engine_board(table, sizeof table, round_, sizeof round_, i, ENGINE_HOST);
     expect(!engine_board_refused(a), "board");
     return engine_board_value(a);
 }
@@ -48,7 +48,7 @@ static int32_t value(uint32_t i)
 static int frame(int steps)
 {
     while (steps-- > 0)
-        if (engine_step_kind(step(table, sizeof table, round_, sizeof round_)) == ENGINE_IDLE)
+        if (engine_step_kind(engine_step(table, sizeof table, round_, sizeof round_)) == ENGINE_IDLE)
             return 1;
     return 0;
 }
@@ -98,7 +98,7 @@ static void ran_over(void)
 
         take(0);
         do
-            a = step(table, sizeof table, round_, sizeof round_);
+            a = engine_step(table, sizeof table, round_, sizeof round_);
         while (engine_step_kind(a) != ENGINE_COMMITTED);
         expect(engine_step_over(a) == (i == 0), "the first commit runs over, the second does not");
         expect(engine_step_event(a) == 0 && engine_step_arrival(a) == i, "event and arrival beside the mark");
@@ -116,7 +116,7 @@ static void audit(void)
     for (i = 1; i < 19; i++)
         calls[i * 6] = 1;
     calls[19 * 6] = 2;
-    expect(replay(table, sizeof table, round_, sizeof round_, calls, sizeof calls, answers, sizeof answers) == 20, "20 calls are made");
+    expect(engine_replay(table, sizeof table, round_, sizeof round_, calls, sizeof calls, answers, sizeof answers) == 20, "20 calls are made");
     expect(answers[18 * 8 + 7] == ENGINE_COMMITTED, "the 18th step commits");
     expect(answers[19 * 8 + 3] == 1 && answers[19 * 8 + 7] == 2, "b0 is 2");
 }
@@ -129,11 +129,11 @@ static void plan(void)
     load(S, sizeof S);
     take(0);
     take(1);
-    a = forecast(table, sizeof table, round_, sizeof round_);
+    a = engine_forecast(table, sizeof table, round_, sizeof round_);
     expect(!engine_forecast_refused(a) && engine_forecast_steps(a) == 18 + 9, "27 steps to idle");
     expect(!frame((int)engine_forecast_steps(a)), "27 steps are needed");
     expect(frame(1), "and no more");
-    expect(forecast(table, 10, round_, sizeof round_) == ENGINE_FOREIGN, "a short table has no forecast");
+    expect(engine_forecast(table, 10, round_, sizeof round_) == ENGINE_FOREIGN, "a short table has no forecast");
 }
 
 /* Hovering over a move: the value it would lead to, the round as it was; also while a copy-back is under way, when the board itself is refused. */
@@ -144,16 +144,16 @@ static void hover(void)
 
     load(S, sizeof S);
     memcpy(before, round_, sizeof round_);
-    a = preview(table, sizeof table, round_, sizeof round_, 0, 0, ENGINE_HOST);
+    a = engine_preview(table, sizeof table, round_, sizeof round_, 0, 0, ENGINE_HOST);
     expect(!engine_board_refused(a) && engine_board_value(a) == 2, "event 0 would make b0 2");
     expect(memcmp(before, round_, sizeof round_) == 0, "a preview leaves the round");
     take(0);
-    while (board(table, sizeof table, round_, sizeof round_, 0, ENGINE_HOST) != ENGINE_SETTLING)
+    while (engine_board(table, sizeof table, round_, sizeof round_, 0, ENGINE_HOST) != ENGINE_SETTLING)
         frame(1);
-    a = preview(table, sizeof table, round_, sizeof round_, 0, 0, ENGINE_HOST);
+    a = engine_preview(table, sizeof table, round_, sizeof round_, 0, 0, ENGINE_HOST);
     expect(!engine_board_refused(a) && engine_board_value(a) == 3, "during copy-back, another makes it 3");
-    expect(preview(table, sizeof table, round_, sizeof round_, 2, 2, ENGINE_HOST) == ENGINE_NO_SUCH_EVENT, "event 2 cannot be tried");
-    expect(preview(table, sizeof table, round_, sizeof round_, 0, 2, ENGINE_HOST) == ENGINE_NO_SUCH_BEHAVIOUR, "behaviour 2 cannot be shown");
+    expect(engine_preview(table, sizeof table, round_, sizeof round_, 2, 2, ENGINE_HOST) == ENGINE_NO_SUCH_EVENT, "event 2 cannot be tried");
+    expect(engine_preview(table, sizeof table, round_, sizeof round_, 0, 2, ENGINE_HOST) == ENGINE_NO_SUCH_BEHAVIOUR, "behaviour 2 cannot be shown");
 }
 
 /* A sheet for two sides: event 0, which runs b0 over, is player 1's to send; b0 is for player 2 to see, b1 for everybody. */
@@ -171,20 +171,20 @@ static void share(void)
 
     expect(load(sides, sizeof sides) == 0, "a sheet with rights");
     for (p = 0; p < ENGINE_PLAYERS; p++) {
-        expect((board(table, sizeof table, round_, sizeof round_, 0, p) == ENGINE_NO_RIGHT) == (p != ENGINE_HOST && p != 2), "who may see b0");
-        expect(engine_board_value(board(table, sizeof table, round_, sizeof round_, 1, p)) == 9, "everybody sees b1");
-        expect((preview(table, sizeof table, round_, sizeof round_, 0, 1, p) == ENGINE_NO_RIGHT) == (p > 1), "who may try event 0");
+        expect((engine_board(table, sizeof table, round_, sizeof round_, 0, p) == ENGINE_NO_RIGHT) == (p != ENGINE_HOST && p != 2), "who may see b0");
+        expect(engine_board_value(engine_board(table, sizeof table, round_, sizeof round_, 1, p)) == 9, "everybody sees b1");
+        expect((engine_preview(table, sizeof table, round_, sizeof round_, 0, 1, p) == ENGINE_NO_RIGHT) == (p > 1), "who may try event 0");
     }
-    expect(preview(table, sizeof table, round_, sizeof round_, 0, 0, 1) == ENGINE_NO_RIGHT, "a preview needs both rights");
-    expect(arrive(table, sizeof table, round_, sizeof round_, 0, 2) == ENGINE_NO_RIGHT, "player 2 may not send event 0");
-    expect(arrive(table, sizeof table, round_, sizeof round_, 0, ENGINE_PLAYERS) == ENGINE_NO_PLAYER, "nor is there a player 8");
-    expect(arrive(table, sizeof table, round_, sizeof round_, 0, 1) == 0, "player 1 may");
+    expect(engine_preview(table, sizeof table, round_, sizeof round_, 0, 0, 1) == ENGINE_NO_RIGHT, "a preview needs both rights");
+    expect(engine_arrive(table, sizeof table, round_, sizeof round_, 0, 2) == ENGINE_NO_RIGHT, "player 2 may not send event 0");
+    expect(engine_arrive(table, sizeof table, round_, sizeof round_, 0, ENGINE_PLAYERS) == ENGINE_NO_PLAYER, "nor is there a player 8");
+    expect(engine_arrive(table, sizeof table, round_, sizeof round_, 0, 1) == 0, "player 1 may");
     do
-        a = step(table, sizeof table, round_, sizeof round_);
+        a = engine_step(table, sizeof table, round_, sizeof round_);
     while (engine_step_kind(a) != ENGINE_COMMITTED);
     expect(engine_step_player(a) == 1 && engine_step_event(a) == 0, "the commit keeps its player");
-    expect(engine_step_over(a) && !engine_step_over(told(a)), "only the host is told that it ran over");
-    expect(engine_step_kind(told(a)) == ENGINE_COMMITTED && engine_step_player(told(a)) == 1, "and the others all else");
+    expect(engine_step_over(a) && !engine_step_over(engine_told(a)), "only the host is told that it ran over");
+    expect(engine_step_kind(engine_told(a)) == ENGINE_COMMITTED && engine_step_player(engine_told(a)) == 1, "and the others all else");
 }
 
 /* A wrong bonus is mended without ending the round: event 1 should make b1 5, not 1. */
@@ -195,8 +195,8 @@ static void mend_bonus(void)
 
     memcpy(mended, S, sizeof S);
     mended[sizeof S - 1] = 5;
-    expect(compile(mended, sizeof mended, easy, 0, other, sizeof other) == 0, "the mended sheet");
-    expect(compile(S, 4, easy, 0, small, sizeof small) == 0, "a sheet of one event alone");
+    expect(engine_compile(mended, sizeof mended, easy, 0, other, sizeof other) == 0, "the mended sheet");
+    expect(engine_compile(S, 4, easy, 0, small, sizeof small) == 0, "a sheet of one event alone");
     load(S, sizeof S);
     take(0);
     settle();
@@ -204,19 +204,19 @@ static void mend_bonus(void)
     take(0);
     frame(3);
     memcpy(before, round_, sizeof round_);
-    expect(mend(table, sizeof table, small, sizeof small, round_, sizeof round_) == ENGINE_STRANGE_HAND, "event 1 is in hand");
-    expect(mend(table, sizeof table, other, 10, round_, sizeof round_) == ENGINE_FOREIGN, "a short table is no table");
+    expect(engine_mend(table, sizeof table, small, sizeof small, round_, sizeof round_) == ENGINE_STRANGE_HAND, "event 1 is in hand");
+    expect(engine_mend(table, sizeof table, other, 10, round_, sizeof round_) == ENGINE_FOREIGN, "a short table is no table");
     expect(memcmp(before, round_, sizeof round_) == 0, "a refused change leaves the round");
-    expect(mend(table, sizeof table, other, sizeof other, round_, sizeof round_) == 0, "the sheet is changed");
+    expect(engine_mend(table, sizeof table, other, sizeof other, round_, sizeof round_) == 0, "the sheet is changed");
     memcpy(table, other, sizeof other);
     expect(value(0) == 2 && value(1) == 1, "actives keep their values");
-    expect(engine_forecast_steps(forecast(table, sizeof table, round_, sizeof round_)) == 9 + 18, "both wait again");
+    expect(engine_forecast_steps(engine_forecast(table, sizeof table, round_, sizeof round_)) == 9 + 18, "both wait again");
     settle();
     expect(value(0) == 7 && value(1) == 2, "the new bonus, then event 0");
     take(0);
-    while (board(table, sizeof table, round_, sizeof round_, 0, ENGINE_HOST) != ENGINE_SETTLING)
+    while (engine_board(table, sizeof table, round_, sizeof round_, 0, ENGINE_HOST) != ENGINE_SETTLING)
         frame(1);
-    expect(mend(table, sizeof table, other, sizeof other, round_, sizeof round_) == ENGINE_SETTLING, "not during copy-back");
+    expect(engine_mend(table, sizeof table, other, sizeof other, round_, sizeof round_) == ENGINE_SETTLING, "not during copy-back");
 }
 
 /* Easy and hard from one sheet: b0 = init 0 {0 => b0 + parameter 0}. */
@@ -244,17 +244,17 @@ static void write_formulas(void)
 {
     static const uint8_t sum[] = {0x12, 0, 12, 4, 0x11, 0, 1, 0, 0x10, 0, 4, 0, 0, 0, 1};
     uint8_t sheet[3 + 64] = {0x02, 0, 15};
-    uint64_t a = formula((const uint8_t *)"b0 + 1", 6, sheet + 3, 64);
+    uint64_t a = engine_formula((const uint8_t *)"b0 + 1", 6, sheet + 3, 64);
 
     expect(!engine_formula_refused(a) && engine_formula_length(a) == sizeof sum && memcmp(sheet + 3, sum, sizeof sum) == 0, "b0 + 1");
     expect(sheet[3 + sizeof sum] == 0, "the bytes behind stay");
-    a = formula((const uint8_t *)"7", 1, sheet + 3, 7);
+    a = engine_formula((const uint8_t *)"7", 1, sheet + 3, 7);
     sheet[2] = 7;
     expect(engine_formula_length(a) == 7 && load(sheet, 10) == 0 && value(0) == 7, "7, as a passive of a sheet");
-    expect(formula((const uint8_t *)"b0 +", 4, sheet, sizeof sheet) == ENGINE_NO_FORMULA, "b0 +");
-    expect(formula((const uint8_t *)"2147483648", 10, sheet, sizeof sheet) == ENGINE_LARGE_NUMBER, "2147483648");
-    expect(formula((const uint8_t *)"!!!!!!!!!!!!!!!!1", 17, sheet, sizeof sheet) == ENGINE_TOO_DEEP, "16 times !");
-    expect(formula((const uint8_t *)"1", 1, sheet, 6) == ENGINE_SHORT_BUFFER && sheet[0] == 0x02, "a buffer of six bytes");
+    expect(engine_formula((const uint8_t *)"b0 +", 4, sheet, sizeof sheet) == ENGINE_NO_FORMULA, "b0 +");
+    expect(engine_formula((const uint8_t *)"2147483648", 10, sheet, sizeof sheet) == ENGINE_LARGE_NUMBER, "2147483648");
+    expect(engine_formula((const uint8_t *)"!!!!!!!!!!!!!!!!1", 17, sheet, sizeof sheet) == ENGINE_TOO_DEEP, "16 times !");
+    expect(engine_formula((const uint8_t *)"1", 1, sheet, 6) == ENGINE_SHORT_BUFFER && sheet[0] == 0x02, "a buffer of six bytes");
 }
 
 /* A setter's sheet with a circle: which behaviours, and under which event. */
@@ -264,18 +264,18 @@ static void show_circle(void)
     static const uint8_t both[] = {1, 0, 1, 1, 3, 0, 16, 4, 0, 4, 0, 0, 0, 1, 5, 0, 6, 0, 0, 0x11, 0, 1, 1, 3, 0, 16, 4, 0, 4, 0, 0, 0, 2, 5, 0, 6, 0, 0, 0x11, 0, 1, 0};
     static const uint8_t one[] = {2, 0, 4, 0x13, 0, 1, 0};
     uint8_t level[sizeof both + sizeof one], list[ENGINE_CIRCLE_LIST] = {7, 7, 7};
-    uint64_t a = circle(both, sizeof both, hard, 0, list, sizeof list);
+    uint64_t a = engine_circle(both, sizeof both, hard, 0, list, sizeof list);
 
     expect(engine_circle_number(a) == ENGINE_CIRCLE && engine_circle_event(a) == 0 && engine_circle_length(a) == 2, "a circle of two under event 0");
     expect(list[0] + list[1] == 1 && list[2] == 7, "b0 and b1, and nothing else");
-    expect(circle(S, sizeof S, hard, 0, list, sizeof list) == 0, "S has none");
-    expect(circle(both, sizeof both, hard, 0, list, ENGINE_CIRCLE_LIST - 1) == ENGINE_SHORT_TABLE, "a list of 63 bytes");
+    expect(engine_circle(S, sizeof S, hard, 0, list, sizeof list) == 0, "S has none");
+    expect(engine_circle(both, sizeof both, hard, 0, list, ENGINE_CIRCLE_LIST - 1) == ENGINE_SHORT_TABLE, "a list of 63 bytes");
 
     /* the same with a parameter beside: b2 = parameter 0 */
     memcpy(level, both, sizeof both);
     memcpy(level + sizeof both, one, sizeof one);
-    expect(circle(level, sizeof level, hard, sizeof hard - 1, list, sizeof list) == ENGINE_NO_PARAMETERS, "31 bytes of parameters, and no list");
-    expect(circle(level, sizeof level, hard, sizeof hard, list, sizeof list) == a, "the same circle with 32");
+    expect(engine_circle(level, sizeof level, hard, sizeof hard - 1, list, sizeof list) == ENGINE_NO_PARAMETERS, "31 bytes of parameters, and no list");
+    expect(engine_circle(level, sizeof level, hard, sizeof hard, list, sizeof list) == a, "the same circle with 32");
 }
 
 /* The league's bonus beside S: b2 = init 10 {1 => b2 + b2}, of an event that both declare. */
@@ -288,7 +288,7 @@ static void pool_sheets(void)
     };
     static const uint8_t other[] = {0x01, 0, 1, 7};
     static uint8_t both[8192];
-    uint64_t a = join(S, sizeof S, bonus, sizeof bonus, hard, 0, both, sizeof both);
+    uint64_t a = engine_join(S, sizeof S, bonus, sizeof bonus, hard, 0, both, sizeof both);
 
     expect(!engine_join_refused(a) && engine_join_length(a) == sizeof S + 1 + 27, "S and the bonus");
     expect(both[engine_join_length(a)] == 0, "the bytes behind stay");
@@ -299,10 +299,10 @@ static void pool_sheets(void)
     take(1);
     settle();
     expect(value(1) == 1 && value(2) == 20, "event 1 is shared");
-    expect(arrive(table, sizeof table, round_, sizeof round_, 1, 1) == ENGINE_NO_RIGHT, "player 1 may not send it in the bonus");
-    expect(arrive(table, sizeof table, round_, sizeof round_, 1, 2) == 0, "player 2 may in both");
-    expect(join(S, sizeof S, other, sizeof other, hard, 0, both, sizeof both) == ENGINE_UNLIKE_RANKS, "another rank for event 0");
-    expect(join(S, sizeof S, bonus, sizeof bonus, hard, 0, both, engine_join_length(a) - 1) == ENGINE_SHORT_JOIN, "one byte too few");
+    expect(engine_arrive(table, sizeof table, round_, sizeof round_, 1, 1) == ENGINE_NO_RIGHT, "player 1 may not send it in the bonus");
+    expect(engine_arrive(table, sizeof table, round_, sizeof round_, 1, 2) == 0, "player 2 may in both");
+    expect(engine_join(S, sizeof S, other, sizeof other, hard, 0, both, sizeof both) == ENGINE_UNLIKE_RANKS, "another rank for event 0");
+    expect(engine_join(S, sizeof S, bonus, sizeof bonus, hard, 0, both, engine_join_length(a) - 1) == ENGINE_SHORT_JOIN, "one byte too few");
 }
 
 int main(void)
@@ -328,7 +328,7 @@ int main(void)
     take(1);
     expect(!frame(5), "A runs, past its copies");
     take(2);
-    moved = engine_step_kind(step(table, sizeof table, round_, sizeof round_)) == ENGINE_BROKE_IN;
+    moved = engine_step_kind(engine_step(table, sizeof table, round_, sizeof round_)) == ENGINE_BROKE_IN;
     settle();
     expect(moved, "H breaks in");
     expect(value(0) == 4, "A before B: 4");
@@ -336,15 +336,15 @@ int main(void)
     load(S, sizeof S);
     for (i = 0; i < 64; i++)
         take(0);
-    expect(arrive(table, sizeof table, round_, sizeof round_, 0, ENGINE_HOST) == ENGINE_FULL_HAND, "the 65th");
-    expect(arrive(table, sizeof table, round_, sizeof round_, 2, ENGINE_HOST) == ENGINE_NO_SUCH_EVENT, "event 2");
-    expect(board(table, sizeof table, round_, sizeof round_, 2, ENGINE_HOST) == ENGINE_NO_SUCH_BEHAVIOUR, "behaviour 2");
-    expect(step(table, 10, round_, sizeof round_) == ENGINE_FOREIGN, "a short table");
-    expect(compile(S, sizeof S, easy, 0, table, ENGINE_TABLE - 1) == ENGINE_SHORT_TABLE, "a table of 34,815 bytes");
+    expect(engine_arrive(table, sizeof table, round_, sizeof round_, 0, ENGINE_HOST) == ENGINE_FULL_HAND, "the 65th");
+    expect(engine_arrive(table, sizeof table, round_, sizeof round_, 2, ENGINE_HOST) == ENGINE_NO_SUCH_EVENT, "event 2");
+    expect(engine_board(table, sizeof table, round_, sizeof round_, 2, ENGINE_HOST) == ENGINE_NO_SUCH_BEHAVIOUR, "behaviour 2");
+    expect(engine_step(table, 10, round_, sizeof round_) == ENGINE_FOREIGN, "a short table");
+    expect(engine_compile(S, sizeof S, easy, 0, table, ENGINE_TABLE - 1) == ENGINE_SHORT_TABLE, "a table of 34,815 bytes");
     expect(load(S, 0) == 0, "a sheet of no bytes is accepted");
     expect(frame(1), "and idle");
-    expect(arrive(table, sizeof table, round_, sizeof round_, 0, ENGINE_HOST) == ENGINE_NO_SUCH_EVENT, "it has no event");
-    expect(board(table, sizeof table, round_, sizeof round_, 0, ENGINE_HOST) == ENGINE_NO_SUCH_BEHAVIOUR, "and no behaviour");
+    expect(engine_arrive(table, sizeof table, round_, sizeof round_, 0, ENGINE_HOST) == ENGINE_NO_SUCH_EVENT, "it has no event");
+    expect(engine_board(table, sizeof table, round_, sizeof round_, 0, ENGINE_HOST) == ENGINE_NO_SUCH_BEHAVIOUR, "and no behaviour");
     audit();
     plan();
     hover();

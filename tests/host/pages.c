@@ -34,16 +34,16 @@ static const struct {
 
 static void before(uint8_t *round)
 {
-    if (start(table, sizeof table, round, ENGINE_ROUND) || arrive(table, sizeof table, round, ENGINE_ROUND, 0, ENGINE_HOST) || arrive(table, sizeof table, round, ENGINE_ROUND, 1, ENGINE_HOST))
+    if (engine_start(table, sizeof table, round, ENGINE_ROUND) || engine_arrive(table, sizeof table, round, ENGINE_ROUND, 0, ENGINE_HOST) || engine_arrive(table, sizeof table, round, ENGINE_ROUND, 1, ENGINE_HOST))
         faults++;
     shown = 0;
 }
 
 static void after(uint8_t *round, const char *call)
 {
-    int32_t b0 = engine_board_value(board(table, sizeof table, round, ENGINE_ROUND, 0, ENGINE_HOST));
-    int32_t b1 = engine_board_value(board(table, sizeof table, round, ENGINE_ROUND, 1, ENGINE_HOST));
-    int idle = engine_step_kind(step(table, sizeof table, round, ENGINE_ROUND)) == ENGINE_IDLE;
+    int32_t b0 = engine_board_value(engine_board(table, sizeof table, round, ENGINE_ROUND, 0, ENGINE_HOST));
+    int32_t b1 = engine_board_value(engine_board(table, sizeof table, round, ENGINE_ROUND, 1, ENGINE_HOST));
+    int idle = engine_step_kind(engine_step(table, sizeof table, round, ENGINE_ROUND)) == ENGINE_IDLE;
     size_t i;
 
     examples++;
@@ -59,7 +59,7 @@ int main(void)
     static uint8_t round[ENGINE_ROUND];
     uint8_t in[3 + 74];
 
-    if (fread(in, 1, sizeof in, stdin) != sizeof in || compile(in + 3, sizeof in - 3, in, 0, table, sizeof table) != 0) {
+    if (fread(in, 1, sizeof in, stdin) != sizeof in || engine_compile(in + 3, sizeof in - 3, in, 0, table, sizeof table) != 0) {
         puts("no sheet S");
         return 1;
     }
