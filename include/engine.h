@@ -72,7 +72,9 @@ enum engine_refusal {
     ENGINE_NO_RIGHT = 25,      /* the player may not send this event, or may not see this behaviour */
     ENGINE_UNLIKE_RANKS = 26,  /* join: the sheets give one event different ranks */
     ENGINE_SHORT_JOIN = 27,    /* join: the buffer is too short for the joined sheet */
-    ENGINE_STRANGE_HAND = 28   /* mend: the hand holds an event that the new sheet does not declare */
+    ENGINE_STRANGE_HAND = 28,  /* mend: the hand holds an event that the new sheet does not declare */
+    ENGINE_DEPENDENT = 29,     /* agree: two events of unequal rank are not independent */
+    ENGINE_LEAK = 30           /* leak: a behaviour that the player sees names one that is hidden from it */
 };
 
 /* The refusal's word, for a log or a setter's screen; "accepted" for 0, "no refusal" for a number that is none. */
@@ -82,10 +84,16 @@ static inline const char *engine_refusal_word(uint32_t number)
         "accepted", "short table", "blank", "long sheet", "torn", "wrong tag", "wrong length", "crowded",
         "off the scale", "too deep", "doubled", "unknown name", "circle", "overlong", "foreign", "no such event",
         "full hand", "spent", "no such behaviour", "settling", "no parameters", "no formula", "large number",
-        "short buffer", "no player", "no right", "unlike ranks", "short join", "strange hand"
+        "short buffer", "no player", "no right", "unlike ranks", "short join", "strange hand", "dependent", "leak"
     };
     return number < sizeof words / sizeof *words ? words[number] : "no refusal";
 }
+
+/* The version of the archive that was linked: 65536 * ENGINE_VERSION + ENGINE_LAYOUT. */
+uint32_t engine_version(void);
+
+static inline uint32_t engine_version_interface(uint32_t version) { return version >> 16; }
+static inline uint32_t engine_version_layout(uint32_t version) { return version & 0xFFFF; }
 
 /* ---- sheets */
 
@@ -109,6 +117,25 @@ static inline uint32_t engine_circle_number(uint64_t answer) { return (uint32_t)
 static inline uint32_t engine_circle_event(uint64_t answer) { return (uint32_t)(answer >> 8 & 0xFF); }
 static inline uint32_t engine_circle_length(uint64_t answer) { return (uint32_t)(answer >> 16); }
 
+/* Whether two phones that take in the same events in the same order always end with the same board: compile's number,
+ * as with a full table; 0 where every two events of unequal rank are independent, so that they do; else 29 with two
+ * events of unequal rank and a behaviour that one writes and the other reads or writes. */
+uint64_t engine_agree(const uint8_t *sheet, size_t sheet_len, const uint8_t *params, size_t params_len);
+
+static inline uint32_t engine_agree_number(uint64_t answer) { return (uint32_t)(answer & 0xFF); }
+static inline uint32_t engine_agree_first(uint64_t answer) { return (uint32_t)(answer >> 8 & 0xFF); }
+static inline uint32_t engine_agree_second(uint64_t answer) { return (uint32_t)(answer >> 16 & 0xFF); }
+static inline uint32_t engine_agree_behaviour(uint64_t answer) { return (uint32_t)(answer >> 24 & 0xFF); }
+
+/* Whether a player can learn of what is hidden from it: compile's number, as with a full table; 24; 0 where no
+ * behaviour that the player sees depends on a hidden one; else 30 with one that it sees and a hidden one that this
+ * names. */
+uint64_t engine_leak(const uint8_t *sheet, size_t sheet_len, const uint8_t *params, size_t params_len, uint32_t player);
+
+static inline uint32_t engine_leak_number(uint64_t answer) { return (uint32_t)(answer & 0xFF); }
+static inline uint32_t engine_leak_seen(uint64_t answer) { return (uint32_t)(answer >> 8 & 0xFF); }
+static inline uint32_t engine_leak_hidden(uint64_t answer) { return (uint32_t)(answer >> 16 & 0xFF); }
+
 /* A formula, as text of at most 1,024 bytes, becomes one expression field (01's 10, 11 or 12) at the start of the
  * buffer, whose other bytes stay: 2^32 and the field's length; or 21, then 22, then 9 where the expression nests over
  * 16 deep, last 23, and the buffer is as it was. The text is not kept. docs/SHEETS.md has the grammar. */
@@ -128,6 +155,17 @@ uint64_t engine_join(const uint8_t *first, size_t first_len, const uint8_t *seco
 static inline int engine_join_refused(uint64_t answer) { return answer >> 32 == 0; }
 static inline uint32_t engine_join_refusal(uint64_t answer) { return answer >> 32 ? 0 : (uint32_t)answer; }
 static inline uint32_t engine_join_length(uint64_t answer) { return (uint32_t)answer; }
+
+/* What a table has: 2^32 and the count of its events, of its behaviours, or 14; 2^32 and an event's rank, or 14, then
+ * 15. */
+uint64_t engine_event_count(const uint8_t *table, size_t table_len);
+uint64_t engine_behaviour_count(const uint8_t *table, size_t table_len);
+uint64_t engine_event_rank(const uint8_t *table, size_t table_len, uint32_t event);
+
+/* Of these three. */
+static inline int engine_count_refused(uint64_t answer) { return answer >> 32 == 0; }
+static inline uint32_t engine_count_refusal(uint64_t answer) { return answer >> 32 ? 0 : (uint32_t)answer; }
+static inline uint32_t engine_count_value(uint64_t answer) { return (uint32_t)answer; }
 
 /* ---- rounds */
 
@@ -162,6 +200,23 @@ static inline uint32_t engine_step_player(uint64_t answer) { return (uint32_t)(a
 static inline uint32_t engine_step_event(uint64_t answer) { return (uint32_t)(answer >> 8 & 0xFF); }
 static inline uint32_t engine_step_arrival(uint64_t answer) { return (uint32_t)(answer >> 16 & 0xFFFFFFFF); }
 static inline int engine_step_over(uint64_t answer) { return (answer & ENGINE_OVER) != 0; }
+
+/* A frame: at most so many steps, one after the other. The answers of steps that commit are written to the start of the
+ * buffer, eight bytes each, big-endian, as many as there is room for: engine_answer_get reads them. */
+uint64_t engine_frame(const uint8_t *table, size_t table_len, uint8_t *round, size_t round_len, uint32_t steps,
+                      uint8_t *commits, size_t commits_len);
+
+enum engine_frame_answer {
+    ENGINE_FRAME_MADE = 0,    /* all steps were made */
+    ENGINE_FRAME_IDLE = 1,    /* nothing is left in hand */
+    ENGINE_FRAME_REFUSED = 2, /* a step was refused, by ENGINE_FOREIGN */
+    ENGINE_FRAME_FULL = 3     /* the buffer has no room for a further commit: call again */
+};
+
+/* How many steps were made, how many commits were written, and why it ended. */
+static inline uint32_t engine_frame_steps(uint64_t answer) { return (uint32_t)answer; }
+static inline uint32_t engine_frame_commits(uint64_t answer) { return (uint32_t)(answer >> 32 & 0xFFFFFF); }
+static inline uint32_t engine_frame_end(uint64_t answer) { return (uint32_t)(answer >> 56); }
 
 /* A step's answer as the other players are told it: without ENGINE_OVER. A number that no step answers comes back as
  * its lowest 56 bits. */

@@ -1,4 +1,5 @@
-# The examples of a page for C, its indented blocks, each in braces between the host's `before` and `after`; an example is named by the first call in it.
+# The examples of a page for C, its indented blocks, each in braces between the host's `before` and `after`; an example
+# is named by the first call in it.
 function close_block() {
     if (open)
         print "    }\n    after(round, \"" call "\");"
