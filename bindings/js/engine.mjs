@@ -72,17 +72,24 @@ export function stepOf(answer) {
 /** Loads engine.wasm: its bytes, a WebAssembly.Module, or a Response (a promise of one will do). */
 export async function load(source) {
     const given = await source;
-    if (given instanceof WebAssembly.Module) return new Engine(await WebAssembly.instantiate(given));
+    if (given instanceof WebAssembly.Module) return new Engine(given, await WebAssembly.instantiate(given));
     const bytes = typeof Response !== "undefined" && given instanceof Response ? await given.arrayBuffer() : given;
-    return new Engine((await WebAssembly.instantiate(bytes)).instance);
+    const { module, instance } = await WebAssembly.instantiate(bytes);
+    return new Engine(module, instance);
 }
 
 class Engine {
+    #module;
     #calls;
     #memory;
     #base;
 
-    constructor(instance) {
+    constructor(module, instance) {
+        this.#module = module;
+        this.#enter(instance);
+    }
+
+    #enter(instance) {
         this.#calls = instance.exports;
         this.#memory = instance.exports.memory;
         this.#base = this.#memory.buffer.byteLength; // what the engine has of its own ends here
@@ -114,11 +121,21 @@ class Engine {
             bytes.set(arg, places[k]);
             words.push(places[k], BigInt(arg.length));
         });
-        const answer = this.#calls[`engine_${name}`](...words);
+        const answer = this.#made(name, words);
         given.forEach((arg, k) => {
             if (takes[k] === "w") arg.set(bytes.subarray(places[k], places[k] + arg.length));
         });
         return typeof answer === "bigint" ? BigInt.asUintN(64, answer) : BigInt(answer >>> 0);
+    }
+
+    // No call traps; but where JavaScript's own stack runs out in one, the engine is entered afresh, having no state.
+    #made(name, words) {
+        try {
+            return this.#calls[`engine_${name}`](...words);
+        } catch (broken) {
+            this.#enter(new WebAssembly.Instance(this.#module));
+            throw broken;
+        }
     }
 
     // an answer of 2^32 and a word, or of a refusal's number

@@ -1,9 +1,12 @@
-/* Replays a record of calls: replay FILE. Every answer, every sum of a written buffer and all bytes kept in the record
- * must come out again. tests/second/src/record.rs writes the record and says how it is laid out. */
+/* Replays a record of calls: replay FILE [stack]. Every answer, every sum of a written buffer and all bytes kept in the
+ * record must come out again. tests/second/src/record.rs writes the record and says how it is laid out. With `stack`
+ * each kind of call runs on a stack of its own, and its name and the most bytes that it took of it are printed. */
+#define _XOPEN_SOURCE 600
 #include <stdarg.h>
 #include <stdio.h>
 #include <stdlib.h>
 #include <string.h>
+#include <ucontext.h>
 
 #include "engine.h"
 
@@ -57,12 +60,14 @@ static const struct {
     {"replay", make_replay},
 };
 
-static struct {
+static struct call {
     char name[32], takes[16];
     maker *make;
+    uint8_t *stack; /* painted, where stacks are measured */
 } calls[64];
 static size_t known;
 static uint64_t made;
+static int measured;
 
 static const uint8_t *at, *end;
 
@@ -157,6 +162,54 @@ static void read_calls(void)
     at++;
 }
 
+/* ---- a call on a stack of its own */
+
+#define STACK (1u << 21)
+#define PAINT 0x5C
+
+static ucontext_t back, there;
+static const struct call *on_stack;
+static const struct lent *buffers_of;
+static const uint64_t *numbers_of;
+static uint64_t answered;
+
+static void enter(void)
+{
+    answered = on_stack->make(buffers_of, numbers_of);
+}
+
+static uint64_t make_on_stack(struct call *c, const struct lent *b, const uint64_t *n)
+{
+    if (!c->stack) {
+        c->stack = (uint8_t *)malloc(STACK);
+        if (!c->stack)
+            fail("no memory");
+        memset(c->stack, PAINT, STACK);
+    }
+    on_stack = c;
+    buffers_of = b;
+    numbers_of = n;
+    getcontext(&there);
+    there.uc_stack.ss_sp = c->stack;
+    there.uc_stack.ss_size = STACK;
+    there.uc_link = &back;
+    makecontext(&there, enter, 0);
+    swapcontext(&back, &there);
+    return answered;
+}
+
+static void print_stacks(void)
+{
+    size_t k, n;
+
+    for (k = 0; k < known; k++) {
+        for (n = 0; calls[k].stack && n < STACK && calls[k].stack[n] == PAINT; n++)
+            ;
+        if (calls[k].stack)
+            printf("%s %lu\n", calls[k].name, (unsigned long)(STACK - n));
+    }
+}
+
 static void make_one(void)
 {
     struct lent b[MOST];
@@ -181,7 +234,7 @@ static void make_one(void)
             if (*takes == 'w')
                 written[writes++] = s;
         }
-    got = calls[k].make(b, n);
+    got = measured ? make_on_stack(calls + k, b, n) : calls[k].make(b, n);
     want = number(8);
     if (got != want)
         fail("%s answers %llu, not %llu", calls[k].name, (unsigned long long)got, (unsigned long long)want);
@@ -251,8 +304,12 @@ int main(int argc, char **argv)
     fclose(file);
     at = record;
     end = record + n;
+    measured = argc > 2;
     read_calls();
     run();
-    printf("%llu calls, every answer and byte as recorded\n", (unsigned long long)made);
+    if (measured)
+        print_stacks();
+    else
+        printf("%llu calls, every answer and byte as recorded\n", (unsigned long long)made);
     return 0;
 }

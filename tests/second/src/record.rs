@@ -13,6 +13,7 @@
 //!   E count64             the end, and how many calls there were
 use crate::engine::{self, Sheet};
 use crate::formula;
+use crate::limits::{active, app, con, event, handler, name, of_bytes, passive};
 use crate::make::{self, Rng};
 use crate::proved::{self, ROUND, TABLE};
 
@@ -294,6 +295,49 @@ impl Record {
         }
     }
 
+    /// The deepest and the largest that there are, with the calls that they are lent to; they take the most stack.
+    fn largest(&mut self) {
+        let deep = |leaf: Vec<u8>| (0..15).fold(leaf, |e, _| app(3, &[e]));
+        let ring: Vec<u8> = (0..64).flat_map(|i| passive(&name((i + 1) % 64))).collect();
+        let own = |i: i32| active(i, &[handler(0, (i % 2) as u8, &deep(name(i as u8)))]);
+        let wide: Vec<u8> = (0..64).flat_map(own).collect();
+        let full = [event(1), event(2), wide].concat();
+        let brackets = format!("{}b0{}", "(".repeat(511), ")".repeat(511));
+        let texts = [brackets, format!("{}b0", "!".repeat(1022)), "if(".repeat(341)];
+        self.set(PARAMS, &[0; 32]);
+        for text in texts {
+            self.set(TEXT, text.as_bytes());
+            self.fill(BUFFER, 7168, 0x5A);
+            self.call("formula", &[Whole(TEXT), Whole(BUFFER)]);
+        }
+        for bytes in [ring, of_bytes(8192, &name(0)), passive(&deep(con(1))), full] {
+            self.set(SHEET, &bytes);
+            self.fill(LIST, 64, 0);
+            self.fill(TABLES, TABLE, 0);
+            self.fill(BUFFER, 8192, 0);
+            self.call("circle", &[Whole(SHEET), Whole(PARAMS), Whole(LIST)]);
+            self.call("join", &[Whole(SHEET), Part(SHEET, 0), Whole(PARAMS), Whole(BUFFER)]);
+            self.call("compile", &[Whole(SHEET), Whole(PARAMS), Whole(TABLES)]);
+            self.keep(LIST);
+            self.keep(BUFFER);
+            self.keep(TABLES);
+        }
+        let on = [Whole(TABLES), Whole(ROUNDS)];
+        self.fill(ROUNDS, ROUND, 0);
+        self.call("start", &on);
+        for k in 0..65 {
+            self.call("arrive", &[on[0], on[1], Number(k % 2), Number(0)]);
+        }
+        self.call("preview", &[on[0], on[1], Number(0), Number(0), Number(0)]);
+        for _ in 0..3000 {
+            self.call("step", &on);
+        }
+        self.call("preview", &[on[0], on[1], Number(0), Number(0), Number(0)]);
+        self.copy(NEXT, TABLES);
+        self.call("mend", &[Whole(TABLES), Whole(NEXT), Whole(ROUNDS)]);
+        self.keep(ROUNDS);
+    }
+
     /// One seed's worth of all calls.
     fn seed(&mut self, seed: u64) {
         let r = &mut Rng::new(seed);
@@ -350,6 +394,7 @@ fn made(name: &str, r: &[&[u8]], w: &mut [&mut [u8]], n: &[u64]) -> u64 {
 /// Seeds from 1 on until there are so many calls.
 pub fn run(file: &str, calls: u64) {
     let mut record = Record::new();
+    record.largest();
     let mut seed = 0;
     while record.calls < calls {
         seed += 1;
