@@ -1,11 +1,14 @@
-/* Replays a record of calls: replay FILE [stack]. Every answer, every sum of a written buffer and all bytes kept in the
- * record must come out again. tests/second/src/record.rs writes the record and says how it is laid out. With `stack`
- * each kind of call runs on a stack of its own, and its name and the most bytes that it took of it are printed. */
+/* Replays a record of calls: replay FILE [STACKS]. Every answer, every sum of a written buffer and all bytes kept in
+ * the record must come out again. tests/second/src/record.rs writes the record and says how it is laid out. STACKS has
+ * lines `NAME KB`: then each kind of call runs on a stack of its own of so many KB, below which no byte can be touched,
+ * and the most bytes that it left a mark in are printed. */
+#define _DEFAULT_SOURCE
 #define _XOPEN_SOURCE 600
 #include <stdarg.h>
 #include <stdio.h>
 #include <stdlib.h>
 #include <string.h>
+#include <sys/mman.h>
 #include <ucontext.h>
 
 #include "engine.h"
@@ -64,6 +67,7 @@ static struct call {
     char name[32], takes[16];
     maker *make;
     uint8_t *stack; /* painted, where stacks are measured */
+    size_t room;
 } calls[64];
 static size_t known;
 static uint64_t made;
@@ -164,7 +168,7 @@ static void read_calls(void)
 
 /* ---- a call on a stack of its own */
 
-#define STACK (1u << 21)
+#define GUARD_PAGES 65536u
 #define PAINT 0x5C
 
 static ucontext_t back, there;
@@ -173,25 +177,49 @@ static const struct lent *buffers_of;
 static const uint64_t *numbers_of;
 static uint64_t answered;
 
+/* A stack of so many bytes, and below it pages that cannot be touched. */
+static void give_stack(struct call *c, size_t bytes)
+{
+    uint8_t *room = (uint8_t *)mmap(NULL, bytes + GUARD_PAGES, PROT_NONE, MAP_PRIVATE | MAP_ANONYMOUS, -1, 0);
+
+    if (room == MAP_FAILED || mprotect(room + GUARD_PAGES, bytes, PROT_READ | PROT_WRITE) != 0)
+        fail("no stack of %lu bytes", (unsigned long)bytes);
+    c->stack = room + GUARD_PAGES;
+    c->room = bytes;
+    memset(c->stack, PAINT, bytes);
+}
+
+static void read_stacks(const char *path)
+{
+    FILE *file = fopen(path, "r");
+    char name[32];
+    unsigned long kb;
+    size_t k;
+
+    while (file && fscanf(file, "%31s %lu", name, &kb) == 2)
+        for (k = 0; k < known; k++)
+            if (strcmp(calls[k].name, name) == 0)
+                give_stack(calls + k, kb * 1024);
+    if (file)
+        fclose(file);
+    for (k = 0; k < known; k++)
+        if (!calls[k].stack)
+            fail("%s does not say the stack of %s", path, calls[k].name);
+}
+
 static void enter(void)
 {
     answered = on_stack->make(buffers_of, numbers_of);
 }
 
-static uint64_t make_on_stack(struct call *c, const struct lent *b, const uint64_t *n)
+static uint64_t make_on_stack(const struct call *c, const struct lent *b, const uint64_t *n)
 {
-    if (!c->stack) {
-        c->stack = (uint8_t *)malloc(STACK);
-        if (!c->stack)
-            fail("no memory");
-        memset(c->stack, PAINT, STACK);
-    }
     on_stack = c;
     buffers_of = b;
     numbers_of = n;
     getcontext(&there);
     there.uc_stack.ss_sp = c->stack;
-    there.uc_stack.ss_size = STACK;
+    there.uc_stack.ss_size = c->room;
     there.uc_link = &back;
     makecontext(&there, enter, 0);
     swapcontext(&back, &there);
@@ -203,11 +231,12 @@ static void print_stacks(void)
     size_t k, n;
 
     for (k = 0; k < known; k++) {
-        for (n = 0; calls[k].stack && n < STACK && calls[k].stack[n] == PAINT; n++)
+        for (n = 0; n < calls[k].room && calls[k].stack[n] == PAINT; n++)
             ;
-        if (calls[k].stack)
-            printf("%s %lu\n", calls[k].name, (unsigned long)(STACK - n));
+        printf("%s%s %lu of %lu", k ? ", " : "", calls[k].name, (unsigned long)(calls[k].room - n),
+               (unsigned long)calls[k].room);
     }
+    putchar('\n');
 }
 
 static void make_one(void)
@@ -306,6 +335,8 @@ int main(int argc, char **argv)
     end = record + n;
     measured = argc > 2;
     read_calls();
+    if (measured)
+        read_stacks(argv[2]);
     run();
     if (measured)
         print_stacks();
