@@ -5,6 +5,7 @@
 //! second bench [FILE.svg]      times against the plain engine, and the paper's experiment
 //! second desk PROGRAM SEEDS    the desk program on the scope's rounds and traps, torn input and scripts made at random
 //! second page PAGE PROGRAM INPUT   the setter's page against the desk program and its example
+//! second record FILE CALLS     calls with their answers and bytes, for other processors to replay
 mod bench;
 mod compare;
 mod desk;
@@ -15,6 +16,7 @@ mod make;
 mod page;
 mod pool;
 mod proved;
+mod record;
 mod words;
 
 fn main() {
@@ -26,8 +28,9 @@ fn main() {
         Some("bench") => bench::run(words.get(2)),
         Some("desk") => desk::run(&words[2], number(3, 200)),
         Some("page") => page::run(&words[2], &words[3], &words[4]),
+        Some("record") => record::run(&words[2], number(3, 120_000)),
         _ => {
-            println!("second compare FIRST COUNT | limits | bench [FILE.svg] | desk PROGRAM SEEDS | page PAGE PROGRAM INPUT");
+            println!("second compare FIRST COUNT | limits | bench [FILE.svg] | desk PROGRAM SEEDS | page PAGE PROGRAM INPUT | record FILE CALLS");
             std::process::exit(2);
         }
     }
