@@ -49,6 +49,21 @@
 //! # Ok::<(), Refusal>(())
 //! ```
 //!
+//! A buffer of another length does not compile:
+//!
+//! ```compile_fail
+//! let params = poqashem::Params::from_bytes([0; 31]);
+//! ```
+//!
+//! ```compile_fail
+//! # let table = poqashem::Sheet::new([]).compile(None).unwrap();
+//! let round = poqashem::Round::from_bytes(&table, &[0; 2047]);
+//! ```
+//!
+//! ```compile_fail
+//! let table = poqashem::Table::from_bytes(Box::new([0; 34815]));
+//! ```
+//!
 //! # Two phones
 //!
 //! Two phones that take in the same events in the same order end with the same board where every two events of unequal
@@ -119,4 +134,27 @@ pub fn version() -> Version {
     }
     #[cfg(not(engine_version))]
     Version::FIRST
+}
+
+#[cfg(test)]
+mod tests {
+    /// The header's sizes and versions.
+    #[test]
+    fn numbers_are_the_headers() {
+        let header = include_str!("../../../include/engine.h");
+        let number = |name: &str| -> usize {
+            let line = header.lines().find(|l| l.starts_with(&format!("#define {name} "))).expect(name);
+            line.split_whitespace().nth(2).and_then(|n| n.trim_end_matches('u').parse().ok()).expect(name)
+        };
+        assert_eq!(number("ENGINE_TABLE"), crate::TABLE);
+        assert_eq!(number("ENGINE_ROUND"), crate::ROUND);
+        assert_eq!(number("ENGINE_SHEET"), crate::SHEET);
+        assert_eq!(number("ENGINE_PARAMS"), crate::PARAMS);
+        assert_eq!(number("ENGINE_PLAYERS"), crate::Player::ALL.len());
+        let version = crate::version();
+        assert_eq!(number("ENGINE_VERSION"), version.interface as usize);
+        assert_eq!(number("ENGINE_LAYOUT"), version.layout as usize);
+        let package = [env!("CARGO_PKG_VERSION_MAJOR"), env!("CARGO_PKG_VERSION_MINOR")];
+        assert_eq!(package, [version.interface.to_string(), version.layout.to_string()], "the crate's version");
+    }
 }

@@ -62,7 +62,8 @@
 //! | 4 | preview | event 4, behaviour 4, player 4 |
 //! | 5 | change of sheets | which of the sheets 2, from 0 |
 //! | 6 | frame | steps 4, room for commits 4; behind the answer 8 for each commit that it counts |
-//! | 7 | so many steps, each answered by 1 | how many 4; no answer stands behind it |
+//! | 7 | so many steps, each answered by 1, one instruction | how many 4; no answer stands behind it |
+//! | 8 | so many steps, each answered by 0, idle | how many 4; no answer stands behind it |
 mod audit;
 mod file;
 
@@ -80,13 +81,15 @@ const PREVIEW: u8 = 4;
 const MEND: u8 = 5;
 const FRAME: u8 = 6;
 const RAN: u8 = 7;
+const IDLE: u8 = 8;
 
 /// A round takes in at most so many arrivals.
 #[cfg(engine_frame)]
 const ARRIVALS: u32 = 1_000_000;
 
-/// A step that ran one instruction is answered so.
+/// What a step is answered that ran one instruction, and one that found the round idle.
 const RAN_ANSWER: u64 = 1;
+const IDLE_ANSWER: u64 = 0;
 
 /// What the engine was asked.
 #[derive(Clone, Copy, Debug, PartialEq, Eq, Hash)]
@@ -212,8 +215,10 @@ impl Record {
     /// One more call and its answer, packed as the engine's header has it; the commits of a frame, eight bytes each, as
     /// many as its answer counts.
     pub fn push(&mut self, request: Request, answer: u64, commits: &[u8]) {
-        if request == Request::Step && answer == RAN_ANSWER {
-            return self.push_ran();
+        match (request, answer) {
+            (Request::Step, RAN_ANSWER) => return self.push_run(RAN),
+            (Request::Step, IDLE_ANSWER) => return self.push_run(IDLE),
+            _ => {}
         }
         self.run = None;
         let put = |out: &mut Vec<u8>, kind: u8, numbers: &[u32]| {
@@ -240,9 +245,9 @@ impl Record {
         }
     }
 
-    /// A step that ran one instruction: it joins those before it.
-    fn push_ran(&mut self) {
-        if let Some(at) = self.run {
+    /// A step of a kind that comes in runs: it joins those of its kind before it.
+    fn push_run(&mut self, kind: u8) {
+        if let Some(at) = self.run.filter(|at| self.calls[*at] == kind) {
             let count = u32::from_be_bytes(self.calls[at + 1..at + 5].try_into().expect("four bytes"));
             if count < u32::MAX {
                 self.calls[at + 1..at + 5].copy_from_slice(&(count + 1).to_be_bytes());
@@ -250,13 +255,13 @@ impl Record {
             }
         }
         self.run = Some(self.calls.len());
-        self.calls.push(RAN);
+        self.calls.push(kind);
         self.calls.extend(1u32.to_be_bytes());
     }
 
     /// The calls in their order.
     pub fn entries(&self) -> Entries<'_> {
-        Entries { bytes: &self.calls, run: 0 }
+        Entries { bytes: &self.calls, run: 0, ran: IDLE_ANSWER }
     }
 
     /// The bytes of its body.
@@ -307,16 +312,17 @@ impl Record {
 #[derive(Clone, Debug)]
 pub struct Entries<'a> {
     bytes: &'a [u8],
-    /// Steps left of a run.
+    /// Steps left of a run, and what each is answered.
     run: u32,
+    ran: u64,
 }
 
 impl<'a> Entries<'a> {
     fn read(&mut self) -> Result<Entry<'a>, Malformed> {
-        let ran = Entry { request: Request::Step, answer: RAN_ANSWER, commits: &[] };
+        let step = |answer: u64| Entry { request: Request::Step, answer, commits: &[] };
         if self.run > 0 {
             self.run -= 1;
-            return Ok(ran);
+            return Ok(step(self.ran));
         }
         let bytes = &mut self.bytes;
         let request = match take_u8(bytes)? {
@@ -327,9 +333,10 @@ impl<'a> Entries<'a> {
             PREVIEW => Request::Preview(Event(take_u32(bytes)?), Behaviour(take_u32(bytes)?), Player(take_u32(bytes)?)),
             MEND => Request::Mend(take_u16(bytes)?),
             FRAME => Request::Frame(take_u32(bytes)?, take_u32(bytes)?),
-            RAN => {
+            kind @ (RAN | IDLE) => {
                 self.run = take_u32(bytes)?.checked_sub(1).ok_or(Malformed("a run of no steps"))?;
-                return Ok(ran);
+                self.ran = if kind == RAN { RAN_ANSWER } else { IDLE_ANSWER };
+                return Ok(step(self.ran));
             }
             _ => return Err(Malformed("a call of no known kind")),
         };
@@ -351,7 +358,7 @@ impl<'a> Iterator for Entries<'a> {
         }
         let entry = self.read();
         if entry.is_err() {
-            *self = Entries { bytes: &[], run: 0 };
+            *self = Entries { bytes: &[], run: 0, ran: IDLE_ANSWER };
         }
         Some(entry)
     }

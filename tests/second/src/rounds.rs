@@ -6,6 +6,7 @@ use poqashem::{Behaviour, Event, Params, Player, Sheet};
 
 use crate::compare::{packed, Case};
 use crate::engine::{self, Call, Model};
+use crate::limits::{active, app, con, event, handler, name, passive};
 use crate::make::{self, Rng};
 
 /// A round of a seed as a phone would have recorded it, each answer being the model engine's: its calls, previews, forecasts,
@@ -69,6 +70,48 @@ pub fn write(file: &str, first: u64, count: u64) {
         calls += record.entries().count();
     }
     println!("{rounds} rounds of {calls} calls");
+}
+
+/// A league's sheet: eight cells that two moves change, their sum, a flag, a count of bonuses, and what time-up keeps.
+fn league_sheet() -> Vec<u8> {
+    let events = [1, 1, 2, 3].map(event).concat();
+    let cell = |i: u8| {
+        let grow = app(4, &[name(i), con(i as i32 + 1)]);
+        active(i as i32, &[handler(0, 0, &grow), handler(1, 1, &name((i + 1) % 8))])
+    };
+    let sum = (1..8).fold(name(0), |e, i| app(4, &[e, name(i)]));
+    let rest = [
+        passive(&sum),
+        passive(&app(14, &[app(8, &[name(8), con(1000)]), con(1), con(0)])),
+        active(0, &[handler(2, 0, &app(4, &[name(10), con(1)]))]),
+        active(0, &[handler(3, 0, &app(4, &[name(8), name(10)]))]),
+    ];
+    [events, (0..8).map(cell).collect::<Vec<_>>().concat(), rest.concat()].concat()
+}
+
+/// So many rounds of so many calls on the league's sheet: of each hundred calls one is an arrival, one a board reading, the others
+/// are steps. For measuring the audit.
+pub fn league(file: &str, rounds: u64, calls: u64) {
+    let bytes = league_sheet();
+    let sheet = engine::compile(&bytes, &[]).expect("the league's sheet");
+    let out = std::fs::File::create(file).expect("the file");
+    let mut out = Writer::new(std::io::BufWriter::new(out)).expect("the file");
+    let r = &mut Rng::new(7);
+    for k in 0..rounds {
+        let mut record = Record::new(format!("round {k}"), Sheet::new(&bytes[..]), None);
+        let mut m = Model::new(sheet.clone());
+        for call in 0..calls {
+            let c = match call % 100 {
+                0 => Call::Arrive(r.below(4) as u32, r.below(8) as u32),
+                50 => Call::Board(r.below(12) as u32, r.below(8) as u32),
+                _ => Call::Step,
+            };
+            asked(&mut record, &mut m, c);
+        }
+        out.write(&record).expect("the file");
+    }
+    let lengths: Vec<usize> = (0..4).map(|e| sheet.count(e)).collect();
+    println!("{rounds} rounds of {calls} calls on a sheet of {} bytes, whose events have {lengths:?} instructions", bytes.len());
 }
 
 /// The record with another answer at one call, drawn among all: which call.

@@ -118,6 +118,35 @@ fn rounds(r: &mut Rng, sheet: &Sheet, params: Option<&Params>, table: &[u8], cal
     assert!(again == round && again.table() == &own, "the round of a replay");
     assert_eq!(Round::from_bytes(&own, again.bytes()), round, "a saved round");
     recorded(sheet, params, calls, &answers);
+    #[cfg(engine_frame)]
+    frames(r, own.start().unwrap(), Recorder::start("frames", sheet.clone(), params.copied()).unwrap(), calls);
+}
+
+/// Frames between the calls, by the types, recorded and raw.
+#[cfg(engine_frame)]
+fn frames(r: &mut Rng, mut round: Round, mut recorder: Recorder, calls: &[Call]) {
+    let table = round.table().clone();
+    let mut l = round.bytes().to_vec();
+    for c in calls.iter().take(40) {
+        if let poqashem::Call::Arrive(e, who) = typed(*c) {
+            let _ = (round.arrive(e, who), recorder.arrive(e, who), proved::arrive(table.bytes(), &mut l, e.0, who.0));
+        }
+        let (steps, room) = (r.below(30) as u32, r.below(3));
+        let mut commits = vec![0u8; 8 * room];
+        let got = proved::frame(table.bytes(), &mut l, steps, &mut commits);
+        let frame = round.frame(steps, room);
+        let why = [poqashem::Ended::Done, poqashem::Ended::Idle, poqashem::Ended::Foreign, poqashem::Ended::NoRoom];
+        assert_eq!(Some(&frame.ended), why.get((got >> 56) as usize), "why a frame ended");
+        assert_eq!(frame.steps, got as u32, "steps of a frame");
+        let packed: Vec<u8> = frame.commits.iter().flat_map(|c| step(*c).to_be_bytes()).collect();
+        assert_eq!(frame.commits.len() as u64, got >> 32 & 0xFF_FFFF, "how many commits of a frame");
+        assert!(commits.starts_with(&packed), "commits of a frame");
+        assert!(l == round.bytes(), "the round of a frame");
+        assert_eq!(recorder.frame(steps, room as u32), frame, "a recorded frame");
+        let entry = recorder.record().entries().last().unwrap().unwrap();
+        assert_eq!((entry.answer, entry.commits), (got, &packed[..]), "a frame in the record");
+    }
+    assert!(matches!(poqashem::record::audit(recorder.record()), Verdict::Agrees { .. }), "an audit of frames");
 }
 
 /// Recorded, written, read and audited; then gone on with.
