@@ -20,6 +20,12 @@ export const COMMITTED = 3;
 export const BROKE_IN = 4;
 export const STEP_REFUSED = 14;
 
+/** Why a frame ended: all steps were made, nothing is left in hand, there is no room for a further commit. */
+export const FRAME_MADE = 0;
+export const FRAME_IDLE = 1;
+export const FRAME_REFUSED = 2;
+export const FRAME_FULL = 3;
+
 /** The kinds of a recorded call. */
 export const CALL_ARRIVE = 0;
 export const CALL_STEP = 1;
@@ -29,7 +35,7 @@ const WORDS = [
     "accepted", "short table", "blank", "long sheet", "torn", "wrong tag", "wrong length", "crowded", "off the scale",
     "too deep", "doubled", "unknown name", "circle", "overlong", "foreign", "no such event", "full hand", "spent",
     "no such behaviour", "settling", "no parameters", "no formula", "large number", "short buffer", "no player",
-    "no right", "unlike ranks", "short join", "strange hand",
+    "no right", "unlike ranks", "short join", "strange hand", "dependent", "leak",
 ];
 
 /** The word of a refusal's number. */
@@ -50,7 +56,8 @@ export class Refusal extends Error {
 // What each call takes: r a buffer that it reads, w one that it writes, n a number of 32 bits, q one of 64.
 const TAKES = {
     compile: "rrw", circle: "rrw", start: "rw", arrive: "rwnn", step: "rw", told: "q", board: "rrnn", forecast: "rr",
-    preview: "rrnnn", mend: "rrw", formula: "rw", join: "rrrw", replay: "rwrw",
+    preview: "rrnnn", mend: "rrw", formula: "rw", join: "rrrw", replay: "rwrw", version: "", event_count: "r",
+    behaviour_count: "r", event_rank: "rn", frame: "rwnw", agree: "rr", leak: "rrn",
 };
 
 const PAGE = 65536;
@@ -167,6 +174,37 @@ class Engine {
         return { number, event, circle: [...list.subarray(0, Number(answer >> 16n))] };
     }
 
+    /** Whether phones always agree: compile's number or 0; with 29 two events and a behaviour that they share. */
+    agree(sheet, params = NONE) {
+        const answer = this.call("agree", sheet, params);
+        const [number, first, second, behaviour] = bytesOf(answer);
+        return number === 29 ? { number, events: [first, second], behaviour } : { number };
+    }
+
+    /** Whether a player can learn of what is hidden: compile's number, 24 or 0; with 30 one seen and one hidden. */
+    leak(sheet, params = NONE, player = HOST) {
+        const [number, seen, hidden] = bytesOf(this.call("leak", sheet, params, player));
+        return number === 30 ? { number, seen, hidden } : { number };
+    }
+
+    /** { interface, layout } of the module. */
+    version() {
+        const both = Number(this.call("version"));
+        return { interface: both >>> 16, layout: both & 0xffff };
+    }
+
+    eventCount(table) {
+        return this.#worth("event_count", table);
+    }
+
+    behaviourCount(table) {
+        return this.#worth("behaviour_count", table);
+    }
+
+    eventRank(table, event) {
+        return this.#worth("event_rank", table, event);
+    }
+
     /** A fresh round. */
     start(table) {
         const round = new Uint8Array(ROUND);
@@ -183,6 +221,16 @@ class Engine {
         const did = stepOf(this.call("step", table, round));
         if (did.kind === STEP_REFUSED) throw new Refusal("step", STEP_REFUSED);
         return did;
+    }
+
+    /** At most so many steps, and at most `most` commits: { steps, commits, end }, a commit being as step gives it. */
+    frame(table, round, steps, most = 64) {
+        const room = new Uint8Array(8 * most);
+        const answer = this.call("frame", table, round, steps, room);
+        const end = Number(answer >> 56n);
+        if (end === FRAME_REFUSED) throw new Refusal("frame", STEP_REFUSED);
+        const commits = answers(room, Number((answer >> 32n) & 0xffffffn)).map(stepOf);
+        return { steps: Number(answer & 0xffffffffn), commits, end };
     }
 
     /** A step as the other players are told of it: without the mark that the event ran over. */
@@ -222,11 +270,19 @@ class Engine {
 
     /** Makes recorded calls one after the other: their answers, as BigInts. */
     replay(table, round, calls) {
-        const answers = new Uint8Array(8 * Math.floor(calls.length / 6));
-        const made = Number(this.call("replay", table, round, calls, answers));
-        const view = new DataView(answers.buffer);
-        return Array.from({ length: made }, (_, k) => view.getBigUint64(8 * k));
+        const room = new Uint8Array(8 * Math.floor(calls.length / 6));
+        return answers(room, Number(this.call("replay", table, round, calls, room)));
     }
+}
+
+function bytesOf(answer) {
+    return [0n, 8n, 16n, 24n].map((n) => Number((answer >> n) & 0xffn));
+}
+
+// the first answers in a buffer, eight bytes each
+function answers(room, count) {
+    const view = new DataView(room.buffer);
+    return Array.from({ length: count }, (_, k) => view.getBigUint64(8 * k));
 }
 
 function whole(name, n) {

@@ -147,6 +147,37 @@ const calls = [lib.recorded(CALL_ARRIVE, 0), ...steps, lib.recorded(CALL_BOARD, 
 const answers = engine.replay(again.table, again.round, new Uint8Array(calls.flat()));
 assert.deepEqual([answers.length, lib.stepOf(answers[18]).kind, answers[19]], [20, COMMITTED, (1n << 32n) + 2n]);
 
+// What the module may not export yet is left out.
+const exported = WebAssembly.Module.exports(new WebAssembly.Module(readFileSync(join(folder, "engine.wasm"))));
+const has = (name) => exported.some((e) => e.name === `engine_${name}`);
+if (has("frame")) {
+    const f = new Play(S);
+    engine.arrive(f.table, f.round, 0);
+    engine.arrive(f.table, f.round, 1);
+    assert.deepEqual(engine.frame(f.table, f.round, 5), { steps: 5, commits: [], end: lib.FRAME_MADE });
+    const one = engine.frame(f.table, f.round, 100, 1);
+    assert.deepEqual([one.steps, one.commits[0].event, one.end], [4, 1, lib.FRAME_FULL]);
+    const rest = engine.frame(f.table, f.round, 100);
+    assert.deepEqual([rest.steps, rest.commits.length, rest.end], [18, 1, lib.FRAME_IDLE]);
+    refused(14, () => engine.frame(new Uint8Array(10), f.round, 1));
+}
+if (has("event_count")) {
+    assert.deepEqual([engine.eventCount(s.table), engine.behaviourCount(s.table), engine.eventRank(s.table, 1)], [2, 2, 2]);
+    refused(15, () => engine.eventRank(s.table, 2));
+}
+if (has("version")) assert.deepEqual(engine.version(), { interface: lib.VERSION, layout: lib.LAYOUT });
+if (has("agree")) {
+    assert.deepEqual([engine.agree(S).number, engine.agree(S).events.sort()], [29, [0, 1]]);
+    assert.deepEqual(engine.agree(sheet(passive("1"))), { number: 0 });
+}
+if (has("leak")) {
+    const secret = sheet(active(7), field(2, ...engine.formula("b0"), ...field(8, 255)));
+    assert.deepEqual(engine.leak(secret, undefined, 1), { number: 0 });
+    const told = sheet(field(3, ...field(4, ...word(7)), ...field(8, 2)), passive("b0"));
+    assert.deepEqual(engine.leak(told, undefined, 2), { number: 30, seen: 1, hidden: 0 });
+    assert.deepEqual(engine.leak(told, undefined, 8), { number: 24 });
+}
+
 // A rest day, foreign bytes, wrong arguments.
 assert.deepEqual(new Play(new Uint8Array(0)).board(), []);
 refused(14, () => engine.step(new Uint8Array(10), again.round));

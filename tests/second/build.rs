@@ -1,8 +1,10 @@
-// The proved engine's static library, made by `rt staticlib engine`.
+//! Compares the calls that the released archive has: the crate's build script names them.
 fn main() {
-    let root = std::path::Path::new(env!("CARGO_MANIFEST_DIR")).join("../..");
-    let lib = root.join("target/staticlib");
-    println!("cargo:rustc-link-search=native={}", lib.display());
-    println!("cargo:rustc-link-lib=static=engine");
-    println!("cargo:rerun-if-changed={}", lib.join("libengine.a").display());
+    let calls = std::env::var("DEP_ENGINE_CALLS").unwrap_or_default();
+    for call in ["engine_version", "engine_counts", "engine_frame", "engine_agree", "engine_leak"] {
+        println!("cargo:rustc-check-cfg=cfg({call})");
+        if calls.split(',').any(|own| own == call) {
+            println!("cargo:rustc-cfg={call}");
+        }
+    }
 }

@@ -52,6 +52,18 @@ CALL(mend, BUFFER(0), BUFFER(1), BUFFER(2))
 CALL(formula, BUFFER(0), BUFFER(1))
 CALL(join, BUFFER(0), BUFFER(1), BUFFER(2), BUFFER(3))
 CALL(replay, BUFFER(0), BUFFER(1), BUFFER(2), BUFFER(3))
+CALL(event_count, BUFFER(0))
+CALL(behaviour_count, BUFFER(0))
+CALL(event_rank, BUFFER(0), NUMBER(0))
+CALL(frame, BUFFER(0), BUFFER(1), NUMBER(0), BUFFER(2))
+CALL(agree, BUFFER(0), BUFFER(1))
+CALL(leak, BUFFER(0), BUFFER(1), NUMBER(0))
+
+static uint64_t make_version(const struct lent *b, const uint64_t *n)
+{
+    (void)b, (void)n;
+    return engine_version();
+}
 
 static const struct {
     const char *name;
@@ -60,7 +72,9 @@ static const struct {
     {"compile", make_compile}, {"circle", make_circle}, {"start", make_start}, {"arrive", make_arrive},
     {"step", make_step}, {"told", make_told}, {"board", make_board}, {"forecast", make_forecast},
     {"preview", make_preview}, {"mend", make_mend}, {"formula", make_formula}, {"join", make_join},
-    {"replay", make_replay},
+    {"replay", make_replay}, {"version", make_version}, {"event_count", make_event_count},
+    {"behaviour_count", make_behaviour_count}, {"event_rank", make_event_rank}, {"frame", make_frame},
+    {"agree", make_agree}, {"leak", make_leak},
 };
 
 static struct call {
@@ -146,24 +160,36 @@ static void resize(struct slot *s, size_t len)
     s->len = len;
 }
 
+/* A word of the list of calls, up to a space or the line's end. */
+static void read_word(char *word, size_t room)
+{
+    size_t n = 0;
+
+    while (n + 1 < room && at < end && *at != ' ' && *at != '\n')
+        word[n++] = (char)*at++;
+    word[n] = 0;
+    take(1);
+}
+
 /* The names and signatures on top of the record. */
 static void read_calls(void)
 {
     size_t i;
 
-    for (known = 0; *at != '\n'; known++) {
-        if (known == sizeof calls / sizeof *calls || sscanf((const char *)at, "%31s %15s", calls[known].name,
-                                                            calls[known].takes) != 2)
-            fail("no list of calls");
-        while (*at++ != '\n')
-            ;
+    for (known = 0; at < end && *at != '\n'; known++) {
+        struct call *c = calls + known;
+
+        if (known == sizeof calls / sizeof *calls)
+            fail("too many kinds of calls");
+        read_word(c->name, sizeof c->name);
+        read_word(c->takes, sizeof c->takes);
         for (i = 0; i < sizeof makers / sizeof *makers; i++)
-            if (strcmp(makers[i].name, calls[known].name) == 0)
-                calls[known].make = makers[i].make;
-        if (!calls[known].make)
-            fail("this program does not know %s", calls[known].name);
+            if (strcmp(makers[i].name, c->name) == 0)
+                c->make = makers[i].make;
+        if (!c->make)
+            fail("this program does not know %s", c->name);
     }
-    at++;
+    take(1);
 }
 
 /* ---- a call on a stack of its own */

@@ -583,6 +583,7 @@ pub fn run() {
     crate::formula::limits();
     circles();
     crate::pool::limits();
+    crate::agree::limits();
     spent();
-    println!("limits: every refusal of compile, both sides of each limit, forecasts, quotients, marks, a rest day, parameters, rights in sheets, rows, players, changes of sheets, previews, formulas, circles, joins, 1,000,000 arrivals");
+    println!("limits: every refusal of compile, both sides of each limit, forecasts, quotients, marks, a rest day, parameters, rights in sheets, rows, players, changes of sheets, previews, formulas, circles, joins, agreement, leaks, 1,000,000 arrivals");
 }

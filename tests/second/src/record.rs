@@ -32,6 +32,20 @@ const CALLS: &[(&str, &str)] = &[
     ("formula", "rw"),
     ("join", "rrrw"),
     ("replay", "rwrw"),
+    #[cfg(engine_version)]
+    ("version", ""),
+    #[cfg(engine_counts)]
+    ("event_count", "r"),
+    #[cfg(engine_counts)]
+    ("behaviour_count", "r"),
+    #[cfg(engine_counts)]
+    ("event_rank", "rn"),
+    #[cfg(engine_frame)]
+    ("frame", "rwnw"),
+    #[cfg(engine_agree)]
+    ("agree", "rr"),
+    #[cfg(engine_leak)]
+    ("leak", "rrn"),
 ];
 
 /// Buffers by what they hold.
@@ -46,7 +60,8 @@ const TEXT: usize = 7;
 const BUFFER: usize = 8;
 const LISTED: usize = 9;
 const ANSWERS: usize = 10;
-const SLOTS: usize = 11;
+const COMMITS: usize = 11;
+const SLOTS: usize = 12;
 
 #[derive(Clone, Copy)]
 enum Arg {
@@ -150,12 +165,51 @@ impl Record {
         }
         self.calls += 1;
         self.tally[k][0] += 1;
-        let number = !matches!(name, "step" | "told" | "replay") && (1..1 << 32).contains(&answer);
-        self.tally[k][1] += (number || name == "step" && answer == 14) as usize;
+        let number = match name {
+            "told" | "replay" | "version" | "frame" => false,
+            "step" => answer == 14,
+            "circle" | "agree" | "leak" => answer % 256 != 0,
+            _ => (1..1 << 32).contains(&answer),
+        };
+        self.tally[k][1] += number as usize;
         answer
     }
 
+    /// The call where the archive has it.
+    fn ask(&mut self, name: &str, args: &[Arg]) {
+        if CALLS.iter().any(|(known, _)| *known == name) {
+            self.call(name, args);
+        }
+    }
+
     // ---- what is recorded of a seed
+
+    /// What a table tells of itself, and what a version.
+    fn counts(&mut self, r: &mut Rng, lent: Arg) {
+        self.ask("version", &[]);
+        self.ask("event_count", &[lent]);
+        self.ask("behaviour_count", &[lent]);
+        self.ask("event_rank", &[lent, Number(r.below(5) as u32)]);
+        self.ask("event_rank", &[lent, Number(r.next() as u32)]);
+    }
+
+    /// Frames of any number of steps, with room for any number of commits; arrivals between them.
+    fn frames(&mut self, r: &mut Rng, sheet: &Sheet) {
+        self.fresh(r);
+        let on = [Whole(TABLES), Whole(ROUNDS)];
+        for _ in 0..12 {
+            for _ in 0..r.below(5) {
+                let e = r.below(sheet.ranks.len() + 1) as u32;
+                self.call("arrive", &[on[0], on[1], Number(e), Number(make::player(r) % 8)]);
+            }
+            self.fill(COMMITS, r.below(50), 0x3C);
+            let steps = [r.below(4), r.below(60), r.below(4000)][r.below(3)] as u32;
+            self.ask("frame", &[on[0], on[1], Number(steps), Whole(COMMITS)]);
+            self.keep(COMMITS);
+        }
+        self.ask("frame", &[Part(TABLES, r.below(TABLE)), on[1], Number(9), Whole(COMMITS)]);
+        self.keep(ROUNDS);
+    }
 
     /// A list of calls on the table and the round, a forecast and at times a preview after each.
     fn list(&mut self, r: &mut Rng, sheet: &Sheet, n: usize) {
@@ -245,7 +299,11 @@ impl Record {
             }
         }
         self.list(r, sheet, 30);
+        self.counts(r, Whole(TABLES));
+        self.fill(COMMITS, 40, 0x3C);
+        self.ask("frame", &[Whole(TABLES), Whole(ROUNDS), Number(500), Whole(COMMITS)]);
         let (t, l) = (Part(TABLES, r.below(TABLE + 1)), Part(ROUNDS, r.below(ROUND + 1)));
+        self.counts(r, t);
         self.call("start", &[t, Whole(ROUNDS)]);
         self.call("start", &[Whole(TABLES), l]);
         self.call("step", &[Whole(TABLES), l]);
@@ -316,6 +374,8 @@ impl Record {
             self.fill(TABLES, TABLE, 0);
             self.fill(BUFFER, 8192, 0);
             self.call("circle", &[Whole(SHEET), Whole(PARAMS), Whole(LIST)]);
+            self.ask("agree", &[Whole(SHEET), Whole(PARAMS)]);
+            self.ask("leak", &[Whole(SHEET), Whole(PARAMS), Number(1)]);
             self.call("join", &[Whole(SHEET), Part(SHEET, 0), Whole(PARAMS), Whole(BUFFER)]);
             self.call("compile", &[Whole(SHEET), Whole(PARAMS), Whole(TABLES)]);
             self.keep(LIST);
@@ -333,6 +393,8 @@ impl Record {
             self.call("step", &on);
         }
         self.call("preview", &[on[0], on[1], Number(0), Number(0), Number(0)]);
+        self.fill(COMMITS, 80, 0);
+        self.ask("frame", &[on[0], on[1], Number(3000), Whole(COMMITS)]);
         self.copy(NEXT, TABLES);
         self.call("mend", &[Whole(TABLES), Whole(NEXT), Whole(ROUNDS)]);
         self.keep(ROUNDS);
@@ -353,10 +415,16 @@ impl Record {
         self.call("circle", &[Whole(SHEET), Whole(PARAMS), Part(LIST, 60 + r.below(11))]);
         self.call("circle", &[Whole(SHEET), Whole(PARAMS), Whole(LIST)]);
         self.keep(LIST);
+        self.ask("agree", &[Whole(SHEET), Whole(PARAMS)]);
+        for player in 0..9 {
+            self.ask("leak", &[Whole(SHEET), Whole(PARAMS), Number(player)]);
+        }
         self.call("compile", &[Whole(SHEET), Whole(PARAMS), Part(TABLES, TABLE - 1 - r.below(9))]);
         self.call("compile", &[Whole(SHEET), Whole(PARAMS), Whole(TABLES)]);
         self.keep(TABLES);
         let Ok(sheet) = engine::compile(&bytes, &self.slots[PARAMS]) else { return };
+        self.counts(r, Whole(TABLES));
+        self.frames(r, &sheet);
         self.fresh(r);
         let n = if r.one_in(20) { 3000 } else { 300 };
         self.list(r, &sheet, n);
@@ -387,6 +455,23 @@ fn made(name: &str, r: &[&[u8]], w: &mut [&mut [u8]], n: &[u64]) -> u64 {
             let (round, answers) = w.split_at_mut(1);
             proved::replay(r[0], round[0], r[1], answers[0]) as u64
         }
+        #[cfg(engine_version)]
+        "version" => proved::version() as u64,
+        #[cfg(engine_counts)]
+        "event_count" => proved::event_count(r[0]),
+        #[cfg(engine_counts)]
+        "behaviour_count" => proved::behaviour_count(r[0]),
+        #[cfg(engine_counts)]
+        "event_rank" => proved::event_rank(r[0], word(0)),
+        #[cfg(engine_frame)]
+        "frame" => {
+            let (round, commits) = w.split_at_mut(1);
+            proved::frame(r[0], round[0], word(0), commits[0])
+        }
+        #[cfg(engine_agree)]
+        "agree" => proved::agree(r[0], r[1]),
+        #[cfg(engine_leak)]
+        "leak" => proved::leak(r[0], r[1], word(0)),
         _ => unreachable!("{name}"),
     }
 }
