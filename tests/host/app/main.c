@@ -1,5 +1,6 @@
 /* A match of two players, played in frames of a few steps: rights, a look ahead, a bonus sheet that joins in mid-round,
  * a save and a load, a mended sheet, and an audit. Prints what happens. */
+#include <stdio.h>
 #include <stdlib.h>
 
 #include "match.h"
@@ -153,10 +154,10 @@ static void save_and_load(struct match *m, const char *path)
     settle(m);
 }
 
-/* The record is made again; then one answer in it is changed, as a cheat would. */
+/* The record is played again; then one answer in it is changed, as a cheat would. */
 static void settle_dispute(struct match *m)
 {
-    uint8_t *byte = m->legs[0].heard.bytes + ENGINE_ANSWER - 1;
+    uint8_t *byte = m->asked.bytes + m->asked.len - 1;
 
     printf("audit: %s\n", match_word(match_audit(m)));
     *byte ^= 1;
@@ -168,7 +169,7 @@ int main(int argc, char **argv)
 {
     static struct match m;
     static struct sheet day, bonus, both;
-    const char *path = argc > 1 ? argv[1] : "match.save";
+    const char *save = argc > 1 ? argv[1] : "match.save", *rounds = argc > 2 ? argv[2] : "match.rounds";
 
     puzzle(&day);
     stop_if(match_open(&m, &day, no_params), "the day's puzzle");
@@ -187,8 +188,11 @@ int main(int argc, char **argv)
     send(&m, TURN, 1);
     stop_if(match_mend(&m, &both, no_params), "joining the league");
     printf("the league's bonus joins in\n");
-    save_and_load(&m, path);
     send(&m, BONUS, 1);
+    sheet_begin(&bonus);
+    sheet_event(&bonus, 1, EVERYBODY);
+    printf("a sheet without the event in hand: %s\n", match_word(match_mend(&m, &bonus, no_params)));
+    save_and_load(&m, save);
     send(&m, BONUS, 1);
     settle(&m);
     show(&m, 2);
@@ -201,6 +205,7 @@ int main(int argc, char **argv)
     settle(&m);
     show(&m, 2);
     settle_dispute(&m);
+    stop_if(match_export(&m, "final, table 3", rounds), "export");
     match_close(&m);
     return 0;
 }

@@ -1,9 +1,10 @@
 #include "match.h"
 
+#include <stdio.h>
 #include <stdlib.h>
 #include <string.h>
 
-#define COMMITS 64 /* told of in one frame call; further ones come with the next */
+#define COMMITS 64u /* told of in one frame call; further ones come with the next */
 
 const char *match_word(uint32_t number)
 {
@@ -16,66 +17,108 @@ const char *match_word(uint32_t number)
     }
 }
 
-/* ---- what is called and heard */
+/* ---- bytes */
 
-/* Room for so many more bytes, or NULL. */
-static uint8_t *more(struct log *l, size_t n)
+/* Appends a big-endian number of so many bytes; 0 where there is no memory. */
+static int put(struct log *l, uint64_t number, size_t bytes)
 {
-    if (l->room - l->len < n) {
-        size_t room = 2 * l->room + n;
-        uint8_t *bytes = (uint8_t *)realloc(l->bytes, room);
+    if (l->room - l->len < bytes) {
+        size_t room = 2 * l->room + 64;
+        uint8_t *grown = (uint8_t *)realloc(l->bytes, room);
 
-        if (!bytes)
-            return NULL;
-        l->bytes = bytes;
+        if (!grown)
+            return 0;
+        l->bytes = grown;
         l->room = room;
     }
-    l->len += n;
-    return l->bytes + l->len - n;
+    while (bytes-- > 0)
+        l->bytes[l->len++] = (uint8_t)(number >> 8 * bytes);
+    return 1;
 }
 
-static uint32_t called(struct leg *g, uint8_t kind, uint32_t number, uint32_t player)
+static int put_all(struct log *l, const uint8_t *bytes, size_t n)
 {
-    uint8_t *at = more(&g->calls, ENGINE_CALL);
+    size_t i;
 
-    if (!at)
+    for (i = 0; i < n; i++)
+        if (!put(l, bytes[i], 1))
+            return 0;
+    return 1;
+}
+
+/* What is left to be read. */
+struct reader {
+    const uint8_t *at;
+    size_t left;
+    int torn; /* more was asked for than there is */
+};
+
+static const uint8_t *take(struct reader *r, size_t n)
+{
+    const uint8_t *at = r->at;
+
+    if (n > r->left) {
+        r->torn = 1;
+        return NULL;
+    }
+    r->at += n;
+    r->left -= n;
+    return at;
+}
+
+static uint64_t get(struct reader *r, size_t bytes)
+{
+    const uint8_t *at = take(r, bytes);
+    uint64_t number = 0;
+
+    while (at && bytes-- > 0)
+        number = number << 8 | *at++;
+    return number;
+}
+
+/* ---- the record: a call's kind, what it was asked with, its answer */
+
+enum { ASKED_ARRIVE = 0, ASKED_BOARD = 2, ASKED_MEND = 5, ASKED_FRAME = 6 };
+
+/* An arrival, a board reading or a frame. */
+static uint32_t record(struct match *m, unsigned kind, uint32_t first, uint32_t second, uint64_t answer)
+{
+    struct log *l = &m->asked;
+    int kept = put(l, kind, 1) && put(l, first, 4) && put(l, second, 4) && put(l, answer, 8);
+
+    return kept ? 0 : (uint32_t)MATCH_NO_MEMORY;
+}
+
+static uint32_t record_mend(struct match *m, size_t which, uint32_t answer)
+{
+    struct log *l = &m->asked;
+    int kept = put(l, ASKED_MEND, 1) && put(l, which, 2) && put(l, answer, 8);
+
+    return kept ? 0 : (uint32_t)MATCH_NO_MEMORY;
+}
+
+static uint32_t add_sheet(struct match *m, const struct sheet *sheet, const uint8_t params[ENGINE_PARAMS])
+{
+    struct played *sheets = (struct played *)realloc(m->sheets, (m->count + 1) * sizeof *sheets);
+
+    if (!sheets)
         return MATCH_NO_MEMORY;
-    engine_call_put(at, 0, kind, number, (uint8_t)(player < ENGINE_PLAYERS ? player : 0xFF));
-    return 0;
-}
-
-static uint32_t heard(struct leg *g, uint64_t answer)
-{
-    uint8_t *at = more(&g->heard, ENGINE_ANSWER);
-    int i;
-
-    if (!at)
-        return MATCH_NO_MEMORY;
-    for (i = ENGINE_ANSWER - 1; i >= 0; i--, answer >>= 8)
-        at[i] = (uint8_t)answer;
-    return 0;
-}
-
-static struct leg *last(const struct match *m)
-{
-    return m->legs + m->count - 1;
-}
-
-static uint32_t add_leg(struct match *m, const struct sheet *sheet, const uint8_t params[ENGINE_PARAMS])
-{
-    struct leg *legs = (struct leg *)realloc(m->legs, (m->count + 1) * sizeof *legs);
-
-    if (!legs)
-        return MATCH_NO_MEMORY;
-    m->legs = legs;
-    memset(legs + m->count, 0, sizeof *legs);
-    legs[m->count].sheet = *sheet;
-    memcpy(legs[m->count].params, params, ENGINE_PARAMS);
+    m->sheets = sheets;
+    sheets[m->count].sheet = *sheet;
+    memcpy(sheets[m->count].params, params, ENGINE_PARAMS);
     m->count++;
     return 0;
 }
 
 /* ---- playing */
+
+static void empty(struct match *m)
+{
+    m->sheets = NULL;
+    m->count = m->in_force = 0;
+    m->asked.bytes = NULL;
+    m->asked.len = m->asked.room = 0;
+}
 
 static uint32_t compiled(const struct sheet *s, const uint8_t params[ENGINE_PARAMS], uint8_t table[ENGINE_TABLE])
 {
@@ -88,46 +131,33 @@ uint32_t match_open(struct match *m, const struct sheet *sheet, const uint8_t pa
 {
     uint32_t refusal;
 
-    m->legs = NULL;
-    m->count = 0;
+    empty(m);
     refusal = compiled(sheet, params, m->table);
     if (refusal == 0)
         refusal = engine_start(m->table, sizeof m->table, m->round, sizeof m->round);
-    return refusal ? refusal : add_leg(m, sheet, params);
+    return refusal ? refusal : add_sheet(m, sheet, params);
 }
 
 void match_close(struct match *m)
 {
-    while (m->count > 0) {
-        m->count--;
-        free(m->legs[m->count].calls.bytes);
-        free(m->legs[m->count].heard.bytes);
-    }
-    free(m->legs);
-    m->legs = NULL;
+    free(m->sheets);
+    free(m->asked.bytes);
+    empty(m);
 }
 
-/* A call is written down before it is made: a record that cannot be kept stops the match, not the other way round. */
 uint32_t match_send(struct match *m, uint32_t event, uint32_t player)
 {
-    uint32_t answer, kept = called(last(m), ENGINE_CALL_ARRIVE, event, player);
+    uint32_t answer = engine_arrive(m->table, sizeof m->table, m->round, sizeof m->round, event, player);
+    uint32_t kept = record(m, ASKED_ARRIVE, event, player, answer);
 
-    if (kept)
-        return kept;
-    answer = engine_arrive(m->table, sizeof m->table, m->round, sizeof m->round, event, player);
-    kept = heard(last(m), answer);
     return answer ? answer : kept;
 }
 
 uint32_t match_read(struct match *m, uint32_t behaviour, uint32_t player, int32_t *value)
 {
-    uint32_t kept = called(last(m), ENGINE_CALL_BOARD, behaviour, player);
-    uint64_t answer;
+    uint64_t answer = engine_board(m->table, sizeof m->table, m->round, sizeof m->round, behaviour, player);
+    uint32_t kept = record(m, ASKED_BOARD, behaviour, player, answer);
 
-    if (kept)
-        return kept;
-    answer = engine_board(m->table, sizeof m->table, m->round, sizeof m->round, behaviour, player);
-    kept = heard(last(m), answer);
     if (engine_board_refused(answer))
         return engine_board_refusal(answer);
     *value = engine_board_value(answer);
@@ -137,241 +167,258 @@ uint32_t match_read(struct match *m, uint32_t behaviour, uint32_t player, int32_
 uint32_t match_frame(struct match *m, uint32_t steps, void (*commit)(void *app, uint64_t answer), void *app, int *idle)
 {
     uint8_t commits[COMMITS * ENGINE_ANSWER];
-    uint32_t kept = 0, k;
+    uint32_t kept, k;
     uint64_t f;
 
-    *idle = 0;
     do {
         f = engine_frame(m->table, sizeof m->table, m->round, sizeof m->round, steps, commits, sizeof commits);
-        for (k = 0; k < engine_frame_steps(f) && kept == 0; k++)
-            kept = called(last(m), ENGINE_CALL_STEP, 0, ENGINE_HOST);
-        for (k = 0; k < engine_frame_commits(f) && kept == 0; k++) {
-            uint64_t answer = engine_answer_get(commits, k);
-
-            kept = heard(last(m), answer);
-            commit(app, answer);
-        }
+        kept = record(m, ASKED_FRAME, steps, COMMITS, f);
+        if (kept == 0 && !put_all(&m->asked, commits, engine_frame_commits(f) * ENGINE_ANSWER))
+            kept = MATCH_NO_MEMORY;
+        for (k = 0; k < engine_frame_commits(f); k++)
+            commit(app, engine_answer_get(commits, k));
         steps -= engine_frame_steps(f);
     } while (engine_frame_end(f) == ENGINE_FRAME_FULL && kept == 0);
     *idle = engine_frame_end(f) == ENGINE_FRAME_IDLE;
     return engine_frame_end(f) == ENGINE_FRAME_REFUSED ? (uint32_t)ENGINE_FOREIGN : kept;
 }
 
+/* The round goes on under another sheet, if the engine lets it. */
+static uint32_t change(struct match *m, const uint8_t *table)
+{
+    uint32_t refusal = engine_mend(m->table, sizeof m->table, table, ENGINE_TABLE, m->round, sizeof m->round);
+    uint32_t kept = record_mend(m, m->count - 1, refusal);
+
+    if (refusal)
+        return refusal;
+    memcpy(m->table, table, sizeof m->table);
+    m->in_force = m->count - 1;
+    return kept;
+}
+
 uint32_t match_mend(struct match *m, const struct sheet *sheet, const uint8_t params[ENGINE_PARAMS])
 {
     uint8_t *table = (uint8_t *)malloc(ENGINE_TABLE);
-    uint32_t refusal;
+    uint32_t refusal = table ? compiled(sheet, params, table) : (uint32_t)MATCH_NO_MEMORY;
 
-    if (!table)
-        return MATCH_NO_MEMORY;
-    refusal = compiled(sheet, params, table);
     if (refusal == 0)
-        refusal = engine_mend(m->table, sizeof m->table, table, ENGINE_TABLE, m->round, sizeof m->round);
-    if (refusal == 0) {
-        memcpy(m->table, table, ENGINE_TABLE);
-        refusal = add_leg(m, sheet, params);
-    }
+        refusal = add_sheet(m, sheet, params);
+    if (refusal == 0)
+        refusal = change(m, table);
     free(table);
     return refusal;
 }
 
 /* ---- the audit */
 
-/* What the app was told when these answers were given: not of steps that commit nothing. */
-static int same_heard(const struct leg *g, const uint8_t *answers)
+struct audit {
+    const struct match *m;
+    struct reader asked;
+    uint8_t table[ENGINE_TABLE], other[ENGINE_TABLE], round[ENGINE_ROUND];
+};
+
+/* A frame's commits must be those that stand behind its answer. */
+static int same_frame(struct audit *a, uint32_t steps, uint32_t room, uint64_t answer)
 {
-    size_t k, n = g->calls.len / ENGINE_CALL, told = 0;
+    uint8_t commits[COMMITS * ENGINE_ANSWER];
+    size_t n = engine_frame_commits(answer) * ENGINE_ANSWER;
+    const uint8_t *told = take(&a->asked, n);
 
-    for (k = 0; k < n; k++) {
-        uint64_t answer = engine_answer_get(answers, k);
-        int step = g->calls.bytes[k * ENGINE_CALL] == ENGINE_CALL_STEP;
-
-        if (step && engine_step_kind(answer) != ENGINE_COMMITTED)
-            continue;
-        if (told == g->heard.len / ENGINE_ANSWER || engine_answer_get(g->heard.bytes, told) != answer)
-            return 0;
-        told++;
-    }
-    return told == g->heard.len / ENGINE_ANSWER;
+    return room == COMMITS && told && n <= sizeof commits
+        && engine_frame(a->table, sizeof a->table, a->round, sizeof a->round, steps, commits, sizeof commits) == answer
+        && memcmp(told, commits, n) == 0;
 }
 
-static uint32_t audit_leg(const struct leg *g, const uint8_t *table, uint8_t *round)
+static int same_mend(struct audit *a, size_t which, uint64_t answer)
 {
-    size_t n = g->calls.len / ENGINE_CALL, room = n * ENGINE_ANSWER;
-    uint8_t *answers = (uint8_t *)malloc(room + 1);
-    uint32_t differs;
+    const struct played *p = a->m->sheets + which;
 
-    if (!answers)
-        return MATCH_NO_MEMORY;
-    differs = engine_replay(table, ENGINE_TABLE, round, ENGINE_ROUND, g->calls.bytes, g->calls.len, answers, room) != n
-        || !same_heard(g, answers);
-    free(answers);
-    return differs ? (uint32_t)MATCH_DIFFERS : 0;
+    if (which >= a->m->count || compiled(&p->sheet, p->params, a->other) != 0
+        || engine_mend(a->table, sizeof a->table, a->other, sizeof a->other, a->round, sizeof a->round) != answer)
+        return 0;
+    if (answer == 0)
+        memcpy(a->table, a->other, sizeof a->table);
+    return 1;
+}
+
+/* Asks the next call of the record again. */
+static int same_call(struct audit *a)
+{
+    uint64_t kind = get(&a->asked, 1), first = get(&a->asked, kind == ASKED_MEND ? 2 : 4);
+    uint32_t number = (uint32_t)first, player = kind == ASKED_MEND ? 0 : (uint32_t)get(&a->asked, 4);
+    uint64_t answer = get(&a->asked, 8);
+
+    if (a->asked.torn)
+        return 0;
+    switch (kind) {
+    case ASKED_ARRIVE:
+        return engine_arrive(a->table, sizeof a->table, a->round, sizeof a->round, number, player) == answer;
+    case ASKED_BOARD:
+        return engine_board(a->table, sizeof a->table, a->round, sizeof a->round, number, player) == answer;
+    case ASKED_FRAME: return same_frame(a, number, player, answer);
+    case ASKED_MEND: return same_mend(a, number, answer);
+    default: return 0;
+    }
 }
 
 uint32_t match_audit(const struct match *m)
 {
-    uint8_t *tables[2], round[ENGINE_ROUND];
+    struct audit *a = (struct audit *)malloc(sizeof *a);
     uint32_t result = MATCH_NO_MEMORY;
-    size_t k;
 
-    tables[0] = (uint8_t *)malloc(ENGINE_TABLE);
-    tables[1] = (uint8_t *)malloc(ENGINE_TABLE);
-    if (tables[0] && tables[1])
-        for (result = 0, k = 0; k < m->count && result == 0; k++) {
-            uint8_t *table = tables[k % 2], *old = tables[(k + 1) % 2];
-
-            result = compiled(&m->legs[k].sheet, m->legs[k].params, table);
-            if (result == 0)
-                result = k == 0 ? engine_start(table, ENGINE_TABLE, round, sizeof round)
-                                : engine_mend(old, ENGINE_TABLE, table, ENGINE_TABLE, round, sizeof round);
-            if (result == 0)
-                result = audit_leg(m->legs + k, table, round);
-        }
-    free(tables[0]);
-    free(tables[1]);
-    if (result == 0 && memcmp(round, m->round, sizeof round) != 0)
-        result = MATCH_DIFFERS;
+    if (a) {
+        a->m = m;
+        a->asked.at = m->asked.bytes;
+        a->asked.left = m->asked.len;
+        a->asked.torn = 0;
+        result = compiled(&m->sheets[0].sheet, m->sheets[0].params, a->table);
+        if (result == 0)
+            result = engine_start(a->table, sizeof a->table, a->round, sizeof a->round);
+        while (result == 0 && a->asked.left > 0)
+            if (!same_call(a))
+                result = MATCH_DIFFERS;
+        if (result == 0 && (memcmp(a->round, m->round, sizeof m->round) || memcmp(a->table, m->table, sizeof m->table)))
+            result = MATCH_DIFFERS;
+    }
+    free(a);
     return result;
 }
 
-/* ---- saving: a version, the round and the legs. The table is compiled again from the last sheet. */
+/* ---- files */
 
-static const char magic[4] = {'M', 'T', 'C', 'H'};
-#define SAVED_VERSION (ENGINE_VERSION << 16 | ENGINE_LAYOUT)
+#define VERSION (ENGINE_VERSION << 16 | ENGINE_LAYOUT)
 
-static int put_number(FILE *f, size_t n)
+/* The sheets and the calls, as the league's format has them. */
+static int put_record(struct log *l, const struct match *m)
 {
-    uint8_t b[4];
+    size_t k;
+    int ok = put(l, m->count, 2);
 
-    b[0] = (uint8_t)(n >> 24);
-    b[1] = (uint8_t)(n >> 16);
-    b[2] = (uint8_t)(n >> 8);
-    b[3] = (uint8_t)n;
-    return fwrite(b, 1, sizeof b, f) == sizeof b;
+    for (k = 0; k < m->count && ok; k++) {
+        const struct played *p = m->sheets + k;
+
+        ok = put(l, 1, 1) && put_all(l, p->params, sizeof p->params) && put(l, p->sheet.len, 4)
+            && put_all(l, p->sheet.bytes, p->sheet.len);
+    }
+    return ok && put_all(l, m->asked.bytes, m->asked.len);
 }
 
-static int put_bytes(FILE *f, const uint8_t *bytes, size_t n)
-{
-    return put_number(f, n) && (n == 0 || fwrite(bytes, 1, n, f) == n);
-}
-
-uint32_t match_save(const struct match *m, const char *path)
+static uint32_t write_file(const char *path, const struct log *l)
 {
     FILE *f = fopen(path, "wb");
-    size_t k;
-    int ok;
+    int ok = f && fwrite(l->bytes, 1, l->len, f) == l->len;
 
-    if (!f)
-        return MATCH_FILE;
-    ok = fwrite(magic, 1, sizeof magic, f) == sizeof magic && put_number(f, SAVED_VERSION)
-        && put_bytes(f, m->round, sizeof m->round) && put_number(f, m->count);
-    for (k = 0; k < m->count && ok; k++) {
-        const struct leg *g = m->legs + k;
-
-        ok = put_bytes(f, g->sheet.bytes, g->sheet.len) && put_bytes(f, g->params, sizeof g->params)
-            && put_bytes(f, g->calls.bytes, g->calls.len) && put_bytes(f, g->heard.bytes, g->heard.len);
-    }
-    return fclose(f) == 0 && ok ? 0 : (uint32_t)MATCH_FILE;
+    if (f && fclose(f) != 0)
+        ok = 0;
+    return ok ? 0 : (uint32_t)MATCH_FILE;
 }
 
-/* What is left of a file that was read. */
-struct reader {
-    const uint8_t *at;
-    size_t left;
-};
-
-static const uint8_t *take(struct reader *r, size_t n)
+/* The app's own file: a version, the round, which sheet is in force, the record. */
+uint32_t match_save(const struct match *m, const char *path)
 {
-    const uint8_t *at = r->at;
+    struct log l = {NULL, 0, 0};
+    uint32_t result = MATCH_NO_MEMORY;
 
-    if (n > r->left)
-        return NULL;
-    r->at += n;
-    r->left -= n;
-    return at;
+    if (put(&l, VERSION, 4) && put_all(&l, m->round, sizeof m->round) && put(&l, m->in_force, 2) && put_record(&l, m))
+        result = write_file(path, &l);
+    free(l.bytes);
+    return result;
 }
 
-static int get_number(struct reader *r, size_t *n)
+static int get_sheet(struct reader *r, struct match *m)
 {
-    const uint8_t *b = take(r, 4);
+    struct sheet s;
+    const uint8_t *params, *bytes;
 
-    if (b)
-        *n = (size_t)b[0] << 24 | (size_t)b[1] << 16 | (size_t)b[2] << 8 | b[3];
-    return b != NULL;
+    sheet_begin(&s);
+    get(r, 1);
+    params = take(r, ENGINE_PARAMS);
+    s.len = (size_t)get(r, 4);
+    if (!params || s.len > sizeof s.bytes || !(bytes = take(r, s.len)))
+        return 0;
+    memcpy(s.bytes, bytes, s.len);
+    return add_sheet(m, &s, params) == 0;
 }
 
-/* So many bytes as the number before them says, at most `most`. */
-static int get_bytes(struct reader *r, uint8_t *to, size_t most, size_t *n)
-{
-    const uint8_t *from = get_number(r, n) && *n <= most ? take(r, *n) : NULL;
-
-    if (from)
-        memcpy(to, from, *n);
-    return from != NULL;
-}
-
-static int get_log(struct reader *r, struct log *l)
-{
-    size_t n;
-    const uint8_t *from = get_number(r, &n) ? take(r, n) : NULL;
-    uint8_t *to = from ? more(l, n) : NULL;
-
-    if (to && n > 0)
-        memcpy(to, from, n);
-    return from != NULL && (to || n == 0);
-}
-
-static int get_leg(struct reader *r, struct match *m)
-{
-    struct sheet sheet;
-    uint8_t params[ENGINE_PARAMS];
-    size_t n;
-
-    sheet_begin(&sheet);
-    return get_bytes(r, sheet.bytes, sizeof sheet.bytes, &sheet.len)
-        && get_bytes(r, params, sizeof params, &n) && n == sizeof params && add_leg(m, &sheet, params) == 0
-        && get_log(r, &last(m)->calls) && get_log(r, &last(m)->heard);
-}
-
-/* The match in a file's bytes, its table compiled. */
+/* The match in a file's bytes, with the table of the sheet in force. */
 static uint32_t parse(struct reader *r, struct match *m)
 {
-    const uint8_t *head = take(r, sizeof magic);
-    size_t version, n, count;
+    uint64_t version = get(r, 4), count;
+    const uint8_t *round = take(r, ENGINE_ROUND);
+    const struct played *p;
 
-    if (!head || memcmp(head, magic, sizeof magic) != 0 || !get_number(r, &version))
-        return MATCH_FILE;
-    if (version != SAVED_VERSION)
-        return MATCH_OTHER_VERSION;
-    if (!get_bytes(r, m->round, sizeof m->round, &n) || n != sizeof m->round || !get_number(r, &count) || count == 0)
-        return MATCH_FILE;
-    while (count-- > 0)
-        if (!get_leg(r, m))
+    if (!round || version != VERSION)
+        return round ? (uint32_t)MATCH_OTHER_VERSION : (uint32_t)MATCH_FILE;
+    memcpy(m->round, round, ENGINE_ROUND);
+    m->in_force = (size_t)get(r, 2);
+    for (count = get(r, 2); count > 0; count--)
+        if (!get_sheet(r, m))
             return MATCH_FILE;
-    return r->left > 0 ? (uint32_t)MATCH_FILE : compiled(&last(m)->sheet, last(m)->params, m->table);
+    if (m->in_force >= m->count || !put_all(&m->asked, r->at, r->left))
+        return MATCH_FILE;
+    p = m->sheets + m->in_force;
+    return compiled(&p->sheet, p->params, m->table);
 }
 
-/* A file that anybody may have changed: what it says is held to its own record. */
-uint32_t match_load(struct match *m, const char *path)
+static uint8_t *read_file(const char *path, size_t *n)
 {
     FILE *f = fopen(path, "rb");
     uint8_t *bytes = NULL;
-    struct reader r;
-    long n = -1;
+    long size = -1;
+
+    if (f && fseek(f, 0, SEEK_END) == 0 && (size = ftell(f)) > 0 && fseek(f, 0, SEEK_SET) == 0)
+        bytes = (uint8_t *)malloc((size_t)size);
+    if (bytes && fread(bytes, 1, (size_t)size, f) != (size_t)size) {
+        free(bytes);
+        bytes = NULL;
+    }
+    if (f)
+        fclose(f);
+    *n = bytes ? (size_t)size : 0;
+    return bytes;
+}
+
+/* Anybody may have changed the file, so what it says is held to its record. */
+uint32_t match_load(struct match *m, const char *path)
+{
+    struct reader r = {NULL, 0, 0};
+    uint8_t *bytes = read_file(path, &r.left);
     uint32_t result = MATCH_FILE;
 
-    m->legs = NULL;
-    m->count = 0;
-    if (f && fseek(f, 0, SEEK_END) == 0 && (n = ftell(f)) > 0 && fseek(f, 0, SEEK_SET) == 0)
-        bytes = (uint8_t *)malloc((size_t)n);
-    if (bytes && fread(bytes, 1, (size_t)n, f) == (size_t)n) {
+    empty(m);
+    if (bytes) {
         r.at = bytes;
-        r.left = (size_t)n;
         result = parse(&r, m);
     }
     free(bytes);
-    if (f)
-        fclose(f);
     return result ? result : match_audit(m);
+}
+
+/* CRC-32 as zip and PNG have it. */
+static uint32_t sum(const uint8_t *bytes, size_t n)
+{
+    uint32_t s = 0xFFFFFFFF;
+    int bit;
+
+    while (n-- > 0)
+        for (s ^= *bytes++, bit = 0; bit < 8; bit++)
+            s = s >> 1 ^ (s & 1 ? 0xEDB88320 : 0);
+    return ~s;
+}
+
+uint32_t match_export(const struct match *m, const char *name, const char *path)
+{
+    static const char top[] = "engine rounds 1\n";
+    struct log l = {NULL, 0, 0}, body = {NULL, 0, 0};
+    size_t n = strlen(name);
+    uint32_t result = MATCH_NO_MEMORY;
+
+    if (put(&body, VERSION, 4) && put(&body, n, 2) && put_all(&body, (const uint8_t *)name, n) && put_record(&body, m)
+        && put_all(&l, (const uint8_t *)top, sizeof top - 1) && put(&l, 0xF5524E44, 4) && put(&l, body.len, 4)
+        && put(&l, sum(body.bytes, body.len), 4) && put(&l, sum(l.bytes + sizeof top - 1, 12), 4)
+        && put_all(&l, body.bytes, body.len))
+        result = write_file(path, &l);
+    free(l.bytes);
+    free(body.bytes);
+    return result;
 }

@@ -1,9 +1,7 @@
 /* A match: a round of the engine with all that an app keeps beside it. It is played in frames, saved to a file, gone on
- * with, and audited: the record of what was called is made again from the sheets, and must come to the same. */
+ * with, and audited: what was asked of the engine is asked again, from the sheets on, and must come to the same. */
 #ifndef MATCH_H
 #define MATCH_H
-
-#include <stdio.h>
 
 #include "engine.h"
 #include "sheet.h"
@@ -14,19 +12,17 @@ struct log {
     size_t len, room;
 };
 
-/* A stretch of the match under one sheet: what was called, and what the app was told of it. A change of sheets begins
- * another, since a record for engine_replay holds no changes. */
-struct leg {
+/* A sheet that the match was played with. */
+struct played {
     struct sheet sheet;
     uint8_t params[ENGINE_PARAMS];
-    struct log calls;   /* six bytes each, as engine_replay reads them */
-    struct log heard;   /* eight bytes each: the answers to arrivals and readings, and every commit */
 };
 
 struct match {
     uint8_t table[ENGINE_TABLE], round[ENGINE_ROUND];
-    struct leg *legs;
-    size_t count;
+    struct played *sheets; /* the first, and those that it was or was not changed to */
+    size_t count, in_force;
+    struct log asked;      /* each call with its answer, as the league's audit reads them */
 };
 
 /* Numbers below 64 are the engine's refusals. */
@@ -34,7 +30,7 @@ enum { MATCH_NO_MEMORY = 64, MATCH_FILE = 65, MATCH_OTHER_VERSION = 66, MATCH_DI
 
 const char *match_word(uint32_t number);
 
-/* Each answers 0, or why not. A match that was opened or loaded is to be closed. */
+/* Each answers 0, or why not. What was opened or loaded, also in vain, is to be closed. */
 uint32_t match_open(struct match *m, const struct sheet *sheet, const uint8_t params[ENGINE_PARAMS]);
 void match_close(struct match *m);
 uint32_t match_send(struct match *m, uint32_t event, uint32_t player);
@@ -44,11 +40,15 @@ uint32_t match_mend(struct match *m, const struct sheet *sheet, const uint8_t pa
 /* One frame: at most so many steps. Calls commit(app, answer) for each commit; idle tells whether nothing is left. */
 uint32_t match_frame(struct match *m, uint32_t steps, void (*commit)(void *app, uint64_t answer), void *app, int *idle);
 
+/* To a file of the app's own, and back: the match goes on where it was. A file that comes to something else than its
+ * record says is turned down. */
 uint32_t match_save(const struct match *m, const char *path);
 uint32_t match_load(struct match *m, const char *path);
 
-/* Makes all recorded calls again, from a fresh round on: MATCH_DIFFERS where anything that was heard, or a byte of the
- * round, is another. */
+/* Asks all again, from a fresh round on: MATCH_DIFFERS where an answer or a byte of the round is another. */
 uint32_t match_audit(const struct match *m);
+
+/* Writes the record as a file of one round for the league's audit program, whose format bindings/rust has. */
+uint32_t match_export(const struct match *m, const char *name, const char *path);
 
 #endif
