@@ -12,6 +12,8 @@ ghost use Rattle.run_mend.specs.Mending.{mendOn};
 ghost use Rattle.run_step.specs.Machine.{stepOn};
 ghost use Rattle.run_forecast.specs.Forecast.{forecastOn};
 ghost use Rattle.run_preview.specs.Preview.{previewOn};
+ghost use Rattle.run_counts.specs.Counts.{versionNumber, eventCountOn, behaviourCountOn, eventRankOn};
+ghost use Rattle.run_frame.specs.Frame.{framed, frameOn};
 ghost use Rattle.text_formula.specs.Answer.{answered, formulaOn};
 ghost use Rattle.link_join.specs.Join.{joined, joinOn};
 ghost use Rattle.refine_calls.specs.Refinement.{toldOn, callOn, answersOn, roundAfter};
@@ -203,4 +205,54 @@ pub extern "C" fn replay(table: &[u8], round: &mut [u8], calls: &[u8], answers: 
         i += 1;
     }
     n
+}
+
+// ---- what a host asks of the library and of a table
+
+// The version of these calls times 65,536, and that of the layout of table and round.
+#[no_mangle]
+pub extern "C" fn version() -> u32
+    ensures { λ r. ⌜ r ≡ versionNumber ⌝ }
+{
+    run_counts::version_of()
+}
+
+// How many events a table's program declares: 2 ^ 32 and their number; or 14.
+#[no_mangle]
+pub extern "C" fn event_count(table: &[u8]) -> u64
+    ensures { λ r. ⌜ r ≡ eventCountOn (now (table .entry)) ⌝ }
+    ensures { λ _. ⌜ now (table .exit) ≡ now (table .entry) ⌝ }
+{
+    run_counts::events_of(table)
+}
+
+// How many behaviours it has: 2 ^ 32 and their number; or 14.
+#[no_mangle]
+pub extern "C" fn behaviour_count(table: &[u8]) -> u64
+    ensures { λ r. ⌜ r ≡ behaviourCountOn (now (table .entry)) ⌝ }
+    ensures { λ _. ⌜ now (table .exit) ≡ now (table .entry) ⌝ }
+{
+    run_counts::behaviours_of(table)
+}
+
+// An event's rank: 2 ^ 32 and the rank; or 14, 15.
+#[no_mangle]
+pub extern "C" fn event_rank(table: &[u8], event: u32) -> u64
+    ensures { λ r. ⌜ r ≡ eventRankOn (now (table .entry)) event ⌝ }
+    ensures { λ _. ⌜ now (table .exit) ≡ now (table .entry) ⌝ }
+{
+    run_counts::rank_of(table, event)
+}
+
+// ---- a frame
+
+// Up to so many steps, the answer of each that commits written to `commits`, eight bytes each. Bits 0 to 31: the steps
+// made; 32 to 55: the commits written; 56 to 63: why it ended: 0 all made, 1 the next is idle, 2 the next is refused by
+// 14, 3 no room for a further commit.
+#[no_mangle]
+pub extern "C" fn frame(table: &[u8], round: &mut [u8], steps: u32, commits: &mut [u8]) -> u64
+    ensures { λ r. ⌜ framed r (now (round .exit)) (now (commits .exit)) ≡ frameOn (now (table .entry)) (now (round .entry)) steps (now (commits .entry)) ⌝ }
+    ensures { λ _. ⌜ now (table .exit) ≡ now (table .entry) ⌝ }
+{
+    run_frame::frame_at(&*table, round, steps, commits)
 }

@@ -7,6 +7,10 @@ ghost use Rattle.lib_word.specs.Word.{get};
 ghost use Rattle.format_layout.specs.Layout.{eventWord, eventOf, playerOf, codeFits, codesFit, tableWith, tableFits};
 ghost use Rattle.format_layout.specs.Bounds.{TableBounds};
 
+pub mod operations;
+pub mod round;
+pub mod table;
+
 // Word k of event e's record in the table: 0 priority, 1 start of the code, 2 its length, 3 members of C.
 pub fn event_word(t: &[u8], e: u32, k: usize) -> u32
     requires { ⌜ (34816 ≤ length (now t)) × (k < 4) ⌝ }

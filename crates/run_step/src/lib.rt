@@ -10,6 +10,8 @@ ghost use Rattle.run_queue.specs.Queue.{best};
 ghost use Rattle.run_dispatch.specs.Dispatch.{startAt};
 ghost use Rattle.run_step.specs.Machine.{meet, contest, running, resting, stepWith, stepIn, stepOn};
 
+const FOREIGN: u64 = spec_language::refusals::FOREIGN as u64;
+
 // Slot b is the next, of priority q; one of priority p runs, masked or not.
 fn meet_on(t: &[u8], l: &mut [u8], b: usize, m: bool, p: u32, q: u32) -> u64
     requires { ⌜ Bounds (now t) (now l) × (get (now l) 2 ≢ 0) × (b < 64) ⌝ }
@@ -106,5 +108,5 @@ pub fn step_at(t: &[u8], l: &mut [u8]) -> u64
     if run_validate::is_ours(t, l) {
         return step_in(t, l);
     }
-    14
+    FOREIGN
 }

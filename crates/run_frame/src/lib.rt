@@ -1,0 +1,94 @@
+// A frame: up to as many steps as are asked for in one call, each commit's answer written to a lent buffer.
+ghost use mathlib.Core.Path.{_≡_};
+ghost use Prim.Native.Nat.{_+_, _*_, _≤_, _<_};
+ghost use lib.ListN.{length};
+ghost use Rattle.run_frame.specs.Frame.{roomFor, frameSaid, putAnswer, countAfter, commitsAfter, framed, frameOn};
+
+// Why a frame ended: all steps made, nothing to do, a step refused, no room for a further commit.
+pub const ALL_MADE: u64 = 0;
+
+pub const IDLE: u64 = 1;
+
+pub const REFUSED: u64 = 2;
+
+pub const NO_ROOM: u64 = 3;
+// What stands above the steps made, and above the commits written.
+const STEPS: u64 = 4294967296;
+
+const COMMITS: u64 = 72057594037927936;
+// The commits that an answer has room to count, and the bytes of each.
+const MOST_COMMITS: usize = 16777215;
+
+const COMMIT_BYTES: usize = 8;
+// A word's values, and the kinds of a step's answer.
+const WORDS: u64 = 4294967296;
+
+const KINDS: u64 = 16;
+
+const FOREIGN: u64 = spec_language::refusals::FOREIGN as u64;
+
+// The answer of a frame.
+fn said_of(why: u64, made: u32, written: u32) -> u64
+    requires { ⌜ (why < 4) × (written < 16777216) ⌝ }
+    ensures { λ r. ⌜ r ≡ frameSaid why made written ⌝ }
+{
+    why * COMMITS + (written as u64) * STEPS + (made as u64)
+}
+
+// How many commits so many bytes have room for.
+fn room_of(bytes: usize) -> u32
+    ensures { λ r. ⌜ r ≡ roomFor bytes ⌝ }
+    ensures { λ r. ⌜ (r < 16777216) × (r * 8 ≤ bytes) ⌝ }
+{
+    if bytes / COMMIT_BYTES < MOST_COMMITS {
+        return (bytes / COMMIT_BYTES) as u32;
+    }
+    MOST_COMMITS as u32
+}
+
+// An answer at place n, in two words.
+fn put_answer(commits: &mut [u8], n: usize, answer: u64)
+    requires { ⌜ (n * 8 + 8 ≤ length (now commits)) × (n < 16777216) ⌝ }
+    ensures { λ _. ⌜ now (commits .exit) ≡ putAnswer (now (commits .entry)) n answer ⌝ }
+{
+    lib_word::put_word(commits, n * 2, (answer / WORDS) as u32);
+    lib_word::put_word(commits, n * 2 + 1, (answer % WORDS) as u32);
+}
+
+// A step's answer after n commits: a commit's is written, any other leaves the buffer. The commits written then.
+fn note(commits: &mut [u8], n: u32, answer: u64) -> u32
+    requires { ⌜ (n * 8 + 8 ≤ length (now commits)) × (n < 16777215) ⌝ }
+    ensures { λ r. ⌜ r ≡ countAfter answer n ⌝ }
+    ensures { λ _. ⌜ now (commits .exit) ≡ commitsAfter answer n (now (commits .entry)) ⌝ }
+{
+    if answer % KINDS == spec_language::answers::COMMITTED {
+        put_answer(commits, n as usize, answer);
+        return n + 1;
+    }
+    n
+}
+
+// Up to so many steps, until one is idle or refused or there is no room for a further commit: how many were made, the
+// commits written, and why it ended.
+pub fn frame_at(table: &[u8], round: &mut [u8], steps: u32, commits: &mut [u8]) -> u64
+    ensures { λ r. ⌜ framed r (now (round .exit)) (now (commits .exit)) ≡ frameOn (now (table .entry)) (now (round .entry)) steps (now (commits .entry)) ⌝ }
+{
+    let room = room_of(commits.len());
+    let mut made = 0;
+    let mut written = 0;
+    while made < steps {
+        if room <= written {
+            return said_of(NO_ROOM, made, written);
+        }
+        let answer = run_step::step_at(&*table, round);
+        if answer == spec_language::answers::IDLE {
+            return said_of(IDLE, made, written);
+        }
+        if answer == FOREIGN {
+            return said_of(REFUSED, made, written);
+        }
+        written = note(commits, written, answer);
+        made += 1;
+    }
+    said_of(ALL_MADE, made, written)
+}
