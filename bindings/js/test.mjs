@@ -147,25 +147,23 @@ const calls = [lib.recorded(CALL_ARRIVE, 0), ...steps, lib.recorded(CALL_BOARD, 
 const answers = engine.replay(again.table, again.round, new Uint8Array(calls.flat()));
 assert.deepEqual([answers.length, lib.stepOf(answers[18]).kind, answers[19]], [20, COMMITTED, (1n << 32n) + 2n]);
 
+// Frames, counts, ranks, the version.
+const framed = new Play(S);
+engine.arrive(framed.table, framed.round, 0);
+engine.arrive(framed.table, framed.round, 1);
+assert.deepEqual(engine.frame(framed.table, framed.round, 5), { steps: 5, commits: [], end: lib.FRAME_MADE });
+const one = engine.frame(framed.table, framed.round, 100, 1);
+assert.deepEqual([one.steps, one.commits[0].event, one.end], [4, 1, lib.FRAME_FULL]);
+const rest = engine.frame(framed.table, framed.round, 100);
+assert.deepEqual([rest.steps, rest.commits.length, rest.end], [18, 1, lib.FRAME_IDLE]);
+refused(14, () => engine.frame(new Uint8Array(10), framed.round, 1));
+assert.deepEqual([engine.eventCount(s.table), engine.behaviourCount(s.table), engine.eventRank(s.table, 1)], [2, 2, 2]);
+refused(15, () => engine.eventRank(s.table, 2));
+assert.deepEqual(engine.version(), { interface: lib.VERSION, layout: lib.LAYOUT });
+
 // What the module may not export yet is left out.
 const exported = WebAssembly.Module.exports(new WebAssembly.Module(readFileSync(join(folder, "engine.wasm"))));
 const has = (name) => exported.some((e) => e.name === `engine_${name}`);
-if (has("frame")) {
-    const f = new Play(S);
-    engine.arrive(f.table, f.round, 0);
-    engine.arrive(f.table, f.round, 1);
-    assert.deepEqual(engine.frame(f.table, f.round, 5), { steps: 5, commits: [], end: lib.FRAME_MADE });
-    const one = engine.frame(f.table, f.round, 100, 1);
-    assert.deepEqual([one.steps, one.commits[0].event, one.end], [4, 1, lib.FRAME_FULL]);
-    const rest = engine.frame(f.table, f.round, 100);
-    assert.deepEqual([rest.steps, rest.commits.length, rest.end], [18, 1, lib.FRAME_IDLE]);
-    refused(14, () => engine.frame(new Uint8Array(10), f.round, 1));
-}
-if (has("event_count")) {
-    assert.deepEqual([engine.eventCount(s.table), engine.behaviourCount(s.table), engine.eventRank(s.table, 1)], [2, 2, 2]);
-    refused(15, () => engine.eventRank(s.table, 2));
-}
-if (has("version")) assert.deepEqual(engine.version(), { interface: lib.VERSION, layout: lib.LAYOUT });
 if (has("agree")) {
     assert.deepEqual([engine.agree(S).number, engine.agree(S).events.sort()], [29, [0, 1]]);
     assert.deepEqual(engine.agree(sheet(passive("1"))), { number: 0 });
