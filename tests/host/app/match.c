@@ -331,7 +331,8 @@ static int get_sheet(struct reader *r, struct match *m)
     const uint8_t *params, *bytes;
 
     sheet_begin(&s);
-    get(r, 1);
+    if (get(r, 1) != 1)
+        return 0;
     params = take(r, ENGINE_PARAMS);
     s.len = (size_t)get(r, 4);
     if (!params || s.len > sizeof s.bytes || !(bytes = take(r, s.len)))
