@@ -119,7 +119,8 @@ static inline uint32_t engine_circle_length(uint64_t answer) { return (uint32_t)
 
 /* Whether two phones that take in the same events in the same order always end with the same board: compile's number,
  * as with a full table; 0 where every two events of unequal rank are independent, so that they do; else 29 with two
- * events of unequal rank and a behaviour that one writes and the other reads or writes. */
+ * events of unequal rank and a behaviour that one writes and the other reads or writes: the least first event, then the
+ * least second, then the least behaviour. */
 uint64_t engine_agree(const uint8_t *sheet, size_t sheet_len, const uint8_t *params, size_t params_len);
 
 static inline uint32_t engine_agree_number(uint64_t answer) { return (uint32_t)(answer & 0xFF); }
@@ -128,8 +129,8 @@ static inline uint32_t engine_agree_second(uint64_t answer) { return (uint32_t)(
 static inline uint32_t engine_agree_behaviour(uint64_t answer) { return (uint32_t)(answer >> 24 & 0xFF); }
 
 /* Whether a player can learn of what is hidden from it: compile's number, as with a full table; 24; 0 where no
- * behaviour that the player sees depends on a hidden one; else 30 with one that it sees and a hidden one that this
- * names. */
+ * behaviour that the player sees depends on a hidden one; else 30 with the least that it sees and that names a hidden
+ * one, and the least hidden one that this names. */
 uint64_t engine_leak(const uint8_t *sheet, size_t sheet_len, const uint8_t *params, size_t params_len, uint32_t player);
 
 static inline uint32_t engine_leak_number(uint64_t answer) { return (uint32_t)(answer & 0xFF); }

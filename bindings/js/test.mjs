@@ -161,20 +161,14 @@ assert.deepEqual([engine.eventCount(s.table), engine.behaviourCount(s.table), en
 refused(15, () => engine.eventRank(s.table, 2));
 assert.deepEqual(engine.version(), { interface: lib.VERSION, layout: lib.LAYOUT });
 
-// What the module may not export yet is left out.
-const exported = WebAssembly.Module.exports(new WebAssembly.Module(readFileSync(join(folder, "engine.wasm"))));
-const has = (name) => exported.some((e) => e.name === `engine_${name}`);
-if (has("agree")) {
-    assert.deepEqual([engine.agree(S).number, engine.agree(S).events.sort()], [29, [0, 1]]);
-    assert.deepEqual(engine.agree(sheet(passive("1"))), { number: 0 });
-}
-if (has("leak")) {
-    const secret = sheet(active(7), field(2, ...engine.formula("b0"), ...field(8, 255)));
-    assert.deepEqual(engine.leak(secret, undefined, 1), { number: 0 });
-    const told = sheet(field(3, ...field(4, ...word(7)), ...field(8, 2)), passive("b0"));
-    assert.deepEqual(engine.leak(told, undefined, 2), { number: 30, seen: 1, hidden: 0 });
-    assert.deepEqual(engine.leak(told, undefined, 8), { number: 24 });
-}
+// Whether phones agree on a sheet, and whether a hidden value leaks.
+assert.deepEqual(engine.agree(S), { number: 29, events: [0, 1], behaviour: 1 });
+assert.deepEqual(engine.agree(sheet(passive("1"))), { number: 0 });
+assert.deepEqual(engine.agree(new Uint8Array([1])), { number: 4 });
+const secret = sheet(field(3, ...field(4, ...word(7)), ...field(8, 2)), passive("b0"));
+assert.deepEqual(engine.leak(secret, undefined, 2), { number: 30, seen: 1, hidden: 0 });
+assert.deepEqual(engine.leak(secret, undefined, 1), { number: 0 });
+assert.deepEqual(engine.leak(secret, undefined, 8), { number: 24 });
 
 // A rest day, foreign bytes, wrong arguments.
 assert.deepEqual(new Play(new Uint8Array(0)).board(), []);

@@ -34,7 +34,7 @@ static const struct {
 } want[] = {
     {"arrive", 3, 2, 1, 0}, {"forecast", 2, 1, 1, 0}, {"preview", 1, 1, 0, 3}, {"circle", 1, 1, 0, 1},
     {"compile", 1, 1, 0, 0}, {"step", 1, 1, 0, 0}, {"board", 1, 1, 0, 1}, {"formula", 1, 1, 0, 15},
-    {"join", 1, 1, 0, 84}, {"version", 1, 1, 0, 0},
+    {"join", 1, 1, 0, 84}, {"version", 1, 1, 0, 0}, {"agree", 1, 1, 0, 1},
 };
 
 static void before(uint8_t *round)

@@ -324,6 +324,28 @@ static void pool_sheets(void)
            "one byte too few");
 }
 
+/* Whether phones always agree on a sheet, and whether a player can learn of what is hidden from it. */
+static void judge_sheets(void)
+{
+    /* b0 = init 7, for player 1 to see; b1 = b0 */
+    static const uint8_t secret[] = {
+        0x03, 0, 11, 0x04, 0, 4, 0, 0, 0, 7, 0x08, 0, 1, 2,
+        0x02, 0, 4, 0x11, 0, 1, 0,
+    };
+    uint64_t a = engine_agree(S, sizeof S, NULL, 0);
+
+    expect(engine_agree_number(a) == ENGINE_DEPENDENT, "phones may disagree on S");
+    expect(engine_agree_first(a) == 0 && engine_agree_second(a) == 1, "since its events have unequal ranks");
+    expect(engine_agree_behaviour(a) == 1, "and share b1");
+    expect(engine_agree(top, sizeof top, NULL, 0) == 0, "with one event they agree");
+    expect(engine_agree(S, 1, NULL, 0) == ENGINE_TORN, "compile's number");
+    a = engine_leak(secret, sizeof secret, NULL, 0, 2);
+    expect(engine_leak_number(a) == ENGINE_LEAK && engine_leak_seen(a) == 1, "player 2 sees b1");
+    expect(engine_leak_hidden(a) == 0, "which names b0");
+    expect(engine_leak(secret, sizeof secret, NULL, 0, 1) == 0, "player 1 sees both");
+    expect(engine_leak(secret, sizeof secret, NULL, 0, ENGINE_PLAYERS) == ENGINE_NO_PLAYER, "there is no player 8");
+}
+
 /* What the getters make of answers, and a table that is none. */
 static void read_answers(void)
 {
@@ -380,6 +402,7 @@ static void lend_nothing(void)
     expect(engine_join(NULL, 0, NULL, 0, NULL, 0, NULL, 0) == UINT64_C(1) << 32, "two sheets of no bytes make one");
     expect(engine_replay(NULL, 0, NULL, 0, NULL, 0, NULL, 0) == 0, "no calls");
     expect(engine_event_count(NULL, 0) == ENGINE_FOREIGN, "event_count");
+    expect(engine_agree(NULL, 0, NULL, 0) == 0 && engine_leak(NULL, 0, NULL, 0, 1) == 0, "agree and leak");
     expect(engine_frame_end(engine_frame(TABLE, ROUND, 5, NULL, 0)) == ENGINE_FRAME_FULL, "no room for a commit");
 }
 
@@ -457,6 +480,7 @@ int main(void)
     write_formulas();
     show_circle();
     pool_sheets();
+    judge_sheets();
     read_answers();
     lend_nothing();
     frames();

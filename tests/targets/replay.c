@@ -29,10 +29,6 @@ struct lent {
     size_t len;
 };
 
-/* not in every archive yet; the record has no call that its own archive lacks */
-#pragma weak engine_agree
-#pragma weak engine_leak
-
 /* One for each call: the buffers and the numbers in their order. */
 typedef uint64_t maker(const struct lent *b, const uint64_t *n);
 #define BUFFER(k) b[k].at, b[k].len

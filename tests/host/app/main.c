@@ -140,6 +140,19 @@ static void describe(const struct match *m)
     putchar('\n');
 }
 
+/* Before a sheet is played: whether the phones will agree, and whether player 2 can learn of what it may not see. */
+static void judge(const struct sheet *s)
+{
+    uint64_t a = engine_agree(s->bytes, s->len, no_params, sizeof no_params);
+    uint64_t l = engine_leak(s->bytes, s->len, no_params, sizeof no_params, 2);
+
+    if (engine_agree_number(a) == ENGINE_DEPENDENT)
+        printf("phones may disagree: events %u and %u differ in rank and share b%u\n", (unsigned)engine_agree_first(a),
+               (unsigned)engine_agree_second(a), (unsigned)engine_agree_behaviour(a));
+    if (engine_leak_number(l) == 0)
+        printf("nothing that is hidden from player 2 leaks to it\n");
+}
+
 /* Saved while an event runs, closed, and gone on with. */
 static void save_and_load(struct match *m, const char *path)
 {
@@ -174,6 +187,7 @@ int main(int argc, char **argv)
     puzzle(&day);
     stop_if(match_open(&m, &day, no_params), "the day's puzzle");
     describe(&m);
+    judge(&day);
     send(&m, TURN, 2);
     send(&m, BONUS, 2);
     send(&m, BONUS, 1);
