@@ -1,10 +1,14 @@
-/* The round engine, for C. Link target/staticlib/libengine.a (made by `rt staticlib engine`).
+/* The round engine, for C and C++. `./release` writes the archives and the files for pkg-config and CMake; docs/HOST.md
+ * is the manual.
  *
- * Every call takes numbers and byte buffers only; a buffer is a pointer and its length in bytes. No call keeps a pointer, allocates, or touches
- * anything but the buffers lent to it. Each call's result and every byte it leaves is proved for all bytes and numbers (docs/CLAIMS.md).
+ * Every call takes numbers and byte buffers only; a buffer is a pointer and its length in bytes, and any alignment will
+ * do. A buffer of length 0 may be NULL. No call keeps a pointer, allocates, or touches anything but the buffers lent to
+ * it, so calls on different rounds may run at the same time. Each call's result and every byte that it leaves is proved
+ * for all bytes and numbers (docs/CLAIMS.md).
  *
- * Table: at least ENGINE_TABLE bytes. compile writes it; the other calls only read it. Round: at least ENGINE_ROUND bytes. start makes it fresh.
- * Buffers lent to one call must not overlap. Bytes beyond these sizes are never touched. A refused call changes no byte. The program must not change table or round between calls.
+ * Table: at least ENGINE_TABLE bytes; engine_compile writes it, the other calls only read it. Round: at least
+ * ENGINE_ROUND bytes; engine_start makes it fresh. Buffers lent to one call must not overlap. Bytes beyond these sizes
+ * are never touched. A refused call changes no byte. The program must not change table or round between calls.
  */
 #ifndef ENGINE_H
 #define ENGINE_H
@@ -12,23 +16,43 @@
 #include <stddef.h>
 #include <stdint.h>
 
+#if SIZE_MAX != UINT64_MAX
+#error "the engine's archives are for 64-bit processors"
+#endif
+
 #ifdef __cplusplus
 extern "C" {
 #endif
 
+/* The interface, that is calls, arguments and answers; and the layout of table and round. A saved table or round may be
+ * lent to an engine of the same layout, on any processor. */
+#define ENGINE_VERSION 1u
+#define ENGINE_LAYOUT 1u
+
+#define ENGINE_SHEET 8192u     /* a sheet has at most so many bytes */
+#define ENGINE_PARAMS 32u
 #define ENGINE_TABLE 34816u
 #define ENGINE_ROUND 2048u
-#define ENGINE_PARAMS 32u
+#define ENGINE_TEXT 1024u      /* a formula's text has at most so many */
+#define ENGINE_FIELD 7168u     /* and its field */
+#define ENGINE_CIRCLE_LIST 64u
+#define ENGINE_EVENTS 32u      /* of a sheet, at most */
+#define ENGINE_BEHAVIOURS 64u
+#define ENGINE_HAND 64u        /* arrivals in hand, at most */
+
+/* Up to eight players, 0 to 7, share a round. The host may do everything; the others what the sheet lets them. */
+#define ENGINE_HOST 0u
+#define ENGINE_PLAYERS 8u
 
 /* Why a call was turned down. No call gives 2: a sheet of no bytes is accepted, with no events and no behaviours. */
 enum engine_refusal {
-    ENGINE_SHORT_TABLE = 1,    /* compile: table under 34,816 bytes; circle: list under 64 bytes */
+    ENGINE_SHORT_TABLE = 1,    /* compile: table under 34,816 bytes */
     ENGINE_LONG_SHEET = 3,     /* over 8,192 bytes */
     ENGINE_TORN = 4,           /* under three bytes where a field is due, or a length past its enclosing end */
     ENGINE_WRONG_TAG = 5,      /* a tag not allowed there; an event after a behaviour */
     ENGINE_WRONG_LENGTH = 6,   /* fixed length differs; a due byte is missing; bytes left over */
     ENGINE_CROWDED = 7,        /* 33rd event, 65th behaviour */
-    ENGINE_OFF_THE_SCALE = 8,  /* rank, event, phase, function or parameter byte or a row's cell count not listed or not declared */
+    ENGINE_OFF_THE_SCALE = 8,  /* rank, event, phase, function, parameter or cell count not listed or not declared */
     ENGINE_TOO_DEEP = 9,       /* an expression at nesting 17 */
     ENGINE_DOUBLED = 10,       /* second handler for an event in one behaviour */
     ENGINE_UNKNOWN_NAME = 11,  /* no such behaviour in the sheet */
@@ -48,101 +72,230 @@ enum engine_refusal {
     ENGINE_NO_RIGHT = 25,      /* the player may not send this event, or may not see this behaviour */
     ENGINE_UNLIKE_RANKS = 26,  /* join: the sheets give one event different ranks */
     ENGINE_SHORT_JOIN = 27,    /* join: the buffer is too short for the joined sheet */
-    ENGINE_STRANGE_HAND = 28   /* mend: the hand holds an event that the new sheet does not declare */
+    ENGINE_STRANGE_HAND = 28,  /* mend: the hand holds an event that the new sheet does not declare */
+    ENGINE_DEPENDENT = 29,     /* agree: two events of unequal rank are not independent */
+    ENGINE_LEAK = 30           /* leak: a behaviour that the player sees names one that is hidden from it */
 };
 
-/* Compiles a sheet into the table. 0, or the refusal's number (1, 3 to 13, 20; 20 is checked after 11). Parameters: eight big-endian signed values of 32 bits, ENGINE_PARAMS
- * bytes, parameter n of the sheet standing for the n-th; bytes beyond are not read. A sheet that uses none may be lent none: a pointer to any byte, with length 0. */
-uint32_t compile(const uint8_t *sheet, size_t sheet_len, const uint8_t *params, size_t params_len, uint8_t *table, size_t table_len);
+/* The refusal's word, for a log or a setter's screen; "accepted" for 0, "no refusal" for a number that is none. */
+static inline const char *engine_refusal_word(uint32_t number)
+{
+    static const char *const words[] = {
+        "accepted", "short table", "blank", "long sheet", "torn", "wrong tag", "wrong length", "crowded",
+        "off the scale", "too deep", "doubled", "unknown name", "circle", "overlong", "foreign", "no such event",
+        "full hand", "spent", "no such behaviour", "settling", "no parameters", "no formula", "large number",
+        "short buffer", "no player", "no right", "unlike ranks", "short join", "strange hand", "dependent", "leak"
+    };
+    return number < sizeof words / sizeof *words ? words[number] : "no refusal";
+}
 
-/* Shows why a sheet is turned down with these parameters: compile's number, 0, 3 to 13 or 20, and the list as it was; but for a sheet that compile turns down by 12 a packed answer, and the behaviours of a circle in the first
- * bytes of the list, each depending on the next and the last on the first, the list's other bytes as they were. No circle of fewer behaviours exists under an event or under none. The list has at least
- * ENGINE_CIRCLE_LIST bytes, else 1. */
-uint64_t circle(const uint8_t *sheet, size_t sheet_len, const uint8_t *params, size_t params_len, uint8_t *list, size_t list_len);
+/* The version of the archive that was linked: 65536 * ENGINE_VERSION + ENGINE_LAYOUT. */
+uint32_t engine_version(void);
 
-#define ENGINE_CIRCLE_LIST 64u
+static inline uint32_t engine_version_interface(uint32_t version) { return version >> 16; }
+static inline uint32_t engine_version_layout(uint32_t version) { return version & 0xFFFF; }
+
+/* ---- sheets */
+
+/* Compiles a sheet into the table: 0, or the refusal's number (1, 3 to 13, 20; 20 is checked after 11). Parameters:
+ * eight big-endian signed values of 32 bits, ENGINE_PARAMS bytes, parameter n of the sheet standing for the n-th; bytes
+ * beyond are not read. A sheet that uses none may be lent none. */
+uint32_t engine_compile(const uint8_t *sheet, size_t sheet_len, const uint8_t *params, size_t params_len,
+                        uint8_t *table, size_t table_len);
+
+/* Shows why a sheet is turned down with these parameters: compile's number, as with a full table, and the list as it
+ * was; but for 12 a packed answer, and the behaviours of a circle in the first bytes of the list, each depending on the
+ * next and the last on the first, the list's other bytes as they were. A list that is too short for the circle is left
+ * as it was; ENGINE_CIRCLE_LIST bytes are always enough. No circle of fewer behaviours exists under an event or under
+ * none; it is one under none where one of these is as short. */
+uint64_t engine_circle(const uint8_t *sheet, size_t sheet_len, const uint8_t *params, size_t params_len,
+                       uint8_t *list, size_t list_len);
+
+/* The refusal's number, or 0; for 12 the event that the circle arises under, ENGINE_NO_EVENT for none, and how many
+ * behaviours it has. */
 #define ENGINE_NO_EVENT 255u
-
-/* The refusal's number, or 0; for 12 the event that the circle arises under, ENGINE_NO_EVENT for none, and how many behaviours it has. */
 static inline uint32_t engine_circle_number(uint64_t answer) { return (uint32_t)(answer & 0xFF); }
 static inline uint32_t engine_circle_event(uint64_t answer) { return (uint32_t)(answer >> 8 & 0xFF); }
 static inline uint32_t engine_circle_length(uint64_t answer) { return (uint32_t)(answer >> 16); }
 
-/* Makes the round fresh for the table's sheet; its old bytes are not read. 0, or 14. */
-uint32_t start(const uint8_t *table, size_t table_len, uint8_t *round, size_t round_len);
+/* Whether two phones that take in the same events in the same order always end with the same board: compile's number,
+ * as with a full table; 0 where every two events of unequal rank are independent, so that they do; else 29 with two
+ * events of unequal rank and a behaviour that one writes and the other reads or writes: the least first event, then the
+ * least second, then the least behaviour. */
+uint64_t engine_agree(const uint8_t *sheet, size_t sheet_len, const uint8_t *params, size_t params_len);
 
-/* Up to eight players, 0 to 7, share a round. The host may do everything; the others what the sheet lets them. */
-#define ENGINE_HOST 0u
-#define ENGINE_PLAYERS 8u
+static inline uint32_t engine_agree_number(uint64_t answer) { return (uint32_t)(answer & 0xFF); }
+static inline uint32_t engine_agree_first(uint64_t answer) { return (uint32_t)(answer >> 8 & 0xFF); }
+static inline uint32_t engine_agree_second(uint64_t answer) { return (uint32_t)(answer >> 16 & 0xFF); }
+static inline uint32_t engine_agree_behaviour(uint64_t answer) { return (uint32_t)(answer >> 24 & 0xFF); }
+
+/* Whether a player can learn of what is hidden from it: compile's number, as with a full table; 24; 0 where no
+ * behaviour that the player sees depends on a hidden one; else 30 with the least that it sees and that names a hidden
+ * one, and the least hidden one that this names. */
+uint64_t engine_leak(const uint8_t *sheet, size_t sheet_len, const uint8_t *params, size_t params_len, uint32_t player);
+
+static inline uint32_t engine_leak_number(uint64_t answer) { return (uint32_t)(answer & 0xFF); }
+static inline uint32_t engine_leak_seen(uint64_t answer) { return (uint32_t)(answer >> 8 & 0xFF); }
+static inline uint32_t engine_leak_hidden(uint64_t answer) { return (uint32_t)(answer >> 16 & 0xFF); }
+
+/* A formula, as text of at most 1,024 bytes, becomes one expression field (01's 10, 11 or 12) at the start of the
+ * buffer, whose other bytes stay: 2^32 and the field's length; or 21, then 22, then 9 where the expression nests over
+ * 16 deep, last 23, and the buffer is as it was. The text is not kept. docs/SHEETS.md has the grammar. */
+uint64_t engine_formula(const uint8_t *text, size_t text_len, uint8_t *buffer, size_t buffer_len);
+
+static inline int engine_formula_refused(uint64_t answer) { return answer >> 32 == 0; }
+static inline uint32_t engine_formula_refusal(uint64_t answer) { return answer >> 32 ? 0 : (uint32_t)answer; }
+static inline uint32_t engine_formula_length(uint64_t answer) { return (uint32_t)answer; }
+
+/* Writes one sheet from two accepted ones to the start of the buffer, the buffer's other bytes as they were: 2^32 and
+ * its length, or compile's number of the first sheet, then of the second, both as with a full table, 26, 3, 7, 13 (of
+ * the joined sheet, in this order), 27. Events are shared by number, behaviours of the second follow those of the
+ * first. Parameters are lent as to compile; lend the same to compile for the joined sheet. */
+uint64_t engine_join(const uint8_t *first, size_t first_len, const uint8_t *second, size_t second_len,
+                     const uint8_t *params, size_t params_len, uint8_t *buffer, size_t buffer_len);
+
+static inline int engine_join_refused(uint64_t answer) { return answer >> 32 == 0; }
+static inline uint32_t engine_join_refusal(uint64_t answer) { return answer >> 32 ? 0 : (uint32_t)answer; }
+static inline uint32_t engine_join_length(uint64_t answer) { return (uint32_t)answer; }
+
+/* What a table has: 2^32 and the count of its events, of its behaviours, or 14; 2^32 and an event's rank, or 14, then
+ * 15. */
+uint64_t engine_event_count(const uint8_t *table, size_t table_len);
+uint64_t engine_behaviour_count(const uint8_t *table, size_t table_len);
+uint64_t engine_event_rank(const uint8_t *table, size_t table_len, uint32_t event);
+
+/* Of these three. */
+static inline int engine_count_refused(uint64_t answer) { return answer >> 32 == 0; }
+static inline uint32_t engine_count_refusal(uint64_t answer) { return answer >> 32 ? 0 : (uint32_t)answer; }
+static inline uint32_t engine_count_value(uint64_t answer) { return (uint32_t)answer; }
+
+/* ---- rounds */
+
+/* Makes the round fresh for the table's sheet; its old bytes are not read. 0, or 14. */
+uint32_t engine_start(const uint8_t *table, size_t table_len, uint8_t *round, size_t round_len);
 
 /* An event arrives, sent by a player. 0 where it is taken in, or 14, 24, 15, 25, 16, 17. */
-uint32_t arrive(const uint8_t *table, size_t table_len, uint8_t *round, size_t round_len, uint32_t event, uint32_t player);
+uint32_t engine_arrive(const uint8_t *table, size_t table_len, uint8_t *round, size_t round_len, uint32_t event,
+                       uint32_t player);
 
 /* One step, at most one instruction. The answer is packed, and the host's: */
-uint64_t step(const uint8_t *table, size_t table_len, uint8_t *round, size_t round_len);
+uint64_t engine_step(const uint8_t *table, size_t table_len, uint8_t *round, size_t round_len);
 
-enum engine_step {
-    ENGINE_IDLE = 0,      /* nothing in hand */
-    ENGINE_RAN = 1,       /* one instruction */
-    ENGINE_STARTED = 2,   /* the next starts */
-    ENGINE_COMMITTED = 3, /* one instruction, the last: the event is committed */
-    ENGINE_BROKE_IN = 4   /* the next starts, and the running one goes back to the hand */
-    /* 14: refused, foreign */
+enum engine_step_answer {
+    ENGINE_IDLE = 0,        /* nothing in hand */
+    ENGINE_RAN = 1,         /* one instruction */
+    ENGINE_STARTED = 2,     /* the next starts */
+    ENGINE_COMMITTED = 3,   /* one instruction, the last: the event is committed */
+    ENGINE_BROKE_IN = 4,    /* the next starts, and the running one goes back to the hand */
+    ENGINE_STEP_REFUSED = 14 /* the step was refused, by ENGINE_FOREIGN */
 };
 
-/* With a commit: in the event's meaning some application ran over. Its exact whole-number result was not the 32-bit one, or it divided by zero. */
+/* With a commit: in the event's meaning some application ran over. Its exact whole-number result was not the 32-bit
+ * one, or it divided by zero. */
 #define ENGINE_OVER (UINT64_C(1) << 56)
 
-/* A step's answer as the other players are told it: without ENGINE_OVER. */
-uint64_t told(uint64_t answer);
-
-/* Which of these; for 2, 3 and 4 the player who sent the event, its number and the arrival's; for 3 whether it ran over. */
+/* Which of these; for 2, 3 and 4 the player who sent the event, its number and the arrival's; for 3 whether it ran
+ * over. */
 static inline uint32_t engine_step_kind(uint64_t answer) { return (uint32_t)(answer & 0xF); }
+static inline int engine_step_refused(uint64_t answer) { return engine_step_kind(answer) == ENGINE_STEP_REFUSED; }
 static inline uint32_t engine_step_player(uint64_t answer) { return (uint32_t)(answer >> 4 & 0xF); }
 static inline uint32_t engine_step_event(uint64_t answer) { return (uint32_t)(answer >> 8 & 0xFF); }
 static inline uint32_t engine_step_arrival(uint64_t answer) { return (uint32_t)(answer >> 16 & 0xFFFFFFFF); }
 static inline int engine_step_over(uint64_t answer) { return (answer & ENGINE_OVER) != 0; }
 
+/* A frame: at most so many steps, one after the other. The answers of steps that commit are written to the start of the
+ * buffer, eight bytes each, big-endian, as many as there is room for: engine_answer_get reads them. */
+uint64_t engine_frame(const uint8_t *table, size_t table_len, uint8_t *round, size_t round_len, uint32_t steps,
+                      uint8_t *commits, size_t commits_len);
+
+enum engine_frame_answer {
+    ENGINE_FRAME_MADE = 0,    /* all steps were made */
+    ENGINE_FRAME_IDLE = 1,    /* nothing is left in hand */
+    ENGINE_FRAME_REFUSED = 2, /* a step was refused, by ENGINE_FOREIGN */
+    ENGINE_FRAME_FULL = 3     /* the buffer has no room for a further commit: call again */
+};
+
+/* How many steps were made, how many commits were written, and why it ended. */
+static inline uint32_t engine_frame_steps(uint64_t answer) { return (uint32_t)answer; }
+static inline uint32_t engine_frame_commits(uint64_t answer) { return (uint32_t)(answer >> 32 & 0xFFFFFF); }
+static inline uint32_t engine_frame_end(uint64_t answer) { return (uint32_t)(answer >> 56); }
+
+/* A step's answer as the other players are told it: without ENGINE_OVER. A number that no step answers comes back as
+ * its lowest 56 bits. */
+uint64_t engine_told(uint64_t answer);
+
 /* The value of a behaviour on the board, for a player: 2^32 and the 32-bit word, or 14, 24, 18, 25, 19. */
-uint64_t board(const uint8_t *table, size_t table_len, const uint8_t *round, size_t round_len, uint32_t behaviour, uint32_t player);
+uint64_t engine_board(const uint8_t *table, size_t table_len, const uint8_t *round, size_t round_len,
+                      uint32_t behaviour, uint32_t player);
 
+/* Of board and preview. The word is a two's complement number. */
 static inline int engine_board_refused(uint64_t answer) { return answer >> 32 == 0; }
-static inline int32_t engine_board_value(uint64_t answer) { return (int32_t)(uint32_t)answer; }
+static inline uint32_t engine_board_refusal(uint64_t answer) { return answer >> 32 ? 0 : (uint32_t)answer; }
+static inline int32_t engine_board_value(uint64_t answer)
+{
+    uint32_t word = (uint32_t)answer;
+    return word <= INT32_MAX ? (int32_t)word : -(int32_t)~word - 1;
+}
 
-/* How many steps until idle if no arrival is taken in meanwhile: 2^32 and the number, or 14. With nothing running it is exact: the sum, over the hand, of each event's
- * instructions plus one for its start. While an event runs it is a bound: (k + 1) * (L + 1), k being the number in hand, L the longest event's instructions. */
-uint64_t forecast(const uint8_t *table, size_t table_len, const uint8_t *round, size_t round_len);
+/* How many steps until idle if no arrival is taken in meanwhile: 2^32 and the number, or 14. With nothing running it
+ * is exact: the sum, over the hand, of each event's instructions plus one for its start. While an event runs it is a
+ * bound: (k + 1) * (L + 1), k being the number in hand, L the longest event's instructions. */
+uint64_t engine_forecast(const uint8_t *table, size_t table_len, const uint8_t *round, size_t round_len);
 
 static inline int engine_forecast_refused(uint64_t answer) { return answer >> 32 == 0; }
+static inline uint32_t engine_forecast_refusal(uint64_t answer) { return answer >> 32 ? 0 : (uint32_t)answer; }
 static inline uint32_t engine_forecast_steps(uint64_t answer) { return (uint32_t)answer; }
 
-/* The value that a behaviour would show after this event's arrival and everything in hand had been run to idle: answered as by board, 2^32 and the 32-bit word. It is
- * tried on a copy; the round stays. Refused as the arrival of this player would be, 14, 24, 15, 25, 16, 17, then by 18, then by 25 for the behaviour; last by 14 where a step on the copy is or 01's count of steps runs out.
- * During copy-back it works. */
-uint64_t preview(const uint8_t *table, size_t table_len, const uint8_t *round, size_t round_len, uint32_t event, uint32_t behaviour, uint32_t player);
+/* The value that a behaviour would show after this event's arrival and everything in hand had been run to idle:
+ * answered as by board. It is tried on a copy; the round stays. Refused as the arrival of this player would be, 14, 24,
+ * 15, 25, 16, 17, then by 18, then by 25 for the behaviour; last by 14 where a step on the copy is or 01's count of
+ * steps runs out. During copy-back it works. */
+uint64_t engine_preview(const uint8_t *table, size_t table_len, const uint8_t *round, size_t round_len, uint32_t event,
+                        uint32_t behaviour, uint32_t player);
 
-/* The round goes on under a newly compiled table: 0, or 14, 19 during copy-back, then 28 where the hand holds an event that the new table does not declare. The hand with its players, arrival
- * numbers and the number taken in stay; the running event goes back to the hand. Behaviours that are active in both sheets keep their value, other actives take the new start, passives are worked out anew.
- * From then on lend the new table; the old one is not kept. A refused change leaves the round to its old table. */
-uint32_t mend(const uint8_t *old_table, size_t old_table_len, const uint8_t *table, size_t table_len, uint8_t *round, size_t round_len);
+/* The round goes on under a newly compiled table: 0, or 14, 19 during copy-back, then 28 where the hand holds an event
+ * that the new table does not declare. The hand with its players, arrival numbers and the number taken in stay; the
+ * running event goes back to the hand. Behaviours that are active in both sheets keep their value, other actives take
+ * the new start, passives are worked out anew. From then on lend the new table; the old one is not kept. A refused
+ * change leaves the round to its old table. */
+uint32_t engine_mend(const uint8_t *old_table, size_t old_table_len, const uint8_t *table, size_t table_len,
+                     uint8_t *round, size_t round_len);
 
-/* A formula, as text of at most 1,024 bytes, becomes one expression field (01's 10, 11 or 12) at the start of the buffer, whose other bytes stay: 2^32 and the field's
- * length; or 21, then 22, then 9 where the expression nests over 16 deep, last 23, and the buffer is as it was. The text is not kept. docs/SHEETS.md has the grammar. */
-uint64_t formula(const uint8_t *text, size_t text_len, uint8_t *buffer, size_t buffer_len);
+/* ---- records */
 
-static inline int engine_formula_refused(uint64_t answer) { return answer >> 32 == 0; }
-static inline uint32_t engine_formula_length(uint64_t answer) { return (uint32_t)answer; }
+/* Makes recorded calls one after the other, to audit a round: six bytes for each call, its kind (0 arrival, 1 step, any
+ * other a board reading), a big-endian number of 32 bits and the player; eight bytes for each answer, big-endian. How
+ * many were made: it stops where a call is not whole or an answer has no room. */
+size_t engine_replay(const uint8_t *table, size_t table_len, uint8_t *round, size_t round_len, const uint8_t *calls,
+                     size_t calls_len, uint8_t *answers, size_t answers_len);
 
-/* Writes one sheet from two accepted ones to the start of the buffer, the buffer's other bytes as they were: 2^32 and its length, or compile's number of the first sheet, then of the second, both as with a full table, 26, 3, 7, 13
- * (of the joined sheet, in this order), 27. Events are shared by number, behaviours of the second follow those of the first. Parameters are lent as to compile; lend the same to compile for the joined sheet. */
-uint64_t join(const uint8_t *first, size_t first_len, const uint8_t *second, size_t second_len, const uint8_t *params, size_t params_len, uint8_t *buffer, size_t buffer_len);
+#define ENGINE_CALL 6u    /* bytes of a recorded call */
+#define ENGINE_ANSWER 8u  /* bytes of an answer */
 
-static inline int engine_join_refused(uint64_t answer) { return answer >> 32 == 0; }
-static inline uint32_t engine_join_length(uint64_t answer) { return (uint32_t)answer; }
+enum engine_call_kind { ENGINE_CALL_ARRIVE = 0, ENGINE_CALL_STEP = 1, ENGINE_CALL_BOARD = 2 };
 
-/* Makes recorded calls one after the other, to audit a round: six bytes for each call, its kind (0 arrival, 1 step, any other a board reading), a
- * big-endian number of 32 bits and the player; eight bytes for each answer, big-endian. How many were made: it stops where a call is not whole or an answer has no room. */
-size_t replay(const uint8_t *table, size_t table_len, uint8_t *round, size_t round_len, const uint8_t *calls, size_t calls_len, uint8_t *answers, size_t answers_len);
+/* Writes call k of a record: the number is the event's or the behaviour's, 0 for a step. */
+static inline void engine_call_put(uint8_t *calls, size_t k, uint8_t kind, uint32_t number, uint8_t player)
+{
+    uint8_t *at = calls + k * ENGINE_CALL;
+    at[0] = kind;
+    at[1] = (uint8_t)(number >> 24);
+    at[2] = (uint8_t)(number >> 16);
+    at[3] = (uint8_t)(number >> 8);
+    at[4] = (uint8_t)number;
+    at[5] = player;
+}
+
+/* Answer k of a list of answers. */
+static inline uint64_t engine_answer_get(const uint8_t *answers, size_t k)
+{
+    const uint8_t *at = answers + k * ENGINE_ANSWER;
+    uint64_t answer = 0;
+    size_t i;
+    for (i = 0; i < ENGINE_ANSWER; i++)
+        answer = answer << 8 | at[i];
+    return answer;
+}
 
 #ifdef __cplusplus
 }

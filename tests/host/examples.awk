@@ -1,4 +1,5 @@
-# The examples of a page for C, its indented blocks, each in braces between the host's `before` and `after`; an example is named by the first call in it.
+# The examples of a page for C, its indented blocks, each in braces between the host's `before` and `after`; an example
+# is named by the first call in it.
 function close_block() {
     if (open)
         print "    }\n    after(round, \"" call "\");"
@@ -10,8 +11,8 @@ function close_block() {
         open = 1
         call = ""
     }
-    if (call == "" && match($0, /[a-z]+\(/))
-        call = substr($0, RSTART, RLENGTH - 1)
+    if (call == "" && match($0, /engine_[a-z]+\(/))
+        call = substr($0, RSTART + 7, RLENGTH - 8)
     print
     next
 }

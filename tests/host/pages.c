@@ -1,4 +1,5 @@
-/* The examples of docs/HOST.md, cut out of the page by tests/run, each with events 0 and 1 of sheet S in hand. Standard input: the desk program's example, which begins with S. */
+/* The examples of docs/HOST.md, cut out of the page by tests/host/run, each with events 0 and 1 of sheet S in hand.
+ * Standard input: the desk program's example, which begins with S. */
 #include <stdio.h>
 #include <string.h>
 
@@ -14,12 +15,12 @@ static uint8_t list[ENGINE_CIRCLE_LIST], params[ENGINE_PARAMS];
 static const uint8_t refused[] = {2, 0, 4, 0x11, 0, 1, 1, 2, 0, 4, 0x11, 0, 1, 1}; /* b0 = b1, b1 = b1 */
 static const uint8_t bonus[] = {1, 0, 1, 1, 2, 0, 7, 0x10, 0, 4, 0, 0, 0, 9}; /* b0 = 9, and S's event 0 */
 static uint8_t both[8192];
-static int32_t shown;
+static int64_t shown;
 
 static const uint8_t text[] = {'b', '0', ' ', '*', ' ', '2'};
 static uint8_t field[64];
 
-void show(int32_t value)
+void show(int64_t value)
 {
     shown = value;
 }
@@ -29,28 +30,36 @@ static const struct {
     const char *call;
     int32_t b0, b1;
     int idle;
-    int32_t shown;
-} want[] = {{"arrive", 3, 2, 1, 0}, {"forecast", 2, 1, 1, 0}, {"preview", 1, 1, 0, 3}, {"circle", 1, 1, 0, 1}, {"compile", 1, 1, 0, 0}, {"step", 1, 1, 0, 0}, {"board", 1, 1, 0, 1}, {"formula", 1, 1, 0, 15}, {"join", 1, 1, 0, 84}};
+    int64_t shown;
+} want[] = {
+    {"arrive", 3, 2, 1, 0}, {"forecast", 2, 1, 1, 0}, {"preview", 1, 1, 0, 3}, {"circle", 1, 1, 0, 1},
+    {"compile", 1, 1, 0, 0}, {"step", 1, 1, 0, 0}, {"board", 1, 1, 0, 1}, {"formula", 1, 1, 0, 15},
+    {"join", 1, 1, 0, 84}, {"version", 1, 1, 0, 0}, {"agree", 1, 1, 0, 1},
+};
 
 static void before(uint8_t *round)
 {
-    if (start(table, sizeof table, round, ENGINE_ROUND) || arrive(table, sizeof table, round, ENGINE_ROUND, 0, ENGINE_HOST) || arrive(table, sizeof table, round, ENGINE_ROUND, 1, ENGINE_HOST))
+    if (engine_start(table, sizeof table, round, ENGINE_ROUND)
+        || engine_arrive(table, sizeof table, round, ENGINE_ROUND, 0, ENGINE_HOST)
+        || engine_arrive(table, sizeof table, round, ENGINE_ROUND, 1, ENGINE_HOST))
         faults++;
     shown = 0;
 }
 
 static void after(uint8_t *round, const char *call)
 {
-    int32_t b0 = engine_board_value(board(table, sizeof table, round, ENGINE_ROUND, 0, ENGINE_HOST));
-    int32_t b1 = engine_board_value(board(table, sizeof table, round, ENGINE_ROUND, 1, ENGINE_HOST));
-    int idle = engine_step_kind(step(table, sizeof table, round, ENGINE_ROUND)) == ENGINE_IDLE;
+    int32_t b0 = engine_board_value(engine_board(table, sizeof table, round, ENGINE_ROUND, 0, ENGINE_HOST));
+    int32_t b1 = engine_board_value(engine_board(table, sizeof table, round, ENGINE_ROUND, 1, ENGINE_HOST));
+    int idle = engine_step_kind(engine_step(table, sizeof table, round, ENGINE_ROUND)) == ENGINE_IDLE;
     size_t i;
 
     examples++;
     for (i = 0; i < sizeof want / sizeof *want; i++)
-        if (strcmp(want[i].call, call) == 0 && b0 == want[i].b0 && b1 == want[i].b1 && idle == want[i].idle && shown == want[i].shown)
+        if (strcmp(want[i].call, call) == 0 && b0 == want[i].b0 && b1 == want[i].b1 && idle == want[i].idle
+            && shown == want[i].shown)
             return;
-    printf("docs/HOST.md, the example of %s: board %d %d, idle %d, shown %d\n", call, (int)b0, (int)b1, idle, (int)shown);
+    printf("docs/HOST.md, the example of %s: board %d %d, idle %d, shown %d\n", call, (int)b0, (int)b1, idle,
+           (int)shown);
     faults++;
 }
 
@@ -59,7 +68,8 @@ int main(void)
     static uint8_t round[ENGINE_ROUND];
     uint8_t in[3 + 74];
 
-    if (fread(in, 1, sizeof in, stdin) != sizeof in || compile(in + 3, sizeof in - 3, in, 0, table, sizeof table) != 0) {
+    if (fread(in, 1, sizeof in, stdin) != sizeof in
+        || engine_compile(in + 3, sizeof in - 3, NULL, 0, table, sizeof table) != 0) {
         puts("no sheet S");
         return 1;
     }

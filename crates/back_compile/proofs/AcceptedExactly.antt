@@ -29,14 +29,7 @@ use Rattle.check_faults.proofs.CycleDecides.{known-decides, cyclic-decides}
 use Rattle.format_image.specs.Image.{tableOf}
 use Rattle.back_compile.specs.Verdict.{Compiled, compiled, judge, lacks, programOf, judgeRead, compileOn}
 use Rattle.back_compile.proofs.JudgeLaws.{judge-unknown, judge-lacking, judge-cycle, judge-long, judge-passes, Verdict, unknown, lacking, circular, long, passed, judge-says, compile-opens, compile-short, compile-long}
-
--- a parameter is used only if 32 bytes are lent
-abbrev pub Given : List ℕ → Sheet → Type 0
-Given ps s = uses s ≡ true → 32 ≤ length ps
-
--- a sheet that is fine but for its length
-abbrev pub Fine : List ℕ → Sheet → Type 0
-Fine ps s = SheetFits s × Known (programOf ps s) × Given ps s × NoCycle (programOf ps s)
+use Rattle.back_compile.specs.Statements.{Given, Fine}
 
 -- ---- what is read and judged
 

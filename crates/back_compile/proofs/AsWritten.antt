@@ -19,19 +19,9 @@ use Rattle.spec_language.specs.Reading.{Got, bad, got, readSheet}
 use Rattle.spec_language.proofs.SheetLaws.{fill-same, written-unused, fill-written}
 use Rattle.spec_grammar.proofs.Programs.{reads-back, reads-only}
 use Rattle.spec_grammar.proofs.Faults.{result, sheetFault, sheet-result, fault-written}
-use Rattle.back_compile.specs.Verdict.{compiled, judge, lacks, programOf, judgeRead, compileOn}
+use Rattle.back_compile.specs.Verdict.{judge, lacks, programOf, judgeRead, compileOn}
 use Rattle.back_compile.proofs.JudgeLaws.{compile-opens, compile-short, compile-long}
-
--- the sheet x with the parameters ps, 32 bytes or more, and the sheet in which each is written out as its constant
-pub record AsWritten (x : Sheet) (ps : List ℕ) : Type 0 where
-  -- compile's answer, a refusal too, and the table's bytes are the same for both, with whatever the second is lent,
-  -- where neither has over 8,192 bytes and no parameter is above 7
-  pub same : All (λ (b : Entry). ItemParamsIn (b .item)) (x .entries) → length (encode x) ≤ 8192 → length (encode (writtenOut (get ps) x)) ≤ 8192
-      → (qs t : List ℕ) → compileOn (encode x) ps t ≡ compileOn (encode (writtenOut (get ps) x)) qs t
-  -- 3 counts the bytes as sent: where they are not over 8,192 the filling is judged, however many bytes it would have
-  pub sent : SheetFits x → (t : List ℕ) → 34816 ≤ length t → compileOn (encode x) ps t ≡ judge (programOf ps x) false t
-  -- and where they are, 3 is the answer, however few it would have
-  pub long : 8192 < length (encode x) → (t : List ℕ) → 34816 ≤ length t → compileOn (encode x) ps t ≡ compiled 3 t
+use Rattle.back_compile.specs.Statements.{AsWritten}
 
 module _ (x : Sheet) (ps : List ℕ) (enough : 32 ≤ length ps) where
   lent : lacks x ps ≡ false

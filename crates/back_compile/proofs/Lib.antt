@@ -5,3 +5,4 @@ pub mod FillJudged
 pub mod ReadIs
 pub mod AsWritten
 pub mod RowsOut
+pub mod Judging

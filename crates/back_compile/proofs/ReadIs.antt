@@ -21,9 +21,6 @@ all-bytes [] h = tt
 all-bytes (b ∷ s) h = (h 0 (omega arith), all-bytes s (λ i c. h (suc i) (omega arith)))
 
 module _ (s : List ℕ) (bytes : All (λ b. b < 256) s) (hi : length s ≤ 8192) where
-  pub read-draft : (ev bs n : ℕ) (d : List ℕ) → finished (Ready ev bs n) d ≡ readOn s empty → SheetDraft ev bs n d
-  read-draft ev bs n d q = drafted-as s bytes hi (Ready ev bs n) d (sym q) .0
-
   -- a fault is the sheet's
   pub read-fault : (a : Draft) (k : ℕ) (d ps t : List ℕ) → a ≡ Broken k → finished a d ≡ readOn s empty → compiled (numberOf a) t ≡ judgeRead (readSheet s) ps t
   read-fault a k d ps t b q =

@@ -2,7 +2,7 @@
 -- sent. .. Circles, rights, instruction counts and commits are those of the sheet written out. The facts are shown for
 -- every cell count together." The sheet written out has the same first fault, or none (crate spec_grammar), uses the
 -- same parameters and means the same program.
-use Prim.Native.Nat.{ℕ, zero, suc, _≤_, _<_}
+use Prim.Native.Nat.{ℕ, zero, suc}
 use mathlib.Core.Path.{_≡_, refl, sym, ap, _∙_}
 use mathlib.Core.Logic.{by-cases}
 use mathlib.Core.List.{List, []}
@@ -13,29 +13,15 @@ use Rattle.lib_base.specs.Basics.{All}
 use Rattle.lib_word.specs.Word.{get}
 use Rattle.spec_language.specs.Syntax.{Program}
 use Rattle.spec_language.specs.Sheet.{Sheet, rowsOut}
-use Rattle.spec_language.specs.Grammar.{encode, EntryFits, SheetFits}
+use Rattle.spec_language.specs.Grammar.{encode, EntryFits}
 use Rattle.spec_language.specs.Reading.{Got, readSheet}
 use Rattle.spec_language.proofs.RowLaws.{uses-out, means-rows-out}
 use Rattle.spec_grammar.proofs.Programs.{reads-back}
 use Rattle.spec_grammar.proofs.Faults.{result, sheetFault, sheet-result}
 use Rattle.spec_grammar.proofs.Rows.{fault-rows}
-use Rattle.back_compile.specs.Verdict.{compiled, judge, lacks, programOf, judgeRead, compileOn}
+use Rattle.back_compile.specs.Verdict.{judge, lacks, programOf, judgeRead}
 use Rattle.back_compile.proofs.JudgeLaws.{compile-opens, compile-short, compile-long}
-
--- the sheet x, and the sheet in which each cell of its rows is written out
-pub record AsRows (x : Sheet) : Type 0 where
-  -- compile's answer, a refusal too, and the table's bytes are the same for both, where neither has over 8,192 bytes
-  -- and each field of x is within its own limits: however many behaviours they make, whatever they name, whether in a
-  -- circle or overlong, and whatever is lent
-  pub same : All (EntryFits (length (x .signals))) (x .entries) → length (encode x) ≤ 8192 → length (encode (rowsOut x)) ≤ 8192
-      → (ps t : List ℕ) → compileOn (encode x) ps t ≡ compileOn (encode (rowsOut x)) ps t
-  -- 3 counts the bytes as sent: where they are not over 8,192 the sheet written out is judged, however many bytes it
-  -- would have
-  pub sent : SheetFits x → (ps t : List ℕ) → 34816 ≤ length t → compileOn (encode x) ps t ≡ judge (programOf ps (rowsOut x)) (lacks (rowsOut x) ps) t
-  -- and where they are, 3 is the answer
-  pub long : 8192 < length (encode x) → (ps t : List ℕ) → 34816 ≤ length t → compileOn (encode x) ps t ≡ compiled 3 t
-  -- its program, so its circles, rights, instruction counts and commits, is that of the sheet written out
-  pub program : (ps : List ℕ) → programOf ps x ≡ programOf ps (rowsOut x)
+use Rattle.back_compile.specs.Statements.{AsRows}
 
 module _ (x : Sheet) where
   rows-judged : All (EntryFits (length (x .signals))) (x .entries) → (ps t : List ℕ) → judge (programOf ps x) (lacks x ps) t ≡ judge (programOf ps (rowsOut x)) (lacks (rowsOut x) ps) t

@@ -1,82 +1,93 @@
 // compile: from the bytes of a sheet and of its parameters to the table of the program that it means, or the number of
 // a refusal. Time: reading takes one pass over the bytes, unknown names one pass over the nodes. The rest is done for
-// each of ev events and for none: a pass over the nodes for the names, and for bs behaviours the closure of a matrix
-// and an order, each choice looking at every need anew. In all bytes + (ev + 1) * (names + 2 * bs * bs * bs + 4096),
-// the 4096 for clearing a matrix, and the instructions written, at most 4096.
+// each of ev events and for none, twice: a pass over the nodes for the names, and an order of bs behaviours, each
+// choice looking at one set for each of them. In all bytes + 2 * (ev + 1) * (names + bs * bs), and the instructions
+// written, at most 4096.
 ghost use mathlib.Core.Path.{_≡_};
 ghost use Prim.Native.Nat.{_≤_};
-ghost use lib.ListN.{length};
-ghost use Rattle.spec_language.specs.Reading.{readSheet};
-ghost use Rattle.front_draft.specs.Draft.{DraftOf, SheetDraft};
-ghost use Rattle.back_compile.specs.Verdict.{compiled, judgeRead, compileOn};
-ghost use Rattle.back_compile.specs.Judged.{Judged, SheetJudged, numberOf};
+ghost use lib.ListN.{length, replicate};
+ghost use Rattle.front_draft.specs.Draft.{draftLength};
+ghost use Rattle.back_compile.specs.Verdict.{compiled, compileOn};
+ghost use Rattle.back_compile.specs.Judged.{JudgedAs, answerOf, numberOf};
+use format_layout::table;
+use front_draft::layout;
 use front_sheet::Draft;
+use spec_language::limits;
+use spec_language::refusals;
 
-// A draft with its faults, in their order, or the table.
-fn judge_draft(d: &[u64], ev: usize, bs: usize, n: usize, lacking: bool, t: &mut [u8]) -> u32
-    requires { ⌜ DraftOf ev bs n (now d) ⌝ }
-    requires { ⌜ 34816 ≤ length (now t) ⌝ }
-    ensures { λ r. ⌜ Judged ev bs n (now (d .entry)) lacking (now (t .entry)) r (now (t .exit)) ⌝ }
+// What a sheet is found to be: accepted, or with a circle, of so many events and behaviours, its draft being filled in;
+// or refused by another number.
+pub enum Judgement {
+    Accepted(usize, usize),
+    Circular(usize, usize),
+    Refused(u32),
+}
+
+// compile's number.
+pub fn number_of(judgement: Judgement) -> u32
+    ensures { λ r. ⌜ r ≡ answerOf judgement ⌝ }
 {
-    if !check_faults::names_known(d, n, bs) {
-        return 11;
+    match judgement {
+        Judgement::Accepted(_, _) => 0,
+        Judgement::Circular(_, _) => refusals::CYCLE,
+        Judgement::Refused(number) => number,
+    }
+}
+
+// The number of the reader's refusal; 0 of a draft that is ready.
+fn fault_of(reading: Draft) -> u32
+    ensures { λ r. ⌜ r ≡ numberOf reading ⌝ }
+{
+    match reading {
+        Draft::Ready(_, _, _) => 0,
+        Draft::Broken(number) => number as u32,
+    }
+}
+
+// A sheet judged, all but the table, in the order of the refusals: 3, the reading, 11, 20, 12, 13. A draft of zeros
+// becomes the sheet's, its parameters filled in. That is done before 11 and 20 are looked for: their values do not
+// matter there.
+pub fn judge_sheet(sheet: &[u8], params: &[u8], draft: &mut [u64]) -> Judgement
+    requires { ⌜ now draft ≡ replicate draftLength 0 ⌝ }
+    ensures { λ r. ⌜ JudgedAs (now (sheet .entry)) (now (params .entry)) (now (draft .exit)) r ⌝ }
+{
+    if sheet.len() > limits::SHEET_BYTES {
+        return Judgement::Refused(refusals::LONG_SHEET);
+    }
+    let reading = front_sheet::read_program(sheet, draft);
+    let Draft::Ready(events, behaviours, nodes) = reading else {
+        return Judgement::Refused(fault_of(reading));
+    };
+    let lacking = front_params::lacks_param(draft, nodes, params);
+    front_params::fill_draft(draft, params);
+    if !check_faults::names_known(draft, nodes, behaviours) {
+        return Judgement::Refused(refusals::UNKNOWN_NAME);
     }
     if lacking {
-        return 20;
+        return Judgement::Refused(refusals::NO_PARAMETERS);
     }
-    if check_faults::has_cycle(d, ev, bs) {
-        return 12;
+    if check_faults::has_cycle(draft, events, behaviours) {
+        return Judgement::Circular(events, behaviours);
     }
-    if back_table::count_all(d, ev, bs) > 4096 {
-        return 13;
+    if back_table::count_all(draft, events, behaviours) > limits::INSTRUCTIONS {
+        return Judgement::Refused(refusals::OVERLONG);
     }
-    back_table::write_table(d, ev, bs, t);
-    0
+    Judgement::Accepted(events, behaviours)
 }
 
-// The draft of a sheet: its parameters are filled in, and it is judged.
-fn judge_sheet(d: &mut [u64], ev: usize, bs: usize, n: usize, params: &[u8], t: &mut [u8]) -> u32
-    requires { ⌜ SheetDraft ev bs n (now d) ⌝ }
-    requires { ⌜ 34816 ≤ length (now t) ⌝ }
-    ensures { λ r. ⌜ SheetJudged ev bs n (now (d .entry)) (now (params .entry)) (now (t .entry)) r (now (t .exit)) ⌝ }
-{
-    let lacking = front_params::lacks_param(d, n, params);
-    front_params::fill_draft(d, params);
-    judge_draft(d, ev, bs, n, lacking, t)
-}
-
-// The number of a refusal; 0 of a draft that is ready.
-fn number_of(a: Draft) -> u32
-    ensures { λ r. ⌜ r ≡ numberOf a ⌝ }
-{
-    match a {
-        Draft::Ready(_, _, _) => 0,
-        Draft::Broken(k) => k as u32,
-    }
-}
-
-// A sheet of up to 8,192 bytes.
-fn compile_read(sheet: &[u8], params: &[u8], table: &mut [u8]) -> u32
-    requires { ⌜ (length (now sheet) ≤ 8192) × (34816 ≤ length (now table)) ⌝ }
-    ensures { λ r. ⌜ compiled r (now (table .exit)) ≡ judgeRead (readSheet (now (sheet .entry))) (now (params .entry)) (now (table .entry)) ⌝ }
-{
-    let mut draft = [0u64; 4416];
-    let a = front_sheet::read_program(sheet, &mut draft);
-    let Draft::Ready(ev, bs, n) = a else {
-        return number_of(a);
-    };
-    judge_sheet(&mut draft, ev, bs, n, params, table)
-}
-
-// The sheet's table, from the table's first byte on; 0, or the number of a refusal, which leaves the table as it was.
+// 1; then as the sheet is judged: 3, the reading, 11, 20, 12, 13; then the table, from its first byte on. 0, or the
+// number of a refusal, which leaves the table as it was.
 pub fn compile_at(sheet: &[u8], params: &[u8], table: &mut [u8]) -> u32
     ensures { λ r. ⌜ compiled r (now (table .exit)) ≡ compileOn (now (sheet .entry)) (now (params .entry)) (now (table .entry)) ⌝ }
 {
-    if table.len() < 34816 {
-        return 1;
+    if table.len() < table::BYTES {
+        return refusals::SHORT_TABLE;
     }
-    if sheet.len() > 8192 {
-        return 3;
-    }
-    compile_read(sheet, params, table)
+    let mut draft = [0u64; layout::LENGTH];
+    let judgement = judge_sheet(sheet, params, &mut draft);
+    let Judgement::Accepted(events, behaviours) = judgement else {
+        return number_of(judgement);
+    };
+    back_table::write_table(&draft, events, behaviours, table);
+    0
 }

@@ -6,20 +6,24 @@ ghost use Rattle.front_draft.specs.Entry.{countOf};
 ghost use Rattle.front_draft.specs.Draft.{draftLength};
 ghost use Rattle.back_counts.specs.Counts.{Sound, shareOf, countEvent, isMember, countMembers};
 use front_draft::entry_of;
+use front_draft::layout;
+
+// Off and on around the copy and around the copy-back.
+const MASKS: usize = 4;
 
 // What an entry adds to the count of instructions.
 fn share_of(v: u64) -> usize
     requires { ⌜ countOf v ≤ 2048 ⌝ }
     ensures { λ r. ⌜ r ≡ shareOf v ⌝ }
 {
-    if v % 4 == 1 {
-        return 2 + 2 * ((v / 16384) as usize + 1);
+    if v % layout::KINDS == layout::PASSIVE {
+        return 2 + 2 * ((v / layout::COUNTS) as usize + 1);
     }
-    if v % 4 == 2 {
-        return 2 + ((v / 16384) as usize + 1);
+    if v % layout::KINDS == layout::IMMEDIATE {
+        return 2 + ((v / layout::COUNTS) as usize + 1);
     }
-    if v % 4 == 3 {
-        return 2 + ((v / 16384) as usize + 2);
+    if v % layout::KINDS == layout::LATER {
+        return 2 + ((v / layout::COUNTS) as usize + 2);
     }
     0
 }
@@ -29,7 +33,7 @@ pub fn count_event(d: &[u64], e: usize, n: usize) -> usize
     requires { ⌜ Sound (now d) e n ⌝ }
     ensures { λ r. ⌜ r ≡ countEvent (now (d .entry)) e n ⌝ }
 {
-    let mut sum = 4;
+    let mut sum = MASKS;
     let mut i = 0;
     while i < n {
         sum += share_of(entry_of(d, e, i));

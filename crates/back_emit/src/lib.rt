@@ -10,8 +10,15 @@ ghost use Rattle.front_draft.specs.Draft.{draftLength};
 ghost use Rattle.back_emit.specs.Words.{nameWords, nodeWords, exprWords, turnWords, kindWords, moveWords, memberWords};
 ghost use Rattle.back_emit.specs.Writing.{Room, Wrote};
 use front_draft::entry_of;
+use front_draft::layout;
 use front_draft::moved_node;
 use lib_word::put_word;
+
+pub mod opcodes;
+
+const BEHAVIOURS: u64 = spec_language::limits::BEHAVIOURS as u64;
+// Above the numbers of the functions.
+const FUNCTIONS: u64 = 16;
 
 // One instruction.
 pub fn emit_instr(t: &mut [u8], k: usize, operation: u32, constant: u32) -> usize
@@ -30,9 +37,9 @@ fn emit_name(d: &[u64], e: usize, j: usize, t: &mut [u8], k: usize) -> usize
     ensures { λ r. ⌜ Wrote (now (t .entry)) k (nameWords (now (d .entry)) e j) (now (t .exit)) r ⌝ }
 {
     if entry_of(d, e, j) == 0 {
-        return emit_instr(t, k, 1536 + j as u32, 0);
+        return emit_instr(t, k, opcodes::LOAD + j as u32, 0);
     }
-    emit_instr(t, k, 1792 + j as u32, 0)
+    emit_instr(t, k, opcodes::FETCH + j as u32, 0)
 }
 
 // A node.
@@ -41,13 +48,18 @@ fn emit_node(d: &[u64], e: usize, x: u64, t: &mut [u8], k: usize) -> usize
     requires { ⌜ Room (now t) k (nodeWords (now d) e x) ⌝ }
     ensures { λ r. ⌜ Wrote (now (t .entry)) k (nodeWords (now (d .entry)) e x) (now (t .exit)) r ⌝ }
 {
-    if x / 4294967296 == 16 {
-        return emit_instr(t, k, 1280, (x % 4294967296) as u32);
+    if x / layout::WORD == layout::CONSTANT {
+        return emit_instr(t, k, opcodes::PUSH, (x % layout::WORD) as u32);
     }
-    if x / 4294967296 == 17 {
-        return emit_name(d, e, (x % 4294967296 % 64) as usize, t, k);
+    if x / layout::WORD == layout::NAME {
+        return emit_name(d, e, (x % layout::WORD % BEHAVIOURS) as usize, t, k);
     }
-    emit_instr(t, k, 2048 + (x % 4294967296 % 16) as u32, 0)
+    emit_instr(
+        t,
+        k,
+        opcodes::APPLY + (x % layout::WORD % FUNCTIONS) as u32,
+        0,
+    )
 }
 
 // Behaviour i's expression of count nodes from start on, as it uses them.
@@ -80,7 +92,15 @@ pub fn emit_turn(d: &[u64], e: usize, op: u32, i: usize, t: &mut [u8], k: usize)
     ensures { λ r. ⌜ Wrote (now (t .entry)) k (turnWords (now (d .entry)) e op i) (now (t .exit)) r ⌝ }
 {
     let v = entry_of(d, e, i);
-    let next = emit_expr(d, e, i, (v / 4 % 4096) as usize, (v / 16384) as usize, t, k);
+    let next = emit_expr(
+        d,
+        e,
+        i,
+        (v / layout::KINDS % layout::FIRSTS) as usize,
+        (v / layout::COUNTS) as usize,
+        t,
+        k,
+    );
     emit_instr(t, next, op + i as u32, 0)
 }
 
@@ -90,7 +110,7 @@ pub fn emit_kind(d: &[u64], e: usize, kind: u64, op: u32, i: usize, t: &mut [u8]
     requires { ⌜ Room (now t) k (kindWords (now d) e kind op i) ⌝ }
     ensures { λ r. ⌜ Wrote (now (t .entry)) k (kindWords (now (d .entry)) e kind op i) (now (t .exit)) r ⌝ }
 {
-    if entry_of(d, e, i) % 4 == kind {
+    if entry_of(d, e, i) % layout::KINDS == kind {
         return emit_turn(d, e, op, i, t, k);
     }
     k
@@ -102,8 +122,8 @@ pub fn emit_move(d: &[u64], e: usize, i: usize, t: &mut [u8], k: usize) -> usize
     requires { ⌜ Room (now t) k (moveWords (now d) e i) ⌝ }
     ensures { λ r. ⌜ Wrote (now (t .entry)) k (moveWords (now (d .entry)) e i) (now (t .exit)) r ⌝ }
 {
-    if entry_of(d, e, i) % 4 == 3 {
-        return emit_instr(t, k, 2816 + i as u32, 0);
+    if entry_of(d, e, i) % layout::KINDS == layout::LATER {
+        return emit_instr(t, k, opcodes::MOVE + i as u32, 0);
     }
     k
 }

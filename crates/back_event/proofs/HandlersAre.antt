@@ -2,9 +2,8 @@
 -- for an event are those of the four parts of its code, and in a row they are the code: from what each entry of the
 -- draft holds. With a cycle the check on dependence fails; without, it passes, and the code is written.
 use Prim.Native.Nat.{ℕ, _≤_, _<_}
-use mathlib.Core.Bool.{true}
 use mathlib.Core.Path.{_≡_}
-use mathlib.Core.List.{List, _∷_, [], _++_}
+use mathlib.Core.List.{List, [], _∷_, _++_}
 use Rattle.spec_language.specs.Syntax.{Program}
 use Rattle.spec_language.specs.Dependence.{Response, follows, takes, defers, keeps, size, response, Acyclic}
 use Rattle.spec_language.specs.Order.{phaseOne}
@@ -15,22 +14,13 @@ use Rattle.format_image.specs.Image.{codeWords}
 use Rattle.front_draft.specs.Draft.{entryOf, usedBy, Drafted}
 use Rattle.front_draft.proofs.DraftLaws.{Entry, entry-of}
 use Rattle.back_counts.proofs.CountIs.{copied-is}
-use Rattle.back_schedule.specs.Ordering.{orderUnder, isOrdered}
+use Rattle.back_schedule.specs.Ordering.{orderUnder}
 use Rattle.back_schedule.proofs.OrderingIs.{order-is, ordered-exactly}
 use Rattle.back_emit.specs.Words.{memberWords}
 use Rattle.back_emit.proofs.ExprWords.{codeWords-append}
-use Rattle.back_phases.specs.Phases.{firstWords, secondWords}
 use Rattle.back_phases.proofs.PhasesAre.{each-code, first-are, second-are}
 use Rattle.back_event.specs.Handlers.{maskedWords, eventWords, codeOf}
-
--- what each step writes for event e, from the draft d of program p
-pub record Steps (p : Program) (d : List ℕ) (e : ℕ) : Type 0 where
-  pub copies : maskedWords d e 768 (size p) ≡ codeWords (copyPart p e)
-  pub first : firstWords d e (size p) (orderUnder d e (size p)) ≡ codeWords (firstPart p e)
-  pub second : secondWords d e (size p) (orderUnder d e (size p)) ≡ codeWords (secondPart p e)
-  pub restores : maskedWords d e 1024 (size p) ≡ codeWords (restorePart p e)
-  pub in-a-row : eventWords d e (size p) (orderUnder d e (size p)) ≡ codeWords (copyPart p e ++ (firstPart p e ++ (secondPart p e ++ restorePart p e)))
-  pub checked : ((isOrdered d e (size p) ≡ true → Acyclic p e) × (Acyclic p e → isOrdered d e (size p) ≡ true))
+use Rattle.back_event.specs.Steps.{Steps}
 
 copy-is : (d : List ℕ) (e i : ℕ) (r : Response) → Entry (usedBy d i) (entryOf d e i) r → memberWords d e 768 i ≡ codeWords (ofC copy i r)
 unfolding memberWords codeWords

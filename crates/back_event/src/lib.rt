@@ -11,7 +11,9 @@ ghost use Rattle.front_draft.specs.Draft.{draftLength};
 ghost use Rattle.back_event.specs.Handlers.{maskedWords, codeOf};
 use back_emit::emit_instr;
 use back_emit::emit_member;
+use back_emit::opcodes;
 use back_schedule::Order;
+use spec_language::limits;
 
 // op i of each behaviour that the event copies.
 fn emit_members(d: &[u64], e: usize, op: u32, n: usize, t: &mut [u8], k: usize) -> usize
@@ -34,9 +36,9 @@ fn emit_masked(d: &[u64], e: usize, op: u32, n: usize, t: &mut [u8], k: usize) -
     requires { ⌜ Room (now t) k (maskedWords (now d) e op n) ⌝ }
     ensures { λ r. ⌜ Wrote (now (t .entry)) k (maskedWords (now (d .entry)) e op n) (now (t .exit)) r ⌝ }
 {
-    let begun = emit_instr(t, k, 256, 0);
+    let begun = emit_instr(t, k, opcodes::OFF, 0);
     let done = emit_members(d, e, op, n, t, begun);
-    emit_instr(t, done, 512, 0)
+    emit_instr(t, done, opcodes::ON, 0)
 }
 
 // The code of event e, of n behaviours. An event with a circle gets none: compile has turned such a sheet down by then.
@@ -46,7 +48,7 @@ pub fn compile_event(d: &[u64], e: usize, n: usize, t: &mut [u8], k: usize) -> u
     ensures { λ r. ⌜ Wrote (now (t .entry)) k (codeOf (now (d .entry)) n e) (now (t .exit)) r ⌝ }
 {
     // the check on dependence
-    let mut o = [0u8; 64];
+    let mut o = [0u8; limits::BEHAVIOURS];
     let a = back_schedule::check_dependence(d, e, n, &mut o);
     let Order::Complete(count) = a else {
         return k;
@@ -56,6 +58,6 @@ pub fn compile_event(d: &[u64], e: usize, n: usize, t: &mut [u8], k: usize) -> u
     let second = back_phases::phase_one(d, e, n, &o, count, t, first);
     let last = back_phases::phase_two(d, e, n, &o, count, t, second);
     // the surrounding copy and copy-back
-    emit_masked(d, e, 768, n, t, k);
-    emit_masked(d, e, 1024, n, t, last)
+    emit_masked(d, e, opcodes::COPY, n, t, k);
+    emit_masked(d, e, opcodes::RESTORE, n, t, last)
 }

@@ -59,14 +59,14 @@ placed n dep (i ∷ is) m l o =
 -- ---- a phase one is there only without a cycle
 
 -- the first step of a chain
-first-step : {dep : ℕ → ℕ → Bool} {a c : ℕ} → Reach dep a c → (j : ℕ) × (dep a j ≡ true) × ((j ≡ c) ⊎ Reach dep j c)
+pub first-step : {dep : ℕ → ℕ → Bool} {a c : ℕ} → Reach dep a c → (j : ℕ) × (dep a j ≡ true) × ((j ≡ c) ⊎ Reach dep j c)
 first-step {c = c} (one d) = (c, d, inl refl)
 first-step {dep} {a} {c} (more {b = b} r d) =
     let w = first-step r in
     (w .0, w .1, ⊎-elim (λ q. inr (one (subst (λ (x : ℕ). dep x c ≡ true) (sym q) d))) (λ s. inr (more s d)) (w .2))
 
 -- who needs only those that do not reach themselves does not either
-not-round : {dep : ℕ → ℕ → Bool} {i : ℕ} → ((j : ℕ) → dep i j ≡ true → Reach dep j j → ⊥) → Reach dep i i → ⊥
+pub not-round : {dep : ℕ → ℕ → Bool} {i : ℕ} → ((j : ℕ) → dep i j ≡ true → Reach dep j j → ⊥) → Reach dep i i → ⊥
 not-round {dep} {i} h r =
     let w = first-step r in
     h (w .0) (w .1) (⊎-elim (λ q. subst (λ (x : ℕ). Reach dep x x) (sym q) r) (λ s. more s (w .1)) (w .2))

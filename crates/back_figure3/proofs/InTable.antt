@@ -1,30 +1,19 @@
 -- Where the instructions of the four steps stand in a table that says a program, as every accepted sheet's does (crate
 -- format_image, `Says`): the copy's from the event's start on, phase one's behind it, then phase two's and the
 -- copy-back's. Each part is found in the event's code behind those before it.
-use Prim.Native.Nat.{ℕ, _+_, _*_, _<_}
+use Prim.Native.Nat.{ℕ, _+_, _<_}
 use mathlib.Core.Path.{_≡_, refl, sym, ap, _∙_}
 use mathlib.Core.List.{List, [], _++_, append-assoc, append-nil}
 use native.Mathlib.Omega.{arith}
 use lib.ListN.{length, getD, length-append, List·getD-append}
 use lib.Seq.{getD-append-add}
-use Rattle.lib_word.specs.Word.{get}
 use Rattle.spec_language.specs.Syntax.{Program}
 use Rattle.spec_language.specs.Dependence.{events}
 use Rattle.spec_language.specs.Code.{Instr, off, copy, members, copyPart, firstPart, secondPart, restorePart, code}
 use Rattle.spec_execution.proofs.Lengths.{length-C}
-use Rattle.format_image.specs.Image.{operation, constant, startOf}
+use Rattle.format_image.specs.Image.{operation, constant}
 use Rattle.format_image.proofs.ImageLaws.{Says}
-
--- the instructions is stand in table t from instruction k of event e's code on
-pub record Stand (p : Program) (t : List ℕ) (e k : ℕ) (is : List Instr) : Type 0 where
-  pub operations : (c : ℕ) → c < length is → get t (512 + (startOf p e + (k + c)) * 2) ≡ operation (getD is c off)
-  pub constants : (c : ℕ) → c < length is → get t (513 + (startOf p e + (k + c)) * 2) ≡ constant (getD is c off)
-
-pub record StepsStand (p : Program) (t : List ℕ) (e : ℕ) : Type 0 where
-  pub copies : Stand p t e 0 (copyPart p e)
-  pub first : Stand p t e (2 + members p e) (firstPart p e)
-  pub second : Stand p t e (2 + members p e + length (firstPart p e)) (secondPart p e)
-  pub restores : Stand p t e (2 + members p e + length (firstPart p e) + length (secondPart p e)) (restorePart p e)
+use Rattle.back_figure3.specs.Stand.{Stand, StepsStand}
 
 pub length-copies : (p : Program) (e : ℕ) → length (copyPart p e) ≡ 2 + members p e
 unfolding copyPart

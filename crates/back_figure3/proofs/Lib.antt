@@ -2,3 +2,4 @@ pub mod InTable
 pub mod Parts
 pub mod Derived
 pub mod Compiles
+pub mod SecondPhase

@@ -11,7 +11,7 @@ use lib.Dec.{eqb, ltb}
 use lib.ListN.{length}
 use Rattle.lib_base.specs.Basics.{pick, All}
 use Rattle.spec_language.specs.Syntax.{Expr, Program}
-use Rattle.spec_language.specs.Dependence.{follows, takes, defers, keeps, size, response, mentions}
+use Rattle.spec_language.specs.Dependence.{Response, follows, takes, defers, keeps, size, response, mentions, Reach}
 use Rattle.spec_language.specs.Order.{upTo, early}
 use Rattle.spec_language.specs.Code.{Instr, save, defer, move, postfix, inC, one?, members, copyPart, firstPart, secondPart, restorePart, code}
 
@@ -65,6 +65,17 @@ pub data Second (p : Program) (e : ℕ) : (ℕ → Bool) → List Assign → Typ
   later₂ : {P : ℕ → Bool} (i : ℕ) {d : Expr} {A : List Assign} → P i ≡ true → response p e i ≡ defers d → Second p e (without i P) A
       → Second p e P (bring i ∷ A)
   unhandled₂ : {P : ℕ → Bool} (i : ℕ) {A : List Assign} → P i ≡ true → response p e i ≡ keeps → Second p e (without i P) A → Second p e P A
+
+-- in phase two only passives have needs: passive i depends on every name j in it
+abbrev pub followNeeds : ℕ → Response → Bool
+followNeeds j (follows x) = mentions j x
+followNeeds j (takes x) = false
+followNeeds j (defers x) = false
+followNeeds j keeps = false
+
+-- no passive is reached from itself through passives
+abbrev pub PassivesAcyclic : Program → ℕ → Type 0
+PassivesAcyclic p e = (i : ℕ) → Reach (λ a b. followNeeds b (response p e a)) i i → ⊥
 
 -- how many behaviours have a turn in phase one, before the later handlers: the check on dependence asks whether an
 -- order holds them all

@@ -5,6 +5,12 @@ ghost use lib.ListN.{length, take, drop};
 ghost use Rattle.front_draft.specs.Draft.{draftLength, usedBy};
 ghost use Rattle.back_fresh.specs.Evaluate.{pushDepth, pushStack, look, argument, applied, applyDepth, applyStack, nodeDepth, nodeStack, evaluated};
 ghost use Rattle.back_fresh.specs.Evaluate.{entryValue, startsOn, turnOn, freshOn};
+use front_draft::layout;
+use spec_language::limits;
+
+const BEHAVIOURS: u32 = limits::BEHAVIOURS as u32;
+// A function's number is the lowest byte of its node.
+const BYTE: u32 = 256;
 
 // The word w on the stack, of depth k; a full stack stays as it is. Its new depth.
 fn push(st: &mut [u32], k: usize, w: u32) -> usize
@@ -13,7 +19,7 @@ fn push(st: &mut [u32], k: usize, w: u32) -> usize
     ensures { λ r. ⌜ now (st .exit) ≡ pushStack (now (st .entry)) k w ⌝ }
     ensures { λ r. ⌜ r ≤ 64 ⌝ }
 {
-    if k < 64 {
+    if k < limits::STACK {
         st[k] = w;
         return k + 1;
     }
@@ -25,7 +31,7 @@ fn value_of(v: &[u32], j: u32) -> u32
     requires { ⌜ length (now v) ≡ 64 ⌝ }
     ensures { λ r. ⌜ r ≡ look (now (v .entry)) j ⌝ }
 {
-    if j < 64 {
+    if j < BEHAVIOURS {
         return v[j as usize];
     }
     0
@@ -76,15 +82,15 @@ fn eval_node(x: u64, v: &[u32], st: &mut [u32], k: usize) -> usize
     ensures { λ r. ⌜ now (st .exit) ≡ nodeStack (now (v .entry)) x (now (st .entry)) k ⌝ }
     ensures { λ r. ⌜ r ≤ 64 ⌝ }
 {
-    let w = (x % 4294967296) as u32;
-    if x / 4294967296 == 16 {
+    let w = (x % layout::WORD) as u32;
+    if x / layout::WORD == layout::CONSTANT {
         return push(st, k, w);
     }
-    if x / 4294967296 == 17 {
+    if x / layout::WORD == layout::NAME {
         let u = value_of(v, w);
         return push(st, k, u);
     }
-    let f = (w % 256) as u8;
+    let f = (w % BYTE) as u8;
     let n = lib_functions::arity_of(f);
     apply_top(f, n, st, k)
 }
@@ -95,7 +101,7 @@ fn eval_nodes(d: &[u64], b: usize, start: usize, count: usize, v: &[u32]) -> u32
     requires { ⌜ (length (now d) ≡ draftLength) × (b < 64) × (start + count ≤ 2048) × (length (now v) ≡ 64) ⌝ }
     ensures { λ r. ⌜ r ≡ evaluated (now (v .entry)) (take count (drop start (usedBy (now (d .entry)) b))) ⌝ }
 {
-    let mut st = [0u32; 64];
+    let mut st = [0u32; limits::STACK];
     let mut k = 0;
     let mut i = 0;
     while i < count {
@@ -110,23 +116,23 @@ fn eval_entry(d: &[u64], i: usize, v: &[u32], w: u64) -> u32
     requires { ⌜ (length (now d) ≡ draftLength) × (i < 64) × (length (now v) ≡ 64) ⌝ }
     ensures { λ r. ⌜ r ≡ entryValue (usedBy (now (d .entry)) i) (now (v .entry)) w ⌝ }
 {
-    let start = (w / 4 % 4096) as usize;
-    let count = (w / 16384) as usize;
-    if 2048 < start + count {
+    let start = (w / layout::KINDS % layout::FIRSTS) as usize;
+    let count = (w / layout::COUNTS) as usize;
+    if layout::NODES < start + count {
         return 0;
     }
     eval_nodes(d, i, start, count, v)
 }
 
 // The start values of n behaviours.
-fn start_values(d: &[u64], n: usize) -> [u32; 64]
+fn start_values(d: &[u64], n: usize) -> [u32; limits::BEHAVIOURS]
     requires { ⌜ (length (now d) ≡ draftLength) × (n ≤ 64) ⌝ }
     ensures { λ r. ⌜ r ≡ startsOn (now (d .entry)) n ⌝ }
 {
-    let mut v = [0u32; 64];
+    let mut v = [0u32; limits::BEHAVIOURS];
     let mut i = 0;
     while i < n {
-        v[i] = (d[4160 + i] % 4294967296) as u32;
+        v[i] = (d[layout::STARTS + i] % layout::WORD) as u32;
         i += 1;
     }
     v
@@ -137,7 +143,7 @@ fn take_turn(d: &[u64], e: usize, i: usize, v: &mut [u32])
     requires { ⌜ (length (now d) ≡ draftLength) × (length (now v) ≡ 64) ⌝ }
     ensures { λ _. ⌜ now (v .exit) ≡ turnOn (now (d .entry)) e i (now (v .entry)) ⌝ }
 {
-    if i < 64 {
+    if i < limits::BEHAVIOURS {
         let w = front_draft::entry_of(d, e, i);
         let u = eval_entry(d, i, v, w);
         v[i] = u;
@@ -146,7 +152,13 @@ fn take_turn(d: &[u64], e: usize, i: usize, v: &mut [u32])
 
 // The values of a fresh round of n behaviours: the start values, and then those of the first count behaviours of the
 // order o, in turn, on event e.
-pub fn fresh_values(d: &[u64], n: usize, e: usize, o: &[u8], count: usize) -> [u32; 64]
+pub fn fresh_values(
+    d: &[u64],
+    n: usize,
+    e: usize,
+    o: &[u8],
+    count: usize,
+) -> [u32; limits::BEHAVIOURS]
     requires { ⌜ (length (now d) ≡ draftLength) × (n ≤ 64) × (count ≤ length (now o)) ⌝ }
     ensures { λ r. ⌜ r ≡ freshOn (now (d .entry)) n e (take count (now (o .entry))) ⌝ }
 {

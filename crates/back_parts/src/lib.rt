@@ -10,7 +10,10 @@ ghost use Rattle.back_emit.specs.Words.{each};
 ghost use Rattle.back_emit.specs.Writing.{Room, Wrote};
 ghost use Rattle.front_draft.specs.Draft.{draftLength};
 ghost use Rattle.back_parts.specs.RightWords.{numberAt, rightWords};
+use format_layout::table;
+use front_draft::layout;
 use lib_word::put_word;
+use spec_language::limits;
 
 // Zeros from word k up to word end.
 pub fn write_zeros(t: &mut [u8], k: usize, end: usize) -> usize
@@ -30,9 +33,9 @@ pub fn write_head(t: &mut [u8], ev: usize, bs: usize) -> usize
     requires { ⌜ (34816 ≤ length (now t)) × (ev ≤ 32) × (bs ≤ 64) ⌝ }
     ensures { λ r. ⌜ Wrote (now (t .entry)) 0 (padded 8 (ev ∷ bs ∷ [])) (now (t .exit)) r ⌝ }
 {
-    put_word(t, 0, ev as u32);
-    put_word(t, 1, bs as u32);
-    write_zeros(t, 2, 8)
+    put_word(t, table::EVENT_COUNT, ev as u32);
+    put_word(t, table::BEHAVIOUR_COUNT, bs as u32);
+    write_zeros(t, 2, table::EVENTS)
 }
 
 // The record of event e, whose code begins at instruction start.
@@ -49,11 +52,11 @@ pub fn write_record(
     requires { ⌜ (34816 ≤ length (now t)) × (k ≤ 8700) ⌝ }
     ensures { λ r. ⌜ Wrote (now (t .entry)) k ((getD (now (d .entry)) (4224 + e) 0 % 4294967296) ∷ start ∷ count ∷ countMembers (now (d .entry)) e bs ∷ []) (now (t .exit)) r ⌝ }
 {
-    put_word(t, k, (d[4224 + e] % 4294967296) as u32);
+    put_word(t, k, (d[layout::PRIORITIES + e] % layout::WORD) as u32);
     put_word(t, k + 1, start as u32);
     put_word(t, k + 2, count as u32);
     put_word(t, k + 3, back_counts::count_members(d, e, bs) as u32);
-    k + 4
+    k + table::EVENT_WORDS
 }
 
 // The 64 words v.
@@ -63,7 +66,7 @@ pub fn write_values(v: &[u32], t: &mut [u8], k: usize) -> usize
 {
     let mut next = k;
     let mut j = 0;
-    while j < 64 {
+    while j < limits::BEHAVIOURS {
         put_word(t, next, v[j]);
         next += 1;
         j += 1;
@@ -80,7 +83,7 @@ fn write_numbers(d: &[u64], from: usize, count: usize, t: &mut [u8], k: usize) -
     let mut next = k;
     let mut j = 0;
     while j < count {
-        put_word(t, next, (d[from + j] % 4294967296) as u32);
+        put_word(t, next, (d[from + j] % layout::WORD) as u32);
         next += 1;
         j += 1;
     }
@@ -93,8 +96,8 @@ pub fn write_rights(d: &[u64], ev: usize, bs: usize, t: &mut [u8]) -> usize
     ensures { λ r. ⌜ Wrote (now (t .entry)) 200 (rightWords (now (d .entry)) ev bs) (now (t .exit)) r ⌝ }
     ensures { λ r. ⌜ r ≡ 296 ⌝ }
 {
-    let seen = write_numbers(d, 4256, bs, t, 200);
-    write_zeros(t, seen, 264);
-    let sent = write_numbers(d, 4320, ev, t, 264);
-    write_zeros(t, sent, 296)
+    let seen = write_numbers(d, layout::VIEWERS, bs, t, table::VIEWERS);
+    write_zeros(t, seen, table::SENDERS);
+    let sent = write_numbers(d, layout::SENDERS, ev, t, table::SENDERS);
+    write_zeros(t, sent, table::KINDS)
 }

@@ -10,14 +10,19 @@ ghost use Rattle.back_counts.specs.Counts.{Sound};
 ghost use Rattle.back_emit.specs.Words.{each};
 ghost use Rattle.back_emit.specs.Writing.{Room, Wrote};
 ghost use Rattle.back_passives.specs.PassiveWords.{kindWord, againShare, countAgain, againStart, settleWords};
+use format_layout::table;
 use front_draft::entry_of;
+use front_draft::layout;
 use lib_word::put_word;
+
+// The word after the last that is told of passives.
+const PASSIVES_END: usize = table::PASSIVES_LENGTH + 1;
 
 // 1 for a passive's entry.
 fn kind_of(v: u64) -> u32
     ensures { λ r. ⌜ r ≡ pick (eqb (kindOf v) 1) 1 0 ⌝ }
 {
-    if v % 4 == 1 {
+    if v % layout::KINDS == layout::PASSIVE {
         return 1;
     }
     0
@@ -44,8 +49,8 @@ fn share_again(v: u64) -> usize
     requires { ⌜ countOf v ≤ 2048 ⌝ }
     ensures { λ r. ⌜ r ≡ againShare v ⌝ }
 {
-    if v % 4 == 1 {
-        return (v / 16384) as usize + 1;
+    if v % layout::KINDS == layout::PASSIVE {
+        return (v / layout::COUNTS) as usize + 1;
     }
     0
 }
@@ -84,12 +89,12 @@ pub fn write_passives(d: &[u64], ev: usize, bs: usize, t: &mut [u8]) -> usize
     ensures { λ r. ⌜ Wrote (now (t .entry)) 296 (settleWords (now (d .entry)) ev bs) (now (t .exit)) r ⌝ }
     ensures { λ r. ⌜ r ≡ 512 ⌝ }
 {
-    let kinds = write_kinds(d, bs, t, 296);
-    back_parts::write_zeros(t, kinds, 360);
+    let kinds = write_kinds(d, bs, t, table::KINDS);
+    back_parts::write_zeros(t, kinds, table::PASSIVES_START);
     let count = count_again(d, bs);
     let m = back_counts::count_members(d, 0, bs);
     let start = start_again(ev, back_counts::count_event(d, 0, bs), m, count);
-    put_word(t, 360, start as u32);
-    put_word(t, 361, count as u32);
-    back_parts::write_zeros(t, 362, 512)
+    put_word(t, table::PASSIVES_START, start as u32);
+    put_word(t, table::PASSIVES_LENGTH, count as u32);
+    back_parts::write_zeros(t, PASSIVES_END, table::CODE)
 }

@@ -13,6 +13,8 @@ ghost use Rattle.back_phases.specs.Phases.{firstWords, secondWords};
 use back_emit::emit_kind;
 use back_emit::emit_move;
 use back_emit::emit_turn;
+use back_emit::opcodes;
+use front_draft::layout;
 
 // Each behaviour in its order.
 fn emit_turns(
@@ -31,7 +33,7 @@ fn emit_turns(
     let mut next = k;
     let mut j = 0;
     while j < count {
-        next = emit_turn(d, e, 2304, o[j] as usize, t, next);
+        next = emit_turn(d, e, opcodes::SAVE, o[j] as usize, t, next);
         j += 1;
     }
     next
@@ -46,7 +48,7 @@ fn emit_laters(d: &[u64], e: usize, n: usize, t: &mut [u8], k: usize) -> usize
     let mut next = k;
     let mut i = 0;
     while i < n {
-        next = emit_kind(d, e, 3, 2560, i, t, next);
+        next = emit_kind(d, e, layout::LATER, opcodes::DEFER, i, t, next);
         i += 1;
     }
     next
@@ -102,7 +104,7 @@ pub fn emit_again(
     let mut next = k;
     let mut j = 0;
     while j < count {
-        next = emit_kind(d, e, 1, 2304, o[j] as usize, t, next);
+        next = emit_kind(d, e, layout::PASSIVE, opcodes::SAVE, o[j] as usize, t, next);
         j += 1;
     }
     next

@@ -1,67 +1,81 @@
--- The loops over the marks, the bytes of the order, and what the check finds. A mark is 0 or 1, so that the sum fits.
+-- The loops over who is met, the bytes of the order, and what the check finds. A mark is 0 or 1, so that the sum fits.
 use Prim.Native.Nat.{ℕ, _+_, _-_, _≤_, _<_}
-use mathlib.Core.Bool.{true, false, not}
-use mathlib.Core.Path.{_≡_, refl, ap, _∙_, subst}
+use mathlib.Core.Bool.{Bool, true, false, not, _&&_, _||_, or-false, and-false, and-true}
+use mathlib.Core.Path.{_≡_, refl, sym, ap, _∙_, subst}
 use mathlib.Core.Logic.{_≢_, by-cases}
 use mathlib.Core.List.{List}
 use native.Mathlib.Decide.{decLt}
 use native.Mathlib.Omega.{arith}
 use lib.Dec.{eqb}
-use lib.ListN.{length, set, length-set}
-use lib.Seq.{length-take-le, getD-set-same, getD-set-other}
-use borrow.Author.Tests.{lt-ltb, le-ltb}
+use lib.ListN.{length}
+use lib.Seq.{length-take-le}
+use borrow.Author.Tests.{lt-ltb, le-ltb, eq-eqb, ne-eqb}
 use Rattle.lib_base.proofs.Tools.{by-test}
-use Rattle.front_draft.specs.Draft.{entryOf}
+use Rattle.lib_bits.specs.Bits.{bit}
+use Rattle.lib_bits.proofs.BitLaws.{bit-none}
+use Rattle.front_draft.specs.Draft.{draftLength, entryOf}
 use Rattle.front_draft.specs.Entry.{kindOf}
 use Rattle.check_graph.specs.Matrix.{cell}
 use Rattle.check_graph.specs.Placing.{placed, orderOn, ordered}
+use Rattle.check_graph.specs.Sets.{bytesOf, marksOf}
 use Rattle.check_graph.proofs.OrderIs.{order-written, written-take, ordered-same, order-count, order-member}
-use Rattle.check_faults.specs.Checks.{matrixOn}
+use Rattle.check_graph.proofs.SetLaws.{length-marks, cell-bytes, marked-is}
+use Rattle.check_faults.specs.Checks.{matrixOn, RowsAre, RowsInside}
+use Rattle.check_faults.proofs.RowLaws.{rows-same}
 use Rattle.back_schedule.specs.declared.Order.{Order}
 use Rattle.back_schedule.specs.declared.Order.the-variants.{Complete, Circular}
-use Rattle.back_schedule.specs.Ordering.{markOf, MarksAre, orderUnder, Holds, countTurns, isOrdered, Checked}
+use Rattle.back_schedule.specs.Ordering.{markOf, MetAre, orderUnder, Holds, countTurns, isOrdered, Checked}
 
--- ---- marks and order
+-- ---- who is met, and the order
 
-pub record Marking (d : List ℕ) (e n : ℕ) (marks₀ marks : List ℕ) (i : ℕ) : Type 0 where
-  pub so-far : MarksAre d e i marks
+module _ (set i v j : ℕ) where
+  pub met-none : markOf v ≡ 0 → bit set j ≡ bit set j || (not (eqb (markOf v) 0) && eqb j i)
+  met-none h = rw (eq-eqb (markOf v) 0 h) (sym (or-false (bit set j)))
+
+  pub met-one : markOf v ≢ 0 → bit set j || eqb j i ≡ bit set j || (not (eqb (markOf v) 0) && eqb j i)
+  met-one h = rw (ne-eqb (markOf v) 0 h)
+
+pub record Marking (d : List ℕ) (e n set i : ℕ) : Type 0 where
+  pub so-far : (j : ℕ) → j < i → bit set j ≡ not (eqb (markOf (entryOf d e j)) 0)
+  pub past : (j : ℕ) → i ≤ j → bit set j ≡ false
   pub within : i ≤ n
-  pub long : length marks ≡ length marks₀
 
-pub marking-start : (d : List ℕ) (e n : ℕ) (marks : List ℕ) → Marking d e n marks marks 0
-marking-start d e n marks = record { so-far = record { each-mark = λ i h. absurd (omega arith) }; within = omega arith; long = refl }
+pub marking-start : (d : List ℕ) (e n : ℕ) → Marking d e n 0 0
+marking-start d e n = record { so-far = λ j h. absurd (omega arith); past = λ j h. bit-none j; within = omega arith }
 
-pub marking-turn : {d : List ℕ} {e n : ℕ} {marks₀ marks : List ℕ} {i v m : ℕ} → Marking d e n marks₀ marks i → length marks₀ ≡ 64 → n ≤ 64 → i < n
-    → v ≡ entryOf d e i → m ≡ markOf v → Marking d e n marks₀ (set marks i m) (i + 1)
-marking-turn {d} {e} {n} {marks₀} {marks} {i} {v} {m} t l b h q r =
-    let s : i < length marks = omega (arith, t .long) in
-    record {
-      so-far = record {
-        each-mark = λ j c. by-cases (decLt j i)
-            (λ p. let x : j ≢ i = omega arith in getD-set-other marks i j m 0 x ∙ t .so-far .each-mark j p)
-            (λ p. let x : j ≡ i = omega arith in rw x (getD-set-same marks i m 0 s ∙ r ∙ ap markOf q));
-      };
-      within = omega arith;
-      long = rw length-set (t .long);
-    }
-
-pub marking-end : {d : List ℕ} {e n : ℕ} {marks₀ marks : List ℕ} {i : ℕ} → Marking d e n marks₀ marks i → n ≤ i → MarksAre d e n marks
-marking-end {n = n} {i = i} t h = let s : i ≡ n = omega (arith, t .within) in rw s at (t .so-far)
-
--- the bytes that `order_of` writes, from the matrix and the marks of event e
-pub order-holds : (d : List ℕ) (e n : ℕ) (m marks out : List ℕ) (count : ℕ) (marks′ out′ : List ℕ) → n ≤ 64 → m ≡ matrixOn d e n → length marks ≡ 64
-    → MarksAre d e n marks → length out ≡ 64 → placed count marks′ out′ ≡ orderOn m n n marks 0 out → length out′ ≡ 64 → Holds out′ count n (orderUnder d e n)
-unfolding orderUnder
-order-holds d e n m marks out count marks′ out′ small q l k o r l′ = record {
-  taken =
-      written-take (ordered m n marks) out count marks′ out′ (order-written m marks out n l o small count marks′ out′ r)
-      ∙ ordered-same m marks n (λ i j. cell (matrixOn d e n) i j) (λ i. _) (λ i j a b. ap (λ (x : List ℕ). cell x i j) q)
-      (λ i b. rw (k .each-mark i b));
-  listed = record {
-    long = omega (arith, order-count m marks out n l o small count marks′ out′ r);
-    below = order-member m marks out n l o small count marks′ out′ r;
-  };
+pub marking-turn : {d : List ℕ} {e n set set′ i v : ℕ} → Marking d e n set i → i < n → v ≡ entryOf d e i
+    → ((j : ℕ) → bit set′ j ≡ bit set j || (not (eqb (markOf v) 0) && eqb j i)) → Marking d e n set′ (i + 1)
+marking-turn {d} {e} {n} {set} {set′} {i} {v} t h q k = record {
+  so-far = λ j c. by-cases (decLt j i)
+      (λ p. k j ∙ rw (ne-eqb j i (omega arith), and-false (not (eqb (markOf v) 0)), or-false (bit set j)) (t .so-far j p))
+      (λ p. let x : j ≡ i = omega arith in k j ∙ rw (x, t .past i (omega arith), eq-eqb i i refl, ← q, and-true (not (eqb (markOf v) 0))));
+  past = λ j c. k j ∙ rw (ne-eqb j i (omega arith), and-false (not (eqb (markOf v) 0)), or-false (bit set j)) (t .past j (omega arith));
+  within = omega arith;
 }
+
+pub marking-end : {d : List ℕ} {e n set i : ℕ} → Marking d e n set i → n ≤ i → MetAre d e n set
+marking-end t h = record { each-mark = λ j c. t .so-far j (omega arith) }
+
+-- the bytes that `order_of` writes, from the rows of event e and who is met
+pub order-holds : (d : List ℕ) (e n : ℕ) (rows : List ℕ) (met count set : ℕ) (out out′ : List ℕ) → length d ≡ draftLength → n ≤ 64 → RowsInside d e n
+    → RowsAre d e n rows → MetAre d e n met → length out ≡ 64 → placed count (marksOf set) out′ ≡ orderOn (bytesOf rows) n n (marksOf met) 0 out → length out′ ≡ 64
+    → Holds out′ count n (orderUnder d e n)
+unfolding orderUnder
+order-holds d e n rows met count set out out′ dl small inside w k o r l′ =
+    let m = bytesOf rows in
+    let marks = marksOf met in
+    let l = length-marks met in
+    record {
+      taken =
+          written-take (ordered m n marks) out count (marksOf set) out′ (order-written m marks out n l o small count (marksOf set) out′ r)
+          ∙ ordered-same m marks n (λ i j. cell (matrixOn d e n) i j) (λ i. not (eqb (markOf (entryOf d e i)) 0))
+          (λ i j a b. cell-bytes rows i j (omega arith) (omega arith) ∙ rows-same d dl e n small inside w i j a b)
+          (λ i b. marked-is met i (omega arith) ∙ k .each-mark i b);
+      listed = record {
+        long = omega (arith, order-count m marks out n l o small count (marksOf set) out′ r);
+        below = order-member m marks out n l o small count (marksOf set) out′ r;
+      };
+    }
 
 -- ---- the check
 

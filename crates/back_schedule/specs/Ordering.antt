@@ -7,6 +7,7 @@ use mathlib.Core.List.{List}
 use lib.ListN.{length, getD, take}
 use lib.Dec.{eqb, ltb}
 use Rattle.lib_base.specs.Basics.{pick}
+use Rattle.lib_bits.specs.Bits.{bit}
 use Rattle.spec_language.specs.Order.{order, upTo}
 use Rattle.front_draft.specs.Draft.{entryOf}
 use Rattle.front_draft.specs.Entry.{kindOf}
@@ -20,9 +21,9 @@ use Rattle.back_schedule.specs.declared.Order.the-variants.{Complete, Ci
 unfoldable pub markOf : ℕ → ℕ
 markOf v = pick (eqb (kindOf v) 1) 0 (pick (eqb (kindOf v) 2) 0 1)
 
--- the first n marks on event e
-pub record MarksAre (d : List ℕ) (e n : ℕ) (marks : List ℕ) : Type 0 where
-  pub each-mark : (i : ℕ) → i < n → getD marks i 0 ≡ markOf (entryOf d e i)
+-- of the first n on event e, those in the set are met at once
+pub record MetAre (d : List ℕ) (e n set : ℕ) : Type 0 where
+  pub each-mark : (i : ℕ) → i < n → bit set i ≡ not (eqb (markOf (entryOf d e i)) 0)
 
 -- the order of n behaviours on event e
 unfoldable pub orderUnder : List ℕ → ℕ → ℕ → List ℕ

@@ -1,11 +1,15 @@
 // The check on dependence of one event (003, Figure 3): an order in which each behaviour comes after its needs, or that
 // there is none.
 ghost use mathlib.Core.Path.{_≡_};
-ghost use Prim.Native.Nat.{_≤_};
+ghost use mathlib.Core.Bool.{not, _&&_, _||_};
+ghost use Prim.Native.Nat.{ℕ, _≤_, _<_};
 ghost use lib.ListN.{length};
+ghost use lib.Dec.{eqb};
+ghost use Rattle.lib_bits.specs.Bits.{bit};
 ghost use Rattle.check_faults.specs.Checks.{RowsInside};
 ghost use Rattle.front_draft.specs.Draft.{draftLength};
-ghost use Rattle.back_schedule.specs.Ordering.{markOf, MarksAre, orderUnder, Holds, countTurns, Checked};
+ghost use Rattle.back_schedule.specs.Ordering.{markOf, MetAre, orderUnder, Holds, countTurns, Checked};
+use front_draft::layout;
 
 // How many behaviours have their turn in phase one, in an order that is complete; or a circle.
 pub enum Order {
@@ -16,25 +20,38 @@ pub enum Order {
 fn mark_of(v: u64) -> u8
     ensures { λ r. ⌜ r ≡ markOf v ⌝ }
 {
-    if v % 4 == 1 {
+    if v % layout::KINDS == layout::PASSIVE {
         return 0;
     }
-    if v % 4 == 2 {
+    if v % layout::KINDS == layout::IMMEDIATE {
         return 0;
     }
     1
 }
 
-// The marks of n behaviours on event e.
-fn set_marks(d: &[u64], e: usize, n: usize, marks: &mut [u8])
-    requires { ⌜ (length (now d) ≡ draftLength) × (length (now marks) ≡ 64) × (n ≤ 64) ⌝ }
-    ensures { λ _. ⌜ MarksAre (now (d .entry)) e n (now (marks .exit)) ⌝ }
+// The set with i, if behaviour i with entry v is met at once.
+fn add_met(set: u64, i: usize, v: u64) -> u64
+    requires { ⌜ i < 64 ⌝ }
+    ensures { λ r. ⌜ ((j : ℕ) → bit r j ≡ bit set j || (not (eqb (markOf v) 0) && eqb j i)) ⌝ }
 {
+    if mark_of(v) == 0 {
+        return set;
+    }
+    lib_bits::insert(set, i)
+}
+
+// Those of n behaviours that are met at once on event e.
+fn met_set(d: &[u64], e: usize, n: usize) -> u64
+    requires { ⌜ (length (now d) ≡ draftLength) × (n ≤ 64) ⌝ }
+    ensures { λ r. ⌜ MetAre (now (d .entry)) e n r ⌝ }
+{
+    let mut set = 0;
     let mut i = 0;
     while i < n {
-        marks[i] = mark_of(front_draft::entry_of(d, e, i));
+        set = add_met(set, i, front_draft::entry_of(d, e, i));
         i += 1;
     }
+    set
 }
 
 // Phase one's order of n behaviours on event e, in the first bytes of o. Returns how many: those in a circle, and
@@ -43,11 +60,11 @@ pub fn order_under(d: &[u64], e: usize, n: usize, o: &mut [u8]) -> usize
     requires { ⌜ (length (now d) ≡ draftLength) × (length (now o) ≡ 64) × (e ≤ 32) × (n ≤ 64) × RowsInside (now d) e n ⌝ }
     ensures { λ r. ⌜ Holds (now (o .exit)) r n (orderUnder (now (d .entry)) e n) ⌝ }
 {
-    let mut m = [0u8; 4096];
-    let mut marks = [0u8; 64];
-    check_faults::fill_matrix(d, e, n, &mut m);
-    set_marks(d, e, n, &mut marks);
-    check_graph::order_of(&m, &mut marks, n, o)
+    let mut rows = [0u64; check_graph::ROW];
+    check_faults::fill_rows(d, e, n, &mut rows);
+    let met = met_set(d, e, n);
+    let arranged = check_graph::order_of(&rows, met, n, o);
+    arranged.count
 }
 
 // How many of n behaviours have their turn in phase one: the passives and the immediate handlers.

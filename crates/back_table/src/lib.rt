@@ -9,6 +9,11 @@ ghost use Rattle.back_emit.specs.Writing.{Room, Wrote};
 ghost use Rattle.back_event.specs.Handlers.{codeOf};
 ghost use Rattle.front_draft.specs.Draft.{draftLength};
 ghost use Rattle.back_table.specs.TableWords.{countBefore, recordWords, freshWords, aloneWords, codesOf, tableWords, Planned};
+use format_layout::table;
+use spec_language::limits;
+
+// The table's words, of four bytes each.
+const WORDS: usize = table::BYTES / 4;
 
 fn write_records(d: &[u64], ev: usize, bs: usize, t: &mut [u8], k: usize) -> usize
     requires { ⌜ Planned (now d) ev bs ⌝ }
@@ -34,10 +39,10 @@ fn write_fresh(d: &[u64], ev: usize, bs: usize, t: &mut [u8]) -> usize
     ensures { λ r. ⌜ Wrote (now (t .entry)) 136 (freshWords (now (d .entry)) ev bs) (now (t .exit)) r ⌝ }
     ensures { λ r. ⌜ r ≡ 512 ⌝ }
 {
-    let mut o = [0u8; 64];
+    let mut o = [0u8; limits::BEHAVIOURS];
     let count = back_schedule::order_under(d, ev, bs, &mut o);
     let v = back_fresh::fresh_values(d, bs, ev, &o, count);
-    back_parts::write_values(&v, t, 136);
+    back_parts::write_values(&v, t, table::VALUES);
     back_parts::write_rights(d, ev, bs, t);
     back_passives::write_passives(d, ev, bs, t)
 }
@@ -63,7 +68,7 @@ fn write_alone(d: &[u64], ev: usize, bs: usize, t: &mut [u8], k: usize) -> usize
     requires { ⌜ Room (now t) k (aloneWords (now d) bs) ⌝ }
     ensures { λ r. ⌜ Wrote (now (t .entry)) k (aloneWords (now (d .entry)) bs) (now (t .exit)) r ⌝ }
 {
-    let mut o = [0u8; 64];
+    let mut o = [0u8; limits::BEHAVIOURS];
     let count = back_schedule::order_under(d, 0, bs, &mut o);
     back_phases::emit_again(d, 0, bs, &o, count, t, k)
 }
@@ -87,11 +92,11 @@ pub fn write_table(d: &[u64], ev: usize, bs: usize, t: &mut [u8])
     ensures { λ _. ⌜ now (t .exit) ≡ putWords (now (t .entry)) 0 (tableWords (now (d .entry)) ev bs) ⌝ }
 {
     back_parts::write_head(t, ev, bs);
-    let records = write_records(d, ev, bs, t, 8);
-    back_parts::write_zeros(t, records, 136);
+    let records = write_records(d, ev, bs, t, table::EVENTS);
+    back_parts::write_zeros(t, records, table::VALUES);
     write_fresh(d, ev, bs, t);
-    let codes = write_codes(d, ev, bs, t, 512);
-    back_parts::write_zeros(t, codes, 8704);
+    let codes = write_codes(d, ev, bs, t, table::CODE);
+    back_parts::write_zeros(t, codes, WORDS);
 }
 
 // How many instructions the events have together.

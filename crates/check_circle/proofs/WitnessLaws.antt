@@ -1,47 +1,40 @@
 -- What is found on the draft, its parameters filled in, is a shortest circle of the sheet's program: the matrix is its
--- dependence (crate check_faults), and a shortest circle has distinct members. The draft is judged as compile judges
--- the sheet: with 12 no parameter lacks, so that the values filled in are those lent.
+-- dependence (crate check_faults), and a shortest circle has distinct members. That the draft is the program's is what
+-- the judging tells (crate back_compile).
 use Prim.Native.Nat.{ℕ, _≤_, _<_}
-use mathlib.Core.Bool.{Bool, true, false}
+use mathlib.Core.Bool.{Bool, true}
 use mathlib.Core.Path.{_≡_, refl, sym, ap, _∙_, subst}
-use mathlib.Core.Logic.{_≢_, ⊎-elim, by-cases}
+use mathlib.Core.Logic.{_⊎_, ⊎-elim}
 use mathlib.Core.List.{List, [], _∷_, List·Nodup}
-use native.Mathlib.Decide.{decLt}
 use native.Mathlib.Omega.{arith}
 use lib.ListN.{length, replicate, length-replicate}
-use lib.Dec.{ltb}
+use denote.Enum.Declared.{tagOf}
 use Rattle.lib_base.specs.Basics.{All}
-use Rattle.lib_base.proofs.Tools.{split}
-use Rattle.lib_word.specs.Word.{get}
 use Rattle.spec_language.specs.Syntax.{Program}
-use Rattle.spec_language.specs.Sheet.{Sheet, fill, uses}
 use Rattle.spec_language.specs.Dependence.{size, events, noEvent, dependsOn}
 use Rattle.spec_language.specs.Grammar.{Fits}
 use Rattle.spec_language.specs.Accepted.{Known}
-use Rattle.spec_language.specs.Reading.{Got, bad, got, readSheet}
+use Rattle.spec_language.specs.Reading.{got}
 use Rattle.spec_language.proofs.Laws.{depends-within}
-use Rattle.spec_language.proofs.SheetLaws.{fill-unused}
-use Rattle.spec_grammar.proofs.Programs.{reads-back, fault-numbers}
-use Rattle.front_draft.specs.Draft.{Drafted, DraftOf, SheetDraft}
-use Rattle.front_draft.proofs.DraftLaws.{draft-events}
-use Rattle.front_sheet.specs.declared.Draft.the-variants.{Ready, Broken}
-use Rattle.front_sheet.specs.Whole.{finished, readOn}
-use Rattle.front_correct.proofs.Drafts.{Outcome, empty, drafted-as}
-use Rattle.front_params.specs.Filling.{valueOf, fillTo}
-use Rattle.front_params.proofs.Fills.{draft-filled, filled-program}
+use Rattle.spec_grammar.proofs.Programs.{reads-back}
+use Rattle.front_draft.specs.Draft.{draftLength, Drafted, DraftOf}
+use Rattle.front_draft.proofs.DraftLaws.{draft-long, draft-events, draft-behaviours}
 use Rattle.check_graph.specs.Matrix.{cell, below}
 use Rattle.check_graph.proofs.Closure.{below-is}
-use Rattle.check_faults.specs.Faults.{known, cyclic}
-use Rattle.check_faults.specs.Checks.{matrixOn, cyclicOn}
+use Rattle.check_faults.specs.Faults.{known}
+use Rattle.check_faults.specs.Checks.{matrixOn, cyclicOn, AllInside}
 use Rattle.check_faults.proofs.MatrixAgrees.{matrix-is, length-matrixOf}
 use Rattle.check_faults.proofs.CycleDecides.{cell-is, known-decides}
-use Rattle.check_faults.proofs.DraftChecks.{draft-cyclic}
+use Rattle.check_faults.proofs.DraftChecks.{draft-inside}
 use Rattle.check_distance.specs.Circle.{Chain, Circle}
 use Rattle.check_distance.proofs.Shorter.{shorter, distinct-few}
 use Rattle.check_shortest.specs.Search.{Wide, Found}
-use Rattle.back_compile.specs.Verdict.{Compiled, compiled, judge, lacks, programOf, judgeRead, compileOn}
-use Rattle.back_compile.proofs.JudgeLaws.{Verdict, unknown, lacking, circular, long, passed, judge-says, compile-opens, compile-long}
-use Rattle.check_circle.specs.Witness.{numberOn, answered, Listed, EachListed, Witnessed}
+use Rattle.back_compile.specs.Verdict.{Compiled, compiled, programOf, compileOn}
+use Rattle.back_compile.specs.Judged.{Turns, JudgedAs, answerOf}
+use Rattle.back_compile.specs.declared.Judgement.{Judgement}
+use Rattle.back_compile.specs.declared.Judgement.the-variants.{Accepted, Circular, Refused}
+use Rattle.back_compile.proofs.Judgement.{the-type}
+use Rattle.check_circle.specs.Witness.{numberOn, answered, Listed, Witnessed}
 
 -- ---- circles of one dependence and of another
 
@@ -72,15 +65,16 @@ module _ (p : Program) (d : List ℕ) (n : ℕ) (dr : Drafted p d n) (fits : Fit
   listed-in {list} {list′} {r} f =
       let few : size p ≤ 64 = fits .few-behaviours in
       let small : events p ≤ 32 = fits .few-events in
-      let w = f .listed in
-      let ms = w .members in
+      let ms = f .members in
       let round : Circle (dependsOn p (f .event)) ms =
       circle-same (size p) (λ a b. cell (matrixOn d (f .event) (size p)) a b) (dependsOn p (f .event))
-      (λ a b i j. cells (f .event) a b (omega (arith, f .declared)) (omega arith) (omega arith)) ms (w .below) (w .circle) in
-      let least : (g : ℕ) → g ≤ noEvent p → (l : List ℕ) → Circle (dependsOn p g) l → length ms ≤ length l =
-      λ g h l c. rw (w .count) (f .shortest g h l (circle-imp (dependsOn p g) (below (size p) (matrixOn d g (size p)))
+      (λ a b i j. cells (f .event) a b (omega (arith, f .declared)) (omega arith) (omega arith)) ms (f .below-n) (f .circle) in
+      let on-draft : (g : ℕ) → g ≤ noEvent p → (l : List ℕ) → Circle (dependsOn p g) l → Circle (below (size p) (matrixOn d g (size p))) l =
+      λ g h l c. circle-imp (dependsOn p g) (below (size p) (matrixOn d g (size p)))
       (λ a b t. let v = depends-within p ks g a b t in
-      below-is (size p) (matrixOn d g (size p)) a b (v .0) (v .1) (cells g a b (omega arith) (omega (arith, v .0)) (omega (arith, v .1)) ∙ t)) l c)) in
+      below-is (size p) (matrixOn d g (size p)) a b (v .0) (v .1) (cells g a b (omega arith) (omega (arith, v .0)) (omega (arith, v .1)) ∙ t)) l c in
+      let least : (g : ℕ) → g ≤ noEvent p → (l : List ℕ) → Circle (dependsOn p g) l → length ms ≤ length l =
+      λ g h l c. f .shortest g h l (on-draft g h l c) in
       let apart : List·Nodup ms =
       ⊎-elim (λ x. x) (λ x. absurd (omega (arith, x .2, least (f .event) (f .declared) (x .0) (x .1)))) (shorter (dependsOn p (f .event)) ms round) in
       record {
@@ -89,124 +83,70 @@ module _ (p : Program) (d : List ℕ) (n : ℕ) (dr : Drafted p d n) (fits : Fit
         members = ms;
         circle = round;
         shortest = least;
+        none-first = λ l c e. f .none-first l (on-draft (noEvent p) (omega arith) l c) (omega arith);
         distinct = apart;
-        few = omega (arith, distinct-few (size p) ms apart (w .below));
-        answer = rw (w .count) (f .answer);
-        bytes = rw (w .count) (w .bytes);
+        few = omega (arith, distinct-few (size p) ms apart (f .below-n));
+        answer = f .answer;
+        bytes = f .fits;
+        short = f .short;
       }
 
 listed-on : {ev bs n : ℕ} {d : List ℕ} (c : DraftOf ev bs n d) → known (c .program) ≡ true → {list list′ : List ℕ} {r : ℕ} → Found d ev bs list r list′ → Listed (c .program) list r list′
 listed-on {ev} {bs} {n} {d} c k f = listed-in (c .program) d n (c .drafted) (c .fits) (known-decides (c .program) .0 k) (rw (c .size-is, c .events-are) at f)
 
--- ---- what compile's 12 says of the sheet
-
--- where nothing lacks, the values filled in are those lent
-filled-lent : (x : Sheet) (ps : List ℕ) → lacks x ps ≡ false → fill (valueOf ps) x ≡ programOf ps x
-unfolding valueOf
-filled-lent x ps h =
-    split (uses x)
-    (λ u. let c : ltb (length ps) 32 ≡ false = rw u at h in ap (λ (v : ℕ → ℕ). fill v x) (λ i k. lent c k i))
-    (λ u. fill-unused (valueOf ps) (get ps) x u)
-  where
-    lent : ltb (length ps) 32 ≡ false → (k : ℕ) → valueOf ps k ≡ get ps k
-    lent c k = rw c
-
-abbrev Told : Program → Bool → Compiled → Type 0
-Told p l r = r .0 ≡ 12 → (known p ≡ true) × (l ≡ false) × (cyclic p ≡ true)
-
-verdict-twelve : (p : Program) (t : List ℕ) (l : Bool) (r : Compiled) → Verdict p t l r → Told p l r
-verdict-twelve p t l r (unknown k) = λ z. absurd (omega arith)
-verdict-twelve p t l r (lacking k b) = λ z. absurd (omega arith)
-verdict-twelve p t l r (circular k b c) = λ z. (k, b, c)
-verdict-twelve p t l r (long k b c h) = λ z. absurd (omega arith)
-verdict-twelve p t l r (passed k b c h) = λ z. absurd (omega arith)
-
-module _ (s ps : List ℕ) (h : numberOn s ps ≡ 12) where
-  abbrev t : List ℕ
-  t = replicate 34816 0
-
-  room : 34816 ≤ length t
-  room = omega (arith, length-replicate {A = ℕ} 34816 0)
-
-  pub twelve-fits : length s ≤ 8192
-  unfolding numberOn
-  twelve-fits =
-      by-cases (decLt 8192 (length s))
-      (λ b. absurd (omega (arith, sym (ap (λ (x : Compiled). x .0) (compile-long s ps t room b)) ∙ h)))
-      (λ b. omega arith)
-
-  opens : judgeRead (readSheet s) ps t .0 ≡ 12
-  unfolding numberOn
-  opens = sym (ap (λ (x : Compiled). x .0) (compile-opens s ps t room twelve-fits)) ∙ h
-
-  module _ (bytes : All (λ b. b < 256) s) where
-    -- it is read
-    pub not-broken : (k : ℕ) (d : List ℕ) → finished (Broken k) d ≡ readOn s empty → ⊥
-    not-broken k d q =
-        let e : readSheet s ≡ bad k = drafted-as s bytes twelve-fits (Broken k) d (sym q) in
-        let z : k ≡ 12 = sym (ap (λ (g : Got Sheet). judgeRead g ps t .0) e) ∙ opens in
-        let f = fault-numbers s k e in
-        omega arith
-
-    pub read-as : (ev bs n : ℕ) (d : List ℕ) → finished (Ready ev bs n) d ≡ readOn s empty → Outcome s (Ready ev bs n) d
-    read-as ev bs n d q = drafted-as s bytes twelve-fits (Ready ev bs n) d (sym q)
-
-  module _ (lent : All (λ b. b < 256) ps) {ev bs n : ℕ} {d : List ℕ} (o : SheetDraft ev bs n d) (q : readSheet s ≡ got (o .sheet) []) where
-    -- the draft filled in
-    abbrev c : DraftOf ev bs n (fillTo ps d 2048)
-    c = draft-filled ps lent o
-
-    told : (known (programOf ps (o .sheet)) ≡ true) × (lacks (o .sheet) ps ≡ false) × (cyclic (programOf ps (o .sheet)) ≡ true)
-    told =
-        verdict-twelve (programOf ps (o .sheet)) t (lacks (o .sheet) ps) (judge (programOf ps (o .sheet)) (lacks (o .sheet) ps) t) (judge-says (programOf ps (o .sheet)) t (lacks (o .sheet) ps))
-        (sym (ap (λ (g : Got Sheet). judgeRead g ps t .0) q) ∙ opens)
-
-    -- is that of the sheet's program
-    own : c .program ≡ programOf ps (o .sheet)
-    own = filled-program ps lent o ∙ filled-lent (o .sheet) ps (told .1)
-
-    -- its matrices are whole, and one of them has a circle
-    pub draft-wide : Wide (fillTo ps d 2048) ev bs
-    draft-wide e b =
-        rw (c .size-is, matrix-is (c .program) (fillTo ps d 2048) n e (c .fits) (c .drafted) (omega (arith, draft-events c))) (length-matrixOf (c .program) e)
-
-    pub draft-circular : cyclicOn (fillTo ps d 2048) ev bs ≡ true
-    draft-circular = draft-cyclic c ∙ ap cyclic own ∙ told .2
-
-    -- what is found is the sheet's
-    pub found-listed : {list list′ : List ℕ} {r : ℕ} → Found (fillTo ps d 2048) ev bs list r list′ → EachListed s ps list r list′
-    found-listed {list} {list′} {r} f = record {
-      each-sheet = λ x e fits.
-          let read : got x [] ≡ got (o .sheet) [] = sym (rw e at (reads-back x fits)) ∙ q in
-          let same : o .sheet ≡ x = cc in
-          subst (λ (p : Program). Listed p list r list′) (own ∙ ap (programOf ps) same)
-          (listed-on c (ap known own ∙ told .0) f);
-    }
-
--- ---- the call's answers
-
-module _ {s ps list : List ℕ} where
-  pub too-short : length list < 64 → Witnessed s ps list 1 list
-  too-short h = record {
-    short = λ b. refl;
-    other = λ b. absurd (omega arith);
-    circular = λ b. absurd (omega arith);
-  }
-
-  pub not-twelve : {r : ℕ} → 64 ≤ length list → r ≡ numberOn s ps → r ≢ 12 → Witnessed s ps list r list
-  not-twelve h q n = record {
-    short = λ b. absurd (omega arith);
-    other = λ b m. ap (λ (x : ℕ). answered x list) q;
-    circular = λ b m. absurd (n (q ∙ m));
-  }
-
-  pub is-twelve : {list′ : List ℕ} {r : ℕ} → 64 ≤ length list → numberOn s ps ≡ 12 → EachListed s ps list r list′ → Witnessed s ps list r list′
-  is-twelve h q w = record {
-    short = λ b. absurd (omega arith);
-    other = λ b m. absurd (m q);
-    circular = λ b m. w;
-  }
+-- ---- the judging told
 
 pub number-is : (s ps t : List ℕ) {r : ℕ} {t′ : List ℕ} → t ≡ replicate 34816 0 → compiled r t′ ≡ compileOn s ps t → r ≡ numberOn s ps
 unfolding numberOn
 number-is s ps t q e = ap (λ (x : Compiled). x .0) (rw q at e)
+
+room : 34816 ≤ length {A = ℕ} (replicate 34816 0)
+room = omega (arith, length-replicate {A = ℕ} 34816 0)
+
+told : (s ps : List ℕ) {r : ℕ} {t′ : List ℕ} → compileOn s ps (replicate 34816 0) ≡ compiled r t′ → r ≡ numberOn s ps
+told s ps e = number-is s ps (replicate 34816 0) refl (sym e)
+
+-- the judgement's number is compile's
+pub judged-number : (s ps d : List ℕ) (a : Judgement) → JudgedAs s ps d a → answerOf a ≡ numberOn s ps
+judged-number s ps d (Accepted ev bs) h = told s ps (h .finding .compiles (replicate 34816 0) room)
+judged-number s ps d (Circular ev bs) h = told s ps (h .finding .refused (replicate 34816 0) room)
+judged-number s ps d (Refused k) h = told s ps (h .finding .refused (replicate 34816 0) room)
+
+-- no circle, by the judgement's tag
+pub not-circular : (s ps d list : List ℕ) (a : Judgement) → JudgedAs s ps d a → (tagOf the-type a ≡ 0) ⊎ (tagOf the-type a ≡ 2) → {r : ℕ} → r ≡ answerOf a
+    → Witnessed s ps list r list
+not-circular s ps d list a h n {r} q =
+    let e : r ≡ numberOn s ps = q ∙ judged-number s ps d a h in
+    record {
+      other = λ m. ap (λ (x : ℕ). answered x list) e;
+      circular = λ m. absurd (no-twelve a h n (sym q ∙ e ∙ m));
+    }
+  where
+    no-twelve : (a : Judgement) → JudgedAs s ps d a → (tagOf the-type a ≡ 0) ⊎ (tagOf the-type a ≡ 2) → answerOf a ≡ 12 → ⊥
+    no-twelve (Accepted ev bs) h n z = omega arith
+    no-twelve (Circular ev bs) h n z = ⊎-elim (λ x. omega arith) (λ x. omega arith) n
+    no-twelve (Refused k) h n z = h .finding .other z
+
+module _ (s ps : List ℕ) {ev bs : ℕ} {d : List ℕ} (w : Turns s ps ev bs d) where
+  pub turns-draft : (length d ≡ draftLength) × (ev ≤ 32) × (bs ≤ 64) × AllInside d ev bs
+  turns-draft = let c = w .draft in (draft-long c, draft-events c, draft-behaviours c, draft-inside c)
+
+  -- the matrices are whole, and one of them has a circle
+  pub turns-wide : Wide d ev bs × (cyclicOn d ev bs ≡ true)
+  turns-wide =
+      let c = w .draft in
+      (λ e b. rw (c .size-is, matrix-is (c .program) d (w .nodes) e (c .fits) (c .drafted) (omega (arith, draft-events c))) (length-matrixOf (c .program) e), w .cycles)
+
+  -- what is found is the sheet's
+  pub found-listed : {list list′ : List ℕ} {r : ℕ} → Found d ev bs list r list′ → Witnessed s ps list r list′
+  found-listed {list} {list′} {r} f =
+      let twelve : 12 ≡ numberOn s ps = told s ps (w .refused (replicate 34816 0) room) in
+      record {
+        other = λ m. absurd (m (sym twelve));
+        circular = λ m. record {
+          each-sheet = λ x e fits.
+              let read : got x [] ≡ got (w .sheet) [] = sym (rw e at (reads-back x fits)) ∙ w .read in
+              let same : w .sheet ≡ x = cc in
+              subst (λ (p : Program). Listed p list r list′) (w .own ∙ ap (programOf ps) same) (listed-on (w .draft) (w .names) f);
+        };
+      }

@@ -26,25 +26,27 @@ Answered = ℕ × List ℕ
 abbrev pub answered : ℕ → List ℕ → Answered
 answered r l = (r, l)
 
--- a shortest circle of p, in the first bytes of the list, the others as they were; the answer is 12, the event's number
--- (255 for none) times 256 and the circle's length times 65,536
+-- a shortest circle of p, under none where none has one as short; the answer is 12, the event's number (255 for none)
+-- times 256 and the circle's length times 65,536. A list that has room for the circle has it in its first bytes, the
+-- others as they were; a shorter one is as it was
 pub record Listed (p : Program) (list : List ℕ) (r : ℕ) (list′ : List ℕ) : Type 0 where
   pub event : ℕ
   pub declared : event ≤ noEvent p
   pub members : List ℕ
   pub circle : Circle (dependsOn p event) members
   pub shortest : (f : ℕ) → f ≤ noEvent p → (l : List ℕ) → Circle (dependsOn p f) l → length members ≤ length l
+  pub none-first : (l : List ℕ) → Circle (dependsOn p (noEvent p)) l → length l ≡ length members → event ≡ noEvent p
   pub distinct : List·Nodup members
   pub few : length members ≤ 64
   pub answer : r ≡ 12 + eventNumber event (noEvent p) * 256 + length members * 65536
-  pub bytes : list′ ≡ members ++ drop (length members) list
+  pub bytes : length members ≤ length list → list′ ≡ members ++ drop (length members) list
+  pub short : length list < length members → list′ ≡ list
 
 -- of the program of the sheet that the bytes s encode, the bytes ps being lent for its parameters
 pub record EachListed (s ps list : List ℕ) (r : ℕ) (list′ : List ℕ) : Type 0 where
   pub each-sheet : (x : Sheet) → encode x ≡ s → SheetFits x → Listed (programOf ps x) list r list′
 
--- a list under 64 bytes is refused by 1, before anything else
+-- the answer is compile's number, whatever list is lent
 pub record Witnessed (s ps list : List ℕ) (r : ℕ) (list′ : List ℕ) : Type 0 where
-  pub short : length list < 64 → answered r list′ ≡ answered 1 list
-  pub other : 64 ≤ length list → numberOn s ps ≢ 12 → answered r list′ ≡ answered (numberOn s ps) list
-  pub circular : 64 ≤ length list → numberOn s ps ≡ 12 → EachListed s ps list r list′
+  pub other : numberOn s ps ≢ 12 → answered r list′ ≡ answered (numberOn s ps) list
+  pub circular : numberOn s ps ≡ 12 → EachListed s ps list r list′

@@ -1,36 +1,27 @@
-// compile's number for a sheet, and with 12 a shortest circle of its behaviours (02, M-108).
+// compile's number for a sheet, without a table, and with 12 a shortest circle of its behaviours (02, M-108).
 ghost use mathlib.Core.Path.{_≡_};
-ghost use Prim.Native.Nat.{_≤_};
-ghost use lib.ListN.{length};
-ghost use Rattle.check_circle.specs.Witness.{numberOn, EachListed, Witnessed};
-use front_sheet::Draft;
+ghost use Rattle.check_circle.specs.Witness.{numberOn, Witnessed};
+use back_compile::Judgement;
+use front_draft::layout;
 
-// A shortest circle of a sheet that compile turns down by 12 with these parameters.
-fn circle_in(sheet: &[u8], params: &[u8], list: &mut [u8]) -> u64
-    requires { ⌜ (64 ≤ length (now list)) × (numberOn (now sheet) (now params) ≡ 12) ⌝ }
-    ensures { λ r. ⌜ EachListed (now (sheet .entry)) (now (params .entry)) (now (list .entry)) r (now (list .exit)) ⌝ }
+// compile's number, as with a full table.
+pub fn number_at(sheet: &[u8], params: &[u8]) -> u32
+    ensures { λ r. ⌜ r ≡ numberOn (now (sheet .entry)) (now (params .entry)) ⌝ }
 {
-    let mut draft = [0u64; 4416];
-    let a = front_sheet::read_program(sheet, &mut draft);
-    let Draft::Ready(ev, bs, _) = a else {
-        return 12;
-    };
-    front_params::fill_draft(&mut draft, params);
-    check_shortest::list_circle(&draft, ev, bs, list)
+    let mut draft = [0u64; layout::LENGTH];
+    let found = back_compile::judge_sheet(sheet, params, &mut draft);
+    back_compile::number_of(found)
 }
 
-// compile's number, as with a full table, and the list as it was; with 12, the circle in the list's first bytes, its
-// event times 256 (255 for none) and its length times 65,536. A list under 64 bytes is 1.
+// The same, and the list as it was; but with 12, its event times 256 (255 for none) and its length times 65,536, and
+// the circle in the list's first bytes, where it has room for it.
 pub fn circle_at(sheet: &[u8], params: &[u8], list: &mut [u8]) -> u64
     ensures { λ r. ⌜ Witnessed (now (sheet .entry)) (now (params .entry)) (now (list .entry)) r (now (list .exit)) ⌝ }
 {
-    if list.len() < 64 {
-        return 1;
-    }
-    let mut table = [0u8; 34816];
-    let number = back_compile::compile_at(sheet, params, &mut table);
-    if number != 12 {
-        return number as u64;
-    }
-    circle_in(sheet, params, list)
+    let mut draft = [0u64; layout::LENGTH];
+    let judgement = back_compile::judge_sheet(sheet, params, &mut draft);
+    let Judgement::Circular(events, behaviours) = judgement else {
+        return back_compile::number_of(judgement) as u64;
+    };
+    check_shortest::list_circle(&draft, events, behaviours, list)
 }

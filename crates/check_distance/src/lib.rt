@@ -7,16 +7,20 @@ ghost use Prim.Native.Nat.{_-_, _≤_, _<_};
 ghost use lib.ListN.{length};
 ghost use Rattle.check_graph.specs.Matrix.{cell};
 ghost use Rattle.check_distance.specs.Layers.{layer, onward, bit, Lowest, Begun, Filled, Layered, Back, Walked};
+use check_graph::ROW;
+
+// A row for each number of steps from 0 to 64.
+pub const LAYERS: usize = check_graph::CELLS + ROW;
 
 // From j on to h, which has a walk of k steps.
 fn is_onward(m: &[u8], s: &[u8], k: usize, j: usize, h: usize) -> bool
     requires { ⌜ (length (now m) ≡ 4096) × (length (now s) ≡ 4160) × (k ≤ 64) × (j < 64) × (h < 64) ⌝ }
     ensures { λ r. ⌜ r ≡ onward (now (m .entry)) (now (s .entry)) k j h ⌝ }
 {
-    if m[j * 64 + h] == 0 {
+    if m[j * ROW + h] == 0 {
         return false;
     }
-    s[k * 64 + h] != 0
+    s[k * ROW + h] != 0
 }
 
 // The lowest such h of the first n; n if there is none.
@@ -63,7 +67,7 @@ fn fill_layer(m: &[u8], s: &mut [u8], k: usize, n: usize)
 {
     let mut j = 0;
     while j < n {
-        s[k * 64 + 64 + j] = bit(find_onward(m, s, k, j, n), n);
+        s[k * ROW + ROW + j] = bit(find_onward(m, s, k, j, n), n);
         j += 1;
     }
 }

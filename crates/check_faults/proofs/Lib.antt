@@ -4,3 +4,5 @@ pub mod NamesAgree
 pub mod MatrixAgrees
 pub mod CycleDecides
 pub mod DraftChecks
+pub mod RowLaws
+pub mod Left

@@ -22,7 +22,7 @@ use Rattle.front_draft.specs.Entry.{kindOf, startOf, countOf, tagOf, wordOf}
 use Rattle.front_draft.proofs.DraftLaws.{Holds, Entry, entry-of, length-used}
 use Rattle.check_graph.specs.Matrix.{cell, closed}
 use Rattle.check_faults.specs.Faults.{anyBelow, matrixOf, cyclicUnder, cyclic}
-use Rattle.check_faults.specs.Checks.{blank, markNode, markNodes, markEntry, markRows, matrixOn, closedOn, cyclicOn}
+use Rattle.check_faults.specs.Checks.{names, named, blank, markNode, markNodes, markEntry, markRows, matrixOn, closedOn, cyclicOn}
 use Rattle.check_faults.proofs.Blank.{blank-at, length-blank}
 use Rattle.check_faults.proofs.Any.{any-same}
 
@@ -30,10 +30,6 @@ abbrev at : List ℕ → ℕ → ℕ → ℕ
 at m a b = getD m (a * 64 + b) 0
 
 -- ---- one node
-
--- node x names b, which is not `but`
-unfoldable names : ℕ → ℕ → ℕ → Bool
-names but b x = eqb (tagOf x) 17 && (eqb (wordOf x) b && not (eqb but b))
 
 length-markNode : (m : List ℕ) (i but x : ℕ) → length (markNode m i but x) ≡ length m
 unfolding markNode
@@ -57,19 +53,19 @@ node-other m i but x a b n h =
     (λ e. refl)
 
 -- which nodes name b
-no-name : (but b x : ℕ) → eqb (tagOf x) 17 ≡ false → names but b x ≡ false
+pub no-name : (but b x : ℕ) → eqb (tagOf x) 17 ≡ false → names but b x ≡ false
 unfolding names
 no-name but b x e = rw e
 
-no-match : (but b x : ℕ) → wordOf x ≢ b → names but b x ≡ false
+pub no-match : (but b x : ℕ) → wordOf x ≢ b → names but b x ≡ false
 unfolding names
 no-match but b x h = rw (ne-eqb (wordOf x) b h) (and-false (eqb (tagOf x) 17))
 
-no-own : (but b x : ℕ) → but ≡ b → names but b x ≡ false
+pub no-own : (but b x : ℕ) → but ≡ b → names but b x ≡ false
 unfolding names
 no-own but b x h = rw (eq-eqb but b h) (rw (and-false (eqb (wordOf x) b)) (and-false (eqb (tagOf x) 17)))
 
-a-name : (but b x : ℕ) → eqb (tagOf x) 17 ≡ true → wordOf x ≡ b → but ≢ b → names but b x ≡ true
+pub a-name : (but b x : ℕ) → eqb (tagOf x) 17 ≡ true → wordOf x ≡ b → but ≢ b → names but b x ≡ true
 unfolding names
 a-name but b x e h n = rw (e, eq-eqb (wordOf x) b h, ne-eqb but b n)
 
@@ -104,11 +100,7 @@ module _ (m : List ℕ) (i but x b : ℕ) (s : Bool) (l : length m ≡ 4096) (p 
 
 -- ---- a list of nodes
 
-unfoldable named : ℕ → ℕ → List ℕ → Bool
-named but b [] = false
-named but b (x ∷ l) = names but b x || named but b l
-
-named-join : (but b : ℕ) (l m : List ℕ) → named but b (l ++ m) ≡ named but b l || named but b m
+pub named-join : (but b : ℕ) (l m : List ℕ) → named but b (l ++ m) ≡ named but b l || named but b m
 unfolding named
 named-join but b [] m = refl
 named-join but b (x ∷ l) m = rw (named-join but b l m, or-assoc (names but b x) (named but b l) (named but b m))
@@ -125,7 +117,7 @@ nodes-other d m i but start zero a b n h = refl
 nodes-other d m i but start (suc k) a b n h =
     node-other (markNodes d m i but start k) i but (getD d (start + k) 0) a b n h ∙ nodes-other d m i but start k a b n h
 
-nodes-here : (d m : List ℕ) (i but start k b : ℕ) → length m ≡ 4096 → i < 64 → b < 64 → start + k ≤ length d → at m i b ≡ 0
+pub nodes-here : (d m : List ℕ) (i but start k b : ℕ) → length m ≡ 4096 → i < 64 → b < 64 → start + k ≤ length d → at m i b ≡ 0
     → at (markNodes d m i but start k) i b ≡ one? (named but b (take k (drop start d)))
 unfolding markNodes named
 nodes-here d m i but start zero b l p h q z = z
@@ -193,7 +185,7 @@ length-markEntry d m i v =
     by-test (λ (w : List ℕ). length w ≡ length m) (eqb (kindOf v) 1) (λ e. length-markNodes (usedBy d i) m i 64 (startOf v) (countOf v))
     (λ e. by-test (λ (w : List ℕ). length w ≡ length m) (eqb (kindOf v) 2) (λ f. length-markNodes (usedBy d i) m i i (startOf v) (countOf v)) (λ f. refl))
 
-entry-other : (d m : List ℕ) (i v a b : ℕ) → a ≢ i → b < 64 → at (markEntry d m i v) a b ≡ at m a b
+pub entry-other : (d m : List ℕ) (i v a b : ℕ) → a ≢ i → b < 64 → at (markEntry d m i v) a b ≡ at m a b
 unfolding markEntry
 entry-other d m i v a b n h =
     by-test (λ w. at w a b ≡ at m a b) (eqb (kindOf v) 1) (λ e. nodes-other (usedBy d i) m i 64 (startOf v) (countOf v) a b n h)
@@ -227,12 +219,12 @@ module _ (d m : List ℕ) (i v b : ℕ) (dl : length d ≡ draftLength) (l : len
 
 -- ---- all rows
 
-length-markRows : (d m : List ℕ) (e n : ℕ) → length (markRows d m e n) ≡ length m
+pub length-markRows : (d m : List ℕ) (e n : ℕ) → length (markRows d m e n) ≡ length m
 unfolding markRows
 length-markRows d m e zero = refl
 length-markRows d m e (suc n) = length-markEntry d (markRows d m e n) n (entryOf d e n) ∙ length-markRows d m e n
 
-rows-left : (d m : List ℕ) (e n a b : ℕ) → n ≤ a → b < 64 → at (markRows d m e n) a b ≡ at m a b
+pub rows-left : (d m : List ℕ) (e n a b : ℕ) → n ≤ a → b < 64 → at (markRows d m e n) a b ≡ at m a b
 unfolding markRows
 rows-left d m e zero a b h k = refl
 rows-left d m e (suc n) a b h k = entry-other d (markRows d m e n) n (entryOf d e n) a b (omega arith) k ∙ rows-left d m e n a b (omega arith) k

@@ -1,10 +1,12 @@
 -- The checks of a whole program on its draft, in the code's tests and order.
 use Prim.Native.Nat.{ℕ, zero, suc, _+_, _*_, _≤_, _<_}
-use mathlib.Core.Bool.{Bool, true, false}
-use mathlib.Core.List.{List}
-use lib.ListN.{getD, set, replicate}
+use mathlib.Core.Bool.{Bool, true, false, not, _&&_, _||_}
+use mathlib.Core.Path.{_≡_}
+use mathlib.Core.List.{List, [], _∷_}
+use lib.ListN.{getD, set, replicate, take, drop}
 use lib.Dec.{eqb, ltb, leb}
 use Rattle.lib_base.specs.Basics.{pick}
+use Rattle.lib_bits.specs.Bits.{bit}
 use Rattle.front_draft.specs.Draft.{entryOf, usedBy}
 use Rattle.front_draft.specs.Entry.{kindOf, startOf, countOf, tagOf, wordOf}
 use Rattle.check_graph.specs.Matrix.{cell, closed}
@@ -50,6 +52,26 @@ markRows d m e (suc n) = markEntry d (markRows d m e n) n (entryOf d e n)
 unfoldable pub matrixOn : List ℕ → ℕ → ℕ → List ℕ
 matrixOn d e n = markRows d (blank 4096) e n
 
+-- ---- its rows as sets
+
+-- node x names b, which is not `but`; one of the nodes does
+unfoldable pub names : ℕ → ℕ → ℕ → Bool
+names but b x = eqb (tagOf x) 17 && (eqb (wordOf x) b && not (eqb but b))
+
+unfoldable pub named : ℕ → ℕ → List ℕ → Bool
+named but b [] = false
+named but b (x ∷ l) = names but b x || named but b l
+
+-- behaviour i with entry v needs b
+unfoldable pub needsOn : List ℕ → ℕ → ℕ → ℕ → Bool
+needsOn d i v b =
+    pick (eqb (kindOf v) 1) (named 64 b (take (countOf v) (drop (startOf v) (usedBy d i))))
+    (pick (eqb (kindOf v) 2) (named i b (take (countOf v) (drop (startOf v) (usedBy d i)))) false)
+
+-- the needs among the first n of each of the first n behaviours, on event e
+pub record RowsAre (d : List ℕ) (e n : ℕ) (rows : List ℕ) : Type 0 where
+  pub row : (i b : ℕ) → i < n → bit (getD rows i 0) b ≡ ltb b n && needsOn d i (entryOf d e i) b
+
 -- ---- cycles
 
 unfoldable pub closedOn : List ℕ → ℕ → ℕ → List ℕ
@@ -58,6 +80,11 @@ closedOn d e n = closed (matrixOn d e n) n
 -- on one of the first ev events or the number after them, one of bs behaviours reaches itself
 unfoldable pub cyclicOn : List ℕ → ℕ → ℕ → Bool
 cyclicOn d ev bs = anyBelow (ev + 1) (λ e. anyBelow bs (λ i. cell (closedOn d e bs) i i))
+
+-- a set of the first n behaviours on event e: all of them if none reaches itself, and else not all
+pub record PlacedOn (d : List ℕ) (e n set : ℕ) : Type 0 where
+  pub all-in : ((i : ℕ) → i < n → bit set i ≡ true) → anyBelow n (λ i. cell (closedOn d e n) i i) ≡ false
+  pub one-out : (i : ℕ) → i < n → bit set i ≡ false → anyBelow n (λ i. cell (closedOn d e n) i i) ≡ true
 
 -- ---- what the code asks of a draft: the nodes of each entry lie among the 2,048
 

@@ -1,2 +1,3 @@
 pub mod Closure
 pub mod OrderIs
+pub mod SetLaws

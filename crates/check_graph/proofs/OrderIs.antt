@@ -15,6 +15,7 @@ use Rattle.lib_base.specs.Basics.{pick, All}
 use Rattle.lib_base.proofs.Tools.{split, by-elim, by-option, all-at}
 use Rattle.spec_language.specs.Order.{met, find, order, upTo}
 use Rattle.spec_language.proofs.Laws.{length-upTo, getD-upTo, upTo-same}
+use Rattle.spec_semantics.proofs.OrderLaws.{markAll}
 use Rattle.check_graph.specs.Matrix.{cell}
 use Rattle.check_graph.specs.Placing.{lacks, metOn, readyOn, findOn, Placed, placed, orderOn, isMarked, ordered, Written}
 
@@ -180,6 +181,36 @@ module _ (m : List ℕ) (n : ℕ) (small : n ≤ 64) where
       place-on c marks out (findOn m marks n n 0) (find n dep n 0 bs) (λ x. orderOn m n k (set marks x 1) (suc c) (set out c x)) (λ x. order n dep k (set bs x true))
       (omega arith) (rw zero-add at (find-is marks bs g n 0 (omega arith)))
       (λ x b. orders k (set marks x 1) (set bs x true) (suc c) (set out c x) (agree-set marks bs x g b) (rw length-set (omega arith)))
+
+  -- the marks after it are the order's members, marked
+  abbrev AgreeAt : List Bool → Placed → Type 0
+  AgreeAt bs (count, marks, bytes) = Agree marks bs
+
+  marks-on : (c : ℕ) (marks out : List ℕ) (bs : List Bool) (f : ℕ) (o : Option ℕ) (go : ℕ → Placed) (rest : ℕ → List ℕ) → Found n f o → Agree marks bs
+      → ((x : ℕ) → x < n → AgreeAt (markAll (rest x) (set bs x true)) (go x))
+      → AgreeAt (markAll (elim o [ none ↦ [] | some x ↦ x ∷ rest x ]) bs) (elim (ltb f n) [ true ↦ go f | false ↦ placed c marks out ])
+  marks-on c marks out bs f none go rest d g k =
+      subst (λ (b : Bool). AgreeAt bs (elim b [ true ↦ go f | false ↦ placed c marks out ])) (sym (le-ltb f n (omega arith))) g
+  marks-on c marks out bs f (some x) go rest d g k =
+      let q : x ≡ f = sym (d .0) in
+      subst (λ (b : Bool). AgreeAt (markAll (rest x) (set bs x true)) (elim b [ true ↦ go f | false ↦ placed c marks out ])) (sym (lt-ltb f n (omega arith)))
+      (subst (λ (z : ℕ). AgreeAt (markAll (rest x) (set bs x true)) (go z)) q (k x (d .1)))
+
+  marks-after : (k : ℕ) (marks : List ℕ) (bs : List Bool) (c : ℕ) (out : List ℕ) → Agree marks bs → AgreeAt (markAll (order n dep k bs) bs) (orderOn m n k marks c out)
+  unfolding order orderOn
+  marks-after zero marks bs c out g = g
+  marks-after (suc k) marks bs c out g =
+      marks-on c marks out bs (findOn m marks n n 0) (find n dep n 0 bs) (λ x. orderOn m n k (set marks x 1) (suc c) (set out c x)) (λ x. order n dep k (set bs x true))
+      (rw zero-add at (find-is marks bs g n 0 (omega arith))) g
+      (λ x b. marks-after k (set marks x 1) (set bs x true) (suc c) (set out c x) (agree-set marks bs x g b))
+
+pub order-marks : (m marks out : List ℕ) (n : ℕ) → length marks ≡ 64 → n ≤ 64 → (count : ℕ) (marks′ out′ : List ℕ) → placed count marks′ out′ ≡ orderOn m n n marks 0 out
+    → (j : ℕ) → j < n → isMarked marks′ j ≡ getD (markAll (ordered m n marks) (upTo n (λ i. isMarked marks i))) j false
+order-marks m marks out n l small count marks′ out′ e j h =
+    let bs = upTo n (λ i. isMarked marks i) in
+    let g : AgreeAt m n small (markAll (ordered m n marks) bs) (placed count marks′ out′) =
+    subst (AgreeAt m n small (markAll (ordered m n marks) bs)) (sym e) (marks-after m n small n marks bs 0 out (agree-first m n small marks l)) in
+    sym (g .same j h)
 
 from-start : (out o : List ℕ) (m : List ℕ) (n : ℕ) (small : n ≤ 64) (r : Placed) → WrittenAt m n small 0 out o r → Written o out r
 from-start out o m n small (count, marks, bytes) w = (rw zero-add at (w .0), rw zero-add at (w .1))

@@ -1,5 +1,5 @@
--- The lowest number first among those whose needs are met, on a dependence matrix and bytes that mark who is placed, in
--- the code's tests and order.
+-- The lowest number first among those whose needs are met, on a dependence matrix and bytes that mark who is placed.
+-- The code has both as sets of bits (specs/Sets.antt).
 use Prim.Native.Nat.{ℕ, zero, suc, _+_, _*_}
 use mathlib.Core.Bool.{Bool, true, false, not}
 use mathlib.Core.Path.{_≡_}

@@ -1,11 +1,12 @@
 -- The search for a shortest circle on a draft, in the code's order, and what it finds. The steps from a behaviour back
--- to itself are packed with it and the event, so that the least number is that of a shortest walk.
-use Prim.Native.Nat.{ℕ, zero, suc, _+_, _*_, _≤_, min}
+-- to itself are packed with the event's turn and the behaviour, so that the least number is that of a shortest walk,
+-- and none, whose turn is first, goes before the events.
+use Prim.Native.Nat.{ℕ, zero, suc, _+_, _*_, _-_, _≤_, _<_, min}
 use mathlib.Core.Path.{_≡_}
-use mathlib.Core.List.{List}
-use lib.Dec.{ltb}
-use lib.ListN.{length}
-use Rattle.lib_base.specs.Basics.{pick}
+use mathlib.Core.List.{List, _++_}
+use lib.Dec.{ltb, eqb}
+use lib.ListN.{length, take, drop}
+use Rattle.lib_base.specs.Basics.{pick, All}
 use Rattle.check_graph.specs.Matrix.{cell, below}
 use Rattle.check_faults.specs.Checks.{matrixOn}
 use Rattle.check_distance.specs.Circle.{Circle}
@@ -15,20 +16,25 @@ use Rattle.check_distance.specs.Layers.{stepsBack, Walked}
 unfoldable pub backOn : List ℕ → ℕ → ℕ → ℕ → ℕ
 backOn d e n i = stepsBack (λ a b. cell (matrixOn d e n) a b) n i
 
-abbrev pub packed : List ℕ → ℕ → ℕ → ℕ → ℕ
-packed d e n i = (backOn d e n i * 64 + i) * 64 + e
+-- the events in turn: none, which is the number after the last, and then those declared
+unfoldable pub eventAt : ℕ → ℕ → ℕ
+eventAt ev t = pick (eqb t 0) ev (t - 1)
 
--- over the first k behaviours of n on event e, and over the first k events
-unfoldable pub bestOf : List ℕ → ℕ → ℕ → ℕ → ℕ → ℕ
-bestOf d e n zero b = b
-bestOf d e n (suc k) b = min (bestOf d e n k b) (packed d e n k)
+-- the steps, the turn, and the behaviour
+abbrev pub packed : List ℕ → ℕ → ℕ → ℕ → ℕ → ℕ
+packed d e t n i = (backOn d e n i * 64 + t) * 64 + i
 
-unfoldable pub bestAll : List ℕ → ℕ → ℕ → ℕ → ℕ
-bestAll d n zero b = b
-bestAll d n (suc e) b = bestOf d e n n (bestAll d n e b)
+-- over the first k behaviours of n on event e, whose turn is t, and over the first k turns
+unfoldable pub bestOf : List ℕ → ℕ → ℕ → ℕ → ℕ → ℕ → ℕ
+bestOf d e t n zero b = b
+bestOf d e t n (suc k) b = min (bestOf d e t n k b) (packed d e t n k)
+
+unfoldable pub bestAll : List ℕ → ℕ → ℕ → ℕ → ℕ → ℕ
+bestAll d ev n zero b = b
+bestAll d ev n (suc t) b = bestOf d (eventAt ev t) t n n (bestAll d ev n t b)
 
 unfoldable pub shortestOn : List ℕ → ℕ → ℕ → ℕ
-shortestOn d ev n = bestAll d n (ev + 1) 300000
+shortestOn d ev n = bestAll d ev n (ev + 1) 300000
 
 -- an event's number in an answer; 255 for none
 unfoldable pub eventNumber : ℕ → ℕ → ℕ
@@ -38,12 +44,25 @@ eventNumber e ev = pick (ltb e ev) e 255
 abbrev pub Wide : List ℕ → ℕ → ℕ → Type 0
 Wide d ev n = (e : ℕ) → e ≤ ev → length (matrixOn d e n) ≡ 4096
 
--- what is found: on some event or on none a circle, listed in the first bytes, and no circle on any event or none has
--- fewer members
+-- r behaviours of a shortest walk from i back to i on event e, in the first bytes
+pub record Members (d : List ℕ) (e n i r : ℕ) (list list′ : List ℕ) : Type 0 where
+  pub steps : r ≡ backOn d e n i
+  pub walked : Walked (matrixOn d e n) n r list list′
+
+-- the list with r bytes at its start, where it has room for them
+unfoldable pub handed : List ℕ → ℕ → List ℕ → List ℕ
+handed members r list = pick (ltb (length list) r) list (take r members ++ drop r list)
+
+-- what is found: on some event or on none a circle, and no circle on any event or none has fewer members; none where
+-- none has one as short; its members in the first bytes of a list that has room for them, and any other list as it was
 pub record Found (d : List ℕ) (ev n : ℕ) (list : List ℕ) (r : ℕ) (list′ : List ℕ) : Type 0 where
   pub event : ℕ
   pub declared : event ≤ ev
-  pub count : ℕ
-  pub listed : Walked (matrixOn d event n) n count list list′
-  pub answer : r ≡ 12 + eventNumber event ev * 256 + count * 65536
-  pub shortest : (f : ℕ) → f ≤ ev → (l : List ℕ) → Circle (below n (matrixOn d f n)) l → count ≤ length l
+  pub members : List ℕ
+  pub below-n : All (λ j. j < n) members
+  pub circle : Circle (λ a b. cell (matrixOn d event n) a b) members
+  pub answer : r ≡ 12 + eventNumber event ev * 256 + length members * 65536
+  pub shortest : (f : ℕ) → f ≤ ev → (l : List ℕ) → Circle (below n (matrixOn d f n)) l → length members ≤ length l
+  pub none-first : (l : List ℕ) → Circle (below n (matrixOn d ev n)) l → length l ≤ length members → event ≡ ev
+  pub fits : length members ≤ length list → list′ ≡ members ++ drop (length members) list
+  pub short : length list < length members → list′ ≡ list

@@ -3,11 +3,26 @@
 // the most.
 ghost use mathlib.Core.Path.{_≡_};
 ghost use mathlib.Core.Bool.{true};
-ghost use Prim.Native.Nat.{_≤_, min};
+ghost use Prim.Native.Nat.{_≤_, _<_, min};
 ghost use lib.ListN.{length};
 ghost use Rattle.check_faults.specs.Checks.{cyclicOn, RowsInside, AllInside};
 ghost use Rattle.front_draft.specs.Draft.{draftLength};
-ghost use Rattle.check_shortest.specs.Search.{bestOf, shortestOn, eventNumber, Wide, Found};
+ghost use Rattle.check_shortest.specs.Search.{backOn, eventAt, bestOf, shortestOn, eventNumber, Wide, Members, handed, Found};
+
+// How the steps from a behaviour back to itself are packed with the event's turn and the behaviour: both are below 64.
+const TURNS: usize = 64;
+
+const BEHAVIOURS: usize = 64;
+// Above every packed number.
+const BEYOND: usize = 300000;
+// An answer: the refusal, the event times EVENT, NO_EVENT for none, and how many members times COUNT.
+const CYCLE: u64 = spec_language::refusals::CYCLE as u64;
+
+const NO_EVENT: u64 = 255;
+
+const EVENT: u64 = 256;
+
+const COUNT: u64 = 65536;
 
 fn lower(a: usize, b: usize) -> usize
     ensures { λ r. ⌜ r ≡ min a b ⌝ }
@@ -18,10 +33,30 @@ fn lower(a: usize, b: usize) -> usize
     a
 }
 
-// The lowest of best and, for each behaviour, the steps from it back to itself on event e, packed with both.
-fn best_under(d: &[u64], e: usize, n: usize, m: &mut [u8], s: &mut [u8], best: usize) -> usize
+// The events in turn: none, which is number ev, and then those declared.
+fn event_at(ev: usize, t: usize) -> usize
+    ensures { λ r. ⌜ r ≡ eventAt ev t ⌝ }
+{
+    if t == 0 {
+        return ev;
+    }
+    t - 1
+}
+
+// The lowest of best and, for each behaviour, the steps from it back to itself on event e, packed with the event's turn
+// and the behaviour.
+fn best_under(
+    d: &[u64],
+    e: usize,
+    t: usize,
+    n: usize,
+    m: &mut [u8],
+    s: &mut [u8],
+    best: usize,
+) -> usize
     requires { ⌜ (length (now d) ≡ draftLength) × (length (now m) ≡ 4096) × (length (now s) ≡ 4160) × (e ≤ 32) × (n ≤ 64) × RowsInside (now d) e n ⌝ }
-    ensures { λ r. ⌜ r ≡ bestOf (now (d .entry)) e n n best ⌝ }
+    requires { ⌜ t ≤ 32 ⌝ }
+    ensures { λ r. ⌜ r ≡ bestOf (now (d .entry)) e t n n best ⌝ }
 {
     check_faults::fill_matrix(d, e, n, m);
     let mut least = best;
@@ -29,25 +64,25 @@ fn best_under(d: &[u64], e: usize, n: usize, m: &mut [u8], s: &mut [u8], best: u
     while i < n {
         least = lower(
             least,
-            (check_distance::steps_back(m, s, i, n) * 64 + i) * 64 + e,
+            (check_distance::steps_back(m, s, i, n) * TURNS + t) * BEHAVIOURS + i,
         );
         i += 1;
     }
     least
 }
 
-// The same over ev events and none.
+// The same over none and ev events.
 fn shortest(d: &[u64], ev: usize, n: usize) -> usize
     requires { ⌜ (length (now d) ≡ draftLength) × (ev ≤ 32) × (n ≤ 64) × AllInside (now d) ev n ⌝ }
     ensures { λ r. ⌜ r ≡ shortestOn (now (d .entry)) ev n ⌝ }
 {
-    let mut m = [0u8; 4096];
-    let mut s = [0u8; 4160];
-    let mut least = 300000;
-    let mut e = 0;
-    while e <= ev {
-        least = best_under(d, e, n, &mut m, &mut s, least);
-        e += 1;
+    let mut m = [0u8; check_graph::CELLS];
+    let mut s = [0u8; check_distance::LAYERS];
+    let mut least = BEYOND;
+    let mut t = 0;
+    while t <= ev {
+        least = best_under(d, event_at(ev, t), t, n, &mut m, &mut s, least);
+        t += 1;
     }
     least
 }
@@ -59,22 +94,44 @@ fn event_number(e: usize, ev: usize) -> u64
     if e < ev {
         return e as u64;
     }
-    255
+    NO_EVENT
 }
 
-// A shortest circle: its members in the list's first bytes. 12, its event times 256 and their number times 65,536.
-pub fn list_circle(d: &[u64], ev: usize, n: usize, list: &mut [u8]) -> u64
-    requires { ⌜ (length (now d) ≡ draftLength) × (ev ≤ 32) × (n ≤ 64) × AllInside (now d) ev n ⌝ }
-    requires { ⌜ (64 ≤ length (now list)) × Wide (now d) ev n × (cyclicOn (now d) ev n ≡ true) ⌝ }
-    ensures { λ r. ⌜ Found (now (d .entry)) ev n (now (list .entry)) r (now (list .exit)) ⌝ }
+// The behaviours of a shortest walk from i back to i on event e, in the list's first bytes, and how many they are.
+fn list_members(d: &[u64], e: usize, i: usize, n: usize, list: &mut [u8]) -> usize
+    requires { ⌜ (length (now d) ≡ draftLength) × (e ≤ 32) × (n ≤ 64) × RowsInside (now d) e n ⌝ }
+    requires { ⌜ (64 ≤ length (now list)) × (i < n) × (backOn (now d) e n i ≤ n) ⌝ }
+    ensures { λ r. ⌜ Members (now (d .entry)) e n i r (now (list .entry)) (now (list .exit)) ⌝ }
 {
-    let best = shortest(d, ev, n);
-    let e = best % 64;
-    let i = best / 64 % 64;
-    let mut m = [0u8; 4096];
-    let mut s = [0u8; 4160];
+    let mut m = [0u8; check_graph::CELLS];
+    let mut s = [0u8; check_distance::LAYERS];
     check_faults::fill_matrix(d, e, n, &mut m);
     let r = check_distance::steps_back(&m, &mut s, i, n);
     check_distance::walk(&m, &s, i, r, n, list);
-    12 + event_number(e, ev) * 256 + r as u64 * 65536
+    r
+}
+
+// The first r bytes go to the start of the list, where it has room for them.
+fn hand_over(members: &[u8], r: usize, list: &mut [u8])
+    requires { ⌜ r ≤ length (now members) ⌝ }
+    ensures { λ _. ⌜ now (list .exit) ≡ handed (now (members .entry)) r (now (list .entry)) ⌝ }
+{
+    if r <= list.len() {
+        bytes::copy(&members[0..r], list);
+    }
+}
+
+// A shortest circle, under none where none has one as short: its members in the list's first bytes, where it has room
+// for them. 12, its event times 256 and their number times 65,536.
+pub fn list_circle(d: &[u64], ev: usize, n: usize, list: &mut [u8]) -> u64
+    requires { ⌜ (length (now d) ≡ draftLength) × (ev ≤ 32) × (n ≤ 64) × AllInside (now d) ev n ⌝ }
+    requires { ⌜ Wide (now d) ev n × (cyclicOn (now d) ev n ≡ true) ⌝ }
+    ensures { λ r. ⌜ Found (now (d .entry)) ev n (now (list .entry)) r (now (list .exit)) ⌝ }
+{
+    let best = shortest(d, ev, n);
+    let e = event_at(ev, best / BEHAVIOURS % TURNS);
+    let mut members = [0u8; BEHAVIOURS];
+    let count = list_members(d, e, best % BEHAVIOURS, n, &mut members);
+    hand_over(&members, count, list);
+    CYCLE + event_number(e, ev) * EVENT + count as u64 * COUNT
 }

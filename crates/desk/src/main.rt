@@ -1,20 +1,34 @@
-// The desk program: reads fields from standard input, calls the engine and writes the lines of `script`, which has the
-// format. Tags (hexadecimal): 20 a sheet, 21 an arrival, 22 steps, 23 a show.
+// The desk program: reads fields from standard input, calls the engine and writes the lines of desk_format.
+use desk_format::tags;
+use format_layout::round;
+use format_layout::table;
 use libc::STDIN_FILENO;
 use libc::STDOUT_FILENO;
 ghost use Prim.Native.Nat.{_≤_, _<_};
 ghost use lib.ListN.{length};
 ghost use Rattle.io.specs.Counts.{Counts};
 
+// How long a line may be: one of a refusal or a step, and one of a show.
+const LINE_BYTES: usize = 64;
+
+const BOARD_LINE_BYTES: usize = 2048;
+
+const BEHAVIOURS: u32 = spec_language::limits::BEHAVIOURS as u32;
+
+// A value of the board is answered with 2^32 more.
+const ACCEPTED: u64 = 4294967296;
+
+const SETTLING: u64 = spec_language::refusals::SETTLING as u64;
+
 fn refuse(n: u64) {
-    let mut line = [0u8; 64];
+    let mut line = [0u8; LINE_BYTES];
     let size = desk_format::refusal(n, &mut line);
     io::write_all(STDOUT_FILENO, &line[..size]);
 }
 
 // One step.
 fn step_once(table: &[u8], round: &mut [u8]) {
-    let mut line = [0u8; 64];
+    let mut line = [0u8; LINE_BYTES];
     let size = desk_format::step_line(engine::step(table, round), &mut line);
     io::write_all(STDOUT_FILENO, &line[..size]);
 }
@@ -42,12 +56,12 @@ fn collect(table: &[u8], round: &[u8], values: &mut [u32]) -> usize
     ensures { λ r. ⌜ Counts r (now (values .exit)) ⌝ }
 {
     let mut i = 0;
-    while i < 64 {
+    while i < BEHAVIOURS {
         let answer = engine::board(table, round, i, 0);
-        if answer < 4294967296 {
+        if answer < ACCEPTED {
             break;
         }
-        values[i as usize] = (answer % 4294967296) as u32;
+        values[i as usize] = (answer % ACCEPTED) as u32;
         i += 1;
     }
     i as usize
@@ -56,12 +70,12 @@ fn collect(table: &[u8], round: &[u8], values: &mut [u32]) -> usize
 // "During copy-back a show prints the one line R 19, with or without behaviours."
 fn show(table: &[u8], round: &[u8]) {
     if run_board::settling_at(table, round) {
-        refuse(19);
+        refuse(SETTLING);
         return;
     }
-    let mut values = [0u32; 64];
+    let mut values = [0u32; spec_language::limits::BEHAVIOURS];
     let count = collect(table, round, &mut values);
-    let mut line = [0u8; 2048];
+    let mut line = [0u8; BOARD_LINE_BYTES];
     let size = desk_format::board_line(&values[..count], &mut line);
     io::write_all(STDOUT_FILENO, &line[..size]);
 }
@@ -80,14 +94,14 @@ fn load(sheet: &[u8], table: &mut [u8], round: &mut [u8]) -> u8 {
 
 // What a field asks for that is not refused: 1, or 2 where a sheet was accepted.
 fn act(tag: u8, value: &[u8], table: &mut [u8], round: &mut [u8]) -> u8 {
-    if tag == 32 {
+    if tag == tags::SHEET {
         return load(value, table, round);
     }
-    if tag == 33 {
+    if tag == tags::ARRIVAL {
         arrive(table, round, desk_format::number(value));
         return 1;
     }
-    if tag == 34 {
+    if tag == tags::STEPS {
         steps(table, round, desk_format::number(value));
         return 1;
     }
@@ -132,8 +146,8 @@ fn turn(table: &mut [u8], round: &mut [u8], ready: bool) -> u8 {
 // Field after field. A proved loop has to end, and nothing says that the input does: it counts its turns down, from a
 // number that no run uses up.
 fn main() {
-    let mut table = [0u8; 34816];
-    let mut round = [0u8; 2048];
+    let mut table = [0u8; table::BYTES];
+    let mut round = [0u8; round::BYTES];
     let mut ready = false;
     let mut turns = u64::MAX;
     while turns > 0 {

@@ -1,5 +1,6 @@
 // The desk program's format: how its fields are judged, and the lines that it prints. 01 "The desk program". Tags are
 // 20 to 23 in hexadecimal, 32 to 35 in decimal.
+use spec_language::refusals;
 ghost use mathlib.Core.Path.{_≡_};
 ghost use mathlib.Core.List.{_++_, _∷_};
 ghost use Prim.Native.Nat.{_+_, _*_, _≤_};
@@ -7,18 +8,44 @@ ghost use lib.ListN.{length, take};
 ghost use Rattle.io.specs.Counts.{Counts};
 ghost use Rattle.desk_format.specs.Script.{headVerdict, due, playVerdict, valueVerdict, endsAfter, numberIn, decimal, signedText, refusalLine, commitLine, stepLine, boardLine};
 
+pub mod tags;
+
+const TORN: u8 = refusals::TORN as u8;
+
+const WRONG_TAG: u8 = refusals::WRONG_TAG as u8;
+
+const WRONG_LENGTH: u8 = refusals::WRONG_LENGTH as u8;
+
+const FOREIGN: u8 = refusals::FOREIGN as u8;
+
+const FOREIGN_STEP: u64 = refusals::FOREIGN as u64;
+
+// A step's answer: its kind, then from these factors on the event and the arrival's number, with so many of each.
+const KINDS: u64 = 16;
+
+const EVENT: u64 = 256;
+
+const EVENTS: u64 = 256;
+
+const NUMBER: u64 = 65536;
+
+const NUMBERS: u64 = 1099511627776;
+
+// The most digits of a number.
+const DIGITS: usize = 20;
+
 // What a field's header is refused for: 4 where fewer than 3 bytes were there, 5 for another tag; else 0.
 pub fn judge_head(got: usize, tag: u8) -> u8
     ensures { λ r. ⌜ r ≡ headVerdict got tag ⌝ }
 {
     if got < 3 {
-        return 4;
+        return TORN;
     }
-    if tag < 32 {
-        return 5;
+    if tag < tags::SHEET {
+        return WRONG_TAG;
     }
-    if tag > 35 {
-        return 5;
+    if tag > tags::SHOW {
+        return WRONG_TAG;
     }
     0
 }
@@ -27,10 +54,10 @@ pub fn judge_head(got: usize, tag: u8) -> u8
 fn due_length(tag: u8) -> usize
     ensures { λ r. ⌜ r ≡ due tag ⌝ }
 {
-    if tag == 33 {
+    if tag == tags::ARRIVAL {
         return 1;
     }
-    if tag == 34 {
+    if tag == tags::STEPS {
         return 2;
     }
     0
@@ -41,12 +68,12 @@ fn judge_play(size: usize, length: usize, ready: bool) -> u8
     ensures { λ r. ⌜ r ≡ playVerdict size length ready ⌝ }
 {
     if size != length {
-        return 6;
+        return WRONG_LENGTH;
     }
     if ready {
         return 0;
     }
-    14
+    FOREIGN
 }
 
 // What a field's value is refused for: 4 where fewer bytes were there than its size; 6 and 14 for an arrival, a count
@@ -55,9 +82,9 @@ pub fn judge_value(tag: u8, size: usize, got: usize, ready: bool) -> u8
     ensures { λ r. ⌜ r ≡ valueVerdict tag size got ready ⌝ }
 {
     if got < size {
-        return 4;
+        return TORN;
     }
-    if tag == 32 {
+    if tag == tags::SHEET {
         return 0;
     }
     judge_play(size, due_length(tag), ready)
@@ -70,7 +97,7 @@ pub fn ends(verdict: u8) -> bool
     if verdict == 0 {
         return false;
     }
-    if verdict == 14 {
+    if verdict == FOREIGN {
         return false;
     }
     true
@@ -106,7 +133,7 @@ fn put_decimal(out: &mut [u8], at: usize, n: u64) -> usize
     ensures { λ r. ⌜ r ≤ at + 20 ⌝ }
     ensures { λ r. ⌜ take r (now (out .exit)) ≡ take at (now (out .entry)) ++ decimal n ⌝ }
 {
-    let mut digits = [0u8; 20];
+    let mut digits = [0u8; DIGITS];
     let k = io::decimal(n, &mut digits);
     put(out, at, &digits[..k])
 }
@@ -117,11 +144,11 @@ fn put_signed(out: &mut [u8], at: usize, w: u32) -> usize
     ensures { λ r. ⌜ r ≤ at + 21 ⌝ }
     ensures { λ r. ⌜ take r (now (out .exit)) ≡ take at (now (out .entry)) ++ signedText w ⌝ }
 {
-    if w < 2147483648 {
+    if w < lib_arith::NEGATIVE {
         return put_decimal(out, at, w as u64);
     }
     let n = put(out, at, b"-");
-    put_decimal(out, n, 4294967296 - (w as u64))
+    put_decimal(out, n, lib_arith::WORDS - (w as u64))
 }
 
 // Puts a space and a value.
@@ -164,11 +191,11 @@ pub fn step_line(answer: u64, out: &mut [u8]) -> usize
     ensures { λ r. ⌜ Counts r (now (out .exit)) ⌝ }
     ensures { λ r. ⌜ take r (now (out .exit)) ≡ stepLine answer ⌝ }
 {
-    if answer == 14 {
-        return refusal(14, out);
+    if answer == FOREIGN_STEP {
+        return refusal(FOREIGN_STEP, out);
     }
-    if answer % 16 == 3 {
-        return commit(answer / 65536 % 1099511627776, answer / 256 % 256, out);
+    if answer % KINDS == spec_language::answers::COMMITTED {
+        return commit(answer / NUMBER % NUMBERS, answer / EVENT % EVENTS, out);
     }
     0
 }

@@ -21,31 +21,28 @@ use Rattle.format_layout.specs.Layout.{eventCount, eventWord, sendersAt, taken,
 use Rattle.format_layout.proofs.BoundsLaws.{bounds}
 use Rattle.format_image.specs.Image.{tableOf}
 use Rattle.format_image.proofs.ImageLaws.{length-table, beyond-table}
+use Rattle.back_compile.specs.Verdict.{Compiled, programOf, compileOn}
+use Rattle.back_compile.proofs.AcceptedExactly.{accepted-exactly, refused-unchanged}
 use Rattle.run_queue.specs.Queue.{best, better, either, ahead}
 use Rattle.run_start.specs.Start.{Result, startOn}
 use Rattle.run_stack.specs.Stack.{pushOn, popTo, noted, applyOne, applyTwo, applyThree, applyOn}
 use Rattle.run_allowed.specs.Allowed.{allowed}
 use Rattle.run_allowed.proofs.AllowedLaws.{slot-small}
 use Rattle.run_instruction.specs.Instruction.{transfer, perform}
+use Rattle.run_carry.specs.Carry.{carryOn, shownFor, shown}
 use Rattle.run_arrive.specs.Arrivals.{full, arriveWith, arriveKnown, arriveIn, arriveOn}
 use Rattle.run_board.specs.Board.{masked, settlingOn}
-use Rattle.run_carry.specs.Carry.{carryOn, shownFor, shown}
 use Rattle.run_mend.specs.Mending.{handKnown, backInHand, rested, verdict, mended, mendWith, mendAfter, mendIn, mendOn}
 use Rattle.run_dispatch.specs.Dispatch.{startAt, preemptAt}
 use Rattle.run_advance.specs.Advance.{countOn, executeOn, executeAt, advance}
 use Rattle.run_step.specs.Machine.{meet, contest, running, resting, stepWith, stepIn, stepOn}
-use Rattle.refine_calls.specs.Refinement.{callOn, roundAfter, Kept}
+use Rattle.refine_calls.specs.Refinement.{callOn, turnOnBytes, bytesAfter, roundAfter, Kept}
 use Rattle.refine_calls.proofs.Slots.{kept-all, kept-put, kept-trans, kept-slot, kept-run}
 use Rattle.refine_calls.proofs.Relation.{admit-kept}
 use Rattle.refine_calls.proofs.FreshRound.{fresh-kept}
 use Rattle.refine_calls.proofs.Refines.{short-code}
-use Rattle.back_compile.specs.Verdict.{Compiled, programOf, compileOn}
-use Rattle.back_compile.proofs.AcceptedExactly.{accepted-exactly, refused-unchanged}
 use Rattle.refine_lists.proofs.Sheets.{table-room, program-accepted}
-
--- of the bytes l, lent and left as m, those from n on are as they were, and the length
-abbrev pub Untouched : ℕ → List ℕ → List ℕ → Type 0
-Untouched n l m = (drop n m ≡ drop n l) × (length m ≡ length l)
+use Rattle.engine.specs.Beyond.{Untouched}
 
 untouched : (n : ℕ) (l m : List ℕ) → length m ≡ length l → ((j : ℕ) → n ≤ j → getD m j 0 ≡ getD l j 0) → Untouched n l m
 untouched n l m e h = (
@@ -234,7 +231,7 @@ call-keeps t step l = step-keeps t l
 call-keeps t (board i who) l = kept-all l
 
 calls-keep : (t : List ℕ) (cs : List Call) (l : List ℕ) → Kept l (roundAfter t cs l)
-unfolding roundAfter
+unfolding roundAfter bytesAfter turnOnBytes
 calls-keep t [] l = kept-all l
 calls-keep t (c ∷ cs) l = kept-trans (call-keeps t c l) (calls-keep t cs (callOn t c l .1))
 

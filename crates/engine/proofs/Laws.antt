@@ -13,7 +13,7 @@ use Rattle.run_start.specs.Start.{Result, result}
 use Rattle.run_arrive.specs.Arrivals.{arriveOn}
 use Rattle.run_board.specs.Board.{boardOn}
 use Rattle.run_step.specs.Machine.{stepOn}
-use Rattle.refine_calls.specs.Refinement.{callOn, answersOn, roundAfter}
+use Rattle.refine_calls.specs.Refinement.{callOn, turnOnBytes, numbersOn, bytesAfter, answersOn, roundAfter}
 use Rattle.engine.specs.Replay.{callOf, callsFrom, putAnswer, putAnswers}
 
 pub call-arrive : (t l : List ℕ) (kind n who : ℕ) → kind ≡ 0 → arriveOn t l n who ≡ callOn t (callOf kind n who) l
@@ -29,23 +29,23 @@ unfolding callOn callOf
 call-board t l kind n who r d f e = rw (ne-eqb kind 0 d, ne-eqb kind 1 f) (ap (λ (x : ℕ). result x l) e)
 
 -- n calls are made, i of them so far, with the round l and the answers a
-pub record Turn (t l₀ calls a₀ : List ℕ) (n : ℕ) (l a : List ℕ) (i : ℕ) : Type 0 where
+pub record CallsLeft (t l₀ calls a₀ : List ℕ) (n : ℕ) (l a : List ℕ) (i : ℕ) : Type 0 where
   pub rounds : roundAfter t (callsFrom calls i (n - i)) l ≡ roundAfter t (callsFrom calls 0 n) l₀
   pub answers : putAnswers a i (answersOn t (callsFrom calls i (n - i)) l) ≡ putAnswers a₀ 0 (answersOn t (callsFrom calls 0 n) l₀)
   pub within : i ≤ n
   pub as-long : length a ≡ length a₀
   pub round-long : length l ≡ length l₀
 
-pub begin : (t l calls a : List ℕ) (n : ℕ) → Turn t l calls a n l a 0
+pub begin : (t l calls a : List ℕ) (n : ℕ) → CallsLeft t l calls a n l a 0
 begin t l calls a n =
     let z : n - 0 ≡ n = omega arith in
     record { rounds = rw z; answers = rw z; within = omega arith; as-long = refl; round-long = refl }
 
-module _ {t l₀ calls a₀ : List ℕ} {n : ℕ} {l a : List ℕ} {i : ℕ} (k : Turn t l₀ calls a₀ n l a i) where
-  pub turn : {r : ℕ} {l′ a′ : List ℕ} → i < n → result r l′ ≡ callOn t (callOf (getD calls (i * 6) 0) (getAt calls (i * 6 + 1)) (getD calls (i * 6 + 5) 0)) l → a′ ≡ putAnswer a i r
-      → length a′ ≡ length a → length l′ ≡ length l → Turn t l₀ calls a₀ n l′ a′ (i + 1)
-  unfolding callsFrom roundAfter answersOn putAnswers
-  turn {r} {l′} {a′} h e f w x =
+module _ {t l₀ calls a₀ : List ℕ} {n : ℕ} {l a : List ℕ} {i : ℕ} (k : CallsLeft t l₀ calls a₀ n l a i) where
+  pub next-call : {r : ℕ} {l′ a′ : List ℕ} → i < n → result r l′ ≡ callOn t (callOf (getD calls (i * 6) 0) (getAt calls (i * 6 + 1)) (getD calls (i * 6 + 5) 0)) l → a′ ≡ putAnswer a i r
+      → length a′ ≡ length a → length l′ ≡ length l → CallsLeft t l₀ calls a₀ n l′ a′ (i + 1)
+  unfolding callsFrom roundAfter answersOn bytesAfter numbersOn turnOnBytes putAnswers
+  next-call {r} {l′} {a′} h e f w x =
       let s : n - i ≡ suc (n - (i + 1)) = omega arith in
       let more : List Call = callsFrom calls (i + 1) (n - (i + 1)) in
       record {
@@ -57,9 +57,9 @@ module _ {t l₀ calls a₀ : List ℕ} {n : ℕ} {l a : List ℕ} {i : ℕ} (k 
       }
 
   pub end-round : n ≤ i → l ≡ roundAfter t (callsFrom calls 0 n) l₀
-  unfolding callsFrom roundAfter
+  unfolding callsFrom roundAfter bytesAfter
   end-round h = let z : n - i ≡ 0 = omega arith in rw z at (k .rounds)
 
   pub end-answers : n ≤ i → a ≡ putAnswers a₀ 0 (answersOn t (callsFrom calls 0 n) l₀)
-  unfolding callsFrom answersOn putAnswers
+  unfolding callsFrom answersOn numbersOn putAnswers
   end-answers h = let z : n - i ≡ 0 = omega arith in rw z at (k .answers)

@@ -15,9 +15,9 @@ use Rattle.format_layout.specs.Layout.{eventCount, eventWord, sendersAt, taken,
 use Rattle.run_queue.specs.Queue.{best}
 use Rattle.run_start.specs.Start.{Result, startOn}
 use Rattle.run_allowed.specs.Allowed.{allowed}
+use Rattle.run_carry.specs.Carry.{carryOn}
 use Rattle.run_arrive.specs.Arrivals.{full, arriveWith, arriveKnown, arriveIn, arriveOn}
 use Rattle.run_board.specs.Board.{masked, settlingOn}
-use Rattle.run_carry.specs.Carry.{carryOn}
 use Rattle.run_mend.specs.Mending.{handKnown, verdict, mendWith, mendAfter, mendIn, mendOn}
 use Rattle.run_dispatch.specs.Dispatch.{said, startAt, preemptAt}
 use Rattle.run_advance.specs.Advance.{commitSaid, countOn, executeOn, executeAt, advance}

@@ -1,10 +1,9 @@
 -- 02, M-106, "A rest day": what the exported calls do with a sheet of no bytes. By demand 3's theorem the calls answer
 -- as the model engine does, which for a program with no events and no behaviours stays as it began.
-use Prim.Native.Nat.{ℕ, _≤_, _<_}
+use Prim.Native.Nat.{ℕ, _≤_}
 use mathlib.Core.Bool.{true≢false}
-use mathlib.Core.Path.{_≡_, refl, sym, ap, _∙_}
-use mathlib.Core.Logic.{_≢_}
-use mathlib.Core.List.{List, [], _∷_, _++_, sum, flatMap}
+use mathlib.Core.Path.{_≡_, refl, sym, ap, _∙_, subst}
+use mathlib.Core.List.{List, [], _∷_, sum, flatMap, map}
 use native.Mathlib.Omega.{arith}
 use lib.ListN.{length}
 use lib.Dec.{leb}
@@ -12,58 +11,25 @@ use borrow.Author.Tests.{le-leb, lt-leb}
 use Rattle.lib_base.proofs.Tools.{by-test}
 use Rattle.lib_word.specs.Word.{get}
 use Rattle.spec_language.specs.Syntax.{Program}
-use Rattle.spec_language.specs.Sheet.{Sheet, cellCount, entriesOut, fillEntries, usesEntries}
+use Rattle.spec_language.specs.Sheet.{cellCount, entriesOut, fillEntries, usesEntries}
 use Rattle.spec_language.specs.Dependence.{handled, dependsOn, Reach, one, more}
 use Rattle.spec_language.specs.Grammar.{encodeBehaviours, encodeEvents, encode}
 use Rattle.spec_language.specs.Order.{upTo}
 use Rattle.spec_language.specs.Code.{allInstructions}
 use Rattle.spec_language.specs.Accepted.{Accepted, SheetAccepted}
-use Rattle.spec_language.specs.Reading.{sheet}
-use Rattle.spec_model.specs.Model.{Engine, initial, Call, arrive, step, board, Outcome, act, run}
+use Rattle.spec_model.specs.Model.{Engine, initial, Call, arrive, step, board, Outcome, act, call, state, turn, runTurns, begun}
 use Rattle.spec_model.specs.Claims.{after}
 use Rattle.format_image.specs.Image.{tableOf}
-use Rattle.run_start.specs.Start.{Result, startOn}
-use Rattle.run_arrive.specs.Arrivals.{arriveOn}
-use Rattle.run_board.specs.Board.{boardOn}
-use Rattle.refine_calls.specs.Refinement.{coded, callOn, roundAfter}
 use Rattle.back_compile.specs.Verdict.{Compiled, compiled, programOf, compileOn}
 use Rattle.back_compile.proofs.AcceptedExactly.{accepted-exactly, never-two}
-use Rattle.engine.specs.Demand.{IdleNow}
-use Rattle.engine.proofs.Runs.{next-answer}
-use Rattle.refine_lists.proofs.Sheets.{begun}
-use Rattle.engine.proofs.Holds as holds
-
--- "a sheet with no events and no behaviours"
-abbrev pub blank : Sheet
-blank = sheet [] []
-
--- the program that it means, whatever its parameters are
-abbrev pub nothing : Program
-nothing = record { priorities = []; senders = []; behaviours = []; viewers = [] }
-
--- "its round idle, every arrival refused by 15 and every board reading by 18": after the calls cs on the table t and
--- the round l, of each of the eight players (02, M-107: 24 for others)
-pub record AtRest (t l : List ℕ) (cs : List Call) : Type 0 where
-  pub idle : IdleNow t (roundAfter t cs l)
-  pub arrivals : (e who : ℕ) → who < 8 → arriveOn t (roundAfter t cs l) e who .0 ≡ 15
-  pub readings : (i who : ℕ) → who < 8 → boardOn t (roundAfter t cs l) i who ≡ 18
-
--- "On rest days the sheet store sends a sheet of no bytes. It shall mean a sheet with no events and no behaviours:
--- accepted", in any table bytes t₀ and round bytes l₀ of 01's lengths
-pub record RestDay : Type 0 where
-  -- no bytes are the encoding of that sheet, which meets 01's grammar and limits and means that program, whatever is
-  -- lent for parameters
-  pub bytes : encode blank ≡ []
-  pub within : (ps : List ℕ) → SheetAccepted (get ps) (length ps) blank
-  pub means : (ps : List ℕ) → programOf ps blank ≡ nothing
-  -- compile takes the sheet, and leaves that program's table
-  pub accepted : (ps t₀ : List ℕ) → 34816 ≤ length t₀ → compileOn [] ps t₀ .0 ≡ 0
-  pub table : (ps t₀ : List ℕ) → 34816 ≤ length t₀ → compileOn [] ps t₀ .1 ≡ tableOf nothing t₀
-  pub begun : (ps t₀ l₀ : List ℕ) → 34816 ≤ length t₀ → 2048 ≤ length l₀ → startOn (compileOn [] ps t₀ .1) l₀ .0 ≡ 0
-  pub at-rest : (ps t₀ l₀ : List ℕ) → 34816 ≤ length t₀ → 2048 ≤ length l₀ → (cs : List Call)
-      → AtRest (compileOn [] ps t₀ .1) (startOn (compileOn [] ps t₀ .1) l₀ .1) cs
-  -- "Number 2 never occurs again."
-  pub never-blank : (s ps t : List ℕ) → compileOn s ps t .0 ≢ 2
+use Rattle.run_start.specs.Start.{Result, startOn}
+use Rattle.refine_calls.specs.Refinement.{coded, callOn, roundAfter, calls, Bytes, bytes, turnOnBytes, bytesAfter}
+use Rattle.refine_calls.proofs.TurnsRefine.{Stand}
+use Rattle.refine_calls.proofs.TurnsRefine as refine
+use Rattle.refine_lists.proofs.Sheets.{begun as begins}
+use Rattle.refine_lists.proofs.ListsHold.{turns-calls}
+use Rattle.refine_lists.proofs.OnlyCallsHold.{table-stays}
+use Rattle.engine.specs.RestDay.{blank, nothing, Resting, RestDay}
 
 -- ---- it is accepted
 
@@ -130,10 +96,10 @@ unfolding act
 refuses e who =
     by-test (λ (o : Outcome). o .after ≡ initial nothing) (leb 8 who) (λ _. refl) (λ _. rw (le-leb 0 e (omega arith)))
 
-stays : (cs : List Call) → after nothing cs ≡ initial nothing
-unfolding act run
+stays : (cs : List Call) → after nothing (map call cs) ≡ begun nothing
+unfolding act turn runTurns
 stays [] = refl
-stays (arrive e who ∷ cs) = ap (λ (w : Engine). run nothing cs w) (refuses e who) ∙ stays cs
+stays (arrive e who ∷ cs) = ap (λ (w : Engine). runTurns (map call cs) (state nothing w)) (refuses e who) ∙ stays cs
 stays (step ∷ cs) = stays cs
 stays (board i who ∷ cs) = stays cs
 
@@ -144,13 +110,23 @@ module _ (ps t₀ l₀ : List ℕ) (room : 34816 ≤ length t₀) (round-room : 
   abbrev round : List ℕ
   round = startOn table l₀ .1
 
-  -- one more call is answered as by the model engine that has just begun
-  answers : (cs : List Call) (c : Call) → callOn table c (roundAfter table cs round) .0 ≡ coded (act nothing c (initial nothing) .answer)
-  answers cs c =
-      next-answer nothing table cs c round (initial nothing) (holds.one nothing nothing-accepted t₀ l₀ table room round-room (table-is ps t₀ room) (cs ++ (c ∷ [])) .answers)
-      ∙ ap (λ (w : Engine). coded (act nothing c w .answer)) (stays cs)
+  -- how the bytes stand after the calls: as those of the model engine that has just begun
+  stands : (cs : List Call) → Stand l₀ (bytesAfter (map calls cs) (bytes table round)) (begun nothing)
+  stands cs =
+      let fresh-is : refine.freshFrom nothing nothing-accepted t₀ l₀ room round-room ≡ bytes table round =
+      λ i. bytes (sym (table-is ps t₀ room) i) (sym (ap (λ (r : Result). r .1) (begins nothing nothing-accepted t₀ l₀ table room round-room (table-is ps t₀ room))) i) in
+      subst (Stand l₀ (bytesAfter (map calls cs) (bytes table round))) (stays cs)
+      (subst (λ (b : Bytes). Stand l₀ (bytesAfter (map calls cs) b) (after nothing (map call cs))) fresh-is
+      (refine.runs nothing nothing-accepted t₀ l₀ room round-room (map calls cs) (map call cs) (turns-calls [] [] cs tt) .stand))
 
-  rests : (cs : List Call) → AtRest table round cs
+  -- so one more call is answered as by that engine
+  answers : (cs : List Call) (c : Call) → callOn table c (roundAfter table cs round) .0 ≡ coded (act nothing c (initial nothing) .answer)
+  unfolding roundAfter turnOnBytes turn
+  answers cs c =
+      ap (λ (t : List ℕ). callOn t c (bytesAfter (map calls cs) (bytes table round) .round) .0) (sym (table-stays cs (bytes table round)))
+      ∙ refine.turned l₀ (bytesAfter (map calls cs) (bytes table round)) (calls c) (begun nothing) (call c) refl (stands cs) .answered
+
+  rests : (cs : List Call) → Resting table round cs
   unfolding callOn act
   rests cs = record {
     idle = answers cs step;
@@ -159,7 +135,7 @@ module _ (ps t₀ l₀ : List ℕ) (room : 34816 ≤ length t₀) (round-room : 
   }
 
   starts : startOn table l₀ .0 ≡ 0
-  starts = ap (λ (r : Result). r .0) (begun nothing nothing-accepted t₀ l₀ table room round-room (table-is ps t₀ room))
+  starts = ap (λ (r : Result). r .0) (begins nothing nothing-accepted t₀ l₀ table room round-room (table-is ps t₀ room))
 
 -- M-106
 pub rest-day : RestDay

@@ -1,2 +1,4 @@
 pub mod Demand
 pub mod Replay
+pub mod RestDay
+pub mod Beyond

@@ -1,10 +1,13 @@
 // The exported calls. Each contract gives the answer and every byte at exit, for all bytes and numbers; none has a
 // `requires`. The table is lent as `&[u8]` to all but compile: they leave it as it was.
+use spec_language::answers;
 ghost use mathlib.Core.Path.{_≡_};
 ghost use Prim.Native.Nat.{_+_, _*_, _≤_, _<_};
 ghost use lib.ListN.{length};
 ghost use Rattle.back_compile.specs.Verdict.{compiled, compileOn};
 ghost use Rattle.check_circle.specs.Witness.{Witnessed};
+ghost use Rattle.check_agree.specs.Agree.{agreeOn};
+ghost use Rattle.check_leak.specs.Leak.{leakOn};
 ghost use Rattle.run_start.specs.Start.{result, startOn};
 ghost use Rattle.run_arrive.specs.Arrivals.{arriveOn};
 ghost use Rattle.run_board.specs.Board.{boardOn};
@@ -12,6 +15,8 @@ ghost use Rattle.run_mend.specs.Mending.{mendOn};
 ghost use Rattle.run_step.specs.Machine.{stepOn};
 ghost use Rattle.run_forecast.specs.Forecast.{forecastOn};
 ghost use Rattle.run_preview.specs.Preview.{previewOn};
+ghost use Rattle.run_counts.specs.Counts.{versionNumber, eventCountOn, behaviourCountOn, eventRankOn};
+ghost use Rattle.run_frame.specs.Frame.{framed, frameOn};
 ghost use Rattle.text_formula.specs.Answer.{answered, formulaOn};
 ghost use Rattle.link_join.specs.Join.{joined, joinOn};
 ghost use Rattle.refine_calls.specs.Refinement.{toldOn, callOn, answersOn, roundAfter};
@@ -27,8 +32,8 @@ pub extern "C" fn compile(sheet: &[u8], params: &[u8], table: &mut [u8]) -> u32
     back_compile::compile_at(sheet, params, table)
 }
 
-// Why a sheet is turned down: compile's number, as with a full table, the list as it was; with 12 a shortest circle in
-// the list's first bytes, its event times 256 (255 for none) and its length times 65,536. 1 for a list under 64 bytes.
+// Why a sheet is turned down: compile's number, as with a full table, the list as it was; with 12 a shortest circle's
+// event times 256 (255 for none) and its length times 65,536, and it in the list's first bytes, where it has room.
 #[no_mangle]
 pub extern "C" fn circle(sheet: &[u8], params: &[u8], list: &mut [u8]) -> u64
     ensures { λ r. ⌜ Witnessed (now (sheet .entry)) (now (params .entry)) (now (list .entry)) r (now (list .exit)) ⌝ }
@@ -71,7 +76,7 @@ pub extern "C" fn step(table: &[u8], round: &mut [u8]) -> u64
 pub extern "C" fn told(answer: u64) -> u64
     ensures { λ r. ⌜ r ≡ toldOn answer ⌝ }
 {
-    answer % 72057594037927936
+    answer % answers::OVER
 }
 
 // The value of a behaviour, for a player: 2 ^ 32 and the word; or 14, 24, 18, 25, 19.
@@ -147,6 +152,15 @@ pub extern "C" fn join(first: &[u8], second: &[u8], params: &[u8], buffer: &mut 
 
 // ---- a recorded list of calls
 
+// A call of the record has six bytes: its kind, a number of 32 bits and the player; an answer has eight.
+const CALL_BYTES: usize = 6;
+
+const PLAYER_AT: usize = 5;
+
+const ANSWER_BYTES: usize = 8;
+// A word has 32 bits.
+const WORD: u64 = 4294967296;
+
 // One call of the record.
 fn make_call(table: &[u8], round: &mut [u8], kind: u8, n: u32, player: u32) -> u64
     ensures { λ r. ⌜ result r (now (round .exit)) ≡ callOn (now (table .entry)) (callOf kind n player) (now (round .entry)) ⌝ }
@@ -164,18 +178,18 @@ fn put_answer(answers: &mut [u8], i: usize, r: u64)
     requires { ⌜ (i * 8 + 8 ≤ length (now answers)) × (i < 2305843009213693951) ⌝ }
     ensures { λ _. ⌜ now (answers .exit) ≡ putAnswer (now (answers .entry)) i r ⌝ }
 {
-    lib_word::put_word(answers, i * 2, (r / 4294967296) as u32);
-    lib_word::put_word(answers, i * 2 + 1, (r % 4294967296) as u32);
+    lib_word::put_word(answers, i * 2, (r / WORD) as u32);
+    lib_word::put_word(answers, i * 2 + 1, (r % WORD) as u32);
 }
 
 fn call_count(calls: usize, answers: usize) -> usize
     ensures { λ r. ⌜ r ≡ callCount calls answers ⌝ }
     ensures { λ r. ⌜ (r * 6 ≤ calls) × (r * 8 ≤ answers) ⌝ }
 {
-    if calls / 6 < answers / 8 {
-        return calls / 6;
+    if calls / CALL_BYTES < answers / ANSWER_BYTES {
+        return calls / CALL_BYTES;
     }
-    answers / 8
+    answers / ANSWER_BYTES
 }
 
 // Makes the recorded calls one after the other, and writes their answers: what a host needs to audit a round. How many
@@ -191,16 +205,92 @@ pub extern "C" fn replay(table: &[u8], round: &mut [u8], calls: &[u8], answers: 
     let n = call_count(calls.len(), answers.len());
     let mut i = 0;
     while i < n {
-        let k = i * 6;
+        let k = i * CALL_BYTES;
         let r = make_call(
             table,
             round,
             calls[k],
             lib_word::get_at(calls, k + 1),
-            calls[k + 5] as u32,
+            calls[k + PLAYER_AT] as u32,
         );
         put_answer(answers, i, r);
         i += 1;
     }
     n
+}
+
+// ---- what a host asks of the library and of a table
+
+// The version of these calls times 65,536, and that of the layout of table and round.
+#[no_mangle]
+pub extern "C" fn version() -> u32
+    ensures { λ r. ⌜ r ≡ versionNumber ⌝ }
+{
+    run_counts::version_of()
+}
+
+// How many events a table's program declares: 2 ^ 32 and their number; or 14.
+#[no_mangle]
+pub extern "C" fn event_count(table: &[u8]) -> u64
+    ensures { λ r. ⌜ r ≡ eventCountOn (now (table .entry)) ⌝ }
+    ensures { λ _. ⌜ now (table .exit) ≡ now (table .entry) ⌝ }
+{
+    run_counts::events_of(table)
+}
+
+// How many behaviours it has: 2 ^ 32 and their number; or 14.
+#[no_mangle]
+pub extern "C" fn behaviour_count(table: &[u8]) -> u64
+    ensures { λ r. ⌜ r ≡ behaviourCountOn (now (table .entry)) ⌝ }
+    ensures { λ _. ⌜ now (table .exit) ≡ now (table .entry) ⌝ }
+{
+    run_counts::behaviours_of(table)
+}
+
+// An event's rank: 2 ^ 32 and the rank; or 14, 15.
+#[no_mangle]
+pub extern "C" fn event_rank(table: &[u8], event: u32) -> u64
+    ensures { λ r. ⌜ r ≡ eventRankOn (now (table .entry)) event ⌝ }
+    ensures { λ _. ⌜ now (table .exit) ≡ now (table .entry) ⌝ }
+{
+    run_counts::rank_of(table, event)
+}
+
+// ---- a frame
+
+// Up to so many steps, the answer of each that commits written to `commits`, eight bytes each. Bits 0 to 31: the steps
+// made; 32 to 55: the commits written; 56 to 63: why it ended: 0 all made, 1 the next is idle, 2 the next is refused by
+// 14, 3 no room for a further commit.
+#[no_mangle]
+pub extern "C" fn frame(table: &[u8], round: &mut [u8], steps: u32, commits: &mut [u8]) -> u64
+    ensures { λ r. ⌜ framed r (now (round .exit)) (now (commits .exit)) ≡ frameOn (now (table .entry)) (now (round .entry)) steps (now (commits .entry)) ⌝ }
+    ensures { λ _. ⌜ now (table .exit) ≡ now (table .entry) ⌝ }
+{
+    run_frame::frame_at(&*table, round, steps, commits)
+}
+
+// ---- what a sheet promises
+
+// Will two phones agree? compile's number, as with a full table; 0 where every two declared events of unequal rank are
+// independent; else 29, the first event times 256, the second times 65,536 and times 2 ^ 24 a behaviour that one of
+// them writes and the other reads or writes: the least first event, then the least second, then the least behaviour.
+#[no_mangle]
+pub extern "C" fn agree(sheet: &[u8], params: &[u8]) -> u64
+    ensures { λ r. ⌜ r ≡ agreeOn (now (sheet .entry)) (now (params .entry)) ⌝ }
+    ensures { λ _. ⌜ now (sheet .exit) ≡ now (sheet .entry) ⌝ }
+    ensures { λ _. ⌜ now (params .exit) ≡ now (params .entry) ⌝ }
+{
+    check_agree::agree_at(sheet, params)
+}
+
+// May a hidden value leak to a player? compile's number, as with a full table; 24 for a player above 7; 0 where no
+// behaviour that the player sees depends on a hidden one; else 30, the least behaviour that it sees and that names a
+// hidden one times 256, and times 65,536 the least hidden one that this names.
+#[no_mangle]
+pub extern "C" fn leak(sheet: &[u8], params: &[u8], player: u32) -> u64
+    ensures { λ r. ⌜ r ≡ leakOn (now (sheet .entry)) (now (params .entry)) player ⌝ }
+    ensures { λ _. ⌜ now (sheet .exit) ≡ now (sheet .entry) ⌝ }
+    ensures { λ _. ⌜ now (params .exit) ≡ now (params .entry) ⌝ }
+{
+    check_leak::leak_at(sheet, params, player)
 }

@@ -93,9 +93,6 @@ runningWord l = get l 3
 abbrev pub runningEvent : List ℕ → ℕ
 runningEvent l = eventOf (runningWord l)
 
-abbrev pub runningPlayer : List ℕ → ℕ
-runningPlayer l = playerOf (runningWord l)
-
 abbrev pub runningNumber : List ℕ → ℕ
 runningNumber l = get l 4
 
@@ -116,9 +113,6 @@ wordAt l i = get l (9 + i * 2)
 
 abbrev pub eventAt : List ℕ → ℕ → ℕ
 eventAt l i = eventOf (wordAt l i)
-
-abbrev pub playerAt : List ℕ → ℕ → ℕ
-playerAt l i = playerOf (wordAt l i)
 
 -- w is the word of one of `known` events and one of eight players: 02, M-107: "14, which also covers such a player in
 -- hand"

@@ -1,92 +1,100 @@
 // The table and the round as words, and which tables are foreign. Layout: specs/Layout.antt.
+use spec_language::limits;
 ghost use mathlib.Core.Path.{_≡_};
 ghost use mathlib.Core.Bool.{true};
 ghost use Prim.Native.Nat.{_+_, _*_, _≤_, _<_};
 ghost use lib.ListN.{length};
 ghost use Rattle.lib_word.specs.Word.{get};
-ghost use Rattle.format_layout.specs.Layout.{eventWord, eventOf, playerOf, codeFits, codesFit, tableWith, tableFits};
+ghost use Rattle.format_layout.specs.Layout.{eventWord, eventOf, playerOf, codeFits, codesFit, tableFits};
 ghost use Rattle.format_layout.specs.Bounds.{TableBounds};
 
 pub mod operations;
 pub mod round;
 pub mod table;
 
-// Word k of event e's record in the table: 0 priority, 1 start of the code, 2 its length, 3 members of C.
-pub fn event_word(t: &[u8], e: u32, k: usize) -> u32
-    requires { ⌜ (34816 ≤ length (now t)) × (k < 4) ⌝ }
-    ensures { λ r. ⌜ r ≡ eventWord (now (t .entry)) e k ⌝ }
+const EVENTS: u32 = limits::EVENTS as u32;
+
+const BEHAVIOURS: u32 = limits::BEHAVIOURS as u32;
+
+const INSTRUCTIONS: u32 = limits::INSTRUCTIONS as u32;
+
+// Word k of an event's record in the table: its priority, the start of its code, the code's length, the members of C.
+pub fn event_word(table: &[u8], event: u32, k: usize) -> u32
+    requires { ⌜ (34816 ≤ length (now table)) × (k < 4) ⌝ }
+    ensures { λ r. ⌜ r ≡ eventWord (now (table .entry)) event k ⌝ }
 {
-    if e < 32 {
-        return lib_word::get_word(t, 8 + (e as usize) * 4 + k);
+    if event < EVENTS {
+        return lib_word::get_word(
+            table,
+            table::EVENTS + (event as usize) * table::EVENT_WORDS + k,
+        );
     }
     0
 }
 
-// The event and the player of an arrival in hand, from their word: event + 256 * player.
-pub fn event_of(w: u32) -> u32
-    ensures { λ r. ⌜ r ≡ eventOf w ⌝ }
+// The event and the player of an arrival in hand, from their word.
+pub fn event_of(word: u32) -> u32
+    ensures { λ r. ⌜ r ≡ eventOf word ⌝ }
 {
-    w % 256
+    word % round::PLAYER
 }
 
-pub fn player_of(w: u32) -> u32
-    ensures { λ r. ⌜ r ≡ playerOf w ⌝ }
+pub fn player_of(word: u32) -> u32
+    ensures { λ r. ⌜ r ≡ playerOf word ⌝ }
 {
-    w / 256
+    word / round::PLAYER
 }
 
 // The event of the arrival in hand whose word is word k of the round.
-pub fn event_at(l: &[u8], k: usize) -> u32
-    requires { ⌜ k * 4 + 4 ≤ length (now l) ⌝ }
-    ensures { λ r. ⌜ r ≡ eventOf (get (now (l .entry)) k) ⌝ }
+pub fn event_at(round: &[u8], k: usize) -> u32
+    requires { ⌜ k * 4 + 4 ≤ length (now round) ⌝ }
+    ensures { λ r. ⌜ r ≡ eventOf (get (now (round .entry)) k) ⌝ }
 {
-    event_of(lib_word::get_word(l, k))
+    event_of(lib_word::get_word(round, k))
 }
 
 // Whether code from `start` on, of len instructions, lies within 4,096.
 pub fn code_fits(start: u32, len: u32) -> bool
     ensures { λ r. ⌜ r ≡ codeFits start len ⌝ }
 {
-    if start > 4096 {
+    if start > INSTRUCTIONS {
         return false;
     }
-    len <= 4096 - start
+    len <= INSTRUCTIONS - start
 }
 
-fn codes_fit(t: &[u8], n: u32) -> bool
-    requires { ⌜ (34816 ≤ length (now t)) × (n ≤ 32) ⌝ }
-    ensures { λ r. ⌜ r ≡ codesFit (now (t .entry)) n ⌝ }
+// Whether the code of each of the first n events does.
+fn codes_fit(table: &[u8], n: u32) -> bool
+    requires { ⌜ (34816 ≤ length (now table)) × (n ≤ 32) ⌝ }
+    ensures { λ r. ⌜ r ≡ codesFit (now (table .entry)) n ⌝ }
 {
     let mut i = n;
     while i > 0 {
         i -= 1;
-        if !code_fits(event_word(t, i, 1), event_word(t, i, 2)) {
+        if !code_fits(
+            event_word(table, i, table::CODE_START),
+            event_word(table, i, table::CODE_LENGTH),
+        ) {
             return false;
         }
     }
     true
 }
 
-fn table_with(t: &[u8], n: u32, b: u32) -> bool
-    requires { ⌜ 34816 ≤ length (now t) ⌝ }
-    ensures { λ r. ⌜ r ≡ tableWith (now (t .entry)) n b ⌝ }
+// Whether a table is not foreign: 01's conditions on it.
+pub fn table_fits(table: &[u8]) -> bool
+    ensures { λ r. ⌜ r ≡ tableFits (now (table .entry)) ⌝ }
+    ensures { λ r. ⌜ (r ≡ true → TableBounds (now (table .entry))) ⌝ }
 {
-    if n > 32 {
+    if table.len() < table::BYTES {
         return false;
     }
-    if b > 64 {
+    let events = lib_word::get_word(table, table::EVENT_COUNT);
+    if events > EVENTS {
         return false;
     }
-    codes_fit(t, n)
-}
-
-// Whether a table is not foreign.
-pub fn table_fits(t: &[u8]) -> bool
-    ensures { λ r. ⌜ r ≡ tableFits (now (t .entry)) ⌝ }
-    ensures { λ r. ⌜ (r ≡ true → TableBounds (now (t .entry))) ⌝ }
-{
-    if t.len() < 34816 {
+    if lib_word::get_word(table, table::BEHAVIOUR_COUNT) > BEHAVIOURS {
         return false;
     }
-    table_with(t, lib_word::get_word(t, 0), lib_word::get_word(t, 1))
+    codes_fit(table, events)
 }

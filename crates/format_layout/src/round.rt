@@ -1,11 +1,15 @@
 // Where the words of a round stand, for the code (specs/Layout.antt).
 pub const BYTES: usize = 2048;
 
+pub const WORD_COUNT: usize = 512;
+
 pub const TAKEN: usize = 0;
 
 pub const WAITING: usize = 1;
-// Whether one runs; its event and player, its number, its count of instructions done, the depth of the evaluation stack,
-// its mark.
+// Event and player of an arrival are one word: what the player weighs in it.
+pub const PLAYER: u32 = 256;
+// Whether one runs; its event and player, its number, its count of instructions done, the depth of the evaluation
+// stack, its mark.
 pub const RUNNING: usize = 2;
 
 pub const RUNNING_WORD: usize = 3;

@@ -28,5 +28,7 @@ pub const KINDS: usize = 296;
 pub const PASSIVES_START: usize = 360;
 
 pub const PASSIVES_LENGTH: usize = 361;
-// The instructions, of two words each.
+// The instructions, of two words each: operation and slot, and a constant.
 pub const CODE: usize = 512;
+
+pub const CONSTANTS: usize = 513;

@@ -9,6 +9,20 @@ ghost use Rattle.front_field.specs.Expression.{out, ReadIn};
 ghost use Rattle.front_draft.specs.Draft.{draftLength};
 ghost use Rattle.front_behaviours.specs.Handler.{entryAt, handlerAt, handlerOf, handlersOf, BodyIn, faultOf};
 ghost use Rattle.front_behaviours.specs.Behaviour.{passiveOf, bodyOf, activeOf, cellsOf, rowOf, valueAt, behaviourOf, Counted};
+use front_draft::layout;
+use front_field::faults;
+use front_field::sizes;
+use spec_language::limits;
+use spec_language::tags;
+
+// How an entry is packed, as sizes.
+const FIRSTS: usize = layout::FIRSTS as usize;
+
+const KINDS: usize = layout::KINDS as usize;
+
+const PASSIVE: usize = layout::PASSIVE as usize;
+
+const IMMEDIATE: usize = layout::IMMEDIATE as usize;
 
 // The number of a refusal; 0 of a reading that is done.
 pub fn fault(r: Read) -> u8
@@ -30,14 +44,14 @@ fn read_entry(v: &[u8], draft: &mut [u64], n: usize, place: usize, kind: usize, 
     ensures { λ r. ⌜ out r (now (draft .exit)) ≡ entryAt (now (v .entry)) (now (draft .entry)) n place kind over ⌝ }
     ensures { λ r. ⌜ BodyIn (length (now (v .entry)) + over) n r ⌝ }
 {
-    let r = front_field::read_expr(16, v, draft, n);
+    let r = front_field::read_expr(limits::NESTING, v, draft, n);
     let Read::Done(size, m) = r else {
         return r;
     };
     if size != v.len() {
-        return Read::Fault(6);
+        return Read::Fault(faults::WRONG_LENGTH);
     }
-    draft[place] = (((m - n) * 4096 + n) * 4 + kind) as u64;
+    draft[place] = (((m - n) * FIRSTS + n) * KINDS + kind) as u64;
     Read::Done(size + over, m)
 }
 
@@ -51,24 +65,31 @@ fn read_handler_value(v: &[u8], events: usize, i: usize, draft: &mut [u64], n: u
     ensures { λ r. ⌜ BodyIn (length (now (v .entry)) + 3) n r ⌝ }
 {
     if v.len() == 0 {
-        return Read::Fault(6);
+        return Read::Fault(faults::WRONG_LENGTH);
     }
     let e = v[0] as usize;
     if events <= e {
-        return Read::Fault(8);
+        return Read::Fault(faults::OFF_SCALE);
     }
     if v.len() == 1 {
-        return Read::Fault(6);
+        return Read::Fault(faults::WRONG_LENGTH);
     }
     let phase = v[1] as usize;
     if 1 < phase {
-        return Read::Fault(8);
+        return Read::Fault(faults::OFF_SCALE);
     }
-    let place = 2048 + i * 32 + e;
+    let place = layout::HANDLERS + i * limits::EVENTS + e;
     if draft[place] != 0 {
-        return Read::Fault(10);
+        return Read::Fault(faults::DOUBLED);
     }
-    read_entry(&v[2..], draft, n, place, 2 + phase, 5)
+    read_entry(
+        &v[2..],
+        draft,
+        n,
+        place,
+        IMMEDIATE + phase,
+        sizes::HANDLER_HEAD,
+    )
 }
 
 // A handler at the front of s.
@@ -80,11 +101,17 @@ fn read_handler(s: &[u8], events: usize, i: usize, draft: &mut [u64], n: usize) 
     ensures { λ r. ⌜ out r (now (draft .exit)) ≡ handlerOf (now (s .entry)) events i (now (draft .entry)) n ⌝ }
     ensures { λ r. ⌜ ReadIn (length (now (s .entry))) n r ⌝ }
 {
-    let a = front_field::field_answer(s, 5, 5);
+    let a = front_field::field_answer(s, tags::HANDLER, tags::HANDLER);
     let Field::Value(_, _) = a else {
         return Read::Fault(front_field::number(a));
     };
-    read_handler_value(front_field::field_value(s, 5, 5), events, i, draft, n)
+    read_handler_value(
+        front_field::field_value(s, tags::HANDLER, tags::HANDLER),
+        events,
+        i,
+        draft,
+        n,
+    )
 }
 
 // The handlers of behaviour i, whose value is v, after its start, up to the end or a tag 08: the place after them.
@@ -97,10 +124,10 @@ fn read_handlers(v: &[u8], events: usize, i: usize, draft: &mut [u64], n: usize)
     ensures { λ r. ⌜ out r (now (draft .exit)) ≡ handlersOf (length (now (v .entry))) (now (v .entry)) 7 events i (now (draft .entry)) n ⌝ }
     ensures { λ r. ⌜ ReadIn (length (now (v .entry))) n r ⌝ }
 {
-    let mut at = 7;
+    let mut at = sizes::WORD_FIELD;
     let mut m = n;
     while at != v.len() {
-        if v[at] == 8 {
+        if v[at] == tags::VIEWERS {
             return Read::Done(at, m);
         }
         let r = read_handler(&v[at..], events, i, draft, m);
@@ -127,7 +154,7 @@ fn read_body(v: &[u8], events: usize, i: usize, draft: &mut [u64], n: usize) -> 
     let Read::Done(at, m) = r else {
         return r;
     };
-    front_viewers::read_ending(&v[at..], i, draft, v.len() + 3, m)
+    front_viewers::read_ending(&v[at..], i, draft, v.len() + sizes::HEADER, m)
 }
 
 // An active's value: its start, then its handlers and who may see it.
@@ -139,15 +166,15 @@ fn read_active(v: &[u8], events: usize, i: usize, draft: &mut [u64], n: usize) -
     ensures { λ r. ⌜ out r (now (draft .exit)) ≡ activeOf (now (v .entry)) events i (now (draft .entry)) n ⌝ }
     ensures { λ r. ⌜ BodyIn (length (now (v .entry)) + 3) n r ⌝ }
 {
-    let a = front_field::field_answer(v, 4, 4);
+    let a = front_field::field_answer(v, tags::START, tags::START);
     let Field::Value(_, size) = a else {
         return Read::Fault(front_field::number(a));
     };
-    if size != 4 {
-        return Read::Fault(6);
+    if size != sizes::WORD {
+        return Read::Fault(faults::WRONG_LENGTH);
     }
-    let w = front_field::field_value(v, 4, 4);
-    draft[4160 + i] = lib_word::get_at(w, 0) as u64;
+    let w = front_field::field_value(v, tags::START, tags::START);
+    draft[layout::STARTS + i] = lib_word::get_at(w, 0) as u64;
     read_body(v, events, i, draft, n)
 }
 
@@ -159,12 +186,12 @@ fn read_passive(v: &[u8], i: usize, draft: &mut [u64], n: usize) -> Read
     ensures { λ r. ⌜ out r (now (draft .exit)) ≡ passiveOf (now (v .entry)) i (now (draft .entry)) n ⌝ }
     ensures { λ r. ⌜ BodyIn (length (now (v .entry)) + 3) n r ⌝ }
 {
-    let r = front_field::read_expr(16, v, draft, n);
+    let r = front_field::read_expr(limits::NESTING, v, draft, n);
     let Read::Done(size, m) = r else {
         return r;
     };
-    draft[4096 + i] = (((m - n) * 4096 + n) * 4 + 1) as u64;
-    front_viewers::read_ending(&v[size..], i, draft, v.len() + 3, m)
+    draft[layout::PASSIVES + i] = (((m - n) * FIRSTS + n) * KINDS + PASSIVE) as u64;
+    front_viewers::read_ending(&v[size..], i, draft, v.len() + sizes::HEADER, m)
 }
 
 // A row of count cells from behaviour i on, with the value v after the count: the first is read as an active, the
@@ -196,17 +223,17 @@ fn read_row(v: &[u8], events: usize, i: usize, draft: &mut [u64], n: usize) -> R
     ensures { λ r. ⌜ BodyIn (length (now (v .entry)) + 3) n r ⌝ }
 {
     if v.len() == 0 {
-        return Read::Fault(6);
+        return Read::Fault(faults::WRONG_LENGTH);
     }
     let count = v[0] as usize;
-    if count < 2 {
-        return Read::Fault(8);
+    if count < limits::LEAST_CELLS {
+        return Read::Fault(faults::OFF_SCALE);
     }
-    if 16 < count {
-        return Read::Fault(8);
+    if limits::MOST_CELLS < count {
+        return Read::Fault(faults::OFF_SCALE);
     }
-    if 64 < i + count {
-        return Read::Fault(7);
+    if limits::BEHAVIOURS < i + count {
+        return Read::Fault(faults::CROWDED);
     }
     read_cells(&v[1..], count, events, i, draft, n)
 }
@@ -220,13 +247,13 @@ fn read_value(t: u8, v: &[u8], events: usize, i: usize, draft: &mut [u64], n: us
     ensures { λ r. ⌜ BodyIn (length (now (v .entry)) + 3) n r ⌝ }
     ensures { λ r. ⌜ Counted i r ⌝ }
 {
-    if 64 <= i {
-        return Read::Fault(7);
+    if limits::BEHAVIOURS <= i {
+        return Read::Fault(faults::CROWDED);
     }
-    if t == 2 {
+    if t == tags::PASSIVE {
         return read_passive(v, i, draft, n);
     }
-    if t == 6 {
+    if t == tags::ROW {
         return read_row(v, events, i, draft, n);
     }
     read_active(v, events, i, draft, n)
@@ -241,7 +268,7 @@ pub fn read_behaviour(s: &[u8], events: usize, i: usize, draft: &mut [u64], n: u
     ensures { λ r. ⌜ ReadIn (length (now (s .entry))) n r ⌝ }
     ensures { λ r. ⌜ Counted i r ⌝ }
 {
-    let lo = front_rows::least_tag(s, 2);
+    let lo = front_rows::least_tag(s, tags::PASSIVE);
     let hi = front_rows::most_tag(s);
     let a = front_field::field_answer(s, lo, hi);
     let Field::Value(t, _) = a else {

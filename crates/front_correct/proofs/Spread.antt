@@ -66,11 +66,6 @@ length-in (formula x) = refl
 length-in (state s cs) = refl
 length-in (row c s cs) = length-upTo c (λ j. c * 16 + j)
 
-pub length-places : (xs : List Entry) → length (places xs) ≡ cellCount xs
-unfolding places flatMap cellCount
-length-places [] = refl
-length-places (x ∷ xs) = length-append (placesIn (x .item)) (places xs) ∙ rw (length-in (x .item), length-places xs)
-
 -- one more entry
 flat-snoc : {A B : Type 0} (f : A → List B) (xs : List A) (x : A) → flatMap f (xs ++ (x ∷ [])) ≡ flatMap f xs ++ f x
 unfolding flatMap

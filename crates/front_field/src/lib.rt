@@ -5,6 +5,14 @@ ghost use lib.ListN.{length};
 ghost use Rattle.front_draft.specs.Draft.{draftLength};
 ghost use Rattle.front_field.specs.Field.{fieldOf, partOf, sizeOf, numberOf, Within};
 ghost use Rattle.front_field.specs.Expression.{headAt, headOf, valueOf, HeadIn, out, closeAt, exprOf, ReadIn, CloseIn};
+use front_draft::layout;
+use spec_language::functions;
+use spec_language::tags;
+
+pub mod faults;
+pub mod sizes;
+
+const LAST_PARAMETER: u8 = spec_language::limits::PARAMETERS as u8 - 1;
 
 // What stands where a field is due: its tag and the size of its value, or a refusal by its number.
 pub enum Field {
@@ -31,17 +39,17 @@ pub fn field_answer(s: &[u8], lo: u8, hi: u8) -> Field
     ensures { λ r. ⌜ Within (now (s .entry)) r ⌝ }
 {
     if s.len() < 3 {
-        return Field::Refused(4);
+        return Field::Refused(faults::TORN);
     }
     if s[0] < lo {
-        return Field::Refused(5);
+        return Field::Refused(faults::WRONG_TAG);
     }
     if hi < s[0] {
-        return Field::Refused(5);
+        return Field::Refused(faults::WRONG_TAG);
     }
-    let n = (s[1] as usize) * 256 + (s[2] as usize);
+    let n = (s[1] as usize) * sizes::HIGH + (s[2] as usize);
     if s.len() - 3 < n {
-        return Field::Refused(4);
+        return Field::Refused(faults::TORN);
     }
     Field::Value(s[0], n)
 }
@@ -75,37 +83,40 @@ fn head_of(left: usize, t: u8, v: &[u8]) -> Head
     ensures { λ r. ⌜ HeadIn left (length (now (v .entry))) r ⌝ }
 {
     if left == 0 {
-        return Head::NoHead(9);
+        return Head::NoHead(faults::TOO_DEEP);
     }
-    if t == 16 {
-        if v.len() != 4 {
-            return Head::NoHead(6);
+    if t == tags::CONSTANT {
+        if v.len() != sizes::WORD {
+            return Head::NoHead(faults::WRONG_LENGTH);
         }
-        return Head::Leaf(68719476736 + (lib_word::get_at(v, 0) as u64), 7);
+        return Head::Leaf(
+            layout::CONSTANT_NODE + (lib_word::get_at(v, 0) as u64),
+            sizes::WORD_FIELD,
+        );
     }
-    if t == 17 {
+    if t == tags::NAME {
         if v.len() != 1 {
-            return Head::NoHead(6);
+            return Head::NoHead(faults::WRONG_LENGTH);
         }
-        return Head::Leaf(73014444032 + (v[0] as u64), 4);
+        return Head::Leaf(layout::NAME_NODE + (v[0] as u64), sizes::BYTE_FIELD);
     }
-    if t == 19 {
+    if t == tags::PARAMETER {
         if v.len() != 1 {
-            return Head::NoHead(6);
+            return Head::NoHead(faults::WRONG_LENGTH);
         }
-        if 7 < v[0] {
-            return Head::NoHead(8);
+        if LAST_PARAMETER < v[0] {
+            return Head::NoHead(faults::OFF_SCALE);
         }
-        return Head::Leaf(81604378624 + (v[0] as u64), 4);
+        return Head::Leaf(layout::PARAMETER_NODE + (v[0] as u64), sizes::BYTE_FIELD);
     }
     if v.len() == 0 {
-        return Head::NoHead(6);
+        return Head::NoHead(faults::WRONG_LENGTH);
     }
     if v[0] == 0 {
-        return Head::NoHead(8);
+        return Head::NoHead(faults::OFF_SCALE);
     }
-    if 14 < v[0] {
-        return Head::NoHead(8);
+    if functions::IF < v[0] {
+        return Head::NoHead(faults::OFF_SCALE);
     }
     Head::Apply(v[0])
 }
@@ -116,11 +127,11 @@ fn read_head(left: usize, s: &[u8]) -> Head
     ensures { λ r. ⌜ HeadIn left (length (valueOf (now (s .entry)))) r ⌝ }
     ensures { λ _. ⌜ length (valueOf (now (s .entry))) ≤ length (now (s .entry)) - 3 ⌝ }
 {
-    let a = field_answer(s, 16, 19);
+    let a = field_answer(s, tags::CONSTANT, tags::PARAMETER);
     let Field::Value(t, _) = a else {
         return Head::NoHead(number(a));
     };
-    head_of(left, t, field_value(s, 16, 19))
+    head_of(left, t, field_value(s, tags::CONSTANT, tags::PARAMETER))
 }
 
 // The node of an application whose arguments end at `at`, in a value of `size` bytes.
@@ -132,9 +143,9 @@ fn close_at(f: u8, size: usize, at: usize, draft: &mut [u64], m: usize) -> Read
     ensures { λ r. ⌜ CloseIn size at m r ⌝ }
 {
     if at != size {
-        return Read::Fault(6);
+        return Read::Fault(faults::WRONG_LENGTH);
     }
-    draft[m] = 77309411328 + (f as u64);
+    draft[m] = layout::APPLICATION_NODE + (f as u64);
     Read::Done(at + 3, m + 1)
 }
 
@@ -153,7 +164,7 @@ pub fn read_expr(left: usize, s: &[u8], draft: &mut [u64], n: usize) -> Read
             Read::Done(size, n + 1)
         }
         Head::Apply(f) => {
-            let v = field_value(s, 16, 19);
+            let v = field_value(s, tags::CONSTANT, tags::PARAMETER);
             let mut at = 1;
             let mut m = n;
             let mut k = lib_functions::arity_of(f);

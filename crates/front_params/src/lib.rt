@@ -5,6 +5,10 @@ ghost use Prim.Native.Nat.{_<_, _≤_, _^_};
 ghost use lib.ListN.{length};
 ghost use Rattle.front_draft.specs.Draft.{draftLength};
 ghost use Rattle.front_params.specs.Filling.{valueOf, filled, fillTo, anyParam, lacksParam};
+use front_draft::layout;
+use spec_language::limits;
+
+const PARAMETERS: u64 = limits::PARAMETERS as u64;
 
 // The value of parameter k: a word of the bytes lent, 0 where fewer than 32 are.
 fn value_of(params: &[u8], k: usize) -> u64
@@ -12,7 +16,7 @@ fn value_of(params: &[u8], k: usize) -> u64
     ensures { λ r. ⌜ r ≡ valueOf (now (params .entry)) k ⌝ }
     ensures { λ r. ⌜ r < 2 ^ 32 ⌝ }
 {
-    if params.len() < 32 {
+    if params.len() < limits::PARAMETER_BYTES {
         return 0;
     }
     lib_word::get_word(params, k) as u64
@@ -22,8 +26,8 @@ fn value_of(params: &[u8], k: usize) -> u64
 fn fill_node(params: &[u8], x: u64) -> u64
     ensures { λ r. ⌜ r ≡ filled (now (params .entry)) x ⌝ }
 {
-    if x / 4294967296 == 19 {
-        return 68719476736 + value_of(params, (x % 8) as usize);
+    if x / layout::WORD == layout::PARAMETER {
+        return layout::CONSTANT_NODE + value_of(params, (x % PARAMETERS) as usize);
     }
     x
 }
@@ -34,7 +38,7 @@ pub fn fill_draft(d: &mut [u64], params: &[u8])
     ensures { λ _. ⌜ now (d .exit) ≡ fillTo (now (params .entry)) (now (d .entry)) 2048 ⌝ }
 {
     let mut k = 0;
-    while k < 2048 {
+    while k < layout::NODES {
         d[k] = fill_node(params, d[k]);
         k += 1;
     }
@@ -48,7 +52,7 @@ fn has_param(d: &[u64], n: usize) -> bool
     let mut k = n;
     while k > 0 {
         k -= 1;
-        if d[k] / 4294967296 == 19 {
+        if d[k] / layout::WORD == layout::PARAMETER {
             return true;
         }
     }
@@ -60,7 +64,7 @@ pub fn lacks_param(d: &[u64], n: usize, params: &[u8]) -> bool
     requires { ⌜ (length (now d) ≡ draftLength) × (n ≤ 2048) ⌝ }
     ensures { λ r. ⌜ r ≡ lacksParam (now (d .entry)) n (now (params .entry)) ⌝ }
 {
-    if params.len() < 32 {
+    if params.len() < limits::PARAMETER_BYTES {
         return has_param(d, n);
     }
     false

@@ -7,6 +7,14 @@ ghost use Prim.Native.Nat.{_+_, _<_, _≤_};
 ghost use lib.ListN.{length};
 ghost use Rattle.front_draft.specs.Draft.{draftLength};
 ghost use Rattle.front_rows.specs.Cells.{leastOf, mostOf, cellsAt, entriesCopied, startCopied, viewerCopied, cellCopied, rowCopied};
+use front_draft::layout;
+use spec_language::limits;
+use spec_language::tags;
+
+// A field's header and the count of a row's cells.
+const COUNTED: usize = 4;
+
+const CELLS: usize = layout::CELLS as usize;
 
 // The least tag due at the front of s: 06 if that stands there, else lo.
 pub fn least_tag(s: &[u8], lo: u8) -> u8
@@ -15,8 +23,8 @@ pub fn least_tag(s: &[u8], lo: u8) -> u8
     if s.len() == 0 {
         return lo;
     }
-    if s[0] == 6 {
-        return 6;
+    if s[0] == tags::ROW {
+        return tags::ROW;
     }
     lo
 }
@@ -26,10 +34,10 @@ pub fn most_tag(s: &[u8]) -> u8
     ensures { λ r. ⌜ r ≡ mostOf (now (s .entry)) ⌝ }
 {
     if s.len() == 0 {
-        return 3;
+        return tags::ACTIVE;
     }
-    if s[0] == 6 {
-        return 6;
+    if s[0] == tags::ROW {
+        return tags::ROW;
     }
     3
 }
@@ -39,10 +47,10 @@ pub fn cells_at(s: &[u8]) -> usize
     ensures { λ r. ⌜ r ≡ cellsAt (now (s .entry)) ⌝ }
     ensures { λ r. ⌜ r < 256 ⌝ }
 {
-    if s.len() < 4 {
+    if s.len() < COUNTED {
         return 1;
     }
-    if s[0] == 6 {
+    if s[0] == tags::ROW {
         return s[3] as usize;
     }
     1
@@ -54,8 +62,10 @@ fn copy_entries(draft: &mut [u64], i: usize, k: usize)
     ensures { λ _. ⌜ now (draft .exit) ≡ entriesCopied (now (draft .entry)) i k 32 ⌝ }
 {
     let mut e = 0;
-    while e < 32 {
-        draft[2048 + k * 32 + e] = draft[2048 + i * 32 + e];
+    while e < limits::EVENTS {
+        draft[layout::HANDLERS + k * limits::EVENTS + e] = draft[layout::HANDLERS
+            + i * limits::EVENTS
+            + e];
         e += 1;
     }
 }
@@ -65,7 +75,7 @@ fn copy_start(draft: &mut [u64], i: usize, k: usize)
     requires { ⌜ (length (now draft) ≡ draftLength) × (i < 64) × (k < 64) ⌝ }
     ensures { λ _. ⌜ now (draft .exit) ≡ startCopied (now (draft .entry)) i k ⌝ }
 {
-    draft[4160 + k] = draft[4160 + i];
+    draft[layout::STARTS + k] = draft[layout::STARTS + i];
 }
 
 // Who may see it.
@@ -73,7 +83,7 @@ fn copy_viewer(draft: &mut [u64], i: usize, k: usize)
     requires { ⌜ (length (now draft) ≡ draftLength) × (i < 64) × (k < 64) ⌝ }
     ensures { λ _. ⌜ now (draft .exit) ≡ viewerCopied (now (draft .entry)) i k ⌝ }
 {
-    draft[4256 + k] = draft[4256 + i];
+    draft[layout::VIEWERS + k] = draft[layout::VIEWERS + i];
 }
 
 // Behaviour k becomes a cell like behaviour i, at this place in its row.
@@ -84,7 +94,7 @@ fn copy_cell(draft: &mut [u64], i: usize, k: usize, place: u64)
     copy_entries(draft, i, k);
     copy_start(draft, i, k);
     copy_viewer(draft, i, k);
-    draft[4352 + k] = place;
+    draft[layout::PLACES + k] = place;
 }
 
 // The cells of a row of count, the first of which is behaviour i, already read.
@@ -92,10 +102,10 @@ pub fn copy_row(draft: &mut [u64], i: usize, count: usize)
     requires { ⌜ (length (now draft) ≡ draftLength) × (i < 64) × (i + count ≤ 64) ⌝ }
     ensures { λ _. ⌜ now (draft .exit) ≡ rowCopied (now (draft .entry)) i count ⌝ }
 {
-    draft[4352 + i] = (count * 16) as u64;
+    draft[layout::PLACES + i] = (count * CELLS) as u64;
     let mut n = 0;
     while n + 1 < count {
-        copy_cell(draft, i, i + n + 1, (count * 16 + n + 1) as u64);
+        copy_cell(draft, i, i + n + 1, (count * CELLS + n + 1) as u64);
         n += 1;
     }
 }

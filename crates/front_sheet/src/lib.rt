@@ -7,6 +7,11 @@ ghost use lib.ListN.{length};
 ghost use Rattle.front_field.specs.Expression.{out};
 ghost use Rattle.front_draft.specs.Draft.{draftLength};
 ghost use Rattle.front_sheet.specs.Whole.{made, signalAt, priorityAt, eventOf, eventsOf, finished, behavioursOf, readOn, EventIn, EventsIn};
+use front_draft::layout;
+use front_field::faults;
+use front_field::sizes;
+use spec_language::limits;
+use spec_language::tags;
 
 // What stands where an event or the first behaviour is due: an event's field of so many bytes, or another field, or a
 // refusal by its number.
@@ -30,21 +35,21 @@ fn take_event(v: &[u8], e: usize, draft: &mut [u64]) -> Event
     ensures { λ r. ⌜ EventIn (length (now (v .entry)) + 3) e r ⌝ }
 {
     if v.len() == 0 {
-        return Event::NoEvent(6);
+        return Event::NoEvent(faults::WRONG_LENGTH);
     }
     if 2 < v.len() {
-        return Event::NoEvent(6);
+        return Event::NoEvent(faults::WRONG_LENGTH);
     }
-    if 15 < v[0] {
-        return Event::NoEvent(8);
+    if limits::HIGHEST_PRIORITY < v[0] {
+        return Event::NoEvent(faults::OFF_SCALE);
     }
-    draft[4224 + e] = v[0] as u64;
+    draft[layout::PRIORITIES + e] = v[0] as u64;
     if v.len() == 1 {
-        draft[4320 + e] = 255;
-        return Event::Declared(4);
+        draft[layout::SENDERS + e] = layout::EVERYONE;
+        return Event::Declared(sizes::BYTE_FIELD);
     }
-    draft[4320 + e] = v[1] as u64;
-    Event::Declared(5)
+    draft[layout::SENDERS + e] = v[1] as u64;
+    Event::Declared(sizes::PAIR_FIELD)
 }
 
 // A field with tag t and value v where event e or the first behaviour is due.
@@ -54,11 +59,11 @@ fn read_priority(t: u8, v: &[u8], e: usize, draft: &mut [u64]) -> Event
     ensures { λ r. ⌜ made r (now (draft .exit)) ≡ priorityAt t (now (v .entry)) e (now (draft .entry)) ⌝ }
     ensures { λ r. ⌜ EventIn (length (now (v .entry)) + 3) e r ⌝ }
 {
-    if t != 1 {
+    if t != tags::EVENT {
         return Event::Ended;
     }
-    if 32 <= e {
-        return Event::NoEvent(7);
+    if limits::EVENTS <= e {
+        return Event::NoEvent(faults::CROWDED);
     }
     take_event(v, e, draft)
 }
@@ -70,7 +75,7 @@ fn read_event(s: &[u8], e: usize, draft: &mut [u64]) -> Event
     ensures { λ r. ⌜ made r (now (draft .exit)) ≡ eventOf (now (s .entry)) e (now (draft .entry)) ⌝ }
     ensures { λ r. ⌜ EventIn (length (now (s .entry))) e r ⌝ }
 {
-    let lo = front_rows::least_tag(s, 1);
+    let lo = front_rows::least_tag(s, tags::EVENT);
     let hi = front_rows::most_tag(s);
     let a = front_field::field_answer(s, lo, hi);
     let Field::Value(t, _) = a else {

@@ -7,6 +7,10 @@ ghost use lib.ListN.{length};
 ghost use Rattle.front_draft.specs.Draft.{draftLength};
 ghost use Rattle.front_field.specs.Expression.{out};
 ghost use Rattle.front_viewers.specs.Ending.{viewerAt, viewerOf, endingOf, EndIn};
+use front_draft::layout;
+use front_field::faults;
+use front_field::sizes;
+use spec_language::tags;
 
 // The value v of a field 08 at the front of `left` bytes: who may see behaviour i. The behaviour's field takes `all`
 // bytes, the next node goes to place n.
@@ -17,12 +21,12 @@ fn take_viewer(v: &[u8], left: usize, i: usize, draft: &mut [u64], all: usize, n
     ensures { λ r. ⌜ EndIn all n r ⌝ }
 {
     if v.len() != 1 {
-        return Read::Fault(6);
+        return Read::Fault(faults::WRONG_LENGTH);
     }
-    if left != 4 {
-        return Read::Fault(6);
+    if left != sizes::BYTE_FIELD {
+        return Read::Fault(faults::WRONG_LENGTH);
     }
-    draft[4256 + i] = v[0] as u64;
+    draft[layout::VIEWERS + i] = v[0] as u64;
     Read::Done(all, n)
 }
 
@@ -33,11 +37,18 @@ fn read_viewer(s: &[u8], i: usize, draft: &mut [u64], all: usize, n: usize) -> R
     ensures { λ r. ⌜ out r (now (draft .exit)) ≡ viewerOf (now (s .entry)) i (now (draft .entry)) all n ⌝ }
     ensures { λ r. ⌜ EndIn all n r ⌝ }
 {
-    let a = front_field::field_answer(s, 8, 8);
+    let a = front_field::field_answer(s, tags::VIEWERS, tags::VIEWERS);
     let Field::Value(_, _) = a else {
         return Read::Fault(front_field::number(a));
     };
-    take_viewer(front_field::field_value(s, 8, 8), s.len(), i, draft, all, n)
+    take_viewer(
+        front_field::field_value(s, tags::VIEWERS, tags::VIEWERS),
+        s.len(),
+        i,
+        draft,
+        all,
+        n,
+    )
 }
 
 // What is left of behaviour i's value after its own part: a field 08 and nothing else, or nothing.
@@ -48,11 +59,11 @@ pub fn read_ending(s: &[u8], i: usize, draft: &mut [u64], all: usize, n: usize) 
     ensures { λ r. ⌜ EndIn all n r ⌝ }
 {
     if s.len() == 0 {
-        draft[4256 + i] = 255;
+        draft[layout::VIEWERS + i] = layout::EVERYONE;
         return Read::Done(all, n);
     }
-    if s[0] != 8 {
-        return Read::Fault(6);
+    if s[0] != tags::VIEWERS {
+        return Read::Fault(faults::WRONG_LENGTH);
     }
     read_viewer(s, i, draft, all, n)
 }

@@ -5,6 +5,17 @@ ghost use lib.Signed.{ltZ};
 ghost use Rattle.lib_arith.specs.Exact.{signed, wrapped};
 ghost use Rattle.lib_arith.specs.Functions.{floorZ};
 
+pub mod functions;
+
+// 2^31: this word and those above stand for negative numbers.
+pub const NEGATIVE: u32 = 2147483648;
+
+// 2^32 - 1: the word of -1. The magnitude of a negative word w is MINUS_ONE - w + 1.
+pub const MINUS_ONE: u32 = 4294967295;
+
+// 2^32: how many words there are.
+pub const WORDS: u64 = 4294967296;
+
 pub fn add(a: u32, b: u32) -> u32
     ensures { λ r. ⌜ r ≡ wrapped (signed a +ℤ signed b) ⌝ }
 {
@@ -20,7 +31,7 @@ pub fn subtract(a: u32, b: u32) -> u32
 pub fn multiply(a: u32, b: u32) -> u32
     ensures { λ r. ⌜ r ≡ wrapped (signed a *ℤ signed b) ⌝ }
 {
-    (((a as u64) * (b as u64)) % 4294967296) as u32
+    (((a as u64) * (b as u64)) % WORDS) as u32
 }
 
 // M-102: a quotient with a fraction goes to the next whole number below; by zero it gives 0, and the least number by -1
@@ -32,29 +43,29 @@ pub fn divide(a: u32, b: u32) -> u32
     if b == 0 {
         return 0;
     }
-    if a < 2147483648 {
-        if b < 2147483648 {
+    if a < NEGATIVE {
+        if b < NEGATIVE {
             return a / b;
         }
-        return std::num::wrapping_sub_u32(0, (a + (4294967295 - b)) / (4294967295 - b + 1));
+        return std::num::wrapping_sub_u32(0, (a + (MINUS_ONE - b)) / (MINUS_ONE - b + 1));
     }
-    if b < 2147483648 {
-        return std::num::wrapping_sub_u32(0, (4294967295 - a + b) / b);
+    if b < NEGATIVE {
+        return std::num::wrapping_sub_u32(0, (MINUS_ONE - a + b) / b);
     }
-    (4294967295 - a + 1) / (4294967295 - b + 1)
+    (MINUS_ONE - a + 1) / (MINUS_ONE - b + 1)
 }
 
 // Whether a is below b as signed numbers.
 pub fn below(a: u32, b: u32) -> bool
     ensures { λ r. ⌜ r ≡ ltZ (signed a) (signed b) ⌝ }
 {
-    if a < 2147483648 {
-        if b < 2147483648 {
+    if a < NEGATIVE {
+        if b < NEGATIVE {
             return a < b;
         }
         return false;
     }
-    if b < 2147483648 {
+    if b < NEGATIVE {
         return true;
     }
     a < b

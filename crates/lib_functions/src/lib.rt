@@ -1,5 +1,6 @@
 // The fourteen functions by their numbers, on 32-bit words that stand for signed numbers. 01 "Arithmetic". Each answers
 // its word, and 2^32 more where it ran over (02, M-104).
+use lib_arith::functions;
 ghost use mathlib.Core.Bool.{not, _&&_, _||_};
 ghost use mathlib.Core.Path.{_≡_};
 ghost use Prim.Native.Nat.{_≤_};
@@ -63,20 +64,20 @@ pub fn apply(f: u8, a: u32, b: u32, c: u32) -> u64
     ensures { λ r. ⌜ r ≡ answer f a b c ⌝ }
 {
     match f {
-        1 => either(a, b),
-        2 => both(a, b),
-        3 => opposite(a),
-        4 => lib_overflow::sum(a, b),
-        5 => lib_overflow::difference(a, b),
-        6 => lib_overflow::product(a, b),
-        7 => lib_overflow::quotient(a, b),
-        8 => bit(lib_arith::below(b, a)),
-        9 => bit(!lib_arith::below(a, b)),
-        10 => bit(lib_arith::below(a, b)),
-        11 => bit(!lib_arith::below(b, a)),
-        12 => same(a, b),
-        13 => differ(a, b),
-        14 => choose(a, b, c),
+        functions::OR => either(a, b),
+        functions::AND => both(a, b),
+        functions::NOT => opposite(a),
+        functions::ADD => lib_overflow::sum(a, b),
+        functions::SUBTRACT => lib_overflow::difference(a, b),
+        functions::MULTIPLY => lib_overflow::product(a, b),
+        functions::DIVIDE => lib_overflow::quotient(a, b),
+        functions::ABOVE => bit(lib_arith::below(b, a)),
+        functions::AT_LEAST => bit(!lib_arith::below(a, b)),
+        functions::BELOW => bit(lib_arith::below(a, b)),
+        functions::AT_MOST => bit(!lib_arith::below(b, a)),
+        functions::EQUAL => same(a, b),
+        functions::UNEQUAL => differ(a, b),
+        functions::IF => choose(a, b, c),
         _ => 0,
     }
 }
@@ -85,7 +86,7 @@ pub fn apply(f: u8, a: u32, b: u32, c: u32) -> u64
 pub fn word_of(f: u8, a: u32, b: u32, c: u32) -> u32
     ensures { λ r. ⌜ r ≡ result f a b c ⌝ }
 {
-    (apply(f, a, b, c) % 4294967296) as u32
+    (apply(f, a, b, c) % lib_arith::WORDS) as u32
 }
 
 // How many arguments the function with the number f needs.
@@ -93,10 +94,10 @@ pub fn arity_of(f: u8) -> usize
     ensures { λ r. ⌜ r ≡ arity f ⌝ }
     ensures { λ r. ⌜ r ≤ 3 ⌝ }
 {
-    if f == 3 {
+    if f == functions::NOT {
         return 1;
     }
-    if f == 14 {
+    if f == functions::IF {
         return 3;
     }
     2

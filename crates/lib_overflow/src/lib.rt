@@ -6,41 +6,54 @@ ghost use lib.Dec.{eqb};
 ghost use lib.IntN.{_+ℤ_, _-ℤ_, _*ℤ_};
 ghost use Rattle.lib_arith.specs.Exact.{signed, wrapped, beyond, packed, reported};
 ghost use Rattle.lib_arith.specs.Functions.{floorZ};
+use lib_arith::MINUS_ONE;
+use lib_arith::NEGATIVE;
+use lib_arith::WORDS;
+
+// 2^31 - 1, the largest number, and one less: of two negative numbers each magnitude is counted without one.
+const LARGEST: u32 = 2147483647;
+
+const LARGEST_LESS_ONE: u32 = 2147483646;
+
+// The largest products of equal and of different signs.
+const LARGEST_PRODUCT: u64 = 2147483647;
+
+const LEAST_PRODUCT: u64 = 2147483648;
 
 fn mark(w: u32, m: bool) -> u64
     ensures { λ r. ⌜ r ≡ packed w m ⌝ }
 {
-    if m { 4294967296 + (w as u64) } else { w as u64 }
+    if m { WORDS + (w as u64) } else { w as u64 }
 }
 
 // Whether a sum differs: of equal signs only, by the magnitudes.
 fn sum_differs(a: u32, b: u32) -> bool
     ensures { λ r. ⌜ r ≡ beyond (signed a +ℤ signed b) ⌝ }
 {
-    if a < 2147483648 {
-        if b < 2147483648 {
-            return a + b > 2147483647;
+    if a < NEGATIVE {
+        if b < NEGATIVE {
+            return a + b > LARGEST;
         }
         return false;
     }
-    if b < 2147483648 {
+    if b < NEGATIVE {
         return false;
     }
-    4294967295 - a + (4294967295 - b) > 2147483646
+    MINUS_ONE - a + (MINUS_ONE - b) > LARGEST_LESS_ONE
 }
 
 // Whether a difference does: of different signs only.
 fn difference_differs(a: u32, b: u32) -> bool
     ensures { λ r. ⌜ r ≡ beyond (signed a -ℤ signed b) ⌝ }
 {
-    if a < 2147483648 {
-        if b < 2147483648 {
+    if a < NEGATIVE {
+        if b < NEGATIVE {
             return false;
         }
-        return a + (4294967295 - b) > 2147483646;
+        return a + (MINUS_ONE - b) > LARGEST_LESS_ONE;
     }
-    if b < 2147483648 {
-        return 4294967295 - a + b > 2147483647;
+    if b < NEGATIVE {
+        return MINUS_ONE - a + b > LARGEST;
     }
     false
 }
@@ -49,16 +62,16 @@ fn difference_differs(a: u32, b: u32) -> bool
 fn product_differs(a: u32, b: u32) -> bool
     ensures { λ r. ⌜ r ≡ beyond (signed a *ℤ signed b) ⌝ }
 {
-    if a < 2147483648 {
-        if b < 2147483648 {
-            return (a as u64) * (b as u64) > 2147483647;
+    if a < NEGATIVE {
+        if b < NEGATIVE {
+            return (a as u64) * (b as u64) > LARGEST_PRODUCT;
         }
-        return (a as u64) * (4294967296 - (b as u64)) > 2147483648;
+        return (a as u64) * (WORDS - (b as u64)) > LEAST_PRODUCT;
     }
-    if b < 2147483648 {
-        return (4294967296 - (a as u64)) * (b as u64) > 2147483648;
+    if b < NEGATIVE {
+        return (WORDS - (a as u64)) * (b as u64) > LEAST_PRODUCT;
     }
-    (4294967296 - (a as u64)) * (4294967296 - (b as u64)) > 2147483647
+    (WORDS - (a as u64)) * (WORDS - (b as u64)) > LARGEST_PRODUCT
 }
 
 // Whether a quotient does, or its divisor is zero: the least number by -1.
@@ -68,8 +81,8 @@ fn quotient_differs(a: u32, b: u32) -> bool
     if b == 0 {
         return true;
     }
-    if b == 4294967295 {
-        return a == 2147483648;
+    if b == MINUS_ONE {
+        return a == NEGATIVE;
     }
     false
 }

@@ -123,19 +123,3 @@ words-get l a (suc n) (suc i) h = let z : a + suc i ≡ suc a + i = omega arith 
 pub length-putHalf : (l : List ℕ) (i h : ℕ) → length (putHalf l i h) ≡ length l
 unfolding putHalf
 length-putHalf l i h = simp length-set
-
-pub getHalf-putHalf : (l : List ℕ) (i h : ℕ) → i + 2 ≤ length l → getHalf (putHalf l i h) i ≡ h
-unfolding getHalf putHalf
-getHalf-putHalf l i h k =
-    let p : i ≢ i + 1 = omega arith in
-    rw (
-      getD-set-other (set l i (h / 256)) (i + 1) i (h % 256) 0 p,
-      getD-set-same l i (h / 256) 0 (omega arith),
-      getD-set-same (set l i (h / 256)) (i + 1) (h % 256) 0 (simp length-set (omega arith)),
-    ) (omega arith)
-
-pub getHalf-other : (l : List ℕ) (i h j : ℕ) → j ≢ i → j ≢ i + 1 → j + 1 ≢ i → getHalf (putHalf l i h) j ≡ getHalf l j
-unfolding getHalf putHalf
-getHalf-other l i h j p q r =
-    let s : j + 1 ≢ i + 1 = omega arith in
-    simp getD-set-other

@@ -4,6 +4,18 @@ ghost use Prim.Native.Nat.{_+_, _*_, _≤_, _<_};
 ghost use lib.ListN.{length};
 ghost use Rattle.lib_word.specs.Word.{getAt, get, put, getHalf, putHalf};
 
+// The bytes of a word.
+pub const WORD_BYTES: usize = 4;
+
+// What a byte weighs with one, two or three bytes after it, and in a half.
+const BASE: u32 = 256;
+
+const BASE_2: u32 = 65536;
+
+const BASE_3: u32 = 16777216;
+
+const HALF_BASE: u16 = 256;
+
 fn wide(x: u8) -> u32
     ensures { λ r. ⌜ r ≡ x ⌝ }
     ensures { λ r. ⌜ r < 256 ⌝ }
@@ -19,43 +31,44 @@ fn half(x: u8) -> u16
 }
 
 // The word at byte i.
-pub fn get_at(l: &[u8], i: usize) -> u32
-    requires { ⌜ i + 4 ≤ length (now l) ⌝ }
-    ensures { λ r. ⌜ r ≡ getAt (now (l .entry)) i ⌝ }
+pub fn get_at(bytes: &[u8], i: usize) -> u32
+    requires { ⌜ i + 4 ≤ length (now bytes) ⌝ }
+    ensures { λ r. ⌜ r ≡ getAt (now (bytes .entry)) i ⌝ }
 {
-    ((wide(l[i]) * 256 + wide(l[i + 1])) * 256 + wide(l[i + 2])) * 256 + wide(l[i + 3])
+    ((wide(bytes[i]) * BASE + wide(bytes[i + 1])) * BASE + wide(bytes[i + 2])) * BASE
+        + wide(bytes[i + 3])
 }
 
 // Word k.
-pub fn get_word(l: &[u8], k: usize) -> u32
-    requires { ⌜ k * 4 + 4 ≤ length (now l) ⌝ }
-    ensures { λ r. ⌜ r ≡ get (now (l .entry)) k ⌝ }
+pub fn get_word(bytes: &[u8], k: usize) -> u32
+    requires { ⌜ k * 4 + 4 ≤ length (now bytes) ⌝ }
+    ensures { λ r. ⌜ r ≡ get (now (bytes .entry)) k ⌝ }
 {
-    get_at(l, k * 4)
+    get_at(bytes, k * WORD_BYTES)
 }
 
-pub fn put_word(l: &mut [u8], k: usize, w: u32)
-    requires { ⌜ k * 4 + 4 ≤ length (now l) ⌝ }
-    ensures { λ _. ⌜ now (l .exit) ≡ put (now (l .entry)) k w ⌝ }
+pub fn put_word(bytes: &mut [u8], k: usize, w: u32)
+    requires { ⌜ k * 4 + 4 ≤ length (now bytes) ⌝ }
+    ensures { λ _. ⌜ now (bytes .exit) ≡ put (now (bytes .entry)) k w ⌝ }
 {
-    l[k * 4] = (w / 16777216) as u8;
-    l[k * 4 + 1] = (w / 65536 % 256) as u8;
-    l[k * 4 + 2] = (w / 256 % 256) as u8;
-    l[k * 4 + 3] = (w % 256) as u8;
+    bytes[k * WORD_BYTES] = (w / BASE_3) as u8;
+    bytes[k * WORD_BYTES + 1] = (w / BASE_2 % BASE) as u8;
+    bytes[k * WORD_BYTES + 2] = (w / BASE % BASE) as u8;
+    bytes[k * WORD_BYTES + 3] = (w % BASE) as u8;
 }
 
 // The half at byte i.
-pub fn get_half(l: &[u8], i: usize) -> u16
-    requires { ⌜ i + 2 ≤ length (now l) ⌝ }
-    ensures { λ r. ⌜ r ≡ getHalf (now (l .entry)) i ⌝ }
+pub fn get_half(bytes: &[u8], i: usize) -> u16
+    requires { ⌜ i + 2 ≤ length (now bytes) ⌝ }
+    ensures { λ r. ⌜ r ≡ getHalf (now (bytes .entry)) i ⌝ }
 {
-    half(l[i]) * 256 + half(l[i + 1])
+    half(bytes[i]) * HALF_BASE + half(bytes[i + 1])
 }
 
-pub fn put_half(l: &mut [u8], i: usize, h: u16)
-    requires { ⌜ i + 2 ≤ length (now l) ⌝ }
-    ensures { λ _. ⌜ now (l .exit) ≡ putHalf (now (l .entry)) i h ⌝ }
+pub fn put_half(bytes: &mut [u8], i: usize, h: u16)
+    requires { ⌜ i + 2 ≤ length (now bytes) ⌝ }
+    ensures { λ _. ⌜ now (bytes .exit) ≡ putHalf (now (bytes .entry)) i h ⌝ }
 {
-    l[i] = (h / 256) as u8;
-    l[i + 1] = (h % 256) as u8;
+    bytes[i] = (h / HALF_BASE) as u8;
+    bytes[i + 1] = (h % HALF_BASE) as u8;
 }

@@ -5,11 +5,47 @@ use mathlib.Core.Path.{_≡_, refl, sym, ap, _∙_}
 use mathlib.Core.List.{List, [], _∷_, _++_, append-assoc, append-nil}
 use native.Mathlib.Omega.{arith}
 use native.Mathlib.Numerals.{add-one}
-use lib.ListN.{length, getD, take, drop, set, length-set, length-append, length-drop, drop-of-length-le}
-use lib.Seq.{drop-cons, take-suc-set}
+use lib.ListN.{length, getD, take, drop, set, length-set, length-append, length-take, length-drop, drop-of-length-le}
+use lib.Seq.{drop-cons, take-suc-set, take-length, getD-drop}
+use lib.Dec.{ltb}
+use borrow.Author.Tests.{ltb-true, ltb-false, lt-ltb, le-ltb}
+use Rattle.lib_base.proofs.Tools.{split}
+use Rattle.front_field.specs.Field.{fieldOf, Within}
+use Rattle.front_field.specs.declared.Field.{Field}
+use Rattle.front_field.specs.declared.Field.the-variants.{Value, Refused}
 use Rattle.link_events.specs.Written.{Written}
 use Rattle.link_bytes.specs.Splice.{cellsAt, nextAt, countFrom, onward, movedByte, scan, spliced}
 use Rattle.link_events.specs.Merging.{eventsFrom, endFrom}
+
+-- ---- the next field
+
+abbrev pub afterField : ℕ → ℕ → Field → ℕ
+afterField i size (Value t n) = i + n + 3
+afterField i size (Refused k) = size
+
+pub next-is : (s : List ℕ) (i : ℕ) (f : Field) → i ≤ length s → getD s i 0 < 256 → f ≡ fieldOf (take (length s - i) (drop i s)) 0 255 → afterField i (length s) f ≡ nextAt s i
+unfolding nextAt fieldOf
+next-is s i f h b e =
+    let l : length (drop i s) ≡ length s - i = length-drop i s in
+    let all : take (length s - i) (drop i s) ≡ drop i s = ap (λ (n : ℕ). take n (drop i s)) (sym l) ∙ take-length (drop i s) in
+    let y : getD (drop i s) 0 0 ≡ getD s i 0 = getD-drop i s 0 0 ∙ ap (λ (n : ℕ). getD s n 0) (omega arith) in
+    let m : ℕ = getD s (i + 1) 0 * 256 + getD s (i + 2) 0 in
+    rw (e, all, l, y, getD-drop i s 1 0, getD-drop i s 2 0, le-ltb (getD s i 0) 0 (omega arith), le-ltb 255 (getD s i 0) (omega arith))
+    (split (ltb (length s - i) 3) (λ t. rw t)
+    (λ t. split (ltb (length s - i) (m + 3))
+    (λ u. rw (t, u, lt-ltb (length s - i - 3) m (omega (arith, ltb-true (length s - i) (m + 3) u, ltb-false (length s - i) 3 t))))
+    (λ u. rw (t, u, le-ltb (length s - i - 3) m (omega (arith, ltb-false (length s - i) (m + 3) u))) (omega arith))))
+
+pub next-refused : (s : List ℕ) (i : ℕ) (f : Field) (k : ℕ) → i ≤ length s → getD s i 0 < 256 → f ≡ fieldOf (take (length s - i) (drop i s)) 0 255 → f ≡ Refused k → length s ≡ nextAt s i
+next-refused s i f k h b e q = sym (ap (afterField i (length s)) q) ∙ next-is s i f h b e
+
+pub next-value : (s : List ℕ) (i : ℕ) (f : Field) (t n : ℕ) → i ≤ length s → getD s i 0 < 256 → f ≡ fieldOf (take (length s - i) (drop i s)) 0 255 → f ≡ Value t n → i + n + 3 ≡ nextAt s i
+next-value s i f t n h b e q = sym (ap (afterField i (length s)) q) ∙ next-is s i f h b e
+
+pub next-fits : (s : List ℕ) (i : ℕ) (f : Field) (t n : ℕ) → i ≤ length s → Within (take (length s - i) (drop i s)) f → f ≡ Value t n → i + n + 3 ≤ length s
+next-fits s i f t n h w q =
+    let v : n + 3 ≤ length (take (length s - i) (drop i s)) = rw q at w in
+    omega (arith, simp (length-take, length-drop) at v)
 
 -- ---- counting
 

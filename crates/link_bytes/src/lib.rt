@@ -1,11 +1,34 @@
 // The bytes of two accepted sheets joined into one (02, M-111): their events by number, the behaviours of the first,
 // then those of the second with their names moved up. Time: one pass over the bytes of both, and at most 64 turns to
 // count the behaviours of the first.
+use front_field::Field;
+use spec_language::limits;
+use spec_language::tags;
 ghost use mathlib.Core.Path.{_≡_};
 ghost use Prim.Native.Nat.{_≤_, _+_, _-_};
 ghost use lib.ListN.{length, drop};
 ghost use Rattle.link_events.specs.Written.{Written};
 ghost use Rattle.link_bytes.specs.Splice.{cellsAt, nextAt, countFrom, opens, onward, movedByte, scan, spliced};
+
+// A field with a value has at least these bytes: its tag, the two of its length, and one.
+const LEAST_BYTES: usize = 4;
+
+const BYTE: usize = 256;
+
+// How many bytes stand behind a tag before the next one: the length alone; a row's cells, or a function, beside it; a
+// handler's event; a constant or a value at the start.
+const LENGTH: usize = 2;
+
+const LENGTH_AND_BYTE: usize = 3;
+
+const HANDLER_BYTES: usize = 4;
+
+const WORD_BYTES: usize = 6;
+
+// A name's byte is met with 9, so that it is known; its tag counts 11.
+const AT_NAME: usize = 9;
+
+const BEFORE_NAME: usize = 11;
 
 // How many behaviours the field at place i stands for.
 fn cells(s: &[u8], i: usize) -> usize
@@ -13,29 +36,26 @@ fn cells(s: &[u8], i: usize) -> usize
     ensures { λ r. ⌜ r ≡ cellsAt (now (s .entry)) i ⌝ }
     ensures { λ r. ⌜ r ≤ 255 ⌝ }
 {
-    if s.len() - i < 4 {
+    if s.len() - i < LEAST_BYTES {
         return 0;
     }
-    if s[i] == 6 {
+    if s[i] == tags::ROW {
         return s[i + 3] as usize;
     }
     1
 }
 
-// The place after it.
+// The place after it, by the field reader, whatever its tag; the end where the reader finds none.
 fn next(s: &[u8], i: usize) -> usize
     requires { ⌜ i ≤ length (now s) ⌝ }
     ensures { λ r. ⌜ r ≡ nextAt (now (s .entry)) i ⌝ }
     ensures { λ r. ⌜ r ≤ length (now (s .entry)) ⌝ }
 {
-    if s.len() - i < 3 {
+    let f = front_field::field_answer(&s[i..], 0, u8::MAX);
+    let Field::Value(_, n) = f else {
         return s.len();
-    }
-    let n = (s[i + 1] as usize) * 256 + (s[i + 2] as usize) + 3;
-    if s.len() - i < n {
-        return s.len();
-    }
-    i + n
+    };
+    i + n + 3
 }
 
 // How many behaviours stand from place i on.
@@ -47,7 +67,7 @@ fn count(s: &[u8], i: usize) -> usize
     let mut at = i;
     let mut c = 0usize;
     let mut n = 0usize;
-    while n < 64 {
+    while n < limits::BEHAVIOURS {
         c += cells(s, at);
         at = next(s, at);
         n += 1;
@@ -59,22 +79,22 @@ fn count(s: &[u8], i: usize) -> usize
 fn opened(b: u8) -> usize
     ensures { λ r. ⌜ r ≡ opens b ⌝ }
 {
-    if b == 17 {
-        return 11;
+    if b == tags::NAME {
+        return BEFORE_NAME;
     }
-    if b == 16 {
-        return 6;
+    if b == tags::CONSTANT {
+        return WORD_BYTES;
     }
-    if b == 4 {
-        return 6;
+    if b == tags::START {
+        return WORD_BYTES;
     }
-    if b == 5 {
-        return 4;
+    if b == tags::HANDLER {
+        return HANDLER_BYTES;
     }
-    if b < 4 {
-        return 2;
+    if b < tags::START {
+        return LENGTH;
     }
-    3
+    LENGTH_AND_BYTE
 }
 
 fn follow(k: usize, b: u8) -> usize
@@ -83,7 +103,7 @@ fn follow(k: usize, b: u8) -> usize
     if k == 0 {
         return opened(b);
     }
-    if k == 9 {
+    if k == AT_NAME {
         return 0;
     }
     k - 1
@@ -94,8 +114,8 @@ fn lift(m: usize, k: usize, b: u8) -> u8
     requires { ⌜ m ≤ 16320 ⌝ }
     ensures { λ r. ⌜ r ≡ movedByte m k b ⌝ }
 {
-    if k == 9 {
-        return (((b as usize) + m) % 256) as u8;
+    if k == AT_NAME {
+        return (((b as usize) + m) % BYTE) as u8;
     }
     b
 }

@@ -1,10 +1,24 @@
 // The events of two sheets joined by number (02, M-111), from the sheets' bytes: their fields, the place where they
 // end, and whether two ranks differ. Time: at most 32 turns, a field of each sheet a turn.
+use spec_language::limits;
+use spec_language::tags;
 ghost use mathlib.Core.Path.{_≡_};
 ghost use Prim.Native.Nat.{_≤_, _+_, _-_};
 ghost use lib.ListN.{length};
 ghost use Rattle.link_events.specs.Merging.{widthAt, rankAt, senderAt, merged, eventBytes, pairBytes, eventsFrom, endFrom, agreeFrom};
 ghost use Rattle.link_events.specs.Written.{Written};
+
+// How many bytes an event's field has, without and with the byte that says who may send it, and where that stands.
+const PLAIN_BYTES: usize = 4;
+
+const SENDER_BYTES: usize = 5;
+
+const SENDER: usize = 4;
+
+// What stands for that byte where it is missing: no byte's value.
+const ANYONE: usize = 256;
+
+const BYTE: usize = 256;
 
 // How many bytes the event's field at place i has; 0 where none stands.
 fn width(s: &[u8], i: usize) -> usize
@@ -13,19 +27,19 @@ fn width(s: &[u8], i: usize) -> usize
     ensures { λ r. ⌜ (i + r ≤ length (now (s .entry))) × (r ≤ 5) ⌝ }
 {
     let left = s.len() - i;
-    if left < 4 {
+    if left < PLAIN_BYTES {
         return 0;
     }
-    if s[i] != 1 {
+    if s[i] != tags::EVENT {
         return 0;
     }
     if s[i + 2] == 1 {
-        return 4;
+        return PLAIN_BYTES;
     }
-    if left < 5 {
+    if left < SENDER_BYTES {
         return 0;
     }
-    5
+    SENDER_BYTES
 }
 
 // The priority in a field of w bytes.
@@ -33,7 +47,7 @@ fn rank(s: &[u8], i: usize, w: usize) -> u8
     requires { ⌜ i + w ≤ length (now s) ⌝ }
     ensures { λ r. ⌜ r ≡ rankAt (now (s .entry)) i w ⌝ }
 {
-    if w < 4 {
+    if w < PLAIN_BYTES {
         return 0;
     }
     s[i + 3]
@@ -44,20 +58,20 @@ fn sender(s: &[u8], i: usize, w: usize) -> usize
     requires { ⌜ i + w ≤ length (now s) ⌝ }
     ensures { λ r. ⌜ r ≡ senderAt (now (s .entry)) i w ⌝ }
 {
-    if w == 5 {
-        return s[i + 4] as usize;
+    if w == SENDER_BYTES {
+        return s[i + SENDER] as usize;
     }
-    256
+    ANYONE
 }
 
 // Who may send by both.
 fn merge(x: usize, y: usize) -> usize
     ensures { λ r. ⌜ r ≡ merged x y ⌝ }
 {
-    if x == 256 {
+    if x == ANYONE {
         return y;
     }
-    if y == 256 {
+    if y == ANYONE {
         return x;
     }
     x & y
@@ -69,19 +83,19 @@ fn put_event(out: &mut [u8], k: usize, r: u8, m: usize) -> usize
     ensures { λ n. ⌜ Written (now (out .entry)) k (eventBytes r m) (now (out .exit)) n ⌝ }
     ensures { λ n. ⌜ n ≤ k + 5 ⌝ }
 {
-    if m == 256 {
-        out[k] = 1;
+    if m == ANYONE {
+        out[k] = tags::EVENT;
         out[k + 1] = 0;
         out[k + 2] = 1;
         out[k + 3] = r;
-        return k + 4;
+        return k + PLAIN_BYTES;
     }
-    out[k] = 1;
+    out[k] = tags::EVENT;
     out[k + 1] = 0;
     out[k + 2] = 2;
     out[k + 3] = r;
-    out[k + 4] = (m % 256) as u8;
-    k + 5
+    out[k + SENDER] = (m % BYTE) as u8;
+    k + SENDER_BYTES
 }
 
 // The field of the events at place i of s and at place j of t, which have a and b bytes.
@@ -119,7 +133,7 @@ pub fn put_events(s: &[u8], t: &[u8], out: &mut [u8]) -> usize
     let mut j = 0;
     let mut k = 0;
     let mut n = 0usize;
-    while n < 32 {
+    while n < limits::EVENTS {
         let a = width(s, i);
         let b = width(t, j);
         k = put_pair(s, i, a, t, j, b, out, k);
@@ -137,7 +151,7 @@ pub fn events_end(s: &[u8]) -> usize
 {
     let mut i = 0;
     let mut n = 0usize;
-    while n < 32 {
+    while n < limits::EVENTS {
         i += width(s, i);
         n += 1;
     }
@@ -151,7 +165,7 @@ pub fn ranks_agree(s: &[u8], t: &[u8]) -> bool
     let mut i = 0;
     let mut j = 0;
     let mut n = 0usize;
-    while n < 32 {
+    while n < limits::EVENTS {
         let a = width(s, i);
         let b = width(t, j);
         if a == 0 {

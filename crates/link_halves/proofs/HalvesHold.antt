@@ -3,46 +3,45 @@
 use Prim.Native.Nat.{ℕ, _+_, _≤_, _<_}
 use mathlib.Core.Bool.{Bool, true, false}
 use mathlib.Core.Path.{_≡_, sym, ap, ap₂, _∙_, subst}
-use mathlib.Core.List.{List, [], _∷_, _++_}
+use mathlib.Core.List.{List, [], _∷_, _++_, map}
 use native.Mathlib.Omega.{arith}
 use lib.ListN.{length, getD, take, drop, replicate, length-replicate}
-use lib.Seq.{take-append-seam}
+use lib.Seq.{take-append-seam, drop-append-seam}
 use borrow.Author.Tests.{le-ltb}
 use Rattle.lib_base.specs.Basics.{All}
-use Rattle.lib_base.proofs.Tools.{split, all-perm, all-split}
+use Rattle.lib_base.proofs.Tools.{split}
 use Rattle.lib_word.specs.Word.{get}
 use Rattle.spec_language.specs.Syntax.{Program}
 use Rattle.spec_language.specs.Sheet.{Sheet, uses}
 use Rattle.spec_language.specs.Grammar.{encode}
 use Rattle.spec_language.specs.Reading.{Got, bad, got, readSheet}
-use Rattle.spec_language.specs.Dependence.{size, events}
+use Rattle.spec_language.specs.Dependence.{size}
 use Rattle.spec_language.specs.Accepted.{Accepted, SheetAccepted}
 use Rattle.spec_language.specs.Rights.{maySend, maySee}
 use Rattle.spec_grammar.proofs.Programs.{reads-back}
 use Rattle.spec_semantics.specs.Meaning.{fresh}
-use Rattle.spec_semantics.specs.Plays.{Plays}
+use Rattle.spec_semantics.specs.Plays.{Plays, done as played, next as plays}
+use Rattle.spec_semantics.proofs.Lengths.{length-fresh}
+use Rattle.spec_model.specs.Model.{Call, call}
+use Rattle.spec_model.specs.Claims.{committedIn, eventsOf}
+use Rattle.format_image.specs.Image.{tableOf}
+use Rattle.check_faults.proofs.CycleDecides.{known-decides, cyclic-decides}
+use Rattle.check_circle.specs.Witness.{numberOn}
+use Rattle.back_compile.specs.Verdict.{Compiled, compiled, judge, lacks, judgeRead, programOf, compileOn}
+use Rattle.back_compile.proofs.JudgeLaws.{judge-passes, compile-opens}
 use Rattle.link_pooled.specs.Pooled.{pooled, sameRanks}
 use Rattle.link_pooled.specs.Together.{together, declared}
 use Rattle.link_pooled.proofs.Filled.{fill-pooled, size-fill}
 use Rattle.link_pooled.proofs.Rights.{send-both, send-first, send-second, see-first, see-second, rank-first, rank-second}
-use Rattle.spec_model.specs.Model.{Arrival, initial, Call}
-use Rattle.spec_model.specs.Claims.{after, committedIn, eventsOf, inQueue}
-use Rattle.spec_model.proofs.Confluence.{Declared}
-use Rattle.format_image.specs.Image.{tableOf}
-use Rattle.check_faults.proofs.CycleDecides.{known-decides, cyclic-decides}
-use Rattle.back_compile.specs.Verdict.{Compiled, compiled, judge, lacks, judgeRead, programOf, compileOn}
-use Rattle.back_compile.proofs.JudgeLaws.{judge-passes, compile-opens}
-use Rattle.check_circle.specs.Witness.{numberOn}
 use Rattle.link_join.specs.Join.{Joined, joined}
-use Rattle.link_join.proofs.JoinLaws.{Read}
-use Rattle.link_join.proofs.Says.{Answer, first-refused, second-refused, unlike, long, crowded, overlong, short, done, join-says, rules-board}
-use Rattle.run_start.specs.Start.{startOn}
-use Rattle.refine_calls.specs.Refinement.{roundAfter}
-use Rattle.refine_lists.proofs.Sheets.{table-room, program-accepted}
-use Rattle.engine.specs.Demand.{boardOf, OneList}
-use Rattle.engine.proofs.Runs.{taken-declared}
-use Rattle.engine.proofs.Holds.{one}
-use Rattle.link_halves.specs.HalfBoards.{boardAfter, SameCommits, Settled, Halves, HalfBoards}
+use Rattle.link_join.specs.Statements.{Read, Answer, first-refused, second-refused, unlike, long, crowded, overlong, short, done}
+use Rattle.link_join.proofs.Says.{join-says, rules-board}
+use Rattle.run_start.specs.Start.{Result}
+use Rattle.refine_calls.specs.Refinement.{calls, Bytes, bytes, bytesAfter}
+use Rattle.refine_lists.specs.Lists.{boardOf, freshRoundOn, OnlyCalls}
+use Rattle.refine_lists.proofs.Sheets.{table-room, program-accepted, begun}
+use Rattle.refine_lists.proofs.OnlyCallsHold.{known, only-calls}
+use Rattle.link_halves.specs.HalfBoards.{boardAfter, SameCommits, NotSettling, Halves, HalfBoards}
 
 -- ---- a sheet that is accepted, whatever its bytes are written from
 
@@ -69,9 +68,13 @@ module _ (ps : List ℕ) (x : Sheet) (ok : SheetAccepted (get ps) (length ps) x)
 
 -- a list of calls on its table, by demand 3
 list-of : (ps : List ℕ) → All (λ b. b < 256) ps → (x : Sheet) → SheetAccepted (get ps) (length ps) x → (s t₀ l₀ : List ℕ) → encode x ≡ s → 34816 ≤ length t₀ → 2048 ≤ length l₀
-    → (cs : List Call) → OneList (programOf ps x) (compileOn s ps t₀ .1) l₀ (startOn (compileOn s ps t₀ .1) l₀ .1) cs
+    → (cs : List Call) → OnlyCalls (programOf ps x) l₀ (freshRoundOn s ps t₀ l₀) cs
 list-of ps words x ok s t₀ l₀ e a b cs =
-    one (programOf ps x) (program-accepted ps words x ok) t₀ l₀ (compileOn s ps t₀ .1) a b (ap (λ (r : Compiled). r .1) (compiles ps x ok s t₀ e a)) cs
+    let p = programOf ps x in
+    let accepted = program-accepted ps words x ok in
+    let t : compileOn s ps t₀ .1 ≡ tableOf p t₀ = ap (λ (r : Compiled). r .1) (compiles ps x ok s t₀ e a) in
+    let m = ap (λ (r : Result). r .1) (begun p accepted t₀ l₀ (compileOn s ps t₀ .1) a b t) in
+    subst (λ (c : Bytes). OnlyCalls p l₀ c cs) (λ i. bytes (sym t i) (sym m i)) (only-calls p accepted t₀ l₀ a b cs)
 
 -- ---- what join's answer says
 
@@ -113,19 +116,20 @@ module _ (buffer v : List ℕ) {s z ps : List ℕ} (x : Read s ps) (y : Read z p
 
 -- ---- the boards
 
-events-declared : (p : Program) (l : List Arrival) → All (Declared p) l → All (λ e. e < events p) (eventsOf l)
-events-declared p [] h = tt
-events-declared p (a ∷ l) h = (h .0, events-declared p l (h .1))
-
-committed-declared : (p : Program) (t l₀ l : List ℕ) (cs : List Call) → OneList p t l₀ l cs → All (λ e. e < events p) (eventsOf (committedIn p cs))
-committed-declared p t l₀ l cs h =
-    events-declared p (committedIn p cs)
-    (all-split (Declared p) (committedIn p cs) (inQueue (after p cs)) (all-perm (Declared p) (h .once .0) (taken-declared p cs (initial p) 0)) .0)
+plays-length : (p : Program) (es s b : List ℕ) → Plays p es s b → length s ≡ size p → length b ≡ size p
+plays-length p [] s b played h = h
+plays-length p (e ∷ es) s b (plays {s′ = m} r k sh q) h = plays-length p es m b q k
 
 -- the board of a list whose commits are es is the one to which the rules lead
-by-rules : (p : Program) (t l₀ l : List ℕ) (cs : List Call) (one-list : OneList p t l₀ l cs) → Settled p cs → (es b : List ℕ) → eventsOf (committedIn p cs) ≡ es → Plays p es (fresh p) b
-    → b ≡ boardOf p (roundAfter t cs l)
-by-rules p t l₀ l cs h still es b e k = h .board-alone still b (subst (λ (w : List ℕ). Plays p w (fresh p) b) (sym e) k)
+by-rules : (p : Program) (l₀ : List ℕ) (c : Bytes) (cs : List Call) → OnlyCalls p l₀ c cs → NotSettling p cs → (es b : List ℕ) → eventsOf (committedIn p (map call cs)) ≡ es
+    → Plays p es (fresh p) b → b ≡ boardOf p (bytesAfter (map calls cs) c .round)
+by-rules p l₀ c cs h still es b e k = h .board-alone still b (subst (λ (w : List ℕ). Plays p w (fresh p) b) (sym e) k)
+
+front : (n : ℕ) (f g : List ℕ) → length f ≡ n → take n (f ++ g) ≡ f
+front n f g e = subst (λ (k : ℕ). take k (f ++ g) ≡ f) e (take-append-seam f g)
+
+behind : (n : ℕ) (f g : List ℕ) → length f ≡ n → drop n (f ++ g) ≡ g
+behind n f g e = subst (λ (k : ℕ). drop k (f ++ g) ≡ g) e (drop-append-seam f g)
 
 module _ (ps : List ℕ) (words : All (λ b. b < 256) ps) {s z : List ℕ} (x : Read s ps) (y : Read z ps) (v : List ℕ) (d : Delivered ps v (x .sheet) (y .sheet))
     (t₀ l₀ t₁ l₁ t₂ l₂ : List ℕ) (a₀ : 34816 ≤ length t₀) (a₁ : 34816 ≤ length t₁) (a₂ : 34816 ≤ length t₂) (b₀ : 2048 ≤ length l₀) (b₁ : 2048 ≤ length l₁) (b₂ : 2048 ≤ length l₂) where
@@ -138,35 +142,63 @@ module _ (ps : List ℕ) (words : All (λ b. b < 256) ps) {s z : List ℕ} (x : 
   abbrev j : Program
   j = programOf ps (pooled (x .sheet) (y .sheet))
 
-  boards : (cs cs₁ cs₂ : List Call) → Settled j cs → Settled p cs₁ → Settled q cs₂ → SameCommits j cs p cs₁ → SameCommits j cs q cs₂
-      → boardAfter j (compileOn v ps t₀ .1) l₀ cs ≡ boardAfter p (compileOn s ps t₁ .1) l₁ cs₁ ++ boardAfter q (compileOn z ps t₂ .1) l₂ cs₂
-  boards cs cs₁ cs₂ h h₁ h₂ same₁ same₂ =
-      let t = compileOn v ps t₀ .1 in
-      let u = compileOn s ps t₁ .1 in
-      let w = compileOn z ps t₂ .1 in
-      let all = list-of ps words (pooled (x .sheet) (y .sheet)) (d .accepted) v t₀ l₀ (d .bytes) a₀ b₀ cs in
-      let first = list-of ps words (x .sheet) (x .accepted) s t₁ l₁ (x .bytes) a₁ b₁ cs₁ in
-      let second = list-of ps words (y .sheet) (y .accepted) z t₂ l₂ (y .bytes) a₂ b₂ cs₂ in
-      let es = eventsOf (committedIn j cs) in
-      let k = rules-board words x y es (committed-declared j t l₀ (startOn t l₀ .1) cs all) (boardAfter j t l₀ cs) (all .board h) in
-      k .4
-      ∙ ap₂ (λ (f g : List ℕ). f ++ g) (by-rules p u l₁ (startOn u l₁ .1) cs₁ first h₁ (declared p es) (k .0) same₁ (k .2))
-      (by-rules q w l₂ (startOn w l₂ .1) cs₂ second h₂ (declared q es) (k .1) same₂ (k .3))
-
-  -- ---- rights and ranks
-
-  means : j ≡ together p q
-  means = fill-pooled (get ps) (x .sheet) (y .sheet) (x .accepted .fits) (x .accepted .known)
-
   okp : Accepted p
   okp = program-accepted ps words (x .sheet) (x .accepted)
 
   okq : Accepted q
   okq = program-accepted ps words (y .sheet) (y .accepted)
 
+  okj : Accepted j
+  okj = program-accepted ps words (pooled (x .sheet) (y .sheet)) (d .accepted)
+
+  -- the joined board, cut where the first sheet's behaviours end
+  record Cut (cs : List Call) : Type 0 where
+    one : List ℕ
+    two : List ℕ
+    first-plays : Plays p (declared p (eventsOf (committedIn j (map call cs)))) (fresh p) one
+    second-plays : Plays q (declared q (eventsOf (committedIn j (map call cs)))) (fresh q) two
+    row : boardAfter j (compileOn v ps t₀ .1) l₀ cs ≡ one ++ two
+    long-one : length one ≡ size p
+
+  cut : (cs : List Call) → NotSettling j cs → Cut cs
+  cut cs h =
+      let all = list-of ps words (pooled (x .sheet) (y .sheet)) (d .accepted) v t₀ l₀ (d .bytes) a₀ b₀ cs in
+      let es = eventsOf (committedIn j (map call cs)) in
+      let k = rules-board words x y es (known j okj cs) (boardAfter j (compileOn v ps t₀ .1) l₀ cs) (all .board h) in
+      record {
+        one = k .0;
+        two = k .1;
+        first-plays = k .2;
+        second-plays = k .3;
+        row = k .4;
+        long-one = plays-length p (declared p es) (fresh p) (k .0) (k .2) (length-fresh p);
+      }
+
+  first-half : (cs ds : List Call) → NotSettling j cs → NotSettling p ds → SameCommits j cs p ds
+      → take (size p) (boardAfter j (compileOn v ps t₀ .1) l₀ cs) ≡ boardAfter p (compileOn s ps t₁ .1) l₁ ds
+  first-half cs ds h h₁ same =
+      let c = cut cs h in
+      let mine = list-of ps words (x .sheet) (x .accepted) s t₁ l₁ (x .bytes) a₁ b₁ ds in
+      ap (take (size p)) (c .row) ∙ front (size p) (c .one) (c .two) (c .long-one)
+      ∙ by-rules p l₁ (freshRoundOn s ps t₁ l₁) ds mine h₁ (declared p (eventsOf (committedIn j (map call cs)))) (c .one) same (c .first-plays)
+
+  second-half : (cs ds : List Call) → NotSettling j cs → NotSettling q ds → SameCommits j cs q ds
+      → drop (size p) (boardAfter j (compileOn v ps t₀ .1) l₀ cs) ≡ boardAfter q (compileOn z ps t₂ .1) l₂ ds
+  second-half cs ds h h₂ same =
+      let c = cut cs h in
+      let mine = list-of ps words (y .sheet) (y .accepted) z t₂ l₂ (y .bytes) a₂ b₂ ds in
+      ap (drop (size p)) (c .row) ∙ behind (size p) (c .one) (c .two) (c .long-one)
+      ∙ by-rules q l₂ (freshRoundOn z ps t₂ l₂) ds mine h₂ (declared q (eventsOf (committedIn j (map call cs)))) (c .two) same (c .second-plays)
+
+  -- ---- rights and ranks
+
+  means : j ≡ together p q
+  means = fill-pooled (get ps) (x .sheet) (y .sheet) (x .accepted .fits) (x .accepted .known)
+
   halves : Halves p q j (compileOn v ps t₀ .1) l₀ (compileOn s ps t₁ .1) l₁ (compileOn z ps t₂ .1) l₂
   halves = record {
-    boards = boards;
+    first-half = first-half;
+    second-half = second-half;
     send-shared = λ player e h g.
         ap (λ (r : Program). maySend r player e) means ∙ send-both p q player e (omega (arith, okp .fits .all-senders)) (omega (arith, okq .fits .all-senders));
     send-first = λ player e h. ap (λ (r : Program). maySend r player e) means ∙ send-first p q player e (omega (arith, okq .fits .all-senders));

@@ -1,12 +1,13 @@
 -- What a joined sheet is beside its two sheets, as a claim about the exported functions: `joinOn`, `compileOn`,
--- `startOn` and, within `roundAfter`, the calls' are what their contracts cite. 02, M-111: "After the same commits,
+-- `startOn` and, within `bytesAfter`, the calls' are what their contracts cite. 02, M-111: "After the same commits,
 -- each half of the joined board equals that sheet's own board, events that it doesn't declare being passed over." and
--- "A player may send a shared event only where both sheets allow it".
+-- "A player may send a shared event only where both sheets allow it". It is said of lists of calls: a change (M-112)
+-- would take the joined round to a sheet that need not be joined from two.
 use Prim.Native.Nat.{ℕ, _+_, _≤_, _<_}
 use mathlib.Core.Bool.{false, _&&_}
 use mathlib.Core.Path.{_≡_}
-use mathlib.Core.List.{List, _++_}
-use lib.ListN.{length, getD, drop}
+use mathlib.Core.List.{List, _++_, map}
+use lib.ListN.{length, getD, take, drop}
 use Rattle.lib_base.specs.Basics.{All}
 use Rattle.lib_word.specs.Word.{get}
 use Rattle.spec_language.specs.Syntax.{Program}
@@ -15,35 +16,35 @@ use Rattle.spec_language.specs.Grammar.{encode}
 use Rattle.spec_language.specs.Dependence.{size, events}
 use Rattle.spec_language.specs.Accepted.{SheetAccepted}
 use Rattle.spec_language.specs.Rights.{maySend, maySee}
+use Rattle.spec_model.specs.Model.{Call, call}
+use Rattle.spec_model.specs.Claims.{engineAfter, committedIn, eventsOf, settlingIn}
+use Rattle.back_compile.specs.Verdict.{programOf, compileOn}
 use Rattle.link_pooled.specs.Pooled.{pooled}
 use Rattle.link_pooled.specs.Together.{declared}
-use Rattle.spec_model.specs.Model.{Call}
-use Rattle.spec_model.specs.Claims.{after, committedIn, eventsOf, settlingIn}
-use Rattle.back_compile.specs.Verdict.{programOf, compileOn}
 use Rattle.link_join.specs.Join.{joined, joinOn}
 use Rattle.run_start.specs.Start.{startOn}
-use Rattle.refine_calls.specs.Refinement.{roundAfter}
-use Rattle.engine.specs.Demand.{boardOf}
+use Rattle.refine_calls.specs.Refinement.{calls, bytes, bytesAfter}
+use Rattle.refine_lists.specs.Lists.{boardOf}
 
 -- the board after the calls cs on the table t of program p and the round that start makes fresh in the bytes l
 abbrev pub boardAfter : Program → List ℕ → List ℕ → List Call → List ℕ
-boardAfter p t l cs = boardOf p (roundAfter t cs (startOn t l .1))
+boardAfter p t l cs = boardOf p (bytesAfter (map calls cs) (bytes t (startOn t l .1)) .round)
 
 -- "After the same commits, .. events that it doesn't declare being passed over": of the events that j commits in the
 -- calls cs, p commits in the calls ds those that it declares, in the same order
 abbrev pub SameCommits : Program → List Call → Program → List Call → Type 0
-SameCommits j cs p ds = eventsOf (committedIn p ds) ≡ declared p (eventsOf (committedIn j cs))
+SameCommits j cs p ds = eventsOf (committedIn p (map call ds)) ≡ declared p (eventsOf (committedIn j (map call cs)))
 
 -- "unless a copy-back is under way" (demand 3)
-abbrev pub Settled : Program → List Call → Type 0
-Settled p cs = settlingIn p (after p cs) ≡ false
+abbrev pub NotSettling : Program → List Call → Type 0
+NotSettling p cs = settlingIn p (engineAfter p (map call cs)) ≡ false
 
 -- the programs p and q of the two sheets, that of the joined sheet, j, and their tables
 pub record Halves (p q j : Program) (t₀ l₀ t₁ l₁ t₂ l₂ : List ℕ) : Type 0 where
-  -- "each half of the joined board equals that sheet's own board": as many values as the first sheet has behaviours,
-  -- then those of the second
-  pub boards : (cs cs₁ cs₂ : List Call) → Settled j cs → Settled p cs₁ → Settled q cs₂ → SameCommits j cs p cs₁ → SameCommits j cs q cs₂
-      → boardAfter j t₀ l₀ cs ≡ boardAfter p t₁ l₁ cs₁ ++ boardAfter q t₂ l₂ cs₂
+  -- "each half of the joined board equals that sheet's own board", each by itself: as many values as the first sheet
+  -- has behaviours, then those of the second
+  pub first-half : (cs ds : List Call) → NotSettling j cs → NotSettling p ds → SameCommits j cs p ds → take (size p) (boardAfter j t₀ l₀ cs) ≡ boardAfter p t₁ l₁ ds
+  pub second-half : (cs ds : List Call) → NotSettling j cs → NotSettling q ds → SameCommits j cs q ds → drop (size p) (boardAfter j t₀ l₀ cs) ≡ boardAfter q t₂ l₂ ds
   -- "A player may send a shared event only where both sheets allow it", another where its sheet does
   pub send-shared : (player e : ℕ) → e < events p → e < events q → maySend j player e ≡ maySend p player e && maySend q player e
   pub send-first : (player e : ℕ) → events q ≤ e → maySend j player e ≡ maySend p player e

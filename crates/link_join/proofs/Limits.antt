@@ -9,7 +9,7 @@ use native.Mathlib.Omega.{arith}
 use lib.ListN.{length, replicate, length-replicate}
 use lib.Dec.{ltb, leb}
 use borrow.Author.Tests.{le-ltb, lt-ltb, ltb-true, ltb-false, leb-false, lt-leb}
-use Rattle.lib_base.specs.Basics.{pick, All}
+use Rattle.lib_base.specs.Basics.{All}
 use Rattle.lib_base.proofs.Tools.{split}
 use Rattle.lib_word.specs.Word.{get}
 use Rattle.spec_language.specs.Sheet.{Item, formula, state, row, Signal, Entry, Sheet, cells, cellCount, uses}
@@ -28,10 +28,7 @@ use Rattle.back_compile.specs.Verdict.{Compiled, judge, lacks, programOf, judge
 use Rattle.back_compile.proofs.JudgeLaws.{judge-long, judge-passes, compile-opens, compile-long}
 use Rattle.link_pooled.proofs.Filled.{size-fill}
 use Rattle.check_circle.specs.Witness.{numberOn}
-
--- the limits in their order, 0 where none is passed
-abbrev pub limits : List ℕ → Sheet → ℕ
-limits ps x = pick (ltb 8192 (length (encode x))) 3 (pick (ltb 64 (count x)) 7 (pick (ltb 4096 (allInstructions (programOf ps x))) 13 0))
+use Rattle.link_join.specs.Statements.{limits}
 
 -- ---- over 64 behaviours
 

@@ -1,13 +1,11 @@
 -- What a join's answer says, case by case, and what the joined sheet is: accepted, its board the two boards in a row,
 -- its events sent by whom both sheets let. From the definitions' branches, the limits that a pooled sheet can pass
 -- (Limits.antt) and what is known of two programs side by side (crate link_pooled).
-use Prim.Native.Nat.{ℕ, _+_, _≤_, _<_, _^_}
-use mathlib.Core.Bool.{true, false}
+use Prim.Native.Nat.{ℕ, _≤_, _<_, _^_}
+use mathlib.Core.Bool.{true}
 use mathlib.Core.Path.{_≡_, _∙_, subst}
-use mathlib.Core.Logic.{_≢_}
-use mathlib.Core.List.{List, [], _++_}
-use native.Mathlib.Omega.{arith}
-use lib.ListN.{length, drop}
+use mathlib.Core.List.{List, _++_}
+use lib.ListN.{length}
 use lib.Dec.{ltb, eqb}
 use borrow.Author.Tests.{eqb-true, eqb-false, ltb-true, ltb-false}
 use Rattle.lib_base.specs.Basics.{All}
@@ -17,7 +15,7 @@ use Rattle.spec_language.specs.Syntax.{Program}
 use Rattle.spec_language.specs.Sheet.{Sheet}
 use Rattle.spec_language.specs.Grammar.{encode}
 use Rattle.spec_language.specs.Dependence.{events}
-use Rattle.spec_language.specs.Accepted.{SheetAccepted, Valid}
+use Rattle.spec_language.specs.Accepted.{Valid}
 use Rattle.spec_language.specs.Code.{allInstructions}
 use Rattle.spec_semantics.specs.Meaning.{fresh, play}
 use Rattle.spec_semantics.specs.Plays.{Plays}
@@ -29,26 +27,10 @@ use Rattle.link_pooled.proofs.PooledAccepted.{valid-filling, pooled-valid, pool
 use Rattle.front_params.proofs.Fills.{get-small}
 use Rattle.back_compile.specs.Verdict.{programOf}
 use Rattle.check_circle.specs.Witness.{numberOn}
-use Rattle.link_join.specs.Join.{Joined, joined, deliveredIn, resultOn, poolOn, joinOn}
-use Rattle.link_join.proofs.JoinLaws.{Read, taken}
-use Rattle.link_join.proofs.Limits.{limits, pooled-number}
-
--- the answers in the order of the checks
-pub data Answer (s t ps buffer : List ℕ) : Joined → Type 0 where
-  first-refused : numberOn s ps ≢ 0 → Answer s t ps buffer (joined (numberOn s ps) buffer)
-  second-refused : numberOn s ps ≡ 0 → numberOn t ps ≢ 0 → Answer s t ps buffer (joined (numberOn t ps) buffer)
-  unlike : (x : Read s ps) (y : Read t ps) → sameRanks (x .sheet .signals) (y .sheet .signals) ≡ false → Answer s t ps buffer (joined 26 buffer)
-  long : (x : Read s ps) (y : Read t ps) → sameRanks (x .sheet .signals) (y .sheet .signals) ≡ true → 8192 < length (encode (pooled (x .sheet) (y .sheet)))
-      → Answer s t ps buffer (joined 3 buffer)
-  crowded : (x : Read s ps) (y : Read t ps) → sameRanks (x .sheet .signals) (y .sheet .signals) ≡ true → length (encode (pooled (x .sheet) (y .sheet))) ≤ 8192
-      → 64 < count (pooled (x .sheet) (y .sheet)) → Answer s t ps buffer (joined 7 buffer)
-  overlong : (x : Read s ps) (y : Read t ps) → sameRanks (x .sheet .signals) (y .sheet .signals) ≡ true → length (encode (pooled (x .sheet) (y .sheet))) ≤ 8192
-      → count (pooled (x .sheet) (y .sheet)) ≤ 64 → 4096 < allInstructions (programOf ps (pooled (x .sheet) (y .sheet))) → Answer s t ps buffer (joined 13 buffer)
-  short : (x : Read s ps) (y : Read t ps) → sameRanks (x .sheet .signals) (y .sheet .signals) ≡ true → SheetAccepted (get ps) (length ps) (pooled (x .sheet) (y .sheet))
-      → length buffer < length (encode (pooled (x .sheet) (y .sheet))) → Answer s t ps buffer (joined 27 buffer)
-  done : (x : Read s ps) (y : Read t ps) → sameRanks (x .sheet .signals) (y .sheet .signals) ≡ true → SheetAccepted (get ps) (length ps) (pooled (x .sheet) (y .sheet))
-      → length (encode (pooled (x .sheet) (y .sheet))) ≤ length buffer
-      → Answer s t ps buffer (joined (4294967296 + length (encode (pooled (x .sheet) (y .sheet)))) (encode (pooled (x .sheet) (y .sheet)) ++ drop (length (encode (pooled (x .sheet) (y .sheet)))) buffer))
+use Rattle.link_join.specs.Join.{deliveredIn, resultOn, poolOn, joinOn}
+use Rattle.link_join.proofs.JoinLaws.{taken}
+use Rattle.link_join.specs.Statements.{Read, limits, Answer, first-refused, second-refused, unlike, long, crowded, overlong, short, done}
+use Rattle.link_join.proofs.Limits.{pooled-number}
 
 module _ (s t ps buffer : List ℕ) (bs : All (λ b. b < 256) s) (bt : All (λ b. b < 256) t) (bp : All (λ b. b < 256) ps) where
   module _ (x : Read s ps) (y : Read t ps) where

@@ -1,5 +1,8 @@
 // One sheet from two accepted ones (02, M-111): compile's number for each, 26, compile's number for the joined one, 27,
 // or 2 ^ 32 and its length. Time: that of compile for each of the three, and one pass over the bytes of both.
+use format_layout::table;
+use spec_language::limits;
+use spec_language::refusals;
 ghost use mathlib.Core.Path.{_≡_};
 ghost use Prim.Native.Nat.{_≤_};
 ghost use lib.ListN.{length};
@@ -7,11 +10,21 @@ ghost use Rattle.spec_language.specs.Reading.{readSheet};
 ghost use Rattle.check_circle.specs.Witness.{numberOn};
 ghost use Rattle.link_join.specs.Join.{joined, deliveredIn, resultOn, poolRead, joinOn};
 
+// The most bytes of a joined sheet: those of both, and five for each event.
+const JOINED_BYTES: usize = limits::SHEET_BYTES * 2 + limits::EVENTS * 5;
+
+// What is added to its length, so that it is told from a refusal.
+const ACCEPTED: u64 = 4294967296;
+
+const UNLIKE_RANKS: u64 = refusals::UNLIKE_RANKS as u64;
+
+const SHORT_JOIN: u64 = refusals::SHORT_JOIN as u64;
+
 // compile's number, as with a full table.
 fn number(sheet: &[u8], params: &[u8]) -> u32
     ensures { λ r. ⌜ r ≡ numberOn (now (sheet .entry)) (now (params .entry)) ⌝ }
 {
-    let mut table = [0u8; 34816];
+    let mut table = [0u8; table::BYTES];
     back_compile::compile_at(sheet, params, &mut table)
 }
 
@@ -21,10 +34,10 @@ fn deliver(v: &[u8], buffer: &mut [u8]) -> u64
     ensures { λ r. ⌜ joined r (now (buffer .exit)) ≡ deliveredIn (now (v .entry)) (now (buffer .entry)) ⌝ }
 {
     if buffer.len() < v.len() {
-        return 27;
+        return SHORT_JOIN;
     }
     bytes::copy(v, buffer);
-    4294967296 + (v.len() as u64)
+    ACCEPTED + (v.len() as u64)
 }
 
 // The joined sheet, where compile takes it.
@@ -45,9 +58,9 @@ fn pool_at(first: &[u8], second: &[u8], params: &[u8], buffer: &mut [u8]) -> u64
     ensures { λ r. ⌜ joined r (now (buffer .exit)) ≡ poolRead (readSheet (now (first .entry))) (readSheet (now (second .entry))) (now (params .entry)) (now (buffer .entry)) ⌝ }
 {
     if !link_events::ranks_agree(first, second) {
-        return 26;
+        return UNLIKE_RANKS;
     }
-    let mut out = [0u8; 16544];
+    let mut out = [0u8; JOINED_BYTES];
     let n = link_bytes::splice(first, second, &mut out);
     result_at(&out[0..n], params, buffer)
 }

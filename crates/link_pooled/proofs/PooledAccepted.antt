@@ -87,9 +87,6 @@ module _ (v : ℕ → ℕ) (n k : ℕ) (small : n + k ≤ 256) where
 
 -- ---- the whole
 
-pub count-pooled : (s t : Sheet) → count (pooled s t) ≡ count s + count t
-count-pooled s t = count-append (s .entries) (moveEntries (count s) (t .entries)) ∙ ap (λ (n : ℕ). count s + n) (count-moved (count s) (t .entries))
-
 pub valid-filling : (v : ℕ → ℕ) → ((n : ℕ) → n < 8 → v n < 2 ^ 32) → (lent : ℕ) (s : Sheet) → SheetAccepted v lent s → Valid (fill v s)
 valid-filling v small lent s a =
     let h = filling-accepted v small lent s a in

@@ -3,8 +3,7 @@
 use Prim.Native.Nat.{ℕ, zero, suc, _+_, _-_, _/_, _%_, _≤_, _<_}
 use mathlib.Core.Bool.{Bool, true, false, not}
 use mathlib.Core.Path.{_≡_, refl, sym, ap, _∙_, subst}
-use mathlib.Core.List.{List, [], _∷_, List·Nodup, Pairwise·of-cons}
-use mathlib.Core.List.{List·Permᴰ, List·Permᴰ·cons, List·Permᴰ·trans, Permᴰ·symm}
+use mathlib.Core.List.{List, [], _∷_, List·Nodup, Pairwise·of-cons, List·Permᴰ, List·Permᴰ·cons, List·Permᴰ·trans, Permᴰ·symm}
 use native.Mathlib.Omega.{arith}
 use lib.Dec.{ltb, leb, eqb, leb·suc-suc}
 use lib.ListN.{length, getD, take}
@@ -20,23 +19,23 @@ use Rattle.spec_language.specs.Accepted.{Valid}
 use Rattle.spec_language.specs.Rights.{maySend, maySee}
 use Rattle.spec_execution.specs.Execution.{Values, execute}
 use Rattle.spec_execution.specs.CodeFacts.{CodeFacts, maskedAt, copyingBackAt}
-use Rattle.spec_execution.proofs.CodeRight.{code-facts}
 use Rattle.spec_execution.specs.Safe.{start, after, Matches}
+use Rattle.spec_execution.proofs.CodeRight.{code-facts}
 use Rattle.spec_execution.proofs.SafeLaws.{code-at}
-use Rattle.spec_model.specs.Model as model
 use Rattle.spec_model.specs.Model.{Arrival, Running, rest, busy, Engine, engine, queue, Call, arrive, step, board, Answer, Chosen, rank, before, aside, choose, act}
+use Rattle.spec_model.specs.Model as model
 use Rattle.spec_model.proofs.Choice.{numbers, distinct-numbers, perm-rest, Leads, leads-trans, before-says, choose-perm, choose-first, one-next}
 use Rattle.spec_model.proofs.Reached.{Fine, Reached, back-perm}
+use Rattle.format_layout.specs.Layout.{eventWord, eventOf, playerOf, numberAt, wordAt, eventAt, handFits, slotsFit, runningFits, roundWith, roundIn, roundFits, ours}
 use Rattle.format_image.specs.Image.{operation, constant}
 use Rattle.format_image.proofs.ImageLaws.{Says}
-use Rattle.format_layout.specs.Layout.{eventWord, eventOf, playerOf, numberAt, wordAt, eventAt, handFits, slotsFit, runningFits, roundWith, roundIn, roundFits, ours}
 use Rattle.run_queue.specs.Queue.{ahead, either, better, best, putSlot}
 use Rattle.run_instruction.specs.Instruction.{perform}
 use Rattle.run_arrive.specs.Arrivals.{full, arriveWith, arriveKnown, arriveIn, arriveOn}
 use Rattle.run_board.specs.Board.{copyingBack, masked, settling, settlingIn, boardWith, boardKnown, boardIn, boardOn}
-use Rattle.run_advance.specs.Advance as advancing
 use Rattle.run_dispatch.specs.Dispatch.{said, startAt, preemptAt}
 use Rattle.run_advance.specs.Advance.{overMark, commitSaid, countOn, executeOn, executeAt}
+use Rattle.run_advance.specs.Advance as advancing
 use Rattle.run_step.specs.Machine.{meet, contest, running, resting, stepWith, stepIn, stepOn}
 use Rattle.refine_calls.specs.Refinement.{coded, arrivalOf, slots, callOn}
 use Rattle.refine_calls.proofs.Slots.{slot, slots-same, slots-swap, take-out, reads, kept-all, kept-put, kept-slot, kept-run}

@@ -1,9 +1,9 @@
 -- No two answers to one kind of call have the same number: each is read back from it. Answer by answer.
 use Prim.Native.Nat.{ℕ, _+_, _-_, _/_, _%_, _≤_, _<_}
 use mathlib.Core.Bool.{true, false}
-use mathlib.Core.Path.{_≡_, refl, sym, ap, _∙_}
+use mathlib.Core.Path.{_≡_, refl, sym, ap, _∙_, subst}
 use mathlib.Core.Logic.{_≢_}
-use mathlib.Core.List.{List, [], _∷_, map, zipWith}
+use mathlib.Core.List.{List, [], _∷_}
 use native.Mathlib.Omega.{arith}
 use lib.Dec.{ltb, leb, eqb}
 use lib.ListN.{length}
@@ -13,20 +13,15 @@ use Rattle.lib_base.proofs.Tools.{by-test, all-perm}
 use Rattle.spec_language.specs.Syntax.{Program}
 use Rattle.spec_language.specs.Dependence.{size, events}
 use Rattle.spec_language.specs.Code.{code}
-use Rattle.spec_language.specs.Accepted.{Accepted}
 use Rattle.spec_language.specs.Rights.{maySend, maySee}
+use Rattle.spec_language.specs.Refusals as refusals
 use Rattle.spec_execution.specs.Execution.{Values}
-use Rattle.spec_execution.specs.CodeFacts.{CodeFacts}
-use Rattle.spec_execution.proofs.CodeRight.{code-facts}
-use Rattle.spec_model.specs.Model.{Arrival, rest, busy, Engine, engine, initial, queue, Call, arrive, step, board, Answer, refused, takenIn, shows, idle, ran, started, preempted, committed, Outcome, rank, masked, settling, choose, advance, act, answers, unmarked}
+use Rattle.spec_model.specs.Model.{Arrival, rest, busy, Engine, engine, queue, Call, arrive, step, board, Answer, refused, takenIn, shows, idle, ran, started, preempted, committed, Outcome, rank, masked, settling, choose, advance, act, unmarked}
 use Rattle.spec_model.proofs.Choice.{choose-perm}
-use Rattle.spec_model.proofs.Reached.{Fine, Reached, act-keeps, initially}
-use Rattle.format_image.specs.Image.{tableOf}
-use Rattle.run_start.specs.Start.{freshBytes}
+use Rattle.spec_model.proofs.Reached.{Fine, Reached}
 use Rattle.run_dispatch.specs.Dispatch.{said}
 use Rattle.run_advance.specs.Advance.{overMark}
-use Rattle.refine_calls.specs.Refinement.{coded, stepAnswer, decoded, toldOn, answersOn}
-use Rattle.refine_calls.proofs.Refines.{valid, refines}
+use Rattle.refine_calls.specs.Refinement.{coded, stepAnswer, decoded, toldOn}
 
 -- ---- the answers to an arrival, to a step and to a board reading, events being below 256, arrivals below 2^40 and
 -- players below 16
@@ -87,21 +82,23 @@ said-player : (k n e who : ℕ) → who < 16 → k < 16 → said k n e who / 16 
 unfolding said
 said-player k n e who g b = omega arith
 
-said-large : (k n e who : ℕ) → 2 ≤ k → (said k n e who ≢ 0) × (said k n e who ≢ 1)
+said-large : (k n e who : ℕ) → 2 ≤ k → k < 14 → (said k n e who ≢ 0) × (said k n e who ≢ 1) × (said k n e who ≢ 14)
 unfolding said
-said-large k n e who h = (omega arith, omega arith)
+said-large k n e who h b = (omega arith, omega arith, omega arith)
 
 said-below : (k n e who : ℕ) → e < 256 → who < 16 → k < 16 → n < 1099511627776 → said k n e who < overMark
 unfolding said
 said-below k n e who h g b c = omega arith
 
 -- what is said of an arrival with kind k, without a mark
-step-said : (k : ℕ) (a : Arrival) → 2 ≤ k → k < 16 → Small a
+step-said : (k : ℕ) (a : Arrival) → 2 ≤ k → k < 14 → Small a
     → stepAnswer (said k (a .number) (a .event) (a .player)) ≡ pick (eqb k 2) (started a) (pick (eqb k 3) (committed a false) (preempted a))
-step-said k a h b c =
+step-said k a h less c =
+    let b : k < 16 = omega arith in
     let v = said k (a .number) (a .event) (a .player) in
-    let z = said-large k (a .number) (a .event) (a .player) h in
+    let z = said-large k (a .number) (a .event) (a .player) h less in
     rw (
+      ne-eqb v 14 (z .2),
       ne-eqb v 0 (z .0),
       ne-eqb v 1 (z .1),
       said-kind k (a .number) (a .event) (a .player) b,
@@ -134,6 +131,7 @@ step-marked a c =
     let event : (overMark + v) / 256 % 256 ≡ a .event = past-event v ∙ e in
     let player : (overMark + v) / 16 % 16 ≡ a .player = past-player v ∙ u in
     rw (
+      ne-eqb (overMark + v) 14 (omega arith),
       ne-eqb (overMark + v) 0 (omega arith),
       ne-eqb (overMark + v) 1 (omega arith),
       kind,
@@ -185,6 +183,13 @@ decoded-coded (board i who) a h = decoded-board i who a h
 pub coded-injective : (c : Call) (a b : Answer) → To c a → To c b → coded a ≡ coded b → a ≡ b
 coded-injective c a b h k e = sym (decoded-coded c a h) ∙ ap (decoded c) e ∙ decoded-coded c b k
 
+-- a step's 14 is the refusal, and no answer of the model engine's has that number
+pub foreign-read : decoded step refusals.foreign ≡ refused refusals.foreign
+foreign-read = refl
+
+pub foreign-apart : (a : Answer) → ToStep a → coded a ≢ refusals.foreign
+foreign-apart a h e = subst ToStep (sym (decoded-step a h) ∙ ap (decoded step) e) h
+
 below : (v : ℕ) → v < overMark → v % overMark ≡ v
 below v h = omega arith
 
@@ -231,18 +236,3 @@ module _ (p : Program) (few : events p ≤ 256) where
       by-test ToBoard (leb 8 who) (λ _. omega arith)
       (λ _. by-test ToBoard (leb (size p) j) (λ _. omega arith)
       (λ _. by-test ToBoard (maySee p who j) (λ _. by-test ToBoard (settling p r) (λ _. omega arith) (λ _. tt)) (λ _. omega arith)))
-
-pub decoded-answers : (p : Program) → CodeFacts p → events p ≤ 256 → (cs : List Call) (w : Engine) → Reached p w
-    → zipWith decoded cs (map coded (answers p cs w)) ≡ answers p cs w
-unfolding zipWith answers
-decoded-answers p facts few [] w i = refl
-decoded-answers p facts few (c ∷ cs) w i = λ k.
-    decoded-coded c (act p c w .answer) (answer-to p few c w i) k ∷ decoded-answers p facts few cs (act p c w .after) (act-keeps p facts c w i) k
-
--- so the model's answers are read back from those on the bytes
-pub answers-read : (p : Program) → Accepted p → (t₀ l₀ : List ℕ) → 34816 ≤ length t₀ → 2048 ≤ length l₀ → (cs : List Call)
-    → zipWith decoded cs (answersOn (tableOf p t₀) cs (freshBytes (tableOf p t₀) l₀)) ≡ answers p cs (initial p)
-answers-read p ok t₀ l₀ g h cs =
-    let facts = code-facts p (valid p ok) in
-    let few : events p ≤ 256 = omega (arith, ok .fits .few-events) in
-    ap (zipWith decoded cs) (refines p ok t₀ l₀ g h cs .answered) ∙ decoded-answers p facts few cs (initial p) (initially p facts)

@@ -16,8 +16,8 @@ use Rattle.spec_model.specs.Model.{Arrival, rest, busy, Engine, engine}
 use Rattle.spec_model.specs.Claims.{longest, stepsOf, forecast}
 use Rattle.spec_model.proofs.Reached.{Reached}
 use Rattle.spec_model.proofs.Quiet.{steps-perm}
-use Rattle.format_image.proofs.ImageLaws.{Says}
 use Rattle.format_layout.specs.Layout.{eventAt}
+use Rattle.format_image.proofs.ImageLaws.{Says}
 use Rattle.run_forecast.specs.Forecast.{stepsIn, longestIn, bound, forecastWith, forecastIn, forecastOn}
 use Rattle.refine_calls.specs.Refinement.{slots}
 use Rattle.refine_calls.proofs.Relation.{Alike, count-is}

@@ -5,8 +5,7 @@ use mathlib.Core.Bool.{true}
 use mathlib.Core.Path.{_≡_, refl, sym, _∙_}
 use mathlib.Core.Logic.{by-cases}
 use mathlib.Core.Option.{none}
-use mathlib.Core.List.{List, []}
-use mathlib.Core.List.{List·Permᴰ·nil}
+use mathlib.Core.List.{List, [], List·Permᴰ·nil}
 use native.Mathlib.Decide.{ℕ-discrete}
 use native.Mathlib.Omega.{arith}
 use lib.ListN.{length, getD, replicate, length-set, length-replicate}

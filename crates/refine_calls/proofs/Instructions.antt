@@ -14,8 +14,8 @@ use borrow.Author.Tests.{lt-ltb, le-ltb, le-leb, ne-eqb}
 use Rattle.lib_base.proofs.Tools.{split}
 use Rattle.lib_word.specs.Word.{get, put, pile}
 use Rattle.lib_word.proofs.Laws.{long, long-put, get-other, pile-out, pile-push}
-use Rattle.lib_arith.specs.Functions as arith32
 use Rattle.lib_arith.specs.Functions.{result, over}
+use Rattle.lib_arith.specs.Functions as arith32
 use Rattle.spec_language.specs.Code.{Instr, off, on, copy, restore, load, fetch, save, defer, move, push, apply}
 use Rattle.spec_execution.specs.Execution.{Values, at, held, heldAt, top, apply1, apply2, apply3, applied, over1, over2, over3, overOn, execute}
 use Rattle.spec_execution.specs.Safe.{Filled, Ok, full, arity, Matches}

@@ -8,3 +8,10 @@ pub mod FreshRound
 pub mod Refines
 pub mod Coded
 pub mod Previews
+pub mod Stretch
+pub mod Filling
+pub mod Carrying
+pub mod Hand
+pub mod Short
+pub mod Mends
+pub mod TurnsRefine

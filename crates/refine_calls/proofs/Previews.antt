@@ -16,32 +16,31 @@ use Rattle.lib_base.proofs.Tools.{by-two}
 use Rattle.lib_word.specs.Word.{getAt, get, words, pile}
 use Rattle.lib_word.proofs.Laws.{long}
 use Rattle.spec_language.specs.Syntax.{Program}
-use Rattle.spec_language.specs.Refusals as refusals
 use Rattle.spec_language.specs.Dependence.{size, events}
-use Rattle.spec_language.specs.Accepted.{Accepted, Valid}
+use Rattle.spec_language.specs.Accepted.{Valid}
 use Rattle.spec_language.specs.Rights.{maySee}
+use Rattle.spec_language.specs.Refusals as refusals
 use Rattle.spec_execution.specs.Execution.{Values, at}
 use Rattle.spec_execution.proofs.CodeRight.{code-facts}
-use Rattle.spec_model.specs.Model.{Running, rest, busy, Engine, engine, Call, arrive, step, Answer, refused, takenIn, shows, idle, ran, started, preempted, committed, act, run}
+use Rattle.spec_model.specs.Model.{Running, rest, busy, Engine, engine, arrive, step, Answer, refused, takenIn, shows, idle, ran, started, preempted, committed, act, run}
 use Rattle.spec_model.specs.Claims.{storeOf, Idle, after, longest, countIn, shownAfter, unlessRefused, previewed}
-use Rattle.spec_model.proofs.Reached.{Reached, act-keeps, reached}
+use Rattle.spec_model.proofs.Reached.{Reached, act-keeps}
 use Rattle.spec_model.proofs.Previews.{onlySteps, idle-stays, idle-steps, idle-within}
-use Rattle.format_image.specs.Image.{tableOf}
-use Rattle.format_image.proofs.ImageLaws.{Says}
 use Rattle.format_layout.specs.Layout.{eventOf, playerOf}
-use Rattle.run_start.specs.Start.{Result, freshBytes}
+use Rattle.format_image.proofs.ImageLaws.{Says}
+use Rattle.run_start.specs.Start.{Result}
 use Rattle.run_arrive.specs.Arrivals.{arriveOn}
 use Rattle.run_dispatch.specs.Dispatch.{said}
 use Rattle.run_advance.specs.Advance.{overMark}
 use Rattle.run_step.specs.Machine.{stepOn}
 use Rattle.run_preview.specs.Preview.{last, toIdle, inHand, countOn, shown, shownIn, previewSeen, previewTaken, previewAfter, previewCopy, previewOn}
-use Rattle.refine_calls.specs.Refinement.{coded, callOn, roundAfter}
+use Rattle.refine_calls.specs.Refinement.{coded, callOn}
 use Rattle.refine_calls.proofs.Slots.{slots-same}
 use Rattle.refine_calls.proofs.Values.{Found, filled-below, Holds, value-at}
 use Rattle.refine_calls.proofs.Relation.{RunIs, Alike, Agree, count-is}
 use Rattle.refine_calls.proofs.Agrees.{call-agrees}
 use Rattle.refine_calls.proofs.Forecasts.{longest-is}
-use Rattle.refine_calls.proofs.Refines.{valid, says, runs}
+use Rattle.refine_calls.proofs.Refines.{valid}
 use Rattle.refine_calls.proofs.Coded.{ToArrive, ToStep, answer-to}
 
 -- ---- the copy has the round's words
@@ -148,8 +147,8 @@ module _ (p : Program) (valid : Valid p) (t : List ℕ) (table : Says p t) where
   -- ---- to idle
 
   -- the last step answered idle, and the round stands for the engine v
-  abbrev Settled : Result → Engine → Type 0
-  Settled x v = (x .0 ≡ 0) × Alike (size p) (x .1) v
+  abbrev IdleAs : Result → Engine → Type 0
+  IdleAs x v = (x .0 ≡ 0) × Alike (size p) (x .1) v
 
   ends : (n : ℕ) (l : List ℕ) → last (stepOn t l .0) ≡ true → toIdle t (suc n) l ≡ stepOn t l
   unfolding toIdle
@@ -159,26 +158,26 @@ module _ (p : Program) (valid : Valid p) (t : List ℕ) (table : Says p t) where
   unfolding toIdle
   goes-on n l h = rw h
 
-  settled-now : (n : ℕ) (l : List ℕ) (w : Engine) → Alike (size p) l w → Reached p w → Idle p w → Settled (toIdle t (suc n) l) w
+  idle-now : (n : ℕ) (l : List ℕ) (w : Engine) → Alike (size p) l w → Reached p w → Idle p w → IdleAs (toIdle t (suc n) l) w
   unfolding last
-  settled-now n l w R r h =
+  idle-now n l w R r h =
       let a = step-agrees l w R r in
       let z : stepOn t l .0 ≡ 0 = a .answered ∙ ap coded h in
       let q : toIdle t (suc n) l ≡ stepOn t l = ends n l (ap last z) in
-      subst (λ (x : Result). Settled x w) (sym q) (z, subst (Alike (size p) (stepOn t l .1)) (idle-stays p w h) (a .alike))
+      subst (λ (x : Result). IdleAs x w) (sym q) (z, subst (Alike (size p) (stepOn t l .1)) (idle-stays p w h) (a .alike))
 
   to-idle : (n : ℕ) (l : List ℕ) (w : Engine) → Alike (size p) l w → Reached p w → Idle p (run p (onlySteps n) w)
-      → Settled (toIdle t (suc n) l) (run p (onlySteps n) w)
+      → IdleAs (toIdle t (suc n) l) (run p (onlySteps n) w)
   unfolding run
-  to-idle zero l w R r h = settled-now 0 l w R r h
+  to-idle zero l w R r h = idle-now 0 l w R r h
   to-idle (suc n) l w R r h =
       let a = step-agrees l w R r in
       ⊎-elim
-      (λ i. subst (Settled (toIdle t (suc (suc n)) l)) (sym (idle-steps p (suc n) w i)) (settled-now (suc n) l w R r i))
+      (λ i. subst (IdleAs (toIdle t (suc (suc n)) l)) (sym (idle-steps p (suc n) w i)) (idle-now (suc n) l w R r i))
       (λ g.
       let q : toIdle t (suc (suc n)) l ≡ toIdle t (suc n) (stepOn t l .1) = goes-on (suc n) l (ap last (a .answered) ∙ g) in
       let k = to-idle n (stepOn t l .1) (act p step w .after) (a .alike) (act-keeps p (code-facts p valid) step w r) h in
-      subst (λ (x : Result). Settled x (run p (onlySteps n) (act p step w .after))) (sym q) k)
+      subst (λ (x : Result). IdleAs x (run p (onlySteps n) (act p step w .after))) (sym q) k)
       (idle-or-goes (act p step w .answer) (answer-to p few step w r))
 
   count-agrees : (l : List ℕ) (w : Engine) → Alike (size p) l w → countOn t l ≡ countIn p w
@@ -200,7 +199,7 @@ module _ (p : Program) (valid : Valid p) (t : List ℕ) (table : Says p t) where
   value-in : (l : List ℕ) (w : Engine) (i : ℕ) → i < size p → Alike (size p) l w → get l (136 + i) ≡ at (storeOf w) i
   value-in l (engine k q r d) i b R = value-at (size p) (table .few-behaviours) l d i b (R .values)
 
-  shown-agrees : (x : Result) (v : Engine) (i : ℕ) → i < size p → Settled x v → shownIn x i ≡ 4294967296 + at (storeOf v) i
+  shown-agrees : (x : Result) (v : Engine) (i : ℕ) → i < size p → IdleAs x v → shownIn x i ≡ 4294967296 + at (storeOf v) i
   unfolding shownIn shown
   shown-agrees x v i b h = rw (h .0, value-in (x .1) v i b (h .1))
 
@@ -243,11 +242,3 @@ module _ (p : Program) (valid : Valid p) (t : List ℕ) (table : Says p t) where
       rw (le-ltb (length l) 2048 (whole-of (size p) l w R))
       (after-agrees (arriveOn t m e who) (act p (arrive e who) w .answer) _ i who (answer-to p few (arrive e who) w r) (a .answered)
       (taken-agrees (arriveOn t m e who .1) v i who (a .alike) (act-keeps p (code-facts p valid) (arrive e who) w r)))
-
--- p is accepted; t₀ are the bytes lent for the table, l₀ those lent for the round
-module _ (p : Program) (ok : Accepted p) (t₀ l₀ : List ℕ) (table-room : 34816 ≤ length t₀) (round-room : 2048 ≤ length l₀) where
-  pub previews : (cs : List Call) (e i who : ℕ)
-      → previewOn (tableOf p t₀) (roundAfter (tableOf p t₀) cs (freshBytes (tableOf p t₀) l₀)) e i who ≡ coded (previewed p (after p cs) e i who)
-  previews cs e i who =
-      preview-agrees p (valid p ok) (tableOf p t₀) (says p ok t₀ l₀ table-room round-room) (roundAfter (tableOf p t₀) cs (freshBytes (tableOf p t₀) l₀)) (after p cs) e i who
-      (runs p ok t₀ l₀ table-room round-room cs .alike) (reached p (code-facts p (valid p ok)) cs)

@@ -4,9 +4,8 @@ use Prim.Native.Nat.{ℕ, zero, suc, _+_, _*_, _≤_, _<_}
 use mathlib.Core.Bool.{true}
 use mathlib.Core.Path.{_≡_, refl, sym, ap, _∙_}
 use mathlib.Core.Logic.{by-cases}
+use mathlib.Core.List.{List, _∷_, List·Permᴰ, List·Permᴰ·cons}
 use native.Mathlib.Decide.{ℕ-discrete}
-use mathlib.Core.List.{List, _∷_}
-use mathlib.Core.List.{List·Permᴰ, List·Permᴰ·cons}
 use native.Mathlib.Omega.{arith}
 use lib.ListN.{length}
 use Rattle.lib_base.specs.Basics.{All}

@@ -4,8 +4,7 @@ use Prim.Native.Nat.{ℕ, zero, suc, _+_, _*_, _≤_, _<_}
 use mathlib.Core.Bool.{true}
 use mathlib.Core.Path.{_≡_, refl, sym, ap, _∙_}
 use mathlib.Core.Logic.{_≢_}
-use mathlib.Core.List.{List, _∷_}
-use mathlib.Core.List.{List·Permᴰ, List·Permᴰ·cons, List·Permᴰ·swap, List·Permᴰ·trans, Permᴰ·refl}
+use mathlib.Core.List.{List, _∷_, List·Permᴰ, List·Permᴰ·cons, List·Permᴰ·swap, List·Permᴰ·trans, Permᴰ·refl}
 use native.Mathlib.Omega.{arith}
 use native.Mathlib.Numerals.{add-one}
 use lib.Dec.{ltb, eqb}
@@ -16,10 +15,10 @@ use Rattle.lib_base.specs.Basics.{pick}
 use Rattle.lib_base.proofs.Tools.{split}
 use Rattle.lib_word.specs.Word.{get, put}
 use Rattle.lib_word.proofs.Laws.{long, length-put, long-put, get-put, get-other, get-same}
+use Rattle.spec_model.specs.Model.{Arrival}
 use Rattle.format_layout.specs.Layout.{numberAt, wordAt}
 use Rattle.run_queue.specs.Queue.{putSlot}
 use Rattle.run_dispatch.specs.Dispatch.{run}
-use Rattle.spec_model.specs.Model.{Arrival}
 use Rattle.refine_calls.specs.Refinement.{arrivalOf, slots, Kept}
 
 abbrev pub slot : List ℕ → ℕ → Arrival

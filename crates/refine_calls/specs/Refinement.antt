@@ -1,4 +1,5 @@
--- Calls on the bytes, and when their answers and the round agree with the model engine. 01 "Whole runs".
+-- Calls and changes of sheets on the bytes, and when their answers and the round agree with the model engine's. 01
+-- "Whole runs"; 02, M-112: "Demand 3's lists may hold such changes, the model engine making them too".
 use Prim.Native.Nat.{ℕ, zero, suc, _+_, _-_, _/_, _%_, _≤_}
 use mathlib.Core.Bool.{Bool, not}
 use mathlib.Core.Path.{_≡_}
@@ -9,14 +10,18 @@ use lib.Dec.{ltb, leb, eqb}
 use Rattle.lib_base.specs.Basics.{pick}
 use Rattle.lib_word.specs.Word.{get, words, pile}
 use Rattle.spec_language.specs.Syntax.{Program}
+use Rattle.spec_language.specs.Accepted.{Accepted}
 use Rattle.spec_language.specs.Dependence.{size}
+use Rattle.spec_language.specs.Refusals as refusals
 use Rattle.spec_language.specs.Answers as kinds
 use Rattle.spec_execution.specs.Execution.{Values}
-use Rattle.spec_model.specs.Model.{Arrival, arrival, Running, rest, busy, Engine, engine, Call, arrive, step, board, Answer, refused, takenIn, shows, idle, ran, started, preempted, committed, run, answers}
+use Rattle.spec_model.specs.Model.{Arrival, arrival, Running, rest, busy, Engine, engine, Call, arrive, step, board, Answer, refused, takenIn, shows, idle, ran, started, preempted, committed, Turn, call, change, State, state, Reply, says, carriedOver, runTurns, replies}
 use Rattle.format_layout.specs.Layout.{eventOf, playerOf, taken, waitingCount, runningFlag, runningWord, runningNumber, position, depth, markWord, numberAt, wordAt}
+use Rattle.format_image.specs.Image.{passivesCode, tableOf}
 use Rattle.run_start.specs.Start.{Result}
 use Rattle.run_arrive.specs.Arrivals.{arriveOn}
 use Rattle.run_board.specs.Board.{boardOn}
+use Rattle.run_mend.specs.Mending.{mendOn}
 use Rattle.run_dispatch.specs.Dispatch.{said}
 use Rattle.run_advance.specs.Advance.{overMark}
 use Rattle.run_step.specs.Machine.{stepOn}
@@ -33,6 +38,11 @@ coded (committed a m) =
     pick m (overMark + said kinds.committed (a .number) (a .event) (a .player)) (said kinds.committed (a .number) (a .event) (a .player))
 coded (preempted a) = said kinds.preempted (a .number) (a .event) (a .player)
 
+-- a reply as the number that the call gives
+abbrev pub codedReply : Reply → ℕ
+codedReply (says a) = coded a
+codedReply carriedOver = 0
+
 -- ---- and back: the answer that a number names, by the kind of call
 
 -- the mark at 2^56 is no part of the arrival's number
@@ -44,10 +54,11 @@ markIn v = leb overMark v
 
 abbrev pub stepAnswer : ℕ → Answer
 stepAnswer v =
-    pick (eqb v kinds.idle) idle
+    pick (eqb v refusals.foreign) (refused refusals.foreign)
+    (pick (eqb v kinds.idle) idle
     (pick (eqb v kinds.ran) ran
     (pick (eqb (v % 16) kinds.started) (started (arrivalIn v))
-    (pick (eqb (v % 16) kinds.committed) (committed (arrivalIn v) (markIn v)) (preempted (arrivalIn v)))))
+    (pick (eqb (v % 16) kinds.committed) (committed (arrivalIn v) (markIn v)) (preempted (arrivalIn v))))))
 
 abbrev pub decoded : Call → ℕ → Answer
 decoded (arrive e who) v = pick (eqb v 0) takenIn (refused v)
@@ -65,14 +76,52 @@ callOn t (arrive e who) l = arriveOn t l e who
 callOn t step l = stepOn t l
 callOn t (board i who) l = (boardOn t l i who, l)
 
--- the answers of a list of calls, and the round's bytes after it
+-- ---- turns on the table in force and the round, and lists of them
+
+-- a call on the table in force, or a change to the table whose bytes are these
+pub data ByteTurn : Type 0 where
+  calls : Call → ByteTurn
+  mends : List ℕ → ByteTurn
+
+-- the table in force, and the round
+pub record Bytes : Type 0 where
+  pub table : List ℕ
+  pub round : List ℕ
+
+abbrev pub bytes : List ℕ → List ℕ → Bytes
+bytes t l = record { table = t; round = l }
+
+-- the number answered, and the bytes after it: a change that answers 0 puts its table in force
+pub record ByteOutcome : Type 0 where
+  pub number : ℕ
+  pub after : Bytes
+
+abbrev pub byteOutcome : ℕ → Bytes → ByteOutcome
+byteOutcome n b = record { number = n; after = b }
+
+abbrev pub inForceAfter : ℕ → List ℕ → List ℕ → List ℕ
+inForceAfter n u t = pick (eqb n 0) u t
+
+unfoldable pub turnOnBytes : ByteTurn → Bytes → ByteOutcome
+turnOnBytes (calls c) b = byteOutcome (callOn (b .table) c (b .round) .0) (bytes (b .table) (callOn (b .table) c (b .round) .1))
+turnOnBytes (mends u) b =
+    byteOutcome (mendOn (b .table) u (b .round) .0) (bytes (inForceAfter (mendOn (b .table) u (b .round) .0) u (b .table)) (mendOn (b .table) u (b .round) .1))
+
+-- the numbers of a list of turns, and the bytes after it
+unfoldable pub numbersOn : List ByteTurn → Bytes → List ℕ
+numbersOn [] b = []
+numbersOn (x ∷ xs) b = turnOnBytes x b .number ∷ numbersOn xs (turnOnBytes x b .after)
+
+unfoldable pub bytesAfter : List ByteTurn → Bytes → Bytes
+bytesAfter [] b = b
+bytesAfter (x ∷ xs) b = bytesAfter xs (turnOnBytes x b .after)
+
+-- calls alone, on one table: what a replay makes
 unfoldable pub answersOn : List ℕ → List Call → List ℕ → List ℕ
-answersOn t [] l = []
-answersOn t (c ∷ cs) l = callOn t c l .0 ∷ answersOn t cs (callOn t c l .1)
+answersOn t cs l = numbersOn (map calls cs) (bytes t l)
 
 unfoldable pub roundAfter : List ℕ → List Call → List ℕ → List ℕ
-roundAfter t [] l = l
-roundAfter t (c ∷ cs) l = roundAfter t cs (callOn t c l .1)
+roundAfter t cs l = bytesAfter (map calls cs) (bytes t l) .round
 
 -- ---- what the round's bytes say
 
@@ -110,9 +159,35 @@ pub record Kept (l m : List ℕ) : Type 0 where
   pub as-long : length m ≡ length l
   pub beyond : (j : ℕ) → 2048 ≤ j → getD m j 0 ≡ getD l j 0
 
--- calls on the table t, from a round's bytes l and an engine w: the answers equal the engine's, the round then agrees
--- with it, and of the bytes lent, l₀, only the round's have changed
-pub record Agreement (p : Program) (t l₀ l : List ℕ) (cs : List Call) (w : Engine) : Type 0 where
-  pub answered : answersOn t cs l ≡ map coded (answers p cs w)
-  pub viewed : View p (roundAfter t cs l) (run p cs w)
-  pub kept : Kept l₀ (roundAfter t cs l)
+-- ---- the turns of the model engine that they are: a change is to the table that compile leaves for an accepted
+-- program, whose passives' code fits into 4,096 instructions
+
+pub record TableFor (q : Program) (u : List ℕ) : Type 0 where
+  pub accepted : Accepted q
+  pub short : length (passivesCode q) ≤ 4096
+  pub lent : List ℕ
+  pub room : 34816 ≤ length lent
+  pub left : u ≡ tableOf q lent
+
+abbrev pub IsTurn : ByteTurn → Turn → Type 0
+IsTurn (calls c) (call d) = c ≡ d
+IsTurn (calls c) (change q) = ⊥
+IsTurn (mends u) (call d) = ⊥
+IsTurn (mends u) (change q) = TableFor q u
+
+abbrev pub AreTurns : List ByteTurn → List Turn → Type 0
+AreTurns [] [] = Unit {0}
+AreTurns [] (t ∷ ts) = ⊥
+AreTurns (x ∷ xs) [] = ⊥
+AreTurns (x ∷ xs) (t ∷ ts) = IsTurn x t × AreTurns xs ts
+
+-- the round agrees with the engine, under the program in force
+abbrev pub ViewIn : List ℕ → State → Type 0
+ViewIn l (state p w) = View p l w
+
+-- turns from the bytes b and a state s: the numbers are the model engine's replies, the round then agrees with it, and
+-- of the round's bytes lent, l₀, only the round's have changed
+pub record Agreement (l₀ : List ℕ) (b : Bytes) (xs : List ByteTurn) (s : State) (ts : List Turn) : Type 0 where
+  pub answered : numbersOn xs b ≡ map codedReply (replies ts s)
+  pub viewed : ViewIn (bytesAfter xs b .round) (runTurns ts s)
+  pub kept : Kept l₀ (bytesAfter xs b .round)

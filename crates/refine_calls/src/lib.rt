@@ -1,2 +1,2 @@
-// Definitions and theorems only: every list of calls on the bytes answers as the model engine does. They stand in
-// specs/.
+// Definitions and theorems only: calls and changes of sheets on the bytes against the model engine. They stand in
+// specs/ and proofs/.

@@ -2,4 +2,5 @@ pub mod Standing
 pub mod Tables
 pub mod ListsHold
 pub mod Sheets
-pub mod RoundsHold
+pub mod OnlyCallsHold
+pub mod FromSheets

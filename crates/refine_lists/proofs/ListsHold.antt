@@ -1,4 +1,4 @@
--- Demand 3 with changes of sheets holds of the bytes: they refine the model engine turn by turn, and the model engine's
+-- Demand 3 holds of the bytes: they refine the model engine turn by turn, and the model engine's
 -- sentences carry over, for an accepted program's table and a fresh round.
 use Prim.Native.Nat.{ℕ, _+_, _≤_, _<_}
 use mathlib.Core.Bool.{Bool, true, false}
@@ -14,39 +14,36 @@ use Rattle.spec_language.specs.Rights.{maySend}
 use Rattle.spec_semantics.specs.Meaning.{fresh, event, play, withStore}
 use Rattle.spec_semantics.specs.Over.{EventOver}
 use Rattle.spec_semantics.specs.Plays.{Plays}
+use Rattle.spec_semantics.specs.OverMeaning.{eventOver}
 use Rattle.spec_semantics.proofs.PlaysLaws.{plays}
 use Rattle.spec_semantics.proofs.Lengths.{length-fresh}
-use Rattle.spec_semantics.specs.OverMeaning.{eventOver}
 use Rattle.spec_semantics.proofs.OverAgrees.{rules-find, rules-find-only}
-use Rattle.spec_model.specs.Model.{Arrival, arrival, Call, step, Answer, committed, act}
-use Rattle.spec_model.specs.Claims.{settlingIn, aloneCalls}
-use Rattle.spec_changes.specs.Turns.{Turn, call, State, state, says, turn, runTurns, begun}
-use Rattle.spec_changes.specs.Claims.{commits, inForce, engineIn, numberIn, storeIn, IdleIn, after, historyOf, Sound, Replays, Holds}
-use Rattle.spec_changes.proofs.History.{runs-append, Fit}
-use Rattle.spec_changes.proofs.Boards.{storeAfter, stored}
-use Rattle.spec_changes.proofs.Replaying.{proper, replays, replays-alone}
-use Rattle.spec_changes.proofs.Alone.{calls-run}
-use Rattle.spec_changes.proofs.ChangesHold.{holds, same-board}
+use Rattle.spec_model.specs.Model.{Arrival, arrival, Call, step, Answer, committed, act, Turn, call, State, state, says, turn, runTurns, begun}
+use Rattle.spec_model.specs.Claims.{settlingIn, aloneCalls, eventsOf, takenInBy, courseOf, SameChanges, ApartEach, commits, inForce, engineIn, numberIn, storeIn, IdleIn, after, historyOf, Sound, Replays, Sentences}
+use Rattle.spec_model.proofs.History.{runs-append, Fit}
+use Rattle.spec_model.proofs.Boards.{storeAfter, stored}
+use Rattle.spec_model.proofs.Replaying.{proper, replays, replays-alone}
+use Rattle.spec_model.proofs.Alone.{calls-run}
+use Rattle.spec_model.proofs.ModelHolds.{holds, same-board}
 use Rattle.run_step.specs.Machine.{stepOn}
-use Rattle.refine_calls.specs.Refinement.{decoded}
+use Rattle.refine_calls.specs.Refinement.{decoded, ByteTurn, calls, Bytes, bytesAfter, AreTurns}
 use Rattle.refine_calls.proofs.Relation.{words-length}
 use Rattle.refine_calls.proofs.Refines.{valid}
-use Rattle.refine_changes.specs.Reconcile.{ByteTurn, calls, Bytes, bytesAfter, AllMean}
-use Rattle.refine_changes.proofs.TurnsRefine.{Stand, runs, turns-refine, mean-sound, fresh-stand}
-use Rattle.refine_changes.proofs.TurnsRefine as refine
-use Rattle.refine_lists.specs.Lists.{boardOf, IdleNow, CommitMark, OneList, TwoLists, decodedReply}
+use Rattle.refine_calls.proofs.TurnsRefine.{Stand, runs, turns-refine, turns-sound, fresh-stand}
+use Rattle.refine_calls.proofs.TurnsRefine as refine
+use Rattle.refine_lists.specs.Lists.{boardOf, IdleNow, CommitMark, OneList, decodedReply}
 use Rattle.refine_lists.proofs.Tables.{turns-left}
 use Rattle.refine_lists.proofs.Standing.{board-of, idle-both, next-read, told-next, forecast-of, preview-of, all-read}
 
 -- calls alone mean themselves
-mean-calls : (xs : List ByteTurn) (ts : List Turn) (cs : List Call) → AllMean xs ts → AllMean (xs ++ map calls cs) (ts ++ map call cs)
-mean-calls [] [] [] m = tt
-mean-calls [] [] (c ∷ cs) m = (refl, mean-calls [] [] cs tt)
-mean-calls [] (t ∷ ts) cs m = absurd m
-mean-calls (x ∷ xs) [] cs m = absurd m
-mean-calls (x ∷ xs) (t ∷ ts) cs m = (m .0, mean-calls xs ts cs (m .1))
+pub turns-calls : (xs : List ByteTurn) (ts : List Turn) (cs : List Call) → AreTurns xs ts → AreTurns (xs ++ map calls cs) (ts ++ map call cs)
+turns-calls [] [] [] m = tt
+turns-calls [] [] (c ∷ cs) m = (refl, turns-calls [] [] cs tt)
+turns-calls [] (t ∷ ts) cs m = absurd m
+turns-calls (x ∷ xs) [] cs m = absurd m
+turns-calls (x ∷ xs) (t ∷ ts) cs m = (m .0, turns-calls xs ts cs (m .1))
 
-in-force-calls : (cs : List Call) (s : State) → inForce (runTurns (map call cs) s) ≡ inForce s
+pub in-force-calls : (cs : List Call) (s : State) → inForce (runTurns (map call cs) s) ≡ inForce s
 in-force-calls cs (state p w) = ap inForce (calls-run cs p w)
 
 valid-in : (s : State) → Fit s → Valid (inForce s)
@@ -58,14 +55,14 @@ one-played p v e s b n = plays p v (e ∷ []) (b, tt) s n
 
 module _ (p : Program) (ok : Accepted p) (t₀ l₀ : List ℕ) (table-room : 34816 ≤ length t₀) (round-room : 2048 ≤ length l₀) where
   abbrev bytes : Bytes
-  bytes = refine.fresh p ok t₀ l₀ table-room round-room
+  bytes = refine.freshFrom p ok t₀ l₀ table-room round-room
 
   v : Valid p
   v = valid p ok
 
-  module _ (xs : List ByteTurn) (ts : List Turn) (mean : AllMean xs ts) where
+  module _ (xs : List ByteTurn) (ts : List Turn) (mean : AreTurns xs ts) where
     sound : All Sound ts
-    sound = mean-sound xs ts mean
+    sound = turns-sound xs ts mean
 
     stand : Stand l₀ (bytesAfter xs bytes) (after p ts)
     stand = runs p ok t₀ l₀ table-room round-room xs ts mean .stand
@@ -76,7 +73,7 @@ module _ (p : Program) (ok : Accepted p) (t₀ l₀ : List ℕ) (table-room : 34
     pub idle-is : (IdleNow (bytesAfter xs bytes) → IdleIn (after p ts)) × (IdleIn (after p ts) → IdleNow (bytesAfter xs bytes))
     idle-is = idle-both l₀ (bytesAfter xs bytes) (after p ts) stand
 
-    all : Holds p ts
+    all : Sentences p ts
     all = holds p v ts sound
 
     -- ---- the board
@@ -123,7 +120,7 @@ module _ (p : Program) (ok : Accepted p) (t₀ l₀ : List ℕ) (table-room : 34
   sized-in : (l : List ℕ) (b : Bytes) (s : State) → Stand l b s → length (boardOf (inForce s) (b .round)) ≡ size (inForce s)
   sized-in l b s h = words-length (b .round) 136 (size (inForce s))
 
-  module _ (xs : List ByteTurn) (ts : List Turn) (mean : AllMean xs ts) (e who : ℕ) where
+  module _ (xs : List ByteTurn) (ts : List Turn) (mean : AreTurns xs ts) (e who : ℕ) where
     abbrev more : List Call
     more = aloneCalls (inForce (after p ts)) e who
 
@@ -133,7 +130,7 @@ module _ (p : Program) (ok : Accepted p) (t₀ l₀ : List ℕ) (table-room : 34
     board-then : boardOf (inForce (after p ts)) (bytesAfter (xs ++ map calls more) bytes .round) ≡ storeIn (after p (ts ++ map call more))
     board-then =
         ap (λ (q : Program). boardOf q (bytesAfter (xs ++ map calls more) bytes .round)) (sym in-force-same)
-        ∙ board-is (xs ++ map calls more) (ts ++ map call more) (mean-calls xs ts more mean)
+        ∙ board-is (xs ++ map calls more) (ts ++ map call more) (turns-calls xs ts more mean)
 
     one-event : IdleNow (bytesAfter xs bytes) → e < events (inForce (after p ts)) → who < 8 → maySend (inForce (after p ts)) who e ≡ true
         → numberIn (after p ts) < 1000000
@@ -150,7 +147,7 @@ module _ (p : Program) (ok : Accepted p) (t₀ l₀ : List ℕ) (table-room : 34
               (one-played (inForce (after p ts)) (valid-in (after p ts) (stand xs ts mean .fit)) e s b (sized-in l₀ (bytesAfter xs bytes) (after p ts) (stand xs ts mean))),
         )
 
-  pub one-list : (xs : List ByteTurn) (ts : List Turn) → AllMean xs ts → OneList p l₀ bytes xs ts
+  pub one-list : (xs : List ByteTurn) (ts : List Turn) → AreTurns xs ts → OneList p l₀ bytes xs ts
   one-list xs ts mean =
       let agrees = turns-refine p ok t₀ l₀ table-room round-room xs ts mean in
       let st = stand xs ts mean in
@@ -175,8 +172,12 @@ module _ (p : Program) (ok : Accepted p) (t₀ l₀ : List ℕ) (table-room : 34
 -- ---- two lists
 
 module _ (p : Program) (ok : Accepted p) (t₀ l₀ t₁ l₁ : List ℕ) (a : 34816 ≤ length t₀) (b : 2048 ≤ length l₀) (c : 34816 ≤ length t₁) (d : 2048 ≤ length l₁) where
-  pub two-lists : TwoLists p (refine.fresh p ok t₀ l₀ a b) (refine.fresh p ok t₁ l₁ c d)
+  pub two-lists : (xs ys : List ByteTurn) (ts us : List Turn) → AreTurns xs ts → AreTurns ys us → eventsOf (takenInBy p ts) ≡ eventsOf (takenInBy p us)
+      → SameChanges (courseOf (historyOf p ts)) (courseOf (historyOf p us)) → ApartEach p (courseOf (historyOf p ts))
+      → IdleNow (bytesAfter xs (refine.freshFrom p ok t₀ l₀ a b)) → IdleNow (bytesAfter ys (refine.freshFrom p ok t₁ l₁ c d))
+      → boardOf (inForce (after p ts)) (bytesAfter xs (refine.freshFrom p ok t₀ l₀ a b) .round)
+      ≡ boardOf (inForce (after p us)) (bytesAfter ys (refine.freshFrom p ok t₁ l₁ c d) .round)
   two-lists xs ys ts us mt mu same kept apart it iu =
       board-is p ok t₀ l₀ a b xs ts mt
-      ∙ same-board p (valid p ok) ts us (mean-sound xs ts mt) (mean-sound ys us mu) same kept apart (idle-is p ok t₀ l₀ a b xs ts mt .0 it) (idle-is p ok t₁ l₁ c d ys us mu .0 iu)
+      ∙ same-board p (valid p ok) ts us (turns-sound xs ts mt) (turns-sound ys us mu) same kept apart (idle-is p ok t₀ l₀ a b xs ts mt .0 it) (idle-is p ok t₁ l₁ c d ys us mu .0 iu)
       ∙ sym (board-is p ok t₁ l₁ c d ys us mu)

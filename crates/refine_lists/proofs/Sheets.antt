@@ -11,14 +11,14 @@ use Rattle.lib_base.specs.Basics.{All}
 use Rattle.lib_word.specs.Word.{get}
 use Rattle.spec_language.specs.Syntax.{Program}
 use Rattle.spec_language.specs.Sheet.{Sheet}
-use Rattle.spec_language.proofs.SheetLaws.{filling-accepted}
 use Rattle.spec_language.specs.Accepted.{Accepted, SheetAccepted}
+use Rattle.spec_language.proofs.SheetLaws.{filling-accepted}
 use Rattle.format_image.specs.Image.{tableOf}
-use Rattle.run_start.specs.Start.{startOn, freshBytes}
-use Rattle.refine_calls.proofs.Refines.{starts}
 use Rattle.front_params.proofs.Fills.{get-small}
 use Rattle.back_compile.specs.Verdict.{Compiled, programOf, compileOn}
 use Rattle.back_compile.proofs.JudgeLaws.{compile-short}
+use Rattle.run_start.specs.Start.{startOn, freshBytes}
+use Rattle.refine_calls.proofs.Refines.{starts}
 
 -- compile accepts with a whole table only
 pub table-room : (s ps t : List ℕ) → compileOn s ps t .0 ≡ 0 → 34816 ≤ length t

@@ -7,20 +7,17 @@ use native.Mathlib.Omega.{arith}
 use Rattle.lib_base.proofs.Tools.{by-test}
 use Rattle.spec_language.specs.Syntax.{Program}
 use Rattle.spec_language.specs.Dependence.{events}
-use Rattle.spec_model.specs.Model.{engine, queue, Call, step, idle, unmarked, settling, act}
-use Rattle.spec_model.specs.Claims.{forecast, previewed}
-use Rattle.spec_changes.specs.Turns.{Turn, call, change, State, state, says, Result, declaredIn, turn, replies}
-use Rattle.spec_changes.specs.Claims.{inForce, engineIn, storeIn, IdleIn}
+use Rattle.spec_model.specs.Model.{engine, queue, Call, step, idle, unmarked, settling, act, Turn, call, change, State, state, says, TurnOutcome, declaredIn, turn, replies}
+use Rattle.spec_model.specs.Claims.{forecast, previewed, inForce, engineIn, storeIn, IdleIn}
 use Rattle.run_step.specs.Machine.{stepOn}
 use Rattle.run_forecast.specs.Forecast.{forecastOn}
 use Rattle.run_preview.specs.Preview.{previewOn}
-use Rattle.refine_calls.specs.Refinement.{coded, decoded, toldOn, callOn}
+use Rattle.refine_calls.specs.Refinement.{coded, decoded, toldOn, callOn, codedReply, ByteTurn, calls, mends, Bytes, turnOnBytes, IsTurn, AreTurns}
 use Rattle.refine_calls.proofs.Coded.{answer-to, decoded-coded, coded-injective, told-coded}
 use Rattle.refine_calls.proofs.Agrees.{call-agrees}
 use Rattle.refine_calls.proofs.Forecasts.{forecast-agrees}
 use Rattle.refine_calls.proofs.Previews.{preview-agrees}
-use Rattle.refine_changes.specs.Reconcile.{codedReply, ByteTurn, calls, mends, Bytes, turnOn, Means, AllMean}
-use Rattle.refine_changes.proofs.TurnsRefine.{Stand, turned}
+use Rattle.refine_calls.proofs.TurnsRefine.{Stand, turned}
 use Rattle.refine_lists.specs.Lists.{boardOf, IdleNow, decodedReply}
 
 few-of : (l₀ : List ℕ) (b : Bytes) (s : State) → Stand l₀ b s → events (inForce s) ≤ 256
@@ -65,10 +62,10 @@ preview-of l₀ b (state p w) h e i who = preview-agrees p (h .fit .0) (b .table
 change-read : (u : List ℕ) (q : Program) (s : State) → decodedReply (mends u) (codedReply (turn (change q) s .reply)) ≡ turn (change q) s .reply
 unfolding turn
 change-read u q (state p (engine k waiting r d)) =
-    let P : Result → Type 0 = λ o. decodedReply (mends u) (codedReply (o .reply)) ≡ o .reply in
+    let P : TurnOutcome → Type 0 = λ o. decodedReply (mends u) (codedReply (o .reply)) ≡ o .reply in
     by-test P (settling p r) (λ _. refl) (λ _. by-test P (declaredIn q (queue waiting r)) (λ _. refl) (λ _. refl))
 
-one-read : (l₀ : List ℕ) (b : Bytes) (x : ByteTurn) (t : Turn) (s : State) → Means x t → Stand l₀ b s → decodedReply x (codedReply (turn t s .reply)) ≡ turn t s .reply
+one-read : (l₀ : List ℕ) (b : Bytes) (x : ByteTurn) (t : Turn) (s : State) → IsTurn x t → Stand l₀ b s → decodedReply x (codedReply (turn t s .reply)) ≡ turn t s .reply
 unfolding turn
 one-read l₀ b (calls c) (call e) (state p w) m h =
     let few = few-of l₀ b (state p w) h in
@@ -77,12 +74,12 @@ one-read l₀ b (calls c) (change q) s m h = absurd m
 one-read l₀ b (mends u) (call e) s m h = absurd m
 one-read l₀ b (mends u) (change q) s m h = change-read u q s
 
-pub all-read : (l₀ : List ℕ) (b : Bytes) (xs : List ByteTurn) (ts : List Turn) (s : State) → AllMean xs ts → Stand l₀ b s
+pub all-read : (l₀ : List ℕ) (b : Bytes) (xs : List ByteTurn) (ts : List Turn) (s : State) → AreTurns xs ts → Stand l₀ b s
     → zipWith decodedReply xs (map codedReply (replies ts s)) ≡ replies ts s
 unfolding zipWith replies
 all-read l₀ b [] [] s m h = refl
 all-read l₀ b [] (t ∷ ts) s m h = absurd m
 all-read l₀ b (x ∷ xs) [] s m h = absurd m
 all-read l₀ b (x ∷ xs) (t ∷ ts) s m h =
-    let k = all-read l₀ (turnOn x b .after) xs ts (turn t s .after) (m .1) (turned l₀ b x s t (m .0) h .stand) in
+    let k = all-read l₀ (turnOnBytes x b .after) xs ts (turn t s .after) (m .1) (turned l₀ b x s t (m .0) h .stand) in
     λ z. one-read l₀ b x t s (m .0) h z ∷ k z

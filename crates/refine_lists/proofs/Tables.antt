@@ -5,33 +5,32 @@ use mathlib.Core.Path.{_≡_}
 use mathlib.Core.List.{List, [], _∷_}
 use Rattle.lib_base.proofs.Tools.{by-test}
 use Rattle.spec_language.specs.Syntax.{Program}
-use Rattle.spec_model.specs.Model.{engine, queue, settling}
-use Rattle.spec_changes.specs.Turns.{Turn, call, change, State, state, Result, declaredIn, turn, runTurns}
-use Rattle.spec_changes.specs.Claims.{inForce}
-use Rattle.refine_changes.specs.Reconcile.{codedReply, ByteTurn, calls, mends, Bytes, inForceAfter, turnOn, bytesAfter, Means, AllMean}
-use Rattle.refine_changes.proofs.TurnsRefine.{Stand, turned}
+use Rattle.spec_model.specs.Model.{engine, queue, settling, Turn, call, change, State, state, TurnOutcome, declaredIn, turn, runTurns}
+use Rattle.spec_model.specs.Claims.{inForce}
+use Rattle.refine_calls.specs.Refinement.{codedReply, ByteTurn, calls, mends, Bytes, inForceAfter, turnOnBytes, bytesAfter, IsTurn, AreTurns}
+use Rattle.refine_calls.proofs.TurnsRefine.{Stand, turned}
 use Rattle.refine_lists.specs.Lists.{Left}
 
 change-left : (u t : List ℕ) (q : Program) (n : ℕ) (s : State) → Left (inForce s) t → Left q u → n ≡ codedReply (turn (change q) s .reply)
     → Left (inForce (turn (change q) s .after)) (inForceAfter n u t)
 unfolding turn
 change-left u t q n (state p (engine k waiting r d)) old new =
-    let P : Result → Type 0 = λ o. n ≡ codedReply (o .reply) → Left (inForce (o .after)) (inForceAfter n u t) in
+    let P : TurnOutcome → Type 0 = λ o. n ≡ codedReply (o .reply) → Left (inForce (o .after)) (inForceAfter n u t) in
     by-test P (settling p r) (λ _ e. rw e old) (λ _. by-test P (declaredIn q (queue waiting r)) (λ _ e. rw e new) (λ _ e. rw e old))
 
-turn-left : (l₀ : List ℕ) (b : Bytes) (x : ByteTurn) (t : Turn) (s : State) → Means x t → Stand l₀ b s → Left (inForce s) (b .table)
-    → Left (inForce (turn t s .after)) (turnOn x b .after .table)
-unfolding turn turnOn
+turn-left : (l₀ : List ℕ) (b : Bytes) (x : ByteTurn) (t : Turn) (s : State) → IsTurn x t → Stand l₀ b s → Left (inForce s) (b .table)
+    → Left (inForce (turn t s .after)) (turnOnBytes x b .after .table)
+unfolding turn turnOnBytes
 turn-left l₀ b (calls c) (call e) (state p w) m h k = k
 turn-left l₀ b (calls c) (change q) s m h k = absurd m
 turn-left l₀ b (mends u) (call e) s m h k = absurd m
 turn-left l₀ b (mends u) (change q) s m h k = change-left u (b .table) q _ s k (m .lent, m .room, m .left) (turned l₀ b (mends u) s (change q) m h .answered)
 
-pub turns-left : (l₀ : List ℕ) (b : Bytes) (xs : List ByteTurn) (ts : List Turn) (s : State) → AllMean xs ts → Stand l₀ b s → Left (inForce s) (b .table)
+pub turns-left : (l₀ : List ℕ) (b : Bytes) (xs : List ByteTurn) (ts : List Turn) (s : State) → AreTurns xs ts → Stand l₀ b s → Left (inForce s) (b .table)
     → Left (inForce (runTurns ts s)) (bytesAfter xs b .table)
 unfolding runTurns bytesAfter
 turns-left l₀ b [] [] s m h k = k
 turns-left l₀ b [] (t ∷ ts) s m h k = absurd m
 turns-left l₀ b (x ∷ xs) [] s m h k = absurd m
 turns-left l₀ b (x ∷ xs) (t ∷ ts) s m h k =
-    turns-left l₀ (turnOn x b .after) xs ts (turn t s .after) (m .1) (turned l₀ b x s t (m .0) h .stand) (turn-left l₀ b x t s (m .0) h k)
+    turns-left l₀ (turnOnBytes x b .after) xs ts (turn t s .after) (m .1) (turned l₀ b x s t (m .0) h .stand) (turn-left l₀ b x t s (m .0) h k)

@@ -1,40 +1,50 @@
 // Whether an instruction may run: one of ours, its slot, and what it finds on the stack. Another is foreign.
+use format_layout::operations;
+use spec_language::functions;
+use spec_language::limits;
 ghost use mathlib.Core.Path.{_≡_};
 ghost use Rattle.run_allowed.specs.Allowed.{applies, allowed};
 
-fn arguments_there(f: u32, d: u32) -> bool
-    ensures { λ r. ⌜ r ≡ applies f d ⌝ }
+const LAST_FUNCTION: u32 = functions::IF as u32;
+
+const SLOTS: u32 = limits::BEHAVIOURS as u32;
+
+const STACK: u32 = limits::STACK as u32;
+
+// Whether function f is one of 01's, and finds its arguments on a stack of that depth.
+fn arguments_there(f: u32, depth: u32) -> bool
+    ensures { λ r. ⌜ r ≡ applies f depth ⌝ }
 {
     if f == 0 {
         return false;
     }
-    if f > 14 {
+    if f > LAST_FUNCTION {
         return false;
     }
-    (lib_functions::arity_of(f as u8) as u32) <= d
+    (lib_functions::arity_of(f as u8) as u32) <= depth
 }
 
-// Whether operation op with slot s is one of ours and finds its stack, of depth d, as it needs it.
-pub fn is_allowed(op: u32, s: u32, d: u32) -> bool
-    ensures { λ r. ⌜ r ≡ allowed op s d ⌝ }
+// Whether an operation with that slot is one of ours and finds its stack, of that depth, as it needs it.
+pub fn is_allowed(operation: u32, slot: u32, depth: u32) -> bool
+    ensures { λ r. ⌜ r ≡ allowed operation slot depth ⌝ }
 {
-    if s > 63 {
+    if slot >= SLOTS {
         return false;
     }
-    if op == 0 {
+    if operation == 0 {
         return false;
     }
-    if op < 5 {
+    if operation < operations::PUSH {
         return true;
     }
-    if op < 8 {
-        return d < 64;
+    if operation < operations::APPLY {
+        return depth < STACK;
     }
-    if op == 8 {
-        return arguments_there(s, d);
+    if operation == operations::APPLY {
+        return arguments_there(slot, depth);
     }
-    if op < 11 {
-        return 0 < d;
+    if operation < operations::MOVE {
+        return 0 < depth;
     }
-    op == 11
+    operation == operations::MOVE
 }

@@ -1,110 +1,94 @@
 // Board readings on the round's bytes, refused by 14 where table or round is foreign, and when the running one is
 // masked.
+use format_layout::round;
+use format_layout::table;
+use spec_language::answers;
+use spec_language::limits;
+use spec_language::refusals;
 ghost use mathlib.Core.Path.{_≡_};
-ghost use Prim.Native.Nat.{_≤_, _<_};
-ghost use lib.ListN.{length};
 ghost use Rattle.format_layout.specs.Bounds.{Bounds};
-ghost use Rattle.run_board.specs.Board.{copyingBack, masked, settling, settlingIn, boardWith, boardKnown, boardIn, boardOn, settlingOn};
+ghost use Rattle.run_board.specs.Board.{copyingBack, masked, settlingIn, boardOn, settlingOn};
 
-// ---- masking
+const FOREIGN: u64 = refusals::FOREIGN as u64;
 
-fn is_copying_back(len: u32, m: u32, c: u32) -> bool
-    ensures { λ r. ⌜ r ≡ copyingBack len m c ⌝ }
+const NO_PLAYER: u64 = refusals::NO_PLAYER as u64;
+
+const NO_BEHAVIOUR: u64 = refusals::NO_BEHAVIOUR as u64;
+
+const NO_RIGHT: u64 = refusals::NO_RIGHT as u64;
+
+const SETTLING: u64 = refusals::SETTLING as u64;
+
+// ---- masking: of an event with so many instructions, and members of C, so many are done
+
+fn is_copying_back(length: u32, members: u32, done: u32) -> bool
+    ensures { λ r. ⌜ r ≡ copyingBack length members done ⌝ }
 {
-    if len <= m {
+    if length <= members {
         return true;
     }
-    len - m - 1 <= c
+    length - members - 1 <= done
 }
 
-pub fn is_masked(len: u32, m: u32, c: u32) -> bool
-    ensures { λ r. ⌜ r ≡ masked len m c ⌝ }
+pub fn is_masked(length: u32, members: u32, done: u32) -> bool
+    ensures { λ r. ⌜ r ≡ masked length members done ⌝ }
 {
-    if is_copying_back(len, m, c) {
+    if is_copying_back(length, members, done) {
         return true;
     }
-    if c == 0 {
+    if done == 0 {
         return false;
     }
-    c - 1 <= m
+    done - 1 <= members
 }
 
 // ---- board readings
 
-fn is_settling(f: u32, len: u32, m: u32, c: u32) -> bool
-    ensures { λ r. ⌜ r ≡ settling f len m c ⌝ }
+// Whether a copy-back is under way.
+fn settling_in(table: &[u8], round: &[u8]) -> bool
+    requires { ⌜ Bounds (now table) (now round) ⌝ }
+    ensures { λ r. ⌜ r ≡ settlingIn (now (table .entry)) (now (round .entry)) ⌝ }
 {
-    if f == 0 {
+    if lib_word::get_word(round, round::RUNNING) == 0 {
         return false;
     }
-    is_copying_back(len, m, c)
-}
-
-fn settling_in(t: &[u8], l: &[u8]) -> bool
-    requires { ⌜ Bounds (now t) (now l) ⌝ }
-    ensures { λ r. ⌜ r ≡ settlingIn (now (t .entry)) (now (l .entry)) ⌝ }
-{
-    let f = lib_word::get_word(l, 2);
-    let e = format_layout::event_at(l, 3);
-    let c = lib_word::get_word(l, 5);
-    is_settling(
-        f,
-        format_layout::event_word(t, e, 2),
-        format_layout::event_word(t, e, 3),
-        c,
+    let event = format_layout::event_at(round, round::RUNNING_WORD);
+    is_copying_back(
+        format_layout::event_word(table, event, table::CODE_LENGTH),
+        format_layout::event_word(table, event, table::MEMBERS),
+        lib_word::get_word(round, round::POSITION),
     )
 }
 
-// Behaviour i; right: the player may see it; s: a copy-back is under way.
-fn board_with(l: &[u8], i: u32, right: bool, s: bool) -> u64
-    requires { ⌜ (2048 ≤ length (now l)) × (i < 64) ⌝ }
-    ensures { λ r. ⌜ r ≡ boardWith (now (l .entry)) i right s ⌝ }
+// The value of a behaviour for a player: 2 ^ 32 and the word, or the refusal's number, the first of 14, 24, 18, 25 and
+// 19 that fits.
+pub fn board_at(table: &[u8], round: &[u8], behaviour: u32, player: u32) -> u64
+    ensures { λ r. ⌜ r ≡ boardOn (now (table .entry)) (now (round .entry)) behaviour player ⌝ }
 {
-    if !right {
-        return 25;
+    if !run_validate::is_ours(&*table, &*round) {
+        return FOREIGN;
     }
-    if s {
-        return 19;
+    if player >= limits::PLAYERS {
+        return NO_PLAYER;
     }
-    4294967296 + (lib_word::get_word(l, 136 + (i as usize)) as u64)
-}
-
-fn board_known(t: &[u8], l: &[u8], i: u32, who: u32) -> u64
-    requires { ⌜ Bounds (now t) (now l) × (i < 64) × (who < 8) ⌝ }
-    ensures { λ r. ⌜ r ≡ boardKnown (now (t .entry)) (now (l .entry)) i who ⌝ }
-{
-    board_with(l, i, run_rights::may_see(t, i, who), settling_in(t, l))
-}
-
-fn board_in(t: &[u8], l: &[u8], i: u32, who: u32) -> u64
-    requires { ⌜ Bounds (now t) (now l) ⌝ }
-    ensures { λ r. ⌜ r ≡ boardIn (now (t .entry)) (now (l .entry)) i who ⌝ }
-{
-    if who >= 8 {
-        return 24;
+    if lib_word::get_word(table, table::BEHAVIOUR_COUNT) <= behaviour {
+        return NO_BEHAVIOUR;
     }
-    if lib_word::get_word(t, 1) <= i {
-        return 18;
+    if !run_rights::may_see(table, behaviour, player) {
+        return NO_RIGHT;
     }
-    board_known(t, l, i, who)
-}
-
-// The value of behaviour i for player who: 2 ^ 32 and the word, or the refusal's number: 14, 24, 18, 25 or 19.
-pub fn board_at(t: &[u8], l: &[u8], i: u32, who: u32) -> u64
-    ensures { λ r. ⌜ r ≡ boardOn (now (t .entry)) (now (l .entry)) i who ⌝ }
-{
-    if run_validate::is_ours(t, l) {
-        return board_in(t, l, i, who);
+    if settling_in(&*table, &*round) {
+        return SETTLING;
     }
-    14
+    answers::VALUE + (lib_word::get_word(round, round::STORE + (behaviour as usize)) as u64)
 }
 
 // Whether a copy-back is under way; false where table or round is foreign.
-pub fn settling_at(t: &[u8], l: &[u8]) -> bool
-    ensures { λ r. ⌜ r ≡ settlingOn (now (t .entry)) (now (l .entry)) ⌝ }
+pub fn settling_at(table: &[u8], round: &[u8]) -> bool
+    ensures { λ r. ⌜ r ≡ settlingOn (now (table .entry)) (now (round .entry)) ⌝ }
 {
-    if run_validate::is_ours(t, l) {
-        return settling_in(t, l);
+    if run_validate::is_ours(&*table, &*round) {
+        return settling_in(&*table, &*round);
     }
     false
 }

@@ -1,57 +1,60 @@
 // The next starts, or preempts the running one, in the round's bytes.
+use format_layout::round;
+use spec_language::answers;
 ghost use mathlib.Core.Path.{_≡_};
 ghost use Prim.Native.Nat.{_≤_, _<_};
 ghost use lib.ListN.{length};
 ghost use Rattle.run_start.specs.Start.{result};
 ghost use Rattle.run_dispatch.specs.Dispatch.{saidOf, run, startAt, preemptAt};
 
-// The answer of kind k about arrival n, w being the word of its event and player.
-pub fn said_of(k: u64, n: u32, w: u32) -> u64
-    requires { ⌜ k < 16 ⌝ }
-    ensures { λ r. ⌜ r ≡ saidOf k n w ⌝ }
+// The answer of a kind about an arrival, from its number and the word of its event and player.
+pub fn said_of(kind: u64, number: u32, word: u32) -> u64
+    requires { ⌜ kind < 16 ⌝ }
+    ensures { λ r. ⌜ r ≡ saidOf kind number word ⌝ }
 {
-    let e = format_layout::event_of(w) as u64;
-    let who = format_layout::player_of(w) as u64;
-    (n as u64) * 65536 + e * 256 + who * 16 + k
+    let event = format_layout::event_of(word) as u64;
+    let player = format_layout::player_of(word) as u64;
+    (number as u64) * answers::ARRIVAL + event * answers::EVENT + player * answers::PLAYER + kind
 }
 
-fn run_on(l: &mut [u8], n: u32, w: u32)
-    requires { ⌜ 2048 ≤ length (now l) ⌝ }
-    ensures { λ _. ⌜ now (l .exit) ≡ run (now (l .entry)) n w ⌝ }
+// An arrival runs: none of its instructions done, the evaluation stack empty, no mark.
+fn run_on(round: &mut [u8], number: u32, word: u32)
+    requires { ⌜ 2048 ≤ length (now round) ⌝ }
+    ensures { λ _. ⌜ now (round .exit) ≡ run (now (round .entry)) number word ⌝ }
 {
-    lib_word::put_word(l, 2, 1);
-    lib_word::put_word(l, 3, w);
-    lib_word::put_word(l, 4, n);
-    lib_word::put_word(l, 5, 0);
-    lib_word::put_word(l, 6, 0);
-    lib_word::put_word(l, 7, 0);
+    lib_word::put_word(round, round::RUNNING, 1);
+    lib_word::put_word(round, round::RUNNING_WORD, word);
+    lib_word::put_word(round, round::RUNNING_NUMBER, number);
+    lib_word::put_word(round, round::POSITION, 0);
+    lib_word::put_word(round, round::DEPTH, 0);
+    lib_word::put_word(round, round::MARK, 0);
 }
 
-// Slot b starts, and the last, m, moves into its place.
-pub fn start_at(l: &mut [u8], b: usize, m: usize) -> u64
-    requires { ⌜ (2048 ≤ length (now l)) × (b < 64) × (m < 64) ⌝ }
-    ensures { λ r. ⌜ result r (now (l .exit)) ≡ startAt (now (l .entry)) b m ⌝ }
+// What waits in a slot starts, and the last waiting moves into its place.
+pub fn start_at(round: &mut [u8], slot: usize, last: usize) -> u64
+    requires { ⌜ (2048 ≤ length (now round)) × (slot < 64) × (last < 64) ⌝ }
+    ensures { λ r. ⌜ result r (now (round .exit)) ≡ startAt (now (round .entry)) slot last ⌝ }
 {
-    let n = lib_word::get_word(l, 8 + b * 2);
-    let w = lib_word::get_word(l, 9 + b * 2);
-    let last_n = lib_word::get_word(l, 8 + m * 2);
-    let last_w = lib_word::get_word(l, 9 + m * 2);
-    run_queue::put_slot(l, b, last_n, last_w);
-    lib_word::put_word(l, 1, m as u32);
-    run_on(l, n, w);
-    said_of(2, n, w)
+    let number = lib_word::get_word(round, round::NUMBERS + slot * 2);
+    let word = lib_word::get_word(round, round::WORDS + slot * 2);
+    let last_number = lib_word::get_word(round, round::NUMBERS + last * 2);
+    let last_word = lib_word::get_word(round, round::WORDS + last * 2);
+    run_queue::put_slot(round, slot, last_number, last_word);
+    lib_word::put_word(round, round::WAITING, last as u32);
+    run_on(round, number, word);
+    said_of(answers::STARTED, number, word)
 }
 
-// Slot b starts, and the running one goes into its place under its old number.
-pub fn preempt_at(l: &mut [u8], b: usize) -> u64
-    requires { ⌜ (2048 ≤ length (now l)) × (b < 64) ⌝ }
-    ensures { λ r. ⌜ result r (now (l .exit)) ≡ preemptAt (now (l .entry)) b ⌝ }
+// What waits in a slot starts, and the running one goes into its place under its old number.
+pub fn preempt_at(round: &mut [u8], slot: usize) -> u64
+    requires { ⌜ (2048 ≤ length (now round)) × (slot < 64) ⌝ }
+    ensures { λ r. ⌜ result r (now (round .exit)) ≡ preemptAt (now (round .entry)) slot ⌝ }
 {
-    let n = lib_word::get_word(l, 8 + b * 2);
-    let w = lib_word::get_word(l, 9 + b * 2);
-    let old_n = lib_word::get_word(l, 4);
-    let old_w = lib_word::get_word(l, 3);
-    run_queue::put_slot(l, b, old_n, old_w);
-    run_on(l, n, w);
-    said_of(4, n, w)
+    let number = lib_word::get_word(round, round::NUMBERS + slot * 2);
+    let word = lib_word::get_word(round, round::WORDS + slot * 2);
+    let old_number = lib_word::get_word(round, round::RUNNING_NUMBER);
+    let old_word = lib_word::get_word(round, round::RUNNING_WORD);
+    run_queue::put_slot(round, slot, old_number, old_word);
+    run_on(round, number, word);
+    said_of(answers::PREEMPTED, number, word)
 }

@@ -1,4 +1,6 @@
 // One instruction on the round's bytes.
+use format_layout::operations;
+use format_layout::round;
 ghost use mathlib.Core.Path.{_≡_};
 ghost use mathlib.Core.Bool.{true};
 ghost use Prim.Native.Nat.{_≤_, _<_};
@@ -8,39 +10,39 @@ ghost use Rattle.run_stack.specs.Stack.{pushOn};
 ghost use Rattle.run_instruction.specs.Instruction.{transfer, perform};
 ghost use Rattle.run_allowed.specs.Allowed.{allowed};
 
-fn transfer_word(l: &mut [u8], k: usize, j: usize)
-    requires { ⌜ (2048 ≤ length (now l)) × (k < 512) × (j < 512) ⌝ }
-    ensures { λ _. ⌜ now (l .exit) ≡ transfer (now (l .entry)) k j ⌝ }
+fn transfer_word(round: &mut [u8], from: usize, to: usize)
+    requires { ⌜ (2048 ≤ length (now round)) × (from < 512) × (to < 512) ⌝ }
+    ensures { λ _. ⌜ now (round .exit) ≡ transfer (now (round .entry)) from to ⌝ }
 {
-    let v = lib_word::get_word(l, k);
-    lib_word::put_word(l, j, v);
+    let value = lib_word::get_word(round, from);
+    lib_word::put_word(round, to, value);
 }
 
-fn push_word(l: &mut [u8], d: u32, k: usize)
-    requires { ⌜ (2048 ≤ length (now l)) × (d < 64) × (k < 512) ⌝ }
-    ensures { λ _. ⌜ now (l .exit) ≡ pushOn (now (l .entry)) d (get (now (l .entry)) k) ⌝ }
+fn push_word(round: &mut [u8], depth: u32, from: usize)
+    requires { ⌜ (2048 ≤ length (now round)) × (depth < 64) × (from < 512) ⌝ }
+    ensures { λ _. ⌜ now (round .exit) ≡ pushOn (now (round .entry)) depth (get (now (round .entry)) from) ⌝ }
 {
-    let v = lib_word::get_word(l, k);
-    run_stack::push_on(l, d, v);
+    let value = lib_word::get_word(round, from);
+    run_stack::push_on(round, depth, value);
 }
 
-// Operation op, with slot s and constant w, on the round's bytes; its stack has depth d. It is one that `is_allowed`
-// allows.
-pub fn perform_on(l: &mut [u8], op: u32, s: u32, w: u32, d: u32)
-    requires { ⌜ (2048 ≤ length (now l)) × (d ≤ 64) × (allowed op s d ≡ true) ⌝ }
-    ensures { λ _. ⌜ now (l .exit) ≡ perform (now (l .entry)) op s w d ⌝ }
+// An operation, with slot and constant, on the round's bytes; its stack has that depth. It is one that `is_allowed`
+// allows. Off, on and whatever is none of ours bring no value over.
+pub fn perform_on(round: &mut [u8], operation: u32, slot: u32, constant: u32, depth: u32)
+    requires { ⌜ (2048 ≤ length (now round)) × (depth ≤ 64) × (allowed operation slot depth ≡ true) ⌝ }
+    ensures { λ _. ⌜ now (round .exit) ≡ perform (now (round .entry)) operation slot constant depth ⌝ }
 {
-    let k = s as usize;
-    match op {
-        3 => transfer_word(l, 136 + k, 200 + k),
-        4 => transfer_word(l, 200 + k, 136 + k),
-        5 => run_stack::push_on(l, d, w),
-        6 => push_word(l, d, 136 + k),
-        7 => push_word(l, d, 200 + k),
-        8 => run_stack::apply_on(l, d, s as u8),
-        9 => run_stack::pop_to(l, d, 200 + k),
-        10 => run_stack::pop_to(l, d, 264 + k),
-        11 => transfer_word(l, 264 + k, 200 + k),
+    let k = slot as usize;
+    match operation {
+        operations::COPY => transfer_word(round, round::STORE + k, round::SCRATCH + k),
+        operations::RESTORE => transfer_word(round, round::SCRATCH + k, round::STORE + k),
+        operations::PUSH => run_stack::push_on(round, depth, constant),
+        operations::LOAD => push_word(round, depth, round::STORE + k),
+        operations::FETCH => push_word(round, depth, round::SCRATCH + k),
+        operations::APPLY => run_stack::apply_on(round, depth, slot as u8),
+        operations::SAVE => run_stack::pop_to(round, depth, round::SCRATCH + k),
+        operations::DEFER => run_stack::pop_to(round, depth, round::DEFERRED + k),
+        operations::MOVE => transfer_word(round, round::DEFERRED + k, round::SCRATCH + k),
         _ => {}
     }
 }

@@ -1,150 +1,102 @@
 // A round is carried to a newly compiled table. Refused by 14 where the round is foreign with the old table, or the new
 // table or its instructions for the passives are, then by 19 and 28.
+use format_layout::round;
+use format_layout::table;
+use spec_language::refusals;
 ghost use mathlib.Core.Path.{_≡_};
 ghost use mathlib.Core.Logic.{_≢_};
-ghost use Prim.Native.Nat.{_≤_, _<_};
+ghost use Prim.Native.Nat.{_≤_};
 ghost use lib.ListN.{length};
-ghost use Rattle.format_layout.specs.Layout.{waitingCount, runningFlag};
-ghost use Rattle.format_layout.specs.Bounds.{TableBounds, Bounds};
+ghost use Rattle.format_layout.specs.Layout.{waitingCount, runningFlag, runningNumber, runningWord};
+ghost use Rattle.format_layout.specs.Bounds.{TableBounds};
 ghost use Rattle.run_start.specs.Start.{result};
-ghost use Rattle.run_mend.specs.Mending.{waitingKnown, knownWith, handKnown, backInHand, rested, verdict, mended, mendWith, mendIn, mendOn, mendAfter};
+ghost use Rattle.run_mend.specs.Mending.{waitingKnown, handKnown, backInHand, rested, mendOn};
 
 // ---- the hand
 
 // Whether the first n waiting have events below `known`.
-fn waiting_known(l: &[u8], known: u32, n: u32) -> bool
-    requires { ⌜ (2048 ≤ length (now l)) × (n ≤ 64) ⌝ }
-    ensures { λ r. ⌜ r ≡ waitingKnown (now (l .entry)) known n ⌝ }
+fn waiting_known(round: &[u8], known: u32, n: u32) -> bool
+    requires { ⌜ (2048 ≤ length (now round)) × (n ≤ 64) ⌝ }
+    ensures { λ r. ⌜ r ≡ waitingKnown (now (round .entry)) known n ⌝ }
 {
     let mut i = n;
     while i > 0 {
         i -= 1;
-        if format_layout::event_at(l, 9 + (i as usize) * 2) >= known {
+        if format_layout::event_at(round, round::WORDS + (i as usize) * 2) >= known {
             return false;
         }
     }
     true
 }
 
-fn known_with(waiting: bool, f: u32, e: u32, known: u32) -> bool
-    ensures { λ r. ⌜ r ≡ knownWith waiting f e known ⌝ }
-{
-    if waiting {
-        if f == 0 {
-            return true;
-        }
-        return e < known;
-    }
-    false
-}
-
 // Whether the new table declares each event in hand, the running one's too.
-fn hand_known(t: &[u8], l: &[u8]) -> bool
-    requires { ⌜ TableBounds (now t) × (2048 ≤ length (now l)) × (waitingCount (now l) ≤ 64) ⌝ }
-    ensures { λ r. ⌜ r ≡ handKnown (now (t .entry)) (now (l .entry)) ⌝ }
+fn hand_known(table: &[u8], round: &[u8]) -> bool
+    requires { ⌜ TableBounds (now table) × (2048 ≤ length (now round)) × (waitingCount (now round) ≤ 64) ⌝ }
+    ensures { λ r. ⌜ r ≡ handKnown (now (table .entry)) (now (round .entry)) ⌝ }
 {
-    let known = lib_word::get_word(t, 0);
-    let n = lib_word::get_word(l, 1);
-    let f = lib_word::get_word(l, 2);
-    let e = format_layout::event_at(l, 3);
-    known_with(waiting_known(l, known, n), f, e, known)
+    let known = lib_word::get_word(table, table::EVENT_COUNT);
+    if !waiting_known(round, known, lib_word::get_word(round, round::WAITING)) {
+        return false;
+    }
+    if lib_word::get_word(round, round::RUNNING) == 0 {
+        return true;
+    }
+    format_layout::event_at(round, round::RUNNING_WORD) < known
 }
 
-// The running one goes back to the hand: n wait; f: arrival k runs, w being the word of its event and player.
-fn back_in_hand(l: &mut [u8], n: u32, f: u32, k: u32, w: u32)
-    requires { ⌜ 2048 ≤ length (now l) ⌝ }
-    requires { ⌜ (f ≢ 0 → n ≤ 63) ⌝ }
-    ensures { λ _. ⌜ now (l .exit) ≡ backInHand (now (l .entry)) n f k w ⌝ }
+// The running one, if any, goes back to the hand.
+fn back_in_hand(round: &mut [u8])
+    requires { ⌜ 2048 ≤ length (now round) ⌝ }
+    requires { ⌜ (runningFlag (now round) ≢ 0 → waitingCount (now round) ≤ 63) ⌝ }
+    ensures { λ _. ⌜ now (round .exit) ≡ backInHand (now (round .entry)) (waitingCount (now (round .entry))) (runningFlag (now (round .entry))) (runningNumber (now (round .entry))) (runningWord (now (round .entry))) ⌝ }
 {
-    if f == 0 {
+    if lib_word::get_word(round, round::RUNNING) == 0 {
         return;
     }
-    run_queue::put_slot(l, n as usize, k, w);
-    lib_word::put_word(l, 1, n + 1);
+    let waiting = lib_word::get_word(round, round::WAITING);
+    let number = lib_word::get_word(round, round::RUNNING_NUMBER);
+    let word = lib_word::get_word(round, round::RUNNING_WORD);
+    run_queue::put_slot(round, waiting as usize, number, word);
+    lib_word::put_word(round, round::WAITING, waiting + 1);
 }
 
 // Nothing runs.
-fn rest(l: &mut [u8])
-    requires { ⌜ 2048 ≤ length (now l) ⌝ }
-    ensures { λ _. ⌜ now (l .exit) ≡ rested (now (l .entry)) ⌝ }
+fn rest(round: &mut [u8])
+    requires { ⌜ 2048 ≤ length (now round) ⌝ }
+    ensures { λ _. ⌜ now (round .exit) ≡ rested (now (round .entry)) ⌝ }
 {
-    lib_word::put_word(l, 2, 0);
-    lib_word::put_word(l, 6, 0);
-    lib_word::put_word(l, 7, 0);
+    lib_word::put_word(round, round::RUNNING, 0);
+    lib_word::put_word(round, round::DEPTH, 0);
+    lib_word::put_word(round, round::MARK, 0);
 }
 
 // ---- the call
 
-// a: what working the passives out answered; s: a copy-back is under way; k: the hand's events are known.
-fn verdict_of(a: u32, s: bool, k: bool) -> u32
-    ensures { λ r. ⌜ r ≡ verdict a s k ⌝ }
+// The round of the old table is carried to the new one (02, M-112). 0, or the refusal's number, the first of 14, 19 and
+// 28 that fits.
+pub fn mend_at(old: &[u8], table: &[u8], round: &mut [u8]) -> u32
+    ensures { λ r. ⌜ result r (now (round .exit)) ≡ mendOn (now (old .entry)) (now (table .entry)) (now (round .entry)) ⌝ }
 {
-    if a != 0 {
-        return a;
+    if !run_validate::is_ours(old, round) {
+        return refusals::FOREIGN;
     }
-    if s {
-        return 19;
+    if !format_layout::table_fits(table) {
+        return refusals::FOREIGN;
     }
-    if k {
-        return 0;
+    // The new values, in bytes of their own: 14 where an instruction for the passives may not run.
+    let mut values = [0u8; round::BYTES];
+    let answer = run_carry::carry_on(old, table, round, &mut values);
+    if answer != 0 {
+        return answer;
     }
-    28
-}
-
-// The hand without a running one, and the values that m holds.
-fn mend_to(t: &[u8], m: &[u8], l: &mut [u8])
-    requires { ⌜ (34816 ≤ length (now t)) × (2048 ≤ length (now m)) × (2048 ≤ length (now l)) ⌝ }
-    requires { ⌜ (runningFlag (now l) ≢ 0 → waitingCount (now l) ≤ 63) ⌝ }
-    ensures { λ _. ⌜ now (l .exit) ≡ mended (now (t .entry)) (now (m .entry)) (now (l .entry)) ⌝ }
-{
-    let n = lib_word::get_word(l, 1);
-    let f = lib_word::get_word(l, 2);
-    let k = lib_word::get_word(l, 4);
-    let w = lib_word::get_word(l, 3);
-    back_in_hand(l, n, f, k, w);
-    rest(l);
-    run_carry::show(t, m, l);
-}
-
-fn mend_with(t: &[u8], m: &[u8], l: &mut [u8], v: u32) -> u32
-    requires { ⌜ (34816 ≤ length (now t)) × (2048 ≤ length (now m)) × (2048 ≤ length (now l)) ⌝ }
-    requires { ⌜ (runningFlag (now l) ≢ 0 → waitingCount (now l) ≤ 63) ⌝ }
-    ensures { λ r. ⌜ result r (now (l .exit)) ≡ mendWith (now (t .entry)) (now (m .entry)) (now (l .entry)) v ⌝ }
-{
-    if v == 0 {
-        mend_to(t, m, l);
+    if run_board::settling_at(old, round) {
+        return refusals::SETTLING;
     }
-    v
-}
-
-// The passives were worked out in m, and answered a.
-fn mend_after(old: &[u8], t: &[u8], l: &mut [u8], m: &[u8], a: u32) -> u32
-    requires { ⌜ Bounds (now old) (now l) × TableBounds (now t) × (2048 ≤ length (now m)) ⌝ }
-    ensures { λ r. ⌜ result r (now (l .exit)) ≡ mendAfter (now (old .entry)) (now (t .entry)) (now (l .entry)) (result a (now (m .entry))) ⌝ }
-{
-    let s = run_board::settling_at(old, l);
-    let k = hand_known(t, l);
-    let v = verdict_of(a, s, k);
-    mend_with(t, m, l, v)
-}
-
-fn mend_in(old: &[u8], t: &[u8], l: &mut [u8]) -> u32
-    requires { ⌜ Bounds (now old) (now l) × TableBounds (now t) ⌝ }
-    ensures { λ r. ⌜ result r (now (l .exit)) ≡ mendIn (now (old .entry)) (now (t .entry)) (now (l .entry)) ⌝ }
-{
-    let mut m = [0u8; 2048];
-    let a = run_carry::carry_on(old, t, l, &mut m);
-    mend_after(old, t, l, &m, a)
-}
-
-// The round of the old table is carried to the new one, t. 0, or the refusal's number: 14, 19 or 28.
-pub fn mend_at(old: &[u8], t: &[u8], l: &mut [u8]) -> u32
-    ensures { λ r. ⌜ result r (now (l .exit)) ≡ mendOn (now (old .entry)) (now (t .entry)) (now (l .entry)) ⌝ }
-{
-    if run_validate::is_ours(old, l) {
-        if format_layout::table_fits(t) {
-            return mend_in(old, t, l);
-        }
+    if !hand_known(table, round) {
+        return refusals::UNDECLARED_IN_HAND;
     }
-    14
+    back_in_hand(round);
+    rest(round);
+    run_carry::show(table, &values, round);
+    0
 }

@@ -1,12 +1,21 @@
 // The value that the board would show after an arrival and everything in hand had been run to idle, tried on a copy of
-// the round. Turned down as the arrival would be (14, 24, 15, 25, 16, 17), then by 18 and 25, last by 14 where a step
-// on the copy would be or 01's count runs out.
+// the round. The arrival judges table and round, and the steps on the copy are not judged again.
 ghost use mathlib.Core.Path.{_≡_};
-ghost use Prim.Native.Nat.{_≤_, _<_};
+ghost use Prim.Native.Nat.{_+_, _≤_, _<_};
 ghost use lib.ListN.{length};
 ghost use Rattle.format_layout.specs.Bounds.{TableBounds};
 ghost use Rattle.run_start.specs.Start.{result};
-ghost use Rattle.run_preview.specs.Preview.{last, toIdle, inHand, countOn, shown, shownIn, previewSeen, previewTaken, previewAfter, previewCopy, previewOn};
+ghost use Rattle.run_burst.specs.Sound.{Sound};
+ghost use Rattle.run_preview.specs.Preview.{last, toIdle, inHand, countOn, shown, shownIn, previewCopy, previewOn};
+
+// What stands above a value, so that it is no refusal's number.
+const SHOWN: u64 = 4294967296;
+
+const FOREIGN: u64 = spec_language::refusals::FOREIGN as u64;
+
+const NO_BEHAVIOUR: u64 = spec_language::refusals::NO_BEHAVIOUR as u64;
+
+const NO_RIGHT: u64 = spec_language::refusals::NO_RIGHT as u64;
 
 // ---- to idle
 
@@ -14,32 +23,34 @@ ghost use Rattle.run_preview.specs.Preview.{last, toIdle, inHand, countO
 fn is_last(a: u64) -> bool
     ensures { λ r. ⌜ r ≡ last a ⌝ }
 {
-    if a == 0 {
+    if a == spec_language::answers::IDLE {
         return true;
     }
-    a == 14
+    a == FOREIGN
 }
 
-// At most n steps, until one is the last; 14 where none of them was.
-fn run_to_idle(t: &[u8], l: &mut [u8], n: u64) -> u64
-    ensures { λ r. ⌜ result r (now (l .exit)) ≡ toIdle (now (t .entry)) n (now (l .entry)) ⌝ }
+// At most so many steps, until one is the last; 14 where none of them was.
+fn run_to_idle(table: &[u8], round: &mut [u8], most: u32) -> u64
+    requires { ⌜ Sound (now table) (now round) ⌝ }
+    ensures { λ r. ⌜ result r (now (round .exit)) ≡ toIdle (now (table .entry)) most (now (round .entry)) ⌝ }
 {
-    let mut k = n;
-    while k > 0 {
-        let a = run_step::step_at(t, l);
-        if is_last(a) {
-            return a;
+    let mut left = most;
+    while left > 0 {
+        let stop = run_burst::burst_on(&*table, round, left);
+        let answer = stop.answer;
+        left = stop.left;
+        if is_last(answer) {
+            return answer;
         }
-        k -= 1;
     }
-    14
+    FOREIGN
 }
 
 // n wait, and one runs where f is not 0.
-fn in_hand(n: u64, f: u32) -> u64
-    requires { ⌜ n < 4294967296 ⌝ }
+fn in_hand(n: u32, f: u32) -> u32
+    requires { ⌜ n ≤ 64 ⌝ }
     ensures { λ r. ⌜ r ≡ inHand n f ⌝ }
-    ensures { λ r. ⌜ r ≤ 4294967296 ⌝ }
+    ensures { λ r. ⌜ r ≤ 65 ⌝ }
 {
     if f == 0 {
         return n;
@@ -48,13 +59,17 @@ fn in_hand(n: u64, f: u32) -> u64
 }
 
 // 01's count of steps to idle.
-fn count_of(t: &[u8], l: &[u8]) -> u64
-    requires { ⌜ TableBounds (now t) × (2048 ≤ length (now l)) ⌝ }
-    ensures { λ r. ⌜ r ≡ countOn (now (t .entry)) (now (l .entry)) ⌝ }
-    ensures { λ r. ⌜ r < 18446744073709551615 ⌝ }
+fn count_of(table: &[u8], round: &[u8]) -> u32
+    requires { ⌜ TableBounds (now table) × Sound (now table) (now round) ⌝ }
+    ensures { λ r. ⌜ r ≡ countOn (now (table .entry)) (now (round .entry)) ⌝ }
+    ensures { λ r. ⌜ r ≤ 1000000 ⌝ }
 {
-    let k = in_hand(lib_word::get_word(l, 1) as u64, lib_word::get_word(l, 2));
-    let longest = run_forecast::longest_of(t, lib_word::get_word(t, 0)) as u64;
+    let k = in_hand(
+        lib_word::get_word(round, format_layout::round::WAITING),
+        lib_word::get_word(round, format_layout::round::RUNNING),
+    );
+    let events = lib_word::get_word(table, format_layout::table::EVENT_COUNT);
+    let longest = run_forecast::longest_of(&*table, events);
     (k + 1) * (longest + 1)
 }
 
@@ -64,76 +79,53 @@ fn count_of(t: &[u8], l: &[u8]) -> u64
 fn shown_by(a: u64, v: u32) -> u64
     ensures { λ r. ⌜ r ≡ shown a v ⌝ }
 {
-    if a == 0 {
-        return 4294967296 + (v as u64);
+    if a == spec_language::answers::IDLE {
+        return SHOWN + (v as u64);
     }
-    14
+    FOREIGN
 }
 
-fn shown_in(t: &[u8], l: &mut [u8], n: u64, i: u32) -> u64
-    requires { ⌜ (2048 ≤ length (now l)) × (i < 64) ⌝ }
-    ensures { λ r. ⌜ r ≡ shownIn (toIdle (now (t .entry)) n (now (l .entry))) i ⌝ }
+// The copy is run to idle: 01's count of steps, and one more that finds it idle.
+fn shown_in(table: &[u8], round: &mut [u8], behaviour: u32) -> u64
+    requires { ⌜ TableBounds (now table) × Sound (now table) (now round) × (behaviour < 64) ⌝ }
+    ensures { λ r. ⌜ r ≡ shownIn (toIdle (now (table .entry)) (countOn (now (table .entry)) (now (round .entry)) + 1) (now (round .entry))) behaviour ⌝ }
 {
-    let a = run_to_idle(t, l, n);
-    shown_by(a, lib_word::get_word(l, 136 + (i as usize)))
+    let most = count_of(&*table, round);
+    let answer = run_to_idle(&*table, round, most + 1);
+    shown_by(
+        answer,
+        lib_word::get_word(round, format_layout::round::STORE + (behaviour as usize)),
+    )
 }
 
-// The arrival is taken in; right: the player may see behaviour i.
-fn preview_seen(t: &[u8], l: &mut [u8], i: u32, right: bool) -> u64
-    requires { ⌜ TableBounds (now t) × (2048 ≤ length (now l)) × (i < 64) ⌝ }
-    ensures { λ r. ⌜ r ≡ previewSeen (now (t .entry)) (now (l .entry)) i right ⌝ }
+// The round is the copy. Refused as the arrival is (14, 24, 15, 25, 16, 17), then by 18 and 25, last by 14 where a step
+// on the copy is or 01's count runs out.
+fn preview_copy(table: &[u8], round: &mut [u8], event: u32, behaviour: u32, player: u32) -> u64
+    requires { ⌜ 2048 ≤ length (now round) ⌝ }
+    ensures { λ r. ⌜ r ≡ previewCopy (now (table .entry)) (now (round .entry)) event behaviour player ⌝ }
 {
-    if !right {
-        return 25;
+    let a = run_arrive::arrive_at(&*table, round, event, player);
+    if a != 0 {
+        return a as u64;
     }
-    let n = count_of(t, l);
-    shown_in(t, l, n + 1, i)
-}
-
-fn preview_taken(t: &[u8], l: &mut [u8], i: u32, who: u32) -> u64
-    requires { ⌜ TableBounds (now t) × (2048 ≤ length (now l)) × (who < 8) ⌝ }
-    ensures { λ r. ⌜ r ≡ previewTaken (now (t .entry)) (now (l .entry)) i who ⌝ }
-{
-    if lib_word::get_word(t, 1) <= i {
-        return 18;
+    if lib_word::get_word(table, format_layout::table::BEHAVIOUR_COUNT) <= behaviour {
+        return NO_BEHAVIOUR;
     }
-    let right = run_rights::may_see(t, i, who);
-    preview_seen(t, l, i, right)
-}
-
-// The arrival was answered by a.
-fn preview_after(t: &[u8], l: &mut [u8], a: u32, i: u32, who: u32) -> u64
-    requires { ⌜ TableBounds (now t) × (2048 ≤ length (now l)) ⌝ }
-    requires { ⌜ (a ≡ 0 → who < 8) ⌝ }
-    ensures { λ r. ⌜ r ≡ previewAfter (now (t .entry)) (result a (now (l .entry))) i who ⌝ }
-{
-    if a == 0 {
-        return preview_taken(t, l, i, who);
+    if !run_rights::may_see(&*table, behaviour, player) {
+        return NO_RIGHT;
     }
-    a as u64
+    shown_in(&*table, round, behaviour)
 }
 
-// The round is the copy.
-fn preview_copy(t: &[u8], l: &mut [u8], e: u32, i: u32, who: u32) -> u64
-    requires { ⌜ 2048 ≤ length (now l) ⌝ }
-    ensures { λ r. ⌜ r ≡ previewCopy (now (t .entry)) (now (l .entry)) e i who ⌝ }
-{
-    if format_layout::table_fits(t) {
-        let a = run_arrive::arrive_at(t, l, e, who);
-        return preview_after(t, l, a, i, who);
-    }
-    14
-}
-
-// The value of behaviour i once event e of player who has arrived and everything in hand is run to idle: 2 ^ 32 and the
+// The value of a behaviour once a player's event has arrived and everything in hand is run to idle: 2 ^ 32 and the
 // word; or 14 to 18, 24 or 25.
-pub fn preview_at(t: &[u8], l: &[u8], e: u32, i: u32, who: u32) -> u64
-    ensures { λ r. ⌜ r ≡ previewOn (now (t .entry)) (now (l .entry)) e i who ⌝ }
+pub fn preview_at(table: &[u8], round: &[u8], event: u32, behaviour: u32, player: u32) -> u64
+    ensures { λ r. ⌜ r ≡ previewOn (now (table .entry)) (now (round .entry)) event behaviour player ⌝ }
 {
-    if l.len() < 2048 {
-        return 14;
+    if round.len() < format_layout::round::BYTES {
+        return FOREIGN;
     }
-    let mut copy = [0u8; 2048];
-    bytes::copy(&l[0..2048], &mut copy);
-    preview_copy(t, &mut copy, e, i, who)
+    let mut copy = [0u8; format_layout::round::BYTES];
+    bytes::copy(&round[0..format_layout::round::BYTES], &mut copy);
+    preview_copy(&*table, &mut copy, event, behaviour, player)
 }

@@ -23,6 +23,11 @@ unfoldable pub best : List ℕ → List ℕ → ℕ → ℕ
 best t l zero = 0
 best t l (suc n) = better t l n (best t l n)
 
+-- one of the first n waiting has a priority above p
+unfoldable pub anyAbove : List ℕ → List ℕ → ℕ → ℕ → Bool
+anyAbove t l p zero = false
+anyAbove t l p (suc n) = pick (ltb p (eventWord t (eventAt l n) 0)) true (anyAbove t l p n)
+
 -- arrival n, with the word of its event and player
 unfoldable pub putSlot : List ℕ → ℕ → ℕ → ℕ → List ℕ
 putSlot l i n w = put (put l (8 + i * 2) n) (9 + i * 2) w

@@ -1,11 +1,12 @@
 // Who may send an event and who may see a behaviour: one bit of a word in the table.
+use format_layout::table;
 ghost use mathlib.Core.Path.{_≡_};
 ghost use Prim.Native.Nat.{_≤_, _<_, _^_};
 ghost use lib.ListN.{length};
 ghost use Rattle.spec_language.specs.Rights.{may};
 ghost use Rattle.format_layout.specs.Layout.{viewersAt, sendersAt};
 
-// The value of bit n.
+// The value of bit n: a power of two.
 fn bit(n: u32) -> u32
     requires { ⌜ n < 8 ⌝ }
     ensures { λ r. ⌜ r ≡ 2 ^ n ⌝ }
@@ -24,28 +25,34 @@ fn bit(n: u32) -> u32
 }
 
 // Whether a player is let in by a word with a bit for each; the host always is.
-fn is_let_in(w: u32, who: u32) -> bool
-    requires { ⌜ who < 8 ⌝ }
-    ensures { λ r. ⌜ r ≡ may w who ⌝ }
+fn is_let_in(word: u32, player: u32) -> bool
+    requires { ⌜ player < 8 ⌝ }
+    ensures { λ r. ⌜ r ≡ may word player ⌝ }
 {
-    if who == 0 {
+    if player == 0 {
         return true;
     }
-    w / bit(who) % 2 == 1
+    word / bit(player) % 2 == 1
 }
 
-// Whether a player may send event e.
-pub fn may_send(t: &[u8], e: u32, who: u32) -> bool
-    requires { ⌜ (34816 ≤ length (now t)) × (e < 32) × (who < 8) ⌝ }
-    ensures { λ r. ⌜ r ≡ may (sendersAt (now (t .entry)) e) who ⌝ }
+// Whether a player may send an event.
+pub fn may_send(table: &[u8], event: u32, player: u32) -> bool
+    requires { ⌜ (34816 ≤ length (now table)) × (event < 32) × (player < 8) ⌝ }
+    ensures { λ r. ⌜ r ≡ may (sendersAt (now (table .entry)) event) player ⌝ }
 {
-    is_let_in(lib_word::get_word(t, 264 + (e as usize)), who)
+    is_let_in(
+        lib_word::get_word(table, table::SENDERS + (event as usize)),
+        player,
+    )
 }
 
-// Whether a player may see behaviour i.
-pub fn may_see(t: &[u8], i: u32, who: u32) -> bool
-    requires { ⌜ (34816 ≤ length (now t)) × (i < 64) × (who < 8) ⌝ }
-    ensures { λ r. ⌜ r ≡ may (viewersAt (now (t .entry)) i) who ⌝ }
+// Whether a player may see a behaviour.
+pub fn may_see(table: &[u8], behaviour: u32, player: u32) -> bool
+    requires { ⌜ (34816 ≤ length (now table)) × (behaviour < 64) × (player < 8) ⌝ }
+    ensures { λ r. ⌜ r ≡ may (viewersAt (now (table .entry)) behaviour) player ⌝ }
 {
-    is_let_in(lib_word::get_word(t, 200 + (i as usize)), who)
+    is_let_in(
+        lib_word::get_word(table, table::VIEWERS + (behaviour as usize)),
+        player,
+    )
 }

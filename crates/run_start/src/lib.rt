@@ -1,4 +1,8 @@
 // A fresh round, and `start`.
+use format_layout::round;
+use format_layout::table;
+use spec_language::limits;
+use spec_language::refusals;
 ghost use mathlib.Core.Path.{_≡_};
 ghost use Prim.Native.Nat.{_+_, _≤_, _<_};
 ghost use lib.ListN.{length, replicate};
@@ -9,7 +13,7 @@ pub struct Round {
     pub taken: u32,
     pub waiting: u32,
     pub running: u32,
-    pub store: [u32; 64],
+    pub store: [u32; limits::BEHAVIOURS],
 }
 
 impl Round {
@@ -19,7 +23,7 @@ impl Round {
     // At most so many arrivals are taken in.
     pub const ARRIVALS: u32 = 1000000;
 
-    pub fn fresh(store: [u32; 64]) -> Self
+    pub fn fresh(store: [u32; limits::BEHAVIOURS]) -> Self
         ensures { λ r. ⌜ r ≡ freshOf store ⌝ }
     {
         Self {
@@ -31,65 +35,66 @@ impl Round {
     }
 }
 
-fn clear(l: &mut [u8])
-    requires { ⌜ 2048 ≤ length (now l) ⌝ }
-    ensures { λ _. ⌜ now (l .exit) ≡ cleared (now (l .entry)) 512 ⌝ }
+// The words of a round become 0.
+fn clear(round: &mut [u8])
+    requires { ⌜ 2048 ≤ length (now round) ⌝ }
+    ensures { λ _. ⌜ now (round .exit) ≡ cleared (now (round .entry)) 512 ⌝ }
 {
     let mut i = 0;
-    while i < 512 {
-        lib_word::put_word(l, i, 0);
+    while i < round::WORD_COUNT {
+        lib_word::put_word(round, i, 0);
         i += 1;
     }
 }
 
-fn put_store(l: &mut [u8], ws: &[u32])
-    requires { ⌜ (2048 ≤ length (now l)) × (length (now ws) ≡ 64) ⌝ }
-    ensures { λ _. ⌜ now (l .exit) ≡ stored (now (ws .entry)) (now (l .entry)) 64 ⌝ }
+fn put_store(round: &mut [u8], store: &[u32])
+    requires { ⌜ (2048 ≤ length (now round)) × (length (now store) ≡ 64) ⌝ }
+    ensures { λ _. ⌜ now (round .exit) ≡ stored (now (store .entry)) (now (round .entry)) 64 ⌝ }
 {
     let mut i = 0;
-    while i < 64 {
-        lib_word::put_word(l, 136 + i, ws[i]);
+    while i < limits::BEHAVIOURS {
+        lib_word::put_word(round, round::STORE + i, store[i]);
         i += 1;
     }
 }
 
 // The round's bytes. Those beyond are as they were.
-fn write_round(r: Round, l: &mut [u8])
-    requires { ⌜ 2048 ≤ length (now l) ⌝ }
-    ensures { λ _. ⌜ now (l .exit) ≡ image r (now (l .entry)) ⌝ }
+fn write_round(fresh: Round, round: &mut [u8])
+    requires { ⌜ 2048 ≤ length (now round) ⌝ }
+    ensures { λ _. ⌜ now (round .exit) ≡ image fresh (now (round .entry)) ⌝ }
 {
-    clear(l);
-    lib_word::put_word(l, 0, r.taken);
-    lib_word::put_word(l, 1, r.waiting);
-    lib_word::put_word(l, 2, r.running);
-    let store = r.store;
-    put_store(l, &store);
+    clear(round);
+    lib_word::put_word(round, round::TAKEN, fresh.taken);
+    lib_word::put_word(round, round::WAITING, fresh.waiting);
+    lib_word::put_word(round, round::RUNNING, fresh.running);
+    let store = fresh.store;
+    put_store(round, &store);
 }
 
 // The values of a fresh round, as compile left them in the table.
-fn first_values(t: &[u8]) -> [u32; 64]
-    requires { ⌜ 34816 ≤ length (now t) ⌝ }
-    ensures { λ r. ⌜ r ≡ valuesIn (now (t .entry)) (replicate 64 0) 64 ⌝ }
+fn first_values(table: &[u8]) -> [u32; limits::BEHAVIOURS]
+    requires { ⌜ 34816 ≤ length (now table) ⌝ }
+    ensures { λ r. ⌜ r ≡ valuesIn (now (table .entry)) (replicate 64 0) 64 ⌝ }
 {
-    let mut a = [0u32; 64];
+    let mut store = [0u32; limits::BEHAVIOURS];
     let mut i = 0;
-    while i < 64 {
-        a[i] = lib_word::get_word(t, 136 + i);
+    while i < limits::BEHAVIOURS {
+        store[i] = lib_word::get_word(table, table::VALUES + i);
         i += 1;
     }
-    a
+    store
 }
 
 // A fresh round of the program whose table is lent. 0, or 14 where the table is foreign or the round too short.
-pub fn start_round(t: &[u8], l: &mut [u8]) -> u32
-    ensures { λ r. ⌜ result r (now (l .exit)) ≡ startOn (now (t .entry)) (now (l .entry)) ⌝ }
+pub fn start_round(table: &[u8], round: &mut [u8]) -> u32
+    ensures { λ r. ⌜ result r (now (round .exit)) ≡ startOn (now (table .entry)) (now (round .entry)) ⌝ }
 {
-    if !format_layout::table_fits(t) {
-        return 14;
+    if !format_layout::table_fits(&*table) {
+        return refusals::FOREIGN;
     }
-    if l.len() < 2048 {
-        return 14;
+    if round.len() < round::BYTES {
+        return refusals::FOREIGN;
     }
-    write_round(Round::fresh(first_values(t)), l);
+    write_round(Round::fresh(first_values(table)), round);
     0
 }

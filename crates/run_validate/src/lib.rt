@@ -1,98 +1,89 @@
 // Which rounds are foreign: 01's conditions, on the round's bytes beside the table's.
+use format_layout::round;
+use format_layout::table;
+use run_start::Round;
+use spec_language::limits;
 ghost use mathlib.Core.Path.{_≡_};
 ghost use mathlib.Core.Bool.{true};
 ghost use Prim.Native.Nat.{_≤_};
 ghost use lib.ListN.{length};
-ghost use Rattle.format_layout.specs.Layout.{handFits, slotsFit, runningFits, roundWith, roundIn, roundFits, ours};
+ghost use Rattle.format_layout.specs.Layout.{eventWord, runningFlag, runningWord, runningEvent, position, handFits, slotsFit, runningFits, ours};
 ghost use Rattle.format_layout.specs.Bounds.{Bounds};
 
-// Whether w is the word of one of `known` events and one of eight players.
-fn hand_fits(known: u32, w: u32) -> bool
-    ensures { λ r. ⌜ r ≡ handFits known w ⌝ }
+const STACK: u32 = limits::STACK as u32;
+
+// Whether a word of event and player is that of one of `known` events and one of eight players.
+fn hand_fits(known: u32, word: u32) -> bool
+    ensures { λ r. ⌜ r ≡ handFits known word ⌝ }
 {
-    if known <= format_layout::event_of(w) {
+    if known <= format_layout::event_of(word) {
         return false;
     }
-    format_layout::player_of(w) < 8
+    format_layout::player_of(word) < limits::PLAYERS
 }
 
-fn slots_fit(l: &[u8], known: u32, n: u32) -> bool
-    requires { ⌜ (2048 ≤ length (now l)) × (n ≤ 64) ⌝ }
-    ensures { λ r. ⌜ r ≡ slotsFit (now (l .entry)) known n ⌝ }
+// Whether the words of the first n waiting are.
+fn slots_fit(round: &[u8], known: u32, n: u32) -> bool
+    requires { ⌜ (2048 ≤ length (now round)) × (n ≤ 64) ⌝ }
+    ensures { λ r. ⌜ r ≡ slotsFit (now (round .entry)) known n ⌝ }
 {
     let mut i = n;
     while i > 0 {
         i -= 1;
-        if !hand_fits(known, lib_word::get_word(l, 9 + (i as usize) * 2)) {
+        if !hand_fits(
+            known,
+            lib_word::get_word(round, round::WORDS + (i as usize) * 2),
+        ) {
             return false;
         }
     }
     true
 }
 
-fn running_fits(n: u32, f: u32, fits: bool, c: u32, len: u32) -> bool
-    ensures { λ r. ⌜ r ≡ runningFits n f fits c len ⌝ }
+// Whether nothing runs, or there is room in the hand for what runs, its word fits, and its position is in its code.
+fn running_fits(table: &[u8], round: &[u8], known: u32, waiting: u32) -> bool
+    requires { ⌜ (34816 ≤ length (now table)) × (2048 ≤ length (now round)) ⌝ }
+    ensures { λ r. ⌜ r ≡ runningFits waiting (runningFlag (now (round .entry))) (handFits known (runningWord (now (round .entry)))) (position (now (round .entry))) (eventWord (now (table .entry)) (runningEvent (now (round .entry))) 2) ⌝ }
 {
-    if f == 0 {
+    if lib_word::get_word(round, round::RUNNING) == 0 {
         return true;
     }
-    if n > 63 {
+    if waiting >= Round::QUEUE {
         return false;
     }
-    if fits {
-        return c < len;
-    }
-    false
-}
-
-fn round_with(l: &[u8], n: u32, known: u32, d: u32, running: bool) -> bool
-    requires { ⌜ 2048 ≤ length (now l) ⌝ }
-    ensures { λ r. ⌜ r ≡ roundWith (now (l .entry)) n known d running ⌝ }
-{
-    if n > 64 {
+    let word = lib_word::get_word(round, round::RUNNING_WORD);
+    if !hand_fits(known, word) {
         return false;
     }
-    if d > 64 {
+    let length = format_layout::event_word(
+        table,
+        format_layout::event_of(word),
+        table::CODE_LENGTH,
+    );
+    lib_word::get_word(round, round::POSITION) < length
+}
+
+// Whether neither the table nor the round is foreign (01 "Why a call was turned down").
+pub fn is_ours(table: &[u8], round: &[u8]) -> bool
+    ensures { λ r. ⌜ r ≡ ours (now (table .entry)) (now (round .entry)) ⌝ }
+    ensures { λ r. ⌜ (r ≡ true → Bounds (now (table .entry)) (now (round .entry))) ⌝ }
+{
+    if !format_layout::table_fits(&*table) {
         return false;
     }
-    if running {
-        return slots_fit(l, known, n);
-    }
-    false
-}
-
-fn round_in(t: &[u8], l: &[u8]) -> bool
-    requires { ⌜ (34816 ≤ length (now t)) × (2048 ≤ length (now l)) ⌝ }
-    ensures { λ r. ⌜ r ≡ roundIn (now (t .entry)) (now (l .entry)) ⌝ }
-{
-    let n = lib_word::get_word(l, 1);
-    let f = lib_word::get_word(l, 2);
-    let w = lib_word::get_word(l, 3);
-    let c = lib_word::get_word(l, 5);
-    let d = lib_word::get_word(l, 6);
-    let known = lib_word::get_word(t, 0);
-    let len = format_layout::event_word(t, format_layout::event_of(w), 2);
-    let running = running_fits(n, f, hand_fits(known, w), c, len);
-    round_with(l, n, known, d, running)
-}
-
-fn round_fits(t: &[u8], l: &[u8]) -> bool
-    requires { ⌜ 34816 ≤ length (now t) ⌝ }
-    ensures { λ r. ⌜ r ≡ roundFits (now (t .entry)) (now (l .entry)) ⌝ }
-{
-    if l.len() < 2048 {
+    if round.len() < round::BYTES {
         return false;
     }
-    round_in(t, l)
-}
-
-// Whether neither the table nor the round is foreign.
-pub fn is_ours(t: &[u8], l: &[u8]) -> bool
-    ensures { λ r. ⌜ r ≡ ours (now (t .entry)) (now (l .entry)) ⌝ }
-    ensures { λ r. ⌜ (r ≡ true → Bounds (now (t .entry)) (now (l .entry))) ⌝ }
-{
-    if format_layout::table_fits(t) {
-        return round_fits(t, l);
+    let known = lib_word::get_word(table, table::EVENT_COUNT);
+    let waiting = lib_word::get_word(round, round::WAITING);
+    if waiting > Round::QUEUE {
+        return false;
     }
-    false
+    if lib_word::get_word(round, round::DEPTH) > STACK {
+        return false;
+    }
+    if !running_fits(table, round, known, waiting) {
+        return false;
+    }
+    slots_fit(round, known, waiting)
 }

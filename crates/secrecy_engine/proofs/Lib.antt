@@ -1,4 +1,2 @@
 pub mod Told
-pub mod SeenHolds
-pub mod Turned
 pub mod HeardHolds

@@ -1,61 +1,63 @@
--- The rule for a player with changes of sheets as a claim about the exported functions: `compileOn`, `startOn`,
--- `callOn`, `mendOn`, `previewOn`, `forecastOn` and `toldOn` are what their contracts cite. 02, M-112: "M-107's rule
--- for a player needs its condition of both sheets, with the same behaviours hidden." Without changes: crate
--- secrecy_engine, Seen.antt. Turns from sheets, which changes are among: crate refine_lists, Rounds.antt. `Sealed` and
--- `AlikeBut` are crate sight's, `Sees` crate hidden's.
+-- The rule for a player as a claim about the exported functions: `compileOn`, `startOn`, `callOn`, `mendOn`,
+-- `previewOn`, `forecastOn` and `toldOn` are what their contracts cite. 02, M-107: "For a player it shall hold: if no
+-- behaviour this player sees depends on a hidden one (by a name in its expression or in a handler of either phase,
+-- directly or by a chain), then two rounds, from fresh on with the same calls in the same order and the same
+-- parameters, their sheets differing only in start values of hidden behaviours, give this player equal answers,
+-- refusals included." M-112: "M-107's rule for a player needs its condition of both sheets, with the same behaviours
+-- hidden." The condition, and what a pair of turns is: crate secrecy_model, Sight.antt. Turns from sheets: crate
+-- refine_lists, Lists.antt.
 use Prim.Native.Nat.{ℕ, _≤_, _<_}
-use mathlib.Core.Bool.{Bool}
 use mathlib.Core.Path.{_≡_}
-use mathlib.Core.Option.{Option, some}
-use mathlib.Core.List.{List, [], _∷_, map, zipWith}
+use mathlib.Core.Option.{Option, none, some}
+use mathlib.Core.List.{List, map, zipWith}
+use lib.Dec.{eqb}
 use lib.ListN.{length}
-use Rattle.lib_base.specs.Basics.{All}
+use Rattle.lib_base.specs.Basics.{pick, All}
 use Rattle.lib_word.specs.Word.{get}
 use Rattle.spec_language.specs.Sheet.{Sheet}
 use Rattle.spec_language.specs.Grammar.{encode}
 use Rattle.spec_language.specs.Accepted.{SheetAccepted}
-use Rattle.secrecy_model.specs.Sight.{Sealed, AlikeBut}
-use Rattle.secrecy_model.specs.Hidden.{Sees}
+use Rattle.spec_model.specs.Model.{Call, arrive, step, board, begun}
 use Rattle.back_compile.specs.Verdict.{programOf, compileOn}
 use Rattle.run_forecast.specs.Forecast.{forecastOn}
 use Rattle.run_preview.specs.Preview.{previewOn}
-use Rattle.secrecy_engine.specs.Seen.{hearsOn}
-use Rattle.refine_changes.specs.Reconcile.{Bytes, numbersOn, bytesAfter}
-use Rattle.refine_lists.specs.Rounds.{SheetTurn, calling, mending, Compiles, onBytes, fresh}
+use Rattle.refine_calls.specs.Refinement.{toldOn, Bytes, numbersOn, bytesAfter}
+use Rattle.refine_lists.specs.Lists.{SheetTurn, calling, mending, Compiles, onBytes, AllMean, freshRoundOn}
+use Rattle.secrecy_model.specs.Sight.{Sealed, AlikeBut, Pair, inOne, inOther, ConditionAll}
 
--- ---- "its condition of both sheets, with the same behaviours hidden"
+-- ---- the two sheets x and y, which compile accepts as the bytes s and z with the parameters ps and qs, in any table
+-- and
+-- round bytes of 01's lengths
 
--- the bytes s and z, with the parameters ps, are of two sheets that differ only in start values of hidden behaviours;
--- no behaviour that the player sees depends on a hidden one; and those that it sees are the ones in `seen`
-pub record Condition (player : ℕ) (seen : ℕ → Bool) (ps s z : List ℕ) : Type 0 where
-  pub one : Sheet
-  pub other : Sheet
-  pub one-is : encode one ≡ s
-  pub other-is : encode other ≡ z
-  pub one-taken : SheetAccepted (get ps) (length ps) one
-  pub other-taken : SheetAccepted (get ps) (length ps) other
-  pub alike : AlikeBut player one other
-  pub sealed : Sealed (programOf ps one) player
-  pub sees : Sees player seen (programOf ps one)
-
--- ---- "the same calls in the same order and the same parameters": a turn in one round and the turn in the other, in
--- tables of their own
-
-abbrev pub Matches : ℕ → (ℕ → Bool) → SheetTurn → SheetTurn → Type 0
-Matches player seen (calling c) (calling d) = c ≡ d
-Matches player seen (calling c) (mending z qs u) = ⊥
-Matches player seen (mending s ps t) (calling d) = ⊥
-Matches player seen (mending s ps t) (mending z qs u) = (ps ≡ qs) × Condition player seen ps s z
-
-abbrev pub AllMatch : ℕ → (ℕ → Bool) → List SheetTurn → List SheetTurn → Type 0
-AllMatch player seen [] [] = Unit {0}
-AllMatch player seen [] (y ∷ ys) = ⊥
-AllMatch player seen (x ∷ xs) [] = ⊥
-AllMatch player seen (x ∷ xs) (y ∷ ys) = Matches player seen x y × AllMatch player seen xs ys
+pub record TwoSheets (player : ℕ) (s z ps qs t₀ l₀ t₁ l₁ : List ℕ) (x y : Sheet) : Type 0 where
+  pub one-bytes : All (λ b. b < 256) s
+  pub other-bytes : All (λ b. b < 256) z
+  pub one-params : All (λ b. b < 256) ps
+  pub other-params : All (λ b. b < 256) qs
+  pub one-room : 2048 ≤ length l₀
+  pub other-room : 2048 ≤ length l₁
+  pub one-compiles : compileOn s ps t₀ .0 ≡ 0
+  pub other-compiles : compileOn z qs t₁ .0 ≡ 0
+  pub one-is : encode x ≡ s
+  pub other-is : encode y ≡ z
+  pub one-taken : SheetAccepted (get ps) (length ps) x
+  pub other-taken : SheetAccepted (get qs) (length qs) y
+  -- "their sheets differing only in start values of hidden behaviours", "no behaviour this player sees depends on a
+  -- hidden one", and "the same parameters": or others where the program filled in is the same
+  pub alike : AlikeBut player x y
+  pub sealed : Sealed (programOf ps x) player
+  pub filled : programOf qs y ≡ programOf ps y
 
 -- ---- "equal answers, refusals included"
 
--- what a player gets of a turn's number: of a call's as in seen, and a change's whoever it is
+-- what a player gets of the number that a call gives: that of its own arrival or board reading, a step's as the host
+-- alone gets it and the others by the further call, and none of the others' calls
+abbrev pub hearsOn : ℕ → Call → ℕ → Option ℕ
+hearsOn player (arrive e who) v = pick (eqb who player) (some v) none
+hearsOn player step v = some (pick (eqb player 0) v (toldOn v))
+hearsOn player (board i who) v = pick (eqb who player) (some v) none
+
+-- and of a turn's: a change's whoever it is
 abbrev pub hearsIn : ℕ → SheetTurn → ℕ → Option ℕ
 hearsIn player (calling c) v = hearsOn player c v
 hearsIn player (mending s ps t) v = some v
@@ -70,11 +72,22 @@ pub record HeardAlike (player : ℕ) (b : Bytes) (xs : List SheetTurn) (c : Byte
   pub forecast : forecastOn (bytesAfter (map onBytes xs) b .table) (bytesAfter (map onBytes xs) b .round)
       ≡ forecastOn (bytesAfter (map onBytes ys) c .table) (bytesAfter (map onBytes ys) c .round)
 
--- every player, every two such sheets that compile accepts as the bytes s and z with the same parameters ps, in any
--- table and round bytes of 01's lengths, and every two such lists
-abbrev pub RuleOn : Type 0
-RuleOn =
-    (player : ℕ) (seen : ℕ → Bool) (s z ps t₀ l₀ t₁ l₁ : List ℕ) → All (λ b. b < 256) s → All (λ b. b < 256) z → All (λ b. b < 256) ps → 2048 ≤ length l₀ → 2048 ≤ length l₁
-    → compileOn s ps t₀ .0 ≡ 0 → compileOn z ps t₁ .0 ≡ 0 → Condition player seen ps s z
-    → (xs ys : List SheetTurn) → All Compiles xs → All Compiles ys → AllMatch player seen xs ys
-    → HeardAlike player (fresh s ps t₀ l₀) xs (fresh z ps t₁ l₁) ys
+-- ---- the rule: every player, every two such sheets, and every two lists of turns that are the pairs l, at each change
+-- that is made the condition being asked of the sheet in force and the new one
+
+abbrev pub WithChanges : Type 0
+WithChanges =
+    (player : ℕ) (s z ps qs t₀ l₀ t₁ l₁ : List ℕ) (x y : Sheet) → TwoSheets player s z ps qs t₀ l₀ t₁ l₁ x y
+    → (l : List Pair) → ConditionAll player l (begun (programOf ps x)) (begun (programOf qs y))
+    → (xs ys : List SheetTurn) → All Compiles xs → All Compiles ys → AllMean xs (map inOne l) → AllMean ys (map inOther l)
+    → HeardAlike player (freshRoundOn s ps t₀ l₀) xs (freshRoundOn z qs t₁ l₁) ys
+
+-- as M-107 words it, of the same calls in both rounds
+abbrev pub OfCalls : Type 0
+OfCalls =
+    (player : ℕ) (s z ps qs t₀ l₀ t₁ l₁ : List ℕ) (x y : Sheet) → TwoSheets player s z ps qs t₀ l₀ t₁ l₁ x y
+    → (cs : List Call) → HeardAlike player (freshRoundOn s ps t₀ l₀) (map calling cs) (freshRoundOn z qs t₁ l₁) (map calling cs)
+
+pub record RuleOn : Type 0 where
+  pub with-changes : WithChanges
+  pub of-calls : OfCalls

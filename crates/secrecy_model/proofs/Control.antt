@@ -13,8 +13,8 @@ use Rattle.spec_language.specs.Dependence.{size, events}
 use Rattle.spec_language.specs.Order.{upTo}
 use Rattle.spec_language.specs.Code.{code}
 use Rattle.spec_execution.specs.Execution.{Values, emptied}
-use Rattle.spec_model.specs.Model.{Arrival, Running, rest, busy, Engine, engine, queue, Call, arrive, step, board, Answer, refused, takenIn, shows, idle, ran, started, preempted, committed, unmarked, Outcome, rank, masked, settling, choose, advance, stepped, arrived, read, act, run, answers}
-use Rattle.spec_model.specs.Claims.{ifCommitted, commits, inQueue, settlingIn, longest, stepsOf, forecast, countIn}
+use Rattle.spec_model.specs.Model.{Arrival, Running, rest, busy, Engine, engine, queue, Call, arrive, step, board, Answer, refused, takenIn, shows, idle, ran, started, preempted, committed, unmarked, Outcome, rank, masked, settling, choose, advance, stepped, arrived, read, act}
+use Rattle.spec_model.specs.Claims.{inQueue, settlingIn, longest, stepsOf, forecast, countIn}
 use Rattle.secrecy_model.proofs.Programs.{Alike, events-same, code-same}
 
 -- an engine without its values
@@ -124,47 +124,6 @@ module _ (player : ℕ) (p q : Program) (alike : Alike player p q) where
 
     pub act-hushed : hushed c (act p c w .answer) ≡ hushed c (act q c v .answer)
     act-hushed = act-alone p c w .0 ∙ ap (λ (x : Outcome). hushed c (x .answer)) together ∙ sym (act-alone q c v .0)
-
-  pub run-control : (cs : List Call) (w v : Engine) → control w ≡ control v → control (run p cs w) ≡ control (run q cs v)
-  unfolding run
-  run-control [] w v h = h
-  run-control (c ∷ cs) w v h = run-control cs (act p c w .after) (act q c v .after) (act-control c w v h)
-
-  -- ---- the same commits
-
-  commits-unmarked : (a : Answer) (l : List Arrival) → ifCommitted a l ≡ ifCommitted (unmarked a) l
-  commits-unmarked (refused n) l = refl
-  commits-unmarked takenIn l = refl
-  commits-unmarked (shows v) l = refl
-  commits-unmarked idle l = refl
-  commits-unmarked ran l = refl
-  commits-unmarked (started a) l = refl
-  commits-unmarked (preempted a) l = refl
-  commits-unmarked (committed a m) l = refl
-
-  commits-blank : (a : Answer) (l : List Arrival) → ifCommitted a l ≡ ifCommitted (blank a) l
-  commits-blank (refused n) l = refl
-  commits-blank takenIn l = refl
-  commits-blank (shows v) l = refl
-  commits-blank idle l = refl
-  commits-blank ran l = refl
-  commits-blank (started a) l = refl
-  commits-blank (preempted a) l = refl
-  commits-blank (committed a m) l = refl
-
-  commits-hushed : (c : Call) (a : Answer) (l : List Arrival) → ifCommitted a l ≡ ifCommitted (hushed c a) l
-  commits-hushed (arrive e who) a l = refl
-  commits-hushed step a l = commits-unmarked a l
-  commits-hushed (board i who) a l = commits-blank a l
-
-  pub commits-same : (cs : List Call) (w v : Engine) → control w ≡ control v → commits (answers p cs w) ≡ commits (answers q cs v)
-  unfolding answers commits
-  commits-same [] w v h = refl
-  commits-same (c ∷ cs) w v h =
-      let k = commits-same cs (act p c w .after) (act q c v .after) (act-control c w v h) in
-      commits-hushed c (act p c w .answer) (commits (answers p cs (act p c w .after)))
-      ∙ (λ z. ifCommitted (act-hushed c w v h z) (k z))
-      ∙ sym (commits-hushed c (act q c v .answer) (commits (answers q cs (act q c v .after))))
 
   -- ---- the counts of steps
 

@@ -2,8 +2,7 @@ pub mod Programs
 pub mod Stores
 pub mod Control
 pub mod Answered
-pub mod Needed
 pub mod Twins
-pub mod Mended
-pub mod HiddenHolds
-pub mod NeededWithChanges
+pub mod Changed
+pub mod RuleHolds
+pub mod Needed

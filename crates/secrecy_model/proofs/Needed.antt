@@ -1,11 +1,13 @@
--- Both conditions of the rule are needed: a player who sees a behaviour that follows a hidden one gets other values,
--- and one who were told the mark would get other marks. Two pairs of sheets, each pair alike but for a hidden start
--- value, and the model engine computes what it answers.
-use Prim.Native.Nat.{ℕ}
+-- Each condition of the rule is needed: a player who sees a behaviour that follows a hidden one gets other values; one
+-- who were told the mark would get other marks; and where the host alone sees b0 and a change shows it to all, player 1
+-- reads the start value that was hidden from it. Pairs of sheets alike but for a hidden start value, and the model
+-- engine computes what it answers. What a later sheet shows of behaviours that the one before it lacks is under no
+-- condition.
+use Prim.Native.Nat.{ℕ, zero, suc}
 use mathlib.Core.Bool.{Bool, true, false, true≢false}
 use mathlib.Core.Path.{_≡_, refl, sym, ap, _∙_}
 use mathlib.Core.Option.{Option, none, some}
-use mathlib.Core.List.{List, [], _∷_, flatten, flatMap, zipWith}
+use mathlib.Core.List.{List, [], _∷_, flatten, flatMap, zipWith, map}
 use native.Mathlib.Omega.{arith}
 use lib.ListN.{replicate}
 use Rattle.lib_arith.specs.Exact.{beyond}
@@ -18,9 +20,9 @@ use Rattle.spec_language.specs.Order.{met, find, order, upTo, metAtOnce, phaseO
 use Rattle.spec_language.specs.Code.{postfix, inOrder, copyPart, firstPart, secondPart, restorePart, code}
 use Rattle.spec_semantics.specs.Meaning.{value, inTurn, firstPhase, starts, fresh}
 use Rattle.spec_execution.specs.Execution.{execute, emptied, offs, ons}
-use Rattle.spec_model.specs.Model.{Call, arrive, step, board, Answer, refused, takenIn, shows, idle, ran, started, preempted, committed, act, answers}
-use Rattle.spec_model.specs.Claims.{said}
-use Rattle.secrecy_model.specs.Sight.{AlikeBut, heard, EqualAnswers}
+use Rattle.spec_model.specs.Model.{arrive, step, board, refused, takenIn, shows, idle, ran, started, preempted, committed, act, Reply, says, carriedOver, turn, replies, begun, Turn, call}
+use Rattle.spec_model.specs.Carried.{carriedActives, carried}
+use Rattle.secrecy_model.specs.Sight.{AlikeBut, Pair, both, each, inOne, inOther, heardOf, EqualReplies, SameHidden}
 
 -- no parameter is used
 abbrev none-lent : ℕ → ℕ
@@ -34,29 +36,31 @@ leaky n = sheet [] (entry (formula (variable 1)) none ∷ entry (state n []) (so
 leaky-alike : AlikeBut 1 (leaky 1) (leaky 2)
 leaky-alike = (refl, ((refl, refl), ((refl, (λ h. absurd (true≢false (sym h)), refl)), tt)))
 
-abbrev shown : List (Option Answer) → ℕ
+-- the first value shown in replies
+abbrev shown : List (Option Reply) → ℕ
 shown [] = 0
-shown (none ∷ l) = 0
-shown (some (refused n) ∷ l) = 0
-shown (some takenIn ∷ l) = 0
-shown (some (shows v) ∷ l) = v
-shown (some idle ∷ l) = 0
-shown (some ran ∷ l) = 0
-shown (some (started a) ∷ l) = 0
-shown (some (preempted a) ∷ l) = 0
-shown (some (committed a m) ∷ l) = 0
+shown (none ∷ l) = shown l
+shown (some carriedOver ∷ l) = shown l
+shown (some (says (refused n)) ∷ l) = shown l
+shown (some (says takenIn) ∷ l) = shown l
+shown (some (says (shows v)) ∷ l) = v
+shown (some (says idle) ∷ l) = shown l
+shown (some (says ran) ∷ l) = shown l
+shown (some (says (started a)) ∷ l) = shown l
+shown (some (says (preempted a)) ∷ l) = shown l
+shown (some (says (committed a m)) ∷ l) = shown l
 
-one : shown (heard 1 (fill none-lent (leaky 1)) (board 0 1 ∷ [])) ≡ 1
-unfolding zipWith flatMap entriesOut fillTerm fillClauses fillEntries handled mentions met find order upTo metAtOnce phaseOne value inTurn firstPhase starts fresh emptied act answers
+one : shown (heardOf 1 (call (board 0 1) ∷ []) (begun (fill none-lent (leaky 1)))) ≡ 1
+unfolding zipWith flatMap entriesOut fillTerm fillClauses fillEntries handled mentions met find order upTo metAtOnce phaseOne value inTurn firstPhase starts fresh emptied act turn replies
 one = refl
 
-two : shown (heard 1 (fill none-lent (leaky 2)) (board 0 1 ∷ [])) ≡ 2
-unfolding zipWith flatMap entriesOut fillTerm fillClauses fillEntries handled mentions met find order upTo metAtOnce phaseOne value inTurn firstPhase starts fresh emptied act answers
+two : shown (heardOf 1 (call (board 0 1) ∷ []) (begun (fill none-lent (leaky 2)))) ≡ 2
+unfolding zipWith flatMap entriesOut fillTerm fillClauses fillEntries handled mentions met find order upTo metAtOnce phaseOne value inTurn firstPhase starts fresh emptied act turn replies
 two = refl
 
 -- player 1 sees b0 and reads it
-pub sealed-needed : AlikeBut 1 (leaky 1) (leaky 2) × (EqualAnswers 1 (fill none-lent (leaky 1)) (fill none-lent (leaky 2)) (board 0 1 ∷ []) → ⊥)
-sealed-needed = (leaky-alike, λ h. let z : _≡_ {A = ℕ} 1 2 = sym one ∙ ap shown (h .calls) ∙ two in absurd (omega arith))
+pub sealed-needed : AlikeBut 1 (leaky 1) (leaky 2) × (EqualReplies 1 (fill none-lent (leaky 1)) (fill none-lent (leaky 2)) (both (board 0 1) ∷ []) → ⊥)
+sealed-needed = (leaky-alike, λ h. let z : _≡_ {A = ℕ} 1 2 = sym one ∙ ap shown (h .turns) ∙ two in absurd (omega arith))
 
 -- ---- b0 has the start value n, the host alone sees it, and event 0 adds 1
 
@@ -66,30 +70,83 @@ closed n = sheet (signal 0 none ∷ []) (entry (state n (clause 0 immediate (app
 closed-alike : AlikeBut 1 (closed 2147483647) (closed 0)
 closed-alike = (refl, ((refl, (λ h. absurd (true≢false (sym h)), refl)), tt))
 
-abbrev calls : List Call
-calls = arrive 0 1 ∷ replicate 11 step
+abbrev calls : List Turn
+calls = map call (arrive 0 1 ∷ replicate 11 step)
 
 -- the mark of a commit, as the host is told it
-abbrev marked : List Answer → Bool
+abbrev marked : List Reply → Bool
 marked [] = false
-marked (refused n ∷ l) = marked l
-marked (takenIn ∷ l) = marked l
-marked (shows v ∷ l) = marked l
-marked (idle ∷ l) = marked l
-marked (ran ∷ l) = marked l
-marked (started a ∷ l) = marked l
-marked (preempted a ∷ l) = marked l
-marked (committed a m ∷ l) = m
+marked (says (refused n) ∷ l) = marked l
+marked (says takenIn ∷ l) = marked l
+marked (says (shows v) ∷ l) = marked l
+marked (says idle ∷ l) = marked l
+marked (says ran ∷ l) = marked l
+marked (says (started a) ∷ l) = marked l
+marked (says (preempted a) ∷ l) = marked l
+marked (says (committed a m) ∷ l) = m
+marked (carriedOver ∷ l) = marked l
 
-over-marked : marked (said (fill none-lent (closed 2147483647)) calls) ≡ true
-unfolding flatten flatMap beyond exact result over entriesOut fillTerm fillClauses fillEntries handled mentions met find order upTo metAtOnce phaseOne postfix inOrder copyPart firstPart secondPart restorePart code value inTurn firstPhase starts fresh execute emptied offs ons act answers
+over-marked : marked (replies calls (begun (fill none-lent (closed 2147483647)))) ≡ true
+unfolding flatten flatMap beyond exact result over entriesOut fillTerm fillClauses fillEntries handled mentions met find order upTo metAtOnce phaseOne postfix inOrder copyPart firstPart secondPart restorePart code value inTurn firstPhase starts fresh execute emptied offs ons act turn replies
 over-marked = refl
 
-not-marked : marked (said (fill none-lent (closed 0)) calls) ≡ false
-unfolding flatten flatMap beyond exact result over entriesOut fillTerm fillClauses fillEntries handled mentions met find order upTo metAtOnce phaseOne postfix inOrder copyPart firstPart secondPart restorePart code value inTurn firstPhase starts fresh execute emptied offs ons act answers
+not-marked : marked (replies calls (begun (fill none-lent (closed 0)))) ≡ false
+unfolding flatten flatMap beyond exact result over entriesOut fillTerm fillClauses fillEntries handled mentions met find order upTo metAtOnce phaseOne postfix inOrder copyPart firstPart secondPart restorePart code value inTurn firstPhase starts fresh execute emptied offs ons act turn replies
 not-marked = refl
 
 -- the answers with their marks differ, though player 1 sees nothing
 pub mark-withheld : AlikeBut 1 (closed 2147483647) (closed 0)
-    × (said (fill none-lent (closed 2147483647)) calls ≡ said (fill none-lent (closed 0)) calls → ⊥)
+    × (replies calls (begun (fill none-lent (closed 2147483647))) ≡ replies calls (begun (fill none-lent (closed 0))) → ⊥)
 mark-withheld = (closed-alike, λ h. true≢false (sym over-marked ∙ ap marked h ∙ not-marked))
+
+-- ---- a change that shows what was hidden
+
+-- b0 has the start value n, and the host alone sees it; or everybody sees it
+abbrev veiled : ℕ → Sheet
+veiled n = sheet [] (entry (state n []) (some 1) ∷ [])
+
+abbrev opened : Sheet
+opened = sheet [] (entry (state 0 []) none ∷ [])
+
+-- the change, and player 1 reads b0
+abbrev reading : List Pair
+reading = each none-lent none-lent opened opened ∷ both (board 0 1) ∷ []
+
+veiled-alike : AlikeBut 1 (veiled 1) (veiled 2)
+veiled-alike = (refl, ((refl, (λ h. absurd (true≢false (sym h)), refl)), tt))
+
+one-changed : shown (heardOf 1 (inOne (each none-lent none-lent opened opened) ∷ inOne (both (board 0 1)) ∷ []) (begun (fill none-lent (veiled 1)))) ≡ 1
+unfolding zipWith flatMap fillTerm fillClauses fillEntries entriesOut handled mentions met find order upTo metAtOnce phaseOne value inTurn firstPhase starts fresh emptied carriedActives carried act turn replies
+one-changed = refl
+
+two-changed : shown (heardOf 1 (inOther (each none-lent none-lent opened opened) ∷ inOther (both (board 0 1)) ∷ []) (begun (fill none-lent (veiled 2)))) ≡ 2
+unfolding zipWith flatMap fillTerm fillClauses fillEntries entriesOut handled mentions met find order upTo metAtOnce phaseOne value inTurn firstPhase starts fresh emptied carriedActives carried act turn replies
+two-changed = refl
+
+pub same-hidden-needed : AlikeBut 1 (veiled 1) (veiled 2) × (EqualReplies 1 (fill none-lent (veiled 1)) (fill none-lent (veiled 2)) reading → ⊥)
+same-hidden-needed = (veiled-alike, λ h. let z : _≡_ {A = ℕ} 1 2 = sym one-changed ∙ ap shown (h .turns) ∙ two-changed in absurd (omega arith))
+
+-- ---- of the sheet in force and the new one alone: three behaviours, the third hidden from player 1; then one; then
+-- three, all of them seen
+
+abbrev three : Option ℕ → Sheet
+three who = sheet [] (entry (state 0 []) none ∷ entry (state 0 []) none ∷ entry (state 0 []) who ∷ [])
+
+abbrev single : Sheet
+single = sheet [] (entry (state 0 []) none ∷ [])
+
+shrinks : SameHidden 1 (fill none-lent (three (some 1))) (fill none-lent single)
+unfolding flatMap entriesOut fillTerm fillClauses fillEntries
+shrinks zero a b = refl
+shrinks (suc i) a b = absurd (omega arith)
+
+grows : SameHidden 1 (fill none-lent single) (fill none-lent (three none))
+unfolding flatMap entriesOut fillTerm fillClauses fillEntries
+grows zero a b = refl
+grows (suc i) a b = absurd (omega arith)
+
+-- though the third is hidden in the first and seen in the last
+pub by-each-change : SameHidden 1 (fill none-lent (three (some 1))) (fill none-lent single) × SameHidden 1 (fill none-lent single) (fill none-lent (three none))
+    × (SameHidden 1 (fill none-lent (three (some 1))) (fill none-lent (three none)) → ⊥)
+unfolding flatMap entriesOut fillTerm fillClauses fillEntries
+by-each-change = (shrinks, grows, λ h. true≢false (sym (h 2 (omega arith) (omega arith))))

@@ -7,17 +7,16 @@ use mathlib.Core.List.{List, [], _∷_}
 use native.Mathlib.Omega.{arith}
 use lib.Dec.{eqb}
 use lib.ListN.{length}
-use Rattle.lib_base.specs.Basics.{All}
 use Rattle.lib_base.proofs.Tools.{by-elim}
 use Rattle.spec_language.specs.Syntax.{Expr, Phase, immediate, later, Handler, handler, Behaviour, passive, active, Program}
 use Rattle.spec_language.specs.Rights.{maySee}
-use Rattle.spec_language.specs.Dependence.{Response, follows, takes, defers, keeps, inPhase, handled, respond, size, events, noEvent, behaviourAt, response, mentions, needs, one, more}
+use Rattle.spec_language.specs.Dependence.{Response, follows, takes, defers, keeps, inPhase, handled, respond, size, noEvent, behaviourAt, response, mentions, needs, one, more}
 use Rattle.spec_language.specs.Accepted.{Valid}
 use Rattle.spec_language.proofs.Laws.{getD-upTo, named-in, ResponseNamesIn, response-names}
-use Rattle.spec_semantics.specs.Meaning.{at, firstPhase, event, startOf, starts, fresh, play}
+use Rattle.spec_semantics.specs.Meaning.{at, firstPhase, event, startOf, starts, fresh}
 use Rattle.spec_semantics.proofs.OrderLaws.{by-needs}
 use Rattle.spec_semantics.proofs.Solution.{firstOf, secondOf, value-same, first-local, first-solves, event-solves, or-first, or-second}
-use Rattle.spec_semantics.proofs.Lengths.{length-starts, length-fresh, length-event}
+use Rattle.spec_semantics.proofs.Lengths.{length-starts}
 use Rattle.secrecy_model.specs.Sight.{inHandlers, inBehaviour, names, Sealed}
 use Rattle.secrecy_model.proofs.Programs.{BehaviourAlike, Alike, events-same, response-same}
 
@@ -137,14 +136,3 @@ module _ (player : ℕ) (p q : Program) (alike : Alike player p q) (direct : Dir
   fresh-agree =
       subst (λ (n : ℕ). Agree (firstPhase p (noEvent p) (starts p)) (firstPhase q n (starts q))) (events-same player p q alike)
       (first-agree (noEvent p) (omega arith) (starts p) (starts q) (length-starts p) (length-starts q) starts-agree)
-
-  play-from : (es : List ℕ) → All (λ e. e < events p) es → (s t : List ℕ) → length s ≡ size p → length t ≡ size q → Agree s t
-      → Agree (play p es s) (play q es t)
-  unfolding play
-  play-from [] d s t ls lt h = h
-  play-from (e ∷ es) d s t ls lt h =
-      play-from es (d .1) (event p e s) (event q e t) (length-event p e s) (length-event q e t) (event-agree e (omega (arith, d .0)) s t ls lt h)
-
-  -- after the same events
-  pub play-agree : (es : List ℕ) → All (λ e. e < events p) es → Agree (play p es (fresh p)) (play q es (fresh q))
-  play-agree es d = play-from es d (fresh p) (fresh q) (length-fresh p) (length-fresh q) fresh-agree

@@ -2,7 +2,7 @@
 -- the same call, and answer the player alike. The stores meant are those that the running event began from: what it has
 -- done so far follows from them.
 use Prim.Native.Nat.{ℕ, _≤_, _<_}
-use mathlib.Core.Bool.{Bool, true, false}
+use mathlib.Core.Bool.{true, false}
 use mathlib.Core.Path.{_≡_, refl, sym, ap, _∙_, subst}
 use mathlib.Core.Option.{Option, some}
 use mathlib.Core.List.{List, [], _∷_}
@@ -13,25 +13,23 @@ use borrow.Author.Tests.{leb-false, eqb-true}
 use Rattle.lib_base.specs.Basics.{pick}
 use Rattle.lib_base.proofs.Tools.{by-two}
 use Rattle.spec_language.specs.Syntax.{Program}
-use Rattle.spec_language.specs.Refusals as refusals
 use Rattle.spec_language.specs.Rights.{may, maySee}
 use Rattle.spec_language.specs.Dependence.{size, events, noEvent}
+use Rattle.spec_language.specs.Refusals as refusals
 use Rattle.spec_semantics.specs.Meaning.{event}
 use Rattle.spec_execution.specs.Execution.{at}
 use Rattle.spec_execution.proofs.CodeRight.{code-facts}
-use Rattle.spec_model.specs.Model.{Engine, engine, Call, arrive, step, board, Answer, refused, takenIn, shows, idle, ran, started, preempted, committed, unmarked, act, run}
+use Rattle.spec_model.specs.Model.{Engine, engine, Call, arrive, step, board, Answer, refused, takenIn, shows, idle, ran, started, preempted, committed, unmarked, act, run, State, state}
 use Rattle.spec_model.specs.Claims.{number, storeOf, settlingIn, forecast, countIn, shownAfter, unlessRefused, previewed}
 use Rattle.spec_model.proofs.Moves.{Effect, nothing, took, commit, effect, Cases, act-by}
 use Rattle.spec_model.proofs.Reached.{Reached, DoneIn, onto, still, Computes, computes, act-keeps}
 use Rattle.spec_model.proofs.Previews.{idle-within}
-use Rattle.spec_changes.specs.Turns.{State, state}
-use Rattle.spec_changes.proofs.History.{Fit}
+use Rattle.spec_model.proofs.History.{Fit}
 use Rattle.secrecy_model.specs.Sight.{Sealed, hears}
 use Rattle.secrecy_model.proofs.Programs.{Alike}
 use Rattle.secrecy_model.proofs.Stores.{sealed-direct, event-agree}
 use Rattle.secrecy_model.proofs.Control.{control, blank, hushed, act-control, act-hushed, forecast-same, count-same, settling-both}
 use Rattle.secrecy_model.proofs.Answered.{read-agree, idle-settled}
-use Rattle.secrecy_model.specs.Hidden.{Sees}
 
 -- ---- what a call adds to the history is said by its answer without its values
 
@@ -87,7 +85,7 @@ tells p = record {
 
 -- ---- two states
 
-module _ (player : ℕ) (seen : ℕ → Bool) where
+module _ (player : ℕ) where
   -- the same values of what the player sees in p
   abbrev pub Agree : Program → List ℕ → List ℕ → Type 0
   Agree p s t = (i : ℕ) → i < size p → maySee p player i ≡ true → at s i ≡ at t i
@@ -95,7 +93,6 @@ module _ (player : ℕ) (seen : ℕ → Bool) where
   pub record Twin (p : Program) (w : Engine) (q : Program) (x : Engine) : Type 0 where
     pub alike : Alike player p q
     pub sealed : Sealed p player
-    pub sees : Sees player seen p
     pub one : Fit (state p w)
     pub other : Fit (state q x)
     pub together : control w ≡ control x
@@ -111,15 +108,15 @@ module _ (player : ℕ) (seen : ℕ → Bool) where
   TwinStates (state p w) (state q x) = Twin p w q x
 
   module _ (p : Program) (w : Engine) (q : Program) (x : Engine) (twin : Twin p w q x) where
-    settles : settlingIn p w ≡ settlingIn q x
-    settles = settling-both player p q (twin .alike) w x (twin .together)
+    settling-too : settlingIn p w ≡ settlingIn q x
+    settling-too = settling-both player p q (twin .alike) w x (twin .together)
 
     -- unless a copy-back is under way, both stores are those
     pub store-here : settlingIn p w ≡ false → storeOf w ≡ twin .here
     store-here h = still p (code-facts p (twin .one .0)) (twin .here) w (twin .sized) (twin .one .1 .fine) h (twin .done)
 
     pub store-there : settlingIn p w ≡ false → storeOf x ≡ twin .there
-    store-there h = still q (code-facts q (twin .other .0)) (twin .there) x (twin .sized-other) (twin .other .1 .fine) (sym settles ∙ h) (twin .done-other)
+    store-there h = still q (code-facts q (twin .other .0)) (twin .there) x (twin .sized-other) (twin .other .1 .fine) (sym settling-too ∙ h) (twin .done-other)
 
     pub stores-agree : settlingIn p w ≡ false → (i : ℕ) → i < size p → maySee p player i ≡ true → at (storeOf w) i ≡ at (storeOf x) i
     stores-agree h i b m = ap (λ (s : List ℕ). at s i) (store-here h) ∙ twin .agree i b m ∙ sym (ap (λ (s : List ℕ). at s i) (store-there h))
@@ -149,7 +146,6 @@ module _ (player : ℕ) (seen : ℕ → Bool) where
         record {
           alike = twin .alike;
           sealed = twin .sealed;
-          sees = twin .sees;
           one = (twin .one .0, act-keeps p vp c w (twin .one .1));
           other = (twin .other .0, act-keeps q vq c x (twin .other .1));
           together = act-control player p q (twin .alike) c w x (twin .together);
@@ -172,7 +168,7 @@ module _ (player : ℕ) (seen : ℕ → Bool) where
   module _ (p : Program) (w : Engine) (q : Program) (x : Engine) (twin : Twin p w q x) where
     board-same : (i : ℕ) → act p (board i player) w .answer ≡ act q (board i player) x .answer
     board-same i =
-        read-agree player p q (twin .alike) (twin .sealed) (twin .one .0) (twin .other .0) i w x (twin .together) (λ h b m. stores-agree p w q x twin h i b m)
+        read-agree player p q (twin .alike) i w x (twin .together) (λ h b m. stores-agree p w q x twin h i b m)
 
     pub call-heard : eqb player 0 ≡ false → (c : Call) → hears player c (act p c w .answer) ≡ hears player c (act q c x .answer)
     call-heard guest (arrive e who) = ap (hears player (arrive e who)) (act-hushed player p q (twin .alike) (arrive e who) w x (twin .together))

@@ -1,22 +1,24 @@
 -- The rule for a player. 02, M-107: "For a player it shall hold: if no behaviour this player sees depends on a hidden
 -- one (by a name in its expression or in a handler of either phase, directly or by a chain), then two rounds, from
 -- fresh on with the same calls in the same order and the same parameters, their sheets differing only in start values
--- of hidden behaviours, give this player equal answers, refusals included." Here of model engines; of the exported
--- functions' numbers: crate secrecy_engine, Seen.antt.
-use Prim.Native.Nat.{ℕ}
+-- of hidden behaviours, give this player equal answers, refusals included." M-112: "M-107's rule for a player needs its
+-- condition of both sheets, with the same behaviours hidden." Here of model engines; of the exported functions'
+-- numbers: crate secrecy_engine, Heard.antt.
+use Prim.Native.Nat.{ℕ, _<_}
 use mathlib.Core.Bool.{Bool, true, false, _||_}
 use mathlib.Core.Path.{_≡_}
+use mathlib.Core.Logic.{_⊎_}
 use mathlib.Core.Option.{Option, none, some}
-use mathlib.Core.List.{List, [], _∷_, zipWith}
+use mathlib.Core.List.{List, [], _∷_, map, zipWith}
 use lib.Dec.{eqb}
 use Rattle.lib_base.specs.Basics.{pick}
 use Rattle.spec_language.specs.Syntax.{Handler, handler, Behaviour, passive, active, Program}
 use Rattle.spec_language.specs.Sheet.{Item, formula, state, row, Entry, Sheet, allowed, fill}
 use Rattle.spec_language.specs.Rights.{may, maySee}
-use Rattle.spec_language.specs.Dependence.{behaviourAt, mentions, Reach}
+use Rattle.spec_language.specs.Dependence.{size, behaviourAt, mentions, Reach}
 use Rattle.spec_language.specs.Accepted.{Accepted}
-use Rattle.spec_model.specs.Model.{Call, arrive, step, board, Answer, toldTo}
-use Rattle.spec_model.specs.Claims.{after, said, forecast, previewed}
+use Rattle.spec_model.specs.Model.{Call, arrive, step, board, Answer, toldTo, Turn, call, change, State, Reply, says, carriedOver, turn, replies, begun}
+use Rattle.spec_model.specs.Claims.{forecast, previewed, inForce, programAfter, engineAfter}
 
 -- ---- dependence by names, whatever the event
 
@@ -65,6 +67,49 @@ EntriesAlike player (x ∷ xs) (y ∷ ys) = EntryAlike player x y × EntriesAlik
 abbrev pub AlikeBut : ℕ → Sheet → Sheet → Type 0
 AlikeBut player s t = (s .signals ≡ t .signals) × EntriesAlike player (s .entries) (t .entries)
 
+-- ---- the condition, of two sheets with the parameters lent to each: "the same parameters", or others where the
+-- program
+-- filled in is the same
+
+pub record Condition (player : ℕ) (v w : ℕ → ℕ) (s t : Sheet) : Type 0 where
+  pub alike : AlikeBut player s t
+  pub sealed : Sealed (fill v s) player
+  pub filled : fill w t ≡ fill v t
+  pub one : Accepted (fill v s)
+  pub other : Accepted (fill v t)
+
+-- ---- "the same calls in the same order": a turn made in both rounds is the same call, or a change in each
+
+pub data Pair : Type 0 where
+  both : Call → Pair
+  each : (ℕ → ℕ) → (ℕ → ℕ) → Sheet → Sheet → Pair
+
+abbrev pub inOne : Pair → Turn
+inOne (both c) = call c
+inOne (each v w s t) = change (fill v s)
+
+abbrev pub inOther : Pair → Turn
+inOther (both c) = call c
+inOther (each v w s t) = change (fill w t)
+
+-- "with the same behaviours hidden": of those that both sheets have, that in force and the new one
+abbrev pub SameHidden : ℕ → Program → Program → Type 0
+SameHidden player p q = (i : ℕ) → i < size p → i < size q → maySee p player i ≡ maySee q player i
+
+-- either round makes the change: one that both refuse is under no condition
+abbrev pub EitherMakes : Turn → State → Turn → State → Type 0
+EitherMakes t x u y = (turn t x .reply ≡ carriedOver) ⊎ (turn u y .reply ≡ carriedOver)
+
+-- "M-107's rule for a player needs its condition of both sheets, with the same behaviours hidden": at each change that
+-- is made, the rounds being in these states
+abbrev pub ConditionAt : ℕ → Pair → State → State → Type 0
+ConditionAt player (both c) x y = Unit {0}
+ConditionAt player (each v w s t) x y = EitherMakes (change (fill v s)) x (change (fill w t)) y → Condition player v w s t × SameHidden player (inForce x) (fill v s)
+
+abbrev pub ConditionAll : ℕ → List Pair → State → State → Type 0
+ConditionAll player [] x y = Unit {0}
+ConditionAll player (c ∷ l) x y = ConditionAt player c x y × ConditionAll player l (turn (inOne c) x .after) (turn (inOther c) y .after)
+
 -- ---- "equal answers, refusals included"
 
 -- what a player gets of a call's answer: that to its own arrival or board reading, a step's as it is told to this
@@ -74,19 +119,31 @@ hears player (arrive e who) a = pick (eqb who player) (some a) none
 hears player step a = some (toldTo player a)
 hears player (board i who) a = pick (eqb who player) (some a) none
 
--- call by call, of a list of calls from a fresh round of p
-abbrev pub heard : ℕ → Program → List Call → List (Option Answer)
-heard player p cs = zipWith (hears player) cs (said p cs)
+abbrev pub asReply : Option Answer → Option Reply
+asReply none = none
+asReply (some a) = some (says a)
 
--- of the calls cs, from fresh rounds of p and q; and of the calls that leave a round as it is, made after them: a
--- preview of this player's, and the count of steps to idle
-pub record EqualAnswers (player : ℕ) (p q : Program) (cs : List Call) : Type 0 where
-  pub calls : heard player p cs ≡ heard player q cs
-  pub preview : (e i : ℕ) → previewed p (after p cs) e i player ≡ previewed q (after q cs) e i player
-  pub forecast : forecast p (after p cs) ≡ forecast q (after q cs)
+-- what a player gets of a reply: of a call's as above, of a change's all
+abbrev pub hearsOf : ℕ → Turn → Reply → Option Reply
+hearsOf player (call c) (says a) = asReply (hears player c a)
+hearsOf player (call c) carriedOver = some carriedOver
+hearsOf player (change q) r = some r
 
--- every player, every two such sheets, with the same parameters, and every list of calls
+abbrev pub heardOf : ℕ → List Turn → State → List (Option Reply)
+heardOf player ts s = zipWith (hearsOf player) ts (replies ts s)
+
+-- of the turns l, from fresh rounds of p and q; and of a preview of this player's and the count of steps to idle after
+-- them
+pub record EqualReplies (player : ℕ) (p q : Program) (l : List Pair) : Type 0 where
+  pub turns : heardOf player (map inOne l) (begun p) ≡ heardOf player (map inOther l) (begun q)
+  pub preview : (e i : ℕ)
+      → previewed (programAfter p (map inOne l)) (engineAfter p (map inOne l)) e i player
+      ≡ previewed (programAfter q (map inOther l)) (engineAfter q (map inOther l)) e i player
+  pub forecast : forecast (programAfter p (map inOne l)) (engineAfter p (map inOne l))
+      ≡ forecast (programAfter q (map inOther l)) (engineAfter q (map inOther l))
+
+-- every player, every two such sheets, and every list of calls and changes
 abbrev pub PlayersRule : Type 0
 PlayersRule =
-    (player : ℕ) (v : ℕ → ℕ) (s t : Sheet) → AlikeBut player s t → Sealed (fill v s) player → Accepted (fill v s) → Accepted (fill v t)
-    → (cs : List Call) → EqualAnswers player (fill v s) (fill v t) cs
+    (player : ℕ) (v w : ℕ → ℕ) (s t : Sheet) → Condition player v w s t
+    → (l : List Pair) → ConditionAll player l (begun (fill v s)) (begun (fill w t)) → EqualReplies player (fill v s) (fill w t) l

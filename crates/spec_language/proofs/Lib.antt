@@ -2,3 +2,4 @@ pub mod Laws
 pub mod RowLaws
 pub mod SheetLaws
 pub mod RowNames
+pub mod Examples

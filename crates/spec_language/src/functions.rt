@@ -26,3 +26,5 @@ pub const EQUAL: u8 = 12;
 pub const UNEQUAL: u8 = 13;
 
 pub const IF: u8 = 14;
+// How much more than its word an application answers that ran over (02, M-104): 2 ^ 32.
+pub const OVER: u64 = 4294967296;

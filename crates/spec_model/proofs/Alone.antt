@@ -1,102 +1,119 @@
--- Demand 2, first sentence, of the model engine: in an idle engine, an event that is taken in and stepped alone to its
--- commit leaves the store of its meaning. By induction on the instructions left: nothing waits, so each step is the
--- next instruction.
-use Prim.Native.Nat.{ℕ, zero, suc, _+_, _-_, _≤_, _<_}
+-- From an idle round an event that is taken in and stepped alone to its commit leaves the store of its meaning under
+-- the program in force, and its commit is the history's next moment. Turns that are calls alone act as model's lists of
+-- calls do.
+use Prim.Native.Nat.{ℕ, zero, suc, _+_, _-_, _<_}
 use mathlib.Core.Bool.{Bool, true}
-use mathlib.Core.Path.{_≡_, refl, sym, ap, _∙_, subst}
-use mathlib.Core.List.{List, [], _∷_, _++_}
+use mathlib.Core.Path.{_≡_, refl, ap, _∙_}
+use mathlib.Core.List.{List, [], _∷_, _++_, map}
 use native.Mathlib.Omega.{arith}
-use native.Mathlib.Numerals.{add-one}
-use lib.ListN.{length, getD, drop, replicate, drop-of-length-le}
-use lib.Seq.{drop-cons}
-use borrow.Author.Tests.{lt-ltb, le-ltb, lt-leb}
+use lib.ListN.{length, replicate}
+use Rattle.lib_base.specs.Basics.{All}
 use Rattle.spec_language.specs.Syntax.{Program}
+use Rattle.spec_language.specs.Accepted.{Valid}
 use Rattle.spec_language.specs.Dependence.{size, events}
 use Rattle.spec_language.specs.Rights.{maySend}
-use Rattle.spec_language.specs.Code.{Instr, off, code}
+use Rattle.spec_language.specs.Code.{code}
 use Rattle.spec_semantics.specs.Meaning.{event}
-use Rattle.spec_execution.specs.Execution.{Values, execute, executeAll, emptied}
-use Rattle.spec_execution.specs.CodeFacts.{CodeFacts}
-use Rattle.spec_model.specs.Model.{Arrival, arrival, rest, busy, engine, arrive, step, Answer, takenIn, ran, started, committed, Outcome, outcome, act, run, answers}
-use Rattle.spec_model.specs.Claims.{aloneCalls}
+use Rattle.spec_execution.specs.Execution.{Values, executeAll, emptied}
+use Rattle.spec_execution.proofs.CodeRight.{code-facts}
+use Rattle.spec_model.specs.Model.{Arrival, arrival, rest, busy, Engine, engine, Call, Answer, refused, takenIn, shows, idle, ran, started, preempted, committed, act, run, Turn, call, change, State, state, Reply, says, carriedOver, turn, runTurns, replies, begun}
+use Rattle.spec_model.specs.Claims.{committedBy, storeOf, aloneCalls, Moment, commits, ifCommits, momentOf, moments, inForce, numberIn, storeIn, IdleIn, after, historyOf, Sound, AloneRight}
+use Rattle.spec_model.proofs.Calls.{answers}
+use Rattle.spec_model.proofs.Once.{idle-empty}
+use Rattle.spec_model.proofs.OneEvent.{alone}
+use Rattle.spec_model.proofs.History.{runs-append, Fit, fits}
 
-module _ (p : Program) where
-  -- one instruction that is not the last, and the last
-  step-ran : (t : ℕ) (a : Arrival) (c : ℕ) (d : Values) → c + 1 < length (code p (a .event))
-      → (act p step (engine t [] (busy a c) d) .answer ≡ ran) × (act p step (engine t [] (busy a c) d) .after ≡ engine t [] (busy a (c + 1)) (execute (getD (code p (a .event)) c off) d))
-  unfolding act
-  step-ran t a c d h = rw (lt-ltb (c + 1) (length (code p (a .event))) h) (refl, refl)
+-- ---- the history of two lists one after the other
 
-  step-last : (t : ℕ) (a : Arrival) (c : ℕ) (d : Values) → length (code p (a .event)) ≤ c + 1
-      → (act p step (engine t [] (busy a c) d) .answer ≡ committed a (execute (getD (code p (a .event)) c off) d .mark)) × (act p step (engine t [] (busy a c) d) .after ≡ engine t [] rest (execute (getD (code p (a .event)) c off) d))
-  unfolding act
-  step-last t a c d h = rw (le-ltb (c + 1) (length (code p (a .event))) h) (refl, refl)
+if-append : (x : Answer) (h k : List Moment) → ifCommits x (h ++ k) ≡ ifCommits x h ++ k
+if-append (refused n) h k = refl
+if-append takenIn h k = refl
+if-append (shows v) h k = refl
+if-append idle h k = refl
+if-append ran h k = refl
+if-append (started a) h k = refl
+if-append (preempted a) h k = refl
+if-append (committed a m) h k = refl
 
-  module _ (t : ℕ) (a : Arrival) where
-    abbrev is : List Instr
-    is = code p (a .event)
+moment-append : (t : Turn) (r : Reply) (h k : List Moment) → momentOf t r (h ++ k) ≡ momentOf t r h ++ k
+moment-append (call c) (says x) h k = if-append x h k
+moment-append (call c) carriedOver h k = refl
+moment-append (change q) (says x) h k = refl
+moment-append (change q) carriedOver h k = refl
 
-    rest-of : (c : ℕ) (d : Values) → c < length is → executeAll (drop c is) d ≡ executeAll (drop (c + 1) is) (execute (getD is c off) d)
-    unfolding executeAll
-    rest-of c d h = rw (add-one, drop-cons is c off)
+pub moments-append : (ts us : List Turn) (s : State) → moments (ts ++ us) (replies (ts ++ us) s) ≡ moments ts (replies ts s) ++ moments us (replies us (runTurns ts s))
+unfolding moments replies runTurns
+moments-append [] us s = refl
+moments-append (t ∷ ts) us s =
+    ap (momentOf t (turn t s .reply)) (moments-append ts us (turn t s .after))
+    ∙ moment-append t (turn t s .reply) (moments ts (replies ts (turn t s .after))) (moments us (replies us (runTurns ts (turn t s .after))))
 
-    -- k instructions and the last
-    finish : (k c : ℕ) (d : Values) → c + suc k ≡ length is
-        → (answers p (replicate (suc k) step) (engine t [] (busy a c) d) ≡ replicate k ran ++ (committed a (executeAll (drop c is) d .mark) ∷ []))
-        × (run p (replicate (suc k) step) (engine t [] (busy a c) d) ≡ engine t [] rest (executeAll (drop c is) d))
-    unfolding answers run executeAll
-    finish zero c d h =
-        let s = step-last t a c d (omega arith) in
-        let b : length is ≤ c + 1 = omega arith in
-        let z : drop (c + 1) is ≡ [] = drop-of-length-le is b in
-        (rw (s .0, rest-of c d (omega arith), z), rw (s .1, rest-of c d (omega arith), z))
-    finish (suc k) c d h =
-        let s = step-ran t a c d (omega arith) in
-        let ih = finish k (c + 1) (execute (getD is c off) d) (omega arith) in
-        (rw (s .0, s .1, ih .0, rest-of c d (omega arith)), ap (run p (replicate (suc k) step)) (s .1) ∙ ih .1 ∙ ap (engine t [] rest) (sym (rest-of c d (omega arith))))
+-- ---- calls alone
 
-  -- the answers to those calls, and the store after them
-  abbrev pub aloneAnswers : ℕ → ℕ → ℕ → Bool → List Answer
-  aloneAnswers t e who m = takenIn ∷ started (arrival t e who) ∷ (replicate (length (code p e) - 1) ran ++ (committed (arrival t e who) m ∷ []))
+pub calls-run : (cs : List Call) (p : Program) (w : Engine) → runTurns (map call cs) (state p w) ≡ state p (run p cs w)
+unfolding runTurns run turn
+calls-run [] p w = refl
+calls-run (c ∷ cs) p w = calls-run cs p (act p c w .after)
 
-  module _ (facts : CodeFacts p) (t e who : ℕ) (d : Values) (declared : e < events p) (eight : who < 8) (sends : maySend p who e ≡ true) (room : t < 1000000) (whole : length (d .store) ≡ size p) where
-    abbrev marked : Bool
-    marked = executeAll (code p e) (emptied (d .store)) .mark
+-- the commits that answers name
+abbrev named : List Answer → List Moment
+named [] = []
+named (x ∷ l) = ifCommits x (named l)
 
-    -- the arrival, the start, and k instructions and the last
-    taken-in : act p (arrive e who) (engine t [] rest d) ≡ outcome takenIn (engine (t + 1) (arrival t e who ∷ []) rest d)
-    unfolding act
-    taken-in = rw (lt-leb 8 who eight, lt-leb (events p) e declared, sends, lt-leb 1000000 t room)
+calls-moments : (cs : List Call) (p : Program) (w : Engine) → moments (map call cs) (replies (map call cs) (state p w)) ≡ named (answers p cs w)
+unfolding moments replies answers turn
+calls-moments [] p w = refl
+calls-moments (c ∷ cs) p w = ap (ifCommits (act p c w .answer)) (calls-moments cs p (act p c w .after))
 
-    starts : act p step (engine (t + 1) (arrival t e who ∷ []) rest d) ≡ outcome (started (arrival t e who)) (engine (t + 1) [] (busy (arrival t e who) 0) (emptied (d .store)))
-    unfolding act
-    starts = refl
+-- so the history of calls is their commits
+named-commits : (l : List Answer) → named l ≡ map commits (committedBy (named l))
+named-commits [] = refl
+named-commits (refused n ∷ l) = named-commits l
+named-commits (takenIn ∷ l) = named-commits l
+named-commits (shows v ∷ l) = named-commits l
+named-commits (idle ∷ l) = named-commits l
+named-commits (ran ∷ l) = named-commits l
+named-commits (started a ∷ l) = named-commits l
+named-commits (preempted a ∷ l) = named-commits l
+named-commits (committed a m ∷ l) = ap (λ (h : List Moment). commits a ∷ h) (named-commits l)
 
-    said-alone : (k : ℕ) → suc k ≡ length (code p e)
-        → answers p (arrive e who ∷ step ∷ replicate (suc k) step) (engine t [] rest d) ≡ takenIn ∷ started (arrival t e who) ∷ (replicate k ran ++ (committed (arrival t e who) marked ∷ []))
-    unfolding answers
-    said-alone k n =
-        let f = finish (t + 1) (arrival t e who) k 0 (emptied (d .store)) (omega arith) in
-        ap (λ (o : Outcome). o .answer ∷ answers p (step ∷ replicate (suc k) step) (o .after)) taken-in
-        ∙ ap (λ (o : Outcome). takenIn ∷ o .answer ∷ answers p (replicate (suc k) step) (o .after)) starts
-        ∙ ap (λ (l : List Answer). takenIn ∷ started (arrival t e who) ∷ l) (f .0)
+pub only-commits : (cs : List Call) (p : Program) (w : Engine)
+    → moments (map call cs) (replies (map call cs) (state p w)) ≡ map commits (committedBy (moments (map call cs) (replies (map call cs) (state p w))))
+only-commits cs p w = rw (calls-moments cs p w) (named-commits (answers p cs w))
 
-    run-alone : (k : ℕ) → suc k ≡ length (code p e)
-        → run p (arrive e who ∷ step ∷ replicate (suc k) step) (engine t [] rest d) ≡ engine (t + 1) [] rest (executeAll (code p e) (emptied (d .store)))
-    unfolding run
-    run-alone k n =
-        let f = finish (t + 1) (arrival t e who) k 0 (emptied (d .store)) (omega arith) in
-        ap (λ (o : Outcome). run p (step ∷ replicate (suc k) step) (o .after)) taken-in
-        ∙ ap (λ (o : Outcome). run p (replicate (suc k) step) (o .after)) starts
-        ∙ f .1
+named-ran : (k : ℕ) (a : Arrival) (m : Bool) → named (replicate k ran ++ (committed a m ∷ [])) ≡ commits a ∷ []
+named-ran zero a m = refl
+named-ran (suc k) a m = named-ran k a m
 
-    pub alone : (answers p (aloneCalls p e who) (engine t [] rest d) ≡ aloneAnswers t e who marked)
-        × (run p (aloneCalls p e who) (engine t [] rest d) ≡ engine (t + 1) [] rest (executeAll (code p e) (emptied (d .store))))
-        × (executeAll (code p e) (emptied (d .store)) .store ≡ event p e (d .store))
-    alone =
-        let k : ℕ = length (code p e) - 1 in
-        let n : suc k ≡ length (code p e) = omega (arith, facts .long e declared) in (
-          subst (λ (m : ℕ). answers p (arrive e who ∷ step ∷ replicate m step) (engine t [] rest d) ≡ aloneAnswers t e who marked) n (said-alone k n),
-          subst (λ (m : ℕ). run p (arrive e who ∷ step ∷ replicate m step) (engine t [] rest d) ≡ engine (t + 1) [] rest (executeAll (code p e) (emptied (d .store)))) n (run-alone k n),
-          facts .right e declared (d .store) whole,
-        )
+-- ---- from an idle state
+
+abbrev Alone : State → ℕ → ℕ → Type 0
+Alone s e who =
+    (moments (map call (aloneCalls (inForce s) e who)) (replies (map call (aloneCalls (inForce s) e who)) s) ≡ commits (arrival (numberIn s) e who) ∷ [])
+    × (storeIn (runTurns (map call (aloneCalls (inForce s) e who)) s) ≡ event (inForce s) e (storeIn s))
+
+at-idle : (p : Program) → Valid p → (t : ℕ) (d : Values) (e who : ℕ) → length (d .store) ≡ size p → e < events p → who < 8 → maySend p who e ≡ true → t < 1000000
+    → Alone (state p (engine t [] rest d)) e who
+at-idle p v t d e who n b eight sends room =
+    let k = alone p (code-facts p v) t e who d b eight sends room n in (
+      calls-moments (aloneCalls p e who) p (engine t [] rest d) ∙ ap named (k .0) ∙ named-ran (length (code p e) - 1) (arrival t e who) (executeAll (code p e) (emptied (d .store)) .mark),
+      ap storeIn (calls-run (aloneCalls p e who) p (engine t [] rest d)) ∙ ap storeOf (k .1) ∙ k .2,
+    )
+
+alone-here : (s : State) → Fit s → IdleIn s → (e who : ℕ) → e < events (inForce s) → who < 8 → maySend (inForce s) who e ≡ true → numberIn s < 1000000 → Alone s e who
+alone-here (state p (engine t [] rest d)) f h e who b eight sends room =
+    at-idle p (f .0) t d e who (ap length (f .1 .done) ∙ f .1 .sized) b eight sends room
+alone-here (state p (engine t (x ∷ l) rest d)) f h e who b eight sends room =
+    let z : _≡_ {A = ℕ} 1 0 = cc (idle-empty p (engine t (x ∷ l) rest d) h) in absurd (omega arith)
+alone-here (state p (engine t waiting (busy a c) d)) f h e who b eight sends room =
+    let z : _≡_ {A = ℕ} 1 0 = cc (idle-empty p (engine t waiting (busy a c) d) h) in absurd (omega arith)
+
+module _ (p : Program) (v : Valid p) where
+  pub alone-right : (ts : List Turn) → All Sound ts → AloneRight p ts
+  alone-right ts g h e who b eight sends room =
+      let s : State = after p ts in
+      let us : List Turn = map call (aloneCalls (inForce s) e who) in
+      let k : Alone s e who = alone-here s (fits p v ts g) h e who b eight sends room in (
+        moments-append ts us (begun p) ∙ ap (λ (l : List Moment). historyOf p ts ++ l) (k .0),
+        ap storeIn (runs-append ts us (begun p)) ∙ k .1,
+      )

@@ -1,52 +1,83 @@
--- Unless a copy-back is under way, the store is that of the committed events: the running one has done its first
--- instructions from that store, and they left it alone.
+-- Unless a copy-back is under way, the store is that of the history: each commit under its sheet, each change at its
+-- place. The running event has done its first instructions from that store and left it alone, so a change carries that
+-- store.
 use Prim.Native.Nat.{ℕ}
-use mathlib.Core.Path.{_≡_, refl, sym, subst}
-use mathlib.Core.List.{List, [], _∷_, _++_, map}
+use mathlib.Core.Bool.{false}
+use mathlib.Core.Path.{_≡_, refl, sym, ap, _∙_, subst}
+use mathlib.Core.List.{List, [], _∷_, _++_}
 use lib.ListN.{length}
+use Rattle.lib_base.specs.Basics.{All}
 use Rattle.spec_language.specs.Syntax.{Program}
+use Rattle.spec_language.specs.Accepted.{Valid}
 use Rattle.spec_language.specs.Dependence.{size}
-use Rattle.spec_semantics.specs.Meaning.{event, fresh, play}
+use Rattle.spec_semantics.specs.Meaning.{event, fresh}
 use Rattle.spec_semantics.proofs.Lengths.{length-fresh}
 use Rattle.spec_execution.specs.Execution.{emptied}
 use Rattle.spec_execution.specs.CodeFacts.{CodeFacts}
-use Rattle.spec_model.specs.Model.{Arrival, Engine, Call}
-use Rattle.spec_model.specs.Claims.{after, committedIn, BoardOfCommits}
-use Rattle.spec_model.proofs.Moves.{Effect, nothing, took, commit, Cases, cases-imp}
-use Rattle.spec_model.proofs.Reached.{DoneIn, onto, still, Computes, computes, reached}
-use Rattle.spec_model.proofs.History.{logged, Kept, always}
+use Rattle.spec_execution.proofs.CodeRight.{code-facts}
+use Rattle.spec_model.specs.Carried.{carried}
+use Rattle.spec_model.specs.Model.{Arrival, Engine, engine, Call, Turn, State, state, carriedTo}
+use Rattle.spec_model.specs.Claims.{settlingIn, storeOf, Moment, commits, changes, inForce, engineIn, storeIn, after, historyOf, Sound, replayed, BoardOfCommits}
+use Rattle.spec_model.proofs.Carries.{length-carried}
+use Rattle.spec_model.proofs.Moves.{Effect, nothing, took, commit, cases-imp}
+use Rattle.spec_model.proofs.Reached.{DoneIn, onto, still, Computes, computes}
+use Rattle.spec_model.proofs.History.{noted, Fit, fits, lastOf, Kept, Keeps, always}
 
-module _ (p : Program) where
-  -- the store of these commits
-  abbrev pub storeAfter : List Arrival → List ℕ
-  storeAfter log = play p (map (λ (a : Arrival). a .event) log) (fresh p)
+-- ---- a history with one more moment
 
-  pub play-append : (l : List Arrival) (a : Arrival) (s : List ℕ)
-      → play p (map (λ (x : Arrival). x .event) (l ++ (a ∷ []))) s ≡ event p (a .event) (play p (map (λ (x : Arrival). x .event) l) s)
-  unfolding play
-  play-append [] a s = refl
-  play-append (x ∷ l) a s = play-append l a (event p (x .event) s)
+pub replay-commit : (p : Program) (h : List Moment) (a : Arrival) (s : List ℕ)
+    → replayed p (h ++ (commits a ∷ [])) s ≡ event (lastOf p h) (a .event) (replayed p h s)
+unfolding replayed lastOf
+replay-commit p [] a s = refl
+replay-commit p (commits b ∷ h) a s = replay-commit p h a (event p (b .event) s)
+replay-commit p (changes q ∷ h) a s = replay-commit q h a (carried p q s)
 
-  logged-store : (x : Effect) (log : List Arrival) → onto p x (storeAfter log) ≡ storeAfter (logged x log)
-  logged-store nothing log = refl
-  logged-store (took a) log = refl
-  logged-store (commit a) log = sym (play-append log a (fresh p))
+replay-change : (p : Program) (h : List Moment) (q : Program) (s : List ℕ) → replayed p (h ++ (changes q ∷ [])) s ≡ carried (lastOf p h) q (replayed p h s)
+unfolding replayed lastOf
+replay-change p [] q s = refl
+replay-change p (commits b ∷ h) q s = replay-change p h q (event p (b .event) s)
+replay-change p (changes r ∷ h) q s = replay-change r h q (carried p r s)
 
-  -- the values are those of the running event's first instructions over the store of the commits
-  abbrev pub Stored : List Call → List Arrival → List Arrival → Engine → Type 0
-  Stored past log taken w = (length (storeAfter log) ≡ size p) × DoneIn p (storeAfter log) w
+module _ (p₀ : Program) where
+  abbrev pub storeAfter : List Moment → List ℕ
+  storeAfter h = replayed p₀ h (fresh p₀)
 
-  module _ (facts : CodeFacts p) where
-    keeps : (c : Call) (w : Engine) (x : Effect) (v : Engine) → Computes p facts c w x v → Kept p facts Stored c w x v
-    keeps c w x v h = λ r past log taken here i.
-        subst (λ (s : List ℕ). (length s ≡ size p) × DoneIn p s v) (logged-store x log) (h (r .fine) (storeAfter log) (i .0) (i .1))
+  noted-store : (x : Effect) (h : List Moment) (p : Program) → lastOf p₀ h ≡ p → onto p x (storeAfter h) ≡ storeAfter (noted x h)
+  noted-store nothing h p e = refl
+  noted-store (took a) h p e = refl
+  noted-store (commit a) h p e = ap (λ (q : Program). event q (a .event) (storeAfter h)) (sym e) ∙ sym (replay-commit p₀ h a (fresh p₀))
 
-    kept : Cases p (Kept p facts Stored)
-    kept = cases-imp p (Computes p facts) (Kept p facts Stored) keeps (computes p facts)
+  -- the values are those of the running event's first instructions over the store of the history
+  abbrev pub Stored : List Turn → List Moment → List Arrival → State → Type 0
+  Stored past h taken s = (length (storeAfter h) ≡ size (inForce s)) × DoneIn (inForce s) (storeAfter h) (engineIn s)
 
-    pub stored : (cs : List Call) → Stored cs (committedIn p cs) [] (after p cs)
-    unfolding play emptied
-    stored cs = always p facts Stored kept (length-fresh p, refl) cs
+  keeps-call : (p : Program) (facts : CodeFacts p) (c : Call) (w : Engine) (x : Effect) (v : Engine) → Computes p facts c w x v → Kept p₀ Stored p c w x v
+  keeps-call p facts c w x v h = λ r past k taken e here i.
+      subst (λ (s : List ℕ). (length s ≡ size p) × DoneIn p s v) (noted-store x k p e) (h (r .fine) (storeAfter k) (i .0) (i .1))
 
-    pub board-of-commits : (cs : List Call) → BoardOfCommits p cs
-    board-of-commits cs h = still p facts (storeAfter (committedIn p cs)) (after p cs) (stored cs .0) (reached p facts cs .fine) h (stored cs .1)
+  pub carried-done : (q p : Program) (w : Engine) (s : List ℕ) → storeOf w ≡ s → DoneIn q (carried p q s) (carriedTo p q w)
+  unfolding emptied
+  carried-done q p (engine t waiting r d) s e = ap (carried p q) e
+
+  keeps : Keeps p₀ Stored
+  keeps = record {
+    calls = λ p facts. cases-imp p (Computes p facts) (Kept p₀ Stored p) (keeps-call p facts) (computes p facts);
+    refuses = λ q past h taken s i. i;
+    carries = λ p q w v z r u f past h taken e i.
+        let s : storeOf w ≡ storeAfter h = still p (code-facts p v) (storeAfter h) w (i .0) (r .fine) u (i .1) in
+        let same : carried p q (storeAfter h) ≡ storeAfter (h ++ (changes q ∷ [])) =
+        ap (λ (x : Program). carried x q (storeAfter h)) (sym e) ∙ sym (replay-change p₀ h q (fresh p₀)) in
+        subst (λ (x : List ℕ). (length x ≡ size q) × DoneIn q x (carriedTo p q w)) same
+        (length-carried p q (storeAfter h), carried-done q p w (storeAfter h) s);
+  }
+
+  module _ (v : Valid p₀) where
+    pub stored : (ts : List Turn) → All Sound ts → Stored ts (historyOf p₀ ts) [] (after p₀ ts)
+    unfolding replayed emptied
+    stored ts g = always p₀ Stored keeps v (length-fresh p₀, refl) ts g
+
+    store-of : (s : State) (h : List Moment) → Fit s → Stored [] h [] s → settlingIn (inForce s) (engineIn s) ≡ false → storeIn s ≡ storeAfter h
+    store-of (state p w) h f i u = still p (code-facts p (f .0)) (storeAfter h) w (i .0) (f .1 .fine) u (i .1)
+
+    pub board-of-commits : (ts : List Turn) → All Sound ts → BoardOfCommits p₀ ts
+    board-of-commits ts g u = store-of (after p₀ ts) (historyOf p₀ ts) (fits p₀ v ts g) (stored ts g) u

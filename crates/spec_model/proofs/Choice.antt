@@ -4,8 +4,7 @@ use Prim.Native.Nat.{ℕ, suc, _≤_}
 use mathlib.Core.Bool.{Bool, true, false, true≢false, false≢true}
 use mathlib.Core.Path.{_≡_, refl, sym, ap, _∙_, subst}
 use mathlib.Core.Logic.{_≢_}
-use mathlib.Core.List.{List, [], _∷_, map, List·Mem, not-mem-nil, mem-of-ne-of-mem, mem-map-of-mem, List·Nodup, nodup-cons, rel-of-pairwise-cons, Perm·nodup}
-use mathlib.Core.List.{List·Permᴰ, List·Permᴰ·nil, List·Permᴰ·cons, List·Permᴰ·swap, List·Permᴰ·trans, Permᴰ·refl, Permᴰ·map, Permᴰ·symm}
+use mathlib.Core.List.{List, [], _∷_, map, List·Mem, not-mem-nil, mem-of-ne-of-mem, mem-map-of-mem, List·Nodup, nodup-cons, rel-of-pairwise-cons, Perm·nodup, List·Permᴰ, List·Permᴰ·nil, List·Permᴰ·cons, List·Permᴰ·swap, List·Permᴰ·trans, Permᴰ·refl, Permᴰ·map, Permᴰ·symm}
 use native.Mathlib.Omega.{arith}
 use lib.Dec.{ltb, eqb}
 use lib.ListN.{length}

@@ -1,138 +1,216 @@
--- What each move keeps, of an engine with its history, holds after every list of calls. The history is what the answers
--- say: the commits and the arrivals taken in. By induction on the calls still to come, those made being a parameter.
-use Prim.Native.Nat.{ℕ, suc, _+_, _≤_}
+-- What each turn keeps, of a state with its history, holds after every list of turns. A call makes one of model's moves
+-- under the program in force; a change is refused and leaves all as it is, or carries the engine to the new program. By
+-- induction on the turns still to come, those made being a parameter.
+use Prim.Native.Nat.{ℕ, _+_, _<_}
+use mathlib.Core.Bool.{true, false}
 use mathlib.Core.Path.{_≡_, refl, sym, ap, _∙_, subst}
 use mathlib.Core.List.{List, [], _∷_, _++_, append-assoc, append-nil}
-use native.Mathlib.Omega.{arith}
+use lib.Dec.{ltb}
+use borrow.Author.Tests.{ltb-true}
+use Rattle.lib_base.specs.Basics.{All}
+use Rattle.lib_base.proofs.Tools.{by-test, through}
 use Rattle.spec_language.specs.Syntax.{Program}
+use Rattle.spec_language.specs.Accepted.{Valid}
+use Rattle.spec_language.specs.Dependence.{events}
+use Rattle.spec_language.specs.Refusals as refusals
+use Rattle.spec_execution.specs.Execution.{emptied}
 use Rattle.spec_execution.specs.CodeFacts.{CodeFacts}
-use Rattle.spec_model.specs.Model.{Arrival, arrival, Engine, initial, Call, arrive, step, board, Answer, refused, takenIn, shows, idle, ran, started, preempted, committed, act, run, answers}
-use Rattle.spec_model.specs.Claims.{ifCommitted, commits, ifTaken, takenFrom, number, after, committedIn, takenInBy}
-use Rattle.spec_model.proofs.Moves.{Effect, nothing, took, commit, said-by, effect, Cases, act-by}
-use Rattle.spec_model.proofs.Reached.{Reached, act-keeps, initially}
+use Rattle.spec_execution.proofs.CodeRight.{code-facts}
+use Rattle.spec_model.specs.Carried.{carried}
+use Rattle.spec_model.specs.Model.{Arrival, Engine, engine, queue, Call, arrive, step, board, Answer, refused, takenIn, shows, idle, ran, started, preempted, committed, settling, act, Turn, call, change, State, state, Reply, says, carriedOver, TurnOutcome, turnOutcome, declaredIn, carriedTo, turn, runTurns, replies, begun}
+use Rattle.spec_model.specs.Claims.{number, inQueue, settlingIn, Moment, commits, changes, ifCommits, momentOf, moments, ifTakenIn, takenTurns, inForce, numberIn, after, historyOf, takenInBy, Sound}
+use Rattle.spec_model.proofs.Carries.{length-carried}
+use Rattle.spec_model.proofs.Moves.{Effect, nothing, took, commit, effect, Cases, act-by}
+use Rattle.spec_model.proofs.Reached.{Fine, Reached, act-keeps, initially}
+use Rattle.spec_model.proofs.Calls.{gathered, counted, taken-gathered, act-number}
 
--- commits, arrivals taken in and the number taken in, with an effect
-abbrev pub logged : Effect → List Arrival → List Arrival
-logged nothing l = l
-logged (took a) l = l
-logged (commit a) l = l ++ (a ∷ [])
+-- ---- the history with a turn
 
-abbrev pub gathered : Effect → List Arrival → List Arrival
-gathered nothing l = l
-gathered (took a) l = l ++ (a ∷ [])
-gathered (commit a) l = l
+abbrev pub noted : Effect → List Moment → List Moment
+noted nothing h = h
+noted (took a) h = h
+noted (commit a) h = h ++ (commits a ∷ [])
 
-abbrev pub counted : Effect → ℕ → ℕ
-counted nothing n = n
-counted (took a) n = n + 1
-counted (commit a) n = n
+abbrev pub logTurn : Turn → Reply → ℕ → List Moment → List Moment
+logTurn (call c) (says x) n h = noted (effect c x n) h
+logTurn (call c) carriedOver n h = h
+logTurn (change q) (says x) n h = h
+logTurn (change q) carriedOver n h = h ++ (changes q ∷ [])
 
-pub commits-logged : (c : Call) (x : Answer) (n : ℕ) (log l : List Arrival) → log ++ ifCommitted x l ≡ logged (effect c x n) log ++ l
-commits-logged c (refused k) n log l = refl
-commits-logged (arrive e who) takenIn n log l = refl
-commits-logged step takenIn n log l = refl
-commits-logged (board i who) takenIn n log l = refl
-commits-logged c (shows v) n log l = refl
-commits-logged c idle n log l = refl
-commits-logged c ran n log l = refl
-commits-logged c (started a) n log l = refl
-commits-logged c (preempted a) n log l = refl
-commits-logged c (committed a m) n log l = sym (append-assoc log (a ∷ []) l)
+abbrev pub takeTurn : Turn → Reply → ℕ → List Arrival → List Arrival
+takeTurn (call c) (says x) n l = gathered (effect c x n) l
+takeTurn (call c) carriedOver n l = l
+takeTurn (change q) r n l = l
 
--- with no newcomer
-none-gathered : (x : Answer) (n : ℕ) (taken : List Arrival) (l : ℕ → List Arrival)
-    → taken ++ l n ≡ gathered (said-by x nothing) taken ++ l (counted (said-by x nothing) n)
-none-gathered (refused k) n taken l = refl
-none-gathered takenIn n taken l = refl
-none-gathered (shows v) n taken l = refl
-none-gathered idle n taken l = refl
-none-gathered ran n taken l = refl
-none-gathered (started a) n taken l = refl
-none-gathered (preempted a) n taken l = refl
-none-gathered (committed a m) n taken l = refl
+abbrev pub countTurn : Turn → Reply → ℕ → ℕ
+countTurn (call c) (says x) n = counted (effect c x n) n
+countTurn (call c) carriedOver n = n
+countTurn (change q) r n = n
 
-pub taken-gathered : (c : Call) (x : Answer) (n : ℕ) (taken : List Arrival) (l : ℕ → List Arrival)
-    → taken ++ ifTaken c x n l ≡ gathered (effect c x n) taken ++ l (counted (effect c x n) n)
-taken-gathered (arrive e who) (refused k) n taken l = refl
-taken-gathered (arrive e who) takenIn n taken l =
-    let s : suc n ≡ n + 1 = omega arith in
-    sym (append-assoc taken (arrival n e who ∷ []) (l (suc n))) ∙ ap (λ (k : ℕ). (taken ++ (arrival n e who ∷ [])) ++ l k) s
-taken-gathered (arrive e who) (shows v) n taken l = refl
-taken-gathered (arrive e who) idle n taken l = refl
-taken-gathered (arrive e who) ran n taken l = refl
-taken-gathered (arrive e who) (started a) n taken l = refl
-taken-gathered (arrive e who) (preempted a) n taken l = refl
-taken-gathered (arrive e who) (committed a m) n taken l = refl
-taken-gathered step x n taken l = none-gathered x n taken l
-taken-gathered (board i who) x n taken l = none-gathered x n taken l
+commits-noted : (c : Call) (x : Answer) (n : ℕ) (h l : List Moment) → h ++ ifCommits x l ≡ noted (effect c x n) h ++ l
+commits-noted c (refused k) n h l = refl
+commits-noted (arrive e who) takenIn n h l = refl
+commits-noted step takenIn n h l = refl
+commits-noted (board i who) takenIn n h l = refl
+commits-noted c (shows v) n h l = refl
+commits-noted c idle n h l = refl
+commits-noted c ran n h l = refl
+commits-noted c (started a) n h l = refl
+commits-noted c (preempted a) n h l = refl
+commits-noted c (committed a m) n h l = sym (append-assoc h (commits a ∷ []) l)
 
-pub run-append : (p : Program) (cs ds : List Call) (w : Engine) → run p (cs ++ ds) w ≡ run p ds (run p cs w)
-unfolding run
-run-append p [] ds w = refl
-run-append p (c ∷ cs) ds w = run-append p cs ds (act p c w .after)
+log-turn : (t : Turn) (r : Reply) (n : ℕ) (h l : List Moment) → h ++ momentOf t r l ≡ logTurn t r n h ++ l
+log-turn (call c) (says x) n h l = commits-noted c x n h l
+log-turn (call c) carriedOver n h l = refl
+log-turn (change q) (says x) n h l = refl
+log-turn (change q) carriedOver n h l = sym (append-assoc h (changes q ∷ []) l)
 
--- ---- the number taken in
+take-turn : (t : Turn) (r : Reply) (n : ℕ) (taken : List Arrival) (l : ℕ → List Arrival) → taken ++ ifTakenIn t r n l ≡ takeTurn t r n taken ++ l (countTurn t r n)
+take-turn (call c) (says x) n taken l = taken-gathered c x n taken l
+take-turn (call c) carriedOver n taken l = refl
+take-turn (change q) r n taken l = refl
 
-module _ (p : Program) where
-  abbrev Counts : Call → Engine → Effect → Engine → Type 0
-  Counts c w x v = number v ≡ counted x (number w)
+pub runs-append : (ts us : List Turn) (s : State) → runTurns (ts ++ us) s ≡ runTurns us (runTurns ts s)
+unfolding runTurns
+runs-append [] us s = refl
+runs-append (t ∷ ts) us s = runs-append ts us (turn t s .after)
 
-  counts : Cases p Counts
-  counts = record {
-    refuses = λ e who w. refl;
-    takes = λ e who t waiting r d k eight m n. refl;
-    reads = λ i who w. refl;
-    idles = λ t d. refl;
-    starts = λ t b l d. refl;
-    preempts = λ t b l a n d u o. refl;
-    runs = λ t waiting a n d k u. refl;
-    commits = λ t waiting a n d k u. refl;
-  }
+-- ---- what the tests of a change say
 
-  pub act-number : (c : Call) (w : Engine) → number (act p c w .after) ≡ counted (effect c (act p c w .answer) (number w)) (number w)
-  act-number c w = act-by p Counts counts c w
+pub all-declared : (q : Program) (l : List Arrival) → declaredIn q l ≡ true → All (λ a. a .event < events q) l
+all-declared q [] h = tt
+all-declared q (a ∷ l) h = let k = through (ltb (a .event) (events q)) (declaredIn q l) h in (ltb-true _ _ (k .0), all-declared q l (k .1))
 
-  counted-more : (x : Effect) (n : ℕ) → n ≤ counted x n
-  counted-more nothing n = omega arith
-  counted-more (took a) n = omega arith
-  counted-more (commit a) n = omega arith
+pub change-by : (p q : Program) (w : Engine) (P : TurnOutcome → Type 0) → ((x : Answer) → P (turnOutcome (says x) (state p w)))
+    → (settlingIn p w ≡ false → All (λ a. a .event < events q) (inQueue w) → P (turnOutcome carriedOver (state q (carriedTo p q w))))
+    → P (turn (change q) (state p w))
+unfolding turn
+change-by p q (engine t waiting r d) P refuse carry =
+    by-test P (settling p r) (λ _. refuse (refused refusals.settling))
+    (λ u. by-test P (declaredIn q (queue waiting r)) (λ e. carry u (all-declared q (queue waiting r) e)) (λ _. refuse (refused refusals.undeclaredInHand)))
 
-  pub act-grows : (c : Call) (w : Engine) → number w ≤ number (act p c w .after)
-  act-grows c w = rw (act-number c w) (counted-more (effect c (act p c w .answer) (number w)) (number w))
+number-carried : (p q : Program) (w : Engine) → number (carriedTo p q w) ≡ number w
+number-carried p q (engine t waiting r d) = refl
 
-  pub run-grows : (cs : List Call) (w : Engine) → number w ≤ number (run p cs w)
-  unfolding run
-  run-grows [] w = omega arith
-  run-grows (c ∷ cs) w = omega (arith, act-grows c w, run-grows cs (act p c w .after))
+pub number-turn : (t : Turn) (s : State) → numberIn (turn t s .after) ≡ countTurn t (turn t s .reply) (numberIn s)
+unfolding turn
+number-turn (call c) (state p w) = act-number p c w
+number-turn (change q) (state p w) =
+    change-by p q w (λ (o : TurnOutcome). numberIn (o .after) ≡ number w) (λ x. refl) (λ u f. number-carried p q w)
 
--- ---- what each move keeps always holds
+-- ---- a valid program in force, and an engine that it reaches
 
-module _ (p : Program) (facts : CodeFacts p) (Inv : List Call → List Arrival → List Arrival → Engine → Type 0) where
-  -- of the calls made, the commits, the arrivals taken in and the engine
-  abbrev pub Kept : Call → Engine → Effect → Engine → Type 0
-  Kept c w x v =
-      Reached p w → (past : List Call) (log taken : List Arrival) → after p (past ++ (c ∷ [])) ≡ v → Inv past log taken w
-      → Inv (past ++ (c ∷ [])) (logged x log) (gathered x taken) v
+abbrev pub Fit : State → Type 0
+Fit (state p w) = Valid p × Reached p w
 
-  along : {cs ds : List Call} {l m q r : List Arrival} {w : Engine} → cs ≡ ds → l ≡ m → q ≡ r → Inv cs l q w → Inv ds m r w
-  along {cs} {ds} {l} {m} {q} {r} {w} a b c i =
-      subst (λ (x : List Call). Inv x m r w) a (subst (λ (x : List Arrival). Inv cs x r w) b (subst (λ (x : List Arrival). Inv cs l x w) c i))
+redeclared : (p q : Program) (t : ℕ) (l : List Arrival) → All (Fine p t) l → All (λ a. a .event < events q) l → All (Fine q t) l
+redeclared p q t [] f h = tt
+redeclared p q t (a ∷ l) f h = ((f .0 .0, h .0, f .0 .2), redeclared p q t l (f .1) (h .1))
 
-  module _ (kept : Cases p Kept) where
-    go : (cs past : List Call) (log taken : List Arrival) (w : Engine) → after p past ≡ w → Reached p w → Inv past log taken w
-        → Inv (past ++ cs) (log ++ commits (answers p cs w)) (taken ++ takenFrom cs (answers p cs w) (number w)) (run p cs w)
-    unfolding run answers commits takenFrom
-    go [] past log taken w h r i = rw (append-nil past, append-nil log, append-nil taken) i
-    go (c ∷ cs) past log taken w h r i =
-        let x : Effect = effect c (act p c w .answer) (number w) in
-        let v : Engine = act p c w .after in
-        let m : List Answer = answers p cs v in
-        let here : after p (past ++ (c ∷ [])) ≡ v = run-append p past (c ∷ []) (initial p) ∙ ap (λ (u : Engine). act p c u .after) h in
-        let j : Inv (past ++ (c ∷ [])) (logged x log) (gathered x taken) v = act-by p Kept kept c w r past log taken here i in
-        let k = go cs (past ++ (c ∷ [])) (logged x log) (gathered x taken) v here (act-keeps p facts c w r) j in
-        along (append-assoc past (c ∷ []) cs) (sym (commits-logged c (act p c w .answer) (number w) log (commits m)))
-        (ap (λ (n : ℕ). gathered x taken ++ takenFrom cs m n) (act-number p c w) ∙ sym (taken-gathered c (act p c w .answer) (number w) taken (takenFrom cs m))) k
+pub reached-carried : (p q : Program) (w : Engine) → Reached p w → All (λ a. a .event < events q) (inQueue w) → Reached q (carriedTo p q w)
+unfolding emptied
+reached-carried p q (engine t waiting r d) h f = record {
+  fine = redeclared p q t (queue waiting r) (h .fine) f;
+  distinct = h .distinct;
+  few = h .few;
+  bounded = h .bounded;
+  from = carried p q (d .store);
+  sized = length-carried p q (d .store);
+  done = refl;
+}
 
-    pub always : Inv [] [] [] (initial p) → (cs : List Call) → Inv cs (committedIn p cs) (takenInBy p cs) (after p cs)
-    unfolding run
-    always i cs = go cs [] [] [] (initial p) refl (initially p facts) i
+pub turn-fits : (t : Turn) (s : State) → Sound t → Fit s → Fit (turn t s .after)
+unfolding turn
+turn-fits (call c) (state p w) g h = (h .0, act-keeps p (code-facts p (h .0)) c w (h .1))
+turn-fits (change q) (state p w) g h =
+    change-by p q w (λ (o : TurnOutcome). Fit (o .after)) (λ x. h) (λ u f. (g, reached-carried p q w (h .1) f))
+
+pub runs-fit : (ts : List Turn) (s : State) → All Sound ts → Fit s → Fit (runTurns ts s)
+unfolding runTurns
+runs-fit [] s g h = h
+runs-fit (t ∷ ts) s g h = runs-fit ts (turn t s .after) (g .1) (turn-fits t s (g .0) h)
+
+pub begun-fits : (p : Program) → Valid p → Fit (begun p)
+begun-fits p v = (v, initially p (code-facts p v))
+
+pub fits : (p : Program) → Valid p → (ts : List Turn) → All Sound ts → Fit (after p ts)
+fits p v ts g = runs-fit ts (begun p) g (begun-fits p v)
+
+-- ---- the program in force at the end of a history
+
+unfoldable pub lastOf : Program → List Moment → Program
+lastOf p [] = p
+lastOf p (commits a ∷ h) = lastOf p h
+lastOf p (changes q ∷ h) = lastOf q h
+
+pub last-commits : (p : Program) (h : List Moment) (a : Arrival) → lastOf p (h ++ (commits a ∷ [])) ≡ lastOf p h
+unfolding lastOf
+last-commits p [] a = refl
+last-commits p (commits b ∷ h) a = last-commits p h a
+last-commits p (changes q ∷ h) a = last-commits q h a
+
+last-changes : (p : Program) (h : List Moment) (q : Program) → lastOf p (h ++ (changes q ∷ [])) ≡ q
+unfolding lastOf
+last-changes p [] q = refl
+last-changes p (commits b ∷ h) q = last-changes p h q
+last-changes p (changes r ∷ h) q = last-changes r h q
+
+last-noted : (p : Program) (x : Effect) (h : List Moment) → lastOf p (noted x h) ≡ lastOf p h
+last-noted p nothing h = refl
+last-noted p (took a) h = refl
+last-noted p (commit a) h = last-commits p h a
+
+-- ---- what each turn keeps always holds
+
+module _ (p₀ : Program) (Inv : List Turn → List Moment → List Arrival → State → Type 0) where
+  -- of a call under p: the turns made, their history, the arrivals taken in and the state
+  abbrev pub Kept : Program → Call → Engine → Effect → Engine → Type 0
+  Kept p c w x v =
+      Reached p w → (past : List Turn) (h : List Moment) (taken : List Arrival) → lastOf p₀ h ≡ p → after p₀ (past ++ (call c ∷ [])) ≡ state p v
+      → Inv past h taken (state p w) → Inv (past ++ (call c ∷ [])) (noted x h) (gathered x taken) (state p v)
+
+  pub record Keeps : Type 0 where
+    pub calls : (p : Program) → CodeFacts p → Cases p (Kept p)
+    pub refuses : (q : Program) (past : List Turn) (h : List Moment) (taken : List Arrival) (s : State) → Inv past h taken s → Inv (past ++ (change q ∷ [])) h taken s
+    pub carries : (p q : Program) (w : Engine) → Valid p → Valid q → Reached p w → settlingIn p w ≡ false → All (λ a. a .event < events q) (inQueue w)
+        → (past : List Turn) (h : List Moment) (taken : List Arrival) → lastOf p₀ h ≡ p → Inv past h taken (state p w)
+        → Inv (past ++ (change q ∷ [])) (h ++ (changes q ∷ [])) taken (state q (carriedTo p q w))
+
+  module _ (keeps : Keeps) where
+    abbrev Holds : List Turn → List Moment → List Arrival → State → Type 0
+    Holds past h taken s = (lastOf p₀ h ≡ inForce s) × Inv past h taken s
+
+    kept-turn : (t : Turn) (s : State) → Sound t → Fit s → (past : List Turn) (h : List Moment) (taken : List Arrival)
+        → after p₀ (past ++ (t ∷ [])) ≡ turn t s .after → Holds past h taken s
+        → Holds (past ++ (t ∷ [])) (logTurn t (turn t s .reply) (numberIn s) h) (takeTurn t (turn t s .reply) (numberIn s) taken) (turn t s .after)
+    unfolding turn
+    kept-turn (call c) (state p w) g f past h taken here i = (
+      last-noted p₀ (effect c (act p c w .answer) (number w)) h ∙ i .0,
+      act-by p (Kept p) (keeps .calls p (code-facts p (f .0))) c w (f .1) past h taken (i .0) here (i .1),
+    )
+    kept-turn (change q) (state p w) g f past h taken here i =
+        change-by p q w (λ (o : TurnOutcome). Holds (past ++ (change q ∷ [])) (logTurn (change q) (o .reply) (number w) h) (takeTurn (change q) (o .reply) (number w) taken) (o .after))
+        (λ x. (i .0, keeps .refuses q past h taken (state p w) (i .1)))
+        (λ u d. (last-changes p₀ h q, keeps .carries p q w (f .0) g (f .1) u d past h taken (i .0) (i .1)))
+
+    along : {ts us : List Turn} {h k : List Moment} {l m : List Arrival} {s : State} → ts ≡ us → h ≡ k → l ≡ m → Inv ts h l s → Inv us k m s
+    along {ts} {us} {h} {k} {l} {m} {s} a b c i =
+        subst (λ (x : List Turn). Inv x k m s) a (subst (λ (x : List Moment). Inv ts x m s) b (subst (λ (x : List Arrival). Inv ts h x s) c i))
+
+    go : (ts past : List Turn) (h : List Moment) (taken : List Arrival) (s : State) → after p₀ past ≡ s → All Sound ts → Fit s → Holds past h taken s
+        → Inv (past ++ ts) (h ++ moments ts (replies ts s)) (taken ++ takenTurns ts (replies ts s) (numberIn s)) (runTurns ts s)
+    unfolding runTurns replies moments takenTurns
+    go [] past h taken s e g f i = rw (append-nil past, append-nil h, append-nil taken) (i .1)
+    go (t ∷ ts) past h taken s e g f i =
+        let v : State = turn t s .after in
+        let r : Reply = turn t s .reply in
+        let l : List Reply = replies ts v in
+        let here : after p₀ (past ++ (t ∷ [])) ≡ v = runs-append past (t ∷ []) (begun p₀) ∙ ap (λ (u : State). turn t u .after) e in
+        let k = go ts (past ++ (t ∷ [])) (logTurn t r (numberIn s) h) (takeTurn t r (numberIn s) taken) v here (g .1) (turn-fits t s (g .0) f)
+        (kept-turn t s (g .0) f past h taken here i) in
+        along (append-assoc past (t ∷ []) ts) (sym (log-turn t r (numberIn s) h (moments ts l)))
+        (ap (λ (n : ℕ). takeTurn t r (numberIn s) taken ++ takenTurns ts l n) (number-turn t s) ∙ sym (take-turn t r (numberIn s) taken (takenTurns ts l))) k
+
+    pub always : Valid p₀ → Inv [] [] [] (begun p₀) → (ts : List Turn) → All Sound ts → Inv ts (historyOf p₀ ts) (takenInBy p₀ ts) (after p₀ ts)
+    unfolding runTurns lastOf
+    always v i ts g = go ts [] [] [] (begun p₀) refl g (begun-fits p₀ v) (refl, i)

@@ -15,10 +15,8 @@ use Rattle.spec_language.specs.Code.{off, code}
 use Rattle.spec_semantics.specs.OverMeaning.{eventOver}
 use Rattle.spec_execution.specs.Execution.{Values, execute, emptied}
 use Rattle.spec_execution.specs.CodeFacts.{CodeFacts}
-use Rattle.spec_model.specs.Model.{Arrival, rest, busy, Engine, engine, Call, step, Answer, refused, takenIn, shows, idle, ran, started, preempted, committed, Outcome, rank, masked, choose, advance, act}
-use Rattle.spec_model.specs.Claims.{committedIn, after, MarkRight}
-use Rattle.spec_model.proofs.Reached.{Done, DoneIn, Reached, executed-next, reached}
-use Rattle.spec_model.proofs.Boards.{storeAfter, stored}
+use Rattle.spec_model.specs.Model.{Arrival, rest, busy, Engine, engine, step, Answer, refused, takenIn, shows, idle, ran, started, preempted, committed, Outcome, rank, masked, choose, advance, act}
+use Rattle.spec_model.proofs.Reached.{Done, DoneIn, Reached, executed-next}
 
 -- the event and the mark of a commit; what is not one has none
 abbrev commits : Answer → Bool
@@ -63,9 +61,3 @@ module _ (p : Program) (facts : CodeFacts p) (s : List ℕ) (sized : length s �
       by-test (λ (o : Outcome). Right (o .answer)) (masked p a c) (λ _. advance-right t (b ∷ l) a c d (r .fine .0 .1) q)
       (λ _. by-test (λ (o : Outcome). Right (o .answer)) (ltb (rank p a) (rank p (choose p b l .next))) (λ _. other (preempted (choose p b l .next)) refl)
       (λ _. advance-right t (b ∷ l) a c d (r .fine .0 .1) q))
-
-module _ (p : Program) (facts : CodeFacts p) where
-  pub mark-right : (cs : List Call) → MarkRight p cs
-  mark-right cs =
-      let s = storeAfter p (committedIn p cs) in
-      step-right p facts s (stored p facts cs .0) (after p cs) (reached p facts cs) (stored p facts cs .1)

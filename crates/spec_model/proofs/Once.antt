@@ -1,27 +1,28 @@
--- Each arrival taken in is committed once or is in the queue: taken in are the committed and those in the queue, up to
--- order, and each move keeps that.
+-- Each arrival taken in is committed once or is in the hand, whatever changes are made: taken in are the committed and
+-- those in hand, up to order, and each turn keeps that.
 use Prim.Native.Nat.{ℕ, _+_, _<_}
-use mathlib.Core.Bool.{true, false, true≢false}
 use mathlib.Core.Path.{_≡_, refl}
 use mathlib.Core.Logic.{_≢_}
-use mathlib.Core.List.{List, [], _∷_, _++_, append-assoc, append-nil, List·Nodup, Pairwise·nil}
-use mathlib.Core.List.{List·Permᴰ, List·Permᴰ·nil, List·Permᴰ·cons, List·Permᴰ·swap, List·Permᴰ·trans, Permᴰ·refl, Permᴰ·symm, Permᴰ·append-left, Permᴰ·middle, Permᴰ·append-nil}
+use mathlib.Core.List.{List, [], _∷_, _++_, append-assoc, append-nil, List·Nodup, Pairwise·nil, List·Permᴰ, List·Permᴰ·nil, List·Permᴰ·cons, List·Permᴰ·trans, Permᴰ·symm, Permᴰ·append-left, Permᴰ·middle, List·Permᴰ·swap, Permᴰ·refl, Permᴰ·append-nil}
+use mathlib.Core.Bool.{true, false, true≢false}
 use native.Mathlib.Omega.{arith}
 use lib.Dec.{ltb}
 use lib.ListN.{length}
 use Rattle.lib_base.specs.Basics.{All}
-use Rattle.lib_base.proofs.Tools.{by-test, all-perm, all-imp}
+use Rattle.lib_base.proofs.Tools.{all-perm, all-imp, by-test}
 use Rattle.spec_language.specs.Syntax.{Program}
-use Rattle.spec_language.specs.Dependence.{events}
+use Rattle.spec_language.specs.Accepted.{Valid}
 use Rattle.spec_language.specs.Code.{code}
-use Rattle.spec_execution.specs.Execution.{Values}
 use Rattle.spec_execution.specs.CodeFacts.{CodeFacts}
-use Rattle.spec_model.specs.Model.{Arrival, arrival, Running, rest, busy, Engine, engine, queue, Call, idle, Outcome, Chosen, rank, masked, advance, contest, choose, act}
-use Rattle.spec_model.specs.Claims.{number, inQueue, after, committedIn, takenInBy, Idle, OnceEach}
+use Rattle.spec_execution.specs.Execution.{Values}
+use Rattle.spec_model.specs.Model.{Arrival, arrival, Running, Engine, engine, queue, Turn, State, state, carriedTo, rest, busy, idle, Outcome, Chosen, rank, masked, advance, contest, choose, act}
+use Rattle.spec_model.specs.Claims.{number, inQueue, Moment, commits, changes, committedBy, numberIn, handIn, after, historyOf, takenInBy, IdleIn, Sound, OnceEach, Idle}
 use Rattle.spec_model.proofs.Choice.{numbers, distinct-numbers, new-number, choose-perm}
 use Rattle.spec_model.proofs.Moves.{Cases}
-use Rattle.spec_model.proofs.Reached.{Fine, back-perm}
-use Rattle.spec_model.proofs.History.{Kept, always}
+use Rattle.spec_model.proofs.Reached.{back-perm}
+use Rattle.spec_model.proofs.History.{Kept, Keeps, always}
+
+-- ---- the queue, which is the hand
 
 pub snoc-perm : (l : List Arrival) (a : Arrival) → List·Permᴰ (a ∷ l) (l ++ (a ∷ []))
 snoc-perm l a = Permᴰ·symm (List·Permᴰ·trans (Permᴰ·middle a l []) (List·Permᴰ·cons refl (Permᴰ·append-nil l)))
@@ -32,27 +33,6 @@ joins a waiting rest = Permᴰ·refl (a ∷ waiting)
 joins a waiting (busy b c) = List·Permᴰ·swap refl refl
 
 module _ (p : Program) where
-  abbrev pub Once : List Call → List Arrival → List Arrival → Engine → Type 0
-  Once past log taken w = List·Permᴰ taken (log ++ inQueue w) × All (Fine p (number w)) taken × List·Nodup (numbers taken)
-
-  moved : (log taken : List Arrival) {q r : List Arrival} → List·Permᴰ q r → List·Permᴰ taken (log ++ q) → List·Permᴰ taken (log ++ r)
-  moved log taken d h = List·Permᴰ·trans h (Permᴰ·append-left log d)
-
-  takes-once : (e who t : ℕ) (waiting : List Arrival) (r : Running) (log taken : List Arrival) → e < events p → who < 8
-      → List·Permᴰ taken (log ++ queue waiting r) × All (Fine p t) taken × List·Nodup (numbers taken)
-      → List·Permᴰ (taken ++ (arrival t e who ∷ [])) (log ++ queue (arrival t e who ∷ waiting) r) × All (Fine p (t + 1)) (taken ++ (arrival t e who ∷ []))
-      × List·Nodup (numbers (taken ++ (arrival t e who ∷ [])))
-  takes-once e who t waiting r log taken k eight h =
-      let a : Arrival = arrival t e who in
-      let d : List·Permᴰ (a ∷ taken) (log ++ queue (a ∷ waiting) r) =
-      List·Permᴰ·trans (List·Permᴰ·cons refl (h .0))
-      (List·Permᴰ·trans (Permᴰ·symm (Permᴰ·middle a log (queue waiting r))) (Permᴰ·append-left log (joins a waiting r))) in
-      let f : All (Fine p (t + 1)) (a ∷ taken) = ((omega arith, k, eight), all-imp (Fine p t) (Fine p (t + 1)) (λ x y. (omega arith, y .1, y .2)) taken (h .1)) in
-      let g : List·Nodup (numbers (a ∷ taken)) =
-      new-number t taken (all-imp (Fine p t) (λ x. t ≢ x .number) (λ x y. omega arith) taken (h .1)) (h .2) in
-      let m : List·Permᴰ (a ∷ taken) (taken ++ (a ∷ [])) = snoc-perm taken a in
-      (List·Permᴰ·trans (Permᴰ·symm m) d, all-perm (Fine p (t + 1)) m f, distinct-numbers m g)
-
   -- ---- idle: nothing is in the queue
 
   abbrev Works : Outcome → Type 0
@@ -73,23 +53,72 @@ module _ (p : Program) where
   idle-empty (engine t [] (busy a c) d) h = absurd (true≢false (advance-works t [] a c d h))
   idle-empty (engine t (b ∷ l) (busy a c) d) h = absurd (true≢false (contest-works t (b ∷ l) (choose p b l) a c d h))
 
-  -- ---- histories
+-- ---- histories
 
-  module _ (facts : CodeFacts p) where
-    kept : Cases p (Kept p facts Once)
-    kept = record {
-      refuses = λ e who w r past log taken here i. i;
-      takes = λ e who t waiting r d k eight m n reach past log taken here i. takes-once e who t waiting r log taken k eight i;
-      reads = λ j who w r past log taken here i. i;
-      idles = λ t d r past log taken here i. i;
-      starts = λ t b l d r past log taken here i. (moved log taken (choose-perm p b l) (i .0), i .1, i .2);
-      preempts = λ t b l a n d u o r past log taken here i. (moved log taken (back-perm p a b l) (i .0), i .1, i .2);
-      runs = λ t waiting a n d k u r past log taken here i. i;
-      commits = λ t waiting a n d k u r past log taken here i. (rw (append-assoc log (a ∷ []) waiting) (i .0), i .1, i .2);
-    }
+pub committed-commit : (h : List Moment) (a : Arrival) → committedBy (h ++ (commits a ∷ [])) ≡ committedBy h ++ (a ∷ [])
+committed-commit [] a = refl
+committed-commit (commits b ∷ h) a = λ t. b ∷ committed-commit h a t
+committed-commit (changes q ∷ h) a = committed-commit h a
 
-    pub once : (cs : List Call) → Once cs (committedIn p cs) (takenInBy p cs) (after p cs)
-    once cs = always p facts Once kept (List·Permᴰ·nil, tt, Pairwise·nil) cs
+committed-change : (h : List Moment) (q : Program) → committedBy (h ++ (changes q ∷ [])) ≡ committedBy h
+committed-change [] q = refl
+committed-change (commits b ∷ h) q = λ t. b ∷ committed-change h q t
+committed-change (changes r ∷ h) q = committed-change h q
 
-    pub once-each : (cs : List Call) → OnceEach p cs
-    once-each cs = let h = once cs in (h .0, h .2, λ z. rw (idle-empty (after p cs) z, append-nil) at (h .0))
+-- of the commits, the hand, the number taken in and the arrivals taken in
+abbrev pub Split : List Arrival → List Arrival → ℕ → List Arrival → Type 0
+Split log hand t taken = List·Permᴰ taken (log ++ hand) × All (λ a. a .number < t) taken × List·Nodup (numbers taken)
+
+abbrev pub Once : List Turn → List Moment → List Arrival → State → Type 0
+Once past h taken s = Split (committedBy h) (handIn s) (numberIn s) taken
+
+moved : (log : List Arrival) (t : ℕ) (taken : List Arrival) {q r : List Arrival} → List·Permᴰ q r → Split log q t taken → Split log r t taken
+moved log t taken d h = (List·Permᴰ·trans (h .0) (Permᴰ·append-left log d), h .1, h .2)
+
+takes-once : (e who t : ℕ) (waiting : List Arrival) (r : Running) (log taken : List Arrival) → Split log (queue waiting r) t taken
+    → Split log (queue (arrival t e who ∷ waiting) r) (t + 1) (taken ++ (arrival t e who ∷ []))
+takes-once e who t waiting r log taken h =
+    let a : Arrival = arrival t e who in
+    let d : List·Permᴰ (a ∷ taken) (log ++ queue (a ∷ waiting) r) =
+    List·Permᴰ·trans (List·Permᴰ·cons refl (h .0))
+    (List·Permᴰ·trans (Permᴰ·symm (Permᴰ·middle a log (queue waiting r))) (Permᴰ·append-left log (joins a waiting r))) in
+    let f : All (λ x. x .number < t + 1) (a ∷ taken) = (omega arith, all-imp (λ x. x .number < t) (λ x. x .number < t + 1) (λ x y. omega arith) taken (h .1)) in
+    let g : List·Nodup (numbers (a ∷ taken)) =
+    new-number t taken (all-imp (λ x. x .number < t) (λ x. t ≢ x .number) (λ x y. omega arith) taken (h .1)) (h .2) in
+    let m : List·Permᴰ (a ∷ taken) (taken ++ (a ∷ [])) = snoc-perm taken a in
+    (List·Permᴰ·trans (Permᴰ·symm m) d, all-perm (λ x. x .number < t + 1) m f, distinct-numbers m g)
+
+carried-once : (p q : Program) (w : Engine) (h : List Moment) (taken : List Arrival) → Split (committedBy h) (inQueue w) (number w) taken
+    → Split (committedBy (h ++ (changes q ∷ []))) (inQueue (carriedTo p q w)) (number (carriedTo p q w)) taken
+carried-once p q (engine t waiting r d) h taken i = rw (committed-change h q) i
+
+module _ (p₀ : Program) where
+  calls : (p : Program) → CodeFacts p → Cases p (Kept p₀ Once p)
+  calls p facts = record {
+    refuses = λ e who w r past h taken l here i. i;
+    takes = λ e who t waiting r d k eight m n reach past h taken l here i. takes-once e who t waiting r (committedBy h) taken i;
+    reads = λ j who w r past h taken l here i. i;
+    idles = λ t d r past h taken l here i. i;
+    starts = λ t b m d r past h taken l here i. moved (committedBy h) t taken (choose-perm p b m) i;
+    preempts = λ t b m a n d u o r past h taken l here i. moved (committedBy h) t taken (back-perm p a b m) i;
+    runs = λ t waiting a n d k u r past h taken l here i. i;
+    commits = λ t waiting a n d k u r past h taken l here i.
+        rw (committed-commit h a) (rw (append-assoc (committedBy h) (a ∷ []) waiting) (i .0), i .1, i .2);
+  }
+
+  keeps : Keeps p₀ Once
+  keeps = record {
+    calls = calls;
+    refuses = λ q past h taken s i. i;
+    carries = λ p q w v z r u f past h taken l i. carried-once p q w h taken i;
+  }
+
+  module _ (v : Valid p₀) where
+    pub once : (ts : List Turn) → All Sound ts → Once ts (historyOf p₀ ts) (takenInBy p₀ ts) (after p₀ ts)
+    once ts g = always p₀ Once keeps v (List·Permᴰ·nil, tt, Pairwise·nil) ts g
+
+    pub idle-hand : (s : State) → IdleIn s → handIn s ≡ []
+    idle-hand (state p w) h = idle-empty p w h
+
+    pub once-each : (ts : List Turn) → All Sound ts → OnceEach p₀ ts
+    once-each ts g = let h = once ts g in (h .0, h .2, λ z. rw (idle-hand (after p₀ ts) z, append-nil) at (h .0))

@@ -12,18 +12,18 @@ use lib.ListN.{replicate}
 use borrow.Author.Tests.{lt-leb}
 use Rattle.lib_base.specs.Basics.{pick}
 use Rattle.spec_language.specs.Syntax.{Program}
-use Rattle.spec_language.specs.Refusals as refusals
 use Rattle.spec_language.specs.Dependence.{size}
 use Rattle.spec_language.specs.Rights.{maySee}
+use Rattle.spec_language.specs.Refusals as refusals
 use Rattle.spec_execution.specs.Execution.{at}
 use Rattle.spec_execution.specs.CodeFacts.{CodeFacts}
-use Rattle.spec_model.specs.Model.{rest, busy, Engine, engine, initial, Call, arrive, step, board, Answer, refused, takenIn, shows, act, run}
-use Rattle.spec_model.specs.Claims.{number, storeOf, Idle, after, steps, countIn, shownAfter, unlessRefused, previewed, PreviewRight}
+use Rattle.spec_model.specs.Model.{rest, busy, Engine, engine, Call, arrive, step, board, Answer, refused, takenIn, shows, act, run}
+use Rattle.spec_model.specs.Claims.{number, storeOf, Idle, after, steps, countIn, shownAfter, unlessRefused, previewed}
 use Rattle.spec_model.proofs.Moves.{Effect, Cases, effect, act-by}
-use Rattle.spec_model.proofs.Reached.{Reached, act-keeps, reached}
-use Rattle.spec_model.proofs.History.{run-append, counted, act-number, act-grows, run-grows}
+use Rattle.spec_model.proofs.Reached.{Reached, act-keeps}
+use Rattle.spec_model.proofs.Calls.{counted, act-number, act-grows, run-grows}
 use Rattle.spec_model.proofs.Once.{idle-empty}
-use Rattle.spec_model.proofs.Settles.{settles-from}
+use Rattle.spec_model.proofs.IdleWithin.{idle-from}
 
 abbrev pub onlySteps : ℕ → List Call
 onlySteps n = replicate n step
@@ -113,7 +113,7 @@ module _ (p : Program) where
 
     pub idle-within : (w : Engine) → Reached p w → Idle p (run p (onlySteps (countIn p w)) w)
     idle-within w r =
-        settles-from p facts w r (onlySteps (countIn p w)) (none-taken (countIn p w) w) (omega (arith, count-steps (countIn p w)))
+        idle-from p facts w r (onlySteps (countIn p w)) (none-taken (countIn p w) w) (omega (arith, count-steps (countIn p w)))
 
     pub preview-from : (w : Engine) → Reached p w → (e i who : ℕ) (ds : List Call) → i < size p → maySee p who i ≡ true
         → act p (arrive e who) w .answer ≡ takenIn
@@ -126,13 +126,8 @@ module _ (p : Program) where
         let one : number v ≡ number w + 1 =
         act-number p (arrive e who) w ∙ ap (λ (a : Answer). counted (effect (arrive e who) a (number w)) (number w)) t in
         let k : run p ds v ≡ run p (onlySteps (steps ds)) v = as-steps ds v (h ∙ sym one) in
-        let settled : Idle p (run p (onlySteps (countIn p v)) v) = idle-within v (act-keeps p facts (arrive e who) w r) in
-        let same = one-idle (countIn p v) (steps ds) v settled (subst (Idle p) k g) in
+        let quiet : Idle p (run p (onlySteps (countIn p v)) v) = idle-within v (act-keeps p facts (arrive e who) w r) in
+        let same = one-idle (countIn p v) (steps ds) v quiet (subst (Idle p) k g) in
         ap (λ (a : Answer). unlessRefused a
         (pick (leb (size p) i) (refused refusals.noBehaviour) (pick (maySee p who i) (shownAfter p v i) (refused refusals.noRight)))) t
         ∙ rw (lt-leb (size p) i b, sees) (ap (λ (u : Engine). shows (at (storeOf u) i)) (same ∙ sym k))
-
-    pub preview-right : (cs : List Call) → PreviewRight p cs
-    preview-right cs e i who ds b sees t h g =
-        let q : after p (cs ++ (arrive e who ∷ ds)) ≡ run p (arrive e who ∷ ds) (after p cs) = run-append p cs (arrive e who ∷ ds) (initial p) in
-        rw q (preview-from (after p cs) (reached p facts cs) e i who ds b sees t (sym (ap number q) ∙ h) (subst (Idle p) q g))

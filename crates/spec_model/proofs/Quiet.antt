@@ -3,8 +3,7 @@
 -- exactly where it is 0.
 use Prim.Native.Nat.{ℕ, _+_, _-_, _≤_, _<_}
 use mathlib.Core.Path.{_≡_, refl, sym, ap, _∙_}
-use mathlib.Core.List.{List, [], _∷_, _++_, sum}
-use mathlib.Core.List.{List·Permᴰ, List·Permᴰ·nil, List·Permᴰ·cons, List·Permᴰ·swap, List·Permᴰ·trans}
+use mathlib.Core.List.{List, [], _∷_, _++_, sum, List·Permᴰ, List·Permᴰ·nil, List·Permᴰ·cons, List·Permᴰ·swap, List·Permᴰ·trans}
 use native.Mathlib.Omega.{arith}
 use lib.ListN.{length}
 use Rattle.lib_base.specs.Basics.{All}
@@ -12,12 +11,12 @@ use Rattle.lib_base.proofs.Tools.{all-perm, all-imp}
 use Rattle.spec_language.specs.Syntax.{Program}
 use Rattle.spec_language.specs.Code.{code}
 use Rattle.spec_execution.specs.CodeFacts.{CodeFacts}
-use Rattle.spec_model.specs.Model.{Arrival, rest, busy, Engine, engine, initial, Call, arrive, step, board, rank, choose, act, run}
-use Rattle.spec_model.specs.Claims.{number, inQueue, Idle, after, steps, stepsOf, AtRest, QuietExactly}
+use Rattle.spec_model.specs.Model.{Arrival, rest, busy, Engine, engine, Call, arrive, step, board, rank, choose, act, run}
+use Rattle.spec_model.specs.Claims.{number, inQueue, Idle, after, steps, stepsOf, AtRest}
 use Rattle.spec_model.proofs.Choice.{Leads, choose-perm, choose-first}
 use Rattle.spec_model.proofs.Moves.{Effect, Cases, act-by}
-use Rattle.spec_model.proofs.Reached.{Reached, act-keeps, run-keeps, reached}
-use Rattle.spec_model.proofs.History.{run-append, act-grows, run-grows}
+use Rattle.spec_model.proofs.Reached.{Reached, act-keeps, run-keeps}
+use Rattle.spec_model.proofs.Calls.{act-grows, run-grows}
 use Rattle.spec_model.proofs.Once.{idle-empty}
 
 module _ (p : Program) where
@@ -110,8 +109,3 @@ module _ (p : Program) where
         let k = from-rest w h in
         let m : left (run p ds w) ≡ stepsOf p (inQueue w) - steps ds = falls ds w r (k .0) e ∙ ap (λ (n : ℕ). n - steps ds) (k .1) in
         (λ b i. omega (arith, idle-left (run p ds w) i), λ b. left-idle (run p ds w) (run-keeps p facts ds w r) (omega arith))
-
-    pub quiet-exactly : (cs : List Call) → QuietExactly p cs
-    quiet-exactly cs h ds e =
-        let q : after p (cs ++ ds) ≡ run p ds (after p cs) = run-append p cs ds (initial p) in
-        rw q (quiet-from (after p cs) (reached p facts cs) h ds (sym (ap number q) ∙ e))

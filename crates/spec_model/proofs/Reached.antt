@@ -4,8 +4,7 @@ use Prim.Native.Nat.{ℕ, suc, _+_, _≤_, _<_}
 use mathlib.Core.Bool.{Bool, false}
 use mathlib.Core.Path.{_≡_, refl, ap, _∙_, subst}
 use mathlib.Core.Logic.{_≢_}
-use mathlib.Core.List.{List, [], _∷_, List·Nodup, Pairwise·nil, Pairwise·of-cons}
-use mathlib.Core.List.{List·Permᴰ, List·Permᴰ·cons, List·Permᴰ·swap, List·Permᴰ·trans}
+use mathlib.Core.List.{List, [], _∷_, List·Nodup, Pairwise·nil, Pairwise·of-cons, List·Permᴰ, List·Permᴰ·cons, List·Permᴰ·swap, List·Permᴰ·trans}
 use native.Mathlib.Omega.{arith}
 use lib.Dec.{eqb}
 use lib.ListN.{length, take, getD}
@@ -165,6 +164,3 @@ module _ (p : Program) where
     pub initially : Reached (initial p)
     unfolding emptied
     initially = record { fine = tt; distinct = Pairwise·nil; few = omega arith; bounded = omega arith; from = fresh p; sized = length-fresh p; done = refl }
-
-    pub reached : (cs : List Call) → Reached (after p cs)
-    reached cs = run-keeps cs (initial p) initially

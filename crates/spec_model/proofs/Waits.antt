@@ -5,8 +5,7 @@ use Prim.Native.Nat.{ℕ, _+_, _*_, _-_, _≤_, _<_}
 use mathlib.Core.Bool.{Bool, true, false, _||_}
 use mathlib.Core.Path.{_≡_, refl, sym, ap, _∙_, subst}
 use mathlib.Core.Logic.{_⊎_, inl, inr, ⊎-elim}
-use mathlib.Core.List.{List, [], _∷_, List·Memᴰ, List·Memᴰ·head, List·Memᴰ·tail, List·Memᴰ·not-nil, List·Memᴰ·cases-cons, Memᴰ·append-left, Memᴰ·append-right}
-use mathlib.Core.List.{List·Permᴰ, List·Permᴰ·nil, List·Permᴰ·cons, List·Permᴰ·swap, List·Permᴰ·trans, Permᴰ·symm}
+use mathlib.Core.List.{List, [], _∷_, List·Memᴰ, List·Memᴰ·head, List·Memᴰ·tail, List·Memᴰ·not-nil, List·Memᴰ·cases-cons, Memᴰ·append-left, Memᴰ·append-right, List·Permᴰ, List·Permᴰ·nil, List·Permᴰ·cons, List·Permᴰ·swap, List·Permᴰ·trans, Permᴰ·symm}
 use native.Mathlib.Omega.{arith}
 use lib.Dec.{ltb}
 use lib.ListN.{length}
@@ -17,14 +16,14 @@ use Rattle.spec_language.specs.Syntax.{Program}
 use Rattle.spec_language.specs.Code.{code}
 use Rattle.spec_execution.specs.Execution.{Values}
 use Rattle.spec_execution.specs.CodeFacts.{CodeFacts}
-use Rattle.spec_model.specs.Model.{Arrival, arrival, Running, rest, busy, Engine, engine, queue, Call, Answer, rank, before, aside, choose, begin, act, answers}
-use Rattle.spec_model.specs.Claims.{commits, takenFrom, number, inQueue, after, longest, steps, NobodyWaits}
+use Rattle.spec_model.specs.Model.{Arrival, arrival, Running, rest, busy, Engine, engine, queue, Call, Answer, rank, before, aside, choose, begin, act}
+use Rattle.spec_model.specs.Claims.{number, inQueue, after, longest, steps}
+use Rattle.spec_model.proofs.Calls.{answers, commitsOf, takenFrom, logged, gathered, counted, commits-logged, taken-gathered, act-number}
 use Rattle.spec_model.proofs.Choice.{Leads, choose-perm, choose-first}
 use Rattle.spec_model.proofs.Moves.{Effect, effect, Cases, act-by}
-use Rattle.spec_model.proofs.Reached.{Fine, Reached, back-perm, act-keeps, reached}
-use Rattle.spec_model.proofs.History.{logged, gathered, counted, commits-logged, taken-gathered, act-number}
+use Rattle.spec_model.proofs.Reached.{Fine, Reached, back-perm, act-keeps}
 use Rattle.spec_model.proofs.Once.{joins}
-use Rattle.spec_model.proofs.Settles.{longest-most, extra, extra-le, allowed, steps-allowed}
+use Rattle.spec_model.proofs.IdleWithin.{longest-most, extra, extra-le, allowed, steps-allowed}
 
 -- ---- members
 
@@ -198,8 +197,8 @@ module _ (p : Program) (a : Arrival) where
 
   module _ (facts : CodeFacts p) where
     comes : (ds : List Call) (w : Engine) → Reached p w → List·Memᴰ a (inQueue w)
-        → All (λ b. rank p b ≤ rank p a) (takenFrom ds (answers p ds w) (number w)) → left w ≤ steps ds → List·Memᴰ a (commits (answers p ds w))
-    unfolding answers steps commits takenFrom
+        → All (λ b. rank p b ≤ rank p a) (takenFrom ds (answers p ds w) (number w)) → left w ≤ steps ds → List·Memᴰ a (commitsOf (answers p ds w))
+    unfolding answers steps commitsOf takenFrom
     comes [] w r m g h = absurd (omega (arith, some-left w r m))
     comes (c ∷ ds) w r m g h =
         let v : Engine = act p c w .after in
@@ -209,16 +208,13 @@ module _ (p : Program) (a : Arrival) where
         let both = all-split (λ b. rank p b ≤ rank p a) (gathered x []) (takenFrom ds l (counted x (number w)))
         (subst (All (λ b. rank p b ≤ rank p a)) (taken-gathered c said (number w) [] (takenFrom ds l)) g) in
         let later : All (λ b. rank p b ≤ rank p a) (takenFrom ds l (number v)) = rw (act-number p c w) (both .1) in
-        subst (List·Memᴰ a) (sym (commits-logged c said (number w) [] (commits l)))
-        (⊎-elim (λ k. Memᴰ·append-left (commits l) k)
+        subst (List·Memᴰ a) (sym (commits-logged c said (number w) [] (commitsOf l)))
+        (⊎-elim (λ k. Memᴰ·append-left (commitsOf l) k)
         (λ k. Memᴰ·append-right (logged x []) (comes ds v (act-keeps p facts c w r) (k .0) later (k .1)))
         (act-by p Nearer nearer c w r m (both .0) (steps ds) (rw (steps-allowed p c ds) at h)))
 
 module _ (p : Program) (facts : CodeFacts p) where
   pub waits-from : (w : Engine) → Reached p w → (ds : List Call) (a : Arrival) → List·Memᴰ a (inQueue w)
       → All (λ b. rank p b ≤ rank p a) (takenFrom ds (answers p ds w) (number w))
-      → (length (inQueue w) + 1) * (longest p + 1) ≤ steps ds → List·Memᴰ a (commits (answers p ds w))
+      → (length (inQueue w) + 1) * (longest p + 1) ≤ steps ds → List·Memᴰ a (commitsOf (answers p ds w))
   waits-from w r ds a m g h = comes p a facts ds w r m g (omega (arith, bound p a w r))
-
-  pub nobody-waits : (cs : List Call) → NobodyWaits p cs
-  nobody-waits cs = waits-from (after p cs) (reached p facts cs)

@@ -1,4 +1,5 @@
--- Demand 3 in terms of the model engine: what is said of every list of calls from the initial engine.
+-- Demand 3 in terms of the model engine: what is said of every list of turns, calls and changes of sheets, from the
+-- initial engine of a program. 02, M-100, M-101, M-104, M-112 and M-113. A list of calls alone is a case of it.
 use Prim.Native.Nat.{ℕ, suc, _+_, _*_, _≤_, _<_, max}
 use mathlib.Core.Bool.{Bool, true, false}
 use mathlib.Core.Path.{_≡_}
@@ -8,50 +9,18 @@ use lib.ListN.{length, take, replicate}
 use lib.Dec.{leb}
 use Rattle.lib_base.specs.Basics.{pick, All}
 use Rattle.spec_language.specs.Syntax.{Program}
-use Rattle.spec_language.specs.Refusals as refusals
 use Rattle.spec_language.specs.Dependence.{size, events, Independent}
-use Rattle.spec_language.specs.Rights.{maySee}
+use Rattle.spec_language.specs.Rights.{maySend, maySee}
+use Rattle.spec_language.specs.Accepted.{Valid}
 use Rattle.spec_language.specs.Code.{code}
 use Rattle.spec_language.specs.Order.{upTo}
-use Rattle.spec_semantics.specs.Meaning.{fresh, play}
+use Rattle.spec_language.specs.Refusals as refusals
+use Rattle.spec_semantics.specs.Rules.{Runs, Shows}
+use Rattle.spec_semantics.specs.Meaning.{at, event, fresh, withStore}
 use Rattle.spec_semantics.specs.OverMeaning.{eventOver}
-use Rattle.spec_execution.specs.Execution.{at, copyingBackAfter}
-use Rattle.spec_model.specs.Model.{Arrival, arrival, rest, busy, Engine, engine, initial, queue, Call, arrive, step, board, Answer, refused, takenIn, shows, idle, ran, started, preempted, committed, rank, settling, act, run, answers}
-
--- ---- what the answers say
-
--- the arrivals committed, in order of commitment: "committed when a step's answer says so"
-abbrev pub ifCommitted : Answer → List Arrival → List Arrival
-ifCommitted (refused n) l = l
-ifCommitted takenIn l = l
-ifCommitted (shows v) l = l
-ifCommitted idle l = l
-ifCommitted ran l = l
-ifCommitted (started a) l = l
-ifCommitted (preempted a) l = l
-ifCommitted (committed a m) l = a ∷ l
-
-unfoldable pub commits : List Answer → List Arrival
-commits [] = []
-commits (a ∷ l) = ifCommitted a (commits l)
-
--- the arrivals taken in, numbered from n on: "An arrival is taken in if its call wasn't refused"
-abbrev pub ifTaken : Call → Answer → ℕ → (ℕ → List Arrival) → List Arrival
-ifTaken (arrive e who) (refused k) n l = l n
-ifTaken (arrive e who) takenIn n l = arrival n e who ∷ l (suc n)
-ifTaken (arrive e who) (shows v) n l = l n
-ifTaken (arrive e who) idle n l = l n
-ifTaken (arrive e who) ran n l = l n
-ifTaken (arrive e who) (started a) n l = l n
-ifTaken (arrive e who) (preempted a) n l = l n
-ifTaken (arrive e who) (committed a m) n l = l n
-ifTaken step a n l = l n
-ifTaken (board i who) a n l = l n
-
-unfoldable pub takenFrom : List Call → List Answer → ℕ → List Arrival
-takenFrom [] l n = []
-takenFrom (c ∷ cs) [] n = []
-takenFrom (c ∷ cs) (a ∷ l) n = ifTaken c a n (takenFrom cs l)
+use Rattle.spec_execution.specs.Execution.{copyingBackAfter}
+use Rattle.spec_model.specs.Carried.{carried, Carries}
+use Rattle.spec_model.specs.Model.{Arrival, arrival, rest, busy, Engine, engine, queue, Call, arrive, step, board, Answer, refused, takenIn, shows, idle, ran, started, preempted, committed, rank, settling, act, run, Turn, call, change, State, state, Reply, says, carriedOver, turn, runTurns, replies, begun}
 
 -- ---- what an engine says
 
@@ -76,58 +45,15 @@ abbrev pub CopyingBack : Program → Arrival → Engine → Type 0
 CopyingBack p a (engine t waiting rest d) = ⊥
 CopyingBack p a (engine t waiting (busy b c) d) = (b ≡ a) × (copyingBackAfter (take c (code p (a .event))) ≡ true)
 
-abbrev pub after : Program → List Call → Engine
-after p cs = run p cs (initial p)
-
-abbrev pub said : Program → List Call → List Answer
-said p cs = answers p cs (initial p)
-
-abbrev pub committedIn : Program → List Call → List Arrival
-committedIn p cs = commits (said p cs)
-
-abbrev pub takenInBy : Program → List Call → List Arrival
-takenInBy p cs = takenFrom cs (said p cs) 0
+-- the events of arrivals, whoever sent them
+abbrev pub eventsOf : List Arrival → List ℕ
+eventsOf l = map (λ (a : Arrival). a .event) l
 
 -- the calls that take in an event and step it to its commit: the start, and each instruction
 abbrev pub aloneCalls : Program → ℕ → ℕ → List Call
 aloneCalls p e who = arrive e who ∷ step ∷ replicate (length (code p e)) step
 
--- ---- the sentences of demand 3
-
--- "unless a copy-back is under way, the board equals what demand 2's rules give for the committed events, one by one,
--- undivided, in order of commitment"
-abbrev pub BoardOfCommits : Program → List Call → Type 0
-BoardOfCommits p cs = settlingIn p (after p cs) ≡ false → storeOf (after p cs) ≡ play p (map (λ (a : Arrival). a .event) (committedIn p cs)) (fresh p)
-
--- "Each arrival taken in is committed at most once, exactly once when idle": taken in are the committed and those in
--- the queue, each once
-abbrev pub OnceEach : Program → List Call → Type 0
-OnceEach p cs =
-    List·Permᴰ (takenInBy p cs) (committedIn p cs ++ inQueue (after p cs))
-    × List·Nodup (map (λ (a : Arrival). a .number) (takenInBy p cs))
-    × (Idle p (after p cs) → List·Permᴰ (takenInBy p cs) (committedIn p cs))
-
--- "and after every earlier one of equal rank": commits of equal priority are in order of number, and before those still
--- in the queue. Pairwise: of each member and each later one
-abbrev pub EqualsInOrder : Program → List Call → Type 0
-EqualsInOrder p cs =
-    Pairwise (λ a b. rank p a ≡ rank p b → a .number < b .number) (committedIn p cs)
-    × All (λ a. All (λ b. rank p a ≡ rank p b → a .number < b .number) (inQueue (after p cs))) (committedIn p cs)
-
--- b was taken in after the copy-back of a began: at some moment it is under way, and b's number is not yet given
-pub record Later (p : Program) (cs : List Call) (a b : Arrival) : Type 0 where
-  pub past : List Call
-  pub rest-of : List Call
-  pub moment : cs ≡ past ++ rest-of
-  pub copying : CopyingBack p a (after p past)
-  pub not-yet : number (after p past) ≤ b .number
-
--- "A lower rank precedes a higher one only if the higher was taken in after the lower's copy-back began.": among the
--- commits, and before those still in the queue
-abbrev pub LowerFirst : Program → List Call → Type 0
-LowerFirst p cs =
-    Pairwise (λ a b. rank p a < rank p b → Later p cs a b) (committedIn p cs)
-    × All (λ a. All (λ b. rank p a < rank p b → Later p cs a b) (inQueue (after p cs))) (committedIn p cs)
+-- ---- numbers of steps
 
 -- the longest event's instructions, over all events
 unfoldable pub longest : Program → ℕ
@@ -139,46 +65,9 @@ steps (arrive e who ∷ cs) = steps cs
 steps (step ∷ cs) = suc (steps cs)
 steps (board i who ∷ cs) = steps cs
 
--- "Once no more are taken in, the round is idle within 01's count of steps", (k + 1) × (L + 1); "k = 0 is idle already"
-abbrev pub SettlesIn : Program → List Call → Type 0
-SettlesIn p cs =
-    ((ds : List Call) → number (after p (cs ++ ds)) ≡ number (after p cs)
-    → (length (inQueue (after p cs)) + 1) * (longest p + 1) ≤ steps ds → Idle p (after p (cs ++ ds)))
-    × (length (inQueue (after p cs)) ≡ 0 → Idle p (after p cs))
-
--- the events of arrivals, whoever sent them
-abbrev pub eventsOf : List Arrival → List ℕ
-eventsOf l = map (λ (a : Arrival). a .event) l
-
--- "for every two such lists on one sheet, taking in the same events in the same order, those of unequal rank being
--- independent: when both are idle, their boards are equal"; 02, M-107: "Arrivals in hand commit as before, whoever sent
--- them"
-abbrev pub SameBoard : Program → List Call → List Call → Type 0
-SameBoard p cs ds =
-    eventsOf (takenInBy p cs) ≡ eventsOf (takenInBy p ds)
-    → All (λ a. All (λ b. rank p a ≢ rank p b → Independent p (a .event) (b .event)) (takenInBy p cs)) (takenInBy p cs)
-    → Idle p (after p cs) → Idle p (after p ds)
-    → storeOf (after p cs) ≡ storeOf (after p ds)
-
--- ---- document 02, M-113
-
--- those taken in, and those committed, by the calls ds after cs
-abbrev pub takenThen : Program → List Call → List Call → List Arrival
-takenThen p cs ds = takenFrom ds (answers p ds (after p cs)) (number (after p cs))
-
-abbrev pub committedThen : Program → List Call → List Call → List Arrival
-committedThen p cs ds = commits (answers p ds (after p cs))
-
--- "let k be the number in hand at some moment and L as in 01. If during the next (k + 1) × (L + 1) steps nothing of
--- higher rank arrives .., that arrival is committed by the end of them": those of its own or a lower priority may
--- arrive
-abbrev pub NobodyWaits : Program → List Call → Type 0
-NobodyWaits p cs =
-    (ds : List Call) (a : Arrival) → List·Memᴰ a (inQueue (after p cs))
-    → All (λ b. rank p b ≤ rank p a) (takenThen p cs ds)
-    → (length (inQueue (after p cs)) + 1) * (longest p + 1) ≤ steps ds → List·Memᴰ a (committedThen p cs ds)
-
--- ---- document 02, M-100
+-- 01's count of steps, (k + 1) × (L + 1), k being the number in hand and L the longest event's instructions
+abbrev pub countIn : Program → Engine → ℕ
+countIn p w = (length (inQueue w) + 1) * (longest p + 1)
 
 -- the sum, over arrivals, of each event's instruction count plus one
 unfoldable pub stepsOf : Program → List Arrival → ℕ
@@ -188,24 +77,12 @@ abbrev pub AtRest : Engine → Type 0
 AtRest (engine t waiting rest d) = Unit {0}
 AtRest (engine t waiting (busy a c) d) = ⊥
 
--- "with nothing running and no further arrivals, idle shall come after exactly the sum, over the hand, of each event's
--- instruction count plus one": not before, and from then on
-abbrev pub QuietExactly : Program → List Call → Type 0
-QuietExactly p cs =
-    AtRest (after p cs) → (ds : List Call) → number (after p (cs ++ ds)) ≡ number (after p cs)
-    → (steps ds < stepsOf p (inQueue (after p cs)) → Idle p (after p (cs ++ ds)) → ⊥)
-    × (stepsOf p (inQueue (after p cs)) ≤ steps ds → Idle p (after p (cs ++ ds)))
+-- ---- the calls that leave a round as it is: 02, M-100 and M-101
 
 -- "The same number is offered as a call of its own on a round .. While something runs, that call gives 01's bound."
 abbrev pub forecast : Program → Engine → ℕ
 forecast p (engine t waiting rest d) = stepsOf p waiting
 forecast p (engine t waiting (busy a c) d) = (length (a ∷ waiting) + 1) * (longest p + 1)
-
--- ---- document 02, M-101
-
--- 01's count of steps, k being the number in hand
-abbrev pub countIn : Program → Engine → ℕ
-countIn p w = (length (inQueue w) + 1) * (longest p + 1)
 
 -- the value on the board after that many steps
 abbrev pub shownAfter : Program → Engine → ℕ → Answer
@@ -231,20 +108,326 @@ previewed p w e i who =
     (pick (leb (size p) i) (refused refusals.noBehaviour)
     (pick (maySee p who i) (shownAfter p (act p (arrive e who) w .after) i) (refused refusals.noRight)))
 
--- whichever way the round is then run to idle, no further arrival taken in, the board shows the previewed value
-abbrev pub PreviewRight : Program → List Call → Type 0
-PreviewRight p cs =
-    (e i who : ℕ) (ds : List Call) → i < size p → maySee p who i ≡ true
-    → act p (arrive e who) (after p cs) .answer ≡ takenIn
-    → number (after p (cs ++ (arrive e who ∷ ds))) ≡ number (after p cs) + 1
-    → Idle p (after p (cs ++ (arrive e who ∷ ds)))
-    → previewed p (after p cs) e i who ≡ shows (at (storeOf (after p (cs ++ (arrive e who ∷ ds)))) i)
+-- ---- what the replies say
 
--- ---- document 02, M-104
+-- the history of a board, in order: an arrival is committed, or the sheet is changed to this program
+pub data Moment : Type 0 where
+  commits : Arrival → Moment
+  changes : Program → Moment
+
+abbrev pub ifCommits : Answer → List Moment → List Moment
+ifCommits (refused n) l = l
+ifCommits takenIn l = l
+ifCommits (shows v) l = l
+ifCommits idle l = l
+ifCommits ran l = l
+ifCommits (started a) l = l
+ifCommits (preempted a) l = l
+ifCommits (committed a m) l = commits a ∷ l
+
+abbrev pub momentOf : Turn → Reply → List Moment → List Moment
+momentOf (call c) (says a) l = ifCommits a l
+momentOf (call c) carriedOver l = l
+momentOf (change q) (says a) l = l
+momentOf (change q) carriedOver l = changes q ∷ l
+
+unfoldable pub moments : List Turn → List Reply → List Moment
+moments [] l = []
+moments (t ∷ ts) [] = []
+moments (t ∷ ts) (r ∷ l) = momentOf t r (moments ts l)
+
+-- the arrivals committed, in order of commitment: "committed when a step's answer says so"
+abbrev pub committedBy : List Moment → List Arrival
+committedBy [] = []
+committedBy (commits a ∷ h) = a ∷ committedBy h
+committedBy (changes q ∷ h) = committedBy h
+
+-- and each with the program in force when it commits, p being the first
+pub record Commit : Type 0 where
+  pub under : Program
+  pub what : Arrival
+
+abbrev pub commitUnder : Program → Arrival → Commit
+commitUnder p a = record { under = p; what = a }
+
+unfoldable pub commitsUnder : Program → List Moment → List Commit
+commitsUnder p [] = []
+commitsUnder p (commits a ∷ h) = commitUnder p a ∷ commitsUnder p h
+commitsUnder p (changes q ∷ h) = commitsUnder q h
+
+-- the arrivals taken in, numbered from n on: "An arrival is taken in if its call wasn't refused": of a call
+abbrev pub ifTaken : Call → Answer → ℕ → (ℕ → List Arrival) → List Arrival
+ifTaken (arrive e who) (refused k) n l = l n
+ifTaken (arrive e who) takenIn n l = arrival n e who ∷ l (suc n)
+ifTaken (arrive e who) (shows v) n l = l n
+ifTaken (arrive e who) idle n l = l n
+ifTaken (arrive e who) ran n l = l n
+ifTaken (arrive e who) (started a) n l = l n
+ifTaken (arrive e who) (preempted a) n l = l n
+ifTaken (arrive e who) (committed a m) n l = l n
+ifTaken step a n l = l n
+ifTaken (board i who) a n l = l n
+
+abbrev pub ifTakenIn : Turn → Reply → ℕ → (ℕ → List Arrival) → List Arrival
+ifTakenIn (call c) (says a) n l = ifTaken c a n l
+ifTakenIn (call c) carriedOver n l = l n
+ifTakenIn (change q) r n l = l n
+
+unfoldable pub takenTurns : List Turn → List Reply → ℕ → List Arrival
+takenTurns [] l n = []
+takenTurns (t ∷ ts) [] n = []
+takenTurns (t ∷ ts) (r ∷ l) n = ifTakenIn t r n (takenTurns ts l)
+
+-- ---- what a state says
+
+abbrev pub inForce : State → Program
+inForce (state p w) = p
+
+abbrev pub engineIn : State → Engine
+engineIn (state p w) = w
+
+abbrev pub numberIn : State → ℕ
+numberIn s = number (engineIn s)
+
+abbrev pub handIn : State → List Arrival
+handIn s = inQueue (engineIn s)
+
+abbrev pub storeIn : State → List ℕ
+storeIn s = storeOf (engineIn s)
+
+-- "Idle: a step called now would answer idle."
+abbrev pub IdleIn : State → Type 0
+IdleIn s = Idle (inForce s) (engineIn s)
+
+-- ---- of a list of turns from a fresh round of p
+
+abbrev pub after : Program → List Turn → State
+after p ts = runTurns ts (begun p)
+
+-- the program in force, and the engine; a copy-back is under way
+abbrev pub programAfter : Program → List Turn → Program
+programAfter p ts = inForce (after p ts)
+
+abbrev pub engineAfter : Program → List Turn → Engine
+engineAfter p ts = engineIn (after p ts)
+
+abbrev pub settlingAfter : Program → List Turn → Bool
+settlingAfter p ts = settlingIn (programAfter p ts) (engineAfter p ts)
+
+abbrev pub historyOf : Program → List Turn → List Moment
+historyOf p ts = moments ts (replies ts (begun p))
+
+abbrev pub committedIn : Program → List Turn → List Arrival
+committedIn p ts = committedBy (historyOf p ts)
+
+abbrev pub takenInBy : Program → List Turn → List Arrival
+takenInBy p ts = takenTurns ts (replies ts (begun p)) 0
+
+-- the changes are to programs as compile accepts them
+abbrev pub Sound : Turn → Type 0
+Sound (call c) = Unit {0}
+Sound (change q) = Valid q
+
+-- ---- the board. "Commits before the change follow the old sheet and later ones the new"
+
+-- what a history does to a store, p being in force
+unfoldable pub replayed : Program → List Moment → List ℕ → List ℕ
+replayed p [] s = s
+replayed p (commits a ∷ h) s = replayed p h (event p (a .event) s)
+replayed p (changes q ∷ h) s = replayed q h (carried p q s)
+
+-- "unless a copy-back is under way, the board equals what demand 2's rules give for the committed events, one by one,
+-- undivided, in order of commitment"
+abbrev pub BoardOfCommits : Program → List Turn → Type 0
+BoardOfCommits p ts = settlingAfter p ts ≡ false → storeIn (after p ts) ≡ replayed p (historyOf p ts) (fresh p)
+
+-- the same by Figure 1's rules: p being in force, the history leads from the store s to the last store
+pub data Replays : Program → List Moment → List ℕ → List ℕ → Type 0 where
+  done : {p : Program} {s : List ℕ} → Replays p [] s s
+  next : {p : Program} {a : Arrival} {h : List Moment} {s first s′ last : List ℕ} → Runs (withStore p s) (a .event) first (withStore p s′) → length s′ ≡ size p
+      → ((i : ℕ) → i < size p → Shows (withStore p s′) i (at s′ i)) → Replays p h s′ last → Replays p (commits a ∷ h) s last
+  turns : {p q : Program} {h : List Moment} {s s′ last : List ℕ} → Carries p q s s′ → Replays q h s′ last → Replays p (changes q ∷ h) s last
+
+-- the rules lead there, and to no other store
+abbrev pub BoardByRules : Program → List Turn → Type 0
+BoardByRules p ts =
+    settlingAfter p ts ≡ false
+    → Replays p (historyOf p ts) (fresh p) (storeIn (after p ts)) × ((s : List ℕ) → Replays p (historyOf p ts) (fresh p) s → s ≡ storeIn (after p ts))
+
+-- ---- order
+
+-- "Each arrival taken in is committed at most once, exactly once when idle"
+abbrev pub OnceEach : Program → List Turn → Type 0
+OnceEach p ts =
+    List·Permᴰ (takenInBy p ts) (committedIn p ts ++ handIn (after p ts))
+    × List·Nodup (map (λ (a : Arrival). a .number) (takenInBy p ts))
+    × (IdleIn (after p ts) → List·Permᴰ (takenInBy p ts) (committedIn p ts))
+
+-- "between two events, ranks are those in force when the first commits": of this commit and a later one, or one still
+-- in hand
+abbrev pub EqualTo : Commit → Arrival → Type 0
+EqualTo x b = rank (x .under) (x .what) ≡ rank (x .under) b
+
+abbrev pub LowerThan : Commit → Arrival → Type 0
+LowerThan x b = rank (x .under) (x .what) < rank (x .under) b
+
+-- "and after every earlier one of equal rank"
+abbrev pub EqualsInOrder : Program → List Turn → Type 0
+EqualsInOrder p ts =
+    Pairwise (λ (x y : Commit). EqualTo x (y .what) → x .what .number < y .what .number) (commitsUnder p (historyOf p ts))
+    × All (λ (x : Commit). All (λ b. EqualTo x b → x .what .number < b .number) (handIn (after p ts))) (commitsUnder p (historyOf p ts))
+
+-- b was taken in after the copy-back of a began: at some moment it is under way, and b's number is not yet given
+pub record Later (p : Program) (ts : List Turn) (a b : Arrival) : Type 0 where
+  pub past : List Turn
+  pub rest-of : List Turn
+  pub moment : ts ≡ past ++ rest-of
+  pub copying : CopyingBack (programAfter p past) a (engineAfter p past)
+  pub not-yet : numberIn (after p past) ≤ b .number
+
+-- "A lower rank precedes a higher one only if the higher was taken in after the lower's copy-back began."
+abbrev pub LowerFirst : Program → List Turn → Type 0
+LowerFirst p ts =
+    Pairwise (λ (x y : Commit). LowerThan x (y .what) → Later p ts (x .what) (y .what)) (commitsUnder p (historyOf p ts))
+    × All (λ (x : Commit). All (λ b. LowerThan x b → Later p ts (x .what) b) (handIn (after p ts))) (commitsUnder p (historyOf p ts))
+
+-- ---- counts of steps. "counts of steps, M-100's too, run from the last" change: the turns us after ts change no
+-- sheet, L and the instruction counts being those of the program in force
+
+abbrev pub NotCarried : Reply → Type 0
+NotCarried (says a) = Unit {0}
+NotCarried carriedOver = ⊥
+
+-- "no sheet is changed": every change among them is refused
+abbrev pub Unchanged : List Turn → State → Type 0
+Unchanged us s = All NotCarried (replies us s)
+
+-- the calls among turns
+abbrev pub callsOf : List Turn → List Call
+callsOf [] = []
+callsOf (call c ∷ ts) = c ∷ callsOf ts
+callsOf (change q ∷ ts) = callsOf ts
+
+abbrev pub stepsAmong : List Turn → ℕ
+stepsAmong ts = steps (callsOf ts)
+
+abbrev pub countNow : State → ℕ
+countNow s = countIn (inForce s) (engineIn s)
+
+-- "Once no more are taken in, the round is idle within 01's count of steps"; "k = 0 is idle already"
+abbrev pub IdleWithin : Program → List Turn → Type 0
+IdleWithin p ts =
+    ((us : List Turn) → Unchanged us (after p ts) → numberIn (after p (ts ++ us)) ≡ numberIn (after p ts)
+    → countNow (after p ts) ≤ stepsAmong us → IdleIn (after p (ts ++ us)))
+    × (length (handIn (after p ts)) ≡ 0 → IdleIn (after p ts))
+
+-- M-100: "with nothing running and no further arrivals, idle shall come after exactly the sum, over the hand, of each
+-- event's instruction count plus one"
+abbrev pub QuietExactly : Program → List Turn → Type 0
+QuietExactly p ts =
+    AtRest (engineAfter p ts) → (us : List Turn) → Unchanged us (after p ts) → numberIn (after p (ts ++ us)) ≡ numberIn (after p ts)
+    → (stepsAmong us < stepsOf (programAfter p ts) (handIn (after p ts)) → IdleIn (after p (ts ++ us)) → ⊥)
+    × (stepsOf (programAfter p ts) (handIn (after p ts)) ≤ stepsAmong us → IdleIn (after p (ts ++ us)))
+
+-- M-113: "If during the next (k + 1) × (L + 1) steps nothing of higher rank arrives and no sheet is changed, that
+-- arrival is committed by the end of them."
+abbrev pub takenThen : Program → List Turn → List Turn → List Arrival
+takenThen p ts us = takenTurns us (replies us (after p ts)) (numberIn (after p ts))
+
+abbrev pub committedThen : Program → List Turn → List Turn → List Arrival
+committedThen p ts us = committedBy (moments us (replies us (after p ts)))
+
+abbrev pub NobodyWaits : Program → List Turn → Type 0
+NobodyWaits p ts =
+    (us : List Turn) (a : Arrival) → List·Memᴰ a (handIn (after p ts)) → Unchanged us (after p ts)
+    → All (λ b. rank (programAfter p ts) b ≤ rank (programAfter p ts) a) (takenThen p ts us)
+    → countNow (after p ts) ≤ stepsAmong us → List·Memᴰ a (committedThen p ts us)
+
+-- ---- demand 2, M-101 and M-104, with the program in force
+
+-- "An event run alone": from an idle round, an event that is taken in and stepped to its commit leaves the store of its
+-- meaning
+abbrev pub AloneRight : Program → List Turn → Type 0
+AloneRight p ts =
+    IdleIn (after p ts) → (e who : ℕ) → e < events (programAfter p ts) → who < 8 → maySend (programAfter p ts) who e ≡ true → numberIn (after p ts) < 1000000
+    → (historyOf p (ts ++ map call (aloneCalls (programAfter p ts) e who)) ≡ historyOf p ts ++ (commits (arrival (numberIn (after p ts)) e who) ∷ []))
+    × (storeIn (after p (ts ++ map call (aloneCalls (programAfter p ts) e who))) ≡ event (programAfter p ts) e (storeIn (after p ts)))
+
+-- whichever way the round is then run to idle, no further arrival taken in and no sheet changed, the board shows the
+-- previewed value
+abbrev pub PreviewRight : Program → List Turn → Type 0
+PreviewRight p ts =
+    (e i who : ℕ) (us : List Turn) → i < size (programAfter p ts) → maySee (programAfter p ts) who i ≡ true
+    → turn (call (arrive e who)) (after p ts) .reply ≡ says takenIn
+    → Unchanged (call (arrive e who) ∷ us) (after p ts)
+    → numberIn (after p (ts ++ (call (arrive e who) ∷ us))) ≡ numberIn (after p ts) + 1
+    → IdleIn (after p (ts ++ (call (arrive e who) ∷ us)))
+    → previewed (programAfter p ts) (engineAfter p ts) e i who ≡ shows (at (storeIn (after p (ts ++ (call (arrive e who) ∷ us)))) i)
 
 -- "the committing step's answer carries a mark: set exactly if some application in that event's meaning did so": of a
--- step called after the list, a declared event's, on the store of the events committed by then
-abbrev pub MarkRight : Program → List Call → Type 0
-MarkRight p cs =
-    (a : Arrival) (m : Bool) → act p step (after p cs) .answer ≡ committed a m
-    → (a .event < events p) × (m ≡ eventOver p (a .event) (play p (map (λ (x : Arrival). x .event) (committedIn p cs)) (fresh p)))
+-- step called after the list, on the store of the history so far
+abbrev pub MarkRight : Program → List Turn → Type 0
+MarkRight p ts =
+    (a : Arrival) (m : Bool) → turn (call step) (after p ts) .reply ≡ says (committed a m)
+    → (a .event < events (programAfter p ts)) × (m ≡ eventOver (programAfter p ts) (a .event) (replayed p (historyOf p ts) (fresh p)))
+
+-- ---- two lists. "equal boards on two phones need independence in each sheet and the same change after the same
+-- commits"
+
+-- a history by sheets: the commits under one, then the change to the next and what follows
+pub data Course : Type 0 where
+  last : List Arrival → Course
+  then : List Arrival → Program → Course → Course
+
+abbrev pub onward : Arrival → Course → Course
+onward a (last l) = last (a ∷ l)
+onward a (then l q c) = then (a ∷ l) q c
+
+unfoldable pub courseOf : List Moment → Course
+courseOf [] = last []
+courseOf (commits a ∷ h) = onward a (courseOf h)
+courseOf (changes q ∷ h) = then [] q (courseOf h)
+
+-- an arrival whoever sent it: as if the host had (02, M-107: "Arrivals in hand commit as before, whoever sent them")
+abbrev pub unsigned : Arrival → Arrival
+unsigned a = arrival (a .number) (a .event) 0
+
+-- "the same change after the same commits": in any order
+abbrev pub SameChanges : Course → Course → Type 0
+SameChanges (last l) (last m) = Unit {0}
+SameChanges (last l) (then m r d) = ⊥
+SameChanges (then l q c) (last m) = ⊥
+SameChanges (then l q c) (then m r d) = List·Permᴰ (map unsigned l) (map unsigned m) × (q ≡ r) × SameChanges c d
+
+-- "those of unequal rank being independent", in each sheet: of the commits under it
+abbrev pub ApartIn : Program → List Arrival → Type 0
+ApartIn p l = All (λ a. All (λ b. rank p a ≢ rank p b → Independent p (a .event) (b .event)) l) l
+
+abbrev pub ApartEach : Program → Course → Type 0
+ApartEach p (last l) = ApartIn p l
+ApartEach p (then l q c) = ApartIn p l × ApartEach q c
+
+-- "for every two such lists on one sheet, taking in the same events in the same order, ..: when both are idle, their
+-- boards are equal"
+abbrev pub SameBoard : Program → List Turn → List Turn → Type 0
+SameBoard p ts us =
+    eventsOf (takenInBy p ts) ≡ eventsOf (takenInBy p us)
+    → SameChanges (courseOf (historyOf p ts)) (courseOf (historyOf p us))
+    → ApartEach p (courseOf (historyOf p ts))
+    → IdleIn (after p ts) → IdleIn (after p us)
+    → storeIn (after p ts) ≡ storeIn (after p us)
+
+-- ---- every sentence about one list
+
+pub record Sentences (p : Program) (ts : List Turn) : Type 0 where
+  pub board : BoardOfCommits p ts
+  pub by-rules : BoardByRules p ts
+  pub once : OnceEach p ts
+  pub equals : EqualsInOrder p ts
+  pub lower : LowerFirst p ts
+  pub within : IdleWithin p ts
+  pub quiet : QuietExactly p ts
+  pub nobody-waits : NobodyWaits p ts
+  pub one-event : AloneRight p ts
+  pub previews : PreviewRight p ts
+  pub mark : MarkRight p ts

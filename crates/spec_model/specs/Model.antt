@@ -1,5 +1,6 @@
--- The model engine. 01 "Whole runs", "Handlers and steps"; 02, M-104 and M-107.
--- It is fed the program and each call's kind and arguments, never an answer.
+-- The model engine. 01 "Whole runs", "Handlers and steps"; 02, M-104, M-107 and M-112: "Demand 3's lists may hold such
+-- changes, the model engine making them too". It is fed the programs and each call's kind and arguments, never an
+-- answer: first one call under a program, then turns, each a call or a change of programs, and lists of them.
 use Prim.Native.Nat.{ℕ, _+_}
 use mathlib.Core.Bool.{Bool, true, false}
 use mathlib.Core.List.{List, [], _∷_}
@@ -7,12 +8,13 @@ use lib.ListN.{length, getD, take}
 use lib.Dec.{ltb, leb, eqb}
 use Rattle.lib_base.specs.Basics.{pick}
 use Rattle.spec_language.specs.Syntax.{Program}
-use Rattle.spec_language.specs.Refusals as refusals
 use Rattle.spec_language.specs.Dependence.{size, events}
 use Rattle.spec_language.specs.Rights.{maySend, maySee}
 use Rattle.spec_language.specs.Code.{off, code}
+use Rattle.spec_language.specs.Refusals as refusals
 use Rattle.spec_semantics.specs.Meaning.{fresh}
 use Rattle.spec_execution.specs.Execution.{Values, at, execute, emptied, maskedAfter, copyingBackAfter}
+use Rattle.spec_model.specs.Carried.{carried}
 
 -- ---- what it keeps
 
@@ -173,17 +175,74 @@ module _ (p : Program) where
       (shows (at (d .store) i)))
       (refused refusals.noRight)))
 
-  -- ---- one call, and a list of calls
+  -- ---- one call
 
   unfoldable pub act : Call → Engine → Outcome
   act (arrive e who) (engine t waiting r d) = arrived e who t waiting r d
   act step (engine t waiting r d) = stepped t waiting r d
   act (board i who) (engine t waiting r d) = outcome (read i who r d) (engine t waiting r d)
 
+  -- calls one after the other under this program: a preview makes them on its copy
   unfoldable pub run : List Call → Engine → Engine
   run [] w = w
   run (c ∷ cs) w = run cs (act c w .after)
 
-  unfoldable pub answers : List Call → Engine → List Answer
-  answers [] w = []
-  answers (c ∷ cs) w = act c w .answer ∷ answers cs (act c w .after)
+-- ---- turns
+
+-- a call, or a change: "A round is carried to a newly compiled table.", this program's
+pub data Turn : Type 0 where
+  call : Call → Turn
+  change : Program → Turn
+
+-- the program in force, and the engine
+pub data State : Type 0 where
+  state : Program → Engine → State
+
+-- a call's answer, and that of a refused change; a change that is made answers that alone
+pub data Reply : Type 0 where
+  says : Answer → Reply
+  carriedOver : Reply
+
+pub record TurnOutcome : Type 0 where
+  pub reply : Reply
+  pub after : State
+
+abbrev pub turnOutcome : Reply → State → TurnOutcome
+turnOutcome r s = record { reply = r; after = s }
+
+-- every event of these arrivals is declared
+abbrev pub declaredIn : Program → List Arrival → Bool
+declaredIn q [] = true
+declaredIn q (a ∷ l) = pick (ltb (a .event) (events q)) (declaredIn q l) false
+
+-- "Actives that are active in both keep their value, other actives take the new start, passives are worked out anew.
+-- The hand, its players, arrival numbers and the number taken in remain; the running event goes back to the hand.":
+-- nothing runs, and scratch, stack and places are empty
+abbrev pub carriedTo : Program → Program → Engine → Engine
+carriedTo p q (engine t waiting r d) = engine t (queue waiting r) rest (emptied (carried p q (d .store)))
+
+-- "During copy-back it is refused by 19 .. 28 when the hand holds an event that the new sheet doesn't declare, checked
+-- after 19": a refusal changes nothing
+abbrev pub changed : Program → Program → Engine → TurnOutcome
+changed p q (engine t waiting r d) =
+    pick (settling p r) (turnOutcome (says (refused refusals.settling)) (state p (engine t waiting r d)))
+    (pick (declaredIn q (queue waiting r)) (turnOutcome carriedOver (state q (carriedTo p q (engine t waiting r d))))
+    (turnOutcome (says (refused refusals.undeclaredInHand)) (state p (engine t waiting r d))))
+
+-- ---- one turn, and a list of turns
+
+unfoldable pub turn : Turn → State → TurnOutcome
+turn (call c) (state p w) = turnOutcome (says (act p c w .answer)) (state p (act p c w .after))
+turn (change q) (state p w) = changed p q w
+
+unfoldable pub runTurns : List Turn → State → State
+runTurns [] s = s
+runTurns (t ∷ ts) s = runTurns ts (turn t s .after)
+
+unfoldable pub replies : List Turn → State → List Reply
+replies [] s = []
+replies (t ∷ ts) s = turn t s .reply ∷ replies ts (turn t s .after)
+
+-- a round that start has just made fresh
+abbrev pub begun : Program → State
+begun p = state p (initial p)

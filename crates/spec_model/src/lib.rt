@@ -1,1 +1,2 @@
-// Definitions and theorems only: the model engine, and what holds of its runs. They stand in specs/.
+// Definitions and theorems only: the model engine, with changes of sheets, and what holds of its runs. They stand in
+// specs/ and proofs/.

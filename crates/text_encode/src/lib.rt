@@ -1,5 +1,6 @@
 // Writing expression fields into a buffer: constants and names at its end, an application's head in front of its
 // arguments.
+use spec_language::tags;
 ghost use mathlib.Core.Path.{_≡_};
 ghost use mathlib.Core.List.{[], _∷_};
 ghost use Prim.Native.Nat.{_≤_, _+_, _/_, _%_};
@@ -8,18 +9,41 @@ ghost use lib.Seq.{slice};
 ghost use Rattle.spec_language.specs.Grammar.{field};
 ghost use Rattle.text_encode.specs.Fields.{placed, shifted};
 
+// How many bytes a constant's and a name's field have, and an application's before its arguments.
+pub const CONSTANT_BYTES: usize = 7;
+
+pub const NAME_BYTES: usize = 4;
+
+pub const HEAD_BYTES: usize = 4;
+
+// A constant's value: how many bytes it has, and where the second, third and last of them stand in its field.
+const WORD_BYTES: u8 = 4;
+
+const SECOND: usize = 4;
+
+const THIRD: usize = 5;
+
+const LAST: usize = 6;
+
+// What a word's bytes count, from the last but one on.
+const BYTE: u64 = 256;
+
+const HALF: u64 = 65536;
+
+const THREE_BYTES: u64 = 16777216;
+
 // A constant from place n on: the low four bytes of t.
 pub fn put_number(out: &mut [u8], n: usize, t: u64)
     requires { ⌜ n + 7 ≤ length (now out) ⌝ }
     ensures { λ _. ⌜ now (out .exit) ≡ placed n (16 ∷ 0 ∷ 4 ∷ (t / 16777216 % 256) ∷ (t / 65536 % 256) ∷ (t / 256 % 256) ∷ (t % 256) ∷ []) (now (out .entry)) ⌝ }
 {
-    out[n] = 16;
+    out[n] = tags::CONSTANT;
     out[n + 1] = 0;
-    out[n + 2] = 4;
-    out[n + 3] = (t / 16777216 % 256) as u8;
-    out[n + 4] = (t / 65536 % 256) as u8;
-    out[n + 5] = (t / 256 % 256) as u8;
-    out[n + 6] = (t % 256) as u8;
+    out[n + 2] = WORD_BYTES;
+    out[n + 3] = (t / THREE_BYTES % BYTE) as u8;
+    out[n + SECOND] = (t / HALF % BYTE) as u8;
+    out[n + THIRD] = (t / BYTE % BYTE) as u8;
+    out[n + LAST] = (t % BYTE) as u8;
 }
 
 // A name from place n on: the low byte of t.
@@ -27,10 +51,10 @@ pub fn put_name(out: &mut [u8], n: usize, t: u64)
     requires { ⌜ n + 4 ≤ length (now out) ⌝ }
     ensures { λ _. ⌜ now (out .exit) ≡ placed n (17 ∷ 0 ∷ 1 ∷ (t % 256) ∷ []) (now (out .entry)) ⌝ }
 {
-    out[n] = 17;
+    out[n] = tags::NAME;
     out[n + 1] = 0;
     out[n + 2] = 1;
-    out[n + 3] = (t % 256) as u8;
+    out[n + 3] = (t % BYTE) as u8;
 }
 
 // The bytes from `start` to `end` go on by four places, the last first.
@@ -42,7 +66,7 @@ fn shift(out: &mut [u8], start: usize, end: usize)
     let mut i = end;
     while start < i {
         i = i - 1;
-        out[i + 4] = out[i];
+        out[i + HEAD_BYTES] = out[i];
     }
 }
 
@@ -54,7 +78,7 @@ pub fn wrap(out: &mut [u8], start: usize, end: usize, f: u8)
     ensures { λ _. ⌜ now (out .exit) ≡ placed start (field 18 (f ∷ slice start end (now (out .entry)))) (now (out .entry)) ⌝ }
 {
     shift(out, start, end);
-    out[start] = 18;
+    out[start] = tags::APPLICATION;
     lib_word::put_half(out, start + 1, (end - start + 1) as u16);
     out[start + 3] = f;
 }

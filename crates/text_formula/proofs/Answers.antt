@@ -16,6 +16,7 @@ use Rattle.text_formula.specs.Reader.{readFormula}
 use Rattle.spec_language.specs.Refusals.{noFormula}
 use Rattle.text_formula.specs.Answer.{large, nesting, fieldOf, answered, written, answerTo, formulaOn}
 use Rattle.text_formula.proofs.Readings.{reading-is, outside-none, none-outside}
+use Rattle.text_formula.specs.Statements.{Untouched}
 
 -- a text within the grammar is answered for the one expression that it stands for
 pub within : {text : List ℕ} {e : Expr} (buffer : List ℕ) → length text ≤ 1024 → Formula text e → formulaOn text buffer ≡ written e buffer
@@ -57,11 +58,6 @@ unfolding formulaOn
 twenty-one text buffer =
     by-test (λ (a : ℕ × List ℕ). a .0 ≡ noFormula → (1024 < length text) ⊎ ((e : Expr) → Formula text e → ⊥)) (ltb 1024 (length text)) (λ e h. inl (ltb-true 1024 (length text) e))
     (λ e h. inr (to-outside text buffer (readFormula text) refl h))
-
--- a refusal changes no byte; no answer changes the buffer's length
-pub record Untouched (buffer : List ℕ) (a : ℕ × List ℕ) : Type 0 where
-  pub unchanged : a .0 < 4294967296 → a .1 ≡ buffer
-  pub long : length (a .1) ≡ length buffer
 
 to-kept : (o : Option Expr) (buffer : List ℕ) → Untouched buffer (answerTo o buffer)
 to-kept none buffer = record { unchanged = λ h. refl; long = refl }

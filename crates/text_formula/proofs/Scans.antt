@@ -11,7 +11,7 @@ use lib.Dec.{ltb, eqb}
 use borrow.Author.Tests.{ltb-true, ltb-false, lt-ltb, le-ltb, eqb-true, eqb-false, ne-eqb}
 use Rattle.lib_base.specs.Basics.{All}
 use Rattle.lib_base.proofs.Tools.{by-test, by-elim}
-use Rattle.text_formula.specs.Tokens.{Token, number, behaviour, function, opening, closing, comma, Digit, decimal, NotFirst, Begins, b-number, b-digit, b-digits, b-or, b-and, b-not, b-plus, b-minus, b-times, b-divided, b-above, b-at-least, b-below, b-at-most, b-equal, b-different, b-if, b-opening, b-closing, b-comma, Tokens, t-end, t-space, t-token}
+use Rattle.text_formula.specs.Tokens.{Token, number, behaviour, function, opening, closing, comma, Digit, decimal, NotFirst, Begins, b-number, b-digit, b-digits, b-or, b-and, b-not, b-plus, b-minus, b-times, b-divided, b-above, b-at-least, b-below, b-at-most, b-equal, b-different, b-if, b-opening, b-closing, b-comma, Tokens, t-end, t-space, t-token, InRange}
 use Rattle.text_formula.specs.Reader.{First, nothing, begins, digitOf, nameOf, singleOf, doubleOf, markedOf, wordOf, numberOf, firstOf, before, andOn, tokensIn, tokensOf}
 
 -- ---- digits
@@ -302,17 +302,9 @@ unfolding tokensOf
 scans-only zero bs = in-made (λ rest. none) (λ rest. tt) bs
 scans-only (suc k) bs = in-made (tokensOf k) (scans-only k) bs
 
--- ---- what tokens of a text can be
+-- ---- the tokens of a text are in range
 
-abbrev pub Fine : Token → Type 0
-Fine (number n) = Unit {0}
-Fine (behaviour i) = i < 64
-Fine (function f) = (0 < f) × (f ≤ 14)
-Fine opening = Unit {0}
-Fine closing = Unit {0}
-Fine comma = Unit {0}
-
-begins-fine : {bs : List ℕ} {t : Token} {rest : List ℕ} → Begins bs t rest → Fine t
+begins-fine : {bs : List ℕ} {t : Token} {rest : List ℕ} → Begins bs t rest → InRange t
 begins-fine (b-number b ds rest h a s) = tt
 begins-fine (b-digit d rest h s) = omega arith
 begins-fine (b-digits d e rest h g l s) = l
@@ -334,7 +326,7 @@ begins-fine (b-opening rest) = tt
 begins-fine (b-closing rest) = tt
 begins-fine (b-comma rest) = tt
 
-pub tokens-fine : {bs : List ℕ} {ts : List Token} → Tokens bs ts → All Fine ts
+pub tokens-fine : {bs : List ℕ} {ts : List Token} → Tokens bs ts → All InRange ts
 tokens-fine t-end = tt
 tokens-fine (t-space d) = tokens-fine d
 tokens-fine (t-token b d) = (begins-fine b, tokens-fine d)

@@ -1,7 +1,7 @@
 -- The field that is written is one of a sheet: the sheet's expression reader accepts it and reads the formula's
 -- expression (01 "The sheet"). A formula's names and functions are a sheet's, by induction on the derivation; `nesting`
 -- is what `Nested` bounds, by induction on the expression; then the grammar crate's `expr-reads`.
-use Prim.Native.Nat.{ℕ, zero, suc, _+_, _≤_, _<_}
+use Prim.Native.Nat.{ℕ, zero, suc, _≤_, _<_}
 use mathlib.Core.Bool.{true, false}
 use mathlib.Core.Path.{_≡_, refl, sym}
 use mathlib.Core.List.{List, [], _∷_, _++_}
@@ -15,15 +15,15 @@ use Rattle.lib_base.proofs.Tools.{by-test, all-split, neither}
 use Rattle.spec_language.specs.Syntax.{Expr, con, name, app1, app2, app3}
 use Rattle.spec_language.specs.Sheet.{fillTerm}
 use Rattle.spec_language.specs.Grammar.{Arity, unary, ternary, binary, Nested, n-con, n-name, n-app1, n-app2, n-app3, TermFits, t-literal, t-variable, t-apply1, t-apply2, t-apply3}
-use Rattle.spec_language.specs.Reading.{got, exprAt}
 use Rattle.spec_grammar.proofs.Expressions.{expr-reads}
-use Rattle.text_formula.specs.Tokens.{Token, function, closing, comma}
+use Rattle.text_formula.specs.Tokens.{Token, function, closing, comma, InRange}
 use Rattle.text_formula.specs.Grammar.{Operator, times, divided, plus, minus, above, at-least, below, at-most, equal, different, both, either, Derives, tighter, two-sided, negated, a-number, a-name, bracketed, choice, Formula, formula}
 use Rattle.text_formula.specs.Reader.{readFormula}
 use Rattle.text_formula.specs.Answer.{large, nesting, deeper, asSent, fieldOf, written, answerTo, formulaOn}
 use Rattle.text_formula.proofs.Deeper.{deeper-left, deeper-right, deeper-most}
-use Rattle.text_formula.proofs.Scans.{Fine, tokens-fine}
+use Rattle.text_formula.proofs.Scans.{tokens-fine}
 use Rattle.text_formula.proofs.Readings.{reading-only}
+use Rattle.text_formula.specs.Statements.{Fields}
 
 -- names of behaviours, and functions with the arguments that they need
 unfoldable pub Proper : Expr → Type 0
@@ -47,19 +47,19 @@ operator-binary different = binary {f = 13} (omega arith) (omega arith) (omega a
 operator-binary both = binary {f = 2} (omega arith) (omega arith) (omega arith)
 operator-binary either = binary {f = 1} (omega arith) (omega arith) (omega arith)
 
-derives-proper : {l : ℕ} {ts : List Token} {e : Expr} → Derives l ts e → All Fine ts → Proper e
+derives-proper : {l : ℕ} {ts : List Token} {e : Expr} → Derives l ts e → All InRange ts → Proper e
 unfolding Proper
 derives-proper (tighter d) h = derives-proper d h
 derives-proper (two-sided {l} {f} {ts} {us} o p q) h =
-    let s = all-split Fine ts (function f ∷ us) h in (operator-binary o, derives-proper p (s .0), derives-proper q (s .1 .1))
+    let s = all-split InRange ts (function f ∷ us) h in (operator-binary o, derives-proper p (s .0), derives-proper q (s .1 .1))
 derives-proper (negated d) h = (unary, derives-proper d (h .1))
 derives-proper a-number h = tt
 derives-proper a-name h = h .0
-derives-proper (bracketed {ts} d) h = derives-proper d (all-split Fine ts (closing ∷ []) (h .1) .0)
+derives-proper (bracketed {ts} d) h = derives-proper d (all-split InRange ts (closing ∷ []) (h .1) .0)
 derives-proper (choice {ts} {us} {vs} p q r) h =
-    let x = all-split Fine ts (comma ∷ (us ++ (comma ∷ (vs ++ (closing ∷ []))))) (h .1 .1) in
-    let y = all-split Fine us (comma ∷ (vs ++ (closing ∷ []))) (x .1 .1) in
-    let z = all-split Fine vs (closing ∷ []) (y .1 .1) in
+    let x = all-split InRange ts (comma ∷ (us ++ (comma ∷ (vs ++ (closing ∷ []))))) (h .1 .1) in
+    let y = all-split InRange us (comma ∷ (vs ++ (closing ∷ []))) (x .1 .1) in
+    let z = all-split InRange vs (closing ∷ []) (y .1 .1) in
     (ternary, derives-proper p (x .0), derives-proper q (y .0), derives-proper r (z .0))
 
 pub formula-proper : {text : List ℕ} {e : Expr} → Formula text e → Proper e
@@ -91,16 +91,6 @@ nested (app3 f a b c) (suc k) p s h =
     let n = deeper-right (deeper (nesting a) (nesting b)) (nesting c) in
     n-app3 (p .0) (nested a k (p .1) (z .0) (omega arith)) (nested b k (p .2) (y .0) (omega arith)) (nested c k (p .3) (y .1) (omega arith))
 
--- the other way: an expression of a sheet's nesting is not too deep here
-pub nesting-of : {k : ℕ} {e : Expr} → Nested k e → nesting e ≤ k
-unfolding nesting
-nesting-of (n-con h) = omega arith
-nesting-of (n-name h) = omega arith
-nesting-of (n-app1 r p) = omega (arith, nesting-of p)
-nesting-of (n-app2 {a = a} {b = b} r p q) = omega (arith, deeper-most (nesting a) (nesting b) _ (nesting-of p) (nesting-of q))
-nesting-of (n-app3 {a = a} {b = b} {c = c} r p q t) =
-    omega (arith, deeper-most (deeper (nesting a) (nesting b)) (nesting c) _ (deeper-most (nesting a) (nesting b) _ (nesting-of p) (nesting-of q)) (nesting-of t))
-
 -- ---- as a sheet sends it
 
 pub sent-fits : {k : ℕ} {e : Expr} → Nested k e → TermFits k (asSent e)
@@ -121,20 +111,6 @@ sent-means v (app2 f a b) = rw (sent-means v a, sent-means v b)
 sent-means v (app3 f a b c) = rw (sent-means v a, sent-means v b, sent-means v c)
 
 -- ---- the field that is written
-
-pub record Field (text buffer : List ℕ) (n : ℕ) (after : List ℕ) : Type 0 where
-  pub expression : Expr
-  pub reading : Formula text expression
-  pub length-is : n ≡ length (fieldOf expression)
-  pub fits : n ≤ length buffer
-  pub bytes : after ≡ fieldOf expression ++ drop n buffer
-  pub nests : Nested 16 expression
-  pub read-back : exprAt 16 after ≡ got (asSent expression) (drop n buffer)
-  pub means : (v : ℕ → ℕ) → fillTerm v (asSent expression) ≡ expression
-
--- of an answer beyond the refusals
-abbrev pub Fields : List ℕ → List ℕ → ℕ × List ℕ → Type 0
-Fields text buffer a = (n : ℕ) → a .0 ≡ 4294967296 + n → Field text buffer n (a .1)
 
 field-of : (text buffer : List ℕ) (e : Expr) → Formula text e → Fields text buffer (written e buffer)
 unfolding written

@@ -1,2 +1,4 @@
-// Definitions and laws only: tokens and grammar of formulas, the reader as a function, what a text answers. They stand
-// in specs/.
+// Formulas as texts and what they answer (02, M-105): definitions in specs/; the numbers of tokens and of precedence
+// levels, for the code, here.
+pub mod levels;
+pub mod tokens;

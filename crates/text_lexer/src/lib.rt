@@ -1,10 +1,18 @@
 // The tokens of a formula: a number for each, from left to right, in a lent array.
+use text_formula::tokens;
 ghost use mathlib.Core.Path.{_≡_};
 ghost use Prim.Native.Nat.{_<_, _≤_, _*_, _+_};
 ghost use lib.ListN.{length, getD, drop};
 ghost use Rattle.text_formula.specs.Reader.{digitOf, nameOf, singleOf, doubleOf, markedOf, wordOf, numberOf, firstOf};
 ghost use Rattle.text_lexer.specs.Codes.{capped, found};
 ghost use Rattle.text_lexer.specs.Scanned.{Narrow, Scanned, Scans};
+
+// What stands for the digit of a byte that is none, and the last digit.
+const NO_DIGIT: u8 = 10;
+
+const LAST_DIGIT: u8 = 9;
+
+const TEN: u64 = 10;
 
 // What stands at a place of a text: a token's number and how many bytes it takes, or none.
 pub enum Token {
@@ -32,36 +40,36 @@ fn byte_at(s: &[u8], i: usize) -> u8
 fn digit(b: u8) -> u8
     ensures { λ r. ⌜ r ≡ digitOf b ⌝ }
 {
-    if b < 48 {
-        return 10;
+    if b < b'0' {
+        return NO_DIGIT;
     }
-    if 57 < b {
-        return 10;
+    if b'9' < b {
+        return NO_DIGIT;
     }
-    b - 48
+    b - b'0'
 }
 
 // A name, by the digits after its letter: b0 to b63, without leading zeros.
 fn name_of(x: u8, y: u8, z: u8) -> Token
     ensures { λ r. ⌜ r ≡ nameOf Token.Missing found x y z ⌝ }
 {
-    if 9 < x {
+    if LAST_DIGIT < x {
         return Token::Missing;
     }
-    if 9 < y {
-        return Token::Found(73014444032 + (x as u64), 2);
+    if LAST_DIGIT < y {
+        return Token::Found(tokens::NAME + (x as u64), 2);
     }
-    if z < 10 {
+    if z < NO_DIGIT {
         return Token::Missing;
     }
     if x == 0 {
         return Token::Missing;
     }
-    let i = (x as u64) * 10 + (y as u64);
-    if 63 < i {
+    let i = (x as u64) * TEN + (y as u64);
+    if tokens::LAST_NAME < i {
         return Token::Missing;
     }
-    Token::Found(73014444032 + i, 3)
+    Token::Found(tokens::NAME + i, 3)
 }
 
 // A token of one byte that none lengthens.
@@ -69,25 +77,25 @@ fn single_of(b: u8) -> Token
     ensures { λ r. ⌜ r ≡ singleOf Token.Missing found b ⌝ }
 {
     if b == b'(' {
-        return Token::Found(81604378625, 1);
+        return Token::Found(tokens::OPENING, 1);
     }
     if b == b')' {
-        return Token::Found(81604378626, 1);
+        return Token::Found(tokens::CLOSING, 1);
     }
     if b == b',' {
-        return Token::Found(81604378627, 1);
+        return Token::Found(tokens::COMMA, 1);
     }
     if b == b'+' {
-        return Token::Found(77309411332, 1);
+        return Token::Found(tokens::ADD, 1);
     }
     if b == b'-' {
-        return Token::Found(77309411333, 1);
+        return Token::Found(tokens::SUBTRACT, 1);
     }
     if b == b'*' {
-        return Token::Found(77309411334, 1);
+        return Token::Found(tokens::MULTIPLY, 1);
     }
     if b == b'/' {
-        return Token::Found(77309411335, 1);
+        return Token::Found(tokens::DIVIDE, 1);
     }
     Token::Missing
 }
@@ -98,19 +106,19 @@ fn double_of(b: u8, c: u8) -> Token
 {
     if b == b'|' {
         if c == b'|' {
-            return Token::Found(77309411329, 2);
+            return Token::Found(tokens::OR, 2);
         }
         return Token::Missing;
     }
     if b == b'&' {
         if c == b'&' {
-            return Token::Found(77309411330, 2);
+            return Token::Found(tokens::AND, 2);
         }
         return Token::Missing;
     }
     if b == b'i' {
         if c == b'f' {
-            return Token::Found(77309411342, 2);
+            return Token::Found(tokens::IF, 2);
         }
         return Token::Missing;
     }
@@ -123,25 +131,25 @@ fn marked_of(b: u8, c: u8) -> Token
 {
     if b == b'!' {
         if c == b'=' {
-            return Token::Found(77309411341, 2);
+            return Token::Found(tokens::UNEQUAL, 2);
         }
-        return Token::Found(77309411331, 1);
+        return Token::Found(tokens::NOT, 1);
     }
     if b == b'>' {
         if c == b'=' {
-            return Token::Found(77309411337, 2);
+            return Token::Found(tokens::AT_LEAST, 2);
         }
-        return Token::Found(77309411336, 1);
+        return Token::Found(tokens::ABOVE, 1);
     }
     if b == b'<' {
         if c == b'=' {
-            return Token::Found(77309411339, 2);
+            return Token::Found(tokens::AT_MOST, 2);
         }
-        return Token::Found(77309411338, 1);
+        return Token::Found(tokens::BELOW, 1);
     }
     if b == b'=' {
         if c == b'=' {
-            return Token::Found(77309411340, 2);
+            return Token::Found(tokens::EQUAL, 2);
         }
         return Token::Missing;
     }
@@ -171,11 +179,11 @@ fn with_digit(n: u64, d: u8) -> u64
     ensures { λ r. ⌜ r ≡ capped (n * 10 + d) ⌝ }
     ensures { λ r. ⌜ r ≤ 2147483648 ⌝ }
 {
-    let m = n * 10 + (d as u64);
-    if m < 2147483648 {
+    let m = n * TEN + (d as u64);
+    if m < tokens::TOO_LARGE {
         return m;
     }
-    2147483648
+    tokens::TOO_LARGE
 }
 
 // The number at a place, as far as there are digits.
@@ -189,13 +197,13 @@ fn number_at(text: &[u8], at: usize) -> Token
     let mut i = at;
     while i < text.len() {
         let d = digit(text[i]);
-        if 9 < d {
-            return Token::Found(68719476736 + n, i - at);
+        if LAST_DIGIT < d {
+            return Token::Found(tokens::NUMBER + n, i - at);
         }
         n = with_digit(n, d);
         i = i + 1;
     }
-    Token::Found(68719476736 + n, i - at)
+    Token::Found(tokens::NUMBER + n, i - at)
 }
 
 // The token at a place.
@@ -205,7 +213,7 @@ fn token_at(text: &[u8], at: usize) -> Token
     ensures { λ r. ⌜ Scanned (now (text .entry)) at r (firstOf (drop at (now (text .entry)))) ⌝ }
     ensures { λ r. ⌜ Narrow r ⌝ }
 {
-    if digit(text[at]) < 10 {
+    if digit(text[at]) < NO_DIGIT {
         return number_at(text, at);
     }
     word_at(text, at)

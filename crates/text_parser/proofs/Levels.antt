@@ -11,11 +11,10 @@ use Rattle.lib_base.specs.Basics.{All}
 use Rattle.lib_base.proofs.Tools.{split}
 use Rattle.spec_language.specs.Syntax.{Expr, app2}
 use Rattle.spec_language.specs.Grammar.{field, encodeExpr}
-use Rattle.text_formula.specs.Tokens.{Token}
+use Rattle.text_formula.specs.Tokens.{Token, InRange}
 use Rattle.text_formula.specs.Reader.{levelOf, operatorOf, Got, bad, got, then, chain, tower, readAt}
 use Rattle.text_formula.specs.Answer.{deeper, nesting, asSent}
 use Rattle.text_formula.proofs.Deeper.{deeper-sum, deeper-none}
-use Rattle.text_formula.proofs.Scans.{Fine}
 use Rattle.text_lexer.specs.Codes.{code}
 use Rattle.text_phrase.specs.Phrase.{levelIn, closedOf, wrappedIn, Closable}
 use Rattle.text_phrase.specs.declared.Read.{Read}
@@ -39,7 +38,7 @@ Chained m ts k n o p Fault g = g ≡ bad
 Chained m ts k n o p (Done at end depth) g = Midway m ts k n o p at end depth g
 
 pub record Turn (m : ℕ) (cs : List ℕ) (at n : ℕ) (o p : List ℕ) (r : Read) : Type 0 where
-  pub whole : (ts : List Token) → All Fine ts → cs ≡ map code ts → (k : ℕ) → length cs - at ≤ k → Chained m ts k n o p r (readAt (suc m) k (drop at ts))
+  pub whole : (ts : List Token) → All InRange ts → cs ≡ map code ts → (k : ℕ) → length cs - at ≤ k → Chained m ts k n o p r (readAt (suc m) k (drop at ts))
   pub inside : Within (length cs) at n 0 r
   pub room : n ≤ at * 7
   pub few : length cs ≤ 1024
@@ -87,9 +86,9 @@ level-start m cs at n o p r a w h f l j =
 abbrev pub Keeps : ℕ → List ℕ → ℕ → ℕ → List ℕ → Read → List ℕ → Read → Type 0
 Keeps m cs at n p₀ r₀ p r = (o : List ℕ) → Turn m cs at n o p₀ r₀ → Turn m cs at n o p r
 
-pub so-far : (m : ℕ) (cs : List ℕ) (at n : ℕ) (o p₀ : List ℕ) (r₀ : Read) (p : List ℕ) (r : Read) → Keeps m cs at n p₀ r₀ p r → Reading m cs at n o p₀ r₀ → Within (length cs) at n 0 r₀
-    → (n ≤ at * 7) × ((length cs ≤ 1024) × (length o ≡ 7168)) → length p₀ ≡ length o → Turn m cs at n o p r
-so-far m cs at n o p₀ r₀ p r f rd w h l = f o (level-start m cs at n o p₀ r₀ rd w (h .0) (h .1 .0) (l ∙ h .1 .1) (h .1 .1))
+pub so-far : {m : ℕ} {cs : List ℕ} {at n : ℕ} {p₀ : List ℕ} {r₀ : Read} {p : List ℕ} {r : Read} (o : List ℕ) → Keeps m cs at n p₀ r₀ p r → Reading m cs at n o p₀ r₀
+    → Within (length cs) at n 0 r₀ × (length p₀ ≡ 7168) → (n ≤ at * 7) × ((length cs ≤ 1024) × (length o ≡ 7168)) → Turn m cs at n o p r
+so-far {m} {cs} {at} {n} {p₀} {r₀} {p} {r} o f rd w h = f o (level-start m cs at n o p₀ r₀ rd (w .0) (h .0) (h .1 .0) (w .1) (h .1 .1))
 
 -- ---- its end
 
@@ -100,9 +99,10 @@ chain-ends l next zero a ts h = refl
 chain-ends l next (suc k) a [] h = refl
 chain-ends l next (suc k) a (t ∷ us) h = rw (ne-eqb (levelOf t) l (h t us refl))
 
-pub level-fault : {m : ℕ} {cs : List ℕ} {at n : ℕ} {o p : List ℕ} {r : Read} → Turn m cs at n o p r → r ≡ Fault → Reading (suc m) cs at n o p r × Within (length cs) at n 0 r
+pub level-fault : {m : ℕ} {cs : List ℕ} {at n : ℕ} {o p : List ℕ} {r : Read} → Turn m cs at n o p r → r ≡ Fault
+    → Reading (suc m) cs at n o p r × (Within (length cs) at n 0 r × (length p ≡ 7168))
 level-fault {m} {cs} {at} {n} {o} {p} {r} t q =
-    (λ ts fine e k g. ended ts k (rw q at (t .whole ts fine e k g)), t .inside)
+    (λ ts fine e k g. ended ts k (rw q at (t .whole ts fine e k g)), (t .inside, t .kept))
   where
     ended : (ts : List Token) (k : ℕ) → readAt (suc m) k (drop at ts) ≡ bad → Agrees ts 0 n o p r (readAt (suc m) k (drop at ts))
     ended ts k z = rw (q, z) tt
@@ -114,7 +114,7 @@ done-here m ts k n o p at end depth g w h =
     rw e record { onward = refl; size = w .size; written = w .written; nests = w .nests ∙ sym (deeper-none (nesting (w .expr))) }
 
 -- no operator of the level stands at the place
-no-operator : (l : ℕ) (ts : List Token) (cs : List ℕ) (at : ℕ) → All Fine ts → cs ≡ map code ts → (levelIn cs at ≡ l → ⊥) → (t : Token) (us : List Token) → drop at ts ≡ t ∷ us → levelOf t ≡ l → ⊥
+no-operator : (l : ℕ) (ts : List Token) (cs : List ℕ) (at : ℕ) → All InRange ts → cs ≡ map code ts → (levelIn cs at ≡ l → ⊥) → (t : Token) (us : List Token) → drop at ts ≡ t ∷ us → levelOf t ≡ l → ⊥
 no-operator l ts cs at fine e h t us q d =
     split (ltb at (length cs))
     (λ b. let w = here ts cs fine e at (ltb-true at (length cs) b) in
@@ -125,9 +125,9 @@ no-operator l ts cs at fine e h t us q d =
     let z : _≡_ {A = ℕ} 0 1 = cc in omega arith)
 
 pub level-end : {m : ℕ} {cs : List ℕ} {at n : ℕ} {o p : List ℕ} {r : Read} (to end depth : ℕ) → Turn m cs at n o p r → r ≡ Done to end depth → (levelIn cs to ≡ suc m → ⊥)
-    → Reading (suc m) cs at n o p (Done to end depth) × Within (length cs) at n 0 (Done to end depth)
+    → Reading (suc m) cs at n o p (Done to end depth) × (Within (length cs) at n 0 (Done to end depth) × (length p ≡ 7168))
 level-end {m} {cs} {at} {n} {o} {p} {r} to end depth t q h =
-    (λ ts fine e k g. done-here m ts k n o p to end depth (readAt (suc m) k (drop at ts)) (rw q at (t .whole ts fine e k g)) (no-operator (suc m) ts cs to fine e h), rw q at (t .inside))
+    (λ ts fine e k g. done-here m ts k n o p to end depth (readAt (suc m) k (drop at ts)) (rw q at (t .whole ts fine e k g)) (no-operator (suc m) ts cs to fine e h), (rw q at (t .inside), t .kept))
 
 -- ---- a turn: an operator of the level and its operand
 

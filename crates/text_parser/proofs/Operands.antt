@@ -11,11 +11,10 @@ use Rattle.lib_base.specs.Basics.{pick, All}
 use Rattle.lib_base.proofs.Tools.{by-test, by-two, split}
 use Rattle.spec_language.specs.Syntax.{Expr, con, name, app1, app3}
 use Rattle.spec_language.specs.Grammar.{field, word, encodeExpr}
-use Rattle.text_formula.specs.Tokens.{Token, number, behaviour, function, opening, closing, comma}
+use Rattle.text_formula.specs.Tokens.{Token, number, behaviour, function, opening, closing, comma, InRange}
 use Rattle.text_formula.specs.Reader.{markOf, Got, bad, got, then, past, bracketedOf, choiceOf, operandOf, operandAt, tower, readAt}
 use Rattle.text_formula.specs.Answer.{deeper, nesting, asSent}
 use Rattle.text_formula.proofs.Deeper.{deeper-sum, deeper-none}
-use Rattle.text_formula.proofs.Scans.{Fine}
 use Rattle.text_lexer.specs.Codes.{capped, code}
 use Rattle.text_lexer.proofs.CodeLaws.{capped-most}
 use Rattle.text_encode.specs.Fields.{placed}
@@ -28,7 +27,7 @@ use Rattle.text_parser.proofs.Levels.{left}
 
 -- ---- a bracket or comma that is due
 
-past-mark : (m : ℕ) (f : List Token → Got) (ts : List Token) (cs : List ℕ) (at : ℕ) → 0 < m → All Fine ts → cs ≡ map code ts
+past-mark : (m : ℕ) (f : List Token → Got) (ts : List Token) (cs : List ℕ) (at : ℕ) → 0 < m → All InRange ts → cs ≡ map code ts
     → past m f (drop at ts) ≡ pick (eqb (markIn cs at) m) (f (drop (at + 1) ts)) bad
 past-mark m f ts cs at h fine e =
     split (ltb at (length cs))
@@ -76,7 +75,7 @@ argued-in m cs o p (Done at n d) (Done to end depth) i a = let w = a .1 in omega
 
 -- ---- brackets
 
-ended-agrees : (ts : List Token) (cs : List ℕ) → All Fine ts → cs ≡ map code ts → (n : ℕ) (o p : List ℕ) (q : Read) (g : Got) → Agrees ts 0 n o p q g
+ended-agrees : (ts : List Token) (cs : List ℕ) → All InRange ts → cs ≡ map code ts → (n : ℕ) (o p : List ℕ) (q : Read) (g : Got) → Agrees ts 0 n o p q g
     → Agrees ts 0 n o p (endedIn cs q) (then g (λ e vs. past 2 (λ ws. got e ws) vs))
 ended-agrees ts cs fine x n o p Fault bad a = tt
 ended-agrees ts cs fine x n o p Fault (got e rest) a = absurd a
@@ -132,7 +131,7 @@ further : {n : ℕ} {o p q v : List ℕ} {end to : ℕ} (w : List ℕ) → SoFar
 further {n} {o} {p} {q} {v} {end} {to} w s h e =
     record { size = rw (length-append v w) (omega (arith, s .size)); written = e ∙ rw (s .written) (append-assoc (take n o) v w) }
 
-module _ (ts : List Token) (cs : List ℕ) (fine : All Fine ts) (x : cs ≡ map code ts) (k n : ℕ) (o p₃ : List ℕ) (fits : n ≤ length o) where
+module _ (ts : List Token) (cs : List ℕ) (fine : All InRange ts) (x : cs ≡ map code ts) (k n : ℕ) (o p₃ : List ℕ) (fits : n ≤ length o) where
   third : (a b : Expr) (p₂ : List ℕ) (end₂ d₂ : ℕ) → SoFar n o p₂ (bytes a ++ bytes b) end₂ → d₂ ≡ deeper (nesting a) (nesting b) → (r : Read) (g : Got) → Agrees ts d₂ end₂ p₂ p₃ r g
       → Roomy (length p₃) r → Agrees ts 0 n o (wrappedIn 14 n (endedIn cs r) p₃) (closedOf 0 (endedIn cs r)) (then g (λ c zs. past 2 (λ rest. got (app3 14 a b c) rest) zs))
   third a b p₂ end₂ d₂ s d Fault bad h m = tt
@@ -232,7 +231,7 @@ unfolding tower operandAt
 taken ts at zero t h e = absurd (omega arith)
 taken ts at (suc k) t h e = rw (sub-one, e)
 
-is-function : (t : Token) (f : ℕ) → Fine t → f < 256 → code t ≡ 77309411328 + f → t ≡ function f
+is-function : (t : Token) (f : ℕ) → InRange t → f < 256 → code t ≡ 77309411328 + f → t ≡ function f
 is-function (number n) f h g e = absurd (omega (arith, capped-most n))
 is-function (behaviour i) f h g e = absurd (omega arith)
 is-function (function j) f h g e = let q : j ≡ f = omega arith in ap function q
@@ -240,7 +239,7 @@ is-function opening f h g e = absurd (omega arith)
 is-function closing f h g e = absurd (omega arith)
 is-function comma f h g e = absurd (omega arith)
 
-is-opening : (t : Token) → Fine t → code t ≡ 81604378625 → t ≡ opening
+is-opening : (t : Token) → InRange t → code t ≡ 81604378625 → t ≡ opening
 is-opening (number n) h e = absurd (omega (arith, capped-most n))
 is-opening (behaviour i) h e = absurd (omega arith)
 is-opening (function j) h e = absurd (omega arith)
@@ -334,7 +333,7 @@ placed-wrote ts n o v at end e s q h d =
       nests = rw (d, deeper-none 1);
     }
 
-leaf-agrees : (ts : List Token) (at n : ℕ) (o : List ℕ) (operand all : List Token → Got) (t : Token) → Fine t → n + 7 ≤ length o
+leaf-agrees : (ts : List Token) (at n : ℕ) (o : List ℕ) (operand all : List Token → Got) (t : Token) → InRange t → n + 7 ≤ length o
     → (code t ≡ 77309411331 → ⊥) → (code t ≡ 77309411342 → ⊥) → (code t ≡ 81604378625 → ⊥)
     → Agrees ts 0 n o (leafOut (code t) n o) (leafRead (code t) at n) (operandOf operand all (t ∷ drop (at + 1) ts))
 unfolding leafOut leafRead
@@ -376,3 +375,7 @@ pub argued-left : (m : ℕ) (cs o p : List ℕ) (r q : Read) → Argued m cs o p
 argued-left m cs o p Fault q a = rw a (omega arith)
 argued-left m cs o p (Done at n d) Fault a = omega arith
 argued-left m cs o p (Done at n d) (Done to end depth) a = let w = a .1 in omega arith
+
+-- what was read, with the buffer's length beside it
+pub with-length : {A B C : Type 0} → A × B → C → A × (B × C)
+with-length h l = (h .0, (h .1, l))

@@ -11,9 +11,8 @@ use lib.Dec.{ltb}
 use borrow.Author.Tests.{lt-ltb, le-ltb}
 use Rattle.lib_base.specs.Basics.{All}
 use Rattle.spec_language.specs.Grammar.{field}
-use Rattle.text_formula.specs.Tokens.{Token, number, behaviour, function, opening, closing, comma}
+use Rattle.text_formula.specs.Tokens.{Token, number, behaviour, function, opening, closing, comma, InRange}
 use Rattle.text_formula.specs.Reader.{levelOf, operatorOf, markOf}
-use Rattle.text_formula.proofs.Scans.{Fine}
 use Rattle.text_lexer.specs.Codes.{capped, code}
 use Rattle.text_lexer.proofs.CodeLaws.{capped-most}
 use Rattle.text_encode.specs.Fields.{placed}
@@ -21,7 +20,7 @@ use Rattle.text_phrase.specs.Phrase.{levelCode, levelIn, markCode, markIn}
 
 -- ---- tokens and their numbers
 
-level-code : (t : Token) → Fine t → levelCode (code t) ≡ levelOf t
+level-code : (t : Token) → InRange t → levelCode (code t) ≡ levelOf t
 unfolding levelCode
 level-code (number n) h = let q : (68719476736 + capped n) / 4294967296 ≡ 16 = omega (arith, capped-most n) in rw q
 level-code (behaviour i) h = let q : (73014444032 + i) / 4294967296 ≡ 17 = omega arith in rw q
@@ -33,7 +32,7 @@ level-code opening h = refl
 level-code closing h = refl
 level-code comma h = refl
 
-mark-code : (t : Token) → Fine t → markCode (code t) ≡ markOf t
+mark-code : (t : Token) → InRange t → markCode (code t) ≡ markOf t
 unfolding markCode
 mark-code (number n) h = let q : (68719476736 + capped n) / 4294967296 ≡ 16 = omega (arith, capped-most n) in rw q
 mark-code (behaviour i) h = let q : (73014444032 + i) / 4294967296 ≡ 17 = omega arith in rw q
@@ -42,7 +41,7 @@ mark-code opening h = refl
 mark-code closing h = refl
 mark-code comma h = refl
 
-operator-byte : (t : Token) → Fine t → 0 < levelOf t → code t % 256 ≡ operatorOf t
+operator-byte : (t : Token) → InRange t → 0 < levelOf t → code t % 256 ≡ operatorOf t
 operator-byte (number n) h g = absurd (omega arith)
 operator-byte (behaviour i) h g = absurd (omega arith)
 operator-byte (function f) h g = omega arith
@@ -55,7 +54,7 @@ pub record Here (ts : List Token) (cs : List ℕ) (at : ℕ) : Type 0 where
   pub token : Token
   pub number-is : getD cs at 0 ≡ code token
   pub onward : drop at ts ≡ token ∷ drop (at + 1) ts
-  pub fine : Fine token
+  pub fine : InRange token
   pub level-is : levelIn cs at ≡ levelOf token
   pub mark-is : markIn cs at ≡ markOf token
   pub byte-is : 0 < levelOf token → getD cs at 0 % 256 ≡ operatorOf token
@@ -64,14 +63,14 @@ record There (ts : List Token) (at : ℕ) : Type 0 where
   pub token : Token
   pub number-is : getD (map code ts) at 0 ≡ code token
   pub onward : drop at ts ≡ token ∷ drop (suc at) ts
-  pub fine : Fine token
+  pub fine : InRange token
 
-there : (ts : List Token) → All Fine ts → (at : ℕ) → at < length ts → There ts at
+there : (ts : List Token) → All InRange ts → (at : ℕ) → at < length ts → There ts at
 there [] h at g = absurd (omega arith)
 there (t ∷ ts) h zero g = record { token = t; number-is = refl; onward = refl; fine = h .0 }
 there (t ∷ ts) h (suc at) g = let r = there ts (h .1) at (omega arith) in record { token = r .token; number-is = r .number-is; onward = r .onward; fine = r .fine }
 
-pub here : (ts : List Token) (cs : List ℕ) → All Fine ts → cs ≡ map code ts → (at : ℕ) → at < length cs → Here ts cs at
+pub here : (ts : List Token) (cs : List ℕ) → All InRange ts → cs ≡ map code ts → (at : ℕ) → at < length cs → Here ts cs at
 unfolding levelIn markIn
 here ts cs h e at g =
     let l : length cs ≡ length ts = ap length e ∙ length-map ts code in

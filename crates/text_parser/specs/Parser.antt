@@ -6,10 +6,9 @@ use mathlib.Core.List.{List, _++_, map}
 use lib.ListN.{length, take, drop}
 use Rattle.lib_base.specs.Basics.{All}
 use Rattle.spec_language.specs.Syntax.{Expr, con, name, app1, app2, app3}
-use Rattle.text_formula.specs.Tokens.{Token}
+use Rattle.text_formula.specs.Tokens.{Token, InRange}
 use Rattle.text_formula.specs.Reader.{Got, bad, got, past, choiceOf, readAt}
 use Rattle.text_formula.specs.Answer.{deeper, nesting, fieldOf}
-use Rattle.text_formula.proofs.Scans.{Fine}
 use Rattle.text_lexer.specs.Codes.{capped, code}
 use Rattle.text_phrase.specs.declared.Read.{Read}
 use Rattle.text_phrase.specs.declared.Read.the-variants.{Done, Fault}
@@ -43,11 +42,11 @@ Agrees ts d n o p (Done at end depth) (got e rest) = Wrote ts d n o p at end dep
 -- for whatever tokens the numbers cs stand for, and any bound that is large enough
 abbrev pub Reading : ℕ → List ℕ → ℕ → ℕ → List ℕ → List ℕ → Read → Type 0
 Reading l cs at n o p r =
-    (ts : List Token) → All Fine ts → cs ≡ map code ts → (k : ℕ) → length cs - at ≤ k → Agrees ts 0 n o p r (readAt l k (drop at ts))
+    (ts : List Token) → All InRange ts → cs ≡ map code ts → (k : ℕ) → length cs - at ≤ k → Agrees ts 0 n o p r (readAt l k (drop at ts))
 
 abbrev pub Chosen : List ℕ → ℕ → ℕ → List ℕ → List ℕ → Read → Type 0
 Chosen cs at n o p r =
-    (ts : List Token) → All Fine ts → cs ≡ map code ts → (k : ℕ) → length cs - at ≤ suc k → Agrees ts 0 n o p r (choiceOf (readAt 6 k) (drop (at + 1) ts))
+    (ts : List Token) → All InRange ts → cs ≡ map code ts → (k : ℕ) → length cs - at ≤ suc k → Agrees ts 0 n o p r (choiceOf (readAt 6 k) (drop (at + 1) ts))
 
 -- a reading goes on within the tokens; a token gives at most seven bytes and one level of nesting
 abbrev pub Within : ℕ → ℕ → ℕ → ℕ → Read → Type 0
@@ -62,5 +61,5 @@ ArgumentIn (Done at n d) = (n ≤ at * 7) × (d ≤ at)
 abbrev pub Argued : ℕ → List ℕ → List ℕ → List ℕ → Read → Read → Type 0
 Argued m cs o p Fault q = q ≡ Fault
 Argued m cs o p (Done at n d) q =
-    ((ts : List Token) → All Fine ts → cs ≡ map code ts → (k : ℕ) → length cs - at ≤ suc k → Agrees ts d n o p q (past m (readAt 6 k) (drop at ts)))
+    ((ts : List Token) → All InRange ts → cs ≡ map code ts → (k : ℕ) → length cs - at ≤ suc k → Agrees ts d n o p q (past m (readAt 6 k) (drop at ts)))
     × Within (length cs) at n d q

@@ -1,186 +1,207 @@
 // The reader of formulas: one function a precedence level, from `||` down to `!` and the primaries; brackets and `if`
 // call back to the first. Each call has fewer tokens left, or as many and a lower level. What is read is written to
-// `out` from place n on, as an expression field.
+// `out` from place n on, as an expression field. The frames of these functions are what a nested bracket costs in
+// stack: `out` is lent as an array, one pointer, and one reading `r` is kept in each.
+use spec_language::functions;
+use spec_language::limits;
+use text_formula::levels;
+use text_formula::tokens;
 use text_phrase::Read;
 ghost use mathlib.Core.Path.{_≡_};
 ghost use Prim.Native.Nat.{_<_, _≤_, _*_, _+_};
 ghost use lib.ListN.{length};
 ghost use Rattle.text_parser.specs.Parser.{Reading, Within, Chosen, Argued, ArgumentIn};
 
+// The most bytes of a formula's field: a token has a byte or more, and gives at most a constant's seven.
+pub const FIELD_BYTES: usize = limits::FORMULA_BYTES * text_encode::CONSTANT_BYTES;
+
+// A function token's last byte is its function.
+const BYTE: u64 = 256;
+
 // Level 6: `||`, and so a formula.
-pub fn disjunction(ts: &[u64], at: usize, out: &mut [u8], n: usize) -> Read
+pub fn disjunction(ts: &[u64], at: usize, out: &mut [u8; FIELD_BYTES], n: usize) -> Read
     requires { ⌜ n ≤ at * 7 ⌝ }
     requires { ⌜ length (now ts) ≤ 1024 ⌝ }
     requires { ⌜ length (now out) ≡ 7168 ⌝ }
     ensures { λ r. ⌜ Reading 6 (now (ts .entry)) at n (now (out .entry)) (now (out .exit)) r ⌝ }
     ensures { λ r. ⌜ Within (length (now (ts .entry))) at n 0 r ⌝ }
+    ensures { λ _. ⌜ length (now (out .exit)) ≡ 7168 ⌝ }
 {
     let mut r = conjunction(ts, at, out, n);
     loop {
         let Read::Done(f, end, d) = r else {
             return r;
         };
-        if text_phrase::level_at(ts, f) != 6 {
+        if text_phrase::level_at(ts, f) != levels::DISJUNCTION {
             return r;
         }
-        let q = conjunction(ts, f + 1, out, end);
-        r = text_phrase::close((ts[f] % 256) as u8, n, d, q, out);
+        r = conjunction(ts, f + 1, out, end);
+        r = text_phrase::close((ts[f] % BYTE) as u8, n, d, r, out);
     }
 }
 
 // Level 5: `&&`.
-fn conjunction(ts: &[u64], at: usize, out: &mut [u8], n: usize) -> Read
+fn conjunction(ts: &[u64], at: usize, out: &mut [u8; FIELD_BYTES], n: usize) -> Read
     requires { ⌜ n ≤ at * 7 ⌝ }
     requires { ⌜ length (now ts) ≤ 1024 ⌝ }
     requires { ⌜ length (now out) ≡ 7168 ⌝ }
     ensures { λ r. ⌜ Reading 5 (now (ts .entry)) at n (now (out .entry)) (now (out .exit)) r ⌝ }
     ensures { λ r. ⌜ Within (length (now (ts .entry))) at n 0 r ⌝ }
+    ensures { λ _. ⌜ length (now (out .exit)) ≡ 7168 ⌝ }
 {
     let mut r = equality(ts, at, out, n);
     loop {
         let Read::Done(f, end, d) = r else {
             return r;
         };
-        if text_phrase::level_at(ts, f) != 5 {
+        if text_phrase::level_at(ts, f) != levels::CONJUNCTION {
             return r;
         }
-        let q = equality(ts, f + 1, out, end);
-        r = text_phrase::close((ts[f] % 256) as u8, n, d, q, out);
+        r = equality(ts, f + 1, out, end);
+        r = text_phrase::close((ts[f] % BYTE) as u8, n, d, r, out);
     }
 }
 
 // Level 4: `== !=`.
-fn equality(ts: &[u64], at: usize, out: &mut [u8], n: usize) -> Read
+fn equality(ts: &[u64], at: usize, out: &mut [u8; FIELD_BYTES], n: usize) -> Read
     requires { ⌜ n ≤ at * 7 ⌝ }
     requires { ⌜ length (now ts) ≤ 1024 ⌝ }
     requires { ⌜ length (now out) ≡ 7168 ⌝ }
     ensures { λ r. ⌜ Reading 4 (now (ts .entry)) at n (now (out .entry)) (now (out .exit)) r ⌝ }
     ensures { λ r. ⌜ Within (length (now (ts .entry))) at n 0 r ⌝ }
+    ensures { λ _. ⌜ length (now (out .exit)) ≡ 7168 ⌝ }
 {
     let mut r = ordering(ts, at, out, n);
     loop {
         let Read::Done(f, end, d) = r else {
             return r;
         };
-        if text_phrase::level_at(ts, f) != 4 {
+        if text_phrase::level_at(ts, f) != levels::EQUALITY {
             return r;
         }
-        let q = ordering(ts, f + 1, out, end);
-        r = text_phrase::close((ts[f] % 256) as u8, n, d, q, out);
+        r = ordering(ts, f + 1, out, end);
+        r = text_phrase::close((ts[f] % BYTE) as u8, n, d, r, out);
     }
 }
 
 // Level 3: `> >= < <=`.
-fn ordering(ts: &[u64], at: usize, out: &mut [u8], n: usize) -> Read
+fn ordering(ts: &[u64], at: usize, out: &mut [u8; FIELD_BYTES], n: usize) -> Read
     requires { ⌜ n ≤ at * 7 ⌝ }
     requires { ⌜ length (now ts) ≤ 1024 ⌝ }
     requires { ⌜ length (now out) ≡ 7168 ⌝ }
     ensures { λ r. ⌜ Reading 3 (now (ts .entry)) at n (now (out .entry)) (now (out .exit)) r ⌝ }
     ensures { λ r. ⌜ Within (length (now (ts .entry))) at n 0 r ⌝ }
+    ensures { λ _. ⌜ length (now (out .exit)) ≡ 7168 ⌝ }
 {
     let mut r = sum(ts, at, out, n);
     loop {
         let Read::Done(f, end, d) = r else {
             return r;
         };
-        if text_phrase::level_at(ts, f) != 3 {
+        if text_phrase::level_at(ts, f) != levels::ORDERING {
             return r;
         }
-        let q = sum(ts, f + 1, out, end);
-        r = text_phrase::close((ts[f] % 256) as u8, n, d, q, out);
+        r = sum(ts, f + 1, out, end);
+        r = text_phrase::close((ts[f] % BYTE) as u8, n, d, r, out);
     }
 }
 
 // Level 2: `+ -`.
-fn sum(ts: &[u64], at: usize, out: &mut [u8], n: usize) -> Read
+fn sum(ts: &[u64], at: usize, out: &mut [u8; FIELD_BYTES], n: usize) -> Read
     requires { ⌜ n ≤ at * 7 ⌝ }
     requires { ⌜ length (now ts) ≤ 1024 ⌝ }
     requires { ⌜ length (now out) ≡ 7168 ⌝ }
     ensures { λ r. ⌜ Reading 2 (now (ts .entry)) at n (now (out .entry)) (now (out .exit)) r ⌝ }
     ensures { λ r. ⌜ Within (length (now (ts .entry))) at n 0 r ⌝ }
+    ensures { λ _. ⌜ length (now (out .exit)) ≡ 7168 ⌝ }
 {
     let mut r = product(ts, at, out, n);
     loop {
         let Read::Done(f, end, d) = r else {
             return r;
         };
-        if text_phrase::level_at(ts, f) != 2 {
+        if text_phrase::level_at(ts, f) != levels::SUM {
             return r;
         }
-        let q = product(ts, f + 1, out, end);
-        r = text_phrase::close((ts[f] % 256) as u8, n, d, q, out);
+        r = product(ts, f + 1, out, end);
+        r = text_phrase::close((ts[f] % BYTE) as u8, n, d, r, out);
     }
 }
 
 // Level 1: `* /`.
-fn product(ts: &[u64], at: usize, out: &mut [u8], n: usize) -> Read
+fn product(ts: &[u64], at: usize, out: &mut [u8; FIELD_BYTES], n: usize) -> Read
     requires { ⌜ n ≤ at * 7 ⌝ }
     requires { ⌜ length (now ts) ≤ 1024 ⌝ }
     requires { ⌜ length (now out) ≡ 7168 ⌝ }
     ensures { λ r. ⌜ Reading 1 (now (ts .entry)) at n (now (out .entry)) (now (out .exit)) r ⌝ }
     ensures { λ r. ⌜ Within (length (now (ts .entry))) at n 0 r ⌝ }
+    ensures { λ _. ⌜ length (now (out .exit)) ≡ 7168 ⌝ }
 {
     let mut r = operand(ts, at, out, n);
     loop {
         let Read::Done(f, end, d) = r else {
             return r;
         };
-        if text_phrase::level_at(ts, f) != 1 {
+        if text_phrase::level_at(ts, f) != levels::PRODUCT {
             return r;
         }
-        let q = operand(ts, f + 1, out, end);
-        r = text_phrase::close((ts[f] % 256) as u8, n, d, q, out);
+        r = operand(ts, f + 1, out, end);
+        r = text_phrase::close((ts[f] % BYTE) as u8, n, d, r, out);
     }
 }
 
 // Level 0: `!`, numbers, names, brackets and `if`.
-fn operand(ts: &[u64], at: usize, out: &mut [u8], n: usize) -> Read
+fn operand(ts: &[u64], at: usize, out: &mut [u8; FIELD_BYTES], n: usize) -> Read
     requires { ⌜ n ≤ at * 7 ⌝ }
     requires { ⌜ length (now ts) ≤ 1024 ⌝ }
     requires { ⌜ length (now out) ≡ 7168 ⌝ }
     ensures { λ r. ⌜ Reading 0 (now (ts .entry)) at n (now (out .entry)) (now (out .exit)) r ⌝ }
     ensures { λ r. ⌜ Within (length (now (ts .entry))) at n 0 r ⌝ }
+    ensures { λ _. ⌜ length (now (out .exit)) ≡ 7168 ⌝ }
 {
     if ts.len() <= at {
         return Read::Fault;
     }
     let t = ts[at];
-    if t == 77309411331 {
+    if t == tokens::NOT {
         let r = operand(ts, at + 1, out, n);
-        return text_phrase::close(3, n, 0, r, out);
+        return text_phrase::close(functions::NOT, n, 0, r, out);
     }
-    if t == 77309411342 {
+    if t == tokens::IF {
         return choice(ts, at, out, n);
     }
-    if t == 81604378625 {
-        let r = argument(ts, 1, Read::Done(at, n, 0), out);
+    if t == tokens::OPENING {
+        let r = argument(ts, tokens::OPENING_MARK, Read::Done(at, n, 0), out);
         return text_phrase::ended(ts, r);
     }
     text_phrase::leaf(t, at, out, n)
 }
 
 // `if`, which stands at the place, and its three arguments.
-fn choice(ts: &[u64], at: usize, out: &mut [u8], n: usize) -> Read
+fn choice(ts: &[u64], at: usize, out: &mut [u8; FIELD_BYTES], n: usize) -> Read
     requires { ⌜ n ≤ at * 7 ⌝ }
     requires { ⌜ at < length (now ts) ⌝ }
     requires { ⌜ length (now ts) ≤ 1024 ⌝ }
     requires { ⌜ length (now out) ≡ 7168 ⌝ }
     ensures { λ r. ⌜ Chosen (now (ts .entry)) at n (now (out .entry)) (now (out .exit)) r ⌝ }
     ensures { λ r. ⌜ Within (length (now (ts .entry))) at n 0 r ⌝ }
+    ensures { λ _. ⌜ length (now (out .exit)) ≡ 7168 ⌝ }
 {
-    let a = argument(ts, 1, Read::Done(at + 1, n, 0), out);
-    let b = argument(ts, 3, a, out);
-    let c = argument(ts, 3, b, out);
-    text_phrase::close(14, n, 0, text_phrase::ended(ts, c), out)
+    let mut r = argument(ts, tokens::OPENING_MARK, Read::Done(at + 1, n, 0), out);
+    r = argument(ts, tokens::COMMA_MARK, r, out);
+    r = argument(ts, tokens::COMMA_MARK, r, out);
+    r = text_phrase::ended(ts, r);
+    text_phrase::close(functions::IF, n, 0, r, out)
 }
 
 // A bracket or comma of number m, which is due, and a formula; what was read before is r.
-fn argument(ts: &[u64], m: u64, r: Read, out: &mut [u8]) -> Read
+fn argument(ts: &[u64], m: u64, r: Read, out: &mut [u8; FIELD_BYTES]) -> Read
     requires { ⌜ ArgumentIn r ⌝ }
     requires { ⌜ 0 < m ⌝ }
     requires { ⌜ length (now ts) ≤ 1024 ⌝ }
     requires { ⌜ length (now out) ≡ 7168 ⌝ }
     ensures { λ q. ⌜ Argued m (now (ts .entry)) (now (out .entry)) (now (out .exit)) r q ⌝ }
+    ensures { λ _. ⌜ length (now (out .exit)) ≡ 7168 ⌝ }
 {
     let Read::Done(at, n, d) = r else {
         return r;

@@ -1,10 +1,28 @@
 // What stands at a place of a formula's tokens, and what a reading has come to: the parts of the level functions that
 // do not call them.
+use spec_language::functions;
+use text_formula::levels;
+use text_formula::tokens;
 ghost use mathlib.Core.Path.{_≡_};
 ghost use Prim.Native.Nat.{_<_, _≤_, _+_};
 ghost use lib.ListN.{length};
 ghost use Rattle.text_formula.specs.Answer.{deeper as deeperOf};
 ghost use Rattle.text_phrase.specs.Phrase.{levelCode, levelIn, markCode, markIn, underOf, closedOf, wrappedIn, endedIn, leafRead, leafOut, Closable};
+
+// The last functions of the levels, of which 01 counts those of one level in a row.
+const NOT: u64 = functions::NOT as u64;
+
+const SUBTRACT: u64 = functions::SUBTRACT as u64;
+
+const DIVIDE: u64 = functions::DIVIDE as u64;
+
+const AT_MOST: u64 = functions::AT_MOST as u64;
+
+const UNEQUAL: u64 = functions::UNEQUAL as u64;
+
+const AND: u64 = functions::AND as u64;
+
+const OR: u64 = functions::OR as u64;
 
 // A reading: the place of the next token, the end of the bytes written and the nesting; or no expression.
 pub enum Read {
@@ -16,30 +34,30 @@ pub enum Read {
 fn level_of(t: u64) -> u64
     ensures { λ r. ⌜ r ≡ levelCode t ⌝ }
 {
-    if t / 4294967296 != 18 {
+    if t / tokens::WORDS != tokens::FUNCTION_KIND {
         return 0;
     }
-    let f = t % 4294967296;
-    if 13 < f {
+    let f = t % tokens::WORDS;
+    if UNEQUAL < f {
         return 0;
     }
-    if 11 < f {
-        return 4;
+    if AT_MOST < f {
+        return levels::EQUALITY;
     }
-    if 7 < f {
-        return 3;
+    if DIVIDE < f {
+        return levels::ORDERING;
     }
-    if 5 < f {
-        return 1;
+    if SUBTRACT < f {
+        return levels::PRODUCT;
     }
-    if 3 < f {
-        return 2;
+    if NOT < f {
+        return levels::SUM;
     }
-    if f == 2 {
-        return 5;
+    if f == AND {
+        return levels::CONJUNCTION;
     }
-    if f == 1 {
-        return 6;
+    if f == OR {
+        return levels::DISJUNCTION;
     }
     0
 }
@@ -58,10 +76,10 @@ pub fn level_at(ts: &[u64], at: usize) -> u64
 fn mark_of(t: u64) -> u64
     ensures { λ r. ⌜ r ≡ markCode t ⌝ }
 {
-    if t / 4294967296 != 19 {
+    if t / tokens::WORDS != tokens::MARK_KIND {
         return 0;
     }
-    t % 4294967296
+    t % tokens::WORDS
 }
 
 pub fn mark_at(ts: &[u64], at: usize) -> u64
@@ -105,7 +123,7 @@ pub fn close(f: u8, start: usize, d: usize, r: Read, out: &mut [u8]) -> Read
         return r;
     };
     text_encode::wrap(out, start, end, f);
-    Read::Done(at, end + 4, deeper(d, e) + 1)
+    Read::Done(at, end + text_encode::HEAD_BYTES, deeper(d, e) + 1)
 }
 
 // A closing bracket is due.
@@ -115,7 +133,7 @@ pub fn ended(ts: &[u64], r: Read) -> Read
     let Read::Done(at, end, e) = r else {
         return r;
     };
-    if mark_at(ts, at) != 2 {
+    if mark_at(ts, at) != tokens::CLOSING_MARK {
         return Read::Fault;
     }
     Read::Done(at + 1, end, e)
@@ -128,14 +146,14 @@ pub fn leaf(t: u64, at: usize, out: &mut [u8], n: usize) -> Read
     ensures { λ q. ⌜ q ≡ leafRead t at n ⌝ }
     ensures { λ _. ⌜ now (out .exit) ≡ leafOut t n (now (out .entry)) ⌝ }
 {
-    let kind = t / 4294967296;
-    if kind == 16 {
+    let kind = t / tokens::WORDS;
+    if kind == tokens::NUMBER_KIND {
         text_encode::put_number(out, n, t);
-        return Read::Done(at + 1, n + 7, 1);
+        return Read::Done(at + 1, n + text_encode::CONSTANT_BYTES, 1);
     }
-    if kind == 17 {
+    if kind == tokens::NAME_KIND {
         text_encode::put_name(out, n, t);
-        return Read::Done(at + 1, n + 4, 1);
+        return Read::Done(at + 1, n + text_encode::NAME_BYTES, 1);
     }
     Read::Fault
 }

@@ -15,13 +15,13 @@ use borrow.Author.Tests.{ltb-false, lt-ltb, le-ltb}
 use Rattle.lib_base.specs.Basics.{pick, All}
 use Rattle.lib_base.proofs.Tools.{by-test, neither}
 use Rattle.spec_language.specs.Syntax.{Expr, con, name, app1, app2, app3}
-use Rattle.text_formula.specs.Tokens.{Token, number, behaviour, function, opening, closing, comma}
+use Rattle.text_formula.specs.Tokens.{Token, number, behaviour, function, opening, closing, comma, InRange}
 use Rattle.text_formula.specs.Grammar.{Derives, tighter, two-sided, negated, a-number, a-name, bracketed, choice}
 use Rattle.text_formula.specs.Reader.{Got, bad, got, wholly, readAt, tokensOf, readFormula}
 use Rattle.spec_language.specs.Refusals.{noFormula}
 use Rattle.text_formula.specs.Answer.{large, nesting, fieldOf, answered, written, answerTo, formulaOn}
 use Rattle.text_formula.proofs.Deeper.{deeper-none}
-use Rattle.text_formula.proofs.Scans.{Fine, Made, scans-only, tokens-fine}
+use Rattle.text_formula.proofs.Scans.{Made, scans-only, tokens-fine}
 use Rattle.text_formula.proofs.Parses.{Sound, reads-only}
 use Rattle.text_lexer.specs.Codes.{capped, code}
 use Rattle.text_lexer.proofs.CodeLaws.{capped-most}
@@ -69,7 +69,7 @@ largeTokens (t ∷ ts) = pick (largeToken t) true (largeTokens ts)
 capped-large : (n : ℕ) → ltb 2147483647 (capped n) ≡ ltb 2147483647 n
 capped-large n = by-test (λ x. ltb 2147483647 x ≡ ltb 2147483647 n) (ltb n 2147483648) (λ e. refl) (λ e. sym (lt-ltb 2147483647 n (omega (arith, ltb-false n 2147483648 e))))
 
-large-code : (t : Token) → Fine t → largeCode (code t) ≡ largeToken t
+large-code : (t : Token) → InRange t → largeCode (code t) ≡ largeToken t
 unfolding largeCode largeToken
 large-code (number n) h =
     let q : (68719476736 + capped n) / 4294967296 ≡ 16 = omega (arith, capped-most n) in
@@ -81,7 +81,7 @@ large-code opening h = refl
 large-code closing h = refl
 large-code comma h = refl
 
-large-codes : (ts : List Token) → All Fine ts → anyLarge (map code ts) ≡ largeTokens ts
+large-codes : (ts : List Token) → All InRange ts → anyLarge (map code ts) ≡ largeTokens ts
 unfolding anyLarge largeTokens
 large-codes [] h = refl
 large-codes (t ∷ ts) h = rw (large-code t (h .0), large-codes ts (h .1))

@@ -1,5 +1,5 @@
 -- The checks after the reading, by the tokens' numbers and the field's bytes.
-use Prim.Native.Nat.{ℕ, _+_, _/_, _%_}
+use Prim.Native.Nat.{ℕ, _+_, _-_, _/_, _%_}
 use mathlib.Core.Bool.{Bool, true, false}
 use mathlib.Core.Path.{_≡_}
 use mathlib.Core.List.{List, [], _∷_, _++_, map}
@@ -7,10 +7,9 @@ use lib.ListN.{length, drop}
 use lib.Dec.{ltb, eqb}
 use Rattle.lib_base.specs.Basics.{pick, All}
 use Rattle.spec_language.specs.Refusals.{tooDeep, largeNumber, shortField}
-use Rattle.text_formula.specs.Tokens.{Token}
+use Rattle.text_formula.specs.Tokens.{Token, InRange}
 use Rattle.text_formula.specs.Reader.{wholly, readAt}
 use Rattle.text_formula.specs.Answer.{answered, answerTo}
-use Rattle.text_formula.proofs.Scans.{Fine}
 use Rattle.text_lexer.specs.Codes.{code}
 
 unfoldable pub largeCode : ℕ → Bool
@@ -19,6 +18,15 @@ largeCode t = pick (eqb (t / 4294967296) 16) (ltb 2147483647 (t % 4294967296)) f
 unfoldable pub anyLarge : List ℕ → Bool
 anyLarge [] = false
 anyLarge (t ∷ ts) = pick (largeCode t) true (anyLarge ts)
+
+-- how many brackets are open after a token, and one; 0 where one is closed that was not opened
+unfoldable pub openAfter : ℕ → ℕ → ℕ
+openAfter n t = pick (eqb t 81604378625) (n + 1) (pick (eqb t 81604378626) (n - 1) n)
+
+-- whether the brackets of the tokens match, where n - 1 are open before them
+unfoldable pub balancedFrom : ℕ → List ℕ → Bool
+balancedFrom n [] = eqb n 1
+balancedFrom n (t ∷ ts) = pick (eqb n 0) false (balancedFrom (openAfter n t) ts)
 
 -- the answer for a field v, by whether a number is too large, and its nesting
 unfoldable pub delivered : Bool → ℕ → List ℕ → List ℕ → ℕ × List ℕ
@@ -30,4 +38,4 @@ delivered large depth v buffer =
 
 -- for whatever tokens the numbers cs stand for: the answer is that to their reading
 abbrev pub Translated : List ℕ → List ℕ → ℕ × List ℕ → Type 0
-Translated cs buffer a = (ts : List Token) → All Fine ts → cs ≡ map code ts → a ≡ answerTo (wholly (readAt 6 (length ts) ts)) buffer
+Translated cs buffer a = (ts : List Token) → All InRange ts → cs ≡ map code ts → a ≡ answerTo (wholly (readAt 6 (length ts) ts)) buffer

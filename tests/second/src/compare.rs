@@ -100,7 +100,7 @@ pub fn circle(bytes: &[u8], params: &[u8], room: usize) {
     let got = proved::circle(bytes, params, list.part_mut());
     assert!(lent == (bytes.to_vec(), params.to_vec()), "circle changed the sheet or its parameters");
     list.check();
-    let number = if room < 64 { 1 } else { engine::compile(bytes, params).err().unwrap_or(0) };
+    let number = engine::compile(bytes, params).err().unwrap_or(0);
     if number != 12 {
         assert_eq!(got, number as u64, "circle's number");
         assert!(list.part().iter().all(|b| *b == 0x5A), "the list changed");
@@ -111,6 +111,10 @@ pub fn circle(bytes: &[u8], params: &[u8], room: usize) {
     assert_eq!(got % 256, 12, "circle's number");
     assert!(event < sheet.ranks.len() || event == 255, "circle's event");
     assert_eq!(Some(count), sheet.shortest(), "circle's length");
+    if room < count {
+        assert!(list.part().iter().all(|b| *b == 0x5A), "a list too short for the circle changed");
+        return;
+    }
     let members: Vec<usize> = list.part()[..count].iter().map(|b| *b as usize).collect();
     assert!(sheet.is_circle((event < 255).then_some(event), &members), "no circle: {members:?} on {event}");
     assert!(list.part()[count..].iter().all(|b| *b == 0x5A), "bytes past the circle changed");
@@ -151,7 +155,7 @@ fn written_out(bytes: &[u8], table: &[u8]) {
     assert!(got == 3 || other == table[..TABLE], "the table of the sheet written out");
 }
 
-fn packed(a: Answer) -> u64 {
+pub fn packed(a: Answer) -> u64 {
     let about = |k: u64, (n, e, who): Arrival| n as u64 * 65536 + e as u64 * 256 + who as u64 * 16 + k;
     match a {
         Answer::Refused(n) => n as u64,
@@ -173,7 +177,7 @@ pub fn call(table: &[u8], round: &mut [u8], c: Call) -> u64 {
 }
 
 /// The round as read from its bytes against the model engine.
-fn same_round(l: &[u8], m: &Model) {
+pub fn same_round(l: &[u8], m: &Model) {
     assert_eq!(word(l, 0), m.taken, "number taken in");
     let arrival = |n: u32, w: u32| (n, w as usize % 256, w / 256);
     let mut hand: Vec<Arrival> = (0..word(l, 1) as usize).map(|i| arrival(word(l, 8 + 2 * i), word(l, 9 + 2 * i))).collect();
@@ -289,7 +293,7 @@ fn two_phones(sheet: &engine::Sheet, table: &Guarded, [a, b]: &[Vec<Call>; 2]) {
 }
 
 /// A length below, at or beyond the one due.
-fn length(r: &mut Rng, due: usize) -> usize {
+pub fn length(r: &mut Rng, due: usize) -> usize {
     match r.below(5) {
         0 => due - 1,
         1 => r.below(due),
@@ -299,7 +303,7 @@ fn length(r: &mut Rng, due: usize) -> usize {
 }
 
 /// A table with a count or an event's code at its limit or one off, or with any byte among its counts, events and values changed.
-fn damage(r: &mut Rng, t: &mut [u8]) {
+pub fn damage(r: &mut Rng, t: &mut [u8]) {
     if t.len() < 800 {
         return;
     }
@@ -527,16 +531,19 @@ pub struct Tally {
     /// Written, at 0, and refused by number.
     pub formulas: [usize; 32],
     pub joins: [usize; 32],
+    pub agree: crate::agree::Tally,
+    /// Calls of frames that were compared.
+    pub frames: usize,
     /// What a seed is being held against: named where it differs.
     pub part: &'static str,
 }
 
 /// All that a seed stands for; what is drawn later comes from `rest`.
-struct Case {
-    bytes: Vec<u8>,
-    params: Vec<u8>,
+pub struct Case {
+    pub bytes: Vec<u8>,
+    pub params: Vec<u8>,
     fill: u8,
-    calls: Vec<Call>,
+    pub calls: Vec<Call>,
     phones: Option<[Vec<Call>; 2]>,
     /// Calls before bytes are damaged.
     opening: Vec<Call>,
@@ -544,7 +551,7 @@ struct Case {
 }
 
 impl Case {
-    fn new(seed: u64) -> Case {
+    pub fn new(seed: u64) -> Case {
         let mut r = Rng::new(seed);
         let whole = if r.one_in(3) { make::rowed(&mut r) } else { make::encode(&make::sheet(&mut r)) };
         let bytes = if r.one_in(2) { make::damaged(&mut r, whole) } else { whole };
@@ -593,17 +600,21 @@ pub fn script(seed: u64, part: &str) -> Vec<u8> {
 /// One seed's worth of everything.
 pub fn one(seed: u64, tally: &mut Tally) {
     let mut case = Case::new(seed);
-    let r = &mut case.rest;
     tally.part = "formula";
     crate::formula::one(seed, &mut tally.formulas);
     tally.part = "join";
     crate::pool::one(seed, &case.bytes, &case.params, &mut tally.joins);
+    tally.part = "agree";
+    crate::agree::one(seed, &case.bytes, &case.params, &mut tally.agree);
+    tally.part = "types";
+    crate::types::one(seed, &case);
     tally.part = "compile";
     let mut table = Guarded::new(TABLE + 32, case.fill);
     let Some(sheet) = compile(&case.bytes, &case.params, &mut table) else {
         tally.refused[proved::compile(&case.bytes, &case.params, table.part_mut()) as usize] += 1;
         return;
     };
+    let r = &mut case.rest;
     tally.accepted += 1;
     tally.calls += case.calls.len();
     tally.part = "list";
@@ -619,6 +630,10 @@ pub fn one(seed: u64, tally: &mut Tally) {
     foreign(r, &sheet, &table, &case.opening, tally);
     tally.part = "start";
     starts(r, &table, tally);
+    tally.part = "counts";
+    crate::frames::counts(seed, &table);
+    tally.part = "frame";
+    tally.frames += crate::frames::one(seed, &sheet, &table);
     tally.part = "replay";
     replays(r, &table, &case.calls);
     tally.part = "mend";

@@ -578,6 +578,57 @@ impl Sheet {
         seen
     }
 
+    /// Of every two events of unequal rank that are not independent the first pair by number, and the least behaviour that
+    /// one of the two writes and the other reads or writes.
+    pub fn clash(&self) -> Option<(usize, usize, usize)> {
+        let n = self.ranks.len();
+        let of: Vec<[Vec<usize>; 2]> = (0..n).map(|e| [self.writes(e), self.reads(e)]).collect();
+        let writes = |e: usize, i: &usize| of[e][0].contains(i);
+        let touches = |e: usize, i: &usize| writes(e, i) || of[e][1].contains(i);
+        let pairs = (0..n).flat_map(|e| (e + 1..n).map(move |f| (e, f))).filter(|(e, f)| self.ranks[*e] != self.ranks[*f]);
+        let mut all = pairs.filter_map(|(e, f)| {
+            let both = |i: &usize| writes(e, i) && touches(f, i) || writes(f, i) && touches(e, i);
+            (0..self.behaviours.len()).find(both).map(|i| (e, f, i))
+        });
+        all.next()
+    }
+
+    /// Document 02, M-107: what a behaviour depends on for a player: each name in its expression, or in a handler of either
+    /// phase.
+    fn mentions(&self, i: usize) -> Vec<usize> {
+        let mut out = vec![];
+        match &self.behaviours[i] {
+            Behaviour::Passive(e) => names(e, &mut out),
+            Behaviour::Active(_, hs) => hs.iter().for_each(|h| names(&h.expr, &mut out)),
+        }
+        out
+    }
+
+    /// Whether a behaviour depends on one that this player may not see, directly or by a chain.
+    fn tells(&self, i: usize, who: u32) -> bool {
+        let (mut todo, mut seen) = (vec![i], vec![]);
+        while let Some(j) = todo.pop() {
+            if !may(self.viewers[j], who) {
+                return true;
+            }
+            if !seen.contains(&j) {
+                seen.push(j);
+                todo.extend(self.mentions(j));
+            }
+        }
+        false
+    }
+
+    /// The first behaviour that this player sees and that names a hidden one, and the least that it names; none where none
+    /// that the player sees depends on a hidden one.
+    pub fn leak(&self, who: u32) -> Option<(usize, usize)> {
+        let hidden = |j: &usize| !may(self.viewers[*j], who);
+        let seen = || (0..self.behaviours.len()).filter(|i| !hidden(i));
+        let named = seen().find_map(|i| self.mentions(i).into_iter().filter(hidden).min().map(|j| (i, j)));
+        assert_eq!(named.is_some(), seen().any(|i| self.tells(i, who)), "a chain to a hidden one leaves the seen ones somewhere");
+        named
+    }
+
     pub fn independent(&self, e: usize, f: usize) -> bool {
         let apart = |e: usize, f: usize| self.writes(e).iter().all(|i| !self.reads(f).contains(i) && !self.writes(f).contains(i));
         apart(e, f) && apart(f, e)
@@ -774,6 +825,23 @@ impl Model {
             }
             refused => refused,
         }
+    }
+
+    /// Up to so many steps with room for so many commits: how many were made, the commits, and why it ended: 0 all made, 1
+    /// idle, 3 no room for a further commit. A step that finds the round idle is none of them.
+    pub fn frame(&mut self, steps: u32, room: usize) -> (u32, Vec<Answer>, u64) {
+        let mut commits = vec![];
+        for made in 0..steps {
+            if commits.len() == room {
+                return (made, commits, 3);
+            }
+            match self.step() {
+                Answer::Idle => return (made, commits, 1),
+                a @ Answer::Committed(..) => commits.push(a),
+                _ => {}
+            }
+        }
+        (steps, commits, 0)
     }
 
     /// Document 02, M-112: the round goes on under a new sheet. 0, or 19 during copy-back, then 28.

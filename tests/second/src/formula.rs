@@ -172,7 +172,7 @@ pub fn same(text: &[u8], room: usize) -> u64 {
 }
 
 /// A text within the grammar: an operand at so many levels of nesting, with spaces and brackets here and there.
-fn text(r: &mut Rng, depth: usize, out: &mut String) {
+pub fn text(r: &mut Rng, depth: usize, out: &mut String) {
     let space = |r: &mut Rng, out: &mut String| (0..if r.one_in(4) { 1 + r.below(3) } else { 0 }).for_each(|_| out.push(' '));
     space(r, out);
     if r.one_in(8) {
@@ -213,7 +213,7 @@ fn text(r: &mut Rng, depth: usize, out: &mut String) {
 }
 
 /// One byte changed, dropped, doubled or put in, from those that formulas are made of or any.
-fn damaged(r: &mut Rng, mut t: Vec<u8>) -> Vec<u8> {
+pub fn damaged(r: &mut Rng, mut t: Vec<u8>) -> Vec<u8> {
     for _ in 0..1 + r.below(3) {
         let at = r.below(t.len() + 1);
         let b = if r.one_in(6) { r.next() as u8 } else { b"|&!+-*/><=,()ifb0123456789 "[r.below(27)] };

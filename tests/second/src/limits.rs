@@ -278,7 +278,7 @@ fn circles() {
     };
     assert_eq!(answer(&join(&[events.clone(), ring(64, 64)]), &[]), 12 + 31 * 256 + 64 * 65536, "64 behaviours");
     assert_eq!(answer(&join(&[events.clone(), ring(64, 20)]), &[]), 12 + 31 * 256 + 21 * 65536, "21 of 64");
-    assert_eq!(answer(&join(&[events.clone(), ring(62, 62), passive(&app(4, &[name(62), con(1)])), passive(&name(63))]), &[]) % 65536, 12, "itself, under event 0");
+    assert_eq!(answer(&join(&[events.clone(), ring(62, 62), passive(&app(4, &[name(62), con(1)])), passive(&name(63))]), &[]) % 65536, 12 + 255 * 256, "itself, under none");
     assert_eq!(answer(&join(&[passive(&name(1)), passive(&name(0))]), &[]), 12 + 255 * 256 + 2 * 65536, "under none, with no event");
     assert_eq!(answer(&crate::desk::sheet_s(), &[]), 0, "no circle");
     let with = join(&[events, ring(61, 61), passive(&app(4, &[param(7), name(62)])), passive(&app(4, &[param(0), name(61)]))]);
@@ -583,6 +583,7 @@ pub fn run() {
     crate::formula::limits();
     circles();
     crate::pool::limits();
+    crate::agree::limits();
     spent();
-    println!("limits: every refusal of compile, both sides of each limit, forecasts, quotients, marks, a rest day, parameters, rights in sheets, rows, players, changes of sheets, previews, formulas, circles, joins, 1,000,000 arrivals");
+    println!("limits: every refusal of compile, both sides of each limit, forecasts, quotients, marks, a rest day, parameters, rights in sheets, rows, players, changes of sheets, previews, formulas, circles, joins, agreement, leaks, 1,000,000 arrivals");
 }

@@ -5,16 +5,25 @@
 //! second bench [FILE.svg]      times against the plain engine, and the paper's experiment
 //! second desk PROGRAM SEEDS    the desk program on the scope's rounds and traps, torn input and scripts made at random
 //! second page PAGE PROGRAM INPUT   the setter's page against the desk program and its example
+//! second record FILE CALLS     calls with their answers and bytes, for other processors to replay
+//! second rounds FILE FIRST COUNT   recorded rounds of COUNT seeds from FIRST on, as the plain engine answers them
+//! second league FILE ROUNDS CALLS   so many rounds of so many calls on one sheet, to measure the audit
+//! second audit PROGRAM FOLDER SEEDS   the audit program on such rounds, with differences and damage planted
+mod agree;
 mod bench;
 mod compare;
 mod desk;
 mod engine;
 mod formula;
+mod frames;
 mod limits;
 mod make;
 mod page;
 mod pool;
 mod proved;
+mod record;
+mod rounds;
+mod types;
 mod words;
 
 fn main() {
@@ -26,8 +35,12 @@ fn main() {
         Some("bench") => bench::run(words.get(2)),
         Some("desk") => desk::run(&words[2], number(3, 200)),
         Some("page") => page::run(&words[2], &words[3], &words[4]),
+        Some("rounds") => rounds::write(&words[2], number(3, 1), number(4, 1000)),
+        Some("league") => rounds::league(&words[2], number(3, 10_000), number(4, 1000)),
+        Some("audit") => rounds::run(&words[2], &words[3], number(4, 400)),
+        Some("record") => record::run(&words[2], number(3, 120_000)),
         _ => {
-            println!("second compare FIRST COUNT | limits | bench [FILE.svg] | desk PROGRAM SEEDS | page PAGE PROGRAM INPUT");
+            println!("second compare FIRST COUNT | limits | bench [FILE.svg] | desk PROGRAM SEEDS | page PAGE PROGRAM INPUT | record FILE CALLS | rounds FILE FIRST COUNT | league FILE ROUNDS CALLS | audit PROGRAM FOLDER SEEDS");
             std::process::exit(2);
         }
     }
@@ -60,6 +73,7 @@ fn compare(first: u64, count: u64) {
     for (n, k) in tally.formulas.iter().enumerate().skip(1).filter(|(_, k)| **k > 0) {
         print!(" {n}:{k}");
     }
+    print!("; frames {}; {}", tally.frames, tally.agree);
     print!("; joined {}, refused", tally.joins[0]);
     for (n, k) in tally.joins.iter().enumerate().skip(1).filter(|(_, k)| **k > 0) {
         print!(" {n}:{k}");

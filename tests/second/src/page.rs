@@ -57,6 +57,38 @@ fn rows(section: &str, program: &str) {
     assert_eq!(play(program, &script), format!("C 0 0\n{}C 1 1\n{}", boards[0], boards[1]), "the boards of the sheet with rows");
 }
 
+/// A section's indented lines, block by block.
+fn examples(section: &str) -> Vec<Vec<&str>> {
+    let mut blocks = vec![Vec::new()];
+    for line in section.lines() {
+        match line.strip_prefix("    ") {
+            Some(text) => blocks.last_mut().unwrap().push(text),
+            None if !blocks.last().unwrap().is_empty() => blocks.push(Vec::new()),
+            None => {}
+        }
+    }
+    blocks.retain(|b| !b.is_empty());
+    blocks
+}
+
+/// The final on which phones differ and the one on which they agree: what `agree` answers, and the boards of both ways of
+/// stepping two hits and a time-up, as the page names them.
+fn agreement(section: &str, program: &str) {
+    let sheets: Vec<Vec<u8>> = examples(section).iter().map(|b| b.iter().flat_map(|l| bytes_of(l)).collect()).collect();
+    assert_eq!(sheets.len(), 2, "a bad final and a good one");
+    assert_eq!(proved::agree(&sheets[0], &[]), 29 + (1 << 16), "the bad final: events 0 and 1 share b0");
+    assert_eq!(proved::agree(&sheets[1], &[]), 0, "the good final");
+    let boards = boards(section);
+    assert_eq!(boards.len(), 3, "the bad final's two boards and the good one's");
+    let at_once = |s: &[u8]| [sheet(s), arrive(0), arrive(0), arrive(1), steps(200), show()].concat();
+    let one_by_one = |s: &[u8]| [sheet(s), [arrive(0), steps(60)].concat().repeat(2), arrive(1), steps(60), show()].concat();
+    let ends = |script: Vec<u8>, board: &str| assert!(play(program, &script).ends_with(board), "a final ends with {board}");
+    ends(at_once(&sheets[0]), &boards[0]);
+    ends(one_by_one(&sheets[0]), &boards[1]);
+    ends(at_once(&sheets[1]), &boards[2]);
+    ends(one_by_one(&sheets[1]), &boards[2]);
+}
+
 pub fn run(page: &str, program: &str, input: &str) {
     let page = std::fs::read_to_string(page).expect("the page");
     let input = std::fs::read(input).expect("the desk program's example");
@@ -75,8 +107,9 @@ pub fn run(page: &str, program: &str, input: &str) {
     assert_eq!(play(program, &input), printed, "what the page says is printed");
     parameters(section(&page, "Easy and hard from one sheet"), program);
     rows(section(&page, "Rows"), program);
+    agreement(section(&page, "A sheet on which phones agree"), program);
     let formulas = example(section(&page, "Formulas"));
     assert!(!formulas.is_empty(), "formulas with their fields");
     formulas.iter().for_each(|l| formula::example(l));
-    println!("page: the worked sheet, its boards, what the desk program prints, the sheet with a parameter, the sheet with rows, {} formulas", formulas.len());
+    println!("page: the worked sheet, its boards, what the desk program prints, the sheet with a parameter, the sheet with rows, the finals, {} formulas", formulas.len());
 }

@@ -233,6 +233,42 @@ pub fn preview(t: &[u8], l: &[u8], e: u32, i: u32, who: u32) -> u64 {
     14
 }
 
+/// Up to so many steps, each commit's answer written to the buffer: how many were made, how many commits were written, and
+/// why it ended: 0 all made, 1 the next is idle, 2 the next is refused, 3 no room for a further commit.
+pub fn frame(t: &[u8], l: &mut Vec<u8>, steps: u32, commits: &mut [u8]) -> u64 {
+    let room = (commits.len() / 8).min(0xFF_FFFF);
+    let mut written = 0;
+    for made in 0..steps as u64 {
+        let said = |why: u64| why << 56 | (written as u64) << 32 | made;
+        if written == room {
+            return said(3);
+        }
+        let before = l.clone();
+        match call(t, l, Call::Step) {
+            0 => return said(1),
+            14 => {
+                *l = before;
+                return said(2);
+            }
+            a if a % 16 == 3 => {
+                commits[8 * written..8 * written + 8].copy_from_slice(&a.to_be_bytes());
+                written += 1;
+            }
+            _ => {}
+        }
+    }
+    (written as u64) << 32 | steps as u64
+}
+
+/// What a table tells of itself: 2^32 and its events, its behaviours, the rank of one of its events; or 14, 15.
+pub fn counts(t: &[u8], event: u32) -> [u64; 3] {
+    if foreign_table(t) {
+        return [14; 3];
+    }
+    let rank = if event < get(t, 0) { (1 << 32) + record(t, event)[0] as u64 } else { 15 };
+    [(1 << 32) + get(t, 0) as u64, (1 << 32) + get(t, 1) as u64, rank]
+}
+
 /// Document 02, M-112: the round goes on under table t. 14 for the round with the old table, for t, and for the instructions of its passives, tried in bytes of their own; then 19, then 28.
 pub fn mend(old: &[u8], t: &[u8], l: &mut [u8]) -> u32 {
     if foreign(old, l) || foreign_table(t) {

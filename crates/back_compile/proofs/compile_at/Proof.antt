@@ -1,8 +1,10 @@
--- `compiler::compile_at` meets its contract: each answer is a branch of `compileOn`. Assumes nothing.
-use mathlib.Core.Path.{sym, _∙_}
+-- Each answer is a branch of `compileOn`: 1, or as the sheet is judged.
+use mathlib.Core.Path.{sym, ap, _∙_}
 use native.Mathlib.Omega.{arith}
 use borrow.Author.Needs.{needs}
-use Rattle.back_compile.proofs.JudgeLaws.{compile-opens, compile-short, compile-long}
+use Rattle.back_compile.specs.Verdict.{compiled}
+use Rattle.back_compile.proofs.JudgeLaws.{compile-short}
+use Rattle.back_compile.proofs.Judging.{judged-passes, not-passed}
 use Rattle.back_compile.proofs.compile_at.Statement.{statement}
 use Rattle.back_compile.proofs.compile_at.Tie as tie
 
@@ -11,7 +13,12 @@ compile-at-spec =
     tie.close
     (tie.spec
     (λ c. sym (compile-short _ _ _ (omega arith)))
-    (λ c. sym (compile-long _ _ _ (omega arith) (omega arith)))
+    (λ c. search needs)
     (λ c κs. search needs)
     (λ c. search needs)
-    (λ c. c .before .before .compile-read .ensures ∙ sym (compile-opens _ _ _ (omega arith) (omega arith))))
+    (λ c κs. search needs)
+    (λ c. not-passed _ _ _ _ _ (c .before .before .before .judge-sheet .ensures) (c .before .match .keys2) (omega arith) (c .number-of .ensures))
+    (λ c. search needs)
+    (λ c κs. (judged-passes _ _ _ _ (c .before .before .before .before .before .before .judge-sheet .ensures) _ _ (c .before .before .before .judgement .given .1) .planned, search needs))
+    (λ c. search needs)
+    (λ c. ap (compiled 0) (c .before .before .write-table .ensures) ∙ sym (judged-passes _ _ _ _ (c .before .before .before .before .before .before .before .before .before .judge-sheet .ensures) _ _ (c .before .before .before .before .before .before .judgement .given .1) .compiles _ (omega arith))))

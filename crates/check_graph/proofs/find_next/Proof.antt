@@ -7,6 +7,8 @@ use native.Mathlib.Omega.{arith}
 use native.Mathlib.Nat.{sub-zero}
 use native.Mathlib.Numerals.{add-one}
 use Rattle.check_graph.specs.Placing.{readyOn, findOn}
+use Rattle.check_graph.specs.Sets.{bytesOf, marksOf}
+use Rattle.check_graph.proofs.SetLaws.{ready-is}
 use Rattle.check_graph.proofs.find_next.Statement.{statement}
 use Rattle.check_graph.proofs.find_next.Tie as tie
 
@@ -36,10 +38,10 @@ start : (m marks : List ℕ) (n : ℕ) → Turn m marks n 0
 start m marks n = record { whole = rw sub-zero; within = omega arith }
 
 abbrev Inv-loop : tie.InvT-loop
-Inv-loop m marks n i₀ i = Turn m marks n i
+Inv-loop rows set n i₀ i = Turn (bytesOf rows) (marksOf set) n i
 
 abbrev μ-loop : tie.MeasureT-loop
-μ-loop m marks n i₀ i = n - i
+μ-loop rows set n i₀ i = n - i
 
 pub find-next-spec : {M : Type 1} → statement M
 find-next-spec =
@@ -48,9 +50,11 @@ find-next-spec =
     Inv-loop
     μ-loop
     (λ c. start _ _ _)
+    (λ c. omega arith)
+    (λ c. omega arith)
     (λ c κs. omega arith)
-    (λ c. stop (c .before .before .before .loop .inv) (omega arith) (sym (c .before .is-ready .ensures) ∙ c .if1 .taken))
+    (λ c. stop (c .before .before .before .before .loop .inv) (omega arith) (sym (ready-is _ _ _ (omega arith) _ (c .before .before .before .before .before .before .pre .1) (omega (arith, c .before .before .before .before .before .shared-slice-known .given (c .before .before .before .before .loop .i))) (λ j b. c .before .before .before .before .before .before .pre .2 .none-past _ j (omega arith) b)) ∙ sym (c .before .is-ready .ensures) ∙ c .if1 .taken))
     (λ c. omega arith)
     (λ c. omega arith)
-    (λ c. turn (c .before .before .before .loop .inv) (omega arith) (sym (c .before .is-ready .ensures) ∙ c .if1 .left))
+    (λ c. turn (c .before .before .before .before .loop .inv) (omega arith) (sym (ready-is _ _ _ (omega arith) _ (c .before .before .before .before .before .before .pre .1) (omega (arith, c .before .before .before .before .before .shared-slice-known .given (c .before .before .before .before .loop .i))) (λ j b. c .before .before .before .before .before .before .pre .2 .none-past _ j (omega arith) b)) ∙ sym (c .before .is-ready .ensures) ∙ c .if1 .left))
     (λ c. end (c .before .loop .inv) (omega arith)))

@@ -1,15 +1,18 @@
 -- The loop keeps: placing those that are left, from where it stands, gives the whole.
 use Prim.Native.Nat.{ℕ, suc, _+_, _-_, _≤_, _<_}
-use mathlib.Core.Bool.{true, false}
+use mathlib.Core.Bool.{true, false, _||_}
 use mathlib.Core.Path.{_≡_, refl, sym, _∙_}
 use mathlib.Core.List.{List}
 use native.Mathlib.Omega.{arith}
 use native.Mathlib.Nat.{sub-zero}
 use native.Mathlib.Numerals.{add-one}
-use lib.Dec.{ltb}
+use lib.Dec.{ltb, eqb}
 use lib.ListN.{length, set, length-set}
 use borrow.Author.Tests.{lt-ltb, le-ltb}
 use Rattle.check_graph.specs.Placing.{findOn, placed, orderOn}
+use Rattle.lib_bits.specs.Bits.{bit}
+use Rattle.check_graph.specs.Sets.{bytesOf, marksOf}
+use Rattle.check_graph.proofs.SetLaws.{marks-set}
 use Rattle.check_graph.proofs.order_of.Statement.{statement}
 use Rattle.check_graph.proofs.order_of.Tie as tie
 
@@ -50,11 +53,16 @@ end : {m marks₀ : List ℕ} {n : ℕ} {out₀ marks out : List ℕ} {count : �
 unfolding orderOn
 end {n} {count} t h = let s : n - count ≡ 0 = omega arith in rw s at (t .whole)
 
+-- the set with one more has its mark
+next : (s s′ : ℕ) {m marks₀ : List ℕ} {n : ℕ} {out₀ out : List ℕ} {count f : ℕ} → Turn m marks₀ n out₀ (marksOf s) out count → count < n
+    → f ≡ findOn m (marksOf s) n n 0 → f < n → n ≤ 64 → ((j : ℕ) → bit s′ j ≡ bit s j || eqb j f) → Turn m marks₀ n out₀ (marksOf s′) (set out count f) (count + 1)
+next s s′ {f = f} t h e b few q = rw (← marks-set s s′ f (omega arith) q) (turn t h e b)
+
 abbrev Inv-loop : tie.InvT-loop
-Inv-loop m marks₀ n out₀ count₀ marks out count = Turn m marks₀ n out₀ marks out count
+Inv-loop rows met n out₀ set₀ count₀ out set count = Turn (bytesOf rows) (marksOf met) n out₀ (marksOf set) out count
 
 abbrev μ-loop : tie.MeasureT-loop
-μ-loop m marks₀ n out₀ count₀ marks out count = n - count
+μ-loop rows met n out₀ set₀ count₀ out set count = n - count
 
 pub order-of-spec : {M : Type 1} → statement M
 order-of-spec =
@@ -63,16 +71,14 @@ order-of-spec =
     Inv-loop
     μ-loop
     (λ c. start _ _ _ _)
+    (λ c κs. (c .before .before .before .before .pre .0, c .before .before .before .before .pre .2, c .before .before .before .before .pre .3))
+    (λ c. c .before .before .before .loop .inv .out-long)
+    (λ c. stop (c .before .before .before .loop .inv) (omega arith) (c .before .find-next .ensures) (omega arith))
+    (λ c. omega arith)
+    (λ c. omega (arith, c .before .before .before .loop .inv .out-long))
     (λ c κs. omega arith)
-    (λ c. c .before .before .before .before .loop .inv .marks-long)
-    (λ c. c .before .before .before .before .loop .inv .out-long)
-    (λ c. stop (c .before .before .before .before .loop .inv) (omega arith) (c .before .find-next .ensures) (omega arith))
     (λ c. omega arith)
     (λ c. omega arith)
-    (λ c. omega arith)
-    (λ c. omega arith)
-    (λ c. omega arith)
-    (λ c. turn (c .before .before .before .before .loop .inv) (omega arith) (c .before .find-next .ensures) (omega arith))
-    (λ c. c .before .loop .inv .marks-long)
+    (λ c. next _ _ (c .before .before .before .before .loop .inv) (omega arith) (c .before .before .find-next .ensures) (omega arith) (c .before .before .before .before .before .before .before .pre .2) (c .insert .ensures))
     (λ c. c .before .loop .inv .out-long)
     (λ c. end (c .before .loop .inv) (omega arith)))

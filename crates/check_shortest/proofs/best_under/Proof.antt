@@ -7,10 +7,10 @@ use Rattle.check_shortest.proofs.best_under.Statement.{statement}
 use Rattle.check_shortest.proofs.best_under.Tie as tie
 
 abbrev Inv-loop : tie.InvT-loop
-Inv-loop d e n m s₀ best least₀ i₀ s least i = Trying d e n best s least i
+Inv-loop d e t n m s₀ best least₀ i₀ s least i = Trying d e t n best s least i
 
 abbrev μ-loop : tie.MeasureT-loop
-μ-loop d e n m s₀ best least₀ i₀ s least i = n - i
+μ-loop d e t n m s₀ best least₀ i₀ s least i = n - i
 
 pub best-under-spec : {M : Type 1} → statement M
 best-under-spec =
@@ -18,9 +18,9 @@ best-under-spec =
     (tie.spec
     Inv-loop
     μ-loop
-    (λ c κs. let p = c .before .before .before .before .pre in (p .0, p .1, p .3, p .4, p .5))
-    (λ c. trying-start _ _ _ _ _ (c .before .before .before .before .before .before .before .pre .2))
-    (λ c κs. (c .before .before .before .before .before .before .fill-matrix .kept .1 .1 .1 .0 ∙ c .before .before .before .before .before .before .before .before .before .before .before .pre .1, c .before .before .before .loop .inv .long, omega arith, c .before .before .before .before .before .before .before .before .before .before .before .pre .4))
+    (λ c κs. let p = c .before .before .before .before .pre .0 in (p .0, p .1, p .3, p .4, p .5))
+    (λ c. trying-start _ _ _ _ _ _ (c .before .before .before .before .before .before .before .pre .0 .2))
+    (λ c κs. (c .before .before .before .before .before .before .fill-matrix .kept .1 .1 .1 .0 ∙ c .before .before .before .before .before .before .before .before .before .before .before .pre .0 .1, c .before .before .before .loop .inv .long, omega arith, c .before .before .before .before .before .before .before .before .before .before .before .pre .0 .4))
     (λ c. omega (arith, back-fits _ _ _ (c .before .before .before .before .before .before .loop .i) (c .before .before .before .before .before .before .before .before .before .fill-matrix .ensures) (c .before .before .steps-back .ensures)))
     (λ c. omega (arith, back-fits _ _ _ (c .before .before .before .before .before .before .loop .i) (c .before .before .before .before .before .before .before .before .before .fill-matrix .ensures) (c .before .before .steps-back .ensures)))
     (λ c. omega (arith, back-fits _ _ _ (c .before .before .before .before .before .before .loop .i) (c .before .before .before .before .before .before .before .before .before .fill-matrix .ensures) (c .before .before .steps-back .ensures)))
@@ -30,5 +30,5 @@ best-under-spec =
     (λ c. omega arith)
     (λ c. trying-turn (c .before .before .before .before .before .before .before .loop .inv) (c .before .before .before .before .before .before .loop-test .taken) (back-as _ _ _ _ (c .before .before .before .before .before .before .before .before .before .before .fill-matrix .ensures) (c .before .before .before .steps-back .ensures)) (c .lower .ensures) (c .before .before .before .steps-back .kept .1 .0))
     (λ c. c .before .before .before .before .fill-matrix .kept .1 .1 .1 .0)
-    (λ c. c .before .loop .inv .long ∙ sym (c .before .before .before .before .before .before .before .before .before .pre .2))
+    (λ c. c .before .loop .inv .long ∙ sym (c .before .before .before .before .before .before .before .before .before .pre .0 .2))
     (λ c. trying-end (c .before .loop .inv) (c .loop-test .left)))

@@ -17,22 +17,78 @@ Inv-loop values out₀ at₀ i₀ t6 out at i =
 abbrev μ-loop : tie.MeasureT-loop
 μ-loop values out₀ at₀ i₀ t6 out at i = length values - i
 
+slice-aggregate-put : tie.Need-slice-aggregate-put Inv-loop μ-loop
+slice-aggregate-put c = refl
+
+put-requires : tie.Need-put-requires Inv-loop μ-loop
+put-requires c κs = omega arith
+
+loop-holds : tie.Need-loop-holds Inv-loop μ-loop
+loop-holds c = (
+  omega arith,
+  omega (arith, c .before .before .put .ensures .1 .0),
+  refl,
+  rw
+      (c .before .before .put .ensures .1 .1) refl,
+)
+
+mul-put-value : tie.Need-mul-put-value Inv-loop μ-loop
+mul-put-value c = search needs
+
+shared-slice-read-put-value : tie.Need-shared-slice-read-put-value Inv-loop μ-loop
+shared-slice-read-put-value c = search needs
+
+put-value-requires : tie.Need-put-value-requires Inv-loop μ-loop
+put-value-requires c κs =
+    let at-put = c .before .before .before .before .before .before in
+    omega (arith, at-put .put .kept .0)
+
+add-i : tie.Need-add-i Inv-loop μ-loop
+add-i c = search needs
+
+loop-less : tie.Need-loop-less Inv-loop μ-loop
+loop-less c = omega arith
+
+loop-again : tie.Need-loop-again Inv-loop μ-loop
+loop-again c =
+    let at-put-value = c .before .before in
+    let at-loop-test = at-put-value .before .before .before in
+    let at-loop = at-loop-test .before in (
+      omega arith,
+      omega (arith, at-put-value .put-value .ensures .0),
+      at-put-value .put-value .kept .0 ∙
+          at-loop .loop .inv .2,
+      turn _ (take (at-loop .loop .at) (at-loop .loop .out)) _ _ _
+          (at-loop-test .loop-test .taken) (at-put-value .put-value .ensures .1) (at-loop .loop .inv .3),
+    )
+
+slice-aggregate-put-2 : tie.Need-slice-aggregate-put-2 Inv-loop μ-loop
+slice-aggregate-put-2 c = refl
+
+put-requires-2 : tie.Need-put-requires-2 Inv-loop μ-loop
+put-requires-2 c κs =
+    let at-put = c .before .before .before .before .before .before in
+    omega (arith, at-put .put .kept .0)
+
+same-length : tie.Need-same-length Inv-loop μ-loop
+same-length c =
+    let at-put2 = c .before .before in
+    let at-loop = at-put2 .before .before .before .before in
+    let at-put = at-loop .before .before .before in
+    at-put2 .put2 .kept .0 ∙ at-loop .loop .inv .2 ∙ at-put .put .kept .0
+
+returns : tie.Need-returns Inv-loop μ-loop
+returns c =
+    let at-put2 = c .before .before in
+    let at-loop-test = at-put2 .before .before .before in
+    let at-loop = at-loop-test .before in (
+      at-put2 .put2 .ensures .0,
+      board-text _ (take (at-loop .loop .at) (at-loop .loop .out)) _ _
+          (at-loop-test .loop-test .left) (at-loop .loop .inv .3) (at-put2 .put2 .ensures .1 .1),
+    )
+
 pub board-line-spec : {M : Type 1} → statement M
 board-line-spec =
     tie.close
-    (tie.spec
-    Inv-loop
-    μ-loop
-    (λ c. refl)
-    (λ c κs. omega arith)
-    (λ c. (omega arith, omega (arith, c .before .before .put .ensures .1 .0), refl, rw (c .before .before .put .ensures .1 .1) refl))
-    (λ c. search needs)
-    (λ c. search needs)
-    (λ c κs. omega (arith, c .before .before .before .before .before .before .put .kept .0))
-    (λ c. search needs)
-    (λ c. omega arith)
-    (λ c. (omega arith, omega (arith, c .before .before .put-value .ensures .0), c .before .before .put-value .kept .0 ∙ c .before .before .before .before .before .before .loop .inv .2, turn _ (take (c .before .before .before .before .before .before .loop .at) (c .before .before .before .before .before .before .loop .out)) _ _ _ (c .before .before .before .before .before .loop-test .taken) (c .before .before .put-value .ensures .1) (c .before .before .before .before .before .before .loop .inv .3)))
-    (λ c. refl)
-    (λ c κs. omega (arith, c .before .before .before .before .before .before .put .kept .0))
-    (λ c. c .before .before .put2 .kept .0 ∙ c .before .before .before .before .before .before .loop .inv .2 ∙ c .before .before .before .before .before .before .before .before .before .put .kept .0)
-    (λ c. (c .before .before .put2 .ensures .0, board-text _ (take (c .before .before .before .before .before .before .loop .at) (c .before .before .before .before .before .before .loop .out)) _ _ (c .before .before .before .before .before .loop-test .left) (c .before .before .before .before .before .before .loop .inv .3) (c .before .before .put2 .ensures .1 .1))))
+    (tie.spec Inv-loop μ-loop slice-aggregate-put put-requires loop-holds mul-put-value shared-slice-read-put-value
+    put-value-requires add-i loop-less loop-again slice-aggregate-put-2 put-requires-2 same-length returns)

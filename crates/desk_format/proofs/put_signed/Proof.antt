@@ -11,21 +11,53 @@ use Rattle.desk_format.proofs.Laws.{after, negative}
 use Rattle.desk_format.proofs.put_signed.Statement.{statement}
 use Rattle.desk_format.proofs.put_signed.Tie as tie
 
-pub put-signed-spec : {M : Type 1} → statement M
+put-decimal-requires : tie.Need-put-decimal-requires
+put-decimal-requires c κs = search needs
+
+same-length : tie.Need-same-length
+same-length c = search needs
+
+returns : tie.Need-returns
 unfolding signedText
+returns c =
+    let at-put-decimal = c .before .before in
+    let at-entry = at-put-decimal .before .before .before .before in (
+      omega (arith, at-put-decimal .put-decimal .ensures .0),
+      rw (at-put-decimal .put-decimal .ensures .1)
+          (ap (λ (l : List ℕ). take (at-entry .args .at) (at-entry .args .out .now) ++ l) (search code depth 12)),
+    )
+
+slice-aggregate-put : tie.Need-slice-aggregate-put
+slice-aggregate-put c = search needs
+
+put-requires : tie.Need-put-requires
+put-requires c κs = search needs
+
+sub-put-decimal : tie.Need-sub-put-decimal
+sub-put-decimal c = search needs
+
+put-decimal-requires-2 : tie.Need-put-decimal-requires-2
+put-decimal-requires-2 c κs = search needs
+
+same-length-2 : tie.Need-same-length-2
+same-length-2 c = search needs
+
+returns-2 : tie.Need-returns-2
+unfolding signedText
+returns-2 c =
+    let at-put-decimal2 = c .before .before in
+    let at-put = at-put-decimal2 .before .before .before .before in
+    let at-entry = at-put .before .before .before .before .before in
+    let d = at-put-decimal2 .put-decimal2 .ensures in
+    let a = at-entry .args in
+    let p = at-put .put .ensures in (
+      omega (arith, d .0, p .1 .0),
+      after (take (a .at) (a .out .now)) _ _ (45 ∷ []) (decimal (4294967296 - a .w))
+          (signedText (a .w)) (d .1) (p .1 .1) (negative (a .w) (omega arith)),
+    )
+
+pub put-signed-spec : {M : Type 1} → statement M
 put-signed-spec =
     tie.close
-    (tie.spec
-    (λ c κs. search needs)
-    (λ c. search needs)
-    (λ c. (omega (arith, c .before .before .put-decimal .ensures .0), rw (c .before .before .put-decimal .ensures .1) (ap (λ (l : List ℕ). take (c .before .before .before .before .before .before .args .at) (c .before .before .before .before .before .before .args .out .now) ++ l) (search code depth 12))))
-    (λ c. search needs)
-    (λ c κs. search needs)
-    (λ c. search needs)
-    (λ c κs. search needs)
-    (λ c. search needs)
-    (λ c.
-    let d = c .before .before .put-decimal2 .ensures in
-    let a = c .before .before .before .before .before .before .before .before .before .before .before .args in
-    let p = c .before .before .before .before .before .before .put .ensures in
-    (omega (arith, d .0, p .1 .0), after (take (a .at) (a .out .now)) _ _ (45 ∷ []) (decimal (4294967296 - a .w)) (signedText (a .w)) (d .1) (p .1 .1) (negative (a .w) (omega arith)))))
+    (tie.spec put-decimal-requires same-length returns slice-aggregate-put put-requires sub-put-decimal
+    put-decimal-requires-2 same-length-2 returns-2)

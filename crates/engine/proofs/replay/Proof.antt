@@ -4,12 +4,12 @@ use Prim.Native.Nat.{_+_, _*_, _-_}
 use mathlib.Core.Path.{refl}
 use native.Mathlib.Omega.{arith}
 use borrow.Author.Needs.{needs}
-use Rattle.engine.proofs.Laws.{Turn, begin, turn, end-round, end-answers}
+use Rattle.engine.proofs.Laws.{CallsLeft, begin, next-call, end-round, end-answers}
 use Rattle.engine.proofs.replay.Statement.{statement}
 use Rattle.engine.proofs.replay.Tie as tie
 
 abbrev Inv-loop : tie.InvT-loop
-Inv-loop table round₀ calls answers₀ n i₀ round answers i = Turn table round₀ calls answers₀ n round answers i
+Inv-loop table round₀ calls answers₀ n i₀ round answers i = CallsLeft table round₀ calls answers₀ n round answers i
 
 abbrev μ-loop : tie.MeasureT-loop
 μ-loop table round₀ calls answers₀ n i₀ round answers i = n - i
@@ -35,7 +35,7 @@ replay-spec =
     (λ c. omega arith)
     (λ c.
     let call = c .before .before .before .before .before .before .make-call in
-    turn (c .before .before .before .before .before .before .before .before .before .before .before .before .loop .inv)
+    next-call (c .before .before .before .before .before .before .before .before .before .before .before .before .loop .inv)
     (c .before .before .before .before .before .before .before .before .before .before .before .loop-test .taken)
     (rw (c .before .before .before .before .before .before .before .before .get-at .ensures) at (call .ensures))
     (c .before .before .put-answer .ensures) (search needs) (search needs))

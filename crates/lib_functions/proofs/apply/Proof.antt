@@ -13,44 +13,137 @@ use borrow.Author.Needs.{needs}
 use Rattle.lib_functions.proofs.apply.Statement.{statement}
 use Rattle.lib_functions.proofs.apply.Tie as tie
 
-pub apply-spec : {M : Type 1} → statement M
+either-requires : tie.Need-either-requires
+either-requires c κs = search needs
+
+both-requires : tie.Need-both-requires
+both-requires c κs = search needs
+
+opposite-requires : tie.Need-opposite-requires
+opposite-requires c κs = search needs
+
+sum-requires : tie.Need-sum-requires
+sum-requires c κs = search needs
+
+difference-requires : tie.Need-difference-requires
+difference-requires c κs = search needs
+
+product-requires : tie.Need-product-requires
+product-requires c κs = search needs
+
+quotient-requires : tie.Need-quotient-requires
+quotient-requires c κs = search needs
+
+below-requires : tie.Need-below-requires
+below-requires c κs = search needs
+
+bit-requires : tie.Need-bit-requires
+bit-requires c κs = search needs
+
+below-requires-2 : tie.Need-below-requires-2
+below-requires-2 c κs = search needs
+
+bit-requires-2 : tie.Need-bit-requires-2
+bit-requires-2 c κs = search needs
+
+below-requires-3 : tie.Need-below-requires-3
+below-requires-3 c κs = search needs
+
+bit-requires-3 : tie.Need-bit-requires-3
+bit-requires-3 c κs = search needs
+
+below-requires-4 : tie.Need-below-requires-4
+below-requires-4 c κs = search needs
+
+bit-requires-4 : tie.Need-bit-requires-4
+bit-requires-4 c κs = search needs
+
+same-requires : tie.Need-same-requires
+same-requires c κs = search needs
+
+differ-requires : tie.Need-differ-requires
+differ-requires c κs = search needs
+
+choose-requires : tie.Need-choose-requires
+choose-requires c κs = search needs
+
+returns : tie.Need-returns
 unfolding answer over result exact
+returns c = rw (c .before .match .keys1) (c .either .ensures)
+
+returns-2 : tie.Need-returns-2
+unfolding answer over result exact
+returns-2 c = rw (c .before .match .keys2) (c .both .ensures)
+
+returns-3 : tie.Need-returns-3
+unfolding answer over result exact
+returns-3 c = rw (c .before .match .keys3) (c .opposite .ensures)
+
+returns-4 : tie.Need-returns-4
+unfolding answer over result exact
+returns-4 c = rw (c .before .match .keys4) (c .sum .ensures)
+
+returns-5 : tie.Need-returns-5
+unfolding answer over result exact
+returns-5 c = rw (c .before .match .keys5) (c .difference .ensures)
+
+returns-6 : tie.Need-returns-6
+unfolding answer over result exact
+returns-6 c = rw (c .before .match .keys6) (c .product .ensures)
+
+returns-7 : tie.Need-returns-7
+unfolding answer over result exact
+returns-7 c = rw (c .before .match .keys7) (c .quotient .ensures)
+
+returns-8 : tie.Need-returns-8
+unfolding answer over result exact
+returns-8 c =
+    rw (c .before .before .match .keys8) (c .bit .ensures ∙ ap (λ (t : Bool). reported (truth t))
+    (c .before .below .ensures))
+
+returns-9 : tie.Need-returns-9
+unfolding answer over result exact
+returns-9 c =
+    rw (c .before .before .match .keys9) (c .bit2 .ensures ∙ ap (λ (t : Bool). reported (truth (not t)))
+    (c .before .below2 .ensures))
+
+returns-10 : tie.Need-returns-10
+unfolding answer over result exact
+returns-10 c =
+    rw (c .before .before .match .keys10) (c .bit3 .ensures ∙ ap (λ (t : Bool). reported (truth t))
+    (c .before .below3 .ensures))
+
+returns-11 : tie.Need-returns-11
+unfolding answer over result exact
+returns-11 c =
+    rw (c .before .before .match .keys11) (c .bit4 .ensures ∙ ap (λ (t : Bool). reported (truth (not t)))
+    (c .before .below4 .ensures))
+
+returns-12 : tie.Need-returns-12
+unfolding answer over result exact
+returns-12 c = rw (c .before .match .keys12) (c .same .ensures)
+
+returns-13 : tie.Need-returns-13
+unfolding answer over result exact
+returns-13 c = rw (c .before .match .keys13) (c .differ .ensures)
+
+returns-14 : tie.Need-returns-14
+unfolding answer over result exact
+returns-14 c = rw (c .before .match .keys14) (c .choose .ensures)
+
+returns-15 : tie.Need-returns-15
+unfolding answer over result exact
+returns-15 c =
+    let none : pos 0 ≡ exact (c .before .args .f) (signed (c .before .args .a)) (signed (c .before .args .b))
+    (signed (c .before .args .c)) = search code depth 20 in
+    let no-quotient : eqb (c .before .args .f) 7 ≡ false = ne-eqb (c .before .args .f) 7 (search needs) in
+    rw (← none, no-quotient, beyond-pos 0)
+
+pub apply-spec : {M : Type 1} → statement M
 apply-spec =
     tie.close
-    (tie.spec
-    (λ c κs. search needs)
-    (λ c κs. search needs)
-    (λ c κs. search needs)
-    (λ c κs. search needs)
-    (λ c κs. search needs)
-    (λ c κs. search needs)
-    (λ c κs. search needs)
-    (λ c κs. search needs)
-    (λ c κs. search needs)
-    (λ c κs. search needs)
-    (λ c κs. search needs)
-    (λ c κs. search needs)
-    (λ c κs. search needs)
-    (λ c κs. search needs)
-    (λ c κs. search needs)
-    (λ c κs. search needs)
-    (λ c κs. search needs)
-    (λ c κs. search needs)
-    (λ c. rw (c .before .match .keys1) (c .either .ensures))
-    (λ c. rw (c .before .match .keys2) (c .both .ensures))
-    (λ c. rw (c .before .match .keys3) (c .opposite .ensures))
-    (λ c. rw (c .before .match .keys4) (c .sum .ensures))
-    (λ c. rw (c .before .match .keys5) (c .difference .ensures))
-    (λ c. rw (c .before .match .keys6) (c .product .ensures))
-    (λ c. rw (c .before .match .keys7) (c .quotient .ensures))
-    (λ c. rw (c .before .before .match .keys8) (c .bit .ensures ∙ ap (λ (t : Bool). reported (truth t)) (c .before .below .ensures)))
-    (λ c. rw (c .before .before .match .keys9) (c .bit2 .ensures ∙ ap (λ (t : Bool). reported (truth (not t))) (c .before .below2 .ensures)))
-    (λ c. rw (c .before .before .match .keys10) (c .bit3 .ensures ∙ ap (λ (t : Bool). reported (truth t)) (c .before .below3 .ensures)))
-    (λ c. rw (c .before .before .match .keys11) (c .bit4 .ensures ∙ ap (λ (t : Bool). reported (truth (not t))) (c .before .below4 .ensures)))
-    (λ c. rw (c .before .match .keys12) (c .same .ensures))
-    (λ c. rw (c .before .match .keys13) (c .differ .ensures))
-    (λ c. rw (c .before .match .keys14) (c .choose .ensures))
-    (λ c.
-    let none : pos 0 ≡ exact (c .before .args .f) (signed (c .before .args .a)) (signed (c .before .args .b)) (signed (c .before .args .c)) = search code depth 20 in
-    let no-quotient : eqb (c .before .args .f) 7 ≡ false = ne-eqb (c .before .args .f) 7 (search needs) in
-    rw (← none, no-quotient, beyond-pos 0)))
+    (tie.spec either-requires both-requires opposite-requires sum-requires difference-requires product-requires
+    quotient-requires below-requires bit-requires below-requires-2 bit-requires-2 below-requires-3 bit-requires-3
+    below-requires-4 bit-requires-4 same-requires differ-requires choose-requires returns returns-2 returns-3
+    returns-4 returns-5 returns-6 returns-7 returns-8 returns-9 returns-10 returns-11 returns-12 returns-13
+    returns-14 returns-15)

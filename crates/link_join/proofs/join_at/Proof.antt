@@ -4,16 +4,53 @@ use Rattle.link_join.proofs.JoinLaws.{first-refused, second-refused, bo
 use Rattle.link_join.proofs.join_at.Statement.{statement}
 use Rattle.link_join.proofs.join_at.Tie as tie
 
+number-requires : tie.Need-number-requires
+number-requires c κs = search needs
+
+cast-result : tie.Need-cast-result
+cast-result c = search needs
+
+returns : tie.Need-returns
+returns c =
+    let at-entry = c .before .before .before .before .before .before in
+    first-refused (at-entry .args .first .now) (at-entry .args .second .now) (at-entry .args .params .now)
+    (at-entry .args .buffer .now) _ 0 (c .before .number .ensures) (c .if1 .taken)
+
+number-requires-2 : tie.Need-number-requires-2
+number-requires-2 c κs = search needs
+
+cast-result-2 : tie.Need-cast-result-2
+cast-result-2 c = search needs
+
+returns-2 : tie.Need-returns-2
+returns-2 c =
+    let at-if1 = c .before .before in
+    let at-number = at-if1 .before in
+    let at-entry = at-number .before .before .before .before .before in
+    second-refused (at-entry .args .first .now) (at-entry .args .second .now) (at-entry .args .params .now)
+    (at-entry .args .buffer .now) _ _ (at-number .number .ensures) (at-if1 .if1 .left)
+    (c .before .number2 .ensures) (c .if2 .taken)
+
+pool-at-requires : tie.Need-pool-at-requires
+pool-at-requires c κs = search needs
+
+same-length : tie.Need-same-length
+same-length c = search needs
+
+returns-3 : tie.Need-returns-3
+returns-3 c =
+    let at-pool-at = c .before .before in
+    let at-if2 = at-pool-at .before .before in
+    let at-number2 = at-if2 .before in
+    let at-if1 = at-number2 .before in
+    let at-number = at-if1 .before in
+    let at-entry = at-number .before .before .before .before .before in
+    both-taken (at-entry .args .first .now) (at-entry .args .second .now) (at-entry .args .params .now)
+    (at-entry .args .buffer .now) _ _ (at-number .number .ensures) (at-if1 .if1 .left)
+    (at-number2 .number2 .ensures) (at-if2 .if2 .left) _ (at-pool-at .pool-at .ensures)
+
 pub join-at-spec : {M : Type 1} → statement M
 join-at-spec =
     tie.close
-    (tie.spec
-    (λ c κs. search needs)
-    (λ c. search needs)
-    (λ c. first-refused (c .before .before .before .before .before .before .args .first .now) (c .before .before .before .before .before .before .args .second .now) (c .before .before .before .before .before .before .args .params .now) (c .before .before .before .before .before .before .args .buffer .now) _ 0 (c .before .number .ensures) (c .if1 .taken))
-    (λ c κs. search needs)
-    (λ c. search needs)
-    (λ c. second-refused (c .before .before .before .before .before .before .before .before .args .first .now) (c .before .before .before .before .before .before .before .before .args .second .now) (c .before .before .before .before .before .before .before .before .args .params .now) (c .before .before .before .before .before .before .before .before .args .buffer .now) _ _ (c .before .before .before .number .ensures) (c .before .before .if1 .left) (c .before .number2 .ensures) (c .if2 .taken))
-    (λ c κs. search needs)
-    (λ c. search needs)
-    (λ c. both-taken (c .before .before .before .before .before .before .before .before .before .before .before .before .args .first .now) (c .before .before .before .before .before .before .before .before .before .before .before .before .args .second .now) (c .before .before .before .before .before .before .before .before .before .before .before .before .args .params .now) (c .before .before .before .before .before .before .before .before .before .before .before .before .args .buffer .now) _ _ (c .before .before .before .before .before .before .before .number .ensures) (c .before .before .before .before .before .before .if1 .left) (c .before .before .before .before .before .number2 .ensures) (c .before .before .before .before .if2 .left) _ (c .before .before .pool-at .ensures)))
+    (tie.spec number-requires cast-result returns number-requires-2 cast-result-2 returns-2 pool-at-requires
+    same-length returns-3)

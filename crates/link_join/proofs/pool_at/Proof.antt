@@ -7,17 +7,86 @@ use Rattle.link_join.proofs.JoinLaws.{taken, read-few, unlike, alike}
 use Rattle.link_join.proofs.pool_at.Statement.{statement}
 use Rattle.link_join.proofs.pool_at.Tie as tie
 
+ranks-agree-requires : tie.Need-ranks-agree-requires
+ranks-agree-requires c κs = search needs
+
+returns : tie.Need-returns
+returns c =
+    let at-shared-slice-known2 = c .before .before .before .before in
+    let at-shared-slice-known = at-shared-slice-known2 .before in
+    let at-entry = at-shared-slice-known .before in
+    unlike (taken (at-entry .args .first .now) (at-entry .args .params .now)
+    (all-bytes (at-entry .args .first .now)
+    (λ i _. omega (arith, at-shared-slice-known .shared-slice-known .given i))) (at-entry .pre .0))
+    (taken (at-entry .args .second .now) (at-entry .args .params .now)
+    (all-bytes (at-entry .args .second .now)
+    (λ i _. omega (arith, at-shared-slice-known2 .shared-slice-known2 .given i))) (at-entry .pre .1)) _ _
+    (c .before .ranks-agree .ensures) (c .if1 .taken)
+
+slice-aggregate-splice : tie.Need-slice-aggregate-splice
+slice-aggregate-splice c = search needs
+
+splice-requires : tie.Need-splice-requires
+splice-requires c κs =
+    let at-shared-slice-known2 = c .before .before .before .before .before in
+    let at-shared-slice-known = at-shared-slice-known2 .before in
+    let at-entry = at-shared-slice-known .before in
+    let x = read-few (taken (at-entry .args .first .now) (at-entry .args .params .now)
+    (all-bytes (at-entry .args .first .now)
+    (λ i _. omega (arith, at-shared-slice-known .shared-slice-known .given i))) (at-entry .pre .0)) in
+    let y = read-few (taken (at-entry .args .second .now) (at-entry .args .params .now)
+    (all-bytes (at-entry .args .second .now)
+    (λ i _. omega (arith, at-shared-slice-known2 .shared-slice-known2 .given i))) (at-entry .pre .1)) in
+    omega arith
+
+sub-result-at : tie.Need-sub-result-at
+sub-result-at c = search needs
+
+part-result-at-start : tie.Need-part-result-at-start
+part-result-at-start c = search needs
+
+part-result-at-end : tie.Need-part-result-at-end
+part-result-at-end c =
+    let at-splice = c .before .before in
+    let at-shared-slice-known2 = at-splice .before .before .before .before .before .before in
+    let at-shared-slice-known = at-shared-slice-known2 .before in
+    let at-entry = at-shared-slice-known .before in
+    let x = read-few (taken (at-entry .args .first .now) (at-entry .args .params .now)
+    (all-bytes (at-entry .args .first .now)
+    (λ i _. omega (arith, at-shared-slice-known .shared-slice-known .given i))) (at-entry .pre .0)) in
+    let y = read-few (taken (at-entry .args .second .now) (at-entry .args .params .now)
+    (all-bytes (at-entry .args .second .now)
+    (λ i _. omega (arith, at-shared-slice-known2 .shared-slice-known2 .given i))) (at-entry .pre .1)) in
+    omega (arith, at-splice .splice .ensures .1, at-splice .splice .kept .1 .1 .0)
+
+result-at-requires : tie.Need-result-at-requires
+result-at-requires c κs =
+    let at-splice = c .before .before .before .before in
+    simp (length-take, length-drop) (omega (arith, at-splice .splice .kept .1 .1 .0))
+
+same-length : tie.Need-same-length
+same-length c = search needs
+
+returns-2 : tie.Need-returns-2
+returns-2 c =
+    let at-result-at = c .before .before in
+    let at-splice = at-result-at .before .before .before .before .before in
+    let at-if1 = at-splice .before .before in
+    let at-ranks-agree = at-if1 .before in
+    let at-shared-slice-known2 = at-ranks-agree .before .before .before in
+    let at-shared-slice-known = at-shared-slice-known2 .before in
+    let at-entry = at-shared-slice-known .before in
+    alike (taken (at-entry .args .first .now) (at-entry .args .params .now)
+    (all-bytes (at-entry .args .first .now)
+    (λ i _. omega (arith, at-shared-slice-known .shared-slice-known .given i))) (at-entry .pre .0))
+    (taken (at-entry .args .second .now) (at-entry .args .params .now)
+    (all-bytes (at-entry .args .second .now)
+    (λ i _. omega (arith, at-shared-slice-known2 .shared-slice-known2 .given i))) (at-entry .pre .1)) _ _ _ _ _ _
+    (at-ranks-agree .ranks-agree .ensures) (at-if1 .if1 .left) (at-splice .splice .ensures .0)
+    (at-result-at .result-at .ensures)
+
 pub pool-at-spec : {M : Type 1} → statement M
 pool-at-spec =
     tie.close
-    (tie.spec
-    (λ c κs. search needs)
-    (λ c. unlike (taken (c .before .before .before .before .before .before .args .first .now) (c .before .before .before .before .before .before .args .params .now) (all-bytes (c .before .before .before .before .before .before .args .first .now) (λ i _. omega (arith, c .before .before .before .before .before .shared-slice-known .given i))) (c .before .before .before .before .before .before .pre .0)) (taken (c .before .before .before .before .before .before .args .second .now) (c .before .before .before .before .before .before .args .params .now) (all-bytes (c .before .before .before .before .before .before .args .second .now) (λ i _. omega (arith, c .before .before .before .before .shared-slice-known2 .given i))) (c .before .before .before .before .before .before .pre .1)) _ _ (c .before .ranks-agree .ensures) (c .if1 .taken))
-    (λ c. search needs)
-    (λ c κs. let x = read-few (taken (c .before .before .before .before .before .before .before .args .first .now) (c .before .before .before .before .before .before .before .args .params .now) (all-bytes (c .before .before .before .before .before .before .before .args .first .now) (λ i _. omega (arith, c .before .before .before .before .before .before .shared-slice-known .given i))) (c .before .before .before .before .before .before .before .pre .0)) in let y = read-few (taken (c .before .before .before .before .before .before .before .args .second .now) (c .before .before .before .before .before .before .before .args .params .now) (all-bytes (c .before .before .before .before .before .before .before .args .second .now) (λ i _. omega (arith, c .before .before .before .before .before .shared-slice-known2 .given i))) (c .before .before .before .before .before .before .before .pre .1)) in omega arith)
-    (λ c. search needs)
-    (λ c. search needs)
-    (λ c. let x = read-few (taken (c .before .before .before .before .before .before .before .before .before .before .args .first .now) (c .before .before .before .before .before .before .before .before .before .before .args .params .now) (all-bytes (c .before .before .before .before .before .before .before .before .before .before .args .first .now) (λ i _. omega (arith, c .before .before .before .before .before .before .before .before .before .shared-slice-known .given i))) (c .before .before .before .before .before .before .before .before .before .before .pre .0)) in let y = read-few (taken (c .before .before .before .before .before .before .before .before .before .before .args .second .now) (c .before .before .before .before .before .before .before .before .before .before .args .params .now) (all-bytes (c .before .before .before .before .before .before .before .before .before .before .args .second .now) (λ i _. omega (arith, c .before .before .before .before .before .before .before .before .shared-slice-known2 .given i))) (c .before .before .before .before .before .before .before .before .before .before .pre .1)) in omega (arith, c .before .before .splice .ensures .1, c .before .before .splice .kept .1 .1 .0))
-    (λ c κs. simp (length-take, length-drop) (omega (arith, c .before .before .before .before .splice .kept .1 .1 .0)))
-    (λ c. search needs)
-    (λ c. alike (taken (c .before .before .before .before .before .before .before .before .before .before .before .before .before .before .before .args .first .now) (c .before .before .before .before .before .before .before .before .before .before .before .before .before .before .before .args .params .now) (all-bytes (c .before .before .before .before .before .before .before .before .before .before .before .before .before .before .before .args .first .now) (λ i _. omega (arith, c .before .before .before .before .before .before .before .before .before .before .before .before .before .before .shared-slice-known .given i))) (c .before .before .before .before .before .before .before .before .before .before .before .before .before .before .before .pre .0)) (taken (c .before .before .before .before .before .before .before .before .before .before .before .before .before .before .before .args .second .now) (c .before .before .before .before .before .before .before .before .before .before .before .before .before .before .before .args .params .now) (all-bytes (c .before .before .before .before .before .before .before .before .before .before .before .before .before .before .before .args .second .now) (λ i _. omega (arith, c .before .before .before .before .before .before .before .before .before .before .before .before .before .shared-slice-known2 .given i))) (c .before .before .before .before .before .before .before .before .before .before .before .before .before .before .before .pre .1)) _ _ _ _ _ _ (c .before .before .before .before .before .before .before .before .before .before .ranks-agree .ensures) (c .before .before .before .before .before .before .before .before .before .if1 .left) (c .before .before .before .before .before .before .before .splice .ensures .0) (c .before .before .result-at .ensures)))
+    (tie.spec ranks-agree-requires returns slice-aggregate-splice splice-requires sub-result-at part-result-at-start
+    part-result-at-end result-at-requires same-length returns-2)

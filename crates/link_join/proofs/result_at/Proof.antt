@@ -4,13 +4,34 @@ use Rattle.link_join.proofs.JoinLaws.{not-taken, is-taken}
 use Rattle.link_join.proofs.result_at.Statement.{statement}
 use Rattle.link_join.proofs.result_at.Tie as tie
 
+number-requires : tie.Need-number-requires
+number-requires c κs = search needs
+
+cast-result : tie.Need-cast-result
+cast-result c = search needs
+
+returns : tie.Need-returns
+returns c =
+    let at-entry = c .before .before .before .before .before in
+    not-taken (at-entry .args .v .now) (at-entry .args .params .now) (at-entry .args .buffer .now) _
+    (c .before .number .ensures) (c .if1 .taken)
+
+deliver-requires : tie.Need-deliver-requires
+deliver-requires c κs = search needs
+
+same-length : tie.Need-same-length
+same-length c = search needs
+
+returns-2 : tie.Need-returns-2
+returns-2 c =
+    let at-deliver = c .before .before in
+    let at-if1 = at-deliver .before .before in
+    let at-number = at-if1 .before in
+    let at-entry = at-number .before .before .before .before in
+    is-taken (at-entry .args .v .now) (at-entry .args .params .now) (at-entry .args .buffer .now) _
+    (at-number .number .ensures) (at-if1 .if1 .left) _ (at-deliver .deliver .ensures)
+
 pub result-at-spec : {M : Type 1} → statement M
 result-at-spec =
     tie.close
-    (tie.spec
-    (λ c κs. search needs)
-    (λ c. search needs)
-    (λ c. not-taken (c .before .before .before .before .before .args .v .now) (c .before .before .before .before .before .args .params .now) (c .before .before .before .before .before .args .buffer .now) _ (c .before .number .ensures) (c .if1 .taken))
-    (λ c κs. search needs)
-    (λ c. search needs)
-    (λ c. is-taken (c .before .before .before .before .before .before .before .before .before .args .v .now) (c .before .before .before .before .before .before .before .before .before .args .params .now) (c .before .before .before .before .before .before .before .before .before .args .buffer .now) _ (c .before .before .before .before .before .number .ensures) (c .before .before .before .before .if1 .left) _ (c .before .before .deliver .ensures)))
+    (tie.spec number-requires cast-result returns deliver-requires same-length returns-2)

@@ -12,7 +12,7 @@ unfolding allowed
 is-allowed-spec =
     tie.close
     (tie.spec
-    (λ c. let h : 63 < c .before .args .s = omega arith in search code depth 12)
+    (λ c. let h : 63 < c .before .args .slot = omega arith in search code depth 12)
     (λ c. search code depth 12)
     (λ c. search code depth 12)
     (λ c. search code depth 12)

@@ -1,11 +1,18 @@
--- The filling leaves the stack's depth, so that the instructions may run; the reads are the definition's, by their
--- contracts.
+-- The filling leaves the stack's depth, and a stretch that fits lies within 4,096, so that the instructions may run;
+-- each return is one branch of the definition.
 use Prim.Native.Nat.{ℕ, _≤_}
-use mathlib.Core.Path.{_≡_}
+use mathlib.Core.Bool.{Bool, true, false}
+use mathlib.Core.Path.{_≡_, sym, _∙_}
 use mathlib.Core.List.{List}
 use native.Mathlib.Omega.{arith}
+use borrow.Author.Tests.{not-true, not-false}
 use Rattle.lib_word.specs.Word.{get}
-use Rattle.run_carry.specs.Carry.{filled, carryOn}
+use Rattle.spec_language.specs.Refusals as refusals
+use Rattle.format_layout.specs.Layout.{passivesStart, passivesLength, codeFits}
+use Rattle.format_layout.proofs.BoundsLaws.{code-bound}
+use Rattle.run_start.specs.Start.{Result, result}
+use Rattle.run_stretch.specs.Settle.{settleFrom}
+use Rattle.run_carry.specs.Carry.{filled, workedOut, carryOn}
 use Rattle.run_carry.proofs.CarryLaws.{filled-head}
 use borrow.Author.Needs.{needs}
 use Rattle.run_carry.proofs.carry_on.Statement.{statement}
@@ -14,22 +21,28 @@ use Rattle.run_carry.proofs.carry_on.Tie as tie
 shallow : (old t l m₀ : List ℕ) {m : List ℕ} → m ≡ filled old t l m₀ 64 → get m₀ 6 ≤ 64 → get m 6 ≤ 64
 shallow old t l m₀ e h = rw (e, filled-head old t l m₀ 64 6 (omega arith)) h
 
+module _ (old t l m₀ : List ℕ) {m : List ℕ} {k n : ℕ} {x : Bool} (e : m ≡ filled old t l m₀ 64) (p : k ≡ passivesStart t) (q : n ≡ passivesLength t)
+    (f : x ≡ codeFits k n) where
+  outside : x ≡ false → result refusals.foreign m ≡ carryOn old t l m₀
+  unfolding carryOn workedOut
+  outside h = rw (← p, ← q, ← e, ← f, h)
+
+  inside : {r : Result} → x ≡ true → r ≡ settleFrom t k n m → r ≡ carryOn old t l m₀
+  unfolding carryOn workedOut
+  inside h g = rw (← p, ← q, ← e, ← f, h) g
+
 pub carry-on-spec : {M : Type 1} → statement M
-unfolding carryOn
 carry-on-spec =
     tie.close
     (tie.spec
     (λ c κs. search needs)
     (λ c κs. search needs)
     (λ c κs. search needs)
-    (λ c κs.
-    let s = shallow _ _ _ _ (c .before .before .before .before .before .fill .ensures) (c .before .before .before .before .before .before .before .before .before .before .before .pre .1) in
-    search needs)
+    (λ c κs. search needs)
     (λ c. search needs)
-    (λ c.
-    cc (
-      c .before .before .before .before .before .before .before .before .fill .ensures,
-      c .before .before .before .before .before .get-word .ensures,
-      c .before .before .before .before .get-word2 .ensures,
-      c .before .before .work-out .ensures,
-    )))
+    (λ c. outside _ _ _ _ (c .before .before .before .before .before .before .fill .ensures) (c .before .before .before .get-word .ensures) (c .before .before .get-word2 .ensures) (c .before .code-fits .ensures) (not-true _ (c .if1 .taken)))
+    (λ c. search needs)
+    (λ c. search needs)
+    (λ c κs. let s = shallow _ _ _ _ (c .before .before .before .before .before .before .before .fill .ensures) (c .before .before .before .before .before .before .before .before .before .before .before .before .before .pre .1) in let b = code-bound _ _ (sym (c .before .before .code-fits .ensures) ∙ not-false _ (c .before .if1 .left)) in search needs)
+    (λ c. search needs)
+    (λ c. inside _ _ _ _ (c .before .before .before .before .before .before .before .before .before .before .fill .ensures) (c .before .before .before .before .before .before .before .get-word .ensures) (c .before .before .before .before .before .before .get-word2 .ensures) (c .before .before .before .before .before .code-fits .ensures) (not-false _ (c .before .before .before .before .if1 .left)) (c .before .before .settle-from .ensures)))

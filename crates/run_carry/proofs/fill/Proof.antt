@@ -45,7 +45,6 @@ fill-spec =
     μ-loop
     (λ c. start _ _ _ _)
     (λ c κs. search needs)
-    (λ c. omega arith)
     (λ c κs. let g = c .before .before .before .loop .inv .long in search needs)
     (λ c. omega arith)
     (λ c. omega arith)

@@ -1,9 +1,31 @@
--- `is_active` is `active`: each branch follows the definition's test.
-use Rattle.lib_base.proofs.Pick.{code}
-use Rattle.run_carry.specs.Carry.{active}
+-- Each return is one branch of the definition, over what was read.
+use Prim.Native.Nat.{ℕ, _≤_, _<_}
+use mathlib.Core.Bool.{Bool, false}
+use mathlib.Core.Path.{_≡_}
+use mathlib.Core.List.{List}
+use lib.Dec.{eqb}
+use borrow.Author.Tests.{lt-ltb, le-ltb}
+use Rattle.format_layout.specs.Layout.{behaviourCount, kindAt}
+use Rattle.run_carry.specs.Carry.{active, activeIn}
+use borrow.Author.Needs.{needs}
 use Rattle.run_carry.proofs.is_active.Statement.{statement}
 use Rattle.run_carry.proofs.is_active.Tie as tie
 
+by-kind : (t : List ℕ) (i : ℕ) {n k : ℕ} → n ≡ behaviourCount t → i < n → k ≡ kindAt t i → eqb k 0 ≡ activeIn t i
+unfolding activeIn active
+by-kind t i {n} p h q = rw (← p, lt-ltb i n h, ← q)
+
+past-end : (t : List ℕ) (i : ℕ) {n : ℕ} → n ≡ behaviourCount t → n ≤ i → false ≡ activeIn t i
+unfolding activeIn active
+past-end t i {n} p h = rw (← p, le-ltb i n h)
+
 pub is-active-spec : {M : Type 1} → statement M
-unfolding active
-is-active-spec = tie.close (tie.spec (λ c. search code depth 12) (λ c. search code depth 12))
+is-active-spec =
+    tie.close
+    (tie.spec
+    (λ c κs. search needs)
+    (λ c. search needs)
+    (λ c. search needs)
+    (λ c κs. search needs)
+    (λ c. by-kind _ _ (c .before .before .get-word .ensures) (c .before .if1 .taken) (c .get-word2 .ensures))
+    (λ c. past-end _ _ (c .before .get-word .ensures) (c .if1 .left)))

@@ -9,4 +9,4 @@ use Rattle.run_forecast.proofs.bound_of.Tie as tie
 
 pub bound-of-spec : {M : Type 1} → statement M
 unfolding bound
-bound-of-spec = tie.close (tie.spec (λ c. search needs) (λ c. search needs) (λ c. search needs) (λ c. let h : c .args .longest + 1 ≤ 4097 = omega arith in omega (arith, mul-le-mul-left (c .args .n + 1 + 1) h)) (λ c. search needs))
+bound-of-spec = tie.close (tie.spec (λ c. search needs) (λ c. search needs) (λ c. search needs) (λ c. let h : c .args .longest + 1 ≤ 4097 = omega arith in omega (arith, mul-le-mul-left (c .args .waiting + 1 + 1) h)) (λ c. search needs))

@@ -43,5 +43,5 @@ longest-of-spec =
     (λ c. omega arith)
     (λ c. turn (c .before .before .before .loop .inv) (c .before .before .before .before .before .pre .0) (omega arith) (omega arith) (c .before .event-word .ensures) (c .larger-of .ensures))
     (λ c.
-    let e : c .before .loop .e ≡ c .before .before .before .args .n = omega arith in
+    let e : c .before .loop .event ≡ c .before .before .before .args .n = omega arith in
     (rw e at (c .before .loop .inv .same), c .before .loop .inv .small)))

@@ -1,35 +1,44 @@
 -- Where one runs there is a free slot, and the writes are the definition's.
 use Prim.Native.Nat.{ℕ, _+_, _≤_}
-use mathlib.Core.Path.{_≡_}
+use mathlib.Core.Path.{_≡_, _∙_}
 use mathlib.Core.Logic.{_≢_}
 use mathlib.Core.List.{List}
 use native.Mathlib.Omega.{arith}
 use borrow.Author.Tests.{ne-eqb}
-use Rattle.lib_base.proofs.Pick.{code}
 use Rattle.lib_word.specs.Word.{put}
+use Rattle.format_layout.specs.Layout.{waitingCount, runningFlag, runningNumber, runningWord}
 use Rattle.run_queue.specs.Queue.{putSlot}
 use Rattle.run_mend.specs.Mending.{backInHand}
 use borrow.Author.Needs.{needs}
 use Rattle.run_mend.proofs.back_in_hand.Statement.{statement}
 use Rattle.run_mend.proofs.back_in_hand.Tie as tie
 
-together : (l : List ℕ) (n f k w : ℕ) {m o : List ℕ} → f ≢ 0 → m ≡ putSlot l n k w → o ≡ put m 1 (n + 1) → o ≡ backInHand l n f k w
-unfolding backInHand
-together l n f k w h e g = rw (ne-eqb f 0 h, ← e) g
+module _ (l : List ℕ) {f : ℕ} (p : f ≡ runningFlag l) where
+  none : f ≡ 0 → l ≡ backInHand l (waitingCount l) (runningFlag l) (runningNumber l) (runningWord l)
+  unfolding backInHand
+  none h = rw (← p, h)
+
+  room : {n : ℕ} → n ≡ waitingCount l → (runningFlag l ≢ 0 → waitingCount l ≤ 63) → f ≢ 0 → n ≤ 63
+  room q h g = rw q (h (λ z. g (p ∙ z)))
+
+  together : {n k w : ℕ} {m o : List ℕ} → f ≢ 0 → n ≡ waitingCount l → k ≡ runningNumber l → w ≡ runningWord l → m ≡ putSlot l n k w → o ≡ put m 1 (n + 1)
+      → o ≡ backInHand l (waitingCount l) (runningFlag l) (runningNumber l) (runningWord l)
+  unfolding backInHand
+  together h q r s e g = rw (← p, ne-eqb f 0 h, ← q, ← r, ← s, ← e) g
 
 pub back-in-hand-spec : {M : Type 1} → statement M
-unfolding backInHand
 back-in-hand-spec =
     tie.close
     (tie.spec
-    (λ c. search code depth 12)
-    (λ c κs. let h : c .before .before .before .args .n ≤ 63 = c .before .before .before .pre .1 (c .before .if1 .left) in search needs)
-    (λ c.
-    let h : c .before .before .before .before .before .before .before .args .n ≤ 63 =
-    c .before .before .before .before .before .before .before .pre .1 (c .before .before .before .before .before .if1 .left) in
-    omega arith)
     (λ c κs. search needs)
     (λ c. search needs)
-    (λ c.
-    together _ _ _ _ _ (c .before .before .before .before .before .before .before .before .if1 .left) (c .before .before .before .before .before .before .put-slot .ensures)
-    (c .before .before .put-word .ensures)))
+    (λ c. none _ (c .before .get-word .ensures) (c .if1 .taken))
+    (λ c κs. search needs)
+    (λ c κs. search needs)
+    (λ c κs. search needs)
+    (λ c. search needs)
+    (λ c κs. let h = room _ (c .before .before .before .before .before .before .before .before .get-word .ensures) (c .before .before .before .before .before .get-word2 .ensures) (c .before .before .before .before .before .before .before .before .before .before .before .pre .1) (c .before .before .before .before .before .before .before .if1 .left) in search needs)
+    (λ c. let h = room _ (c .before .before .before .before .before .before .before .before .before .before .before .before .get-word .ensures) (c .before .before .before .before .before .before .before .before .before .get-word2 .ensures) (c .before .before .before .before .before .before .before .before .before .before .before .before .before .before .before .pre .1) (c .before .before .before .before .before .before .before .before .before .before .before .if1 .left) in omega arith)
+    (λ c κs. search needs)
+    (λ c. search needs)
+    (λ c. together _ (c .before .before .before .before .before .before .before .before .before .before .before .before .before .before .before .get-word .ensures) (c .before .before .before .before .before .before .before .before .before .before .before .before .before .before .if1 .left) (c .before .before .before .before .before .before .before .before .before .before .before .before .get-word2 .ensures) (c .before .before .before .before .before .before .before .before .before .before .get-word3 .ensures) (c .before .before .before .before .before .before .before .before .get-word4 .ensures) (c .before .before .before .before .before .before .put-slot .ensures) (c .before .before .put-word .ensures)))

@@ -1,34 +1,68 @@
--- A foreign table refuses the arrival; any other is within its bounds, and then the callees' answers are put together.
-use Prim.Native.Nat.{ℕ}
-use mathlib.Core.Bool.{false}
-use mathlib.Core.Path.{_≡_, sym, ap, _∙_}
+-- Each return is one branch of the definitions; an arrival that is taken in leaves a sound round, which the steps to
+-- idle ask for.
+use Prim.Native.Nat.{ℕ, _+_, _≤_, _<_}
+use mathlib.Core.Bool.{Bool, true, false}
+use mathlib.Core.Path.{_≡_, ap, _∙_}
+use mathlib.Core.Logic.{_≢_}
 use mathlib.Core.List.{List}
-use Rattle.format_layout.specs.Layout.{tableFits, ours}
+use native.Mathlib.Omega.{arith}
+use borrow.Author.Tests.{le-leb, lt-leb, eq-eqb, ne-eqb, not-true, not-false}
+use Rattle.lib_word.specs.Word.{get}
+use Rattle.spec_language.specs.Rights.{may}
+use Rattle.format_layout.specs.Layout.{viewersAt}
+use Rattle.format_layout.proofs.BoundsLaws.{table-bounds}
 use Rattle.run_start.specs.Start.{Result, result}
 use Rattle.run_arrive.specs.Arrivals.{arriveOn}
-use Rattle.run_preview.specs.Preview.{previewAfter, previewCopy}
+use Rattle.run_preview.specs.Preview.{toIdle, countOn, shownIn, previewSeen, previewTaken, previewAfter, previewCopy}
+use Rattle.run_preview.proofs.Arrived.{arrive-sound}
 use borrow.Author.Needs.{needs}
 use Rattle.run_preview.proofs.preview_copy.Statement.{statement}
 use Rattle.run_preview.proofs.preview_copy.Tie as tie
 
-foreign-table : (t l : List ℕ) (e i who : ℕ) → tableFits t ≡ false → 14 ≡ previewCopy t l e i who
-unfolding previewCopy previewAfter arriveOn ours
-foreign-table t l e i who h = rw h
+module _ (t l : List ℕ) (e i who : ℕ) {a : ℕ} {m : List ℕ} (arrival : result a m ≡ arriveOn t l e who) where
+  together : {x : ℕ} → x ≡ previewAfter t (result a m) i who → x ≡ previewCopy t l e i who
+  unfolding previewCopy
+  together g = g ∙ ap (λ (o : Result). previewAfter t o i who) arrival
 
-together : (t l : List ℕ) (e i who : ℕ) {a x : ℕ} {m : List ℕ} → result a m ≡ arriveOn t l e who → x ≡ previewAfter t (result a m) i who → x ≡ previewCopy t l e i who
-unfolding previewCopy
-together t l e i who f g = g ∙ ap (λ (o : Result). previewAfter t o i who) f
+  refused : a ≢ 0 → a ≡ previewCopy t l e i who
+  unfolding previewAfter
+  refused h = together (rw (ne-eqb a 0 h))
+
+  module _ {n : ℕ} (taken : a ≡ 0) (count : n ≡ get t 1) where
+    no-behaviour : n ≤ i → 18 ≡ previewCopy t l e i who
+    unfolding previewAfter previewTaken
+    no-behaviour h = together (rw (eq-eqb a 0 taken, ← count, le-leb n i h))
+
+    module _ {b : Bool} (there : i < n) (right : b ≡ may (viewersAt t i) who) where
+      unseen : b ≡ false → 25 ≡ previewCopy t l e i who
+      unfolding previewAfter previewTaken previewSeen
+      unseen h = together (rw (eq-eqb a 0 taken, ← count, lt-leb n i there, ← right, h))
+
+      seen : {x : ℕ} → b ≡ true → x ≡ shownIn (toIdle t (countOn t m + 1) m) i → x ≡ previewCopy t l e i who
+      unfolding previewAfter previewTaken previewSeen
+      seen h g = together (rw (eq-eqb a 0 taken, ← count, lt-leb n i there, ← right, h) g)
 
 pub preview-copy-spec : {M : Type 1} → statement M
 preview-copy-spec =
     tie.close
     (tie.spec
     (λ c κs. search needs)
-    (λ c κs. search needs)
-    (λ c κs. (
-      (c .before .before .before .before .before .before .table-fits .ensures .1 (c .before .before .before .before .before .if1 .taken), search needs),
-      c .before .before .before .arrive-at .ensures .1,
-    ))
     (λ c. search needs)
-    (λ c. together _ _ _ _ _ (c .before .before .before .before .before .before .arrive-at .ensures .0) (c .before .before .preview-after .ensures))
-    (λ c. foreign-table _ _ _ _ _ (sym (c .before .table-fits .ensures .0) ∙ c .if1 .left)))
+    (λ c. search needs)
+    (λ c. refused _ _ _ _ _ (c .before .before .before .arrive-at .ensures .0) (c .if1 .taken))
+    (λ c κs. let s = arrive-sound _ _ _ _ (c .before .before .before .arrive-at .ensures .0) (c .if1 .left) in omega (arith, s .whole))
+    (λ c. search needs)
+    (λ c. no-behaviour _ _ _ _ _ (c .before .before .before .before .before .arrive-at .ensures .0) (c .before .before .if1 .left) (c .before .get-word .ensures) (c .if2 .taken))
+    (λ c κs.
+    let s = arrive-sound _ _ _ _ (c .before .before .before .before .before .arrive-at .ensures .0) (c .before .before .if1 .left) in
+    omega (arith, s .whole, table-bounds _ (s .table) .few-behaviours, c .before .get-word .ensures, c .if2 .left, c .before .before .before .before .before .arrive-at .ensures .1 (c .before .before .if1 .left)))
+    (λ c. search needs)
+    (λ c.
+    unseen _ _ _ _ _ (c .before .before .before .before .before .before .before .arrive-at .ensures .0) (c .before .before .before .before .if1 .left) (c .before .before .before .get-word .ensures) (c .before .before .if2 .left) (c .before .may-see .ensures) (not-true _ (c .if3 .taken)))
+    (λ c κs.
+    let s = arrive-sound _ _ _ _ (c .before .before .before .before .before .before .before .before .arrive-at .ensures .0) (c .before .before .before .before .before .if1 .left) in
+    (table-bounds _ (s .table), s, omega (arith, table-bounds _ (s .table) .few-behaviours, c .before .before .before .before .get-word .ensures, c .before .before .before .if2 .left)))
+    (λ c. search needs)
+    (λ c.
+    seen _ _ _ _ _ (c .before .before .before .before .before .before .before .before .before .before .before .arrive-at .ensures .0) (c .before .before .before .before .before .before .before .before .if1 .left) (c .before .before .before .before .before .before .before .get-word .ensures) (c .before .before .before .before .before .before .if2 .left) (c .before .before .before .before .before .may-see .ensures) (not-false _ (c .before .before .before .before .if3 .left))
+    (c .before .before .shown-in .ensures)))

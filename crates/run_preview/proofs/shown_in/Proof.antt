@@ -4,14 +4,16 @@ use mathlib.Core.Path.{_≡_, ap, _∙_}
 use mathlib.Core.List.{List}
 use Rattle.lib_word.specs.Word.{get}
 use Rattle.run_start.specs.Start.{Result, result}
-use Rattle.run_preview.specs.Preview.{shown, shownIn}
+use Rattle.run_preview.specs.Preview.{toIdle, countOn, shown, shownIn}
 use borrow.Author.Needs.{needs}
 use Rattle.run_preview.proofs.shown_in.Statement.{statement}
 use Rattle.run_preview.proofs.shown_in.Tie as tie
 
-together : (o : Result) (i : ℕ) {a v x : ℕ} {m : List ℕ} → result a m ≡ o → v ≡ get m (136 + i) → x ≡ shown a v → x ≡ shownIn o i
+together : (t l : List ℕ) (i : ℕ) {n a v x : ℕ} {m : List ℕ} → n ≡ countOn t l → result a m ≡ toIdle t (n + 1) l → v ≡ get m (136 + i) → x ≡ shown a v
+    → x ≡ shownIn (toIdle t (countOn t l + 1) l) i
 unfolding shownIn
-together o i {a} {v} {x} {m} e f g = g ∙ ap (shown a) f ∙ ap (λ (o : Result). shown (o .0) (get (o .1) (136 + i))) e
+together t l i {n} {a} {v} {x} {m} c e f g =
+    g ∙ ap (shown a) f ∙ ap (λ (o : Result). shown (o .0) (get (o .1) (136 + i))) (e ∙ ap (λ (k : ℕ). toIdle t (k + 1) l) c)
 
 pub shown-in-spec : {M : Type 1} → statement M
 shown-in-spec =
@@ -20,6 +22,8 @@ shown-in-spec =
     (λ c κs. search needs)
     (λ c. search needs)
     (λ c κs. search needs)
+    (λ c. search needs)
+    (λ c κs. search needs)
     (λ c κs. search needs)
     (λ c. search needs)
-    (λ c. together _ _ (c .before .before .before .before .before .run-to-idle .ensures) (c .before .get-word .ensures) (c .shown-by .ensures)))
+    (λ c. together _ _ _ (c .before .before .before .before .before .before .before .count-of .ensures .0) (c .before .before .before .before .before .run-to-idle .ensures) (c .before .get-word .ensures) (c .shown-by .ensures)))

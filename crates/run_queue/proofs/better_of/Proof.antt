@@ -1,11 +1,42 @@
--- `better_of` is `better`: what each call returns, put together.
-use Rattle.run_queue.specs.Queue.{better}
+-- `better_of` is `better`: what each call returns, put together; each return is one of the definition's two.
+use Prim.Native.Nat.{ℕ}
+use mathlib.Core.Bool.{Bool, true, false}
+use mathlib.Core.Path.{_≡_}
+use mathlib.Core.List.{List}
+use Rattle.format_layout.specs.Layout.{eventWord, numberAt, eventAt}
+use Rattle.run_queue.specs.Queue.{ahead, either, better}
 use borrow.Author.Needs.{needs}
 use Rattle.run_queue.proofs.better_of.Statement.{statement}
 use Rattle.run_queue.proofs.better_of.Tie as tie
 
+-- the slot at i goes before that at b
+abbrev before : List ℕ → List ℕ → ℕ → ℕ → Bool
+before t l i b = ahead (eventWord t (eventAt l i) 0) (numberAt l i) (eventWord t (eventAt l b) 0) (numberAt l b)
+
+first : (t l : List ℕ) (i b : ℕ) {x : Bool} → x ≡ before t l i b → x ≡ true → i ≡ better t l i b
+unfolding better either
+first t l i b e h = rw (← e, h)
+
+second : (t l : List ℕ) (i b : ℕ) {x : Bool} → x ≡ before t l i b → x ≡ false → b ≡ better t l i b
+unfolding better either
+second t l i b e h = rw (← e, h)
+
+-- what the calls return, put together
+read : (c : tie.After-is-ahead) → c .is-ahead .result
+    ≡ before (c .before .before .before .before .before .before .before .before .before .args .table .now) (c .before .before .before .before .before .before .before .before .before .args .round .now)
+    (c .before .before .before .before .before .before .before .before .before .args .i) (c .before .before .before .before .before .before .before .before .before .args .b)
+read c =
+    cc (
+      c .before .before .before .before .before .before .event-at .ensures,
+      c .before .before .before .before .before .event-word .ensures,
+      c .before .before .before .before .event-at2 .ensures,
+      c .before .before .before .event-word2 .ensures,
+      c .before .before .get-word .ensures,
+      c .before .get-word2 .ensures,
+      c .is-ahead .ensures,
+    )
+
 pub better-of-spec : {M : Type 1} → statement M
-unfolding better
 better-of-spec =
     tie.close
     (tie.spec
@@ -24,15 +55,5 @@ better-of-spec =
     (λ c. search needs)
     (λ c κs. search needs)
     (λ c κs. search needs)
-    (λ c κs. search needs)
-    (λ c.
-    cc (
-      c .before .before .before .before .before .before .before .event-at .ensures,
-      c .before .before .before .before .before .before .event-word .ensures,
-      c .before .before .before .before .before .event-at2 .ensures,
-      c .before .before .before .before .event-word2 .ensures,
-      c .before .before .before .get-word .ensures,
-      c .before .before .get-word2 .ensures,
-      c .before .is-ahead .ensures,
-      c .one-of .ensures,
-    )))
+    (λ c. first _ _ _ _ (read (c .before)) (c .if1 .taken))
+    (λ c. second _ _ _ _ (read (c .before)) (c .if1 .left)))

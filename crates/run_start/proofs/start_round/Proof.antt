@@ -23,5 +23,5 @@ start-round-spec =
     (λ c. search needs)
     (λ c.
     let made = c .before .before .before .before .fresh .ensures ∙ ap freshOf (c .before .before .before .before .before .first-values .ensures) in
-    rw (← c .before .before .before .before .before .before .before .before .table-fits .ensures .0, not-false (c .before .before .before .before .before .before .before .before .table-fits .result) (c .before .before .before .before .before .before .before .if1 .left), c .before .before .write-round .ensures ∙ ap (λ (r : Round). image r (c .before .before .before .before .before .before .before .before .before .before .before .args .l .now)) made)
+    rw (← c .before .before .before .before .before .before .before .before .table-fits .ensures .0, not-false (c .before .before .before .before .before .before .before .before .table-fits .result) (c .before .before .before .before .before .before .before .if1 .left), c .before .before .write-round .ensures ∙ ap (λ (r : Round). image r (c .before .before .before .before .before .before .before .before .before .before .before .args .round .now)) made)
     (search code depth 12)))

@@ -6,20 +6,66 @@ use Rattle.text_translate.proofs.Laws.{too-long, no-tokens, from-text}
 use Rattle.text_translate.proofs.formula_at.Statement.{statement}
 use Rattle.text_translate.proofs.formula_at.Tie as tie
 
+returns : tie.Need-returns
+returns c =
+    let at-entry = c .before .before .before in
+    too-long (at-entry .args .text .now) (at-entry .args .buffer .now) (c .if1 .taken)
+
+slice-aggregate-scan : tie.Need-slice-aggregate-scan
+slice-aggregate-scan c = search needs
+
+scan-requires : tie.Need-scan-requires
+scan-requires c κs = search needs
+
+enum-known-s : tie.Need-enum-known-s
+enum-known-s c = search needs
+
+enum-told : tie.Need-enum-told
+enum-told c = search needs
+
+returns-2 : tie.Need-returns-2
+returns-2 c =
+    let at-scan = c .before .before .before in
+    let at-if1 = at-scan .before .before in
+    let at-entry = at-if1 .before .before .before in
+    no-tokens (at-entry .args .text .now) (at-entry .args .buffer .now) (at-if1 .if1 .left)
+    (rw (c .enum-told .given .1) at (at-scan .scan .ensures))
+
+sub-from-tokens : tie.Need-sub-from-tokens
+sub-from-tokens c = search needs
+
+part-from-tokens-start : tie.Need-part-from-tokens-start
+part-from-tokens-start c = search needs
+
+part-from-tokens-end : tie.Need-part-from-tokens-end
+part-from-tokens-end c =
+    let at-s = c .before .before in
+    let at-scan = at-s .before .before .before in
+    let h = rw (at-s .s .given .1) at (at-scan .scan .ensures) in
+    omega (arith, h .few, at-scan .scan .kept .1 .0)
+
+from-tokens-requires : tie.Need-from-tokens-requires
+from-tokens-requires c κs =
+    let at-s = c .before .before .before .before in
+    let at-scan = at-s .before .before .before in
+    let h = rw (at-s .s .given .1) at (at-scan .scan .ensures) in
+    simp (length-take, length-drop) (omega (arith, h .few))
+
+same-length : tie.Need-same-length
+same-length c = search needs
+
+returns-3 : tie.Need-returns-3
+returns-3 c =
+    let at-from-tokens = c .before .before in
+    let at-s = at-from-tokens .before .before .before .before .before in
+    let at-scan = at-s .before .before .before in
+    let at-if1 = at-scan .before .before in
+    let at-entry = at-if1 .before .before .before in
+    from-text (at-entry .args .text .now) (at-entry .args .buffer .now) (at-scan .scan .last .1 .0) _ _
+    (at-if1 .if1 .left) (rw (at-s .s .given .1) at (at-scan .scan .ensures)) (at-from-tokens .from-tokens .ensures)
+
 pub formula-at-spec : {M : Type 1} → statement M
 formula-at-spec =
     tie.close
-    (tie.spec
-    (λ c. too-long (c .before .before .before .args .text .now) (c .before .before .before .args .buffer .now) (c .if1 .taken))
-    (λ c. search needs)
-    (λ c κs. search needs)
-    (λ c. search needs)
-    (λ c. search needs)
-    (λ c. no-tokens (c .before .before .before .before .before .before .before .before .args .text .now) (c .before .before .before .before .before .before .before .before .args .buffer .now) (c .before .before .before .before .before .if1 .left) (rw (c .enum-told .given .1) at (c .before .before .before .scan .ensures)))
-    (λ c. omega arith)
-    (λ c. search needs)
-    (λ c. let h = rw (c .before .before .s .given .1) at (c .before .before .before .before .before .scan .ensures) in omega (arith, h .few, c .before .before .before .before .before .scan .kept .1 .0))
-    (λ c. search needs)
-    (λ c κs. let h = rw (c .before .before .before .before .before .s .given .1) at (c .before .before .before .before .before .before .before .before .scan .ensures) in (simp (length-take, length-drop) (omega (arith, h .few)), search needs))
-    (λ c. search needs)
-    (λ c. from-text (c .before .before .before .before .before .before .before .before .before .before .before .before .before .before .before .before .before .args .text .now) (c .before .before .before .before .before .before .before .before .before .before .before .before .before .before .before .before .before .args .buffer .now) (c .before .before .before .before .before .before .before .before .before .before .before .before .scan .last .1 .0) _ _ (c .before .before .before .before .before .before .before .before .before .before .before .before .before .before .if1 .left) (rw (c .before .before .before .before .before .before .before .before .before .s .given .1) at (c .before .before .before .before .before .before .before .before .before .before .before .before .scan .ensures)) (c .before .before .before .from-tokens .ensures)))
+    (tie.spec returns slice-aggregate-scan scan-requires enum-known-s enum-told returns-2 sub-from-tokens
+    part-from-tokens-start part-from-tokens-end from-tokens-requires same-length returns-3)

@@ -1,28 +1,91 @@
--- A fault or a reading that leaves tokens over is 21; else the field is delivered, by the reader's agreement with the
--- definition.
+-- Brackets that do not match, a fault, or a reading that leaves tokens over is 21; else the field is delivered, by the
+-- reader's agreement with the definition.
 use native.Mathlib.Omega.{arith}
 use borrow.Author.Needs.{needs}
 use lib.ListN.{length-take, length-drop}
+use Rattle.text_translate.proofs.Balance.{unbalanced}
 use Rattle.text_translate.proofs.Laws.{read-none, read-part, read-whole}
 use Rattle.text_translate.proofs.from_tokens.Statement.{statement}
 use Rattle.text_translate.proofs.from_tokens.Tie as tie
 
+balanced-requires : tie.Need-balanced-requires
+balanced-requires c κs = search needs
+
+returns : tie.Need-returns
+returns c =
+    let at-entry = c .before .before .before .before in
+    unbalanced (at-entry .args .ts .now) (at-entry .args .buffer .now) (c .before .balanced .result)
+    (c .before .balanced .ensures) (c .if1 .taken)
+
+disjunction-requires : tie.Need-disjunction-requires
+disjunction-requires c κs = search needs
+
+enum-known-r : tie.Need-enum-known-r
+enum-known-r c = search needs
+
+enum-told : tie.Need-enum-told
+enum-told c = search needs
+
+returns-2 : tie.Need-returns-2
+returns-2 c =
+    let at-disjunction = c .before .before in
+    let at-entry = at-disjunction .before .before .before .before .before .before in
+    read-none (at-entry .args .ts .now) _ (at-disjunction .disjunction .last .1 .1 .0) (at-entry .args .buffer .now)
+    (at-disjunction .disjunction .result) (at-disjunction .disjunction .ensures .0) (c .enum-told .given .1)
+
+returns-3 : tie.Need-returns-3
+returns-3 c =
+    let at-r = c .before .before in
+    let at-disjunction = at-r .before .before in
+    let at-entry = at-disjunction .before .before .before .before .before .before in
+    let w = rw (at-r .r .given .1) at (at-disjunction .disjunction .ensures .1 .0) in
+    read-part (at-entry .args .ts .now) _ (at-disjunction .disjunction .last .1 .1 .0) (at-entry .args .buffer .now)
+    (at-disjunction .disjunction .result) (at-disjunction .disjunction .ensures .0) _ _ _ (at-r .r .given .1) (w .1)
+    (c .if2 .taken)
+
+any-large-requires : tie.Need-any-large-requires
+any-large-requires c κs = search needs
+
+sub-deliver : tie.Need-sub-deliver
+sub-deliver c = search needs
+
+part-deliver-start : tie.Need-part-deliver-start
+part-deliver-start c = search needs
+
+part-deliver-end : tie.Need-part-deliver-end
+part-deliver-end c =
+    let at-r = c .before .before .before .before in
+    let at-disjunction = at-r .before .before in
+    let at-entry = at-disjunction .before .before .before .before .before .before in
+    let w = rw (at-r .r .given .1) at (at-disjunction .disjunction .ensures .1 .0) in
+    omega (arith, at-disjunction .disjunction .ensures .1 .1, at-entry .pre)
+
+deliver-requires : tie.Need-deliver-requires
+deliver-requires c κs =
+    let at-r = c .before .before .before .before .before .before in
+    let at-disjunction = at-r .before .before in
+    let at-entry = at-disjunction .before .before .before .before .before .before in
+    let w = rw (at-r .r .given .1) at (at-disjunction .disjunction .ensures .1 .0) in
+    simp (length-take, length-drop) (omega (arith, at-entry .pre))
+
+same-length : tie.Need-same-length
+same-length c = search needs
+
+returns-4 : tie.Need-returns-4
+returns-4 c =
+    let at-deliver = c .before .before in
+    let at-any-large = at-deliver .before .before .before .before in
+    let at-if2 = at-any-large .before in
+    let at-r = at-if2 .before .before in
+    let at-disjunction = at-r .before .before in
+    let at-entry = at-disjunction .before .before .before .before .before .before in
+    read-whole (at-entry .args .ts .now) _ (at-disjunction .disjunction .last .1 .1 .0) (at-entry .args .buffer .now)
+    (at-disjunction .disjunction .result) (at-disjunction .disjunction .ensures .0) _ _ _
+    (at-any-large .any-large .result) _ (at-r .r .given .1) (at-if2 .if2 .left) (at-any-large .any-large .ensures)
+    (at-deliver .deliver .ensures)
+
 pub from-tokens-spec : {M : Type 1} → statement M
 from-tokens-spec =
     tie.close
-    (tie.spec
-    (λ c κs. (omega arith, (c .before .before .before .before .pre .0, c .before .before .before .before .pre .1)))
-    (λ c. search needs)
-    (λ c. search needs)
-    (λ c. c .before .before .before .before .disjunction .kept .1 .1 .0)
-    (λ c. read-none (c .before .before .before .before .before .before .before .before .before .args .ts .now) (c .before .before .before .before .before .before .before .before .before .args .out .now) (c .before .before .before .before .disjunction .last .1 .1 .0) (c .before .before .before .before .before .before .before .before .before .args .buffer .now) (c .before .before .before .before .disjunction .result) (c .before .before .before .before .disjunction .ensures .0) (c .enum-told .given .1))
-    (λ c. c .before .before .before .before .before .before .disjunction .kept .1 .1 .0)
-    (λ c. let w = rw (c .before .before .r .given .1) at (c .before .before .before .before .before .before .disjunction .ensures .1) in read-part (c .before .before .before .before .before .before .before .before .before .before .before .args .ts .now) (c .before .before .before .before .before .before .before .before .before .before .before .args .out .now) (c .before .before .before .before .before .before .disjunction .last .1 .1 .0) (c .before .before .before .before .before .before .before .before .before .before .before .args .buffer .now) (c .before .before .before .before .before .before .disjunction .result) (c .before .before .before .before .before .before .disjunction .ensures .0) _ _ _ (c .before .before .r .given .1) (w .1) (c .if1 .taken))
-    (λ c κs. search needs)
-    (λ c. omega arith)
-    (λ c. omega arith)
-    (λ c. let w = rw (c .before .before .before .before .r .given .1) at (c .before .before .before .before .before .before .before .before .disjunction .ensures .1) in omega (arith, c .before .before .before .before .before .before .before .before .disjunction .kept .1 .1 .0, c .before .before .before .before .before .before .before .before .before .before .before .before .before .pre .0, c .before .before .before .before .before .before .before .before .before .before .before .before .before .pre .1))
-    (λ c κs. let w = rw (c .before .before .before .before .before .before .r .given .1) at (c .before .before .before .before .before .before .before .before .before .before .disjunction .ensures .1) in simp (length-take, length-drop) (omega (arith, c .before .before .before .before .before .before .before .before .before .before .before .before .before .before .before .pre .0)))
-    (λ c. c .before .before .before .before .before .before .before .before .before .before .before .before .before .disjunction .kept .1 .1 .0)
-    (λ c. search needs)
-    (λ c. read-whole (c .before .before .before .before .before .before .before .before .before .before .before .before .before .before .before .before .before .before .args .ts .now) (c .before .before .before .before .before .before .before .before .before .before .before .before .before .before .before .before .before .before .args .out .now) (c .before .before .before .before .before .before .before .before .before .before .before .before .before .disjunction .last .1 .1 .0) (c .before .before .before .before .before .before .before .before .before .before .before .before .before .before .before .before .before .before .args .buffer .now) (c .before .before .before .before .before .before .before .before .before .before .before .before .before .disjunction .result) (c .before .before .before .before .before .before .before .before .before .before .before .before .before .disjunction .ensures .0) _ _ _ (c .before .before .before .before .before .before .any-large .result) _ (c .before .before .before .before .before .before .before .before .before .r .given .1) (c .before .before .before .before .before .before .before .if1 .left) (c .before .before .before .before .before .before .any-large .ensures) (c .before .before .deliver .ensures)))
+    (tie.spec balanced-requires returns disjunction-requires enum-known-r enum-told returns-2 returns-3
+    any-large-requires sub-deliver part-deliver-start part-deliver-end deliver-requires same-length returns-4)

@@ -1,0 +1,296 @@
+// The round engine in WebAssembly, for a browser or node. The calls are those of include/engine.h; README.md beside
+// this file says how they are used. Tables, rounds and sheets are plain Uint8Arrays: save and send them as they are.
+
+export const VERSION = 1; // of the interface
+export const LAYOUT = 1; // of table and round
+export const SHEET = 8192;
+export const PARAMS = 32;
+export const TABLE = 34816;
+export const ROUND = 2048;
+export const FIELD = 7168;
+export const LIST = 64;
+export const HOST = 0;
+export const NO_EVENT = 255;
+
+/** What a step did. */
+export const IDLE = 0;
+export const RAN = 1;
+export const STARTED = 2;
+export const COMMITTED = 3;
+export const BROKE_IN = 4;
+export const STEP_REFUSED = 14;
+
+/** Why a frame ended: all steps were made, nothing is left in hand, there is no room for a further commit. */
+export const FRAME_MADE = 0;
+export const FRAME_IDLE = 1;
+export const FRAME_REFUSED = 2;
+export const FRAME_FULL = 3;
+
+/** The kinds of a recorded call. */
+export const CALL_ARRIVE = 0;
+export const CALL_STEP = 1;
+export const CALL_BOARD = 2;
+
+const WORDS = [
+    "accepted", "short table", "blank", "long sheet", "torn", "wrong tag", "wrong length", "crowded", "off the scale",
+    "too deep", "doubled", "unknown name", "circle", "overlong", "foreign", "no such event", "full hand", "spent",
+    "no such behaviour", "settling", "no parameters", "no formula", "large number", "short buffer", "no player",
+    "no right", "unlike ranks", "short join", "strange hand", "dependent", "leak",
+];
+
+/** The word of a refusal's number. */
+export function refusalWord(number) {
+    return WORDS[number] ?? "no refusal";
+}
+
+/** A call was turned down: its number and its word. Nothing was changed. */
+export class Refusal extends Error {
+    constructor(call, number) {
+        super(`${call}: ${number}, ${refusalWord(number)}`);
+        this.name = "Refusal";
+        this.number = number;
+        this.word = refusalWord(number);
+    }
+}
+
+// What each call takes: r a buffer that it reads, w one that it writes, n a number of 32 bits, q one of 64.
+const TAKES = {
+    compile: "rrw", circle: "rrw", start: "rw", arrive: "rwnn", step: "rw", told: "q", board: "rrnn", forecast: "rr",
+    preview: "rrnnn", mend: "rrw", formula: "rw", join: "rrrw", replay: "rwrw", version: "", event_count: "r",
+    behaviour_count: "r", event_rank: "rn", frame: "rwnw", agree: "rr", leak: "rrn",
+};
+
+const PAGE = 65536;
+const NONE = new Uint8Array(0);
+
+/** The parts of a step's answer; player, event and arrival are those of a start, a commit or a break-in. */
+export function stepOf(answer) {
+    const low = Number(answer & 0xffffn);
+    return {
+        answer,
+        kind: low & 15,
+        player: (low >> 4) & 15,
+        event: low >> 8,
+        arrival: Number((answer >> 16n) & 0xffffffffn),
+        over: ((answer >> 56n) & 1n) === 1n,
+    };
+}
+
+/** Loads engine.wasm: its bytes, a WebAssembly.Module, or a Response (a promise of one will do). */
+export async function load(source) {
+    const given = await source;
+    if (given instanceof WebAssembly.Module) return new Engine(given, await WebAssembly.instantiate(given));
+    const bytes = typeof Response !== "undefined" && given instanceof Response ? await given.arrayBuffer() : given;
+    const { module, instance } = await WebAssembly.instantiate(bytes);
+    return new Engine(module, instance);
+}
+
+class Engine {
+    #module;
+    #calls;
+    #memory;
+    #base;
+
+    constructor(module, instance) {
+        this.#module = module;
+        this.#enter(instance);
+    }
+
+    #enter(instance) {
+        this.#calls = instance.exports;
+        this.#memory = instance.exports.memory;
+        this.#base = this.#memory.buffer.byteLength; // what the engine has of its own ends here
+    }
+
+    /**
+     * A call as C makes it, by its name without the prefix: a Uint8Array for each buffer, a number for each number. The
+     * answer is a BigInt. Buffers are copied in, and those that are written are copied out again.
+     */
+    call(name, ...given) {
+        const takes = TAKES[name];
+        if (takes === undefined) throw new TypeError(`no call ${name}`);
+        if (given.length !== takes.length) throw new TypeError(`${name} takes ${takes.length} arguments`);
+        let room = this.#base;
+        const places = given.map((arg, k) => {
+            if (takes[k] === "n" || takes[k] === "q") return undefined;
+            if (!(arg instanceof Uint8Array)) throw new TypeError(`${name}: argument ${k} is no Uint8Array`);
+            const at = room;
+            room += (arg.length + 7) & ~7;
+            return at;
+        });
+        const lacking = room - this.#memory.buffer.byteLength;
+        if (lacking > 0) this.#memory.grow(Math.ceil(lacking / PAGE));
+        const bytes = new Uint8Array(this.#memory.buffer);
+        const words = [];
+        given.forEach((arg, k) => {
+            if (takes[k] === "q") return words.push(BigInt.asUintN(64, arg));
+            if (takes[k] === "n") return words.push(whole(name, arg));
+            bytes.set(arg, places[k]);
+            words.push(places[k], BigInt(arg.length));
+        });
+        const answer = this.#made(name, words);
+        given.forEach((arg, k) => {
+            if (takes[k] === "w") arg.set(bytes.subarray(places[k], places[k] + arg.length));
+        });
+        return typeof answer === "bigint" ? BigInt.asUintN(64, answer) : BigInt(answer >>> 0);
+    }
+
+    // No call traps; but where JavaScript's own stack runs out in one, the engine is entered afresh, having no state.
+    #made(name, words) {
+        try {
+            return this.#calls[`engine_${name}`](...words);
+        } catch (broken) {
+            this.#enter(new WebAssembly.Instance(this.#module));
+            throw broken;
+        }
+    }
+
+    // an answer of 2^32 and a word, or of a refusal's number
+    #worth(name, ...given) {
+        const answer = this.call(name, ...given);
+        if (answer >> 32n === 0n) throw new Refusal(name, Number(answer));
+        return Number(answer & 0xffffffffn);
+    }
+
+    #done(name, ...given) {
+        const number = Number(this.call(name, ...given));
+        if (number !== 0) throw new Refusal(name, number);
+    }
+
+    /** The table of a sheet with its parameters. */
+    compile(sheet, params = NONE) {
+        const table = new Uint8Array(TABLE);
+        this.#done("compile", sheet, params, table);
+        return table;
+    }
+
+    /** Why a sheet is turned down: compile's number or 0; with 12 the event, NO_EVENT for none, and a short circle. */
+    circle(sheet, params = NONE) {
+        const list = new Uint8Array(LIST);
+        const answer = this.call("circle", sheet, params, list);
+        const number = Number(answer & 0xffn);
+        if (number !== 12) return { number };
+        const event = Number((answer >> 8n) & 0xffn);
+        return { number, event, circle: [...list.subarray(0, Number(answer >> 16n))] };
+    }
+
+    /** Whether phones always agree: compile's number or 0; with 29 two events and a behaviour that they share. */
+    agree(sheet, params = NONE) {
+        const answer = this.call("agree", sheet, params);
+        const [number, first, second, behaviour] = bytesOf(answer);
+        return number === 29 ? { number, events: [first, second], behaviour } : { number };
+    }
+
+    /** Whether a player can learn of what is hidden: compile's number, 24 or 0; with 30 one seen and one hidden. */
+    leak(sheet, params = NONE, player = HOST) {
+        const [number, seen, hidden] = bytesOf(this.call("leak", sheet, params, player));
+        return number === 30 ? { number, seen, hidden } : { number };
+    }
+
+    /** { interface, layout } of the module. */
+    version() {
+        const both = Number(this.call("version"));
+        return { interface: both >>> 16, layout: both & 0xffff };
+    }
+
+    eventCount(table) {
+        return this.#worth("event_count", table);
+    }
+
+    behaviourCount(table) {
+        return this.#worth("behaviour_count", table);
+    }
+
+    eventRank(table, event) {
+        return this.#worth("event_rank", table, event);
+    }
+
+    /** A fresh round. */
+    start(table) {
+        const round = new Uint8Array(ROUND);
+        this.#done("start", table, round);
+        return round;
+    }
+
+    arrive(table, round, event, player = HOST) {
+        this.#done("arrive", table, round, event, player);
+    }
+
+    /** One step: { kind, player, event, arrival, over, answer }. */
+    step(table, round) {
+        const did = stepOf(this.call("step", table, round));
+        if (did.kind === STEP_REFUSED) throw new Refusal("step", STEP_REFUSED);
+        return did;
+    }
+
+    /** At most so many steps, and at most `most` commits: { steps, commits, end }, a commit being as step gives it. */
+    frame(table, round, steps, most = 64) {
+        const room = new Uint8Array(8 * most);
+        const answer = this.call("frame", table, round, steps, room);
+        const end = Number(answer >> 56n);
+        if (end === FRAME_REFUSED) throw new Refusal("frame", STEP_REFUSED);
+        const commits = answers(room, Number((answer >> 32n) & 0xffffffn)).map(stepOf);
+        return { steps: Number(answer & 0xffffffffn), commits, end };
+    }
+
+    /** A step as the other players are told of it: without the mark that the event ran over. */
+    told(did) {
+        return stepOf(this.call("told", did.answer));
+    }
+
+    board(table, round, behaviour, player = HOST) {
+        return this.#worth("board", table, round, behaviour, player) | 0;
+    }
+
+    /** Steps to idle if no arrival is taken in meanwhile: exact with nothing running, else a bound. */
+    forecast(table, round) {
+        return this.#worth("forecast", table, round);
+    }
+
+    preview(table, round, event, behaviour, player = HOST) {
+        return this.#worth("preview", table, round, event, behaviour, player) | 0;
+    }
+
+    /** The round goes on under another table: lend that one from now on. */
+    mend(old, table, round) {
+        this.#done("mend", old, table, round);
+    }
+
+    /** The expression field of a formula's text. */
+    formula(text) {
+        const field = new Uint8Array(FIELD);
+        return field.slice(0, this.#worth("formula", new TextEncoder().encode(text), field));
+    }
+
+    /** One sheet from two. */
+    join(first, second, params = NONE) {
+        const both = new Uint8Array(SHEET);
+        return both.slice(0, this.#worth("join", first, second, params, both));
+    }
+
+    /** Makes recorded calls one after the other: their answers, as BigInts. */
+    replay(table, round, calls) {
+        const room = new Uint8Array(8 * Math.floor(calls.length / 6));
+        return answers(room, Number(this.call("replay", table, round, calls, room)));
+    }
+}
+
+function bytesOf(answer) {
+    return [0n, 8n, 16n, 24n].map((n) => Number((answer >> n) & 0xffn));
+}
+
+// the first answers in a buffer, eight bytes each
+function answers(room, count) {
+    const view = new DataView(room.buffer);
+    return Array.from({ length: count }, (_, k) => view.getBigUint64(8 * k));
+}
+
+function whole(name, n) {
+    if (!Number.isInteger(n) || n < 0 || n > 0xffffffff) throw new RangeError(`${name}: ${n} is no number of 32 bits`);
+    return n | 0;
+}
+
+/** A recorded call's six bytes: its kind, the event or behaviour, and the player. */
+export function recorded(kind, number = 0, player = HOST) {
+    return [kind, number >>> 24, (number >>> 16) & 255, (number >>> 8) & 255, number & 255, player];
+}

@@ -1,0 +1,209 @@
+// Plays the rounds of the scope in WebAssembly, and runs the page's example: test.mjs FOLDER, the folder having
+// engine.mjs and engine.wasm.
+import assert from "node:assert/strict";
+import { execFileSync } from "node:child_process";
+import { readFileSync, writeFileSync, rmSync } from "node:fs";
+import { join, resolve } from "node:path";
+import { pathToFileURL } from "node:url";
+
+const folder = resolve(process.argv[2]);
+const lib = await import(pathToFileURL(join(folder, "engine.mjs")));
+const { IDLE, STARTED, COMMITTED, BROKE_IN, HOST, NO_EVENT, CALL_ARRIVE, CALL_STEP, CALL_BOARD } = lib;
+const engine = await lib.load(readFileSync(join(folder, "engine.wasm")));
+
+const field = (tag, ...bytes) => [tag, bytes.length >> 8, bytes.length & 255, ...bytes];
+const event = (...v) => field(1, ...v);
+const word = (n) => [n >>> 24, (n >>> 16) & 255, (n >>> 8) & 255, n & 255];
+const active = (start, ...handlers) => field(3, ...field(4, ...word(start)), ...handlers.flat());
+const on = (e, text) => field(5, e, 0, ...engine.formula(text));
+const later = (e, text) => field(5, e, 1, ...engine.formula(text));
+const passive = (text) => field(2, ...engine.formula(text));
+const sheet = (...parts) => new Uint8Array(parts.flat());
+
+function refused(number, make) {
+    assert.throws(make, (e) => e instanceof lib.Refusal && e.number === number && e.word === lib.refusalWord(number));
+}
+
+/** A round in play. */
+class Play {
+    constructor(bytes, params) {
+        this.table = engine.compile(bytes, params);
+        this.round = engine.start(this.table);
+    }
+
+    run(...events) {
+        for (const e of events) {
+            engine.arrive(this.table, this.round, e);
+            this.settle();
+        }
+        return this.board();
+    }
+
+    settle() {
+        while (engine.step(this.table, this.round).kind !== IDLE);
+    }
+
+    board(player = HOST) {
+        const shown = [];
+        for (let i = 0; i < 64; i++) {
+            try {
+                shown.push(engine.board(this.table, this.round, i, player));
+            } catch (e) {
+                if (e.number !== 18) throw e;
+                return shown;
+            }
+        }
+        return shown;
+    }
+}
+
+// Sheet S: three times event 0, then 1 and 0, or 0 and 1.
+const S = sheet(event(1), event(2), active(1, on(0, "b0 + b1")), active(1, later(0, "b0 - b1"), on(1, "1")));
+assert.equal(S.length, 74);
+const s = new Play(S);
+assert.deepEqual([s.run(0), s.run(0), s.run(0)], [[2, 1], [3, 2], [5, 3]]);
+assert.deepEqual(s.run(1, 0), [6, 5]);
+assert.deepEqual(new Play(S).run(0, 0, 0, 0, 1), [8, 1]);
+const waits = new Play(S);
+waits.run(0, 0, 0);
+engine.arrive(waits.table, waits.round, 0);
+engine.arrive(waits.table, waits.round, 1);
+waits.settle();
+assert.deepEqual(waits.board(), [6, 5], "event 1 goes first where both wait");
+
+// Events of 17 and 8 instructions, one step more for each start.
+const planned = new Play(S);
+engine.arrive(planned.table, planned.round, 0);
+assert.equal(engine.forecast(planned.table, planned.round), 18);
+engine.arrive(planned.table, planned.round, 1);
+assert.equal(engine.forecast(planned.table, planned.round), 18 + 9);
+
+// Immediate and later handlers, passives, arithmetic.
+assert.deepEqual(new Play(sheet(event(1), active(1, on(0, "b1")), active(2, later(0, "b0")))).run(0), [2, 2]);
+assert.deepEqual(new Play(sheet(event(1), active(1, later(0, "b1")), active(2, later(0, "b0")))).run(0), [2, 1]);
+const both = sheet(event(1), active(1, on(0, "b1")), active(2, on(0, "b0")));
+refused(12, () => engine.compile(both));
+const why = engine.circle(both);
+assert.deepEqual({ ...why, circle: why.circle.sort() }, { number: 12, event: 0, circle: [0, 1] });
+assert.equal(engine.circle(sheet(passive("b0"))).event, NO_EVENT);
+assert.deepEqual(engine.circle(S), { number: 0 });
+assert.deepEqual(new Play(sheet(event(1), active(0, later(0, "b1")), passive("b0 + 1"))).run(0), [1, 2]);
+refused(12, () => engine.compile(sheet(event(1), active(0, on(0, "b1")), passive("b0 + 1"))));
+const sums = ["2147483647 + 1", "(0 - 7) / 2", "5 / 0"];
+assert.deepEqual(new Play(sheet(...sums.map(passive))).board(), [-2147483648, -4, 0]);
+assert.equal(new Play(sheet(passive("!".repeat(15) + "1"))).board()[0], 0);
+refused(9, () => engine.formula("!".repeat(16) + "1"));
+
+// 64 arrivals pass, the next is refused; after a commit one more passes.
+const full = new Play(S);
+for (let i = 0; i < 64; i++) engine.arrive(full.table, full.round, 0);
+refused(16, () => engine.arrive(full.table, full.round, 0));
+while (engine.step(full.table, full.round).kind !== COMMITTED);
+engine.arrive(full.table, full.round, 0);
+
+// Equal ranks A and B, and H of higher rank that breaks in: A before B.
+const pair = active(1, on(0, "b0 + 1"), on(1, "b0 * 2"));
+const trap = new Play(sheet(event(1), event(1), event(9), pair, active(0, on(2, "7")), passive("2")));
+engine.arrive(trap.table, trap.round, 0);
+engine.arrive(trap.table, trap.round, 1);
+for (let i = 0; i < 6; i++) engine.step(trap.table, trap.round);
+engine.arrive(trap.table, trap.round, 2);
+const broke = engine.step(trap.table, trap.round);
+assert.deepEqual([broke.kind, broke.event, broke.arrival], [BROKE_IN, 2, 2]);
+trap.settle();
+assert.equal(trap.board()[0], 4);
+
+// Players: rights, what is told, a look ahead.
+const shy = field(2, ...engine.formula("b0"), ...field(8, 2));
+const shared = new Play(sheet(event(1, 2), active(2147483647, on(0, "b0 + 1")), shy));
+refused(25, () => engine.arrive(shared.table, shared.round, 0, 2));
+refused(24, () => engine.arrive(shared.table, shared.round, 0, 8));
+refused(25, () => engine.board(shared.table, shared.round, 1, 2));
+assert.equal(engine.preview(shared.table, shared.round, 0, 1, 1), -2147483648);
+engine.arrive(shared.table, shared.round, 0, 1);
+const first = engine.step(shared.table, shared.round);
+assert.deepEqual([first.kind, first.player, first.event, first.arrival], [STARTED, 1, 0, 0]);
+let did;
+do did = engine.step(shared.table, shared.round);
+while (did.kind !== COMMITTED);
+assert.deepEqual([did.over, engine.told(did).over, engine.told(did).player], [true, false, 1]);
+
+// Parameters, a joined sheet, a mended one, a record.
+const level = sheet(event(0), active(0, field(5, 0, 0, ...field(0x12, 4, ...field(0x11, 0), ...field(0x13, 0)))));
+refused(20, () => engine.compile(level));
+assert.deepEqual(new Play(level, new Uint8Array([...word(5), ...new Array(28).fill(0)])).run(0, 0), [10]);
+const pooled = engine.join(S, sheet(event(1), event(2), active(10, on(1, "b0 + b0"))));
+assert.deepEqual(new Play(pooled).run(0, 1), [2, 1, 20]);
+refused(26, () => engine.join(S, sheet(event(7))));
+const mended = new Play(S);
+mended.run(0);
+const next = engine.compile(sheet(event(1), event(2), active(1, on(0, "b0 + b1")), active(1, on(1, "5"))));
+engine.mend(mended.table, next, mended.round);
+mended.table = next;
+assert.deepEqual(mended.run(1), [2, 5]);
+const again = new Play(S);
+const steps = new Array(18).fill(lib.recorded(CALL_STEP));
+const calls = [lib.recorded(CALL_ARRIVE, 0), ...steps, lib.recorded(CALL_BOARD, 0)];
+const answers = engine.replay(again.table, again.round, new Uint8Array(calls.flat()));
+assert.deepEqual([answers.length, lib.stepOf(answers[18]).kind, answers[19]], [20, COMMITTED, (1n << 32n) + 2n]);
+
+// Frames, counts, ranks, the version.
+const framed = new Play(S);
+engine.arrive(framed.table, framed.round, 0);
+engine.arrive(framed.table, framed.round, 1);
+assert.deepEqual(engine.frame(framed.table, framed.round, 5), { steps: 5, commits: [], end: lib.FRAME_MADE });
+const one = engine.frame(framed.table, framed.round, 100, 1);
+assert.deepEqual([one.steps, one.commits[0].event, one.end], [4, 1, lib.FRAME_FULL]);
+const rest = engine.frame(framed.table, framed.round, 100);
+assert.deepEqual([rest.steps, rest.commits.length, rest.end], [18, 1, lib.FRAME_IDLE]);
+refused(14, () => engine.frame(new Uint8Array(10), framed.round, 1));
+assert.deepEqual([engine.eventCount(s.table), engine.behaviourCount(s.table), engine.eventRank(s.table, 1)], [2, 2, 2]);
+refused(15, () => engine.eventRank(s.table, 2));
+assert.deepEqual(engine.version(), { interface: lib.VERSION, layout: lib.LAYOUT });
+
+// Whether phones agree on a sheet, and whether a hidden value leaks.
+assert.deepEqual(engine.agree(S), { number: 29, events: [0, 1], behaviour: 1 });
+assert.deepEqual(engine.agree(sheet(passive("1"))), { number: 0 });
+assert.deepEqual(engine.agree(new Uint8Array([1])), { number: 4 });
+const secret = sheet(field(3, ...field(4, ...word(7)), ...field(8, 2)), passive("b0"));
+assert.deepEqual(engine.leak(secret, undefined, 2), { number: 30, seen: 1, hidden: 0 });
+assert.deepEqual(engine.leak(secret, undefined, 1), { number: 0 });
+assert.deepEqual(engine.leak(secret, undefined, 8), { number: 24 });
+
+// A rest day, foreign bytes, wrong arguments.
+assert.deepEqual(new Play(new Uint8Array(0)).board(), []);
+refused(14, () => engine.step(new Uint8Array(10), again.round));
+refused(4, () => engine.compile(new Uint8Array([1])));
+assert.throws(() => engine.arrive(again.table, again.round, -1), RangeError);
+assert.throws(() => engine.compile("sheet"), TypeError);
+assert.equal(engine.formula("(".repeat(511) + "b0" + ")".repeat(511)).length, 4);
+
+// Where JavaScript's stack runs out in a call, the engine can be used on.
+function deep(n) {
+    return n === 0 ? engine.formula("(".repeat(511) + "b0" + ")".repeat(511)) : deep(n - 1);
+}
+let out = 0;
+for (let n = 1000; n < 20000; n += 500) {
+    try {
+        deep(n);
+    } catch (e) {
+        assert.ok(e instanceof RangeError, String(e));
+        out++;
+    }
+}
+assert.ok(out > 0, "no stack ran out");
+assert.deepEqual(new Play(S).run(0, 0, 0), [5, 3]);
+console.log("the rounds of the scope in WebAssembly: all as it says");
+
+// The page's example prints what the page says.
+const page = readFileSync(join(folder, "README.md"), "utf8");
+const [, example] = page.match(/```js\n([^]*?)```/);
+const [, printed] = page.match(/```text\n([^]*?)```/);
+const program = join(folder, "example.mjs");
+writeFileSync(program, example);
+try {
+    assert.equal(execFileSync(process.execPath, [program], { encoding: "utf8" }), printed);
+} finally {
+    rmSync(program);
+}
+console.log("the example of bindings/js/README.md prints what it says");

@@ -1,0 +1,132 @@
+-- What each answer of the judging rests on: the reader's fault is the grammar's, and the draft, filled in, is judged as
+-- the sheet's program is. Where nothing lacks, the values filled in are those lent.
+use Prim.Native.Nat.{ℕ, _≤_, _<_}
+use mathlib.Core.Bool.{Bool, true, false}
+use mathlib.Core.Path.{_≡_, refl, sym, ap, _∙_, subst}
+use mathlib.Core.Logic.{_⊎_, ⊎-elim}
+use mathlib.Core.List.{List, []}
+use native.Mathlib.Omega.{arith}
+use lib.ListN.{length}
+use lib.Dec.{ltb}
+use denote.Enum.Declared.{tagOf}
+use Rattle.lib_base.specs.Basics.{All}
+use Rattle.lib_base.proofs.Tools.{split}
+use Rattle.lib_word.specs.Word.{get}
+use Rattle.spec_language.specs.Sheet.{Sheet, fill, uses}
+use Rattle.spec_language.specs.Reading.{bad, readSheet}
+use Rattle.spec_language.proofs.SheetLaws.{fill-unused}
+use Rattle.spec_grammar.proofs.Programs.{fault-numbers}
+use Rattle.format_image.specs.Image.{putWords}
+use Rattle.front_draft.specs.Draft.{draftLength, DraftOf}
+use Rattle.front_sheet.specs.declared.Draft.{Draft}
+use Rattle.front_sheet.specs.declared.Draft.the-variants.{Ready, Broken}
+use Rattle.front_sheet.specs.Whole.{finished, readOn}
+use Rattle.front_correct.proofs.Drafts.{Outcome, empty, drafted-as}
+use Rattle.front_params.specs.Filling.{valueOf, fillTo, lacksParam}
+use Rattle.front_params.proofs.Fills.{draft-filled, filled-program, draft-lacks}
+use Rattle.check_faults.specs.Checks.{namesKnown, cyclicOn}
+use Rattle.check_faults.proofs.DraftChecks.{draft-names}
+use Rattle.back_table.specs.TableWords.{countBefore, tableWords}
+use Rattle.back_table.proofs.TableIs.{draft-planned}
+use Rattle.back_compile.specs.Verdict.{compiled, judge, lacks, programOf, compileOn}
+use Rattle.back_compile.specs.Judged.{Passes, Turns, Falls, Finding, JudgedAs, answerOf, numberOf}
+use Rattle.back_compile.specs.declared.Judgement.{Judgement}
+use Rattle.back_compile.specs.declared.Judgement.the-variants.{Accepted, Circular, Refused}
+use Rattle.back_compile.proofs.Judgement.{the-type}
+use Rattle.back_compile.proofs.JudgeLaws.{compile-opens, compile-short, compile-long}
+use Rattle.back_compile.proofs.DraftJudged.{draft-unknown, draft-lacking, draft-circular, draft-overlong, draft-passes}
+use Rattle.back_compile.proofs.FillJudged.{filled-is}
+use Rattle.back_compile.proofs.ReadIs.{read-fault, read-judged}
+
+pub long-falls : (s ps : List ℕ) → 8192 < length s → Falls s ps 3
+long-falls s ps h = record { other = omega arith; refused = λ t b. compile-long s ps t b h }
+
+-- where nothing lacks, the values filled in are those lent
+filled-lent : (x : Sheet) (ps : List ℕ) → lacks x ps ≡ false → fill (valueOf ps) x ≡ programOf ps x
+unfolding valueOf
+filled-lent x ps h =
+    split (uses x)
+    (λ u. let c : ltb (length ps) 32 ≡ false = rw u at h in ap (λ (v : ℕ → ℕ). fill v x) (λ i k. lent c k i))
+    (λ u. fill-unused (valueOf ps) (get ps) x u)
+  where
+    lent : ltb (length ps) 32 ≡ false → (k : ℕ) → valueOf ps k ≡ get ps k
+    lent c k = rw c
+
+module _ (s ps : List ℕ) (bytes : All (λ b. b < 256) s) (hi : length s ≤ 8192) where
+  pub read-falls : (a : Draft) (k : ℕ) (d : List ℕ) → a ≡ Broken k → finished a d ≡ readOn s empty → {x : ℕ} → x ≡ numberOf a → Falls s ps x
+  read-falls a k d b q {x} e =
+      let r : readSheet s ≡ bad k = drafted-as s bytes hi (Broken k) d (sym q ∙ ap (λ (y : Draft). finished y d) b) in
+      let f = fault-numbers s k r in
+      let z : x ≡ k = e ∙ ap numberOf b in
+      record {
+        other = omega (arith, f .1);
+        refused = λ t h. compile-opens s ps t h hi ∙ sym (ap (λ (y : ℕ). compiled y t) e ∙ read-fault s bytes hi a k d ps t b q);
+      }
+
+  module _ (lent : All (λ b. b < 256) ps) {ev bs n : ℕ} {d : List ℕ} (q : finished (Ready ev bs n) d ≡ readOn s empty) where
+    -- what was read, and the draft filled in
+    abbrev of : Outcome s (Ready ev bs n) d
+    of = drafted-as s bytes hi (Ready ev bs n) d (sym q)
+
+    abbrev full : List ℕ
+    full = fillTo ps d 2048
+
+    abbrev pub filled : DraftOf ev bs n full
+    filled = draft-filled ps lent (of .0)
+
+    pub read-long : length d ≡ draftLength
+    read-long = of .0 .drafted .long
+
+    pub read-few : n ≤ 2048
+    read-few = of .0 .drafted .few
+
+    module _ {l : Bool} (e : l ≡ lacksParam d n ps) where
+      answers : (t t′ : List ℕ) (r : ℕ) → 34816 ≤ length t → ((c : DraftOf ev bs n full) → compiled r t′ ≡ judge (c .program) l t)
+          → compileOn s ps t ≡ compiled r t′
+      answers t t′ r h j =
+          compile-opens s ps t h hi
+          ∙ sym (read-judged s bytes hi ev bs n d ps t r t′ q (filled-is ps lent l t r t′ e (record { each-program = j })))
+
+      pub unknown-falls : namesKnown full bs n ≡ false → Falls s ps 11
+      unknown-falls k = record { other = omega arith; refused = λ t h. answers t t 11 h (λ c. draft-unknown c t l k) }
+
+      pub lacking-falls : l ≡ true → namesKnown full bs n ≡ true → Falls s ps 20
+      lacking-falls b k = record { other = omega arith; refused = λ t h. answers t t 20 h (λ c. draft-lacking c t l b k) }
+
+      module _ (b : l ≡ false) (k : namesKnown full bs n ≡ true) where
+        pub circular-turns : cyclicOn full ev bs ≡ true → Turns s ps ev bs full
+        circular-turns a = record {
+          sheet = of .0 .sheet;
+          read = of .1;
+          nodes = n;
+          draft = filled;
+          own = filled-program ps lent (of .0) ∙ filled-lent (of .0 .sheet) ps (sym (e ∙ draft-lacks (of .0) ps) ∙ b);
+          names = sym (draft-names filled) ∙ k;
+          cycles = a;
+          refused = λ t h. answers t t 12 h (λ c. draft-circular c t l b k a);
+        }
+
+        pub overlong-falls : cyclicOn full ev bs ≡ false → 4096 < countBefore full bs ev → Falls s ps 13
+        overlong-falls a h = record { other = omega arith; refused = λ t g. answers t t 13 g (λ c. draft-overlong c t l b k a h) }
+
+        pub all-passes : cyclicOn full ev bs ≡ false → countBefore full bs ev ≤ 4096 → Passes s ps ev bs full
+        all-passes a h = record {
+          planned = draft-planned filled k a h;
+          compiles = λ t g. answers t (putWords t 0 (tableWords full ev bs)) 0 g (λ c. draft-passes c t l b k a h _ refl);
+        }
+
+-- ---- compile's answers
+
+module _ (s ps d : List ℕ) (a : Judgement) (h : JudgedAs s ps d a) where
+  pub judged-passes : (ev bs : ℕ) → a ≡ Accepted ev bs → Passes s ps ev bs d
+  judged-passes ev bs q = subst (λ (x : Judgement). Finding s ps d x) q (h .finding)
+
+  pub judged-turns : (ev bs : ℕ) → a ≡ Circular ev bs → Turns s ps ev bs d
+  judged-turns ev bs q = subst (λ (x : Judgement). Finding s ps d x) q (h .finding)
+
+-- not accepted, by its tag: refused by the number that the judgement tells
+pub not-passed : (s ps d t : List ℕ) (a : Judgement) → JudgedAs s ps d a → (tagOf the-type a ≡ 1) ⊎ (tagOf the-type a ≡ 2) → 34816 ≤ length t
+    → {x : ℕ} → x ≡ answerOf a → compiled x t ≡ compileOn s ps t
+not-passed s ps d t (Accepted ev bs) h n l q = ⊎-elim (λ e. absurd (omega arith)) (λ e. absurd (omega arith)) n
+not-passed s ps d t (Circular ev bs) h n l q = ap (λ (y : ℕ). compiled y t) q ∙ sym (h .finding .refused t l)
+not-passed s ps d t (Refused k) h n l q = ap (λ (y : ℕ). compiled y t) q ∙ sym (h .finding .refused t l)

@@ -1,0 +1,4 @@
+pub mod ConflictLaws
+pub mod Decides
+pub mod Undeclared
+pub mod Answers

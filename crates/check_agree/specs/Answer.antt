@@ -1,0 +1,10 @@
+-- The answer of `agree` for an accepted sheet that may end differently on two phones, beside 01's refusals: what the
+-- getters of other answers take apart, in one number.
+use Prim.Native.Nat.{ℕ, _+_, _*_}
+
+abbrev pub phonesMayDiffer : ℕ  -- two events of unequal rank are not independent: demand 3 promises no equal boards
+phonesMayDiffer = 29
+
+-- the two events and a behaviour that one writes and the other reads or writes
+unfoldable pub packed : ℕ → ℕ → ℕ → ℕ
+packed e f i = phonesMayDiffer + 256 * e + 65536 * f + 16777216 * i

@@ -1,0 +1,4 @@
+pub mod Answer
+pub mod Conflict
+pub mod Agree
+pub mod Claims

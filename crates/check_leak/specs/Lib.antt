@@ -1,0 +1,3 @@
+pub mod Leaking
+pub mod Leak
+pub mod Claims

@@ -1,0 +1,225 @@
+// What each event writes, and what its handlers name, directly or through passives, as sets of behaviours: on the draft
+// of a program (layout: front_draft, specs/Draft.antt). Time: a pass over the nodes of the handlers and of the
+// passives, and n * n operations on words for the chains of n behaviours.
+ghost use mathlib.Core.Path.{_≡_};
+ghost use mathlib.Core.Bool.{Bool, _&&_, _||_};
+ghost use Prim.Native.Nat.{ℕ, _+_, _≤_, _<_};
+ghost use lib.ListN.{length, getD};
+ghost use lib.Dec.{eqb, leb};
+ghost use Rattle.lib_bits.specs.Bits.{bit, Gathers};
+ghost use Rattle.front_draft.specs.Draft.{draftLength, usedBy};
+ghost use Rattle.front_draft.specs.Entry.{kindOf, startOf, countOf};
+ghost use Rattle.check_faults.specs.Faults.{anyBelow};
+ghost use Rattle.check_faults.specs.Checks.{RowsInside, AllInside};
+ghost use Rattle.check_reads.specs.Sets.{isName, namedAmong, writesOn, handlersName, passiveOn, closedBy, RowsBy, Passed, WritesIn, NamedIn};
+
+// A node is kind * 2 ^ 32 + word; a name's kind is the tag of its field.
+const WORD: u64 = 4294967296;
+
+const NAME: u64 = 0x11;
+// An entry is (count * 4096 + start) * 4 + kind, a handler's kind being 2 or 3.
+const KINDS: u64 = 4;
+
+const FIRSTS: u64 = 4096;
+
+const COUNTS: u64 = FIRSTS * KINDS;
+
+const PASSIVE: u64 = 1;
+
+const IMMEDIATE: u64 = 2;
+
+const BEHAVIOURS: usize = 64;
+
+// The set with the name that node x is.
+fn add_name(set: u64, x: u64) -> u64
+    ensures { λ r. ⌜ ((j : ℕ) → j < 64 → bit r j ≡ bit set j || isName j x) ⌝ }
+{
+    if x / WORD == NAME {
+        let j = (x % WORD) as usize;
+        if j < BEHAVIOURS {
+            return lib_bits::insert(set, j);
+        }
+    }
+    set
+}
+
+// The names in entry v of behaviour i, as i means them.
+pub fn names_in(d: &[u64], i: usize, v: u64) -> u64
+    requires { ⌜ (length (now d) ≡ draftLength) × (i < 64) × (startOf v + countOf v ≤ 2048) ⌝ }
+    ensures { λ r. ⌜ Gathers 64 r (λ j. namedAmong (usedBy (now (d .entry)) i) j (startOf v) (countOf v)) ⌝ }
+{
+    let start = (v / KINDS % FIRSTS) as usize;
+    let count = (v / COUNTS) as usize;
+    let mut set = 0;
+    let mut k = 0;
+    while k < count {
+        set = add_name(set, front_draft::moved_node(d, i, d[start + k]));
+        k += 1;
+    }
+    set
+}
+
+// The set with i where its entry v is a handler.
+fn add_writer(set: u64, i: usize, v: u64) -> u64
+    requires { ⌜ i < 64 ⌝ }
+    ensures { λ r. ⌜ ((j : ℕ) → bit r j ≡ bit set j || (leb 2 (kindOf v) && eqb j i)) ⌝ }
+{
+    if IMMEDIATE <= v % KINDS {
+        return lib_bits::insert(set, i);
+    }
+    set
+}
+
+// Which of the first n behaviours have a handler for event e.
+fn writes_of(d: &[u64], e: usize, n: usize) -> u64
+    requires { ⌜ (length (now d) ≡ draftLength) × (n ≤ 64) ⌝ }
+    ensures { λ r. ⌜ Gathers n r (writesOn (now (d .entry)) e) ⌝ }
+{
+    let mut set = 0;
+    let mut i = 0;
+    while i < n {
+        set = add_writer(set, i, front_draft::entry_of(d, e, i));
+        i += 1;
+    }
+    set
+}
+
+// The set with the names in entry v of behaviour i where it is a handler.
+fn add_names(d: &[u64], set: u64, i: usize, v: u64) -> u64
+    requires { ⌜ (length (now d) ≡ draftLength) × (i < 64) × (startOf v + countOf v ≤ 2048) ⌝ }
+    ensures { λ r. ⌜ Gathers 64 r (λ j. bit set j || (leb 2 (kindOf v) && namedAmong (usedBy (now (d .entry)) i) j (startOf v) (countOf v))) ⌝ }
+{
+    if v % KINDS >= IMMEDIATE {
+        return lib_bits::union_of(set, names_in(d, i, v));
+    }
+    set
+}
+
+// The names in the handlers of the first n behaviours for event e.
+fn handler_names(d: &[u64], e: usize, n: usize) -> u64
+    requires { ⌜ (length (now d) ≡ draftLength) × (e ≤ 32) × (n ≤ 64) × RowsInside (now d) e n ⌝ }
+    ensures { λ r. ⌜ Gathers 64 r (handlersName (now (d .entry)) e n) ⌝ }
+{
+    let mut set = 0;
+    let mut i = 0;
+    while i < n {
+        set = add_names(d, set, i, front_draft::entry_of(d, e, i));
+        i += 1;
+    }
+    set
+}
+
+// The names in entry v of behaviour i where it is a passive's.
+fn passive_names(d: &[u64], i: usize, v: u64) -> u64
+    requires { ⌜ (length (now d) ≡ draftLength) × (i < 64) × (startOf v + countOf v ≤ 2048) ⌝ }
+    ensures { λ r. ⌜ Gathers 64 r (λ j. eqb (kindOf v) 1 && namedAmong (usedBy (now (d .entry)) i) j (startOf v) (countOf v)) ⌝ }
+{
+    if v % KINDS == PASSIVE {
+        return names_in(d, i, v);
+    }
+    0
+}
+
+// What each of n behaviours names as a passive: ev is the number of no event.
+fn fill_rows(d: &[u64], ev: usize, n: usize, rows: &mut [u64])
+    requires { ⌜ (length (now d) ≡ draftLength) × (length (now rows) ≡ 64) × (ev ≤ 32) × (n ≤ 64) × RowsInside (now d) ev n ⌝ }
+    ensures { λ _. ⌜ RowsBy (passiveOn (now (d .entry)) ev) n (now (rows .exit)) ⌝ }
+{
+    let mut i = 0;
+    while i < n {
+        rows[i] = passive_names(d, i, front_draft::entry_of(d, ev, i));
+        i += 1;
+    }
+}
+
+// The set with i's row where i is among the names.
+fn add_row(set: u64, names: u64, i: usize, row: u64) -> u64
+    requires { ⌜ i < 64 ⌝ }
+    ensures { λ r. ⌜ ((j : ℕ) → bit r j ≡ bit set j || (bit names i && bit row j)) ⌝ }
+{
+    if lib_bits::contains(names, i) {
+        return lib_bits::union_of(set, row);
+    }
+    set
+}
+
+// Each row that has k takes in row k.
+fn pass_through(rows: &mut [u64], k: usize, n: usize)
+    requires { ⌜ (length (now rows) ≡ 64) × (k < n) × (n ≤ 64) ⌝ }
+    ensures { λ _. ⌜ Passed (now (rows .entry)) (now (rows .exit)) k n ⌝ }
+{
+    let mut i = 0;
+    while i < n {
+        rows[i] = add_row(rows[i], rows[i], k, rows[k]);
+        i += 1;
+    }
+}
+
+// The rows with whatever is reached by a chain, in place.
+fn close_rows(rows: &mut [u64], n: usize)
+    requires { ⌜ (length (now rows) ≡ 64) × (n ≤ 64) ⌝ }
+    ensures { λ _. ⌜ ((dep : ℕ → ℕ → Bool) → RowsBy dep n (now (rows .entry)) → RowsBy (closedBy n dep) n (now (rows .exit))) ⌝ }
+{
+    let mut k = 0;
+    while k < n {
+        pass_through(rows, k, n);
+        k += 1;
+    }
+}
+
+// What each of n behaviours names through passives.
+fn passive_rows(d: &[u64], ev: usize, n: usize, rows: &mut [u64])
+    requires { ⌜ (length (now d) ≡ draftLength) × (length (now rows) ≡ 64) × (ev ≤ 32) × (n ≤ 64) × RowsInside (now d) ev n ⌝ }
+    ensures { λ _. ⌜ RowsBy (closedBy n (passiveOn (now (d .entry)) ev)) n (now (rows .exit)) ⌝ }
+{
+    fill_rows(d, ev, n, rows);
+    close_rows(rows, n);
+}
+
+// The names, and whatever they lead to.
+fn add_rows(rows: &[u64], names: u64, n: usize) -> u64
+    requires { ⌜ (length (now rows) ≡ 64) × (n ≤ 64) ⌝ }
+    ensures { λ r. ⌜ Gathers 64 r (λ j. bit names j || anyBelow n (λ i. bit names i && bit (getD (now (rows .entry)) i 0) j)) ⌝ }
+{
+    let mut set = names;
+    let mut i = 0;
+    while i < n {
+        set = add_row(set, names, i, rows[i]);
+        i += 1;
+    }
+    set
+}
+
+// Which of the first n behaviours each of ev events writes.
+pub fn fill_writes(d: &[u64], ev: usize, n: usize, writes: &mut [u64])
+    requires { ⌜ (length (now d) ≡ draftLength) × (length (now writes) ≡ 32) × (ev ≤ 32) × (n ≤ 64) ⌝ }
+    ensures { λ _. ⌜ WritesIn (now (d .entry)) ev n (now (writes .exit)) ⌝ }
+{
+    let mut e = 0;
+    while e < ev {
+        writes[e] = writes_of(d, e, n);
+        e += 1;
+    }
+}
+
+// Which its handlers name, where the rows say what is named through passives.
+fn fill_names(d: &[u64], ev: usize, n: usize, rows: &[u64], named: &mut [u64])
+    requires { ⌜ (length (now d) ≡ draftLength) × (length (now rows) ≡ 64) × (length (now named) ≡ 32) × (ev ≤ 32) × (n ≤ 64) × AllInside (now d) ev n × RowsBy (closedBy n (passiveOn (now d) ev)) n (now rows) ⌝ }
+    ensures { λ _. ⌜ NamedIn (now (d .entry)) ev n (now (named .exit)) ⌝ }
+{
+    let mut e = 0;
+    while e < ev {
+        named[e] = add_rows(rows, handler_names(d, e, n), n);
+        e += 1;
+    }
+}
+
+// Which of the first n behaviours the handlers of each of ev events name, directly or through passives.
+pub fn fill_named(d: &[u64], ev: usize, n: usize, named: &mut [u64])
+    requires { ⌜ (length (now d) ≡ draftLength) × (length (now named) ≡ 32) × (ev ≤ 32) × (n ≤ 64) × AllInside (now d) ev n ⌝ }
+    ensures { λ _. ⌜ NamedIn (now (d .entry)) ev n (now (named .exit)) ⌝ }
+{
+    let mut rows = [0u64; BEHAVIOURS];
+    passive_rows(d, ev, n, &mut rows);
+    fill_names(d, ev, n, &rows, named);
+}

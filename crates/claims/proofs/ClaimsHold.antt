@@ -1,0 +1,40 @@
+-- The whole claim holds: each part by the theorem of its crate.
+use Rattle.engine.proofs.Holds.{whole}
+use Rattle.engine.proofs.RestDay.{rest-day}
+use Rattle.secrecy_engine.proofs.HeardHolds.{rule-on}
+use Rattle.link_halves.proofs.HalvesHold.{half-boards}
+use Rattle.refine_frames.proofs.FramesHold.{every-frame, frame-in-list}
+use Rattle.refine_counts.proofs.CompiledTells.{every-table}
+use Rattle.check_agree.proofs.Answers.{answers}
+use Rattle.engine_agree.proofs.AgreementHolds.{phones-agree, rounds-agree}
+use Rattle.engine_agree.proofs.FinalHolds.{needed}
+use Rattle.secrecy_leak.proofs.LeaklessHolds.{with-no-condition}
+use Rattle.claims.specs.Claims.{Claims}
+use Rattle.claims.proofs.Demand1Holds.{demand-1}
+use Rattle.claims.proofs.RequestsHold.{exactly, halves-go-down, parameters, formulas, rights, circles, paper-order, rows, pooling}
+
+pub claims : Claims
+claims = record {
+  refusals = demand-1;
+  sheets = exactly;
+  lists = whole;
+  quotients = halves-go-down;
+  parameters = parameters;
+  formulas = formulas;
+  rest-day = rest-day;
+  rights = rights;
+  players = rule-on;
+  circles = circles;
+  paper-order = paper-order;
+  rows = rows;
+  pooling = pooling;
+  halves = half-boards;
+  frames = every-frame;
+  frames-in-lists = frame-in-list;
+  tables = every-table;
+  agreement = answers;
+  phones = phones-agree;
+  rounds-agree = rounds-agree;
+  condition-needed = needed;
+  leaks = with-no-condition;
+}

@@ -1,0 +1,3 @@
+pub mod Demand1Holds
+pub mod RequestsHold
+pub mod ClaimsHold

@@ -1,0 +1,64 @@
+-- The whole claim: a part for each sentence of the three demands and of document 02's requests, in the papers' order.
+-- Demand 2's first sentence and demand 3 with M-100, M-101, M-104, M-112 and M-113, which are of its lists, are the
+-- parts of `OneList`, one by one (refine_lists, Lists.antt). All of it is about the functions that the contracts of the
+-- exported calls cite: `compileOn`, `startOn`, `arriveOn`, `stepOn`, `boardOn`, `forecastOn`, `previewOn`, `mendOn`,
+-- `formulaOn`, `joinOn`, `toldOn`. proofs/ClaimsHold.antt has the one theorem that proves it.
+use Rattle.engine.specs.Demand.{Whole}
+use Rattle.engine.specs.RestDay.{RestDay}
+use Rattle.secrecy_engine.specs.Heard.{RuleOn}
+use Rattle.link_halves.specs.HalfBoards.{HalfBoards}
+use Rattle.refine_frames.specs.Frames.{EveryFrame, FrameInList}
+use Rattle.refine_counts.specs.Compiled.{EveryTable}
+use Rattle.check_agree.specs.Claims.{Answers as Agreement}
+use Rattle.engine_agree.specs.Agreement.{PhonesAgree, RoundsAgree}
+use Rattle.engine_agree.specs.Final.{Needed}
+use Rattle.secrecy_leak.specs.Leakless.{WithNoCondition as NoLeak}
+use Rattle.claims.specs.Demand1.{Demand1}
+use Rattle.claims.specs.Requests.{AcceptedExactly, HalvesGoDown, Parameters, Formulas, Rights, Circles, PaperOrder, Rows, Pooling}
+
+pub record Claims : Type 0 where
+  -- 1. "A call is refused by the conditions and order of document 01, and then the handler table, the round and the
+  -- board are unchanged. Every other call, for all bytes and numbers, is accepted, ends, and stays inside the buffers
+  -- lent to it."
+  pub refusals : Demand1
+  -- 2. "With a table of 01's size, a sheet is accepted exactly if it meets 01's grammar and limits and has no circle,
+  -- under an event or under none."
+  pub sheets : AcceptedExactly
+  -- 2. "An event run alone leaves on the board, for every behaviour, the value that the paper's big-step rules .. give
+  -- with 01's arithmetic." 3. "For every list of arrivals, steps and board readings ..", with changes of sheets; and
+  -- M-100, M-101, M-104, M-112, M-113: `OneList`; "And for every two such lists ..": `TwoLists`
+  pub lists : Whole
+  -- M-102, halves go down
+  pub quotients : HalvesGoDown
+  -- M-103, easy and hard from one sheet
+  pub parameters : Parameters
+  -- M-105, formulas as we write them
+  pub formulas : Formulas
+  -- M-106, a rest day
+  pub rest-day : RestDay
+  -- M-107, players and what they may do; and the rule for a player
+  pub rights : Rights
+  pub players : RuleOn
+  -- M-108, show me the circle
+  pub circles : Circles
+  -- M-109, the compiler in the paper's order
+  pub paper-order : PaperOrder
+  -- M-110, rows for grid puzzles
+  pub rows : Rows
+  -- M-111, pool two sheets; "each half of the joined board equals that sheet's own board"
+  pub pooling : Pooling
+  pub halves : HalfBoards
+  -- a frame is the steps that it makes, its commits theirs in order, none lost; so demand 3's lists may hold it
+  pub frames : EveryFrame
+  pub frames-in-lists : FrameInList
+  -- a table tells its sheet's counts and ranks
+  pub tables : EveryTable
+  -- will two phones agree? 0 exactly if all declared events of unequal rank are independent, and what is named is true;
+  -- then demand 3's last sentence holds with no condition left; and the condition is needed
+  pub agreement : Agreement
+  pub phones : PhonesAgree
+  pub rounds-agree : RoundsAgree
+  pub condition-needed : Needed
+  -- may a hidden value leak to a player? 0 exactly under M-107's condition, and what is named is true; then M-107's
+  -- rule holds with no condition left
+  pub leaks : NoLeak

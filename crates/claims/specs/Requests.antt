@@ -1,0 +1,166 @@
+-- Document 02, request by request, as far as it is no part of demand 3's lists (M-100, M-101, M-104, M-112 and M-113
+-- are: engine, Demand.antt): each sentence, and the part that states it, of the functions that the contracts cite.
+use Prim.Native.Nat.{ℕ, _-_, _≤_, _<_, _^_}
+use mathlib.Core.Bool.{Bool, true, false, _&&_}
+use mathlib.Core.Path.{_≡_}
+use mathlib.Core.Logic.{_≢_, _⊎_}
+use mathlib.Core.List.{List, [], _∷_, _++_, map}
+use mathlib.Core.Option.{Option, none, some}
+use lib.IntN.{ℤ, pos, negsuc, _+ℤ_, _*ℤ_}
+use lib.Signed.{_≤ℤ_, _<ℤ_}
+use lib.ListN.{length, getD, drop}
+use Rattle.lib_base.specs.Basics.{All}
+use Rattle.lib_word.specs.Word.{get}
+use Rattle.lib_arith.specs.Functions.{floorZ, result}
+use Rattle.spec_language.specs.Syntax.{Expr, Program}
+use Rattle.spec_language.specs.Dependence.{size, events, noEvent, Acyclic, NoCycle}
+use Rattle.spec_language.specs.Sheet.{Sheet, Entry, Signal, param, fillTerm, fill, rowsOut, uses}
+use Rattle.spec_language.specs.Reading.{signal}
+use Rattle.spec_language.specs.Grammar.{encode, SheetFits}
+use Rattle.spec_language.specs.Accepted.{Known, SheetAccepted}
+use Rattle.spec_language.specs.Code.{sizeOf, allInstructions}
+use Rattle.spec_language.specs.Rights.{may, maySend, maySee}
+use Rattle.format_image.specs.Image.{tableOf}
+use Rattle.text_formula.specs.Grammar.{Formula}
+use Rattle.text_formula.specs.Answer.{answered, written, formulaOn}
+use Rattle.text_formula.specs.Statements.{Untouched, Fields}
+use Rattle.spec_language.specs.Refusals.{noFormula}
+use Rattle.back_compile.specs.Verdict.{compiled, programOf, compileOn}
+use Rattle.back_compile.specs.Statements.{Given, Fine, AsWritten, AsRows}
+use Rattle.back_figure3.specs.Figure3.{Assign, First, Second, whole, PassivesAcyclic, Handler}
+use Rattle.back_figure3.specs.Stand.{StepsStand}
+use Rattle.check_circle.specs.Witness.{numberOn, Listed, Witnessed}
+use Rattle.link_pooled.specs.Pooled.{pooled}
+use Rattle.link_join.specs.Join.{joinOn}
+use Rattle.link_join.specs.Statements.{limits, Answer}
+
+-- bytes are below 256
+abbrev pub AreBytes : List ℕ → Type 0
+AreBytes = All (λ b. b < 256)
+
+-- ---- demand 2: "With a table of 01's size, a sheet is accepted exactly if it meets 01's grammar and limits and has no
+-- circle, under an event or under none." 02, M-103: and a parameter only where 32 bytes are lent
+
+pub record AcceptedExactly : Type 0 where
+  pub accepted : (s ps t : List ℕ) → AreBytes s → 34816 ≤ length t → compileOn s ps t .0 ≡ 0 → (x : Sheet) × (encode x ≡ s) × SheetAccepted (get ps) (length ps) x
+  pub exactly : (s ps t : List ℕ) → AreBytes s → 34816 ≤ length t → (x : Sheet) → encode x ≡ s → SheetAccepted (get ps) (length ps) x
+      → compileOn s ps t ≡ compiled 0 (tableOf (programOf ps x) t)
+  -- 11, 12 and 13 stand for what 01 says, and for nothing else
+  pub unknown : (s ps t : List ℕ) → AreBytes s → 34816 ≤ length t
+      → ((compileOn s ps t .0 ≡ 11 → (x : Sheet) × (encode x ≡ s) × SheetFits x × (Known (programOf ps x) → ⊥))
+      × ((x : Sheet) → encode x ≡ s → SheetFits x → (Known (programOf ps x) → ⊥) → compileOn s ps t ≡ compiled 11 t))
+  pub circular : (s ps t : List ℕ) → AreBytes s → 34816 ≤ length t
+      → ((compileOn s ps t .0 ≡ 12 → (x : Sheet) × (encode x ≡ s) × SheetFits x × Known (programOf ps x) × Given ps x × (NoCycle (programOf ps x) → ⊥))
+      × ((x : Sheet) → encode x ≡ s → SheetFits x → Known (programOf ps x) → Given ps x → (NoCycle (programOf ps x) → ⊥) → compileOn s ps t ≡ compiled 12 t))
+  pub overlong : (s ps t : List ℕ) → AreBytes s → 34816 ≤ length t
+      → ((compileOn s ps t .0 ≡ 13 → (x : Sheet) × (encode x ≡ s) × Fine ps x × (4096 < allInstructions (programOf ps x)))
+      × ((x : Sheet) → encode x ≡ s → Fine ps x → 4096 < allInstructions (programOf ps x) → compileOn s ps t ≡ compiled 13 t))
+  -- the sheet is determined by its bytes
+  pub one-sheet : (x y : Sheet) → SheetFits x → SheetFits y → encode x ≡ encode y → x ≡ y
+
+-- ---- M-102: halves go down
+
+pub record HalvesGoDown : Type 0 where
+  -- "A quotient with a fraction goes to the next whole number below": q of n / d with q * d at most n, and (q + 1) * d
+  -- above it, for d above zero; the other way round below
+  pub at-most : (n : ℤ) (d : ℕ) → 0 < d → (floorZ n (pos d) *ℤ pos d) ≤ℤ n
+  pub next-above : (n : ℤ) (d : ℕ) → 0 < d → n <ℤ ((floorZ n (pos d) +ℤ pos 1) *ℤ pos d)
+  pub at-least : (n : ℤ) (b : ℕ) → n ≤ℤ (floorZ n (negsuc b) *ℤ negsuc b)
+  pub next-below : (n : ℤ) (b : ℕ) → ((floorZ n (negsuc b) +ℤ pos 1) *ℤ negsuc b) <ℤ n
+  -- "By zero still gives 0"
+  pub by-zero : (n : ℤ) → floorZ n (pos 0) ≡ pos 0
+  -- "so −7 / 2 is −4 and 7 / −2 is −4; 7 / 2 stays 3", "and −2,147,483,648 / −1 still wraps to itself", as words
+  pub minus-seven-by-two : result 7 (2 ^ 32 - 7) 2 0 ≡ 2 ^ 32 - 4
+  pub seven-by-minus-two : result 7 7 (2 ^ 32 - 2) 0 ≡ 2 ^ 32 - 4
+  pub seven-by-two : result 7 7 2 0 ≡ 3
+  pub least-by-minus-one : result 7 (2 ^ 31) (2 ^ 32 - 1) 0 ≡ 2 ^ 31
+
+-- ---- M-103: easy and hard from one sheet
+
+pub record Parameters : Type 0 where
+  -- "It counts as one in an expression's size"
+  pub counts-one : (v : ℕ → ℕ) (n : ℕ) → sizeOf (fillTerm v (param n)) ≡ 1
+  -- ".. and means the same as the constant written there. So everything known of a sheet without parameters is known of
+  -- each filling, except that 3 counts the bytes as sent and not those of the filling."
+  pub written : (x : Sheet) (ps : List ℕ) → 32 ≤ length ps → AsWritten x ps
+  -- "Compile is lent eight signed 32-bit values, 32 bytes": what is lent beyond them is not read
+  pub more-unread : (s ps qs t : List ℕ) → AreBytes s → 32 ≤ length ps → compileOn s (ps ++ qs) t ≡ compileOn s ps t
+  -- "20 when the sheet uses a parameter and fewer than 32 bytes are lent, checked after 11."
+  pub twenty : (s ps t : List ℕ) → AreBytes s → 34816 ≤ length t
+      → ((compileOn s ps t .0 ≡ 20 → (x : Sheet) × (encode x ≡ s) × SheetFits x × Known (programOf ps x) × (uses x ≡ true) × (length ps < 32))
+      × ((x : Sheet) → encode x ≡ s → SheetFits x → Known (programOf ps x) → uses x ≡ true → length ps < 32 → compileOn s ps t ≡ compiled 20 t))
+
+-- ---- M-105: formulas as we write them
+
+pub record Formulas : Type 0 where
+  -- "The grammar is written down apart from the reader, each text has one reading"
+  pub one-reading : {text : List ℕ} {d e : Expr} → Formula text d → Formula text e → d ≡ e
+  -- "A formula of at most 1,024 bytes becomes one expression field at the start of a lent buffer, whose other bytes
+  -- stay; its length is returned." "22, checked next", "9 comes after 22", "23, checked last"
+  pub within : {text : List ℕ} {e : Expr} (buffer : List ℕ) → length text ≤ 1024 → Formula text e → formulaOn text buffer ≡ written e buffer
+  -- ".. and all texts outside it are turned down": "21 when the text is outside this grammar or over 1,024 bytes"
+  pub outside : (text buffer : List ℕ) → (1024 < length text) ⊎ ((e : Expr) → Formula text e → ⊥) → formulaOn text buffer ≡ answered noFormula buffer
+  pub only-outside : (text buffer : List ℕ) → formulaOn text buffer .0 ≡ noFormula → (1024 < length text) ⊎ ((e : Expr) → Formula text e → ⊥)
+  pub unchanged : (text buffer : List ℕ) → Untouched buffer (formulaOn text buffer)
+  -- the field is one that compile reads, and means the formula
+  pub field : (text buffer : List ℕ) → Fields text buffer (formulaOn text buffer)
+
+-- ---- M-107: players and what they may do (the rule for a player: secrecy_engine)
+
+-- who may see behaviour i, as the sheet with its rows written out says it: none where the field 08 is missing
+abbrev pub sentViewer : Sheet → ℕ → Option ℕ
+sentViewer s i = getD (map (λ (b : Entry). b .viewer) (rowsOut s .entries)) i none
+
+abbrev pub sentSender : Sheet → ℕ → Option ℕ
+sentSender s e = getD (s .signals) e (signal 0 none) .sender
+
+pub record Rights : Type 0 where
+  -- "The host may do everything"
+  pub host-sends : (p : Program) (e : ℕ) → maySend p 0 e ≡ true
+  pub host-sees : (p : Program) (i : ℕ) → maySee p 0 i ≡ true
+  -- "An event field may have length 2, its second byte saying who may send it (bit n for player n)."
+  pub sends : (v : ℕ → ℕ) (s : Sheet) (e : ℕ) → e < length (s .signals) → (m : ℕ) → sentSender s e ≡ some m → (who : ℕ) → maySend (fill v s) who e ≡ may m who
+  -- "A behaviour may end with a field 08 of length 1, saying likewise who may see it."
+  pub sees : (v : ℕ → ℕ) (s : Sheet) (i : ℕ) → i < length (rowsOut s .entries) → (m : ℕ) → sentViewer s i ≡ some m → (who : ℕ) → maySee (fill v s) who i ≡ may m who
+  -- "Where either is missing, everybody may."
+  pub all-send : (v : ℕ → ℕ) (s : Sheet) (e : ℕ) → e < length (s .signals) → sentSender s e ≡ none → (who : ℕ) → who < 8 → maySend (fill v s) who e ≡ true
+  pub all-see : (v : ℕ → ℕ) (s : Sheet) (i : ℕ) → i < length (rowsOut s .entries) → sentViewer s i ≡ none → (who : ℕ) → who < 8 → maySee (fill v s) who i ≡ true
+
+-- ---- M-108: show me the circle
+
+pub record Circles : Type 0 where
+  -- "For a sheet refused by 12, a call lists the behaviours of a circle, each depending on the next, with the event it
+  -- arises under, or none. No circle of fewer behaviours exists under an event or under none.": what the contract says
+  -- of the answer r and the list after it (`Witnessed`) is that of the sheet that the bytes encode, whatever list is
+  -- lent
+  pub listed : (s ps list : List ℕ) → AreBytes s → numberOn s ps ≡ 12 → {r : ℕ} {list′ : List ℕ} → Witnessed s ps list r list′
+      → (x : Sheet) × (encode x ≡ s) × SheetFits x × Known (programOf ps x) × Given ps x × Listed (programOf ps x) list r list′
+
+-- ---- M-109: the compiler in the paper's order
+
+pub record PaperOrder : Type 0 where
+  -- "it is shown which instructions each step gives, an event's code being the copy's, phase one's, phase two's and the
+  -- copy-back's in a row": of the table that compile leaves, for every accepted sheet and each event
+  pub in-the-table : (s ps t : List ℕ) → AreBytes s → AreBytes ps → (x : Sheet) → encode x ≡ s → SheetAccepted (get ps) (length ps) x → 34816 ≤ length t → (e : ℕ) → e < events (programOf ps x)
+      → Handler (programOf ps x) e × StepsStand (programOf ps x) (compileOn s ps t .1) e
+  -- "the check on dependence": no first phase is derived for an event with a circle, and no second one where passives
+  -- are in one
+  pub first-acyclic : (p : Program) (e : ℕ) {A : List Assign} → First p e (whole p) A → Acyclic p e
+  pub second-acyclic : (p : Program) (e : ℕ) {A : List Assign} → Second p e (whole p) A → PassivesAcyclic p e
+
+-- ---- M-110: rows for grid puzzles
+
+pub record Rows : Type 0 where
+  -- "It means the sheet in which each cell is written out as an active, only that 3 counts the bytes as sent."
+  -- "Circles, rights, instruction counts and commits are those of the sheet written out."
+  pub written-out : (x : Sheet) → AsRows x
+
+-- ---- M-111: pool two sheets (each half of the joined board: link_halves)
+
+pub record Pooling : Type 0 where
+  -- "A join writes one sheet from two accepted ones to the start of a lent buffer, whose other bytes stay, and returns
+  -- its length", and every refusal in its order, case by case
+  pub answer : (s z ps buffer : List ℕ) → AreBytes s → AreBytes z → AreBytes ps → Answer s z ps buffer (joinOn s z ps buffer)
+  -- "The result must pass compile's 3, 7 and 13, checked in that order": compile has no other number for it
+  pub number : (ps : List ℕ) → ((n : ℕ) → n < 8 → get ps n < 2 ^ 32) → (a b : Sheet) → SheetAccepted (get ps) (length ps) a → SheetAccepted (get ps) (length ps) b
+      → numberOn (encode (pooled a b)) ps ≡ limits ps (pooled a b)

@@ -1,0 +1,9 @@
+-- Bytes beyond a buffer's own. Demand 1.
+use Prim.Native.Nat.{ℕ}
+use mathlib.Core.Path.{_≡_}
+use mathlib.Core.List.{List}
+use lib.ListN.{length, drop}
+
+-- of the bytes l, lent and left as m, those from n on are as they were, and the length
+abbrev pub Untouched : ℕ → List ℕ → List ℕ → Type 0
+Untouched n l m = (drop n m ≡ drop n l) × (length m ≡ length l)

@@ -1,0 +1,118 @@
+-- On a sheet that `agree` answers 0 for, any two events of unequal rank are independent, which is the condition of
+-- demand 3's last sentence; with changes, of every sheet of the course.
+use Prim.Native.Nat.{ℕ, _<_}
+use mathlib.Core.Path.{_≡_, sym, subst}
+use mathlib.Core.Logic.{_≢_}
+use mathlib.Core.List.{List, [], _∷_, map}
+use lib.ListN.{length}
+use Rattle.lib_base.specs.Basics.{All}
+use Rattle.lib_word.specs.Word.{get}
+use Rattle.spec_language.specs.Syntax.{Program}
+use Rattle.spec_language.specs.Sheet.{Sheet}
+use Rattle.spec_language.specs.Dependence.{Independent}
+use Rattle.spec_language.specs.Grammar.{encode}
+use Rattle.spec_language.specs.Accepted.{SheetAccepted}
+use Rattle.spec_model.specs.Model.{Arrival, Answer, refused, takenIn, shows, idle, ran, started, preempted, committed, rank, Turn, call, change, Reply, says, carriedOver, replies, begun}
+use Rattle.spec_model.specs.Claims.{takenInBy, Moment, commits, changes, ifCommits, momentOf, moments, historyOf, Course, last, then, onward, courseOf, ApartIn, ApartEach}
+use Rattle.back_compile.specs.Verdict.{programOf}
+use Rattle.refine_lists.specs.Lists.{SheetTurn, calling, mending, Compiles, AllMean}
+use Rattle.refine_lists.proofs.Sheets.{program-accepted}
+use Rattle.refine_lists.proofs.FromSheets.{two-lists-hold, two-only-calls-hold}
+use Rattle.check_agree.specs.Agree.{agreeOn}
+use Rattle.check_agree.specs.Claims.{Unequal}
+use Rattle.check_agree.proofs.Answers.{answers}
+use Rattle.check_agree.proofs.Undeclared.{any-two}
+use Rattle.engine_agree.specs.Agreement.{PhonesAgree, AgreesToo, RoundsAgree}
+
+-- ---- any two events of unequal rank are independent
+
+abbrev Good : Program → Type 0
+Good p = (e f : ℕ) → Unequal p e f → Independent p e f
+
+good : (s ps : List ℕ) → All (λ b. b < 256) s → All (λ b. b < 256) ps → (x : Sheet) → encode x ≡ s → SheetAccepted (get ps) (length ps) x → agreeOn s ps ≡ 0 → Good (programOf ps x)
+good s ps bytes words x e taken z =
+    any-two (programOf ps x) (program-accepted ps words x taken .fits .each) (answers s ps bytes words .0 x e taken .only-if z)
+
+all-of : {A : Type 0} (P : A → Type 0) → ((x : A) → P x) → (l : List A) → All P l
+all-of P h [] = tt
+all-of P h (x ∷ l) = (h x, all-of P h l)
+
+good-in : (p : Program) → Good p → (l : List Arrival) → ApartIn p l
+good-in p g l =
+    all-of (λ a. All (λ b. rank p a ≢ rank p b → Independent p (a .event) (b .event)) l)
+    (λ a. all-of (λ b. rank p a ≢ rank p b → Independent p (a .event) (b .event)) (λ b u. g (a .event) (b .event) u) l) l
+
+-- ---- two lists of calls
+
+pub phones-agree : PhonesAgree
+phones-agree s ps qs t₀ l₀ t₁ l₁ x two z cs ds same i j =
+    let p = programOf ps x in
+    let g = good s ps (two .sheet-bytes) (two .param-bytes) x (two .sheet-is) (two .one-taken) z in
+    two-only-calls-hold s ps qs t₀ l₀ t₁ l₁ x two cs ds same (good-in p g (takenInBy p (map call cs))) i j
+
+-- ---- with changes: every program of the course is good
+
+abbrev GoodTurn : Turn → Type 0
+GoodTurn (call c) = Unit {0}
+GoodTurn (change q) = Good q
+
+abbrev GoodMoment : Moment → Type 0
+GoodMoment (commits a) = Unit {0}
+GoodMoment (changes q) = Good q
+
+abbrev GoodCourse : Course → Type 0
+GoodCourse (last l) = Unit {0}
+GoodCourse (then l q c) = Good q × GoodCourse c
+
+commits-good : (a : Answer) (l : List Moment) → All GoodMoment l → All GoodMoment (ifCommits a l)
+commits-good (refused n) l h = h
+commits-good takenIn l h = h
+commits-good (shows v) l h = h
+commits-good idle l h = h
+commits-good ran l h = h
+commits-good (started a) l h = h
+commits-good (preempted a) l h = h
+commits-good (committed a m) l h = (tt, h)
+
+moment-good : (t : Turn) (r : Reply) (l : List Moment) → GoodTurn t → All GoodMoment l → All GoodMoment (momentOf t r l)
+moment-good (call c) (says a) l g h = commits-good a l h
+moment-good (call c) carriedOver l g h = h
+moment-good (change q) (says a) l g h = h
+moment-good (change q) carriedOver l g h = (g, h)
+
+moments-good : (ts : List Turn) (rs : List Reply) → All GoodTurn ts → All GoodMoment (moments ts rs)
+unfolding moments
+moments-good [] rs g = tt
+moments-good (t ∷ ts) [] g = tt
+moments-good (t ∷ ts) (r ∷ rs) g = moment-good t r (moments ts rs) (g .0) (moments-good ts rs (g .1))
+
+onward-good : (a : Arrival) (c : Course) → GoodCourse c → GoodCourse (onward a c)
+onward-good a (last l) h = tt
+onward-good a (then l q c) h = h
+
+course-good : (h : List Moment) → All GoodMoment h → GoodCourse (courseOf h)
+unfolding courseOf
+course-good [] g = tt
+course-good (commits a ∷ h) g = onward-good a (courseOf h) (course-good h (g .1))
+course-good (changes q ∷ h) g = (g .0, course-good h (g .1))
+
+apart-each : (p : Program) (c : Course) → Good p → GoodCourse c → ApartEach p c
+apart-each p (last l) g h = good-in p g l
+apart-each p (then l q c) g h = (good-in p g l, apart-each q c (h .0) (h .1))
+
+turn-good : (xs : List SheetTurn) (ts : List Turn) → AllMean xs ts → All Compiles xs → All AgreesToo xs → All GoodTurn ts
+turn-good [] [] m k a = tt
+turn-good [] (t ∷ ts) m k a = absurd m
+turn-good (x ∷ xs) [] m k a = absurd m
+turn-good (calling c ∷ xs) (call d ∷ ts) m k a = (tt, turn-good xs ts (m .1) (k .1) (a .1))
+turn-good (calling c ∷ xs) (change q ∷ ts) m k a = absurd (m .0)
+turn-good (mending s ps t ∷ xs) (call d ∷ ts) m k a = absurd (m .0)
+turn-good (mending s ps t ∷ xs) (change q ∷ ts) m k a =
+    (subst Good (sym (m .0 .3)) (good s ps (k .0 .0) (k .0 .1) (m .0 .0) (m .0 .1) (m .0 .2) (a .0)), turn-good xs ts (m .1) (k .1) (a .1))
+
+pub rounds-agree : RoundsAgree
+rounds-agree s ps qs t₀ l₀ t₁ l₁ x two z xs ys k l a ts us m n same alike i j =
+    let p = programOf ps x in
+    let g = good s ps (two .sheet-bytes) (two .param-bytes) x (two .sheet-is) (two .one-taken) z in
+    two-lists-hold s ps qs t₀ l₀ t₁ l₁ x two xs ys k l ts us m n same alike
+    (apart-each p (courseOf (historyOf p ts)) g (course-good (historyOf p ts) (moments-good ts (replies ts (begun p)) (turn-good xs ts m k a)))) i j

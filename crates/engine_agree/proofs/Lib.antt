@@ -1,0 +1,3 @@
+pub mod AgreementHolds
+pub mod Computed
+pub mod FinalHolds

@@ -1,0 +1,71 @@
+-- A frame is the steps that it makes: as many `step` calls leave the same round, and the answers of those that commit
+-- are the commits that it writes, in order, none lost. So a list of calls (01 "Whole runs", demand 3) may hold a frame,
+-- as these steps.
+use Prim.Native.Nat.{ℕ, _+_, _*_, _/_, _%_, _≤_, _<_}
+use mathlib.Core.Path.{_≡_}
+use mathlib.Core.Logic.{_≢_}
+use mathlib.Core.List.{List, [], _∷_, _++_}
+use lib.ListN.{length, replicate}
+use Rattle.lib_base.specs.Basics.{pick, All}
+use Rattle.spec_language.specs.Refusals.{foreign}
+use Rattle.spec_language.specs.Answers as kinds
+use Rattle.spec_model.specs.Model.{Call, step}
+use Rattle.run_frame.specs.Frame.{allMade, metIdle, metRefusal, noRoom, roomFor, putAnswer, frameOn}
+use Rattle.run_burst.specs.Burst.{commits}
+use Rattle.refine_calls.specs.Refinement.{callOn, answersOn, roundAfter}
+
+-- ---- what a frame's answer tells
+
+abbrev pub stepsMade : ℕ → ℕ
+stepsMade v = v % 4294967296
+
+abbrev pub commitsWritten : ℕ → ℕ
+commitsWritten v = v / 4294967296 % 16777216
+
+abbrev pub endedBy : ℕ → ℕ
+endedBy v = v / 72057594037927936
+
+-- ---- the steps
+
+abbrev pub steps : ℕ → List Call
+steps n = replicate n step
+
+-- those of a list of answers that are a commit's
+unfoldable pub committing : List ℕ → List ℕ
+committing [] = []
+committing (a ∷ xs) = pick (commits a) (a ∷ committing xs) (committing xs)
+
+-- answers written one after the other from place n on
+unfoldable pub putAll : List ℕ → ℕ → List ℕ → List ℕ
+putAll b n [] = b
+putAll b n (a ∷ xs) = putAll (putAnswer b n a) (n + 1) xs
+
+-- why a frame ends that was asked for so many steps and made so many, the round then being l
+pub record Ended (t : List ℕ) (asked made room written : ℕ) (l : List ℕ) (why : ℕ) : Type 0 where
+  pub one-of : why ≤ noRoom
+  pub all : why ≡ allMade → made ≡ asked
+  pub idle : why ≡ metIdle → (made < asked) × (callOn t step l .0 ≡ kinds.idle)
+  pub refused : why ≡ metRefusal → (made < asked) × (callOn t step l .0 ≡ foreign)
+  pub full : why ≡ noRoom → (made < asked) × (written ≡ room)
+
+-- a frame with the answer v that leaves the round l′ and the commits b′
+pub record Steps (t l : List ℕ) (asked : ℕ) (b : List ℕ) (v : ℕ) (l′ b′ : List ℕ) : Type 0 where
+  pub round : l′ ≡ roundAfter t (steps (stepsMade v)) l
+  pub written : b′ ≡ putAll b 0 (committing (answersOn t (steps (stepsMade v)) l))
+  pub count : commitsWritten v ≡ length (committing (answersOn t (steps (stepsMade v)) l))
+  -- each of these steps is made
+  pub made : All (λ a. (a ≢ kinds.idle) × (a ≢ foreign)) (answersOn t (steps (stepsMade v)) l)
+  pub most : stepsMade v ≤ asked
+  pub room : commitsWritten v ≤ roomFor (length b)
+  pub ended : Ended t asked (stepsMade v) (roomFor (length b)) (commitsWritten v) l′ (endedBy v)
+
+abbrev pub EveryFrame : Type 0
+EveryFrame = (t l : List ℕ) (asked : ℕ) (b : List ℕ) → asked < 4294967296
+    → Steps t l asked b (frameOn t l asked b .0) (frameOn t l asked b .1) (frameOn t l asked b .2)
+
+-- a frame after a list of calls leaves the round that the list with its steps leaves, and tells the commits of these
+abbrev pub FrameInList : Type 0
+FrameInList = (t l : List ℕ) (cs : List Call) (asked : ℕ) (b : List ℕ) → asked < 4294967296
+    → (frameOn t (roundAfter t cs l) asked b .1 ≡ roundAfter t (cs ++ steps (stepsMade (frameOn t (roundAfter t cs l) asked b .0))) l)
+    × (answersOn t (cs ++ steps (stepsMade (frameOn t (roundAfter t cs l) asked b .0))) l
+    ≡ answersOn t cs l ++ answersOn t (steps (stepsMade (frameOn t (roundAfter t cs l) asked b .0))) (roundAfter t cs l))

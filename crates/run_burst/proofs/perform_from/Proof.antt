@@ -1,0 +1,36 @@
+-- The loop keeps that what is made leads from the first round to this one, and that the rest may be made.
+use Prim.Native.Nat.{_-_}
+use native.Mathlib.Omega.{arith}
+use borrow.Author.Tests.{not-true, not-false}
+use Rattle.run_burst.proofs.Steps.{in-code}
+use Rattle.run_burst.proofs.Glue.{Going, begin, go-on, stay}
+use borrow.Author.Needs.{needs}
+use Rattle.run_burst.proofs.perform_from.Statement.{statement}
+use Rattle.run_burst.proofs.perform_from.Tie as tie
+
+abbrev Inv-loop : tie.InvT-loop
+Inv-loop table round₀ start from m i₀ round i = Going table round₀ start from m round i
+
+abbrev μ-loop : tie.MeasureT-loop
+μ-loop table round₀ start from m i₀ round i = m - i
+
+pub perform-from-spec : {M : Type 1} → statement M
+perform-from-spec =
+    tie.close
+    (tie.spec
+    Inv-loop
+    μ-loop
+    (λ c. begin (c .before .before .pre))
+    (λ c. omega (arith, in-code (c .before .before .loop .inv .ready)))
+    (λ c. omega (arith, in-code (c .before .before .loop .inv .ready)))
+    (λ c. omega (arith, in-code (c .before .before .loop .inv .ready)))
+    (λ c. omega (arith, in-code (c .before .before .loop .inv .ready)))
+    (λ c. omega (arith, in-code (c .before .before .loop .inv .ready)))
+    (λ c κs. let s = c .before .before .loop .inv .ready .sound in omega (arith, in-code (c .before .before .loop .inv .ready), s .whole, s .long, s .shallow))
+    (λ c. omega (arith, c .before .before .before .before .before .before .loop .inv .as-long))
+    (λ c. (stay (c .before .before .before .before .before .before .loop .inv) (c .before .before .before .perform-at .ensures) (not-true _ (c .if1 .taken)), omega arith))
+    (λ c. omega arith)
+    (λ c. omega arith)
+    (λ c. go-on (c .before .before .before .before .before .before .loop .inv) (c .before .before .before .before .before .loop-test .taken) (c .before .before .before .perform-at .ensures) (not-false _ (c .if1 .left)) (search needs))
+    (λ c. c .before .loop .inv .as-long)
+    (λ c. (c .before .loop .inv .ran, omega arith)))

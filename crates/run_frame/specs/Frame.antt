@@ -1,0 +1,72 @@
+-- A frame, for all bytes: the steps that it makes are those of `stepOn`, one after the other, and the answers of those
+-- that commit are written to the bytes lent for them, eight each.
+use Prim.Native.Nat.{ℕ, zero, suc, _+_, _*_, _/_, _%_}
+use mathlib.Core.List.{List}
+use lib.ListN.{length}
+use lib.Dec.{ltb, leb, eqb}
+use Rattle.lib_base.specs.Basics.{pick}
+use Rattle.lib_word.specs.Word.{put}
+use Rattle.spec_language.specs.Refusals.{foreign}
+use Rattle.spec_language.specs.Answers as kinds
+use Rattle.run_step.specs.Machine.{stepOn}
+use Rattle.run_burst.specs.Burst.{commits}
+
+-- ---- the answer
+
+-- why a frame ended: all steps made; the next is idle; the next is refused; no room for a further commit
+abbrev pub allMade : ℕ
+allMade = 0
+
+abbrev pub metIdle : ℕ
+metIdle = 1
+
+abbrev pub metRefusal : ℕ
+metRefusal = 2
+
+abbrev pub noRoom : ℕ
+noRoom = 3
+
+-- bits 0 to 31: the steps made; 32 to 55: the commits written; 56 to 63: why it ended
+abbrev pub frameSaid : ℕ → ℕ → ℕ → ℕ
+frameSaid why made written = why * 72057594037927936 + written * 4294967296 + made
+
+-- the answer, the round's bytes and the commits' after it
+abbrev pub Framed : Type 0
+Framed = ℕ × List ℕ × List ℕ
+
+abbrev pub framed : ℕ → List ℕ → List ℕ → Framed
+framed r l b = (r, l, b)
+
+-- ---- the commits
+
+-- places of eight bytes, as many as 24 bits count
+unfoldable pub roomFor : ℕ → ℕ
+roomFor bytes = pick (ltb (bytes / 8) 16777215) (bytes / 8) 16777215
+
+unfoldable pub putAnswer : List ℕ → ℕ → ℕ → List ℕ
+putAnswer b n a = put (put b (n * 2) (a / 4294967296)) (n * 2 + 1) (a % 4294967296)
+
+-- after a step that answered a: how many are written, and the bytes
+unfoldable pub countAfter : ℕ → ℕ → ℕ
+countAfter a n = pick (commits a) (n + 1) n
+
+unfoldable pub commitsAfter : ℕ → ℕ → List ℕ → List ℕ
+commitsAfter a n b = pick (commits a) (putAnswer b n a) b
+
+-- ---- the frame
+
+-- up to k steps more, m being made and n commits written; an idle or refused step is not made
+unfoldable pub frameFrom : List ℕ → ℕ → ℕ → ℕ → ℕ → List ℕ → List ℕ → Framed
+frameFrom t room zero m n l b = (frameSaid allMade m n, l, b)
+frameFrom t room (suc k) m n l b =
+    pick (leb room n) (frameSaid noRoom m n, l, b)
+    (pick (eqb (stepOn t l .0) kinds.idle) (frameSaid metIdle m n, l, b)
+    (pick (eqb (stepOn t l .0) foreign) (frameSaid metRefusal m n, l, b)
+    (frameFrom t room k (m + 1) (countAfter (stepOn t l .0) n) (stepOn t l .1) (commitsAfter (stepOn t l .0) n b))))
+
+-- of a foreign table or round: no step is made
+unfoldable pub refusedFrame : ℕ → ℕ → ℕ
+refusedFrame steps room = pick (eqb steps 0) (frameSaid allMade 0 0) (pick (eqb room 0) (frameSaid noRoom 0 0) (frameSaid metRefusal 0 0))
+
+unfoldable pub frameOn : List ℕ → List ℕ → ℕ → List ℕ → Framed
+frameOn t l steps b = frameFrom t (roomFor (length b)) steps 0 0 l b

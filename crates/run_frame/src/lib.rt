@@ -1,0 +1,120 @@
+// A frame: up to as many steps as are asked for in one call, each commit's answer written to a lent buffer.
+ghost use mathlib.Core.Path.{_≡_};
+ghost use Prim.Native.Nat.{_+_, _*_, _≤_, _<_};
+ghost use lib.ListN.{length};
+ghost use Rattle.run_frame.specs.Frame.{roomFor, frameSaid, putAnswer, countAfter, commitsAfter, framed, frameFrom, refusedFrame, frameOn};
+ghost use Rattle.run_burst.specs.Sound.{Sound};
+
+// Why a frame ended: all steps made, nothing to do, a step refused, no room for a further commit.
+pub const ALL_MADE: u64 = 0;
+
+pub const IDLE: u64 = 1;
+
+pub const REFUSED: u64 = 2;
+
+pub const NO_ROOM: u64 = 3;
+// What stands above the steps made, and above the commits written.
+const STEPS: u64 = 4294967296;
+
+const COMMITS: u64 = 72057594037927936;
+// The commits that an answer has room to count, and the bytes of each.
+const MOST_COMMITS: usize = 16777215;
+
+const COMMIT_BYTES: usize = 8;
+// A word's values, and the kinds of a step's answer.
+const WORDS: u64 = 4294967296;
+
+const KINDS: u64 = 16;
+
+const FOREIGN: u64 = spec_language::refusals::FOREIGN as u64;
+
+// The answer of a frame.
+fn said_of(why: u64, made: u32, written: u32) -> u64
+    requires { ⌜ (why < 4) × (written < 16777216) ⌝ }
+    ensures { λ r. ⌜ r ≡ frameSaid why made written ⌝ }
+{
+    why * COMMITS + (written as u64) * STEPS + (made as u64)
+}
+
+// How many commits so many bytes have room for.
+fn room_of(bytes: usize) -> u32
+    ensures { λ r. ⌜ r ≡ roomFor bytes ⌝ }
+    ensures { λ r. ⌜ (r < 16777216) × (r * 8 ≤ bytes) ⌝ }
+{
+    if bytes / COMMIT_BYTES < MOST_COMMITS {
+        return (bytes / COMMIT_BYTES) as u32;
+    }
+    MOST_COMMITS as u32
+}
+
+// An answer at place n, in two words.
+fn put_answer(commits: &mut [u8], n: usize, answer: u64)
+    requires { ⌜ (n * 8 + 8 ≤ length (now commits)) × (n < 16777216) ⌝ }
+    ensures { λ _. ⌜ now (commits .exit) ≡ putAnswer (now (commits .entry)) n answer ⌝ }
+{
+    lib_word::put_word(commits, n * 2, (answer / WORDS) as u32);
+    lib_word::put_word(commits, n * 2 + 1, (answer % WORDS) as u32);
+}
+
+// A step's answer after n commits: a commit's is written, any other leaves the buffer. The commits written then.
+fn note(commits: &mut [u8], n: u32, answer: u64) -> u32
+    requires { ⌜ (n * 8 + 8 ≤ length (now commits)) × (n < 16777215) ⌝ }
+    ensures { λ r. ⌜ r ≡ countAfter answer n ⌝ }
+    ensures { λ _. ⌜ now (commits .exit) ≡ commitsAfter answer n (now (commits .entry)) ⌝ }
+{
+    if answer % KINDS == spec_language::answers::COMMITTED {
+        put_answer(commits, n as usize, answer);
+        return n + 1;
+    }
+    n
+}
+
+// Of a foreign table or round no step is made.
+fn refused_of(steps: u32, room: u32) -> u64
+    ensures { λ r. ⌜ r ≡ refusedFrame steps room ⌝ }
+{
+    if steps == 0 {
+        return said_of(ALL_MADE, 0, 0);
+    }
+    if room == 0 {
+        return said_of(NO_ROOM, 0, 0);
+    }
+    said_of(REFUSED, 0, 0)
+}
+
+// Table and round are judged. There is room for so many commits.
+fn frame_in(table: &[u8], round: &mut [u8], steps: u32, room: u32, commits: &mut [u8]) -> u64
+    requires { ⌜ Sound (now table) (now round) × (room < 16777216) × (room * 8 ≤ length (now commits)) ⌝ }
+    ensures { λ r. ⌜ framed r (now (round .exit)) (now (commits .exit)) ≡ frameFrom (now (table .entry)) room steps 0 0 (now (round .entry)) (now (commits .entry)) ⌝ }
+{
+    let mut left = steps;
+    let mut written = 0;
+    while left > 0 {
+        if room <= written {
+            return said_of(NO_ROOM, steps - left, written);
+        }
+        let stop = run_burst::burst_on(&*table, round, left);
+        let answer = stop.answer;
+        left = stop.left;
+        if answer == spec_language::answers::IDLE {
+            return said_of(IDLE, steps - left, written);
+        }
+        if answer == FOREIGN {
+            return said_of(REFUSED, steps - left, written);
+        }
+        written = note(commits, written, answer);
+    }
+    said_of(ALL_MADE, steps, written)
+}
+
+// Up to so many steps, until one is idle or refused or there is no room for a further commit: how many were made, the
+// commits written, and why it ended.
+pub fn frame_at(table: &[u8], round: &mut [u8], steps: u32, commits: &mut [u8]) -> u64
+    ensures { λ r. ⌜ framed r (now (round .exit)) (now (commits .exit)) ≡ frameOn (now (table .entry)) (now (round .entry)) steps (now (commits .entry)) ⌝ }
+{
+    let room = room_of(commits.len());
+    if run_validate::is_ours(&*table, round) {
+        return frame_in(&*table, round, steps, room, commits);
+    }
+    refused_of(steps, room)
+}

@@ -1,0 +1,67 @@
+-- What the call `leak` says of M-107's condition, and the rule for a player with no condition left. 02, M-107: "For a
+-- player it shall hold: if no behaviour this player sees depends on a hidden one (by a name in its expression or in a
+-- handler of either phase, directly or by a chain), then two rounds, from fresh on with the same calls in the same
+-- order and the same parameters, their sheets differing only in start values of hidden behaviours, give this player
+-- equal answers, refusals included." The condition is `Sealed` of crate secrecy_model, Sight.antt.
+use Prim.Native.Nat.{ℕ, _≤_, _<_}
+use mathlib.Core.Path.{_≡_}
+use mathlib.Core.Logic.{_≢_}
+use mathlib.Core.List.{List, map}
+use lib.ListN.{length}
+use Rattle.lib_base.specs.Basics.{All}
+use Rattle.lib_word.specs.Word.{get}
+use Rattle.spec_language.specs.Sheet.{Sheet}
+use Rattle.spec_language.specs.Grammar.{encode}
+use Rattle.spec_language.specs.Accepted.{SheetAccepted}
+use Rattle.spec_language.specs.Refusals.{noPlayer}
+use Rattle.spec_model.specs.Model.{Call}
+use Rattle.secrecy_model.specs.Sight.{Sealed, AlikeBut}
+use Rattle.back_compile.specs.Verdict.{programOf, compileOn}
+use Rattle.refine_lists.specs.Lists.{calling, freshRoundOn}
+use Rattle.secrecy_engine.specs.Heard.{HeardAlike}
+use Rattle.check_circle.specs.Witness.{numberOn}
+use Rattle.check_leak.specs.Leak.{leakOn}
+use Rattle.check_leak.specs.Claims.{Named}
+
+-- ---- 0 exactly under M-107's condition, and what is named is true: of a sheet that compile accepts
+
+pub record Answered (s ps : List ℕ) (player : ℕ) (x : Sheet) : Type 0 where
+  pub zero-if : Sealed (programOf ps x) player → leakOn s ps player ≡ 0
+  pub only-if : leakOn s ps player ≡ 0 → Sealed (programOf ps x) player
+  pub named : leakOn s ps player ≢ 0 → Named (programOf ps x) player (leakOn s ps player)
+
+abbrev pub Answers : Type 0
+Answers =
+    (s ps : List ℕ) (player : ℕ) → All (λ b. b < 256) s → All (λ b. b < 256) ps
+    → ((x : Sheet) → encode x ≡ s → SheetAccepted (get ps) (length ps) x → player < 8 → Answered s ps player x)
+    × (numberOn s ps ≡ 0 → 7 < player → leakOn s ps player ≡ noPlayer)
+    × (numberOn s ps ≢ 0 → leakOn s ps player ≡ numberOn s ps)
+
+-- ---- the rule for a player of whom `leak` answers 0: two sheets that differ only in start values of hidden
+-- behaviours,
+-- which compile accepts with parameters that fill them in alike, and the same calls in both rounds
+
+pub record SheetsAlike (player : ℕ) (s z ps qs t₀ l₀ t₁ l₁ : List ℕ) (x y : Sheet) : Type 0 where
+  pub one-bytes : All (λ b. b < 256) s
+  pub other-bytes : All (λ b. b < 256) z
+  pub one-params : All (λ b. b < 256) ps
+  pub other-params : All (λ b. b < 256) qs
+  pub one-room : 2048 ≤ length l₀
+  pub other-room : 2048 ≤ length l₁
+  pub one-compiles : compileOn s ps t₀ .0 ≡ 0
+  pub other-compiles : compileOn z qs t₁ .0 ≡ 0
+  pub one-is : encode x ≡ s
+  pub other-is : encode y ≡ z
+  pub one-taken : SheetAccepted (get ps) (length ps) x
+  pub other-taken : SheetAccepted (get qs) (length qs) y
+  pub alike : AlikeBut player x y
+  pub filled : programOf qs y ≡ programOf ps y
+
+abbrev pub RuleHolds : Type 0
+RuleHolds =
+    (player : ℕ) (s z ps qs t₀ l₀ t₁ l₁ : List ℕ) (x y : Sheet) → SheetsAlike player s z ps qs t₀ l₀ t₁ l₁ x y → leakOn s ps player ≡ 0
+    → (cs : List Call) → HeardAlike player (freshRoundOn s ps t₀ l₀) (map calling cs) (freshRoundOn z qs t₁ l₁) (map calling cs)
+
+pub record WithNoCondition : Type 0 where
+  pub answers : Answers
+  pub rule : RuleHolds

@@ -1,0 +1,193 @@
+-- Two courses with the same changes after the same commits lead to one store, if in each sheet those of unequal
+-- priority are independent and those of equal priority go by number: under each sheet the commits are confluent, and a
+-- change is a function of the store. What was committed under the last sheet is what is left of the same arrivals. By
+-- induction on the courses.
+use Prim.Native.Nat.{ℕ, _<_}
+use mathlib.Core.Path.{_≡_, refl, sym, ap, _∙_, subst}
+use mathlib.Core.List.{List, [], _∷_, _++_, List·Nodup, nodup-append, Pairwise, Pairwise·nil, Pairwise·cons, pairwise-cons, Pairwise·of-cons, List·Permᴰ, List·Permᴰ·trans, Permᴰ·symm, Permᴰ·append-right}
+use mathlib.Core.Logic.{_≢_}
+use native.Mathlib.Omega.{arith}
+use lib.ListN.{length}
+use Rattle.lib_base.specs.Basics.{All}
+use Rattle.lib_base.proofs.Tools.{all-mem, all-of-mem, all-imp}
+use Rattle.spec_language.specs.Syntax.{Program}
+use Rattle.spec_language.specs.Accepted.{Valid}
+use Rattle.spec_language.specs.Dependence.{size, events, Independent}
+use Rattle.spec_semantics.specs.Meaning.{event, play}
+use Rattle.spec_semantics.proofs.Commute.{commute}
+use Rattle.spec_execution.proofs.CodeRight.{code-facts}
+use Rattle.spec_model.specs.Carried.{carried}
+use Rattle.spec_model.specs.Model.{Arrival, rank}
+use Rattle.spec_model.specs.Claims.{eventsOf, Moment, commits, changes, committedBy, Commit, commitsUnder, replayed, Course, last, then, onward, courseOf, SameChanges, ApartIn, ApartEach, unsigned}
+use Rattle.spec_model.proofs.Carries.{length-carried}
+use Rattle.spec_model.proofs.Choice.{numbers, distinct-numbers, perm-rest}
+use Rattle.spec_model.proofs.Equals.{Sooner, sooner-prop}
+use Rattle.spec_model.proofs.Unsigned.{allUnsigned, same-events, same-numbers, all-unsigned, pairs-unsigned}
+use Rattle.spec_model.proofs.Confluence.{Commute, Declared, confluent}
+use Rattle.spec_model.proofs.Replaying.{Proper}
+
+-- ---- what a course does to a store
+
+unfoldable pub along : Program → Course → List ℕ → List ℕ
+along p (last l) s = play p (eventsOf l) s
+along p (then l q c) s = along q c (carried p q (play p (eventsOf l) s))
+
+along-onward : (p : Program) (a : Arrival) (c : Course) (s : List ℕ) → along p (onward a c) s ≡ along p c (event p (a .event) s)
+unfolding along play
+along-onward p a (last l) s = refl
+along-onward p a (then l q c) s = refl
+
+pub replay-along : (p : Program) (h : List Moment) (s : List ℕ) → replayed p h s ≡ along p (courseOf h) s
+unfolding replayed along courseOf play
+replay-along p [] s = refl
+replay-along p (commits a ∷ h) s = replay-along p h (event p (a .event) s) ∙ sym (along-onward p a (courseOf h) s)
+replay-along p (changes q ∷ h) s = replay-along q h (carried p q s)
+
+-- ---- the arrivals of a course: under its first sheet, and all
+
+abbrev firsts : Course → List Arrival
+firsts (last l) = l
+firsts (then l q c) = l
+
+abbrev pub allOf : Course → List Arrival
+allOf (last l) = l
+allOf (then l q c) = l ++ allOf c
+
+all-onward : (a : Arrival) (c : Course) → allOf (onward a c) ≡ a ∷ allOf c
+all-onward a (last l) = refl
+all-onward a (then l q c) = refl
+
+pub committed-all : (h : List Moment) → committedBy h ≡ allOf (courseOf h)
+unfolding courseOf
+committed-all [] = refl
+committed-all (commits a ∷ h) = ap (λ (l : List Arrival). a ∷ l) (committed-all h) ∙ sym (all-onward a (courseOf h))
+committed-all (changes q ∷ h) = committed-all h
+
+-- ---- under each sheet: in order, declared, valid
+
+abbrev pub Orderly : Program → Course → Type 0
+Orderly p (last l) = Pairwise (Sooner p) l
+Orderly p (then l q c) = Pairwise (Sooner p) l × Orderly q c
+
+abbrev pub Known : Program → Course → Type 0
+Known p (last l) = Valid p × All (Declared p) l
+Known p (then l q c) = Valid p × All (Declared p) l × Known q c
+
+sooner-cons : (p : Program) (a : Arrival) (l : List Arrival) → All (Sooner p a) l → Pairwise (Sooner p) l → Pairwise (Sooner p) (a ∷ l)
+sooner-cons p a l h k = Pairwise·cons (λ x m. all-mem (Sooner p a) (sooner-prop p a) l h x m) k
+
+orderly-onward : (p : Program) (a : Arrival) (c : Course) → All (Sooner p a) (firsts c) → Orderly p c → Orderly p (onward a c)
+orderly-onward p a (last l) h k = sooner-cons p a l h k
+orderly-onward p a (then l q c) h k = (sooner-cons p a l h (k .0), k .1)
+
+firsts-onward : (P : Arrival → Type 0) (a : Arrival) (c : Course) → P a → All P (firsts c) → All P (firsts (onward a c))
+firsts-onward P a (last l) h k = (h, k)
+firsts-onward P a (then l q c) h k = (h, k)
+
+all-firsts : (P : Arrival → Type 0) (p : Program) (h : List Moment) → All (λ (x : Commit). P (x .what)) (commitsUnder p h) → All P (firsts (courseOf h))
+unfolding commitsUnder courseOf
+all-firsts P p [] k = tt
+all-firsts P p (commits a ∷ h) k = firsts-onward P a (courseOf h) (k .0) (all-firsts P p h (k .1))
+all-firsts P p (changes q ∷ h) k = tt
+
+pub orderly : (p : Program) (h : List Moment) → Pairwise (λ (x y : Commit). Sooner (x .under) (x .what) (y .what)) (commitsUnder p h) → Orderly p (courseOf h)
+unfolding commitsUnder courseOf
+orderly p [] k = Pairwise·nil
+orderly p (commits a ∷ h) k =
+    orderly-onward p a (courseOf h) (all-firsts (Sooner p a) p h (all-of-mem (λ (x : Commit). Sooner p a (x .what)) (commitsUnder p h) (pairwise-cons .0 k .0)))
+    (orderly p h (Pairwise·of-cons k))
+orderly p (changes q ∷ h) k = (Pairwise·nil, orderly q h k)
+
+known-onward : (p : Program) (a : Arrival) (c : Course) → a .event < events p → Known p c → Known p (onward a c)
+known-onward p a (last l) h k = (k .0, (h, k .1))
+known-onward p a (then l q c) h k = (k .0, (h, k .1), k .2)
+
+pub known : (p : Program) (h : List Moment) → Valid p → Proper p h → Known p (courseOf h)
+unfolding courseOf
+known p [] v k = (v, tt)
+known p (commits a ∷ h) v k = known-onward p a (courseOf h) (k .0) (known p h v (k .1))
+known p (changes q ∷ h) v k = (v, tt, known q h (k .0) (k .1))
+
+-- ---- what is left of the same arrivals
+
+nodup-right : (l m : List Arrival) → List·Nodup (numbers (l ++ m)) → List·Nodup (numbers m)
+nodup-right [] m h = h
+nodup-right (a ∷ l) m h = nodup-right l m (Pairwise·of-cons h)
+
+-- the same front may go
+front-goes : (l m n : List Arrival) → List·Permᴰ (l ++ m) (l ++ n) → List·Nodup (numbers (l ++ n)) → List·Permᴰ m n
+front-goes [] m n d h = d
+front-goes (a ∷ l) m n d h = front-goes l m n (perm-rest a d h) (Pairwise·of-cons h)
+
+rest-same : (l k m n : List Arrival) → List·Permᴰ l k → List·Permᴰ (l ++ m) (k ++ n) → List·Nodup (numbers (l ++ m)) → List·Permᴰ m n
+rest-same l k m n d e h =
+    let f : List·Permᴰ (l ++ m) (l ++ n) = List·Permᴰ·trans e (Permᴰ·append-right n (Permᴰ·symm d)) in
+    front-goes l m n f (distinct-numbers f h)
+
+unsigned-append : (l m : List Arrival) → allUnsigned (l ++ m) ≡ allUnsigned l ++ allUnsigned m
+unsigned-append [] m = refl
+unsigned-append (a ∷ l) m = ap (λ (x : List Arrival). unsigned a ∷ x) (unsigned-append l m)
+
+-- ---- what is independent commutes, whoever sent it
+
+module _ (p : Program) where
+  pub apart-unsigned : (l : List Arrival) → All (λ a. All (λ b. rank p a ≢ rank p b → Independent p (a .event) (b .event)) l) l
+      → All (λ a. All (λ b. rank p a ≢ rank p b → Independent p (a .event) (b .event)) (allUnsigned l)) (allUnsigned l)
+  apart-unsigned l h =
+      all-unsigned (λ a. All (λ b. rank p a ≢ rank p b → Independent p (a .event) (b .event)) (allUnsigned l)) l
+      (all-imp _ _ (λ a k. all-unsigned (λ b. rank p a ≢ rank p b → Independent p (a .event) (b .event)) l k) l h)
+
+  module _ (commute : (e f : ℕ) → e < events p → f < events p → Independent p e f → (s : List ℕ) → length s ≡ size p
+      → event p e (event p f s) ≡ event p f (event p e s)) where
+    -- what is independent commutes, one with each and each with each
+    one-commutes : (a : Arrival) (l : List Arrival) → Declared p a → All (Declared p) l
+        → All (λ b. rank p a ≢ rank p b → Independent p (a .event) (b .event)) l → All (Commute p a) l
+    one-commutes a [] f g h = tt
+    one-commutes a (b ∷ l) f g h = ((λ r s n. commute (a .event) (b .event) f (g .0) (h .0 r) s n), one-commutes a l f (g .1) (h .1))
+
+    pub each-commutes : (l m : List Arrival) → All (Declared p) l → All (Declared p) m
+        → All (λ a. All (λ b. rank p a ≢ rank p b → Independent p (a .event) (b .event)) m) l → All (λ a. All (Commute p a) m) l
+    each-commutes [] m f g h = tt
+    each-commutes (a ∷ l) m f g h = (one-commutes a m (f .0) g (h .0), each-commutes l m (f .1) g (h .1))
+
+-- ---- under one sheet
+
+numbers-append : (l m : List Arrival) → numbers (l ++ m) ≡ numbers l ++ numbers m
+numbers-append [] m = refl
+numbers-append (a ∷ l) m = ap (λ (x : List ℕ). a .number ∷ x) (numbers-append l m)
+
+nodup-left : (l m : List Arrival) → List·Nodup (numbers (l ++ m)) → List·Nodup (numbers l)
+nodup-left l m h = nodup-append .0 (rw (numbers-append l m) at h) .0
+
+module _ (p : Program) (v : Valid p) where
+  commuting : (e f : ℕ) → e < events p → f < events p → Independent p e f → (s : List ℕ) → length s ≡ size p → event p e (event p f s) ≡ event p f (event p e s)
+  commuting e f d b i s n = commute p v e f (omega arith) (omega arith) i s n
+
+  -- the same commits in two orders
+  one-sheet : (l m : List Arrival) (s : List ℕ) → length s ≡ size p → List·Permᴰ (allUnsigned l) (allUnsigned m) → List·Nodup (numbers l) → All (Declared p) l → ApartIn p l
+      → Pairwise (Sooner p) l → Pairwise (Sooner p) m → play p (eventsOf l) s ≡ play p (eventsOf m) s
+  one-sheet l m s n d h f apart sl sm =
+      let u : List Arrival = allUnsigned l in
+      let k : All (Declared p) u = all-unsigned (Declared p) l f in
+      let c : All (λ a. All (Commute p a) u) u = each-commutes p commuting u u k k (apart-unsigned p l apart) in
+      ap (λ (es : List ℕ). play p es s) (sym (same-events l))
+      ∙ confluent p (code-facts p v) u (allUnsigned m) s n d (rw (same-numbers l) h) k c (pairs-unsigned p l sl) (pairs-unsigned p m sm)
+      ∙ ap (λ (es : List ℕ). play p es s) (same-events m)
+
+-- ---- two courses
+
+pub same-course : (p : Program) (c d : Course) (s : List ℕ) → length s ≡ size p → SameChanges c d → List·Permᴰ (allUnsigned (allOf c)) (allUnsigned (allOf d))
+    → List·Nodup (numbers (allOf c)) → Known p c → ApartEach p c → Orderly p c → Orderly p d → along p c s ≡ along p d s
+unfolding along
+same-course p (last l) (last m) s n h e z k a oc od = one-sheet p (k .0) l m s n e z (k .1) a oc od
+same-course p (last l) (then m r d) s n h e z k a oc od = absurd h
+same-course p (then l q c) (last m) s n h e z k a oc od = absurd h
+same-course p (then l q c) (then m r d) s n h e z k a oc od =
+    let first : play p (eventsOf l) s ≡ play p (eventsOf m) s = one-sheet p (k .0) l m s n (h .0) (nodup-left l (allOf c) z) (k .1) (a .0) (oc .0) (od .0) in
+    let w : List·Permᴰ (allUnsigned l ++ allUnsigned (allOf c)) (allUnsigned m ++ allUnsigned (allOf d)) = rw (← unsigned-append l (allOf c), ← unsigned-append m (allOf d)) e in
+    let y : List·Nodup (numbers (allUnsigned l ++ allUnsigned (allOf c))) = rw (← unsigned-append l (allOf c), same-numbers (l ++ allOf c)) z in
+    let left : List·Permᴰ (allUnsigned (allOf c)) (allUnsigned (allOf d)) = rest-same (allUnsigned l) (allUnsigned m) (allUnsigned (allOf c)) (allUnsigned (allOf d)) (h .0) w y in
+    same-course q c d (carried p q (play p (eventsOf l) s)) (length-carried p q (play p (eventsOf l) s)) (h .2) left (nodup-right l (allOf c) z) (k .2) (a .1) (oc .1)
+    (subst (λ (x : Program). Orderly x d) (sym (h .1)) (od .1))
+    ∙ ap (λ (x : List ℕ). along q d (carried p q x)) first
+    ∙ ap (λ (x : Program). along x d (carried p x (play p (eventsOf m) s))) (h .1)

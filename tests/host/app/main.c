@@ -1,0 +1,225 @@
+/* A match of two players, played in frames of a few steps: rights, a look ahead, a bonus sheet that joins in mid-round,
+ * a save and a load, a mended sheet, and an audit. Prints what happens. */
+#include <stdio.h>
+#include <stdlib.h>
+
+#include "match.h"
+
+#define BUDGET 10u /* steps of a frame */
+enum { TURN = 0, BONUS = 1, TURN_SCORE = 0, STREAK = 1, SECRET = 2, PURSE = 3 };
+
+static const uint8_t no_params[ENGINE_PARAMS] = {0};
+
+static void stop_if(uint32_t refusal, const char *what)
+{
+    if (refusal) {
+        printf("%s: %s\n", what, match_word(refusal));
+        exit(1);
+    }
+}
+
+/* Who sent it is kept with an arrival, so a commit can be shown as the player's. Only the host is told that it ran
+ * over: to the other phones goes engine_told(answer). */
+static void committed(void *app, uint64_t answer)
+{
+    unsigned *commits = (unsigned *)app;
+
+    (*commits)++;
+    printf("    commit of arrival %u: event %u of player %u%s\n", (unsigned)engine_step_arrival(answer),
+           (unsigned)engine_step_event(answer), (unsigned)engine_step_player(answer),
+           engine_step_over(answer) ? ", which ran over" : "");
+}
+
+/* Frames until nothing is left to do. */
+static void settle(struct match *m)
+{
+    unsigned frames = 0, commits = 0;
+    int idle;
+
+    do {
+        stop_if(match_frame(m, BUDGET, committed, &commits, &idle), "frame");
+        frames++;
+    } while (!idle);
+    printf("    idle after %u frames, %u commits\n", frames, commits);
+}
+
+static void send(struct match *m, uint32_t event, uint32_t player)
+{
+    uint32_t refusal = match_send(m, event, player);
+
+    printf("player %u sends event %u: %s\n", (unsigned)player, (unsigned)event, match_word(refusal));
+}
+
+/* Each player's screen: what it may not see is left out. */
+static void show(struct match *m, uint32_t players)
+{
+    uint32_t behaviours = engine_count_value(engine_behaviour_count(m->table, sizeof m->table)), player, i;
+
+    for (player = 1; player <= players; player++) {
+        printf("    player %u sees", (unsigned)player);
+        for (i = 0; i < behaviours; i++) {
+            int32_t value;
+            uint32_t refusal = match_read(m, i, player, &value);
+
+            if (refusal == 0)
+                printf(" b%u = %d", (unsigned)i, (int)value);
+            else if (refusal != ENGINE_NO_RIGHT)
+                printf(" b%u: %s", (unsigned)i, match_word(refusal));
+        }
+        putchar('\n');
+    }
+}
+
+/* What a move would lead to, shown while the pointer rests on it. */
+static void hover(const struct match *m, uint32_t event, uint32_t behaviour, uint32_t player)
+{
+    uint64_t a = engine_preview(m->table, sizeof m->table, m->round, sizeof m->round, event, behaviour, player);
+
+    if (engine_board_refused(a))
+        printf("player %u may not try event %u on b%u: %s\n", (unsigned)player, (unsigned)event, (unsigned)behaviour,
+               engine_refusal_word(engine_board_refusal(a)));
+    else
+        printf("player %u tries event %u: b%u would be %d\n", (unsigned)player, (unsigned)event, (unsigned)behaviour,
+               (int)engine_board_value(a));
+}
+
+static void plan(const struct match *m)
+{
+    uint64_t f = engine_forecast(m->table, sizeof m->table, m->round, sizeof m->round);
+
+    if (!engine_forecast_refused(f))
+        printf("    %u steps to idle\n", (unsigned)engine_forecast_steps(f));
+}
+
+/* The day's puzzle: sheet S of the scope with rights, and a product that only player 1 sees. */
+static void puzzle(struct sheet *s)
+{
+    static const struct handler score[] = {{TURN, 0, "b0 + b1"}};
+    static const struct handler streak[] = {{TURN, 1, "b0 - b1"}, {BONUS, 0, "1"}};
+
+    sheet_begin(s);
+    sheet_event(s, 1, EVERYBODY);
+    sheet_event(s, 2, PLAYER(1));
+    sheet_active(s, 1, score, 1, EVERYBODY);
+    sheet_active(s, 1, streak, 2, EVERYBODY);
+    sheet_passive(s, "b0 * b1", PLAYER(1));
+}
+
+/* The league's bonus, of the same two events: a purse that the bonus event doubles, or squares by mistake. */
+static void league(struct sheet *s, const char *formula)
+{
+    struct handler purse;
+
+    purse.event = BONUS;
+    purse.later = 0;
+    purse.formula = formula;
+    sheet_begin(s);
+    sheet_event(s, 1, EVERYBODY);
+    sheet_event(s, 2, EVERYBODY);
+    sheet_active(s, 1000, &purse, 1, EVERYBODY);
+}
+
+/* Both in one sheet; parameters would be lent as to compile. */
+static void joined(struct sheet *both, const struct sheet *a, const struct sheet *b)
+{
+    uint64_t n = engine_join(a->bytes, a->len, b->bytes, b->len, no_params, sizeof no_params, both->bytes,
+                             sizeof both->bytes);
+
+    both->refusal = engine_join_refusal(n);
+    both->len = engine_join_refused(n) ? 0 : engine_join_length(n);
+}
+
+static void describe(const struct match *m)
+{
+    uint32_t events = engine_count_value(engine_event_count(m->table, sizeof m->table)), e;
+
+    printf("interface %u, layout %u; %u events of rank", (unsigned)engine_version_interface(engine_version()),
+           (unsigned)engine_version_layout(engine_version()), (unsigned)events);
+    for (e = 0; e < events; e++)
+        printf(" %u", (unsigned)engine_count_value(engine_event_rank(m->table, sizeof m->table, e)));
+    putchar('\n');
+}
+
+/* Before a sheet is played: whether the phones will agree, and whether player 2 can learn of what it may not see. */
+static void judge(const struct sheet *s)
+{
+    uint64_t a = engine_agree(s->bytes, s->len, no_params, sizeof no_params);
+    uint64_t l = engine_leak(s->bytes, s->len, no_params, sizeof no_params, 2);
+
+    if (engine_agree_number(a) == ENGINE_DEPENDENT)
+        printf("phones may disagree: events %u and %u differ in rank and share b%u\n", (unsigned)engine_agree_first(a),
+               (unsigned)engine_agree_second(a), (unsigned)engine_agree_behaviour(a));
+    if (engine_leak_number(l) == 0)
+        printf("nothing that is hidden from player 2 leaks to it\n");
+}
+
+/* Saved while an event runs, closed, and gone on with. */
+static void save_and_load(struct match *m, const char *path)
+{
+    unsigned commits = 0;
+    int idle;
+
+    stop_if(match_frame(m, 3, committed, &commits, &idle), "frame");
+    stop_if(match_save(m, path), "save");
+    match_close(m);
+    stop_if(match_load(m, path), "load");
+    printf("saved in mid-event, and loaded\n");
+    settle(m);
+}
+
+/* The record is played again; then one answer in it is changed, as a cheat would. */
+static void settle_dispute(struct match *m)
+{
+    uint8_t *byte = m->asked.bytes + m->asked.len - 1;
+
+    printf("audit: %s\n", match_word(match_audit(m)));
+    *byte ^= 1;
+    printf("audit of a changed record: %s\n", match_word(match_audit(m)));
+    *byte ^= 1;
+}
+
+int main(int argc, char **argv)
+{
+    static struct match m;
+    static struct sheet day, bonus, both;
+    const char *save = argc > 1 ? argv[1] : "match.save", *rounds = argc > 2 ? argv[2] : "match.rounds";
+
+    puzzle(&day);
+    stop_if(match_open(&m, &day, no_params), "the day's puzzle");
+    describe(&m);
+    judge(&day);
+    send(&m, TURN, 2);
+    send(&m, BONUS, 2);
+    send(&m, BONUS, 1);
+    plan(&m);
+    settle(&m);
+    show(&m, 2);
+    hover(&m, TURN, TURN_SCORE, 2);
+    hover(&m, TURN, SECRET, 2);
+
+    league(&bonus, "b0 * b0");
+    joined(&both, &day, &bonus);
+    send(&m, TURN, 1);
+    stop_if(match_mend(&m, &both, no_params), "joining the league");
+    printf("the league's bonus joins in\n");
+    send(&m, BONUS, 1);
+    sheet_begin(&bonus);
+    sheet_event(&bonus, 1, EVERYBODY);
+    printf("a sheet without the event in hand: %s\n", match_word(match_mend(&m, &bonus, no_params)));
+    save_and_load(&m, save);
+    send(&m, BONUS, 1);
+    settle(&m);
+    show(&m, 2);
+
+    league(&bonus, "b0 + b0");
+    joined(&both, &day, &bonus);
+    stop_if(match_mend(&m, &both, no_params), "mending the bonus");
+    printf("the bonus is mended\n");
+    send(&m, BONUS, 1);
+    settle(&m);
+    show(&m, 2);
+    settle_dispute(&m);
+    stop_if(match_export(&m, "final, table 3", rounds), "export");
+    match_close(&m);
+    return 0;
+}

@@ -1,0 +1,425 @@
+#include "match.h"
+
+#include <stdio.h>
+#include <stdlib.h>
+#include <string.h>
+
+#define COMMITS 64u /* told of in one frame call; further ones come with the next */
+
+const char *match_word(uint32_t number)
+{
+    switch (number) {
+    case MATCH_NO_MEMORY: return "no memory";
+    case MATCH_FILE: return "the file is not read or written";
+    case MATCH_OTHER_VERSION: return "saved by another version";
+    case MATCH_DIFFERS: return "the record comes to something else";
+    default: return engine_refusal_word(number);
+    }
+}
+
+/* ---- bytes */
+
+/* Appends a big-endian number of so many bytes; 0 where there is no memory. */
+static int put(struct log *l, uint64_t number, size_t bytes)
+{
+    if (l->room - l->len < bytes) {
+        size_t room = 2 * l->room + 64;
+        uint8_t *grown = (uint8_t *)realloc(l->bytes, room);
+
+        if (!grown)
+            return 0;
+        l->bytes = grown;
+        l->room = room;
+    }
+    while (bytes-- > 0)
+        l->bytes[l->len++] = (uint8_t)(number >> 8 * bytes);
+    return 1;
+}
+
+static int put_all(struct log *l, const uint8_t *bytes, size_t n)
+{
+    size_t i;
+
+    for (i = 0; i < n; i++)
+        if (!put(l, bytes[i], 1))
+            return 0;
+    return 1;
+}
+
+/* What is left to be read. */
+struct reader {
+    const uint8_t *at;
+    size_t left;
+    int torn; /* more was asked for than there is */
+};
+
+static const uint8_t *take(struct reader *r, size_t n)
+{
+    const uint8_t *at = r->at;
+
+    if (n > r->left) {
+        r->torn = 1;
+        return NULL;
+    }
+    r->at += n;
+    r->left -= n;
+    return at;
+}
+
+static uint64_t get(struct reader *r, size_t bytes)
+{
+    const uint8_t *at = take(r, bytes);
+    uint64_t number = 0;
+
+    while (at && bytes-- > 0)
+        number = number << 8 | *at++;
+    return number;
+}
+
+/* ---- the record: a call's kind, what it was asked with, its answer */
+
+enum { ASKED_ARRIVE = 0, ASKED_BOARD = 2, ASKED_MEND = 5, ASKED_FRAME = 6 };
+
+/* An arrival, a board reading or a frame. */
+static uint32_t record(struct match *m, unsigned kind, uint32_t first, uint32_t second, uint64_t answer)
+{
+    struct log *l = &m->asked;
+    int kept = put(l, kind, 1) && put(l, first, 4) && put(l, second, 4) && put(l, answer, 8);
+
+    return kept ? 0 : (uint32_t)MATCH_NO_MEMORY;
+}
+
+static uint32_t record_mend(struct match *m, size_t which, uint32_t answer)
+{
+    struct log *l = &m->asked;
+    int kept = put(l, ASKED_MEND, 1) && put(l, which, 2) && put(l, answer, 8);
+
+    return kept ? 0 : (uint32_t)MATCH_NO_MEMORY;
+}
+
+static uint32_t add_sheet(struct match *m, const struct sheet *sheet, const uint8_t params[ENGINE_PARAMS])
+{
+    struct played *sheets = (struct played *)realloc(m->sheets, (m->count + 1) * sizeof *sheets);
+
+    if (!sheets)
+        return MATCH_NO_MEMORY;
+    m->sheets = sheets;
+    sheets[m->count].sheet = *sheet;
+    memcpy(sheets[m->count].params, params, ENGINE_PARAMS);
+    m->count++;
+    return 0;
+}
+
+/* ---- playing */
+
+static void empty(struct match *m)
+{
+    m->sheets = NULL;
+    m->count = m->in_force = 0;
+    m->asked.bytes = NULL;
+    m->asked.len = m->asked.room = 0;
+}
+
+static uint32_t compiled(const struct sheet *s, const uint8_t params[ENGINE_PARAMS], uint8_t table[ENGINE_TABLE])
+{
+    if (s->refusal)
+        return s->refusal;
+    return engine_compile(s->bytes, s->len, params, ENGINE_PARAMS, table, ENGINE_TABLE);
+}
+
+uint32_t match_open(struct match *m, const struct sheet *sheet, const uint8_t params[ENGINE_PARAMS])
+{
+    uint32_t refusal;
+
+    empty(m);
+    refusal = compiled(sheet, params, m->table);
+    if (refusal == 0)
+        refusal = engine_start(m->table, sizeof m->table, m->round, sizeof m->round);
+    return refusal ? refusal : add_sheet(m, sheet, params);
+}
+
+void match_close(struct match *m)
+{
+    free(m->sheets);
+    free(m->asked.bytes);
+    empty(m);
+}
+
+uint32_t match_send(struct match *m, uint32_t event, uint32_t player)
+{
+    uint32_t answer = engine_arrive(m->table, sizeof m->table, m->round, sizeof m->round, event, player);
+    uint32_t kept = record(m, ASKED_ARRIVE, event, player, answer);
+
+    return answer ? answer : kept;
+}
+
+uint32_t match_read(struct match *m, uint32_t behaviour, uint32_t player, int32_t *value)
+{
+    uint64_t answer = engine_board(m->table, sizeof m->table, m->round, sizeof m->round, behaviour, player);
+    uint32_t kept = record(m, ASKED_BOARD, behaviour, player, answer);
+
+    if (engine_board_refused(answer))
+        return engine_board_refusal(answer);
+    *value = engine_board_value(answer);
+    return kept;
+}
+
+uint32_t match_frame(struct match *m, uint32_t steps, void (*commit)(void *app, uint64_t answer), void *app, int *idle)
+{
+    uint8_t commits[COMMITS * ENGINE_ANSWER];
+    uint32_t kept, k;
+    uint64_t f;
+
+    do {
+        f = engine_frame(m->table, sizeof m->table, m->round, sizeof m->round, steps, commits, sizeof commits);
+        kept = record(m, ASKED_FRAME, steps, COMMITS, f);
+        if (kept == 0 && !put_all(&m->asked, commits, engine_frame_commits(f) * ENGINE_ANSWER))
+            kept = MATCH_NO_MEMORY;
+        for (k = 0; k < engine_frame_commits(f); k++)
+            commit(app, engine_answer_get(commits, k));
+        steps -= engine_frame_steps(f);
+    } while (engine_frame_end(f) == ENGINE_FRAME_FULL && kept == 0);
+    *idle = engine_frame_end(f) == ENGINE_FRAME_IDLE;
+    return engine_frame_end(f) == ENGINE_FRAME_REFUSED ? (uint32_t)ENGINE_FOREIGN : kept;
+}
+
+/* The round goes on under another sheet, if the engine lets it. */
+static uint32_t change(struct match *m, const uint8_t *table)
+{
+    uint32_t refusal = engine_mend(m->table, sizeof m->table, table, ENGINE_TABLE, m->round, sizeof m->round);
+    uint32_t kept = record_mend(m, m->count - 1, refusal);
+
+    if (refusal)
+        return refusal;
+    memcpy(m->table, table, sizeof m->table);
+    m->in_force = m->count - 1;
+    return kept;
+}
+
+uint32_t match_mend(struct match *m, const struct sheet *sheet, const uint8_t params[ENGINE_PARAMS])
+{
+    uint8_t *table = (uint8_t *)malloc(ENGINE_TABLE);
+    uint32_t refusal = table ? compiled(sheet, params, table) : (uint32_t)MATCH_NO_MEMORY;
+
+    if (refusal == 0)
+        refusal = add_sheet(m, sheet, params);
+    if (refusal == 0)
+        refusal = change(m, table);
+    free(table);
+    return refusal;
+}
+
+/* ---- the audit */
+
+struct audit {
+    const struct match *m;
+    struct reader asked;
+    uint8_t table[ENGINE_TABLE], other[ENGINE_TABLE], round[ENGINE_ROUND];
+};
+
+/* A frame's commits must be those that stand behind its answer. */
+static int same_frame(struct audit *a, uint32_t steps, uint32_t room, uint64_t answer)
+{
+    uint8_t commits[COMMITS * ENGINE_ANSWER];
+    size_t n = engine_frame_commits(answer) * ENGINE_ANSWER;
+    const uint8_t *told = take(&a->asked, n);
+
+    return room == COMMITS && told && n <= sizeof commits
+        && engine_frame(a->table, sizeof a->table, a->round, sizeof a->round, steps, commits, sizeof commits) == answer
+        && memcmp(told, commits, n) == 0;
+}
+
+static int same_mend(struct audit *a, size_t which, uint64_t answer)
+{
+    const struct played *p = a->m->sheets + which;
+
+    if (which >= a->m->count || compiled(&p->sheet, p->params, a->other) != 0
+        || engine_mend(a->table, sizeof a->table, a->other, sizeof a->other, a->round, sizeof a->round) != answer)
+        return 0;
+    if (answer == 0)
+        memcpy(a->table, a->other, sizeof a->table);
+    return 1;
+}
+
+/* Asks the next call of the record again. */
+static int same_call(struct audit *a)
+{
+    uint64_t kind = get(&a->asked, 1), first = get(&a->asked, kind == ASKED_MEND ? 2 : 4);
+    uint32_t number = (uint32_t)first, player = kind == ASKED_MEND ? 0 : (uint32_t)get(&a->asked, 4);
+    uint64_t answer = get(&a->asked, 8);
+
+    if (a->asked.torn)
+        return 0;
+    switch (kind) {
+    case ASKED_ARRIVE:
+        return engine_arrive(a->table, sizeof a->table, a->round, sizeof a->round, number, player) == answer;
+    case ASKED_BOARD:
+        return engine_board(a->table, sizeof a->table, a->round, sizeof a->round, number, player) == answer;
+    case ASKED_FRAME: return same_frame(a, number, player, answer);
+    case ASKED_MEND: return same_mend(a, number, answer);
+    default: return 0;
+    }
+}
+
+uint32_t match_audit(const struct match *m)
+{
+    struct audit *a = (struct audit *)malloc(sizeof *a);
+    uint32_t result = MATCH_NO_MEMORY;
+
+    if (a) {
+        a->m = m;
+        a->asked.at = m->asked.bytes;
+        a->asked.left = m->asked.len;
+        a->asked.torn = 0;
+        result = compiled(&m->sheets[0].sheet, m->sheets[0].params, a->table);
+        if (result == 0)
+            result = engine_start(a->table, sizeof a->table, a->round, sizeof a->round);
+        while (result == 0 && a->asked.left > 0)
+            if (!same_call(a))
+                result = MATCH_DIFFERS;
+        if (result == 0 && (memcmp(a->round, m->round, sizeof m->round) || memcmp(a->table, m->table, sizeof m->table)))
+            result = MATCH_DIFFERS;
+    }
+    free(a);
+    return result;
+}
+
+/* ---- files */
+
+#define VERSION (ENGINE_VERSION << 16 | ENGINE_LAYOUT)
+
+/* The sheets and the calls, as the league's format has them. */
+static int put_record(struct log *l, const struct match *m)
+{
+    size_t k;
+    int ok = put(l, m->count, 2);
+
+    for (k = 0; k < m->count && ok; k++) {
+        const struct played *p = m->sheets + k;
+
+        ok = put(l, 1, 1) && put_all(l, p->params, sizeof p->params) && put(l, p->sheet.len, 4)
+            && put_all(l, p->sheet.bytes, p->sheet.len);
+    }
+    return ok && put_all(l, m->asked.bytes, m->asked.len);
+}
+
+static uint32_t write_file(const char *path, const struct log *l)
+{
+    FILE *f = fopen(path, "wb");
+    int ok = f && fwrite(l->bytes, 1, l->len, f) == l->len;
+
+    if (f && fclose(f) != 0)
+        ok = 0;
+    return ok ? 0 : (uint32_t)MATCH_FILE;
+}
+
+/* The app's own file: a version, the round, which sheet is in force, the record. */
+uint32_t match_save(const struct match *m, const char *path)
+{
+    struct log l = {NULL, 0, 0};
+    uint32_t result = MATCH_NO_MEMORY;
+
+    if (put(&l, VERSION, 4) && put_all(&l, m->round, sizeof m->round) && put(&l, m->in_force, 2) && put_record(&l, m))
+        result = write_file(path, &l);
+    free(l.bytes);
+    return result;
+}
+
+static int get_sheet(struct reader *r, struct match *m)
+{
+    struct sheet s;
+    const uint8_t *params, *bytes;
+
+    sheet_begin(&s);
+    if (get(r, 1) != 1)
+        return 0;
+    params = take(r, ENGINE_PARAMS);
+    s.len = (size_t)get(r, 4);
+    if (!params || s.len > sizeof s.bytes || !(bytes = take(r, s.len)))
+        return 0;
+    memcpy(s.bytes, bytes, s.len);
+    return add_sheet(m, &s, params) == 0;
+}
+
+/* The match in a file's bytes, with the table of the sheet in force. */
+static uint32_t parse(struct reader *r, struct match *m)
+{
+    uint64_t version = get(r, 4), count;
+    const uint8_t *round = take(r, ENGINE_ROUND);
+    const struct played *p;
+
+    if (!round || version != VERSION)
+        return round ? (uint32_t)MATCH_OTHER_VERSION : (uint32_t)MATCH_FILE;
+    memcpy(m->round, round, ENGINE_ROUND);
+    m->in_force = (size_t)get(r, 2);
+    for (count = get(r, 2); count > 0; count--)
+        if (!get_sheet(r, m))
+            return MATCH_FILE;
+    if (m->in_force >= m->count || !put_all(&m->asked, r->at, r->left))
+        return MATCH_FILE;
+    p = m->sheets + m->in_force;
+    return compiled(&p->sheet, p->params, m->table);
+}
+
+static uint8_t *read_file(const char *path, size_t *n)
+{
+    FILE *f = fopen(path, "rb");
+    uint8_t *bytes = NULL;
+    long size = -1;
+
+    if (f && fseek(f, 0, SEEK_END) == 0 && (size = ftell(f)) > 0 && fseek(f, 0, SEEK_SET) == 0)
+        bytes = (uint8_t *)malloc((size_t)size);
+    if (bytes && fread(bytes, 1, (size_t)size, f) != (size_t)size) {
+        free(bytes);
+        bytes = NULL;
+    }
+    if (f)
+        fclose(f);
+    *n = bytes ? (size_t)size : 0;
+    return bytes;
+}
+
+/* Anybody may have changed the file, so what it says is held to its record. */
+uint32_t match_load(struct match *m, const char *path)
+{
+    struct reader r = {NULL, 0, 0};
+    uint8_t *bytes = read_file(path, &r.left);
+    uint32_t result = MATCH_FILE;
+
+    empty(m);
+    if (bytes) {
+        r.at = bytes;
+        result = parse(&r, m);
+    }
+    free(bytes);
+    return result ? result : match_audit(m);
+}
+
+/* CRC-32 as zip and PNG have it. */
+static uint32_t sum(const uint8_t *bytes, size_t n)
+{
+    uint32_t s = 0xFFFFFFFF;
+    int bit;
+
+    while (n-- > 0)
+        for (s ^= *bytes++, bit = 0; bit < 8; bit++)
+            s = s >> 1 ^ (s & 1 ? 0xEDB88320 : 0);
+    return ~s;
+}
+
+uint32_t match_export(const struct match *m, const char *name, const char *path)
+{
+    static const char top[] = "engine rounds 1\n";
+    struct log l = {NULL, 0, 0}, body = {NULL, 0, 0};
+    size_t n = strlen(name);
+    uint32_t result = MATCH_NO_MEMORY;
+
+    if (put(&body, VERSION, 4) && put(&body, n, 2) && put_all(&body, (const uint8_t *)name, n) && put_record(&body, m)
+        && put_all(&l, (const uint8_t *)top, sizeof top - 1) && put(&l, 0xF5524E44, 4) && put(&l, body.len, 4)
+        && put(&l, sum(body.bytes, body.len), 4) && put(&l, sum(l.bytes + sizeof top - 1, 12), 4)
+        && put_all(&l, body.bytes, body.len))
+        result = write_file(path, &l);
+    free(l.bytes);
+    free(body.bytes);
+    return result;
+}

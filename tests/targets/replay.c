@@ -1,0 +1,403 @@
+/* Replays a record of calls: replay FILE [STACKS]. Every answer, every sum of a written buffer and all bytes kept in
+ * the record must come out again. tests/second/src/record.rs writes the record and says how it is laid out. STACKS has
+ * lines `NAME KB`: then each kind of call runs on a stack of its own of so many KB, below which no byte can be touched,
+ * and the most bytes that it left a mark in are printed. */
+#define _DEFAULT_SOURCE
+#define _XOPEN_SOURCE 600
+#include <signal.h>
+#include <stdarg.h>
+#include <stdio.h>
+#include <stdlib.h>
+#include <string.h>
+#include <sys/mman.h>
+#include <ucontext.h>
+#include <unistd.h>
+
+#include "engine.h"
+
+#define SLOTS 16
+#define GUARD 64
+#define MARK 0xA5
+#define MOST 8 /* buffers of a call */
+
+/* A buffer between guards, at an odd address in every second slot: no call needs any alignment. */
+static struct slot {
+    uint8_t *room, *bytes;
+    size_t len;
+} slots[SLOTS];
+
+struct lent {
+    uint8_t *at;
+    size_t len;
+};
+
+/* One for each call: the buffers and the numbers in their order. */
+typedef uint64_t maker(const struct lent *b, const uint64_t *n);
+#define BUFFER(k) b[k].at, b[k].len
+#define NUMBER(k) (uint32_t)n[k]
+#define CALL(name, ...) \
+    static uint64_t make_##name(const struct lent *b, const uint64_t *n) \
+    { \
+        (void)b, (void)n; \
+        return engine_##name(__VA_ARGS__); \
+    }
+CALL(compile, BUFFER(0), BUFFER(1), BUFFER(2))
+CALL(circle, BUFFER(0), BUFFER(1), BUFFER(2))
+CALL(start, BUFFER(0), BUFFER(1))
+CALL(arrive, BUFFER(0), BUFFER(1), NUMBER(0), NUMBER(1))
+CALL(step, BUFFER(0), BUFFER(1))
+CALL(told, n[0])
+CALL(board, BUFFER(0), BUFFER(1), NUMBER(0), NUMBER(1))
+CALL(forecast, BUFFER(0), BUFFER(1))
+CALL(preview, BUFFER(0), BUFFER(1), NUMBER(0), NUMBER(1), NUMBER(2))
+CALL(mend, BUFFER(0), BUFFER(1), BUFFER(2))
+CALL(formula, BUFFER(0), BUFFER(1))
+CALL(join, BUFFER(0), BUFFER(1), BUFFER(2), BUFFER(3))
+CALL(replay, BUFFER(0), BUFFER(1), BUFFER(2), BUFFER(3))
+CALL(event_count, BUFFER(0))
+CALL(behaviour_count, BUFFER(0))
+CALL(event_rank, BUFFER(0), NUMBER(0))
+CALL(frame, BUFFER(0), BUFFER(1), NUMBER(0), BUFFER(2))
+CALL(agree, BUFFER(0), BUFFER(1))
+CALL(leak, BUFFER(0), BUFFER(1), NUMBER(0))
+
+static uint64_t make_version(const struct lent *b, const uint64_t *n)
+{
+    (void)b, (void)n;
+    return engine_version();
+}
+
+static const struct {
+    const char *name;
+    maker *make;
+} makers[] = {
+    {"compile", make_compile}, {"circle", make_circle}, {"start", make_start}, {"arrive", make_arrive},
+    {"step", make_step}, {"told", make_told}, {"board", make_board}, {"forecast", make_forecast},
+    {"preview", make_preview}, {"mend", make_mend}, {"formula", make_formula}, {"join", make_join},
+    {"replay", make_replay}, {"version", make_version}, {"event_count", make_event_count},
+    {"behaviour_count", make_behaviour_count}, {"event_rank", make_event_rank}, {"frame", make_frame},
+    {"agree", make_agree}, {"leak", make_leak},
+};
+
+static struct call {
+    char name[32], takes[16];
+    maker *make;
+    uint8_t *stack; /* painted, where stacks are measured */
+    size_t room;
+} calls[64];
+static size_t known;
+static uint64_t made;
+static int measured;
+
+static const uint8_t *at, *end;
+
+static void fail(const char *format, ...)
+{
+    va_list words;
+
+    va_start(words, format);
+    fprintf(stderr, "call %llu: ", (unsigned long long)made);
+    vfprintf(stderr, format, words);
+    fputc('\n', stderr);
+    va_end(words);
+    exit(1);
+}
+
+static const uint8_t *take(size_t n)
+{
+    const uint8_t *here = at;
+
+    if ((size_t)(end - at) < n)
+        fail("the record is torn");
+    at += n;
+    return here;
+}
+
+static uint64_t number(size_t bytes)
+{
+    const uint8_t *here = take(bytes);
+    uint64_t n = 0;
+
+    while (bytes-- > 0)
+        n = n << 8 | *here++;
+    return n;
+}
+
+static struct slot *slot(void)
+{
+    uint64_t k = number(1);
+
+    if (k >= SLOTS)
+        fail("slot %u", (unsigned)k);
+    return slots + k;
+}
+
+static uint32_t sum(const uint8_t *bytes, size_t n)
+{
+    uint32_t s = 0x811C9DC5;
+
+    while (n-- > 0)
+        s = (s ^ *bytes++) * 0x01000193;
+    return s;
+}
+
+static void check_guards(const struct slot *s)
+{
+    size_t i;
+
+    for (i = 0; s->room && i < GUARD; i++)
+        if (s->bytes[s->len + i] != MARK || s->room[i] != MARK)
+            fail("a byte beside slot %d was changed", (int)(s - slots));
+}
+
+static void resize(struct slot *s, size_t len)
+{
+    check_guards(s);
+    free(s->room);
+    s->room = (uint8_t *)malloc(len + 2 * GUARD + 1);
+    if (!s->room)
+        fail("no memory");
+    memset(s->room, MARK, len + 2 * GUARD + 1);
+    s->bytes = s->room + GUARD + (s - slots) % 2;
+    s->len = len;
+}
+
+/* A word of the list of calls, up to a space or the line's end. */
+static void read_word(char *word, size_t room)
+{
+    size_t n = 0;
+
+    while (n + 1 < room && at < end && *at != ' ' && *at != '\n')
+        word[n++] = (char)*at++;
+    word[n] = 0;
+    take(1);
+}
+
+/* The names and signatures on top of the record. */
+static void read_calls(void)
+{
+    size_t i;
+
+    for (known = 0; at < end && *at != '\n'; known++) {
+        struct call *c = calls + known;
+
+        if (known == sizeof calls / sizeof *calls)
+            fail("too many kinds of calls");
+        read_word(c->name, sizeof c->name);
+        read_word(c->takes, sizeof c->takes);
+        for (i = 0; i < sizeof makers / sizeof *makers; i++)
+            if (strcmp(makers[i].name, c->name) == 0)
+                c->make = makers[i].make;
+        if (!c->make)
+            fail("this program does not know %s", c->name);
+    }
+    take(1);
+}
+
+/* ---- a call on a stack of its own */
+
+#define GUARD_PAGES 65536u
+#define PAINT 0x5C
+
+static ucontext_t back, there;
+static const struct call *on_stack;
+static const struct lent *buffers_of;
+static const uint64_t *numbers_of;
+static uint64_t answered;
+
+/* A stack of so many bytes, and below it pages that cannot be touched. */
+static void give_stack(struct call *c, size_t bytes)
+{
+    uint8_t *room = (uint8_t *)mmap(NULL, bytes + GUARD_PAGES, PROT_NONE, MAP_PRIVATE | MAP_ANONYMOUS, -1, 0);
+
+    if (room == MAP_FAILED || mprotect(room + GUARD_PAGES, bytes, PROT_READ | PROT_WRITE) != 0)
+        fail("no stack of %lu bytes", (unsigned long)bytes);
+    c->stack = room + GUARD_PAGES;
+    c->room = bytes;
+    memset(c->stack, PAINT, bytes);
+}
+
+/* A call ran over its stack: says which, on a stack of the handler's own. */
+static void ran_over(int number)
+{
+    static const char words[] = " takes more stack than it was given\n";
+    const char *name = on_stack ? on_stack->name : "the program";
+    ssize_t n = write(STDERR_FILENO, name, strlen(name));
+
+    n += write(STDERR_FILENO, words, sizeof words - 1);
+    _exit(n < 0 ? number : 1);
+}
+
+static void watch_stacks(void)
+{
+    static uint8_t room[65536];
+    struct sigaction action;
+    stack_t own;
+
+    memset(&own, 0, sizeof own);
+    own.ss_sp = room;
+    own.ss_size = sizeof room;
+    memset(&action, 0, sizeof action);
+    action.sa_handler = ran_over;
+    action.sa_flags = SA_ONSTACK;
+    if (sigaltstack(&own, NULL) != 0 || sigaction(SIGSEGV, &action, NULL) != 0)
+        fail("no handler");
+}
+
+static void read_stacks(const char *path)
+{
+    FILE *file = fopen(path, "r");
+    char name[32];
+    unsigned long kb;
+    size_t k;
+
+    while (file && fscanf(file, "%31s %lu", name, &kb) == 2)
+        for (k = 0; k < known; k++)
+            if (strcmp(calls[k].name, name) == 0)
+                give_stack(calls + k, kb * 1024);
+    if (file)
+        fclose(file);
+    for (k = 0; k < known; k++)
+        if (!calls[k].stack)
+            fail("%s does not say the stack of %s", path, calls[k].name);
+}
+
+static void enter(void)
+{
+    answered = on_stack->make(buffers_of, numbers_of);
+}
+
+static uint64_t make_on_stack(const struct call *c, const struct lent *b, const uint64_t *n)
+{
+    on_stack = c;
+    buffers_of = b;
+    numbers_of = n;
+    getcontext(&there);
+    there.uc_stack.ss_sp = c->stack;
+    there.uc_stack.ss_size = c->room;
+    there.uc_link = &back;
+    makecontext(&there, enter, 0);
+    swapcontext(&back, &there);
+    return answered;
+}
+
+static void print_stacks(void)
+{
+    size_t k, n;
+
+    for (k = 0; k < known; k++) {
+        for (n = 0; n < calls[k].room && calls[k].stack[n] == PAINT; n++)
+            ;
+        printf("%s%s %lu of %lu", k ? ", " : "", calls[k].name, (unsigned long)(calls[k].room - n),
+               (unsigned long)calls[k].room);
+    }
+    putchar('\n');
+}
+
+static void make_one(void)
+{
+    struct lent b[MOST];
+    uint64_t n[MOST], got, want, k = number(1);
+    struct slot *written[MOST];
+    size_t buffers = 0, numbers = 0, writes = 0, i;
+    const char *takes;
+
+    if (k >= known)
+        fail("call of kind %u", (unsigned)k);
+    for (takes = calls[k].takes; *takes; takes++)
+        if (*takes == 'n' || *takes == 'q') {
+            n[numbers++] = number(*takes == 'n' ? 4 : 8);
+        } else {
+            struct slot *s = slot();
+
+            b[buffers].len = (size_t)number(4);
+            if (b[buffers].len > s->len)
+                fail("%s is lent more than there is", calls[k].name);
+            b[buffers].at = b[buffers].len ? s->bytes : NULL;
+            buffers++;
+            if (*takes == 'w')
+                written[writes++] = s;
+        }
+    got = measured ? make_on_stack(calls + k, b, n) : calls[k].make(b, n);
+    want = number(8);
+    if (got != want)
+        fail("%s answers %llu, not %llu", calls[k].name, (unsigned long long)got, (unsigned long long)want);
+    for (i = 0; i < writes; i++)
+        if (sum(written[i]->bytes, written[i]->len) != number(4))
+            fail("%s leaves other bytes in slot %d", calls[k].name, (int)(written[i] - slots));
+    made++;
+}
+
+static void run(void)
+{
+    for (;;) {
+        int op = (int)number(1);
+        struct slot *s;
+        size_t n;
+
+        if (op == 'C') {
+            make_one();
+            continue;
+        }
+        if (op == 'E')
+            break;
+        s = slot();
+        if (op == 'Y') {
+            struct slot *from = slot();
+
+            resize(s, from->len);
+            memcpy(s->bytes, from->bytes, from->len);
+            continue;
+        }
+        n = (size_t)number(4);
+        if (op == 'B') {
+            resize(s, n);
+            memcpy(s->bytes, take(n), n);
+        } else if (op == 'F') {
+            resize(s, n);
+            memset(s->bytes, (int)number(1), n);
+        } else if (op == 'P' && n < s->len) {
+            s->bytes[n] = (uint8_t)number(1);
+        } else if (op == 'K') {
+            check_guards(s);
+            if (n != s->len || memcmp(s->bytes, take(n), n) != 0)
+                fail("other bytes in slot %d", (int)(s - slots));
+        } else {
+            fail("the record is damaged");
+        }
+    }
+    if (number(8) != made || at != end)
+        fail("the record says another number of calls");
+}
+
+int main(int argc, char **argv)
+{
+    FILE *file = argc > 1 ? fopen(argv[1], "rb") : NULL;
+    uint8_t *record;
+    long n;
+
+    if (!file || fseek(file, 0, SEEK_END) || (n = ftell(file)) < 1 || fseek(file, 0, SEEK_SET)) {
+        fprintf(stderr, "replay FILE: no record to read\n");
+        return 2;
+    }
+    record = (uint8_t *)malloc((size_t)n);
+    if (!record || fread(record, 1, (size_t)n, file) != (size_t)n) {
+        fprintf(stderr, "%s is not read\n", argv[1]);
+        return 2;
+    }
+    fclose(file);
+    at = record;
+    end = record + n;
+    measured = argc > 2;
+    read_calls();
+    if (measured) {
+        read_stacks(argv[2]);
+        watch_stacks();
+    }
+    run();
+    if (measured)
+        print_stacks();
+    else
+        printf("%llu calls, every answer and byte as recorded\n", (unsigned long long)made);
+    return 0;
+}

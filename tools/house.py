@@ -1,0 +1,306 @@
+#!/usr/bin/env python3
+"""house: what the gate checks of the sources beside the proofs. Run it in the repository's root.
+
+    tools/house.py              check everything; a line for each fault, and how many there are
+    tools/house.py --planted    show that each check fails on a planted case (on a copy of the sources)
+
+Believed and proved are told apart by place: a file under specs/ holds definitions and statements only. The other
+checks: no public name and no dependency that nothing uses, no edit that changes nothing, no number in the code without
+a name, lines of pages and comments at most 120 columns, every path and name on the pages there.
+"""
+import collections
+import glob
+import os
+import re
+import shutil
+import subprocess
+import sys
+import tempfile
+
+from sources import NAME, files_under, is_theory, module_path, read_crates, read_source, read_theories, without_comment
+
+WIDTH = 120
+PAGES = ["README.md", "CONTRIBUTING.md"]
+
+
+def pages():
+    return [p for p in PAGES if os.path.exists(p)] + sorted(glob.glob("docs/*.md"))
+
+
+def text_of(path):
+    with open(path, encoding="utf8") as file:
+        return file.read()
+
+
+# ---- believed and proved
+
+
+def lemmas_in_specs(theories):
+    for path, source in theories.items():
+        if "/specs/" in path:
+            for d in source.declarations:
+                if d.is_lemma:
+                    yield f"{path}:{d.line}: a lemma in specs/: {d.name}"
+
+
+def lemmas_imported_by_definitions(theories):
+    lemmas = {(p, d.name) for p, s in theories.items() for d in s.declarations if d.is_lemma}
+    for path, source in theories.items():
+        if "/specs/" not in path:
+            continue
+        for module, names in source.imports:
+            target = module_path(module)
+            if target and "/proofs/" in target:
+                yield f"{path}: a definition's file imports from {target}"
+            for name in names:
+                if (target, name) in lemmas:
+                    yield f"{path}: a definition's file imports the lemma {name}"
+
+
+# ---- what nothing uses
+
+
+def words_of(path):
+    comment = r"(^|\s)//.*$" if path.endswith(".rt") else r"(^|\s)--(\s.*|$)"
+    return collections.Counter(re.findall(NAME, re.sub(comment, "", text_of(path), flags=re.M)))
+
+
+def unused_public_names(theories):
+    """A worked example is an end in itself, and so is what the page of claims cites."""
+    words = collections.Counter()
+    for path in files_under("crates", (".antt", ".rt")):
+        words.update(words_of(path))
+    cited = set(re.findall(NAME, text_of("docs/CLAIMS.md").replace("`", " ")))
+    for path, source in theories.items():
+        if path.endswith("Examples.antt"):
+            continue
+        for d in source.declarations:
+            own = re.findall(NAME, "\n".join(d.text)).count(d.name)
+            used = words[d.name] > own or (d.name.strip("_") != d.name and words[d.name.strip("_")])
+            if d.public and not used and d.name not in cited:
+                yield f"{path}:{d.line}: a public name that nothing uses: {d.name}"
+
+
+def unused_functions():
+    code = {p: re.sub(r"//.*", "", text_of(p)) for p in files_under("crates", ".rt")}
+    for path, text in code.items():
+        for found in re.finditer(r"^pub fn (\w+)", text, re.M):
+            call = re.compile(r"\b" + found.group(1) + r"\b")
+            if not any(call.search(t) for p, t in code.items() if p != path):
+                yield f"{path}: a public function that no other file calls: {found.group(1)}"
+
+
+def unused_dependencies():
+    crates, _ = read_crates()
+    for crate, needs in crates.items():
+        text = "\n".join(text_of(p) for p in files_under(f"crates/{crate}", (".antt", ".rt")))
+        for need in needs:
+            if not re.search(rf"Rattle.{need}[.·]|(?<!\w){need}::", text):
+                yield f"crates.txt: {crate} names {need}, which nothing in it uses"
+
+
+# ---- edits
+
+
+def faults_of_edit(path):
+    crate = path.split("/")[-3 if path.startswith("crates/") else -2]
+    file = old = None
+    pairs = 0
+    for line in text_of(path).split("\n"):
+        if line.startswith("file: "):
+            file = f"crates/{crate}/{line[6:].strip()}"
+        elif line.startswith("old: "):
+            old = line[5:]
+        elif line.startswith("new:"):
+            pairs += 1
+            new = line[4:].removeprefix(" ")
+            if file is None or not os.path.exists(file):
+                yield f"{path}: no such file: {file}"
+            elif text_of(file).count(old) != 1:
+                yield f"{path}: its old text stands {text_of(file).count(old)} times in {file}"
+            elif old == new:
+                yield f"{path}: it changes nothing"
+        elif line.strip() and not line.startswith("#"):
+            yield f"{path}: rt reads one line for old and one for new; this one it passes over: {line.strip()[:60]}"
+    if pairs == 0:
+        yield f"{path}: it has no pair of old and new"
+
+
+def faults_of_edits():
+    for path in sorted(glob.glob("crates/*/must-fail/*.edit") + glob.glob("tests/edits/*/*.edit")):
+        yield from faults_of_edit(path)
+
+
+# ---- numbers, widths, names on pages
+
+LITERAL = re.compile(r"(?<![A-Za-z_0-9.])(0x[0-9A-Fa-f]+|\d[\d_]*)(?![A-Za-z_0-9.])")
+LARGEST_BARE = 3
+# an arm of a match that lists a function's values, as the powers of two
+TABLE_ROW = re.compile(r"\s*(\d+|_) => \d+,$")
+
+
+def bare_numbers():
+    for path in files_under("crates", ".rt"):
+        above = ""
+        for number, line in enumerate(text_of(path).split("\n"), 1):
+            code = re.sub(r"b'.'", "", line.split("//")[0])
+            told = "//" in line or above.strip().startswith("//")
+            above = line
+            if re.match(r"\s*((pub )?const|requires|ensures|invariant|decreases|ghost)\b", code) or told or TABLE_ROW.match(code):
+                continue
+            for found in LITERAL.finditer(code):
+                if int(found.group(1).replace("_", ""), 0) > LARGEST_BARE:
+                    yield f"{path}:{number}: a number without a name: {found.group(1)}"
+
+
+def wide_lines():
+    for path in pages():
+        for number, line in enumerate(text_of(path).split("\n"), 1):
+            if len(line) > WIDTH and "://" not in line:
+                yield f"{path}:{number}: {len(line)} columns"
+    for path in files_under("crates", (".antt", ".rt")):
+        for number, line in enumerate(text_of(path).split("\n"), 1):
+            if len(line) > WIDTH and re.match(r"\s*(--|//)", line):
+                yield f"{path}:{number}: a comment of {len(line)} columns"
+
+
+def declared_names(theories):
+    """Every name that a page may cite: declared in a theory, a part of a record, a constructor, a function, an edit."""
+    names = set(read_crates()[0])
+    for path in files_under("crates", ".antt"):
+        if not is_theory(path) and not path.endswith("Proof.antt"):
+            continue
+        source = theories.get(path) or read_source(path)
+        for d in source.declarations:
+            names.add(d.name)
+            if d.kind in ("record", "data"):
+                names.update(re.findall(rf"^\s+(?:pub )?({NAME})(?: {NAME})* :", "\n".join(d.text), re.M))
+    for path in files_under("crates", ".rt"):
+        names.update(re.findall(r"\b(?:fn|const|struct|enum|mod) (\w+)", text_of(path)))
+    names.update(os.path.basename(p)[:-5] for p in glob.glob("crates/*/must-fail/*.edit") + glob.glob("tests/edits/*/*.edit"))
+    return names
+
+
+def unresolved_names(theories):
+    names = declared_names(theories)
+    for page in ("docs/CLAIMS.md", "docs/REVIEW.md", "docs/ARCHITECTURE.md"):
+        if not os.path.exists(page):
+            continue
+        for number, line in enumerate(text_of(page).split("\n"), 1):
+            for cited in re.findall(r"`([^`]+)`", line):
+                yield from (f"{page}:{number}: {fault}" for fault in faults_of_citation(cited, names))
+
+
+# words that a page may cite though no file of the project declares them
+WORDS = {"must-fail", "requires", "ensures", "if", "pick", "s", "ps", "t₀", "l₀", "cs", "N", "NAME"}
+
+
+def faults_of_citation(cited, names):
+    if "NAME" in cited or re.search(r"[\s(){}\[\]=<>|!+*^&\"',]", cited) or cited.startswith((".", "-")):
+        return  # an expression or a command
+    if "/" in cited:
+        places = [cited, "crates/" + cited, "docs/" + cited, "tests/" + cited]
+        places += [p + ".edit" for p in places] + [f"crates/{cited.replace('/', '/must-fail/', 1)}.edit"]
+        places += [f"tests/edits/{cited}.edit"]
+        if not any(glob.glob(p) for p in places):
+            yield f"no such path: {cited}"
+        return
+    if cited.endswith((".antt", ".rt", ".md", ".h", ".txt", ".svg", ".sh", ".py")):
+        if not glob.glob(f"**/{cited}", recursive=True):
+            yield f"no such file: {cited}"
+        return
+    for part in re.split(r"::|\.", cited):
+        if part and part not in names and part not in WORDS and not part[0].isdigit():
+            yield f"no such name: {part}"
+
+
+def crates_without_a_line():
+    page = text_of("docs/ARCHITECTURE.md")
+    for crate in read_crates()[0]:
+        if f"| `{crate}` |" not in page:
+            yield f"docs/ARCHITECTURE.md: no line on crate {crate}"
+
+
+# ---- all of it
+
+
+def all_faults():
+    theories = read_theories()
+    yield from lemmas_in_specs(theories)
+    yield from lemmas_imported_by_definitions(theories)
+    yield from unused_public_names(theories)
+    yield from unused_functions()
+    yield from unused_dependencies()
+    yield from faults_of_edits()
+    yield from bare_numbers()
+    yield from wide_lines()
+    yield from unresolved_names(theories)
+    yield from crates_without_a_line()
+
+
+def check():
+    faults = list(all_faults())
+    for fault in faults:
+        print(fault)
+    print(f"house: {len(faults)} faults")
+    return 1 if faults else 0
+
+
+# ---- planted cases: what a check must find, each in a copy of the sources
+
+PLANTED = [
+    ("a lemma in specs/", "crates/lib_base/specs/Planted.antt", "planted : 0 ≡ 0\nplanted = refl\n"),
+    ("imports from", "crates/lib_base/specs/Planted.antt", "use Rattle.lib_base.proofs.Tools.{by-test}\n"),
+    ("a public name that nothing uses", "crates/lib_base/proofs/Planted.antt", "abbrev pub plantedName : ℕ\nplantedName = 1\n"),
+    ("which nothing in it uses", "crates.txt", None),
+    ("it changes nothing", "crates/lib_word/must-fail/planted.edit", None),
+    ("a number without a name", "crates/lib_word/src/planted.rt", "fn planted() -> u32 {\n    17\n}\n"),
+    ("a comment of", "crates/lib_base/proofs/Planted.antt", "-- " + "wide " * 30 + "\n"),
+    ("no such name", "docs/CLAIMS.md", "\n`plantedNameOfNothing`\n"),
+    ("columns", "docs/CLAIMS.md", "\n" + "wide " * 30 + "\n"),
+]
+
+
+def plant(path, text):
+    if path == "crates.txt":
+        lines = text_of(path).replace("lib_word: ", "lib_word: lib_arith ")
+        lines = lines.replace("lib_arith: lib_base", "lib_arith: lib_base")
+        return lines
+    if path.endswith(".edit"):
+        line = next(l for l in text_of("crates/lib_word/src/lib.rt").split("\n") if l.startswith("//"))
+        return f"file: src/lib.rt\nold: {line}\nnew: {line}\n"
+    old = text_of(path) if os.path.exists(path) else ""
+    return old + text
+
+
+def planted():
+    root, missed = os.getcwd(), 0
+    here = set(all_faults())
+    with tempfile.TemporaryDirectory() as room:
+        for name in ("crates", "docs", "tests/edits", "crates.txt", "README.md", "CONTRIBUTING.md"):
+            if os.path.isdir(name):
+                shutil.copytree(name, os.path.join(room, name))
+            elif os.path.exists(name):
+                shutil.copy(name, os.path.join(room, name))
+        os.chdir(room)
+        for word, path, text in PLANTED:
+            was = text_of(path) if os.path.exists(path) else None
+            content = plant(path, text)
+            os.makedirs(os.path.dirname(path) or ".", exist_ok=True)
+            with open(path, "w", encoding="utf8") as file:
+                file.write(content)
+            found = [f for f in all_faults() if f not in here and word in f]
+            print(f"planted in {path}: " + (found[0] if found else f"NOT FOUND: {word}"))
+            missed += not found
+            if was is None:
+                os.remove(path)
+            else:
+                with open(path, "w", encoding="utf8") as file:
+                    file.write(was)
+        os.chdir(root)
+    print(f"house: {len(PLANTED) - missed} of {len(PLANTED)} planted cases found")
+    return 1 if missed else 0
+
+
+if __name__ == "__main__":
+    sys.exit(planted() if sys.argv[1:] == ["--planted"] else check())
