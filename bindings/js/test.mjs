@@ -34,12 +34,12 @@ class Play {
     run(...events) {
         for (const e of events) {
             engine.arrive(this.table, this.round, e);
-            this.settle();
+            this.playOut();
         }
         return this.board();
     }
 
-    settle() {
+    playOut() {
         while (engine.step(this.table, this.round).kind !== IDLE);
     }
 
@@ -68,7 +68,7 @@ const waits = new Play(S);
 waits.run(0, 0, 0);
 engine.arrive(waits.table, waits.round, 0);
 engine.arrive(waits.table, waits.round, 1);
-waits.settle();
+waits.playOut();
 assert.deepEqual(waits.board(), [6, 5], "event 1 goes first where both wait");
 
 // Events of 17 and 8 instructions, one step more for each start.
@@ -110,7 +110,7 @@ for (let i = 0; i < 6; i++) engine.step(trap.table, trap.round);
 engine.arrive(trap.table, trap.round, 2);
 const broke = engine.step(trap.table, trap.round);
 assert.deepEqual([broke.kind, broke.event, broke.arrival], [BROKE_IN, 2, 2]);
-trap.settle();
+trap.playOut();
 assert.equal(trap.board()[0], 4);
 
 // Players: rights, what is told, a look ahead.

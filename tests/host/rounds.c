@@ -57,7 +57,7 @@ static int frame(int steps)
     return 0;
 }
 
-static void settle(void)
+static void play_out(void)
 {
     while (!frame(5))
         ;
@@ -206,7 +206,7 @@ static void mend_bonus(void)
     expect(engine_compile(S, 4, easy, 0, small, sizeof small) == 0, "a sheet of one event alone");
     load(S, sizeof S);
     take(0);
-    settle();
+    play_out();
     take(1);
     take(0);
     frame(3);
@@ -218,7 +218,7 @@ static void mend_bonus(void)
     memcpy(table, other, sizeof other);
     expect(value(0) == 2 && value(1) == 1, "actives keep their values");
     expect(engine_forecast_steps(engine_forecast(TABLE, ROUND)) == 9 + 18, "both wait again");
-    settle();
+    play_out();
     expect(value(0) == 7 && value(1) == 2, "the new bonus, then event 0");
     take(0);
     while (engine_board(TABLE, ROUND, 0, ENGINE_HOST) != ENGINE_SETTLING)
@@ -237,11 +237,11 @@ static void levels(void)
 
     expect(load_with(level, sizeof level, easy, sizeof easy) == 0, "the easy round");
     take(0);
-    settle();
+    play_out();
     expect(value(0) == 1, "b0 is 1 in the easy round");
     expect(load_with(level, sizeof level, hard, sizeof hard) == 0, "the hard round");
     take(0);
-    settle();
+    play_out();
     expect(value(0) == 5, "b0 is 5 in the hard round");
     expect(load_with(level, sizeof level, hard, sizeof hard - 1) == ENGINE_NO_PARAMETERS, "31 bytes of parameters");
 }
@@ -312,10 +312,10 @@ static void pool_sheets(void)
     expect(both[engine_join_length(a)] == 0, "the bytes behind stay");
     expect(load(both, engine_join_length(a)) == 0, "the joined sheet is accepted");
     take(0);
-    settle();
+    play_out();
     expect(value(0) == 2 && value(1) == 1 && value(2) == 10, "event 0 passes the bonus over");
     take(1);
-    settle();
+    play_out();
     expect(value(1) == 1 && value(2) == 20, "event 1 is shared");
     expect(engine_arrive(TABLE, ROUND, 1, 1) == ENGINE_NO_RIGHT, "player 1 may not send it in the bonus");
     expect(engine_arrive(TABLE, ROUND, 1, 2) == 0, "player 2 may in both");
@@ -438,13 +438,13 @@ int main(void)
     expect(load(S, sizeof S) == 0, "S is accepted");
     for (i = 0; i < 3; i++) {
         take(0);
-        settle();
+        play_out();
         expect(value(0) == want[i][0] && value(1) == want[i][1], "three times event 0");
     }
     take(1);
-    settle();
+    play_out();
     take(0);
-    settle();
+    play_out();
     expect(value(0) == 6 && value(1) == 5, "then 1, 0");
 
     expect(load(equals, sizeof equals) == 0, "the round of equal ranks is accepted");
@@ -453,7 +453,7 @@ int main(void)
     expect(!frame(5), "A runs, past its copies");
     take(2);
     moved = engine_step_kind(engine_step(TABLE, ROUND)) == ENGINE_BROKE_IN;
-    settle();
+    play_out();
     expect(moved, "H breaks in");
     expect(value(0) == 4, "A before B: 4");
 

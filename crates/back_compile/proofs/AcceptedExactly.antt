@@ -27,23 +27,23 @@ use Rattle.spec_grammar.proofs.Programs.{reads-back, reads-only, fault-numbers}
 use Rattle.check_faults.specs.Faults.{known, cyclic}
 use Rattle.check_faults.proofs.CycleDecides.{known-decides, cyclic-decides}
 use Rattle.format_image.specs.Image.{tableOf}
-use Rattle.back_compile.specs.Verdict.{Compiled, compiled, judge, lacks, programOf, judgeRead, compileOn}
+use Rattle.back_compile.specs.Verdict.{Compiled, compiled, judge, lacksParameters, programOf, judgeRead, compileOn}
 use Rattle.back_compile.proofs.JudgeLaws.{judge-unknown, judge-lacking, judge-cycle, judge-long, judge-passes, Verdict, unknown, lacking, circular, long, passed, judge-says, compile-opens, compile-short, compile-long}
 use Rattle.back_compile.specs.Statements.{Given, Fine}
 
 -- ---- what is read and judged
 
 -- the test for 20, and what it stands for
-lacks-says : (ps : List ℕ) (s : Sheet) → lacks s ps ≡ true → (uses s ≡ true) × (length ps < 32)
+lacks-says : (ps : List ℕ) (s : Sheet) → lacksParameters s ps ≡ true → (uses s ≡ true) × (length ps < 32)
 lacks-says ps s h = let q = and-eq-true-iff (uses s) (ltb (length ps) 32) .0 h in (q .0, ltb-true (length ps) 32 (q .1))
 
-lacks-is : (ps : List ℕ) (s : Sheet) → uses s ≡ true → length ps < 32 → lacks s ps ≡ true
+lacks-is : (ps : List ℕ) (s : Sheet) → uses s ≡ true → length ps < 32 → lacksParameters s ps ≡ true
 lacks-is ps s u h = rw (u, lt-ltb (length ps) 32 h)
 
-given-says : (ps : List ℕ) (s : Sheet) → lacks s ps ≡ false → Given ps s
+given-says : (ps : List ℕ) (s : Sheet) → lacksParameters s ps ≡ false → Given ps s
 given-says ps s h u = ltb-false (length ps) 32 (rw u at h)
 
-given-is : (ps : List ℕ) (s : Sheet) → Given ps s → lacks s ps ≡ false
+given-is : (ps : List ℕ) (s : Sheet) → Given ps s → lacksParameters s ps ≡ false
 given-is ps s g = split (uses s) (λ u. rw (u, le-ltb (length ps) 32 (g u))) (λ u. rw u)
 
 -- the checks' answers, and what they stand for
@@ -90,8 +90,8 @@ module _ (s ps t : List ℕ) (bytes : All (λ b. b < 256) s) (room : 34816 ≤ l
   }
 
   module _ (hi : length s ≤ 8192) where
-    judged : (x : Sheet) → readSheet s ≡ got x [] → encode x ≡ s → SheetFits x → (r : Compiled) → judge (programOf ps x) (lacks x ps) t ≡ r
-        → Verdict (programOf ps x) t (lacks x ps) r → Told r
+    judged : (x : Sheet) → readSheet s ≡ got x [] → encode x ≡ s → SheetFits x → (r : Compiled) → judge (programOf ps x) (lacksParameters x ps) t ≡ r
+        → Verdict (programOf ps x) t (lacksParameters x ps) r → Told r
     judged x e q f r j (unknown k) = record {
       at-0 = λ z. absurd (omega arith);
       at-11 = λ z. (x, q, f, λ h. true≢false (sym (known-decides (programOf ps x) .1 h) ∙ k));
@@ -144,7 +144,7 @@ module _ (s ps t : List ℕ) (bytes : All (λ b. b < 256) s) (room : 34816 ≤ l
     read (bad k) e = let h = fault-numbers s k e in other (compiled k t) (omega arith) (omega arith) (omega arith) (omega arith) (omega arith)
     read (got x rest) e =
         let h = reads-only s bytes hi x rest e in
-        judged x (e ∙ ap (got x) (h .2)) (sym (h .0)) (h .1) (judge (programOf ps x) (lacks x ps) t) refl (judge-says (programOf ps x) t (lacks x ps))
+        judged x (e ∙ ap (got x) (h .2)) (sym (h .0)) (h .1) (judge (programOf ps x) (lacksParameters x ps) t) refl (judge-says (programOf ps x) t (lacksParameters x ps))
 
   told : Told (compileOn s ps t)
   told =
@@ -153,7 +153,7 @@ module _ (s ps t : List ℕ) (bytes : All (λ b. b < 256) s) (room : 34816 ≤ l
       (λ l. subst Told (sym (compile-opens s ps t room (omega arith))) (read (omega arith) (readSheet s) refl))
 
   -- a sheet within the grammar is read and judged
-  reaches : (x : Sheet) → encode x ≡ s → SheetFits x → compileOn s ps t ≡ judge (programOf ps x) (lacks x ps) t
+  reaches : (x : Sheet) → encode x ≡ s → SheetFits x → compileOn s ps t ≡ judge (programOf ps x) (lacksParameters x ps) t
   reaches x q f =
       let hi : length s ≤ 8192 = rw q at (f .few-bytes) in
       let e : readSheet s ≡ got x [] = rw q at (reads-back x f) in
@@ -180,7 +180,7 @@ module _ (s ps t : List ℕ) (bytes : All (λ b. b < 256) s) (room : 34816 ≤ l
   eleven = (
     told .at-11,
     λ x q f h. reaches x q f
-        ∙ split (known (programOf ps x)) (λ k. absurd (h (known-decides (programOf ps x) .0 k))) (λ k. judge-unknown (programOf ps x) t (lacks x ps) k),
+        ∙ split (known (programOf ps x)) (λ k. absurd (h (known-decides (programOf ps x) .0 k))) (λ k. judge-unknown (programOf ps x) t (lacksParameters x ps) k),
   )
 
   -- 02, M-103: "20 when the sheet uses a parameter and fewer than 32 bytes are lent, checked after 11"
@@ -218,7 +218,7 @@ module _ (s ps t : List ℕ) (bytes : All (λ b. b < 256) s) (room : 34816 ≤ l
 abbrev Kept : List ℕ → Compiled → Type 0
 Kept t r = r .0 ≢ 0 → r .1 ≡ t
 
-kept-judge : (x : Sheet) (ps t : List ℕ) (r : Compiled) → Verdict (programOf ps x) t (lacks x ps) r → Kept t r
+kept-judge : (x : Sheet) (ps t : List ℕ) (r : Compiled) → Verdict (programOf ps x) t (lacksParameters x ps) r → Kept t r
 kept-judge x ps t r (unknown k) = λ z. refl
 kept-judge x ps t r (lacking k l) = λ z. refl
 kept-judge x ps t r (circular k l c) = λ z. refl
@@ -227,7 +227,7 @@ kept-judge x ps t r (passed k l c h) = λ z. absurd (z refl)
 
 kept-read : (g : Got Sheet) (ps t : List ℕ) → Kept t (judgeRead g ps t)
 kept-read (bad k) ps t = λ z. refl
-kept-read (got x rest) ps t = kept-judge x ps t (judge (programOf ps x) (lacks x ps) t) (judge-says (programOf ps x) t (lacks x ps))
+kept-read (got x rest) ps t = kept-judge x ps t (judge (programOf ps x) (lacksParameters x ps) t) (judge-says (programOf ps x) t (lacksParameters x ps))
 
 pub refused-unchanged : (s ps t : List ℕ) → compileOn s ps t .0 ≢ 0 → compileOn s ps t .1 ≡ t
 refused-unchanged s ps t =
@@ -242,7 +242,7 @@ refused-unchanged s ps t =
 abbrev NotTwo : Compiled → Type 0
 NotTwo r = r .0 ≢ 2
 
-not-two-judge : (x : Sheet) (ps t : List ℕ) (r : Compiled) → Verdict (programOf ps x) t (lacks x ps) r → NotTwo r
+not-two-judge : (x : Sheet) (ps t : List ℕ) (r : Compiled) → Verdict (programOf ps x) t (lacksParameters x ps) r → NotTwo r
 not-two-judge x ps t r (unknown k) = omega arith
 not-two-judge x ps t r (lacking k l) = omega arith
 not-two-judge x ps t r (circular k l c) = omega arith
@@ -251,7 +251,7 @@ not-two-judge x ps t r (passed k l c h) = omega arith
 
 not-two-read : (s ps t : List ℕ) (g : Got Sheet) → readSheet s ≡ g → NotTwo (judgeRead g ps t)
 not-two-read s ps t (bad k) e = let h = fault-numbers s k e in omega arith
-not-two-read s ps t (got x rest) e = not-two-judge x ps t (judge (programOf ps x) (lacks x ps) t) (judge-says (programOf ps x) t (lacks x ps))
+not-two-read s ps t (got x rest) e = not-two-judge x ps t (judge (programOf ps x) (lacksParameters x ps) t) (judge-says (programOf ps x) t (lacksParameters x ps))
 
 pub never-two : (s ps t : List ℕ) → compileOn s ps t .0 ≢ 2
 never-two s ps t =

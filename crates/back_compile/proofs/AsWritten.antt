@@ -19,15 +19,15 @@ use Rattle.spec_language.specs.Reading.{Got, bad, got, readSheet}
 use Rattle.spec_language.proofs.SheetLaws.{fill-same, written-unused, fill-written}
 use Rattle.spec_grammar.proofs.Programs.{reads-back, reads-only}
 use Rattle.spec_grammar.proofs.Faults.{result, sheetFault, sheet-result, fault-written}
-use Rattle.back_compile.specs.Verdict.{judge, lacks, programOf, judgeRead, compileOn}
+use Rattle.back_compile.specs.Verdict.{judge, lacksParameters, programOf, judgeRead, compileOn}
 use Rattle.back_compile.proofs.JudgeLaws.{compile-opens, compile-short, compile-long}
 use Rattle.back_compile.specs.Statements.{AsWritten}
 
 module _ (x : Sheet) (ps : List ℕ) (enough : 32 ≤ length ps) where
-  lent : lacks x ps ≡ false
+  lent : lacksParameters x ps ≡ false
   lent = rw (le-ltb (length ps) 32 enough, and-false)
 
-  written-judged : (qs t : List ℕ) → judge (programOf ps x) (lacks x ps) t ≡ judge (programOf qs (writtenOut (get ps) x)) (lacks (writtenOut (get ps) x) qs) t
+  written-judged : (qs t : List ℕ) → judge (programOf ps x) (lacksParameters x ps) t ≡ judge (programOf qs (writtenOut (get ps) x)) (lacksParameters (writtenOut (get ps) x) qs) t
   written-judged qs t = rw (lent, written-unused (get ps) (get qs) x) (ap (λ (p : Program). judge p false t) (sym (fill-written (get ps) (get qs) x)))
 
   -- the same fault, or both are judged

@@ -14,9 +14,9 @@ use Rattle.spec_language.specs.Sheet.{Term, literal, variable, param, apply1, a
 use Rattle.spec_language.specs.Sheet.{fillTerm, fillClauses, fillItem, fillEntries, fill, uses}
 use Rattle.spec_language.proofs.SheetLaws.{length-fill, fill-unused}
 use Rattle.check_faults.specs.Faults.{knownIn, knownHandlers, knownBehaviour, knownBehaviours, known}
-use Rattle.front_params.specs.Filling.{valueOf, fillTo, lacksParam}
+use Rattle.front_params.specs.Filling.{parameterValue, fillTo, lacksParam}
 use Rattle.front_params.proofs.Fills.{draft-filled, filled-program, draft-lacks}
-use Rattle.back_compile.specs.Verdict.{judge, lacks}
+use Rattle.back_compile.specs.Verdict.{judge, lacksParameters}
 use Rattle.back_compile.specs.Judged.{Judged, SheetJudged}
 
 module _ (v w : ℕ → ℕ) (n : ℕ) where
@@ -51,16 +51,16 @@ known-fill v w s =
     rw (length-fill v out, length-fill w out) (entries-known v w (length out) out)
 
 -- the values that the code fills in are those lent, wherever they matter
-filled-judged : (s : Sheet) (ps t : List ℕ) → judge (fill (valueOf ps) s) (lacks s ps) t ≡ judge (fill (get ps) s) (lacks s ps) t
-unfolding judge valueOf
+filled-judged : (s : Sheet) (ps t : List ℕ) → judge (fill (parameterValue ps) s) (lacksParameters s ps) t ≡ judge (fill (get ps) s) (lacksParameters s ps) t
+unfolding judge parameterValue
 filled-judged s ps t =
     split (ltb (length ps) 32)
     (λ c. split (uses s)
-    (λ u. rw (c, u, known-fill (valueOf ps) (get ps) s))
-    (λ u. ap (λ (p : Program). judge p (lacks s ps) t) (fill-unused (valueOf ps) (get ps) s u)))
-    (λ c. ap (λ (v : ℕ → ℕ). judge (fill v s) (lacks s ps) t) (λ i k. lent c k i))
+    (λ u. rw (c, u, known-fill (parameterValue ps) (get ps) s))
+    (λ u. ap (λ (p : Program). judge p (lacksParameters s ps) t) (fill-unused (parameterValue ps) (get ps) s u)))
+    (λ c. ap (λ (v : ℕ → ℕ). judge (fill v s) (lacksParameters s ps) t) (λ i k. lent c k i))
   where
-    lent : ltb (length ps) 32 ≡ false → (k : ℕ) → valueOf ps k ≡ get ps k
+    lent : ltb (length ps) 32 ≡ false → (k : ℕ) → parameterValue ps k ≡ get ps k
     lent c k = rw c
 
 -- the draft filled in and judged is the sheet judged
@@ -69,6 +69,6 @@ pub filled-is : {ev bs n : ℕ} {d : List ℕ} (ps : List ℕ) → All (λ b. b 
 filled-is ps bytes l t r t′ e j = record {
   each-sheet = λ o. j .each-program (draft-filled ps bytes o)
       ∙ ap (λ (p : Program). judge p l t) (filled-program ps bytes o)
-      ∙ ap (λ (b : Bool). judge (fill (valueOf ps) (o .sheet)) b t) (e ∙ draft-lacks o ps)
+      ∙ ap (λ (b : Bool). judge (fill (parameterValue ps) (o .sheet)) b t) (e ∙ draft-lacks o ps)
       ∙ filled-judged (o .sheet) ps t;
 }

@@ -22,14 +22,14 @@ use Rattle.front_sheet.specs.declared.Draft.{Draft}
 use Rattle.front_sheet.specs.declared.Draft.the-variants.{Ready, Broken}
 use Rattle.front_sheet.specs.Whole.{finished, readOn}
 use Rattle.front_correct.proofs.Drafts.{Outcome, empty, drafted-as}
-use Rattle.front_params.specs.Filling.{valueOf, fillTo, lacksParam}
+use Rattle.front_params.specs.Filling.{parameterValue, fillTo, lacksParam}
 use Rattle.front_params.proofs.Fills.{draft-filled, filled-program, draft-lacks}
 use Rattle.check_faults.specs.Checks.{namesKnown, cyclicOn}
 use Rattle.check_faults.proofs.DraftChecks.{draft-names}
 use Rattle.back_table.specs.TableWords.{countBefore, tableWords}
 use Rattle.back_table.proofs.TableIs.{draft-planned}
-use Rattle.back_compile.specs.Verdict.{compiled, judge, lacks, programOf, compileOn}
-use Rattle.back_compile.specs.Judged.{Passes, Turns, Falls, Finding, JudgedAs, answerOf, numberOf}
+use Rattle.back_compile.specs.Verdict.{compiled, judge, lacksParameters, programOf, compileOn}
+use Rattle.back_compile.specs.Judged.{Passes, CircleDraft, Falls, Finding, JudgedAs, answerOf, draftRefusal}
 use Rattle.back_compile.specs.declared.Judgement.{Judgement}
 use Rattle.back_compile.specs.declared.Judgement.the-variants.{Accepted, Circular, Refused}
 use Rattle.back_compile.proofs.Judgement.{the-type}
@@ -42,22 +42,22 @@ pub long-falls : (s ps : List ℕ) → 8192 < length s → Falls s ps 3
 long-falls s ps h = record { other = omega arith; refused = λ t b. compile-long s ps t b h }
 
 -- where nothing lacks, the values filled in are those lent
-filled-lent : (x : Sheet) (ps : List ℕ) → lacks x ps ≡ false → fill (valueOf ps) x ≡ programOf ps x
-unfolding valueOf
+filled-lent : (x : Sheet) (ps : List ℕ) → lacksParameters x ps ≡ false → fill (parameterValue ps) x ≡ programOf ps x
+unfolding parameterValue
 filled-lent x ps h =
     split (uses x)
     (λ u. let c : ltb (length ps) 32 ≡ false = rw u at h in ap (λ (v : ℕ → ℕ). fill v x) (λ i k. lent c k i))
-    (λ u. fill-unused (valueOf ps) (get ps) x u)
+    (λ u. fill-unused (parameterValue ps) (get ps) x u)
   where
-    lent : ltb (length ps) 32 ≡ false → (k : ℕ) → valueOf ps k ≡ get ps k
+    lent : ltb (length ps) 32 ≡ false → (k : ℕ) → parameterValue ps k ≡ get ps k
     lent c k = rw c
 
 module _ (s ps : List ℕ) (bytes : All (λ b. b < 256) s) (hi : length s ≤ 8192) where
-  pub read-falls : (a : Draft) (k : ℕ) (d : List ℕ) → a ≡ Broken k → finished a d ≡ readOn s empty → {x : ℕ} → x ≡ numberOf a → Falls s ps x
+  pub read-falls : (a : Draft) (k : ℕ) (d : List ℕ) → a ≡ Broken k → finished a d ≡ readOn s empty → {x : ℕ} → x ≡ draftRefusal a → Falls s ps x
   read-falls a k d b q {x} e =
       let r : readSheet s ≡ bad k = drafted-as s bytes hi (Broken k) d (sym q ∙ ap (λ (y : Draft). finished y d) b) in
       let f = fault-numbers s k r in
-      let z : x ≡ k = e ∙ ap numberOf b in
+      let z : x ≡ k = e ∙ ap draftRefusal b in
       record {
         other = omega (arith, f .1);
         refused = λ t h. compile-opens s ps t h hi ∙ sym (ap (λ (y : ℕ). compiled y t) e ∙ read-fault s bytes hi a k d ps t b q);
@@ -94,7 +94,7 @@ module _ (s ps : List ℕ) (bytes : All (λ b. b < 256) s) (hi : length s ≤ 81
       lacking-falls b k = record { other = omega arith; refused = λ t h. answers t t 20 h (λ c. draft-lacking c t l b k) }
 
       module _ (b : l ≡ false) (k : namesKnown full bs n ≡ true) where
-        pub circular-turns : cyclicOn full ev bs ≡ true → Turns s ps ev bs full
+        pub circular-turns : cyclicOn full ev bs ≡ true → CircleDraft s ps ev bs full
         circular-turns a = record {
           sheet = of .0 .sheet;
           read = of .1;
@@ -121,7 +121,7 @@ module _ (s ps d : List ℕ) (a : Judgement) (h : JudgedAs s ps d a) where
   pub judged-passes : (ev bs : ℕ) → a ≡ Accepted ev bs → Passes s ps ev bs d
   judged-passes ev bs q = subst (λ (x : Judgement). Finding s ps d x) q (h .finding)
 
-  pub judged-turns : (ev bs : ℕ) → a ≡ Circular ev bs → Turns s ps ev bs d
+  pub judged-turns : (ev bs : ℕ) → a ≡ Circular ev bs → CircleDraft s ps ev bs d
   judged-turns ev bs q = subst (λ (x : Judgement). Finding s ps d x) q (h .finding)
 
 -- not accepted, by its tag: refused by the number that the judgement tells

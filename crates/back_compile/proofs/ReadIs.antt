@@ -13,7 +13,7 @@ use Rattle.front_sheet.specs.declared.Draft.the-variants.{Ready, Broken}
 use Rattle.front_sheet.specs.Whole.{finished, readOn}
 use Rattle.front_correct.proofs.Drafts.{empty, drafted-as}
 use Rattle.back_compile.specs.Verdict.{compiled, judgeRead}
-use Rattle.back_compile.specs.Judged.{SheetJudged, numberOf}
+use Rattle.back_compile.specs.Judged.{SheetJudged, draftRefusal}
 
 -- the bytes of a slice
 pub all-bytes : (s : List ℕ) → ((i : ℕ) → i < length s → getD s i 0 < 256) → All (λ b. b < 256) s
@@ -22,7 +22,7 @@ all-bytes (b ∷ s) h = (h 0 (omega arith), all-bytes s (λ i c. h (suc i) (omeg
 
 module _ (s : List ℕ) (bytes : All (λ b. b < 256) s) (hi : length s ≤ 8192) where
   -- a fault is the sheet's
-  pub read-fault : (a : Draft) (k : ℕ) (d ps t : List ℕ) → a ≡ Broken k → finished a d ≡ readOn s empty → compiled (numberOf a) t ≡ judgeRead (readSheet s) ps t
+  pub read-fault : (a : Draft) (k : ℕ) (d ps t : List ℕ) → a ≡ Broken k → finished a d ≡ readOn s empty → compiled (draftRefusal a) t ≡ judgeRead (readSheet s) ps t
   read-fault a k d ps t b q =
       let e : readSheet s ≡ bad k = drafted-as s bytes hi (Broken k) d (sym q ∙ ap (λ (x : Draft). finished x d) b) in
       rw (b, e)

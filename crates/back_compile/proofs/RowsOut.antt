@@ -19,13 +19,13 @@ use Rattle.spec_language.proofs.RowLaws.{uses-out, means-rows-out}
 use Rattle.spec_grammar.proofs.Programs.{reads-back}
 use Rattle.spec_grammar.proofs.Faults.{result, sheetFault, sheet-result}
 use Rattle.spec_grammar.proofs.Rows.{fault-rows}
-use Rattle.back_compile.specs.Verdict.{judge, lacks, programOf, judgeRead}
+use Rattle.back_compile.specs.Verdict.{judge, lacksParameters, programOf, judgeRead}
 use Rattle.back_compile.proofs.JudgeLaws.{compile-opens, compile-short, compile-long}
 use Rattle.back_compile.specs.Statements.{AsRows}
 
 module _ (x : Sheet) where
-  rows-judged : All (EntryFits (length (x .signals))) (x .entries) → (ps t : List ℕ) → judge (programOf ps x) (lacks x ps) t ≡ judge (programOf ps (rowsOut x)) (lacks (rowsOut x) ps) t
-  rows-judged f ps t = rw (uses-out x f) (ap (λ (p : Program). judge p (lacks x ps) t) (sym (means-rows-out (get ps) x)))
+  rows-judged : All (EntryFits (length (x .signals))) (x .entries) → (ps t : List ℕ) → judge (programOf ps x) (lacksParameters x ps) t ≡ judge (programOf ps (rowsOut x)) (lacksParameters (rowsOut x) ps) t
+  rows-judged f ps t = rw (uses-out x f) (ap (λ (p : Program). judge p (lacksParameters x ps) t) (sym (means-rows-out (get ps) x)))
 
   -- the same fault, or both are judged
   alike : All (EntryFits (length (x .signals))) (x .entries) → (n : ℕ) (ps t : List ℕ) → judgeRead (result n x []) ps t ≡ judgeRead (result n (rowsOut x) []) ps t

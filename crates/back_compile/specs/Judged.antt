@@ -27,7 +27,7 @@ pub record Passes (s ps : List ℕ) (ev bs : ℕ) (d : List ℕ) : Type 0 where
   pub compiles : (t : List ℕ) → 34816 ≤ length t → compileOn s ps t ≡ compiled 0 (putWords t 0 (tableWords d ev bs))
 
 -- a circle: the draft is that of the sheet's program, and shows one
-pub record Turns (s ps : List ℕ) (ev bs : ℕ) (d : List ℕ) : Type 0 where
+pub record CircleDraft (s ps : List ℕ) (ev bs : ℕ) (d : List ℕ) : Type 0 where
   pub sheet : Sheet
   pub read : readSheet s ≡ got sheet []
   pub nodes : ℕ
@@ -44,7 +44,7 @@ pub record Falls (s ps : List ℕ) (k : ℕ) : Type 0 where
 
 abbrev pub Finding : List ℕ → List ℕ → List ℕ → Judgement → Type 0
 Finding s ps d (Accepted ev bs) = Passes s ps ev bs d
-Finding s ps d (Circular ev bs) = Turns s ps ev bs d
+Finding s ps d (Circular ev bs) = CircleDraft s ps ev bs d
 Finding s ps d (Refused k) = Falls s ps k
 
 pub record JudgedAs (s ps d : List ℕ) (a : Judgement) : Type 0 where
@@ -67,6 +67,6 @@ pub record SheetJudged (ev bs n : ℕ) (d ps t : List ℕ) (r : ℕ) (t′ : Lis
   pub each-sheet : (o : SheetDraft ev bs n d) → compiled r t′ ≡ judgeRead (got (o .sheet) []) ps t
 
 -- the number of the reader's refusal
-abbrev pub numberOf : Draft → ℕ
-numberOf (Ready e b n) = 0
-numberOf (Broken k) = k
+abbrev pub draftRefusal : Draft → ℕ
+draftRefusal (Ready e b n) = 0
+draftRefusal (Broken k) = k

@@ -8,7 +8,7 @@ use Rattle.spec_language.specs.Sheet.{Sheet, uses, Entry, writtenOut, rowsOut}
 use Rattle.spec_language.specs.Dependence.{NoCycle}
 use Rattle.spec_language.specs.Grammar.{SheetFits, encode, ItemParamsIn, EntryFits}
 use Rattle.spec_language.specs.Accepted.{Known}
-use Rattle.back_compile.specs.Verdict.{programOf, compiled, judge, compileOn, lacks}
+use Rattle.back_compile.specs.Verdict.{programOf, compiled, judge, compileOn, lacksParameters}
 use Rattle.lib_base.specs.Basics.{All}
 use Rattle.lib_word.specs.Word.{get}
 
@@ -40,7 +40,7 @@ pub record AsRows (x : Sheet) : Type 0 where
       → (ps t : List ℕ) → compileOn (encode x) ps t ≡ compileOn (encode (rowsOut x)) ps t
   -- 3 counts the bytes as sent: where they are not over 8,192 the sheet written out is judged, however many bytes it
   -- would have
-  pub sent : SheetFits x → (ps t : List ℕ) → 34816 ≤ length t → compileOn (encode x) ps t ≡ judge (programOf ps (rowsOut x)) (lacks (rowsOut x) ps) t
+  pub sent : SheetFits x → (ps t : List ℕ) → 34816 ≤ length t → compileOn (encode x) ps t ≡ judge (programOf ps (rowsOut x)) (lacksParameters (rowsOut x) ps) t
   -- and where they are, 3 is the answer
   pub long : 8192 < length (encode x) → (ps t : List ℕ) → 34816 ≤ length t → compileOn (encode x) ps t ≡ compiled 3 t
   -- its program, so its circles, rights, instruction counts and commits, is that of the sheet written out

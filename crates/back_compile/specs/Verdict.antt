@@ -33,8 +33,8 @@ judge p lacking t =
     (0, tableOf p t))))
     (unknownName, t)
 
-abbrev pub lacks : Sheet → List ℕ → Bool
-lacks s ps = uses s && ltb (length ps) 32
+abbrev pub lacksParameters : Sheet → List ℕ → Bool
+lacksParameters s ps = uses s && ltb (length ps) 32
 
 -- the program that a sheet means with the bytes ps lent for its parameters: parameter n has the value of their word n
 abbrev pub programOf : List ℕ → Sheet → Program
@@ -42,7 +42,7 @@ programOf ps s = fill (get ps) s
 
 abbrev pub judgeRead : Got Sheet → List ℕ → List ℕ → Compiled
 judgeRead (bad k) ps t = (k, t)
-judgeRead (got s rest) ps t = judge (programOf ps s) (lacks s ps) t
+judgeRead (got s rest) ps t = judge (programOf ps s) (lacksParameters s ps) t
 
 unfoldable pub compileOn : List ℕ → List ℕ → List ℕ → Compiled
 compileOn s ps t =

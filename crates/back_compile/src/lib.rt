@@ -8,7 +8,7 @@ ghost use Prim.Native.Nat.{_≤_};
 ghost use lib.ListN.{length, replicate};
 ghost use Rattle.front_draft.specs.Draft.{draftLength};
 ghost use Rattle.back_compile.specs.Verdict.{compiled, compileOn};
-ghost use Rattle.back_compile.specs.Judged.{JudgedAs, answerOf, numberOf};
+ghost use Rattle.back_compile.specs.Judged.{JudgedAs, answerOf, draftRefusal};
 use format_layout::table;
 use front_draft::layout;
 use front_sheet::Draft;
@@ -36,7 +36,7 @@ pub fn number_of(judgement: Judgement) -> u32
 
 // The number of the reader's refusal; 0 of a draft that is ready.
 fn fault_of(reading: Draft) -> u32
-    ensures { λ r. ⌜ r ≡ numberOf reading ⌝ }
+    ensures { λ r. ⌜ r ≡ draftRefusal reading ⌝ }
 {
     match reading {
         Draft::Ready(_, _, _) => 0,

@@ -7,25 +7,25 @@ use native.Mathlib.Numerals.{add-one}
 use lib.Dec.{eqb}
 use Rattle.lib_base.proofs.Tools.{by-test}
 use Rattle.front_draft.specs.Draft.{entryOf}
-use Rattle.front_draft.specs.Entry.{kindOf, startOf, countOf}
-use Rattle.back_counts.specs.Counts.{Sound, total, shareOf, isMember, countMembers}
+use Rattle.front_draft.specs.Entry.{entryKind, entryStart, entryCount}
+use Rattle.back_counts.specs.Counts.{EntriesInside, total, shareOf, isMember, countMembers}
 
 -- ---- what is asked of a draft
 
-pub sound-at : {d : List ℕ} {e n i : ℕ} → Sound d e n → i < n → Sound d e (i + 1)
+pub sound-at : {d : List ℕ} {e n i : ℕ} → EntriesInside d e n → i < n → EntriesInside d e (i + 1)
 sound-at s b = record { long = s .long; few = omega (arith, s .few); inside = λ j h. s .inside j (omega arith) }
 
-pub sound-inside : {d : List ℕ} {e n i v : ℕ} → Sound d e n → i < n → v ≡ entryOf d e i → startOf v + countOf v ≤ 2048
+pub sound-inside : {d : List ℕ} {e n i v : ℕ} → EntriesInside d e n → i < n → v ≡ entryOf d e i → entryStart v + entryCount v ≤ 2048
 sound-inside {i} s b is = rw is (s .inside i b)
 
 -- ---- small sums
 
-pub share-small : (v : ℕ) → countOf v ≤ 2048 → shareOf v ≤ 4100
+pub share-small : (v : ℕ) → entryCount v ≤ 2048 → shareOf v ≤ 4100
 unfolding shareOf
 share-small v h =
-    by-test (λ x. x ≤ 4100) (eqb (kindOf v) 1) (λ _. omega arith)
-    (λ _. by-test (λ x. x ≤ 4100) (eqb (kindOf v) 2) (λ _. omega arith)
-    (λ _. by-test (λ x. x ≤ 4100) (eqb (kindOf v) 3) (λ _. omega arith) (λ _. omega arith)))
+    by-test (λ x. x ≤ 4100) (eqb (entryKind v) 1) (λ _. omega arith)
+    (λ _. by-test (λ x. x ≤ 4100) (eqb (entryKind v) 2) (λ _. omega arith)
+    (λ _. by-test (λ x. x ≤ 4100) (eqb (entryKind v) 3) (λ _. omega arith) (λ _. omega arith)))
 
 pub member-small : (v : ℕ) → isMember v ≤ 1
 unfolding isMember

@@ -7,13 +7,13 @@ use lib.ListN.{length}
 use lib.Dec.{eqb}
 use Rattle.lib_base.specs.Basics.{pick}
 use Rattle.front_draft.specs.Draft.{draftLength, entryOf}
-use Rattle.front_draft.specs.Entry.{kindOf, startOf, countOf}
+use Rattle.front_draft.specs.Entry.{entryKind, entryStart, entryCount}
 
 -- the draft d of n behaviours: each entry for event e lies within the nodes
-pub record Sound (d : List ℕ) (e n : ℕ) : Type 0 where
+pub record EntriesInside (d : List ℕ) (e n : ℕ) : Type 0 where
   pub long : length d ≡ draftLength
   pub few : n ≤ 64
-  pub inside : (i : ℕ) → i < n → startOf (entryOf d e i) + countOf (entryOf d e i) ≤ 2048
+  pub inside : (i : ℕ) → i < n → entryStart (entryOf d e i) + entryCount (entryOf d e i) ≤ 2048
 
 -- the sum of f over the numbers below n
 unfoldable pub total : ℕ → (ℕ → ℕ) → ℕ
@@ -23,9 +23,9 @@ total (suc n) f = total n f + f n
 -- what an entry adds to the count of instructions
 unfoldable pub shareOf : ℕ → ℕ
 shareOf v =
-    pick (eqb (kindOf v) 1) (2 + 2 * (countOf v + 1))
-    (pick (eqb (kindOf v) 2) (2 + (countOf v + 1))
-    (pick (eqb (kindOf v) 3) (2 + (countOf v + 2)) 0))
+    pick (eqb (entryKind v) 1) (2 + 2 * (entryCount v + 1))
+    (pick (eqb (entryKind v) 2) (2 + (entryCount v + 1))
+    (pick (eqb (entryKind v) 3) (2 + (entryCount v + 2)) 0))
 
 unfoldable pub countEvent : List ℕ → ℕ → ℕ → ℕ
 countEvent d e n = 4 + total n (λ i. shareOf (entryOf d e i))

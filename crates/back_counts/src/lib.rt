@@ -2,9 +2,9 @@
 ghost use mathlib.Core.Path.{_≡_};
 ghost use Prim.Native.Nat.{_≤_};
 ghost use lib.ListN.{length};
-ghost use Rattle.front_draft.specs.Entry.{countOf};
+ghost use Rattle.front_draft.specs.Entry.{entryCount};
 ghost use Rattle.front_draft.specs.Draft.{draftLength};
-ghost use Rattle.back_counts.specs.Counts.{Sound, shareOf, countEvent, isMember, countMembers};
+ghost use Rattle.back_counts.specs.Counts.{EntriesInside, shareOf, countEvent, isMember, countMembers};
 use front_draft::entry_of;
 use front_draft::layout;
 
@@ -13,7 +13,7 @@ const MASKS: usize = 4;
 
 // What an entry adds to the count of instructions.
 fn share_of(v: u64) -> usize
-    requires { ⌜ countOf v ≤ 2048 ⌝ }
+    requires { ⌜ entryCount v ≤ 2048 ⌝ }
     ensures { λ r. ⌜ r ≡ shareOf v ⌝ }
 {
     if v % layout::KINDS == layout::PASSIVE {
@@ -30,7 +30,7 @@ fn share_of(v: u64) -> usize
 
 // How many instructions the code of event e has.
 pub fn count_event(d: &[u64], e: usize, n: usize) -> usize
-    requires { ⌜ Sound (now d) e n ⌝ }
+    requires { ⌜ EntriesInside (now d) e n ⌝ }
     ensures { λ r. ⌜ r ≡ countEvent (now (d .entry)) e n ⌝ }
 {
     let mut sum = MASKS;

@@ -14,7 +14,7 @@ use Rattle.spec_language.specs.Accepted.{NamesIn}
 use Rattle.spec_language.specs.Code.{Instr, load, fetch, apply, inC, postfix}
 use Rattle.format_image.specs.Image.{operation, constant, codeWords}
 use Rattle.front_draft.specs.Draft.{nodes, entryOf, moved, usedBy, Drafted}
-use Rattle.front_draft.specs.Entry.{startOf, countOf, tagOf, wordOf}
+use Rattle.front_draft.specs.Entry.{entryStart, entryCount, nodeTag, nodeWord}
 use Rattle.front_draft.proofs.DraftLaws.{Holds, entry-of, length-used, used-at}
 use Rattle.back_counts.proofs.CountIs.{copied-is}
 use Rattle.back_emit.specs.Words.{each, nameWords, nodeWords, exprWords}
@@ -46,20 +46,20 @@ arity-low (binary a b c) = omega arith
 
 con-words : (d : List ℕ) (e w : ℕ) → w < 2 ^ 32 → nodeWords d e (68719476736 + w) ≡ 1280 ∷ w ∷ []
 con-words d e w h =
-    let t : tagOf (68719476736 + w) ≡ 16 = omega arith in
-    let z : wordOf (68719476736 + w) ≡ w = omega arith in
+    let t : nodeTag (68719476736 + w) ≡ 16 = omega arith in
+    let z : nodeWord (68719476736 + w) ≡ w = omega arith in
     sym (node-push d e (68719476736 + w) t) ∙ ap (λ (x : ℕ). 1280 ∷ x ∷ []) z
 
 app-words : (d : List ℕ) (e f : ℕ) → f < 16 → nodeWords d e (77309411328 + f) ≡ (2048 + f) ∷ 0 ∷ []
 app-words d e f h =
-    let t : tagOf (77309411328 + f) ≡ 18 = omega arith in
-    let z : wordOf (77309411328 + f) % 16 ≡ f = omega arith in
+    let t : nodeTag (77309411328 + f) ≡ 18 = omega arith in
+    let z : nodeWord (77309411328 + f) % 16 ≡ f = omega arith in
     sym (node-apply d e (77309411328 + f) (λ u. omega arith) (λ u. omega arith)) ∙ ap (λ (x : ℕ). (2048 + x) ∷ 0 ∷ []) z
 
 name-words : (d : List ℕ) (e i : ℕ) → i < 64 → nodeWords d e (73014444032 + i) ≡ nameWords d e i
 name-words d e i h =
-    let t : tagOf (73014444032 + i) ≡ 17 = omega arith in
-    let z : wordOf (73014444032 + i) % 64 ≡ i = omega arith in
+    let t : nodeTag (73014444032 + i) ≡ 17 = omega arith in
+    let z : nodeWord (73014444032 + i) % 64 ≡ i = omega arith in
     sym (node-name d e (73014444032 + i) (λ u. omega arith) t) ∙ ap (nameWords d e) z
 
 fetched : (i : ℕ) (b : Bool) → pick (elim b [ true ↦ false | false ↦ true ]) ((1536 + i) ∷ 0 ∷ []) ((1792 + i) ∷ 0 ∷ []) ≡ codeWords (pick b (fetch i) (load i) ∷ [])
@@ -108,13 +108,13 @@ module _ (p : Program) (d : List ℕ) (n : ℕ) (dr : Drafted p d n) (few : size
 
   -- where its nodes stand, as behaviour i uses them
   pub expr-code : (i kind v : ℕ) (x : Expr) → Holds (usedBy d i) kind v x → Nested 16 x → NamesIn (size p) x
-      → exprWords d e i (startOf v) (countOf v) ≡ codeWords (postfix (inC p e) x)
+      → exprWords d e i (entryStart v) (entryCount v) ≡ codeWords (postfix (inC p e) x)
   unfolding exprWords
   expr-code i kind v x h f k =
-      let u : length (drop (startOf v) (usedBy d i)) ≡ length d - startOf v = length-drop (startOf v) (usedBy d i) ∙ rw (length-used d i) in
-      let l : countOf v ≤ length (drop (startOf v) (usedBy d i)) = omega (arith, h .inside, dr .long) in
-      let s : flatMap (nodeWords d e) (take (countOf v) (drop (startOf v) (usedBy d i))) ≡ each (countOf v) (λ j. nodeWords d e (getD (drop (startOf v) (usedBy d i)) j 0)) =
-      in-turn-each (nodeWords d e) (drop (startOf v) (usedBy d i)) (countOf v) l in
-      let g : flatMap (nodeWords d e) (take (countOf v) (drop (startOf v) (usedBy d i))) ≡ each (countOf v) (λ j. nodeWords d e (moved d i (getD d (startOf v + j) 0))) =
+      let u : length (drop (entryStart v) (usedBy d i)) ≡ length d - entryStart v = length-drop (entryStart v) (usedBy d i) ∙ rw (length-used d i) in
+      let l : entryCount v ≤ length (drop (entryStart v) (usedBy d i)) = omega (arith, h .inside, dr .long) in
+      let s : flatMap (nodeWords d e) (take (entryCount v) (drop (entryStart v) (usedBy d i))) ≡ each (entryCount v) (λ j. nodeWords d e (getD (drop (entryStart v) (usedBy d i)) j 0)) =
+      in-turn-each (nodeWords d e) (drop (entryStart v) (usedBy d i)) (entryCount v) l in
+      let g : flatMap (nodeWords d e) (take (entryCount v) (drop (entryStart v) (usedBy d i))) ≡ each (entryCount v) (λ j. nodeWords d e (moved d i (getD d (entryStart v + j) 0))) =
       simp (getD-drop, used-at) at s in
       sym g ∙ rw (h .count-is, h .there) (nodes-code f k)

@@ -7,7 +7,7 @@ use lib.ListN.{getD}
 use lib.Dec.{eqb}
 use Rattle.lib_base.specs.Basics.{pick}
 use Rattle.front_draft.specs.Draft.{entryOf, moved}
-use Rattle.front_draft.specs.Entry.{kindOf, startOf, countOf, tagOf, wordOf}
+use Rattle.front_draft.specs.Entry.{entryKind, entryStart, entryCount, nodeTag, nodeWord}
 
 -- f of each number below n, one after the other
 unfoldable pub each : ℕ → (ℕ → List ℕ) → List ℕ
@@ -21,8 +21,8 @@ nameWords d e j = pick (eqb (entryOf d e j) 0) ((1536 + j) ∷ 0 ∷ []) ((1792 
 -- a node: push, a name, or apply
 unfoldable pub nodeWords : List ℕ → ℕ → ℕ → List ℕ
 nodeWords d e x =
-    pick (eqb (tagOf x) 16) (1280 ∷ wordOf x ∷ [])
-    (pick (eqb (tagOf x) 17) (nameWords d e (wordOf x % 64)) ((2048 + wordOf x % 16) ∷ 0 ∷ []))
+    pick (eqb (nodeTag x) 16) (1280 ∷ nodeWord x ∷ [])
+    (pick (eqb (nodeTag x) 17) (nameWords d e (nodeWord x % 64)) ((2048 + nodeWord x % 16) ∷ 0 ∷ []))
 
 -- behaviour i's expression of count nodes from start on, as it uses them
 unfoldable pub exprWords : List ℕ → ℕ → ℕ → ℕ → ℕ → List ℕ
@@ -30,15 +30,15 @@ exprWords d e i start count = each count (λ j. nodeWords d e (moved d i (getD d
 
 -- the expression of behaviour i, and then op i
 unfoldable pub turnWords : List ℕ → ℕ → ℕ → ℕ → List ℕ
-turnWords d e op i = exprWords d e i (startOf (entryOf d e i)) (countOf (entryOf d e i)) ++ ((op + i) ∷ 0 ∷ [])
+turnWords d e op i = exprWords d e i (entryStart (entryOf d e i)) (entryCount (entryOf d e i)) ++ ((op + i) ∷ 0 ∷ [])
 
 -- the same, if its entry is of this kind
-unfoldable pub kindWords : List ℕ → ℕ → ℕ → ℕ → ℕ → List ℕ
-kindWords d e kind op i = pick (eqb (kindOf (entryOf d e i)) kind) (turnWords d e op i) []
+unfoldable pub turnWordsOfKind : List ℕ → ℕ → ℕ → ℕ → ℕ → List ℕ
+turnWordsOfKind d e kind op i = pick (eqb (entryKind (entryOf d e i)) kind) (turnWords d e op i) []
 
 -- the move of a later handler's value
 unfoldable pub moveWords : List ℕ → ℕ → ℕ → List ℕ
-moveWords d e i = pick (eqb (kindOf (entryOf d e i)) 3) ((2816 + i) ∷ 0 ∷ []) []
+moveWords d e i = pick (eqb (entryKind (entryOf d e i)) 3) ((2816 + i) ∷ 0 ∷ []) []
 
 -- op i, if the event copies i
 unfoldable pub memberWords : List ℕ → ℕ → ℕ → ℕ → List ℕ

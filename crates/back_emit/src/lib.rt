@@ -5,9 +5,9 @@ ghost use mathlib.Core.Path.{_≡_};
 ghost use mathlib.Core.List.{[], _∷_};
 ghost use Prim.Native.Nat.{_+_, _<_, _≤_};
 ghost use lib.ListN.{length};
-ghost use Rattle.back_counts.specs.Counts.{Sound};
+ghost use Rattle.back_counts.specs.Counts.{EntriesInside};
 ghost use Rattle.front_draft.specs.Draft.{draftLength};
-ghost use Rattle.back_emit.specs.Words.{nameWords, nodeWords, exprWords, turnWords, kindWords, moveWords, memberWords};
+ghost use Rattle.back_emit.specs.Words.{nameWords, nodeWords, exprWords, turnWords, turnWordsOfKind, moveWords, memberWords};
 ghost use Rattle.back_emit.specs.Writing.{Room, Wrote};
 use front_draft::entry_of;
 use front_draft::layout;
@@ -87,7 +87,7 @@ fn emit_expr(
 
 // The expression of behaviour i, and then op i.
 pub fn emit_turn(d: &[u64], e: usize, op: u32, i: usize, t: &mut [u8], k: usize) -> usize
-    requires { ⌜ Sound (now d) e (i + 1) × (op ≤ 2560) ⌝ }
+    requires { ⌜ EntriesInside (now d) e (i + 1) × (op ≤ 2560) ⌝ }
     requires { ⌜ Room (now t) k (turnWords (now d) e op i) ⌝ }
     ensures { λ r. ⌜ Wrote (now (t .entry)) k (turnWords (now (d .entry)) e op i) (now (t .exit)) r ⌝ }
 {
@@ -106,9 +106,9 @@ pub fn emit_turn(d: &[u64], e: usize, op: u32, i: usize, t: &mut [u8], k: usize)
 
 // The same, if its entry is of this kind.
 pub fn emit_kind(d: &[u64], e: usize, kind: u64, op: u32, i: usize, t: &mut [u8], k: usize) -> usize
-    requires { ⌜ Sound (now d) e (i + 1) × (op ≤ 2560) ⌝ }
-    requires { ⌜ Room (now t) k (kindWords (now d) e kind op i) ⌝ }
-    ensures { λ r. ⌜ Wrote (now (t .entry)) k (kindWords (now (d .entry)) e kind op i) (now (t .exit)) r ⌝ }
+    requires { ⌜ EntriesInside (now d) e (i + 1) × (op ≤ 2560) ⌝ }
+    requires { ⌜ Room (now t) k (turnWordsOfKind (now d) e kind op i) ⌝ }
+    ensures { λ r. ⌜ Wrote (now (t .entry)) k (turnWordsOfKind (now (d .entry)) e kind op i) (now (t .exit)) r ⌝ }
 {
     if entry_of(d, e, i) % layout::KINDS == kind {
         return emit_turn(d, e, op, i, t, k);

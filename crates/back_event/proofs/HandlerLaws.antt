@@ -9,7 +9,7 @@ use lib.ListN.{length, take, length-append}
 use Rattle.lib_base.proofs.Tools.{split}
 use Rattle.front_draft.specs.Draft.{entryOf}
 use Rattle.back_counts.specs.Counts.{total, isMember, countMembers}
-use Rattle.back_schedule.specs.Ordering.{orderUnder, isOrdered, Holds}
+use Rattle.back_schedule.specs.Ordering.{orderUnder, isOrdered, OrderHolds}
 use Rattle.back_emit.specs.Words.{each, memberWords}
 use Rattle.back_emit.specs.Writing.{Room, Wrote}
 use Rattle.back_emit.proofs.WritingLaws.{wrote-long, wrote-then, wrote-as, room-first, room-then}
@@ -94,7 +94,7 @@ pub code-none : (d : List ℕ) (e n : ℕ) → isOrdered d e n ≡ false → [] 
 unfolding codeOf
 code-none d e n h = rw h
 
-pub code-ordered : (d : List ℕ) (e n : ℕ) {o : List ℕ} {count : ℕ} → isOrdered d e n ≡ true → Holds o count n (orderUnder d e n)
+pub code-ordered : (d : List ℕ) (e n : ℕ) {o : List ℕ} {count : ℕ} → isOrdered d e n ≡ true → OrderHolds o count n (orderUnder d e n)
     → eventWords d e n (take count o) ≡ codeOf d n e
 unfolding codeOf
 code-ordered d e n h w = rw (h, w .taken)

@@ -20,7 +20,7 @@ use Rattle.back_emit.specs.Words.{memberWords}
 use Rattle.back_emit.proofs.ExprWords.{codeWords-append}
 use Rattle.back_phases.proofs.PhasesAre.{each-code, first-are, second-are}
 use Rattle.back_event.specs.Handlers.{maskedWords, eventWords, codeOf}
-use Rattle.back_event.specs.Steps.{Steps}
+use Rattle.back_event.specs.Steps.{EventParts}
 
 copy-is : (d : List ℕ) (e i : ℕ) (r : Response) → Entry (usedBy d i) (entryOf d e i) r → memberWords d e 768 i ≡ codeWords (ofC copy i r)
 unfolding memberWords codeWords
@@ -69,7 +69,7 @@ module _ (p : Program) (d : List ℕ) (n : ℕ) (dr : Drafted p d n) (fits : Fit
         codeWords-append (secondPart p e) (restorePart p e),
       )
 
-  pub steps-are : Steps p d e
+  pub steps-are : EventParts p d e
   steps-are =
       let o : orderUnder d e (size p) ≡ phaseOne p e = order-is p d n dr fits e b in
       record {

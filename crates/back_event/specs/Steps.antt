@@ -12,7 +12,7 @@ use Rattle.back_phases.specs.Phases.{firstWords, secondWords}
 use Rattle.back_event.specs.Handlers.{maskedWords, eventWords}
 
 -- what each step writes for event e, from the draft d of program p
-pub record Steps (p : Program) (d : List ℕ) (e : ℕ) : Type 0 where
+pub record EventParts (p : Program) (d : List ℕ) (e : ℕ) : Type 0 where
   pub copies : maskedWords d e 768 (size p) ≡ codeWords (copyPart p e)
   pub first : firstWords d e (size p) (orderUnder d e (size p)) ≡ codeWords (firstPart p e)
   pub second : secondWords d e (size p) (orderUnder d e (size p)) ≡ codeWords (secondPart p e)

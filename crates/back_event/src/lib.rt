@@ -4,7 +4,7 @@
 ghost use mathlib.Core.Path.{_≡_};
 ghost use Prim.Native.Nat.{_≤_};
 ghost use lib.ListN.{length};
-ghost use Rattle.back_counts.specs.Counts.{Sound};
+ghost use Rattle.back_counts.specs.Counts.{EntriesInside};
 ghost use Rattle.back_emit.specs.Words.{each, memberWords};
 ghost use Rattle.back_emit.specs.Writing.{Room, Wrote};
 ghost use Rattle.front_draft.specs.Draft.{draftLength};
@@ -43,7 +43,7 @@ fn emit_masked(d: &[u64], e: usize, op: u32, n: usize, t: &mut [u8], k: usize) -
 
 // The code of event e, of n behaviours. An event with a circle gets none: compile has turned such a sheet down by then.
 pub fn compile_event(d: &[u64], e: usize, n: usize, t: &mut [u8], k: usize) -> usize
-    requires { ⌜ Sound (now d) e n × (e ≤ 32) ⌝ }
+    requires { ⌜ EntriesInside (now d) e n × (e ≤ 32) ⌝ }
     requires { ⌜ Room (now t) k (codeOf (now d) n e) ⌝ }
     ensures { λ r. ⌜ Wrote (now (t .entry)) k (codeOf (now (d .entry)) n e) (now (t .exit)) r ⌝ }
 {

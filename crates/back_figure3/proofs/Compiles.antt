@@ -20,7 +20,7 @@ use Rattle.spec_language.specs.Code.{one?, code}
 use Rattle.spec_language.proofs.Laws.{none-past, depends-within}
 use Rattle.spec_semantics.proofs.Graph.{Marked, free, free-set, free-le}
 use Rattle.spec_semantics.proofs.OrderLaws.{markAll, Ordered, length-met, late-needs, phaseOne-ordered, order-complete}
-use Rattle.back_figure3.specs.Figure3.{Assign, assigned, whole, without, First, none₁, passive₁, immediate₁, later₁, unhandled₁, turnsIn, Handler}
+use Rattle.back_figure3.specs.Figure3.{Assign, assigned, everyBehaviour, without, FirstPhaseRule, none₁, passive₁, immediate₁, later₁, unhandled₁, turnsIn, HandlerCode}
 use Rattle.back_figure3.proofs.InTable.{length-copies}
 use Rattle.back_figure3.proofs.Parts.{firstOf, secondOf, first-code, second-code}
 use Rattle.back_figure3.proofs.Derived.{without-is, first-derived, second-derived}
@@ -85,7 +85,7 @@ module _ (p : Program) (e : ℕ) where
   by-response i r q h = late-fine i (ap early q ∙ h)
 
   -- whoever has a turn is assigned
-  has-turn : {P : ℕ → Bool} {A : List Assign} → First p e P A → (b : ℕ) → P b ≡ true → early (response p e b) ≡ true → All (λ a. assigned b a ≡ false) A → ⊥
+  has-turn : {P : ℕ → Bool} {A : List Assign} → FirstPhaseRule p e P A → (b : ℕ) → P b ≡ true → early (response p e b) ≡ true → All (λ a. assigned b a ≡ false) A → ⊥
   has-turn (none₁ h) b t f a = true≢false (sym t ∙ h b)
   has-turn (passive₁ {P = P} i s q d g) b t f a = has-turn d b (without-is i P b (eqb-false i b (a .0)) t) f (a .1)
   has-turn (immediate₁ {P = P} i s q d g) b t f a = has-turn d b (without-is i P b (eqb-false i b (a .0)) t) f (a .1)
@@ -95,7 +95,7 @@ module _ (p : Program) (e : ℕ) where
       has-turn d b (without-is i P b (λ z. true≢false (sym f ∙ ap (λ x. early (response p e x)) (sym z) ∙ ap early q)) t) f a
 
   -- whoever is placed needs nobody that is left
-  fine-next : (P : ℕ → Bool) (i : ℕ) (A : List Assign) → ((a : ℕ) → P a ≡ false → Fine a) → First p e (without i P) A
+  fine-next : (P : ℕ → Bool) (i : ℕ) (A : List Assign) → ((a : ℕ) → P a ≡ false → Fine a) → FirstPhaseRule p e (without i P) A
       → ((j : ℕ) → dep i j ≡ true → (i ≢ j) × All (λ b. assigned j b ≡ false) A) → Fine i
   fine-next P i A out d g =
       not-round (λ j h.
@@ -108,7 +108,7 @@ module _ (p : Program) (e : ℕ) where
       split (eqb i a) (λ q. subst Fine (eqb-true i a q) h)
       (λ q. split (P a) (λ s. absurd (true≢false (sym (without-is i P a (eqb-false i a q) s) ∙ t))) (λ s. out a s))
 
-  derived-fine : {P : ℕ → Bool} {A : List Assign} → First p e P A → ((a : ℕ) → P a ≡ false → Fine a) → (a : ℕ) → Fine a
+  derived-fine : {P : ℕ → Bool} {A : List Assign} → FirstPhaseRule p e P A → ((a : ℕ) → P a ≡ false → Fine a) → (a : ℕ) → Fine a
   derived-fine (none₁ h) out = λ a. out a (h a)
   derived-fine (passive₁ {P = P} i {A = A} s q d g) out =
       derived-fine d (fine-less P i out (fine-next P i A out d (λ j h. let w = g j (ap (needs i j) (sym q) ∙ h) in (eqb-false i j (w .0), w .1))))
@@ -118,7 +118,7 @@ module _ (p : Program) (e : ℕ) where
   derived-fine (unhandled₁ {P = P} i s q d) out = derived-fine d (fine-less P i out (by-response i keeps q refl))
 
 -- Figure 3 gives no first phase to an event that has a cycle
-pub derived-acyclic : (p : Program) (e : ℕ) {A : List Assign} → First p e (whole p) A → Acyclic p e
+pub derived-acyclic : (p : Program) (e : ℕ) {A : List Assign} → FirstPhaseRule p e (everyBehaviour p) A → Acyclic p e
 derived-acyclic p e d =
     derived-fine p e d
     (λ a t r. let w = first-step r in true≢false (sym (w .1) ∙ none-past p e a (w .0) (ltb-false a (size p) t)))
@@ -152,7 +152,7 @@ module _ (p : Program) (e : ℕ) (known : Known p) where
   )
 
   -- and then its code is a handler by Figure 3
-  pub compiles : Acyclic p e → Handler p e
+  pub compiles : Acyclic p e → HandlerCode p e
   unfolding code
   compiles h = record {
     first = firstOf p e;
@@ -166,5 +166,5 @@ module _ (p : Program) (e : ℕ) (known : Known p) where
   }
 
 -- so of every event of an accepted program
-pub accepted-compiles : (p : Program) → Accepted p → (e : ℕ) → e < events p → Handler p e
+pub accepted-compiles : (p : Program) → Accepted p → (e : ℕ) → e < events p → HandlerCode p e
 accepted-compiles p ok e h = compiles p e (ok .known) (ok .acyclic e (omega arith))

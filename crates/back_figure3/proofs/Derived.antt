@@ -20,7 +20,7 @@ use Rattle.spec_language.specs.Accepted.{Known}
 use Rattle.spec_language.proofs.Laws.{getD-upTo, depends-within}
 use Rattle.spec_semantics.proofs.Graph.{Marked, Unmarked, stays}
 use Rattle.spec_semantics.proofs.OrderLaws.{markAll, Ordered, ordered-unmarked, unmarked-set, length-met, met-late, phaseOne-ordered}
-use Rattle.back_figure3.specs.Figure3.{Assign, assigned, whole, without, First, none₁, passive₁, immediate₁, later₁, unhandled₁, Second, none₂, passive₂, immediate₂, later₂, unhandled₂}
+use Rattle.back_figure3.specs.Figure3.{Assign, assigned, everyBehaviour, without, FirstPhaseRule, none₁, passive₁, immediate₁, later₁, unhandled₁, SecondPhaseRule, none₂, passive₂, immediate₂, later₂, unhandled₂}
 use Rattle.back_figure3.proofs.Parts.{turnOf, laterOf, moveOf, againOf, from, along, firstOf, secondOf}
 
 -- ---- a part without one
@@ -92,14 +92,14 @@ module _ (p : Program) (e : ℕ) where
 
   -- ---- phase one: the later handlers, by number
 
-  late-step : (s : ℕ) (P : ℕ → Bool) (A : List Assign) (r : Response) → resp s ≡ r → early r ≡ false → P s ≡ true → First p e (without s P) A
-      → ((j : ℕ) → All (λ b. assigned j b ≡ false) A) → First p e P (laterOf s r ++ A)
+  late-step : (s : ℕ) (P : ℕ → Bool) (A : List Assign) (r : Response) → resp s ≡ r → early r ≡ false → P s ≡ true → FirstPhaseRule p e (without s P) A
+      → ((j : ℕ) → All (λ b. assigned j b ≡ false) A) → FirstPhaseRule p e P (laterOf s r ++ A)
   late-step s P A (follows x) q h t f o = absurd (true≢false h)
   late-step s P A (takes x) q h t f o = absurd (true≢false h)
   late-step s P A (defers x) q h t f o = later₁ s t q f (λ j m. (refl, o j))
   late-step s P A keeps q h t f o = unhandled₁ s t q f
 
-  early-step : (s : ℕ) (P : ℕ → Bool) (A : List Assign) (r : Response) → early r ≡ true → First p e P A → First p e P (laterOf s r ++ A)
+  early-step : (s : ℕ) (P : ℕ → Bool) (A : List Assign) (r : Response) → early r ≡ true → FirstPhaseRule p e P A → FirstPhaseRule p e P (laterOf s r ++ A)
   early-step s P A (follows x) h f = f
   early-step s P A (takes x) h f = f
   early-step s P A (defers x) h f = absurd (false≢true h)
@@ -110,7 +110,7 @@ module _ (p : Program) (e : ℕ) where
     says : (j : ℕ) → P j ≡ true → (s ≤ j) × (j < s + k) × (early (resp j) ≡ false)
     holds : (j : ℕ) → s ≤ j → j < s + k → early (resp j) ≡ false → P j ≡ true
 
-  laters : (k s : ℕ) (P : ℕ → Bool) → Late s k P → First p e P (along p e laterOf (from s k))
+  laters : (k s : ℕ) (P : ℕ → Bool) → Late s k P → FirstPhaseRule p e P (along p e laterOf (from s k))
   unfolding along from flatMap
   laters zero s P l = none₁ (λ j. split (P j) (λ t. let h = l .says j t in absurd (omega arith)) (λ t. t))
   laters (suc k) s P l =
@@ -133,8 +133,8 @@ module _ (p : Program) (e : ℕ) where
 
   -- ---- phase one: along the order
 
-  place : (i : ℕ) (P : ℕ → Bool) (A : List Assign) (r : Response) → resp i ≡ r → early r ≡ true → P i ≡ true → First p e (without i P) A
-      → ((j : ℕ) → needs i j r ≡ true → (i ≢ j) × All (λ b. assigned j b ≡ false) A) → First p e P (turnOf i r ++ A)
+  place : (i : ℕ) (P : ℕ → Bool) (A : List Assign) (r : Response) → resp i ≡ r → early r ≡ true → P i ≡ true → FirstPhaseRule p e (without i P) A
+      → ((j : ℕ) → needs i j r ≡ true → (i ≢ j) × All (λ b. assigned j b ≡ false) A) → FirstPhaseRule p e P (turnOf i r ++ A)
   place i P A (follows x) q h t f o = passive₁ i t q f (λ j m. let w = o j m in (ne-eqb i j (w .0), w .1))
   place i P A (takes x) q h t f o = immediate₁ i t q f (λ j m. let w = o j m in (ne-eqb i j (w .0), w .1))
   place i P A (defers x) q h t f o = absurd (false≢true h)
@@ -160,12 +160,12 @@ module _ (p : Program) (e : ℕ) where
 
   module _ (within : (a b : ℕ) → dep a b ≡ true → (a < n) × (b < n)) where
     turns : (is : List ℕ) (done : List Bool) (P : ℕ → Bool) → length done ≡ n → Ordered n dep done is → Left done P
-        → ((Q : ℕ → Bool) → Left (markAll is done) Q → First p e Q (along p e laterOf (from 0 n))) → First p e P (along p e turnOf is ++ along p e laterOf (from 0 n))
+        → ((Q : ℕ → Bool) → Left (markAll is done) Q → FirstPhaseRule p e Q (along p e laterOf (from 0 n))) → FirstPhaseRule p e P (along p e turnOf is ++ along p e laterOf (from 0 n))
     unfolding along flatMap
     turns [] done P l o w rest = rest P w
     turns (i ∷ is) done P l o w rest =
         let h : early (resp i) ≡ true = split (early (resp i)) (λ t. t) (λ t. absurd (true≢false (sym (w .late i (o .0) t) ∙ o .1))) in
-        let tail : First p e (without i P) (along p e turnOf is ++ along p e laterOf (from 0 n)) =
+        let tail : FirstPhaseRule p e (without i P) (along p e turnOf is ++ along p e laterOf (from 0 n)) =
         turns is (set done i true) (without i P) (simp length-set l) (o .3) (left-less done P i l (o .0) h w) rest in
         rw (append-assoc (turnOf i (resp i)) (along p e turnOf is) (along p e laterOf (from 0 n)))
         (place i P (along p e turnOf is ++ along p e laterOf (from 0 n)) (resp i) refl h (w .holds i (o .0) (inr (o .1))) tail
@@ -182,15 +182,15 @@ module _ (p : Program) (e : ℕ) where
       says : (j : ℕ) → P j ≡ true → (j < n) × (isFollows (resp j) ≡ true) × Unmarked done j
       holds : (j : ℕ) → j < n → isFollows (resp j) ≡ true → Unmarked done j → P j ≡ true
 
-    again-step : (i : ℕ) (P : ℕ → Bool) (A : List Assign) (r : Response) → resp i ≡ r → isFollows r ≡ true → P i ≡ true → Second p e (without i P) A
-        → ((j : ℕ) → needs i j r ≡ true → (i ≢ j) × All (λ b. assigned j b ≡ false) A) → Second p e P (againOf i r ++ A)
+    again-step : (i : ℕ) (P : ℕ → Bool) (A : List Assign) (r : Response) → resp i ≡ r → isFollows r ≡ true → P i ≡ true → SecondPhaseRule p e (without i P) A
+        → ((j : ℕ) → needs i j r ≡ true → (i ≢ j) × All (λ b. assigned j b ≡ false) A) → SecondPhaseRule p e P (againOf i r ++ A)
     unfolding isFollows
     again-step i P A (follows x) q h t f o = passive₂ i t q f (λ j m. let w = o j m in (ne-eqb i j (w .0), w .1))
     again-step i P A (takes x) q h t f o = absurd (false≢true h)
     again-step i P A (defers x) q h t f o = absurd (false≢true h)
     again-step i P A keeps q h t f o = absurd (false≢true h)
 
-    pass-step : (i : ℕ) (P : ℕ → Bool) (A : List Assign) (r : Response) → isFollows r ≡ false → Second p e P A → Second p e P (againOf i r ++ A)
+    pass-step : (i : ℕ) (P : ℕ → Bool) (A : List Assign) (r : Response) → isFollows r ≡ false → SecondPhaseRule p e P A → SecondPhaseRule p e P (againOf i r ++ A)
     unfolding isFollows
     pass-step i P A (follows x) h f = absurd (true≢false h)
     pass-step i P A (takes x) h f = f
@@ -198,7 +198,7 @@ module _ (p : Program) (e : ℕ) where
     pass-step i P A keeps h f = f
 
     agains : (is : List ℕ) (done : List Bool) (P : ℕ → Bool) → length done ≡ n → Ordered n dep done is → Again done P
-        → ((j : ℕ) → j < n → Marked (markAll is done) j) → Second p e P (along p e againOf is)
+        → ((j : ℕ) → j < n → Marked (markAll is done) j) → SecondPhaseRule p e P (along p e againOf is)
     unfolding along flatMap
     agains [] done P l o w all = none₂ (λ j. split (P j) (λ t. let h = w .says j t in absurd (true≢false (sym (all j (h .0)) ∙ h .2))) (λ t. t))
     agains (i ∷ is) done P l o w all =
@@ -233,23 +233,23 @@ module _ (p : Program) (e : ℕ) where
       says : (j : ℕ) → P j ≡ true → (j < n) × ((isFollows (resp j) ≡ true) ⊎ (s ≤ j))
       holds : (j : ℕ) → j < n → (isFollows (resp j) ≡ true) ⊎ (s ≤ j) → P j ≡ true
 
-    move-step : (s : ℕ) (P : ℕ → Bool) (A : List Assign) (r : Response) → resp s ≡ r → isFollows r ≡ false → P s ≡ true → Second p e (without s P) A
-        → Second p e P (moveOf s r ++ A)
+    move-step : (s : ℕ) (P : ℕ → Bool) (A : List Assign) (r : Response) → resp s ≡ r → isFollows r ≡ false → P s ≡ true → SecondPhaseRule p e (without s P) A
+        → SecondPhaseRule p e P (moveOf s r ++ A)
     unfolding isFollows
     move-step s P A (follows x) q h t f = absurd (true≢false h)
     move-step s P A (takes x) q h t f = immediate₂ s t q f
     move-step s P A (defers x) q h t f = later₂ s t q f
     move-step s P A keeps q h t f = unhandled₂ s t q f
 
-    stay-step : (s : ℕ) (P : ℕ → Bool) (A : List Assign) (r : Response) → isFollows r ≡ true → Second p e P A → Second p e P (moveOf s r ++ A)
+    stay-step : (s : ℕ) (P : ℕ → Bool) (A : List Assign) (r : Response) → isFollows r ≡ true → SecondPhaseRule p e P A → SecondPhaseRule p e P (moveOf s r ++ A)
     unfolding isFollows
     stay-step s P A (follows x) h f = f
     stay-step s P A (takes x) h f = absurd (false≢true h)
     stay-step s P A (defers x) h f = absurd (false≢true h)
     stay-step s P A keeps h f = absurd (false≢true h)
 
-    moves : (k s : ℕ) (P : ℕ → Bool) (A : List Assign) → Moving s k P → ((Q : ℕ → Bool) → Moving n 0 Q → Second p e Q A)
-        → Second p e P (along p e moveOf (from s k) ++ A)
+    moves : (k s : ℕ) (P : ℕ → Bool) (A : List Assign) → Moving s k P → ((Q : ℕ → Bool) → Moving n 0 Q → SecondPhaseRule p e Q A)
+        → SecondPhaseRule p e P (along p e moveOf (from s k) ++ A)
     unfolding along from flatMap
     moves zero s P A w rest = let q : s ≡ n = omega (arith, w .ends) in rest P (rw q at w)
     moves (suc k) s P A w rest =
@@ -295,7 +295,7 @@ module _ (p : Program) (e : ℕ) (known : Known p) (all : (i : ℕ) → i < size
   unfolding metAtOnce
   met-is i h = getD-upTo (size p) _ i false h
 
-  left-whole : Left p e (metAtOnce p e) (whole p)
+  left-whole : Left p e (metAtOnce p e) (everyBehaviour p)
   left-whole = record {
     says = λ j t. let b = ltb-true j (size p) t in (b, split (getD (metAtOnce p e) j false) (λ m. inl (met-late p e j b m)) (λ u. inr u));
     holds = λ j b t. lt-ltb j (size p) b;
@@ -309,12 +309,12 @@ module _ (p : Program) (e : ℕ) (known : Known p) (all : (i : ℕ) → i < size
     holds = λ j a b f. w .holds j (omega arith) (inl f);
   }
 
-  pub first-derived : First p e (whole p) (firstOf p e)
+  pub first-derived : FirstPhaseRule p e (everyBehaviour p) (firstOf p e)
   first-derived =
-      turns p e (depends-within p known e) (phaseOne p e) (metAtOnce p e) (whole p) (length-met p e) (phaseOne-ordered p e known) left-whole
+      turns p e (depends-within p known e) (phaseOne p e) (metAtOnce p e) (everyBehaviour p) (length-met p e) (phaseOne-ordered p e known) left-whole
       (λ Q w. laters p e (size p) 0 Q (late-left Q w))
 
-  moving-whole : Moving p e (depends-within p known e) 0 (size p) (whole p)
+  moving-whole : Moving p e (depends-within p known e) 0 (size p) (everyBehaviour p)
   moving-whole = record {
     ends = omega arith;
     says = λ j t. let b : 0 ≤ j = omega arith in (ltb-true j (size p) t, inr b);
@@ -329,7 +329,7 @@ module _ (p : Program) (e : ℕ) (known : Known p) (all : (i : ℕ) → i < size
     holds = λ j b f u. w .holds j b (inl f);
   }
 
-  pub second-derived : Second p e (whole p) (secondOf p e)
+  pub second-derived : SecondPhaseRule p e (everyBehaviour p) (secondOf p e)
   second-derived =
-      moves p e (depends-within p known e) (size p) 0 (whole p) _ moving-whole
+      moves p e (depends-within p known e) (size p) 0 (everyBehaviour p) _ moving-whole
       (λ Q w. agains p e (depends-within p known e) (phaseOne p e) (metAtOnce p e) Q (length-met p e) (phaseOne-ordered p e known) (again-left Q w) all)

@@ -11,7 +11,7 @@ use Rattle.lib_base.proofs.Tools.{split}
 use Rattle.spec_language.specs.Syntax.{Program}
 use Rattle.spec_language.specs.Dependence.{Response, follows, takes, defers, keeps, size, response, mentions, needs, Reach}
 use Rattle.spec_language.proofs.Laws.{none-past}
-use Rattle.back_figure3.specs.Figure3.{Assign, assigned, whole, without, followNeeds, PassivesAcyclic, Second, none₂, passive₂, immediate₂, later₂, unhandled₂}
+use Rattle.back_figure3.specs.Figure3.{Assign, assigned, everyBehaviour, without, followNeeds, PassivesAcyclic, SecondPhaseRule, none₂, passive₂, immediate₂, later₂, unhandled₂}
 use Rattle.back_figure3.proofs.Compiles.{first-step, not-round}
 use Rattle.back_figure3.proofs.Derived.{without-is}
 
@@ -49,7 +49,7 @@ module _ (p : Program) (e : ℕ) where
   not-this r q h f z = true≢false (sym f ∙ ap (λ (x : ℕ). isFollow (response p e x)) (sym z) ∙ ap isFollow q ∙ h)
 
   -- every passive is assigned
-  has-turn : {P : ℕ → Bool} {A : List Assign} → Second p e P A → (b : ℕ) → P b ≡ true → isFollow (response p e b) ≡ true → All (λ a. assigned b a ≡ false) A → ⊥
+  has-turn : {P : ℕ → Bool} {A : List Assign} → SecondPhaseRule p e P A → (b : ℕ) → P b ≡ true → isFollow (response p e b) ≡ true → All (λ a. assigned b a ≡ false) A → ⊥
   has-turn (none₂ h) b t f a = true≢false (sym t ∙ h b)
   has-turn (passive₂ {P = P} i s q d g) b t f a = has-turn d b (without-is i P b (eqb-false i b (a .0)) t) f (a .1)
   has-turn (immediate₂ {P = P} i s q d) b t f a = has-turn d b (without-is i P b (not-this (takes _) q refl f) t) f a
@@ -57,7 +57,7 @@ module _ (p : Program) (e : ℕ) where
   has-turn (unhandled₂ {P = P} i s q d) b t f a = has-turn d b (without-is i P b (not-this keeps q refl f) t) f a
 
   -- whoever is placed needs nobody that is left
-  fine-next : (P : ℕ → Bool) (i : ℕ) (A : List Assign) → ((a : ℕ) → P a ≡ false → Fine a) → Second p e (without i P) A
+  fine-next : (P : ℕ → Bool) (i : ℕ) (A : List Assign) → ((a : ℕ) → P a ≡ false → Fine a) → SecondPhaseRule p e (without i P) A
       → ((j : ℕ) → dep i j ≡ true → (i ≢ j) × All (λ b. assigned j b ≡ false) A) → Fine i
   fine-next P i A out d g =
       not-round (λ j h.
@@ -73,7 +73,7 @@ module _ (p : Program) (e : ℕ) where
   by-response : (i : ℕ) (r : Response) → response p e i ≡ r → isFollow r ≡ false → Fine i
   by-response i r q h = other-fine i (ap isFollow q ∙ h)
 
-  derived-fine : {P : ℕ → Bool} {A : List Assign} → Second p e P A → ((a : ℕ) → P a ≡ false → Fine a) → (a : ℕ) → Fine a
+  derived-fine : {P : ℕ → Bool} {A : List Assign} → SecondPhaseRule p e P A → ((a : ℕ) → P a ≡ false → Fine a) → (a : ℕ) → Fine a
   derived-fine (none₂ h) out = λ a. out a (h a)
   derived-fine (passive₂ {P = P} i {A = A} s q d g) out =
       derived-fine d (fine-less P i out (fine-next P i A out d (λ j h. let w = g j (ap (followNeeds j) (sym q) ∙ h) in (eqb-false i j (w .0), w .1))))
@@ -81,7 +81,7 @@ module _ (p : Program) (e : ℕ) where
   derived-fine (later₂ {P = P} i s q d) out = derived-fine d (fine-less P i out (by-response i (defers _) q refl))
   derived-fine (unhandled₂ {P = P} i s q d) out = derived-fine d (fine-less P i out (by-response i keeps q refl))
 
-pub second-acyclic : (p : Program) (e : ℕ) {A : List Assign} → Second p e (whole p) A → PassivesAcyclic p e
+pub second-acyclic : (p : Program) (e : ℕ) {A : List Assign} → SecondPhaseRule p e (everyBehaviour p) A → PassivesAcyclic p e
 second-acyclic p e d =
     derived-fine p e d
     (λ a t r. let w = first-step r in true≢false (sym (needs-follow a (w .0) (response p e a) (w .1)) ∙ none-past p e a (w .0) (ltb-false a (size p) t)))

@@ -21,11 +21,11 @@ pub data Assign : Type 0 where
   bring : ℕ → Assign
 
 -- FV(d): name j stands in it; an immediate handler's own name is its old value, and does not count
-abbrev pub named : ℕ → Assign → Bool
-named j (follow i x) = mentions j x
-named j (update i x) = mentions j x && not (eqb i j)
-named j (postpone i x) = mentions j x
-named j (bring i) = false
+abbrev pub freeName : ℕ → Assign → Bool
+freeName j (follow i x) = mentions j x
+freeName j (update i x) = mentions j x && not (eqb i j)
+freeName j (postpone i x) = mentions j x
+freeName j (bring i) = false
 
 -- it assigns the scratch of j; a place is no name's
 abbrev pub assigned : ℕ → Assign → Bool
@@ -36,35 +36,35 @@ assigned j (bring i) = eqb i j
 
 -- (x := d) < A: "d does not depend on x or any variable updated in A"
 abbrev pub DependsNot : Assign → List Assign → Type 0
-DependsNot a A = (j : ℕ) → named j a ≡ true → All (λ b. assigned j b ≡ false) (a ∷ A)
+DependsNot a A = (j : ℕ) → freeName j a ≡ true → All (λ b. assigned j b ≡ false) (a ∷ A)
 
 -- a part P of a program: which behaviours are in it; all; P without i, so that P is {x = b} ⊎ (P without x)
-abbrev pub whole : Program → ℕ → Bool
-whole p j = ltb j (size p)
+abbrev pub everyBehaviour : Program → ℕ → Bool
+everyBehaviour p j = ltb j (size p)
 
 abbrev pub without : ℕ → (ℕ → Bool) → ℕ → Bool
 without i P j = pick (eqb i j) false (P j)
 
 -- ⟨P⟩¹ = A: A is the first phase of the event's handler
-pub data First (p : Program) (e : ℕ) : (ℕ → Bool) → List Assign → Type 0 where
-  none₁ : {P : ℕ → Bool} → ((j : ℕ) → P j ≡ false) → First p e P []
-  passive₁ : {P : ℕ → Bool} (i : ℕ) {d : Expr} {A : List Assign} → P i ≡ true → response p e i ≡ follows d → First p e (without i P) A
-      → DependsNot (follow i d) A → First p e P (follow i d ∷ A)
-  immediate₁ : {P : ℕ → Bool} (i : ℕ) {d : Expr} {A : List Assign} → P i ≡ true → response p e i ≡ takes d → First p e (without i P) A
-      → DependsNot (update i d) A → First p e P (update i d ∷ A)
-  later₁ : {P : ℕ → Bool} (i : ℕ) {d : Expr} {A : List Assign} → P i ≡ true → response p e i ≡ defers d → First p e (without i P) A
-      → DependsNot (postpone i d) A → First p e P (postpone i d ∷ A)
-  unhandled₁ : {P : ℕ → Bool} (i : ℕ) {A : List Assign} → P i ≡ true → response p e i ≡ keeps → First p e (without i P) A → First p e P A
+pub data FirstPhaseRule (p : Program) (e : ℕ) : (ℕ → Bool) → List Assign → Type 0 where
+  none₁ : {P : ℕ → Bool} → ((j : ℕ) → P j ≡ false) → FirstPhaseRule p e P []
+  passive₁ : {P : ℕ → Bool} (i : ℕ) {d : Expr} {A : List Assign} → P i ≡ true → response p e i ≡ follows d → FirstPhaseRule p e (without i P) A
+      → DependsNot (follow i d) A → FirstPhaseRule p e P (follow i d ∷ A)
+  immediate₁ : {P : ℕ → Bool} (i : ℕ) {d : Expr} {A : List Assign} → P i ≡ true → response p e i ≡ takes d → FirstPhaseRule p e (without i P) A
+      → DependsNot (update i d) A → FirstPhaseRule p e P (update i d ∷ A)
+  later₁ : {P : ℕ → Bool} (i : ℕ) {d : Expr} {A : List Assign} → P i ≡ true → response p e i ≡ defers d → FirstPhaseRule p e (without i P) A
+      → DependsNot (postpone i d) A → FirstPhaseRule p e P (postpone i d ∷ A)
+  unhandled₁ : {P : ℕ → Bool} (i : ℕ) {A : List Assign} → P i ≡ true → response p e i ≡ keeps → FirstPhaseRule p e (without i P) A → FirstPhaseRule p e P A
 
 -- ⟨P⟩² = A: A is the second phase
-pub data Second (p : Program) (e : ℕ) : (ℕ → Bool) → List Assign → Type 0 where
-  none₂ : {P : ℕ → Bool} → ((j : ℕ) → P j ≡ false) → Second p e P []
-  passive₂ : {P : ℕ → Bool} (i : ℕ) {d : Expr} {A : List Assign} → P i ≡ true → response p e i ≡ follows d → Second p e (without i P) A
-      → DependsNot (follow i d) A → Second p e P (follow i d ∷ A)
-  immediate₂ : {P : ℕ → Bool} (i : ℕ) {d : Expr} {A : List Assign} → P i ≡ true → response p e i ≡ takes d → Second p e (without i P) A → Second p e P A
-  later₂ : {P : ℕ → Bool} (i : ℕ) {d : Expr} {A : List Assign} → P i ≡ true → response p e i ≡ defers d → Second p e (without i P) A
-      → Second p e P (bring i ∷ A)
-  unhandled₂ : {P : ℕ → Bool} (i : ℕ) {A : List Assign} → P i ≡ true → response p e i ≡ keeps → Second p e (without i P) A → Second p e P A
+pub data SecondPhaseRule (p : Program) (e : ℕ) : (ℕ → Bool) → List Assign → Type 0 where
+  none₂ : {P : ℕ → Bool} → ((j : ℕ) → P j ≡ false) → SecondPhaseRule p e P []
+  passive₂ : {P : ℕ → Bool} (i : ℕ) {d : Expr} {A : List Assign} → P i ≡ true → response p e i ≡ follows d → SecondPhaseRule p e (without i P) A
+      → DependsNot (follow i d) A → SecondPhaseRule p e P (follow i d ∷ A)
+  immediate₂ : {P : ℕ → Bool} (i : ℕ) {d : Expr} {A : List Assign} → P i ≡ true → response p e i ≡ takes d → SecondPhaseRule p e (without i P) A → SecondPhaseRule p e P A
+  later₂ : {P : ℕ → Bool} (i : ℕ) {d : Expr} {A : List Assign} → P i ≡ true → response p e i ≡ defers d → SecondPhaseRule p e (without i P) A
+      → SecondPhaseRule p e P (bring i ∷ A)
+  unhandled₂ : {P : ℕ → Bool} (i : ℕ) {A : List Assign} → P i ≡ true → response p e i ≡ keeps → SecondPhaseRule p e (without i P) A → SecondPhaseRule p e P A
 
 -- in phase two only passives have needs: passive i depends on every name j in it
 abbrev pub followNeeds : ℕ → Response → Bool
@@ -94,11 +94,11 @@ instructionsOf c = flatMap (assignCode c)
 
 -- ⟦P⟧ = Q for one event: its code is the copy's, phase one's, phase two's and the copy-back's in a row; the phases are
 -- those of the rules, and phase one begins behind off, the copies and on
-pub record Handler (p : Program) (e : ℕ) : Type 0 where
+pub record HandlerCode (p : Program) (e : ℕ) : Type 0 where
   pub first : List Assign
   pub second : List Assign
-  pub phase-one : First p e (whole p) first
-  pub phase-two : Second p e (whole p) second
+  pub phase-one : FirstPhaseRule p e (everyBehaviour p) first
+  pub phase-two : SecondPhaseRule p e (everyBehaviour p) second
   pub first-gives : firstPart p e ≡ instructionsOf (inC p e) first
   pub second-gives : secondPart p e ≡ instructionsOf (inC p e) second
   pub in-a-row : code p e ≡ copyPart p e ++ (firstPart p e ++ (secondPart p e ++ restorePart p e))

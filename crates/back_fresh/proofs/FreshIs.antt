@@ -25,7 +25,7 @@ use Rattle.spec_semantics.proofs.OrderLaws.{phaseOne-early}
 use Rattle.spec_semantics.proofs.Lengths.{length-first, length-starts, length-fresh}
 use Rattle.spec_execution.proofs.Responses.{ResponseFits, response-fits}
 use Rattle.spec_execution.proofs.Running.{value-same}
-use Rattle.front_draft.specs.Draft.{entryOf, usedBy, Stands, Says, StartIs, Drafted}
+use Rattle.front_draft.specs.Draft.{entryOf, usedBy, Stands, EntrySays, StartIs, Drafted}
 use Rattle.back_fresh.specs.Evaluate.{startsOn, turnOn, turnsOn, freshOn}
 use Rattle.back_fresh.proofs.NodesAre.{entry-is}
 
@@ -100,7 +100,7 @@ module _ (p : Program) (d : List ℕ) (k : ℕ) (drafted : Drafted p d k) (fits 
           value-same (size p) (at (s ++ rest)) (at s) (λ j c. pad-at s (64 - size p) j) x n,
         ) (set-append-left s rest i (value (at s) x) (omega arith))
 
-    turn-is : (i : ℕ) (s : List ℕ) (r : Response) → early r ≡ true → i < size p → length s ≡ size p → Says (usedBy d i) (entryOf d e i) r → ResponseFits (size p) r
+    turn-is : (i : ℕ) (s : List ℕ) (r : Response) → early r ≡ true → i < size p → length s ≡ size p → EntrySays (usedBy d i) (entryOf d e i) r → ResponseFits (size p) r
         → turnOn d e i (s ++ rest) ≡ firstStep i r s ++ rest
     turn-is i s (follows x) y b l t h = sets-value i s 1 x (omega arith) b l t (h .0) (h .1)
     turn-is i s (takes x) y b l t h = sets-value i s 2 x (omega arith) b l t (h .0) (h .1)

@@ -19,8 +19,8 @@ use Rattle.spec_language.specs.Code.{sizeOf}
 use Rattle.spec_semantics.specs.Meaning.{value, at}
 use Rattle.spec_execution.proofs.Running.{arity-is}
 use Rattle.front_draft.specs.Draft.{nodes, Stands}
-use Rattle.front_draft.specs.Entry.{startOf, countOf, tagOf, wordOf}
-use Rattle.back_fresh.specs.Evaluate.{functionOf, applied, nodeDepth, nodeStack, nodesOn, evaluated, entryValue}
+use Rattle.front_draft.specs.Entry.{entryStart, entryCount, nodeTag, nodeWord}
+use Rattle.back_fresh.specs.Evaluate.{functionOf, appliedAt, nodeDepth, nodeStack, nodesOn, evaluated, entryValue}
 
 module _ (v : List ℕ) where
   -- from depth k, the nodes xs push the value w
@@ -50,34 +50,34 @@ module _ (v : List ℕ) where
   push-constant : (w : ℕ) (s : List ℕ) (k : ℕ) → w < 4294967296 → length s ≡ 64 → k < 64 → Pushes ((68719476736 + w) ∷ []) s k w
   unfolding nodeStack nodeDepth
   push-constant w s k b l h =
-      let t : tagOf (68719476736 + w) ≡ 16 = omega arith in
-      let u : wordOf (68719476736 + w) ≡ w = omega arith in
+      let t : nodeTag (68719476736 + w) ≡ 16 = omega arith in
+      let u : nodeWord (68719476736 + w) ≡ w = omega arith in
       let q : ltb k 64 ≡ true = lt-ltb k 64 h in
       puts (68719476736 + w) s k w (rw (t, u, q)) (rw (t, q)) l h
 
   push-name : (i : ℕ) (s : List ℕ) (k : ℕ) → i < 64 → length s ≡ 64 → k < 64 → Pushes ((73014444032 + i) ∷ []) s k (at v i)
   unfolding nodeStack nodeDepth
   push-name i s k b l h =
-      let t : tagOf (73014444032 + i) ≡ 17 = omega arith in
-      let u : wordOf (73014444032 + i) ≡ i = omega arith in
+      let t : nodeTag (73014444032 + i) ≡ 17 = omega arith in
+      let u : nodeWord (73014444032 + i) ≡ i = omega arith in
       let q : ltb k 64 ≡ true = lt-ltb k 64 h in
       let r : ltb i 64 ≡ true = lt-ltb i 64 b in
       puts (73014444032 + i) s k (at v i) (rw (t, u, q, r)) (rw (t, q)) l h
 
   -- ---- applications
 
-  apply-node : (f n : ℕ) (s rest : List ℕ) (k w : ℕ) → f ≤ 14 → arity f ≡ n → applied f n s k ≡ w
+  apply-node : (f n : ℕ) (s rest : List ℕ) (k w : ℕ) → f ≤ 14 → arity f ≡ n → appliedAt f n s k ≡ w
       → nodesOn v ((77309411328 + f) ∷ rest) s (k + n) ≡ nodesOn v rest (set s k w) (k + 1)
   unfolding nodeStack nodeDepth
   apply-node f n s rest k w b a e =
-      let t : tagOf (77309411328 + f) ≡ 18 = omega arith in
+      let t : nodeTag (77309411328 + f) ≡ 18 = omega arith in
       let u : functionOf (77309411328 + f) ≡ f = omega arith in
       let q : ltb (k + n) n ≡ false = le-ltb (k + n) n (omega arith) in
       let r : k + n - n ≡ k = omega arith in
       next (77309411328 + f) rest s (set s k w) (k + n) (k + 1) (rw (t, u, a, q, r, e)) (rw (t, u, a, q, r))
 
   -- the arguments stand on the stack t, from place k on; what is below is as in s
-  calls : (xs : List ℕ) (f n : ℕ) (s t : List ℕ) (k m w : ℕ) → m ≡ k + n → f ≤ 14 → arity f ≡ n → applied f n t k ≡ w → length t ≡ 64 → k < 64
+  calls : (xs : List ℕ) (f n : ℕ) (s t : List ℕ) (k m w : ℕ) → m ≡ k + n → f ≤ 14 → arity f ≡ n → appliedAt f n t k ≡ w → length t ≡ 64 → k < 64
       → ((j : ℕ) → j < k → at t j ≡ at s j) → ((rest : List ℕ) → nodesOn v (xs ++ rest) s k ≡ nodesOn v rest t m)
       → Pushes (xs ++ ((77309411328 + f) ∷ [])) s k w
   calls xs f n s t k m w d b a e l h under on = record {
@@ -161,7 +161,7 @@ module _ (v : List ℕ) where
   entry-is d kind w x q t h n b i =
       let e : w ≡ (sizeOf x * 4096 + t .start) * 4 + kind = t .packed in
       let f : t .start + sizeOf x ≤ 2048 = t .within in
-      let a : startOf w ≡ t .start = omega arith in
-      let c : countOf w ≡ sizeOf x = omega arith in
+      let a : entryStart w ≡ t .start = omega arith in
+      let c : entryCount w ≡ sizeOf x = omega arith in
       let g : ltb 2048 (t .start + sizeOf x) ≡ false = le-ltb 2048 (t .start + sizeOf x) f in
       rw (a, c, g, t .there) (evaluated-is x h n b i)

@@ -8,7 +8,7 @@ use lib.Dec.{eqb, ltb}
 use Rattle.lib_base.specs.Basics.{pick}
 use Rattle.lib_arith.specs.Functions.{result, arity}
 use Rattle.front_draft.specs.Draft.{entryOf, usedBy}
-use Rattle.front_draft.specs.Entry.{startOf, countOf, tagOf, wordOf}
+use Rattle.front_draft.specs.Entry.{entryStart, entryCount, nodeTag, nodeWord}
 
 -- ---- one node, on the stack s of depth k; v has the values of names
 
@@ -28,27 +28,27 @@ abbrev pub argument : List ℕ → ℕ → ℕ → ℕ → ℕ
 argument s i n j = pick (ltb j n) (getD s (i + j) 0) 0
 
 -- function f on its n arguments from place i on
-abbrev pub applied : ℕ → ℕ → List ℕ → ℕ → ℕ
-applied f n s i = result f (argument s i n 0) (argument s i n 1) (argument s i n 2)
+abbrev pub appliedAt : ℕ → ℕ → List ℕ → ℕ → ℕ
+appliedAt f n s i = result f (argument s i n 0) (argument s i n 1) (argument s i n 2)
 
 -- a function takes its arguments and puts its result
 abbrev pub applyDepth : ℕ → ℕ → ℕ
 applyDepth n k = pick (ltb k n) k (k - n + 1)
 
 abbrev pub applyStack : ℕ → ℕ → List ℕ → ℕ → List ℕ
-applyStack f n s k = pick (ltb k n) s (set s (k - n) (applied f n s (k - n)))
+applyStack f n s k = pick (ltb k n) s (set s (k - n) (appliedAt f n s (k - n)))
 
 -- the function of an application
 abbrev pub functionOf : ℕ → ℕ
-functionOf x = wordOf x % 256
+functionOf x = nodeWord x % 256
 
 unfoldable pub nodeDepth : ℕ → ℕ → ℕ
-nodeDepth x k = pick (eqb (tagOf x) 16) (pushDepth k) (pick (eqb (tagOf x) 17) (pushDepth k) (applyDepth (arity (functionOf x)) k))
+nodeDepth x k = pick (eqb (nodeTag x) 16) (pushDepth k) (pick (eqb (nodeTag x) 17) (pushDepth k) (applyDepth (arity (functionOf x)) k))
 
 unfoldable pub nodeStack : List ℕ → ℕ → List ℕ → ℕ → List ℕ
 nodeStack v x s k =
-    pick (eqb (tagOf x) 16) (pushStack s k (wordOf x))
-    (pick (eqb (tagOf x) 17) (pushStack s k (look v (wordOf x)))
+    pick (eqb (nodeTag x) 16) (pushStack s k (nodeWord x))
+    (pick (eqb (nodeTag x) 17) (pushStack s k (look v (nodeWord x)))
     (applyStack (functionOf x) (arity (functionOf x)) s k))
 
 -- ---- nodes, one after the other: what is then lowest on the stack
@@ -63,7 +63,7 @@ evaluated v xs = nodesOn v xs (replicate 64 0) 0
 
 -- the expression of entry w; 0 where an entry reaches past the nodes
 unfoldable pub entryValue : List ℕ → List ℕ → ℕ → ℕ
-entryValue d v w = pick (ltb 2048 (startOf w + countOf w)) 0 (evaluated v (take (countOf w) (drop (startOf w) d)))
+entryValue d v w = pick (ltb 2048 (entryStart w + entryCount w)) 0 (evaluated v (take (entryCount w) (drop (entryStart w) d)))
 
 -- ---- the values of a fresh round
 

@@ -3,7 +3,7 @@ ghost use mathlib.Core.Path.{_≡_};
 ghost use Prim.Native.Nat.{_+_, _-_, _%_, _<_, _≤_};
 ghost use lib.ListN.{length, take, drop};
 ghost use Rattle.front_draft.specs.Draft.{draftLength, usedBy};
-ghost use Rattle.back_fresh.specs.Evaluate.{pushDepth, pushStack, look, argument, applied, applyDepth, applyStack, nodeDepth, nodeStack, evaluated};
+ghost use Rattle.back_fresh.specs.Evaluate.{pushDepth, pushStack, look, argument, appliedAt, applyDepth, applyStack, nodeDepth, nodeStack, evaluated};
 ghost use Rattle.back_fresh.specs.Evaluate.{entryValue, startsOn, turnOn, freshOn};
 use front_draft::layout;
 use spec_language::limits;
@@ -51,7 +51,7 @@ fn argument_at(st: &[u32], i: usize, n: usize, j: usize) -> u32
 // Function f on its n arguments at place i of the stack.
 fn apply_at(f: u8, n: usize, st: &[u32], i: usize) -> u32
     requires { ⌜ (length (now st) ≡ 64) × (i + n ≤ 64) ⌝ }
-    ensures { λ r. ⌜ r ≡ applied f n (now (st .entry)) i ⌝ }
+    ensures { λ r. ⌜ r ≡ appliedAt f n (now (st .entry)) i ⌝ }
 {
     let a = argument_at(st, i, n, 0);
     let b = argument_at(st, i, n, 1);

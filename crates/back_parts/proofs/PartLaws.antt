@@ -12,7 +12,7 @@ use Rattle.format_image.proofs.ImageLaws.{length-padded}
 use Rattle.back_emit.specs.Words.{each}
 use Rattle.back_emit.specs.Writing.{Room, Wrote}
 use Rattle.back_emit.proofs.WritingLaws.{wrote-none, wrote-then, wrote-as}
-use Rattle.back_parts.specs.RightWords.{numberAt, rightWords}
+use Rattle.back_parts.specs.RightWords.{draftNumber, rightWords}
 
 pub wrote-one : {t t′ : List ℕ} {k w : ℕ} → t′ ≡ put t k w → Wrote t k (w ∷ []) t′ (k + 1)
 unfolding putWords
@@ -80,30 +80,30 @@ wrote-padded {ws = ws} {k = k} {b = b} n w z =
 
 -- ---- numbers of the draft
 
-pub number-wrote : (d : List ℕ) (from j : ℕ) {t t′ : List ℕ} {k : ℕ} → t′ ≡ put t k (getD d (from + j) 0 % 4294967296) → Wrote t k (numberAt d from j) t′ (k + 1)
-unfolding numberAt
+pub number-wrote : (d : List ℕ) (from j : ℕ) {t t′ : List ℕ} {k : ℕ} → t′ ≡ put t k (getD d (from + j) 0 % 4294967296) → Wrote t k (draftNumber d from j) t′ (k + 1)
+unfolding draftNumber
 number-wrote d from j q = wrote-one q
 
 -- each has one word
-pub length-numbers : (d : List ℕ) (from n : ℕ) → length (each n (numberAt d from)) ≡ n
-unfolding each numberAt
+pub length-numbers : (d : List ℕ) (from n : ℕ) → length (each n (draftNumber d from)) ≡ n
+unfolding each draftNumber
 length-numbers d from zero = refl
 length-numbers d from (suc n) = rw length-append (omega (arith, length-numbers d from n))
 
 -- there is room for a word where there is for one of them
-pub number-room : (d : List ℕ) (from j : ℕ) {t : List ℕ} {k : ℕ} → Room t k (numberAt d from j) → (k + 1 ≤ 8704) × (34816 ≤ length t)
-unfolding numberAt
+pub number-room : (d : List ℕ) (from j : ℕ) {t : List ℕ} {k : ℕ} → Room t k (draftNumber d from j) → (k + 1 ≤ 8704) × (34816 ≤ length t)
+unfolding draftNumber
 number-room d from j r = (omega (arith, r .within), r .long)
 
-pub numbers-room : (d : List ℕ) (from n : ℕ) {t : List ℕ} {k : ℕ} → k + n ≤ 8704 → 34816 ≤ length t → Room t k (each n (numberAt d from))
+pub numbers-room : (d : List ℕ) (from n : ℕ) {t : List ℕ} {k : ℕ} → k + n ≤ 8704 → 34816 ≤ length t → Room t k (each n (draftNumber d from))
 numbers-room d from n a b = record { within = omega (arith, length-numbers d from n); long = b }
 
-pub rights-wrote : (d : List ℕ) (ev bs : ℕ) {t t₁ t₂ t₃ t₄ : List ℕ} {a b c r : ℕ} → ev ≤ 32 → bs ≤ 64 → Wrote t 200 (each bs (numberAt d 4256)) t₁ a
-    → Wrote t₁ a (replicate (264 - a) 0) t₂ b → Wrote t₂ 264 (each ev (numberAt d 4320)) t₃ c → Wrote t₃ c (replicate (296 - c) 0) t₄ r
+pub rights-wrote : (d : List ℕ) (ev bs : ℕ) {t t₁ t₂ t₃ t₄ : List ℕ} {a b c r : ℕ} → ev ≤ 32 → bs ≤ 64 → Wrote t 200 (each bs (draftNumber d 4256)) t₁ a
+    → Wrote t₁ a (replicate (264 - a) 0) t₂ b → Wrote t₂ 264 (each ev (draftNumber d 4320)) t₃ c → Wrote t₃ c (replicate (296 - c) 0) t₄ r
     → Wrote t 200 (rightWords d ev bs) t₄ r × (r ≡ 296)
 unfolding rightWords
 rights-wrote d ev bs {b = b} {r = r} few small w x y z =
     let seen = wrote-padded 64 w x in
-    let p : b ≡ 264 = omega (arith, seen .next, length-padded 64 (each bs (numberAt d 4256)) (omega (arith, length-numbers d 4256 bs))) in
+    let p : b ≡ 264 = omega (arith, seen .next, length-padded 64 (each bs (draftNumber d 4256)) (omega (arith, length-numbers d 4256 bs))) in
     let sent = wrote-padded 32 y z in
-    (wrote-then (rw p at seen) sent, omega (arith, sent .next, length-padded 32 (each ev (numberAt d 4320)) (omega (arith, length-numbers d 4320 ev))))
+    (wrote-then (rw p at seen) sent, omega (arith, sent .next, length-padded 32 (each ev (draftNumber d 4320)) (omega (arith, length-numbers d 4320 ev))))

@@ -7,8 +7,8 @@ use Rattle.format_image.specs.Image.{padded}
 use Rattle.back_emit.specs.Words.{each}
 
 -- the number at place from + j of the draft, as a word
-unfoldable pub numberAt : List ℕ → ℕ → ℕ → List ℕ
-numberAt d from j = (getD d (from + j) 0 % 4294967296) ∷ []
+unfoldable pub draftNumber : List ℕ → ℕ → ℕ → List ℕ
+draftNumber d from j = (getD d (from + j) 0 % 4294967296) ∷ []
 
 unfoldable pub rightWords : List ℕ → ℕ → ℕ → List ℕ
-rightWords d ev bs = padded 64 (each bs (numberAt d 4256)) ++ padded 32 (each ev (numberAt d 4320))
+rightWords d ev bs = padded 64 (each bs (draftNumber d 4256)) ++ padded 32 (each ev (draftNumber d 4320))

@@ -9,7 +9,7 @@ ghost use Rattle.back_counts.specs.Counts.{countMembers};
 ghost use Rattle.back_emit.specs.Words.{each};
 ghost use Rattle.back_emit.specs.Writing.{Room, Wrote};
 ghost use Rattle.front_draft.specs.Draft.{draftLength};
-ghost use Rattle.back_parts.specs.RightWords.{numberAt, rightWords};
+ghost use Rattle.back_parts.specs.RightWords.{draftNumber, rightWords};
 use format_layout::table;
 use front_draft::layout;
 use lib_word::put_word;
@@ -77,8 +77,8 @@ pub fn write_values(v: &[u32], t: &mut [u8], k: usize) -> usize
 // The numbers of the draft from place `from` on, `count` of them, a word for each.
 fn write_numbers(d: &[u64], from: usize, count: usize, t: &mut [u8], k: usize) -> usize
     requires { ⌜ (length (now d) ≡ draftLength) × (from + count ≤ draftLength) ⌝ }
-    requires { ⌜ Room (now t) k (each count (numberAt (now d) from)) ⌝ }
-    ensures { λ r. ⌜ Wrote (now (t .entry)) k (each count (numberAt (now (d .entry)) from)) (now (t .exit)) r ⌝ }
+    requires { ⌜ Room (now t) k (each count (draftNumber (now d) from)) ⌝ }
+    ensures { λ r. ⌜ Wrote (now (t .entry)) k (each count (draftNumber (now (d .entry)) from)) (now (t .exit)) r ⌝ }
 {
     let mut next = k;
     let mut j = 0;

@@ -8,17 +8,17 @@ use lib.Dec.{eqb}
 use Rattle.lib_base.specs.Basics.{pick}
 use Rattle.format_image.specs.Image.{padded}
 use Rattle.front_draft.specs.Draft.{entryOf}
-use Rattle.front_draft.specs.Entry.{kindOf, countOf}
+use Rattle.front_draft.specs.Entry.{entryKind, entryCount}
 use Rattle.back_counts.specs.Counts.{total, countEvent, countMembers}
 use Rattle.back_emit.specs.Words.{each}
 
 -- 1 for a passive
 unfoldable pub kindWord : List ℕ → ℕ → List ℕ
-kindWord d i = pick (eqb (kindOf (entryOf d 0 i)) 1) 1 0 ∷ []
+kindWord d i = pick (eqb (entryKind (entryOf d 0 i)) 1) 1 0 ∷ []
 
 -- what an entry adds to their instructions
 unfoldable pub againShare : ℕ → ℕ
-againShare v = pick (eqb (kindOf v) 1) (countOf v + 1) 0
+againShare v = pick (eqb (entryKind v) 1) (entryCount v + 1) 0
 
 unfoldable pub countAgain : List ℕ → ℕ → ℕ
 countAgain d n = total n (λ i. againShare (entryOf d 0 i))
@@ -32,5 +32,5 @@ againStart ev all m count = pick (eqb ev 0) 0 (all - (count + (m + 2)))
 unfoldable pub stretchWords : List ℕ → ℕ → ℕ → List ℕ
 stretchWords d ev bs = againStart ev (countEvent d 0 bs) (countMembers d 0 bs) (countAgain d bs) ∷ countAgain d bs ∷ []
 
-unfoldable pub settleWords : List ℕ → ℕ → ℕ → List ℕ
-settleWords d ev bs = padded 64 (each bs (kindWord d)) ++ padded 152 (stretchWords d ev bs)
+unfoldable pub draftPassiveWords : List ℕ → ℕ → ℕ → List ℕ
+draftPassiveWords d ev bs = padded 64 (each bs (kindWord d)) ++ padded 152 (stretchWords d ev bs)

@@ -5,11 +5,11 @@ ghost use Prim.Native.Nat.{_≤_, _<_};
 ghost use lib.ListN.{length};
 ghost use lib.Dec.{eqb};
 ghost use Rattle.lib_base.specs.Basics.{pick};
-ghost use Rattle.front_draft.specs.Entry.{kindOf, countOf};
-ghost use Rattle.back_counts.specs.Counts.{Sound};
+ghost use Rattle.front_draft.specs.Entry.{entryKind, entryCount};
+ghost use Rattle.back_counts.specs.Counts.{EntriesInside};
 ghost use Rattle.back_emit.specs.Words.{each};
 ghost use Rattle.back_emit.specs.Writing.{Room, Wrote};
-ghost use Rattle.back_passives.specs.PassiveWords.{kindWord, againShare, countAgain, againStart, settleWords};
+ghost use Rattle.back_passives.specs.PassiveWords.{kindWord, againShare, countAgain, againStart, draftPassiveWords};
 use format_layout::table;
 use front_draft::entry_of;
 use front_draft::layout;
@@ -20,7 +20,7 @@ const PASSIVES_END: usize = table::PASSIVES_LENGTH + 1;
 
 // 1 for a passive's entry.
 fn kind_of(v: u64) -> u32
-    ensures { λ r. ⌜ r ≡ pick (eqb (kindOf v) 1) 1 0 ⌝ }
+    ensures { λ r. ⌜ r ≡ pick (eqb (entryKind v) 1) 1 0 ⌝ }
 {
     if v % layout::KINDS == layout::PASSIVE {
         return 1;
@@ -30,7 +30,7 @@ fn kind_of(v: u64) -> u32
 
 // The kinds of n behaviours.
 fn write_kinds(d: &[u64], n: usize, t: &mut [u8], k: usize) -> usize
-    requires { ⌜ Sound (now d) 0 n ⌝ }
+    requires { ⌜ EntriesInside (now d) 0 n ⌝ }
     requires { ⌜ Room (now t) k (each n (kindWord (now d))) ⌝ }
     ensures { λ r. ⌜ Wrote (now (t .entry)) k (each n (kindWord (now (d .entry)))) (now (t .exit)) r ⌝ }
 {
@@ -46,7 +46,7 @@ fn write_kinds(d: &[u64], n: usize, t: &mut [u8], k: usize) -> usize
 
 // What an entry adds to the instructions that work the passives out.
 fn share_again(v: u64) -> usize
-    requires { ⌜ countOf v ≤ 2048 ⌝ }
+    requires { ⌜ entryCount v ≤ 2048 ⌝ }
     ensures { λ r. ⌜ r ≡ againShare v ⌝ }
 {
     if v % layout::KINDS == layout::PASSIVE {
@@ -56,7 +56,7 @@ fn share_again(v: u64) -> usize
 }
 
 fn count_again(d: &[u64], n: usize) -> usize
-    requires { ⌜ Sound (now d) 0 n ⌝ }
+    requires { ⌜ EntriesInside (now d) 0 n ⌝ }
     ensures { λ r. ⌜ r ≡ countAgain (now (d .entry)) n ⌝ }
 {
     let mut sum = 0;
@@ -85,8 +85,8 @@ fn start_again(ev: usize, all: usize, m: usize, count: usize) -> usize
 // Which behaviours are passives, from word 296 on, and the start and length of their instructions, in words 360 and
 // 361; zeros up to word 512.
 pub fn write_passives(d: &[u64], ev: usize, bs: usize, t: &mut [u8]) -> usize
-    requires { ⌜ Sound (now d) 0 bs × (34816 ≤ length (now t)) ⌝ }
-    ensures { λ r. ⌜ Wrote (now (t .entry)) 296 (settleWords (now (d .entry)) ev bs) (now (t .exit)) r ⌝ }
+    requires { ⌜ EntriesInside (now d) 0 bs × (34816 ≤ length (now t)) ⌝ }
+    ensures { λ r. ⌜ Wrote (now (t .entry)) 296 (draftPassiveWords (now (d .entry)) ev bs) (now (t .exit)) r ⌝ }
     ensures { λ r. ⌜ r ≡ 512 ⌝ }
 {
     let kinds = write_kinds(d, bs, t, table::KINDS);

@@ -18,9 +18,9 @@ use Rattle.spec_language.proofs.Laws.{ResponseNamesIn, response-names, Response
 use Rattle.spec_semantics.proofs.OrderLaws.{phaseOne-early}
 use Rattle.format_image.specs.Image.{operation, constant, codeWords}
 use Rattle.front_draft.specs.Draft.{entryOf, usedBy, Drafted}
-use Rattle.front_draft.specs.Entry.{kindOf}
+use Rattle.front_draft.specs.Entry.{entryKind}
 use Rattle.front_draft.proofs.DraftLaws.{Holds, Entry, entry-of}
-use Rattle.back_emit.specs.Words.{each, turnWords, kindWords, moveWords}
+use Rattle.back_emit.specs.Words.{each, turnWords, turnWordsOfKind, moveWords}
 use Rattle.back_emit.proofs.ExprWords.{codeWords-append, expr-code}
 use Rattle.back_phases.specs.Phases.{firstWords, secondWords}
 
@@ -67,11 +67,11 @@ module _ (p : Program) (d : List ℕ) (n : ℕ) (dr : Drafted p d n) (fits : Fit
     ended kind op o x r k f a s z =
         rw (codeWords-append (postfix c x) (o ∷ []), expr-code p d n dr (fits .few-behaviours) e b i kind v x k f a, s, z)
 
-    by-kind : (kind k op : ℕ) → kindOf v ≡ k → kindWords d e kind op i ≡ pick (eqb k kind) (turnWords d e op i) []
-    unfolding kindWords
+    by-kind : (kind k op : ℕ) → entryKind v ≡ k → turnWordsOfKind d e kind op i ≡ pick (eqb k kind) (turnWords d e op i) []
+    unfolding turnWordsOfKind
     by-kind kind k op z = rw z
 
-    move-kind : (k : ℕ) → kindOf v ≡ k → moveWords d e i ≡ pick (eqb k 3) ((2816 + i) ∷ 0 ∷ []) []
+    move-kind : (k : ℕ) → entryKind v ≡ k → moveWords d e i ≡ pick (eqb k 3) ((2816 + i) ∷ 0 ∷ []) []
     unfolding moveWords
     move-kind k z = rw z
 
@@ -81,14 +81,14 @@ module _ (p : Program) (d : List ℕ) (n : ℕ) (dr : Drafted p d n) (fits : Fit
     first-is (defers x) k f a z = absurd (false≢true z)
     first-is keeps k f a z = absurd (false≢true z)
 
-    later-is : (r : Response) → Entry (usedBy d i) v r → ResponseNested r → ResponseNamesIn (size p) r → kindWords d e 3 2560 i ≡ codeWords (laterCode c i r)
+    later-is : (r : Response) → Entry (usedBy d i) v r → ResponseNested r → ResponseNamesIn (size p) r → turnWordsOfKind d e 3 2560 i ≡ codeWords (laterCode c i r)
     unfolding codeWords
     later-is (follows x) k f a = by-kind 3 1 2560 (k .kind-is)
     later-is (takes x) k f a = by-kind 3 2 2560 (k .kind-is)
     later-is (defers x) k f a = by-kind 3 3 2560 (k .kind-is) ∙ ended 3 2560 (defer i) x (defers x) k f a refl refl
     later-is keeps k f a = by-kind 3 0 2560 (omega arith)
 
-    again-is : (r : Response) → Entry (usedBy d i) v r → ResponseNested r → ResponseNamesIn (size p) r → kindWords d e 1 2304 i ≡ codeWords (againCode c i r)
+    again-is : (r : Response) → Entry (usedBy d i) v r → ResponseNested r → ResponseNamesIn (size p) r → turnWordsOfKind d e 1 2304 i ≡ codeWords (againCode c i r)
     unfolding codeWords
     again-is (follows x) k f a = by-kind 1 1 2304 (k .kind-is) ∙ ended 1 2304 (save i) x (follows x) k f a refl refl
     again-is (takes x) k f a = by-kind 1 2 2304 (k .kind-is)
@@ -117,14 +117,14 @@ module _ (p : Program) (d : List ℕ) (n : ℕ) (dr : Drafted p d n) (fits : Fit
         turn-code p e (turnWords d e 2304) (firstCode c) (phaseOne p e)
             (all-imp (λ i. (i < size p) × (early (response p e i) ≡ true)) (λ i. turnWords d e 2304 i ≡ codeWords (firstCode c i (response p e i)))
             (λ i h. first-is i (h .0) (response p e i) (held i (h .0)) (fit i) (names i) (h .1)) (phaseOne p e) (phaseOne-early p e known)),
-        each-code (size p) (kindWords d e 3 2560) (λ i. laterCode c i (response p e i)) (λ i h. later-is i h (response p e i) (held i h) (fit i) (names i)),
+        each-code (size p) (turnWordsOfKind d e 3 2560) (λ i. laterCode c i (response p e i)) (λ i h. later-is i h (response p e i) (held i h) (fit i) (names i)),
         codeWords-append (inOrder p e (firstCode c) (phaseOne p e)) (byNumber p e (laterCode c)),
       )
 
-  pub again-are : flatMap (kindWords d e 1 2304) (phaseOne p e) ≡ codeWords (inOrder p e (againCode c) (phaseOne p e))
+  pub again-are : flatMap (turnWordsOfKind d e 1 2304) (phaseOne p e) ≡ codeWords (inOrder p e (againCode c) (phaseOne p e))
   again-are =
-      turn-code p e (kindWords d e 1 2304) (againCode c) (phaseOne p e)
-      (all-imp (λ i. (i < size p) × (early (response p e i) ≡ true)) (λ i. kindWords d e 1 2304 i ≡ codeWords (againCode c i (response p e i)))
+      turn-code p e (turnWordsOfKind d e 1 2304) (againCode c) (phaseOne p e)
+      (all-imp (λ i. (i < size p) × (early (response p e i) ≡ true)) (λ i. turnWordsOfKind d e 1 2304 i ≡ codeWords (againCode c i (response p e i)))
       (λ i h. again-is i (h .0) (response p e i) (held i (h .0)) (fit i) (names i)) (phaseOne p e) (phaseOne-early p e known))
 
   pub second-are : secondWords d e (size p) (phaseOne p e) ≡ codeWords (secondPart p e)

@@ -2,12 +2,12 @@
 -- compiler writes them. 01 "Handlers and steps".
 use Prim.Native.Nat.{ℕ}
 use mathlib.Core.List.{List, _++_, flatMap}
-use Rattle.back_emit.specs.Words.{each, turnWords, kindWords, moveWords}
+use Rattle.back_emit.specs.Words.{each, turnWords, turnWordsOfKind, moveWords}
 
 -- phase one of n behaviours, in the order is, then the later handlers
 unfoldable pub firstWords : List ℕ → ℕ → ℕ → List ℕ → List ℕ
-firstWords d e n is = flatMap (turnWords d e 2304) is ++ each n (kindWords d e 3 2560)
+firstWords d e n is = flatMap (turnWords d e 2304) is ++ each n (turnWordsOfKind d e 3 2560)
 
 -- phase two: their moves, then the passives again
 unfoldable pub secondWords : List ℕ → ℕ → ℕ → List ℕ → List ℕ
-secondWords d e n is = each n (moveWords d e) ++ flatMap (kindWords d e 1 2304) is
+secondWords d e n is = each n (moveWords d e) ++ flatMap (turnWordsOfKind d e 1 2304) is

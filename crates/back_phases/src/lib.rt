@@ -4,9 +4,9 @@ ghost use mathlib.Core.Path.{_≡_};
 ghost use Prim.Native.Nat.{_≤_};
 ghost use mathlib.Core.List.{flatMap};
 ghost use lib.ListN.{length, take};
-ghost use Rattle.back_counts.specs.Counts.{Sound};
-ghost use Rattle.back_schedule.specs.Ordering.{Listed};
-ghost use Rattle.back_emit.specs.Words.{each, turnWords, kindWords, moveWords};
+ghost use Rattle.back_counts.specs.Counts.{EntriesInside};
+ghost use Rattle.back_schedule.specs.Ordering.{OrderListed};
+ghost use Rattle.back_emit.specs.Words.{each, turnWords, turnWordsOfKind, moveWords};
 ghost use Rattle.back_emit.specs.Writing.{Room, Wrote};
 ghost use Rattle.front_draft.specs.Draft.{draftLength};
 ghost use Rattle.back_phases.specs.Phases.{firstWords, secondWords};
@@ -26,7 +26,7 @@ fn emit_turns(
     t: &mut [u8],
     k: usize,
 ) -> usize
-    requires { ⌜ Sound (now d) e n × Listed (now o) count n ⌝ }
+    requires { ⌜ EntriesInside (now d) e n × OrderListed (now o) count n ⌝ }
     requires { ⌜ Room (now t) k (flatMap (turnWords (now d) e 2304) (take count (now o))) ⌝ }
     ensures { λ r. ⌜ Wrote (now (t .entry)) k (flatMap (turnWords (now (d .entry)) e 2304) (take count (now (o .entry)))) (now (t .exit)) r ⌝ }
 {
@@ -41,9 +41,9 @@ fn emit_turns(
 
 // The later handlers, over the first phase's values.
 fn emit_laters(d: &[u64], e: usize, n: usize, t: &mut [u8], k: usize) -> usize
-    requires { ⌜ Sound (now d) e n ⌝ }
-    requires { ⌜ Room (now t) k (each n (kindWords (now d) e 3 2560)) ⌝ }
-    ensures { λ r. ⌜ Wrote (now (t .entry)) k (each n (kindWords (now (d .entry)) e 3 2560)) (now (t .exit)) r ⌝ }
+    requires { ⌜ EntriesInside (now d) e n ⌝ }
+    requires { ⌜ Room (now t) k (each n (turnWordsOfKind (now d) e 3 2560)) ⌝ }
+    ensures { λ r. ⌜ Wrote (now (t .entry)) k (each n (turnWordsOfKind (now (d .entry)) e 3 2560)) (now (t .exit)) r ⌝ }
 {
     let mut next = k;
     let mut i = 0;
@@ -64,7 +64,7 @@ pub fn phase_one(
     t: &mut [u8],
     k: usize,
 ) -> usize
-    requires { ⌜ Sound (now d) e n × Listed (now o) count n ⌝ }
+    requires { ⌜ EntriesInside (now d) e n × OrderListed (now o) count n ⌝ }
     requires { ⌜ Room (now t) k (firstWords (now d) e n (take count (now o))) ⌝ }
     ensures { λ r. ⌜ Wrote (now (t .entry)) k (firstWords (now (d .entry)) e n (take count (now (o .entry)))) (now (t .exit)) r ⌝ }
 {
@@ -97,9 +97,9 @@ pub fn emit_again(
     t: &mut [u8],
     k: usize,
 ) -> usize
-    requires { ⌜ Sound (now d) e n × Listed (now o) count n ⌝ }
-    requires { ⌜ Room (now t) k (flatMap (kindWords (now d) e 1 2304) (take count (now o))) ⌝ }
-    ensures { λ r. ⌜ Wrote (now (t .entry)) k (flatMap (kindWords (now (d .entry)) e 1 2304) (take count (now (o .entry)))) (now (t .exit)) r ⌝ }
+    requires { ⌜ EntriesInside (now d) e n × OrderListed (now o) count n ⌝ }
+    requires { ⌜ Room (now t) k (flatMap (turnWordsOfKind (now d) e 1 2304) (take count (now o))) ⌝ }
+    ensures { λ r. ⌜ Wrote (now (t .entry)) k (flatMap (turnWordsOfKind (now (d .entry)) e 1 2304) (take count (now (o .entry)))) (now (t .exit)) r ⌝ }
 {
     let mut next = k;
     let mut j = 0;
@@ -120,7 +120,7 @@ pub fn phase_two(
     t: &mut [u8],
     k: usize,
 ) -> usize
-    requires { ⌜ Sound (now d) e n × Listed (now o) count n ⌝ }
+    requires { ⌜ EntriesInside (now d) e n × OrderListed (now o) count n ⌝ }
     requires { ⌜ Room (now t) k (secondWords (now d) e n (take count (now o))) ⌝ }
     ensures { λ r. ⌜ Wrote (now (t .entry)) k (secondWords (now (d .entry)) e n (take count (now (o .entry)))) (now (t .exit)) r ⌝ }
 {

@@ -25,17 +25,17 @@ use Rattle.check_faults.proofs.CycleDecides.{cell-is}
 use Rattle.back_figure3.specs.Figure3.{turnsIn}
 use Rattle.back_figure3.proofs.Compiles.{check-exactly}
 use Rattle.back_counts.proofs.CountIs.{total-sum}
-use Rattle.back_schedule.specs.Ordering.{markOf, orderUnder, countTurns, isOrdered}
+use Rattle.back_schedule.specs.Ordering.{metMark, orderUnder, countTurns, isOrdered}
 
-mark-early : (d : List ℕ) (v : ℕ) (r : Response) → Entry d v r → eqb (markOf v) 0 ≡ early r
-unfolding markOf
+mark-early : (d : List ℕ) (v : ℕ) (r : Response) → Entry d v r → eqb (metMark v) 0 ≡ early r
+unfolding metMark
 mark-early d v (follows x) h = rw (h .kind-is)
 mark-early d v (takes x) h = rw (h .kind-is)
 mark-early d v (defers x) h = rw (h .kind-is)
 mark-early d v keeps h = rw h
 
-turn-early : (d : List ℕ) (v : ℕ) (r : Response) → Entry d v r → 1 - markOf v ≡ one? (early r)
-unfolding markOf
+turn-early : (d : List ℕ) (v : ℕ) (r : Response) → Entry d v r → 1 - metMark v ≡ one? (early r)
+unfolding metMark
 turn-early d v (follows x) h = rw (h .kind-is)
 turn-early d v (takes x) h = rw (h .kind-is)
 turn-early d v (defers x) h = rw (h .kind-is)
@@ -46,7 +46,7 @@ module _ (p : Program) (d : List ℕ) (n : ℕ) (dr : Drafted p d n) (fits : Fit
   unfolding orderUnder phaseOne metAtOnce
   order-is =
       let m = matrixOn d e (size p) in
-      let f : ℕ → Bool = λ i. not (eqb (markOf (entryOf d e i)) 0) in
+      let f : ℕ → Bool = λ i. not (eqb (metMark (entryOf d e i)) 0) in
       let small : size p ≤ 64 = fits .few-behaviours in
       order-same (size p) (λ i j. cell m i j) (dependsOn p e)
       (λ i j h k. ap (λ (x : List ℕ). cell x i j) (matrix-is p d n e fits dr b) ∙ cell-is p e i j (omega arith) (omega arith)) (size p) (upTo (size p) f)
@@ -57,7 +57,7 @@ module _ (p : Program) (d : List ℕ) (n : ℕ) (dr : Drafted p d n) (fits : Fit
   turns-are : countTurns d e (size p) ≡ turnsIn p e
   unfolding countTurns turnsIn
   turns-are =
-      total-sum (size p) (λ i. 1 - markOf (entryOf d e i)) (λ i. one? (early (response p e i)))
+      total-sum (size p) (λ i. 1 - metMark (entryOf d e i)) (λ i. one? (early (response p e i)))
       (λ i h. turn-early (usedBy d i) (entryOf d e i) (response p e i) (entry-of p d n dr e i b h))
 
   -- the check passes exactly if no behaviour reaches itself on the event

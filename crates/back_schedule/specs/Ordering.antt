@@ -10,7 +10,7 @@ use Rattle.lib_base.specs.Basics.{pick}
 use Rattle.lib_bits.specs.Bits.{bit}
 use Rattle.spec_language.specs.Order.{order, upTo}
 use Rattle.front_draft.specs.Draft.{entryOf}
-use Rattle.front_draft.specs.Entry.{kindOf}
+use Rattle.front_draft.specs.Entry.{entryKind}
 use Rattle.check_graph.specs.Matrix.{cell}
 use Rattle.check_faults.specs.Checks.{matrixOn}
 use Rattle.back_counts.specs.Counts.{total}
@@ -18,30 +18,30 @@ use Rattle.back_schedule.specs.declared.Order.{Order}
 use Rattle.back_schedule.specs.declared.Order.the-variants.{Complete, Circular}
 
 -- the mark of a behaviour whose entry is v: 0 for a passive or an immediate handler, 1 for whoever is met at once
-unfoldable pub markOf : ℕ → ℕ
-markOf v = pick (eqb (kindOf v) 1) 0 (pick (eqb (kindOf v) 2) 0 1)
+unfoldable pub metMark : ℕ → ℕ
+metMark v = pick (eqb (entryKind v) 1) 0 (pick (eqb (entryKind v) 2) 0 1)
 
 -- of the first n on event e, those in the set are met at once
 pub record MetAre (d : List ℕ) (e n set : ℕ) : Type 0 where
-  pub each-mark : (i : ℕ) → i < n → bit set i ≡ not (eqb (markOf (entryOf d e i)) 0)
+  pub each-mark : (i : ℕ) → i < n → bit set i ≡ not (eqb (metMark (entryOf d e i)) 0)
 
 -- the order of n behaviours on event e
 unfoldable pub orderUnder : List ℕ → ℕ → ℕ → List ℕ
-orderUnder d e n = order n (λ i j. cell (matrixOn d e n) i j) n (upTo n (λ i. not (eqb (markOf (entryOf d e i)) 0)))
+orderUnder d e n = order n (λ i j. cell (matrixOn d e n) i j) n (upTo n (λ i. not (eqb (metMark (entryOf d e i)) 0)))
 
 -- the first count bytes of o are behaviours
-pub record Listed (o : List ℕ) (count n : ℕ) : Type 0 where
+pub record OrderListed (o : List ℕ) (count n : ℕ) : Type 0 where
   pub long : count ≤ length o
   pub below : (j : ℕ) → j < count → getD o j 0 < n
 
 -- they are the order is, of n behaviours
-pub record Holds (o : List ℕ) (count n : ℕ) (is : List ℕ) : Type 0 where
+pub record OrderHolds (o : List ℕ) (count n : ℕ) (is : List ℕ) : Type 0 where
   pub taken : take count o ≡ is
-  pub listed : Listed o count n
+  pub listed : OrderListed o count n
 
 -- how many have a turn in phase one
 unfoldable pub countTurns : List ℕ → ℕ → ℕ → ℕ
-countTurns d e n = total n (λ i. 1 - markOf (entryOf d e i))
+countTurns d e n = total n (λ i. 1 - metMark (entryOf d e i))
 
 -- all of them stand in the order
 unfoldable pub isOrdered : List ℕ → ℕ → ℕ → Bool
@@ -49,5 +49,5 @@ isOrdered d e n = not (ltb (length (orderUnder d e n)) (countTurns d e n))
 
 -- what the check found, and the bytes of the order
 abbrev pub Checked : List ℕ → ℕ → ℕ → Order → List ℕ → Type 0
-Checked d e n (Complete count) o = (isOrdered d e n ≡ true) × Holds o count n (orderUnder d e n)
+Checked d e n (Complete count) o = (isOrdered d e n ≡ true) × OrderHolds o count n (orderUnder d e n)
 Checked d e n Circular o = isOrdered d e n ≡ false

@@ -8,7 +8,7 @@ ghost use lib.Dec.{eqb};
 ghost use Rattle.lib_bits.specs.Bits.{bit};
 ghost use Rattle.check_faults.specs.Checks.{RowsInside};
 ghost use Rattle.front_draft.specs.Draft.{draftLength};
-ghost use Rattle.back_schedule.specs.Ordering.{markOf, MetAre, orderUnder, Holds, countTurns, Checked};
+ghost use Rattle.back_schedule.specs.Ordering.{metMark, MetAre, orderUnder, OrderHolds, countTurns, Checked};
 use front_draft::layout;
 
 // How many behaviours have their turn in phase one, in an order that is complete; or a circle.
@@ -18,7 +18,7 @@ pub enum Order {
 }
 
 fn mark_of(v: u64) -> u8
-    ensures { λ r. ⌜ r ≡ markOf v ⌝ }
+    ensures { λ r. ⌜ r ≡ metMark v ⌝ }
 {
     if v % layout::KINDS == layout::PASSIVE {
         return 0;
@@ -32,7 +32,7 @@ fn mark_of(v: u64) -> u8
 // The set with i, if behaviour i with entry v is met at once.
 fn add_met(set: u64, i: usize, v: u64) -> u64
     requires { ⌜ i < 64 ⌝ }
-    ensures { λ r. ⌜ ((j : ℕ) → bit r j ≡ bit set j || (not (eqb (markOf v) 0) && eqb j i)) ⌝ }
+    ensures { λ r. ⌜ ((j : ℕ) → bit r j ≡ bit set j || (not (eqb (metMark v) 0) && eqb j i)) ⌝ }
 {
     if mark_of(v) == 0 {
         return set;
@@ -58,7 +58,7 @@ fn met_set(d: &[u64], e: usize, n: usize) -> u64
 // whoever needs them, are left out.
 pub fn order_under(d: &[u64], e: usize, n: usize, o: &mut [u8]) -> usize
     requires { ⌜ (length (now d) ≡ draftLength) × (length (now o) ≡ 64) × (e ≤ 32) × (n ≤ 64) × RowsInside (now d) e n ⌝ }
-    ensures { λ r. ⌜ Holds (now (o .exit)) r n (orderUnder (now (d .entry)) e n) ⌝ }
+    ensures { λ r. ⌜ OrderHolds (now (o .exit)) r n (orderUnder (now (d .entry)) e n) ⌝ }
 {
     let mut rows = [0u64; check_graph::ROW];
     check_faults::fill_rows(d, e, n, &mut rows);

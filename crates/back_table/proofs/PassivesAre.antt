@@ -20,14 +20,14 @@ use Rattle.spec_execution.proofs.Lengths.{length-postfix, late-again, length-C,
 use Rattle.format_image.specs.Image as image
 use Rattle.format_image.specs.Image.{codeWords, passivesCode, beforePassives, passivesAt, passiveWords}
 use Rattle.front_draft.specs.Draft.{entryOf, usedBy, passiveNodes, Drafted}
-use Rattle.front_draft.specs.Entry.{kindOf}
+use Rattle.front_draft.specs.Entry.{entryKind}
 use Rattle.front_draft.proofs.DraftLaws.{Entry, entry-of}
 use Rattle.back_counts.specs.Counts.{countEvent, countMembers}
 use Rattle.back_counts.proofs.CountIs.{total-sum, count-is, members-is}
 use Rattle.back_schedule.proofs.OrderingIs.{order-is}
 use Rattle.back_emit.specs.Words.{each}
 use Rattle.back_phases.proofs.PhasesAre.{again-are}
-use Rattle.back_passives.specs.PassiveWords.{kindWord, againShare, countAgain, againStart, stretchWords, settleWords}
+use Rattle.back_passives.specs.PassiveWords.{kindWord, againShare, countAgain, againStart, stretchWords, draftPassiveWords}
 use Rattle.back_table.specs.TableWords.{aloneWords}
 
 -- ---- one word each
@@ -62,13 +62,13 @@ again-share d v (takes x) h = rw (h .kind-is)
 again-share d v (defers x) h = rw (h .kind-is)
 again-share d v keeps h = rw h
 
-active-kind : (d : List ℕ) (v e : ℕ) (hs : List Handler) (r : Response) → Says e hs r → Entry d v r → _≡_ {A = ℕ} (pick (eqb (kindOf v) 1) 1 0) 0
+active-kind : (d : List ℕ) (v e : ℕ) (hs : List Handler) (r : Response) → Says e hs r → Entry d v r → _≡_ {A = ℕ} (pick (eqb (entryKind v) 1) 1 0) 0
 active-kind d v e hs (follows x) s h = absurd s
 active-kind d v e hs (takes x) s h = rw (h .kind-is)
 active-kind d v e hs (defers x) s h = rw (h .kind-is)
 active-kind d v e hs keeps s h = rw h
 
-kind-is : (d : List ℕ) (v : ℕ) (b : Behaviour) → Entry d v (respond 0 b) → _≡_ {A = ℕ} (pick (eqb (kindOf v) 1) 1 0) (image.kindOf b)
+kind-is : (d : List ℕ) (v : ℕ) (b : Behaviour) → Entry d v (respond 0 b) → _≡_ {A = ℕ} (pick (eqb (entryKind v) 1) 1 0) (image.kindNumber b)
 kind-is d v (passive x) h = rw (h .kind-is)
 kind-is d v (active c hs) h = active-kind d v 0 hs (handled 0 hs) (handled-says 0 hs) h
 
@@ -130,12 +130,12 @@ module _ (p : Program) (d : List ℕ) (n : ℕ) (dr : Drafted p d n) (fits : Fit
   kinds-are : each (size p) (kindWord d) ≡ image.kindWords p
   unfolding kindWord image.kindWords
   kinds-are =
-      each-one (size p) (kindWord d) (λ i. image.kindOf (behaviourAt p i))
+      each-one (size p) (kindWord d) (λ i. image.kindNumber (behaviourAt p i))
       (λ i h. ap (λ (x : ℕ). x ∷ []) (kind-is (usedBy d i) (entryOf d 0 i) (behaviourAt p i) (entry-of p d n dr 0 i (omega arith) h)))
 
-  pub settle-are : settleWords d (events p) (size p) ≡ passiveWords p
-  unfolding settleWords stretchWords passiveWords
-  settle-are = rw (kinds-are, start-is, again-counts)
+  pub passive-words-are : draftPassiveWords d (events p) (size p) ≡ passiveWords p
+  unfolding draftPassiveWords stretchWords passiveWords
+  passive-words-are = rw (kinds-are, start-is, again-counts)
 
   pub alone-are : aloneWords d (size p) ≡ codeWords (passivesCode p)
   unfolding aloneWords passivesCode

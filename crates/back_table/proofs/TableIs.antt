@@ -19,7 +19,7 @@ use Rattle.spec_language.specs.Code.{Instr, code, members, instructions, allIns
 use Rattle.spec_language.proofs.Laws.{upTo-same}
 use Rattle.spec_execution.proofs.Sums.{length-flatten}
 use Rattle.spec_execution.proofs.Lengths.{length-counted}
-use Rattle.format_image.specs.Image.{codeWords, allCode, startOf, eventRecord, padded, passivesCode, tableCode, boardWords, imageWords}
+use Rattle.format_image.specs.Image.{codeWords, allCode, codeStart, eventRecord, padded, passivesCode, tableCode, boardWords, imageWords}
 use Rattle.format_image.proofs.ImageLaws.{length-codeWords}
 use Rattle.front_draft.specs.Draft.{passiveNodes, Drafted, DraftOf}
 use Rattle.front_draft.proofs.DraftLaws.{draft-long, draft-events, draft-behaviours}
@@ -35,9 +35,9 @@ use Rattle.back_emit.proofs.ExprWords.{codeWords-append}
 use Rattle.back_phases.proofs.PhasesAre.{flatten-snoc}
 use Rattle.back_event.specs.Handlers.{codeOf}
 use Rattle.back_event.proofs.HandlersAre.{code-words}
-use Rattle.back_parts.specs.RightWords.{numberAt, rightWords}
+use Rattle.back_parts.specs.RightWords.{draftNumber, rightWords}
 use Rattle.back_table.specs.TableWords.{countBefore, recordWords, freshWords, codesOf, tableWords, Planned}
-use Rattle.back_table.proofs.PassivesAre.{short-passives, settle-are, alone-are}
+use Rattle.back_table.proofs.PassivesAre.{short-passives, passive-words-are, alone-are}
 
 -- ---- one after the other
 
@@ -57,8 +57,8 @@ code-flatten (suc n) g = rw (codeWords-append (g 0) (flatten (upTo n (λ i. g (s
 
 -- numbers of the draft that are the bytes of a list
 numbers-take : (d : List ℕ) (from : ℕ) (l : List ℕ) → All (λ m. m < 256) l → ((i : ℕ) → i < length l → getD d (from + i) 0 ≡ getD l i 0)
-    → (n : ℕ) → n ≤ length l → each n (numberAt d from) ≡ take n l
-unfolding each numberAt
+    → (n : ℕ) → n ≤ length l → each n (draftNumber d from) ≡ take n l
+unfolding each draftNumber
 numbers-take d from l bytes h zero b = refl
 numbers-take d from l bytes h (suc n) b =
     let small = all-at (λ m. m < 256) l n 0 bytes (omega arith) in
@@ -66,7 +66,7 @@ numbers-take d from l bytes h (suc n) b =
     rw (take-suc l n 0 (omega arith), numbers-take d from l bytes h n (omega arith), same)
 
 numbers-are : (d : List ℕ) (from : ℕ) (l : List ℕ) (n : ℕ) → length l ≡ n → All (λ m. m < 256) l → ((i : ℕ) → i < n → getD d (from + i) 0 ≡ getD l i 0)
-    → each n (numberAt d from) ≡ l
+    → each n (draftNumber d from) ≡ l
 numbers-are d from l n long bytes h = numbers-take d from l bytes (λ i b. h i (omega arith)) n (omega arith) ∙ take-all n l (omega arith)
 
 module _ (p : Program) (d : List ℕ) (n : ℕ) (dr : Drafted p d n) (fits : Fits p) (known : Known p) where
@@ -95,7 +95,7 @@ module _ (p : Program) (d : List ℕ) (n : ℕ) (dr : Drafted p d n) (fits : Fit
     -- ---- the parts
 
     record-is : (e : ℕ) → e < events p → recordWords d (size p) e ≡ eventRecord p e
-    unfolding recordWords startOf
+    unfolding recordWords codeStart
     record-is e h =
         let few : events p ≤ 32 = fits .few-events in
         let small = all-at (λ r. r ≤ 15) (p .priorities) e 0 (fits .scale) h in
@@ -137,7 +137,7 @@ module _ (p : Program) (d : List ℕ) (n : ℕ) (dr : Drafted p d n) (fits : Fit
     fresh-are : freshWords d (events p) (size p) ≡ boardWords p
     unfolding freshWords boardWords padded
     fresh-are =
-        rw (order-is p d n dr fits (events p) (fits .few-events), fresh-padded p d n dr fits valid, rights-are, settle-are p d n dr fits known valid few)
+        rw (order-is p d n dr fits (events p) (fits .few-events), fresh-padded p d n dr fits valid, rights-are, passive-words-are p d n dr fits known valid few)
         (simp append-assoc)
 
     pub table-is : tableWords d (events p) (size p) ≡ imageWords p

@@ -14,16 +14,16 @@ use Rattle.format_image.specs.Image.{putWords, padded}
 use Rattle.front_draft.specs.Draft.{entryOf}
 use Rattle.check_faults.specs.Checks.{Inside, RowsInside, AllInside}
 use Rattle.back_fresh.specs.Evaluate.{freshOn}
-use Rattle.back_counts.specs.Counts.{Sound, total, shareOf, countEvent, countMembers}
+use Rattle.back_counts.specs.Counts.{EntriesInside, total, shareOf, countEvent, countMembers}
 use Rattle.back_counts.proofs.CountLaws.{share-small, total-le}
-use Rattle.back_schedule.specs.Ordering.{orderUnder, Holds}
-use Rattle.back_emit.specs.Words.{each, kindWords}
+use Rattle.back_schedule.specs.Ordering.{orderUnder, OrderHolds}
+use Rattle.back_emit.specs.Words.{each, turnWordsOfKind}
 use Rattle.back_emit.specs.Writing.{Room, Wrote}
 use Rattle.back_emit.proofs.WritingLaws.{Turn, start, turn-room, turn, end, wrote-then}
 use Rattle.back_event.specs.Handlers.{codeOf}
 use Rattle.back_parts.specs.RightWords.{rightWords}
 use Rattle.back_parts.proofs.PartLaws.{wrote-padded}
-use Rattle.back_passives.specs.PassiveWords.{settleWords}
+use Rattle.back_passives.specs.PassiveWords.{draftPassiveWords}
 use Rattle.back_table.specs.TableWords.{countBefore, recordWords, freshWords, aloneWords, codesOf, tableWords, Planned}
 
 -- ---- what a draft that is written from has
@@ -31,7 +31,7 @@ use Rattle.back_table.specs.TableWords.{countBefore, recordWords, freshW
 pub planned-inside : {d : List ℕ} {ev bs : ℕ} → Planned d ev bs → (e i : ℕ) → i < bs → e ≤ ev → Inside d e i
 planned-inside p e i b h = p .inside e h i b
 
-pub planned-sound : {d : List ℕ} {ev bs : ℕ} → Planned d ev bs → Sound d 0 bs
+pub planned-sound : {d : List ℕ} {ev bs : ℕ} → Planned d ev bs → EntriesInside d 0 bs
 planned-sound p = record { long = p .long; few = p .few-behaviours; inside = p .inside 0 (omega arith) }
 
 -- ---- counts
@@ -116,8 +116,8 @@ records-end d bs ev w h = omega (arith, w .next, length-records d bs ev)
 
 -- ---- the values of a fresh round, rights, and passives
 
-pub fresh-wrote : (d : List ℕ) (ev bs : ℕ) {o v t t₁ t₂ t₃ : List ℕ} {count n r s : ℕ} → Holds o count bs (orderUnder d ev bs) → v ≡ freshOn d bs ev (take count o)
-    → length v ≡ 64 → Wrote t 136 v t₁ n → Wrote t₁ 200 (rightWords d ev bs) t₂ r → r ≡ 296 → Wrote t₂ 296 (settleWords d ev bs) t₃ s
+pub fresh-wrote : (d : List ℕ) (ev bs : ℕ) {o v t t₁ t₂ t₃ : List ℕ} {count n r s : ℕ} → OrderHolds o count bs (orderUnder d ev bs) → v ≡ freshOn d bs ev (take count o)
+    → length v ≡ 64 → Wrote t 136 v t₁ n → Wrote t₁ 200 (rightWords d ev bs) t₂ r → r ≡ 296 → Wrote t₂ 296 (draftPassiveWords d ev bs) t₃ s
     → Wrote t 136 (freshWords d ev bs) t₃ s
 unfolding freshWords
 fresh-wrote d ev bs {n = n} {r = r} h q l w z e x =
@@ -126,7 +126,7 @@ fresh-wrote d ev bs {n = n} {r = r} h q l w z e x =
 
 -- ---- the instructions
 
-pub alone-as : (d : List ℕ) (bs : ℕ) {o : List ℕ} {count : ℕ} → Holds o count bs (orderUnder d 0 bs) → flatMap (kindWords d 0 1 2304) (take count o) ≡ aloneWords d bs
+pub alone-as : (d : List ℕ) (bs : ℕ) {o : List ℕ} {count : ℕ} → OrderHolds o count bs (orderUnder d 0 bs) → flatMap (turnWordsOfKind d 0 1 2304) (take count o) ≡ aloneWords d bs
 unfolding aloneWords
 alone-as d bs h = rw (h .taken)
 

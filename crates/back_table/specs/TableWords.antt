@@ -11,11 +11,11 @@ use Rattle.check_faults.specs.Checks.{AllInside}
 use Rattle.back_fresh.specs.Evaluate.{freshOn}
 use Rattle.back_counts.specs.Counts.{total, countEvent, countMembers}
 use Rattle.back_schedule.specs.Ordering.{orderUnder}
-use Rattle.back_emit.specs.Words.{each, kindWords}
+use Rattle.back_emit.specs.Words.{each, turnWordsOfKind}
 use Rattle.back_event.specs.Handlers.{codeOf}
 use Rattle.front_draft.specs.Draft.{draftLength}
 use Rattle.back_parts.specs.RightWords.{rightWords}
-use Rattle.back_passives.specs.PassiveWords.{settleWords}
+use Rattle.back_passives.specs.PassiveWords.{draftPassiveWords}
 
 -- ---- the parts
 
@@ -28,11 +28,11 @@ recordWords d bs e = (getD d (4224 + e) 0 % 4294967296) ∷ countBefore d bs e �
 
 -- the values of a fresh round, who may see and send, and how passives are worked out
 unfoldable pub freshWords : List ℕ → ℕ → ℕ → List ℕ
-freshWords d ev bs = freshOn d bs ev (orderUnder d ev bs) ++ (rightWords d ev bs ++ settleWords d ev bs)
+freshWords d ev bs = freshOn d bs ev (orderUnder d ev bs) ++ (rightWords d ev bs ++ draftPassiveWords d ev bs)
 
 -- the instructions: each event's; where none is declared, those that work the passives out
 unfoldable pub aloneWords : List ℕ → ℕ → List ℕ
-aloneWords d bs = flatMap (kindWords d 0 1 2304) (orderUnder d 0 bs)
+aloneWords d bs = flatMap (turnWordsOfKind d 0 1 2304) (orderUnder d 0 bs)
 
 unfoldable pub codesOf : List ℕ → ℕ → ℕ → List ℕ
 codesOf d ev bs = pick (eqb ev 0) (aloneWords d bs) (each ev (codeOf d bs))

@@ -20,7 +20,7 @@ use Rattle.back_compile.specs.Verdict.{Compiled, programOf, compileOn}
 use Rattle.back_compile.proofs.AcceptedExactly.{accepted-exactly}
 use Rattle.check_circle.specs.Witness.{numberOn}
 use Rattle.check_agree.specs.Agree.{clashIn, clashRead, agreeOn}
-use Rattle.check_agree.specs.Claims.{Answered, Answers}
+use Rattle.check_agree.specs.Claims.{AgreeAnswer, AgreeAnswers}
 use Rattle.check_agree.proofs.Decides.{zero-says, zero-is, named-is-true}
 
 full : 34816 ≤ length {A = ℕ} (replicate 34816 0)
@@ -41,7 +41,7 @@ module _ (s ps : List ℕ) (bytes : All (λ b. b < 256) s) (x : Sheet) (e : enco
     accepted : Accepted (programOf ps x)
     accepted = filling-accepted (get ps) (λ n _. get-small ps words n) (length ps) x taken
 
-    answered : Answered s ps x
+    answered : AgreeAnswer s ps x
     answered =
         let p = programOf ps x in
         let k = accepted in
@@ -56,5 +56,5 @@ pub turned-down : (s ps : List ℕ) → numberOn s ps ≢ 0 → agreeOn s ps ≡
 unfolding agreeOn
 turned-down s ps h = rw (ne-eqb (numberOn s ps) 0 h)
 
-pub answers : Answers
+pub answers : AgreeAnswers
 answers s ps bytes words = (λ x e taken. answered s ps bytes x e taken words, turned-down s ps)

@@ -26,7 +26,7 @@ use Rattle.check_reads.proofs.Agrees.{writes-are, named-are}
 use Rattle.back_compile.specs.Verdict.{programOf}
 use Rattle.check_circle.specs.Witness.{numberOn}
 use Rattle.check_judge.specs.Judging.{FineDraft}
-use Rattle.check_agree.specs.Answer.{packed}
+use Rattle.check_agree.specs.Answer.{packedDifference}
 use Rattle.check_agree.specs.Conflict.{clash, leastIn, conflictAt, conflictWith, conflictFrom, conflictBy, conflictOn, member}
 use Rattle.check_agree.specs.Agree.{clashes, clashOf, clashFrom, clashIn, clashRead, agreeOn}
 
@@ -35,10 +35,10 @@ use Rattle.check_agree.specs.Agree.{clashes, clashOf, clashFrom, clashIn
 pub least-none : (set n e f : ℕ) → set ≡ 0 → 0 ≡ leastIn set n e f
 unfolding leastIn
 least-none set n e f h =
-    sym (first-none n 0 (λ i. pick (bit set i) (packed e f i) 0) (λ i a b. rw (h, bit-none i)))
+    sym (first-none n 0 (λ i. pick (bit set i) (packedDifference e f i) 0) (λ i a b. rw (h, bit-none i)))
 
-pub packed-some : (e f i : ℕ) → packed e f i ≡ 0 → ⊥
-unfolding packed
+pub packed-some : (e f i : ℕ) → packedDifference e f i ≡ 0 → ⊥
+unfolding packedDifference
 packed-some e f i h = omega arith
 
 -- ---- a pair, by the sets of its events
@@ -53,7 +53,7 @@ pub pair-is : (d : List ℕ) (n : ℕ) (writes named : List ℕ) (e f set r : �
 unfolding conflictWith conflictAt leastIn
 pair-is d n writes named e f set r h g q =
     rw (ne-eqb (getD d (4224 + e) 0) (getD d (4224 + f) 0) h)
-    (q ∙ first-same n 0 (λ i. pick (bit set i) (packed e f i) 0) (conflictAt d n (member writes) (member named) e f) (λ i a b. rw (g i)))
+    (q ∙ first-same n 0 (λ i. pick (bit set i) (packedDifference e f i) 0) (conflictAt d n (member writes) (member named) e f) (λ i a b. rw (g i)))
 
 -- ---- the same sets, the same conflict
 

@@ -25,9 +25,9 @@ use Rattle.check_reads.proofs.FirstLaws.{Found, first-found, first-all, first-n
 use Rattle.check_reads.proofs.Decides.{named-says, named-is}
 use Rattle.back_compile.specs.Verdict.{programOf, compileOn}
 use Rattle.check_circle.specs.Witness.{numberOn}
-use Rattle.check_agree.specs.Answer.{packed}
+use Rattle.check_agree.specs.Answer.{packedDifference}
 use Rattle.check_agree.specs.Agree.{clashes, clashOf, clashFrom, clashIn, clashRead, agreeOn}
-use Rattle.check_agree.specs.Claims.{Unequal, AllIndependent, Shared, both-write, first-writes, second-writes, Named, Answered, Answers}
+use Rattle.check_agree.specs.Claims.{Unequal, AllIndependent, SharedBehaviour, both-write, first-writes, second-writes, DifferenceNamed, AgreeAnswer, AgreeAnswers}
 use Rattle.check_agree.proofs.ConflictLaws.{packed-some}
 
 -- ---- what is written is an active of the sheet
@@ -60,7 +60,7 @@ module _ (p : Program) (each : All (BehaviourFits (events p)) (p .behaviours)) (
   reads-is : (e f i : ℕ) → writes p e i ≡ true → namedBy p f i ≡ true → Reads p f i
   reads-is e f i w h = (named-says p each known few f i (written-within p e i w) h, active-written e (behaviourAt p i) w)
 
-  shared-says : (e f i : ℕ) → clashes p e f i ≡ true → Shared p e f i
+  shared-says : (e f i : ℕ) → clashes p e f i ≡ true → SharedBehaviour p e f i
   unfolding clashes
   shared-says e f i h =
       ⊎-elim
@@ -69,21 +69,21 @@ module _ (p : Program) (each : All (BehaviourFits (events p)) (p .behaviours)) (
       (λ t. let g = and-eq-true-iff (writes p f i) (namedBy p e i) .0 t in second-writes (g .0) (reads-is f e i (g .0) (g .1)))
       (or-either (writes p e i && (writes p f i || namedBy p f i)) (writes p f i && namedBy p e i) h)
 
-  shared-is : (e f i : ℕ) → Shared p e f i → clashes p e f i ≡ true
+  shared-is : (e f i : ℕ) → SharedBehaviour p e f i → clashes p e f i ≡ true
   unfolding clashes
   shared-is e f i (both-write a b) = rw (a, b)
   shared-is e f i (first-writes a r) = rw (a, named-is p each known few f (r .0), or-true (writes p f i))
   shared-is e f i (second-writes b r) =
       rw (b, named-is p each known few e (r .0)) (or-true (writes p e i && true))
 
-  shared-within : (e f i : ℕ) → Shared p e f i → i < size p
+  shared-within : (e f i : ℕ) → SharedBehaviour p e f i → i < size p
   shared-within e f i (both-write a b) = written-within p e i a
   shared-within e f i (first-writes a r) = written-within p e i a
   shared-within e f i (second-writes b r) = written-within p f i b
 
   -- ---- independence is that nothing is shared
 
-  none-shared : (e f : ℕ) → Independent p e f → (i : ℕ) → Shared p e f i → ⊥
+  none-shared : (e f : ℕ) → Independent p e f → (i : ℕ) → SharedBehaviour p e f i → ⊥
   none-shared e f h i (both-write a b) = true≢false (sym b ∙ h .0 i a .1)
   none-shared e f h i (first-writes a r) = h .0 i a .0 r
   none-shared e f h i (second-writes b r) = h .1 i b .0 r
@@ -92,7 +92,7 @@ module _ (p : Program) (each : All (BehaviourFits (events p)) (p .behaviours)) (
   not-written true h = absurd (h refl)
   not-written false h = refl
 
-  apart : (e f : ℕ) → ((i : ℕ) → Shared p e f i → ⊥) → Independent p e f
+  apart : (e f : ℕ) → ((i : ℕ) → SharedBehaviour p e f i → ⊥) → Independent p e f
   apart e f h = (
     λ i w. ((λ r. h i (first-writes w r)), not-written (writes p f i) (λ t. h i (both-write w t))),
     λ i w. ((λ r. h i (second-writes w r)), not-written (writes p e i) (λ t. h i (both-write t w))),
@@ -102,16 +102,16 @@ module _ (p : Program) (each : All (BehaviourFits (events p)) (p .behaviours)) (
 
   module _ (e f : ℕ) where
     abbrev at : ℕ → ℕ
-    at i = pick (clashes p e f i) (packed e f i) 0
+    at i = pick (clashes p e f i) (packedDifference e f i) 0
 
-    pair-zero : Unequal p e f → clashOf p e f ≡ 0 → (i : ℕ) → Shared p e f i → ⊥
+    pair-zero : Unequal p e f → clashOf p e f ≡ 0 → (i : ℕ) → SharedBehaviour p e f i → ⊥
     unfolding clashOf
     pair-zero u z i s =
         let a : firstFrom (size p) 0 at ≡ 0 = rw (ne-eqb (getD (p .priorities) e 0) (getD (p .priorities) f 0) u) at z in
         let b = first-all (size p) 0 at a i (omega arith) (omega (arith, shared-within e f i s)) in
-        true≢false (sym (shared-is e f i s) ∙ not-chosen (clashes p e f i) (packed e f i) (packed-some e f i) b)
+        true≢false (sym (shared-is e f i s) ∙ not-chosen (clashes p e f i) (packedDifference e f i) (packed-some e f i) b)
 
-    pair-none : (Unequal p e f → (i : ℕ) → Shared p e f i → ⊥) → clashOf p e f ≡ 0
+    pair-none : (Unequal p e f → (i : ℕ) → SharedBehaviour p e f i → ⊥) → clashOf p e f ≡ 0
     unfolding clashOf
     pair-none h =
         by-test (λ x. x ≡ 0) (eqb (getD (p .priorities) e 0) (getD (p .priorities) f 0)) (λ t. refl)
@@ -151,7 +151,7 @@ module _ (p : Program) (each : All (BehaviourFits (events p)) (p .behaviours)) (
 
   -- ---- what is named
 
-  pub named-is-true : (v : ℕ) → clashIn p ≡ v → v ≢ 0 → Named p v
+  pub named-is-true : (v : ℕ) → clashIn p ≡ v → v ≢ 0 → DifferenceNamed p v
   unfolding clashIn clashFrom
   named-is-true v q h =
       let a = first-found (events p) 0 (clashFrom p) v q h in
@@ -160,7 +160,7 @@ module _ (p : Program) (each : All (BehaviourFits (events p)) (p .behaviours)) (
       let f = b .place in
       let c = pair-found e f v (b .answer) h in
       let i = c .1 .place in
-      let g = chosen (clashes p e f i) (packed e f i) (λ z. h (sym (c .1 .answer) ∙ z)) in
+      let g = chosen (clashes p e f i) (packedDifference e f i) (λ z. h (sym (c .1 .answer) ∙ z)) in
       let s = shared-says e f i (g .0) in
       record {
         first = e;
@@ -178,6 +178,6 @@ module _ (p : Program) (each : All (BehaviourFits (events p)) (p .behaviours)) (
         least-second = λ f′ i′ k l u t. by-cases (decLt f′ f)
             (λ w. absurd (pair-zero e f′ u (b .before f′ (omega arith) w) i′ t)) (λ w. omega arith);
         least-behaviour = λ i′ t. by-cases (decLt i′ i)
-            (λ w. absurd (true≢false (sym (shared-is e f i′ t) ∙ not-chosen (clashes p e f i′) (packed e f i′) (packed-some e f i′) (c .1 .before i′ (omega arith) w))))
+            (λ w. absurd (true≢false (sym (shared-is e f i′ t) ∙ not-chosen (clashes p e f i′) (packedDifference e f i′) (packed-some e f i′) (c .1 .before i′ (omega arith) w))))
             (λ w. omega arith);
       }

@@ -17,7 +17,7 @@ use Rattle.back_compile.specs.Verdict.{programOf}
 use Rattle.check_circle.specs.Witness.{numberOn}
 use Rattle.check_reads.specs.First.{firstFrom}
 use Rattle.check_reads.specs.Named.{namedBy}
-use Rattle.check_agree.specs.Answer.{packed}
+use Rattle.check_agree.specs.Answer.{packedDifference}
 
 -- behaviour i is written by one of the events e and f and written, or named in the handlers, by the other: what is
 -- written is an active, so that the other reads it
@@ -28,7 +28,7 @@ clashes p e f i = (writes p e i && (writes p f i || namedBy p f i)) || (writes p
 unfoldable pub clashOf : Program → ℕ → ℕ → ℕ
 clashOf p e f =
     pick (eqb (getD (p .priorities) e 0) (getD (p .priorities) f 0)) 0
-    (firstFrom (size p) 0 (λ i. pick (clashes p e f i) (packed e f i) 0))
+    (firstFrom (size p) 0 (λ i. pick (clashes p e f i) (packedDifference e f i) 0))
 
 -- with the least f after e
 unfoldable pub clashFrom : Program → ℕ → ℕ

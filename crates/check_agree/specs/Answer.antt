@@ -6,5 +6,5 @@ abbrev pub phonesMayDiffer : ℕ  -- two events of unequal rank are not independ
 phonesMayDiffer = 29
 
 -- the two events and a behaviour that one writes and the other reads or writes
-unfoldable pub packed : ℕ → ℕ → ℕ → ℕ
-packed e f i = phonesMayDiffer + 256 * e + 65536 * f + 16777216 * i
+unfoldable pub packedDifference : ℕ → ℕ → ℕ → ℕ
+packedDifference e f i = phonesMayDiffer + 256 * e + 65536 * f + 16777216 * i

@@ -8,7 +8,7 @@ use Rattle.lib_base.specs.Basics.{pick}
 use Rattle.lib_bits.specs.Bits.{bit}
 use Rattle.check_reads.specs.First.{firstFrom}
 use Rattle.check_reads.specs.Sets.{writesOn, namedOn}
-use Rattle.check_agree.specs.Answer.{packed}
+use Rattle.check_agree.specs.Answer.{packedDifference}
 
 -- i is written by one of two events and named or written by the other
 unfoldable pub clash : Bool → Bool → Bool → Bool → Bool
@@ -16,12 +16,12 @@ clash we ne wf nf = (we && (wf || nf)) || (wf && ne)
 
 -- the least behaviour in a set of n, with the events e and f
 unfoldable pub leastIn : ℕ → ℕ → ℕ → ℕ → ℕ
-leastIn set n e f = firstFrom n 0 (λ i. pick (bit set i) (packed e f i) 0)
+leastIn set n e f = firstFrom n 0 (λ i. pick (bit set i) (packedDifference e f i) 0)
 
 -- whether two events clash, by the priorities in the draft and what each writes and names
 module _ (d : List ℕ) (n : ℕ) (writes named : ℕ → ℕ → Bool) where
   unfoldable pub conflictAt : ℕ → ℕ → ℕ → ℕ
-  conflictAt e f i = pick (clash (writes e i) (named e i) (writes f i) (named f i)) (packed e f i) 0
+  conflictAt e f i = pick (clash (writes e i) (named e i) (writes f i) (named f i)) (packedDifference e f i) 0
 
   unfoldable pub conflictWith : ℕ → ℕ → ℕ
   conflictWith e f = pick (eqb (getD d (4224 + e) 0) (getD d (4224 + f) 0)) 0 (firstFrom n 0 (conflictAt e f))

@@ -12,10 +12,10 @@ use Rattle.spec_language.specs.Accepted.{Known}
 use Rattle.back_compile.specs.Verdict.{programOf}
 use Rattle.back_compile.proofs.AcceptedExactly.{twelve}
 use Rattle.back_compile.specs.Statements.{Given}
-use Rattle.check_circle.specs.Witness.{numberOn, Listed, Witnessed}
+use Rattle.check_circle.specs.Witness.{numberOn, CircleListed, Witnessed}
 
 pub shown : (s ps list : List ℕ) → All (λ b. b < 256) s → numberOn s ps ≡ 12 → {r : ℕ} {list′ : List ℕ} → Witnessed s ps list r list′
-    → (x : Sheet) × (encode x ≡ s) × SheetFits x × Known (programOf ps x) × Given ps x × Listed (programOf ps x) list r list′
+    → (x : Sheet) × (encode x ≡ s) × SheetFits x × Known (programOf ps x) × Given ps x × CircleListed (programOf ps x) list r list′
 unfolding numberOn
 shown s ps list bytes h w =
     let t = twelve s ps (replicate 34816 0) bytes (omega (arith, length-replicate {A = ℕ} 34816 0)) .0 h in

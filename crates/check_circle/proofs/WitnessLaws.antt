@@ -19,7 +19,7 @@ use Rattle.spec_language.proofs.Laws.{depends-within}
 use Rattle.spec_grammar.proofs.Programs.{reads-back}
 use Rattle.front_draft.specs.Draft.{draftLength, Drafted, DraftOf}
 use Rattle.front_draft.proofs.DraftLaws.{draft-long, draft-events, draft-behaviours}
-use Rattle.check_graph.specs.Matrix.{cell, below}
+use Rattle.check_graph.specs.Matrix.{cell, cellBelow}
 use Rattle.check_graph.proofs.Closure.{below-is}
 use Rattle.check_faults.specs.Faults.{known}
 use Rattle.check_faults.specs.Checks.{matrixOn, cyclicOn, AllInside}
@@ -28,13 +28,13 @@ use Rattle.check_faults.proofs.CycleDecides.{cell-is, known-decides}
 use Rattle.check_faults.proofs.DraftChecks.{draft-inside}
 use Rattle.check_distance.specs.Circle.{Chain, Circle}
 use Rattle.check_distance.proofs.Shorter.{shorter, distinct-few}
-use Rattle.check_shortest.specs.Search.{Wide, Found}
+use Rattle.check_shortest.specs.Search.{Wide, ShortestFound}
 use Rattle.back_compile.specs.Verdict.{Compiled, compiled, programOf, compileOn}
-use Rattle.back_compile.specs.Judged.{Turns, JudgedAs, answerOf}
+use Rattle.back_compile.specs.Judged.{CircleDraft, JudgedAs, answerOf}
 use Rattle.back_compile.specs.declared.Judgement.{Judgement}
 use Rattle.back_compile.specs.declared.Judgement.the-variants.{Accepted, Circular, Refused}
 use Rattle.back_compile.proofs.Judgement.{the-type}
-use Rattle.check_circle.specs.Witness.{numberOn, answered, Listed, Witnessed}
+use Rattle.check_circle.specs.Witness.{numberOn, listAnswer, CircleListed, Witnessed}
 
 -- ---- circles of one dependence and of another
 
@@ -61,7 +61,7 @@ module _ (p : Program) (d : List ℕ) (n : ℕ) (dr : Drafted p d n) (fits : Fit
   cells : (e a b : ℕ) → e ≤ 32 → a < 64 → b < 64 → cell (matrixOn d e (size p)) a b ≡ dependsOn p e a b
   cells e a b h i j = ap (λ (m : List ℕ). cell m a b) (matrix-is p d n e fits dr h) ∙ cell-is p e a b i j
 
-  listed-in : {list list′ : List ℕ} {r : ℕ} → Found d (events p) (size p) list r list′ → Listed p list r list′
+  listed-in : {list list′ : List ℕ} {r : ℕ} → ShortestFound d (events p) (size p) list r list′ → CircleListed p list r list′
   listed-in {list} {list′} {r} f =
       let few : size p ≤ 64 = fits .few-behaviours in
       let small : events p ≤ 32 = fits .few-events in
@@ -69,8 +69,8 @@ module _ (p : Program) (d : List ℕ) (n : ℕ) (dr : Drafted p d n) (fits : Fit
       let round : Circle (dependsOn p (f .event)) ms =
       circle-same (size p) (λ a b. cell (matrixOn d (f .event) (size p)) a b) (dependsOn p (f .event))
       (λ a b i j. cells (f .event) a b (omega (arith, f .declared)) (omega arith) (omega arith)) ms (f .below-n) (f .circle) in
-      let on-draft : (g : ℕ) → g ≤ noEvent p → (l : List ℕ) → Circle (dependsOn p g) l → Circle (below (size p) (matrixOn d g (size p))) l =
-      λ g h l c. circle-imp (dependsOn p g) (below (size p) (matrixOn d g (size p)))
+      let on-draft : (g : ℕ) → g ≤ noEvent p → (l : List ℕ) → Circle (dependsOn p g) l → Circle (cellBelow (size p) (matrixOn d g (size p))) l =
+      λ g h l c. circle-imp (dependsOn p g) (cellBelow (size p) (matrixOn d g (size p)))
       (λ a b t. let v = depends-within p ks g a b t in
       below-is (size p) (matrixOn d g (size p)) a b (v .0) (v .1) (cells g a b (omega arith) (omega (arith, v .0)) (omega (arith, v .1)) ∙ t)) l c in
       let least : (g : ℕ) → g ≤ noEvent p → (l : List ℕ) → Circle (dependsOn p g) l → length ms ≤ length l =
@@ -91,7 +91,7 @@ module _ (p : Program) (d : List ℕ) (n : ℕ) (dr : Drafted p d n) (fits : Fit
         short = f .short;
       }
 
-listed-on : {ev bs n : ℕ} {d : List ℕ} (c : DraftOf ev bs n d) → known (c .program) ≡ true → {list list′ : List ℕ} {r : ℕ} → Found d ev bs list r list′ → Listed (c .program) list r list′
+listed-on : {ev bs n : ℕ} {d : List ℕ} (c : DraftOf ev bs n d) → known (c .program) ≡ true → {list list′ : List ℕ} {r : ℕ} → ShortestFound d ev bs list r list′ → CircleListed (c .program) list r list′
 listed-on {ev} {bs} {n} {d} c k f = listed-in (c .program) d n (c .drafted) (c .fits) (known-decides (c .program) .0 k) (rw (c .size-is, c .events-are) at f)
 
 -- ---- the judging told
@@ -118,7 +118,7 @@ pub not-circular : (s ps d list : List ℕ) (a : Judgement) → JudgedAs s ps d 
 not-circular s ps d list a h n {r} q =
     let e : r ≡ numberOn s ps = q ∙ judged-number s ps d a h in
     record {
-      other = λ m. ap (λ (x : ℕ). answered x list) e;
+      other = λ m. ap (λ (x : ℕ). listAnswer x list) e;
       circular = λ m. absurd (no-twelve a h n (sym q ∙ e ∙ m));
     }
   where
@@ -127,7 +127,7 @@ not-circular s ps d list a h n {r} q =
     no-twelve (Circular ev bs) h n z = ⊎-elim (λ x. omega arith) (λ x. omega arith) n
     no-twelve (Refused k) h n z = h .finding .other z
 
-module _ (s ps : List ℕ) {ev bs : ℕ} {d : List ℕ} (w : Turns s ps ev bs d) where
+module _ (s ps : List ℕ) {ev bs : ℕ} {d : List ℕ} (w : CircleDraft s ps ev bs d) where
   pub turns-draft : (length d ≡ draftLength) × (ev ≤ 32) × (bs ≤ 64) × AllInside d ev bs
   turns-draft = let c = w .draft in (draft-long c, draft-events c, draft-behaviours c, draft-inside c)
 
@@ -138,7 +138,7 @@ module _ (s ps : List ℕ) {ev bs : ℕ} {d : List ℕ} (w : Turns s ps ev bs d)
       (λ e b. rw (c .size-is, matrix-is (c .program) d (w .nodes) e (c .fits) (c .drafted) (omega (arith, draft-events c))) (length-matrixOf (c .program) e), w .cycles)
 
   -- what is found is the sheet's
-  pub found-listed : {list list′ : List ℕ} {r : ℕ} → Found d ev bs list r list′ → Witnessed s ps list r list′
+  pub found-listed : {list list′ : List ℕ} {r : ℕ} → ShortestFound d ev bs list r list′ → Witnessed s ps list r list′
   found-listed {list} {list′} {r} f =
       let twelve : 12 ≡ numberOn s ps = told s ps (w .refused (replicate 34816 0) room) in
       record {
@@ -147,6 +147,6 @@ module _ (s ps : List ℕ) {ev bs : ℕ} {d : List ℕ} (w : Turns s ps ev bs d)
           each-sheet = λ x e fits.
               let read : got x [] ≡ got (w .sheet) [] = sym (rw e at (reads-back x fits)) ∙ w .read in
               let same : w .sheet ≡ x = cc in
-              subst (λ (p : Program). Listed p list r list′) (w .own ∙ ap (programOf ps) same) (listed-on (w .draft) (w .names) f);
+              subst (λ (p : Program). CircleListed p list r list′) (w .own ∙ ap (programOf ps) same) (listed-on (w .draft) (w .names) f);
         };
       }

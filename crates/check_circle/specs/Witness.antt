@@ -20,16 +20,16 @@ unfoldable pub numberOn : List ℕ → List ℕ → ℕ
 numberOn s ps = compileOn s ps (replicate 34816 0) .0
 
 -- an answer, and the list's bytes after the call
-abbrev pub Answered : Type 0
-Answered = ℕ × List ℕ
+abbrev pub ListAnswer : Type 0
+ListAnswer = ℕ × List ℕ
 
-abbrev pub answered : ℕ → List ℕ → Answered
-answered r l = (r, l)
+abbrev pub listAnswer : ℕ → List ℕ → ListAnswer
+listAnswer r l = (r, l)
 
 -- a shortest circle of p, under none where none has one as short; the answer is 12, the event's number (255 for none)
 -- times 256 and the circle's length times 65,536. A list that has room for the circle has it in its first bytes, the
 -- others as they were; a shorter one is as it was
-pub record Listed (p : Program) (list : List ℕ) (r : ℕ) (list′ : List ℕ) : Type 0 where
+pub record CircleListed (p : Program) (list : List ℕ) (r : ℕ) (list′ : List ℕ) : Type 0 where
   pub event : ℕ
   pub declared : event ≤ noEvent p
   pub members : List ℕ
@@ -44,9 +44,9 @@ pub record Listed (p : Program) (list : List ℕ) (r : ℕ) (list′ : List ℕ)
 
 -- of the program of the sheet that the bytes s encode, the bytes ps being lent for its parameters
 pub record EachListed (s ps list : List ℕ) (r : ℕ) (list′ : List ℕ) : Type 0 where
-  pub each-sheet : (x : Sheet) → encode x ≡ s → SheetFits x → Listed (programOf ps x) list r list′
+  pub each-sheet : (x : Sheet) → encode x ≡ s → SheetFits x → CircleListed (programOf ps x) list r list′
 
 -- the answer is compile's number, whatever list is lent
 pub record Witnessed (s ps list : List ℕ) (r : ℕ) (list′ : List ℕ) : Type 0 where
-  pub other : numberOn s ps ≢ 12 → answered r list′ ≡ answered (numberOn s ps) list
+  pub other : numberOn s ps ≢ 12 → listAnswer r list′ ≡ listAnswer (numberOn s ps) list
   pub circular : numberOn s ps ≡ 12 → EachListed s ps list r list′

@@ -17,13 +17,13 @@ layer dep n zero i j = eqb i j
 layer dep n (suc k) i j = anyBelow n (λ h. dep j h && layer dep n k i h)
 
 -- the lowest of k numbers from a on of which f is true; if there is none, the number after them
-unfoldable pub least : (ℕ → Bool) → ℕ → ℕ → ℕ
-least f zero a = a
-least f (suc k) a = elim (f a) [ true ↦ a | false ↦ least f k (suc a) ]
+unfoldable pub leastFrom : (ℕ → Bool) → ℕ → ℕ → ℕ
+leastFrom f zero a = a
+leastFrom f (suc k) a = elim (f a) [ true ↦ a | false ↦ leastFrom f k (suc a) ]
 
 -- how many steps lead from i back to i, at least one and at most n; n + 1 if there is no such walk
 unfoldable pub stepsBack : (ℕ → ℕ → Bool) → ℕ → ℕ → ℕ
-stepsBack dep n i = least (λ k. layer dep n k i i) n 1
+stepsBack dep n i = leastFrom (λ k. layer dep n k i i) n 1
 
 -- ---- what the code does
 
@@ -34,20 +34,20 @@ pub record Lowest (f : ℕ → Bool) (n r : ℕ) : Type 0 where
   pub found : r < n → f r ≡ true
 
 -- from j on to one that has a walk of k steps
-unfoldable pub onward : List ℕ → List ℕ → ℕ → ℕ → ℕ → Bool
-onward m s k j h = pick (eqb (getD m (j * 64 + h) 0) 0) false (cell s k h)
+unfoldable pub walksOn : List ℕ → List ℕ → ℕ → ℕ → ℕ → Bool
+walksOn m s k j h = pick (eqb (getD m (j * 64 + h) 0) 0) false (cell s k h)
 
-unfoldable pub bit : ℕ → ℕ → ℕ
-bit r n = pick (ltb r n) 1 0
+unfoldable pub oneIfBelow : ℕ → ℕ → ℕ
+oneIfBelow r n = pick (ltb r n) 1 0
 
 -- the walks of 0 steps to i
-pub record Begun (n i : ℕ) (s : List ℕ) : Type 0 where
+pub record LayerZero (n i : ℕ) (s : List ℕ) : Type 0 where
   pub row : (j : ℕ) → j < n → cell s 0 j ≡ eqb i j
 
 -- those of k + 1 steps, from those of k
-pub record Filled (m : List ℕ) (n k : ℕ) (s s′ : List ℕ) : Type 0 where
+pub record NextLayer (m : List ℕ) (n k : ℕ) (s s′ : List ℕ) : Type 0 where
   pub same : (x : ℕ) → x < (k + 1) * 64 → getD s′ x 0 ≡ getD s x 0
-  pub row : (j : ℕ) → j < n → cell s′ (k + 1) j ≡ anyBelow n (λ h. onward m s k j h)
+  pub row : (j : ℕ) → j < n → cell s′ (k + 1) j ≡ anyBelow n (λ h. walksOn m s k j h)
 
 -- s has the walks to i of up to k steps
 pub record Layered (m : List ℕ) (n i : ℕ) (s : List ℕ) (k : ℕ) : Type 0 where

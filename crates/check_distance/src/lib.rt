@@ -6,7 +6,7 @@ ghost use mathlib.Core.Bool.{true};
 ghost use Prim.Native.Nat.{_-_, _≤_, _<_};
 ghost use lib.ListN.{length};
 ghost use Rattle.check_graph.specs.Matrix.{cell};
-ghost use Rattle.check_distance.specs.Layers.{layer, onward, bit, Lowest, Begun, Filled, Layered, Back, Walked};
+ghost use Rattle.check_distance.specs.Layers.{layer, walksOn, oneIfBelow, Lowest, LayerZero, NextLayer, Layered, Back, Walked};
 use check_graph::ROW;
 
 // A row for each number of steps from 0 to 64.
@@ -15,7 +15,7 @@ pub const LAYERS: usize = check_graph::CELLS + ROW;
 // From j on to h, which has a walk of k steps.
 fn is_onward(m: &[u8], s: &[u8], k: usize, j: usize, h: usize) -> bool
     requires { ⌜ (length (now m) ≡ 4096) × (length (now s) ≡ 4160) × (k ≤ 64) × (j < 64) × (h < 64) ⌝ }
-    ensures { λ r. ⌜ r ≡ onward (now (m .entry)) (now (s .entry)) k j h ⌝ }
+    ensures { λ r. ⌜ r ≡ walksOn (now (m .entry)) (now (s .entry)) k j h ⌝ }
 {
     if m[j * ROW + h] == 0 {
         return false;
@@ -26,7 +26,7 @@ fn is_onward(m: &[u8], s: &[u8], k: usize, j: usize, h: usize) -> bool
 // The lowest such h of the first n; n if there is none.
 fn find_onward(m: &[u8], s: &[u8], k: usize, j: usize, n: usize) -> usize
     requires { ⌜ (length (now m) ≡ 4096) × (length (now s) ≡ 4160) × (k ≤ 64) × (j < 64) × (n ≤ 64) ⌝ }
-    ensures { λ r. ⌜ Lowest (onward (now (m .entry)) (now (s .entry)) k j) n r ⌝ }
+    ensures { λ r. ⌜ Lowest (walksOn (now (m .entry)) (now (s .entry)) k j) n r ⌝ }
 {
     let mut h = 0;
     while h < n {
@@ -39,7 +39,7 @@ fn find_onward(m: &[u8], s: &[u8], k: usize, j: usize, n: usize) -> usize
 }
 
 fn bit(r: usize, n: usize) -> u8
-    ensures { λ b. ⌜ b ≡ bit r n ⌝ }
+    ensures { λ b. ⌜ b ≡ oneIfBelow r n ⌝ }
 {
     if r < n {
         return 1;
@@ -50,7 +50,7 @@ fn bit(r: usize, n: usize) -> u8
 // The walks of no step.
 fn begin(s: &mut [u8], i: usize, n: usize)
     requires { ⌜ (length (now s) ≡ 4160) × (i < 64) × (n ≤ 64) ⌝ }
-    ensures { λ _. ⌜ Begun n i (now (s .exit)) ⌝ }
+    ensures { λ _. ⌜ LayerZero n i (now (s .exit)) ⌝ }
 {
     let mut j = 0;
     while j < n {
@@ -63,7 +63,7 @@ fn begin(s: &mut [u8], i: usize, n: usize)
 // The walks of k + 1 steps, from those of k.
 fn fill_layer(m: &[u8], s: &mut [u8], k: usize, n: usize)
     requires { ⌜ (length (now m) ≡ 4096) × (length (now s) ≡ 4160) × (k < 64) × (n ≤ 64) ⌝ }
-    ensures { λ _. ⌜ Filled (now (m .entry)) n k (now (s .entry)) (now (s .exit)) ⌝ }
+    ensures { λ _. ⌜ NextLayer (now (m .entry)) n k (now (s .entry)) (now (s .exit)) ⌝ }
 {
     let mut j = 0;
     while j < n {

@@ -5,21 +5,21 @@ use mathlib.Core.List.{List}
 use native.Mathlib.Omega.{arith}
 use lib.ListN.{length, getD, replicate, length-replicate}
 use lib.Seq.{ext-getD}
-use Rattle.check_faults.specs.Checks.{blank}
+use Rattle.check_faults.specs.Checks.{zeroBytes}
 
 zero-in : (n i : ℕ) → getD {A = ℕ} (replicate n 0) i 0 ≡ 0
 zero-in zero i = refl
 zero-in (suc n) zero = refl
 zero-in (suc n) (suc i) = zero-in n i
 
-pub blank-at : (n i : ℕ) → getD (blank n) i 0 ≡ 0
-unfolding blank
+pub blank-at : (n i : ℕ) → getD (zeroBytes n) i 0 ≡ 0
+unfolding zeroBytes
 blank-at n i = zero-in n i
 
-pub length-blank : (n : ℕ) → length (blank n) ≡ n
-unfolding blank
+pub length-blank : (n : ℕ) → length (zeroBytes n) ≡ n
+unfolding zeroBytes
 length-blank n = length-replicate n 0
 
 -- zeros everywhere make it
-pub blank-is : (n : ℕ) (m : List ℕ) → length m ≡ n → ((i : ℕ) → i < n → getD m i 0 ≡ 0) → m ≡ blank n
-blank-is n m l h = ext-getD 0 m (blank n) (rw length-blank l) (λ i b. rw blank-at (h i (omega arith)))
+pub blank-is : (n : ℕ) (m : List ℕ) → length m ≡ n → ((i : ℕ) → i < n → getD m i 0 ≡ 0) → m ≡ zeroBytes n
+blank-is n m l h = ext-getD 0 m (zeroBytes n) (rw length-blank l) (λ i b. rw blank-at (h i (omega arith)))

@@ -14,7 +14,7 @@ use Rattle.spec_language.specs.Dependence.{size, events, dependsOn, Reach, NoCy
 use Rattle.spec_language.specs.Accepted.{NamesIn, HandlerNamesIn, BehaviourNamesIn, Known}
 use Rattle.spec_language.specs.Code.{one?}
 use Rattle.spec_language.proofs.Laws.{depends-within}
-use Rattle.check_graph.specs.Matrix.{cell, below, closed}
+use Rattle.check_graph.specs.Matrix.{cell, cellBelow, closed}
 use Rattle.check_graph.proofs.Closure.{below-says, below-is, reach-map, reach-within, closed-decides}
 use Rattle.check_faults.specs.Faults.{knownIn, knownHandlers, knownBehaviour, knownBehaviours, known, matrixOf, cyclicUnder, cyclic}
 use Rattle.check_faults.proofs.Any.{any-none, any-never}
@@ -94,12 +94,12 @@ abbrev reaches : Program → ℕ → ℕ → Bool
 reaches p e i = cell (closed (matrixOf p e) (size p)) i i
 
 module _ (p : Program) (k : Known p) (few : size p ≤ 64) (e : ℕ) where
-  to-below : (i j : ℕ) → dependsOn p e i j ≡ true → below (size p) (matrixOf p e) i j ≡ true
+  to-below : (i j : ℕ) → dependsOn p e i j ≡ true → cellBelow (size p) (matrixOf p e) i j ≡ true
   to-below i j h =
       let w = depends-within p k e i j h in
       below-is (size p) (matrixOf p e) i j (w .0) (w .1) (cell-is p e i j (omega arith) (omega arith) ∙ h)
 
-  from-below : (i j : ℕ) → below (size p) (matrixOf p e) i j ≡ true → dependsOn p e i j ≡ true
+  from-below : (i j : ℕ) → cellBelow (size p) (matrixOf p e) i j ≡ true → dependsOn p e i j ≡ true
   from-below i j h = let w = below-says (size p) (matrixOf p e) i j h in sym (cell-is p e i j (omega arith) (omega arith)) ∙ w .2
 
   reach-marks : (i : ℕ) → Reach (dependsOn p e) i i → (i < size p) × (reaches p e i ≡ true)

@@ -16,7 +16,7 @@ use Rattle.spec_language.proofs.Laws.{length-upTo, getD-upTo}
 use Rattle.spec_semantics.proofs.Graph.{Marked, free-le}
 use Rattle.spec_semantics.proofs.OrderLaws.{markAll, order-ordered, order-complete, along}
 use Rattle.front_draft.specs.Draft.{draftLength}
-use Rattle.check_graph.specs.Matrix.{cell, below, closed}
+use Rattle.check_graph.specs.Matrix.{cell, cellBelow, closed}
 use Rattle.check_graph.specs.Placing.{placed, orderOn, isMarked, ordered}
 use Rattle.check_graph.specs.Sets.{bytesOf, marksOf}
 use Rattle.check_graph.proofs.Closure.{below-says, below-is, reach-map, closed-decides}
@@ -45,7 +45,7 @@ module _ (d : List ℕ) (l : length d ≡ draftLength) (e n : ℕ) (few : n ≤ 
   m = matrixOn d e n
 
   abbrev dep : ℕ → ℕ → Bool
-  dep = below n m
+  dep = cellBelow n m
 
   within : (a b : ℕ) → dep a b ≡ true → (a < n) × (b < n)
   within a b h = let v = below-says n m a b h in (v .0, v .1)

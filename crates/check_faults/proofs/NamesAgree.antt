@@ -14,7 +14,7 @@ use Rattle.lib_base.proofs.Tools.{split}
 use Rattle.spec_language.specs.Syntax.{Expr, Handler, handler, Behaviour, passive, active}
 use Rattle.spec_language.specs.Grammar.{Arity, unary, ternary, binary, Nested, n-con, n-name, n-app1, n-app2, n-app3, HandlersFit, BehaviourFits}
 use Rattle.front_draft.specs.Draft.{nodes, handlerNodes, behaviourNodes, programNodes}
-use Rattle.front_draft.specs.Entry.{tagOf, wordOf}
+use Rattle.front_draft.specs.Entry.{nodeTag, nodeWord}
 use Rattle.check_faults.specs.Faults.{knownIn, knownHandlers, knownBehaviour, knownBehaviours}
 use Rattle.check_faults.specs.Checks.{stray, namesKnown}
 
@@ -30,9 +30,9 @@ fine-join b (x ∷ l) m = rw (fine-join b l m, and-assoc (not (stray x b)) (fine
 
 -- ---- one node
 
-not-stray : (b x : ℕ) → (tagOf x ≡ 17 → ⊥) → stray x b ≡ false
+not-stray : (b x : ℕ) → (nodeTag x ≡ 17 → ⊥) → stray x b ≡ false
 unfolding stray
-not-stray b x h = rw (ne-eqb (tagOf x) 17 h)
+not-stray b x h = rw (ne-eqb (nodeTag x) 17 h)
 
 con-fine : (b w : ℕ) → w < 2 ^ 32 → fine b ((68719476736 + w) ∷ []) ≡ true
 unfolding fine
@@ -50,8 +50,8 @@ not-leb i n = split (ltb i n) (λ t. rw (t, lt-leb n i (ltb-true i n t))) (λ t.
 name-fine : (b i : ℕ) → i < 256 → fine b ((73014444032 + i) ∷ []) ≡ ltb i b
 unfolding fine stray
 name-fine b i h =
-    let t : tagOf (73014444032 + i) ≡ 17 = omega arith in
-    let w : wordOf (73014444032 + i) ≡ i = omega arith in
+    let t : nodeTag (73014444032 + i) ≡ 17 = omega arith in
+    let w : nodeWord (73014444032 + i) ≡ i = omega arith in
     rw (t, w, and-true) (not-leb i b)
 
 -- ---- the nodes of a program

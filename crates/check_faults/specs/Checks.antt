@@ -8,7 +8,7 @@ use lib.Dec.{eqb, ltb, leb}
 use Rattle.lib_base.specs.Basics.{pick}
 use Rattle.lib_bits.specs.Bits.{bit}
 use Rattle.front_draft.specs.Draft.{entryOf, usedBy}
-use Rattle.front_draft.specs.Entry.{kindOf, startOf, countOf, tagOf, wordOf}
+use Rattle.front_draft.specs.Entry.{entryKind, entryStart, entryCount, nodeTag, nodeWord}
 use Rattle.check_graph.specs.Matrix.{cell, closed}
 use Rattle.check_faults.specs.Faults.{anyBelow}
 
@@ -16,7 +16,7 @@ use Rattle.check_faults.specs.Faults.{anyBelow}
 
 -- a node that names none of b behaviours
 unfoldable pub stray : ℕ → ℕ → Bool
-stray x b = pick (eqb (tagOf x) 17) (leb b (wordOf x)) false
+stray x b = pick (eqb (nodeTag x) 17) (leb b (nodeWord x)) false
 
 -- none of the first n nodes is one
 unfoldable pub namesKnown : List ℕ → ℕ → ℕ → Bool
@@ -25,12 +25,12 @@ namesKnown d b (suc n) = elim (stray (getD d n 0) b) [ true ↦ false | false �
 
 -- ---- the dependence matrix
 
-unfoldable pub blank : ℕ → List ℕ
-blank n = replicate n 0
+unfoldable pub zeroBytes : ℕ → List ℕ
+zeroBytes n = replicate n 0
 
 -- row i takes in a name, but not that of number `but`
 unfoldable pub markNode : List ℕ → ℕ → ℕ → ℕ → List ℕ
-markNode m i but x = pick (eqb (tagOf x) 17) (pick (ltb (wordOf x) 64) (pick (eqb (wordOf x) but) m (set m (i * 64 + wordOf x) 1)) m) m
+markNode m i but x = pick (eqb (nodeTag x) 17) (pick (ltb (nodeWord x) 64) (pick (eqb (nodeWord x) but) m (set m (i * 64 + nodeWord x) 1)) m) m
 
 -- the names among n nodes from `start` on
 unfoldable pub markNodes : List ℕ → List ℕ → ℕ → ℕ → ℕ → ℕ → List ℕ
@@ -41,8 +41,8 @@ markNodes d m i but start (suc k) = markNode (markNodes d m i but start k) i but
 -- names are those that behaviour i means (02, M-110)
 unfoldable pub markEntry : List ℕ → List ℕ → ℕ → ℕ → List ℕ
 markEntry d m i v =
-    pick (eqb (kindOf v) 1) (markNodes (usedBy d i) m i 64 (startOf v) (countOf v))
-    (pick (eqb (kindOf v) 2) (markNodes (usedBy d i) m i i (startOf v) (countOf v)) m)
+    pick (eqb (entryKind v) 1) (markNodes (usedBy d i) m i 64 (entryStart v) (entryCount v))
+    (pick (eqb (entryKind v) 2) (markNodes (usedBy d i) m i i (entryStart v) (entryCount v)) m)
 
 -- the rows of the first n behaviours, on event e
 unfoldable pub markRows : List ℕ → List ℕ → ℕ → ℕ → List ℕ
@@ -50,23 +50,23 @@ markRows d m e zero = m
 markRows d m e (suc n) = markEntry d (markRows d m e n) n (entryOf d e n)
 
 unfoldable pub matrixOn : List ℕ → ℕ → ℕ → List ℕ
-matrixOn d e n = markRows d (blank 4096) e n
+matrixOn d e n = markRows d (zeroBytes 4096) e n
 
 -- ---- its rows as sets
 
 -- node x names b, which is not `but`; one of the nodes does
-unfoldable pub names : ℕ → ℕ → ℕ → Bool
-names but b x = eqb (tagOf x) 17 && (eqb (wordOf x) b && not (eqb but b))
+unfoldable pub nodeNames : ℕ → ℕ → ℕ → Bool
+nodeNames but b x = eqb (nodeTag x) 17 && (eqb (nodeWord x) b && not (eqb but b))
 
-unfoldable pub named : ℕ → ℕ → List ℕ → Bool
-named but b [] = false
-named but b (x ∷ l) = names but b x || named but b l
+unfoldable pub someNodeNames : ℕ → ℕ → List ℕ → Bool
+someNodeNames but b [] = false
+someNodeNames but b (x ∷ l) = nodeNames but b x || someNodeNames but b l
 
 -- behaviour i with entry v needs b
 unfoldable pub needsOn : List ℕ → ℕ → ℕ → ℕ → Bool
 needsOn d i v b =
-    pick (eqb (kindOf v) 1) (named 64 b (take (countOf v) (drop (startOf v) (usedBy d i))))
-    (pick (eqb (kindOf v) 2) (named i b (take (countOf v) (drop (startOf v) (usedBy d i)))) false)
+    pick (eqb (entryKind v) 1) (someNodeNames 64 b (take (entryCount v) (drop (entryStart v) (usedBy d i))))
+    (pick (eqb (entryKind v) 2) (someNodeNames i b (take (entryCount v) (drop (entryStart v) (usedBy d i)))) false)
 
 -- the needs among the first n of each of the first n behaviours, on event e
 pub record RowsAre (d : List ℕ) (e n : ℕ) (rows : List ℕ) : Type 0 where
@@ -89,7 +89,7 @@ pub record PlacedOn (d : List ℕ) (e n set : ℕ) : Type 0 where
 -- ---- what the code asks of a draft: the nodes of each entry lie among the 2,048
 
 abbrev pub Inside : List ℕ → ℕ → ℕ → Type 0
-Inside d e i = startOf (entryOf d e i) + countOf (entryOf d e i) ≤ 2048
+Inside d e i = entryStart (entryOf d e i) + entryCount (entryOf d e i) ≤ 2048
 
 abbrev pub RowsInside : List ℕ → ℕ → ℕ → Type 0
 RowsInside d e n = (i : ℕ) → i < n → Inside d e i

@@ -7,9 +7,9 @@ ghost use mathlib.Core.Bool.{_&&_, _||_};
 ghost use lib.ListN.{length, take, drop};
 ghost use lib.Dec.{ltb};
 ghost use Rattle.lib_bits.specs.Bits.{bit};
-ghost use Rattle.front_draft.specs.Entry.{startOf, countOf};
+ghost use Rattle.front_draft.specs.Entry.{entryStart, entryCount};
 ghost use Rattle.front_draft.specs.Draft.{draftLength, usedBy};
-ghost use Rattle.check_faults.specs.Checks.{stray, namesKnown, blank, markNode, markNodes, markEntry, matrixOn, names, named, needsOn, RowsAre, PlacedOn, cyclicOn, RowsInside, AllInside};
+ghost use Rattle.check_faults.specs.Checks.{stray, namesKnown, zeroBytes, markNode, markNodes, markEntry, matrixOn, nodeNames, someNodeNames, needsOn, RowsAre, PlacedOn, cyclicOn, RowsInside, AllInside};
 use front_draft::layout;
 use spec_language::limits;
 
@@ -39,7 +39,7 @@ pub fn names_known(d: &[u64], n: usize, b: usize) -> bool
 
 fn clear(m: &mut [u8])
     requires { ⌜ length (now m) ≡ 4096 ⌝ }
-    ensures { λ _. ⌜ now (m .exit) ≡ blank 4096 ⌝ }
+    ensures { λ _. ⌜ now (m .exit) ≡ zeroBytes 4096 ⌝ }
 {
     let mut k = 0;
     while k < check_graph::CELLS {
@@ -76,7 +76,7 @@ fn mark_nodes(d: &[u64], m: &mut [u8], i: usize, but: usize, start: usize, count
 
 // The needs of behaviour i with entry v: later handlers have none, an active's own name is none.
 fn mark_entry(d: &[u64], m: &mut [u8], i: usize, v: u64)
-    requires { ⌜ (length (now d) ≡ draftLength) × (length (now m) ≡ 4096) × (i < 64) × (startOf v + countOf v ≤ 2048) ⌝ }
+    requires { ⌜ (length (now d) ≡ draftLength) × (length (now m) ≡ 4096) × (i < 64) × (entryStart v + entryCount v ≤ 2048) ⌝ }
     ensures { λ _. ⌜ now (m .exit) ≡ markEntry (now (d .entry)) (now (m .entry)) i v ⌝ }
 {
     let start = (v / layout::KINDS % layout::FIRSTS) as usize;
@@ -106,7 +106,7 @@ pub fn fill_matrix(d: &[u64], e: usize, n: usize, m: &mut [u8])
 // The set with the name that node x is, if it is one of the first n, but not that of number `but`.
 fn add_need(set: u64, but: usize, n: usize, x: u64) -> u64
     requires { ⌜ n ≤ 64 ⌝ }
-    ensures { λ r. ⌜ ((b : ℕ) → bit r b ≡ bit set b || (ltb b n && names but b x)) ⌝ }
+    ensures { λ r. ⌜ ((b : ℕ) → bit r b ≡ bit set b || (ltb b n && nodeNames but b x)) ⌝ }
 {
     if x / layout::WORD == layout::NAME {
         let j = (x % layout::WORD) as usize;
@@ -122,7 +122,7 @@ fn add_need(set: u64, but: usize, n: usize, x: u64) -> u64
 // The names of the first n among count nodes from start on, as behaviour i means them, as a set.
 fn need_set(d: &[u64], i: usize, but: usize, n: usize, start: usize, count: usize) -> u64
     requires { ⌜ (length (now d) ≡ draftLength) × (i < 64) × (n ≤ 64) × (start + count ≤ 2048) ⌝ }
-    ensures { λ r. ⌜ ((b : ℕ) → bit r b ≡ ltb b n && named but b (take count (drop start (usedBy (now (d .entry)) i)))) ⌝ }
+    ensures { λ r. ⌜ ((b : ℕ) → bit r b ≡ ltb b n && someNodeNames but b (take count (drop start (usedBy (now (d .entry)) i)))) ⌝ }
 {
     let mut set = 0;
     let mut k = 0;
@@ -135,7 +135,7 @@ fn need_set(d: &[u64], i: usize, but: usize, n: usize, start: usize, count: usiz
 
 // The needs of behaviour i with this entry among the first n, as a set.
 fn row_of(d: &[u64], i: usize, n: usize, entry: u64) -> u64
-    requires { ⌜ (length (now d) ≡ draftLength) × (i < 64) × (n ≤ 64) × (startOf entry + countOf entry ≤ 2048) ⌝ }
+    requires { ⌜ (length (now d) ≡ draftLength) × (i < 64) × (n ≤ 64) × (entryStart entry + entryCount entry ≤ 2048) ⌝ }
     ensures { λ r. ⌜ ((b : ℕ) → bit r b ≡ ltb b n && needsOn (now (d .entry)) i entry b) ⌝ }
 {
     let start = (entry / layout::KINDS % layout::FIRSTS) as usize;

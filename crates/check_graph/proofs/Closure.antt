@@ -13,7 +13,7 @@ use lib.Seq.{getD-set-same, getD-set-other}
 use borrow.Author.Tests.{ltb-true, lt-ltb}
 use Rattle.lib_base.proofs.Tools.{by-test, or-either}
 use Rattle.spec_language.specs.Dependence.{Reach, one, more}
-use Rattle.check_graph.specs.Matrix.{cell, below, closeCell, closeRow, closeThrough, closeRows, closeBy, closed}
+use Rattle.check_graph.specs.Matrix.{cell, cellBelow, closeCell, closeRow, closeThrough, closeRows, closeBy, closed}
 
 -- ---- Booleans
 
@@ -131,13 +131,13 @@ pass-is m k n l p kn i j a b = rows-done m k n n i j l p kn (omega arith) a b
 
 -- ---- dependence among the first n
 
-pub below-says : (n : ℕ) (m : List ℕ) (i j : ℕ) → below n m i j ≡ true → (i < n) × (j < n) × (cell m i j ≡ true)
+pub below-says : (n : ℕ) (m : List ℕ) (i j : ℕ) → cellBelow n m i j ≡ true → (i < n) × (j < n) × (cell m i j ≡ true)
 below-says n m i j =
     by-test (λ x. x ≡ true → (i < n) × (j < n) × (cell m i j ≡ true)) (ltb i n)
     (λ p. by-test (λ x. x ≡ true → (i < n) × (j < n) × (cell m i j ≡ true)) (ltb j n) (λ q e. (ltb-true i n p, ltb-true j n q, e)) (λ q e. absurd (false≢true e)))
     (λ p e. absurd (false≢true e))
 
-pub below-is : (n : ℕ) (m : List ℕ) (i j : ℕ) → i < n → j < n → cell m i j ≡ true → below n m i j ≡ true
+pub below-is : (n : ℕ) (m : List ℕ) (i j : ℕ) → i < n → j < n → cell m i j ≡ true → cellBelow n m i j ≡ true
 below-is n m i j p q e = rw (lt-ltb i n p, lt-ltb j n q) e
 
 pub reach-then : {dep : ℕ → ℕ → Bool} {a b c : ℕ} → Reach dep a b → Reach dep b c → Reach dep a c
@@ -150,7 +150,7 @@ reach-map f (one d) = one (f _ _ d)
 reach-map f (more r d) = more (reach-map f r) (f _ _ d)
 
 -- a chain among the first n starts and ends there
-pub reach-within : (n : ℕ) (m : List ℕ) {i j : ℕ} → Reach (below n m) i j → (i < n) × (j < n)
+pub reach-within : (n : ℕ) (m : List ℕ) {i j : ℕ} → Reach (cellBelow n m) i j → (i < n) × (j < n)
 reach-within n m {i} {j} (one d) = let b = below-says n m i j d in (b .0, b .1)
 reach-within n m {i} {j} (more {b = h} r d) = (reach-within n m r .0, below-says n m h j d .1)
 
@@ -158,7 +158,7 @@ reach-within n m {i} {j} (more {b = h} r d) = (reach-within n m r .0, below-says
 
 module _ (m : List ℕ) (n : ℕ) (l : length m ≡ 4096) (small : n ≤ 64) where
   record Good (w : List ℕ) (k : ℕ) : Type 0 where
-    sound : (i j : ℕ) → i < n → j < n → cell w i j ≡ true → Reach (below n m) i j
+    sound : (i j : ℕ) → i < n → j < n → cell w i j ≡ true → Reach (cellBelow n m) i j
     grown : (i j : ℕ) → i < n → j < n → cell m i j ≡ true → cell w i j ≡ true
     tight : (i h j : ℕ) → i < n → h < k → j < n → cell w i h ≡ true → cell w h j ≡ true → cell w i j ≡ true
 
@@ -204,7 +204,7 @@ module _ (m : List ℕ) (n : ℕ) (l : length m ≡ 4096) (small : n ≤ 64) whe
       let long : length w ≡ 4096 = length-closeBy m n k ∙ l in
       good-pass w (closeRows w k n n) k (omega arith) (good k (omega arith)) (pass-is w k n long small (omega arith))
 
-  marked : {i j : ℕ} → Reach (below n m) i j → (i < n) × (j < n) × (cell (closed m n) i j ≡ true)
+  marked : {i j : ℕ} → Reach (cellBelow n m) i j → (i < n) × (j < n) × (cell (closed m n) i j ≡ true)
   unfolding closed
   marked {i} {j} (one d) = let b = below-says n m i j d in (b .0, b .1, good n (omega arith) .grown i j (b .0) (b .1) (b .2))
   marked {i} {j} (more {b = h} r d) =
@@ -213,11 +213,11 @@ module _ (m : List ℕ) (n : ℕ) (l : length m ≡ 4096) (small : n ≤ 64) whe
       let x = marked r in
       (x .0, b .1, g .tight i h j (x .0) (b .0) (b .1) (x .2) (g .grown h j (b .0) (b .1) (b .2)))
 
-  reached : (i j : ℕ) → i < n → j < n → cell (closed m n) i j ≡ true → Reach (below n m) i j
+  reached : (i j : ℕ) → i < n → j < n → cell (closed m n) i j ≡ true → Reach (cellBelow n m) i j
   unfolding closed
   reached = good n (omega arith) .sound
 
 -- the closed matrix decides what is reached among the first n
 pub closed-decides : (m : List ℕ) (n : ℕ) → length m ≡ 4096 → n ≤ 64 → (i j : ℕ) → i < n → j < n
-    → ((cell (closed m n) i j ≡ true → Reach (below n m) i j) × (Reach (below n m) i j → cell (closed m n) i j ≡ true))
+    → ((cell (closed m n) i j ≡ true → Reach (cellBelow n m) i j) × (Reach (cellBelow n m) i j → cell (closed m n) i j ≡ true))
 closed-decides m n l small i j a b = (reached m n l small i j a b, λ r. marked m n l small r .2)

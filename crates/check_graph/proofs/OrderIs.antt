@@ -17,7 +17,7 @@ use Rattle.spec_language.specs.Order.{met, find, order, upTo}
 use Rattle.spec_language.proofs.Laws.{length-upTo, getD-upTo, upTo-same}
 use Rattle.spec_semantics.proofs.OrderLaws.{markAll}
 use Rattle.check_graph.specs.Matrix.{cell}
-use Rattle.check_graph.specs.Placing.{lacks, metOn, readyOn, findOn, Placed, placed, orderOn, isMarked, ordered, Written}
+use Rattle.check_graph.specs.Placing.{lacksNeed, metOn, readyOn, findOn, Placed, placed, orderOn, isMarked, ordered, OrderWritten}
 
 -- ---- branches
 
@@ -118,10 +118,10 @@ module _ (m : List ℕ) (n : ℕ) (small : n ≤ 64) where
   }
 
   met-is : (marks : List ℕ) (bs : List Bool) → Agree marks bs → (i k : ℕ) → k ≤ n → metOn m marks i k ≡ met n dep i k bs
-  unfolding metOn met lacks
+  unfolding metOn met lacksNeed
   met-is marks bs g i zero h = refl
   met-is marks bs g i (suc k) h =
-      branch-same (lacks m marks i k) (cell m i k && not (getD bs k false)) false
+      branch-same (lacksNeed m marks i k) (cell m i k && not (getD bs k false)) false
       (lacks-test (eqb (getD m (i * 64 + k) 0) 0) (eqb (getD marks k 0) 0) ∙ ap (λ x. cell m i k && not x) (sym (g .same k (omega arith))))
       (met-is marks bs g i k (omega arith))
 
@@ -212,21 +212,21 @@ order-marks m marks out n l small count marks′ out′ e j h =
     subst (AgreeAt m n small (markAll (ordered m n marks) bs)) (sym e) (marks-after m n small n marks bs 0 out (agree-first m n small marks l)) in
     sym (g .same j h)
 
-from-start : (out o : List ℕ) (m : List ℕ) (n : ℕ) (small : n ≤ 64) (r : Placed) → WrittenAt m n small 0 out o r → Written o out r
+from-start : (out o : List ℕ) (m : List ℕ) (n : ℕ) (small : n ≤ 64) (r : Placed) → WrittenAt m n small 0 out o r → OrderWritten o out r
 from-start out o m n small (count, marks, bytes) w = (rw zero-add at (w .0), rw zero-add at (w .1))
 
 -- the bytes written are the order of the first n, and the count is its length
-pub order-is : (m marks out : List ℕ) (n : ℕ) → length marks ≡ 64 → length out ≡ 64 → n ≤ 64 → Written (ordered m n marks) out (orderOn m n n marks 0 out)
+pub order-is : (m marks out : List ℕ) (n : ℕ) → length marks ≡ 64 → length out ≡ 64 → n ≤ 64 → OrderWritten (ordered m n marks) out (orderOn m n n marks 0 out)
 order-is m marks out n l o small =
     from-start out (ordered m n marks) m n small (orderOn m n n marks 0 out)
     (orders m n small n marks (upTo n (λ i. isMarked marks i)) 0 out (agree-first m n small marks l) (omega arith))
 
 -- the same, from what `order_of` ensures
 pub order-written : (m marks out : List ℕ) (n : ℕ) → length marks ≡ 64 → length out ≡ 64 → n ≤ 64 → (count : ℕ) (marks′ out′ : List ℕ)
-    → placed count marks′ out′ ≡ orderOn m n n marks 0 out → Written (ordered m n marks) out (placed count marks′ out′)
-order-written m marks out n l o small count marks′ out′ e = subst (Written (ordered m n marks) out) (sym e) (order-is m marks out n l o small)
+    → placed count marks′ out′ ≡ orderOn m n n marks 0 out → OrderWritten (ordered m n marks) out (placed count marks′ out′)
+order-written m marks out n l o small count marks′ out′ e = subst (OrderWritten (ordered m n marks) out) (sym e) (order-is m marks out n l o small)
 
-module _ (o out : List ℕ) (count : ℕ) (marks′ out′ : List ℕ) (w : Written o out (placed count marks′ out′)) where
+module _ (o out : List ℕ) (count : ℕ) (marks′ out′ : List ℕ) (w : OrderWritten o out (placed count marks′ out′)) where
   pub written-take : take count out′ ≡ o
   written-take = rw (w .0, w .1) (take-append-seam o (drop (length o) out))
 

@@ -21,7 +21,7 @@ use Rattle.spec_language.specs.Order.{upTo}
 use Rattle.spec_language.specs.Code.{one?}
 use Rattle.spec_language.proofs.Laws.{length-upTo, getD-upTo}
 use Rattle.check_graph.specs.Matrix.{cell}
-use Rattle.check_graph.specs.Placing.{lacks, metOn, readyOn, isMarked}
+use Rattle.check_graph.specs.Placing.{lacksNeed, metOn, readyOn, isMarked}
 use Rattle.check_graph.specs.Sets.{readySet, bytesOf, marksOf, RowsBelow}
 
 -- ---- equal bits, equal numbers
@@ -100,8 +100,8 @@ module _ (rows : List ℕ) (s i : ℕ) (h : i < 64) where
   abbrev row : ℕ
   row = getD rows i 0
 
-  lacks-is : (j : ℕ) → j < 64 → lacks (bytesOf rows) (marksOf s) i j ≡ bit row j && not (bit s j)
-  unfolding lacks
+  lacks-is : (j : ℕ) → j < 64 → lacksNeed (bytesOf rows) (marksOf s) i j ≡ bit row j && not (bit s j)
+  unfolding lacksNeed
   lacks-is j k = rw (bytes-at rows i j h k, marks-at s j k, one-zero (bit row j), one-zero (bit s j)) (test (bit row j) (bit s j))
     where
       test : (a b : Bool) → pick (not a) false (not b) ≡ a && not b

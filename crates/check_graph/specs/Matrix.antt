@@ -12,12 +12,12 @@ abbrev pub cell : List ℕ → ℕ → ℕ → Bool
 cell m i j = not (eqb (getD m (i * 64 + j) 0) 0)
 
 -- the same among the first n
-abbrev pub below : ℕ → List ℕ → ℕ → ℕ → Bool
-below n m i j = pick (ltb i n) (pick (ltb j n) (cell m i j) false) false
+abbrev pub cellBelow : ℕ → List ℕ → ℕ → ℕ → Bool
+cellBelow n m i j = pick (ltb i n) (pick (ltb j n) (cell m i j) false) false
 
 -- set, where x is; else y
-unfoldable pub joined : ℕ → ℕ → ℕ
-joined x y = pick (eqb x 0) y 1
+unfoldable pub cellOr : ℕ → ℕ → ℕ
+cellOr x y = pick (eqb x 0) y 1
 
 -- i comes to depend on j if k does
 unfoldable pub closeCell : List ℕ → ℕ → ℕ → ℕ → List ℕ

@@ -11,13 +11,13 @@ use Rattle.spec_language.specs.Order.{order, upTo}
 use Rattle.check_graph.specs.Matrix.{cell}
 
 -- i needs j, and j is not marked
-unfoldable pub lacks : List ℕ → List ℕ → ℕ → ℕ → Bool
-lacks m marks i j = pick (eqb (getD m (i * 64 + j) 0) 0) false (eqb (getD marks j 0) 0)
+unfoldable pub lacksNeed : List ℕ → List ℕ → ℕ → ℕ → Bool
+lacksNeed m marks i j = pick (eqb (getD m (i * 64 + j) 0) 0) false (eqb (getD marks j 0) 0)
 
 -- the needs of i among the first k are marked
 unfoldable pub metOn : List ℕ → List ℕ → ℕ → ℕ → Bool
 metOn m marks i zero = true
-metOn m marks i (suc k) = elim (lacks m marks i k) [ true ↦ false | false ↦ metOn m marks i k ]
+metOn m marks i (suc k) = elim (lacksNeed m marks i k) [ true ↦ false | false ↦ metOn m marks i k ]
 
 -- i is not marked, and its needs are met
 unfoldable pub readyOn : List ℕ → List ℕ → ℕ → ℕ → Bool
@@ -55,5 +55,5 @@ abbrev pub ordered : List ℕ → ℕ → List ℕ → List ℕ
 ordered m n marks = order n (λ i j. cell m i j) n (upTo n (λ i. isMarked marks i))
 
 -- the bytes begin with o and are `out` beyond it; the count is o's length
-abbrev pub Written : List ℕ → List ℕ → Placed → Type 0
-Written o out (count, marks, bytes) = (count ≡ length o) × (bytes ≡ o ++ drop (length o) out)
+abbrev pub OrderWritten : List ℕ → List ℕ → Placed → Type 0
+OrderWritten o out (count, marks, bytes) = (count ≡ length o) × (bytes ≡ o ++ drop (length o) out)

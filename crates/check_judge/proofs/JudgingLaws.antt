@@ -23,13 +23,13 @@ use Rattle.front_sheet.specs.declared.Draft.{Draft}
 use Rattle.front_sheet.specs.declared.Draft.the-variants.{Ready, Broken}
 use Rattle.front_sheet.specs.Whole.{finished, readOn}
 use Rattle.front_correct.proofs.Drafts.{empty, drafted-as}
-use Rattle.front_params.specs.Filling.{valueOf, fillTo, lacksParam}
+use Rattle.front_params.specs.Filling.{parameterValue, fillTo, lacksParam}
 use Rattle.front_params.proofs.Fills.{draft-filled, filled-program}
 use Rattle.check_faults.specs.Faults.{known}
 use Rattle.check_faults.specs.Checks.{namesKnown, cyclicOn}
 use Rattle.back_table.specs.TableWords.{countBefore, tableWords}
-use Rattle.back_compile.specs.Verdict.{Compiled, compiled, judge, lacks, programOf, judgeRead, compileOn}
-use Rattle.back_compile.specs.Judged.{Judged, numberOf}
+use Rattle.back_compile.specs.Verdict.{Compiled, compiled, judge, lacksParameters, programOf, judgeRead, compileOn}
+use Rattle.back_compile.specs.Judged.{Judged, draftRefusal}
 use Rattle.back_compile.proofs.JudgeLaws.{Verdict, unknown, lacking, circular, long, passed, judge-says, compile-opens, compile-long}
 use Rattle.back_compile.proofs.DraftJudged.{draft-unknown, draft-lacking, draft-circular, draft-overlong, draft-passes}
 use Rattle.back_compile.proofs.FillJudged.{filled-is}
@@ -77,14 +77,14 @@ unfolding numberOn
 too-long s ps d h = (sym (ap (λ (x : Compiled). x .0) (compile-long s ps full room h)), omega arith)
 
 -- where nothing lacks, the values filled in are those lent
-filled-lent : (x : Sheet) (ps : List ℕ) → lacks x ps ≡ false → fill (valueOf ps) x ≡ programOf ps x
-unfolding valueOf
+filled-lent : (x : Sheet) (ps : List ℕ) → lacksParameters x ps ≡ false → fill (parameterValue ps) x ≡ programOf ps x
+unfolding parameterValue
 filled-lent x ps h =
     split (uses x)
     (λ u. let c : ltb (length ps) 32 ≡ false = rw u at h in ap (λ (v : ℕ → ℕ). fill v x) (λ i k. lent c k i))
-    (λ u. fill-unused (valueOf ps) (get ps) x u)
+    (λ u. fill-unused (parameterValue ps) (get ps) x u)
   where
-    lent : ltb (length ps) 32 ≡ false → (k : ℕ) → valueOf ps k ≡ get ps k
+    lent : ltb (length ps) 32 ≡ false → (k : ℕ) → parameterValue ps k ≡ get ps k
     lent c k = rw c
 
 -- what 0 says
@@ -100,11 +100,11 @@ verdict-zero p t l r (passed k b c h) = λ z. (k, b)
 
 module _ (s ps : List ℕ) (bytes : All (λ b. b < 256) s) (most : length s ≤ 8192) where
   -- a fault of reading
-  pub faulty-number : (a : Draft) (k r : ℕ) (d₀ d d′ : List ℕ) → a ≡ Broken k → d₀ ≡ empty → finished a d ≡ readOn s d₀ → r ≡ numberOf a → JudgedAs s ps (Faulty r) d′
+  pub faulty-number : (a : Draft) (k r : ℕ) (d₀ d d′ : List ℕ) → a ≡ Broken k → d₀ ≡ empty → finished a d ≡ readOn s d₀ → r ≡ draftRefusal a → JudgedAs s ps (Faulty r) d′
   faulty-number a k r d₀ d d′ b o q w =
       let e : readSheet s ≡ bad k = drafted-as s bytes most (Broken k) d (sym (rw o at q) ∙ ap (λ (x : Draft). finished x d) b) in
       let f = fault-numbers s k e in
-      let z : r ≡ k = w ∙ ap numberOf b in
+      let z : r ≡ k = w ∙ ap draftRefusal b in
       (z ∙ sym (number-opens s ps most ∙ ap (λ (g : Got Sheet). judgeRead g ps full .0) e), omega (arith, z, f))
 
   module _ (lent : All (λ b. b < 256) ps) (ev bs n : ℕ) (d : List ℕ) (q : finished (Ready ev bs n) d ≡ readOn s empty) where
@@ -123,10 +123,10 @@ module _ (s ps : List ℕ) (bytes : All (λ b. b < 256) s) (most : length s ≤ 
           let w = filled-is {d = d} ps lent l full r (j full .0) e (j full .1) .each-sheet sheet-draft in
           ap (λ (x : Compiled). x .0) w ∙ sym (number-opens s ps most ∙ ap (λ (g : Got Sheet). judgeRead g ps full .0) sheet-read)
 
-      told : r ≡ 0 → (known (programOf ps (sheet-draft .sheet)) ≡ true) × (lacks (sheet-draft .sheet) ps ≡ false)
+      told : r ≡ 0 → (known (programOf ps (sheet-draft .sheet)) ≡ true) × (lacksParameters (sheet-draft .sheet) ps ≡ false)
       told z =
           let p = programOf ps (sheet-draft .sheet) in
-          verdict-zero p full (lacks (sheet-draft .sheet) ps) (judge p (lacks (sheet-draft .sheet) ps) full) (judge-says p full (lacks (sheet-draft .sheet) ps))
+          verdict-zero p full (lacksParameters (sheet-draft .sheet) ps) (judge p (lacksParameters (sheet-draft .sheet) ps) full) (judge-says p full (lacksParameters (sheet-draft .sheet) ps))
           (sym (ap (λ (g : Got Sheet). judgeRead g ps full .0) sheet-read) ∙ sym (number-opens s ps most) ∙ sym number-is ∙ z)
 
       fine : r ≡ 0 → FineDraft s ps ev bs (fillTo ps d 2048)

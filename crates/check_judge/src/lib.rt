@@ -4,7 +4,7 @@ ghost use mathlib.Core.Path.{_≡_};
 ghost use Prim.Native.Nat.{_≤_};
 ghost use Rattle.front_draft.specs.Draft.{DraftOf};
 ghost use Rattle.front_correct.proofs.Drafts.{empty};
-ghost use Rattle.back_compile.specs.Judged.{numberOf};
+ghost use Rattle.back_compile.specs.Judged.{draftRefusal};
 ghost use Rattle.check_judge.specs.Judging.{FaultIs, judgementOf, JudgedAs};
 use front_sheet::Draft;
 use spec_language::limits::INSTRUCTIONS;
@@ -43,7 +43,7 @@ fn fault_of(d: &[u64], ev: usize, bs: usize, n: usize, lacking: bool) -> u32
 
 // The number of a refusal; 0 of a draft that is ready.
 fn number_of(a: Draft) -> u32
-    ensures { λ r. ⌜ r ≡ numberOf a ⌝ }
+    ensures { λ r. ⌜ r ≡ draftRefusal a ⌝ }
 {
     match a {
         Draft::Ready(_, _, _) => 0,

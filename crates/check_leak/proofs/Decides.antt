@@ -13,9 +13,9 @@ use Rattle.spec_language.specs.Rights.{maySee}
 use Rattle.spec_language.specs.Dependence.{size}
 use Rattle.check_reads.specs.First.{firstFrom}
 use Rattle.check_reads.proofs.FirstLaws.{Found, first-found, first-all, first-none}
-use Rattle.check_leak.specs.Leaking.{packed, leakAt, leakFrom, leakBy}
-use Rattle.check_leak.specs.Leak.{namesIn, hiddenIn, leakIn}
-use Rattle.check_leak.specs.Claims.{NoHiddenName, Named}
+use Rattle.check_leak.specs.Leaking.{packedLeak, leakAt, leakFrom, leakBy}
+use Rattle.check_leak.specs.Leak.{behaviourNames, hiddenIn, leakIn}
+use Rattle.check_leak.specs.Claims.{NoHiddenName, LeakNamed}
 use Rattle.check_leak.proofs.LeakLaws.{packed-some}
 
 chosen : (b : Bool) (v : ℕ) → pick b v 0 ≢ 0 → (b ≡ true) × (pick b v 0 ≡ v)
@@ -44,17 +44,17 @@ module _ (p : Program) (player : ℕ) where
 
   -- ---- one behaviour that is seen
 
-  from-zero : (i : ℕ) → maySee p player i ≡ true → leakFrom (size p) hid (namesIn p) i ≡ 0 → (j : ℕ) → j < size p → namesIn p i j ≡ true → maySee p player j ≡ false → ⊥
+  from-zero : (i : ℕ) → maySee p player i ≡ true → leakFrom (size p) hid (behaviourNames p) i ≡ 0 → (j : ℕ) → j < size p → behaviourNames p i j ≡ true → maySee p player j ≡ false → ⊥
   unfolding leakFrom leakAt
   from-zero i s z j b n h =
-      let a : firstFrom (size p) 0 (leakAt (size p) hid (namesIn p) i) ≡ 0 = rw s at z in
-      let c = first-all (size p) 0 (leakAt (size p) hid (namesIn p) i) a j (omega arith) (omega arith) in
-      let t : namesIn p i j && hid j ≡ true = rw (n, h) in
-      true≢false (sym t ∙ not-chosen (namesIn p i j && hid j) (packed i j) (packed-some i j) c)
+      let a : firstFrom (size p) 0 (leakAt (size p) hid (behaviourNames p) i) ≡ 0 = rw s at z in
+      let c = first-all (size p) 0 (leakAt (size p) hid (behaviourNames p) i) a j (omega arith) (omega arith) in
+      let t : behaviourNames p i j && hid j ≡ true = rw (n, h) in
+      true≢false (sym t ∙ not-chosen (behaviourNames p i j && hid j) (packedLeak i j) (packed-some i j) c)
 
-  zero-at : leakIn p player ≡ 0 → (i : ℕ) → i < size p → leakFrom (size p) hid (namesIn p) i ≡ 0
+  zero-at : leakIn p player ≡ 0 → (i : ℕ) → i < size p → leakFrom (size p) hid (behaviourNames p) i ≡ 0
   unfolding leakBy
-  zero-at z i b = first-all (size p - 0) 0 (leakFrom (size p) hid (namesIn p)) z i (omega arith) (omega arith)
+  zero-at z i b = first-all (size p - 0) 0 (leakFrom (size p) hid (behaviourNames p)) z i (omega arith) (omega arith)
 
   pub zero-says : leakIn p player ≡ 0 → NoHiddenName p player
   zero-says z i j a b s n = split (maySee p player j) (λ t. t) (λ t. absurd (from-zero i s (zero-at z i a) j b n t))
@@ -62,26 +62,26 @@ module _ (p : Program) (player : ℕ) where
   pub zero-is : NoHiddenName p player → leakIn p player ≡ 0
   unfolding leakBy leakFrom leakAt
   zero-is h =
-      first-none (size p - 0) 0 (leakFrom (size p) hid (namesIn p))
+      first-none (size p - 0) 0 (leakFrom (size p) hid (behaviourNames p))
       (λ i a b. by-test (λ x. x ≡ 0) (hid i) (λ t. refl)
-      (λ t. first-none (size p) 0 (leakAt (size p) hid (namesIn p) i)
-      (λ j c d. by-test (λ x. x ≡ 0) (namesIn p i j && hid j)
-      (λ u. let g = and-eq-true-iff (namesIn p i j) (hid j) .0 u in
+      (λ t. first-none (size p) 0 (leakAt (size p) hid (behaviourNames p) i)
+      (λ j c d. by-test (λ x. x ≡ 0) (behaviourNames p i j && hid j)
+      (λ u. let g = and-eq-true-iff (behaviourNames p i j) (hid j) .0 u in
       absurd (true≢false (sym (h i j (omega arith) (omega arith) (seen-is (maySee p player i) t) (g .0)) ∙ hidden-is (maySee p player j) (g .1))))
       (λ u. refl))))
 
   -- ---- what is named
 
-  pub named-is-true : (v : ℕ) → leakIn p player ≡ v → v ≢ 0 → Named p player v
+  pub named-is-true : (v : ℕ) → leakIn p player ≡ v → v ≢ 0 → LeakNamed p player v
   unfolding leakBy leakFrom leakAt
   named-is-true v q h =
-      let a = first-found (size p - 0) 0 (leakFrom (size p) hid (namesIn p)) v q h in
+      let a = first-found (size p - 0) 0 (leakFrom (size p) hid (behaviourNames p)) v q h in
       let i = a .place in
-      let g = passed (hid i) (firstFrom (size p) 0 (leakAt (size p) hid (namesIn p) i)) (λ z. h (sym (a .answer) ∙ z)) in
-      let b = first-found (size p) 0 (leakAt (size p) hid (namesIn p) i) v (sym (g .1) ∙ a .answer) h in
+      let g = passed (hid i) (firstFrom (size p) 0 (leakAt (size p) hid (behaviourNames p) i)) (λ z. h (sym (a .answer) ∙ z)) in
+      let b = first-found (size p) 0 (leakAt (size p) hid (behaviourNames p) i) v (sym (g .1) ∙ a .answer) h in
       let j = b .place in
-      let c = chosen (namesIn p i j && hid j) (packed i j) (λ z. h (sym (b .answer) ∙ z)) in
-      let t = and-eq-true-iff (namesIn p i j) (hid j) .0 (c .0) in
+      let c = chosen (behaviourNames p i j && hid j) (packedLeak i j) (λ z. h (sym (b .answer) ∙ z)) in
+      let t = and-eq-true-iff (behaviourNames p i j) (hid j) .0 (c .0) in
       record {
         seen = i;
         hidden = j;
@@ -93,7 +93,7 @@ module _ (p : Program) (player : ℕ) where
         names = t .0;
         least-seen = λ k l x y s n u. by-cases (decLt k i) (λ w. absurd (from-zero k s (a .before k (omega arith) w) l y n u)) (λ w. omega arith);
         least-hidden = λ l y n u. by-cases (decLt l j)
-            (λ w. let o : namesIn p i l && hid l ≡ true = rw (n, u) in
-            absurd (true≢false (sym o ∙ not-chosen (namesIn p i l && hid l) (packed i l) (packed-some i l) (b .before l (omega arith) w))))
+            (λ w. let o : behaviourNames p i l && hid l ≡ true = rw (n, u) in
+            absurd (true≢false (sym o ∙ not-chosen (behaviourNames p i l && hid l) (packedLeak i l) (packed-some i l) (b .before l (omega arith) w))))
             (λ w. omega arith);
       }

@@ -25,8 +25,8 @@ use Rattle.check_reads.proofs.FirstLaws.{first-same, first-none}
 use Rattle.check_reads.proofs.Agrees.{names-are}
 use Rattle.check_circle.specs.Witness.{numberOn}
 use Rattle.check_judge.specs.Judging.{FineDraft}
-use Rattle.check_leak.specs.Leaking.{packed, leakAt, leakFrom, leakBy, namesAny, hiddenOn, leakingOn, leakFor}
-use Rattle.check_leak.specs.Leak.{namesIn, hiddenIn, leakIn, leakOn}
+use Rattle.check_leak.specs.Leaking.{packedLeak, leakAt, leakFrom, leakBy, namesAny, hiddenOn, leakingOn, leakFor}
+use Rattle.check_leak.specs.Leak.{behaviourNames, hiddenIn, leakIn, leakOn}
 
 -- ---- who may see
 
@@ -43,22 +43,22 @@ hidden-joins set next byte player j h n t e = rw (ne-eqb player 0 n, t) e
 
 -- ---- one behaviour
 
-pub packed-some : (i j : ℕ) → packed i j ≡ 0 → ⊥
-unfolding packed
+pub packed-some : (i j : ℕ) → packedLeak i j ≡ 0 → ⊥
+unfolding packedLeak
 packed-some i j h = omega arith
 
-pub least-none : (set n i : ℕ) → set ≡ 0 → 0 ≡ firstFrom n 0 (λ j. pick (bit set j) (packed i j) 0)
-least-none set n i h = sym (first-none n 0 (λ j. pick (bit set j) (packed i j) 0) (λ j a b. rw (h, bit-none j)))
+pub least-none : (set n i : ℕ) → set ≡ 0 → 0 ≡ firstFrom n 0 (λ j. pick (bit set j) (packedLeak i j) 0)
+least-none set n i h = sym (first-none n 0 (λ j. pick (bit set j) (packedLeak i j) 0) (λ j a b. rw (h, bit-none j)))
 
 pub from-hidden : (n : ℕ) (hidden : ℕ → Bool) (names : ℕ → ℕ → Bool) (i : ℕ) → hidden i ≡ true → 0 ≡ leakFrom n hidden names i
 unfolding leakFrom
 from-hidden n hidden names i h = rw h
 
 pub from-seen : (n hidden : ℕ) (names : ℕ → ℕ → Bool) (i set shared r : ℕ) → n ≤ 64 → bit hidden i ≡ false → Gathers 64 set (names i)
-    → ((j : ℕ) → bit shared j ≡ bit set j && bit hidden j) → r ≡ firstFrom n 0 (λ j. pick (bit shared j) (packed i j) 0) → r ≡ leakFrom n (bit hidden) names i
+    → ((j : ℕ) → bit shared j ≡ bit set j && bit hidden j) → r ≡ firstFrom n 0 (λ j. pick (bit shared j) (packedLeak i j) 0) → r ≡ leakFrom n (bit hidden) names i
 unfolding leakFrom leakAt
 from-seen n hidden names i set shared r few h g c q =
-    rw h (q ∙ first-same n 0 (λ j. pick (bit shared j) (packed i j) 0) (leakAt n (bit hidden) names i) (λ j a b. rw (c j, g j (omega arith))))
+    rw h (q ∙ first-same n 0 (λ j. pick (bit shared j) (packedLeak i j) 0) (leakAt n (bit hidden) names i) (λ j a b. rw (c j, g j (omega arith))))
 
 -- ---- the same sets, the same answer
 
@@ -84,14 +84,14 @@ module _ (p : Program) (d : List ℕ) (n : ℕ) (fits : Fits p) (dr : Drafted p 
   unfolding hiddenOn
   hidden-are i b = rw (dr .viewers i b)
 
-  any-are : (i j : ℕ) → i < size p → namesAny d (events p) i j ≡ namesIn p i j
-  unfolding namesAny namesIn
+  any-are : (i j : ℕ) → i < size p → namesAny d (events p) i j ≡ behaviourNames p i j
+  unfolding namesAny behaviourNames
   any-are i j b =
       any-same (events p + 1) (λ e. namesOn d e i j) (λ e. inResponse j (response p e i))
       (λ e h. names-are p d n fits dr e i j (omega (arith, fits .few-events)) b)
 
   drafted-leak : leakingOn d (events p) (size p) player ≡ leakIn p player
-  drafted-leak = by-same (size p) (hiddenOn d player) (hiddenIn p player) (namesAny d (events p)) (namesIn p) hidden-are any-are
+  drafted-leak = by-same (size p) (hiddenOn d player) (hiddenIn p player) (namesAny d (events p)) (behaviourNames p) hidden-are any-are
 
 pub draft-leak : {ev bs n : ℕ} {d : List ℕ} (c : DraftOf ev bs n d) (player : ℕ) → leakingOn d ev bs player ≡ leakIn (c .program) player
 draft-leak {n = n} {d = d} c player = rw (c .events-are, c .size-is) (drafted-leak (c .program) d n (c .fits) (c .drafted) player)

@@ -22,14 +22,14 @@ use Rattle.check_leak.specs.Leaking.{leakBy}
 
 -- behaviour i names j: a passive in its expression, which it follows under every event and under none; an active in its
 -- handler for some event
-unfoldable pub namesIn : Program → ℕ → ℕ → Bool
-namesIn p i j = anyBelow (events p + 1) (λ e. inResponse j (response p e i))
+unfoldable pub behaviourNames : Program → ℕ → ℕ → Bool
+behaviourNames p i j = anyBelow (events p + 1) (λ e. inResponse j (response p e i))
 
 abbrev pub hiddenIn : Program → ℕ → ℕ → Bool
 hiddenIn p player i = not (maySee p player i)
 
 abbrev pub leakIn : Program → ℕ → ℕ
-leakIn p player = leakBy (size p) (hiddenIn p player) (namesIn p)
+leakIn p player = leakBy (size p) (hiddenIn p player) (behaviourNames p)
 
 -- of the sheet that the bytes encode
 abbrev pub leakRead : Got Sheet → List ℕ → ℕ → ℕ

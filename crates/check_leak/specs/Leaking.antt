@@ -15,13 +15,13 @@ abbrev pub mayLeak : ℕ  -- a behaviour that the player sees names one that is 
 mayLeak = 30
 
 -- the behaviour that is seen and the hidden one that it names
-unfoldable pub packed : ℕ → ℕ → ℕ
-packed i j = mayLeak + 256 * i + 65536 * j
+unfoldable pub packedLeak : ℕ → ℕ → ℕ
+packedLeak i j = mayLeak + 256 * i + 65536 * j
 
 -- among n behaviours, by which are hidden and which each names
 module _ (n : ℕ) (hidden : ℕ → Bool) (names : ℕ → ℕ → Bool) where
   unfoldable pub leakAt : ℕ → ℕ → ℕ
-  leakAt i j = pick (names i j && hidden j) (packed i j) 0
+  leakAt i j = pick (names i j && hidden j) (packedLeak i j) 0
 
   unfoldable pub leakFrom : ℕ → ℕ
   leakFrom i = pick (hidden i) 0 (firstFrom n 0 (leakAt i))

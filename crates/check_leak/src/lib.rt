@@ -11,7 +11,7 @@ ghost use Rattle.spec_language.specs.Rights.{may};
 ghost use Rattle.front_draft.specs.Draft.{draftLength};
 ghost use Rattle.check_faults.specs.Checks.{AllInside};
 ghost use Rattle.check_reads.specs.First.{firstFrom};
-ghost use Rattle.check_leak.specs.Leaking.{packed, leakAt, leakFrom, leakBy, namesAny, hiddenOn, leakingOn, leakFor};
+ghost use Rattle.check_leak.specs.Leaking.{packedLeak, leakAt, leakFrom, leakBy, namesAny, hiddenOn, leakingOn, leakFor};
 ghost use Rattle.check_leak.specs.Leak.{leakOn};
 use check_judge::Judgement;
 
@@ -76,7 +76,7 @@ fn hidden_of(d: &[u64], n: usize, player: usize) -> u64
 // The least behaviour in the set, with the one that names it; 0 for an empty set.
 fn least_in(set: u64, n: usize, i: usize) -> u64
     requires { ⌜ (n ≤ 64) × (i < 64) ⌝ }
-    ensures { λ r. ⌜ r ≡ firstFrom n 0 (λ j. pick (bit set j) (packed i j) 0) ⌝ }
+    ensures { λ r. ⌜ r ≡ firstFrom n 0 (λ j. pick (bit set j) (packedLeak i j) 0) ⌝ }
 {
     if set == 0 {
         return 0;

@@ -15,7 +15,7 @@ use Rattle.spec_language.specs.Dependence.{Response, follows, takes, defers, ke
 use Rattle.spec_language.specs.Grammar.{Arity, unary, ternary, binary, Nested, n-con, n-name, n-app1, n-app2, n-app3, BehaviourFits, Fits}
 use Rattle.spec_language.proofs.Laws.{ResponseNested, response-nested}
 use Rattle.front_draft.specs.Draft.{draftLength, nodes, entryOf, usedBy, Drafted}
-use Rattle.front_draft.specs.Entry.{kindOf, startOf, countOf, tagOf, wordOf}
+use Rattle.front_draft.specs.Entry.{entryKind, entryStart, entryCount, nodeTag, nodeWord}
 use Rattle.front_draft.proofs.DraftLaws.{Holds, Entry, entry-of, length-used}
 use Rattle.check_graph.specs.Matrix.{cell, closeBy, closed}
 use Rattle.check_graph.proofs.Closure.{length-closeBy, pass-is}
@@ -24,7 +24,7 @@ use Rattle.check_faults.proofs.Any.{any-same}
 use Rattle.check_faults.proofs.MatrixAgrees.{length-matrixOf}
 use Rattle.check_faults.proofs.CycleDecides.{cell-is}
 use Rattle.check_reads.specs.Sets.{isName, namedAmong, namesOn, writesOn, handlersName, passiveOn, closedBy, namedOn}
-use Rattle.check_reads.specs.Named.{inResponse, namedIn, throughPassives, namedBy}
+use Rattle.check_reads.specs.Named.{inResponse, namedDirectly, throughPassives, namedBy}
 use Rattle.check_reads.proofs.Gathering.{any-more}
 use Rattle.check_reads.proofs.Decides.{none-handled}
 
@@ -52,9 +52,9 @@ among-nodes d j start (suc k) h =
 
 -- ---- the nodes of an expression
 
-no-name : (j x : ℕ) → (tagOf x ≡ 17 → ⊥) → isName j x ≡ false
+no-name : (j x : ℕ) → (nodeTag x ≡ 17 → ⊥) → isName j x ≡ false
 unfolding isName
-no-name j x h = rw (ne-eqb (tagOf x) 17 h)
+no-name j x h = rw (ne-eqb (nodeTag x) 17 h)
 
 con-names : (j w : ℕ) → w < 2 ^ 32 → among j ((68719476736 + w) ∷ []) ≡ false
 unfolding among
@@ -69,8 +69,8 @@ app-names j f n (binary h k q) = rw (no-name j (77309411328 + f) (λ e. omega ar
 name-names : (j i : ℕ) → i < 256 → among j ((73014444032 + i) ∷ []) ≡ eqb i j
 unfolding among isName
 name-names j i h =
-    let t : tagOf (73014444032 + i) ≡ 17 = omega arith in
-    let w : wordOf (73014444032 + i) ≡ i = omega arith in
+    let t : nodeTag (73014444032 + i) ≡ 17 = omega arith in
+    let w : nodeWord (73014444032 + i) ≡ i = omega arith in
     rw (t, w, or-false)
 
 expr-names : (j : ℕ) {k : ℕ} {x : Expr} → Nested k x → among j (nodes x) ≡ mentions j x
@@ -102,19 +102,19 @@ expr-names j (n-app3 {f = f} {a = x} {b = y} {c = z} h hx hy hz) =
 -- ---- an entry
 
 module _ (d : List ℕ) (v : ℕ) (dl : length d ≡ draftLength) where
-  held : (j kind : ℕ) (x : Expr) → Holds d kind v x → Nested 16 x → namedAmong d j (startOf v) (countOf v) ≡ mentions j x
+  held : (j kind : ℕ) (x : Expr) → Holds d kind v x → Nested 16 x → namedAmong d j (entryStart v) (entryCount v) ≡ mentions j x
   held j kind x e f =
-      let c : take (countOf v) (drop (startOf v) d) ≡ nodes x = rw (e .count-is) (e .there) in
-      among-nodes d j (startOf v) (countOf v) (omega (arith, e .inside)) ∙ rw c (expr-names j f)
+      let c : take (entryCount v) (drop (entryStart v) d) ≡ nodes x = rw (e .count-is) (e .there) in
+      among-nodes d j (entryStart v) (entryCount v) (omega (arith, e .inside)) ∙ rw c (expr-names j f)
 
-  entry-names : (j : ℕ) (r : Response) → Entry d v r → ResponseNested r → namedAmong d j (startOf v) (countOf v) ≡ inResponse j r
+  entry-names : (j : ℕ) (r : Response) → Entry d v r → ResponseNested r → namedAmong d j (entryStart v) (entryCount v) ≡ inResponse j r
   unfolding namedAmong anyBelow
   entry-names j (follows x) e f = held j 1 x e f
   entry-names j (takes x) e f = held j 2 x e f
   entry-names j (defers x) e f = held j 3 x e f
   entry-names j keeps e f = rw e
 
-  entry-writes : (r : Response) → Entry d v r → leb 2 (kindOf v) ≡ written r
+  entry-writes : (r : Response) → Entry d v r → leb 2 (entryKind v) ≡ written r
   entry-writes (follows x) e = rw (e .kind-is)
   entry-writes (takes x) e = rw (e .kind-is)
   entry-writes (defers x) e = rw (e .kind-is)
@@ -157,8 +157,8 @@ module _ (p : Program) (d : List ℕ) (n : ℕ) (f : Fits p) (dr : Drafted p d n
   unfolding writesOn
   writes-are e i h b = entry-writes (usedBy d i) (entryOf d e i) (long i) (response p e i) (entry-of p d n dr e i h b)
 
-  handlers-are : (e j : ℕ) → e ≤ 32 → handlersName d e (size p) j ≡ namedIn p e j
-  unfolding handlersName namedIn
+  handlers-are : (e j : ℕ) → e ≤ 32 → handlersName d e (size p) j ≡ namedDirectly p e j
+  unfolding handlersName namedDirectly
   handlers-are e j h =
       any-same (size p) (λ i. writesOn d e i && namesOn d e i j) (λ i. writes p e i && inResponse j (response p e i))
       (λ i b. rw (writes-are e i h b, names-are e i j h b))
@@ -170,7 +170,7 @@ module _ (p : Program) (d : List ℕ) (n : ℕ) (f : Fits p) (dr : Drafted p d n
   plain (active z hs) h = ap written (none-handled (events p) hs (h .1))
 
   passive-entry : (v i j : ℕ) (r : Response) → Entry (usedBy d i) v r → ResponseNested r → written r ≡ false
-      → eqb (kindOf v) 1 && namedAmong (usedBy d i) j (startOf v) (countOf v) ≡ needs i j r
+      → eqb (entryKind v) 1 && namedAmong (usedBy d i) j (entryStart v) (entryCount v) ≡ needs i j r
   passive-entry v i j (follows x) e g w = rw (e .kind-is) (entry-names (usedBy d i) v (long i) j (follows x) e g)
   passive-entry v i j (takes x) e g w = absurd (true≢false w)
   passive-entry v i j (defers x) e g w = absurd (true≢false w)
@@ -193,6 +193,6 @@ module _ (p : Program) (d : List ℕ) (n : ℕ) (f : Fits p) (dr : Drafted p d n
   unfolding namedOn namedBy
   named-are e j h c =
       rw (handlers-are e j h)
-      (ap (λ (x : Bool). namedIn p e j || x)
-      (any-same (size p) (λ i. handlersName d e (size p) i && closedBy (size p) (passiveOn d (events p)) i j) (λ i. namedIn p e i && throughPassives p i j)
+      (ap (λ (x : Bool). namedDirectly p e j || x)
+      (any-same (size p) (λ i. handlersName d e (size p) i && closedBy (size p) (passiveOn d (events p)) i j) (λ i. namedDirectly p e i && throughPassives p i j)
       (λ i b. rw (handlers-are e i h, chains-are i j b c))))

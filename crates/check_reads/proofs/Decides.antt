@@ -16,13 +16,13 @@ use Rattle.spec_language.specs.Dependence.{Response, follows, takes, defers, ke
 use Rattle.spec_language.specs.Grammar.{HandlersFit, BehaviourFits}
 use Rattle.spec_language.specs.Accepted.{Known}
 use Rattle.spec_language.proofs.Laws.{depends-within, handled-there}
-use Rattle.check_graph.specs.Matrix.{below}
+use Rattle.check_graph.specs.Matrix.{cellBelow}
 use Rattle.check_graph.proofs.Closure.{below-says, below-is, reach-map, closed-decides}
 use Rattle.check_faults.specs.Faults.{matrixOf, anyBelow}
 use Rattle.check_faults.proofs.Any.{any-some}
 use Rattle.check_faults.proofs.MatrixAgrees.{length-matrixOf}
 use Rattle.check_faults.proofs.CycleDecides.{cell-is}
-use Rattle.check_reads.specs.Named.{inResponse, namedIn, throughPassives, namedBy}
+use Rattle.check_reads.specs.Named.{inResponse, namedDirectly, throughPassives, namedBy}
 
 -- ---- what a test among the first n finds
 
@@ -70,12 +70,12 @@ module _ (p : Program) (each : All (BehaviourFits (events p)) (p .behaviours)) w
   reach-named e {i} {j} (more {b = k} r d) m = let w = depends-passive k j d in through (reach-named e r m) (w .1) (w .2)
 
   module _ (known : Known p) (few : size p ≤ 64) where
-    to-below : (i j : ℕ) → dependsOn p (noEvent p) i j ≡ true → below (size p) (matrixOf p (noEvent p)) i j ≡ true
+    to-below : (i j : ℕ) → dependsOn p (noEvent p) i j ≡ true → cellBelow (size p) (matrixOf p (noEvent p)) i j ≡ true
     to-below i j h =
         let w = depends-within p known (noEvent p) i j h in
         below-is (size p) (matrixOf p (noEvent p)) i j (w .0) (w .1) (cell-is p (noEvent p) i j (omega (arith, w .0)) (omega (arith, w .1)) ∙ h)
 
-    from-below : (i j : ℕ) → below (size p) (matrixOf p (noEvent p)) i j ≡ true → dependsOn p (noEvent p) i j ≡ true
+    from-below : (i j : ℕ) → cellBelow (size p) (matrixOf p (noEvent p)) i j ≡ true → dependsOn p (noEvent p) i j ≡ true
     from-below i j h =
         let w = below-says (size p) (matrixOf p (noEvent p)) i j h in
         sym (cell-is p (noEvent p) i j (omega (arith, w .0)) (omega (arith, w .1))) ∙ w .2
@@ -99,15 +99,15 @@ module _ (p : Program) (each : All (BehaviourFits (events p)) (p .behaviours)) w
       in-handler i j (defers x) q w h = in-later i q h
       in-handler i j keeps q w h = absurd (false≢true w)
 
-      directly : (j : ℕ) → namedIn p e j ≡ true → Named p e j
-      unfolding namedIn
+      directly : (j : ℕ) → namedDirectly p e j ≡ true → Named p e j
+      unfolding namedDirectly
       directly j h =
           let f = any-found (size p) (λ i. writes p e i && inResponse j (response p e i)) h in
           let g = and-eq-true-iff (writes p e (f .0)) (inResponse j (response p e (f .0))) .0 (f .2) in
           in-handler (f .0) j (response p e (f .0)) refl (g .0) (g .1)
 
-      by-handler : (i j : ℕ) (r : Response) → response p e i ≡ r → written r ≡ true → inResponse j r ≡ true → namedIn p e j ≡ true
-      unfolding namedIn
+      by-handler : (i j : ℕ) (r : Response) → response p e i ≡ r → written r ≡ true → inResponse j r ≡ true → namedDirectly p e j ≡ true
+      unfolding namedDirectly
       by-handler i j r q w h =
           any-some (size p) (λ k. writes p e k && inResponse j (response p e k)) i (within p e i r q w)
           (rw q (and-eq-true-iff (written r) (inResponse j r) .1 (w, h)))
@@ -118,31 +118,31 @@ module _ (p : Program) (each : All (BehaviourFits (events p)) (p .behaviours)) w
       unfolding namedBy
       named-says j b h =
           ⊎-elim (directly j)
-          (λ t. let f = any-found (size p) (λ i. namedIn p e i && throughPassives p i j) t in
-          let g = and-eq-true-iff (namedIn p e (f .0)) (throughPassives p (f .0) j) .0 (f .2) in
+          (λ t. let f = any-found (size p) (λ i. namedDirectly p e i && throughPassives p i j) t in
+          let g = and-eq-true-iff (namedDirectly p e (f .0)) (throughPassives p (f .0) j) .0 (f .2) in
           reach-named e (chain-says (f .0) j (f .1) b (g .1)) (directly (f .0) (g .0)))
-          (or-either (namedIn p e j) (anyBelow (size p) (λ i. namedIn p e i && throughPassives p i j)) h)
+          (or-either (namedDirectly p e j) (anyBelow (size p) (λ i. namedDirectly p e i && throughPassives p i j)) h)
 
-      at-once : (j : ℕ) → namedIn p e j ≡ true → namedBy p e j ≡ true
+      at-once : (j : ℕ) → namedDirectly p e j ≡ true → namedBy p e j ≡ true
       unfolding namedBy
       at-once j h = rw h
 
-      by-chain : (i j : ℕ) → i < size p → j < size p → namedIn p e i ≡ true → Reach (dependsOn p (noEvent p)) i j → namedBy p e j ≡ true
+      by-chain : (i j : ℕ) → i < size p → j < size p → namedDirectly p e i ≡ true → Reach (dependsOn p (noEvent p)) i j → namedBy p e j ≡ true
       unfolding namedBy
       by-chain i j a b h r =
-          ap (λ (x : Bool). namedIn p e j || x)
-          (any-some (size p) (λ k. namedIn p e k && throughPassives p k j) i a (and-eq-true-iff (namedIn p e i) (throughPassives p i j) .1 (h, chain-is i j a b r)))
-          ∙ or-true (namedIn p e j)
+          ap (λ (x : Bool). namedDirectly p e j || x)
+          (any-some (size p) (λ k. namedDirectly p e k && throughPassives p k j) i a (and-eq-true-iff (namedDirectly p e i) (throughPassives p i j) .1 (h, chain-is i j a b r)))
+          ∙ or-true (namedDirectly p e j)
 
       onward : (i j : ℕ) → i < size p → namedBy p e i ≡ true → dependsOn p (noEvent p) i j ≡ true → namedBy p e j ≡ true
       unfolding namedBy
       onward i j a h d =
           let w = depends-within p known (noEvent p) i j d in
           ⊎-elim (λ t. by-chain i j a (w .1) t (one d))
-          (λ t. let f = any-found (size p) (λ k. namedIn p e k && throughPassives p k i) t in
-          let g = and-eq-true-iff (namedIn p e (f .0)) (throughPassives p (f .0) i) .0 (f .2) in
+          (λ t. let f = any-found (size p) (λ k. namedDirectly p e k && throughPassives p k i) t in
+          let g = and-eq-true-iff (namedDirectly p e (f .0)) (throughPassives p (f .0) i) .0 (f .2) in
           by-chain (f .0) j (f .1) (w .1) (g .0) (more (chain-says (f .0) i (f .1) a (g .1)) d))
-          (or-either (namedIn p e i) (anyBelow (size p) (λ k. namedIn p e k && throughPassives p k i)) h)
+          (or-either (namedDirectly p e i) (anyBelow (size p) (λ k. namedDirectly p e k && throughPassives p k i)) h)
 
       pub named-is : {j : ℕ} → Named p e j → namedBy p e j ≡ true
       named-is {j} (in-immediate i {x = x} q h) = at-once j (by-handler i j (takes x) q refl h)

@@ -16,8 +16,8 @@ inResponse j (defers x) = mentions j x
 inResponse j keeps = false
 
 -- "named in those handlers, directly"
-unfoldable pub namedIn : Program → ℕ → ℕ → Bool
-namedIn p e j = anyBelow (size p) (λ i. writes p e i && inResponse j (response p e i))
+unfoldable pub namedDirectly : Program → ℕ → ℕ → Bool
+namedDirectly p e j = anyBelow (size p) (λ i. writes p e i && inResponse j (response p e i))
 
 -- "or through passives": under no event a passive depends on its names and an active on nothing, so that a chain from i
 -- to j leads through passives alone
@@ -26,4 +26,4 @@ throughPassives p i j = cell (closed (matrixOf p (noEvent p)) (size p)) i j
 
 -- the handlers for event e name j, directly or through passives: an active that they name is read
 unfoldable pub namedBy : Program → ℕ → ℕ → Bool
-namedBy p e j = namedIn p e j || anyBelow (size p) (λ i. namedIn p e i && throughPassives p i j)
+namedBy p e j = namedDirectly p e j || anyBelow (size p) (λ i. namedDirectly p e i && throughPassives p i j)

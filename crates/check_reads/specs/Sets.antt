@@ -7,12 +7,12 @@ use lib.ListN.{getD}
 use lib.Dec.{eqb, leb}
 use Rattle.lib_bits.specs.Bits.{bit, Gathers}
 use Rattle.front_draft.specs.Draft.{entryOf, usedBy}
-use Rattle.front_draft.specs.Entry.{kindOf, startOf, countOf, tagOf, wordOf}
+use Rattle.front_draft.specs.Entry.{entryKind, entryStart, entryCount, nodeTag, nodeWord}
 use Rattle.check_faults.specs.Faults.{anyBelow}
 
 -- node x is the name of j
 unfoldable pub isName : ℕ → ℕ → Bool
-isName j x = eqb (tagOf x) 17 && eqb (wordOf x) j
+isName j x = eqb (nodeTag x) 17 && eqb (nodeWord x) j
 
 -- the name of j is among n nodes from `start` on
 unfoldable pub namedAmong : List ℕ → ℕ → ℕ → ℕ → Bool
@@ -20,11 +20,11 @@ namedAmong d j start n = anyBelow n (λ k. isName j (getD d (start + k) 0))
 
 -- what the draft has for behaviour i on event e names j, as i means its names (02, M-110)
 unfoldable pub namesOn : List ℕ → ℕ → ℕ → ℕ → Bool
-namesOn d e i j = namedAmong (usedBy d i) j (startOf (entryOf d e i)) (countOf (entryOf d e i))
+namesOn d e i j = namedAmong (usedBy d i) j (entryStart (entryOf d e i)) (entryCount (entryOf d e i))
 
 -- it is a handler, of either phase
 unfoldable pub writesOn : List ℕ → ℕ → ℕ → Bool
-writesOn d e i = leb 2 (kindOf (entryOf d e i))
+writesOn d e i = leb 2 (entryKind (entryOf d e i))
 
 -- a handler for event e, of one of n behaviours, names j
 unfoldable pub handlersName : List ℕ → ℕ → ℕ → ℕ → Bool
@@ -32,7 +32,7 @@ handlersName d e n j = anyBelow n (λ i. writesOn d e i && namesOn d e i j)
 
 -- what the draft has for i under no event, whose number is ev, is a passive's expression that names j
 unfoldable pub passiveOn : List ℕ → ℕ → ℕ → ℕ → Bool
-passiveOn d ev i j = eqb (kindOf (entryOf d ev i)) 1 && namesOn d ev i j
+passiveOn d ev i j = eqb (entryKind (entryOf d ev i)) 1 && namesOn d ev i j
 
 -- from i to j by a chain through the first k
 unfoldable pub closedBy : ℕ → (ℕ → ℕ → Bool) → ℕ → ℕ → Bool

@@ -8,7 +8,7 @@ ghost use lib.ListN.{length, getD};
 ghost use lib.Dec.{eqb, leb};
 ghost use Rattle.lib_bits.specs.Bits.{bit, Gathers};
 ghost use Rattle.front_draft.specs.Draft.{draftLength, usedBy};
-ghost use Rattle.front_draft.specs.Entry.{kindOf, startOf, countOf};
+ghost use Rattle.front_draft.specs.Entry.{entryKind, entryStart, entryCount};
 ghost use Rattle.check_faults.specs.Faults.{anyBelow};
 ghost use Rattle.check_faults.specs.Checks.{RowsInside, AllInside};
 ghost use Rattle.check_reads.specs.Sets.{isName, namedAmong, writesOn, handlersName, passiveOn, closedBy, RowsBy, Passed, WritesIn, NamedIn};
@@ -45,8 +45,8 @@ fn add_name(set: u64, x: u64) -> u64
 
 // The names in entry v of behaviour i, as i means them.
 pub fn names_in(d: &[u64], i: usize, v: u64) -> u64
-    requires { ⌜ (length (now d) ≡ draftLength) × (i < 64) × (startOf v + countOf v ≤ 2048) ⌝ }
-    ensures { λ r. ⌜ Gathers 64 r (λ j. namedAmong (usedBy (now (d .entry)) i) j (startOf v) (countOf v)) ⌝ }
+    requires { ⌜ (length (now d) ≡ draftLength) × (i < 64) × (entryStart v + entryCount v ≤ 2048) ⌝ }
+    ensures { λ r. ⌜ Gathers 64 r (λ j. namedAmong (usedBy (now (d .entry)) i) j (entryStart v) (entryCount v)) ⌝ }
 {
     let start = (v / KINDS % FIRSTS) as usize;
     let count = (v / COUNTS) as usize;
@@ -62,7 +62,7 @@ pub fn names_in(d: &[u64], i: usize, v: u64) -> u64
 // The set with i where its entry v is a handler.
 fn add_writer(set: u64, i: usize, v: u64) -> u64
     requires { ⌜ i < 64 ⌝ }
-    ensures { λ r. ⌜ ((j : ℕ) → bit r j ≡ bit set j || (leb 2 (kindOf v) && eqb j i)) ⌝ }
+    ensures { λ r. ⌜ ((j : ℕ) → bit r j ≡ bit set j || (leb 2 (entryKind v) && eqb j i)) ⌝ }
 {
     if IMMEDIATE <= v % KINDS {
         return lib_bits::insert(set, i);
@@ -86,8 +86,8 @@ fn writes_of(d: &[u64], e: usize, n: usize) -> u64
 
 // The set with the names in entry v of behaviour i where it is a handler.
 fn add_names(d: &[u64], set: u64, i: usize, v: u64) -> u64
-    requires { ⌜ (length (now d) ≡ draftLength) × (i < 64) × (startOf v + countOf v ≤ 2048) ⌝ }
-    ensures { λ r. ⌜ Gathers 64 r (λ j. bit set j || (leb 2 (kindOf v) && namedAmong (usedBy (now (d .entry)) i) j (startOf v) (countOf v))) ⌝ }
+    requires { ⌜ (length (now d) ≡ draftLength) × (i < 64) × (entryStart v + entryCount v ≤ 2048) ⌝ }
+    ensures { λ r. ⌜ Gathers 64 r (λ j. bit set j || (leb 2 (entryKind v) && namedAmong (usedBy (now (d .entry)) i) j (entryStart v) (entryCount v))) ⌝ }
 {
     if v % KINDS >= IMMEDIATE {
         return lib_bits::union_of(set, names_in(d, i, v));
@@ -111,8 +111,8 @@ fn handler_names(d: &[u64], e: usize, n: usize) -> u64
 
 // The names in entry v of behaviour i where it is a passive's.
 fn passive_names(d: &[u64], i: usize, v: u64) -> u64
-    requires { ⌜ (length (now d) ≡ draftLength) × (i < 64) × (startOf v + countOf v ≤ 2048) ⌝ }
-    ensures { λ r. ⌜ Gathers 64 r (λ j. eqb (kindOf v) 1 && namedAmong (usedBy (now (d .entry)) i) j (startOf v) (countOf v)) ⌝ }
+    requires { ⌜ (length (now d) ≡ draftLength) × (i < 64) × (entryStart v + entryCount v ≤ 2048) ⌝ }
+    ensures { λ r. ⌜ Gathers 64 r (λ j. eqb (entryKind v) 1 && namedAmong (usedBy (now (d .entry)) i) j (entryStart v) (entryCount v)) ⌝ }
 {
     if v % KINDS == PASSIVE {
         return names_in(d, i, v);

@@ -14,7 +14,7 @@ use lib.ListN.{length, take, drop}
 use lib.Seq.{take-append-seam, take-all, length-take-le}
 use borrow.Author.Tests.{ltb-true, lt-ltb, le-ltb, ne-eqb}
 use Rattle.lib_base.proofs.Tools.{by-test, split}
-use Rattle.check_graph.specs.Matrix.{cell, below}
+use Rattle.check_graph.specs.Matrix.{cell, cellBelow}
 use Rattle.check_graph.proofs.Closure.{closed-decides}
 use Rattle.check_faults.specs.Faults.{anyBelow}
 use Rattle.check_faults.specs.Checks.{matrixOn, closedOn, cyclicOn}
@@ -22,7 +22,7 @@ use Rattle.check_distance.specs.Circle.{Circle}
 use Rattle.check_distance.specs.Layers.{layer, stepsBack, Layered, Back, Walked}
 use Rattle.check_distance.proofs.Shorter.{reach-chain}
 use Rattle.check_distance.proofs.Walks.{least-most, least-from, least-holds, circle-back, some-back}
-use Rattle.check_shortest.specs.Search.{backOn, eventAt, packed, bestOf, bestAll, shortestOn, eventNumber, Wide, Members, handed, Found}
+use Rattle.check_shortest.specs.Search.{backOn, eventOfTurn, packedCircle, bestOf, bestAll, shortestOn, eventNumber, Wide, CircleMembers, handed, ShortestFound}
 
 -- ---- the lower of two
 
@@ -38,21 +38,21 @@ module _ (d : List ℕ) (n : ℕ) where
     best-most zero b = omega arith
     best-most (suc k) b = omega (arith, best-most k b)
 
-    best-le : (k b i : ℕ) → i < k → bestOf d e t n k b ≤ packed d e t n i
+    best-le : (k b i : ℕ) → i < k → bestOf d e t n k b ≤ packedCircle d e t n i
     unfolding bestOf
     best-le zero b i h = absurd (omega arith)
     best-le (suc k) b i h =
         by-cases (decLt i k) (λ s. omega (arith, best-le k b i s))
         (λ s. let q : i ≡ k = omega arith in rw q (omega arith))
 
-    best-is : (k b : ℕ) → (bestOf d e t n k b ≡ b) ⊎ ((i : ℕ) × (i < k) × (bestOf d e t n k b ≡ packed d e t n i))
+    best-is : (k b : ℕ) → (bestOf d e t n k b ≡ b) ⊎ ((i : ℕ) × (i < k) × (bestOf d e t n k b ≡ packedCircle d e t n i))
     unfolding bestOf
     best-is zero b = inl refl
     best-is (suc k) b =
         ⊎-elim
         (λ q. ⊎-elim (λ p. inl (q ∙ p)) (λ w. inr (w .0, omega (arith, w .1), q ∙ w .2)) (best-is k b))
         (λ q. inr (k, omega arith, q))
-        (lower-is (bestOf d e t n k b) (packed d e t n k))
+        (lower-is (bestOf d e t n k b) (packedCircle d e t n k))
 
   -- ---- on all
 
@@ -60,40 +60,40 @@ module _ (d : List ℕ) (n : ℕ) where
     all-most : (k b : ℕ) → bestAll d ev n k b ≤ b
     unfolding bestAll
     all-most zero b = omega arith
-    all-most (suc t) b = omega (arith, all-most t b, best-most (eventAt ev t) t n (bestAll d ev n t b))
+    all-most (suc t) b = omega (arith, all-most t b, best-most (eventOfTurn ev t) t n (bestAll d ev n t b))
 
-    all-le : (k b t i : ℕ) → t < k → i < n → bestAll d ev n k b ≤ packed d (eventAt ev t) t n i
+    all-le : (k b t i : ℕ) → t < k → i < n → bestAll d ev n k b ≤ packedCircle d (eventOfTurn ev t) t n i
     unfolding bestAll
     all-le zero b t i h c = absurd (omega arith)
     all-le (suc k) b t i h c =
-        by-cases (decLt t k) (λ s. omega (arith, all-le k b t i s c, best-most (eventAt ev k) k n (bestAll d ev n k b)))
-        (λ s. let q : t ≡ k = omega arith in rw q (best-le (eventAt ev k) k n (bestAll d ev n k b) i c))
+        by-cases (decLt t k) (λ s. omega (arith, all-le k b t i s c, best-most (eventOfTurn ev k) k n (bestAll d ev n k b)))
+        (λ s. let q : t ≡ k = omega arith in rw q (best-le (eventOfTurn ev k) k n (bestAll d ev n k b) i c))
 
-    all-is : (k b : ℕ) → (bestAll d ev n k b ≡ b) ⊎ ((t i : ℕ) × (t < k) × (i < n) × (bestAll d ev n k b ≡ packed d (eventAt ev t) t n i))
+    all-is : (k b : ℕ) → (bestAll d ev n k b ≡ b) ⊎ ((t i : ℕ) × (t < k) × (i < n) × (bestAll d ev n k b ≡ packedCircle d (eventOfTurn ev t) t n i))
     unfolding bestAll
     all-is zero b = inl refl
     all-is (suc k) b =
         ⊎-elim
         (λ q. ⊎-elim (λ p. inl (q ∙ p)) (λ w. inr (w .0, w .1, omega (arith, w .2), w .3, q ∙ w .4)) (all-is k b))
         (λ w. inr (k, w .0, omega arith, w .1, w .2))
-        (best-is (eventAt ev k) k n (bestAll d ev n k b))
+        (best-is (eventOfTurn ev k) k n (bestAll d ev n k b))
 
 -- ---- the turns
 
-turn-none : (ev : ℕ) → eventAt ev 0 ≡ ev
-unfolding eventAt
+turn-none : (ev : ℕ) → eventOfTurn ev 0 ≡ ev
+unfolding eventOfTurn
 turn-none ev = refl
 
-turn-more : (ev t : ℕ) → eventAt ev (suc t) ≡ t
-unfolding eventAt
+turn-more : (ev t : ℕ) → eventOfTurn ev (suc t) ≡ t
+unfolding eventOfTurn
 turn-more ev t = let z : suc t - 1 ≡ t = omega arith in rw (ne-eqb (suc t) 0 (λ e. omega arith)) z
 
 -- each event has one, of at most ev
-has-turn : (ev f : ℕ) → f ≤ ev → (t : ℕ) × (t ≤ ev) × (eventAt ev t ≡ f)
+has-turn : (ev f : ℕ) → f ≤ ev → (t : ℕ) × (t ≤ ev) × (eventOfTurn ev t ≡ f)
 has-turn ev f h =
     by-cases (decLt f ev) (λ s. (suc f, omega arith, turn-more ev f)) (λ s. let q : ev ≡ f = omega arith in (0, omega arith, turn-none ev ∙ q))
 
-turn-declared : (ev t : ℕ) → t ≤ ev → eventAt ev t ≤ ev
+turn-declared : (ev t : ℕ) → t ≤ ev → eventOfTurn ev t ≤ ev
 turn-declared ev zero h = rw (turn-none ev) (omega arith)
 turn-declared ev (suc t) h = rw (turn-more ev t) (omega arith)
 
@@ -120,12 +120,12 @@ any-member (suc n) f h =
 
 -- the least packed number: of behaviour i on the event of turn t
 pub record Best (d : List ℕ) (ev n b : ℕ) : Type 0 where
-  pub event : eventAt ev (b / 64 % 64) ≤ ev
+  pub event : eventOfTurn ev (b / 64 % 64) ≤ ev
   pub member : b % 64 < n
-  pub few : backOn d (eventAt ev (b / 64 % 64)) n (b % 64) ≤ n
-  pub some : 1 ≤ backOn d (eventAt ev (b / 64 % 64)) n (b % 64)
-  pub least : (f j : ℕ) → f ≤ ev → j < n → backOn d (eventAt ev (b / 64 % 64)) n (b % 64) ≤ backOn d f n j
-  pub none-first : (j : ℕ) → j < n → backOn d ev n j ≤ backOn d (eventAt ev (b / 64 % 64)) n (b % 64) → eventAt ev (b / 64 % 64) ≡ ev
+  pub few : backOn d (eventOfTurn ev (b / 64 % 64)) n (b % 64) ≤ n
+  pub some : 1 ≤ backOn d (eventOfTurn ev (b / 64 % 64)) n (b % 64)
+  pub least : (f j : ℕ) → f ≤ ev → j < n → backOn d (eventOfTurn ev (b / 64 % 64)) n (b % 64) ≤ backOn d f n j
+  pub none-first : (j : ℕ) → j < n → backOn d ev n j ≤ backOn d (eventOfTurn ev (b / 64 % 64)) n (b % 64) → eventOfTurn ev (b / 64 % 64) ≡ ev
 
 module _ (d : List ℕ) (ev n : ℕ) (few : n ≤ 64) (events : ev ≤ 32) (long : Wide d ev n) where
   -- a circle on some event leads back in at most n steps
@@ -136,7 +136,7 @@ module _ (d : List ℕ) (ev n : ℕ) (few : n ≤ 64) (events : ev ≤ 32) (long
       let v = any-member n _ (w .2) in
       let m = matrixOn d (w .0) n in
       let r = closed-decides m n (long (w .0) (omega (arith, w .1))) few (v .0) (v .0) (v .1) (v .1) .0 (v .2) in
-      let c = reach-chain (below n m) r in
+      let c = reach-chain (cellBelow n m) r in
       let s = some-back m n (length (v .0 ∷ c .0)) (v .0 ∷ c .0) (omega arith) (c .1) in
       (w .0, s .0, omega (arith, w .1), s .1, s .2)
 
@@ -144,19 +144,19 @@ module _ (d : List ℕ) (ev n : ℕ) (few : n ≤ 64) (events : ev ≤ 32) (long
   unpacked s t i b h k q = (omega arith, omega arith)
 
   -- no other number is lower
-  others : (f j : ℕ) → f ≤ ev → j < n → (t : ℕ) × (t ≤ ev) × (eventAt ev t ≡ f) × (shortestOn d ev n ≤ packed d f t n j)
+  others : (f j : ℕ) → f ≤ ev → j < n → (t : ℕ) × (t ≤ ev) × (eventOfTurn ev t ≡ f) × (shortestOn d ev n ≤ packedCircle d f t n j)
   unfolding shortestOn
   others f j h g =
       let w = has-turn ev f h in
       (w .0, w .1, w .2, rw (w .2) at (all-le d n ev (ev + 1) 300000 (w .0) j (omega (arith, w .1)) g))
 
-  first : (j : ℕ) → j < n → shortestOn d ev n ≤ packed d ev 0 n j
+  first : (j : ℕ) → j < n → shortestOn d ev n ≤ packedCircle d ev 0 n j
   unfolding shortestOn
   first j g = rw (turn-none ev) at (all-le d n ev (ev + 1) 300000 0 j (omega arith) g)
 
-  found-as : (t i : ℕ) → t ≤ ev → i < n → shortestOn d ev n ≡ packed d (eventAt ev t) t n i → (f j : ℕ) → f ≤ ev → j < n → backOn d f n j ≤ n → Best d ev n (shortestOn d ev n)
+  found-as : (t i : ℕ) → t ≤ ev → i < n → shortestOn d ev n ≡ packedCircle d (eventOfTurn ev t) t n i → (f j : ℕ) → f ≤ ev → j < n → backOn d f n j ≤ n → Best d ev n (shortestOn d ev n)
   found-as t i h k q f j a g c =
-      let e = eventAt ev t in
+      let e = eventOfTurn ev t in
       let u = unpacked (backOn d e n i) t i (shortestOn d ev n) (omega arith) (omega arith) q in
       let le : (f j : ℕ) → f ≤ ev → j < n → backOn d e n i ≤ backOn d f n j =
       λ f j a g. let w = others f j a g in omega (arith, w .1, w .3, q) in
@@ -169,7 +169,7 @@ module _ (d : List ℕ) (ev n : ℕ) (few : n ≤ 64) (events : ev ≤ 32) (long
         none-first = rw (u .0, u .1) (λ x y z. let o : t ≡ 0 = omega (arith, first x y, q) in rw o (turn-none ev));
       }
 
-  found-any : (shortestOn d ev n ≡ 300000) ⊎ ((t i : ℕ) × (t < ev + 1) × (i < n) × (shortestOn d ev n ≡ packed d (eventAt ev t) t n i))
+  found-any : (shortestOn d ev n ≡ 300000) ⊎ ((t i : ℕ) × (t < ev + 1) × (i < n) × (shortestOn d ev n ≡ packedCircle d (eventOfTurn ev t) t n i))
   unfolding shortestOn
   found-any = all-is d n ev (ev + 1) 300000
 
@@ -183,8 +183,8 @@ module _ (d : List ℕ) (ev n : ℕ) (few : n ≤ 64) (events : ev ≤ 32) (long
       found-any
 
   -- no circle has fewer members
-  pub none-shorter : (b : ℕ) → Best d ev n b → (f : ℕ) → f ≤ ev → (l : List ℕ) → Circle (below n (matrixOn d f n)) l
-      → backOn d (eventAt ev (b / 64 % 64)) n (b % 64) ≤ length l
+  pub none-shorter : (b : ℕ) → Best d ev n b → (f : ℕ) → f ≤ ev → (l : List ℕ) → Circle (cellBelow n (matrixOn d f n)) l
+      → backOn d (eventOfTurn ev (b / 64 % 64)) n (b % 64) ≤ length l
   unfolding backOn
   none-shorter b w f h [] c = absurd c
   none-shorter b w f h (a ∷ l) c =
@@ -192,8 +192,8 @@ module _ (d : List ℕ) (ev n : ℕ) (few : n ≤ 64) (events : ev ≤ 32) (long
       omega (arith, w .least f a h (v .0), v .1)
 
   -- where one under none has as few, none is found
-  pub none-goes-first : (b : ℕ) → Best d ev n b → (l : List ℕ) → Circle (below n (matrixOn d ev n)) l
-      → length l ≤ backOn d (eventAt ev (b / 64 % 64)) n (b % 64) → eventAt ev (b / 64 % 64) ≡ ev
+  pub none-goes-first : (b : ℕ) → Best d ev n b → (l : List ℕ) → Circle (cellBelow n (matrixOn d ev n)) l
+      → length l ≤ backOn d (eventOfTurn ev (b / 64 % 64)) n (b % 64) → eventOfTurn ev (b / 64 % 64) ≡ ev
   unfolding backOn
   none-goes-first b w [] c h = absurd c
   none-goes-first b w (a ∷ l) c h =
@@ -239,7 +239,7 @@ pub passing-start : (d : List ℕ) (ev n : ℕ) {m s : List ℕ} → length m �
 unfolding bestAll
 passing-start d ev n l k = record { whole = refl; within = omega arith; wide = l; long = k }
 
-pub passing-turn : {d : List ℕ} {ev n : ℕ} {m s : List ℕ} {least t : ℕ} {m′ s′ : List ℕ} {e v : ℕ} → Passing d ev n m s least t → t ≤ ev → e ≡ eventAt ev t
+pub passing-turn : {d : List ℕ} {ev n : ℕ} {m s : List ℕ} {least t : ℕ} {m′ s′ : List ℕ} {e v : ℕ} → Passing d ev n m s least t → t ≤ ev → e ≡ eventOfTurn ev t
     → v ≡ bestOf d e t n n least → length m′ ≡ length m → length s′ ≡ length s → Passing d ev n m′ s′ v (t + 1)
 unfolding bestAll
 passing-turn {d} {ev} {n} {m} {s} {least} {t} p h z q l k =
@@ -250,7 +250,7 @@ unfolding shortestOn
 passing-end {ev = ev} {t = t} p h = let z : t ≡ ev + 1 = omega (arith, p .within) in rw z at (p .whole)
 
 -- the event of a turn is declared, or none
-pub turn-event : (ev t : ℕ) {e : ℕ} → t ≤ ev → e ≡ eventAt ev t → e ≤ ev
+pub turn-event : (ev t : ℕ) {e : ℕ} → t ≤ ev → e ≡ eventOfTurn ev t → e ≤ ev
 turn-event ev t h q = rw q (turn-declared ev t h)
 
 -- ---- a walk, listed
@@ -264,7 +264,7 @@ module _ (d : List ℕ) (e n i : ℕ) (h : backOn d e n i ≤ n) {m s : List ℕ
       let z = back-as d e n i q k in
       (omega (arith, z, back-least d e n i), k .layers back-few, rw (q, z) (back-holds d e n i h))
 
-  pub members-are : {list list′ : List ℕ} → Walked m n r list list′ → Members d e n i r list list′
+  pub members-are : {list list′ : List ℕ} → Walked m n r list list′ → CircleMembers d e n i r list list′
   members-are l = record { steps = back-as d e n i q k; walked = rw (← q) l }
 
 -- the list with them
@@ -293,28 +293,28 @@ number-small e ev x q h = rw q (by-test (λ y. y ≤ 255) (ltb e ev) (λ t. omeg
 pub best-as : (d : List ℕ) (ev n : ℕ) → n ≤ 64 → ev ≤ 32 → Wide d ev n → cyclicOn d ev n ≡ true → {b : ℕ} → b ≡ shortestOn d ev n → Best d ev n b
 best-as d ev n few events long h q = rw q (best-found d ev n few events long h)
 
-module _ (d : List ℕ) (ev n : ℕ) {b : ℕ} (w : Best d ev n b) {e : ℕ} (q : e ≡ eventAt ev (b / 64 % 64)) where
+module _ (d : List ℕ) (ev n : ℕ) {b : ℕ} (w : Best d ev n b) {e : ℕ} (q : e ≡ eventOfTurn ev (b / 64 % 64)) where
   pub event-here : e ≤ ev
   event-here = rw q (w .event)
 
   pub back-here : backOn d e n (b % 64) ≤ n
   back-here = rw q (w .few)
 
-module _ (d : List ℕ) (ev n : ℕ) (few : n ≤ 64) (events : ev ≤ 32) (long : Wide d ev n) {b : ℕ} (w : Best d ev n b) {e : ℕ} (q : e ≡ eventAt ev (b / 64 % 64))
-    {r : ℕ} {scratch listed : List ℕ} (k : Members d e n (b % 64) r scratch listed) where
+module _ (d : List ℕ) (ev n : ℕ) (few : n ≤ 64) (events : ev ≤ 32) (long : Wide d ev n) {b : ℕ} (w : Best d ev n b) {e : ℕ} (q : e ≡ eventOfTurn ev (b / 64 % 64))
+    {r : ℕ} {scratch listed : List ℕ} (k : CircleMembers d e n (b % 64) r scratch listed) where
   pub count-few : r ≤ n
   count-few = omega (arith, k .steps, back-here d ev n w q)
 
   abbrev ms : List ℕ
   ms = k .walked .members
 
-  back-is : r ≡ backOn d (eventAt ev (b / 64 % 64)) n (b % 64)
+  back-is : r ≡ backOn d (eventOfTurn ev (b / 64 % 64)) n (b % 64)
   back-is = rw q at (k .steps)
 
   taken : take r listed ≡ ms
   taken = taken-of r listed ms scratch (k .walked .bytes) (k .walked .count)
 
-  pub found-is : {list list′ : List ℕ} {x : ℕ} → list′ ≡ handed listed r list → x ≡ eventNumber e ev → Found d ev n list (12 + x * 256 + r * 65536) list′
+  pub found-is : {list list′ : List ℕ} {x : ℕ} → list′ ≡ handed listed r list → x ≡ eventNumber e ev → ShortestFound d ev n list (12 + x * 256 + r * 65536) list′
   unfolding handed
   found-is {list} {list′} {x} l p =
       let c : length ms ≡ r = k .walked .count in

@@ -7,7 +7,7 @@ ghost use Prim.Native.Nat.{_≤_, _<_, min};
 ghost use lib.ListN.{length};
 ghost use Rattle.check_faults.specs.Checks.{cyclicOn, RowsInside, AllInside};
 ghost use Rattle.front_draft.specs.Draft.{draftLength};
-ghost use Rattle.check_shortest.specs.Search.{backOn, eventAt, bestOf, shortestOn, eventNumber, Wide, Members, handed, Found};
+ghost use Rattle.check_shortest.specs.Search.{backOn, eventOfTurn, bestOf, shortestOn, eventNumber, Wide, CircleMembers, handed, ShortestFound};
 
 // How the steps from a behaviour back to itself are packed with the event's turn and the behaviour: both are below 64.
 const TURNS: usize = 64;
@@ -35,7 +35,7 @@ fn lower(a: usize, b: usize) -> usize
 
 // The events in turn: none, which is number ev, and then those declared.
 fn event_at(ev: usize, t: usize) -> usize
-    ensures { λ r. ⌜ r ≡ eventAt ev t ⌝ }
+    ensures { λ r. ⌜ r ≡ eventOfTurn ev t ⌝ }
 {
     if t == 0 {
         return ev;
@@ -101,7 +101,7 @@ fn event_number(e: usize, ev: usize) -> u64
 fn list_members(d: &[u64], e: usize, i: usize, n: usize, list: &mut [u8]) -> usize
     requires { ⌜ (length (now d) ≡ draftLength) × (e ≤ 32) × (n ≤ 64) × RowsInside (now d) e n ⌝ }
     requires { ⌜ (64 ≤ length (now list)) × (i < n) × (backOn (now d) e n i ≤ n) ⌝ }
-    ensures { λ r. ⌜ Members (now (d .entry)) e n i r (now (list .entry)) (now (list .exit)) ⌝ }
+    ensures { λ r. ⌜ CircleMembers (now (d .entry)) e n i r (now (list .entry)) (now (list .exit)) ⌝ }
 {
     let mut m = [0u8; check_graph::CELLS];
     let mut s = [0u8; check_distance::LAYERS];
@@ -126,7 +126,7 @@ fn hand_over(members: &[u8], r: usize, list: &mut [u8])
 pub fn list_circle(d: &[u64], ev: usize, n: usize, list: &mut [u8]) -> u64
     requires { ⌜ (length (now d) ≡ draftLength) × (ev ≤ 32) × (n ≤ 64) × AllInside (now d) ev n ⌝ }
     requires { ⌜ Wide (now d) ev n × (cyclicOn (now d) ev n ≡ true) ⌝ }
-    ensures { λ r. ⌜ Found (now (d .entry)) ev n (now (list .entry)) r (now (list .exit)) ⌝ }
+    ensures { λ r. ⌜ ShortestFound (now (d .entry)) ev n (now (list .entry)) r (now (list .exit)) ⌝ }
 {
     let best = shortest(d, ev, n);
     let e = event_at(ev, best / BEHAVIOURS % TURNS);

@@ -21,21 +21,21 @@ use Rattle.spec_language.specs.Rights.{may}
 use Rattle.check_faults.specs.Faults.{known, cyclic}
 use Rattle.format_layout.specs.Layout.{eventWord, eventCount, behaviourCount, sendersAt, viewersAt, taken, waitingCount, runningFlag, runningEvent, runningWord, runningNumber, position, depth, eventAt, tableFits, ours}
 use Rattle.run_queue.specs.Queue.{best}
-use Rattle.run_allowed.specs.Allowed.{allowed}
-use Rattle.run_start.specs.Start.{Result, startOn}
-use Rattle.run_arrive.specs.Arrivals.{full, arriveWith, arriveKnown, arriveIn, arriveOn}
-use Rattle.run_board.specs.Board.{masked, settlingIn, settlingOn, boardWith, boardKnown, boardIn, boardOn}
+use Rattle.run_allowed.specs.Allowed.{mayRun}
+use Rattle.run_start.specs.Start.{CallResult, startOn}
+use Rattle.run_arrive.specs.Arrivals.{queueFull, arriveWith, arriveKnown, arriveIn, arriveOn}
+use Rattle.run_board.specs.Board.{isMasked, copyBackUnderWay, copyBackOn, boardWith, boardKnown, boardIn, boardOn}
 use Rattle.run_dispatch.specs.Dispatch.{said, startAt, preemptAt}
-use Rattle.run_advance.specs.Advance.{commitSaid, countOn, executeOn, executeAt, advance}
-use Rattle.run_step.specs.Machine.{meet, contest, running, resting, stepWith, stepIn, stepOn}
+use Rattle.run_advance.specs.Advance.{commitSaid, countInstruction, executeOn, executeAt, advanceOn}
+use Rattle.run_step.specs.Machine.{meet, contestOn, whileRunning, whileResting, stepWith, stepIn, stepOn}
 use Rattle.run_forecast.specs.Forecast.{forecastOn}
 use Rattle.run_carry.specs.Carry.{carryOn}
 use Rattle.run_mend.specs.Mending.{handKnown, verdict, mendWith, mendAfter, mendIn, mendOn}
-use Rattle.back_compile.specs.Verdict.{Compiled, programOf, lacks, judge, judgeRead, compileOn}
+use Rattle.back_compile.specs.Verdict.{Compiled, programOf, lacksParameters, judge, judgeRead, compileOn}
 use Rattle.back_compile.proofs.AcceptedExactly.{refused-unchanged}
 use Rattle.engine.proofs.Refused as refusals
 use Rattle.engine.proofs.Beyond as beyond
-use Rattle.claims.specs.Demand1.{afterReading, compileOrder, startOrder, arriveOrder, boardOrder, outranked, runsOne, nextWord, instructionFits, stepForeign, mendOrder, Demand1}
+use Rattle.claims.specs.Demand1.{afterReading, compileOrder, startOrder, arriveOrder, boardOrder, givesWay, runsOne, nextWord, instructionFits, stepForeign, mendOrder, Demand1}
 
 judged : (g : Got Sheet) (ps t : List ℕ) → judgeRead g ps t .0 ≡ afterReading g ps
 unfolding judge
@@ -43,7 +43,7 @@ judged (bad k) ps t = refl
 judged (got x rest) ps t =
     let p = programOf ps x in
     split (known p)
-    (λ k. split (lacks x ps)
+    (λ k. split (lacksParameters x ps)
     (λ l. rw (k, l))
     (λ l. split (cyclic p) (λ c. rw (k, l, c)) (λ c. split (ltb 4096 (allInstructions p)) (λ h. rw (k, l, c, h)) (λ h. rw (k, l, c, h)))))
     (λ k. rw k)
@@ -64,7 +64,7 @@ arrive-order t l e who =
     (λ a. split (leb 8 who) (λ b. rw (a, b))
     (λ b. split (leb (eventCount t) e) (λ c. rw (a, b, c))
     (λ c. split (may (sendersAt t e) who)
-    (λ d. split (full (waitingCount l) (runningFlag l)) (λ f. rw (a, b, c, d, f))
+    (λ d. split (queueFull (waitingCount l) (runningFlag l)) (λ f. rw (a, b, c, d, f))
     (λ f. split (leb 1000000 (taken l)) (λ g. rw (a, b, c, d, f, g)) (λ g. rw (a, b, c, d, f, g))))
     (λ d. rw (a, b, c, d)))))
     (λ a. rw a)
@@ -76,7 +76,7 @@ board-order t l i who =
     (λ a. split (leb 8 who) (λ b. rw (a, b))
     (λ b. split (leb (behaviourCount t) i) (λ c. rw (a, b, c))
     (λ c. split (may (viewersAt t i) who)
-    (λ d. split (settlingIn t l) (λ f. rw (a, b, c, d, f)) (λ f. rw (a, b, c, d, f)))
+    (λ d. split (copyBackUnderWay t l) (λ f. rw (a, b, c, d, f)) (λ f. rw (a, b, c, d, f)))
     (λ d. rw (a, b, c, d)))))
     (λ a. rw a)
 
@@ -87,19 +87,19 @@ mend-order old t l =
     split (ours old l)
     (λ a. split (tableFits t)
     (λ b. split (eqb r 0)
-    (λ c. split (settlingOn old l) (λ d. rw (a, b, c, d)) (λ d. split (handKnown t l) (λ f. rw (a, b, c, d, f)) (λ f. rw (a, b, c, d, f))))
+    (λ c. split (copyBackOn old l) (λ d. rw (a, b, c, d)) (λ d. split (handKnown t l) (λ f. rw (a, b, c, d, f)) (λ f. rw (a, b, c, d, f))))
     (λ c. rw (a, b, c, c)))
     (λ b. rw (a, b)))
     (λ a. rw a)
 
 -- ---- steps
 
-advance-refused : (t l : List ℕ) → not (instructionFits t l) ≡ true → advance t l ≡ (foreign, l)
-unfolding advance executeAt executeOn
+advance-refused : (t l : List ℕ) → not (instructionFits t l) ≡ true → advanceOn t l ≡ (foreign, l)
+unfolding advanceOn executeAt executeOn
 advance-refused t l = split (instructionFits t l) (λ e h. absurd (false≢true (rw e at h))) (λ e h. rw e)
 
 step-refused : (t l : List ℕ) → stepForeign t l ≡ true → stepOn t l ≡ (foreign, l)
-unfolding stepOn stepIn stepWith resting running contest meet
+unfolding stepOn stepIn stepWith whileResting whileRunning contestOn meet
 step-refused t l =
     let n = waitingCount l in
     split (ours t l)
@@ -107,7 +107,7 @@ step-refused t l =
     (λ b h. absurd (false≢true (rw (a, b) at h)))
     (λ b. split (eqb n 0)
     (λ c h. rw (a, b, c) (advance-refused t l (rw (a, b, c) at h)))
-    (λ c. split (masked (eventWord t (runningEvent l) 2) (eventWord t (runningEvent l) 3) (position l))
+    (λ c. split (isMasked (eventWord t (runningEvent l) 2) (eventWord t (runningEvent l) 3) (position l))
     (λ d h. rw (a, b, c, d) (advance-refused t l (rw (a, b, c, d) at h)))
     (λ d. split (ltb (eventWord t (runningEvent l) 0) (eventWord t (eventAt l (best t l n)) 0))
     (λ f h. absurd (false≢true (rw (a, b, c, d, f) at h)))
@@ -115,15 +115,15 @@ step-refused t l =
     (λ a h. rw a)
 
 -- an answer that is not 14
-abbrev Taken : Result → Type 0
+abbrev Taken : CallResult → Type 0
 Taken o = o .0 ≢ foreign
 
 commit-not : (n e w : ℕ) → commitSaid n e w ≢ foreign
 unfolding commitSaid said
 commit-not n e w = by-test (λ (x : ℕ). x ≢ foreign) (eqb w 0) (λ _. omega arith) (λ _. omega arith)
 
-advance-taken : (t l : List ℕ) → not (instructionFits t l) ≡ false → Taken (advance t l)
-unfolding advance executeAt executeOn countOn
+advance-taken : (t l : List ℕ) → not (instructionFits t l) ≡ false → Taken (advanceOn t l)
+unfolding advanceOn executeAt executeOn countInstruction
 advance-taken t l =
     split (instructionFits t l)
     (λ e h. rw e (by-test Taken (ltb (position l + 1) (eventWord t (runningEvent l) 2)) (λ _. omega arith) (λ _. commit-not _ _ _)))
@@ -138,7 +138,7 @@ unfolding preemptAt said
 preempt-taken l b = omega arith
 
 step-taken : (t l : List ℕ) → stepForeign t l ≡ false → stepOn t l .0 ≢ foreign
-unfolding stepOn stepIn stepWith resting running contest meet
+unfolding stepOn stepIn stepWith whileResting whileRunning contestOn meet
 step-taken t l =
     let n = waitingCount l in
     split (ours t l)
@@ -146,7 +146,7 @@ step-taken t l =
     (λ b h. rw (a, b) (by-test Taken (eqb n 0) (λ _. omega arith) (λ _. start-taken l (best t l n) (n - 1))))
     (λ b. split (eqb n 0)
     (λ c h. rw (a, b, c) (advance-taken t l (rw (a, b, c) at h)))
-    (λ c. split (masked (eventWord t (runningEvent l) 2) (eventWord t (runningEvent l) 3) (position l))
+    (λ c. split (isMasked (eventWord t (runningEvent l) 2) (eventWord t (runningEvent l) 3) (position l))
     (λ d h. rw (a, b, c, d) (advance-taken t l (rw (a, b, c, d) at h)))
     (λ d. split (ltb (eventWord t (runningEvent l) 0) (eventWord t (eventAt l (best t l n)) 0))
     (λ f h. rw (a, b, c, d, f) (preempt-taken l (best t l n)))

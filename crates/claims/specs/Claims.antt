@@ -3,13 +3,13 @@
 -- parts of `OneList`, one by one (refine_lists, Lists.antt). All of it is about the functions that the contracts of the
 -- exported calls cite: `compileOn`, `startOn`, `arriveOn`, `stepOn`, `boardOn`, `forecastOn`, `previewOn`, `mendOn`,
 -- `formulaOn`, `joinOn`, `toldOn`. proofs/ClaimsHold.antt has the one theorem that proves it.
-use Rattle.engine.specs.Demand.{Whole}
+use Rattle.engine.specs.Demand.{WholeDemand}
 use Rattle.engine.specs.RestDay.{RestDay}
 use Rattle.secrecy_engine.specs.Heard.{RuleOn}
 use Rattle.link_halves.specs.HalfBoards.{HalfBoards}
 use Rattle.refine_frames.specs.Frames.{EveryFrame, FrameInList}
 use Rattle.refine_counts.specs.Compiled.{EveryTable}
-use Rattle.check_agree.specs.Claims.{Answers as Agreement}
+use Rattle.check_agree.specs.Claims.{AgreeAnswers as Agreement}
 use Rattle.engine_agree.specs.Agreement.{PhonesAgree, RoundsAgree}
 use Rattle.engine_agree.specs.Final.{Needed}
 use Rattle.secrecy_leak.specs.Leakless.{WithNoCondition as NoLeak}
@@ -27,7 +27,7 @@ pub record Claims : Type 0 where
   -- 2. "An event run alone leaves on the board, for every behaviour, the value that the paper's big-step rules .. give
   -- with 01's arithmetic." 3. "For every list of arrivals, steps and board readings ..", with changes of sheets; and
   -- M-100, M-101, M-104, M-112, M-113: `OneList`; "And for every two such lists ..": `TwoLists`
-  pub lists : Whole
+  pub lists : WholeDemand
   -- M-102, halves go down
   pub quotients : HalvesGoDown
   -- M-103, easy and hard from one sheet

@@ -20,17 +20,17 @@ use Rattle.spec_language.specs.Rights.{may}
 use Rattle.check_faults.specs.Faults.{known, cyclic}
 use Rattle.format_layout.specs.Layout.{eventWord, eventCount, behaviourCount, sendersAt, viewersAt, taken, waitingCount, runningFlag, runningEvent, position, depth, eventAt, tableFits, ours}
 use Rattle.run_queue.specs.Queue.{best}
-use Rattle.run_allowed.specs.Allowed.{allowed}
+use Rattle.run_allowed.specs.Allowed.{mayRun}
 use Rattle.run_start.specs.Start.{startOn}
-use Rattle.run_arrive.specs.Arrivals.{full, arriveOn}
-use Rattle.run_board.specs.Board.{masked, settlingIn, settlingOn, boardOn}
+use Rattle.run_arrive.specs.Arrivals.{queueFull, arriveOn}
+use Rattle.run_board.specs.Board.{isMasked, copyBackUnderWay, copyBackOn, boardOn}
 use Rattle.run_step.specs.Machine.{stepOn}
 use Rattle.run_forecast.specs.Forecast.{forecastOn}
 use Rattle.run_preview.specs.Preview.{previewOn}
 use Rattle.run_carry.specs.Carry.{carryOn}
 use Rattle.run_mend.specs.Mending.{handKnown, mendOn}
-use Rattle.back_compile.specs.Verdict.{programOf, lacks, compileOn}
-use Rattle.engine.specs.Beyond.{Untouched}
+use Rattle.back_compile.specs.Verdict.{programOf, lacksParameters, compileOn}
+use Rattle.engine.specs.Beyond.{UntouchedFrom}
 
 -- a condition with the number of the refusal that it gives; the first that holds gives the answer, else the last number
 abbrev pub Refusal : Type 0
@@ -48,7 +48,7 @@ afterReading (bad k) ps = k
 afterReading (got x rest) ps =
     firstThat
     ((not (known (programOf ps x)), unknownName)
-    ∷ ((lacks x ps, noParameters) ∷ ((cyclic (programOf ps x), cycle) ∷ ((ltb 4096 (allInstructions (programOf ps x)), overlong) ∷ []))))
+    ∷ ((lacksParameters x ps, noParameters) ∷ ((cyclic (programOf ps x), cycle) ∷ ((ltb 4096 (allInstructions (programOf ps x)), overlong) ∷ []))))
     0
 
 abbrev pub compileOrder : List ℕ → List ℕ → List ℕ → ℕ
@@ -68,7 +68,7 @@ arriveOrder t l e who =
     ∷ ((leb 8 who, noPlayer)
     ∷ ((leb (eventCount t) e, undeclaredEvent)
     ∷ ((not (may (sendersAt t e) who), noRight)
-    ∷ ((full (waitingCount l) (runningFlag l), fullQueue) ∷ ((leb 1000000 (taken l), spent) ∷ []))))))
+    ∷ ((queueFull (waitingCount l) (runningFlag l), fullQueue) ∷ ((leb 1000000 (taken l), spent) ∷ []))))))
     0
 
 -- ---- "Board: 14, 18, 19."; 02, M-107: 24 after 14, 25 after 18. Else 2 ^ 32 and the word
@@ -78,27 +78,27 @@ boardOrder t l i who =
     firstThat
     ((not (ours t l), foreign)
     ∷ ((leb 8 who, noPlayer)
-    ∷ ((leb (behaviourCount t) i, noBehaviour) ∷ ((not (may (viewersAt t i) who), noRight) ∷ ((settlingIn t l, settling) ∷ [])))))
+    ∷ ((leb (behaviourCount t) i, noBehaviour) ∷ ((not (may (viewersAt t i) who), noRight) ∷ ((copyBackUnderWay t l, settling) ∷ [])))))
     (4294967296 + get l (136 + i))
 
 -- ---- "Step: 14." and, "for a step that would run one, an instruction not of this paper ..": it runs one where
 -- something
 -- runs, unless it is unmasked and what is next outranks it
 
-abbrev pub outranked : List ℕ → List ℕ → Bool
-outranked t l =
-    not (eqb (waitingCount l) 0) && (not (masked (eventWord t (runningEvent l) 2) (eventWord t (runningEvent l) 3) (position l))
+abbrev pub givesWay : List ℕ → List ℕ → Bool
+givesWay t l =
+    not (eqb (waitingCount l) 0) && (not (isMasked (eventWord t (runningEvent l) 2) (eventWord t (runningEvent l) 3) (position l))
     && ltb (eventWord t (runningEvent l) 0) (eventWord t (eventAt l (best t l (waitingCount l))) 0))
 
 abbrev pub runsOne : List ℕ → List ℕ → Bool
-runsOne t l = not (eqb (runningFlag l) 0) && not (outranked t l)
+runsOne t l = not (eqb (runningFlag l) 0) && not (givesWay t l)
 
 -- the first word of the instruction at the running one's count: operation * 256 + slot
 abbrev pub nextWord : List ℕ → List ℕ → ℕ
 nextWord t l = get t (512 + (eventWord t (runningEvent l) 1 + position l) * 2)
 
 abbrev pub instructionFits : List ℕ → List ℕ → Bool
-instructionFits t l = allowed (nextWord t l / 256) (nextWord t l % 256) (depth l)
+instructionFits t l = mayRun (nextWord t l / 256) (nextWord t l % 256) (depth l)
 
 abbrev pub stepForeign : List ℕ → List ℕ → Bool
 stepForeign t l = not (ours t l) || (runsOne t l && not (instructionFits t l))
@@ -113,7 +113,7 @@ mendOrder old t l =
     ((not (ours old l), foreign)
     ∷ ((not (tableFits t), foreign)
     ∷ ((not (eqb (carryOn old t l (replicate 2048 0) .0) 0), carryOn old t l (replicate 2048 0) .0)
-    ∷ ((settlingOn old l, settling) ∷ ((not (handKnown t l), undeclaredInHand) ∷ [])))))
+    ∷ ((copyBackOn old l, settling) ∷ ((not (handKnown t l), undeclaredInHand) ∷ [])))))
     0
 
 pub record Demand1 : Type 0 where
@@ -134,8 +134,8 @@ pub record Demand1 : Type 0 where
   pub arrive-unchanged : (t l : List ℕ) (e who : ℕ) → arriveOn t l e who .0 ≢ 0 → arriveOn t l e who .1 ≡ l
   pub mend-unchanged : (old t l : List ℕ) → mendOn old t l .0 ≢ 0 → mendOn old t l .1 ≡ l
   -- "bytes beyond these are untouched": 34,816 of a table, 2,048 of a round
-  pub compile-beyond : (s ps t : List ℕ) → All (λ b. b < 256) s → All (λ b. b < 256) ps → Untouched 34816 t (compileOn s ps t .1)
-  pub start-beyond : (t l : List ℕ) → Untouched 2048 l (startOn t l .1)
-  pub arrive-beyond : (t l : List ℕ) (e who : ℕ) → Untouched 2048 l (arriveOn t l e who .1)
-  pub step-beyond : (t l : List ℕ) → Untouched 2048 l (stepOn t l .1)
-  pub mend-beyond : (old t l : List ℕ) → Untouched 2048 l (mendOn old t l .1)
+  pub compile-beyond : (s ps t : List ℕ) → All (λ b. b < 256) s → All (λ b. b < 256) ps → UntouchedFrom 34816 t (compileOn s ps t .1)
+  pub start-beyond : (t l : List ℕ) → UntouchedFrom 2048 l (startOn t l .1)
+  pub arrive-beyond : (t l : List ℕ) (e who : ℕ) → UntouchedFrom 2048 l (arriveOn t l e who .1)
+  pub step-beyond : (t l : List ℕ) → UntouchedFrom 2048 l (stepOn t l .1)
+  pub mend-beyond : (old t l : List ℕ) → UntouchedFrom 2048 l (mendOn old t l .1)

@@ -22,17 +22,17 @@ use Rattle.spec_language.specs.Code.{sizeOf, allInstructions}
 use Rattle.spec_language.specs.Rights.{may, maySend, maySee}
 use Rattle.format_image.specs.Image.{tableOf}
 use Rattle.text_formula.specs.Grammar.{Formula}
-use Rattle.text_formula.specs.Answer.{answered, written, formulaOn}
-use Rattle.text_formula.specs.Statements.{Untouched, Fields}
+use Rattle.text_formula.specs.Answer.{answered, fieldAnswer, formulaOn}
+use Rattle.text_formula.specs.Statements.{BufferKept, Fields}
 use Rattle.spec_language.specs.Refusals.{noFormula}
 use Rattle.back_compile.specs.Verdict.{compiled, programOf, compileOn}
 use Rattle.back_compile.specs.Statements.{Given, Fine, AsWritten, AsRows}
-use Rattle.back_figure3.specs.Figure3.{Assign, First, Second, whole, PassivesAcyclic, Handler}
+use Rattle.back_figure3.specs.Figure3.{Assign, FirstPhaseRule, SecondPhaseRule, everyBehaviour, PassivesAcyclic, HandlerCode}
 use Rattle.back_figure3.specs.Stand.{StepsStand}
-use Rattle.check_circle.specs.Witness.{numberOn, Listed, Witnessed}
+use Rattle.check_circle.specs.Witness.{numberOn, CircleListed, Witnessed}
 use Rattle.link_pooled.specs.Pooled.{pooled}
 use Rattle.link_join.specs.Join.{joinOn}
-use Rattle.link_join.specs.Statements.{limits, Answer}
+use Rattle.link_join.specs.Statements.{limits, JoinAnswer}
 
 -- bytes are below 256
 abbrev pub AreBytes : List ℕ → Type 0
@@ -97,11 +97,11 @@ pub record Formulas : Type 0 where
   pub one-reading : {text : List ℕ} {d e : Expr} → Formula text d → Formula text e → d ≡ e
   -- "A formula of at most 1,024 bytes becomes one expression field at the start of a lent buffer, whose other bytes
   -- stay; its length is returned." "22, checked next", "9 comes after 22", "23, checked last"
-  pub within : {text : List ℕ} {e : Expr} (buffer : List ℕ) → length text ≤ 1024 → Formula text e → formulaOn text buffer ≡ written e buffer
+  pub within : {text : List ℕ} {e : Expr} (buffer : List ℕ) → length text ≤ 1024 → Formula text e → formulaOn text buffer ≡ fieldAnswer e buffer
   -- ".. and all texts outside it are turned down": "21 when the text is outside this grammar or over 1,024 bytes"
   pub outside : (text buffer : List ℕ) → (1024 < length text) ⊎ ((e : Expr) → Formula text e → ⊥) → formulaOn text buffer ≡ answered noFormula buffer
   pub only-outside : (text buffer : List ℕ) → formulaOn text buffer .0 ≡ noFormula → (1024 < length text) ⊎ ((e : Expr) → Formula text e → ⊥)
-  pub unchanged : (text buffer : List ℕ) → Untouched buffer (formulaOn text buffer)
+  pub unchanged : (text buffer : List ℕ) → BufferKept buffer (formulaOn text buffer)
   -- the field is one that compile reads, and means the formula
   pub field : (text buffer : List ℕ) → Fields text buffer (formulaOn text buffer)
 
@@ -134,7 +134,7 @@ pub record Circles : Type 0 where
   -- of the answer r and the list after it (`Witnessed`) is that of the sheet that the bytes encode, whatever list is
   -- lent
   pub listed : (s ps list : List ℕ) → AreBytes s → numberOn s ps ≡ 12 → {r : ℕ} {list′ : List ℕ} → Witnessed s ps list r list′
-      → (x : Sheet) × (encode x ≡ s) × SheetFits x × Known (programOf ps x) × Given ps x × Listed (programOf ps x) list r list′
+      → (x : Sheet) × (encode x ≡ s) × SheetFits x × Known (programOf ps x) × Given ps x × CircleListed (programOf ps x) list r list′
 
 -- ---- M-109: the compiler in the paper's order
 
@@ -142,11 +142,11 @@ pub record PaperOrder : Type 0 where
   -- "it is shown which instructions each step gives, an event's code being the copy's, phase one's, phase two's and the
   -- copy-back's in a row": of the table that compile leaves, for every accepted sheet and each event
   pub in-the-table : (s ps t : List ℕ) → AreBytes s → AreBytes ps → (x : Sheet) → encode x ≡ s → SheetAccepted (get ps) (length ps) x → 34816 ≤ length t → (e : ℕ) → e < events (programOf ps x)
-      → Handler (programOf ps x) e × StepsStand (programOf ps x) (compileOn s ps t .1) e
+      → HandlerCode (programOf ps x) e × StepsStand (programOf ps x) (compileOn s ps t .1) e
   -- "the check on dependence": no first phase is derived for an event with a circle, and no second one where passives
   -- are in one
-  pub first-acyclic : (p : Program) (e : ℕ) {A : List Assign} → First p e (whole p) A → Acyclic p e
-  pub second-acyclic : (p : Program) (e : ℕ) {A : List Assign} → Second p e (whole p) A → PassivesAcyclic p e
+  pub first-acyclic : (p : Program) (e : ℕ) {A : List Assign} → FirstPhaseRule p e (everyBehaviour p) A → Acyclic p e
+  pub second-acyclic : (p : Program) (e : ℕ) {A : List Assign} → SecondPhaseRule p e (everyBehaviour p) A → PassivesAcyclic p e
 
 -- ---- M-110: rows for grid puzzles
 
@@ -160,7 +160,7 @@ pub record Rows : Type 0 where
 pub record Pooling : Type 0 where
   -- "A join writes one sheet from two accepted ones to the start of a lent buffer, whose other bytes stay, and returns
   -- its length", and every refusal in its order, case by case
-  pub answer : (s z ps buffer : List ℕ) → AreBytes s → AreBytes z → AreBytes ps → Answer s z ps buffer (joinOn s z ps buffer)
+  pub answer : (s z ps buffer : List ℕ) → AreBytes s → AreBytes z → AreBytes ps → JoinAnswer s z ps buffer (joinOn s z ps buffer)
   -- "The result must pass compile's 3, 7 and 13, checked in that order": compile has no other number for it
   pub number : (ps : List ℕ) → ((n : ℕ) → n < 8 → get ps n < 2 ^ 32) → (a b : Sheet) → SheetAccepted (get ps) (length ps) a → SheetAccepted (get ps) (length ps) b
       → numberOn (encode (pooled a b)) ps ≡ limits ps (pooled a b)

@@ -69,7 +69,7 @@ fn collect(table: &[u8], round: &[u8], values: &mut [u32]) -> usize
 
 // "During copy-back a show prints the one line R 19, with or without behaviours."
 fn show(table: &[u8], round: &[u8]) {
-    if run_board::settling_at(table, round) {
+    if run_board::copy_back_at(table, round) {
         refuse(SETTLING);
         return;
     }

@@ -12,7 +12,7 @@ use lib.Seq.{drop-cons, length-take-le, take-length, take-append-seam, take-appe
 use Rattle.io.specs.Counts.{Counts}
 use Rattle.io.specs.Digits.{glyph, digits, Fewest}
 use Rattle.lib_base.proofs.Pick.{if-lt, if-not-lt}
-use Rattle.desk_format.specs.Script.{decimalIn, decimal, signedText, valuesText, refusalLine, commitLine, boardLine}
+use Rattle.desk_format.specs.Script.{decimalIn, decimalText, signedText, valuesText, refusalLine, commitLine, boardLine}
 
 pub seam : (text d post : List ℕ) → take (length text) ((take (length text) text ++ d) ++ post) ≡ text
 seam text d post =
@@ -77,20 +77,20 @@ pub after : (o a b t u v : List ℕ) → b ≡ a ++ u → a ≡ o ++ t → t ++ 
 after o a b t u v p q e = p ∙ ap (λ (l : List ℕ). l ++ u) q ∙ append-assoc o t u ∙ ap (λ (l : List ℕ). o ++ l) e
 
 -- a word that stands for a negative number
-pub negative : (w : ℕ) → 2147483648 ≤ w → (45 ∷ []) ++ decimal (4294967296 - w) ≡ signedText w
+pub negative : (w : ℕ) → 2147483648 ≤ w → (45 ∷ []) ++ decimalText (4294967296 - w) ≡ signedText w
 unfolding signedText
-negative w h = if-not-lt (decimal w) (45 ∷ decimal (4294967296 - w)) w 2147483648 h refl
+negative w h = if-not-lt (decimalText w) (45 ∷ decimalText (4294967296 - w)) w 2147483648 h refl
 
-pub refusal-text : (n : ℕ) (a b c : List ℕ) → a ≡ 82 ∷ 32 ∷ [] → b ≡ a ++ decimal n → c ≡ b ++ (10 ∷ []) → c ≡ refusalLine n
+pub refusal-text : (n : ℕ) (a b c : List ℕ) → a ≡ 82 ∷ 32 ∷ [] → b ≡ a ++ decimalText n → c ≡ b ++ (10 ∷ []) → c ≡ refusalLine n
 unfolding refusalLine
-refusal-text n a b c p q r = r ∙ ap (λ (l : List ℕ). l ++ (10 ∷ [])) (q ∙ ap (λ (l : List ℕ). l ++ decimal n) p)
+refusal-text n a b c p q r = r ∙ ap (λ (l : List ℕ). l ++ (10 ∷ [])) (q ∙ ap (λ (l : List ℕ). l ++ decimalText n) p)
 
-pub commit-text : (n e : ℕ) (a b c d f : List ℕ) → a ≡ 67 ∷ 32 ∷ [] → b ≡ a ++ decimal n → c ≡ b ++ (32 ∷ []) → d ≡ c ++ decimal e → f ≡ d ++ (10 ∷ []) → f ≡ commitLine n e
+pub commit-text : (n e : ℕ) (a b c d f : List ℕ) → a ≡ 67 ∷ 32 ∷ [] → b ≡ a ++ decimalText n → c ≡ b ++ (32 ∷ []) → d ≡ c ++ decimalText e → f ≡ d ++ (10 ∷ []) → f ≡ commitLine n e
 unfolding commitLine
 commit-text n e a b c d f p q r s t =
-    let g : ((decimal n ++ (32 ∷ [])) ++ decimal e) ++ (10 ∷ []) ≡ decimal n ++ (32 ∷ (decimal e ++ (10 ∷ []))) =
-    append-assoc (decimal n ++ (32 ∷ [])) (decimal e) (10 ∷ []) ∙ append-assoc (decimal n) (32 ∷ []) (decimal e ++ (10 ∷ [])) in
-    t ∙ ap (λ (l : List ℕ). l ++ (10 ∷ [])) (s ∙ ap (λ (l : List ℕ). l ++ decimal e) (r ∙ ap (λ (l : List ℕ). l ++ (32 ∷ [])) (q ∙ ap (λ (l : List ℕ). l ++ decimal n) p)))
+    let g : ((decimalText n ++ (32 ∷ [])) ++ decimalText e) ++ (10 ∷ []) ≡ decimalText n ++ (32 ∷ (decimalText e ++ (10 ∷ []))) =
+    append-assoc (decimalText n ++ (32 ∷ [])) (decimalText e) (10 ∷ []) ∙ append-assoc (decimalText n) (32 ∷ []) (decimalText e ++ (10 ∷ [])) in
+    t ∙ ap (λ (l : List ℕ). l ++ (10 ∷ [])) (s ∙ ap (λ (l : List ℕ). l ++ decimalText e) (r ∙ ap (λ (l : List ℕ). l ++ (32 ∷ [])) (q ∙ ap (λ (l : List ℕ). l ++ decimalText n) p)))
     ∙ ap (λ (l : List ℕ). 67 ∷ 32 ∷ l) g
 
 -- one value more

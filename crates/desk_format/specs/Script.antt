@@ -31,8 +31,8 @@ unfoldable pub endsAfter : ℕ → Bool
 endsAfter verdict = pick (eqb verdict 0) false (pick (eqb verdict 14) false true)
 
 -- the event byte or the two-byte count
-unfoldable pub numberIn : List ℕ → ℕ
-numberIn value = pick (eqb (length value) 1) (getD value 0 0) (pick (eqb (length value) 2) (getHalf value 0) 0)
+unfoldable pub argumentNumber : List ℕ → ℕ
+argumentNumber value = pick (eqb (length value) 1) (getD value 0 0) (pick (eqb (length value) 2) (getHalf value 0) 0)
 
 -- n in decimal digits, in ASCII; `places` is as many as any n has
 unfoldable pub decimalIn : ℕ → ℕ → List ℕ
@@ -40,20 +40,20 @@ decimalIn zero n = []
 decimalIn (suc places) n = pick (ltb n 10) ((48 + n) ∷ []) (decimalIn places (n / 10) ++ ((48 + n % 10) ∷ []))
 
 -- a number below 2^64 has at most 20 digits
-abbrev pub decimal : ℕ → List ℕ
-decimal n = decimalIn 20 n
+abbrev pub decimalText : ℕ → List ℕ
+decimalText n = decimalIn 20 n
 
 -- a 32-bit word as a signed number; 45 is `-`
 unfoldable pub signedText : ℕ → List ℕ
-signedText w = pick (ltb w 2147483648) (decimal w) (45 ∷ decimal (4294967296 - w))
+signedText w = pick (ltb w 2147483648) (decimalText w) (45 ∷ decimalText (4294967296 - w))
 
 -- "A refusal prints R and its number."
 unfoldable pub refusalLine : ℕ → List ℕ
-refusalLine n = 82 ∷ 32 ∷ (decimal n ++ (10 ∷ []))
+refusalLine n = 82 ∷ 32 ∷ (decimalText n ++ (10 ∷ []))
 
 -- "C: arrival number, event number."
 unfoldable pub commitLine : ℕ → ℕ → List ℕ
-commitLine n e = 67 ∷ 32 ∷ (decimal n ++ (32 ∷ (decimal e ++ (10 ∷ []))))
+commitLine n e = 67 ∷ 32 ∷ (decimalText n ++ (32 ∷ (decimalText e ++ (10 ∷ []))))
 
 -- What a step's answer prints: R 14, or a commit (kind 3). "Steps without a commit print nothing." 02, M-104: "The desk
 -- program doesn't print it", the mark at 2^56.

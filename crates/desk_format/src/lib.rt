@@ -6,7 +6,7 @@ ghost use mathlib.Core.List.{_++_, _∷_};
 ghost use Prim.Native.Nat.{_+_, _*_, _≤_};
 ghost use lib.ListN.{length, take};
 ghost use Rattle.io.specs.Counts.{Counts};
-ghost use Rattle.desk_format.specs.Script.{headVerdict, due, playVerdict, valueVerdict, endsAfter, numberIn, decimal, signedText, refusalLine, commitLine, stepLine, boardLine};
+ghost use Rattle.desk_format.specs.Script.{headVerdict, due, playVerdict, valueVerdict, endsAfter, argumentNumber, decimalText, signedText, refusalLine, commitLine, stepLine, boardLine};
 
 pub mod tags;
 
@@ -105,7 +105,7 @@ pub fn ends(verdict: u8) -> bool
 
 // The event byte of an arrival, or the two-byte count of steps.
 pub fn number(value: &[u8]) -> u32
-    ensures { λ r. ⌜ r ≡ numberIn (now (value .entry)) ⌝ }
+    ensures { λ r. ⌜ r ≡ argumentNumber (now (value .entry)) ⌝ }
 {
     if value.len() == 1 {
         return value[0] as u32;
@@ -131,7 +131,7 @@ fn put(out: &mut [u8], at: usize, text: &[u8]) -> usize
 fn put_decimal(out: &mut [u8], at: usize, n: u64) -> usize
     requires { ⌜ at + 20 ≤ length (now out) ⌝ }
     ensures { λ r. ⌜ r ≤ at + 20 ⌝ }
-    ensures { λ r. ⌜ take r (now (out .exit)) ≡ take at (now (out .entry)) ++ decimal n ⌝ }
+    ensures { λ r. ⌜ take r (now (out .exit)) ≡ take at (now (out .entry)) ++ decimalText n ⌝ }
 {
     let mut digits = [0u8; DIGITS];
     let k = io::decimal(n, &mut digits);

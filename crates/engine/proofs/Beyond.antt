@@ -23,39 +23,39 @@ use Rattle.format_image.specs.Image.{tableOf}
 use Rattle.format_image.proofs.ImageLaws.{length-table, beyond-table}
 use Rattle.back_compile.specs.Verdict.{Compiled, programOf, compileOn}
 use Rattle.back_compile.proofs.AcceptedExactly.{accepted-exactly, refused-unchanged}
-use Rattle.run_queue.specs.Queue.{best, better, either, ahead}
-use Rattle.run_start.specs.Start.{Result, startOn}
+use Rattle.run_queue.specs.Queue.{best, better, eitherSlot, ahead}
+use Rattle.run_start.specs.Start.{CallResult, startOn}
 use Rattle.run_stack.specs.Stack.{pushOn, popTo, noted, applyOne, applyTwo, applyThree, applyOn}
-use Rattle.run_allowed.specs.Allowed.{allowed}
+use Rattle.run_allowed.specs.Allowed.{mayRun}
 use Rattle.run_allowed.proofs.AllowedLaws.{slot-small}
 use Rattle.run_instruction.specs.Instruction.{transfer, perform}
-use Rattle.run_carry.specs.Carry.{carryOn, shownFor, shown}
-use Rattle.run_arrive.specs.Arrivals.{full, arriveWith, arriveKnown, arriveIn, arriveOn}
-use Rattle.run_board.specs.Board.{masked, settlingOn}
+use Rattle.run_carry.specs.Carry.{carryOn, shownFor, storeShown}
+use Rattle.run_arrive.specs.Arrivals.{queueFull, arriveWith, arriveKnown, arriveIn, arriveOn}
+use Rattle.run_board.specs.Board.{isMasked, copyBackOn}
 use Rattle.run_mend.specs.Mending.{handKnown, backInHand, rested, verdict, mended, mendWith, mendAfter, mendIn, mendOn}
 use Rattle.run_dispatch.specs.Dispatch.{startAt, preemptAt}
-use Rattle.run_advance.specs.Advance.{countOn, executeOn, executeAt, advance}
-use Rattle.run_step.specs.Machine.{meet, contest, running, resting, stepWith, stepIn, stepOn}
+use Rattle.run_advance.specs.Advance.{countInstruction, executeOn, executeAt, advanceOn}
+use Rattle.run_step.specs.Machine.{meet, contestOn, whileRunning, whileResting, stepWith, stepIn, stepOn}
 use Rattle.refine_calls.specs.Refinement.{callOn, turnOnBytes, bytesAfter, roundAfter, Kept}
 use Rattle.refine_calls.proofs.Slots.{kept-all, kept-put, kept-trans, kept-slot, kept-run}
 use Rattle.refine_calls.proofs.Relation.{admit-kept}
 use Rattle.refine_calls.proofs.FreshRound.{fresh-kept}
 use Rattle.refine_calls.proofs.Refines.{short-code}
 use Rattle.refine_lists.proofs.Sheets.{table-room, program-accepted}
-use Rattle.engine.specs.Beyond.{Untouched}
+use Rattle.engine.specs.Beyond.{UntouchedFrom}
 
-untouched : (n : ℕ) (l m : List ℕ) → length m ≡ length l → ((j : ℕ) → n ≤ j → getD m j 0 ≡ getD l j 0) → Untouched n l m
+untouched : (n : ℕ) (l m : List ℕ) → length m ≡ length l → ((j : ℕ) → n ≤ j → getD m j 0 ≡ getD l j 0) → UntouchedFrom n l m
 untouched n l m e h = (
   ext-getD 0 (drop n m) (drop n l) (length-drop n m ∙ ap (λ (k : ℕ). k - n) e ∙ sym (length-drop n l))
       (λ i b. getD-drop n m i 0 ∙ h (n + i) (omega arith) ∙ sym (getD-drop n l i 0)),
   e,
 )
 
-within : (l m : List ℕ) → Kept l m → Untouched 2048 l m
+within : (l m : List ℕ) → Kept l m → UntouchedFrom 2048 l m
 within l m k = untouched 2048 l m (k .as-long) (k .beyond)
 
 -- a call's result keeps what is beyond the round
-abbrev Keeps : List ℕ → Result → Type 0
+abbrev Keeps : List ℕ → CallResult → Type 0
 Keeps l o = Kept l (o .1)
 
 -- ---- start, arrive
@@ -67,8 +67,8 @@ start-keeps t l =
     (λ _. by-test (Keeps l) (ltb (length l) 2048) (λ _. kept-all l) (λ b. fresh-kept t l (le-leb 2048 (length l) (ltb-false (length l) 2048 b))))
     (λ _. kept-all l)
 
-full-room : (n f : ℕ) → full n f ≡ false → n < 64
-unfolding full
+full-room : (n f : ℕ) → queueFull n f ≡ false → n < 64
+unfolding queueFull
 full-room n f =
     by-test (λ b. b ≡ false → n < 64) (eqb f 0) (λ _ h. leb-false 64 n h) (λ _ h. let k : n < 63 = leb-false 63 n h in omega arith)
 
@@ -79,7 +79,7 @@ arrive-keeps t l e who =
     (λ _. by-test (Keeps l) (leb 8 who) (λ _. kept-all l)
     (λ _. by-test (Keeps l) (leb (eventCount t) e) (λ _. kept-all l)
     (λ _. by-test (Keeps l) (may (sendersAt t e) who)
-    (λ _. by-test (Keeps l) (full (waitingCount l) (runningFlag l)) (λ _. kept-all l)
+    (λ _. by-test (Keeps l) (queueFull (waitingCount l) (runningFlag l)) (λ _. kept-all l)
     (λ h. by-test (Keeps l) (leb 1000000 (taken l)) (λ _. kept-all l)
     (λ _. admit-kept 0 (omega arith) l e who (waitingCount l) (taken l) (full-room (waitingCount l) (runningFlag l) h))))
     (λ _. kept-all l))))
@@ -125,26 +125,26 @@ module _ (l : List ℕ) (d : ℕ) (shallow : d ≤ 64) where
       (λ _. by-test (Kept l) (eqb op 10) (λ _. pop-kept (264 + s) (omega arith))
       (λ _. by-test (Kept l) (eqb op 11) (λ _. transfer-kept (264 + s) (200 + s) (omega arith)) (λ _. kept-all l)))))))))
 
-count-keeps : (l m : List ℕ) (c e n len : ℕ) → Kept l m → Keeps l (countOn m c e n len)
-unfolding countOn
+count-keeps : (l m : List ℕ) (c e n len : ℕ) → Kept l m → Keeps l (countInstruction m c e n len)
+unfolding countInstruction
 count-keeps l m c e n len h =
     by-test (Keeps l) (ltb (c + 1) len) (λ _. kept-put m 5 (c + 1) (omega arith) h) (λ _. kept-put m 2 0 (omega arith) h)
 
 execute-keeps : (l : List ℕ) (a w c e n len : ℕ) → depth l ≤ 64 → Keeps l (executeOn l a w c e n len)
 unfolding executeOn
 execute-keeps l a w c e n len b =
-    by-test (Keeps l) (allowed (a / 256) (a % 256) (depth l))
+    by-test (Keeps l) (mayRun (a / 256) (a % 256) (depth l))
     (λ h. count-keeps l _ c e n len (perform-kept l (depth l) b (a / 256) (a % 256) w (slot-small (a / 256) (a % 256) (depth l) h)))
     (λ _. kept-all l)
 
-advance-keeps : (t l : List ℕ) → depth l ≤ 64 → Keeps l (advance t l)
-unfolding advance executeAt
+advance-keeps : (t l : List ℕ) → depth l ≤ 64 → Keeps l (advanceOn t l)
+unfolding advanceOn executeAt
 advance-keeps t l b = execute-keeps l _ _ (position l) (runningWord l) (runningNumber l) (eventWord t (runningEvent l) 2) b
 
 -- ---- steps
 
 best-low : (t l : List ℕ) (n : ℕ) → best t l n ≤ n - 1
-unfolding best better either
+unfolding best better eitherSlot
 best-low t l zero = omega arith
 best-low t l (suc n) =
     by-test (λ b. b ≤ suc n - 1) (ahead (eventWord t (eventAt l n) 0) (numberAt l n) (eventWord t (eventAt l (best t l n)) 0) (numberAt l (best t l n)))
@@ -158,14 +158,14 @@ preempt-keeps : (l : List ℕ) (b : ℕ) → b < 64 → Keeps l (preemptAt l b)
 unfolding preemptAt
 preempt-keeps l b h = kept-run _ (numberAt l b) (wordAt l b) (kept-slot l b (runningNumber l) (runningWord l) h (kept-all l))
 
-contest-keeps : (t l : List ℕ) (b : ℕ) → depth l ≤ 64 → b < 64 → Keeps l (contest t l b)
-unfolding contest meet
+contest-keeps : (t l : List ℕ) (b : ℕ) → depth l ≤ 64 → b < 64 → Keeps l (contestOn t l b)
+unfolding contestOn meet
 contest-keeps t l b s h =
-    by-test (Keeps l) (masked (eventWord t (runningEvent l) 2) (eventWord t (runningEvent l) 3) (position l)) (λ _. advance-keeps t l s)
+    by-test (Keeps l) (isMasked (eventWord t (runningEvent l) 2) (eventWord t (runningEvent l) 3) (position l)) (λ _. advance-keeps t l s)
     (λ _. by-test (Keeps l) (ltb (eventWord t (runningEvent l) 0) (eventWord t (eventAt l b) 0)) (λ _. preempt-keeps l b h) (λ _. advance-keeps t l s))
 
 step-in-keeps : (t l : List ℕ) → waitingCount l ≤ 64 → depth l ≤ 64 → Keeps l (stepIn t l)
-unfolding stepIn stepWith resting running
+unfolding stepIn stepWith whileResting whileRunning
 step-in-keeps t l w s =
     let n = waitingCount l in
     let b : best t l n < 64 = omega (arith, best-low t l n) in
@@ -190,8 +190,8 @@ rested-keeps : {l : List ℕ} (m : List ℕ) → Kept l m → Kept l (rested m)
 unfolding rested
 rested-keeps m h = kept-put _ 7 0 (omega arith) (kept-put _ 6 0 (omega arith) (kept-put m 2 0 (omega arith) h))
 
-shown-keeps : (t m : List ℕ) {l : List ℕ} (o : List ℕ) (n : ℕ) → n ≤ 64 → Kept l o → Kept l (shown t m o n)
-unfolding shown
+shown-keeps : (t m : List ℕ) {l : List ℕ} (o : List ℕ) (n : ℕ) → n ≤ 64 → Kept l o → Kept l (storeShown t m o n)
+unfolding storeShown
 shown-keeps t m o zero b h = h
 shown-keeps t m o (suc n) b h = kept-put _ (136 + n) (shownFor t m n) (omega arith) (shown-keeps t m o n (omega arith) h)
 
@@ -206,22 +206,22 @@ mend-keeps old t l =
     let r = carryOn old t l (replicate 2048 0) in
     by-test (Keeps l) (ours old l)
     (λ o. by-test (Keeps l) (tableFits t)
-    (λ _. by-test (Keeps l) (eqb (verdict (r .0) (settlingOn old l) (handKnown t l)) 0) (λ _. mended-keeps t (r .1) l (bounds old l o .round .room)) (λ _. kept-all l))
+    (λ _. by-test (Keeps l) (eqb (verdict (r .0) (copyBackOn old l) (handKnown t l)) 0) (λ _. mended-keeps t (r .1) l (bounds old l o .round .room)) (λ _. kept-all l))
     (λ _. kept-all l))
     (λ _. kept-all l)
 
-pub mend-beyond : (old t l : List ℕ) → Untouched 2048 l (mendOn old t l .1)
+pub mend-beyond : (old t l : List ℕ) → UntouchedFrom 2048 l (mendOn old t l .1)
 mend-beyond old t l = within l (mendOn old t l .1) (mend-keeps old t l)
 
 -- ---- every call, and every list of calls
 
-pub start-beyond : (t l : List ℕ) → Untouched 2048 l (startOn t l .1)
+pub start-beyond : (t l : List ℕ) → UntouchedFrom 2048 l (startOn t l .1)
 start-beyond t l = within l (startOn t l .1) (start-keeps t l)
 
-pub arrive-beyond : (t l : List ℕ) (e who : ℕ) → Untouched 2048 l (arriveOn t l e who .1)
+pub arrive-beyond : (t l : List ℕ) (e who : ℕ) → UntouchedFrom 2048 l (arriveOn t l e who .1)
 arrive-beyond t l e who = within l (arriveOn t l e who .1) (arrive-keeps t l e who)
 
-pub step-beyond : (t l : List ℕ) → Untouched 2048 l (stepOn t l .1)
+pub step-beyond : (t l : List ℕ) → UntouchedFrom 2048 l (stepOn t l .1)
 step-beyond t l = within l (stepOn t l .1) (step-keeps t l)
 
 call-keeps : (t : List ℕ) (c : Call) (l : List ℕ) → Keeps l (callOn t c l)
@@ -235,12 +235,12 @@ unfolding roundAfter bytesAfter turnOnBytes
 calls-keep t [] l = kept-all l
 calls-keep t (c ∷ cs) l = kept-trans (call-keeps t c l) (calls-keep t cs (callOn t c l .1))
 
-pub calls-beyond : (t : List ℕ) (cs : List Call) (l : List ℕ) → Untouched 2048 l (roundAfter t cs l)
+pub calls-beyond : (t : List ℕ) (cs : List Call) (l : List ℕ) → UntouchedFrom 2048 l (roundAfter t cs l)
 calls-beyond t cs l = within l (roundAfter t cs l) (calls-keep t cs l)
 
 -- ---- compile
 
-pub compile-beyond : (s ps t : List ℕ) → All (λ b. b < 256) s → All (λ b. b < 256) ps → Untouched 34816 t (compileOn s ps t .1)
+pub compile-beyond : (s ps t : List ℕ) → All (λ b. b < 256) s → All (λ b. b < 256) ps → UntouchedFrom 34816 t (compileOn s ps t .1)
 compile-beyond s ps t bytes words =
     by-cases (ℕ-discrete (compileOn s ps t .0) 0)
     (λ h.
@@ -252,6 +252,6 @@ compile-beyond s ps t bytes words =
     let small = ok .fits .few-behaviours in
     let seen : length (p .viewers) ≤ 64 = omega (arith, ok .fits .all-viewers) in
     let sent : length (p .senders) ≤ 32 = omega (arith, ok .fits .all-senders) in
-    subst (λ (m : List ℕ). Untouched 34816 t m) (sym (ap (λ (o : Compiled). o .1) (k .3)))
+    subst (λ (m : List ℕ). UntouchedFrom 34816 t m) (sym (ap (λ (o : Compiled). o .1) (k .3)))
     (untouched 34816 t (tableOf p t) (length-table p few small (length-fresh p) (short-code p ok) seen sent t room) (beyond-table p few small (length-fresh p) (short-code p ok) seen sent t room)))
-    (λ h. subst (λ (m : List ℕ). Untouched 34816 t m) (sym (refused-unchanged s ps t h)) (refl, refl))
+    (λ h. subst (λ (m : List ℕ). UntouchedFrom 34816 t m) (sym (refused-unchanged s ps t h)) (refl, refl))

@@ -24,17 +24,17 @@ use Rattle.spec_semantics.proofs.Solution.{first-solves}
 use Rattle.spec_model.specs.Model.{runTurns}
 use Rattle.spec_model.specs.Claims.{moments}
 use Rattle.format_layout.specs.Layout.{eventWord}
-use Rattle.format_image.specs.Image.{startOf, tableOf}
+use Rattle.format_image.specs.Image.{codeStart, tableOf}
 use Rattle.format_image.proofs.ImageLaws.{Says}
 use Rattle.back_compile.specs.Verdict.{Compiled, programOf, compileOn}
 use Rattle.back_compile.proofs.AcceptedExactly.{accepted-exactly}
-use Rattle.run_start.specs.Start.{Result}
+use Rattle.run_start.specs.Start.{CallResult}
 use Rattle.refine_calls.specs.Refinement.{bytesAfter}
 use Rattle.refine_calls.proofs.Refines.{valid, accepted-says}
 use Rattle.refine_lists.specs.Lists.{boardOf, freshRoundOn, OnlyCalls}
 use Rattle.refine_lists.proofs.Sheets.{table-room, program-accepted, begun}
 use Rattle.refine_lists.proofs.FromSheets.{some-turns, list-of, calls-of, two-lists-hold, two-only-calls-hold}
-use Rattle.engine.specs.Demand.{CodeIn, EverySheet, Whole}
+use Rattle.engine.specs.Demand.{CodeIn, EverySheet, WholeDemand}
 
 -- what a table says of a program, read by `get`
 code-in : (p : Program) (t : List ℕ) → Says p t → (e : ℕ) → e < events p → CodeIn p t e
@@ -45,7 +45,7 @@ code-in p t says e h =
     let z₁ : 8 + e * 4 + 1 ≡ 9 + e * 4 = omega arith in
     let z₂ : 8 + e * 4 + 2 ≡ 10 + e * 4 = omega arith in
     let z₃ : 8 + e * 4 + 3 ≡ 11 + e * 4 = omega arith in
-    let start : get t (9 + e * 4) ≡ startOf p e = rw (few, z₁) at (says .starts e h) in
+    let start : get t (9 + e * 4) ≡ codeStart p e = rw (few, z₁) at (says .starts e h) in
     let count : get t (10 + e * 4) ≡ length (code p e) = rw (few, z₂) at (says .lengths e h) in
     record {
       priority = rw (few, z₀) at (says .priorities e h);
@@ -84,7 +84,7 @@ every-sheet s ps t₀ l₀ bytes words room h =
       accepted = ok;
       table = e;
       code = λ x d. subst (λ (t : List ℕ). CodeIn p t x) (sym e) (code-in p (tableOf p t₀) (accepted-says p ok t₀ a) x d);
-      begun = ap (λ (r : Result). r .0) (begun p ok t₀ l₀ (compileOn s ps t₀ .1) a room e);
+      begun = ap (λ (r : CallResult). r .0) (begun p ok t₀ l₀ (compileOn s ps t₀ .1) a room e);
       board = fresh-board p s ps t₀ l₀ (calls []);
       values = fresh-shows p (valid p ok);
       values-alone = fresh-alone p (valid p ok);
@@ -93,5 +93,5 @@ every-sheet s ps t₀ l₀ bytes words room h =
     }
 
 -- demand 3
-pub whole : Whole
+pub whole : WholeDemand
 whole = record { every-list = every-sheet; two-lists = two-lists-hold; two-only-calls = two-only-calls-hold }

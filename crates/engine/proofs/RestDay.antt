@@ -22,28 +22,28 @@ use Rattle.spec_model.specs.Claims.{after}
 use Rattle.format_image.specs.Image.{tableOf}
 use Rattle.back_compile.specs.Verdict.{Compiled, compiled, programOf, compileOn}
 use Rattle.back_compile.proofs.AcceptedExactly.{accepted-exactly, never-two}
-use Rattle.run_start.specs.Start.{Result, startOn}
+use Rattle.run_start.specs.Start.{CallResult, startOn}
 use Rattle.refine_calls.specs.Refinement.{coded, callOn, roundAfter, calls, Bytes, bytes, turnOnBytes, bytesAfter}
 use Rattle.refine_calls.proofs.TurnsRefine.{Stand}
 use Rattle.refine_calls.proofs.TurnsRefine as refine
 use Rattle.refine_lists.proofs.Sheets.{begun as begins}
 use Rattle.refine_lists.proofs.ListsHold.{turns-calls}
 use Rattle.refine_lists.proofs.OnlyCallsHold.{table-stays}
-use Rattle.engine.specs.RestDay.{blank, nothing, Resting, RestDay}
+use Rattle.engine.specs.RestDay.{emptySheet, emptyProgram, RestDayRound, RestDay}
 
 -- ---- it is accepted
 
-no-bytes : encode blank ≡ []
+no-bytes : encode emptySheet ≡ []
 unfolding encode encodeEvents encodeBehaviours
 no-bytes = refl
 
 -- nothing depends on anything
-no-chain : (e : ℕ) {i j : ℕ} → Reach (dependsOn nothing e) i j → ⊥
+no-chain : (e : ℕ) {i j : ℕ} → Reach (dependsOn emptyProgram e) i j → ⊥
 unfolding handled
 no-chain e (one d) = true≢false (sym d)
 no-chain e (more r d) = no-chain e r
 
-nothing-accepted : Accepted nothing
+nothing-accepted : Accepted emptyProgram
 unfolding allInstructions sum upTo
 nothing-accepted = record {
   fits = record {
@@ -61,11 +61,11 @@ nothing-accepted = record {
   short = omega arith;
 }
 
-means-nothing : (ps : List ℕ) → programOf ps blank ≡ nothing
+means-nothing : (ps : List ℕ) → programOf ps emptySheet ≡ emptyProgram
 unfolding fillEntries entriesOut flatMap
 means-nothing ps = refl
 
-blank-accepted : (ps : List ℕ) → SheetAccepted (get ps) (length ps) blank
+blank-accepted : (ps : List ℕ) → SheetAccepted (get ps) (length ps) emptySheet
 unfolding fillEntries usesEntries entriesOut flatMap cellCount
 blank-accepted ps = record {
   fits = record {
@@ -81,25 +81,25 @@ blank-accepted ps = record {
   short = nothing-accepted .short;
 }
 
-compiles : (ps t₀ : List ℕ) → 34816 ≤ length t₀ → compileOn [] ps t₀ ≡ compiled 0 (tableOf nothing t₀)
+compiles : (ps t₀ : List ℕ) → 34816 ≤ length t₀ → compileOn [] ps t₀ ≡ compiled 0 (tableOf emptyProgram t₀)
 compiles ps t₀ room =
-    accepted-exactly [] ps t₀ tt room .1 blank no-bytes (blank-accepted ps) ∙ ap (λ (p : Program). compiled 0 (tableOf p t₀)) (means-nothing ps)
+    accepted-exactly [] ps t₀ tt room .1 emptySheet no-bytes (blank-accepted ps) ∙ ap (λ (p : Program). compiled 0 (tableOf p t₀)) (means-nothing ps)
 
-table-is : (ps t₀ : List ℕ) → 34816 ≤ length t₀ → compileOn [] ps t₀ .1 ≡ tableOf nothing t₀
+table-is : (ps t₀ : List ℕ) → 34816 ≤ length t₀ → compileOn [] ps t₀ .1 ≡ tableOf emptyProgram t₀
 table-is ps t₀ room = ap (λ (r : Compiled). r .1) (compiles ps t₀ room)
 
 -- ---- its round rests
 
 -- no arrival changes it
-refuses : (e who : ℕ) → act nothing (arrive e who) (initial nothing) .after ≡ initial nothing
+refuses : (e who : ℕ) → act emptyProgram (arrive e who) (initial emptyProgram) .after ≡ initial emptyProgram
 unfolding act
 refuses e who =
-    by-test (λ (o : Outcome). o .after ≡ initial nothing) (leb 8 who) (λ _. refl) (λ _. rw (le-leb 0 e (omega arith)))
+    by-test (λ (o : Outcome). o .after ≡ initial emptyProgram) (leb 8 who) (λ _. refl) (λ _. rw (le-leb 0 e (omega arith)))
 
-stays : (cs : List Call) → after nothing (map call cs) ≡ begun nothing
+stays : (cs : List Call) → after emptyProgram (map call cs) ≡ begun emptyProgram
 unfolding act turn runTurns
 stays [] = refl
-stays (arrive e who ∷ cs) = ap (λ (w : Engine). runTurns (map call cs) (state nothing w)) (refuses e who) ∙ stays cs
+stays (arrive e who ∷ cs) = ap (λ (w : Engine). runTurns (map call cs) (state emptyProgram w)) (refuses e who) ∙ stays cs
 stays (step ∷ cs) = stays cs
 stays (board i who ∷ cs) = stays cs
 
@@ -111,22 +111,22 @@ module _ (ps t₀ l₀ : List ℕ) (room : 34816 ≤ length t₀) (round-room : 
   round = startOn table l₀ .1
 
   -- how the bytes stand after the calls: as those of the model engine that has just begun
-  stands : (cs : List Call) → Stand l₀ (bytesAfter (map calls cs) (bytes table round)) (begun nothing)
+  stands : (cs : List Call) → Stand l₀ (bytesAfter (map calls cs) (bytes table round)) (begun emptyProgram)
   stands cs =
-      let fresh-is : refine.freshFrom nothing nothing-accepted t₀ l₀ room round-room ≡ bytes table round =
-      λ i. bytes (sym (table-is ps t₀ room) i) (sym (ap (λ (r : Result). r .1) (begins nothing nothing-accepted t₀ l₀ table room round-room (table-is ps t₀ room))) i) in
+      let fresh-is : refine.freshFrom emptyProgram nothing-accepted t₀ l₀ room round-room ≡ bytes table round =
+      λ i. bytes (sym (table-is ps t₀ room) i) (sym (ap (λ (r : CallResult). r .1) (begins emptyProgram nothing-accepted t₀ l₀ table room round-room (table-is ps t₀ room))) i) in
       subst (Stand l₀ (bytesAfter (map calls cs) (bytes table round))) (stays cs)
-      (subst (λ (b : Bytes). Stand l₀ (bytesAfter (map calls cs) b) (after nothing (map call cs))) fresh-is
-      (refine.runs nothing nothing-accepted t₀ l₀ room round-room (map calls cs) (map call cs) (turns-calls [] [] cs tt) .stand))
+      (subst (λ (b : Bytes). Stand l₀ (bytesAfter (map calls cs) b) (after emptyProgram (map call cs))) fresh-is
+      (refine.runs emptyProgram nothing-accepted t₀ l₀ room round-room (map calls cs) (map call cs) (turns-calls [] [] cs tt) .stand))
 
   -- so one more call is answered as by that engine
-  answers : (cs : List Call) (c : Call) → callOn table c (roundAfter table cs round) .0 ≡ coded (act nothing c (initial nothing) .answer)
+  answers : (cs : List Call) (c : Call) → callOn table c (roundAfter table cs round) .0 ≡ coded (act emptyProgram c (initial emptyProgram) .answer)
   unfolding roundAfter turnOnBytes turn
   answers cs c =
       ap (λ (t : List ℕ). callOn t c (bytesAfter (map calls cs) (bytes table round) .round) .0) (sym (table-stays cs (bytes table round)))
-      ∙ refine.turned l₀ (bytesAfter (map calls cs) (bytes table round)) (calls c) (begun nothing) (call c) refl (stands cs) .answered
+      ∙ refine.turned l₀ (bytesAfter (map calls cs) (bytes table round)) (calls c) (begun emptyProgram) (call c) refl (stands cs) .answered
 
-  rests : (cs : List Call) → Resting table round cs
+  rests : (cs : List Call) → RestDayRound table round cs
   unfolding callOn act
   rests cs = record {
     idle = answers cs step;
@@ -135,7 +135,7 @@ module _ (ps t₀ l₀ : List ℕ) (room : 34816 ≤ length t₀) (round-room : 
   }
 
   starts : startOn table l₀ .0 ≡ 0
-  starts = ap (λ (r : Result). r .0) (begins nothing nothing-accepted t₀ l₀ table room round-room (table-is ps t₀ room))
+  starts = ap (λ (r : CallResult). r .0) (begins emptyProgram nothing-accepted t₀ l₀ table room round-room (table-is ps t₀ room))
 
 -- M-106
 pub rest-day : RestDay

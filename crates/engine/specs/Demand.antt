@@ -19,7 +19,7 @@ use Rattle.spec_language.specs.Code.{off, code, members}
 use Rattle.spec_semantics.specs.Rules.{Shows}
 use Rattle.spec_semantics.specs.Meaning.{at, fresh}
 use Rattle.spec_model.specs.Model.{Call, Turn}
-use Rattle.format_image.specs.Image.{operation, constant, startOf, tableOf}
+use Rattle.format_image.specs.Image.{operation, constant, codeStart, tableOf}
 use Rattle.back_compile.specs.Verdict.{programOf, compileOn}
 use Rattle.run_start.specs.Start.{startOn}
 use Rattle.refine_lists.specs.Lists.{boardOf, OneList, OnlyCalls, SheetTurn, Compiles, onBytes, AllMean, freshRoundOn, TwoLists, TwoOnlyCalls}
@@ -29,7 +29,7 @@ use Rattle.refine_lists.specs.Lists.{boardOf, OneList, OnlyCalls, SheetTurn, Co
 pub record CodeIn (p : Program) (t : List ℕ) (e : ℕ) : Type 0 where
   -- its record
   pub priority : get t (8 + e * 4) ≡ getD (p .priorities) e 0
-  pub start : get t (9 + e * 4) ≡ startOf p e
+  pub start : get t (9 + e * 4) ≡ codeStart p e
   pub count : get t (10 + e * 4) ≡ length (code p e)
   pub in-C : get t (11 + e * 4) ≡ members p e
   -- and from where the record says that it begins, two words for each instruction
@@ -70,7 +70,7 @@ EverySheet =
 
 -- ---- demand 3, whole
 
-pub record Whole : Type 0 where
+pub record WholeDemand : Type 0 where
   pub every-list : EverySheet
   -- "And for every two such lists on one sheet ..: when both are idle, their boards are equal.", with changes, and of
   -- calls alone

@@ -20,16 +20,16 @@ use Rattle.run_step.specs.Machine.{stepOn}
 use Rattle.refine_calls.specs.Refinement.{roundAfter, bytes}
 
 -- "a sheet with no events and no behaviours"
-abbrev pub blank : Sheet
-blank = sheet [] []
+abbrev pub emptySheet : Sheet
+emptySheet = sheet [] []
 
 -- the program that it means, whatever its parameters are
-abbrev pub nothing : Program
-nothing = record { priorities = []; senders = []; behaviours = []; viewers = [] }
+abbrev pub emptyProgram : Program
+emptyProgram = record { priorities = []; senders = []; behaviours = []; viewers = [] }
 
 -- "its round idle, every arrival refused by 15 and every board reading by 18": after the calls cs on the table t and
 -- the round l, of each of the eight players (02, M-107: 24 for others)
-pub record Resting (t l : List ℕ) (cs : List Call) : Type 0 where
+pub record RestDayRound (t l : List ℕ) (cs : List Call) : Type 0 where
   pub idle : stepOn t (roundAfter t cs l) .0 ≡ 0
   pub arrivals : (e who : ℕ) → who < 8 → arriveOn t (roundAfter t cs l) e who .0 ≡ 15
   pub readings : (i who : ℕ) → who < 8 → boardOn t (roundAfter t cs l) i who ≡ 18
@@ -39,14 +39,14 @@ pub record Resting (t l : List ℕ) (cs : List Call) : Type 0 where
 pub record RestDay : Type 0 where
   -- no bytes are the encoding of that sheet, which meets 01's grammar and limits and means that program, whatever is
   -- lent for parameters
-  pub bytes : encode blank ≡ []
-  pub within : (ps : List ℕ) → SheetAccepted (get ps) (length ps) blank
-  pub means : (ps : List ℕ) → programOf ps blank ≡ nothing
+  pub bytes : encode emptySheet ≡ []
+  pub within : (ps : List ℕ) → SheetAccepted (get ps) (length ps) emptySheet
+  pub means : (ps : List ℕ) → programOf ps emptySheet ≡ emptyProgram
   -- compile takes the sheet, and leaves that program's table
   pub accepted : (ps t₀ : List ℕ) → 34816 ≤ length t₀ → compileOn [] ps t₀ .0 ≡ 0
-  pub table : (ps t₀ : List ℕ) → 34816 ≤ length t₀ → compileOn [] ps t₀ .1 ≡ tableOf nothing t₀
+  pub table : (ps t₀ : List ℕ) → 34816 ≤ length t₀ → compileOn [] ps t₀ .1 ≡ tableOf emptyProgram t₀
   pub begun : (ps t₀ l₀ : List ℕ) → 34816 ≤ length t₀ → 2048 ≤ length l₀ → startOn (compileOn [] ps t₀ .1) l₀ .0 ≡ 0
   pub at-rest : (ps t₀ l₀ : List ℕ) → 34816 ≤ length t₀ → 2048 ≤ length l₀ → (cs : List Call)
-      → Resting (compileOn [] ps t₀ .1) (startOn (compileOn [] ps t₀ .1) l₀ .1) cs
+      → RestDayRound (compileOn [] ps t₀ .1) (startOn (compileOn [] ps t₀ .1) l₀ .1) cs
   -- "Number 2 never occurs again."
   pub never-blank : (s ps t : List ℕ) → compileOn s ps t .0 ≢ 2

@@ -8,7 +8,7 @@ ghost use Rattle.back_compile.specs.Verdict.{compiled, compileOn};
 ghost use Rattle.check_circle.specs.Witness.{Witnessed};
 ghost use Rattle.check_agree.specs.Agree.{agreeOn};
 ghost use Rattle.check_leak.specs.Leak.{leakOn};
-ghost use Rattle.run_start.specs.Start.{result, startOn};
+ghost use Rattle.run_start.specs.Start.{callResult, startOn};
 ghost use Rattle.run_arrive.specs.Arrivals.{arriveOn};
 ghost use Rattle.run_board.specs.Board.{boardOn};
 ghost use Rattle.run_mend.specs.Mending.{mendOn};
@@ -46,7 +46,7 @@ pub extern "C" fn circle(sheet: &[u8], params: &[u8], list: &mut [u8]) -> u64
 // A fresh round. 0, or 14.
 #[no_mangle]
 pub extern "C" fn start(table: &[u8], round: &mut [u8]) -> u32
-    ensures { λ r. ⌜ result r (now (round .exit)) ≡ startOn (now (table .entry)) (now (round .entry)) ⌝ }
+    ensures { λ r. ⌜ callResult r (now (round .exit)) ≡ startOn (now (table .entry)) (now (round .entry)) ⌝ }
     ensures { λ _. ⌜ now (table .exit) ≡ now (table .entry) ⌝ }
 {
     run_start::start_round(table, round)
@@ -55,7 +55,7 @@ pub extern "C" fn start(table: &[u8], round: &mut [u8]) -> u32
 // An event arrives, sent by a player. 0, or 14, 24, 15, 25, 16, 17.
 #[no_mangle]
 pub extern "C" fn arrive(table: &[u8], round: &mut [u8], event: u32, player: u32) -> u32
-    ensures { λ r. ⌜ result r (now (round .exit)) ≡ arriveOn (now (table .entry)) (now (round .entry)) event player ⌝ }
+    ensures { λ r. ⌜ callResult r (now (round .exit)) ≡ arriveOn (now (table .entry)) (now (round .entry)) event player ⌝ }
     ensures { λ _. ⌜ now (table .exit) ≡ now (table .entry) ⌝ }
 {
     run_arrive::arrive_at(table, round, event, player)
@@ -65,7 +65,7 @@ pub extern "C" fn arrive(table: &[u8], round: &mut [u8], event: u32, player: u32
 // number; or 14. With a commit 2 ^ 56 more where the event ran over (02, M-104): the host's answer.
 #[no_mangle]
 pub extern "C" fn step(table: &[u8], round: &mut [u8]) -> u64
-    ensures { λ r. ⌜ result r (now (round .exit)) ≡ stepOn (now (table .entry)) (now (round .entry)) ⌝ }
+    ensures { λ r. ⌜ callResult r (now (round .exit)) ≡ stepOn (now (table .entry)) (now (round .entry)) ⌝ }
     ensures { λ _. ⌜ now (table .exit) ≡ now (table .entry) ⌝ }
 {
     run_step::step_at(table, round)
@@ -121,7 +121,7 @@ pub extern "C" fn preview(
 // of both sheets keep their value. 0, or 14, 19, 28, the round as it was.
 #[no_mangle]
 pub extern "C" fn mend(old: &[u8], table: &[u8], round: &mut [u8]) -> u32
-    ensures { λ r. ⌜ result r (now (round .exit)) ≡ mendOn (now (old .entry)) (now (table .entry)) (now (round .entry)) ⌝ }
+    ensures { λ r. ⌜ callResult r (now (round .exit)) ≡ mendOn (now (old .entry)) (now (table .entry)) (now (round .entry)) ⌝ }
     ensures { λ _. ⌜ now (old .exit) ≡ now (old .entry) ⌝ }
     ensures { λ _. ⌜ now (table .exit) ≡ now (table .entry) ⌝ }
 {
@@ -163,7 +163,7 @@ const WORD: u64 = 4294967296;
 
 // One call of the record.
 fn make_call(table: &[u8], round: &mut [u8], kind: u8, n: u32, player: u32) -> u64
-    ensures { λ r. ⌜ result r (now (round .exit)) ≡ callOn (now (table .entry)) (callOf kind n player) (now (round .entry)) ⌝ }
+    ensures { λ r. ⌜ callResult r (now (round .exit)) ≡ callOn (now (table .entry)) (callOf kind n player) (now (round .entry)) ⌝ }
 {
     if kind == 0 {
         return arrive(table, round, n, player) as u64;

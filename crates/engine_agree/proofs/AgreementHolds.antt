@@ -13,7 +13,7 @@ use Rattle.spec_language.specs.Dependence.{Independent}
 use Rattle.spec_language.specs.Grammar.{encode}
 use Rattle.spec_language.specs.Accepted.{SheetAccepted}
 use Rattle.spec_model.specs.Model.{Arrival, Answer, refused, takenIn, shows, idle, ran, started, preempted, committed, rank, Turn, call, change, Reply, says, carriedOver, replies, begun}
-use Rattle.spec_model.specs.Claims.{takenInBy, Moment, commits, changes, ifCommits, momentOf, moments, historyOf, Course, last, then, onward, courseOf, ApartIn, ApartEach}
+use Rattle.spec_model.specs.Claims.{takenInBy, Moment, commits, changes, ifCommits, momentOf, moments, historyOf, Course, last, thenChange, onward, courseOf, ApartIn, ApartEach}
 use Rattle.back_compile.specs.Verdict.{programOf}
 use Rattle.refine_lists.specs.Lists.{SheetTurn, calling, mending, Compiles, AllMean}
 use Rattle.refine_lists.proofs.Sheets.{program-accepted}
@@ -62,7 +62,7 @@ GoodMoment (changes q) = Good q
 
 abbrev GoodCourse : Course → Type 0
 GoodCourse (last l) = Unit {0}
-GoodCourse (then l q c) = Good q × GoodCourse c
+GoodCourse (thenChange l q c) = Good q × GoodCourse c
 
 commits-good : (a : Answer) (l : List Moment) → All GoodMoment l → All GoodMoment (ifCommits a l)
 commits-good (refused n) l h = h
@@ -88,7 +88,7 @@ moments-good (t ∷ ts) (r ∷ rs) g = moment-good t r (moments ts rs) (g .0) (m
 
 onward-good : (a : Arrival) (c : Course) → GoodCourse c → GoodCourse (onward a c)
 onward-good a (last l) h = tt
-onward-good a (then l q c) h = h
+onward-good a (thenChange l q c) h = h
 
 course-good : (h : List Moment) → All GoodMoment h → GoodCourse (courseOf h)
 unfolding courseOf
@@ -98,7 +98,7 @@ course-good (changes q ∷ h) g = (g .0, course-good h (g .1))
 
 apart-each : (p : Program) (c : Course) → Good p → GoodCourse c → ApartEach p c
 apart-each p (last l) g h = good-in p g l
-apart-each p (then l q c) g h = (good-in p g l, apart-each q c (h .0) (h .1))
+apart-each p (thenChange l q c) g h = (good-in p g l, apart-each q c (h .0) (h .1))
 
 turn-good : (xs : List SheetTurn) (ts : List Turn) → AllMean xs ts → All Compiles xs → All AgreesToo xs → All GoodTurn ts
 turn-good [] [] m k a = tt

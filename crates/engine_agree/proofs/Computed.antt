@@ -27,8 +27,8 @@ use Rattle.check_graph.specs.Matrix.{closeCell, closeRow, closeThrough, closeRo
 use Rattle.check_faults.specs.Faults.{knownIn, knownHandlers, knownBehaviours, known, matrixOf, anyBelow}
 use Rattle.check_faults.proofs.CycleDecides.{known-decides}
 use Rattle.check_reads.specs.First.{firstFrom}
-use Rattle.check_reads.specs.Named.{namedIn, throughPassives, namedBy}
-use Rattle.check_agree.specs.Answer.{packed}
+use Rattle.check_reads.specs.Named.{namedDirectly, throughPassives, namedBy}
+use Rattle.check_agree.specs.Answer.{packedDifference}
 use Rattle.check_agree.specs.Agree.{clashes, clashOf, clashFrom, clashIn, agreeOn}
 use Rattle.engine_agree.specs.Final.{final, finalBytes, finalProgram, atOnce, oneByOne}
 
@@ -128,8 +128,8 @@ final-taken =
 
 -- ---- what is named
 
-pub clash-is : clashIn finalProgram ≡ packed 0 1 0
-unfolding flatMap entriesOut fillTerm fillClauses fillEntries handled mentions upTo anyBelow matrixOf closed closeBy closeRows closeThrough closeRow closeCell firstFrom namedIn throughPassives namedBy packed clashes clashOf clashFrom clashIn
+pub clash-is : clashIn finalProgram ≡ packedDifference 0 1 0
+unfolding flatMap entriesOut fillTerm fillClauses fillEntries handled mentions upTo anyBelow matrixOf closed closeBy closeRows closeThrough closeRow closeCell firstFrom namedDirectly throughPassives namedBy packedDifference clashes clashOf clashFrom clashIn
 clash-is = refl
 
 -- ---- its bytes

@@ -1,6 +1,6 @@
 -- The condition is needed: a final in which two phones take in the same events in the same order and end with other
 -- points. A hit, of rank 2, adds 10 points unless time is up; the time-up, of rank 9, says that it is. On one phone the
--- time-up arrives while both hits wait, and goes first: no points. On the other each hit has been settled before the
+-- time-up arrives while both hits wait, and goes first: no points. On the other each hit commits before the
 -- next event arrives: 20 points.
 use Prim.Native.Nat.{ℕ, _≤_}
 use mathlib.Core.Option.{none}
@@ -18,7 +18,7 @@ use Rattle.spec_model.specs.Claims.{takenInBy, eventsOf}
 use Rattle.back_compile.specs.Verdict.{programOf}
 use Rattle.refine_calls.specs.Refinement.{calls, Bytes, bytesAfter}
 use Rattle.refine_lists.specs.Lists.{boardOf, IdleNow, freshRoundOn}
-use Rattle.check_agree.specs.Answer.{packed}
+use Rattle.check_agree.specs.Answer.{packedDifference}
 use Rattle.check_agree.specs.Agree.{agreeOn}
 
 -- event 0 is a hit, event 1 the time-up; b0 says that time is up, b1 has the points
@@ -49,7 +49,7 @@ roundOf t l cs = bytesAfter (map calls cs) (freshRoundOn finalBytes [] t l)
 pub record Needed : Type 0 where
   -- compile accepts the sheet, and `agree` names the hit, the time-up and b0
   pub taken : SheetAccepted (get []) 0 final
-  pub named : agreeOn finalBytes [] ≡ packed 0 1 0
+  pub named : agreeOn finalBytes [] ≡ packedDifference 0 1 0
   -- the two lists take in the same events in the same order
   pub same : eventsOf (takenInBy finalProgram (map call atOnce)) ≡ eventsOf (takenInBy finalProgram (map call oneByOne))
   -- both end idle, with no points and with 20

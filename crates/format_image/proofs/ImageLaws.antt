@@ -20,7 +20,7 @@ use Rattle.spec_language.specs.Code.{Instr, off, secondPart, restorePart, code,
 use Rattle.spec_language.proofs.Laws.{length-upTo, getD-upTo}
 use Rattle.spec_semantics.specs.Meaning.{at, fresh}
 use Rattle.format_layout.specs.Layout.{eventWord, codeFits, codesFit, tableWith, tableFits}
-use Rattle.format_image.specs.Image.{operation, constant, codeWords, allCode, startOf, eventRecord, padded, kindOf, passivesCode, beforePassives, tableCode, passivesAt, kindWords, passiveWords, boardWords, imageWords, putWords, tableOf}
+use Rattle.format_image.specs.Image.{operation, constant, codeWords, allCode, codeStart, eventRecord, padded, kindNumber, passivesCode, beforePassives, tableCode, passivesAt, kindWords, passiveWords, boardWords, imageWords, putWords, tableOf}
 use Rattle.format_image.proofs.PutWords.{length-putWords}
 
 -- ---- lists
@@ -153,17 +153,17 @@ pub record Says (p : Program) (t : List ℕ) : Type 0 where
   pub few-events : events p ≤ 32
   pub few-behaviours : size p ≤ 64
   pub priorities : (e : ℕ) → e < events p → eventWord t e 0 ≡ getD (p .priorities) e 0
-  pub starts : (e : ℕ) → e < events p → eventWord t e 1 ≡ startOf p e
+  pub starts : (e : ℕ) → e < events p → eventWord t e 1 ≡ codeStart p e
   pub lengths : (e : ℕ) → e < events p → eventWord t e 2 ≡ length (code p e)
   pub in-C : (e : ℕ) → e < events p → eventWord t e 3 ≡ members p e
   pub values : (i : ℕ) → i < size p → get t (136 + i) ≡ at (fresh p) i
   pub viewers : (i : ℕ) → i < size p → get t (200 + i) ≡ getD (p .viewers) i 0
   pub senders : (e : ℕ) → e < events p → get t (264 + e) ≡ getD (p .senders) e 0
-  pub within : (e : ℕ) → e < events p → startOf p e + length (code p e) ≤ 4096
-  pub operations : (e c : ℕ) → e < events p → c < length (code p e) → get t (512 + (startOf p e + c) * 2) ≡ operation (getD (code p e) c off)
-  pub constants : (e c : ℕ) → e < events p → c < length (code p e) → get t (513 + (startOf p e + c) * 2) ≡ constant (getD (code p e) c off)
+  pub within : (e : ℕ) → e < events p → codeStart p e + length (code p e) ≤ 4096
+  pub operations : (e c : ℕ) → e < events p → c < length (code p e) → get t (512 + (codeStart p e + c) * 2) ≡ operation (getD (code p e) c off)
+  pub constants : (e c : ℕ) → e < events p → c < length (code p e) → get t (513 + (codeStart p e + c) * 2) ≡ constant (getD (code p e) c off)
   pub fits : tableFits t ≡ true
-  pub kinds : (i : ℕ) → i < size p → get t (296 + i) ≡ kindOf (behaviourAt p i)
+  pub kinds : (i : ℕ) → i < size p → get t (296 + i) ≡ kindNumber (behaviourAt p i)
   pub passives-start : get t 360 ≡ passivesAt p
   pub passives-length : get t 361 ≡ length (passivesCode p)
   pub passives-within : length (passivesCode p) ≤ 4096 → passivesAt p + length (passivesCode p) ≤ 4096
@@ -204,7 +204,7 @@ module _ (p : Program) (few : events p ≤ 32) (small : size p ≤ 64) (whole : 
 
   length-kinds : length (kindWords p) ≤ 64
   unfolding kindWords
-  length-kinds = rw (length-upTo (size p) (λ i. kindOf (behaviourAt p i))) small
+  length-kinds = rw (length-upTo (size p) (λ i. kindNumber (behaviourAt p i))) small
 
   length-passives : length (passiveWords p) ≡ 216
   unfolding passiveWords
@@ -301,12 +301,12 @@ module _ (p : Program) (few : events p ≤ 32) (small : size p ≤ 64) (whole : 
       let z : 160 + k ≡ 128 + (32 + k) = omega arith in
       rw z (past-viewers (32 + k) ∙ getD-past (padded 32 (p .senders)) (passiveWords p) 32 k (length-padded 32 (p .senders) sent))
 
-  in-kinds : (i : ℕ) → i < size p → getD (boardWords p) (160 + i) 0 ≡ kindOf (behaviourAt p i)
+  in-kinds : (i : ℕ) → i < size p → getD (boardWords p) (160 + i) 0 ≡ kindNumber (behaviourAt p i)
   unfolding passiveWords kindWords
   in-kinds i h =
       let b : i < length (padded 64 (kindWords p)) = rw (length-padded 64 (kindWords p) length-kinds) (omega arith) in
       past-senders i ∙ List·getD-append (padded 64 (kindWords p)) (padded 152 stretch) 0 i b ∙ getD-padded 64 (kindWords p) i
-      ∙ getD-upTo (size p) (λ j. kindOf (behaviourAt p j)) i 0 h
+      ∙ getD-upTo (size p) (λ j. kindNumber (behaviourAt p j)) i 0 h
 
   in-stretch : (k : ℕ) → getD (boardWords p) (224 + k) 0 ≡ getD stretch k 0
   unfolding passiveWords
@@ -324,8 +324,8 @@ module _ (p : Program) (few : events p ≤ 32) (small : size p ≤ 64) (whole : 
       (getD-past heads (records ++ (values ++ codes)) 8 (128 + (376 + k)) length-heads ∙ getD-past records (values ++ codes) 128 (376 + k) length-records
       ∙ getD-past values codes 376 k length-values ∙ getD-padded 8192 (codeWords (tableCode p)) k)
 
-  pub code-within : (e : ℕ) → e < events p → startOf p e + length (code p e) ≤ 4096
-  unfolding startOf allCode
+  pub code-within : (e : ℕ) → e < events p → codeStart p e + length (code p e) ≤ 4096
+  unfolding codeStart allCode
   code-within e h = omega (arith, part-within off (events p) (code p) e h, short)
 
   -- where an event is declared, the instructions are those of all events
@@ -333,12 +333,12 @@ module _ (p : Program) (few : events p ≤ 32) (small : size p ≤ 64) (whole : 
   unfolding tableCode
   declared-code e h = rw (ne-eqb (events p) 0 (omega arith))
 
-  at-code : (e c : ℕ) → e < events p → c < length (code p e) → getD (tableCode p) (startOf p e + c) off ≡ getD (code p e) c off
-  unfolding startOf allCode
+  at-code : (e c : ℕ) → e < events p → c < length (code p e) → getD (tableCode p) (codeStart p e + c) off ≡ getD (code p e) c off
+  unfolding codeStart allCode
   at-code e c h b = rw (declared-code e h) (getD-part off (events p) (code p) e c h b)
 
-  at-code-within : (e c : ℕ) → e < events p → c < length (code p e) → startOf p e + c < length (tableCode p)
-  unfolding startOf allCode
+  at-code-within : (e c : ℕ) → e < events p → c < length (code p e) → codeStart p e + c < length (tableCode p)
+  unfolding codeStart allCode
   at-code-within e c h b = rw (declared-code e h) (omega (arith, part-within off (events p) (code p) e h))
 
   -- event 0's code is what comes before the passives, these, and the copy-back
@@ -355,8 +355,8 @@ module _ (p : Program) (few : events p ≤ 32) (small : size p ≤ 64) (whole : 
       rw code-parts
       (getD-append-add (beforePassives p) (passivesCode p ++ restorePart p 0) c off ∙ List·getD-append (passivesCode p) (restorePart p 0) off c h)
 
-  start-zero : startOf p 0 ≡ 0
-  unfolding startOf upTo sum
+  start-zero : codeStart p 0 ≡ 0
+  unfolding codeStart upTo sum
   start-zero = refl
 
   module _ (alone : length (passivesCode p) ≤ 4096) where
@@ -375,7 +375,7 @@ module _ (p : Program) (few : events p ≤ 32) (small : size p ≤ 64) (whole : 
     some c h e =
         let k = length (beforePassives p) + c in
         let b : k < length (code p 0) = omega (arith, passives-in-code) in
-        let z : startOf p 0 + k ≡ k = omega (arith, start-zero) in
+        let z : codeStart p 0 + k ≡ k = omega (arith, start-zero) in
         (rw z at (at-code-within 0 k e b), (rw z at (at-code 0 k e b)) ∙ passives-code c h)
 
     at-passives : (c : ℕ) → c < length (passivesCode p)
@@ -420,7 +420,7 @@ module _ (p : Program) (few : events p ≤ 32) (small : size p ≤ 64) (whole : 
         rw (
           event-word n 1 (omega arith) (omega arith),
           event-word n 2 (omega arith) (omega arith),
-          code-fits (startOf p n) (length (code p n)) (code-within n (omega arith)),
+          code-fits (codeStart p n) (length (code p n)) (code-within n (omega arith)),
           codes-fit n (omega arith),
         )
 
@@ -470,10 +470,10 @@ module _ (p : Program) (few : events p ≤ 32) (small : size p ≤ 64) (whole : 
           rw z (get-table (136 + (128 + e)) (omega arith) ∙ in-board (128 + e) (omega arith) ∙ in-senders e (omega arith));
       within = code-within;
       operations = λ e c h b.
-          let k = startOf p e + c in
+          let k = codeStart p e + c in
           operation-at k (at-code-within e c h b) ∙ ap operation (at-code e c h b);
       constants = λ e c h b.
-          let k = startOf p e + c in
+          let k = codeStart p e + c in
           constant-at k (at-code-within e c h b) ∙ ap constant (at-code e c h b);
       fits = table-fits;
       kinds = λ i h.

@@ -47,11 +47,11 @@ codeWords (i ∷ is) = operation i ∷ (constant i ∷ codeWords is)
 unfoldable pub allCode : Program → List Instr
 allCode p = flatten (upTo (events p) (code p))
 
-unfoldable pub startOf : Program → ℕ → ℕ
-startOf p e = sum _+_ 0 (upTo e (λ f. length (code p f)))
+unfoldable pub codeStart : Program → ℕ → ℕ
+codeStart p e = sum _+_ 0 (upTo e (λ f. length (code p f)))
 
 abbrev pub eventRecord : Program → ℕ → List ℕ
-eventRecord p e = getD (p .priorities) e 0 ∷ startOf p e ∷ length (code p e) ∷ members p e ∷ []
+eventRecord p e = getD (p .priorities) e 0 ∷ codeStart p e ∷ length (code p e) ∷ members p e ∷ []
 
 -- the words ws, and zeros up to n
 unfoldable pub padded : ℕ → List ℕ → List ℕ
@@ -60,9 +60,9 @@ padded n ws = ws ++ replicate (n - length ws) 0
 -- ---- how passives are worked out anew (02, M-112)
 
 -- 1 for a passive
-abbrev pub kindOf : Behaviour → ℕ
-kindOf (passive x) = 1
-kindOf (active c hs) = 0
+abbrev pub kindNumber : Behaviour → ℕ
+kindNumber (passive x) = 1
+kindNumber (active c hs) = 0
 
 -- by event 0's second time over the passives; where no event is declared its number is that of no event
 unfoldable pub passivesCode : Program → List Instr
@@ -81,7 +81,7 @@ unfoldable pub passivesAt : Program → ℕ
 passivesAt p = pick (eqb (events p) 0) 0 (length (beforePassives p))
 
 unfoldable pub kindWords : Program → List ℕ
-kindWords p = upTo (size p) (λ i. kindOf (behaviourAt p i))
+kindWords p = upTo (size p) (λ i. kindNumber (behaviourAt p i))
 
 unfoldable pub passiveWords : Program → List ℕ
 passiveWords p = padded 64 (kindWords p) ++ padded 152 (passivesAt p ∷ length (passivesCode p) ∷ [])

@@ -8,18 +8,18 @@ use native.Mathlib.Numerals.{sub-one}
 use lib.ListN.{length, getD, set}
 use borrow.Author.Tests.{eq-eqb, ne-eqb}
 use Rattle.lib_word.specs.Word.{getAt}
-use Rattle.front_field.specs.Field.{fieldOf, partOf, numberOf}
+use Rattle.front_field.specs.Field.{fieldOf, partOf, fieldRefusal}
 use Rattle.front_field.proofs.RestLaws.{rest-length}
-use Rattle.front_field.specs.Expression.{out, rest, exprOf, ReadIn}
+use Rattle.front_field.specs.Expression.{out, restFrom, exprOf, ReadIn}
 use Rattle.front_field.specs.declared.Field.{Field}
 use Rattle.front_field.specs.declared.Field.the-variants.{Value, Refused}
 use Rattle.front_field.specs.declared.Read.{Read}
 use Rattle.front_field.specs.declared.Read.the-variants.{Done, Fault}
-use Rattle.front_draft.specs.Draft.{draftLength, entry}
+use Rattle.front_draft.specs.Draft.{draftLength, packedEntry}
 use Rattle.front_rows.specs.Cells.{leastOf, mostOf, rowCopied}
 use Rattle.front_viewers.specs.Ending.{endingOf, EndIn}
 use Rattle.front_behaviours.specs.Handler.{entryAt, handlerAt, handlerOf, handlersOf, BodyIn}
-use Rattle.front_behaviours.specs.Behaviour.{passiveOf, bodyOf, activeOf, cellsOf, valueAt, behaviourOf, Counted}
+use Rattle.front_behaviours.specs.Behaviour.{passiveOf, activeBody, activeOf, cellsOf, valueAt, behaviourOf, Counted}
 
 -- ---- an expression and its entry
 
@@ -33,7 +33,7 @@ module _ (v d : List ℕ) (n place kind over : ℕ) {r : Read} {p : List ℕ} (e
   entry-left {size} t h = rw (← e, t, ne-eqb size (length v) h)
 
   pub entry-done : {size m : ℕ} → r ≡ Done size m → size ≡ length v
-      → out (Done (size + over) m) (set p place (entry kind n (m - n))) ≡ entryAt v d n place kind over
+      → out (Done (size + over) m) (set p place (packedEntry kind n (m - n))) ≡ entryAt v d n place kind over
   unfolding entryAt
   entry-done {size} t h = rw (← e, t, eq-eqb size (length v) h)
 
@@ -45,9 +45,9 @@ body-read m size n (Done all next) h a = (omega arith, omega arith, omega arith,
 body-read m size n (Fault k) h a = tt
 
 -- the bytes of a value after its first two
-pub body-over : (v : List ℕ) (n : ℕ) (r : Read) → BodyIn (length (rest 2 v) + 5) n r → 2 ≤ length v → BodyIn (length v + 3) n r
+pub body-over : (v : List ℕ) (n : ℕ) (r : Read) → BodyIn (length (restFrom 2 v) + 5) n r → 2 ≤ length v → BodyIn (length v + 3) n r
 body-over v n r h a =
-    let q : length (rest 2 v) + 5 ≡ length v + 3 = omega (arith, rest-length 2 v) in
+    let q : length (restFrom 2 v) + 5 ≡ length v + 3 = omega (arith, rest-length 2 v) in
     rw q at h
 
 pub counted-below : (i : ℕ) (r : Read) → i < 64 → Counted i r
@@ -55,7 +55,7 @@ counted-below i (Done size m) h = h
 counted-below i (Fault k) h = tt
 
 module _ (s d : List ℕ) (events i n : ℕ) {a : Field} where
-  pub handler-refused : {k q : ℕ} → a ≡ fieldOf s 5 5 → a ≡ Refused k → q ≡ numberOf a → out (Fault q) d ≡ handlerOf s events i d n
+  pub handler-refused : {k q : ℕ} → a ≡ fieldOf s 5 5 → a ≡ Refused k → q ≡ fieldRefusal a → out (Fault q) d ≡ handlerOf s events i d n
   unfolding handlerOf
   handler-refused e t h = rw (sym e ∙ t, h, t)
 
@@ -64,7 +64,7 @@ module _ (s d : List ℕ) (events i n : ℕ) {a : Field} where
   unfolding handlerOf
   handler-taken e t w h = rw (← w, sym e ∙ t) h
 
-  pub behaviour-refused : {k q lo hi : ℕ} → lo ≡ leastOf s 2 → hi ≡ mostOf s → a ≡ fieldOf s lo hi → a ≡ Refused k → q ≡ numberOf a → out (Fault q) d ≡ behaviourOf s events i d n
+  pub behaviour-refused : {k q lo hi : ℕ} → lo ≡ leastOf s 2 → hi ≡ mostOf s → a ≡ fieldOf s lo hi → a ≡ Refused k → q ≡ fieldRefusal a → out (Fault q) d ≡ behaviourOf s events i d n
   unfolding behaviourOf
   behaviour-refused l m e t h = rw (← l, ← m, sym e ∙ t, h, t)
 
@@ -73,7 +73,7 @@ module _ (s d : List ℕ) (events i n : ℕ) {a : Field} where
   unfolding behaviourOf
   behaviour-taken l m e t w h = rw (← l, ← m, ← w, sym e ∙ t) h
 
-  pub active-refused : {k q : ℕ} → a ≡ fieldOf s 4 4 → a ≡ Refused k → q ≡ numberOf a → out (Fault q) d ≡ activeOf s events i d n
+  pub active-refused : {k q : ℕ} → a ≡ fieldOf s 4 4 → a ≡ Refused k → q ≡ fieldRefusal a → out (Fault q) d ≡ activeOf s events i d n
   unfolding activeOf
   active-refused e t h = rw (sym e ∙ t, h, t)
 
@@ -82,7 +82,7 @@ module _ (s d : List ℕ) (events i n : ℕ) {a : Field} where
   active-long {size = size} e t h = rw (sym e ∙ t, ne-eqb size 4 h)
 
   pub active-taken : {t size x : ℕ} {w p : List ℕ} {r : Read} → a ≡ fieldOf s 4 4 → a ≡ Value t size → size ≡ 4 → w ≡ partOf s (fieldOf s 4 4)
-      → x ≡ getAt w 0 → out r p ≡ bodyOf s events i (set d (4160 + i) x) n → out r p ≡ activeOf s events i d n
+      → x ≡ getAt w 0 → out r p ≡ activeBody s events i (set d (4160 + i) x) n → out r p ≡ activeOf s events i d n
   unfolding activeOf
   active-taken {size = size} e t z w x h = rw (← w, sym e ∙ t, eq-eqb size 4 z, ← x) h
 
@@ -100,7 +100,7 @@ pub record HandlerTurn (v : List ℕ) (events i : ℕ) (d₀ : List ℕ) (n : �
   pub kept : length d ≡ draftLength
 
 module _ (v : List ℕ) (at events i : ℕ) (d : List ℕ) (m : ℕ) {r : Read} {p : List ℕ} (h : at ≡ length v → ⊥) (q : getD v at 0 ≡ 8 → ⊥) (g : at ≤ length v)
-    (e : out r p ≡ handlerOf (rest at v) events i d m) where
+    (e : out r p ≡ handlerOf (restFrom at v) events i d m) where
   handlers-done : (k : ℕ) {size next : ℕ} → length v ≤ at + k → r ≡ Done size next → handlersOf k v at events i d m ≡ handlersOf (k - 1) v (at + size) events i p next
   unfolding handlersOf
   handlers-done zero b t = absurd (h (omega arith))
@@ -122,14 +122,14 @@ handlers-eight zero v at events i d m h q = rw (ne-eqb at (length v) h, eq-eqb (
 handlers-eight (suc k) v at events i d m h q = rw (ne-eqb at (length v) h, eq-eqb (getD v at 0) 8 q)
 
 module _ {v : List ℕ} {events i : ℕ} {d₀ : List ℕ} {n : ℕ} {d : List ℕ} {at m : ℕ} (t : HandlerTurn v events i d₀ n d at m) where
-  pub handler-stops : {r : Read} {p : List ℕ} {j : ℕ} → (at ≡ length v → ⊥) → (getD v at 0 ≡ 8 → ⊥) → out r p ≡ handlerOf (rest at v) events i d m → r ≡ Fault j
+  pub handler-stops : {r : Read} {p : List ℕ} {j : ℕ} → (at ≡ length v → ⊥) → (getD v at 0 ≡ 8 → ⊥) → out r p ≡ handlerOf (restFrom at v) events i d m → r ≡ Fault j
       → (out r p ≡ handlersOf (length v) v 7 events i d₀ n) × ReadIn (length v) n r
   handler-stops h q e f = rw f (rw (handlers-fault v at events i d m h q (t .reached) e (t .fuel) (t .enough) f) at (t .whole), tt)
 
-  pub handler-turns : {r : Read} {p : List ℕ} {size next : ℕ} → (at ≡ length v → ⊥) → (getD v at 0 ≡ 8 → ⊥) → out r p ≡ handlerOf (rest at v) events i d m → r ≡ Done size next
-      → ReadIn (length (rest at v)) m r → length p ≡ length d → HandlerTurn v events i d₀ n p (at + size) next
+  pub handler-turns : {r : Read} {p : List ℕ} {size next : ℕ} → (at ≡ length v → ⊥) → (getD v at 0 ≡ 8 → ⊥) → out r p ≡ handlerOf (restFrom at v) events i d m → r ≡ Done size next
+      → ReadIn (length (restFrom at v)) m r → length p ≡ length d → HandlerTurn v events i d₀ n p (at + size) next
   handler-turns {size} {next} h q₈ e f b l =
-      let b′ : ReadIn (length (rest at v)) m (Done size next) = rw f at b in
+      let b′ : ReadIn (length (restFrom at v)) m (Done size next) = rw f at b in
       let q = rest-length at v in
       let enough = t .enough in
       let reached = t .reached in
@@ -170,17 +170,17 @@ module _ (v d : List ℕ) (i n : ℕ) {r : Read} {p : List ℕ} (e : out r p ≡
   passive-fault t = rw t (rw (← e, t), tt)
 
   pub passive-ends : {size m : ℕ} {r₁ : Read} {p₁ : List ℕ} → r ≡ Done size m
-      → out r₁ p₁ ≡ endingOf (rest size v) i (set p (4096 + i) (entry 1 n (m - n))) (length v + 3) m → out r₁ p₁ ≡ passiveOf v i d n
+      → out r₁ p₁ ≡ endingOf (restFrom size v) i (set p (4096 + i) (packedEntry 1 n (m - n))) (length v + 3) m → out r₁ p₁ ≡ passiveOf v i d n
   unfolding passiveOf
   passive-ends t h = rw (← e, t) h
 
 module _ (v d : List ℕ) (events i n : ℕ) {r : Read} {p : List ℕ} (e : out r p ≡ handlersOf (length v) v 7 events i d n) where
-  pub handlers-stop : {k : ℕ} → r ≡ Fault k → (out r p ≡ bodyOf v events i d n) × BodyIn (length v + 3) n r
-  unfolding bodyOf
+  pub handlers-stop : {k : ℕ} → r ≡ Fault k → (out r p ≡ activeBody v events i d n) × BodyIn (length v + 3) n r
+  unfolding activeBody
   handlers-stop t = rw t (rw (← e, t), tt)
 
-  pub body-ends : {at m : ℕ} {r₁ : Read} {p₁ : List ℕ} → r ≡ Done at m → out r₁ p₁ ≡ endingOf (rest at v) i p (length v + 3) m → out r₁ p₁ ≡ bodyOf v events i d n
-  unfolding bodyOf
+  pub body-ends : {at m : ℕ} {r₁ : Read} {p₁ : List ℕ} → r ≡ Done at m → out r₁ p₁ ≡ endingOf (restFrom at v) i p (length v + 3) m → out r₁ p₁ ≡ activeBody v events i d n
+  unfolding activeBody
   body-ends t h = rw (← e, t) h
 
 -- ---- a row
@@ -195,7 +195,7 @@ module _ (v d : List ℕ) (c events i n : ℕ) {r : Read} {p : List ℕ} (e : ou
   cells-done t b h = let z = rw t at b in (rw (← e, t, h), omega arith)
 
 -- the bytes of a value after its first
-pub row-over : (v : List ℕ) (n : ℕ) (r : Read) → BodyIn (length (rest 1 v) + 4) n r → 1 ≤ length v → BodyIn (length v + 3) n r
+pub row-over : (v : List ℕ) (n : ℕ) (r : Read) → BodyIn (length (restFrom 1 v) + 4) n r → 1 ≤ length v → BodyIn (length v + 3) n r
 row-over v n r h a =
-    let q : length (rest 1 v) + 4 ≡ length v + 3 = omega (arith, rest-length 1 v) in
+    let q : length (restFrom 1 v) + 4 ≡ length v + 3 = omega (arith, rest-length 1 v) in
     rw q at h

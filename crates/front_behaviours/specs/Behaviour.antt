@@ -11,12 +11,12 @@ use Rattle.lib_base.specs.Basics.{pick}
 use Rattle.lib_word.specs.Word.{getAt}
 use Rattle.spec_language.specs.Refusals.{wrongLength, crowded, offScale}
 use Rattle.front_field.specs.Field.{fieldOf, partOf}
-use Rattle.front_field.specs.Expression.{Out, out, rest, onward, exprOf}
+use Rattle.front_field.specs.Expression.{Out, out, restFrom, goOnAfter, exprOf}
 use Rattle.front_field.specs.declared.Field.{Field}
 use Rattle.front_field.specs.declared.Field.the-variants.{Value, Refused}
 use Rattle.front_field.specs.declared.Read.{Read}
 use Rattle.front_field.specs.declared.Read.the-variants.{Done, Fault}
-use Rattle.front_draft.specs.Draft.{entry}
+use Rattle.front_draft.specs.Draft.{packedEntry}
 use Rattle.front_rows.specs.Cells.{leastOf, mostOf, rowCopied}
 use Rattle.front_viewers.specs.Ending.{endingOf}
 use Rattle.front_behaviours.specs.Handler.{handlersOf}
@@ -25,19 +25,19 @@ use Rattle.front_behaviours.specs.Handler.{handlersOf}
 unfoldable pub passiveOf : List ℕ → ℕ → List ℕ → ℕ → Out
 passiveOf v i d n =
     let o : Out = exprOf 16 v d n in
-    onward (o .0) (o .1) (λ size m. endingOf (rest size v) i (set (o .1) (4096 + i) (entry 1 n (m - n))) (length v + 3) m)
+    goOnAfter (o .0) (o .1) (λ size m. endingOf (restFrom size v) i (set (o .1) (4096 + i) (packedEntry 1 n (m - n))) (length v + 3) m)
 
 -- what follows the start in the value v of behaviour i, an active: its handlers, and who may see it
-unfoldable pub bodyOf : List ℕ → ℕ → ℕ → List ℕ → ℕ → Out
-bodyOf v events i d n =
+unfoldable pub activeBody : List ℕ → ℕ → ℕ → List ℕ → ℕ → Out
+activeBody v events i d n =
     let o : Out = handlersOf (length v) v 7 events i d n in
-    onward (o .0) (o .1) (λ at m. endingOf (rest at v) i (o .1) (length v + 3) m)
+    goOnAfter (o .0) (o .1) (λ at m. endingOf (restFrom at v) i (o .1) (length v + 3) m)
 
 -- an active's value v, where the answer for its start field is f, with the value w
 abbrev pub activeFrom : Field → List ℕ → List ℕ → ℕ → ℕ → List ℕ → ℕ → Out
 activeFrom (Refused k) w v events i d n = out (Fault k) d
 activeFrom (Value t size) w v events i d n =
-    pick (eqb size 4) (bodyOf v events i (set d (4160 + i) (getAt w 0)) n) (out (Fault wrongLength) d)
+    pick (eqb size 4) (activeBody v events i (set d (4160 + i) (getAt w 0)) n) (out (Fault wrongLength) d)
 
 unfoldable pub activeOf : List ℕ → ℕ → ℕ → List ℕ → ℕ → Out
 activeOf v events i d n = activeFrom (fieldOf v 4 4) (partOf v (fieldOf v 4 4)) v events i d n
@@ -47,7 +47,7 @@ activeOf v events i d n = activeFrom (fieldOf v 4 4) (partOf v (fieldOf v 4 4)) 
 unfoldable pub cellsOf : List ℕ → ℕ → ℕ → ℕ → List ℕ → ℕ → Out
 cellsOf v c events i d n =
     let o : Out = activeOf v events i d n in
-    onward (o .0) (o .1) (λ size m. out (Done (size + 1) m) (rowCopied (o .1) i c))
+    goOnAfter (o .0) (o .1) (λ size m. out (Done (size + 1) m) (rowCopied (o .1) i c))
 
 -- a row's value v
 unfoldable pub rowOf : List ℕ → ℕ → ℕ → List ℕ → ℕ → Out
@@ -56,7 +56,7 @@ rowOf v events i d n =
     (pick (ltb (getD v 0 0) 2) (out (Fault offScale) d)
     (pick (ltb 16 (getD v 0 0)) (out (Fault offScale) d)
     (pick (ltb 64 (i + getD v 0 0)) (out (Fault crowded) d)
-    (cellsOf (rest 1 v) (getD v 0 0) events i d n))))
+    (cellsOf (restFrom 1 v) (getD v 0 0) events i d n))))
 
 -- behaviour i, a field with tag t and value v
 unfoldable pub valueAt : ℕ → List ℕ → ℕ → ℕ → List ℕ → ℕ → Out

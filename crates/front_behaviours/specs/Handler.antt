@@ -8,12 +8,12 @@ use lib.Dec.{ltb, leb, eqb}
 use Rattle.lib_base.specs.Basics.{pick}
 use Rattle.spec_language.specs.Refusals.{torn, wrongLength, offScale, doubled}
 use Rattle.front_field.specs.Field.{fieldOf, partOf}
-use Rattle.front_field.specs.Expression.{Out, out, rest, onward, exprOf}
+use Rattle.front_field.specs.Expression.{Out, out, restFrom, goOnAfter, exprOf}
 use Rattle.front_field.specs.declared.Field.{Field}
 use Rattle.front_field.specs.declared.Field.the-variants.{Value, Refused}
 use Rattle.front_field.specs.declared.Read.{Read}
 use Rattle.front_field.specs.declared.Read.the-variants.{Done, Fault}
-use Rattle.front_draft.specs.Draft.{entry}
+use Rattle.front_draft.specs.Draft.{packedEntry}
 
 -- the number of a refusal; 0 of a reading that is done
 abbrev pub faultOf : Read → ℕ
@@ -24,7 +24,7 @@ faultOf (Fault k) = k
 unfoldable pub entryAt : List ℕ → List ℕ → ℕ → ℕ → ℕ → ℕ → Out
 entryAt v d n place kind over =
     let o : Out = exprOf 16 v d n in
-    onward (o .0) (o .1) (λ size m. pick (eqb size (length v)) (out (Done (size + over) m) (set (o .1) place (entry kind n (m - n)))) (out (Fault wrongLength) (o .1)))
+    goOnAfter (o .0) (o .1) (λ size m. pick (eqb size (length v)) (out (Done (size + over) m) (set (o .1) place (packedEntry kind n (m - n)))) (out (Fault wrongLength) (o .1)))
 
 -- where the entry of behaviour i for event e stands
 abbrev pub slot : ℕ → ℕ → ℕ
@@ -38,7 +38,7 @@ handlerAt v events i d n =
     (pick (eqb (length v) 1) (out (Fault wrongLength) d)
     (pick (ltb 1 (getD v 1 0)) (out (Fault offScale) d)
     (pick (eqb (getD d (slot i (getD v 0 0)) 0) 0)
-    (entryAt (rest 2 v) d n (slot i (getD v 0 0)) (2 + getD v 1 0) 5)
+    (entryAt (restFrom 2 v) d n (slot i (getD v 0 0)) (2 + getD v 1 0) 5)
     (out (Fault doubled) d)))))
 
 abbrev pub handlerFrom : Field → List ℕ → ℕ → ℕ → List ℕ → ℕ → Out
@@ -58,8 +58,8 @@ handlersOf zero v at events i d n =
 handlersOf (suc k) v at events i d n =
     pick (eqb at (length v)) (out (Done at n) d)
     (pick (eqb (getD v at 0) 8) (out (Done at n) d)
-    (let o : Out = handlerOf (rest at v) events i d n in
-    onward (o .0) (o .1) (λ size m. handlersOf k v (at + size) events i (o .1) m)))
+    (let o : Out = handlerOf (restFrom at v) events i d n in
+    goOnAfter (o .0) (o .1) (λ size m. handlersOf k v (at + size) events i (o .1) m)))
 
 -- that a field of so many bytes is taken whole, and that a node takes four bytes at least: what is promised beside the
 -- equation

@@ -8,7 +8,7 @@ ghost use lib.ListN.{length};
 ghost use Rattle.front_field.specs.Expression.{out, ReadIn};
 ghost use Rattle.front_draft.specs.Draft.{draftLength};
 ghost use Rattle.front_behaviours.specs.Handler.{entryAt, handlerAt, handlerOf, handlersOf, BodyIn, faultOf};
-ghost use Rattle.front_behaviours.specs.Behaviour.{passiveOf, bodyOf, activeOf, cellsOf, rowOf, valueAt, behaviourOf, Counted};
+ghost use Rattle.front_behaviours.specs.Behaviour.{passiveOf, activeBody, activeOf, cellsOf, rowOf, valueAt, behaviourOf, Counted};
 use front_draft::layout;
 use front_field::faults;
 use front_field::sizes;
@@ -147,7 +147,7 @@ fn read_body(v: &[u8], events: usize, i: usize, draft: &mut [u64], n: usize) -> 
     requires { ⌜ length (now draft) ≡ draftLength ⌝ }
     requires { ⌜ events ≤ 32 ⌝ }
     requires { ⌜ i < 64 ⌝ }
-    ensures { λ r. ⌜ out r (now (draft .exit)) ≡ bodyOf (now (v .entry)) events i (now (draft .entry)) n ⌝ }
+    ensures { λ r. ⌜ out r (now (draft .exit)) ≡ activeBody (now (v .entry)) events i (now (draft .entry)) n ⌝ }
     ensures { λ r. ⌜ BodyIn (length (now (v .entry)) + 3) n r ⌝ }
 {
     let r = read_handlers(v, events, i, draft, n);

@@ -22,7 +22,7 @@ use Rattle.spec_language.specs.Code.{sizeOf}
 use Rattle.spec_language.specs.Reading as tree
 use Rattle.spec_language.specs.Reading.{refused, present, fieldAt, Got, bad, got, wordOf, then, exprAt, handlersAt, startBody, entry, endingIn, passiveIn, activeAs, activeIn, rowIn, behaviourIn, least, most, dueAt, behaviourBody}
 use Rattle.front_field.specs.Field.{stated, fieldOf, partOf}
-use Rattle.front_field.specs.Expression.{Out, out, rest, onward, exprOf}
+use Rattle.front_field.specs.Expression.{Out, out, restFrom, goOnAfter, exprOf}
 use Rattle.front_field.specs.declared.Field.{Field}
 use Rattle.front_field.specs.declared.Field.the-variants.{Value}
 use Rattle.front_field.specs.declared.Read.the-variants.{Done, Fault}
@@ -31,7 +31,7 @@ use Rattle.front_draft.specs.Draft.{draftLength, nodes, handlerNodes, behaviour
 use Rattle.front_rows.specs.Cells.{leastOf, mostOf, cellsAt, rowCopied}
 use Rattle.front_viewers.specs.Ending.{viewer, endingOf}
 use Rattle.front_behaviours.specs.Handler.{slot, handlersOf}
-use Rattle.front_behaviours.specs.Behaviour.{passiveOf, bodyOf, activeFrom, activeOf, cellsOf, rowOf, valueAt, behaviourFrom, behaviourOf}
+use Rattle.front_behaviours.specs.Behaviour.{passiveOf, activeBody, activeFrom, activeOf, cellsOf, rowOf, valueAt, behaviourFrom, behaviourOf}
 use Rattle.front_correct.proofs.Fields.{valueIn, span, SameField, same-field, value-length, rest-drop}
 use Rattle.front_correct.proofs.Expressions.{raw, SameExpr, same-expr}
 use Rattle.front_correct.proofs.Entries.{StandsBy, stands-kept, SaysBy, says-kept, written-long, written-take, written-pool, written-there, written-same, written-other, Frame}
@@ -122,43 +122,43 @@ module _ (events i : ℕ) (d : List ℕ) (n : ℕ) (few : events ≤ 32) (low : 
     -- ---- a passive
 
     part-passive : (x : Term) → sizeOf (raw x) * 4 ≤ length v
-        → Part i d n (passive (raw x)) (set (sets d n (nodes (raw x))) (4096 + i) (draft.entry 1 n (sizeOf (raw x)))) (n + sizeOf (raw x))
+        → Part i d n (passive (raw x)) (set (sets d n (nodes (raw x))) (4096 + i) (draft.packedEntry 1 n (sizeOf (raw x)))) (n + sizeOf (raw x))
     part-passive x h =
         let room : n + sizeOf (raw x) ≤ 2048 = omega arith in
         let lo : 2048 ≤ 4096 + i = omega arith in
         let hi : 4096 + i < draftLength = omega arith in (
-          written-long d n (raw x) (4096 + i) (draft.entry 1 n (sizeOf (raw x))) long room lo hi,
+          written-long d n (raw x) (4096 + i) (draft.packedEntry 1 n (sizeOf (raw x))) long room lo hi,
           (
-            written-take d n (raw x) (4096 + i) (draft.entry 1 n (sizeOf (raw x))) long room lo hi,
-            λ j a _ b _ _. written-other d n (raw x) (4096 + i) (draft.entry 1 n (sizeOf (raw x))) long room lo hi j a b,
+            written-take d n (raw x) (4096 + i) (draft.packedEntry 1 n (sizeOf (raw x))) long room lo hi,
+            λ j a _ b _ _. written-other d n (raw x) (4096 + i) (draft.packedEntry 1 n (sizeOf (raw x))) long room lo hi j a b,
           ),
           omega arith,
-          written-pool d n (raw x) (4096 + i) (draft.entry 1 n (sizeOf (raw x))) long room lo hi,
+          written-pool d n (raw x) (4096 + i) (draft.packedEntry 1 n (sizeOf (raw x))) long room lo hi,
           (
             (
               n,
-              written-same d n (raw x) (4096 + i) (draft.entry 1 n (sizeOf (raw x))) long room lo hi,
+              written-same d n (raw x) (4096 + i) (draft.packedEntry 1 n (sizeOf (raw x))) long room lo hi,
               omega arith,
-              written-there d n (raw x) (4096 + i) (draft.entry 1 n (sizeOf (raw x))) long room lo hi,
+              written-there d n (raw x) (4096 + i) (draft.packedEntry 1 n (sizeOf (raw x))) long room lo hi,
             ),
-            written-other d n (raw x) (4096 + i) (draft.entry 1 n (sizeOf (raw x))) long room lo hi (4160 + i) (omega arith) (omega arith) ∙ blank .1,
+            written-other d n (raw x) (4096 + i) (draft.packedEntry 1 n (sizeOf (raw x))) long room lo hi (4160 + i) (omega arith) (omega arith) ∙ blank .1,
           ),
         )
 
     passive-on : (g : Got Term) (o : Out) → SameExpr v (span v) d n g o
         → Same (then g (λ x left. endingIn (formula x) left r))
-        (onward (o .0) (o .1) (λ z m. endingOf (rest z v) i (set (o .1) (4096 + i) (draft.entry 1 n (m - n))) (length v + 3) m))
+        (goOnAfter (o .0) (o .1) (λ z m. endingOf (restFrom z v) i (set (o .1) (4096 + i) (draft.packedEntry 1 n (m - n))) (length v + 3) m))
     passive-on (bad k) o e = rw e refl
     passive-on (got x l) o h =
         rw (h .3, h .0, add-sub-cancel-left n (sizeOf (raw x)), rest-drop (span v) v)
-        (same-ending Same (formula x) r i (set (sets d n (nodes (raw x))) (4096 + i) (draft.entry 1 n (sizeOf (raw x)))) (length v + 3) (n + sizeOf (raw x)) (λ k o e. e)
+        (same-ending Same (formula x) r i (set (sets d n (nodes (raw x))) (4096 + i) (draft.packedEntry 1 n (sizeOf (raw x)))) (length v + 3) (n + sizeOf (raw x)) (λ k o e. e)
         (λ w. (
           after,
           fits,
           n + sizeOf (raw x),
           rw full,
           omega arith,
-          part-ended i n d (set (sets d n (nodes (raw x))) (4096 + i) (draft.entry 1 n (sizeOf (raw x)))) (n + sizeOf (raw x)) (formula x) low (omega arith) (part-passive x (omega arith)) w,
+          part-ended i n d (set (sets d n (nodes (raw x))) (4096 + i) (draft.packedEntry 1 n (sizeOf (raw x)))) (n + sizeOf (raw x)) (formula x) low (omega arith) (part-passive x (omega arith)) w,
           one,
         ))
         (drop (span v) v))
@@ -186,7 +186,7 @@ module _ (events i : ℕ) (d : List ℕ) (n : ℕ) (few : events ≤ 32) (low : 
     }
 
     active-end : (w : ℕ) (g : Got (List Clause)) (o : Out) → SameHandlers i w d n v (n * 4 + length v) g o
-        → P (then g (λ hs over. endingIn (make w hs) over r)) (onward (o .0) (o .1) (λ at m. endingOf (rest at v) i (o .1) (length v + 3) m))
+        → P (then g (λ hs over. endingIn (make w hs) over r)) (goOnAfter (o .0) (o .1) (λ at m. endingOf (restFrom at v) i (o .1) (length v + 3) m))
     active-end w (bad k) o e = rw e (bads k (out (Fault k) (o .1)) refl)
     active-end w (got hs over) o h =
         let t = h .5 in
@@ -195,8 +195,8 @@ module _ (events i : ℕ) (d : List ℕ) (n : ℕ) (few : events ≤ 32) (low : 
         (λ x. gots w hs x (o .1) (h .2) (h .4) (t .long, t .frame, t .grown, t .pool, (t .body, t .start, t .rows))) (drop (h .0) v))
 
     active-on : (w : ℕ) (left : List ℕ) → left ≡ drop 7 v → 7 ≤ length v
-        → P (then (handlersAt (length left) events [] left) (λ hs over. endingIn (make w hs) over r)) (bodyOf v events i (set d (4160 + i) w) n)
-    unfolding bodyOf
+        → P (then (handlersAt (length left) events [] left) (λ hs over. endingIn (make w hs) over r)) (activeBody v events i (set d (4160 + i) w) n)
+    unfolding activeBody
     active-on w left e h =
         let q : length (drop 7 v) ≡ length v - 7 = length-drop 7 v in
         rw e
@@ -206,7 +206,7 @@ module _ (events i : ℕ) (d : List ℕ) (n : ℕ) (few : events ≤ 32) (low : 
 
     start-value : (u left : List ℕ) (z : ℕ) → length u ≡ z → left ≡ drop (z + 3) v → z + 3 ≤ length v
         → P (then (wordOf (λ w. w) u left) (λ w left. then (handlersAt (length left) events [] left) (λ hs over. endingIn (make w hs) over r)))
-        (pick (eqb z 4) (bodyOf v events i (set d (4160 + i) (getAt u 0)) n) (out (Fault 6) d))
+        (pick (eqb z 4) (activeBody v events i (set d (4160 + i) (getAt u 0)) n) (out (Fault 6) d))
     unfolding getAt
     start-value [] left z q e h = rw (ne-eqb z 4 (omega arith)) (bads 6 (out (Fault 6) d) refl)
     start-value (a ∷ []) left z q e h = rw (ne-eqb z 4 (omega arith)) (bads 6 (out (Fault 6) d) refl)
@@ -237,7 +237,7 @@ module _ (events i : ℕ) (d : List ℕ) (n : ℕ) (few : events ≤ 32) (low : 
 
   module _ (c : ℕ) (v : List ℕ) (full : length v + 4 ≡ size) (is : count ≡ c) (some : 1 ≤ c) (within : i + c ≤ 64) where
     abbrev SameCells : Got Entry → Out → Type 0
-    SameCells g o = Same g (onward (o .0) (o .1) (λ z m. out (Done (z + 1) m) (rowCopied (o .1) i c)))
+    SameCells g o = Same g (goOnAfter (o .0) (o .1) (λ z m. out (Done (z + 1) m) (rowCopied (o .1) i c)))
 
     cells-same : Same (activeAs (row c) events v r) (cellsOf v c events i d n)
     unfolding cellsOf

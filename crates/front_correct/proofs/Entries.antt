@@ -19,9 +19,9 @@ use Rattle.spec_language.specs.Dependence.{Response, follows, takes, defers, ke
 use Rattle.spec_language.specs.Code.{sizeOf}
 use Rattle.spec_language.specs.Reading.{Got, bad, got, whole, then, exprAt, exprIn, handles}
 use Rattle.spec_language.proofs.Laws.{handled-here, handled-there}
-use Rattle.front_field.specs.Expression.{Out, out, onward, exprOf}
+use Rattle.front_field.specs.Expression.{Out, out, goOnAfter, exprOf}
 use Rattle.front_field.specs.declared.Read.the-variants.{Done, Fault}
-use Rattle.front_draft.specs.Draft.{draftLength, nodes, entry, unfilled}
+use Rattle.front_draft.specs.Draft.{draftLength, nodes, packedEntry, unfilled}
 use Rattle.front_draft.proofs.DraftLaws.{length-nodes, size-positive}
 use Rattle.front_behaviours.specs.Handler.{entryAt, slot}
 use Rattle.front_correct.proofs.Fields.{span, whole-at}
@@ -34,15 +34,15 @@ use Rattle.front_correct.proofs.Expressions.{raw, SameExpr, same-expr}
 pub same-entry : {A : Type 0} (P : Got A → Out → Type 0) (F : Term → A) (v r d : List ℕ) (n place kind over : ℕ)
     → ((k : ℕ) (o : Out) → o .0 ≡ Fault k → P (bad k) o)
     → ((x : Term) → sizeOf (raw x) * 4 ≤ length v
-    → P (got (F x) r) (out (Done (length v + over) (n + sizeOf (raw x))) (set (sets d n (nodes (raw x))) place (entry kind n (sizeOf (raw x))))))
+    → P (got (F x) r) (out (Done (length v + over) (n + sizeOf (raw x))) (set (sets d n (nodes (raw x))) place (packedEntry kind n (sizeOf (raw x))))))
     → P (exprIn F v r) (entryAt v d n place kind over)
 unfolding entryAt
 same-entry P F v r d n place kind over bads gots = go (exprAt 16 v) (exprOf 16 v d n) (same-expr 16 v d n)
   where
     go : (g : Got Term) (o : Out) → SameExpr v (span v) d n g o
         → P (then g (λ x left. whole (F x) left r))
-        (onward (o .0) (o .1)
-        (λ size m. pick (eqb size (length v)) (out (Done (size + over) m) (set (o .1) place (entry kind n (m - n)))) (out (Fault 6) (o .1))))
+        (goOnAfter (o .0) (o .1)
+        (λ size m. pick (eqb size (length v)) (out (Done (size + over) m) (set (o .1) place (packedEntry kind n (m - n)))) (out (Fault 6) (o .1))))
     go (bad k) o e = rw e (bads k (out (Fault k) (o .1)) refl)
     go (got x l) o h =
         rw (h .3, h .0, add-sub-cancel-left n (sizeOf (raw x)))
@@ -52,7 +52,7 @@ same-entry P F v r d n place kind over bads gots = go (exprAt 16 v) (exprOf 16 v
 
 -- among the first n nodes
 abbrev pub StandsBy : List ℕ → ℕ → ℕ → ℕ → Expr → Type 0
-StandsBy d n kind v x = (start : ℕ) × (v ≡ entry kind start (sizeOf x)) × (start + sizeOf x ≤ n) × (take (sizeOf x) (drop start d) ≡ nodes x)
+StandsBy d n kind v x = (start : ℕ) × (v ≡ packedEntry kind start (sizeOf x)) × (start + sizeOf x ≤ n) × (take (sizeOf x) (drop start d) ≡ nodes x)
 
 pub take-less : (m n : ℕ) (d d′ : List ℕ) → m ≤ n → take n d′ ≡ take n d → take m d′ ≡ take m d
 take-less m n d d′ h e = sym (take-take m n d′ h) ∙ ap (λ (l : List ℕ). take m l) e ∙ take-take m n d h

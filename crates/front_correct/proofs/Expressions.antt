@@ -19,7 +19,7 @@ use Rattle.spec_language.specs.Code.{sizeOf}
 use Rattle.spec_language.specs.Reading as tree
 use Rattle.spec_language.specs.Reading.{refused, present, fieldAt, Got, bad, got, whole, wordOf, byteOf, then, appOf, paramOf, exprBody, deepest, exprAt}
 use Rattle.front_field.specs.Field.{fieldOf, partOf}
-use Rattle.front_field.specs.Expression.{headAt, headFrom, headOf, Out, out, onward, argsOf, closeAt, bodyOf, exprOf}
+use Rattle.front_field.specs.Expression.{headAt, headFrom, headOf, Out, out, goOnAfter, readArguments, closeAt, readBody, exprOf}
 use Rattle.front_field.specs.declared.Field.{Field}
 use Rattle.front_field.specs.declared.Head.{Head}
 use Rattle.front_field.specs.declared.Head.the-variants.{Leaf, Apply, NoHead}
@@ -56,13 +56,13 @@ module _ (arg : List ℕ → Got Term) (rd : List ℕ → List ℕ → ℕ → O
 
   module _ (f : ℕ) (v : List ℕ) (full : length v + 3 ≡ size) where
     abbrev close : Out → Out
-    close o = onward (o .0) (o .1) (λ at m. closeAt f (length v) at (o .1) m)
+    close o = goOnAfter (o .0) (o .1) (λ at m. closeAt f (length v) at (o .1) m)
 
     -- one argument, from `at` on
     step-on : (k at : ℕ) (d : List ℕ) (m : ℕ) (F : Term → List ℕ → Got Term) → at ≤ length v
-        → ((a : Term) (next : ℕ) → next ≤ length v → at + sizeOf (raw a) * 4 ≤ next → Same (F a (drop next v)) (close (argsOf rd k v next (sets d m (nodes (raw a))) (m + sizeOf (raw a)))))
+        → ((a : Term) (next : ℕ) → next ≤ length v → at + sizeOf (raw a) * 4 ≤ next → Same (F a (drop next v)) (close (readArguments rd k v next (sets d m (nodes (raw a))) (m + sizeOf (raw a)))))
         → (g : Got Term) (o : Out) → SameExpr (drop at v) (span (drop at v)) d m g o
-        → Same (then g F) (close (onward (o .0) (o .1) (λ size m. argsOf rd k v (at + size) (o .1) m)))
+        → Same (then g F) (close (goOnAfter (o .0) (o .1) (λ size m. readArguments rd k v (at + size) (o .1) m)))
     step-on k at d m F h go (bad j) o e = rw e refl
     step-on k at d m F h go (got a u) o e =
         let q : length (drop at v) ≡ length v - at = length-drop at v in
@@ -70,21 +70,21 @@ module _ (arg : List ℕ → Got Term) (rd : List ℕ → List ℕ → ℕ → O
         rw (e .3, p) (go a (at + span (drop at v)) (omega arith) (omega arith))
 
     step : (k at : ℕ) (d : List ℕ) (m : ℕ) (F : Term → List ℕ → Got Term) → at ≤ length v
-        → ((a : Term) (next : ℕ) → next ≤ length v → at + sizeOf (raw a) * 4 ≤ next → Same (F a (drop next v)) (close (argsOf rd k v next (sets d m (nodes (raw a))) (m + sizeOf (raw a)))))
-        → Same (then (arg (drop at v)) F) (close (argsOf rd (suc k) v at d m))
-    unfolding argsOf
+        → ((a : Term) (next : ℕ) → next ≤ length v → at + sizeOf (raw a) * 4 ≤ next → Same (F a (drop next v)) (close (readArguments rd k v next (sets d m (nodes (raw a))) (m + sizeOf (raw a)))))
+        → Same (then (arg (drop at v)) F) (close (readArguments rd (suc k) v at d m))
+    unfolding readArguments
     step k at d m F h go = rw (rest-drop at v) (step-on k at d m F h go (arg (drop at v)) (rd (drop at v) d m) (ih (drop at v) d m))
 
     -- the end of the arguments
     end : (at : ℕ) (d : List ℕ) (m : ℕ) (x : Term) → at ≤ length v → sizeOf (raw x) * 4 ≤ at + 3
         → m + 1 ≡ n₀ + sizeOf (raw x) → set d m (77309411328 + f) ≡ sets d₀ n₀ (nodes (raw x))
-        → Same (whole x (drop at v) r) (close (argsOf rd 0 v at d m))
-    unfolding argsOf closeAt
+        → Same (whole x (drop at v) r) (close (readArguments rd 0 v at d m))
+    unfolding readArguments closeAt
     end at d m x h few count same =
         whole-at Same x v r at _ _ h (λ e. (after, fits, omega arith, (let q : at + 3 ≡ size = omega arith in rw (q, count, same)))) refl
 
   module _ (f : ℕ) (w : List ℕ) (full : length (f ∷ w) + 3 ≡ size) where
-    one-arg : eqb f 3 ≡ true → Same (tree.argsOf arg f w r) (bodyOf rd (Apply f) (f ∷ w) d₀ n₀)
+    one-arg : eqb f 3 ≡ true → Same (tree.argsOf arg f w r) (readBody rd (Apply f) (f ∷ w) d₀ n₀)
     unfolding arity fillTerm nodes sizeOf
     one-arg e =
         let q : arity f ≡ 1 = rw e in
@@ -93,7 +93,7 @@ module _ (arg : List ℕ → Got Term) (rd : List ℕ → List ℕ → ℕ → O
         (λ a i h k. rw e (end f (f ∷ w) full i (sets d₀ n₀ (nodes (raw a))) (n₀ + sizeOf (raw a)) (apply1 f a) h (omega arith) (omega arith)
         (sym (sets-nodes (raw a) d₀ n₀ ((77309411328 + f) ∷ []))))))
 
-    two-args : eqb f 3 ≡ false → eqb f 14 ≡ false → Same (tree.argsOf arg f w r) (bodyOf rd (Apply f) (f ∷ w) d₀ n₀)
+    two-args : eqb f 3 ≡ false → eqb f 14 ≡ false → Same (tree.argsOf arg f w r) (readBody rd (Apply f) (f ∷ w) d₀ n₀)
     unfolding arity fillTerm nodes sizeOf
     two-args e c =
         let q : arity f ≡ 2 = rw (e, c) in
@@ -103,7 +103,7 @@ module _ (arg : List ℕ → Got Term) (rd : List ℕ → List ℕ → ℕ → O
         (λ b j h₁ k₁. rw c (end f (f ∷ w) full j (sets (sets d₀ n₀ (nodes (raw a))) (n₀ + sizeOf (raw a)) (nodes (raw b))) (n₀ + sizeOf (raw a) + sizeOf (raw b)) (apply2 f a b) h₁ (omega arith) (omega arith)
         (sym (sets-nodes (raw a) d₀ n₀ (nodes (raw b) ++ ((77309411328 + f) ∷ [])) ∙ sets-nodes (raw b) (sets d₀ n₀ (nodes (raw a))) (n₀ + sizeOf (raw a)) ((77309411328 + f) ∷ []))))))))
 
-    three-args : eqb f 3 ≡ false → eqb f 14 ≡ true → Same (tree.argsOf arg f w r) (bodyOf rd (Apply f) (f ∷ w) d₀ n₀)
+    three-args : eqb f 3 ≡ false → eqb f 14 ≡ true → Same (tree.argsOf arg f w r) (readBody rd (Apply f) (f ∷ w) d₀ n₀)
     unfolding arity fillTerm nodes sizeOf
     three-args e c =
         let q : arity f ≡ 3 = rw (e, c) in
@@ -117,12 +117,12 @@ module _ (arg : List ℕ → Got Term) (rd : List ℕ → List ℕ → ℕ → O
         ∙ sets-nodes (raw b) (sets d₀ n₀ (nodes (raw a))) (n₀ + sizeOf (raw a)) (nodes (raw x) ++ ((77309411328 + f) ∷ []))
         ∙ sets-nodes (raw x) (sets (sets d₀ n₀ (nodes (raw a))) (n₀ + sizeOf (raw a)) (nodes (raw b))) (n₀ + sizeOf (raw a) + sizeOf (raw b)) ((77309411328 + f) ∷ [])))))))))
 
-    args : Same (tree.argsOf arg f w r) (bodyOf rd (Apply f) (f ∷ w) d₀ n₀)
+    args : Same (tree.argsOf arg f w r) (readBody rd (Apply f) (f ∷ w) d₀ n₀)
     args = split (eqb f 3) one-arg (λ e. split (eqb f 14) (three-args e) (two-args e))
 
   -- by the tag, with the value w
   abbrev Begins : List ℕ → Got Term → Head → Type 0
-  Begins w g h = Same g (bodyOf rd h w d₀ n₀)
+  Begins w g h = Same g (readBody rd h w d₀ n₀)
 
   word-begins : (w : List ℕ) → length w + 3 ≡ size → Begins w (wordOf literal w r) (pick (eqb (length w) 4) (Leaf (68719476736 + getAt w 0) 7) (NoHead 6))
   unfolding fillTerm nodes sizeOf getAt
@@ -171,13 +171,13 @@ module _ (arg : List ℕ → Got Term) (rd : List ℕ → List ℕ → ℕ → O
 
 body : (arg : List ℕ → Got Term) (rd : List ℕ → List ℕ → ℕ → Out) → ((u d : List ℕ) (n : ℕ) → SameExpr u (span u) d n (arg u) (rd u d n))
     → (left : ℕ) (s d : List ℕ) (n : ℕ) (x : tree.Field) (f : Field) → SameField 16 19 s x f
-    → SameExpr s (span s) d n (exprBody arg x) (bodyOf rd (headFrom (suc left) f (partOf s f)) (partOf s f) d n)
+    → SameExpr s (span s) d n (exprBody arg x) (readBody rd (headFrom (suc left) f (partOf s f)) (partOf s f) d n)
 body arg rd ih left s d n (refused k) f h = rw h refl
 body arg rd ih left s d n (present t v r) f h =
     rw (h .0, h .1) (begins arg rd ih s (span s) d n r (h .2) (h .3) left t (valueIn s) (value-length s (h .3)))
 
 bottom : (rd : List ℕ → List ℕ → ℕ → Out) (s d : List ℕ) (n : ℕ) (x : tree.Field) (f : Field) → SameField 16 19 s x f
-    → SameExpr s (span s) d n (deepest x) (bodyOf rd (headFrom 0 f (partOf s f)) (partOf s f) d n)
+    → SameExpr s (span s) d n (deepest x) (readBody rd (headFrom 0 f (partOf s f)) (partOf s f) d n)
 unfolding headAt
 bottom rd s d n (refused k) f h = rw h refl
 bottom rd s d n (present t v r) f h = rw (h .0) refl

@@ -15,7 +15,7 @@ use Rattle.spec_language.specs.Reading as tree
 use Rattle.spec_language.specs.Reading.{refused, present, fieldAt, Got, bad, got, whole, ends}
 use Rattle.spec_grammar.proofs.Fields.{field-by-position}
 use Rattle.front_field.specs.Field.{stated, fieldOf}
-use Rattle.front_field.specs.Expression.{rest}
+use Rattle.front_field.specs.Expression.{restFrom}
 use Rattle.front_field.specs.declared.Field.{Field}
 use Rattle.front_field.specs.declared.Field.the-variants.{Value, Refused}
 
@@ -57,7 +57,7 @@ value-length s h =
     omega arith
 
 -- the rest of a value
-pub rest-drop : (at : ℕ) (v : List ℕ) → rest at v ≡ drop at v
+pub rest-drop : (at : ℕ) (v : List ℕ) → restFrom at v ≡ drop at v
 rest-drop at v = take-all (length v - at) (drop at v) (omega (arith, length-drop at v))
 
 -- nothing is left over at the end, and only there

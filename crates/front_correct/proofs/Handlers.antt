@@ -20,10 +20,10 @@ use Rattle.spec_language.specs.Code.{sizeOf}
 use Rattle.spec_language.specs.Reading as tree
 use Rattle.spec_language.specs.Reading.{refused, present, fieldAt, Got, bad, got, then, handles, phaseOf, handlerIn, handlerBody, handlersAt}
 use Rattle.front_field.specs.Field.{fieldOf, partOf}
-use Rattle.front_field.specs.Expression.{Out, out, rest, onward}
+use Rattle.front_field.specs.Expression.{Out, out, restFrom, goOnAfter}
 use Rattle.front_field.specs.declared.Field.{Field}
 use Rattle.front_field.specs.declared.Read.the-variants.{Done, Fault}
-use Rattle.front_draft.specs.Draft.{draftLength, nodes, handlerNodes, entry}
+use Rattle.front_draft.specs.Draft.{draftLength, nodes, handlerNodes, packedEntry}
 use Rattle.front_behaviours.specs.Handler.{slot, handlerAt, handlerFrom, handlerOf, handlersOf}
 use Rattle.front_correct.proofs.Fields.{valueIn, span, SameField, same-field, value-length, rest-drop, ends-test}
 use Rattle.front_correct.proofs.Expressions.{raw}
@@ -45,7 +45,7 @@ abbrev pub SameHandler : ℕ → List Clause → ℕ → List ℕ → ℕ → Li
 SameHandler events hs i s size d n (bad k) o = o .0 ≡ Fault k
 SameHandler events hs i s size d n (got (clause e φ x) r) o =
     (e < events) × (handles e hs ≡ false) × (r ≡ drop size s) × (size ≤ length s) × (sizeOf (raw x) * 4 ≤ size)
-    × (o ≡ out (Done size (n + sizeOf (raw x))) (set (sets d n (nodes (raw x))) (slot i e) (entry (phaseKind φ) n (sizeOf (raw x)))))
+    × (o ≡ out (Done size (n + sizeOf (raw x))) (set (sets d n (nodes (raw x))) (slot i e) (packedEntry (phaseKind φ) n (sizeOf (raw x)))))
 
 module _ (events : ℕ) (hs : List Clause) (i : ℕ) (d : List ℕ) (n : ℕ)
     (test : (e : ℕ) → e < events → eqb (getD d (slot i e) 0) 0 ≡ not (handles e hs)) where
@@ -58,7 +58,7 @@ module _ (events : ℕ) (hs : List Clause) (i : ℕ) (d : List ℕ) (n : ℕ)
     handler-value [] full = refl
     handler-value (e ∷ []) full = by-two Same (leb events e) (λ c. refl) (λ c. refl)
     handler-value (e ∷ (φ ∷ v)) full =
-        let q : rest 2 (e ∷ (φ ∷ v)) ≡ v = rest-drop 2 (e ∷ (φ ∷ v)) in
+        let q : restFrom 2 (e ∷ (φ ∷ v)) ≡ v = rest-drop 2 (e ∷ (φ ∷ v)) in
         rw (eqb·suc-zero (suc (length v)), ne-eqb (length (e ∷ (φ ∷ v))) 1 (omega arith))
         (by-two Same (leb events e) (λ c. refl)
         (λ c. by-two Same (ltb 1 φ) (λ b. refl)
@@ -103,37 +103,37 @@ module _ (i w : ℕ) (d₀ : List ℕ) (n₀ : ℕ) (low : i < 64) where
   module _ (hs : List Clause) (d : List ℕ) (n e : ℕ) (φ : Phase) (x : Term)
       (t : Turn i w d₀ n₀ hs d n) (le : e < 32) (room : n + sizeOf (raw x) ≤ 2048) (fresh : handles e hs ≡ false) where
     abbrev new : List ℕ
-    new = written d n (raw x) (slot i e) (entry (phaseKind φ) n (sizeOf (raw x))) (t .long) room (omega arith) (omega arith)
+    new = written d n (raw x) (slot i e) (packedEntry (phaseKind φ) n (sizeOf (raw x))) (t .long) room (omega arith) (omega arith)
 
-    entry-says : (ψ : Phase) → SaysBy (set (sets d n (nodes (raw x))) (slot i e) (entry (phaseKind ψ) n (sizeOf (raw x)))) (n + sizeOf (raw x)) (entry (phaseKind ψ) n (sizeOf (raw x))) (inPhase ψ (raw x))
-    entry-says immediate = (n, refl, omega arith, written-there d n (raw x) (slot i e) (entry 2 n (sizeOf (raw x))) (t .long) room (omega arith) (omega arith))
-    entry-says later = (n, refl, omega arith, written-there d n (raw x) (slot i e) (entry 3 n (sizeOf (raw x))) (t .long) room (omega arith) (omega arith))
+    entry-says : (ψ : Phase) → SaysBy (set (sets d n (nodes (raw x))) (slot i e) (packedEntry (phaseKind ψ) n (sizeOf (raw x)))) (n + sizeOf (raw x)) (packedEntry (phaseKind ψ) n (sizeOf (raw x))) (inPhase ψ (raw x))
+    entry-says immediate = (n, refl, omega arith, written-there d n (raw x) (slot i e) (packedEntry 2 n (sizeOf (raw x))) (t .long) room (omega arith) (omega arith))
+    entry-says later = (n, refl, omega arith, written-there d n (raw x) (slot i e) (packedEntry 3 n (sizeOf (raw x))) (t .long) room (omega arith) (omega arith))
 
     other : (j : ℕ) → 2048 ≤ j → j ≢ slot i e → getD new j 0 ≡ getD d j 0
-    other = written-other d n (raw x) (slot i e) (entry (phaseKind φ) n (sizeOf (raw x))) (t .long) room (omega arith) (omega arith)
+    other = written-other d n (raw x) (slot i e) (packedEntry (phaseKind φ) n (sizeOf (raw x))) (t .long) room (omega arith) (omega arith)
 
     row-says : (f : ℕ) → SaysBy new (n + sizeOf (raw x)) (cell new i f) (handled f (raws (hs ++ (clause e φ x ∷ []))))
     row-says f =
         split (eqb f e)
         (λ c.
         let q : f ≡ e = eqb-true f e c in
-        let p : cell new i e ≡ entry (phaseKind φ) n (sizeOf (raw x)) =
-        rw (lt-ltb e 32 le) (written-same d n (raw x) (slot i e) (entry (phaseKind φ) n (sizeOf (raw x))) (t .long) room (omega arith) (omega arith)) in
+        let p : cell new i e ≡ packedEntry (phaseKind φ) n (sizeOf (raw x)) =
+        rw (lt-ltb e 32 le) (written-same d n (raw x) (slot i e) (packedEntry (phaseKind φ) n (sizeOf (raw x))) (t .long) room (omega arith) (omega arith)) in
         rw (q, p, handled-new e φ x hs fresh) (entry-says φ))
         (λ c.
         let q : f ≢ e = eqb-false f e c in
         let p : cell new i f ≡ cell d i f = rw (other (slot i f) (omega arith) (omega arith)) in
         rw (p, handled-other f e φ x hs q)
         (says-kept d new n (n + sizeOf (raw x)) (cell d i f) (handled f (raws hs)) (omega arith)
-        (written-take d n (raw x) (slot i e) (entry (phaseKind φ) n (sizeOf (raw x))) (t .long) room (omega arith) (omega arith)) (t .rows f)))
+        (written-take d n (raw x) (slot i e) (packedEntry (phaseKind φ) n (sizeOf (raw x))) (t .long) room (omega arith) (omega arith)) (t .rows f)))
 
     turn : Turn i w d₀ n₀ (hs ++ (clause e φ x ∷ [])) new (n + sizeOf (raw x))
     turn = record {
-      long = written-long d n (raw x) (slot i e) (entry (phaseKind φ) n (sizeOf (raw x))) (t .long) room (omega arith) (omega arith);
+      long = written-long d n (raw x) (slot i e) (packedEntry (phaseKind φ) n (sizeOf (raw x))) (t .long) room (omega arith) (omega arith);
       frame = frame-on i n₀ n d₀ d new (t .grown) (t .frame)
-          (written-take d n (raw x) (slot i e) (entry (phaseKind φ) n (sizeOf (raw x))) (t .long) room (omega arith) (omega arith), λ j a b _ _ _. other j a (b e le));
+          (written-take d n (raw x) (slot i e) (packedEntry (phaseKind φ) n (sizeOf (raw x))) (t .long) room (omega arith) (omega arith), λ j a b _ _ _. other j a (b e le));
       grown = omega (arith, t .grown);
-      pool = written-pool d n (raw x) (slot i e) (entry (phaseKind φ) n (sizeOf (raw x))) (t .long) room (omega arith) (omega arith)
+      pool = written-pool d n (raw x) (slot i e) (packedEntry (phaseKind φ) n (sizeOf (raw x))) (t .long) room (omega arith) (omega arith)
           ∙ rw (t .pool, nodes-snoc hs e φ x) (append-assoc (take n₀ d₀) (handlerNodes (raws hs)) (nodes (raw x)));
       body = other (4096 + i) (omega arith) (omega arith) ∙ t .body;
       start = other (4160 + i) (omega arith) (omega arith) ∙ t .start;
@@ -167,13 +167,13 @@ module _ (events i w : ℕ) (d₀ : List ℕ) (n₀ : ℕ) (v : List ℕ) (most 
       → ((at′ : ℕ) (hs′ : List Clause) (d′ : List ℕ) (n′ : ℕ) → at < at′ → Due at′ hs′ d′ n′
       → Both (handlersAt k events hs′ (drop at′ v)) (handlersOf l v at′ events i d′ n′))
       → (g : Got Clause) (o : Out) → SameHandler events hs i (drop at v) (span (drop at v)) d n g o
-      → Both (then g (λ h r. handlersAt k events (hs ++ (h ∷ [])) r)) (onward (o .0) (o .1) (λ size m. handlersOf l v (at + size) events i (o .1) m))
+      → Both (then g (λ h r. handlersAt k events (hs ++ (h ∷ [])) r)) (goOnAfter (o .0) (o .1) (λ size m. handlersOf l v (at + size) events i (o .1) m))
   next k l at hs d n t ih (bad j) o e = rw e refl
   next k l at hs d n t ih (got (clause e φ x) r) o h =
       let q : length (drop at v) ≡ length v - at = length-drop at v in
       let p : r ≡ drop (at + span (drop at v)) v = h .2 ∙ drop-drop (span (drop at v)) at v in
       rw (h .5, p)
-      (ih (at + span (drop at v)) (hs ++ (clause e φ x ∷ [])) (set (sets d n (nodes (raw x))) (slot i e) (entry (phaseKind φ) n (sizeOf (raw x)))) (n + sizeOf (raw x)) (omega arith)
+      (ih (at + span (drop at v)) (hs ++ (clause e φ x ∷ [])) (set (sets d n (nodes (raw x))) (slot i e) (packedEntry (phaseKind φ) n (sizeOf (raw x)))) (n + sizeOf (raw x)) (omega arith)
       (omega arith, omega arith, turn i w d₀ n₀ low hs d n e φ x (t .2) (omega arith) (omega arith) (h .1)))
 
   pub same-handlers : (k l at : ℕ) (hs : List Clause) (d : List ℕ) (n : ℕ) → Due at hs d n → length v ≤ at + k → length v ≤ at + l

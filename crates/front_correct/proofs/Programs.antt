@@ -23,7 +23,7 @@ use Rattle.front_draft.specs.Draft.{draftLength}
 use Rattle.front_rows.specs.Cells.{cellsAt}
 use Rattle.front_sheet.specs.declared.Draft.the-variants.{Ready, Broken}
 use Rattle.front_behaviours.specs.Behaviour.{behaviourOf}
-use Rattle.front_sheet.specs.Whole.{Made, sender, signalAt, priorityAt, eventFrom, eventOf, eventNext, eventsOf, Finish, finished, proceed, behavioursOf, readOn}
+use Rattle.front_sheet.specs.Whole.{EventRead, sender, signalAt, priorityAt, eventFrom, readEvent, eventNext, readEvents, Finish, finished, proceed, behavioursOf, readOn}
 use Rattle.front_correct.proofs.Fields.{span, SameField, same-field, value-length, rest-drop, end-test}
 use Rattle.front_correct.proofs.Behaviours.{GrownBy, SameBehaviour, due-least, due-most, same-behaviour, first-behaviour}
 use Rattle.front_correct.proofs.Spread.{length-spread}
@@ -113,16 +113,16 @@ module _ (s : List ℕ) (small : length s ≤ 8192) where
   Early at rs d = (at ≤ length s) × Sofar rs [] d 0
 
   module _ (k l at : ℕ) (rs : List Signal) (d : List ℕ) (t : Early at rs d) (lt : at < length s) (a : length s ≤ at + suc k)
-      (ih : (at′ : ℕ) (rs′ : List Signal) (d′ : List ℕ) → at < at′ → Early at′ rs′ d′ → SameProgram (eventsAt k rs′ (drop at′ s)) (go-on (eventsOf l s at′ (length rs′) d′))) where
-    abbrev After : Got Sheet → Made → Type 0
-    After g o = SameProgram g (go-on (eventNext (o .0) (o .1) at (length rs) (λ size. eventsOf l s (at + size) (length rs + 1) (o .1))))
+      (ih : (at′ : ℕ) (rs′ : List Signal) (d′ : List ℕ) → at < at′ → Early at′ rs′ d′ → SameProgram (eventsAt k rs′ (drop at′ s)) (go-on (readEvents l s at′ (length rs′) d′))) where
+    abbrev After : Got Sheet → EventRead → Type 0
+    After g o = SameProgram g (go-on (eventNext (o .0) (o .1) at (length rs) (λ size. readEvents l s (at + size) (length rs + 1) (o .1))))
 
     -- the draft with event r after those of rs
     abbrev with : Signal → List ℕ
     with r = set (set d (4224 + length rs) (r .priority)) (sender (length rs)) (allowed (r .sender))
 
     declared : (r : Signal) (z : ℕ) (u : List ℕ) → length rs < 32 → u ≡ drop z (drop at s) → 0 < z → at + z ≤ length s
-        → SameProgram (eventsAt k (rs ++ (r ∷ [])) u) (go-on (eventsOf l s (at + z) (length rs + 1) (with r)))
+        → SameProgram (eventsAt k (rs ++ (r ∷ [])) u) (go-on (readEvents l s (at + z) (length rs + 1) (with r)))
     declared r z u low e b h =
         let q : u ≡ drop (at + z) s = e ∙ drop-drop z at s in
         let p : length (rs ++ (r ∷ [])) ≡ length rs + 1 = length-append rs (r ∷ []) in
@@ -135,12 +135,12 @@ module _ (s : List ℕ) (small : length s ≤ 8192) where
     signal-value (r ∷ []) u z q e h low =
         let p : z ≡ 4 = omega arith in
         let c : length (drop at s) ≡ length s - at = length-drop at s in
-        by-two (λ (g : Got Signal) (o : Made). After (then g (λ r w. eventsAt k (rs ++ (r ∷ [])) w)) o) (ltb 15 r) (λ b. refl)
+        by-two (λ (g : Got Signal) (o : EventRead). After (then g (λ r w. eventsAt k (rs ++ (r ∷ [])) w)) o) (ltb 15 r) (λ b. refl)
         (λ b. declared (signal r none) 4 u low (e ∙ rw p) (omega arith) (omega arith))
     signal-value (r ∷ (m ∷ [])) u z q e h low =
         let p : z ≡ 5 = omega arith in
         let c : length (drop at s) ≡ length s - at = length-drop at s in
-        by-two (λ (g : Got Signal) (o : Made). After (then g (λ r w. eventsAt k (rs ++ (r ∷ [])) w)) o) (ltb 15 r) (λ b. refl)
+        by-two (λ (g : Got Signal) (o : EventRead). After (then g (λ r w. eventsAt k (rs ++ (r ∷ [])) w)) o) (ltb 15 r) (λ b. refl)
         (λ b. declared (signal r (some m)) 5 u low (e ∙ rw p) (omega arith) (omega arith))
     signal-value (r ∷ (m ∷ (x ∷ v))) u z q e h low =
         rw (ne-eqb (length (r ∷ (m ∷ (x ∷ v)))) 0 (omega arith), lt-ltb 2 (length (r ∷ (m ∷ (x ∷ v)))) (omega arith)) refl
@@ -157,15 +157,15 @@ module _ (s : List ℕ) (small : length s ≤ 8192) where
         (λ c. signal-value v r (span (drop at s)) (ap (λ (u : List ℕ). length u + 3) (h .1) ∙ value-length (drop at s) (h .3)) (h .2) (h .3) (leb-false 32 (length rs) c)))
         (λ e. others s rs k (length s) at d (t .1) lt small a (omega arith) y v r f h (eqb-false y 1 e))))
 
-    event-here : After (eventsBody (eventsAt k) (behavioursAt k rs) rs (dueAt 1 (drop at s))) (eventOf (drop at s) (length rs) d)
-    unfolding eventOf
+    event-here : After (eventsBody (eventsAt k) (behavioursAt k rs) rs (dueAt 1 (drop at s))) (readEvent (drop at s) (length rs) d)
+    unfolding readEvent
     event-here =
         rw (due-least 1 (drop at s), due-most (drop at s))
         (event-field (dueAt 1 (drop at s)) (fieldOf (drop at s) (least 1 (drop at s)) (most (drop at s))) (same-field (least 1 (drop at s)) (most (drop at s)) (drop at s)))
 
   same-events : (k l at : ℕ) (rs : List Signal) (d : List ℕ) → Early at rs d → length s ≤ at + k → length s ≤ at + l
-      → SameProgram (eventsAt k rs (drop at s)) (go-on (eventsOf l s at (length rs) d))
-  unfolding eventsAt eventsOf
+      → SameProgram (eventsAt k rs (drop at s)) (go-on (readEvents l s at (length rs) d))
+  unfolding eventsAt readEvents
   same-events zero zero at rs d t a b =
       let e : at ≡ length s = omega arith in
       rw (end-test at s (t .0), eq-eqb at (length s) e) (none-left s rs (length s) at d (t .1) e small)

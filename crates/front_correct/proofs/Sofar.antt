@@ -25,7 +25,7 @@ use Rattle.spec_language.specs.Sheet.{fillTerm, fillClauses, fillEntries, fill}
 use Rattle.spec_language.proofs.SheetLaws.{blank, length-priorities, length-fill, fill-at}
 use Rattle.spec_language.specs.Reading.{entry, sheet}
 use Rattle.front_draft.proofs.DraftLaws.{take-used}
-use Rattle.front_draft.specs.Draft.{draftLength, behaviourNodes, programNodes, entryOf, placeOf, moved, usedBy, Stands, Says, StartIs, Drafted, unfilled}
+use Rattle.front_draft.specs.Draft.{draftLength, behaviourNodes, programNodes, entryOf, placeOf, moved, usedBy, Stands, EntrySays, StartIs, Drafted, unfilled}
 use Rattle.front_rows.specs.Cells.{cellCopied, cellsCopied, rowCopied}
 use Rattle.front_rows.proofs.CellLaws.{cell-long, cell-take, cell-other, cell-entry, cell-start, cell-viewer, cell-place}
 use Rattle.front_viewers.specs.Ending.{viewer}
@@ -415,13 +415,13 @@ module _ (d : List ℕ) (n : ℕ) (room : n ≤ 2048) where
   stands : (kind v : ℕ) (x : Expr) → StandsBy d n kind v x → Stands d kind v x
   stands kind v x h = record { start = h .0; packed = h .1; within = omega arith; there = h .3 }
 
-  says : (v : ℕ) (r : Response) → SaysBy d n v r → Says d v r
+  says : (v : ℕ) (r : Response) → SaysBy d n v r → EntrySays d v r
   says v (follows x) h = stands 1 v x h
   says v (takes x) h = stands 2 v x h
   says v (defers x) h = stands 3 v x h
   says v keeps h = h
 
-  row-says : (e i : ℕ) (b : Behaviour) → RowIs d n i b → Says d (entryOf d e i) (respond e b)
+  row-says : (e i : ℕ) (b : Behaviour) → RowIs d n i b → EntrySays d (entryOf d e i) (respond e b)
   unfolding entryOf
   row-says e i (passive x) h = rw (ne-eqb (getD d (4096 + i) 0) 0 (stands-some d n 1 (getD d (4096 + i) 0) x (h .0))) (stands 1 (getD d (4096 + i) 0) x (h .0))
   row-says e i (active w hs) h = rw (eq-eqb (getD d (4096 + i) 0) 0 (h .0)) (says (cell d i e) (handled e hs) (h .2 e))
@@ -445,21 +445,21 @@ module _ (d : List ℕ) (n : ℕ) (room : n ≤ 2048) where
           there = rw z (take-used d i (sizeOf (fillTerm unfilled x)) (b .start) ∙ ap (map (moved d i)) (b .there) ∙ term-moved d bs l fits few (s .flat .placed) i (omega arith) t);
         }
 
-    phase-moved : (v : ℕ) (φ : Phase) (x : Term) {k : ℕ} → TermFits k x → Says d v (inPhase φ (fillTerm unfilled x)) → Says (usedBy d i) v (inPhase φ (fillTerm unfilled (renameTerm f x)))
+    phase-moved : (v : ℕ) (φ : Phase) (x : Term) {k : ℕ} → TermFits k x → EntrySays d v (inPhase φ (fillTerm unfilled x)) → EntrySays (usedBy d i) v (inPhase φ (fillTerm unfilled (renameTerm f x)))
     phase-moved v immediate x t b = stands-moved 2 v x t b
     phase-moved v later x t b = stands-moved 3 v x t b
 
-    handled-moved : (e v : ℕ) (cs : List Clause) → ClausesFit l cs → Says d v (handled e (fillClauses unfilled cs)) → Says (usedBy d i) v (handled e (fillClauses unfilled (renameClauses f cs)))
+    handled-moved : (e v : ℕ) (cs : List Clause) → ClausesFit l cs → EntrySays d v (handled e (fillClauses unfilled cs)) → EntrySays (usedBy d i) v (handled e (fillClauses unfilled (renameClauses f cs)))
     unfolding handled fillClauses renameClauses
     handled-moved e v [] t b = b
     handled-moved e v (clause g φ x ∷ cs) t b =
         split (eqb e g)
-        (λ c. subst (Says (usedBy d i) v) (sym (handled-here e g φ (fillTerm unfilled (renameTerm f x)) (fillClauses unfilled (renameClauses f cs)) c))
-        (phase-moved v φ x (t .1) (subst (Says d v) (handled-here e g φ (fillTerm unfilled x) (fillClauses unfilled cs) c) b)))
-        (λ c. subst (Says (usedBy d i) v) (sym (handled-there e g φ (fillTerm unfilled (renameTerm f x)) (fillClauses unfilled (renameClauses f cs)) c))
-        (handled-moved e v cs (t .3) (subst (Says d v) (handled-there e g φ (fillTerm unfilled x) (fillClauses unfilled cs) c) b)))
+        (λ c. subst (EntrySays (usedBy d i) v) (sym (handled-here e g φ (fillTerm unfilled (renameTerm f x)) (fillClauses unfilled (renameClauses f cs)) c))
+        (phase-moved v φ x (t .1) (subst (EntrySays d v) (handled-here e g φ (fillTerm unfilled x) (fillClauses unfilled cs) c) b)))
+        (λ c. subst (EntrySays (usedBy d i) v) (sym (handled-there e g φ (fillTerm unfilled (renameTerm f x)) (fillClauses unfilled (renameClauses f cs)) c))
+        (handled-moved e v cs (t .3) (subst (EntrySays d v) (handled-there e g φ (fillTerm unfilled x) (fillClauses unfilled cs) c) b)))
 
-    item-moved : (e v : ℕ) (y : Item) → ItemFits l y → Says d v (respond e (rawItem y)) → Says (usedBy d i) v (respond e (rawItem (moveItem f y)))
+    item-moved : (e v : ℕ) (y : Item) → ItemFits l y → EntrySays d v (respond e (rawItem y)) → EntrySays (usedBy d i) v (respond e (rawItem (moveItem f y)))
     item-moved e v (formula x) t b = stands-moved 1 v x t b
     item-moved e v (state w cs) t b = handled-moved e v cs (t .1) b
     item-moved e v (row c w cs) t b = handled-moved e v cs (t .3) b
@@ -478,7 +478,7 @@ module _ (d : List ℕ) (n : ℕ) (room : n ≤ 2048) where
     own-fits : ItemFits l y
     own-fits = all-at (EntryFits l) (spread bs) i blank (spread-fits l bs fits) (omega (arith, length-spread bs)) .0
 
-    cell-says : (e : ℕ) → Says (usedBy d i) (entryOf d e i) (respond e (rawItem (getD (entriesOut bs bs) i blank .item)))
+    cell-says : (e : ℕ) → EntrySays (usedBy d i) (entryOf d e i) (respond e (rawItem (getD (entriesOut bs bs) i blank .item)))
     cell-says e = rw (out-at bs l bs fits i h) (item-moved e (entryOf d e i) y own-fits (row-says e i (rawItem y) here))
 
     cell-starts : StartIs d i (rawItem (getD (entriesOut bs bs) i blank .item))

@@ -24,7 +24,7 @@ use Rattle.spec_language.proofs.Laws.{length-upTo, getD-upTo}
 use Rattle.spec_language.proofs.RowLaws.{length-entry, head-within}
 use Rattle.spec_language.proofs.SheetLaws.{blank}
 use Rattle.front_draft.specs.Draft.{nodes, placeOf, moved, unfilled}
-use Rattle.front_draft.specs.Entry.{tagOf, wordOf}
+use Rattle.front_draft.specs.Entry.{nodeTag, nodeWord}
 
 -- ---- the cells
 
@@ -283,9 +283,9 @@ module _ (d : List ℕ) (xs : List Entry) (n : ℕ) (fits : All (EntryFits n) xs
   abbrev a : ℕ
   a = getD (places xs) i 0
 
-  other-node : (x : ℕ) → tagOf x ≢ 17 → moved d i x ≡ x
+  other-node : (x : ℕ) → nodeTag x ≢ 17 → moved d i x ≡ x
   unfolding moved
-  other-node x h = rw (ne-eqb (tagOf x) 17 h)
+  other-node x h = rw (ne-eqb (nodeTag x) 17 h)
 
   app-node : (f k : ℕ) → Arity f k → moved d i (77309411328 + f) ≡ 77309411328 + f
   app-node f k unary = other-node (77309411328 + f) (λ e. omega arith)
@@ -298,19 +298,19 @@ module _ (d : List ℕ) (xs : List Entry) (n : ℕ) (fits : All (EntryFits n) xs
   name-outside z m h =
       let p : placeOf d i ≡ 0 = there i low ∙ z in
       rw (z, p, mover-none xs m)
-      (by-test (λ (y : ℕ). y ≡ 73014444032 + m) (eqb (tagOf (73014444032 + m)) 17)
-      (λ _. by-test (λ (y : ℕ). y ≡ 73014444032 + m) (ltb (wordOf (73014444032 + m)) 64)
-      (λ _. by-test (λ (y : ℕ). y ≡ 73014444032 + m) (eqb (placeOf d (wordOf (73014444032 + m))) (0 / 16 * 16)) (λ _. omega arith) (λ _. refl))
+      (by-test (λ (y : ℕ). y ≡ 73014444032 + m) (eqb (nodeTag (73014444032 + m)) 17)
+      (λ _. by-test (λ (y : ℕ). y ≡ 73014444032 + m) (ltb (nodeWord (73014444032 + m)) 64)
+      (λ _. by-test (λ (y : ℕ). y ≡ 73014444032 + m) (eqb (placeOf d (nodeWord (73014444032 + m))) (0 / 16 * 16)) (λ _. omega arith) (λ _. refl))
       (λ _. refl))
       (λ _. refl))
 
   name-inside : 16 ≤ a → (m : ℕ) → m < 256 → moved d i (73014444032 + m) ≡ 73014444032 + mover xs a m
   unfolding moved
   name-inside z m h =
-      let t : tagOf (73014444032 + m) ≡ 17 = omega arith in
-      let w : wordOf (73014444032 + m) ≡ m = omega arith in
+      let t : nodeTag (73014444032 + m) ≡ 17 = omega arith in
+      let w : nodeWord (73014444032 + m) ≡ m = omega arith in
       let p : placeOf d i ≡ a = there i low in
-      rw (eq-eqb (tagOf (73014444032 + m)) 17 t, w, p)
+      rw (eq-eqb (nodeTag (73014444032 + m)) 17 t, w, p)
       (split (ltb m 64)
       (λ l.
       let q : eqb (placeOf d m) (a / 16 * 16) ≡ heads xs (a / 16) m =

@@ -8,8 +8,8 @@ use lib.ListN.{length, getD, take, drop, length-append, length-map, List·getD-m
 use Rattle.spec_language.specs.Syntax.{Expr, con, name, app1, app2, app3, Program}
 use Rattle.spec_language.specs.Dependence.{Response, follows, takes, defers, keeps, size, response}
 use Rattle.spec_language.specs.Code.{sizeOf}
-use Rattle.front_draft.specs.Draft.{draftLength, nodes, entry, entryOf, placeOf, moved, usedBy, Stands, Says, Drafted, DraftOf}
-use Rattle.front_draft.specs.Entry.{kindOf, startOf, countOf, wordOf}
+use Rattle.front_draft.specs.Draft.{draftLength, nodes, packedEntry, entryOf, placeOf, moved, usedBy, Stands, EntrySays, Drafted, DraftOf}
+use Rattle.front_draft.specs.Entry.{entryKind, entryStart, entryCount, nodeWord}
 
 -- ---- entries
 
@@ -23,20 +23,20 @@ size-positive (app3 f a b c) = omega arith
 
 -- the entry v of expression x, taken apart
 pub record Holds (d : List ℕ) (kind v : ℕ) (x : Expr) : Type 0 where
-  pub kind-is : kindOf v ≡ kind
-  pub count-is : countOf v ≡ sizeOf x
-  pub inside : startOf v + countOf v ≤ 2048
-  pub there : take (sizeOf x) (drop (startOf v) d) ≡ nodes x
+  pub kind-is : entryKind v ≡ kind
+  pub count-is : entryCount v ≡ sizeOf x
+  pub inside : entryStart v + entryCount v ≤ 2048
+  pub there : take (sizeOf x) (drop (entryStart v) d) ≡ nodes x
   pub some : 0 < v
 
-module _ (kind start count v : ℕ) (k : kind < 4) (b : start + count ≤ 2048) (c : 1 ≤ count) (e : v ≡ entry kind start count) where
-  entry-kind : kindOf v ≡ kind
+module _ (kind start count v : ℕ) (k : kind < 4) (b : start + count ≤ 2048) (c : 1 ≤ count) (e : v ≡ packedEntry kind start count) where
+  entry-kind : entryKind v ≡ kind
   entry-kind = omega arith
 
-  entry-count : countOf v ≡ count
+  entry-count : entryCount v ≡ count
   entry-count = omega arith
 
-  entry-start : startOf v ≡ start
+  entry-start : entryStart v ≡ start
   entry-start = omega arith
 
   entry-some : 0 < v
@@ -62,13 +62,13 @@ Entry d v (takes x) = Holds d 2 v x
 Entry d v (defers x) = Holds d 3 v x
 Entry d v keeps = v ≡ 0
 
-pub entry-says : (d : List ℕ) (v : ℕ) (r : Response) → Says d v r → Entry d v r
+pub entry-says : (d : List ℕ) (v : ℕ) (r : Response) → EntrySays d v r → Entry d v r
 entry-says d v (follows x) s = stands-holds d 1 v x (omega arith) s
 entry-says d v (takes x) s = stands-holds d 2 v x (omega arith) s
 entry-says d v (defers x) s = stands-holds d 3 v x (omega arith) s
 entry-says d v keeps s = s
 
-entry-bounded : (d : List ℕ) (v : ℕ) (r : Response) → Entry d v r → startOf v + countOf v ≤ 2048
+entry-bounded : (d : List ℕ) (v : ℕ) (r : Response) → Entry d v r → entryStart v + entryCount v ≤ 2048
 entry-bounded d v (follows x) h = h .inside
 entry-bounded d v (takes x) h = h .inside
 entry-bounded d v (defers x) h = h .inside
@@ -78,7 +78,7 @@ module _ (p : Program) (d : List ℕ) (n : ℕ) (dr : Drafted p d n) (e i : ℕ)
   pub entry-of : Entry (usedBy d i) (entryOf d e i) (response p e i)
   entry-of = entry-says (usedBy d i) (entryOf d e i) (response p e i) (dr .says e i b c)
 
-  pub entry-inside : startOf (entryOf d e i) + countOf (entryOf d e i) ≤ 2048
+  pub entry-inside : entryStart (entryOf d e i) + entryCount (entryOf d e i) ≤ 2048
   entry-inside = entry-bounded (usedBy d i) (entryOf d e i) (response p e i) entry-of
 
 -- ---- nodes
@@ -118,7 +118,7 @@ take-used d i n a = drop-map (moved d i) a d n
 -- the draft is read for places alone
 pub moved-places : (d d′ : List ℕ) (i x : ℕ) → ((j : ℕ) → placeOf d′ j ≡ placeOf d j) → moved d′ i x ≡ moved d i x
 unfolding moved
-moved-places d d′ i x h = rw (h (wordOf x), h i)
+moved-places d d′ i x h = rw (h (nodeWord x), h i)
 
 -- ---- plain bounds
 
@@ -132,5 +132,5 @@ module _ {ev bs n : ℕ} {d : List ℕ} (dr : DraftOf ev bs n d) where
   pub draft-behaviours : bs ≤ 64
   draft-behaviours = omega (arith, dr .size-is, dr .fits .few-behaviours)
 
-  pub bounded : (e i : ℕ) → e ≤ 32 → i < bs → startOf (entryOf d e i) + countOf (entryOf d e i) ≤ 2048
+  pub bounded : (e i : ℕ) → e ≤ 32 → i < bs → entryStart (entryOf d e i) + entryCount (entryOf d e i) ≤ 2048
   bounded e i b c = entry-inside (dr .program) d n (dr .drafted) e i b (omega (arith, dr .size-is))

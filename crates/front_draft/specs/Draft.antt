@@ -20,7 +20,7 @@ use Rattle.spec_language.specs.Dependence.{Response, follows, takes, defers, ke
 use Rattle.spec_language.specs.Grammar.{SheetFits, BehaviourFits, Fits}
 use Rattle.spec_language.specs.Accepted.{BehaviourNamesIn, Known}
 use Rattle.spec_language.specs.Code.{sizeOf}
-use Rattle.front_draft.specs.Entry.{tagOf, wordOf}
+use Rattle.front_draft.specs.Entry.{nodeTag, nodeWord}
 
 -- how many numbers it has
 abbrev pub draftLength : ℕ
@@ -54,8 +54,8 @@ passiveNodes (passive x ∷ bs) = sizeOf x + passiveNodes bs
 passiveNodes (active s hs ∷ bs) = passiveNodes bs
 
 -- an entry
-abbrev pub entry : ℕ → ℕ → ℕ → ℕ
-entry kind start count = (count * 4096 + start) * 4 + kind
+abbrev pub packedEntry : ℕ → ℕ → ℕ → ℕ
+packedEntry kind start count = (count * 4096 + start) * 4 + kind
 
 -- what the draft has for behaviour i on event e
 unfoldable pub entryOf : List ℕ → ℕ → ℕ → ℕ
@@ -69,8 +69,8 @@ placeOf d i = getD d (4352 + i) 0
 -- cell at the same place
 unfoldable pub moved : List ℕ → ℕ → ℕ → ℕ
 moved d i x =
-    pick (eqb (tagOf x) 17)
-    (pick (ltb (wordOf x) 64) (pick (eqb (placeOf d (wordOf x)) (placeOf d i / 16 * 16)) (x + placeOf d i % 16) x) x)
+    pick (eqb (nodeTag x) 17)
+    (pick (ltb (nodeWord x) 64) (pick (eqb (placeOf d (nodeWord x)) (placeOf d i / 16 * 16)) (x + placeOf d i % 16) x) x)
     x
 
 -- the draft as behaviour i uses its nodes
@@ -80,16 +80,16 @@ usedBy d i = map (moved d i) d
 -- the expression x stands in the draft, and v is its entry
 pub record Stands (d : List ℕ) (kind v : ℕ) (x : Expr) : Type 0 where
   pub start : ℕ
-  pub packed : v ≡ entry kind start (sizeOf x)
+  pub packed : v ≡ packedEntry kind start (sizeOf x)
   pub within : start + sizeOf x ≤ 2048
   pub there : take (sizeOf x) (drop start d) ≡ nodes x
 
 -- the entry v says what a behaviour does
-abbrev pub Says : List ℕ → ℕ → Response → Type 0
-Says d v (follows x) = Stands d 1 v x
-Says d v (takes x) = Stands d 2 v x
-Says d v (defers x) = Stands d 3 v x
-Says d v keeps = v ≡ 0
+abbrev pub EntrySays : List ℕ → ℕ → Response → Type 0
+EntrySays d v (follows x) = Stands d 1 v x
+EntrySays d v (takes x) = Stands d 2 v x
+EntrySays d v (defers x) = Stands d 3 v x
+EntrySays d v keeps = v ≡ 0
 
 -- the start value, of an active
 abbrev pub StartIs : List ℕ → ℕ → Behaviour → Type 0
@@ -100,7 +100,7 @@ StartIs d i (active s hs) = getD d (4160 + i) 0 ≡ s
 pub record Drafted (p : Program) (d : List ℕ) (n : ℕ) : Type 0 where
   pub long : length d ≡ draftLength
   pub few : n ≤ 2048
-  pub says : (e i : ℕ) → e ≤ 32 → i < size p → Says (usedBy d i) (entryOf d e i) (response p e i)
+  pub says : (e i : ℕ) → e ≤ 32 → i < size p → EntrySays (usedBy d i) (entryOf d e i) (response p e i)
   pub starts : (i : ℕ) → i < size p → StartIs d i (behaviourAt p i)
   pub priorities : (e : ℕ) → e < events p → getD d (4224 + e) 0 ≡ getD (p .priorities) e 0
   pub viewers : (i : ℕ) → i < size p → getD d (4256 + i) 0 ≡ getD (p .viewers) i 0

@@ -4,7 +4,7 @@ use mathlib.Core.Path.{_≡_}
 use mathlib.Core.List.{List}
 use native.Mathlib.Omega.{arith}
 use lib.ListN.{length, length-take, length-drop}
-use Rattle.front_field.specs.Expression.{rest}
+use Rattle.front_field.specs.Expression.{restFrom}
 
-pub rest-length : (at : ℕ) (v : List ℕ) → length (rest at v) ≡ length v - at
+pub rest-length : (at : ℕ) (v : List ℕ) → length (restFrom at v) ≡ length v - at
 rest-length at v = simp (length-take, length-drop) (omega arith)

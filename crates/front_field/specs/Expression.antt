@@ -39,11 +39,11 @@ headFrom left (Refused k) v = NoHead k
 headFrom left (Value t n) v = headAt left t v
 
 -- the value of the expression field at the front of s, and what the field begins
-abbrev pub valueOf : List ℕ → List ℕ
-valueOf s = partOf s (fieldOf s 16 19)
+abbrev pub expressionValue : List ℕ → List ℕ
+expressionValue s = partOf s (fieldOf s 16 19)
 
 unfoldable pub headOf : ℕ → List ℕ → Head
-headOf left s = headFrom left (fieldOf s 16 19) (valueOf s)
+headOf left s = headFrom left (fieldOf s 16 19) (expressionValue s)
 
 -- that a head lies within a value of m bytes: what the reading of a head promises beside the equation
 abbrev pub HeadIn : ℕ → ℕ → Head → Type 0
@@ -59,36 +59,36 @@ abbrev pub out : Read → List ℕ → Out
 out r p = (r, p)
 
 -- the rest of v from `at` on
-abbrev pub rest : ℕ → List ℕ → List ℕ
-rest at v = take (length v - at) (drop at v)
+abbrev pub restFrom : ℕ → List ℕ → List ℕ
+restFrom at v = take (length v - at) (drop at v)
 
 -- go on after a reading that is done; a fault is passed on
-abbrev pub onward : Read → List ℕ → (ℕ → ℕ → Out) → Out
-onward (Done size m) p f = f size m
-onward (Fault k) p f = (Fault k, p)
+abbrev pub goOnAfter : Read → List ℕ → (ℕ → ℕ → Out) → Out
+goOnAfter (Done size m) p f = f size m
+goOnAfter (Fault k) p f = (Fault k, p)
 
 -- k arguments in v from `at` on, each read by rd; the answer has the place after them
-unfoldable pub argsOf : (List ℕ → List ℕ → ℕ → Out) → ℕ → List ℕ → ℕ → List ℕ → ℕ → Out
-argsOf rd zero v at draft n = (Done at n, draft)
-argsOf rd (suc k) v at draft n =
-    let o : Out = rd (rest at v) draft n in
-    onward (o .0) (o .1) (λ size m. argsOf rd k v (at + size) (o .1) m)
+unfoldable pub readArguments : (List ℕ → List ℕ → ℕ → Out) → ℕ → List ℕ → ℕ → List ℕ → ℕ → Out
+readArguments rd zero v at draft n = (Done at n, draft)
+readArguments rd (suc k) v at draft n =
+    let o : Out = rd (restFrom at v) draft n in
+    goOnAfter (o .0) (o .1) (λ size m. readArguments rd k v (at + size) (o .1) m)
 
 -- an application whose arguments end at `at` is closed by its own node, where nothing is left over
 unfoldable pub closeAt : ℕ → ℕ → ℕ → List ℕ → ℕ → Out
 closeAt f size at draft m = pick (eqb at size) (Done (at + 3) (m + 1), set draft m (77309411328 + f)) (Fault wrongLength, draft)
 
-abbrev pub bodyOf : (List ℕ → List ℕ → ℕ → Out) → Head → List ℕ → List ℕ → ℕ → Out
-bodyOf rd (NoHead k) v draft n = (Fault k, draft)
-bodyOf rd (Leaf node size) v draft n = (Done size (n + 1), set draft n node)
-bodyOf rd (Apply f) v draft n =
-    let o : Out = argsOf rd (arity f) v 1 draft n in
-    onward (o .0) (o .1) (λ at m. closeAt f (length v) at (o .1) m)
+abbrev pub readBody : (List ℕ → List ℕ → ℕ → Out) → Head → List ℕ → List ℕ → ℕ → Out
+readBody rd (NoHead k) v draft n = (Fault k, draft)
+readBody rd (Leaf node size) v draft n = (Done size (n + 1), set draft n node)
+readBody rd (Apply f) v draft n =
+    let o : Out = readArguments rd (arity f) v 1 draft n in
+    goOnAfter (o .0) (o .1) (λ at m. closeAt f (length v) at (o .1) m)
 
 -- one expression at the front of s, with `left` levels of nesting left, its nodes put into the draft from place n on
 unfoldable pub exprOf : ℕ → List ℕ → List ℕ → ℕ → Out
-exprOf zero s draft n = bodyOf (λ s′ p m. (Fault tooDeep, p)) (headOf zero s) (valueOf s) draft n
-exprOf (suc left) s draft n = bodyOf (exprOf left) (headOf (suc left) s) (valueOf s) draft n
+exprOf zero s draft n = readBody (λ s′ p m. (Fault tooDeep, p)) (headOf zero s) (expressionValue s) draft n
+exprOf (suc left) s draft n = readBody (exprOf left) (headOf (suc left) s) (expressionValue s) draft n
 
 -- that an answer is within s, and that a node takes four bytes at least: what `read_expr` promises beside the equation
 abbrev pub ReadIn : ℕ → ℕ → Read → Type 0

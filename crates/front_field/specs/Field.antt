@@ -26,15 +26,15 @@ abbrev pub partOf : List ℕ → Field → List ℕ
 partOf s (Value t n) = take n (drop 3 s)
 partOf s (Refused k) = []
 
-abbrev pub sizeOf : Field → ℕ
-sizeOf (Value t n) = n
-sizeOf (Refused k) = 0
+abbrev pub fieldSize : Field → ℕ
+fieldSize (Value t n) = n
+fieldSize (Refused k) = 0
 
-abbrev pub Within : List ℕ → Field → Type 0
-Within s (Value t n) = n + 3 ≤ length s
-Within s (Refused k) = Unit {0}
+abbrev pub FieldWithin : List ℕ → Field → Type 0
+FieldWithin s (Value t n) = n + 3 ≤ length s
+FieldWithin s (Refused k) = Unit {0}
 
 -- the number of a refusal; 0 of a value
-abbrev pub numberOf : Field → ℕ
-numberOf (Value t n) = 0
-numberOf (Refused k) = k
+abbrev pub fieldRefusal : Field → ℕ
+fieldRefusal (Value t n) = 0
+fieldRefusal (Refused k) = k

@@ -3,8 +3,8 @@ ghost use mathlib.Core.Path.{_≡_};
 ghost use Prim.Native.Nat.{_<_, _≤_, _*_, _+_, _-_, _^_};
 ghost use lib.ListN.{length};
 ghost use Rattle.front_draft.specs.Draft.{draftLength};
-ghost use Rattle.front_field.specs.Field.{fieldOf, partOf, sizeOf, numberOf, Within};
-ghost use Rattle.front_field.specs.Expression.{headAt, headOf, valueOf, HeadIn, out, closeAt, exprOf, ReadIn, CloseIn};
+ghost use Rattle.front_field.specs.Field.{fieldOf, partOf, fieldSize, fieldRefusal, FieldWithin};
+ghost use Rattle.front_field.specs.Expression.{headAt, headOf, expressionValue, HeadIn, out, closeAt, exprOf, ReadIn, CloseIn};
 use front_draft::layout;
 use spec_language::functions;
 use spec_language::tags;
@@ -36,7 +36,7 @@ pub enum Read {
 // The answer of the field reader, where a tag from `lo` to `hi` is due.
 pub fn field_answer(s: &[u8], lo: u8, hi: u8) -> Field
     ensures { λ r. ⌜ r ≡ fieldOf (now (s .entry)) lo hi ⌝ }
-    ensures { λ r. ⌜ Within (now (s .entry)) r ⌝ }
+    ensures { λ r. ⌜ FieldWithin (now (s .entry)) r ⌝ }
 {
     if s.len() < 3 {
         return Field::Refused(faults::TORN);
@@ -57,7 +57,7 @@ pub fn field_answer(s: &[u8], lo: u8, hi: u8) -> Field
 // The value as a part of the caller's own slice; an empty part where the reader refuses.
 pub fn field_value(s: &[u8], lo: u8, hi: u8) -> &[u8]
     ensures { λ r. ⌜ now r ≡ partOf (now (s .entry)) (fieldOf (now (s .entry)) lo hi) ⌝ }
-    ensures { λ r. ⌜ length (now r) ≡ sizeOf (fieldOf (now (s .entry)) lo hi) ⌝ }
+    ensures { λ r. ⌜ length (now r) ≡ fieldSize (fieldOf (now (s .entry)) lo hi) ⌝ }
     ensures { λ r. ⌜ length (now r) ≤ length (now (s .entry)) - 3 ⌝ }
 {
     let Field::Value(_, n) = field_answer(s, lo, hi) else {
@@ -69,7 +69,7 @@ pub fn field_value(s: &[u8], lo: u8, hi: u8) -> &[u8]
 
 // The number of a refusal; 0 of a value.
 pub fn number(f: Field) -> u8
-    ensures { λ r. ⌜ r ≡ numberOf f ⌝ }
+    ensures { λ r. ⌜ r ≡ fieldRefusal f ⌝ }
 {
     match f {
         Field::Value(_, _) => 0,
@@ -124,8 +124,8 @@ fn head_of(left: usize, t: u8, v: &[u8]) -> Head
 // What the expression field at the front of s begins.
 fn read_head(left: usize, s: &[u8]) -> Head
     ensures { λ r. ⌜ r ≡ headOf left (now (s .entry)) ⌝ }
-    ensures { λ r. ⌜ HeadIn left (length (valueOf (now (s .entry)))) r ⌝ }
-    ensures { λ _. ⌜ length (valueOf (now (s .entry))) ≤ length (now (s .entry)) - 3 ⌝ }
+    ensures { λ r. ⌜ HeadIn left (length (expressionValue (now (s .entry)))) r ⌝ }
+    ensures { λ _. ⌜ length (expressionValue (now (s .entry))) ≤ length (now (s .entry)) - 3 ⌝ }
 {
     let a = field_answer(s, tags::CONSTANT, tags::PARAMETER);
     let Field::Value(t, _) = a else {

@@ -23,11 +23,11 @@ use Rattle.spec_language.proofs.Laws.{handled-here, handled-there}
 use Rattle.spec_language.proofs.RowLaws.{length-out, rows-fit}
 use Rattle.spec_language.proofs.RowNames.{names-sent}
 use Rattle.spec_language.proofs.SheetLaws.{blank, length-priorities, length-fill, fill-at, size-fill, entries-fit, fill-fits}
-use Rattle.front_draft.specs.Draft.{draftLength, nodes, handlerNodes, behaviourNodes, programNodes, entryOf, placeOf, moved, usedBy, Stands, Says, StartIs, Drafted, DraftOf, unfilled, SheetDraft}
+use Rattle.front_draft.specs.Draft.{draftLength, nodes, handlerNodes, behaviourNodes, programNodes, entryOf, placeOf, moved, usedBy, Stands, EntrySays, StartIs, Drafted, DraftOf, unfilled, SheetDraft}
 use Rattle.front_draft.proofs.DraftLaws.{take-used, moved-places}
-use Rattle.front_draft.specs.Entry.{tagOf, wordOf}
+use Rattle.front_draft.specs.Entry.{nodeTag, nodeWord}
 use Rattle.front_params.proofs.PassiveNodes.{passives-few}
-use Rattle.front_params.specs.Filling.{valueOf, filled, fillTo, anyParam, lacksParam}
+use Rattle.front_params.specs.Filling.{parameterValue, filledNode, fillTo, anyParam, lacksParam}
 
 -- ---- values are words
 
@@ -40,37 +40,37 @@ get-small ps h n =
     let d = all-at-or (λ b. b < 256) ps (n * 4 + 3) 0 h (omega arith) in
     omega arith
 
-value-small : (ps : List ℕ) → All (λ b. b < 256) ps → (n : ℕ) → n < 8 → valueOf ps n < 2 ^ 32
-unfolding valueOf
+value-small : (ps : List ℕ) → All (λ b. b < 256) ps → (n : ℕ) → n < 8 → parameterValue ps n < 2 ^ 32
+unfolding parameterValue
 value-small ps h n b = by-test (λ (z : ℕ). z < 2 ^ 32) (ltb (length ps) 32) (λ _. omega arith) (λ _. get-small ps h n)
 
 -- ---- the nodes of an expression
 
 module _ (ps : List ℕ) where
   unfoldable fillAll : List ℕ → List ℕ
-  fillAll = map (filled ps)
+  fillAll = map (filledNode ps)
 
   fill-append : (l m : List ℕ) → fillAll (l ++ m) ≡ fillAll l ++ fillAll m
   unfolding fillAll
-  fill-append l m = map-append (filled ps) l m
+  fill-append l m = map-append (filledNode ps) l m
 
-  other-node : (x : ℕ) → tagOf x ≢ 19 → filled ps x ≡ x
-  unfolding filled
-  other-node x h = rw (ne-eqb (tagOf x) 19 h)
+  other-node : (x : ℕ) → nodeTag x ≢ 19 → filledNode ps x ≡ x
+  unfolding filledNode
+  other-node x h = rw (ne-eqb (nodeTag x) 19 h)
 
-  app-node : (f n : ℕ) → Arity f n → filled ps (77309411328 + f) ≡ 77309411328 + f
+  app-node : (f n : ℕ) → Arity f n → filledNode ps (77309411328 + f) ≡ 77309411328 + f
   app-node f n unary = other-node (77309411328 + f) (λ e. omega arith)
   app-node f n ternary = other-node (77309411328 + f) (λ e. omega arith)
   app-node f n (binary h k q) = other-node (77309411328 + f) (λ e. omega arith)
 
-  param-node : (n : ℕ) → n < 8 → filled ps (68719476736 + (12884901888 + n)) ≡ 68719476736 + valueOf ps n
-  unfolding filled
+  param-node : (n : ℕ) → n < 8 → filledNode ps (68719476736 + (12884901888 + n)) ≡ 68719476736 + parameterValue ps n
+  unfolding filledNode
   param-node n h =
-      let t : tagOf (68719476736 + (12884901888 + n)) ≡ 19 = omega arith in
+      let t : nodeTag (68719476736 + (12884901888 + n)) ≡ 19 = omega arith in
       let k : (68719476736 + (12884901888 + n)) % 8 ≡ n = omega arith in
-      rw (eq-eqb (tagOf (68719476736 + (12884901888 + n))) 19 t, k)
+      rw (eq-eqb (nodeTag (68719476736 + (12884901888 + n))) 19 t, k)
 
-  term-nodes : {k : ℕ} {x : Term} → TermFits k x → fillAll (nodes (fillTerm unfilled x)) ≡ nodes (fillTerm (valueOf ps) x)
+  term-nodes : {k : ℕ} {x : Term} → TermFits k x → fillAll (nodes (fillTerm unfilled x)) ≡ nodes (fillTerm (parameterValue ps) x)
   unfolding fillAll fillTerm nodes
   term-nodes (t-literal {w = w} h) = rw (other-node (68719476736 + w) (λ e. omega arith))
   term-nodes (t-variable {i = i} h) = rw (other-node (73014444032 + i) (λ e. omega arith))
@@ -98,18 +98,18 @@ module _ (ps : List ℕ) where
         fillAll,
       )
 
-  clause-nodes : (n : ℕ) (cs : List Clause) → ClausesFit n cs → fillAll (handlerNodes (fillClauses unfilled cs)) ≡ handlerNodes (fillClauses (valueOf ps) cs)
+  clause-nodes : (n : ℕ) (cs : List Clause) → ClausesFit n cs → fillAll (handlerNodes (fillClauses unfilled cs)) ≡ handlerNodes (fillClauses (parameterValue ps) cs)
   unfolding fillAll fillClauses handlerNodes
   clause-nodes n [] h = refl
   clause-nodes n (clause e φ x ∷ cs) h =
       rw (fill-append (nodes (fillTerm unfilled x)) (handlerNodes (fillClauses unfilled cs)), term-nodes (h .1), clause-nodes n cs (h .3))
 
-  item-nodes : (n : ℕ) (b : Item) → ItemFits n b → fillAll (behaviourNodes (fillItem unfilled b)) ≡ behaviourNodes (fillItem (valueOf ps) b)
+  item-nodes : (n : ℕ) (b : Item) → ItemFits n b → fillAll (behaviourNodes (fillItem unfilled b)) ≡ behaviourNodes (fillItem (parameterValue ps) b)
   item-nodes n (formula x) h = term-nodes h
   item-nodes n (state s cs) h = clause-nodes n cs (h .1)
   item-nodes n (row c s cs) h = clause-nodes n cs (h .3)
 
-  entries-nodes : (n : ℕ) (bs : List Entry) → All (EntryFits n) bs → fillAll (programNodes (fillEntries unfilled bs)) ≡ programNodes (fillEntries (valueOf ps) bs)
+  entries-nodes : (n : ℕ) (bs : List Entry) → All (EntryFits n) bs → fillAll (programNodes (fillEntries unfilled bs)) ≡ programNodes (fillEntries (parameterValue ps) bs)
   unfolding fillAll fillEntries programNodes
   entries-nodes n [] h = refl
   entries-nodes n (b ∷ bs) h =
@@ -119,9 +119,9 @@ module _ (ps : List ℕ) where
 
   length-fillAll : (l : List ℕ) → length (fillAll l) ≡ length l
   unfolding fillAll
-  length-fillAll l = length-map l (filled ps)
+  length-fillAll l = length-map l (filledNode ps)
 
-  getD-fillAll : (l : List ℕ) (i : ℕ) → i < length l → getD (fillAll l) i 0 ≡ filled ps (getD l i 0)
+  getD-fillAll : (l : List ℕ) (i : ℕ) → i < length l → getD (fillAll l) i 0 ≡ filledNode ps (getD l i 0)
   unfolding fillAll
   getD-fillAll [] i h = absurd (omega arith)
   getD-fillAll (x ∷ l) zero h = refl
@@ -130,16 +130,16 @@ module _ (ps : List ℕ) where
   length-fillTo : (d : List ℕ) (k : ℕ) → length (fillTo ps d k) ≡ length d
   unfolding fillTo
   length-fillTo d zero = refl
-  length-fillTo d (suc k) = length-set (fillTo ps d k) k (filled ps (getD (fillTo ps d k) k 0)) ∙ length-fillTo d k
+  length-fillTo d (suc k) = length-set (fillTo ps d k) k (filledNode ps (getD (fillTo ps d k) k 0)) ∙ length-fillTo d k
 
   -- nodes from k on are as they were, and those before it filled in
   after-fillTo : (d : List ℕ) (k j : ℕ) → k ≤ j → getD (fillTo ps d k) j 0 ≡ getD d j 0
   unfolding fillTo
   after-fillTo d zero j h = refl
   after-fillTo d (suc k) j h =
-      getD-set-other (fillTo ps d k) k j (filled ps (getD (fillTo ps d k) k 0)) 0 (omega arith) ∙ after-fillTo d k j (omega arith)
+      getD-set-other (fillTo ps d k) k j (filledNode ps (getD (fillTo ps d k) k 0)) 0 (omega arith) ∙ after-fillTo d k j (omega arith)
 
-  before-fillTo : (d : List ℕ) (k j : ℕ) → j < k → k ≤ length d → getD (fillTo ps d k) j 0 ≡ filled ps (getD d j 0)
+  before-fillTo : (d : List ℕ) (k j : ℕ) → j < k → k ≤ length d → getD (fillTo ps d k) j 0 ≡ filledNode ps (getD d j 0)
   unfolding fillTo
   before-fillTo d zero j h b = absurd (omega arith)
   before-fillTo d (suc k) j h b =
@@ -147,11 +147,11 @@ module _ (ps : List ℕ) where
       (λ c.
       let q : j ≡ k = eqb-true j k c in
       rw q
-      (getD-set-same (fillTo ps d k) k (filled ps (getD (fillTo ps d k) k 0)) 0 (omega (arith, length-fillTo d k))
-      ∙ ap (filled ps) (after-fillTo d k k (omega arith))))
+      (getD-set-same (fillTo ps d k) k (filledNode ps (getD (fillTo ps d k) k 0)) 0 (omega (arith, length-fillTo d k))
+      ∙ ap (filledNode ps) (after-fillTo d k k (omega arith))))
       (λ c.
       let q : j ≢ k = eqb-false j k c in
-      getD-set-other (fillTo ps d k) k j (filled ps (getD (fillTo ps d k) k 0)) 0 q ∙ before-fillTo d k j (omega arith) (omega arith))
+      getD-set-other (fillTo ps d k) k j (filledNode ps (getD (fillTo ps d k) k 0)) 0 q ∙ before-fillTo d k j (omega arith) (omega arith))
 
   part-filled : (d : List ℕ) → length d ≡ draftLength → (a m : ℕ) → a + m ≤ 2048 → take m (drop a (fillTo ps d 2048)) ≡ fillAll (take m (drop a d))
   part-filled d long a m h =
@@ -163,38 +163,38 @@ module _ (ps : List ℕ) where
       (λ i b.
       let c : i < m = omega arith in
       getD-take m (drop a (fillTo ps d 2048)) i 0 c ∙ getD-drop a (fillTo ps d 2048) i 0 ∙ before-fillTo d 2048 (a + i) (omega arith) (omega arith)
-      ∙ sym (getD-fillAll (take m (drop a d)) i (omega arith) ∙ ap (filled ps) (getD-take m (drop a d) i 0 c ∙ getD-drop a d i 0)))
+      ∙ sym (getD-fillAll (take m (drop a d)) i (omega arith) ∙ ap (filledNode ps) (getD-take m (drop a d) i 0 c ∙ getD-drop a d i 0)))
 
   -- a node that a behaviour uses, filled in (02, M-110): its name is moved before or after
   module _ (bytes : All (λ b. b < 256) ps) (d : List ℕ) (i : ℕ) where
-    constant-node : (x : ℕ) → tagOf (68719476736 + valueOf ps (x % 8)) ≢ 17
+    constant-node : (x : ℕ) → nodeTag (68719476736 + parameterValue ps (x % 8)) ≢ 17
     constant-node x e = omega (arith, value-small ps bytes (x % 8) (omega arith))
 
-    moved-tag : (x : ℕ) → tagOf x ≡ 17 → tagOf (moved d i x) ≡ 17
+    moved-tag : (x : ℕ) → nodeTag x ≡ 17 → nodeTag (moved d i x) ≡ 17
     unfolding moved
     moved-tag x e =
-        by-test (λ (y : ℕ). tagOf y ≡ 17) (eqb (tagOf x) 17)
-        (λ a. by-test (λ (y : ℕ). tagOf y ≡ 17) (ltb (wordOf x) 64)
-        (λ b. by-test (λ (y : ℕ). tagOf y ≡ 17) (eqb (placeOf d (wordOf x)) (placeOf d i / 16 * 16)) (λ c. omega (arith, ltb-true (wordOf x) 64 b)) (λ c. e))
+        by-test (λ (y : ℕ). nodeTag y ≡ 17) (eqb (nodeTag x) 17)
+        (λ a. by-test (λ (y : ℕ). nodeTag y ≡ 17) (ltb (nodeWord x) 64)
+        (λ b. by-test (λ (y : ℕ). nodeTag y ≡ 17) (eqb (placeOf d (nodeWord x)) (placeOf d i / 16 * 16)) (λ c. omega (arith, ltb-true (nodeWord x) 64 b)) (λ c. e))
         (λ b. e))
         (λ a. e)
 
-    not-moved : (x : ℕ) → tagOf x ≢ 17 → moved d i x ≡ x
+    not-moved : (x : ℕ) → nodeTag x ≢ 17 → moved d i x ≡ x
     unfolding moved
-    not-moved x h = rw (ne-eqb (tagOf x) 17 h)
+    not-moved x h = rw (ne-eqb (nodeTag x) 17 h)
 
-    still : (x : ℕ) → tagOf x ≢ 17 → tagOf (filled ps x) ≢ 17
-    unfolding filled
-    still x h = by-test (λ (y : ℕ). tagOf y ≢ 17) (eqb (tagOf x) 19) (λ _. constant-node x) (λ _. h)
+    still : (x : ℕ) → nodeTag x ≢ 17 → nodeTag (filledNode ps x) ≢ 17
+    unfolding filledNode
+    still x h = by-test (λ (y : ℕ). nodeTag y ≢ 17) (eqb (nodeTag x) 19) (λ _. constant-node x) (λ _. h)
 
-    moved-filled : (x : ℕ) → moved d i (filled ps x) ≡ filled ps (moved d i x)
+    moved-filled : (x : ℕ) → moved d i (filledNode ps x) ≡ filledNode ps (moved d i x)
     moved-filled x =
-        split (eqb (tagOf x) 17)
+        split (eqb (nodeTag x) 17)
         (λ t.
-        let e : tagOf x ≡ 17 = eqb-true (tagOf x) 17 t in
+        let e : nodeTag x ≡ 17 = eqb-true (nodeTag x) 17 t in
         let m = moved-tag x e in
         ap (moved d i) (other-node x (omega arith)) ∙ sym (other-node (moved d i x) (omega arith)))
-        (λ t. let e : tagOf x ≢ 17 = eqb-false (tagOf x) 17 t in not-moved (filled ps x) (still x e) ∙ ap (filled ps) (sym (not-moved x e)))
+        (λ t. let e : nodeTag x ≢ 17 = eqb-false (nodeTag x) 17 t in not-moved (filledNode ps x) (still x e) ∙ ap (filledNode ps) (sym (not-moved x e)))
 
     fill-moved : (l : List ℕ) → map (moved d i) (fillAll l) ≡ fillAll (map (moved d i) l)
     unfolding fillAll
@@ -214,9 +214,9 @@ module _ (ps : List ℕ) where
         take-used d′ i m a ∙ ap (map (moved d′ i)) (part-filled d long a m h) ∙ same-moves i (fillAll (take m (drop a d))) ∙ fill-moved bytes d i (take m (drop a d))
         ∙ ap fillAll (sym (take-used d i m a))
 
-    stands-filled : (kind v : ℕ) (x : Term) {k : ℕ} → TermFits k x → (i : ℕ) → Stands (usedBy d i) kind v (fillTerm unfilled x) → Stands (usedBy d′ i) kind v (fillTerm (valueOf ps) x)
+    stands-filled : (kind v : ℕ) (x : Term) {k : ℕ} → TermFits k x → (i : ℕ) → Stands (usedBy d i) kind v (fillTerm unfilled x) → Stands (usedBy d′ i) kind v (fillTerm (parameterValue ps) x)
     stands-filled kind v x f i s =
-        let z = size-fill (valueOf ps) unfilled x in
+        let z = size-fill (parameterValue ps) unfilled x in
         record {
           start = s .start;
           packed = rw z (s .packed);
@@ -224,26 +224,26 @@ module _ (ps : List ℕ) where
           there = rw z (used-filled i (s .start) (sizeOf (fillTerm unfilled x)) (s .within) ∙ ap fillAll (s .there) ∙ term-nodes f);
         }
 
-    phase-filled : (i v : ℕ) (φ : Phase) (x : Term) {k : ℕ} → TermFits k x → Says (usedBy d i) v (inPhase φ (fillTerm unfilled x)) → Says (usedBy d′ i) v (inPhase φ (fillTerm (valueOf ps) x))
+    phase-filled : (i v : ℕ) (φ : Phase) (x : Term) {k : ℕ} → TermFits k x → EntrySays (usedBy d i) v (inPhase φ (fillTerm unfilled x)) → EntrySays (usedBy d′ i) v (inPhase φ (fillTerm (parameterValue ps) x))
     phase-filled i v immediate x f s = stands-filled 2 v x f i s
     phase-filled i v later x f s = stands-filled 3 v x f i s
 
-    handled-filled : (i n e v : ℕ) (cs : List Clause) → ClausesFit n cs → Says (usedBy d i) v (handled e (fillClauses unfilled cs)) → Says (usedBy d′ i) v (handled e (fillClauses (valueOf ps) cs))
+    handled-filled : (i n e v : ℕ) (cs : List Clause) → ClausesFit n cs → EntrySays (usedBy d i) v (handled e (fillClauses unfilled cs)) → EntrySays (usedBy d′ i) v (handled e (fillClauses (parameterValue ps) cs))
     unfolding handled fillClauses
     handled-filled i n e v [] f s = s
     handled-filled i n e v (clause g φ x ∷ cs) f s =
         split (eqb e g)
-        (λ c. subst (Says (usedBy d′ i) v) (sym (handled-here e g φ (fillTerm (valueOf ps) x) (fillClauses (valueOf ps) cs) c))
-        (phase-filled i v φ x (f .1) (subst (Says (usedBy d i) v) (handled-here e g φ (fillTerm unfilled x) (fillClauses unfilled cs) c) s)))
-        (λ c. subst (Says (usedBy d′ i) v) (sym (handled-there e g φ (fillTerm (valueOf ps) x) (fillClauses (valueOf ps) cs) c))
-        (handled-filled i n e v cs (f .3) (subst (Says (usedBy d i) v) (handled-there e g φ (fillTerm unfilled x) (fillClauses unfilled cs) c) s)))
+        (λ c. subst (EntrySays (usedBy d′ i) v) (sym (handled-here e g φ (fillTerm (parameterValue ps) x) (fillClauses (parameterValue ps) cs) c))
+        (phase-filled i v φ x (f .1) (subst (EntrySays (usedBy d i) v) (handled-here e g φ (fillTerm unfilled x) (fillClauses unfilled cs) c) s)))
+        (λ c. subst (EntrySays (usedBy d′ i) v) (sym (handled-there e g φ (fillTerm (parameterValue ps) x) (fillClauses (parameterValue ps) cs) c))
+        (handled-filled i n e v cs (f .3) (subst (EntrySays (usedBy d i) v) (handled-there e g φ (fillTerm unfilled x) (fillClauses unfilled cs) c) s)))
 
-    item-filled : (i n e v : ℕ) (b : Item) → ItemFits n b → Says (usedBy d i) v (respond e (fillItem unfilled b)) → Says (usedBy d′ i) v (respond e (fillItem (valueOf ps) b))
+    item-filled : (i n e v : ℕ) (b : Item) → ItemFits n b → EntrySays (usedBy d i) v (respond e (fillItem unfilled b)) → EntrySays (usedBy d′ i) v (respond e (fillItem (parameterValue ps) b))
     item-filled i n e v (formula x) f s = stands-filled 1 v x f i s
     item-filled i n e v (state w cs) f s = handled-filled i n e v cs (f .1) s
     item-filled i n e v (row c w cs) f s = handled-filled i n e v cs (f .3) s
 
-    start-filled : (i : ℕ) (b : Item) → StartIs d i (fillItem unfilled b) → StartIs d′ i (fillItem (valueOf ps) b)
+    start-filled : (i : ℕ) (b : Item) → StartIs d i (fillItem unfilled b) → StartIs d′ i (fillItem (parameterValue ps) b)
     start-filled i (formula x) h = after-fillTo d 2048 (4160 + i) (omega arith) ∙ h
     start-filled i (state w cs) h = after-fillTo d 2048 (4160 + i) (omega arith) ∙ h
     start-filled i (row c w cs) h = after-fillTo d 2048 (4160 + i) (omega arith) ∙ h
@@ -252,22 +252,22 @@ module _ (ps : List ℕ) where
     unfolding entryOf
     entry-filled e i = rw (after-fillTo d 2048 (4096 + i) (omega arith), after-fillTo d 2048 (2048 + i * 32 + e) (omega arith))
 
-    fill-drafted : (n : ℕ) (s : Sheet) → SheetFits s → Drafted (fill unfilled s) d n → Drafted (fill (valueOf ps) s) d′ n
+    fill-drafted : (n : ℕ) (s : Sheet) → SheetFits s → Drafted (fill unfilled s) d n → Drafted (fill (parameterValue ps) s) d′ n
     fill-drafted n s f h =
         let out = rowsOut s .entries in
         let l = length (s .signals) in
         let p : length (fillEntries unfilled out) ≡ length out = length-fill unfilled out in
-        let q : length (fillEntries (valueOf ps) out) ≡ length out = length-fill (valueOf ps) out in
+        let q : length (fillEntries (parameterValue ps) out) ≡ length out = length-fill (parameterValue ps) out in
         record {
           long = length-fillTo d 2048 ∙ long;
           few = h .few;
           says = λ e i a b.
-              rw (entry-filled e i, fill-at (valueOf ps) out i)
+              rw (entry-filled e i, fill-at (parameterValue ps) out i)
               (item-filled i l e (entryOf d e i) (getD out i blank .item)
               (all-at (EntryFits l) out i blank (rows-fit s f) (omega arith) .0)
               (rw (fill-at unfilled out i) at (h .says e i a (omega arith))));
           starts = λ i b.
-              rw (fill-at (valueOf ps) out i) (start-filled i (getD out i blank .item) (rw (fill-at unfilled out i) at (h .starts i (omega arith))));
+              rw (fill-at (parameterValue ps) out i) (start-filled i (getD out i blank .item) (rw (fill-at unfilled out i) at (h .starts i (omega arith))));
           priorities = λ e b. after-fillTo d 2048 (4224 + e) (omega arith) ∙ h .priorities e b;
           viewers = λ i b. after-fillTo d 2048 (4256 + i) (omega arith) ∙ h .viewers i (omega arith);
           senders = λ e b. after-fillTo d 2048 (4320 + e) (omega arith) ∙ h .senders e b;
@@ -278,25 +278,25 @@ pub draft-filled : {ev bs n : ℕ} {d : List ℕ} (ps : List ℕ) → All (λ b.
 draft-filled {n = n} {d = d} ps bytes o =
     let s = o .sheet in
     let l : length (prioritiesOf (s .signals)) ≡ length (s .signals) = length-priorities (s .signals) in
-    let same-pool : take n (fillTo ps d 2048) ≡ programNodes (fillEntries (valueOf ps) (s .entries)) =
+    let same-pool : take n (fillTo ps d 2048) ≡ programNodes (fillEntries (parameterValue ps) (s .entries)) =
     part-filled ps d (o .drafted .long) 0 n (omega (arith, o .drafted .few)) ∙ ap (fillAll ps) (o .pool) ∙ entries-nodes ps (length (s .signals)) (s .entries) (o .fits .each) in
     record {
-      program = fill (valueOf ps) s;
-      fits = fill-fits (valueOf ps) (value-small ps bytes) s (o .fits);
+      program = fill (parameterValue ps) s;
+      fits = fill-fits (parameterValue ps) (value-small ps bytes) s (o .fits);
       events-are = o .events-are ∙ sym l;
-      size-is = o .size-is ∙ sym (length-fill (valueOf ps) (rowsOut s .entries) ∙ length-out (s .entries) (s .entries));
+      size-is = o .size-is ∙ sym (length-fill (parameterValue ps) (rowsOut s .entries) ∙ length-out (s .entries) (s .entries));
       drafted = fill-drafted ps bytes d (o .drafted .long) n s (o .fits) (o .drafted);
-      sent = fillEntries (valueOf ps) (s .entries);
+      sent = fillEntries (parameterValue ps) (s .entries);
       pool = same-pool;
       few-passives =
-          let m : length (programNodes (fillEntries (valueOf ps) (s .entries))) ≤ n = omega (arith, ap length same-pool, length-take-le n (fillTo ps d 2048) (omega (arith, length-fillTo ps d 2048, o .drafted .long, o .drafted .few))) in
-          omega (arith, passives-few (valueOf ps) (s .entries) (s .entries), m);
-      sent-fits = rw l (entries-fit (valueOf ps) (value-small ps bytes) (length (s .signals)) (s .entries) (o .fits .each));
-      sent-known = names-sent (valueOf ps) s (o .fits);
+          let m : length (programNodes (fillEntries (parameterValue ps) (s .entries))) ≤ n = omega (arith, ap length same-pool, length-take-le n (fillTo ps d 2048) (omega (arith, length-fillTo ps d 2048, o .drafted .long, o .drafted .few))) in
+          omega (arith, passives-few (parameterValue ps) (s .entries) (s .entries), m);
+      sent-fits = rw l (entries-fit (parameterValue ps) (value-small ps bytes) (length (s .signals)) (s .entries) (o .fits .each));
+      sent-known = names-sent (parameterValue ps) s (o .fits);
     }
 
 pub filled-program : {ev bs n : ℕ} {d : List ℕ} (ps : List ℕ) (bytes : All (λ b. b < 256) ps) (o : SheetDraft ev bs n d)
-    → draft-filled ps bytes o .program ≡ fill (valueOf ps) (o .sheet)
+    → draft-filled ps bytes o .program ≡ fill (parameterValue ps) (o .sheet)
 unfolding draft-filled
 filled-program ps bytes o = refl
 
@@ -304,16 +304,16 @@ filled-program ps bytes o = refl
 
 unfoldable anyIn : List ℕ → Bool
 anyIn [] = false
-anyIn (x ∷ l) = eqb (tagOf x) 19 || anyIn l
+anyIn (x ∷ l) = eqb (nodeTag x) 19 || anyIn l
 
 any-append : (l m : List ℕ) → anyIn (l ++ m) ≡ anyIn l || anyIn m
 unfolding anyIn
 any-append [] m = refl
-any-append (x ∷ l) m = rw (any-append l m) (sym (or-assoc (eqb (tagOf x) 19) (anyIn l) (anyIn m)))
+any-append (x ∷ l) m = rw (any-append l m) (sym (or-assoc (eqb (nodeTag x) 19) (anyIn l) (anyIn m)))
 
-no-param : (x : ℕ) → tagOf x ≢ 19 → anyIn (x ∷ []) ≡ false
+no-param : (x : ℕ) → nodeTag x ≢ 19 → anyIn (x ∷ []) ≡ false
 unfolding anyIn
-no-param x h = rw (ne-eqb (tagOf x) 19 h, anyIn)
+no-param x h = rw (ne-eqb (nodeTag x) 19 h, anyIn)
 
 app-none : (f n : ℕ) → Arity f n → anyIn ((77309411328 + f) ∷ []) ≡ false
 app-none f n unary = no-param (77309411328 + f) (λ e. omega arith)
@@ -322,7 +322,7 @@ app-none f n (binary h k q) = no-param (77309411328 + f) (λ e. omega arith)
 
 param-found : (n : ℕ) → n < 8 → anyIn ((68719476736 + (12884901888 + n)) ∷ []) ≡ true
 unfolding anyIn
-param-found n h = rw (eq-eqb (tagOf (68719476736 + (12884901888 + n))) 19 (omega arith))
+param-found n h = rw (eq-eqb (nodeTag (68719476736 + (12884901888 + n))) 19 (omega arith))
 
 term-any : {k : ℕ} {x : Term} → TermFits k x → anyIn (nodes (fillTerm unfilled x)) ≡ usesTerm x
 unfolding fillTerm nodes usesTerm
@@ -373,9 +373,9 @@ pass-any : (d : List ℕ) (n : ℕ) → n ≤ length d → anyParam d n ≡ anyI
 unfolding anyParam anyIn
 pass-any d zero h = refl
 pass-any d (suc n) h =
-    let e : anyIn (take (suc n) d) ≡ anyIn (take n d) || eqb (tagOf (getD d n 0)) 19 =
+    let e : anyIn (take (suc n) d) ≡ anyIn (take n d) || eqb (nodeTag (getD d n 0)) 19 =
     rw (take-suc d n 0 (omega arith), any-append (take n d) (getD d n 0 ∷ []), anyIn, or-false) in
-    split (eqb (tagOf (getD d n 0)) 19)
+    split (eqb (nodeTag (getD d n 0)) 19)
     (λ t. rw (e, t, anyParam, or-true (anyIn (take n d))))
     (λ t. rw (e, t, anyParam, or-false) (pass-any d n (omega arith)))
 

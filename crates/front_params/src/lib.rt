@@ -4,7 +4,7 @@ ghost use mathlib.Core.Path.{_≡_};
 ghost use Prim.Native.Nat.{_<_, _≤_, _^_};
 ghost use lib.ListN.{length};
 ghost use Rattle.front_draft.specs.Draft.{draftLength};
-ghost use Rattle.front_params.specs.Filling.{valueOf, filled, fillTo, anyParam, lacksParam};
+ghost use Rattle.front_params.specs.Filling.{parameterValue, filledNode, fillTo, anyParam, lacksParam};
 use front_draft::layout;
 use spec_language::limits;
 
@@ -13,7 +13,7 @@ const PARAMETERS: u64 = limits::PARAMETERS as u64;
 // The value of parameter k: a word of the bytes lent, 0 where fewer than 32 are.
 fn value_of(params: &[u8], k: usize) -> u64
     requires { ⌜ k < 8 ⌝ }
-    ensures { λ r. ⌜ r ≡ valueOf (now (params .entry)) k ⌝ }
+    ensures { λ r. ⌜ r ≡ parameterValue (now (params .entry)) k ⌝ }
     ensures { λ r. ⌜ r < 2 ^ 32 ⌝ }
 {
     if params.len() < limits::PARAMETER_BYTES {
@@ -24,7 +24,7 @@ fn value_of(params: &[u8], k: usize) -> u64
 
 // The node that stands for x where the parameters are known.
 fn fill_node(params: &[u8], x: u64) -> u64
-    ensures { λ r. ⌜ r ≡ filled (now (params .entry)) x ⌝ }
+    ensures { λ r. ⌜ r ≡ filledNode (now (params .entry)) x ⌝ }
 {
     if x / layout::WORD == layout::PARAMETER {
         return layout::CONSTANT_NODE + value_of(params, (x % PARAMETERS) as usize);

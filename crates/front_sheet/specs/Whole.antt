@@ -8,7 +8,7 @@ use lib.Dec.{ltb, leb, eqb}
 use Rattle.lib_base.specs.Basics.{pick}
 use Rattle.spec_language.specs.Refusals.{torn, wrongLength, crowded, offScale}
 use Rattle.front_field.specs.Field.{fieldOf, partOf}
-use Rattle.front_field.specs.Expression.{Out, out, rest}
+use Rattle.front_field.specs.Expression.{Out, out, restFrom}
 use Rattle.front_field.specs.declared.Field.{Field}
 use Rattle.front_field.specs.declared.Field.the-variants.{Value, Refused}
 use Rattle.front_field.specs.declared.Read.{Read}
@@ -21,40 +21,40 @@ use Rattle.front_sheet.specs.declared.Draft.{Draft}
 use Rattle.front_sheet.specs.declared.Draft.the-variants.{Ready, Broken}
 
 -- what stands where an event is due, and the draft
-abbrev pub Made : Type 0
-Made = Event × List ℕ
+abbrev pub EventRead : Type 0
+EventRead = Event × List ℕ
 
-abbrev pub made : Event → List ℕ → Made
-made r d = (r, d)
+abbrev pub eventRead : Event → List ℕ → EventRead
+eventRead r d = (r, d)
 
 -- where the draft has who may send event e
 abbrev pub sender : ℕ → ℕ
 sender e = 4320 + e
 
 -- the value v of event e
-unfoldable pub signalAt : List ℕ → ℕ → List ℕ → Made
+unfoldable pub signalAt : List ℕ → ℕ → List ℕ → EventRead
 signalAt v e d =
-    pick (eqb (length v) 0) (made (NoEvent wrongLength) d)
-    (pick (ltb 2 (length v)) (made (NoEvent wrongLength) d)
-    (pick (ltb 15 (getD v 0 0)) (made (NoEvent offScale) d)
+    pick (eqb (length v) 0) (eventRead (NoEvent wrongLength) d)
+    (pick (ltb 2 (length v)) (eventRead (NoEvent wrongLength) d)
+    (pick (ltb 15 (getD v 0 0)) (eventRead (NoEvent offScale) d)
     (pick (eqb (length v) 1)
-    (made (Declared 4) (set (set d (4224 + e) (getD v 0 0)) (sender e) 255))
-    (made (Declared 5) (set (set d (4224 + e) (getD v 0 0)) (sender e) (getD v 1 0))))))
+    (eventRead (Declared 4) (set (set d (4224 + e) (getD v 0 0)) (sender e) 255))
+    (eventRead (Declared 5) (set (set d (4224 + e) (getD v 0 0)) (sender e) (getD v 1 0))))))
 
 -- a field with tag t and value v where event e or the first behaviour is due
-unfoldable pub priorityAt : ℕ → List ℕ → ℕ → List ℕ → Made
+unfoldable pub priorityAt : ℕ → List ℕ → ℕ → List ℕ → EventRead
 priorityAt t v e d =
     pick (eqb t 1)
-    (pick (leb 32 e) (made (NoEvent crowded) d) (signalAt v e d))
-    (made Ended d)
+    (pick (leb 32 e) (eventRead (NoEvent crowded) d) (signalAt v e d))
+    (eventRead Ended d)
 
-abbrev pub eventFrom : Field → List ℕ → ℕ → List ℕ → Made
-eventFrom (Refused k) v e d = made (NoEvent k) d
+abbrev pub eventFrom : Field → List ℕ → ℕ → List ℕ → EventRead
+eventFrom (Refused k) v e d = eventRead (NoEvent k) d
 eventFrom (Value t size) v e d = priorityAt t v e d
 
 -- event e, or the first behaviour, at the front of s
-unfoldable pub eventOf : List ℕ → ℕ → List ℕ → Made
-eventOf s e d = eventFrom (fieldOf s (leastOf s 1) (mostOf s)) (partOf s (fieldOf s (leastOf s 1) (mostOf s))) e d
+unfoldable pub readEvent : List ℕ → ℕ → List ℕ → EventRead
+readEvent s e d = eventFrom (fieldOf s (leastOf s 1) (mostOf s)) (partOf s (fieldOf s (leastOf s 1) (mostOf s))) e d
 
 -- go on after an event; the events end at `at` where a behaviour stands
 abbrev pub eventNext : Event → List ℕ → ℕ → ℕ → (ℕ → Out) → Out
@@ -63,11 +63,11 @@ eventNext Ended d at e more = out (Done at e) d
 eventNext (NoEvent k) d at e more = out (Fault k) d
 
 -- the events of s from `at` on: the place after them and their number. The first number bounds their count
-unfoldable pub eventsOf : ℕ → List ℕ → ℕ → ℕ → List ℕ → Out
-eventsOf zero s at e d = pick (eqb at (length s)) (out (Done at e) d) (out (Fault torn) d)
-eventsOf (suc k) s at e d =
+unfoldable pub readEvents : ℕ → List ℕ → ℕ → ℕ → List ℕ → Out
+readEvents zero s at e d = pick (eqb at (length s)) (out (Done at e) d) (out (Fault torn) d)
+readEvents (suc k) s at e d =
     pick (eqb at (length s)) (out (Done at e) d)
-    (let o : Made = eventOf (rest at s) e d in eventNext (o .0) (o .1) at e (λ size. eventsOf k s (at + size) (e + 1) (o .1)))
+    (let o : EventRead = readEvent (restFrom at s) e d in eventNext (o .0) (o .1) at e (λ size. readEvents k s (at + size) (e + 1) (o .1)))
 
 -- the answer and the draft
 abbrev pub Finish : Type 0
@@ -86,13 +86,13 @@ unfoldable pub behavioursOf : ℕ → List ℕ → ℕ → ℕ → ℕ → List 
 behavioursOf zero s at events i d n = pick (eqb at (length s)) (finished (Ready events i n) d) (finished (Broken torn) d)
 behavioursOf (suc k) s at events i d n =
     pick (eqb at (length s)) (finished (Ready events i n) d)
-    (let o : Out = behaviourOf (rest at s) events i d n in
-    proceed (o .0) (o .1) (λ size m. behavioursOf k s (at + size) events (i + cellsAt (rest at s)) (o .1) m))
+    (let o : Out = behaviourOf (restFrom at s) events i d n in
+    proceed (o .0) (o .1) (λ size m. behavioursOf k s (at + size) events (i + cellsAt (restFrom at s)) (o .1) m))
 
 -- the program in s, from the draft d
 unfoldable pub readOn : List ℕ → List ℕ → Finish
 readOn s d =
-    let o : Out = eventsOf (length s) s 0 0 d in
+    let o : Out = readEvents (length s) s 0 0 d in
     proceed (o .0) (o .1) (λ at e. behavioursOf (length s) s at e 0 (o .1) 0)
 
 -- bounds that are promised beside the equations

@@ -6,7 +6,7 @@ ghost use Prim.Native.Nat.{_<_, _≤_, _+_};
 ghost use lib.ListN.{length};
 ghost use Rattle.front_field.specs.Expression.{out};
 ghost use Rattle.front_draft.specs.Draft.{draftLength};
-ghost use Rattle.front_sheet.specs.Whole.{made, signalAt, priorityAt, eventOf, eventsOf, finished, behavioursOf, readOn, EventIn, EventsIn};
+ghost use Rattle.front_sheet.specs.Whole.{eventRead, signalAt, priorityAt, readEvent, readEvents, finished, behavioursOf, readOn, EventIn, EventsIn};
 use front_draft::layout;
 use front_field::faults;
 use front_field::sizes;
@@ -31,7 +31,7 @@ pub enum Draft {
 fn take_event(v: &[u8], e: usize, draft: &mut [u64]) -> Event
     requires { ⌜ length (now draft) ≡ draftLength ⌝ }
     requires { ⌜ e < 32 ⌝ }
-    ensures { λ r. ⌜ made r (now (draft .exit)) ≡ signalAt (now (v .entry)) e (now (draft .entry)) ⌝ }
+    ensures { λ r. ⌜ eventRead r (now (draft .exit)) ≡ signalAt (now (v .entry)) e (now (draft .entry)) ⌝ }
     ensures { λ r. ⌜ EventIn (length (now (v .entry)) + 3) e r ⌝ }
 {
     if v.len() == 0 {
@@ -56,7 +56,7 @@ fn take_event(v: &[u8], e: usize, draft: &mut [u64]) -> Event
 fn read_priority(t: u8, v: &[u8], e: usize, draft: &mut [u64]) -> Event
     requires { ⌜ length (now draft) ≡ draftLength ⌝ }
     requires { ⌜ e ≤ 32 ⌝ }
-    ensures { λ r. ⌜ made r (now (draft .exit)) ≡ priorityAt t (now (v .entry)) e (now (draft .entry)) ⌝ }
+    ensures { λ r. ⌜ eventRead r (now (draft .exit)) ≡ priorityAt t (now (v .entry)) e (now (draft .entry)) ⌝ }
     ensures { λ r. ⌜ EventIn (length (now (v .entry)) + 3) e r ⌝ }
 {
     if t != tags::EVENT {
@@ -72,7 +72,7 @@ fn read_priority(t: u8, v: &[u8], e: usize, draft: &mut [u64]) -> Event
 fn read_event(s: &[u8], e: usize, draft: &mut [u64]) -> Event
     requires { ⌜ length (now draft) ≡ draftLength ⌝ }
     requires { ⌜ e ≤ 32 ⌝ }
-    ensures { λ r. ⌜ made r (now (draft .exit)) ≡ eventOf (now (s .entry)) e (now (draft .entry)) ⌝ }
+    ensures { λ r. ⌜ eventRead r (now (draft .exit)) ≡ readEvent (now (s .entry)) e (now (draft .entry)) ⌝ }
     ensures { λ r. ⌜ EventIn (length (now (s .entry))) e r ⌝ }
 {
     let lo = front_rows::least_tag(s, tags::EVENT);
@@ -88,7 +88,7 @@ fn read_event(s: &[u8], e: usize, draft: &mut [u64]) -> Event
 fn read_events(s: &[u8], draft: &mut [u64]) -> Read
     requires { ⌜ length (now s) ≤ 8192 ⌝ }
     requires { ⌜ length (now draft) ≡ draftLength ⌝ }
-    ensures { λ r. ⌜ out r (now (draft .exit)) ≡ eventsOf (length (now (s .entry))) (now (s .entry)) 0 0 (now (draft .entry)) ⌝ }
+    ensures { λ r. ⌜ out r (now (draft .exit)) ≡ readEvents (length (now (s .entry))) (now (s .entry)) 0 0 (now (draft .entry)) ⌝ }
     ensures { λ r. ⌜ EventsIn (length (now (s .entry))) r ⌝ }
 {
     let mut at = 0;

@@ -3,7 +3,7 @@ use Prim.Native.Nat.{ℕ}
 use mathlib.Core.Path.{_≡_, sym, _∙_}
 use mathlib.Core.List.{List}
 use lib.ListN.{length}
-use Rattle.front_field.specs.Field.{fieldOf, partOf, numberOf}
+use Rattle.front_field.specs.Field.{fieldOf, partOf, fieldRefusal}
 use Rattle.front_field.specs.Expression.{out}
 use Rattle.front_field.specs.declared.Field.{Field}
 use Rattle.front_field.specs.declared.Field.the-variants.{Value, Refused}
@@ -12,7 +12,7 @@ use Rattle.front_field.specs.declared.Read.the-variants.{Fault}
 use Rattle.front_viewers.specs.Ending.{viewerAt, viewerOf}
 
 module _ (s d : List ℕ) (i all n : ℕ) {a : Field} where
-  pub viewer-refused : {k q : ℕ} → a ≡ fieldOf s 8 8 → a ≡ Refused k → q ≡ numberOf a → out (Fault q) d ≡ viewerOf s i d all n
+  pub viewer-refused : {k q : ℕ} → a ≡ fieldOf s 8 8 → a ≡ Refused k → q ≡ fieldRefusal a → out (Fault q) d ≡ viewerOf s i d all n
   unfolding viewerOf
   viewer-refused e t h = rw (sym e ∙ t, h, t)
 

@@ -11,7 +11,7 @@ use lib.Signed.{ltZ}
 use borrow.Author.Tests.{ltb-true, ltb-false, lt-ltb, le-ltb, eq-eqb, ne-eqb}
 use Rattle.lib_base.proofs.Tools.{by-test, split}
 use Rattle.lib_arith.specs.Exact.{signed, wrapped, differZ, beyond, packed}
-use Rattle.lib_arith.specs.Functions.{isTrue, truth, exact, result, over, answer}
+use Rattle.lib_arith.specs.Functions.{isTrue, truth, exact, result, over, markedResult}
 
 -- a word stands for a number whose word it is
 pub wrapped-signed : (a : ℕ) → a < 2 ^ 32 → wrapped (signed a) ≡ a
@@ -103,14 +103,14 @@ packed-rest w true h = omega arith
 packed-rest w false h = omega arith
 
 -- a function's answer: with no mark it is the word, with one 2^32 more, and its word is what 2^32 leaves
-pub answer-low : (f a b c : ℕ) → answer f a b c < 4294967296 → (answer f a b c ≡ result f a b c) × (over f a b c ≡ false)
-unfolding answer
+pub answer-low : (f a b c : ℕ) → markedResult f a b c < 4294967296 → (markedResult f a b c ≡ result f a b c) × (over f a b c ≡ false)
+unfolding markedResult
 answer-low f a b c h = packed-low (result f a b c) (over f a b c) h
 
-pub answer-high : (f a b c : ℕ) → 4294967296 ≤ answer f a b c → (answer f a b c - 4294967296 ≡ result f a b c) × (over f a b c ≡ true)
-unfolding answer
+pub answer-high : (f a b c : ℕ) → 4294967296 ≤ markedResult f a b c → (markedResult f a b c - 4294967296 ≡ result f a b c) × (over f a b c ≡ true)
+unfolding markedResult
 answer-high f a b c h = packed-high (result f a b c) (over f a b c) (result-word f a b c) h
 
-pub answer-rest : (f a b c : ℕ) → answer f a b c % 4294967296 ≡ result f a b c
-unfolding answer
+pub answer-rest : (f a b c : ℕ) → markedResult f a b c % 4294967296 ≡ result f a b c
+unfolding markedResult
 answer-rest f a b c = packed-rest (result f a b c) (over f a b c) (result-word f a b c)

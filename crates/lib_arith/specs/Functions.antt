@@ -59,8 +59,8 @@ unfoldable pub over : ℕ → ℕ → ℕ → ℕ → Bool
 over f a b c = (eqb f 7 && eqb b 0) || beyond (exact f (signed a) (signed b) (signed c))
 
 -- "Each function's answer shall also say": the 32-bit result, and 2^32 more where it ran over
-unfoldable pub answer : ℕ → ℕ → ℕ → ℕ → ℕ
-answer f a b c = packed (result f a b c) (over f a b c)
+unfoldable pub markedResult : ℕ → ℕ → ℕ → ℕ → ℕ
+markedResult f a b c = packed (result f a b c) (over f a b c)
 
 -- "`!` needs one, `if` three, the others two."
 unfoldable pub arity : ℕ → ℕ

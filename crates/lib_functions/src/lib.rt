@@ -7,7 +7,7 @@ ghost use Prim.Native.Nat.{_≤_};
 ghost use lib.Signed.{ltZ};
 ghost use Rattle.lib_base.specs.Basics.{pick};
 ghost use Rattle.lib_arith.specs.Exact.{signed, reported};
-ghost use Rattle.lib_arith.specs.Functions.{isTrue, truth, result, answer, arity};
+ghost use Rattle.lib_arith.specs.Functions.{isTrue, truth, result, markedResult, arity};
 
 // What a test gives: 1 or 0.
 fn bit(t: bool) -> u64
@@ -61,7 +61,7 @@ fn choose(a: u32, b: u32, c: u32) -> u64
 // The function with the number f on the words a, b and c; it looks only at those that it needs. Its word, and 2^32 more
 // where it ran over. A number that is no function's gives 0.
 pub fn apply(f: u8, a: u32, b: u32, c: u32) -> u64
-    ensures { λ r. ⌜ r ≡ answer f a b c ⌝ }
+    ensures { λ r. ⌜ r ≡ markedResult f a b c ⌝ }
 {
     match f {
         functions::OR => either(a, b),

@@ -16,7 +16,7 @@ use Rattle.spec_language.specs.Grammar.{field, encodeExpr, encodeHandlers, tagO
 use Rattle.spec_language.specs.Sheet.{fillTerm, fillClauses, fillItem, fillEntries}
 use Rattle.spec_language.specs.Accepted.{NamesIn, HandlerNamesIn, BehaviourNamesIn}
 use Rattle.link_pooled.specs.Pooled.{moveTerm, moveClauses, moveItem, moveEntry, moveEntries}
-use Rattle.link_bytes.specs.Splice.{cellsAt, nextAt, countFrom, opens, onward, movedByte, scan}
+use Rattle.link_bytes.specs.Splice.{cellsFrom, nextAt, countFrom, opens, scanState, movedByte, scan}
 
 -- ---- names moved up leave every length as it was
 
@@ -47,7 +47,7 @@ module _ (v : ℕ → ℕ) (m k : ℕ) (small : m + k ≤ 256) where
   moved-name i h = omega arith
 
   scan-term : (x : Term) → NamesIn k (fillTerm v x) → (rest : List ℕ) → scan m 0 (encodeExpr x ++ rest) ≡ encodeExpr (moveTerm m x) ++ scan m 0 rest
-  unfolding scan movedByte onward opens encodeExpr renameTerm fillTerm
+  unfolding scan movedByte scanState opens encodeExpr renameTerm fillTerm
   scan-term (literal w) h rest = refl
   scan-term (variable i) h rest = rw (moved-name i h)
   scan-term (param n) h rest = refl
@@ -77,7 +77,7 @@ module _ (v : ℕ → ℕ) (m k : ℕ) (small : m + k ≤ 256) where
       rw (s, n)
 
   scan-clauses : (cs : List Clause) → All (HandlerNamesIn k) (fillClauses v cs) → (rest : List ℕ) → scan m 0 (encodeHandlers cs ++ rest) ≡ encodeHandlers (moveClauses m cs) ++ scan m 0 rest
-  unfolding scan movedByte onward opens encodeHandlers renameClauses fillClauses
+  unfolding scan movedByte scanState opens encodeHandlers renameClauses fillClauses
   scan-clauses [] h rest = refl
   scan-clauses (clause e φ x ∷ cs) h rest =
       let s : scan m 0 (encodeExpr x ++ encodeHandlers cs ++ rest) ≡ encodeExpr (moveTerm m x) ++ encodeHandlers (moveClauses m cs) ++ scan m 0 rest =
@@ -88,12 +88,12 @@ module _ (v : ℕ → ℕ) (m k : ℕ) (small : m + k ≤ 256) where
       rw (s, length-term m x)
 
   scan-viewer : (o : Option ℕ) (rest : List ℕ) → scan m 0 (encodeViewer o ++ rest) ≡ encodeViewer o ++ scan m 0 rest
-  unfolding scan movedByte onward opens
+  unfolding scan movedByte scanState opens
   scan-viewer none rest = refl
   scan-viewer (some b) rest = refl
 
   scan-item : (x : Item) → BehaviourNamesIn k (fillItem v x) → (n : ℕ) (rest : List ℕ) → scan m 0 (tagOf x ∷ (n / 256) ∷ (n % 256) ∷ (encodeItem x ++ rest)) ≡ tagOf x ∷ (n / 256) ∷ (n % 256) ∷ (encodeItem (moveItem m x) ++ scan m 0 rest)
-  unfolding scan movedByte onward opens
+  unfolding scan movedByte scanState opens
   scan-item (formula x) h n rest = rw (scan-term x h rest)
   scan-item (state s cs) h n rest = rw (scan-clauses cs h rest)
   scan-item (row c s cs) h n rest = rw (scan-clauses cs h rest)
@@ -145,8 +145,8 @@ entries-still (x ∷ xs) = λ i. record { item = item-still (x .item) i; viewer 
 
 -- ---- counting: at a place as at the front of what follows it
 
-cells-drop : (s : List ℕ) (i : ℕ) → cellsAt s i ≡ cellsAt (drop i s) 0
-unfolding cellsAt
+cells-drop : (s : List ℕ) (i : ℕ) → cellsFrom s i ≡ cellsFrom (drop i s) 0
+unfolding cellsFrom
 cells-drop s i =
     let z : length (drop i s) - 0 ≡ length s - i = omega (arith, length-drop i s) in
     let y : getD (drop i s) 0 0 ≡ getD s i 0 = getD-drop i s 0 0 ∙ ap (λ (n : ℕ). getD s n 0) (omega arith) in
@@ -182,8 +182,8 @@ some-item (formula (apply3 f a b c)) = omega arith
 some-item (state s cs) = omega arith
 some-item (row c s cs) = omega arith
 
-cells-item : (x : Item) (h l : ℕ) (rest : List ℕ) → cellsAt (tagOf x ∷ h ∷ l ∷ (encodeItem x ++ rest)) 0 ≡ cells x
-unfolding cellsAt
+cells-item : (x : Item) (h l : ℕ) (rest : List ℕ) → cellsFrom (tagOf x ∷ h ∷ l ∷ (encodeItem x ++ rest)) 0 ≡ cells x
+unfolding cellsFrom
 cells-item x h l rest =
     rw (le-ltb (suc (suc (suc (length (encodeItem x ++ rest)))) - 0) 4 (let p = some-item x in omega (arith, length-append (encodeItem x) rest))) (by-tag x)
   where
@@ -205,22 +205,22 @@ next-field t v rest =
     (let z : 0 + suc (suc (suc (length v))) ≡ suc (suc (suc (length v))) = omega arith in rw z (drop-append-seam v rest))
 
 -- so many as the entries' cells
-count-opens : (n : ℕ) (s : List ℕ) (i c : ℕ) → countFrom (suc n) s i c ≡ countFrom n s (nextAt s i) (c + cellsAt s i)
+count-opens : (n : ℕ) (s : List ℕ) (i c : ℕ) → countFrom (suc n) s i c ≡ countFrom n s (nextAt s i) (c + cellsFrom s i)
 unfolding countFrom
 count-opens n s i c = refl
 
 count-none : (n : ℕ) (s : List ℕ) (i c : ℕ) → i ≤ length s → drop i s ≡ [] → countFrom n s i c ≡ c
-unfolding countFrom cellsAt nextAt
+unfolding countFrom cellsFrom nextAt
 count-none zero s i c h q = refl
 count-none (suc n) s i c h q =
-    let z : c + cellsAt s i ≡ c = ap (λ (x : ℕ). c + x) (cells-drop s i ∙ ap (λ (u : List ℕ). cellsAt u 0) q) ∙ (omega arith) in
+    let z : c + cellsFrom s i ≡ c = ap (λ (x : ℕ). c + x) (cells-drop s i ∙ ap (λ (u : List ℕ). cellsFrom u 0) q) ∙ (omega arith) in
     let d : drop (nextAt s i) s ≡ [] = next-drop s i h ∙ ap (λ (u : List ℕ). drop (nextAt u 0) u) q in
     count-opens n s i c ∙ ap (countFrom n s (nextAt s i)) z ∙ count-none n s (nextAt s i) c (next-inside s i h) d
 
-cells-behaviour : (x : Entry) (rest : List ℕ) → cellsAt (encodeBehaviour x ++ rest) 0 ≡ cells (x .item)
+cells-behaviour : (x : Entry) (rest : List ℕ) → cellsFrom (encodeBehaviour x ++ rest) 0 ≡ cells (x .item)
 cells-behaviour x rest =
     let l : ℕ = length (encodeItem (x .item) ++ encodeViewer (x .viewer)) in
-    ap (λ (r : List ℕ). cellsAt (tagOf (x .item) ∷ (l / 256) ∷ (l % 256) ∷ r) 0) (append-assoc (encodeItem (x .item)) (encodeViewer (x .viewer)) rest)
+    ap (λ (r : List ℕ). cellsFrom (tagOf (x .item) ∷ (l / 256) ∷ (l % 256) ∷ r) 0) (append-assoc (encodeItem (x .item)) (encodeViewer (x .viewer)) rest)
     ∙ cells-item (x .item) (l / 256) (l % 256) (encodeViewer (x .viewer) ++ rest)
 
 pub count-behaviours : (n : ℕ) (xs : List Entry) (s : List ℕ) (i c : ℕ) → i ≤ length s → drop i s ≡ encodeBehaviours xs → length xs ≤ n → countFrom n s i c ≡ c + cellCount xs
@@ -228,7 +228,7 @@ unfolding encodeBehaviours cellCount
 count-behaviours n [] s i c h q l = count-none n s i c h q ∙ omega arith
 count-behaviours zero (x ∷ xs) s i c h q l = absurd (omega arith)
 count-behaviours (suc n) (x ∷ xs) s i c h q l =
-    let z : cellsAt s i ≡ cells (x .item) = cells-drop s i ∙ ap (λ (u : List ℕ). cellsAt u 0) q ∙ cells-behaviour x (encodeBehaviours xs) in
+    let z : cellsFrom s i ≡ cells (x .item) = cells-drop s i ∙ ap (λ (u : List ℕ). cellsFrom u 0) q ∙ cells-behaviour x (encodeBehaviours xs) in
     let d : drop (nextAt s i) s ≡ encodeBehaviours xs =
     next-drop s i h ∙ ap (λ (u : List ℕ). drop (nextAt u 0) u) q ∙ next-field (tagOf (x .item)) (encodeItem (x .item) ++ encodeViewer (x .viewer)) (encodeBehaviours xs) in
     count-opens n s i c

@@ -15,7 +15,7 @@ use Rattle.lib_base.specs.Basics.{pick, All}
 use Rattle.lib_base.proofs.Tools.{split}
 use Rattle.spec_language.specs.Sheet.{Item, formula, state, row, Signal, Entry}
 use Rattle.spec_language.specs.Grammar.{field, tagOf, encodeItem, encodeViewer, encodeSender, encodeEvent, encodeEvents, encodeBehaviours, ByteFits, SignalFits}
-use Rattle.link_pooled.specs.Pooled.{shared, bothSend, poolSignal, poolSignals, sameRanks}
+use Rattle.link_pooled.specs.Pooled.{mergedByNumber, bothSend, poolSignal, poolSignals, sameRanks}
 use Rattle.link_pooled.proofs.Bits.{both-missing}
 use Rattle.link_events.specs.Merging.{widthAt, rankAt, senderAt, merged, eventBytes, pairBytes, eventsFrom, endFrom, agreeFrom}
 
@@ -193,15 +193,15 @@ module _ {s t : List ℕ} {i j : ℕ} where
 
 -- ---- all turns
 
-shared-none : {A : Type 0} (f : A → A → A) (k : List A) → shared f k [] ≡ k
-unfolding shared
+shared-none : {A : Type 0} (f : A → A → A) (k : List A) → mergedByNumber f k [] ≡ k
+unfolding mergedByNumber
 shared-none f [] = refl
 shared-none f (a ∷ k) = refl
 
 module _ (es fs : List ℕ) (ends : Ends es) (endt : Ends fs) where
   pub events-are : (n : ℕ) (k l : List Signal) (s t : List ℕ) (i j : ℕ) → drop i s ≡ encodeEvents k ++ es → drop j t ≡ encodeEvents l ++ fs → All SignalFits k → All SignalFits l
       → length k ≤ n → length l ≤ n → eventsFrom n s i t j ≡ encodeEvents (poolSignals k l)
-  unfolding eventsFrom encodeEvents shared
+  unfolding eventsFrom encodeEvents mergedByNumber
   events-are zero [] [] s t i j p q f g x y = refl
   events-are zero [] (b ∷ l) s t i j p q f g x y = absurd (omega arith)
   events-are zero (a ∷ k) l s t i j p q f g x y = absurd (omega arith)

@@ -10,11 +10,11 @@ use lib.Seq.{drop-cons, take-suc-set, take-length, getD-drop}
 use lib.Dec.{ltb}
 use borrow.Author.Tests.{ltb-true, ltb-false, lt-ltb, le-ltb}
 use Rattle.lib_base.proofs.Tools.{split}
-use Rattle.front_field.specs.Field.{fieldOf, Within}
+use Rattle.front_field.specs.Field.{fieldOf, FieldWithin}
 use Rattle.front_field.specs.declared.Field.{Field}
 use Rattle.front_field.specs.declared.Field.the-variants.{Value, Refused}
-use Rattle.link_events.specs.Written.{Written}
-use Rattle.link_bytes.specs.Splice.{cellsAt, nextAt, countFrom, onward, movedByte, scan, spliced}
+use Rattle.link_events.specs.Written.{BytesWritten}
+use Rattle.link_bytes.specs.Splice.{cellsFrom, nextAt, countFrom, scanState, movedByte, scan, spliced}
 use Rattle.link_events.specs.Merging.{eventsFrom, endFrom}
 
 -- ---- the next field
@@ -42,7 +42,7 @@ next-refused s i f k h b e q = sym (ap (afterField i (length s)) q) ∙ next-is 
 pub next-value : (s : List ℕ) (i : ℕ) (f : Field) (t n : ℕ) → i ≤ length s → getD s i 0 < 256 → f ≡ fieldOf (take (length s - i) (drop i s)) 0 255 → f ≡ Value t n → i + n + 3 ≡ nextAt s i
 next-value s i f t n h b e q = sym (ap (afterField i (length s)) q) ∙ next-is s i f h b e
 
-pub next-fits : (s : List ℕ) (i : ℕ) (f : Field) (t n : ℕ) → i ≤ length s → Within (take (length s - i) (drop i s)) f → f ≡ Value t n → i + n + 3 ≤ length s
+pub next-fits : (s : List ℕ) (i : ℕ) (f : Field) (t n : ℕ) → i ≤ length s → FieldWithin (take (length s - i) (drop i s)) f → f ≡ Value t n → i + n + 3 ≤ length s
 next-fits s i f t n h w q =
     let v : n + 3 ≤ length (take (length s - i) (drop i s)) = rw q at w in
     omega (arith, simp (length-take, length-drop) at v)
@@ -58,7 +58,7 @@ pub record Counted (s : List ℕ) (i at c n : ℕ) : Type 0 where
 pub count-start : (s : List ℕ) (i : ℕ) → i ≤ length s → Counted s i i 0 0
 count-start s i h = record { whole = refl; inside = h; few = omega arith; turns = omega arith }
 
-count-opens : (m : ℕ) (s : List ℕ) (i c : ℕ) → countFrom (suc m) s i c ≡ countFrom m s (nextAt s i) (c + cellsAt s i)
+count-opens : (m : ℕ) (s : List ℕ) (i c : ℕ) → countFrom (suc m) s i c ≡ countFrom m s (nextAt s i) (c + cellsFrom s i)
 unfolding countFrom
 count-opens m s i c = refl
 
@@ -66,7 +66,7 @@ none-left : (s : List ℕ) (i c : ℕ) → countFrom 0 s i c ≡ c
 unfolding countFrom
 none-left s i c = refl
 
-pub count-on : {s : List ℕ} {i at c n x y : ℕ} → Counted s i at c n → n < 64 → x ≡ cellsAt s at → x ≤ 255 → y ≡ nextAt s at → y ≤ length s → Counted s i y (c + x) (n + 1)
+pub count-on : {s : List ℕ} {i at c n x y : ℕ} → Counted s i at c n → n < 64 → x ≡ cellsFrom s at → x ≤ 255 → y ≡ nextAt s at → y ≤ length s → Counted s i y (c + x) (n + 1)
 count-on {s} {i} {at} {c} {n} {x} {y} u h p l q g =
     let z : 64 - n ≡ suc (64 - (n + 1)) = omega arith in
     record {
@@ -86,7 +86,7 @@ count-end {s} {i} {at} {c} {n} u h =
 length-scan : (m k : ℕ) (bs : List ℕ) → length (scan m k bs) ≡ length bs
 unfolding scan
 length-scan m k [] = refl
-length-scan m k (b ∷ bs) = ap suc (length-scan m (onward k b) bs)
+length-scan m k (b ∷ bs) = ap suc (length-scan m (scanState k b) bs)
 
 pub record Moving (s o₀ o : List ℕ) (i m k at to left : ℕ) : Type 0 where
   pub whole : take to o ++ scan m left (drop at s) ≡ take k o₀ ++ scan m 0 (drop i s)
@@ -98,7 +98,7 @@ pub record Moving (s o₀ o : List ℕ) (i m k at to left : ℕ) : Type 0 where
 pub moving-start : (s o : List ℕ) (i m k : ℕ) → i ≤ length s → k + (length s - i) ≤ length o → Moving s o o i m k i k 0
 moving-start s o i m k h r = record { whole = refl; inside = h; count = refl; room = r; kept = refl }
 
-pub moving-on : {s o₀ o : List ℕ} {i m k at to left b x y : ℕ} → Moving s o₀ o i m k at to left → at < length s → b ≡ getD s at 0 → x ≡ movedByte m left b → y ≡ onward left b
+pub moving-on : {s o₀ o : List ℕ} {i m k at to left b x y : ℕ} → Moving s o₀ o i m k at to left → at < length s → b ≡ getD s at 0 → x ≡ movedByte m left b → y ≡ scanState left b
     → Moving s o₀ (set o to x) i m k (at + 1) (to + 1) y
 unfolding scan
 moving-on {s} {o₀} {o} {i} {m} {k} {at} {to} {left} {b} {x} {y} u h e p q =
@@ -119,7 +119,7 @@ empty : (m k : ℕ) → scan m k [] ≡ []
 unfolding scan
 empty m k = refl
 
-pub moving-end : {s o₀ o : List ℕ} {i m k at to left : ℕ} → Moving s o₀ o i m k at to left → length s ≤ at → Written o₀ k (scan m 0 (drop i s)) o to
+pub moving-end : {s o₀ o : List ℕ} {i m k at to left : ℕ} → Moving s o₀ o i m k at to left → length s ≤ at → BytesWritten o₀ k (scan m 0 (drop i s)) o to
 moving-end {s} {o₀} {o} {i} {m} {k} {at} {to} {left} u h =
     let z : length s - at ≡ 0 = omega arith in
     let c = u .count in
@@ -131,13 +131,13 @@ moving-end {s} {o₀} {o} {i} {m} {k} {at} {to} {left} u h =
 
 -- ---- one after another
 
-pub in-turn : {o o₁ o₂ o₃ a b c : List ℕ} {i j k : ℕ} → Written o 0 a o₁ i → Written o₁ i b o₂ j → Written o₂ j c o₃ k → Written o 0 (a ++ (b ++ c)) o₃ k
+pub in-turn : {o o₁ o₂ o₃ a b c : List ℕ} {i j k : ℕ} → BytesWritten o 0 a o₁ i → BytesWritten o₁ i b o₂ j → BytesWritten o₂ j c o₃ k → BytesWritten o 0 (a ++ (b ++ c)) o₃ k
 in-turn {o} {o₁} {o₂} {o₃} {a} {b} {c} {i} {j} {k} x y z = record {
   up-to = simp length-append (omega (arith, x .up-to, y .up-to, z .up-to));
   bytes = z .bytes ∙ rw (y .bytes, x .bytes, append-assoc a b c);
 }
 
 pub spliced-is : (s t : List ℕ) {o o′ : List ℕ} {i j n k : ℕ} → i ≡ endFrom 32 s 0 → j ≡ endFrom 32 t 0 → n ≡ countFrom 64 s i 0
-    → Written o 0 (eventsFrom 32 s 0 t 0 ++ (scan 0 0 (drop i s) ++ scan n 0 (drop j t))) o′ k → Written o 0 (spliced s t) o′ k
+    → BytesWritten o 0 (eventsFrom 32 s 0 t 0 ++ (scan 0 0 (drop i s) ++ scan n 0 (drop j t))) o′ k → BytesWritten o 0 (spliced s t) o′ k
 unfolding spliced
 spliced-is s t p q r w = rw (← p, ← q, ← r) w

@@ -10,8 +10,8 @@ use Rattle.link_events.specs.Merging.{eventsFrom, endFrom}
 -- ---- behaviours
 
 -- how many behaviours the field at place i stands for, and the place after it
-unfoldable pub cellsAt : List ℕ → ℕ → ℕ
-cellsAt s i = pick (ltb (length s - i) 4) 0 (pick (eqb (getD s i 0) 6) (getD s (i + 3) 0) 1)
+unfoldable pub cellsFrom : List ℕ → ℕ → ℕ
+cellsFrom s i = pick (ltb (length s - i) 4) 0 (pick (eqb (getD s i 0) 6) (getD s (i + 3) 0) 1)
 
 unfoldable pub nextAt : List ℕ → ℕ → ℕ
 nextAt s i =
@@ -21,7 +21,7 @@ nextAt s i =
 -- c, and those of the next n fields
 unfoldable pub countFrom : ℕ → List ℕ → ℕ → ℕ → ℕ
 countFrom zero s i c = c
-countFrom (suc n) s i c = countFrom n s (nextAt s i) (c + cellsAt s i)
+countFrom (suc n) s i c = countFrom n s (nextAt s i) (c + cellsFrom s i)
 
 -- ---- names
 
@@ -29,8 +29,8 @@ countFrom (suc n) s i c = countFrom n s (nextAt s i) (c + cellsAt s i)
 unfoldable pub opens : ℕ → ℕ
 opens b = pick (eqb b 17) 11 (pick (eqb b 16) 6 (pick (eqb b 4) 6 (pick (eqb b 5) 4 (pick (ltb b 4) 2 3))))
 
-unfoldable pub onward : ℕ → ℕ → ℕ
-onward k b = pick (eqb k 0) (opens b) (pick (eqb k 9) 0 (k - 1))
+unfoldable pub scanState : ℕ → ℕ → ℕ
+scanState k b = pick (eqb k 0) (opens b) (pick (eqb k 9) 0 (k - 1))
 
 unfoldable pub movedByte : ℕ → ℕ → ℕ → ℕ
 movedByte m k b = pick (eqb k 9) ((b + m) % 256) b
@@ -38,7 +38,7 @@ movedByte m k b = pick (eqb k 9) ((b + m) % 256) b
 -- the bytes of behaviours, each name moved up by m
 unfoldable pub scan : ℕ → ℕ → List ℕ → List ℕ
 scan m k [] = []
-scan m k (b ∷ bs) = movedByte m k b ∷ scan m (onward k b) bs
+scan m k (b ∷ bs) = movedByte m k b ∷ scan m (scanState k b) bs
 
 -- ---- the whole
 

@@ -7,8 +7,8 @@ use spec_language::tags;
 ghost use mathlib.Core.Path.{_≡_};
 ghost use Prim.Native.Nat.{_≤_, _+_, _-_};
 ghost use lib.ListN.{length, drop};
-ghost use Rattle.link_events.specs.Written.{Written};
-ghost use Rattle.link_bytes.specs.Splice.{cellsAt, nextAt, countFrom, opens, onward, movedByte, scan, spliced};
+ghost use Rattle.link_events.specs.Written.{BytesWritten};
+ghost use Rattle.link_bytes.specs.Splice.{cellsFrom, nextAt, countFrom, opens, scanState, movedByte, scan, spliced};
 
 // A field with a value has at least these bytes: its tag, the two of its length, and one.
 const LEAST_BYTES: usize = 4;
@@ -33,7 +33,7 @@ const BEFORE_NAME: usize = 11;
 // How many behaviours the field at place i stands for.
 fn cells(s: &[u8], i: usize) -> usize
     requires { ⌜ i ≤ length (now s) ⌝ }
-    ensures { λ r. ⌜ r ≡ cellsAt (now (s .entry)) i ⌝ }
+    ensures { λ r. ⌜ r ≡ cellsFrom (now (s .entry)) i ⌝ }
     ensures { λ r. ⌜ r ≤ 255 ⌝ }
 {
     if s.len() - i < LEAST_BYTES {
@@ -98,7 +98,7 @@ fn opened(b: u8) -> usize
 }
 
 fn follow(k: usize, b: u8) -> usize
-    ensures { λ r. ⌜ r ≡ onward k b ⌝ }
+    ensures { λ r. ⌜ r ≡ scanState k b ⌝ }
 {
     if k == 0 {
         return opened(b);
@@ -123,7 +123,7 @@ fn lift(m: usize, k: usize, b: u8) -> u8
 // The behaviours from place i on, their names moved up by m, from place k of the buffer on.
 fn put_moved(s: &[u8], i: usize, m: usize, out: &mut [u8], k: usize) -> usize
     requires { ⌜ (i ≤ length (now s)) × (m ≤ 16320) × (k + (length (now s) - i) ≤ length (now out)) ⌝ }
-    ensures { λ r. ⌜ Written (now (out .entry)) k (scan m 0 (drop i (now (s .entry)))) (now (out .exit)) r ⌝ }
+    ensures { λ r. ⌜ BytesWritten (now (out .entry)) k (scan m 0 (drop i (now (s .entry)))) (now (out .exit)) r ⌝ }
     ensures { λ r. ⌜ r ≡ k + (length (now (s .entry)) - i) ⌝ }
 {
     let mut at = i;
@@ -142,7 +142,7 @@ fn put_moved(s: &[u8], i: usize, m: usize, out: &mut [u8], k: usize) -> usize
 // Both sheets' bytes joined, from the buffer's start on.
 pub fn splice(s: &[u8], t: &[u8], out: &mut [u8]) -> usize
     requires { ⌜ length (now s) + length (now t) + 160 ≤ length (now out) ⌝ }
-    ensures { λ r. ⌜ Written (now (out .entry)) 0 (spliced (now (s .entry)) (now (t .entry))) (now (out .exit)) r ⌝ }
+    ensures { λ r. ⌜ BytesWritten (now (out .entry)) 0 (spliced (now (s .entry)) (now (t .entry))) (now (out .exit)) r ⌝ }
     ensures { λ r. ⌜ r ≤ length (now (s .entry)) + length (now (t .entry)) + 160 ⌝ }
 {
     let i = link_events::events_end(s);

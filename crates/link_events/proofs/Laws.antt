@@ -9,11 +9,11 @@ use lib.ListN.{length, take, drop, set, length-append}
 use lib.Seq.{sets, sets-eq, take-at, length-take-le}
 use borrow.Author.Tests.{eq-eqb, ne-eqb}
 use Rattle.link_events.specs.Merging.{widthAt, rankAt, senderAt, merged, eventBytes, pairBytes, eventsFrom, endFrom, agreeFrom}
-use Rattle.link_events.specs.Written.{Written}
+use Rattle.link_events.specs.Written.{BytesWritten}
 
 -- ---- writing in a row
 
-in-a-row : (o : List ℕ) (k : ℕ) (vs : List ℕ) (r : ℕ) → k + length vs ≤ length o → r ≡ k + length vs → Written o k vs (sets o k vs) r
+in-a-row : (o : List ℕ) (k : ℕ) (vs : List ℕ) (r : ℕ) → k + length vs ≤ length o → r ≡ k + length vs → BytesWritten o k vs (sets o k vs) r
 in-a-row o k vs r h q =
     let l : length (take k o ++ vs) ≡ r = length-append (take k o) vs ∙ ap (λ (n : ℕ). n + length vs) (length-take-le k o (omega arith)) ∙ sym q in
     record {
@@ -22,27 +22,27 @@ in-a-row o k vs r h q =
     }
 
 pub four : (o : List ℕ) (k r m : ℕ) → k + 5 ≤ length o → m ≡ 256
-    → Written o k (eventBytes r m) (set (set (set (set o k 1) (k + 1) 0) (k + 2) 1) (k + 3) r) (k + 4)
+    → BytesWritten o k (eventBytes r m) (set (set (set (set o k 1) (k + 1) 0) (k + 2) 1) (k + 3) r) (k + 4)
 unfolding eventBytes
 four o k r m h q = rw (eq-eqb m 256 q) (simp (add-one, add-two, add-three) (in-a-row o k (1 ∷ 0 ∷ 1 ∷ r ∷ []) (k + 4) (omega arith) (omega arith)))
 
 pub five : (o : List ℕ) (k r m : ℕ) → k + 5 ≤ length o → (m ≡ 256 → ⊥)
-    → Written o k (eventBytes r m) (set (set (set (set (set o k 1) (k + 1) 0) (k + 2) 2) (k + 3) r) (k + 4) (m % 256)) (k + 5)
+    → BytesWritten o k (eventBytes r m) (set (set (set (set (set o k 1) (k + 1) 0) (k + 2) 2) (k + 3) r) (k + 4) (m % 256)) (k + 5)
 unfolding eventBytes
 five o k r m h q = rw (ne-eqb m 256 q) (simp (add-one, add-two, add-three, add-four) (in-a-row o k (1 ∷ 0 ∷ 2 ∷ r ∷ (m % 256) ∷ []) (k + 5) (omega arith) (omega arith)))
 
 -- ---- the field of one number
 
 module _ (s t : List ℕ) (i a j b : ℕ) {o o′ : List ℕ} {k n x y m r : ℕ} (p : x ≡ senderAt s i a) (q : y ≡ senderAt t j b) (z : m ≡ merged x y) where
-  pub pair-first : (a ≡ 0 → ⊥) → r ≡ rankAt s i a → Written o k (eventBytes r m) o′ n → Written o k (pairBytes s i a t j b) o′ n
+  pub pair-first : (a ≡ 0 → ⊥) → r ≡ rankAt s i a → BytesWritten o k (eventBytes r m) o′ n → BytesWritten o k (pairBytes s i a t j b) o′ n
   unfolding pairBytes
   pair-first h g w = rw (ne-eqb a 0 h, ← p, ← q, ← z, ← g) w
 
-  pub pair-second : a ≡ 0 → (b ≡ 0 → ⊥) → r ≡ rankAt t j b → Written o k (eventBytes r m) o′ n → Written o k (pairBytes s i a t j b) o′ n
+  pub pair-second : a ≡ 0 → (b ≡ 0 → ⊥) → r ≡ rankAt t j b → BytesWritten o k (eventBytes r m) o′ n → BytesWritten o k (pairBytes s i a t j b) o′ n
   unfolding pairBytes
   pair-second h d g w = rw (eq-eqb a 0 h, ne-eqb b 0 d, ← p, ← q, ← z, ← g) w
 
-pub pair-none : (s t : List ℕ) (i a j b : ℕ) {o : List ℕ} {k : ℕ} → a ≡ 0 → b ≡ 0 → Written o k (pairBytes s i a t j b) o k
+pub pair-none : (s t : List ℕ) (i a j b : ℕ) {o : List ℕ} {k : ℕ} → a ≡ 0 → b ≡ 0 → BytesWritten o k (pairBytes s i a t j b) o k
 unfolding pairBytes
 pair-none s t i a j b {o} {k} h d = rw (eq-eqb a 0 h, eq-eqb b 0 d) (record { up-to = omega arith; bytes = sym (append-nil (take k o)) })
 
@@ -62,7 +62,7 @@ turn-start s t o h = record { whole = refl; in-s = omega arith; in-t = omega ari
 
 pub turn-on : {s t o₀ o o′ : List ℕ} {i j k n a b k′ : ℕ} → Turn s t o₀ o i j k n → n < 32
     → a ≡ widthAt s i → i + a ≤ length s → b ≡ widthAt t j → j + b ≤ length t
-    → Written o k (pairBytes s i a t j b) o′ k′ → k′ ≤ k + 5 → length o′ ≡ length o → Turn s t o₀ o′ (i + a) (j + b) k′ (n + 1)
+    → BytesWritten o k (pairBytes s i a t j b) o′ k′ → k′ ≤ k + 5 → length o′ ≡ length o → Turn s t o₀ o′ (i + a) (j + b) k′ (n + 1)
 unfolding eventsFrom
 turn-on {s} {t} {o₀} {o} {o′} {i} {j} {k} {n} {a} {b} {k′} u h p x q y w l c =
     let z : 32 - n ≡ suc (32 - (n + 1)) = omega arith in
@@ -85,10 +85,10 @@ none-left : (s t : List ℕ) (i j : ℕ) → eventsFrom 0 s i t j ≡ []
 unfolding eventsFrom
 none-left s t i j = refl
 
-written : (o₀ o l : List ℕ) (k : ℕ) → k ≤ length o → take k o ≡ l → Written o₀ 0 l o k
+written : (o₀ o l : List ℕ) (k : ℕ) → k ≤ length o → take k o ≡ l → BytesWritten o₀ 0 l o k
 written o₀ o l k h e = let z : length l ≡ k = sym (ap length e) ∙ length-take-le k o h in record { up-to = omega arith; bytes = e }
 
-pub turn-end : {s t o₀ o : List ℕ} {i j k n : ℕ} → Turn s t o₀ o i j k n → 32 ≤ n → Written o₀ 0 (eventsFrom 32 s 0 t 0) o k × (k ≤ 160)
+pub turn-end : {s t o₀ o : List ℕ} {i j k n : ℕ} → Turn s t o₀ o i j k n → 32 ≤ n → BytesWritten o₀ 0 (eventsFrom 32 s 0 t 0) o k × (k ≤ 160)
 turn-end {s} {t} {o₀} {o} {i} {j} {k} {n} u h =
     let z : 32 - n ≡ 0 = omega arith in
     let e : take k o ≡ eventsFrom 32 s 0 t 0 = sym (append-nil (take k o)) ∙ ap (λ (v : List ℕ). take k o ++ v) (sym (ap (λ (m : ℕ). eventsFrom m s i t j) z ∙ none-left s t i j)) ∙ u .whole in

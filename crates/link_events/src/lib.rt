@@ -6,7 +6,7 @@ ghost use mathlib.Core.Path.{_≡_};
 ghost use Prim.Native.Nat.{_≤_, _+_, _-_};
 ghost use lib.ListN.{length};
 ghost use Rattle.link_events.specs.Merging.{widthAt, rankAt, senderAt, merged, eventBytes, pairBytes, eventsFrom, endFrom, agreeFrom};
-ghost use Rattle.link_events.specs.Written.{Written};
+ghost use Rattle.link_events.specs.Written.{BytesWritten};
 
 // How many bytes an event's field has, without and with the byte that says who may send it, and where that stands.
 const PLAIN_BYTES: usize = 4;
@@ -80,7 +80,7 @@ fn merge(x: usize, y: usize) -> usize
 // An event's field from place k on.
 fn put_event(out: &mut [u8], k: usize, r: u8, m: usize) -> usize
     requires { ⌜ k + 5 ≤ length (now out) ⌝ }
-    ensures { λ n. ⌜ Written (now (out .entry)) k (eventBytes r m) (now (out .exit)) n ⌝ }
+    ensures { λ n. ⌜ BytesWritten (now (out .entry)) k (eventBytes r m) (now (out .exit)) n ⌝ }
     ensures { λ n. ⌜ n ≤ k + 5 ⌝ }
 {
     if m == ANYONE {
@@ -110,7 +110,7 @@ fn put_pair(
     k: usize,
 ) -> usize
     requires { ⌜ (i + a ≤ length (now s)) × (j + b ≤ length (now t)) × (k + 5 ≤ length (now out)) ⌝ }
-    ensures { λ n. ⌜ Written (now (out .entry)) k (pairBytes (now (s .entry)) i a (now (t .entry)) j b) (now (out .exit)) n ⌝ }
+    ensures { λ n. ⌜ BytesWritten (now (out .entry)) k (pairBytes (now (s .entry)) i a (now (t .entry)) j b) (now (out .exit)) n ⌝ }
     ensures { λ n. ⌜ n ≤ k + 5 ⌝ }
 {
     let m = merge(sender(s, i, a), sender(t, j, b));
@@ -126,7 +126,7 @@ fn put_pair(
 // The events of both, from the buffer's start on.
 pub fn put_events(s: &[u8], t: &[u8], out: &mut [u8]) -> usize
     requires { ⌜ 160 ≤ length (now out) ⌝ }
-    ensures { λ n. ⌜ Written (now (out .entry)) 0 (eventsFrom 32 (now (s .entry)) 0 (now (t .entry)) 0) (now (out .exit)) n ⌝ }
+    ensures { λ n. ⌜ BytesWritten (now (out .entry)) 0 (eventsFrom 32 (now (s .entry)) 0 (now (t .entry)) 0) (now (out .exit)) n ⌝ }
     ensures { λ n. ⌜ n ≤ 160 ⌝ }
 {
     let mut i = 0;

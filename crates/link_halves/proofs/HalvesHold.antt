@@ -27,26 +27,26 @@ use Rattle.spec_model.specs.Claims.{committedIn, eventsOf}
 use Rattle.format_image.specs.Image.{tableOf}
 use Rattle.check_faults.proofs.CycleDecides.{known-decides, cyclic-decides}
 use Rattle.check_circle.specs.Witness.{numberOn}
-use Rattle.back_compile.specs.Verdict.{Compiled, compiled, judge, lacks, judgeRead, programOf, compileOn}
+use Rattle.back_compile.specs.Verdict.{Compiled, compiled, judge, lacksParameters, judgeRead, programOf, compileOn}
 use Rattle.back_compile.proofs.JudgeLaws.{judge-passes, compile-opens}
 use Rattle.link_pooled.specs.Pooled.{pooled, sameRanks}
 use Rattle.link_pooled.specs.Together.{together, declared}
 use Rattle.link_pooled.proofs.Filled.{fill-pooled, size-fill}
 use Rattle.link_pooled.proofs.Rights.{send-both, send-first, send-second, see-first, see-second, rank-first, rank-second}
 use Rattle.link_join.specs.Join.{Joined, joined}
-use Rattle.link_join.specs.Statements.{Read, Answer, first-refused, second-refused, unlike, long, crowded, overlong, short, done}
+use Rattle.link_join.specs.Statements.{AcceptedSheet, JoinAnswer, first-refused, second-refused, unlike, long, crowded, overlong, short, done}
 use Rattle.link_join.proofs.Says.{join-says, rules-board}
-use Rattle.run_start.specs.Start.{Result}
+use Rattle.run_start.specs.Start.{CallResult}
 use Rattle.refine_calls.specs.Refinement.{calls, Bytes, bytes, bytesAfter}
 use Rattle.refine_lists.specs.Lists.{boardOf, freshRoundOn, OnlyCalls}
 use Rattle.refine_lists.proofs.Sheets.{table-room, program-accepted, begun}
 use Rattle.refine_lists.proofs.OnlyCallsHold.{known, only-calls}
-use Rattle.link_halves.specs.HalfBoards.{boardAfter, SameCommits, NotSettling, Halves, HalfBoards}
+use Rattle.link_halves.specs.HalfBoards.{boardAfter, SameCommits, NoCopyBack, Halves, HalfBoards}
 
 -- ---- a sheet that is accepted, whatever its bytes are written from
 
 module _ (ps : List ℕ) (x : Sheet) (ok : SheetAccepted (get ps) (length ps) x) where
-  enough : lacks x ps ≡ false
+  enough : lacksParameters x ps ≡ false
   enough = split (uses x) (λ u. rw (u, le-ltb (length ps) 32 (ok .given u))) (λ u. rw u)
 
   compiles : (s t : List ℕ) → encode x ≡ s → 34816 ≤ length t → compileOn s ps t ≡ compiled 0 (tableOf (programOf ps x) t)
@@ -63,7 +63,7 @@ module _ (ps : List ℕ) (x : Sheet) (ok : SheetAccepted (get ps) (length ps) x)
   unfolding numberOn
   number s e = ap (λ (r : Compiled). r .0) (compiles s (replicate 34816 0) e (omega (arith, length-replicate {A = ℕ} 34816 0)))
 
-  as-read : (s : List ℕ) → encode x ≡ s → Read s ps
+  as-read : (s : List ℕ) → encode x ≡ s → AcceptedSheet s ps
   as-read s e = record { sheet = x; bytes = e; accepted = ok; read = rw e at (reads-back x (ok .fits)) }
 
 -- a list of calls on its table, by demand 3
@@ -73,7 +73,7 @@ list-of ps words x ok s t₀ l₀ e a b cs =
     let p = programOf ps x in
     let accepted = program-accepted ps words x ok in
     let t : compileOn s ps t₀ .1 ≡ tableOf p t₀ = ap (λ (r : Compiled). r .1) (compiles ps x ok s t₀ e a) in
-    let m = ap (λ (r : Result). r .1) (begun p accepted t₀ l₀ (compileOn s ps t₀ .1) a b t) in
+    let m = ap (λ (r : CallResult). r .1) (begun p accepted t₀ l₀ (compileOn s ps t₀ .1) a b t) in
     subst (λ (c : Bytes). OnlyCalls p l₀ c cs) (λ i. bytes (sym t i) (sym m i)) (only-calls p accepted t₀ l₀ a b cs)
 
 -- ---- what join's answer says
@@ -83,7 +83,7 @@ abbrev the-sheet : Sheet → Got Sheet → Sheet
 the-sheet d (bad k) = d
 the-sheet d (got x rest) = x
 
-same-sheet : {s ps : List ℕ} (x y : Read s ps) → x .sheet ≡ y .sheet
+same-sheet : {s ps : List ℕ} (x y : AcceptedSheet s ps) → x .sheet ≡ y .sheet
 same-sheet x y = ap (the-sheet (x .sheet)) (sym (x .read) ∙ y .read)
 
 record Delivered (ps v : List ℕ) (x y : Sheet) : Type 0 where
@@ -100,8 +100,8 @@ in-front buffer v w e =
     ∙ ap₂ (λ (i : ℕ) (l : List ℕ). take i l) k (ap (λ (r : Joined). r .1) e)
     ∙ take-append-seam v (drop (length v) buffer)
 
-module _ (buffer v : List ℕ) {s z ps : List ℕ} (x : Read s ps) (y : Read z ps) (n : numberOn s ps ≡ 0) (m : numberOn z ps ≡ 0) where
-  told : {r : Joined} → Answer s z ps buffer r → r ≡ joined (4294967296 + length v) (v ++ drop (length v) buffer) → Delivered ps v (x .sheet) (y .sheet)
+module _ (buffer v : List ℕ) {s z ps : List ℕ} (x : AcceptedSheet s ps) (y : AcceptedSheet z ps) (n : numberOn s ps ≡ 0) (m : numberOn z ps ≡ 0) where
+  told : {r : Joined} → JoinAnswer s z ps buffer r → r ≡ joined (4294967296 + length v) (v ++ drop (length v) buffer) → Delivered ps v (x .sheet) (y .sheet)
   told (first-refused h) e = absurd (h n)
   told (second-refused g h) e = absurd (h m)
   told (unlike a b h) e = let k : _≡_ {A = ℕ} 26 (4294967296 + length v) = ap (λ (r : Joined). r .0) e in absurd (omega arith)
@@ -121,7 +121,7 @@ plays-length p [] s b played h = h
 plays-length p (e ∷ es) s b (plays {s′ = m} r k sh q) h = plays-length p es m b q k
 
 -- the board of a list whose commits are es is the one to which the rules lead
-by-rules : (p : Program) (l₀ : List ℕ) (c : Bytes) (cs : List Call) → OnlyCalls p l₀ c cs → NotSettling p cs → (es b : List ℕ) → eventsOf (committedIn p (map call cs)) ≡ es
+by-rules : (p : Program) (l₀ : List ℕ) (c : Bytes) (cs : List Call) → OnlyCalls p l₀ c cs → NoCopyBack p cs → (es b : List ℕ) → eventsOf (committedIn p (map call cs)) ≡ es
     → Plays p es (fresh p) b → b ≡ boardOf p (bytesAfter (map calls cs) c .round)
 by-rules p l₀ c cs h still es b e k = h .board-alone still b (subst (λ (w : List ℕ). Plays p w (fresh p) b) (sym e) k)
 
@@ -131,7 +131,7 @@ front n f g e = subst (λ (k : ℕ). take k (f ++ g) ≡ f) e (take-append-seam 
 behind : (n : ℕ) (f g : List ℕ) → length f ≡ n → drop n (f ++ g) ≡ g
 behind n f g e = subst (λ (k : ℕ). drop k (f ++ g) ≡ g) e (drop-append-seam f g)
 
-module _ (ps : List ℕ) (words : All (λ b. b < 256) ps) {s z : List ℕ} (x : Read s ps) (y : Read z ps) (v : List ℕ) (d : Delivered ps v (x .sheet) (y .sheet))
+module _ (ps : List ℕ) (words : All (λ b. b < 256) ps) {s z : List ℕ} (x : AcceptedSheet s ps) (y : AcceptedSheet z ps) (v : List ℕ) (d : Delivered ps v (x .sheet) (y .sheet))
     (t₀ l₀ t₁ l₁ t₂ l₂ : List ℕ) (a₀ : 34816 ≤ length t₀) (a₁ : 34816 ≤ length t₁) (a₂ : 34816 ≤ length t₂) (b₀ : 2048 ≤ length l₀) (b₁ : 2048 ≤ length l₁) (b₂ : 2048 ≤ length l₂) where
   abbrev p : Program
   p = programOf ps (x .sheet)
@@ -160,7 +160,7 @@ module _ (ps : List ℕ) (words : All (λ b. b < 256) ps) {s z : List ℕ} (x : 
     row : boardAfter j (compileOn v ps t₀ .1) l₀ cs ≡ one ++ two
     long-one : length one ≡ size p
 
-  cut : (cs : List Call) → NotSettling j cs → Cut cs
+  cut : (cs : List Call) → NoCopyBack j cs → Cut cs
   cut cs h =
       let all = list-of ps words (pooled (x .sheet) (y .sheet)) (d .accepted) v t₀ l₀ (d .bytes) a₀ b₀ cs in
       let es = eventsOf (committedIn j (map call cs)) in
@@ -174,7 +174,7 @@ module _ (ps : List ℕ) (words : All (λ b. b < 256) ps) {s z : List ℕ} (x : 
         long-one = plays-length p (declared p es) (fresh p) (k .0) (k .2) (length-fresh p);
       }
 
-  first-half : (cs ds : List Call) → NotSettling j cs → NotSettling p ds → SameCommits j cs p ds
+  first-half : (cs ds : List Call) → NoCopyBack j cs → NoCopyBack p ds → SameCommits j cs p ds
       → take (size p) (boardAfter j (compileOn v ps t₀ .1) l₀ cs) ≡ boardAfter p (compileOn s ps t₁ .1) l₁ ds
   first-half cs ds h h₁ same =
       let c = cut cs h in
@@ -182,7 +182,7 @@ module _ (ps : List ℕ) (words : All (λ b. b < 256) ps) {s z : List ℕ} (x : 
       ap (take (size p)) (c .row) ∙ front (size p) (c .one) (c .two) (c .long-one)
       ∙ by-rules p l₁ (freshRoundOn s ps t₁ l₁) ds mine h₁ (declared p (eventsOf (committedIn j (map call cs)))) (c .one) same (c .first-plays)
 
-  second-half : (cs ds : List Call) → NotSettling j cs → NotSettling q ds → SameCommits j cs q ds
+  second-half : (cs ds : List Call) → NoCopyBack j cs → NoCopyBack q ds → SameCommits j cs q ds
       → drop (size p) (boardAfter j (compileOn v ps t₀ .1) l₀ cs) ≡ boardAfter q (compileOn z ps t₂ .1) l₂ ds
   second-half cs ds h h₂ same =
       let c = cut cs h in

@@ -17,7 +17,7 @@ use Rattle.spec_language.specs.Dependence.{size, events}
 use Rattle.spec_language.specs.Accepted.{SheetAccepted}
 use Rattle.spec_language.specs.Rights.{maySend, maySee}
 use Rattle.spec_model.specs.Model.{Call, call}
-use Rattle.spec_model.specs.Claims.{engineAfter, committedIn, eventsOf, settlingIn}
+use Rattle.spec_model.specs.Claims.{engineAfter, committedIn, eventsOf, copyBackIn}
 use Rattle.back_compile.specs.Verdict.{programOf, compileOn}
 use Rattle.link_pooled.specs.Pooled.{pooled}
 use Rattle.link_pooled.specs.Together.{declared}
@@ -36,15 +36,15 @@ abbrev pub SameCommits : Program → List Call → Program → List Call → Typ
 SameCommits j cs p ds = eventsOf (committedIn p (map call ds)) ≡ declared p (eventsOf (committedIn j (map call cs)))
 
 -- "unless a copy-back is under way" (demand 3)
-abbrev pub NotSettling : Program → List Call → Type 0
-NotSettling p cs = settlingIn p (engineAfter p (map call cs)) ≡ false
+abbrev pub NoCopyBack : Program → List Call → Type 0
+NoCopyBack p cs = copyBackIn p (engineAfter p (map call cs)) ≡ false
 
 -- the programs p and q of the two sheets, that of the joined sheet, j, and their tables
 pub record Halves (p q j : Program) (t₀ l₀ t₁ l₁ t₂ l₂ : List ℕ) : Type 0 where
   -- "each half of the joined board equals that sheet's own board", each by itself: as many values as the first sheet
   -- has behaviours, then those of the second
-  pub first-half : (cs ds : List Call) → NotSettling j cs → NotSettling p ds → SameCommits j cs p ds → take (size p) (boardAfter j t₀ l₀ cs) ≡ boardAfter p t₁ l₁ ds
-  pub second-half : (cs ds : List Call) → NotSettling j cs → NotSettling q ds → SameCommits j cs q ds → drop (size p) (boardAfter j t₀ l₀ cs) ≡ boardAfter q t₂ l₂ ds
+  pub first-half : (cs ds : List Call) → NoCopyBack j cs → NoCopyBack p ds → SameCommits j cs p ds → take (size p) (boardAfter j t₀ l₀ cs) ≡ boardAfter p t₁ l₁ ds
+  pub second-half : (cs ds : List Call) → NoCopyBack j cs → NoCopyBack q ds → SameCommits j cs q ds → drop (size p) (boardAfter j t₀ l₀ cs) ≡ boardAfter q t₂ l₂ ds
   -- "A player may send a shared event only where both sheets allow it", another where its sheet does
   pub send-shared : (player e : ℕ) → e < events p → e < events q → maySend j player e ≡ maySend p player e && maySend q player e
   pub send-first : (player e : ℕ) → events q ≤ e → maySend j player e ≡ maySend p player e

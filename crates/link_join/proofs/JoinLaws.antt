@@ -15,21 +15,21 @@ use Rattle.spec_language.specs.Grammar.{encode}
 use Rattle.spec_language.specs.Reading.{readSheet}
 use Rattle.link_pooled.specs.Pooled.{pooled, sameRanks}
 use Rattle.link_events.specs.Merging.{agreeFrom}
-use Rattle.link_events.specs.Written.{Written}
+use Rattle.link_events.specs.Written.{BytesWritten}
 use Rattle.link_bytes.specs.Splice.{spliced}
 use Rattle.link_bytes.proofs.Spliced.{spliced-are, ranks-agree}
 use Rattle.back_compile.proofs.AcceptedExactly.{accepted-exactly}
 use Rattle.check_circle.specs.Witness.{numberOn}
 use Rattle.link_join.specs.Join.{Joined, joined, deliveredIn, resultOn, poolOn, poolRead, joinOn}
-use Rattle.link_join.specs.Statements.{Read}
+use Rattle.link_join.specs.Statements.{AcceptedSheet}
 
-pub taken : (s ps : List ℕ) → All (λ b. b < 256) s → numberOn s ps ≡ 0 → Read s ps
+pub taken : (s ps : List ℕ) → All (λ b. b < 256) s → numberOn s ps ≡ 0 → AcceptedSheet s ps
 unfolding numberOn
 taken s ps h q =
     let t = accepted-exactly s ps (replicate 34816 0) h (omega (arith, length-replicate {A = ℕ} 34816 0)) .0 q in
     record { sheet = t .0; bytes = t .1; accepted = t .2; read = t .4 }
 
-pub read-few : {s ps : List ℕ} → Read s ps → length s ≤ 8192
+pub read-few : {s ps : List ℕ} → AcceptedSheet s ps → length s ≤ 8192
 read-few {s} {ps} r = rw (r .bytes) at (r .accepted .fits .few-bytes)
 
 -- ---- from both sheets
@@ -42,7 +42,7 @@ not-false : (b : Bool) → not b ≡ false → b ≡ true
 not-false true e = refl
 not-false false e = absurd (true≢false e)
 
-module _ {s t ps : List ℕ} (x : Read s ps) (y : Read t ps) where
+module _ {s t ps : List ℕ} (x : AcceptedSheet s ps) (y : AcceptedSheet t ps) where
   pub spliced-read : spliced s t ≡ encode (pooled (x .sheet) (y .sheet))
   spliced-read =
       sym (ap (λ (u : List ℕ). spliced u t) (x .bytes)) ∙ sym (ap (spliced (encode (x .sheet))) (y .bytes))
@@ -60,7 +60,7 @@ module _ {s t ps : List ℕ} (x : Read s ps) (y : Read t ps) where
   unfolding poolOn
   unlike buffer b q e = sym (opened buffer ∙ rw (sym ranks-read ∙ sym q ∙ not-true b e))
 
-  pub alike : (buffer : List ℕ) (b : Bool) (o o′ : List ℕ) (n : ℕ) (answer : Joined) → b ≡ agreeFrom 32 s 0 t 0 → not b ≡ false → Written o 0 (spliced s t) o′ n
+  pub alike : (buffer : List ℕ) (b : Bool) (o o′ : List ℕ) (n : ℕ) (answer : Joined) → b ≡ agreeFrom 32 s 0 t 0 → not b ≡ false → BytesWritten o 0 (spliced s t) o′ n
       → answer ≡ resultOn (take (n - 0) (drop 0 o′)) ps buffer → answer ≡ poolRead (readSheet s) (readSheet t) ps buffer
   unfolding poolOn
   alike buffer b o o′ n answer q e w h =

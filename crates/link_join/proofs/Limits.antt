@@ -24,7 +24,7 @@ use Rattle.link_pooled.specs.Pooled.{count, pooled}
 use Rattle.link_pooled.proofs.PooledAccepted.{Nearly, pooled-nearly}
 use Rattle.check_faults.specs.Faults.{known, cyclic}
 use Rattle.check_faults.proofs.CycleDecides.{known-decides, cyclic-decides}
-use Rattle.back_compile.specs.Verdict.{Compiled, judge, lacks, programOf, judgeRead}
+use Rattle.back_compile.specs.Verdict.{Compiled, judge, lacksParameters, programOf, judgeRead}
 use Rattle.back_compile.proofs.JudgeLaws.{judge-long, judge-passes, compile-opens, compile-long}
 use Rattle.link_pooled.proofs.Filled.{size-fill}
 use Rattle.check_circle.specs.Witness.{numberOn}
@@ -79,7 +79,7 @@ module _ (ps : List ℕ) (x : Sheet) (near : Nearly (get ps) (length ps) x) wher
   room : 34816 ≤ length table
   room = omega (arith, length-replicate {A = ℕ} 34816 0)
 
-  enough : lacks x ps ≡ false
+  enough : lacksParameters x ps ≡ false
   enough = split (uses x) (λ u. rw (u, le-ltb (length ps) 32 (near .given u))) (λ u. rw u)
 
   fits : length (encode x) ≤ 8192 → count x ≤ 64 → SheetFits x

@@ -29,11 +29,11 @@ use Rattle.back_compile.specs.Verdict.{programOf}
 use Rattle.check_circle.specs.Witness.{numberOn}
 use Rattle.link_join.specs.Join.{deliveredIn, resultOn, poolOn, joinOn}
 use Rattle.link_join.proofs.JoinLaws.{taken}
-use Rattle.link_join.specs.Statements.{Read, limits, Answer, first-refused, second-refused, unlike, long, crowded, overlong, short, done}
+use Rattle.link_join.specs.Statements.{AcceptedSheet, limits, JoinAnswer, first-refused, second-refused, unlike, long, crowded, overlong, short, done}
 use Rattle.link_join.proofs.Limits.{pooled-number}
 
 module _ (s t ps buffer : List ℕ) (bs : All (λ b. b < 256) s) (bt : All (λ b. b < 256) t) (bp : All (λ b. b < 256) ps) where
-  module _ (x : Read s ps) (y : Read t ps) where
+  module _ (x : AcceptedSheet s ps) (y : AcceptedSheet t ps) where
     abbrev z : Sheet
     z = pooled (x .sheet) (y .sheet)
 
@@ -44,14 +44,14 @@ module _ (s t ps buffer : List ℕ) (bs : All (λ b. b < 256) s) (bt : All (λ b
     number = pooled-number ps small (x .sheet) (y .sheet) (x .accepted) (y .accepted)
 
     module _ (same : sameRanks (x .sheet .signals) (y .sheet .signals) ≡ true) where
-      delivered : length (encode z) ≤ 8192 → count z ≤ 64 → allInstructions (programOf ps z) ≤ 4096 → Answer s t ps buffer (deliveredIn (encode z) buffer)
+      delivered : length (encode z) ≤ 8192 → count z ≤ 64 → allInstructions (programOf ps z) ≤ 4096 → JoinAnswer s t ps buffer (deliveredIn (encode z) buffer)
       unfolding deliveredIn
       delivered a b c =
           let ok = pooled-accepted (get ps) small (length ps) (x .sheet) (y .sheet) (x .accepted) (y .accepted) a b c in
-          by-test (Answer s t ps buffer) (ltb (length buffer) (length (encode z))) (λ e. short x y same ok (ltb-true (length buffer) (length (encode z)) e))
+          by-test (JoinAnswer s t ps buffer) (ltb (length buffer) (length (encode z))) (λ e. short x y same ok (ltb-true (length buffer) (length (encode z)) e))
           (λ e. done x y same ok (ltb-false (length buffer) (length (encode z)) e))
 
-      judged : Answer s t ps buffer (resultOn (encode z) ps buffer)
+      judged : JoinAnswer s t ps buffer (resultOn (encode z) ps buffer)
       unfolding resultOn
       judged =
           split (ltb 8192 (length (encode z)))
@@ -64,15 +64,15 @@ module _ (s t ps buffer : List ℕ) (bs : All (λ b. b < 256) s) (bt : All (λ b
           (λ c. let n : numberOn (encode z) ps ≡ 13 = number ∙ rw (a, b, c) in rw n (overlong x y same h k (ltb-true 4096 (allInstructions (programOf ps z)) c)))
           (λ c. let n : numberOn (encode z) ps ≡ 0 = number ∙ rw (a, b, c) in rw n (delivered h k (ltb-false 4096 (allInstructions (programOf ps z)) c)))))
 
-    pooled-says : Answer s t ps buffer (poolOn (x .sheet) (y .sheet) ps buffer)
+    pooled-says : JoinAnswer s t ps buffer (poolOn (x .sheet) (y .sheet) ps buffer)
     unfolding poolOn
-    pooled-says = by-test (Answer s t ps buffer) (sameRanks (x .sheet .signals) (y .sheet .signals)) (λ e. judged e) (λ e. unlike x y e)
+    pooled-says = by-test (JoinAnswer s t ps buffer) (sameRanks (x .sheet .signals) (y .sheet .signals)) (λ e. judged e) (λ e. unlike x y e)
 
-  pub join-says : Answer s t ps buffer (joinOn s t ps buffer)
+  pub join-says : JoinAnswer s t ps buffer (joinOn s t ps buffer)
   unfolding joinOn
   join-says =
-      by-test (Answer s t ps buffer) (eqb (numberOn s ps) 0)
-      (λ e. by-test (Answer s t ps buffer) (eqb (numberOn t ps) 0)
+      by-test (JoinAnswer s t ps buffer) (eqb (numberOn s ps) 0)
+      (λ e. by-test (JoinAnswer s t ps buffer) (eqb (numberOn t ps) 0)
       (λ d.
       let x = taken s ps bs (eqb-true (numberOn s ps) 0 e) in
       let y = taken t ps bt (eqb-true (numberOn t ps) 0 d) in
@@ -82,7 +82,7 @@ module _ (s t ps buffer : List ℕ) (bs : All (λ b. b < 256) s) (bt : All (λ b
 
 -- "After the same commits, each half of the joined board equals that sheet's own board, events that it doesn't declare
 -- being passed over."
-module _ {s t ps : List ℕ} (bp : All (λ b. b < 256) ps) (x : Read s ps) (y : Read t ps) where
+module _ {s t ps : List ℕ} (bp : All (λ b. b < 256) ps) (x : AcceptedSheet s ps) (y : AcceptedSheet t ps) where
   means : programOf ps (pooled (x .sheet) (y .sheet)) ≡ together (programOf ps (x .sheet)) (programOf ps (y .sheet))
   means = fill-pooled (get ps) (x .sheet) (y .sheet) (x .accepted .fits) (x .accepted .known)
 

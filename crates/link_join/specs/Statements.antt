@@ -19,7 +19,7 @@ use Rattle.check_circle.specs.Witness.{numberOn}
 use Rattle.link_join.specs.Join.{Joined, joined}
 
 -- a sheet that compile takes
-pub record Read (s ps : List ℕ) : Type 0 where
+pub record AcceptedSheet (s ps : List ℕ) : Type 0 where
   pub sheet : Sheet
   pub bytes : encode sheet ≡ s
   pub accepted : SheetAccepted (get ps) (length ps) sheet
@@ -30,18 +30,18 @@ abbrev pub limits : List ℕ → Sheet → ℕ
 limits ps x = pick (ltb 8192 (length (encode x))) 3 (pick (ltb 64 (count x)) 7 (pick (ltb 4096 (allInstructions (programOf ps x))) 13 0))
 
 -- the answers in the order of the checks
-pub data Answer (s t ps buffer : List ℕ) : Joined → Type 0 where
-  first-refused : numberOn s ps ≢ 0 → Answer s t ps buffer (joined (numberOn s ps) buffer)
-  second-refused : numberOn s ps ≡ 0 → numberOn t ps ≢ 0 → Answer s t ps buffer (joined (numberOn t ps) buffer)
-  unlike : (x : Read s ps) (y : Read t ps) → sameRanks (x .sheet .signals) (y .sheet .signals) ≡ false → Answer s t ps buffer (joined 26 buffer)
-  long : (x : Read s ps) (y : Read t ps) → sameRanks (x .sheet .signals) (y .sheet .signals) ≡ true → 8192 < length (encode (pooled (x .sheet) (y .sheet)))
-      → Answer s t ps buffer (joined 3 buffer)
-  crowded : (x : Read s ps) (y : Read t ps) → sameRanks (x .sheet .signals) (y .sheet .signals) ≡ true → length (encode (pooled (x .sheet) (y .sheet))) ≤ 8192
-      → 64 < count (pooled (x .sheet) (y .sheet)) → Answer s t ps buffer (joined 7 buffer)
-  overlong : (x : Read s ps) (y : Read t ps) → sameRanks (x .sheet .signals) (y .sheet .signals) ≡ true → length (encode (pooled (x .sheet) (y .sheet))) ≤ 8192
-      → count (pooled (x .sheet) (y .sheet)) ≤ 64 → 4096 < allInstructions (programOf ps (pooled (x .sheet) (y .sheet))) → Answer s t ps buffer (joined 13 buffer)
-  short : (x : Read s ps) (y : Read t ps) → sameRanks (x .sheet .signals) (y .sheet .signals) ≡ true → SheetAccepted (get ps) (length ps) (pooled (x .sheet) (y .sheet))
-      → length buffer < length (encode (pooled (x .sheet) (y .sheet))) → Answer s t ps buffer (joined 27 buffer)
-  done : (x : Read s ps) (y : Read t ps) → sameRanks (x .sheet .signals) (y .sheet .signals) ≡ true → SheetAccepted (get ps) (length ps) (pooled (x .sheet) (y .sheet))
+pub data JoinAnswer (s t ps buffer : List ℕ) : Joined → Type 0 where
+  first-refused : numberOn s ps ≢ 0 → JoinAnswer s t ps buffer (joined (numberOn s ps) buffer)
+  second-refused : numberOn s ps ≡ 0 → numberOn t ps ≢ 0 → JoinAnswer s t ps buffer (joined (numberOn t ps) buffer)
+  unlike : (x : AcceptedSheet s ps) (y : AcceptedSheet t ps) → sameRanks (x .sheet .signals) (y .sheet .signals) ≡ false → JoinAnswer s t ps buffer (joined 26 buffer)
+  long : (x : AcceptedSheet s ps) (y : AcceptedSheet t ps) → sameRanks (x .sheet .signals) (y .sheet .signals) ≡ true → 8192 < length (encode (pooled (x .sheet) (y .sheet)))
+      → JoinAnswer s t ps buffer (joined 3 buffer)
+  crowded : (x : AcceptedSheet s ps) (y : AcceptedSheet t ps) → sameRanks (x .sheet .signals) (y .sheet .signals) ≡ true → length (encode (pooled (x .sheet) (y .sheet))) ≤ 8192
+      → 64 < count (pooled (x .sheet) (y .sheet)) → JoinAnswer s t ps buffer (joined 7 buffer)
+  overlong : (x : AcceptedSheet s ps) (y : AcceptedSheet t ps) → sameRanks (x .sheet .signals) (y .sheet .signals) ≡ true → length (encode (pooled (x .sheet) (y .sheet))) ≤ 8192
+      → count (pooled (x .sheet) (y .sheet)) ≤ 64 → 4096 < allInstructions (programOf ps (pooled (x .sheet) (y .sheet))) → JoinAnswer s t ps buffer (joined 13 buffer)
+  short : (x : AcceptedSheet s ps) (y : AcceptedSheet t ps) → sameRanks (x .sheet .signals) (y .sheet .signals) ≡ true → SheetAccepted (get ps) (length ps) (pooled (x .sheet) (y .sheet))
+      → length buffer < length (encode (pooled (x .sheet) (y .sheet))) → JoinAnswer s t ps buffer (joined 27 buffer)
+  done : (x : AcceptedSheet s ps) (y : AcceptedSheet t ps) → sameRanks (x .sheet .signals) (y .sheet .signals) ≡ true → SheetAccepted (get ps) (length ps) (pooled (x .sheet) (y .sheet))
       → length (encode (pooled (x .sheet) (y .sheet))) ≤ length buffer
-      → Answer s t ps buffer (joined (4294967296 + length (encode (pooled (x .sheet) (y .sheet)))) (encode (pooled (x .sheet) (y .sheet)) ++ drop (length (encode (pooled (x .sheet) (y .sheet)))) buffer))
+      → JoinAnswer s t ps buffer (joined (4294967296 + length (encode (pooled (x .sheet) (y .sheet)))) (encode (pooled (x .sheet) (y .sheet)) ++ drop (length (encode (pooled (x .sheet) (y .sheet)))) buffer))

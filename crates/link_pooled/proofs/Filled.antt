@@ -16,14 +16,14 @@ use Rattle.spec_language.specs.Grammar.{SheetFits}
 use Rattle.spec_language.specs.Accepted.{Known}
 use Rattle.spec_language.proofs.RowLaws.{length-out}
 use Rattle.spec_language.proofs.SheetLaws.{length-fill}
-use Rattle.link_pooled.specs.Pooled.{shared, bothSend, poolSignals, moveTerm, moveClauses, moveItem, moveEntries, count, pooled}
+use Rattle.link_pooled.specs.Pooled.{mergedByNumber, bothSend, poolSignals, moveTerm, moveClauses, moveItem, moveEntries, count, pooled}
 use Rattle.link_pooled.specs.Together.{moveExpr, moveHandlers, moveBehaviour, together}
 use Rattle.link_pooled.proofs.Rows.{fill-append, rows-pooled}
 
 -- ---- events
 
-priorities-pooled : (k l : List Signal) → prioritiesOf (poolSignals k l) ≡ shared (λ a b. a) (prioritiesOf k) (prioritiesOf l)
-unfolding shared
+priorities-pooled : (k l : List Signal) → prioritiesOf (poolSignals k l) ≡ mergedByNumber (λ a b. a) (prioritiesOf k) (prioritiesOf l)
+unfolding mergedByNumber
 priorities-pooled [] l = refl
 priorities-pooled (a ∷ k) [] = refl
 priorities-pooled (a ∷ k) (b ∷ l) = rw (priorities-pooled k l)
@@ -34,8 +34,8 @@ allowed-both none (some b) = refl
 allowed-both (some a) none = refl
 allowed-both (some a) (some b) = refl
 
-senders-pooled : (k l : List Signal) → sendersOf (poolSignals k l) ≡ shared bitAnd (sendersOf k) (sendersOf l)
-unfolding shared
+senders-pooled : (k l : List Signal) → sendersOf (poolSignals k l) ≡ mergedByNumber bitAnd (sendersOf k) (sendersOf l)
+unfolding mergedByNumber
 senders-pooled [] l = refl
 senders-pooled (a ∷ k) [] = refl
 senders-pooled (a ∷ k) (b ∷ l) = rw (allowed-both (a .sender) (b .sender), senders-pooled k l)

@@ -19,12 +19,12 @@ use Rattle.spec_language.specs.Dependence.{Response, follows, takes, defers, ke
 use Rattle.spec_language.specs.Grammar.{BehaviourFits}
 use Rattle.spec_language.specs.Accepted.{Valid}
 use Rattle.spec_language.proofs.Laws.{getD-upTo, named-in, ResponseNamesIn, response-names}
-use Rattle.spec_semantics.specs.Meaning.{value, at, firstPhase, event, startOf, starts, fresh, play, Settled}
+use Rattle.spec_semantics.specs.Meaning.{value, at, firstPhase, event, startOf, starts, fresh, play, Consistent}
 use Rattle.spec_semantics.proofs.OrderLaws.{by-needs}
 use Rattle.spec_semantics.proofs.Solution.{firstOf, secondOf, value-same, first-local, first-solves, event-length, event-solves, passives-unique}
 use Rattle.spec_semantics.proofs.Handlers.{undeclared-keeps}
 use Rattle.spec_semantics.proofs.Lengths.{length-starts, length-fresh}
-use Rattle.spec_semantics.proofs.Agreement.{event-settled, fresh-settled}
+use Rattle.spec_semantics.proofs.Agreement.{event-consistent, fresh-consistent}
 use Rattle.spec_semantics.specs.Plays.{Plays}
 use Rattle.spec_semantics.proofs.PlaysLaws.{plays, plays-alone}
 use Rattle.link_pooled.specs.Together.{moveExpr, moveBehaviour, together, declared}
@@ -38,13 +38,13 @@ module _ {p r : Program} {n : ℕ} (part : Part p r n) (vp : Valid p) (vr : Vali
   Holds t s = (i : ℕ) → i < size p → at t (n + i) ≡ at s i
 
   -- the passives of a part follow their expressions
-  part-follows : (t : List ℕ) → Settled r t → (i : ℕ) (x : Expr) → i < size p → behaviourAt p i ≡ passive x → at t (n + i) ≡ value (λ j. at t (n + j)) x
+  part-follows : (t : List ℕ) → Consistent r t → (i : ℕ) (x : Expr) → i < size p → behaviourAt p i ≡ passive x → at t (n + i) ≡ value (λ j. at t (n + j)) x
   part-follows t h i x b q =
       h .1 (n + i) (moveExpr n x) (omega (arith, part .inside)) (part .moved i b ∙ ap (moveBehaviour n) q)
       ∙ value-moved n (at t) x
 
   -- with the same actives, the passives are the same
-  same-passives : (t s : List ℕ) → Settled r t → Settled p s → ((i : ℕ) → i < size p → isActive (behaviourAt p i) ≡ true → at t (n + i) ≡ at s i) → Holds t s
+  same-passives : (t s : List ℕ) → Consistent r t → Consistent p s → ((i : ℕ) → i < size p → isActive (behaviourAt p i) ≡ true → at t (n + i) ≡ at s i) → Holds t s
   same-passives t s h k a = passives-unique p vp (λ i. at t (n + i)) (at s) (part-follows t h) (k .1) a
 
   module _ (e : ℕ) (er : e ≤ noEvent r) (t s : List ℕ) (lt : length t ≡ size r) (ls : length s ≡ size p) (same : Holds t s) where
@@ -76,14 +76,14 @@ module _ {p r : Program} {n : ℕ} (part : Part p r n) (vp : Valid p) (vr : Vali
           ∙ sym (event-solves p vp e ep s ls i b))
 
     -- an event that the part does not declare passes it over
-    module _ (over : events p ≤ e) (settled : Settled p s) where
+    module _ (over : events p ≤ e) (consistent : Consistent p s) where
       kept-active : (i : ℕ) → i < size p → (b : Behaviour) → BehaviourFits (events p) b → isActive b ≡ true → respond e b ≡ keeps
       kept-active i h (passive x) f a = absurd (false≢true a)
       kept-active i h (active c hs) f a = undeclared-keeps (events p) e hs over (f .1)
 
       event-over : Holds (event r e t) s
       event-over =
-          same-passives (event r e t) s (event-settled r vr e er t lt) settled (λ i b a.
+          same-passives (event r e t) s (event-consistent r vr e er t lt) consistent (λ i b a.
           event-solves r vr e er t lt (n + i) (omega (arith, part .inside))
           ∙ ap (secondOf t (at (firstPhase r e t)) (at (event r e t)) (n + i)) (response-moved part e i b)
           ∙ ap (λ (q : Response). secondOf t (at (firstPhase r e t)) (at (event r e t)) (n + i) (moveResponse n q))
@@ -115,7 +115,7 @@ fresh-active p v i b a =
 module _ {p r : Program} {n : ℕ} (part : Part p r n) (vp : Valid p) (vr : Valid r) where
   fresh-half : Holds part vp vr (fresh r) (fresh p)
   fresh-half =
-      same-passives part vp vr (fresh r) (fresh p) (fresh-settled r vr) (fresh-settled p vp) (λ i b a.
+      same-passives part vp vr (fresh r) (fresh p) (fresh-consistent r vr) (fresh-consistent p vp) (λ i b a.
       fresh-active r vr (n + i) (omega (arith, part .inside)) (ap isActive (part .moved i b) ∙ active-moved n (behaviourAt p i) ∙ a)
       ∙ ap startOf (part .moved i b)
       ∙ start-moved n (behaviourAt p i)
@@ -124,23 +124,23 @@ module _ {p r : Program} {n : ℕ} (part : Part p r n) (vp : Valid p) (vr : Vali
   -- what one event of the whole does to the part, and to the events that it declares
   record Onward (e : ℕ) (t s : List ℕ) : Type 0 where
     next : List ℕ
-    settled : Settled p next
+    consistent : Consistent p next
     holds : Holds part vp vr (event r e t) next
     plays : (es : List ℕ) → play p (declared p (e ∷ es)) s ≡ play p (declared p es) next
 
-  onward : (e : ℕ) → e ≤ noEvent r → (t s : List ℕ) → length t ≡ size r → Settled p s → Holds part vp vr t s → Onward e t s
+  onward : (e : ℕ) → e ≤ noEvent r → (t s : List ℕ) → length t ≡ size r → Consistent p s → Holds part vp vr t s → Onward e t s
   unfolding declared play
   onward e er t s lt h same =
       split (ltb e (events p))
       (λ d. let ep : e ≤ noEvent p = omega (arith, ltb-true e (events p) d) in record {
         next = event p e s;
-        settled = event-settled p vp e ep s (h .0);
+        consistent = event-consistent p vp e ep s (h .0);
         holds = event-half part vp vr e er t s lt (h .0) same ep;
         plays = λ es. rw (d, declared);
       })
       (λ d. record {
         next = s;
-        settled = h;
+        consistent = h;
         holds = event-over part vp vr e er t s lt (h .0) same (ltb-false e (events p) d) h;
         plays = λ es. rw (d, declared);
       })
@@ -177,7 +177,7 @@ module _ (p q : Program) (vp : Valid p) (vq : Valid q) (v : Valid (together p q)
   holds-two : (s u : List ℕ) → length s ≡ size p → Holds two vq v (s ++ u) u
   holds-two s u l i b = rw (sym l) (getD-append-add s u i 0)
 
-  pub play-halves : (es : List ℕ) → All (λ e. e < events (together p q)) es → (s u : List ℕ) → Settled p s → Settled q u
+  pub play-halves : (es : List ℕ) → All (λ e. e < events (together p q)) es → (s u : List ℕ) → Consistent p s → Consistent q u
       → play (together p q) es (s ++ u) ≡ play p (declared p es) s ++ play q (declared q es) u
   unfolding play declared
   play-halves [] h s u hs hu = refl
@@ -187,8 +187,8 @@ module _ (p q : Program) (vp : Valid p) (vq : Valid q) (v : Valid (together p q)
       let a = onward one vp v e d (s ++ u) s l hs (holds-one s u (hs .0)) in
       let b = onward two vq v e d (s ++ u) u l hu (holds-two s u (hs .0)) in
       let w : event (together p q) e (s ++ u) ≡ a .next ++ b .next =
-      in-a-row (event (together p q) e (s ++ u)) (a .next) (b .next) (event-length (together p q) v e d (s ++ u) l) (a .settled .0) (b .settled .0) (a .holds) (b .holds) in
-      ap (play (together p q) es) w ∙ play-halves es (h .1) (a .next) (b .next) (a .settled) (b .settled) ∙ sym (rw (a .plays es, b .plays es))
+      in-a-row (event (together p q) e (s ++ u)) (a .next) (b .next) (event-length (together p q) v e d (s ++ u) l) (a .consistent .0) (b .consistent .0) (a .holds) (b .holds) in
+      ap (play (together p q) es) w ∙ play-halves es (h .1) (a .next) (b .next) (a .consistent) (b .consistent) ∙ sym (rw (a .plays es, b .plays es))
 
   -- the joined board is the two boards in a row
   pub halves : (es : List ℕ) → All (λ e. e < events (together p q)) es
@@ -196,7 +196,7 @@ module _ (p q : Program) (vp : Valid p) (vq : Valid q) (v : Valid (together p q)
   halves es h =
       ap (play (together p q) es)
       (in-a-row (fresh (together p q)) (fresh p) (fresh q) (length-fresh (together p q)) (length-fresh p) (length-fresh q) (fresh-half one vp v) (fresh-half two vq v))
-      ∙ play-halves es h (fresh p) (fresh q) (fresh-settled p vp) (fresh-settled q vq)
+      ∙ play-halves es h (fresh p) (fresh q) (fresh-consistent p vp) (fresh-consistent q vq)
 
   -- and by Figure 1's rules: whatever they lead to is what they lead to for each, in a row
   pub rules-halves : (es : List ℕ) → All (λ e. e < events (together p q)) es → (last : List ℕ) → Plays (together p q) es (fresh (together p q)) last

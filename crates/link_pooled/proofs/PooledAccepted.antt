@@ -18,7 +18,7 @@ use Rattle.spec_language.specs.Code.{allInstructions}
 use Rattle.spec_language.specs.Accepted.{NamesIn, HandlerNamesIn, BehaviourNamesIn, Known, SheetAccepted, Valid}
 use Rattle.spec_language.proofs.RowLaws.{count-append}
 use Rattle.spec_language.proofs.SheetLaws.{filling-accepted}
-use Rattle.link_pooled.specs.Pooled.{shared, bothSend, poolSignal, poolSignals, moveTerm, moveClauses, moveItem, moveEntries, count, pooled}
+use Rattle.link_pooled.specs.Pooled.{mergedByNumber, bothSend, poolSignal, poolSignals, moveTerm, moveClauses, moveItem, moveEntries, count, pooled}
 use Rattle.link_pooled.specs.Together.{together}
 use Rattle.link_pooled.proofs.TogetherValid.{shared-first, shared-second, shared-most, together-valid}
 use Rattle.link_pooled.proofs.Filled.{size-fill, fill-pooled, uses-pooled}
@@ -33,7 +33,7 @@ both-fits (some a) none h g = omega (arith, and-le-l a 255)
 both-fits (some a) (some b) h g = omega (arith, and-le-l a b)
 
 signals-fit : (k l : List Signal) → All SignalFits k → All SignalFits l → All SignalFits (poolSignals k l)
-unfolding shared
+unfolding mergedByNumber
 signals-fit [] l h g = g
 signals-fit (a ∷ k) [] h g = h
 signals-fit (a ∷ k) (b ∷ l) h g = ((h .0 .0, both-fits (a .sender) (b .sender) (h .0 .1) (g .0 .1)), signals-fit k l (h .1) (g .1))

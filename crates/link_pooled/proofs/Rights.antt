@@ -15,20 +15,20 @@ use Rattle.spec_language.specs.Syntax.{Program}
 use Rattle.spec_language.specs.Sheet.{Signal, Sheet, prioritiesOf, fill}
 use Rattle.spec_language.specs.Dependence.{events}
 use Rattle.spec_language.specs.Rights.{may, maySend, maySee}
-use Rattle.link_pooled.specs.Pooled.{shared, sameRanks}
+use Rattle.link_pooled.specs.Pooled.{mergedByNumber, sameRanks}
 use Rattle.link_pooled.specs.Together.{together}
 use Rattle.link_pooled.proofs.Bits.{may-both}
 
 module _ {A : Type 0} (f : A → A → A) (d : A) where
-  shared-both : (k l : List A) (e : ℕ) → e < length k → e < length l → getD (shared f k l) e d ≡ f (getD k e d) (getD l e d)
-  unfolding shared
+  shared-both : (k l : List A) (e : ℕ) → e < length k → e < length l → getD (mergedByNumber f k l) e d ≡ f (getD k e d) (getD l e d)
+  unfolding mergedByNumber
   shared-both [] l e h g = absurd (omega arith)
   shared-both (a ∷ k) [] e h g = absurd (omega arith)
   shared-both (a ∷ k) (b ∷ l) zero h g = refl
   shared-both (a ∷ k) (b ∷ l) (suc e) h g = shared-both k l e (omega arith) (omega arith)
 
-  shared-one : (k l : List A) (e : ℕ) → length l ≤ e → getD (shared f k l) e d ≡ getD k e d
-  unfolding shared
+  shared-one : (k l : List A) (e : ℕ) → length l ≤ e → getD (mergedByNumber f k l) e d ≡ getD k e d
+  unfolding mergedByNumber
   shared-one [] l e h = past l e h
     where
       past : (l : List A) (e : ℕ) → length l ≤ e → getD l e d ≡ d
@@ -39,8 +39,8 @@ module _ {A : Type 0} (f : A → A → A) (d : A) where
   shared-one (a ∷ k) (b ∷ l) zero h = absurd (omega arith)
   shared-one (a ∷ k) (b ∷ l) (suc e) h = shared-one k l e (omega arith)
 
-  shared-two : (k l : List A) (e : ℕ) → length k ≤ e → getD (shared f k l) e d ≡ getD l e d
-  unfolding shared
+  shared-two : (k l : List A) (e : ℕ) → length k ≤ e → getD (mergedByNumber f k l) e d ≡ getD l e d
+  unfolding mergedByNumber
   shared-two [] l e h = refl
   shared-two (a ∷ k) [] zero h = absurd (omega arith)
   shared-two (a ∷ k) [] (suc e) h = past k e (omega arith)
@@ -70,15 +70,15 @@ module _ (p q : Program) (player : ℕ) where
   see-second i = ap (λ (m : ℕ). may m player) (getD-append-add (p .viewers) (q .viewers) i 0)
 
 -- the ranks: the first's, and where the sheets agree the second's
-first-rank : (k l : List ℕ) (e : ℕ) → e < length k → getD (shared (λ a b. a) k l) e 0 ≡ getD k e 0
-unfolding shared
+first-rank : (k l : List ℕ) (e : ℕ) → e < length k → getD (mergedByNumber (λ a b. a) k l) e 0 ≡ getD k e 0
+unfolding mergedByNumber
 first-rank [] l e h = absurd (omega arith)
 first-rank (a ∷ k) [] e h = refl
 first-rank (a ∷ k) (b ∷ l) zero h = refl
 first-rank (a ∷ k) (b ∷ l) (suc e) h = first-rank k l e (omega arith)
 
-second-rank : (k l : List Signal) → sameRanks k l ≡ true → (e : ℕ) → e < length (prioritiesOf l) → getD (shared (λ a b. a) (prioritiesOf k) (prioritiesOf l)) e 0 ≡ getD (prioritiesOf l) e 0
-unfolding shared sameRanks
+second-rank : (k l : List Signal) → sameRanks k l ≡ true → (e : ℕ) → e < length (prioritiesOf l) → getD (mergedByNumber (λ a b. a) (prioritiesOf k) (prioritiesOf l)) e 0 ≡ getD (prioritiesOf l) e 0
+unfolding mergedByNumber sameRanks
 second-rank [] l h e g = refl
 second-rank (a ∷ k) [] h e g = absurd (omega arith)
 second-rank (a ∷ k) (b ∷ l) h zero g = eqb-true (a .priority) (b .priority) (through (eqb (a .priority) (b .priority)) (sameRanks k l) h .0)

@@ -16,27 +16,27 @@ use Rattle.spec_language.specs.Grammar.{Nested, n-con, n-name, n-app1, n-app2, 
 use Rattle.spec_language.specs.Accepted.{NamesIn, HandlerNamesIn, BehaviourNamesIn, Known, Valid}
 use Rattle.spec_language.proofs.Laws.{depends-within}
 use Rattle.spec_semantics.proofs.Handlers.{undeclared-keeps}
-use Rattle.link_pooled.specs.Pooled.{shared}
+use Rattle.link_pooled.specs.Pooled.{mergedByNumber}
 use Rattle.link_pooled.specs.Together.{moveExpr, moveHandlers, moveBehaviour, together}
 use Rattle.link_pooled.proofs.Moving.{Part, depends-moved, size-together, first-part, second-part}
 
 -- ---- as many events as the longer list
 
-pub shared-first : {A : Type 0} (f : A → A → A) (k l : List A) → length k ≤ length (shared f k l)
-unfolding shared
+pub shared-first : {A : Type 0} (f : A → A → A) (k l : List A) → length k ≤ length (mergedByNumber f k l)
+unfolding mergedByNumber
 shared-first f [] l = omega arith
 shared-first f (a ∷ k) [] = omega arith
 shared-first f (a ∷ k) (b ∷ l) = omega (arith, shared-first f k l)
 
-pub shared-second : {A : Type 0} (f : A → A → A) (k l : List A) → length l ≤ length (shared f k l)
-unfolding shared
+pub shared-second : {A : Type 0} (f : A → A → A) (k l : List A) → length l ≤ length (mergedByNumber f k l)
+unfolding mergedByNumber
 shared-second f [] l = omega arith
 shared-second f (a ∷ k) [] = omega arith
 shared-second f (a ∷ k) (b ∷ l) = omega (arith, shared-second f k l)
 
 -- and no more
-pub shared-most : {A : Type 0} (f : A → A → A) (k l : List A) (n : ℕ) → length k ≤ n → length l ≤ n → length (shared f k l) ≤ n
-unfolding shared
+pub shared-most : {A : Type 0} (f : A → A → A) (k l : List A) (n : ℕ) → length k ≤ n → length l ≤ n → length (mergedByNumber f k l) ≤ n
+unfolding mergedByNumber
 shared-most f [] l n h g = g
 shared-most f (a ∷ k) [] n h g = h
 shared-most f (a ∷ k) (b ∷ l) zero h g = absurd (omega arith)

@@ -13,10 +13,10 @@ use Rattle.spec_language.specs.Sheet.{Term, Clause, Item, formula, state, row, 
 -- ---- events
 
 -- what two lists share by number: as many as the longer has, f of both where both have one
-unfoldable pub shared : {A : Type 0} → (A → A → A) → List A → List A → List A
-shared f [] l = l
-shared f (a ∷ k) [] = a ∷ k
-shared f (a ∷ k) (b ∷ l) = f a b ∷ shared f k l
+unfoldable pub mergedByNumber : {A : Type 0} → (A → A → A) → List A → List A → List A
+mergedByNumber f [] l = l
+mergedByNumber f (a ∷ k) [] = a ∷ k
+mergedByNumber f (a ∷ k) (b ∷ l) = f a b ∷ mergedByNumber f k l
 
 -- "its field has length 2 if either sheet's has, with the bits set in both, a missing byte counting as 255"
 abbrev pub bothSend : Option ℕ → Option ℕ → Option ℕ
@@ -30,7 +30,7 @@ abbrev pub poolSignal : Signal → Signal → Signal
 poolSignal a b = record { priority = a .priority; sender = bothSend (a .sender) (b .sender) }
 
 abbrev pub poolSignals : List Signal → List Signal → List Signal
-poolSignals = shared poolSignal
+poolSignals = mergedByNumber poolSignal
 
 -- "26 when the sheets give one event different ranks"
 unfoldable pub sameRanks : List Signal → List Signal → Bool

@@ -8,7 +8,7 @@ use lib.Dec.{ltb}
 use lib.Bits.{bitAnd}
 use Rattle.spec_language.specs.Syntax.{Expr, con, name, app1, app2, app3, Handler, handler, Behaviour, passive, active, Program}
 use Rattle.spec_language.specs.Dependence.{size, events}
-use Rattle.link_pooled.specs.Pooled.{shared}
+use Rattle.link_pooled.specs.Pooled.{mergedByNumber}
 
 -- names moved up by n
 module _ (n : ℕ) where
@@ -31,8 +31,8 @@ module _ (n : ℕ) where
 
 abbrev pub together : Program → Program → Program
 together p q = record {
-  priorities = shared (λ a b. a) (p .priorities) (q .priorities);
-  senders = shared bitAnd (p .senders) (q .senders);
+  priorities = mergedByNumber (λ a b. a) (p .priorities) (q .priorities);
+  senders = mergedByNumber bitAnd (p .senders) (q .senders);
   behaviours = p .behaviours ++ map (moveBehaviour (size p)) (q .behaviours);
   viewers = p .viewers ++ q .viewers;
 }

@@ -19,7 +19,7 @@ use Rattle.spec_language.specs.Accepted.{Valid}
 use Rattle.spec_language.specs.Rights.{maySend, maySee}
 use Rattle.spec_execution.specs.Execution.{Values, execute}
 use Rattle.spec_execution.specs.CodeFacts.{CodeFacts, maskedAt, copyingBackAt}
-use Rattle.spec_execution.specs.Safe.{start, after, Matches}
+use Rattle.spec_execution.specs.Safe.{start, filledAfter, Matches}
 use Rattle.spec_execution.proofs.CodeRight.{code-facts}
 use Rattle.spec_execution.proofs.SafeLaws.{code-at}
 use Rattle.spec_model.specs.Model.{Arrival, Running, rest, busy, Engine, engine, queue, Call, arrive, step, board, Answer, Chosen, rank, before, aside, choose, act}
@@ -29,14 +29,14 @@ use Rattle.spec_model.proofs.Reached.{Fine, Reached, back-perm}
 use Rattle.format_layout.specs.Layout.{eventWord, eventOf, playerOf, numberAt, wordAt, eventAt, handFits, slotsFit, runningFits, roundWith, roundIn, roundFits, ours}
 use Rattle.format_image.specs.Image.{operation, constant}
 use Rattle.format_image.proofs.ImageLaws.{Says}
-use Rattle.run_queue.specs.Queue.{ahead, either, better, best, putSlot}
+use Rattle.run_queue.specs.Queue.{ahead, eitherSlot, better, best, putSlot}
 use Rattle.run_instruction.specs.Instruction.{perform}
-use Rattle.run_arrive.specs.Arrivals.{full, arriveWith, arriveKnown, arriveIn, arriveOn}
-use Rattle.run_board.specs.Board.{copyingBack, masked, settling, settlingIn, boardWith, boardKnown, boardIn, boardOn}
+use Rattle.run_arrive.specs.Arrivals.{queueFull, arriveWith, arriveKnown, arriveIn, arriveOn}
+use Rattle.run_board.specs.Board.{isCopyingBack, isMasked, copyBackWith, copyBackUnderWay, boardWith, boardKnown, boardIn, boardOn}
 use Rattle.run_dispatch.specs.Dispatch.{said, startAt, preemptAt}
-use Rattle.run_advance.specs.Advance.{overMark, commitSaid, countOn, executeOn, executeAt}
+use Rattle.run_advance.specs.Advance.{overMark, commitSaid, countInstruction, executeOn, executeAt}
 use Rattle.run_advance.specs.Advance as advancing
-use Rattle.run_step.specs.Machine.{meet, contest, running, resting, stepWith, stepIn, stepOn}
+use Rattle.run_step.specs.Machine.{meet, contestOn, whileRunning, whileResting, stepWith, stepIn, stepOn}
 use Rattle.refine_calls.specs.Refinement.{coded, arrivalOf, slots, callOn}
 use Rattle.refine_calls.proofs.Slots.{slot, slots-same, slots-swap, take-out, reads, kept-all, kept-put, kept-slot, kept-run}
 use Rattle.refine_calls.proofs.Values.{value-at, head-holds}
@@ -45,12 +45,12 @@ use Rattle.refine_calls.proofs.Relation.{Rel, Alike, Agree, slots-all, 
 
 -- ---- masking, as the table's counts give it
 
-copying-is : (len m c : ℕ) → m < len → copyingBack len m c ≡ copyingBackAt len m c
-unfolding copyingBack
+copying-is : (len m c : ℕ) → m < len → isCopyingBack len m c ≡ copyingBackAt len m c
+unfolding isCopyingBack
 copying-is len m c h = let z : len - m - 1 ≡ len - (m + 1) = omega arith in rw (lt-leb len m h, z)
 
-masked-is : (len m c : ℕ) → m < len → masked len m c ≡ maskedAt len m c
-unfolding masked
+masked-is : (len m c : ℕ) → m < len → isMasked len m c ≡ maskedAt len m c
+unfolding isMasked
 masked-is len m c h = rw (copying-is len m c h) (ap (λ (x : Bool). pick (copyingBackAt len m c) true x) (early c))
   where
     early : (c : ℕ) → pick (eqb c 0) false (leb (c - 1) m) ≡ pick (eqb c 0) false (leb c (m + 1))
@@ -150,14 +150,14 @@ module _ (p : Program) (valid : Valid p) (t : List ℕ) (table : Says p t) where
     instr-does : let x = getD (code p (a .event)) c off in Does (size p) l (execute x d) (operation x / 256) (operation x % 256) (constant x)
     instr-does =
         let s = code-at p valid (a .event) (i .from) (i .sized) c within in
-        let f = after (start (size p)) (take c (code p (a .event))) in
+        let f = filledAfter (start (size p)) (take c (code p (a .event))) in
         does (size p) small l d (R .whole) (R .values) f (subst (λ (v : Values). Matches v f) (sym (i .done .1)) (s .0)) (getD (code p (a .event)) c off) (s .1)
 
     abbrev performed : List ℕ
     performed = let x = getD (code p (a .event)) c off in perform l (operation x / 256) (operation x % 256) (constant x) (get l 6)
 
-    advance-opens : advancing.advance t l ≡ countOn performed c (get l 3) (a .number) (length (code p (a .event)))
-    unfolding advancing.advance executeAt executeOn
+    advance-opens : advancing.advanceOn t l ≡ countInstruction performed c (get l 3) (a .number) (length (code p (a .event)))
+    unfolding advancing.advanceOn executeAt executeOn
     advance-opens =
         let e = declared in
         rw (
@@ -177,8 +177,8 @@ module _ (p : Program) (valid : Valid p) (t : List ℕ) (table : Says p t) where
         let f = instr-does .framed in
         rw (f .same 1 (omega arith) (omega arith)) (slots-same l performed (get l 1) (R .few) (λ j x y. f .same j y (omega arith)))
 
-    advance-agrees : Agree (size p) l (advancing.advance t l) (model.advance p k q a c d)
-    unfolding countOn
+    advance-agrees : Agree (size p) l (advancing.advanceOn t l) (model.advance p k q a c d)
+    unfolding countInstruction
     advance-agrees =
         let x = instr-does in
         let f = x .framed in
@@ -224,7 +224,7 @@ module _ (p : Program) (valid : Valid p) (t : List ℕ) (table : Says p t) where
   -- the best of the first n slots leads them all
   best-leads : (l : List ℕ) (n : ℕ) → ((i : ℕ) → i < n → eventAt l i < events p)
       → All (Leads p (slot l (best t l n))) (slots l n) × (best t l n ≤ n - 1)
-  unfolding slots best better either ahead
+  unfolding slots best better eitherSlot ahead
   best-leads l zero h = (tt, omega arith)
   best-leads l (suc n) h =
       let ih = best-leads l n (λ i b. h i (omega arith)) in
@@ -315,14 +315,14 @@ module _ (p : Program) (valid : Valid p) (t : List ℕ) (table : Says p t) where
   -- ---- steps
 
   masked-agrees : (a : Arrival) (c : ℕ) → a .event < events p → c < length (code p (a .event))
-      → masked (length (code p (a .event))) (members p (a .event)) c ≡ model.masked p a c
+      → isMasked (length (code p (a .event))) (members p (a .event)) c ≡ model.masked p a c
   masked-agrees a c e b =
       masked-is (length (code p (a .event))) (members p (a .event)) c (omega (arith, facts .long (a .event) e)) ∙ sym (facts .masks (a .event) c e b)
 
   contest-agrees : (l : List ℕ) (m k : ℕ) (b : Arrival) (w : List Arrival) (a : Arrival) (c : ℕ) (d : Values) → get l 1 ≡ suc m
       → Rel (size p) l k (b ∷ w) (busy a c) d → Reached p (engine k (b ∷ w) (busy a c) d)
-      → Agree (size p) l (contest t l (best t l (suc m))) (model.contest p k (b ∷ w) (choose p b w) a c d)
-  unfolding contest meet
+      → Agree (size p) l (contestOn t l (best t l (suc m))) (model.contest p k (b ∷ w) (choose p b w) a c d)
+  unfolding contestOn meet
   contest-agrees l m k b w a c d n R r =
       let e : a .event < events p = r .fine .0 .1 in
       let u : All (λ (y : Arrival). y .event < events p) (slots l (suc m)) = rw n at (known-slots l k (b ∷ w) (busy a c) d R r) in
@@ -346,7 +346,7 @@ module _ (p : Program) (valid : Valid p) (t : List ℕ) (table : Says p t) where
       (λ _. advance-agrees l k (b ∷ w) a c d R r)))
 
   step-agrees : (l : List ℕ) (w : Engine) → Alike (size p) l w → Reached p w → Agree (size p) l (stepOn t l) (act p step w)
-  unfolding stepOn stepIn stepWith resting running act
+  unfolding stepOn stepIn stepWith whileResting whileRunning act
   step-agrees l (engine k [] rest d) R r =
       rw (ours-is l k [] rest d R r, R .runs, count-is (size p) small l k [] rest d R) (record { answered = refl; alike = R; kept = kept-all l })
   step-agrees l (engine k (b ∷ w) rest d) R r =
@@ -364,8 +364,8 @@ module _ (p : Program) (valid : Valid p) (t : List ℕ) (table : Says p t) where
   -- ---- arrivals
 
   full-is : (l : List ℕ) (k : ℕ) (q : List Arrival) (r : Running) (d : Values) → Rel (size p) l k q r d
-      → full (get l 1) (get l 2) ≡ leb 64 (length (queue q r))
-  unfolding full
+      → queueFull (get l 1) (get l 2) ≡ leb 64 (length (queue q r))
+  unfolding queueFull
   full-is l k q rest d R = rw (R .runs, count-is (size p) small l k q rest d R)
   full-is l k q (busy a c) d R = rw (R .runs .0, count-is (size p) small l k q (busy a c) d R) (sym (leb·suc-suc 63 (length q)))
 
@@ -395,11 +395,11 @@ module _ (p : Program) (valid : Valid p) (t : List ℕ) (table : Says p t) where
 
   -- ---- board readings
 
-  pub settling-is : (l : List ℕ) (k : ℕ) (q : List Arrival) (r : Running) (d : Values) → Rel (size p) l k q r d → Reached p (engine k q r d)
-      → settlingIn t l ≡ model.settling p r
-  unfolding settlingIn settling
-  settling-is l k q rest d R i = rw (R .runs)
-  settling-is l k q (busy a c) d R i =
+  pub copy-back-is : (l : List ℕ) (k : ℕ) (q : List Arrival) (r : Running) (d : Values) → Rel (size p) l k q r d → Reached p (engine k q r d)
+      → copyBackUnderWay t l ≡ model.inCopyBack p r
+  unfolding copyBackUnderWay copyBackWith
+  copy-back-is l k q rest d R i = rw (R .runs)
+  copy-back-is l k q (busy a c) d R i =
       let e : a .event < events p = i .fine .0 .1 in
       rw (R .runs .0, R .runs .1, R .runs .3, table .lengths (a .event) e, table .in-C (a .event) e)
       (copying-is (length (code p (a .event))) (members p (a .event)) c (omega (arith, facts .long (a .event) e))
@@ -409,13 +409,13 @@ module _ (p : Program) (valid : Valid p) (t : List ℕ) (table : Says p t) where
       → boardOn t l i who ≡ coded (model.read p i who r d)
   unfolding boardOn boardIn boardKnown boardWith
   board-answers l i who k q r d R x =
-      rw (ours-is l k q r d R x, settling-is l k q r d R x, table .behaviour-count)
+      rw (ours-is l k q r d R x, copy-back-is l k q r d R x, table .behaviour-count)
       (by-two (λ (v : ℕ) (x : Answer). v ≡ coded x) (leb 8 who) (λ _. refl)
       (λ _. by-two (λ (v : ℕ) (x : Answer). v ≡ coded x) (leb (size p) i) (λ _. refl)
       (λ b. let here : i < size p = leb-false (size p) i b in
       rw (table .viewers i here)
       (by-two (λ (v : ℕ) (x : Answer). v ≡ coded x) (maySee p who i)
-      (λ _. by-two (λ (v : ℕ) (x : Answer). v ≡ coded x) (model.settling p r) (λ _. refl)
+      (λ _. by-two (λ (v : ℕ) (x : Answer). v ≡ coded x) (model.inCopyBack p r) (λ _. refl)
       (λ _. ap (λ (v : ℕ). 4294967296 + v) (value-at (size p) small l d i here (R .values))))
       (λ _. refl)))))
 

@@ -16,7 +16,7 @@ use Rattle.spec_language.specs.Code.{code}
 use Rattle.spec_language.specs.Rights.{maySend, maySee}
 use Rattle.spec_language.specs.Refusals as refusals
 use Rattle.spec_execution.specs.Execution.{Values}
-use Rattle.spec_model.specs.Model.{Arrival, rest, busy, Engine, engine, queue, Call, arrive, step, board, Answer, refused, takenIn, shows, idle, ran, started, preempted, committed, Outcome, rank, masked, settling, choose, advance, act, unmarked}
+use Rattle.spec_model.specs.Model.{Arrival, rest, busy, Engine, engine, queue, Call, arrive, step, board, Answer, refused, takenIn, shows, idle, ran, started, preempted, committed, Outcome, rank, masked, inCopyBack, choose, advance, act, unmarked}
 use Rattle.spec_model.proofs.Choice.{choose-perm}
 use Rattle.spec_model.proofs.Reached.{Fine, Reached}
 use Rattle.run_dispatch.specs.Dispatch.{said}
@@ -235,4 +235,4 @@ module _ (p : Program) (few : events p ≤ 256) where
   answer-to (board j who) (engine t q r d) i =
       by-test ToBoard (leb 8 who) (λ _. omega arith)
       (λ _. by-test ToBoard (leb (size p) j) (λ _. omega arith)
-      (λ _. by-test ToBoard (maySee p who j) (λ _. by-test ToBoard (settling p r) (λ _. omega arith) (λ _. tt)) (λ _. omega arith)))
+      (λ _. by-test ToBoard (maySee p who j) (λ _. by-test ToBoard (inCopyBack p r) (λ _. omega arith) (λ _. tt)) (λ _. omega arith)))

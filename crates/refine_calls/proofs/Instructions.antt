@@ -17,12 +17,12 @@ use Rattle.lib_word.proofs.Laws.{long, long-put, get-other, pile-out, pile-push
 use Rattle.lib_arith.specs.Functions.{result, over}
 use Rattle.lib_arith.specs.Functions as arith32
 use Rattle.spec_language.specs.Code.{Instr, off, on, copy, restore, load, fetch, save, defer, move, push, apply}
-use Rattle.spec_execution.specs.Execution.{Values, at, held, heldAt, top, apply1, apply2, apply3, applied, over1, over2, over3, overOn, execute}
-use Rattle.spec_execution.specs.Safe.{Filled, Ok, full, arity, Matches}
+use Rattle.spec_execution.specs.Execution.{Values, at, held, heldAt, top, applyUnary, applyBinary, applyTernary, applied, over1, over2, over3, overOn, execute}
+use Rattle.spec_execution.specs.Safe.{Filled, Ok, isFilled, arity, Matches}
 use Rattle.spec_execution.proofs.SafeLaws.{full-some}
 use Rattle.format_image.specs.Image.{operation, constant}
 use Rattle.run_stack.specs.Stack.{pushOn, popTo, noted, applyOne, applyTwo, applyThree, applyOn}
-use Rattle.run_allowed.specs.Allowed.{applies, allowed}
+use Rattle.run_allowed.specs.Allowed.{applies, mayRun}
 use Rattle.run_instruction.specs.Instruction.{transfer, perform}
 use Rattle.refine_calls.specs.Refinement.{Kept}
 use Rattle.refine_calls.proofs.Slots.{kept-all, kept-put}
@@ -93,18 +93,18 @@ unfolding pile
 length-pile l a zero = refl
 length-pile l a (suc n) = ap suc (length-pile l a n)
 
-apply1-pile : (f : ℕ) (l : List ℕ) (k : ℕ) → apply1 f (pile l 328 (k + 1)) ≡ result f (get l (328 + k)) 0 0 ∷ pile l 328 k
+apply1-pile : (f : ℕ) (l : List ℕ) (k : ℕ) → applyUnary f (pile l 328 (k + 1)) ≡ result f (get l (328 + k)) 0 0 ∷ pile l 328 k
 unfolding pile
 apply1-pile f l k = rw (add-one k)
 
-apply2-pile : (f : ℕ) (l : List ℕ) (k : ℕ) → apply2 f (pile l 328 (k + 2)) ≡ result f (get l (328 + k)) (get l (328 + (k + 1))) 0 ∷ pile l 328 k
+apply2-pile : (f : ℕ) (l : List ℕ) (k : ℕ) → applyBinary f (pile l 328 (k + 2)) ≡ result f (get l (328 + k)) (get l (328 + (k + 1))) 0 ∷ pile l 328 k
 unfolding pile
 apply2-pile f l k =
     let z : k + 2 ≡ suc (suc k) = omega arith in
     rw (z, add-one k)
 
 apply3-pile : (f : ℕ) (l : List ℕ) (k : ℕ)
-    → apply3 f (pile l 328 (k + 3)) ≡ result f (get l (328 + k)) (get l (328 + (k + 1))) (get l (328 + (k + 2))) ∷ pile l 328 k
+    → applyTernary f (pile l 328 (k + 3)) ≡ result f (get l (328 + k)) (get l (328 + (k + 1))) (get l (328 + (k + 2))) ∷ pile l 328 k
 unfolding pile
 apply3-pile f l k =
     let z : k + 3 ≡ suc (suc (suc k)) = omega arith in
@@ -131,7 +131,7 @@ over3-pile f l k =
 -- ---- what an instruction of operation op, slot s and constant w does: d are the values after it
 
 pub record Does (n : ℕ) (l : List ℕ) (d : Values) (op s w : ℕ) : Type 0 where
-  pub may : allowed op s (get l 6) ≡ true
+  pub may : mayRun op s (get l 6) ≡ true
   pub holds : Holds n (perform l op s w (get l 6)) d
   pub framed : Framed l (perform l op s w (get l 6))
 
@@ -202,7 +202,7 @@ module _ (n : ℕ) (few : n ≤ 64) (l : List ℕ) (d : Values) (g : long l ≡ 
       )
 
   one-does : (f k : ℕ) → get l 6 ≡ k + 1
-      → Holds n (applyOne l (get l 6) f) (leaves (apply1 f (d .stack)) (over1 f (d .stack))) × Framed l (applyOne l (get l 6) f)
+      → Holds n (applyOne l (get l 6) f) (leaves (applyUnary f (d .stack)) (over1 f (d .stack))) × Framed l (applyOne l (get l 6) f)
   unfolding applyOne
   one-does f k e =
       let z : 327 + (k + 1) ≡ 328 + k = omega arith in
@@ -218,7 +218,7 @@ module _ (n : ℕ) (few : n ≤ 64) (l : List ℕ) (d : Values) (g : long l ≡ 
       )
 
   two-does : (f k : ℕ) → get l 6 ≡ k + 2
-      → Holds n (applyTwo l (get l 6) f) (leaves (apply2 f (d .stack)) (over2 f (d .stack))) × Framed l (applyTwo l (get l 6) f)
+      → Holds n (applyTwo l (get l 6) f) (leaves (applyBinary f (d .stack)) (over2 f (d .stack))) × Framed l (applyTwo l (get l 6) f)
   unfolding applyTwo
   two-does f k e =
       let z : 326 + (k + 2) ≡ 328 + k = omega arith in
@@ -228,7 +228,7 @@ module _ (n : ℕ) (few : n ≤ 64) (l : List ℕ) (d : Values) (g : long l ≡ 
       rw (e, z, y, x, stack-is (k + 2) e, apply2-pile f l k, over2-pile f l k) (put-result k _ _ (omega arith))
 
   three-does : (f k : ℕ) → get l 6 ≡ k + 3
-      → Holds n (applyThree l (get l 6) f) (leaves (apply3 f (d .stack)) (over3 f (d .stack))) × Framed l (applyThree l (get l 6) f)
+      → Holds n (applyThree l (get l 6) f) (leaves (applyTernary f (d .stack)) (over3 f (d .stack))) × Framed l (applyThree l (get l 6) f)
   unfolding applyThree
   three-does f k e =
       let z : 325 + (k + 3) ≡ 328 + k = omega arith in
@@ -249,10 +249,10 @@ module _ (n : ℕ) (few : n ≤ 64) (l : List ℕ) (d : Values) (g : long l ≡ 
       (λ u. let c : 2 ≤ get l 6 = rw (t, u) at b in rw (t, u) (two-does f (get l 6 - 2) (omega arith))))
 
   -- a filled place, in the bytes
-  held-scratch : (i : ℕ) → full (getD (d .scratch) i none) ≡ true → get l (200 + i) ≡ heldAt (d .scratch) i
+  held-scratch : (i : ℕ) → isFilled (getD (d .scratch) i none) ≡ true → get l (200 + i) ≡ heldAt (d .scratch) i
   held-scratch i e = let x = full-some (getD (d .scratch) i none) e in h .scratch i (x .0) (x .1) ∙ sym (ap held (x .1))
 
-  held-deferred : (i : ℕ) → full (getD (d .deferred) i none) ≡ true → get l (264 + i) ≡ heldAt (d .deferred) i
+  held-deferred : (i : ℕ) → isFilled (getD (d .deferred) i none) ≡ true → get l (264 + i) ≡ heldAt (d .deferred) i
   held-deferred i e = let x = full-some (getD (d .deferred) i none) e in h .deferred i (x .0) (x .1) ∙ sym (ap held (x .1))
 
   module _ (a : Filled) (M : Matches d a) where
@@ -266,7 +266,7 @@ module _ (n : ℕ) (few : n ≤ 64) (l : List ℕ) (d : Values) (g : long l ≡ 
     depth-is = sym (length-pile l 328 (get l 6)) ∙ ap (λ (x : List ℕ). length x) (h .stack) ∙ M .stacked
 
     copy-does : (i : ℕ) → Ok a (copy i) → Does n l (execute (copy i) d) 3 i 0
-    unfolding allowed perform transfer execute
+    unfolding mayRun perform transfer execute
     copy-does i k =
         let b : i < n = below i k in
         record {
@@ -276,7 +276,7 @@ module _ (n : ℕ) (few : n ≤ 64) (l : List ℕ) (d : Values) (g : long l ≡ 
         }
 
     restore-does : (i : ℕ) → Ok a (restore i) → Does n l (execute (restore i) d) 4 i 0
-    unfolding allowed perform transfer execute
+    unfolding mayRun perform transfer execute
     restore-does i k =
         let b : i < n = below i (k .0) in
         record {
@@ -286,7 +286,7 @@ module _ (n : ℕ) (few : n ≤ 64) (l : List ℕ) (d : Values) (g : long l ≡ 
         }
 
     move-does : (i : ℕ) → Ok a (move i) → Does n l (execute (move i) d) 11 i 0
-    unfolding allowed perform transfer execute
+    unfolding mayRun perform transfer execute
     move-does i k =
         let b : i < n = below i (k .0) in
         record {
@@ -296,7 +296,7 @@ module _ (n : ℕ) (few : n ≤ 64) (l : List ℕ) (d : Values) (g : long l ≡ 
         }
 
     load-does : (i : ℕ) → Ok a (load i) → Does n l (execute (load i) d) 6 i 0
-    unfolding allowed perform execute
+    unfolding mayRun perform execute
     load-does i k =
         let b : i < n = below i (k .0) in
         let c : get l 6 < 64 = rw depth-is (k .1) in
@@ -308,7 +308,7 @@ module _ (n : ℕ) (few : n ≤ 64) (l : List ℕ) (d : Values) (g : long l ≡ 
         }
 
     fetch-does : (i : ℕ) → Ok a (fetch i) → Does n l (execute (fetch i) d) 7 i 0
-    unfolding allowed perform execute
+    unfolding mayRun perform execute
     fetch-does i k =
         let b : i < n = below i (k .0) in
         let c : get l 6 < 64 = rw depth-is (k .2) in
@@ -321,14 +321,14 @@ module _ (n : ℕ) (few : n ≤ 64) (l : List ℕ) (d : Values) (g : long l ≡ 
         }
 
     push-constant : (w : ℕ) → Ok a (push w) → Does n l (execute (push w) d) 5 0 w
-    unfolding allowed perform execute
+    unfolding mayRun perform execute
     push-constant w k =
         let c : get l 6 < 64 = rw depth-is (k .1) in
         let x = push-does w c in
         record { may = lt-ltb (get l 6) 64 c; holds = x .0; framed = x .1 }
 
     save-top : (i : ℕ) → Ok a (save i) → Does n l (execute (save i) d) 9 i 0
-    unfolding allowed perform execute
+    unfolding mayRun perform execute
     save-top i k =
         let b : i < n = below i (k .0) in
         let c : 1 ≤ get l 6 = rw depth-is (k .1) in
@@ -336,7 +336,7 @@ module _ (n : ℕ) (few : n ≤ 64) (l : List ℕ) (d : Values) (g : long l ≡ 
         record { may = rw (le-ltb 63 i (omega arith)) (lt-ltb 0 (get l 6) c); holds = x .0; framed = x .1 }
 
     defer-top : (i : ℕ) → Ok a (defer i) → Does n l (execute (defer i) d) 10 i 0
-    unfolding allowed perform execute
+    unfolding mayRun perform execute
     defer-top i k =
         let b : i < n = below-places i (k .0) in
         let c : 1 ≤ get l 6 = rw depth-is (k .1) in
@@ -344,7 +344,7 @@ module _ (n : ℕ) (few : n ≤ 64) (l : List ℕ) (d : Values) (g : long l ≡ 
         record { may = rw (le-ltb 63 i (omega arith)) (lt-ltb 0 (get l 6) c); holds = x .0; framed = x .1 }
 
     apply-top : (f : ℕ) → Ok a (apply f) → Does n l (execute (apply f) d) 8 f 0
-    unfolding allowed applies arith32.arity perform execute
+    unfolding mayRun applies arith32.arity perform execute
     apply-top f k =
         let c : arity f ≤ get l 6 = rw depth-is (k .2) in
         let z : f ≢ 0 = omega (arith, k .0) in
@@ -356,11 +356,11 @@ module _ (n : ℕ) (few : n ≤ 64) (l : List ℕ) (d : Values) (g : long l ≡ 
         }
 
     off-does : Does n l (execute off d) 1 0 0
-    unfolding allowed perform execute
+    unfolding mayRun perform execute
     off-does = record { may = refl; holds = h; framed = framed-all l }
 
     on-does : Does n l (execute on d) 2 0 0
-    unfolding allowed perform execute
+    unfolding mayRun perform execute
     on-does = record { may = refl; holds = h; framed = framed-all l }
 
     -- the two numbers in an instruction's first word

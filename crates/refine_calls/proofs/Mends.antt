@@ -27,63 +27,63 @@ use Rattle.spec_model.proofs.Carries.{length-carried}
 use Rattle.spec_model.proofs.Reached.{Reached}
 use Rattle.format_image.specs.Image.{passivesCode}
 use Rattle.format_image.proofs.ImageLaws.{Says}
-use Rattle.run_start.specs.Start.{Result}
-use Rattle.run_carry.specs.Carry.{carryOn, shownFor, shown}
-use Rattle.run_board.specs.Board.{settlingOn}
+use Rattle.run_start.specs.Start.{CallResult}
+use Rattle.run_carry.specs.Carry.{carryOn, shownFor, storeShown}
+use Rattle.run_board.specs.Board.{copyBackOn}
 use Rattle.run_mend.specs.Mending.{verdict, mended, mendWith, mendAfter, mendIn, mendOn}
 use Rattle.refine_calls.specs.Refinement.{slots, Kept, codedReply, inForceAfter}
 use Rattle.refine_calls.proofs.Slots.{slots-same, kept-all, kept-put}
 use Rattle.refine_calls.proofs.Values.{found-none, Holds}
 use Rattle.refine_calls.proofs.Relation.{Rel, Alike, words-length}
-use Rattle.refine_calls.proofs.Agrees.{ours-is, settling-is}
+use Rattle.refine_calls.proofs.Agrees.{ours-is, copy-back-is}
 use Rattle.refine_calls.proofs.Carrying.{carry-leads, shown-right}
 use Rattle.refine_calls.proofs.Hand.{hand-known, backOf, Back, back}
 
 -- ---- the values shown
 
 module _ (u m x : List ℕ) (whole : long x ≡ true) where
-  pub shown-long : (n : ℕ) → long (shown u m x n) ≡ true
-  unfolding shown
+  pub shown-long : (n : ℕ) → long (storeShown u m x n) ≡ true
+  unfolding storeShown
   shown-long zero = whole
-  shown-long (suc n) = long-put (shown u m x n) (136 + n) (shownFor u m n) ∙ shown-long n
+  shown-long (suc n) = long-put (storeShown u m x n) (136 + n) (shownFor u m n) ∙ shown-long n
 
-  shown-other : (n k : ℕ) → k < 136 → get (shown u m x n) k ≡ get x k
-  unfolding shown
+  shown-other : (n k : ℕ) → k < 136 → get (storeShown u m x n) k ≡ get x k
+  unfolding storeShown
   shown-other zero k h = refl
-  shown-other (suc n) k h = get-other (shown u m x n) (136 + n) (shownFor u m n) k (omega arith) ∙ shown-other n k h
+  shown-other (suc n) k h = get-other (storeShown u m x n) (136 + n) (shownFor u m n) k (omega arith) ∙ shown-other n k h
 
-  shown-store : (n i : ℕ) → i < n → n ≤ 64 → get (shown u m x n) (136 + i) ≡ shownFor u m i
-  unfolding shown long
+  shown-store : (n i : ℕ) → i < n → n ≤ 64 → get (storeShown u m x n) (136 + i) ≡ shownFor u m i
+  unfolding storeShown long
   shown-store zero i h b = absurd (omega arith)
   shown-store (suc n) i h b =
       by-cases (ℕ-discrete i n)
-      (λ e. rw e (get-same (shown u m x n) (136 + n) (shownFor u m n) (omega (arith, leb-true 2048 (length (shown u m x n)) (shown-long n)))))
-      (λ e. get-other (shown u m x n) (136 + n) (shownFor u m n) (136 + i) (omega arith) ∙ shown-store n i (omega arith) (omega arith))
+      (λ e. rw e (get-same (storeShown u m x n) (136 + n) (shownFor u m n) (omega (arith, leb-true 2048 (length (storeShown u m x n)) (shown-long n)))))
+      (λ e. get-other (storeShown u m x n) (136 + n) (shownFor u m n) (136 + i) (omega arith) ∙ shown-store n i (omega arith) (omega arith))
 
-  shown-kept : {l : List ℕ} (n : ℕ) → n ≤ 64 → Kept l x → Kept l (shown u m x n)
-  unfolding shown
+  shown-kept : {l : List ℕ} (n : ℕ) → n ≤ 64 → Kept l x → Kept l (storeShown u m x n)
+  unfolding storeShown
   shown-kept zero b h = h
-  shown-kept (suc n) b h = kept-put (shown u m x n) (136 + n) (shownFor u m n) (omega arith) (shown-kept n (omega arith) h)
+  shown-kept (suc n) b h = kept-put (storeShown u m x n) (136 + n) (shownFor u m n) (omega arith) (shown-kept n (omega arith) h)
 
 -- a change on the bytes and one of the model
 abbrev pub AlikeIn : List ℕ → State → Type 0
 AlikeIn l (state p w) = Alike (size p) l w
 
-pub record AgreeChange (l : List ℕ) (x : Result) (o : TurnOutcome) : Type 0 where
+pub record AgreeChange (l : List ℕ) (x : CallResult) (o : TurnOutcome) : Type 0 where
   pub answered : x .0 ≡ codedReply (o .reply)
   pub alike : AlikeIn (x .1) (o .after)
   pub kept : Kept l (x .1)
 
 module _ (p q : Program) (vp : Valid p) (vq : Valid q) (t u : List ℕ) (old : Says p t) (new : Says q u) (short : length (passivesCode q) ≤ 4096)
     (l : List ℕ) (k : ℕ) (waiting : List Arrival) (r : Running) (d : Values) (R : Rel (size p) l k waiting r d) (reach : Reached p (engine k waiting r d)) where
-  abbrev worked : Result
+  abbrev worked : CallResult
   worked = carryOn t u l (replicate 2048 0)
 
   gone-back : Back l (backOf l) k (queue waiting r)
   gone-back = back l k waiting r (R .whole) (R .number) (R .queue) (R .runs) (reach .few)
 
   abbrev after : List ℕ
-  after = shown u (worked .1) (backOf l) 64
+  after = storeShown u (worked .1) (backOf l) 64
 
   stays : (j : ℕ) → j < 136 → get after j ≡ get (backOf l) j
   stays j h = shown-other u (worked .1) (backOf l) (gone-back .whole) 64 j h
@@ -128,7 +128,7 @@ module _ (p q : Program) (vp : Valid p) (vq : Valid q) (t u : List ℕ) (old : S
   -- ---- the tests
 
   -- a change with these outcomes of its two tests, on the bytes and in the model
-  abbrev onBytes : Bool → Bool → Result
+  abbrev onBytes : Bool → Bool → CallResult
   onBytes settling known = mendWith u (worked .1) l (pick settling refusals.settling (pick known 0 refusals.undeclaredInHand))
 
   abbrev inModel : Bool → Bool → TurnOutcome
@@ -142,23 +142,23 @@ module _ (p q : Program) (vp : Valid p) (vq : Valid q) (t u : List ℕ) (old : S
   by-tests false true = record { answered = refl; alike = rel-after; kept = shown-kept u (worked .1) (backOf l) (gone-back .whole) 64 (omega arith) (gone-back .kept) }
   by-tests false false = record { answered = refl; alike = R; kept = kept-all l }
 
-  opens : mendOn t u l ≡ onBytes (model.settling p r) (declaredIn q (queue waiting r))
-  unfolding mendOn mendIn mendAfter verdict settlingOn
+  opens : mendOn t u l ≡ onBytes (model.inCopyBack p r) (declaredIn q (queue waiting r))
+  unfolding mendOn mendIn mendAfter verdict copyBackOn
   opens =
       rw (
         ours-is p vp t old l k waiting r d R reach,
         new .fits,
         carry-leads p q vp vq t u old new l (d .store) (R .values .store) short .0,
-        settling-is p vp t old l k waiting r d R reach,
+        copy-back-is p vp t old l k waiting r d R reach,
         hand-known q u l waiting r (new .event-count) (R .queue) (R .runs),
       )
 
-  model-opens : turn (change q) (state p (engine k waiting r d)) ≡ inModel (model.settling p r) (declaredIn q (queue waiting r))
+  model-opens : turn (change q) (state p (engine k waiting r d)) ≡ inModel (model.inCopyBack p r) (declaredIn q (queue waiting r))
   unfolding turn
   model-opens = refl
 
   pub mend-agrees : AgreeChange l (mendOn t u l) (turn (change q) (state p (engine k waiting r d)))
-  mend-agrees = rw (opens, model-opens) (by-tests (model.settling p r) (declaredIn q (queue waiting r)))
+  mend-agrees = rw (opens, model-opens) (by-tests (model.inCopyBack p r) (declaredIn q (queue waiting r)))
 
   -- ---- the table in force after it
 
@@ -169,4 +169,4 @@ module _ (p q : Program) (vp : Valid p) (vq : Valid q) (t u : List ℕ) (old : S
   by-force false false = old
 
   pub force-agrees : Says (inForce (turn (change q) (state p (engine k waiting r d)) .after)) (inForceAfter (mendOn t u l .0) u t)
-  force-agrees = rw (opens, model-opens) (by-force (model.settling p r) (declaredIn q (queue waiting r)))
+  force-agrees = rw (opens, model-opens) (by-force (model.inCopyBack p r) (declaredIn q (queue waiting r)))

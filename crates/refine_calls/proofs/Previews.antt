@@ -28,12 +28,12 @@ use Rattle.spec_model.proofs.Reached.{Reached, act-keeps}
 use Rattle.spec_model.proofs.Previews.{onlySteps, idle-stays, idle-steps, idle-within}
 use Rattle.format_layout.specs.Layout.{eventOf, playerOf}
 use Rattle.format_image.proofs.ImageLaws.{Says}
-use Rattle.run_start.specs.Start.{Result}
+use Rattle.run_start.specs.Start.{CallResult}
 use Rattle.run_arrive.specs.Arrivals.{arriveOn}
 use Rattle.run_dispatch.specs.Dispatch.{said}
 use Rattle.run_advance.specs.Advance.{overMark}
 use Rattle.run_step.specs.Machine.{stepOn}
-use Rattle.run_preview.specs.Preview.{last, toIdle, inHand, countOn, shown, shownIn, previewSeen, previewTaken, previewAfter, previewCopy, previewOn}
+use Rattle.run_preview.specs.Preview.{lastStep, toIdle, inHand, previewSteps, previewAnswer, shownIn, previewSeen, previewTaken, previewAfter, previewCopy, previewOn}
 use Rattle.refine_calls.specs.Refinement.{coded, callOn}
 use Rattle.refine_calls.proofs.Slots.{slots-same}
 use Rattle.refine_calls.proofs.Values.{Found, filled-below, Holds, value-at}
@@ -108,21 +108,21 @@ copy-alike n l w small R =
 
 -- ---- the last step
 
-goes : (k n e who : ℕ) → 1 < k → k < 14 → last (said k n e who) ≡ false
-unfolding last said
+goes : (k n e who : ℕ) → 1 < k → k < 14 → lastStep (said k n e who) ≡ false
+unfolding lastStep said
 goes k n e who h b =
     let v : ℕ = n * 65536 + e * 256 + who * 16 + k in
     rw (ne-eqb v 0 (omega arith)) (ne-eqb v 14 (omega arith))
 
-marked-goes : (n e who : ℕ) (m : Bool) → last (pick m (overMark + said 3 n e who) (said 3 n e who)) ≡ false
-unfolding last said
+marked-goes : (n e who : ℕ) (m : Bool) → lastStep (pick m (overMark + said 3 n e who) (said 3 n e who)) ≡ false
+unfolding lastStep said
 marked-goes n e who true =
     let v : ℕ = n * 65536 + e * 256 + who * 16 + 3 in
     rw (ne-eqb (72057594037927936 + v) 0 (omega arith)) (ne-eqb (72057594037927936 + v) 14 (omega arith))
 marked-goes n e who false = goes 3 n e who (omega arith) (omega arith)
 
-idle-or-goes : (a : Answer) → ToStep a → (a ≡ idle) ⊎ (last (coded a) ≡ false)
-unfolding last
+idle-or-goes : (a : Answer) → ToStep a → (a ≡ idle) ⊎ (lastStep (coded a) ≡ false)
+unfolding lastStep
 idle-or-goes (refused n) h = absurd h
 idle-or-goes takenIn h = absurd h
 idle-or-goes (shows v) h = absurd h
@@ -147,24 +147,24 @@ module _ (p : Program) (valid : Valid p) (t : List ℕ) (table : Says p t) where
   -- ---- to idle
 
   -- the last step answered idle, and the round stands for the engine v
-  abbrev IdleAs : Result → Engine → Type 0
+  abbrev IdleAs : CallResult → Engine → Type 0
   IdleAs x v = (x .0 ≡ 0) × Alike (size p) (x .1) v
 
-  ends : (n : ℕ) (l : List ℕ) → last (stepOn t l .0) ≡ true → toIdle t (suc n) l ≡ stepOn t l
+  ends : (n : ℕ) (l : List ℕ) → lastStep (stepOn t l .0) ≡ true → toIdle t (suc n) l ≡ stepOn t l
   unfolding toIdle
   ends n l h = rw h
 
-  goes-on : (n : ℕ) (l : List ℕ) → last (stepOn t l .0) ≡ false → toIdle t (suc n) l ≡ toIdle t n (stepOn t l .1)
+  goes-on : (n : ℕ) (l : List ℕ) → lastStep (stepOn t l .0) ≡ false → toIdle t (suc n) l ≡ toIdle t n (stepOn t l .1)
   unfolding toIdle
   goes-on n l h = rw h
 
   idle-now : (n : ℕ) (l : List ℕ) (w : Engine) → Alike (size p) l w → Reached p w → Idle p w → IdleAs (toIdle t (suc n) l) w
-  unfolding last
+  unfolding lastStep
   idle-now n l w R r h =
       let a = step-agrees l w R r in
       let z : stepOn t l .0 ≡ 0 = a .answered ∙ ap coded h in
-      let q : toIdle t (suc n) l ≡ stepOn t l = ends n l (ap last z) in
-      subst (λ (x : Result). IdleAs x w) (sym q) (z, subst (Alike (size p) (stepOn t l .1)) (idle-stays p w h) (a .alike))
+      let q : toIdle t (suc n) l ≡ stepOn t l = ends n l (ap lastStep z) in
+      subst (λ (x : CallResult). IdleAs x w) (sym q) (z, subst (Alike (size p) (stepOn t l .1)) (idle-stays p w h) (a .alike))
 
   to-idle : (n : ℕ) (l : List ℕ) (w : Engine) → Alike (size p) l w → Reached p w → Idle p (run p (onlySteps n) w)
       → IdleAs (toIdle t (suc n) l) (run p (onlySteps n) w)
@@ -175,13 +175,13 @@ module _ (p : Program) (valid : Valid p) (t : List ℕ) (table : Says p t) where
       ⊎-elim
       (λ i. subst (IdleAs (toIdle t (suc (suc n)) l)) (sym (idle-steps p (suc n) w i)) (idle-now (suc n) l w R r i))
       (λ g.
-      let q : toIdle t (suc (suc n)) l ≡ toIdle t (suc n) (stepOn t l .1) = goes-on (suc n) l (ap last (a .answered) ∙ g) in
+      let q : toIdle t (suc (suc n)) l ≡ toIdle t (suc n) (stepOn t l .1) = goes-on (suc n) l (ap lastStep (a .answered) ∙ g) in
       let k = to-idle n (stepOn t l .1) (act p step w .after) (a .alike) (act-keeps p (code-facts p valid) step w r) h in
-      subst (λ (x : Result). IdleAs x (run p (onlySteps n) (act p step w .after))) (sym q) k)
+      subst (λ (x : CallResult). IdleAs x (run p (onlySteps n) (act p step w .after))) (sym q) k)
       (idle-or-goes (act p step w .answer) (answer-to p few step w r))
 
-  count-agrees : (l : List ℕ) (w : Engine) → Alike (size p) l w → countOn t l ≡ countIn p w
-  unfolding countOn inHand longest
+  count-agrees : (l : List ℕ) (w : Engine) → Alike (size p) l w → previewSteps t l ≡ countIn p w
+  unfolding previewSteps inHand longest
   count-agrees l (engine k q rest d) R =
       rw (R .runs, count-is (size p) (table .few-behaviours) l k q rest d R, table .event-count, longest-is p valid t table (events p) (omega arith))
   count-agrees l (engine k q (busy a c) d) R =
@@ -199,8 +199,8 @@ module _ (p : Program) (valid : Valid p) (t : List ℕ) (table : Says p t) where
   value-in : (l : List ℕ) (w : Engine) (i : ℕ) → i < size p → Alike (size p) l w → get l (136 + i) ≡ at (storeOf w) i
   value-in l (engine k q r d) i b R = value-at (size p) (table .few-behaviours) l d i b (R .values)
 
-  shown-agrees : (x : Result) (v : Engine) (i : ℕ) → i < size p → IdleAs x v → shownIn x i ≡ 4294967296 + at (storeOf v) i
-  unfolding shownIn shown
+  shown-agrees : (x : CallResult) (v : Engine) (i : ℕ) → i < size p → IdleAs x v → shownIn x i ≡ 4294967296 + at (storeOf v) i
+  unfolding shownIn previewAnswer
   shown-agrees x v i b h = rw (h .0, value-in (x .1) v i b (h .1))
 
   taken-agrees : (l : List ℕ) (w : Engine) (i who : ℕ) → Alike (size p) l w → Reached p w
@@ -208,7 +208,7 @@ module _ (p : Program) (valid : Valid p) (t : List ℕ) (table : Says p t) where
       ≡ coded (pick (leb (size p) i) (refused refusals.noBehaviour) (pick (maySee p who i) (shownAfter p w i) (refused refusals.noRight)))
   unfolding previewTaken previewSeen
   taken-agrees l w i who R r =
-      let n : countOn t l + 1 ≡ suc (countIn p w) = ap (λ (k : ℕ). k + 1) (count-agrees l w R) ∙ omega arith in
+      let n : previewSteps t l + 1 ≡ suc (countIn p w) = ap (λ (k : ℕ). k + 1) (count-agrees l w R) ∙ omega arith in
       rw (table .behaviour-count, n)
       (by-two (λ (x : ℕ) (y : Answer). x ≡ coded y) (leb (size p) i) (λ _. refl)
       (λ b. let here : i < size p = leb-false (size p) i b in
@@ -221,7 +221,7 @@ module _ (p : Program) (valid : Valid p) (t : List ℕ) (table : Says p t) where
 
   -- ---- turned down as the arrival would be
 
-  after-agrees : (x : Result) (a y : Answer) (i who : ℕ) → ToArrive a → x .0 ≡ coded a → previewTaken t (x .1) i who ≡ coded y
+  after-agrees : (x : CallResult) (a y : Answer) (i who : ℕ) → ToArrive a → x .0 ≡ coded a → previewTaken t (x .1) i who ≡ coded y
       → previewAfter t x i who ≡ coded (unlessRefused a y)
   unfolding previewAfter
   after-agrees x (refused n) y i who h e g = rw (e, ne-eqb n 0 (omega arith))

@@ -16,9 +16,9 @@ use Rattle.spec_model.specs.Model.{Arrival, arrival, Running, rest, busy, Engin
 use Rattle.spec_model.proofs.Choice.{perm-length}
 use Rattle.format_layout.specs.Layout.{handWord, eventOf, playerOf}
 use Rattle.run_queue.specs.Queue.{putSlot}
-use Rattle.run_start.specs.Start.{Result}
+use Rattle.run_start.specs.Start.{CallResult}
 use Rattle.run_arrive.specs.Arrivals.{admit}
-use Rattle.run_dispatch.specs.Dispatch.{run}
+use Rattle.run_dispatch.specs.Dispatch.{runArrival}
 use Rattle.refine_calls.specs.Refinement.{coded, arrivalOf, slots, Kept}
 use Rattle.refine_calls.proofs.Slots.{slot, slots-length, slots-push, reads, kept-all, kept-put, kept-slot}
 use Rattle.refine_calls.proofs.Values.{Holds, head-holds, start-holds}
@@ -40,7 +40,7 @@ abbrev pub Alike : ℕ → List ℕ → Engine → Type 0
 Alike n l (engine k waiting r d) = Rel n l k waiting r d
 
 -- a call on the bytes l and one of the model
-pub record Agree (n : ℕ) (l : List ℕ) (x : Result) (o : Outcome) : Type 0 where
+pub record Agree (n : ℕ) (l : List ℕ) (x : CallResult) (o : Outcome) : Type 0 where
   pub answered : x .0 ≡ coded (o .answer)
   pub alike : Alike n (x .1) (o .after)
   pub kept : Kept l (x .1)
@@ -69,7 +69,7 @@ module _ (n : ℕ) (small : n ≤ 64) where
 
   -- something starts
   pub run-rel : (l : List ℕ) (k : ℕ) (q : List Arrival) (d : Values) (m w : ℕ) (x : Arrival) → long l ≡ true → get l 1 ≤ 64 → get l 0 ≡ k
-      → List·Permᴰ (slots l (get l 1)) q → Holds n l d → arrivalOf m w ≡ x → Rel n (run l m w) k q (busy x 0) (emptied (d .store))
+      → List·Permᴰ (slots l (get l 1)) q → Holds n l d → arrivalOf m w ≡ x → Rel n (runArrival l m w) k q (busy x 0) (emptied (d .store))
   run-rel l k q d m w x h f c p v e = record {
     whole = simp reads h;
     few = simp (reads, h) f;

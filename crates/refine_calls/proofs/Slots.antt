@@ -18,7 +18,7 @@ use Rattle.lib_word.proofs.Laws.{long, length-put, long-put, get-put, get-other
 use Rattle.spec_model.specs.Model.{Arrival}
 use Rattle.format_layout.specs.Layout.{numberAt, wordAt}
 use Rattle.run_queue.specs.Queue.{putSlot}
-use Rattle.run_dispatch.specs.Dispatch.{run}
+use Rattle.run_dispatch.specs.Dispatch.{runArrival}
 use Rattle.refine_calls.specs.Refinement.{arrivalOf, slots, Kept}
 
 abbrev pub slot : List ℕ → ℕ → Arrival
@@ -111,18 +111,18 @@ slots-push l n m e g h = rw add-one (λ k. slot-same l n m e g h k ∷ slots-abo
 
 -- ---- something starts to run
 
-pub run-long : (l : List ℕ) (n e : ℕ) → long (run l n e) ≡ long l
-unfolding run
+pub run-long : (l : List ℕ) (n e : ℕ) → long (runArrival l n e) ≡ long l
+unfolding runArrival
 run-long l n e = simp long-put
 
-pub run-slots : (l : List ℕ) (n e m : ℕ) → slots (run l n e) m ≡ slots l m
-unfolding run
+pub run-slots : (l : List ℕ) (n e m : ℕ) → slots (runArrival l n e) m ≡ slots l m
+unfolding runArrival
 run-slots l n e m = simp slots-off
 
 -- the head, word by word
 pub run-head : (l : List ℕ) (n e j : ℕ) → long l ≡ true
-    → get (run l n e) j ≡ pick (eqb j 7) 0 (pick (eqb j 6) 0 (pick (eqb j 5) 0 (pick (eqb j 4) n (pick (eqb j 3) e (pick (eqb j 2) 1 (get l j))))))
-unfolding run
+    → get (runArrival l n e) j ≡ pick (eqb j 7) 0 (pick (eqb j 6) 0 (pick (eqb j 5) 0 (pick (eqb j 4) n (pick (eqb j 3) e (pick (eqb j 2) 1 (get l j))))))
+unfolding runArrival
 run-head l n e j h = simp (get-put, long-put, h)
 
 pub ruleset reads = (get-put, long-put, slots-off, slot-long, slot-head, run-long, run-slots, run-head)
@@ -151,8 +151,8 @@ pub kept-slot : {l : List ℕ} (m : List ℕ) (i n e : ℕ) → i < 64 → Kept 
 unfolding putSlot
 kept-slot m i n e b h = kept-put (put m (8 + i * 2) n) (9 + i * 2) e (omega arith) (kept-put m (8 + i * 2) n (omega arith) h)
 
-pub kept-run : {l : List ℕ} (m : List ℕ) (n e : ℕ) → Kept l m → Kept l (run m n e)
-unfolding run
+pub kept-run : {l : List ℕ} (m : List ℕ) (n e : ℕ) → Kept l m → Kept l (runArrival m n e)
+unfolding runArrival
 kept-run m n e h =
     kept-put _ 7 0 (omega arith)
     (kept-put _ 6 0 (omega arith) (kept-put _ 5 0 (omega arith) (kept-put _ 4 n (omega arith) (kept-put _ 3 e (omega arith) (kept-put _ 2 1 (omega arith) h)))))

@@ -15,9 +15,9 @@ use borrow.Author.Tests.{leb-true}
 use Rattle.lib_word.specs.Word.{get, put, words, pile}
 use Rattle.lib_word.proofs.Laws.{long, long-put, get-put, get-same, get-other, words-out, words-in, words-get, pile-out, pile-push}
 use Rattle.spec_execution.specs.Execution.{Values, at, emptied}
-use Rattle.spec_execution.specs.Safe.{full}
+use Rattle.spec_execution.specs.Safe.{isFilled}
 use Rattle.run_stack.specs.Stack.{noted}
-use Rattle.run_dispatch.specs.Dispatch.{run}
+use Rattle.run_dispatch.specs.Dispatch.{runArrival}
 
 -- ---- values as far as filled, from word a on
 
@@ -28,7 +28,7 @@ some-value : {v w : ℕ} → some v ≡ some w → v ≡ w
 some-value e = cc
 
 none-some : {v : ℕ} {C : Type 0} → none ≡ some v → C
-none-some e = absurd (false≢true (ap full e))
+none-some e = absurd (false≢true (ap isFilled e))
 
 -- only a place that there is can be filled
 pub filled-below : (s : List (Option ℕ)) (i v : ℕ) → getD s i none ≡ some v → i < length s
@@ -197,8 +197,8 @@ module _ (n : ℕ) (few : n ≤ 64) where
       }
 
   -- an event starts: nothing is filled, and there is no mark
-  pub start-holds : (l : List ℕ) (x e : ℕ) (s : List ℕ) → long l ≡ true → length s ≡ n → words l 136 n ≡ s → Holds n (run l x e) (emptied s)
-  unfolding long run emptied pile
+  pub start-holds : (l : List ℕ) (x e : ℕ) (s : List ℕ) → long l ≡ true → length s ≡ n → words l 136 n ≡ s → Holds n (runArrival l x e) (emptied s)
+  unfolding long runArrival emptied pile
   start-holds l x e s g b h =
       let m = put (put (put (put l 2 1) 3 e) 4 x) 5 0 in
       let y : long m ≡ true = simp long-put g in

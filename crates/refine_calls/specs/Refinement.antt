@@ -18,7 +18,7 @@ use Rattle.spec_execution.specs.Execution.{Values}
 use Rattle.spec_model.specs.Model.{Arrival, arrival, Running, rest, busy, Engine, engine, Call, arrive, step, board, Answer, refused, takenIn, shows, idle, ran, started, preempted, committed, Turn, call, change, State, state, Reply, says, carriedOver, runTurns, replies}
 use Rattle.format_layout.specs.Layout.{eventOf, playerOf, taken, waitingCount, runningFlag, runningWord, runningNumber, position, depth, markWord, numberAt, wordAt}
 use Rattle.format_image.specs.Image.{passivesCode, tableOf}
-use Rattle.run_start.specs.Start.{Result}
+use Rattle.run_start.specs.Start.{CallResult}
 use Rattle.run_arrive.specs.Arrivals.{arriveOn}
 use Rattle.run_board.specs.Board.{boardOn}
 use Rattle.run_mend.specs.Mending.{mendOn}
@@ -49,8 +49,8 @@ codedReply carriedOver = 0
 abbrev pub arrivalIn : ℕ → Arrival
 arrivalIn v = arrival (v / 65536 % 1099511627776) (v / 256 % 256) (v / 16 % 16)
 
-abbrev pub markIn : ℕ → Bool
-markIn v = leb overMark v
+abbrev pub overMarkIn : ℕ → Bool
+overMarkIn v = leb overMark v
 
 abbrev pub stepAnswer : ℕ → Answer
 stepAnswer v =
@@ -58,7 +58,7 @@ stepAnswer v =
     (pick (eqb v kinds.idle) idle
     (pick (eqb v kinds.ran) ran
     (pick (eqb (v % 16) kinds.started) (started (arrivalIn v))
-    (pick (eqb (v % 16) kinds.committed) (committed (arrivalIn v) (markIn v)) (preempted (arrivalIn v))))))
+    (pick (eqb (v % 16) kinds.committed) (committed (arrivalIn v) (overMarkIn v)) (preempted (arrivalIn v))))))
 
 abbrev pub decoded : Call → ℕ → Answer
 decoded (arrive e who) v = pick (eqb v 0) takenIn (refused v)
@@ -71,7 +71,7 @@ toldOn v = v % overMark
 
 -- ---- calls on a table's and a round's bytes
 
-unfoldable pub callOn : List ℕ → Call → List ℕ → Result
+unfoldable pub callOn : List ℕ → Call → List ℕ → CallResult
 callOn t (arrive e who) l = arriveOn t l e who
 callOn t step l = stepOn t l
 callOn t (board i who) l = (boardOn t l i who, l)

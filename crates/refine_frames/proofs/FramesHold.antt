@@ -13,37 +13,37 @@ use Rattle.lib_base.specs.Basics.{pick, All}
 use Rattle.lib_base.proofs.Tools.{by-test, split}
 use Rattle.spec_model.specs.Model.{Call, step}
 use Rattle.run_step.specs.Machine.{stepOn}
-use Rattle.run_burst.specs.Burst.{commits}
+use Rattle.run_burst.specs.Burst.{isCommit}
 use Rattle.run_frame.specs.Frame.{Framed, frameSaid, roomFor, putAnswer, countAfter, commitsAfter, frameFrom, frameOn}
 use Rattle.refine_calls.specs.Refinement.{callOn, answersOn, roundAfter, numbersOn, bytesAfter, turnOnBytes}
-use Rattle.refine_frames.specs.Frames.{stepsMade, commitsWritten, endedBy, steps, committing, putAll, Ended, Steps, EveryFrame, FrameInList}
+use Rattle.refine_frames.specs.Frames.{stepsMade, commitsWritten, endedBy, stepCalls, committing, putAll, Ended, FrameSteps, EveryFrame, FrameInList}
 
 -- ---- answers told and written by one more
 
 count-one : (a n : ℕ) (xs : List ℕ) → countAfter a n + length (committing xs) ≡ n + length (committing (a ∷ xs))
 unfolding countAfter committing
-count-one a n xs = split (commits a) (λ e. rw e (omega arith)) (λ e. rw e)
+count-one a n xs = split (isCommit a) (λ e. rw e (omega arith)) (λ e. rw e)
 
 put-one : (a n : ℕ) (b xs : List ℕ) → putAll (commitsAfter a n b) (countAfter a n) (committing xs) ≡ putAll b n (committing (a ∷ xs))
 unfolding countAfter commitsAfter committing putAll
-put-one a n b xs = split (commits a) (λ e. rw e) (λ e. rw e)
+put-one a n b xs = split (isCommit a) (λ e. rw e) (λ e. rw e)
 
 count-most : (a n room : ℕ) → n < room → countAfter a n ≤ room
 unfolding countAfter
-count-most a n room h = by-test (λ (x : ℕ). x ≤ room) (commits a) (λ _. omega arith) (λ _. omega arith)
+count-most a n room h = by-test (λ (x : ℕ). x ≤ room) (isCommit a) (λ _. omega arith) (λ _. omega arith)
 
 -- ---- the frame from a turn on: r steps are made, the frame ends because of `why`
 
 record From (t : List ℕ) (room k m n : ℕ) (l b : List ℕ) (o : Framed) : Type 0 where
   r : ℕ
   why : ℕ
-  said : o .0 ≡ frameSaid why (m + r) (n + length (committing (answersOn t (steps r) l)))
-  round : o .1 ≡ roundAfter t (steps r) l
-  written : o .2 ≡ putAll b n (committing (answersOn t (steps r) l))
-  made : All (λ a. (a ≢ 0) × (a ≢ 14)) (answersOn t (steps r) l)
+  said : o .0 ≡ frameSaid why (m + r) (n + length (committing (answersOn t (stepCalls r) l)))
+  round : o .1 ≡ roundAfter t (stepCalls r) l
+  written : o .2 ≡ putAll b n (committing (answersOn t (stepCalls r) l))
+  made : All (λ a. (a ≢ 0) × (a ≢ 14)) (answersOn t (stepCalls r) l)
   most : r ≤ k
-  few : n + length (committing (answersOn t (steps r) l)) ≤ room
-  ended : Ended t k r room (n + length (committing (answersOn t (steps r) l))) (o .1) why
+  few : n + length (committing (answersOn t (stepCalls r) l)) ≤ room
+  ended : Ended t k r room (n + length (committing (answersOn t (stepCalls r) l))) (o .1) why
 
 module _ (t : List ℕ) (room : ℕ) where
   -- none made
@@ -79,7 +79,7 @@ module _ (t : List ℕ) (room : ℕ) where
   unfolding answersOn roundAfter callOn numbersOn bytesAfter turnOnBytes
   more k m n l b o x y f =
       let a : ℕ = stepOn t l .0 in
-      let xs : List ℕ = answersOn t (steps (f .r)) (stepOn t l .1) in
+      let xs : List ℕ = answersOn t (stepCalls (f .r)) (stepOn t l .1) in
       let c : countAfter a n + length (committing xs) ≡ n + length (committing (a ∷ xs)) = count-one a n xs in
       let z : m + 1 + f .r ≡ m + suc (f .r) = omega arith in
       record {
@@ -150,10 +150,10 @@ said-commits why made written h g = omega arith
 said-end : (why made written : ℕ) → made < 4294967296 → written < 16777216 → endedBy (frameSaid why made written) ≡ why
 said-end why made written h g = omega arith
 
-together : (t l : List ℕ) (asked : ℕ) (b : List ℕ) (o : Framed) → asked < 4294967296 → From t (roomFor (length b)) asked 0 0 l b o → Steps t l asked b (o .0) (o .1) (o .2)
+together : (t l : List ℕ) (asked : ℕ) (b : List ℕ) (o : Framed) → asked < 4294967296 → From t (roomFor (length b)) asked 0 0 l b o → FrameSteps t l asked b (o .0) (o .1) (o .2)
 together t l asked b o h f =
     let r : ℕ = f .r in
-    let n : ℕ = length (committing (answersOn t (steps r) l)) in
+    let n : ℕ = length (committing (answersOn t (stepCalls r) l)) in
     let from-r : 0 + r ≡ r = omega arith in
     let from-n : 0 + n ≡ n = omega arith in
     let small : roomFor (length b) < 16777216 = room-small (length b) in
@@ -192,4 +192,4 @@ answers-append t (c ∷ cs) ds l = ap (λ (x : List ℕ). callOn t c l .0 ∷ x)
 pub frame-in-list : FrameInList
 frame-in-list t l cs asked b h =
     let r : ℕ = stepsMade (frameOn t (roundAfter t cs l) asked b .0) in
-    (every-frame t (roundAfter t cs l) asked b h .round ∙ sym (round-append t cs (steps r) l), answers-append t cs (steps r) l)
+    (every-frame t (roundAfter t cs l) asked b h .round ∙ sym (round-append t cs (stepCalls r) l), answers-append t cs (stepCalls r) l)

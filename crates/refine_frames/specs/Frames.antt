@@ -11,7 +11,7 @@ use Rattle.spec_language.specs.Refusals.{foreign}
 use Rattle.spec_language.specs.Answers as kinds
 use Rattle.spec_model.specs.Model.{Call, step}
 use Rattle.run_frame.specs.Frame.{allMade, metIdle, metRefusal, noRoom, roomFor, putAnswer, frameOn}
-use Rattle.run_burst.specs.Burst.{commits}
+use Rattle.run_burst.specs.Burst.{isCommit}
 use Rattle.refine_calls.specs.Refinement.{callOn, answersOn, roundAfter}
 
 -- ---- what a frame's answer tells
@@ -27,13 +27,13 @@ endedBy v = v / 72057594037927936
 
 -- ---- the steps
 
-abbrev pub steps : ℕ → List Call
-steps n = replicate n step
+abbrev pub stepCalls : ℕ → List Call
+stepCalls n = replicate n step
 
 -- those of a list of answers that are a commit's
 unfoldable pub committing : List ℕ → List ℕ
 committing [] = []
-committing (a ∷ xs) = pick (commits a) (a ∷ committing xs) (committing xs)
+committing (a ∷ xs) = pick (isCommit a) (a ∷ committing xs) (committing xs)
 
 -- answers written one after the other from place n on
 unfoldable pub putAll : List ℕ → ℕ → List ℕ → List ℕ
@@ -49,23 +49,23 @@ pub record Ended (t : List ℕ) (asked made room written : ℕ) (l : List ℕ) (
   pub full : why ≡ noRoom → (made < asked) × (written ≡ room)
 
 -- a frame with the answer v that leaves the round l′ and the commits b′
-pub record Steps (t l : List ℕ) (asked : ℕ) (b : List ℕ) (v : ℕ) (l′ b′ : List ℕ) : Type 0 where
-  pub round : l′ ≡ roundAfter t (steps (stepsMade v)) l
-  pub written : b′ ≡ putAll b 0 (committing (answersOn t (steps (stepsMade v)) l))
-  pub count : commitsWritten v ≡ length (committing (answersOn t (steps (stepsMade v)) l))
+pub record FrameSteps (t l : List ℕ) (asked : ℕ) (b : List ℕ) (v : ℕ) (l′ b′ : List ℕ) : Type 0 where
+  pub round : l′ ≡ roundAfter t (stepCalls (stepsMade v)) l
+  pub written : b′ ≡ putAll b 0 (committing (answersOn t (stepCalls (stepsMade v)) l))
+  pub count : commitsWritten v ≡ length (committing (answersOn t (stepCalls (stepsMade v)) l))
   -- each of these steps is made
-  pub made : All (λ a. (a ≢ kinds.idle) × (a ≢ foreign)) (answersOn t (steps (stepsMade v)) l)
+  pub made : All (λ a. (a ≢ kinds.idle) × (a ≢ foreign)) (answersOn t (stepCalls (stepsMade v)) l)
   pub most : stepsMade v ≤ asked
   pub room : commitsWritten v ≤ roomFor (length b)
   pub ended : Ended t asked (stepsMade v) (roomFor (length b)) (commitsWritten v) l′ (endedBy v)
 
 abbrev pub EveryFrame : Type 0
 EveryFrame = (t l : List ℕ) (asked : ℕ) (b : List ℕ) → asked < 4294967296
-    → Steps t l asked b (frameOn t l asked b .0) (frameOn t l asked b .1) (frameOn t l asked b .2)
+    → FrameSteps t l asked b (frameOn t l asked b .0) (frameOn t l asked b .1) (frameOn t l asked b .2)
 
 -- a frame after a list of calls leaves the round that the list with its steps leaves, and tells the commits of these
 abbrev pub FrameInList : Type 0
 FrameInList = (t l : List ℕ) (cs : List Call) (asked : ℕ) (b : List ℕ) → asked < 4294967296
-    → (frameOn t (roundAfter t cs l) asked b .1 ≡ roundAfter t (cs ++ steps (stepsMade (frameOn t (roundAfter t cs l) asked b .0))) l)
-    × (answersOn t (cs ++ steps (stepsMade (frameOn t (roundAfter t cs l) asked b .0))) l
-    ≡ answersOn t cs l ++ answersOn t (steps (stepsMade (frameOn t (roundAfter t cs l) asked b .0))) (roundAfter t cs l))
+    → (frameOn t (roundAfter t cs l) asked b .1 ≡ roundAfter t (cs ++ stepCalls (stepsMade (frameOn t (roundAfter t cs l) asked b .0))) l)
+    × (answersOn t (cs ++ stepCalls (stepsMade (frameOn t (roundAfter t cs l) asked b .0))) l
+    ≡ answersOn t cs l ++ answersOn t (stepCalls (stepsMade (frameOn t (roundAfter t cs l) asked b .0))) (roundAfter t cs l))

@@ -15,7 +15,7 @@ use Rattle.spec_model.specs.Claims.{inForce, after}
 use Rattle.format_image.specs.Image.{tableOf}
 use Rattle.back_compile.specs.Verdict.{Compiled, programOf, compileOn}
 use Rattle.back_compile.proofs.AcceptedExactly.{accepted-exactly}
-use Rattle.run_start.specs.Start.{Result}
+use Rattle.run_start.specs.Start.{CallResult}
 use Rattle.refine_calls.specs.Refinement.{IsTurn, AreTurns, calls, bytesAfter, TableFor, Bytes, bytes}
 use Rattle.refine_calls.proofs.Refines.{valid}
 use Rattle.refine_calls.proofs.Short.{sheet-short}
@@ -80,7 +80,7 @@ fresh-is : (s ps t₀ l₀ : List ℕ) → All (λ b. b < 256) s → (x : Sheet)
     → (ok : Accepted (programOf ps x)) (a : 34816 ≤ length t₀) (b : 2048 ≤ length l₀) → refine.freshFrom (programOf ps x) ok t₀ l₀ a b ≡ freshRoundOn s ps t₀ l₀
 fresh-is s ps t₀ l₀ small x e taken ok a b =
     let t : compileOn s ps t₀ .1 ≡ tableOf (programOf ps x) t₀ = table-is s ps t₀ small x e taken a in
-    let r = ap (λ (o : Result). o .1) (begun (programOf ps x) ok t₀ l₀ (compileOn s ps t₀ .1) a b t) in
+    let r = ap (λ (o : CallResult). o .1) (begun (programOf ps x) ok t₀ l₀ (compileOn s ps t₀ .1) a b t) in
     λ i. bytes (sym t i) (sym r i)
 
 -- ---- every list, and two
@@ -127,7 +127,7 @@ module _ (s ps qs t₀ l₀ t₁ l₁ : List ℕ) (x : Sheet) (r : TwoRounds s p
   other-is =
       let t : compileOn s qs t₁ .1 ≡ tableOf p t₁ =
       table-is s qs t₁ (r .sheet-bytes) x (r .sheet-is) (r .other-taken) b ∙ ap (λ (q : Program). tableOf q t₁) (r .filled) in
-      let m = ap (λ (o : Result). o .1) (begun p ok t₁ l₁ (compileOn s qs t₁ .1) b (r .other-room) t) in
+      let m = ap (λ (o : CallResult). o .1) (begun p ok t₁ l₁ (compileOn s qs t₁ .1) b (r .other-room) t) in
       λ i. bytes (sym t i) (sym m i)
 
   moved : (P : Bytes → Bytes → Type 0) → P one other → P (freshRoundOn s ps t₀ l₀) (freshRoundOn s qs t₁ l₁)

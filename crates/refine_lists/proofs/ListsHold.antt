@@ -19,7 +19,7 @@ use Rattle.spec_semantics.proofs.PlaysLaws.{plays}
 use Rattle.spec_semantics.proofs.Lengths.{length-fresh}
 use Rattle.spec_semantics.proofs.OverAgrees.{rules-find, rules-find-only}
 use Rattle.spec_model.specs.Model.{Arrival, arrival, Call, step, Answer, committed, act, Turn, call, State, state, says, turn, runTurns, begun}
-use Rattle.spec_model.specs.Claims.{settlingIn, aloneCalls, eventsOf, takenInBy, courseOf, SameChanges, ApartEach, commits, inForce, engineIn, numberIn, storeIn, IdleIn, after, historyOf, Sound, Replays, Sentences}
+use Rattle.spec_model.specs.Claims.{copyBackIn, aloneCalls, eventsOf, takenInBy, courseOf, SameChanges, ApartEach, commits, inForce, engineIn, numberIn, storeIn, IdleIn, after, historyOf, Sound, Replays, Sentences}
 use Rattle.spec_model.proofs.History.{runs-append, Fit}
 use Rattle.spec_model.proofs.Boards.{storeAfter, stored}
 use Rattle.spec_model.proofs.Replaying.{proper, replays, replays-alone}
@@ -78,11 +78,11 @@ module _ (p : Program) (ok : Accepted p) (t₀ l₀ : List ℕ) (table-room : 34
 
     -- ---- the board
 
-    board : settlingIn (inForce (after p ts)) (engineIn (after p ts)) ≡ false
+    board : copyBackIn (inForce (after p ts)) (engineIn (after p ts)) ≡ false
         → Replays p (historyOf p ts) (fresh p) (boardOf (inForce (after p ts)) (bytesAfter xs bytes .round))
     board h = subst (Replays p (historyOf p ts) (fresh p)) (sym board-is) (all .by-rules h .0)
 
-    board-alone : settlingIn (inForce (after p ts)) (engineIn (after p ts)) ≡ false → (s : List ℕ) → Replays p (historyOf p ts) (fresh p) s
+    board-alone : copyBackIn (inForce (after p ts)) (engineIn (after p ts)) ≡ false → (s : List ℕ) → Replays p (historyOf p ts) (fresh p) s
         → s ≡ boardOf (inForce (after p ts)) (bytesAfter xs bytes .round)
     board-alone h s r = all .by-rules h .1 s r ∙ sym board-is
 

@@ -15,7 +15,7 @@ use Rattle.spec_semantics.specs.Plays.{Plays}
 use Rattle.spec_semantics.proofs.PlaysLaws.{plays, plays-alone}
 use Rattle.spec_semantics.proofs.Lengths.{length-fresh}
 use Rattle.spec_model.specs.Model.{Arrival, Call, State, state, call, turn, replies, begun}
-use Rattle.spec_model.specs.Claims.{Moment, Unchanged, commits, committedIn, eventsOf, engineIn, inForce, after, historyOf, takenInBy, replayed, settlingIn, storeIn, courseOf, last, onward, SameChanges, ApartIn, ApartEach, Course}
+use Rattle.spec_model.specs.Claims.{Moment, Unchanged, commits, committedIn, eventsOf, engineIn, inForce, after, historyOf, takenInBy, replayed, copyBackIn, storeIn, courseOf, last, onward, SameChanges, ApartIn, ApartEach, Course}
 use Rattle.spec_model.proofs.Alone.{only-commits}
 use Rattle.spec_model.proofs.Confluence.{each-perm}
 use Rattle.spec_model.proofs.Replaying.{Proper, proper}
@@ -80,11 +80,11 @@ module _ (p : Program) (ok : Accepted p) where
         ap (λ (q : Program). boardOf q (bytesAfter (map calls cs) first .round)) (sym (stays cs))
         ∙ board-is p ok t₀ l₀ table-room round-room (map calls cs) (map call cs) (are-calls cs)
 
-    at-rules : (cs : List Call) → settlingIn p (engineIn (after p (map call cs))) ≡ false
+    at-rules : (cs : List Call) → copyBackIn p (engineIn (after p (map call cs))) ≡ false
         → boardOf p (bytesAfter (map calls cs) first .round) ≡ play p (eventsOf (committedIn p (map call cs))) (fresh p)
     at-rules cs h =
         board-of-calls cs
-        ∙ list cs .sentences .board (subst (λ (q : Program). settlingIn q (engineIn (after p (map call cs))) ≡ false) (sym (stays cs)) h)
+        ∙ list cs .sentences .board (subst (λ (q : Program). copyBackIn q (engineIn (after p (map call cs))) ≡ false) (sym (stays cs)) h)
         ∙ ap (λ (l : List Moment). replayed p l (fresh p)) (history cs) ∙ played p (committedIn p (map call cs)) (fresh p)
 
     pub only-calls : (cs : List Call) → OnlyCalls p l₀ first cs

@@ -7,7 +7,7 @@ use native.Mathlib.Omega.{arith}
 use Rattle.lib_base.proofs.Tools.{by-test}
 use Rattle.spec_language.specs.Syntax.{Program}
 use Rattle.spec_language.specs.Dependence.{events}
-use Rattle.spec_model.specs.Model.{engine, queue, Call, step, idle, unmarked, settling, act, Turn, call, change, State, state, says, TurnOutcome, declaredIn, turn, replies}
+use Rattle.spec_model.specs.Model.{engine, queue, Call, step, idle, unmarked, inCopyBack, act, Turn, call, change, State, state, says, TurnOutcome, declaredIn, turn, replies}
 use Rattle.spec_model.specs.Claims.{forecast, previewed, inForce, engineIn, storeIn, IdleIn}
 use Rattle.run_step.specs.Machine.{stepOn}
 use Rattle.run_forecast.specs.Forecast.{forecastOn}
@@ -63,7 +63,7 @@ change-read : (u : List ℕ) (q : Program) (s : State) → decodedReply (mends u
 unfolding turn
 change-read u q (state p (engine k waiting r d)) =
     let P : TurnOutcome → Type 0 = λ o. decodedReply (mends u) (codedReply (o .reply)) ≡ o .reply in
-    by-test P (settling p r) (λ _. refl) (λ _. by-test P (declaredIn q (queue waiting r)) (λ _. refl) (λ _. refl))
+    by-test P (inCopyBack p r) (λ _. refl) (λ _. by-test P (declaredIn q (queue waiting r)) (λ _. refl) (λ _. refl))
 
 one-read : (l₀ : List ℕ) (b : Bytes) (x : ByteTurn) (t : Turn) (s : State) → IsTurn x t → Stand l₀ b s → decodedReply x (codedReply (turn t s .reply)) ≡ turn t s .reply
 unfolding turn

@@ -5,7 +5,7 @@ use mathlib.Core.Path.{_≡_}
 use mathlib.Core.List.{List, [], _∷_}
 use Rattle.lib_base.proofs.Tools.{by-test}
 use Rattle.spec_language.specs.Syntax.{Program}
-use Rattle.spec_model.specs.Model.{engine, queue, settling, Turn, call, change, State, state, TurnOutcome, declaredIn, turn, runTurns}
+use Rattle.spec_model.specs.Model.{engine, queue, inCopyBack, Turn, call, change, State, state, TurnOutcome, declaredIn, turn, runTurns}
 use Rattle.spec_model.specs.Claims.{inForce}
 use Rattle.refine_calls.specs.Refinement.{codedReply, ByteTurn, calls, mends, Bytes, inForceAfter, turnOnBytes, bytesAfter, IsTurn, AreTurns}
 use Rattle.refine_calls.proofs.TurnsRefine.{Stand, turned}
@@ -16,7 +16,7 @@ change-left : (u t : List ℕ) (q : Program) (n : ℕ) (s : State) → Left (inF
 unfolding turn
 change-left u t q n (state p (engine k waiting r d)) old new =
     let P : TurnOutcome → Type 0 = λ o. n ≡ codedReply (o .reply) → Left (inForce (o .after)) (inForceAfter n u t) in
-    by-test P (settling p r) (λ _ e. rw e old) (λ _. by-test P (declaredIn q (queue waiting r)) (λ _ e. rw e new) (λ _ e. rw e old))
+    by-test P (inCopyBack p r) (λ _ e. rw e old) (λ _. by-test P (declaredIn q (queue waiting r)) (λ _ e. rw e new) (λ _ e. rw e old))
 
 turn-left : (l₀ : List ℕ) (b : Bytes) (x : ByteTurn) (t : Turn) (s : State) → IsTurn x t → Stand l₀ b s → Left (inForce s) (b .table)
     → Left (inForce (turn t s .after)) (turnOnBytes x b .after .table)

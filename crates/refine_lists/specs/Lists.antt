@@ -18,7 +18,7 @@ use Rattle.spec_language.specs.Syntax.{Program}
 use Rattle.spec_semantics.specs.Meaning.{fresh, withStore}
 use Rattle.spec_semantics.specs.Over.{EventOver}
 use Rattle.spec_semantics.specs.Plays.{Plays}
-use Rattle.spec_model.specs.Claims.{programAfter, engineAfter, settlingAfter, after, historyOf, takenInBy, courseOf, SameChanges, ApartEach, numberIn, IdleIn, commits, Replays, Sentences, eventsOf, settlingIn, aloneCalls, forecast, previewed, committedIn, ApartIn, Unchanged}
+use Rattle.spec_model.specs.Claims.{programAfter, engineAfter, copyBackAfter, after, historyOf, takenInBy, courseOf, SameChanges, ApartEach, numberIn, IdleIn, commits, Replays, Sentences, eventsOf, copyBackIn, aloneCalls, forecast, previewed, committedIn, ApartIn, Unchanged}
 use Rattle.spec_model.specs.Model.{Turn, call, Reply, says, carriedOver, replies, begun, change, Arrival, arrival, step, refused, committed, unmarked, act, Call}
 use Rattle.format_image.specs.Image.{tableOf}
 use Rattle.back_compile.specs.Verdict.{programOf, compileOn}
@@ -73,9 +73,9 @@ pub record OneList (p : Program) (l₀ : List ℕ) (b : Bytes) (xs : List ByteTu
   -- "After the list, unless a copy-back is under way, the board equals what demand 2's rules give for the committed
   -- events, one by one, undivided, in order of commitment." 02, M-112: "Commits before the change follow the old sheet
   -- and later ones the new"; and the rules lead to no other board
-  pub board : settlingAfter p ts ≡ false
+  pub board : copyBackAfter p ts ≡ false
       → Replays p (historyOf p ts) (fresh p) (boardOf (programAfter p ts) (bytesAfter xs b .round))
-  pub board-alone : settlingAfter p ts ≡ false → (s : List ℕ) → Replays p (historyOf p ts) (fresh p) s
+  pub board-alone : copyBackAfter p ts ≡ false → (s : List ℕ) → Replays p (historyOf p ts) (fresh p) s
       → s ≡ boardOf (programAfter p ts) (bytesAfter xs b .round)
   -- of the model engine, whose answers these are: "Each arrival taken in is committed at most once, exactly once when
   -- idle, and after every earlier one of equal rank. A lower rank precedes a higher one only if the higher was taken in
@@ -118,9 +118,9 @@ pub record OnlyCalls (p : Program) (l₀ : List ℕ) (b : Bytes) (cs : List Call
   pub table : bytesAfter (map calls cs) b .table ≡ b .table
   -- "After the list, unless a copy-back is under way, the board equals what demand 2's rules give for the committed
   -- events, one by one, undivided, in order of commitment."; and no other board
-  pub board : settlingIn p (engineAfter p (map call cs)) ≡ false
+  pub board : copyBackIn p (engineAfter p (map call cs)) ≡ false
       → Plays p (eventsOf (committedIn p (map call cs))) (fresh p) (boardOf p (bytesAfter (map calls cs) b .round))
-  pub board-alone : settlingIn p (engineAfter p (map call cs)) ≡ false → (s : List ℕ)
+  pub board-alone : copyBackIn p (engineAfter p (map call cs)) ≡ false → (s : List ℕ)
       → Plays p (eventsOf (committedIn p (map call cs))) (fresh p) s → s ≡ boardOf p (bytesAfter (map calls cs) b .round)
 
 -- ---- turns from sheets

@@ -9,8 +9,8 @@ use Rattle.lib_word.specs.Word.{get, put}
 use Rattle.spec_language.specs.Refusals.{foreign}
 use Rattle.spec_language.specs.Answers as kinds
 use Rattle.format_layout.specs.Layout.{eventWord, runningWord, runningEvent, runningNumber, position, depth, markWord}
-use Rattle.run_start.specs.Start.{Result}
-use Rattle.run_allowed.specs.Allowed.{allowed}
+use Rattle.run_start.specs.Start.{CallResult}
+use Rattle.run_allowed.specs.Allowed.{mayRun}
 use Rattle.run_instruction.specs.Instruction.{perform}
 use Rattle.run_dispatch.specs.Dispatch.{saidOf}
 
@@ -23,18 +23,18 @@ unfoldable pub commitSaid : ℕ → ℕ → ℕ → ℕ
 commitSaid n hand w = pick (eqb w 0) (saidOf kinds.committed n hand) (overMark + saidOf kinds.committed n hand)
 
 -- arrival n, `hand` its word of event and player, has done c of len instructions and now one more
-unfoldable pub countOn : List ℕ → ℕ → ℕ → ℕ → ℕ → Result
-countOn l c hand n len = pick (ltb (c + 1) len) (kinds.ran, put l 5 (c + 1)) (commitSaid n hand (markWord l), put l 2 0)
+unfoldable pub countInstruction : List ℕ → ℕ → ℕ → ℕ → ℕ → CallResult
+countInstruction l c hand n len = pick (ltb (c + 1) len) (kinds.ran, put l 5 (c + 1)) (commitSaid n hand (markWord l), put l 2 0)
 
 -- the instruction of first word a and constant w, at count c
-unfoldable pub executeOn : List ℕ → ℕ → ℕ → ℕ → ℕ → ℕ → ℕ → Result
+unfoldable pub executeOn : List ℕ → ℕ → ℕ → ℕ → ℕ → ℕ → ℕ → CallResult
 executeOn l a w c hand n len =
-    pick (allowed (a / 256) (a % 256) (depth l)) (countOn (perform l (a / 256) (a % 256) w (depth l)) c hand n len) (foreign, l)
+    pick (mayRun (a / 256) (a % 256) (depth l)) (countInstruction (perform l (a / 256) (a % 256) w (depth l)) c hand n len) (foreign, l)
 
 -- instruction k of the table
-unfoldable pub executeAt : List ℕ → List ℕ → ℕ → ℕ → ℕ → ℕ → ℕ → Result
+unfoldable pub executeAt : List ℕ → List ℕ → ℕ → ℕ → ℕ → ℕ → ℕ → CallResult
 executeAt t l k c hand n len = executeOn l (get t (512 + k * 2)) (get t (513 + k * 2)) c hand n len
 
-unfoldable pub advance : List ℕ → List ℕ → Result
-advance t l =
+unfoldable pub advanceOn : List ℕ → List ℕ → CallResult
+advanceOn t l =
     executeAt t l (eventWord t (runningEvent l) 1 + position l) (position l) (runningWord l) (runningNumber l) (eventWord t (runningEvent l) 2)

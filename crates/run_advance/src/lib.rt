@@ -7,8 +7,8 @@ ghost use mathlib.Core.Path.{_≡_};
 ghost use mathlib.Core.Logic.{_≢_};
 ghost use Rattle.lib_word.specs.Word.{get};
 ghost use Rattle.format_layout.specs.Bounds.{Bounds};
-ghost use Rattle.run_start.specs.Start.{result};
-ghost use Rattle.run_advance.specs.Advance.{commitSaid, advance};
+ghost use Rattle.run_start.specs.Start.{callResult};
+ghost use Rattle.run_advance.specs.Advance.{commitSaid, advanceOn};
 
 const FOREIGN: u64 = refusals::FOREIGN as u64;
 
@@ -27,7 +27,7 @@ fn commit_of(number: u32, word: u32, mark: u32) -> u64
 // last, nothing runs and the event is committed. 14 where the instruction may not run.
 pub fn advance_on(table: &[u8], round: &mut [u8]) -> u64
     requires { ⌜ Bounds (now table) (now round) × (get (now round) 2 ≢ 0) ⌝ }
-    ensures { λ r. ⌜ result r (now (round .exit)) ≡ advance (now (table .entry)) (now (round .entry)) ⌝ }
+    ensures { λ r. ⌜ callResult r (now (round .exit)) ≡ advanceOn (now (table .entry)) (now (round .entry)) ⌝ }
 {
     let word = lib_word::get_word(round, round::RUNNING_WORD);
     let number = lib_word::get_word(round, round::RUNNING_NUMBER);

@@ -8,7 +8,7 @@ use borrow.Author.Tests.{ltb-true, ltb-false, leb-true, le-ltb, lt-ltb, ne-eqb}
 use Rattle.lib_base.specs.Basics.{pick}
 use Rattle.lib_base.proofs.Tools.{past}
 use Rattle.lib_arith.specs.Functions.{arity}
-use Rattle.run_allowed.specs.Allowed.{applies, allowed}
+use Rattle.run_allowed.specs.Allowed.{applies, mayRun}
 
 applies-fits : (f d : ℕ) → applies f d ≡ true → (f ≤ 14) × (arity f ≤ d)
 unfolding applies
@@ -17,19 +17,19 @@ applies-fits f d e =
     let q = past (ltb 14 f) (leb (arity f) d) (p .1) in
     (ltb-false 14 f (q .0), leb-true (arity f) d (q .1))
 
--- what remains of `allowed` once the slot has passed
+-- what remains of `mayRun` once the slot has passed
 abbrev rest : ℕ → ℕ → ℕ → Bool
 rest op s d =
     pick (eqb op 0) false (pick (ltb op 5) true (pick (ltb op 8) (ltb d 64) (pick (eqb op 8) (applies s d) (pick (ltb op 11) (ltb 0 d) (eqb op 11)))))
 
 -- the slot is one of 64
-pub slot-small : (op s d : ℕ) → allowed op s d ≡ true → s < 64
-unfolding allowed
+pub slot-small : (op s d : ℕ) → mayRun op s d ≡ true → s < 64
+unfolding mayRun
 slot-small op s d e = let h : s ≤ 63 = ltb-false 63 s (past (ltb 63 s) (rest op s d) e .0) in omega arith
 
 -- push, load and fetch find room
-pub push-room : (op s d : ℕ) → allowed op s d ≡ true → 5 ≤ op → op < 8 → d < 64
-unfolding allowed
+pub push-room : (op s d : ℕ) → mayRun op s d ≡ true → 5 ≤ op → op < 8 → d < 64
+unfolding mayRun
 push-room op s d e a b =
     let z : eqb op 0 ≡ false = ne-eqb op 0 (omega arith) in
     let l : ltb op 5 ≡ false = le-ltb op 5 a in
@@ -37,13 +37,13 @@ push-room op s d e a b =
     ltb-true d 64 (rw (z, l, h) at (past (ltb 63 s) (rest op s d) e .1))
 
 -- a function is one of the fourteen, and finds its arguments
-pub apply-fits : (s d : ℕ) → allowed 8 s d ≡ true → (s ≤ 14) × (arity s ≤ d)
-unfolding allowed
+pub apply-fits : (s d : ℕ) → mayRun 8 s d ≡ true → (s ≤ 14) × (arity s ≤ d)
+unfolding mayRun
 apply-fits s d e = applies-fits s d (past (ltb 63 s) (rest 8 s d) e .1)
 
 -- save and defer find a value
-pub pop-one : (op s d : ℕ) → allowed op s d ≡ true → 8 < op → op < 11 → 0 < d
-unfolding allowed
+pub pop-one : (op s d : ℕ) → mayRun op s d ≡ true → 8 < op → op < 11 → 0 < d
+unfolding mayRun
 pop-one op s d e a b =
     let z : eqb op 0 ≡ false = ne-eqb op 0 (omega arith) in
     let l : ltb op 5 ≡ false = le-ltb op 5 (omega arith) in

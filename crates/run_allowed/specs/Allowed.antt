@@ -11,8 +11,8 @@ applies f d = pick (eqb f 0) false (pick (ltb 14 f) false (leb (arity f) d))
 
 -- not foreign: "an instruction not of this paper, with a slot above 63, or taking from an empty or adding to a full
 -- stack"
-unfoldable pub allowed : ℕ → ℕ → ℕ → Bool
-allowed op s d =
+unfoldable pub mayRun : ℕ → ℕ → ℕ → Bool
+mayRun op s d =
     pick (ltb 63 s) false
     (pick (eqb op 0) false
     (pick (ltb op 5) true

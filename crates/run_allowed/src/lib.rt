@@ -3,7 +3,7 @@ use format_layout::operations;
 use spec_language::functions;
 use spec_language::limits;
 ghost use mathlib.Core.Path.{_≡_};
-ghost use Rattle.run_allowed.specs.Allowed.{applies, allowed};
+ghost use Rattle.run_allowed.specs.Allowed.{applies, mayRun};
 
 const LAST_FUNCTION: u32 = functions::IF as u32;
 
@@ -26,7 +26,7 @@ fn arguments_there(f: u32, depth: u32) -> bool
 
 // Whether an operation with that slot is one of ours and finds its stack, of that depth, as it needs it.
 pub fn is_allowed(operation: u32, slot: u32, depth: u32) -> bool
-    ensures { λ r. ⌜ r ≡ allowed operation slot depth ⌝ }
+    ensures { λ r. ⌜ r ≡ mayRun operation slot depth ⌝ }
 {
     if slot >= SLOTS {
         return false;

@@ -5,11 +5,11 @@ use Prim.Native.Nat.{ℕ}
 use mathlib.Core.Bool.{Bool, true, false}
 use mathlib.Core.Path.{_≡_, refl}
 use mathlib.Core.List.{List, []}
-use Rattle.run_arrive.specs.Arrivals.{full, arriveWith}
+use Rattle.run_arrive.specs.Arrivals.{queueFull, arriveWith}
 
 -- 64 in hand, of which one runs or none
-pub full-hand : (full 63 0 ≡ false) × (full 64 0 ≡ true) × (full 62 1 ≡ false) × (full 63 1 ≡ true)
-unfolding full
+pub full-hand : (queueFull 63 0 ≡ false) × (queueFull 64 0 ≡ true) × (queueFull 62 1 ≡ false) × (queueFull 63 1 ≡ true)
+unfolding queueFull
 full-hand = (refl, refl, refl, refl)
 
 -- the last that is taken in has the number 999,999

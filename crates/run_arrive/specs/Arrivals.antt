@@ -11,26 +11,26 @@ use Rattle.spec_language.specs.Refusals.{foreign, noPlayer, undeclaredEvent, no
 use Rattle.spec_language.specs.Rights.{may}
 use Rattle.format_layout.specs.Layout.{eventCount, sendersAt, handWord, taken, waitingCount, runningFlag, ours}
 use Rattle.run_queue.specs.Queue.{putSlot}
-use Rattle.run_start.specs.Start.{Result}
+use Rattle.run_start.specs.Start.{CallResult}
 
 -- event e of player who joins: n wait, k are taken in
 unfoldable pub admit : List ℕ → ℕ → ℕ → ℕ → ℕ → List ℕ
 admit l e who n k = put (put (putSlot l n k (handWord e who)) 0 (k + 1)) 1 (n + 1)
 
 -- 64 in the queue (01: hand), of which n wait; f: one runs
-unfoldable pub full : ℕ → ℕ → Bool
-full n f = pick (eqb f 0) (leb 64 n) (leb 63 n)
+unfoldable pub queueFull : ℕ → ℕ → Bool
+queueFull n f = pick (eqb f 0) (leb 64 n) (leb 63 n)
 
 -- the event is declared, and the player one of eight; `right`: who may send it
-unfoldable pub arriveWith : List ℕ → ℕ → ℕ → Bool → ℕ → Bool → ℕ → Result
+unfoldable pub arriveWith : List ℕ → ℕ → ℕ → Bool → ℕ → Bool → ℕ → CallResult
 arriveWith l e who right n h k =
     pick right (pick h (fullQueue, l) (pick (leb 1000000 k) (spent, l) (0, admit l e who n k))) (noRight, l)
 
-unfoldable pub arriveKnown : List ℕ → List ℕ → ℕ → ℕ → Result
-arriveKnown t l e who = arriveWith l e who (may (sendersAt t e) who) (waitingCount l) (full (waitingCount l) (runningFlag l)) (taken l)
+unfoldable pub arriveKnown : List ℕ → List ℕ → ℕ → ℕ → CallResult
+arriveKnown t l e who = arriveWith l e who (may (sendersAt t e) who) (waitingCount l) (queueFull (waitingCount l) (runningFlag l)) (taken l)
 
-unfoldable pub arriveIn : List ℕ → List ℕ → ℕ → ℕ → Result
+unfoldable pub arriveIn : List ℕ → List ℕ → ℕ → ℕ → CallResult
 arriveIn t l e who = pick (leb 8 who) (noPlayer, l) (pick (leb (eventCount t) e) (undeclaredEvent, l) (arriveKnown t l e who))
 
-unfoldable pub arriveOn : List ℕ → List ℕ → ℕ → ℕ → Result
+unfoldable pub arriveOn : List ℕ → List ℕ → ℕ → ℕ → CallResult
 arriveOn t l e who = pick (ours t l) (arriveIn t l e who) (foreign, l)

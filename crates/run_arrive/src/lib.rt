@@ -7,12 +7,12 @@ use spec_language::refusals;
 ghost use mathlib.Core.Path.{_≡_};
 ghost use mathlib.Core.Bool.{false};
 ghost use Prim.Native.Nat.{_<_};
-ghost use Rattle.run_start.specs.Start.{result};
-ghost use Rattle.run_arrive.specs.Arrivals.{full, arriveOn};
+ghost use Rattle.run_start.specs.Start.{callResult};
+ghost use Rattle.run_arrive.specs.Arrivals.{queueFull, arriveOn};
 
 // Whether the queue (01: hand) is full, so many waiting, and one running where the flag is not 0.
 fn is_full(waiting: u32, running: u32) -> bool
-    ensures { λ r. ⌜ r ≡ full waiting running ⌝ }
+    ensures { λ r. ⌜ r ≡ queueFull waiting running ⌝ }
     ensures { λ r. ⌜ (r ≡ false → waiting < 64) ⌝ }
 {
     if running == 0 {
@@ -24,7 +24,7 @@ fn is_full(waiting: u32, running: u32) -> bool
 // An event arrives, sent by a player. 0 where it is taken in, or the refusal's number, the first of 14, 24, 15, 25, 16
 // and 17 that fits. What is taken in waits under the number taken in so far, which then grows by one.
 pub fn arrive_at(table: &[u8], round: &mut [u8], event: u32, player: u32) -> u32
-    ensures { λ r. ⌜ result r (now (round .exit)) ≡ arriveOn (now (table .entry)) (now (round .entry)) event player ⌝ }
+    ensures { λ r. ⌜ callResult r (now (round .exit)) ≡ arriveOn (now (table .entry)) (now (round .entry)) event player ⌝ }
     ensures { λ r. ⌜ (r ≡ 0 → player < 8) ⌝ }
 {
     if !run_validate::is_ours(&*table, round) {

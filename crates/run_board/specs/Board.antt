@@ -12,27 +12,27 @@ use Rattle.format_layout.specs.Layout.{behaviourCount, eventWord, viewersAt, ru
 
 -- ---- masking: of len instructions, with m members of C, c are done
 
-unfoldable pub copyingBack : ℕ → ℕ → ℕ → Bool
-copyingBack len m c = pick (leb len m) true (leb (len - m - 1) c)
+unfoldable pub isCopyingBack : ℕ → ℕ → ℕ → Bool
+isCopyingBack len m c = pick (leb len m) true (leb (len - m - 1) c)
 
-unfoldable pub masked : ℕ → ℕ → ℕ → Bool
-masked len m c = pick (copyingBack len m c) true (pick (eqb c 0) false (leb (c - 1) m))
+unfoldable pub isMasked : ℕ → ℕ → ℕ → Bool
+isMasked len m c = pick (isCopyingBack len m c) true (pick (eqb c 0) false (leb (c - 1) m))
 
 -- ---- board readings. "Board: 14, 18, 19."; 02, M-107: 24 after 14, 25 after 18. The answer is the refusal's number,
 -- or 2 ^ 32 and the value.
 
-unfoldable pub settling : ℕ → ℕ → ℕ → ℕ → Bool
-settling f len m c = pick (eqb f 0) false (copyingBack len m c)
+unfoldable pub copyBackWith : ℕ → ℕ → ℕ → ℕ → Bool
+copyBackWith f len m c = pick (eqb f 0) false (isCopyingBack len m c)
 
-unfoldable pub settlingIn : List ℕ → List ℕ → Bool
-settlingIn t l = settling (runningFlag l) (eventWord t (runningEvent l) 2) (eventWord t (runningEvent l) 3) (position l)
+unfoldable pub copyBackUnderWay : List ℕ → List ℕ → Bool
+copyBackUnderWay t l = copyBackWith (runningFlag l) (eventWord t (runningEvent l) 2) (eventWord t (runningEvent l) 3) (position l)
 
 -- a behaviour of the program, and one of eight players; right: who may see it; s: a copy-back is under way
 unfoldable pub boardWith : List ℕ → ℕ → Bool → Bool → ℕ
 boardWith l i right s = pick right (pick s refusals.settling (4294967296 + get l (136 + i))) refusals.noRight
 
 unfoldable pub boardKnown : List ℕ → List ℕ → ℕ → ℕ → ℕ
-boardKnown t l i who = boardWith l i (may (viewersAt t i) who) (settlingIn t l)
+boardKnown t l i who = boardWith l i (may (viewersAt t i) who) (copyBackUnderWay t l)
 
 unfoldable pub boardIn : List ℕ → List ℕ → ℕ → ℕ → ℕ
 boardIn t l i who = pick (leb 8 who) refusals.noPlayer (pick (leb (behaviourCount t) i) refusals.noBehaviour (boardKnown t l i who))
@@ -42,5 +42,5 @@ boardOn t l i who = pick (ours t l) (boardIn t l i who) refusals.foreign
 
 -- ---- whether a copy-back is under way, for a host that shows no behaviour
 
-unfoldable pub settlingOn : List ℕ → List ℕ → Bool
-settlingOn t l = pick (ours t l) (settlingIn t l) false
+unfoldable pub copyBackOn : List ℕ → List ℕ → Bool
+copyBackOn t l = pick (ours t l) (copyBackUnderWay t l) false

@@ -7,7 +7,7 @@ use spec_language::limits;
 use spec_language::refusals;
 ghost use mathlib.Core.Path.{_≡_};
 ghost use Rattle.format_layout.specs.Bounds.{Bounds};
-ghost use Rattle.run_board.specs.Board.{copyingBack, masked, settlingIn, boardOn, settlingOn};
+ghost use Rattle.run_board.specs.Board.{isCopyingBack, isMasked, copyBackUnderWay, boardOn, copyBackOn};
 
 const FOREIGN: u64 = refusals::FOREIGN as u64;
 
@@ -22,7 +22,7 @@ const SETTLING: u64 = refusals::SETTLING as u64;
 // ---- masking: of an event with so many instructions, and members of C, so many are done
 
 fn is_copying_back(length: u32, members: u32, done: u32) -> bool
-    ensures { λ r. ⌜ r ≡ copyingBack length members done ⌝ }
+    ensures { λ r. ⌜ r ≡ isCopyingBack length members done ⌝ }
 {
     if length <= members {
         return true;
@@ -31,7 +31,7 @@ fn is_copying_back(length: u32, members: u32, done: u32) -> bool
 }
 
 pub fn is_masked(length: u32, members: u32, done: u32) -> bool
-    ensures { λ r. ⌜ r ≡ masked length members done ⌝ }
+    ensures { λ r. ⌜ r ≡ isMasked length members done ⌝ }
 {
     if is_copying_back(length, members, done) {
         return true;
@@ -45,9 +45,9 @@ pub fn is_masked(length: u32, members: u32, done: u32) -> bool
 // ---- board readings
 
 // Whether a copy-back is under way.
-fn settling_in(table: &[u8], round: &[u8]) -> bool
+fn copy_back_under_way(table: &[u8], round: &[u8]) -> bool
     requires { ⌜ Bounds (now table) (now round) ⌝ }
-    ensures { λ r. ⌜ r ≡ settlingIn (now (table .entry)) (now (round .entry)) ⌝ }
+    ensures { λ r. ⌜ r ≡ copyBackUnderWay (now (table .entry)) (now (round .entry)) ⌝ }
 {
     if lib_word::get_word(round, round::RUNNING) == 0 {
         return false;
@@ -77,18 +77,18 @@ pub fn board_at(table: &[u8], round: &[u8], behaviour: u32, player: u32) -> u64
     if !run_rights::may_see(table, behaviour, player) {
         return NO_RIGHT;
     }
-    if settling_in(&*table, &*round) {
+    if copy_back_under_way(&*table, &*round) {
         return SETTLING;
     }
     answers::VALUE + (lib_word::get_word(round, round::STORE + (behaviour as usize)) as u64)
 }
 
 // Whether a copy-back is under way; false where table or round is foreign.
-pub fn settling_at(table: &[u8], round: &[u8]) -> bool
-    ensures { λ r. ⌜ r ≡ settlingOn (now (table .entry)) (now (round .entry)) ⌝ }
+pub fn copy_back_at(table: &[u8], round: &[u8]) -> bool
+    ensures { λ r. ⌜ r ≡ copyBackOn (now (table .entry)) (now (round .entry)) ⌝ }
 {
     if run_validate::is_ours(&*table, &*round) {
-        return settling_in(&*table, &*round);
+        return copy_back_under_way(&*table, &*round);
     }
     false
 }

@@ -10,14 +10,14 @@ use borrow.Author.Tests.{ltb-true, ltb-false, eqb-true, eqb-false}
 use Rattle.lib_base.specs.Basics.{pick}
 use Rattle.lib_base.proofs.Tools.{by-test, split}
 use Rattle.format_layout.specs.Layout.{eventWord, eventOf, numberAt, wordAt, eventAt}
-use Rattle.run_queue.specs.Queue.{ahead, either, better, best}
+use Rattle.run_queue.specs.Queue.{ahead, eitherSlot, better, best}
 
 module _ (t l : List ℕ) where
   abbrev pub rankAt : ℕ → ℕ
   rankAt i = eventWord t (eventAt l i) 0
 
   best-most : (n : ℕ) → best t l n ≤ n
-  unfolding best better either
+  unfolding best better eitherSlot
   best-most zero = omega arith
   best-most (suc n) =
       let b = best t l n in
@@ -25,7 +25,7 @@ module _ (t l : List ℕ) where
       by-test (λ (x : ℕ). x ≤ suc n) (ahead (rankAt n) (numberAt l n) (rankAt b) (numberAt l b)) (λ _. omega arith) (λ _. omega arith)
 
   pub best-within : (n : ℕ) → 0 < n → best t l n < n
-  unfolding best better either
+  unfolding best better eitherSlot
   best-within zero h = absurd (omega arith)
   best-within (suc n) h =
       let b = best t l n in
@@ -44,7 +44,7 @@ module _ (t l : List ℕ) where
 
   -- neither of two outranks the better one
   better-leads : (i b : ℕ) → (rankAt i ≤ rankAt (better t l i b)) × (rankAt b ≤ rankAt (better t l i b))
-  unfolding better either
+  unfolding better eitherSlot
   better-leads i b =
       by-test (λ (x : ℕ). (rankAt i ≤ rankAt x) × (rankAt b ≤ rankAt x)) (ahead (rankAt i) (numberAt l i) (rankAt b) (numberAt l b))
       (λ e. (omega arith, ahead-true (rankAt i) (numberAt l i) (rankAt b) (numberAt l b) e))
@@ -63,7 +63,7 @@ module _ (t l m : List ℕ) where
   Alike i = (numberAt m i ≡ numberAt l i) × (wordAt m i ≡ wordAt l i)
 
   same-better : (i b c : ℕ) → c ≡ b → Alike i → Alike b → better t m i c ≡ better t l i b
-  unfolding better either
+  unfolding better eitherSlot
   same-better i b c e p q = rw (e, p .0, p .1, q .0, q .1)
 
   pub best-same : (n : ℕ) → ((i : ℕ) → i < n → Alike i) → best t m n ≡ best t l n

@@ -1,5 +1,5 @@
--- What `ours` asks is `Sound`, and that the running one has instructions left. Each test that passes is a fact and the
--- other way round; the slots by induction on how many.
+-- What `ours` asks is `RoundSound`, and that the running one has instructions left. Each test that passes is a fact and
+-- the other way round; the slots by induction on how many.
 use Prim.Native.Nat.{ℕ, zero, suc, _≤_, _<_}
 use mathlib.Core.Bool.{Bool, true, false}
 use mathlib.Core.Path.{_≡_, refl}
@@ -15,7 +15,7 @@ use Rattle.format_layout.specs.Layout.{eventCount, eventWord, tableFits, waitin
 use Rattle.format_layout.specs.Layout.{handFits, slotsFit, runningFits, roundWith, roundIn, roundFits, ours}
 use Rattle.format_layout.specs.Bounds.{Bounds}
 use Rattle.format_layout.proofs.BoundsLaws.{bounds}
-use Rattle.run_burst.specs.Sound.{Sound}
+use Rattle.run_burst.specs.Sound.{RoundSound}
 
 slots-fit : (l : List ℕ) (known n : ℕ) → slotsFit l known n ≡ true → (i : ℕ) → i < n → handFits known (wordAt l i) ≡ true
 unfolding slotsFit
@@ -48,7 +48,7 @@ unfolding runningFits
 over-running n f fits c len g a b d = rw (ne-eqb f 0 g, le-ltb 63 n a, b, le-ltb c len d)
 
 module _ (t l : List ℕ) where
-  pub ours-sound : ours t l ≡ true → Sound t l
+  pub ours-sound : ours t l ≡ true → RoundSound t l
   unfolding ours roundFits roundIn roundWith
   ours-sound h =
       let b : Bounds t l = bounds t l h in
@@ -72,7 +72,7 @@ module _ (t l : List ℕ) where
         running-fits = running-fit n (runningFlag l) (handFits known (runningWord l)) (position l) (eventWord t (runningEvent l) 2) (s .0);
       }
 
-  pub sound-ours : Sound t l → (runningFlag l ≢ 0 → position l < eventWord t (runningEvent l) 2) → ours t l ≡ true
+  pub sound-ours : RoundSound t l → (runningFlag l ≢ 0 → position l < eventWord t (runningEvent l) 2) → ours t l ≡ true
   unfolding ours roundFits roundIn roundWith
   sound-ours s w =
       rw (
@@ -83,7 +83,7 @@ module _ (t l : List ℕ) where
         fit-running (waitingCount l) (runningFlag l) (handFits (eventCount t) (runningWord l)) (position l) (eventWord t (runningEvent l) 2) (s .room) (s .running-fits) w,
       ) (fit-slots l (eventCount t) (waitingCount l) (s .waiting-fit))
 
-  pub sound-over : Sound t l → runningFlag l ≢ 0 → eventWord t (runningEvent l) 2 ≤ position l → ours t l ≡ false
+  pub sound-over : RoundSound t l → runningFlag l ≢ 0 → eventWord t (runningEvent l) 2 ≤ position l → ours t l ≡ false
   unfolding ours roundFits roundIn roundWith
   sound-over s f w =
       rw (
@@ -94,5 +94,5 @@ module _ (t l : List ℕ) where
         over-running (waitingCount l) (runningFlag l) (handFits (eventCount t) (runningWord l)) (position l) (eventWord t (runningEvent l) 2) f (s .room f) (s .running-fits f) w,
       )
 
-  pub sound-bounds : Sound t l → (runningFlag l ≢ 0 → position l < eventWord t (runningEvent l) 2) → Bounds t l
+  pub sound-bounds : RoundSound t l → (runningFlag l ≢ 0 → position l < eventWord t (runningEvent l) 2) → Bounds t l
   sound-bounds s w = bounds t l (sound-ours s w)

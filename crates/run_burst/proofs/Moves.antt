@@ -16,11 +16,11 @@ use Rattle.lib_word.specs.Word.{get, put}
 use Rattle.lib_word.proofs.Laws.{long, long-put, length-put, get-put, get-same, get-other}
 use Rattle.format_layout.specs.Layout.{eventCount, eventWord, eventOf, tableFits, waitingCount, runningFlag, runningWord, runningEvent, runningNumber, position, depth, numberAt, wordAt, eventAt, handFits}
 use Rattle.run_queue.specs.Queue.{best, putSlot}
-use Rattle.run_dispatch.specs.Dispatch.{run, startAt, preemptAt}
-use Rattle.run_allowed.specs.Allowed.{allowed}
+use Rattle.run_dispatch.specs.Dispatch.{runArrival, startAt, preemptAt}
+use Rattle.run_allowed.specs.Allowed.{mayRun}
 use Rattle.run_instruction.specs.Instruction.{perform}
-use Rattle.run_stretch.proofs.SettleLaws.{perform-shallow}
-use Rattle.run_burst.specs.Sound.{Sound, outranked}
+use Rattle.run_stretch.proofs.StretchLaws.{perform-shallow}
+use Rattle.run_burst.specs.Sound.{RoundSound, higherWaits}
 use Rattle.run_burst.proofs.Performs.{Keeps, perform-keeps}
 use Rattle.run_burst.proofs.Choice.{rankAt, best-within, best-leads, best-same}
 
@@ -29,8 +29,8 @@ use Rattle.run_burst.proofs.Choice.{rankAt, best-within, best-leads, be
 abbrev Leads : List ℕ → List ℕ → Type 0
 Leads t l = (i : ℕ) → i < waitingCount l → rankAt t l i ≤ eventWord t (runningEvent l) 0
 
-leads-calm : (t l : List ℕ) → Leads t l → outranked t l ≡ false
-unfolding outranked
+leads-calm : (t l : List ℕ) → Leads t l → higherWaits t l ≡ false
+unfolding higherWaits
 leads-calm t l h =
     by-test (λ (x : Bool). x ≡ false) (eqb (runningFlag l) 0) (λ _. refl)
     (λ _. by-test (λ (x : Bool). x ≡ false) (eqb (waitingCount l) 0) (λ _. refl)
@@ -38,8 +38,8 @@ leads-calm t l h =
     let n : 0 < waitingCount l = omega (arith, eqb-false (waitingCount l) 0 e) in
     le-ltb (eventWord t (runningEvent l) 0) (rankAt t l (best t l (waitingCount l))) (h (best t l (waitingCount l)) (best-within t l (waitingCount l) n))))
 
-pub resting-calm : (t l : List ℕ) → runningFlag l ≡ 0 → outranked t l ≡ false
-unfolding outranked
+pub resting-calm : (t l : List ℕ) → runningFlag l ≡ 0 → higherWaits t l ≡ false
+unfolding higherWaits
 resting-calm t l h = rw (eq-eqb (runningFlag l) 0 h)
 
 -- ---- an instruction
@@ -52,7 +52,7 @@ record Same (l m : List ℕ) : Type 0 where
   word : runningWord m ≡ runningWord l
   slots : (i : ℕ) → i < 64 → (numberAt m i ≡ numberAt l i) × (wordAt m i ≡ wordAt l i)
 
-same-sound : (t l m : List ℕ) → Same l m → depth m ≤ 64 → Sound t l → Sound t m
+same-sound : (t l m : List ℕ) → Same l m → depth m ≤ 64 → RoundSound t l → RoundSound t m
 same-sound t l m k d s =
     let few : waitingCount l ≤ 64 = s .few-waiting in
     record {
@@ -66,19 +66,19 @@ same-sound t l m k d s =
       running-fits = λ f. rw (k .word) (s .running-fits (rw (k .flag) at f));
     }
 
-same-outranked : (t l m : List ℕ) → Same l m → waitingCount l ≤ 64 → outranked t m ≡ outranked t l
-unfolding outranked
+same-outranked : (t l m : List ℕ) → Same l m → waitingCount l ≤ 64 → higherWaits t m ≡ higherWaits t l
+unfolding higherWaits
 same-outranked t l m k few =
     let n = waitingCount l in
-    by-test (λ (x : Bool). outranked t m ≡ x) (eqb (runningFlag l) 0) (λ e. rw (k .flag, e))
-    (λ e. by-test (λ (x : Bool). outranked t m ≡ x) (eqb n 0) (λ f. rw (k .flag, e, k .waiting, f))
+    by-test (λ (x : Bool). higherWaits t m ≡ x) (eqb (runningFlag l) 0) (λ e. rw (k .flag, e))
+    (λ e. by-test (λ (x : Bool). higherWaits t m ≡ x) (eqb n 0) (λ f. rw (k .flag, e, k .waiting, f))
     (λ f.
     let b = best t l n in
     let c : best t m n ≡ b = best-same t l m n (λ i h. k .slots i (omega arith)) in
     let w : b < n = best-within t l n (omega (arith, eqb-false n 0 f)) in
     rw (k .flag, e, k .waiting, f, c, k .word, k .slots b (omega arith) .1)))
 
-module _ (t l : List ℕ) (s : Sound t l) (op slot w : ℕ) (may : allowed op slot (depth l) ≡ true) where
+module _ (t l : List ℕ) (s : RoundSound t l) (op slot w : ℕ) (may : mayRun op slot (depth l) ≡ true) where
   abbrev after : List ℕ
   after = perform l op slot w (depth l)
 
@@ -104,10 +104,10 @@ module _ (t l : List ℕ) (s : Sound t l) (op slot w : ℕ) (may : allowed op sl
     );
   }
 
-  pub ran-sound : (c : ℕ) → Sound t (put after 5 c)
+  pub ran-sound : (c : ℕ) → RoundSound t (put after 5 c)
   ran-sound c = same-sound t l (put after 5 c) (ran-same c) (rw (get-other after 5 c 6 (omega arith)) shallow-after) s
 
-  pub ran-outranked : (c : ℕ) → outranked t (put after 5 c) ≡ outranked t l
+  pub ran-outranked : (c : ℕ) → higherWaits t (put after 5 c) ≡ higherWaits t l
   ran-outranked c = same-outranked t l (put after 5 c) (ran-same c) (s .few-waiting)
 
   pub ran-position : (c : ℕ) → position (put after 5 c) ≡ c
@@ -123,7 +123,7 @@ module _ (t l : List ℕ) (s : Sound t l) (op slot w : ℕ) (may : allowed op sl
   rests : runningFlag (put after 2 0) ≡ 0
   rests = get-same after 2 0 (omega (arith, long-after))
 
-  pub committed-sound : Sound t (put after 2 0)
+  pub committed-sound : RoundSound t (put after 2 0)
   committed-sound =
       let n : waitingCount (put after 2 0) ≡ waitingCount l = get-other after 2 0 1 (omega arith) ∙ kept .words 1 (omega arith) (omega arith) (omega arith) in
       let few : waitingCount l ≤ 64 = s .few-waiting in
@@ -142,7 +142,7 @@ module _ (t l : List ℕ) (s : Sound t l) (op slot w : ℕ) (may : allowed op sl
         running-fits = λ f. absurd (f rests);
       }
 
-  pub committed-calm : outranked t (put after 2 0) ≡ false
+  pub committed-calm : higherWaits t (put after 2 0) ≡ false
   committed-calm = resting-calm t (put after 2 0) rests
 
 -- ---- a start or a preemption: arrival n of word w runs, over the slots of l
@@ -152,24 +152,24 @@ module _ (t l : List ℕ) (n w : ℕ) (h : 2048 ≤ length l) where
   unfolding long
   is-long = le-leb 2048 (length l) h
 
-  run-length : length (run l n w) ≡ length l
-  unfolding run
+  run-length : length (runArrival l n w) ≡ length l
+  unfolding runArrival
   run-length = simp length-put
 
-  run-word : runningWord (run l n w) ≡ w
-  unfolding run
+  run-word : runningWord (runArrival l n w) ≡ w
+  unfolding runArrival
   run-word = simp (get-put, long-put, is-long)
 
-  run-depth : depth (run l n w) ≡ 0
-  unfolding run
+  run-depth : depth (runArrival l n w) ≡ 0
+  unfolding runArrival
   run-depth = simp (get-put, long-put, is-long)
 
-  run-waiting : waitingCount (run l n w) ≡ waitingCount l
-  unfolding run
+  run-waiting : waitingCount (runArrival l n w) ≡ waitingCount l
+  unfolding runArrival
   run-waiting = simp (get-put, long-put, is-long)
 
-  run-other : (j : ℕ) → 8 ≤ j → get (run l n w) j ≡ get l j
-  unfolding run
+  run-other : (j : ℕ) → 8 ≤ j → get (runArrival l n w) j ≡ get l j
+  unfolding runArrival
   run-other j b =
       let a : List ℕ = put l 2 1 in
       let c : List ℕ = put a 3 w in
@@ -180,7 +180,7 @@ module _ (t l : List ℕ) (n w : ℕ) (h : 2048 ≤ length l) where
       ∙ get-other a 3 w j (omega arith) ∙ get-other l 2 1 j (omega arith)
 
   pub run-sound : tableFits t ≡ true → 34816 ≤ length t → waitingCount l ≤ 63 → ((i : ℕ) → i < waitingCount l → handFits (eventCount t) (wordAt l i) ≡ true)
-      → handFits (eventCount t) w ≡ true → Sound t (run l n w)
+      → handFits (eventCount t) w ≡ true → RoundSound t (runArrival l n w)
   run-sound fits whole few slots fit = record {
     table = fits;
     whole = whole;
@@ -192,9 +192,9 @@ module _ (t l : List ℕ) (n w : ℕ) (h : 2048 ≤ length l) where
     running-fits = λ _. rw run-word fit;
   }
 
-  pub run-calm : ((i : ℕ) → i < waitingCount l → eventWord t (eventAt l i) 0 ≤ eventWord t (eventOf w) 0) → outranked t (run l n w) ≡ false
+  pub run-calm : ((i : ℕ) → i < waitingCount l → eventWord t (eventAt l i) 0 ≤ eventWord t (eventOf w) 0) → higherWaits t (runArrival l n w) ≡ false
   run-calm leads =
-      leads-calm t (run l n w)
+      leads-calm t (runArrival l n w)
       (λ i b. let g : i < waitingCount l = rw run-waiting at b in rw (run-other (9 + i * 2) (omega arith), run-word) (leads i g))
 
 -- ---- a slot written
@@ -220,7 +220,7 @@ module _ (l : List ℕ) (b n w : ℕ) (h : 2048 ≤ length l) (c : b < 64) where
   pub slot-all : (P : ℕ → Type 0) → P w → (i : ℕ) → (i ≢ b → P (wordAt l i)) → P (wordAt (putSlot l b n w) i)
   slot-all P p i q = split (eqb i b) (λ e. rw (eqb-true i b e, slot-here) p) (λ e. let d = eqb-false i b e in rw (slot-there i d) (q d))
 
-module _ (t l : List ℕ) (s : Sound t l) where
+module _ (t l : List ℕ) (s : RoundSound t l) where
   abbrev n : ℕ
   n = waitingCount l
 
@@ -254,13 +254,13 @@ module _ (t l : List ℕ) (s : Sound t l) where
         rw (get-other (putSlot l b (numberAt l (n - 1)) (wordAt l (n - 1))) 1 (n - 1) (9 + i * 2) (omega arith))
         (slot-all l b (numberAt l (n - 1)) (wordAt l (n - 1)) (s .long) small P (p (n - 1) (omega arith)) i (λ _. p i (omega arith)))
 
-    pub started-sound : Sound t (startAt l b (n - 1) .1)
+    pub started-sound : RoundSound t (startAt l b (n - 1) .1)
     unfolding startAt
     started-sound =
         run-sound t moved (numberAt l b) (wordAt l b) moved-long (s .table) (s .whole) (rw moved-count (omega (arith, s .few-waiting)))
         (λ i h. moved-all (λ (x : ℕ). handFits (eventCount t) x ≡ true) (s .waiting-fit) i (rw moved-count at h)) (s .waiting-fit b here)
 
-    pub started-calm : outranked t (startAt l b (n - 1) .1) ≡ false
+    pub started-calm : higherWaits t (startAt l b (n - 1) .1) ≡ false
     unfolding startAt
     started-calm =
         run-calm t moved (numberAt l b) (wordAt l b) moved-long
@@ -286,13 +286,13 @@ module _ (t l : List ℕ) (s : Sound t l) where
     back-all : (P : ℕ → Type 0) → P (runningWord l) → ((i : ℕ) → i < n → P (wordAt l i)) → (i : ℕ) → i < n → P (wordAt put-back i)
     back-all P q p i h = slot-all l b (runningNumber l) (runningWord l) (s .long) few P q i (λ _. p i h)
 
-    pub preempted-sound : Sound t (preemptAt l b .1)
+    pub preempted-sound : RoundSound t (preemptAt l b .1)
     unfolding preemptAt
     preempted-sound =
         run-sound t put-back (numberAt l b) (wordAt l b) back-long (s .table) (s .whole) (rw back-count (s .room runs))
         (λ i h. back-all (λ (x : ℕ). handFits (eventCount t) x ≡ true) (s .running-fits runs) (s .waiting-fit) i (rw back-count at h)) (s .waiting-fit b there)
 
-    pub preempted-calm : eventWord t (runningEvent l) 0 < eventWord t (eventAt l b) 0 → outranked t (preemptAt l b .1) ≡ false
+    pub preempted-calm : eventWord t (runningEvent l) 0 < eventWord t (eventAt l b) 0 → higherWaits t (preemptAt l b .1) ≡ false
     unfolding preemptAt
     preempted-calm lower =
         run-calm t put-back (numberAt l b) (wordAt l b) back-long

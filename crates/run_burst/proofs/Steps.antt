@@ -14,23 +14,23 @@ use Rattle.lib_word.specs.Word.{get, put}
 use Rattle.format_layout.specs.Layout.{eventWord, waitingCount, runningFlag, runningWord, runningEvent, runningNumber, position, depth, markWord, numberAt, wordAt, eventAt, ours}
 use Rattle.format_layout.specs.Bounds.{TableBounds}
 use Rattle.format_layout.proofs.BoundsLaws.{table-bounds, hand-bound}
-use Rattle.run_start.specs.Start.{Result}
+use Rattle.run_start.specs.Start.{CallResult}
 use Rattle.run_queue.specs.Queue.{best}
-use Rattle.run_board.specs.Board.{masked}
-use Rattle.run_allowed.specs.Allowed.{allowed}
+use Rattle.run_board.specs.Board.{isMasked}
+use Rattle.run_allowed.specs.Allowed.{mayRun}
 use Rattle.run_instruction.specs.Instruction.{perform}
 use Rattle.run_dispatch.specs.Dispatch.{said, startAt, preemptAt}
-use Rattle.run_advance.specs.Advance.{commitSaid, countOn, executeOn, executeAt, advance}
-use Rattle.run_step.specs.Machine.{meet, contest, running, resting, stepWith, stepIn, stepOn}
-use Rattle.run_burst.specs.Sound.{Sound, outranked, pressedAfter, Ready, Made}
+use Rattle.run_advance.specs.Advance.{commitSaid, countInstruction, executeOn, executeAt, advanceOn}
+use Rattle.run_step.specs.Machine.{meet, contestOn, whileRunning, whileResting, stepWith, stepIn, stepOn}
+use Rattle.run_burst.specs.Sound.{RoundSound, higherWaits, pressedAfter, Ready, StepMade}
 use Rattle.run_burst.specs.Burst.{unmade, Performed, performOn, performAt}
 use Rattle.run_burst.proofs.Fits.{sound-ours, sound-over}
 use Rattle.run_burst.proofs.Moves.{ran-sound, ran-outranked, ran-position, ran-flag, ran-word, committed-sound, committed-calm, started-sound, started-calm, preempted-sound, preempted-calm}
 
 -- ---- which step it is
 
-module _ (t l : List ℕ) (s : Sound t l) where
-  pub step-rest : runningFlag l ≡ 0 → stepOn t l ≡ resting t l (waitingCount l)
+module _ (t l : List ℕ) (s : RoundSound t l) where
+  pub step-rest : runningFlag l ≡ 0 → stepOn t l ≡ whileResting t l (waitingCount l)
   unfolding stepOn stepIn stepWith
   step-rest f = rw (sound-ours t l s (λ g. absurd (g f)), eq-eqb (runningFlag l) 0 f)
 
@@ -39,36 +39,36 @@ module _ (t l : List ℕ) (s : Sound t l) where
   step-over f w = rw (sound-over t l s f w)
 
   module _ (f : runningFlag l ≢ 0) (w : position l < eventWord t (runningEvent l) 2) where
-    runs : stepOn t l ≡ running t l (waitingCount l)
+    runs : stepOn t l ≡ whileRunning t l (waitingCount l)
     unfolding stepOn stepIn stepWith
     runs = rw (sound-ours t l s (λ _. w), ne-eqb (runningFlag l) 0 f)
 
     -- the test that decides
-    pressed-is : waitingCount l ≢ 0 → outranked t l ≡ ltb (eventWord t (runningEvent l) 0) (eventWord t (eventAt l (best t l (waitingCount l))) 0)
-    unfolding outranked
+    pressed-is : waitingCount l ≢ 0 → higherWaits t l ≡ ltb (eventWord t (runningEvent l) 0) (eventWord t (eventAt l (best t l (waitingCount l))) 0)
+    unfolding higherWaits
     pressed-is n = rw (ne-eqb (runningFlag l) 0 f, ne-eqb (waitingCount l) 0 n)
 
-    pub step-calm : outranked t l ≡ false → stepOn t l ≡ advance t l
-    unfolding running contest meet
+    pub step-calm : higherWaits t l ≡ false → stepOn t l ≡ advanceOn t l
+    unfolding whileRunning contestOn meet
     step-calm o =
         let e = runningEvent l in
         runs
-        ∙ by-test (λ (x : Result). x ≡ advance t l) (eqb (waitingCount l) 0) (λ _. refl)
+        ∙ by-test (λ (x : CallResult). x ≡ advanceOn t l) (eqb (waitingCount l) 0) (λ _. refl)
         (λ n.
         let p : ltb (eventWord t e 0) (eventWord t (eventAt l (best t l (waitingCount l))) 0) ≡ false = sym (pressed-is (eqb-false (waitingCount l) 0 n)) ∙ o in
-        by-test (λ (x : Result). x ≡ advance t l) (masked (eventWord t e 2) (eventWord t e 3) (position l)) (λ _. refl) (λ _. rw p))
+        by-test (λ (x : CallResult). x ≡ advanceOn t l) (isMasked (eventWord t e 2) (eventWord t e 3) (position l)) (λ _. refl) (λ _. rw p))
 
     -- something waits
-    pub some-wait : outranked t l ≡ true → waitingCount l ≢ 0
-    unfolding outranked
+    pub some-wait : higherWaits t l ≡ true → waitingCount l ≢ 0
+    unfolding higherWaits
     some-wait o z = true≢false (sym o ∙ rw (ne-eqb (runningFlag l) 0 f, eq-eqb (waitingCount l) 0 z))
 
-    pub outranks : outranked t l ≡ true → eventWord t (runningEvent l) 0 < eventWord t (eventAt l (best t l (waitingCount l))) 0
+    pub outranks : higherWaits t l ≡ true → eventWord t (runningEvent l) 0 < eventWord t (eventAt l (best t l (waitingCount l))) 0
     outranks o = ltb-true (eventWord t (runningEvent l) 0) (eventWord t (eventAt l (best t l (waitingCount l))) 0) (sym (pressed-is (some-wait o)) ∙ o)
 
-    pub step-pressed : outranked t l ≡ true
-        → stepOn t l ≡ pick (masked (eventWord t (runningEvent l) 2) (eventWord t (runningEvent l) 3) (position l)) (advance t l) (preemptAt l (best t l (waitingCount l)))
-    unfolding running contest meet
+    pub step-pressed : higherWaits t l ≡ true
+        → stepOn t l ≡ pick (isMasked (eventWord t (runningEvent l) 2) (eventWord t (runningEvent l) 3) (position l)) (advanceOn t l) (preemptAt l (best t l (waitingCount l)))
+    unfolding whileRunning contestOn meet
     step-pressed o = runs ∙ rw (ne-eqb (waitingCount l) 0 (some-wait o), lt-ltb (eventWord t (runningEvent l) 0) (eventWord t (eventAt l (best t l (waitingCount l))) 0) (outranks o))
 
 -- ---- what it leaves
@@ -81,21 +81,21 @@ commit-kind : (n hand w : ℕ) → commitSaid n hand w % 16 ≢ 1
 unfolding commitSaid said
 commit-kind n hand w = by-test (λ (x : ℕ). x % 16 ≢ 1) (eqb w 0) (λ _. omega arith) (λ _. omega arith)
 
-module _ (t l : List ℕ) (s : Sound t l) (p : Bool) (is : outranked t l ≡ p) where
-  abbrev Fine : Result → Type 0
-  Fine o = Made t p (o .0) (o .1)
+module _ (t l : List ℕ) (s : RoundSound t l) (p : Bool) (is : higherWaits t l ≡ p) where
+  abbrev Fine : CallResult → Type 0
+  Fine o = StepMade t p (o .0) (o .1)
 
-  pub unmoved : (a : ℕ) → unmade a ≡ true → Made t p a l
+  pub unmoved : (a : ℕ) → unmade a ≡ true → StepMade t p a l
   unmoved a u = record { sound = s; rank = λ e. absurd (true≢false (sym u ∙ e)) }
 
-  pub advance-fine : Made t p (advance t l .0) (advance t l .1)
-  unfolding advance executeAt executeOn countOn pressedAfter unmade
+  pub advance-fine : StepMade t p (advanceOn t l .0) (advanceOn t l .1)
+  unfolding advanceOn executeAt executeOn countInstruction pressedAfter unmade
   advance-fine =
       let k = eventWord t (runningEvent l) 1 + position l in
       let a = get t (512 + k * 2) in
       let w = get t (513 + k * 2) in
       let c = position l in
-      by-test Fine (allowed (a / 256) (a % 256) (depth l))
+      by-test Fine (mayRun (a / 256) (a % 256) (depth l))
       (λ may. by-test Fine (ltb (c + 1) (eventWord t (runningEvent l) 2))
       (λ _. record {
         sound = ran-sound t l s (a / 256) (a % 256) w may (c + 1);
@@ -109,7 +109,7 @@ module _ (t l : List ℕ) (s : Sound t l) (p : Bool) (is : outranked t l ≡ p) 
       }))
       (λ _. unmoved 14 refl)
 
-  pub start-fine : 0 < waitingCount l → Made t p (startAt l (best t l (waitingCount l)) (waitingCount l - 1) .0) (startAt l (best t l (waitingCount l)) (waitingCount l - 1) .1)
+  pub start-fine : 0 < waitingCount l → StepMade t p (startAt l (best t l (waitingCount l)) (waitingCount l - 1) .0) (startAt l (best t l (waitingCount l)) (waitingCount l - 1) .1)
   unfolding startAt said
   start-fine h = record {
     sound = started-sound t l s h;
@@ -117,7 +117,7 @@ module _ (t l : List ℕ) (s : Sound t l) (p : Bool) (is : outranked t l ≡ p) 
   }
 
   pub preempt-fine : 0 < waitingCount l → runningFlag l ≢ 0 → eventWord t (runningEvent l) 0 < eventWord t (eventAt l (best t l (waitingCount l))) 0
-      → Made t p (preemptAt l (best t l (waitingCount l)) .0) (preemptAt l (best t l (waitingCount l)) .1)
+      → StepMade t p (preemptAt l (best t l (waitingCount l)) .0) (preemptAt l (best t l (waitingCount l)) .1)
   unfolding preemptAt said
   preempt-fine h f o = record {
     sound = preempted-sound t l s h f;
@@ -144,15 +144,15 @@ module _ {t l : List ℕ} {start c m : ℕ} (r : Ready t l start c m) where
   abbrev next : List ℕ
   next = put after 5 (c + 1)
 
-  module _ (some : 0 < m) (may : allowed (word / 256) (word % 256) (depth l) ≡ true) where
-    advance-ran : advance t l ≡ (1, next)
-    unfolding advance executeAt executeOn countOn
+  module _ (some : 0 < m) (may : mayRun (word / 256) (word % 256) (depth l) ≡ true) where
+    advance-ran : advanceOn t l ≡ (1, next)
+    unfolding advanceOn executeAt executeOn countInstruction
     advance-ran = rw (r .begins, r .at, may, lt-ltb (c + 1) (eventWord t (runningEvent l) 2) (omega (arith, r .ends)))
 
     step-ran : stepOn t l ≡ (1, next)
     step-ran = step-calm t l (r .sound) (r .runs) (rw (r .at) (omega (arith, r .ends))) (r .calm) ∙ advance-ran
 
-    same-rank : outranked t next ≡ outranked t l
+    same-rank : higherWaits t next ≡ higherWaits t l
     same-rank = ran-outranked t l (r .sound) (word / 256) (word % 256) (get t (513 + (start + c) * 2)) may (c + 1)
 
     same-word : runningWord next ≡ runningWord l
@@ -173,10 +173,10 @@ module _ {t l : List ℕ} {start c m : ℕ} (r : Ready t l start c m) where
 
   -- one that is allowed is the step, and the next is ready
   pub one-ran : {l′ : List ℕ} → 0 < m → (true, l′) ≡ performAt t l (start + c) (c + 1)
-      → (stepOn t l ≡ (1, l′)) × Ready t l′ start (c + 1) (m - 1) × (outranked t l′ ≡ outranked t l)
+      → (stepOn t l ≡ (1, l′)) × Ready t l′ start (c + 1) (m - 1) × (higherWaits t l′ ≡ higherWaits t l)
   unfolding performAt performOn
   one-ran {l′} h e =
-      split (allowed (word / 256) (word % 256) (depth l))
+      split (mayRun (word / 256) (word % 256) (depth l))
       (λ may.
       let q : l′ ≡ next = ap (λ (o : Performed). o .1) (rw may at e) in
       rw q (step-ran h may, next-ready h may, same-rank h may))

@@ -9,17 +9,17 @@ use lib.Dec.{ltb, eqb}
 use Rattle.lib_base.proofs.Tools.{by-test}
 use Rattle.lib_word.specs.Word.{get, put}
 use Rattle.format_layout.specs.Layout.{eventWord, waitingCount, runningFlag, runningWord, runningEvent, runningNumber, position, depth, markWord, eventAt, ours}
-use Rattle.run_start.specs.Start.{Result}
+use Rattle.run_start.specs.Start.{CallResult}
 use Rattle.run_queue.specs.Queue.{best}
-use Rattle.run_board.specs.Board.{masked}
-use Rattle.run_allowed.specs.Allowed.{allowed}
+use Rattle.run_board.specs.Board.{isMasked}
+use Rattle.run_allowed.specs.Allowed.{mayRun}
 use Rattle.run_instruction.specs.Instruction.{perform}
 use Rattle.run_dispatch.specs.Dispatch.{said, startAt, preemptAt}
-use Rattle.run_advance.specs.Advance.{commitSaid, countOn, executeOn, executeAt, advance}
-use Rattle.run_step.specs.Machine.{meet, contest, running, resting, stepWith, stepIn, stepOn}
+use Rattle.run_advance.specs.Advance.{commitSaid, countInstruction, executeOn, executeAt, advanceOn}
+use Rattle.run_step.specs.Machine.{meet, contestOn, whileRunning, whileResting, stepWith, stepIn, stepOn}
 
 -- an outcome that leaves l where its answer is idle or 14
-abbrev Stays : List ℕ → Result → Type 0
+abbrev Stays : List ℕ → CallResult → Type 0
 Stays l o = (o .0 ≡ 0 → o .1 ≡ l) × (o .0 ≡ 14 → o .1 ≡ l)
 
 start-stays : (l : List ℕ) (b m : ℕ) → Stays l (startAt l b m)
@@ -30,24 +30,24 @@ preempt-stays : (l : List ℕ) (b : ℕ) → Stays l (preemptAt l b)
 unfolding preemptAt said
 preempt-stays l b = (λ e. absurd (omega arith), λ e. absurd (omega arith))
 
-count-stays : (l l₀ : List ℕ) (c hand n len : ℕ) → Stays l₀ (countOn l c hand n len)
-unfolding countOn commitSaid said
+count-stays : (l l₀ : List ℕ) (c hand n len : ℕ) → Stays l₀ (countInstruction l c hand n len)
+unfolding countInstruction commitSaid said
 count-stays l l₀ c hand n len =
     by-test (Stays l₀) (ltb (c + 1) len) (λ _. (λ e. absurd (omega arith), λ e. absurd (omega arith)))
     (λ _. by-test (λ (a : ℕ). Stays l₀ (a, put l 2 0)) (eqb (markWord l) 0)
     (λ _. (λ e. absurd (omega arith), λ e. absurd (omega arith))) (λ _. (λ e. absurd (omega arith), λ e. absurd (omega arith))))
 
-advance-stays : (t l : List ℕ) → Stays l (advance t l)
-unfolding advance executeAt executeOn
+advance-stays : (t l : List ℕ) → Stays l (advanceOn t l)
+unfolding advanceOn executeAt executeOn
 advance-stays t l =
     let k = eventWord t (runningEvent l) 1 + position l in
     let a = get t (512 + k * 2) in
-    by-test (Stays l) (allowed (a / 256) (a % 256) (depth l))
+    by-test (Stays l) (mayRun (a / 256) (a % 256) (depth l))
     (λ _. count-stays (perform l (a / 256) (a % 256) (get t (513 + k * 2)) (depth l)) l (position l) (runningWord l) (runningNumber l) (eventWord t (runningEvent l) 2))
     (λ _. (λ e. refl, λ e. refl))
 
 in-stays : (t l : List ℕ) → Stays l (stepIn t l)
-unfolding stepIn stepWith resting running contest meet
+unfolding stepIn stepWith whileResting whileRunning contestOn meet
 in-stays t l =
     let n = waitingCount l in
     let b = best t l n in
@@ -55,7 +55,7 @@ in-stays t l =
     by-test (Stays l) (eqb (runningFlag l) 0)
     (λ _. by-test (Stays l) (eqb n 0) (λ _. (λ _. refl, λ _. refl)) (λ _. start-stays l b (n - 1)))
     (λ _. by-test (Stays l) (eqb n 0) (λ _. advance-stays t l)
-    (λ _. by-test (Stays l) (masked (eventWord t e 2) (eventWord t e 3) (position l)) (λ _. advance-stays t l)
+    (λ _. by-test (Stays l) (isMasked (eventWord t e 2) (eventWord t e 3) (position l)) (λ _. advance-stays t l)
     (λ _. by-test (Stays l) (ltb (eventWord t e 0) (eventWord t (eventAt l b) 0)) (λ _. preempt-stays l b) (λ _. advance-stays t l))))
 
 step-stays : (t l : List ℕ) → Stays l (stepOn t l)

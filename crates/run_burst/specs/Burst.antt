@@ -9,13 +9,13 @@ use Rattle.lib_word.specs.Word.{get, put}
 use Rattle.spec_language.specs.Refusals.{foreign}
 use Rattle.spec_language.specs.Answers as kinds
 use Rattle.format_layout.specs.Layout.{depth}
-use Rattle.run_allowed.specs.Allowed.{allowed}
+use Rattle.run_allowed.specs.Allowed.{mayRun}
 use Rattle.run_instruction.specs.Instruction.{perform}
 use Rattle.run_step.specs.Machine.{stepOn}
 
 -- a step that answers a commits: the kind is the remainder by 16
-abbrev pub commits : ℕ → Bool
-commits a = eqb (a % 16) kinds.committed
+abbrev pub isCommit : ℕ → Bool
+isCommit a = eqb (a % 16) kinds.committed
 
 -- a step that answers a is not made: idle, or refused
 unfoldable pub unmade : ℕ → Bool
@@ -23,7 +23,7 @@ unmade a = pick (eqb a kinds.idle) true (eqb a foreign)
 
 -- a burst ends there
 unfoldable pub stops : ℕ → Bool
-stops a = pick (unmade a) true (commits a)
+stops a = pick (unmade a) true (isCommit a)
 
 -- the answer, the steps left and the round's bytes
 abbrev pub Burst : Type 0
@@ -37,7 +37,7 @@ unfoldable pub burstOn : List ℕ → ℕ → List ℕ → Burst
 burstOn t zero l = (kinds.ran, 0, l)
 burstOn t (suc k) l =
     pick (unmade (stepOn t l .0)) (stepOn t l .0, suc k, l)
-    (pick (commits (stepOn t l .0)) (stepOn t l .0, k, stepOn t l .1)
+    (pick (isCommit (stepOn t l .0)) (stepOn t l .0, k, stepOn t l .1)
     (burstOn t k (stepOn t l .1)))
 
 -- ---- one instruction, k-th of the table, with which c are done: whether it may run, and the round's bytes
@@ -50,7 +50,7 @@ performed b l = (b, l)
 
 -- of first word a and constant w
 unfoldable pub performOn : List ℕ → ℕ → ℕ → ℕ → Performed
-performOn l a w c = pick (allowed (a / 256) (a % 256) (depth l)) (true, put (perform l (a / 256) (a % 256) w (depth l)) 5 c) (false, l)
+performOn l a w c = pick (mayRun (a / 256) (a % 256) (depth l)) (true, put (perform l (a / 256) (a % 256) w (depth l)) 5 c) (false, l)
 
 unfoldable pub performAt : List ℕ → List ℕ → ℕ → ℕ → Performed
 performAt t l k c = performOn l (get t (512 + k * 2)) (get t (513 + k * 2)) c

@@ -14,7 +14,7 @@ use Rattle.format_layout.specs.Layout.{eventCount, eventWord, tableFits, waitin
 use Rattle.run_queue.specs.Queue.{best}
 use Rattle.run_burst.specs.Burst.{Burst, unmade, stops, burstOn}
 
-pub record Sound (t l : List ℕ) : Type 0 where
+pub record RoundSound (t l : List ℕ) : Type 0 where
   pub table : tableFits t ≡ true
   pub whole : 34816 ≤ length t
   pub long : 2048 ≤ length l
@@ -24,8 +24,8 @@ pub record Sound (t l : List ℕ) : Type 0 where
   pub room : runningFlag l ≢ 0 → waitingCount l ≤ 63
   pub running-fits : runningFlag l ≢ 0 → handFits (eventCount t) (runningWord l) ≡ true
 
-unfoldable pub outranked : List ℕ → List ℕ → Bool
-outranked t l =
+unfoldable pub higherWaits : List ℕ → List ℕ → Bool
+higherWaits t l =
     pick (eqb (runningFlag l) 0) false
     (pick (eqb (waitingCount l) 0) false
     (ltb (eventWord t (runningEvent l) 0) (eventWord t (eventAt l (best t l (waitingCount l))) 0)))
@@ -37,26 +37,26 @@ pressedAfter pressed a = pick (eqb a kinds.ran) pressed false
 -- m instructions from instruction c on may be made at once: none of them is the last, and nothing outranks the running
 -- one, whose code begins at `start`
 pub record Ready (t l : List ℕ) (start c m : ℕ) : Type 0 where
-  pub sound : Sound t l
-  pub calm : outranked t l ≡ false
+  pub sound : RoundSound t l
+  pub calm : higherWaits t l ≡ false
   pub runs : runningFlag l ≢ 0
   pub at : position l ≡ c
   pub begins : eventWord t (runningEvent l) 1 ≡ start
   pub ends : c + m < eventWord t (runningEvent l) 2
 
 -- r instructions lead from l to l′
-pub record Ran (t l : List ℕ) (r : ℕ) (l′ : List ℕ) : Type 0 where
+pub record InstructionsRun (t l : List ℕ) (r : ℕ) (l′ : List ℕ) : Type 0 where
   pub same : (k : ℕ) → burstOn t (r + k) l ≡ burstOn t k l′
-  pub sound : Sound t l′
-  pub rank : outranked t l′ ≡ outranked t l
+  pub sound : RoundSound t l′
+  pub rank : higherWaits t l′ ≡ higherWaits t l
 
 -- a step that answered a left l
-pub record Made (t : List ℕ) (pressed : Bool) (a : ℕ) (l : List ℕ) : Type 0 where
-  pub sound : Sound t l
-  pub rank : unmade a ≡ false → outranked t l ≡ pressedAfter pressed a
+pub record StepMade (t : List ℕ) (pressed : Bool) (a : ℕ) (l : List ℕ) : Type 0 where
+  pub sound : RoundSound t l
+  pub rank : unmade a ≡ false → higherWaits t l ≡ pressedAfter pressed a
 
 -- of k steps from l some were made, to l′, the last of them answering a; k′ are left
 pub record Turned (t : List ℕ) (pressed : Bool) (k : ℕ) (l : List ℕ) (a k′ : ℕ) (l′ : List ℕ) : Type 0 where
   pub whole : burstOn t k l ≡ pick (stops a) (a, k′, l′) (burstOn t k′ l′)
   pub less : stops a ≡ false → k′ < k
-  pub made : Made t pressed a l′
+  pub made : StepMade t pressed a l′

@@ -8,10 +8,10 @@ ghost use lib.ListN.{length};
 ghost use Rattle.lib_word.specs.Word.{get};
 ghost use Rattle.format_layout.specs.Layout.{eventWord, eventOf, runningEvent, position};
 ghost use Rattle.format_layout.specs.Bounds.{Bounds};
-ghost use Rattle.run_start.specs.Start.{result};
+ghost use Rattle.run_start.specs.Start.{callResult};
 ghost use Rattle.run_step.specs.Machine.{stepOn};
-ghost use Rattle.run_burst.specs.Sound.{Sound, outranked, pressedAfter, Ready, Ran, Made, Turned};
-ghost use Rattle.run_burst.specs.Burst.{commits, unmade, stops, performed, performOn, performAt, burst, burstOn};
+ghost use Rattle.run_burst.specs.Sound.{RoundSound, higherWaits, pressedAfter, Ready, InstructionsRun, StepMade, Turned};
+ghost use Rattle.run_burst.specs.Burst.{isCommit, unmade, stops, performed, performOn, performAt, burst, burstOn};
 
 // The kinds of a step's answer.
 const KINDS: u64 = 16;
@@ -40,8 +40,8 @@ fn rank_at(table: &[u8], round: &[u8], k: usize) -> u32
 
 // Whether something that waits outranks the running arrival.
 fn is_outranked(table: &[u8], round: &[u8]) -> bool
-    requires { ⌜ Sound (now table) (now round) ⌝ }
-    ensures { λ r. ⌜ r ≡ outranked (now (table .entry)) (now (round .entry)) ⌝ }
+    requires { ⌜ RoundSound (now table) (now round) ⌝ }
+    ensures { λ r. ⌜ r ≡ higherWaits (now (table .entry)) (now (round .entry)) ⌝ }
 {
     if lib_word::get_word(round, format_layout::round::RUNNING) == 0 {
         return false;
@@ -87,7 +87,7 @@ fn perform_at(table: &[u8], round: &mut [u8], k: usize, c: u32) -> bool
 // were made: fewer where one may not run.
 fn perform_from(table: &[u8], round: &mut [u8], start: u32, from: u32, m: u32) -> u32
     requires { ⌜ Ready (now table) (now round) start from m ⌝ }
-    ensures { λ r. ⌜ Ran (now (table .entry)) (now (round .entry)) r (now (round .exit)) ⌝ }
+    ensures { λ r. ⌜ InstructionsRun (now (table .entry)) (now (round .entry)) r (now (round .exit)) ⌝ }
     ensures { λ r. ⌜ r ≤ m ⌝ }
 {
     let mut i = 0;
@@ -111,8 +111,8 @@ fn smaller_of(a: u32, b: u32) -> u32
 
 // Up to `most` instructions, none of them the last, where something runs and is not pressed. How many were made.
 fn instructions_on(table: &[u8], round: &mut [u8], most: u32, pressed: bool) -> u32
-    requires { ⌜ Sound (now table) (now round) × (outranked (now table) (now round) ≡ pressed) ⌝ }
-    ensures { λ r. ⌜ Ran (now (table .entry)) (now (round .entry)) r (now (round .exit)) ⌝ }
+    requires { ⌜ RoundSound (now table) (now round) × (higherWaits (now table) (now round) ≡ pressed) ⌝ }
+    ensures { λ r. ⌜ InstructionsRun (now (table .entry)) (now (round .entry)) r (now (round .exit)) ⌝ }
     ensures { λ r. ⌜ r ≤ most ⌝ }
 {
     if pressed {
@@ -135,9 +135,9 @@ fn instructions_on(table: &[u8], round: &mut [u8], most: u32, pressed: bool) -> 
 
 // Nothing runs: the next starts, or there is nothing to do.
 fn rest_on(table: &[u8], round: &mut [u8]) -> u64
-    requires { ⌜ Sound (now table) (now round) × (get (now round) 2 ≡ 0) ⌝ }
-    ensures { λ r. ⌜ result r (now (round .exit)) ≡ stepOn (now (table .entry)) (now (round .entry)) ⌝ }
-    ensures { λ r. ⌜ Made (now (table .entry)) false r (now (round .exit)) ⌝ }
+    requires { ⌜ RoundSound (now table) (now round) × (get (now round) 2 ≡ 0) ⌝ }
+    ensures { λ r. ⌜ callResult r (now (round .exit)) ≡ stepOn (now (table .entry)) (now (round .entry)) ⌝ }
+    ensures { λ r. ⌜ StepMade (now (table .entry)) false r (now (round .exit)) ⌝ }
 {
     let n = lib_word::get_word(round, format_layout::round::WAITING);
     if n == 0 {
@@ -149,9 +149,9 @@ fn rest_on(table: &[u8], round: &mut [u8]) -> u64
 
 // Something runs and is outranked: masked it goes on, else the next preempts it.
 fn contest_on(table: &[u8], round: &mut [u8]) -> u64
-    requires { ⌜ Sound (now table) (now round) × (outranked (now table) (now round) ≡ true) × (position (now round) < eventWord (now table) (runningEvent (now round)) 2) ⌝ }
-    ensures { λ r. ⌜ result r (now (round .exit)) ≡ stepOn (now (table .entry)) (now (round .entry)) ⌝ }
-    ensures { λ r. ⌜ Made (now (table .entry)) true r (now (round .exit)) ⌝ }
+    requires { ⌜ RoundSound (now table) (now round) × (higherWaits (now table) (now round) ≡ true) × (position (now round) < eventWord (now table) (runningEvent (now round)) 2) ⌝ }
+    ensures { λ r. ⌜ callResult r (now (round .exit)) ≡ stepOn (now (table .entry)) (now (round .entry)) ⌝ }
+    ensures { λ r. ⌜ StepMade (now (table .entry)) true r (now (round .exit)) ⌝ }
 {
     let e = format_layout::event_at(round, format_layout::round::RUNNING_WORD);
     let len = format_layout::event_word(&*table, e, format_layout::table::CODE_LENGTH);
@@ -167,7 +167,7 @@ fn contest_on(table: &[u8], round: &mut [u8]) -> u64
 
 // Whether the running arrival has no instruction left: an event of none, of a damaged table.
 fn is_over(table: &[u8], round: &[u8]) -> bool
-    requires { ⌜ Sound (now table) (now round) ⌝ }
+    requires { ⌜ RoundSound (now table) (now round) ⌝ }
     ensures { λ r. ⌜ (r ≡ true → eventWord (now (table .entry)) (runningEvent (now (round .entry))) 2 ≤ position (now (round .entry))) ⌝ }
     ensures { λ r. ⌜ (r ≡ false → position (now (round .entry)) < eventWord (now (table .entry)) (runningEvent (now (round .entry))) 2) ⌝ }
 {
@@ -178,9 +178,9 @@ fn is_over(table: &[u8], round: &[u8]) -> bool
 
 // The next step; pressed: the running arrival is outranked.
 fn next_on(table: &[u8], round: &mut [u8], pressed: bool) -> u64
-    requires { ⌜ Sound (now table) (now round) × (outranked (now table) (now round) ≡ pressed) ⌝ }
-    ensures { λ r. ⌜ result r (now (round .exit)) ≡ stepOn (now (table .entry)) (now (round .entry)) ⌝ }
-    ensures { λ r. ⌜ Made (now (table .entry)) pressed r (now (round .exit)) ⌝ }
+    requires { ⌜ RoundSound (now table) (now round) × (higherWaits (now table) (now round) ≡ pressed) ⌝ }
+    ensures { λ r. ⌜ callResult r (now (round .exit)) ≡ stepOn (now (table .entry)) (now (round .entry)) ⌝ }
+    ensures { λ r. ⌜ StepMade (now (table .entry)) pressed r (now (round .exit)) ⌝ }
 {
     if lib_word::get_word(round, format_layout::round::RUNNING) == 0 {
         return rest_on(&*table, round);
@@ -227,7 +227,7 @@ fn is_pressed_after(pressed: bool, a: u64) -> bool
 
 // Of `left` steps the instructions that can be made at once, and one step more.
 fn turn_on(table: &[u8], round: &mut [u8], left: u32, pressed: bool) -> Stop
-    requires { ⌜ Sound (now table) (now round) × (outranked (now table) (now round) ≡ pressed) × (0 < left) ⌝ }
+    requires { ⌜ RoundSound (now table) (now round) × (higherWaits (now table) (now round) ≡ pressed) × (0 < left) ⌝ }
     ensures { λ r. ⌜ Turned (now (table .entry)) pressed left (now (round .entry)) (r .answer) (r .left) (now (round .exit)) ⌝ }
 {
     let done = instructions_on(&*table, round, left, pressed);
@@ -252,9 +252,9 @@ fn turn_on(table: &[u8], round: &mut [u8], left: u32, pressed: bool) -> Stop
 
 // Up to `most` steps, until one commits, is idle or is refused.
 pub fn burst_on(table: &[u8], round: &mut [u8], most: u32) -> Stop
-    requires { ⌜ Sound (now table) (now round) ⌝ }
+    requires { ⌜ RoundSound (now table) (now round) ⌝ }
     ensures { λ r. ⌜ burst (r .answer) (r .left) (now (round .exit)) ≡ burstOn (now (table .entry)) most (now (round .entry)) ⌝ }
-    ensures { λ _. ⌜ Sound (now (table .entry)) (now (round .exit)) ⌝ }
+    ensures { λ _. ⌜ RoundSound (now (table .entry)) (now (round .exit)) ⌝ }
 {
     let mut pressed = is_outranked(&*table, round);
     let mut left = most;

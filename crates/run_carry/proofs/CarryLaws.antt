@@ -7,7 +7,7 @@ use native.Mathlib.Omega.{arith}
 use lib.ListN.{length}
 use Rattle.lib_word.specs.Word.{get, put}
 use Rattle.lib_word.proofs.Laws.{length-put, get-other}
-use Rattle.run_carry.specs.Carry.{valueFor, fillAt, filled}
+use Rattle.run_carry.specs.Carry.{valueFor, fillAt, filledStore}
 
 pub length-fillAt : (m : List ℕ) (i v : ℕ) → length (fillAt m i v) ≡ length m
 unfolding fillAt
@@ -18,12 +18,12 @@ unfolding fillAt
 fillAt-head m i v k h = get-other (put m (136 + i) v) (200 + i) v k (omega arith) ∙ get-other m (136 + i) v k (omega arith)
 
 module _ (old t l m : List ℕ) where
-  pub length-filled : (n : ℕ) → length (filled old t l m n) ≡ length m
-  unfolding filled
+  pub length-filled : (n : ℕ) → length (filledStore old t l m n) ≡ length m
+  unfolding filledStore
   length-filled zero = refl
-  length-filled (suc n) = length-fillAt (filled old t l m n) n (valueFor old t l n) ∙ length-filled n
+  length-filled (suc n) = length-fillAt (filledStore old t l m n) n (valueFor old t l n) ∙ length-filled n
 
-  pub filled-head : (n k : ℕ) → k < 136 → get (filled old t l m n) k ≡ get m k
-  unfolding filled
+  pub filled-head : (n k : ℕ) → k < 136 → get (filledStore old t l m n) k ≡ get m k
+  unfolding filledStore
   filled-head zero k h = refl
-  filled-head (suc n) k h = fillAt-head (filled old t l m n) n (valueFor old t l n) k h ∙ filled-head n k h
+  filled-head (suc n) k h = fillAt-head (filledStore old t l m n) n (valueFor old t l n) k h ∙ filled-head n k h

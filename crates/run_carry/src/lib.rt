@@ -8,15 +8,15 @@ ghost use mathlib.Core.Path.{_≡_};
 ghost use Prim.Native.Nat.{_+_, _≤_, _<_};
 ghost use lib.ListN.{length};
 ghost use Rattle.lib_word.specs.Word.{get};
-ghost use Rattle.run_start.specs.Start.{result};
-ghost use Rattle.run_carry.specs.Carry.{activeIn, valueFor, fillAt, filled, carryOn, shownFor, shown};
+ghost use Rattle.run_start.specs.Start.{callResult};
+ghost use Rattle.run_carry.specs.Carry.{activeInTable, valueFor, fillAt, filledStore, carryOn, shownFor, storeShown};
 
 // ---- what each behaviour begins with
 
 // Whether a behaviour is one of the table's, and an active.
 fn is_active(table: &[u8], behaviour: usize) -> bool
     requires { ⌜ (34816 ≤ length (now table)) × (behaviour < 64) ⌝ }
-    ensures { λ r. ⌜ r ≡ activeIn (now (table .entry)) behaviour ⌝ }
+    ensures { λ r. ⌜ r ≡ activeInTable (now (table .entry)) behaviour ⌝ }
 {
     if behaviour < (lib_word::get_word(table, table::BEHAVIOUR_COUNT) as usize) {
         return lib_word::get_word(table, table::KINDS + behaviour) == 0;
@@ -50,7 +50,7 @@ fn fill_at(values: &mut [u8], behaviour: usize, value: u32)
 
 fn fill(old: &[u8], table: &[u8], round: &[u8], values: &mut [u8])
     requires { ⌜ (34816 ≤ length (now old)) × (34816 ≤ length (now table)) × (2048 ≤ length (now round)) × (2048 ≤ length (now values)) ⌝ }
-    ensures { λ _. ⌜ now (values .exit) ≡ filled (now (old .entry)) (now (table .entry)) (now (round .entry)) (now (values .entry)) 64 ⌝ }
+    ensures { λ _. ⌜ now (values .exit) ≡ filledStore (now (old .entry)) (now (table .entry)) (now (round .entry)) (now (values .entry)) 64 ⌝ }
 {
     let mut i = 0;
     while i < limits::BEHAVIOURS {
@@ -67,7 +67,7 @@ fn fill(old: &[u8], table: &[u8], round: &[u8], values: &mut [u8])
 pub fn carry_on(old: &[u8], table: &[u8], round: &[u8], values: &mut [u8]) -> u32
     requires { ⌜ (34816 ≤ length (now old)) × (34816 ≤ length (now table)) × (2048 ≤ length (now round)) × (2048 ≤ length (now values)) ⌝ }
     requires { ⌜ get (now values) 6 ≤ 64 ⌝ }
-    ensures { λ r. ⌜ result r (now (values .exit)) ≡ carryOn (now (old .entry)) (now (table .entry)) (now (round .entry)) (now (values .entry)) ⌝ }
+    ensures { λ r. ⌜ callResult r (now (values .exit)) ≡ carryOn (now (old .entry)) (now (table .entry)) (now (round .entry)) (now (values .entry)) ⌝ }
 {
     fill(old, table, round, values);
     let start = lib_word::get_word(table, table::PASSIVES_START);
@@ -75,7 +75,7 @@ pub fn carry_on(old: &[u8], table: &[u8], round: &[u8], values: &mut [u8]) -> u3
     if !format_layout::code_fits(start, length) {
         return refusals::FOREIGN;
     }
-    run_stretch::settle_from(table, start as usize, length as usize, values)
+    run_stretch::execute_from(table, start as usize, length as usize, values)
 }
 
 // ---- what the board shows then
@@ -94,7 +94,7 @@ fn shown_for(table: &[u8], values: &[u8], behaviour: usize) -> u32
 // The values that `carry_on` left go into the round's store.
 pub fn show(table: &[u8], values: &[u8], round: &mut [u8])
     requires { ⌜ (34816 ≤ length (now table)) × (2048 ≤ length (now values)) × (2048 ≤ length (now round)) ⌝ }
-    ensures { λ _. ⌜ now (round .exit) ≡ shown (now (table .entry)) (now (values .entry)) (now (round .entry)) 64 ⌝ }
+    ensures { λ _. ⌜ now (round .exit) ≡ storeShown (now (table .entry)) (now (values .entry)) (now (round .entry)) 64 ⌝ }
 {
     let mut i = 0;
     while i < limits::BEHAVIOURS {

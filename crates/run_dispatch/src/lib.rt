@@ -4,8 +4,8 @@ use spec_language::answers;
 ghost use mathlib.Core.Path.{_≡_};
 ghost use Prim.Native.Nat.{_≤_, _<_};
 ghost use lib.ListN.{length};
-ghost use Rattle.run_start.specs.Start.{result};
-ghost use Rattle.run_dispatch.specs.Dispatch.{saidOf, run, startAt, preemptAt};
+ghost use Rattle.run_start.specs.Start.{callResult};
+ghost use Rattle.run_dispatch.specs.Dispatch.{saidOf, runArrival, startAt, preemptAt};
 
 // The answer of a kind about an arrival, from its number and the word of its event and player.
 pub fn said_of(kind: u64, number: u32, word: u32) -> u64
@@ -20,7 +20,7 @@ pub fn said_of(kind: u64, number: u32, word: u32) -> u64
 // An arrival runs: none of its instructions done, the evaluation stack empty, no mark.
 fn run_on(round: &mut [u8], number: u32, word: u32)
     requires { ⌜ 2048 ≤ length (now round) ⌝ }
-    ensures { λ _. ⌜ now (round .exit) ≡ run (now (round .entry)) number word ⌝ }
+    ensures { λ _. ⌜ now (round .exit) ≡ runArrival (now (round .entry)) number word ⌝ }
 {
     lib_word::put_word(round, round::RUNNING, 1);
     lib_word::put_word(round, round::RUNNING_WORD, word);
@@ -33,7 +33,7 @@ fn run_on(round: &mut [u8], number: u32, word: u32)
 // What waits in a slot starts, and the last waiting moves into its place.
 pub fn start_at(round: &mut [u8], slot: usize, last: usize) -> u64
     requires { ⌜ (2048 ≤ length (now round)) × (slot < 64) × (last < 64) ⌝ }
-    ensures { λ r. ⌜ result r (now (round .exit)) ≡ startAt (now (round .entry)) slot last ⌝ }
+    ensures { λ r. ⌜ callResult r (now (round .exit)) ≡ startAt (now (round .entry)) slot last ⌝ }
 {
     let number = lib_word::get_word(round, round::NUMBERS + slot * 2);
     let word = lib_word::get_word(round, round::WORDS + slot * 2);
@@ -48,7 +48,7 @@ pub fn start_at(round: &mut [u8], slot: usize, last: usize) -> u64
 // What waits in a slot starts, and the running one goes into its place under its old number.
 pub fn preempt_at(round: &mut [u8], slot: usize) -> u64
     requires { ⌜ (2048 ≤ length (now round)) × (slot < 64) ⌝ }
-    ensures { λ r. ⌜ result r (now (round .exit)) ≡ preemptAt (now (round .entry)) slot ⌝ }
+    ensures { λ r. ⌜ callResult r (now (round .exit)) ≡ preemptAt (now (round .entry)) slot ⌝ }
 {
     let number = lib_word::get_word(round, round::NUMBERS + slot * 2);
     let word = lib_word::get_word(round, round::WORDS + slot * 2);

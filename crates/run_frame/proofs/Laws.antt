@@ -14,8 +14,8 @@ use Rattle.lib_base.proofs.Tools.{by-test, split}
 use Rattle.lib_word.proofs.Laws.{length-put}
 use Rattle.format_layout.specs.Layout.{ours}
 use Rattle.run_step.specs.Machine.{stepOn}
-use Rattle.run_burst.specs.Sound.{Sound}
-use Rattle.run_burst.specs.Burst.{commits, unmade, Burst, burst, burstOn}
+use Rattle.run_burst.specs.Sound.{RoundSound}
+use Rattle.run_burst.specs.Burst.{isCommit, unmade, Burst, burst, burstOn}
 use Rattle.run_burst.proofs.Glue.{left-at-most, left-fewer}
 use Rattle.run_frame.specs.Frame.{Framed, framed, frameSaid, roomFor, putAnswer, countAfter, commitsAfter, frameFrom, refusedFrame, frameOn}
 
@@ -25,11 +25,11 @@ length-putAnswer b n a = simp length-put
 
 length-commits : (a n : ℕ) (b : List ℕ) → length (commitsAfter a n b) ≡ length b
 unfolding commitsAfter
-length-commits a n b = by-test (λ (x : List ℕ). length x ≡ length b) (commits a) (λ _. length-putAnswer b n a) (λ _. refl)
+length-commits a n b = by-test (λ (x : List ℕ). length x ≡ length b) (isCommit a) (λ _. length-putAnswer b n a) (λ _. refl)
 
 count-most : (a n : ℕ) → countAfter a n ≤ n + 1
 unfolding countAfter
-count-most a n = by-test (λ (x : ℕ). x ≤ n + 1) (commits a) (λ _. omega arith) (λ _. omega arith)
+count-most a n = by-test (λ (x : ℕ). x ≤ n + 1) (isCommit a) (λ _. omega arith) (λ _. omega arith)
 
 -- ---- a frame goes on after a burst
 
@@ -52,7 +52,7 @@ module _ (t : List ℕ) (room : ℕ) where
       let same : m + 1 + k ≡ m + suc k = omega arith in
       split (eqb a 0) (λ e. rw (free, e, here, e))
       (λ e. split (eqb a 14) (λ f. rw (free, e, f, here, e, f))
-      (λ f. split (commits a) (λ c. rw (free, e, f, c, next, e, f, c))
+      (λ f. split (isCommit a) (λ c. rw (free, e, f, c, next, e, f, c))
       (λ c. rw (free, e, f, c) (rw same at (frame-burst k (m + 1) n (stepOn t l .1) b h)))))
 
 no-room : (t : List ℕ) (room : ℕ) (l b : List ℕ) (k m n : ℕ) → 0 < k → room ≤ n → frameFrom t room k m n l b ≡ (frameSaid 3 m n, l, b)
@@ -64,13 +64,13 @@ no-room t room l b (suc k) m n h g = rw (le-leb room n g)
 
 pub record Turn (t l₀ : List ℕ) (steps room : ℕ) (b₀ : List ℕ) (l b : List ℕ) (k n : ℕ) : Type 0 where
   pub whole : frameFrom t room k (steps - k) n l b ≡ frameFrom t room steps 0 0 l₀ b₀
-  pub sound : Sound t l
+  pub sound : RoundSound t l
   pub within : k ≤ steps
   pub few : n ≤ room
   pub round-long : length l ≡ length l₀
   pub commits-long : length b ≡ length b₀
 
-pub begin : {t l b : List ℕ} {steps room : ℕ} → Sound t l → Turn t l steps room b l b steps 0
+pub begin : {t l b : List ℕ} {steps room : ℕ} → RoundSound t l → Turn t l steps room b l b steps 0
 begin {t} {l} {b} {steps} {room} s =
     let z : steps - steps ≡ 0 = omega arith in
     record { whole = rw z; sound = s; within = omega arith; few = omega arith; round-long = refl; commits-long = refl }
@@ -107,7 +107,7 @@ module _ {t l₀ : List ℕ} {steps room : ℕ} {b₀ l b : List ℕ} {k n : ℕ
     unfolding unmade
     falls x y = left-fewer t l k made some (rw (ne-eqb a 0 x, ne-eqb a 14 y))
 
-    pub turn : {n′ : ℕ} {b′ : List ℕ} → a ≢ 0 → a ≢ 14 → Sound t l′ → n′ ≡ countAfter a n → b′ ≡ commitsAfter a n b → length l′ ≡ length l
+    pub turn : {n′ : ℕ} {b′ : List ℕ} → a ≢ 0 → a ≢ 14 → RoundSound t l′ → n′ ≡ countAfter a n → b′ ≡ commitsAfter a n b → length l′ ≡ length l
         → Turn t l₀ steps room b₀ l′ b′ k′ n′
     unfolding goesOn
     turn {n′} {b′} x y s c d w = record {

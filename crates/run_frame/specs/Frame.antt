@@ -9,7 +9,7 @@ use Rattle.lib_word.specs.Word.{put}
 use Rattle.spec_language.specs.Refusals.{foreign}
 use Rattle.spec_language.specs.Answers as kinds
 use Rattle.run_step.specs.Machine.{stepOn}
-use Rattle.run_burst.specs.Burst.{commits}
+use Rattle.run_burst.specs.Burst.{isCommit}
 
 -- ---- the answer
 
@@ -48,10 +48,10 @@ putAnswer b n a = put (put b (n * 2) (a / 4294967296)) (n * 2 + 1) (a % 42949672
 
 -- after a step that answered a: how many are written, and the bytes
 unfoldable pub countAfter : ℕ → ℕ → ℕ
-countAfter a n = pick (commits a) (n + 1) n
+countAfter a n = pick (isCommit a) (n + 1) n
 
 unfoldable pub commitsAfter : ℕ → ℕ → List ℕ → List ℕ
-commitsAfter a n b = pick (commits a) (putAnswer b n a) b
+commitsAfter a n b = pick (isCommit a) (putAnswer b n a) b
 
 -- ---- the frame
 

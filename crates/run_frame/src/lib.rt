@@ -3,7 +3,7 @@ ghost use mathlib.Core.Path.{_≡_};
 ghost use Prim.Native.Nat.{_+_, _*_, _≤_, _<_};
 ghost use lib.ListN.{length};
 ghost use Rattle.run_frame.specs.Frame.{roomFor, frameSaid, putAnswer, countAfter, commitsAfter, framed, frameFrom, refusedFrame, frameOn};
-ghost use Rattle.run_burst.specs.Sound.{Sound};
+ghost use Rattle.run_burst.specs.Sound.{RoundSound};
 
 // Why a frame ended: all steps made, nothing to do, a step refused, no room for a further commit.
 pub const ALL_MADE: u64 = 0;
@@ -84,7 +84,7 @@ fn refused_of(steps: u32, room: u32) -> u64
 
 // Table and round are judged. There is room for so many commits.
 fn frame_in(table: &[u8], round: &mut [u8], steps: u32, room: u32, commits: &mut [u8]) -> u64
-    requires { ⌜ Sound (now table) (now round) × (room < 16777216) × (room * 8 ≤ length (now commits)) ⌝ }
+    requires { ⌜ RoundSound (now table) (now round) × (room < 16777216) × (room * 8 ≤ length (now commits)) ⌝ }
     ensures { λ r. ⌜ framed r (now (round .exit)) (now (commits .exit)) ≡ frameFrom (now (table .entry)) room steps 0 0 (now (round .entry)) (now (commits .entry)) ⌝ }
 {
     let mut left = steps;

@@ -8,7 +8,7 @@ ghost use lib.ListN.{length};
 ghost use Rattle.lib_word.specs.Word.{get};
 ghost use Rattle.run_stack.specs.Stack.{pushOn};
 ghost use Rattle.run_instruction.specs.Instruction.{transfer, perform};
-ghost use Rattle.run_allowed.specs.Allowed.{allowed};
+ghost use Rattle.run_allowed.specs.Allowed.{mayRun};
 
 fn transfer_word(round: &mut [u8], from: usize, to: usize)
     requires { ⌜ (2048 ≤ length (now round)) × (from < 512) × (to < 512) ⌝ }
@@ -29,7 +29,7 @@ fn push_word(round: &mut [u8], depth: u32, from: usize)
 // An operation, with slot and constant, on the round's bytes; its stack has that depth. It is one that `is_allowed`
 // allows. Off, on and whatever is none of ours bring no value over.
 pub fn perform_on(round: &mut [u8], operation: u32, slot: u32, constant: u32, depth: u32)
-    requires { ⌜ (2048 ≤ length (now round)) × (depth ≤ 64) × (allowed operation slot depth ≡ true) ⌝ }
+    requires { ⌜ (2048 ≤ length (now round)) × (depth ≤ 64) × (mayRun operation slot depth ≡ true) ⌝ }
     ensures { λ _. ⌜ now (round .exit) ≡ perform (now (round .entry)) operation slot constant depth ⌝ }
 {
     let k = slot as usize;

@@ -11,9 +11,9 @@ use Rattle.lib_word.specs.Word.{put}
 use Rattle.spec_language.specs.Refusals.{foreign, settling, undeclaredInHand}
 use Rattle.format_layout.specs.Layout.{eventCount, tableFits, waitingCount, runningFlag, runningEvent, runningWord, runningNumber, eventAt, ours}
 use Rattle.run_queue.specs.Queue.{putSlot}
-use Rattle.run_start.specs.Start.{Result}
-use Rattle.run_carry.specs.Carry.{carryOn, shown}
-use Rattle.run_board.specs.Board.{settlingOn}
+use Rattle.run_start.specs.Start.{CallResult}
+use Rattle.run_carry.specs.Carry.{carryOn, storeShown}
+use Rattle.run_board.specs.Board.{copyBackOn}
 
 -- ---- the hand
 
@@ -46,19 +46,19 @@ verdict a s k = pick (eqb a 0) (pick s settling (pick k 0 undeclaredInHand)) a
 
 -- "The hand, its players, arrival numbers and the number taken in remain"; the values are those that m holds
 unfoldable pub mended : List ℕ → List ℕ → List ℕ → List ℕ
-mended t m l = shown t m (rested (backInHand l (waitingCount l) (runningFlag l) (runningNumber l) (runningWord l))) 64
+mended t m l = storeShown t m (rested (backInHand l (waitingCount l) (runningFlag l) (runningNumber l) (runningWord l))) 64
 
-unfoldable pub mendWith : List ℕ → List ℕ → List ℕ → ℕ → Result
+unfoldable pub mendWith : List ℕ → List ℕ → List ℕ → ℕ → CallResult
 mendWith t m l v = pick (eqb v 0) (0, mended t m l) (v, l)
 
 -- r: the passives' answer, and the bytes that they were worked out in
-unfoldable pub mendAfter : List ℕ → List ℕ → List ℕ → Result → Result
-mendAfter old t l r = mendWith t (r .1) l (verdict (r .0) (settlingOn old l) (handKnown t l))
+unfoldable pub mendAfter : List ℕ → List ℕ → List ℕ → CallResult → CallResult
+mendAfter old t l r = mendWith t (r .1) l (verdict (r .0) (copyBackOn old l) (handKnown t l))
 
-unfoldable pub mendIn : List ℕ → List ℕ → List ℕ → Result
+unfoldable pub mendIn : List ℕ → List ℕ → List ℕ → CallResult
 mendIn old t l = mendAfter old t l (carryOn old t l (replicate 2048 0))
 
 -- "14, which looks at the round with the old table, at the new table's length, counts and code, and at each instruction
 -- that the passives need"
-unfoldable pub mendOn : List ℕ → List ℕ → List ℕ → Result
+unfoldable pub mendOn : List ℕ → List ℕ → List ℕ → CallResult
 mendOn old t l = pick (ours old l) (pick (tableFits t) (mendIn old t l) (foreign, l)) (foreign, l)

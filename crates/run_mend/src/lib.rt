@@ -9,7 +9,7 @@ ghost use Prim.Native.Nat.{_≤_};
 ghost use lib.ListN.{length};
 ghost use Rattle.format_layout.specs.Layout.{waitingCount, runningFlag, runningNumber, runningWord};
 ghost use Rattle.format_layout.specs.Bounds.{TableBounds};
-ghost use Rattle.run_start.specs.Start.{result};
+ghost use Rattle.run_start.specs.Start.{callResult};
 ghost use Rattle.run_mend.specs.Mending.{waitingKnown, handKnown, backInHand, rested, mendOn};
 
 // ---- the hand
@@ -75,7 +75,7 @@ fn rest(round: &mut [u8])
 // The round of the old table is carried to the new one (02, M-112). 0, or the refusal's number, the first of 14, 19 and
 // 28 that fits.
 pub fn mend_at(old: &[u8], table: &[u8], round: &mut [u8]) -> u32
-    ensures { λ r. ⌜ result r (now (round .exit)) ≡ mendOn (now (old .entry)) (now (table .entry)) (now (round .entry)) ⌝ }
+    ensures { λ r. ⌜ callResult r (now (round .exit)) ≡ mendOn (now (old .entry)) (now (table .entry)) (now (round .entry)) ⌝ }
 {
     if !run_validate::is_ours(old, round) {
         return refusals::FOREIGN;
@@ -89,7 +89,7 @@ pub fn mend_at(old: &[u8], table: &[u8], round: &mut [u8]) -> u32
     if answer != 0 {
         return answer;
     }
-    if run_board::settling_at(old, round) {
+    if run_board::copy_back_at(old, round) {
         return refusals::SETTLING;
     }
     if !hand_known(table, round) {

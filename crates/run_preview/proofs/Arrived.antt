@@ -15,15 +15,15 @@ use Rattle.lib_word.proofs.Laws.{length-put, get-same, get-other}
 use Rattle.spec_language.specs.Rights.{may}
 use Rattle.format_layout.specs.Layout.{eventCount, sendersAt, handWord, eventOf, playerOf, taken, waitingCount, runningFlag, wordAt, handFits, ours}
 use Rattle.format_layout.proofs.BoundsLaws.{table-bounds}
-use Rattle.run_start.specs.Start.{Result, result}
+use Rattle.run_start.specs.Start.{CallResult, callResult}
 use Rattle.run_queue.specs.Queue.{putSlot}
-use Rattle.run_arrive.specs.Arrivals.{admit, full, arriveWith, arriveKnown, arriveIn, arriveOn}
-use Rattle.run_burst.specs.Sound.{Sound}
+use Rattle.run_arrive.specs.Arrivals.{admit, queueFull, arriveWith, arriveKnown, arriveIn, arriveOn}
+use Rattle.run_burst.specs.Sound.{RoundSound}
 use Rattle.run_burst.proofs.Fits.{ours-sound}
 use Rattle.run_burst.proofs.Moves.{slot-length, slot-waiting, slot-here, slot-there}
 
-not-full : (n f : ℕ) → full n f ≡ false → (n < 64) × (f ≢ 0 → n < 63)
-unfolding full
+not-full : (n f : ℕ) → queueFull n f ≡ false → (n < 64) × (f ≢ 0 → n < 63)
+unfolding queueFull
 not-full n f h =
     split (eqb f 0) (λ e. (leb-false 64 n (rw e at h), λ g. absurd (g (eqb-true f 0 e))))
     (λ e. let k : n < 63 = leb-false 63 n (rw e at h) in (omega arith, λ _. k))
@@ -35,7 +35,7 @@ word-fits known e who a b c =
     let y : playerOf (handWord e who) ≡ who = omega arith in
     rw (x, y, lt-leb known e b, lt-ltb who 8 c)
 
-module _ (t l : List ℕ) (s : Sound t l) (e who k : ℕ) (declared : e < eventCount t) (one-of : who < 8) (room : full (waitingCount l) (runningFlag l) ≡ false) where
+module _ (t l : List ℕ) (s : RoundSound t l) (e who k : ℕ) (declared : e < eventCount t) (one-of : who < 8) (room : queueFull (waitingCount l) (runningFlag l) ≡ false) where
   abbrev n : ℕ
   n = waitingCount l
 
@@ -76,7 +76,7 @@ module _ (t l : List ℕ) (s : Sound t l) (e who k : ℕ) (declared : e < eventC
       (λ q. rw (eqb-true i n q, slot-here l n k w (s .long) small) (word-fits (eventCount t) e who (table-bounds t (s .table) .few-events) declared one-of))
       (λ q. let d = eqb-false i n q in rw (slot-there l n k w (s .long) small i d) (s .waiting-fit i (omega arith))))
 
-  admit-sound : Sound t (admit l e who n k)
+  admit-sound : RoundSound t (admit l e who n k)
   unfolding admit
   admit-sound = record {
     table = s .table;
@@ -89,21 +89,21 @@ module _ (t l : List ℕ) (s : Sound t l) (e who k : ℕ) (declared : e < eventC
     running-fits = λ f. rw (other 3 (omega arith) (omega arith) (omega arith)) (s .running-fits (rw (other 2 (omega arith) (omega arith) (omega arith)) at f));
   }
 
-arrived : (t l : List ℕ) (e who : ℕ) → arriveOn t l e who .0 ≡ 0 → Sound t (arriveOn t l e who .1)
+arrived : (t l : List ℕ) (e who : ℕ) → arriveOn t l e who .0 ≡ 0 → RoundSound t (arriveOn t l e who .1)
 unfolding arriveOn arriveIn arriveKnown arriveWith
 arrived t l e who =
-    let P : Result → Type 0 = λ o. o .0 ≡ 0 → Sound t (o .1) in
+    let P : CallResult → Type 0 = λ o. o .0 ≡ 0 → RoundSound t (o .1) in
     let n = waitingCount l in
     by-test P (ours t l)
     (λ h. by-test P (leb 8 who) (λ _ z. absurd (omega arith))
     (λ a. by-test P (leb (eventCount t) e) (λ _ z. absurd (omega arith))
     (λ b. by-test P (may (sendersAt t e) who)
-    (λ _. by-test P (full n (runningFlag l)) (λ _ z. absurd (omega arith))
+    (λ _. by-test P (queueFull n (runningFlag l)) (λ _ z. absurd (omega arith))
     (λ c. by-test P (leb 1000000 (taken l)) (λ _ z. absurd (omega arith))
     (λ _ _. admit-sound t l (ours-sound t l h) e who (taken l) (leb-false (eventCount t) e b) (leb-false 8 who a) c)))
     (λ _ z. absurd (omega arith)))))
     (λ _ z. absurd (omega arith))
 
-pub arrive-sound : (t l : List ℕ) (e who : ℕ) {a : ℕ} {m : List ℕ} → result a m ≡ arriveOn t l e who → a ≡ 0 → Sound t m
+pub arrive-sound : (t l : List ℕ) (e who : ℕ) {a : ℕ} {m : List ℕ} → callResult a m ≡ arriveOn t l e who → a ≡ 0 → RoundSound t m
 arrive-sound t l e who {a} {m} k z =
-    subst (λ (o : Result). Sound t (o .1)) (sym k) (arrived t l e who (sym (ap (λ (o : Result). o .0) k) ∙ z))
+    subst (λ (o : CallResult). RoundSound t (o .1)) (sym k) (arrived t l e who (sym (ap (λ (o : CallResult). o .0) k) ∙ z))

@@ -11,7 +11,7 @@ use Rattle.lib_word.specs.Word.{get}
 use Rattle.spec_language.specs.Refusals as refusals
 use Rattle.spec_language.specs.Rights.{may}
 use Rattle.format_layout.specs.Layout.{eventCount, behaviourCount, viewersAt, waitingCount, runningFlag}
-use Rattle.run_start.specs.Start.{Result}
+use Rattle.run_start.specs.Start.{CallResult}
 use Rattle.run_arrive.specs.Arrivals.{arriveOn}
 use Rattle.run_step.specs.Machine.{stepOn}
 use Rattle.run_forecast.specs.Forecast.{longestIn}
@@ -19,40 +19,40 @@ use Rattle.run_forecast.specs.Forecast.{longestIn}
 -- ---- to idle
 
 -- a step that answers a is the last: idle, or refused
-unfoldable pub last : ℕ → Bool
-last a = pick (eqb a 0) true (eqb a refusals.foreign)
+unfoldable pub lastStep : ℕ → Bool
+lastStep a = pick (eqb a 0) true (eqb a refusals.foreign)
 
 -- at most n steps, until one is the last; 14 where none of them was
-unfoldable pub toIdle : List ℕ → ℕ → List ℕ → Result
+unfoldable pub toIdle : List ℕ → ℕ → List ℕ → CallResult
 toIdle t zero l = (refusals.foreign, l)
-toIdle t (suc n) l = pick (last (stepOn t l .0)) (stepOn t l) (toIdle t n (stepOn t l .1))
+toIdle t (suc n) l = pick (lastStep (stepOn t l .0)) (stepOn t l) (toIdle t n (stepOn t l .1))
 
 -- 01's count, "(k + 1) × (L + 1) steps .., k being the number in hand": n wait; f: one runs
 unfoldable pub inHand : ℕ → ℕ → ℕ
 inHand n f = pick (eqb f 0) n (n + 1)
 
-unfoldable pub countOn : List ℕ → List ℕ → ℕ
-countOn t l = (inHand (waitingCount l) (runningFlag l) + 1) * (longestIn t (eventCount t) + 1)
+unfoldable pub previewSteps : List ℕ → List ℕ → ℕ
+previewSteps t l = (inHand (waitingCount l) (runningFlag l) + 1) * (longestIn t (eventCount t) + 1)
 
 -- ---- the preview. The answer is the refusal's number, or 2 ^ 32 and the value.
 
 -- the last step answered a, and the behaviour's value is then v
-unfoldable pub shown : ℕ → ℕ → ℕ
-shown a v = pick (eqb a 0) (4294967296 + v) refusals.foreign
+unfoldable pub previewAnswer : ℕ → ℕ → ℕ
+previewAnswer a v = pick (eqb a 0) (4294967296 + v) refusals.foreign
 
-unfoldable pub shownIn : Result → ℕ → ℕ
-shownIn r i = shown (r .0) (get (r .1) (136 + i))
+unfoldable pub shownIn : CallResult → ℕ → ℕ
+shownIn r i = previewAnswer (r .0) (get (r .1) (136 + i))
 
 -- "then by 18, and last by 14 where a step on the copy would be or 01's count runs out": the count's steps, and one
 -- more that answers idle 02, M-107: "A preview needs both rights", 25 "after 18 for a behaviour"
 unfoldable pub previewSeen : List ℕ → List ℕ → ℕ → Bool → ℕ
-previewSeen t l i right = pick right (shownIn (toIdle t (countOn t l + 1) l) i) refusals.noRight
+previewSeen t l i right = pick right (shownIn (toIdle t (previewSteps t l + 1) l) i) refusals.noRight
 
 unfoldable pub previewTaken : List ℕ → List ℕ → ℕ → ℕ → ℕ
 previewTaken t l i who = pick (leb (behaviourCount t) i) refusals.noBehaviour (previewSeen t l i (may (viewersAt t i) who))
 
 -- "It is turned down as the arrival would be": r is the arrival's answer, and the copy after it
-unfoldable pub previewAfter : List ℕ → Result → ℕ → ℕ → ℕ
+unfoldable pub previewAfter : List ℕ → CallResult → ℕ → ℕ → ℕ
 previewAfter t r i who = pick (eqb (r .0) 0) (previewTaken t (r .1) i who) (r .0)
 
 unfoldable pub previewCopy : List ℕ → List ℕ → ℕ → ℕ → ℕ → ℕ

@@ -4,9 +4,9 @@ ghost use mathlib.Core.Path.{_≡_};
 ghost use Prim.Native.Nat.{_+_, _≤_, _<_};
 ghost use lib.ListN.{length};
 ghost use Rattle.format_layout.specs.Bounds.{TableBounds};
-ghost use Rattle.run_start.specs.Start.{result};
-ghost use Rattle.run_burst.specs.Sound.{Sound};
-ghost use Rattle.run_preview.specs.Preview.{last, toIdle, inHand, countOn, shown, shownIn, previewCopy, previewOn};
+ghost use Rattle.run_start.specs.Start.{callResult};
+ghost use Rattle.run_burst.specs.Sound.{RoundSound};
+ghost use Rattle.run_preview.specs.Preview.{lastStep, toIdle, inHand, previewSteps, previewAnswer, shownIn, previewCopy, previewOn};
 
 // What stands above a value, so that it is no refusal's number.
 const SHOWN: u64 = 4294967296;
@@ -21,7 +21,7 @@ const NO_RIGHT: u64 = spec_language::refusals::NO_RIGHT as u64;
 
 // Whether a step that answers a is the last: idle, or refused.
 fn is_last(a: u64) -> bool
-    ensures { λ r. ⌜ r ≡ last a ⌝ }
+    ensures { λ r. ⌜ r ≡ lastStep a ⌝ }
 {
     if a == spec_language::answers::IDLE {
         return true;
@@ -31,8 +31,8 @@ fn is_last(a: u64) -> bool
 
 // At most so many steps, until one is the last; 14 where none of them was.
 fn run_to_idle(table: &[u8], round: &mut [u8], most: u32) -> u64
-    requires { ⌜ Sound (now table) (now round) ⌝ }
-    ensures { λ r. ⌜ result r (now (round .exit)) ≡ toIdle (now (table .entry)) most (now (round .entry)) ⌝ }
+    requires { ⌜ RoundSound (now table) (now round) ⌝ }
+    ensures { λ r. ⌜ callResult r (now (round .exit)) ≡ toIdle (now (table .entry)) most (now (round .entry)) ⌝ }
 {
     let mut left = most;
     while left > 0 {
@@ -60,8 +60,8 @@ fn in_hand(n: u32, f: u32) -> u32
 
 // 01's count of steps to idle.
 fn count_of(table: &[u8], round: &[u8]) -> u32
-    requires { ⌜ TableBounds (now table) × Sound (now table) (now round) ⌝ }
-    ensures { λ r. ⌜ r ≡ countOn (now (table .entry)) (now (round .entry)) ⌝ }
+    requires { ⌜ TableBounds (now table) × RoundSound (now table) (now round) ⌝ }
+    ensures { λ r. ⌜ r ≡ previewSteps (now (table .entry)) (now (round .entry)) ⌝ }
     ensures { λ r. ⌜ r ≤ 1000000 ⌝ }
 {
     let k = in_hand(
@@ -77,7 +77,7 @@ fn count_of(table: &[u8], round: &[u8]) -> u32
 
 // The last step answered a, and the behaviour's value is then v.
 fn shown_by(a: u64, v: u32) -> u64
-    ensures { λ r. ⌜ r ≡ shown a v ⌝ }
+    ensures { λ r. ⌜ r ≡ previewAnswer a v ⌝ }
 {
     if a == spec_language::answers::IDLE {
         return SHOWN + (v as u64);
@@ -87,8 +87,8 @@ fn shown_by(a: u64, v: u32) -> u64
 
 // The copy is run to idle: 01's count of steps, and one more that finds it idle.
 fn shown_in(table: &[u8], round: &mut [u8], behaviour: u32) -> u64
-    requires { ⌜ TableBounds (now table) × Sound (now table) (now round) × (behaviour < 64) ⌝ }
-    ensures { λ r. ⌜ r ≡ shownIn (toIdle (now (table .entry)) (countOn (now (table .entry)) (now (round .entry)) + 1) (now (round .entry))) behaviour ⌝ }
+    requires { ⌜ TableBounds (now table) × RoundSound (now table) (now round) × (behaviour < 64) ⌝ }
+    ensures { λ r. ⌜ r ≡ shownIn (toIdle (now (table .entry)) (previewSteps (now (table .entry)) (now (round .entry)) + 1) (now (round .entry))) behaviour ⌝ }
 {
     let most = count_of(&*table, round);
     let answer = run_to_idle(&*table, round, most + 1);

@@ -10,7 +10,7 @@ use borrow.Author.Tests.{ltb-true, ltb-false, lt-ltb, le-ltb}
 use Rattle.lib_base.specs.Basics.{pick}
 use Rattle.lib_base.proofs.Tools.{past, neither, split, by-test}
 use Rattle.format_layout.specs.Layout.{eventWord, numberAt, eventAt}
-use Rattle.run_queue.specs.Queue.{ahead, either, better, best, anyAbove}
+use Rattle.run_queue.specs.Queue.{ahead, eitherSlot, better, best, anyAbove}
 
 abbrev priority : List ℕ → List ℕ → ℕ → ℕ
 priority t l i = eventWord t (eventAt l i) 0
@@ -36,7 +36,7 @@ second-above p q r h = split (ltb p q) (λ e. rw (e, lt-ltb p r (omega (arith, l
 
 -- the better of two, whichever it is
 either-above : (t l : List ℕ) (p i b : ℕ) → pick (ltb p (priority t l i)) true (ltb p (priority t l b)) ≡ ltb p (priority t l (better t l i b))
-unfolding better either
+unfolding better eitherSlot
 either-above t l p i b =
     by-test (λ (x : ℕ). pick (ltb p (priority t l i)) true (ltb p (priority t l b)) ≡ ltb p (priority t l x))
     (ahead (priority t l i) (numberAt l i) (priority t l b) (numberAt l b))

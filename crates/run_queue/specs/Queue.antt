@@ -12,11 +12,11 @@ use Rattle.format_layout.specs.Layout.{eventWord, numberAt, eventAt}
 unfoldable pub ahead : ℕ → ℕ → ℕ → ℕ → Bool
 ahead p n q m = pick (ltb q p) true (pick (ltb p q) false (ltb n m))
 
-unfoldable pub either : Bool → ℕ → ℕ → ℕ
-either a i b = pick a i b
+unfoldable pub eitherSlot : Bool → ℕ → ℕ → ℕ
+eitherSlot a i b = pick a i b
 
 unfoldable pub better : List ℕ → List ℕ → ℕ → ℕ → ℕ
-better t l i b = either (ahead (eventWord t (eventAt l i) 0) (numberAt l i) (eventWord t (eventAt l b) 0) (numberAt l b)) i b
+better t l i b = eitherSlot (ahead (eventWord t (eventAt l i) 0) (numberAt l i) (eventWord t (eventAt l b) 0) (numberAt l b)) i b
 
 -- the slot that goes before all others of the first n
 unfoldable pub best : List ℕ → List ℕ → ℕ → ℕ

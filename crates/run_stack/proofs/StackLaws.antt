@@ -10,7 +10,7 @@ use lib.Dec.{eqb}
 use borrow.Author.Tests.{ne-eqb}
 use Rattle.lib_base.proofs.Tools.{split}
 use Rattle.lib_word.specs.Word.{put}
-use Rattle.lib_arith.specs.Functions.{result, over, answer, arity}
+use Rattle.lib_arith.specs.Functions.{result, over, markedResult, arity}
 use Rattle.lib_arith.proofs.ArithLaws.{result-word, answer-low, answer-high}
 use Rattle.run_stack.specs.Stack.{noted}
 
@@ -31,18 +31,18 @@ unfolding arity
 arity-three d h = omega arith
 
 -- an answer below 2^32 has no mark, and any other has one
-pub unmarked : (l : List ℕ) (f a b c v : ℕ) → v ≡ answer f a b c → v < 4294967296 → (v ≡ result f a b c) × (l ≡ noted l (over f a b c))
+pub unmarked : (l : List ℕ) (f a b c v : ℕ) → v ≡ markedResult f a b c → v < 4294967296 → (v ≡ result f a b c) × (l ≡ noted l (over f a b c))
 unfolding noted
 unmarked l f a b c v e h =
     let k = answer-low f a b c (rw e at h) in
     rw (e, k .1) (k .0, refl)
 
-pub marked : (l : List ℕ) (f a b c v : ℕ) → v ≡ answer f a b c → 4294967296 ≤ v → (v - 4294967296 ≡ result f a b c) × (put l 7 1 ≡ noted l (over f a b c))
+pub marked : (l : List ℕ) (f a b c v : ℕ) → v ≡ markedResult f a b c → 4294967296 ≤ v → (v - 4294967296 ≡ result f a b c) × (put l 7 1 ≡ noted l (over f a b c))
 unfolding noted
 marked l f a b c v e h =
     let k = answer-high f a b c (rw e at h) in
     rw (e, k .1) (k .0, refl)
 
 -- what is left of it is a word
-pub rest-word : (f a b c v : ℕ) → v ≡ answer f a b c → 4294967296 ≤ v → v - 4294967296 < 4294967296
+pub rest-word : (f a b c v : ℕ) → v ≡ markedResult f a b c → 4294967296 ≤ v → v - 4294967296 < 4294967296
 rest-word f a b c v e h = rw (e, answer-high f a b c (rw e at h) .0) (result-word f a b c)

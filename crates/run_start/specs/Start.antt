@@ -11,11 +11,11 @@ use Rattle.run_start.specs.declared.Round.{Round}
 use Rattle.format_layout.specs.Layout.{tableFits}
 
 -- a call's answer, and the round's bytes after it
-abbrev pub Result : Type 0
-Result = ℕ × List ℕ
+abbrev pub CallResult : Type 0
+CallResult = ℕ × List ℕ
 
-abbrev pub result : ℕ → List ℕ → Result
-result r l = (r, l)
+abbrev pub callResult : ℕ → List ℕ → CallResult
+callResult r l = (r, l)
 
 abbrev pub freshOf : List ℕ → Round
 freshOf store = record { taken = 0; waiting = 0; running = 0; store = store }
@@ -43,5 +43,5 @@ unfoldable pub freshBytes : List ℕ → List ℕ → List ℕ
 freshBytes t l = image (freshOf (valuesIn t (replicate 64 0) 64)) l
 
 -- "Start: 14 for the two lengths and the table only; the round's old bytes are not read."
-unfoldable pub startOn : List ℕ → List ℕ → Result
+unfoldable pub startOn : List ℕ → List ℕ → CallResult
 startOn t l = pick (tableFits t) (pick (ltb (length l) 2048) (foreign, l) (0, freshBytes t l)) (foreign, l)

@@ -6,7 +6,7 @@ use spec_language::refusals;
 ghost use mathlib.Core.Path.{_≡_};
 ghost use Prim.Native.Nat.{_+_, _≤_, _<_};
 ghost use lib.ListN.{length, replicate};
-ghost use Rattle.run_start.specs.Start.{result, freshOf, cleared, stored, image, valuesIn, startOn};
+ghost use Rattle.run_start.specs.Start.{callResult, freshOf, cleared, stored, image, valuesIn, startOn};
 
 // A round (01's word), as it begins: number taken in, waiting count, whether one runs, the store.
 pub struct Round {
@@ -87,7 +87,7 @@ fn first_values(table: &[u8]) -> [u32; limits::BEHAVIOURS]
 
 // A fresh round of the program whose table is lent. 0, or 14 where the table is foreign or the round too short.
 pub fn start_round(table: &[u8], round: &mut [u8]) -> u32
-    ensures { λ r. ⌜ result r (now (round .exit)) ≡ startOn (now (table .entry)) (now (round .entry)) ⌝ }
+    ensures { λ r. ⌜ callResult r (now (round .exit)) ≡ startOn (now (table .entry)) (now (round .entry)) ⌝ }
 {
     if !format_layout::table_fits(&*table) {
         return refusals::FOREIGN;

@@ -7,7 +7,7 @@ use spec_language::refusals;
 ghost use mathlib.Core.Path.{_≡_};
 ghost use Prim.Native.Nat.{_≤_};
 ghost use Rattle.format_layout.specs.Bounds.{Bounds};
-ghost use Rattle.run_start.specs.Start.{result};
+ghost use Rattle.run_start.specs.Start.{callResult};
 ghost use Rattle.run_step.specs.Machine.{outranked, stepOn};
 
 const FOREIGN: u64 = refusals::FOREIGN as u64;
@@ -32,7 +32,7 @@ fn is_outranked(table: &[u8], round: &[u8], waiting: usize) -> bool
 
 // One step does the first that fits (01 "Handlers and steps"). 14 where table, round or instruction is foreign.
 pub fn step_at(table: &[u8], round: &mut [u8]) -> u64
-    ensures { λ r. ⌜ result r (now (round .exit)) ≡ stepOn (now (table .entry)) (now (round .entry)) ⌝ }
+    ensures { λ r. ⌜ callResult r (now (round .exit)) ≡ stepOn (now (table .entry)) (now (round .entry)) ⌝ }
 {
     if !run_validate::is_ours(&*table, round) {
         return FOREIGN;

@@ -1,1 +1,1 @@
-pub mod Settle
+pub mod Stretch

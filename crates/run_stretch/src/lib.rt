@@ -7,13 +7,13 @@ ghost use mathlib.Core.Path.{_≡_};
 ghost use Prim.Native.Nat.{_+_, _≤_, _<_};
 ghost use lib.ListN.{length};
 ghost use Rattle.lib_word.specs.Word.{get};
-ghost use Rattle.run_start.specs.Start.{result};
-ghost use Rattle.run_stretch.specs.Settle.{settleAt, settleFrom};
+ghost use Rattle.run_start.specs.Start.{callResult};
+ghost use Rattle.run_stretch.specs.Stretch.{stretchAt, stretchFrom};
 
 // Instruction k of the table is performed: 0, or 14 where it may not run.
 pub fn execute_at(table: &[u8], round: &mut [u8], k: usize) -> u32
     requires { ⌜ (34816 ≤ length (now table)) × (2048 ≤ length (now round)) × (k < 4096) × (get (now round) 6 ≤ 64) ⌝ }
-    ensures { λ r. ⌜ result r (now (round .exit)) ≡ settleAt (now (table .entry)) (now (round .entry)) k ⌝ }
+    ensures { λ r. ⌜ callResult r (now (round .exit)) ≡ stretchAt (now (table .entry)) (now (round .entry)) k ⌝ }
     ensures { λ _. ⌜ get (now (round .exit)) 6 ≤ 64 ⌝ }
 {
     let code = lib_word::get_word(table, table::CODE + k * 2);
@@ -29,9 +29,9 @@ pub fn execute_at(table: &[u8], round: &mut [u8], k: usize) -> u32
 }
 
 // The n instructions from k on: 0, or 14 where one of them may not run.
-pub fn settle_from(table: &[u8], k: usize, n: usize, round: &mut [u8]) -> u32
+pub fn execute_from(table: &[u8], k: usize, n: usize, round: &mut [u8]) -> u32
     requires { ⌜ (34816 ≤ length (now table)) × (2048 ≤ length (now round)) × (k + n ≤ 4096) × (get (now round) 6 ≤ 64) ⌝ }
-    ensures { λ r. ⌜ result r (now (round .exit)) ≡ settleFrom (now (table .entry)) k n (now (round .entry)) ⌝ }
+    ensures { λ r. ⌜ callResult r (now (round .exit)) ≡ stretchFrom (now (table .entry)) k n (now (round .entry)) ⌝ }
 {
     let mut i = k;
     let mut left = n;

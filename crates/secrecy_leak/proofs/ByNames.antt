@@ -22,7 +22,7 @@ use Rattle.check_faults.specs.Faults.{anyBelow}
 use Rattle.check_faults.proofs.Any.{any-none, any-some}
 use Rattle.check_reads.specs.Named.{inResponse}
 use Rattle.check_reads.proofs.Decides.{any-found}
-use Rattle.check_leak.specs.Leak.{namesIn}
+use Rattle.check_leak.specs.Leak.{behaviourNames}
 use Rattle.check_leak.specs.Claims.{NoHiddenName}
 use Rattle.secrecy_model.specs.Sight.{inHandlers, inBehaviour, names, Sealed}
 
@@ -83,8 +83,8 @@ names-in n j (passive x) k h = named-in n j x k h
 names-in n j (active s hs) k h = handlers-in n j hs k h
 
 module _ (p : Program) (each : All (BehaviourFits (events p)) (p .behaviours)) (known : Known p) where
-  names-are : (i j : ℕ) → namesIn p i j ≡ names p i j
-  unfolding namesIn
+  names-are : (i j : ℕ) → behaviourNames p i j ≡ names p i j
+  unfolding behaviourNames
   names-are i j =
       behaviour-names (events p) j (behaviourAt p i)
       (all-at-or (BehaviourFits (events p)) (p .behaviours) i (active 0 []) each (omega arith, tt))

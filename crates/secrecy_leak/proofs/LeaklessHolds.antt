@@ -24,7 +24,7 @@ use Rattle.secrecy_engine.proofs.HeardHolds.{rule-on}
 use Rattle.check_circle.specs.Witness.{numberOn}
 use Rattle.check_leak.specs.Leak.{leakIn, leakRead, leakOn}
 use Rattle.check_leak.proofs.Decides.{zero-says, zero-is, named-is-true}
-use Rattle.secrecy_leak.specs.Leakless.{Answered, Answers, RuleHolds, WithNoCondition}
+use Rattle.secrecy_leak.specs.Leakless.{LeakAnswer, LeakAnswers, RuleHolds, WithNoCondition}
 use Rattle.secrecy_leak.proofs.ByNames.{sealed-is, sealed-says}
 
 full : 34816 ≤ length {A = ℕ} (replicate 34816 0)
@@ -44,7 +44,7 @@ module _ (s ps : List ℕ) (bytes : All (λ b. b < 256) s) (x : Sheet) (e : enco
   above-seven player b = rw (number-zero, lt-ltb 7 player b)
 
   module _ (words : All (λ b. b < 256) ps) (player : ℕ) (few : player < 8) where
-    pub answered : Answered s ps player x
+    pub answered : LeakAnswer s ps player x
     answered =
         let p = programOf ps x in
         let k = program-accepted ps words x taken in
@@ -68,7 +68,7 @@ turned-down : (s ps : List ℕ) (player : ℕ) → numberOn s ps ≢ 0 → leakO
 unfolding leakOn
 turned-down s ps player h = rw (ne-eqb (numberOn s ps) 0 h)
 
-pub answers : Answers
+pub answers : LeakAnswers
 answers s ps player bytes words = (λ x e taken b. answered s ps bytes x e taken words player b, above s ps player, turned-down s ps player)
 
 pub rule-holds : RuleHolds

@@ -21,19 +21,19 @@ use Rattle.refine_lists.specs.Lists.{calling, freshRoundOn}
 use Rattle.secrecy_engine.specs.Heard.{HeardAlike}
 use Rattle.check_circle.specs.Witness.{numberOn}
 use Rattle.check_leak.specs.Leak.{leakOn}
-use Rattle.check_leak.specs.Claims.{Named}
+use Rattle.check_leak.specs.Claims.{LeakNamed}
 
 -- ---- 0 exactly under M-107's condition, and what is named is true: of a sheet that compile accepts
 
-pub record Answered (s ps : List ℕ) (player : ℕ) (x : Sheet) : Type 0 where
+pub record LeakAnswer (s ps : List ℕ) (player : ℕ) (x : Sheet) : Type 0 where
   pub zero-if : Sealed (programOf ps x) player → leakOn s ps player ≡ 0
   pub only-if : leakOn s ps player ≡ 0 → Sealed (programOf ps x) player
-  pub named : leakOn s ps player ≢ 0 → Named (programOf ps x) player (leakOn s ps player)
+  pub named : leakOn s ps player ≢ 0 → LeakNamed (programOf ps x) player (leakOn s ps player)
 
-abbrev pub Answers : Type 0
-Answers =
+abbrev pub LeakAnswers : Type 0
+LeakAnswers =
     (s ps : List ℕ) (player : ℕ) → All (λ b. b < 256) s → All (λ b. b < 256) ps
-    → ((x : Sheet) → encode x ≡ s → SheetAccepted (get ps) (length ps) x → player < 8 → Answered s ps player x)
+    → ((x : Sheet) → encode x ≡ s → SheetAccepted (get ps) (length ps) x → player < 8 → LeakAnswer s ps player x)
     × (numberOn s ps ≡ 0 → 7 < player → leakOn s ps player ≡ noPlayer)
     × (numberOn s ps ≢ 0 → leakOn s ps player ≡ numberOn s ps)
 
@@ -63,5 +63,5 @@ RuleHolds =
     → (cs : List Call) → HeardAlike player (freshRoundOn s ps t₀ l₀) (map calling cs) (freshRoundOn z qs t₁ l₁) (map calling cs)
 
 pub record WithNoCondition : Type 0 where
-  pub answers : Answers
+  pub answers : LeakAnswers
   pub rule : RuleHolds

@@ -17,30 +17,30 @@ use Rattle.spec_language.specs.Dependence.{size, behaviourAt}
 use Rattle.spec_language.specs.Accepted.{Accepted, Valid}
 use Rattle.spec_language.specs.Refusals as refusals
 use Rattle.spec_execution.specs.Execution.{at}
-use Rattle.spec_model.specs.Model.{rest, busy, Engine, engine, board, Answer, refused, shows, settling, act}
-use Rattle.spec_model.specs.Claims.{storeOf, settlingIn, Idle}
+use Rattle.spec_model.specs.Model.{rest, busy, Engine, engine, board, Answer, refused, shows, inCopyBack, act}
+use Rattle.spec_model.specs.Claims.{storeOf, copyBackIn, Idle}
 use Rattle.spec_model.proofs.Once.{idle-empty}
 use Rattle.secrecy_model.proofs.Programs.{BehaviourAlike, Alike}
-use Rattle.secrecy_model.proofs.Control.{control, settling-both}
+use Rattle.secrecy_model.proofs.Control.{control, copy-back-both}
 
 -- an idle engine copies nothing back
-pub idle-settled : (p : Program) (w : Engine) → Idle p w → settlingIn p w ≡ false
-idle-settled p (engine t waiting rest d) h = refl
-idle-settled p (engine t waiting (busy a c) d) h = let z : _≡_ {A = ℕ} 1 0 = cc (idle-empty p (engine t waiting (busy a c) d) h) in absurd (omega arith)
+pub idle-no-copy-back : (p : Program) (w : Engine) → Idle p w → copyBackIn p w ≡ false
+idle-no-copy-back p (engine t waiting rest d) h = refl
+idle-no-copy-back p (engine t waiting (busy a c) d) h = let z : _≡_ {A = ℕ} 1 0 = cc (idle-empty p (engine t waiting (busy a c) d) h) in absurd (omega arith)
 
 -- ---- a board reading of the player's
 
 module _ (player : ℕ) (p q : Program) (alike : Alike player p q) where
   pub read-agree : (i : ℕ) (w x : Engine) → control w ≡ control x
-      → (settlingIn p w ≡ false → i < size p → maySee p player i ≡ true → at (storeOf w) i ≡ at (storeOf x) i)
+      → (copyBackIn p w ≡ false → i < size p → maySee p player i ≡ true → at (storeOf w) i ≡ at (storeOf x) i)
       → act p (board i player) w .answer ≡ act q (board i player) x .answer
   unfolding act
   read-agree i (engine t waiting r d) (engine n l o f) h k =
-      let s : settling p r ≡ settling q o = settling-both player p q alike (engine t waiting r d) (engine n l o f) h in
+      let s : inCopyBack p r ≡ inCopyBack q o = copy-back-both player p q alike (engine t waiting r d) (engine n l o f) h in
       by-two (λ (a b : Answer). a ≡ b) (leb 8 player) (λ z. refl)
       (λ z. by-two (λ (a b : Answer). a ≡ b) (leb (size p) i) (λ c. refl)
       (λ c. by-two (λ (a b : Answer). a ≡ b) (maySee p player i)
-      (λ m. by-two (λ (a b : Answer). a ≡ b) (settling p r) (λ g. refl) (λ g. ap shows (k g (leb-false (size p) i c) m)))
+      (λ m. by-two (λ (a b : Answer). a ≡ b) (inCopyBack p r) (λ g. refl) (λ g. ap shows (k g (leb-false (size p) i c) m)))
       (λ m. refl)))
       ∙ (λ z.
       pick (leb 8 player) (refused refusals.noPlayer)

@@ -16,16 +16,16 @@ use Rattle.spec_language.specs.Accepted.{Valid}
 use Rattle.spec_language.specs.Refusals as refusals
 use Rattle.spec_semantics.specs.Meaning.{firstPhase}
 use Rattle.spec_execution.specs.Execution.{at, emptied}
-use Rattle.spec_model.specs.Carried.{activeIn, begins, carriedActives, carried}
+use Rattle.spec_model.specs.Carried.{isActiveIn, carriedStart, carriedActives, carried}
 use Rattle.spec_model.specs.Model.{Arrival, rest, Engine, engine, queue, Answer, refused, change, state, says, carriedOver, TurnOutcome, turnOutcome, declaredIn, carriedTo, turn}
-use Rattle.spec_model.specs.Claims.{inQueue, settlingIn}
+use Rattle.spec_model.specs.Claims.{inQueue, copyBackIn}
 use Rattle.spec_model.proofs.Carries.{active-below, length-actives, actives-at, length-carried}
 use Rattle.spec_model.proofs.History.{all-declared, reached-carried}
 use Rattle.spec_model.proofs.Boards.{carried-done}
 use Rattle.secrecy_model.specs.Sight.{Sealed, SameHidden, EitherMakes}
 use Rattle.secrecy_model.proofs.Programs.{BehaviourAlike, Alike, events-same}
 use Rattle.secrecy_model.proofs.Stores.{sealed-direct, first-agree}
-use Rattle.secrecy_model.proofs.Control.{control, settling-both}
+use Rattle.secrecy_model.proofs.Control.{control, copy-back-both}
 use Rattle.secrecy_model.proofs.Twins.{Agree, Twin, TwinStates, store-here, store-there}
 
 -- ---- what the actives begin with
@@ -40,7 +40,7 @@ pick-begins : (k : Bool) (v u c d : ℕ) → c ≡ d → (k ≡ true → v ≡ u
 pick-begins true v u c d e h = h refl
 pick-begins false v u c d e h = e
 
-begins-same : (k : Bool) (v u : ℕ) (b c : Behaviour) → BehaviourAlike true b c → (k ≡ true → v ≡ u) → begins k v b ≡ begins k u c
+begins-same : (k : Bool) (v u : ℕ) (b c : Behaviour) → BehaviourAlike true b c → (k ≡ true → v ≡ u) → carriedStart k v b ≡ carriedStart k u c
 begins-same k v u (passive x) (passive y) h e = refl
 begins-same k v u (passive x) (active t hs) h e = absurd h
 begins-same k v u (active s hs) (passive y) h e = absurd h
@@ -54,12 +54,12 @@ changedBy settling known p q w =
     pick settling (turnOutcome (says (refused refusals.settling)) (state p w))
     (pick known (turnOutcome carriedOver (state q (carriedTo p q w))) (turnOutcome (says (refused refusals.undeclaredInHand)) (state p w)))
 
-changed-by : (p q : Program) (w : Engine) → turn (change q) (state p w) ≡ changedBy (settlingIn p w) (declaredIn q (inQueue w)) p q w
+changed-by : (p q : Program) (w : Engine) → turn (change q) (state p w) ≡ changedBy (copyBackIn p w) (declaredIn q (inQueue w)) p q w
 unfolding turn
 changed-by p q (engine t waiting r d) = refl
 
 -- both rounds refuse it alike, or one of them makes it
-pub refused-or-made : (p : Program) (w : Engine) (q : Program) (x : Engine) → settlingIn p w ≡ settlingIn q x → (p′ q′ : Program) (P : TurnOutcome → TurnOutcome → Type 0)
+pub refused-or-made : (p : Program) (w : Engine) (q : Program) (x : Engine) → copyBackIn p w ≡ copyBackIn q x → (p′ q′ : Program) (P : TurnOutcome → TurnOutcome → Type 0)
     → ((a : Answer) → P (turnOutcome (says a) (state p w)) (turnOutcome (says a) (state q x)))
     → (EitherMakes (change p′) (state p w) (change q′) (state q x) → P (turn (change p′) (state p w)) (turn (change q′) (state q x)))
     → P (turn (change p′) (state p w)) (turn (change q′) (state q x))
@@ -68,7 +68,7 @@ refused-or-made p w q x same p′ q′ P refuse make =
     let other = changed-by q q′ x in
     let both : (y z : TurnOutcome) → turn (change p′) (state p w) ≡ y → turn (change q′) (state q x) ≡ z → P y z → P (turn (change p′) (state p w)) (turn (change q′) (state q x)) = λ y z e f h.
     subst (λ (a : TurnOutcome). P a (turn (change q′) (state q x))) (sym e) (subst (P y) (sym f) h) in
-    split (settlingIn p w)
+    split (copyBackIn p w)
     (λ h.
     both (turnOutcome (says (refused refusals.settling)) (state p w)) (turnOutcome (says (refused refusals.settling)) (state q x))
     (one ∙ rw h refl) (other ∙ rw (sym same ∙ h) refl) (refuse (refused refusals.settling)))
@@ -101,11 +101,11 @@ rested-control p q (engine t waiting r d) = refl
 
 module _ (player : ℕ) (p : Program) (w : Engine) (q : Program) (x : Engine) (twin : Twin player p w q x)
     (p′ q′ : Program) (alike : Alike player p′ q′) (sealed : Sealed p′ player) (hidden : SameHidden player p p′) (v : Valid p′) (u : Valid q′) where
-  in-both : (i : ℕ) → activeIn p i ≡ activeIn q i
+  in-both : (i : ℕ) → isActiveIn p i ≡ isActiveIn q i
   in-both i = λ z. ltb i (twin .alike .sizes z) && active-same (maySee p player i) (behaviourAt p i) (behaviourAt q i) (twin .alike .each i) z
 
   -- what is seen now was seen before
-  value-same : (i : ℕ) → i < size p′ → maySee p′ player i ≡ true → activeIn p i ≡ true → at (twin .here) i ≡ at (twin .there) i
+  value-same : (i : ℕ) → i < size p′ → maySee p′ player i ≡ true → isActiveIn p i ≡ true → at (twin .here) i ≡ at (twin .there) i
   value-same i b m k =
       let l : i < size p = active-below p i k .0 in
       twin .agree i l (hidden i l b ∙ m)
@@ -113,9 +113,9 @@ module _ (player : ℕ) (p : Program) (w : Engine) (q : Program) (x : Engine) (t
   actives-agree : Agree player p′ (carriedActives p p′ (twin .here)) (carriedActives q q′ (twin .there))
   actives-agree i b m =
       actives-at p p′ (twin .here) i b
-      ∙ begins-same (activeIn p i) (at (twin .here) i) (at (twin .there) i) (behaviourAt p′ i) (behaviourAt q′ i)
+      ∙ begins-same (isActiveIn p i) (at (twin .here) i) (at (twin .there) i) (behaviourAt p′ i) (behaviourAt q′ i)
       (subst (λ (k : Bool). BehaviourAlike k (behaviourAt p′ i) (behaviourAt q′ i)) m (alike .each i)) (value-same i b m)
-      ∙ ap (λ (k : Bool). begins k (at (twin .there) i) (behaviourAt q′ i)) (in-both i)
+      ∙ ap (λ (k : Bool). carriedStart k (at (twin .there) i) (behaviourAt q′ i)) (in-both i)
       ∙ sym (actives-at q q′ (twin .there) i (omega (arith, alike .sizes)))
 
   carried-agree : Agree player p′ (carried p p′ (twin .here)) (carried q q′ (twin .there))
@@ -134,7 +134,7 @@ module _ (player : ℕ) (p : Program) (w : Engine) (q : Program) (x : Engine) (t
   known-same : declaredIn p′ (inQueue w) ≡ declaredIn q′ (inQueue x)
   known-same = declared-same p′ q′ (events-same player p′ q′ alike) (inQueue w) ∙ ap (declaredIn q′) hand-same
 
-  twin-made : settlingIn p w ≡ false → declaredIn p′ (inQueue w) ≡ true → Twin player p′ (carriedTo p p′ w) q′ (carriedTo q q′ x)
+  twin-made : copyBackIn p w ≡ false → declaredIn p′ (inQueue w) ≡ true → Twin player p′ (carriedTo p p′ w) q′ (carriedTo q q′ x)
   twin-made h k = record {
     alike = alike;
     sealed = sealed;
@@ -155,17 +155,17 @@ module _ (player : ℕ) (p : Program) (w : Engine) (q : Program) (x : Engine) (t
   abbrev TwinOutcomes : TurnOutcome → TurnOutcome → Type 0
   TwinOutcomes y z = (y .reply ≡ z .reply) × TwinStates player (y .after) (z .after)
 
-  tests-same : turn (change q′) (state q x) ≡ changedBy (settlingIn p w) (declaredIn p′ (inQueue w)) q q′ x
+  tests-same : turn (change q′) (state q x) ≡ changedBy (copyBackIn p w) (declaredIn p′ (inQueue w)) q q′ x
   tests-same =
       changed-by q q′ x
-      ∙ (λ i. changedBy (sym (settling-both player p q (twin .alike) w x (twin .together)) i) (sym known-same i) q q′ x)
+      ∙ (λ i. changedBy (sym (copy-back-both player p q (twin .alike) w x (twin .together)) i) (sym known-same i) q q′ x)
 
-  by-tests : TwinOutcomes (changedBy (settlingIn p w) (declaredIn p′ (inQueue w)) p p′ w) (changedBy (settlingIn p w) (declaredIn p′ (inQueue w)) q q′ x)
+  by-tests : TwinOutcomes (changedBy (copyBackIn p w) (declaredIn p′ (inQueue w)) p p′ w) (changedBy (copyBackIn p w) (declaredIn p′ (inQueue w)) q q′ x)
   by-tests =
-      by-two TwinOutcomes (settlingIn p w) (λ h. (refl, twin))
+      by-two TwinOutcomes (copyBackIn p w) (λ h. (refl, twin))
       (λ h. by-two TwinOutcomes (declaredIn p′ (inQueue w)) (λ k. (refl, twin-made h k)) (λ k. (refl, twin)))
 
   pub twin-change : (turn (change p′) (state p w) .reply ≡ turn (change q′) (state q x) .reply)
       × TwinStates player (turn (change p′) (state p w) .after) (turn (change q′) (state q x) .after)
   twin-change = subst (λ (y : TurnOutcome). TwinOutcomes y (turn (change q′) (state q x))) (sym (changed-by p p′ w))
-      (subst (λ (z : TurnOutcome). TwinOutcomes (changedBy (settlingIn p w) (declaredIn p′ (inQueue w)) p p′ w) z) (sym tests-same) by-tests)
+      (subst (λ (z : TurnOutcome). TwinOutcomes (changedBy (copyBackIn p w) (declaredIn p′ (inQueue w)) p p′ w) z) (sym tests-same) by-tests)

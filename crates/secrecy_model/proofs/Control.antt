@@ -13,8 +13,8 @@ use Rattle.spec_language.specs.Dependence.{size, events}
 use Rattle.spec_language.specs.Order.{upTo}
 use Rattle.spec_language.specs.Code.{code}
 use Rattle.spec_execution.specs.Execution.{Values, emptied}
-use Rattle.spec_model.specs.Model.{Arrival, Running, rest, busy, Engine, engine, queue, Call, arrive, step, board, Answer, refused, takenIn, shows, idle, ran, started, preempted, committed, unmarked, Outcome, rank, masked, settling, choose, advance, stepped, arrived, read, act}
-use Rattle.spec_model.specs.Claims.{inQueue, settlingIn, longest, stepsOf, forecast, countIn}
+use Rattle.spec_model.specs.Model.{Arrival, Running, rest, busy, Engine, engine, queue, Call, arrive, step, board, Answer, refused, takenIn, shows, idle, ran, started, preempted, committed, unmarked, Outcome, rank, masked, inCopyBack, choose, advance, stepped, arrived, read, act}
+use Rattle.spec_model.specs.Claims.{inQueue, copyBackIn, longest, stepsOf, forecast, countIn}
 use Rattle.secrecy_model.proofs.Programs.{Alike, events-same, code-same}
 
 -- an engine without its values
@@ -72,7 +72,7 @@ module _ (p : Program) where
       by-two P (leb 8 who) (λ h. refl)
       (λ h. by-two P (leb (size p) i) (λ h. refl)
       (λ h. by-two P (maySee p who i)
-      (λ h. by-two P (settling p r) (λ h. refl) (λ h. refl))
+      (λ h. by-two P (inCopyBack p r) (λ h. refl) (λ h. refl))
       (λ h. refl)))
 
   abbrev Alone : Call → Outcome → Outcome → Type 0
@@ -103,15 +103,15 @@ module _ (player : ℕ) (p q : Program) (alike : Alike player p q) where
   stepped-same t [] (busy a n) d = advance-same t [] a n d
   stepped-same t (b ∷ l) (busy a n) d = rw (choose-same b l, same-code (a .event), alike .priorities)
 
-  pub settling-same : (r : Running) → settling p r ≡ settling q r
-  settling-same rest = refl
-  settling-same (busy a c) = rw (same-code (a .event))
+  pub copy-back-same : (r : Running) → inCopyBack p r ≡ inCopyBack q r
+  copy-back-same rest = refl
+  copy-back-same (busy a c) = rw (same-code (a .event))
 
   act-same : (c : Call) (w : Engine) → act p c w ≡ act q c w
   unfolding act
   act-same (arrive e who) (engine t waiting r d) = rw (alike .priorities, alike .senders)
   act-same step (engine t waiting r d) = stepped-same t waiting r d
-  act-same (board i who) (engine t waiting r d) = rw (settling-same r, alike .sizes, alike .viewers)
+  act-same (board i who) (engine t waiting r d) = rw (copy-back-same r, alike .sizes, alike .viewers)
 
   -- ---- so two engines of the same control go on alike
 
@@ -154,11 +154,11 @@ module _ (player : ℕ) (p q : Program) (alike : Alike player p q) where
       let same : inQueue w ≡ inQueue v = queue-control w ∙ ap inQueue h ∙ sym (queue-control v) in
       rw (same, longest-same)
 
-  settling-control : (w : Engine) → settlingIn p w ≡ settlingIn q (control w)
-  settling-control (engine t waiting r d) = settling-same r
+  copy-back-control : (w : Engine) → copyBackIn p w ≡ copyBackIn q (control w)
+  copy-back-control (engine t waiting r d) = copy-back-same r
 
-  settling-alone : (w : Engine) → settlingIn q w ≡ settlingIn q (control w)
-  settling-alone (engine t waiting r d) = refl
+  copy-back-alone : (w : Engine) → copyBackIn q w ≡ copyBackIn q (control w)
+  copy-back-alone (engine t waiting r d) = refl
 
-  pub settling-both : (w v : Engine) → control w ≡ control v → settlingIn p w ≡ settlingIn q v
-  settling-both w v h = settling-control w ∙ ap (settlingIn q) h ∙ sym (settling-alone v)
+  pub copy-back-both : (w v : Engine) → control w ≡ control v → copyBackIn p w ≡ copyBackIn q v
+  copy-back-both w v h = copy-back-control w ∙ ap (copyBackIn q) h ∙ sym (copy-back-alone v)

@@ -24,7 +24,7 @@ use Rattle.secrecy_model.proofs.Stores.{sealed-direct, fresh-agree}
 use Rattle.secrecy_model.proofs.Answered.{host-same, valid}
 use Rattle.secrecy_model.proofs.Twins.{Twin, TwinStates, twin-call, call-heard, forecast-heard, preview-heard}
 use Rattle.secrecy_model.proofs.Changed.{refused-or-made, twin-change}
-use Rattle.secrecy_model.proofs.Control.{settling-both}
+use Rattle.secrecy_model.proofs.Control.{copy-back-both}
 
 -- ---- what each turn keeps holds after every list, and what is heard of each is heard of the list
 
@@ -64,7 +64,7 @@ module _ (player : ℕ) (guest : eqb player 0 ≡ false) where
   twin-turn (both c) (state p x) (state q y) h f = (ap asReply (call-heard player p x q y h guest c), twin-call player p x q y h c)
   twin-turn (each v w s t) (state p x) (state q y) h f =
       let k : Both (turn (change (fill v s)) (state p x)) (turn (change (fill w t)) (state q y)) =
-      refused-or-made p x q y (settling-both player p q (h .alike) x y (h .together)) (fill v s) (fill w t) Both (λ a. (refl, h))
+      refused-or-made p x q y (copy-back-both player p q (h .alike) x y (h .together)) (fill v s) (fill w t) Both (λ a. (refl, h))
       (λ m. let g = f m in made v w s t p x q y h (g .0) (g .1)) in
       (ap (λ (r : Reply). some r) (k .0), k .1)
 

@@ -20,7 +20,7 @@ use Rattle.spec_semantics.specs.Meaning.{event}
 use Rattle.spec_execution.specs.Execution.{at}
 use Rattle.spec_execution.proofs.CodeRight.{code-facts}
 use Rattle.spec_model.specs.Model.{Engine, engine, Call, arrive, step, board, Answer, refused, takenIn, shows, idle, ran, started, preempted, committed, unmarked, act, run, State, state}
-use Rattle.spec_model.specs.Claims.{number, storeOf, settlingIn, forecast, countIn, shownAfter, unlessRefused, previewed}
+use Rattle.spec_model.specs.Claims.{number, storeOf, copyBackIn, forecast, countIn, shownAfter, unlessRefused, previewed}
 use Rattle.spec_model.proofs.Moves.{Effect, nothing, took, commit, effect, Cases, act-by}
 use Rattle.spec_model.proofs.Reached.{Reached, DoneIn, onto, still, Computes, computes, act-keeps}
 use Rattle.spec_model.proofs.Previews.{idle-within}
@@ -28,8 +28,8 @@ use Rattle.spec_model.proofs.History.{Fit}
 use Rattle.secrecy_model.specs.Sight.{Sealed, hears}
 use Rattle.secrecy_model.proofs.Programs.{Alike}
 use Rattle.secrecy_model.proofs.Stores.{sealed-direct, event-agree}
-use Rattle.secrecy_model.proofs.Control.{control, blank, hushed, act-control, act-hushed, forecast-same, count-same, settling-both}
-use Rattle.secrecy_model.proofs.Answered.{read-agree, idle-settled}
+use Rattle.secrecy_model.proofs.Control.{control, blank, hushed, act-control, act-hushed, forecast-same, count-same, copy-back-both}
+use Rattle.secrecy_model.proofs.Answered.{read-agree, idle-no-copy-back}
 
 -- ---- what a call adds to the history is said by its answer without its values
 
@@ -108,17 +108,17 @@ module _ (player : ℕ) where
   TwinStates (state p w) (state q x) = Twin p w q x
 
   module _ (p : Program) (w : Engine) (q : Program) (x : Engine) (twin : Twin p w q x) where
-    settling-too : settlingIn p w ≡ settlingIn q x
-    settling-too = settling-both player p q (twin .alike) w x (twin .together)
+    copy-back-too : copyBackIn p w ≡ copyBackIn q x
+    copy-back-too = copy-back-both player p q (twin .alike) w x (twin .together)
 
     -- unless a copy-back is under way, both stores are those
-    pub store-here : settlingIn p w ≡ false → storeOf w ≡ twin .here
+    pub store-here : copyBackIn p w ≡ false → storeOf w ≡ twin .here
     store-here h = still p (code-facts p (twin .one .0)) (twin .here) w (twin .sized) (twin .one .1 .fine) h (twin .done)
 
-    pub store-there : settlingIn p w ≡ false → storeOf x ≡ twin .there
-    store-there h = still q (code-facts q (twin .other .0)) (twin .there) x (twin .sized-other) (twin .other .1 .fine) (sym settling-too ∙ h) (twin .done-other)
+    pub store-there : copyBackIn p w ≡ false → storeOf x ≡ twin .there
+    store-there h = still q (code-facts q (twin .other .0)) (twin .there) x (twin .sized-other) (twin .other .1 .fine) (sym copy-back-too ∙ h) (twin .done-other)
 
-    pub stores-agree : settlingIn p w ≡ false → (i : ℕ) → i < size p → maySee p player i ≡ true → at (storeOf w) i ≡ at (storeOf x) i
+    pub stores-agree : copyBackIn p w ≡ false → (i : ℕ) → i < size p → maySee p player i ≡ true → at (storeOf w) i ≡ at (storeOf x) i
     stores-agree h i b m = ap (λ (s : List ℕ). at s i) (store-here h) ∙ twin .agree i b m ∙ sym (ap (λ (s : List ℕ). at s i) (store-there h))
 
     -- ---- a call
@@ -188,8 +188,8 @@ module _ (player : ℕ) where
     shown-same i b m =
         let n : ℕ = countIn p w in
         let late : Twin p (run p (replicate n step) w) q (run q (replicate n step) x) = twin-calls (replicate n step) p w q x twin in
-        let quiet : settlingIn p (run p (replicate n step) w) ≡ false =
-        idle-settled p (run p (replicate n step) w) (idle-within p (code-facts p (twin .one .0)) w (twin .one .1)) in
+        let quiet : copyBackIn p (run p (replicate n step) w) ≡ false =
+        idle-no-copy-back p (run p (replicate n step) w) (idle-within p (code-facts p (twin .one .0)) w (twin .one .1)) in
         ap shows (stores-agree p (run p (replicate n step) w) q (run q (replicate n step) x) late quiet i b m)
         ∙ ap (λ (k : ℕ). shows (at (storeOf (run q (replicate k step) x)) i)) (count-same player p q (twin .alike) w x (twin .together))
 

@@ -13,7 +13,7 @@ use Rattle.spec_language.specs.Order.{upTo, phaseOne}
 use Rattle.spec_language.specs.Grammar.{Nested}
 use Rattle.spec_language.specs.Accepted.{NamesIn, Valid}
 use Rattle.spec_language.specs.Code.{Instr, off, on, copy, restore, save, defer, move, postfix, firstCode, laterCode, moveCode, againCode, inC, byNumber, inOrder, firstPart, secondPart, code}
-use Rattle.spec_semantics.specs.Meaning.{firstStep, againStep, firstPhase, settle}
+use Rattle.spec_semantics.specs.Meaning.{firstStep, againStep, firstPhase, laterPhase}
 use Rattle.spec_semantics.specs.OverMeaning.{overIn, firstOver, laterOver, againOver, anyOf, turnsOver, eventOver}
 use Rattle.spec_execution.specs.Execution.{Values, at, execute, executeAll, emptied}
 use Rattle.spec_execution.proofs.Responses.{ResponseFits, response-fits}
@@ -180,7 +180,7 @@ module _ (p : Program) (v : Valid p) (e : ℕ) (s : List ℕ) where
       let d₃ = executeAll (byNumber p e moveCode) d₂ in
       let a : Bool = turnsOver p e firstOver firstStep (phaseOne p e) s in
       let b : Bool = anyOf (upTo (size p) (λ i. laterOver t (response p e i))) in
-      let f : Bool = turnsOver p e againOver againStep (phaseOne p e) (settle p e t) in
+      let f : Bool = turnsOver p e againOver againStep (phaseOne p e) (laterPhase p e t) in
       let k₁ = after-first p v e s d s k in
       let k₂ = after-later p v e s t d₁ k₁ in
       let m₁ : d₁ .mark ≡ a || false = mark-first d s k ∙ ap (λ (m : Bool). a || m) none in
@@ -191,7 +191,7 @@ module _ (p : Program) (v : Valid p) (e : ℕ) (s : List ℕ) where
         execute-append (inOrder p e (firstCode c) (phaseOne p e)) (byNumber p e (laterCode c)) d,
         execute-append (byNumber p e moveCode) (inOrder p e (againCode c) (phaseOne p e)) d₂,
       )
-      (mark-again d₃ (settle p e t) (after-moves p v e s t d₂ k₂) ∙ ap (λ (m : Bool). f || m) m₃ ∙ gathered a b f)
+      (mark-again d₃ (laterPhase p e t) (after-moves p v e s t d₂ k₂) ∙ ap (λ (m : Bool). f || m) m₃ ∙ gathered a b f)
 
   pub code-marked : length s ≡ size p → executeAll (code p e) (emptied s) .mark ≡ eventOver p e s
   unfolding executeAll execute emptied

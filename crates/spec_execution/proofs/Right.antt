@@ -17,7 +17,7 @@ use Rattle.spec_language.specs.Order.{phaseOne}
 use Rattle.spec_language.specs.Accepted.{Valid}
 use Rattle.spec_language.specs.Code.{Instr, off, on, firstCode, laterCode, moveCode, againCode, inC, byNumber, inOrder, firstPart, secondPart, code}
 use Rattle.spec_language.proofs.Laws.{upTo-of}
-use Rattle.spec_semantics.specs.Meaning.{firstStep, laterValue, againStep, inTurn, firstPhase, settle, event}
+use Rattle.spec_semantics.specs.Meaning.{firstStep, laterValue, againStep, inTurn, firstPhase, laterPhase, event}
 use Rattle.spec_semantics.proofs.OrderLaws.{phaseOne-early}
 use Rattle.spec_execution.specs.Execution.{Values, at, heldAt, execute, executeAll, emptied}
 use Rattle.spec_execution.proofs.Responses.{response-fits}
@@ -87,8 +87,8 @@ module _ (p : Program) (v : Valid p) (e : ℕ) (s : List ℕ) where
           λ i l. o .3 i (omega arith) ∙ h .4 i (omega arith),
         )
 
-    pub after-moves : (d : Values) → Later (size p) d → Seen (executeAll (byNumber p e moveCode) d) (settle p e t)
-    unfolding settle
+    pub after-moves : (d : Values) → Later (size p) d → Seen (executeAll (byNumber p e moveCode) d) (laterPhase p e t)
+    unfolding laterPhase
     after-moves d h =
         let m : Moved (size p) (executeAll (byNumber p e moveCode) d) = parts (size p) _ Moved move-on d (t, h .0, h .1, λ i l. absurd (omega arith), λ i l. refl) in
         subst (Seen (executeAll (byNumber p e moveCode) d)) (upTo-of 0 (m .0) (size p) _ (m .1 .sized) (m .3)) (m .1)
@@ -107,7 +107,7 @@ module _ (p : Program) (v : Valid p) (e : ℕ) (s : List ℕ) where
         execute-append (inOrder p e (firstCode c) (phaseOne p e)) (byNumber p e (laterCode c)) d,
         execute-append (byNumber p e moveCode) (inOrder p e (againCode c) (phaseOne p e)) d₂,
       )
-      (after-again d₃ (settle p e t) (after-moves t d₂ (after-later t d₁ (after-first d s h))))
+      (after-again d₃ (laterPhase p e t) (after-moves t d₂ (after-later t d₁ (after-first d s h))))
 
   module _ (sized : length s ≡ size p) where
     -- copies

@@ -16,39 +16,39 @@ use Rattle.spec_language.specs.Syntax.{Program}
 use Rattle.spec_language.specs.Dependence.{size}
 use Rattle.spec_language.specs.Accepted.{Valid}
 use Rattle.spec_language.specs.Code.{code, Instr, off, on, copy, restore, load, fetch, save, defer, move, push, apply}
-use Rattle.spec_execution.specs.Execution.{Values, at, heldAt, top, apply1, apply2, apply3, applied, overOn, execute, executeAll, emptied}
-use Rattle.spec_execution.specs.Safe.{Filled, start, arity, Ok, withDepth, next, after, Safe, full, Matches}
+use Rattle.spec_execution.specs.Execution.{Values, at, heldAt, top, applyUnary, applyBinary, applyTernary, applied, overOn, execute, executeAll, emptied}
+use Rattle.spec_execution.specs.Safe.{Filled, start, arity, Ok, withDepth, filledNext, filledAfter, Safe, isFilled, Matches}
 use Rattle.spec_execution.proofs.SafeParts.{passes}
 
-pub safe-prefix : (a : Filled) (xs ys : List Instr) → Safe a (xs ++ ys) → Safe (after a xs) ys
-unfolding after
+pub safe-prefix : (a : Filled) (xs ys : List Instr) → Safe a (xs ++ ys) → Safe (filledAfter a xs) ys
+unfolding filledAfter
 safe-prefix a [] ys h = h
-safe-prefix a (x ∷ xs) ys h = safe-prefix (next a x) xs ys (h .1)
+safe-prefix a (x ∷ xs) ys h = safe-prefix (filledNext a x) xs ys (h .1)
 
 -- a full place holds a value
-pub full-some : (o : Option ℕ) → full o ≡ true → (v : ℕ) × (o ≡ some v)
+pub full-some : (o : Option ℕ) → isFilled o ≡ true → (v : ℕ) × (o ≡ some v)
 full-some none h = absurd (false≢true h)
 full-some (some v) h = (v, refl)
 
 -- one place filled on both sides
-full-set : (l : List (Option ℕ)) (m : List Bool) (i w : ℕ) → length l ≡ length m → i < length m → ((j : ℕ) → full (getD l j none) ≡ getD m j false)
-    → (j : ℕ) → full (getD (set l i (some w)) j none) ≡ getD (set m i true) j false
+full-set : (l : List (Option ℕ)) (m : List Bool) (i w : ℕ) → length l ≡ length m → i < length m → ((j : ℕ) → isFilled (getD l j none) ≡ getD m j false)
+    → (j : ℕ) → isFilled (getD (set l i (some w)) j none) ≡ getD (set m i true) j false
 full-set l m i w e b h j =
     by-cases (ℕ-discrete j i)
     (λ q. rw (q, getD-set-same l i (some w) none (omega arith), getD-set-same m i true false b))
     (λ q. rw (getD-set-other l i j (some w) none q, getD-set-other m i j true false q) (h j))
 
 -- the stack's length after a function
-length-applied1 : (f : ℕ) (st : List ℕ) → 1 ≤ length st → length (apply1 f st) ≡ length st - 1 + 1
+length-applied1 : (f : ℕ) (st : List ℕ) → 1 ≤ length st → length (applyUnary f st) ≡ length st - 1 + 1
 length-applied1 f [] h = absurd (omega arith)
 length-applied1 f (a ∷ st) h = omega arith
 
-length-applied2 : (f : ℕ) (st : List ℕ) → 2 ≤ length st → length (apply2 f st) ≡ length st - 2 + 1
+length-applied2 : (f : ℕ) (st : List ℕ) → 2 ≤ length st → length (applyBinary f st) ≡ length st - 2 + 1
 length-applied2 f [] h = absurd (omega arith)
 length-applied2 f (b ∷ []) h = absurd (omega arith)
 length-applied2 f (b ∷ (a ∷ st)) h = omega arith
 
-length-applied3 : (f : ℕ) (st : List ℕ) → 3 ≤ length st → length (apply3 f st) ≡ length st - 3 + 1
+length-applied3 : (f : ℕ) (st : List ℕ) → 3 ≤ length st → length (applyTernary f st) ≡ length st - 3 + 1
 length-applied3 f [] h = absurd (omega arith)
 length-applied3 f (c ∷ []) h = absurd (omega arith)
 length-applied3 f (c ∷ (b ∷ [])) h = absurd (omega arith)
@@ -107,8 +107,8 @@ module _ (d : Values) (a : Filled) where
     in-places = m .in-places;
   }
 
-pub next-matches : (i : Instr) (d : Values) (a : Filled) → Ok a i → Matches d a → Matches (execute i d) (next a i)
-unfolding execute next
+pub next-matches : (i : Instr) (d : Values) (a : Filled) → Ok a i → Matches d a → Matches (execute i d) (filledNext a i)
+unfolding execute filledNext
 next-matches off d a k m = m
 next-matches on d a k m = m
 next-matches (copy i) d a k m = scratch-matches d a i (at (d .store) i) (d .stack) (a .depth) k (m .stacked) m
@@ -125,10 +125,10 @@ next-matches (apply f) d a k m =
     stack-matches d a (applied f (d .stack)) (a .depth - arity f + 1) (overOn f (d .stack) || d .mark)
     (length-applied f (d .stack) (rw (m .stacked) (k .2)) ∙ ap (λ n. n - arity f + 1) (m .stacked)) m
 
-pub after-matches : (xs ys : List Instr) (d : Values) (a : Filled) → Safe a (xs ++ ys) → Matches d a → Matches (executeAll xs d) (after a xs)
-unfolding executeAll after
+pub after-matches : (xs ys : List Instr) (d : Values) (a : Filled) → Safe a (xs ++ ys) → Matches d a → Matches (executeAll xs d) (filledAfter a xs)
+unfolding executeAll filledAfter
 after-matches [] ys d a h m = m
-after-matches (x ∷ xs) ys d a h m = after-matches xs ys (execute x d) (next a x) (h .1) (next-matches x d a (h .0) m)
+after-matches (x ∷ xs) ys d a h m = after-matches xs ys (execute x d) (filledNext a x) (h .1) (next-matches x d a (h .0) m)
 
 pub start-matches : (n : ℕ) (s : List ℕ) → length s ≡ n → Matches (emptied s) (start n)
 unfolding emptied start
@@ -141,28 +141,28 @@ start-matches n s e = record {
   in-places = λ i. rw e (nothing n i);
 }
   where
-    nothing : (n i : ℕ) → full (getD (replicate n none) i none) ≡ getD (replicate n false) i false
+    nothing : (n i : ℕ) → isFilled (getD (replicate n none) i none) ≡ getD (replicate n false) i false
     nothing zero i = refl
     nothing (suc n) zero = refl
     nothing (suc n) (suc i) = nothing n i
 
 -- at each count the next instruction has what it needs
-pub safe-at : (a : Filled) (is : List Instr) (c : ℕ) → Safe a is → c < length is → Ok (after a (take c is)) (getD is c off)
+pub safe-at : (a : Filled) (is : List Instr) (c : ℕ) → Safe a is → c < length is → Ok (filledAfter a (take c is)) (getD is c off)
 safe-at a is c h b =
-    let s : Safe (after a (take c is)) (drop c is) = safe-prefix a (take c is) (drop c is) (subst (Safe a) (sym (take-append-drop c is)) h) in
-    let t : Safe (after a (take c is)) (getD is c off ∷ drop (suc c) is) = subst (Safe (after a (take c is))) (drop-cons is c off b) s in
+    let s : Safe (filledAfter a (take c is)) (drop c is) = safe-prefix a (take c is) (drop c is) (subst (Safe a) (sym (take-append-drop c is)) h) in
+    let t : Safe (filledAfter a (take c is)) (getD is c off ∷ drop (suc c) is) = subst (Safe (filledAfter a (take c is))) (drop-cons is c off b) s in
     t .0
 
 -- and the values are filled as the check has it
-pub matches-at : (a : Filled) (is : List Instr) (c : ℕ) (d : Values) → Safe a is → Matches d a → Matches (executeAll (take c is) d) (after a (take c is))
+pub matches-at : (a : Filled) (is : List Instr) (c : ℕ) (d : Values) → Safe a is → Matches d a → Matches (executeAll (take c is) d) (filledAfter a (take c is))
 matches-at a is c d h m = after-matches (take c is) (drop c is) d a (subst (Safe a) (sym (take-append-drop c is)) h) m
 
 -- ---- an event's code
 
 -- at each count: the values are filled as the check has it, and the next instruction has what it needs
 pub code-at : (p : Program) → Valid p → (e : ℕ) (s : List ℕ) → length s ≡ size p → (c : ℕ) → c < length (code p e)
-    → Matches (executeAll (take c (code p e)) (emptied s)) (after (start (size p)) (take c (code p e)))
-    × Ok (after (start (size p)) (take c (code p e))) (getD (code p e) c off)
+    → Matches (executeAll (take c (code p e)) (emptied s)) (filledAfter (start (size p)) (take c (code p e)))
+    × Ok (filledAfter (start (size p)) (take c (code p e))) (getD (code p e) c off)
 code-at p v e s l c b =
     let safe = passes p v e in
     (matches-at (start (size p)) (code p e) c (emptied s) safe (start-matches (size p) s l), safe-at (start (size p)) (code p e) c safe b)

@@ -20,7 +20,7 @@ use Rattle.spec_language.specs.Code.{Instr, off, on, copy, restore, load, fetch
 use Rattle.spec_language.specs.Code.{postfix, ofC, firstCode, laterCode, moveCode, againCode}
 use Rattle.spec_language.specs.Code.{copied, inC, byNumber, inOrder, firstPart, secondPart, code}
 use Rattle.spec_semantics.proofs.OrderLaws.{phaseOne-early}
-use Rattle.spec_execution.specs.Safe.{Filled, start, arity, Ok, withDepth, next, after, Safe}
+use Rattle.spec_execution.specs.Safe.{Filled, start, arity, Ok, withDepth, filledNext, filledAfter, Safe}
 use Rattle.spec_execution.proofs.Responses.{ResponseFits, response-fits}
 use Rattle.spec_execution.proofs.Running.{arity-is}
 use Rattle.spec_execution.proofs.Lengths.{mid}
@@ -30,25 +30,25 @@ use Rattle.spec_execution.proofs.Masks.{copies, restores, code-shape}
 
 abbrev Fine : Filled → List Instr → Type 0
 Fine a [] = Unit {0}
-Fine a (i ∷ is) = Ok a i × Fine (next a i) is
+Fine a (i ∷ is) = Ok a i × Fine (filledNext a i) is
 
-fine-join : (a : Filled) (xs ys : List Instr) → Fine a xs → Fine (after a xs) ys → Fine a (xs ++ ys)
-unfolding after
+fine-join : (a : Filled) (xs ys : List Instr) → Fine a xs → Fine (filledAfter a xs) ys → Fine a (xs ++ ys)
+unfolding filledAfter
 fine-join a [] ys h k = k
-fine-join a (x ∷ xs) ys h k = (h .0, fine-join (next a x) xs ys (h .1) k)
+fine-join a (x ∷ xs) ys h k = (h .0, fine-join (filledNext a x) xs ys (h .1) k)
 
-after-append : (a : Filled) (xs ys : List Instr) → after a (xs ++ ys) ≡ after (after a xs) ys
-unfolding after
+after-append : (a : Filled) (xs ys : List Instr) → filledAfter a (xs ++ ys) ≡ filledAfter (filledAfter a xs) ys
+unfolding filledAfter
 after-append a [] ys = refl
-after-append a (x ∷ xs) ys = after-append (next a x) xs ys
+after-append a (x ∷ xs) ys = after-append (filledNext a x) xs ys
 
 -- from a each instruction has what it needs, and they lead to P
 abbrev Goes : Filled → List Instr → (Filled → Type 0) → Type 0
-Goes a xs P = Fine a xs × P (after a xs)
+Goes a xs P = Fine a xs × P (filledAfter a xs)
 
 goes-join : (a : Filled) (xs ys : List Instr) (P Q : Filled → Type 0) → Goes a xs P → ((b : Filled) → P b → Goes b ys Q) → Goes a (xs ++ ys) Q
 goes-join a xs ys P Q h k =
-    let t : Goes (after a xs) ys Q = k (after a xs) (h .1) in
+    let t : Goes (filledAfter a xs) ys Q = k (filledAfter a xs) (h .1) in
     (fine-join a xs ys (h .0) (t .0), subst Q (sym (after-append a xs ys)) (t .1))
 
 -- and to one state
@@ -60,7 +60,7 @@ leads-on a b z xs ys h k = goes-join a xs ys (λ x. x ≡ b) (λ x. x ≡ z) h (
 
 goes-parts : (n : ℕ) (f : ℕ → List Instr) (Inv : ℕ → Filled → Type 0) → ((i : ℕ) → i < n → (a : Filled) → Inv i a → Goes a (f i) (Inv (suc i)))
     → (a : Filled) → Inv 0 a → Goes a (flatten (upTo n f)) (Inv n)
-unfolding upTo flatten after
+unfolding upTo flatten filledAfter
 goes-parts zero f Inv step a h = (tt, h)
 goes-parts (suc n) f Inv step a h =
     goes-join a (f 0) (flatten (upTo n (λ i. f (suc i)))) (Inv 1) (Inv (suc n)) (step 0 (omega arith) a h)
@@ -69,15 +69,15 @@ goes-parts (suc n) f Inv step a h =
 goes-turns : (p : Program) (e : ℕ) (f : ℕ → Response → List Instr) (P : Filled → Type 0)
     → ((i : ℕ) → i < size p → (a : Filled) → P a → Goes a (f i (response p e i)) P)
     → (is : List ℕ) → All (λ i. i < size p) is → (a : Filled) → P a → Goes a (inOrder p e f is) P
-unfolding inOrder flatMap after
+unfolding inOrder flatMap filledAfter
 goes-turns p e f P step [] b a h = (tt, h)
 goes-turns p e f P step (i ∷ is) b a h =
     goes-join a (f i (response p e i)) (inOrder p e f is) P P (step i (b .0) a h) (goes-turns p e f P step is (b .1))
 
 safe-of : (a : Filled) (xs : List Instr) → Goes a xs (λ b. b .depth ≡ 0) → Safe a xs
-unfolding after
+unfolding filledAfter
 safe-of a [] h = h .1
-safe-of a (x ∷ xs) h = (h .0 .0, safe-of (next a x) xs (h .0 .1, h .1))
+safe-of a (x ∷ xs) h = (h .0 .0, safe-of (filledNext a x) xs (h .0 .1, h .1))
 
 -- ---- an expression's code
 
@@ -88,7 +88,7 @@ same-depth : (a : Filled) (m n : ℕ) → m ≡ n → withDepth m a ≡ withDept
 same-depth a m n e = ap (λ k. withDepth k a) e
 
 goes-apply : (a : Filled) (f k m : ℕ) → (arity f ≡ k) × (0 < f) × (f ≤ 14) → m ≡ a .depth + k → Leads (withDepth m a) (apply f ∷ []) (deeper a)
-unfolding next after
+unfolding filledNext filledAfter
 goes-apply a f k m h e =
     (((h .1, h .2, omega (arith, h .0)), tt), same-depth a (m - arity f + 1) (a .depth + 1) (rw (h .0) (omega arith)))
 
@@ -98,12 +98,12 @@ module _ (n : ℕ) (c : ℕ → Bool) where
   Has l = (length l ≡ n) × ((i : ℕ) → i < n → c i ≡ true → getD l i false ≡ true)
 
   goes-name : (a : Filled) (i : ℕ) (b : Bool) → c i ≡ b → i < n → Has (a .scratch) → a .depth < 64 → Leads a (pick b (fetch i) (load i) ∷ []) (deeper a)
-  unfolding next after
+  unfolding filledNext filledAfter
   goes-name a i true e b h l = (((omega arith, h .1 i b e, l), tt), refl)
   goes-name a i false e b h l = (((omega arith, l), tt), refl)
 
   goes-postfix : {k : ℕ} {x : Expr} → Nested k x → NamesIn n x → (a : Filled) → Has (a .scratch) → a .depth + 2 * k ≤ 65 → Leads a (postfix c x) (deeper a)
-  unfolding postfix next after
+  unfolding postfix filledNext filledAfter
   goes-postfix (n-con {k = k} h) w a s l = (((h, omega arith), tt), refl)
   goes-postfix (n-name {k = k} {i = i} h) w a s l = goes-name a i (c i) refl w s (omega arith)
   goes-postfix (n-app1 {k = k} {f = f} {a = x} r hx) w a s l =
@@ -157,14 +157,14 @@ module _ (n : ℕ) (c : ℕ → Bool) where
 
   goes-save : (a : Filled) (i : ℕ) (x : Expr) → Nested 16 x → NamesIn n x → i < n → Ready n a
       → Leads a (postfix c x ++ (save i ∷ [])) (scratchFilled i (a .depth + 1 - 1) a)
-  unfolding next after
+  unfolding filledNext filledAfter
   goes-save a i x h w b r =
       leads-on a (deeper a) (scratchFilled i (a .depth + 1 - 1) a) (postfix c x) (save i ∷ [])
       (goes-postfix h w a (has a r) (omega (arith, r .level))) (((omega (arith, r .scratched), omega arith), tt), refl)
 
   goes-defer : (a : Filled) (i : ℕ) (x : Expr) → Nested 16 x → NamesIn n x → i < n → Ready n a
       → Leads a (postfix c x ++ (defer i ∷ [])) (placeFilled i (a .depth + 1 - 1) a)
-  unfolding next after
+  unfolding filledNext filledAfter
   goes-defer a i x h w b r =
       leads-on a (deeper a) (placeFilled i (a .depth + 1 - 1) a) (postfix c x) (defer i ∷ [])
       (goes-postfix h w a (has a r) (omega (arith, r .level))) (((omega (arith, r .places), omega arith), tt), refl)
@@ -187,7 +187,7 @@ module _ (n : ℕ) (c : ℕ → Bool) where
   leads-to a b xs P h k = (h .0, subst P (sym (h .1)) k)
 
   copy-member : (a : Filled) (k : ℕ) → k < n → Ready k a → Goes a (copy k ∷ []) (Ready (suc k))
-  unfolding next after
+  unfolding filledNext filledAfter
   copy-member a k b h = (
     (omega (arith, h .scratched), tt),
     record {
@@ -201,7 +201,7 @@ module _ (n : ℕ) (c : ℕ → Bool) where
   )
 
   copy-safe : (a : Filled) (k : ℕ) (r : Response) → copied r ≡ c k → k < n → Ready k a → Goes a (ofC copy k r) (Ready (suc k))
-  unfolding after
+  unfolding filledAfter
   copy-safe a k (follows x) e b h = copy-member a k b h
   copy-safe a k (takes x) e b h = copy-member a k b h
   copy-safe a k (defers x) e b h = copy-member a k b h
@@ -221,14 +221,14 @@ module _ (n : ℕ) (c : ℕ → Bool) where
       (ready-fill n a i (a .depth + 1 - 1) b (omega (arith, r .level)) r)
 
   first-safe : (a : Filled) (i : ℕ) (r : Response) → ResponseFits n r → i < n → Ready n a → Goes a (firstCode c i r) (Ready n)
-  unfolding after
+  unfolding filledAfter
   first-safe a i (follows x) h b r = save-safe a i x (h .0) (h .1) b r
   first-safe a i (takes x) h b r = save-safe a i x (h .0) (h .1) b r
   first-safe a i (defers x) h b r = (tt, r)
   first-safe a i keeps h b r = (tt, r)
 
   again-safe : (a : Filled) (i : ℕ) (r : Response) → ResponseFits n r → i < n → Ready n a → Goes a (againCode c i r) (Ready n)
-  unfolding after
+  unfolding filledAfter
   again-safe a i (follows x) h b r = save-safe a i x (h .0) (h .1) b r
   again-safe a i (takes x) h b r = (tt, r)
   again-safe a i (defers x) h b r = (tt, r)
@@ -239,7 +239,7 @@ module _ (n : ℕ) (c : ℕ → Bool) where
   LaterOne l i r a = Ready n a × Waits (a .deferred) i r × ((j : ℕ) (q : Response) → Waits l j q → Waits (a .deferred) j q)
 
   later-safe : (a : Filled) (i : ℕ) (r : Response) → ResponseFits n r → i < n → Ready n a → Goes a (laterCode c i r) (LaterOne (a .deferred) i r)
-  unfolding after
+  unfolding filledAfter
   later-safe a i (follows x) h b r = (tt, (r, tt, λ j q k. k))
   later-safe a i (takes x) h b r = (tt, (r, tt, λ j q k. k))
   later-safe a i (defers x) h b r =
@@ -252,14 +252,14 @@ module _ (n : ℕ) (c : ℕ → Bool) where
   MoveOne l a = Ready n a × (a .deferred ≡ l)
 
   move-safe : (a : Filled) (i : ℕ) (r : Response) → i < n → Ready n a → Waits (a .deferred) i r → Goes a (moveCode i r) (MoveOne (a .deferred))
-  unfolding next after
+  unfolding filledNext filledAfter
   move-safe a i (follows x) b h w = (tt, (h, refl))
   move-safe a i (takes x) b h w = (tt, (h, refl))
   move-safe a i (defers x) b h w = (((omega (arith, h .scratched), omega (arith, h .places), w), tt), (ready-fill n a i (a .depth) b (h .level) h, refl))
   move-safe a i keeps b h w = (tt, (h, refl))
 
   restore-safe : (a : Filled) (i : ℕ) (r : Response) → copied r ≡ c i → i < n → Ready n a → Goes a (ofC restore i r) (Ready n)
-  unfolding next after
+  unfolding filledNext filledAfter
   restore-safe a i (follows x) e b h = (((omega (arith, h .scratched), h .have i b (sym e)), tt), h)
   restore-safe a i (takes x) e b h = (((omega (arith, h .scratched), h .have i b (sym e)), tt), h)
   restore-safe a i (defers x) e b h = (((omega (arith, h .scratched), h .have i b (sym e)), tt), h)
@@ -313,7 +313,7 @@ module _ (p : Program) (v : Valid p) (e : ℕ) where
   again-passes a h = let g = agains-safe a h in safe-of a (inOrder p e (againCode (inC p e)) (phaseOne p e)) (g .0, g .1 .level)
 
   -- and all of C is in scratch after it
-  pub again-held : (a : Filled) → AllHeld a → AllHeld (after a (inOrder p e (againCode (inC p e)) (phaseOne p e)))
+  pub again-held : (a : Filled) → AllHeld a → AllHeld (filledAfter a (inOrder p e (againCode (inC p e)) (phaseOne p e)))
   again-held a h = agains-safe a h .1
 
   seconds-safe : (a : Filled) → Wait (size p) a → Goes a (secondPart p e) AllHeld
@@ -330,21 +330,21 @@ module _ (p : Program) (v : Valid p) (e : ℕ) where
   restores-safe = goes-parts (size p) _ (λ k. AllHeld) (λ k b a. restore-safe (size p) (inC p e) a k (response p e k) refl b)
 
   -- off and on change nothing
-  mask : (i : Instr) → ((a : Filled) → Ok a i) → ((a : Filled) → next a i ≡ a)
+  mask : (i : Instr) → ((a : Filled) → Ok a i) → ((a : Filled) → filledNext a i ≡ a)
       → (xs : List Instr) (P : Filled → Type 0) (a : Filled) → Goes a xs P → Goes a (i ∷ xs) P
-  unfolding after
-  mask i ok same xs P a h = ((ok a, subst (λ x. Fine x xs) (sym (same a)) (h .0)), subst (λ x. P (after x xs)) (sym (same a)) (h .1))
+  unfolding filledAfter
+  mask i ok same xs P a h = ((ok a, subst (λ x. Fine x xs) (sym (same a)) (h .0)), subst (λ x. P (filledAfter x xs)) (sym (same a)) (h .1))
 
   mask-off : (xs : List Instr) (P : Filled → Type 0) (a : Filled) → Goes a xs P → Goes a (off ∷ xs) P
-  unfolding next
+  unfolding filledNext
   mask-off = mask off (λ a. tt) (λ a. refl)
 
   mask-on : (xs : List Instr) (P : Filled → Type 0) (a : Filled) → Goes a xs P → Goes a (on ∷ xs) P
-  unfolding next
+  unfolding filledNext
   mask-on = mask on (λ a. tt) (λ a. refl)
 
   pub passes : Safe (start (size p)) (code p e)
-  unfolding after
+  unfolding filledAfter
   passes =
       let tail = restores p e ++ (on ∷ []) in
       let rest = mid p e ++ (off ∷ tail) in

@@ -36,24 +36,24 @@ top st = at st 0
 
 -- a function takes its arguments, the last from the top, and puts its result; a stack that is too short is left as it
 -- is
-abbrev pub apply1 : ℕ → List ℕ → List ℕ
-apply1 f [] = []
-apply1 f (a ∷ st) = result f a 0 0 ∷ st
+abbrev pub applyUnary : ℕ → List ℕ → List ℕ
+applyUnary f [] = []
+applyUnary f (a ∷ st) = result f a 0 0 ∷ st
 
-abbrev pub apply2 : ℕ → List ℕ → List ℕ
-apply2 f [] = []
-apply2 f (b ∷ []) = b ∷ []
-apply2 f (b ∷ (a ∷ st)) = result f a b 0 ∷ st
+abbrev pub applyBinary : ℕ → List ℕ → List ℕ
+applyBinary f [] = []
+applyBinary f (b ∷ []) = b ∷ []
+applyBinary f (b ∷ (a ∷ st)) = result f a b 0 ∷ st
 
-abbrev pub apply3 : ℕ → List ℕ → List ℕ
-apply3 f [] = []
-apply3 f (c ∷ []) = c ∷ []
-apply3 f (c ∷ (b ∷ [])) = c ∷ b ∷ []
-apply3 f (c ∷ (b ∷ (a ∷ st))) = result f a b c ∷ st
+abbrev pub applyTernary : ℕ → List ℕ → List ℕ
+applyTernary f [] = []
+applyTernary f (c ∷ []) = c ∷ []
+applyTernary f (c ∷ (b ∷ [])) = c ∷ b ∷ []
+applyTernary f (c ∷ (b ∷ (a ∷ st))) = result f a b c ∷ st
 
 -- "`!` needs one, `if` three, the others two"
 abbrev pub applied : ℕ → List ℕ → List ℕ
-applied f st = pick (eqb f 3) (apply1 f st) (pick (eqb f 14) (apply3 f st) (apply2 f st))
+applied f st = pick (eqb f 3) (applyUnary f st) (pick (eqb f 14) (applyTernary f st) (applyBinary f st))
 
 -- whether it runs over with the arguments that it takes
 abbrev pub over1 : ℕ → List ℕ → Bool

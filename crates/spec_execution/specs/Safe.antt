@@ -43,38 +43,38 @@ Ok a (apply f) = (1 ≤ f) × (f ≤ 14) × (arity f ≤ a .depth)
 abbrev pub withDepth : ℕ → Filled → Filled
 withDepth n a = record { scratch = a .scratch; deferred = a .deferred; depth = n }
 
-unfoldable pub next : Filled → Instr → Filled
-next a off = a
-next a on = a
-next a (copy i) = record { scratch = set (a .scratch) i true; deferred = a .deferred; depth = a .depth }
-next a (restore i) = a
-next a (load i) = withDepth (a .depth + 1) a
-next a (fetch i) = withDepth (a .depth + 1) a
-next a (save i) = record { scratch = set (a .scratch) i true; deferred = a .deferred; depth = a .depth - 1 }
-next a (defer i) = record { scratch = a .scratch; deferred = set (a .deferred) i true; depth = a .depth - 1 }
-next a (move i) = record { scratch = set (a .scratch) i true; deferred = a .deferred; depth = a .depth }
-next a (push w) = withDepth (a .depth + 1) a
-next a (apply f) = withDepth (a .depth - arity f + 1) a
+unfoldable pub filledNext : Filled → Instr → Filled
+filledNext a off = a
+filledNext a on = a
+filledNext a (copy i) = record { scratch = set (a .scratch) i true; deferred = a .deferred; depth = a .depth }
+filledNext a (restore i) = a
+filledNext a (load i) = withDepth (a .depth + 1) a
+filledNext a (fetch i) = withDepth (a .depth + 1) a
+filledNext a (save i) = record { scratch = set (a .scratch) i true; deferred = a .deferred; depth = a .depth - 1 }
+filledNext a (defer i) = record { scratch = a .scratch; deferred = set (a .deferred) i true; depth = a .depth - 1 }
+filledNext a (move i) = record { scratch = set (a .scratch) i true; deferred = a .deferred; depth = a .depth }
+filledNext a (push w) = withDepth (a .depth + 1) a
+filledNext a (apply f) = withDepth (a .depth - arity f + 1) a
 
-unfoldable pub after : Filled → List Instr → Filled
-after a [] = a
-after a (i ∷ is) = after (next a i) is
+unfoldable pub filledAfter : Filled → List Instr → Filled
+filledAfter a [] = a
+filledAfter a (i ∷ is) = filledAfter (filledNext a i) is
 
 -- each instruction has what it needs, and the stack is empty in the end
 abbrev pub Safe : Filled → List Instr → Type 0
 Safe a [] = a .depth ≡ 0
-Safe a (i ∷ is) = Ok a i × Safe (next a i) is
+Safe a (i ∷ is) = Ok a i × Safe (filledNext a i) is
 
 -- ---- values that are filled exactly so
 
-abbrev pub full : Option ℕ → Bool
-full none = false
-full (some v) = true
+abbrev pub isFilled : Option ℕ → Bool
+isFilled none = false
+isFilled (some v) = true
 
 pub record Matches (d : Values) (a : Filled) : Type 0 where
   pub stored : length (d .store) ≡ length (a .scratch)
   pub scratched : length (d .scratch) ≡ length (a .scratch)
   pub places : length (d .deferred) ≡ length (a .deferred)
   pub stacked : length (d .stack) ≡ a .depth
-  pub in-scratch : (i : ℕ) → full (getD (d .scratch) i none) ≡ getD (a .scratch) i false
-  pub in-places : (i : ℕ) → full (getD (d .deferred) i none) ≡ getD (a .deferred) i false
+  pub in-scratch : (i : ℕ) → isFilled (getD (d .scratch) i none) ≡ getD (a .scratch) i false
+  pub in-places : (i : ℕ) → isFilled (getD (d .deferred) i none) ≡ getD (a .deferred) i false

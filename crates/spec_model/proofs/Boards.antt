@@ -17,7 +17,7 @@ use Rattle.spec_execution.specs.CodeFacts.{CodeFacts}
 use Rattle.spec_execution.proofs.CodeRight.{code-facts}
 use Rattle.spec_model.specs.Carried.{carried}
 use Rattle.spec_model.specs.Model.{Arrival, Engine, engine, Call, Turn, State, state, carriedTo}
-use Rattle.spec_model.specs.Claims.{settlingIn, storeOf, Moment, commits, changes, inForce, engineIn, storeIn, after, historyOf, Sound, replayed, BoardOfCommits}
+use Rattle.spec_model.specs.Claims.{copyBackIn, storeOf, Moment, commits, changes, inForce, engineIn, storeIn, after, historyOf, Sound, replayed, BoardOfCommits}
 use Rattle.spec_model.proofs.Carries.{length-carried}
 use Rattle.spec_model.proofs.Moves.{Effect, nothing, took, commit, cases-imp}
 use Rattle.spec_model.proofs.Reached.{DoneIn, onto, still, Computes, computes}
@@ -76,7 +76,7 @@ module _ (p₀ : Program) where
     unfolding replayed emptied
     stored ts g = always p₀ Stored keeps v (length-fresh p₀, refl) ts g
 
-    store-of : (s : State) (h : List Moment) → Fit s → Stored [] h [] s → settlingIn (inForce s) (engineIn s) ≡ false → storeIn s ≡ storeAfter h
+    store-of : (s : State) (h : List Moment) → Fit s → Stored [] h [] s → copyBackIn (inForce s) (engineIn s) ≡ false → storeIn s ≡ storeAfter h
     store-of (state p w) h f i u = still p (code-facts p (f .0)) (storeAfter h) w (i .0) (f .1 .fine) u (i .1)
 
     pub board-of-commits : (ts : List Turn) → All Sound ts → BoardOfCommits p₀ ts

@@ -1,5 +1,5 @@
--- The carried store is settled, and it is the one that the rules give: under no event the actives keep what they begin
--- with, and the passives follow from the actives. From one program to itself a settled store stays.
+-- The carried store is consistent, and it is the one that the rules give: under no event the actives keep what they
+-- begin with, and the passives follow from the actives. From one program to itself a consistent store stays.
 use Prim.Native.Nat.{ℕ, _<_}
 use mathlib.Core.Bool.{true, false, false≢true, and-eq-true-iff}
 use mathlib.Core.Path.{_≡_, refl, sym, ap, _∙_, subst}
@@ -16,23 +16,23 @@ use Rattle.spec_language.specs.Order.{upTo, phaseOne}
 use Rattle.spec_language.specs.Grammar.{BehaviourFits}
 use Rattle.spec_language.specs.Accepted.{Valid}
 use Rattle.spec_language.proofs.Laws.{length-upTo, getD-upTo, upTo-same}
-use Rattle.spec_semantics.specs.Meaning.{at, firstStep, firstPhase, startOf, starts, fresh, Settled, carry, withStore}
+use Rattle.spec_semantics.specs.Meaning.{at, firstStep, firstPhase, startOf, starts, fresh, Consistent, carry, withStore}
 use Rattle.spec_semantics.specs.Rules.{Shows}
 use Rattle.spec_semantics.proofs.Solution.{firstOf, Solves, first-solves, passives-unique}
 use Rattle.spec_semantics.proofs.Handlers.{undeclared-keeps}
 use Rattle.spec_semantics.proofs.Lengths.{length-first, length-turns, length-starts}
-use Rattle.spec_semantics.proofs.Agreement.{settled-show, settled-alone}
-use Rattle.spec_model.specs.Carried.{activeIn, begins, carriedActives, carried, Carries}
+use Rattle.spec_semantics.proofs.Agreement.{consistent-show, consistent-alone}
+use Rattle.spec_model.specs.Carried.{isActiveIn, carriedStart, carriedActives, carried, Carries}
 
 -- ---- numbers that are an active's
 
-pub active-below : (p : Program) (i : ℕ) → activeIn p i ≡ true → (i < size p) × (isActive (behaviourAt p i) ≡ true)
+pub active-below : (p : Program) (i : ℕ) → isActiveIn p i ≡ true → (i < size p) × (isActive (behaviourAt p i) ≡ true)
 active-below p i h = let k = and-eq-true-iff (ltb i (size p)) (isActive (behaviourAt p i)) .0 h in (ltb-true i (size p) (k .0), k .1)
 
-pub below-active : (p : Program) (i : ℕ) → i < size p → isActive (behaviourAt p i) ≡ true → activeIn p i ≡ true
+pub below-active : (p : Program) (i : ℕ) → i < size p → isActive (behaviourAt p i) ≡ true → isActiveIn p i ≡ true
 below-active p i b h = rw (lt-ltb i (size p) b) h
 
-begins-kept : (v : ℕ) (b : Behaviour) → isActive b ≡ true → begins true v b ≡ v
+begins-kept : (v : ℕ) (b : Behaviour) → isActive b ≡ true → carriedStart true v b ≡ v
 begins-kept v (passive x) h = absurd (false≢true h)
 begins-kept v (active c hs) h = refl
 
@@ -43,7 +43,7 @@ module _ (p q : Program) (s : List ℕ) where
   unfolding carriedActives
   length-actives = length-upTo (size q) _
 
-  pub actives-at : (i : ℕ) → i < size q → at (carriedActives p q s) i ≡ begins (activeIn p i) (at s i) (behaviourAt q i)
+  pub actives-at : (i : ℕ) → i < size q → at (carriedActives p q s) i ≡ carriedStart (isActiveIn p i) (at s i) (behaviourAt q i)
   unfolding carriedActives
   actives-at i b = getD-upTo (size q) _ i 0 b
 
@@ -74,23 +74,23 @@ module _ (p q : Program) (v : Valid q) (s : List ℕ) where
   unfolding carried
   carried-solves = first-solves q v (noEvent q) (omega arith) (carriedActives p q s) (length-actives p q s)
 
-  pub carried-settled : Settled q (carried p q s)
-  carried-settled = (
+  pub carried-consistent : Consistent q (carried p q s)
+  carried-consistent = (
     length-carried p q s,
     λ i x b t. carried-solves i b ∙ ap (λ y. firstOf (carriedActives p q s) (at (carried p q s)) i (respond (noEvent q) y)) t,
   )
 
   -- an active of the new program has what it begins with
-  pub carried-active : (i : ℕ) → i < size q → isActive (behaviourAt q i) ≡ true → at (carried p q s) i ≡ begins (activeIn p i) (at s i) (behaviourAt q i)
+  pub carried-active : (i : ℕ) → i < size q → isActive (behaviourAt q i) ≡ true → at (carried p q s) i ≡ carriedStart (isActiveIn p i) (at s i) (behaviourAt q i)
   carried-active i b a =
       carried-solves i b ∙ still-first q v (carriedActives p q s) (at (carried p q s)) i b (behaviourAt q i) refl a ∙ actives-at p q s i b
 
-  carried-kept : (i : ℕ) → activeIn p i ≡ true → activeIn q i ≡ true → at (carried p q s) i ≡ at s i
+  carried-kept : (i : ℕ) → isActiveIn p i ≡ true → isActiveIn q i ≡ true → at (carried p q s) i ≡ at s i
   carried-kept i a b =
       let k = active-below q i b in
       carried-active i (k .0) (k .1) ∙ rw a (begins-kept (at s i) (behaviourAt q i) (k .1))
 
-  carried-begun : (i c : ℕ) (hs : List Handler) → i < size q → activeIn p i ≡ false → behaviourAt q i ≡ active c hs → at (carried p q s) i ≡ c
+  carried-begun : (i c : ℕ) (hs : List Handler) → i < size q → isActiveIn p i ≡ false → behaviourAt q i ≡ active c hs → at (carried p q s) i ≡ c
   carried-begun i c hs b a e = carried-active i b (ap isActive e) ∙ rw (a, e)
 
   pub carries : Carries p q s (carried p q s)
@@ -98,7 +98,7 @@ module _ (p q : Program) (v : Valid q) (s : List ℕ) where
     sized = length-carried p q s;
     kept = carried-kept;
     begun = carried-begun;
-    shown = settled-show q v (carried p q s) carried-settled;
+    shown = consistent-show q v (carried p q s) carried-consistent;
   }
 
   -- ---- and no other
@@ -117,20 +117,20 @@ module _ (p q : Program) (v : Valid q) (s : List ℕ) where
   begun-same : (t : List ℕ) → Carries p q s t → (i : ℕ) → i < size q → (b : Behaviour) → behaviourAt q i ≡ b → isActive b ≡ true → at t i ≡ at (carried p q s) i
   begun-same t h i l (passive x) e a = absurd (false≢true a)
   begun-same t h i l (active c hs) e a =
-      let b : activeIn q i ≡ true = below-active q i l (ap isActive e) in
-      split (activeIn p i) (λ k. h .kept i k b ∙ sym (carried-kept i k b)) (λ k. h .begun i c hs l k e ∙ sym (carried-begun i c hs l k e))
+      let b : isActiveIn q i ≡ true = below-active q i l (ap isActive e) in
+      split (isActiveIn p i) (λ k. h .kept i k b ∙ sym (carried-kept i k b)) (λ k. h .begun i c hs l k e ∙ sym (carried-begun i c hs l k e))
 
   pub carries-alone : (t : List ℕ) → Carries p q s t → t ≡ carried p q s
   carries-alone t h =
       let same : withStore q t ≡ withStore q (carried p q s) = with-same t (carried p q s) (λ i l. begun-same t h i l (behaviourAt q i) refl) in
       ext-getD 0 t (carried p q s) (h .sized ∙ sym (length-carried p q s)) (λ i b.
       let l : i < size q = subst (λ (n : ℕ). i < n) (h .sized) b in
-      settled-alone q v (carried p q s) carried-settled i (at t i) l (subst (λ (P : Program). Shows P i (at t i)) same (h .shown i l)))
+      consistent-alone q v (carried p q s) carried-consistent i (at t i) l (subst (λ (P : Program). Shows P i (at t i)) same (h .shown i l)))
 
 -- to the same program
-module _ (p : Program) (v : Valid p) (s : List ℕ) (settled : Settled p s) where
+module _ (p : Program) (v : Valid p) (s : List ℕ) (consistent : Consistent p s) where
   pub carried-same : carried p p s ≡ s
   carried-same =
-      ext-getD 0 (carried p p s) s (length-carried p p s ∙ sym (settled .0)) (λ i b.
-      passives-unique p v (at (carried p p s)) (at s) (carried-settled p p v s .1) (settled .1)
+      ext-getD 0 (carried p p s) s (length-carried p p s ∙ sym (consistent .0)) (λ i b.
+      passives-unique p v (at (carried p p s)) (at s) (carried-consistent p p v s .1) (consistent .1)
       (λ j l a. carried-kept p p v s j (below-active p j l a) (below-active p j l a)) i (subst (λ (n : ℕ). i < n) (length-carried p p s) b))

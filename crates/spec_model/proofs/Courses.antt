@@ -18,7 +18,7 @@ use Rattle.spec_semantics.proofs.Commute.{commute}
 use Rattle.spec_execution.proofs.CodeRight.{code-facts}
 use Rattle.spec_model.specs.Carried.{carried}
 use Rattle.spec_model.specs.Model.{Arrival, rank}
-use Rattle.spec_model.specs.Claims.{eventsOf, Moment, commits, changes, committedBy, Commit, commitsUnder, replayed, Course, last, then, onward, courseOf, SameChanges, ApartIn, ApartEach, unsigned}
+use Rattle.spec_model.specs.Claims.{eventsOf, Moment, commits, changes, committedBy, Commit, commitsUnder, replayed, Course, last, thenChange, onward, courseOf, SameChanges, ApartIn, ApartEach, unsigned}
 use Rattle.spec_model.proofs.Carries.{length-carried}
 use Rattle.spec_model.proofs.Choice.{numbers, distinct-numbers, perm-rest}
 use Rattle.spec_model.proofs.Equals.{Sooner, sooner-prop}
@@ -30,12 +30,12 @@ use Rattle.spec_model.proofs.Replaying.{Proper}
 
 unfoldable pub along : Program → Course → List ℕ → List ℕ
 along p (last l) s = play p (eventsOf l) s
-along p (then l q c) s = along q c (carried p q (play p (eventsOf l) s))
+along p (thenChange l q c) s = along q c (carried p q (play p (eventsOf l) s))
 
 along-onward : (p : Program) (a : Arrival) (c : Course) (s : List ℕ) → along p (onward a c) s ≡ along p c (event p (a .event) s)
 unfolding along play
 along-onward p a (last l) s = refl
-along-onward p a (then l q c) s = refl
+along-onward p a (thenChange l q c) s = refl
 
 pub replay-along : (p : Program) (h : List Moment) (s : List ℕ) → replayed p h s ≡ along p (courseOf h) s
 unfolding replayed along courseOf play
@@ -47,15 +47,15 @@ replay-along p (changes q ∷ h) s = replay-along q h (carried p q s)
 
 abbrev firsts : Course → List Arrival
 firsts (last l) = l
-firsts (then l q c) = l
+firsts (thenChange l q c) = l
 
 abbrev pub allOf : Course → List Arrival
 allOf (last l) = l
-allOf (then l q c) = l ++ allOf c
+allOf (thenChange l q c) = l ++ allOf c
 
 all-onward : (a : Arrival) (c : Course) → allOf (onward a c) ≡ a ∷ allOf c
 all-onward a (last l) = refl
-all-onward a (then l q c) = refl
+all-onward a (thenChange l q c) = refl
 
 pub committed-all : (h : List Moment) → committedBy h ≡ allOf (courseOf h)
 unfolding courseOf
@@ -67,22 +67,22 @@ committed-all (changes q ∷ h) = committed-all h
 
 abbrev pub Orderly : Program → Course → Type 0
 Orderly p (last l) = Pairwise (Sooner p) l
-Orderly p (then l q c) = Pairwise (Sooner p) l × Orderly q c
+Orderly p (thenChange l q c) = Pairwise (Sooner p) l × Orderly q c
 
 abbrev pub Known : Program → Course → Type 0
 Known p (last l) = Valid p × All (Declared p) l
-Known p (then l q c) = Valid p × All (Declared p) l × Known q c
+Known p (thenChange l q c) = Valid p × All (Declared p) l × Known q c
 
 sooner-cons : (p : Program) (a : Arrival) (l : List Arrival) → All (Sooner p a) l → Pairwise (Sooner p) l → Pairwise (Sooner p) (a ∷ l)
 sooner-cons p a l h k = Pairwise·cons (λ x m. all-mem (Sooner p a) (sooner-prop p a) l h x m) k
 
 orderly-onward : (p : Program) (a : Arrival) (c : Course) → All (Sooner p a) (firsts c) → Orderly p c → Orderly p (onward a c)
 orderly-onward p a (last l) h k = sooner-cons p a l h k
-orderly-onward p a (then l q c) h k = (sooner-cons p a l h (k .0), k .1)
+orderly-onward p a (thenChange l q c) h k = (sooner-cons p a l h (k .0), k .1)
 
 firsts-onward : (P : Arrival → Type 0) (a : Arrival) (c : Course) → P a → All P (firsts c) → All P (firsts (onward a c))
 firsts-onward P a (last l) h k = (h, k)
-firsts-onward P a (then l q c) h k = (h, k)
+firsts-onward P a (thenChange l q c) h k = (h, k)
 
 all-firsts : (P : Arrival → Type 0) (p : Program) (h : List Moment) → All (λ (x : Commit). P (x .what)) (commitsUnder p h) → All P (firsts (courseOf h))
 unfolding commitsUnder courseOf
@@ -100,7 +100,7 @@ orderly p (changes q ∷ h) k = (Pairwise·nil, orderly q h k)
 
 known-onward : (p : Program) (a : Arrival) (c : Course) → a .event < events p → Known p c → Known p (onward a c)
 known-onward p a (last l) h k = (k .0, (h, k .1))
-known-onward p a (then l q c) h k = (k .0, (h, k .1), k .2)
+known-onward p a (thenChange l q c) h k = (k .0, (h, k .1), k .2)
 
 pub known : (p : Program) (h : List Moment) → Valid p → Proper p h → Known p (courseOf h)
 unfolding courseOf
@@ -180,9 +180,9 @@ pub same-course : (p : Program) (c d : Course) (s : List ℕ) → length s ≡ s
     → List·Nodup (numbers (allOf c)) → Known p c → ApartEach p c → Orderly p c → Orderly p d → along p c s ≡ along p d s
 unfolding along
 same-course p (last l) (last m) s n h e z k a oc od = one-sheet p (k .0) l m s n e z (k .1) a oc od
-same-course p (last l) (then m r d) s n h e z k a oc od = absurd h
-same-course p (then l q c) (last m) s n h e z k a oc od = absurd h
-same-course p (then l q c) (then m r d) s n h e z k a oc od =
+same-course p (last l) (thenChange m r d) s n h e z k a oc od = absurd h
+same-course p (thenChange l q c) (last m) s n h e z k a oc od = absurd h
+same-course p (thenChange l q c) (thenChange m r d) s n h e z k a oc od =
     let first : play p (eventsOf l) s ≡ play p (eventsOf m) s = one-sheet p (k .0) l m s n (h .0) (nodup-left l (allOf c) z) (k .1) (a .0) (oc .0) (od .0) in
     let w : List·Permᴰ (allUnsigned l ++ allUnsigned (allOf c)) (allUnsigned m ++ allUnsigned (allOf d)) = rw (← unsigned-append l (allOf c), ← unsigned-append m (allOf d)) e in
     let y : List·Nodup (numbers (allUnsigned l ++ allUnsigned (allOf c))) = rw (← unsigned-append l (allOf c), same-numbers (l ++ allOf c)) z in

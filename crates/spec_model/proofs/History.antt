@@ -17,8 +17,8 @@ use Rattle.spec_execution.specs.Execution.{emptied}
 use Rattle.spec_execution.specs.CodeFacts.{CodeFacts}
 use Rattle.spec_execution.proofs.CodeRight.{code-facts}
 use Rattle.spec_model.specs.Carried.{carried}
-use Rattle.spec_model.specs.Model.{Arrival, Engine, engine, queue, Call, arrive, step, board, Answer, refused, takenIn, shows, idle, ran, started, preempted, committed, settling, act, Turn, call, change, State, state, Reply, says, carriedOver, TurnOutcome, turnOutcome, declaredIn, carriedTo, turn, runTurns, replies, begun}
-use Rattle.spec_model.specs.Claims.{number, inQueue, settlingIn, Moment, commits, changes, ifCommits, momentOf, moments, ifTakenIn, takenTurns, inForce, numberIn, after, historyOf, takenInBy, Sound}
+use Rattle.spec_model.specs.Model.{Arrival, Engine, engine, queue, Call, arrive, step, board, Answer, refused, takenIn, shows, idle, ran, started, preempted, committed, inCopyBack, act, Turn, call, change, State, state, Reply, says, carriedOver, TurnOutcome, turnOutcome, declaredIn, carriedTo, turn, runTurns, replies, begun}
+use Rattle.spec_model.specs.Claims.{number, inQueue, copyBackIn, Moment, commits, changes, ifCommits, momentOf, moments, ifTakenIn, takenTurns, inForce, numberIn, after, historyOf, takenInBy, Sound}
 use Rattle.spec_model.proofs.Carries.{length-carried}
 use Rattle.spec_model.proofs.Moves.{Effect, nothing, took, commit, effect, Cases, act-by}
 use Rattle.spec_model.proofs.Reached.{Fine, Reached, act-keeps, initially}
@@ -82,11 +82,11 @@ all-declared q [] h = tt
 all-declared q (a ∷ l) h = let k = through (ltb (a .event) (events q)) (declaredIn q l) h in (ltb-true _ _ (k .0), all-declared q l (k .1))
 
 pub change-by : (p q : Program) (w : Engine) (P : TurnOutcome → Type 0) → ((x : Answer) → P (turnOutcome (says x) (state p w)))
-    → (settlingIn p w ≡ false → All (λ a. a .event < events q) (inQueue w) → P (turnOutcome carriedOver (state q (carriedTo p q w))))
+    → (copyBackIn p w ≡ false → All (λ a. a .event < events q) (inQueue w) → P (turnOutcome carriedOver (state q (carriedTo p q w))))
     → P (turn (change q) (state p w))
 unfolding turn
 change-by p q (engine t waiting r d) P refuse carry =
-    by-test P (settling p r) (λ _. refuse (refused refusals.settling))
+    by-test P (inCopyBack p r) (λ _. refuse (refused refusals.settling))
     (λ u. by-test P (declaredIn q (queue waiting r)) (λ e. carry u (all-declared q (queue waiting r) e)) (λ _. refuse (refused refusals.undeclaredInHand)))
 
 number-carried : (p q : Program) (w : Engine) → number (carriedTo p q w) ≡ number w
@@ -172,7 +172,7 @@ module _ (p₀ : Program) (Inv : List Turn → List Moment → List Arrival → 
   pub record Keeps : Type 0 where
     pub calls : (p : Program) → CodeFacts p → Cases p (Kept p)
     pub refuses : (q : Program) (past : List Turn) (h : List Moment) (taken : List Arrival) (s : State) → Inv past h taken s → Inv (past ++ (change q ∷ [])) h taken s
-    pub carries : (p q : Program) (w : Engine) → Valid p → Valid q → Reached p w → settlingIn p w ≡ false → All (λ a. a .event < events q) (inQueue w)
+    pub carries : (p q : Program) (w : Engine) → Valid p → Valid q → Reached p w → copyBackIn p w ≡ false → All (λ a. a .event < events q) (inQueue w)
         → (past : List Turn) (h : List Moment) (taken : List Arrival) → lastOf p₀ h ≡ p → Inv past h taken (state p w)
         → Inv (past ++ (change q ∷ [])) (h ++ (changes q ∷ [])) taken (state q (carriedTo p q w))
 

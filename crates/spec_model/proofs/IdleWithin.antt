@@ -17,7 +17,7 @@ use Rattle.spec_language.specs.Order.{upTo}
 use Rattle.spec_execution.specs.Execution.{Values}
 use Rattle.spec_execution.specs.CodeFacts.{CodeFacts}
 use Rattle.spec_model.specs.Model.{Arrival, rest, busy, Engine, engine, Call, arrive, step, board, Chosen, rank, aside, choose, begin, act, run}
-use Rattle.spec_model.specs.Claims.{number, inQueue, Idle, after, longest, steps}
+use Rattle.spec_model.specs.Claims.{number, inQueue, Idle, after, longest, stepCount}
 use Rattle.spec_model.proofs.Choice.{Leads, choose-perm, choose-first, choose-length}
 use Rattle.spec_model.proofs.Moves.{Effect, Cases, act-by}
 use Rattle.spec_model.proofs.Reached.{Fine, Reached, back-perm, act-keeps}
@@ -99,8 +99,8 @@ module _ (p : Program) where
 
   -- ---- calls
 
-  pub steps-allowed : (c : Call) (ds : List Call) → steps (c ∷ ds) ≡ allowed c (steps ds)
-  unfolding steps
+  pub steps-allowed : (c : Call) (ds : List Call) → stepCount (c ∷ ds) ≡ allowed c (stepCount ds)
+  unfolding stepCount
   steps-allowed (arrive e who) ds = refl
   steps-allowed step ds = refl
   steps-allowed (board i who) ds = refl
@@ -116,15 +116,15 @@ module _ (p : Program) where
   bound (engine t waiting (busy a c) d) r = omega (arith, extra-le (over a waiting), longest-most p (a .event) (r .fine .0 .1))
 
   module _ (facts : CodeFacts p) where
-    goes-idle : (ds : List Call) (w : Engine) → Reached p w → number (run p ds w) ≡ number w → left w ≤ steps ds → Idle p (run p ds w)
-    unfolding run steps
+    goes-idle : (ds : List Call) (w : Engine) → Reached p w → number (run p ds w) ≡ number w → left w ≤ stepCount ds → Idle p (run p ds w)
+    unfolding run stepCount
     goes-idle [] w r e h = none-left w r h
     goes-idle (c ∷ ds) w r e h =
         let v : Engine = act p c w .after in
         let a : number w ≤ number v = act-grows p c w in
         let b : number v ≤ number (run p ds v) = run-grows p ds v in
         let same : number v ≡ number w = omega arith in
-        goes-idle ds v (act-keeps p facts c w r) (e ∙ sym same) (act-by p Falls falls c w r same (steps ds) (rw (steps-allowed c ds) at h))
+        goes-idle ds v (act-keeps p facts c w r) (e ∙ sym same) (act-by p Falls falls c w r same (stepCount ds) (rw (steps-allowed c ds) at h))
 
     pub empty : (w : Engine) → length (inQueue w) ≡ 0 → Idle p w
     unfolding act
@@ -133,5 +133,5 @@ module _ (p : Program) where
     empty (engine t waiting (busy a c) d) h = absurd (omega arith)
 
     pub idle-from : (w : Engine) → Reached p w → (ds : List Call) → number (run p ds w) ≡ number w
-        → (length (inQueue w) + 1) * (longest p + 1) ≤ steps ds → Idle p (run p ds w)
+        → (length (inQueue w) + 1) * (longest p + 1) ≤ stepCount ds → Idle p (run p ds w)
     idle-from w r ds e h = goes-idle ds w r e (omega (arith, bound w r))

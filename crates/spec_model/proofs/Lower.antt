@@ -21,7 +21,7 @@ use Rattle.spec_language.specs.Dependence.{events}
 use Rattle.spec_execution.specs.Execution.{Values, offs, ons, copyingBackAfter, maskedAfter}
 use Rattle.spec_execution.specs.CodeFacts.{CodeFacts, copyingBackAt, maskedAt}
 use Rattle.spec_model.specs.Model.{Arrival, arrival, Running, rest, busy, Engine, engine, queue, arrive, step, board, rank, Turn, call, change, State, state, carriedTo}
-use Rattle.spec_model.specs.Claims.{number, inQueue, CopyingBack, Moment, commits, Commit, commitUnder, commitsUnder, inForce, engineIn, numberIn, handIn, after, historyOf, Sound, LowerThan, Later, LowerFirst}
+use Rattle.spec_model.specs.Claims.{number, inQueue, CopyingBack, Moment, commits, Commit, commitUnder, commitsUnder, inForce, engineIn, numberIn, handIn, after, historyOf, Sound, LowerThan, TakenInLater, LowerFirst}
 use Rattle.spec_model.proofs.Choice.{choose-perm}
 use Rattle.spec_model.proofs.Moves.{Cases}
 use Rattle.spec_model.proofs.Reached.{back-perm}
@@ -197,7 +197,7 @@ module _ (p₀ : Program) where
 
   -- what was behind a when its copy-back began came later
   behind-later : (ts : List Turn) (p : Program) (a : Arrival) (t : ℕ) (l : List Arrival) (b : Began ts p a t l) (x : Arrival)
-      → After p a (numberIn (after p₀ (b .before))) x → rank p a < rank p x → Later p₀ ts a x
+      → After p a (numberIn (after p₀ (b .before))) x → rank p a < rank p x → TakenInLater p₀ ts a x
   behind-later ts p a t l b x k r = record { past = b .before; rest-of = b .since; moment = b .moment; copying = b .copying; not-yet = k r }
 
   spread : (P : Arrival → Type 0) (l : List Commit) → All P (arrivals l) → All (λ (x : Commit). P (x .what)) l
@@ -205,8 +205,8 @@ module _ (p₀ : Program) where
   spread P (x ∷ l) h = (h .0, spread P l (h .1))
 
   laters : (ts : List Turn) (t : ℕ) (q : List Arrival) (log : List Commit) → Marked ts t q log
-      → Pairwise (λ (x y : Commit). LowerThan x (y .what) → Later p₀ ts (x .what) (y .what)) log
-      × All (λ (x : Commit). All (λ b. LowerThan x b → Later p₀ ts (x .what) b) q) log
+      → Pairwise (λ (x y : Commit). LowerThan x (y .what) → TakenInLater p₀ ts (x .what) (y .what)) log
+      × All (λ (x : Commit). All (λ b. LowerThan x b → TakenInLater p₀ ts (x .what) b) q) log
   laters ts t q [] h = (Pairwise·nil, tt)
   laters ts t q (x ∷ l) h =
       let b = h .0 in

@@ -15,7 +15,7 @@ use Rattle.spec_language.specs.Dependence.{size, events}
 use Rattle.spec_language.specs.Rights.{maySend, maySee}
 use Rattle.spec_language.specs.Code.{off, code}
 use Rattle.spec_execution.specs.Execution.{Values, execute}
-use Rattle.spec_model.specs.Model.{Arrival, arrival, Running, rest, busy, Engine, engine, queue, Call, arrive, step, board, Answer, refused, takenIn, shows, idle, ran, started, preempted, committed, Outcome, rank, masked, settling, choose, aside, begin, advance, act}
+use Rattle.spec_model.specs.Model.{Arrival, arrival, Running, rest, busy, Engine, engine, queue, Call, arrive, step, board, Answer, refused, takenIn, shows, idle, ran, started, preempted, committed, Outcome, rank, masked, inCopyBack, choose, aside, begin, advance, act}
 use Rattle.spec_model.specs.Claims.{number}
 use Rattle.spec_model.proofs.Choice.{Leads, choose-perm, choose-first}
 
@@ -95,7 +95,7 @@ module _ (p : Program) where
         by-test (λ (x : Answer). P (board i who) (engine t waiting r d) (said-by x nothing) (engine t waiting r d)) (leb 8 who) (λ _. yes)
         (λ _. by-test (λ (x : Answer). P (board i who) (engine t waiting r d) (said-by x nothing) (engine t waiting r d)) (leb (size p) i) (λ _. yes)
         (λ _. by-test (λ (x : Answer). P (board i who) (engine t waiting r d) (said-by x nothing) (engine t waiting r d)) (maySee p who i)
-        (λ _. by-test (λ (x : Answer). P (board i who) (engine t waiting r d) (said-by x nothing) (engine t waiting r d)) (settling p r) (λ _. yes) (λ _. yes))
+        (λ _. by-test (λ (x : Answer). P (board i who) (engine t waiting r d) (said-by x nothing) (engine t waiting r d)) (inCopyBack p r) (λ _. yes) (λ _. yes))
         (λ _. yes)))
     act-by step (engine t [] rest d) = m .idles t d
     act-by step (engine t (b ∷ l) rest d) = m .starts t b l d

@@ -19,12 +19,12 @@ use Rattle.spec_semantics.specs.Meaning.{at, againStep, inTurn}
 use Rattle.spec_semantics.proofs.Solution.{againOf, again-solved, Follows, passives-unique}
 use Rattle.spec_semantics.proofs.Handlers.{Says, handled-says}
 use Rattle.spec_execution.specs.Execution.{Values, heldAt, executeAll}
-use Rattle.spec_execution.specs.Safe.{Filled, Safe, after as checked}
+use Rattle.spec_execution.specs.Safe.{Filled, Safe, filledAfter as checked}
 use Rattle.spec_execution.proofs.Right.{Seen, after-again}
 use Rattle.spec_execution.proofs.SafeParts.{again-passes, again-held}
 use Rattle.spec_execution.proofs.Lengths.{length-postfix, late-again, length-turns}
-use Rattle.spec_model.specs.Carried.{activeIn, begins, carried}
-use Rattle.spec_model.proofs.Carries.{length-carried, carried-settled, carried-active}
+use Rattle.spec_model.specs.Carried.{isActiveIn, carriedStart, carried}
+use Rattle.spec_model.proofs.Carries.{length-carried, carried-consistent, carried-active}
 
 -- the passives' code on event e
 abbrev pub passivesCode : Program → ℕ → List Instr
@@ -74,12 +74,12 @@ module _ (q : Program) (v : Valid q) (e : ℕ) (declared : e ≤ noEvent q) wher
   -- ---- where the actives are those of the carried store, it is that store
 
   module _ (p : Program) (s t : List ℕ) (sized : length t ≡ size q)
-      (same : (i : ℕ) → i < size q → isActive (behaviourAt q i) ≡ true → at t i ≡ begins (activeIn p i) (at s i) (behaviourAt q i)) where
+      (same : (i : ℕ) → i < size q → isActive (behaviourAt q i) ≡ true → at t i ≡ carriedStart (isActiveIn p i) (at s i) (behaviourAt q i)) where
     pub again-carried : again t ≡ carried p q s
     again-carried =
         let n : length (again t) ≡ size q = again-solved q v e declared t sized .0 in
         ext-getD 0 (again t) (carried p q s) (n ∙ sym (length-carried p q s)) (λ i b.
-        passives-unique q v (at (again t)) (at (carried p q s)) (again-follows t sized) (carried-settled p q v s .1)
+        passives-unique q v (at (again t)) (at (carried p q s)) (again-follows t sized) (carried-consistent p q v s .1)
         (λ j l a. again-kept t sized j l (behaviourAt q j) refl a ∙ same j l a ∙ sym (carried-active p q v s j l a)) i (subst (λ (m : ℕ). i < m) n b))
 
     module _ (d : Values) (loaded : Loaded (size q) t d) where

@@ -18,7 +18,7 @@ use Rattle.spec_language.specs.Refusals as refusals
 use Rattle.spec_execution.specs.Execution.{at}
 use Rattle.spec_execution.specs.CodeFacts.{CodeFacts}
 use Rattle.spec_model.specs.Model.{rest, busy, Engine, engine, Call, arrive, step, board, Answer, refused, takenIn, shows, act, run}
-use Rattle.spec_model.specs.Claims.{number, storeOf, Idle, after, steps, countIn, shownAfter, unlessRefused, previewed}
+use Rattle.spec_model.specs.Claims.{number, storeOf, Idle, after, stepCount, countIn, shownAfter, unlessRefused, previewed}
 use Rattle.spec_model.proofs.Moves.{Effect, Cases, effect, act-by}
 use Rattle.spec_model.proofs.Reached.{Reached, act-keeps}
 use Rattle.spec_model.proofs.Calls.{counted, act-number, act-grows, run-grows}
@@ -52,8 +52,8 @@ module _ (p : Program) where
     commits = λ t waiting a n d k u. (λ s. refl, λ s z. absurd (s tt));
   }
 
-  as-steps : (ds : List Call) (w : Engine) → number (run p ds w) ≡ number w → run p ds w ≡ run p (onlySteps (steps ds)) w
-  unfolding run steps
+  as-steps : (ds : List Call) (w : Engine) → number (run p ds w) ≡ number w → run p ds w ≡ run p (onlySteps (stepCount ds)) w
+  unfolding run stepCount
   as-steps [] w h = refl
   as-steps (step ∷ ds) w h = as-steps ds (act p step w .after) (h ∙ sym (act-by p Still still step w .0 tt))
   as-steps (arrive e who ∷ ds) w h =
@@ -61,21 +61,21 @@ module _ (p : Program) where
       let a : number w ≤ number v = act-grows p (arrive e who) w in
       let b : number v ≤ number (run p ds v) = run-grows p ds v in
       let same : number v ≡ number w = omega arith in
-      as-steps ds v (h ∙ sym same) ∙ ap (run p (onlySteps (steps ds))) (act-by p Still still (arrive e who) w .1 (λ s. s) same)
+      as-steps ds v (h ∙ sym same) ∙ ap (run p (onlySteps (stepCount ds))) (act-by p Still still (arrive e who) w .1 (λ s. s) same)
   as-steps (board i who ∷ ds) w h =
       let v : Engine = act p (board i who) w .after in
       let a : number w ≤ number v = act-grows p (board i who) w in
       let b : number v ≤ number (run p ds v) = run-grows p ds v in
       let same : number v ≡ number w = omega arith in
-      as-steps ds v (h ∙ sym same) ∙ ap (run p (onlySteps (steps ds))) (act-by p Still still (board i who) w .1 (λ s. s) same)
+      as-steps ds v (h ∙ sym same) ∙ ap (run p (onlySteps (stepCount ds))) (act-by p Still still (board i who) w .1 (λ s. s) same)
 
   none-taken : (n : ℕ) (w : Engine) → number (run p (onlySteps n) w) ≡ number w
   unfolding run
   none-taken zero w = refl
   none-taken (suc n) w = none-taken n (act p step w .after) ∙ act-by p Still still step w .0 tt
 
-  count-steps : (n : ℕ) → steps (onlySteps n) ≡ n
-  unfolding steps
+  count-steps : (n : ℕ) → stepCount (onlySteps n) ≡ n
+  unfolding stepCount
   count-steps zero = refl
   count-steps (suc n) = ap suc (count-steps n)
 
@@ -125,9 +125,9 @@ module _ (p : Program) where
         let v : Engine = act p (arrive e who) w .after in
         let one : number v ≡ number w + 1 =
         act-number p (arrive e who) w ∙ ap (λ (a : Answer). counted (effect (arrive e who) a (number w)) (number w)) t in
-        let k : run p ds v ≡ run p (onlySteps (steps ds)) v = as-steps ds v (h ∙ sym one) in
+        let k : run p ds v ≡ run p (onlySteps (stepCount ds)) v = as-steps ds v (h ∙ sym one) in
         let quiet : Idle p (run p (onlySteps (countIn p v)) v) = idle-within v (act-keeps p facts (arrive e who) w r) in
-        let same = one-idle (countIn p v) (steps ds) v quiet (subst (Idle p) k g) in
+        let same = one-idle (countIn p v) (stepCount ds) v quiet (subst (Idle p) k g) in
         ap (λ (a : Answer). unlessRefused a
         (pick (leb (size p) i) (refused refusals.noBehaviour) (pick (maySee p who i) (shownAfter p v i) (refused refusals.noRight)))) t
         ∙ rw (lt-leb (size p) i b, sees) (ap (λ (u : Engine). shows (at (storeOf u) i)) (same ∙ sym k))

@@ -12,7 +12,7 @@ use Rattle.spec_language.specs.Syntax.{Program}
 use Rattle.spec_language.specs.Code.{code}
 use Rattle.spec_execution.specs.CodeFacts.{CodeFacts}
 use Rattle.spec_model.specs.Model.{Arrival, rest, busy, Engine, engine, Call, arrive, step, board, rank, choose, act, run}
-use Rattle.spec_model.specs.Claims.{number, inQueue, Idle, after, steps, stepsOf, AtRest}
+use Rattle.spec_model.specs.Claims.{number, inQueue, Idle, after, stepCount, stepsOf, AtRest}
 use Rattle.spec_model.proofs.Choice.{Leads, choose-perm, choose-first}
 use Rattle.spec_model.proofs.Moves.{Effect, Cases, act-by}
 use Rattle.spec_model.proofs.Reached.{Reached, act-keeps, run-keeps}
@@ -67,8 +67,8 @@ module _ (p : Program) where
 
   -- ---- calls
 
-  steps-spent : (c : Call) (ds : List Call) → steps (c ∷ ds) ≡ spent c + steps ds
-  unfolding steps
+  steps-spent : (c : Call) (ds : List Call) → stepCount (c ∷ ds) ≡ spent c + stepCount ds
+  unfolding stepCount
   steps-spent (arrive e who) ds = omega arith
   steps-spent step ds = omega arith
   steps-spent (board i who) ds = omega arith
@@ -88,8 +88,8 @@ module _ (p : Program) where
   left-idle (engine t waiting (busy a c) d) r h = absurd (omega (arith, r .done .0))
 
   module _ (facts : CodeFacts p) where
-    falls : (ds : List Call) (w : Engine) → Reached p w → Leading w → number (run p ds w) ≡ number w → left (run p ds w) ≡ left w - steps ds
-    unfolding run steps
+    falls : (ds : List Call) (w : Engine) → Reached p w → Leading w → number (run p ds w) ≡ number w → left (run p ds w) ≡ left w - stepCount ds
+    unfolding run stepCount
     falls [] w r h e = omega arith
     falls (c ∷ ds) w r h e =
         let v : Engine = act p c w .after in
@@ -104,8 +104,8 @@ module _ (p : Program) where
     from-rest (engine t waiting rest d) h = (tt, refl)
 
     pub quiet-from : (w : Engine) → Reached p w → AtRest w → (ds : List Call) → number (run p ds w) ≡ number w
-        → (steps ds < stepsOf p (inQueue w) → Idle p (run p ds w) → ⊥) × (stepsOf p (inQueue w) ≤ steps ds → Idle p (run p ds w))
+        → (stepCount ds < stepsOf p (inQueue w) → Idle p (run p ds w) → ⊥) × (stepsOf p (inQueue w) ≤ stepCount ds → Idle p (run p ds w))
     quiet-from w r h ds e =
         let k = from-rest w h in
-        let m : left (run p ds w) ≡ stepsOf p (inQueue w) - steps ds = falls ds w r (k .0) e ∙ ap (λ (n : ℕ). n - steps ds) (k .1) in
+        let m : left (run p ds w) ≡ stepsOf p (inQueue w) - stepCount ds = falls ds w r (k .0) e ∙ ap (λ (n : ℕ). n - stepCount ds) (k .1) in
         (λ b i. omega (arith, idle-left (run p ds w) i), λ b. left-idle (run p ds w) (run-keeps p facts ds w r) (omega arith))

@@ -20,7 +20,7 @@ use Rattle.spec_execution.specs.Execution.{Values, execute, executeAll, emptied
 use Rattle.spec_execution.specs.CodeFacts.{CodeFacts}
 use Rattle.spec_execution.proofs.Running.{execute-append}
 use Rattle.spec_model.specs.Model.{Arrival, arrival, Running, rest, busy, Engine, engine, initial, queue, Call, choose, act, run}
-use Rattle.spec_model.specs.Claims.{number, inQueue, storeOf, settlingIn, after}
+use Rattle.spec_model.specs.Claims.{number, inQueue, storeOf, copyBackIn, after}
 use Rattle.spec_model.proofs.Choice.{numbers, distinct-numbers, new-number, perm-length, choose-perm}
 use Rattle.spec_model.proofs.Moves.{Effect, nothing, took, commit, Cases, act-by}
 
@@ -115,7 +115,7 @@ module _ (p : Program) where
     unmasked e c h = by-test (λ (x : Bool). x ≡ false) (eqb (offs (take c (code p e))) 2) (λ _. h) (λ _. refl)
 
     -- where it does not copy back, the store is as it was
-    pub still : (s : List ℕ) (w : Engine) → length s ≡ size p → All (Fine (number w)) (inQueue w) → settlingIn p w ≡ false → DoneIn s w → storeOf w ≡ s
+    pub still : (s : List ℕ) (w : Engine) → length s ≡ size p → All (Fine (number w)) (inQueue w) → copyBackIn p w ≡ false → DoneIn s w → storeOf w ≡ s
     still s (engine t waiting rest d) n f h q = q
     still s (engine t waiting (busy a c) d) n f h q = ap (λ (v : Values). v .store) (q .1) ∙ facts .quiet (a .event) c (f .0 .1) s n (q .0) h
 

@@ -11,7 +11,7 @@ use Rattle.spec_language.specs.Accepted.{Valid}
 use Rattle.spec_semantics.specs.Meaning.{fresh}
 use Rattle.spec_semantics.proofs.Lengths.{length-fresh}
 use Rattle.spec_model.specs.Model.{Arrival, arrival, arrive, step, board, refused, takenIn, shows, idle, ran, started, preempted, committed, Turn, call, change, State, state, Reply, says, carriedOver, replies, begun, rest, busy, engine}
-use Rattle.spec_model.specs.Claims.{settlingIn, eventsOf, Moment, takenTurns, inForce, engineIn, handIn, storeIn, IdleIn, after, historyOf, takenInBy, Sound, replayed, courseOf, SameBoard, unsigned}
+use Rattle.spec_model.specs.Claims.{copyBackIn, eventsOf, Moment, takenTurns, inForce, engineIn, handIn, storeIn, IdleIn, after, historyOf, takenInBy, Sound, replayed, courseOf, SameBoard, unsigned}
 use Rattle.spec_model.proofs.Choice.{numbers, distinct-numbers}
 use Rattle.spec_model.proofs.Unsigned.{allUnsigned, numbered}
 use Rattle.spec_model.proofs.Boards.{board-of-commits}
@@ -39,14 +39,14 @@ taken-numbered (call c ∷ ts) (carriedOver ∷ l) n = taken-numbered ts l n
 taken-numbered (change q ∷ ts) (r ∷ l) n = taken-numbered ts l n
 
 -- with nothing in hand nothing is copied back
-not-settling : (s : State) → handIn s ≡ [] → settlingIn (inForce s) (engineIn s) ≡ false
-not-settling (state p (engine t waiting rest d)) h = refl
-not-settling (state p (engine t waiting (busy a c) d)) h = cc
+no-copy-back : (s : State) → handIn s ≡ [] → copyBackIn (inForce s) (engineIn s) ≡ false
+no-copy-back (state p (engine t waiting rest d)) h = refl
+no-copy-back (state p (engine t waiting (busy a c) d)) h = cc
 
 module _ (p : Program) (v : Valid p) where
   -- when idle, the store is that of the course, and the course's arrivals are those taken in
   idle-store : (ts : List Turn) → All Sound ts → IdleIn (after p ts) → storeIn (after p ts) ≡ replayed p (historyOf p ts) (fresh p)
-  idle-store ts g h = board-of-commits p v ts g (not-settling (after p ts) (idle-hand p v (after p ts) h))
+  idle-store ts g h = board-of-commits p v ts g (no-copy-back (after p ts) (idle-hand p v (after p ts) h))
 
   idle-course : (ts : List Turn) → All Sound ts → IdleIn (after p ts) → List·Permᴰ (takenInBy p ts) (allOf (courseOf (historyOf p ts)))
   idle-course ts g h = subst (List·Permᴰ (takenInBy p ts)) (committed-all (historyOf p ts)) (once-each p v ts g .2 h)

@@ -17,7 +17,7 @@ use Rattle.spec_language.specs.Code.{code}
 use Rattle.spec_execution.specs.Execution.{Values}
 use Rattle.spec_execution.specs.CodeFacts.{CodeFacts}
 use Rattle.spec_model.specs.Model.{Arrival, arrival, Running, rest, busy, Engine, engine, queue, Call, Answer, rank, before, aside, choose, begin, act}
-use Rattle.spec_model.specs.Claims.{number, inQueue, after, longest, steps}
+use Rattle.spec_model.specs.Claims.{number, inQueue, after, longest, stepCount}
 use Rattle.spec_model.proofs.Calls.{answers, commitsOf, takenFrom, logged, gathered, counted, commits-logged, taken-gathered, act-number}
 use Rattle.spec_model.proofs.Choice.{Leads, choose-perm, choose-first}
 use Rattle.spec_model.proofs.Moves.{Effect, effect, Cases, act-by}
@@ -197,8 +197,8 @@ module _ (p : Program) (a : Arrival) where
 
   module _ (facts : CodeFacts p) where
     comes : (ds : List Call) (w : Engine) → Reached p w → List·Memᴰ a (inQueue w)
-        → All (λ b. rank p b ≤ rank p a) (takenFrom ds (answers p ds w) (number w)) → left w ≤ steps ds → List·Memᴰ a (commitsOf (answers p ds w))
-    unfolding answers steps commitsOf takenFrom
+        → All (λ b. rank p b ≤ rank p a) (takenFrom ds (answers p ds w) (number w)) → left w ≤ stepCount ds → List·Memᴰ a (commitsOf (answers p ds w))
+    unfolding answers stepCount commitsOf takenFrom
     comes [] w r m g h = absurd (omega (arith, some-left w r m))
     comes (c ∷ ds) w r m g h =
         let v : Engine = act p c w .after in
@@ -211,10 +211,10 @@ module _ (p : Program) (a : Arrival) where
         subst (List·Memᴰ a) (sym (commits-logged c said (number w) [] (commitsOf l)))
         (⊎-elim (λ k. Memᴰ·append-left (commitsOf l) k)
         (λ k. Memᴰ·append-right (logged x []) (comes ds v (act-keeps p facts c w r) (k .0) later (k .1)))
-        (act-by p Nearer nearer c w r m (both .0) (steps ds) (rw (steps-allowed p c ds) at h)))
+        (act-by p Nearer nearer c w r m (both .0) (stepCount ds) (rw (steps-allowed p c ds) at h)))
 
 module _ (p : Program) (facts : CodeFacts p) where
   pub waits-from : (w : Engine) → Reached p w → (ds : List Call) (a : Arrival) → List·Memᴰ a (inQueue w)
       → All (λ b. rank p b ≤ rank p a) (takenFrom ds (answers p ds w) (number w))
-      → (length (inQueue w) + 1) * (longest p + 1) ≤ steps ds → List·Memᴰ a (commitsOf (answers p ds w))
+      → (length (inQueue w) + 1) * (longest p + 1) ≤ stepCount ds → List·Memᴰ a (commitsOf (answers p ds w))
   waits-from w r ds a m g h = comes p a facts ds w r m g (omega (arith, bound p a w r))

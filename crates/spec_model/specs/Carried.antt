@@ -13,19 +13,19 @@ use Rattle.spec_semantics.specs.Meaning.{at, firstPhase, withStore}
 use Rattle.spec_semantics.specs.Rules.{Shows}
 
 -- number i is an active's in a program; past its end there is none
-abbrev pub activeIn : Program → ℕ → Bool
-activeIn p i = ltb i (size p) && isActive (behaviourAt p i)
+abbrev pub isActiveIn : Program → ℕ → Bool
+isActiveIn p i = ltb i (size p) && isActive (behaviourAt p i)
 
 -- "Actives that are active in both keep their value, other actives take the new start": of a behaviour of the new
 -- program, its number being an active's in the old or not, and its value there. A passive's place is 0 until it is
 -- worked out.
-abbrev pub begins : Bool → ℕ → Behaviour → ℕ
-begins both v (passive x) = 0
-begins both v (active c hs) = pick both v c
+abbrev pub carriedStart : Bool → ℕ → Behaviour → ℕ
+carriedStart both v (passive x) = 0
+carriedStart both v (active c hs) = pick both v c
 
 -- the new program's actives, from a store of the old one
 unfoldable pub carriedActives : Program → Program → List ℕ → List ℕ
-carriedActives p q s = upTo (size q) (λ i. begins (activeIn p i) (at s i) (behaviourAt q i))
+carriedActives p q s = upTo (size q) (λ i. carriedStart (isActiveIn p i) (at s i) (behaviourAt q i))
 
 -- "passives are worked out anew": as compile works a fresh round's out, under no event
 unfoldable pub carried : Program → Program → List ℕ → List ℕ
@@ -35,6 +35,6 @@ carried p q s = firstPhase q (noEvent q) (carriedActives p q s)
 
 pub record Carries (p q : Program) (s s′ : List ℕ) : Type 0 where
   pub sized : length s′ ≡ size q
-  pub kept : (i : ℕ) → activeIn p i ≡ true → activeIn q i ≡ true → at s′ i ≡ at s i
-  pub begun : (i c : ℕ) (hs : List Handler) → i < size q → activeIn p i ≡ false → behaviourAt q i ≡ active c hs → at s′ i ≡ c
+  pub kept : (i : ℕ) → isActiveIn p i ≡ true → isActiveIn q i ≡ true → at s′ i ≡ at s i
+  pub begun : (i c : ℕ) (hs : List Handler) → i < size q → isActiveIn p i ≡ false → behaviourAt q i ≡ active c hs → at s′ i ≡ c
   pub shown : (i : ℕ) → i < size q → Shows (withStore q s′) i (at s′ i)

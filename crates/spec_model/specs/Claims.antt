@@ -20,7 +20,7 @@ use Rattle.spec_semantics.specs.Meaning.{at, event, fresh, withStore}
 use Rattle.spec_semantics.specs.OverMeaning.{eventOver}
 use Rattle.spec_execution.specs.Execution.{copyingBackAfter}
 use Rattle.spec_model.specs.Carried.{carried, Carries}
-use Rattle.spec_model.specs.Model.{Arrival, arrival, rest, busy, Engine, engine, queue, Call, arrive, step, board, Answer, refused, takenIn, shows, idle, ran, started, preempted, committed, rank, settling, act, run, Turn, call, change, State, state, Reply, says, carriedOver, turn, runTurns, replies, begun}
+use Rattle.spec_model.specs.Model.{Arrival, arrival, rest, busy, Engine, engine, queue, Call, arrive, step, board, Answer, refused, takenIn, shows, idle, ran, started, preempted, committed, rank, inCopyBack, act, run, Turn, call, change, State, state, Reply, says, carriedOver, turn, runTurns, replies, begun}
 
 -- ---- what an engine says
 
@@ -33,8 +33,8 @@ inQueue (engine t waiting r d) = queue waiting r
 abbrev pub storeOf : Engine → List ℕ
 storeOf (engine t waiting r d) = d .store
 
-abbrev pub settlingIn : Program → Engine → Bool
-settlingIn p (engine t waiting r d) = settling p r
+abbrev pub copyBackIn : Program → Engine → Bool
+copyBackIn p (engine t waiting r d) = inCopyBack p r
 
 -- "Idle: a step called now would answer idle."
 abbrev pub Idle : Program → Engine → Type 0
@@ -59,11 +59,11 @@ aloneCalls p e who = arrive e who ∷ step ∷ replicate (length (code p e)) ste
 unfoldable pub longest : Program → ℕ
 longest p = foldr max 0 (upTo (events p) (λ e. length (code p e)))
 
-unfoldable pub steps : List Call → ℕ
-steps [] = 0
-steps (arrive e who ∷ cs) = steps cs
-steps (step ∷ cs) = suc (steps cs)
-steps (board i who ∷ cs) = steps cs
+unfoldable pub stepCount : List Call → ℕ
+stepCount [] = 0
+stepCount (arrive e who ∷ cs) = stepCount cs
+stepCount (step ∷ cs) = suc (stepCount cs)
+stepCount (board i who ∷ cs) = stepCount cs
 
 -- 01's count of steps, (k + 1) × (L + 1), k being the number in hand and L the longest event's instructions
 abbrev pub countIn : Program → Engine → ℕ
@@ -211,8 +211,8 @@ programAfter p ts = inForce (after p ts)
 abbrev pub engineAfter : Program → List Turn → Engine
 engineAfter p ts = engineIn (after p ts)
 
-abbrev pub settlingAfter : Program → List Turn → Bool
-settlingAfter p ts = settlingIn (programAfter p ts) (engineAfter p ts)
+abbrev pub copyBackAfter : Program → List Turn → Bool
+copyBackAfter p ts = copyBackIn (programAfter p ts) (engineAfter p ts)
 
 abbrev pub historyOf : Program → List Turn → List Moment
 historyOf p ts = moments ts (replies ts (begun p))
@@ -239,7 +239,7 @@ replayed p (changes q ∷ h) s = replayed q h (carried p q s)
 -- "unless a copy-back is under way, the board equals what demand 2's rules give for the committed events, one by one,
 -- undivided, in order of commitment"
 abbrev pub BoardOfCommits : Program → List Turn → Type 0
-BoardOfCommits p ts = settlingAfter p ts ≡ false → storeIn (after p ts) ≡ replayed p (historyOf p ts) (fresh p)
+BoardOfCommits p ts = copyBackAfter p ts ≡ false → storeIn (after p ts) ≡ replayed p (historyOf p ts) (fresh p)
 
 -- the same by Figure 1's rules: p being in force, the history leads from the store s to the last store
 pub data Replays : Program → List Moment → List ℕ → List ℕ → Type 0 where
@@ -251,7 +251,7 @@ pub data Replays : Program → List Moment → List ℕ → List ℕ → Type 0 
 -- the rules lead there, and to no other store
 abbrev pub BoardByRules : Program → List Turn → Type 0
 BoardByRules p ts =
-    settlingAfter p ts ≡ false
+    copyBackAfter p ts ≡ false
     → Replays p (historyOf p ts) (fresh p) (storeIn (after p ts)) × ((s : List ℕ) → Replays p (historyOf p ts) (fresh p) s → s ≡ storeIn (after p ts))
 
 -- ---- order
@@ -278,7 +278,7 @@ EqualsInOrder p ts =
     × All (λ (x : Commit). All (λ b. EqualTo x b → x .what .number < b .number) (handIn (after p ts))) (commitsUnder p (historyOf p ts))
 
 -- b was taken in after the copy-back of a began: at some moment it is under way, and b's number is not yet given
-pub record Later (p : Program) (ts : List Turn) (a b : Arrival) : Type 0 where
+pub record TakenInLater (p : Program) (ts : List Turn) (a b : Arrival) : Type 0 where
   pub past : List Turn
   pub rest-of : List Turn
   pub moment : ts ≡ past ++ rest-of
@@ -288,8 +288,8 @@ pub record Later (p : Program) (ts : List Turn) (a b : Arrival) : Type 0 where
 -- "A lower rank precedes a higher one only if the higher was taken in after the lower's copy-back began."
 abbrev pub LowerFirst : Program → List Turn → Type 0
 LowerFirst p ts =
-    Pairwise (λ (x y : Commit). LowerThan x (y .what) → Later p ts (x .what) (y .what)) (commitsUnder p (historyOf p ts))
-    × All (λ (x : Commit). All (λ b. LowerThan x b → Later p ts (x .what) b) (handIn (after p ts))) (commitsUnder p (historyOf p ts))
+    Pairwise (λ (x y : Commit). LowerThan x (y .what) → TakenInLater p ts (x .what) (y .what)) (commitsUnder p (historyOf p ts))
+    × All (λ (x : Commit). All (λ b. LowerThan x b → TakenInLater p ts (x .what) b) (handIn (after p ts))) (commitsUnder p (historyOf p ts))
 
 -- ---- counts of steps. "counts of steps, M-100's too, run from the last" change: the turns us after ts change no
 -- sheet, L and the instruction counts being those of the program in force
@@ -309,7 +309,7 @@ callsOf (call c ∷ ts) = c ∷ callsOf ts
 callsOf (change q ∷ ts) = callsOf ts
 
 abbrev pub stepsAmong : List Turn → ℕ
-stepsAmong ts = steps (callsOf ts)
+stepsAmong ts = stepCount (callsOf ts)
 
 abbrev pub countNow : State → ℕ
 countNow s = countIn (inForce s) (engineIn s)
@@ -377,16 +377,16 @@ MarkRight p ts =
 -- a history by sheets: the commits under one, then the change to the next and what follows
 pub data Course : Type 0 where
   last : List Arrival → Course
-  then : List Arrival → Program → Course → Course
+  thenChange : List Arrival → Program → Course → Course
 
 abbrev pub onward : Arrival → Course → Course
 onward a (last l) = last (a ∷ l)
-onward a (then l q c) = then (a ∷ l) q c
+onward a (thenChange l q c) = thenChange (a ∷ l) q c
 
 unfoldable pub courseOf : List Moment → Course
 courseOf [] = last []
 courseOf (commits a ∷ h) = onward a (courseOf h)
-courseOf (changes q ∷ h) = then [] q (courseOf h)
+courseOf (changes q ∷ h) = thenChange [] q (courseOf h)
 
 -- an arrival whoever sent it: as if the host had (02, M-107: "Arrivals in hand commit as before, whoever sent them")
 abbrev pub unsigned : Arrival → Arrival
@@ -395,9 +395,9 @@ unsigned a = arrival (a .number) (a .event) 0
 -- "the same change after the same commits": in any order
 abbrev pub SameChanges : Course → Course → Type 0
 SameChanges (last l) (last m) = Unit {0}
-SameChanges (last l) (then m r d) = ⊥
-SameChanges (then l q c) (last m) = ⊥
-SameChanges (then l q c) (then m r d) = List·Permᴰ (map unsigned l) (map unsigned m) × (q ≡ r) × SameChanges c d
+SameChanges (last l) (thenChange m r d) = ⊥
+SameChanges (thenChange l q c) (last m) = ⊥
+SameChanges (thenChange l q c) (thenChange m r d) = List·Permᴰ (map unsigned l) (map unsigned m) × (q ≡ r) × SameChanges c d
 
 -- "those of unequal rank being independent", in each sheet: of the commits under it
 abbrev pub ApartIn : Program → List Arrival → Type 0
@@ -405,7 +405,7 @@ ApartIn p l = All (λ a. All (λ b. rank p a ≢ rank p b → Independent p (a .
 
 abbrev pub ApartEach : Program → Course → Type 0
 ApartEach p (last l) = ApartIn p l
-ApartEach p (then l q c) = ApartIn p l × ApartEach q c
+ApartEach p (thenChange l q c) = ApartIn p l × ApartEach q c
 
 -- "for every two such lists on one sheet, taking in the same events in the same order, ..: when both are idle, their
 -- boards are equal"

@@ -121,9 +121,9 @@ module _ (p : Program) where
   abbrev pub masked : Arrival → ℕ → Bool
   masked a c = maskedAfter (take c (code p (a .event)))
 
-  abbrev pub settling : Running → Bool
-  settling rest = false
-  settling (busy a c) = copyingBackAfter (take c (code p (a .event)))
+  abbrev pub inCopyBack : Running → Bool
+  inCopyBack rest = false
+  inCopyBack (busy a c) = copyingBackAfter (take c (code p (a .event)))
 
   -- ---- a step
 
@@ -171,7 +171,7 @@ module _ (p : Program) where
       pick (leb 8 who) (refused refusals.noPlayer)
       (pick (leb (size p) i) (refused refusals.noBehaviour)
       (pick (maySee p who i)
-      (pick (settling r) (refused refusals.settling)
+      (pick (inCopyBack r) (refused refusals.settling)
       (shows (at (d .store) i)))
       (refused refusals.noRight)))
 
@@ -225,7 +225,7 @@ carriedTo p q (engine t waiting r d) = engine t (queue waiting r) rest (emptied 
 -- after 19": a refusal changes nothing
 abbrev pub changed : Program → Program → Engine → TurnOutcome
 changed p q (engine t waiting r d) =
-    pick (settling p r) (turnOutcome (says (refused refusals.settling)) (state p (engine t waiting r d)))
+    pick (inCopyBack p r) (turnOutcome (says (refused refusals.settling)) (state p (engine t waiting r d)))
     (pick (declaredIn q (queue waiting r)) (turnOutcome carriedOver (state q (carriedTo p q (engine t waiting r d))))
     (turnOutcome (says (refused refusals.undeclaredInHand)) (state p (engine t waiting r d))))
 

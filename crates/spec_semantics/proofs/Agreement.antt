@@ -15,32 +15,32 @@ use Rattle.spec_language.specs.Grammar.{BehaviourFits}
 use Rattle.spec_language.specs.Accepted.{Valid}
 use Rattle.spec_language.proofs.Laws.{getD-upTo, upTo-of}
 use Rattle.spec_semantics.specs.Rules.{behaviour, Yields, Updates, Steps, both, Runs, Shows}
-use Rattle.spec_semantics.specs.Meaning.{value, at, firstPhase, event, startOf, starts, fresh, Settled, carry, withStore}
+use Rattle.spec_semantics.specs.Meaning.{value, at, firstPhase, event, startOf, starts, fresh, Consistent, carry, withStore}
 use Rattle.spec_semantics.proofs.Solution.{firstOf, secondOf, Solves, value-same, own, own-same, first-length, first-solves, event-length, event-solves}
 use Rattle.spec_semantics.proofs.Handlers.{Says, handled-says, undeclared-keeps}
 use Rattle.spec_semantics.proofs.Derivations.{state-size, state-at, nextOf, next, yields-alone, updates-alone, yields, updates}
 use Rattle.spec_semantics.proofs.Lengths.{length-starts, length-fresh}
 
--- ---- a settled store solves the equations of no event
+-- ---- a consistent store solves the equations of no event
 
-settled-first : (n : ℕ) (s : List ℕ) (i : ℕ) (b : Behaviour) → BehaviourFits n b → ((x : Expr) → b ≡ passive x → at s i ≡ value (at s) x)
+consistent-first : (n : ℕ) (s : List ℕ) (i : ℕ) (b : Behaviour) → BehaviourFits n b → ((x : Expr) → b ≡ passive x → at s i ≡ value (at s) x)
     → at s i ≡ firstOf s (at s) i (respond n b)
-settled-first n s i (passive x) f h = h x refl
-settled-first n s i (active c hs) f h = sym (ap (firstOf s (at s) i) (undeclared-keeps n n hs (omega arith) (f .1)))
+consistent-first n s i (passive x) f h = h x refl
+consistent-first n s i (active c hs) f h = sym (ap (firstOf s (at s) i) (undeclared-keeps n n hs (omega arith) (f .1)))
 
-pub settled-solves : (p : Program) → Valid p → (s : List ℕ) → Settled p s → Solves p (noEvent p) s (at s)
-settled-solves p v s h i b =
-    settled-first (noEvent p) s i (behaviourAt p i) (all-at (BehaviourFits (noEvent p)) (p .behaviours) i (active 0 []) (v .each) b) (λ x t. h .1 i x b t)
+pub consistent-solves : (p : Program) → Valid p → (s : List ℕ) → Consistent p s → Solves p (noEvent p) s (at s)
+consistent-solves p v s h i b =
+    consistent-first (noEvent p) s i (behaviourAt p i) (all-at (BehaviourFits (noEvent p)) (p .behaviours) i (active 0 []) (v .each) b) (λ x t. h .1 i x b t)
 
--- a settled store shows its values, and no others
-module _ (p : Program) (v : Valid p) (s : List ℕ) (settled : Settled p s) where
-  pub settled-show : (i : ℕ) → i < size p → Shows (withStore p s) i (at s i)
+-- a consistent store shows its values, and no others
+module _ (p : Program) (v : Valid p) (s : List ℕ) (consistent : Consistent p s) where
+  pub consistent-show : (i : ℕ) → i < size p → Shows (withStore p s) i (at s i)
   unfolding withStore
-  settled-show i b = yields p v (noEvent p) s (at s) (settled-solves p v s settled) (omega arith) i b
+  consistent-show i b = yields p v (noEvent p) s (at s) (consistent-solves p v s consistent) (omega arith) i b
 
-  pub settled-alone : (i c : ℕ) → i < size p → Shows (withStore p s) i c → c ≡ at s i
+  pub consistent-alone : (i c : ℕ) → i < size p → Shows (withStore p s) i c → c ≡ at s i
   unfolding withStore
-  settled-alone i c b d = yields-alone p v (noEvent p) s (at s) (settled-solves p v s settled) i c b d
+  consistent-alone i c b d = yields-alone p v (noEvent p) s (at s) (consistent-solves p v s consistent) i c b d
 
 -- ---- the parts of a step
 
@@ -67,8 +67,8 @@ next-carry e s first look x w (active c hs) h f =
 -- ---- an event
 
 module _ (p : Program) (v : Valid p) (e : ℕ) (declared : e ≤ noEvent p) (s : List ℕ) (whole : length s ≡ size p) where
-  pub event-settled : Settled p (event p e s)
-  event-settled = (
+  pub event-consistent : Consistent p (event p e s)
+  event-consistent = (
     event-length p v e declared s whole,
     λ i x b t. event-solves p v e declared s whole i b ∙ ap (λ y. secondOf s (at (firstPhase p e s)) (at (event p e s)) i (respond e y)) t,
   )
@@ -96,7 +96,7 @@ module _ (p : Program) (v : Valid p) (e : ℕ) (declared : e ≤ noEvent p) (s :
   }
 
   pub rules-show : (i : ℕ) → i < size p → Shows (withStore p (event p e s)) i (at (event p e s) i)
-  rules-show = settled-show p v (event p e s) event-settled
+  rules-show = consistent-show p v (event p e s) event-consistent
 
   first-alone : (S : List ℕ) (P′ : Program) → Runs (withStore p s) e S P′ → S ≡ firstPhase p e s
   first-alone S P′ r =
@@ -120,7 +120,7 @@ module _ (p : Program) (v : Valid p) (e : ℕ) (declared : e ≤ noEvent p) (s :
   rules-alone S P′ r = (first-alone S P′ r, next-alone S P′ r)
 
   pub shows-alone : (i c : ℕ) → i < size p → Shows (withStore p (event p e s)) i c → c ≡ at (event p e s) i
-  shows-alone = settled-alone p v (event p e s) event-settled
+  shows-alone = consistent-alone p v (event p e s) event-consistent
 
 -- ---- a fresh round
 
@@ -146,8 +146,8 @@ module _ (p : Program) where
     unfolding fresh
     fresh-solves = first-solves p v (noEvent p) (omega arith) (starts p) (length-starts p)
 
-    pub fresh-settled : Settled p (fresh p)
-    fresh-settled = (length-fresh p, λ i x b t. fresh-solves i b ∙ ap (λ y. firstOf (starts p) (at (fresh p)) i (respond (noEvent p) y)) t)
+    pub fresh-consistent : Consistent p (fresh p)
+    fresh-consistent = (length-fresh p, λ i x b t. fresh-solves i b ∙ ap (λ y. firstOf (starts p) (at (fresh p)) i (respond (noEvent p) y)) t)
 
     fresh-yields : (i : ℕ) → i < size p → Shows (withStore p (starts p)) i (at (fresh p) i)
     unfolding withStore

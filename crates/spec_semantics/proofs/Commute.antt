@@ -14,11 +14,11 @@ use Rattle.spec_language.specs.Syntax.{Expr, Handler, Behaviour, passive, activ
 use Rattle.spec_language.specs.Dependence.{Response, follows, takes, defers, keeps, handled, respond, size, noEvent, behaviourAt, response, mentions, needs, isActive, written, writes, Named, in-immediate, in-later, through, Reads, Apart, Independent}
 use Rattle.spec_language.specs.Accepted.{NamesIn, Valid}
 use Rattle.spec_language.proofs.Laws.{named-in, ResponseNamesIn, response-names}
-use Rattle.spec_semantics.specs.Meaning.{at, firstPhase, event, Settled}
+use Rattle.spec_semantics.specs.Meaning.{at, firstPhase, event, Consistent}
 use Rattle.spec_semantics.proofs.OrderLaws.{by-needs}
 use Rattle.spec_semantics.proofs.Solution.{own, firstOf, secondOf, value-same, pick-same, first-local, first-solves, event-length, event-solves, passives-unique}
 use Rattle.spec_semantics.proofs.Handlers.{Says, handled-says}
-use Rattle.spec_semantics.proofs.Agreement.{event-settled}
+use Rattle.spec_semantics.proofs.Agreement.{event-consistent}
 
 -- ---- what is written is active, and what is read is a behaviour
 
@@ -125,15 +125,15 @@ module _ (p : Program) (v : Valid p) (s : List ℕ) (ls : length s ≡ size p) w
         let lf : length (event p f s) ≡ size p = event-length p v f df s ls in
         let ef : length (event p e (event p f s)) ≡ size p = event-length p v e de (event p f s) lf in
         ext-getD 0 (event p e (event p f s)) (event p f (event p e s)) (ef ∙ sym (event-length p v f df (event p e s) le)) (λ i h.
-        passives-unique p v (at (event p e (event p f s))) (at (event p f (event p e s))) (event-settled p v e de (event p f s) lf .1)
-        (event-settled p v f df (event p e s) le .1) actives-commute i (omega arith))
+        passives-unique p v (at (event p e (event p f s))) (at (event p f (event p e s))) (event-consistent p v e de (event p f s) lf .1)
+        (event-consistent p v f df (event p e s) le .1) actives-commute i (omega arith))
 
 -- on every store of the right length
 pub commute : (p : Program) → Valid p → (e f : ℕ) → e ≤ noEvent p → f ≤ noEvent p → Independent p e f → (s : List ℕ) → length s ≡ size p
     → event p e (event p f s) ≡ event p f (event p e s)
 commute p v e f de df apart s ls = commute-at p v s ls e f de df apart
 
--- so on every settled one
-pub commute-settled : (p : Program) → Valid p → (e f : ℕ) → e ≤ noEvent p → f ≤ noEvent p → Independent p e f → (s : List ℕ) → Settled p s
+-- so on every consistent one
+pub commute-consistent : (p : Program) → Valid p → (e f : ℕ) → e ≤ noEvent p → f ≤ noEvent p → Independent p e f → (s : List ℕ) → Consistent p s
     → event p e (event p f s) ≡ event p f (event p e s)
-commute-settled p v e f de df apart s h = commute p v e f de df apart s (h .0)
+commute-consistent p v e f de df apart s h = commute p v e f de df apart s (h .0)

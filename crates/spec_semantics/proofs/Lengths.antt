@@ -8,7 +8,7 @@ use Rattle.spec_language.specs.Syntax.{Program}
 use Rattle.spec_language.specs.Dependence.{Response, follows, takes, defers, keeps, size, noEvent, response}
 use Rattle.spec_language.specs.Order.{phaseOne}
 use Rattle.spec_language.proofs.Laws.{length-upTo}
-use Rattle.spec_semantics.specs.Meaning.{firstStep, againStep, inTurn, firstPhase, settle, event, starts, fresh}
+use Rattle.spec_semantics.specs.Meaning.{firstStep, againStep, inTurn, firstPhase, laterPhase, event, starts, fresh}
 
 pub length-first : (i : ℕ) (r : Response) (s : List ℕ) → length (firstStep i r s) ≡ length s
 length-first i (follows x) s = length-set s i _
@@ -30,8 +30,8 @@ module _ (p : Program) where
   length-turns e g h (i ∷ is) s = length-turns e g h is (g i (response p e i) s) ∙ h i (response p e i) s
 
   pub length-event : (e : ℕ) (s : List ℕ) → length (event p e s) ≡ size p
-  unfolding event settle
-  length-event e s = length-turns e againStep length-again (phaseOne p e) (settle p e (firstPhase p e s)) ∙ length-upTo (size p) _
+  unfolding event laterPhase
+  length-event e s = length-turns e againStep length-again (phaseOne p e) (laterPhase p e (firstPhase p e s)) ∙ length-upTo (size p) _
 
   pub length-starts : length (starts p) ≡ size p
   unfolding starts

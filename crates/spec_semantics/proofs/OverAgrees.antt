@@ -21,8 +21,8 @@ use Rattle.spec_semantics.specs.Meaning.{value, at, firstPhase, event, c
 use Rattle.spec_semantics.proofs.Solution.{own, firstOf, Solves, or-first, or-second, own-same, first-solves}
 use Rattle.spec_semantics.proofs.Handlers.{Says, handles-handled, handled-says, undeclared-keeps}
 use Rattle.spec_semantics.proofs.Derivations.{value-substitute, mentions-substitute, state-size, state-at, worth, once-at, Fine, derived, Has, expression-yields, has}
-use Rattle.spec_semantics.proofs.Agreement.{settled-solves, event-settled, rules-give, rules-alone}
-use Rattle.spec_semantics.specs.Over.{Over, o-app1, o-app2, o-app3, o-only, o-first2, o-second2, o-first3, o-second3, o-third3, o-name, o-passive, o-immediate, EventOver, o-value, o-update, o-shown}
+use Rattle.spec_semantics.proofs.Agreement.{consistent-solves, event-consistent, rules-give, rules-alone}
+use Rattle.spec_semantics.specs.Over.{RunsOver, o-app1, o-app2, o-app3, o-only, o-first2, o-second2, o-first3, o-second3, o-third3, o-name, o-passive, o-immediate, EventOver, o-value, o-update, o-shown}
 use Rattle.spec_semantics.specs.OverMeaning.{overIn, laterOver, eventOver}
 use Rattle.spec_semantics.proofs.OverTurns.{over-same, firstFinds, againFinds, Finds, event-finds, finds-event}
 
@@ -95,7 +95,7 @@ module _ (p : Program) (v : Valid p) (e : ℕ) (s : List ℕ) (look : ℕ → �
   made : {t : Subject} {c : ℕ} → Yields (withStore p s) e t c → Made t → c ≡ worth e look t
   made = derived p v e s look solves
 
-  over-found : {t : Subject} → Over (withStore p s) e t → Made t → (finds t ≡ true) ⊎ Some
+  over-found : {t : Subject} → RunsOver (withStore p s) e t → Made t → (finds t ≡ true) ⊎ Some
   unfolding overIn
   over-found (o-app1 {f = f} {u = u} {a = a} y h) k =
       let q : value look a ≡ u = sym (made y tt) in
@@ -130,11 +130,11 @@ module _ (p : Program) (v : Valid p) (e : ℕ) (s : List ℕ) (look : ℕ → �
       within (λ q. ap (findsOf x c) (handles-handled (noEvent p) h k) ∙ sym (over-substitute look x c d) ∙ q) (over-found y tt)
 
   -- of a behaviour
-  pub behaviour-found : (i : ℕ) → i < size p → Over (withStore p s) e (behaviour i (behaviourAt (withStore p s) i)) → Some
+  pub behaviour-found : (i : ℕ) → i < size p → RunsOver (withStore p s) e (behaviour i (behaviourAt (withStore p s) i)) → Some
   behaviour-found i b y = ⊎-elim (λ h. (i, b, sym (finds-at i b) ∙ h)) (λ h. h) (over-found y (once-at p v e s look solves i b))
 
   -- of a handler's expression
-  pub handler-found : (x c : ℕ) (d : Expr) → Over (withStore p s) e (expression (substitute x c d)) → (overIn (own x c look) d ≡ true) ⊎ Some
+  pub handler-found : (x c : ℕ) (d : Expr) → RunsOver (withStore p s) e (expression (substitute x c d)) → (overIn (own x c look) d ≡ true) ⊎ Some
   handler-found x c d y = ⊎-elim (λ h. inl (sym (over-substitute look x c d) ∙ h)) (λ h. inr h) (over-found y tt)
 
   -- ---- it is derived
@@ -146,7 +146,7 @@ module _ (p : Program) (v : Valid p) (e : ℕ) (s : List ℕ) (look : ℕ → �
     gives : (d : Expr) → Named d → Yields (withStore p s) e (expression d) (value look d)
     gives = expression-yields p v e s look solves
 
-    expression-over : (d : Expr) → Named d → overIn look d ≡ true → Over (withStore p s) e (expression d)
+    expression-over : (d : Expr) → Named d → overIn look d ≡ true → RunsOver (withStore p s) e (expression d)
     unfolding overIn mentions
     expression-over (con w) n h = absurd (false≢true h)
     expression-over (name i) n h = absurd (false≢true h)
@@ -173,26 +173,26 @@ module _ (p : Program) (v : Valid p) (e : ℕ) (s : List ℕ) (look : ℕ → �
 
     -- a handler's expression, its names being behaviours
     pub handler-over : (x c : ℕ) (d : Expr) → ((j : ℕ) → mentions j d ≡ true → j < size p) → overIn (own x c look) d ≡ true
-        → Over (withStore p s) e (expression (substitute x c d))
+        → RunsOver (withStore p s) e (expression (substitute x c d))
     handler-over x c d n h =
         expression-over (substitute x c d) (named (substitute x c d) (λ j m. n j (mentions-substitute x c j d m .0))) (over-substitute look x c d ∙ h)
 
     active-over : (i c : ℕ) (hs : List Handler) (r : Response) → Says e hs r → ResponseNamesIn (size p) r → findsOf i c r ≡ true
-        → Over (withStore p s) e (behaviour i (active c hs))
+        → RunsOver (withStore p s) e (behaviour i (active c hs))
     active-over i c hs (follows d) k n h = absurd k
     active-over i c hs (takes d) k n h = o-immediate k (handler-over i c d (λ j m. named-in (size p) j d n m) h)
     active-over i c hs (defers d) k n h = absurd (false≢true h)
     active-over i c hs keeps k n h = absurd (false≢true h)
 
     carried-over : (i c : ℕ) (b : Behaviour) → ResponseNamesIn (size p) (respond e b) → finds (behaviour i (carry c b)) ≡ true
-        → Over (withStore p s) e (behaviour i (carry c b))
+        → RunsOver (withStore p s) e (behaviour i (carry c b))
     carried-over i c (passive d) n h = o-passive (expression-over d (named d (λ j m. named-in (size p) j d n m)) h)
     carried-over i c (active w hs) n h = active-over i c hs (handled e hs) (handled-says e hs) n h
 
     pub behaviour-over : (i : ℕ) → i < size p → firstFinds s look i (response p e i) ≡ true
-        → Over (withStore p s) e (behaviour i (behaviourAt (withStore p s) i))
+        → RunsOver (withStore p s) e (behaviour i (behaviourAt (withStore p s) i))
     behaviour-over i b h =
-        subst (λ x. Over (withStore p s) e (behaviour i x)) (sym (state-at p s i b))
+        subst (λ x. RunsOver (withStore p s) e (behaviour i x)) (sym (state-at p s i b))
         (carried-over i (at s i) (behaviourAt p i) (response-names p (v .known) e i) (finds-carry i (behaviourAt p i) ∙ h))
 
 -- ---- an active's parts
@@ -217,8 +217,8 @@ module _ (p : Program) (v : Valid p) (e : ℕ) (declared : e ≤ noEvent p) (s :
   solves : Solves p e s first
   solves = first-solves p v e declared s whole
 
-  settled : Solves p (noEvent p) last (at last)
-  settled = settled-solves p v last (event-settled p v e declared s whole)
+  consistent : Solves p (noEvent p) last (at last)
+  consistent = consistent-solves p v last (event-consistent p v e declared s whole)
 
   fits : (x : ℕ) → x < size p → BehaviourFits (noEvent p) (behaviourAt p x)
   fits x b = all-at (BehaviourFits (noEvent p)) (p .behaviours) x (active 0 []) (v .each) b
@@ -227,7 +227,7 @@ module _ (p : Program) (v : Valid p) (e : ℕ) (declared : e ≤ noEvent p) (s :
 
   -- a later handler
   later-handler : (x : ℕ) (hs : List Handler) (r : Response) → Says e hs r → ResponseNamesIn (size p) r → first x ≡ firstOf s first x r
-      → laterOver (firstPhase p e s) r ≡ true → (d : Expr) × Handles e later d hs × Over (withStore p s) e (expression (substitute x (at s x) d))
+      → laterOver (firstPhase p e s) r ≡ true → (d : Expr) × Handles e later d hs × RunsOver (withStore p s) e (expression (substitute x (at s x) d))
   later-handler x hs (follows d) k n f h = absurd k
   later-handler x hs (takes d) k n f h = absurd (false≢true h)
   later-handler x hs (defers d) k n f h = (
@@ -260,7 +260,7 @@ module _ (p : Program) (v : Valid p) (e : ℕ) (declared : e ≤ noEvent p) (s :
   unfolding withStore
   shown-over x b h =
       o-shown {x = x} (rules-give p v e declared s whole) (rw (state-size p last) b)
-      (behaviour-over p v (noEvent p) last (at last) settled (omega arith) x b (again-finds x (behaviourAt p x) h))
+      (behaviour-over p v (noEvent p) last (at last) consistent (omega arith) x b (again-finds x (behaviourAt p x) h))
 
   pub rules-find : eventOver p e s ≡ true → EventOver (withStore p s) e
   rules-find h = go (event-finds p v e declared s h)
@@ -302,12 +302,12 @@ module _ (p : Program) (v : Valid p) (e : ℕ) (declared : e ≤ noEvent p) (s :
   quiet-finds x (active c hs) f h =
       absurd (false≢true (sym (ap (firstFinds last (at last) x) (undeclared-keeps (noEvent p) (noEvent p) hs (omega arith) (f .1))) ∙ h))
 
-  shown-event : Some p v (noEvent p) last (at last) settled → eventOver p e s ≡ true
+  shown-event : Some p v (noEvent p) last (at last) consistent → eventOver p e s ≡ true
   shown-event (x, b, h) = finds-event p v e declared s x b (inr (inr (quiet-finds x (behaviourAt p x) (fits x b) h)))
 
-  shown-found : (x : ℕ) → x < size p → Over (withStore p last) (noEvent (withStore p last)) (behaviour x (behaviourAt (withStore p last) x)) → eventOver p e s ≡ true
+  shown-found : (x : ℕ) → x < size p → RunsOver (withStore p last) (noEvent (withStore p last)) (behaviour x (behaviourAt (withStore p last) x)) → eventOver p e s ≡ true
   unfolding withStore
-  shown-found x b y = shown-event (behaviour-found p v (noEvent p) last (at last) settled x b y)
+  shown-found x b y = shown-event (behaviour-found p v (noEvent p) last (at last) consistent x b y)
 
   pub rules-find-only : EventOver (withStore p s) e → eventOver p e s ≡ true
   rules-find-only (o-value {x = x} h y) = some-event (behaviour-found p v e s first solves x (rw (state-size p s) at h) y)
@@ -318,4 +318,4 @@ module _ (p : Program) (v : Valid p) (e : ℕ) (declared : e ≤ noEvent p) (s :
   rules-find-only (o-shown {x = x} {S = S} {P′ = P′} r h y) =
       let q : P′ ≡ withStore p last = rules-alone p v e declared s whole S P′ r .1 in
       let b : x < size (withStore p last) = subst (λ (P : Program). x < size P) q h in
-      shown-found x (rw (state-size p last) at b) (subst (λ (P : Program). Over P (noEvent P) (behaviour x (behaviourAt P x))) q y)
+      shown-found x (rw (state-size p last) at b) (subst (λ (P : Program). RunsOver P (noEvent P) (behaviour x (behaviourAt P x))) q y)

@@ -15,7 +15,7 @@ use Rattle.spec_language.specs.Syntax.{Expr, con, name, app1, app2, app3, Progr
 use Rattle.spec_language.specs.Dependence.{Response, follows, takes, defers, keeps, size, noEvent, response, mentions, needs, dependsOn}
 use Rattle.spec_language.specs.Order.{upTo, early, metAtOnce, phaseOne}
 use Rattle.spec_language.specs.Accepted.{Valid}
-use Rattle.spec_semantics.specs.Meaning.{at, firstStep, againStep, inTurn, firstPhase, settle, event}
+use Rattle.spec_semantics.specs.Meaning.{at, firstStep, againStep, inTurn, firstPhase, laterPhase, event}
 use Rattle.spec_semantics.proofs.Graph.{Marked, Unmarked, marked-set}
 use Rattle.spec_semantics.proofs.OrderLaws.{Ordered, markAll, unmarked-set, length-met, met-late, phaseOne-ordered, phaseOne-early, phaseOne-marks}
 use Rattle.spec_semantics.proofs.Solution.{own, value-same, or-first, or-second, pick-same, own-same, needed}
@@ -177,11 +177,11 @@ module _ (p : Program) (v : Valid p) (e : ℕ) (declared : e ≤ noEvent p) (s :
       along p v e firstStep firstOver (λ i look. firstFinds s look i (response p e i)) s (λ i f h k. first-local s i (response p e i) f h k)
       (λ i t k. first-found s i (response p e i) t k) first-only (phaseOne p e) (metAtOnce p e) s (length-met p e) (phaseOne-ordered p e (v .known)) (λ x u. refl)
 
-  again-is : turnsOver p e againOver againStep (phaseOne p e) (settle p e first) ≡ someOf (λ i. againFinds (at last) (response p e i)) (phaseOne p e)
+  again-is : turnsOver p e againOver againStep (phaseOne p e) (laterPhase p e first) ≡ someOf (λ i. againFinds (at last) (response p e i)) (phaseOne p e)
   unfolding event
   again-is =
-      along p v e againStep againOver (λ i look. againFinds look (response p e i)) (settle p e first) (λ i f h k. again-local i (response p e i) f h k)
-      (λ i t k. again-found (response p e i) t) again-only (phaseOne p e) (metAtOnce p e) (settle p e first) (length-met p e) (phaseOne-ordered p e (v .known))
+      along p v e againStep againOver (λ i look. againFinds look (response p e i)) (laterPhase p e first) (λ i f h k. again-local i (response p e i) f h k)
+      (λ i t k. again-found (response p e i) t) again-only (phaseOne p e) (metAtOnce p e) (laterPhase p e first) (length-met p e) (phaseOne-ordered p e (v .known))
       (λ x u. refl)
 
   below : All (λ i. i < size p) (phaseOne p e)
@@ -212,7 +212,7 @@ module _ (p : Program) (v : Valid p) (e : ℕ) (declared : e ≤ noEvent p) (s :
   laterPart = anyOf (upTo (size p) (λ i. laterOver first (response p e i)))
 
   abbrev againPart : Bool
-  againPart = turnsOver p e againOver againStep (phaseOne p e) (settle p e first)
+  againPart = turnsOver p e againOver againStep (phaseOne p e) (laterPhase p e first)
 
   abbrev inFirst : ℕ → Bool
   inFirst i = firstFinds s (at first) i (response p e i)

@@ -4,9 +4,9 @@ use Rattle.lib_base.specs.Basics.{All}
 use Rattle.lib_arith.specs.Functions.{exact, result}
 use Rattle.spec_language.specs.Dependence.{handled, mentions}
 use Rattle.spec_language.specs.Order.{met, find, order, upTo, metAtOnce, phaseOne}
-use Rattle.spec_semantics.specs.Meaning.{value, inTurn, firstPhase, settle, event, starts, fresh, play}
+use Rattle.spec_semantics.specs.Meaning.{value, inTurn, firstPhase, laterPhase, event, starts, fresh, play}
 use Rattle.spec_semantics.specs.Rounds.{Holds, rounds}
 
 pub rounds-hold : All Holds rounds
-unfolding exact result handled mentions met find order upTo metAtOnce phaseOne value inTurn firstPhase settle event starts fresh play
+unfolding exact result handled mentions met find order upTo metAtOnce phaseOne value inTurn firstPhase laterPhase event starts fresh play
 rounds-hold = (refl, (refl, (refl, (refl, (refl, (refl, (refl, (refl, (refl, (refl, (refl, tt)))))))))))

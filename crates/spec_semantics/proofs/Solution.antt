@@ -19,7 +19,7 @@ use Rattle.spec_language.specs.Dependence.{Response, follows, takes, defers, ke
 use Rattle.spec_language.specs.Order.{early, metAtOnce, phaseOne}
 use Rattle.spec_language.specs.Accepted.{Valid}
 use Rattle.spec_language.proofs.Laws.{length-upTo, getD-upTo, depends-within}
-use Rattle.spec_semantics.specs.Meaning.{value, at, firstStep, laterValue, againStep, inTurn, firstPhase, settle, event}
+use Rattle.spec_semantics.specs.Meaning.{value, at, firstStep, laterValue, againStep, inTurn, firstPhase, laterPhase, event}
 use Rattle.spec_semantics.proofs.Graph.{Marked, Unmarked, marked-set, stays}
 use Rattle.spec_semantics.proofs.OrderLaws.{Ordered, markAll, unmarked-set, late-needs, length-met, met-late, phaseOne-ordered, phaseOne-marks, by-needs}
 
@@ -215,21 +215,21 @@ module _ (p : Program) (v : Valid p) (e : ℕ) (declared : e ≤ noEvent p) (s :
   again-second first t look i (defers x) h k = h
   again-second first t look i keeps h k = h ∙ k
 
-  settle-length : length (settle p e (firstPhase p e s)) ≡ size p
-  unfolding settle
-  settle-length = length-upTo (size p) _
+  later-phase-length : length (laterPhase p e (firstPhase p e s)) ≡ size p
+  unfolding laterPhase
+  later-phase-length = length-upTo (size p) _
 
-  settle-at : (i : ℕ) → i < size p → at (settle p e (firstPhase p e s)) i ≡ laterValue (firstPhase p e s) i (response p e i)
-  unfolding settle
-  settle-at i b = getD-upTo (size p) _ i 0 b
+  later-phase-at : (i : ℕ) → i < size p → at (laterPhase p e (firstPhase p e s)) i ≡ laterValue (firstPhase p e s) i (response p e i)
+  unfolding laterPhase
+  later-phase-at i b = getD-upTo (size p) _ i 0 b
 
   event-solved : (length (event p e s) ≡ size p)
       × ((i : ℕ) → i < size p → at (event p e s) i ≡ secondOf s (at (firstPhase p e s)) (at (event p e s)) i (response p e i))
   unfolding event
   event-solved =
-      let t : List ℕ = settle p e (firstPhase p e s) in
-      let k = again-solved p v e declared t settle-length in
-      (k .0, λ i b. k .1 i b ∙ again-second (firstPhase p e s) t _ i (response p e i) (settle-at i b) (first-solves i b))
+      let t : List ℕ = laterPhase p e (firstPhase p e s) in
+      let k = again-solved p v e declared t later-phase-length in
+      (k .0, λ i b. k .1 i b ∙ again-second (firstPhase p e s) t _ i (response p e i) (later-phase-at i b) (first-solves i b))
 
   pub event-length : length (event p e s) ≡ size p
   event-length = event-solved .0

@@ -54,12 +54,12 @@ module _ (p : Program) (e : ℕ) where
   firstPhase s = inTurn firstStep (phaseOne p e) s
 
   -- later handlers take effect together
-  unfoldable pub settle : List ℕ → List ℕ
-  settle s = upTo (size p) (λ i. laterValue s i (response p e i))
+  unfoldable pub laterPhase : List ℕ → List ℕ
+  laterPhase s = upTo (size p) (λ i. laterValue s i (response p e i))
 
   -- the store after the event: second-phase values
   unfoldable pub event : List ℕ → List ℕ
-  event s = inTurn againStep (phaseOne p e) (settle (firstPhase s))
+  event s = inTurn againStep (phaseOne p e) (laterPhase (firstPhase s))
 
 -- the start values, the passives' places 0
 abbrev pub startOf : Behaviour → ℕ
@@ -79,8 +79,8 @@ play p [] s = s
 play p (e ∷ es) s = play p es (event p e s)
 
 -- a store in which every passive has its expression's value
-abbrev pub Settled : Program → List ℕ → Type 0
-Settled p s = (length s ≡ size p) × ((i : ℕ) (x : Expr) → i < size p → behaviourAt p i ≡ passive x → at s i ≡ value (at s) x)
+abbrev pub Consistent : Program → List ℕ → Type 0
+Consistent p s = (length s ≡ size p) × ((i : ℕ) (x : Expr) → i < size p → behaviourAt p i ≡ passive x → at s i ≡ value (at s) x)
 
 -- the program whose actives have the values of a store: 003's state
 abbrev pub carry : ℕ → Behaviour → Behaviour

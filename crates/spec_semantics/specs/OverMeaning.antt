@@ -7,7 +7,7 @@ use Rattle.lib_arith.specs.Functions.{over}
 use Rattle.spec_language.specs.Syntax.{Expr, con, name, app1, app2, app3, Program}
 use Rattle.spec_language.specs.Dependence.{Response, follows, takes, defers, keeps, size, response}
 use Rattle.spec_language.specs.Order.{upTo, phaseOne}
-use Rattle.spec_semantics.specs.Meaning.{value, at, firstStep, againStep, firstPhase, settle}
+use Rattle.spec_semantics.specs.Meaning.{value, at, firstStep, againStep, firstPhase, laterPhase}
 
 -- some application in an expression, each name's value looked up
 unfoldable pub overIn : (ℕ → ℕ) → Expr → Bool
@@ -51,4 +51,4 @@ module _ (p : Program) (e : ℕ) where
   eventOver s =
       turnsOver firstOver firstStep (phaseOne p e) s
       || (anyOf (upTo (size p) (λ i. laterOver (firstPhase p e s) (response p e i)))
-      || turnsOver againOver againStep (phaseOne p e) (settle p e (firstPhase p e s)))
+      || turnsOver againOver againStep (phaseOne p e) (laterPhase p e (firstPhase p e s)))

@@ -27,8 +27,8 @@ plus a b = app2 4 a b
 abbrev pub minus : Expr → Expr → Expr
 minus a b = app2 5 a b
 
-abbrev pub over : Expr → Expr → Expr
-over a b = app2 7 a b
+abbrev pub dividedBy : Expr → Expr → Expr
+dividedBy a b = app2 7 a b
 
 -- ---- the programs
 
@@ -81,6 +81,6 @@ rounds =
     ∷ record { program = throughPassive; given = 0 ∷ []; board = pos 1 ∷ pos 2 ∷ [] }
     -- "2,147,483,647 + 1 = −2,147,483,648." "5 / 0 = 0." M-102: "The P round on division in 01 becomes −4".
     ∷ record { program = taking (plus (num (pos 2147483647)) (num (pos 1))); given = 0 ∷ []; board = negsuc 2147483647 ∷ [] }
-    ∷ record { program = taking (over (num (negsuc 6)) (num (pos 2))); given = 0 ∷ []; board = negsuc 3 ∷ [] }
-    ∷ record { program = taking (over (num (pos 5)) (num (pos 0))); given = 0 ∷ []; board = pos 0 ∷ [] }
+    ∷ record { program = taking (dividedBy (num (negsuc 6)) (num (pos 2))); given = 0 ∷ []; board = negsuc 3 ∷ [] }
+    ∷ record { program = taking (dividedBy (num (pos 5)) (num (pos 0))); given = 0 ∷ []; board = pos 0 ∷ [] }
     ∷ []

@@ -9,18 +9,18 @@ use lib.Seq.{slice, sets, sets-eq, slice-empty, slice-cons, length-slice, take-s
 use Rattle.lib_word.specs.Word.{putHalf}
 use Rattle.lib_word.proofs.Laws.{length-putHalf}
 use Rattle.spec_language.specs.Grammar.{field}
-use Rattle.text_encode.specs.Fields.{placed, shifted}
+use Rattle.text_encode.specs.Fields.{overwritten, shifted}
 
 -- writes in a row place their bytes
-pub in-a-row : (l : List ℕ) (i : ℕ) (vs : List ℕ) → i + length vs ≤ length l → sets l i vs ≡ placed i vs l
-unfolding placed
+pub in-a-row : (l : List ℕ) (i : ℕ) (vs : List ℕ) → i + length vs ≤ length l → sets l i vs ≡ overwritten i vs l
+unfolding overwritten
 in-a-row l i vs h = sets-eq vs l i h ∙ append-assoc (take i l) vs (drop (i + length vs) l)
 
-pub four : (l : List ℕ) (i a b c d : ℕ) → i + 4 ≤ length l → set (set (set (set l i a) (i + 1) b) (i + 2) c) (i + 3) d ≡ placed i (a ∷ b ∷ c ∷ d ∷ []) l
+pub four : (l : List ℕ) (i a b c d : ℕ) → i + 4 ≤ length l → set (set (set (set l i a) (i + 1) b) (i + 2) c) (i + 3) d ≡ overwritten i (a ∷ b ∷ c ∷ d ∷ []) l
 four l i a b c d h = simp (add-one, add-two, add-three) (in-a-row l i (a ∷ b ∷ c ∷ d ∷ []) h)
 
 pub seven : (l : List ℕ) (i a b c d e f g : ℕ) → i + 7 ≤ length l
-    → set (set (set (set (set (set (set l i a) (i + 1) b) (i + 2) c) (i + 3) d) (i + 4) e) (i + 5) f) (i + 6) g ≡ placed i (a ∷ b ∷ c ∷ d ∷ e ∷ f ∷ g ∷ []) l
+    → set (set (set (set (set (set (set l i a) (i + 1) b) (i + 2) c) (i + 3) d) (i + 4) e) (i + 5) f) (i + 6) g ≡ overwritten i (a ∷ b ∷ c ∷ d ∷ e ∷ f ∷ g ∷ []) l
 seven l i a b c d e f g h = simp (add-one, add-two, add-three, add-four, add-five, add-six) (in-a-row l i (a ∷ b ∷ c ∷ d ∷ e ∷ f ∷ g ∷ []) h)
 
 -- ---- the shift
@@ -76,8 +76,8 @@ shifted-long start end o h g =
 -- ---- an application's head
 
 pub head-placed : (start end f : ℕ) (o : List ℕ) → start ≤ end → end + 4 ≤ length o
-    → placed start (18 ∷ ((end - start + 1) / 256) ∷ ((end - start + 1) % 256) ∷ f ∷ []) (shifted start end o) ≡ placed start (field 18 (f ∷ slice start end o)) o
-unfolding placed shifted
+    → overwritten start (18 ∷ ((end - start + 1) / 256) ∷ ((end - start + 1) % 256) ∷ f ∷ []) (shifted start end o) ≡ overwritten start (field 18 (f ∷ slice start end o)) o
+unfolding overwritten shifted
 head-placed start end f o h g =
     let v : List ℕ = slice start end o in
     let r : List ℕ = v ++ drop (end + 4) o in
@@ -93,7 +93,7 @@ pub wrapped-long : (start end n : ℕ) (o p q : List ℕ) → start ≤ end → 
 wrapped-long start end n o p q h g e r = rw (r, length-putHalf (set p start 18) (start + 1) n, length-set p start 18, e) (shifted-long start end o h g)
 
 pub wrapped : (start end f : ℕ) (o p : List ℕ) → start ≤ end → end + 4 ≤ length o → p ≡ shifted start end o
-    → set (putHalf (set p start 18) (start + 1) (end - start + 1)) (start + 3) f ≡ placed start (field 18 (f ∷ slice start end o)) o
+    → set (putHalf (set p start 18) (start + 1) (end - start + 1)) (start + 3) f ≡ overwritten start (field 18 (f ∷ slice start end o)) o
 unfolding putHalf
 wrapped start end f o p h g e =
     let l : length p ≡ length o = ap length e ∙ shifted-long start end o h g in

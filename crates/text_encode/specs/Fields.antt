@@ -5,8 +5,8 @@ use lib.ListN.{length, take, drop}
 use lib.Seq.{slice}
 
 -- the bytes v from place n on, all others as they were
-unfoldable pub placed : ℕ → List ℕ → List ℕ → List ℕ
-placed n v o = take n o ++ (v ++ drop (n + length v) o)
+unfoldable pub overwritten : ℕ → List ℕ → List ℕ → List ℕ
+overwritten n v o = take n o ++ (v ++ drop (n + length v) o)
 
 -- the bytes from start to end, four places further on
 unfoldable pub shifted : ℕ → ℕ → List ℕ → List ℕ

@@ -7,7 +7,7 @@ ghost use Prim.Native.Nat.{_≤_, _+_, _/_, _%_};
 ghost use lib.ListN.{length};
 ghost use lib.Seq.{slice};
 ghost use Rattle.spec_language.specs.Grammar.{field};
-ghost use Rattle.text_encode.specs.Fields.{placed, shifted};
+ghost use Rattle.text_encode.specs.Fields.{overwritten, shifted};
 
 // How many bytes a constant's and a name's field have, and an application's before its arguments.
 pub const CONSTANT_BYTES: usize = 7;
@@ -35,7 +35,7 @@ const THREE_BYTES: u64 = 16777216;
 // A constant from place n on: the low four bytes of t.
 pub fn put_number(out: &mut [u8], n: usize, t: u64)
     requires { ⌜ n + 7 ≤ length (now out) ⌝ }
-    ensures { λ _. ⌜ now (out .exit) ≡ placed n (16 ∷ 0 ∷ 4 ∷ (t / 16777216 % 256) ∷ (t / 65536 % 256) ∷ (t / 256 % 256) ∷ (t % 256) ∷ []) (now (out .entry)) ⌝ }
+    ensures { λ _. ⌜ now (out .exit) ≡ overwritten n (16 ∷ 0 ∷ 4 ∷ (t / 16777216 % 256) ∷ (t / 65536 % 256) ∷ (t / 256 % 256) ∷ (t % 256) ∷ []) (now (out .entry)) ⌝ }
 {
     out[n] = tags::CONSTANT;
     out[n + 1] = 0;
@@ -49,7 +49,7 @@ pub fn put_number(out: &mut [u8], n: usize, t: u64)
 // A name from place n on: the low byte of t.
 pub fn put_name(out: &mut [u8], n: usize, t: u64)
     requires { ⌜ n + 4 ≤ length (now out) ⌝ }
-    ensures { λ _. ⌜ now (out .exit) ≡ placed n (17 ∷ 0 ∷ 1 ∷ (t % 256) ∷ []) (now (out .entry)) ⌝ }
+    ensures { λ _. ⌜ now (out .exit) ≡ overwritten n (17 ∷ 0 ∷ 1 ∷ (t % 256) ∷ []) (now (out .entry)) ⌝ }
 {
     out[n] = tags::NAME;
     out[n + 1] = 0;
@@ -75,7 +75,7 @@ pub fn wrap(out: &mut [u8], start: usize, end: usize, f: u8)
     requires { ⌜ start ≤ end ⌝ }
     requires { ⌜ end + 4 ≤ length (now out) ⌝ }
     requires { ⌜ length (now out) ≤ 65535 ⌝ }
-    ensures { λ _. ⌜ now (out .exit) ≡ placed start (field 18 (f ∷ slice start end (now (out .entry)))) (now (out .entry)) ⌝ }
+    ensures { λ _. ⌜ now (out .exit) ≡ overwritten start (field 18 (f ∷ slice start end (now (out .entry)))) (now (out .entry)) ⌝ }
 {
     shift(out, start, end);
     out[start] = tags::APPLICATION;

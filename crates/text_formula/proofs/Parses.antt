@@ -1,6 +1,6 @@
 -- The levels' functions read exactly what the grammar derives. What they read is derived: by induction on the bound,
 -- level by level (`Sound`). What is derived is read: by induction on the derivation; after it the level's function
--- stands in its `chain`, which ends where what follows is no operator as tight (`reach`).
+-- stands in its `operatorChain`, which ends where what follows is no operator as tight (`reach`).
 use Prim.Native.Nat.{ℕ, zero, suc, _≤_, _<_}
 use mathlib.Core.Path.{_≡_, refl, sym, subst, _∙_}
 use mathlib.Core.List.{List, [], _∷_, _++_, append-assoc, append-nil}
@@ -12,7 +12,7 @@ use Rattle.lib_base.proofs.Tools.{by-test, split}
 use Rattle.spec_language.specs.Syntax.{Expr, app2}
 use Rattle.text_formula.specs.Tokens.{Token, number, behaviour, function, opening, closing, comma}
 use Rattle.text_formula.specs.Grammar.{Operator, times, divided, plus, minus, above, at-least, below, at-most, equal, different, both, either, Derives, tighter, two-sided, negated, a-number, a-name, bracketed, choice}
-use Rattle.text_formula.specs.Reader.{level, levelOf, operatorOf, markOf, Got, bad, got, then, past, chain, tower, bracketedOf, choiceOf, operandOf, operandAt, readAt}
+use Rattle.text_formula.specs.Reader.{level, levelOf, operatorOf, bracketOf, Parsed, unparsed, parsed, thenParse, past, operatorChain, tower, bracketedOf, choiceOf, operandOf, operandAt, readAt}
 
 -- ---- the levels of operators
 
@@ -64,20 +64,20 @@ pub record Front (l : ℕ) (ts : List Token) (e : Expr) (rest : List Token) : Ty
   pub joined : ts ≡ taken ++ rest
   pub derived : Derives l taken e
 
-abbrev pub Sound : ℕ → List Token → Got → Type 0
-Sound l ts bad = Unit {0}
-Sound l ts (got e rest) = Front l ts e rest
+abbrev pub Sound : ℕ → List Token → Parsed → Type 0
+Sound l ts unparsed = Unit {0}
+Sound l ts (parsed e rest) = Front l ts e rest
 
-module _ (P : Got → Type 0) where
-  then-of : (Q : Got → Type 0) (f : Expr → List Token → Got) → P bad → ((e : Expr) (rest : List Token) → Q (got e rest) → P (f e rest)) → (g : Got) → Q g → P (then g f)
-  then-of Q f a b bad h = a
-  then-of Q f a b (got e rest) h = b e rest h
+module _ (P : Parsed → Type 0) where
+  then-of : (Q : Parsed → Type 0) (f : Expr → List Token → Parsed) → P unparsed → ((e : Expr) (rest : List Token) → Q (parsed e rest) → P (f e rest)) → (g : Parsed) → Q g → P (thenParse g f)
+  then-of Q f a b unparsed h = a
+  then-of Q f a b (parsed e rest) h = b e rest h
 
-  past-of : (m : ℕ) (f : List Token → Got) → P bad → (ts : List Token) → ((t : Token) (us : List Token) → ts ≡ t ∷ us → markOf t ≡ m → P (f us)) → P (past m f ts)
+  past-of : (m : ℕ) (f : List Token → Parsed) → P unparsed → (ts : List Token) → ((t : Token) (us : List Token) → ts ≡ t ∷ us → bracketOf t ≡ m → P (f us)) → P (past m f ts)
   past-of m f a [] b = a
-  past-of m f a (t ∷ us) b = by-test P (eqb (markOf t) m) (λ e. b t us refl (eqb-true (markOf t) m e)) (λ e. a)
+  past-of m f a (t ∷ us) b = by-test P (eqb (bracketOf t) m) (λ e. b t us refl (eqb-true (bracketOf t) m e)) (λ e. a)
 
-is-opening : (t : Token) → markOf t ≡ 1 → t ≡ opening
+is-opening : (t : Token) → bracketOf t ≡ 1 → t ≡ opening
 is-opening (number n) e = absurd (omega arith)
 is-opening (behaviour i) e = absurd (omega arith)
 is-opening (function f) e = absurd (omega arith)
@@ -85,7 +85,7 @@ is-opening opening e = refl
 is-opening closing e = absurd (omega arith)
 is-opening comma e = absurd (omega arith)
 
-is-closing : (t : Token) → markOf t ≡ 2 → t ≡ closing
+is-closing : (t : Token) → bracketOf t ≡ 2 → t ≡ closing
 is-closing (number n) e = absurd (omega arith)
 is-closing (behaviour i) e = absurd (omega arith)
 is-closing (function f) e = absurd (omega arith)
@@ -93,7 +93,7 @@ is-closing opening e = absurd (omega arith)
 is-closing closing e = refl
 is-closing comma e = absurd (omega arith)
 
-is-comma : (t : Token) → markOf t ≡ 3 → t ≡ comma
+is-comma : (t : Token) → bracketOf t ≡ 3 → t ≡ comma
 is-comma (number n) e = absurd (omega arith)
 is-comma (behaviour i) e = absurd (omega arith)
 is-comma (function f) e = absurd (omega arith)
@@ -110,9 +110,9 @@ joined-by opening h p q = absurd (omega arith)
 joined-by closing h p q = absurd (omega arith)
 joined-by comma h p q = absurd (omega arith)
 
-module _ (l : ℕ) (next : List Token → Got) (ih : (ts : List Token) → Sound l ts (next ts)) (ts : List Token) where
-  chain-sound : (k : ℕ) (a : Expr) (us : List Token) → Front (suc l) ts a us → Sound (suc l) ts (chain (suc l) next k a us)
-  unfolding chain
+module _ (l : ℕ) (next : List Token → Parsed) (ih : (ts : List Token) → Sound l ts (next ts)) (ts : List Token) where
+  chain-sound : (k : ℕ) (a : Expr) (us : List Token) → Front (suc l) ts a us → Sound (suc l) ts (operatorChain (suc l) next k a us)
+  unfolding operatorChain
   chain-sound zero a us h = h
   chain-sound (suc k) a [] h = h
   chain-sound (suc k) a (t ∷ us) h =
@@ -126,7 +126,7 @@ module _ (l : ℕ) (next : List Token → Got) (ih : (ts : List Token) → Sound
       }) (next us) (ih us))
       (λ e. h)
 
-module _ (operand : List Token → Got) (k : ℕ) (ih : (ts : List Token) → Sound 0 ts (operand ts)) where
+module _ (operand : List Token → Parsed) (k : ℕ) (ih : (ts : List Token) → Sound 0 ts (operand ts)) where
   tower-sound : (l : ℕ) (ts : List Token) → Sound l ts (tower operand k l ts)
   unfolding tower
   tower-sound zero ts = ih ts
@@ -135,7 +135,7 @@ module _ (operand : List Token → Got) (k : ℕ) (ih : (ts : List Token) → So
       (λ a us h. chain-sound l (tower operand k l) (tower-sound l) ts k a us
       record { taken = h .taken; joined = h .joined; derived = tighter (h .derived) }) (tower operand k l ts) (tower-sound l ts)
 
-module _ (all : List Token → Got) (ih : (ts : List Token) → Sound 6 ts (all ts)) where
+module _ (all : List Token → Parsed) (ih : (ts : List Token) → Sound 6 ts (all ts)) where
   brackets-sound : (ts : List Token) → Sound 0 (opening ∷ ts) (bracketedOf all (opening ∷ ts))
   unfolding bracketedOf
   brackets-sound ts =
@@ -164,10 +164,10 @@ module _ (all : List Token → Got) (ih : (ts : List Token) → Sound 6 ts (all 
         derived = choice (h .derived) (i .derived) (j .derived);
       })) (all ys) (ih ys))) (all ws) (ih ws))) (all us) (ih us))
     where
-      S : Got → Type 0
+      S : Parsed → Type 0
       S = Sound 0 (function 14 ∷ ts)
 
-  module _ (operand : List Token → Got) (jh : (ts : List Token) → Sound 0 ts (operand ts)) where
+  module _ (operand : List Token → Parsed) (jh : (ts : List Token) → Sound 0 ts (operand ts)) where
     operand-sound : (ts : List Token) → Sound 0 ts (operandOf operand all ts)
     operand-sound [] = tt
     operand-sound (number n ∷ ts) = record { taken = number n ∷ []; joined = refl; derived = a-number }
@@ -209,16 +209,16 @@ calm-none [] = tt
 calm-none (t ∷ ts) = λ j a b e. omega arith
 
 -- where level l's function stands, once the operand e is read
-abbrev onward : ℕ → ℕ → ℕ → Expr → List Token → Got
-onward zero k j e rest = got e rest
-onward (suc l) k j e rest = chain (suc l) (readAt l k) j e rest
+abbrev onward : ℕ → ℕ → ℕ → Expr → List Token → Parsed
+onward zero k j e rest = parsed e rest
+onward (suc l) k j e rest = operatorChain (suc l) (readAt l k) j e rest
 
-settles : (l k j : ℕ) (e : Expr) (rest : List Token) → Calm (suc l) rest → onward l k j e rest ≡ got e rest
-unfolding chain
-settles zero k j e rest h = refl
-settles (suc l) k zero e rest h = refl
-settles (suc l) k (suc j) e [] h = refl
-settles (suc l) k (suc j) e (t ∷ rest) h = rw (ne-eqb (levelOf t) (suc l) (h (suc l) (omega arith) (omega arith)))
+calm-ends : (l k j : ℕ) (e : Expr) (rest : List Token) → Calm (suc l) rest → onward l k j e rest ≡ parsed e rest
+unfolding operatorChain
+calm-ends zero k j e rest h = refl
+calm-ends (suc l) k zero e rest h = refl
+calm-ends (suc l) k (suc j) e [] h = refl
+calm-ends (suc l) k (suc j) e (t ∷ rest) h = rw (ne-eqb (levelOf t) (suc l) (h (suc l) (omega arith) (omega arith)))
 
 record Reached (l k : ℕ) (ts : List Token) (e : Expr) (rest : List Token) : Type 0 where
   pub left : ℕ
@@ -226,9 +226,9 @@ record Reached (l k : ℕ) (ts : List Token) (e : Expr) (rest : List Token) : Ty
   pub is : readAt l k (ts ++ rest) ≡ onward l k left e rest
 
 -- a step of the chain
-chain-step : (l j f : ℕ) (a b : Expr) (us rest : List Token) → level f ≡ l → suc (length rest) ≤ j → (next : List Token → Got) → next us ≡ got b rest
-    → (i : ℕ) × ((length rest ≤ i) × (chain l next j a (function f ∷ us) ≡ chain l next i (app2 f a b) rest))
-unfolding chain
+chain-step : (l j f : ℕ) (a b : Expr) (us rest : List Token) → level f ≡ l → suc (length rest) ≤ j → (next : List Token → Parsed) → next us ≡ parsed b rest
+    → (i : ℕ) × ((length rest ≤ i) × (operatorChain l next j a (function f ∷ us) ≡ operatorChain l next i (app2 f a b) rest))
+unfolding operatorChain
 chain-step l zero f a b us rest h m next e = absurd (omega arith)
 chain-step l (suc j) f a b us rest h m next e = (j, (omega arith, rw (eq-eqb (level f) l h, e)))
 
@@ -236,12 +236,12 @@ two-step : (l k f : ℕ) (ts us : List Token) (a b : Expr) (rest : List Token) �
     → Reached (suc l) k ts a (function f ∷ (us ++ rest)) → Reached l k us b rest → Reached (suc l) k (ts ++ (function f ∷ us)) (app2 f a b) rest
 two-step l k f ts us a b rest o c r t =
     let s = chain-step (suc l) (r .left) f a b (us ++ rest) rest o (omega (arith, r .enough, length-append us rest)) (readAt l k)
-    (t .is ∙ settles l k (t .left) b rest c) in
+    (t .is ∙ calm-ends l k (t .left) b rest c) in
     record { left = s .0; enough = s .1 .0; is = rw (append-assoc ts (function f ∷ us) rest) (r .is ∙ s .1 .1) }
 
 -- a formula in front of what is no operator is read
-whole-at : (k : ℕ) (ts : List Token) (e : Expr) (rest : List Token) → Calm 7 rest → Reached 6 k ts e rest → readAt 6 k (ts ++ rest) ≡ got e rest
-whole-at k ts e rest c r = r .is ∙ settles 6 k (r .left) e rest c
+whole-at : (k : ℕ) (ts : List Token) (e : Expr) (rest : List Token) → Calm 7 rest → Reached 6 k ts e rest → readAt 6 k (ts ++ rest) ≡ parsed e rest
+whole-at k ts e rest c r = r .is ∙ calm-ends 6 k (r .left) e rest c
 
 less : {m n : ℕ} → suc m ≤ suc n → m ≤ n
 less h = omega arith
@@ -250,7 +250,7 @@ reach : {l : ℕ} {ts : List Token} {e : Expr} → Derives l ts e → (k : ℕ) 
 unfolding tower operandAt bracketedOf choiceOf
 reach {ts = ts} (tighter {l} d) k rest h c =
     let r = reach d k rest h (calm-less l rest c) in
-    record { left = k; enough = omega (arith, length-append ts rest); is = rw (r .is ∙ settles l k (r .left) _ rest c) }
+    record { left = k; enough = omega (arith, length-append ts rest); is = rw (r .is ∙ calm-ends l k (r .left) _ rest c) }
 reach (two-sided {l} {f} {ts} {us} {a} {b} o p q) k rest h c =
     let n : length (ts ++ (function f ∷ (us ++ rest))) ≤ k = simp append-assoc at h in
     let m : length (us ++ rest) ≤ k = omega (arith, length-append ts (function f ∷ (us ++ rest))) in
@@ -280,5 +280,5 @@ reach (choice {ts} {us} {vs} {a} {b} {c} p q r) (suc k) rest h z =
     let s : (ts ++ (comma ∷ (us ++ (comma ∷ (vs ++ (closing ∷ [])))))) ++ rest ≡ ts ++ (comma ∷ (us ++ (comma ∷ (vs ++ last)))) = simp append-assoc in
     record { left = length rest; enough = omega arith; is = rw (s, x, y, t) }
 
-pub reads-all : {ts : List Token} {e : Expr} → Derives 6 ts e → readAt 6 (length ts) ts ≡ got e []
+pub reads-all : {ts : List Token} {e : Expr} → Derives 6 ts e → readAt 6 (length ts) ts ≡ parsed e []
 reads-all {ts} {e} d = rw (append-nil ts) at (whole-at (length ts) ts e [] tt (reach d (length ts) [] (simp append-nil (omega arith)) tt))

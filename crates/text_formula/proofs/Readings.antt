@@ -9,7 +9,7 @@ use lib.ListN.{length}
 use Rattle.spec_language.specs.Syntax.{Expr}
 use Rattle.text_formula.specs.Tokens.{Token, Tokens}
 use Rattle.text_formula.specs.Grammar.{Derives, Formula, formula}
-use Rattle.text_formula.specs.Reader.{Got, bad, got, readAt, wholly, readTokens, tokensOf, readFormula}
+use Rattle.text_formula.specs.Reader.{Parsed, unparsed, parsed, readAt, wholly, readTokens, tokensOf, readFormula}
 use Rattle.text_formula.proofs.Scans.{Made, scans-all, scans-only}
 use Rattle.text_formula.proofs.Parses.{Sound, reads-all, reads-only}
 
@@ -18,11 +18,11 @@ abbrev pub ReadOf : List ℕ → Option Expr → Type 0
 ReadOf text none = Unit {0}
 ReadOf text (some e) = Formula text e
 
-wholly-says : (text : List ℕ) (ts : List Token) → Tokens text ts → (g : Got) → Sound 6 ts g → ReadOf text (wholly g)
-wholly-says text ts t bad h = tt
-wholly-says text ts t (got e []) h = let q : ts ≡ h .taken = h .joined ∙ append-nil (h .taken) in
+wholly-says : (text : List ℕ) (ts : List Token) → Tokens text ts → (g : Parsed) → Sound 6 ts g → ReadOf text (wholly g)
+wholly-says text ts t unparsed h = tt
+wholly-says text ts t (parsed e []) h = let q : ts ≡ h .taken = h .joined ∙ append-nil (h .taken) in
     let d : Derives 6 ts e = rw q (h .derived) in formula t d
-wholly-says text ts t (got e (u ∷ us)) h = tt
+wholly-says text ts t (parsed e (u ∷ us)) h = tt
 
 tokens-say : (text : List ℕ) (o : Option (List Token)) → Made text o → ReadOf text (readTokens o)
 tokens-say text none h = tt

@@ -11,8 +11,8 @@ use lib.Dec.{ltb, eqb}
 use borrow.Author.Tests.{ltb-true, ltb-false, lt-ltb, le-ltb, eqb-true, eqb-false, ne-eqb}
 use Rattle.lib_base.specs.Basics.{All}
 use Rattle.lib_base.proofs.Tools.{by-test, by-elim}
-use Rattle.text_formula.specs.Tokens.{Token, number, behaviour, function, opening, closing, comma, Digit, decimal, NotFirst, Begins, b-number, b-digit, b-digits, b-or, b-and, b-not, b-plus, b-minus, b-times, b-divided, b-above, b-at-least, b-below, b-at-most, b-equal, b-different, b-if, b-opening, b-closing, b-comma, Tokens, t-end, t-space, t-token, InRange}
-use Rattle.text_formula.specs.Reader.{First, nothing, begins, digitOf, nameOf, singleOf, doubleOf, markedOf, wordOf, numberOf, firstOf, before, andOn, tokensIn, tokensOf}
+use Rattle.text_formula.specs.Tokens.{Token, number, behaviour, function, opening, closing, comma, Digit, decimalValue, NotFirst, Begins, b-number, b-digit, b-digits, b-or, b-and, b-not, b-plus, b-minus, b-times, b-divided, b-above, b-at-least, b-below, b-at-most, b-equal, b-different, b-if, b-opening, b-closing, b-comma, Tokens, t-end, t-space, t-token, InRange}
+use Rattle.text_formula.specs.Reader.{FirstToken, noToken, begins, digitOf, nameOf, singleOf, doubleOf, markedOf, wordToken, numberToken, firstOf, putFirst, andOn, tokensIn, tokensOf}
 
 -- ---- digits
 
@@ -55,8 +55,8 @@ first-not c (b ∷ bs) l h = ne-eqb b c h
 
 -- ---- what the reader finds at the front
 
-abbrev pub Says : List ℕ → First → Type 0
-Says bs nothing = Unit {0}
+abbrev pub Says : List ℕ → FirstToken → Type 0
+Says bs noToken = Unit {0}
 Says bs (begins t rest) = Begins bs t rest
 
 one-byte : (bs : List ℕ) (b : ℕ) {t : Token} → 0 < b → ((rest : List ℕ) → Begins (b ∷ rest) t rest) → eqb (getD bs 0 0) b ≡ true → Begins bs t (drop 1 bs)
@@ -103,8 +103,8 @@ name-two (a ∷ (c ∷ (d ∷ bs))) e h g i j k =
     subst (λ x. Begins (a ∷ x ∷ d ∷ bs) (behaviour (digitOf c * 10 + digitOf d)) bs) (sym (digit-byte c l))
     (subst (λ x. Begins (a ∷ (48 + digitOf c) ∷ x ∷ bs) (behaviour (digitOf c * 10 + digitOf d)) bs) (sym (digit-byte d m)) (rw p u))
 
-word-says : (bs : List ℕ) → Says bs (wordOf nothing (λ t w. begins t (drop w bs)) bs)
-unfolding wordOf nameOf markedOf doubleOf singleOf
+word-says : (bs : List ℕ) → Says bs (wordToken noToken (λ t w. begins t (drop w bs)) bs)
+unfolding wordToken nameOf markedOf doubleOf singleOf
 word-says bs =
     by-test S (eqb (getD bs 0 0) 98)
     (λ n. by-test S (ltb 9 (digitOf (getD bs 1 0))) (λ e. tt)
@@ -127,7 +127,7 @@ word-says bs =
     (λ n. by-test S (eqb (getD bs 0 0) 42) (one-byte bs 42 (omega arith) b-times)
     (λ n. by-test S (eqb (getD bs 0 0) 47) (one-byte bs 47 (omega arith) b-divided) (λ n. tt)))))))))))))))
   where
-    S : First → Type 0
+    S : FirstToken → Type 0
     S = Says bs
 
 -- a run of digits
@@ -135,65 +135,65 @@ record Run (n : ℕ) (bs : List ℕ) (t : Token) (rest : List ℕ) : Type 0 wher
   pub digits : List ℕ
   pub joined : bs ≡ digits ++ rest
   pub all : All Digit digits
-  pub value : t ≡ number (decimal n digits)
+  pub value : t ≡ number (decimalValue n digits)
   pub stops : NotFirst Digit rest
 
-abbrev RunSays : ℕ → List ℕ → First → Type 0
-RunSays n bs nothing = ⊥
+abbrev RunSays : ℕ → List ℕ → FirstToken → Type 0
+RunSays n bs noToken = ⊥
 RunSays n bs (begins t rest) = Run n bs t rest
 
-longer : (n b : ℕ) (bs : List ℕ) → digitOf b < 10 → (f : First) → RunSays (n * 10 + digitOf b) bs f → RunSays n (b ∷ bs) f
-unfolding decimal
-longer n b bs h nothing r = r
+longer : (n b : ℕ) (bs : List ℕ) → digitOf b < 10 → (f : FirstToken) → RunSays (n * 10 + digitOf b) bs f → RunSays n (b ∷ bs) f
+unfolding decimalValue
+longer n b bs h noToken r = r
 longer n b bs h (begins t rest) r =
     let d = is-digit b h in
     let q : digitOf b ≡ b - 48 = d .1 in
     record { digits = b ∷ r .digits; joined = ap (λ (l : List ℕ). b ∷ l) (r .joined); all = (d .0, r .all); value = r .value ∙ rw q; stops = r .stops }
 
-number-says : (n : ℕ) (bs : List ℕ) → RunSays n bs (numberOf n bs)
-unfolding numberOf decimal
+number-says : (n : ℕ) (bs : List ℕ) → RunSays n bs (numberToken n bs)
+unfolding numberToken decimalValue
 number-says n [] = record { digits = []; joined = refl; all = tt; value = refl; stops = tt }
 number-says n (b ∷ bs) =
     by-test (RunSays n (b ∷ bs)) (ltb (digitOf b) 10)
-    (λ e. longer n b bs (ltb-true (digitOf b) 10 e) (numberOf (n * 10 + digitOf b) bs) (number-says (n * 10 + digitOf b) bs))
+    (λ e. longer n b bs (ltb-true (digitOf b) 10 e) (numberToken (n * 10 + digitOf b) bs) (number-says (n * 10 + digitOf b) bs))
     (λ e. record { digits = []; joined = refl; all = tt; value = refl; stops = digit-not-first (b ∷ bs) (omega (arith, ltb-false (digitOf b) 10 e)) })
 
 -- a run that begins with a digit is a number
-run-number : (bs : List ℕ) (t : Token) (rest ds : List ℕ) → digitOf (getD bs 0 0) < 10 → bs ≡ ds ++ rest → All Digit ds → t ≡ number (decimal 0 ds) → NotFirst Digit rest
+run-number : (bs : List ℕ) (t : Token) (rest ds : List ℕ) → digitOf (getD bs 0 0) < 10 → bs ≡ ds ++ rest → All Digit ds → t ≡ number (decimalValue 0 ds) → NotFirst Digit rest
     → Begins bs t rest
 run-number bs t rest [] h j a v s =
     let z : digitOf (getD bs 0 0) ≡ 10 = ap (λ (l : List ℕ). digitOf (getD l 0 0)) j ∙ no-digit-first rest s in
     absurd (omega arith)
 run-number bs t rest (b ∷ ds) h j a v s = rw (j, v) (b-number b ds rest (a .0) (a .1) s)
 
-run-says : (bs : List ℕ) (f : First) → digitOf (getD bs 0 0) < 10 → RunSays 0 bs f → Says bs f
-run-says bs nothing h r = absurd r
+run-says : (bs : List ℕ) (f : FirstToken) → digitOf (getD bs 0 0) < 10 → RunSays 0 bs f → Says bs f
+run-says bs noToken h r = absurd r
 run-says bs (begins t rest) h r = run-number bs t rest (r .digits) h (r .joined) (r .all) (r .value) (r .stops)
 
 pub first-says : (bs : List ℕ) → Says bs (firstOf bs)
 unfolding firstOf
 first-says bs =
     by-test (Says bs) (ltb (digitOf (getD bs 0 0)) 10)
-    (λ e. run-says bs (numberOf 0 bs) (ltb-true (digitOf (getD bs 0 0)) 10 e) (number-says 0 bs))
+    (λ e. run-says bs (numberToken 0 bs) (ltb-true (digitOf (getD bs 0 0)) 10 e) (number-says 0 bs))
     (λ e. word-says bs)
 
 -- ---- what stands at the front is found
 
-number-reads : (n : ℕ) (ds rest : List ℕ) → All Digit ds → NotFirst Digit rest → numberOf n (ds ++ rest) ≡ begins (number (decimal n ds)) rest
-unfolding numberOf decimal
+number-reads : (n : ℕ) (ds rest : List ℕ) → All Digit ds → NotFirst Digit rest → numberToken n (ds ++ rest) ≡ begins (number (decimalValue n ds)) rest
+unfolding numberToken decimalValue
 number-reads n [] [] a s = refl
 number-reads n [] (b ∷ rest) a s = rw (no-digit b s)
 number-reads n (b ∷ ds) rest a s =
     let q : digitOf b ≡ b - 48 = digit-is b (a .0) in
     rw (lt-ltb (digitOf b) 10 (omega (arith, a .0)), q) (number-reads (n * 10 + (b - 48)) ds rest (a .1) s)
 
-number-first : (b : ℕ) (ds rest : List ℕ) → Digit b → All Digit ds → NotFirst Digit rest → firstOf (b ∷ (ds ++ rest)) ≡ begins (number (decimal 0 (b ∷ ds))) rest
+number-first : (b : ℕ) (ds rest : List ℕ) → Digit b → All Digit ds → NotFirst Digit rest → firstOf (b ∷ (ds ++ rest)) ≡ begins (number (decimalValue 0 (b ∷ ds))) rest
 unfolding firstOf
 number-first b ds rest h a s = rw (lt-ltb (digitOf b) 10 (omega (arith, digit-is b h))) (number-reads 0 (b ∷ ds) rest (h, a) s)
 
 name-first : (c : ℕ) (bs : List ℕ)
-    → firstOf (98 ∷ c ∷ bs) ≡ nameOf nothing (λ t w. begins t (drop w (98 ∷ c ∷ bs))) (digitOf c) (digitOf (getD bs 0 0)) (digitOf (getD bs 1 0))
-unfolding firstOf wordOf digitOf
+    → firstOf (98 ∷ c ∷ bs) ≡ nameOf noToken (λ t w. begins t (drop w (98 ∷ c ∷ bs))) (digitOf c) (digitOf (getD bs 0 0)) (digitOf (getD bs 1 0))
+unfolding firstOf wordToken digitOf
 name-first c bs = refl
 
 one-digit : (d : ℕ) (rest : List ℕ) → d < 10 → NotFirst Digit rest → firstOf (98 ∷ (48 + d) ∷ rest) ≡ begins (behaviour d) rest
@@ -208,7 +208,7 @@ two-digits d e rest h g l s =
     ∙ rw (digit-number d m, digit-number e g, no-digit-first rest s, le-ltb 9 d (omega arith), le-ltb 9 e (omega arith), ne-eqb d 0 (omega arith), le-ltb 63 (d * 10 + e) (omega arith))
 
 first-reads : {bs : List ℕ} {t : Token} {rest : List ℕ} → Begins bs t rest → firstOf bs ≡ begins t rest
-unfolding firstOf wordOf nameOf markedOf doubleOf singleOf digitOf
+unfolding firstOf wordToken nameOf markedOf doubleOf singleOf digitOf
 first-reads (b-number b ds rest h a s) = number-first b ds rest h a s
 first-reads (b-digit d rest h s) = one-digit d rest h s
 first-reads (b-digits d e rest h g l s) = two-digits d e rest h g l s
@@ -278,7 +278,7 @@ abbrev pub Made : List ℕ → Option (List Token) → Type 0
 Made bs none = Unit {0}
 Made bs (some ts) = Tokens bs ts
 
-before-made : (bs : List ℕ) (t : Token) (rest : List ℕ) → Begins bs t rest → (o : Option (List Token)) → Made rest o → Made bs (before t o)
+before-made : (bs : List ℕ) (t : Token) (rest : List ℕ) → Begins bs t rest → (o : Option (List Token)) → Made rest o → Made bs (putFirst t o)
 before-made bs t rest b none h = tt
 before-made bs t rest b (some ts) h = t-token b h
 
@@ -287,8 +287,8 @@ space-made bs none h = tt
 space-made bs (some ts) h = t-space h
 
 module _ (go : List ℕ → Option (List Token)) (ih : (rest : List ℕ) → Made rest (go rest)) where
-  on-made : (bs : List ℕ) (f : First) → Says bs f → Made bs (andOn go f)
-  on-made bs nothing h = tt
+  on-made : (bs : List ℕ) (f : FirstToken) → Says bs f → Made bs (andOn go f)
+  on-made bs noToken h = tt
   on-made bs (begins t rest) h = before-made bs t rest h (go rest) (ih rest)
 
   in-made : (bs : List ℕ) → Made bs (tokensIn go bs)

@@ -19,7 +19,7 @@ use Rattle.spec_grammar.proofs.Expressions.{expr-reads}
 use Rattle.text_formula.specs.Tokens.{Token, function, closing, comma, InRange}
 use Rattle.text_formula.specs.Grammar.{Operator, times, divided, plus, minus, above, at-least, below, at-most, equal, different, both, either, Derives, tighter, two-sided, negated, a-number, a-name, bracketed, choice, Formula, formula}
 use Rattle.text_formula.specs.Reader.{readFormula}
-use Rattle.text_formula.specs.Answer.{large, nesting, deeper, asSent, fieldOf, written, answerTo, formulaOn}
+use Rattle.text_formula.specs.Answer.{large, nesting, deeper, asSent, formulaField, fieldAnswer, answerTo, formulaOn}
 use Rattle.text_formula.proofs.Deeper.{deeper-left, deeper-right, deeper-most}
 use Rattle.text_formula.proofs.Scans.{tokens-fine}
 use Rattle.text_formula.proofs.Readings.{reading-only}
@@ -112,20 +112,20 @@ sent-means v (app3 f a b c) = rw (sent-means v a, sent-means v b, sent-means v c
 
 -- ---- the field that is written
 
-field-of : (text buffer : List ℕ) (e : Expr) → Formula text e → Fields text buffer (written e buffer)
-unfolding written
+field-of : (text buffer : List ℕ) (e : Expr) → Formula text e → Fields text buffer (fieldAnswer e buffer)
+unfolding fieldAnswer
 field-of text buffer e f =
     by-test (Fields text buffer) (large e) (λ x n h. absurd (omega arith))
     (λ x. by-test (Fields text buffer) (ltb 16 (nesting e)) (λ y n h. absurd (omega arith))
-    (λ y. by-test (Fields text buffer) (ltb (length buffer) (length (fieldOf e))) (λ z n h. absurd (omega arith))
+    (λ y. by-test (Fields text buffer) (ltb (length buffer) (length (formulaField e))) (λ z n h. absurd (omega arith))
     (λ z n h.
-    let q : length (fieldOf e) ≡ n = omega arith in
+    let q : length (formulaField e) ≡ n = omega arith in
     let m = nested e 16 (formula-proper f) x (ltb-false 16 (nesting e) y) in
     record {
       expression = e;
       reading = f;
       length-is = sym q;
-      fits = omega (arith, ltb-false (length buffer) (length (fieldOf e)) z);
+      fits = omega (arith, ltb-false (length buffer) (length (formulaField e)) z);
       bytes = rw q;
       nests = m;
       read-back = rw q (expr-reads (sent-fits m) (drop n buffer));

@@ -40,8 +40,8 @@ asSent (app1 f a) = apply1 f (asSent a)
 asSent (app2 f a b) = apply2 f (asSent a) (asSent b)
 asSent (app3 f a b c) = apply3 f (asSent a) (asSent b) (asSent c)
 
-abbrev pub fieldOf : Expr → List ℕ
-fieldOf e = encodeExpr (asSent e)
+abbrev pub formulaField : Expr → List ℕ
+formulaField e = encodeExpr (asSent e)
 
 -- an answer, and the buffer
 abbrev pub answered : ℕ → List ℕ → ℕ × List ℕ
@@ -49,16 +49,16 @@ answered r l = (r, l)
 
 -- "22, checked next", "9 comes after 22", "23, checked last"; else the field stands "at the start of a lent buffer,
 -- whose other bytes stay", and its length is answered, with 2 ^ 32 to tell it from a refusal
-unfoldable pub written : Expr → List ℕ → ℕ × List ℕ
-written e buffer =
+unfoldable pub fieldAnswer : Expr → List ℕ → ℕ × List ℕ
+fieldAnswer e buffer =
     pick (large e) (answered largeNumber buffer)
     (pick (ltb 16 (nesting e)) (answered tooDeep buffer)
-    (pick (ltb (length buffer) (length (fieldOf e))) (answered shortField buffer)
-    (answered (4294967296 + length (fieldOf e)) (fieldOf e ++ drop (length (fieldOf e)) buffer))))
+    (pick (ltb (length buffer) (length (formulaField e))) (answered shortField buffer)
+    (answered (4294967296 + length (formulaField e)) (formulaField e ++ drop (length (formulaField e)) buffer))))
 
 abbrev pub answerTo : Option Expr → List ℕ → ℕ × List ℕ
 answerTo none buffer = answered noFormula buffer
-answerTo (some e) buffer = written e buffer
+answerTo (some e) buffer = fieldAnswer e buffer
 
 -- "A formula of at most 1,024 bytes becomes one expression field"
 unfoldable pub formulaOn : List ℕ → List ℕ → ℕ × List ℕ

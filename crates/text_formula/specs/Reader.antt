@@ -12,9 +12,9 @@ use Rattle.text_formula.specs.Tokens.{Token, number, behaviour, function
 -- ---- tokens
 
 -- what stands at the front of a text: nothing of ours, or a token and the rest
-pub data First : Type 0 where
-  nothing : First
-  begins : Token → List ℕ → First
+pub data FirstToken : Type 0 where
+  noToken : FirstToken
+  begins : Token → List ℕ → FirstToken
 
 -- a digit's number; 10 for another byte
 unfoldable pub digitOf : ℕ → ℕ
@@ -59,27 +59,27 @@ markedOf miss hit b c =
     (doubleOf miss hit b c))))
 
 -- a token that is no number
-unfoldable pub wordOf : {A : Type 0} → A → (Token → ℕ → A) → List ℕ → A
-wordOf miss hit bs =
+unfoldable pub wordToken : {A : Type 0} → A → (Token → ℕ → A) → List ℕ → A
+wordToken miss hit bs =
     pick (eqb (getD bs 0 0) 98)
     (nameOf miss hit (digitOf (getD bs 1 0)) (digitOf (getD bs 2 0)) (digitOf (getD bs 3 0)))
     (markedOf miss hit (getD bs 0 0) (getD bs 1 0))
 
 -- a number goes as far as there are digits
-unfoldable pub numberOf : ℕ → List ℕ → First
-numberOf n [] = begins (number n) []
-numberOf n (b ∷ bs) = pick (ltb (digitOf b) 10) (numberOf (n * 10 + digitOf b) bs) (begins (number n) (b ∷ bs))
+unfoldable pub numberToken : ℕ → List ℕ → FirstToken
+numberToken n [] = begins (number n) []
+numberToken n (b ∷ bs) = pick (ltb (digitOf b) 10) (numberToken (n * 10 + digitOf b) bs) (begins (number n) (b ∷ bs))
 
-unfoldable pub firstOf : List ℕ → First
-firstOf bs = pick (ltb (digitOf (getD bs 0 0)) 10) (numberOf 0 bs) (wordOf nothing (λ t w. begins t (drop w bs)) bs)
+unfoldable pub firstOf : List ℕ → FirstToken
+firstOf bs = pick (ltb (digitOf (getD bs 0 0)) 10) (numberToken 0 bs) (wordToken noToken (λ t w. begins t (drop w bs)) bs)
 
-abbrev pub before : Token → Option (List Token) → Option (List Token)
-before t none = none
-before t (some ts) = some (t ∷ ts)
+abbrev pub putFirst : Token → Option (List Token) → Option (List Token)
+putFirst t none = none
+putFirst t (some ts) = some (t ∷ ts)
 
-abbrev pub andOn : (List ℕ → Option (List Token)) → First → Option (List Token)
-andOn go nothing = none
-andOn go (begins t rest) = before t (go rest)
+abbrev pub andOn : (List ℕ → Option (List Token)) → FirstToken → Option (List Token)
+andOn go noToken = none
+andOn go (begins t rest) = putFirst t (go rest)
 
 -- all tokens of a text, where `go` reads those further on; spaces are passed over
 abbrev pub tokensIn : (List ℕ → Option (List Token)) → List ℕ → Option (List Token)
@@ -121,77 +121,77 @@ operatorOf closing = 0
 operatorOf comma = 0
 
 -- brackets and comma by number; 0 for another
-abbrev pub markOf : Token → ℕ
-markOf (number n) = 0
-markOf (behaviour i) = 0
-markOf (function f) = 0
-markOf opening = 1
-markOf closing = 2
-markOf comma = 3
+abbrev pub bracketOf : Token → ℕ
+bracketOf (number n) = 0
+bracketOf (behaviour i) = 0
+bracketOf (function f) = 0
+bracketOf opening = 1
+bracketOf closing = 2
+bracketOf comma = 3
 
 -- an expression read, with the tokens after it, or none
-pub data Got : Type 0 where
-  bad : Got
-  got : Expr → List Token → Got
+pub data Parsed : Type 0 where
+  unparsed : Parsed
+  parsed : Expr → List Token → Parsed
 
-abbrev pub then : Got → (Expr → List Token → Got) → Got
-then bad f = bad
-then (got e ts) f = f e ts
+abbrev pub thenParse : Parsed → (Expr → List Token → Parsed) → Parsed
+thenParse unparsed f = unparsed
+thenParse (parsed e ts) f = f e ts
 
 -- past the bracket or comma that is due
-abbrev pub past : ℕ → (List Token → Got) → List Token → Got
-past m f [] = bad
-past m f (t ∷ ts) = pick (eqb (markOf t) m) (f ts) bad
+abbrev pub past : ℕ → (List Token → Parsed) → List Token → Parsed
+past m f [] = unparsed
+past m f (t ∷ ts) = pick (eqb (bracketOf t) m) (f ts) unparsed
 
 -- after the operand a at level l: operators of that level, each with an operand that `next` reads; the number bounds
 -- them
-unfoldable pub chain : ℕ → (List Token → Got) → ℕ → Expr → List Token → Got
-chain l next zero a ts = got a ts
-chain l next (suc k) a [] = got a []
-chain l next (suc k) a (t ∷ ts) = pick (eqb (levelOf t) l) (then (next ts) (λ b us. chain l next k (app2 (operatorOf t) a b) us)) (got a (t ∷ ts))
+unfoldable pub operatorChain : ℕ → (List Token → Parsed) → ℕ → Expr → List Token → Parsed
+operatorChain l next zero a ts = parsed a ts
+operatorChain l next (suc k) a [] = parsed a []
+operatorChain l next (suc k) a (t ∷ ts) = pick (eqb (levelOf t) l) (thenParse (next ts) (λ b us. operatorChain l next k (app2 (operatorOf t) a b) us)) (parsed a (t ∷ ts))
 
 -- level l over `operand`, which reads level 0; the number bounds the tokens
-unfoldable pub tower : (List Token → Got) → ℕ → ℕ → List Token → Got
+unfoldable pub tower : (List Token → Parsed) → ℕ → ℕ → List Token → Parsed
 tower operand k zero ts = operand ts
-tower operand k (suc l) ts = then (tower operand k l ts) (λ a us. chain (suc l) (tower operand k l) k a us)
+tower operand k (suc l) ts = thenParse (tower operand k l ts) (λ a us. operatorChain (suc l) (tower operand k l) k a us)
 
 -- in brackets; the three arguments of `if`
-unfoldable pub bracketedOf : (List Token → Got) → List Token → Got
-bracketedOf all ts = past 1 (λ us. then (all us) (λ e vs. past 2 (λ ws. got e ws) vs)) ts
+unfoldable pub bracketedOf : (List Token → Parsed) → List Token → Parsed
+bracketedOf all ts = past 1 (λ us. thenParse (all us) (λ e vs. past 2 (λ ws. parsed e ws) vs)) ts
 
-unfoldable pub choiceOf : (List Token → Got) → List Token → Got
+unfoldable pub choiceOf : (List Token → Parsed) → List Token → Parsed
 choiceOf all ts =
-    past 1 (λ us. then (all us) (λ a vs.
-    past 3 (λ ws. then (all ws) (λ b xs.
-    past 3 (λ ys. then (all ys) (λ c zs.
-    past 2 (λ rest. got (app3 14 a b c) rest) zs)) xs)) vs)) ts
+    past 1 (λ us. thenParse (all us) (λ a vs.
+    past 3 (λ ws. thenParse (all ws) (λ b xs.
+    past 3 (λ ys. thenParse (all ys) (λ c zs.
+    past 2 (λ rest. parsed (app3 14 a b c) rest) zs)) xs)) vs)) ts
 
 -- `!` and the primaries, where `operand` reads level 0 and `all` a formula
-abbrev pub operandOf : (List Token → Got) → (List Token → Got) → List Token → Got
-operandOf operand all [] = bad
-operandOf operand all (number n ∷ ts) = got (con n) ts
-operandOf operand all (behaviour i ∷ ts) = got (name i) ts
+abbrev pub operandOf : (List Token → Parsed) → (List Token → Parsed) → List Token → Parsed
+operandOf operand all [] = unparsed
+operandOf operand all (number n ∷ ts) = parsed (con n) ts
+operandOf operand all (behaviour i ∷ ts) = parsed (name i) ts
 operandOf operand all (function f ∷ ts) =
-    pick (eqb f 3) (then (operand ts) (λ a us. got (app1 3 a) us)) (pick (eqb f 14) (choiceOf all ts) bad)
+    pick (eqb f 3) (thenParse (operand ts) (λ a us. parsed (app1 3 a) us)) (pick (eqb f 14) (choiceOf all ts) unparsed)
 operandOf operand all (opening ∷ ts) = bracketedOf all (opening ∷ ts)
-operandOf operand all (closing ∷ ts) = bad
-operandOf operand all (comma ∷ ts) = bad
+operandOf operand all (closing ∷ ts) = unparsed
+operandOf operand all (comma ∷ ts) = unparsed
 
-unfoldable pub operandAt : ℕ → List Token → Got
-operandAt zero ts = bad
+unfoldable pub operandAt : ℕ → List Token → Parsed
+operandAt zero ts = unparsed
 operandAt (suc k) ts = operandOf (operandAt k) (tower (operandAt k) k 6) ts
 
 -- level l at the front of ts, of at most k tokens
-abbrev pub readAt : ℕ → ℕ → List Token → Got
+abbrev pub readAt : ℕ → ℕ → List Token → Parsed
 readAt l k ts = tower (operandAt k) k l ts
 
 -- ---- the whole
 
 -- nothing is left over
-abbrev pub wholly : Got → Option Expr
-wholly bad = none
-wholly (got e []) = some e
-wholly (got e (t ∷ ts)) = none
+abbrev pub wholly : Parsed → Option Expr
+wholly unparsed = none
+wholly (parsed e []) = some e
+wholly (parsed e (t ∷ ts)) = none
 
 abbrev pub readTokens : Option (List Token) → Option Expr
 readTokens none = none

@@ -8,23 +8,23 @@ use Rattle.spec_language.specs.Sheet.{fillTerm}
 use Rattle.spec_language.specs.Grammar.{Nested}
 use Rattle.spec_language.specs.Reading.{got, exprAt}
 use Rattle.text_formula.specs.Grammar.{Formula}
-use Rattle.text_formula.specs.Answer.{asSent, fieldOf}
+use Rattle.text_formula.specs.Answer.{asSent, formulaField}
 
 -- a refusal changes no byte; no answer changes the buffer's length
-pub record Untouched (buffer : List ℕ) (a : ℕ × List ℕ) : Type 0 where
+pub record BufferKept (buffer : List ℕ) (a : ℕ × List ℕ) : Type 0 where
   pub unchanged : a .0 < 4294967296 → a .1 ≡ buffer
   pub long : length (a .1) ≡ length buffer
 
-pub record Field (text buffer : List ℕ) (n : ℕ) (after : List ℕ) : Type 0 where
+pub record FieldWritten (text buffer : List ℕ) (n : ℕ) (after : List ℕ) : Type 0 where
   pub expression : Expr
   pub reading : Formula text expression
-  pub length-is : n ≡ length (fieldOf expression)
+  pub length-is : n ≡ length (formulaField expression)
   pub fits : n ≤ length buffer
-  pub bytes : after ≡ fieldOf expression ++ drop n buffer
+  pub bytes : after ≡ formulaField expression ++ drop n buffer
   pub nests : Nested 16 expression
   pub read-back : exprAt 16 after ≡ got (asSent expression) (drop n buffer)
   pub means : (v : ℕ → ℕ) → fillTerm v (asSent expression) ≡ expression
 
 -- of an answer beyond the refusals
 abbrev pub Fields : List ℕ → List ℕ → ℕ × List ℕ → Type 0
-Fields text buffer a = (n : ℕ) → a .0 ≡ 4294967296 + n → Field text buffer n (a .1)
+Fields text buffer a = (n : ℕ) → a .0 ≡ 4294967296 + n → FieldWritten text buffer n (a .1)

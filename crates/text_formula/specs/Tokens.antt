@@ -17,9 +17,9 @@ pub data Token : Type 0 where
 abbrev pub Digit : ℕ → Type 0
 Digit b = (48 ≤ b) × (b < 58)
 
-unfoldable pub decimal : ℕ → List ℕ → ℕ
-decimal n [] = n
-decimal n (b ∷ bs) = decimal (n * 10 + (b - 48)) bs
+unfoldable pub decimalValue : ℕ → List ℕ → ℕ
+decimalValue n [] = n
+decimalValue n (b ∷ bs) = decimalValue (n * 10 + (b - 48)) bs
 
 -- the text ends, or goes on with a byte that is not of this kind
 abbrev pub NotFirst : (ℕ → Type 0) → List ℕ → Type 0
@@ -29,7 +29,7 @@ NotFirst P (b ∷ bs) = P b → ⊥
 -- a text begins with a token, and the rest follows. A number and a name take all digits that follow, `!`, `>` and `<`
 -- the `=`. "leading zeros allowed" in numbers; names "without leading zeros"
 pub data Begins : List ℕ → Token → List ℕ → Type 0 where
-  b-number : (b : ℕ) (ds rest : List ℕ) → Digit b → All Digit ds → NotFirst Digit rest → Begins (b ∷ (ds ++ rest)) (number (decimal 0 (b ∷ ds))) rest
+  b-number : (b : ℕ) (ds rest : List ℕ) → Digit b → All Digit ds → NotFirst Digit rest → Begins (b ∷ (ds ++ rest)) (number (decimalValue 0 (b ∷ ds))) rest
   b-digit : (d : ℕ) (rest : List ℕ) → d < 10 → NotFirst Digit rest → Begins (98 ∷ (48 + d) ∷ rest) (behaviour d) rest
   b-digits : (d e : ℕ) (rest : List ℕ) → 0 < d → e < 10 → d * 10 + e < 64 → NotFirst Digit rest
       → Begins (98 ∷ (48 + d) ∷ (48 + e) ∷ rest) (behaviour (d * 10 + e)) rest

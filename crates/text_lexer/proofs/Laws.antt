@@ -12,9 +12,9 @@ use borrow.Author.Tests.{ltb-false, lt-ltb, le-ltb, ne-eqb}
 use Rattle.lib_base.proofs.Tools.{by-test, by-two}
 use Rattle.text_formula.specs.Tokens.{Token, number, Begins}
 use Rattle.text_formula.proofs.Scans.{first-says, in-token, begins-some}
-use Rattle.text_formula.specs.Reader.{First, nothing, begins, digitOf, nameOf, singleOf, doubleOf, markedOf, wordOf, numberOf, firstOf, before, andOn, tokensOf}
-use Rattle.text_lexer.specs.Codes.{capped, code, found}
-use Rattle.text_lexer.specs.Scanned.{Scanned, Narrow, Holds}
+use Rattle.text_formula.specs.Reader.{FirstToken, noToken, begins, digitOf, nameOf, singleOf, doubleOf, markedOf, wordToken, numberToken, firstOf, putFirst, andOn, tokensOf}
+use Rattle.text_lexer.specs.Codes.{capped, tokenCode, found}
+use Rattle.text_lexer.specs.Scanned.{Scanned, Narrow, TokensHeld}
 use Rattle.text_lexer.specs.declared.Token as answer
 use Rattle.text_lexer.specs.declared.Token.the-variants.{Found, Missing}
 
@@ -25,13 +25,13 @@ drop-first text at = let q : at + 0 ≡ at = omega arith in getD-drop at text 0 
 
 module _ (text : List ℕ) (at : ℕ) where
   pub word-name : {A : Type 0} (miss : A) (hit : Token → ℕ → A) (b c d e : ℕ) → b ≡ getD text at 0 → c ≡ getD text (at + 1) 0 → d ≡ getD text (at + 2) 0 → e ≡ getD text (at + 3) 0
-      → b ≡ 98 → nameOf miss hit (digitOf c) (digitOf d) (digitOf e) ≡ wordOf miss hit (drop at text)
-  unfolding wordOf
+      → b ≡ 98 → nameOf miss hit (digitOf c) (digitOf d) (digitOf e) ≡ wordToken miss hit (drop at text)
+  unfolding wordToken
   word-name miss hit b c d e p q r s h = rw (drop-first text at, getD-drop at text 1 0, getD-drop at text 2 0, getD-drop at text 3 0, ← p, ← q, ← r, ← s, h)
 
   pub word-mark : {A : Type 0} (miss : A) (hit : Token → ℕ → A) (b c : ℕ) → b ≡ getD text at 0 → c ≡ getD text (at + 1) 0 → (b ≡ 98 → ⊥)
-      → markedOf miss hit b c ≡ wordOf miss hit (drop at text)
-  unfolding wordOf
+      → markedOf miss hit b c ≡ wordToken miss hit (drop at text)
+  unfolding wordToken
   word-mark miss hit b c p q h = rw (drop-first text at, getD-drop at text 1 0, ← p, ← q, ne-eqb b 98 h)
 
 -- ---- a number
@@ -44,7 +44,7 @@ capped-digit v d =
 -- what the loop over the digits keeps: the number so far, as far as it counts, and that the rest gives the whole
 pub record Digits (text : List ℕ) (at n i : ℕ) : Type 0 where
   pub value : ℕ
-  pub whole : numberOf 0 (drop at text) ≡ numberOf value (drop i text)
+  pub whole : numberToken 0 (drop at text) ≡ numberToken value (drop i text)
   pub so-far : n ≡ capped value
   pub onward : at ≤ i
   pub inside : i ≤ length text
@@ -52,18 +52,18 @@ pub record Digits (text : List ℕ) (at n i : ℕ) : Type 0 where
 pub digits-start : (text : List ℕ) (at : ℕ) → at ≤ length text → Digits text at 0 at
 digits-start text at h = record { value = 0; whole = refl; so-far = refl; onward = omega arith; inside = h }
 
-ends-here : (v : ℕ) (bs : List ℕ) → (length bs ≡ 0 → ⊥) → 9 < digitOf (getD bs 0 0) → numberOf v bs ≡ begins (number v) bs
-unfolding numberOf
+ends-here : (v : ℕ) (bs : List ℕ) → (length bs ≡ 0 → ⊥) → 9 < digitOf (getD bs 0 0) → numberToken v bs ≡ begins (number v) bs
+unfolding numberToken
 ends-here v [] h g = absurd (h refl)
 ends-here v (b ∷ bs) h g = rw (le-ltb (digitOf b) 10 g)
 
-at-end : (v : ℕ) (bs : List ℕ) → length bs ≡ 0 → numberOf v bs ≡ begins (number v) bs
-unfolding numberOf
+at-end : (v : ℕ) (bs : List ℕ) → length bs ≡ 0 → numberToken v bs ≡ begins (number v) bs
+unfolding numberToken
 at-end v [] h = refl
 at-end v (b ∷ bs) h = absurd (omega arith)
 
-goes-on : (v b : ℕ) (bs : List ℕ) → digitOf b < 10 → numberOf v (b ∷ bs) ≡ numberOf (v * 10 + digitOf b) bs
-unfolding numberOf
+goes-on : (v b : ℕ) (bs : List ℕ) → digitOf b < 10 → numberToken v (b ∷ bs) ≡ numberToken (v * 10 + digitOf b) bs
+unfolding numberToken
 goes-on v b bs h = rw (lt-ltb (digitOf b) 10 h)
 
 module _ {text : List ℕ} {at n i : ℕ} (s : Digits text at n i) where
@@ -78,16 +78,16 @@ module _ {text : List ℕ} {at n i : ℕ} (s : Digits text at n i) where
         inside = omega arith;
       }
 
-  scanned-as : numberOf (s .value) (drop i text) ≡ begins (number (s .value)) (drop i text) → Scanned text at (Found (68719476736 + n) (i - at)) (numberOf 0 (drop at text))
+  scanned-as : numberToken (s .value) (drop i text) ≡ begins (number (s .value)) (drop i text) → Scanned text at (Found (68719476736 + n) (i - at)) (numberToken 0 (drop at text))
   scanned-as e =
       let q : at + (i - at) ≡ i = omega (arith, s .onward) in
       rw (s .whole, e, q) (rw (s .so-far), refl)
 
-  pub digits-stop : (d : ℕ) → i < length text → d ≡ digitOf (getD text i 0) → 9 < d → Scanned text at (Found (68719476736 + n) (i - at)) (numberOf 0 (drop at text))
+  pub digits-stop : (d : ℕ) → i < length text → d ≡ digitOf (getD text i 0) → 9 < d → Scanned text at (Found (68719476736 + n) (i - at)) (numberToken 0 (drop at text))
   digits-stop d h p g =
       scanned-as (ends-here (s .value) (drop i text) (λ z. omega (arith, length-drop i text)) (rw (drop-first text i, ← p) g))
 
-  pub digits-end : length text ≤ i → Scanned text at (Found (68719476736 + n) (i - at)) (numberOf 0 (drop at text))
+  pub digits-end : length text ≤ i → Scanned text at (Found (68719476736 + n) (i - at)) (numberToken 0 (drop at text))
   digits-end h = scanned-as (at-end (s .value) (drop i text) (simp length-drop (omega arith)))
 
 -- ---- a token
@@ -131,21 +131,21 @@ module _ {A B : Type 0} (P : A → B → Type 0) {m : A} {n : B} {h : Token → 
       (λ e. by-two P (eqb b 61) (λ e. by-two P (eqb c 61) (λ e. hit _ 2 (omega arith)) (λ e. miss))
       (λ e. double-two b c))))
 
-  word-two : (bs : List ℕ) → P (wordOf m h bs) (wordOf n k bs)
-  unfolding wordOf
+  word-two : (bs : List ℕ) → P (wordToken m h bs) (wordToken n k bs)
+  unfolding wordToken
   word-two bs = by-two P (eqb (getD bs 0 0) 98) (λ e. name-two (digitOf (getD bs 1 0)) (digitOf (getD bs 2 0)) (digitOf (getD bs 3 0))) (λ e. marked-two (getD bs 0 0) (getD bs 1 0))
 
-abbrev Placed : List ℕ → ℕ → answer.Token → First → Type 0
+abbrev Placed : List ℕ → ℕ → answer.Token → FirstToken → Type 0
 Placed text at r f = Scanned text at r f × Narrow r
 
-pub token-word : (text : List ℕ) (at : ℕ) (d : ℕ) (r : answer.Token) → d ≡ digitOf (getD text at 0) → 10 ≤ d → r ≡ wordOf Missing found (drop at text)
+pub token-word : (text : List ℕ) (at : ℕ) (d : ℕ) (r : answer.Token) → d ≡ digitOf (getD text at 0) → 10 ≤ d → r ≡ wordToken Missing found (drop at text)
     → Placed text at r (firstOf (drop at text))
 unfolding firstOf
 token-word text at d r p g q =
     rw (drop-first text at, le-ltb (digitOf (getD text at 0)) 10 (omega arith), q)
     (word-two (Placed text at) (tt, tt) (λ t w h. ((refl, drop-drop w at text), omega arith)) (drop at text))
 
-pub token-number : (text : List ℕ) (at : ℕ) (d : ℕ) (r : answer.Token) → d ≡ digitOf (getD text at 0) → d < 10 → Scanned text at r (numberOf 0 (drop at text))
+pub token-number : (text : List ℕ) (at : ℕ) (d : ℕ) (r : answer.Token) → d ≡ digitOf (getD text at 0) → d < 10 → Scanned text at r (numberToken 0 (drop at text))
     → Scanned text at r (firstOf (drop at text))
 unfolding firstOf
 token-number text at d r p g h = rw (drop-first text at, lt-ltb (digitOf (getD text at 0)) 10 (omega arith)) h
@@ -163,7 +163,7 @@ pub record Turn (text tokens : List ℕ) (at n : ℕ) : Type 0 where
   pub fuel : ℕ
   pub enough : length text - at ≤ fuel
   pub whole : tokensOf (length text) text ≡ prefixed so-far (tokensOf fuel (drop at text))
-  pub numbers : take n tokens ≡ map code so-far
+  pub numbers : take n tokens ≡ map tokenCode so-far
   pub few : n ≤ at
   pub room : n ≤ 1024
   pub kept : length tokens ≡ 1024
@@ -218,23 +218,23 @@ module _ {text tokens : List ℕ} {at n : ℕ} (s : Turn text tokens at n) (h : 
       rw (drop-cons text at 0 h)
       (at-token (s .fuel) (getD text at 0) (drop (suc at) text) e (simp length-drop (omega (arith, s .enough))))
 
-  missing-none : (f : First) → Scanned text at Missing f → (go : List ℕ → Option (List Token)) → andOn go f ≡ none
-  missing-none nothing p go = refl
+  missing-none : (f : FirstToken) → Scanned text at Missing f → (go : List ℕ → Option (List Token)) → andOn go f ≡ none
+  missing-none noToken p go = refl
   missing-none (begins t rest) p go = absurd p
 
   pub scan-missing : (r : answer.Token) → (getD text at 0 ≡ 32 → ⊥) → r ≡ Missing → Scanned text at r (firstOf (drop at text)) → tokensOf (length text) text ≡ none
   scan-missing r e q p = s .whole ∙ rw (here e, missing-none (firstOf (drop at text)) (rw q at p) (tokensOf (s .fuel - 1)))
 
-  prefixed-more : (ds : List Token) (t : Token) (o : Option (List Token)) → prefixed ds (before t o) ≡ prefixed (ds ++ (t ∷ [])) o
+  prefixed-more : (ds : List Token) (t : Token) (o : Option (List Token)) → prefixed ds (putFirst t o) ≡ prefixed (ds ++ (t ∷ [])) o
   prefixed-more ds t none = refl
   prefixed-more ds t (some ts) = rw (append-assoc ds (t ∷ []) ts)
 
-  map-more : (ds : List Token) (t : Token) → map code (ds ++ (t ∷ [])) ≡ map code ds ++ (code t ∷ [])
+  map-more : (ds : List Token) (t : Token) → map tokenCode (ds ++ (t ∷ [])) ≡ map tokenCode ds ++ (tokenCode t ∷ [])
   map-more [] t = refl
-  map-more (d ∷ ds) t = ap (λ (l : List ℕ). code d ∷ l) (map-more ds t)
+  map-more (d ∷ ds) t = ap (λ (l : List ℕ). tokenCode d ∷ l) (map-more ds t)
 
-  some-bytes : (c w : ℕ) (f : First) → f ≡ firstOf (drop at text) → Scanned text at (Found c w) f → 0 < w
-  some-bytes c w nothing q p = absurd p
+  some-bytes : (c w : ℕ) (f : FirstToken) → f ≡ firstOf (drop at text) → Scanned text at (Found c w) f → 0 < w
+  some-bytes c w noToken q p = absurd p
   some-bytes c w (begins t rest) q p =
       let b : Begins (drop at text) t rest = rw (sym q) at (first-says (drop at text)) in
       let l : length rest < length (drop at text) = begins-some b .0 in
@@ -243,8 +243,8 @@ module _ {text tokens : List ℕ} {at n : ℕ} (s : Turn text tokens at n) (h : 
   pub scan-onward : (r : answer.Token) (c w : ℕ) → r ≡ Found c w → Scanned text at r (firstOf (drop at text)) → 0 < w
   scan-onward r c w q p = some-bytes c w (firstOf (drop at text)) refl (rw q at p)
 
-  found-turn : (c w : ℕ) (f : First) → f ≡ firstOf (drop at text) → (getD text at 0 ≡ 32 → ⊥) → Scanned text at (Found c w) f → Turn text (set tokens n c) (at + w) (n + 1)
-  found-turn c w nothing q e p = absurd p
+  found-turn : (c w : ℕ) (f : FirstToken) → f ≡ firstOf (drop at text) → (getD text at 0 ≡ 32 → ⊥) → Scanned text at (Found c w) f → Turn text (set tokens n c) (at + w) (n + 1)
+  found-turn c w noToken q e p = absurd p
   found-turn c w (begins t rest) q e p =
       let u : 0 < w = some-bytes c w (begins t rest) q p in
       let v : n < length tokens = omega (arith, s .few, s .kept, s .short) in
@@ -269,7 +269,7 @@ tokens-end zero [] e = refl
 tokens-end (suc k) [] e = refl
 tokens-end k (b ∷ bs) e = absurd (omega arith)
 
-pub scan-end : {text tokens : List ℕ} {at n : ℕ} → Turn text tokens at n → length text ≤ at → Holds text tokens n
+pub scan-end : {text tokens : List ℕ} {at n : ℕ} → Turn text tokens at n → length text ≤ at → TokensHeld text tokens n
 scan-end {text} {tokens} {at} {n} s h =
     record {
       list = s .so-far;

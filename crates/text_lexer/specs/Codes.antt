@@ -10,14 +10,14 @@ use Rattle.text_lexer.specs.declared.Token.the-variants.{Found}
 abbrev pub capped : ℕ → ℕ
 capped n = pick (ltb n 2147483648) n 2147483648
 
-abbrev pub code : Token → ℕ
-code (number n) = 68719476736 + capped n
-code (behaviour i) = 73014444032 + i
-code (function f) = 77309411328 + f
-code opening = 81604378625
-code closing = 81604378626
-code comma = 81604378627
+abbrev pub tokenCode : Token → ℕ
+tokenCode (number n) = 68719476736 + capped n
+tokenCode (behaviour i) = 73014444032 + i
+tokenCode (function f) = 77309411328 + f
+tokenCode opening = 81604378625
+tokenCode closing = 81604378626
+tokenCode comma = 81604378627
 
 -- a token that takes so many bytes
 abbrev pub found : Token → ℕ → Rattle.text_lexer.specs.declared.Token.Token
-found t w = Found (code t) w
+found t w = Found (tokenCode t) w

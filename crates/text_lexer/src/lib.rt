@@ -3,7 +3,7 @@ use text_formula::tokens;
 ghost use mathlib.Core.Path.{_≡_};
 ghost use Prim.Native.Nat.{_<_, _≤_, _*_, _+_};
 ghost use lib.ListN.{length, getD, drop};
-ghost use Rattle.text_formula.specs.Reader.{digitOf, nameOf, singleOf, doubleOf, markedOf, wordOf, numberOf, firstOf};
+ghost use Rattle.text_formula.specs.Reader.{digitOf, nameOf, singleOf, doubleOf, markedOf, wordToken, numberToken, firstOf};
 ghost use Rattle.text_lexer.specs.Codes.{capped, found};
 ghost use Rattle.text_lexer.specs.Scanned.{Narrow, Scanned, Scans};
 
@@ -159,7 +159,7 @@ fn marked_of(b: u8, c: u8) -> Token
 // The token at a place that is no number.
 fn word_at(text: &[u8], at: usize) -> Token
     requires { ⌜ at < 1024 ⌝ }
-    ensures { λ r. ⌜ r ≡ wordOf Token.Missing found (drop at (now (text .entry))) ⌝ }
+    ensures { λ r. ⌜ r ≡ wordToken Token.Missing found (drop at (now (text .entry))) ⌝ }
 {
     let b = byte_at(text, at);
     let c = byte_at(text, at + 1);
@@ -190,7 +190,7 @@ fn with_digit(n: u64, d: u8) -> u64
 fn number_at(text: &[u8], at: usize) -> Token
     requires { ⌜ length (now text) ≤ 1024 ⌝ }
     requires { ⌜ at ≤ length (now text) ⌝ }
-    ensures { λ r. ⌜ Scanned (now (text .entry)) at r (numberOf 0 (drop at (now (text .entry)))) ⌝ }
+    ensures { λ r. ⌜ Scanned (now (text .entry)) at r (numberToken 0 (drop at (now (text .entry)))) ⌝ }
     ensures { λ r. ⌜ Narrow r ⌝ }
 {
     let mut n: u64 = 0;

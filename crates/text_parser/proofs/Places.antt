@@ -12,15 +12,15 @@ use borrow.Author.Tests.{lt-ltb, le-ltb}
 use Rattle.lib_base.specs.Basics.{All}
 use Rattle.spec_language.specs.Grammar.{field}
 use Rattle.text_formula.specs.Tokens.{Token, number, behaviour, function, opening, closing, comma, InRange}
-use Rattle.text_formula.specs.Reader.{levelOf, operatorOf, markOf}
-use Rattle.text_lexer.specs.Codes.{capped, code}
+use Rattle.text_formula.specs.Reader.{levelOf, operatorOf, bracketOf}
+use Rattle.text_lexer.specs.Codes.{capped, tokenCode}
 use Rattle.text_lexer.proofs.CodeLaws.{capped-most}
-use Rattle.text_encode.specs.Fields.{placed}
-use Rattle.text_phrase.specs.Phrase.{levelCode, levelIn, markCode, markIn}
+use Rattle.text_encode.specs.Fields.{overwritten}
+use Rattle.text_phrase.specs.Phrase.{levelCode, levelIn, markCode, bracketAt}
 
 -- ---- tokens and their numbers
 
-level-code : (t : Token) → InRange t → levelCode (code t) ≡ levelOf t
+level-code : (t : Token) → InRange t → levelCode (tokenCode t) ≡ levelOf t
 unfolding levelCode
 level-code (number n) h = let q : (68719476736 + capped n) / 4294967296 ≡ 16 = omega (arith, capped-most n) in rw q
 level-code (behaviour i) h = let q : (73014444032 + i) / 4294967296 ≡ 17 = omega arith in rw q
@@ -32,7 +32,7 @@ level-code opening h = refl
 level-code closing h = refl
 level-code comma h = refl
 
-mark-code : (t : Token) → InRange t → markCode (code t) ≡ markOf t
+mark-code : (t : Token) → InRange t → markCode (tokenCode t) ≡ bracketOf t
 unfolding markCode
 mark-code (number n) h = let q : (68719476736 + capped n) / 4294967296 ≡ 16 = omega (arith, capped-most n) in rw q
 mark-code (behaviour i) h = let q : (73014444032 + i) / 4294967296 ≡ 17 = omega arith in rw q
@@ -41,7 +41,7 @@ mark-code opening h = refl
 mark-code closing h = refl
 mark-code comma h = refl
 
-operator-byte : (t : Token) → InRange t → 0 < levelOf t → code t % 256 ≡ operatorOf t
+operator-byte : (t : Token) → InRange t → 0 < levelOf t → tokenCode t % 256 ≡ operatorOf t
 operator-byte (number n) h g = absurd (omega arith)
 operator-byte (behaviour i) h g = absurd (omega arith)
 operator-byte (function f) h g = omega arith
@@ -52,16 +52,16 @@ operator-byte comma h g = absurd (omega arith)
 -- the token at a place
 pub record Here (ts : List Token) (cs : List ℕ) (at : ℕ) : Type 0 where
   pub token : Token
-  pub number-is : getD cs at 0 ≡ code token
+  pub number-is : getD cs at 0 ≡ tokenCode token
   pub onward : drop at ts ≡ token ∷ drop (at + 1) ts
   pub fine : InRange token
   pub level-is : levelIn cs at ≡ levelOf token
-  pub mark-is : markIn cs at ≡ markOf token
+  pub mark-is : bracketAt cs at ≡ bracketOf token
   pub byte-is : 0 < levelOf token → getD cs at 0 % 256 ≡ operatorOf token
 
 record There (ts : List Token) (at : ℕ) : Type 0 where
   pub token : Token
-  pub number-is : getD (map code ts) at 0 ≡ code token
+  pub number-is : getD (map tokenCode ts) at 0 ≡ tokenCode token
   pub onward : drop at ts ≡ token ∷ drop (suc at) ts
   pub fine : InRange token
 
@@ -70,12 +70,12 @@ there [] h at g = absurd (omega arith)
 there (t ∷ ts) h zero g = record { token = t; number-is = refl; onward = refl; fine = h .0 }
 there (t ∷ ts) h (suc at) g = let r = there ts (h .1) at (omega arith) in record { token = r .token; number-is = r .number-is; onward = r .onward; fine = r .fine }
 
-pub here : (ts : List Token) (cs : List ℕ) → All InRange ts → cs ≡ map code ts → (at : ℕ) → at < length cs → Here ts cs at
-unfolding levelIn markIn
+pub here : (ts : List Token) (cs : List ℕ) → All InRange ts → cs ≡ map tokenCode ts → (at : ℕ) → at < length cs → Here ts cs at
+unfolding levelIn bracketAt
 here ts cs h e at g =
-    let l : length cs ≡ length ts = ap length e ∙ length-map ts code in
+    let l : length cs ≡ length ts = ap length e ∙ length-map ts tokenCode in
     let r = there ts h at (omega arith) in
-    let n : getD cs at 0 ≡ code (r .token) = ap (λ (x : List ℕ). getD x at 0) e ∙ r .number-is in
+    let n : getD cs at 0 ≡ tokenCode (r .token) = ap (λ (x : List ℕ). getD x at 0) e ∙ r .number-is in
     let b : ltb at (length cs) ≡ true = lt-ltb at (length cs) g in
     record {
       token = r .token;
@@ -88,24 +88,24 @@ here ts cs h e at g =
     }
 
 -- past the last there is none
-pub nowhere : (ts : List Token) (cs : List ℕ) → cs ≡ map code ts → (at : ℕ) → length cs ≤ at → drop at ts ≡ []
-nowhere ts cs e at g = let l : length cs ≡ length ts = ap length e ∙ length-map ts code in let h : length ts ≤ at = omega arith in drop-of-length-le ts h
+pub nowhere : (ts : List Token) (cs : List ℕ) → cs ≡ map tokenCode ts → (at : ℕ) → length cs ≤ at → drop at ts ≡ []
+nowhere ts cs e at g = let l : length cs ≡ length ts = ap length e ∙ length-map ts tokenCode in let h : length ts ≤ at = omega arith in drop-of-length-le ts h
 
-pub no-mark : (cs : List ℕ) (at : ℕ) → length cs ≤ at → markIn cs at ≡ 0
-unfolding markIn
+pub no-mark : (cs : List ℕ) (at : ℕ) → length cs ≤ at → bracketAt cs at ≡ 0
+unfolding bracketAt
 no-mark cs at h = rw (le-ltb at (length cs) h)
 
 -- ---- bytes
 
-pub placed-front : (n : ℕ) (v o : List ℕ) → n + length v ≤ length o → take (n + length v) (placed n v o) ≡ take n o ++ v
-unfolding placed
+pub placed-front : (n : ℕ) (v o : List ℕ) → n + length v ≤ length o → take (n + length v) (overwritten n v o) ≡ take n o ++ v
+unfolding overwritten
 placed-front n v o h =
     let l : length (take n o ++ v) ≡ n + length v = length-append (take n o) v ∙ rw (length-take-le n o (omega arith)) in
     rw (sym (append-assoc (take n o) v (drop (n + length v) o))) (take-at (take n o ++ v) (drop (n + length v) o) (n + length v) l)
 
 -- an application around the bytes v, which stand from n to the end
 pub closed-bytes : (n end f : ℕ) (v o p : List ℕ) → take end p ≡ take n o ++ v → end ≡ n + length v → n ≤ length o → end + 4 ≤ length p
-    → take (end + 4) (placed n (field 18 (f ∷ slice n end p)) p) ≡ take n o ++ field 18 (f ∷ v)
+    → take (end + 4) (overwritten n (field 18 (f ∷ slice n end p)) p) ≡ take n o ++ field 18 (f ∷ v)
 closed-bytes n end f v o p e s h g =
     let l : length (take n o) ≡ n = length-take-le n o h in
     let q : slice n end p ≡ v = ap (drop n) e ∙ drop-at (take n o) v n l in

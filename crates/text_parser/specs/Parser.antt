@@ -7,9 +7,9 @@ use lib.ListN.{length, take, drop}
 use Rattle.lib_base.specs.Basics.{All}
 use Rattle.spec_language.specs.Syntax.{Expr, con, name, app1, app2, app3}
 use Rattle.text_formula.specs.Tokens.{Token, InRange}
-use Rattle.text_formula.specs.Reader.{Got, bad, got, past, choiceOf, readAt}
-use Rattle.text_formula.specs.Answer.{deeper, nesting, fieldOf}
-use Rattle.text_lexer.specs.Codes.{capped, code}
+use Rattle.text_formula.specs.Reader.{Parsed, unparsed, parsed, past, choiceOf, readAt}
+use Rattle.text_formula.specs.Answer.{deeper, nesting, formulaField}
+use Rattle.text_lexer.specs.Codes.{capped, tokenCode}
 use Rattle.text_phrase.specs.declared.Read.{Read}
 use Rattle.text_phrase.specs.declared.Read.the-variants.{Done, Fault}
 
@@ -21,37 +21,37 @@ bounded (app1 f a) = app1 f (bounded a)
 bounded (app2 f a b) = app2 f (bounded a) (bounded b)
 bounded (app3 f a b c) = app3 f (bounded a) (bounded b) (bounded c)
 
-unfoldable pub bytes : Expr → List ℕ
-bytes e = fieldOf (bounded e)
+unfoldable pub expressionBytes : Expr → List ℕ
+expressionBytes e = formulaField (bounded e)
 
 -- an expression is read up to a place, and its field stands from n to the end; with those before it, nested d deep, it
 -- nests so deep
-pub record Wrote (ts : List Token) (d n : ℕ) (o p : List ℕ) (at end depth : ℕ) (e : Expr) (rest : List Token) : Type 0 where
+pub record ExpressionWritten (ts : List Token) (d n : ℕ) (o p : List ℕ) (at end depth : ℕ) (e : Expr) (rest : List Token) : Type 0 where
   pub onward : rest ≡ drop at ts
-  pub size : end ≡ n + length (bytes e)
-  pub written : take end p ≡ take n o ++ bytes e
+  pub size : end ≡ n + length (expressionBytes e)
+  pub written : take end p ≡ take n o ++ expressionBytes e
   pub nests : depth ≡ deeper d (nesting e)
 
 -- the answer r, with the bytes p, is what the definition's function reads
-abbrev pub Agrees : List Token → ℕ → ℕ → List ℕ → List ℕ → Read → Got → Type 0
-Agrees ts d n o p Fault bad = Unit {0}
-Agrees ts d n o p Fault (got e rest) = ⊥
-Agrees ts d n o p (Done at end depth) bad = ⊥
-Agrees ts d n o p (Done at end depth) (got e rest) = Wrote ts d n o p at end depth e rest
+abbrev pub Agrees : List Token → ℕ → ℕ → List ℕ → List ℕ → Read → Parsed → Type 0
+Agrees ts d n o p Fault unparsed = Unit {0}
+Agrees ts d n o p Fault (parsed e rest) = ⊥
+Agrees ts d n o p (Done at end depth) unparsed = ⊥
+Agrees ts d n o p (Done at end depth) (parsed e rest) = ExpressionWritten ts d n o p at end depth e rest
 
 -- for whatever tokens the numbers cs stand for, and any bound that is large enough
 abbrev pub Reading : ℕ → List ℕ → ℕ → ℕ → List ℕ → List ℕ → Read → Type 0
 Reading l cs at n o p r =
-    (ts : List Token) → All InRange ts → cs ≡ map code ts → (k : ℕ) → length cs - at ≤ k → Agrees ts 0 n o p r (readAt l k (drop at ts))
+    (ts : List Token) → All InRange ts → cs ≡ map tokenCode ts → (k : ℕ) → length cs - at ≤ k → Agrees ts 0 n o p r (readAt l k (drop at ts))
 
-abbrev pub Chosen : List ℕ → ℕ → ℕ → List ℕ → List ℕ → Read → Type 0
-Chosen cs at n o p r =
-    (ts : List Token) → All InRange ts → cs ≡ map code ts → (k : ℕ) → length cs - at ≤ suc k → Agrees ts 0 n o p r (choiceOf (readAt 6 k) (drop (at + 1) ts))
+abbrev pub ChoiceRead : List ℕ → ℕ → ℕ → List ℕ → List ℕ → Read → Type 0
+ChoiceRead cs at n o p r =
+    (ts : List Token) → All InRange ts → cs ≡ map tokenCode ts → (k : ℕ) → length cs - at ≤ suc k → Agrees ts 0 n o p r (choiceOf (readAt 6 k) (drop (at + 1) ts))
 
 -- a reading goes on within the tokens; a token gives at most seven bytes and one level of nesting
-abbrev pub Within : ℕ → ℕ → ℕ → ℕ → Read → Type 0
-Within size at n d Fault = Unit {0}
-Within size at n d (Done to end depth) = (at < to) × (to ≤ size) × (n ≤ end) × (end + at * 7 ≤ n + to * 7) × (depth + at ≤ d + to)
+abbrev pub ReadWithin : ℕ → ℕ → ℕ → ℕ → Read → Type 0
+ReadWithin size at n d Fault = Unit {0}
+ReadWithin size at n d (Done to end depth) = (at < to) × (to ≤ size) × (n ≤ end) × (end + at * 7 ≤ n + to * 7) × (depth + at ≤ d + to)
 
 abbrev pub ArgumentIn : Read → Type 0
 ArgumentIn Fault = Unit {0}
@@ -61,5 +61,5 @@ ArgumentIn (Done at n d) = (n ≤ at * 7) × (d ≤ at)
 abbrev pub Argued : ℕ → List ℕ → List ℕ → List ℕ → Read → Read → Type 0
 Argued m cs o p Fault q = q ≡ Fault
 Argued m cs o p (Done at n d) q =
-    ((ts : List Token) → All InRange ts → cs ≡ map code ts → (k : ℕ) → length cs - at ≤ suc k → Agrees ts d n o p q (past m (readAt 6 k) (drop at ts)))
-    × Within (length cs) at n d q
+    ((ts : List Token) → All InRange ts → cs ≡ map tokenCode ts → (k : ℕ) → length cs - at ≤ suc k → Agrees ts d n o p q (past m (readAt 6 k) (drop at ts)))
+    × ReadWithin (length cs) at n d q

@@ -10,7 +10,7 @@ use text_phrase::Read;
 ghost use mathlib.Core.Path.{_≡_};
 ghost use Prim.Native.Nat.{_<_, _≤_, _*_, _+_};
 ghost use lib.ListN.{length};
-ghost use Rattle.text_parser.specs.Parser.{Reading, Within, Chosen, Argued, ArgumentIn};
+ghost use Rattle.text_parser.specs.Parser.{Reading, ReadWithin, ChoiceRead, Argued, ArgumentIn};
 
 // The most bytes of a formula's field: a token has a byte or more, and gives at most a constant's seven.
 pub const FIELD_BYTES: usize = limits::FORMULA_BYTES * text_encode::CONSTANT_BYTES;
@@ -24,7 +24,7 @@ pub fn disjunction(ts: &[u64], at: usize, out: &mut [u8; FIELD_BYTES], n: usize)
     requires { ⌜ length (now ts) ≤ 1024 ⌝ }
     requires { ⌜ length (now out) ≡ 7168 ⌝ }
     ensures { λ r. ⌜ Reading 6 (now (ts .entry)) at n (now (out .entry)) (now (out .exit)) r ⌝ }
-    ensures { λ r. ⌜ Within (length (now (ts .entry))) at n 0 r ⌝ }
+    ensures { λ r. ⌜ ReadWithin (length (now (ts .entry))) at n 0 r ⌝ }
     ensures { λ _. ⌜ length (now (out .exit)) ≡ 7168 ⌝ }
 {
     let mut r = conjunction(ts, at, out, n);
@@ -46,7 +46,7 @@ fn conjunction(ts: &[u64], at: usize, out: &mut [u8; FIELD_BYTES], n: usize) -> 
     requires { ⌜ length (now ts) ≤ 1024 ⌝ }
     requires { ⌜ length (now out) ≡ 7168 ⌝ }
     ensures { λ r. ⌜ Reading 5 (now (ts .entry)) at n (now (out .entry)) (now (out .exit)) r ⌝ }
-    ensures { λ r. ⌜ Within (length (now (ts .entry))) at n 0 r ⌝ }
+    ensures { λ r. ⌜ ReadWithin (length (now (ts .entry))) at n 0 r ⌝ }
     ensures { λ _. ⌜ length (now (out .exit)) ≡ 7168 ⌝ }
 {
     let mut r = equality(ts, at, out, n);
@@ -68,7 +68,7 @@ fn equality(ts: &[u64], at: usize, out: &mut [u8; FIELD_BYTES], n: usize) -> Rea
     requires { ⌜ length (now ts) ≤ 1024 ⌝ }
     requires { ⌜ length (now out) ≡ 7168 ⌝ }
     ensures { λ r. ⌜ Reading 4 (now (ts .entry)) at n (now (out .entry)) (now (out .exit)) r ⌝ }
-    ensures { λ r. ⌜ Within (length (now (ts .entry))) at n 0 r ⌝ }
+    ensures { λ r. ⌜ ReadWithin (length (now (ts .entry))) at n 0 r ⌝ }
     ensures { λ _. ⌜ length (now (out .exit)) ≡ 7168 ⌝ }
 {
     let mut r = ordering(ts, at, out, n);
@@ -90,7 +90,7 @@ fn ordering(ts: &[u64], at: usize, out: &mut [u8; FIELD_BYTES], n: usize) -> Rea
     requires { ⌜ length (now ts) ≤ 1024 ⌝ }
     requires { ⌜ length (now out) ≡ 7168 ⌝ }
     ensures { λ r. ⌜ Reading 3 (now (ts .entry)) at n (now (out .entry)) (now (out .exit)) r ⌝ }
-    ensures { λ r. ⌜ Within (length (now (ts .entry))) at n 0 r ⌝ }
+    ensures { λ r. ⌜ ReadWithin (length (now (ts .entry))) at n 0 r ⌝ }
     ensures { λ _. ⌜ length (now (out .exit)) ≡ 7168 ⌝ }
 {
     let mut r = sum(ts, at, out, n);
@@ -112,7 +112,7 @@ fn sum(ts: &[u64], at: usize, out: &mut [u8; FIELD_BYTES], n: usize) -> Read
     requires { ⌜ length (now ts) ≤ 1024 ⌝ }
     requires { ⌜ length (now out) ≡ 7168 ⌝ }
     ensures { λ r. ⌜ Reading 2 (now (ts .entry)) at n (now (out .entry)) (now (out .exit)) r ⌝ }
-    ensures { λ r. ⌜ Within (length (now (ts .entry))) at n 0 r ⌝ }
+    ensures { λ r. ⌜ ReadWithin (length (now (ts .entry))) at n 0 r ⌝ }
     ensures { λ _. ⌜ length (now (out .exit)) ≡ 7168 ⌝ }
 {
     let mut r = product(ts, at, out, n);
@@ -134,7 +134,7 @@ fn product(ts: &[u64], at: usize, out: &mut [u8; FIELD_BYTES], n: usize) -> Read
     requires { ⌜ length (now ts) ≤ 1024 ⌝ }
     requires { ⌜ length (now out) ≡ 7168 ⌝ }
     ensures { λ r. ⌜ Reading 1 (now (ts .entry)) at n (now (out .entry)) (now (out .exit)) r ⌝ }
-    ensures { λ r. ⌜ Within (length (now (ts .entry))) at n 0 r ⌝ }
+    ensures { λ r. ⌜ ReadWithin (length (now (ts .entry))) at n 0 r ⌝ }
     ensures { λ _. ⌜ length (now (out .exit)) ≡ 7168 ⌝ }
 {
     let mut r = operand(ts, at, out, n);
@@ -156,7 +156,7 @@ fn operand(ts: &[u64], at: usize, out: &mut [u8; FIELD_BYTES], n: usize) -> Read
     requires { ⌜ length (now ts) ≤ 1024 ⌝ }
     requires { ⌜ length (now out) ≡ 7168 ⌝ }
     ensures { λ r. ⌜ Reading 0 (now (ts .entry)) at n (now (out .entry)) (now (out .exit)) r ⌝ }
-    ensures { λ r. ⌜ Within (length (now (ts .entry))) at n 0 r ⌝ }
+    ensures { λ r. ⌜ ReadWithin (length (now (ts .entry))) at n 0 r ⌝ }
     ensures { λ _. ⌜ length (now (out .exit)) ≡ 7168 ⌝ }
 {
     if ts.len() <= at {
@@ -183,8 +183,8 @@ fn choice(ts: &[u64], at: usize, out: &mut [u8; FIELD_BYTES], n: usize) -> Read
     requires { ⌜ at < length (now ts) ⌝ }
     requires { ⌜ length (now ts) ≤ 1024 ⌝ }
     requires { ⌜ length (now out) ≡ 7168 ⌝ }
-    ensures { λ r. ⌜ Chosen (now (ts .entry)) at n (now (out .entry)) (now (out .exit)) r ⌝ }
-    ensures { λ r. ⌜ Within (length (now (ts .entry))) at n 0 r ⌝ }
+    ensures { λ r. ⌜ ChoiceRead (now (ts .entry)) at n (now (out .entry)) (now (out .exit)) r ⌝ }
+    ensures { λ r. ⌜ ReadWithin (length (now (ts .entry))) at n 0 r ⌝ }
     ensures { λ _. ⌜ length (now (out .exit)) ≡ 7168 ⌝ }
 {
     let mut r = argument(ts, tokens::OPENING_MARK, Read::Done(at + 1, n, 0), out);

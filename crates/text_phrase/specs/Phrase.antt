@@ -9,7 +9,7 @@ use Rattle.lib_base.specs.Basics.{pick}
 use Rattle.spec_language.specs.Grammar.{field}
 use Rattle.text_formula.specs.Reader.{level}
 use Rattle.text_formula.specs.Answer.{deeper}
-use Rattle.text_encode.specs.Fields.{placed}
+use Rattle.text_encode.specs.Fields.{overwritten}
 use Rattle.text_phrase.specs.declared.Read.{Read}
 use Rattle.text_phrase.specs.declared.Read.the-variants.{Done, Fault}
 
@@ -22,8 +22,8 @@ levelIn ts at = pick (ltb at (length ts)) (levelCode (getD ts at 0)) 0
 unfoldable pub markCode : ℕ → ℕ
 markCode t = pick (eqb (t / 4294967296) 19) (t % 4294967296) 0
 
-unfoldable pub markIn : List ℕ → ℕ → ℕ
-markIn ts at = pick (ltb at (length ts)) (markCode (getD ts at 0)) 0
+unfoldable pub bracketAt : List ℕ → ℕ → ℕ
+bracketAt ts at = pick (ltb at (length ts)) (markCode (getD ts at 0)) 0
 
 abbrev pub underOf : ℕ → Read → Read
 underOf d Fault = Fault
@@ -36,7 +36,7 @@ closedOf d (Done at end e) = Done at (end + 4) (deeper d e + 1)
 
 abbrev pub wrappedIn : ℕ → ℕ → Read → List ℕ → List ℕ
 wrappedIn f start Fault o = o
-wrappedIn f start (Done at end e) o = placed start (field 18 (f ∷ slice start end o)) o
+wrappedIn f start (Done at end e) o = overwritten start (field 18 (f ∷ slice start end o)) o
 
 abbrev pub Closable : ℕ → ℕ → ℕ → Read → Type 0
 Closable start d room Fault = Unit {0}
@@ -44,7 +44,7 @@ Closable start d room (Done at end e) = (start ≤ end) × (end + 4 ≤ room) ×
 
 abbrev pub endedIn : List ℕ → Read → Read
 endedIn ts Fault = Fault
-endedIn ts (Done at end e) = pick (eqb (markIn ts at) 2) (Done (at + 1) end e) Fault
+endedIn ts (Done at end e) = pick (eqb (bracketAt ts at) 2) (Done (at + 1) end e) Fault
 
 -- 16 a number, 17 a name
 unfoldable pub leafRead : ℕ → ℕ → ℕ → Read
@@ -55,5 +55,5 @@ leafRead t at n =
 unfoldable pub leafOut : ℕ → ℕ → List ℕ → List ℕ
 leafOut t n o =
     pick (eqb (t / 4294967296) 16)
-    (placed n (16 ∷ 0 ∷ 4 ∷ (t / 16777216 % 256) ∷ (t / 65536 % 256) ∷ (t / 256 % 256) ∷ (t % 256) ∷ []) o)
-    (pick (eqb (t / 4294967296) 17) (placed n (17 ∷ 0 ∷ 1 ∷ (t % 256) ∷ []) o) o)
+    (overwritten n (16 ∷ 0 ∷ 4 ∷ (t / 16777216 % 256) ∷ (t / 65536 % 256) ∷ (t / 256 % 256) ∷ (t % 256) ∷ []) o)
+    (pick (eqb (t / 4294967296) 17) (overwritten n (17 ∷ 0 ∷ 1 ∷ (t % 256) ∷ []) o) o)

@@ -7,7 +7,7 @@ ghost use mathlib.Core.Path.{_≡_};
 ghost use Prim.Native.Nat.{_<_, _≤_, _+_};
 ghost use lib.ListN.{length};
 ghost use Rattle.text_formula.specs.Answer.{deeper as deeperOf};
-ghost use Rattle.text_phrase.specs.Phrase.{levelCode, levelIn, markCode, markIn, underOf, closedOf, wrappedIn, endedIn, leafRead, leafOut, Closable};
+ghost use Rattle.text_phrase.specs.Phrase.{levelCode, levelIn, markCode, bracketAt, underOf, closedOf, wrappedIn, endedIn, leafRead, leafOut, Closable};
 
 // The last functions of the levels, of which 01 counts those of one level in a row.
 const NOT: u64 = functions::NOT as u64;
@@ -83,7 +83,7 @@ fn mark_of(t: u64) -> u64
 }
 
 pub fn mark_at(ts: &[u64], at: usize) -> u64
-    ensures { λ r. ⌜ r ≡ markIn (now (ts .entry)) at ⌝ }
+    ensures { λ r. ⌜ r ≡ bracketAt (now (ts .entry)) at ⌝ }
     ensures { λ r. ⌜ (0 < r → at < length (now (ts .entry))) ⌝ }
 {
     if at < ts.len() {

@@ -15,10 +15,10 @@ use Rattle.spec_language.specs.Syntax.{Expr}
 use Rattle.spec_language.specs.Refusals.{noFormula}
 use Rattle.text_formula.specs.Tokens.{Token, number, behaviour, function, opening, closing, comma, InRange}
 use Rattle.text_formula.specs.Grammar.{Derives, tighter, two-sided, negated, a-number, a-name, bracketed, choice}
-use Rattle.text_formula.specs.Reader.{Got, bad, got, wholly, readAt}
+use Rattle.text_formula.specs.Reader.{Parsed, unparsed, parsed, wholly, readAt}
 use Rattle.text_formula.specs.Answer.{answered, answerTo}
 use Rattle.text_formula.proofs.Parses.{Sound, reads-only}
-use Rattle.text_lexer.specs.Codes.{capped, code}
+use Rattle.text_lexer.specs.Codes.{capped, tokenCode}
 use Rattle.text_lexer.proofs.CodeLaws.{capped-most}
 use Rattle.text_translate.specs.Translate.{openAfter, balancedFrom, Translated}
 
@@ -51,7 +51,7 @@ evenFrom : ℕ → List Token → Bool
 evenFrom n [] = eqb n 1
 evenFrom n (t ∷ ts) = pick (eqb n 0) false (evenFrom (opens n t) ts)
 
-opens-code : (n : ℕ) (t : Token) → InRange t → openAfter n (code t) ≡ opens n t
+opens-code : (n : ℕ) (t : Token) → InRange t → openAfter n (tokenCode t) ≡ opens n t
 unfolding openAfter opens
 opens-code n (number m) h =
     let l = capped-most m in
@@ -62,7 +62,7 @@ opens-code n opening h = refl
 opens-code n closing h = refl
 opens-code n comma h = refl
 
-even-codes : (n : ℕ) (ts : List Token) → All InRange ts → balancedFrom n (map code ts) ≡ evenFrom n ts
+even-codes : (n : ℕ) (ts : List Token) → All InRange ts → balancedFrom n (map tokenCode ts) ≡ evenFrom n ts
 unfolding balancedFrom evenFrom
 even-codes n [] h = refl
 even-codes n (t ∷ ts) h = rw (opens-code n t (h .0), even-codes (opens n t) ts (h .1))
@@ -107,13 +107,13 @@ even-whole {ts} d = ap (evenFrom 1) (sym (append-nil ts)) ∙ even-derived d 1 [
 
 -- ---- so others are turned down
 
-uneven : (buffer : List ℕ) (ts : List Token) (g : Got) → Sound 6 ts g → evenFrom 1 ts ≡ false → answered noFormula buffer ≡ answerTo (wholly g) buffer
-uneven buffer ts bad s h = refl
-uneven buffer ts (got e []) s h =
+uneven : (buffer : List ℕ) (ts : List Token) (g : Parsed) → Sound 6 ts g → evenFrom 1 ts ≡ false → answered noFormula buffer ≡ answerTo (wholly g) buffer
+uneven buffer ts unparsed s h = refl
+uneven buffer ts (parsed e []) s h =
     let t : ts ≡ s .taken = s .joined ∙ append-nil (s .taken) in
     let b : evenFrom 1 ts ≡ true = ap (evenFrom 1) t ∙ even-whole (s .derived) in
     absurd (true≢false (sym b ∙ h))
-uneven buffer ts (got e (t ∷ rest)) s h = refl
+uneven buffer ts (parsed e (t ∷ rest)) s h = refl
 
 not-true : (b : Bool) → not b ≡ true → b ≡ false
 not-true true h = absurd (true≢false (sym h))

@@ -17,18 +17,18 @@ use Rattle.lib_base.proofs.Tools.{by-test, neither}
 use Rattle.spec_language.specs.Syntax.{Expr, con, name, app1, app2, app3}
 use Rattle.text_formula.specs.Tokens.{Token, number, behaviour, function, opening, closing, comma, InRange}
 use Rattle.text_formula.specs.Grammar.{Derives, tighter, two-sided, negated, a-number, a-name, bracketed, choice}
-use Rattle.text_formula.specs.Reader.{Got, bad, got, wholly, readAt, tokensOf, readFormula}
+use Rattle.text_formula.specs.Reader.{Parsed, unparsed, parsed, wholly, readAt, tokensOf, readFormula}
 use Rattle.spec_language.specs.Refusals.{noFormula}
-use Rattle.text_formula.specs.Answer.{large, nesting, fieldOf, answered, written, answerTo, formulaOn}
+use Rattle.text_formula.specs.Answer.{large, nesting, formulaField, answered, fieldAnswer, answerTo, formulaOn}
 use Rattle.text_formula.proofs.Deeper.{deeper-none}
 use Rattle.text_formula.proofs.Scans.{Made, scans-only, tokens-fine}
 use Rattle.text_formula.proofs.Parses.{Sound, reads-only}
-use Rattle.text_lexer.specs.Codes.{capped, code}
+use Rattle.text_lexer.specs.Codes.{capped, tokenCode}
 use Rattle.text_lexer.proofs.CodeLaws.{capped-most}
-use Rattle.text_lexer.specs.Scanned.{Holds}
+use Rattle.text_lexer.specs.Scanned.{TokensHeld}
 use Rattle.text_phrase.specs.declared.Read.{Read}
 use Rattle.text_phrase.specs.declared.Read.the-variants.{Done, Fault}
-use Rattle.text_parser.specs.Parser.{bounded, bytes, Agrees, Reading}
+use Rattle.text_parser.specs.Parser.{bounded, expressionBytes, Agrees, Reading}
 use Rattle.text_translate.specs.Translate.{largeCode, anyLarge, delivered, Translated}
 
 -- ---- the loop over the tokens' numbers
@@ -69,7 +69,7 @@ largeTokens (t ∷ ts) = pick (largeToken t) true (largeTokens ts)
 capped-large : (n : ℕ) → ltb 2147483647 (capped n) ≡ ltb 2147483647 n
 capped-large n = by-test (λ x. ltb 2147483647 x ≡ ltb 2147483647 n) (ltb n 2147483648) (λ e. refl) (λ e. sym (lt-ltb 2147483647 n (omega (arith, ltb-false n 2147483648 e))))
 
-large-code : (t : Token) → InRange t → largeCode (code t) ≡ largeToken t
+large-code : (t : Token) → InRange t → largeCode (tokenCode t) ≡ largeToken t
 unfolding largeCode largeToken
 large-code (number n) h =
     let q : (68719476736 + capped n) / 4294967296 ≡ 16 = omega (arith, capped-most n) in
@@ -81,7 +81,7 @@ large-code opening h = refl
 large-code closing h = refl
 large-code comma h = refl
 
-large-codes : (ts : List Token) → All InRange ts → anyLarge (map code ts) ≡ largeTokens ts
+large-codes : (ts : List Token) → All InRange ts → anyLarge (map tokenCode ts) ≡ largeTokens ts
 unfolding anyLarge largeTokens
 large-codes [] h = refl
 large-codes (t ∷ ts) h = rw (large-code t (h .0), large-codes ts (h .1))
@@ -125,57 +125,57 @@ bounded-same (app3 f a b c) h =
     let y = neither (large b) (large c) (z .1) in
     rw (bounded-same a (z .0), bounded-same b (y .0), bounded-same c (y .1))
 
-bytes-same : (e : Expr) → large e ≡ false → bytes e ≡ fieldOf e
-unfolding bytes
-bytes-same e h = ap (λ (x : Expr). fieldOf x) (bounded-same e h)
+bytes-same : (e : Expr) → large e ≡ false → expressionBytes e ≡ formulaField e
+unfolding expressionBytes
+bytes-same e h = ap (λ (x : Expr). formulaField x) (bounded-same e h)
 
 unless-large : (l : Bool) (d : ℕ) (v w buffer : List ℕ) → (l ≡ false → v ≡ w) → delivered l d v buffer ≡ delivered l d w buffer
 unfolding delivered
 unless-large true d v w buffer h = refl
 unless-large false d v w buffer h = rw (h refl)
 
-written-is : (e : Expr) (buffer : List ℕ) → delivered (large e) (nesting e) (fieldOf e) buffer ≡ written e buffer
-unfolding delivered written
+written-is : (e : Expr) (buffer : List ℕ) → delivered (large e) (nesting e) (formulaField e) buffer ≡ fieldAnswer e buffer
+unfolding delivered fieldAnswer
 written-is e buffer = refl
 
 -- ---- from the tokens on
 
 module _ (cs o p buffer : List ℕ) (r : Read) (rd : Reading 6 cs 0 0 o p r) where
-  none-read : (ts : List Token) (g : Got) → Agrees ts 0 0 o p Fault g → answered noFormula buffer ≡ answerTo (wholly g) buffer
-  none-read ts bad a = refl
-  none-read ts (got e rest) a = absurd a
+  none-read : (ts : List Token) (g : Parsed) → Agrees ts 0 0 o p Fault g → answered noFormula buffer ≡ answerTo (wholly g) buffer
+  none-read ts unparsed a = refl
+  none-read ts (parsed e rest) a = absurd a
 
   pub read-none : r ≡ Fault → Translated cs buffer (answered noFormula buffer)
   read-none q ts fine x =
-      let n : length cs ≡ length ts = ap length x ∙ length-map ts code in
+      let n : length cs ≡ length ts = ap length x ∙ length-map ts tokenCode in
       none-read ts (readAt 6 (length ts) ts) (rw q at (rd ts fine x (length ts) (omega arith)))
 
-  part-read : (ts : List Token) (at end depth : ℕ) (g : Got) → Agrees ts 0 0 o p (Done at end depth) g → at < length ts → answered noFormula buffer ≡ answerTo (wholly g) buffer
-  part-read ts at end depth bad a h = absurd a
-  part-read ts at end depth (got e []) a h = let z = length-drop at ts in let y : 0 ≡ length (drop at ts) = ap length (a .onward) in absurd (omega arith)
-  part-read ts at end depth (got e (t ∷ rest)) a h = refl
+  part-read : (ts : List Token) (at end depth : ℕ) (g : Parsed) → Agrees ts 0 0 o p (Done at end depth) g → at < length ts → answered noFormula buffer ≡ answerTo (wholly g) buffer
+  part-read ts at end depth unparsed a h = absurd a
+  part-read ts at end depth (parsed e []) a h = let z = length-drop at ts in let y : 0 ≡ length (drop at ts) = ap length (a .onward) in absurd (omega arith)
+  part-read ts at end depth (parsed e (t ∷ rest)) a h = refl
 
   pub read-part : (at end depth : ℕ) → r ≡ Done at end depth → at ≤ length cs → (at ≡ length cs → ⊥) → Translated cs buffer (answered noFormula buffer)
   read-part at end depth q h g ts fine x =
-      let n : length cs ≡ length ts = ap length x ∙ length-map ts code in
+      let n : length cs ≡ length ts = ap length x ∙ length-map ts tokenCode in
       part-read ts at end depth (readAt 6 (length ts) ts) (rw q at (rd ts fine x (length ts) (omega arith))) (omega arith)
 
-  whole-read : (ts : List Token) (at end depth : ℕ) (g : Got) → Agrees ts 0 0 o p (Done at end depth) g → Sound 6 ts g → length ts ≤ at
+  whole-read : (ts : List Token) (at end depth : ℕ) (g : Parsed) → Agrees ts 0 0 o p (Done at end depth) g → Sound 6 ts g → length ts ≤ at
       → delivered (largeTokens ts) depth (take end p) buffer ≡ answerTo (wholly g) buffer
-  whole-read ts at end depth bad a s h = absurd a
-  whole-read ts at end depth (got e []) a s h =
+  whole-read ts at end depth unparsed a s h = absurd a
+  whole-read ts at end depth (parsed e []) a s h =
       let t : ts ≡ s .taken = s .joined ∙ append-nil (s .taken) in
       let l : largeTokens ts ≡ large e = ap largeTokens t ∙ large-derived (s .derived) in
       let d : depth ≡ nesting e = a .nests ∙ deeper-none (nesting e) in
-      rw (l, d, a .written) (unless-large (large e) (nesting e) (bytes e) (fieldOf e) buffer (bytes-same e) ∙ written-is e buffer)
-  whole-read ts at end depth (got e (t ∷ rest)) a s h =
+      rw (l, d, a .written) (unless-large (large e) (nesting e) (expressionBytes e) (formulaField e) buffer (bytes-same e) ∙ written-is e buffer)
+  whole-read ts at end depth (parsed e (t ∷ rest)) a s h =
       let z : t ∷ rest ≡ [] = a .onward ∙ drop-of-length-le ts h in
       let y : _≡_ {A = ℕ} 0 1 = cc in absurd (omega arith)
 
   pub read-whole : (at end depth : ℕ) (l : Bool) (answer : ℕ × List ℕ) → r ≡ Done at end depth → at ≡ length cs → l ≡ anyLarge cs
       → answer ≡ delivered l depth (take (end - 0) (drop 0 p)) buffer → Translated cs buffer answer
   read-whole at end depth l answer q h f e ts fine x =
-      let n : length cs ≡ length ts = ap length x ∙ length-map ts code in
+      let n : length cs ≡ length ts = ap length x ∙ length-map ts tokenCode in
       let b : l ≡ largeTokens ts = f ∙ ap anyLarge x ∙ large-codes ts fine in
       let z : end - 0 ≡ end = omega arith in
       e ∙ rw (b, z)
@@ -191,7 +191,7 @@ pub no-tokens : (text buffer : List ℕ) → length text ≤ 1024 → tokensOf (
 unfolding formulaOn readFormula
 no-tokens text buffer h e = rw (le-ltb 1024 (length text) h, e)
 
-pub from-text : (text buffer numbers : List ℕ) (n : ℕ) (answer : ℕ × List ℕ) → length text ≤ 1024 → Holds text numbers n
+pub from-text : (text buffer numbers : List ℕ) (n : ℕ) (answer : ℕ × List ℕ) → length text ≤ 1024 → TokensHeld text numbers n
     → Translated (take (n - 0) (drop 0 numbers)) buffer answer → answer ≡ formulaOn text buffer
 unfolding formulaOn readFormula
 from-text text buffer numbers n answer h s a =

@@ -10,7 +10,7 @@ use Rattle.spec_language.specs.Refusals.{tooDeep, largeNumber, shortField}
 use Rattle.text_formula.specs.Tokens.{Token, InRange}
 use Rattle.text_formula.specs.Reader.{wholly, readAt}
 use Rattle.text_formula.specs.Answer.{answered, answerTo}
-use Rattle.text_lexer.specs.Codes.{code}
+use Rattle.text_lexer.specs.Codes.{tokenCode}
 
 unfoldable pub largeCode : ℕ → Bool
 largeCode t = pick (eqb (t / 4294967296) 16) (ltb 2147483647 (t % 4294967296)) false
@@ -38,4 +38,4 @@ delivered large depth v buffer =
 
 -- for whatever tokens the numbers cs stand for: the answer is that to their reading
 abbrev pub Translated : List ℕ → List ℕ → ℕ × List ℕ → Type 0
-Translated cs buffer a = (ts : List Token) → All InRange ts → cs ≡ map code ts → a ≡ answerTo (wholly (readAt 6 (length ts) ts)) buffer
+Translated cs buffer a = (ts : List Token) → All InRange ts → cs ≡ map tokenCode ts → a ≡ answerTo (wholly (readAt 6 (length ts) ts)) buffer

@@ -31,7 +31,7 @@ static void committed(void *app, uint64_t answer)
 }
 
 /* Frames until nothing is left to do. */
-static void settle(struct match *m)
+static void play_out(struct match *m)
 {
     unsigned frames = 0, commits = 0;
     int idle;
@@ -164,7 +164,7 @@ static void save_and_load(struct match *m, const char *path)
     match_close(m);
     stop_if(match_load(m, path), "load");
     printf("saved in mid-event, and loaded\n");
-    settle(m);
+    play_out(m);
 }
 
 /* The record is played again; then one answer in it is changed, as a cheat would. */
@@ -192,7 +192,7 @@ int main(int argc, char **argv)
     send(&m, BONUS, 2);
     send(&m, BONUS, 1);
     plan(&m);
-    settle(&m);
+    play_out(&m);
     show(&m, 2);
     hover(&m, TURN, TURN_SCORE, 2);
     hover(&m, TURN, SECRET, 2);
@@ -208,7 +208,7 @@ int main(int argc, char **argv)
     printf("a sheet without the event in hand: %s\n", match_word(match_mend(&m, &bonus, no_params)));
     save_and_load(&m, save);
     send(&m, BONUS, 1);
-    settle(&m);
+    play_out(&m);
     show(&m, 2);
 
     league(&bonus, "b0 + b0");
@@ -216,7 +216,7 @@ int main(int argc, char **argv)
     stop_if(match_mend(&m, &both, no_params), "mending the bonus");
     printf("the bonus is mended\n");
     send(&m, BONUS, 1);
-    settle(&m);
+    play_out(&m);
     show(&m, 2);
     settle_dispute(&m);
     stop_if(match_export(&m, "final, table 3", rounds), "export");

@@ -246,7 +246,7 @@ pub fn run(sheet: &engine::Sheet, table: &Guarded, calls: &[Call]) -> (Model, Ve
 }
 
 /// Idle within the forecast's steps; after exactly those with nothing running.
-fn settle(sheet: &engine::Sheet, table: &Guarded, calls: &[Call]) -> Model {
+fn play_out(sheet: &engine::Sheet, table: &Guarded, calls: &[Call]) -> Model {
     let (m, _) = run(sheet, table, calls);
     let after = |steps: usize| {
         let mut all = calls.to_vec();
@@ -289,7 +289,7 @@ fn phones_of(r: &mut Rng, sheet: &engine::Sheet) -> Option<[Vec<Call>; 2]> {
 
 /// The boards of two cuts are equal.
 fn two_phones(sheet: &engine::Sheet, table: &Guarded, [a, b]: &[Vec<Call>; 2]) {
-    assert_eq!(settle(sheet, table, a).board, settle(sheet, table, b).board, "two phones");
+    assert_eq!(play_out(sheet, table, a).board, play_out(sheet, table, b).board, "two phones");
 }
 
 /// A length below, at or beyond the one due.
@@ -618,9 +618,9 @@ pub fn one(seed: u64, tally: &mut Tally) {
     tally.accepted += 1;
     tally.calls += case.calls.len();
     tally.part = "list";
-    settle(&sheet, &table, &case.calls);
+    play_out(&sheet, &table, &case.calls);
     tally.part = ARRIVALS;
-    settle(&sheet, &table, &arrivals(&case.calls));
+    play_out(&sheet, &table, &arrivals(&case.calls));
     if let Some(phones) = &case.phones {
         tally.part = TWO_PHONES;
         tally.pairs += 1;

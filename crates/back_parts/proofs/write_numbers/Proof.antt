@@ -3,13 +3,13 @@ use Prim.Native.Nat.{_-_}
 use native.Mathlib.Omega.{arith}
 use borrow.Author.Needs.{needs}
 use Rattle.back_emit.proofs.WritingLaws.{Turn, start, turn-room, turn, end, turn-long}
-use Rattle.back_parts.specs.RightWords.{numberAt}
+use Rattle.back_parts.specs.RightWords.{draftNumber}
 use Rattle.back_parts.proofs.PartLaws.{number-wrote, number-room}
 use Rattle.back_parts.proofs.write_numbers.Statement.{statement}
 use Rattle.back_parts.proofs.write_numbers.Tie as tie
 
 abbrev Inv-loop : tie.InvT-loop
-Inv-loop d from count t₀ k next₀ j₀ t next j = Turn (numberAt d from) count t₀ k j t next
+Inv-loop d from count t₀ k next₀ j₀ t next j = Turn (draftNumber d from) count t₀ k j t next
 
 abbrev μ-loop : tie.MeasureT-loop
 μ-loop d from count t₀ k next₀ j₀ t next j = count - j

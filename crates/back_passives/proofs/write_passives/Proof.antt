@@ -6,7 +6,7 @@ use native.Mathlib.Omega.{arith}
 use Rattle.back_counts.specs.Counts.{countEvent, countMembers}
 use Rattle.back_counts.proofs.CountLaws.{members-fit}
 use Rattle.back_passives.specs.PassiveWords.{countAgain, againStart}
-use Rattle.back_passives.proofs.PassiveLaws.{length-kinds, kinds-room, count-again-small, count-event-small, start-small, settle-wrote}
+use Rattle.back_passives.proofs.PassiveLaws.{length-kinds, kinds-room, count-again-small, count-event-small, start-small, passive-words-wrote}
 use borrow.Author.Needs.{needs}
 use Rattle.back_passives.proofs.write_passives.Statement.{statement}
 use Rattle.back_passives.proofs.write_passives.Tie as tie
@@ -41,6 +41,6 @@ write-passives-spec =
     (λ c κs. search needs)
     (λ c. search needs)
     (λ c.
-    settle-wrote _ _ _ (c .before .before .before .before .before .before .before .before .before .before .before .before .before .before .before .before .before .before .before .before .before .before .before .before .before .before .pre .0 .few) (c .before .before .before .before .before .before .before .before .before .before .before .before .before .before .before .before .before .before .before .before .before .before .write-kinds .ensures) (c .before .before .before .before .before .before .before .before .before .before .before .before .before .before .before .before .before .before .write-zeros .ensures)
+    passive-words-wrote _ _ _ (c .before .before .before .before .before .before .before .before .before .before .before .before .before .before .before .before .before .before .before .before .before .before .before .before .before .before .pre .0 .few) (c .before .before .before .before .before .before .before .before .before .before .before .before .before .before .before .before .before .before .before .before .before .before .write-kinds .ensures) (c .before .before .before .before .before .before .before .before .before .before .before .before .before .before .before .before .before .before .write-zeros .ensures)
     (started _ _ _ (c .before .before .before .before .before .before .before .before .before .before .before .before .before .count-event .ensures) (c .before .before .before .before .before .before .before .before .before .before .before .before .before .before .count-members .ensures) (c .before .before .before .before .before .before .before .before .before .before .before .before .before .before .before .count-again .ensures) (c .before .before .before .before .before .before .before .before .before .before .before .before .start-again .ensures))
     (c .before .before .before .before .before .before .before .before .before .before .before .before .before .before .before .count-again .ensures) (c .before .before .before .before .before .before .before .before .before .before .put-word .ensures) (c .before .before .before .before .before .before .put-word2 .ensures) (c .before .before .write-zeros2 .ensures)))

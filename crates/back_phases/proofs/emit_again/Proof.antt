@@ -3,14 +3,14 @@ use Prim.Native.Nat.{_-_}
 use native.Mathlib.Omega.{arith}
 use lib.ListN.{getD}
 use Rattle.back_counts.proofs.CountLaws.{sound-at}
-use Rattle.back_emit.specs.Words.{kindWords}
+use Rattle.back_emit.specs.Words.{turnWordsOfKind}
 use Rattle.back_emit.proofs.WritingLaws.{Turn, start, turn-room, turn, end, turn-long, wrote-as, room-as}
 use Rattle.back_phases.proofs.PhaseLaws.{each-in-turn}
 use Rattle.back_phases.proofs.emit_again.Statement.{statement}
 use Rattle.back_phases.proofs.emit_again.Tie as tie
 
 abbrev Inv-loop : tie.InvT-loop
-Inv-loop d e n o count t₀ k next₀ j₀ t next j = Turn (λ s. kindWords d e 1 2304 (getD o s 0)) count t₀ k j t next
+Inv-loop d e n o count t₀ k next₀ j₀ t next j = Turn (λ s. turnWordsOfKind d e 1 2304 (getD o s 0)) count t₀ k j t next
 
 abbrev μ-loop : tie.MeasureT-loop
 μ-loop d e n o count t₀ k next₀ j₀ t next j = count - j

@@ -3,13 +3,13 @@
 use Prim.Native.Nat.{_-_}
 use native.Mathlib.Omega.{arith}
 use Rattle.back_counts.proofs.CountLaws.{sound-at}
-use Rattle.back_emit.specs.Words.{kindWords}
+use Rattle.back_emit.specs.Words.{turnWordsOfKind}
 use Rattle.back_emit.proofs.WritingLaws.{Turn, start, turn-room, turn, end, turn-long}
 use Rattle.back_phases.proofs.emit_laters.Statement.{statement}
 use Rattle.back_phases.proofs.emit_laters.Tie as tie
 
 abbrev Inv-loop : tie.InvT-loop
-Inv-loop d e n t₀ k next₀ i₀ t next i = Turn (kindWords d e 3 2560) n t₀ k i t next
+Inv-loop d e n t₀ k next₀ i₀ t next i = Turn (turnWordsOfKind d e 3 2560) n t₀ k i t next
 
 abbrev μ-loop : tie.MeasureT-loop
 μ-loop d e n t₀ k next₀ i₀ t next i = n - i

@@ -5,13 +5,13 @@ use native.Mathlib.Omega.{arith}
 use borrow.Author.Needs.{needs}
 use Rattle.front_draft.specs.Draft.{entryOf}
 use Rattle.back_counts.proofs.CountLaws.{Sum, sum-start, sum-turn, sum-end}
-use Rattle.back_schedule.specs.Ordering.{markOf, countTurns}
+use Rattle.back_schedule.specs.Ordering.{metMark, countTurns}
 use Rattle.back_schedule.proofs.OrderingLaws.{turn-from, mark-fits}
 use Rattle.back_schedule.proofs.count_turns.Statement.{statement}
 use Rattle.back_schedule.proofs.count_turns.Tie as tie
 
 abbrev Inv-loop : tie.InvT-loop
-Inv-loop d e n sum₀ i₀ sum i = Sum (λ j. 1 - markOf (entryOf d e j)) n 0 i sum
+Inv-loop d e n sum₀ i₀ sum i = Sum (λ j. 1 - metMark (entryOf d e j)) n 0 i sum
 
 abbrev μ-loop : tie.MeasureT-loop
 μ-loop d e n sum₀ i₀ sum i = n - i

@@ -9,22 +9,22 @@ use Rattle.lib_base.specs.Basics.{pick}
 use Rattle.lib_bits.specs.Bits.{bit}
 use Rattle.check_reads.specs.First.{firstFrom}
 use Rattle.check_reads.proofs.FirstLaws.{Seeking, seek, seek-on, seek-stop, seek-end}
-use Rattle.check_agree.specs.Answer.{packed}
+use Rattle.check_agree.specs.Answer.{packedDifference}
 use Rattle.check_agree.specs.Conflict.{leastIn}
 use Rattle.check_agree.proofs.ConflictLaws.{least-none, packed-some}
 use Rattle.check_agree.proofs.least_in.Statement.{statement}
 use Rattle.check_agree.proofs.least_in.Tie as tie
 
 abbrev answer : ℕ → ℕ → ℕ → ℕ → ℕ
-answer set e f i = pick (bit set i) (packed e f i) 0
+answer set e f i = pick (bit set i) (packedDifference e f i) 0
 
 whole : (set n e f r : ℕ) → r ≡ firstFrom (n - 0) 0 (answer set e f) → r ≡ leastIn set n e f
 unfolding leastIn
 whole set n e f r h = rw sub-zero at h
 
-stop : (set n e f i r : ℕ) {b : Bool} → Seeking (answer set e f) 0 n i → i < n → b ≡ bit set i → b ≡ true → r ≡ packed e f i → r ≡ leastIn set n e f
+stop : (set n e f i r : ℕ) {b : Bool} → Seeking (answer set e f) 0 n i → i < n → b ≡ bit set i → b ≡ true → r ≡ packedDifference e f i → r ≡ leastIn set n e f
 stop set n e f i r {b} t h q s z =
-    let a : answer set e f i ≡ packed e f i = rw (sym q ∙ s) in
+    let a : answer set e f i ≡ packedDifference e f i = rw (sym q ∙ s) in
     whole set n e f r (z ∙ sym a ∙ seek-stop t h (λ k. packed-some e f i (sym a ∙ k)))
 
 go : (set n e f i : ℕ) {b : Bool} → Seeking (answer set e f) 0 n i → i < n → b ≡ bit set i → b ≡ false → Seeking (answer set e f) 0 n (i + 1)
@@ -37,7 +37,7 @@ abbrev μ-loop : tie.MeasureT-loop
 μ-loop set n e f i₀ i = n - i
 
 pub least-in-spec : {M : Type 1} → statement M
-unfolding packed
+unfolding packedDifference
 least-in-spec =
     tie.close
     (tie.spec

@@ -2,13 +2,13 @@
 use Prim.Native.Nat.{_-_}
 use mathlib.Core.Path.{sym, _∙_}
 use native.Mathlib.Omega.{arith}
-use Rattle.check_distance.specs.Layers.{onward}
+use Rattle.check_distance.specs.Layers.{walksOn}
 use Rattle.check_distance.proofs.LayerLaws.{Passed, passed-start, passed-turn, passed-stop, passed-end}
 use Rattle.check_distance.proofs.find_onward.Statement.{statement}
 use Rattle.check_distance.proofs.find_onward.Tie as tie
 
 abbrev Inv-loop : tie.InvT-loop
-Inv-loop m s k j n h₀ h = Passed (onward m s k j) n h
+Inv-loop m s k j n h₀ h = Passed (walksOn m s k j) n h
 
 abbrev μ-loop : tie.MeasureT-loop
 μ-loop m s k j n h₀ h = n - h

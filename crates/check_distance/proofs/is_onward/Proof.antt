@@ -1,12 +1,12 @@
--- `layers::is_onward` meets its contract: each return is its branch of `onward`. Assumes nothing.
+-- `layers::is_onward` meets its contract: each return is its branch of `walksOn`. Assumes nothing.
 use borrow.Author.Needs.{needs}
 use Rattle.lib_base.proofs.Pick.{code}
-use Rattle.check_distance.specs.Layers.{onward}
+use Rattle.check_distance.specs.Layers.{walksOn}
 use Rattle.check_distance.proofs.is_onward.Statement.{statement}
 use Rattle.check_distance.proofs.is_onward.Tie as tie
 
 pub is-onward-spec : {M : Type 1} → statement M
-unfolding onward
+unfolding walksOn
 is-onward-spec =
     tie.close
     (tie.spec

@@ -6,7 +6,7 @@ use native.Mathlib.Omega.{arith}
 use native.Mathlib.Numerals.{add-one}
 use lib.ListN.{length}
 use Rattle.front_draft.specs.Draft.{entryOf}
-use Rattle.check_faults.specs.Checks.{blank, markEntry, markRows, matrixOn}
+use Rattle.check_faults.specs.Checks.{zeroBytes, markEntry, markRows, matrixOn}
 use Rattle.check_faults.proofs.fill_matrix.Statement.{statement}
 use Rattle.check_faults.proofs.fill_matrix.Tie as tie
 
@@ -20,7 +20,7 @@ turn : {d m₀ : List ℕ} {e n : ℕ} {m next : List ℕ} {i v : ℕ} → Turn 
 unfolding markRows
 turn {i} t h q r l = record { same = rw (add-one i, ← t .same, ← q) r; within = omega arith; long = l ∙ t .long }
 
-end : {d m₀ : List ℕ} {e n : ℕ} {m : List ℕ} {i : ℕ} → Turn d m₀ e n m i → n ≤ i → m₀ ≡ blank 4096 → m ≡ matrixOn d e n
+end : {d m₀ : List ℕ} {e n : ℕ} {m : List ℕ} {i : ℕ} → Turn d m₀ e n m i → n ≤ i → m₀ ≡ zeroBytes 4096 → m ≡ matrixOn d e n
 unfolding matrixOn
 end {n} {i} t h q = let s : i ≡ n = omega arith in rw (← q, ← s) (t .same)
 

@@ -8,20 +8,20 @@ use Rattle.lib_base.specs.Basics.{pick}
 use Rattle.lib_bits.specs.Bits.{bit}
 use Rattle.check_reads.specs.First.{firstFrom}
 use Rattle.check_reads.proofs.FirstLaws.{Seeking, seek, seek-on, seek-stop, seek-end}
-use Rattle.check_leak.specs.Leaking.{packed}
+use Rattle.check_leak.specs.Leaking.{packedLeak}
 use Rattle.check_leak.proofs.LeakLaws.{least-none, packed-some}
 use Rattle.check_leak.proofs.least_in.Statement.{statement}
 use Rattle.check_leak.proofs.least_in.Tie as tie
 
 abbrev answer : ℕ → ℕ → ℕ → ℕ
-answer set i j = pick (bit set j) (packed i j) 0
+answer set i j = pick (bit set j) (packedLeak i j) 0
 
 whole : (set n i r : ℕ) → r ≡ firstFrom (n - 0) 0 (answer set i) → r ≡ firstFrom n 0 (answer set i)
 whole set n i r h = rw sub-zero at h
 
-stop : (set n i j r : ℕ) {b : Bool} → Seeking (answer set i) 0 n j → j < n → b ≡ bit set j → b ≡ true → r ≡ packed i j → r ≡ firstFrom n 0 (answer set i)
+stop : (set n i j r : ℕ) {b : Bool} → Seeking (answer set i) 0 n j → j < n → b ≡ bit set j → b ≡ true → r ≡ packedLeak i j → r ≡ firstFrom n 0 (answer set i)
 stop set n i j r {b} t h q s z =
-    let a : answer set i j ≡ packed i j = rw (sym q ∙ s) in
+    let a : answer set i j ≡ packedLeak i j = rw (sym q ∙ s) in
     whole set n i r (z ∙ sym a ∙ seek-stop t h (λ k. packed-some i j (sym a ∙ k)))
 
 go : (set n i j : ℕ) {b : Bool} → Seeking (answer set i) 0 n j → j < n → b ≡ bit set j → b ≡ false → Seeking (answer set i) 0 n (j + 1)
@@ -34,7 +34,7 @@ abbrev μ-loop : tie.MeasureT-loop
 μ-loop set n i j₀ j = n - j
 
 pub least-in-spec : {M : Type 1} → statement M
-unfolding packed
+unfolding packedLeak
 least-in-spec =
     tie.close
     (tie.spec

@@ -7,7 +7,7 @@ use native.Mathlib.Omega.{arith}
 use lib.Dec.{eqb}
 use Rattle.lib_bits.specs.Bits.{bit, Gathers}
 use Rattle.front_draft.specs.Draft.{entryOf, usedBy}
-use Rattle.front_draft.specs.Entry.{startOf, countOf}
+use Rattle.front_draft.specs.Entry.{entryStart, entryCount}
 use Rattle.check_reads.specs.Sets.{namedAmong, namesOn}
 use Rattle.check_reads.proofs.Gathering.{Gathered, begin, turn, end}
 use Rattle.check_leak.specs.Leaking.{namesAny}
@@ -17,7 +17,7 @@ use Rattle.check_leak.proofs.names_of.Tie as tie
 abbrev step : List ℕ → ℕ → ℕ → ℕ → Bool
 step d i j e = namesOn d e i j
 
-one-more : (d : List ℕ) (i e v set names next : ℕ) → v ≡ entryOf d e i → Gathers 64 names (λ j. namedAmong (usedBy d i) j (startOf v) (countOf v))
+one-more : (d : List ℕ) (i e v set names next : ℕ) → v ≡ entryOf d e i → Gathers 64 names (λ j. namedAmong (usedBy d i) j (entryStart v) (entryCount v))
     → ((j : ℕ) → bit next j ≡ bit set j || bit names j) → (j : ℕ) → j < 64 → bit next j ≡ bit set j || step d i j e
 unfolding namesOn
 one-more d i e v set names next q g f j b = rw (← q, ← g j b) (f j)

@@ -7,7 +7,7 @@ use native.Mathlib.Omega.{arith}
 use lib.Dec.{eqb}
 use Rattle.lib_bits.specs.Bits.{Gathers}
 use Rattle.front_draft.specs.Draft.{entryOf, usedBy}
-use Rattle.front_draft.specs.Entry.{kindOf, startOf, countOf}
+use Rattle.front_draft.specs.Entry.{entryKind, entryStart, entryCount}
 use Rattle.check_reads.specs.Sets.{namedAmong, namesOn, passiveOn}
 use Rattle.check_reads.proofs.Filling.{Filled, fill-none, fill-one, fill-end}
 use Rattle.check_reads.proofs.fill_rows.Statement.{statement}
@@ -17,7 +17,7 @@ abbrev row : List ℕ → ℕ → ℕ → ℕ → ℕ → Type 0
 row d ev n i v = Gathers n v (passiveOn d ev i)
 
 one-row : (d : List ℕ) (ev n i v set : ℕ) → n ≤ 64 → v ≡ entryOf d ev i
-    → Gathers 64 set (λ j. eqb (kindOf v) 1 && namedAmong (usedBy d i) j (startOf v) (countOf v)) → row d ev n i set
+    → Gathers 64 set (λ j. eqb (entryKind v) 1 && namedAmong (usedBy d i) j (entryStart v) (entryCount v)) → row d ev n i set
 unfolding passiveOn namesOn
 one-row d ev n i v set few q g j b = rw (← q) (g j (omega arith))
 

@@ -7,7 +7,7 @@ use native.Mathlib.Omega.{arith}
 use lib.Dec.{leb}
 use Rattle.lib_bits.specs.Bits.{bit, Gathers}
 use Rattle.front_draft.specs.Draft.{entryOf, usedBy}
-use Rattle.front_draft.specs.Entry.{kindOf, startOf, countOf}
+use Rattle.front_draft.specs.Entry.{entryKind, entryStart, entryCount}
 use Rattle.check_reads.specs.Sets.{namedAmong, namesOn, writesOn, handlersName}
 use Rattle.check_reads.proofs.Gathering.{Gathered, begin, turn, end}
 use Rattle.check_reads.proofs.handler_names.Statement.{statement}
@@ -17,7 +17,7 @@ abbrev step : List ℕ → ℕ → ℕ → ℕ → Bool
 step d e j i = writesOn d e i && namesOn d e i j
 
 handler : (d : List ℕ) (e i v set next : ℕ) → v ≡ entryOf d e i
-    → Gathers 64 next (λ j. bit set j || (leb 2 (kindOf v) && namedAmong (usedBy d i) j (startOf v) (countOf v)))
+    → Gathers 64 next (λ j. bit set j || (leb 2 (entryKind v) && namedAmong (usedBy d i) j (entryStart v) (entryCount v)))
     → Gathers 64 next (λ j. bit set j || step d e j i)
 unfolding writesOn namesOn
 handler d e i v set next q f j h = rw (← q) (f j h)

@@ -7,7 +7,7 @@ use native.Mathlib.Omega.{arith}
 use lib.Dec.{eqb, leb}
 use Rattle.lib_bits.specs.Bits.{bit}
 use Rattle.front_draft.specs.Draft.{entryOf}
-use Rattle.front_draft.specs.Entry.{kindOf}
+use Rattle.front_draft.specs.Entry.{entryKind}
 use Rattle.check_reads.specs.Sets.{writesOn}
 use Rattle.check_reads.proofs.Gathering.{Gathered, begin, turn, end, any-own}
 use Rattle.check_reads.proofs.writes_of.Statement.{statement}
@@ -16,7 +16,7 @@ use Rattle.check_reads.proofs.writes_of.Tie as tie
 abbrev step : List ℕ → ℕ → ℕ → ℕ → Bool
 step d e j i = writesOn d e i && eqb j i
 
-writer : (d : List ℕ) (e i v set next : ℕ) → v ≡ entryOf d e i → ((j : ℕ) → bit next j ≡ bit set j || (leb 2 (kindOf v) && eqb j i))
+writer : (d : List ℕ) (e i v set next : ℕ) → v ≡ entryOf d e i → ((j : ℕ) → bit next j ≡ bit set j || (leb 2 (entryKind v) && eqb j i))
     → (j : ℕ) → j < 64 → bit next j ≡ bit set j || step d e j i
 unfolding writesOn
 writer d e i v set next q f j h = rw (← q) (f j)

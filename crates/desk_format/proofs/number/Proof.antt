@@ -2,12 +2,12 @@
 use native.Mathlib.Omega.{arith}
 use Rattle.lib_base.proofs.Pick.{code}
 use borrow.Author.Needs.{needs}
-use Rattle.desk_format.specs.Script.{numberIn}
+use Rattle.desk_format.specs.Script.{argumentNumber}
 use Rattle.desk_format.proofs.number.Statement.{statement}
 use Rattle.desk_format.proofs.number.Tie as tie
 
 pub number-spec : {M : Type 1} → statement M
-unfolding numberIn
+unfolding argumentNumber
 number-spec =
     tie.close
     (tie.spec

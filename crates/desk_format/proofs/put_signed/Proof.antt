@@ -6,7 +6,7 @@ use native.Mathlib.Omega.{arith}
 use Rattle.lib_base.proofs.Pick.{code}
 use borrow.Author.Needs.{needs}
 use lib.ListN.{take}
-use Rattle.desk_format.specs.Script.{decimal, signedText}
+use Rattle.desk_format.specs.Script.{decimalText, signedText}
 use Rattle.desk_format.proofs.Laws.{after, negative}
 use Rattle.desk_format.proofs.put_signed.Statement.{statement}
 use Rattle.desk_format.proofs.put_signed.Tie as tie
@@ -52,7 +52,7 @@ returns-2 c =
     let a = at-entry .args in
     let p = at-put .put .ensures in (
       omega (arith, d .0, p .1 .0),
-      after (take (a .at) (a .out .now)) _ _ (45 ∷ []) (decimal (4294967296 - a .w))
+      after (take (a .at) (a .out .now)) _ _ (45 ∷ []) (decimalText (4294967296 - a .w))
           (signedText (a .w)) (d .1) (p .1 .1) (negative (a .w) (omega arith)),
     )
 

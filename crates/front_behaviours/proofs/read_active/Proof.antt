@@ -2,7 +2,7 @@
 use mathlib.Core.Path.{sym, ap, _∙_}
 use native.Mathlib.Omega.{arith}
 use borrow.Author.Needs.{needs}
-use Rattle.front_field.specs.Field.{sizeOf}
+use Rattle.front_field.specs.Field.{fieldSize}
 use lib.ListN.{length-set}
 use Rattle.front_behaviours.proofs.Laws.{active-refused, active-long, active-taken}
 use Rattle.front_behaviours.proofs.read_active.Statement.{statement}
@@ -21,7 +21,7 @@ read-active-spec =
     (λ c κs. search needs)
     (λ c κs.
     let e = sym (c .before .before .before .before .before .field-answer .ensures .0) ∙ c .before .before .before .a .given .1 in
-    omega (arith, c .field-value .ensures .1 .0 ∙ ap sizeOf e))
+    omega (arith, c .field-value .ensures .1 .0 ∙ ap fieldSize e))
     (λ c. search needs)
     (λ c. search needs)
     (λ c. search needs)

@@ -1,4 +1,4 @@
--- The handlers, then the ending, as in `bodyOf`.
+-- The handlers, then the ending, as in `activeBody`.
 use native.Mathlib.Omega.{arith}
 use borrow.Author.Needs.{needs}
 use Rattle.front_behaviours.proofs.Laws.{handlers-stop, body-ends, ended-body}

@@ -1,5 +1,5 @@
--- The expression reader and its arguments' loop are `exprOf` and `argsOf`: by the nesting left, which falls with each
--- call.
+-- The expression reader and its arguments' loop are `exprOf` and `readArguments`: by the nesting left, which falls with
+-- each call.
 use Prim.Native.Nat.{ℕ, _<_}
 use mathlib.Core.Path.{ap}
 use native.Mathlib.Omega.{arith}

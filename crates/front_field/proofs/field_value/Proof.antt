@@ -1,5 +1,5 @@
 -- The part is the one that `partOf` names, within s.
-use Rattle.front_field.specs.Field.{partOf, sizeOf}
+use Rattle.front_field.specs.Field.{partOf, fieldSize}
 use mathlib.Core.Path.{sym, ap, _∙_}
 use native.Mathlib.Nat.{add-sub-cancel}
 use native.Mathlib.Omega.{arith}
@@ -19,7 +19,7 @@ field-value-spec =
     (λ c. search needs)
     (λ c.
     let e = sym (c .before .enum-told .given .1) ∙ c .before .before .before .field-answer .ensures .0 in
-    (ap (partOf _) e, (ap sizeOf e, omega arith)))
+    (ap (partOf _) e, (ap fieldSize e, omega arith)))
     (λ c. omega (arith, rw (c .before .n .given .1) at (c .before .before .before .field-answer .ensures .1)))
     (λ c. search needs)
     (λ c. search needs)
@@ -27,4 +27,4 @@ field-value-spec =
     (λ c.
     let e = sym (c .before .before .n .given .1) ∙ c .before .before .before .before .field-answer .ensures .0 in
     let h = rw (c .before .before .n .given .1) at (c .before .before .before .before .field-answer .ensures .1) in
-    (rw add-sub-cancel (ap (partOf _) e), (omega (arith, c .result2 .given, ap sizeOf e), omega (arith, c .result2 .given)))))
+    (rw add-sub-cancel (ap (partOf _) e), (omega (arith, c .result2 .given, ap fieldSize e), omega (arith, c .result2 .given)))))

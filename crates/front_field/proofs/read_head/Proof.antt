@@ -2,7 +2,7 @@
 use native.Mathlib.Omega.{arith}
 use Rattle.front_field.specs.declared.Head.the-variants.{NoHead}
 use Rattle.front_field.specs.Expression.{headOf}
-use Rattle.front_field.specs.Field.{numberOf}
+use Rattle.front_field.specs.Field.{fieldRefusal}
 use mathlib.Core.Path.{sym, ap, _∙_}
 use borrow.Author.Needs.{needs}
 use Rattle.front_field.proofs.read_head.Statement.{statement}
@@ -20,7 +20,7 @@ read-head-spec =
     (λ c.
     let told = c .before .enum-told .given .1 in
     let e = sym (c .before .before .before .field-answer .ensures .0) ∙ told in
-    (rw e (ap NoHead (c .number .ensures ∙ ap numberOf told)), (tt, rw e (omega arith))))
+    (rw e (ap NoHead (c .number .ensures ∙ ap fieldRefusal told)), (tt, rw e (omega arith))))
     (λ c κs. search needs)
     (λ c κs. search needs)
     (λ c.

@@ -5,7 +5,7 @@ use mathlib.Core.List.{List}
 use native.Mathlib.Omega.{arith}
 use native.Mathlib.Numerals.{add-one}
 use lib.ListN.{length, getD, set, length-set}
-use Rattle.front_params.specs.Filling.{filled, fillTo}
+use Rattle.front_params.specs.Filling.{filledNode, fillTo}
 use Rattle.front_params.proofs.fill_draft.Statement.{statement}
 use Rattle.front_params.proofs.fill_draft.Tie as tie
 
@@ -14,7 +14,7 @@ record Turn (ps d₀ d : List ℕ) (k : ℕ) : Type 0 where
   within : k ≤ 2048
   long : length d ≡ length d₀
 
-turn : {ps d₀ d : List ℕ} {k x : ℕ} → Turn ps d₀ d k → k < 2048 → x ≡ filled ps (getD d k 0) → Turn ps d₀ (set d k x) (k + 1)
+turn : {ps d₀ d : List ℕ} {k x : ℕ} → Turn ps d₀ d k → k < 2048 → x ≡ filledNode ps (getD d k 0) → Turn ps d₀ (set d k x) (k + 1)
 unfolding fillTo
 turn {ps} {d₀} {d} {k} {x} t h e = record { same = rw (add-one k, ← t .same, ← e); within = omega arith; long = length-set d k x ∙ t .long }
 

@@ -7,7 +7,7 @@ use native.Mathlib.Omega.{arith}
 use lib.ListN.{getD}
 use lib.Dec.{eqb}
 use borrow.Author.Tests.{eq-eqb, ne-eqb}
-use Rattle.front_draft.specs.Entry.{tagOf}
+use Rattle.front_draft.specs.Entry.{nodeTag}
 use Rattle.front_params.specs.Filling.{anyParam}
 use Rattle.front_params.proofs.has_param.Statement.{statement}
 use Rattle.front_params.proofs.has_param.Tie as tie
@@ -16,14 +16,14 @@ record Turn (d : List ℕ) (n k : ℕ) : Type 0 where
   whole : anyParam d k ≡ anyParam d n
   within : k ≤ n
 
-turn : {d : List ℕ} {n k : ℕ} → Turn d n k → 0 < k → eqb (tagOf (getD d (k - 1) 0)) 19 ≡ false → Turn d n (k - 1)
+turn : {d : List ℕ} {n k : ℕ} → Turn d n k → 0 < k → eqb (nodeTag (getD d (k - 1) 0)) 19 ≡ false → Turn d n (k - 1)
 unfolding anyParam
 turn {d} {n} {k} t h e =
     let s : k ≡ suc (k - 1) = omega arith in
     let step : anyParam d (suc (k - 1)) ≡ anyParam d (k - 1) = rw (e, anyParam) in
     record { whole = sym step ∙ (rw s at (t .whole)); within = omega arith }
 
-stop : {d : List ℕ} {n k : ℕ} → Turn d n k → 0 < k → eqb (tagOf (getD d (k - 1) 0)) 19 ≡ true → true ≡ anyParam d n
+stop : {d : List ℕ} {n k : ℕ} → Turn d n k → 0 < k → eqb (nodeTag (getD d (k - 1) 0)) 19 ≡ true → true ≡ anyParam d n
 unfolding anyParam
 stop {d} {n} {k} t h e =
     let s : k ≡ suc (k - 1) = omega arith in

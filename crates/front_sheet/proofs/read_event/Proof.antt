@@ -1,4 +1,4 @@
--- The field's answer is taken apart as in `eventOf`.
+-- The field's answer is taken apart as in `readEvent`.
 use lib.ListN.{length}
 use native.Mathlib.Omega.{arith}
 use borrow.Author.Needs.{needs}

@@ -1,4 +1,4 @@
--- The loop keeps that what is left of `eventsOf` gives the whole; each event takes bytes, so it ends.
+-- The loop keeps that what is left of `readEvents` gives the whole; each event takes bytes, so it ends.
 use Prim.Native.Nat.{_-_}
 use mathlib.Core.Path.{refl}
 use lib.ListN.{length}

@@ -1,5 +1,5 @@
--- The dispatch is the definition's: in each arm f is a numeral, so `answer` computes to the callee's contract; in the
--- last no test of the definition holds.
+-- The dispatch is the definition's: in each arm f is a numeral, so `markedResult` computes to the callee's contract; in
+-- the last no test of the definition holds.
 use mathlib.Core.Bool.{Bool, false, not}
 use mathlib.Core.Path.{_≡_, ap, _∙_}
 use lib.Dec.{eqb}
@@ -7,7 +7,7 @@ use lib.IntN.{pos}
 use borrow.Author.Tests.{ne-eqb}
 use Rattle.lib_base.proofs.Pick.{code}
 use Rattle.lib_arith.specs.Exact.{signed, reported}
-use Rattle.lib_arith.specs.Functions.{truth, exact, result, over, answer}
+use Rattle.lib_arith.specs.Functions.{truth, exact, result, over, markedResult}
 use Rattle.lib_arith.proofs.ArithLaws.{beyond-pos}
 use borrow.Author.Needs.{needs}
 use Rattle.lib_functions.proofs.apply.Statement.{statement}
@@ -68,71 +68,71 @@ choose-requires : tie.Need-choose-requires
 choose-requires c κs = search needs
 
 returns : tie.Need-returns
-unfolding answer over result exact
+unfolding markedResult over result exact
 returns c = rw (c .before .match .keys1) (c .either .ensures)
 
 returns-2 : tie.Need-returns-2
-unfolding answer over result exact
+unfolding markedResult over result exact
 returns-2 c = rw (c .before .match .keys2) (c .both .ensures)
 
 returns-3 : tie.Need-returns-3
-unfolding answer over result exact
+unfolding markedResult over result exact
 returns-3 c = rw (c .before .match .keys3) (c .opposite .ensures)
 
 returns-4 : tie.Need-returns-4
-unfolding answer over result exact
+unfolding markedResult over result exact
 returns-4 c = rw (c .before .match .keys4) (c .sum .ensures)
 
 returns-5 : tie.Need-returns-5
-unfolding answer over result exact
+unfolding markedResult over result exact
 returns-5 c = rw (c .before .match .keys5) (c .difference .ensures)
 
 returns-6 : tie.Need-returns-6
-unfolding answer over result exact
+unfolding markedResult over result exact
 returns-6 c = rw (c .before .match .keys6) (c .product .ensures)
 
 returns-7 : tie.Need-returns-7
-unfolding answer over result exact
+unfolding markedResult over result exact
 returns-7 c = rw (c .before .match .keys7) (c .quotient .ensures)
 
 returns-8 : tie.Need-returns-8
-unfolding answer over result exact
+unfolding markedResult over result exact
 returns-8 c =
     rw (c .before .before .match .keys8) (c .bit .ensures ∙ ap (λ (t : Bool). reported (truth t))
     (c .before .below .ensures))
 
 returns-9 : tie.Need-returns-9
-unfolding answer over result exact
+unfolding markedResult over result exact
 returns-9 c =
     rw (c .before .before .match .keys9) (c .bit2 .ensures ∙ ap (λ (t : Bool). reported (truth (not t)))
     (c .before .below2 .ensures))
 
 returns-10 : tie.Need-returns-10
-unfolding answer over result exact
+unfolding markedResult over result exact
 returns-10 c =
     rw (c .before .before .match .keys10) (c .bit3 .ensures ∙ ap (λ (t : Bool). reported (truth t))
     (c .before .below3 .ensures))
 
 returns-11 : tie.Need-returns-11
-unfolding answer over result exact
+unfolding markedResult over result exact
 returns-11 c =
     rw (c .before .before .match .keys11) (c .bit4 .ensures ∙ ap (λ (t : Bool). reported (truth (not t)))
     (c .before .below4 .ensures))
 
 returns-12 : tie.Need-returns-12
-unfolding answer over result exact
+unfolding markedResult over result exact
 returns-12 c = rw (c .before .match .keys12) (c .same .ensures)
 
 returns-13 : tie.Need-returns-13
-unfolding answer over result exact
+unfolding markedResult over result exact
 returns-13 c = rw (c .before .match .keys13) (c .differ .ensures)
 
 returns-14 : tie.Need-returns-14
-unfolding answer over result exact
+unfolding markedResult over result exact
 returns-14 c = rw (c .before .match .keys14) (c .choose .ensures)
 
 returns-15 : tie.Need-returns-15
-unfolding answer over result exact
+unfolding markedResult over result exact
 returns-15 c =
     let none : pos 0 ≡ exact (c .before .args .f) (signed (c .before .args .a)) (signed (c .before .args .b))
     (signed (c .before .args .c)) = search code depth 20 in

@@ -1,14 +1,14 @@
--- Each return is one branch of `cellsAt`.
+-- Each return is one branch of `cellsFrom`.
 use Prim.Native.Nat.{_+_}
 use native.Mathlib.Omega.{arith}
 use borrow.Author.Needs.{needs}
 use Rattle.lib_base.proofs.Pick.{code}
-use Rattle.link_bytes.specs.Splice.{cellsAt}
+use Rattle.link_bytes.specs.Splice.{cellsFrom}
 use Rattle.link_bytes.proofs.cells.Statement.{statement}
 use Rattle.link_bytes.proofs.cells.Tie as tie
 
 pub cells-spec : {M : Type 1} → statement M
-unfolding cellsAt
+unfolding cellsFrom
 cells-spec =
     tie.close
     (tie.spec

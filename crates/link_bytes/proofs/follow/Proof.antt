@@ -1,12 +1,12 @@
--- Each return is one branch of `onward`.
+-- Each return is one branch of `scanState`.
 use borrow.Author.Needs.{needs}
 use Rattle.lib_base.proofs.Pick.{code}
-use Rattle.link_bytes.specs.Splice.{onward}
+use Rattle.link_bytes.specs.Splice.{scanState}
 use Rattle.link_bytes.proofs.follow.Statement.{statement}
 use Rattle.link_bytes.proofs.follow.Tie as tie
 
 pub follow-spec : {M : Type 1} → statement M
-unfolding onward
+unfolding scanState
 follow-spec =
     tie.close
     (tie.spec

@@ -12,50 +12,50 @@ use Rattle.lib_word.specs.Word.{get, put}
 use Rattle.spec_language.specs.Refusals as refusals
 use Rattle.spec_language.specs.Answers as kinds
 use Rattle.format_layout.specs.Layout.{eventOf, eventWord, runningWord, runningNumber, position, depth, markWord}
-use Rattle.run_start.specs.Start.{Result, result}
-use Rattle.run_allowed.specs.Allowed.{allowed}
+use Rattle.run_start.specs.Start.{CallResult, callResult}
+use Rattle.run_allowed.specs.Allowed.{mayRun}
 use Rattle.run_instruction.specs.Instruction.{perform}
-use Rattle.run_stretch.specs.Settle.{settleOn, settleAt}
+use Rattle.run_stretch.specs.Stretch.{stretchOn, stretchAt}
 use Rattle.run_advance.proofs.Laws.{in-code}
-use Rattle.run_advance.specs.Advance.{commitSaid, countOn, executeOn, executeAt, advance}
+use Rattle.run_advance.specs.Advance.{commitSaid, countInstruction, executeOn, executeAt, advanceOn}
 use borrow.Author.Needs.{needs}
 use Rattle.run_advance.proofs.advance_on.Statement.{statement}
 use Rattle.run_advance.proofs.advance_on.Tie as tie
 
-opened : (t l : List ℕ) {hand n c e s len : ℕ} {r : Result} → hand ≡ runningWord l → n ≡ runningNumber l → c ≡ position l → e ≡ eventOf hand
-    → s ≡ eventWord t e 1 → len ≡ eventWord t e 2 → r ≡ executeAt t l (s + c) c hand n len → r ≡ advance t l
-unfolding advance
+opened : (t l : List ℕ) {hand n c e s len : ℕ} {r : CallResult} → hand ≡ runningWord l → n ≡ runningNumber l → c ≡ position l → e ≡ eventOf hand
+    → s ≡ eventWord t e 1 → len ≡ eventWord t e 2 → r ≡ executeAt t l (s + c) c hand n len → r ≡ advanceOn t l
+unfolding advanceOn
 opened t l o p q d f g z = rw (← o, ← p, ← q, ← d, ← f, ← g) z
 
 -- the instruction of first word a and constant w answered x and left m
-module _ (l : List ℕ) (a w c hand n len : ℕ) {x : ℕ} {m : List ℕ} (e : result x m ≡ settleOn l a w) where
-  refused-on : x ≢ 0 → result refusals.foreign m ≡ executeOn l a w c hand n len
-  unfolding settleOn executeOn
+module _ (l : List ℕ) (a w c hand n len : ℕ) {x : ℕ} {m : List ℕ} (e : callResult x m ≡ stretchOn l a w) where
+  refused-on : x ≢ 0 → callResult refusals.foreign m ≡ executeOn l a w c hand n len
+  unfolding stretchOn executeOn
   refused-on h =
-      split (allowed (a / 256) (a % 256) (depth l))
-      (λ g. absurd (h (ap (λ (r : Result). r .0) (rw g at e))))
-      (λ g. let q : m ≡ l = ap (λ (r : Result). r .1) (rw g at e) in rw (g, q))
+      split (mayRun (a / 256) (a % 256) (depth l))
+      (λ g. absurd (h (ap (λ (r : CallResult). r .0) (rw g at e))))
+      (λ g. let q : m ≡ l = ap (λ (r : CallResult). r .1) (rw g at e) in rw (g, q))
 
-  performed-on : {r : Result} → x ≡ 0 → r ≡ countOn m c hand n len → r ≡ executeOn l a w c hand n len
-  unfolding settleOn executeOn
+  performed-on : {r : CallResult} → x ≡ 0 → r ≡ countInstruction m c hand n len → r ≡ executeOn l a w c hand n len
+  unfolding stretchOn executeOn
   performed-on h z =
-      split (allowed (a / 256) (a % 256) (depth l))
-      (λ g. let q : m ≡ perform l (a / 256) (a % 256) w (depth l) = ap (λ (r : Result). r .1) (rw g at e) in rw (g, ← q) z)
-      (λ g. let q : x ≡ refusals.foreign = ap (λ (r : Result). r .0) (rw g at e) in absurd (omega arith))
+      split (mayRun (a / 256) (a % 256) (depth l))
+      (λ g. let q : m ≡ perform l (a / 256) (a % 256) w (depth l) = ap (λ (r : CallResult). r .1) (rw g at e) in rw (g, ← q) z)
+      (λ g. let q : x ≡ refusals.foreign = ap (λ (r : CallResult). r .0) (rw g at e) in absurd (omega arith))
 
 -- instruction k of the table did
-module _ (t l : List ℕ) (k c hand n len : ℕ) {x : ℕ} {m : List ℕ} (e : result x m ≡ settleAt t l k) where
-  foreign : x ≢ 0 → result refusals.foreign m ≡ executeAt t l k c hand n len
-  unfolding settleAt executeAt
+module _ (t l : List ℕ) (k c hand n len : ℕ) {x : ℕ} {m : List ℕ} (e : callResult x m ≡ stretchAt t l k) where
+  foreign : x ≢ 0 → callResult refusals.foreign m ≡ executeAt t l k c hand n len
+  unfolding stretchAt executeAt
   foreign h = refused-on l (get t (512 + k * 2)) (get t (513 + k * 2)) c hand n len e h
 
-  goes-on : {o : List ℕ} → x ≡ 0 → c + 1 < len → o ≡ put m 5 (c + 1) → result kinds.ran o ≡ executeAt t l k c hand n len
-  unfolding settleAt executeAt countOn
+  goes-on : {o : List ℕ} → x ≡ 0 → c + 1 < len → o ≡ put m 5 (c + 1) → callResult kinds.ran o ≡ executeAt t l k c hand n len
+  unfolding stretchAt executeAt countInstruction
   goes-on h g r = performed-on l (get t (512 + k * 2)) (get t (513 + k * 2)) c hand n len e h (rw (lt-ltb (c + 1) len g, r))
 
   commits : {v y : ℕ} {o : List ℕ} → x ≡ 0 → len ≤ c + 1 → v ≡ markWord m → o ≡ put m 2 0 → y ≡ commitSaid n hand v
-      → result y o ≡ executeAt t l k c hand n len
-  unfolding settleAt executeAt countOn
+      → callResult y o ≡ executeAt t l k c hand n len
+  unfolding stretchAt executeAt countInstruction
   commits h g r s f = performed-on l (get t (512 + k * 2)) (get t (513 + k * 2)) c hand n len e h (rw (le-ltb (c + 1) len g, ← r, f, s))
 
 pub advance-on-spec : {M : Type 1} → statement M

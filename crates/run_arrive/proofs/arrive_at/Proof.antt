@@ -13,8 +13,8 @@ use Rattle.spec_language.specs.Refusals as refusals
 use Rattle.spec_language.specs.Rights.{may}
 use Rattle.format_layout.specs.Layout.{eventCount, sendersAt, taken, waitingCount, runningFlag, ours}
 use Rattle.run_queue.specs.Queue.{putSlot}
-use Rattle.run_start.specs.Start.{Result, result}
-use Rattle.run_arrive.specs.Arrivals.{admit, full, arriveWith, arriveKnown, arriveIn, arriveOn}
+use Rattle.run_start.specs.Start.{CallResult, callResult}
+use Rattle.run_arrive.specs.Arrivals.{admit, queueFull, arriveWith, arriveKnown, arriveIn, arriveOn}
 use borrow.Author.Needs.{needs}
 use Rattle.run_arrive.proofs.arrive_at.Statement.{statement}
 use Rattle.run_arrive.proofs.arrive_at.Tie as tie
@@ -22,52 +22,52 @@ use Rattle.run_arrive.proofs.arrive_at.Tie as tie
 taken-in : (t l : List ℕ) (e who : ℕ) → arriveOn t l e who .0 ≡ 0 → who < 8
 unfolding arriveOn arriveIn
 taken-in t l e who =
-    by-test (λ (r : Result). r .0 ≡ 0 → who < 8) (ours t l)
-    (λ _. by-test (λ (r : Result). r .0 ≡ 0 → who < 8) (leb 8 who) (λ _ z. absurd (omega arith)) (λ h _. leb-false 8 who h))
+    by-test (λ (r : CallResult). r .0 ≡ 0 → who < 8) (ours t l)
+    (λ _. by-test (λ (r : CallResult). r .0 ≡ 0 → who < 8) (leb 8 who) (λ _ z. absurd (omega arith)) (λ h _. leb-false 8 who h))
     (λ _ z. absurd (omega arith))
 
-told : (t l : List ℕ) (e who : ℕ) {r : ℕ} {m : List ℕ} → result r m ≡ arriveOn t l e who → (result r m ≡ arriveOn t l e who) × (r ≡ 0 → who < 8)
-told t l e who h = (h, λ z. taken-in t l e who (sym (ap (λ (o : Result). o .0) h) ∙ z))
+told : (t l : List ℕ) (e who : ℕ) {r : ℕ} {m : List ℕ} → callResult r m ≡ arriveOn t l e who → (callResult r m ≡ arriveOn t l e who) × (r ≡ 0 → who < 8)
+told t l e who h = (h, λ z. taken-in t l e who (sym (ap (λ (o : CallResult). o .0) h) ∙ z))
 
 -- the refusals in their order, and what is done
 module _ (t l : List ℕ) (e who : ℕ) where
-  foreign : {x : Bool} → x ≡ ours t l → x ≡ false → result refusals.foreign l ≡ arriveOn t l e who
+  foreign : {x : Bool} → x ≡ ours t l → x ≡ false → callResult refusals.foreign l ≡ arriveOn t l e who
   unfolding arriveOn
   foreign p h = rw (← p, h)
 
-  opened : {x : Bool} {r : Result} → x ≡ ours t l → x ≡ true → r ≡ arriveIn t l e who → r ≡ arriveOn t l e who
+  opened : {x : Bool} {r : CallResult} → x ≡ ours t l → x ≡ true → r ≡ arriveIn t l e who → r ≡ arriveOn t l e who
   unfolding arriveOn
   opened p h q = rw (← p, h) q
 
-  no-player : 8 ≤ who → result refusals.noPlayer l ≡ arriveIn t l e who
+  no-player : 8 ≤ who → callResult refusals.noPlayer l ≡ arriveIn t l e who
   unfolding arriveIn
   no-player h = rw (le-leb 8 who h)
 
-  undeclared : {n : ℕ} → who < 8 → n ≡ eventCount t → n ≤ e → result refusals.undeclaredEvent l ≡ arriveIn t l e who
+  undeclared : {n : ℕ} → who < 8 → n ≡ eventCount t → n ≤ e → callResult refusals.undeclaredEvent l ≡ arriveIn t l e who
   unfolding arriveIn
   undeclared {n} h p k = rw (lt-leb 8 who h, ← p, le-leb n e k)
 
-  known : {n : ℕ} {r : Result} → who < 8 → n ≡ eventCount t → e < n → r ≡ arriveKnown t l e who → r ≡ arriveIn t l e who
+  known : {n : ℕ} {r : CallResult} → who < 8 → n ≡ eventCount t → e < n → r ≡ arriveKnown t l e who → r ≡ arriveIn t l e who
   unfolding arriveIn
   known {n} h p k q = rw (lt-leb 8 who h, ← p, lt-leb n e k) q
 
-  no-right : {x : Bool} → x ≡ may (sendersAt t e) who → x ≡ false → result refusals.noRight l ≡ arriveKnown t l e who
+  no-right : {x : Bool} → x ≡ may (sendersAt t e) who → x ≡ false → callResult refusals.noRight l ≡ arriveKnown t l e who
   unfolding arriveKnown arriveWith
   no-right p h = rw (← p, h)
 
-  no-room : {x y : Bool} {n f : ℕ} → x ≡ may (sendersAt t e) who → x ≡ true → n ≡ waitingCount l → f ≡ runningFlag l → y ≡ full n f → y ≡ true
-      → result refusals.fullQueue l ≡ arriveKnown t l e who
+  no-room : {x y : Bool} {n f : ℕ} → x ≡ may (sendersAt t e) who → x ≡ true → n ≡ waitingCount l → f ≡ runningFlag l → y ≡ queueFull n f → y ≡ true
+      → callResult refusals.fullQueue l ≡ arriveKnown t l e who
   unfolding arriveKnown arriveWith
   no-room p h q r s k = rw (← p, h, ← q, ← r, ← s, k)
 
-  all-taken : {x y : Bool} {n f k : ℕ} → x ≡ may (sendersAt t e) who → x ≡ true → n ≡ waitingCount l → f ≡ runningFlag l → y ≡ full n f → y ≡ false
-      → k ≡ taken l → 1000000 ≤ k → result refusals.spent l ≡ arriveKnown t l e who
+  all-taken : {x y : Bool} {n f k : ℕ} → x ≡ may (sendersAt t e) who → x ≡ true → n ≡ waitingCount l → f ≡ runningFlag l → y ≡ queueFull n f → y ≡ false
+      → k ≡ taken l → 1000000 ≤ k → callResult refusals.spent l ≡ arriveKnown t l e who
   unfolding arriveKnown arriveWith
   all-taken {x} {y} {n} {f} {k} p h q r s g o d = rw (← p, h, ← q, ← r, ← s, g, ← o, le-leb 1000000 k d)
 
-  joins : {x y : Bool} {n f k : ℕ} {a b c : List ℕ} → x ≡ may (sendersAt t e) who → x ≡ true → n ≡ waitingCount l → f ≡ runningFlag l → y ≡ full n f
+  joins : {x y : Bool} {n f k : ℕ} {a b c : List ℕ} → x ≡ may (sendersAt t e) who → x ≡ true → n ≡ waitingCount l → f ≡ runningFlag l → y ≡ queueFull n f
       → y ≡ false → k ≡ taken l → k < 1000000 → a ≡ putSlot l n k (who * 256 + e) → b ≡ put a 0 (k + 1) → c ≡ put b 1 (n + 1)
-      → result 0 c ≡ arriveKnown t l e who
+      → callResult 0 c ≡ arriveKnown t l e who
   unfolding arriveKnown arriveWith admit
   joins {x} {y} {n} {f} {k} p h q r s g o d u v w = rw (← p, h, ← q, ← r, ← s, g, ← o, lt-leb 1000000 k d, w, v, u)
 

@@ -2,13 +2,13 @@
 use borrow.Author.Tests.{leb-false}
 use Rattle.lib_base.proofs.Pick.{code}
 use native.Mathlib.Omega.{arith}
-use Rattle.run_arrive.specs.Arrivals.{full}
+use Rattle.run_arrive.specs.Arrivals.{queueFull}
 use borrow.Author.Needs.{needs}
 use Rattle.run_arrive.proofs.is_full.Statement.{statement}
 use Rattle.run_arrive.proofs.is_full.Tie as tie
 
 pub is-full-spec : {M : Type 1} → statement M
-unfolding full
+unfolding queueFull
 is-full-spec =
     tie.close
     (tie.spec

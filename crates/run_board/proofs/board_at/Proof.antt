@@ -8,7 +8,7 @@ use Rattle.lib_word.specs.Word.{get}
 use Rattle.spec_language.specs.Refusals as refusals
 use Rattle.spec_language.specs.Rights.{may}
 use Rattle.format_layout.specs.Layout.{behaviourCount, viewersAt, ours}
-use Rattle.run_board.specs.Board.{settlingIn, boardWith, boardKnown, boardIn, boardOn}
+use Rattle.run_board.specs.Board.{copyBackUnderWay, boardWith, boardKnown, boardIn, boardOn}
 use borrow.Author.Needs.{needs}
 use Rattle.run_board.proofs.board_at.Statement.{statement}
 use Rattle.run_board.proofs.board_at.Tie as tie
@@ -39,11 +39,11 @@ module _ (t l : List ℕ) (i who : ℕ) where
   unfolding boardKnown boardWith
   no-right p h = rw (← p, h)
 
-  copied-back : {x y : Bool} → x ≡ may (viewersAt t i) who → x ≡ true → y ≡ settlingIn t l → y ≡ true → refusals.settling ≡ boardKnown t l i who
+  copied-back : {x y : Bool} → x ≡ may (viewersAt t i) who → x ≡ true → y ≡ copyBackUnderWay t l → y ≡ true → refusals.settling ≡ boardKnown t l i who
   unfolding boardKnown boardWith
   copied-back p h q k = rw (← p, h, ← q, k)
 
-  shown : {x y : Bool} {v : ℕ} → x ≡ may (viewersAt t i) who → x ≡ true → y ≡ settlingIn t l → y ≡ false → v ≡ get l (136 + i)
+  shown : {x y : Bool} {v : ℕ} → x ≡ may (viewersAt t i) who → x ≡ true → y ≡ copyBackUnderWay t l → y ≡ false → v ≡ get l (136 + i)
       → 4294967296 + v ≡ boardKnown t l i who
   unfolding boardKnown boardWith
   shown p h q k r = rw (← p, h, ← q, k, ← r)
@@ -62,10 +62,10 @@ board-at-spec =
     (no-right _ _ _ _ (c .before .may-see .ensures) (not-true _ (c .if4 .taken)))))
     (λ c κs. (c .before .before .before .before .before .before .is-ours .ensures .1) (not-false _ (c .before .before .before .before .before .if1 .left)))
     (λ c. opened _ _ _ _ (c .before .before .before .before .before .before .before .before .is-ours .ensures .0) (not-false _ (c .before .before .before .before .before .before .before .if1 .left)) (known _ _ _ _ (search needs) (c .before .before .before .before .before .get-word .ensures) (search needs)
-    (copied-back _ _ _ _ (c .before .before .before .may-see .ensures) (not-false _ (c .before .before .if4 .left)) (c .before .settling-in .ensures) (c .if5 .taken))))
+    (copied-back _ _ _ _ (c .before .before .before .may-see .ensures) (not-false _ (c .before .before .if4 .left)) (c .before .copy-back-under-way .ensures) (c .if5 .taken))))
     (λ c. search needs)
     (λ c κs. let b = (c .before .before .before .before .before .before .before .before .is-ours .ensures .1) (not-false _ (c .before .before .before .before .before .before .before .if1 .left)) in search needs)
     (λ c. search needs)
     (λ c. search needs)
     (λ c. opened _ _ _ _ (c .before .before .before .before .before .before .before .before .before .is-ours .ensures .0) (not-false _ (c .before .before .before .before .before .before .before .before .if1 .left)) (known _ _ _ _ (search needs) (c .before .before .before .before .before .before .get-word .ensures) (search needs)
-    (shown _ _ _ _ (c .before .before .before .before .may-see .ensures) (not-false _ (c .before .before .before .if4 .left)) (c .before .before .settling-in .ensures) (c .before .if5 .left) (c .get-word2 .ensures)))))
+    (shown _ _ _ _ (c .before .before .before .before .may-see .ensures) (not-false _ (c .before .before .before .if4 .left)) (c .before .before .copy-back-under-way .ensures) (c .before .if5 .left) (c .get-word2 .ensures)))))

@@ -1,12 +1,12 @@
 -- Each return is one branch of the definition.
 use Rattle.lib_base.proofs.Pick.{code}
-use Rattle.run_board.specs.Board.{copyingBack}
+use Rattle.run_board.specs.Board.{isCopyingBack}
 use borrow.Author.Needs.{needs}
 use Rattle.run_board.proofs.is_copying_back.Statement.{statement}
 use Rattle.run_board.proofs.is_copying_back.Tie as tie
 
 pub is-copying-back-spec : {M : Type 1} → statement M
-unfolding copyingBack
+unfolding isCopyingBack
 is-copying-back-spec =
     tie.close
     (tie.spec

@@ -1,13 +1,13 @@
 -- The test for copy-back is its callee's; the other returns are branches of the definition.
 use mathlib.Core.Path.{sym, _∙_}
 use Rattle.lib_base.proofs.Pick.{code}
-use Rattle.run_board.specs.Board.{masked}
+use Rattle.run_board.specs.Board.{isMasked}
 use borrow.Author.Needs.{needs}
 use Rattle.run_board.proofs.is_masked.Statement.{statement}
 use Rattle.run_board.proofs.is_masked.Tie as tie
 
 pub is-masked-spec : {M : Type 1} → statement M
-unfolding masked
+unfolding isMasked
 is-masked-spec =
     tie.close
     (tie.spec

@@ -1,12 +1,12 @@
 -- Each return is one branch of the definition, with the ranks that the callees read.
 use Rattle.lib_base.proofs.Pick.{code}
-use Rattle.run_burst.specs.Sound.{outranked}
+use Rattle.run_burst.specs.Sound.{higherWaits}
 use borrow.Author.Needs.{needs}
 use Rattle.run_burst.proofs.is_outranked.Statement.{statement}
 use Rattle.run_burst.proofs.is_outranked.Tie as tie
 
 pub is-outranked-spec : {M : Type 1} → statement M
-unfolding outranked
+unfolding higherWaits
 is-outranked-spec =
     tie.close
     (tie.spec

@@ -10,24 +10,24 @@ use Rattle.lib_word.specs.Word.{get}
 use Rattle.spec_language.specs.Refusals as refusals
 use Rattle.format_layout.specs.Layout.{passivesStart, passivesLength, codeFits}
 use Rattle.format_layout.proofs.BoundsLaws.{code-bound}
-use Rattle.run_start.specs.Start.{Result, result}
-use Rattle.run_stretch.specs.Settle.{settleFrom}
-use Rattle.run_carry.specs.Carry.{filled, workedOut, carryOn}
+use Rattle.run_start.specs.Start.{CallResult, callResult}
+use Rattle.run_stretch.specs.Stretch.{stretchFrom}
+use Rattle.run_carry.specs.Carry.{filledStore, workedOut, carryOn}
 use Rattle.run_carry.proofs.CarryLaws.{filled-head}
 use borrow.Author.Needs.{needs}
 use Rattle.run_carry.proofs.carry_on.Statement.{statement}
 use Rattle.run_carry.proofs.carry_on.Tie as tie
 
-shallow : (old t l m₀ : List ℕ) {m : List ℕ} → m ≡ filled old t l m₀ 64 → get m₀ 6 ≤ 64 → get m 6 ≤ 64
+shallow : (old t l m₀ : List ℕ) {m : List ℕ} → m ≡ filledStore old t l m₀ 64 → get m₀ 6 ≤ 64 → get m 6 ≤ 64
 shallow old t l m₀ e h = rw (e, filled-head old t l m₀ 64 6 (omega arith)) h
 
-module _ (old t l m₀ : List ℕ) {m : List ℕ} {k n : ℕ} {x : Bool} (e : m ≡ filled old t l m₀ 64) (p : k ≡ passivesStart t) (q : n ≡ passivesLength t)
+module _ (old t l m₀ : List ℕ) {m : List ℕ} {k n : ℕ} {x : Bool} (e : m ≡ filledStore old t l m₀ 64) (p : k ≡ passivesStart t) (q : n ≡ passivesLength t)
     (f : x ≡ codeFits k n) where
-  outside : x ≡ false → result refusals.foreign m ≡ carryOn old t l m₀
+  outside : x ≡ false → callResult refusals.foreign m ≡ carryOn old t l m₀
   unfolding carryOn workedOut
   outside h = rw (← p, ← q, ← e, ← f, h)
 
-  inside : {r : Result} → x ≡ true → r ≡ settleFrom t k n m → r ≡ carryOn old t l m₀
+  inside : {r : CallResult} → x ≡ true → r ≡ stretchFrom t k n m → r ≡ carryOn old t l m₀
   unfolding carryOn workedOut
   inside h g = rw (← p, ← q, ← e, ← f, h) g
 
@@ -45,4 +45,4 @@ carry-on-spec =
     (λ c. search needs)
     (λ c κs. let s = shallow _ _ _ _ (c .before .before .before .before .before .before .before .fill .ensures) (c .before .before .before .before .before .before .before .before .before .before .before .before .before .pre .1) in let b = code-bound _ _ (sym (c .before .before .code-fits .ensures) ∙ not-false _ (c .before .if1 .left)) in search needs)
     (λ c. search needs)
-    (λ c. inside _ _ _ _ (c .before .before .before .before .before .before .before .before .before .before .fill .ensures) (c .before .before .before .before .before .before .before .get-word .ensures) (c .before .before .before .before .before .before .get-word2 .ensures) (c .before .before .before .before .before .code-fits .ensures) (not-false _ (c .before .before .before .before .if1 .left)) (c .before .before .settle-from .ensures)))
+    (λ c. inside _ _ _ _ (c .before .before .before .before .before .before .before .before .before .before .fill .ensures) (c .before .before .before .before .before .before .before .get-word .ensures) (c .before .before .before .before .before .before .get-word2 .ensures) (c .before .before .before .before .before .code-fits .ensures) (not-false _ (c .before .before .before .before .if1 .left)) (c .before .before .execute-from .ensures)))

@@ -6,17 +6,17 @@ use mathlib.Core.List.{List}
 use lib.Dec.{eqb}
 use borrow.Author.Tests.{lt-ltb, le-ltb}
 use Rattle.format_layout.specs.Layout.{behaviourCount, kindAt}
-use Rattle.run_carry.specs.Carry.{active, activeIn}
+use Rattle.run_carry.specs.Carry.{activeKind, activeInTable}
 use borrow.Author.Needs.{needs}
 use Rattle.run_carry.proofs.is_active.Statement.{statement}
 use Rattle.run_carry.proofs.is_active.Tie as tie
 
-by-kind : (t : List ℕ) (i : ℕ) {n k : ℕ} → n ≡ behaviourCount t → i < n → k ≡ kindAt t i → eqb k 0 ≡ activeIn t i
-unfolding activeIn active
+by-kind : (t : List ℕ) (i : ℕ) {n k : ℕ} → n ≡ behaviourCount t → i < n → k ≡ kindAt t i → eqb k 0 ≡ activeInTable t i
+unfolding activeInTable activeKind
 by-kind t i {n} p h q = rw (← p, lt-ltb i n h, ← q)
 
-past-end : (t : List ℕ) (i : ℕ) {n : ℕ} → n ≡ behaviourCount t → n ≤ i → false ≡ activeIn t i
-unfolding activeIn active
+past-end : (t : List ℕ) (i : ℕ) {n : ℕ} → n ≡ behaviourCount t → n ≤ i → false ≡ activeInTable t i
+unfolding activeInTable activeKind
 past-end t i {n} p h = rw (← p, le-ltb i n h)
 
 pub is-active-spec : {M : Type 1} → statement M

@@ -5,22 +5,22 @@ use mathlib.Core.Path.{_≡_}
 use mathlib.Core.List.{List}
 use borrow.Author.Tests.{not-true, not-false}
 use Rattle.lib_word.specs.Word.{get}
-use Rattle.run_carry.specs.Carry.{activeIn, chosen, valueFor}
+use Rattle.run_carry.specs.Carry.{activeInTable, keptOrFresh, valueFor}
 use borrow.Author.Needs.{needs}
 use Rattle.run_carry.proofs.value_for.Statement.{statement}
 use Rattle.run_carry.proofs.value_for.Tie as tie
 
-module _ (old t l : List ℕ) (i : ℕ) {a : Bool} (p : a ≡ activeIn old i) where
+module _ (old t l : List ℕ) (i : ℕ) {a : Bool} (p : a ≡ activeInTable old i) where
   not-before : {w : ℕ} → a ≡ false → w ≡ get t (136 + i) → w ≡ valueFor old t l i
-  unfolding valueFor chosen
+  unfolding valueFor keptOrFresh
   not-before h q = rw (← p, h) q
 
-  not-now : {w : ℕ} {b : Bool} → a ≡ true → b ≡ activeIn t i → b ≡ false → w ≡ get t (136 + i) → w ≡ valueFor old t l i
-  unfolding valueFor chosen
+  not-now : {w : ℕ} {b : Bool} → a ≡ true → b ≡ activeInTable t i → b ≡ false → w ≡ get t (136 + i) → w ≡ valueFor old t l i
+  unfolding valueFor keptOrFresh
   not-now h r k q = rw (← p, h, ← r, k) q
 
-  in-both : {v : ℕ} {b : Bool} → a ≡ true → b ≡ activeIn t i → b ≡ true → v ≡ get l (136 + i) → v ≡ valueFor old t l i
-  unfolding valueFor chosen
+  in-both : {v : ℕ} {b : Bool} → a ≡ true → b ≡ activeInTable t i → b ≡ true → v ≡ get l (136 + i) → v ≡ valueFor old t l i
+  unfolding valueFor keptOrFresh
   in-both h r k q = rw (← p, h, ← r, k) q
 
 pub value-for-spec : {M : Type 1} → statement M

@@ -1,11 +1,11 @@
 -- The six writes are the definition's, by their contracts.
-use Rattle.run_dispatch.specs.Dispatch.{run}
+use Rattle.run_dispatch.specs.Dispatch.{runArrival}
 use borrow.Author.Needs.{needs}
 use Rattle.run_dispatch.proofs.run_on.Statement.{statement}
 use Rattle.run_dispatch.proofs.run_on.Tie as tie
 
 pub run-on-spec : {M : Type 1} → statement M
-unfolding run
+unfolding runArrival
 run-on-spec =
     tie.close
     (tie.spec

@@ -1,4 +1,4 @@
--- `count_of` is `countOn`; the product of a number up to 66 and one up to 4,097 is small.
+-- `count_of` is `previewSteps`; the product of a number up to 66 and one up to 4,097 is small.
 use Prim.Native.Nat.{ℕ, _+_, _*_, _≤_, _<_}
 use mathlib.Core.Path.{_≡_}
 use mathlib.Core.List.{List}
@@ -6,7 +6,7 @@ use native.Mathlib.Nat.{mul-le-mul-left}
 use native.Mathlib.Omega.{arith}
 use Rattle.format_layout.specs.Layout.{eventCount, waitingCount, runningFlag}
 use Rattle.run_forecast.specs.Forecast.{longestIn}
-use Rattle.run_preview.specs.Preview.{inHand, countOn}
+use Rattle.run_preview.specs.Preview.{inHand, previewSteps}
 use borrow.Author.Needs.{needs}
 use Rattle.run_preview.proofs.count_of.Statement.{statement}
 use Rattle.run_preview.proofs.count_of.Tie as tie
@@ -15,8 +15,8 @@ small : (k m : ℕ) → k ≤ 65 → m ≤ 4096 → (k + 1) * (m + 1) ≤ 100000
 small k m h g = let b : m + 1 ≤ 4097 = omega arith in omega (arith, mul-le-mul-left (k + 1) b)
 
 put-together : (t l : List ℕ) {n f e k m : ℕ} → n ≡ waitingCount l → f ≡ runningFlag l → e ≡ eventCount t → k ≡ inHand n f → m ≡ longestIn t e
-    → (k + 1) * (m + 1) ≡ countOn t l
-unfolding countOn
+    → (k + 1) * (m + 1) ≡ previewSteps t l
+unfolding previewSteps
 put-together t l a b c d x = rw (x, d, c, b, a)
 
 pub count-of-spec : {M : Type 1} → statement M

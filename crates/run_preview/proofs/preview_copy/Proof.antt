@@ -11,18 +11,18 @@ use Rattle.lib_word.specs.Word.{get}
 use Rattle.spec_language.specs.Rights.{may}
 use Rattle.format_layout.specs.Layout.{viewersAt}
 use Rattle.format_layout.proofs.BoundsLaws.{table-bounds}
-use Rattle.run_start.specs.Start.{Result, result}
+use Rattle.run_start.specs.Start.{CallResult, callResult}
 use Rattle.run_arrive.specs.Arrivals.{arriveOn}
-use Rattle.run_preview.specs.Preview.{toIdle, countOn, shownIn, previewSeen, previewTaken, previewAfter, previewCopy}
+use Rattle.run_preview.specs.Preview.{toIdle, previewSteps, shownIn, previewSeen, previewTaken, previewAfter, previewCopy}
 use Rattle.run_preview.proofs.Arrived.{arrive-sound}
 use borrow.Author.Needs.{needs}
 use Rattle.run_preview.proofs.preview_copy.Statement.{statement}
 use Rattle.run_preview.proofs.preview_copy.Tie as tie
 
-module _ (t l : List ℕ) (e i who : ℕ) {a : ℕ} {m : List ℕ} (arrival : result a m ≡ arriveOn t l e who) where
-  together : {x : ℕ} → x ≡ previewAfter t (result a m) i who → x ≡ previewCopy t l e i who
+module _ (t l : List ℕ) (e i who : ℕ) {a : ℕ} {m : List ℕ} (arrival : callResult a m ≡ arriveOn t l e who) where
+  together : {x : ℕ} → x ≡ previewAfter t (callResult a m) i who → x ≡ previewCopy t l e i who
   unfolding previewCopy
-  together g = g ∙ ap (λ (o : Result). previewAfter t o i who) arrival
+  together g = g ∙ ap (λ (o : CallResult). previewAfter t o i who) arrival
 
   refused : a ≢ 0 → a ≡ previewCopy t l e i who
   unfolding previewAfter
@@ -38,7 +38,7 @@ module _ (t l : List ℕ) (e i who : ℕ) {a : ℕ} {m : List ℕ} (arrival : re
       unfolding previewAfter previewTaken previewSeen
       unseen h = together (rw (eq-eqb a 0 taken, ← count, lt-leb n i there, ← right, h))
 
-      seen : {x : ℕ} → b ≡ true → x ≡ shownIn (toIdle t (countOn t m + 1) m) i → x ≡ previewCopy t l e i who
+      seen : {x : ℕ} → b ≡ true → x ≡ shownIn (toIdle t (previewSteps t m + 1) m) i → x ≡ previewCopy t l e i who
       unfolding previewAfter previewTaken previewSeen
       seen h g = together (rw (eq-eqb a 0 taken, ← count, lt-leb n i there, ← right, h) g)
 

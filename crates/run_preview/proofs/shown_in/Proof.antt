@@ -3,17 +3,17 @@ use Prim.Native.Nat.{ℕ, _+_}
 use mathlib.Core.Path.{_≡_, ap, _∙_}
 use mathlib.Core.List.{List}
 use Rattle.lib_word.specs.Word.{get}
-use Rattle.run_start.specs.Start.{Result, result}
-use Rattle.run_preview.specs.Preview.{toIdle, countOn, shown, shownIn}
+use Rattle.run_start.specs.Start.{CallResult, callResult}
+use Rattle.run_preview.specs.Preview.{toIdle, previewSteps, previewAnswer, shownIn}
 use borrow.Author.Needs.{needs}
 use Rattle.run_preview.proofs.shown_in.Statement.{statement}
 use Rattle.run_preview.proofs.shown_in.Tie as tie
 
-together : (t l : List ℕ) (i : ℕ) {n a v x : ℕ} {m : List ℕ} → n ≡ countOn t l → result a m ≡ toIdle t (n + 1) l → v ≡ get m (136 + i) → x ≡ shown a v
-    → x ≡ shownIn (toIdle t (countOn t l + 1) l) i
+together : (t l : List ℕ) (i : ℕ) {n a v x : ℕ} {m : List ℕ} → n ≡ previewSteps t l → callResult a m ≡ toIdle t (n + 1) l → v ≡ get m (136 + i) → x ≡ previewAnswer a v
+    → x ≡ shownIn (toIdle t (previewSteps t l + 1) l) i
 unfolding shownIn
 together t l i {n} {a} {v} {x} {m} c e f g =
-    g ∙ ap (shown a) f ∙ ap (λ (o : Result). shown (o .0) (get (o .1) (136 + i))) (e ∙ ap (λ (k : ℕ). toIdle t (k + 1) l) c)
+    g ∙ ap (previewAnswer a) f ∙ ap (λ (o : CallResult). previewAnswer (o .0) (get (o .1) (136 + i))) (e ∙ ap (λ (k : ℕ). toIdle t (k + 1) l) c)
 
 pub shown-in-spec : {M : Type 1} → statement M
 shown-in-spec =

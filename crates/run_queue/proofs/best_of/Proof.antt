@@ -6,7 +6,7 @@ use native.Mathlib.Omega.{arith}
 use native.Mathlib.Numerals.{add-one}
 use Rattle.lib_base.proofs.Tools.{by-test}
 use Rattle.format_layout.specs.Layout.{eventWord, numberAt, eventAt}
-use Rattle.run_queue.specs.Queue.{ahead, either, better, best}
+use Rattle.run_queue.specs.Queue.{ahead, eitherSlot, better, best}
 use Rattle.run_queue.proofs.best_of.Statement.{statement}
 use Rattle.run_queue.proofs.best_of.Tie as tie
 
@@ -16,7 +16,7 @@ record Turn (t l : List ℕ) (n b i : ℕ) : Type 0 where
   within : i ≤ n
 
 below : (t l : List ℕ) (i b m : ℕ) → i < m → b < m → better t l i b < m
-unfolding better either
+unfolding better eitherSlot
 below t l i b m p q = by-test (λ x. x < m) (ahead (eventWord t (eventAt l i) 0) (numberAt l i) (eventWord t (eventAt l b) 0) (numberAt l b)) (λ e. p) (λ e. q)
 
 turn : {t l : List ℕ} {n b i x : ℕ} → Turn t l n b i → i < n → n ≤ 64 → x ≡ better t l i b → Turn t l n x (i + 1)

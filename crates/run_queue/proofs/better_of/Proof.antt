@@ -4,7 +4,7 @@ use mathlib.Core.Bool.{Bool, true, false}
 use mathlib.Core.Path.{_≡_}
 use mathlib.Core.List.{List}
 use Rattle.format_layout.specs.Layout.{eventWord, numberAt, eventAt}
-use Rattle.run_queue.specs.Queue.{ahead, either, better}
+use Rattle.run_queue.specs.Queue.{ahead, eitherSlot, better}
 use borrow.Author.Needs.{needs}
 use Rattle.run_queue.proofs.better_of.Statement.{statement}
 use Rattle.run_queue.proofs.better_of.Tie as tie
@@ -14,11 +14,11 @@ abbrev before : List ℕ → List ℕ → ℕ → ℕ → Bool
 before t l i b = ahead (eventWord t (eventAt l i) 0) (numberAt l i) (eventWord t (eventAt l b) 0) (numberAt l b)
 
 first : (t l : List ℕ) (i b : ℕ) {x : Bool} → x ≡ before t l i b → x ≡ true → i ≡ better t l i b
-unfolding better either
+unfolding better eitherSlot
 first t l i b e h = rw (← e, h)
 
 second : (t l : List ℕ) (i b : ℕ) {x : Bool} → x ≡ before t l i b → x ≡ false → b ≡ better t l i b
-unfolding better either
+unfolding better eitherSlot
 second t l i b e h = rw (← e, h)
 
 -- what the calls return, put together

@@ -9,27 +9,27 @@ use lib.ListN.{length}
 use borrow.Author.Tests.{not-true, not-false}
 use Rattle.lib_word.specs.Word.{get}
 use Rattle.spec_language.specs.Refusals as refusals
-use Rattle.run_start.specs.Start.{result}
-use Rattle.run_allowed.specs.Allowed.{allowed}
+use Rattle.run_start.specs.Start.{callResult}
+use Rattle.run_allowed.specs.Allowed.{mayRun}
 use Rattle.run_instruction.specs.Instruction.{perform}
-use Rattle.run_stretch.specs.Settle.{settleOn, settleAt}
-use Rattle.run_stretch.proofs.SettleLaws.{perform-shallow}
+use Rattle.run_stretch.specs.Stretch.{stretchOn, stretchAt}
+use Rattle.run_stretch.proofs.StretchLaws.{perform-shallow}
 use borrow.Author.Needs.{needs}
 use Rattle.run_stretch.proofs.execute_at.Statement.{statement}
 use Rattle.run_stretch.proofs.execute_at.Tie as tie
 
 module _ (t l : List ℕ) (k : ℕ) {a w d : ℕ} {b : Bool} (p : a ≡ get t (512 + k * 2)) (q : w ≡ get t (513 + k * 2)) (g : d ≡ get l 6)
-    (e : b ≡ allowed (a / 256) (a % 256) d) (shallow : get l 6 ≤ 64) where
-  ran : {m : List ℕ} → 2048 ≤ length l → b ≡ true → m ≡ perform l (a / 256) (a % 256) w d → (result 0 m ≡ settleAt t l k) × (get m 6 ≤ 64)
-  unfolding settleAt settleOn
+    (e : b ≡ mayRun (a / 256) (a % 256) d) (shallow : get l 6 ≤ 64) where
+  ran : {m : List ℕ} → 2048 ≤ length l → b ≡ true → m ≡ perform l (a / 256) (a % 256) w d → (callResult 0 m ≡ stretchAt t l k) × (get m 6 ≤ 64)
+  unfolding stretchAt stretchOn
   ran {m} h s f =
-      let j : allowed (a / 256) (a % 256) d ≡ true = sym e ∙ s in
+      let j : mayRun (a / 256) (a % 256) d ≡ true = sym e ∙ s in
       let low : d ≤ 64 = omega arith in
       (rw (← p, ← q, ← g, j, f), rw f (perform-shallow l h (a / 256) (a % 256) w d low shallow j))
 
-  refused : b ≡ false → (result refusals.foreign l ≡ settleAt t l k) × (get l 6 ≤ 64)
-  unfolding settleAt settleOn
-  refused s = let j : allowed (a / 256) (a % 256) d ≡ false = sym e ∙ s in (rw (← p, ← q, ← g, j), shallow)
+  refused : b ≡ false → (callResult refusals.foreign l ≡ stretchAt t l k) × (get l 6 ≤ 64)
+  unfolding stretchAt stretchOn
+  refused s = let j : mayRun (a / 256) (a % 256) d ≡ false = sym e ∙ s in (rw (← p, ← q, ← g, j), shallow)
 
 pub execute-at-spec : {M : Type 1} → statement M
 execute-at-spec =

@@ -1,4 +1,4 @@
--- The loop takes digits as `numberOf` does, the number as far as it counts.
+-- The loop takes digits as `numberToken` does, the number as far as it counts.
 use Prim.Native.Nat.{_-_}
 use native.Mathlib.Omega.{arith}
 use borrow.Author.Needs.{needs}

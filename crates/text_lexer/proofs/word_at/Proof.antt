@@ -1,4 +1,4 @@
--- The bytes are those of the text from the place on; each return is one branch of `wordOf`.
+-- The bytes are those of the text from the place on; each return is one branch of `wordToken`.
 use mathlib.Core.Path.{_∙_}
 use borrow.Author.Needs.{needs}
 use Rattle.text_lexer.proofs.Laws.{word-name, word-mark}

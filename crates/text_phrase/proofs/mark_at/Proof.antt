@@ -1,5 +1,5 @@
--- Within the tokens by the token's number, else 0: the two branches of `markIn`.
-use Rattle.text_phrase.specs.Phrase.{markIn}
+-- Within the tokens by the token's number, else 0: the two branches of `bracketAt`.
+use Rattle.text_phrase.specs.Phrase.{bracketAt}
 use Rattle.lib_base.proofs.Pick.{code}
 use native.Mathlib.Omega.{arith}
 use borrow.Author.Needs.{needs}
@@ -7,7 +7,7 @@ use Rattle.text_phrase.proofs.mark_at.Statement.{statement}
 use Rattle.text_phrase.proofs.mark_at.Tie as tie
 
 pub mark-at-spec : {M : Type 1} → statement M
-unfolding markIn
+unfolding bracketAt
 mark-at-spec =
     tie.close
     (tie.spec

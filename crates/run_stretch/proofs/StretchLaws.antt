@@ -12,7 +12,7 @@ use Rattle.lib_word.specs.Word.{get, put}
 use Rattle.lib_word.proofs.Laws.{length-put, get-same, get-other}
 use Rattle.lib_arith.specs.Functions.{result, over}
 use Rattle.run_stack.specs.Stack.{pushOn, popTo, noted, applyOne, applyTwo, applyThree, applyOn}
-use Rattle.run_allowed.specs.Allowed.{allowed}
+use Rattle.run_allowed.specs.Allowed.{mayRun}
 use Rattle.run_allowed.proofs.AllowedLaws.{push-room}
 use Rattle.run_instruction.specs.Instruction.{transfer, perform}
 
@@ -62,7 +62,7 @@ module _ (l : List ℕ) (long : 2048 ≤ length l) where
       put-shallow (put (noted l (over f y x 0)) (326 + d) (result f y x 0)) (d - 1)
       (length-put (noted l (over f y x 0)) (326 + d) (result f y x 0) ∙ noted-length (over f y x 0)) (omega arith)))
 
-  pub perform-shallow : (op s w d : ℕ) → d ≤ 64 → Shallow l → allowed op s d ≡ true → Shallow (perform l op s w d)
+  pub perform-shallow : (op s w d : ℕ) → d ≤ 64 → Shallow l → mayRun op s d ≡ true → Shallow (perform l op s w d)
   unfolding perform
   perform-shallow op s w d b h a =
       by-test Shallow (eqb op 3) (λ e. transfer-shallow (136 + s) (200 + s) (omega arith) h)

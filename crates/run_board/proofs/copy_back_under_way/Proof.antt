@@ -6,22 +6,22 @@ use mathlib.Core.Logic.{_≢_}
 use mathlib.Core.List.{List}
 use borrow.Author.Tests.{ne-eqb}
 use Rattle.format_layout.specs.Layout.{eventWord, runningFlag, runningEvent, position}
-use Rattle.run_board.specs.Board.{copyingBack, settling, settlingIn}
+use Rattle.run_board.specs.Board.{isCopyingBack, copyBackWith, copyBackUnderWay}
 use borrow.Author.Needs.{needs}
-use Rattle.run_board.proofs.settling_in.Statement.{statement}
-use Rattle.run_board.proofs.settling_in.Tie as tie
+use Rattle.run_board.proofs.copy_back_under_way.Statement.{statement}
+use Rattle.run_board.proofs.copy_back_under_way.Tie as tie
 
-none : (t l : List ℕ) {f : ℕ} → f ≡ runningFlag l → f ≡ 0 → false ≡ settlingIn t l
-unfolding settlingIn settling
+none : (t l : List ℕ) {f : ℕ} → f ≡ runningFlag l → f ≡ 0 → false ≡ copyBackUnderWay t l
+unfolding copyBackUnderWay copyBackWith
 none t l p h = rw (← p, h)
 
 runs : (t l : List ℕ) {f e len m c : ℕ} {x : Bool} → f ≡ runningFlag l → f ≢ 0 → e ≡ runningEvent l → len ≡ eventWord t e 2 → m ≡ eventWord t e 3
-    → c ≡ position l → x ≡ copyingBack len m c → x ≡ settlingIn t l
-unfolding settlingIn settling
+    → c ≡ position l → x ≡ isCopyingBack len m c → x ≡ copyBackUnderWay t l
+unfolding copyBackUnderWay copyBackWith
 runs t l {f} p h q r s o k = rw (← p, ne-eqb f 0 h, ← q, ← r, ← s, ← o) k
 
-pub settling-in-spec : {M : Type 1} → statement M
-settling-in-spec =
+pub copy-back-under-way-spec : {M : Type 1} → statement M
+copy-back-under-way-spec =
     tie.close
     (tie.spec
     (λ c κs. search needs)
