@@ -60,5 +60,6 @@ pub record Claims : Type 0 where
   pub rounds-agree : RoundsAgree
   pub condition-needed : Needed
   -- may a hidden value leak to a player? 0 exactly under M-107's condition, and what is named is true; then M-107's
-  -- rule holds with no condition left
+  -- rule holds with no condition left; with changes of sheets, where each sheet gets 0, none but M-112's own: at each
+  -- change the same behaviours are hidden
   pub leaks : NoLeak
