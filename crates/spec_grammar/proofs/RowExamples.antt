@@ -1,15 +1,15 @@
--- Worked checks of rows (02, M-110), each by computing: what a row reads as, what it is written out to, and the numbers
--- of its faults in their order.
-use Prim.Native.Nat.{ℕ, zero, suc}
+-- Worked checks of rows (02, M-110), each by computing: what a row reads as, and what it is written out to. Its faults:
+-- spec_language, FaultTable.antt.
 use mathlib.Core.Path.{_≡_, refl}
 use mathlib.Core.Option.{some}
-use mathlib.Core.List.{List, [], _∷_, _++_, flatMap}
+use mathlib.Core.List.{[], _∷_, _++_, flatMap}
 use Rattle.spec_language.specs.Syntax.{immediate, later}
 use Rattle.spec_language.specs.Sheet.{literal, variable, apply2, clause, formula, state, row, Sheet, cellCount, heads, renameTerm, renameClauses, entriesOut, rowsOut}
 use Rattle.spec_language.specs.Order.{upTo}
-use Rattle.spec_language.specs.Grammar.{field, word, encodeExpr, encodeHandlers, encodeBehaviours, encodeEvents, encode}
-use Rattle.spec_language.specs.Reading.{fieldAt, bad, got, exprAt, handles, handlersAt, entry, sheet, behavioursAt, eventsAt, readSheet}
-use Rattle.spec_grammar.proofs.Examples.{plain, bare, one, events, first, passives, seen}
+use Rattle.spec_language.specs.Grammar.{encodeExpr, encodeHandlers, encodeBehaviours, encodeEvents, encode}
+use Rattle.spec_language.specs.Reading.{fieldAt, got, exprAt, handles, handlersAt, entry, sheet, behavioursAt, eventsAt, readSheet}
+use Rattle.spec_language.proofs.FaultTable.{events, first, seen, rowed}
+use Rattle.spec_grammar.proofs.Examples.{plain, bare}
 
 -- ---- written out
 
@@ -45,11 +45,7 @@ pub rows-read : readSheet (encode rows) ≡ got rows []
 unfolding encode encodeEvents encodeBehaviours encodeHandlers encodeExpr readSheet eventsAt behavioursAt handlersAt handles exprAt fieldAt cellCount
 rows-read = refl
 
--- ---- bytes and faults
-
--- a row of c cells that start at 1, with v after the start
-abbrev pub rowed : ℕ → List ℕ → List ℕ
-rowed c v = field 6 (c ∷ (field 4 (word 1) ++ v))
+-- ---- bytes
 
 -- 2 and 16 cells, with a handler, and with a right to see
 pub cell-counts : (readSheet (rowed 2 []) ≡ got (sheet [] (bare (row 2 1 []) ∷ [])) []) × (readSheet (rowed 16 []) ≡ got (sheet [] (bare (row 16 1 []) ∷ [])) [])
@@ -57,32 +53,7 @@ pub cell-counts : (readSheet (rowed 2 []) ≡ got (sheet [] (bare (row 2 1 []) �
 unfolding readSheet eventsAt behavioursAt handlersAt handles exprAt fieldAt cellCount
 cell-counts = (refl, refl, refl)
 
--- no count, and counts off the scale, whatever follows
-pub count-faults : (readSheet (field 6 []) ≡ bad 6) × (readSheet (field 6 (1 ∷ [])) ≡ bad 8) × (readSheet (field 6 (17 ∷ [])) ≡ bad 8) × (readSheet (field 6 (0 ∷ [])) ≡ bad 8)
-    × (readSheet (field 6 (2 ∷ [])) ≡ bad 4) × (readSheet (field 6 (2 ∷ field 5 [])) ≡ bad 5)
+-- four rows of 16
+pub full-rows : readSheet (rowed 16 [] ++ (rowed 16 [] ++ (rowed 16 [] ++ rowed 16 []))) ≡ got (sheet [] (bare (row 16 1 []) ∷ bare (row 16 1 []) ∷ bare (row 16 1 []) ∷ bare (row 16 1 []) ∷ [])) []
 unfolding readSheet eventsAt behavioursAt handlersAt handles exprAt fieldAt cellCount
-count-faults = (refl, refl, refl, refl, refl, refl)
-
--- so many passives, then s
-abbrev pub after : ℕ → List ℕ → List ℕ
-after zero s = s
-after (suc n) s = field 2 one ++ after n s
-
--- "counted toward the 64; past the first cell, 7 is checked after the count": the first cell is the 65th; a later one,
--- before what follows the count; a wrong count
-pub crowded-rows : (readSheet (after 64 (field 6 [])) ≡ bad 7) × (readSheet (after 63 (field 6 [])) ≡ bad 6) × (readSheet (after 63 (field 6 (17 ∷ []))) ≡ bad 8)
-    × (readSheet (after 63 (field 6 (2 ∷ []))) ≡ bad 7) × (readSheet (after 62 (field 6 (2 ∷ []))) ≡ bad 4) × (readSheet (after 64 (6 ∷ 0 ∷ 1 ∷ [])) ≡ bad 4)
-unfolding readSheet eventsAt behavioursAt handlersAt handles exprAt fieldAt cellCount
-crowded-rows = (refl, refl, refl, refl, refl, refl)
-
--- four rows of 16 pass, and nothing after them
-pub full-rows : (readSheet (rowed 16 [] ++ (rowed 16 [] ++ (rowed 16 [] ++ rowed 16 []))) ≡ got (sheet [] (bare (row 16 1 []) ∷ bare (row 16 1 []) ∷ bare (row 16 1 []) ∷ bare (row 16 1 []) ∷ [])) [])
-    × (readSheet (rowed 16 [] ++ (rowed 16 [] ++ (rowed 16 [] ++ (rowed 16 [] ++ passives 1)))) ≡ bad 7)
-unfolding readSheet eventsAt behavioursAt handlersAt handles exprAt fieldAt cellCount
-full-rows = (refl, refl)
-
--- an event after a row; a header cut short; a tag beside 06
-pub row-tags : (readSheet (rowed 2 [] ++ events 1 []) ≡ bad 5) × (readSheet (6 ∷ 0 ∷ []) ≡ bad 4) × (readSheet (events 1 (6 ∷ [])) ≡ bad 4) × (readSheet (field 7 []) ≡ bad 5)
-    × (readSheet (rowed 2 [] ++ field 5 []) ≡ bad 5) × (readSheet (events 1 (6 ∷ 0 ∷ 9 ∷ [])) ≡ bad 4)
-unfolding readSheet eventsAt behavioursAt handlersAt handles exprAt fieldAt cellCount
-row-tags = (refl, refl, refl, refl, refl, refl)
+full-rows = refl

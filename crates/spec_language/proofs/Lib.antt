@@ -3,3 +3,4 @@ pub mod RowLaws
 pub mod SheetLaws
 pub mod RowNames
 pub mod Examples
+pub mod FaultTable
