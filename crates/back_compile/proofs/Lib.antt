@@ -6,3 +6,4 @@ pub mod ReadIs
 pub mod AsWritten
 pub mod RowsOut
 pub mod Judging
+pub mod Examples

@@ -1,14 +1,16 @@
 -- What is said of compile: which sheets are fine, parameters written out (02, M-103), rows written out (02, M-110).
-use Prim.Native.Nat.{ℕ, _≤_, _<_}
+use Prim.Native.Nat.{ℕ, _+_, _≤_, _<_}
 use mathlib.Core.Bool.{true, false}
 use mathlib.Core.Path.{_≡_}
-use mathlib.Core.List.{List}
+use mathlib.Core.Option.{Option}
+use mathlib.Core.List.{List, [], _∷_, _++_}
 use lib.ListN.{length}
-use Rattle.spec_language.specs.Sheet.{Sheet, uses, Entry, writtenOut, rowsOut}
+use Rattle.spec_language.specs.Sheet.{Sheet, uses, Clause, Item, formula, state, row, Entry, cellCount, writtenOut, rowsOut}
 use Rattle.spec_language.specs.Dependence.{NoCycle}
-use Rattle.spec_language.specs.Grammar.{SheetFits, encode, ItemParamsIn, EntryFits}
+use Rattle.spec_language.specs.Grammar.{SheetFits, ClausesFit, encode, ItemParamsIn}
+use Rattle.spec_language.specs.Reading.{got, entry, sheet, readSheet}
 use Rattle.spec_language.specs.Accepted.{Known}
-use Rattle.back_compile.specs.Verdict.{programOf, compiled, judge, compileOn, lacksParameters}
+use Rattle.back_compile.specs.Verdict.{programOf, compiled, judge, judgeRead, compileOn, lacksParameters}
 use Rattle.lib_base.specs.Basics.{All}
 use Rattle.lib_word.specs.Word.{get}
 
@@ -31,17 +33,45 @@ pub record AsWritten (x : Sheet) (ps : List ℕ) : Type 0 where
   -- and where they are, 3 is the answer, however few it would have
   pub long : 8192 < length (encode x) → (t : List ℕ) → 34816 ≤ length t → compileOn (encode x) ps t ≡ compiled 3 t
 
+-- ---- rows. M-110: "It means the sheet in which each cell is written out as an active, only that 3 counts the bytes as
+-- sent", and "past the first cell, 7 is checked after the count"
+
+-- these entries of the sheet are read without a fault
+abbrev pub ReadSoFar : Sheet → List Entry → Type 0
+ReadSoFar x before = readSheet (encode (sheet (x .signals) before)) ≡ got (sheet (x .signals) before) []
+
+-- a row of c cells with the handlers hs, n events being declared and i behaviours standing before it: "a one-byte cell
+-- count of 2 to 16 (else 8)"; and where its first cell is one of the 64 and its last is not, handlers within their
+-- limits, since 7 is checked after the count and so before them
+abbrev pub RowFits : ℕ → ℕ → ℕ → List Clause → Type 0
+RowFits n i c hs = (2 ≤ c) × (c ≤ 16) × (i < 64 → 64 < i + c → ClausesFit n hs)
+
+abbrev pub CountFits : Item → Type 0
+CountFits (formula x) = Unit {0}
+CountFits (state s hs) = Unit {0}
+CountFits (row c s hs) = (2 ≤ c) × (c ≤ 16)
+
+-- each row that is met before a fault
+abbrev pub RowsFit : Sheet → Type 0
+RowsFit x =
+    (before after : List Entry) (c s : ℕ) (hs : List Clause) (m : Option ℕ) → x .entries ≡ before ++ (entry (row c s hs) m ∷ after) → ReadSoFar x before
+    → RowFits (length (x .signals)) (cellCount before) c hs
+
 -- the sheet x, and the sheet in which each cell of its rows is written out
 pub record AsRows (x : Sheet) : Type 0 where
-  -- compile's answer, a refusal too, and the table's bytes are the same for both, where neither has over 8,192 bytes
-  -- and each field of x is within its own limits: however many behaviours they make, whatever they name, whether in a
-  -- circle or overlong, and whatever is lent
-  pub same : All (EntryFits (length (x .signals))) (x .entries) → length (encode x) ≤ 8192 → length (encode (rowsOut x)) ≤ 8192
+  -- compile's answer, a refusal too, and the table's bytes are the same for both, where neither has over 8,192 bytes:
+  -- whatever stands in x but rows, whatever is named, crowded, doubled, too deep, in a circle or overlong, and whatever
+  -- is lent
+  pub same : RowsFit x → length (encode x) ≤ 8192 → length (encode (rowsOut x)) ≤ 8192
       → (ps t : List ℕ) → compileOn (encode x) ps t ≡ compileOn (encode (rowsOut x)) ps t
-  -- 3 counts the bytes as sent: where they are not over 8,192 the sheet written out is judged, however many bytes it
-  -- would have
-  pub sent : SheetFits x → (ps t : List ℕ) → 34816 ≤ length t → compileOn (encode x) ps t ≡ judge (programOf ps (rowsOut x)) (lacksParameters (rowsOut x) ps) t
+  -- 3 counts the bytes as sent: where they are not over 8,192 the sheet written out is read and judged, however many
+  -- bytes it would have
+  pub sent : RowsFit x → length (encode x) ≤ 8192 → (ps t : List ℕ) → 34816 ≤ length t → compileOn (encode x) ps t ≡ judgeRead (readSheet (encode (rowsOut x))) ps t
   -- and where they are, 3 is the answer
   pub long : 8192 < length (encode x) → (ps t : List ℕ) → 34816 ≤ length t → compileOn (encode x) ps t ≡ compiled 3 t
+  -- where it is within 01's limits, the sheet written out is judged
+  pub judged : SheetFits x → (ps t : List ℕ) → 34816 ≤ length t → compileOn (encode x) ps t ≡ judge (programOf ps (rowsOut x)) (lacksParameters (rowsOut x) ps) t
+  -- each row is as above where they have 2 to 16 cells and all behaviours are 64 at most
+  pub fits : All (λ (b : Entry). CountFits (b .item)) (x .entries) → cellCount (x .entries) ≤ 64 → RowsFit x
   -- its program, so its circles, rights, instruction counts and commits, is that of the sheet written out
   pub program : (ps : List ℕ) → programOf ps x ≡ programOf ps (rowsOut x)

@@ -155,24 +155,23 @@ unfolding upTo usesEntries
 some-made m zero f b h = absurd (omega arith)
 some-made m (suc n) f b h = rw h
 
-cells-used : (xs : List Entry) (m : Option ℕ) (n : ℕ) (x : Item) → ItemFits n x → usesItem x ≡ true → usesEntries (map (entryOf m) (cellsOut xs x)) ≡ true
+cells-used : (xs : List Entry) (m : Option ℕ) (x : Item) → 0 < cells x → usesItem x ≡ true → usesEntries (map (entryOf m) (cellsOut xs x)) ≡ true
 unfolding usesEntries
-cells-used xs m n (formula x) f h = rw h
-cells-used xs m n (state s cs) f h = rw h
-cells-used xs m n (row c s cs) f h =
-    some-made m c (λ j. state s (renameClauses (meant xs c j) cs)) (omega (arith, f .0)) (rename-clauses-use (meant xs c 0) cs ∙ h)
+cells-used xs m (formula x) f h = rw h
+cells-used xs m (state s cs) f h = rw h
+cells-used xs m (row c s cs) f h = some-made m c (λ j. state s (renameClauses (meant xs c j) cs)) f (rename-clauses-use (meant xs c 0) cs ∙ h)
 
-out-uses : (xs : List Entry) (n : ℕ) (ys : List Entry) → All (EntryFits n) ys → usesEntries (entriesOut xs ys) ≡ usesEntries ys
+out-uses : (xs ys : List Entry) → All (λ (y : Entry). 0 < cells (y .item)) ys → usesEntries (entriesOut xs ys) ≡ usesEntries ys
 unfolding entriesOut flatMap usesEntries
-out-uses xs n [] f = refl
-out-uses xs n (y ∷ ys) f =
+out-uses xs [] f = refl
+out-uses xs (y ∷ ys) f =
     split (usesItem (y .item))
-    (λ t. rw (uses-append (entryOut xs y) (entriesOut xs ys), cells-used xs (y .viewer) n (y .item) (f .0 .0) t, t))
-    (λ t. rw (uses-append (entryOut xs y) (entriesOut xs ys), cells-unused xs (y .viewer) (y .item) t, t) (out-uses xs n ys (f .1)))
+    (λ t. rw (uses-append (entryOut xs y) (entriesOut xs ys), cells-used xs (y .viewer) (y .item) (f .0) t, t))
+    (λ t. rw (uses-append (entryOut xs y) (entriesOut xs ys), cells-unused xs (y .viewer) (y .item) t, t) (out-uses xs ys (f .1)))
 
--- the sheet written out uses a parameter exactly if the sheet does
-pub uses-out : (s : Sheet) → All (EntryFits (length (s .signals))) (s .entries) → uses (rowsOut s) ≡ uses s
-uses-out s f = out-uses (s .entries) (length (s .signals)) (s .entries) f
+-- the sheet written out uses a parameter exactly if the sheet does, where each row has a cell
+pub uses-out : (s : Sheet) → All (λ (y : Entry). 0 < cells (y .item)) (s .entries) → uses (rowsOut s) ≡ uses s
+uses-out s f = out-uses (s .entries) (s .entries) f
 
 -- ---- parameters written out as constants (M-103), and rows: in either order
 

@@ -1,0 +1,66 @@
+-- Worked examples, by computation: 1 before 3, with the limits of table and sheet; and rows in a sheet with a fault
+-- (02, M-110): where the sheet written out is answered alike, and where 7 or 8 come first.
+use Prim.Native.Nat.{ℕ, _≤_}
+use mathlib.Core.Path.{_≡_, refl, ap, _∙_}
+use mathlib.Core.List.{List, [], _∷_, _++_, flatMap}
+use native.Mathlib.Omega.{arith}
+use lib.ListN.{length, replicate}
+use Rattle.spec_language.specs.Syntax.{immediate, later}
+use Rattle.spec_language.specs.Order.{upTo}
+use Rattle.spec_language.specs.Sheet.{literal, clause, formula, row, Sheet, cellCount, heads, renameTerm, renameClauses, entriesOut, rowsOut}
+use Rattle.spec_language.specs.Grammar.{encodeExpr, encodeHandlers, encodeBehaviours, encodeEvents, encode}
+use Rattle.spec_language.specs.Reading.{fieldAt, Got, bad, got, exprAt, handles, handlersAt, sheet, behavioursAt, eventsAt, readSheet}
+use Rattle.spec_grammar.proofs.Examples.{plain, bare, nots}
+use Rattle.back_compile.specs.Verdict.{compiled, judgeRead, compileOn}
+use Rattle.back_compile.specs.Statements.{RowsFit}
+use Rattle.back_compile.proofs.JudgeLaws.{compile-opens}
+use Rattle.back_compile.proofs.RowsOut.{as-rows}
+
+-- ---- "1 short table: compile: table under 34,816 bytes"; "3 long sheet: over 8,192 bytes"; "Compile: 1, 2, 3"
+
+pub one-before-three : (s ps t : List ℕ) → length s ≡ 8193
+    → ((length t ≡ 34815 → compileOn s ps t ≡ compiled 1 t) × (length t ≡ 34816 → compileOn s ps t ≡ compiled 3 t))
+unfolding compileOn
+one-before-three s ps t a = (λ b. rw b, λ b. rw (b, a))
+
+pub longest : (s ps t : List ℕ) → length s ≡ 8192 → length t ≡ 34816 → compileOn s ps t ≡ judgeRead (readSheet s) ps t
+unfolding compileOn
+longest s ps t a b = rw (b, a)
+
+-- ---- one event, a row of 2, then a passive with 16 `!`: 9, and so the sheet written out
+
+abbrev deep : Sheet
+deep = sheet (plain 0 ∷ []) (bare (row 2 1 []) ∷ bare (formula (nots 16 (literal 1))) ∷ [])
+
+deep-read : (readSheet (encode deep) ≡ bad 9) × (readSheet (encode (rowsOut deep)) ≡ bad 9)
+unfolding entriesOut flatMap heads renameTerm renameClauses upTo encode encodeEvents encodeBehaviours encodeHandlers encodeExpr readSheet eventsAt behavioursAt handlersAt handles exprAt fieldAt cellCount
+deep-read = (refl, refl)
+
+deep-lengths : (length (encode deep) ≡ 89) × (length (encode (rowsOut deep)) ≡ 98)
+unfolding entriesOut flatMap heads renameTerm renameClauses upTo encode encodeEvents encodeBehaviours encodeHandlers encodeExpr
+deep-lengths = (refl, refl)
+
+deep-fits : RowsFit deep
+unfolding cellCount
+deep-fits = as-rows deep .fits ((omega arith, omega arith), (tt, tt)) (omega arith)
+
+pub deep-alike : (ps t : List ℕ) → 34816 ≤ length t
+    → RowsFit deep × (compileOn (encode deep) ps t ≡ compiled 9 t) × (compileOn (encode (rowsOut deep)) ps t ≡ compiled 9 t)
+deep-alike ps t room = (
+  deep-fits,
+  compile-opens (encode deep) ps t room (omega (arith, deep-lengths .0)) ∙ ap (λ (g : Got Sheet). judgeRead g ps t) (deep-read .0),
+  compile-opens (encode (rowsOut deep)) ps t room (omega (arith, deep-lengths .1)) ∙ ap (λ (g : Got Sheet). judgeRead g ps t) (deep-read .1),
+)
+
+-- ---- what is asked of rows is needed: only the second cell of a row is the 65th behaviour, and its handlers are
+-- doubled: 7, and 10 where it is written out; a row of 17 cells: 8, and none
+
+abbrev past : Sheet
+past = sheet (plain 0 ∷ []) (replicate 63 (bare (formula (literal 1))) ++ (bare (row 2 1 (clause 0 immediate (literal 1) ∷ clause 0 later (literal 1) ∷ [])) ∷ []))
+
+abbrev wide : Sheet
+wide = sheet [] (bare (row 17 1 []) ∷ [])
+
+pub needed : (readSheet (encode past) ≡ bad 7) × (readSheet (encode (rowsOut past)) ≡ bad 10) × (readSheet (encode wide) ≡ bad 8) × (readSheet (encode (rowsOut wide)) ≡ got (rowsOut wide) [])
+unfolding entriesOut flatMap heads renameTerm renameClauses upTo encode encodeEvents encodeBehaviours encodeHandlers encodeExpr readSheet eventsAt behavioursAt handlersAt handles exprAt fieldAt cellCount
+needed = (refl, refl, refl, refl)
