@@ -1,4 +1,5 @@
 -- The whole claim holds: each part by the theorem of its crate.
+use Rattle.spec_semantics.proofs.RoundsHold.{rounds-hold}
 use Rattle.engine.proofs.Holds.{whole}
 use Rattle.engine.proofs.RestDay.{rest-day}
 use Rattle.secrecy_engine.proofs.HeardHolds.{rule-on}
@@ -18,6 +19,7 @@ claims = record {
   refusals = demand-1;
   sheets = exactly;
   lists = whole;
+  p-rounds = rounds-hold;
   quotients = halves-go-down;
   parameters = parameters;
   formulas = formulas;

@@ -3,6 +3,8 @@
 -- parts of `OneList`, one by one (refine_lists, Lists.antt). All of it is about the functions that the contracts of the
 -- exported calls cite: `compileOn`, `startOn`, `arriveOn`, `stepOn`, `boardOn`, `forecastOn`, `previewOn`, `mendOn`,
 -- `formulaOn`, `joinOn`, `toldOn`. proofs/ClaimsHold.antt has the one theorem that proves it.
+use Rattle.lib_base.specs.Basics.{All}
+use Rattle.spec_semantics.specs.Rounds.{Holds, rounds}
 use Rattle.engine.specs.Demand.{WholeDemand}
 use Rattle.engine.specs.RestDay.{RestDay}
 use Rattle.secrecy_engine.specs.Heard.{RuleOn}
@@ -28,6 +30,8 @@ pub record Claims : Type 0 where
   -- with 01's arithmetic." 3. "For every list of arrivals, steps and board readings ..", with changes of sheets; and
   -- M-100, M-101, M-104, M-112, M-113: `OneList`; "And for every two such lists ..": `TwoLists`
   pub lists : WholeDemand
+  -- "The P rounds are shown from the meaning in one table with one theorem": by Figure 1's rules, of the sheets' bytes
+  pub p-rounds : All Holds rounds
   -- M-102, halves go down
   pub quotients : HalvesGoDown
   -- M-103, easy and hard from one sheet

@@ -11,16 +11,11 @@ use lib.Dec.{ltb}
 use borrow.Author.Tests.{lt-ltb}
 use Rattle.lib_word.specs.Word.{get}
 use Rattle.spec_language.specs.Syntax.{Program}
-use Rattle.spec_language.specs.Accepted.{Valid}
-use Rattle.spec_language.specs.Dependence.{size, events, noEvent}
+use Rattle.spec_language.specs.Dependence.{events}
 use Rattle.spec_language.specs.Code.{code}
-use Rattle.spec_semantics.specs.Rules.{Shows}
-use Rattle.spec_semantics.specs.Meaning.{at, starts, fresh, withStore}
+use Rattle.spec_semantics.specs.Meaning.{fresh}
 use Rattle.spec_semantics.specs.Plays.{done}
-use Rattle.spec_semantics.proofs.Agreement.{with-starts, fresh-shows}
-use Rattle.spec_semantics.proofs.Derivations.{yields-alone}
-use Rattle.spec_semantics.proofs.Lengths.{length-starts}
-use Rattle.spec_semantics.proofs.Solution.{first-solves}
+use Rattle.spec_semantics.proofs.Agreement.{fresh-shows, fresh-alone}
 use Rattle.spec_model.specs.Model.{runTurns}
 use Rattle.spec_model.specs.Claims.{moments}
 use Rattle.format_layout.specs.Layout.{eventWord}
@@ -56,13 +51,6 @@ code-in p t says e h =
       operations = λ c b. rw start (says .operations e c h b);
       constants = λ c b. rw start (says .constants e c h b);
     }
-
--- under no event the rules show a fresh round's values, and no others
-fresh-alone : (p : Program) → Valid p → (i c : ℕ) → i < size p → Shows p i c → c ≡ at (fresh p) i
-unfolding fresh withStore
-fresh-alone p v i c b d =
-    yields-alone p v (noEvent p) (starts p) (at (fresh p)) (first-solves p v (noEvent p) (omega arith) (starts p) (length-starts p)) i c b
-    (subst (λ (q : Program). Shows q i c) (with-starts p) d)
 
 -- the empty list has the fresh board
 fresh-board : (p : Program) (s ps t₀ l₀ : List ℕ) → OnlyCalls p l₀ (freshRoundOn s ps t₀ l₀) [] → boardOf p (freshRoundOn s ps t₀ l₀ .round) ≡ fresh p

@@ -155,3 +155,8 @@ module _ (p : Program) where
 
     pub fresh-shows : (i : ℕ) → i < size p → Shows p i (at (fresh p) i)
     fresh-shows i b = subst (λ P. Shows P i (at (fresh p) i)) (sym with-starts) (fresh-yields i b)
+
+    -- and no other values
+    pub fresh-alone : (i c : ℕ) → i < size p → Shows p i c → c ≡ at (fresh p) i
+    unfolding withStore
+    fresh-alone i c b d = yields-alone p v (noEvent p) (starts p) (at (fresh p)) fresh-solves i c b (subst (λ P. Shows P i c) with-starts d)
