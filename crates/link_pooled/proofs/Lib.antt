@@ -6,3 +6,4 @@ pub mod Filled
 pub mod Bits
 pub mod Rights
 pub mod PooledAccepted
+pub mod Examples

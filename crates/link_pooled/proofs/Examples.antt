@@ -1,0 +1,38 @@
+-- Worked examples, by computation: the fields of shared events. 02, M-111: "its field has length 2 if either sheet's
+-- has, with the bits set in both, a missing byte counting as 255"; an event of one sheet alone keeps its field; 26
+-- where one event has two ranks.
+use Prim.Native.Nat.{ℕ}
+use mathlib.Core.Bool.{true, false}
+use mathlib.Core.Path.{_≡_, refl}
+use mathlib.Core.Option.{none, some}
+use mathlib.Core.List.{List, [], _∷_, _++_}
+use Rattle.spec_language.specs.Sheet.{Signal}
+use Rattle.spec_language.specs.Grammar.{encodeEvents}
+use Rattle.spec_language.specs.Reading.{signal}
+use Rattle.link_pooled.specs.Pooled.{mergedByNumber, poolSignals, sameRanks}
+
+-- no byte in either; in the second alone; in the first alone; in both, 6 and 3
+abbrev ones : List Signal
+ones = signal 1 none ∷ signal 2 none ∷ signal 3 (some 6) ∷ signal 4 (some 6) ∷ []
+
+abbrev others : List Signal
+others = signal 1 none ∷ signal 2 (some 6) ∷ signal 3 none ∷ signal 4 (some 3) ∷ []
+
+abbrev fields : List ℕ
+fields = 1 ∷ 0 ∷ 1 ∷ 1 ∷ 1 ∷ 0 ∷ 2 ∷ 2 ∷ 6 ∷ 1 ∷ 0 ∷ 2 ∷ 3 ∷ 6 ∷ 1 ∷ 0 ∷ 2 ∷ 4 ∷ 2 ∷ []
+
+-- a fifth event, in the first sheet alone or in the second
+abbrev fifth : List Signal
+fifth = signal 5 (some 9) ∷ []
+
+abbrev field-5 : List ℕ
+field-5 = 1 ∷ 0 ∷ 2 ∷ 5 ∷ 9 ∷ []
+
+pub shared-fields : (encodeEvents (poolSignals ones others) ≡ fields) × (encodeEvents (poolSignals (ones ++ fifth) others) ≡ fields ++ field-5)
+    × (encodeEvents (poolSignals ones (others ++ fifth)) ≡ fields ++ field-5)
+unfolding encodeEvents mergedByNumber
+shared-fields = (refl, refl, refl)
+
+pub ranks : (sameRanks ones others ≡ true) × (sameRanks (signal 1 none ∷ signal 2 none ∷ []) (signal 1 none ∷ signal 3 none ∷ []) ≡ false) × (sameRanks ones [] ≡ true)
+unfolding sameRanks
+ranks = (refl, refl, refl)
