@@ -85,9 +85,7 @@ abbrev passiveCases : List Case
 passiveCases =
     -- header, tag, length
     (4, 2 ∷ 0 ∷ []) ∷ (4, after 1 (2 ∷ [])) ∷ (4, after 1 (7 ∷ 0 ∷ [])) ∷ (5, after 1 (field 7 [])) ∷ (5, after 1 (4 ∷ 0 ∷ 9 ∷ []))
-    ∷ (4, 2 ∷ 0 ∷ 1 ∷ []) ∷ (4, after 64 (2 ∷ 0 ∷ 1 ∷ []))
-    -- "65th behaviour", before its contents
-    ∷ (0, after 64 []) ∷ (7, after 65 []) ∷ (7, after 64 (field 2 [])) ∷ (7, after 64 (field 2 (wrapped 16 one)))
+    ∷ (4, 2 ∷ 0 ∷ 1 ∷ [])
     -- no expression; one with a fault, before what is left over
     ∷ (4, field 2 []) ∷ (8, field 2 (eight ++ one)) ∷ (6, field 2 (one ++ (0 ∷ []))) ∷ (6, field 2 (one ++ one))
     ∷ []
@@ -96,7 +94,7 @@ passiveCases =
 
 abbrev activeCases : List Case
 activeCases =
-    (4, 3 ∷ 0 ∷ []) ∷ (4, 3 ∷ 0 ∷ 1 ∷ []) ∷ (4, after 64 (3 ∷ 0 ∷ 1 ∷ [])) ∷ (7, after 64 (field 3 [])) ∷ (7, after 64 (field 3 (field 4 [])))
+    (4, 3 ∷ 0 ∷ []) ∷ (4, 3 ∷ 0 ∷ 1 ∷ [])
     -- the start's header, tag, length, fixed length of 4; it comes before the handlers
     ∷ (4, field 3 []) ∷ (4, field 3 (4 ∷ 0 ∷ [])) ∷ (4, field 3 (5 ∷ 0 ∷ [])) ∷ (5, field 3 (field 5 [])) ∷ (5, field 3 (5 ∷ 0 ∷ 9 ∷ []))
     ∷ (4, field 3 (4 ∷ 0 ∷ 4 ∷ 0 ∷ [])) ∷ (6, field 3 (field 4 [])) ∷ (6, field 3 (field 4 (0 ∷ 0 ∷ 0 ∷ []))) ∷ (6, field 3 (field 4 (0 ∷ 0 ∷ 0 ∷ 0 ∷ 0 ∷ [])))
@@ -159,16 +157,6 @@ rowCases =
     ∷ (5, field 6 (2 ∷ field 5 [])) ∷ (6, field 6 (2 ∷ field 4 [])) ∷ (10, events 1 (rowed 2 (first ++ first))) ∷ (0, rowed 2 []) ∷ (0, rowed 16 [])
     ∷ []
 
--- "counted toward the 64; past the first cell, 7 is checked after the count": after the length 7 for the first cell,
--- the count, 7 for a later cell, and then as an active
-abbrev crowdedCases : List Case
-crowdedCases =
-    (4, after 64 (6 ∷ 0 ∷ 1 ∷ [])) ∷ (7, after 64 (field 6 [])) ∷ (6, after 63 (field 6 [])) ∷ (8, after 63 (field 6 (17 ∷ []))) ∷ (7, after 63 (field 6 (2 ∷ [])))
-    ∷ (4, after 62 (field 6 (2 ∷ [])))
-    -- four rows of 16 pass, and nothing after them
-    ∷ (0, rowed 16 [] ++ (rowed 16 [] ++ (rowed 16 [] ++ rowed 16 []))) ∷ (7, rowed 16 [] ++ (rowed 16 [] ++ (rowed 16 [] ++ (rowed 16 [] ++ after 1 []))))
-    ∷ []
-
 -- ---- 08: who may see. "Past a passive's expression only tag 08 begins a field, other bytes being 6, as are all past
 -- an 08."
 
@@ -183,8 +171,30 @@ viewerCases =
     ∷ (0, field 2 (one ++ seen 2)) ∷ (0, handled (seen 0)) ∷ (0, handled (first ++ seen 255)) ∷ (0, rowed 2 (seen 1))
     ∷ []
 
+-- ---- "65th behaviour": after its length, before its contents
+
+-- three rows of 16 and one of c, then s
+abbrev cells48 : ℕ → List ℕ → List ℕ
+cells48 c s = rowed 16 [] ++ (rowed 16 [] ++ (rowed 16 [] ++ (rowed c [] ++ s)))
+
+abbrev crowdedCases : List Case
+crowdedCases =
+    (0, cells48 16 []) ∷ (7, cells48 16 (after 1 [])) ∷ (4, cells48 16 (2 ∷ 0 ∷ 1 ∷ [])) ∷ (7, cells48 16 (field 2 (wrapped 16 one)))
+    ∷ (4, cells48 16 (3 ∷ 0 ∷ 1 ∷ [])) ∷ (7, cells48 16 (field 3 (field 4 []))) ∷ (4, cells48 16 (6 ∷ 0 ∷ 1 ∷ [])) ∷ (7, cells48 16 (field 6 []))
+    -- a row is "counted toward the 64; past the first cell, 7 is checked after the count", and before what follows it
+    ∷ (6, cells48 15 (field 6 [])) ∷ (8, cells48 15 (field 6 (17 ∷ []))) ∷ (7, cells48 15 (field 6 (2 ∷ []))) ∷ (4, cells48 14 (field 6 (2 ∷ [])))
+    ∷ []
+
+-- the same of passives alone
+abbrev manyCases : List Case
+manyCases = (0, after 64 []) ∷ (7, after 65 []) ∷ []
+
 -- ---- each is told its number
 
-pub faults : Told eventCases × Told passiveCases × Told activeCases × Told handlerCases × Told expressionCases × Told nestedCases × Told rowCases × Told crowdedCases × Told viewerCases
+pub faults : Told eventCases × Told passiveCases × Told activeCases × Told handlerCases × Told expressionCases × Told nestedCases × Told rowCases × Told viewerCases
 unfolding readSheet eventsAt behavioursAt handlersAt handles exprAt fieldAt cellCount
-faults = (refl, refl, refl, refl, refl, refl, refl, refl, refl)
+faults = (refl, refl, refl, refl, refl, refl, refl, refl)
+
+pub crowded : Told crowdedCases × Told manyCases
+unfolding readSheet eventsAt behavioursAt handlersAt handles exprAt fieldAt cellCount
+crowded = (refl, refl)
