@@ -1,1 +1,2 @@
 pub mod AllowedLaws
+pub mod Examples
