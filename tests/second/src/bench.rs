@@ -1,226 +1,625 @@
-//! Times of the proved engine against the plain one: same process, same inputs, both built for release, run in turn. Each figure, the ratio too, is the
-//! median of several runs, with the least and the greatest; buffers are warm. And the paper's experiment (003, section 6) in steps.
-use std::time::Instant;
+//! Times of every exported call: the proved engine beside the plain one and, for step, arrive, board and frame, beside the
+//! one written by hand in C. One process, the same inputs, all built for release, buffers warm, the engines run in turn.
+//!
+//! What is printed are lines of words between tabs, for tests/bench/page.py:
+//!   row CALL INPUT OURS PLAIN C RATIO RATIO   times in nanoseconds, then ours by the plain engine's and by C's
+//!   grows CALL WHAT LABELS TIMES              least nanoseconds at x1, x2, x4, x8
+//!   beside SHEET COMPILE AGREE LEAK RATIO RATIO   the two calls beside compile of the same sheet
+//! Each time and each ratio is `least/median/greatest` of the runs, - where there is none; a ratio is of two times taken one
+//! after the other, and ends in `/` and the ratio of the least times.
+use std::hint::black_box;
 
-use crate::engine::{self, Call, Model, Sheet};
-use crate::limits::{active, app, con, event, handler, join, name, passive};
-use crate::make::Rng;
+use crate::byhand;
+use crate::cases::{self, Case, FULL_EVENTS};
+use crate::compare::packed;
+use crate::engine::{self, Answer, Call, Model};
+use crate::formula;
+use crate::limits::{event, join, name};
+use crate::pool;
 use crate::proved::{self, ROUND, TABLE};
+use crate::words;
 
-const RUNS: usize = 15;
+/// A run lasts about so many nanoseconds where the call is shorter.
+const SPAN: f64 = 1.5e6;
+/// Arrivals are numbered, at most 1,000,000 a round.
+const MOST_REPS: f64 = 400_000.0;
+/// Where one run of all engines takes longer than this, in nanoseconds, there are no more runs than these.
+const LONG: f64 = 5e7;
+const LEAST_RUNS: usize = 15;
+/// Of so many runs the least time is taken where the worst of many inputs is looked for.
+const LOOKS: usize = 5;
+/// A round's words for what runs, and two of its queue: all that one step changes of a round whose next is in slot 0.
+const HEAD: usize = 48;
+/// The instructions of a step's rows: the event has 207.
+const STEPS: usize = 200;
+const HOST: u32 = 0;
 
-/// Median, least and greatest.
-#[derive(Clone, Copy)]
-struct Spread {
-    median: f64,
-    least: f64,
-    most: f64,
+/// Makes the same thing so many times over, and answers a sum of what was answered.
+type Runner<'a> = Box<dyn FnMut(usize) -> u64 + 'a>;
+
+fn repeat<'a>(mut one: impl FnMut() -> u64 + 'a) -> Runner<'a> {
+    Box::new(move |reps| (0..reps).fold(0u64, |sum, _| sum.wrapping_add(black_box(one()))))
 }
 
-fn spread(mut all: Vec<f64>) -> Spread {
-    all.sort_by(|a, b| a.partial_cmp(b).unwrap());
-    Spread { median: all[all.len() / 2], least: all[0], most: all[all.len() - 1] }
+extern "C" {
+    fn clock_gettime(clock: i32, time: *mut [i64; 2]) -> i32;
 }
 
-/// Nanoseconds that one of n repetitions takes.
-fn nanos(n: usize, f: &mut dyn FnMut()) -> f64 {
-    let t = Instant::now();
-    f();
-    t.elapsed().as_nanos() as f64 / n as f64
+/// Of this thread's processor time, so that other programs count as little as can be.
+fn now() -> f64 {
+    const THREAD_CPUTIME: i32 = 3;
+    let mut time = [0i64; 2];
+    assert_eq!(unsafe { clock_gettime(THREAD_CPUTIME, &mut time) }, 0);
+    time[0] as f64 * 1e9 + time[1] as f64
 }
 
-/// Both engines in turn, so that a ratio is of two times taken side by side; one run of each before counting.
-fn pair(bars: &mut Vec<(String, Spread)>, what: &str, n: usize, mut ours: impl FnMut(), mut other: impl FnMut()) {
-    ours();
-    other();
-    let runs: Vec<(f64, f64)> = (0..RUNS).map(|_| (nanos(n, &mut ours), nanos(n, &mut other))).collect();
-    let a = spread(runs.iter().map(|r| r.0).collect());
-    let b = spread(runs.iter().map(|r| r.1).collect());
-    let ratio = spread(runs.iter().map(|r| r.0 / r.1).collect());
-    bars.push((what.to_string(), ratio));
-    println!(
-        "| {what} | {:.0} ({:.0} to {:.0}) | {:.0} ({:.0} to {:.0}) | {:.2} ({:.2} to {:.2}) |",
-        a.median, a.least, a.most, b.median, b.least, b.most, ratio.median, ratio.least, ratio.most
-    );
+fn timed(runner: &mut Runner, reps: usize) -> f64 {
+    let t = now();
+    black_box(runner(reps));
+    (now() - t) / reps as f64
 }
 
-fn tree(size: usize, leaf: &dyn Fn(usize) -> Vec<u8>) -> Vec<u8> {
-    match size {
-        1 => leaf(size),
-        2 => app(3, &[leaf(size)]),
-        _ => app(4, &[tree((size - 1) / 2, leaf), tree(size - 1 - (size - 1) / 2, leaf)]),
+fn spread(all: &[f64]) -> [f64; 3] {
+    let mut all = all.to_vec();
+    all.sort_by(f64::total_cmp);
+    [all[0], all[all.len() / 2], all[all.len() - 1]]
+}
+
+fn said(all: &[f64]) -> String {
+    all.iter().map(|x| if *x < 100.0 { format!("{x:.3}") } else { format!("{x:.0}") }).collect::<Vec<_>>().join("/")
+}
+
+struct Bench {
+    runs: usize,
+}
+
+impl Bench {
+    /// All of them in turn, once before counting; the times of each, of one repetition.
+    fn race(&self, runners: &mut [Runner]) -> Vec<Vec<f64>> {
+        let reps: Vec<usize> = runners
+            .iter_mut()
+            .map(|r| {
+                let once = timed(r, 1);
+                let few = timed(r, (SPAN / 20.0 / once).clamp(1.0, 1000.0) as usize);
+                (SPAN / few).clamp(1.0, MOST_REPS) as usize
+            })
+            .collect();
+        let mut all = vec![vec![]; runners.len()];
+        let mut runs = self.runs;
+        while all[0].len() < runs {
+            for (k, runner) in runners.iter_mut().enumerate() {
+                all[k].push(timed(runner, reps[k]));
+            }
+            if all.iter().zip(&reps).map(|(t, n)| t[0] * *n as f64).sum::<f64>() > LONG {
+                runs = runs.min(LEAST_RUNS);
+            }
+        }
+        all
+    }
+
+    /// Ours, the plain one, the one in C; each repetition has so many calls.
+    fn row(&self, call: &str, input: &str, calls: usize, runners: [Option<Runner>; 3]) {
+        let here: Vec<bool> = runners.iter().map(Option::is_some).collect();
+        let mut runners: Vec<Runner> = runners.into_iter().flatten().collect();
+        let answers: Vec<u64> = runners.iter_mut().map(|r| r(1)).collect();
+        assert!(answers.iter().all(|a| *a == answers[0]), "{call}, {input}: {answers:x?}");
+        if self.runs == 0 {
+            return;
+        }
+        let times = self.race(&mut runners);
+        let of = |k: usize| here[k].then(|| &times[here[..k].iter().filter(|h| **h).count()]);
+        let each = |k: usize| {
+            of(k).map_or("-".into(), |t| said(&spread(&t.iter().map(|x| x / calls as f64).collect::<Vec<_>>())))
+        };
+        let ratio = |k: usize| of(k).map_or("-".into(), |t| ratios(&times[0], t));
+        let words = [call.into(), input.into(), each(0), each(1), each(2), ratio(1), ratio(2)];
+        println!("row\t{}", words.join("\t"));
+        eprint!(".");
+    }
+
+    /// The input that takes the longest; how many were tried.
+    fn worst<'a, T>(&self, inputs: &'a [(String, T)], call: impl Fn(&T) -> u64) -> (String, &'a T) {
+        let looks = if self.runs == 0 { 0 } else { LOOKS };
+        let time = |input: &T| {
+            let mut runner = repeat(|| call(input));
+            let reps = (SPAN / 10.0 / timed(&mut runner, 1)).clamp(1.0, 1000.0) as usize;
+            (0..looks).map(|_| timed(&mut runner, reps)).fold(f64::MAX, f64::min)
+        };
+        let at = inputs.iter().map(|(_, input)| time(input)).enumerate().max_by(|a, b| a.1.total_cmp(&b.1)).unwrap().0;
+        (format!("{}, the worst of {} tried", inputs[at].0, inputs.len()), &inputs[at].1)
+    }
+
+    fn grows(&self, call: &str, what: &str, cases: Vec<(String, Runner)>) {
+        let (labels, mut runners): (Vec<String>, Vec<Runner>) = cases.into_iter().unzip();
+        let least: Vec<f64> = self.race(&mut runners).iter().map(|t| spread(t)[0]).collect();
+        println!("grows\t{call}\t{what}\t{}\t{}", labels.join("/"), said(&least));
+        eprint!(".");
     }
 }
 
-fn ready(sheet: &[u8]) -> (Vec<u8>, Sheet) {
-    let mut table = vec![0u8; TABLE];
+/// Ours by another's: least, median and greatest of two times side by side, and of the least times.
+fn ratios(ours: &[f64], other: &[f64]) -> String {
+    let all: Vec<f64> = ours.iter().zip(other).map(|(a, b)| a / b).collect();
+    let least = spread(ours)[0] / spread(other)[0];
+    said(&[&spread(&all)[..], &[least]].concat())
+}
+
+// ---- rounds on the engines
+
+/// A round after some calls, as bytes and in the plain engine.
+#[derive(Clone)]
+struct Set {
+    table: Vec<u8>,
+    round: Vec<u8>,
+    model: Model,
+}
+
+fn set(sheet: &[u8], calls: &[Call]) -> Set {
+    let (mut table, mut round) = (vec![0u8; TABLE], vec![0u8; ROUND]);
     assert_eq!(proved::compile(sheet, &[], &mut table), 0);
-    (table, engine::compile(sheet, &[]).unwrap())
-}
-
-/// Steps with so many waiting: all of one rank, so the running one goes on.
-fn steps(bars: &mut Vec<(String, Spread)>, waiting: usize) {
-    let s = join(&[event(1), active(0, &[handler(0, 0, &tree(200, &|_| name(0)))])]);
-    let (table, sheet) = ready(&s);
-    let n = 200;
-    let fill = |m: &mut dyn FnMut(Call)| {
-        for _ in 0..=waiting {
-            m(Call::Arrive(0, 0));
-        }
-        m(Call::Step);
-    };
-    let mut round = vec![0u8; ROUND];
     proved::start(&table, &mut round);
-    fill(&mut |c| {
-        crate::compare::call(&table, &mut round, c);
-    });
-    let fresh = round.clone();
-    let ours = || {
-        for _ in 0..100 {
-            round.copy_from_slice(&fresh);
-            for _ in 0..n {
-                std::hint::black_box(proved::step(&table, &mut round));
-            }
-        }
-    };
-    let mut m = Model::new(sheet);
-    fill(&mut |c| {
-        m.call(c);
-    });
-    let (waiting_, running) = (m.waiting.clone(), m.running);
-    let other = || {
-        for _ in 0..100 {
-            m.waiting = waiting_.clone();
-            m.running = running;
-            m.stack.clear();
-            for _ in 0..n {
-                std::hint::black_box(m.call(Call::Step));
-            }
-        }
-    };
-    pair(bars, &format!("a step, {waiting} waiting"), n * 100, ours, other);
+    let mut model = Model::new(engine::compile(sheet, &[]).unwrap());
+    for c in calls {
+        assert_eq!(crate::compare::call(&table, &mut round, *c), packed(model.call(*c)));
+    }
+    Set { table, round, model }
 }
 
-/// A whole event of so many nodes, from its arrival to its commit.
-fn events(bars: &mut Vec<(String, Spread)>, size: usize) {
-    let s = join(&[event(1), active(0, &[handler(0, 0, &tree(size, &|_| con(1)))])]);
-    let (table, sheet) = ready(&s);
-    let mut round = vec![0u8; ROUND];
-    proved::start(&table, &mut round);
-    let ours = || {
-        for _ in 0..200 {
-            proved::arrive(&table, &mut round, 0, 0);
-            while proved::step(&table, &mut round) % 256 != 3 {}
-        }
-    };
-    let mut m = Model::new(sheet);
-    let other = || {
-        for _ in 0..200 {
-            m.call(Call::Arrive(0, 0));
-            while !matches!(m.call(Call::Step), engine::Answer::Committed(..)) {}
-        }
-    };
-    pair(bars, &format!("an event of {size} nodes"), 200, ours, other);
+fn arrivals(n: usize, event: u32) -> Vec<Call> {
+    vec![Call::Arrive(event, HOST); n]
 }
 
-fn compiles(bars: &mut Vec<(String, Spread)>, what: &str, s: &[u8], n: usize) {
+impl Set {
+    /// On the round's bytes, of which so many are put back before each call.
+    fn bytes<'a>(&'a self, back: usize, call: impl Fn(&[u8], &mut [u8]) -> u64 + 'a) -> Runner<'a> {
+        let mut round = self.round.clone();
+        repeat(move || {
+            round[..back].copy_from_slice(&self.round[..back]);
+            call(&self.table, &mut round)
+        })
+    }
+
+    /// The same on the plain engine.
+    fn plain<'a>(&'a self, call: impl Fn(&mut Model) -> u64 + 'a) -> Runner<'a> {
+        let mut m = self.model.clone();
+        repeat(move || {
+            m.waiting.clone_from(&self.model.waiting);
+            m.stack.clone_from(&self.model.stack);
+            (m.running, m.taken, m.mark) = (self.model.running, self.model.taken, self.model.mark);
+            call(&mut m)
+        })
+    }
+
+    fn three<'a>(
+        &'a self,
+        back: usize,
+        ours: impl Fn(&[u8], &mut [u8]) -> u64 + 'a,
+        plain: impl Fn(&mut Model) -> u64 + 'a,
+        byhand: impl Fn(&[u8], &mut [u8]) -> u64 + 'a,
+    ) -> [Option<Runner<'a>>; 3] {
+        [Some(self.bytes(back, ours)), Some(self.plain(plain)), Some(self.bytes(back, byhand))]
+    }
+
+    fn step_row(&self, bench: &Bench, input: &str) {
+        let plain = |m: &mut Model| packed(m.call(Call::Step));
+        bench.row("step", input, 1, self.three(HEAD, proved::step, plain, byhand::step));
+    }
+
+    fn arrive_row(&self, bench: &Bench, input: &str) {
+        let ours = |t: &[u8], l: &mut [u8]| proved::arrive(t, l, 0, HOST) as u64;
+        let hand = |t: &[u8], l: &mut [u8]| byhand::arrive(t, l, 0, HOST) as u64;
+        let plain = |m: &mut Model| packed(m.call(Call::Arrive(0, HOST)));
+        bench.row("arrive", input, 1, self.three(8, ours, plain, hand));
+    }
+
+    fn board_row(&self, bench: &Bench, input: &str) {
+        let ours = |t: &[u8], l: &mut [u8]| proved::board(t, l, 0, 1);
+        let hand = |t: &[u8], l: &mut [u8]| byhand::board(t, l, 0, 1);
+        let plain = |m: &mut Model| packed(m.call(Call::Board(0, 1)));
+        bench.row("board", input, 1, self.three(0, ours, plain, hand));
+    }
+
+    fn forecast_row(&self, bench: &Bench, input: &str) {
+        let ours = |t: &[u8], l: &mut [u8]| proved::forecast(t, l);
+        let plain = |m: &mut Model| (1 << 32) + m.forecast() as u64;
+        bench.row("forecast", input, 1, [Some(self.bytes(0, ours)), Some(self.plain(plain)), None]);
+    }
+
+    fn preview_row(&self, bench: &Bench, input: &str) {
+        let ours = |t: &[u8], l: &mut [u8]| proved::preview(t, l, 0, 0, HOST);
+        let plain = |m: &mut Model| packed(m.preview(0, 0, HOST));
+        bench.row("preview", input, 1, [Some(self.bytes(0, ours)), Some(self.plain(plain)), None]);
+    }
+
+    fn mend_row(&self, bench: &Bench, input: &str) {
+        let ours = |t: &[u8], l: &mut [u8]| proved::mend(t, t, l) as u64;
+        let plain = |t: &[u8], l: &mut [u8]| words::mend(t, t, l) as u64;
+        bench.row("mend", input, 1, [Some(self.bytes(0, ours)), Some(self.bytes(0, plain)), None]);
+    }
+
+    fn start_row(&self, bench: &Bench, input: &str) {
+        let ours = |t: &[u8], l: &mut [u8]| proved::start(t, l) as u64;
+        let plain = |t: &[u8], l: &mut [u8]| words::start(t, l) as u64;
+        bench.row("start", input, 1, [Some(self.bytes(0, ours)), Some(self.bytes(0, plain)), None]);
+    }
+
+    fn count_rows(&self, bench: &Bench, input: &str) {
+        let calls: [(&str, fn(&[u8]) -> u64); 3] = [
+            ("event_count", proved::event_count),
+            ("behaviour_count", proved::behaviour_count),
+            ("event_rank", |t| proved::event_rank(t, 0)),
+        ];
+        for (k, (call, ours)) in calls.into_iter().enumerate() {
+            let plain = move |t: &[u8], _: &mut [u8]| words::counts(t, 0)[k];
+            let ours = self.bytes(0, move |t: &[u8], _: &mut [u8]| ours(t));
+            bench.row(call, input, 1, [Some(ours), Some(self.bytes(0, plain)), None]);
+        }
+    }
+}
+
+// ---- steps and frames
+
+fn steps_of(one: impl Fn(&[u8], &mut [u8]) -> u64) -> impl Fn(&[u8], &mut [u8]) -> u64 {
+    move |t, l| (0..STEPS).fold(0, |sum, _| sum + one(t, l))
+}
+
+/// One event of 200 nodes runs, and so many wait.
+fn long_event(declared: usize, waiting: usize) -> Set {
+    let calls = [arrivals(waiting + 1, 0), vec![Call::Step]].concat();
+    set(&cases::one_event(declared, STEPS, &name(0)), &calls)
+}
+
+/// Single steps, and as many in one frame beside the single steps of the engine in C.
+fn step_rows(bench: &Bench) {
+    for (declared, waiting, input) in [
+        (1, 0, "an instruction, none waits"),
+        (1, 8, "an instruction, 8 wait"),
+        (1, 32, "an instruction, 32 wait"),
+        (1, 62, "an instruction, 62 wait"),
+        (32, 0, "an instruction, none waits, 32 events"),
+        (32, 63, "an instruction, 63 wait, 32 events"),
+    ] {
+        let s = long_event(declared, waiting);
+        let plain = |m: &mut Model| (0..STEPS).fold(0, |sum, _| sum + packed(m.call(Call::Step)));
+        let one = s.three(ROUND, steps_of(proved::step), plain, steps_of(byhand::step));
+        bench.row("step", input, STEPS, one);
+        let ours = |t: &[u8], l: &mut [u8]| {
+            let mut commits = [0u8; 8];
+            let answer = proved::frame(t, l, STEPS as u32, &mut commits);
+            assert_eq!(answer as u32, STEPS as u32);
+            answer as u32 as u64
+        };
+        let plain = |m: &mut Model| m.frame(STEPS as u32, 1).0 as u64;
+        let input = input.replace("an instruction", "200 instructions");
+        bench.row("frame", &format!("{input}, a step"), STEPS, s.three(ROUND, ours, plain, steps_of(byhand::step)));
+    }
+    set(&cases::game(), &[]).step_row(bench, "idle");
+    let none = join(&vec![event(1); FULL_EVENTS]);
+    set(&none, &arrivals(64, 0)).step_row(bench, "a start out of 64, 32 events");
+    let commit = [arrivals(64, 0), vec![Call::Step; 4]].concat();
+    set(&none, &commit).step_row(bench, "a commit, 63 wait, 32 events");
+    let ranked = join(&[event(1), join(&vec![event(2); FULL_EVENTS - 1])]);
+    let meet = [arrivals(1, 0), vec![Call::Step], arrivals(1, 1), arrivals(62, 0)].concat();
+    set(&ranked, &meet).step_row(bench, "a break-in, 63 wait, 32 events");
+}
+
+/// A whole event of so many nodes, from its arrival to its commit: stepped, and run by frames.
+fn event_rows(bench: &Bench, size: usize) {
+    let s = set(&cases::one_event(1, size, &crate::limits::con(1)), &[]);
+    let stepped = |arrive: fn(&[u8], &mut [u8], u32, u32) -> u32, step: fn(&[u8], &mut [u8]) -> u64| {
+        s.bytes(8, move |t: &[u8], l: &mut [u8]| {
+            arrive(t, l, 0, HOST);
+            loop {
+                let answer = step(t, l);
+                if answer % 16 == 3 {
+                    return answer;
+                }
+            }
+        })
+    };
+    let framed = || {
+        s.bytes(8, |t: &[u8], l: &mut [u8]| {
+            let mut commits = [0u8; 8];
+            proved::arrive(t, l, 0, HOST);
+            proved::frame(t, l, 1000, &mut commits);
+            u64::from_be_bytes(commits)
+        })
+    };
+    let plain_steps = || {
+        s.plain(|m: &mut Model| {
+            m.call(Call::Arrive(0, HOST));
+            loop {
+                if let a @ Answer::Committed(..) = m.call(Call::Step) {
+                    return packed(a);
+                }
+            }
+        })
+    };
+    let plain_frame = s.plain(|m: &mut Model| {
+        m.call(Call::Arrive(0, HOST));
+        packed(m.frame(1000, 1).1[0])
+    });
+    let by_hand = || stepped(byhand::arrive, byhand::step);
+    let ours = stepped(proved::arrive, proved::step);
+    bench.row("event", &format!("of {size} nodes, stepped"), 1, [Some(ours), Some(plain_steps()), Some(by_hand())]);
+    bench.row("event", &format!("of {size} nodes, by frame"), 1, [Some(framed()), Some(plain_frame), Some(by_hand())]);
+}
+
+fn frame_rows(bench: &Bench) {
+    let frame = |t: &[u8], l: &mut [u8]| proved::frame(t, l, 400, &mut [0u8; 8 * 64]) as u32 as u64;
+    let plain = |m: &mut Model| m.frame(400, 64).0 as u64;
+    let by_hand = |t: &[u8], l: &mut [u8]| (0..400).take_while(|_| byhand::step(t, l) != 0).count() as u64;
+    let none = set(&join(&vec![event(1); FULL_EVENTS]), &arrivals(64, 0));
+    bench.row("frame", "64 events of 4 instructions, 32 declared, a step", 320, none.three(ROUND, frame, plain, by_hand));
+    let game = set(&cases::game(), &[arrivals(1, 0), arrivals(1, 1), arrivals(1, 2)].concat());
+    let made = game.model.forecast();
+    bench.row("frame", "3 events of a game, a step", made, game.three(ROUND, frame, plain, by_hand));
+}
+
+fn round_rows(bench: &Bench) {
+    let game = |n: usize| set(&cases::game(), &arrivals(n, 0));
+    let wide = |n: usize| set(&cases::one_event(FULL_EVENTS, STEPS, &name(0)), &arrivals(n, 0));
+    game(3).arrive_row(bench, "a game, 3 in hand");
+    long_event(1, 0).arrive_row(bench, "one event, which runs");
+    wide(63).arrive_row(bench, "63 wait, 32 events");
+    game(3).board_row(bench, "a game, 3 wait");
+    long_event(1, 0).board_row(bench, "one event, which runs");
+    set(&cases::one_event(1, STEPS, &name(0)), &arrivals(63, 0)).board_row(bench, "one event, 63 wait");
+    long_event(FULL_EVENTS, 63).board_row(bench, "one runs and 63 wait, 32 events");
+    game(3).forecast_row(bench, "a game, 3 in hand");
+    wide(64).forecast_row(bench, "64 wait, 32 events");
+    long_event(FULL_EVENTS, 63).forecast_row(bench, "one runs and 63 wait, 32 events");
+    game(3).preview_row(bench, "a game, 3 in hand");
+    game(63).preview_row(bench, "a game, 63 in hand");
+    for (function, what) in [(4, "sums"), (7, "quotients")] {
+        let s = set(&cases::longest(function), &arrivals(63, 0));
+        s.preview_row(bench, &format!("63 in hand, an event of {} instructions, {what}", s.model.code[0].len()));
+    }
+    game(3).mend_row(bench, "a game for itself, 3 in hand");
+    set(&cases::longest(4), &arrivals(64, 0)).mend_row(bench, "32 passives of 61 nodes, sums, 64 in hand");
+    set(&cases::longest(7), &arrivals(64, 0)).mend_row(bench, "32 passives of 61 nodes, quotients, 64 in hand");
+    game(0).start_row(bench, "a game");
+    wide(0).start_row(bench, "32 events");
+    game(0).count_rows(bench, "a game");
+    wide(0).count_rows(bench, "32 events");
+    let mut answer = 1u64 << 56 | 3;
+    bench.row("told", "a commit's answer", 1, [Some(repeat(|| proved::told(black_box(answer)))), None, None]);
+    answer += 1;
+    bench.row("version", "nothing is lent", 1, [Some(repeat(move || proved::version() as u64 + answer)), None, None]);
+}
+
+/// A record: of each hundred calls an arrival and a board reading, the others steps.
+fn record(n: usize) -> Vec<Call> {
+    let call = |k: usize| match k % 100 {
+        0 => Call::Arrive((k / 100 % 4) as u32, HOST),
+        50 => Call::Board((k / 100 % 6) as u32, HOST),
+        _ => Call::Step,
+    };
+    (0..n).map(call).collect()
+}
+
+fn recorded(calls: &[Call]) -> Vec<u8> {
+    let one = |c: &Call| match *c {
+        Call::Arrive(e, who) => [&[0][..], &e.to_be_bytes(), &[who as u8]].concat(),
+        Call::Step => vec![1, 0, 0, 0, 0, 0],
+        Call::Board(i, who) => [&[2][..], &i.to_be_bytes(), &[who as u8]].concat(),
+    };
+    calls.iter().flat_map(one).collect()
+}
+
+fn replay<'a>(s: &'a Set, calls: &[Call]) -> Runner<'a> {
+    let (bytes, mut answers) = (recorded(calls), vec![0u8; 8 * calls.len()]);
+    let mut round = s.round.clone();
+    repeat(move || {
+        round.copy_from_slice(&s.round);
+        let made = proved::replay(&s.table, &mut round, &bytes, &mut answers);
+        answers.chunks_exact(8).take(made).fold(0, |sum: u64, a| sum.wrapping_add(u64::from_be_bytes(a.try_into().unwrap())))
+    })
+}
+
+fn replay_rows(bench: &Bench) {
+    let row = |s: &Set, calls: &[Call], input: &str| {
+        let plain = s.plain(|m: &mut Model| calls.iter().fold(0, |sum: u64, c| sum.wrapping_add(packed(m.call(*c)))));
+        bench.row("replay", input, calls.len(), [Some(replay(s, calls)), Some(plain), None]);
+    };
+    row(&set(&cases::game(), &[]), &record(1000), "1,000 calls on a game, a call");
+    row(&long_event(FULL_EVENTS, 63), &[Call::Step; STEPS], "200 steps, 63 wait, 32 events, a call");
+}
+
+// ---- sheets and texts
+
+fn compiled(s: &[u8], table: &mut [u8]) -> u64 {
+    proved::compile(s, &[0; 32], table) as u64
+}
+
+fn compile<'a>(s: &'a [u8]) -> Runner<'a> {
     let mut table = vec![0u8; TABLE];
-    let ours = || {
-        for _ in 0..n {
-            std::hint::black_box(proved::compile(s, &[], &mut table));
-        }
+    repeat(move || compiled(s, &mut table))
+}
+
+fn circle<'a>(s: &'a [u8]) -> Runner<'a> {
+    let mut list = [0u8; 64];
+    repeat(move || {
+        let answer = proved::circle(s, &[0; 32], &mut list);
+        answer & 255 | answer >> 16 << 16
+    })
+}
+
+fn agree<'a>(s: &'a [u8]) -> Runner<'a> {
+    repeat(move || proved::agree(s, &[0; 32]))
+}
+
+fn leak<'a>(s: &'a [u8]) -> Runner<'a> {
+    repeat(move || proved::leak(s, &[0; 32], 1))
+}
+
+fn text<'a>(s: &'a [u8]) -> Runner<'a> {
+    let mut field = vec![0u8; 7168];
+    repeat(move || proved::formula(s, &mut field))
+}
+
+fn joined<'a>([a, b]: &'a [Vec<u8>; 2]) -> Runner<'a> {
+    let mut buffer = vec![0u8; 8192];
+    repeat(move || proved::join(a, b, &[0; 32], &mut buffer))
+}
+
+/// What the plain engine answers, and the number where it turns the sheet down.
+fn plain_sheet<'a>(s: &'a [u8], then: impl Fn(engine::Sheet) -> u64 + 'a) -> Runner<'a> {
+    repeat(move || engine::compile(s, &[0; 32]).map_or_else(|n| n as u64, &then))
+}
+
+fn sheet_rows(bench: &Bench) {
+    let families = cases::families();
+    let find = |of: fn(&[u8]) -> Runner| bench.worst(&families, |s| of(s)(1));
+    let typical = || ("a game of 6 behaviours".to_string(), cases::game());
+    for (input, s) in [typical(), named(find(compile))] {
+        let plain = plain_sheet(&s, |sheet| {
+            black_box(Model::new(sheet));
+            0
+        });
+        bench.row("compile", &of_bytes(&input, &s), 1, [Some(compile(&s)), Some(plain), None]);
+    }
+    for (input, s) in [typical(), named(find(agree))] {
+        let packed = |c: (usize, usize, usize)| 29 + ((c.0 as u64) << 8) + ((c.1 as u64) << 16) + ((c.2 as u64) << 24);
+        let plain = plain_sheet(&s, move |sheet| sheet.clash().map_or(0, packed));
+        bench.row("agree", &of_bytes(&input, &s), 1, [Some(agree(&s)), Some(plain), None]);
+    }
+    for (input, s) in [typical(), named(find(leak))] {
+        let packed = |c: (usize, usize)| 30 + ((c.0 as u64) << 8) + ((c.1 as u64) << 16);
+        let plain = plain_sheet(&s, move |sheet| sheet.leak(1).map_or(0, packed));
+        bench.row("leak", &of_bytes(&input, &s), 1, [Some(leak(&s)), Some(plain), None]);
+    }
+    let rings = cases::circles();
+    for (input, s) in [typical(), rings[0].clone(), named(bench.worst(&rings, |s| circle(s)(1)))] {
+        let of = |s: &[u8]| engine::read(s).unwrap().shortest().unwrap() as u64;
+        let plain = repeat(|| match engine::compile(&s, &[0; 32]) {
+            Ok(_) => 0,
+            Err(12) => 12 + (of(&s) << 16),
+            Err(n) => n as u64,
+        });
+        bench.row("circle", &of_bytes(&input, &s), 1, [Some(circle(&s)), Some(plain), None]);
+    }
+    let pairs = cases::pairs();
+    let (worst, pair) = bench.worst(&pairs, |p| joined(p)(1));
+    for (input, p) in [(pairs[0].0.clone(), &pairs[0].1), (worst, pair)] {
+        let plain = || pool::pooled(&p[0], &p[1], &[0; 32], 8192).map_or_else(|n| n as u64, |v| (1 << 32) + v.len() as u64);
+        bench.row("join", &input, 1, [Some(joined(p)), Some(repeat(plain)), None]);
+    }
+    let texts = cases::texts();
+    for (input, t) in [texts[0].clone(), named(bench.worst(&texts, |t| text(t)(1)))] {
+        let plain = || formula::plain(&t, 7168).map_or_else(|n| n, |v| (1 << 32) + v.len() as u64);
+        bench.row("formula", &of_bytes(&input, &t), 1, [Some(text(&t)), Some(repeat(plain)), None]);
+    }
+}
+
+fn named((input, bytes): (String, &Vec<u8>)) -> Case {
+    (input, bytes.clone())
+}
+
+fn of_bytes(input: &str, bytes: &[u8]) -> String {
+    format!("{input} ({} bytes)", bytes.len())
+}
+
+/// agree and leak beside compile, on every sheet of the families.
+fn beside(bench: &Bench) {
+    for (input, s) in cases::families() {
+        let times = bench.race(&mut [compile(&s), agree(&s), leak(&s)]);
+        let each: Vec<String> = times.iter().map(|t| said(&spread(t))).collect();
+        let ratio = [ratios(&times[1], &times[0]), ratios(&times[2], &times[0])];
+        println!("beside\t{}\t{}\t{}", of_bytes(&input, &s), each.join("\t"), ratio.join("\t"));
+        eprint!(".");
+    }
+}
+
+// ---- growth
+
+fn growth(bench: &Bench) {
+    let eight = [8, 16, 32, 64];
+    let grow = |call: &str, what: &str, sheet: &dyn Fn(usize) -> Vec<u8>, of: fn(&[u8]) -> Runner, sizes: [usize; 4]| {
+        let sheets: Vec<Vec<u8>> = sizes.iter().map(|n| sheet(*n)).collect();
+        let cases = sizes.iter().zip(&sheets).map(|(n, s)| (n.to_string(), of(s))).collect();
+        bench.grows(call, what, cases);
     };
-    let other = || {
-        for _ in 0..n {
-            let sheet = engine::compile(s, &[]).unwrap();
-            std::hint::black_box(Model::new(sheet));
-        }
+    let actives = |n: usize| cases::chained_actives(12, n);
+    grow("compile", "behaviours: actives in a backward chain, 12 events", &actives, compile, eight);
+    grow("compile", "behaviours: passives in a backward chain, 1 event", &|n| cases::chain(n, true), compile, eight);
+    grow("compile", "events, 64 actives in a backward chain", &|n| cases::chained_actives(n, 64), compile, [1, 3, 6, 12]);
+    grow("compile", "bytes of passives", &cases::bytes_of, compile, [1024, 2048, 4096, 8192]);
+    grow("agree", "behaviours: actives in a backward chain, 12 events", &actives, agree, eight);
+    grow("agree", "bytes of passives", &cases::bytes_of, agree, [1024, 2048, 4096, 8192]);
+    grow("leak", "behaviours: actives in a backward chain, 12 events", &actives, leak, eight);
+    grow("leak", "bytes of passives", &cases::bytes_of, leak, [1024, 2048, 4096, 8192]);
+    grow("circle", "behaviours: a ring under 32 events", &|n| cases::ring(32, n), circle, eight);
+    grow("circle", "events, a ring of 64", &|n| cases::ring(n, 64), circle, [4, 8, 16, 32]);
+    grow("formula", "names, a sum in brackets", &cases::sum_of, text, [16, 32, 64, 128]);
+    let pairs: Vec<[Vec<u8>; 2]> = [512, 1024, 2048, 4096].map(|n| [cases::bytes_of(n), cases::bytes_of(n)]).into();
+    let of = pairs.iter().map(|p| (p[0].len().to_string(), joined(p))).collect();
+    bench.grows("join", "bytes of each sheet", of);
+    rounds_growth(bench);
+}
+
+fn rounds_growth(bench: &Bench) {
+    let hands = [8, 16, 32, 64];
+    let sets = |make: &dyn Fn(usize) -> Set, sizes: [usize; 4]| sizes.map(|n| (n.to_string(), make(n)));
+    let full = sets(&|n| set(&cases::game(), &arrivals(n - 1, 0)), hands);
+    let grow = |call: &str, what: &str, sets: &[(String, Set); 4], back: usize, of: &dyn Fn(&[u8], &mut [u8]) -> u64| {
+        bench.grows(call, what, sets.iter().map(|(n, s)| (n.clone(), s.bytes(back, of))).collect());
     };
-    pair(bars, &format!("compile, {what} ({} bytes)", s.len()), n, ours, other);
+    grow("preview", "in hand, a game", &full, 0, &|t, l| proved::preview(t, l, 0, 0, HOST));
+    grow("forecast", "in hand, a game", &full, 0, &|t, l| proved::forecast(t, l));
+    grow("board", "in hand, a game", &full, 0, &|t, l| proved::board(t, l, 0, HOST));
+    grow("arrive", "in hand, a game", &full, 8, &|t, l| proved::arrive(t, l, 0, HOST) as u64);
+    let runs = sets(&|n| long_event(1, n - 1), hands);
+    grow("step", "in hand, 200 instructions", &runs, ROUND, &steps_of(proved::step));
+    let frame = |t: &[u8], l: &mut [u8]| proved::frame(t, l, STEPS as u32, &mut [0u8; 8]);
+    grow("frame", "in hand, 200 instructions", &runs, ROUND, &frame);
+    let wide = sets(&|n| long_event(n, 0), [4, 8, 16, 32]);
+    grow("step", "events declared, 200 instructions", &wide, ROUND, &steps_of(proved::step));
+    let long = set(&cases::longest(4), &[arrivals(2, 0), vec![Call::Step]].concat());
+    let steps = [500, 1000, 2000, 4000];
+    let one = |n: u32| long.bytes(ROUND, move |t: &[u8], l: &mut [u8]| proved::frame(t, l, n, &mut [0u8; 8]));
+    bench.grows("frame", "steps", steps.iter().map(|n| (n.to_string(), one(*n))).collect());
+    let nodes = |n: usize| set(&cases::one_event(1, n, &crate::limits::con(1)), &arrivals(1, 0));
+    let events = sets(&nodes, [40, 80, 160, 320]);
+    grow("preview", "nodes of the one event in hand", &events, 0, &|t, l| proved::preview(t, l, 0, 0, HOST));
+    let game = set(&cases::game(), &[]);
+    let of = [250, 500, 1000, 2000].iter().map(|n| (n.to_string(), replay(&game, &record(*n)))).collect();
+    bench.grows("replay", "calls, on a game", of);
+    let passives = |n: usize| {
+        let s = join(&[event(1), crate::limits::active(1, &[]), crate::limits::passive(&cases::tree(61, 4, &name(0))).repeat(n)]);
+        set(&s, &arrivals(1, 0))
+    };
+    let mended = sets(&passives, [4, 8, 16, 32]);
+    grow("mend", "passives of 61 nodes", &mended, 0, &|t, l| proved::mend(t, t, l) as u64);
 }
 
-/// The ratios as bars, with the least and the greatest as a line across; the upright line is 1, as fast as the plain engine.
-fn plot(bars: &[(String, Spread)], file: &str) {
-    let most = bars.iter().map(|b| b.1.most).fold(1.0, f64::max);
-    let scale = 300.0 / most;
-    let mut svg = format!("<svg xmlns=\"http://www.w3.org/2000/svg\" width=\"700\" height=\"{}\" font-family=\"sans-serif\" font-size=\"12\">\n", 30 + 20 * bars.len());
-    svg += "<rect width=\"100%\" height=\"100%\" fill=\"white\"/>\n<text x=\"10\" y=\"16\">time of the proved engine / time of the plain one</text>\n";
-    for (k, (what, ratio)) in bars.iter().enumerate() {
-        let y = 26 + 20 * k;
-        let at = |r: f64| 330.0 + r * scale;
-        svg += &format!("<text x=\"10\" y=\"{}\">{what}</text><rect x=\"330\" y=\"{y}\" width=\"{:.0}\" height=\"14\" fill=\"#4878a8\"/>", y + 11, ratio.median * scale);
-        svg += &format!("<line x1=\"{:.0}\" y1=\"{2}\" x2=\"{:.0}\" y2=\"{2}\" stroke=\"#c04040\" stroke-width=\"2\"/>", at(ratio.least), at(ratio.most), y + 7);
-        svg += &format!("<text x=\"{:.0}\" y=\"{}\">{:.2}</text>\n", at(ratio.most) + 5.0, y + 11, ratio.median);
-    }
-    svg += &format!("<line x1=\"{0:.0}\" y1=\"22\" x2=\"{0:.0}\" y2=\"{1}\" stroke=\"black\"/>\n</svg>\n", 330.0 + scale, 26 + 20 * bars.len());
-    std::fs::write(file, svg).expect("the plot");
-}
-
-/// The longest wait, in steps, from arrival to commit of each event, with the given ranks.
-fn waits(ranks: [u8; 3], ticks: u64) -> [u64; 3] {
-    // Reset is short, H longer, L longest, as in the paper; each arrives every 130 to 150 ticks, and a step is a tick
-    let body = |size: usize| tree(size, &|_| con(1));
-    let s = join(&[
-        event(ranks[0]),
-        event(ranks[1]),
-        event(ranks[2]),
-        active(0, &[handler(0, 0, &body(3))]),
-        active(0, &[handler(1, 0, &body(12))]),
-        active(0, &[handler(2, 0, &body(30))]),
-    ]);
-    let (table, _) = ready(&s);
-    let mut round = vec![0u8; ROUND];
-    proved::start(&table, &mut round);
-    let r = &mut Rng::new(6);
-    let mut next = [0u64, 40, 80];
-    let mut born = Vec::new();
-    let mut longest = [0u64; 3];
-    for now in 0..ticks {
-        for e in 0..3 {
-            if next[e] == now && proved::arrive(&table, &mut round, e as u32, 0) == 0 {
-                born.push(now);
-                next[e] = now + 130 + r.below(21) as u64;
-            }
-        }
-        let a = proved::step(&table, &mut round);
-        if a % 256 == 3 {
-            let e = (a / 256 % 256) as usize;
-            longest[e] = longest[e].max(now + 1 - born[(a / 65536 % (1 << 40)) as usize]);
-        }
-    }
-    longest
-}
-
-fn chain(n: usize, up: bool) -> Vec<u8> {
-    let mut parts = vec![event(1)];
-    for i in 0..n {
-        let to = if up { i + 1 } else { i.wrapping_sub(1) };
-        parts.push(passive(&if to < n { app(4, &[name(to as u8), con(1)]) } else { con(1) }));
-    }
-    join(&parts)
-}
-
-pub fn run(file: Option<&String>) {
-    let bars = &mut Vec::new();
-    println!("| what | ours, ns | plain engine, ns | ratio |\n|---|---|---|---|");
-    for waiting in [0, 8, 32, 62] {
-        steps(bars, waiting);
-    }
+/// Everything; with no runs it only shows that the engines answer alike on every row.
+pub fn run(runs: usize) {
+    let bench = &Bench { runs };
+    println!("runs\t{runs}");
+    step_rows(bench);
     for size in [3, 30, 300] {
-        events(bars, size);
+        event_rows(bench, size);
     }
-    compiles(bars, "S", &crate::desk::sheet_s(), 500);
-    compiles(bars, "64 passives in a chain", &chain(64, false), 20);
-    compiles(bars, "64 passives in a chain, backwards", &chain(64, true), 20);
-    let wide = join(&[join(&vec![event(1); 32]), join(&(0..12).map(|i| active(0, &[handler(i, 0, &tree(60, &|_| name(i)))])).collect::<Vec<_>>())]);
-    compiles(bars, "32 events, 12 actives", &wide, 20);
-    if let Some(file) = file {
-        plot(bars, file);
+    frame_rows(bench);
+    round_rows(bench);
+    replay_rows(bench);
+    sheet_rows(bench);
+    if runs > 0 {
+        beside(bench);
+        growth(bench);
+        eprintln!();
     }
-    let with = waits([15, 1, 0], 50_000);
-    let without = waits([0, 0, 0], 50_000);
-    println!("\n| event | rank | longest wait, steps | without ranks | ratio | the paper's |\n|---|---|---|---|---|---|");
-    for (e, (what, rank, paper)) in [("Reset", 15, "1.47"), ("H", 1, "1.08"), ("L", 0, "0.56")].iter().enumerate() {
-        println!("| {what} | {rank} | {} | {} | {:.2} | {paper} |", with[e], without[e], without[e] as f64 / with[e] as f64);
+}
+
+/// The sheets that are measured with an old archive too.
+pub fn sheets(folder: &str) {
+    for (file, bytes) in [
+        ("game", cases::game()),
+        ("longest", cases::longest(4)),
+        ("backward", cases::backward_twelve()),
+        ("ring", cases::ring(32, 64)),
+    ] {
+        std::fs::write(format!("{folder}/{file}"), bytes).expect("a folder for sheets");
     }
 }

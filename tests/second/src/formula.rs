@@ -127,7 +127,7 @@ impl Reader<'_> {
 }
 
 /// The field, or the refusal's number, for a buffer of so many bytes.
-fn plain(text: &[u8], room: usize) -> Result<Vec<u8>, u64> {
+pub fn plain(text: &[u8], room: usize) -> Result<Vec<u8>, u64> {
     if text.len() > TEXT {
         return Err(21);
     }

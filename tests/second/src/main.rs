@@ -2,7 +2,9 @@
 //!
 //! second compare FIRST COUNT   sheets, tables, answers, rounds, damaged bytes, starts, replays, changes of sheets, formulas and joins on COUNT seeds from FIRST on
 //! second limits                every refusal of compile, and both sides of each limit
-//! second bench [FILE.svg]      times against the plain engine, and the paper's experiment
+//! second bench [RUNS]          times of every call beside the plain engine and the one in C, for tests/bench/run
+//! second sheets FOLDER         sheets that are measured, for tests/bench/old.c
+//! second waits                 the paper's experiment
 //! second desk PROGRAM SEEDS    the desk program on the scope's rounds and traps, torn input and scripts made at random
 //! second page PAGE PROGRAM INPUT   the setter's page against the desk program and its example
 //! second record FILE CALLS     calls with their answers and bytes, for other processors to replay
@@ -11,6 +13,8 @@
 //! second audit PROGRAM FOLDER SEEDS   the audit program on such rounds, with differences and damage planted
 mod agree;
 mod bench;
+mod byhand;
+mod cases;
 mod compare;
 mod desk;
 mod engine;
@@ -24,6 +28,7 @@ mod proved;
 mod record;
 mod rounds;
 mod types;
+mod waits;
 mod words;
 
 fn main() {
@@ -32,7 +37,9 @@ fn main() {
     match words.get(1).map(String::as_str) {
         Some("compare") => compare(number(2, 1), number(3, 2000)),
         Some("limits") => limits::run(),
-        Some("bench") => bench::run(words.get(2)),
+        Some("bench") => bench::run(number(2, 31) as usize),
+        Some("sheets") => bench::sheets(&words[2]),
+        Some("waits") => waits::run(),
         Some("desk") => desk::run(&words[2], number(3, 200)),
         Some("page") => page::run(&words[2], &words[3], &words[4]),
         Some("rounds") => rounds::write(&words[2], number(3, 1), number(4, 1000)),
@@ -40,7 +47,7 @@ fn main() {
         Some("audit") => rounds::run(&words[2], &words[3], number(4, 400)),
         Some("record") => record::run(&words[2], number(3, 120_000)),
         _ => {
-            println!("second compare FIRST COUNT | limits | bench [FILE.svg] | desk PROGRAM SEEDS | page PAGE PROGRAM INPUT | record FILE CALLS | rounds FILE FIRST COUNT | league FILE ROUNDS CALLS | audit PROGRAM FOLDER SEEDS");
+            println!("second compare FIRST COUNT | limits | bench [RUNS] | sheets FOLDER | waits | desk PROGRAM SEEDS | page PAGE PROGRAM INPUT | record FILE CALLS | rounds FILE FIRST COUNT | league FILE ROUNDS CALLS | audit PROGRAM FOLDER SEEDS");
             std::process::exit(2);
         }
     }

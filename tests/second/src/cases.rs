@@ -1,0 +1,245 @@
+//! Inputs for the measurements: sheets and texts, each with what it is in words. `families` are those among which the
+//! worst case of a call is looked for: the limits of 01 and 02 filled in every way that was thought of.
+use crate::limits::{active, app, con, event, field, handler, join, name, of_bytes, passive};
+
+/// An input, and what it is.
+pub type Case = (String, Vec<u8>);
+
+pub const FULL_EVENTS: usize = 32;
+pub const FULL_BEHAVIOURS: usize = 64;
+
+const ADD: u8 = 4;
+const DIVIDE: u8 = 7;
+const NOT: u8 = 3;
+
+/// An expression of so many nodes, as flat as can be.
+pub fn tree(size: usize, function: u8, leaf: &[u8]) -> Vec<u8> {
+    match size {
+        1 => leaf.to_vec(),
+        2 => app(NOT, &[leaf.to_vec()]),
+        _ => {
+            let left = (size - 1) / 2;
+            app(function, &[tree(left, function, leaf), tree(size - 1 - left, function, leaf)])
+        }
+    }
+}
+
+fn events(n: usize) -> Vec<u8> {
+    event(1).repeat(n)
+}
+
+fn case(what: &str, bytes: Vec<u8>) -> Case {
+    (what.to_string(), bytes)
+}
+
+// ---- sheets
+
+/// Two players' daily puzzle: 4 events, 4 actives, 2 passives.
+pub fn game() -> Vec<u8> {
+    let sum = |i, w| app(ADD, &[name(i), con(w)]);
+    join(&[
+        [0, 1, 5, 15].map(event).concat(),
+        active(0, &[handler(0, 0, &sum(0, 10)), handler(1, 1, &app(5, &[name(0), name(1)]))]),
+        active(3, &[handler(2, 0, &app(14, &[app(8, &[name(0), con(100)]), sum(1, 1), name(1)]))]),
+        active(0, &[handler(3, 0, &con(0)), handler(0, 0, &sum(2, 1))]),
+        passive(&app(6, &[name(0), name(1)])),
+        passive(&app(ADD, &[name(3), name(2)])),
+        active(7, &[handler(1, 0, &app(DIVIDE, &[name(4), con(3)]))]),
+    ])
+}
+
+/// One event whose handler has so many nodes, and all its leaves are this one.
+pub fn one_event(declared: usize, size: usize, leaf: &[u8]) -> Vec<u8> {
+    join(&[events(declared), active(0, &[handler(0, 0, &tree(size, ADD, leaf))])])
+}
+
+/// Passives in a chain, each one more than the one before it, or than the one behind it.
+pub fn chain(n: usize, backwards: bool) -> Vec<u8> {
+    let next = |i: usize| if backwards { i + 1 } else { i.wrapping_sub(1) };
+    let link = |i: usize| if next(i) < n { app(ADD, &[name(next(i) as u8), con(1)]) } else { con(1) };
+    join(&[event(1), (0..n).flat_map(|i| passive(&link(i))).collect()])
+}
+
+/// So many actives in a backward chain, each with a handler for each of so many events.
+pub fn chained_actives(declared: usize, n: usize) -> Vec<u8> {
+    let next = |i: usize| name((i + 1).min(n - 1) as u8);
+    let handlers = |i: usize| (0..declared).map(|e| handler(e as u8, 0, &next(i))).collect::<Vec<_>>();
+    join(&[events(declared), (0..n).flat_map(|i| active(0, &handlers(i))).collect()])
+}
+
+/// 64 actives with so many handlers each, spread over 32 events of 16 ranks.
+pub fn spread_actives(each: usize) -> Vec<u8> {
+    let of = |i: usize, k: usize| handler(((i * each + k) % FULL_EVENTS) as u8, 0, &name((i + 1).min(63) as u8));
+    let ranks: Vec<u8> = (0..FULL_EVENTS).flat_map(|e| event((e % 16) as u8)).collect();
+    let all = (0..FULL_BEHAVIOURS).flat_map(|i| active(0, &(0..each).map(|k| of(i, k)).collect::<Vec<_>>()));
+    join(&[ranks, all.collect()])
+}
+
+/// 32 events, each with handlers of so many actives in a row, that are a backward chain.
+pub fn bands(width: usize) -> Vec<u8> {
+    let within = |e: usize, i: usize| (i + FULL_BEHAVIOURS - 2 * e) % FULL_BEHAVIOURS;
+    let of = |e: usize, i: usize| {
+        let to = if within(e, i) + 1 < width { (i + 1) % FULL_BEHAVIOURS } else { i };
+        handler(e as u8, 0, &name(to as u8))
+    };
+    let handlers = |i: usize| (0..FULL_EVENTS).filter(|e| within(*e, i) < width).map(|e| of(e, i)).collect::<Vec<_>>();
+    join(&[events(FULL_EVENTS), (0..FULL_BEHAVIOURS).flat_map(|i| active(0, &handlers(i))).collect()])
+}
+
+/// Passives, each the sum of the next eight.
+pub fn dense(declared: usize, n: usize) -> Vec<u8> {
+    let sum = |i: usize| (i + 1..n.min(i + 9)).fold(con(1), |e, j| app(ADD, &[e, name(j as u8)]));
+    join(&[events(declared), (0..n).flat_map(|i| passive(&sum(i))).collect()])
+}
+
+/// Four rows of 16 cells, each with a handler for each of so many events, that names so many first cells further on.
+pub fn rows(declared: usize, names: usize) -> Vec<u8> {
+    let row = |k: usize| {
+        let to = (16 * (k + 1)).min(48) as u8;
+        let handlers = (0..declared).flat_map(|e| handler(e as u8, 0, &tree(2 * names - 1, ADD, &name(to))));
+        field(6, &[vec![16], field(4, &[0; 4]), handlers.collect()].concat())
+    };
+    join(&[events(declared), (0..4).flat_map(row).collect()])
+}
+
+/// One event and 32 passives of 61 nodes: 4,042 instructions.
+pub fn longest(function: u8) -> Vec<u8> {
+    let step = active(1, &[handler(0, 0, &app(ADD, &[name(0), con(1)]))]);
+    join(&[event(1), step, passive(&tree(61, function, &name(0))).repeat(32)])
+}
+
+/// The sheet of 8,192 bytes, with an event.
+pub fn bytes_of(n: usize) -> Vec<u8> {
+    join(&[event(1), of_bytes(n - event(1).len(), &name(0))])
+}
+
+/// The worst for the compiler that closed the dependence matrix.
+pub fn backward_twelve() -> Vec<u8> {
+    chained_actives(12, FULL_BEHAVIOURS)
+}
+
+/// A ring of so many passives under so many events.
+pub fn ring(declared: usize, n: usize) -> Vec<u8> {
+    join(&[events(declared), (0..n).flat_map(|i| passive(&name(((i + 1) % n) as u8))).collect()])
+}
+
+/// A ring of actives, closed by the last event's handlers alone.
+fn ring_of_actives(declared: usize, n: usize) -> Vec<u8> {
+    let of = |i: usize| handler(declared as u8 - 1, 0, &name(((i + 1) % n) as u8));
+    join(&[events(declared), (0..n).flat_map(|i| active(0, &[of(i)])).collect()])
+}
+
+/// Passives that name each the next eight, the last the first.
+fn dense_ring(declared: usize, n: usize) -> Vec<u8> {
+    let next = |i: usize| (i + 1..n.min(i + 9)).fold(name(((i + 1) % n) as u8), |e, j| app(ADD, &[e, name(j as u8)]));
+    join(&[events(declared), (0..n).flat_map(|i| passive(&next(i))).collect()])
+}
+
+/// Handlers that hide every other behaviour from player 1: what it sees names what it sees.
+pub fn hidden_halves() -> Vec<u8> {
+    let link = |i: usize| if i + 2 < 64 { app(ADD, &[name(i as u8 + 2), con(1)]) } else { con(1) };
+    let seen = |i: usize| field(8, &[if i % 2 == 0 { 255 } else { 1 }]);
+    join(&[event(1), (0..64).flat_map(|i| field(2, &[link(i), seen(i)].concat())).collect()])
+}
+
+/// Sheets that compile accepts, or has much to do with before it turns them down.
+pub fn families() -> Vec<Case> {
+    let mut all = vec![
+        case("S of the scope", crate::desk::sheet_s()),
+        case("a game", game()),
+        case("64 passives in a chain", chain(64, false)),
+        case("64 passives in a backward chain", chain(64, true)),
+        case("64 passives, each the sum of the next 8", dense(1, 64)),
+        case("21 passives, each the sum of the next 8, 4 events", dense(4, 21)),
+        case("12 events, 64 actives in a backward chain", backward_twelve()),
+        case("32 events, 64 actives, 4 handlers each", spread_actives(4)),
+        case("32 events, 64 actives, 8 handlers each", spread_actives(8)),
+        case("32 events, 64 actives, 11 handlers each", spread_actives(11)),
+        case("32 passives of 61 nodes", longest(ADD)),
+        case("8,192 bytes of passives", bytes_of(8192)),
+        case("32 events, 20 passives in a backward chain", {
+            let link = |i: u8| passive(&if i < 19 { name(i + 1) } else { con(1) });
+            join(&[events(32), (0..20).flat_map(link).collect()])
+        }),
+        case("32 events, 22 actives of each in a backward chain", bands(22)),
+        case("32 events, 64 actives without handlers", join(&[events(32), (0..64).flat_map(|i| active(i, &[])).collect()])),
+        case("32 events, 12 actives of 60 nodes", {
+            let one = |i: u8| active(0, &[handler(i, 0, &tree(60, ADD, &name(i)))]);
+            join(&[events(32), (0..12).flat_map(one).collect()])
+        }),
+        case("hidden from player 1: every other of 64 passives", hidden_halves()),
+    ];
+    for (declared, names) in [(15, 1), (8, 5), (32, 1), (32, 7)] {
+        all.push((
+            format!("4 rows of 16 cells, {declared} events, {names} names a handler"),
+            rows(declared, names),
+        ));
+    }
+    all.into_iter().map(with_refusal).collect()
+}
+
+/// Where the sheet is turned down, that is said of it.
+fn with_refusal((what, bytes): Case) -> Case {
+    match crate::engine::compile(&bytes, &[0; 32]) {
+        Ok(_) => (what, bytes),
+        Err(n) => (format!("{what}, refused by {n}"), bytes),
+    }
+}
+
+/// Sheets with circles.
+pub fn circles() -> Vec<Case> {
+    vec![
+        case("a ring of 3 passives", ring(2, 3)),
+        case("a ring of 64 passives under 32 events", ring(32, 64)),
+        case("a ring of 64 actives, by the last of 32 events", ring_of_actives(32, 64)),
+        case("64 passives under 32 events, each names the next 8, the last the first", dense_ring(32, 64)),
+        case("32 passives under 32 events, each names the next 8, the last the first", dense_ring(32, 32)),
+    ]
+}
+
+/// Two sheets to join.
+pub fn pairs() -> Vec<(String, [Vec<u8>; 2])> {
+    let twice = |what: &str, s: Vec<u8>| (format!("twice: {what}"), [s.clone(), s]);
+    vec![
+        ("S of the scope and a bonus of one passive".into(), [crate::desk::sheet_s(), join(&[event(1), passive(&con(9))])]),
+        twice("4,096 bytes of passives", bytes_of(4096)),
+        twice("6 events, 32 actives in a backward chain", chained_actives(6, 32)),
+        twice("12 events, 32 actives in a backward chain", chained_actives(12, 32)),
+        twice("2 rows of 16 cells", {
+            let row = field(6, &[vec![16], field(4, &[0; 4]), handler(0, 0, &name(0))].concat());
+            join(&[events(32), row.repeat(2)])
+        }),
+        twice("16 passives of 61 nodes", join(&[event(1), active(1, &[]), passive(&tree(61, ADD, &name(0))).repeat(15)])),
+        ("12 events, 64 actives in a backward chain, and nothing".into(), [backward_twelve(), vec![]]),
+    ]
+}
+
+// ---- formulas
+
+fn sum(names: usize) -> String {
+    match names {
+        1 => "b0".to_string(),
+        n => format!("({} + {})", sum(n / 2), sum(n - n / 2)),
+    }
+}
+
+/// Texts of at most 1,024 bytes.
+pub fn texts() -> Vec<Case> {
+    let text = |what: &str, t: String| case(what, t.into_bytes());
+    let deep = |n: usize, open: &str, close: &str| format!("{}b0{}", open.repeat(n), close.repeat(n));
+    vec![
+        text("b0 + b1 * 2", "b0 + b1 * 2".into()),
+        text("a sum of 128 names in brackets", sum(128)),
+        text("a name in 511 brackets", deep(511, "(", ")")),
+        text("1,022 times !", deep(1022, "!", "")),
+        text("if within if, 146 deep", deep(146, "if(1,", ",0)")),
+        text("341 sums of names, one behind the other", deep(341, "b0+", "")),
+        text("1,024 opening brackets", "(".repeat(1024)),
+        text("1,024 spaces", " ".repeat(1024)),
+        text("a number of 1,024 digits", "0".repeat(1024)),
+    ]
+}
+
+pub fn sum_of(names: usize) -> Vec<u8> {
+    sum(names).into_bytes()
+}
