@@ -1,16 +1,18 @@
 /* Replays a record of calls: replay FILE [STACKS]. Every answer, every sum of a written buffer and all bytes kept in
  * the record must come out again. tests/second/src/record.rs writes the record and says how it is laid out. STACKS has
- * lines `NAME KB`: then each kind of call runs on a stack of its own of so many KB, below which no byte can be touched,
- * and the most bytes that it left a mark in are printed. */
+ * lines `NAME KB`: then each kind of call is made in a thread of its own, whose stack has exactly so many KB for the
+ * call below the frame that makes it; the byte under these cannot be touched. The most bytes that each kind of call
+ * left a mark in are printed, and what the thread itself takes. */
 #define _DEFAULT_SOURCE
 #define _XOPEN_SOURCE 600
+#include <pthread.h>
+#include <semaphore.h>
 #include <signal.h>
 #include <stdarg.h>
 #include <stdio.h>
 #include <stdlib.h>
 #include <string.h>
 #include <sys/mman.h>
-#include <ucontext.h>
 #include <unistd.h>
 
 #include "engine.h"
@@ -82,8 +84,11 @@ static const struct {
 static struct call {
     char name[32], takes[16];
     maker *make;
-    uint8_t *stack; /* painted, where stacks are measured */
-    size_t room;
+    uint8_t *stack;           /* the lowest byte that may be touched; painted up to the frame */
+    const uint8_t *frame;     /* of the thread's function, which makes the call */
+    size_t room;              /* bytes below the frame */
+    pthread_t thread;
+    sem_t asked, done;
 } calls[64];
 static size_t known;
 static uint64_t made;
@@ -194,54 +199,92 @@ static void read_calls(void)
     take(1);
 }
 
-/* ---- a call on a stack of its own */
+/* ---- a call in a thread of its own */
 
-#define GUARD_PAGES 65536u
+#define BELOW 262144u       /* bytes under a stack that cannot be touched; more than the least that a thread may have */
 #define PAINT 0x5C
+#define SERVES 256u         /* bytes below its frame that the thread's own function works in */
+#define ALIGNED 64u
+#define PAGE 65536u /* a multiple of every page size */
 
-static ucontext_t back, there;
-static const struct call *on_stack;
+static struct call *asked_for;
 static const struct lent *buffers_of;
 static const uint64_t *numbers_of;
 static uint64_t answered;
-
-/* A stack of so many bytes, and below it pages that cannot be touched. */
-static void give_stack(struct call *c, size_t bytes)
-{
-    uint8_t *room = (uint8_t *)mmap(NULL, bytes + GUARD_PAGES, PROT_NONE, MAP_PRIVATE | MAP_ANONYMOUS, -1, 0);
-
-    if (room == MAP_FAILED || mprotect(room + GUARD_PAGES, bytes, PROT_READ | PROT_WRITE) != 0)
-        fail("no stack of %lu bytes", (unsigned long)bytes);
-    c->stack = room + GUARD_PAGES;
-    c->room = bytes;
-    memset(c->stack, PAINT, bytes);
-}
+static size_t own; /* what the thread takes above the frame that makes the calls: its control block and first frames */
 
 /* A call ran over its stack: says which, on a stack of the handler's own. */
 static void ran_over(int number)
 {
     static const char words[] = " takes more stack than it was given\n";
-    const char *name = on_stack ? on_stack->name : "the program";
+    const char *name = asked_for ? asked_for->name : "the program";
     ssize_t n = write(STDERR_FILENO, name, strlen(name));
 
     n += write(STDERR_FILENO, words, sizeof words - 1);
     _exit(n < 0 ? number : 1);
 }
 
-static void watch_stacks(void)
+static void watch_stack(void)
 {
-    static uint8_t room[65536];
     struct sigaction action;
-    stack_t own;
+    stack_t room;
 
-    memset(&own, 0, sizeof own);
-    own.ss_sp = room;
-    own.ss_size = sizeof room;
+    memset(&room, 0, sizeof room);
+    room.ss_size = 65536;
+    room.ss_sp = malloc(room.ss_size);
     memset(&action, 0, sizeof action);
     action.sa_handler = ran_over;
     action.sa_flags = SA_ONSTACK;
-    if (sigaltstack(&own, NULL) != 0 || sigaction(SIGSEGV, &action, NULL) != 0)
+    if (!room.ss_sp || sigaltstack(&room, NULL) != 0 || sigaction(SIGSEGV, &action, NULL) != 0)
         fail("no handler");
+}
+
+/* A thread for one kind of call: it makes each that is asked for. Without a maker it only tells where its frame is. */
+static void *serve(void *given)
+{
+    struct call *c = (struct call *)given;
+
+    c->frame = (const uint8_t *)__builtin_frame_address(0);
+    if (!c->make)
+        return NULL;
+    watch_stack();
+    memset(c->stack, PAINT, (size_t)(c->frame - c->stack) - SERVES);
+    sem_post(&c->done);
+    for (;;) {
+        sem_wait(&c->asked);
+        answered = c->make(buffers_of, numbers_of);
+        sem_post(&c->done);
+    }
+}
+
+/* The thread's stack: so many bytes for the call, the thread's own above them, and below pages that cannot be touched;
+ * these count toward the least size that a thread may be given, and nothing else. */
+static void give_thread(struct call *c, size_t bytes)
+{
+    size_t whole = (bytes + own + PAGE - 1) / PAGE * PAGE;
+    uint8_t *room = (uint8_t *)mmap(NULL, whole + BELOW, PROT_NONE, MAP_PRIVATE | MAP_ANONYMOUS, -1, 0);
+    pthread_attr_t attributes;
+
+    if (room == MAP_FAILED || mprotect(room + BELOW, whole, PROT_READ | PROT_WRITE) != 0)
+        fail("no stack of %lu bytes", (unsigned long)bytes);
+    c->stack = room + BELOW;
+    c->room = bytes;
+    if (sem_init(&c->asked, 0, 0) != 0 || sem_init(&c->done, 0, 0) != 0 || pthread_attr_init(&attributes) != 0
+        || pthread_attr_setstack(&attributes, room, BELOW + bytes + own) != 0
+        || pthread_create(&c->thread, &attributes, serve, c) != 0)
+        fail("no thread with a stack of %lu bytes", (unsigned long)bytes);
+}
+
+/* What a thread takes before it makes a call, measured by one that makes none. */
+static void measure_own(void)
+{
+    static struct call none;
+
+    own = PAGE;
+    give_thread(&none, PAGE);
+    pthread_join(none.thread, NULL);
+    own = (size_t)(none.stack + none.room + own - none.frame);
+    own = (own + ALIGNED - 1) / ALIGNED * ALIGNED;
 }
 
 static void read_stacks(const char *path)
@@ -251,10 +294,13 @@ static void read_stacks(const char *path)
     unsigned long kb;
     size_t k;
 
+    measure_own();
     while (file && fscanf(file, "%31s %lu", name, &kb) == 2)
         for (k = 0; k < known; k++)
-            if (strcmp(calls[k].name, name) == 0)
-                give_stack(calls + k, kb * 1024);
+            if (strcmp(calls[k].name, name) == 0) {
+                give_thread(calls + k, kb * 1024);
+                sem_wait(&calls[k].done);
+            }
     if (file)
         fclose(file);
     for (k = 0; k < known; k++)
@@ -262,36 +308,33 @@ static void read_stacks(const char *path)
             fail("%s does not say the stack of %s", path, calls[k].name);
 }
 
-static void enter(void)
+static uint64_t make_in_thread(struct call *c, const struct lent *b, const uint64_t *n)
 {
-    answered = on_stack->make(buffers_of, numbers_of);
-}
-
-static uint64_t make_on_stack(const struct call *c, const struct lent *b, const uint64_t *n)
-{
-    on_stack = c;
+    asked_for = c;
     buffers_of = b;
     numbers_of = n;
-    getcontext(&there);
-    there.uc_stack.ss_sp = c->stack;
-    there.uc_stack.ss_size = c->room;
-    there.uc_link = &back;
-    makecontext(&there, enter, 0);
-    swapcontext(&back, &there);
+    sem_post(&c->asked);
+    sem_wait(&c->done);
     return answered;
+}
+
+/* The painted bytes that are left at the bottom were never touched. */
+static size_t touched(const struct call *c)
+{
+    const uint8_t *at = c->stack;
+
+    while (at < c->frame && *at == PAINT)
+        at++;
+    return (size_t)(c->frame - at);
 }
 
 static void print_stacks(void)
 {
-    size_t k, n;
+    size_t k;
 
-    for (k = 0; k < known; k++) {
-        for (n = 0; n < calls[k].room && calls[k].stack[n] == PAINT; n++)
-            ;
-        printf("%s%s %lu of %lu", k ? ", " : "", calls[k].name, (unsigned long)(calls[k].room - n),
-               (unsigned long)calls[k].room);
-    }
-    putchar('\n');
+    for (k = 0; k < known; k++)
+        printf("%s %lu of %lu, ", calls[k].name, (unsigned long)touched(calls + k), (unsigned long)calls[k].room);
+    printf("and the thread itself %lu\n", (unsigned long)own);
 }
 
 static void make_one(void)
@@ -318,7 +361,7 @@ static void make_one(void)
             if (*takes == 'w')
                 written[writes++] = s;
         }
-    got = measured ? make_on_stack(calls + k, b, n) : calls[k].make(b, n);
+    got = measured ? make_in_thread(calls + k, b, n) : calls[k].make(b, n);
     want = number(8);
     if (got != want)
         fail("%s answers %llu, not %llu", calls[k].name, (unsigned long long)got, (unsigned long long)want);
@@ -390,10 +433,8 @@ int main(int argc, char **argv)
     end = record + n;
     measured = argc > 2;
     read_calls();
-    if (measured) {
+    if (measured)
         read_stacks(argv[2]);
-        watch_stacks();
-    }
     run();
     if (measured)
         print_stacks();

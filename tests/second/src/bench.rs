@@ -1,12 +1,13 @@
-//! Times of every exported call: the proved engine beside the plain one and, for step, arrive, board and frame, beside the
-//! one written by hand in C. One process, the same inputs, all built for release, buffers warm, the engines run in turn.
+//! Times of every exported call: the proved engine beside the plain one and, for step, arrive, board and frame, beside
+//! the one written by hand in C. One process, the same inputs, all built for release, buffers warm, the engines run in
+//! turn.
 //!
 //! What is printed are lines of words between tabs, for tests/bench/page.py:
 //!   row CALL INPUT OURS PLAIN C RATIO RATIO   times in nanoseconds, then ours by the plain engine's and by C's
 //!   grows CALL WHAT LABELS TIMES              least nanoseconds at x1, x2, x4, x8
 //!   beside SHEET COMPILE AGREE LEAK RATIO RATIO   the two calls beside compile of the same sheet
-//! Each time and each ratio is `least/median/greatest` of the runs, - where there is none; a ratio is of two times taken one
-//! after the other, and ends in `/` and the ratio of the least times.
+//! Each time and each ratio is `least/median/greatest` of the runs, - where there is none; a ratio is of two times
+//! taken one after the other, and ends in `/` and the ratio of the least times.
 use std::hint::black_box;
 
 use crate::byhand;
@@ -341,8 +342,13 @@ fn event_rows(bench: &Bench, size: usize) {
     });
     let by_hand = || stepped(byhand::arrive, byhand::step);
     let ours = stepped(proved::arrive, proved::step);
-    bench.row("event", &format!("of {size} nodes, stepped"), 1, [Some(ours), Some(plain_steps()), Some(by_hand())]);
-    bench.row("event", &format!("of {size} nodes, by frame"), 1, [Some(framed()), Some(plain_frame), Some(by_hand())]);
+    bench.row("an event", &format!("of {size} nodes, stepped"), 1, [Some(ours), Some(plain_steps()), Some(by_hand())]);
+    bench.row(
+        "an event",
+        &format!("of {size} nodes, by frame"),
+        1,
+        [Some(framed()), Some(plain_frame), Some(by_hand())],
+    );
 }
 
 fn frame_rows(bench: &Bench) {
@@ -350,7 +356,12 @@ fn frame_rows(bench: &Bench) {
     let plain = |m: &mut Model| m.frame(400, 64).0 as u64;
     let by_hand = |t: &[u8], l: &mut [u8]| (0..400).take_while(|_| byhand::step(t, l) != 0).count() as u64;
     let none = set(&join(&vec![event(1); FULL_EVENTS]), &arrivals(64, 0));
-    bench.row("frame", "64 events of 4 instructions, 32 declared, a step", 320, none.three(ROUND, frame, plain, by_hand));
+    bench.row(
+        "frame",
+        "64 events of 4 instructions, 32 declared, a step",
+        320,
+        none.three(ROUND, frame, plain, by_hand),
+    );
     let game = set(&cases::game(), &[arrivals(1, 0), arrivals(1, 1), arrivals(1, 2)].concat());
     let made = game.model.forecast();
     bench.row("frame", "3 events of a game, a step", made, game.three(ROUND, frame, plain, by_hand));
@@ -359,12 +370,13 @@ fn frame_rows(bench: &Bench) {
 fn round_rows(bench: &Bench) {
     let game = |n: usize| set(&cases::game(), &arrivals(n, 0));
     let wide = |n: usize| set(&cases::one_event(FULL_EVENTS, STEPS, &name(0)), &arrivals(n, 0));
+    let one = |n: usize| set(&cases::one_event(1, STEPS, &name(0)), &arrivals(n, 0));
     game(3).arrive_row(bench, "a game, 3 in hand");
-    long_event(1, 0).arrive_row(bench, "one event, which runs");
+    one(0).arrive_row(bench, "one event, nothing in hand");
     wide(63).arrive_row(bench, "63 wait, 32 events");
     game(3).board_row(bench, "a game, 3 wait");
-    long_event(1, 0).board_row(bench, "one event, which runs");
-    set(&cases::one_event(1, STEPS, &name(0)), &arrivals(63, 0)).board_row(bench, "one event, 63 wait");
+    one(0).board_row(bench, "one event, nothing in hand");
+    long_event(1, 63).board_row(bench, "one runs and 63 wait, one event");
     long_event(FULL_EVENTS, 63).board_row(bench, "one runs and 63 wait, 32 events");
     game(3).forecast_row(bench, "a game, 3 in hand");
     wide(64).forecast_row(bench, "64 wait, 32 events");
@@ -413,7 +425,10 @@ fn replay<'a>(s: &'a Set, calls: &[Call]) -> Runner<'a> {
     repeat(move || {
         round.copy_from_slice(&s.round);
         let made = proved::replay(&s.table, &mut round, &bytes, &mut answers);
-        answers.chunks_exact(8).take(made).fold(0, |sum: u64, a| sum.wrapping_add(u64::from_be_bytes(a.try_into().unwrap())))
+        answers
+            .chunks_exact(8)
+            .take(made)
+            .fold(0, |sum: u64, a| sum.wrapping_add(u64::from_be_bytes(a.try_into().unwrap())))
     })
 }
 
@@ -471,8 +486,17 @@ fn plain_sheet<'a>(s: &'a [u8], then: impl Fn(engine::Sheet) -> u64 + 'a) -> Run
 fn sheet_rows(bench: &Bench) {
     let families = cases::families();
     let find = |of: fn(&[u8]) -> Runner| bench.worst(&families, |s| of(s)(1));
-    let typical = || ("a game of 6 behaviours".to_string(), cases::game());
-    for (input, s) in [typical(), named(find(compile))] {
+    let typical = || ("a game".to_string(), cases::game());
+    let usual = [
+        "S of the scope",
+        "64 passives in a chain",
+        "64 passives in a backward chain",
+        "32 events, 12 actives of 60 nodes",
+    ];
+    let mut compiles = vec![typical()];
+    compiles.extend(families.iter().filter(|(what, _)| usual.contains(&what.as_str())).cloned());
+    compiles.push(named(find(compile)));
+    for (input, s) in compiles {
         let plain = plain_sheet(&s, |sheet| {
             black_box(Model::new(sheet));
             0
@@ -502,7 +526,8 @@ fn sheet_rows(bench: &Bench) {
     let pairs = cases::pairs();
     let (worst, pair) = bench.worst(&pairs, |p| joined(p)(1));
     for (input, p) in [(pairs[0].0.clone(), &pairs[0].1), (worst, pair)] {
-        let plain = || pool::pooled(&p[0], &p[1], &[0; 32], 8192).map_or_else(|n| n as u64, |v| (1 << 32) + v.len() as u64);
+        let plain =
+            || pool::pooled(&p[0], &p[1], &[0; 32], 8192).map_or_else(|n| n as u64, |v| (1 << 32) + v.len() as u64);
         bench.row("join", &input, 1, [Some(joined(p)), Some(repeat(plain)), None]);
     }
     let texts = cases::texts();
@@ -535,15 +560,22 @@ fn beside(bench: &Bench) {
 
 fn growth(bench: &Bench) {
     let eight = [8, 16, 32, 64];
-    let grow = |call: &str, what: &str, sheet: &dyn Fn(usize) -> Vec<u8>, of: fn(&[u8]) -> Runner, sizes: [usize; 4]| {
-        let sheets: Vec<Vec<u8>> = sizes.iter().map(|n| sheet(*n)).collect();
-        let cases = sizes.iter().zip(&sheets).map(|(n, s)| (n.to_string(), of(s))).collect();
-        bench.grows(call, what, cases);
-    };
+    let grow =
+        |call: &str, what: &str, sheet: &dyn Fn(usize) -> Vec<u8>, of: fn(&[u8]) -> Runner, sizes: [usize; 4]| {
+            let sheets: Vec<Vec<u8>> = sizes.iter().map(|n| sheet(*n)).collect();
+            let cases = sizes.iter().zip(&sheets).map(|(n, s)| (n.to_string(), of(s))).collect();
+            bench.grows(call, what, cases);
+        };
     let actives = |n: usize| cases::chained_actives(12, n);
     grow("compile", "behaviours: actives in a backward chain, 12 events", &actives, compile, eight);
     grow("compile", "behaviours: passives in a backward chain, 1 event", &|n| cases::chain(n, true), compile, eight);
-    grow("compile", "events, 64 actives in a backward chain", &|n| cases::chained_actives(n, 64), compile, [1, 3, 6, 12]);
+    grow(
+        "compile",
+        "events, 64 actives in a backward chain",
+        &|n| cases::chained_actives(n, 64),
+        compile,
+        [1, 3, 6, 12],
+    );
     grow("compile", "bytes of passives", &cases::bytes_of, compile, [1024, 2048, 4096, 8192]);
     grow("agree", "behaviours: actives in a backward chain, 12 events", &actives, agree, eight);
     grow("agree", "bytes of passives", &cases::bytes_of, agree, [1024, 2048, 4096, 8192]);
@@ -562,9 +594,10 @@ fn rounds_growth(bench: &Bench) {
     let hands = [8, 16, 32, 64];
     let sets = |make: &dyn Fn(usize) -> Set, sizes: [usize; 4]| sizes.map(|n| (n.to_string(), make(n)));
     let full = sets(&|n| set(&cases::game(), &arrivals(n - 1, 0)), hands);
-    let grow = |call: &str, what: &str, sets: &[(String, Set); 4], back: usize, of: &dyn Fn(&[u8], &mut [u8]) -> u64| {
-        bench.grows(call, what, sets.iter().map(|(n, s)| (n.clone(), s.bytes(back, of))).collect());
-    };
+    let grow =
+        |call: &str, what: &str, sets: &[(String, Set); 4], back: usize, of: &dyn Fn(&[u8], &mut [u8]) -> u64| {
+            bench.grows(call, what, sets.iter().map(|(n, s)| (n.clone(), s.bytes(back, of))).collect());
+        };
     grow("preview", "in hand, a game", &full, 0, &|t, l| proved::preview(t, l, 0, 0, HOST));
     grow("forecast", "in hand, a game", &full, 0, &|t, l| proved::forecast(t, l));
     grow("board", "in hand, a game", &full, 0, &|t, l| proved::board(t, l, 0, HOST));
@@ -586,7 +619,11 @@ fn rounds_growth(bench: &Bench) {
     let of = [250, 500, 1000, 2000].iter().map(|n| (n.to_string(), replay(&game, &record(*n)))).collect();
     bench.grows("replay", "calls, on a game", of);
     let passives = |n: usize| {
-        let s = join(&[event(1), crate::limits::active(1, &[]), crate::limits::passive(&cases::tree(61, 4, &name(0))).repeat(n)]);
+        let s = join(&[
+            event(1),
+            crate::limits::active(1, &[]),
+            crate::limits::passive(&cases::tree(61, 4, &name(0))).repeat(n),
+        ]);
         set(&s, &arrivals(1, 0))
     };
     let mended = sets(&passives, [4, 8, 16, 32]);

@@ -162,7 +162,10 @@ pub fn families() -> Vec<Case> {
             join(&[events(32), (0..20).flat_map(link).collect()])
         }),
         case("32 events, 22 actives of each in a backward chain", bands(22)),
-        case("32 events, 64 actives without handlers", join(&[events(32), (0..64).flat_map(|i| active(i, &[])).collect()])),
+        case(
+            "32 events, 64 actives without handlers",
+            join(&[events(32), (0..64).flat_map(|i| active(i, &[])).collect()]),
+        ),
         case("32 events, 12 actives of 60 nodes", {
             let one = |i: u8| active(0, &[handler(i, 0, &tree(60, ADD, &name(i)))]);
             join(&[events(32), (0..12).flat_map(one).collect()])
@@ -170,10 +173,7 @@ pub fn families() -> Vec<Case> {
         case("hidden from player 1: every other of 64 passives", hidden_halves()),
     ];
     for (declared, names) in [(15, 1), (8, 5), (32, 1), (32, 7)] {
-        all.push((
-            format!("4 rows of 16 cells, {declared} events, {names} names a handler"),
-            rows(declared, names),
-        ));
+        all.push((format!("4 rows of 16 cells, {declared} events, {names} names a handler"), rows(declared, names)));
     }
     all.into_iter().map(with_refusal).collect()
 }
@@ -201,7 +201,10 @@ pub fn circles() -> Vec<Case> {
 pub fn pairs() -> Vec<(String, [Vec<u8>; 2])> {
     let twice = |what: &str, s: Vec<u8>| (format!("twice: {what}"), [s.clone(), s]);
     vec![
-        ("S of the scope and a bonus of one passive".into(), [crate::desk::sheet_s(), join(&[event(1), passive(&con(9))])]),
+        (
+            "S of the scope and a bonus of one passive".into(),
+            [crate::desk::sheet_s(), join(&[event(1), passive(&con(9))])],
+        ),
         twice("4,096 bytes of passives", bytes_of(4096)),
         twice("6 events, 32 actives in a backward chain", chained_actives(6, 32)),
         twice("12 events, 32 actives in a backward chain", chained_actives(12, 32)),
@@ -209,7 +212,10 @@ pub fn pairs() -> Vec<(String, [Vec<u8>; 2])> {
             let row = field(6, &[vec![16], field(4, &[0; 4]), handler(0, 0, &name(0))].concat());
             join(&[events(32), row.repeat(2)])
         }),
-        twice("16 passives of 61 nodes", join(&[event(1), active(1, &[]), passive(&tree(61, ADD, &name(0))).repeat(15)])),
+        twice(
+            "16 passives of 61 nodes",
+            join(&[event(1), active(1, &[]), passive(&tree(61, ADD, &name(0))).repeat(15)]),
+        ),
         ("12 events, 64 actives in a backward chain, and nothing".into(), [backward_twelve(), vec![]]),
     ]
 }

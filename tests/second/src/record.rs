@@ -11,9 +11,10 @@
 //!                                that is written the sum of the slot's bytes
 //!   K slot len32 bytes    it must have these bytes now
 //!   E count64             the end, and how many calls there were
+use crate::cases;
 use crate::engine::{self, Sheet};
 use crate::formula;
-use crate::limits::{active, app, con, event, handler, name, of_bytes, passive};
+use crate::limits::{active, app, con, event, handler, name, passive};
 use crate::make::{self, Rng};
 use crate::proved::{self, ROUND, TABLE};
 
@@ -339,35 +340,48 @@ impl Record {
         }
     }
 
-    /// The deepest and the largest that there are, with the calls that they are lent to; they take the most stack.
+    /// The deepest and the largest that there are, and the inputs among which the worst time of a call is looked for,
+    /// with the calls that they are lent to; they take the most stack.
     fn largest(&mut self) {
         let deep = |leaf: Vec<u8>| (0..15).fold(leaf, |e, _| app(3, &[e]));
-        let ring: Vec<u8> = (0..64).flat_map(|i| passive(&name((i + 1) % 64))).collect();
         let own = |i: i32| active(i, &[handler(0, (i % 2) as u8, &deep(name(i as u8)))]);
         let wide: Vec<u8> = (0..64).flat_map(own).collect();
         let full = [event(1), event(2), wide].concat();
-        let brackets = format!("{}b0{}", "(".repeat(511), ")".repeat(511));
-        let texts = [brackets, "(".repeat(1024), format!("{}b0", "!".repeat(1022)), "if(".repeat(341)];
         self.set(PARAMS, &[0; 32]);
-        for text in texts {
-            self.set(TEXT, text.as_bytes());
-            self.fill(BUFFER, 7168, 0x5A);
+        self.fill(BUFFER, 7168, 0x5A);
+        for (_, text) in cases::texts() {
+            self.set(TEXT, &text);
             self.call("formula", &[Whole(TEXT), Whole(BUFFER)]);
         }
-        for bytes in [ring, of_bytes(8192, &name(0)), passive(&deep(con(1))), full] {
-            self.set(SHEET, &bytes);
-            self.fill(LIST, 64, 0);
-            self.fill(TABLES, TABLE, 0);
-            self.fill(BUFFER, 8192, 0);
-            self.call("circle", &[Whole(SHEET), Whole(PARAMS), Whole(LIST)]);
-            self.call("agree", &[Whole(SHEET), Whole(PARAMS)]);
-            self.call("leak", &[Whole(SHEET), Whole(PARAMS), Number(1)]);
-            self.call("join", &[Whole(SHEET), Part(SHEET, 0), Whole(PARAMS), Whole(BUFFER)]);
-            self.call("compile", &[Whole(SHEET), Whole(PARAMS), Whole(TABLES)]);
-            self.keep(LIST);
-            self.keep(BUFFER);
-            self.keep(TABLES);
+        for (_, [first, second]) in cases::pairs() {
+            self.set(SHEET, &first);
+            self.set(SECOND, &second);
+            self.call("join", &[Whole(SHEET), Whole(SECOND), Whole(PARAMS), Whole(BUFFER)]);
         }
+        let inputs = cases::families().into_iter().chain(cases::circles()).map(|(_, bytes)| bytes);
+        for bytes in inputs.chain([passive(&deep(con(1))), full]) {
+            self.largest_sheet(&bytes);
+        }
+        self.largest_round();
+    }
+
+    fn largest_sheet(&mut self, bytes: &[u8]) {
+        self.set(SHEET, bytes);
+        self.fill(LIST, 64, 0);
+        self.fill(TABLES, TABLE, 0);
+        self.fill(BUFFER, 8192, 0);
+        self.call("circle", &[Whole(SHEET), Whole(PARAMS), Whole(LIST)]);
+        self.call("agree", &[Whole(SHEET), Whole(PARAMS)]);
+        self.call("leak", &[Whole(SHEET), Whole(PARAMS), Number(1)]);
+        self.call("join", &[Whole(SHEET), Part(SHEET, 0), Whole(PARAMS), Whole(BUFFER)]);
+        self.call("compile", &[Whole(SHEET), Whole(PARAMS), Whole(TABLES)]);
+        self.keep(LIST);
+        self.keep(BUFFER);
+        self.keep(TABLES);
+    }
+
+    /// A full hand on the last of the largest sheets.
+    fn largest_round(&mut self) {
         let on = [Whole(TABLES), Whole(ROUNDS)];
         self.fill(ROUNDS, ROUND, 0);
         self.call("start", &on);

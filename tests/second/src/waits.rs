@@ -48,6 +48,11 @@ pub fn run() {
     let without = waits([0, 0, 0], 50_000);
     println!("| event | rank | longest wait, steps | without ranks | ratio | the paper's |\n|---|---|---|---|---|---|");
     for (e, (what, rank, paper)) in [("Reset", 15, "1.47"), ("H", 1, "1.08"), ("L", 0, "0.56")].iter().enumerate() {
-        println!("| {what} | {rank} | {} | {} | {:.2} | {paper} |", with[e], without[e], without[e] as f64 / with[e] as f64);
+        println!(
+            "| {what} | {rank} | {} | {} | {:.2} | {paper} |",
+            with[e],
+            without[e],
+            without[e] as f64 / with[e] as f64
+        );
     }
 }
