@@ -1,11 +1,15 @@
-/* Four threads on one table, each with a round of its own and all reading a fifth. */
+/* Four threads on one table, each with a round of its own and all reading a fifth; and a thread of 512 KB, as iOS gives
+ * one that is not the main one, which reads the formula that takes the most stack. */
 #include <pthread.h>
 #include <stdio.h>
+#include <string.h>
 
 #include "engine.h"
 
 #define THREADS 4
 #define ROUNDS 2000
+#define SMALL_THREAD (512u * 1024u)
+#define BRACKETS 511u /* and a name of two bytes: a text of 1,024 */
 
 /* S of the scope: b0 = init 1 {0 => b0 + b1}; b1 = init 1 {0 => b0 - b1 later, 1 => 1}. */
 static const uint8_t S[] = {
@@ -48,6 +52,33 @@ static void *play(void *given)
     return NULL;
 }
 
+/* A name in as many brackets as a text may have. */
+static void *read_formula(void *given)
+{
+    static uint8_t text[ENGINE_TEXT], field[ENGINE_FIELD];
+    int *fault = (int *)given;
+
+    memset(text, '(', BRACKETS);
+    text[BRACKETS] = 'b';
+    text[BRACKETS + 1] = '0';
+    memset(text + BRACKETS + 2, ')', BRACKETS);
+    *fault = engine_formula_refused(engine_formula(text, sizeof text, field, sizeof field));
+    return NULL;
+}
+
+static int small_thread(void)
+{
+    pthread_attr_t attributes;
+    pthread_t thread;
+    int fault = 1;
+
+    if (pthread_attr_init(&attributes) != 0 || pthread_attr_setstacksize(&attributes, SMALL_THREAD) != 0
+        || pthread_create(&thread, &attributes, read_formula, &fault) != 0)
+        return 1;
+    pthread_join(thread, NULL);
+    return fault;
+}
+
 int main(void)
 {
     pthread_t threads[THREADS];
@@ -61,6 +92,7 @@ int main(void)
         pthread_join(threads[i], NULL);
         sum += faults[i];
     }
-    puts(sum ? "threads: faults" : "threads: four at once, all as alone");
+    sum += small_thread();
+    puts(sum ? "threads: faults" : "threads: four at once, all as alone; the deepest formula in one of 512 KB");
     return sum != 0;
 }
