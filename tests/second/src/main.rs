@@ -10,6 +10,7 @@
 //! second record FILE CALLS     calls with their answers and bytes, for other processors to replay
 //! second rounds FILE FIRST COUNT   recorded rounds of COUNT seeds from FIRST on, as the plain engine answers them
 //! second league FILE ROUNDS CALLS   so many rounds of so many calls on one sheet, to measure the audit
+//! second text FIRST COUNT      sheets of COUNT seeds from FIRST on as text and back, damaged texts, formulas
 //! second audit PROGRAM FOLDER SEEDS   the audit program on such rounds, with differences and damage planted
 mod agree;
 mod bench;
@@ -27,6 +28,7 @@ mod pool;
 mod proved;
 mod record;
 mod rounds;
+mod text;
 mod types;
 mod waits;
 mod words;
@@ -42,12 +44,13 @@ fn main() {
         Some("waits") => waits::run(),
         Some("desk") => desk::run(&words[2], number(3, 200)),
         Some("page") => page::run(&words[2], &words[3], &words[4]),
+        Some("text") => text::run(number(2, 1), number(3, 2000)),
         Some("rounds") => rounds::write(&words[2], number(3, 1), number(4, 1000)),
         Some("league") => rounds::league(&words[2], number(3, 10_000), number(4, 1000)),
         Some("audit") => rounds::run(&words[2], &words[3], number(4, 400)),
         Some("record") => record::run(&words[2], number(3, 120_000)),
         _ => {
-            println!("second compare FIRST COUNT | limits | bench [RUNS] | sheets FOLDER | waits | desk PROGRAM SEEDS | page PAGE PROGRAM INPUT | record FILE CALLS | rounds FILE FIRST COUNT | league FILE ROUNDS CALLS | audit PROGRAM FOLDER SEEDS");
+            println!("second compare FIRST COUNT | limits | bench [RUNS] | sheets FOLDER | waits | desk PROGRAM SEEDS | page PAGE PROGRAM INPUT | record FILE CALLS | rounds FILE FIRST COUNT | league FILE ROUNDS CALLS | audit PROGRAM FOLDER SEEDS | text FIRST COUNT");
             std::process::exit(2);
         }
     }

@@ -1,0 +1,196 @@
+//! A formula, read with a stack of its own: brackets may be as deep as a text is long.
+//!
+//! What waits for an operand stands on one stack, the operands read so far on another. Nesting is judged at the token
+//! that makes it: the first after which no text can go on to nest at most 16 deep. That is always `!`, `if` or a
+//! two-sided operator. With so many functions waiting (`!`, `if`, two-sided ones; brackets do not count), an operand
+//! that nests h deep stands in an expression that nests at least waiting + h deep.
+use crate::fault::{Fault, Kind};
+use crate::read::{Cell, Reader, Use};
+use crate::token::{Token, Word};
+use crate::tree::{two_sided, Expr, IF, MINUS, NOT};
+use crate::NESTING;
+
+/// What waits for the operand that is due, or for one that is complete.
+enum Waiting {
+    Bracket,
+    /// An `if` with so many arguments behind it.
+    Choice(u8),
+    Not,
+    TwoSided(u8, u8),
+}
+
+/// An expression and how deep it nests. A name in it is the number of its use until names are known.
+struct Operand(Expr, usize);
+
+struct Formula<'r, 't> {
+    reader: &'r mut Reader<'t>,
+    waiting: Vec<Waiting>,
+    operands: Vec<Operand>,
+    /// How many functions wait.
+    functions: usize,
+    /// The cells of the row whose handler this is.
+    row: Option<u8>,
+}
+
+/// What follows a complete operand.
+enum After {
+    Operand,
+    Operator,
+    End,
+}
+
+/// The formula at the reader's place.
+pub fn formula(reader: &mut Reader, row: Option<u8>) -> Result<Expr, Fault> {
+    let mut f = Formula { reader, waiting: vec![], operands: vec![], functions: 0, row };
+    loop {
+        f.operand()?;
+        loop {
+            match f.after()? {
+                After::Operand => break,
+                After::Operator => {}
+                After::End => return f.end(),
+            }
+        }
+    }
+}
+
+impl Formula<'_, '_> {
+    /// One more function waits, over an operand that nests so deep at least.
+    fn deeper(&mut self, over: usize) -> Result<(), Fault> {
+        self.functions += 1;
+        if self.functions + over > NESTING {
+            return Err(self.reader.fault(Kind::TooDeep, format!("an expression here nests over {NESTING} deep")));
+        }
+        Ok(())
+    }
+
+    /// Up to a primary.
+    fn operand(&mut self) -> Result<(), Fault> {
+        loop {
+            match self.reader.token {
+                Token::Not => {
+                    self.deeper(1)?;
+                    self.waiting.push(Waiting::Not);
+                }
+                Token::Mark(b'(') => self.waiting.push(Waiting::Bracket),
+                Token::Word(Word::If) => {
+                    self.deeper(1)?;
+                    self.reader.next();
+                    if self.reader.token != Token::Mark(b'(') {
+                        return Err(self.reader.outside("`(` is due after `if`"));
+                    }
+                    self.waiting.push(Waiting::Choice(0));
+                }
+                _ => return self.primary(),
+            }
+            self.reader.next();
+        }
+    }
+
+    fn primary(&mut self) -> Result<(), Fault> {
+        let expr = match self.reader.token {
+            Token::TwoSided(MINUS) | Token::Number(_) => Expr::Constant(self.reader.value()?),
+            Token::Name(name) => self.name(name)?,
+            _ => return Err(self.reader.outside("a number, a name, `(`, `!` or `if` is due")),
+        };
+        self.operands.push(Operand(expr, 1));
+        Ok(())
+    }
+
+    /// A name, perhaps with a cell.
+    fn name(&mut self, name: &str) -> Result<Expr, Fault> {
+        let mut found = Use { name: name.to_string(), place: self.reader.place, cell: None, row: self.row };
+        self.reader.next();
+        if self.reader.token == Token::Mark(b'[') {
+            let bracket = self.reader.place;
+            self.reader.next();
+            let place = self.reader.place;
+            let number = self.reader.number()?;
+            found.cell = Some(Cell { bracket, number, place });
+            self.reader.mark(b']')?;
+        }
+        self.reader.uses.push(found);
+        Ok(Expr::Name(self.reader.uses.len() - 1))
+    }
+
+    /// What the token after an operand does.
+    fn after(&mut self) -> Result<After, Fault> {
+        match self.reader.token {
+            Token::TwoSided(function) => {
+                let (_, level) = two_sided(function).unwrap_or(("", 0));
+                self.close(level);
+                let over = self.operands.last().map_or(1, |o| o.1);
+                self.deeper(over)?;
+                self.waiting.push(Waiting::TwoSided(function, level));
+                self.reader.next();
+                Ok(After::Operand)
+            }
+            Token::Mark(b',') => self.comma(),
+            Token::Mark(b')') => self.bracket(),
+            _ => self.done(),
+        }
+    }
+
+    fn comma(&mut self) -> Result<After, Fault> {
+        self.close(u8::MAX);
+        match self.waiting.last_mut() {
+            Some(Waiting::Choice(done @ 0..=1)) => *done += 1,
+            _ => return self.done(),
+        }
+        self.reader.next();
+        Ok(After::Operand)
+    }
+
+    fn bracket(&mut self) -> Result<After, Fault> {
+        self.close(u8::MAX);
+        match self.waiting.last() {
+            Some(Waiting::Bracket) => {
+                self.waiting.pop();
+            }
+            Some(Waiting::Choice(2)) => {
+                self.waiting.pop();
+                self.apply(IF, 3);
+            }
+            _ => return self.done(),
+        }
+        self.reader.next();
+        Ok(After::Operator)
+    }
+
+    /// The formula is over, unless a bracket is open: then the token cannot follow.
+    fn done(&mut self) -> Result<After, Fault> {
+        self.close(u8::MAX);
+        match self.waiting.last() {
+            None => Ok(After::End),
+            Some(Waiting::Choice(0..=1)) => Err(self.reader.outside("an operator or `,` is due")),
+            Some(_) => Err(self.reader.outside("an operator or `)` is due")),
+        }
+    }
+
+    fn end(&mut self) -> Result<Expr, Fault> {
+        let last = self.operands.pop();
+        last.map(|o| o.0).ok_or_else(|| self.reader.outside("a formula is due"))
+    }
+
+    /// Applies what waits and binds at least as tightly as a level: all two-sided operators group to the left.
+    fn close(&mut self, level: u8) {
+        loop {
+            let (function, arguments) = match self.waiting.last() {
+                Some(Waiting::Not) => (NOT, 1),
+                Some(Waiting::TwoSided(function, own)) if *own <= level => (*function, 2),
+                _ => return,
+            };
+            self.waiting.pop();
+            self.apply(function, arguments);
+        }
+    }
+
+    /// A function that waited takes its arguments.
+    fn apply(&mut self, function: u8, arguments: usize) {
+        let from = self.operands.len().saturating_sub(arguments);
+        let taken: Vec<Operand> = self.operands.drain(from..).collect();
+        let nesting = 1 + taken.iter().map(|o| o.1).max().unwrap_or(0);
+        self.functions -= 1;
+        self.operands.push(Operand(Expr::Apply(function, taken.into_iter().map(|o| o.0).collect()), nesting));
+    }
+}
