@@ -71,6 +71,33 @@ impl Fault {
     }
 }
 
+/// The word that is nearest to one that is not known, where one is near: at most two letters put in, left out or changed,
+/// and some left as they are.
+pub fn nearest<'a>(word: &str, known: impl Iterator<Item = &'a str>) -> Option<&'a str> {
+    let near = known.map(|k| (distance(word.as_bytes(), k.as_bytes()), k));
+    let (far, found) = near.min_by_key(|(far, _)| *far)?;
+    (far <= 2 && far < word.len()).then_some(found)
+}
+
+/// How many letters are put in, left out or changed.
+fn distance(a: &[u8], b: &[u8]) -> usize {
+    let mut row: Vec<usize> = (0..=b.len()).collect();
+    for (i, x) in a.iter().enumerate() {
+        let mut corner = i;
+        row[0] = i + 1;
+        for (j, y) in b.iter().enumerate() {
+            let here = (corner + usize::from(x != y)).min(row[j] + 1).min(row[j + 1] + 1);
+            corner = std::mem::replace(&mut row[j + 1], here);
+        }
+    }
+    row[b.len()]
+}
+
+/// A question behind a message, where a name that is not known is near another.
+pub(crate) fn perhaps<'a>(word: &str, known: impl Iterator<Item = &'a str>) -> String {
+    nearest(word, known).map_or(String::new(), |near| format!("; is it `{near}`?"))
+}
+
 impl fmt::Display for Fault {
     fn fmt(&self, f: &mut fmt::Formatter<'_>) -> fmt::Result {
         let Fault { kind, place, why } = self;

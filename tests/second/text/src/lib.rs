@@ -26,7 +26,7 @@ mod tree;
 mod write;
 
 pub use bytes::{decode, encode};
-pub use fault::{Fault, Kind, Place};
+pub use fault::{nearest, Fault, Kind, Place};
 pub use read::{assemble, assemble_into, Assembled, Declared, Param};
 pub use tree::{Active, Behaviour, Body, Event, Expr, Handler, Sheet};
 pub use write::describe;

@@ -1,6 +1,6 @@
 //! A text to a sheet: one pass over the declarations, then the names in formulas, then the bytes.
 use crate::bytes::encode;
-use crate::fault::{Fault, Kind, Place};
+use crate::fault::{perhaps, Fault, Kind, Place};
 use crate::formula::formula;
 use crate::token::{end_of, Scanner, Token, Word};
 use crate::tree::{Active, Behaviour, Body, Event, Expr, Handler, Sheet, MINUS};
@@ -381,7 +381,8 @@ impl<'t> Reader<'t> {
     fn handled(&mut self, so_far: &[Handler]) -> Result<usize, Fault> {
         let Token::Name(name) = self.token else { return Err(self.outside("an event's name is due")) };
         let Some(event) = self.known_event() else {
-            return Err(self.fault(Kind::UnknownEvent, format!("no event `{name}` is declared")));
+            let near = perhaps(name, self.events.iter().map(|e| e.name.as_str()));
+            return Err(self.fault(Kind::UnknownEvent, format!("no event `{name}` is declared{near}")));
         };
         if so_far.iter().any(|h| h.event == event) {
             let why = format!("this behaviour has a handler for `{name}` already");
@@ -408,7 +409,9 @@ impl<'t> Reader<'t> {
             return Ok(Expr::Param(param));
         }
         let Some(behaviour) = self.behaviours.iter().find(|b| b.name == *name) else {
-            let why = format!("no parameter and no behaviour `{name}` is declared");
+            let params = self.params.iter().map(|p| p.name.as_str());
+            let near = perhaps(name, params.chain(self.behaviours.iter().map(|b| b.name.as_str())));
+            let why = format!("no parameter and no behaviour `{name}` is declared{near}");
             return Err(Fault::new(Kind::UnknownName, used.place, why));
         };
         match &used.cell {

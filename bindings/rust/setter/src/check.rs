@@ -1,0 +1,151 @@
+//! What the proved engine says of a sheet: its sizes, whether two phones agree, and what may leak.
+use crate::failure::Failure;
+use crate::file::SheetFile;
+use crate::wording::{listed, long, several, spans};
+use poqashem::{Behaviour, Clash, Event, Leak, Player, Refusal, Sheet, Table};
+use sheet_text::Body;
+use std::fmt::Write;
+
+const SHEET: u64 = poqashem::SHEET as u64;
+const PARAMS: u64 = 8;
+const EVENTS: u64 = 32;
+const BEHAVIOURS: u64 = 64;
+const INSTRUCTIONS: u64 = 4_096;
+/// The width of what stands before each line of the report.
+const MARGIN: usize = 16;
+/// So many pairs of events are named; the others are counted.
+const PAIRS: usize = 12;
+
+/// The whole report.
+pub fn report(file: &SheetFile) -> Result<String, Failure> {
+    let table = file.compile()?;
+    let mut out = format!("{}: accepted\n", file.path);
+    let mut size = |what: &str, has: u64, most: u64, more: String| {
+        let _ = writeln!(out, "  {what:12}  {:>6} of {}{more}", long(has), long(most));
+    };
+    size("bytes", file.sheet.bytes().len() as u64, SHEET, String::new());
+    if !file.params.is_empty() {
+        size("parameters", file.params.len() as u64, PARAMS, format!(": {}", file.values()));
+    }
+    size("events", file.events.len() as u64, EVENTS, String::new());
+    size("behaviours", table.behaviours().unwrap_or(0).into(), BEHAVIOURS, String::new());
+    let counts = instructions(file, &table)?;
+    let longest = counts.iter().max_by_key(|(_, n)| *n);
+    let longest =
+        longest.map_or(String::new(), |(e, n)| format!("; the longest event is {}, {}", file.event(*e), long(*n)));
+    size("instructions", counts.iter().map(|(_, n)| n).sum(), INSTRUCTIONS, longest);
+    put(&mut out, "phones", &phones(file, &table)?);
+    put(&mut out, "players", &players(file, &table)?);
+    Ok(out)
+}
+
+/// Lines under one heading.
+fn put(out: &mut String, what: &str, lines: &[String]) {
+    for (k, line) in lines.iter().enumerate() {
+        let heading = if k == 0 { what } else { "" };
+        let _ = writeln!(out, "  {heading:width$}{line}", width = MARGIN - 2);
+    }
+}
+
+/// A call that is never turned down on a table that compile made.
+fn sound<T>(file: &SheetFile, answer: Result<T, Refusal>) -> Result<T, Failure> {
+    answer.map_err(|refusal| Failure::input(format!("{}: unexpected: {refusal}", file.path)))
+}
+
+/// How many instructions each event has: the steps until idle, exact while nothing runs, but the one that starts it.
+fn instructions(file: &SheetFile, table: &Table) -> Result<Vec<(Event, u64)>, Failure> {
+    let one = |e: u32| {
+        let mut round = sound(file, table.start())?;
+        sound(file, round.arrive(Event(e), Player::HOST))?;
+        Ok((Event(e), u64::from(sound(file, round.forecast())?) - 1))
+    };
+    (0..file.events.len() as u32).map(one).collect()
+}
+
+// ---- two phones
+
+/// The sheet with the handlers of two events only.
+fn only(sheet: &sheet_text::Sheet, kept: [usize; 2]) -> Sheet {
+    let mut sheet = sheet.clone();
+    for behaviour in &mut sheet.behaviours {
+        if let Body::Active(active) | Body::Row(_, active) = &mut behaviour.body {
+            active.handlers.retain(|h| kept.contains(&h.event));
+        }
+    }
+    Sheet::new(sheet_text::encode(&sheet))
+}
+
+/// Every two events that are not independent though their ranks differ, each with a behaviour that they share: the
+/// engine's first answer, and then its answer for each pair, the other events having lost their handlers.
+fn clashes(file: &SheetFile) -> Result<Vec<Clash>, Failure> {
+    let lent = file.lent();
+    if sound(file, file.sheet.agree(Some(&lent)))?.is_none() {
+        return Ok(vec![]);
+    }
+    let Ok(declared) = sheet_text::decode(file.sheet.bytes()) else { return Ok(vec![]) };
+    let mut found = vec![];
+    for second in 1..declared.events.len() {
+        for first in 0..second {
+            found.extend(sound(file, only(&declared, [first, second]).agree(Some(&lent)))?);
+        }
+    }
+    found.sort_by_key(|clash| (clash.first, clash.second));
+    Ok(found)
+}
+
+fn phones(file: &SheetFile, table: &Table) -> Result<Vec<String>, Failure> {
+    let clashes = clashes(file)?;
+    if clashes.is_empty() {
+        return Ok(vec!["agree: every two events of unequal rank are independent".to_string()]);
+    }
+    let mut lines = vec!["may end apart: events of unequal rank are not independent".to_string()];
+    let more = clashes.len().saturating_sub(PAIRS);
+    for Clash { first, second, behaviour } in clashes.into_iter().take(PAIRS) {
+        let named = |e: Event| format!("{} (rank {})", file.event(e), table.rank(e).unwrap_or(0));
+        lines.push(format!("{} and {} share {}", named(first), named(second), file.behaviour(behaviour)));
+    }
+    if more > 0 {
+        lines.push(format!("and {}", several(more as u64, "more pair", "more pairs")));
+    }
+    lines.push("give such events one rank, or nothing in common".to_string());
+    Ok(lines)
+}
+
+// ---- players
+
+/// What is hidden from a player, as the board says.
+fn hidden(file: &SheetFile, table: &Table, player: Player) -> Result<Vec<String>, Failure> {
+    let round = sound(file, table.start())?;
+    let hides = |b: &Behaviour| round.board(*b, player) == Err(Refusal::NoRight);
+    let shown = file.everything().into_iter().filter(|s| s.members.iter().all(hides));
+    Ok(shown.map(|s| s.label).collect())
+}
+
+/// Players for whom the same is true, together.
+fn players(file: &SheetFile, table: &Table) -> Result<Vec<String>, Failure> {
+    let mut groups: Vec<(Vec<u32>, Vec<String>, Option<Leak>)> = vec![];
+    for player in Player::ALL.into_iter().filter(|p| *p != Player::HOST) {
+        let hidden = hidden(file, table, player)?;
+        let leak = sound(file, file.sheet.leak(Some(&file.lent()), player))?;
+        match groups.iter_mut().find(|(_, h, l)| (h, l) == (&hidden, &leak)) {
+            Some((who, ..)) => who.push(player.0),
+            None => groups.push((vec![player.0], hidden, leak)),
+        }
+    }
+    Ok(groups.iter().map(|(who, hidden, leak)| told(file, who, hidden, *leak)).collect())
+}
+
+fn told(file: &SheetFile, who: &[u32], hidden: &[String], leak: Option<Leak>) -> String {
+    let who = spans(who);
+    let are = if hidden.len() == 1 { "is" } else { "are" };
+    match leak {
+        _ if hidden.is_empty() => format!("{who}: nothing is hidden from them"),
+        None => format!("{who}: {} {are} hidden, and nothing that they see depends on that", listed(hidden)),
+        Some(Leak { seen, hidden: from }) => format!(
+            "{who}: {} {are} hidden, but may leak: {} is seen and depends on {}",
+            listed(hidden),
+            file.behaviour(seen),
+            file.behaviour(from)
+        ),
+    }
+}

@@ -1,0 +1,317 @@
+//! Files of sheets, as text or as bytes, with the names of what they declare.
+use crate::failure::Failure;
+use crate::wording::{listed, refused};
+use poqashem::{Behaviour, Circle, Event, Params, Refusal, Sheet, Table};
+use sheet_text::{Assembled, Declared, Fault, Kind, Place};
+use std::io::Write;
+
+/// How many parameters the host lends.
+const LENT: usize = 8;
+
+/// A parameter's name and its value, if one is given.
+#[derive(Clone, Debug)]
+pub struct Param {
+    pub name: String,
+    pub value: Option<i32>,
+}
+
+/// A behaviour, or a row of them.
+#[derive(Clone, Debug)]
+pub struct Group {
+    pub name: String,
+    pub first: u32,
+    /// A row's cells.
+    pub cells: Option<u32>,
+    place: Place,
+}
+
+/// A sheet and its names.
+#[derive(Clone, Debug)]
+pub struct SheetFile {
+    pub path: String,
+    pub sheet: Sheet,
+    pub params: Vec<Param>,
+    pub events: Vec<String>,
+    pub groups: Vec<Group>,
+    /// It came as bytes, so the names are invented.
+    pub unnamed: bool,
+}
+
+/// What a board or a preview shows under one name.
+#[derive(Clone, Debug)]
+pub struct Shown {
+    pub label: String,
+    pub members: Vec<Behaviour>,
+    pub row: bool,
+}
+
+/// A file's bytes.
+pub fn bytes_of(path: &str) -> Result<Vec<u8>, Failure> {
+    std::fs::read(path).map_err(|e| Failure::input(format!("{path}: cannot be read: {e}")))
+}
+
+/// Whether bytes are a sheet's and no text: no text begins with one of these bytes.
+pub fn is_sheet(bytes: &[u8]) -> bool {
+    matches!(bytes.first(), Some(1 | 2 | 3 | 6))
+}
+
+/// Writes a file whole or not at all.
+pub fn write(path: &str, bytes: &[u8]) -> Result<(), Failure> {
+    let told = |e: std::io::Error| Failure::input(format!("{path}: cannot be written: {e}"));
+    // something that is no file, such as /dev/stdout, is written to as it is
+    if std::fs::metadata(path).is_ok_and(|m| !m.is_file()) {
+        return std::fs::write(path, bytes).map_err(told);
+    }
+    let beside = format!("{path}.{}.part", std::process::id());
+    let whole = std::fs::File::create(&beside).and_then(|mut file| file.write_all(bytes));
+    let done = whole.and_then(|()| std::fs::rename(&beside, path));
+    if done.is_err() {
+        let _ = std::fs::remove_file(&beside);
+    }
+    done.map_err(told)
+}
+
+/// A fault with its line of the text and a mark under the place.
+fn shown(path: &str, text: &[u8], fault: &Fault) -> Failure {
+    let Fault { kind, place, why } = fault;
+    let mut message = format!("{path}:{}:{}: {} ({}): {why}", place.line, place.column, kind.word(), kind.number());
+    let line = text.split(|b| *b == b'\n').nth(place.line - 1).unwrap_or(b"");
+    let whole = matches!(kind, Kind::LongText | Kind::LongSheet | Kind::ShortBuffer);
+    if !whole && line.len() <= 200 && line.iter().all(|b| b.is_ascii() && (*b >= b' ' || *b == b'\t' || *b == b'\r')) {
+        let line = String::from_utf8_lossy(line);
+        let under = line.chars().take(place.column - 1).map(|c| if c == '\t' { '\t' } else { ' ' });
+        message += &format!("\n    {}\n    {}^", line.trim_end(), under.collect::<String>());
+    }
+    Failure::Input(message)
+}
+
+/// A sheet's bytes as text, where the engine does not turn them down for what they say. A circle and too many
+/// instructions are for whoever compiles the sheet.
+pub fn text_of(path: &str, bytes: &[u8]) -> Result<String, Failure> {
+    match Sheet::new(bytes).compile(Some(&Params::default())) {
+        Ok(_) | Err(Refusal::Circle | Refusal::Overlong) => {}
+        Err(refusal) => return Err(not_a_sheet(path, refusal.number())),
+    }
+    sheet_text::describe(bytes).map_err(|number| not_a_sheet(path, number))
+}
+
+impl SheetFile {
+    /// A file as text or as bytes.
+    pub fn load(path: &str) -> Result<SheetFile, Failure> {
+        let bytes = bytes_of(path)?;
+        if !is_sheet(&bytes) {
+            let read = sheet_text::assemble(&bytes).map_err(|fault| shown(path, &bytes, &fault))?;
+            return Ok(SheetFile::named(path, read, false));
+        }
+        let text = text_of(path, &bytes)?;
+        let read = sheet_text::assemble(text.as_bytes()).map_err(|fault| shown(path, text.as_bytes(), &fault))?;
+        Ok(SheetFile::named(path, read, true))
+    }
+
+    fn named(path: &str, read: Assembled, unnamed: bool) -> SheetFile {
+        let group = |b: &Declared| Group {
+            name: b.name.clone(),
+            first: b.first as u32,
+            cells: b.cells.map(|n| n as u32),
+            place: b.place,
+        };
+        SheetFile {
+            path: path.to_string(),
+            sheet: Sheet::new(read.sheet),
+            params: read.params.into_iter().map(|p| Param { name: p.name, value: p.default }).collect(),
+            events: read.events.into_iter().map(|e| e.name).collect(),
+            groups: read.behaviours.iter().map(group).collect(),
+            unnamed,
+        }
+    }
+
+    /// Gives a parameter a value; whether there is one of this name.
+    pub fn set(&mut self, name: &str, value: i32) -> bool {
+        let own = self.params.iter_mut().find(|p| p.name == name);
+        own.map(|p| p.value = Some(value)).is_some()
+    }
+
+    /// The values lent, 0 for a parameter that has none.
+    pub fn lent(&self) -> Params {
+        let mut values = [0; LENT];
+        for (value, param) in values.iter_mut().zip(&self.params) {
+            *value = param.value.unwrap_or(0);
+        }
+        Params::new(values)
+    }
+
+    /// A round needs a value for each parameter.
+    pub fn all_given(&self) -> Result<(), Failure> {
+        match self.params.iter().find(|p| p.value.is_none()) {
+            None => Ok(()),
+            Some(p) => Err(Failure::input(format!(
+                "{}: the parameter {} has no default: give it a value with --param {}=VALUE",
+                self.path, p.name, p.name
+            ))),
+        }
+    }
+
+    /// The table, or why there is none, in words.
+    pub fn compile(&self) -> Result<Table, Failure> {
+        let lent = self.lent();
+        match self.sheet.compile(Some(&lent)) {
+            Ok(table) => Ok(table),
+            Err(Refusal::Circle) => Err(self.circle(&lent)),
+            Err(Refusal::Overlong) => Err(Failure::input(format!(
+                "{}: {}: every event works out each passive twice, so that few passives or few events help most",
+                self.path,
+                refused(Refusal::Overlong)
+            ))),
+            Err(other) => Err(not_a_sheet(&self.path, other.number())),
+        }
+    }
+
+    /// A shortest circle, by names, at its first behaviour's place.
+    fn circle(&self, lent: &Params) -> Failure {
+        let refusal = Refusal::Circle;
+        let Ok(Some(Circle { event, behaviours })) = self.sheet.circle(Some(lent)) else {
+            return Failure::input(format!("{}: {}", self.path, refused(refusal)));
+        };
+        let under = event.map_or("whatever the event".to_string(), |e| format!("on event {}", self.event(e)));
+        let after = behaviours.iter().cycle().skip(1);
+        let needs: Vec<String> = behaviours
+            .iter()
+            .zip(after)
+            .map(|(a, b)| {
+                let needed = if a == b { "itself".to_string() } else { self.behaviour(*b) };
+                format!("{} needs {needed}", self.behaviour(*a))
+            })
+            .collect();
+        let place = behaviours.first().and_then(|b| self.group(*b)).filter(|_| !self.unnamed);
+        let place = place.map_or(String::new(), |g| format!(":{}:{}", g.place.line, g.place.column));
+        Failure::input(format!("{}{place}: {refusal}: {under}, {}", self.path, listed(&needs)))
+    }
+
+    // ---- names
+
+    fn group(&self, behaviour: Behaviour) -> Option<&Group> {
+        self.groups.iter().find(|g| (g.first..g.first + g.cells.unwrap_or(1)).contains(&behaviour.0))
+    }
+
+    pub fn event(&self, event: Event) -> &str {
+        self.events.get(event.0 as usize).map_or("an event without a name", String::as_str)
+    }
+
+    /// A behaviour's name, with its cell.
+    pub fn behaviour(&self, behaviour: Behaviour) -> String {
+        match self.group(behaviour) {
+            None => format!("behaviour {}", behaviour.0),
+            Some(Group { name, first, cells: Some(_), .. }) => format!("{name}[{}]", behaviour.0 - first),
+            Some(group) => group.name.clone(),
+        }
+    }
+
+    pub fn event_named(&self, name: &str) -> Option<Event> {
+        self.events.iter().position(|e| e == name).map(|n| Event(n as u32))
+    }
+
+    /// All behaviours, a row being one.
+    pub fn everything(&self) -> Vec<Shown> {
+        self.groups.iter().map(whole).collect()
+    }
+
+    /// A behaviour, a row, or a cell of one: `score`, `lamp`, `lamp[3]`.
+    pub fn shown(&self, word: &str) -> Option<Shown> {
+        if let Some(group) = self.groups.iter().find(|g| g.name == word) {
+            return Some(whole(group));
+        }
+        let (name, cell) = word.strip_suffix(']')?.split_once('[')?;
+        let cell: u32 = cell.parse().ok()?;
+        let group = self.groups.iter().find(|g| g.name == name && g.cells.is_some_and(|n| cell < n))?;
+        let members = vec![Behaviour(group.first + cell)];
+        Some(Shown { label: word.to_string(), members, row: false })
+    }
+
+    /// `points = 10, need = 3`.
+    pub fn values(&self) -> String {
+        let one = |p: &Param| match p.value {
+            Some(value) => format!("{} = {value}", p.name),
+            None => format!("{} without a default", p.name),
+        };
+        self.params.iter().map(one).collect::<Vec<_>>().join(", ")
+    }
+}
+
+fn whole(group: &Group) -> Shown {
+    let members = (0..group.cells.unwrap_or(1)).map(|k| Behaviour(group.first + k)).collect();
+    Shown { label: group.name.clone(), members, row: group.cells.is_some() }
+}
+
+/// Bytes that compile turns down.
+fn not_a_sheet(path: &str, number: u32) -> Failure {
+    let why = Refusal::from_number(number).map_or(format!("refused by {number}"), refused);
+    Failure::input(format!("{path}: {why}"))
+}
+
+// ---- joins
+
+/// Two files joined to one sheet, under the names of both: an event that both declare has the first one's.
+pub fn joined(first: &SheetFile, second: &SheetFile) -> Result<SheetFile, Failure> {
+    let path = format!("{} joined with {}", first.path, second.path);
+    let params = shared_params(first, second)?;
+    let mut both = SheetFile { path, params, ..first.clone() };
+    // each for itself, so that a circle is named; then together
+    let tables = [first.compile()?, second.compile()?];
+    let sheet = first.sheet.join(&second.sheet, Some(&both.lent()));
+    both.sheet = sheet.map_err(|refusal| not_joined(first, second, &tables, refusal))?;
+    both.events.extend(second.events.iter().skip(first.events.len()).cloned());
+    let count = first.groups.last().map_or(0, |g| g.first + g.cells.unwrap_or(1));
+    both.groups.extend(second.groups.iter().map(|g| Group { first: g.first + count, ..g.clone() }));
+    both.unnamed = true;
+    Ok(both)
+}
+
+/// Names of both sheets that mean two behaviours.
+pub fn same_names(file: &SheetFile) -> Result<(), Failure> {
+    for (k, group) in file.groups.iter().enumerate() {
+        if file.groups[..k].iter().any(|g| g.name == group.name) {
+            let why =
+                format!("both declare {}: give one of them another name, so that it can be told apart", group.name);
+            return Err(Failure::input(format!("{}: {why}", file.path)));
+        }
+    }
+    Ok(())
+}
+
+/// Parameters are lent to both by number, so that each number has one meaning.
+fn shared_params(first: &SheetFile, second: &SheetFile) -> Result<Vec<Param>, Failure> {
+    let mut params = first.params.clone();
+    for (k, other) in second.params.iter().enumerate() {
+        match params.get_mut(k) {
+            None => params.push(other.clone()),
+            Some(own) if own.name == other.name || second.unnamed || first.unnamed => {
+                own.value = own.value.or(other.value);
+            }
+            Some(own) => {
+                let why =
+                    format!("parameter {k} is {} in {} and {} in {}", own.name, first.path, other.name, second.path);
+                return Err(Failure::input(format!(
+                    "{why}: a join shares parameters by number, so give them one name"
+                )));
+            }
+        }
+    }
+    Ok(params)
+}
+
+fn not_joined(first: &SheetFile, second: &SheetFile, tables: &[Table; 2], refusal: Refusal) -> Failure {
+    let path = format!("{} joined with {}", first.path, second.path);
+    let rank = |k: usize, e: u32| tables[k].rank(Event(e)).ok();
+    let shared = first.events.len().min(second.events.len()) as u32;
+    let unlike = (0..shared).find(|e| rank(0, *e) != rank(1, *e));
+    let why = match (refusal, unlike) {
+        (Refusal::UnlikeRanks, Some(e)) => {
+            let one = |k: usize, file: &SheetFile| {
+                format!("{} of rank {} in {}", file.event(Event(e)), rank(k, e).unwrap_or(0), file.path)
+            };
+            format!("{refusal}: event {e} is {} and {}", one(0, first), one(1, second))
+        }
+        _ => refused(refusal),
+    };
+    Failure::input(format!("{path}: {why}"))
+}

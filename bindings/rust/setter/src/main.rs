@@ -1,0 +1,236 @@
+//! The setter's program: sheets written as text are checked, built, shown, played and drawn.
+//!
+//! What judges or runs a sheet is the proved engine, through the Rust crate. Text to bytes and back is plain Rust until
+//! the engine has calls of its own for it.
+mod check;
+mod failure;
+mod file;
+mod play;
+mod script;
+mod timeline;
+mod wording;
+
+use failure::Failure;
+use file::SheetFile;
+use script::Script;
+use std::io::Write;
+use std::process::ExitCode;
+use wording::several;
+
+const HELP: &str = "\
+setter: sheets written as text
+
+  setter check FILE                    is it accepted, how large is it, do two phones agree, what may leak
+  setter build FILE OUT                write the sheet's bytes
+  setter show SHEET                    a sheet's bytes as text
+  setter join FIRST SECOND OUT         write the bytes of two sheets joined to one
+  setter play FILE SCRIPT              play a round by name
+  setter timeline FILE SCRIPT OUT.svg  draw the same round
+  setter help COMMAND                  more on a command
+
+A FILE is text (docs/TEXT.md) or a sheet's bytes; of bytes, e0, b0 and p0 are the names. Circles, instructions, phones,
+leaks and rounds are the proved engine's answers. Text is turned to bytes and back by plain Rust, which is tested and
+not proved. Ends with 0; with 1 where a file cannot be read or is turned down, with 2 where it was called wrongly.
+";
+
+const CHECK: &str = "\
+setter check FILE [--join OTHER] [--param NAME=VALUE ..]
+
+Says whether the sheet is accepted, with its bytes, parameters, events, behaviours and instructions beside their limits;
+whether two phones that take in the same events in the same order end with the same board, and if not which events
+share what; for the players, what is hidden and what of it may leak. A fault of the text is told as FILE:LINE:COLUMN,
+a circle by its names and event. With --join, of FILE joined with OTHER.
+";
+
+const BUILD: &str = "\
+setter build FILE OUT [--join OTHER]
+
+Writes the sheet's bytes to OUT if the engine accepts the sheet, and nothing else. Parameters stay parameters.
+";
+
+const SHOW: &str = "\
+setter show SHEET
+
+Prints a sheet's bytes as text, with the names e0, b0 and p0; read again it gives the same bytes. A sheet that the
+engine turns down is told with its number.
+";
+
+const JOIN: &str = "\
+setter join FIRST SECOND OUT
+
+Writes one sheet from two: events are shared by number and have the same rank in both, behaviours of the second follow
+those of the first, parameters are shared by number.
+";
+
+const PLAY: &str = "\
+setter play FILE SCRIPT [--join OTHER] [--param NAME=VALUE ..]
+
+Plays a fresh round of the sheet and prints what happens, each line after the number of steps made. A parameter has the
+text's default unless one is given. A script has one statement a line; # begins a comment:
+
+  send EVENT .. [from PLAYER]               they arrive, one after the other; from the host where none is named
+  steps COUNT                               so many steps pass
+  run                                       steps until nothing is in hand
+  board [BEHAVIOUR ..] [by PLAYER]          what the player sees: all, or a behaviour, a row or a cell, lamp[3]
+  preview EVENT [BEHAVIOUR ..] [by PLAYER]  what the board would show if the player sent this event now
+  forecast                                  how many steps until nothing is in hand
+  mend OTHER [NAME=VALUE ..]                the round goes on under another sheet, its path from the script's folder
+";
+
+const TIMELINE: &str = "\
+setter timeline FILE SCRIPT OUT.svg [--join OTHER] [--param NAME=VALUE ..]
+
+Draws what play prints: a lane for each event, a bar while it runs, what was dropped at a break-in, restarts, commits,
+refused arrivals and changes of the sheet, over the steps.
+";
+
+/// A command, its help, and how many files it names.
+const COMMANDS: [(&str, &str, usize); 6] = [
+    ("check", CHECK, 1),
+    ("build", BUILD, 2),
+    ("show", SHOW, 1),
+    ("join", JOIN, 3),
+    ("play", PLAY, 2),
+    ("timeline", TIMELINE, 3),
+];
+
+#[derive(Default)]
+struct Asked {
+    files: Vec<String>,
+    given: Vec<(String, i32)>,
+    join: Option<String>,
+    help: bool,
+}
+
+fn asked(words: impl Iterator<Item = String>) -> Result<Asked, Failure> {
+    let mut asked = Asked::default();
+    let mut words = words;
+    while let Some(word) = words.next() {
+        match word.as_str() {
+            "--help" | "-h" => asked.help = true,
+            "--join" => asked.join = Some(words.next().ok_or(Failure::Usage("--join needs a file".to_string()))?),
+            "--param" => {
+                let given = words.next().and_then(|w| script::assignment(&w));
+                asked.given.push(given.ok_or(Failure::Usage("--param needs NAME=VALUE".to_string()))?);
+            }
+            _ if word.starts_with("--") => return Err(Failure::Usage(format!("no option {word}"))),
+            _ => asked.files.push(word),
+        }
+    }
+    Ok(asked)
+}
+
+fn print(text: &str) -> Result<(), Failure> {
+    Ok(std::io::stdout().write_all(text.as_bytes())?)
+}
+
+/// The sheet that a command is about, joined with another where that is asked, its parameters filled in.
+fn load(asked: &Asked) -> Result<SheetFile, Failure> {
+    let mut file = SheetFile::load(&asked.files[0])?;
+    if let Some(other) = &asked.join {
+        file = file::joined(&file, &SheetFile::load(other)?)?;
+        file::same_names(&file)?;
+    }
+    for (name, value) in &asked.given {
+        if !file.set(name, *value) {
+            return Err(Failure::input(format!("{}: no parameter {name} is declared", file.path)));
+        }
+    }
+    Ok(file)
+}
+
+fn build(asked: &Asked) -> Result<(), Failure> {
+    let file = load(asked)?;
+    file.compile()?;
+    written(&asked.files[1], file.sheet.bytes())
+}
+
+fn written(path: &str, bytes: &[u8]) -> Result<(), Failure> {
+    file::write(path, bytes)?;
+    print(&format!("{path}: {}\n", several(bytes.len() as u64, "byte", "bytes")))
+}
+
+fn show(asked: &Asked) -> Result<(), Failure> {
+    let path = &asked.files[0];
+    let bytes = file::bytes_of(path)?;
+    if !bytes.is_empty() && bytes.iter().all(|b| b.is_ascii_graphic() || b.is_ascii_whitespace()) {
+        return Err(Failure::input(format!("{path}: is text already, not a sheet's bytes")));
+    }
+    let text = file::text_of(path, &bytes)?;
+    if file::is_sheet(&bytes) {
+        SheetFile::load(path)?.compile()?;
+    }
+    print(&text)
+}
+
+fn join(asked: &Asked) -> Result<(), Failure> {
+    let both = file::joined(&SheetFile::load(&asked.files[0])?, &SheetFile::load(&asked.files[1])?)?;
+    written(&asked.files[2], both.sheet.bytes())
+}
+
+/// What is played, at the head of what is printed.
+fn head(file: &SheetFile) -> String {
+    let with = if file.params.is_empty() { String::new() } else { format!(" with {}", file.values()) };
+    format!("{}{with}", file.path)
+}
+
+fn play(asked: &Asked) -> Result<(), Failure> {
+    let file = load(asked)?;
+    let script = Script::load(&asked.files[1], &asked.given)?;
+    play::names_known(&file, &script)?;
+    print(&format!("{}\n  step\n", head(&file)))?;
+    play::play(&file, &script, &mut |entry| print(&format!("{:6}  {}\n", entry.step, entry.words)))?;
+    Ok(())
+}
+
+fn timeline(asked: &Asked) -> Result<(), Failure> {
+    let file = load(asked)?;
+    let script = Script::load(&asked.files[1], &asked.given)?;
+    play::names_known(&file, &script)?;
+    let mut marks = vec![];
+    let steps = play::play(&file, &script, &mut |entry| {
+        marks.extend(entry.mark.map(|mark| (entry.step, mark)));
+        Ok(())
+    })?;
+    let picture = timeline::draw(&file, &head(&file), &marks, steps);
+    file::write(&asked.files[2], picture.as_bytes())
+}
+
+fn run(mut words: impl Iterator<Item = String>) -> Result<(), Failure> {
+    let command = words.next().ok_or(Failure::Usage(format!("no command is named\n\n{HELP}")))?;
+    if ["help", "--help", "-h"].contains(&command.as_str()) {
+        let about = words.next();
+        let known = COMMANDS.iter().find(|(name, ..)| Some(*name) == about.as_deref());
+        return print(known.map_or(HELP, |(_, help, _)| help));
+    }
+    let Some((name, help, files)) = COMMANDS.iter().find(|(name, ..)| *name == command) else {
+        return Err(Failure::Usage(format!("no command {command}\n\n{HELP}")));
+    };
+    let wrong = |why: String| Failure::Usage(format!("{why}\n\n{help}"));
+    let asked = asked(words).map_err(|failure| match failure {
+        Failure::Usage(why) => wrong(why),
+        other => other,
+    })?;
+    if asked.help {
+        return print(help);
+    }
+    if asked.files.len() != *files {
+        return Err(wrong(format!("{name} names {}", several(*files as u64, "file", "files"))));
+    }
+    match *name {
+        "check" => print(&check::report(&load(&asked)?)?),
+        "build" => build(&asked),
+        "show" => show(&asked),
+        "join" => join(&asked),
+        "play" => play(&asked),
+        _ => timeline(&asked),
+    }
+}
+
+fn main() -> ExitCode {
+    // a name that is no text cannot be a word of ours, but may be a file's: it is then not found
+    match run(std::env::args_os().skip(1).map(|word| word.to_string_lossy().into_owned())) {
+        Ok(()) => ExitCode::SUCCESS,
+        Err(failure) => failure.tell(),
+    }
+}
