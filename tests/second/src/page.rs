@@ -76,6 +76,8 @@ fn examples(section: &str) -> Vec<Vec<&str>> {
 fn agreement(section: &str, program: &str) {
     let sheets: Vec<Vec<u8>> = examples(section).iter().map(|b| b.iter().flat_map(|l| bytes_of(l)).collect()).collect();
     assert_eq!(sheets.len(), 2, "a bad final and a good one");
+    as_text("final", &sheets[0]);
+    as_text("good-final", &sheets[1]);
     assert_eq!(proved::agree(&sheets[0], &[]), 29 + (1 << 16), "the bad final: events 0 and 1 share b0");
     assert_eq!(proved::agree(&sheets[1], &[]), 0, "the good final");
     let boards = boards(section);
@@ -89,12 +91,22 @@ fn agreement(section: &str, program: &str) {
     ends(one_by_one(&sheets[1]), &boards[2]);
 }
 
+/// An example's text has the bytes that the page writes out.
+fn as_text(name: &str, bytes: &[u8]) {
+    let text = std::fs::read(format!("examples/{name}.sheet")).expect("an example, from the repository's root");
+    let read = sheet_text::assemble(&text).unwrap_or_else(|fault| panic!("examples/{name}.sheet:{fault}"));
+    assert!(read.sheet == bytes, "examples/{name}.sheet has the page's bytes");
+}
+
 pub fn run(page: &str, program: &str, input: &str) {
     let page = std::fs::read_to_string(page).expect("the page");
     let input = std::fs::read(input).expect("the desk program's example");
     let worked = section(&page, "A worked sheet");
     let bytes: Vec<u8> = example(worked).iter().flat_map(|l| bytes_of(l)).collect();
     assert!(worked.contains(&format!("These are {} bytes.", bytes.len())), "the worked sheet has {} bytes", bytes.len());
+    as_text("s", &bytes);
+    let text = example(section(&page, "Written as text")).join("\n");
+    assert_eq!(sheet_text::assemble(text.as_bytes()).map(|read| read.sheet), Ok(bytes.clone()), "the worked sheet as text");
     assert_eq!([sheet(&bytes), arrive(0), steps(18), show()].concat(), input, "the example's sheet, arrival, 18 steps and show");
 
     let boards = boards(worked);
