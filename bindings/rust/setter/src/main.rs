@@ -94,6 +94,10 @@ const COMMANDS: [(&str, &str, usize); 6] = [
     ("timeline", TIMELINE, 3),
 ];
 
+/// What play prints on a line, behind the number of steps.
+const COLUMNS: usize = 110;
+const MARGIN: usize = 8;
+
 #[derive(Default)]
 struct Asked {
     files: Vec<String>,
@@ -179,7 +183,10 @@ fn play(asked: &Asked) -> Result<(), Failure> {
     let script = Script::load(&asked.files[1], &asked.given)?;
     play::names_known(&file, &script)?;
     print(&format!("{}\n  step\n", head(&file)))?;
-    play::play(&file, &script, &mut |entry| print(&format!("{:6}  {}\n", entry.step, entry.words)))?;
+    play::play(&file, &script, &mut |entry| {
+        let words = wording::folded(&entry.words, COLUMNS, MARGIN + 2);
+        print(&format!("{:6}  {words}\n", entry.step))
+    })?;
     Ok(())
 }
 

@@ -169,7 +169,11 @@ impl Stage<'_> {
         let event = self.event(line, name)?;
         let who = player(from);
         if let Err(refusal) = self.round.arrive(event, from) {
-            let words = format!("{name} from {who} is refused, {}", refused(refusal));
+            let why = match refusal {
+                Refusal::NoRight => format!("{refusal}: the sheet does not let {who} send it"),
+                _ => refused(refusal),
+            };
+            let words = format!("{name} from {who} is refused, {why}");
             return self.say(words, Some(Mark::Refused(name.to_string(), refusal.number())));
         }
         let arrival = Arrival { number: self.taken, event, player: from };

@@ -44,6 +44,25 @@ pub fn listed(words: &[String]) -> String {
     }
 }
 
+/// Words on lines of at most so many letters, those after the first so far in.
+pub fn folded(words: &str, width: usize, indent: usize) -> String {
+    let mut out = String::new();
+    let mut column = 0;
+    for word in words.split(' ') {
+        if column > 0 && column + 1 + word.len() > width {
+            out.push('\n');
+            out.push_str(&" ".repeat(indent));
+            column = 0;
+        } else if column > 0 {
+            out.push(' ');
+            column += 1;
+        }
+        out.push_str(word);
+        column += word.len();
+    }
+    out
+}
+
 pub fn player(who: Player) -> String {
     match who {
         Player::HOST => "the host".to_string(),
@@ -69,5 +88,7 @@ mod tests {
         assert_eq!(spans(&[1, 2, 3, 5, 7]), "1 to 3, 5 and 7");
         assert_eq!(spans(&[1, 2]), "1 and 2");
         assert_eq!(spans(&[4]), "4");
+        assert_eq!(folded("a bc d", 9, 2), "a bc d");
+        assert_eq!(folded("a bc d", 4, 2), "a bc\n  d");
     }
 }

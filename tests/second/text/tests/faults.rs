@@ -368,3 +368,59 @@ fn numbers_and_words() {
     assert_eq!(words.len(), Kind::ALL.len(), "a word of its own");
     assert!(Kind::ALL.iter().map(|k| k.number()).eq(31..31 + Kind::ALL.len() as u32), "numbers in a row");
 }
+
+/// What may follow somewhere in a text, what ends something first.
+const NEXT: [&str; 12] = [")", "]", ",1,1)", ",1)", "(1,1,1)", "1", "[2]=0", "=1", ":1", "by 1", "rank 1", "e"];
+
+/// Whether a text goes on to one within the grammar: what is missing at its end is put there, piece by piece. Names that
+/// are not known do not matter here.
+fn goes_on(text: &str) -> bool {
+    let mut text = text.to_string();
+    let open = |text: &str| assemble(text.as_bytes()).is_err_and(|f| f.place == marked(text).1);
+    let done = |text: &str| match assemble(text.as_bytes()) {
+        Ok(_) => true,
+        Err(f) => matches!(f.kind, Kind::UnknownName | Kind::NoCell | Kind::LongSheet),
+    };
+    for _ in 0..200 {
+        if done(&text) {
+            return true;
+        }
+        let longer = NEXT.iter().map(|n| format!("{text} {n}"));
+        let Some(next) = longer.into_iter().find(|t| done(t) || open(t)) else { return false };
+        text = next;
+    }
+    false
+}
+
+/// A token outside the grammar, or one that makes a formula too deep, is the first such: what stands before it goes on
+/// to a text within the grammar.
+#[test]
+fn no_fault_comes_too_early() {
+    let due = ["!", "(", "if(", "if(", "1", "a", "-1", "!!!!"];
+    let after = ["+", "*", "<", "==", "&&", "||", ",", ")", ",", "+", "seen by 1", "passive b = ", "[1]"];
+    let mut state = 7u64;
+    let mut below = |n: usize| {
+        state = state.wrapping_mul(6364136223846793005).wrapping_add(1442695040888963407);
+        (state >> 33) as usize % n
+    };
+    let mut seen = [0; 2];
+    for _ in 0..3_000 {
+        let mut text = "event e rank 0 passive a = ".to_string();
+        for _ in 0..1 + below(60) {
+            let operand = text.ends_with(['1', 'a', ')', ']']);
+            // mostly what may follow
+            let piece = if operand != (below(25) == 0) { after[below(after.len())] } else { due[below(due.len())] };
+            text += piece;
+        }
+        let Err(fault) = assemble(text.as_bytes()) else { continue };
+        let counted = match fault.kind {
+            Kind::Outside => 0,
+            Kind::TooDeep => 1,
+            _ => continue,
+        };
+        seen[counted] += 1;
+        let before = &text[..fault.place.column - 1];
+        assert!(goes_on(before), "{fault}\n{text}\nbefore it: {before}");
+    }
+    assert!(seen[0] > 300 && seen[1] > 50, "both happen: {seen:?}");
+}

@@ -16,8 +16,8 @@ fn section<'a>(page: &'a str, heading: &str) -> &'a str {
 fn example(section: &str) -> String {
     let lines: Vec<&str> = section.lines().collect();
     let indented = |l: &&str| l.starts_with("    ");
-    let from = lines.iter().position(|l| indented(&l)).expect("an example");
-    let to = lines.iter().rposition(|l| indented(&l)).expect("an example");
+    let from = lines.iter().position(indented).expect("an example");
+    let to = lines.iter().rposition(indented).expect("an example");
     lines[from..=to].iter().map(|l| l.strip_prefix("    ").unwrap_or("").to_string() + "\n").collect()
 }
 

@@ -154,3 +154,20 @@ fn damaged() {
     }
     assert!(read[0] > 1000 && read[1] > 1000, "both happen: {read:?}");
 }
+
+/// The longest text of a sheet of 8,192 bytes is far below the limit: rights spelt out, and handlers over cells.
+#[test]
+fn longest() {
+    let all = "0 1 2 3 4 5 6 7";
+    let mut text: String = (0..32).map(|e| format!("event e{e} rank 15 from {all}\n")).collect();
+    for row in 0..4 {
+        text += &format!("row b{}[16]=-2147483648 seen by {all}\n", 16 * row);
+        for e in 0..32 {
+            text += &format!("  on e{e} later:b48[15]||b48[15]&&(b48[15]||b48[15]&&(b48[15]||b48[15]&&b48[15]))\n");
+        }
+    }
+    let sheet = built(&text);
+    assert!((7_000..=sheet_text::SHEET).contains(&sheet.len()), "{} bytes", sheet.len());
+    assert_eq!(describe(&sheet), Ok(text.clone()));
+    assert!(text.len() < sheet_text::TEXT / 3, "{} bytes of text", text.len());
+}
