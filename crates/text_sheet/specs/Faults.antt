@@ -1,0 +1,14 @@
+-- Why a text is turned down: a kind, and a place, the number of bytes before it. docs/SHEETS.md "Faults".
+use Prim.Native.Nat.{ℕ}
+
+pub data Kind : Type 0 where
+  outside tooLarge offScale tooMany declaredTwice secondHandler tooDeep unknownName noSuchCell longSheet longText : Kind
+
+-- a result, or the first fault
+pub data Result (A : Type 0) : Type 0 where
+  fault : Kind → ℕ → Result A
+  fine : A → Result A
+
+abbrev pub andThen : {A B : Type 0} → Result A → (A → Result B) → Result B
+andThen (fault k p) f = fault k p
+andThen (fine x) f = f x

@@ -1,0 +1,200 @@
+-- The tokens of a sheet's text, and how a text is made of them: docs/SHEETS.md "Tokens". Bytes are those of ASCII.
+use Prim.Native.Nat.{ℕ, suc, _-_, _≤_, _<_}
+use mathlib.Core.Bool.{Bool, true, false, not, _&&_, _||_}
+use mathlib.Core.Path.{_≡_}
+use mathlib.Core.Logic.{_≢_}
+use mathlib.Core.List.{List, [], _∷_, _++_}
+use lib.ListN.{length}
+use lib.Dec.{leb, eqb}
+use Rattle.lib_base.specs.Basics.{pick, All}
+use Rattle.text_formula.specs.Tokens.{decimalValue, NotFirst}
+
+-- each token has its place, the number of bytes before it. A number; a name; or a sign: an operator or `if` by 01's
+-- function number, another mark or reserved word by a number of its own, the end of the text, or a byte where no token
+-- begins
+pub data Token : Type 0 where
+  number : ℕ → ℕ → Token
+  name : ℕ → List ℕ → Token
+  sign : ℕ → ℕ → Token
+
+-- ---- the signs beyond 01's functions. Those that can follow a whole declaration or handler have the highest numbers
+
+abbrev pub opening : ℕ
+opening = 15
+
+abbrev pub closing : ℕ
+closing = 16
+
+abbrev pub comma : ℕ
+comma = 17
+
+abbrev pub colon : ℕ
+colon = 18
+
+abbrev pub equals : ℕ
+equals = 19
+
+abbrev pub bracket : ℕ
+bracket = 20
+
+abbrev pub unbracket : ℕ
+unbracket = 21
+
+abbrev pub rank-word : ℕ
+rank-word = 22
+
+abbrev pub from-word : ℕ
+from-word = 23
+
+abbrev pub by-word : ℕ
+by-word = 24
+
+abbrev pub nobody-word : ℕ
+nobody-word = 25
+
+abbrev pub later-word : ℕ
+later-word = 26
+
+abbrev pub seen-word : ℕ
+seen-word = 27
+
+abbrev pub on-word : ℕ
+on-word = 28
+
+abbrev pub param-word : ℕ
+param-word = 29
+
+abbrev pub event-word : ℕ
+event-word = 30
+
+abbrev pub passive-word : ℕ
+passive-word = 31
+
+abbrev pub active-word : ℕ
+active-word = 32
+
+abbrev pub row-word : ℕ
+row-word = 33
+
+-- the end of the text, and a byte where no token begins
+abbrev pub finish : ℕ
+finish = 34
+
+abbrev pub stray : ℕ
+stray = 35
+
+-- how a sign is spelled
+pub data Spelling : Type 0 where
+  spelled : List ℕ → ℕ → Spelling
+
+-- "Operators, brackets and their precedence are those of 02, M-105; further tokens: `:` `=` `[` `]`."
+unfoldable pub marks : List Spelling
+marks =
+    spelled (124 ∷ 124 ∷ []) 1 -- ||
+    ∷ spelled (38 ∷ 38 ∷ []) 2 -- &&
+    ∷ spelled (33 ∷ []) 3 -- !
+    ∷ spelled (43 ∷ []) 4 -- +
+    ∷ spelled (45 ∷ []) 5 -- -
+    ∷ spelled (42 ∷ []) 6 -- *
+    ∷ spelled (47 ∷ []) 7 -- /
+    ∷ spelled (62 ∷ []) 8 -- >
+    ∷ spelled (62 ∷ 61 ∷ []) 9 -- >=
+    ∷ spelled (60 ∷ []) 10 -- <
+    ∷ spelled (60 ∷ 61 ∷ []) 11 -- <=
+    ∷ spelled (61 ∷ 61 ∷ []) 12 -- ==
+    ∷ spelled (33 ∷ 61 ∷ []) 13 -- !=
+    ∷ spelled (40 ∷ []) opening
+    ∷ spelled (41 ∷ []) closing
+    ∷ spelled (44 ∷ []) comma
+    ∷ spelled (58 ∷ []) colon
+    ∷ spelled (61 ∷ []) equals
+    ∷ spelled (91 ∷ []) bracket
+    ∷ spelled (93 ∷ []) unbracket
+    ∷ []
+
+-- "reserved: `param event rank from passive active row seen by nobody on later if`"
+unfoldable pub reserved : List Spelling
+reserved =
+    spelled (112 ∷ 97 ∷ 114 ∷ 97 ∷ 109 ∷ []) param-word
+    ∷ spelled (101 ∷ 118 ∷ 101 ∷ 110 ∷ 116 ∷ []) event-word
+    ∷ spelled (114 ∷ 97 ∷ 110 ∷ 107 ∷ []) rank-word
+    ∷ spelled (102 ∷ 114 ∷ 111 ∷ 109 ∷ []) from-word
+    ∷ spelled (112 ∷ 97 ∷ 115 ∷ 115 ∷ 105 ∷ 118 ∷ 101 ∷ []) passive-word
+    ∷ spelled (97 ∷ 99 ∷ 116 ∷ 105 ∷ 118 ∷ 101 ∷ []) active-word
+    ∷ spelled (114 ∷ 111 ∷ 119 ∷ []) row-word
+    ∷ spelled (115 ∷ 101 ∷ 101 ∷ 110 ∷ []) seen-word
+    ∷ spelled (98 ∷ 121 ∷ []) by-word
+    ∷ spelled (110 ∷ 111 ∷ 98 ∷ 111 ∷ 100 ∷ 121 ∷ []) nobody-word
+    ∷ spelled (111 ∷ 110 ∷ []) on-word
+    ∷ spelled (108 ∷ 97 ∷ 116 ∷ 101 ∷ 114 ∷ []) later-word
+    ∷ spelled (105 ∷ 102 ∷ []) 14
+    ∷ []
+
+-- the same bytes: "upper and lower case differ"
+unfoldable pub same : List ℕ → List ℕ → Bool
+same [] [] = true
+same [] (b ∷ m) = false
+same (a ∷ l) [] = false
+same (a ∷ l) (b ∷ m) = pick (eqb a b) (same l m) false
+
+-- the sign that is spelled so; 0 for none
+unfoldable pub signOf : List ℕ → List Spelling → ℕ
+signOf w [] = 0
+signOf w (spelled s n ∷ rows) = pick (same w s) n (signOf w rows)
+
+-- ---- kinds of bytes
+
+unfoldable pub isDigit : ℕ → Bool
+isDigit b = leb 48 b && leb b 57
+
+unfoldable pub isLetter : ℕ → Bool
+isLetter b = (leb 65 b && leb b 90) || ((leb 97 b && leb b 122) || eqb b 95)
+
+unfoldable pub inWord : ℕ → Bool
+inWord b = isLetter b || isDigit b
+
+-- space, tab, line feed, carriage return
+unfoldable pub isBlank : ℕ → Bool
+isBlank b = eqb b 32 || (eqb b 9 || (eqb b 10 || eqb b 13))
+
+-- any byte but a line feed
+unfoldable pub inComment : ℕ → Bool
+inComment b = not (eqb b 10)
+
+-- every byte is of a kind; the text ends, or goes on with a byte of another kind
+abbrev pub Are : (ℕ → Bool) → List ℕ → Type 0
+Are kind = All (λ b. kind b ≡ true)
+
+abbrev pub Stops : (ℕ → Bool) → List ℕ → Type 0
+Stops kind = NotFirst (λ b. kind b ≡ true)
+
+-- ---- a text of so many bytes, and what is left of it
+
+abbrev pub placeIn : ℕ → List ℕ → ℕ
+placeIn long bs = long - length bs
+
+-- a word is reserved, or a name
+abbrev pub wordAt : ℕ → List ℕ → Token
+wordAt p w = pick (eqb (signOf w reserved) 0) (name p w) (sign p (signOf w reserved))
+
+-- what is left begins with a token, and the rest follows it. "A number is decimal digits, leading zeros allowed." "A
+-- name is a letter or `_`, then letters, digits and `_`, at most 32 bytes". "A token is as long as it can be"
+pub data Begins (long : ℕ) : List ℕ → Token → List ℕ → Type 0 where
+  a-number : (b : ℕ) (ds rest : List ℕ) → isDigit b ≡ true → Are isDigit ds → Stops isDigit rest
+      → Begins long (b ∷ (ds ++ rest)) (number (placeIn long (b ∷ (ds ++ rest))) (decimalValue 0 (b ∷ ds))) rest
+  a-word : (b : ℕ) (w rest : List ℕ) → isLetter b ≡ true → Are inWord w → Stops inWord rest → length (b ∷ w) ≤ 32
+      → Begins long (b ∷ (w ++ rest)) (wordAt (placeIn long (b ∷ (w ++ rest))) (b ∷ w)) rest
+  a-long-mark : (b c : ℕ) (rest : List ℕ) → signOf (b ∷ c ∷ []) marks ≢ 0
+      → Begins long (b ∷ c ∷ rest) (sign (placeIn long (b ∷ c ∷ rest)) (signOf (b ∷ c ∷ []) marks)) rest
+  a-mark : (b : ℕ) (rest : List ℕ) → signOf (b ∷ []) marks ≢ 0 → NotFirst (λ c. signOf (b ∷ c ∷ []) marks ≢ 0) rest
+      → Begins long (b ∷ rest) (sign (placeIn long (b ∷ rest)) (signOf (b ∷ []) marks)) rest
+
+-- "Spaces, tabs, line ends and comments separate tokens and mean nothing else", "in a comment any byte but a line
+-- feed". Where no token begins the last one is `stray`
+pub data Tokens (long : ℕ) : List ℕ → List Token → Type 0 where
+  t-end : Tokens long [] (sign (placeIn long []) finish ∷ [])
+  t-blank : (b : ℕ) {bs : List ℕ} {ts : List Token} → isBlank b ≡ true → Tokens long bs ts → Tokens long (b ∷ bs) ts
+  t-comment : (c rest : List ℕ) {ts : List Token} → Are inComment c → Stops inComment rest → Tokens long rest ts → Tokens long (35 ∷ (c ++ rest)) ts
+  t-token : {bs rest : List ℕ} {t : Token} {ts : List Token} → Begins long bs t rest → Tokens long rest ts → Tokens long bs (t ∷ ts)
+  t-stray : (b : ℕ) (bs : List ℕ) → isBlank b ≡ false → b ≢ 35 → ((t : Token) (rest : List ℕ) → Begins long (b ∷ bs) t rest → ⊥)
+      → Tokens long (b ∷ bs) (sign (placeIn long (b ∷ bs)) stray ∷ [])
