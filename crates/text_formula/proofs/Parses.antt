@@ -16,7 +16,7 @@ use Rattle.text_formula.specs.Reader.{level, levelOf, operatorOf, bracke
 
 -- ---- the levels of operators
 
-level-of : {l f : ℕ} → Operator l f → level f ≡ l
+pub level-of : {l f : ℕ} → Operator l f → level f ≡ l
 unfolding level
 level-of times = refl
 level-of divided = refl
@@ -42,7 +42,7 @@ of-four f lo hi =
     split (ltb f 10) (λ e. of-two f 8 above at-least lo (omega (arith, ltb-true f 10 e)))
     (λ e. of-two f 10 below at-most (ltb-false f 10 e) hi)
 
-operator-of : (l f : ℕ) → level f ≡ suc l → Operator (suc l) f
+pub operator-of : (l f : ℕ) → level f ≡ suc l → Operator (suc l) f
 unfolding level
 operator-of l f =
     by-test Q (ltb 13 f) (λ e h. absurd (omega arith))

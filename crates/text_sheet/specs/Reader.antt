@@ -50,7 +50,7 @@ rest (t ∷ ts) = ts
 
 -- ---- what is due: a sign, a name, a number up to a bound
 
-abbrev pub past : {A : Type 0} → ℕ → (List Token → Got A) → List Token → Got A
+unfoldable pub past : {A : Type 0} → ℕ → (List Token → Got A) → List Token → Got A
 past c f ts = pick (eqb (signAt ts) c) (f (rest ts)) (bad outside (placeAt ts))
 
 abbrev pub nameDue : {A : Type 0} → (ℕ → List ℕ → List Token → Got A) → List Token → Got A
@@ -206,7 +206,7 @@ reactionOf es ns ts =
     (bad unknownName p))) (rest ts)
 
 abbrev pub reactionsOf : List (List ℕ) → List Token → Got (List Reaction)
-reactionsOf es ts = manyOf (eqb on-word) (reactionOf es) withReaction (length ts) [] ts
+reactionsOf es ts = manyOf (λ c. eqb c on-word) (reactionOf es) withReaction (length ts) [] ts
 
 unfoldable pub passiveOf : List ℕ → List Token → Got Behaviour
 passiveOf s ts = past equals (λ us. then (formulaOf us) (λ e vs. then (seenOf vs) (λ m ws. got (behaviour s (passive e) m) ws))) ts
@@ -235,6 +235,10 @@ behaviourOf es (taken ns i) ts =
     pick (leb 64 i) (bad tooMany (placeAt ts))
     (nameDue (λ p s us. pick (among s ns) (bad declaredTwice p) (kindOf es i (signAt ts) s us)) (rest ts))
 
+-- a word that begins a behaviour
+unfoldable pub behaviourBegins : ℕ → Bool
+behaviourBegins c = leb passive-word c && leb c row-word
+
 -- ---- the whole
 
 -- the text ends here
@@ -247,14 +251,15 @@ abbrev pub ending : Got Text → Result Text
 ending (bad k p) = fault k p
 ending (got x ts) = wholly x ts
 
-unfoldable pub readTokens : List Token → Result Text
-readTokens ts =
-    ending
-    (then (manyOf (eqb param-word) parameterOf withParameter (length ts) [] ts) (λ ps us.
-    then (manyOf (eqb event-word) eventOf withEvent (length us) [] us) (λ es vs.
-    then (manyOf (λ c. leb passive-word c && leb c row-word) (behaviourOf (afterAll withEvent [] es)) withBehaviour
-    (length vs) (taken (afterAll withParameter [] ps) 0) vs) (λ bs ws.
-    got (text ps es bs) ws))))
+unfoldable pub declarationsOf : List Token → Got Text
+declarationsOf ts =
+    then (manyOf (λ c. eqb c param-word) parameterOf withParameter (length ts) [] ts) (λ ps us.
+    then (manyOf (λ c. eqb c event-word) eventOf withEvent (length us) [] us) (λ es vs.
+    then (manyOf behaviourBegins (behaviourOf (afterAll withEvent [] es)) withBehaviour (length vs) (taken (afterAll withParameter [] ps) 0) vs) (λ bs ws.
+    got (text ps es bs) ws)))
+
+abbrev pub readTokens : List Token → Result Text
+readTokens ts = ending (declarationsOf ts)
 
 unfoldable pub readText : List ℕ → Result Text
 readText bytes = readTokens (scan bytes)
