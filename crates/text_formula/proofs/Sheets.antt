@@ -33,7 +33,7 @@ Proper (app1 f a) = Arity f 1 × Proper a
 Proper (app2 f a b) = Arity f 2 × Proper a × Proper b
 Proper (app3 f a b c) = Arity f 3 × Proper a × Proper b × Proper c
 
-operator-binary : {l f : ℕ} → Operator l f → Arity f 2
+pub operator-binary : {l f : ℕ} → Operator l f → Arity f 2
 operator-binary times = binary {f = 6} (omega arith) (omega arith) (omega arith)
 operator-binary divided = binary {f = 7} (omega arith) (omega arith) (omega arith)
 operator-binary plus = binary {f = 4} (omega arith) (omega arith) (omega arith)

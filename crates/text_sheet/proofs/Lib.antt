@@ -3,3 +3,7 @@ pub mod Parses
 pub mod Players
 pub mod Declarations
 pub mod Readings
+pub mod Names
+pub mod Proper
+pub mod Fits
+pub mod Renamed

@@ -9,7 +9,7 @@ use mathlib.Core.List.{List, [], _∷_, _++_}
 use native.Mathlib.Omega.{arith}
 use lib.ListN.{length, getD, length-append}
 use lib.Dec.{ltb, leb, eqb}
-use borrow.Author.Tests.{leb-true, leb-false, le-leb, eqb-true, eqb-false, ne-eqb}
+use borrow.Author.Tests.{leb-true, leb-false, le-leb, eqb-true, eqb-false, eq-eqb, ne-eqb}
 use Rattle.lib_base.specs.Basics.{pick, All}
 use Rattle.lib_base.proofs.Tools.{by-test, by-elim, split, past}
 use Rattle.text_formula.specs.Tokens.{decimalValue, NotFirst}
@@ -67,6 +67,11 @@ same-is (a ∷ l) (b ∷ m) =
     by-test (λ x. x ≡ true → a ∷ l ≡ b ∷ m) (eqb a b)
     (λ e h. let p : a ≡ b = eqb-true a b e in let q : l ≡ m = same-is l m h in rw (p, q))
     (λ e h. absurd (false≢true h))
+
+pub same-self : (l : List ℕ) → same l l ≡ true
+unfolding same
+same-self [] = refl
+same-self (b ∷ l) = rw (eq-eqb b b refl) (same-self l)
 
 -- no row is spelled with a first byte of a kind
 unfoldable noneFirst : (ℕ → Bool) → List Spelling → Bool

@@ -6,3 +6,4 @@ pub mod Limits
 pub mod Meaning
 pub mod Scanner
 pub mod Reader
+pub mod Renaming
