@@ -7,3 +7,4 @@ pub mod Names
 pub mod Proper
 pub mod Fits
 pub mod Renamed
+pub mod Examples

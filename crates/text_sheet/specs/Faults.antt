@@ -2,7 +2,7 @@
 use Prim.Native.Nat.{ℕ}
 
 pub data Kind : Type 0 where
-  outside tooLarge offScale tooMany declaredTwice secondHandler tooDeep unknownName noSuchCell longSheet longText : Kind
+  outside tooLarge offScale tooMany declaredTwice secondHandler tooDeep unknownName noSuchCell longSheet shortBuffer longText : Kind
 
 -- a result, or the first fault
 pub data Result (A : Type 0) : Type 0 where

@@ -7,3 +7,4 @@ pub mod Meaning
 pub mod Scanner
 pub mod Reader
 pub mod Renaming
+pub mod Answer
