@@ -13,6 +13,7 @@ use Rattle.secrecy_leak.proofs.LeaklessHolds.{with-no-condition}
 use Rattle.claims.specs.Claims.{Claims}
 use Rattle.claims.proofs.Demand1Holds.{demand-1}
 use Rattle.claims.proofs.RequestsHold.{exactly, halves-go-down, parameters, formulas, rights, circles, paper-order, rows, pooling}
+use Rattle.claims.proofs.TextsHold.{texts}
 
 pub claims : Claims
 claims = record {
@@ -39,4 +40,5 @@ claims = record {
   rounds-agree = rounds-agree;
   condition-needed = needed;
   leaks = with-no-condition;
+  texts = texts;
 }

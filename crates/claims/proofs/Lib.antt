@@ -1,3 +1,4 @@
 pub mod Demand1Holds
 pub mod RequestsHold
+pub mod TextsHold
 pub mod ClaimsHold

@@ -16,6 +16,7 @@ use Rattle.engine_agree.specs.Agreement.{PhonesAgree, RoundsAgree}
 use Rattle.engine_agree.specs.Final.{Needed}
 use Rattle.secrecy_leak.specs.Leakless.{WithNoCondition as NoLeak}
 use Rattle.claims.specs.Demand1.{Demand1}
+use Rattle.claims.specs.Texts.{Texts}
 use Rattle.claims.specs.Requests.{AcceptedExactly, HalvesGoDown, Parameters, Formulas, Rights, Circles, PaperOrder, Rows, Pooling}
 
 pub record Claims : Type 0 where
@@ -67,3 +68,5 @@ pub record Claims : Type 0 where
   -- rule holds with no condition left; with changes of sheets, where each sheet gets 0, none but M-112's own: at each
   -- change the same behaviours are hidden
   pub leaks : NoLeak
+  -- a sheet as its setter writes it
+  pub texts : Texts

@@ -1,3 +1,4 @@
 pub mod Demand1
 pub mod Requests
+pub mod Texts
 pub mod Claims

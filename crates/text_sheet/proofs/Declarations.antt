@@ -71,9 +71,10 @@ default-sound : (p q : ℕ) (s : List ℕ) (ns : List (List ℕ)) (ts : List Tok
 unfolding defaultOf Valued
 default-sound p q s ns ts l a =
     by-test (Of F) (eqb (signAt ts) equals)
-    (λ e. then-of F (Valued (rest ts)) _ (λ c us h.
-    (subst (λ (l : List Token). IsParameter (sign p param-word ∷ name q s ∷ l) (parameter s (some c)) us) (sym (signed-is equals (omega arith) ts e)) (p-given (h .0)),
-    (l, a, h .1))) (valueOf (rest ts)) (value-sound (rest ts)))
+    (λ e. then-of F (Valued (rest ts)) _ (λ c us h. (
+      subst (λ (l : List Token). IsParameter (sign p param-word ∷ name q s ∷ l) (parameter s (some c)) us) (sym (signed-is equals (omega arith) ts e)) (p-given (h .0)),
+      (l, a, h .1),
+    )) (valueOf (rest ts)) (value-sound (rest ts)))
     (λ e. (p-bare, (l, a, tt)))
   where
     F : Parameter → List Token → Type 0
@@ -104,9 +105,11 @@ parameters-are = record { begins = starts; first = first; less = less; reads = p
     starts : {ts us : List Token} {x : Parameter} → IsParameter ts x us → eqb (signAt ts) param-word ≡ true
     starts p-bare = refl
     starts (p-given v) = refl
+
     first : {ts us : List Token} {x : Parameter} → IsParameter ts x us → param-word ≤ signAt ts
     first p-bare = omega arith
     first (p-given v) = omega arith
+
     less : {ts us : List Token} {x : Parameter} → IsParameter ts x us → length us < length ts
     less p-bare = omega arith
     less (p-given v) = omega (arith, value-less v)
@@ -140,8 +143,10 @@ events-are = record { begins = starts; first = first; less = less; reads = event
   where
     starts : {ts us : List Token} {x : Event} → IsEvent ts x us → eqb (signAt ts) event-word ≡ true
     starts (e-event d) = refl
+
     first : {ts us : List Token} {x : Event} → IsEvent ts x us → event-word ≤ signAt ts
     first (e-event d) = omega arith
+
     less : {ts us : List Token} {x : Event} → IsEvent ts x us → length us < length ts
     less (e-event d) = omega (arith, from-less d)
 
@@ -181,9 +186,11 @@ reactions-are es = record { begins = starts; first = first; less = less; reads =
     starts : {ts us : List Token} {x : Reaction} → IsReaction ts x us → eqb (signAt ts) on-word ≡ true
     starts (r-now d) = refl
     starts (r-later d) = refl
+
     first : {ts us : List Token} {x : Reaction} → IsReaction ts x us → on-word ≤ signAt ts
     first (r-now d) = omega arith
     first (r-later d) = omega arith
+
     less : {ts us : List Token} {x : Reaction} → IsReaction ts x us → length us < length ts
     less (r-now d) = omega (arith, derives-less d)
     less (r-later d) = omega (arith, derives-less d)
@@ -234,9 +241,10 @@ module _ (es : List (List ℕ)) where
         (λ a. past-of (B row-word) unbracket (omega arith) _ vs (λ o ws z.
         state-sound (B row-word) s (row n) ws (λ u ys zs cs ds c m hs w g h k.
         let e = none-of (ltb n 2) (ltb 16 n) d in
-        let v : ts ≡ sign r bracket ∷ number t n ∷ sign o unbracket ∷ sign u equals ∷ ys = rw (x, y, z, w) in
-        (rw v (b-row (g .0) (h .0) (k .0)),
-        (ltb-false 64 (i + n) a, fresh, (ltb-false n 2 (e .0), ltb-false 16 n (e .1), g .1, k .1), h .1))))))))
+        let v : ts ≡ sign r bracket ∷ number t n ∷ sign o unbracket ∷ sign u equals ∷ ys = rw (x, y, z, w) in (
+          rw v (b-row (g .0) (h .0) (k .0)),
+          (ltb-false 64 (i + n) a, fresh, (ltb-false n 2 (e .0), ltb-false 16 n (e .1), g .1, k .1), h .1),
+        )))))))
 
 -- the first word, which is one of three, says which
 begins-within : (c : ℕ) → behaviourBegins c ≡ true → (passive-word ≤ c) × (c ≤ row-word)
@@ -299,8 +307,17 @@ behaviour-reads es (taken ns i) (b-active v m d) f h =
 behaviour-reads es (taken ns i) (b-row {n = k} v m d) f h =
     let n = reactions-first es d h in
     let g = f .2 in
-    rw (lt-leb 64 i (omega (arith, f .0)), f .1, le-ltb largest k (omega (arith, g .1)), le-ltb k 2 (g .0), le-ltb 16 k (g .1), le-ltb 64 (i + k) (f .0),
-    value-reads v (g .2), seen-reads m (f .3) (omega arith), reactions-read es d (g .3) h)
+    rw (
+      lt-leb 64 i (omega (arith, f .0)),
+      f .1,
+      le-ltb largest k (omega (arith, g .1)),
+      le-ltb k 2 (g .0),
+      le-ltb 16 k (g .1),
+      le-ltb 64 (i + k) (f .0),
+      value-reads v (g .2),
+      seen-reads m (f .3) (omega arith),
+      reactions-read es d (g .3) h,
+    )
 
 pub behaviours-are : (es : List (List ℕ)) → Member behaviourBegins (behaviourOf es) withBehaviour IsBehaviour (BehaviourFits es) passive-word
 unfolding behaviourBegins
@@ -310,12 +327,15 @@ behaviours-are es = record { begins = starts; first = first; less = less; reads 
     starts (b-passive d m) = refl
     starts (b-active v m d) = refl
     starts (b-row v m d) = refl
+
     first : {ts us : List Token} {x : Behaviour} → IsBehaviour ts x us → passive-word ≤ signAt ts
     first (b-passive d m) = omega arith
     first (b-active v m d) = omega arith
     first (b-row v m d) = omega arith
+
     fewer : {ts us : List Token} {hs : List Reaction} → Many IsReaction ts hs us → length us ≤ length ts
     fewer d = many-less (λ c. eqb c on-word) (reactionOf es) withReaction IsReaction (ReactionFits es) on-word (reactions-are es) d
+
     less : {ts us : List Token} {x : Behaviour} → IsBehaviour ts x us → length us < length ts
     less (b-passive d m) = omega (arith, derives-less d, seen-less m)
     less (b-active v m d) = omega (arith, value-less v, seen-less m, fewer d)

@@ -205,8 +205,7 @@ pub outside-the-grammar : (assembled (112 ∷ 97 ∷ 114 ∷ 97 ∷ 109 ∷ 32 �
 unfolding marks reserved same signOf isDigit isLetter inWord isBlank inComment decimalValue level run beyond firstOf tokensOf among nesting afterAll names bitsBelow behaviourNamed found eventNamed termOf clausesOf entriesOf sheetOf past valueOf chain tower cellOf constantOf bracketedOf choiceOf signedOf operandAt morePlayers fromOf seenOf manyOf defaultOf parameterOf eventOf reactionOf passiveOf stateOf rowOf behaviourOf behaviourBegins declarationsOf readText assembled encode encodeEvents encodeBehaviours encodeHandlers encodeExpr
 outside-the-grammar = (refl, refl, refl, refl, refl, refl, refl, refl)
 
--- a number over 2,147,483,647, and one more after a `-` that makes a constant; also as a rank, a count, a player, a
--- cell
+-- a number over 2,147,483,647, and one more after a `-` that makes a constant; also as a rank, a count, a cell
 --   param a=2147483648  ('tooLarge', 8)
 --   param a=-2147483649  ('tooLarge', 9)
 --   passive a=1-2147483648  ('tooLarge', 12)

@@ -7,7 +7,7 @@ use mathlib.Core.Logic.{_≢_}
 use mathlib.Core.Option.{Option, none, some}
 use mathlib.Core.List.{List, [], _∷_, map}
 use native.Mathlib.Omega.{arith}
-use lib.ListN.{length}
+use lib.ListN.{length, length-map}
 use lib.Dec.{ltb, eqb}
 use borrow.Author.Tests.{ltb-true}
 use Rattle.lib_base.specs.Basics.{pick, All}
@@ -149,6 +149,7 @@ module _ (es : List Event) (find : List ℕ → Found) (c : ℕ) where
     where
       N : List Clause → Type 0
       N = NoClauseFor (eventNamed es s)
+
       nothing-of : (r : Result Term) → Okay (λ x. Unit {0}) r
       nothing-of (fault k p) = tt
       nothing-of (fine x) = tt
@@ -215,10 +216,6 @@ signals-fit : (ns : List (List ℕ)) (es : List Event) → InTurn EventFits with
 signals-fit ns [] f = tt
 signals-fit ns (event s n m ∷ es) f = ((f .0 .2, rights-fit m), signals-fit (s ∷ ns) es (f .1))
 
-signal-count : (es : List Event) → length (map signalOf es) ≡ length es
-signal-count [] = refl
-signal-count (event s n m ∷ es) = ap suc (signal-count es)
-
 -- within 01's limits but for the length, and every name known
 pub record Sound (s : Sheet) : Type 0 where
   pub fits : length (encode s) ≤ 8192 → SheetFits s
@@ -230,14 +227,16 @@ sheet-sound es m xs f few h = record { fits = fits; known = λ short v. names-se
   where
     s : Sheet
     s = sheet (map signalOf es) xs
+
     fits : length (encode s) ≤ 8192 → SheetFits s
     fits short = record {
-      few-events = omega (arith, signal-count es, event-count [] es (omega arith) f);
+      few-events = omega (arith, length-map es signalOf, event-count [] es (omega arith) f);
       few-behaviours = omega (arith, h .many);
       scale = signals-fit [] es f;
-      each = subst (λ n. All (EntryFits n) xs) (sym (signal-count es)) (h .fits);
+      each = subst (λ n. All (EntryFits n) xs) (sym (length-map es signalOf)) (h .fits);
       few-bytes = short;
     }
+
     sized : (v : ℕ → ℕ) → size (fill v s) ≡ m
     sized v = length-fill v (rowsOut s .entries) ∙ (length-out xs xs ∙ h .many)
 

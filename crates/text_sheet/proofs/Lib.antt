@@ -8,3 +8,4 @@ pub mod Proper
 pub mod Fits
 pub mod Renamed
 pub mod Examples
+pub mod Answers

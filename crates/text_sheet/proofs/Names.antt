@@ -71,7 +71,7 @@ unfolding afterAll eventNamed among
 event-either s ns [] h = inl h
 event-either s ns (event t n m ∷ es) h =
     ⊎-elim
-    (split (same s t) (λ e x. inr (rw e (omega arith))) (λ e x. inl (rw e at x)))
+    (split (same s t) (λ e _. inr (rw e (omega arith))) (λ e x. inl (rw e at x)))
     (λ x. inr (by-test (λ k. k < suc (length es)) (same s t) (λ e. omega arith) (λ e. omega arith)))
     (event-either s (t ∷ ns) es h)
 
@@ -91,7 +91,9 @@ event-own (event u n m ∷ es) s t h e =
   where
     zero-suc : {n : ℕ} → 0 ≡ suc n → ⊥
     zero-suc p = omega arith
+
     less : {j k : ℕ} → suc j < suc k → j < k
     less p = omega arith
+
     same-suc : {j k : ℕ} → suc j ≡ suc k → j ≡ k
     same-suc p = omega arith

@@ -162,9 +162,10 @@ module _ (all : List Token → Got Phrase) (ih : (ts : List Token) → Of (Formu
       past-of F comma (omega arith) _ xs (λ t ys z.
       then-of F (Formula 6 ys) _ (λ c zs i.
       past-of F closing (omega arith) _ zs (λ o end w.
-      within-of F p (choice a b c) end (λ n.
-      (rw x (chosen (subst (Derives 6 us a) y (g .0)) (subst (Derives 6 ws b) z (h .0)) (subst (Derives 6 ys c) w (i .0))),
-      record { numbers = (g .1 .numbers, h .1 .numbers, i .1 .numbers); nested = n }))))
+      within-of F p (choice a b c) end (λ n. (
+        rw x (chosen (subst (Derives 6 us a) y (g .0)) (subst (Derives 6 ws b) z (h .0)) (subst (Derives 6 ys c) w (i .0))),
+        record { numbers = (g .1 .numbers, h .1 .numbers, i .1 .numbers); nested = n },
+      ))))
       (all ys) (ih ys))) (all ws) (ih ws))) (all us) (ih us))
     where
       F : Phrase → List Token → Type 0
@@ -238,10 +239,11 @@ choice-parts a b c h =
     let r = deeper-right (nesting a) (nesting b) in
     let m = deeper-left (deeper (nesting a) (nesting b)) (nesting c) in
     let o = deeper-right (deeper (nesting a) (nesting b)) (nesting c) in
-    let n : suc (deeper (deeper (nesting a) (nesting b)) (nesting c)) ≤ 16 = h .nested in
-    (record { numbers = h .numbers .0; nested = omega arith },
-    record { numbers = h .numbers .1; nested = omega arith },
-    record { numbers = h .numbers .2; nested = omega arith })
+    let n : suc (deeper (deeper (nesting a) (nesting b)) (nesting c)) ≤ 16 = h .nested in (
+      record { numbers = h .numbers .0; nested = omega arith },
+      record { numbers = h .numbers .1; nested = omega arith },
+      record { numbers = h .numbers .2; nested = omega arith },
+    )
 
 -- what follows begins with no `[`, and with no two-sided operator tighter than level l
 abbrev Calm : ℕ → List Token → Type 0

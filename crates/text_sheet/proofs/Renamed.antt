@@ -5,13 +5,14 @@ use mathlib.Core.Bool.{true, false, _&&_, false≢true}
 use mathlib.Core.Path.{_≡_, refl, sym, ap, _∙_}
 use mathlib.Core.List.{List, [], _∷_, map}
 use lib.Dec.{eqb, ltb}
+use lib.ListN.{length, length-map}
 use Rattle.lib_base.specs.Basics.{pick}
 use Rattle.lib_base.proofs.Tools.{by-test, split}
 use Rattle.spec_language.specs.Sheet.{Term, Clause, Item, Entry, Sheet}
 use Rattle.text_sheet.specs.Tokens.{same}
 use Rattle.text_sheet.specs.Text.{Phrase, constant, named, cell, negation, operation, choice, Reaction, on, Body, passive, active, row, Parameter, parameter, Event, event, Behaviour, behaviour, Text, text}
 use Rattle.text_sheet.specs.Faults.{Result, fault, fine, andThen, noSuchCell}
-use Rattle.text_sheet.specs.Limits.{cellsOf}
+use Rattle.text_sheet.specs.Limits.{among, nesting, NumbersFit, PhraseFits, InTurn, afterAll, ParameterFits, withParameter, EventFits, withEvent, ReactionFits, withReaction, cellsOf, BodyFits, taken, BehaviourFits, withBehaviour, TextFits}
 use Rattle.text_sheet.specs.Meaning.{Found, nothing, aParameter, aBehaviour, aRow, foundAs, behaviourNamed, found, eventNamed, nameTerm, cellTerm, termOf, clausesOf, itemOf, entriesOf, signalOf, sheetOf}
 use Rattle.text_sheet.specs.Renaming.{Consistent, phraseAs, reactionsAs, bodyAs, parameterAs, eventAs, behaviourAs, textAs, movedBy}
 use Rattle.text_sheet.proofs.Scans.{same-is, same-self}
@@ -115,3 +116,78 @@ module _ (f h : List ℕ → List ℕ) (g : ℕ → ℕ) (c : Consistent f) (d :
       (entriesOf es (found 0 ps bs) bs) _ _
       (entries-moved (found 0 ps bs) (found 0 (map (parameterAs f h g) ps) (map (behaviourAs f h g) bs)) (parameter-found 0 ps bs) es bs)
       (λ xs. rw (signals-same es))
+
+-- ---- and it is within the limits with them
+
+among-as : (f : List ℕ → List ℕ) → Consistent f → (s : List ℕ) (ns : List (List ℕ)) → among (f s) (map f ns) ≡ among s ns
+unfolding among
+among-as f c s [] = refl
+among-as f c s (t ∷ ns) = rw (same-as f c s t, among-as f c s ns)
+
+module _ (f h : List ℕ → List ℕ) (g : ℕ → ℕ) (c : Consistent f) (d : Consistent h) where
+  nesting-as : (e : Phrase) → nesting (phraseAs f h g e) ≡ nesting e
+  unfolding nesting phraseAs
+  nesting-as (constant v) = refl
+  nesting-as (named p s) = refl
+  nesting-as (cell p s q n) = refl
+  nesting-as (negation a) = rw (nesting-as a)
+  nesting-as (operation k a b) = rw (nesting-as a, nesting-as b)
+  nesting-as (choice a b e) = rw (nesting-as a, nesting-as b, nesting-as e)
+
+  numbers-as : (e : Phrase) → NumbersFit e → NumbersFit (phraseAs f h g e)
+  unfolding NumbersFit phraseAs
+  numbers-as (constant v) n = n
+  numbers-as (named p s) n = n
+  numbers-as (cell p s q k) n = n
+  numbers-as (negation a) n = numbers-as a n
+  numbers-as (operation k a b) n = (numbers-as a (n .0), numbers-as b (n .1))
+  numbers-as (choice a b e) n = (numbers-as a (n .0), numbers-as b (n .1), numbers-as e (n .2))
+
+  phrase-as : (e : Phrase) → PhraseFits e → PhraseFits (phraseAs f h g e)
+  phrase-as e p = record { numbers = numbers-as e (p .numbers); nested = rw (nesting-as e) (p .nested) }
+
+  parameters-as : (ns : List (List ℕ)) (ps : List Parameter) → InTurn ParameterFits withParameter ns ps
+      → InTurn ParameterFits withParameter (map f ns) (map (parameterAs f h g) ps)
+  parameters-as ns [] k = tt
+  parameters-as ns (parameter s v ∷ ps) k =
+      ((rw (length-map ns f) (k .0 .0), among-as f c s ns ∙ k .0 .1, k .0 .2), parameters-as (s ∷ ns) ps (k .1))
+
+  events-as : (ns : List (List ℕ)) (es : List Event) → InTurn EventFits withEvent ns es → InTurn EventFits withEvent (map h ns) (map (eventAs f h g) es)
+  events-as ns [] k = tt
+  events-as ns (event s n m ∷ es) k =
+      ((rw (length-map ns h) (k .0 .0), among-as h d s ns ∙ k .0 .1, k .0 .2, k .0 .3), events-as (s ∷ ns) es (k .1))
+
+  reactions-as : (es ns : List (List ℕ)) (hs : List Reaction) → InTurn (ReactionFits es) withReaction ns hs
+      → InTurn (ReactionFits (map h es)) withReaction (map h ns) (reactionsAs f h g hs)
+  unfolding reactionsAs
+  reactions-as es ns [] k = tt
+  reactions-as es ns (on s φ e ∷ hs) k =
+      ((among-as h d s ns ∙ k .0 .0, among-as h d s es ∙ k .0 .1, phrase-as e (k .0 .2)), reactions-as es (s ∷ ns) hs (k .1))
+
+  body-as : (es : List (List ℕ)) (b : Body) → BodyFits es b → BodyFits (map h es) (bodyAs f h g b)
+  body-as es (passive e) k = phrase-as e k
+  body-as es (active v hs) k = (k .0, reactions-as es [] hs (k .1))
+  body-as es (row n v hs) k = (k .0, k .1, k .2, reactions-as es [] hs (k .3))
+
+  behaviours-as : (es ns : List (List ℕ)) (i : ℕ) (bs : List Behaviour) → InTurn (BehaviourFits es) withBehaviour (taken ns i) bs
+      → InTurn (BehaviourFits (map h es)) withBehaviour (taken (map f ns) i) (map (behaviourAs f h g) bs)
+  behaviours-as es ns i [] k = tt
+  behaviours-as es ns i (behaviour s b m ∷ bs) k =
+      rw (body-cells f h g c d b) ((k .0 .0, among-as f c s ns ∙ k .0 .1, body-as es b (k .0 .2), k .0 .3), behaviours-as es (s ∷ ns) (i + cellsOf b) bs (k .1))
+
+  parameters-after : (ns : List (List ℕ)) (ps : List Parameter) → afterAll withParameter (map f ns) (map (parameterAs f h g) ps) ≡ map f (afterAll withParameter ns ps)
+  unfolding afterAll
+  parameters-after ns [] = refl
+  parameters-after ns (parameter s v ∷ ps) = parameters-after (s ∷ ns) ps
+
+  events-after : (ns : List (List ℕ)) (es : List Event) → afterAll withEvent (map h ns) (map (eventAs f h g) es) ≡ map h (afterAll withEvent ns es)
+  unfolding afterAll
+  events-after ns [] = refl
+  events-after ns (event s n m ∷ es) = events-after (s ∷ ns) es
+
+  pub text-as : (x : Text) → TextFits x → TextFits (textAs f h g x)
+  text-as (text ps es bs) k = (
+    parameters-as [] ps (k .0),
+    events-as [] es (k .1),
+    rw (parameters-after [] ps, events-after [] es) (behaviours-as (afterAll withEvent [] es) (afterAll withParameter [] ps) 0 bs (k .2)),
+  )

@@ -15,7 +15,8 @@ use Rattle.text_sheet.specs.Limits.{TextFits}
 use Rattle.text_sheet.specs.Meaning.{sheetOf}
 use Rattle.text_sheet.specs.Reader.{readText}
 
--- "Lines and columns count from 1, columns in bytes": those of the byte with so many before it, from line l and column c
+-- "Lines and columns count from 1, columns in bytes": those of the byte with so many before it, from line l or column
+-- c on
 unfoldable pub lineFrom : ℕ → ℕ → List ℕ → ℕ
 lineFrom l zero bs = l
 lineFrom l (suc p) [] = l
@@ -62,3 +63,15 @@ pub record Means (bytes : List ℕ) (s : Sheet) : Type 0 where
   pub says-so : Says bytes reading
   pub fits : TextFits reading
   pub resolved : sheetOf reading ≡ fine s
+
+-- turned down at the end of the text
+abbrev pub refusedAt : Kind → List ℕ → List ℕ → Outcome × List ℕ
+refusedAt k bytes buffer = (turnedDown k (lineFrom 1 (length bytes) bytes) (columnFrom 1 (length bytes) bytes), buffer)
+
+-- an answer of n bytes: those of the sheet that the text means
+pub record Written (bytes buffer : List ℕ) (n : ℕ) : Type 0 where
+  pub sheet : Sheet
+  pub meant : Means bytes sheet
+  pub length-is : n ≡ length (encode sheet)
+  pub few-bytes : n ≤ 8192
+  pub room : n ≤ length buffer

@@ -68,7 +68,8 @@ nameTerm p (aParameter i) = fine (param i)
 nameTerm p (aBehaviour i) = fine (variable i)
 nameTerm p (aRow i n) = fine (variable i)
 
--- "a row's cell counted from 0"; in a handler of a row of c cells "cell 0 of such a row cannot be said": c is 0 elsewhere
+-- "a row's cell counted from 0"; in a handler of a row of c cells "cell 0 of such a row cannot be said"; c is 0
+-- elsewhere
 abbrev pub cellTerm : ℕ → ℕ → ℕ → ℕ → Found → Result Term
 cellTerm c p q k nothing = fault unknownName p
 cellTerm c p q k (aParameter i) = fault noSuchCell q

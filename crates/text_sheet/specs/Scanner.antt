@@ -48,9 +48,15 @@ onward p go (begins t rest) = t ∷ go rest
 abbrev pub tokensIn : ℕ → (List ℕ → List Token) → List ℕ → List Token
 tokensIn long go [] = sign (placeIn long []) finish ∷ []
 tokensIn long go (b ∷ bs) =
-    elim (isBlank b) [ true ↦ go bs | false ↦
-    elim (eqb b 35) [ true ↦ go (beyond inComment bs) | false ↦
-    onward (placeIn long (b ∷ bs)) go (firstOf (placeIn long (b ∷ bs)) b bs) ] ]
+    elim (isBlank b) [
+      | true ↦ go bs
+      | false ↦
+          elim (eqb b 35) [
+            | true ↦ go (beyond inComment bs)
+            | false ↦
+                onward (placeIn long (b ∷ bs)) go (firstOf (placeIn long (b ∷ bs)) b bs)
+          ]
+    ]
 
 -- all tokens of what is left of a text; the number bounds its bytes
 unfoldable pub tokensOf : ℕ → ℕ → List ℕ → List Token

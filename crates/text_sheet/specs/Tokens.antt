@@ -90,19 +90,19 @@ pub data Spelling : Type 0 where
 -- "Operators, brackets and their precedence are those of 02, M-105; further tokens: `:` `=` `[` `]`."
 unfoldable pub marks : List Spelling
 marks =
-    spelled (124 ∷ 124 ∷ []) 1 -- ||
-    ∷ spelled (38 ∷ 38 ∷ []) 2 -- &&
-    ∷ spelled (33 ∷ []) 3 -- !
-    ∷ spelled (43 ∷ []) 4 -- +
-    ∷ spelled (45 ∷ []) 5 -- -
-    ∷ spelled (42 ∷ []) 6 -- *
-    ∷ spelled (47 ∷ []) 7 -- /
-    ∷ spelled (62 ∷ []) 8 -- >
-    ∷ spelled (62 ∷ 61 ∷ []) 9 -- >=
-    ∷ spelled (60 ∷ []) 10 -- <
-    ∷ spelled (60 ∷ 61 ∷ []) 11 -- <=
-    ∷ spelled (61 ∷ 61 ∷ []) 12 -- ==
-    ∷ spelled (33 ∷ 61 ∷ []) 13 -- !=
+    spelled (124 ∷ 124 ∷ []) 1  -- ||
+    ∷ spelled (38 ∷ 38 ∷ []) 2  -- &&
+    ∷ spelled (33 ∷ []) 3  -- !
+    ∷ spelled (43 ∷ []) 4  -- +
+    ∷ spelled (45 ∷ []) 5  -- -
+    ∷ spelled (42 ∷ []) 6  -- *
+    ∷ spelled (47 ∷ []) 7  -- /
+    ∷ spelled (62 ∷ []) 8  -- >
+    ∷ spelled (62 ∷ 61 ∷ []) 9  -- >=
+    ∷ spelled (60 ∷ []) 10  -- <
+    ∷ spelled (60 ∷ 61 ∷ []) 11  -- <=
+    ∷ spelled (61 ∷ 61 ∷ []) 12  -- ==
+    ∷ spelled (33 ∷ 61 ∷ []) 13  -- !=
     ∷ spelled (40 ∷ []) opening
     ∷ spelled (41 ∷ []) closing
     ∷ spelled (44 ∷ []) comma
