@@ -15,10 +15,6 @@ cell m i j = not (eqb (getD m (i * 64 + j) 0) 0)
 abbrev pub cellBelow : ℕ → List ℕ → ℕ → ℕ → Bool
 cellBelow n m i j = pick (ltb i n) (pick (ltb j n) (cell m i j) false) false
 
--- set, where x is; else y
-unfoldable pub cellOr : ℕ → ℕ → ℕ
-cellOr x y = pick (eqb x 0) y 1
-
 -- i comes to depend on j if k does
 unfoldable pub closeCell : List ℕ → ℕ → ℕ → ℕ → List ℕ
 closeCell m i k j = pick (eqb (getD m (k * 64 + j) 0) 0) m (set m (i * 64 + j) 1)

@@ -15,8 +15,8 @@ use Rattle.lib_word.specs.Word.{get, put, words, pile}
 use Rattle.lib_word.proofs.Laws.{long, long-put, get-same, get-other, words-get}
 use Rattle.spec_language.specs.Syntax.{Program}
 use Rattle.spec_language.specs.Dependence.{size}
-use Rattle.spec_semantics.specs.Meaning.{fresh}
-use Rattle.spec_execution.specs.Execution.{at, emptied}
+use Rattle.spec_semantics.specs.Meaning.{fresh, at}
+use Rattle.spec_execution.specs.Execution.{emptied}
 use Rattle.spec_model.specs.Model.{rest}
 use Rattle.format_image.proofs.ImageLaws.{Says}
 use Rattle.run_start.specs.Start.{cleared, stored, image, valuesIn, freshBytes}

@@ -14,11 +14,11 @@ use borrow.Author.Tests.{lt-ltb, le-ltb, le-leb, ne-eqb}
 use Rattle.lib_base.proofs.Tools.{split}
 use Rattle.lib_word.specs.Word.{get, put, pile}
 use Rattle.lib_word.proofs.Laws.{long, long-put, get-other, pile-out, pile-push}
-use Rattle.lib_arith.specs.Functions.{result, over}
-use Rattle.lib_arith.specs.Functions as arith32
+use Rattle.lib_arith.specs.Functions.{result, over, arity}
 use Rattle.spec_language.specs.Code.{Instr, off, on, copy, restore, load, fetch, save, defer, move, push, apply}
-use Rattle.spec_execution.specs.Execution.{Values, at, held, heldAt, top, applyUnary, applyBinary, applyTernary, applied, over1, over2, over3, overOn, execute}
-use Rattle.spec_execution.specs.Safe.{Filled, Ok, isFilled, arity, Matches}
+use Rattle.spec_semantics.specs.Meaning.{at}
+use Rattle.spec_execution.specs.Execution.{Values, held, heldAt, top, applyUnary, applyBinary, applyTernary, applied, over1, over2, over3, overOn, execute}
+use Rattle.spec_execution.specs.Safe.{Filled, Ok, isFilled, Matches}
 use Rattle.spec_execution.proofs.SafeLaws.{full-some}
 use Rattle.format_image.specs.Image.{operation, constant}
 use Rattle.run_stack.specs.Stack.{pushOn, popTo, noted, applyOne, applyTwo, applyThree, applyOn}
@@ -240,7 +240,7 @@ module _ (n : ℕ) (few : n ≤ 64) (l : List ℕ) (d : Values) (g : long l ≡ 
 
   apply-does : (f : ℕ) → arity f ≤ get l 6
       → Holds n (applyOn l (get l 6) f) (leaves (applied f (d .stack)) (overOn f (d .stack))) × Framed l (applyOn l (get l 6) f)
-  unfolding applyOn
+  unfolding applyOn arity
   apply-does f b =
       split (eqb f 3)
       (λ t. let c : 1 ≤ get l 6 = rw t at b in rw t (one-does f (get l 6 - 1) (omega arith)))
@@ -344,7 +344,7 @@ module _ (n : ℕ) (few : n ≤ 64) (l : List ℕ) (d : Values) (g : long l ≡ 
         record { may = rw (le-ltb 63 i (omega arith)) (lt-ltb 0 (get l 6) c); holds = x .0; framed = x .1 }
 
     apply-top : (f : ℕ) → Ok a (apply f) → Does n l (execute (apply f) d) 8 f 0
-    unfolding mayRun applies arith32.arity perform execute
+    unfolding mayRun applies arity perform execute
     apply-top f k =
         let c : arity f ≤ get l 6 = rw depth-is (k .2) in
         let z : f ≢ 0 = omega (arith, k .0) in

@@ -20,7 +20,8 @@ use Rattle.spec_language.specs.Dependence.{size, events}
 use Rattle.spec_language.specs.Accepted.{Valid}
 use Rattle.spec_language.specs.Rights.{maySee}
 use Rattle.spec_language.specs.Refusals as refusals
-use Rattle.spec_execution.specs.Execution.{Values, at}
+use Rattle.spec_semantics.specs.Meaning.{at}
+use Rattle.spec_execution.specs.Execution.{Values}
 use Rattle.spec_execution.proofs.CodeRight.{code-facts}
 use Rattle.spec_model.specs.Model.{Running, rest, busy, Engine, engine, arrive, step, Answer, refused, takenIn, shows, idle, ran, started, preempted, committed, act, run}
 use Rattle.spec_model.specs.Claims.{storeOf, Idle, after, longest, countIn, shownAfter, unlessRefused, previewed}

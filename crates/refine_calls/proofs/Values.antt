@@ -14,7 +14,8 @@ use lib.Seq.{getD-set-same, getD-set-other}
 use borrow.Author.Tests.{leb-true}
 use Rattle.lib_word.specs.Word.{get, put, words, pile}
 use Rattle.lib_word.proofs.Laws.{long, long-put, get-put, get-same, get-other, words-out, words-in, words-get, pile-out, pile-push}
-use Rattle.spec_execution.specs.Execution.{Values, at, emptied}
+use Rattle.spec_semantics.specs.Meaning.{at}
+use Rattle.spec_execution.specs.Execution.{Values, emptied}
 use Rattle.spec_execution.specs.Safe.{isFilled}
 use Rattle.run_stack.specs.Stack.{noted}
 use Rattle.run_dispatch.specs.Dispatch.{runArrival}

@@ -16,7 +16,7 @@ use Rattle.spec_language.specs.Rights.{may, maySee}
 use Rattle.spec_language.specs.Dependence.{size, behaviourAt}
 use Rattle.spec_language.specs.Accepted.{Accepted, Valid}
 use Rattle.spec_language.specs.Refusals as refusals
-use Rattle.spec_execution.specs.Execution.{at}
+use Rattle.spec_semantics.specs.Meaning.{at}
 use Rattle.spec_model.specs.Model.{rest, busy, Engine, engine, board, Answer, refused, shows, inCopyBack, act}
 use Rattle.spec_model.specs.Claims.{storeOf, copyBackIn, Idle}
 use Rattle.spec_model.proofs.Once.{idle-empty}

@@ -14,8 +14,8 @@ use Rattle.spec_language.specs.Rights.{maySee}
 use Rattle.spec_language.specs.Dependence.{size, events, noEvent, behaviourAt, isActive}
 use Rattle.spec_language.specs.Accepted.{Valid}
 use Rattle.spec_language.specs.Refusals as refusals
-use Rattle.spec_semantics.specs.Meaning.{firstPhase}
-use Rattle.spec_execution.specs.Execution.{at, emptied}
+use Rattle.spec_semantics.specs.Meaning.{firstPhase, at}
+use Rattle.spec_execution.specs.Execution.{emptied}
 use Rattle.spec_model.specs.Carried.{isActiveIn, carriedStart, carriedActives, carried}
 use Rattle.spec_model.specs.Model.{Arrival, rest, Engine, engine, queue, Answer, refused, change, state, says, carriedOver, TurnOutcome, turnOutcome, declaredIn, carriedTo, turn}
 use Rattle.spec_model.specs.Claims.{inQueue, copyBackIn}

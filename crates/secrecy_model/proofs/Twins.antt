@@ -16,8 +16,7 @@ use Rattle.spec_language.specs.Syntax.{Program}
 use Rattle.spec_language.specs.Rights.{may, maySee}
 use Rattle.spec_language.specs.Dependence.{size, events, noEvent}
 use Rattle.spec_language.specs.Refusals as refusals
-use Rattle.spec_semantics.specs.Meaning.{event}
-use Rattle.spec_execution.specs.Execution.{at}
+use Rattle.spec_semantics.specs.Meaning.{event, at}
 use Rattle.spec_execution.proofs.CodeRight.{code-facts}
 use Rattle.spec_model.specs.Model.{Engine, engine, Call, arrive, step, board, Answer, refused, takenIn, shows, idle, ran, started, preempted, committed, unmarked, act, run, State, state}
 use Rattle.spec_model.specs.Claims.{number, storeOf, copyBackIn, forecast, countIn, shownAfter, unlessRefused, previewed}

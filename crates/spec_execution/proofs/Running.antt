@@ -10,16 +10,15 @@ use lib.Dec.{eqb}
 use borrow.Author.Tests.{ne-eqb}
 use Rattle.lib_base.specs.Basics.{pick}
 use Rattle.lib_base.proofs.Tools.{split}
-use Rattle.lib_arith.specs.Functions.{result, over}
+use Rattle.lib_arith.specs.Functions.{result, over, arity}
 use Rattle.spec_language.specs.Syntax.{Expr, con, name, app1, app2, app3}
 use Rattle.spec_language.specs.Grammar.{Arity, unary, ternary, binary, Nested, n-con, n-name, n-app1, n-app2, n-app3}
 use Rattle.spec_language.specs.Accepted.{NamesIn}
 use Rattle.spec_language.specs.Order.{upTo}
 use Rattle.spec_language.specs.Code.{Instr, load, fetch, apply, postfix}
-use Rattle.spec_semantics.specs.Meaning.{value}
+use Rattle.spec_semantics.specs.Meaning.{value, at}
 use Rattle.spec_semantics.specs.OverMeaning.{overIn}
-use Rattle.spec_execution.specs.Execution.{Values, at, heldAt, applied, overOn, pushed, execute, executeAll}
-use Rattle.spec_execution.specs.Safe.{arity}
+use Rattle.spec_execution.specs.Execution.{Values, heldAt, applied, overOn, pushed, execute, executeAll}
 
 pub execute-append : (xs ys : List Instr) (d : Values) → executeAll (xs ++ ys) d ≡ executeAll ys (executeAll xs d)
 unfolding executeAll
@@ -42,6 +41,7 @@ looked c d i = pick (c i) (heldAt (d .scratch) i) (at (d .store) i)
 -- ---- functions with the arguments that they need
 
 pub arity-is : {f k : ℕ} → Arity f k → (arity f ≡ k) × (0 < f) × (f ≤ 14)
+unfolding arity
 arity-is unary = (refl, omega arith, omega arith)
 arity-is ternary = (refl, omega arith, omega arith)
 arity-is (binary {f = f} h g n) =
@@ -51,21 +51,27 @@ arity-is (binary {f = f} h g n) =
 
 module _ (f : ℕ) where
   one-argument : (a : ℕ) (st : List ℕ) → arity f ≡ 1 → applied f (a ∷ st) ≡ result f a 0 0 ∷ st
+  unfolding arity
   one-argument a st h = split (eqb f 3) (λ t. rw t) (λ t. split (eqb f 14) (λ u. absurd (omega (arith, (rw (t, u) at h)))) (λ u. absurd (omega (arith, (rw (t, u) at h)))))
 
   two-arguments : (a b : ℕ) (st : List ℕ) → arity f ≡ 2 → applied f (b ∷ (a ∷ st)) ≡ result f a b 0 ∷ st
+  unfolding arity
   two-arguments a b st h = split (eqb f 3) (λ t. absurd (omega (arith, (rw t at h)))) (λ t. split (eqb f 14) (λ u. absurd (omega (arith, (rw (t, u) at h)))) (λ u. rw (t, u)))
 
   three-arguments : (a b c : ℕ) (st : List ℕ) → arity f ≡ 3 → applied f (c ∷ (b ∷ (a ∷ st))) ≡ result f a b c ∷ st
+  unfolding arity
   three-arguments a b c st h = split (eqb f 3) (λ t. absurd (omega (arith, (rw t at h)))) (λ t. split (eqb f 14) (λ u. rw (t, u)) (λ u. absurd (omega (arith, (rw (t, u) at h)))))
 
   one-over : (a : ℕ) (st : List ℕ) → arity f ≡ 1 → overOn f (a ∷ st) ≡ over f a 0 0
+  unfolding arity
   one-over a st h = split (eqb f 3) (λ t. rw t) (λ t. split (eqb f 14) (λ u. absurd (omega (arith, (rw (t, u) at h)))) (λ u. absurd (omega (arith, (rw (t, u) at h)))))
 
   two-over : (a b : ℕ) (st : List ℕ) → arity f ≡ 2 → overOn f (b ∷ (a ∷ st)) ≡ over f a b 0
+  unfolding arity
   two-over a b st h = split (eqb f 3) (λ t. absurd (omega (arith, (rw t at h)))) (λ t. split (eqb f 14) (λ u. absurd (omega (arith, (rw (t, u) at h)))) (λ u. rw (t, u)))
 
   three-over : (a b c : ℕ) (st : List ℕ) → arity f ≡ 3 → overOn f (c ∷ (b ∷ (a ∷ st))) ≡ over f a b c
+  unfolding arity
   three-over a b c st h = split (eqb f 3) (λ t. absurd (omega (arith, (rw t at h)))) (λ t. split (eqb f 14) (λ u. rw (t, u)) (λ u. absurd (omega (arith, (rw (t, u) at h)))))
 
 -- ---- marks one after the other

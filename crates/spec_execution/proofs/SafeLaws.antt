@@ -16,8 +16,10 @@ use Rattle.spec_language.specs.Syntax.{Program}
 use Rattle.spec_language.specs.Dependence.{size}
 use Rattle.spec_language.specs.Accepted.{Valid}
 use Rattle.spec_language.specs.Code.{code, Instr, off, on, copy, restore, load, fetch, save, defer, move, push, apply}
-use Rattle.spec_execution.specs.Execution.{Values, at, heldAt, top, applyUnary, applyBinary, applyTernary, applied, overOn, execute, executeAll, emptied}
-use Rattle.spec_execution.specs.Safe.{Filled, start, arity, Ok, withDepth, filledNext, filledAfter, Safe, isFilled, Matches}
+use Rattle.spec_semantics.specs.Meaning.{at}
+use Rattle.spec_execution.specs.Execution.{Values, heldAt, top, applyUnary, applyBinary, applyTernary, applied, overOn, execute, executeAll, emptied}
+use Rattle.lib_arith.specs.Functions.{arity}
+use Rattle.spec_execution.specs.Safe.{Filled, start, Ok, withDepth, filledNext, filledAfter, Safe, isFilled, Matches}
 use Rattle.spec_execution.proofs.SafeParts.{passes}
 
 pub safe-prefix : (a : Filled) (xs ys : List Instr) → Safe a (xs ++ ys) → Safe (filledAfter a xs) ys
@@ -55,6 +57,7 @@ length-applied3 f (c ∷ (b ∷ [])) h = absurd (omega arith)
 length-applied3 f (c ∷ (b ∷ (a ∷ st))) h = omega arith
 
 length-applied : (f : ℕ) (st : List ℕ) → arity f ≤ length st → length (applied f st) ≡ length st - arity f + 1
+unfolding arity
 length-applied f st h =
     split (eqb f 3) (λ t. rw t (length-applied1 f st (rw t at h)))
     (λ t. split (eqb f 14) (λ u. rw (t, u) (length-applied3 f st (rw (t, u) at h))) (λ u. rw (t, u) (length-applied2 f st (rw (t, u) at h))))

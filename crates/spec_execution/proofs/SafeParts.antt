@@ -20,7 +20,8 @@ use Rattle.spec_language.specs.Code.{Instr, off, on, copy, restore, load, fetch
 use Rattle.spec_language.specs.Code.{postfix, ofC, firstCode, laterCode, moveCode, againCode}
 use Rattle.spec_language.specs.Code.{copied, inC, byNumber, inOrder, firstPart, secondPart, code}
 use Rattle.spec_semantics.proofs.OrderLaws.{phaseOne-early}
-use Rattle.spec_execution.specs.Safe.{Filled, start, arity, Ok, withDepth, filledNext, filledAfter, Safe}
+use Rattle.lib_arith.specs.Functions.{arity}
+use Rattle.spec_execution.specs.Safe.{Filled, start, Ok, withDepth, filledNext, filledAfter, Safe}
 use Rattle.spec_execution.proofs.Responses.{ResponseFits, response-fits}
 use Rattle.spec_execution.proofs.Running.{arity-is}
 use Rattle.spec_execution.proofs.Lengths.{mid}

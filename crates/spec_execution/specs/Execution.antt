@@ -8,6 +8,7 @@ use lib.Dec.{eqb, ltb}
 use Rattle.lib_base.specs.Basics.{pick}
 use Rattle.lib_arith.specs.Functions.{result, over}
 use Rattle.spec_language.specs.Code.{Instr, off, on, copy, restore, load, fetch, save, defer, move, push, apply}
+use Rattle.spec_semantics.specs.Meaning.{at}
 
 -- the values that instructions work on: the store (01: board), scratch, the evaluation stack (its top in front), and
 -- the deferred values (01: the later handlers' places). What is not filled is `none`. The mark says whether an
@@ -19,10 +20,7 @@ pub record Values : Type 0 where
   pub deferred : List (Option ℕ)
   pub mark : Bool
 
--- a value of the store, and of scratch or the deferred ones; 0 where there is none
-abbrev pub at : List ℕ → ℕ → ℕ
-at s i = getD s i 0
-
+-- a value of scratch or of the deferred ones; 0 where there is none
 abbrev pub held : Option ℕ → ℕ
 held none = 0
 held (some v) = v

@@ -6,8 +6,7 @@ use mathlib.Core.Path.{_≡_}
 use mathlib.Core.Option.{Option, none, some}
 use mathlib.Core.List.{List, [], _∷_}
 use lib.ListN.{length, getD, set, replicate}
-use lib.Dec.{eqb}
-use Rattle.lib_base.specs.Basics.{pick}
+use Rattle.lib_arith.specs.Functions.{arity}
 use Rattle.spec_language.specs.Code.{Instr, off, on, copy, restore, load, fetch, save, defer, move, push, apply}
 use Rattle.spec_execution.specs.Execution.{Values}
 
@@ -20,10 +19,6 @@ pub record Filled : Type 0 where
 -- an event starts with nothing filled
 unfoldable pub start : ℕ → Filled
 start n = record { scratch = replicate n false; deferred = replicate n false; depth = 0 }
-
--- how many arguments a function takes, as `applied` does
-abbrev pub arity : ℕ → ℕ
-arity f = pick (eqb f 3) 1 (pick (eqb f 14) 3 2)
 
 -- what an instruction needs
 abbrev pub Ok : Filled → Instr → Type 0

@@ -15,7 +15,7 @@ use Rattle.spec_language.specs.Syntax.{Program}
 use Rattle.spec_language.specs.Dependence.{size}
 use Rattle.spec_language.specs.Rights.{maySee}
 use Rattle.spec_language.specs.Refusals as refusals
-use Rattle.spec_execution.specs.Execution.{at}
+use Rattle.spec_semantics.specs.Meaning.{at}
 use Rattle.spec_execution.specs.CodeFacts.{CodeFacts}
 use Rattle.spec_model.specs.Model.{rest, busy, Engine, engine, Call, arrive, step, board, Answer, refused, takenIn, shows, act, run}
 use Rattle.spec_model.specs.Claims.{number, storeOf, Idle, after, stepCount, countIn, shownAfter, unlessRefused, previewed}

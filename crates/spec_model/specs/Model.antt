@@ -12,8 +12,8 @@ use Rattle.spec_language.specs.Dependence.{size, events}
 use Rattle.spec_language.specs.Rights.{maySend, maySee}
 use Rattle.spec_language.specs.Code.{off, code}
 use Rattle.spec_language.specs.Refusals as refusals
-use Rattle.spec_semantics.specs.Meaning.{fresh}
-use Rattle.spec_execution.specs.Execution.{Values, at, execute, emptied, maskedAfter, copyingBackAfter}
+use Rattle.spec_semantics.specs.Meaning.{fresh, at}
+use Rattle.spec_execution.specs.Execution.{Values, execute, emptied, maskedAfter, copyingBackAfter}
 use Rattle.spec_model.specs.Carried.{carried}
 
 -- ---- what it keeps
