@@ -5,8 +5,9 @@
     tools/house.py --planted    show that each check fails on a planted case (on a copy of the sources)
 
 Believed and proved are told apart by place: a file under specs/ holds definitions and statements only. The other
-checks: no public name and no dependency that nothing uses, no edit that changes nothing, no number in the code without
-a name, lines of pages and comments at most 120 columns, every path and name on the pages there.
+checks: no public name that two definitions' files declare, no public name and no dependency that nothing uses, no edit
+that changes nothing, no number in the code without a name, lines of pages and comments at most 120 columns, every path
+and name on the pages there.
 """
 import collections
 import glob
@@ -55,6 +56,28 @@ def lemmas_imported_by_definitions(theories):
             for name in names:
                 if (target, name) in lemmas:
                     yield f"{path}: a definition's file imports the lemma {name}"
+
+
+# ---- one name, one meaning
+
+# a type or a claim beside the function that makes or decides it: two files, one idea, told apart by case
+SAME_IDEA = {"arity", "entry", "eventover", "field", "handles", "idle", "known", "sheet", "signal"}
+# one idea that stands in two files
+SAID_TWICE = {"JudgedAs", "putAnswer"}
+
+
+def names_declared_twice(theories):
+    """Two definitions' files declare a public name, or two that differ by case alone. A `pub use` declares nothing."""
+    places = collections.defaultdict(list)
+    for path, source in theories.items():
+        for d in source.declarations if "/specs/" in path else []:
+            if d.public:
+                places[d.name.lower()].append(d)
+    for same in places.values():
+        for n, d in enumerate(same):
+            others = [o for o in same[:n] if o.file != d.file and (o.name == d.name or d.name.lower() not in SAME_IDEA)]
+            if others and d.name not in SAID_TWICE:
+                yield f"{d.file}:{d.line}: a public name that {others[0].file} declares too: {d.name}, {others[0].name}"
 
 
 # ---- what nothing uses
@@ -228,6 +251,7 @@ def all_faults():
     theories = read_theories()
     yield from lemmas_in_specs(theories)
     yield from lemmas_imported_by_definitions(theories)
+    yield from names_declared_twice(theories)
     yield from unused_public_names(theories)
     yield from unused_functions()
     yield from unused_dependencies()
@@ -251,6 +275,8 @@ def check():
 PLANTED = [
     ("a lemma in specs/", "crates/lib_base/specs/Planted.antt", "planted : 0 ≡ 0\nplanted = refl\n"),
     ("imports from", "crates/lib_base/specs/Planted.antt", "use Rattle.lib_base.proofs.Tools.{by-test}\n"),
+    ("declares too", "crates/lib_base/specs/Planted.antt", "abbrev pub noEvent : ℕ\nnoEvent = 1\n"),
+    ("declares too", "crates/lib_base/specs/Planted.antt", "abbrev pub NoEvent : ℕ\nNoEvent = 1\n"),
     ("a public name that nothing uses", "crates/lib_base/proofs/Planted.antt", "abbrev pub plantedName : ℕ\nplantedName = 1\n"),
     ("which nothing in it uses", "crates.txt", None),
     ("it changes nothing", "crates/lib_word/must-fail/planted.edit", None),
