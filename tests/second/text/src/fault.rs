@@ -12,7 +12,7 @@ pub struct Place {
 
 macro_rules! kinds {
     ($($name:ident = $number:literal, $word:literal;)*) => {
-        /// The kinds of faults, in the order in which they are looked for. Numbers go on from those of the calls.
+        /// The kinds of faults. Their numbers go on from those of the calls.
         #[derive(Clone, Copy, Debug, PartialEq, Eq, Hash, PartialOrd, Ord)]
         #[repr(u8)]
         pub enum Kind {
@@ -32,19 +32,18 @@ macro_rules! kinds {
 }
 
 kinds! {
-    LongText = 31, "long text";
-    Outside = 32, "outside the grammar";
-    LargeNumber = 33, "large number";
-    OffTheScale = 34, "off the scale";
-    Crowded = 35, "too many";
-    Doubled = 36, "declared twice";
-    SecondHandler = 37, "second handler";
-    TooDeep = 38, "too deep";
-    UnknownEvent = 39, "unknown event";
-    UnknownName = 40, "unknown name";
-    NoCell = 41, "no such cell";
-    LongSheet = 42, "long sheet";
-    ShortBuffer = 43, "short buffer";
+    Outside = 31, "outside the grammar";
+    LargeNumber = 32, "number too large";
+    OffTheScale = 33, "off the scale";
+    Crowded = 34, "too many";
+    Doubled = 35, "declared twice";
+    SecondHandler = 36, "second handler";
+    TooDeep = 37, "too deep";
+    UnknownName = 38, "unknown name";
+    NoCell = 39, "no such cell";
+    LongSheet = 40, "sheet too long";
+    ShortBuffer = 41, "buffer too short";
+    LongText = 42, "text too long";
 }
 
 impl Kind {

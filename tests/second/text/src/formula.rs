@@ -1,10 +1,9 @@
 //! A formula, read with a stack of its own: brackets may be as deep as a text is long.
 //!
-//! What waits for an operand stands on one stack, the operands read so far on another. Nesting is judged at the token
-//! that makes it: the first after which no text can go on to nest at most 16 deep. That is always `!`, `if` or a
-//! two-sided operator. With so many functions waiting (`!`, `if`, two-sided ones; brackets do not count), an operand
-//! that nests h deep stands in an expression that nests at least waiting + h deep.
-use crate::fault::{Fault, Kind};
+//! What waits for an operand stands on one stack, the operands read so far on another. An application is judged as soon
+//! as it is complete: where it nests 17 deep, the fault is at its `!`, `if` or operator. So nothing that is built nests
+//! deeper, however long the text is.
+use crate::fault::{Fault, Kind, Place};
 use crate::read::{Cell, Reader, Use};
 use crate::token::{Token, Word};
 use crate::tree::{two_sided, Expr, IF, MINUS, NOT};
@@ -14,9 +13,10 @@ use crate::NESTING;
 enum Waiting {
     Bracket,
     /// An `if` with so many arguments behind it.
-    Choice(u8),
-    Not,
-    TwoSided(u8, u8),
+    Choice(Place, u8),
+    Not(Place),
+    /// A function and its level.
+    TwoSided(Place, u8, u8),
 }
 
 /// An expression and how deep it nests. A name in it is the number of its use until names are known.
@@ -26,8 +26,6 @@ struct Formula<'r, 't> {
     reader: &'r mut Reader<'t>,
     waiting: Vec<Waiting>,
     operands: Vec<Operand>,
-    /// How many functions wait.
-    functions: usize,
     /// The cells of the row whose handler this is.
     row: Option<u8>,
 }
@@ -41,7 +39,7 @@ enum After {
 
 /// The formula at the reader's place.
 pub fn formula(reader: &mut Reader, row: Option<u8>) -> Result<Expr, Fault> {
-    let mut f = Formula { reader, waiting: vec![], operands: vec![], functions: 0, row };
+    let mut f = Formula { reader, waiting: vec![], operands: vec![], row };
     loop {
         f.operand()?;
         loop {
@@ -55,31 +53,19 @@ pub fn formula(reader: &mut Reader, row: Option<u8>) -> Result<Expr, Fault> {
 }
 
 impl Formula<'_, '_> {
-    /// One more function waits, over an operand that nests so deep at least.
-    fn deeper(&mut self, over: usize) -> Result<(), Fault> {
-        self.functions += 1;
-        if self.functions + over > NESTING {
-            return Err(self.reader.fault(Kind::TooDeep, format!("an expression here nests over {NESTING} deep")));
-        }
-        Ok(())
-    }
-
     /// Up to a primary.
     fn operand(&mut self) -> Result<(), Fault> {
         loop {
             match self.reader.token {
-                Token::Not => {
-                    self.deeper(1)?;
-                    self.waiting.push(Waiting::Not);
-                }
+                Token::Not => self.waiting.push(Waiting::Not(self.reader.place)),
                 Token::Mark(b'(') => self.waiting.push(Waiting::Bracket),
                 Token::Word(Word::If) => {
-                    self.deeper(1)?;
+                    let place = self.reader.place;
                     self.reader.next();
                     if self.reader.token != Token::Mark(b'(') {
                         return Err(self.reader.outside("`(` is due after `if`"));
                     }
-                    self.waiting.push(Waiting::Choice(0));
+                    self.waiting.push(Waiting::Choice(place, 0));
                 }
                 _ => return self.primary(),
             }
@@ -104,9 +90,7 @@ impl Formula<'_, '_> {
         if self.reader.token == Token::Mark(b'[') {
             let bracket = self.reader.place;
             self.reader.next();
-            let place = self.reader.place;
-            let number = self.reader.number()?;
-            found.cell = Some(Cell { bracket, number, place });
+            found.cell = Some(Cell { bracket, number: self.reader.number()? });
             self.reader.mark(b']')?;
         }
         self.reader.uses.push(found);
@@ -118,10 +102,8 @@ impl Formula<'_, '_> {
         match self.reader.token {
             Token::TwoSided(function) => {
                 let (_, level) = two_sided(function).unwrap_or(("", 0));
-                self.close(level);
-                let over = self.operands.last().map_or(1, |o| o.1);
-                self.deeper(over)?;
-                self.waiting.push(Waiting::TwoSided(function, level));
+                self.close(level)?;
+                self.waiting.push(Waiting::TwoSided(self.reader.place, function, level));
                 self.reader.next();
                 Ok(After::Operand)
             }
@@ -132,9 +114,9 @@ impl Formula<'_, '_> {
     }
 
     fn comma(&mut self) -> Result<After, Fault> {
-        self.close(u8::MAX);
+        self.close(u8::MAX)?;
         match self.waiting.last_mut() {
-            Some(Waiting::Choice(done @ 0..=1)) => *done += 1,
+            Some(Waiting::Choice(_, done @ 0..=1)) => *done += 1,
             _ => return self.done(),
         }
         self.reader.next();
@@ -142,27 +124,23 @@ impl Formula<'_, '_> {
     }
 
     fn bracket(&mut self) -> Result<After, Fault> {
-        self.close(u8::MAX);
+        self.close(u8::MAX)?;
         match self.waiting.last() {
-            Some(Waiting::Bracket) => {
-                self.waiting.pop();
-            }
-            Some(Waiting::Choice(2)) => {
-                self.waiting.pop();
-                self.apply(IF, 3);
-            }
+            Some(Waiting::Bracket) => {}
+            Some(Waiting::Choice(place, 2)) => self.apply(*place, IF, 3)?,
             _ => return self.done(),
         }
+        self.waiting.pop();
         self.reader.next();
         Ok(After::Operator)
     }
 
     /// The formula is over, unless a bracket is open: then the token cannot follow.
     fn done(&mut self) -> Result<After, Fault> {
-        self.close(u8::MAX);
+        self.close(u8::MAX)?;
         match self.waiting.last() {
             None => Ok(After::End),
-            Some(Waiting::Choice(0..=1)) => Err(self.reader.outside("an operator or `,` is due")),
+            Some(Waiting::Choice(_, 0..=1)) => Err(self.reader.outside("an operator or `,` is due")),
             Some(_) => Err(self.reader.outside("an operator or `)` is due")),
         }
     }
@@ -173,24 +151,27 @@ impl Formula<'_, '_> {
     }
 
     /// Applies what waits and binds at least as tightly as a level: all two-sided operators group to the left.
-    fn close(&mut self, level: u8) {
+    fn close(&mut self, level: u8) -> Result<(), Fault> {
         loop {
-            let (function, arguments) = match self.waiting.last() {
-                Some(Waiting::Not) => (NOT, 1),
-                Some(Waiting::TwoSided(function, own)) if *own <= level => (*function, 2),
-                _ => return,
+            let (place, function, arguments) = match self.waiting.last() {
+                Some(Waiting::Not(place)) => (*place, NOT, 1),
+                Some(Waiting::TwoSided(place, function, own)) if *own <= level => (*place, *function, 2),
+                _ => return Ok(()),
             };
             self.waiting.pop();
-            self.apply(function, arguments);
+            self.apply(place, function, arguments)?;
         }
     }
 
     /// A function that waited takes its arguments.
-    fn apply(&mut self, function: u8, arguments: usize) {
+    fn apply(&mut self, place: Place, function: u8, arguments: usize) -> Result<(), Fault> {
         let from = self.operands.len().saturating_sub(arguments);
         let taken: Vec<Operand> = self.operands.drain(from..).collect();
         let nesting = 1 + taken.iter().map(|o| o.1).max().unwrap_or(0);
-        self.functions -= 1;
+        if nesting > NESTING {
+            return Err(Fault::new(Kind::TooDeep, place, format!("the expression here nests over {NESTING} deep")));
+        }
         self.operands.push(Operand(Expr::Apply(function, taken.into_iter().map(|o| o.0).collect()), nesting));
+        Ok(())
     }
 }

@@ -12,7 +12,7 @@
 //! assert_eq!(read.sheet.len(), 34);
 //! assert_eq!(describe(&read.sheet).unwrap(), "event e0 rank 2\nactive b0=0\n  on e0:b0+10\n");
 //! let fault = assemble(b"event hit rank 16").unwrap_err();
-//! assert_eq!(fault.to_string(), "1:16: off the scale (34): a rank is 0 to 15");
+//! assert_eq!(fault.to_string(), "1:16: off the scale (33): a rank is 0 to 15");
 //! ```
 #![warn(missing_docs)]
 #![forbid(unsafe_code)]

@@ -67,7 +67,6 @@ pub(crate) struct Use {
 pub(crate) struct Cell {
     pub bracket: Place,
     pub number: u64,
-    pub place: Place,
 }
 
 /// The tokens, the one to be read next at the front.
@@ -222,10 +221,10 @@ impl<'t> Reader<'t> {
     // ---- declarations
 
     fn sheet(&mut self) -> Result<(), Fault> {
-        while self.take(Word::Param) {
+        while self.token == Token::Word(Word::Param) {
             self.param()?;
         }
-        while self.take(Word::Event) {
+        while self.token == Token::Word(Word::Event) {
             self.event()?;
         }
         while self.token != Token::End {
@@ -234,18 +233,18 @@ impl<'t> Reader<'t> {
         Ok(())
     }
 
-    /// A name that is declared here, the next of so many at most.
-    fn declared(
-        &mut self,
-        has: usize,
-        most: usize,
-        many: &str,
-        known: Option<Place>,
-    ) -> Result<(String, Place), Fault> {
-        let Token::Name(name) = self.token else { return Err(self.outside("a name is due")) };
+    /// The first word of a declaration, where there is room for one more.
+    fn opened(&mut self, has: usize, most: usize, many: &str) -> Result<(), Fault> {
         if has == most {
             return Err(self.fault(Kind::Crowded, format!("a sheet has at most {most} {many}")));
         }
+        self.next();
+        Ok(())
+    }
+
+    /// A name that is declared here.
+    fn declared(&mut self, known: Option<Place>) -> Result<(String, Place), Fault> {
+        let Token::Name(name) = self.token else { return Err(self.outside("a name is due")) };
         if let Some(first) = known {
             let why = format!("`{name}` is declared in line {} already", first.line);
             return Err(self.fault(Kind::Doubled, why));
@@ -268,7 +267,8 @@ impl<'t> Reader<'t> {
     }
 
     fn param(&mut self) -> Result<(), Fault> {
-        let (name, place) = self.declared(self.params.len(), PARAMS, "parameters", self.known())?;
+        self.opened(self.params.len(), PARAMS, "parameters")?;
+        let (name, place) = self.declared(self.known())?;
         let mut default = None;
         if self.token == Token::Mark(b'=') {
             self.next();
@@ -279,8 +279,8 @@ impl<'t> Reader<'t> {
     }
 
     fn event(&mut self) -> Result<(), Fault> {
-        let known = self.known_event().map(|e| self.events[e].place);
-        let (name, place) = self.declared(self.events.len(), EVENTS, "events", known)?;
+        self.opened(self.events.len(), EVENTS, "events")?;
+        let (name, place) = self.declared(self.known_event().map(|e| self.events[e].place))?;
         self.events.push(Declared { name, place, first: self.events.len(), cells: None });
         self.word(Word::Rank, "`rank` is due")?;
         let rank = self.on_scale(0..=RANK, "a rank")? as u8;
@@ -319,8 +319,8 @@ impl<'t> Reader<'t> {
         if !known {
             return Err(self.outside(self.due()));
         }
-        self.next();
-        let (name, place) = self.declared(first, BEHAVIOURS, "behaviours", self.known())?;
+        self.opened(first, BEHAVIOURS, "behaviours")?;
+        let (name, place) = self.declared(self.known())?;
         self.behaviours.push(Declared { name, place, first, cells: None });
         let cells = if kind == Token::Word(Word::Row) { Some(self.cells(first)?) } else { None };
         self.mark(b'=')?;
@@ -382,7 +382,7 @@ impl<'t> Reader<'t> {
         let Token::Name(name) = self.token else { return Err(self.outside("an event's name is due")) };
         let Some(event) = self.known_event() else {
             let near = perhaps(name, self.events.iter().map(|e| e.name.as_str()));
-            return Err(self.fault(Kind::UnknownEvent, format!("no event `{name}` is declared{near}")));
+            return Err(self.fault(Kind::UnknownName, format!("no event `{name}` is declared{near}")));
         };
         if so_far.iter().any(|h| h.event == event) {
             let why = format!("this behaviour has a handler for `{name}` already");
@@ -430,12 +430,12 @@ fn cell_of(row: &Declared, cell: &Cell, within: Option<u8>) -> Result<Expr, Faul
     };
     if cell.number >= cells as u64 {
         let why = format!("the cells of `{name}` are 0 to {}", cells - 1);
-        return Err(Fault::new(Kind::NoCell, cell.place, why));
+        return Err(Fault::new(Kind::NoCell, cell.bracket, why));
     }
     if cell.number == 0 && within.map(usize::from) == Some(cells) {
         let why =
             format!("in a row of {cells} cells `{name}` means the cell at the same place, and cell 0 cannot be said");
-        return Err(Fault::new(Kind::NoCell, cell.place, why));
+        return Err(Fault::new(Kind::NoCell, cell.bracket, why));
     }
     Ok(Expr::Name(row.first + cell.number as usize))
 }

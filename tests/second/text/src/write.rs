@@ -1,8 +1,8 @@
 //! A sheet's bytes to text.
 //!
-//! One declaration a line, each line ended by a line feed; handlers below theirs, two spaces in. One space stands before
-//! a word or a number that follows a word, a number or a closing bracket, and nowhere else: `passive b0=b1[2] seen by 1`.
-//! A formula has none. Brackets stand where another reading would follow without them, and nowhere else.
+//! One declaration a line, each line ended by a line feed; handlers below theirs, two spaces in. One space stands between
+//! two tokens where the bytes on both sides of it are letters, digits or `_`, and nowhere else; so a formula has none.
+//! Brackets stand where another reading would follow without them, and nowhere else.
 use crate::bytes::decode;
 use crate::tree::{two_sided, Behaviour, Body, Event, Expr, Sheet, IF, NOT};
 use std::fmt::Write;
@@ -96,7 +96,9 @@ fn put_behaviour(out: &mut String, first: usize, behaviour: &Behaviour, rows: &R
         }
     };
     if let Some(bits) = behaviour.viewers {
-        out.push_str(" seen by");
+        // a bracket needs no space behind it
+        let space = if out.ends_with([')', ']']) { "" } else { " " };
+        let _ = write!(out, "{space}seen by");
         put_players(out, bits);
     }
     out.push('\n');

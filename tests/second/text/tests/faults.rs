@@ -186,19 +186,19 @@ fn crowded() {
     let events = many(32, |k| format!("event e{k} rank 0"));
     let behaviours = many(64, |k| format!("active b{k} = 0"));
     accepted(&format!("{params}{events}{behaviours}"));
-    check(Kind::Crowded, &format!("{params}param ^a"));
-    check(Kind::Crowded, &format!("{events}event ^a rank 16"));
-    check(Kind::Crowded, &format!("{behaviours}passive ^a ="));
-    check(Kind::Crowded, &format!("{behaviours}row ^a[99] = 0"));
+    check(Kind::Crowded, &format!("{params}^param a"));
+    check(Kind::Crowded, &format!("{events}^event a rank 16"));
+    check(Kind::Crowded, &format!("{behaviours}^passive a ="));
+    check(Kind::Crowded, &format!("{behaviours}^row a[99] = 0"));
     let rows = many(3, |k| format!("row r{k}[16] = 0"));
     accepted(&format!("{rows}row a[16] = 0"));
     check(Kind::Crowded, &format!("{rows}active a = 0 row b[^16] = 0"));
     check(Kind::OffTheScale, &format!("{rows}active a = 0 row b[^17] = 0"));
-    // at one token: too many before declared twice
-    check(Kind::Crowded, &format!("{params}param ^p0"));
-    check(Kind::Crowded, &format!("{events}event ^e0 rank 0"));
-    check(Kind::Crowded, &format!("{behaviours}active ^b0 = 0"));
-    check(Kind::Outside, &format!("{params}param ^7"));
+    // too many before declared twice, and before what is no name
+    check(Kind::Crowded, &format!("{params}^param p0"));
+    check(Kind::Crowded, &format!("{events}^event e0 rank 0"));
+    check(Kind::Crowded, &format!("{behaviours}^active b0 = 0"));
+    check(Kind::Crowded, &format!("{params}^param 7"));
 }
 
 #[test]
@@ -217,8 +217,8 @@ fn handlers() {
     check(Kind::SecondHandler, &format!("{two}active a = 0 on e: 1 on f: 1 on ^e: 2"));
     check(Kind::SecondHandler, &format!("{two}row a[2] = 0 on e: 1 on ^e later 2"));
     accepted(&format!("{two}active a = 0 on f: 1 on e later: 1 active b = 0 on e: 1"));
-    check(Kind::UnknownEvent, "active a = 0 on ^e: 1");
-    check(Kind::UnknownEvent, &format!("{two}active a = 0 on ^a: 1"));
+    check(Kind::UnknownName, "active a = 0 on ^e: 1");
+    check(Kind::UnknownName, &format!("{two}active a = 0 on ^a: 1"));
     check(Kind::Outside, &format!("{two}active a = 0 on e 1").replacen("e 1", "e ^1", 1));
 }
 
@@ -226,13 +226,22 @@ fn handlers() {
 fn nesting() {
     let nots = |n: usize| "!".repeat(n);
     accepted(&format!("passive a = {}1", nots(15)));
-    check(Kind::TooDeep, &format!("passive a = {}^!1", nots(15)));
-    check(Kind::TooDeep, &format!("passive a = {}^if", nots(15)));
-    // grouping to the left: the sixteenth operator
+    // at fault is the application that nests 17 deep, the first to be complete
+    check(Kind::TooDeep, &format!("passive a = ^!{}1", nots(15)));
+    check(Kind::TooDeep, &format!("passive a = {}^!{}1 $", nots(50), nots(15)));
+    check(Kind::TooDeep, &format!("passive a = {}^!{}1", nots(60_000), nots(15)));
+    check(Kind::TooDeep, &format!("passive a = ^!({}1)+", nots(15)));
+    // it is judged before the token behind it is looked at, and after all within it
+    check(Kind::TooDeep, &format!("passive a = ^!{}1 ]", nots(15)));
+    check(Kind::Outside, &format!("passive a = {}^]", nots(16)));
+    check(Kind::LargeNumber, &format!("passive a = {}^2147483648", nots(16)));
+    check(Kind::Outside, &format!("passive a = !({}1^]", nots(15)));
+    // grouping to the left: the sixteenth operator, once its operand is read
     let sum = |n: usize| vec!["1"; n].join("+");
     accepted(&format!("passive a = {}", sum(16)));
-    check(Kind::TooDeep, &format!("passive a = {}^+", sum(16)));
-    check(Kind::TooDeep, &format!("passive a = {} ^<", sum(16)));
+    check(Kind::TooDeep, &format!("passive a = {}^+1", sum(16)));
+    check(Kind::Outside, &format!("passive a = {}+", sum(16)));
+    check(Kind::TooDeep, &format!("passive a = {} ^< 1+1 == ]", sum(16)));
     // a tighter operator only deepens its own operand
     accepted(&format!("passive a = {}*1", sum(16)));
     check(Kind::TooDeep, &format!("passive a = {}*1 ^+ 1", sum(16)));
@@ -240,11 +249,15 @@ fn nesting() {
     // brackets add none, and the right side may be deep too
     accepted(&format!("passive a = {}{}{}", "(".repeat(30_000), "1", ")".repeat(30_000)));
     accepted(&format!("passive a = 1{}{}", "+(1".repeat(15), ")".repeat(15)));
-    check(Kind::TooDeep, &format!("passive a = 1{}^+(1", "+(1".repeat(15)));
-    check(Kind::TooDeep, &format!("passive a = {}^if(1", "if(1,2,".repeat(15)));
+    check(Kind::TooDeep, &format!("passive a = 1^+(1{}{}", "+(1".repeat(15), ")".repeat(16)));
+    check(Kind::Outside, &format!("passive a = 1+(1{}{}^]", "+(1".repeat(15), ")".repeat(15)));
+    // `if`, at its closing bracket
+    let choice = |n: usize| "if(1,2,".repeat(n) + "3" + &")".repeat(n);
+    accepted(&format!("passive a = {}", choice(15)));
+    check(Kind::TooDeep, &format!("passive a = ^{}", choice(16)));
+    check(Kind::Outside, &format!("passive a = if(1, 2, {}^]", choice(15)));
     check(Kind::Outside, &format!("passive a = {}", "(".repeat(65_000)));
-    check(Kind::Outside, &format!("passive a = {}^]", "if(1,2,".repeat(15)));
-    check(Kind::TooDeep, &format!("passive a = {}^!(((", "!(".repeat(15)));
+    check(Kind::Outside, &format!("passive a = {}^]", "if(1,2,".repeat(9_000)));
 }
 
 #[test]
@@ -254,12 +267,12 @@ fn names_and_cells() {
         check(Kind::UnknownName, &format!("{base}{text}"));
     }
     let none =
-        ["passive a = p^[0]", "passive a = x ^[0]", "passive a = a^[1]", "passive a = r[^3]", "passive a = t[^2]"];
+        ["passive a = p^[0]", "passive a = x ^[0]", "passive a = a^[1]", "passive a = r^[3]", "passive a = t^[2]"];
     for text in none {
         check(Kind::NoCell, &format!("{base}{text}"));
     }
-    check(Kind::NoCell, &format!("{base}row u[3] = 0 on e: s[1] + s[^0]"));
-    check(Kind::NoCell, &format!("{base}row u[3] = 0 on e: u[^0]"));
+    check(Kind::NoCell, &format!("{base}row u[3] = 0 on e: s[1] + s^[0]"));
+    check(Kind::NoCell, &format!("{base}row u[3] = 0 on e: u^[0]"));
     accepted(&format!("{base}row u[3] = 0 on e: s[1] + s + t[0] + v[1] + p passive q = u[0] row v[3] = 0"));
     assert_eq!(
         accepted(&format!("{base}passive a = r[0] + s[2] + t + later1 passive later1 = 7")),
@@ -317,8 +330,7 @@ fn planted(kind: Kind, n: usize) -> String {
         Kind::Crowded => format!("row a{n}[^16] = 0"),
         Kind::Doubled => "active ^x = 0".to_string(),
         Kind::SecondHandler => format!("active a{n} = 0 on e: 1 on ^e: 1"),
-        Kind::TooDeep => format!("passive a{n} = !!!!!!!!!!!!!!!^!1"),
-        Kind::UnknownEvent => format!("active a{n} = 0 on ^nix: 1"),
+        Kind::TooDeep => format!("passive a{n} = ^!!!!!!!!!!!!!!!!1"),
         Kind::UnknownName => format!("passive a{n} = ^nix"),
         Kind::NoCell => format!("passive a{n} = y^[1]"),
         Kind::LongSheet => format!("passive a{n} = {}", bushy(11)),
@@ -369,58 +381,137 @@ fn numbers_and_words() {
     assert!(Kind::ALL.iter().map(|k| k.number()).eq(31..31 + Kind::ALL.len() as u32), "numbers in a row");
 }
 
-/// What may follow somewhere in a text, what ends something first.
-const NEXT: [&str; 12] = [")", "]", ",1,1)", ",1)", "(1,1,1)", "1", "[2]=0", "=1", ":1", "by 1", "rank 1", "e"];
-
-/// Whether a text goes on to one within the grammar: what is missing at its end is put there, piece by piece. Names that
-/// are not known do not matter here.
-fn goes_on(text: &str) -> bool {
-    let mut text = text.to_string();
-    let open = |text: &str| assemble(text.as_bytes()).is_err_and(|f| f.place == marked(text).1);
-    let done = |text: &str| match assemble(text.as_bytes()) {
-        Ok(_) => true,
-        Err(f) => matches!(f.kind, Kind::UnknownName | Kind::NoCell | Kind::LongSheet),
-    };
-    for _ in 0..200 {
-        if done(&text) {
-            return true;
-        }
-        let longer = NEXT.iter().map(|n| format!("{text} {n}"));
-        let Some(next) = longer.into_iter().find(|t| done(t) || open(t)) else { return false };
-        text = next;
-    }
-    false
+/// A formula read by one function a level, each application judged once it is complete: a token's number where the first
+/// fault is, and whether it nests too deep there; or where the formula ends.
+struct Levels<'a> {
+    tokens: Vec<&'a str>,
+    at: usize,
 }
 
-/// A token outside the grammar, or one that makes a formula too deep, is the first such: what stands before it goes on
-/// to a text within the grammar.
+/// The fault's token, and its kind.
+type Read<T> = Result<T, (usize, Kind)>;
+
+const LEVELS: [&[&str]; 6] = [&["*", "/"], &["+", "-"], &["<", ">="], &["==", "!="], &["&&"], &["||"]];
+
+impl Levels<'_> {
+    fn token(&self) -> &str {
+        self.tokens.get(self.at).copied().unwrap_or("")
+    }
+
+    fn past(&mut self, token: &str) -> Read<()> {
+        if self.token() != token {
+            return Err((self.at, Kind::Outside));
+        }
+        self.at += 1;
+        Ok(())
+    }
+
+    fn within(from: usize, nesting: usize) -> Read<usize> {
+        if nesting > 16 {
+            return Err((from, Kind::TooDeep));
+        }
+        Ok(nesting)
+    }
+
+    fn operand(&mut self) -> Read<usize> {
+        let from = self.at;
+        self.at += 1;
+        match self.tokens.get(from).copied().unwrap_or("") {
+            "1" | "a" => Ok(1),
+            "-" => self.past("1").map(|()| 1),
+            "!" => self.operand().and_then(|n| Levels::within(from, n + 1)),
+            "(" => {
+                let nesting = self.level(6)?;
+                self.past(")").map(|()| nesting)
+            }
+            "if" => {
+                self.past("(")?;
+                let first = self.level(6)?;
+                self.past(",")?;
+                let second = self.level(6)?;
+                self.past(",")?;
+                let third = self.level(6)?;
+                self.past(")")?;
+                Levels::within(from, 1 + first.max(second).max(third))
+            }
+            _ => Err((from, Kind::Outside)),
+        }
+    }
+
+    fn level(&mut self, level: usize) -> Read<usize> {
+        if level == 0 {
+            return self.operand();
+        }
+        let mut left = self.level(level - 1)?;
+        while LEVELS[level - 1].contains(&self.token()) {
+            let from = self.at;
+            self.at += 1;
+            let right = self.level(level - 1)?;
+            left = Levels::within(from, 1 + left.max(right))?;
+        }
+        Ok(left)
+    }
+}
+
+/// So many pieces of a formula, mostly what may follow, and what it takes to end it.
+fn some_formula(below: &mut dyn FnMut(usize) -> usize) -> String {
+    let due = ["!", "(", "if (", "1", "a", "- 1", "! ! !"];
+    let operators = ["+", "*", "<", "==", "&&", "||", "-", "!=", ">=", "/"];
+    let mut pieces: Vec<&str> = vec![];
+    // for each bracket that is open, the commas that are due in it
+    let mut open: Vec<usize> = vec![];
+    let mut operand = false;
+    for _ in 0..1 + below(50) {
+        let piece = match (operand, open.last().copied()) {
+            _ if below(80) == 0 => ["!", ")", ",", "1", "if", "+", "("][below(7)],
+            (false, _) => due[below(due.len())],
+            (true, Some(0)) if below(3) == 0 => ")",
+            (true, Some(_)) if below(3) == 0 => ",",
+            (true, _) => operators[below(operators.len())],
+        };
+        operand = piece.ends_with(['1', 'a', ')']);
+        match piece {
+            "(" => open.push(0),
+            "if (" => open.push(2),
+            ")" => drop(open.pop()),
+            "," => open.iter_mut().last().map_or((), |commas| *commas = commas.saturating_sub(1)),
+            _ => {}
+        }
+        pieces.push(piece);
+    }
+    pieces.extend((!operand).then_some("1"));
+    for commas in open.into_iter().rev() {
+        pieces.extend([", 1"].repeat(commas));
+        pieces.push(")");
+    }
+    pieces.join(" ")
+}
+
+/// The reader has a stack of its own; it finds the fault that functions which call each other find.
 #[test]
-fn no_fault_comes_too_early() {
-    let due = ["!", "(", "if(", "if(", "1", "a", "-1", "!!!!"];
-    let after = ["+", "*", "<", "==", "&&", "||", ",", ")", ",", "+", "seen by 1", "passive b = ", "[1]"];
+fn one_function_a_level() {
     let mut state = 7u64;
     let mut below = |n: usize| {
         state = state.wrapping_mul(6364136223846793005).wrapping_add(1442695040888963407);
         (state >> 33) as usize % n
     };
-    let mut seen = [0; 2];
-    for _ in 0..3_000 {
-        let mut text = "event e rank 0 passive a = ".to_string();
-        for _ in 0..1 + below(60) {
-            let operand = text.ends_with(['1', 'a', ')', ']']);
-            // mostly what may follow
-            let piece = if operand != (below(25) == 0) { after[below(after.len())] } else { due[below(due.len())] };
-            text += piece;
-        }
-        let Err(fault) = assemble(text.as_bytes()) else { continue };
-        let counted = match fault.kind {
-            Kind::Outside => 0,
-            Kind::TooDeep => 1,
-            _ => continue,
+    let mut seen = [0; 3];
+    for _ in 0..20_000 {
+        let text = some_formula(&mut below);
+        let tokens: Vec<&str> = text.split(' ').collect();
+        let mut levels = Levels { tokens, at: 0 };
+        let ends = |levels: &Levels| if levels.token().is_empty() { Ok(()) } else { Err((levels.at, Kind::Outside)) };
+        let whole = levels.level(6).and_then(|_| ends(&levels));
+        let front = "passive a = ";
+        let column = |token: usize| {
+            let before: usize = levels.tokens.iter().take(token).map(|t| t.len() + 1).sum();
+            front.len() + 1 + before.min(text.len())
         };
-        seen[counted] += 1;
-        let before = &text[..fault.place.column - 1];
-        assert!(goes_on(before), "{fault}\n{text}\nbefore it: {before}");
+        let wanted = whole.map_err(|(token, kind)| (kind, column(token)));
+        let read = assemble(format!("{front}{text}").as_bytes());
+        let found = read.map(|_| ()).map_err(|fault| (fault.kind, fault.place.column));
+        assert_eq!(found, wanted, "{text}");
+        seen[wanted.map_or_else(|(kind, _)| 1 + (kind == Kind::TooDeep) as usize, |()| 0)] += 1;
     }
-    assert!(seen[0] > 300 && seen[1] > 50, "both happen: {seen:?}");
+    assert!(seen.iter().all(|n| *n > 300), "all happen: {seen:?}");
 }

@@ -107,7 +107,7 @@ fn minimal_brackets() {
 fn declarations() {
     let text = "event e0 rank 15 from nobody\nevent e1 rank 0 from 0 1 2 3 4 5 6 7\n\
                 row b0[2]=0 seen by 7\n  on e1 later:b0+b0[1]+b2\nrow b2[3]=-5\n  on e0:b0+b0[1]+b2[2]\n\
-                passive b5=if(b0,b2[1],p2) seen by nobody\n";
+                passive b5=if(b0,b2[1],p2)seen by nobody\n";
     let text = format!("param p0\nparam p1\nparam p2\n{text}");
     let bytes = built(&text);
     assert_eq!(describe(&bytes), Ok(text));
