@@ -28,7 +28,7 @@ setter: sheets written as text
   setter timeline FILE SCRIPT OUT.svg  draw the same round
   setter help COMMAND                  more on a command
 
-A FILE is text (docs/TEXT.md) or a sheet's bytes; of bytes, e0, b0 and p0 are the names. Circles, instructions, phones,
+A FILE is text (docs/SHEETS.md) or a sheet's bytes; of bytes, e0, b0 and p0 are the names. Circles, instructions, phones,
 leaks and rounds are the proved engine's answers. Text is turned to bytes and back by plain Rust, which is tested and
 not proved. Ends with 0; with 1 where a file cannot be read or is turned down, with 2 where it was called wrongly.
 ";

@@ -1,4 +1,4 @@
-//! The setter's text: a plain reader and writer, written from the format alone (`docs/TEXT.md`).
+//! The setter's text: a plain reader and writer, written from the format alone (`docs/SHEETS.md`, "Sheets as text").
 //!
 //! [`assemble`] reads a text to the bytes of a sheet, with the names that it declares, or answers the first [`Fault`],
 //! with kind, line and column. [`describe`] writes a sheet's bytes as text, with invented names. What describe writes,

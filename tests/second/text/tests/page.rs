@@ -1,15 +1,16 @@
-//! docs/TEXT.md: its example with the bytes that it names, the way back, its table of kinds and its table of faults.
+//! docs/SHEETS.md, "Sheets as text": its example with the bytes that it names, the way back, its tables of kinds and of
+//! faults.
 use sheet_text::{assemble, describe, Kind, TEXT};
 
 fn page() -> String {
-    let path = concat!(env!("CARGO_MANIFEST_DIR"), "/../../../docs/TEXT.md");
+    let path = concat!(env!("CARGO_MANIFEST_DIR"), "/../../../docs/SHEETS.md");
     std::fs::read_to_string(path).unwrap_or_else(|e| panic!("{path}: {e}"))
 }
 
 /// A section without its heading.
 fn section<'a>(page: &'a str, heading: &str) -> &'a str {
-    let (_, after) = page.split_once(&format!("\n## {heading}\n")).unwrap_or_else(|| panic!("no section {heading}"));
-    after.split("\n## ").next().unwrap_or("")
+    let (_, after) = page.split_once(&format!("\n### {heading}\n")).unwrap_or_else(|| panic!("no section {heading}"));
+    after.split("\n##").next().unwrap_or("")
 }
 
 /// A section's indented lines, with the empty ones between them.
@@ -33,16 +34,16 @@ fn rows(section: &str) -> Vec<Vec<String>> {
 fn example_and_back() {
     let page = page();
     let text = example(section(&page, "An example"));
-    let read = assemble(text.as_bytes()).unwrap_or_else(|fault| panic!("docs/TEXT.md's example: {fault}"));
+    let read = assemble(text.as_bytes()).unwrap_or_else(|fault| panic!("the page's example: {fault}"));
     let says = format!("These are {} bytes.", read.sheet.len());
-    assert!(page.contains(&says), "the page should say: {says}");
+    assert!(section(&page, "An example").contains(&says), "the page should say: {says}");
     assert_eq!(describe(&read.sheet), Ok(example(section(&page, "Back to text"))));
 }
 
 #[test]
 fn kinds_and_faults() {
     let page = page();
-    let rows = rows(section(&page, "Faults"));
+    let rows = rows(section(&page, "Faults: kind, line and column"));
     let (kinds, faults): (Vec<_>, Vec<_>) = rows.into_iter().partition(|cells| cells.len() == 4);
     let named: Vec<_> = kinds.iter().map(|c| (c[0].clone(), c[1].clone())).collect();
     let known: Vec<_> = Kind::ALL.iter().map(|k| (k.number().to_string(), k.word().to_string())).collect();
