@@ -419,7 +419,7 @@ impl Page {
         let ends = |of: fn(&End) -> bool| scene.stretches.iter().any(|s| of(&s.end));
         let signs = [
             (Sign::Commits, "runs, then commits", ends(|e| matches!(e, End::Committed { .. }))),
-            (Sign::Dropped, "broken into: its work is dropped", ends(|e| *e == End::Dropped)),
+            (Sign::Dropped, "its work is dropped", ends(|e| *e == End::Dropped)),
             (Sign::BreakIn, "who breaks into whom", !scene.breaks.is_empty()),
             (Sign::Arrives, "arrives", !scene.arrivals.is_empty()),
             (Sign::Refused, "is refused", !scene.refused.is_empty()),
