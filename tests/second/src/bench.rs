@@ -38,8 +38,10 @@ const HOST: u32 = 0;
 /// Makes the same thing so many times over, and answers a sum of what was answered.
 type Runner<'a> = Box<dyn FnMut(usize) -> u64 + 'a>;
 
+/// Calls of the two archives are made as they stand here; what is written in Rust must go through `black_box`, or the
+/// compiler might do it once for all repetitions.
 fn repeat<'a>(mut one: impl FnMut() -> u64 + 'a) -> Runner<'a> {
-    Box::new(move |reps| (0..reps).fold(0u64, |sum, _| sum.wrapping_add(black_box(one()))))
+    Box::new(move |reps| (0..reps).fold(0u64, |sum, _| sum.wrapping_add(one())))
 }
 
 extern "C" {
@@ -172,11 +174,11 @@ fn arrivals(n: usize, event: u32) -> Vec<Call> {
 
 impl Set {
     /// On the round's bytes, of which so many are put back before each call.
-    fn bytes<'a>(&'a self, back: usize, call: impl Fn(&[u8], &mut [u8]) -> u64 + 'a) -> Runner<'a> {
-        let mut round = self.round.clone();
+    fn bytes<'a, const BACK: usize>(&'a self, call: impl Fn(&[u8], &mut [u8]) -> u64 + 'a) -> Runner<'a> {
+        let (table, first, mut round) = (&self.table[..], &self.round[..], self.round.clone());
         repeat(move || {
-            round[..back].copy_from_slice(&self.round[..back]);
-            call(&self.table, &mut round)
+            round[..BACK].copy_from_slice(&first[..BACK]);
+            call(table, &mut round)
         })
     }
 
@@ -187,61 +189,60 @@ impl Set {
             m.waiting.clone_from(&self.model.waiting);
             m.stack.clone_from(&self.model.stack);
             (m.running, m.taken, m.mark) = (self.model.running, self.model.taken, self.model.mark);
-            call(&mut m)
+            call(black_box(&mut m))
         })
     }
 
-    fn three<'a>(
+    fn three<'a, const BACK: usize>(
         &'a self,
-        back: usize,
         ours: impl Fn(&[u8], &mut [u8]) -> u64 + 'a,
         plain: impl Fn(&mut Model) -> u64 + 'a,
         byhand: impl Fn(&[u8], &mut [u8]) -> u64 + 'a,
     ) -> [Option<Runner<'a>>; 3] {
-        [Some(self.bytes(back, ours)), Some(self.plain(plain)), Some(self.bytes(back, byhand))]
+        [Some(self.bytes::<BACK>(ours)), Some(self.plain(plain)), Some(self.bytes::<BACK>(byhand))]
     }
 
-    fn step_row(&self, bench: &Bench, input: &str) {
+    fn step_row<const BACK: usize>(&self, bench: &Bench, input: &str) {
         let plain = |m: &mut Model| packed(m.call(Call::Step));
-        bench.row("step", input, 1, self.three(HEAD, proved::step, plain, byhand::step));
+        bench.row("step", input, 1, self.three::<BACK>(proved::step, plain, byhand::step));
     }
 
     fn arrive_row(&self, bench: &Bench, input: &str) {
         let ours = |t: &[u8], l: &mut [u8]| proved::arrive(t, l, 0, HOST) as u64;
         let hand = |t: &[u8], l: &mut [u8]| byhand::arrive(t, l, 0, HOST) as u64;
         let plain = |m: &mut Model| packed(m.call(Call::Arrive(0, HOST)));
-        bench.row("arrive", input, 1, self.three(8, ours, plain, hand));
+        bench.row("arrive", input, 1, self.three::<8>(ours, plain, hand));
     }
 
     fn board_row(&self, bench: &Bench, input: &str) {
         let ours = |t: &[u8], l: &mut [u8]| proved::board(t, l, 0, 1);
         let hand = |t: &[u8], l: &mut [u8]| byhand::board(t, l, 0, 1);
         let plain = |m: &mut Model| packed(m.call(Call::Board(0, 1)));
-        bench.row("board", input, 1, self.three(0, ours, plain, hand));
+        bench.row("board", input, 1, self.three::<0>(ours, plain, hand));
     }
 
     fn forecast_row(&self, bench: &Bench, input: &str) {
         let ours = |t: &[u8], l: &mut [u8]| proved::forecast(t, l);
         let plain = |m: &mut Model| (1 << 32) + m.forecast() as u64;
-        bench.row("forecast", input, 1, [Some(self.bytes(0, ours)), Some(self.plain(plain)), None]);
+        bench.row("forecast", input, 1, [Some(self.bytes::<0>(ours)), Some(self.plain(plain)), None]);
     }
 
     fn preview_row(&self, bench: &Bench, input: &str) {
         let ours = |t: &[u8], l: &mut [u8]| proved::preview(t, l, 0, 0, HOST);
         let plain = |m: &mut Model| packed(m.preview(0, 0, HOST));
-        bench.row("preview", input, 1, [Some(self.bytes(0, ours)), Some(self.plain(plain)), None]);
+        bench.row("preview", input, 1, [Some(self.bytes::<0>(ours)), Some(self.plain(plain)), None]);
     }
 
     fn mend_row(&self, bench: &Bench, input: &str) {
         let ours = |t: &[u8], l: &mut [u8]| proved::mend(t, t, l) as u64;
-        let plain = |t: &[u8], l: &mut [u8]| words::mend(t, t, l) as u64;
-        bench.row("mend", input, 1, [Some(self.bytes(0, ours)), Some(self.bytes(0, plain)), None]);
+        let plain = |t: &[u8], l: &mut [u8]| words::mend(black_box(t), t, l) as u64;
+        bench.row("mend", input, 1, [Some(self.bytes::<0>(ours)), Some(self.bytes::<0>(plain)), None]);
     }
 
     fn start_row(&self, bench: &Bench, input: &str) {
         let ours = |t: &[u8], l: &mut [u8]| proved::start(t, l) as u64;
-        let plain = |t: &[u8], l: &mut [u8]| words::start(t, l) as u64;
-        bench.row("start", input, 1, [Some(self.bytes(0, ours)), Some(self.bytes(0, plain)), None]);
+        let plain = |t: &[u8], l: &mut [u8]| words::start(black_box(t), l) as u64;
+        bench.row("start", input, 1, [Some(self.bytes::<0>(ours)), Some(self.bytes::<0>(plain)), None]);
     }
 
     fn count_rows(&self, bench: &Bench, input: &str) {
@@ -251,9 +252,9 @@ impl Set {
             ("event_rank", |t| proved::event_rank(t, 0)),
         ];
         for (k, (call, ours)) in calls.into_iter().enumerate() {
-            let plain = move |t: &[u8], _: &mut [u8]| words::counts(t, 0)[k];
-            let ours = self.bytes(0, move |t: &[u8], _: &mut [u8]| ours(t));
-            bench.row(call, input, 1, [Some(ours), Some(self.bytes(0, plain)), None]);
+            let plain = move |t: &[u8], _: &mut [u8]| words::counts(black_box(t), 0)[k];
+            let ours = self.bytes::<0>(move |t: &[u8], _: &mut [u8]| ours(t));
+            bench.row(call, input, 1, [Some(ours), Some(self.bytes::<0>(plain)), None]);
         }
     }
 }
@@ -282,7 +283,7 @@ fn step_rows(bench: &Bench) {
     ] {
         let s = long_event(declared, waiting);
         let plain = |m: &mut Model| (0..STEPS).fold(0, |sum, _| sum + packed(m.call(Call::Step)));
-        let one = s.three(ROUND, steps_of(proved::step), plain, steps_of(byhand::step));
+        let one = s.three::<ROUND>(steps_of(proved::step), plain, steps_of(byhand::step));
         bench.row("step", input, STEPS, one);
         let ours = |t: &[u8], l: &mut [u8]| {
             let mut commits = [0u8; 8];
@@ -292,23 +293,23 @@ fn step_rows(bench: &Bench) {
         };
         let plain = |m: &mut Model| m.frame(STEPS as u32, 1).0 as u64;
         let input = input.replace("an instruction", "200 instructions");
-        bench.row("frame", &format!("{input}, a step"), STEPS, s.three(ROUND, ours, plain, steps_of(byhand::step)));
+        bench.row("frame", &format!("{input}, a step"), STEPS, s.three::<ROUND>(ours, plain, steps_of(byhand::step)));
     }
-    set(&cases::game(), &[]).step_row(bench, "idle");
+    set(&cases::one_event(1, 3, &name(0)), &[]).step_row::<0>(bench, "idle, one event");
     let none = join(&vec![event(1); FULL_EVENTS]);
-    set(&none, &arrivals(64, 0)).step_row(bench, "a start out of 64, 32 events");
+    set(&none, &arrivals(64, 0)).step_row::<HEAD>(bench, "a start out of 64, 32 events");
     let commit = [arrivals(64, 0), vec![Call::Step; 4]].concat();
-    set(&none, &commit).step_row(bench, "a commit, 63 wait, 32 events");
+    set(&none, &commit).step_row::<HEAD>(bench, "a commit, 63 wait, 32 events");
     let ranked = join(&[event(1), join(&vec![event(2); FULL_EVENTS - 1])]);
     let meet = [arrivals(1, 0), vec![Call::Step], arrivals(1, 1), arrivals(62, 0)].concat();
-    set(&ranked, &meet).step_row(bench, "a break-in, 63 wait, 32 events");
+    set(&ranked, &meet).step_row::<HEAD>(bench, "a break-in, 63 wait, 32 events");
 }
 
 /// A whole event of so many nodes, from its arrival to its commit: stepped, and run by frames.
 fn event_rows(bench: &Bench, size: usize) {
     let s = set(&cases::one_event(1, size, &crate::limits::con(1)), &[]);
     let stepped = |arrive: fn(&[u8], &mut [u8], u32, u32) -> u32, step: fn(&[u8], &mut [u8]) -> u64| {
-        s.bytes(8, move |t: &[u8], l: &mut [u8]| {
+        s.bytes::<8>(move |t: &[u8], l: &mut [u8]| {
             arrive(t, l, 0, HOST);
             loop {
                 let answer = step(t, l);
@@ -319,7 +320,7 @@ fn event_rows(bench: &Bench, size: usize) {
         })
     };
     let framed = || {
-        s.bytes(8, |t: &[u8], l: &mut [u8]| {
+        s.bytes::<8>(|t: &[u8], l: &mut [u8]| {
             let mut commits = [0u8; 8];
             proved::arrive(t, l, 0, HOST);
             proved::frame(t, l, 1000, &mut commits);
@@ -360,11 +361,11 @@ fn frame_rows(bench: &Bench) {
         "frame",
         "64 events of 4 instructions, 32 declared, a step",
         320,
-        none.three(ROUND, frame, plain, by_hand),
+        none.three::<ROUND>(frame, plain, by_hand),
     );
     let game = set(&cases::game(), &[arrivals(1, 0), arrivals(1, 1), arrivals(1, 2)].concat());
     let made = game.model.forecast();
-    bench.row("frame", "3 events of a game, a step", made, game.three(ROUND, frame, plain, by_hand));
+    bench.row("frame", "3 events of a game, a step", made, game.three::<ROUND>(frame, plain, by_hand));
 }
 
 fn round_rows(bench: &Bench) {
@@ -480,7 +481,7 @@ fn joined<'a>([a, b]: &'a [Vec<u8>; 2]) -> Runner<'a> {
 
 /// What the plain engine answers, and the number where it turns the sheet down.
 fn plain_sheet<'a>(s: &'a [u8], then: impl Fn(engine::Sheet) -> u64 + 'a) -> Runner<'a> {
-    repeat(move || engine::compile(s, &[0; 32]).map_or_else(|n| n as u64, &then))
+    repeat(move || engine::compile(black_box(s), &[0; 32]).map_or_else(|n| n as u64, &then))
 }
 
 fn sheet_rows(bench: &Bench) {
@@ -516,7 +517,7 @@ fn sheet_rows(bench: &Bench) {
     let rings = cases::circles();
     for (input, s) in [typical(), rings[0].clone(), named(bench.worst(&rings, |s| circle(s)(1)))] {
         let of = |s: &[u8]| engine::read(s).unwrap().shortest().unwrap() as u64;
-        let plain = repeat(|| match engine::compile(&s, &[0; 32]) {
+        let plain = repeat(|| match engine::compile(black_box(&s), &[0; 32]) {
             Ok(_) => 0,
             Err(12) => 12 + (of(&s) << 16),
             Err(n) => n as u64,
@@ -526,13 +527,15 @@ fn sheet_rows(bench: &Bench) {
     let pairs = cases::pairs();
     let (worst, pair) = bench.worst(&pairs, |p| joined(p)(1));
     for (input, p) in [(pairs[0].0.clone(), &pairs[0].1), (worst, pair)] {
-        let plain =
-            || pool::pooled(&p[0], &p[1], &[0; 32], 8192).map_or_else(|n| n as u64, |v| (1 << 32) + v.len() as u64);
+        let plain = || {
+            pool::pooled(black_box(&p[0]), &p[1], &[0; 32], 8192)
+                .map_or_else(|n| n as u64, |v| (1 << 32) + v.len() as u64)
+        };
         bench.row("join", &input, 1, [Some(joined(p)), Some(repeat(plain)), None]);
     }
     let texts = cases::texts();
     for (input, t) in [texts[0].clone(), named(bench.worst(&texts, |t| text(t)(1)))] {
-        let plain = || formula::plain(&t, 7168).map_or_else(|n| n, |v| (1 << 32) + v.len() as u64);
+        let plain = || formula::plain(black_box(&t), 7168).map_or_else(|n| n, |v| (1 << 32) + v.len() as u64);
         bench.row("formula", &of_bytes(&input, &t), 1, [Some(text(&t)), Some(repeat(plain)), None]);
     }
 }
@@ -590,31 +593,39 @@ fn growth(bench: &Bench) {
     rounds_growth(bench);
 }
 
+type AtFourSizes = [(String, Set); 4];
+
+fn grow<const BACK: usize>(
+    bench: &Bench,
+    call: &str,
+    what: &str,
+    sets: &AtFourSizes,
+    of: &dyn Fn(&[u8], &mut [u8]) -> u64,
+) {
+    bench.grows(call, what, sets.iter().map(|(n, s)| (n.clone(), s.bytes::<BACK>(of))).collect());
+}
+
 fn rounds_growth(bench: &Bench) {
     let hands = [8, 16, 32, 64];
     let sets = |make: &dyn Fn(usize) -> Set, sizes: [usize; 4]| sizes.map(|n| (n.to_string(), make(n)));
     let full = sets(&|n| set(&cases::game(), &arrivals(n - 1, 0)), hands);
-    let grow =
-        |call: &str, what: &str, sets: &[(String, Set); 4], back: usize, of: &dyn Fn(&[u8], &mut [u8]) -> u64| {
-            bench.grows(call, what, sets.iter().map(|(n, s)| (n.clone(), s.bytes(back, of))).collect());
-        };
-    grow("preview", "in hand, a game", &full, 0, &|t, l| proved::preview(t, l, 0, 0, HOST));
-    grow("forecast", "in hand, a game", &full, 0, &|t, l| proved::forecast(t, l));
-    grow("board", "in hand, a game", &full, 0, &|t, l| proved::board(t, l, 0, HOST));
-    grow("arrive", "in hand, a game", &full, 8, &|t, l| proved::arrive(t, l, 0, HOST) as u64);
+    grow::<0>(bench, "preview", "in hand, a game", &full, &|t, l| proved::preview(t, l, 0, 0, HOST));
+    grow::<0>(bench, "forecast", "in hand, a game", &full, &|t, l| proved::forecast(t, l));
+    grow::<0>(bench, "board", "in hand, a game", &full, &|t, l| proved::board(t, l, 0, HOST));
+    grow::<8>(bench, "arrive", "in hand, a game", &full, &|t, l| proved::arrive(t, l, 0, HOST) as u64);
     let runs = sets(&|n| long_event(1, n - 1), hands);
-    grow("step", "in hand, 200 instructions", &runs, ROUND, &steps_of(proved::step));
+    grow::<ROUND>(bench, "step", "in hand, 200 instructions", &runs, &steps_of(proved::step));
     let frame = |t: &[u8], l: &mut [u8]| proved::frame(t, l, STEPS as u32, &mut [0u8; 8]);
-    grow("frame", "in hand, 200 instructions", &runs, ROUND, &frame);
+    grow::<ROUND>(bench, "frame", "in hand, 200 instructions", &runs, &frame);
     let wide = sets(&|n| long_event(n, 0), [4, 8, 16, 32]);
-    grow("step", "events declared, 200 instructions", &wide, ROUND, &steps_of(proved::step));
+    grow::<ROUND>(bench, "step", "events declared, 200 instructions", &wide, &steps_of(proved::step));
     let long = set(&cases::longest(4), &[arrivals(2, 0), vec![Call::Step]].concat());
     let steps = [500, 1000, 2000, 4000];
-    let one = |n: u32| long.bytes(ROUND, move |t: &[u8], l: &mut [u8]| proved::frame(t, l, n, &mut [0u8; 8]));
+    let one = |n: u32| long.bytes::<ROUND>(move |t: &[u8], l: &mut [u8]| proved::frame(t, l, n, &mut [0u8; 8]));
     bench.grows("frame", "steps", steps.iter().map(|n| (n.to_string(), one(*n))).collect());
     let nodes = |n: usize| set(&cases::one_event(1, n, &crate::limits::con(1)), &arrivals(1, 0));
     let events = sets(&nodes, [40, 80, 160, 320]);
-    grow("preview", "nodes of the one event in hand", &events, 0, &|t, l| proved::preview(t, l, 0, 0, HOST));
+    grow::<0>(bench, "preview", "nodes of the one event in hand", &events, &|t, l| proved::preview(t, l, 0, 0, HOST));
     let game = set(&cases::game(), &[]);
     let of = [250, 500, 1000, 2000].iter().map(|n| (n.to_string(), replay(&game, &record(*n)))).collect();
     bench.grows("replay", "calls, on a game", of);
@@ -627,7 +638,7 @@ fn rounds_growth(bench: &Bench) {
         set(&s, &arrivals(1, 0))
     };
     let mended = sets(&passives, [4, 8, 16, 32]);
-    grow("mend", "passives of 61 nodes", &mended, 0, &|t, l| proved::mend(t, t, l) as u64);
+    grow::<0>(bench, "mend", "passives of 61 nodes", &mended, &|t, l| proved::mend(t, t, l) as u64);
 }
 
 /// Everything; with no runs it only shows that the engines answer alike on every row.
