@@ -204,12 +204,14 @@ static inline uint32_t engine_step_arrival(uint64_t answer) { return (uint32_t)(
 static inline int engine_step_over(uint64_t answer) { return (answer & ENGINE_OVER) != 0; }
 
 /* A frame: at most so many steps, one after the other. The answers of steps that commit are written to the start of the
- * buffer, eight bytes each, big-endian, as many as there is room for: engine_answer_get reads them. */
+ * buffer, eight bytes each, big-endian, as many as there is room for: engine_answer_get reads them. It tells
+ * ENGINE_FRAME_IDLE wherever nothing is left in hand, also after the last of the steps and where the buffer is full;
+ * with no step asked for ENGINE_FRAME_MADE, whatever the round is. */
 uint64_t engine_frame(const uint8_t *table, size_t table_len, uint8_t *round, size_t round_len, uint32_t steps,
                       uint8_t *commits, size_t commits_len);
 
 enum engine_frame_answer {
-    ENGINE_FRAME_MADE = 0,    /* all steps were made */
+    ENGINE_FRAME_MADE = 0,    /* all steps were made, and something is still in hand */
     ENGINE_FRAME_IDLE = 1,    /* nothing is left in hand */
     ENGINE_FRAME_REFUSED = 2, /* a step was refused, by ENGINE_FOREIGN */
     ENGINE_FRAME_FULL = 3     /* the buffer has no room for a further commit: call again */

@@ -20,7 +20,8 @@ export const COMMITTED = 3;
 export const BROKE_IN = 4;
 export const STEP_REFUSED = 14;
 
-/** Why a frame ended: all steps were made, nothing is left in hand, there is no room for a further commit. */
+/** Why a frame ended: all steps were made; nothing is left in hand, told before the others; a step was refused; there
+ * is no room for a further commit. */
 export const FRAME_MADE = 0;
 export const FRAME_IDLE = 1;
 export const FRAME_REFUSED = 2;

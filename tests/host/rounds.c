@@ -422,10 +422,13 @@ static void frames(void)
     expect(engine_frame_end(f) == ENGINE_FRAME_FULL && engine_frame_commits(f) == 1, "one commit fills the buffer");
     expect(engine_frame_steps(f) == 4, "after the rest of event 1");
     expect(engine_step_event(engine_answer_get(one, 0)) == 1, "which outranks event 0");
-    f = engine_frame(TABLE, ROUND, 18, one, sizeof one);
-    expect(engine_frame_commits(f) == 1 && engine_step_event(engine_answer_get(one, 0)) == 0, "then event 0");
-    f = engine_frame(TABLE, ROUND, 18, one, sizeof one);
-    expect(engine_frame_end(f) == ENGINE_FRAME_IDLE && engine_frame_commits(f) == 0, "then nothing");
+    f = engine_frame(TABLE, ROUND, 17, one, sizeof one);
+    expect(engine_frame_end(f) == ENGINE_FRAME_MADE && engine_frame_commits(f) == 0, "17 steps of event 0");
+    f = engine_frame(TABLE, ROUND, 1, one, sizeof one);
+    expect(engine_frame_commits(f) == 1 && engine_step_event(engine_answer_get(one, 0)) == 0, "then its commit");
+    expect(engine_frame_end(f) == ENGINE_FRAME_IDLE && engine_frame_steps(f) == 1, "which leaves nothing in hand");
+    expect(engine_frame_end(engine_frame(TABLE, ROUND, 0, one, sizeof one)) == ENGINE_FRAME_MADE, "no step asked for");
+    expect(engine_frame_end(engine_frame(TABLE, ROUND, 5, NULL, 0)) == ENGINE_FRAME_IDLE, "idle before no room");
     expect(engine_frame_end(engine_frame(table, 10, ROUND, 1, one, sizeof one)) == ENGINE_FRAME_REFUSED, "no table");
 }
 

@@ -136,9 +136,9 @@ pub enum Answer {
 /// Why a frame ended.
 #[derive(Clone, Copy, Debug, PartialEq, Eq, Hash)]
 pub enum Ended {
-    /// All its steps were made.
+    /// All its steps were made, and something is still in hand; or none was asked for.
     Done,
-    /// The round is idle.
+    /// Nothing is left in hand, whatever else ended it.
     Idle,
     /// A step was refused by 14.
     Foreign,
@@ -281,14 +281,15 @@ impl Round {
     }
 
     /// Up to so many steps in one call, for a frame: it ends early where the next step would be idle or refused, or
-    /// where there is no room for a further commit, and nothing is lost.
+    /// where there is no room for a further commit, and nothing is lost. Where nothing is left in hand it says so, also
+    /// after the last of its steps.
     ///
     /// ```
     /// use poqashem::{Arrival, Ended, Event, Player, Sheet, Step};
     /// let mut round = Sheet::new([1, 0, 1, 5]).compile(None)?.start()?; // an event that nothing handles
     /// round.arrive(Event(0), Player(2))?;
     /// assert_eq!(round.frame(3, 8).ended, Ended::Done);
-    /// let frame = round.frame(200, 8);
+    /// let frame = round.frame(2, 8);
     /// assert_eq!((frame.steps, frame.ended), (2, Ended::Idle), "it takes five steps");
     /// let arrival = Arrival { number: 0, event: Event(0), player: Player(2) };
     /// assert_eq!(frame.commits, [Step::Committed { arrival, over: false }]);

@@ -259,8 +259,8 @@ pub extern "C" fn event_rank(table: &[u8], event: u32) -> u64
 // ---- a frame
 
 // Up to so many steps, the answer of each that commits written to `commits`, eight bytes each. Bits 0 to 31: the steps
-// made; 32 to 55: the commits written; 56 to 63: why it ended: 0 all made, 1 the next is idle, 2 the next is refused by
-// 14, 3 no room for a further commit.
+// made; 32 to 55: the commits written; 56 to 63: why it ended: 1 nothing is left in hand, the next would be idle; else
+// 0 all made, 2 the next is refused by 14, 3 no room for a further commit; 0 where no step is asked for.
 #[no_mangle]
 pub extern "C" fn frame(table: &[u8], round: &mut [u8], steps: u32, commits: &mut [u8]) -> u64
     ensures { λ r. ⌜ framed r (now (round .exit)) (now (commits .exit)) ≡ frameOn (now (table .entry)) (now (round .entry)) steps (now (commits .entry)) ⌝ }

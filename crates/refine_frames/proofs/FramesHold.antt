@@ -14,7 +14,7 @@ use Rattle.lib_base.proofs.Tools.{by-test, split}
 use Rattle.spec_model.specs.Model.{Call, step}
 use Rattle.run_step.specs.Machine.{stepOn}
 use Rattle.run_burst.specs.Burst.{isCommit}
-use Rattle.run_frame.specs.Frame.{Framed, frameSaid, roomFor, putAnswer, countAfter, commitsAfter, frameFrom, frameOn}
+use Rattle.run_frame.specs.Frame.{Framed, frameSaid, roomFor, putAnswer, countAfter, commitsAfter, idleOr, frameFrom, frameOn}
 use Rattle.refine_calls.specs.Refinement.{callOn, answersOn, roundAfter, numbersOn, bytesAfter, turnOnBytes}
 use Rattle.refine_frames.specs.Frames.{stepsMade, commitsWritten, endedBy, stepCalls, committing, putAll, Ended, FrameSteps, EveryFrame, FrameInList}
 
@@ -43,11 +43,11 @@ record From (t : List ℕ) (room k m n : ℕ) (l b : List ℕ) (o : Framed) : Ty
   made : All (λ a. (a ≢ 0) × (a ≢ 14)) (answersOn t (stepCalls r) l)
   most : r ≤ k
   few : n + length (committing (answersOn t (stepCalls r) l)) ≤ room
-  ended : Ended t k r room (n + length (committing (answersOn t (stepCalls r) l))) (o .1) why
+  ended : Ended t (m + k) (m + r) room (n + length (committing (answersOn t (stepCalls r) l))) (o .1) why
 
 module _ (t : List ℕ) (room : ℕ) where
   -- none made
-  none : (k m n : ℕ) (l b : List ℕ) (why : ℕ) → n ≤ room → Ended t k 0 room n l why → From t room k m n l b (frameSaid why m n, l, b)
+  none : (k m n : ℕ) (l b : List ℕ) (why : ℕ) → n ≤ room → Ended t (m + k) m room n l why → From t room k m n l b (frameSaid why m n, l, b)
   unfolding answersOn roundAfter committing putAll numbersOn bytesAfter turnOnBytes
   none k m n l b why h e =
       let z : m + 0 ≡ m = omega arith in
@@ -61,64 +61,96 @@ module _ (t : List ℕ) (room : ℕ) where
         made = tt;
         most = omega arith;
         few = omega arith;
-        ended = rw y e;
+        ended = rw (z, y) e;
       }
-
-  one-more : (k made written why : ℕ) (l : List ℕ) → Ended t k made room written l why → Ended t (suc k) (suc made) room written l why
-  one-more k made written why l e = record {
-    one-of = e .one-of;
-    all = λ z. let h = e .all z in omega arith;
-    idle = λ z. let h = e .idle z in (omega arith, h .1);
-    refused = λ z. let h = e .refused z in (omega arith, h .1);
-    full = λ z. let h = e .full z in (omega arith, h .1);
-  }
 
   -- one more, that answers a and leaves l′
   more : (k m n : ℕ) (l b : List ℕ) (o : Framed) → stepOn t l .0 ≢ 0 → stepOn t l .0 ≢ 14
       → From t room k (m + 1) (countAfter (stepOn t l .0) n) (stepOn t l .1) (commitsAfter (stepOn t l .0) n b) o → From t room (suc k) m n l b o
   unfolding answersOn roundAfter callOn numbersOn bytesAfter turnOnBytes
-  more k m n l b o x y f =
+  more k m n l b o x x′ f =
       let a : ℕ = stepOn t l .0 in
       let xs : List ℕ = answersOn t (stepCalls (f .r)) (stepOn t l .1) in
       let c : countAfter a n + length (committing xs) ≡ n + length (committing (a ∷ xs)) = count-one a n xs in
       let z : m + 1 + f .r ≡ m + suc (f .r) = omega arith in
+      let y : m + 1 + k ≡ m + suc k = omega arith in
       record {
         r = suc (f .r);
         why = f .why;
         said = rw (c, z) at (f .said);
         round = f .round;
         written = f .written ∙ put-one a n b xs;
-        made = ((x, y), f .made);
+        made = ((x, x′), f .made);
         most = omega (arith, f .most);
         few = rw c at (f .few);
-        ended = one-more k (f .r) (n + length (committing (a ∷ xs))) (f .why) (o .1) (rw c at (f .ended));
+        ended = rw (c, z, y) at (f .ended);
       }
 
-  from : (k m n : ℕ) (l b : List ℕ) → n ≤ room → From t room k m n l b (frameFrom t room k m n l b)
-  unfolding frameFrom callOn
-  from zero m n l b h =
-      none 0 m n l b 0 h record {
+  -- nothing further is made: all are, or there is no room
+  all-ended : (m n : ℕ) (l : List ℕ) → Ended t (m + 0) m room n l (pick (eqb m 0) 0 (idleOr t l 0))
+  unfolding idleOr callOn
+  all-ended m n l =
+      split (eqb m 0)
+      (λ e. rw e record {
         one-of = omega arith;
-        all = λ _. refl;
+        all = λ _. omega arith;
         idle = λ z. absurd (omega arith);
+        idle-told = λ z. absurd (omega (arith, eqb-true m 0 e));
         refused = λ z. absurd (omega arith);
         full = λ z. absurd (omega arith);
-      }
-  from (suc k) m n l b h =
-      let P : Framed → Type 0 = From t room (suc k) m n l b in
-      by-test P (leb room n)
-      (λ e. none (suc k) m n l b 3 h record {
+      })
+      (λ e. split (eqb (stepOn t l .0) 0)
+      (λ i. rw (e, i) record {
+        one-of = omega arith;
+        all = λ z. absurd (omega arith);
+        idle = λ _. (omega (arith, eqb-false m 0 e), eqb-true (stepOn t l .0) 0 i);
+        idle-told = λ _ _. refl;
+        refused = λ z. absurd (omega arith);
+        full = λ z. absurd (omega arith);
+      })
+      (λ i. rw (e, i) record {
+        one-of = omega arith;
+        all = λ _. omega arith;
+        idle = λ z. absurd (omega arith);
+        idle-told = λ _ z. absurd (eqb-false (stepOn t l .0) 0 i z);
+        refused = λ z. absurd (omega arith);
+        full = λ z. absurd (omega arith);
+      }))
+
+  full-ended : (k m n : ℕ) (l : List ℕ) → n ≤ room → room ≤ n → Ended t (m + suc k) m room n l (idleOr t l 3)
+  unfolding idleOr callOn
+  full-ended k m n l h g =
+      split (eqb (stepOn t l .0) 0)
+      (λ i. rw i record {
+        one-of = omega arith;
+        all = λ z. absurd (omega arith);
+        idle = λ _. (omega arith, eqb-true (stepOn t l .0) 0 i);
+        idle-told = λ _ _. refl;
+        refused = λ z. absurd (omega arith);
+        full = λ z. absurd (omega arith);
+      })
+      (λ i. rw i record {
         one-of = omega arith;
         all = λ z. absurd (omega arith);
         idle = λ z. absurd (omega arith);
+        idle-told = λ _ z. absurd (eqb-false (stepOn t l .0) 0 i z);
         refused = λ z. absurd (omega arith);
-        full = λ _. (omega arith, omega (arith, leb-true room n e));
+        full = λ _. (omega arith, omega arith);
       })
+
+  from : (k m n : ℕ) (l b : List ℕ) → n ≤ room → From t room k m n l b (frameFrom t room k m n l b)
+  unfolding frameFrom callOn
+  from zero m n l b h = none 0 m n l b (pick (eqb m 0) 0 (idleOr t l 0)) h (all-ended m n l)
+  from (suc k) m n l b h =
+      let P : Framed → Type 0 = From t room (suc k) m n l b in
+      by-test P (leb room n)
+      (λ e. none (suc k) m n l b (idleOr t l 3) h (full-ended k m n l h (leb-true room n e)))
       (λ e. by-test P (eqb (stepOn t l .0) 0)
       (λ i. none (suc k) m n l b 1 h record {
         one-of = omega arith;
         all = λ z. absurd (omega arith);
         idle = λ _. (omega arith, eqb-true (stepOn t l .0) 0 i);
+        idle-told = λ _ _. refl;
         refused = λ z. absurd (omega arith);
         full = λ z. absurd (omega arith);
       })
@@ -127,6 +159,7 @@ module _ (t : List ℕ) (room : ℕ) where
         one-of = omega arith;
         all = λ z. absurd (omega arith);
         idle = λ z. absurd (omega arith);
+        idle-told = λ _ z. absurd (eqb-false (stepOn t l .0) 0 i z);
         refused = λ _. (omega arith, eqb-true (stepOn t l .0) 14 j);
         full = λ z. absurd (omega arith);
       })
@@ -156,6 +189,7 @@ together t l asked b o h f =
     let n : ℕ = length (committing (answersOn t (stepCalls r) l)) in
     let from-r : 0 + r ≡ r = omega arith in
     let from-n : 0 + n ≡ n = omega arith in
+    let from-k : 0 + asked ≡ asked = omega arith in
     let small : roomFor (length b) < 16777216 = room-small (length b) in
     let p : r < 4294967296 = omega (arith, f .most) in
     let q : n < 16777216 = omega (arith, f .few) in
@@ -170,7 +204,7 @@ together t l asked b o h f =
       made = rw x (f .made);
       most = rw x (f .most);
       room = rw y (rw from-n at (f .few));
-      ended = rw (x, y, z) (rw from-n at (f .ended));
+      ended = rw (x, y, z) (rw (from-n, from-r, from-k) at (f .ended));
     }
 
 pub every-frame : EveryFrame

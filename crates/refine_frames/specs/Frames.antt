@@ -44,7 +44,9 @@ putAll b n (a ∷ xs) = putAll (putAnswer b n a) (n + 1) xs
 pub record Ended (t : List ℕ) (asked made room written : ℕ) (l : List ℕ) (why : ℕ) : Type 0 where
   pub one-of : why ≤ noRoom
   pub all : why ≡ allMade → made ≡ asked
-  pub idle : why ≡ metIdle → (made < asked) × (callOn t step l .0 ≡ kinds.idle)
+  -- idle is told where a step was asked for and the next would be idle, and there alone
+  pub idle : why ≡ metIdle → (0 < asked) × (callOn t step l .0 ≡ kinds.idle)
+  pub idle-told : 0 < asked → callOn t step l .0 ≡ kinds.idle → why ≡ metIdle
   pub refused : why ≡ metRefusal → (made < asked) × (callOn t step l .0 ≡ foreign)
   pub full : why ≡ noRoom → (made < asked) × (written ≡ room)
 

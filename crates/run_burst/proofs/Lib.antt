@@ -1,4 +1,5 @@
 pub mod Still
+pub mod Rests
 pub mod Fits
 pub mod Performs
 pub mod Choice

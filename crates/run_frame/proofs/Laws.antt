@@ -12,12 +12,13 @@ use borrow.Author.Tests.{le-leb, lt-leb, eq-eqb, ne-eqb, eqb-true, eqb-false}
 use Rattle.lib_base.specs.Basics.{pick}
 use Rattle.lib_base.proofs.Tools.{by-test, split}
 use Rattle.lib_word.proofs.Laws.{length-put}
-use Rattle.format_layout.specs.Layout.{ours}
+use Rattle.format_layout.specs.Layout.{ours, runningFlag, waitingCount}
 use Rattle.run_step.specs.Machine.{stepOn}
 use Rattle.run_burst.specs.Sound.{RoundSound}
 use Rattle.run_burst.specs.Burst.{isCommit, unmade, Burst, burst, burstOn}
 use Rattle.run_burst.proofs.Glue.{left-at-most, left-fewer}
-use Rattle.run_frame.specs.Frame.{Framed, framed, frameSaid, roomFor, putAnswer, countAfter, commitsAfter, frameFrom, refusedFrame, frameOn}
+use Rattle.run_burst.proofs.Rests.{one-runs, one-waits, none-in-hand}
+use Rattle.run_frame.specs.Frame.{Framed, framed, frameSaid, roomFor, putAnswer, countAfter, commitsAfter, idleOr, frameFrom, refusedFrame, frameOn}
 
 length-putAnswer : (b : List ℕ) (n a : ℕ) → length (putAnswer b n a) ≡ length b
 unfolding putAnswer
@@ -30,6 +31,21 @@ length-commits a n b = by-test (λ (x : List ℕ). length x ≡ length b) (isCom
 count-most : (a n : ℕ) → countAfter a n ≤ n + 1
 unfolding countAfter
 count-most a n = by-test (λ (x : ℕ). x ≤ n + 1) (isCommit a) (λ _. omega arith) (λ _. omega arith)
+
+-- ---- whether nothing is in hand
+
+module _ {t l : List ℕ} (s : RoundSound t l) (why : ℕ) where
+  pub runs-on : {f : ℕ} → f ≡ runningFlag l → f ≢ 0 → why ≡ idleOr t l why
+  unfolding idleOr
+  runs-on e f = rw (one-runs s (λ z. f (e ∙ z)))
+
+  pub waits-on : {f w : ℕ} → f ≡ runningFlag l → f ≡ 0 → w ≡ waitingCount l → w ≢ 0 → why ≡ idleOr t l why
+  unfolding idleOr
+  waits-on e f d w = rw (one-waits s (sym e ∙ f) (λ z. w (d ∙ z)))
+
+  pub rests : {f w : ℕ} → f ≡ runningFlag l → f ≡ 0 → w ≡ waitingCount l → w ≡ 0 → 1 ≡ idleOr t l why
+  unfolding idleOr
+  rests e f d w = rw (none-in-hand s (sym e ∙ f) (sym d ∙ w))
 
 -- ---- a frame goes on after a burst
 
@@ -55,7 +71,7 @@ module _ (t : List ℕ) (room : ℕ) where
       (λ f. split (isCommit a) (λ c. rw (free, e, f, c, next, e, f, c))
       (λ c. rw (free, e, f, c) (rw same at (frame-burst k (m + 1) n (stepOn t l .1) b h)))))
 
-no-room : (t : List ℕ) (room : ℕ) (l b : List ℕ) (k m n : ℕ) → 0 < k → room ≤ n → frameFrom t room k m n l b ≡ (frameSaid 3 m n, l, b)
+no-room : (t : List ℕ) (room : ℕ) (l b : List ℕ) (k m n : ℕ) → 0 < k → room ≤ n → frameFrom t room k m n l b ≡ (frameSaid (idleOr t l 3) m n, l, b)
 unfolding frameFrom
 no-room t room l b zero m n h g = absurd (omega arith)
 no-room t room l b (suc k) m n h g = rw (le-leb room n g)
@@ -76,15 +92,16 @@ begin {t} {l} {b} {steps} {room} s =
     record { whole = rw z; sound = s; within = omega arith; few = omega arith; round-long = refl; commits-long = refl }
 
 module _ {t l₀ : List ℕ} {steps room : ℕ} {b₀ l b : List ℕ} {k n : ℕ} (u : Turn t l₀ steps room b₀ l b k n) where
-  pub all-made : {r : ℕ} → k ≤ 0 → r ≡ frameSaid 0 steps n → framed r l b ≡ frameFrom t room steps 0 0 l₀ b₀
+  pub all-made : {r w : ℕ} → steps ≢ 0 → k ≤ 0 → w ≡ idleOr t l 0 → r ≡ frameSaid w steps n → framed r l b ≡ frameFrom t room steps 0 0 l₀ b₀
   unfolding frameFrom
-  all-made {r} h e =
+  all-made {r} {w} some h d e =
       let z : k ≡ 0 = omega arith in
       let y : steps - 0 ≡ steps = omega arith in
-      ap (λ (x : ℕ). framed x l b) e ∙ (rw (z, y) at (u .whole))
+      let x : r ≡ frameSaid (pick (eqb steps 0) 0 (idleOr t l 0)) steps n = rw (ne-eqb steps 0 some, ← d) e in
+      ap (λ (x : ℕ). framed x l b) x ∙ (rw (z, y) at (u .whole))
 
-  pub full : {r : ℕ} → 0 < k → room ≤ n → r ≡ frameSaid 3 (steps - k) n → framed r l b ≡ frameFrom t room steps 0 0 l₀ b₀
-  full {r} h g e = ap (λ (x : ℕ). framed x l b) e ∙ sym (no-room t room l b k (steps - k) n h g) ∙ u .whole
+  pub full : {r w : ℕ} → 0 < k → room ≤ n → w ≡ idleOr t l 3 → r ≡ frameSaid w (steps - k) n → framed r l b ≡ frameFrom t room steps 0 0 l₀ b₀
+  full {r} {w} h g d e = ap (λ (x : ℕ). framed x l b) (rw d at e) ∙ sym (no-room t room l b k (steps - k) n h g) ∙ u .whole
 
   module _ {a k′ : ℕ} {l′ : List ℕ} (some : 0 < k) (free : n < room) (made : burst a k′ l′ ≡ burstOn t k l) where
     goes : goesOn t room steps n b (a, k′, l′) ≡ frameFrom t room steps 0 0 l₀ b₀
@@ -119,21 +136,24 @@ module _ {t l₀ : List ℕ} {steps room : ℕ} {b₀ l b : List ℕ} {k n : ℕ
       commits-long = rw d (length-commits a n b) ∙ u .commits-long;
     }
 
--- ---- judged, or foreign
+-- ---- none asked for, judged, or foreign
 
-foreign-from : (t : List ℕ) (room : ℕ) (l b : List ℕ) → ours t l ≡ false → (k : ℕ) → frameFrom t room k 0 0 l b ≡ (refusedFrame k room, l, b)
-unfolding frameFrom refusedFrame stepOn
-foreign-from t room l b h zero = refl
-foreign-from t room l b h (suc k) =
-    let s : eqb (suc k) 0 ≡ false = ne-eqb (suc k) 0 (omega arith) in
+foreign-from : (t : List ℕ) (room : ℕ) (l b : List ℕ) → ours t l ≡ false → (k : ℕ) → k ≢ 0 → frameFrom t room k 0 0 l b ≡ (refusedFrame room, l, b)
+unfolding frameFrom refusedFrame stepOn idleOr
+foreign-from t room l b h zero some = absurd (some refl)
+foreign-from t room l b h (suc k) some =
     split (eqb room 0)
-    (λ e. let z : leb room 0 ≡ true = le-leb room 0 (omega (arith, eqb-true room 0 e)) in rw (z, s, e))
-    (λ e. let z : leb room 0 ≡ false = lt-leb room 0 (omega (arith, eqb-false room 0 e)) in rw (z, s, e, h))
+    (λ e. let z : leb room 0 ≡ true = le-leb room 0 (omega (arith, eqb-true room 0 e)) in rw (z, e, h))
+    (λ e. let z : leb room 0 ≡ false = lt-leb room 0 (omega (arith, eqb-false room 0 e)) in rw (z, e, h))
+
+pub none-asked : (t l b : List ℕ) {steps r : ℕ} → steps ≡ 0 → r ≡ frameSaid 0 0 0 → framed r l b ≡ frameOn t l steps b
+unfolding frameOn frameFrom
+none-asked t l b h e = rw (h, e)
 
 module _ (t l b : List ℕ) (steps : ℕ) {room : ℕ} (has : room ≡ roomFor (length b)) where
   pub judged : {o : Framed} → o ≡ frameFrom t room steps 0 0 l b → o ≡ frameOn t l steps b
   unfolding frameOn
   judged e = rw (← has) e
 
-  pub foreign-frame : {r : ℕ} → ours t l ≡ false → r ≡ refusedFrame steps room → framed r l b ≡ frameOn t l steps b
-  foreign-frame {r} h e = ap (λ (x : ℕ). framed x l b) e ∙ judged (sym (foreign-from t room l b h steps))
+  pub foreign-frame : {r : ℕ} → ours t l ≡ false → steps ≢ 0 → r ≡ refusedFrame room → framed r l b ≡ frameOn t l steps b
+  foreign-frame {r} h some e = ap (λ (x : ℕ). framed x l b) e ∙ judged (sym (foreign-from t room l b h steps some))

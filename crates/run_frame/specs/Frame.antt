@@ -13,7 +13,8 @@ use Rattle.run_burst.specs.Burst.{isCommit}
 
 -- ---- the answer
 
--- why a frame ended: all steps made; the next is idle; the next is refused; no room for a further commit
+-- why a frame ended: all steps made; nothing is in hand, the next step would be idle; the next is refused; no room for
+-- a further commit
 abbrev pub allMade : ℕ
 allMade = 0
 
@@ -55,18 +56,23 @@ commitsAfter a n b = pick (isCommit a) (putAnswer b n a) b
 
 -- ---- the frame
 
--- up to k steps more, m being made and n commits written; an idle or refused step is not made
+-- idle where the next step would be, whatever else ends it
+unfoldable pub idleOr : List ℕ → List ℕ → ℕ → ℕ
+idleOr t l why = pick (eqb (stepOn t l .0) kinds.idle) metIdle why
+
+-- up to k steps more, m being made and n commits written; an idle or refused step is not made. With none asked for
+-- nothing is said of the round
 unfoldable pub frameFrom : List ℕ → ℕ → ℕ → ℕ → ℕ → List ℕ → List ℕ → Framed
-frameFrom t room zero m n l b = (frameSaid allMade m n, l, b)
+frameFrom t room zero m n l b = (frameSaid (pick (eqb m 0) allMade (idleOr t l allMade)) m n, l, b)
 frameFrom t room (suc k) m n l b =
-    pick (leb room n) (frameSaid noRoom m n, l, b)
+    pick (leb room n) (frameSaid (idleOr t l noRoom) m n, l, b)
     (pick (eqb (stepOn t l .0) kinds.idle) (frameSaid metIdle m n, l, b)
     (pick (eqb (stepOn t l .0) foreign) (frameSaid metRefusal m n, l, b)
     (frameFrom t room k (m + 1) (countAfter (stepOn t l .0) n) (stepOn t l .1) (commitsAfter (stepOn t l .0) n b))))
 
--- of a foreign table or round: no step is made
-unfoldable pub refusedFrame : ℕ → ℕ → ℕ
-refusedFrame steps room = pick (eqb steps 0) (frameSaid allMade 0 0) (pick (eqb room 0) (frameSaid noRoom 0 0) (frameSaid metRefusal 0 0))
+-- steps being asked for, of a foreign table or round: none is made
+unfoldable pub refusedFrame : ℕ → ℕ
+refusedFrame room = pick (eqb room 0) (frameSaid noRoom 0 0) (frameSaid metRefusal 0 0)
 
 unfoldable pub frameOn : List ℕ → List ℕ → ℕ → List ℕ → Framed
 frameOn t l steps b = frameFrom t (roomFor (length b)) steps 0 0 l b

@@ -1,11 +1,12 @@
 // A frame: up to as many steps as are asked for in one call, each commit's answer written to a lent buffer.
 ghost use mathlib.Core.Path.{_≡_};
+ghost use mathlib.Core.Logic.{_≢_};
 ghost use Prim.Native.Nat.{_+_, _*_, _≤_, _<_};
 ghost use lib.ListN.{length};
-ghost use Rattle.run_frame.specs.Frame.{roomFor, frameSaid, putAnswer, countAfter, commitsAfter, framed, frameFrom, refusedFrame, frameOn};
+ghost use Rattle.run_frame.specs.Frame.{roomFor, frameSaid, putAnswer, countAfter, commitsAfter, framed, idleOr, frameFrom, refusedFrame, frameOn};
 ghost use Rattle.run_burst.specs.Sound.{RoundSound};
 
-// Why a frame ended: all steps made, nothing to do, a step refused, no room for a further commit.
+// Why a frame ended: all steps made, nothing in hand, a step refused, no room for a further commit.
 pub const ALL_MADE: u64 = 0;
 
 pub const IDLE: u64 = 1;
@@ -70,28 +71,40 @@ fn note(commits: &mut [u8], n: u32, answer: u64) -> u32
 }
 
 // Of a foreign table or round no step is made.
-fn refused_of(steps: u32, room: u32) -> u64
-    ensures { λ r. ⌜ r ≡ refusedFrame steps room ⌝ }
+fn refused_of(room: u32) -> u64
+    ensures { λ r. ⌜ r ≡ refusedFrame room ⌝ }
 {
-    if steps == 0 {
-        return said_of(ALL_MADE, 0, 0);
-    }
     if room == 0 {
         return said_of(NO_ROOM, 0, 0);
     }
     said_of(REFUSED, 0, 0)
 }
 
-// Table and round are judged. There is room for so many commits.
+// Why a frame ends that would end for `why`: idle where nothing runs and nothing waits.
+fn idle_or(table: &[u8], round: &[u8], why: u64) -> u64
+    requires { ⌜ RoundSound (now table) (now round) × (why < 4) ⌝ }
+    ensures { λ r. ⌜ r ≡ idleOr (now (table .entry)) (now (round .entry)) why ⌝ }
+    ensures { λ r. ⌜ r < 4 ⌝ }
+{
+    if lib_word::get_word(round, format_layout::round::RUNNING) != 0 {
+        return why;
+    }
+    if lib_word::get_word(round, format_layout::round::WAITING) != 0 {
+        return why;
+    }
+    IDLE
+}
+
+// Table and round are judged, steps are asked for, and there is room for so many commits.
 fn frame_in(table: &[u8], round: &mut [u8], steps: u32, room: u32, commits: &mut [u8]) -> u64
-    requires { ⌜ RoundSound (now table) (now round) × (room < 16777216) × (room * 8 ≤ length (now commits)) ⌝ }
+    requires { ⌜ RoundSound (now table) (now round) × (room < 16777216) × (room * 8 ≤ length (now commits)) × (steps ≢ 0) ⌝ }
     ensures { λ r. ⌜ framed r (now (round .exit)) (now (commits .exit)) ≡ frameFrom (now (table .entry)) room steps 0 0 (now (round .entry)) (now (commits .entry)) ⌝ }
 {
     let mut left = steps;
     let mut written = 0;
     while left > 0 {
         if room <= written {
-            return said_of(NO_ROOM, steps - left, written);
+            return said_of(idle_or(&*table, round, NO_ROOM), steps - left, written);
         }
         let stop = run_burst::burst_on(&*table, round, left);
         let answer = stop.answer;
@@ -104,17 +117,20 @@ fn frame_in(table: &[u8], round: &mut [u8], steps: u32, room: u32, commits: &mut
         }
         written = note(commits, written, answer);
     }
-    said_of(ALL_MADE, steps, written)
+    said_of(idle_or(&*table, round, ALL_MADE), steps, written)
 }
 
 // Up to so many steps, until one is idle or refused or there is no room for a further commit: how many were made, the
-// commits written, and why it ended.
+// commits written, and why it ended, idle wherever nothing is left in hand.
 pub fn frame_at(table: &[u8], round: &mut [u8], steps: u32, commits: &mut [u8]) -> u64
     ensures { λ r. ⌜ framed r (now (round .exit)) (now (commits .exit)) ≡ frameOn (now (table .entry)) (now (round .entry)) steps (now (commits .entry)) ⌝ }
 {
+    if steps == 0 {
+        return said_of(ALL_MADE, 0, 0);
+    }
     let room = room_of(commits.len());
     if run_validate::is_ours(&*table, round) {
         return frame_in(&*table, round, steps, room, commits);
     }
-    refused_of(steps, room)
+    refused_of(room)
 }

@@ -828,20 +828,23 @@ impl Model {
     }
 
     /// Up to so many steps with room for so many commits: how many were made, the commits, and why it ended: 0 all made, 1
-    /// idle, 3 no room for a further commit. A step that finds the round idle is none of them.
+    /// nothing is in hand, 3 no room for a further commit. A step that finds the round idle is none of them.
     pub fn frame(&mut self, steps: u32, room: usize) -> (u32, Vec<Answer>, u64) {
         let mut commits = vec![];
-        for made in 0..steps {
-            if commits.len() == room {
-                return (made, commits, 3);
+        let mut made = 0;
+        while made < steps && commits.len() < room && self.in_hand() > 0 {
+            if let a @ Answer::Committed(..) = self.step() {
+                commits.push(a);
             }
-            match self.step() {
-                Answer::Idle => return (made, commits, 1),
-                a @ Answer::Committed(..) => commits.push(a),
-                _ => {}
-            }
+            made += 1;
         }
-        (steps, commits, 0)
+        let why = match () {
+            _ if steps == 0 => 0,
+            _ if self.in_hand() == 0 => 1,
+            _ if made == steps => 0,
+            _ => 3,
+        };
+        (made, commits, why)
     }
 
     /// Document 02, M-112: the round goes on under a new sheet. 0, or 19 during copy-back, then 28.

@@ -234,16 +234,16 @@ pub fn preview(t: &[u8], l: &[u8], e: u32, i: u32, who: u32) -> u64 {
 }
 
 /// Up to so many steps, each commit's answer written to the buffer: how many were made, how many commits were written, and
-/// why it ended: 0 all made, 1 the next is idle, 2 the next is refused, 3 no room for a further commit.
+/// why it ended: 1 the next would be idle, else 0 all made, 3 no room for a further commit, 2 the next is refused.
 pub fn frame(t: &[u8], l: &mut Vec<u8>, steps: u32, commits: &mut [u8]) -> u64 {
     let room = (commits.len() / 8).min(0xFF_FFFF);
     let mut written = 0;
     for made in 0..steps as u64 {
         let said = |why: u64| why << 56 | (written as u64) << 32 | made;
-        if written == room {
-            return said(3);
-        }
         let before = l.clone();
+        if written == room {
+            return said(if call(t, &mut l.clone(), Call::Step) == 0 { 1 } else { 3 });
+        }
         match call(t, l, Call::Step) {
             0 => return said(1),
             14 => {
@@ -257,7 +257,8 @@ pub fn frame(t: &[u8], l: &mut Vec<u8>, steps: u32, commits: &mut [u8]) -> u64 {
             _ => {}
         }
     }
-    (written as u64) << 32 | steps as u64
+    let idle = steps > 0 && call(t, &mut l.clone(), Call::Step) == 0;
+    (idle as u64) << 56 | (written as u64) << 32 | steps as u64
 }
 
 /// What a table tells of itself: 2^32 and its events, its behaviours, the rank of one of its events; or 14, 15.

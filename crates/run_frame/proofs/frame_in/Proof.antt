@@ -19,11 +19,12 @@ frame-in-spec =
     Inv-loop
     μ-loop
     (λ c. begin (c .before .before .before .pre .0))
+    (λ c κs. (c .before .before .before .loop .inv .sound, omega arith))
     (λ c. omega arith)
     (λ c κs. omega arith)
-    (λ c. c .before .before .before .loop .inv .round-long)
-    (λ c. c .before .before .before .loop .inv .commits-long)
-    (λ c. full (c .before .before .before .loop .inv) (c .before .before .loop-test .taken) (c .before .if1 .taken) (c .said-of .ensures))
+    (λ c. c .before .before .before .before .before .loop .inv .round-long)
+    (λ c. c .before .before .before .before .before .loop .inv .commits-long)
+    (λ c. full (c .before .before .before .before .before .loop .inv) (c .before .before .before .before .loop-test .taken) (c .before .before .before .if1 .taken) (c .before .idle-or .ensures .0) (c .said-of .ensures))
     (λ c κs. c .before .before .before .loop .inv .sound)
     (λ c. let u = c .before .before .before .before .before .before .before .loop .inv in omega (arith, fewer u (omega arith) (omega arith) (c .before .before .before .burst-on .ensures .0)))
     (λ c κs. let u = c .before .before .before .before .before .before .before .loop .inv in omega arith)
@@ -40,7 +41,8 @@ frame-in-spec =
     (λ c.
     turn (c .before .before .before .before .before .before .before .before .before .before .before .before .loop .inv) (omega arith) (omega arith) (c .before .before .before .before .before .before .before .before .burst-on .ensures .0) (c .before .before .before .before .before .if2 .left) (c .before .before .before .before .if3 .left) (c .before .before .before .before .before .before .before .before .burst-on .ensures .1)
     (c .before .before .note .ensures .0) (c .before .before .note .ensures .1) (search needs))
+    (λ c κs. (c .before .before .loop .inv .sound, omega arith))
     (λ c κs. omega arith)
-    (λ c. c .before .before .loop .inv .round-long)
-    (λ c. c .before .before .loop .inv .commits-long)
-    (λ c. all-made (c .before .before .loop .inv) (c .before .loop-test .left) (c .said-of4 .ensures)))
+    (λ c. c .before .before .before .before .loop .inv .round-long)
+    (λ c. c .before .before .before .before .loop .inv .commits-long)
+    (λ c. all-made (c .before .before .before .before .loop .inv) (omega arith) (c .before .before .before .loop-test .left) (c .before .idle-or2 .ensures .0) (c .said-of4 .ensures)))

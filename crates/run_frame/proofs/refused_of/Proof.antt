@@ -13,6 +13,4 @@ refused-of-spec =
     (λ c κs. search needs)
     (λ c. search code depth 12)
     (λ c κs. search needs)
-    (λ c. search code depth 12)
-    (λ c κs. search needs)
     (λ c. search code depth 12))
