@@ -1,9 +1,11 @@
 // The evaluation stack in the round's bytes, and the mark of what ran over.
 use format_layout::round;
 use spec_language::functions;
+use spec_language::limits;
 ghost use mathlib.Core.Path.{_≡_};
 ghost use Prim.Native.Nat.{_≤_, _<_};
 ghost use lib.ListN.{length};
+ghost use Rattle.lib_word.specs.Word.{put};
 ghost use Rattle.lib_arith.specs.Functions.{result, over, arity};
 ghost use Rattle.run_stack.specs.Stack.{pushOn, popTo, noted, applyOne, applyTwo, applyThree, applyOn};
 
@@ -14,13 +16,29 @@ const SECOND: usize = round::STACK - 2;
 
 const THIRD: usize = round::STACK - 3;
 
+// A depth that no stack has.
+const BEYOND: u32 = limits::STACK as u32 + 1;
+
+// The stack's depth becomes n. The test, which no depth meets, parts this write from the one before it: the compiler
+// joins the bytes of a word only where no other write precedes them, and the next instruction reads the depth, as a
+// word, which waits long for single bytes.
+fn put_depth(round: &mut [u8], n: u32)
+    requires { ⌜ (2048 ≤ length (now round)) × (n ≤ 64) ⌝ }
+    ensures { λ _. ⌜ now (round .exit) ≡ put (now (round .entry)) 6 n ⌝ }
+{
+    if n == BEYOND {
+        return;
+    }
+    lib_word::put_word(round, round::DEPTH, n);
+}
+
 // A value on top of a stack of that depth.
 pub fn push_on(round: &mut [u8], depth: u32, value: u32)
     requires { ⌜ (2048 ≤ length (now round)) × (depth < 64) ⌝ }
     ensures { λ _. ⌜ now (round .exit) ≡ pushOn (now (round .entry)) depth value ⌝ }
 {
     lib_word::put_word(round, round::STACK + (depth as usize), value);
-    lib_word::put_word(round, round::DEPTH, depth + 1);
+    put_depth(round, depth + 1);
 }
 
 // The top of a stack of that depth goes to word k.
@@ -30,7 +48,7 @@ pub fn pop_to(round: &mut [u8], depth: u32, k: usize)
 {
     let value = lib_word::get_word(round, TOP + (depth as usize));
     lib_word::put_word(round, k, value);
-    lib_word::put_word(round, round::DEPTH, depth - 1);
+    put_depth(round, depth - 1);
 }
 
 // Function f on the words a, b and c: its word, and the mark set where it runs over.
@@ -65,7 +83,7 @@ fn apply_two(round: &mut [u8], depth: u32, f: u8)
     let y = lib_word::get_word(round, TOP + (depth as usize));
     let value = call_on(round, f, x, y, 0);
     lib_word::put_word(round, SECOND + (depth as usize), value);
-    lib_word::put_word(round, round::DEPTH, depth - 1);
+    put_depth(round, depth - 1);
 }
 
 fn apply_three(round: &mut [u8], depth: u32, f: u8)
@@ -77,7 +95,7 @@ fn apply_three(round: &mut [u8], depth: u32, f: u8)
     let z = lib_word::get_word(round, TOP + (depth as usize));
     let value = call_on(round, f, x, y, z);
     lib_word::put_word(round, THIRD + (depth as usize), value);
-    lib_word::put_word(round, round::DEPTH, depth - 2);
+    put_depth(round, depth - 2);
 }
 
 // Function f takes its arguments from a stack of that depth, and puts its result.

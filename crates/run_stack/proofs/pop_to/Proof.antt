@@ -15,4 +15,4 @@ pop-to-spec =
     (λ c. search needs)
     (λ c κs. search needs)
     (λ c. search needs)
-    (λ c. cc (c .before .before .before .before .before .before .before .before .get-word .ensures, c .before .before .before .before .before .before .put-word .ensures, c .before .before .put-word2 .ensures)))
+    (λ c. cc (c .before .before .before .before .before .before .before .before .get-word .ensures, c .before .before .before .before .before .before .put-word .ensures, c .before .before .put-depth .ensures)))

@@ -14,4 +14,4 @@ push-on-spec =
     (λ c. search needs)
     (λ c κs. search needs)
     (λ c. search needs)
-    (λ c. cc (c .before .before .before .before .before .before .put-word .ensures, c .before .before .put-word2 .ensures)))
+    (λ c. cc (c .before .before .before .before .before .before .put-word .ensures, c .before .before .put-depth .ensures)))

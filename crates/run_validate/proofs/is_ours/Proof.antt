@@ -65,5 +65,5 @@ is-ours-spec =
     (λ c. told _ _ (opened _ _ (c .before .before .before .before .before .before .before .table-fits .ensures .0) (not-false _ (c .before .before .before .before .before .before .if1 .left)) (search needs) (deep _ _ (c .before .before .before .get-word2 .ensures) (search needs) (c .before .get-word3 .ensures) (search needs))))
     (λ c κs. let h = (c .before .before .before .before .before .before .before .table-fits .ensures .1) (not-false _ (c .before .before .before .before .before .before .if1 .left)) in search needs)
     (λ c. told _ _ (opened _ _ (c .before .before .before .before .before .before .before .before .before .table-fits .ensures .0) (not-false _ (c .before .before .before .before .before .before .before .before .if1 .left)) (search needs) (runs-badly _ _ (c .before .before .before .before .before .before .get-word .ensures) (c .before .before .before .before .before .get-word2 .ensures) (search needs) (c .before .before .before .get-word3 .ensures) (search needs) (c .before .running-fits .ensures) (not-true _ (c .if5 .taken)))))
-    (λ c κs. search needs)
+    (λ c κs. let h = (c .before .before .before .before .before .before .before .before .before .table-fits .ensures .1) (not-false _ (c .before .before .before .before .before .before .before .before .if1 .left)) in search needs)
     (λ c. told _ _ (opened _ _ (c .before .before .before .before .before .before .before .before .before .before .table-fits .ensures .0) (not-false _ (c .before .before .before .before .before .before .before .before .before .if1 .left)) (search needs) (fits _ _ (c .before .before .before .before .before .before .before .get-word .ensures) (c .before .before .before .before .before .before .get-word2 .ensures) (search needs) (c .before .before .before .before .get-word3 .ensures) (search needs) (c .before .before .running-fits .ensures) (not-false _ (c .before .if5 .left)) (c .slots-fit .ensures)))))

@@ -48,7 +48,7 @@ slots-fit-spec =
     (λ c. omega arith)
     (λ c. omega arith)
     (λ c κs. omega arith)
-    (λ c κs. tt)
+    (λ c κs. omega arith)
     (λ c. fails (c .before .before .before .before .loop .inv) (omega arith) (c .before .before .get-word .ensures) (c .before .hand-fits .ensures) (not-true _ (c .if1 .taken)))
     (λ c. omega arith)
     (λ c. turn (c .before .before .before .before .loop .inv) (omega arith) (c .before .before .get-word .ensures) (c .before .hand-fits .ensures) (not-false _ (c .if1 .left)))
