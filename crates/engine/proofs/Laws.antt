@@ -1,7 +1,8 @@
--- What one recorded call is, by its kind, and what the loop over the calls keeps: what is left gives the whole. Assumes
+-- What one recorded call is, by its kind, and what the loops over the calls keep: what is left gives the whole. Assumes
 -- nothing.
 use Prim.Native.Nat.{ℕ, suc, _+_, _*_, _-_, _≤_, _<_}
-use mathlib.Core.Path.{_≡_, refl, ap, _∙_}
+use mathlib.Core.Bool.{Bool}
+use mathlib.Core.Path.{_≡_, refl, sym, ap, _∙_}
 use mathlib.Core.Logic.{_≢_}
 use mathlib.Core.List.{List}
 use native.Mathlib.Omega.{arith}
@@ -13,8 +14,10 @@ use Rattle.run_start.specs.Start.{CallResult, callResult}
 use Rattle.run_arrive.specs.Arrivals.{arriveOn}
 use Rattle.run_board.specs.Board.{boardOn}
 use Rattle.run_step.specs.Machine.{stepOn}
+use Rattle.run_answers.specs.Answers.{putAnswer}
+use Rattle.run_burst.specs.Sound.{RoundSound, higherWaits}
 use Rattle.refine_calls.specs.Refinement.{callOn, turnOnBytes, numbersOn, bytesAfter, answersOn, roundAfter}
-use Rattle.engine.specs.Replay.{callOf, callsFrom, putAnswer, putAnswers}
+use Rattle.engine.specs.Replay.{callOf, callsFrom, putAnswers, Onward}
 
 pub call-arrive : (t l : List ℕ) (kind n who : ℕ) → kind ≡ 0 → arriveOn t l n who ≡ callOn t (callOf kind n who) l
 unfolding callOn callOf
@@ -28,38 +31,75 @@ pub call-board : (t l : List ℕ) (kind n who r : ℕ) → kind ≢ 0 → kind �
 unfolding callOn callOf
 call-board t l kind n who r d f e = rw (ne-eqb kind 0 d, ne-eqb kind 1 f) (ap (λ (x : ℕ). callResult x l) e)
 
--- n calls are made, i of them so far, with the round l and the answers a
-pub record CallsLeft (t l₀ calls a₀ : List ℕ) (n : ℕ) (l a : List ℕ) (i : ℕ) : Type 0 where
-  pub rounds : roundAfter t (callsFrom calls i (n - i)) l ≡ roundAfter t (callsFrom calls 0 n) l₀
-  pub answers : putAnswers a i (answersOn t (callsFrom calls i (n - i)) l) ≡ putAnswers a₀ 0 (answersOn t (callsFrom calls 0 n) l₀)
-  pub within : i ≤ n
-  pub as-long : length a ≡ length a₀
-  pub round-long : length l ≡ length l₀
+-- ---- calls made one after the other
 
-pub begin : (t l calls a : List ℕ) (n : ℕ) → CallsLeft t l calls a n l a 0
-begin t l calls a n =
-    let z : n - 0 ≡ n = omega arith in
-    record { rounds = rw z; answers = rw z; within = omega arith; as-long = refl; round-long = refl }
+pub none-made : (t calls l a : List ℕ) {n i : ℕ} → i ≤ n → Onward t calls n i l a i l a
+none-made t calls l a h = record { rounds = refl; answers = refl; onward = omega arith; within = h; as-long = refl; round-long = refl }
 
-module _ {t l₀ calls a₀ : List ℕ} {n : ℕ} {l a : List ℕ} {i : ℕ} (k : CallsLeft t l₀ calls a₀ n l a i) where
-  pub next-call : {r : ℕ} {l′ a′ : List ℕ} → i < n → callResult r l′ ≡ callOn t (callOf (getD calls (i * 6) 0) (getAt calls (i * 6 + 1)) (getD calls (i * 6 + 5) 0)) l → a′ ≡ putAnswer a i r
-      → length a′ ≡ length a → length l′ ≡ length l → CallsLeft t l₀ calls a₀ n l′ a′ (i + 1)
-  unfolding callsFrom roundAfter answersOn bytesAfter numbersOn turnOnBytes putAnswers
-  next-call {r} {l′} {a′} h e f w x =
-      let s : n - i ≡ suc (n - (i + 1)) = omega arith in
-      let more : List Call = callsFrom calls (i + 1) (n - (i + 1)) in
-      record {
-        rounds = ap (λ (o : CallResult). roundAfter t more (o .1)) e ∙ (rw s at (k .rounds));
-        answers = rw f (ap (λ (o : CallResult). putAnswers (putAnswer a i (o .0)) (i + 1) (answersOn t more (o .1))) e ∙ (rw s at (k .answers)));
-        within = omega arith;
-        as-long = w ∙ k .as-long;
-        round-long = x ∙ k .round-long;
-      }
+pub and-then : {t calls : List ℕ} {n i : ℕ} {l a : List ℕ} {j : ℕ} {l′ a′ : List ℕ} {k : ℕ} {m b : List ℕ} → Onward t calls n i l a j l′ a′ → Onward t calls n j l′ a′ k m b
+    → Onward t calls n i l a k m b
+and-then x y = record {
+  rounds = y .rounds ∙ x .rounds;
+  answers = y .answers ∙ x .answers;
+  onward = omega (arith, x .onward, y .onward);
+  within = y .within;
+  as-long = y .as-long ∙ x .as-long;
+  round-long = y .round-long ∙ x .round-long;
+}
 
+pub one-call : (t calls l a : List ℕ) {n i : ℕ} {r : ℕ} {l′ a′ : List ℕ} → i < n
+    → callResult r l′ ≡ callOn t (callOf (getD calls (i * 6) 0) (getAt calls (i * 6 + 1)) (getD calls (i * 6 + 5) 0)) l → a′ ≡ putAnswer a i r
+    → length a′ ≡ length a → length l′ ≡ length l → Onward t calls n i l a (i + 1) l′ a′
+unfolding callsFrom roundAfter answersOn bytesAfter numbersOn turnOnBytes putAnswers
+one-call t calls l a {n} {i} {r} {l′} {a′} h e f w x =
+    let s : n - i ≡ suc (n - (i + 1)) = omega arith in
+    let more : List Call = callsFrom calls (i + 1) (n - (i + 1)) in
+    record {
+      rounds = rw s (ap (λ (o : CallResult). roundAfter t more (o .1)) e);
+      answers = rw (s, f) (ap (λ (o : CallResult). putAnswers (putAnswer a i (o .0)) (i + 1) (answersOn t more (o .1))) e);
+      onward = omega arith;
+      within = omega arith;
+      as-long = w;
+      round-long = x;
+    }
+
+-- one that is recorded as a step
+pub one-step : (t calls l a : List ℕ) {n i : ℕ} {r : ℕ} {l′ a′ : List ℕ} → i < n → getD calls (i * 6) 0 ≡ 1 → callResult r l′ ≡ stepOn t l → a′ ≡ putAnswer a i r
+    → length a′ ≡ length a → length l′ ≡ length l → Onward t calls n i l a (i + 1) l′ a′
+one-step t calls l a {n} {i} h k e f w x =
+    one-call t calls l a h (e ∙ call-step t l (getD calls (i * 6) 0) (getAt calls (i * 6 + 1)) (getD calls (i * 6 + 5) 0) (λ z. absurd (omega arith)) k) f w x
+
+-- all are made
+module _ {t calls : List ℕ} {n : ℕ} {l₀ a₀ : List ℕ} {i : ℕ} {l a : List ℕ} (k : Onward t calls n 0 l₀ a₀ i l a) where
   pub end-round : n ≤ i → l ≡ roundAfter t (callsFrom calls 0 n) l₀
   unfolding callsFrom roundAfter bytesAfter
-  end-round h = let z : n - i ≡ 0 = omega arith in rw z at (k .rounds)
+  end-round h =
+      let z : n - i ≡ 0 = omega arith in
+      let y : n - 0 ≡ n = omega arith in
+      rw (z, y) at (k .rounds)
 
   pub end-answers : n ≤ i → a ≡ putAnswers a₀ 0 (answersOn t (callsFrom calls 0 n) l₀)
   unfolding callsFrom answersOn numbersOn putAnswers
-  end-answers h = let z : n - i ≡ 0 = omega arith in rw z at (k .answers)
+  end-answers h =
+      let z : n - i ≡ 0 = omega arith in
+      let y : n - 0 ≡ n = omega arith in
+      rw (z, y) at (k .answers)
+
+-- ---- steps in a row, judged once
+
+pub record Stepping (t calls : List ℕ) (n i₀ : ℕ) (l₀ a₀ : List ℕ) (pressed : Bool) (i : ℕ) (l a : List ℕ) : Type 0 where
+  pub made : Onward t calls n i₀ l₀ a₀ i l a
+  pub sound : RoundSound t l
+  pub rank : higherWaits t l ≡ pressed
+
+pub first : (t calls l a : List ℕ) {n i : ℕ} {p : Bool} → i ≤ n → RoundSound t l → p ≡ higherWaits t l → Stepping t calls n i l a p i l a
+first t calls l a h s e = record { made = none-made t calls l a h; sound = s; rank = sym e }
+
+pub next-step : {t calls : List ℕ} {n i₀ : ℕ} {l₀ a₀ : List ℕ} {pressed : Bool} {i : ℕ} {l a : List ℕ} {p : Bool} {r : ℕ} {l′ a′ : List ℕ} → Stepping t calls n i₀ l₀ a₀ pressed i l a
+    → i < n → getD calls (i * 6) 0 ≡ 1 → callResult r l′ ≡ stepOn t l → RoundSound t l′ × (higherWaits t l′ ≡ p) → a′ ≡ putAnswer a i r → length a′ ≡ length a → length l′ ≡ length l
+    → Stepping t calls n i₀ l₀ a₀ p (i + 1) l′ a′
+next-step {t} {calls} {n} {i₀} {l₀} {a₀} {pressed} {i} {l} {a} g h k e s f w x = record {
+  made = and-then (g .made) (one-step t calls l a h k e f w x);
+  sound = s .0;
+  rank = s .1;
+}

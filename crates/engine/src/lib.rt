@@ -20,7 +20,9 @@ ghost use Rattle.run_frame.specs.Frame.{framed, frameOn};
 ghost use Rattle.text_formula.specs.Answer.{answered, formulaOn};
 ghost use Rattle.link_join.specs.Join.{joined, joinOn};
 ghost use Rattle.refine_calls.specs.Refinement.{toldOn, callOn, answersOn, roundAfter};
-ghost use Rattle.engine.specs.Replay.{callOf, callsFrom, putAnswer, putAnswers, callCount};
+ghost use Rattle.engine.specs.Replay.{callOf, callsFrom, putAnswers, callCount};
+
+mod steps;
 
 // The table of a sheet with its parameters. 0, or the refusal's number, 1, 3 to 13 or 20, the table as it was.
 #[no_mangle]
@@ -153,13 +155,11 @@ pub extern "C" fn join(first: &[u8], second: &[u8], params: &[u8], buffer: &mut 
 // ---- a recorded list of calls
 
 // A call of the record has six bytes: its kind, a number of 32 bits and the player; an answer has eight.
-const CALL_BYTES: usize = 6;
+const CALL_BYTES: usize = steps::CALL_BYTES;
 
 const PLAYER_AT: usize = 5;
 
-const ANSWER_BYTES: usize = 8;
-// A word has 32 bits.
-const WORD: u64 = 4294967296;
+const ANSWER_BYTES: usize = run_answers::ANSWER_BYTES;
 
 // One call of the record.
 fn make_call(table: &[u8], round: &mut [u8], kind: u8, n: u32, player: u32) -> u64
@@ -168,18 +168,10 @@ fn make_call(table: &[u8], round: &mut [u8], kind: u8, n: u32, player: u32) -> u
     if kind == 0 {
         return arrive(table, round, n, player) as u64;
     }
-    if kind == 1 {
+    if kind == steps::STEP {
         return step(table, round);
     }
     board(table, round, n, player)
-}
-
-fn put_answer(answers: &mut [u8], i: usize, r: u64)
-    requires { ⌜ (i * 8 + 8 ≤ length (now answers)) × (i < 2305843009213693951) ⌝ }
-    ensures { λ _. ⌜ now (answers .exit) ≡ putAnswer (now (answers .entry)) i r ⌝ }
-{
-    lib_word::put_word(answers, i * 2, (r / WORD) as u32);
-    lib_word::put_word(answers, i * 2 + 1, (r % WORD) as u32);
 }
 
 fn call_count(calls: usize, answers: usize) -> usize
@@ -192,8 +184,8 @@ fn call_count(calls: usize, answers: usize) -> usize
     answers / ANSWER_BYTES
 }
 
-// Makes the recorded calls one after the other, and writes their answers: what a host needs to audit a round. How many
-// were made.
+// Makes the recorded calls one after the other, and writes their answers: what a host needs to audit a round. Steps in
+// a row are judged once. How many were made.
 #[no_mangle]
 pub extern "C" fn replay(table: &[u8], round: &mut [u8], calls: &[u8], answers: &mut [u8]) -> usize
     ensures { λ r. ⌜ r ≡ callCount (length (now (calls .entry))) (length (now (answers .entry))) ⌝ }
@@ -205,7 +197,11 @@ pub extern "C" fn replay(table: &[u8], round: &mut [u8], calls: &[u8], answers: 
     let n = call_count(calls.len(), answers.len());
     let mut i = 0;
     while i < n {
-        let k = i * CALL_BYTES;
+        let at = steps::past_steps(&*table, round, &*calls, i, n, answers);
+        if at == n {
+            return n;
+        }
+        let k = at * CALL_BYTES;
         let r = make_call(
             table,
             round,
@@ -213,8 +209,8 @@ pub extern "C" fn replay(table: &[u8], round: &mut [u8], calls: &[u8], answers: 
             lib_word::get_at(calls, k + 1),
             calls[k + PLAYER_AT] as u32,
         );
-        put_answer(answers, i, r);
-        i += 1;
+        run_answers::put_answer(answers, at, r);
+        i = at + 1;
     }
     n
 }

@@ -14,7 +14,7 @@ use Rattle.lib_base.proofs.Tools.{by-test, split}
 use Rattle.spec_model.specs.Model.{Call, step}
 use Rattle.run_step.specs.Machine.{stepOn}
 use Rattle.run_burst.specs.Burst.{isCommit}
-use Rattle.run_frame.specs.Frame.{Framed, frameSaid, roomFor, putAnswer, countAfter, commitsAfter, idleOr, frameFrom, frameOn}
+use Rattle.run_frame.specs.Frame.{Framed, frameSaid, roomFor, countAfter, commitsAfter, idleOr, frameFrom, frameOn}
 use Rattle.refine_calls.specs.Refinement.{callOn, answersOn, roundAfter, numbersOn, bytesAfter, turnOnBytes}
 use Rattle.refine_frames.specs.Frames.{stepsMade, commitsWritten, endedBy, stepCalls, committing, putAll, Ended, FrameSteps, EveryFrame, FrameInList}
 

@@ -10,7 +10,8 @@ use Rattle.lib_base.specs.Basics.{pick, All}
 use Rattle.spec_language.specs.Refusals.{foreign}
 use Rattle.spec_language.specs.Answers as kinds
 use Rattle.spec_model.specs.Model.{Call, step}
-use Rattle.run_frame.specs.Frame.{allMade, metIdle, metRefusal, noRoom, roomFor, putAnswer, frameOn}
+use Rattle.run_answers.specs.Answers.{putAnswer}
+use Rattle.run_frame.specs.Frame.{allMade, metIdle, metRefusal, noRoom, roomFor, frameOn}
 use Rattle.run_burst.specs.Burst.{isCommit}
 use Rattle.refine_calls.specs.Refinement.{callOn, answersOn, roundAfter}
 

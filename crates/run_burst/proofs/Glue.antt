@@ -20,7 +20,7 @@ use Rattle.run_instruction.specs.Instruction.{perform}
 use Rattle.run_dispatch.specs.Dispatch.{startAt, preemptAt}
 use Rattle.run_advance.specs.Advance.{advanceOn}
 use Rattle.run_step.specs.Machine.{whileResting, stepOn}
-use Rattle.run_burst.specs.Sound.{RoundSound, higherWaits, pressedAfter, Ready, InstructionsRun, StepMade, Turned}
+use Rattle.run_burst.specs.Sound.{RoundSound, higherWaits, pressedAfter, pressedNext, Ready, InstructionsRun, StepMade, Turned}
 use Rattle.run_burst.specs.Burst.{isCommit, unmade, stops, Burst, burst, burstOn, Performed, performed, performOn, performAt}
 use Rattle.run_burst.proofs.Still.{idle-stays, refused-stays}
 use Rattle.run_burst.proofs.Moves.{resting-calm}
@@ -160,6 +160,15 @@ stays t l u =
   where
     eqb-is : {x y : ℕ} → eqb x y ≡ true → x ≡ y
     eqb-is {x} {y} e = eqb-true x y e
+
+-- whether the running one is outranked after a step, made or not
+pub next-ranked : (t l : List ℕ) (pressed : Bool) {p : Bool} {a : ℕ} {l′ : List ℕ} → higherWaits t l ≡ pressed → callResult a l′ ≡ stepOn t l → StepMade t pressed a l′ → p ≡ pressedNext pressed a
+    → RoundSound t l′ × (higherWaits t l′ ≡ p)
+unfolding pressedNext
+next-ranked t l pressed {p} {a} {l′} o e m q =
+    let answer : stepOn t l .0 ≡ a = sym (ap (λ (o : CallResult). o .0) e) in
+    let after : stepOn t l .1 ≡ l′ = sym (ap (λ (o : CallResult). o .1) e) in
+    (m .sound, split (unmade a) (λ u. let z : l′ ≡ l = sym after ∙ stays t l (rw answer u) in rw z (o ∙ sym (rw u at q))) (λ u. m .rank u ∙ sym (rw u at q)))
 
 module _ {t l : List ℕ} {pressed : Bool} {k r : ℕ} {m : List ℕ} (o : higherWaits t l ≡ pressed) (g : InstructionsRun t l r m) (within : r ≤ k) (some : 0 < k) where
   ranked : higherWaits t m ≡ pressed

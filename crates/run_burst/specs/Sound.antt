@@ -34,6 +34,10 @@ higherWaits t l =
 unfoldable pub pressedAfter : Bool → ℕ → Bool
 pressedAfter pressed a = pick (eqb a kinds.ran) pressed false
 
+-- the same after any step: one that is not made leaves the round as it was
+unfoldable pub pressedNext : Bool → ℕ → Bool
+pressedNext pressed a = pick (unmade a) pressed (pressedAfter pressed a)
+
 -- m instructions from instruction c on may be made at once: none of them is the last, and nothing outranks the running
 -- one, whose code begins at `start`
 pub record Ready (t l : List ℕ) (start c m : ℕ) : Type 0 where

@@ -10,7 +10,7 @@ ghost use Rattle.format_layout.specs.Layout.{eventWord, eventOf, runningEvent, 
 ghost use Rattle.format_layout.specs.Bounds.{Bounds};
 ghost use Rattle.run_start.specs.Start.{callResult};
 ghost use Rattle.run_step.specs.Machine.{stepOn};
-ghost use Rattle.run_burst.specs.Sound.{RoundSound, higherWaits, pressedAfter, Ready, InstructionsRun, StepMade, Turned};
+ghost use Rattle.run_burst.specs.Sound.{RoundSound, higherWaits, pressedAfter, pressedNext, Ready, InstructionsRun, StepMade, Turned};
 ghost use Rattle.run_burst.specs.Burst.{isCommit, unmade, stops, performed, performOn, performAt, burst, burstOn};
 
 // The kinds of a step's answer.
@@ -22,6 +22,12 @@ const FOREIGN: u64 = spec_language::refusals::FOREIGN as u64;
 pub struct Stop {
     pub answer: u64,
     pub left: u32,
+}
+
+// A step that was made: its answer, and whether the running arrival is outranked then.
+pub struct Went {
+    pub answer: u64,
+    pub pressed: bool,
 }
 
 // ---- what waits, against what runs
@@ -39,7 +45,7 @@ fn rank_at(table: &[u8], round: &[u8], k: usize) -> u32
 }
 
 // Whether something that waits outranks the running arrival.
-fn is_outranked(table: &[u8], round: &[u8]) -> bool
+pub fn is_outranked(table: &[u8], round: &[u8]) -> bool
     requires { ⌜ RoundSound (now table) (now round) ⌝ }
     ensures { λ r. ⌜ r ≡ higherWaits (now (table .entry)) (now (round .entry)) ⌝ }
 {
@@ -223,6 +229,28 @@ fn is_pressed_after(pressed: bool, a: u64) -> bool
         return pressed;
     }
     false
+}
+
+fn is_pressed_next(pressed: bool, a: u64) -> bool
+    ensures { λ r. ⌜ r ≡ pressedNext pressed a ⌝ }
+{
+    if is_unmade(a) {
+        return pressed;
+    }
+    is_pressed_after(pressed, a)
+}
+
+// One step of several that are judged once.
+pub fn step_on(table: &[u8], round: &mut [u8], pressed: bool) -> Went
+    requires { ⌜ RoundSound (now table) (now round) × (higherWaits (now table) (now round) ≡ pressed) ⌝ }
+    ensures { λ r. ⌜ callResult (r .answer) (now (round .exit)) ≡ stepOn (now (table .entry)) (now (round .entry)) ⌝ }
+    ensures { λ r. ⌜ RoundSound (now (table .entry)) (now (round .exit)) × (higherWaits (now (table .entry)) (now (round .exit)) ≡ r .pressed) ⌝ }
+{
+    let answer = next_on(&*table, round, pressed);
+    Went {
+        answer: answer,
+        pressed: is_pressed_next(pressed, answer),
+    }
 }
 
 // Of `left` steps the instructions that can be made at once, and one step more.

@@ -1,13 +1,13 @@
 -- A frame, for all bytes: the steps that it makes are those of `stepOn`, one after the other, and the answers of those
 -- that commit are written to the bytes lent for them, eight each.
-use Prim.Native.Nat.{ℕ, zero, suc, _+_, _*_, _/_, _%_}
+use Prim.Native.Nat.{ℕ, zero, suc, _+_, _*_, _/_}
 use mathlib.Core.List.{List}
 use lib.ListN.{length}
 use lib.Dec.{ltb, leb, eqb}
 use Rattle.lib_base.specs.Basics.{pick}
-use Rattle.lib_word.specs.Word.{put}
 use Rattle.spec_language.specs.Refusals.{foreign}
 use Rattle.spec_language.specs.Answers as kinds
+use Rattle.run_answers.specs.Answers.{putAnswer}
 use Rattle.run_step.specs.Machine.{stepOn}
 use Rattle.run_burst.specs.Burst.{isCommit}
 
@@ -43,9 +43,6 @@ framed r l b = (r, l, b)
 -- places of eight bytes, as many as 24 bits count
 unfoldable pub roomFor : ℕ → ℕ
 roomFor bytes = pick (ltb (bytes / 8) 16777215) (bytes / 8) 16777215
-
-unfoldable pub putAnswer : List ℕ → ℕ → ℕ → List ℕ
-putAnswer b n a = put (put b (n * 2) (a / 4294967296)) (n * 2 + 1) (a % 4294967296)
 
 -- after a step that answered a: how many are written, and the bytes
 unfoldable pub countAfter : ℕ → ℕ → ℕ

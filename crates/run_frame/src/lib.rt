@@ -3,7 +3,7 @@ ghost use mathlib.Core.Path.{_≡_};
 ghost use mathlib.Core.Logic.{_≢_};
 ghost use Prim.Native.Nat.{_+_, _*_, _≤_, _<_};
 ghost use lib.ListN.{length};
-ghost use Rattle.run_frame.specs.Frame.{roomFor, frameSaid, putAnswer, countAfter, commitsAfter, framed, idleOr, frameFrom, refusedFrame, frameOn};
+ghost use Rattle.run_frame.specs.Frame.{roomFor, frameSaid, countAfter, commitsAfter, framed, idleOr, frameFrom, refusedFrame, frameOn};
 ghost use Rattle.run_burst.specs.Sound.{RoundSound};
 
 // Why a frame ended: all steps made, nothing in hand, a step refused, no room for a further commit.
@@ -21,10 +21,8 @@ const COMMITS: u64 = 72057594037927936;
 // The commits that an answer has room to count, and the bytes of each.
 const MOST_COMMITS: usize = 16777215;
 
-const COMMIT_BYTES: usize = 8;
-// A word's values, and the kinds of a step's answer.
-const WORDS: u64 = 4294967296;
-
+const COMMIT_BYTES: usize = run_answers::ANSWER_BYTES;
+// The kinds of a step's answer.
 const KINDS: u64 = 16;
 
 const FOREIGN: u64 = spec_language::refusals::FOREIGN as u64;
@@ -48,15 +46,6 @@ fn room_of(bytes: usize) -> u32
     MOST_COMMITS as u32
 }
 
-// An answer at place n, in two words.
-fn put_answer(commits: &mut [u8], n: usize, answer: u64)
-    requires { ⌜ (n * 8 + 8 ≤ length (now commits)) × (n < 16777216) ⌝ }
-    ensures { λ _. ⌜ now (commits .exit) ≡ putAnswer (now (commits .entry)) n answer ⌝ }
-{
-    lib_word::put_word(commits, n * 2, (answer / WORDS) as u32);
-    lib_word::put_word(commits, n * 2 + 1, (answer % WORDS) as u32);
-}
-
 // A step's answer after n commits: a commit's is written, any other leaves the buffer. The commits written then.
 fn note(commits: &mut [u8], n: u32, answer: u64) -> u32
     requires { ⌜ (n * 8 + 8 ≤ length (now commits)) × (n < 16777215) ⌝ }
@@ -64,7 +53,7 @@ fn note(commits: &mut [u8], n: u32, answer: u64) -> u32
     ensures { λ _. ⌜ now (commits .exit) ≡ commitsAfter answer n (now (commits .entry)) ⌝ }
 {
     if answer % KINDS == spec_language::answers::COMMITTED {
-        put_answer(commits, n as usize, answer);
+        run_answers::put_answer(commits, n as usize, answer);
         return n + 1;
     }
     n

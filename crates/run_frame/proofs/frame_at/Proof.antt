@@ -1,5 +1,5 @@
--- With no step asked for there is nothing to judge. A table and a round that are not foreign are sound, and the frame is
--- that from the start; of others no step is made.
+-- With no step asked for there is nothing to judge. A table and a round that are not foreign are sound, and the frame
+-- is that from the start; of others no step is made.
 use mathlib.Core.Path.{sym, _∙_}
 use borrow.Author.Needs.{needs}
 use Rattle.run_burst.proofs.Fits.{ours-sound}

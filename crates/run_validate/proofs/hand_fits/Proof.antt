@@ -1,5 +1,5 @@
--- `hand_fits` is `handFits`: a word below the greatest has one of eight players, and its event decides; the greatest has
--- an event that is not known, and any above it a further player.
+-- `hand_fits` is `handFits`: a word below the greatest has one of eight players, and its event decides; the greatest
+-- has an event that is not known, and any above it a further player.
 use Prim.Native.Nat.{ℕ, _/_, _%_, _≤_, _<_}
 use mathlib.Core.Bool.{Bool, true, false}
 use mathlib.Core.Path.{_≡_, sym, _∙_}

@@ -1,8 +1,8 @@
--- `engine::put_answer` meets its contract: its two words are those of `putAnswer`. Assumes nothing.
+-- The two words are those of the definition.
 use borrow.Author.Needs.{needs}
-use Rattle.engine.specs.Replay.{putAnswer}
-use Rattle.engine.proofs.put_answer.Statement.{statement}
-use Rattle.engine.proofs.put_answer.Tie as tie
+use Rattle.run_answers.specs.Answers.{putAnswer}
+use Rattle.run_answers.proofs.put_answer.Statement.{statement}
+use Rattle.run_answers.proofs.put_answer.Tie as tie
 
 pub put-answer-spec : {M : Type 1} → statement M
 unfolding putAnswer

@@ -1,0 +1,19 @@
+// Answers of eight bytes, one after the other in a lent buffer.
+ghost use mathlib.Core.Path.{_≡_};
+ghost use Prim.Native.Nat.{_+_, _*_, _≤_, _<_};
+ghost use lib.ListN.{length};
+ghost use Rattle.run_answers.specs.Answers.{putAnswer};
+
+// The bytes of an answer.
+pub const ANSWER_BYTES: usize = 8;
+// A word's values.
+const WORDS: u64 = 4294967296;
+
+// An answer at place n, in two words.
+pub fn put_answer(answers: &mut [u8], n: usize, answer: u64)
+    requires { ⌜ (n * 8 + 8 ≤ length (now answers)) × (n < 2305843009213693951) ⌝ }
+    ensures { λ _. ⌜ now (answers .exit) ≡ putAnswer (now (answers .entry)) n answer ⌝ }
+{
+    lib_word::put_word(answers, n * 2, (answer / WORDS) as u32);
+    lib_word::put_word(answers, n * 2 + 1, (answer % WORDS) as u32);
+}
