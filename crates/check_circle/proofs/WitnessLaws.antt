@@ -28,6 +28,7 @@ use Rattle.check_faults.proofs.CycleDecides.{cell-is, known-decides}
 use Rattle.check_faults.proofs.DraftChecks.{draft-inside}
 use Rattle.check_distance.specs.Circle.{Chain, Circle}
 use Rattle.check_distance.proofs.Shorter.{shorter, distinct-few}
+use Rattle.check_distance.proofs.Walks.{circle-same}
 use Rattle.check_shortest.specs.Search.{Wide, ShortestFound}
 use Rattle.back_compile.specs.Verdict.{Compiled, compiled, programOf, compileOn}
 use Rattle.back_compile.specs.Judged.{CircleDraft, JudgedAs, answerOf}
@@ -45,15 +46,6 @@ chain-imp dep dep′ h a (b ∷ l) z c = (h a b (c .0), chain-imp dep dep′ h b
 circle-imp : (dep dep′ : ℕ → ℕ → Bool) → ((a b : ℕ) → dep a b ≡ true → dep′ a b ≡ true) → (l : List ℕ) → Circle dep l → Circle dep′ l
 circle-imp dep dep′ h [] c = c
 circle-imp dep dep′ h (a ∷ l) c = chain-imp dep dep′ h a l a c
-
-chain-same : (n : ℕ) (dep dep′ : ℕ → ℕ → Bool) → ((a b : ℕ) → a < n → b < n → dep a b ≡ dep′ a b) → (a : ℕ) (l : List ℕ) (z : ℕ) → All (λ j. j < n) (a ∷ l) → z < n
-    → Chain dep a l z → Chain dep′ a l z
-chain-same n dep dep′ h a [] z s b c = sym (h a z (s .0) b) ∙ c
-chain-same n dep dep′ h a (x ∷ l) z s b c = (sym (h a x (s .0) (s .1 .0)) ∙ c .0, chain-same n dep dep′ h x l z (s .1) b (c .1))
-
-circle-same : (n : ℕ) (dep dep′ : ℕ → ℕ → Bool) → ((a b : ℕ) → a < n → b < n → dep a b ≡ dep′ a b) → (l : List ℕ) → All (λ j. j < n) l → Circle dep l → Circle dep′ l
-circle-same n dep dep′ h [] s c = c
-circle-same n dep dep′ h (a ∷ l) s c = chain-same n dep dep′ h a l a s (s .0) c
 
 -- ---- from the draft to the program
 

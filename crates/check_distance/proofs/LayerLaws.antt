@@ -1,6 +1,6 @@
--- What the loops over the layers keep.
-use Prim.Native.Nat.{ℕ, suc, _+_, _*_, _-_, _≤_, _<_}
-use mathlib.Core.Bool.{Bool, true, false, not, _&&_, true≢false}
+-- What the loops over the levels keep: each level is that of `layer`, by the bits of the rows.
+use Prim.Native.Nat.{ℕ, zero, suc, _+_, _-_, _^_, _≤_, _<_}
+use mathlib.Core.Bool.{Bool, true, false, not, _&&_, _||_, true≢false, or-false, and-true, and-false}
 use mathlib.Core.Path.{_≡_, refl, sym, ap, _∙_}
 use mathlib.Core.Logic.{_≢_, by-cases}
 use mathlib.Core.List.{List}
@@ -8,23 +8,34 @@ use native.Mathlib.Decide.{decLt}
 use native.Mathlib.Omega.{arith}
 use native.Mathlib.Nat.{sub-zero}
 use native.Mathlib.Numerals.{add-one}
+use lib.Bits.{bitAnd, and-le-l}
 use lib.Dec.{eqb, ltb}
 use lib.ListN.{length, getD, set, length-set}
 use lib.Seq.{getD-set-same, getD-set-other}
 use borrow.Author.Count.{below-none, below-more}
-use borrow.Author.Tests.{lt-ltb, le-ltb, eqb-true, eq-eqb}
-use Rattle.lib_base.specs.Basics.{pick}
+use borrow.Author.Tests.{lt-ltb, le-ltb, eqb-true, eqb-false, eq-eqb, ne-eqb}
 use Rattle.lib_base.proofs.Tools.{split}
+use Rattle.lib_bits.specs.Bits.{bit}
+use Rattle.lib_bits.proofs.BitLaws.{bit-and, bit-none}
+use Rattle.check_graph.specs.Any.{anyBelow}
 use Rattle.check_graph.specs.Matrix.{cell}
-use Rattle.check_faults.specs.Faults.{anyBelow}
-use Rattle.check_faults.proofs.Any.{any-none, any-some, any-same}
-use Rattle.check_distance.specs.Layers.{layer, leastFrom, stepsBack, Lowest, walksOn, oneIfBelow, LayerZero, NextLayer, Layered, Back}
+use Rattle.check_graph.specs.Sets.{RowsBelow, bytesOf}
+use Rattle.check_graph.proofs.Any.{any-none, any-some, any-never, any-same, any-short}
+use Rattle.check_graph.proofs.SetLaws.{bits-none, cell-bytes}
+use Rattle.check_distance.specs.Layers.{layer, leastFrom, stepsBack, Lowest, walksOn, Leading, Layered, Back}
 
--- ---- one step
+-- ---- what two sets share
 
-pub onward-is : (m s : List ℕ) (k j h : ℕ) → walksOn m s k j h ≡ cell m j h && cell s k h
-unfolding walksOn
-onward-is m s k j h = split (eqb (getD m (j * 64 + h) 0) 0) (λ t. rw t) (λ t. rw t)
+abbrev both : ℕ → ℕ → ℕ → Bool
+both a b h = bit a h && bit b h
+
+pub share-is : (a b : ℕ) → a < 2 ^ 64 → not (eqb (bitAnd a b) 0) ≡ anyBelow 64 (both a b)
+share-is a b l =
+    split (eqb (bitAnd a b) 0)
+    (λ t. rw t (sym (any-none 64 (both a b) (λ h c. sym (bit-and a b h) ∙ ap (λ (x : ℕ). bit x h) (eqb-true (bitAnd a b) 0 t) ∙ bit-none h))))
+    (λ t. rw t (split (anyBelow 64 (both a b)) (λ u. sym u)
+    (λ u. absurd (eqb-false (bitAnd a b) 0 t
+    (bits-none 64 (bitAnd a b) (omega (arith, and-le-l a b)) (λ h c. bit-and a b h ∙ any-never 64 (both a b) u h c))))))
 
 -- ---- the lowest
 
@@ -53,76 +64,51 @@ lowest-any {f} {n} {r} w =
     (λ b. lt-ltb r n b ∙ sym (any-some n f r b (w .found b)))
     (λ b. le-ltb r n (omega arith) ∙ sym (any-none n f (λ h c. w .before h (omega (arith, w .within)))))
 
--- ---- the walks of no step
+-- ---- those that lead to a set
 
-pub record Zeros (n : ℕ) (s₀ s : List ℕ) (j : ℕ) : Type 0 where
-  pub zero-at : (x : ℕ) → x < j → getD s x 0 ≡ 0
+pub record Led (m : List ℕ) (n set found j : ℕ) : Type 0 where
+  pub row : (x : ℕ) → x < j → bit found x ≡ anyBelow n (walksOn m set x)
+  pub none : (x : ℕ) → j ≤ x → bit found x ≡ false
   pub within : j ≤ n
-  pub long : length s ≡ length s₀
 
-pub zeros-start : (n : ℕ) (s : List ℕ) → Zeros n s s 0
-zeros-start n s = record { zero-at = below-none _; within = omega arith; long = refl }
+pub led-start : (m : List ℕ) (n set : ℕ) → Led m n set 0 0
+led-start m n set = record { row = below-none _; none = λ x h. bit-none x; within = omega arith }
 
-pub zeros-turn : {n : ℕ} {s₀ s : List ℕ} {j : ℕ} → Zeros n s₀ s j → length s₀ ≡ 4160 → n ≤ 64 → j < n → Zeros n s₀ (set s j 0) (j + 1)
-zeros-turn {n} {s₀} {s} {j} z l c h =
-    let b : j < length s = omega (arith, z .long) in
-    record {
-      zero-at = λ x t. by-cases (decLt x j)
-          (λ p. let d : x ≢ j = omega arith in rw (getD-set-other s j x 0 0 d) (z .zero-at x p))
-          (λ p. let e : x ≡ j = omega arith in rw (e, getD-set-same s j 0 0 b));
+pub led-end : {m : List ℕ} {n set found j : ℕ} → Led m n set found j → n ≤ j → Leading m n set found
+led-end w h = record { row = λ x b. w .row x (omega (arith, w .within)) }
+
+module _ (rows : List ℕ) (n : ℕ) (few : n ≤ 64) where
+  abbrev m : List ℕ
+  m = bytesOf rows
+
+  pub onward-is : (set j h : ℕ) → j < n → h < n → both (getD rows j 0) set h ≡ walksOn m set j h
+  unfolding walksOn
+  onward-is set j h a b = ap (λ (x : Bool). x && bit set h) (sym (cell-bytes rows j h (omega arith) (omega arith)))
+
+  pub lowest-onward : (set j : ℕ) {r : ℕ} → j < n → Lowest (both (getD rows j 0) set) n r → Lowest (walksOn m set j) n r
+  lowest-onward set j {r} a w = record {
+    within = w .within;
+    before = λ h b. sym (onward-is set j h a (omega (arith, w .within))) ∙ w .before h b;
+    found = λ b. sym (onward-is set j r a b) ∙ w .found b;
+  }
+
+  module _ (low : RowsBelow rows n) where
+    pub shares : (set j : ℕ) → j < n → anyBelow 64 (both (getD rows j 0) set) ≡ anyBelow n (walksOn m set j)
+    shares set j a =
+        any-short n 64 (both (getD rows j 0) set) few (λ h b. rw (low .none-past j h a b))
+        ∙ any-same n (both (getD rows j 0) set) (walksOn m set j) (λ h b. onward-is set j h a b)
+
+    pub led-turn : {set found found′ j : ℕ} → Led m n set found j → j < n
+        → ((x : ℕ) → bit found′ x ≡ bit found x || (anyBelow 64 (both (getD rows j 0) set) && eqb x j)) → Led m n set found′ (j + 1)
+    led-turn {set} {found} {found′} {j} w h e = record {
+      row = below-more _ _ (λ x b. e x ∙ others x (omega arith) ∙ w .row x b)
+          (e j ∙ rw (w .none j (omega arith), eq-eqb j j refl) (and-true (anyBelow 64 (both (getD rows j 0) set)) ∙ shares set j h));
+      none = λ x b. e x ∙ others x (omega arith) ∙ w .none x (omega arith);
       within = omega arith;
-      long = rw length-set (z .long);
     }
-
-row-zero : (s : List ℕ) (j : ℕ) → cell s 0 j ≡ not (eqb (getD s j 0) 0)
-row-zero s j = let z : 0 * 64 + j ≡ j = omega arith in rw z
-
-pub zeros-begun : {n : ℕ} {s₀ s : List ℕ} {j i : ℕ} → Zeros n s₀ s j → length s₀ ≡ 4160 → n ≤ j → i < 64 → LayerZero n i (set s i 1)
-zeros-begun {n} {s₀} {s} {j} {i} z l h b = record {
-  row = λ x c. row-zero (set s i 1) x ∙ split (eqb i x)
-      (λ t. let q = eqb-true i x t in rw (t, ← q, getD-set-same s i 1 0 (omega (arith, z .long))))
-      (λ t. let d : x ≢ i = λ q. true≢false (sym (eq-eqb i x (sym q)) ∙ t) in
-      rw (t, getD-set-other s i x 1 0 d, z .zero-at x (omega arith)));
-}
-
--- ---- those of k + 1 steps
-
-pub record Filling (m : List ℕ) (n k : ℕ) (s₀ s : List ℕ) (j : ℕ) : Type 0 where
-  pub same : (x : ℕ) → x < (k + 1) * 64 → getD s x 0 ≡ getD s₀ x 0
-  pub row : (x : ℕ) → x < j → cell s (k + 1) x ≡ anyBelow n (λ h. walksOn m s₀ k x h)
-  pub within : j ≤ n
-  pub long : length s ≡ length s₀
-
-pub filling-start : (m : List ℕ) (n k : ℕ) (s : List ℕ) → Filling m n k s s 0
-filling-start m n k s = record { same = λ x h. refl; row = below-none _; within = omega arith; long = refl }
-
-onward-same : (m s₀ s : List ℕ) (k j h : ℕ) → ((x : ℕ) → x < (k + 1) * 64 → getD s x 0 ≡ getD s₀ x 0) → h < 64 → walksOn m s k j h ≡ walksOn m s₀ k j h
-unfolding walksOn
-onward-same m s₀ s k j h e b = rw (e (k * 64 + h) (omega arith))
-
-pub filling-turn : {m : List ℕ} {n k : ℕ} {s₀ s : List ℕ} {j r v : ℕ} → Filling m n k s₀ s j → length s₀ ≡ 4160 → k < 64 → n ≤ 64 → j < n
-    → Lowest (walksOn m s k j) n r → v ≡ oneIfBelow r n → Filling m n k s₀ (set s (k * 64 + 64 + j) v) (j + 1)
-unfolding oneIfBelow
-filling-turn {m} {n} {k} {s₀} {s} {j} {r} {v} w l b c h low q =
-    let here : k * 64 + 64 + j < length s = omega (arith, w .long) in
-    let z : (k + 1) * 64 + j ≡ k * 64 + 64 + j = omega arith in
-    record {
-      same = λ x t. let d : x ≢ k * 64 + 64 + j = omega arith in getD-set-other s (k * 64 + 64 + j) x v 0 d ∙ w .same x t;
-      row = λ x t. by-cases (decLt x j)
-          (λ p. let d : (k + 1) * 64 + x ≢ k * 64 + 64 + j = omega arith in rw (getD-set-other s (k * 64 + 64 + j) ((k + 1) * 64 + x) v 0 d) (w .row x p))
-          (λ p. let e : x ≡ j = omega arith in
-          rw (e, z, getD-set-same s (k * 64 + 64 + j) v 0 here, q)
-          (bit-says (ltb r n) ∙ lowest-any low ∙ any-same n (walksOn m s k j) (walksOn m s₀ k j) (λ y a. onward-same m s₀ s k j y (w .same) (omega arith))));
-      within = omega arith;
-      long = rw length-set (w .long);
-    }
-  where
-    bit-says : (b : Bool) → not (eqb (pick b 1 0) 0) ≡ b
-    bit-says true = refl
-    bit-says false = refl
-
-pub filling-end : {m : List ℕ} {n k : ℕ} {s₀ s : List ℕ} {j : ℕ} → Filling m n k s₀ s j → n ≤ j → NextLayer m n k s₀ s
-filling-end w h = record { same = w .same; row = λ x t. w .row x (omega (arith, w .within)) }
+      where
+        others : (x : ℕ) → x ≢ j → bit found x || (anyBelow 64 (both (getD rows j 0) set) && eqb x j) ≡ bit found x
+        others x d = rw (ne-eqb x j d, and-false (anyBelow 64 (both (getD rows j 0) set))) (or-false (bit found x))
 
 -- ---- steps back
 
@@ -133,61 +119,87 @@ module _ (m : List ℕ) (n i : ℕ) where
   abbrev home : ℕ → Bool
   home k = layer dep n k i i
 
-  pub begun-layered : {s : List ℕ} → LayerZero n i s → Layered m n i s 0
-  unfolding layer
-  begun-layered w = record { walks = λ q j h b. let z : q ≡ 0 = omega arith in rw z (w .row j b) }
-
-  pub filled-layered : {s s′ : List ℕ} {k : ℕ} → n ≤ 64 → Layered m n i s k → NextLayer m n k s s′ → Layered m n i s′ (k + 1)
-  unfolding layer
-  filled-layered {s} {s′} {k} few w f = record {
-    walks = λ q j h b. by-cases (decLt k q)
-        (λ p. let z : q ≡ k + 1 = omega arith in
-        rw (z, add-one k) (rw (add-one k) at (f .row j b)
-        ∙ any-same n (walksOn m s k j) (λ x. dep j x && layer dep n k i x) (λ x c. onward-is m s k j x ∙ ap (λ y. dep j x && y) (w .walks k x (omega arith) c))))
-        (λ p. let e : getD s′ (q * 64 + j) 0 ≡ getD s (q * 64 + j) 0 = f .same (q * 64 + j) (omega arith) in rw e (w .walks q j (omega arith) b));
-  }
-
-  -- whether k + 1 steps lead back
-  layered-home : {s : List ℕ} {k r : ℕ} → Layered m n i s k → Lowest (walksOn m s k i) n r → ltb r n ≡ home (k + 1)
-  unfolding layer
-  layered-home {s} {k} {r} w low =
+  -- whether k + 1 steps lead from j to i
+  layer-next : {s : List ℕ} {k : ℕ} → Layered m n i s k → (j : ℕ) → anyBelow n (walksOn m (getD s k 0) j) ≡ layer dep n (k + 1) i j
+  unfolding layer walksOn
+  layer-next {s} {k} w j =
       rw (add-one k)
-      (lowest-any low ∙ any-same n (walksOn m s k i) (λ x. dep i x && layer dep n k i x) (λ x c. onward-is m s k i x ∙ ap (λ y. dep i x && y) (w .walks k x (omega arith) c)))
+      (any-same n (walksOn m (getD s k 0) j) (λ x. dep j x && layer dep n k i x) (λ x c. ap (λ y. dep j x && y) (w .walks k x (omega arith) c)))
+
+  -- the first level, and the next
+  first-layer : (s : List ℕ) (v : ℕ) → 0 < length s → ((x : ℕ) → bit v x ≡ bit 0 x || eqb x i) → Layered m n i (set s 0 v) 0
+  unfolding layer
+  first-layer s v l e = record {
+    walks = λ q j h b. let z : q ≡ 0 = omega arith in
+        rw (z, getD-set-same s 0 v 0 l) (e j ∙ rw (bit-none j) (swap j));
+  }
+    where
+      swap : (j : ℕ) → eqb j i ≡ eqb i j
+      swap j = split (eqb i j) (λ t. eq-eqb j i (sym (eqb-true i j t)) ∙ sym t) (λ t. ne-eqb j i (λ q. eqb-false i j t (sym q)) ∙ sym t)
+
+  more-layers : {s : List ℕ} {k v : ℕ} → k + 1 < length s → Layered m n i s k → Leading m n (getD s k 0) v → Layered m n i (set s (k + 1) v) (k + 1)
+  more-layers {s} {k} {v} l w f = record {
+    walks = λ q j h b. by-cases (decLt k q)
+        (λ p. let z : q ≡ k + 1 = omega arith in rw (z, getD-set-same s (k + 1) v 0 l) (f .row j b ∙ layer-next w j))
+        (λ p. let d : q ≢ k + 1 = omega arith in rw (getD-set-other s (k + 1) q v 0 d) (w .walks q j (omega arith) b));
+  }
 
   pub record Trying (s : List ℕ) (k : ℕ) : Type 0 where
     pub walks : Layered m n i s k
     pub whole : leastFrom home (n - k) (k + 1) ≡ leastFrom home n 1
     pub within : k ≤ n
-    pub long : length s ≡ 4160
+    pub long : length s ≡ 65
 
-  pub trying-start : {s : List ℕ} → LayerZero n i s → length s ≡ 4160 → Trying s 0
-  trying-start w l = record { walks = begun-layered w; whole = rw sub-zero; within = omega arith; long = l }
+  pub trying-start : (s : List ℕ) (v : ℕ) → length s ≡ 65 → ((x : ℕ) → bit v x ≡ bit 0 x || eqb x i) → Trying (set s 0 v) 0
+  trying-start s v l e = record { walks = first-layer s v (omega arith) e; whole = rw sub-zero; within = omega arith; long = rw length-set l }
 
-  pub trying-turn : {s s′ : List ℕ} {k r : ℕ} → Trying s k → n ≤ 64 → k < n → Lowest (walksOn m s k i) n r → n ≤ r → NextLayer m n k s s′ → length s′ ≡ length s
-      → Trying s′ (k + 1)
+  pub trying-turn : {s : List ℕ} {k v : ℕ} → Trying s k → n ≤ 64 → k < n → false ≡ anyBelow n (walksOn m (getD s k 0) i) → Leading m n (getD s k 0) v → Trying (set s (k + 1) v) (k + 1)
   unfolding leastFrom
-  trying-turn {s} {s′} {k} {r} w few b low h f l =
-      let e : home (k + 1) ≡ false = sym (layered-home (w .walks) low) ∙ le-ltb r n h in
+  trying-turn {s} {k} {v} w few b t f =
+      let e : home (k + 1) ≡ false = sym (layer-next (w .walks) i) ∙ sym t in
       let c : n - k ≡ suc (n - (k + 1)) = omega arith in
       let step : leastFrom home (suc (n - (k + 1))) (k + 1) ≡ leastFrom home (n - (k + 1)) (suc (k + 1)) = rw (e, leastFrom) in
       record {
-        walks = filled-layered few (w .walks) f;
+        walks = more-layers (omega (arith, w .long)) (w .walks) f;
         whole = rw (add-one (k + 1)) (sym step ∙ (rw c at (w .whole)));
         within = omega arith;
-        long = l ∙ w .long;
+        long = rw length-set (w .long);
       }
 
-  pub trying-stop : {s : List ℕ} {k r : ℕ} → Trying s k → k < n → Lowest (walksOn m s k i) n r → r < n → Back m n i (k + 1) s
+  pub trying-stop : {s : List ℕ} {k : ℕ} → Trying s k → k < n → true ≡ anyBelow n (walksOn m (getD s k 0) i) → Back m n i (k + 1) s
   unfolding leastFrom stepsBack
-  trying-stop {s} {k} {r} w b low h =
-      let e : home (k + 1) ≡ true = sym (layered-home (w .walks) low) ∙ lt-ltb r n h in
+  trying-stop {s} {k} w b t =
+      let e : home (k + 1) ≡ true = sym (layer-next (w .walks) i) ∙ sym t in
       let c : n - k ≡ suc (n - (k + 1)) = omega arith in
       let step : leastFrom home (suc (n - (k + 1))) (k + 1) ≡ k + 1 = rw (e, leastFrom) in
       let z : k + 1 - 1 ≡ k = omega arith in
       record { steps = sym step ∙ (rw c at (w .whole)); layers = λ t. rw z (w .walks) }
 
-  pub trying-end : {s : List ℕ} {k : ℕ} → Trying s k → n ≤ k → Back m n i (k + 1) s
+  pub trying-end : {s : List ℕ} {k : ℕ} → Trying s k → n ≤ k → Back m n i (n + 1) s
   unfolding leastFrom stepsBack
   trying-end {s} {k} w h =
       let c : n - k ≡ 0 = omega arith in
-      record { steps = rw c at (w .whole); layers = λ t. absurd (omega arith) }
+      let z : k ≡ n = omega (arith, w .within) in
+      record { steps = rw z at (rw c at (w .whole)); layers = λ t. absurd (omega arith) }
+
+  -- where a level is empty all that follow are
+  none-later : (k : ℕ) → ((j : ℕ) → j < n → layer dep n k i j ≡ false) → (x : ℕ) → k ≤ x → (j : ℕ) → j < n → layer dep n x i j ≡ false
+  unfolding layer
+  none-later k e zero h j b = let z : k ≡ 0 = omega arith in rw z at (e j b)
+  none-later k e (suc x) h j b =
+      by-cases (decLt x k)
+      (λ s. let z : k ≡ suc x = omega arith in rw z at (e j b))
+      (λ s. any-none n (λ y. dep j y && layer dep n x i y) (λ y c. rw (none-later k e x (omega arith) y c) (and-false (dep j y))))
+
+  least-none : (f : ℕ → Bool) (k a : ℕ) → ((x : ℕ) → a ≤ x → f x ≡ false) → leastFrom f k a ≡ a + k
+  unfolding leastFrom
+  least-none f zero a e = omega arith
+  least-none f (suc k) a e = rw (e a (omega arith), leastFrom) (least-none f k (suc a) (λ x b. e x (omega arith)) ∙ omega arith)
+
+  pub trying-none : {s : List ℕ} {k : ℕ} → Trying s k → i < n → getD s k 0 ≡ 0 → Back m n i (n + 1) s
+  unfolding stepsBack
+  trying-none {s} {k} w b h =
+      let e : (j : ℕ) → j < n → layer dep n k i j ≡ false = λ j c. sym (w .walks .walks k j (omega arith) c) ∙ rw h (bit-none j) in
+      let later : (x : ℕ) → k + 1 ≤ x → home x ≡ false = λ x c. none-later k e x (omega arith) i b in
+      let z : k + 1 + (n - k) ≡ n + 1 = omega (arith, w .within) in
+      record { steps = rw z at (sym (least-none home (n - k) (k + 1) later) ∙ w .whole); layers = λ t. absurd (omega arith) }

@@ -42,6 +42,24 @@ module _ (dep : ℕ → ℕ → Bool) where
   shorter [] c = absurd c
   shorter (a ∷ l) c = chain-shorter a l a c
 
+  -- a stands on the way, and what follows leads from it, or it does not
+  after : (a u : ℕ) (l : List ℕ) (z : ℕ) → Chain dep u l z → List·Nodup l → All (λ y. a ≢ y) l ⊎ ((ys : List ℕ) × Chain dep a ys z × List·Nodup (a ∷ ys))
+  after a u [] z c d = inl tt
+  after a u (b ∷ l) z c d =
+      split (eqb a b)
+      (λ t. let q : b ≡ a = sym (eqb-true a b t) in inr (l, subst (λ (x : ℕ). Chain dep x l z) q (c .1), subst (λ (x : ℕ). List·Nodup (x ∷ l)) q d))
+      (λ t. ⊎-elim (λ h. inl (eqb-false a b t, h)) inr (after a b l z (c .1) (Pairwise·of-cons d)))
+
+  -- from where it begins to where it ends there is a walk on which nobody stands twice
+  pub straight : (u : ℕ) (l : List ℕ) (z : ℕ) → Chain dep u l z → (ys : List ℕ) × Chain dep u ys z × List·Nodup (u ∷ ys)
+  straight u [] z c = ([], c, pairwise-singleton (λ x y. x ≢ y) u)
+  straight u (b ∷ l) z c =
+      let w = straight b l z (c .1) in
+      ⊎-elim
+      (λ h. (b ∷ w .0, (c .0, w .1), Pairwise·cons (all-mem (λ y. u ≢ y) (λ y. →-prop ⊥-prop) (b ∷ w .0) h) (w .2)))
+      (λ v. v)
+      (after u u (b ∷ w .0) z (c .0, w .1) (w .2))
+
   -- ---- from chains of dependence
 
   pub chain-on : (a : ℕ) (l : List ℕ) (b c : ℕ) → Chain dep a l b → dep b c ≡ true → Chain dep a (l ++ (b ∷ [])) c

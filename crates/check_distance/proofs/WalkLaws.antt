@@ -12,12 +12,13 @@ use lib.Seq.{drop-cons, set-at}
 use borrow.Author.Tests.{ltb-true, eqb-true}
 use Rattle.lib_base.specs.Basics.{All}
 use Rattle.lib_base.proofs.Tools.{all-join}
+use Rattle.lib_bits.specs.Bits.{bit}
 use Rattle.check_graph.specs.Matrix.{cell}
-use Rattle.check_faults.proofs.Any.{any-same}
+use Rattle.check_graph.proofs.Any.{any-same}
 use Rattle.check_distance.specs.Circle.{Chain, Circle}
 use Rattle.check_distance.specs.Layers.{layer, Lowest, walksOn, Layered, Walked}
 use Rattle.check_distance.proofs.Shorter.{chain-on}
-use Rattle.check_distance.proofs.LayerLaws.{onward-is, lowest-any}
+use Rattle.check_distance.proofs.LayerLaws.{lowest-any}
 
 -- from i along the list to z
 abbrev Lead : (ℕ → ℕ → Bool) → ℕ → List ℕ → ℕ → Type 0
@@ -61,22 +62,20 @@ module _ (m : List ℕ) (n i r : ℕ) (list₀ : List ℕ) where
   }
 
   -- the next one
-  next : (s : List ℕ) (at t h : ℕ) → Layered m n i s (r - 1) → t < r → layer dep n (r - t) i at ≡ true → Lowest (walksOn m s (r - 1 - t) at) n h
+  next : (s : List ℕ) (at t h : ℕ) → Layered m n i s (r - 1) → t < r → layer dep n (r - t) i at ≡ true → Lowest (walksOn m (getD s (r - 1 - t) 0) at) n h
       → (h < n) × (dep at h ≡ true) × (layer dep n (r - (t + 1)) i h ≡ true)
-  unfolding layer
+  unfolding layer walksOn
   next s at t h w b e low =
       let k = r - 1 - t in
       let z : r - t ≡ suc (r - 1 - t) = omega arith in
       let y : r - (t + 1) ≡ r - 1 - t = omega arith in
-      let same = any-same n (walksOn m s k at) (λ x. dep at x && layer dep n k i x)
-      (λ x c. onward-is m s k at x ∙ ap (λ v. dep at x && v) (w .walks k x (omega arith) c)) in
+      let same = any-same n (walksOn m (getD s k 0) at) (λ x. dep at x && layer dep n k i x) (λ x c. ap (λ v. dep at x && v) (w .walks k x (omega arith) c)) in
       let found : h < n = ltb-true h n (lowest-any low ∙ same ∙ (rw z at e)) in
-      let both : dep at h && cell s k h ≡ true = sym (onward-is m s k at h) ∙ low .found found in
-      let q = and-eq-true-iff (dep at h) (cell s k h) .0 both in
+      let q = and-eq-true-iff (dep at h) (bit (getD s k 0) h) .0 (low .found found) in
       (found, q .0, rw y (sym (w .walks k h (omega arith) found) ∙ q .1))
 
   pub going-turn : {s list : List ℕ} {at t h : ℕ} → Going list at t → 64 ≤ length list₀ → n ≤ 64 → r ≤ n → Layered m n i s (r - 1) → t < r
-      → Lowest (walksOn m s (r - 1 - t) at) n h → Going (set list t at) h (t + 1)
+      → Lowest (walksOn m (getD s (r - 1 - t) 0) at) n h → Going (set list t at) h (t + 1)
   going-turn {s} {list} {at} {t} {h} g l few c w b low =
       let v = next s at t h w b (g .left) low in
       let p = g .passed in

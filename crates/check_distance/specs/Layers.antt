@@ -1,14 +1,15 @@
--- Walks that end at behaviour i, by their number of steps, on a matrix of 64 columns: cell m j h, that j depends on h
--- (crate check_graph); cell s k j, that there is a walk of k steps from j.
-use Prim.Native.Nat.{ℕ, zero, suc, _+_, _*_, _-_, _≤_, _<_}
+-- Walks that end at behaviour i, by their number of steps, on rows of 64 bits (crate check_graph) as the matrix m that
+-- they stand for, cell m j h, that j depends on h; bit (getD s k 0) j, that there is a walk of k steps from j.
+use Prim.Native.Nat.{ℕ, zero, suc, _-_, _≤_, _<_}
 use mathlib.Core.Bool.{Bool, true, false, _&&_}
 use mathlib.Core.Path.{_≡_}
 use mathlib.Core.List.{List, _++_}
-use lib.Dec.{eqb, ltb}
+use lib.Dec.{eqb}
 use lib.ListN.{length, getD, drop}
-use Rattle.lib_base.specs.Basics.{pick, All}
+use Rattle.lib_base.specs.Basics.{All}
+use Rattle.lib_bits.specs.Bits.{bit}
+use Rattle.check_graph.specs.Any.{anyBelow}
 use Rattle.check_graph.specs.Matrix.{cell}
-use Rattle.check_faults.specs.Faults.{anyBelow}
 use Rattle.check_distance.specs.Circle.{Circle}
 
 -- there is a walk of k steps from j to i among the first n
@@ -33,25 +34,17 @@ pub record Lowest (f : ℕ → Bool) (n r : ℕ) : Type 0 where
   pub before : (h : ℕ) → h < r → f h ≡ false
   pub found : r < n → f r ≡ true
 
--- from j on to one that has a walk of k steps
-unfoldable pub walksOn : List ℕ → List ℕ → ℕ → ℕ → ℕ → Bool
-walksOn m s k j h = pick (eqb (getD m (j * 64 + h) 0) 0) false (cell s k h)
+-- from j on to one of the set
+unfoldable pub walksOn : List ℕ → ℕ → ℕ → ℕ → Bool
+walksOn m set j h = cell m j h && bit set h
 
-unfoldable pub oneIfBelow : ℕ → ℕ → ℕ
-oneIfBelow r n = pick (ltb r n) 1 0
-
--- the walks of 0 steps to i
-pub record LayerZero (n i : ℕ) (s : List ℕ) : Type 0 where
-  pub row : (j : ℕ) → j < n → cell s 0 j ≡ eqb i j
-
--- those of k + 1 steps, from those of k
-pub record NextLayer (m : List ℕ) (n k : ℕ) (s s′ : List ℕ) : Type 0 where
-  pub same : (x : ℕ) → x < (k + 1) * 64 → getD s′ x 0 ≡ getD s x 0
-  pub row : (j : ℕ) → j < n → cell s′ (k + 1) j ≡ anyBelow n (λ h. walksOn m s k j h)
+-- those of the first n that lead to one of the set
+pub record Leading (m : List ℕ) (n set set′ : ℕ) : Type 0 where
+  pub row : (j : ℕ) → j < n → bit set′ j ≡ anyBelow n (walksOn m set j)
 
 -- s has the walks to i of up to k steps
 pub record Layered (m : List ℕ) (n i : ℕ) (s : List ℕ) (k : ℕ) : Type 0 where
-  pub walks : (q j : ℕ) → q ≤ k → j < n → cell s q j ≡ layer (λ a b. cell m a b) n q i j
+  pub walks : (q j : ℕ) → q ≤ k → j < n → bit (getD s q 0) j ≡ layer (λ a b. cell m a b) n q i j
 
 -- r steps lead from i back to i, and s has the walks of fewer
 pub record Back (m : List ℕ) (n i r : ℕ) (s : List ℕ) : Type 0 where

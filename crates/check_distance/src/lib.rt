@@ -1,36 +1,36 @@
-// Walks along a dependence matrix (crate check_graph) that end at one behaviour i, by their number of steps, and a
-// shortest one from i back to i. m[j * 64 + h] != 0: j depends on h. s[k * 64 + j] != 0: there is a walk of k steps
-// from j to i.
+// Walks along dependence (rows of 64 bits, crate check_graph) that end at one behaviour i, by their number of steps,
+// and a shortest one from i back to i: a breadth-first search, a level for each number of steps, until it is home or a
+// level is empty. Time: n levels of n steps at the most.
 ghost use mathlib.Core.Path.{_≡_};
-ghost use mathlib.Core.Bool.{true};
-ghost use Prim.Native.Nat.{_-_, _≤_, _<_};
+ghost use mathlib.Core.Bool.{true, _&&_, _||_};
+ghost use Prim.Native.Nat.{ℕ, _-_, _≤_, _<_};
+ghost use lib.Dec.{eqb};
 ghost use lib.ListN.{length};
+ghost use Rattle.lib_bits.specs.Bits.{bit};
+ghost use Rattle.check_graph.specs.Any.{anyBelow};
 ghost use Rattle.check_graph.specs.Matrix.{cell};
-ghost use Rattle.check_distance.specs.Layers.{layer, walksOn, oneIfBelow, Lowest, LayerZero, NextLayer, Layered, Back, Walked};
-use check_graph::ROW;
+ghost use Rattle.check_graph.specs.Sets.{RowsBelow, bytesOf};
+ghost use Rattle.check_distance.specs.Layers.{layer, Lowest, Leading, Layered, Back, Walked};
 
-// A row for each number of steps from 0 to 64.
-pub const LAYERS: usize = check_graph::CELLS + ROW;
+// A level for each number of steps from 0 to 64.
+pub const LEVELS: usize = check_graph::ROW + 1;
 
-// From j on to h, which has a walk of k steps.
-fn is_onward(m: &[u8], s: &[u8], k: usize, j: usize, h: usize) -> bool
-    requires { ⌜ (length (now m) ≡ 4096) × (length (now s) ≡ 4160) × (k ≤ 64) × (j < 64) × (h < 64) ⌝ }
-    ensures { λ r. ⌜ r ≡ walksOn (now (m .entry)) (now (s .entry)) k j h ⌝ }
+// Whether two sets have a number in common.
+fn share(a: u64, b: u64) -> bool
+    ensures { λ r. ⌜ r ≡ anyBelow 64 (λ h. bit a h && bit b h) ⌝ }
 {
-    if m[j * ROW + h] == 0 {
-        return false;
-    }
-    s[k * ROW + h] != 0
+    a & b != 0
 }
 
-// The lowest such h of the first n; n if there is none.
-fn find_onward(m: &[u8], s: &[u8], k: usize, j: usize, n: usize) -> usize
-    requires { ⌜ (length (now m) ≡ 4096) × (length (now s) ≡ 4160) × (k ≤ 64) × (j < 64) × (n ≤ 64) ⌝ }
-    ensures { λ r. ⌜ Lowest (walksOn (now (m .entry)) (now (s .entry)) k j) n r ⌝ }
+// The lowest of the first n that is in both; n if there is none.
+fn first_shared(a: u64, b: u64, n: usize) -> usize
+    requires { ⌜ n ≤ 64 ⌝ }
+    ensures { λ r. ⌜ Lowest (λ h. bit a h && bit b h) n r ⌝ }
 {
+    let both = lib_bits::common(a, b);
     let mut h = 0;
     while h < n {
-        if is_onward(m, s, k, j, h) {
+        if lib_bits::contains(both, h) {
             return h;
         }
         h += 1;
@@ -38,68 +38,64 @@ fn find_onward(m: &[u8], s: &[u8], k: usize, j: usize, n: usize) -> usize
     h
 }
 
-fn bit(r: usize, n: usize) -> u8
-    ensures { λ b. ⌜ b ≡ oneIfBelow r n ⌝ }
+// The set with j, where j needs one of the others.
+fn add_leading(set: u64, j: usize, needs: u64, others: u64) -> u64
+    requires { ⌜ j < 64 ⌝ }
+    ensures { λ r. ⌜ ((x : ℕ) → bit r x ≡ bit set x || (anyBelow 64 (λ h. bit needs h && bit others h) && eqb x j)) ⌝ }
 {
-    if r < n {
-        return 1;
+    if share(needs, others) {
+        return lib_bits::insert(set, j);
     }
-    0
+    set
 }
 
-// The walks of no step.
-fn begin(s: &mut [u8], i: usize, n: usize)
-    requires { ⌜ (length (now s) ≡ 4160) × (i < 64) × (n ≤ 64) ⌝ }
-    ensures { λ _. ⌜ LayerZero n i (now (s .exit)) ⌝ }
+// Those of the first n that need one of the set.
+fn leading_to(rows: &[u64], set: u64, n: usize) -> u64
+    requires { ⌜ (length (now rows) ≡ 64) × (n ≤ 64) × RowsBelow (now rows) n ⌝ }
+    ensures { λ r. ⌜ Leading (bytesOf (now (rows .entry))) n set r ⌝ }
 {
+    let mut found = 0;
     let mut j = 0;
     while j < n {
-        s[j] = 0;
+        found = add_leading(found, j, rows[j], set);
         j += 1;
     }
-    s[i] = 1;
+    found
 }
 
-// The walks of k + 1 steps, from those of k.
-fn fill_layer(m: &[u8], s: &mut [u8], k: usize, n: usize)
-    requires { ⌜ (length (now m) ≡ 4096) × (length (now s) ≡ 4160) × (k < 64) × (n ≤ 64) ⌝ }
-    ensures { λ _. ⌜ NextLayer (now (m .entry)) n k (now (s .entry)) (now (s .exit)) ⌝ }
+// How many steps lead from i back to i, at most n; n + 1 if there is no such walk. Level k is the set of those with a
+// walk of k steps to i.
+pub fn steps_back(rows: &[u64], levels: &mut [u64], i: usize, n: usize) -> usize
+    requires { ⌜ (length (now rows) ≡ 64) × (length (now levels) ≡ 65) × (i < n) × (n ≤ 64) × RowsBelow (now rows) n ⌝ }
+    ensures { λ r. ⌜ Back (bytesOf (now (rows .entry))) n i r (now (levels .exit)) ⌝ }
 {
-    let mut j = 0;
-    while j < n {
-        s[k * ROW + ROW + j] = bit(find_onward(m, s, k, j, n), n);
-        j += 1;
-    }
-}
-
-// How many steps lead from i back to i, at most n; n + 1 if there is no such walk.
-pub fn steps_back(m: &[u8], s: &mut [u8], i: usize, n: usize) -> usize
-    requires { ⌜ (length (now m) ≡ 4096) × (length (now s) ≡ 4160) × (i < n) × (n ≤ 64) ⌝ }
-    ensures { λ r. ⌜ Back (now (m .entry)) n i r (now (s .exit)) ⌝ }
-{
-    begin(s, i, n);
+    levels[0] = lib_bits::insert(0, i);
     let mut k = 0;
     while k < n {
-        if find_onward(m, s, k, i, n) < n {
+        let level = levels[k];
+        if level == 0 {
+            return n + 1;
+        }
+        if share(rows[i], level) {
             return k + 1;
         }
-        fill_layer(m, s, k, n);
         k += 1;
+        levels[k] = leading_to(rows, level, n);
     }
-    k + 1
+    n + 1
 }
 
 // The members of such a walk of r steps, in the first r bytes of the list.
-pub fn walk(m: &[u8], s: &[u8], i: usize, r: usize, n: usize, list: &mut [u8])
-    requires { ⌜ (length (now m) ≡ 4096) × (length (now s) ≡ 4160) × (i < n) × (n ≤ 64) × (r ≤ n) × (64 ≤ length (now list)) ⌝ }
-    requires { ⌜ (0 < r) × Layered (now m) n i (now s) (r - 1) × (layer (λ a b. cell (now m) a b) n r i i ≡ true) ⌝ }
-    ensures { λ _. ⌜ Walked (now (m .entry)) n r (now (list .entry)) (now (list .exit)) ⌝ }
+pub fn walk(rows: &[u64], levels: &[u64], i: usize, r: usize, n: usize, list: &mut [u8])
+    requires { ⌜ (length (now rows) ≡ 64) × (length (now levels) ≡ 65) × (i < n) × (n ≤ 64) × (r ≤ n) × (64 ≤ length (now list)) ⌝ }
+    requires { ⌜ (0 < r) × Layered (bytesOf (now rows)) n i (now levels) (r - 1) × (layer (λ a b. cell (bytesOf (now rows)) a b) n r i i ≡ true) ⌝ }
+    ensures { λ _. ⌜ Walked (bytesOf (now (rows .entry))) n r (now (list .entry)) (now (list .exit)) ⌝ }
 {
     let mut at = i;
     let mut t = 0;
     while t < r {
         list[t] = at as u8;
-        at = find_onward(m, s, r - 1 - t, at, n);
+        at = first_shared(rows[at], levels[r - 1 - t], n);
         t += 1;
     }
 }

@@ -1,10 +1,7 @@
 -- The empty matrix: its length, and a zero everywhere.
-use Prim.Native.Nat.{ℕ, zero, suc, _<_}
+use Prim.Native.Nat.{ℕ, zero, suc}
 use mathlib.Core.Path.{_≡_, refl}
-use mathlib.Core.List.{List}
-use native.Mathlib.Omega.{arith}
 use lib.ListN.{length, getD, replicate, length-replicate}
-use lib.Seq.{ext-getD}
 use Rattle.check_faults.specs.Checks.{zeroBytes}
 
 zero-in : (n i : ℕ) → getD {A = ℕ} (replicate n 0) i 0 ≡ 0
@@ -19,7 +16,3 @@ blank-at n i = zero-in n i
 pub length-blank : (n : ℕ) → length (zeroBytes n) ≡ n
 unfolding zeroBytes
 length-blank n = length-replicate n 0
-
--- zeros everywhere make it
-pub blank-is : (n : ℕ) (m : List ℕ) → length m ≡ n → ((i : ℕ) → i < n → getD m i 0 ≡ 0) → m ≡ zeroBytes n
-blank-is n m l h = ext-getD 0 m (zeroBytes n) (rw length-blank l) (λ i b. rw blank-at (h i (omega arith)))

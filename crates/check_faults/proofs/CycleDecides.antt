@@ -17,7 +17,7 @@ use Rattle.spec_language.proofs.Laws.{depends-within}
 use Rattle.check_graph.specs.Matrix.{cell, cellBelow, closed}
 use Rattle.check_graph.proofs.Closure.{below-says, below-is, reach-map, reach-within, closed-decides}
 use Rattle.check_faults.specs.Faults.{knownIn, knownHandlers, knownBehaviour, knownBehaviours, known, matrixOf, cyclicUnder, cyclic}
-use Rattle.check_faults.proofs.Any.{any-none, any-never}
+use Rattle.check_graph.proofs.Any.{any-none, any-never}
 use Rattle.check_faults.proofs.MatrixAgrees.{length-matrixOf, matrixOf-at}
 
 -- ---- names

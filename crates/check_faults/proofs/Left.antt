@@ -1,5 +1,4 @@
--- Where nobody reaches itself, everybody is placed; where everybody is placed, each after its needs, nobody reaches
--- itself: by the theorems on the order (crate spec_semantics).
+-- Who is placed, each after its needs, does not reach itself: along the order (crate spec_semantics).
 use Prim.Native.Nat.{ℕ, _≤_, _<_}
 use mathlib.Core.Bool.{Bool, true, false, true≢false}
 use mathlib.Core.Path.{_≡_, refl, sym, ap, _∙_, subst}
@@ -12,20 +11,17 @@ use Rattle.lib_bits.specs.Bits.{bit}
 use Rattle.lib_bits.proofs.BitLaws.{bit-none}
 use Rattle.spec_language.specs.Dependence.{Reach, one, more}
 use Rattle.spec_language.specs.Order.{order, upTo}
-use Rattle.spec_language.proofs.Laws.{length-upTo, getD-upTo}
-use Rattle.spec_semantics.proofs.Graph.{Marked, free-le}
-use Rattle.spec_semantics.proofs.OrderLaws.{markAll, order-ordered, order-complete, along}
+use Rattle.spec_language.proofs.Laws.{getD-upTo}
+use Rattle.spec_semantics.proofs.OrderLaws.{markAll, order-ordered, along}
 use Rattle.front_draft.specs.Draft.{draftLength}
 use Rattle.check_graph.specs.Matrix.{cell, cellBelow, closed}
-use Rattle.check_graph.specs.Placing.{placed, orderOn, isMarked, ordered}
+use Rattle.check_graph.specs.Placing.{placed, orderOn, isMarked}
 use Rattle.check_graph.specs.Sets.{bytesOf, marksOf}
-use Rattle.check_graph.proofs.Closure.{below-says, below-is, reach-map, closed-decides}
+use Rattle.check_graph.proofs.Closure.{below-says, below-is, closed-decides, closed-same}
 use Rattle.check_graph.proofs.OrderIs.{order-same, order-marks}
-use Rattle.check_graph.proofs.SetLaws.{length-marks, cell-bytes, marked-is}
-use Rattle.check_faults.specs.Faults.{anyBelow}
+use Rattle.check_graph.proofs.SetLaws.{length-bytes, length-marks, marked-is}
 use Rattle.check_faults.specs.Checks.{matrixOn, closedOn, RowsAre, PlacedOn, RowsInside}
-use Rattle.check_faults.proofs.Any.{any-none, any-some, any-never}
-use Rattle.check_faults.proofs.RowLaws.{length-matrixOn, rows-same}
+use Rattle.check_faults.proofs.RowLaws.{length-matrixOn, rows-cells}
 
 first-step : {dep : ℕ → ℕ → Bool} {a c : ℕ} → Reach dep a c → (b : ℕ) × (dep a b ≡ true) × ((b ≡ c) ⊎ Reach dep b c)
 first-step {c = c} (one d) = (c, d, inl refl)
@@ -39,29 +35,25 @@ not-round {dep} {i} h r =
     let w = first-step r in
     ⊎-elim (λ e. h (w .0) (w .1) (subst (λ (x : ℕ). Reach dep x x) (sym e) r)) (λ s. h (w .0) (w .1) (more s (w .1))) (w .2)
 
-module _ (d : List ℕ) (l : length d ≡ draftLength) (e n : ℕ) (few : n ≤ 64) (inside : RowsInside d e n) {rows : List ℕ} (w : RowsAre d e n rows)
-    (count s : ℕ) (out out′ : List ℕ) (q : placed count (marksOf s) out′ ≡ orderOn (bytesOf rows) n n (marksOf 0) 0 out) where
-  abbrev m : List ℕ
-  m = matrixOn d e n
-
+module _ (rows : List ℕ) (n : ℕ) (few : n ≤ 64) (count s : ℕ) (out out′ : List ℕ)
+    (q : placed count (marksOf s) out′ ≡ orderOn (bytesOf rows) n n (marksOf 0) 0 out) where
   abbrev dep : ℕ → ℕ → Bool
-  dep = cellBelow n m
+  dep = cellBelow n (bytesOf rows)
 
   within : (a b : ℕ) → dep a b ≡ true → (a < n) × (b < n)
-  within a b h = let v = below-says n m a b h in (v .0, v .1)
+  within a b h = let v = below-says n (bytesOf rows) a b h in (v .0, v .1)
 
   none : List Bool
   none = upTo n (λ i. isMarked (marksOf 0) i)
 
-  unfolding-none : (x : ℕ) → x < n → getD none x false ≡ false
+  none-yet : (x : ℕ) → x < n → getD none x false ≡ false
   unfolding none
-  unfolding-none x h = getD-upTo n (λ i. isMarked (marksOf 0) i) x false h ∙ marked-is 0 x (omega arith) ∙ bit-none x
+  none-yet x h = getD-upTo n (λ i. isMarked (marksOf 0) i) x false h ∙ marked-is 0 x (omega arith) ∙ bit-none x
 
   cells : (i j : ℕ) → i < n → j < n → cell (bytesOf rows) i j ≡ dep i j
   cells i j h k =
-      cell-bytes rows i j (omega arith) (omega arith) ∙ rows-same d l e n few inside w i j h k
-      ∙ split (cell m i j) (λ t. t ∙ sym (below-is n m i j h k t))
-      (λ t. t ∙ split (dep i j) (λ u. absurd (true≢false (sym (below-says n m i j u .2) ∙ t))) (λ u. sym u))
+      split (cell (bytesOf rows) i j) (λ t. t ∙ sym (below-is n (bytesOf rows) i j h k t))
+      (λ t. t ∙ split (dep i j) (λ u. absurd (true≢false (sym (below-says n (bytesOf rows) i j u .2) ∙ t))) (λ u. sym u))
 
   -- in the end, who is in the set is marked
   in-set : (j : ℕ) → j < n → bit s j ≡ getD (markAll (order n dep n none) none) j false
@@ -71,29 +63,21 @@ module _ (d : List ℕ) (l : length d ≡ draftLength) (e n : ℕ) (few : n ≤ 
       ∙ ap (λ (o : List ℕ). getD (markAll o (upTo n (λ i. isMarked (marksOf 0) i))) j false)
       (order-same n (λ i j. cell (bytesOf rows) i j) dep cells n (upTo n (λ i. isMarked (marksOf 0) i)))
 
-  long : length none ≡ n
-  unfolding none
-  long = length-upTo n _
-
-  all-fine : ((i : ℕ) → i < n → bit s i ≡ true) → (i : ℕ) → i < n → Reach dep i i → ⊥
-  all-fine h i b =
+  not-reached : (i : ℕ) → i < n → bit s i ≡ true → Reach dep i i → ⊥
+  not-reached i b h =
       along n dep within (λ x. Reach dep x x → ⊥) (λ x c k. not-round k) (order n dep n none) none (order-ordered n dep within n none)
-      (λ x c t. absurd (true≢false (sym t ∙ unfolding-none x c))) i b (sym (in-set i b) ∙ h i b)
+      (λ x c t. absurd (true≢false (sym t ∙ none-yet x c))) i b (sym (in-set i b) ∙ h)
 
-  fine-all : ((i : ℕ) → Reach dep i i → ⊥) → (i : ℕ) → i < n → bit s i ≡ true
-  fine-all h i b = in-set i b ∙ order-complete n dep within h n none long (omega (arith, free-le none, long)) i b
-
-  decides : (i : ℕ) → i < n → ((cell (closed m n) i i ≡ true → Reach dep i i) × (Reach dep i i → cell (closed m n) i i ≡ true))
-  decides i h = closed-decides m n (length-matrixOn d e n) few i i h h
-
-  pub placed-on : PlacedOn d e n s
-  unfolding closedOn
+  pub placed-on : PlacedOn rows n s
   placed-on = record {
-    all-in = λ h. any-none n (λ i. cell (closed m n) i i) (λ i b. split (cell (closed m n) i i) (λ t. absurd (all-fine h i b (decides i b .0 t))) (λ t. t));
-    one-out = λ i b h. split (anyBelow n (λ x. cell (closed m n) x x)) (λ t. t)
-        (λ t. absurd (true≢false (sym (fine-all
-        (λ x r. let c = within-reach r in true≢false (sym (decides x c .1 r) ∙ any-never n (λ y. cell (closed m n) y y) t x c)) i b) ∙ h)));
+    none-round = λ i b h. split (cell (closed (bytesOf rows) n) i i)
+        (λ t. absurd (not-reached i b h (closed-decides (bytesOf rows) n (length-bytes rows) few i i b b .0 t))) (λ t. t);
   }
-    where
-      within-reach : {x : ℕ} → Reach dep x x → x < n
-      within-reach r = let w = first-step r in within _ (w .0) (w .1) .0
+
+-- by the rows as by the matrix
+pub rows-closed : (d : List ℕ) → length d ≡ draftLength → (e n : ℕ) → n ≤ 64 → RowsInside d e n → {rows : List ℕ} → RowsAre d e n rows → (i : ℕ) → i < n
+    → cell (closed (bytesOf rows) n) i i ≡ cell (closedOn d e n) i i
+unfolding closedOn
+rows-closed d l e n few inside {rows} w i h =
+    closed-same (bytesOf rows) (matrixOn d e n) n (length-bytes rows) (length-matrixOn d e n) few
+    (rows-cells d l e n few inside w) i i h h

@@ -1,5 +1,4 @@
 pub mod Blank
-pub mod Any
 pub mod NamesAgree
 pub mod MatrixAgrees
 pub mod CycleDecides

@@ -21,10 +21,11 @@ use Rattle.front_draft.specs.Draft.{draftLength, nodes, entryOf, usedBy, Drafte
 use Rattle.front_draft.specs.Entry.{entryKind, entryStart, entryCount, nodeTag, nodeWord}
 use Rattle.front_draft.proofs.DraftLaws.{Holds, Entry, entry-of, length-used}
 use Rattle.check_graph.specs.Matrix.{cell, closed}
-use Rattle.check_faults.specs.Faults.{anyBelow, matrixOf, cyclicUnder, cyclic}
+use Rattle.check_graph.specs.Any.{anyBelow}
+use Rattle.check_faults.specs.Faults.{matrixOf, cyclicUnder, cyclic}
 use Rattle.check_faults.specs.Checks.{nodeNames, someNodeNames, zeroBytes, markNode, markNodes, markEntry, markRows, matrixOn, closedOn, cyclicOn}
 use Rattle.check_faults.proofs.Blank.{blank-at, length-blank}
-use Rattle.check_faults.proofs.Any.{any-same}
+use Rattle.check_graph.proofs.Any.{any-same}
 
 abbrev at : List ℕ → ℕ → ℕ → ℕ
 at m a b = getD m (a * 64 + b) 0

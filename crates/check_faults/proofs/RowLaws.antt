@@ -19,6 +19,8 @@ use Rattle.front_draft.specs.Draft.{draftLength, entryOf, usedBy, moved}
 use Rattle.front_draft.specs.Entry.{entryKind, entryStart, entryCount, nodeTag, nodeWord}
 use Rattle.front_draft.proofs.DraftLaws.{length-used, used-at}
 use Rattle.check_graph.specs.Matrix.{cell}
+use Rattle.check_graph.specs.Sets.{bytesOf}
+use Rattle.check_graph.proofs.SetLaws.{cell-bytes}
 use Rattle.check_faults.specs.Checks.{nodeNames, someNodeNames, needsOn, RowsAre, zeroBytes, markEntry, markRows, matrixOn, RowsInside}
 use Rattle.check_faults.proofs.Blank.{blank-at, length-blank}
 use Rattle.check_faults.proofs.MatrixAgrees.{no-name, no-match, no-own, a-name, named-join, nodes-here, entry-other, rows-left, length-markRows}
@@ -175,6 +177,11 @@ cell-needs d l e n few r i j h k = rw (rows-need d l e n few r i j h k) (one-set
 pub rows-same : (d : List ℕ) → length d ≡ draftLength → (e n : ℕ) → n ≤ 64 → RowsInside d e n → {rows : List ℕ} → RowsAre d e n rows → (i j : ℕ) → i < n → j < n
     → bit (getD rows i 0) j ≡ cell (matrixOn d e n) i j
 rows-same d l e n few r w i j h k = w .row i j h ∙ rw (lt-ltb j n k) (sym (cell-needs d l e n few r i j h (omega arith)))
+
+-- so is the matrix that they stand for
+pub rows-cells : (d : List ℕ) → length d ≡ draftLength → (e n : ℕ) → n ≤ 64 → RowsInside d e n → {rows : List ℕ} → RowsAre d e n rows → (i j : ℕ) → i < n → j < n
+    → cell (bytesOf rows) i j ≡ cell (matrixOn d e n) i j
+rows-cells d l e n few r {rows} w i j h k = cell-bytes rows i j (omega arith) (omega arith) ∙ rows-same d l e n few r w i j h k
 
 pub rows-past : {d : List ℕ} {e n : ℕ} {rows : List ℕ} → RowsAre d e n rows → (i j : ℕ) → i < n → n ≤ j → bit (getD rows i 0) j ≡ false
 rows-past {n = n} w i j h k = w .row i j h ∙ rw (le-ltb j n k)

@@ -10,7 +10,8 @@ use Rattle.lib_bits.specs.Bits.{bit}
 use Rattle.front_draft.specs.Draft.{entryOf, usedBy}
 use Rattle.front_draft.specs.Entry.{entryKind, entryStart, entryCount, nodeTag, nodeWord}
 use Rattle.check_graph.specs.Matrix.{cell, closed}
-use Rattle.check_faults.specs.Faults.{anyBelow}
+use Rattle.check_graph.specs.Sets.{bytesOf}
+use Rattle.check_graph.specs.Any.{anyBelow}
 
 -- ---- names
 
@@ -81,10 +82,9 @@ closedOn d e n = closed (matrixOn d e n) n
 unfoldable pub cyclicOn : List ℕ → ℕ → ℕ → Bool
 cyclicOn d ev bs = anyBelow (ev + 1) (λ e. anyBelow bs (λ i. cell (closedOn d e bs) i i))
 
--- a set of the first n behaviours on event e: all of them if none reaches itself, and else not all
-pub record PlacedOn (d : List ℕ) (e n set : ℕ) : Type 0 where
-  pub all-in : ((i : ℕ) → i < n → bit set i ≡ true) → anyBelow n (λ i. cell (closedOn d e n) i i) ≡ false
-  pub one-out : (i : ℕ) → i < n → bit set i ≡ false → anyBelow n (λ i. cell (closedOn d e n) i i) ≡ true
+-- none of the set reaches itself, by the rows of the first n
+pub record PlacedOn (rows : List ℕ) (n set : ℕ) : Type 0 where
+  pub none-round : (i : ℕ) → i < n → bit set i ≡ true → cell (closed (bytesOf rows) n) i i ≡ false
 
 -- ---- what the code asks of a draft: the nodes of each entry lie among the 2,048
 

@@ -1,12 +1,13 @@
 -- The faults of a whole program: a name that no behaviour has, a cycle. 01 "Why a call was turned down": 11 and 12.
-use Prim.Native.Nat.{ℕ, zero, suc, _+_, _/_, _%_}
-use mathlib.Core.Bool.{Bool, true, false, _&&_}
+use Prim.Native.Nat.{ℕ, _+_, _/_, _%_}
+use mathlib.Core.Bool.{Bool, true, _&&_}
 use mathlib.Core.List.{List, [], _∷_}
 use lib.Dec.{ltb}
 use Rattle.spec_language.specs.Syntax.{Expr, con, name, app1, app2, app3, Handler, handler, Behaviour, passive, active, Program}
 use Rattle.spec_language.specs.Dependence.{size, events, dependsOn}
 use Rattle.spec_language.specs.Order.{upTo}
 use Rattle.spec_language.specs.Code.{one?}
+use Rattle.check_graph.specs.Any.{anyBelow}
 use Rattle.check_graph.specs.Matrix.{cell, closed}
 
 -- ---- 11: every name is one of n behaviours
@@ -38,10 +39,6 @@ known p = knownBehaviours (size p) (p .behaviours)
 -- dependence as a matrix of 64 columns; `closed` adds whatever is reached by a chain
 unfoldable pub matrixOf : Program → ℕ → List ℕ
 matrixOf p e = upTo 4096 (λ k. one? (dependsOn p e (k / 64) (k % 64)))
-
-unfoldable pub anyBelow : ℕ → (ℕ → Bool) → Bool
-anyBelow zero f = false
-anyBelow (suc n) f = elim (f n) [ true ↦ true | false ↦ anyBelow n f ]
 
 unfoldable pub cyclicUnder : Program → ℕ → Bool
 cyclicUnder p e = anyBelow (size p) (λ i. cell (closed (matrixOf p e) (size p)) i i)

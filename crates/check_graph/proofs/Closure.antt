@@ -11,7 +11,7 @@ use lib.Dec.{eqb, ltb}
 use lib.ListN.{length, getD, set, length-set}
 use lib.Seq.{getD-set-same, getD-set-other}
 use borrow.Author.Tests.{ltb-true, lt-ltb}
-use Rattle.lib_base.proofs.Tools.{by-test, or-either}
+use Rattle.lib_base.proofs.Tools.{by-test, or-either, split}
 use Rattle.spec_language.specs.Dependence.{Reach, one, more}
 use Rattle.check_graph.specs.Matrix.{cell, cellBelow, closeCell, closeRow, closeThrough, closeRows, closeBy, closed}
 
@@ -221,3 +221,17 @@ module _ (m : List ℕ) (n : ℕ) (l : length m ≡ 4096) (small : n ≤ 64) whe
 pub closed-decides : (m : List ℕ) (n : ℕ) → length m ≡ 4096 → n ≤ 64 → (i j : ℕ) → i < n → j < n
     → ((cell (closed m n) i j ≡ true → Reach (cellBelow n m) i j) × (Reach (cellBelow n m) i j → cell (closed m n) i j ≡ true))
 closed-decides m n l small i j a b = (reached m n l small i j a b, λ r. marked m n l small r .2)
+
+-- two matrices that are alike among the first n
+pub closed-same : (m w : List ℕ) (n : ℕ) → length m ≡ 4096 → length w ≡ 4096 → n ≤ 64 → ((i j : ℕ) → i < n → j < n → cell m i j ≡ cell w i j)
+    → (i j : ℕ) → i < n → j < n → cell (closed m n) i j ≡ cell (closed w n) i j
+closed-same m w n l k small e i j a b =
+    split (cell (closed m n) i j)
+    (λ t. t ∙ sym (over m w l k e t))
+    (λ t. t ∙ sym (split (cell (closed w n) i j) (λ u. absurd (false≢true (sym t ∙ over w m k l (λ x y c d. sym (e x y c d)) u))) (λ u. u)))
+  where
+    over : (m w : List ℕ) → length m ≡ 4096 → length w ≡ 4096 → ((i j : ℕ) → i < n → j < n → cell m i j ≡ cell w i j) → cell (closed m n) i j ≡ true
+        → cell (closed w n) i j ≡ true
+    over m w l k e t =
+        closed-decides w n k small i j a b .1
+        (reach-map (λ x y h. let v = below-says n m x y h in below-is n w x y (v .0) (v .1) (sym (e x y (v .0) (v .1)) ∙ v .2)) (closed-decides m n l small i j a b .0 t))

@@ -1,3 +1,4 @@
+pub mod Any
 pub mod Closure
 pub mod OrderIs
 pub mod SetLaws

@@ -50,6 +50,13 @@ bits-same (suc k) a b h l e =
     let y : a % 2 ≡ b % 2 = digit (a % 2) (b % 2) (omega arith) (omega arith) (sym (bit-zero a) ∙ e 0 ∙ bit-zero b) in
     omega arith
 
+pub bits-none : (k a : ℕ) → a < 2 ^ k → ((j : ℕ) → j < k → bit a j ≡ false) → a ≡ 0
+bits-none zero a h e = omega arith
+bits-none (suc k) a h e =
+    let x : a / 2 ≡ 0 = bits-none k (a / 2) (omega (arith, pow-suc 2 k)) (λ j b. sym (bit-next a j) ∙ e (suc j) (omega arith)) in
+    let y : a % 2 ≡ 0 = digit (a % 2) 0 (omega arith) (omega arith) (sym (bit-zero a) ∙ e 0 (omega arith)) in
+    omega arith
+
 -- ---- the bytes and the marks
 
 one-zero : (b : Bool) → eqb (one? b) 0 ≡ not b
@@ -63,6 +70,10 @@ bytes-at rows i j h k =
     let b : (i * 64 + j) % 64 ≡ j = omega arith in
     let s : i * 64 + j < 4096 = omega arith in
     getD-upTo 4096 (λ x. one? (bit (getD rows (x / 64) 0) (x % 64))) (i * 64 + j) 0 s ∙ rw (a, b)
+
+pub length-bytes : (rows : List ℕ) → length (bytesOf rows) ≡ 4096
+unfolding bytesOf
+length-bytes rows = length-upTo 4096 _
 
 pub marks-at : (s j : ℕ) → j < 64 → getD (marksOf s) j 0 ≡ one? (bit s j)
 unfolding marksOf

@@ -1,3 +1,4 @@
+pub mod Any
 pub mod Matrix
 pub mod Placing
 pub mod Sets

@@ -1,5 +1,4 @@
--- A dependence matrix of 64 rows and 64 columns of bytes, and its transitive closure in place (Warshall), in the tests
--- and order of `close_matrix`.
+-- A dependence matrix of 64 rows and 64 columns of bytes, and its transitive closure in place (Warshall).
 use Prim.Native.Nat.{ℕ, zero, suc, _+_, _*_}
 use mathlib.Core.Bool.{Bool, false, not}
 use mathlib.Core.List.{List}

@@ -1,16 +1,14 @@
 // Dependence of up to 64 behaviours as sets of 64 bits, a row for each (crate lib_bits), j in rows[i]: an order in
-// which each comes after its needs. As a matrix of 64 x 64 bytes, m[i * 64 + j] != 0 where i depends on j
-// (specs/Matrix.antt, with its transitive closure), it is searched for a shortest cycle (crate check_shortest).
+// which each comes after its needs. The proofs see it as a matrix of 64 x 64 bytes with its transitive closure
+// (specs/Matrix.antt), which is not computed.
 ghost use mathlib.Core.Path.{_≡_};
 ghost use Prim.Native.Nat.{_+_, _*_, _≤_, _<_};
 ghost use lib.ListN.{length};
 ghost use Rattle.check_graph.specs.Placing.{findOn, placed, orderOn};
 ghost use Rattle.check_graph.specs.Sets.{readySet, RowsBelow, bytesOf, marksOf};
 
-// A row of the matrix, and the whole of it.
+// How many rows there are, and numbers in a row.
 pub const ROW: usize = spec_language::limits::BEHAVIOURS;
-
-pub const CELLS: usize = ROW * ROW;
 
 // Who is placed, and how many were.
 pub struct Arranged {

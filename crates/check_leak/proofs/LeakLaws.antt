@@ -16,8 +16,8 @@ use Rattle.spec_language.specs.Rights.{may, maySee}
 use Rattle.spec_language.specs.Dependence.{size, events, response}
 use Rattle.spec_language.specs.Grammar.{Fits}
 use Rattle.front_draft.specs.Draft.{DraftOf, Drafted}
-use Rattle.check_faults.specs.Faults.{anyBelow}
-use Rattle.check_faults.proofs.Any.{any-same}
+use Rattle.check_graph.specs.Any.{anyBelow}
+use Rattle.check_graph.proofs.Any.{any-same}
 use Rattle.check_reads.specs.First.{firstFrom}
 use Rattle.check_reads.specs.Sets.{namesOn}
 use Rattle.check_reads.specs.Named.{inResponse}

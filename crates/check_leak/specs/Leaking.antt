@@ -7,7 +7,7 @@ use lib.Dec.{ltb}
 use Rattle.lib_base.specs.Basics.{pick}
 use Rattle.spec_language.specs.Refusals.{noPlayer}
 use Rattle.spec_language.specs.Rights.{may}
-use Rattle.check_faults.specs.Faults.{anyBelow}
+use Rattle.check_graph.specs.Any.{anyBelow}
 use Rattle.check_reads.specs.First.{firstFrom}
 use Rattle.check_reads.specs.Sets.{namesOn}
 

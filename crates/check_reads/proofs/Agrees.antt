@@ -19,8 +19,9 @@ use Rattle.front_draft.specs.Entry.{entryKind, entryStart, entryCount, nodeTag,
 use Rattle.front_draft.proofs.DraftLaws.{Holds, Entry, entry-of, length-used}
 use Rattle.check_graph.specs.Matrix.{cell, closeBy, closed}
 use Rattle.check_graph.proofs.Closure.{length-closeBy, pass-is}
-use Rattle.check_faults.specs.Faults.{matrixOf, anyBelow}
-use Rattle.check_faults.proofs.Any.{any-same}
+use Rattle.check_graph.specs.Any.{anyBelow}
+use Rattle.check_faults.specs.Faults.{matrixOf}
+use Rattle.check_graph.proofs.Any.{any-same}
 use Rattle.check_faults.proofs.MatrixAgrees.{length-matrixOf}
 use Rattle.check_faults.proofs.CycleDecides.{cell-is}
 use Rattle.check_reads.specs.Sets.{isName, namedAmong, namesOn, writesOn, handlersName, passiveOn, closedBy, namedOn}

@@ -18,8 +18,9 @@ use Rattle.spec_language.specs.Accepted.{Known}
 use Rattle.spec_language.proofs.Laws.{depends-within, handled-there}
 use Rattle.check_graph.specs.Matrix.{cellBelow}
 use Rattle.check_graph.proofs.Closure.{below-says, below-is, reach-map, closed-decides}
-use Rattle.check_faults.specs.Faults.{matrixOf, anyBelow}
-use Rattle.check_faults.proofs.Any.{any-some}
+use Rattle.check_graph.specs.Any.{anyBelow}
+use Rattle.check_faults.specs.Faults.{matrixOf}
+use Rattle.check_graph.proofs.Any.{any-some}
 use Rattle.check_faults.proofs.MatrixAgrees.{length-matrixOf}
 use Rattle.check_faults.proofs.CycleDecides.{cell-is}
 use Rattle.check_reads.specs.Named.{inResponse, namedDirectly, throughPassives, namedBy}

@@ -9,8 +9,8 @@ use borrow.Author.Tests.{eqb-true, eqb-false, eq-eqb, ne-eqb}
 use Rattle.lib_base.proofs.Tools.{split}
 use Rattle.lib_bits.specs.Bits.{bit}
 use Rattle.lib_bits.proofs.BitLaws.{bit-none}
-use Rattle.check_faults.specs.Faults.{anyBelow}
-use Rattle.check_faults.proofs.Any.{any-none, any-some}
+use Rattle.check_graph.specs.Any.{anyBelow}
+use Rattle.check_graph.proofs.Any.{any-none, any-some}
 
 -- one number more to look at
 pub any-more : (n : ℕ) (f : ℕ → Bool) → anyBelow (suc n) f ≡ anyBelow n f || f n

@@ -6,8 +6,8 @@ use mathlib.Core.List.{List}
 use native.Mathlib.Omega.{arith}
 use lib.ListN.{getD}
 use Rattle.lib_bits.specs.Bits.{bit, Gathers}
-use Rattle.check_faults.specs.Faults.{anyBelow}
-use Rattle.check_faults.proofs.Any.{any-same}
+use Rattle.check_graph.specs.Any.{anyBelow}
+use Rattle.check_graph.proofs.Any.{any-same}
 use Rattle.check_reads.specs.Sets.{handlersName, passiveOn, closedBy, namedOn, RowsBy}
 
 pub named-is : (d : List ℕ) (ev n e : ℕ) (rows : List ℕ) (names next : ℕ) → n ≤ 64 → RowsBy (closedBy n (passiveOn d ev)) n rows → Gathers 64 names (handlersName d e n)

@@ -6,7 +6,8 @@ use mathlib.Core.Bool.{Bool, false, _&&_, _||_}
 use Rattle.spec_language.specs.Syntax.{Program}
 use Rattle.spec_language.specs.Dependence.{Response, follows, takes, defers, keeps, size, noEvent, response, mentions, writes}
 use Rattle.check_graph.specs.Matrix.{cell, closed}
-use Rattle.check_faults.specs.Faults.{matrixOf, anyBelow}
+use Rattle.check_graph.specs.Any.{anyBelow}
+use Rattle.check_faults.specs.Faults.{matrixOf}
 
 -- name j stands in a passive's expression or in the handler for the event
 abbrev pub inResponse : ℕ → Response → Bool

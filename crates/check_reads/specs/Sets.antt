@@ -8,7 +8,7 @@ use lib.Dec.{eqb, leb}
 use Rattle.lib_bits.specs.Bits.{bit, Gathers}
 use Rattle.front_draft.specs.Draft.{entryOf, usedBy}
 use Rattle.front_draft.specs.Entry.{entryKind, entryStart, entryCount, nodeTag, nodeWord}
-use Rattle.check_faults.specs.Faults.{anyBelow}
+use Rattle.check_graph.specs.Any.{anyBelow}
 
 -- node x is the name of j
 unfoldable pub isName : ℕ → ℕ → Bool

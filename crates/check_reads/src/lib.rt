@@ -9,7 +9,7 @@ ghost use lib.Dec.{eqb, leb};
 ghost use Rattle.lib_bits.specs.Bits.{bit, Gathers};
 ghost use Rattle.front_draft.specs.Draft.{draftLength, usedBy};
 ghost use Rattle.front_draft.specs.Entry.{entryKind, entryStart, entryCount};
-ghost use Rattle.check_faults.specs.Faults.{anyBelow};
+ghost use Rattle.check_graph.specs.Any.{anyBelow};
 ghost use Rattle.check_faults.specs.Checks.{RowsInside, AllInside};
 ghost use Rattle.check_reads.specs.Sets.{isName, namedAmong, writesOn, handlersName, passiveOn, closedBy, RowsBy, Passed, WritesIn, NamedIn};
 

@@ -12,16 +12,15 @@ use native.Mathlib.Numerals.{add-one}
 use lib.Dec.{ltb, eqb}
 use lib.ListN.{length, take, drop}
 use lib.Seq.{take-append-seam, take-all, length-take-le}
-use borrow.Author.Tests.{ltb-true, lt-ltb, le-ltb, ne-eqb}
+use borrow.Author.Tests.{ltb-true, lt-ltb, le-ltb, leb-true, ne-eqb}
 use Rattle.lib_base.proofs.Tools.{by-test, split}
 use Rattle.check_graph.specs.Matrix.{cell, cellBelow}
-use Rattle.check_graph.proofs.Closure.{closed-decides}
-use Rattle.check_faults.specs.Faults.{anyBelow}
+use Rattle.check_graph.proofs.Any.{any-member}
+use Rattle.check_graph.specs.Any.{anyBelow}
 use Rattle.check_faults.specs.Checks.{matrixOn, closedOn, cyclicOn}
 use Rattle.check_distance.specs.Circle.{Circle}
 use Rattle.check_distance.specs.Layers.{layer, stepsBack, Layered, Back, Walked}
-use Rattle.check_distance.proofs.Shorter.{reach-chain}
-use Rattle.check_distance.proofs.Walks.{least-most, least-from, least-holds, circle-back, some-back}
+use Rattle.check_distance.proofs.Walks.{least-most, least-from, least-holds, circle-back, back-decides, layer-same, back-same, walked-same}
 use Rattle.check_shortest.specs.Search.{backOn, eventOfTurn, packedCircle, bestOf, bestAll, shortestOn, eventNumber, Wide, CircleMembers, handed, ShortestFound}
 
 -- ---- the lower of two
@@ -111,13 +110,6 @@ pub back-holds : (d : List ℕ) (e n i : ℕ) → backOn d e n i ≤ n → layer
 unfolding backOn stepsBack
 back-holds d e n i h = least-holds (λ k. layer (λ a b. cell (matrixOn d e n) a b) n k i i) n 1 (omega arith)
 
--- some member of what is any
-any-member : (n : ℕ) (f : ℕ → Bool) → anyBelow n f ≡ true → (i : ℕ) × (i < n) × (f i ≡ true)
-unfolding anyBelow
-any-member zero f h = absurd (true≢false (sym h))
-any-member (suc n) f h =
-    split (f n) (λ t. (n, omega arith, t)) (λ t. let w = any-member n f (rw (t, anyBelow) at h) in (w .0, omega (arith, w .1), w .2))
-
 -- the least packed number: of behaviour i on the event of turn t
 pub record Best (d : List ℕ) (ev n b : ℕ) : Type 0 where
   pub event : eventOfTurn ev (b / 64 % 64) ≤ ev
@@ -135,10 +127,8 @@ module _ (d : List ℕ) (ev n : ℕ) (few : n ≤ 64) (events : ev ≤ 32) (long
       let w = any-member (ev + 1) _ h in
       let v = any-member n _ (w .2) in
       let m = matrixOn d (w .0) n in
-      let r = closed-decides m n (long (w .0) (omega (arith, w .1))) few (v .0) (v .0) (v .1) (v .1) .0 (v .2) in
-      let c = reach-chain (cellBelow n m) r in
-      let s = some-back m n (length (v .0 ∷ c .0)) (v .0 ∷ c .0) (omega arith) (c .1) in
-      (w .0, s .0, omega (arith, w .1), s .1, s .2)
+      let b = leb-true (stepsBack (λ x y. cell m x y) n (v .0)) n (back-decides m n (long (w .0) (omega (arith, w .1))) few (v .0) (v .1) ∙ v .2) in
+      (w .0, v .0, omega (arith, w .1), v .1, b)
 
   unpacked : (s t i b : ℕ) → t < 64 → i < 64 → b ≡ (s * 64 + t) * 64 + i → (b / 64 % 64 ≡ t) × (b % 64 ≡ i)
   unpacked s t i b h k q = (omega arith, omega arith)
@@ -202,20 +192,24 @@ module _ (d : List ℕ) (ev n : ℕ) (few : n ≤ 64) (events : ev ≤ 32) (long
 
 -- ---- the loops
 
-pub back-as : (d : List ℕ) (e n i : ℕ) {m s : List ℕ} {r : ℕ} → m ≡ matrixOn d e n → Back m n i r s → r ≡ backOn d e n i
-unfolding backOn
-back-as d e n i q w = rw (← q) (w .steps)
+-- the matrix m is the draft's on event e, among the first n
+abbrev pub Alike : List ℕ → List ℕ → ℕ → ℕ → Type 0
+Alike m d e n = (a b : ℕ) → a < n → b < n → cell m a b ≡ cell (matrixOn d e n) a b
 
-pub back-fits : (d : List ℕ) (e n i : ℕ) {m s : List ℕ} {r : ℕ} → m ≡ matrixOn d e n → Back m n i r s → r ≤ n + 1
-back-fits d e n i q w = omega (arith, back-as d e n i q w, back-most d e n i)
+pub back-as : (d : List ℕ) (e n i : ℕ) {m s : List ℕ} {r : ℕ} → Alike m d e n → i < n → Back m n i r s → r ≡ backOn d e n i
+unfolding backOn
+back-as d e n i {m} q b w = w .steps ∙ back-same n (λ x y. cell m x y) (λ x y. cell (matrixOn d e n) x y) q i b
+
+pub back-fits : (d : List ℕ) (e n i : ℕ) {m s : List ℕ} {r : ℕ} → Alike m d e n → i < n → Back m n i r s → r ≤ n + 1
+back-fits d e n i q b w = omega (arith, back-as d e n i q b w, back-most d e n i)
 
 -- the first i behaviours are tried on event e
 pub record Trying (d : List ℕ) (e t n b : ℕ) (s : List ℕ) (least i : ℕ) : Type 0 where
   pub whole : least ≡ bestOf d e t n i b
   pub within : i ≤ n
-  pub long : length s ≡ 4160
+  pub long : length s ≡ 65
 
-pub trying-start : (d : List ℕ) (e t n b : ℕ) (s : List ℕ) → length s ≡ 4160 → Trying d e t n b s b 0
+pub trying-start : (d : List ℕ) (e t n b : ℕ) (s : List ℕ) → length s ≡ 65 → Trying d e t n b s b 0
 unfolding bestOf
 trying-start d e t n b s l = record { whole = refl; within = omega arith; long = l }
 
@@ -232,10 +226,10 @@ trying-end {n = n} {i = i} w h = let z : i ≡ n = omega (arith, w .within) in r
 pub record Passing (d : List ℕ) (ev n : ℕ) (m s : List ℕ) (least t : ℕ) : Type 0 where
   pub whole : least ≡ bestAll d ev n t 300000
   pub within : t ≤ ev + 1
-  pub wide : length m ≡ 4096
-  pub long : length s ≡ 4160
+  pub wide : length m ≡ 64
+  pub long : length s ≡ 65
 
-pub passing-start : (d : List ℕ) (ev n : ℕ) {m s : List ℕ} → length m ≡ 4096 → length s ≡ 4160 → Passing d ev n m s 300000 0
+pub passing-start : (d : List ℕ) (ev n : ℕ) {m s : List ℕ} → length m ≡ 64 → length s ≡ 65 → Passing d ev n m s 300000 0
 unfolding bestAll
 passing-start d ev n l k = record { whole = refl; within = omega arith; wide = l; long = k }
 
@@ -255,17 +249,18 @@ turn-event ev t h q = rw q (turn-declared ev t h)
 
 -- ---- a walk, listed
 
-module _ (d : List ℕ) (e n i : ℕ) (h : backOn d e n i ≤ n) {m s : List ℕ} {r : ℕ} (q : m ≡ matrixOn d e n) (k : Back m n i r s) where
+module _ (d : List ℕ) (e n i : ℕ) (h : backOn d e n i ≤ n) {m s : List ℕ} {r : ℕ} (q : Alike m d e n) (b : i < n) (k : Back m n i r s) where
   pub back-few : r ≤ n
-  back-few = omega (arith, back-as d e n i q k)
+  back-few = omega (arith, back-as d e n i q b k)
 
   pub back-ready : (0 < r) × Layered m n i s (r - 1) × (layer (λ x y. cell m x y) n r i i ≡ true)
   back-ready =
-      let z = back-as d e n i q k in
-      (omega (arith, z, back-least d e n i), k .layers back-few, rw (q, z) (back-holds d e n i h))
+      let z = back-as d e n i q b k in
+      let t = layer-same n (λ x y. cell m x y) (λ x y. cell (matrixOn d e n) x y) q r i i b in
+      (omega (arith, z, back-least d e n i), k .layers back-few, t ∙ rw z (back-holds d e n i h))
 
   pub members-are : {list list′ : List ℕ} → Walked m n r list list′ → CircleMembers d e n i r list list′
-  members-are l = record { steps = back-as d e n i q k; walked = rw (← q) l }
+  members-are l = record { steps = back-as d e n i q b k; walked = walked-same m (matrixOn d e n) q l }
 
 -- the list with them
 taken-of : (r : ℕ) (l o rest : List ℕ) → l ≡ o ++ drop r rest → length o ≡ r → take r l ≡ o

@@ -1,6 +1,5 @@
 // A shortest circle of a draft (crate front_draft), over all events and none (02, M-108). Time: for each of ev events
-// and for none, and for each of bs behaviours, up to bs layers of bs * bs steps: in all (ev + 1) * bs * bs * bs * bs at
-// the most.
+// and for none, and for each of bs behaviours, up to bs levels of bs steps: in all (ev + 1) * bs * bs * bs at the most.
 ghost use mathlib.Core.Path.{_≡_};
 ghost use mathlib.Core.Bool.{true};
 ghost use Prim.Native.Nat.{_≤_, _<_, min};
@@ -50,21 +49,21 @@ fn best_under(
     e: usize,
     t: usize,
     n: usize,
-    m: &mut [u8],
-    s: &mut [u8],
+    rows: &mut [u64],
+    levels: &mut [u64],
     best: usize,
 ) -> usize
-    requires { ⌜ (length (now d) ≡ draftLength) × (length (now m) ≡ 4096) × (length (now s) ≡ 4160) × (e ≤ 32) × (n ≤ 64) × RowsInside (now d) e n ⌝ }
+    requires { ⌜ (length (now d) ≡ draftLength) × (length (now rows) ≡ 64) × (length (now levels) ≡ 65) × (e ≤ 32) × (n ≤ 64) × RowsInside (now d) e n ⌝ }
     requires { ⌜ t ≤ 32 ⌝ }
     ensures { λ r. ⌜ r ≡ bestOf (now (d .entry)) e t n n best ⌝ }
 {
-    check_faults::fill_matrix(d, e, n, m);
+    check_faults::fill_rows(d, e, n, rows);
     let mut least = best;
     let mut i = 0;
     while i < n {
         least = lower(
             least,
-            (check_distance::steps_back(m, s, i, n) * TURNS + t) * BEHAVIOURS + i,
+            (check_distance::steps_back(rows, levels, i, n) * TURNS + t) * BEHAVIOURS + i,
         );
         i += 1;
     }
@@ -76,12 +75,12 @@ fn shortest(d: &[u64], ev: usize, n: usize) -> usize
     requires { ⌜ (length (now d) ≡ draftLength) × (ev ≤ 32) × (n ≤ 64) × AllInside (now d) ev n ⌝ }
     ensures { λ r. ⌜ r ≡ shortestOn (now (d .entry)) ev n ⌝ }
 {
-    let mut m = [0u8; check_graph::CELLS];
-    let mut s = [0u8; check_distance::LAYERS];
+    let mut rows = [0u64; check_graph::ROW];
+    let mut levels = [0u64; check_distance::LEVELS];
     let mut least = BEYOND;
     let mut t = 0;
     while t <= ev {
-        least = best_under(d, event_at(ev, t), t, n, &mut m, &mut s, least);
+        least = best_under(d, event_at(ev, t), t, n, &mut rows, &mut levels, least);
         t += 1;
     }
     least
@@ -103,11 +102,11 @@ fn list_members(d: &[u64], e: usize, i: usize, n: usize, list: &mut [u8]) -> usi
     requires { ⌜ (64 ≤ length (now list)) × (i < n) × (backOn (now d) e n i ≤ n) ⌝ }
     ensures { λ r. ⌜ CircleMembers (now (d .entry)) e n i r (now (list .entry)) (now (list .exit)) ⌝ }
 {
-    let mut m = [0u8; check_graph::CELLS];
-    let mut s = [0u8; check_distance::LAYERS];
-    check_faults::fill_matrix(d, e, n, &mut m);
-    let r = check_distance::steps_back(&m, &mut s, i, n);
-    check_distance::walk(&m, &s, i, r, n, list);
+    let mut rows = [0u64; check_graph::ROW];
+    let mut levels = [0u64; check_distance::LEVELS];
+    check_faults::fill_rows(d, e, n, &mut rows);
+    let r = check_distance::steps_back(&rows, &mut levels, i, n);
+    check_distance::walk(&rows, &levels, i, r, n, list);
     r
 }
 

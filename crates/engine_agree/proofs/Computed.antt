@@ -24,7 +24,8 @@ use Rattle.spec_execution.specs.Execution.{execute, emptied, offs, ons}
 use Rattle.spec_model.specs.Model.{Call, call, act, turn, runTurns, replies}
 use Rattle.spec_model.specs.Claims.{after, storeIn, IdleIn, takenTurns, takenInBy, eventsOf}
 use Rattle.check_graph.specs.Matrix.{closeCell, closeRow, closeThrough, closeRows, closeBy, closed}
-use Rattle.check_faults.specs.Faults.{knownIn, knownHandlers, knownBehaviours, known, matrixOf, anyBelow}
+use Rattle.check_graph.specs.Any.{anyBelow}
+use Rattle.check_faults.specs.Faults.{knownIn, knownHandlers, knownBehaviours, known, matrixOf}
 use Rattle.check_faults.proofs.CycleDecides.{known-decides}
 use Rattle.check_reads.specs.First.{firstFrom}
 use Rattle.check_reads.specs.Named.{namedDirectly, throughPassives, namedBy}

@@ -18,8 +18,8 @@ use Rattle.spec_language.specs.Dependence.{Response, follows, takes, defers, ke
 use Rattle.spec_language.specs.Grammar.{NoneFor, HandlersFit, BehaviourFits}
 use Rattle.spec_language.specs.Accepted.{HandlerNamesIn, BehaviourNamesIn, Known}
 use Rattle.spec_language.proofs.Laws.{handled-here, handled-there, named-in}
-use Rattle.check_faults.specs.Faults.{anyBelow}
-use Rattle.check_faults.proofs.Any.{any-none, any-some}
+use Rattle.check_graph.specs.Any.{anyBelow}
+use Rattle.check_graph.proofs.Any.{any-none, any-some}
 use Rattle.check_reads.specs.Named.{inResponse}
 use Rattle.check_reads.proofs.Decides.{any-found}
 use Rattle.check_leak.specs.Leak.{behaviourNames}

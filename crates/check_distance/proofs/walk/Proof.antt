@@ -1,16 +1,24 @@
--- `layers::walk` meets its contract. The loop keeps: those listed lead to where it stands, and the steps left lead to
--- i. Assumes nothing.
+-- The loop keeps: those listed lead to where it stands, and the steps left lead to i.
 use Prim.Native.Nat.{_-_}
 use native.Mathlib.Omega.{arith}
+use Rattle.check_graph.specs.Sets.{bytesOf}
+use Rattle.check_distance.proofs.LayerLaws.{lowest-onward}
 use Rattle.check_distance.proofs.WalkLaws.{Going, going-start, going-turn, going-end}
 use Rattle.check_distance.proofs.walk.Statement.{statement}
 use Rattle.check_distance.proofs.walk.Tie as tie
 
 abbrev Inv-loop : tie.InvT-loop
-Inv-loop m s i r n list₀ at₀ t₀ list at t = Going m n i r list₀ list at t
+Inv-loop rows levels i r n list₀ at₀ t₀ list at t = Going (bytesOf rows) n i r list₀ list at t
 
 abbrev μ-loop : tie.MeasureT-loop
-μ-loop m s i r n list₀ at₀ t₀ list at t = r - t
+μ-loop rows levels i r n list₀ at₀ t₀ list at t = r - t
+
+loop-again : tie.Need-loop-again Inv-loop μ-loop
+loop-again c =
+    let p = c .before .before .before .before .before .before .before .before .pre in
+    let g = c .before .before .before .before .loop .inv in
+    going-turn _ _ _ _ _ g (p .0 .5) (p .0 .3) (p .0 .4) (p .1 .1) (c .before .before .before .loop-test .taken)
+    (lowest-onward _ _ (p .0 .3) _ _ (g .here) (c .first-shared .ensures))
 
 pub walk-spec : {M : Type 1} → statement M
 walk-spec =
@@ -21,12 +29,15 @@ walk-spec =
     (λ c. let p = c .before .before .before .pre in going-start _ _ _ _ _ (p .0 .2) (p .1 .2))
     (λ c. omega (arith, c .before .loop .inv .here))
     (λ c. omega (arith, c .before .loop .inv .long))
+    (λ c. omega (arith, c .before .loop .inv .here))
+    (λ c. omega (arith, c .before .before .loop .inv .here))
     (λ c. omega arith)
     (λ c. omega arith)
-    (λ c κs. let p = c .before .before .before .before .before .pre .0 in (p .0, p .1, omega arith, omega (arith, c .before .loop .inv .here), p .3))
     (λ c. omega arith)
     (λ c. omega arith)
-    (λ c. let p = c .before .before .before .before .before .before .pre in
-    going-turn _ _ _ _ _ (c .before .before .loop .inv) (p .0 .5) (p .0 .3) (p .0 .4) (p .1 .1) (c .before .loop-test .taken) (c .find-onward .ensures))
+    (λ c κs. omega arith)
+    (λ c. omega arith)
+    (λ c. omega arith)
+    loop-again
     (λ c. c .before .loop .inv .long)
     (λ c. let p = c .before .before .before .before .before .pre in going-end _ _ _ _ _ (c .before .loop .inv) (p .1 .0) (c .loop-test .left)))

@@ -1,70 +1,113 @@
--- The outer loop keeps: on no event passed does a behaviour reach itself; the inner: all of the behaviours passed are
--- placed, on this event.
+-- The outer loop keeps: on no event passed does a behaviour reach itself; the inner: none of the behaviours passed
+-- does, on this event.
 use Prim.Native.Nat.{ℕ, _+_, _-_, _≤_, _<_}
 use mathlib.Core.Bool.{Bool, true, false}
 use mathlib.Core.Path.{_≡_, refl, sym, _∙_}
 use mathlib.Core.List.{List}
 use native.Mathlib.Omega.{arith}
 use borrow.Author.Count.{below-none, below-more}
-use borrow.Author.Tests.{not-true, not-false}
-use Rattle.lib_bits.specs.Bits.{bit}
+use borrow.Author.Needs.{needs}
+use lib.ListN.{length}
+use Rattle.check_graph.specs.Any.{anyBelow}
 use Rattle.check_graph.specs.Matrix.{cell}
-use Rattle.check_faults.specs.Faults.{anyBelow}
-use Rattle.check_faults.specs.Checks.{closedOn, cyclicOn, PlacedOn}
-use Rattle.check_faults.proofs.Any.{any-none, any-some}
+use Rattle.check_graph.proofs.Any.{any-none, any-some}
+use Rattle.check_faults.specs.Checks.{closedOn, cyclicOn}
+use Rattle.check_faults.proofs.RowLaws.{rows-past}
+use Rattle.check_faults.proofs.Left.{rows-closed}
 use Rattle.check_faults.proofs.has_cycle.Statement.{statement}
 use Rattle.check_faults.proofs.has_cycle.Tie as tie
 
--- some behaviour reaches itself on event e
-abbrev circular : List ℕ → ℕ → ℕ → Bool
-circular d bs e = anyBelow bs (λ i. cell (closedOn d e bs) i i)
+-- behaviour i reaches itself on event e
+abbrev round : List ℕ → ℕ → ℕ → ℕ → Bool
+round d bs e i = cell (closedOn d e bs) i i
 
-record Passed (d : List ℕ) (ev bs e : ℕ) (found : Bool) : Type 0 where
+record Passed (d : List ℕ) (ev bs e : ℕ) (found : Bool) (rows : List ℕ) : Type 0 where
   not-yet : found ≡ false
   within : e ≤ ev + 1
-  none : (f : ℕ) → f < e → circular d bs f ≡ false
+  none : (f : ℕ) → f < e → anyBelow bs (round d bs f) ≡ false
+  long : length rows ≡ 64
 
-record Tried (bs placed b : ℕ) (found : Bool) : Type 0 where
+record Tried (d : List ℕ) (bs e b : ℕ) (found : Bool) : Type 0 where
   not-yet : found ≡ false
   within : b ≤ bs
-  all : (i : ℕ) → i < b → bit placed i ≡ true
+  none : (i : ℕ) → i < b → round d bs e i ≡ false
 
-start : (d : List ℕ) (ev bs : ℕ) → Passed d ev bs 0 false
-start d ev bs = record { not-yet = refl; within = omega arith; none = below-none _ }
+start : (d : List ℕ) (ev bs : ℕ) (rows : List ℕ) → length rows ≡ 64 → Passed d ev bs 0 false rows
+start d ev bs rows l = record { not-yet = refl; within = omega arith; none = below-none _; long = l }
 
-try : (bs placed : ℕ) {found : Bool} → found ≡ false → Tried bs placed 0 found
-try bs placed h = record { not-yet = h; within = omega arith; all = below-none _ }
+try : (d : List ℕ) (bs e : ℕ) {found : Bool} → found ≡ false → Tried d bs e 0 found
+try d bs e h = record { not-yet = h; within = omega arith; none = below-none _ }
 
-turn : {bs placed b : ℕ} {found : Bool} → Tried bs placed b found → b < bs → bit placed b ≡ true → Tried bs placed (b + 1) found
-turn t h k = record { not-yet = t .not-yet; within = omega arith; all = below-more _ _ (t .all) k }
+turn : {d : List ℕ} {bs e b : ℕ} {found : Bool} → Tried d bs e b found → b < bs → round d bs e b ≡ false → Tried d bs e (b + 1) found
+turn t h k = record { not-yet = t .not-yet; within = omega arith; none = below-more _ _ (t .none) k }
 
-pass : {d : List ℕ} {ev bs e placed b : ℕ} {was found : Bool} → Passed d ev bs e was → e ≤ ev → PlacedOn d e bs placed → Tried bs placed b found → bs ≤ b
-    → Passed d ev bs (e + 1) found
-pass p h w t k = record {
+pass : {d : List ℕ} {ev bs e b : ℕ} {was found : Bool} {before rows : List ℕ} → Passed d ev bs e was before → e ≤ ev → Tried d bs e b found → bs ≤ b → length rows ≡ length before
+    → Passed d ev bs (e + 1) found rows
+pass {bs = bs} p h t k l = record {
   not-yet = t .not-yet;
   within = omega arith;
-  none = below-more _ _ (p .none) (w .all-in (λ i c. t .all i (omega arith)));
+  none = below-more _ _ (p .none) (any-none bs _ (λ i c. t .none i (omega arith)));
+  long = l ∙ p .long;
 }
 
-end : {d : List ℕ} {ev bs e : ℕ} {found : Bool} → Passed d ev bs e found → ev < e → found ≡ cyclicOn d ev bs
+end : {d : List ℕ} {ev bs e : ℕ} {found : Bool} {rows : List ℕ} → Passed d ev bs e found rows → ev < e → found ≡ cyclicOn d ev bs
 unfolding cyclicOn
-end {d} {ev} {bs} {e} p h = p .not-yet ∙ sym (any-none (ev + 1) (circular d bs) (λ f s. p .none f (omega arith)))
+end {d} {ev} {bs} p h = p .not-yet ∙ sym (any-none (ev + 1) (λ f. anyBelow bs (round d bs f)) (λ f s. p .none f (omega arith)))
 
-stop : {d : List ℕ} {ev bs e placed b : ℕ} → e ≤ ev → PlacedOn d e bs placed → b < bs → bit placed b ≡ false → true ≡ cyclicOn d ev bs
+stop : (d : List ℕ) (ev bs e b : ℕ) → e ≤ ev → b < bs → round d bs e b ≡ true → true ≡ cyclicOn d ev bs
 unfolding cyclicOn
-stop {d} {ev} {bs} {e} {placed} {b} h w k q = sym (any-some (ev + 1) (circular d bs) e (omega arith) (w .one-out b k q))
+stop d ev bs e b h k q = sym (any-some (ev + 1) (λ f. anyBelow bs (round d bs f)) e (omega arith) (any-some bs (round d bs e) b k q))
 
 abbrev Inv-loop : tie.InvT-loop
-Inv-loop d ev bs found₀ e placed b₀ found b = Tried bs placed b found
+Inv-loop d ev bs rows found₀ e placed b₀ found b = Tried d bs e b found
 
 abbrev μ-loop : tie.MeasureT-loop
-μ-loop d ev bs found₀ e placed b₀ found b = bs - b
+μ-loop d ev bs rows found₀ e placed b₀ found b = bs - b
 
 abbrev Inv-search : tie.InvT-search
-Inv-search d ev bs found₀ e₀ found e = Passed d ev bs e found
+Inv-search d ev bs rows₀ found₀ e₀ rows found e = Passed d ev bs e found rows
 
 abbrev μ-search : tie.MeasureT-search
-μ-search d ev bs found₀ e₀ found e = ev + 1 - e
+μ-search d ev bs rows₀ found₀ e₀ rows found e = ev + 1 - e
+
+fill-rows-requires : tie.Need-fill-rows-requires Inv-loop μ-loop Inv-search μ-search
+fill-rows-requires c κs =
+    let p = c .before .before .before .before .pre in
+    (p .0, c .before .before .search .inv .long, omega arith, p .2, p .3 (c .before .before .search .e) (omega arith))
+
+place-all-requires : tie.Need-place-all-requires Inv-loop μ-loop Inv-search μ-search
+place-all-requires c κs =
+    let f = c .before .before in
+    (f .fill-rows .kept .1 .1 .1 .0 ∙ f .before .before .before .search .inv .long, f .before .before .before .before .before .pre .2, record { none-past = rows-past (f .fill-rows .ensures) })
+
+reaches-itself-requires : tie.Need-reaches-itself-requires Inv-loop μ-loop Inv-search μ-search
+reaches-itself-requires c κs =
+    let f = c .before .before .before .before .before .before in (
+      f .fill-rows .kept .1 .1 .1 .0 ∙ f .before .before .before .search .inv .long,
+      c .before .loop-test .taken,
+      f .before .before .before .before .before .pre .2,
+      record { none-past = rows-past (f .fill-rows .ensures) },
+      c .before .before .before .place-all .ensures,
+    )
+
+-- what is told of the rows holds of the event
+loop-again : tie.Need-loop-again Inv-loop μ-loop Inv-search μ-search
+loop-again c =
+    let f = c .before .before .before .before .before .before .before .before in
+    let p = f .before .before .before .before .before .pre in
+    let e = rows-closed _ (p .0) _ _ (p .2) (p .3 (f .before .before .before .search .e) (omega arith)) (f .fill-rows .ensures) _ (c .before .before .before .loop-test .taken) in
+    turn (c .before .before .before .before .loop .inv) (omega arith) (sym e ∙ sym (c .before .reaches-itself .ensures) ∙ c .if1 .left)
+
+search-again : tie.Need-search-again Inv-loop μ-loop Inv-search μ-search
+search-again c = pass (c .before .before .before .before .before .before .before .before .search .inv) (omega arith) (c .before .loop .inv) (omega arith) (c .before .before .before .before .before .fill-rows .kept .1 .1 .1 .0)
+
+-- left where one reaches itself
+returns-2 : tie.Need-returns-2 Inv-loop μ-loop Inv-search μ-search
+returns-2 c =
+    let f = c .before .before .before .before .before .before .before .before in
+    let p = f .before .before .before .before .before .pre in
+    let e = rows-closed _ (p .0) _ _ (p .2) (p .3 (f .before .before .before .search .e) (omega arith)) (f .fill-rows .ensures) _ (c .before .before .before .loop-test .taken) in
+    stop _ _ _ (f .before .before .before .search .e) _ (omega arith) (c .before .before .before .loop-test .taken) (sym e ∙ sym (c .before .reaches-itself .ensures) ∙ c .if1 .taken)
 
 pub has-cycle-spec : {M : Type 1} → statement M
 has-cycle-spec =
@@ -74,15 +117,19 @@ has-cycle-spec =
     μ-loop
     Inv-search
     μ-search
-    (λ c. start _ _ _)
-    (λ c κs. (c .before .before .before .pre .0, omega arith, omega arith, c .before .before .before .pre .3 (c .before .search .e) (omega arith)))
-    (λ c. try _ _ (c .before .before .search .inv .not-yet))
-    (λ c κs. omega arith)
+    (λ c. start _ _ _ _ refl)
+    (λ c. search needs)
+    fill-rows-requires
+    (λ c. search needs)
+    place-all-requires
+    (λ c. try _ _ _ (c .before .before .before .before .before .before .search .inv .not-yet))
+    (λ c. search needs)
+    reaches-itself-requires
     (λ c. omega arith)
     (λ c. omega arith)
-    (λ c. turn (c .before .before .before .loop .inv) (omega arith) (sym (c .before .contains .ensures) ∙ not-false _ (c .if1 .left)))
+    loop-again
     (λ c. omega arith)
     (λ c. omega arith)
-    (λ c. pass (c .before .before .before .before .search .inv) (omega arith) (c .before .before .place-all .ensures) (c .before .loop .inv) (omega arith))
+    search-again
     (λ c. end (c .before .search .inv) (omega arith))
-    (λ c. stop (omega arith) (c .before .before .before .before .place-all .ensures) (omega arith) (sym (c .before .contains .ensures) ∙ not-true _ (c .if1 .taken))))
+    returns-2)

@@ -1,8 +1,5 @@
--- Who is placed in the order of the rows: by the theorem on who is left.
-use native.Mathlib.Omega.{arith}
-use mathlib.Core.Path.{refl}
+-- Who is placed in the order of the rows: by the theorem on the order.
 use borrow.Author.Needs.{needs}
-use Rattle.check_faults.proofs.RowLaws.{rows-past}
 use Rattle.check_faults.proofs.Left.{placed-on}
 use Rattle.check_faults.proofs.place_all.Statement.{statement}
 use Rattle.check_faults.proofs.place_all.Tie as tie
@@ -12,8 +9,5 @@ place-all-spec =
     tie.close
     (tie.spec
     (λ c. search needs)
-    (λ c κs. search needs)
-    (λ c. search needs)
-    (λ c. search needs)
-    (λ c κs. (search needs, search needs, c .before .before .before .before .before .before .pre .2, record { none-past = rows-past (c .before .before .before .fill-rows .ensures) }))
-    (λ c. let p = c .before .before .before .before .before .before .before .before .pre in placed-on _ (p .0) _ _ (p .2) (p .3) (c .before .before .before .before .before .fill-rows .ensures) _ _ _ _ (c .before .order-of .ensures)))
+    (λ c κs. let p = c .before .before .pre in (p .0, search needs, p .1, p .2))
+    (λ c. let p = c .before .before .before .before .pre in placed-on _ _ (p .1) _ _ _ _ (c .before .order-of .ensures)))

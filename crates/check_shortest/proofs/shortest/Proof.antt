@@ -7,10 +7,10 @@ use Rattle.check_shortest.proofs.shortest.Statement.{statement}
 use Rattle.check_shortest.proofs.shortest.Tie as tie
 
 abbrev Inv-loop : tie.InvT-loop
-Inv-loop d ev n m₀ s₀ least₀ t₀ m s least t = Passing d ev n m s least t
+Inv-loop d ev n rows₀ levels₀ least₀ t₀ rows levels least t = Passing d ev n rows levels least t
 
 abbrev μ-loop : tie.MeasureT-loop
-μ-loop d ev n m₀ s₀ least₀ t₀ m s least t = ev + 1 - t
+μ-loop d ev n rows₀ levels₀ least₀ t₀ rows levels least t = ev + 1 - t
 
 pub shortest-spec : {M : Type 1} → statement M
 shortest-spec =
