@@ -3,10 +3,10 @@
 use Prim.Native.Nat.{ℕ, _≤_, _<_}
 use mathlib.Core.Bool.{Bool, true, false}
 use mathlib.Core.Path.{_≡_, refl, sym, ap, _∙_, subst}
-use mathlib.Core.Logic.{_⊎_, ⊎-elim}
+use mathlib.Core.Logic.{_≢_, _⊎_, ⊎-elim}
 use mathlib.Core.List.{List, []}
 use native.Mathlib.Omega.{arith}
-use lib.ListN.{length}
+use lib.ListN.{length, replicate, length-replicate}
 use lib.Dec.{ltb}
 use denote.Enum.Declared.{tagOf}
 use Rattle.lib_base.specs.Basics.{All}
@@ -28,8 +28,8 @@ use Rattle.check_faults.specs.Checks.{namesKnown, cyclicOn}
 use Rattle.check_faults.proofs.DraftChecks.{draft-names}
 use Rattle.back_table.specs.TableWords.{countBefore, tableWords}
 use Rattle.back_table.proofs.TableIs.{draft-planned}
-use Rattle.back_compile.specs.Verdict.{compiled, judge, lacksParameters, programOf, compileOn}
-use Rattle.back_compile.specs.Judged.{Passes, CircleDraft, Falls, Finding, JudgedAs, answerOf, draftRefusal}
+use Rattle.back_compile.specs.Verdict.{Compiled, compiled, judge, lacksParameters, programOf, compileOn, numberOn}
+use Rattle.back_compile.specs.Judged.{Drafts, Passes, CircleDraft, Falls, Finding, JudgedAs, answerOf, draftRefusal}
 use Rattle.back_compile.specs.declared.Judgement.{Judgement}
 use Rattle.back_compile.specs.declared.Judgement.the-variants.{Accepted, Circular, Refused}
 use Rattle.back_compile.proofs.Judgement.{the-type}
@@ -39,7 +39,7 @@ use Rattle.back_compile.proofs.FillJudged.{filled-is}
 use Rattle.back_compile.proofs.ReadIs.{read-fault, read-judged}
 
 pub long-falls : (s ps : List ℕ) → 8192 < length s → Falls s ps 3
-long-falls s ps h = record { other = omega arith; refused = λ t b. compile-long s ps t b h }
+long-falls s ps h = record { some = omega arith; other = omega arith; refused = λ t b. compile-long s ps t b h }
 
 -- where nothing lacks, the values filled in are those lent
 filled-lent : (x : Sheet) (ps : List ℕ) → lacksParameters x ps ≡ false → fill (parameterValue ps) x ≡ programOf ps x
@@ -59,6 +59,7 @@ module _ (s ps : List ℕ) (bytes : All (λ b. b < 256) s) (hi : length s ≤ 81
       let f = fault-numbers s k r in
       let z : x ≡ k = e ∙ ap draftRefusal b in
       record {
+        some = omega (arith, f .0);
         other = omega (arith, f .1);
         refused = λ t h. compile-opens s ps t h hi ∙ sym (ap (λ (y : ℕ). compiled y t) e ∙ read-fault s bytes hi a k d ps t b q);
       }
@@ -88,29 +89,31 @@ module _ (s ps : List ℕ) (bytes : All (λ b. b < 256) s) (hi : length s ≤ 81
           ∙ sym (read-judged s bytes hi ev bs n d ps t r t′ q (filled-is ps lent l t r t′ e (record { each-program = j })))
 
       pub unknown-falls : namesKnown full bs n ≡ false → Falls s ps 11
-      unknown-falls k = record { other = omega arith; refused = λ t h. answers t t 11 h (λ c. draft-unknown c t l k) }
+      unknown-falls k = record { some = omega arith; other = omega arith; refused = λ t h. answers t t 11 h (λ c. draft-unknown c t l k) }
 
       pub lacking-falls : l ≡ true → namesKnown full bs n ≡ true → Falls s ps 20
-      lacking-falls b k = record { other = omega arith; refused = λ t h. answers t t 20 h (λ c. draft-lacking c t l b k) }
+      lacking-falls b k = record { some = omega arith; other = omega arith; refused = λ t h. answers t t 20 h (λ c. draft-lacking c t l b k) }
 
       module _ (b : l ≡ false) (k : namesKnown full bs n ≡ true) where
-        pub circular-turns : cyclicOn full ev bs ≡ true → CircleDraft s ps ev bs full
-        circular-turns a = record {
+        drafts : Drafts s ps ev bs full
+        drafts = record {
           sheet = of .0 .sheet;
           read = of .1;
           nodes = n;
           draft = filled;
           own = filled-program ps lent (of .0) ∙ filled-lent (of .0 .sheet) ps (sym (e ∙ draft-lacks (of .0) ps) ∙ b);
           names = sym (draft-names filled) ∙ k;
-          cycles = a;
-          refused = λ t h. answers t t 12 h (λ c. draft-circular c t l b k a);
         }
 
+        pub circular-turns : cyclicOn full ev bs ≡ true → CircleDraft s ps ev bs full
+        circular-turns a = record { drafts = drafts; cycles = a; refused = λ t h. answers t t 12 h (λ c. draft-circular c t l b k a) }
+
         pub overlong-falls : cyclicOn full ev bs ≡ false → 4096 < countBefore full bs ev → Falls s ps 13
-        overlong-falls a h = record { other = omega arith; refused = λ t g. answers t t 13 g (λ c. draft-overlong c t l b k a h) }
+        overlong-falls a h = record { some = omega arith; other = omega arith; refused = λ t g. answers t t 13 g (λ c. draft-overlong c t l b k a h) }
 
         pub all-passes : cyclicOn full ev bs ≡ false → countBefore full bs ev ≤ 4096 → Passes s ps ev bs full
         all-passes a h = record {
+          drafts = drafts;
           planned = draft-planned filled k a h;
           compiles = λ t g. answers t (putWords t 0 (tableWords full ev bs)) 0 g (λ c. draft-passes c t l b k a h _ refl);
         }
@@ -130,3 +133,31 @@ pub not-passed : (s ps d t : List ℕ) (a : Judgement) → JudgedAs s ps d a →
 not-passed s ps d t (Accepted ev bs) h n l q = ⊎-elim (λ e. absurd (omega arith)) (λ e. absurd (omega arith)) n
 not-passed s ps d t (Circular ev bs) h n l q = ap (λ (y : ℕ). compiled y t) q ∙ sym (h .finding .refused t l)
 not-passed s ps d t (Refused k) h n l q = ap (λ (y : ℕ). compiled y t) q ∙ sym (h .finding .refused t l)
+
+-- ---- compile's number
+
+room : 34816 ≤ length {A = ℕ} (replicate 34816 0)
+room = omega (arith, length-replicate {A = ℕ} 34816 0)
+
+told : (s ps : List ℕ) {r : ℕ} {t′ : List ℕ} → compileOn s ps (replicate 34816 0) ≡ compiled r t′ → r ≡ numberOn s ps
+unfolding numberOn
+told s ps e = sym (ap (λ (x : Compiled). x .0) e)
+
+module _ (s ps : List ℕ) {ev bs : ℕ} {d : List ℕ} where
+  pub passes-number : Passes s ps ev bs d → numberOn s ps ≡ 0
+  passes-number w = sym (told s ps (w .compiles (replicate 34816 0) room))
+
+  pub turns-number : CircleDraft s ps ev bs d → numberOn s ps ≡ 12
+  turns-number w = sym (told s ps (w .refused (replicate 34816 0) room))
+
+-- the judgement's number is compile's
+pub judged-number : (s ps d : List ℕ) (a : Judgement) → JudgedAs s ps d a → {r : ℕ} → r ≡ answerOf a → r ≡ numberOn s ps
+judged-number s ps d (Accepted ev bs) h q = q ∙ sym (passes-number s ps (h .finding))
+judged-number s ps d (Circular ev bs) h q = q ∙ sym (turns-number s ps (h .finding))
+judged-number s ps d (Refused k) h q = q ∙ told s ps (h .finding .refused (replicate 34816 0) room)
+
+-- and not 0 where it is not accepted, by its tag
+pub refused-some : (s ps d : List ℕ) (a : Judgement) → JudgedAs s ps d a → (tagOf the-type a ≡ 1) ⊎ (tagOf the-type a ≡ 2) → {r : ℕ} → r ≡ answerOf a → r ≢ 0
+refused-some s ps d (Accepted ev bs) h n q = ⊎-elim (λ e. absurd (omega arith)) (λ e. absurd (omega arith)) n
+refused-some s ps d (Circular ev bs) h n q = omega arith
+refused-some s ps d (Refused k) h n q = λ z. h .finding .some (sym q ∙ z)

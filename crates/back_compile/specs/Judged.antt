@@ -21,24 +21,30 @@ use Rattle.back_compile.specs.declared.Judgement.the-variants.{Accepted,
 
 -- ---- a judgement of the bytes s, with the bytes ps lent for their parameters; d is the draft that it leaves
 
--- accepted: the table can be written from the draft, and is compile's
-pub record Passes (s ps : List ℕ) (ev bs : ℕ) (d : List ℕ) : Type 0 where
-  pub planned : Planned d ev bs
-  pub compiles : (t : List ℕ) → 34816 ≤ length t → compileOn s ps t ≡ compiled 0 (putWords t 0 (tableWords d ev bs))
-
--- a circle: the draft is that of the sheet's program, and shows one
-pub record CircleDraft (s ps : List ℕ) (ev bs : ℕ) (d : List ℕ) : Type 0 where
+-- the bytes are a sheet's, and the draft is that of its program, with no name unknown
+pub record Drafts (s ps : List ℕ) (ev bs : ℕ) (d : List ℕ) : Type 0 where
   pub sheet : Sheet
   pub read : readSheet s ≡ got sheet []
   pub nodes : ℕ
   pub draft : DraftOf ev bs nodes d
   pub own : draft .program ≡ programOf ps sheet
   pub names : known (draft .program) ≡ true
+
+-- accepted: the table can be written from the draft, and is compile's
+pub record Passes (s ps : List ℕ) (ev bs : ℕ) (d : List ℕ) : Type 0 where
+  pub drafts : Drafts s ps ev bs d
+  pub planned : Planned d ev bs
+  pub compiles : (t : List ℕ) → 34816 ≤ length t → compileOn s ps t ≡ compiled 0 (putWords t 0 (tableWords d ev bs))
+
+-- a circle: the draft shows one
+pub record CircleDraft (s ps : List ℕ) (ev bs : ℕ) (d : List ℕ) : Type 0 where
+  pub drafts : Drafts s ps ev bs d
   pub cycles : cyclicOn d ev bs ≡ true
   pub refused : (t : List ℕ) → 34816 ≤ length t → compileOn s ps t ≡ compiled 12 t
 
 -- refused by another number
 pub record Falls (s ps : List ℕ) (k : ℕ) : Type 0 where
+  pub some : k ≢ 0
   pub other : k ≢ 12
   pub refused : (t : List ℕ) → 34816 ≤ length t → compileOn s ps t ≡ compiled k t
 

@@ -4,7 +4,7 @@
 use Prim.Native.Nat.{ℕ}
 use mathlib.Core.Bool.{Bool, _&&_}
 use mathlib.Core.List.{List}
-use lib.ListN.{length}
+use lib.ListN.{length, replicate}
 use lib.Dec.{ltb}
 use Rattle.lib_base.specs.Basics.{pick}
 use Rattle.lib_word.specs.Word.{get}
@@ -49,3 +49,7 @@ compileOn s ps t =
     pick (ltb (length t) 34816) (shortTable, t)
     (pick (ltb 8192 (length s)) (longProgram, t)
     (judgeRead (readSheet s) ps t))
+
+-- compile's number for a sheet and the bytes lent for its parameters, with a full table
+unfoldable pub numberOn : List ℕ → List ℕ → ℕ
+numberOn s ps = compileOn s ps (replicate 34816 0) .0

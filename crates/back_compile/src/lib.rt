@@ -7,7 +7,7 @@ ghost use mathlib.Core.Path.{_≡_};
 ghost use Prim.Native.Nat.{_≤_};
 ghost use lib.ListN.{length, replicate};
 ghost use Rattle.front_draft.specs.Draft.{draftLength};
-ghost use Rattle.back_compile.specs.Verdict.{compiled, compileOn};
+ghost use Rattle.back_compile.specs.Verdict.{compiled, compileOn, numberOn};
 ghost use Rattle.back_compile.specs.Judged.{JudgedAs, answerOf, draftRefusal};
 use format_layout::table;
 use front_draft::layout;
@@ -73,6 +73,15 @@ pub fn judge_sheet(sheet: &[u8], params: &[u8], draft: &mut [u64]) -> Judgement
         return Judgement::Refused(refusals::OVERLONG);
     }
     Judgement::Accepted(events, behaviours)
+}
+
+// compile's number, as with a full table: the sheet judged, and no table made.
+pub fn number_at(sheet: &[u8], params: &[u8]) -> u32
+    ensures { λ r. ⌜ r ≡ numberOn (now (sheet .entry)) (now (params .entry)) ⌝ }
+{
+    let mut draft = [0u64; layout::LENGTH];
+    let judgement = judge_sheet(sheet, params, &mut draft);
+    number_of(judgement)
 }
 
 // 1; then as the sheet is judged: 3, the reading, 11, 20, 12, 13; then the table, from its first byte on. 0, or the

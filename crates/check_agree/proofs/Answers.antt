@@ -16,9 +16,8 @@ use Rattle.spec_language.specs.Accepted.{Accepted, SheetAccepted}
 use Rattle.spec_language.proofs.SheetLaws.{filling-accepted}
 use Rattle.spec_grammar.proofs.Programs.{reads-back}
 use Rattle.front_params.proofs.Fills.{get-small}
-use Rattle.back_compile.specs.Verdict.{Compiled, programOf, compileOn}
+use Rattle.back_compile.specs.Verdict.{Compiled, programOf, compileOn, numberOn}
 use Rattle.back_compile.proofs.AcceptedExactly.{accepted-exactly}
-use Rattle.check_circle.specs.Witness.{numberOn}
 use Rattle.check_agree.specs.Agree.{clashIn, clashRead, agreeOn}
 use Rattle.check_agree.specs.Claims.{AgreeAnswer, AgreeAnswers}
 use Rattle.check_agree.proofs.Decides.{zero-says, zero-is, named-is-true}

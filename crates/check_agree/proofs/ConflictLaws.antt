@@ -2,6 +2,7 @@
 use Prim.Native.Nat.{ℕ, _+_, _-_, _≤_, _<_}
 use mathlib.Core.Bool.{Bool, true, false, _&&_, _||_}
 use mathlib.Core.Path.{_≡_, refl, sym, ap, _∙_}
+use mathlib.Core.Logic.{_≢_}
 use mathlib.Core.List.{List, []}
 use native.Mathlib.Omega.{arith}
 use native.Mathlib.Nat.{sub-zero}
@@ -23,9 +24,9 @@ use Rattle.check_reads.specs.Sets.{writesOn, namedOn, WritesIn, NamedIn}
 use Rattle.check_reads.specs.Named.{namedBy}
 use Rattle.check_reads.proofs.FirstLaws.{first-same, first-none}
 use Rattle.check_reads.proofs.Agrees.{writes-are, named-are}
-use Rattle.back_compile.specs.Verdict.{programOf}
-use Rattle.check_circle.specs.Witness.{numberOn}
-use Rattle.check_judge.specs.Judging.{FineDraft}
+use Rattle.back_compile.specs.Verdict.{programOf, numberOn}
+use Rattle.back_compile.specs.Judged.{Passes}
+use Rattle.back_compile.proofs.Judging.{passes-number}
 use Rattle.check_agree.specs.Answer.{packedDifference}
 use Rattle.check_agree.specs.Conflict.{clash, leastIn, conflictAt, conflictWith, conflictFrom, conflictBy, conflictOn, member}
 use Rattle.check_agree.specs.Agree.{clashes, clashOf, clashFrom, clashIn, clashRead, agreeOn}
@@ -104,11 +105,11 @@ draft-clash {n = n} {d = d} c = rw (c .events-are, c .size-is) (drafted-clash (c
 
 -- ---- the answer
 
-pub agree-fine : (s ps : List ℕ) (ev bs : ℕ) (d : List ℕ) → FineDraft s ps ev bs d → conflictOn d ev bs ≡ agreeOn s ps
+pub agree-passed : (s ps : List ℕ) (ev bs : ℕ) (d : List ℕ) → Passes s ps ev bs d → conflictOn d ev bs ≡ agreeOn s ps
 unfolding agreeOn
-agree-fine s ps ev bs d f =
-    rw (f .accepted, f .read) (draft-clash (f .draft) ∙ ap clashIn (f .program-is))
+agree-passed s ps ev bs d f =
+    rw (passes-number s ps f, f .drafts .read) (draft-clash (f .drafts .draft) ∙ ap clashIn (f .drafts .own))
 
-pub agree-faulty : (s ps : List ℕ) (k : ℕ) → k ≡ numberOn s ps → (k ≡ 0 → ⊥) → k ≡ agreeOn s ps
+pub agree-refused : (s ps : List ℕ) (k : ℕ) → k ≡ numberOn s ps → k ≢ 0 → k ≡ agreeOn s ps
 unfolding agreeOn
-agree-faulty s ps k q h = rw (ne-eqb (numberOn s ps) 0 (λ z. h (q ∙ z))) q
+agree-refused s ps k q h = rw (ne-eqb (numberOn s ps) 0 (λ z. h (q ∙ z))) q

@@ -23,8 +23,7 @@ use Rattle.check_reads.specs.First.{firstFrom}
 use Rattle.check_reads.specs.Named.{namedBy}
 use Rattle.check_reads.proofs.FirstLaws.{Found, first-found, first-all, first-none}
 use Rattle.check_reads.proofs.Decides.{named-says, named-is}
-use Rattle.back_compile.specs.Verdict.{programOf, compileOn}
-use Rattle.check_circle.specs.Witness.{numberOn}
+use Rattle.back_compile.specs.Verdict.{programOf, compileOn, numberOn}
 use Rattle.check_agree.specs.Answer.{packedDifference}
 use Rattle.check_agree.specs.Agree.{clashes, clashOf, clashFrom, clashIn, clashRead, agreeOn}
 use Rattle.check_agree.specs.Claims.{Unequal, AllIndependent, SharedBehaviour, both-write, first-writes, second-writes, DifferenceNamed, AgreeAnswer, AgreeAnswers}

@@ -14,8 +14,7 @@ use Rattle.spec_language.specs.Sheet.{Sheet}
 use Rattle.spec_language.specs.Grammar.{encode}
 use Rattle.spec_language.specs.Accepted.{SheetAccepted}
 use Rattle.spec_language.specs.Dependence.{size, events, writes, Reads, Independent}
-use Rattle.back_compile.specs.Verdict.{programOf}
-use Rattle.check_circle.specs.Witness.{numberOn}
+use Rattle.back_compile.specs.Verdict.{programOf, numberOn}
 use Rattle.check_agree.specs.Answer.{packedDifference}
 use Rattle.check_agree.specs.Agree.{agreeOn}
 

@@ -10,7 +10,8 @@ ghost use Rattle.front_draft.specs.Draft.{draftLength};
 ghost use Rattle.check_faults.specs.Checks.{AllInside};
 ghost use Rattle.check_agree.specs.Conflict.{clash, leastIn, conflictWith, conflictFrom, conflictBy, conflictOn, member};
 ghost use Rattle.check_agree.specs.Agree.{agreeOn};
-use check_judge::Judgement;
+use back_compile::Judgement;
+use front_draft::layout;
 
 // The answer: this number, and the first event, the second and a behaviour, each in bits of its own.
 const PHONES_MAY_DIFFER: u64 = 29;
@@ -20,10 +21,8 @@ const FIRST: u64 = 256;
 const SECOND: u64 = 65536;
 
 const BEHAVIOUR: u64 = 16777216;
-// Where the draft has the priorities; its length, and that of a buffer of a word for each event.
+// Where the draft has the priorities; the length of a buffer of a word for each event.
 const PRIORITIES: usize = 4224;
-
-const DRAFT: usize = 4416;
 
 const EVENTS: usize = 32;
 
@@ -116,10 +115,10 @@ fn clash_in(d: &[u64], ev: usize, n: usize) -> u64
 pub fn agree_at(sheet: &[u8], params: &[u8]) -> u64
     ensures { λ r. ⌜ r ≡ agreeOn (now (sheet .entry)) (now (params .entry)) ⌝ }
 {
-    let mut draft = [0u64; DRAFT];
-    let a = check_judge::judge(sheet, params, &mut draft);
-    match a {
-        Judgement::Fine(ev, bs) => clash_in(&draft, ev, bs),
-        Judgement::Faulty(k) => k as u64,
-    }
+    let mut draft = [0u64; layout::LENGTH];
+    let judgement = back_compile::judge_sheet(sheet, params, &mut draft);
+    let Judgement::Accepted(events, behaviours) = judgement else {
+        return back_compile::number_of(judgement) as u64;
+    };
+    clash_in(&draft, events, behaviours)
 }

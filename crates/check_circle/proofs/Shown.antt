@@ -9,10 +9,10 @@ use Rattle.lib_base.specs.Basics.{All}
 use Rattle.spec_language.specs.Sheet.{Sheet}
 use Rattle.spec_language.specs.Grammar.{encode, SheetFits}
 use Rattle.spec_language.specs.Accepted.{Known}
-use Rattle.back_compile.specs.Verdict.{programOf}
+use Rattle.back_compile.specs.Verdict.{programOf, numberOn}
 use Rattle.back_compile.proofs.AcceptedExactly.{twelve}
 use Rattle.back_compile.specs.Statements.{Given}
-use Rattle.check_circle.specs.Witness.{numberOn, CircleListed, Witnessed}
+use Rattle.check_circle.specs.Witness.{CircleListed, Witnessed}
 
 pub shown : (s ps list : List ℕ) → All (λ b. b < 256) s → numberOn s ps ≡ 12 → {r : ℕ} {list′ : List ℕ} → Witnessed s ps list r list′
     → (x : Sheet) × (encode x ≡ s) × SheetFits x × Known (programOf ps x) × Given ps x × CircleListed (programOf ps x) list r list′

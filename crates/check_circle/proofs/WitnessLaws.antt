@@ -7,7 +7,7 @@ use mathlib.Core.Path.{_≡_, refl, sym, ap, _∙_, subst}
 use mathlib.Core.Logic.{_⊎_, ⊎-elim}
 use mathlib.Core.List.{List, [], _∷_, List·Nodup}
 use native.Mathlib.Omega.{arith}
-use lib.ListN.{length, replicate, length-replicate}
+use lib.ListN.{length}
 use denote.Enum.Declared.{tagOf}
 use Rattle.lib_base.specs.Basics.{All}
 use Rattle.spec_language.specs.Syntax.{Program}
@@ -30,12 +30,13 @@ use Rattle.check_distance.specs.Circle.{Chain, Circle}
 use Rattle.check_distance.proofs.Shorter.{shorter, distinct-few}
 use Rattle.check_distance.proofs.Walks.{circle-same}
 use Rattle.check_shortest.specs.Search.{Wide, ShortestFound}
-use Rattle.back_compile.specs.Verdict.{Compiled, compiled, programOf, compileOn}
+use Rattle.back_compile.specs.Verdict.{programOf, numberOn}
 use Rattle.back_compile.specs.Judged.{CircleDraft, JudgedAs, answerOf}
 use Rattle.back_compile.specs.declared.Judgement.{Judgement}
 use Rattle.back_compile.specs.declared.Judgement.the-variants.{Accepted, Circular, Refused}
 use Rattle.back_compile.proofs.Judgement.{the-type}
-use Rattle.check_circle.specs.Witness.{numberOn, listAnswer, CircleListed, Witnessed}
+use Rattle.back_compile.proofs.Judging.{turns-number, judged-number}
+use Rattle.check_circle.specs.Witness.{listAnswer, CircleListed, Witnessed}
 
 -- ---- circles of one dependence and of another
 
@@ -88,27 +89,11 @@ listed-on {ev} {bs} {n} {d} c k f = listed-in (c .program) d n (c .drafted) (c .
 
 -- ---- the judging told
 
-pub number-is : (s ps t : List ℕ) {r : ℕ} {t′ : List ℕ} → t ≡ replicate 34816 0 → compiled r t′ ≡ compileOn s ps t → r ≡ numberOn s ps
-unfolding numberOn
-number-is s ps t q e = ap (λ (x : Compiled). x .0) (rw q at e)
-
-room : 34816 ≤ length {A = ℕ} (replicate 34816 0)
-room = omega (arith, length-replicate {A = ℕ} 34816 0)
-
-told : (s ps : List ℕ) {r : ℕ} {t′ : List ℕ} → compileOn s ps (replicate 34816 0) ≡ compiled r t′ → r ≡ numberOn s ps
-told s ps e = number-is s ps (replicate 34816 0) refl (sym e)
-
--- the judgement's number is compile's
-pub judged-number : (s ps d : List ℕ) (a : Judgement) → JudgedAs s ps d a → answerOf a ≡ numberOn s ps
-judged-number s ps d (Accepted ev bs) h = told s ps (h .finding .compiles (replicate 34816 0) room)
-judged-number s ps d (Circular ev bs) h = told s ps (h .finding .refused (replicate 34816 0) room)
-judged-number s ps d (Refused k) h = told s ps (h .finding .refused (replicate 34816 0) room)
-
 -- no circle, by the judgement's tag
 pub not-circular : (s ps d list : List ℕ) (a : Judgement) → JudgedAs s ps d a → (tagOf the-type a ≡ 0) ⊎ (tagOf the-type a ≡ 2) → {r : ℕ} → r ≡ answerOf a
     → Witnessed s ps list r list
 not-circular s ps d list a h n {r} q =
-    let e : r ≡ numberOn s ps = q ∙ judged-number s ps d a h in
+    let e : r ≡ numberOn s ps = judged-number s ps d a h q in
     record {
       other = λ m. ap (λ (x : ℕ). listAnswer x list) e;
       circular = λ m. absurd (no-twelve a h n (sym q ∙ e ∙ m));
@@ -121,24 +106,24 @@ not-circular s ps d list a h n {r} q =
 
 module _ (s ps : List ℕ) {ev bs : ℕ} {d : List ℕ} (w : CircleDraft s ps ev bs d) where
   pub turns-draft : (length d ≡ draftLength) × (ev ≤ 32) × (bs ≤ 64) × AllInside d ev bs
-  turns-draft = let c = w .draft in (draft-long c, draft-events c, draft-behaviours c, draft-inside c)
+  turns-draft = let c = w .drafts .draft in (draft-long c, draft-events c, draft-behaviours c, draft-inside c)
 
   -- the matrices are whole, and one of them has a circle
   pub turns-wide : Wide d ev bs × (cyclicOn d ev bs ≡ true)
   turns-wide =
-      let c = w .draft in
-      (λ e b. rw (c .size-is, matrix-is (c .program) d (w .nodes) e (c .fits) (c .drafted) (omega (arith, draft-events c))) (length-matrixOf (c .program) e), w .cycles)
+      let c = w .drafts .draft in
+      (λ e b. rw (c .size-is, matrix-is (c .program) d (w .drafts .nodes) e (c .fits) (c .drafted) (omega (arith, draft-events c))) (length-matrixOf (c .program) e), w .cycles)
 
   -- what is found is the sheet's
   pub found-listed : {list list′ : List ℕ} {r : ℕ} → ShortestFound d ev bs list r list′ → Witnessed s ps list r list′
   found-listed {list} {list′} {r} f =
-      let twelve : 12 ≡ numberOn s ps = told s ps (w .refused (replicate 34816 0) room) in
+      let o = w .drafts in
       record {
-        other = λ m. absurd (m (sym twelve));
+        other = λ m. absurd (m (turns-number s ps w));
         circular = λ m. record {
           each-sheet = λ x e fits.
-              let read : got x [] ≡ got (w .sheet) [] = sym (rw e at (reads-back x fits)) ∙ w .read in
-              let same : w .sheet ≡ x = cc in
-              subst (λ (p : Program). CircleListed p list r list′) (w .own ∙ ap (programOf ps) same) (listed-on (w .draft) (w .names) f);
+              let read : got x [] ≡ got (o .sheet) [] = sym (rw e at (reads-back x fits)) ∙ o .read in
+              let same : o .sheet ≡ x = cc in
+              subst (λ (p : Program). CircleListed p list r list′) (o .own ∙ ap (programOf ps) same) (listed-on (o .draft) (o .names) f);
         };
       }

@@ -6,18 +6,14 @@ use Prim.Native.Nat.{ℕ, _+_, _*_, _≤_, _<_}
 use mathlib.Core.Path.{_≡_}
 use mathlib.Core.Logic.{_≢_}
 use mathlib.Core.List.{List, _++_, List·Nodup}
-use lib.ListN.{length, drop, replicate}
+use lib.ListN.{length, drop}
 use Rattle.spec_language.specs.Syntax.{Program}
 use Rattle.spec_language.specs.Sheet.{Sheet}
 use Rattle.spec_language.specs.Dependence.{noEvent, dependsOn}
 use Rattle.spec_language.specs.Grammar.{encode, SheetFits}
 use Rattle.check_distance.specs.Circle.{Circle}
 use Rattle.check_shortest.specs.Search.{eventNumber}
-use Rattle.back_compile.specs.Verdict.{programOf, compileOn}
-
--- compile's number for a sheet and the bytes lent for its parameters, with a full table
-unfoldable pub numberOn : List ℕ → List ℕ → ℕ
-numberOn s ps = compileOn s ps (replicate 34816 0) .0
+use Rattle.back_compile.specs.Verdict.{programOf, numberOn}
 
 -- an answer, and the list's bytes after the call
 abbrev pub ListAnswer : Type 0

@@ -2,6 +2,7 @@
 use Prim.Native.Nat.{ℕ, _+_, _-_, _/_, _%_, _^_, _≤_, _<_}
 use mathlib.Core.Bool.{Bool, true, false, not, _&&_, _||_, or-false, and-false}
 use mathlib.Core.Path.{_≡_, refl, sym, ap, _∙_}
+use mathlib.Core.Logic.{_≢_}
 use mathlib.Core.List.{List, []}
 use native.Mathlib.Omega.{arith}
 use lib.Dec.{eqb, ltb}
@@ -23,8 +24,9 @@ use Rattle.check_reads.specs.Sets.{namesOn}
 use Rattle.check_reads.specs.Named.{inResponse}
 use Rattle.check_reads.proofs.FirstLaws.{first-same, first-none}
 use Rattle.check_reads.proofs.Agrees.{names-are}
-use Rattle.check_circle.specs.Witness.{numberOn}
-use Rattle.check_judge.specs.Judging.{FineDraft}
+use Rattle.back_compile.specs.Verdict.{numberOn}
+use Rattle.back_compile.specs.Judged.{Passes}
+use Rattle.back_compile.proofs.Judging.{passes-number}
 use Rattle.check_leak.specs.Leaking.{packedLeak, leakAt, leakFrom, leakBy, namesAny, hiddenOn, leakingOn, leakFor}
 use Rattle.check_leak.specs.Leak.{behaviourNames, hiddenIn, leakIn, leakOn}
 
@@ -98,11 +100,11 @@ draft-leak {n = n} {d = d} c player = rw (c .events-are, c .size-is) (drafted-le
 
 -- ---- the answer
 
-pub leak-fine : (s ps : List ℕ) (ev bs : ℕ) (d : List ℕ) (player : ℕ) → FineDraft s ps ev bs d → leakFor d ev bs player ≡ leakOn s ps player
+pub leak-passed : (s ps : List ℕ) (ev bs : ℕ) (d : List ℕ) (player : ℕ) → Passes s ps ev bs d → leakFor d ev bs player ≡ leakOn s ps player
 unfolding leakFor leakOn
-leak-fine s ps ev bs d player f =
-    rw (f .accepted, f .read, draft-leak (f .draft) player, f .program-is)
+leak-passed s ps ev bs d player f =
+    rw (passes-number s ps f, f .drafts .read, draft-leak (f .drafts .draft) player, f .drafts .own)
 
-pub leak-faulty : (s ps : List ℕ) (k player : ℕ) → k ≡ numberOn s ps → (k ≡ 0 → ⊥) → k ≡ leakOn s ps player
+pub leak-refused : (s ps : List ℕ) (k player : ℕ) → k ≡ numberOn s ps → k ≢ 0 → k ≡ leakOn s ps player
 unfolding leakOn
-leak-faulty s ps k player q h = rw (ne-eqb (numberOn s ps) 0 (λ z. h (q ∙ z))) q
+leak-refused s ps k player q h = rw (ne-eqb (numberOn s ps) 0 (λ z. h (q ∙ z))) q

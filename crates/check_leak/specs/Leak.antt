@@ -14,8 +14,7 @@ use Rattle.spec_language.specs.Reading.{Got, bad, got, readSheet}
 use Rattle.spec_language.specs.Refusals.{noPlayer}
 use Rattle.spec_language.specs.Rights.{maySee}
 use Rattle.spec_language.specs.Dependence.{size, events, response}
-use Rattle.back_compile.specs.Verdict.{programOf}
-use Rattle.check_circle.specs.Witness.{numberOn}
+use Rattle.back_compile.specs.Verdict.{programOf, numberOn}
 use Rattle.check_graph.specs.Any.{anyBelow}
 use Rattle.check_reads.specs.Named.{inResponse}
 use Rattle.check_leak.specs.Leaking.{leakBy}

@@ -13,7 +13,8 @@ ghost use Rattle.check_faults.specs.Checks.{AllInside};
 ghost use Rattle.check_reads.specs.First.{firstFrom};
 ghost use Rattle.check_leak.specs.Leaking.{packedLeak, leakAt, leakFrom, leakBy, namesAny, hiddenOn, leakingOn, leakFor};
 ghost use Rattle.check_leak.specs.Leak.{leakOn};
-use check_judge::Judgement;
+use back_compile::Judgement;
+use front_draft::layout;
 
 // The answer: this number, and the behaviour that is seen and the hidden one, each in bits of its own.
 const MAY_LEAK: u64 = 30;
@@ -25,10 +26,8 @@ const HIDDEN: u64 = 65536;
 const NO_PLAYER: u64 = 24;
 
 const LAST_PLAYER: u32 = 7;
-// Where the draft has who may see each behaviour; its length.
+// Where the draft has who may see each behaviour.
 const VIEWERS: usize = 4256;
-
-const DRAFT: usize = 4416;
 
 // The names in behaviour i, its expression or its handlers for ev events.
 fn names_of(d: &[u64], ev: usize, i: usize, n: usize) -> u64
@@ -142,10 +141,10 @@ fn leak_of(d: &[u64], ev: usize, n: usize, player: u32) -> u64
 pub fn leak_at(sheet: &[u8], params: &[u8], player: u32) -> u64
     ensures { λ r. ⌜ r ≡ leakOn (now (sheet .entry)) (now (params .entry)) player ⌝ }
 {
-    let mut draft = [0u64; DRAFT];
-    let a = check_judge::judge(sheet, params, &mut draft);
-    match a {
-        Judgement::Fine(ev, bs) => leak_of(&draft, ev, bs, player),
-        Judgement::Faulty(k) => k as u64,
-    }
+    let mut draft = [0u64; layout::LENGTH];
+    let judgement = back_compile::judge_sheet(sheet, params, &mut draft);
+    let Judgement::Accepted(events, behaviours) = judgement else {
+        return back_compile::number_of(judgement) as u64;
+    };
+    leak_of(&draft, events, behaviours, player)
 }

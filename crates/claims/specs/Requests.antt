@@ -25,11 +25,11 @@ use Rattle.text_formula.specs.Grammar.{Formula}
 use Rattle.text_formula.specs.Answer.{answered, fieldAnswer, formulaOn}
 use Rattle.text_formula.specs.Statements.{BufferKept, Fields}
 use Rattle.spec_language.specs.Refusals.{noFormula}
-use Rattle.back_compile.specs.Verdict.{compiled, programOf, compileOn}
+use Rattle.back_compile.specs.Verdict.{compiled, programOf, compileOn, numberOn}
 use Rattle.back_compile.specs.Statements.{Given, Fine, AsWritten, AsRows}
 use Rattle.back_figure3.specs.Figure3.{Assign, FirstPhaseRule, SecondPhaseRule, everyBehaviour, PassivesAcyclic, HandlerCode}
 use Rattle.back_figure3.specs.Stand.{StepsStand}
-use Rattle.check_circle.specs.Witness.{numberOn, CircleListed, Witnessed}
+use Rattle.check_circle.specs.Witness.{CircleListed, Witnessed}
 use Rattle.link_pooled.specs.Pooled.{pooled}
 use Rattle.link_join.specs.Join.{joinOn}
 use Rattle.link_join.specs.Statements.{limits, JoinAnswer}

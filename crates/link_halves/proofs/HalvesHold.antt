@@ -26,8 +26,7 @@ use Rattle.spec_model.specs.Model.{Call, call}
 use Rattle.spec_model.specs.Claims.{committedIn, eventsOf}
 use Rattle.format_image.specs.Image.{tableOf}
 use Rattle.check_faults.proofs.CycleDecides.{known-decides, cyclic-decides}
-use Rattle.check_circle.specs.Witness.{numberOn}
-use Rattle.back_compile.specs.Verdict.{Compiled, compiled, judge, lacksParameters, judgeRead, programOf, compileOn}
+use Rattle.back_compile.specs.Verdict.{Compiled, compiled, judge, lacksParameters, judgeRead, programOf, compileOn, numberOn}
 use Rattle.back_compile.proofs.JudgeLaws.{judge-passes, compile-opens}
 use Rattle.link_pooled.specs.Pooled.{pooled, sameRanks}
 use Rattle.link_pooled.specs.Together.{together, declared}

@@ -19,7 +19,7 @@ use Rattle.link_events.specs.Written.{BytesWritten}
 use Rattle.link_bytes.specs.Splice.{spliced}
 use Rattle.link_bytes.proofs.Spliced.{spliced-are, ranks-agree}
 use Rattle.back_compile.proofs.AcceptedExactly.{accepted-exactly}
-use Rattle.check_circle.specs.Witness.{numberOn}
+use Rattle.back_compile.specs.Verdict.{numberOn}
 use Rattle.link_join.specs.Join.{Joined, joined, deliveredIn, resultOn, poolOn, poolRead, joinOn}
 use Rattle.link_join.specs.Statements.{AcceptedSheet}
 

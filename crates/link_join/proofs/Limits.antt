@@ -24,10 +24,9 @@ use Rattle.link_pooled.specs.Pooled.{count, pooled}
 use Rattle.link_pooled.proofs.PooledAccepted.{Nearly, pooled-nearly}
 use Rattle.check_faults.specs.Faults.{known, cyclic}
 use Rattle.check_faults.proofs.CycleDecides.{known-decides, cyclic-decides}
-use Rattle.back_compile.specs.Verdict.{Compiled, judge, lacksParameters, programOf, judgeRead}
+use Rattle.back_compile.specs.Verdict.{Compiled, judge, lacksParameters, programOf, judgeRead, numberOn}
 use Rattle.back_compile.proofs.JudgeLaws.{judge-long, judge-passes, compile-opens, compile-long}
 use Rattle.link_pooled.proofs.Filled.{size-fill}
-use Rattle.check_circle.specs.Witness.{numberOn}
 use Rattle.link_join.specs.Statements.{limits}
 
 -- ---- over 64 behaviours

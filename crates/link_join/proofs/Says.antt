@@ -25,8 +25,7 @@ use Rattle.link_pooled.proofs.Halves.{halves, rules-halves}
 use Rattle.link_pooled.proofs.Filled.{fill-pooled}
 use Rattle.link_pooled.proofs.PooledAccepted.{valid-filling, pooled-valid, pooled-accepted}
 use Rattle.front_params.proofs.Fills.{get-small}
-use Rattle.back_compile.specs.Verdict.{programOf}
-use Rattle.check_circle.specs.Witness.{numberOn}
+use Rattle.back_compile.specs.Verdict.{programOf, numberOn}
 use Rattle.link_join.specs.Join.{deliveredIn, resultOn, poolOn, joinOn}
 use Rattle.link_join.proofs.JoinLaws.{taken}
 use Rattle.link_join.specs.Statements.{AcceptedSheet, limits, JoinAnswer, first-refused, second-refused, unlike, long, crowded, overlong, short, done}

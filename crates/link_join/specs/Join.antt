@@ -14,7 +14,7 @@ use Rattle.spec_language.specs.Sheet.{Sheet}
 use Rattle.spec_language.specs.Grammar.{encode}
 use Rattle.spec_language.specs.Reading.{Got, bad, got, readSheet}
 use Rattle.link_pooled.specs.Pooled.{pooled, sameRanks}
-use Rattle.check_circle.specs.Witness.{numberOn}
+use Rattle.back_compile.specs.Verdict.{numberOn}
 
 -- an answer, and the buffer's bytes after the call
 abbrev pub Joined : Type 0

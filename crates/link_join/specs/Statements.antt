@@ -12,10 +12,9 @@ use lib.Dec.{ltb}
 use Rattle.lib_base.specs.Basics.{pick}
 use Rattle.spec_language.specs.Code.{allInstructions}
 use Rattle.link_pooled.specs.Pooled.{count, pooled, sameRanks}
-use Rattle.back_compile.specs.Verdict.{programOf}
+use Rattle.back_compile.specs.Verdict.{programOf, numberOn}
 use mathlib.Core.Bool.{true, false}
 use mathlib.Core.Logic.{_≢_}
-use Rattle.check_circle.specs.Witness.{numberOn}
 use Rattle.link_join.specs.Join.{Joined, joined}
 
 -- a sheet that compile takes

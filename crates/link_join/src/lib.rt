@@ -1,13 +1,12 @@
 // One sheet from two accepted ones (02, M-111): compile's number for each, 26, compile's number for the joined one, 27,
 // or 2 ^ 32 and its length. Time: that of compile for each of the three, and one pass over the bytes of both.
-use format_layout::table;
 use spec_language::limits;
 use spec_language::refusals;
 ghost use mathlib.Core.Path.{_≡_};
 ghost use Prim.Native.Nat.{_≤_};
 ghost use lib.ListN.{length};
 ghost use Rattle.spec_language.specs.Reading.{readSheet};
-ghost use Rattle.check_circle.specs.Witness.{numberOn};
+ghost use Rattle.back_compile.specs.Verdict.{numberOn};
 ghost use Rattle.link_join.specs.Join.{joined, deliveredIn, resultOn, poolRead, joinOn};
 
 // The most bytes of a joined sheet: those of both, and five for each event.
@@ -19,14 +18,6 @@ const ACCEPTED: u64 = 4294967296;
 const UNLIKE_RANKS: u64 = refusals::UNLIKE_RANKS as u64;
 
 const SHORT_JOIN: u64 = refusals::SHORT_JOIN as u64;
-
-// compile's number, as with a full table.
-fn number(sheet: &[u8], params: &[u8]) -> u32
-    ensures { λ r. ⌜ r ≡ numberOn (now (sheet .entry)) (now (params .entry)) ⌝ }
-{
-    let mut table = [0u8; table::BYTES];
-    back_compile::compile_at(sheet, params, &mut table)
-}
 
 // The bytes at the start of the buffer, where it has room for them.
 fn deliver(v: &[u8], buffer: &mut [u8]) -> u64
@@ -45,7 +36,7 @@ fn result_at(v: &[u8], params: &[u8], buffer: &mut [u8]) -> u64
     requires { ⌜ length (now v) ≤ 16544 ⌝ }
     ensures { λ r. ⌜ joined r (now (buffer .exit)) ≡ resultOn (now (v .entry)) (now (params .entry)) (now (buffer .entry)) ⌝ }
 {
-    let n = number(v, params);
+    let n = back_compile::number_at(v, params);
     if n != 0 {
         return n as u64;
     }
@@ -69,11 +60,11 @@ fn pool_at(first: &[u8], second: &[u8], params: &[u8], buffer: &mut [u8]) -> u64
 pub fn join_at(first: &[u8], second: &[u8], params: &[u8], buffer: &mut [u8]) -> u64
     ensures { λ r. ⌜ joined r (now (buffer .exit)) ≡ joinOn (now (first .entry)) (now (second .entry)) (now (params .entry)) (now (buffer .entry)) ⌝ }
 {
-    let x = number(first, params);
+    let x = back_compile::number_at(first, params);
     if x != 0 {
         return x as u64;
     }
-    let y = number(second, params);
+    let y = back_compile::number_at(second, params);
     if y != 0 {
         return y as u64;
     }

@@ -18,7 +18,7 @@ use Rattle.spec_language.specs.Grammar.{encode}
 use Rattle.spec_language.specs.Accepted.{Accepted, SheetAccepted}
 use Rattle.spec_language.specs.Refusals.{noPlayer}
 use Rattle.spec_grammar.proofs.Programs.{reads-back}
-use Rattle.back_compile.specs.Verdict.{Compiled, programOf}
+use Rattle.back_compile.specs.Verdict.{Compiled, programOf, numberOn}
 use Rattle.back_compile.proofs.AcceptedExactly.{accepted-exactly}
 use Rattle.refine_lists.proofs.Sheets.{program-accepted}
 use Rattle.spec_model.specs.Model.{State, turn}
@@ -26,7 +26,6 @@ use Rattle.refine_lists.specs.Lists.{SheetTurn, calling, mending, Compiles, All
 use Rattle.secrecy_model.specs.Sight.{Sealed, Pair, both, each, inOne, inOther, ConditionAll}
 use Rattle.secrecy_engine.specs.Heard.{TwoSheets}
 use Rattle.secrecy_engine.proofs.HeardHolds.{rule-on}
-use Rattle.check_circle.specs.Witness.{numberOn}
 use Rattle.check_leak.specs.Leak.{leakIn, leakRead, leakOn}
 use Rattle.check_leak.proofs.Decides.{zero-says, zero-is, named-is-true}
 use Rattle.secrecy_leak.specs.Leakless.{LeakAnswer, LeakAnswers, SheetsAlike, RuleHolds, SealedToo, AlikeAll, RuleWithChanges, WithNoCondition}

@@ -18,10 +18,9 @@ use Rattle.spec_language.specs.Refusals.{noPlayer}
 use Rattle.spec_model.specs.Model.{Call, State, change, turn, begun}
 use Rattle.spec_model.specs.Claims.{inForce}
 use Rattle.secrecy_model.specs.Sight.{Sealed, AlikeBut, Pair, both, each, inOne, inOther, SameHidden, EitherMakes}
-use Rattle.back_compile.specs.Verdict.{programOf, compileOn}
+use Rattle.back_compile.specs.Verdict.{programOf, compileOn, numberOn}
 use Rattle.refine_lists.specs.Lists.{SheetTurn, calling, mending, Compiles, AllMean, freshRoundOn}
 use Rattle.secrecy_engine.specs.Heard.{HeardAlike}
-use Rattle.check_circle.specs.Witness.{numberOn}
 use Rattle.check_leak.specs.Leak.{leakOn}
 use Rattle.check_leak.specs.Claims.{LeakNamed}
 

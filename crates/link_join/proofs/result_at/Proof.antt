@@ -4,8 +4,8 @@ use Rattle.link_join.proofs.JoinLaws.{not-taken, is-taken}
 use Rattle.link_join.proofs.result_at.Statement.{statement}
 use Rattle.link_join.proofs.result_at.Tie as tie
 
-number-requires : tie.Need-number-requires
-number-requires c κs = search needs
+number-at-requires : tie.Need-number-at-requires
+number-at-requires c κs = search needs
 
 cast-result : tie.Need-cast-result
 cast-result c = search needs
@@ -14,7 +14,7 @@ returns : tie.Need-returns
 returns c =
     let at-entry = c .before .before .before .before .before in
     not-taken (at-entry .args .v .now) (at-entry .args .params .now) (at-entry .args .buffer .now) _
-    (c .before .number .ensures) (c .if1 .taken)
+    (c .before .number-at .ensures) (c .if1 .taken)
 
 deliver-requires : tie.Need-deliver-requires
 deliver-requires c κs = search needs
@@ -29,9 +29,9 @@ returns-2 c =
     let at-number = at-if1 .before in
     let at-entry = at-number .before .before .before .before in
     is-taken (at-entry .args .v .now) (at-entry .args .params .now) (at-entry .args .buffer .now) _
-    (at-number .number .ensures) (at-if1 .if1 .left) _ (at-deliver .deliver .ensures)
+    (at-number .number-at .ensures) (at-if1 .if1 .left) _ (at-deliver .deliver .ensures)
 
 pub result-at-spec : {M : Type 1} → statement M
 result-at-spec =
     tie.close
-    (tie.spec number-requires cast-result returns deliver-requires same-length returns-2)
+    (tie.spec number-at-requires cast-result returns deliver-requires same-length returns-2)
