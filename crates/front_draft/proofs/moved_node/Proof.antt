@@ -11,18 +11,9 @@ pub moved-node-spec : {M : Type 1} → statement M
 unfolding moved
 moved-node-spec =
     tie.close
-    (tie.spec
-    (λ c. search needs)
-    (λ c. search needs)
-    (λ c. search needs)
-    (λ c. search needs)
-    (λ c. search needs)
-    (λ c. search needs)
+    (tie.spec (search needs) (search needs) (search needs) (search needs) (search needs) (search needs)
     (λ c. omega (arith, c .shared-slice-known2 .given (4352 + c .before .before .before .before .args .i)))
-    (λ c. search needs)
-    (λ c. search needs)
-    (λ c. search needs)
-    (λ c. search needs)
+    (search needs) (search needs) (search needs) (search needs)
     (λ c. search code depth 12)
     (λ c. search code depth 12)
     (λ c. search code depth 12)

@@ -28,22 +28,13 @@ pub copy-entries-spec : {M : Type 1} → statement M
 unfolding entriesCopied
 copy-entries-spec =
     tie.close
-    (tie.spec
-    Inv-loop
-    μ-loop
+    (tie.spec Inv-loop μ-loop
     (λ c. record { same = refl; within = omega arith; long = refl })
-    (λ c. omega arith)
-    (λ c. omega arith)
-    (λ c. omega arith)
-    (λ c. omega arith)
+    (omega arith) (omega arith) (omega arith) (omega arith)
     (λ c. omega (arith, c .before .before .loop .inv .long))
-    (λ c. omega arith)
-    (λ c. omega arith)
-    (λ c. omega arith)
-    (λ c. omega arith)
+    (omega arith) (omega arith) (omega arith) (omega arith)
     (λ c. omega (arith, c .before .before .loop .inv .long))
-    (λ c. omega arith)
-    (λ c. omega arith)
+    (omega arith) (omega arith)
     (λ c. turn (c .before .before .loop .inv) (omega arith))
     (λ c. c .before .loop .inv .long)
     (λ c. let e : c .before .loop .e ≡ 32 = omega arith in rw e at (c .before .loop .inv .same)))

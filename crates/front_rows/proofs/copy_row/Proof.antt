@@ -34,27 +34,20 @@ Inv-loop draft₀ i count n₀ draft n = Turn draft₀ i count draft n
 abbrev μ-loop : tie.MeasureT-loop
 μ-loop draft₀ i count n₀ draft n = count - n
 
+loop-again : tie.Need-loop-again Inv-loop μ-loop
+loop-again c =
+    turn (c .before .before .before .before .before .loop .inv) (omega arith)
+    (c .before .before .copy-cell .ensures) (c .before .before .copy-cell .kept .0)
+
 pub copy-row-spec : {M : Type 1} → statement M
 unfolding rowCopied
 copy-row-spec =
     tie.close
-    (tie.spec
-    Inv-loop
-    μ-loop
-    (λ c. omega arith)
-    (λ c. omega arith)
-    (λ c. omega arith)
-    (λ c. omega arith)
+    (tie.spec Inv-loop μ-loop (omega arith) (omega arith) (omega arith) (omega arith)
     (λ c. begin (rw length-set (c .before .pre .0)))
     (λ c. omega (arith, c .loop .inv .within))
-    (λ c. omega arith)
-    (λ c. omega arith)
-    (λ c. omega arith)
-    (λ c. omega arith)
-    (λ c. omega arith)
+    (omega arith) (omega arith) (omega arith) (omega arith) (omega arith)
     (λ c κs. omega (arith, c .before .before .loop .inv .long, c .before .before .loop .inv .full))
-    (λ c. omega arith)
-    (λ c. omega arith)
-    (λ c. turn (c .before .before .before .before .before .loop .inv) (omega arith) (c .before .before .copy-cell .ensures) (c .before .before .copy-cell .kept .0))
+    (omega arith) (omega arith) loop-again
     (λ c. omega (arith, c .before .loop .inv .long, c .before .loop .inv .full, c .before .before .before .pre .0))
     (λ c. end (c .before .loop .inv) (c .loop-test .left)))
