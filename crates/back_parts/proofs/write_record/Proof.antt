@@ -6,25 +6,23 @@ use Rattle.back_parts.proofs.PartLaws.{wrote-four}
 use Rattle.back_parts.proofs.write_record.Statement.{statement}
 use Rattle.back_parts.proofs.write_record.Tie as tie
 
+cast-put-word-4 : tie.Need-cast-put-word-4
+cast-put-word-4 c =
+    let at-put-word-arg2 = c .before .before .before .before .before .before .before .before .before in
+    let at-entry = at-put-word-arg2 .before .before .before .before .before .before .before .before in
+    omega (arith, members-fit _ _ _ _ (c .count-members .ensures) (at-entry .pre .0 .2))
+
+returns : tie.Need-returns
+returns c =
+    let at-put-word3 = c .before .before .before .before .before .before .before in
+    let at-put-word = at-put-word3 .before .before .before .before .before .before .before .before in
+    rw (← c .before .before .before .count-members .ensures) (wrote-four (at-put-word .put-word .ensures)
+    (at-put-word3 .before .before .before .before .put-word2 .ensures) (at-put-word3 .put-word3 .ensures)
+    (c .before .before .put-word4 .ensures))
+
 pub write-record-spec : {M : Type 1} → statement M
 write-record-spec =
     tie.close
-    (tie.spec
-    (λ c. search needs)
-    (λ c. search needs)
-    (λ c. search needs)
-    (λ c. search needs)
-    (λ c κs. search needs)
-    (λ c. search needs)
-    (λ c. search needs)
-    (λ c κs. search needs)
-    (λ c. search needs)
-    (λ c. search needs)
-    (λ c κs. search needs)
-    (λ c. search needs)
-    (λ c κs. search needs)
-    (λ c. omega (arith, members-fit _ _ _ _ (c .count-members .ensures) (c .before .before .before .before .before .before .before .before .before .before .before .before .before .before .before .before .before .pre .0 .2)))
-    (λ c κs. search needs)
-    (λ c. search needs)
-    (λ c. search needs)
-    (λ c. rw (← c .before .before .before .count-members .ensures) (wrote-four (c .before .before .before .before .before .before .before .before .before .before .before .before .before .before .before .put-word .ensures) (c .before .before .before .before .before .before .before .before .before .before .before .put-word2 .ensures) (c .before .before .before .before .before .before .before .put-word3 .ensures) (c .before .before .put-word4 .ensures))))
+    (tie.spec (search needs) (search needs) (search needs) (search needs) (search needs) (search needs)
+    (search needs) (search needs) (search needs) (search needs) (search needs) (search needs) (search needs)
+    cast-put-word-4 (search needs) (search needs) (search needs) returns)

@@ -11,36 +11,76 @@ use borrow.Author.Needs.{needs}
 use Rattle.back_passives.proofs.write_passives.Statement.{statement}
 use Rattle.back_passives.proofs.write_passives.Tie as tie
 
-started : (d : List ℕ) (ev bs : ℕ) {x a m n : ℕ} → a ≡ countEvent d 0 bs → m ≡ countMembers d 0 bs → n ≡ countAgain d bs → x ≡ againStart ev a m n
+started : (d : List ℕ) (ev bs : ℕ) {x a m n : ℕ} → a ≡ countEvent d 0 bs → m ≡ countMembers d 0 bs
+    → n ≡ countAgain d bs → x ≡ againStart ev a m n
     → x ≡ againStart ev (countEvent d 0 bs) (countMembers d 0 bs) (countAgain d bs)
 started d ev bs e f g h = rw (← e, ← f, ← g) h
+
+-- where the instructions that work the passives out are counted
+module _ (c : tie.After-count-again) where
+  abbrev kinds-at : tie.After-write-kinds
+  kinds-at = c .before .before .before .before .before .before .before
+
+  abbrev entry : tie.Start
+  entry = kinds-at .before .before .before .before
+
+write-zeros-requires : tie.Need-write-zeros-requires
+write-zeros-requires c κs =
+    let at-entry = c .before .before .before .before .before .before .before in
+    let s = at-entry .pre .0 in
+    omega (
+      arith,
+      s .few,
+      c .before .before .before .write-kinds .ensures .next,
+      length-kinds (at-entry .args .d .now) (at-entry .args .bs),
+    )
+
+start-again-requires : tie.Need-start-again-requires
+start-again-requires c κs =
+    let counted = c .before .before in
+    let b = entry counted in
+    let m = members-fit _ _ _ _ (c .before .count-members .ensures) (b .pre .0 .few) in
+    omega (arith, counted .count-again .ensures, count-again-small (b .args .d .now) (b .args .bs) (b .pre .0))
+
+cast-put-word : tie.Need-cast-put-word
+cast-put-word c =
+    let members = c .before .before .before in
+    let b = entry (members .before) in
+    omega (
+      arith,
+      c .before .start-again .ensures,
+      c .before .before .count-event .ensures,
+      count-event-small (b .args .d .now) (b .args .bs) (b .pre .0),
+      start-small (b .args .ev) (c .before .before .count-event .result) (members .count-members .result)
+          (members .before .count-again .result),
+    )
+
+cast-put-word-2 : tie.Need-cast-put-word-2
+cast-put-word-2 c =
+    let counted = c .before .before .before .before .before .before .before .before in
+    let b = entry counted in
+    omega (arith, counted .count-again .ensures, count-again-small (b .args .d .now) (b .args .bs) (b .pre .0))
+
+returns : tie.Need-returns
+returns c =
+    let length = c .before .before .before .before .before .before in
+    let begun = length .before .before .before .before .before .before in
+    let counted = begun .before .before .before in
+    passive-words-wrote _ _ _ (entry counted .pre .0 .few) (kinds-at counted .write-kinds .ensures)
+    (counted .before .before .before .write-zeros .ensures)
+    (started _ _ _ (begun .before .count-event .ensures) (begun .before .before .count-members .ensures)
+    (counted .count-again .ensures) (begun .start-again .ensures))
+    (counted .count-again .ensures) (length .before .before .before .before .put-word .ensures)
+    (length .put-word2 .ensures) (c .before .before .write-zeros2 .ensures)
 
 pub write-passives-spec : {M : Type 1} → statement M
 write-passives-spec =
     tie.close
     (tie.spec
     (λ c κs. let s = c .before .before .before .pre .0 in (s, kinds-room _ _ (omega (arith, s .few)) (omega arith)))
-    (λ c κs.
-    let s = c .before .before .before .before .before .before .before .pre .0 in
-    omega (arith, s .few, c .before .before .before .write-kinds .ensures .next, length-kinds (c .before .before .before .before .before .before .before .args .d .now) (c .before .before .before .before .before .before .before .args .bs)))
+    write-zeros-requires
     (λ c κs. search needs)
-    (λ c κs. let s = c .before .before .before .before .before .before .before .before .before .before .before .pre .0 in (s .long, s .few))
+    (λ c κs. let s = entry c .pre .0 in (s .long, s .few))
     (λ c κs. search needs)
-    (λ c κs.
-    let s = c .before .before .before .before .before .before .before .before .before .before .before .before .before .pre .0 in
-    let m = members-fit _ _ _ _ (c .before .count-members .ensures) (s .few) in
-    omega (arith, c .before .before .count-again .ensures, count-again-small (c .before .before .before .before .before .before .before .before .before .before .before .before .before .args .d .now) (c .before .before .before .before .before .before .before .before .before .before .before .before .before .args .bs) s))
-    (λ c.
-    let a = c .before .before .before .before .before .before .before .before .before .before .before .before .before .before .before .args in
-    omega (arith, c .before .start-again .ensures, c .before .before .count-event .ensures, count-event-small (a .d .now) (a .bs) (c .before .before .before .before .before .before .before .before .before .before .before .before .before .before .before .pre .0), start-small (a .ev) (c .before .before .count-event .result) (c .before .before .before .count-members .result) (c .before .before .before .before .count-again .result)))
-    (λ c κs. search needs)
-    (λ c.
-    let a = c .before .before .before .before .before .before .before .before .before .before .before .before .before .before .before .before .before .before .before .args in
-    omega (arith, c .before .before .before .before .before .before .before .before .count-again .ensures, count-again-small (a .d .now) (a .bs) (c .before .before .before .before .before .before .before .before .before .before .before .before .before .before .before .before .before .before .before .pre .0)))
-    (λ c κs. search needs)
-    (λ c κs. search needs)
-    (λ c. search needs)
-    (λ c.
-    passive-words-wrote _ _ _ (c .before .before .before .before .before .before .before .before .before .before .before .before .before .before .before .before .before .before .before .before .before .before .before .before .before .before .pre .0 .few) (c .before .before .before .before .before .before .before .before .before .before .before .before .before .before .before .before .before .before .before .before .before .before .write-kinds .ensures) (c .before .before .before .before .before .before .before .before .before .before .before .before .before .before .before .before .before .before .write-zeros .ensures)
-    (started _ _ _ (c .before .before .before .before .before .before .before .before .before .before .before .before .before .count-event .ensures) (c .before .before .before .before .before .before .before .before .before .before .before .before .before .before .count-members .ensures) (c .before .before .before .before .before .before .before .before .before .before .before .before .before .before .before .count-again .ensures) (c .before .before .before .before .before .before .before .before .before .before .before .before .start-again .ensures))
-    (c .before .before .before .before .before .before .before .before .before .before .before .before .before .before .before .count-again .ensures) (c .before .before .before .before .before .before .before .before .before .before .put-word .ensures) (c .before .before .before .before .before .before .put-word2 .ensures) (c .before .before .write-zeros2 .ensures)))
+    start-again-requires cast-put-word (search needs) cast-put-word-2 (search needs) (search needs) (search needs)
+    returns)

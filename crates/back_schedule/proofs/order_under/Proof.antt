@@ -5,16 +5,28 @@ use Rattle.back_schedule.proofs.OrderingLaws.{order-holds}
 use Rattle.back_schedule.proofs.order_under.Statement.{statement}
 use Rattle.back_schedule.proofs.order_under.Tie as tie
 
+order-of-requires : tie.Need-order-of-requires
+order-of-requires c κs =
+    let at-entry = c .before .before .before .before .before .before .before .before in (
+      search needs,
+      at-entry .pre .1,
+      at-entry .pre .3,
+      record {
+        none-past = rows-past (c .before .before .before .before .fill-rows .ensures);
+      },
+    )
+
+returns : tie.Need-returns
+returns c =
+    let at-met-set = c .before .before .before .before .before in
+    let at-entry = at-met-set .before .before .before .before .before .before in
+    let p = at-entry .pre in
+    order-holds _ _ _ _ _ _ _ _ _ (p .0) (p .3) (p .4) (at-met-set .before .before .fill-rows .ensures)
+    (at-met-set .met-set .ensures) (p .1) (c .before .before .order-of .ensures) (search needs)
+
 pub order-under-spec : {M : Type 1} → statement M
 order-under-spec =
     tie.close
-    (tie.spec
-    (λ c. search needs)
+    (tie.spec (search needs)
     (λ c κs. search needs)
-    (λ c κs. search needs)
-    (λ c. search needs)
-    (λ c κs. (search needs, c .before .before .before .before .before .before .before .before .pre .1, c .before .before .before .before .before .before .before .before .pre .3, record { none-past = rows-past (c .before .before .before .before .fill-rows .ensures) }))
-    (λ c. search needs)
-    (λ c.
-    let p = c .before .before .before .before .before .before .before .before .before .before .before .pre in
-    order-holds _ _ _ _ _ _ _ _ _ (p .0) (p .3) (p .4) (c .before .before .before .before .before .before .before .fill-rows .ensures) (c .before .before .before .before .before .met-set .ensures) (p .1) (c .before .before .order-of .ensures) (search needs)))
+    (search needs) (search needs) order-of-requires (search needs) returns)
