@@ -43,18 +43,26 @@ Inv-loop rows set n i₀ i = Turn (bytesOf rows) (marksOf set) n i
 abbrev μ-loop : tie.MeasureT-loop
 μ-loop rows set n i₀ i = n - i
 
+returns : tie.Need-returns Inv-loop μ-loop
+returns c =
+    let at-loop = c .before .before .before .before in
+    stop (at-loop .loop .inv) (omega arith) (sym (ready-is _ _ _ (omega arith) _ (at-loop .before .before .pre .1)
+    (omega (arith, at-loop .before .shared-slice-known .given (at-loop .loop .i)))
+    (λ j b. at-loop .before .before .pre .2 .none-past _ j (omega arith) b)) ∙ sym (c .before .is-ready .ensures) ∙
+    c .if1 .taken)
+
+loop-again : tie.Need-loop-again Inv-loop μ-loop
+loop-again c =
+    let at-loop = c .before .before .before .before in
+    turn (at-loop .loop .inv) (omega arith) (sym (ready-is _ _ _ (omega arith) _ (at-loop .before .before .pre .1)
+    (omega (arith, at-loop .before .shared-slice-known .given (at-loop .loop .i)))
+    (λ j b. at-loop .before .before .pre .2 .none-past _ j (omega arith) b)) ∙ sym (c .before .is-ready .ensures) ∙
+    c .if1 .left)
+
 pub find-next-spec : {M : Type 1} → statement M
 find-next-spec =
     tie.close
-    (tie.spec
-    Inv-loop
-    μ-loop
+    (tie.spec Inv-loop μ-loop
     (λ c. start _ _ _)
-    (λ c. omega arith)
-    (λ c. omega arith)
-    (λ c κs. omega arith)
-    (λ c. stop (c .before .before .before .before .loop .inv) (omega arith) (sym (ready-is _ _ _ (omega arith) _ (c .before .before .before .before .before .before .pre .1) (omega (arith, c .before .before .before .before .before .shared-slice-known .given (c .before .before .before .before .loop .i))) (λ j b. c .before .before .before .before .before .before .pre .2 .none-past _ j (omega arith) b)) ∙ sym (c .before .is-ready .ensures) ∙ c .if1 .taken))
-    (λ c. omega arith)
-    (λ c. omega arith)
-    (λ c. turn (c .before .before .before .before .loop .inv) (omega arith) (sym (ready-is _ _ _ (omega arith) _ (c .before .before .before .before .before .before .pre .1) (omega (arith, c .before .before .before .before .before .shared-slice-known .given (c .before .before .before .before .loop .i))) (λ j b. c .before .before .before .before .before .before .pre .2 .none-past _ j (omega arith) b)) ∙ sym (c .before .is-ready .ensures) ∙ c .if1 .left))
+    (omega arith) (omega arith) (omega arith) returns (omega arith) (omega arith) loop-again
     (λ c. end (c .before .loop .inv) (omega arith)))

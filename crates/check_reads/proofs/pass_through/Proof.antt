@@ -11,24 +11,17 @@ Inv-loop rows₀ k n i₀ rows i = Passing rows₀ rows k n i
 abbrev μ-loop : tie.MeasureT-loop
 μ-loop rows₀ k n i₀ rows i = n - i
 
+loop-again : tie.Need-loop-again Inv-loop μ-loop
+loop-again c =
+    pass-one (c .add-row .result) (c .before .before .before .before .before .loop .inv) (omega arith) (omega arith)
+    (c .add-row .ensures)
+
 pub pass-through-spec : {M : Type 1} → statement M
 pass-through-spec =
     tie.close
-    (tie.spec
-    Inv-loop
-    μ-loop
+    (tie.spec Inv-loop μ-loop
     (λ c. pass-none _ _ _)
-    (λ c. omega arith)
-    (λ c. omega arith)
-    (λ c. omega arith)
-    (λ c. omega arith)
-    (λ c. omega arith)
-    (λ c. omega arith)
-    (λ c κs. omega arith)
-    (λ c. omega arith)
-    (λ c. omega arith)
-    (λ c. omega arith)
-    (λ c. omega arith)
-    (λ c. pass-one (c .add-row .result) (c .before .before .before .before .before .loop .inv) (omega arith) (omega arith) (c .add-row .ensures))
+    (omega arith) (omega arith) (omega arith) (omega arith) (omega arith) (omega arith) (omega arith) (omega arith)
+    (omega arith) (omega arith) (omega arith) loop-again
     (λ c. c .before .loop .inv .long)
     (λ c. pass-end (c .before .loop .inv) (omega arith)))
