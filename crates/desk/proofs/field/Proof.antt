@@ -16,17 +16,13 @@ fits-back a buf n e h = simp length-append (omega (arith, e ∙ length-take-le n
 pub field-spec : {M : Type 1} → statement M
 field-spec =
     tie.close
-    (tie.spec
-    (λ c κs. search needs)
-    (λ c. search needs)
+    (tie.spec (search needs) (search needs)
     (λ c. sym (length-take-le _ _ (omega arith)))
-    (λ c κs. search needs)
-    (λ c κs. search needs)
-    (λ c κs. search needs)
-    (λ c. search needs)
-    (λ c. fits-back (c .before .before .before .read-full .last .1 .0) _ _ (c .before .before .before .read-full .kept .1 .0) (omega arith))
-    (λ c. sym (length-take-le _ _ (fits-back (c .before .before .before .before .read-full .last .1 .0) _ _ (c .before .before .before .before .read-full .kept .1 .0) (omega arith))))
-    (λ c κs. search needs)
-    (λ c. search needs)
-    (λ c. search needs)
-    (λ c. search needs))
+    (search needs) (search needs) (search needs) (search needs)
+    (λ c.
+    let call = c .before .before .before .read-full in
+    fits-back (call .last .1 .0) _ _ (call .kept .1 .0) (omega arith))
+    (λ c.
+    let call = c .before .before .before .before .read-full in
+    sym (length-take-le _ _ (fits-back (call .last .1 .0) _ _ (call .kept .1 .0) (omega arith))))
+    (search needs) (search needs) (search needs) (search needs))
