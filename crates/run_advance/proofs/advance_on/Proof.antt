@@ -22,8 +22,9 @@ use borrow.Author.Needs.{needs}
 use Rattle.run_advance.proofs.advance_on.Statement.{statement}
 use Rattle.run_advance.proofs.advance_on.Tie as tie
 
-opened : (t l : List ℕ) {hand n c e s len : ℕ} {r : CallResult} → hand ≡ runningWord l → n ≡ runningNumber l → c ≡ position l → e ≡ eventOf hand
-    → s ≡ eventWord t e 1 → len ≡ eventWord t e 2 → r ≡ executeAt t l (s + c) c hand n len → r ≡ advanceOn t l
+opened : (t l : List ℕ) {hand n c e s len : ℕ} {r : CallResult} → hand ≡ runningWord l → n ≡ runningNumber l
+    → c ≡ position l → e ≡ eventOf hand → s ≡ eventWord t e 1 → len ≡ eventWord t e 2
+    → r ≡ executeAt t l (s + c) c hand n len → r ≡ advanceOn t l
 unfolding advanceOn
 opened t l o p q d f g z = rw (← o, ← p, ← q, ← d, ← f, ← g) z
 
@@ -40,7 +41,9 @@ module _ (l : List ℕ) (a w c hand n len : ℕ) {x : ℕ} {m : List ℕ} (e : c
   unfolding stretchOn executeOn
   performed-on h z =
       split (mayRun (a / 256) (a % 256) (depth l))
-      (λ g. let q : m ≡ perform l (a / 256) (a % 256) w (depth l) = ap (λ (r : CallResult). r .1) (rw g at e) in rw (g, ← q) z)
+      (λ g.
+      let q : m ≡ perform l (a / 256) (a % 256) w (depth l) = ap (λ (r : CallResult). r .1) (rw g at e) in
+      rw (g, ← q) z)
       (λ g. let q : x ≡ refusals.foreign = ap (λ (r : CallResult). r .0) (rw g at e) in absurd (omega arith))
 
 -- instruction k of the table did
@@ -49,40 +52,85 @@ module _ (t l : List ℕ) (k c hand n len : ℕ) {x : ℕ} {m : List ℕ} (e : c
   unfolding stretchAt executeAt
   foreign h = refused-on l (get t (512 + k * 2)) (get t (513 + k * 2)) c hand n len e h
 
-  goes-on : {o : List ℕ} → x ≡ 0 → c + 1 < len → o ≡ put m 5 (c + 1) → callResult kinds.ran o ≡ executeAt t l k c hand n len
+  goes-on : {o : List ℕ} → x ≡ 0 → c + 1 < len → o ≡ put m 5 (c + 1)
+      → callResult kinds.ran o ≡ executeAt t l k c hand n len
   unfolding stretchAt executeAt countInstruction
-  goes-on h g r = performed-on l (get t (512 + k * 2)) (get t (513 + k * 2)) c hand n len e h (rw (lt-ltb (c + 1) len g, r))
+  goes-on h g r =
+      performed-on l (get t (512 + k * 2)) (get t (513 + k * 2)) c hand n len e h (rw (lt-ltb (c + 1) len g, r))
 
   commits : {v y : ℕ} {o : List ℕ} → x ≡ 0 → len ≤ c + 1 → v ≡ markWord m → o ≡ put m 2 0 → y ≡ commitSaid n hand v
       → callResult y o ≡ executeAt t l k c hand n len
   unfolding stretchAt executeAt countInstruction
-  commits h g r s f = performed-on l (get t (512 + k * 2)) (get t (513 + k * 2)) c hand n len e h (rw (le-ltb (c + 1) len g, ← r, f, s))
+  commits h g r s f =
+      performed-on l (get t (512 + k * 2)) (get t (513 + k * 2)) c hand n len e h
+      (rw (le-ltb (c + 1) len g, ← r, f, s))
+
+-- where all is read: the running event's word, its number, how far it is, where its code starts and how long that is
+module _ (c : tie.After-event-word2) where
+  abbrev done-at : tie.After-get-word3
+  done-at = c .before .before .before
+
+  abbrev number-at : tie.After-get-word2
+  number-at = done-at .before .before
+
+  abbrev word-at : tie.After-get-word
+  word-at = number-at .before .before
+
+  abbrev entry : tie.Start
+  entry = word-at .before .before .before .before
+
+  abbrev start : ℕ
+  start = c .before .event-word .result + done-at .get-word3 .result
+
+  in-table : start < 4096
+  in-table =
+      in-code (entry .pre .0) (entry .pre .1) (word-at .get-word .ensures) (c .before .before .event-of .ensures)
+      (done-at .get-word3 .ensures) (c .before .event-word .ensures)
+
+  advances : {r : CallResult}
+      → r ≡ executeAt (entry .args .table .now) (entry .args .round .now) start (done-at .get-word3 .result)
+      (word-at .get-word .result) (number-at .get-word2 .result) (c .event-word2 .result)
+      → r ≡ advanceOn (entry .args .table .now) (entry .args .round .now)
+  advances =
+      opened _ _ (word-at .get-word .ensures) (number-at .get-word2 .ensures) (done-at .get-word3 .ensures)
+      (c .before .before .event-of .ensures) (c .before .event-word .ensures) (c .event-word2 .ensures)
+
+-- back to there from where the instruction is performed
+abbrev read-at : tie.Else1 → tie.After-event-word2
+read-at c = c .before .before .before .before .before
+
+returns : tie.Need-returns
+returns c =
+    advances (c .before .before .before .before .before)
+    (foreign _ _ _ _ _ _ _ (c .before .before .before .execute-at .ensures .0) (c .if1 .taken))
+
+returns-2 : tie.Need-returns-2
+returns-2 c =
+    let more = c .before .before .before .before in
+    let ran = more .before in
+    advances (read-at ran) (goes-on _ _ _ _ _ _ _ (ran .before .before .before .execute-at .ensures .0)
+    (ran .if1 .left) (more .if2 .taken) (c .before .before .put-word .ensures))
+
+returns-3 : tie.Need-returns-3
+returns-3 c =
+    let ended = c .before .before .before .before .before .before .before in
+    let ran = ended .before in
+    advances (read-at ran) (commits _ _ _ _ _ _ _ (ran .before .before .before .execute-at .ensures .0)
+    (ran .if1 .left) (ended .if2 .left) (c .before .before .before .before .before .get-word4 .ensures)
+    (c .before .before .before .put-word2 .ensures) (c .commit-of .ensures))
 
 pub advance-on-spec : {M : Type 1} → statement M
 advance-on-spec =
     tie.close
-    (tie.spec
-    (λ c κs. search needs)
-    (λ c κs. search needs)
-    (λ c κs. search needs)
-    (λ c κs. search needs)
-    (λ c κs. search needs)
-    (λ c κs. search needs)
-    (λ c. let h = in-code (c .before .before .before .before .before .before .before .before .before .before .before .before .pre .0) (c .before .before .before .before .before .before .before .before .before .before .before .before .pre .1) (c .before .before .before .before .before .before .before .before .get-word .ensures) (c .before .before .before .event-of .ensures) (c .before .before .before .before .get-word3 .ensures) (c .before .before .event-word .ensures) in search needs)
-    (λ c. let h = in-code (c .before .before .before .before .before .before .before .before .before .before .before .before .pre .0) (c .before .before .before .before .before .before .before .before .before .before .before .before .pre .1) (c .before .before .before .before .before .before .before .before .get-word .ensures) (c .before .before .before .event-of .ensures) (c .before .before .before .before .get-word3 .ensures) (c .before .before .event-word .ensures) in search needs)
-    (λ c κs. let h = in-code (c .before .before .before .before .before .before .before .before .before .before .before .before .pre .0) (c .before .before .before .before .before .before .before .before .before .before .before .before .pre .1) (c .before .before .before .before .before .before .before .before .get-word .ensures) (c .before .before .before .event-of .ensures) (c .before .before .before .before .get-word3 .ensures) (c .before .before .event-word .ensures) in search needs)
-    (λ c. search needs)
-    (λ c. opened _ _ (c .before .before .before .before .before .before .before .before .before .before .before .before .get-word .ensures) (c .before .before .before .before .before .before .before .before .before .before .get-word2 .ensures) (c .before .before .before .before .before .before .before .before .get-word3 .ensures) (c .before .before .before .before .before .before .before .event-of .ensures) (c .before .before .before .before .before .before .event-word .ensures) (c .before .before .before .before .before .event-word2 .ensures)
-    (foreign _ _ _ _ _ _ _ (c .before .before .before .execute-at .ensures .0) (c .if1 .taken)))
-    (λ c. let h = in-code (c .before .before .before .before .before .before .before .before .before .before .before .before .before .before .before .before .pre .0) (c .before .before .before .before .before .before .before .before .before .before .before .before .before .before .before .before .pre .1) (c .before .before .before .before .before .before .before .before .before .before .before .before .get-word .ensures) (c .before .before .before .before .before .before .before .event-of .ensures) (c .before .before .before .before .before .before .before .before .get-word3 .ensures) (c .before .before .before .before .before .before .event-word .ensures) in search needs)
-    (λ c. let h = in-code (c .before .before .before .before .before .before .before .before .before .before .before .before .before .before .before .before .before .before .pre .0) (c .before .before .before .before .before .before .before .before .before .before .before .before .before .before .before .before .before .before .pre .1) (c .before .before .before .before .before .before .before .before .before .before .before .before .before .before .get-word .ensures) (c .before .before .before .before .before .before .before .before .before .event-of .ensures) (c .before .before .before .before .before .before .before .before .before .before .get-word3 .ensures) (c .before .before .before .before .before .before .before .before .event-word .ensures) in search needs)
-    (λ c κs. let h = (c .before .before .before .before .before .before .before .before .before .before .before .before .before .before .before .before .before .before .pre .0 .round .long) in search needs)
-    (λ c. search needs)
-    (λ c. opened _ _ (c .before .before .before .before .before .before .before .before .before .before .before .before .before .before .before .before .before .get-word .ensures) (c .before .before .before .before .before .before .before .before .before .before .before .before .before .before .before .get-word2 .ensures) (c .before .before .before .before .before .before .before .before .before .before .before .before .before .get-word3 .ensures) (c .before .before .before .before .before .before .before .before .before .before .before .before .event-of .ensures) (c .before .before .before .before .before .before .before .before .before .before .before .event-word .ensures) (c .before .before .before .before .before .before .before .before .before .before .event-word2 .ensures)
-    (goes-on _ _ _ _ _ _ _ (c .before .before .before .before .before .before .before .before .execute-at .ensures .0) (c .before .before .before .before .before .if1 .left) (c .before .before .before .before .if2 .taken) (c .before .before .put-word .ensures)))
-    (λ c κs. let h = (c .before .before .before .before .before .before .before .before .before .before .before .before .before .before .before .before .before .before .pre .0 .round .long) in search needs)
-    (λ c κs. let h = (c .before .before .before .before .before .before .before .before .before .before .before .before .before .before .before .before .before .before .before .before .pre .0 .round .long) in search needs)
-    (λ c κs. search needs)
-    (λ c. search needs)
-    (λ c. opened _ _ (c .before .before .before .before .before .before .before .before .before .before .before .before .before .before .before .before .before .before .before .before .get-word .ensures) (c .before .before .before .before .before .before .before .before .before .before .before .before .before .before .before .before .before .before .get-word2 .ensures) (c .before .before .before .before .before .before .before .before .before .before .before .before .before .before .before .before .get-word3 .ensures) (c .before .before .before .before .before .before .before .before .before .before .before .before .before .before .before .event-of .ensures) (c .before .before .before .before .before .before .before .before .before .before .before .before .before .before .event-word .ensures) (c .before .before .before .before .before .before .before .before .before .before .before .before .before .event-word2 .ensures)
-    (commits _ _ _ _ _ _ _ (c .before .before .before .before .before .before .before .before .before .before .before .execute-at .ensures .0) (c .before .before .before .before .before .before .before .before .if1 .left) (c .before .before .before .before .before .before .before .if2 .left) (c .before .before .before .before .before .get-word4 .ensures) (c .before .before .before .put-word2 .ensures) (c .commit-of .ensures))))
+    (tie.spec (search needs) (search needs) (search needs) (search needs) (search needs) (search needs)
+    (λ c. let h = in-table (c .before) in search needs)
+    (λ c. let h = in-table (c .before) in search needs)
+    (λ c κs. let h = in-table (c .before) in search needs)
+    (search needs) returns
+    (λ c. let h = in-table (read-at c) in search needs)
+    (λ c. let h = in-table (read-at (c .before .before)) in search needs)
+    (λ c κs. let h = entry (read-at (c .before .before)) .pre .0 .round .long in search needs)
+    (search needs) returns-2
+    (λ c κs. let h = entry (read-at (c .before .before)) .pre .0 .round .long in search needs)
+    (λ c κs. let h = entry (read-at (c .before .before .before .before)) .pre .0 .round .long in search needs)
+    (search needs) (search needs) returns-3)

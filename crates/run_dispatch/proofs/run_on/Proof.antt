@@ -4,16 +4,24 @@ use borrow.Author.Needs.{needs}
 use Rattle.run_dispatch.proofs.run_on.Statement.{statement}
 use Rattle.run_dispatch.proofs.run_on.Tie as tie
 
+returns : tie.Need-returns
+unfolding runArrival
+returns c =
+    let at-put-word5 = c .before .before .before .before .before .before in
+    let at-put-word3 = at-put-word5 .before .before .before .before .before .before .before .before in
+    let at-put-word = at-put-word3 .before .before .before .before .before .before .before .before in
+    cc (
+      at-put-word .put-word .ensures,
+      at-put-word3 .before .before .before .before .put-word2 .ensures,
+      at-put-word3 .put-word3 .ensures,
+      at-put-word5 .before .before .before .before .put-word4 .ensures,
+      at-put-word5 .put-word5 .ensures,
+      c .before .before .put-word6 .ensures,
+    )
+
 pub run-on-spec : {M : Type 1} → statement M
 unfolding runArrival
 run-on-spec =
     tie.close
-    (tie.spec
-    (λ c κs. search needs)
-    (λ c κs. search needs)
-    (λ c κs. search needs)
-    (λ c κs. search needs)
-    (λ c κs. search needs)
-    (λ c κs. search needs)
-    (λ c. search needs)
-    (λ c. cc (c .before .before .before .before .before .before .before .before .before .before .before .before .before .before .before .before .before .before .before .before .before .before .put-word .ensures, c .before .before .before .before .before .before .before .before .before .before .before .before .before .before .before .before .before .before .put-word2 .ensures, c .before .before .before .before .before .before .before .before .before .before .before .before .before .before .put-word3 .ensures, c .before .before .before .before .before .before .before .before .before .before .put-word4 .ensures, c .before .before .before .before .before .before .put-word5 .ensures, c .before .before .put-word6 .ensures)))
+    (tie.spec (search needs) (search needs) (search needs) (search needs) (search needs) (search needs)
+    (search needs) returns)

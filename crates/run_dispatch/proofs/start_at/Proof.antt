@@ -4,27 +4,27 @@ use borrow.Author.Needs.{needs}
 use Rattle.run_dispatch.proofs.start_at.Statement.{statement}
 use Rattle.run_dispatch.proofs.start_at.Tie as tie
 
+returns : tie.Need-returns
+unfolding startAt
+returns c =
+    let at-put-word = c .before .before .before .before .before .before .before in
+    let at-get-word4 = at-put-word .before .before .before .before .before .before in
+    let at-get-word = at-get-word4 .before .before .before .before .before .before in
+    cc (
+      at-get-word .get-word .ensures,
+      at-get-word4 .before .before .before .before .get-word2 .ensures,
+      at-get-word4 .before .before .get-word3 .ensures,
+      at-get-word4 .get-word4 .ensures,
+      at-put-word .before .before .before .before .put-slot .ensures,
+      at-put-word .put-word .ensures,
+      c .before .before .before .run-on .ensures,
+      c .said-of .ensures,
+    )
+
 pub start-at-spec : {M : Type 1} → statement M
 unfolding startAt
 start-at-spec =
     tie.close
-    (tie.spec
-    (λ c. search needs)
-    (λ c. search needs)
-    (λ c κs. search needs)
-    (λ c. search needs)
-    (λ c. search needs)
-    (λ c κs. search needs)
-    (λ c. search needs)
-    (λ c. search needs)
-    (λ c κs. search needs)
-    (λ c. search needs)
-    (λ c. search needs)
-    (λ c κs. search needs)
-    (λ c κs. search needs)
-    (λ c. search needs)
-    (λ c κs. search needs)
-    (λ c κs. search needs)
-    (λ c κs. search needs)
-    (λ c. search needs)
-    (λ c. cc (c .before .before .before .before .before .before .before .before .before .before .before .before .before .before .before .before .before .before .before .get-word .ensures, c .before .before .before .before .before .before .before .before .before .before .before .before .before .before .before .before .before .get-word2 .ensures, c .before .before .before .before .before .before .before .before .before .before .before .before .before .before .before .get-word3 .ensures, c .before .before .before .before .before .before .before .before .before .before .before .before .before .get-word4 .ensures, c .before .before .before .before .before .before .before .before .before .before .before .put-slot .ensures, c .before .before .before .before .before .before .before .put-word .ensures, c .before .before .before .run-on .ensures, c .said-of .ensures)))
+    (tie.spec (search needs) (search needs) (search needs) (search needs) (search needs) (search needs)
+    (search needs) (search needs) (search needs) (search needs) (search needs) (search needs) (search needs)
+    (search needs) (search needs) (search needs) (search needs) (search needs) returns)
