@@ -31,18 +31,30 @@ module _ (old t l m₀ : List ℕ) {m : List ℕ} {k n : ℕ} {x : Bool} (e : m 
   unfolding carryOn workedOut
   inside h g = rw (← p, ← q, ← e, ← f, h) g
 
+returns : tie.Need-returns
+returns c =
+    let at-fill = c .before .before .before .before .before .before in
+    outside _ _ _ _ (at-fill .fill .ensures) (c .before .before .before .get-word .ensures)
+    (c .before .before .get-word2 .ensures) (c .before .code-fits .ensures) (not-true _ (c .if1 .taken))
+
+settle-from-requires : tie.Need-settle-from-requires
+settle-from-requires c κs =
+    let at-fill = c .before .before .before .before .before .before .before in
+    let at-entry = at-fill .before .before .before .before .before .before in
+    let s = shallow _ _ _ _ (at-fill .fill .ensures) (at-entry .pre .1) in
+    let b = code-bound _ _ (sym (c .before .before .code-fits .ensures) ∙ not-false _ (c .before .if1 .left)) in
+    search needs
+
+returns-2 : tie.Need-returns-2
+returns-2 c =
+    let at-if1 = c .before .before .before .before in
+    let at-fill = at-if1 .before .before .before .before .before .before in
+    inside _ _ _ _ (at-fill .fill .ensures) (at-if1 .before .before .before .get-word .ensures)
+    (at-if1 .before .before .get-word2 .ensures) (at-if1 .before .code-fits .ensures)
+    (not-false _ (at-if1 .if1 .left)) (c .before .before .execute-from .ensures)
+
 pub carry-on-spec : {M : Type 1} → statement M
 carry-on-spec =
     tie.close
-    (tie.spec
-    (λ c κs. search needs)
-    (λ c κs. search needs)
-    (λ c κs. search needs)
-    (λ c κs. search needs)
-    (λ c. search needs)
-    (λ c. outside _ _ _ _ (c .before .before .before .before .before .before .fill .ensures) (c .before .before .before .get-word .ensures) (c .before .before .get-word2 .ensures) (c .before .code-fits .ensures) (not-true _ (c .if1 .taken)))
-    (λ c. search needs)
-    (λ c. search needs)
-    (λ c κs. let s = shallow _ _ _ _ (c .before .before .before .before .before .before .before .fill .ensures) (c .before .before .before .before .before .before .before .before .before .before .before .before .before .pre .1) in let b = code-bound _ _ (sym (c .before .before .code-fits .ensures) ∙ not-false _ (c .before .if1 .left)) in search needs)
-    (λ c. search needs)
-    (λ c. inside _ _ _ _ (c .before .before .before .before .before .before .before .before .before .before .fill .ensures) (c .before .before .before .before .before .before .before .get-word .ensures) (c .before .before .before .before .before .before .get-word2 .ensures) (c .before .before .before .before .before .code-fits .ensures) (not-false _ (c .before .before .before .before .if1 .left)) (c .before .before .execute-from .ensures)))
+    (tie.spec (search needs) (search needs) (search needs) (search needs) (search needs) returns (search needs)
+    (search needs) settle-from-requires (search needs) returns-2)

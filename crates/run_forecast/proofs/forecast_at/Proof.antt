@@ -26,22 +26,51 @@ module _ (t l : List ℕ) {x : Bool} (p : x ≡ ours t l) where
   unfolding forecastOn forecastIn forecastWith
   one-runs {n} {f} h q r k s o z = rw (← p, h, ← q, ← r, ne-eqb f 0 k, ← s, ← o, ← z)
 
+steps-in-requires : tie.Need-steps-in-requires
+steps-in-requires c κs =
+    let b = (c .before .before .before .before .is-ours .ensures .1)
+    (not-false _ (c .before .before .before .if1 .left)) in
+    search needs
+
+returns-2 : tie.Need-returns-2
+returns-2 c =
+    let at-if1 = c .before .before .before .before in
+    none-runs _ _ (at-if1 .before .is-ours .ensures .0) (not-false _ (at-if1 .if1 .left))
+    (c .before .before .before .get-word .ensures) (c .before .before .get-word2 .ensures) (c .before .if2 .taken)
+    (c .steps-in .ensures)
+
+get-word-requires-3 : tie.Need-get-word-requires-3
+get-word-requires-3 c κs =
+    let b = (c .before .before .before .before .is-ours .ensures .1)
+    (not-false _ (c .before .before .before .if1 .left)) in
+    search needs
+
+longest-of-requires : tie.Need-longest-of-requires
+longest-of-requires c κs =
+    let at-if1 = c .before .before .before .before in
+    let b = (at-if1 .before .is-ours .ensures .1) (not-false _ (at-if1 .if1 .left)) in
+    search needs
+
+bound-of-requires : tie.Need-bound-of-requires
+bound-of-requires c κs =
+    let at-if1 = c .before .before .before .before .before in
+    let b = (at-if1 .before .is-ours .ensures .1) (not-false _ (at-if1 .if1 .left)) in
+    search needs
+
+returns-3 : tie.Need-returns-3
+returns-3 c =
+    let at-get-word = c .before .before .before .before .before in
+    one-runs _ _ (at-get-word .before .before .is-ours .ensures .0) (not-false _ (at-get-word .before .if1 .left))
+    (at-get-word .get-word .ensures) (c .before .before .before .before .get-word2 .ensures)
+    (c .before .before .before .if2 .left) (c .before .before .get-word3 .ensures)
+    (c .before .longest-of .ensures .0) (c .bound-of .ensures)
+
 pub forecast-at-spec : {M : Type 1} → statement M
 forecast-at-spec =
     tie.close
-    (tie.spec
-    (λ c κs. search needs)
+    (tie.spec (search needs)
     (λ c. foreign _ _ (c .before .is-ours .ensures .0) (not-true _ (c .if1 .taken)))
     (λ c κs. let b = (c .before .is-ours .ensures .1) (not-false _ (c .if1 .left)) in search needs)
     (λ c κs. let b = (c .before .before .is-ours .ensures .1) (not-false _ (c .before .if1 .left)) in search needs)
-    (λ c. search needs)
-    (λ c κs. let b = (c .before .before .before .before .is-ours .ensures .1) (not-false _ (c .before .before .before .if1 .left)) in search needs)
-    (λ c. search needs)
-    (λ c. search needs)
-    (λ c. none-runs _ _ (c .before .before .before .before .before .is-ours .ensures .0) (not-false _ (c .before .before .before .before .if1 .left)) (c .before .before .before .get-word .ensures) (c .before .before .get-word2 .ensures) (c .before .if2 .taken) (c .steps-in .ensures))
-    (λ c κs. let b = (c .before .before .before .before .is-ours .ensures .1) (not-false _ (c .before .before .before .if1 .left)) in search needs)
-    (λ c κs. let b = (c .before .before .before .before .before .is-ours .ensures .1) (not-false _ (c .before .before .before .before .if1 .left)) in search needs)
-    (λ c κs. let b = (c .before .before .before .before .before .before .is-ours .ensures .1) (not-false _ (c .before .before .before .before .before .if1 .left)) in search needs)
-    (λ c. search needs)
-    (λ c. search needs)
-    (λ c. one-runs _ _ (c .before .before .before .before .before .before .before .is-ours .ensures .0) (not-false _ (c .before .before .before .before .before .before .if1 .left)) (c .before .before .before .before .before .get-word .ensures) (c .before .before .before .before .get-word2 .ensures) (c .before .before .before .if2 .left) (c .before .before .get-word3 .ensures) (c .before .longest-of .ensures .0) (c .bound-of .ensures)))
+    (search needs) steps-in-requires (search needs) (search needs) returns-2 get-word-requires-3 longest-of-requires
+    bound-of-requires (search needs) (search needs) returns-3)

@@ -11,6 +11,7 @@ use borrow.Author.Tests.{ne-eqb, not-true, not-false}
 use Rattle.lib_word.specs.Word.{get, getAt}
 use Rattle.spec_language.specs.Refusals as refusals
 use Rattle.format_layout.specs.Layout.{tableFits, waitingCount, runningFlag, runningNumber, runningWord, ours}
+use Rattle.format_layout.specs.Bounds.{TableBounds, Bounds}
 use Rattle.run_start.specs.Start.{CallResult, callResult}
 use Rattle.run_carry.specs.Carry.{carryOn, storeShown}
 use Rattle.run_board.specs.Board.{copyBackOn}
@@ -43,42 +44,116 @@ module _ (old t l : List ℕ) {a : ℕ} {m : List ℕ} (e : callResult a m ≡ c
   unfolding mendIn mendAfter mendWith verdict
   copied-back h p k = rw (← e, h, ← p, k)
 
-  undeclared : {s u : Bool} → a ≡ 0 → s ≡ copyBackOn old l → s ≡ false → u ≡ handKnown t l → u ≡ false → callResult refusals.undeclaredInHand l ≡ mendIn old t l
+  undeclared : {s u : Bool} → a ≡ 0 → s ≡ copyBackOn old l → s ≡ false → u ≡ handKnown t l → u ≡ false
+      → callResult refusals.undeclaredInHand l ≡ mendIn old t l
   unfolding mendIn mendAfter mendWith verdict
   undeclared h p k q j = rw (← e, h, ← p, k, ← q, j)
 
   carried : {s u : Bool} {x y z : List ℕ} → a ≡ 0 → s ≡ copyBackOn old l → s ≡ false → u ≡ handKnown t l → u ≡ true
-      → x ≡ backInHand l (waitingCount l) (runningFlag l) (runningNumber l) (runningWord l) → y ≡ rested x → z ≡ storeShown t m y 64 → callResult 0 z ≡ mendIn old t l
+      → x ≡ backInHand l (waitingCount l) (runningFlag l) (runningNumber l) (runningWord l) → y ≡ rested x
+      → z ≡ storeShown t m y 64 → callResult 0 z ≡ mendIn old t l
   unfolding mendIn mendAfter mendWith verdict mended
   carried h p k q j b c d = rw (← e, h, ← p, k, ← q, j, ← b, ← c, ← d)
 
 as-long : (m : List ℕ) → length m ≡ length (replicate {A = ℕ} 2048 0) → 2048 ≤ length m
 as-long m e = rw (e, length-replicate {A = ℕ} 2048 0) (omega arith)
 
+-- where round and tables are good
+module _ (c : tie.Else2) where
+  abbrev ours-at : tie.Else1
+  ours-at = c .before .before
+
+  abbrev entry : tie.Start
+  entry = ours-at .before .before .before .before .before .before
+
+  valid : Bounds (entry .args .old .now) (entry .args .round .now)
+  valid = ours-at .before .is-ours .ensures .1 (not-false _ (ours-at .if1 .left))
+
+  new-valid : TableBounds (entry .args .table .now)
+  new-valid = c .before .table-fits .ensures .1 (not-false _ (c .if2 .left))
+
+  inside : {r : CallResult} → r ≡ mendIn (entry .args .old .now) (entry .args .table .now) (entry .args .round .now)
+      → r ≡ mendOn (entry .args .old .now) (entry .args .table .now) (entry .args .round .now)
+  inside =
+      opened _ _ _ (ours-at .before .is-ours .ensures .0) (not-false _ (ours-at .if1 .left))
+      (c .before .table-fits .ensures .0) (not-false _ (c .if2 .left))
+
+-- where the values are worked out
+module _ (c : tie.Else3) where
+  abbrev good-at : tie.Else2
+  good-at = c .before .before .before .before .before
+
+  values-long : 2048 ≤ length (c .before .before .carry-on .last .1 .1 .1 .0)
+  values-long =
+      let call = c .before .before .carry-on in as-long (call .last .1 .1 .1 .0) (call .kept .1 .1 .1 .0)
+
+-- back from where the hand is whole to where the values are worked out
+abbrev worked-at : tie.After-back-in-hand → tie.Else3
+worked-at c = c .before .before .before .before .before .before .before .before
+
+hand-known-requires : tie.Need-hand-known-requires
+hand-known-requires c κs =
+    let b = valid (good-at (c .before .before .before .before)) in
+    let d = new-valid (good-at (c .before .before .before .before)) in
+    search needs
+
+back-in-hand-requires : tie.Need-back-in-hand-requires
+back-in-hand-requires c κs =
+    let b = valid (good-at (c .before .before .before .before .before .before .before)) .round in
+    (b .long, b .room)
+
+show-requires : tie.Need-show-requires
+show-requires c κs =
+    let worked = worked-at (c .before .before .before .before .before .before .before .before) in
+    let b = valid (good-at worked) .round .long in
+    (new-valid (good-at worked) .long, values-long worked, search needs)
+
+returns-2 : tie.Need-returns-2
+returns-2 c =
+    let ours = c .before .before in
+    foreign-table _ _ _ (ours .before .is-ours .ensures .0) (not-false _ (ours .if1 .left))
+    (c .before .table-fits .ensures .0) (not-true _ (c .if2 .taken))
+
+returns-3 : tie.Need-returns-3
+returns-3 c =
+    inside (c .before .before .before .before .before)
+    (foreign-passives _ _ _ (c .before .before .carry-on .ensures) (c .if3 .taken))
+
+returns-4 : tie.Need-returns-4
+returns-4 c =
+    let worked = c .before .before .before in
+    inside (good-at worked) (copied-back _ _ _ (worked .before .before .carry-on .ensures) (worked .if3 .left)
+    (c .before .copy-back-at .ensures) (c .if4 .taken))
+
+returns-5 : tie.Need-returns-5
+returns-5 c =
+    let consistent = c .before .before .before in
+    let worked = consistent .before .before .before in
+    inside (good-at worked) (undeclared _ _ _ (worked .before .before .carry-on .ensures) (worked .if3 .left)
+    (consistent .before .copy-back-at .ensures) (consistent .if4 .left) (c .before .hand-known .ensures)
+    (not-true _ (c .if5 .taken)))
+
+returns-6 : tie.Need-returns-6
+returns-6 c =
+    let resting = c .before .before .before .before .before .before .before in
+    let hand = resting .before .before .before .before in
+    let known = hand .before .before in
+    let consistent = known .before .before .before in
+    let worked = worked-at hand in
+    inside (good-at worked) (carried _ _ _ (worked .before .before .carry-on .ensures) (worked .if3 .left)
+    (consistent .before .copy-back-at .ensures) (consistent .if4 .left) (known .before .hand-known .ensures)
+    (not-false _ (known .if5 .left)) (hand .back-in-hand .ensures) (resting .rest .ensures)
+    (c .before .before .show .ensures))
+
 pub mend-at-spec : {M : Type 1} → statement M
 unfolding get getAt
 mend-at-spec =
     tie.close
-    (tie.spec
-    (λ c κs. search needs)
-    (λ c. search needs)
+    (tie.spec (search needs) (search needs)
     (λ c. foreign-round _ _ _ (c .before .is-ours .ensures .0) (not-true _ (c .if1 .taken)))
-    (λ c κs. search needs)
-    (λ c. search needs)
-    (λ c. foreign-table _ _ _ (c .before .before .before .is-ours .ensures .0) (not-false _ (c .before .before .if1 .left)) (c .before .table-fits .ensures .0) (not-true _ (c .if2 .taken)))
-    (λ c. search needs)
-    (λ c κs. let b = (c .before .before .before .before .before .is-ours .ensures .1) (not-false _ (c .before .before .before .before .if1 .left)) in let d = (c .before .before .before .table-fits .ensures .1) (not-false _ (c .before .before .if2 .left)) in search needs)
-    (λ c. search needs)
-    (λ c. opened _ _ _ (c .before .before .before .before .before .before .before .before .is-ours .ensures .0) (not-false _ (c .before .before .before .before .before .before .before .if1 .left)) (c .before .before .before .before .before .before .table-fits .ensures .0) (not-false _ (c .before .before .before .before .before .if2 .left)) (foreign-passives _ _ _ (c .before .before .carry-on .ensures) (c .if3 .taken)))
-    (λ c κs. search needs)
-    (λ c. search needs)
-    (λ c. opened _ _ _ (c .before .before .before .before .before .before .before .before .before .before .before .is-ours .ensures .0) (not-false _ (c .before .before .before .before .before .before .before .before .before .before .if1 .left)) (c .before .before .before .before .before .before .before .before .before .table-fits .ensures .0) (not-false _ (c .before .before .before .before .before .before .before .before .if2 .left)) (copied-back _ _ _ (c .before .before .before .before .before .carry-on .ensures) (c .before .before .before .if3 .left) (c .before .copy-back-at .ensures) (c .if4 .taken)))
-    (λ c κs. let b = (c .before .before .before .before .before .before .before .before .before .before .before .before .is-ours .ensures .1) (not-false _ (c .before .before .before .before .before .before .before .before .before .before .before .if1 .left)) in let d = (c .before .before .before .before .before .before .before .before .before .before .table-fits .ensures .1) (not-false _ (c .before .before .before .before .before .before .before .before .before .if2 .left)) in search needs)
-    (λ c. search needs)
-    (λ c. opened _ _ _ (c .before .before .before .before .before .before .before .before .before .before .before .before .before .before .is-ours .ensures .0) (not-false _ (c .before .before .before .before .before .before .before .before .before .before .before .before .before .if1 .left)) (c .before .before .before .before .before .before .before .before .before .before .before .before .table-fits .ensures .0) (not-false _ (c .before .before .before .before .before .before .before .before .before .before .before .if2 .left)) (undeclared _ _ _ (c .before .before .before .before .before .before .before .before .carry-on .ensures) (c .before .before .before .before .before .before .if3 .left) (c .before .before .before .before .copy-back-at .ensures) (c .before .before .before .if4 .left) (c .before .hand-known .ensures) (not-true _ (c .if5 .taken))))
-    (λ c κs. let b = (c .before .before .before .before .before .before .before .before .before .before .before .before .before .before .before .is-ours .ensures .1) (not-false _ (c .before .before .before .before .before .before .before .before .before .before .before .before .before .before .if1 .left)) in (b .round .long, b .round .room))
-    (λ c κs. let b = ((c .before .before .before .before .before .before .before .before .before .before .before .before .before .before .before .before .before .before .before .is-ours .ensures .1) (not-false _ (c .before .before .before .before .before .before .before .before .before .before .before .before .before .before .before .before .before .before .if1 .left))) .round .long in search needs)
-    (λ c. search needs)
-    (λ c κs. let b = ((c .before .before .before .before .before .before .before .before .before .before .before .before .before .before .before .before .before .before .before .before .before .before .before .before .is-ours .ensures .1) (not-false _ (c .before .before .before .before .before .before .before .before .before .before .before .before .before .before .before .before .before .before .before .before .before .before .before .if1 .left))) .round .long in let d = ((c .before .before .before .before .before .before .before .before .before .before .before .before .before .before .before .before .before .before .before .before .before .before .table-fits .ensures .1) (not-false _ (c .before .before .before .before .before .before .before .before .before .before .before .before .before .before .before .before .before .before .before .before .before .if2 .left))) .long in let h = as-long (c .before .before .before .before .before .before .before .before .before .before .before .before .before .before .before .before .before .before .carry-on .last .1 .1 .1 .0) (c .before .before .before .before .before .before .before .before .before .before .before .before .before .before .before .before .before .before .carry-on .kept .1 .1 .1 .0) in (d, h, search needs))
-    (λ c. search needs)
-    (λ c. opened _ _ _ (c .before .before .before .before .before .before .before .before .before .before .before .before .before .before .before .before .before .before .before .before .before .before .before .before .before .before .before .is-ours .ensures .0) (not-false _ (c .before .before .before .before .before .before .before .before .before .before .before .before .before .before .before .before .before .before .before .before .before .before .before .before .before .before .if1 .left)) (c .before .before .before .before .before .before .before .before .before .before .before .before .before .before .before .before .before .before .before .before .before .before .before .before .before .table-fits .ensures .0) (not-false _ (c .before .before .before .before .before .before .before .before .before .before .before .before .before .before .before .before .before .before .before .before .before .before .before .before .if2 .left)) (carried _ _ _ (c .before .before .before .before .before .before .before .before .before .before .before .before .before .before .before .before .before .before .before .before .before .carry-on .ensures) (c .before .before .before .before .before .before .before .before .before .before .before .before .before .before .before .before .before .before .before .if3 .left) (c .before .before .before .before .before .before .before .before .before .before .before .before .before .before .before .before .before .copy-back-at .ensures) (c .before .before .before .before .before .before .before .before .before .before .before .before .before .before .before .before .if4 .left) (c .before .before .before .before .before .before .before .before .before .before .before .before .before .before .hand-known .ensures) (not-false _ (c .before .before .before .before .before .before .before .before .before .before .before .before .before .if5 .left)) (c .before .before .before .before .before .before .before .before .before .before .before .back-in-hand .ensures) (c .before .before .before .before .before .before .before .rest .ensures) (c .before .before .show .ensures))))
+    (search needs) (search needs) returns-2 (search needs)
+    (λ c κs. let b = valid (c .before .before) in let d = new-valid (c .before .before) in search needs)
+    (search needs) returns-3 (search needs) (search needs) returns-4 hand-known-requires (search needs) returns-5
+    back-in-hand-requires
+    (λ c κs. let b = valid (good-at (worked-at (c .before .before .before))) .round .long in search needs)
+    (search needs) show-requires (search needs) returns-6)

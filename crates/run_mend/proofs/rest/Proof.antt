@@ -8,14 +8,11 @@ pub rest-spec : {M : Type 1} → statement M
 unfolding rested
 rest-spec =
     tie.close
-    (tie.spec
-    (λ c κs. search needs)
-    (λ c κs. search needs)
-    (λ c κs. search needs)
-    (λ c. search needs)
+    (tie.spec (search needs) (search needs) (search needs) (search needs)
     (λ c.
+    let second = c .before .before .before .before .before .before in
     cc (
-      c .before .before .before .before .before .before .before .before .before .before .put-word .ensures,
-      c .before .before .before .before .before .before .put-word2 .ensures,
+      second .before .before .before .before .put-word .ensures,
+      second .put-word2 .ensures,
       c .before .before .put-word3 .ensures,
     )))
