@@ -18,31 +18,46 @@ none n known w c len e h = rw (← e, h)
 
 no-room : (n known w c len : ℕ) {f g : ℕ} → f ≡ g → f ≢ 0 → 64 ≤ n → false ≡ runningFits n g (handFits known w) c len
 unfolding runningFits
-no-room n known w c len {f} {g} e h k = let z = ne-eqb f 0 h in let j : 63 < n = omega arith in rw (← e, z, lt-ltb 63 n j)
+no-room n known w c len {f} {g} e h k =
+    let z = ne-eqb f 0 h in
+    let j : 63 < n = omega arith in
+    rw (← e, z, lt-ltb 63 n j)
 
-unknown : (n known c len : ℕ) {f g w v : ℕ} {x : Bool} → f ≡ g → f ≢ 0 → n < 64 → w ≡ v → x ≡ handFits known w → x ≡ false → false ≡ runningFits n g (handFits known v) c len
+unknown : (n known c len : ℕ) {f g w v : ℕ} {x : Bool} → f ≡ g → f ≢ 0 → n < 64 → w ≡ v → x ≡ handFits known w
+    → x ≡ false → false ≡ runningFits n g (handFits known v) c len
 unfolding runningFits
-unknown n known c len {f} {g} {w} {v} e h k p q r = let z = ne-eqb f 0 h in let j : n ≤ 63 = omega arith in rw (← e, z, le-ltb 63 n j, ← p, ← q, r)
+unknown n known c len {f} {g} {w} {v} e h k p q r =
+    let z = ne-eqb f 0 h in
+    let j : n ≤ 63 = omega arith in
+    rw (← e, z, le-ltb 63 n j, ← p, ← q, r)
 
-runs : (t : List ℕ) (n known : ℕ) {f g w v c d e len : ℕ} {x : Bool} → f ≡ g → f ≢ 0 → n < 64 → w ≡ v → x ≡ handFits known w → x ≡ true → c ≡ d
-    → e ≡ eventOf w → len ≡ eventWord t e 2 → ltb c len ≡ runningFits n g (handFits known v) d (eventWord t (eventOf v) 2)
+runs : (t : List ℕ) (n known : ℕ) {f g w v c d e len : ℕ} {x : Bool} → f ≡ g → f ≢ 0 → n < 64 → w ≡ v
+    → x ≡ handFits known w → x ≡ true → c ≡ d → e ≡ eventOf w → len ≡ eventWord t e 2
+    → ltb c len ≡ runningFits n g (handFits known v) d (eventWord t (eventOf v) 2)
 unfolding runningFits
 runs t n known {f} {g} {w} {v} e h k p q r s o l =
     let z = ne-eqb f 0 h in
     let j : n ≤ 63 = omega arith in
     rw (← e, z, le-ltb 63 n j, ← p, ← q, r, ← s, ← o, ← l)
 
+returns-3 : tie.Need-returns-3
+returns-3 c =
+    let at-if1 = c .before .before .before .before in
+    unknown _ _ _ _ (at-if1 .before .get-word .ensures) (at-if1 .if1 .left) (search needs)
+    (c .before .before .get-word2 .ensures) (c .before .hand-fits .ensures) (not-true _ (c .if3 .taken))
+
+returns-4 : tie.Need-returns-4
+returns-4 c =
+    let at-get-word2 = c .before .before .before .before .before in
+    runs _ _ _ (at-get-word2 .before .before .before .get-word .ensures) (at-get-word2 .before .before .if1 .left)
+    (search needs) (at-get-word2 .get-word2 .ensures) (c .before .before .before .before .hand-fits .ensures)
+    (not-false _ (c .before .before .before .if3 .left)) (c .get-word3 .ensures)
+    (c .before .before .event-of .ensures) (c .before .event-word .ensures)
+
 pub running-fits-spec : {M : Type 1} → statement M
 running-fits-spec =
     tie.close
-    (tie.spec
-    (λ c κs. search needs)
+    (tie.spec (search needs)
     (λ c. none _ _ _ _ _ (c .before .get-word .ensures) (c .if1 .taken))
     (λ c. no-room _ _ _ _ _ (c .before .before .get-word .ensures) (c .before .if1 .left) (search needs))
-    (λ c κs. search needs)
-    (λ c κs. search needs)
-    (λ c. unknown _ _ _ _ (c .before .before .before .before .before .get-word .ensures) (c .before .before .before .before .if1 .left) (search needs) (c .before .before .get-word2 .ensures) (c .before .hand-fits .ensures) (not-true _ (c .if3 .taken)))
-    (λ c κs. search needs)
-    (λ c κs. search needs)
-    (λ c κs. search needs)
-    (λ c. runs _ _ _ (c .before .before .before .before .before .before .before .before .get-word .ensures) (c .before .before .before .before .before .before .before .if1 .left) (search needs) (c .before .before .before .before .before .get-word2 .ensures) (c .before .before .before .before .hand-fits .ensures) (not-false _ (c .before .before .before .if3 .left)) (c .get-word3 .ensures) (c .before .before .event-of .ensures) (c .before .event-word .ensures)))
+    (search needs) (search needs) returns-3 (search needs) (search needs) (search needs) returns-4)
