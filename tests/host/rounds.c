@@ -403,7 +403,7 @@ static void lend_nothing(void)
     expect(engine_replay(NULL, 0, NULL, 0, NULL, 0, NULL, 0) == 0, "no calls");
     expect(engine_event_count(NULL, 0) == ENGINE_FOREIGN, "event_count");
     expect(engine_agree(NULL, 0, NULL, 0) == 0 && engine_leak(NULL, 0, NULL, 0, 1) == 0, "agree and leak");
-    expect(engine_frame_end(engine_frame(TABLE, ROUND, 5, NULL, 0)) == ENGINE_FRAME_FULL, "no room for a commit");
+    expect(engine_frame_end(engine_frame(TABLE, ROUND, 5, NULL, 0)) == ENGINE_FRAME_IDLE, "frame");
 }
 
 /* Frames of a few steps, their commits in a buffer for one. */
@@ -415,6 +415,8 @@ static void frames(void)
     load(S, sizeof S);
     take(0);
     take(1);
+    f = engine_frame(TABLE, ROUND, 5, NULL, 0);
+    expect(engine_frame_end(f) == ENGINE_FRAME_FULL && engine_frame_steps(f) == 0, "no room for a commit");
     f = engine_frame(TABLE, ROUND, 5, one, sizeof one);
     expect(engine_frame_end(f) == ENGINE_FRAME_MADE && engine_frame_steps(f) == 5, "five steps");
     expect(engine_frame_commits(f) == 0, "and no commit");
