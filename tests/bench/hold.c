@@ -85,12 +85,12 @@ static void put_word(uint32_t w)
 
 static void put_expression(uint32_t nesting, uint32_t behaviours)
 {
-    uint32_t function, arguments, k;
+    uint32_t function, arguments, k, leaf = one_in(2) ? CONSTANT : NAME;
     size_t field;
 
     if (nesting == 0 || one_in(4)) {
-        field = open_field(one_in(2) ? CONSTANT : NAME);
-        if (sheet[field - 3] == CONSTANT)
+        field = open_field(leaf);
+        if (leaf == CONSTANT)
             put_word(one_in(3) ? any_word() : below(5));
         else
             put_byte(below(behaviours));
