@@ -37,8 +37,8 @@ returns c =
     outside _ _ _ _ (at-fill .fill .ensures) (c .before .before .before .get-word .ensures)
     (c .before .before .get-word2 .ensures) (c .before .code-fits .ensures) (not-true _ (c .if1 .taken))
 
-settle-from-requires : tie.Need-settle-from-requires
-settle-from-requires c κs =
+execute-from-requires : tie.Need-execute-from-requires
+execute-from-requires c κs =
     let at-fill = c .before .before .before .before .before .before .before in
     let at-entry = at-fill .before .before .before .before .before .before in
     let s = shallow _ _ _ _ (at-fill .fill .ensures) (at-entry .pre .1) in
@@ -57,4 +57,4 @@ pub carry-on-spec : {M : Type 1} → statement M
 carry-on-spec =
     tie.close
     (tie.spec (search needs) (search needs) (search needs) (search needs) (search needs) returns (search needs)
-    (search needs) settle-from-requires (search needs) returns-2)
+    (search needs) execute-from-requires (search needs) returns-2)
