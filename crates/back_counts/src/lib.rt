@@ -12,54 +12,54 @@ use front_draft::layout;
 const MASKS: usize = 4;
 
 // What an entry adds to the count of instructions.
-fn share_of(v: u64) -> usize
-    requires { ⌜ entryCount v ≤ 2048 ⌝ }
-    ensures { λ r. ⌜ r ≡ shareOf v ⌝ }
+fn share_of(entry: u64) -> usize
+    requires { ⌜ entryCount entry ≤ 2048 ⌝ }
+    ensures { λ r. ⌜ r ≡ shareOf entry ⌝ }
 {
-    if v % layout::KINDS == layout::PASSIVE {
-        return 2 + 2 * ((v / layout::COUNTS) as usize + 1);
+    if entry % layout::KINDS == layout::PASSIVE {
+        return 2 + 2 * ((entry / layout::COUNTS) as usize + 1);
     }
-    if v % layout::KINDS == layout::IMMEDIATE {
-        return 2 + ((v / layout::COUNTS) as usize + 1);
+    if entry % layout::KINDS == layout::IMMEDIATE {
+        return 2 + ((entry / layout::COUNTS) as usize + 1);
     }
-    if v % layout::KINDS == layout::LATER {
-        return 2 + ((v / layout::COUNTS) as usize + 2);
+    if entry % layout::KINDS == layout::LATER {
+        return 2 + ((entry / layout::COUNTS) as usize + 2);
     }
     0
 }
 
-// How many instructions the code of event e has.
-pub fn count_event(d: &[u64], e: usize, n: usize) -> usize
-    requires { ⌜ EntriesInside (now d) e n ⌝ }
-    ensures { λ r. ⌜ r ≡ countEvent (now (d .entry)) e n ⌝ }
+// How many instructions the code of the event has.
+pub fn count_event(draft: &[u64], event: usize, behaviours: usize) -> usize
+    requires { ⌜ EntriesInside (now draft) event behaviours ⌝ }
+    ensures { λ r. ⌜ r ≡ countEvent (now (draft .entry)) event behaviours ⌝ }
 {
     let mut sum = MASKS;
     let mut i = 0;
-    while i < n {
-        sum += share_of(entry_of(d, e, i));
+    while i < behaviours {
+        sum += share_of(entry_of(draft, event, i));
         i += 1;
     }
     sum
 }
 
-fn is_member(v: u64) -> usize
-    ensures { λ r. ⌜ r ≡ isMember v ⌝ }
+fn is_member(entry: u64) -> usize
+    ensures { λ r. ⌜ r ≡ isMember entry ⌝ }
 {
-    if v == 0 {
+    if entry == 0 {
         return 0;
     }
     1
 }
 
-// How many behaviours event e copies.
-pub fn count_members(d: &[u64], e: usize, n: usize) -> usize
-    requires { ⌜ (length (now d) ≡ draftLength) × (n ≤ 64) ⌝ }
-    ensures { λ r. ⌜ r ≡ countMembers (now (d .entry)) e n ⌝ }
+// How many behaviours the event copies.
+pub fn count_members(draft: &[u64], event: usize, behaviours: usize) -> usize
+    requires { ⌜ (length (now draft) ≡ draftLength) × (behaviours ≤ 64) ⌝ }
+    ensures { λ r. ⌜ r ≡ countMembers (now (draft .entry)) event behaviours ⌝ }
 {
     let mut sum = 0;
     let mut i = 0;
-    while i < n {
-        sum += is_member(entry_of(d, e, i));
+    while i < behaviours {
+        sum += is_member(entry_of(draft, event, i));
         i += 1;
     }
     sum

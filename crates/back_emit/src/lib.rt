@@ -1,6 +1,6 @@
 // The instructions of one behaviour on an event, written into the table from the draft (crate front_draft). Each
-// function writes from word k on and returns the next word. An instruction is two words: operation * 256 + slot, and a
-// constant (crate format_image).
+// function writes from word `place` on and returns the next word. An instruction is two words: operation * 256 + slot,
+// and a constant (crate format_image).
 ghost use mathlib.Core.Path.{_≡_};
 ghost use mathlib.Core.List.{[], _∷_};
 ghost use Prim.Native.Nat.{_+_, _<_, _≤_};
@@ -21,121 +21,155 @@ const BEHAVIOURS: u64 = spec_language::limits::BEHAVIOURS as u64;
 const FUNCTIONS: u64 = 16;
 
 // One instruction.
-pub fn emit_instr(t: &mut [u8], k: usize, operation: u32, constant: u32) -> usize
-    requires { ⌜ Room (now t) k (operation ∷ constant ∷ []) ⌝ }
-    ensures { λ r. ⌜ Wrote (now (t .entry)) k (operation ∷ constant ∷ []) (now (t .exit)) r ⌝ }
+pub fn emit_instr(table: &mut [u8], place: usize, operation: u32, constant: u32) -> usize
+    requires { ⌜ Room (now table) place (operation ∷ constant ∷ []) ⌝ }
+    ensures { λ r. ⌜ Wrote (now (table .entry)) place (operation ∷ constant ∷ []) (now (table .exit)) r ⌝ }
 {
-    put_word(t, k, operation);
-    put_word(t, k + 1, constant);
-    k + 2
+    put_word(table, place, operation);
+    put_word(table, place + 1, constant);
+    place + 2
 }
 
 // A name: fetched from scratch if the event copies it, else loaded from the store.
-fn emit_name(d: &[u64], e: usize, j: usize, t: &mut [u8], k: usize) -> usize
-    requires { ⌜ (length (now d) ≡ draftLength) × (j < 64) ⌝ }
-    requires { ⌜ Room (now t) k (nameWords (now d) e j) ⌝ }
-    ensures { λ r. ⌜ Wrote (now (t .entry)) k (nameWords (now (d .entry)) e j) (now (t .exit)) r ⌝ }
+fn emit_name(draft: &[u64], event: usize, j: usize, table: &mut [u8], place: usize) -> usize
+    requires { ⌜ (length (now draft) ≡ draftLength) × (j < 64) ⌝ }
+    requires { ⌜ Room (now table) place (nameWords (now draft) event j) ⌝ }
+    ensures { λ r. ⌜ Wrote (now (table .entry)) place (nameWords (now (draft .entry)) event j) (now (table .exit)) r ⌝ }
 {
-    if entry_of(d, e, j) == 0 {
-        return emit_instr(t, k, opcodes::LOAD + j as u32, 0);
+    if entry_of(draft, event, j) == 0 {
+        return emit_instr(table, place, opcodes::LOAD + j as u32, 0);
     }
-    emit_instr(t, k, opcodes::FETCH + j as u32, 0)
+    emit_instr(table, place, opcodes::FETCH + j as u32, 0)
 }
 
 // A node.
-fn emit_node(d: &[u64], e: usize, x: u64, t: &mut [u8], k: usize) -> usize
-    requires { ⌜ length (now d) ≡ draftLength ⌝ }
-    requires { ⌜ Room (now t) k (nodeWords (now d) e x) ⌝ }
-    ensures { λ r. ⌜ Wrote (now (t .entry)) k (nodeWords (now (d .entry)) e x) (now (t .exit)) r ⌝ }
+fn emit_node(draft: &[u64], event: usize, node: u64, table: &mut [u8], place: usize) -> usize
+    requires { ⌜ length (now draft) ≡ draftLength ⌝ }
+    requires { ⌜ Room (now table) place (nodeWords (now draft) event node) ⌝ }
+    ensures { λ r. ⌜ Wrote (now (table .entry)) place (nodeWords (now (draft .entry)) event node) (now (table .exit)) r ⌝ }
 {
-    if x / layout::WORD == layout::CONSTANT {
-        return emit_instr(t, k, opcodes::PUSH, (x % layout::WORD) as u32);
+    if node / layout::WORD == layout::CONSTANT {
+        return emit_instr(table, place, opcodes::PUSH, (node % layout::WORD) as u32);
     }
-    if x / layout::WORD == layout::NAME {
-        return emit_name(d, e, (x % layout::WORD % BEHAVIOURS) as usize, t, k);
+    if node / layout::WORD == layout::NAME {
+        return emit_name(
+            draft,
+            event,
+            (node % layout::WORD % BEHAVIOURS) as usize,
+            table,
+            place,
+        );
     }
     emit_instr(
-        t,
-        k,
-        opcodes::APPLY + (x % layout::WORD % FUNCTIONS) as u32,
+        table,
+        place,
+        opcodes::APPLY + (node % layout::WORD % FUNCTIONS) as u32,
         0,
     )
 }
 
 // Behaviour i's expression of count nodes from start on, as it uses them.
 fn emit_expr(
-    d: &[u64],
-    e: usize,
+    draft: &[u64],
+    event: usize,
     i: usize,
     start: usize,
     count: usize,
-    t: &mut [u8],
-    k: usize,
+    table: &mut [u8],
+    place: usize,
 ) -> usize
-    requires { ⌜ (length (now d) ≡ draftLength) × (i < 64) × (start + count ≤ 2048) ⌝ }
-    requires { ⌜ Room (now t) k (exprWords (now d) e i start count) ⌝ }
-    ensures { λ r. ⌜ Wrote (now (t .entry)) k (exprWords (now (d .entry)) e i start count) (now (t .exit)) r ⌝ }
+    requires { ⌜ (length (now draft) ≡ draftLength) × (i < 64) × (start + count ≤ 2048) ⌝ }
+    requires { ⌜ Room (now table) place (exprWords (now draft) event i start count) ⌝ }
+    ensures { λ r. ⌜ Wrote (now (table .entry)) place (exprWords (now (draft .entry)) event i start count) (now (table .exit)) r ⌝ }
 {
-    let mut next = k;
+    let mut next = place;
     let mut j = 0;
     while j < count {
-        next = emit_node(d, e, moved_node(d, i, d[start + j]), t, next);
+        next = emit_node(
+            draft,
+            event,
+            moved_node(draft, i, draft[start + j]),
+            table,
+            next,
+        );
         j += 1;
     }
     next
 }
 
-// The expression of behaviour i, and then op i.
-pub fn emit_turn(d: &[u64], e: usize, op: u32, i: usize, t: &mut [u8], k: usize) -> usize
-    requires { ⌜ EntriesInside (now d) e (i + 1) × (op ≤ 2560) ⌝ }
-    requires { ⌜ Room (now t) k (turnWords (now d) e op i) ⌝ }
-    ensures { λ r. ⌜ Wrote (now (t .entry)) k (turnWords (now (d .entry)) e op i) (now (t .exit)) r ⌝ }
+// The expression of behaviour i, and then the operation on i.
+pub fn emit_turn(
+    draft: &[u64],
+    event: usize,
+    operation: u32,
+    i: usize,
+    table: &mut [u8],
+    place: usize,
+) -> usize
+    requires { ⌜ EntriesInside (now draft) event (i + 1) × (operation ≤ 2560) ⌝ }
+    requires { ⌜ Room (now table) place (turnWords (now draft) event operation i) ⌝ }
+    ensures { λ r. ⌜ Wrote (now (table .entry)) place (turnWords (now (draft .entry)) event operation i) (now (table .exit)) r ⌝ }
 {
-    let v = entry_of(d, e, i);
+    let v = entry_of(draft, event, i);
     let next = emit_expr(
-        d,
-        e,
+        draft,
+        event,
         i,
         (v / layout::KINDS % layout::FIRSTS) as usize,
         (v / layout::COUNTS) as usize,
-        t,
-        k,
+        table,
+        place,
     );
-    emit_instr(t, next, op + i as u32, 0)
+    emit_instr(table, next, operation + i as u32, 0)
 }
 
 // The same, if its entry is of this kind.
-pub fn emit_kind(d: &[u64], e: usize, kind: u64, op: u32, i: usize, t: &mut [u8], k: usize) -> usize
-    requires { ⌜ EntriesInside (now d) e (i + 1) × (op ≤ 2560) ⌝ }
-    requires { ⌜ Room (now t) k (turnWordsOfKind (now d) e kind op i) ⌝ }
-    ensures { λ r. ⌜ Wrote (now (t .entry)) k (turnWordsOfKind (now (d .entry)) e kind op i) (now (t .exit)) r ⌝ }
+pub fn emit_kind(
+    draft: &[u64],
+    event: usize,
+    kind: u64,
+    operation: u32,
+    i: usize,
+    table: &mut [u8],
+    place: usize,
+) -> usize
+    requires { ⌜ EntriesInside (now draft) event (i + 1) × (operation ≤ 2560) ⌝ }
+    requires { ⌜ Room (now table) place (turnWordsOfKind (now draft) event kind operation i) ⌝ }
+    ensures { λ r. ⌜ Wrote (now (table .entry)) place (turnWordsOfKind (now (draft .entry)) event kind operation i) (now (table .exit)) r ⌝ }
 {
-    if entry_of(d, e, i) % layout::KINDS == kind {
-        return emit_turn(d, e, op, i, t, k);
+    if entry_of(draft, event, i) % layout::KINDS == kind {
+        return emit_turn(draft, event, operation, i, table, place);
     }
-    k
+    place
 }
 
 // The move of a later handler's value.
-pub fn emit_move(d: &[u64], e: usize, i: usize, t: &mut [u8], k: usize) -> usize
-    requires { ⌜ (length (now d) ≡ draftLength) × (i < 64) ⌝ }
-    requires { ⌜ Room (now t) k (moveWords (now d) e i) ⌝ }
-    ensures { λ r. ⌜ Wrote (now (t .entry)) k (moveWords (now (d .entry)) e i) (now (t .exit)) r ⌝ }
+pub fn emit_move(draft: &[u64], event: usize, i: usize, table: &mut [u8], place: usize) -> usize
+    requires { ⌜ (length (now draft) ≡ draftLength) × (i < 64) ⌝ }
+    requires { ⌜ Room (now table) place (moveWords (now draft) event i) ⌝ }
+    ensures { λ r. ⌜ Wrote (now (table .entry)) place (moveWords (now (draft .entry)) event i) (now (table .exit)) r ⌝ }
 {
-    if entry_of(d, e, i) % layout::KINDS == layout::LATER {
-        return emit_instr(t, k, opcodes::MOVE + i as u32, 0);
+    if entry_of(draft, event, i) % layout::KINDS == layout::LATER {
+        return emit_instr(table, place, opcodes::MOVE + i as u32, 0);
     }
-    k
+    place
 }
 
-// op i, if the event copies i.
-pub fn emit_member(d: &[u64], e: usize, op: u32, i: usize, t: &mut [u8], k: usize) -> usize
-    requires { ⌜ (length (now d) ≡ draftLength) × (i < 64) × (op ≤ 1024) ⌝ }
-    requires { ⌜ Room (now t) k (memberWords (now d) e op i) ⌝ }
-    ensures { λ r. ⌜ Wrote (now (t .entry)) k (memberWords (now (d .entry)) e op i) (now (t .exit)) r ⌝ }
+// The operation on i, if the event copies i.
+pub fn emit_member(
+    draft: &[u64],
+    event: usize,
+    operation: u32,
+    i: usize,
+    table: &mut [u8],
+    place: usize,
+) -> usize
+    requires { ⌜ (length (now draft) ≡ draftLength) × (i < 64) × (operation ≤ 1024) ⌝ }
+    requires { ⌜ Room (now table) place (memberWords (now draft) event operation i) ⌝ }
+    ensures { λ r. ⌜ Wrote (now (table .entry)) place (memberWords (now (draft .entry)) event operation i) (now (table .exit)) r ⌝ }
 {
-    if entry_of(d, e, i) == 0 {
-        return k;
+    if entry_of(draft, event, i) == 0 {
+        return place;
     }
-    emit_instr(t, k, op + i as u32, 0)
+    emit_instr(table, place, operation + i as u32, 0)
 }

@@ -1,6 +1,6 @@
 // The handler of one event (003, Figure 3; 01: its code), written into the table from its draft (crate front_draft), in
 // the order of Figure 3: the check on dependence, phase one, phase two, and then the copy and the copy-back around
-// them. Each function writes from word k on and returns the next word.
+// them. Each function writes from word `place` on and returns the next word.
 ghost use mathlib.Core.Path.{_≡_};
 ghost use Prim.Native.Nat.{_≤_};
 ghost use lib.ListN.{length};
@@ -15,49 +15,69 @@ use back_emit::opcodes;
 use back_schedule::Order;
 use spec_language::limits;
 
-// op i of each behaviour that the event copies.
-fn emit_members(d: &[u64], e: usize, op: u32, n: usize, t: &mut [u8], k: usize) -> usize
-    requires { ⌜ (length (now d) ≡ draftLength) × (n ≤ 64) × (op ≤ 1024) ⌝ }
-    requires { ⌜ Room (now t) k (each n (memberWords (now d) e op)) ⌝ }
-    ensures { λ r. ⌜ Wrote (now (t .entry)) k (each n (memberWords (now (d .entry)) e op)) (now (t .exit)) r ⌝ }
+// The operation on i of each behaviour that the event copies.
+fn emit_members(
+    draft: &[u64],
+    event: usize,
+    operation: u32,
+    behaviours: usize,
+    table: &mut [u8],
+    place: usize,
+) -> usize
+    requires { ⌜ (length (now draft) ≡ draftLength) × (behaviours ≤ 64) × (operation ≤ 1024) ⌝ }
+    requires { ⌜ Room (now table) place (each behaviours (memberWords (now draft) event operation)) ⌝ }
+    ensures { λ r. ⌜ Wrote (now (table .entry)) place (each behaviours (memberWords (now (draft .entry)) event operation)) (now (table .exit)) r ⌝ }
 {
-    let mut next = k;
+    let mut next = place;
     let mut m = 0;
-    while m < n {
-        next = emit_member(d, e, op, m, t, next);
+    while m < behaviours {
+        next = emit_member(draft, event, operation, m, table, next);
         m += 1;
     }
     next
 }
 
-// Interrupts off, op i of each behaviour that the event copies, interrupts on.
-fn emit_masked(d: &[u64], e: usize, op: u32, n: usize, t: &mut [u8], k: usize) -> usize
-    requires { ⌜ (length (now d) ≡ draftLength) × (n ≤ 64) × (op ≤ 1024) ⌝ }
-    requires { ⌜ Room (now t) k (maskedWords (now d) e op n) ⌝ }
-    ensures { λ r. ⌜ Wrote (now (t .entry)) k (maskedWords (now (d .entry)) e op n) (now (t .exit)) r ⌝ }
+// Interrupts off, the operation on i of each behaviour that the event copies, interrupts on.
+fn emit_masked(
+    draft: &[u64],
+    event: usize,
+    operation: u32,
+    behaviours: usize,
+    table: &mut [u8],
+    place: usize,
+) -> usize
+    requires { ⌜ (length (now draft) ≡ draftLength) × (behaviours ≤ 64) × (operation ≤ 1024) ⌝ }
+    requires { ⌜ Room (now table) place (maskedWords (now draft) event operation behaviours) ⌝ }
+    ensures { λ r. ⌜ Wrote (now (table .entry)) place (maskedWords (now (draft .entry)) event operation behaviours) (now (table .exit)) r ⌝ }
 {
-    let begun = emit_instr(t, k, opcodes::OFF, 0);
-    let done = emit_members(d, e, op, n, t, begun);
-    emit_instr(t, done, opcodes::ON, 0)
+    let begun = emit_instr(table, place, opcodes::OFF, 0);
+    let done = emit_members(draft, event, operation, behaviours, table, begun);
+    emit_instr(table, done, opcodes::ON, 0)
 }
 
-// The code of event e, of n behaviours. An event with a circle gets none: compile has turned such a sheet down by then.
-pub fn compile_event(d: &[u64], e: usize, n: usize, t: &mut [u8], k: usize) -> usize
-    requires { ⌜ EntriesInside (now d) e n × (e ≤ 32) ⌝ }
-    requires { ⌜ Room (now t) k (codeOf (now d) n e) ⌝ }
-    ensures { λ r. ⌜ Wrote (now (t .entry)) k (codeOf (now (d .entry)) n e) (now (t .exit)) r ⌝ }
+// The code of the event. One with a circle gets none: compile has turned such a sheet down by then.
+pub fn compile_event(
+    draft: &[u64],
+    event: usize,
+    behaviours: usize,
+    table: &mut [u8],
+    place: usize,
+) -> usize
+    requires { ⌜ EntriesInside (now draft) event behaviours × (event ≤ 32) ⌝ }
+    requires { ⌜ Room (now table) place (codeOf (now draft) behaviours event) ⌝ }
+    ensures { λ r. ⌜ Wrote (now (table .entry)) place (codeOf (now (draft .entry)) behaviours event) (now (table .exit)) r ⌝ }
 {
     // the check on dependence
-    let mut o = [0u8; limits::BEHAVIOURS];
-    let a = back_schedule::check_dependence(d, e, n, &mut o);
-    let Order::Complete(count) = a else {
-        return k;
+    let mut order = [0u8; limits::BEHAVIOURS];
+    let found = back_schedule::check_dependence(draft, event, behaviours, &mut order);
+    let Order::Complete(count) = found else {
+        return place;
     };
     // the two phases, behind the room for the copy: off, one instruction for each of C, on
-    let first = k + 2 * (2 + back_counts::count_members(d, e, n));
-    let second = back_phases::phase_one(d, e, n, &o, count, t, first);
-    let last = back_phases::phase_two(d, e, n, &o, count, t, second);
+    let first = place + 2 * (2 + back_counts::count_members(draft, event, behaviours));
+    let second = back_phases::phase_one(draft, event, behaviours, &order, count, table, first);
+    let last = back_phases::phase_two(draft, event, behaviours, &order, count, table, second);
     // the surrounding copy and copy-back
-    emit_masked(d, e, opcodes::COPY, n, t, k);
-    emit_masked(d, e, opcodes::RESTORE, n, t, last)
+    emit_masked(draft, event, opcodes::COPY, behaviours, table, place);
+    emit_masked(draft, event, opcodes::RESTORE, behaviours, table, last)
 }

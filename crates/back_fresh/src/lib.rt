@@ -13,159 +13,164 @@ const BEHAVIOURS: u32 = limits::BEHAVIOURS as u32;
 const BYTE: u32 = 256;
 
 // The word w on the stack, of depth k; a full stack stays as it is. Its new depth.
-fn push(st: &mut [u32], k: usize, w: u32) -> usize
-    requires { ⌜ (length (now st) ≡ 64) × (k ≤ 64) ⌝ }
+fn push(stack: &mut [u32], k: usize, w: u32) -> usize
+    requires { ⌜ (length (now stack) ≡ 64) × (k ≤ 64) ⌝ }
     ensures { λ r. ⌜ r ≡ pushDepth k ⌝ }
-    ensures { λ r. ⌜ now (st .exit) ≡ pushStack (now (st .entry)) k w ⌝ }
+    ensures { λ r. ⌜ now (stack .exit) ≡ pushStack (now (stack .entry)) k w ⌝ }
     ensures { λ r. ⌜ r ≤ 64 ⌝ }
 {
     if k < limits::STACK {
-        st[k] = w;
+        stack[k] = w;
         return k + 1;
     }
     k
 }
 
 // The value of name j; 0 past the last.
-fn value_of(v: &[u32], j: u32) -> u32
-    requires { ⌜ length (now v) ≡ 64 ⌝ }
-    ensures { λ r. ⌜ r ≡ look (now (v .entry)) j ⌝ }
+fn value_of(values: &[u32], j: u32) -> u32
+    requires { ⌜ length (now values) ≡ 64 ⌝ }
+    ensures { λ r. ⌜ r ≡ look (now (values .entry)) j ⌝ }
 {
     if j < BEHAVIOURS {
-        return v[j as usize];
+        return values[j as usize];
     }
     0
 }
 
 // Argument j of the n at place i of the stack; 0 for one that is not needed.
-fn argument_at(st: &[u32], i: usize, n: usize, j: usize) -> u32
-    requires { ⌜ (length (now st) ≡ 64) × (i + n ≤ 64) × (j < 64) ⌝ }
-    ensures { λ r. ⌜ r ≡ argument (now (st .entry)) i n j ⌝ }
+fn argument_at(stack: &[u32], i: usize, n: usize, j: usize) -> u32
+    requires { ⌜ (length (now stack) ≡ 64) × (i + n ≤ 64) × (j < 64) ⌝ }
+    ensures { λ r. ⌜ r ≡ argument (now (stack .entry)) i n j ⌝ }
 {
     if j < n {
-        return st[i + j];
+        return stack[i + j];
     }
     0
 }
 
 // Function f on its n arguments at place i of the stack.
-fn apply_at(f: u8, n: usize, st: &[u32], i: usize) -> u32
-    requires { ⌜ (length (now st) ≡ 64) × (i + n ≤ 64) ⌝ }
-    ensures { λ r. ⌜ r ≡ appliedAt f n (now (st .entry)) i ⌝ }
+fn apply_at(f: u8, n: usize, stack: &[u32], i: usize) -> u32
+    requires { ⌜ (length (now stack) ≡ 64) × (i + n ≤ 64) ⌝ }
+    ensures { λ r. ⌜ r ≡ appliedAt f n (now (stack .entry)) i ⌝ }
 {
-    let a = argument_at(st, i, n, 0);
-    let b = argument_at(st, i, n, 1);
-    let c = argument_at(st, i, n, 2);
+    let a = argument_at(stack, i, n, 0);
+    let b = argument_at(stack, i, n, 1);
+    let c = argument_at(stack, i, n, 2);
     lib_functions::word_of(f, a, b, c)
 }
 
 // Function f takes its n arguments from the stack and puts its result; without them the stack stays as it is. Its new
 // depth.
-fn apply_top(f: u8, n: usize, st: &mut [u32], k: usize) -> usize
-    requires { ⌜ (length (now st) ≡ 64) × (0 < n) × (k ≤ 64) ⌝ }
+fn apply_top(f: u8, n: usize, stack: &mut [u32], k: usize) -> usize
+    requires { ⌜ (length (now stack) ≡ 64) × (0 < n) × (k ≤ 64) ⌝ }
     ensures { λ r. ⌜ r ≡ applyDepth n k ⌝ }
-    ensures { λ r. ⌜ now (st .exit) ≡ applyStack f n (now (st .entry)) k ⌝ }
+    ensures { λ r. ⌜ now (stack .exit) ≡ applyStack f n (now (stack .entry)) k ⌝ }
     ensures { λ r. ⌜ r ≤ 64 ⌝ }
 {
     if k < n {
         return k;
     }
-    let w = apply_at(f, n, st, k - n);
-    st[k - n] = w;
+    let w = apply_at(f, n, stack, k - n);
+    stack[k - n] = w;
     k - n + 1
 }
 
 // A node: a constant or a name's value is put on the stack, a function applied. The new depth.
-fn eval_node(x: u64, v: &[u32], st: &mut [u32], k: usize) -> usize
-    requires { ⌜ (length (now v) ≡ 64) × (length (now st) ≡ 64) × (k ≤ 64) ⌝ }
-    ensures { λ r. ⌜ r ≡ nodeDepth x k ⌝ }
-    ensures { λ r. ⌜ now (st .exit) ≡ nodeStack (now (v .entry)) x (now (st .entry)) k ⌝ }
+fn eval_node(node: u64, values: &[u32], stack: &mut [u32], k: usize) -> usize
+    requires { ⌜ (length (now values) ≡ 64) × (length (now stack) ≡ 64) × (k ≤ 64) ⌝ }
+    ensures { λ r. ⌜ r ≡ nodeDepth node k ⌝ }
+    ensures { λ r. ⌜ now (stack .exit) ≡ nodeStack (now (values .entry)) node (now (stack .entry)) k ⌝ }
     ensures { λ r. ⌜ r ≤ 64 ⌝ }
 {
-    let w = (x % layout::WORD) as u32;
-    if x / layout::WORD == layout::CONSTANT {
-        return push(st, k, w);
+    let w = (node % layout::WORD) as u32;
+    if node / layout::WORD == layout::CONSTANT {
+        return push(stack, k, w);
     }
-    if x / layout::WORD == layout::NAME {
-        let u = value_of(v, w);
-        return push(st, k, u);
+    if node / layout::WORD == layout::NAME {
+        let u = value_of(values, w);
+        return push(stack, k, u);
     }
     let f = (w % BYTE) as u8;
     let n = lib_functions::arity_of(f);
-    apply_top(f, n, st, k)
+    apply_top(f, n, stack, k)
 }
 
-// The value of the expression whose nodes are count of the draft from start on, as behaviour b uses them; v the values
-// of names.
-fn eval_nodes(d: &[u64], b: usize, start: usize, count: usize, v: &[u32]) -> u32
-    requires { ⌜ (length (now d) ≡ draftLength) × (b < 64) × (start + count ≤ 2048) × (length (now v) ≡ 64) ⌝ }
-    ensures { λ r. ⌜ r ≡ evaluated (now (v .entry)) (take count (drop start (usedBy (now (d .entry)) b))) ⌝ }
+// The value of the expression whose nodes are count of the draft from start on, as behaviour b uses them; `values`
+// those of names.
+fn eval_nodes(draft: &[u64], b: usize, start: usize, count: usize, values: &[u32]) -> u32
+    requires { ⌜ (length (now draft) ≡ draftLength) × (b < 64) × (start + count ≤ 2048) × (length (now values) ≡ 64) ⌝ }
+    ensures { λ r. ⌜ r ≡ evaluated (now (values .entry)) (take count (drop start (usedBy (now (draft .entry)) b))) ⌝ }
 {
     let mut st = [0u32; limits::STACK];
     let mut k = 0;
     let mut i = 0;
     while i < count {
-        k = eval_node(front_draft::moved_node(d, b, d[start + i]), v, &mut st, k);
+        k = eval_node(
+            front_draft::moved_node(draft, b, draft[start + i]),
+            values,
+            &mut st,
+            k,
+        );
         i += 1;
     }
     st[0]
 }
 
-// The value of the expression of behaviour i with entry w.
-fn eval_entry(d: &[u64], i: usize, v: &[u32], w: u64) -> u32
-    requires { ⌜ (length (now d) ≡ draftLength) × (i < 64) × (length (now v) ≡ 64) ⌝ }
-    ensures { λ r. ⌜ r ≡ entryValue (usedBy (now (d .entry)) i) (now (v .entry)) w ⌝ }
+// The value of the expression of behaviour i with the entry.
+fn eval_entry(draft: &[u64], i: usize, values: &[u32], entry: u64) -> u32
+    requires { ⌜ (length (now draft) ≡ draftLength) × (i < 64) × (length (now values) ≡ 64) ⌝ }
+    ensures { λ r. ⌜ r ≡ entryValue (usedBy (now (draft .entry)) i) (now (values .entry)) entry ⌝ }
 {
-    let start = (w / layout::KINDS % layout::FIRSTS) as usize;
-    let count = (w / layout::COUNTS) as usize;
+    let start = (entry / layout::KINDS % layout::FIRSTS) as usize;
+    let count = (entry / layout::COUNTS) as usize;
     if layout::NODES < start + count {
         return 0;
     }
-    eval_nodes(d, i, start, count, v)
+    eval_nodes(draft, i, start, count, values)
 }
 
 // The start values of n behaviours.
-fn start_values(d: &[u64], n: usize) -> [u32; limits::BEHAVIOURS]
-    requires { ⌜ (length (now d) ≡ draftLength) × (n ≤ 64) ⌝ }
-    ensures { λ r. ⌜ r ≡ startsOn (now (d .entry)) n ⌝ }
+fn start_values(draft: &[u64], n: usize) -> [u32; limits::BEHAVIOURS]
+    requires { ⌜ (length (now draft) ≡ draftLength) × (n ≤ 64) ⌝ }
+    ensures { λ r. ⌜ r ≡ startsOn (now (draft .entry)) n ⌝ }
 {
     let mut v = [0u32; limits::BEHAVIOURS];
     let mut i = 0;
     while i < n {
-        v[i] = (d[layout::STARTS + i] % layout::WORD) as u32;
+        v[i] = (draft[layout::STARTS + i] % layout::WORD) as u32;
         i += 1;
     }
     v
 }
 
-// Behaviour i takes the value of its expression on event e.
-fn take_turn(d: &[u64], e: usize, i: usize, v: &mut [u32])
-    requires { ⌜ (length (now d) ≡ draftLength) × (length (now v) ≡ 64) ⌝ }
-    ensures { λ _. ⌜ now (v .exit) ≡ turnOn (now (d .entry)) e i (now (v .entry)) ⌝ }
+// Behaviour i takes the value of its expression on the event.
+fn take_turn(draft: &[u64], event: usize, i: usize, values: &mut [u32])
+    requires { ⌜ (length (now draft) ≡ draftLength) × (length (now values) ≡ 64) ⌝ }
+    ensures { λ _. ⌜ now (values .exit) ≡ turnOn (now (draft .entry)) event i (now (values .entry)) ⌝ }
 {
     if i < limits::BEHAVIOURS {
-        let w = front_draft::entry_of(d, e, i);
-        let u = eval_entry(d, i, v, w);
-        v[i] = u;
+        let w = front_draft::entry_of(draft, event, i);
+        let u = eval_entry(draft, i, values, w);
+        values[i] = u;
     }
 }
 
 // The values of a fresh round of n behaviours: the start values, and then those of the first count behaviours of the
-// order o, in turn, on event e.
+// order, in turn, on the event.
 pub fn fresh_values(
-    d: &[u64],
+    draft: &[u64],
     n: usize,
-    e: usize,
-    o: &[u8],
+    event: usize,
+    order: &[u8],
     count: usize,
 ) -> [u32; limits::BEHAVIOURS]
-    requires { ⌜ (length (now d) ≡ draftLength) × (n ≤ 64) × (count ≤ length (now o)) ⌝ }
-    ensures { λ r. ⌜ r ≡ freshOn (now (d .entry)) n e (take count (now (o .entry))) ⌝ }
+    requires { ⌜ (length (now draft) ≡ draftLength) × (n ≤ 64) × (count ≤ length (now order)) ⌝ }
+    ensures { λ r. ⌜ r ≡ freshOn (now (draft .entry)) n event (take count (now (order .entry))) ⌝ }
 {
-    let mut v = start_values(d, n);
+    let mut v = start_values(draft, n);
     let mut j = 0;
     while j < count {
-        take_turn(d, e, o[j] as usize, &mut v);
+        take_turn(draft, event, order[j] as usize, &mut v);
         j += 1;
     }
     v

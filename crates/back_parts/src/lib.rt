@@ -1,5 +1,5 @@
 // The table's parts that take no order: zeros, values, the head, the record of one event, and who may see and send.
-// Each writes from word k on, and returns the word after.
+// Each writes from word `place` on, and returns the word after.
 ghost use mathlib.Core.Path.{_≡_};
 ghost use mathlib.Core.List.{[], _∷_};
 ghost use Prim.Native.Nat.{_+_, _-_, _%_, _<_, _≤_};
@@ -15,59 +15,67 @@ use front_draft::layout;
 use lib_word::put_word;
 use spec_language::limits;
 
-// Zeros from word k up to word end.
-pub fn write_zeros(t: &mut [u8], k: usize, end: usize) -> usize
-    requires { ⌜ (34816 ≤ length (now t)) × (k ≤ end) × (end ≤ 8704) ⌝ }
-    ensures { λ r. ⌜ Wrote (now (t .entry)) k (replicate (end - k) 0) (now (t .exit)) r ⌝ }
+// Zeros from word `place` up to word end.
+pub fn write_zeros(table: &mut [u8], place: usize, end: usize) -> usize
+    requires { ⌜ (34816 ≤ length (now table)) × (place ≤ end) × (end ≤ 8704) ⌝ }
+    ensures { λ r. ⌜ Wrote (now (table .entry)) place (replicate (end - place) 0) (now (table .exit)) r ⌝ }
 {
-    let mut next = k;
+    let mut next = place;
     while next < end {
-        put_word(t, next, 0);
+        put_word(table, next, 0);
         next += 1;
     }
     next
 }
 
 // The head: the numbers of events and behaviours.
-pub fn write_head(t: &mut [u8], ev: usize, bs: usize) -> usize
-    requires { ⌜ (34816 ≤ length (now t)) × (ev ≤ 32) × (bs ≤ 64) ⌝ }
-    ensures { λ r. ⌜ Wrote (now (t .entry)) 0 (padded 8 (ev ∷ bs ∷ [])) (now (t .exit)) r ⌝ }
+pub fn write_head(table: &mut [u8], events: usize, behaviours: usize) -> usize
+    requires { ⌜ (34816 ≤ length (now table)) × (events ≤ 32) × (behaviours ≤ 64) ⌝ }
+    ensures { λ r. ⌜ Wrote (now (table .entry)) 0 (padded 8 (events ∷ behaviours ∷ [])) (now (table .exit)) r ⌝ }
 {
-    put_word(t, table::EVENT_COUNT, ev as u32);
-    put_word(t, table::BEHAVIOUR_COUNT, bs as u32);
-    write_zeros(t, 2, table::EVENTS)
+    put_word(table, table::EVENT_COUNT, events as u32);
+    put_word(table, table::BEHAVIOUR_COUNT, behaviours as u32);
+    write_zeros(table, 2, table::EVENTS)
 }
 
-// The record of event e, whose code begins at instruction start.
+// The record of the event, whose code begins at instruction start.
 pub fn write_record(
-    d: &[u64],
-    bs: usize,
-    e: usize,
+    draft: &[u64],
+    behaviours: usize,
+    event: usize,
     start: usize,
     count: usize,
-    t: &mut [u8],
-    k: usize,
+    table: &mut [u8],
+    place: usize,
 ) -> usize
-    requires { ⌜ (length (now d) ≡ draftLength) × (e < 32) × (bs ≤ 64) × (start ≤ 4096) × (count ≤ 4096) ⌝ }
-    requires { ⌜ (34816 ≤ length (now t)) × (k ≤ 8700) ⌝ }
-    ensures { λ r. ⌜ Wrote (now (t .entry)) k ((getD (now (d .entry)) (4224 + e) 0 % 4294967296) ∷ start ∷ count ∷ countMembers (now (d .entry)) e bs ∷ []) (now (t .exit)) r ⌝ }
+    requires { ⌜ (length (now draft) ≡ draftLength) × (event < 32) × (behaviours ≤ 64) × (start ≤ 4096) × (count ≤ 4096) ⌝ }
+    requires { ⌜ (34816 ≤ length (now table)) × (place ≤ 8700) ⌝ }
+    ensures { λ r. ⌜ Wrote (now (table .entry)) place ((getD (now (draft .entry)) (4224 + event) 0 % 4294967296) ∷ start ∷ count ∷ countMembers (now (draft .entry)) event behaviours ∷ []) (now (table .exit)) r ⌝ }
 {
-    put_word(t, k, (d[layout::PRIORITIES + e] % layout::WORD) as u32);
-    put_word(t, k + 1, start as u32);
-    put_word(t, k + 2, count as u32);
-    put_word(t, k + 3, back_counts::count_members(d, e, bs) as u32);
-    k + table::EVENT_WORDS
+    put_word(
+        table,
+        place,
+        (draft[layout::PRIORITIES + event] % layout::WORD) as u32,
+    );
+    put_word(table, place + 1, start as u32);
+    put_word(table, place + 2, count as u32);
+    put_word(
+        table,
+        place + 3,
+        back_counts::count_members(draft, event, behaviours) as u32,
+    );
+    place + table::EVENT_WORDS
 }
 
-// The 64 words v.
-pub fn write_values(v: &[u32], t: &mut [u8], k: usize) -> usize
-    requires { ⌜ (length (now v) ≡ 64) × (34816 ≤ length (now t)) × (k ≤ 8640) ⌝ }
-    ensures { λ r. ⌜ Wrote (now (t .entry)) k (now (v .entry)) (now (t .exit)) r ⌝ }
+// The 64 values.
+pub fn write_values(values: &[u32], table: &mut [u8], place: usize) -> usize
+    requires { ⌜ (length (now values) ≡ 64) × (34816 ≤ length (now table)) × (place ≤ 8640) ⌝ }
+    ensures { λ r. ⌜ Wrote (now (table .entry)) place (now (values .entry)) (now (table .exit)) r ⌝ }
 {
-    let mut next = k;
+    let mut next = place;
     let mut j = 0;
     while j < limits::BEHAVIOURS {
-        put_word(t, next, v[j]);
+        put_word(table, next, values[j]);
         next += 1;
         j += 1;
     }
@@ -75,15 +83,15 @@ pub fn write_values(v: &[u32], t: &mut [u8], k: usize) -> usize
 }
 
 // The numbers of the draft from place `from` on, `count` of them, a word for each.
-fn write_numbers(d: &[u64], from: usize, count: usize, t: &mut [u8], k: usize) -> usize
-    requires { ⌜ (length (now d) ≡ draftLength) × (from + count ≤ draftLength) ⌝ }
-    requires { ⌜ Room (now t) k (each count (draftNumber (now d) from)) ⌝ }
-    ensures { λ r. ⌜ Wrote (now (t .entry)) k (each count (draftNumber (now (d .entry)) from)) (now (t .exit)) r ⌝ }
+fn write_numbers(draft: &[u64], from: usize, count: usize, table: &mut [u8], place: usize) -> usize
+    requires { ⌜ (length (now draft) ≡ draftLength) × (from + count ≤ draftLength) ⌝ }
+    requires { ⌜ Room (now table) place (each count (draftNumber (now draft) from)) ⌝ }
+    ensures { λ r. ⌜ Wrote (now (table .entry)) place (each count (draftNumber (now (draft .entry)) from)) (now (table .exit)) r ⌝ }
 {
-    let mut next = k;
+    let mut next = place;
     let mut j = 0;
     while j < count {
-        put_word(t, next, (d[from + j] % layout::WORD) as u32);
+        put_word(table, next, (draft[from + j] % layout::WORD) as u32);
         next += 1;
         j += 1;
     }
@@ -91,13 +99,13 @@ fn write_numbers(d: &[u64], from: usize, count: usize, t: &mut [u8], k: usize) -
 }
 
 // Who may see each behaviour, from word 200 on, and who may send each event, from word 264 on; zeros up to word 296.
-pub fn write_rights(d: &[u64], ev: usize, bs: usize, t: &mut [u8]) -> usize
-    requires { ⌜ (length (now d) ≡ draftLength) × (ev ≤ 32) × (bs ≤ 64) × (34816 ≤ length (now t)) ⌝ }
-    ensures { λ r. ⌜ Wrote (now (t .entry)) 200 (rightWords (now (d .entry)) ev bs) (now (t .exit)) r ⌝ }
+pub fn write_rights(draft: &[u64], events: usize, behaviours: usize, table: &mut [u8]) -> usize
+    requires { ⌜ (length (now draft) ≡ draftLength) × (events ≤ 32) × (behaviours ≤ 64) × (34816 ≤ length (now table)) ⌝ }
+    ensures { λ r. ⌜ Wrote (now (table .entry)) 200 (rightWords (now (draft .entry)) events behaviours) (now (table .exit)) r ⌝ }
     ensures { λ r. ⌜ r ≡ 296 ⌝ }
 {
-    let seen = write_numbers(d, layout::VIEWERS, bs, t, table::VIEWERS);
-    write_zeros(t, seen, table::SENDERS);
-    let sent = write_numbers(d, layout::SENDERS, ev, t, table::SENDERS);
-    write_zeros(t, sent, table::KINDS)
+    let seen = write_numbers(draft, layout::VIEWERS, behaviours, table, table::VIEWERS);
+    write_zeros(table, seen, table::SENDERS);
+    let sent = write_numbers(draft, layout::SENDERS, events, table, table::SENDERS);
+    write_zeros(table, sent, table::KINDS)
 }

@@ -19,25 +19,25 @@ use lib_word::put_word;
 const PASSIVES_END: usize = table::PASSIVES_LENGTH + 1;
 
 // 1 for a passive's entry.
-fn kind_of(v: u64) -> u32
-    ensures { λ r. ⌜ r ≡ pick (eqb (entryKind v) 1) 1 0 ⌝ }
+fn kind_of(entry: u64) -> u32
+    ensures { λ r. ⌜ r ≡ pick (eqb (entryKind entry) 1) 1 0 ⌝ }
 {
-    if v % layout::KINDS == layout::PASSIVE {
+    if entry % layout::KINDS == layout::PASSIVE {
         return 1;
     }
     0
 }
 
-// The kinds of n behaviours.
-fn write_kinds(d: &[u64], n: usize, t: &mut [u8], k: usize) -> usize
-    requires { ⌜ EntriesInside (now d) 0 n ⌝ }
-    requires { ⌜ Room (now t) k (each n (kindWord (now d))) ⌝ }
-    ensures { λ r. ⌜ Wrote (now (t .entry)) k (each n (kindWord (now (d .entry)))) (now (t .exit)) r ⌝ }
+// The kinds of the behaviours.
+fn write_kinds(draft: &[u64], behaviours: usize, table: &mut [u8], place: usize) -> usize
+    requires { ⌜ EntriesInside (now draft) 0 behaviours ⌝ }
+    requires { ⌜ Room (now table) place (each behaviours (kindWord (now draft))) ⌝ }
+    ensures { λ r. ⌜ Wrote (now (table .entry)) place (each behaviours (kindWord (now (draft .entry)))) (now (table .exit)) r ⌝ }
 {
-    let mut next = k;
+    let mut next = place;
     let mut i = 0;
-    while i < n {
-        put_word(t, next, kind_of(entry_of(d, 0, i)));
+    while i < behaviours {
+        put_word(table, next, kind_of(entry_of(draft, 0, i)));
         next += 1;
         i += 1;
     }
@@ -45,35 +45,35 @@ fn write_kinds(d: &[u64], n: usize, t: &mut [u8], k: usize) -> usize
 }
 
 // What an entry adds to the instructions that work the passives out.
-fn share_again(v: u64) -> usize
-    requires { ⌜ entryCount v ≤ 2048 ⌝ }
-    ensures { λ r. ⌜ r ≡ againShare v ⌝ }
+fn share_again(entry: u64) -> usize
+    requires { ⌜ entryCount entry ≤ 2048 ⌝ }
+    ensures { λ r. ⌜ r ≡ againShare entry ⌝ }
 {
-    if v % layout::KINDS == layout::PASSIVE {
-        return (v / layout::COUNTS) as usize + 1;
+    if entry % layout::KINDS == layout::PASSIVE {
+        return (entry / layout::COUNTS) as usize + 1;
     }
     0
 }
 
-fn count_again(d: &[u64], n: usize) -> usize
-    requires { ⌜ EntriesInside (now d) 0 n ⌝ }
-    ensures { λ r. ⌜ r ≡ countAgain (now (d .entry)) n ⌝ }
+fn count_again(draft: &[u64], behaviours: usize) -> usize
+    requires { ⌜ EntriesInside (now draft) 0 behaviours ⌝ }
+    ensures { λ r. ⌜ r ≡ countAgain (now (draft .entry)) behaviours ⌝ }
 {
     let mut sum = 0;
     let mut i = 0;
-    while i < n {
-        sum += share_again(entry_of(d, 0, i));
+    while i < behaviours {
+        sum += share_again(entry_of(draft, 0, i));
         i += 1;
     }
     sum
 }
 
 // Where they begin: event 0 has `all` instructions, `count` of them these, and copies m behaviours back.
-fn start_again(ev: usize, all: usize, m: usize, count: usize) -> usize
+fn start_again(events: usize, all: usize, m: usize, count: usize) -> usize
     requires { ⌜ (m ≤ 64) × (count ≤ 262400) ⌝ }
-    ensures { λ r. ⌜ r ≡ againStart ev all m count ⌝ }
+    ensures { λ r. ⌜ r ≡ againStart events all m count ⌝ }
 {
-    if ev == 0 {
+    if events == 0 {
         return 0;
     }
     if all < count + (m + 2) {
@@ -84,17 +84,22 @@ fn start_again(ev: usize, all: usize, m: usize, count: usize) -> usize
 
 // Which behaviours are passives, from word 296 on, and the start and length of their instructions, in words 360 and
 // 361; zeros up to word 512.
-pub fn write_passives(d: &[u64], ev: usize, bs: usize, t: &mut [u8]) -> usize
-    requires { ⌜ EntriesInside (now d) 0 bs × (34816 ≤ length (now t)) ⌝ }
-    ensures { λ r. ⌜ Wrote (now (t .entry)) 296 (draftPassiveWords (now (d .entry)) ev bs) (now (t .exit)) r ⌝ }
+pub fn write_passives(draft: &[u64], events: usize, behaviours: usize, table: &mut [u8]) -> usize
+    requires { ⌜ EntriesInside (now draft) 0 behaviours × (34816 ≤ length (now table)) ⌝ }
+    ensures { λ r. ⌜ Wrote (now (table .entry)) 296 (draftPassiveWords (now (draft .entry)) events behaviours) (now (table .exit)) r ⌝ }
     ensures { λ r. ⌜ r ≡ 512 ⌝ }
 {
-    let kinds = write_kinds(d, bs, t, table::KINDS);
-    back_parts::write_zeros(t, kinds, table::PASSIVES_START);
-    let count = count_again(d, bs);
-    let m = back_counts::count_members(d, 0, bs);
-    let start = start_again(ev, back_counts::count_event(d, 0, bs), m, count);
-    put_word(t, table::PASSIVES_START, start as u32);
-    put_word(t, table::PASSIVES_LENGTH, count as u32);
-    back_parts::write_zeros(t, PASSIVES_END, table::CODE)
+    let kinds = write_kinds(draft, behaviours, table, table::KINDS);
+    back_parts::write_zeros(table, kinds, table::PASSIVES_START);
+    let count = count_again(draft, behaviours);
+    let m = back_counts::count_members(draft, 0, behaviours);
+    let start = start_again(
+        events,
+        back_counts::count_event(draft, 0, behaviours),
+        m,
+        count,
+    );
+    put_word(table, table::PASSIVES_START, start as u32);
+    put_word(table, table::PASSIVES_LENGTH, count as u32);
+    back_parts::write_zeros(table, PASSIVES_END, table::CODE)
 }

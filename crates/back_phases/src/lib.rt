@@ -1,5 +1,5 @@
 // The two phases of an event's handler (003, Figure 3), written into the table from its draft (crate front_draft) and
-// the order that the check on dependence gives. Each function writes from word k on and returns the next word.
+// the order that the check on dependence gives. Each function writes from word `place` on and returns the next word.
 ghost use mathlib.Core.Path.{_≡_};
 ghost use Prim.Native.Nat.{_≤_};
 ghost use mathlib.Core.List.{flatMap};
@@ -18,37 +18,43 @@ use front_draft::layout;
 
 // Each behaviour in its order.
 fn emit_turns(
-    d: &[u64],
-    e: usize,
-    n: usize,
-    o: &[u8],
+    draft: &[u64],
+    event: usize,
+    behaviours: usize,
+    order: &[u8],
     count: usize,
-    t: &mut [u8],
-    k: usize,
+    table: &mut [u8],
+    place: usize,
 ) -> usize
-    requires { ⌜ EntriesInside (now d) e n × OrderListed (now o) count n ⌝ }
-    requires { ⌜ Room (now t) k (flatMap (turnWords (now d) e 2304) (take count (now o))) ⌝ }
-    ensures { λ r. ⌜ Wrote (now (t .entry)) k (flatMap (turnWords (now (d .entry)) e 2304) (take count (now (o .entry)))) (now (t .exit)) r ⌝ }
+    requires { ⌜ EntriesInside (now draft) event behaviours × OrderListed (now order) count behaviours ⌝ }
+    requires { ⌜ Room (now table) place (flatMap (turnWords (now draft) event 2304) (take count (now order))) ⌝ }
+    ensures { λ r. ⌜ Wrote (now (table .entry)) place (flatMap (turnWords (now (draft .entry)) event 2304) (take count (now (order .entry)))) (now (table .exit)) r ⌝ }
 {
-    let mut next = k;
+    let mut next = place;
     let mut j = 0;
     while j < count {
-        next = emit_turn(d, e, opcodes::SAVE, o[j] as usize, t, next);
+        next = emit_turn(draft, event, opcodes::SAVE, order[j] as usize, table, next);
         j += 1;
     }
     next
 }
 
 // The later handlers, over the first phase's values.
-fn emit_laters(d: &[u64], e: usize, n: usize, t: &mut [u8], k: usize) -> usize
-    requires { ⌜ EntriesInside (now d) e n ⌝ }
-    requires { ⌜ Room (now t) k (each n (turnWordsOfKind (now d) e 3 2560)) ⌝ }
-    ensures { λ r. ⌜ Wrote (now (t .entry)) k (each n (turnWordsOfKind (now (d .entry)) e 3 2560)) (now (t .exit)) r ⌝ }
+fn emit_laters(
+    draft: &[u64],
+    event: usize,
+    behaviours: usize,
+    table: &mut [u8],
+    place: usize,
+) -> usize
+    requires { ⌜ EntriesInside (now draft) event behaviours ⌝ }
+    requires { ⌜ Room (now table) place (each behaviours (turnWordsOfKind (now draft) event 3 2560)) ⌝ }
+    ensures { λ r. ⌜ Wrote (now (table .entry)) place (each behaviours (turnWordsOfKind (now (draft .entry)) event 3 2560)) (now (table .exit)) r ⌝ }
 {
-    let mut next = k;
+    let mut next = place;
     let mut i = 0;
-    while i < n {
-        next = emit_kind(d, e, layout::LATER, opcodes::DEFER, i, t, next);
+    while i < behaviours {
+        next = emit_kind(draft, event, layout::LATER, opcodes::DEFER, i, table, next);
         i += 1;
     }
     next
@@ -56,32 +62,38 @@ fn emit_laters(d: &[u64], e: usize, n: usize, t: &mut [u8], k: usize) -> usize
 
 // Phase one: the passives and the immediate handlers in their order, then the later handlers.
 pub fn phase_one(
-    d: &[u64],
-    e: usize,
-    n: usize,
-    o: &[u8],
+    draft: &[u64],
+    event: usize,
+    behaviours: usize,
+    order: &[u8],
     count: usize,
-    t: &mut [u8],
-    k: usize,
+    table: &mut [u8],
+    place: usize,
 ) -> usize
-    requires { ⌜ EntriesInside (now d) e n × OrderListed (now o) count n ⌝ }
-    requires { ⌜ Room (now t) k (firstWords (now d) e n (take count (now o))) ⌝ }
-    ensures { λ r. ⌜ Wrote (now (t .entry)) k (firstWords (now (d .entry)) e n (take count (now (o .entry)))) (now (t .exit)) r ⌝ }
+    requires { ⌜ EntriesInside (now draft) event behaviours × OrderListed (now order) count behaviours ⌝ }
+    requires { ⌜ Room (now table) place (firstWords (now draft) event behaviours (take count (now order))) ⌝ }
+    ensures { λ r. ⌜ Wrote (now (table .entry)) place (firstWords (now (draft .entry)) event behaviours (take count (now (order .entry)))) (now (table .exit)) r ⌝ }
 {
-    let next = emit_turns(d, e, n, o, count, t, k);
-    emit_laters(d, e, n, t, next)
+    let next = emit_turns(draft, event, behaviours, order, count, table, place);
+    emit_laters(draft, event, behaviours, table, next)
 }
 
 // Their values, moved to scratch.
-fn emit_moves(d: &[u64], e: usize, n: usize, t: &mut [u8], k: usize) -> usize
-    requires { ⌜ (length (now d) ≡ draftLength) × (n ≤ 64) ⌝ }
-    requires { ⌜ Room (now t) k (each n (moveWords (now d) e)) ⌝ }
-    ensures { λ r. ⌜ Wrote (now (t .entry)) k (each n (moveWords (now (d .entry)) e)) (now (t .exit)) r ⌝ }
+fn emit_moves(
+    draft: &[u64],
+    event: usize,
+    behaviours: usize,
+    table: &mut [u8],
+    place: usize,
+) -> usize
+    requires { ⌜ (length (now draft) ≡ draftLength) × (behaviours ≤ 64) ⌝ }
+    requires { ⌜ Room (now table) place (each behaviours (moveWords (now draft) event)) ⌝ }
+    ensures { λ r. ⌜ Wrote (now (table .entry)) place (each behaviours (moveWords (now (draft .entry)) event)) (now (table .exit)) r ⌝ }
 {
-    let mut next = k;
+    let mut next = place;
     let mut i = 0;
-    while i < n {
-        next = emit_move(d, e, i, t, next);
+    while i < behaviours {
+        next = emit_move(draft, event, i, table, next);
         i += 1;
     }
     next
@@ -89,22 +101,30 @@ fn emit_moves(d: &[u64], e: usize, n: usize, t: &mut [u8], k: usize) -> usize
 
 // The passives again, in the same order.
 pub fn emit_again(
-    d: &[u64],
-    e: usize,
-    n: usize,
-    o: &[u8],
+    draft: &[u64],
+    event: usize,
+    behaviours: usize,
+    order: &[u8],
     count: usize,
-    t: &mut [u8],
-    k: usize,
+    table: &mut [u8],
+    place: usize,
 ) -> usize
-    requires { ⌜ EntriesInside (now d) e n × OrderListed (now o) count n ⌝ }
-    requires { ⌜ Room (now t) k (flatMap (turnWordsOfKind (now d) e 1 2304) (take count (now o))) ⌝ }
-    ensures { λ r. ⌜ Wrote (now (t .entry)) k (flatMap (turnWordsOfKind (now (d .entry)) e 1 2304) (take count (now (o .entry)))) (now (t .exit)) r ⌝ }
+    requires { ⌜ EntriesInside (now draft) event behaviours × OrderListed (now order) count behaviours ⌝ }
+    requires { ⌜ Room (now table) place (flatMap (turnWordsOfKind (now draft) event 1 2304) (take count (now order))) ⌝ }
+    ensures { λ r. ⌜ Wrote (now (table .entry)) place (flatMap (turnWordsOfKind (now (draft .entry)) event 1 2304) (take count (now (order .entry)))) (now (table .exit)) r ⌝ }
 {
-    let mut next = k;
+    let mut next = place;
     let mut j = 0;
     while j < count {
-        next = emit_kind(d, e, layout::PASSIVE, opcodes::SAVE, o[j] as usize, t, next);
+        next = emit_kind(
+            draft,
+            event,
+            layout::PASSIVE,
+            opcodes::SAVE,
+            order[j] as usize,
+            table,
+            next,
+        );
         j += 1;
     }
     next
@@ -112,18 +132,18 @@ pub fn emit_again(
 
 // Phase two: the later handlers' values, then the passives again.
 pub fn phase_two(
-    d: &[u64],
-    e: usize,
-    n: usize,
-    o: &[u8],
+    draft: &[u64],
+    event: usize,
+    behaviours: usize,
+    order: &[u8],
     count: usize,
-    t: &mut [u8],
-    k: usize,
+    table: &mut [u8],
+    place: usize,
 ) -> usize
-    requires { ⌜ EntriesInside (now d) e n × OrderListed (now o) count n ⌝ }
-    requires { ⌜ Room (now t) k (secondWords (now d) e n (take count (now o))) ⌝ }
-    ensures { λ r. ⌜ Wrote (now (t .entry)) k (secondWords (now (d .entry)) e n (take count (now (o .entry)))) (now (t .exit)) r ⌝ }
+    requires { ⌜ EntriesInside (now draft) event behaviours × OrderListed (now order) count behaviours ⌝ }
+    requires { ⌜ Room (now table) place (secondWords (now draft) event behaviours (take count (now order))) ⌝ }
+    ensures { λ r. ⌜ Wrote (now (table .entry)) place (secondWords (now (draft .entry)) event behaviours (take count (now (order .entry)))) (now (table .exit)) r ⌝ }
 {
-    let next = emit_moves(d, e, n, t, k);
-    emit_again(d, e, n, o, count, t, next)
+    let next = emit_moves(draft, event, behaviours, table, place);
+    emit_again(draft, event, behaviours, order, count, table, next)
 }

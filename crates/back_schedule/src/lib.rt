@@ -17,77 +17,77 @@ pub enum Order {
     Circular,
 }
 
-fn mark_of(v: u64) -> u8
-    ensures { λ r. ⌜ r ≡ metMark v ⌝ }
+fn mark_of(entry: u64) -> u8
+    ensures { λ r. ⌜ r ≡ metMark entry ⌝ }
 {
-    if v % layout::KINDS == layout::PASSIVE {
+    if entry % layout::KINDS == layout::PASSIVE {
         return 0;
     }
-    if v % layout::KINDS == layout::IMMEDIATE {
+    if entry % layout::KINDS == layout::IMMEDIATE {
         return 0;
     }
     1
 }
 
-// The set with i, if behaviour i with entry v is met at once.
-fn add_met(set: u64, i: usize, v: u64) -> u64
+// The set with i, if behaviour i with the entry is met at once.
+fn add_met(set: u64, i: usize, entry: u64) -> u64
     requires { ⌜ i < 64 ⌝ }
-    ensures { λ r. ⌜ ((j : ℕ) → bit r j ≡ bit set j || (not (eqb (metMark v) 0) && eqb j i)) ⌝ }
+    ensures { λ r. ⌜ ((j : ℕ) → bit r j ≡ bit set j || (not (eqb (metMark entry) 0) && eqb j i)) ⌝ }
 {
-    if mark_of(v) == 0 {
+    if mark_of(entry) == 0 {
         return set;
     }
     lib_bits::insert(set, i)
 }
 
-// Those of n behaviours that are met at once on event e.
-fn met_set(d: &[u64], e: usize, n: usize) -> u64
-    requires { ⌜ (length (now d) ≡ draftLength) × (n ≤ 64) ⌝ }
-    ensures { λ r. ⌜ MetAre (now (d .entry)) e n r ⌝ }
+// Those of the behaviours that are met at once on the event.
+fn met_set(draft: &[u64], event: usize, behaviours: usize) -> u64
+    requires { ⌜ (length (now draft) ≡ draftLength) × (behaviours ≤ 64) ⌝ }
+    ensures { λ r. ⌜ MetAre (now (draft .entry)) event behaviours r ⌝ }
 {
     let mut set = 0;
     let mut i = 0;
-    while i < n {
-        set = add_met(set, i, front_draft::entry_of(d, e, i));
+    while i < behaviours {
+        set = add_met(set, i, front_draft::entry_of(draft, event, i));
         i += 1;
     }
     set
 }
 
-// Phase one's order of n behaviours on event e, in the first bytes of o. Returns how many: those in a circle, and
-// whoever needs them, are left out.
-pub fn order_under(d: &[u64], e: usize, n: usize, o: &mut [u8]) -> usize
-    requires { ⌜ (length (now d) ≡ draftLength) × (length (now o) ≡ 64) × (e ≤ 32) × (n ≤ 64) × RowsInside (now d) e n ⌝ }
-    ensures { λ r. ⌜ OrderHolds (now (o .exit)) r n (orderUnder (now (d .entry)) e n) ⌝ }
+// Phase one's order of the behaviours on the event, in the first bytes of `order`. Returns how many: those in a circle,
+// and whoever needs them, are left out.
+pub fn order_under(draft: &[u64], event: usize, behaviours: usize, order: &mut [u8]) -> usize
+    requires { ⌜ (length (now draft) ≡ draftLength) × (length (now order) ≡ 64) × (event ≤ 32) × (behaviours ≤ 64) × RowsInside (now draft) event behaviours ⌝ }
+    ensures { λ r. ⌜ OrderHolds (now (order .exit)) r behaviours (orderUnder (now (draft .entry)) event behaviours) ⌝ }
 {
     let mut rows = [0u64; check_graph::ROW];
-    check_faults::fill_rows(d, e, n, &mut rows);
-    let met = met_set(d, e, n);
-    let arranged = check_graph::order_of(&rows, met, n, o);
+    check_faults::fill_rows(draft, event, behaviours, &mut rows);
+    let met = met_set(draft, event, behaviours);
+    let arranged = check_graph::order_of(&rows, met, behaviours, order);
     arranged.count
 }
 
-// How many of n behaviours have their turn in phase one: the passives and the immediate handlers.
-fn count_turns(d: &[u64], e: usize, n: usize) -> usize
-    requires { ⌜ (length (now d) ≡ draftLength) × (n ≤ 64) ⌝ }
-    ensures { λ r. ⌜ r ≡ countTurns (now (d .entry)) e n ⌝ }
+// How many of the behaviours have their turn in phase one: the passives and the immediate handlers.
+fn count_turns(draft: &[u64], event: usize, behaviours: usize) -> usize
+    requires { ⌜ (length (now draft) ≡ draftLength) × (behaviours ≤ 64) ⌝ }
+    ensures { λ r. ⌜ r ≡ countTurns (now (draft .entry)) event behaviours ⌝ }
 {
     let mut sum = 0;
     let mut i = 0;
-    while i < n {
-        sum += 1 - mark_of(front_draft::entry_of(d, e, i)) as usize;
+    while i < behaviours {
+        sum += 1 - mark_of(front_draft::entry_of(draft, event, i)) as usize;
         i += 1;
     }
     sum
 }
 
 // The check: whether all of them stand in the order.
-pub fn check_dependence(d: &[u64], e: usize, n: usize, o: &mut [u8]) -> Order
-    requires { ⌜ (length (now d) ≡ draftLength) × (length (now o) ≡ 64) × (e ≤ 32) × (n ≤ 64) × RowsInside (now d) e n ⌝ }
-    ensures { λ r. ⌜ Checked (now (d .entry)) e n r (now (o .exit)) ⌝ }
+pub fn check_dependence(draft: &[u64], event: usize, behaviours: usize, order: &mut [u8]) -> Order
+    requires { ⌜ (length (now draft) ≡ draftLength) × (length (now order) ≡ 64) × (event ≤ 32) × (behaviours ≤ 64) × RowsInside (now draft) event behaviours ⌝ }
+    ensures { λ r. ⌜ Checked (now (draft .entry)) event behaviours r (now (order .exit)) ⌝ }
 {
-    let count = order_under(d, e, n, o);
-    if count < count_turns(d, e, n) {
+    let count = order_under(draft, event, behaviours, order);
+    if count < count_turns(draft, event, behaviours) {
         return Order::Circular;
     }
     Order::Complete(count)

@@ -15,17 +15,23 @@ use spec_language::limits;
 // The table's words, of four bytes each.
 const WORDS: usize = table::BYTES / 4;
 
-fn write_records(d: &[u64], ev: usize, bs: usize, t: &mut [u8], k: usize) -> usize
-    requires { ⌜ Planned (now d) ev bs ⌝ }
-    requires { ⌜ Room (now t) k (each ev (recordWords (now d) bs)) ⌝ }
-    ensures { λ r. ⌜ Wrote (now (t .entry)) k (each ev (recordWords (now (d .entry)) bs)) (now (t .exit)) r ⌝ }
+fn write_records(
+    draft: &[u64],
+    events: usize,
+    behaviours: usize,
+    table: &mut [u8],
+    place: usize,
+) -> usize
+    requires { ⌜ Planned (now draft) events behaviours ⌝ }
+    requires { ⌜ Room (now table) place (each events (recordWords (now draft) behaviours)) ⌝ }
+    ensures { λ r. ⌜ Wrote (now (table .entry)) place (each events (recordWords (now (draft .entry)) behaviours)) (now (table .exit)) r ⌝ }
 {
-    let mut next = k;
+    let mut next = place;
     let mut start = 0;
     let mut e = 0;
-    while e < ev {
-        let count = back_counts::count_event(d, e, bs);
-        next = back_parts::write_record(d, bs, e, start, count, t, next);
+    while e < events {
+        let count = back_counts::count_event(draft, e, behaviours);
+        next = back_parts::write_record(draft, behaviours, e, start, count, table, next);
         start += count;
         e += 1;
     }
@@ -33,81 +39,99 @@ fn write_records(d: &[u64], ev: usize, bs: usize, t: &mut [u8], k: usize) -> usi
 }
 
 // The values of a fresh round, phase one under no event; who may see and send; how passives are worked out.
-fn write_fresh(d: &[u64], ev: usize, bs: usize, t: &mut [u8]) -> usize
-    requires { ⌜ Planned (now d) ev bs ⌝ }
-    requires { ⌜ 34816 ≤ length (now t) ⌝ }
-    ensures { λ r. ⌜ Wrote (now (t .entry)) 136 (freshWords (now (d .entry)) ev bs) (now (t .exit)) r ⌝ }
+fn write_fresh(draft: &[u64], events: usize, behaviours: usize, table: &mut [u8]) -> usize
+    requires { ⌜ Planned (now draft) events behaviours ⌝ }
+    requires { ⌜ 34816 ≤ length (now table) ⌝ }
+    ensures { λ r. ⌜ Wrote (now (table .entry)) 136 (freshWords (now (draft .entry)) events behaviours) (now (table .exit)) r ⌝ }
     ensures { λ r. ⌜ r ≡ 512 ⌝ }
 {
     let mut o = [0u8; limits::BEHAVIOURS];
-    let count = back_schedule::order_under(d, ev, bs, &mut o);
-    let v = back_fresh::fresh_values(d, bs, ev, &o, count);
-    back_parts::write_values(&v, t, table::VALUES);
-    back_parts::write_rights(d, ev, bs, t);
-    back_passives::write_passives(d, ev, bs, t)
+    let count = back_schedule::order_under(draft, events, behaviours, &mut o);
+    let v = back_fresh::fresh_values(draft, behaviours, events, &o, count);
+    back_parts::write_values(&v, table, table::VALUES);
+    back_parts::write_rights(draft, events, behaviours, table);
+    back_passives::write_passives(draft, events, behaviours, table)
 }
 
 // The code of each event.
-fn write_events(d: &[u64], ev: usize, bs: usize, t: &mut [u8], k: usize) -> usize
-    requires { ⌜ Planned (now d) ev bs ⌝ }
-    requires { ⌜ Room (now t) k (each ev (codeOf (now d) bs)) ⌝ }
-    ensures { λ r. ⌜ Wrote (now (t .entry)) k (each ev (codeOf (now (d .entry)) bs)) (now (t .exit)) r ⌝ }
+fn write_events(
+    draft: &[u64],
+    events: usize,
+    behaviours: usize,
+    table: &mut [u8],
+    place: usize,
+) -> usize
+    requires { ⌜ Planned (now draft) events behaviours ⌝ }
+    requires { ⌜ Room (now table) place (each events (codeOf (now draft) behaviours)) ⌝ }
+    ensures { λ r. ⌜ Wrote (now (table .entry)) place (each events (codeOf (now (draft .entry)) behaviours)) (now (table .exit)) r ⌝ }
 {
-    let mut next = k;
+    let mut next = place;
     let mut e = 0;
-    while e < ev {
-        next = back_event::compile_event(d, e, bs, t, next);
+    while e < events {
+        next = back_event::compile_event(draft, e, behaviours, table, next);
         e += 1;
     }
     next
 }
 
 // The instructions that work the passives out, alone.
-fn write_alone(d: &[u64], ev: usize, bs: usize, t: &mut [u8], k: usize) -> usize
-    requires { ⌜ Planned (now d) ev bs ⌝ }
-    requires { ⌜ Room (now t) k (aloneWords (now d) bs) ⌝ }
-    ensures { λ r. ⌜ Wrote (now (t .entry)) k (aloneWords (now (d .entry)) bs) (now (t .exit)) r ⌝ }
+fn write_alone(
+    draft: &[u64],
+    events: usize,
+    behaviours: usize,
+    table: &mut [u8],
+    place: usize,
+) -> usize
+    requires { ⌜ Planned (now draft) events behaviours ⌝ }
+    requires { ⌜ Room (now table) place (aloneWords (now draft) behaviours) ⌝ }
+    ensures { λ r. ⌜ Wrote (now (table .entry)) place (aloneWords (now (draft .entry)) behaviours) (now (table .exit)) r ⌝ }
 {
     let mut o = [0u8; limits::BEHAVIOURS];
-    let count = back_schedule::order_under(d, 0, bs, &mut o);
-    back_phases::emit_again(d, 0, bs, &o, count, t, k)
+    let count = back_schedule::order_under(draft, 0, behaviours, &mut o);
+    back_phases::emit_again(draft, 0, behaviours, &o, count, table, place)
 }
 
 // The instructions: each event's, or where none is declared those for the passives.
-fn write_codes(d: &[u64], ev: usize, bs: usize, t: &mut [u8], k: usize) -> usize
-    requires { ⌜ Planned (now d) ev bs ⌝ }
-    requires { ⌜ Room (now t) k (codesOf (now d) ev bs) ⌝ }
-    ensures { λ r. ⌜ Wrote (now (t .entry)) k (codesOf (now (d .entry)) ev bs) (now (t .exit)) r ⌝ }
+fn write_codes(
+    draft: &[u64],
+    events: usize,
+    behaviours: usize,
+    table: &mut [u8],
+    place: usize,
+) -> usize
+    requires { ⌜ Planned (now draft) events behaviours ⌝ }
+    requires { ⌜ Room (now table) place (codesOf (now draft) events behaviours) ⌝ }
+    ensures { λ r. ⌜ Wrote (now (table .entry)) place (codesOf (now (draft .entry)) events behaviours) (now (table .exit)) r ⌝ }
 {
-    if ev == 0 {
-        return write_alone(d, ev, bs, t, k);
+    if events == 0 {
+        return write_alone(draft, events, behaviours, table, place);
     }
-    write_events(d, ev, bs, t, k)
+    write_events(draft, events, behaviours, table, place)
 }
 
 // The table.
-pub fn write_table(d: &[u64], ev: usize, bs: usize, t: &mut [u8])
-    requires { ⌜ Planned (now d) ev bs ⌝ }
-    requires { ⌜ 34816 ≤ length (now t) ⌝ }
-    ensures { λ _. ⌜ now (t .exit) ≡ putWords (now (t .entry)) 0 (tableWords (now (d .entry)) ev bs) ⌝ }
+pub fn write_table(draft: &[u64], events: usize, behaviours: usize, table: &mut [u8])
+    requires { ⌜ Planned (now draft) events behaviours ⌝ }
+    requires { ⌜ 34816 ≤ length (now table) ⌝ }
+    ensures { λ _. ⌜ now (table .exit) ≡ putWords (now (table .entry)) 0 (tableWords (now (draft .entry)) events behaviours) ⌝ }
 {
-    back_parts::write_head(t, ev, bs);
-    let records = write_records(d, ev, bs, t, table::EVENTS);
-    back_parts::write_zeros(t, records, table::VALUES);
-    write_fresh(d, ev, bs, t);
-    let codes = write_codes(d, ev, bs, t, table::CODE);
-    back_parts::write_zeros(t, codes, WORDS);
+    back_parts::write_head(table, events, behaviours);
+    let records = write_records(draft, events, behaviours, table, table::EVENTS);
+    back_parts::write_zeros(table, records, table::VALUES);
+    write_fresh(draft, events, behaviours, table);
+    let codes = write_codes(draft, events, behaviours, table, table::CODE);
+    back_parts::write_zeros(table, codes, WORDS);
 }
 
 // How many instructions the events have together.
-pub fn count_all(d: &[u64], ev: usize, bs: usize) -> usize
-    requires { ⌜ (length (now d) ≡ draftLength) × (ev ≤ 32) × (bs ≤ 64) × AllInside (now d) ev bs ⌝ }
-    ensures { λ r. ⌜ r ≡ countBefore (now (d .entry)) bs ev ⌝ }
+pub fn count_all(draft: &[u64], events: usize, behaviours: usize) -> usize
+    requires { ⌜ (length (now draft) ≡ draftLength) × (events ≤ 32) × (behaviours ≤ 64) × AllInside (now draft) events behaviours ⌝ }
+    ensures { λ r. ⌜ r ≡ countBefore (now (draft .entry)) behaviours events ⌝ }
 {
     let mut sum = 0;
     let mut e = 0;
-    while e < ev {
-        sum += back_counts::count_event(d, e, bs);
+    while e < events {
+        sum += back_counts::count_event(draft, e, behaviours);
         e += 1;
     }
     sum

@@ -22,50 +22,50 @@ fn value_of(params: &[u8], k: usize) -> u64
     lib_word::get_word(params, k) as u64
 }
 
-// The node that stands for x where the parameters are known.
-fn fill_node(params: &[u8], x: u64) -> u64
-    ensures { λ r. ⌜ r ≡ filledNode (now (params .entry)) x ⌝ }
+// The node that stands for it where the parameters are known.
+fn fill_node(params: &[u8], node: u64) -> u64
+    ensures { λ r. ⌜ r ≡ filledNode (now (params .entry)) node ⌝ }
 {
-    if x / layout::WORD == layout::PARAMETER {
-        return layout::CONSTANT_NODE + value_of(params, (x % PARAMETERS) as usize);
+    if node / layout::WORD == layout::PARAMETER {
+        return layout::CONSTANT_NODE + value_of(params, (node % PARAMETERS) as usize);
     }
-    x
+    node
 }
 
 // Fills in the nodes of a draft.
-pub fn fill_draft(d: &mut [u64], params: &[u8])
-    requires { ⌜ length (now d) ≡ draftLength ⌝ }
-    ensures { λ _. ⌜ now (d .exit) ≡ fillTo (now (params .entry)) (now (d .entry)) 2048 ⌝ }
+pub fn fill_draft(draft: &mut [u64], params: &[u8])
+    requires { ⌜ length (now draft) ≡ draftLength ⌝ }
+    ensures { λ _. ⌜ now (draft .exit) ≡ fillTo (now (params .entry)) (now (draft .entry)) 2048 ⌝ }
 {
     let mut k = 0;
     while k < layout::NODES {
-        d[k] = fill_node(params, d[k]);
+        draft[k] = fill_node(params, draft[k]);
         k += 1;
     }
 }
 
-// Whether a parameter is among the first n nodes.
-fn has_param(d: &[u64], n: usize) -> bool
-    requires { ⌜ (length (now d) ≡ draftLength) × (n ≤ 2048) ⌝ }
-    ensures { λ r. ⌜ r ≡ anyParam (now (d .entry)) n ⌝ }
+// Whether a parameter is among the first `nodes` nodes.
+fn has_param(draft: &[u64], nodes: usize) -> bool
+    requires { ⌜ (length (now draft) ≡ draftLength) × (nodes ≤ 2048) ⌝ }
+    ensures { λ r. ⌜ r ≡ anyParam (now (draft .entry)) nodes ⌝ }
 {
-    let mut k = n;
+    let mut k = nodes;
     while k > 0 {
         k -= 1;
-        if d[k] / layout::WORD == layout::PARAMETER {
+        if draft[k] / layout::WORD == layout::PARAMETER {
             return true;
         }
     }
     false
 }
 
-// Whether a parameter is among the first n nodes and fewer than 32 bytes are lent.
-pub fn lacks_param(d: &[u64], n: usize, params: &[u8]) -> bool
-    requires { ⌜ (length (now d) ≡ draftLength) × (n ≤ 2048) ⌝ }
-    ensures { λ r. ⌜ r ≡ lacksParam (now (d .entry)) n (now (params .entry)) ⌝ }
+// Whether a parameter is among the first `nodes` nodes and fewer than 32 bytes are lent.
+pub fn lacks_param(draft: &[u64], nodes: usize, params: &[u8]) -> bool
+    requires { ⌜ (length (now draft) ≡ draftLength) × (nodes ≤ 2048) ⌝ }
+    ensures { λ r. ⌜ r ≡ lacksParam (now (draft .entry)) nodes (now (params .entry)) ⌝ }
 {
     if params.len() < limits::PARAMETER_BYTES {
-        return has_param(d, n);
+        return has_param(draft, nodes);
     }
     false
 }

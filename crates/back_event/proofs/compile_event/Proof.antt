@@ -30,25 +30,25 @@ module _ (c : tie.After-count-members) where
   order = complete-at .before .before .before .check-dependence .last .1 .1 .1 .0
 
   abbrev count : ℕ
-  count = complete-at .a .given .0 .0
+  count = complete-at .found .given .0 .0
 
-  found : (isOrdered (entry .args .d .now) (entry .args .e) (entry .args .n) ≡ true)
-      × OrderHolds order count (entry .args .n) (orderUnder (entry .args .d .now) (entry .args .e) (entry .args .n))
+  found : (isOrdered (entry .args .draft .now) (entry .args .event) (entry .args .behaviours) ≡ true)
+      × OrderHolds order count (entry .args .behaviours) (orderUnder (entry .args .draft .now) (entry .args .event) (entry .args .behaviours))
   found =
-      found-all (entry .args .d .now) (entry .args .e) (entry .args .n) _ _
-      (complete-at .before .before .before .check-dependence .ensures) _ (complete-at .a .given .1)
+      found-all (entry .args .draft .now) (entry .args .event) (entry .args .behaviours) _ _
+      (complete-at .before .before .before .check-dependence .ensures) _ (complete-at .found .given .1)
 
-  its-code : eventWords (entry .args .d .now) (entry .args .e) (entry .args .n) (take count order)
-      ≡ codeOf (entry .args .d .now) (entry .args .n) (entry .args .e)
+  its-code : eventWords (entry .args .draft .now) (entry .args .event) (entry .args .behaviours) (take count order)
+      ≡ codeOf (entry .args .draft .now) (entry .args .behaviours) (entry .args .event)
   its-code = code-ordered _ _ _ (found .0) (found .1)
 
-  has-room : Room (entry .args .t .now) (entry .args .k)
-      (eventWords (entry .args .d .now) (entry .args .e) (entry .args .n) (take count order))
+  has-room : Room (entry .args .table .now) (entry .args .place)
+      (eventWords (entry .args .draft .now) (entry .args .event) (entry .args .behaviours) (take count order))
   has-room = room-as its-code (entry .pre .1)
 
-  behind : entry .args .k + 2 * (2 + c .count-members .result)
-      ≡ entry .args .k + length (maskedWords (entry .args .d .now) (entry .args .e) 768 (entry .args .n))
-  behind = behind-copy _ _ _ (entry .args .k) _ (c .count-members .ensures)
+  behind : entry .args .place + 2 * (2 + c .count-members .result)
+      ≡ entry .args .place + length (maskedWords (entry .args .draft .now) (entry .args .event) 768 (entry .args .behaviours))
+  behind = behind-copy _ _ _ (entry .args .place) _ (c .count-members .ensures)
 
   few-members : c .count-members .result ≤ 64
   few-members = members-fit _ _ _ _ (c .count-members .ensures) (entry .pre .0 .0 .few)
@@ -74,7 +74,7 @@ returns : tie.Need-returns
 returns c =
     let checked = c .before .before .before in
     let b = checked .before .before .before .before .args in
-    wrote-as (code-none _ _ _ (found-none (b .d .now) (b .e) (b .n) _ _ (checked .check-dependence .ensures)
+    wrote-as (code-none _ _ _ (found-none (b .draft .now) (b .e) (b .n) _ _ (checked .check-dependence .ensures)
     (c .enum-told .given .1))) (wrote-none _ _)
 
 phase-one-requires : tie.Need-phase-one-requires

@@ -68,7 +68,7 @@ eval-nodes-spec =
     (λ c.
     let e = c .before .eval-node .ensures in
     let t = c .before .before .before .before .before .before .loop .inv in
-    turn t (c .before .before .before .before .before .loop-test .taken) (omega (arith, length-used (c .before .before .before .before .before .before .before .before .before .args .d .now) (c .before .before .before .before .before .before .before .before .before .args .b)))
+    turn t (c .before .before .before .before .before .loop-test .taken) (omega (arith, length-used (c .before .before .before .before .before .before .before .before .before .args .draft .now) (c .before .before .before .before .before .before .before .before .before .args .b)))
     (c .before .before .before .moved-node .ensures ∙ sym (used-at _ _ _)) (e .1 .0) (e .0)
     (c .before .eval-node .kept .1 .1 .0 ∙ t .long) (e .1 .1))
     (λ c. omega (arith, c .before .loop .inv .long))

@@ -9,14 +9,14 @@ write-zeros-requires : tie.Need-write-zeros-requires
 write-zeros-requires c κs =
     let at-entry = c .before .before .before .before .before .before .before in
     let a = at-entry .args in
-    omega (arith, c .before .before .before .write-numbers .ensures .next, length-numbers (a .d .now) 4256 (a .bs))
+    omega (arith, c .before .before .before .write-numbers .ensures .next, length-numbers (a .draft .now) 4256 (a .behaviours))
 
 write-zeros-requires-2 : tie.Need-write-zeros-requires-2
 write-zeros-requires-2 c κs =
     let at-slice-known2 = c .before .before .before .before .before .before .before .before .before in
     let at-entry = at-slice-known2 .before .before .before .before .before .before in
     let a = at-entry .args in
-    omega (arith, c .before .before .before .write-numbers2 .ensures .next, length-numbers (a .d .now) 4320 (a .ev))
+    omega (arith, c .before .before .before .write-numbers2 .ensures .next, length-numbers (a .draft .now) 4320 (a .events))
 
 returns : tie.Need-returns
 returns c =

@@ -32,7 +32,7 @@ write-zeros-requires c κs =
       arith,
       s .few,
       c .before .before .before .write-kinds .ensures .next,
-      length-kinds (at-entry .args .d .now) (at-entry .args .bs),
+      length-kinds (at-entry .args .draft .now) (at-entry .args .behaviours),
     )
 
 start-again-requires : tie.Need-start-again-requires
@@ -40,7 +40,7 @@ start-again-requires c κs =
     let counted = c .before .before in
     let b = entry counted in
     let m = members-fit _ _ _ _ (c .before .count-members .ensures) (b .pre .0 .few) in
-    omega (arith, counted .count-again .ensures, count-again-small (b .args .d .now) (b .args .bs) (b .pre .0))
+    omega (arith, counted .count-again .ensures, count-again-small (b .args .draft .now) (b .args .behaviours) (b .pre .0))
 
 cast-put-word : tie.Need-cast-put-word
 cast-put-word c =
@@ -50,8 +50,8 @@ cast-put-word c =
       arith,
       c .before .start-again .ensures,
       c .before .before .count-event .ensures,
-      count-event-small (b .args .d .now) (b .args .bs) (b .pre .0),
-      start-small (b .args .ev) (c .before .before .count-event .result) (members .count-members .result)
+      count-event-small (b .args .draft .now) (b .args .behaviours) (b .pre .0),
+      start-small (b .args .events) (c .before .before .count-event .result) (members .count-members .result)
           (members .before .count-again .result),
     )
 
@@ -59,7 +59,7 @@ cast-put-word-2 : tie.Need-cast-put-word-2
 cast-put-word-2 c =
     let counted = c .before .before .before .before .before .before .before .before in
     let b = entry counted in
-    omega (arith, counted .count-again .ensures, count-again-small (b .args .d .now) (b .args .bs) (b .pre .0))
+    omega (arith, counted .count-again .ensures, count-again-small (b .args .draft .now) (b .args .behaviours) (b .pre .0))
 
 returns : tie.Need-returns
 returns c =

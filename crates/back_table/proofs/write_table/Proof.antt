@@ -13,7 +13,7 @@ write-records-requires c κs =
       record {
         within = omega (
           arith,
-          length-records (at-entry .args .d .now) (at-entry .args .bs) (at-entry .args .ev),
+          length-records (at-entry .args .draft .now) (at-entry .args .behaviours) (at-entry .args .events),
           p .few-events,
         );
         long = search needs;
