@@ -1,27 +1,27 @@
 -- What is promised of texts holds: each part is a theorem of text_sheet; compile's answer from the verdict's branches,
 -- the reading and the names being settled.
-use Prim.Native.Nat.{ℕ, _≤_, _<_}
+use Prim.Native.Nat.{ℕ, _≤_}
 use mathlib.Core.Bool.{Bool, true, false}
 use mathlib.Core.Path.{_≡_, refl, sym, _∙_}
-use mathlib.Core.List.{List, []}
-use native.Mathlib.Omega.{arith}
+use mathlib.Core.List.{List}
 use lib.ListN.{length}
 use lib.Dec.{ltb}
-use borrow.Author.Tests.{ltb-false, lt-ltb, le-ltb}
+use borrow.Author.Tests.{ltb-false, le-ltb}
 use Rattle.lib_base.specs.Basics.{pick}
-use Rattle.lib_base.proofs.Tools.{split, by-two}
+use Rattle.lib_base.proofs.Tools.{split}
 use Rattle.spec_language.specs.Sheet.{Sheet}
 use Rattle.spec_language.specs.Grammar.{encode}
 use Rattle.spec_grammar.proofs.Programs.{reads-back}
 use Rattle.check_faults.proofs.CycleDecides.{known-decides}
 use Rattle.back_compile.specs.Verdict.{Compiled, programOf, judge, compileOn}
 use Rattle.lib_word.specs.Word.{get}
-use Rattle.text_sheet.specs.Tokens.{Token, Tokens}
-use Rattle.text_sheet.specs.Answer.{Means}
-use Rattle.text_sheet.specs.Scanner.{scan}
+use Rattle.text_sheet.specs.Answer.{TextMeans}
+use Rattle.text_describe.specs.Describe.{described}
+use Rattle.text_sheet.specs.Scanner.{scanText}
 use Rattle.text_sheet.proofs.Scans.{scanned, scan-is}
-use Rattle.text_sheet.proofs.Readings as readings
+use Rattle.text_sheet.proofs.Unique.{says-one}
 use Rattle.text_sheet.proofs.Answers as answers
+use Rattle.text_describe.proofs.RoundTrip.{round-trip}
 use Rattle.claims.specs.Texts.{leftToJudge, Texts}
 
 -- a branch's first part
@@ -29,7 +29,7 @@ pick-first : (b : Bool) (x y : Compiled) → pick b x y .0 ≡ pick b (x .0) (y 
 pick-first true x y = refl
 pick-first false x y = refl
 
-compiles : (bytes : List ℕ) (s : Sheet) → Means bytes s → (ps t : List ℕ) → 34816 ≤ length t → compileOn (encode s) ps t .0 ≡ leftToJudge s ps
+compiles : (bytes : List ℕ) (s : Sheet) → TextMeans bytes s → (ps t : List ℕ) → 34816 ≤ length t → compileOn (encode s) ps t .0 ≡ leftToJudge s ps
 unfolding compileOn judge
 compiles bytes s m ps t room =
     split (ltb 8192 (length (encode s)))
@@ -41,9 +41,9 @@ compiles bytes s m ps t room =
 
 pub texts : Texts
 texts = record {
-  some-tokens = λ bytes. (scan bytes, scanned bytes);
+  some-tokens = λ bytes. (scanText bytes, scanned bytes);
   one-scan = λ bytes ts us p q. sym (scan-is bytes ts p) ∙ scan-is bytes us q;
-  one-reading = λ bytes x y a f b g. readings.one-reading a f b g;
+  one-reading = λ bytes x y. says-one;
   one-sheet = answers.one-sheet;
   assembled = answers.within;
   no-other = answers.only;
@@ -54,4 +54,6 @@ texts = record {
   fits = answers.meant-fits;
   compiles = compiles;
   renamed = answers.renamed;
+  every-sheet = λ v lent s a. round-trip v s (a .fits) (a .known);
+  read-back = λ v lent s a buffer room. answers.within (described s) buffer s (round-trip v s (a .fits) (a .known)) (a .fits .few-bytes) room;
 }

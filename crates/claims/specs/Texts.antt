@@ -8,16 +8,17 @@ use lib.ListN.{length, drop}
 use Rattle.spec_language.specs.Refusals.{longProgram, noParameters, cycle, overlong}
 use Rattle.spec_language.specs.Sheet.{Sheet}
 use Rattle.spec_language.specs.Grammar.{encode, SheetFits}
+use Rattle.spec_language.specs.Accepted.{SheetAccepted}
 use Rattle.spec_language.specs.Code.{allInstructions}
 use Rattle.check_faults.specs.Faults.{cyclic}
 use Rattle.back_compile.specs.Verdict.{programOf, lacksParameters, compileOn}
-use Rattle.text_sheet.specs.Tokens.{Token, Tokens}
+use Rattle.text_sheet.specs.Tokens.{SheetToken, TokensOfText}
 use Rattle.text_sheet.specs.Text.{Text}
 use Rattle.text_sheet.specs.Faults.{Kind, longText, longSheet, shortBuffer}
-use Rattle.text_sheet.specs.Grammar.{Says}
-use Rattle.text_sheet.specs.Limits.{TextFits}
-use Rattle.text_sheet.specs.Renaming.{Consistent, textAs}
-use Rattle.text_sheet.specs.Answer.{written, turnedDown, assembleOn, Means, refusedAt, Written}
+use Rattle.text_sheet.specs.Grammar.{TextSays}
+use Rattle.text_sheet.specs.Renaming.{KeepsApart, textAs}
+use Rattle.text_describe.specs.Describe.{described}
+use Rattle.text_sheet.specs.Answer.{written, turnedDown, assembleOn, TextMeans, refusedAt, SheetWritten}
 use Rattle.claims.specs.Demand1.{firstThat}
 
 -- compile's answer for a sheet of which only the length, the parameters lent, circles and instructions are left to
@@ -31,29 +32,34 @@ leftToJudge s ps =
 
 pub record Texts : Type 0 where
   -- "A token is as long as it can be": each text is made of one list of tokens, each with its place
-  pub some-tokens : (bytes : List ℕ) → (ts : List Token) × Tokens (length bytes) bytes ts
-  pub one-scan : (bytes : List ℕ) (ts us : List Token) → Tokens (length bytes) bytes ts → Tokens (length bytes) bytes us → ts ≡ us
-  -- "the grammar is written apart from the reader, each text has one reading": within the limits, and so one sheet
-  pub one-reading : (bytes : List ℕ) (x y : Text) → Says bytes x → TextFits x → Says bytes y → TextFits y → x ≡ y
-  pub one-sheet : (bytes : List ℕ) (s t : Sheet) → Means bytes s → Means bytes t → s ≡ t
+  pub some-tokens : (bytes : List ℕ) → (ts : List SheetToken) × TokensOfText (length bytes) bytes ts
+  pub one-scan : (bytes : List ℕ) (ts us : List SheetToken) → TokensOfText (length bytes) bytes ts → TokensOfText (length bytes) bytes us → ts ≡ us
+  -- "the grammar is written apart from the reader, each text has one reading", whatever the limits, and so one sheet
+  pub one-reading : (bytes : List ℕ) (x y : Text) → TextSays bytes x → TextSays bytes y → x ≡ y
+  pub one-sheet : (bytes : List ℕ) (s t : Sheet) → TextMeans bytes s → TextMeans bytes t → s ≡ t
   -- "text to a sheet's bytes at the start of a lent buffer, whose other bytes stay, and its length"
-  pub assembled : (bytes buffer : List ℕ) (s : Sheet) → Means bytes s → length (encode s) ≤ 8192 → length (encode s) ≤ length buffer
+  pub assembled : (bytes buffer : List ℕ) (s : Sheet) → TextMeans bytes s → length (encode s) ≤ 8192 → length (encode s) ≤ length buffer
       → assembleOn bytes buffer ≡ (written (length (encode s)), encode s ++ drop (length (encode s)) buffer)
   -- "all others are turned down"
-  pub no-other : (bytes buffer : List ℕ) (n : ℕ) → assembleOn bytes buffer .0 ≡ written n → Written bytes buffer n
+  pub no-other : (bytes buffer : List ℕ) (n : ℕ) → assembleOn bytes buffer .0 ≡ written n → SheetWritten bytes buffer n
   -- "or a refusal .., nothing changed"
   pub unchanged : (bytes buffer : List ℕ) (k : Kind) (l c : ℕ) → assembleOn bytes buffer .0 ≡ turnedDown k l c → assembleOn bytes buffer .1 ≡ buffer
   -- "A text has at most 65,536 bytes; a longer one is turned down before anything else." "Then a sheet over 8,192
   -- bytes; last a buffer that is too short."
   pub long-text : (bytes buffer : List ℕ) → 65536 < length bytes → assembleOn bytes buffer ≡ refusedAt longText bytes buffer
-  pub long-sheet : (bytes buffer : List ℕ) (s : Sheet) → Means bytes s → 8192 < length (encode s) → assembleOn bytes buffer ≡ refusedAt longSheet bytes buffer
-  pub short-buffer : (bytes buffer : List ℕ) (s : Sheet) → Means bytes s → length (encode s) ≤ 8192 → length buffer < length (encode s)
+  pub long-sheet : (bytes buffer : List ℕ) (s : Sheet) → TextMeans bytes s → 8192 < length (encode s) → assembleOn bytes buffer ≡ refusedAt longSheet bytes buffer
+  pub short-buffer : (bytes buffer : List ℕ) (s : Sheet) → TextMeans bytes s → length (encode s) ≤ 8192 → length buffer < length (encode s)
       → assembleOn bytes buffer ≡ refusedAt shortBuffer bytes buffer
   -- "what assemble writes is accepted by compile but for 12, 13 and 3, and means what the text says": it is within the
   -- grammar and the limits, and its names are known; 20 where too few parameters are lent
-  pub fits : (bytes : List ℕ) (s : Sheet) → Means bytes s → length (encode s) ≤ 8192 → SheetFits s
-  pub compiles : (bytes : List ℕ) (s : Sheet) → Means bytes s → (ps t : List ℕ) → 34816 ≤ length t → compileOn (encode s) ps t .0 ≡ leftToJudge s ps
+  pub fits : (bytes : List ℕ) (s : Sheet) → TextMeans bytes s → length (encode s) ≤ 8192 → SheetFits s
+  pub compiles : (bytes : List ℕ) (s : Sheet) → TextMeans bytes s → (ps t : List ℕ) → 34816 ≤ length t → compileOn (encode s) ps t .0 ≡ leftToJudge s ps
   -- "names do not matter (renaming consistently gives the same bytes)": f for parameters and behaviours, h for events,
   -- g for the places, which longer names move
-  pub renamed : (f h : List ℕ → List ℕ) (g : ℕ → ℕ) → Consistent f → Consistent h → (a b : List ℕ) (s : Sheet) (m : Means a s) → length b ≤ 65536
-      → Says b (textAs f h g (m .reading)) → Means b s
+  pub renamed : (f h : List ℕ → List ℕ) (g : ℕ → ℕ) → KeepsApart f → KeepsApart h → (a b : List ℕ) (s : Sheet) (m : TextMeans a s) → length b ≤ 65536
+      → TextSays b (textAs f h g (m .reading)) → TextMeans b s
+  -- "It can say every sheet that compile accepts."; "describe's text is read by assemble to the very bytes, for every
+  -- accepted sheet"; "No accepted sheet's text is longer than a text may be."
+  pub every-sheet : (v : ℕ → ℕ) (lent : ℕ) (s : Sheet) → SheetAccepted v lent s → TextMeans (described s) s
+  pub read-back : (v : ℕ → ℕ) (lent : ℕ) (s : Sheet) → SheetAccepted v lent s → (buffer : List ℕ) → length (encode s) ≤ length buffer
+      → assembleOn (described s) buffer ≡ (written (length (encode s)), encode s ++ drop (length (encode s)) buffer)

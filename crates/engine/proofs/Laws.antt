@@ -17,7 +17,7 @@ use Rattle.run_step.specs.Machine.{stepOn}
 use Rattle.run_answers.specs.Answers.{putAnswer}
 use Rattle.run_burst.specs.Sound.{RoundSound, higherWaits}
 use Rattle.refine_calls.specs.Refinement.{callOn, turnOnBytes, numbersOn, bytesAfter, answersOn, roundAfter}
-use Rattle.engine.specs.Replay.{callOf, callsFrom, putAnswers, Onward}
+use Rattle.engine.specs.Replay.{callOf, callsFrom, putAnswers, RowOfSteps}
 
 pub call-arrive : (t l : List ℕ) (kind n who : ℕ) → kind ≡ 0 → arriveOn t l n who ≡ callOn t (callOf kind n who) l
 unfolding callOn callOf
@@ -33,11 +33,11 @@ call-board t l kind n who r d f e = rw (ne-eqb kind 0 d, ne-eqb kind 1 f) (ap (�
 
 -- ---- calls made one after the other
 
-pub none-made : (t calls l a : List ℕ) {n i : ℕ} → i ≤ n → Onward t calls n i l a i l a
+pub none-made : (t calls l a : List ℕ) {n i : ℕ} → i ≤ n → RowOfSteps t calls n i l a i l a
 none-made t calls l a h = record { rounds = refl; answers = refl; onward = omega arith; within = h; as-long = refl; round-long = refl }
 
-pub and-then : {t calls : List ℕ} {n i : ℕ} {l a : List ℕ} {j : ℕ} {l′ a′ : List ℕ} {k : ℕ} {m b : List ℕ} → Onward t calls n i l a j l′ a′ → Onward t calls n j l′ a′ k m b
-    → Onward t calls n i l a k m b
+pub and-then : {t calls : List ℕ} {n i : ℕ} {l a : List ℕ} {j : ℕ} {l′ a′ : List ℕ} {k : ℕ} {m b : List ℕ} → RowOfSteps t calls n i l a j l′ a′ → RowOfSteps t calls n j l′ a′ k m b
+    → RowOfSteps t calls n i l a k m b
 and-then x y = record {
   rounds = y .rounds ∙ x .rounds;
   answers = y .answers ∙ x .answers;
@@ -49,7 +49,7 @@ and-then x y = record {
 
 pub one-call : (t calls l a : List ℕ) {n i : ℕ} {r : ℕ} {l′ a′ : List ℕ} → i < n
     → callResult r l′ ≡ callOn t (callOf (getD calls (i * 6) 0) (getAt calls (i * 6 + 1)) (getD calls (i * 6 + 5) 0)) l → a′ ≡ putAnswer a i r
-    → length a′ ≡ length a → length l′ ≡ length l → Onward t calls n i l a (i + 1) l′ a′
+    → length a′ ≡ length a → length l′ ≡ length l → RowOfSteps t calls n i l a (i + 1) l′ a′
 unfolding callsFrom roundAfter answersOn bytesAfter numbersOn turnOnBytes putAnswers
 one-call t calls l a {n} {i} {r} {l′} {a′} h e f w x =
     let s : n - i ≡ suc (n - (i + 1)) = omega arith in
@@ -65,12 +65,12 @@ one-call t calls l a {n} {i} {r} {l′} {a′} h e f w x =
 
 -- one that is recorded as a step
 pub one-step : (t calls l a : List ℕ) {n i : ℕ} {r : ℕ} {l′ a′ : List ℕ} → i < n → getD calls (i * 6) 0 ≡ 1 → callResult r l′ ≡ stepOn t l → a′ ≡ putAnswer a i r
-    → length a′ ≡ length a → length l′ ≡ length l → Onward t calls n i l a (i + 1) l′ a′
+    → length a′ ≡ length a → length l′ ≡ length l → RowOfSteps t calls n i l a (i + 1) l′ a′
 one-step t calls l a {n} {i} h k e f w x =
     one-call t calls l a h (e ∙ call-step t l (getD calls (i * 6) 0) (getAt calls (i * 6 + 1)) (getD calls (i * 6 + 5) 0) (λ z. absurd (omega arith)) k) f w x
 
 -- all are made
-module _ {t calls : List ℕ} {n : ℕ} {l₀ a₀ : List ℕ} {i : ℕ} {l a : List ℕ} (k : Onward t calls n 0 l₀ a₀ i l a) where
+module _ {t calls : List ℕ} {n : ℕ} {l₀ a₀ : List ℕ} {i : ℕ} {l a : List ℕ} (k : RowOfSteps t calls n 0 l₀ a₀ i l a) where
   pub end-round : n ≤ i → l ≡ roundAfter t (callsFrom calls 0 n) l₀
   unfolding callsFrom roundAfter bytesAfter
   end-round h =
@@ -88,7 +88,7 @@ module _ {t calls : List ℕ} {n : ℕ} {l₀ a₀ : List ℕ} {i : ℕ} {l a : 
 -- ---- steps in a row, judged once
 
 pub record Stepping (t calls : List ℕ) (n i₀ : ℕ) (l₀ a₀ : List ℕ) (pressed : Bool) (i : ℕ) (l a : List ℕ) : Type 0 where
-  pub made : Onward t calls n i₀ l₀ a₀ i l a
+  pub made : RowOfSteps t calls n i₀ l₀ a₀ i l a
   pub sound : RoundSound t l
   pub rank : higherWaits t l ≡ pressed
 

@@ -30,7 +30,7 @@ callCount calls answers = pick (ltb (calls / 6) (answers / 8)) (calls / 6) (answ
 
 -- of n recorded calls those from i on, made on the round l and answered in a, come to the same as those from j on, made
 -- on l′ and answered in a′: the calls between have been made
-pub record Onward (t calls : List ℕ) (n i : ℕ) (l a : List ℕ) (j : ℕ) (l′ a′ : List ℕ) : Type 0 where
+pub record RowOfSteps (t calls : List ℕ) (n i : ℕ) (l a : List ℕ) (j : ℕ) (l′ a′ : List ℕ) : Type 0 where
   pub rounds : roundAfter t (callsFrom calls j (n - j)) l′ ≡ roundAfter t (callsFrom calls i (n - i)) l
   pub answers : putAnswers a′ j (answersOn t (callsFrom calls j (n - j)) l′) ≡ putAnswers a i (answersOn t (callsFrom calls i (n - i)) l)
   pub onward : i ≤ j

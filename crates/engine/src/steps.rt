@@ -3,7 +3,7 @@ ghost use mathlib.Core.Path.{_≡_};
 ghost use Prim.Native.Nat.{_+_, _*_, _≤_, _<_};
 ghost use lib.ListN.{length};
 ghost use Rattle.run_burst.specs.Sound.{RoundSound};
-ghost use Rattle.engine.specs.Replay.{Onward};
+ghost use Rattle.engine.specs.Replay.{RowOfSteps};
 
 // The bytes of a recorded call, of which the first is its kind; the kind of a step.
 pub const CALL_BYTES: usize = 6;
@@ -20,7 +20,7 @@ fn steps_from(
     answers: &mut [u8],
 ) -> usize
     requires { ⌜ RoundSound (now table) (now round) × (i ≤ n) × (n * 6 ≤ length (now calls)) × (n * 8 ≤ length (now answers)) ⌝ }
-    ensures { λ r. ⌜ Onward (now (table .entry)) (now (calls .entry)) n i (now (round .entry)) (now (answers .entry)) r (now (round .exit)) (now (answers .exit)) ⌝ }
+    ensures { λ r. ⌜ RowOfSteps (now (table .entry)) (now (calls .entry)) n i (now (round .entry)) (now (answers .entry)) r (now (round .exit)) (now (answers .exit)) ⌝ }
 {
     let mut at = i;
     let mut pressed = run_burst::is_outranked(&*table, round);
@@ -47,7 +47,7 @@ pub fn past_steps(
     answers: &mut [u8],
 ) -> usize
     requires { ⌜ (i < n) × (n * 6 ≤ length (now calls)) × (n * 8 ≤ length (now answers)) ⌝ }
-    ensures { λ r. ⌜ Onward (now (table .entry)) (now (calls .entry)) n i (now (round .entry)) (now (answers .entry)) r (now (round .exit)) (now (answers .exit)) ⌝ }
+    ensures { λ r. ⌜ RowOfSteps (now (table .entry)) (now (calls .entry)) n i (now (round .entry)) (now (answers .entry)) r (now (round .exit)) (now (answers .exit)) ⌝ }
 {
     if calls[i * CALL_BYTES] != STEP {
         return i;

@@ -2,18 +2,17 @@
 -- bytes, precedence and signs, and faults of each kind with their places.
 use Prim.Native.Nat.{ℕ}
 use mathlib.Core.Path.{_≡_, refl}
-use mathlib.Core.List.{List, [], _∷_, _++_}
+use mathlib.Core.List.{List, [], _∷_}
 use lib.ListN.{replicate}
-use Rattle.lib_base.specs.Basics.{pick}
 use Rattle.spec_language.specs.Grammar.{encode, encodeEvents, encodeBehaviours, encodeHandlers, encodeExpr}
 use Rattle.text_formula.specs.Tokens.{decimalValue}
 use Rattle.text_formula.specs.Reader.{level}
 use Rattle.text_sheet.specs.Tokens.{marks, reserved, same, signOf, isDigit, isLetter, inWord, isBlank, inComment}
-use Rattle.text_sheet.specs.Faults.{Result, fine, fault, outside, tooLarge, offScale, tooMany, declaredTwice, secondHandler, tooDeep, unknownName, noSuchCell, shortBuffer, longText}
-use Rattle.text_sheet.specs.Limits.{among, nesting, afterAll}
-use Rattle.text_sheet.specs.Meaning.{names, bitsBelow, behaviourNamed, found, eventNamed, termOf, clausesOf, entriesOf, sheetOf}
-use Rattle.text_sheet.specs.Scanner.{run, beyond, firstOf, tokensOf}
-use Rattle.text_sheet.specs.Reader.{past, valueOf, chain, tower, cellOf, constantOf, bracketedOf, choiceOf, signedOf, operandAt, morePlayers, fromOf, seenOf, manyOf, defaultOf, parameterOf, eventOf, reactionOf, passiveOf, stateOf, rowOf, behaviourOf, behaviourBegins, declarationsOf, readText}
+use Rattle.text_sheet.specs.Faults.{fine, fault, outside, tooLarge, offScale, tooMany, declaredTwice, secondHandler, tooDeep, unknownName, noSuchCell, shortBuffer, longText}
+use Rattle.text_sheet.specs.Limits.{among, phraseNesting, afterAll}
+use Rattle.text_sheet.specs.Meaning.{amongPlayers, bitsBelow, behaviourNamed, meaningOfName, eventNamed, termOf, clausesOf, entriesOf, sheetOf}
+use Rattle.text_sheet.specs.Scanner.{runOfKind, beyondRun, firstInText, scannedTokens}
+use Rattle.text_sheet.specs.Reader.{pastSign, valueOf, signChain, phraseTower, cellOf, readConstant, readBracketed, readChoice, signedOf, operandWithin, morePlayers, fromOf, seenOf, manyOf, defaultOf, parameterOf, eventDeclared, reactionOf, passiveDeclared, stateOf, rowDeclared, behaviourDeclared, behaviourBegins, declarationsOf, readText}
 use Rattle.text_sheet.specs.Answer.{lineFrom, columnFrom, assembled, turnedDown, assembleOn}
 
 -- the sheet of docs/SHEETS.md
@@ -101,7 +100,7 @@ pub lamps-assembled : assembled lamps 8192 ≡ fine (
     5 ∷ 16 ∷ 0 ∷ 4 ∷ 0 ∷ 0 ∷ 0 ∷ 0 ∷ 17 ∷ 0 ∷ 1 ∷ 4 ∷ 2 ∷ 0 ∷ 12 ∷ 18 ∷ 0 ∷ 9 ∷ 4 ∷ 17 ∷ 0 ∷ 1 ∷ 4 ∷ 17 ∷ 0 ∷
     1 ∷ 15 ∷ 2 ∷ 0 ∷ 19 ∷ 18 ∷ 0 ∷ 16 ∷ 14 ∷ 17 ∷ 0 ∷ 1 ∷ 0 ∷ 17 ∷ 0 ∷ 1 ∷ 1 ∷ 16 ∷ 0 ∷ 4 ∷ 255 ∷ 255 ∷ 255 ∷
     255 ∷ [])
-unfolding marks reserved same signOf isDigit isLetter inWord isBlank inComment decimalValue level run beyond firstOf tokensOf among nesting afterAll names bitsBelow behaviourNamed found eventNamed termOf clausesOf entriesOf sheetOf past valueOf chain tower cellOf constantOf bracketedOf choiceOf signedOf operandAt morePlayers fromOf seenOf manyOf defaultOf parameterOf eventOf reactionOf passiveOf stateOf rowOf behaviourOf behaviourBegins declarationsOf readText assembled encode encodeEvents encodeBehaviours encodeHandlers encodeExpr
+unfolding marks reserved same signOf isDigit isLetter inWord isBlank inComment decimalValue level runOfKind beyondRun firstInText scannedTokens among phraseNesting afterAll amongPlayers bitsBelow behaviourNamed meaningOfName eventNamed termOf clausesOf entriesOf sheetOf pastSign valueOf signChain phraseTower cellOf readConstant readBracketed readChoice signedOf operandWithin morePlayers fromOf seenOf manyOf defaultOf parameterOf eventDeclared reactionOf passiveDeclared stateOf rowDeclared behaviourDeclared behaviourBegins declarationsOf readText assembled encode encodeEvents encodeBehaviours encodeHandlers encodeExpr
 lamps-assembled = refl
 
 -- sheet S of 01 "Rounds to check"
@@ -125,7 +124,7 @@ pub S-assembled : assembled sheet-S 74 ≡ fine (
     1 ∷ 0 ∷ 1 ∷ 1 ∷ 1 ∷ 0 ∷ 1 ∷ 2 ∷ 3 ∷ 0 ∷ 24 ∷ 4 ∷ 0 ∷ 4 ∷ 0 ∷ 0 ∷ 0 ∷ 1 ∷ 5 ∷ 0 ∷ 14 ∷ 0 ∷ 0 ∷ 18 ∷ 0 ∷
     9 ∷ 4 ∷ 17 ∷ 0 ∷ 1 ∷ 0 ∷ 17 ∷ 0 ∷ 1 ∷ 1 ∷ 3 ∷ 0 ∷ 36 ∷ 4 ∷ 0 ∷ 4 ∷ 0 ∷ 0 ∷ 0 ∷ 1 ∷ 5 ∷ 0 ∷ 14 ∷ 0 ∷ 1 ∷
     18 ∷ 0 ∷ 9 ∷ 5 ∷ 17 ∷ 0 ∷ 1 ∷ 0 ∷ 17 ∷ 0 ∷ 1 ∷ 1 ∷ 5 ∷ 0 ∷ 9 ∷ 1 ∷ 0 ∷ 16 ∷ 0 ∷ 4 ∷ 0 ∷ 0 ∷ 0 ∷ 1 ∷ [])
-unfolding marks reserved same signOf isDigit isLetter inWord isBlank inComment decimalValue level run beyond firstOf tokensOf among nesting afterAll names bitsBelow behaviourNamed found eventNamed termOf clausesOf entriesOf sheetOf past valueOf chain tower cellOf constantOf bracketedOf choiceOf signedOf operandAt morePlayers fromOf seenOf manyOf defaultOf parameterOf eventOf reactionOf passiveOf stateOf rowOf behaviourOf behaviourBegins declarationsOf readText assembled encode encodeEvents encodeBehaviours encodeHandlers encodeExpr
+unfolding marks reserved same signOf isDigit isLetter inWord isBlank inComment decimalValue level runOfKind beyondRun firstInText scannedTokens among phraseNesting afterAll amongPlayers bitsBelow behaviourNamed meaningOfName eventNamed termOf clausesOf entriesOf sheetOf pastSign valueOf signChain phraseTower cellOf readConstant readBracketed readChoice signedOf operandWithin morePlayers fromOf seenOf manyOf defaultOf parameterOf eventDeclared reactionOf passiveDeclared stateOf rowDeclared behaviourDeclared behaviourBegins declarationsOf readText assembled encode encodeEvents encodeBehaviours encodeHandlers encodeExpr
 S-assembled = refl
 
 -- the empty text is the rest day's sheet, and so is a comment that the text ends in
@@ -133,7 +132,7 @@ S-assembled = refl
 --   # a \x00ÿ
 pub empty : (assembled [] 8192 ≡ fine [])
     × (assembled (35 ∷ 32 ∷ 97 ∷ 32 ∷ 0 ∷ 255 ∷ []) 8192 ≡ fine [])
-unfolding marks reserved same signOf isDigit isLetter inWord isBlank inComment decimalValue level run beyond firstOf tokensOf among nesting afterAll names bitsBelow behaviourNamed found eventNamed termOf clausesOf entriesOf sheetOf past valueOf chain tower cellOf constantOf bracketedOf choiceOf signedOf operandAt morePlayers fromOf seenOf manyOf defaultOf parameterOf eventOf reactionOf passiveOf stateOf rowOf behaviourOf behaviourBegins declarationsOf readText assembled encode encodeEvents encodeBehaviours encodeHandlers encodeExpr
+unfolding marks reserved same signOf isDigit isLetter inWord isBlank inComment decimalValue level runOfKind beyondRun firstInText scannedTokens among phraseNesting afterAll amongPlayers bitsBelow behaviourNamed meaningOfName eventNamed termOf clausesOf entriesOf sheetOf pastSign valueOf signChain phraseTower cellOf readConstant readBracketed readChoice signedOf operandWithin morePlayers fromOf seenOf manyOf defaultOf parameterOf eventDeclared reactionOf passiveDeclared stateOf rowDeclared behaviourDeclared behaviourBegins declarationsOf readText assembled encode encodeEvents encodeBehaviours encodeHandlers encodeExpr
 empty = (refl, refl)
 
 -- precedence and grouping; a negative constant where an operand is due, else `-` is two-sided
@@ -156,7 +155,7 @@ pub tightness : (assembled (112 ∷ 97 ∷ 115 ∷ 115 ∷ 105 ∷ 118 ∷ 101 �
     × (assembled (112 ∷ 97 ∷ 115 ∷ 115 ∷ 105 ∷ 118 ∷ 101 ∷ 32 ∷ 97 ∷ 61 ∷ 50 ∷ 49 ∷ 52 ∷ 55 ∷ 52 ∷ 56 ∷ 51 ∷ 54 ∷ 52 ∷ 55 ∷ 45 ∷ 49 ∷ 62 ∷ 61 ∷ 45 ∷ 50 ∷ 49 ∷ 52 ∷ 55 ∷ 52 ∷ 56 ∷ 51 ∷ 54 ∷ 52 ∷ 56 ∷ []) 8192 ≡ fine (
     2 ∷ 0 ∷ 29 ∷ 18 ∷ 0 ∷ 26 ∷ 9 ∷ 18 ∷ 0 ∷ 15 ∷ 5 ∷ 16 ∷ 0 ∷ 4 ∷ 127 ∷ 255 ∷ 255 ∷ 255 ∷ 16 ∷ 0 ∷ 4 ∷ 0 ∷
     0 ∷ 0 ∷ 1 ∷ 16 ∷ 0 ∷ 4 ∷ 128 ∷ 0 ∷ 0 ∷ 0 ∷ []))
-unfolding marks reserved same signOf isDigit isLetter inWord isBlank inComment decimalValue level run beyond firstOf tokensOf among nesting afterAll names bitsBelow behaviourNamed found eventNamed termOf clausesOf entriesOf sheetOf past valueOf chain tower cellOf constantOf bracketedOf choiceOf signedOf operandAt morePlayers fromOf seenOf manyOf defaultOf parameterOf eventOf reactionOf passiveOf stateOf rowOf behaviourOf behaviourBegins declarationsOf readText assembled encode encodeEvents encodeBehaviours encodeHandlers encodeExpr
+unfolding marks reserved same signOf isDigit isLetter inWord isBlank inComment decimalValue level runOfKind beyondRun firstInText scannedTokens among phraseNesting afterAll amongPlayers bitsBelow behaviourNamed meaningOfName eventNamed termOf clausesOf entriesOf sheetOf pastSign valueOf signChain phraseTower cellOf readConstant readBracketed readChoice signedOf operandWithin morePlayers fromOf seenOf manyOf defaultOf parameterOf eventDeclared reactionOf passiveDeclared stateOf rowDeclared behaviourDeclared behaviourBegins declarationsOf readText assembled encode encodeEvents encodeBehaviours encodeHandlers encodeExpr
 tightness = (refl, refl, refl, refl, refl)
 
 -- the bits of the players named, `nobody` none, nothing said no byte
@@ -169,7 +168,7 @@ pub players : (assembled (101 ∷ 118 ∷ 101 ∷ 110 ∷ 116 ∷ 32 ∷ 101 ∷
     1 ∷ 0 ∷ 2 ∷ 15 ∷ 0 ∷ []))
     × (assembled (112 ∷ 97 ∷ 115 ∷ 115 ∷ 105 ∷ 118 ∷ 101 ∷ 32 ∷ 97 ∷ 61 ∷ 49 ∷ 32 ∷ 115 ∷ 101 ∷ 101 ∷ 110 ∷ 32 ∷ 98 ∷ 121 ∷ 32 ∷ 49 ∷ 32 ∷ 48 ∷ []) 8192 ≡ fine (
     2 ∷ 0 ∷ 11 ∷ 16 ∷ 0 ∷ 4 ∷ 0 ∷ 0 ∷ 0 ∷ 1 ∷ 8 ∷ 0 ∷ 1 ∷ 3 ∷ []))
-unfolding marks reserved same signOf isDigit isLetter inWord isBlank inComment decimalValue level run beyond firstOf tokensOf among nesting afterAll names bitsBelow behaviourNamed found eventNamed termOf clausesOf entriesOf sheetOf past valueOf chain tower cellOf constantOf bracketedOf choiceOf signedOf operandAt morePlayers fromOf seenOf manyOf defaultOf parameterOf eventOf reactionOf passiveOf stateOf rowOf behaviourOf behaviourBegins declarationsOf readText assembled encode encodeEvents encodeBehaviours encodeHandlers encodeExpr
+unfolding marks reserved same signOf isDigit isLetter inWord isBlank inComment decimalValue level runOfKind beyondRun firstInText scannedTokens among phraseNesting afterAll amongPlayers bitsBelow behaviourNamed meaningOfName eventNamed termOf clausesOf entriesOf sheetOf pastSign valueOf signChain phraseTower cellOf readConstant readBracketed readChoice signedOf operandWithin morePlayers fromOf seenOf manyOf defaultOf parameterOf eventDeclared reactionOf passiveDeclared stateOf rowDeclared behaviourDeclared behaviourBegins declarationsOf readText assembled encode encodeEvents encodeBehaviours encodeHandlers encodeExpr
 players = (refl, refl, refl)
 
 -- cells of rows, before they are declared; in a row's handler the bare name, and cell 0 of a row of another count
@@ -182,7 +181,7 @@ pub cells : (assembled (112 ∷ 97 ∷ 115 ∷ 115 ∷ 105 ∷ 118 ∷ 101 ∷ 3
     1 ∷ 0 ∷ 1 ∷ 1 ∷ 6 ∷ 0 ∷ 33 ∷ 2 ∷ 4 ∷ 0 ∷ 4 ∷ 0 ∷ 0 ∷ 0 ∷ 0 ∷ 5 ∷ 0 ∷ 22 ∷ 0 ∷ 0 ∷ 18 ∷ 0 ∷ 17 ∷ 4 ∷ 18 ∷
     0 ∷ 9 ∷ 4 ∷ 17 ∷ 0 ∷ 1 ∷ 0 ∷ 17 ∷ 0 ∷ 1 ∷ 1 ∷ 17 ∷ 0 ∷ 1 ∷ 2 ∷ 6 ∷ 0 ∷ 8 ∷ 3 ∷ 4 ∷ 0 ∷ 4 ∷ 0 ∷ 0 ∷ 0 ∷
     0 ∷ []))
-unfolding marks reserved same signOf isDigit isLetter inWord isBlank inComment decimalValue level run beyond firstOf tokensOf among nesting afterAll names bitsBelow behaviourNamed found eventNamed termOf clausesOf entriesOf sheetOf past valueOf chain tower cellOf constantOf bracketedOf choiceOf signedOf operandAt morePlayers fromOf seenOf manyOf defaultOf parameterOf eventOf reactionOf passiveOf stateOf rowOf behaviourOf behaviourBegins declarationsOf readText assembled encode encodeEvents encodeBehaviours encodeHandlers encodeExpr
+unfolding marks reserved same signOf isDigit isLetter inWord isBlank inComment decimalValue level runOfKind beyondRun firstInText scannedTokens among phraseNesting afterAll amongPlayers bitsBelow behaviourNamed meaningOfName eventNamed termOf clausesOf entriesOf sheetOf pastSign valueOf signChain phraseTower cellOf readConstant readBracketed readChoice signedOf operandWithin morePlayers fromOf seenOf manyOf defaultOf parameterOf eventDeclared reactionOf passiveDeclared stateOf rowDeclared behaviourDeclared behaviourBegins declarationsOf readText assembled encode encodeEvents encodeBehaviours encodeHandlers encodeExpr
 cells = (refl, refl)
 
 -- outside the grammar: a byte, a name of 33 bytes, a token that cannot follow, the end of the text
@@ -202,7 +201,7 @@ pub outside-the-grammar : (assembled (112 ∷ 97 ∷ 114 ∷ 97 ∷ 109 ∷ 32 �
     × (assembled (112 ∷ 97 ∷ 115 ∷ 115 ∷ 105 ∷ 118 ∷ 101 ∷ 32 ∷ 97 ∷ 61 ∷ 105 ∷ 102 ∷ 40 ∷ 49 ∷ 44 ∷ 50 ∷ []) 8192 ≡ fault outside 16)
     × (assembled (97 ∷ 99 ∷ 116 ∷ 105 ∷ 118 ∷ 101 ∷ 32 ∷ 111 ∷ 110 ∷ 61 ∷ 49 ∷ []) 8192 ≡ fault outside 7)
     × (assembled (112 ∷ 97 ∷ 115 ∷ 115 ∷ 105 ∷ 118 ∷ 101 ∷ 32 ∷ 97 ∷ 61 ∷ 49 ∷ 60 ∷ 61 ∷ 128 ∷ []) 8192 ≡ fault outside 13)
-unfolding marks reserved same signOf isDigit isLetter inWord isBlank inComment decimalValue level run beyond firstOf tokensOf among nesting afterAll names bitsBelow behaviourNamed found eventNamed termOf clausesOf entriesOf sheetOf past valueOf chain tower cellOf constantOf bracketedOf choiceOf signedOf operandAt morePlayers fromOf seenOf manyOf defaultOf parameterOf eventOf reactionOf passiveOf stateOf rowOf behaviourOf behaviourBegins declarationsOf readText assembled encode encodeEvents encodeBehaviours encodeHandlers encodeExpr
+unfolding marks reserved same signOf isDigit isLetter inWord isBlank inComment decimalValue level runOfKind beyondRun firstInText scannedTokens among phraseNesting afterAll amongPlayers bitsBelow behaviourNamed meaningOfName eventNamed termOf clausesOf entriesOf sheetOf pastSign valueOf signChain phraseTower cellOf readConstant readBracketed readChoice signedOf operandWithin morePlayers fromOf seenOf manyOf defaultOf parameterOf eventDeclared reactionOf passiveDeclared stateOf rowDeclared behaviourDeclared behaviourBegins declarationsOf readText assembled encode encodeEvents encodeBehaviours encodeHandlers encodeExpr
 outside-the-grammar = (refl, refl, refl, refl, refl, refl, refl, refl)
 
 -- a number over 2,147,483,647, and one more after a `-` that makes a constant; also as a rank, a count, a cell
@@ -218,7 +217,7 @@ pub too-large : (assembled (112 ∷ 97 ∷ 114 ∷ 97 ∷ 109 ∷ 32 ∷ 97 ∷ 
     × (assembled (101 ∷ 118 ∷ 101 ∷ 110 ∷ 116 ∷ 32 ∷ 101 ∷ 32 ∷ 114 ∷ 97 ∷ 110 ∷ 107 ∷ 32 ∷ 50 ∷ 49 ∷ 52 ∷ 55 ∷ 52 ∷ 56 ∷ 51 ∷ 54 ∷ 52 ∷ 56 ∷ []) 8192 ≡ fault tooLarge 13)
     × (assembled (114 ∷ 111 ∷ 119 ∷ 32 ∷ 114 ∷ 91 ∷ 52 ∷ 50 ∷ 57 ∷ 52 ∷ 57 ∷ 54 ∷ 55 ∷ 50 ∷ 57 ∷ 56 ∷ 93 ∷ 61 ∷ 48 ∷ []) 8192 ≡ fault tooLarge 6)
     × (assembled (112 ∷ 97 ∷ 115 ∷ 115 ∷ 105 ∷ 118 ∷ 101 ∷ 32 ∷ 97 ∷ 61 ∷ 98 ∷ 91 ∷ 50 ∷ 49 ∷ 52 ∷ 55 ∷ 52 ∷ 56 ∷ 51 ∷ 54 ∷ 52 ∷ 56 ∷ 93 ∷ []) 8192 ≡ fault tooLarge 12)
-unfolding marks reserved same signOf isDigit isLetter inWord isBlank inComment decimalValue level run beyond firstOf tokensOf among nesting afterAll names bitsBelow behaviourNamed found eventNamed termOf clausesOf entriesOf sheetOf past valueOf chain tower cellOf constantOf bracketedOf choiceOf signedOf operandAt morePlayers fromOf seenOf manyOf defaultOf parameterOf eventOf reactionOf passiveOf stateOf rowOf behaviourOf behaviourBegins declarationsOf readText assembled encode encodeEvents encodeBehaviours encodeHandlers encodeExpr
+unfolding marks reserved same signOf isDigit isLetter inWord isBlank inComment decimalValue level runOfKind beyondRun firstInText scannedTokens among phraseNesting afterAll amongPlayers bitsBelow behaviourNamed meaningOfName eventNamed termOf clausesOf entriesOf sheetOf pastSign valueOf signChain phraseTower cellOf readConstant readBracketed readChoice signedOf operandWithin morePlayers fromOf seenOf manyOf defaultOf parameterOf eventDeclared reactionOf passiveDeclared stateOf rowDeclared behaviourDeclared behaviourBegins declarationsOf readText assembled encode encodeEvents encodeBehaviours encodeHandlers encodeExpr
 too-large = (refl, refl, refl, refl, refl, refl)
 
 -- a rank over 15, a player over 7, a cell count not 2 to 16
@@ -230,7 +229,7 @@ pub off-scale : (assembled (101 ∷ 118 ∷ 101 ∷ 110 ∷ 116 ∷ 32 ∷ 101 �
     × (assembled (101 ∷ 118 ∷ 101 ∷ 110 ∷ 116 ∷ 32 ∷ 101 ∷ 32 ∷ 114 ∷ 97 ∷ 110 ∷ 107 ∷ 32 ∷ 49 ∷ 32 ∷ 102 ∷ 114 ∷ 111 ∷ 109 ∷ 32 ∷ 48 ∷ 32 ∷ 56 ∷ []) 8192 ≡ fault offScale 22)
     × (assembled (114 ∷ 111 ∷ 119 ∷ 32 ∷ 114 ∷ 91 ∷ 49 ∷ 93 ∷ 61 ∷ 48 ∷ []) 8192 ≡ fault offScale 6)
     × (assembled (114 ∷ 111 ∷ 119 ∷ 32 ∷ 114 ∷ 91 ∷ 49 ∷ 55 ∷ 93 ∷ 61 ∷ 48 ∷ []) 8192 ≡ fault offScale 6)
-unfolding marks reserved same signOf isDigit isLetter inWord isBlank inComment decimalValue level run beyond firstOf tokensOf among nesting afterAll names bitsBelow behaviourNamed found eventNamed termOf clausesOf entriesOf sheetOf past valueOf chain tower cellOf constantOf bracketedOf choiceOf signedOf operandAt morePlayers fromOf seenOf manyOf defaultOf parameterOf eventOf reactionOf passiveOf stateOf rowOf behaviourOf behaviourBegins declarationsOf readText assembled encode encodeEvents encodeBehaviours encodeHandlers encodeExpr
+unfolding marks reserved same signOf isDigit isLetter inWord isBlank inComment decimalValue level runOfKind beyondRun firstInText scannedTokens among phraseNesting afterAll amongPlayers bitsBelow behaviourNamed meaningOfName eventNamed termOf clausesOf entriesOf sheetOf pastSign valueOf signChain phraseTower cellOf readConstant readBracketed readChoice signedOf operandWithin morePlayers fromOf seenOf manyOf defaultOf parameterOf eventDeclared reactionOf passiveDeclared stateOf rowDeclared behaviourDeclared behaviourBegins declarationsOf readText assembled encode encodeEvents encodeBehaviours encodeHandlers encodeExpr
 off-scale = (refl, refl, refl, refl)
 
 -- a ninth parameter; and where a row's cells go past 64, its count
@@ -242,7 +241,7 @@ pub too-many : (assembled (112 ∷ 97 ∷ 114 ∷ 97 ∷ 109 ∷ 32 ∷ 112 ∷ 
     × (assembled (114 ∷ 111 ∷ 119 ∷ 32 ∷ 114 ∷ 48 ∷ 91 ∷ 49 ∷ 54 ∷ 93 ∷ 61 ∷ 48 ∷ 32 ∷ 114 ∷ 111 ∷ 119 ∷ 32 ∷ 114 ∷ 49 ∷ 91 ∷ 49 ∷ 54 ∷ 93 ∷ 61 ∷ 48 ∷ 32 ∷ 114 ∷ 111 ∷ 119 ∷ 32 ∷ 114 ∷ 50 ∷ 91 ∷ 49 ∷ 54 ∷ 93 ∷ 61 ∷ 48 ∷ 32 ∷ 114 ∷ 111 ∷ 119 ∷ 32 ∷ 97 ∷ 91 ∷ 49 ∷ 53 ∷ 93 ∷ 61 ∷ 48 ∷ 32 ∷ 114 ∷ 111 ∷ 119 ∷ 32 ∷ 98 ∷ 91 ∷ 50 ∷ 93 ∷ 61 ∷ 48 ∷ []) 8192 ≡ fault tooMany 57)
     × (assembled (114 ∷ 111 ∷ 119 ∷ 32 ∷ 114 ∷ 48 ∷ 91 ∷ 49 ∷ 54 ∷ 93 ∷ 61 ∷ 48 ∷ 32 ∷ 114 ∷ 111 ∷ 119 ∷ 32 ∷ 114 ∷ 49 ∷ 91 ∷ 49 ∷ 54 ∷ 93 ∷ 61 ∷ 48 ∷ 32 ∷ 114 ∷ 111 ∷ 119 ∷ 32 ∷ 114 ∷ 50 ∷ 91 ∷ 49 ∷ 54 ∷ 93 ∷ 61 ∷ 48 ∷ 32 ∷ 114 ∷ 111 ∷ 119 ∷ 32 ∷ 114 ∷ 51 ∷ 91 ∷ 49 ∷ 54 ∷ 93 ∷ 61 ∷ 48 ∷ 32 ∷ 114 ∷ 111 ∷ 119 ∷ 32 ∷ 49 ∷ []) 8192 ≡ fault tooMany 52)
     × (assembled (101 ∷ 118 ∷ 101 ∷ 110 ∷ 116 ∷ 32 ∷ 101 ∷ 48 ∷ 32 ∷ 114 ∷ 97 ∷ 110 ∷ 107 ∷ 32 ∷ 49 ∷ 32 ∷ 101 ∷ 118 ∷ 101 ∷ 110 ∷ 116 ∷ 32 ∷ 101 ∷ 49 ∷ 32 ∷ 114 ∷ 97 ∷ 110 ∷ 107 ∷ 32 ∷ 49 ∷ 32 ∷ 101 ∷ 118 ∷ 101 ∷ 110 ∷ 116 ∷ 32 ∷ 101 ∷ 50 ∷ 32 ∷ 114 ∷ 97 ∷ 110 ∷ 107 ∷ 32 ∷ 49 ∷ 32 ∷ 101 ∷ 118 ∷ 101 ∷ 110 ∷ 116 ∷ 32 ∷ 101 ∷ 51 ∷ 32 ∷ 114 ∷ 97 ∷ 110 ∷ 107 ∷ 32 ∷ 49 ∷ 32 ∷ 101 ∷ 118 ∷ 101 ∷ 110 ∷ 116 ∷ 32 ∷ 101 ∷ 52 ∷ 32 ∷ 114 ∷ 97 ∷ 110 ∷ 107 ∷ 32 ∷ 49 ∷ 32 ∷ 101 ∷ 118 ∷ 101 ∷ 110 ∷ 116 ∷ 32 ∷ 101 ∷ 53 ∷ 32 ∷ 114 ∷ 97 ∷ 110 ∷ 107 ∷ 32 ∷ 49 ∷ 32 ∷ 101 ∷ 118 ∷ 101 ∷ 110 ∷ 116 ∷ 32 ∷ 101 ∷ 54 ∷ 32 ∷ 114 ∷ 97 ∷ 110 ∷ 107 ∷ 32 ∷ 49 ∷ 32 ∷ 101 ∷ 118 ∷ 101 ∷ 110 ∷ 116 ∷ 32 ∷ 101 ∷ 55 ∷ 32 ∷ 114 ∷ 97 ∷ 110 ∷ 107 ∷ 32 ∷ 49 ∷ 32 ∷ 101 ∷ 118 ∷ 101 ∷ 110 ∷ 116 ∷ 32 ∷ 101 ∷ 56 ∷ 32 ∷ 114 ∷ 97 ∷ 110 ∷ 107 ∷ 32 ∷ 49 ∷ 32 ∷ 101 ∷ 118 ∷ 101 ∷ 110 ∷ 116 ∷ 32 ∷ 101 ∷ 57 ∷ 32 ∷ 114 ∷ 97 ∷ 110 ∷ 107 ∷ 32 ∷ 49 ∷ 32 ∷ 101 ∷ 118 ∷ 101 ∷ 110 ∷ 116 ∷ 32 ∷ 101 ∷ 49 ∷ 48 ∷ 32 ∷ 114 ∷ 97 ∷ 110 ∷ 107 ∷ 32 ∷ 49 ∷ 32 ∷ 101 ∷ 118 ∷ 101 ∷ 110 ∷ 116 ∷ 32 ∷ 101 ∷ 49 ∷ 49 ∷ 32 ∷ 114 ∷ 97 ∷ 110 ∷ 107 ∷ 32 ∷ 49 ∷ 32 ∷ 101 ∷ 118 ∷ 101 ∷ 110 ∷ 116 ∷ 32 ∷ 101 ∷ 49 ∷ 50 ∷ 32 ∷ 114 ∷ 97 ∷ 110 ∷ 107 ∷ 32 ∷ 49 ∷ 32 ∷ 101 ∷ 118 ∷ 101 ∷ 110 ∷ 116 ∷ 32 ∷ 101 ∷ 49 ∷ 51 ∷ 32 ∷ 114 ∷ 97 ∷ 110 ∷ 107 ∷ 32 ∷ 49 ∷ 32 ∷ 101 ∷ 118 ∷ 101 ∷ 110 ∷ 116 ∷ 32 ∷ 101 ∷ 49 ∷ 52 ∷ 32 ∷ 114 ∷ 97 ∷ 110 ∷ 107 ∷ 32 ∷ 49 ∷ 32 ∷ 101 ∷ 118 ∷ 101 ∷ 110 ∷ 116 ∷ 32 ∷ 101 ∷ 49 ∷ 53 ∷ 32 ∷ 114 ∷ 97 ∷ 110 ∷ 107 ∷ 32 ∷ 49 ∷ 32 ∷ 101 ∷ 118 ∷ 101 ∷ 110 ∷ 116 ∷ 32 ∷ 101 ∷ 49 ∷ 54 ∷ 32 ∷ 114 ∷ 97 ∷ 110 ∷ 107 ∷ 32 ∷ 49 ∷ 32 ∷ 101 ∷ 118 ∷ 101 ∷ 110 ∷ 116 ∷ 32 ∷ 101 ∷ 49 ∷ 55 ∷ 32 ∷ 114 ∷ 97 ∷ 110 ∷ 107 ∷ 32 ∷ 49 ∷ 32 ∷ 101 ∷ 118 ∷ 101 ∷ 110 ∷ 116 ∷ 32 ∷ 101 ∷ 49 ∷ 56 ∷ 32 ∷ 114 ∷ 97 ∷ 110 ∷ 107 ∷ 32 ∷ 49 ∷ 32 ∷ 101 ∷ 118 ∷ 101 ∷ 110 ∷ 116 ∷ 32 ∷ 101 ∷ 49 ∷ 57 ∷ 32 ∷ 114 ∷ 97 ∷ 110 ∷ 107 ∷ 32 ∷ 49 ∷ 32 ∷ 101 ∷ 118 ∷ 101 ∷ 110 ∷ 116 ∷ 32 ∷ 101 ∷ 50 ∷ 48 ∷ 32 ∷ 114 ∷ 97 ∷ 110 ∷ 107 ∷ 32 ∷ 49 ∷ 32 ∷ 101 ∷ 118 ∷ 101 ∷ 110 ∷ 116 ∷ 32 ∷ 101 ∷ 50 ∷ 49 ∷ 32 ∷ 114 ∷ 97 ∷ 110 ∷ 107 ∷ 32 ∷ 49 ∷ 32 ∷ 101 ∷ 118 ∷ 101 ∷ 110 ∷ 116 ∷ 32 ∷ 101 ∷ 50 ∷ 50 ∷ 32 ∷ 114 ∷ 97 ∷ 110 ∷ 107 ∷ 32 ∷ 49 ∷ 32 ∷ 101 ∷ 118 ∷ 101 ∷ 110 ∷ 116 ∷ 32 ∷ 101 ∷ 50 ∷ 51 ∷ 32 ∷ 114 ∷ 97 ∷ 110 ∷ 107 ∷ 32 ∷ 49 ∷ 32 ∷ 101 ∷ 118 ∷ 101 ∷ 110 ∷ 116 ∷ 32 ∷ 101 ∷ 50 ∷ 52 ∷ 32 ∷ 114 ∷ 97 ∷ 110 ∷ 107 ∷ 32 ∷ 49 ∷ 32 ∷ 101 ∷ 118 ∷ 101 ∷ 110 ∷ 116 ∷ 32 ∷ 101 ∷ 50 ∷ 53 ∷ 32 ∷ 114 ∷ 97 ∷ 110 ∷ 107 ∷ 32 ∷ 49 ∷ 32 ∷ 101 ∷ 118 ∷ 101 ∷ 110 ∷ 116 ∷ 32 ∷ 101 ∷ 50 ∷ 54 ∷ 32 ∷ 114 ∷ 97 ∷ 110 ∷ 107 ∷ 32 ∷ 49 ∷ 32 ∷ 101 ∷ 118 ∷ 101 ∷ 110 ∷ 116 ∷ 32 ∷ 101 ∷ 50 ∷ 55 ∷ 32 ∷ 114 ∷ 97 ∷ 110 ∷ 107 ∷ 32 ∷ 49 ∷ 32 ∷ 101 ∷ 118 ∷ 101 ∷ 110 ∷ 116 ∷ 32 ∷ 101 ∷ 50 ∷ 56 ∷ 32 ∷ 114 ∷ 97 ∷ 110 ∷ 107 ∷ 32 ∷ 49 ∷ 32 ∷ 101 ∷ 118 ∷ 101 ∷ 110 ∷ 116 ∷ 32 ∷ 101 ∷ 50 ∷ 57 ∷ 32 ∷ 114 ∷ 97 ∷ 110 ∷ 107 ∷ 32 ∷ 49 ∷ 32 ∷ 101 ∷ 118 ∷ 101 ∷ 110 ∷ 116 ∷ 32 ∷ 101 ∷ 51 ∷ 48 ∷ 32 ∷ 114 ∷ 97 ∷ 110 ∷ 107 ∷ 32 ∷ 49 ∷ 32 ∷ 101 ∷ 118 ∷ 101 ∷ 110 ∷ 116 ∷ 32 ∷ 101 ∷ 51 ∷ 49 ∷ 32 ∷ 114 ∷ 97 ∷ 110 ∷ 107 ∷ 32 ∷ 49 ∷ 32 ∷ 101 ∷ 118 ∷ 101 ∷ 110 ∷ 116 ∷ 32 ∷ 101 ∷ 51 ∷ 50 ∷ 32 ∷ 114 ∷ 97 ∷ 110 ∷ 107 ∷ 32 ∷ 49 ∷ 32 ∷ []) 8192 ≡ fault tooMany 534)
-unfolding marks reserved same signOf isDigit isLetter inWord isBlank inComment decimalValue level run beyond firstOf tokensOf among nesting afterAll names bitsBelow behaviourNamed found eventNamed termOf clausesOf entriesOf sheetOf past valueOf chain tower cellOf constantOf bracketedOf choiceOf signedOf operandAt morePlayers fromOf seenOf manyOf defaultOf parameterOf eventOf reactionOf passiveOf stateOf rowOf behaviourOf behaviourBegins declarationsOf readText assembled encode encodeEvents encodeBehaviours encodeHandlers encodeExpr
+unfolding marks reserved same signOf isDigit isLetter inWord isBlank inComment decimalValue level runOfKind beyondRun firstInText scannedTokens among phraseNesting afterAll amongPlayers bitsBelow behaviourNamed meaningOfName eventNamed termOf clausesOf entriesOf sheetOf pastSign valueOf signChain phraseTower cellOf readConstant readBracketed readChoice signedOf operandWithin morePlayers fromOf seenOf manyOf defaultOf parameterOf eventDeclared reactionOf passiveDeclared stateOf rowDeclared behaviourDeclared behaviourBegins declarationsOf readText assembled encode encodeEvents encodeBehaviours encodeHandlers encodeExpr
 too-many = (refl, refl, refl, refl)
 
 -- a name declared twice; events have their own names
@@ -253,7 +252,7 @@ pub declared-twice : (assembled (112 ∷ 97 ∷ 114 ∷ 97 ∷ 109 ∷ 32 ∷ 97
     × (assembled (112 ∷ 97 ∷ 114 ∷ 97 ∷ 109 ∷ 32 ∷ 97 ∷ 32 ∷ 101 ∷ 118 ∷ 101 ∷ 110 ∷ 116 ∷ 32 ∷ 101 ∷ 32 ∷ 114 ∷ 97 ∷ 110 ∷ 107 ∷ 32 ∷ 49 ∷ 32 ∷ 112 ∷ 97 ∷ 115 ∷ 115 ∷ 105 ∷ 118 ∷ 101 ∷ 32 ∷ 97 ∷ 61 ∷ 49 ∷ []) 8192 ≡ fault declaredTwice 31)
     × (assembled (101 ∷ 118 ∷ 101 ∷ 110 ∷ 116 ∷ 32 ∷ 97 ∷ 32 ∷ 114 ∷ 97 ∷ 110 ∷ 107 ∷ 32 ∷ 49 ∷ 32 ∷ 112 ∷ 97 ∷ 115 ∷ 115 ∷ 105 ∷ 118 ∷ 101 ∷ 32 ∷ 97 ∷ 61 ∷ 49 ∷ []) 8192 ≡ fine (
     1 ∷ 0 ∷ 1 ∷ 1 ∷ 2 ∷ 0 ∷ 7 ∷ 16 ∷ 0 ∷ 4 ∷ 0 ∷ 0 ∷ 0 ∷ 1 ∷ []))
-unfolding marks reserved same signOf isDigit isLetter inWord isBlank inComment decimalValue level run beyond firstOf tokensOf among nesting afterAll names bitsBelow behaviourNamed found eventNamed termOf clausesOf entriesOf sheetOf past valueOf chain tower cellOf constantOf bracketedOf choiceOf signedOf operandAt morePlayers fromOf seenOf manyOf defaultOf parameterOf eventOf reactionOf passiveOf stateOf rowOf behaviourOf behaviourBegins declarationsOf readText assembled encode encodeEvents encodeBehaviours encodeHandlers encodeExpr
+unfolding marks reserved same signOf isDigit isLetter inWord isBlank inComment decimalValue level runOfKind beyondRun firstInText scannedTokens among phraseNesting afterAll amongPlayers bitsBelow behaviourNamed meaningOfName eventNamed termOf clausesOf entriesOf sheetOf pastSign valueOf signChain phraseTower cellOf readConstant readBracketed readChoice signedOf operandWithin morePlayers fromOf seenOf manyOf defaultOf parameterOf eventDeclared reactionOf passiveDeclared stateOf rowDeclared behaviourDeclared behaviourBegins declarationsOf readText assembled encode encodeEvents encodeBehaviours encodeHandlers encodeExpr
 declared-twice = (refl, refl, refl)
 
 -- a second handler for an event, an event that is not declared
@@ -261,7 +260,7 @@ declared-twice = (refl, refl, refl)
 --   event e rank 1 active a=0 on f:1  ('unknownName', 29)
 pub handlers : (assembled (101 ∷ 118 ∷ 101 ∷ 110 ∷ 116 ∷ 32 ∷ 101 ∷ 32 ∷ 114 ∷ 97 ∷ 110 ∷ 107 ∷ 32 ∷ 49 ∷ 32 ∷ 97 ∷ 99 ∷ 116 ∷ 105 ∷ 118 ∷ 101 ∷ 32 ∷ 97 ∷ 61 ∷ 48 ∷ 32 ∷ 111 ∷ 110 ∷ 32 ∷ 101 ∷ 58 ∷ 49 ∷ 32 ∷ 111 ∷ 110 ∷ 32 ∷ 101 ∷ 32 ∷ 108 ∷ 97 ∷ 116 ∷ 101 ∷ 114 ∷ 58 ∷ 50 ∷ []) 8192 ≡ fault secondHandler 36)
     × (assembled (101 ∷ 118 ∷ 101 ∷ 110 ∷ 116 ∷ 32 ∷ 101 ∷ 32 ∷ 114 ∷ 97 ∷ 110 ∷ 107 ∷ 32 ∷ 49 ∷ 32 ∷ 97 ∷ 99 ∷ 116 ∷ 105 ∷ 118 ∷ 101 ∷ 32 ∷ 97 ∷ 61 ∷ 48 ∷ 32 ∷ 111 ∷ 110 ∷ 32 ∷ 102 ∷ 58 ∷ 49 ∷ []) 8192 ≡ fault unknownName 29)
-unfolding marks reserved same signOf isDigit isLetter inWord isBlank inComment decimalValue level run beyond firstOf tokensOf among nesting afterAll names bitsBelow behaviourNamed found eventNamed termOf clausesOf entriesOf sheetOf past valueOf chain tower cellOf constantOf bracketedOf choiceOf signedOf operandAt morePlayers fromOf seenOf manyOf defaultOf parameterOf eventOf reactionOf passiveOf stateOf rowOf behaviourOf behaviourBegins declarationsOf readText assembled encode encodeEvents encodeBehaviours encodeHandlers encodeExpr
+unfolding marks reserved same signOf isDigit isLetter inWord isBlank inComment decimalValue level runOfKind beyondRun firstInText scannedTokens among phraseNesting afterAll amongPlayers bitsBelow behaviourNamed meaningOfName eventNamed termOf clausesOf entriesOf sheetOf pastSign valueOf signChain phraseTower cellOf readConstant readBracketed readChoice signedOf operandWithin morePlayers fromOf seenOf manyOf defaultOf parameterOf eventDeclared reactionOf passiveDeclared stateOf rowDeclared behaviourDeclared behaviourBegins declarationsOf readText assembled encode encodeEvents encodeBehaviours encodeHandlers encodeExpr
 handlers = (refl, refl)
 
 -- `!` 15 times before a name passes, 16 times is nesting 17, at the first `!`; so for `+`, at the sixteenth
@@ -276,7 +275,7 @@ pub too-deep : (assembled (112 ∷ 97 ∷ 115 ∷ 115 ∷ 105 ∷ 118 ∷ 101 �
     × (assembled (112 ∷ 97 ∷ 115 ∷ 115 ∷ 105 ∷ 118 ∷ 101 ∷ 32 ∷ 97 ∷ 61 ∷ 33 ∷ 33 ∷ 33 ∷ 33 ∷ 33 ∷ 33 ∷ 33 ∷ 33 ∷ 33 ∷ 33 ∷ 33 ∷ 33 ∷ 33 ∷ 33 ∷ 33 ∷ 33 ∷ 49 ∷ []) 8192 ≡ fault tooDeep 10)
     × (assembled (112 ∷ 97 ∷ 115 ∷ 115 ∷ 105 ∷ 118 ∷ 101 ∷ 32 ∷ 97 ∷ 61 ∷ 49 ∷ 43 ∷ 49 ∷ 43 ∷ 49 ∷ 43 ∷ 49 ∷ 43 ∷ 49 ∷ 43 ∷ 49 ∷ 43 ∷ 49 ∷ 43 ∷ 49 ∷ 43 ∷ 49 ∷ 43 ∷ 49 ∷ 43 ∷ 49 ∷ 43 ∷ 49 ∷ 43 ∷ 49 ∷ 43 ∷ 49 ∷ 43 ∷ 49 ∷ 43 ∷ 49 ∷ 43 ∷ 49 ∷ 64 ∷ []) 8192 ≡ fault tooDeep 41)
     × (assembled (112 ∷ 97 ∷ 115 ∷ 115 ∷ 105 ∷ 118 ∷ 101 ∷ 32 ∷ 97 ∷ 61 ∷ 105 ∷ 102 ∷ 40 ∷ 49 ∷ 44 ∷ 50 ∷ 44 ∷ 33 ∷ 33 ∷ 33 ∷ 33 ∷ 33 ∷ 33 ∷ 33 ∷ 33 ∷ 33 ∷ 33 ∷ 33 ∷ 33 ∷ 33 ∷ 33 ∷ 33 ∷ 49 ∷ 41 ∷ []) 8192 ≡ fault tooDeep 10)
-unfolding marks reserved same signOf isDigit isLetter inWord isBlank inComment decimalValue level run beyond firstOf tokensOf among nesting afterAll names bitsBelow behaviourNamed found eventNamed termOf clausesOf entriesOf sheetOf past valueOf chain tower cellOf constantOf bracketedOf choiceOf signedOf operandAt morePlayers fromOf seenOf manyOf defaultOf parameterOf eventOf reactionOf passiveOf stateOf rowOf behaviourOf behaviourBegins declarationsOf readText assembled encode encodeEvents encodeBehaviours encodeHandlers encodeExpr
+unfolding marks reserved same signOf isDigit isLetter inWord isBlank inComment decimalValue level runOfKind beyondRun firstInText scannedTokens among phraseNesting afterAll amongPlayers bitsBelow behaviourNamed meaningOfName eventNamed termOf clausesOf entriesOf sheetOf pastSign valueOf signChain phraseTower cellOf readConstant readBracketed readChoice signedOf operandWithin morePlayers fromOf seenOf manyOf defaultOf parameterOf eventDeclared reactionOf passiveDeclared stateOf rowDeclared behaviourDeclared behaviourBegins declarationsOf readText assembled encode encodeEvents encodeBehaviours encodeHandlers encodeExpr
 too-deep = (refl, refl, refl, refl)
 
 -- a name in a formula that is not declared; no row, past its end, cell 0 where it cannot be said; first pass first
@@ -292,13 +291,13 @@ pub unknown : (assembled (112 ∷ 97 ∷ 115 ∷ 115 ∷ 105 ∷ 118 ∷ 101 ∷
     × (assembled (101 ∷ 118 ∷ 101 ∷ 110 ∷ 116 ∷ 32 ∷ 101 ∷ 32 ∷ 114 ∷ 97 ∷ 110 ∷ 107 ∷ 32 ∷ 49 ∷ 32 ∷ 114 ∷ 111 ∷ 119 ∷ 32 ∷ 114 ∷ 91 ∷ 50 ∷ 93 ∷ 61 ∷ 48 ∷ 32 ∷ 111 ∷ 110 ∷ 32 ∷ 101 ∷ 58 ∷ 114 ∷ 91 ∷ 48 ∷ 93 ∷ []) 8192 ≡ fault noSuchCell 32)
     × (assembled (112 ∷ 97 ∷ 115 ∷ 115 ∷ 105 ∷ 118 ∷ 101 ∷ 32 ∷ 97 ∷ 61 ∷ 98 ∷ 32 ∷ 112 ∷ 97 ∷ 115 ∷ 115 ∷ 105 ∷ 118 ∷ 101 ∷ 32 ∷ 97 ∷ 61 ∷ 49 ∷ []) 8192 ≡ fault declaredTwice 20)
     × (assembled (112 ∷ 97 ∷ 114 ∷ 97 ∷ 109 ∷ 32 ∷ 112 ∷ 32 ∷ 112 ∷ 97 ∷ 115 ∷ 115 ∷ 105 ∷ 118 ∷ 101 ∷ 32 ∷ 97 ∷ 61 ∷ 112 ∷ 91 ∷ 48 ∷ 93 ∷ []) 8192 ≡ fault noSuchCell 19)
-unfolding marks reserved same signOf isDigit isLetter inWord isBlank inComment decimalValue level run beyond firstOf tokensOf among nesting afterAll names bitsBelow behaviourNamed found eventNamed termOf clausesOf entriesOf sheetOf past valueOf chain tower cellOf constantOf bracketedOf choiceOf signedOf operandAt morePlayers fromOf seenOf manyOf defaultOf parameterOf eventOf reactionOf passiveOf stateOf rowOf behaviourOf behaviourBegins declarationsOf readText assembled encode encodeEvents encodeBehaviours encodeHandlers encodeExpr
+unfolding marks reserved same signOf isDigit isLetter inWord isBlank inComment decimalValue level runOfKind beyondRun firstInText scannedTokens among phraseNesting afterAll amongPlayers bitsBelow behaviourNamed meaningOfName eventNamed termOf clausesOf entriesOf sheetOf pastSign valueOf signChain phraseTower cellOf readConstant readBracketed readChoice signedOf operandWithin morePlayers fromOf seenOf manyOf defaultOf parameterOf eventDeclared reactionOf passiveDeclared stateOf rowDeclared behaviourDeclared behaviourBegins declarationsOf readText assembled encode encodeEvents encodeBehaviours encodeHandlers encodeExpr
 unknown = (refl, refl, refl, refl, refl, refl)
 
 -- a text of 65,537 bytes is turned down before anything else; a buffer of 73 bytes is too short for sheet S, at the end
 -- of its text
 pub lengths : (assembled (64 ∷ replicate 65536 32) 0 ≡ fault longText 65537) × (assembled sheet-S 73 ≡ fault shortBuffer 100)
-unfolding marks reserved same signOf isDigit isLetter inWord isBlank inComment decimalValue level run beyond firstOf tokensOf among nesting afterAll names bitsBelow behaviourNamed found eventNamed termOf clausesOf entriesOf sheetOf past valueOf chain tower cellOf constantOf bracketedOf choiceOf signedOf operandAt morePlayers fromOf seenOf manyOf defaultOf parameterOf eventOf reactionOf passiveOf stateOf rowOf behaviourOf behaviourBegins declarationsOf readText assembled encode encodeEvents encodeBehaviours encodeHandlers encodeExpr
+unfolding marks reserved same signOf isDigit isLetter inWord isBlank inComment decimalValue level runOfKind beyondRun firstInText scannedTokens among phraseNesting afterAll amongPlayers bitsBelow behaviourNamed meaningOfName eventNamed termOf clausesOf entriesOf sheetOf pastSign valueOf signChain phraseTower cellOf readConstant readBracketed readChoice signedOf operandWithin morePlayers fromOf seenOf manyOf defaultOf parameterOf eventDeclared reactionOf passiveDeclared stateOf rowDeclared behaviourDeclared behaviourBegins declarationsOf readText assembled encode encodeEvents encodeBehaviours encodeHandlers encodeExpr
 lengths = (refl, refl)
 
 -- line and column of the fault, and the buffer as it was
@@ -308,5 +307,5 @@ lengths = (refl, refl)
 --    param a
 pub place-told : assembleOn (112 ∷ 97 ∷ 114 ∷ 97 ∷ 109 ∷ 32 ∷ 97 ∷ 10 ∷ 10 ∷ 32 ∷ 32 ∷ 112 ∷ 97 ∷ 114 ∷ 97 ∷ 109 ∷ 32 ∷ 98 ∷ 10 ∷ 32 ∷ 112 ∷ 97 ∷ 114 ∷ 97 ∷ 109 ∷ 32 ∷ 97 ∷ []) (9 ∷ [])
     ≡ (turnedDown declaredTwice 4 8, 9 ∷ [])
-unfolding lineFrom columnFrom assembleOn marks reserved same signOf isDigit isLetter inWord isBlank inComment decimalValue level run beyond firstOf tokensOf among nesting afterAll names bitsBelow behaviourNamed found eventNamed termOf clausesOf entriesOf sheetOf past valueOf chain tower cellOf constantOf bracketedOf choiceOf signedOf operandAt morePlayers fromOf seenOf manyOf defaultOf parameterOf eventOf reactionOf passiveOf stateOf rowOf behaviourOf behaviourBegins declarationsOf readText assembled encode encodeEvents encodeBehaviours encodeHandlers encodeExpr
+unfolding lineFrom columnFrom assembleOn marks reserved same signOf isDigit isLetter inWord isBlank inComment decimalValue level runOfKind beyondRun firstInText scannedTokens among phraseNesting afterAll amongPlayers bitsBelow behaviourNamed meaningOfName eventNamed termOf clausesOf entriesOf sheetOf pastSign valueOf signChain phraseTower cellOf readConstant readBracketed readChoice signedOf operandWithin morePlayers fromOf seenOf manyOf defaultOf parameterOf eventDeclared reactionOf passiveDeclared stateOf rowDeclared behaviourDeclared behaviourBegins declarationsOf readText assembled encode encodeEvents encodeBehaviours encodeHandlers encodeExpr
 place-told = refl

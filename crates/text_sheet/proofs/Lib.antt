@@ -9,3 +9,4 @@ pub mod Fits
 pub mod Renamed
 pub mod Examples
 pub mod Answers
+pub mod Unique

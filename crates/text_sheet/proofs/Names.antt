@@ -1,72 +1,72 @@
 -- What the names of a text within the limits stand for: parameters below 8, behaviours and whole rows among those
 -- declared, and each event's own number. By induction on the declarations.
-use Prim.Native.Nat.{ℕ, zero, suc, _+_, _≤_, _<_}
-use mathlib.Core.Bool.{Bool, true, false, false≢true}
-use mathlib.Core.Path.{_≡_, refl, sym, subst, _∙_}
+use Prim.Native.Nat.{ℕ, suc, _+_, _≤_, _<_}
+use mathlib.Core.Bool.{true, false≢true}
+use mathlib.Core.Path.{_≡_, sym, _∙_}
 use mathlib.Core.Logic.{_⊎_, inl, inr, ⊎-elim}
 use mathlib.Core.List.{List, [], _∷_}
 use native.Mathlib.Omega.{arith}
 use lib.ListN.{length}
 use Rattle.lib_base.proofs.Tools.{by-test, split}
 use Rattle.text_sheet.specs.Tokens.{same}
-use Rattle.text_sheet.specs.Text.{Body, passive, active, row, Parameter, parameter, Event, event, Behaviour, behaviour}
-use Rattle.text_sheet.specs.Limits.{among, InTurn, afterAll, ParameterFits, withParameter, EventFits, withEvent, cellsOf, BodyFits, taken, BehaviourFits, withBehaviour}
-use Rattle.text_sheet.specs.Meaning.{Found, nothing, aParameter, aBehaviour, aRow, foundAs, behaviourNamed, found, eventNamed}
+use Rattle.text_sheet.specs.Text.{Body, passive, active, row, Parameter, parameter, TextEvent, event, TextBehaviour, behaviour}
+use Rattle.text_sheet.specs.Limits.{among, FitInTurn, afterAll, ParameterFits, withParameter, EventFits, withEvent, bodyCells, BodyFits, taken, TextBehaviourFits, withBehaviour}
+use Rattle.text_sheet.specs.Meaning.{NameMeaning, nothing, aParameter, aBehaviour, aRow, foundAs, behaviourNamed, meaningOfName, eventNamed}
 use Rattle.text_sheet.proofs.Scans.{same-is}
 
 -- ---- counts
 
-pub event-count : (ns : List (List ℕ)) (es : List Event) → length ns ≤ 32 → InTurn EventFits withEvent ns es → length ns + length es ≤ 32
+pub event-count : (ns : List (List ℕ)) (es : List TextEvent) → length ns ≤ 32 → FitInTurn EventFits withEvent ns es → length ns + length es ≤ 32
 event-count ns [] h f = omega arith
 event-count ns (event s n m ∷ es) h f = omega (arith, event-count (s ∷ ns) es (omega (arith, f .0 .0)) (f .1))
 
 -- how many behaviours are declared, a row's cells among them
-unfoldable pub total : List Behaviour → ℕ
+unfoldable pub total : List TextBehaviour → ℕ
 total [] = 0
-total (behaviour s b m ∷ bs) = cellsOf b + total bs
+total (behaviour s b m ∷ bs) = bodyCells b + total bs
 
-pub behaviour-count : (es ns : List (List ℕ)) (i : ℕ) (bs : List Behaviour) → i ≤ 64 → InTurn (BehaviourFits es) withBehaviour (taken ns i) bs → i + total bs ≤ 64
+pub behaviour-count : (es ns : List (List ℕ)) (i : ℕ) (bs : List TextBehaviour) → i ≤ 64 → FitInTurn (TextBehaviourFits es) withBehaviour (taken ns i) bs → i + total bs ≤ 64
 unfolding total
 behaviour-count es ns i [] h f = omega arith
-behaviour-count es ns i (behaviour s b m ∷ bs) h f = omega (arith, behaviour-count es (s ∷ ns) (i + cellsOf b) bs (f .0 .0) (f .1))
+behaviour-count es ns i (behaviour s b m ∷ bs) h f = omega (arith, behaviour-count es (s ∷ ns) (i + bodyCells b) bs (f .0 .0) (f .1))
 
 -- ---- parameters and behaviours
 
 -- what is found lies among m behaviours
-abbrev pub FoundIn : ℕ → Found → Type 0
+abbrev pub FoundIn : ℕ → NameMeaning → Type 0
 FoundIn m nothing = Unit {0}
 FoundIn m (aParameter i) = i < 8
 FoundIn m (aBehaviour i) = i < m
 FoundIn m (aRow i n) = (0 < n) × (i + n ≤ m)
 
-body-in : (es : List (List ℕ)) (i m : ℕ) (b : Body) → BodyFits es b → i + cellsOf b ≤ m → FoundIn m (foundAs i b)
+body-in : (es : List (List ℕ)) (i m : ℕ) (b : Body) → BodyFits es b → i + bodyCells b ≤ m → FoundIn m (foundAs i b)
 body-in es i m (passive e) f h = omega arith
 body-in es i m (active c hs) f h = omega arith
 body-in es i m (row n c hs) f h = (omega (arith, f .0), h)
 
-behaviour-in : (es ns : List (List ℕ)) (i m : ℕ) (bs : List Behaviour) → InTurn (BehaviourFits es) withBehaviour (taken ns i) bs → i + total bs ≤ m → (s : List ℕ)
+behaviour-in : (es ns : List (List ℕ)) (i m : ℕ) (bs : List TextBehaviour) → FitInTurn (TextBehaviourFits es) withBehaviour (taken ns i) bs → i + total bs ≤ m → (s : List ℕ)
     → FoundIn m (behaviourNamed i bs s)
 unfolding behaviourNamed total
 behaviour-in es ns i m [] f h s = tt
 behaviour-in es ns i m (behaviour t b v ∷ bs) f h s =
     by-test (FoundIn m) (same s t) (λ e. body-in es i m b (f .0 .2) (omega arith))
-    (λ e. behaviour-in es (t ∷ ns) (i + cellsOf b) m bs (f .1) (omega arith) s)
+    (λ e. behaviour-in es (t ∷ ns) (i + bodyCells b) m bs (f .1) (omega arith) s)
 
-parameter-in : (m : ℕ) (bs : List Behaviour) (s : List ℕ) → FoundIn m (behaviourNamed 0 bs s) → (ns : List (List ℕ)) (ps : List Parameter)
-    → InTurn ParameterFits withParameter ns ps → FoundIn m (found (length ns) ps bs s)
-unfolding found
+parameter-in : (m : ℕ) (bs : List TextBehaviour) (s : List ℕ) → FoundIn m (behaviourNamed 0 bs s) → (ns : List (List ℕ)) (ps : List Parameter)
+    → FitInTurn ParameterFits withParameter ns ps → FoundIn m (meaningOfName (length ns) ps bs s)
+unfolding meaningOfName
 parameter-in m bs s h ns [] f = h
 parameter-in m bs s h ns (parameter t d ∷ ps) f =
     by-test (FoundIn m) (same s t) (λ e. f .0 .0) (λ e. parameter-in m bs s h (t ∷ ns) ps (f .1))
 
-pub found-in : (es : List (List ℕ)) (ps : List Parameter) (bs : List Behaviour) → InTurn ParameterFits withParameter [] ps
-    → InTurn (BehaviourFits es) withBehaviour (taken (afterAll withParameter [] ps) 0) bs → (s : List ℕ) → FoundIn (total bs) (found 0 ps bs s)
+pub found-in : (es : List (List ℕ)) (ps : List Parameter) (bs : List TextBehaviour) → FitInTurn ParameterFits withParameter [] ps
+    → FitInTurn (TextBehaviourFits es) withBehaviour (taken (afterAll withParameter [] ps) 0) bs → (s : List ℕ) → FoundIn (total bs) (meaningOfName 0 ps bs s)
 found-in es ps bs f g s =
     parameter-in (total bs) bs s (behaviour-in es (afterAll withParameter [] ps) 0 (total bs) bs g (omega arith) s) [] ps f
 
 -- ---- events
 
-event-either : (s : List ℕ) (ns : List (List ℕ)) (es : List Event) → among s (afterAll withEvent ns es) ≡ true → (among s ns ≡ true) ⊎ (eventNamed es s < length es)
+event-either : (s : List ℕ) (ns : List (List ℕ)) (es : List TextEvent) → among s (afterAll withEvent ns es) ≡ true → (among s ns ≡ true) ⊎ (eventNamed es s < length es)
 unfolding afterAll eventNamed among
 event-either s ns [] h = inl h
 event-either s ns (event t n m ∷ es) h =
@@ -76,12 +76,12 @@ event-either s ns (event t n m ∷ es) h =
     (event-either s (t ∷ ns) es h)
 
 -- a declared event has a number among them
-pub event-within : (s : List ℕ) (es : List Event) → among s (afterAll withEvent [] es) ≡ true → eventNamed es s < length es
+pub event-within : (s : List ℕ) (es : List TextEvent) → among s (afterAll withEvent [] es) ≡ true → eventNamed es s < length es
 unfolding among
 event-within s es h = ⊎-elim (λ x. absurd (false≢true x)) (λ x. x) (event-either s [] es h)
 
 -- and no other has it
-pub event-own : (es : List Event) (s t : List ℕ) → eventNamed es s < length es → eventNamed es s ≡ eventNamed es t → s ≡ t
+pub event-own : (es : List TextEvent) (s t : List ℕ) → eventNamed es s < length es → eventNamed es s ≡ eventNamed es t → s ≡ t
 unfolding eventNamed
 event-own [] s t h e = absurd (omega arith)
 event-own (event u n m ∷ es) s t h e =

@@ -1,57 +1,57 @@
 -- The scanner finds exactly the tokens that a text is made of. At the front by the kinds of bytes and the table of
 -- marks (`first-says`, `first-reads`), for the whole by induction on the bytes left; so each text has one list of
 -- tokens.
-use Prim.Native.Nat.{ℕ, zero, suc, _+_, _-_, _≤_, _<_}
+use Prim.Native.Nat.{ℕ, zero, suc, _≤_, _<_}
 use mathlib.Core.Bool.{Bool, true, false, _&&_, _||_, true≢false, false≢true}
 use mathlib.Core.Path.{_≡_, refl, sym, ap, subst, _∙_}
 use mathlib.Core.Logic.{_≢_}
 use mathlib.Core.List.{List, [], _∷_, _++_}
 use native.Mathlib.Omega.{arith}
 use lib.ListN.{length, getD, length-append}
-use lib.Dec.{ltb, leb, eqb}
-use borrow.Author.Tests.{leb-true, leb-false, le-leb, eqb-true, eqb-false, eq-eqb, ne-eqb}
-use Rattle.lib_base.specs.Basics.{pick, All}
+use lib.Dec.{leb, eqb}
+use borrow.Author.Tests.{leb-true, le-leb, eqb-true, eqb-false, eq-eqb, ne-eqb}
+use Rattle.lib_base.specs.Basics.{pick}
 use Rattle.lib_base.proofs.Tools.{by-test, by-elim, split, past}
 use Rattle.text_formula.specs.Tokens.{decimalValue, NotFirst}
-use Rattle.text_sheet.specs.Tokens.{Token, number, sign, Spelling, spelled, marks, same, signOf, isDigit, isLetter, inWord, isBlank, inComment, Are, Stops, placeIn, wordAt, finish, stray, Begins, a-number, a-word, a-long-mark, a-mark, Tokens, t-end, t-blank, t-comment, t-token, t-stray}
-use Rattle.text_sheet.specs.Scanner.{run, beyond, First, nothing, begins, shortMark, markAt, longWord, firstOf, onward, tokensIn, tokensOf, scan}
+use Rattle.text_sheet.specs.Tokens.{SheetToken, number, sign, Spelling, spelled, marks, same, signOf, isDigit, isLetter, inWord, isBlank, inComment, Are, KindStops, placeIn, wordAtPlace, straySign, TextBegins, a-number, a-word, a-long-mark, a-mark, TokensOfText, t-end, t-blank, t-comment, t-token, t-stray}
+use Rattle.text_sheet.specs.Scanner.{runOfKind, beyondRun, FirstInText, nothing, begins, shortMark, markAt, firstInText, scanOn, scannedFrom, scannedTokens, scanText}
 
 -- ---- runs of bytes of a kind
 
 module _ (kind : ℕ → Bool) where
-  run-joins : (bs : List ℕ) → bs ≡ run kind bs ++ beyond kind bs
-  unfolding run beyond
+  run-joins : (bs : List ℕ) → bs ≡ runOfKind kind bs ++ beyondRun kind bs
+  unfolding runOfKind beyondRun
   run-joins [] = refl
   run-joins (b ∷ bs) =
       split (kind b) (λ e. rw e (ap (λ (l : List ℕ). b ∷ l) (run-joins bs))) (λ e. rw e)
 
-  run-are : (bs : List ℕ) → Are kind (run kind bs)
-  unfolding run
+  run-are : (bs : List ℕ) → Are kind (runOfKind kind bs)
+  unfolding runOfKind
   run-are [] = tt
   run-are (b ∷ bs) = by-test (Are kind) (kind b) (λ e. (e, run-are bs)) (λ e. tt)
 
-  beyond-stops : (bs : List ℕ) → Stops kind (beyond kind bs)
-  unfolding beyond
+  beyond-stops : (bs : List ℕ) → KindStops kind (beyondRun kind bs)
+  unfolding beyondRun
   beyond-stops [] = tt
-  beyond-stops (b ∷ bs) = by-test (Stops kind) (kind b) (λ e. beyond-stops bs) (λ e h. false≢true (sym e ∙ h))
+  beyond-stops (b ∷ bs) = by-test (KindStops kind) (kind b) (λ e. beyond-stops bs) (λ e h. false≢true (sym e ∙ h))
 
   is-false : (b : ℕ) → (kind b ≡ true → ⊥) → kind b ≡ false
   is-false b h = split (kind b) (λ e. absurd (h e)) (λ e. e)
 
-  run-of : (w rest : List ℕ) → Are kind w → Stops kind rest → run kind (w ++ rest) ≡ w
-  unfolding run
+  run-of : (w rest : List ℕ) → Are kind w → KindStops kind rest → runOfKind kind (w ++ rest) ≡ w
+  unfolding runOfKind
   run-of [] [] a s = refl
   run-of [] (b ∷ rest) a s = rw (is-false b s)
   run-of (b ∷ w) rest a s = rw (a .0) (ap (λ (l : List ℕ). b ∷ l) (run-of w rest (a .1) s))
 
-  beyond-of : (w rest : List ℕ) → Are kind w → Stops kind rest → beyond kind (w ++ rest) ≡ rest
-  unfolding beyond
+  beyond-of : (w rest : List ℕ) → Are kind w → KindStops kind rest → beyondRun kind (w ++ rest) ≡ rest
+  unfolding beyondRun
   beyond-of [] [] a s = refl
   beyond-of [] (b ∷ rest) a s = rw (is-false b s)
   beyond-of (b ∷ w) rest a s = rw (a .0) (beyond-of w rest (a .1) s)
 
-  beyond-less : (bs : List ℕ) → length (beyond kind bs) ≤ length bs
-  unfolding beyond
+  beyond-less : (bs : List ℕ) → length (beyondRun kind bs) ≤ length bs
+  unfolding beyondRun
   beyond-less [] = omega arith
   beyond-less (b ∷ bs) =
       by-test (λ (l : List ℕ). length l ≤ suc (length bs)) (kind b) (λ e. omega (arith, beyond-less bs)) (λ e. omega arith)
@@ -110,7 +110,7 @@ module _ (b : ℕ) (w : List ℕ) (h : signOf (b ∷ w) marks ≢ 0) where
 
 -- ---- the kinds of bytes
 
-and-both : (a b : Bool) → a && b ≡ true → (a ≡ true) × (b ≡ true)
+pub and-both : (a b : Bool) → a && b ≡ true → (a ≡ true) × (b ≡ true)
 and-both true b h = (refl, h)
 and-both false b h = absurd (false≢true h)
 
@@ -141,13 +141,13 @@ letter-no-digit b h = is-false isDigit b (λ d. omega (arith, digit-is b d, lett
 
 -- ---- what stands at the front
 
-abbrev Found : ℕ → List ℕ → First → Type 0
-Found long bs nothing = (t : Token) (rest : List ℕ) → Begins long bs t rest → ⊥
-Found long bs (begins t rest) = Begins long bs t rest
+abbrev Found : ℕ → List ℕ → FirstInText → Type 0
+Found long bs nothing = (t : SheetToken) (rest : List ℕ) → TextBegins long bs t rest → ⊥
+Found long bs (begins t rest) = TextBegins long bs t rest
 
-abbrev front : ℕ → List ℕ → First
+abbrev front : ℕ → List ℕ → FirstInText
 front long [] = nothing
-front long (b ∷ bs) = firstOf (placeIn long (b ∷ bs)) b bs
+front long (b ∷ bs) = firstInText (placeIn long (b ∷ bs)) b bs
 
 no-mark : (c n : ℕ) → eqb (signOf (c ∷ n ∷ []) marks) 0 ≡ true → signOf (c ∷ n ∷ []) marks ≢ 0 → ⊥
 no-mark c n e h = h (eqb-true (signOf (c ∷ n ∷ []) marks) 0 e)
@@ -156,8 +156,8 @@ is-none : (n : ℕ) → (n ≢ 0 → ⊥) → eqb n 0 ≡ true
 is-none zero h = refl
 is-none (suc n) h = absurd (h (λ e. omega arith))
 
-mark-front : (p b : ℕ) (bs : List ℕ) → isDigit b ≡ false → isLetter b ≡ false → firstOf p b bs ≡ markAt p b bs
-unfolding firstOf
+mark-front : (p b : ℕ) (bs : List ℕ) → isDigit b ≡ false → isLetter b ≡ false → firstInText p b bs ≡ markAt p b bs
+unfolding firstInText
 mark-front p b bs d l = rw (d, l)
 
 short-reads : (p b : ℕ) (bs : List ℕ) → signOf (b ∷ []) marks ≢ 0 → NotFirst (λ c. signOf (b ∷ c ∷ []) marks ≢ 0) bs
@@ -165,8 +165,8 @@ short-reads : (p b : ℕ) (bs : List ℕ) → signOf (b ∷ []) marks ≢ 0 → 
 short-reads p b [] h s = rw (ne-eqb (signOf (b ∷ []) marks) 0 h)
 short-reads p b (c ∷ bs) h s = rw (is-none (signOf (b ∷ c ∷ []) marks) s, ne-eqb (signOf (b ∷ []) marks) 0 h)
 
-first-reads : {long : ℕ} {bs : List ℕ} {t : Token} {rest : List ℕ} → Begins long bs t rest → front long bs ≡ begins t rest
-unfolding firstOf
+first-reads : {long : ℕ} {bs : List ℕ} {t : SheetToken} {rest : List ℕ} → TextBegins long bs t rest → front long bs ≡ begins t rest
+unfolding firstInText
 first-reads (a-number b ds rest h a s) = rw (h, run-of isDigit ds rest a s, beyond-of isDigit ds rest a s)
 first-reads (a-word b w rest h a s l) =
     rw (letter-no-digit b h, h, run-of inWord w rest a s, beyond-of inWord w rest a s, le-leb (length (b ∷ w)) 32 l)
@@ -181,47 +181,47 @@ none-begins long bs e t rest h = let q : _≡_ {A = ℕ} 0 1 = cc (first-reads h
 
 -- what the front gives is there
 module _ (long b : ℕ) (bs : List ℕ) where
-  P : First → Type 0
+  P : FirstInText → Type 0
   P f = front long (b ∷ bs) ≡ f → Found long (b ∷ bs) f
 
-  number-found : isDigit b ≡ true → Begins long (b ∷ bs) (number (placeIn long (b ∷ bs)) (decimalValue 0 (b ∷ run isDigit bs))) (beyond isDigit bs)
+  number-found : isDigit b ≡ true → TextBegins long (b ∷ bs) (number (placeIn long (b ∷ bs)) (decimalValue 0 (b ∷ runOfKind isDigit bs))) (beyondRun isDigit bs)
   number-found e =
       let q = run-joins isDigit bs in
-      subst (λ (l : List ℕ). Begins long (b ∷ l) (number (placeIn long (b ∷ l)) (decimalValue 0 (b ∷ run isDigit bs))) (beyond isDigit bs)) (sym q)
-      (a-number b (run isDigit bs) (beyond isDigit bs) e (run-are isDigit bs) (beyond-stops isDigit bs))
+      subst (λ (l : List ℕ). TextBegins long (b ∷ l) (number (placeIn long (b ∷ l)) (decimalValue 0 (b ∷ runOfKind isDigit bs))) (beyondRun isDigit bs)) (sym q)
+      (a-number b (runOfKind isDigit bs) (beyondRun isDigit bs) e (run-are isDigit bs) (beyond-stops isDigit bs))
 
-  word-found : isLetter b ≡ true → length (b ∷ run inWord bs) ≤ 32
-      → Begins long (b ∷ bs) (wordAt (placeIn long (b ∷ bs)) (b ∷ run inWord bs)) (beyond inWord bs)
+  word-found : isLetter b ≡ true → length (b ∷ runOfKind inWord bs) ≤ 32
+      → TextBegins long (b ∷ bs) (wordAtPlace (placeIn long (b ∷ bs)) (b ∷ runOfKind inWord bs)) (beyondRun inWord bs)
   word-found e h =
       let q = run-joins inWord bs in
-      subst (λ (l : List ℕ). Begins long (b ∷ l) (wordAt (placeIn long (b ∷ l)) (b ∷ run inWord bs)) (beyond inWord bs)) (sym q)
-      (a-word b (run inWord bs) (beyond inWord bs) e (run-are inWord bs) (beyond-stops inWord bs) h)
+      subst (λ (l : List ℕ). TextBegins long (b ∷ l) (wordAtPlace (placeIn long (b ∷ l)) (b ∷ runOfKind inWord bs)) (beyondRun inWord bs)) (sym q)
+      (a-word b (runOfKind inWord bs) (beyondRun inWord bs) e (run-are inWord bs) (beyond-stops inWord bs) h)
 
-short-says : (long b : ℕ) (bs : List ℕ) → NotFirst (λ c. signOf (b ∷ c ∷ []) marks ≢ 0) bs → (f : First)
+short-says : (long b : ℕ) (bs : List ℕ) → NotFirst (λ c. signOf (b ∷ c ∷ []) marks ≢ 0) bs → (f : FirstInText)
     → shortMark (placeIn long (b ∷ bs)) b bs ≡ f → front long (b ∷ bs) ≡ f → Found long (b ∷ bs) f
 short-says long b bs s f =
     by-test (λ x. x ≡ f → front long (b ∷ bs) ≡ f → Found long (b ∷ bs) f) (eqb (signOf (b ∷ []) marks) 0)
     (λ e q r. subst (Found long (b ∷ bs)) q (none-begins long (b ∷ bs) (r ∙ sym q)))
     (λ e q r. subst (Found long (b ∷ bs)) q (a-mark b bs (eqb-false (signOf (b ∷ []) marks) 0 e) s))
 
-mark-says : (long b : ℕ) (bs : List ℕ) (f : First) → markAt (placeIn long (b ∷ bs)) b bs ≡ f → front long (b ∷ bs) ≡ f → Found long (b ∷ bs) f
+mark-says : (long b : ℕ) (bs : List ℕ) (f : FirstInText) → markAt (placeIn long (b ∷ bs)) b bs ≡ f → front long (b ∷ bs) ≡ f → Found long (b ∷ bs) f
 mark-says long b [] f = short-says long b [] tt f
 mark-says long b (c ∷ bs) f =
     by-test (λ x. x ≡ f → front long (b ∷ c ∷ bs) ≡ f → Found long (b ∷ c ∷ bs) f) (eqb (signOf (b ∷ c ∷ []) marks) 0)
     (λ e. short-says long b (c ∷ bs) (no-mark b c e) f)
     (λ e q r. subst (Found long (b ∷ c ∷ bs)) q (a-long-mark b c bs (eqb-false (signOf (b ∷ c ∷ []) marks) 0 e)))
 
-first-says : (long b : ℕ) (bs : List ℕ) (f : First) → front long (b ∷ bs) ≡ f → front long (b ∷ bs) ≡ f → Found long (b ∷ bs) f
-unfolding firstOf
+first-says : (long b : ℕ) (bs : List ℕ) (f : FirstInText) → front long (b ∷ bs) ≡ f → front long (b ∷ bs) ≡ f → Found long (b ∷ bs) f
+unfolding firstInText
 first-says long b bs f =
     by-test Q (isDigit b) (λ e q r. subst (Found long (b ∷ bs)) q (number-found long b bs e))
     (λ e. by-test Q (isLetter b)
-    (λ d. by-test Q (leb (length (b ∷ run inWord bs)) 32)
-    (λ c q r. subst (Found long (b ∷ bs)) q (word-found long b bs d (leb-true (length (b ∷ run inWord bs)) 32 c)))
+    (λ d. by-test Q (leb (length (b ∷ runOfKind inWord bs)) 32)
+    (λ c q r. subst (Found long (b ∷ bs)) q (word-found long b bs d (leb-true (length (b ∷ runOfKind inWord bs)) 32 c)))
     (λ c q r. subst (Found long (b ∷ bs)) q (none-begins long (b ∷ bs) (r ∙ sym q))))
     (λ d. mark-says long b bs f))
   where
-    Q : First → Type 0
+    Q : FirstInText → Type 0
     Q x = x ≡ f → front long (b ∷ bs) ≡ f → Found long (b ∷ bs) f
 
 -- ---- the whole text
@@ -232,7 +232,7 @@ record Apart (bs rest : List ℕ) : Type 0 where
   pub no-blank : isBlank (getD bs 0 0) ≡ false
   pub no-hash : eqb (getD bs 0 0) 35 ≡ false
 
-begins-apart : {long : ℕ} {bs : List ℕ} {t : Token} {rest : List ℕ} → Begins long bs t rest → Apart bs rest
+begins-apart : {long : ℕ} {bs : List ℕ} {t : SheetToken} {rest : List ℕ} → TextBegins long bs t rest → Apart bs rest
 begins-apart (a-number b ds rest h a s) =
     let d = digit-is b h in
     record { less = omega (arith, length-append ds rest); no-blank = high-no-blank b (d .0); no-hash = ne-eqb b 35 (omega arith) }
@@ -244,76 +244,76 @@ begins-apart (a-long-mark b c rest h) =
 begins-apart (a-mark b rest h s) =
     record { less = omega arith; no-blank = mark-no-blank b [] h; no-hash = mark-no-hash b [] h }
 
-module _ (long : ℕ) (go : List ℕ → List Token) (b : ℕ) (bs : List ℕ) where
-  in-blank : isBlank b ≡ true → tokensIn long go (b ∷ bs) ≡ go bs
-  in-blank e = by-elim (λ (l : List Token). l ≡ go bs) (isBlank b) (λ t. refl) (λ f. absurd (true≢false (sym e ∙ f)))
+module _ (long : ℕ) (go : List ℕ → List SheetToken) (b : ℕ) (bs : List ℕ) where
+  in-blank : isBlank b ≡ true → scannedFrom long go (b ∷ bs) ≡ go bs
+  in-blank e = by-elim (λ (l : List SheetToken). l ≡ go bs) (isBlank b) (λ t. refl) (λ f. absurd (true≢false (sym e ∙ f)))
 
-  in-text : isBlank b ≡ false → eqb b 35 ≡ false → tokensIn long go (b ∷ bs) ≡ onward (placeIn long (b ∷ bs)) go (front long (b ∷ bs))
+  in-text : isBlank b ≡ false → eqb b 35 ≡ false → scannedFrom long go (b ∷ bs) ≡ scanOn (placeIn long (b ∷ bs)) go (front long (b ∷ bs))
   in-text e d =
       by-elim G (isBlank b) (λ t. absurd (true≢false (sym t ∙ e)))
       (λ f. by-elim G (eqb b 35) (λ t. absurd (true≢false (sym t ∙ d))) (λ f. refl))
     where
-      G : List Token → Type 0
-      G l = l ≡ onward (placeIn long (b ∷ bs)) go (front long (b ∷ bs))
+      G : List SheetToken → Type 0
+      G l = l ≡ scanOn (placeIn long (b ∷ bs)) go (front long (b ∷ bs))
 
-in-comment : (long : ℕ) (go : List ℕ → List Token) (bs : List ℕ) → tokensIn long go (35 ∷ bs) ≡ go (beyond inComment bs)
+in-comment : (long : ℕ) (go : List ℕ → List SheetToken) (bs : List ℕ) → scannedFrom long go (35 ∷ bs) ≡ go (beyondRun inComment bs)
 unfolding isBlank
 in-comment long go bs = refl
 
-on-token : (long k : ℕ) (bs : List ℕ) (t : Token) (rest : List ℕ) (ts : List Token) → front long bs ≡ begins t rest → Apart bs rest
-    → tokensOf long k rest ≡ ts → tokensOf long (suc k) bs ≡ t ∷ ts
-unfolding tokensOf
+on-token : (long k : ℕ) (bs : List ℕ) (t : SheetToken) (rest : List ℕ) (ts : List SheetToken) → front long bs ≡ begins t rest → Apart bs rest
+    → scannedTokens long k rest ≡ ts → scannedTokens long (suc k) bs ≡ t ∷ ts
+unfolding scannedTokens
 on-token long k [] t rest ts e h g = absurd (omega (arith, h .less))
-on-token long k (b ∷ bs) t rest ts e h g = in-text long (tokensOf long k) b bs (h .no-blank) (h .no-hash) ∙ rw (e, g)
+on-token long k (b ∷ bs) t rest ts e h g = in-text long (scannedTokens long k) b bs (h .no-blank) (h .no-hash) ∙ rw (e, g)
 
-on-stray : (long k b : ℕ) (bs : List ℕ) → isBlank b ≡ false → eqb b 35 ≡ false → (f : First) → front long (b ∷ bs) ≡ f → Found long (b ∷ bs) nothing
-    → tokensOf long (suc k) (b ∷ bs) ≡ sign (placeIn long (b ∷ bs)) stray ∷ []
-unfolding tokensOf
-on-stray long k b bs e d nothing q n = in-text long (tokensOf long k) b bs e d ∙ rw q
+on-stray : (long k b : ℕ) (bs : List ℕ) → isBlank b ≡ false → eqb b 35 ≡ false → (f : FirstInText) → front long (b ∷ bs) ≡ f → Found long (b ∷ bs) nothing
+    → scannedTokens long (suc k) (b ∷ bs) ≡ sign (placeIn long (b ∷ bs)) straySign ∷ []
+unfolding scannedTokens
+on-stray long k b bs e d nothing q n = in-text long (scannedTokens long k) b bs e d ∙ rw q
 on-stray long k b bs e d (begins t rest) q n = absurd (n t rest (first-says long b bs (begins t rest) q q))
 
-pub scans-all : {long : ℕ} {bs : List ℕ} {ts : List Token} → Tokens long bs ts → (k : ℕ) → length bs ≤ k → tokensOf long k bs ≡ ts
-unfolding tokensOf
+pub scans-all : {long : ℕ} {bs : List ℕ} {ts : List SheetToken} → TokensOfText long bs ts → (k : ℕ) → length bs ≤ k → scannedTokens long k bs ≡ ts
+unfolding scannedTokens
 scans-all t-end zero h = refl
 scans-all t-end (suc k) h = refl
 scans-all (t-blank b e d) zero h = absurd (omega arith)
-scans-all {long} (t-blank b {bs} e d) (suc k) h = in-blank long (tokensOf long k) b bs e ∙ scans-all d k (omega arith)
+scans-all {long} (t-blank b {bs} e d) (suc k) h = in-blank long (scannedTokens long k) b bs e ∙ scans-all d k (omega arith)
 scans-all (t-comment c rest a s d) zero h = absurd (omega arith)
 scans-all {long} (t-comment c rest a s d) (suc k) h =
-    in-comment long (tokensOf long k) (c ++ rest) ∙ rw (beyond-of inComment c rest a s) (scans-all d k (omega (arith, length-append c rest)))
+    in-comment long (scannedTokens long k) (c ++ rest) ∙ rw (beyond-of inComment c rest a s) (scans-all d k (omega (arith, length-append c rest)))
 scans-all (t-token b d) zero h = absurd (omega (arith, begins-apart b .less))
 scans-all {long} (t-token {bs} {rest} {t} {ts} b d) (suc k) h =
     on-token long k bs t rest ts (first-reads b) (begins-apart b) (scans-all d k (omega (arith, begins-apart b .less)))
 scans-all (t-stray b bs e d n) zero h = absurd (omega arith)
 scans-all {long} (t-stray b bs e d n) (suc k) h = on-stray long k b bs e (ne-eqb b 35 d) (front long (b ∷ bs)) refl n
 
-module _ (long : ℕ) (go : List ℕ → List Token) where
-  on-made : (b : ℕ) (bs : List ℕ) → isBlank b ≡ false → eqb b 35 ≡ false → ((rest : List ℕ) → length rest ≤ length bs → Tokens long rest (go rest))
-      → (f : First) → Found long (b ∷ bs) f → Tokens long (b ∷ bs) (onward (placeIn long (b ∷ bs)) go f)
+module _ (long : ℕ) (go : List ℕ → List SheetToken) where
+  on-made : (b : ℕ) (bs : List ℕ) → isBlank b ≡ false → eqb b 35 ≡ false → ((rest : List ℕ) → length rest ≤ length bs → TokensOfText long rest (go rest))
+      → (f : FirstInText) → Found long (b ∷ bs) f → TokensOfText long (b ∷ bs) (scanOn (placeIn long (b ∷ bs)) go f)
   on-made b bs e d ih nothing n = t-stray b bs e (eqb-false b 35 d) n
   on-made b bs e d ih (begins t rest) h = t-token h (ih rest (omega (arith, begins-apart h .less)))
 
-  in-made : (bs : List ℕ) → ((rest : List ℕ) → length rest < length bs → Tokens long rest (go rest)) → Tokens long bs (tokensIn long go bs)
+  in-made : (bs : List ℕ) → ((rest : List ℕ) → length rest < length bs → TokensOfText long rest (go rest)) → TokensOfText long bs (scannedFrom long go bs)
   in-made [] ih = t-end
   in-made (b ∷ bs) ih =
-      by-elim (Tokens long (b ∷ bs)) (isBlank b) (λ e. t-blank b e (ih bs (omega arith)))
-      (λ e. by-elim (Tokens long (b ∷ bs)) (eqb b 35)
+      by-elim (TokensOfText long (b ∷ bs)) (isBlank b) (λ e. t-blank b e (ih bs (omega arith)))
+      (λ e. by-elim (TokensOfText long (b ∷ bs)) (eqb b 35)
       (λ d. let q : b ≡ 35 = eqb-true b 35 d in rw q (comment-made bs (λ rest h. ih rest (omega arith))))
       (λ d. on-made b bs e d (λ rest h. ih rest (omega arith)) (front long (b ∷ bs)) (first-says long b bs (front long (b ∷ bs)) refl refl)))
     where
-      comment-made : (cs : List ℕ) → ((rest : List ℕ) → length rest ≤ length cs → Tokens long rest (go rest)) → Tokens long (35 ∷ cs) (go (beyond inComment cs))
+      comment-made : (cs : List ℕ) → ((rest : List ℕ) → length rest ≤ length cs → TokensOfText long rest (go rest)) → TokensOfText long (35 ∷ cs) (go (beyondRun inComment cs))
       comment-made cs jh =
-          subst (λ (l : List ℕ). Tokens long (35 ∷ l) (go (beyond inComment cs))) (sym (run-joins inComment cs))
-          (t-comment (run inComment cs) (beyond inComment cs) (run-are inComment cs) (beyond-stops inComment cs) (jh (beyond inComment cs) (beyond-less inComment cs)))
+          subst (λ (l : List ℕ). TokensOfText long (35 ∷ l) (go (beyondRun inComment cs))) (sym (run-joins inComment cs))
+          (t-comment (runOfKind inComment cs) (beyondRun inComment cs) (run-are inComment cs) (beyond-stops inComment cs) (jh (beyondRun inComment cs) (beyond-less inComment cs)))
 
-scans-only : (long k : ℕ) (bs : List ℕ) → length bs ≤ k → Tokens long bs (tokensOf long k bs)
-unfolding tokensOf
+scans-only : (long k : ℕ) (bs : List ℕ) → length bs ≤ k → TokensOfText long bs (scannedTokens long k bs)
+unfolding scannedTokens
 scans-only long zero bs h = in-made long (λ rest. []) bs (λ rest l. absurd (omega arith))
-scans-only long (suc k) bs h = in-made long (tokensOf long k) bs (λ rest l. scans-only long k rest (omega arith))
+scans-only long (suc k) bs h = in-made long (scannedTokens long k) bs (λ rest l. scans-only long k rest (omega arith))
 
 -- a text's tokens, and no others
-pub scanned : (bytes : List ℕ) → Tokens (length bytes) bytes (scan bytes)
+pub scanned : (bytes : List ℕ) → TokensOfText (length bytes) bytes (scanText bytes)
 scanned bytes = scans-only (length bytes) (length bytes) bytes (omega arith)
 
-pub scan-is : (bytes : List ℕ) (ts : List Token) → Tokens (length bytes) bytes ts → scan bytes ≡ ts
+pub scan-is : (bytes : List ℕ) (ts : List SheetToken) → TokensOfText (length bytes) bytes ts → scanText bytes ≡ ts
 scan-is bytes ts d = scans-all d (length bytes) (omega arith)

@@ -5,10 +5,10 @@ pub data Kind : Type 0 where
   outside tooLarge offScale tooMany declaredTwice secondHandler tooDeep unknownName noSuchCell longSheet shortBuffer longText : Kind
 
 -- a result, or the first fault
-pub data Result (A : Type 0) : Type 0 where
-  fault : Kind → ℕ → Result A
-  fine : A → Result A
+pub data OrFault (A : Type 0) : Type 0 where
+  fault : Kind → ℕ → OrFault A
+  fine : A → OrFault A
 
-abbrev pub andThen : {A B : Type 0} → Result A → (A → Result B) → Result B
+abbrev pub andThen : {A B : Type 0} → OrFault A → (A → OrFault B) → OrFault B
 andThen (fault k p) f = fault k p
 andThen (fine x) f = f x

@@ -9,7 +9,7 @@ use lib.ListN.{length}
 use Rattle.lib_base.specs.Basics.{pick, All}
 use Rattle.text_formula.specs.Answer.{deeper}
 use Rattle.text_sheet.specs.Tokens.{same}
-use Rattle.text_sheet.specs.Text.{Constant, plus, minus, Phrase, constant, named, cell, negation, operation, choice, Reaction, on, Body, passive, active, row, Parameter, parameter, Event, event, Behaviour, behaviour, Text, text}
+use Rattle.text_sheet.specs.Text.{TextConstant, plus, minus, Phrase, constant, named, cell, negation, operation, choice, Reaction, on, Body, passive, active, row, Parameter, parameter, TextEvent, event, TextBehaviour, behaviour, Text, text}
 
 -- s is among these names
 unfoldable pub among : List ℕ → List (List ℕ) → Bool
@@ -20,18 +20,18 @@ among s (t ∷ ts) = pick (same s t) true (among s ts)
 abbrev pub largest : ℕ
 largest = 2147483647
 
-abbrev pub ConstantFits : Constant → Type 0
+abbrev pub ConstantFits : TextConstant → Type 0
 ConstantFits (plus n) = n ≤ largest
 ConstantFits (minus n) = n ≤ suc largest
 
 -- 01: "A constant or name has nesting 1, an application one more than its deepest argument"
-unfoldable pub nesting : Phrase → ℕ
-nesting (constant c) = 1
-nesting (named p s) = 1
-nesting (cell p s q n) = 1
-nesting (negation a) = suc (nesting a)
-nesting (operation f a b) = suc (deeper (nesting a) (nesting b))
-nesting (choice a b c) = suc (deeper (deeper (nesting a) (nesting b)) (nesting c))
+unfoldable pub phraseNesting : Phrase → ℕ
+phraseNesting (constant c) = 1
+phraseNesting (named p s) = 1
+phraseNesting (cell p s q n) = 1
+phraseNesting (negation a) = suc (phraseNesting a)
+phraseNesting (operation f a b) = suc (deeper (phraseNesting a) (phraseNesting b))
+phraseNesting (choice a b c) = suc (deeper (deeper (phraseNesting a) (phraseNesting b)) (phraseNesting c))
 
 unfoldable pub NumbersFit : Phrase → Type 0
 NumbersFit (constant c) = ConstantFits c
@@ -44,21 +44,21 @@ NumbersFit (choice a b c) = NumbersFit a × NumbersFit b × NumbersFit c
 -- "an expression at nesting 17"
 pub record PhraseFits (e : Phrase) : Type 0 where
   pub numbers : NumbersFit e
-  pub nested : nesting e ≤ 16
+  pub nested : phraseNesting e ≤ 16
 
 -- "a player over 7"
 abbrev pub PlayersFit : Option (List ℕ) → Type 0
 PlayersFit none = Unit {0}
 PlayersFit (some ns) = All (λ n. n ≤ 7) ns
 
-abbrev pub DefaultFits : Option Constant → Type 0
+abbrev pub DefaultFits : Option TextConstant → Type 0
 DefaultFits none = Unit {0}
 DefaultFits (some c) = ConstantFits c
 
 -- members of a list, each judged in the state that those before it leave, and the state after all
-abbrev pub InTurn : {A S : Type 0} → (S → A → Type 0) → (S → A → S) → S → List A → Type 0
-InTurn Fits next s [] = Unit {0}
-InTurn Fits next s (x ∷ xs) = Fits s x × InTurn Fits next (next s x) xs
+abbrev pub FitInTurn : {A S : Type 0} → (S → A → Type 0) → (S → A → S) → S → List A → Type 0
+FitInTurn Fits next s [] = Unit {0}
+FitInTurn Fits next s (x ∷ xs) = Fits s x × FitInTurn Fits next (next s x) xs
 
 unfoldable pub afterAll : {A S : Type 0} → (S → A → S) → S → List A → S
 afterAll next s [] = s
@@ -72,10 +72,10 @@ abbrev pub withParameter : List (List ℕ) → Parameter → List (List ℕ)
 withParameter ns (parameter s d) = s ∷ ns
 
 -- "33rd event", "a rank over 15"; "events have their own" names
-abbrev pub EventFits : List (List ℕ) → Event → Type 0
+abbrev pub EventFits : List (List ℕ) → TextEvent → Type 0
 EventFits ns (event s n m) = (length ns < 32) × (among s ns ≡ false) × (n ≤ 15) × PlayersFit m
 
-abbrev pub withEvent : List (List ℕ) → Event → List (List ℕ)
+abbrev pub withEvent : List (List ℕ) → TextEvent → List (List ℕ)
 withEvent ns (event s n m) = s ∷ ns
 
 -- "a second handler for an event in one behaviour", "an event that is not declared": es are declared, ns have handlers
@@ -86,13 +86,13 @@ abbrev pub withReaction : List (List ℕ) → Reaction → List (List ℕ)
 withReaction ns (on s φ e) = s ∷ ns
 
 abbrev pub ReactionsFit : List (List ℕ) → List Reaction → Type 0
-ReactionsFit es = InTurn (ReactionFits es) withReaction []
+ReactionsFit es = FitInTurn (ReactionFits es) withReaction []
 
 -- a row takes as many numbers as it has cells; "a cell count not 2 to 16"
-abbrev pub cellsOf : Body → ℕ
-cellsOf (passive e) = 1
-cellsOf (active c hs) = 1
-cellsOf (row n c hs) = n
+abbrev pub bodyCells : Body → ℕ
+bodyCells (passive e) = 1
+bodyCells (active c hs) = 1
+bodyCells (row n c hs) = n
 
 abbrev pub BodyFits : List (List ℕ) → Body → Type 0
 BodyFits es (passive e) = PhraseFits e
@@ -101,17 +101,17 @@ BodyFits es (row n c hs) = (2 ≤ n) × (n ≤ 16) × ConstantFits c × Reaction
 
 -- "65th behaviour"; "parameters and behaviours share one set of names": the names taken, and how many behaviours stand
 -- before
-pub data Taken : Type 0 where
-  taken : List (List ℕ) → ℕ → Taken
+pub data NamesTaken : Type 0 where
+  taken : List (List ℕ) → ℕ → NamesTaken
 
-abbrev pub BehaviourFits : List (List ℕ) → Taken → Behaviour → Type 0
-BehaviourFits es (taken ns i) (behaviour s b m) = (i + cellsOf b ≤ 64) × (among s ns ≡ false) × BodyFits es b × PlayersFit m
+abbrev pub TextBehaviourFits : List (List ℕ) → NamesTaken → TextBehaviour → Type 0
+TextBehaviourFits es (taken ns i) (behaviour s b m) = (i + bodyCells b ≤ 64) × (among s ns ≡ false) × BodyFits es b × PlayersFit m
 
-abbrev pub withBehaviour : Taken → Behaviour → Taken
-withBehaviour (taken ns i) (behaviour s b m) = taken (s ∷ ns) (i + cellsOf b)
+abbrev pub withBehaviour : NamesTaken → TextBehaviour → NamesTaken
+withBehaviour (taken ns i) (behaviour s b m) = taken (s ∷ ns) (i + bodyCells b)
 
 abbrev pub TextFits : Text → Type 0
 TextFits (text ps es bs) =
-    InTurn ParameterFits withParameter [] ps
-    × InTurn EventFits withEvent [] es
-    × InTurn (BehaviourFits (afterAll withEvent [] es)) withBehaviour (taken (afterAll withParameter [] ps) 0) bs
+    FitInTurn ParameterFits withParameter [] ps
+    × FitInTurn EventFits withEvent [] es
+    × FitInTurn (TextBehaviourFits (afterAll withEvent [] es)) withBehaviour (taken (afterAll withParameter [] ps) 0) bs

@@ -3,12 +3,12 @@
 use Prim.Native.Nat.{ℕ}
 use mathlib.Core.Path.{_≡_}
 use mathlib.Core.List.{List, [], _∷_, map}
-use Rattle.text_sheet.specs.Text.{Phrase, constant, named, cell, negation, operation, choice, Reaction, on, Body, passive, active, row, Parameter, parameter, Event, event, Behaviour, behaviour, Text, text}
-use Rattle.text_sheet.specs.Faults.{Result, fault, fine}
+use Rattle.text_sheet.specs.Text.{Phrase, constant, named, cell, negation, operation, choice, Reaction, on, Body, passive, active, row, Parameter, parameter, TextEvent, event, TextBehaviour, behaviour, Text, text}
+use Rattle.text_sheet.specs.Faults.{OrFault, fault, fine}
 
 -- different names stay different
-abbrev pub Consistent : (List ℕ → List ℕ) → Type 0
-Consistent f = (s t : List ℕ) → f s ≡ f t → s ≡ t
+abbrev pub KeepsApart : (List ℕ → List ℕ) → Type 0
+KeepsApart f = (s t : List ℕ) → f s ≡ f t → s ≡ t
 
 module _ (f h : List ℕ → List ℕ) (g : ℕ → ℕ) where
   unfoldable pub phraseAs : Phrase → Phrase
@@ -31,16 +31,16 @@ module _ (f h : List ℕ → List ℕ) (g : ℕ → ℕ) where
   abbrev pub parameterAs : Parameter → Parameter
   parameterAs (parameter s d) = parameter (f s) d
 
-  abbrev pub eventAs : Event → Event
+  abbrev pub eventAs : TextEvent → TextEvent
   eventAs (event s n m) = event (h s) n m
 
-  abbrev pub behaviourAs : Behaviour → Behaviour
+  abbrev pub behaviourAs : TextBehaviour → TextBehaviour
   behaviourAs (behaviour s b m) = behaviour (f s) (bodyAs b) m
 
   abbrev pub textAs : Text → Text
   textAs (text ps es bs) = text (map parameterAs ps) (map eventAs es) (map behaviourAs bs)
 
 -- a result whose fault has moved
-abbrev pub movedBy : {A : Type 0} → (ℕ → ℕ) → Result A → Result A
+abbrev pub movedBy : {A : Type 0} → (ℕ → ℕ) → OrFault A → OrFault A
 movedBy g (fault k p) = fault k (g p)
 movedBy g (fine x) = fine x

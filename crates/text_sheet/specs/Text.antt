@@ -6,13 +6,13 @@ use mathlib.Core.List.{List}
 use Rattle.spec_language.specs.Syntax.{Phase}
 
 -- NUMBER, and "-" NUMBER, "a negative constant"
-pub data Constant : Type 0 where
-  plus minus : ℕ → Constant
+pub data TextConstant : Type 0 where
+  plus minus : ℕ → TextConstant
 
 -- a formula: a constant; a name; a row's cell, with the places of its name and of its `[`; `!`; a two-sided operator by
 -- 01's function number; if(a,b,c)
 pub data Phrase : Type 0 where
-  constant : Constant → Phrase
+  constant : TextConstant → Phrase
   named : ℕ → List ℕ → Phrase
   cell : ℕ → List ℕ → ℕ → ℕ → Phrase
   negation : Phrase → Phrase
@@ -26,19 +26,19 @@ pub data Reaction : Type 0 where
 -- a passive has a formula, an active a start value and handlers, a row its count before them
 pub data Body : Type 0 where
   passive : Phrase → Body
-  active : Constant → List Reaction → Body
-  row : ℕ → Constant → List Reaction → Body
+  active : TextConstant → List Reaction → Body
+  row : ℕ → TextConstant → List Reaction → Body
 
 -- declarations by name: a parameter with its default; an event with its rank and who may send it; a behaviour with who
 -- may see it. Players where they are said, none of them for `nobody`
 pub data Parameter : Type 0 where
-  parameter : List ℕ → Option Constant → Parameter
+  parameter : List ℕ → Option TextConstant → Parameter
 
-pub data Event : Type 0 where
-  event : List ℕ → ℕ → Option (List ℕ) → Event
+pub data TextEvent : Type 0 where
+  event : List ℕ → ℕ → Option (List ℕ) → TextEvent
 
-pub data Behaviour : Type 0 where
-  behaviour : List ℕ → Body → Option (List ℕ) → Behaviour
+pub data TextBehaviour : Type 0 where
+  behaviour : List ℕ → Body → Option (List ℕ) → TextBehaviour
 
 pub data Text : Type 0 where
-  text : List Parameter → List Event → List Behaviour → Text
+  text : List Parameter → List TextEvent → List TextBehaviour → Text

@@ -1,5 +1,5 @@
 -- The tokens of a sheet's text, and how a text is made of them: docs/SHEETS.md "Tokens". Bytes are those of ASCII.
-use Prim.Native.Nat.{ℕ, suc, _-_, _≤_, _<_}
+use Prim.Native.Nat.{ℕ, _-_, _≤_}
 use mathlib.Core.Bool.{Bool, true, false, not, _&&_, _||_}
 use mathlib.Core.Path.{_≡_}
 use mathlib.Core.Logic.{_≢_}
@@ -12,10 +12,10 @@ use Rattle.text_formula.specs.Tokens.{decimalValue, NotFirst}
 -- each token has its place, the number of bytes before it. A number; a name; or a sign: an operator or `if` by 01's
 -- function number, another mark or reserved word by a number of its own, the end of the text, or a byte where no token
 -- begins
-pub data Token : Type 0 where
-  number : ℕ → ℕ → Token
-  name : ℕ → List ℕ → Token
-  sign : ℕ → ℕ → Token
+pub data SheetToken : Type 0 where
+  number : ℕ → ℕ → SheetToken
+  name : ℕ → List ℕ → SheetToken
+  sign : ℕ → ℕ → SheetToken
 
 -- ---- the signs beyond 01's functions. Those that can follow a whole declaration or handler have the highest numbers
 
@@ -77,11 +77,11 @@ abbrev pub row-word : ℕ
 row-word = 33
 
 -- the end of the text, and a byte where no token begins
-abbrev pub finish : ℕ
-finish = 34
+abbrev pub endSign : ℕ
+endSign = 34
 
-abbrev pub stray : ℕ
-stray = 35
+abbrev pub straySign : ℕ
+straySign = 35
 
 -- how a sign is spelled
 pub data Spelling : Type 0 where
@@ -165,8 +165,8 @@ inComment b = not (eqb b 10)
 abbrev pub Are : (ℕ → Bool) → List ℕ → Type 0
 Are kind = All (λ b. kind b ≡ true)
 
-abbrev pub Stops : (ℕ → Bool) → List ℕ → Type 0
-Stops kind = NotFirst (λ b. kind b ≡ true)
+abbrev pub KindStops : (ℕ → Bool) → List ℕ → Type 0
+KindStops kind = NotFirst (λ b. kind b ≡ true)
 
 -- ---- a text of so many bytes, and what is left of it
 
@@ -174,27 +174,27 @@ abbrev pub placeIn : ℕ → List ℕ → ℕ
 placeIn long bs = long - length bs
 
 -- a word is reserved, or a name
-abbrev pub wordAt : ℕ → List ℕ → Token
-wordAt p w = pick (eqb (signOf w reserved) 0) (name p w) (sign p (signOf w reserved))
+abbrev pub wordAtPlace : ℕ → List ℕ → SheetToken
+wordAtPlace p w = pick (eqb (signOf w reserved) 0) (name p w) (sign p (signOf w reserved))
 
 -- what is left begins with a token, and the rest follows it. "A number is decimal digits, leading zeros allowed." "A
 -- name is a letter or `_`, then letters, digits and `_`, at most 32 bytes". "A token is as long as it can be"
-pub data Begins (long : ℕ) : List ℕ → Token → List ℕ → Type 0 where
-  a-number : (b : ℕ) (ds rest : List ℕ) → isDigit b ≡ true → Are isDigit ds → Stops isDigit rest
-      → Begins long (b ∷ (ds ++ rest)) (number (placeIn long (b ∷ (ds ++ rest))) (decimalValue 0 (b ∷ ds))) rest
-  a-word : (b : ℕ) (w rest : List ℕ) → isLetter b ≡ true → Are inWord w → Stops inWord rest → length (b ∷ w) ≤ 32
-      → Begins long (b ∷ (w ++ rest)) (wordAt (placeIn long (b ∷ (w ++ rest))) (b ∷ w)) rest
+pub data TextBegins (long : ℕ) : List ℕ → SheetToken → List ℕ → Type 0 where
+  a-number : (b : ℕ) (ds rest : List ℕ) → isDigit b ≡ true → Are isDigit ds → KindStops isDigit rest
+      → TextBegins long (b ∷ (ds ++ rest)) (number (placeIn long (b ∷ (ds ++ rest))) (decimalValue 0 (b ∷ ds))) rest
+  a-word : (b : ℕ) (w rest : List ℕ) → isLetter b ≡ true → Are inWord w → KindStops inWord rest → length (b ∷ w) ≤ 32
+      → TextBegins long (b ∷ (w ++ rest)) (wordAtPlace (placeIn long (b ∷ (w ++ rest))) (b ∷ w)) rest
   a-long-mark : (b c : ℕ) (rest : List ℕ) → signOf (b ∷ c ∷ []) marks ≢ 0
-      → Begins long (b ∷ c ∷ rest) (sign (placeIn long (b ∷ c ∷ rest)) (signOf (b ∷ c ∷ []) marks)) rest
+      → TextBegins long (b ∷ c ∷ rest) (sign (placeIn long (b ∷ c ∷ rest)) (signOf (b ∷ c ∷ []) marks)) rest
   a-mark : (b : ℕ) (rest : List ℕ) → signOf (b ∷ []) marks ≢ 0 → NotFirst (λ c. signOf (b ∷ c ∷ []) marks ≢ 0) rest
-      → Begins long (b ∷ rest) (sign (placeIn long (b ∷ rest)) (signOf (b ∷ []) marks)) rest
+      → TextBegins long (b ∷ rest) (sign (placeIn long (b ∷ rest)) (signOf (b ∷ []) marks)) rest
 
 -- "Spaces, tabs, line ends and comments separate tokens and mean nothing else", "in a comment any byte but a line
--- feed". Where no token begins the last one is `stray`
-pub data Tokens (long : ℕ) : List ℕ → List Token → Type 0 where
-  t-end : Tokens long [] (sign (placeIn long []) finish ∷ [])
-  t-blank : (b : ℕ) {bs : List ℕ} {ts : List Token} → isBlank b ≡ true → Tokens long bs ts → Tokens long (b ∷ bs) ts
-  t-comment : (c rest : List ℕ) {ts : List Token} → Are inComment c → Stops inComment rest → Tokens long rest ts → Tokens long (35 ∷ (c ++ rest)) ts
-  t-token : {bs rest : List ℕ} {t : Token} {ts : List Token} → Begins long bs t rest → Tokens long rest ts → Tokens long bs (t ∷ ts)
-  t-stray : (b : ℕ) (bs : List ℕ) → isBlank b ≡ false → b ≢ 35 → ((t : Token) (rest : List ℕ) → Begins long (b ∷ bs) t rest → ⊥)
-      → Tokens long (b ∷ bs) (sign (placeIn long (b ∷ bs)) stray ∷ [])
+-- feed". Where no token begins the last one is `straySign`
+pub data TokensOfText (long : ℕ) : List ℕ → List SheetToken → Type 0 where
+  t-end : TokensOfText long [] (sign (placeIn long []) endSign ∷ [])
+  t-blank : (b : ℕ) {bs : List ℕ} {ts : List SheetToken} → isBlank b ≡ true → TokensOfText long bs ts → TokensOfText long (b ∷ bs) ts
+  t-comment : (c rest : List ℕ) {ts : List SheetToken} → Are inComment c → KindStops inComment rest → TokensOfText long rest ts → TokensOfText long (35 ∷ (c ++ rest)) ts
+  t-token : {bs rest : List ℕ} {t : SheetToken} {ts : List SheetToken} → TextBegins long bs t rest → TokensOfText long rest ts → TokensOfText long bs (t ∷ ts)
+  t-stray : (b : ℕ) (bs : List ℕ) → isBlank b ≡ false → b ≢ 35 → ((t : SheetToken) (rest : List ℕ) → TextBegins long (b ∷ bs) t rest → ⊥)
+      → TokensOfText long (b ∷ bs) (sign (placeIn long (b ∷ bs)) straySign ∷ [])

@@ -20,7 +20,7 @@ use Rattle.back_event.proofs.compile_event.Tie as tie
 
 -- where the order is found and the members are counted
 module _ (c : tie.After-count-members) where
-  abbrev complete-at : tie.After-a
+  abbrev complete-at : tie.After-found
   complete-at = c .before .before
 
   abbrev entry : tie.Start
@@ -74,7 +74,7 @@ returns : tie.Need-returns
 returns c =
     let checked = c .before .before .before in
     let b = checked .before .before .before .before .args in
-    wrote-as (code-none _ _ _ (found-none (b .draft .now) (b .e) (b .n) _ _ (checked .check-dependence .ensures)
+    wrote-as (code-none _ _ _ (found-none (b .draft .now) (b .event) (b .behaviours) _ _ (checked .check-dependence .ensures)
     (c .enum-told .given .1))) (wrote-none _ _)
 
 phase-one-requires : tie.Need-phase-one-requires

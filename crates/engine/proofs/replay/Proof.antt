@@ -4,13 +4,13 @@ use Prim.Native.Nat.{_+_, _*_, _-_}
 use mathlib.Core.Path.{refl}
 use native.Mathlib.Omega.{arith}
 use borrow.Author.Needs.{needs}
-use Rattle.engine.specs.Replay.{Onward}
+use Rattle.engine.specs.Replay.{RowOfSteps}
 use Rattle.engine.proofs.Laws.{none-made, and-then, one-call, end-round, end-answers}
 use Rattle.engine.proofs.replay.Statement.{statement}
 use Rattle.engine.proofs.replay.Tie as tie
 
 abbrev Inv-loop : tie.InvT-loop
-Inv-loop table round₀ calls answers₀ n i₀ round answers i = Onward table calls n 0 round₀ answers₀ i round answers
+Inv-loop table round₀ calls answers₀ n i₀ round answers i = RowOfSteps table calls n 0 round₀ answers₀ i round answers
 
 abbrev μ-loop : tie.MeasureT-loop
 μ-loop table round₀ calls answers₀ n i₀ round answers i = n - i

@@ -1,0 +1,9 @@
+pub mod Digits
+pub mod Alike
+pub mod Lexes
+pub mod Prints
+pub mod Described
+pub mod DescribedFits
+pub mod Lengths
+pub mod RoundTrip
+pub mod Examples
