@@ -21,8 +21,8 @@ use Rattle.run_carry.proofs.carry_on.Tie as tie
 shallow : (old t l m₀ : List ℕ) {m : List ℕ} → m ≡ filledStore old t l m₀ 64 → get m₀ 6 ≤ 64 → get m 6 ≤ 64
 shallow old t l m₀ e h = rw (e, filled-head old t l m₀ 64 6 (omega arith)) h
 
-module _ (old t l m₀ : List ℕ) {m : List ℕ} {k n : ℕ} {x : Bool} (e : m ≡ filledStore old t l m₀ 64) (p : k ≡ passivesStart t) (q : n ≡ passivesLength t)
-    (f : x ≡ codeFits k n) where
+module _ (old t l m₀ : List ℕ) {m : List ℕ} {k n : ℕ} {x : Bool} (e : m ≡ filledStore old t l m₀ 64)
+    (p : k ≡ passivesStart t) (q : n ≡ passivesLength t) (f : x ≡ codeFits k n) where
   outside : x ≡ false → callResult refusals.foreign m ≡ carryOn old t l m₀
   unfolding carryOn workedOut
   outside h = rw (← p, ← q, ← e, ← f, h)
@@ -31,27 +31,30 @@ module _ (old t l m₀ : List ℕ) {m : List ℕ} {k n : ℕ} {x : Bool} (e : m 
   unfolding carryOn workedOut
   inside h g = rw (← p, ← q, ← e, ← f, h) g
 
-returns : tie.Need-returns
-returns c =
-    let at-fill = c .before .before .before .before .before .before in
-    outside _ _ _ _ (at-fill .fill .ensures) (c .before .before .before .get-word .ensures)
-    (c .before .before .get-word2 .ensures) (c .before .code-fits .ensures) (not-true _ (c .if1 .taken))
+-- back from the test of the code to the values filled in
+abbrev fill-at : tie.After-code-fits → tie.After-fill
+fill-at c = c .before .before .before .before .before
 
 execute-from-requires : tie.Need-execute-from-requires
 execute-from-requires c κs =
-    let at-fill = c .before .before .before .before .before .before .before in
-    let at-entry = at-fill .before .before .before .before .before .before in
-    let s = shallow _ _ _ _ (at-fill .fill .ensures) (at-entry .pre .1) in
-    let b = code-bound _ _ (sym (c .before .before .code-fits .ensures) ∙ not-false _ (c .before .if1 .left)) in
+    let fits = c .before .before in
+    let s = shallow _ _ _ _ (fill-at fits .fill .ensures)
+    (fill-at fits .before .before .before .before .before .before .pre .1) in
+    let b = code-bound _ _ (sym (fits .code-fits .ensures) ∙ not-false _ (c .before .if1 .left)) in
     search needs
+
+returns : tie.Need-returns
+returns c =
+    let fits = c .before in
+    outside _ _ _ _ (fill-at fits .fill .ensures) (fits .before .before .get-word .ensures)
+    (fits .before .get-word2 .ensures) (fits .code-fits .ensures) (not-true _ (c .if1 .taken))
 
 returns-2 : tie.Need-returns-2
 returns-2 c =
-    let at-if1 = c .before .before .before .before in
-    let at-fill = at-if1 .before .before .before .before .before .before in
-    inside _ _ _ _ (at-fill .fill .ensures) (at-if1 .before .before .before .get-word .ensures)
-    (at-if1 .before .before .get-word2 .ensures) (at-if1 .before .code-fits .ensures)
-    (not-false _ (at-if1 .if1 .left)) (c .before .before .execute-from .ensures)
+    let fits = c .before .before .before .before .before in
+    inside _ _ _ _ (fill-at fits .fill .ensures) (fits .before .before .get-word .ensures)
+    (fits .before .get-word2 .ensures) (fits .code-fits .ensures)
+    (not-false _ (c .before .before .before .before .if1 .left)) (c .before .before .execute-from .ensures)
 
 pub carry-on-spec : {M : Type 1} → statement M
 carry-on-spec =
