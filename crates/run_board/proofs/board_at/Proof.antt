@@ -8,6 +8,7 @@ use Rattle.lib_word.specs.Word.{get}
 use Rattle.spec_language.specs.Refusals as refusals
 use Rattle.spec_language.specs.Rights.{may}
 use Rattle.format_layout.specs.Layout.{behaviourCount, viewersAt, ours}
+use Rattle.format_layout.specs.Bounds.{Bounds}
 use Rattle.run_board.specs.Board.{copyBackUnderWay, boardWith, boardKnown, boardIn, boardOn}
 use borrow.Author.Needs.{needs}
 use Rattle.run_board.proofs.board_at.Statement.{statement}
@@ -39,7 +40,8 @@ module _ (t l : List ℕ) (i who : ℕ) where
   unfolding boardKnown boardWith
   no-right p h = rw (← p, h)
 
-  copied-back : {x y : Bool} → x ≡ may (viewersAt t i) who → x ≡ true → y ≡ copyBackUnderWay t l → y ≡ true → refusals.settling ≡ boardKnown t l i who
+  copied-back : {x y : Bool} → x ≡ may (viewersAt t i) who → x ≡ true → y ≡ copyBackUnderWay t l → y ≡ true
+      → refusals.settling ≡ boardKnown t l i who
   unfolding boardKnown boardWith
   copied-back p h q k = rw (← p, h, ← q, k)
 
@@ -48,24 +50,58 @@ module _ (t l : List ℕ) (i who : ℕ) where
   unfolding boardKnown boardWith
   shown p h q k r = rw (← p, h, ← q, k, ← r)
 
+-- a definition at the call's arguments
+abbrev asked : tie.Start → (List ℕ → List ℕ → ℕ → ℕ → ℕ) → ℕ
+asked c f = f (c .args .table .now) (c .args .round .now) (c .args .behaviour) (c .args .player)
+
+-- where the round is ours
+module _ (c : tie.Else1) where
+  abbrev entry : tie.Start
+  entry = c .before .before .before .before
+
+  valid : Bounds (entry .args .table .now) (entry .args .round .now)
+  valid = c .before .is-ours .ensures .1 (not-false _ (c .if1 .left))
+
+  inside : {r : ℕ} → r ≡ asked entry boardIn → r ≡ asked entry boardOn
+  inside = opened _ _ _ _ (c .before .is-ours .ensures .0) (not-false _ (c .if1 .left))
+
+-- where the behaviour is known
+module _ (c : tie.Else3) where
+  abbrev ours-at : tie.Else1
+  ours-at = c .before .before .before
+
+  found : {r : ℕ} → r ≡ asked (entry ours-at) boardKnown → r ≡ asked (entry ours-at) boardOn
+  found q =
+      inside ours-at (known _ _ _ _ (c .before .before .if2 .left) (c .before .get-word .ensures) (c .if3 .left) q)
+
+returns-3 : tie.Need-returns-3
+returns-3 c =
+    inside (c .before .before .before)
+    (unknown _ _ _ _ (c .before .before .if2 .left) (c .before .get-word .ensures) (c .if3 .taken))
+
+returns-5 : tie.Need-returns-5
+returns-5 c =
+    let right = c .before .before in
+    found (right .before .before) (copied-back _ _ _ _ (right .before .may-see .ensures)
+    (not-false _ (right .if4 .left)) (c .before .copy-back-under-way .ensures) (c .if5 .taken))
+
+returns-6 : tie.Need-returns-6
+returns-6 c =
+    let right = c .before .before .before in
+    found (right .before .before) (shown _ _ _ _ (right .before .may-see .ensures) (not-false _ (right .if4 .left))
+    (c .before .before .copy-back-under-way .ensures) (c .before .if5 .left) (c .get-word2 .ensures))
+
 pub board-at-spec : {M : Type 1} → statement M
 board-at-spec =
     tie.close
-    (tie.spec
-    (λ c κs. search needs)
+    (tie.spec (search needs)
     (λ c. foreign _ _ _ _ (c .before .is-ours .ensures .0) (not-true _ (c .if1 .taken)))
-    (λ c. opened _ _ _ _ (c .before .before .is-ours .ensures .0) (not-false _ (c .before .if1 .left)) (no-player _ _ _ _ (search needs)))
-    (λ c κs. let b = (c .before .before .is-ours .ensures .1) (not-false _ (c .before .if1 .left)) in search needs)
-    (λ c. opened _ _ _ _ (c .before .before .before .before .is-ours .ensures .0) (not-false _ (c .before .before .before .if1 .left)) (unknown _ _ _ _ (search needs) (c .before .get-word .ensures) (search needs)))
-    (λ c κs. let b = (c .before .before .before .before .is-ours .ensures .1) (not-false _ (c .before .before .before .if1 .left)) in search needs)
-    (λ c. opened _ _ _ _ (c .before .before .before .before .before .before .is-ours .ensures .0) (not-false _ (c .before .before .before .before .before .if1 .left)) (known _ _ _ _ (search needs) (c .before .before .before .get-word .ensures) (search needs)
-    (no-right _ _ _ _ (c .before .may-see .ensures) (not-true _ (c .if4 .taken)))))
-    (λ c κs. (c .before .before .before .before .before .before .is-ours .ensures .1) (not-false _ (c .before .before .before .before .before .if1 .left)))
-    (λ c. opened _ _ _ _ (c .before .before .before .before .before .before .before .before .is-ours .ensures .0) (not-false _ (c .before .before .before .before .before .before .before .if1 .left)) (known _ _ _ _ (search needs) (c .before .before .before .before .before .get-word .ensures) (search needs)
-    (copied-back _ _ _ _ (c .before .before .before .may-see .ensures) (not-false _ (c .before .before .if4 .left)) (c .before .copy-back-under-way .ensures) (c .if5 .taken))))
-    (λ c. search needs)
-    (λ c κs. let b = (c .before .before .before .before .before .before .before .before .is-ours .ensures .1) (not-false _ (c .before .before .before .before .before .before .before .if1 .left)) in search needs)
-    (λ c. search needs)
-    (λ c. search needs)
-    (λ c. opened _ _ _ _ (c .before .before .before .before .before .before .before .before .before .is-ours .ensures .0) (not-false _ (c .before .before .before .before .before .before .before .before .if1 .left)) (known _ _ _ _ (search needs) (c .before .before .before .before .before .before .get-word .ensures) (search needs)
-    (shown _ _ _ _ (c .before .before .before .before .may-see .ensures) (not-false _ (c .before .before .before .if4 .left)) (c .before .before .copy-back-under-way .ensures) (c .before .if5 .left) (c .get-word2 .ensures)))))
+    (λ c. inside (c .before) (no-player _ _ _ _ (c .if2 .taken)))
+    (λ c κs. let b = valid (c .before) in search needs)
+    returns-3
+    (λ c κs. let b = valid (ours-at c) in search needs)
+    (λ c. found (c .before .before) (no-right _ _ _ _ (c .before .may-see .ensures) (not-true _ (c .if4 .taken))))
+    (λ c κs. valid (ours-at (c .before .before)))
+    returns-5 (search needs)
+    (λ c κs. let b = valid (ours-at (c .before .before .before .before)) in search needs)
+    (search needs) (search needs) returns-6)

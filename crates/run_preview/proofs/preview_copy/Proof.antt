@@ -42,27 +42,63 @@ module _ (t l : List ℕ) (e i who : ℕ) {a : ℕ} {m : List ℕ} (arrival : ca
       unfolding previewAfter previewTaken previewSeen
       seen h g = together (rw (eq-eqb a 0 taken, ← count, lt-leb n i there, ← right, h) g)
 
+get-word-requires : tie.Need-get-word-requires
+get-word-requires c κs =
+    let s = arrive-sound _ _ _ _ (c .before .before .before .arrive-at .ensures .0) (c .if1 .left) in
+    omega (arith, s .whole)
+
+returns-2 : tie.Need-returns-2
+returns-2 c =
+    no-behaviour _ _ _ _ _ (c .before .before .before .before .before .arrive-at .ensures .0)
+    (c .before .before .if1 .left) (c .before .get-word .ensures) (c .if2 .taken)
+
+may-see-requires : tie.Need-may-see-requires
+may-see-requires c κs =
+    let at-arrive-at = c .before .before .before .before .before in
+    let s = arrive-sound _ _ _ _ (at-arrive-at .arrive-at .ensures .0) (c .before .before .if1 .left) in
+    omega (
+      arith,
+      s .whole,
+      table-bounds _ (s .table) .few-behaviours,
+      c .before .get-word .ensures,
+      c .if2 .left,
+      at-arrive-at .arrive-at .ensures .1 (c .before .before .if1 .left),
+    )
+
+returns-3 : tie.Need-returns-3
+returns-3 c =
+    let at-if1 = c .before .before .before .before in
+    unseen _ _ _ _ _ (at-if1 .before .before .before .arrive-at .ensures .0) (at-if1 .if1 .left)
+    (c .before .before .before .get-word .ensures) (c .before .before .if2 .left) (c .before .may-see .ensures)
+    (not-true _ (c .if3 .taken))
+
+shown-in-requires : tie.Need-shown-in-requires
+shown-in-requires c κs =
+    let at-if1 = c .before .before .before .before .before in
+    let s = arrive-sound _ _ _ _ (at-if1 .before .before .before .arrive-at .ensures .0) (at-if1 .if1 .left) in (
+      table-bounds _ (s .table),
+      s,
+      omega (
+        arith,
+        table-bounds _ (s .table) .few-behaviours,
+        c .before .before .before .before .get-word .ensures,
+        c .before .before .before .if2 .left,
+      ),
+    )
+
+returns-4 : tie.Need-returns-4
+returns-4 c =
+    let at-if3 = c .before .before .before .before in
+    let at-if1 = at-if3 .before .before .before .before in
+    seen _ _ _ _ _ (at-if1 .before .before .before .arrive-at .ensures .0) (at-if1 .if1 .left)
+    (at-if3 .before .before .before .get-word .ensures) (at-if3 .before .before .if2 .left)
+    (at-if3 .before .may-see .ensures) (not-false _ (at-if3 .if3 .left))
+    (c .before .before .shown-in .ensures)
+
 pub preview-copy-spec : {M : Type 1} → statement M
 preview-copy-spec =
     tie.close
-    (tie.spec
-    (λ c κs. search needs)
-    (λ c. search needs)
-    (λ c. search needs)
+    (tie.spec (search needs) (search needs) (search needs)
     (λ c. refused _ _ _ _ _ (c .before .before .before .arrive-at .ensures .0) (c .if1 .taken))
-    (λ c κs. let s = arrive-sound _ _ _ _ (c .before .before .before .arrive-at .ensures .0) (c .if1 .left) in omega (arith, s .whole))
-    (λ c. search needs)
-    (λ c. no-behaviour _ _ _ _ _ (c .before .before .before .before .before .arrive-at .ensures .0) (c .before .before .if1 .left) (c .before .get-word .ensures) (c .if2 .taken))
-    (λ c κs.
-    let s = arrive-sound _ _ _ _ (c .before .before .before .before .before .arrive-at .ensures .0) (c .before .before .if1 .left) in
-    omega (arith, s .whole, table-bounds _ (s .table) .few-behaviours, c .before .get-word .ensures, c .if2 .left, c .before .before .before .before .before .arrive-at .ensures .1 (c .before .before .if1 .left)))
-    (λ c. search needs)
-    (λ c.
-    unseen _ _ _ _ _ (c .before .before .before .before .before .before .before .arrive-at .ensures .0) (c .before .before .before .before .if1 .left) (c .before .before .before .get-word .ensures) (c .before .before .if2 .left) (c .before .may-see .ensures) (not-true _ (c .if3 .taken)))
-    (λ c κs.
-    let s = arrive-sound _ _ _ _ (c .before .before .before .before .before .before .before .before .arrive-at .ensures .0) (c .before .before .before .before .before .if1 .left) in
-    (table-bounds _ (s .table), s, omega (arith, table-bounds _ (s .table) .few-behaviours, c .before .before .before .before .get-word .ensures, c .before .before .before .if2 .left)))
-    (λ c. search needs)
-    (λ c.
-    seen _ _ _ _ _ (c .before .before .before .before .before .before .before .before .before .before .before .arrive-at .ensures .0) (c .before .before .before .before .before .before .before .before .if1 .left) (c .before .before .before .before .before .before .before .get-word .ensures) (c .before .before .before .before .before .before .if2 .left) (c .before .before .before .before .before .may-see .ensures) (not-false _ (c .before .before .before .before .if3 .left))
-    (c .before .before .shown-in .ensures)))
+    get-word-requires (search needs) returns-2 may-see-requires (search needs) returns-3 shown-in-requires
+    (search needs) returns-4)

@@ -22,38 +22,29 @@ unfolding better eitherSlot
 second t l i b e h = rw (← e, h)
 
 -- what the calls return, put together
-read : (c : tie.After-is-ahead) → c .is-ahead .result
-    ≡ before (c .before .before .before .before .before .before .before .before .before .args .table .now) (c .before .before .before .before .before .before .before .before .before .args .round .now)
-    (c .before .before .before .before .before .before .before .before .before .args .i) (c .before .before .before .before .before .before .before .before .before .args .b)
-read c =
-    cc (
-      c .before .before .before .before .before .before .event-at .ensures,
-      c .before .before .before .before .before .event-word .ensures,
-      c .before .before .before .before .event-at2 .ensures,
-      c .before .before .before .event-word2 .ensures,
-      c .before .before .get-word .ensures,
-      c .before .get-word2 .ensures,
-      c .is-ahead .ensures,
-    )
+module _ (c : tie.After-is-ahead) where
+  abbrev entry : tie.Start
+  entry = c .before .before .before .before .before .before .before .before .before
+
+  read : c .is-ahead .result
+      ≡ before (entry .args .table .now) (entry .args .round .now) (entry .args .i) (entry .args .b)
+  read =
+      let second = c .before .before .before in
+      cc (
+        second .before .before .before .event-at .ensures,
+        second .before .before .event-word .ensures,
+        second .before .event-at2 .ensures,
+        second .event-word2 .ensures,
+        c .before .before .get-word .ensures,
+        c .before .get-word2 .ensures,
+        c .is-ahead .ensures,
+      )
 
 pub better-of-spec : {M : Type 1} → statement M
 better-of-spec =
     tie.close
-    (tie.spec
-    (λ c. search needs)
-    (λ c. search needs)
-    (λ c κs. search needs)
-    (λ c κs. search needs)
-    (λ c. search needs)
-    (λ c. search needs)
-    (λ c κs. search needs)
-    (λ c κs. search needs)
-    (λ c. search needs)
-    (λ c. search needs)
-    (λ c κs. search needs)
-    (λ c. search needs)
-    (λ c. search needs)
-    (λ c κs. search needs)
-    (λ c κs. search needs)
+    (tie.spec (search needs) (search needs) (search needs) (search needs) (search needs) (search needs)
+    (search needs) (search needs) (search needs) (search needs) (search needs) (search needs) (search needs)
+    (search needs) (search needs)
     (λ c. first _ _ _ _ (read (c .before)) (c .if1 .taken))
     (λ c. second _ _ _ _ (read (c .before)) (c .if1 .left)))
