@@ -36,24 +36,24 @@ Inv-loop set n e f i₀ i = Seeking (answer set e f) 0 n i
 abbrev μ-loop : tie.MeasureT-loop
 μ-loop set n e f i₀ i = n - i
 
+returns-2 : tie.Need-returns-2 Inv-loop μ-loop
+unfolding packedDifference
+returns-2 c =
+    stop _ _ _ _ _ _ (c .before .before .before .loop .inv) (omega arith) (c .before .contains .ensures)
+    (c .if2 .taken) refl
+
+loop-again : tie.Need-loop-again Inv-loop μ-loop
+unfolding packedDifference
+loop-again c =
+    go _ _ _ _ _ (c .before .before .before .loop .inv) (omega arith) (c .before .contains .ensures) (c .if2 .left)
+
 pub least-in-spec : {M : Type 1} → statement M
 unfolding packedDifference
 least-in-spec =
     tie.close
-    (tie.spec
-    Inv-loop
-    μ-loop
+    (tie.spec Inv-loop μ-loop
     (λ c. least-none _ _ _ _ (c .if1 .taken))
     (λ c. seek _ _ _ (omega arith))
-    (λ c κs. omega arith)
-    (λ c. omega arith)
-    (λ c. omega arith)
-    (λ c. omega arith)
-    (λ c. omega arith)
-    (λ c. omega arith)
-    (λ c. omega arith)
-    (λ c. stop _ _ _ _ _ _ (c .before .before .before .loop .inv) (omega arith) (c .before .contains .ensures) (c .if2 .taken) refl)
-    (λ c. omega arith)
-    (λ c. omega arith)
-    (λ c. go _ _ _ _ _ (c .before .before .before .loop .inv) (omega arith) (c .before .contains .ensures) (c .if2 .left))
+    (omega arith) (omega arith) (omega arith) (omega arith) (omega arith) (omega arith) (omega arith) returns-2
+    (omega arith) (omega arith) loop-again
     (λ c. whole _ _ _ _ _ (seek-end (c .before .loop .inv) (omega arith))))
