@@ -7,7 +7,7 @@
 Believed and proved are told apart by place: a file under specs/ holds definitions and statements only. The other
 checks: no public name that two definitions' files declare, no public name and no dependency that nothing uses, no edit
 that changes nothing, no number in the code without a name, lines of pages and comments at most 120 columns, every path
-and name on the pages there.
+and name on the pages there, and proof files whose answers and places have names.
 """
 import collections
 import glob
@@ -244,6 +244,68 @@ def crates_without_a_line():
             yield f"docs/ARCHITECTURE.md: no line on crate {crate}"
 
 
+# ---- proof text: an answer is read by its name, and a place by its own
+
+LONGEST_PROOF_LINE = 400
+MOST_POSITIONAL = 12
+MOST_BEFORE = 9
+# CRATE/FUNCTION whose proof still breaks one of these, and why; one that breaks none any more is taken off the list
+NOT_YET_NAMED = {
+    # nine arms of one shape with three short answers each: names would make it half as long again
+    "run_instruction/perform_on",
+    # the loops over recorded calls and steps, with two dozen places each
+    "engine/replay",
+    "engine/steps/steps_from",
+    # the search for a circle, whose functions are being replaced
+    "check_agree/agree_at",
+    "check_distance/steps_back",
+    "check_faults/fill_matrix",
+    "check_judge/judge",
+    "check_leak/leak_at",
+    "check_shortest/best_under",
+    "check_shortest/list_members",
+}
+
+
+def positional_answers(text):
+    """How many answers are lambdas by place in the calls of `spec`."""
+    count = 0
+    for call in re.finditer(r"(?:tie|-lts)\.spec(?![\w-])", text):
+        depth = 0
+        for i in range(call.end(), len(text)):
+            if text[i] == "(":
+                count += depth == 0 and text.startswith("(λ", i)
+                depth += 1
+            elif text[i] == ")":
+                depth -= 1
+                if depth < 0:
+                    break
+    return count
+
+
+def faults_of_proof(path):
+    text = text_of(path)
+    longest = max(map(len, text.split("\n")))
+    if longest > LONGEST_PROOF_LINE:
+        yield f"{path}: a line of {longest} characters in a proof"
+    answers = positional_answers(text)
+    if answers > MOST_POSITIONAL:
+        yield f"{path}: {answers} answers by place and not by name"
+    run = max((r.count(".before") for r in re.findall(r"(?:\.before\s*)+", text)), default=0)
+    if run > MOST_BEFORE:
+        yield f"{path}: `.before` {run} times in a row"
+
+
+def unreadable_proofs():
+    waiting = {f"crates/{name.replace('/', '/proofs/', 1)}/Proof.antt" for name in NOT_YET_NAMED}
+    for path in sorted(waiting | set(glob.glob("crates/*/proofs/**/Proof.antt", recursive=True))):
+        faults = list(faults_of_proof(path)) if os.path.exists(path) else []
+        if path not in waiting:
+            yield from faults
+        elif not faults:
+            yield f"{path}: it breaks no rule of proof text: take it off the list"
+
+
 # ---- all of it
 
 
@@ -260,6 +322,7 @@ def all_faults():
     yield from wide_lines()
     yield from unresolved_names(theories)
     yield from crates_without_a_line()
+    yield from unreadable_proofs()
 
 
 def check():
@@ -284,6 +347,9 @@ PLANTED = [
     ("a comment of", "crates/lib_base/proofs/Planted.antt", "-- " + "wide " * 30 + "\n"),
     ("no such name", "docs/CLAIMS.md", "\n`plantedNameOfNothing`\n"),
     ("columns", "docs/CLAIMS.md", "\n" + "wide " * 30 + "\n"),
+    ("characters in a proof", "crates/lib_base/proofs/planted/Proof.antt", "planted = " + "x " * 200 + "\n"),
+    ("answers by place", "crates/lib_base/proofs/planted/Proof.antt", "planted = (tie.spec" + " (λ c. x)" * 13 + ")\n"),
+    ("times in a row", "crates/lib_base/proofs/planted/Proof.antt", "planted c = c" + " .before" * 10 + "\n"),
 ]
 
 
