@@ -256,12 +256,9 @@ NOT_YET_NAMED = {
     # the loops over recorded calls and steps, with two dozen places each
     "engine/replay",
     "engine/steps/steps_from",
-    # the search for a circle, whose functions are being replaced
-    "check_agree/agree_at",
+    # the search for a circle
     "check_distance/steps_back",
-    "check_faults/fill_matrix",
-    "check_judge/judge",
-    "check_leak/leak_at",
+    "check_distance/walk",
     "check_shortest/best_under",
     "check_shortest/list_members",
 }
