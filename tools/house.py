@@ -62,8 +62,6 @@ def lemmas_imported_by_definitions(theories):
 
 # a type or a claim beside the function that makes or decides it: two files, one idea, told apart by case
 SAME_IDEA = {"arity", "entry", "eventover", "field", "handles", "idle", "known", "sheet", "signal"}
-# one idea that stands in two files
-SAID_TWICE = {"JudgedAs", "putAnswer"}
 
 
 def names_declared_twice(theories):
@@ -76,7 +74,7 @@ def names_declared_twice(theories):
     for same in places.values():
         for n, d in enumerate(same):
             others = [o for o in same[:n] if o.file != d.file and (o.name == d.name or d.name.lower() not in SAME_IDEA)]
-            if others and d.name not in SAID_TWICE:
+            if others:
                 yield f"{d.file}:{d.line}: a public name that {others[0].file} declares too: {d.name}, {others[0].name}"
 
 

@@ -48,7 +48,7 @@ judged (got x rest) ps t =
     (λ l. split (cyclic p) (λ c. rw (k, l, c)) (λ c. split (ltb 4096 (allInstructions p)) (λ h. rw (k, l, c, h)) (λ h. rw (k, l, c, h)))))
     (λ k. rw k)
 
-compile-order : (s ps t : List ℕ) → compileOn s ps t .0 ≡ compileOrder s ps t
+pub compile-order : (s ps t : List ℕ) → compileOn s ps t .0 ≡ compileOrder s ps t
 unfolding compileOn
 compile-order s ps t =
     split (ltb (length t) 34816) (λ a. rw a) (λ a. split (ltb 8192 (length s)) (λ b. rw (a, b)) (λ b. rw (a, b) (judged (readSheet s) ps t)))

@@ -5,7 +5,8 @@ use mathlib.Core.Path.{_≡_, refl, sym, ap, _∙_, subst}
 use mathlib.Core.List.{List, [], _∷_, map}
 use mathlib.Core.Option.{Option, none, some}
 use native.Mathlib.Omega.{arith}
-use lib.ListN.{length, getD}
+use lib.ListN.{length, getD, replicate}
+use borrow.Author.Tests.{le-ltb}
 use Rattle.lib_word.specs.Word.{get}
 use Rattle.lib_arith.proofs.FloorLaws.{floor-at-most, floor-next-above, floor-at-least, floor-next-below, floor-by-zero}
 use Rattle.lib_arith.specs.Functions.{exact, result}
@@ -17,7 +18,7 @@ use Rattle.text_formula.proofs.Readings.{one-reading}
 use Rattle.text_formula.proofs.Answers as answers
 use Rattle.text_formula.proofs.Sheets.{field-written}
 use Rattle.run_rights.proofs.Permits.{everybody, host-sends, host-sees, said, unsaid}
-use Rattle.back_compile.specs.Verdict.{Compiled, programOf, compileOn}
+use Rattle.back_compile.specs.Verdict.{Compiled, programOf, compileOn, numberOn}
 use Rattle.back_compile.proofs.AcceptedExactly.{accepted-exactly, eleven, twelve, thirteen, twenty}
 use Rattle.back_compile.proofs.AsWritten.{as-written, more-unread}
 use Rattle.back_compile.proofs.RowsOut.{as-rows}
@@ -27,9 +28,12 @@ use Rattle.back_figure3.proofs.InTable.{steps-stand}
 use Rattle.back_figure3.specs.Stand.{StepsStand}
 use Rattle.refine_calls.proofs.Refines.{accepted-says}
 use Rattle.refine_lists.proofs.Sheets.{program-accepted}
+use Rattle.check_circle.specs.Witness.{ListAnswer}
 use Rattle.check_circle.proofs.Shown.{shown}
 use Rattle.link_join.proofs.Says.{join-says}
 use Rattle.link_join.proofs.Limits.{pooled-number}
+use Rattle.claims.specs.Demand1.{compileOrder}
+use Rattle.claims.proofs.Demand1Holds.{compile-order}
 use Rattle.claims.specs.Requests.{AreBytes, sentViewer, AcceptedExactly, HalvesGoDown, Parameters, Formulas, Rights, Circles, PaperOrder, Rows, Pooling}
 
 pub exactly : AcceptedExactly
@@ -97,8 +101,17 @@ rights = record {
   all-see = sees-unsaid;
 }
 
+-- a table of the length that 01 gives is never short, so that no answer hangs on it
+any-table : (s ps t : List ℕ) → 34816 ≤ length t → compileOrder s ps t ≡ compileOrder s ps (replicate 34816 0)
+any-table s ps t h = rw (le-ltb (length t) 34816 h)
+
 pub circles : Circles
-circles = record { listed = shown }
+unfolding numberOn
+circles = record {
+  listed = shown;
+  others = λ s ps list h w. let e = w .other h in (ap (λ (a : ListAnswer). a .0) e, ap (λ (a : ListAnswer). a .1) e);
+  full-table = λ s ps t h. compile-order s ps t ∙ any-table s ps t h ∙ sym (compile-order s ps (replicate 34816 0));
+}
 
 -- ---- the compiler in the paper's order
 

@@ -135,6 +135,9 @@ pub record Circles : Type 0 where
   -- lent
   pub listed : (s ps list : List ℕ) → AreBytes s → numberOn s ps ≡ 12 → {r : ℕ} {list′ : List ℕ} → Witnessed s ps list r list′
       → (x : Sheet) × (encode x ≡ s) × SheetFits x × Known (programOf ps x) × Given ps x × CircleListed (programOf ps x) list r list′
+  -- "It is lent a sheet and parameters; any other sheet gets compile's number as with a full table, or 0, and no list."
+  pub others : (s ps list : List ℕ) → numberOn s ps ≢ 12 → {r : ℕ} {list′ : List ℕ} → Witnessed s ps list r list′ → (r ≡ numberOn s ps) × (list′ ≡ list)
+  pub full-table : (s ps t : List ℕ) → 34816 ≤ length t → compileOn s ps t .0 ≡ numberOn s ps
 
 -- ---- M-109: the compiler in the paper's order
 
