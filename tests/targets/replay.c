@@ -87,6 +87,7 @@ static struct call {
     uint8_t *stack;           /* the lowest byte that may be touched; painted up to the frame */
     const uint8_t *frame;     /* of the thread's function, which makes the call */
     size_t room;              /* bytes below the frame */
+    void *handler;            /* the stack of the handler that tells of a stack run over */
     pthread_t thread;
     sem_t asked, done;
 } calls[64];
@@ -203,6 +204,7 @@ static void read_calls(void)
 
 #define BELOW 262144u       /* bytes under a stack that cannot be touched; more than the least that a thread may have */
 #define PAINT 0x5C
+#define HANDLER 65536u      /* bytes of a handler's stack */
 #define SERVES 256u         /* bytes below its frame that the thread's own function works in */
 #define ALIGNED 64u
 #define PAGE 65536u /* a multiple of every page size */
@@ -224,14 +226,15 @@ static void ran_over(int number)
     _exit(n < 0 ? number : 1);
 }
 
-static void watch_stack(void)
+/* The handler's stack is made by whoever makes the thread: malloc itself would take more of a small stack than a call. */
+static void watch_stack(void *handlers)
 {
     struct sigaction action;
     stack_t room;
 
     memset(&room, 0, sizeof room);
-    room.ss_size = 65536;
-    room.ss_sp = malloc(room.ss_size);
+    room.ss_size = HANDLER;
+    room.ss_sp = handlers;
     memset(&action, 0, sizeof action);
     action.sa_handler = ran_over;
     action.sa_flags = SA_ONSTACK;
@@ -247,7 +250,7 @@ static void *serve(void *given)
     c->frame = (const uint8_t *)__builtin_frame_address(0);
     if (!c->make)
         return NULL;
-    watch_stack();
+    watch_stack(c->handler);
     memset(c->stack, PAINT, (size_t)(c->frame - c->stack) - SERVES);
     sem_post(&c->done);
     for (;;) {
@@ -269,6 +272,7 @@ static void give_thread(struct call *c, size_t bytes)
         fail("no stack of %lu bytes", (unsigned long)bytes);
     c->stack = room + BELOW;
     c->room = bytes;
+    c->handler = malloc(HANDLER);
     if (sem_init(&c->asked, 0, 0) != 0 || sem_init(&c->done, 0, 0) != 0 || pthread_attr_init(&attributes) != 0
         || pthread_attr_setstack(&attributes, room, BELOW + bytes + own) != 0
         || pthread_create(&c->thread, &attributes, serve, c) != 0)
