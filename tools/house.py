@@ -255,8 +255,6 @@ NOT_YET_NAMED = {
     "engine/replay",
     "engine/steps/steps_from",
     # the search for a circle
-    "check_distance/steps_back",
-    "check_distance/walk",
     "check_shortest/best_under",
     "check_shortest/list_members",
 }

@@ -1,6 +1,7 @@
 -- The loop keeps: those listed lead to where it stands, and the steps left lead to i.
 use Prim.Native.Nat.{_-_}
 use native.Mathlib.Omega.{arith}
+use borrow.Author.Needs.{needs}
 use Rattle.check_graph.specs.Sets.{bytesOf}
 use Rattle.check_distance.proofs.LayerLaws.{lowest-onward}
 use Rattle.check_distance.proofs.WalkLaws.{Going, going-start, going-turn, going-end}
@@ -13,31 +14,32 @@ Inv-loop rows levels i r n list₀ at₀ t₀ list at t = Going (bytesOf rows) n
 abbrev μ-loop : tie.MeasureT-loop
 μ-loop rows levels i r n list₀ at₀ t₀ list at t = r - t
 
+-- back from the loop's head to the entry
+abbrev entry-at : tie.At-loop Inv-loop μ-loop → tie.Start Inv-loop μ-loop
+entry-at c = c .before .before .before .before
+
+loop-holds : tie.Need-loop-holds Inv-loop μ-loop
+loop-holds c = let p = c .before .before .before .pre in going-start _ _ _ _ _ (p .0 .2) (p .1 .2)
+
 loop-again : tie.Need-loop-again Inv-loop μ-loop
 loop-again c =
-    let p = c .before .before .before .before .before .before .before .before .pre in
-    let g = c .before .before .before .before .loop .inv in
-    going-turn _ _ _ _ _ g (p .0 .5) (p .0 .3) (p .0 .4) (p .1 .1) (c .before .before .before .loop-test .taken)
-    (lowest-onward _ _ (p .0 .3) _ _ (g .here) (c .first-shared .ensures))
+    let turn = c .before .before .before in
+    let p = entry-at (turn .before) .pre in
+    let going = turn .before .loop .inv in
+    going-turn _ _ _ _ _ going (p .0 .5) (p .0 .3) (p .0 .4) (p .1 .1) (turn .loop-test .taken)
+    (lowest-onward _ _ (p .0 .3) _ _ (going .here) (c .first-shared .ensures))
+
+returns : tie.Need-returns Inv-loop μ-loop
+returns c = going-end _ _ _ _ _ (c .before .loop .inv) (entry-at (c .before) .pre .1 .0) (c .loop-test .left)
 
 pub walk-spec : {M : Type 1} → statement M
 walk-spec =
     tie.close
-    (tie.spec
-    Inv-loop
-    μ-loop
-    (λ c. let p = c .before .before .before .pre in going-start _ _ _ _ _ (p .0 .2) (p .1 .2))
+    (tie.spec Inv-loop μ-loop loop-holds
     (λ c. omega (arith, c .before .loop .inv .here))
     (λ c. omega (arith, c .before .loop .inv .long))
     (λ c. omega (arith, c .before .loop .inv .here))
     (λ c. omega (arith, c .before .before .loop .inv .here))
-    (λ c. omega arith)
-    (λ c. omega arith)
-    (λ c. omega arith)
-    (λ c. omega arith)
-    (λ c κs. omega arith)
-    (λ c. omega arith)
-    (λ c. omega arith)
-    loop-again
+    (search needs) (search needs) (search needs) (search needs) (search needs) (search needs) (search needs) loop-again
     (λ c. c .before .loop .inv .long)
-    (λ c. let p = c .before .before .before .before .before .pre in going-end _ _ _ _ _ (c .before .loop .inv) (p .1 .0) (c .loop-test .left)))
+    returns)
