@@ -254,9 +254,6 @@ NOT_YET_NAMED = {
     # the loops over recorded calls and steps, with two dozen places each
     "engine/replay",
     "engine/steps/steps_from",
-    # the search for a circle
-    "check_shortest/best_under",
-    "check_shortest/list_members",
 }
 
 
