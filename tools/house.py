@@ -249,8 +249,6 @@ MOST_POSITIONAL = 12
 MOST_BEFORE = 9
 # CRATE/FUNCTION whose proof still breaks one of these, and why; one that breaks none any more is taken off the list
 NOT_YET_NAMED = {
-    # nine arms of one shape with three short answers each: names would make it half as long again
-    "run_instruction/perform_on",
     # the loops over recorded calls and steps, with two dozen places each
     "engine/replay",
     "engine/steps/steps_from",
