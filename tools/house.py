@@ -251,7 +251,6 @@ MOST_BEFORE = 9
 NOT_YET_NAMED = {
     # the loops over recorded calls and steps, with two dozen places each
     "engine/replay",
-    "engine/steps/steps_from",
 }
 
 

@@ -13,26 +13,46 @@ Inv-loop table round₀ calls i n answers₀ at₀ pressed₀ round answers at p
 abbrev μ-loop : tie.MeasureT-loop
 μ-loop table round₀ calls i n answers₀ at₀ pressed₀ round answers at pressed = n - at
 
+-- back from the answer to be put to the step made, from there to the test of the call, and to the turn's start
+abbrev stepped-at : tie.After-put-answer-arg Inv-loop μ-loop → tie.After-step-on Inv-loop μ-loop
+stepped-at c = c .before .before .before
+
+abbrev tested-at : tie.After-step-on Inv-loop μ-loop → tie.Else1 Inv-loop μ-loop
+tested-at c = c .before .before
+
+abbrev turn-at : tie.Else1 Inv-loop μ-loop → tie.In-loop Inv-loop μ-loop
+turn-at c = c .before .before
+
+loop-holds : tie.Need-loop-holds Inv-loop μ-loop
+loop-holds c =
+    let p = c .before .before .before .before .before .before .pre in
+    first _ _ _ _ (p .1) (p .0) (c .is-outranked .ensures)
+
+step-on-requires : tie.Need-step-on-requires Inv-loop μ-loop
+step-on-requires c κs = let stepping = turn-at (c .before) .before .loop .inv in (stepping .sound, stepping .rank)
+
+put-answer-requires : tie.Need-put-answer-requires Inv-loop μ-loop
+put-answer-requires c κs =
+    let h = turn-at (tested-at (stepped-at c)) .before .loop .inv .made .as-long in omega arith
+
+loop-again : tie.Need-loop-again Inv-loop μ-loop
+loop-again c =
+    let stepped = stepped-at (c .before .before .before) in
+    let tested = tested-at stepped in
+    let turn = turn-at tested in
+    next-step (turn .before .loop .inv) (turn .loop-test .taken) (tested .if1 .left) (stepped .step-on .ensures .0)
+    (stepped .step-on .ensures .1) (c .before .before .put-answer .ensures) (search needs) (search needs)
+
 pub steps-from-spec : {M : Type 1} → statement M
 steps-from-spec =
     tie.close
-    (tie.spec
-    Inv-loop
-    μ-loop
+    (tie.spec Inv-loop μ-loop
     (λ c κs. c .before .before .before .before .before .pre .0)
-    (λ c. first _ _ _ _ (c .before .before .before .before .before .before .pre .1) (c .before .before .before .before .before .before .pre .0) (c .is-outranked .ensures))
-    (λ c. omega arith)
-    (λ c. omega arith)
+    loop-holds (search needs) (search needs)
     (λ c. c .before .before .before .loop .inv .made .round-long)
     (λ c. c .before .before .before .loop .inv .made .as-long)
     (λ c. c .before .before .before .loop .inv .made)
-    (λ c κs. (c .before .before .before .before .loop .inv .sound, c .before .before .before .before .loop .inv .rank))
-    (λ c κs. let h = c .before .before .before .before .before .before .before .before .loop .inv .made .as-long in omega arith)
-    (λ c. omega arith)
-    (λ c. omega arith)
-    (λ c.
-    next-step (c .before .before .before .before .before .before .before .before .before .before .before .loop .inv) (c .before .before .before .before .before .before .before .before .before .before .loop-test .taken) (c .before .before .before .before .before .before .before .before .if1 .left) (c .before .before .before .before .before .before .step-on .ensures .0) (c .before .before .before .before .before .before .step-on .ensures .1) (c .before .before .put-answer .ensures) (search needs)
-    (search needs))
+    step-on-requires put-answer-requires (search needs) (search needs) loop-again
     (λ c. c .before .loop .inv .made .round-long)
     (λ c. c .before .loop .inv .made .as-long)
     (λ c. c .before .loop .inv .made))
