@@ -247,11 +247,8 @@ def crates_without_a_line():
 LONGEST_PROOF_LINE = 400
 MOST_POSITIONAL = 12
 MOST_BEFORE = 9
-# CRATE/FUNCTION whose proof still breaks one of these, and why; one that breaks none any more is taken off the list
-NOT_YET_NAMED = {
-    # the loops over recorded calls and steps, with two dozen places each
-    "engine/replay",
-}
+# CRATE/FUNCTION whose proof still breaks one of these; one that breaks none any more is taken off the list
+NOT_YET_NAMED = set()
 
 
 def positional_answers(text):
