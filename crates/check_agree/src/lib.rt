@@ -22,9 +22,9 @@ const SECOND: u64 = 65536;
 
 const BEHAVIOUR: u64 = 16777216;
 // Where the draft has the priorities; the length of a buffer of a word for each event.
-const PRIORITIES: usize = 4224;
+const PRIORITIES: usize = layout::PRIORITIES;
 
-const EVENTS: usize = 32;
+const EVENTS: usize = spec_language::limits::EVENTS;
 
 // What one of two events writes and the other writes or names.
 fn clash_of(we: u64, ne: u64, wf: u64, nf: u64) -> u64

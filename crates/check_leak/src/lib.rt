@@ -23,11 +23,11 @@ const SEEN: u64 = 256;
 
 const HIDDEN: u64 = 65536;
 
-const NO_PLAYER: u64 = 24;
+const NO_PLAYER: u64 = spec_language::refusals::NO_PLAYER as u64;
 
-const LAST_PLAYER: u32 = 7;
+const LAST_PLAYER: u32 = spec_language::limits::PLAYERS - 1;
 // Where the draft has who may see each behaviour.
-const VIEWERS: usize = 4256;
+const VIEWERS: usize = layout::VIEWERS;
 
 // The names in behaviour i, its expression or its handlers for ev events.
 fn names_of(d: &[u64], ev: usize, i: usize, n: usize) -> u64

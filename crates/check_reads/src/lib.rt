@@ -12,31 +12,16 @@ ghost use Rattle.front_draft.specs.Entry.{entryKind, entryStart, entryCount};
 ghost use Rattle.check_graph.specs.Any.{anyBelow};
 ghost use Rattle.check_faults.specs.Checks.{RowsInside, AllInside};
 ghost use Rattle.check_reads.specs.Sets.{isName, namedAmong, writesOn, handlersName, passiveOn, closedBy, RowsBy, Passed, WritesIn, NamedIn};
-
-// A node is kind * 2 ^ 32 + word; a name's kind is the tag of its field.
-const WORD: u64 = 4294967296;
-
-const NAME: u64 = 0x11;
-// An entry is (count * 4096 + start) * 4 + kind, a handler's kind being 2 or 3.
-const KINDS: u64 = 4;
-
-const FIRSTS: u64 = 4096;
-
-const COUNTS: u64 = FIRSTS * KINDS;
-
-const PASSIVE: u64 = 1;
-
-const IMMEDIATE: u64 = 2;
-
-const BEHAVIOURS: usize = 64;
+use front_draft::layout;
+use spec_language::limits;
 
 // The set with the name that node x is.
 fn add_name(set: u64, x: u64) -> u64
     ensures { λ r. ⌜ ((j : ℕ) → j < 64 → bit r j ≡ bit set j || isName j x) ⌝ }
 {
-    if x / WORD == NAME {
-        let j = (x % WORD) as usize;
-        if j < BEHAVIOURS {
+    if x / layout::WORD == layout::NAME {
+        let j = (x % layout::WORD) as usize;
+        if j < limits::BEHAVIOURS {
             return lib_bits::insert(set, j);
         }
     }
@@ -48,8 +33,8 @@ pub fn names_in(d: &[u64], i: usize, v: u64) -> u64
     requires { ⌜ (length (now d) ≡ draftLength) × (i < 64) × (entryStart v + entryCount v ≤ 2048) ⌝ }
     ensures { λ r. ⌜ Gathers 64 r (λ j. namedAmong (usedBy (now (d .entry)) i) j (entryStart v) (entryCount v)) ⌝ }
 {
-    let start = (v / KINDS % FIRSTS) as usize;
-    let count = (v / COUNTS) as usize;
+    let start = (v / layout::KINDS % layout::FIRSTS) as usize;
+    let count = (v / layout::COUNTS) as usize;
     let mut set = 0;
     let mut k = 0;
     while k < count {
@@ -64,7 +49,7 @@ fn add_writer(set: u64, i: usize, v: u64) -> u64
     requires { ⌜ i < 64 ⌝ }
     ensures { λ r. ⌜ ((j : ℕ) → bit r j ≡ bit set j || (leb 2 (entryKind v) && eqb j i)) ⌝ }
 {
-    if IMMEDIATE <= v % KINDS {
+    if layout::IMMEDIATE <= v % layout::KINDS {
         return lib_bits::insert(set, i);
     }
     set
@@ -89,7 +74,7 @@ fn add_names(d: &[u64], set: u64, i: usize, v: u64) -> u64
     requires { ⌜ (length (now d) ≡ draftLength) × (i < 64) × (entryStart v + entryCount v ≤ 2048) ⌝ }
     ensures { λ r. ⌜ Gathers 64 r (λ j. bit set j || (leb 2 (entryKind v) && namedAmong (usedBy (now (d .entry)) i) j (entryStart v) (entryCount v))) ⌝ }
 {
-    if v % KINDS >= IMMEDIATE {
+    if v % layout::KINDS >= layout::IMMEDIATE {
         return lib_bits::union_of(set, names_in(d, i, v));
     }
     set
@@ -114,7 +99,7 @@ fn passive_names(d: &[u64], i: usize, v: u64) -> u64
     requires { ⌜ (length (now d) ≡ draftLength) × (i < 64) × (entryStart v + entryCount v ≤ 2048) ⌝ }
     ensures { λ r. ⌜ Gathers 64 r (λ j. eqb (entryKind v) 1 && namedAmong (usedBy (now (d .entry)) i) j (entryStart v) (entryCount v)) ⌝ }
 {
-    if v % KINDS == PASSIVE {
+    if v % layout::KINDS == layout::PASSIVE {
         return names_in(d, i, v);
     }
     0
@@ -219,7 +204,7 @@ pub fn fill_named(d: &[u64], ev: usize, n: usize, named: &mut [u64])
     requires { ⌜ (length (now d) ≡ draftLength) × (length (now named) ≡ 32) × (ev ≤ 32) × (n ≤ 64) × AllInside (now d) ev n ⌝ }
     ensures { λ _. ⌜ NamedIn (now (d .entry)) ev n (now (named .exit)) ⌝ }
 {
-    let mut rows = [0u64; BEHAVIOURS];
+    let mut rows = [0u64; limits::BEHAVIOURS];
     passive_rows(d, ev, n, &mut rows);
     fill_names(d, ev, n, &rows, named);
 }

@@ -11,7 +11,7 @@ ghost use Rattle.check_shortest.specs.Search.{backOn, eventOfTurn, bestO
 // How the steps from a behaviour back to itself are packed with the event's turn and the behaviour: both are below 64.
 const TURNS: usize = 64;
 
-const BEHAVIOURS: usize = 64;
+const BEHAVIOURS: usize = spec_language::limits::BEHAVIOURS;
 // Above every packed number.
 const BEYOND: usize = 300000;
 // An answer: the refusal, the event times EVENT, NO_EVENT for none, and how many members times COUNT.

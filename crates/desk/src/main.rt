@@ -16,7 +16,7 @@ const BOARD_LINE_BYTES: usize = 2048;
 const BEHAVIOURS: u32 = spec_language::limits::BEHAVIOURS as u32;
 
 // A value of the board is answered with 2^32 more.
-const ACCEPTED: u64 = 4294967296;
+const ACCEPTED: u64 = spec_language::answers::VALUE;
 
 const SETTLING: u64 = spec_language::refusals::SETTLING as u64;
 

@@ -1,5 +1,6 @@
 // The desk program's format: how its fields are judged, and the lines that it prints. 01 "The desk program". Tags are
 // 20 to 23 in hexadecimal, 32 to 35 in decimal.
+use spec_language::answers;
 use spec_language::refusals;
 ghost use mathlib.Core.Path.{_≡_};
 ghost use mathlib.Core.List.{_++_, _∷_};
@@ -21,13 +22,13 @@ const FOREIGN: u8 = refusals::FOREIGN as u8;
 const FOREIGN_STEP: u64 = refusals::FOREIGN as u64;
 
 // A step's answer: its kind, then from these factors on the event and the arrival's number, with so many of each.
-const KINDS: u64 = 16;
+const KINDS: u64 = answers::PLAYER;
 
-const EVENT: u64 = 256;
+const EVENT: u64 = answers::EVENT;
 
 const EVENTS: u64 = 256;
 
-const NUMBER: u64 = 65536;
+const NUMBER: u64 = answers::ARRIVAL;
 
 const NUMBERS: u64 = 1099511627776;
 

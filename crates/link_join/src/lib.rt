@@ -13,7 +13,7 @@ ghost use Rattle.link_join.specs.Join.{joined, deliveredIn, resultOn, po
 const JOINED_BYTES: usize = limits::SHEET_BYTES * 2 + limits::EVENTS * 5;
 
 // What is added to its length, so that it is told from a refusal.
-const ACCEPTED: u64 = 4294967296;
+const ACCEPTED: u64 = spec_language::answers::VALUE;
 
 const UNLIKE_RANKS: u64 = refusals::UNLIKE_RANKS as u64;
 

@@ -14,7 +14,7 @@ ghost use Rattle.run_burst.specs.Sound.{RoundSound, higherWaits, pressed
 ghost use Rattle.run_burst.specs.Burst.{isCommit, unmade, stops, performed, performOn, performAt, burst, burstOn};
 
 // The kinds of a step's answer.
-const KINDS: u64 = 16;
+const KINDS: u64 = spec_language::answers::PLAYER;
 
 const FOREIGN: u64 = spec_language::refusals::FOREIGN as u64;
 

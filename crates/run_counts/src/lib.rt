@@ -9,7 +9,7 @@ pub const LAYOUT: u32 = 1;
 // The layouts that a version of the calls has room for: its number stands above the layout's.
 const LAYOUTS: u32 = 65536;
 // What stands above a number that is told, so that it is no refusal's.
-const TOLD: u64 = 4294967296;
+const TOLD: u64 = spec_language::answers::VALUE;
 
 const FOREIGN: u64 = spec_language::refusals::FOREIGN as u64;
 

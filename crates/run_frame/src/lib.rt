@@ -23,7 +23,7 @@ const MOST_COMMITS: usize = 16777215;
 
 const COMMIT_BYTES: usize = run_answers::ANSWER_BYTES;
 // The kinds of a step's answer.
-const KINDS: u64 = 16;
+const KINDS: u64 = spec_language::answers::PLAYER;
 
 const FOREIGN: u64 = spec_language::refusals::FOREIGN as u64;
 
