@@ -1,5 +1,5 @@
--- What is promised of texts holds: each part is a theorem of text_sheet; compile's answer from the verdict's branches,
--- the reading and the names being settled.
+-- What is promised of texts holds: each part is a theorem of source_language; compile's answer from the verdict's
+-- branches, the reading and the names being settled.
 use Prim.Native.Nat.{ℕ, _≤_}
 use mathlib.Core.Bool.{Bool, true, false}
 use mathlib.Core.Path.{_≡_, refl, sym, _∙_}
@@ -15,13 +15,13 @@ use Rattle.spec_grammar.proofs.Programs.{reads-back}
 use Rattle.check_faults.proofs.CycleDecides.{known-decides}
 use Rattle.back_compile.specs.Verdict.{Compiled, programOf, judge, compileOn}
 use Rattle.lib_word.specs.Word.{get}
-use Rattle.text_sheet.specs.Answer.{TextMeans}
-use Rattle.text_describe.specs.Describe.{described}
-use Rattle.text_sheet.specs.Scanner.{scanText}
-use Rattle.text_sheet.proofs.Scans.{scanned, scan-is}
-use Rattle.text_sheet.proofs.Unique.{says-one}
-use Rattle.text_sheet.proofs.Answers as answers
-use Rattle.text_describe.proofs.RoundTrip.{round-trip}
+use Rattle.source_language.specs.Answer.{TextMeans}
+use Rattle.source_rendering.specs.Describe.{described}
+use Rattle.source_language.specs.Scanner.{scanText}
+use Rattle.source_language.proofs.Scans.{scanned, scan-is}
+use Rattle.source_language.proofs.Unique.{says-one}
+use Rattle.source_language.proofs.Answers as answers
+use Rattle.source_rendering.proofs.RoundTrip.{round-trip}
 use Rattle.claims.specs.Texts.{leftToJudge, Texts}
 
 -- a branch's first part

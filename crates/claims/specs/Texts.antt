@@ -1,5 +1,5 @@
 -- A sheet as its setter writes it (docs/SHEETS.md): each sentence that is promised of texts, and the part that states
--- it, of grammar, limits and meaning as text_sheet defines them apart from its reader, and of `assembleOn`.
+-- it, of grammar, limits and meaning as source_language defines them apart from its reader, and of `assembleOn`.
 use Prim.Native.Nat.{ℕ, _≤_, _<_}
 use mathlib.Core.Path.{_≡_}
 use mathlib.Core.List.{List, [], _∷_, _++_}
@@ -12,13 +12,13 @@ use Rattle.spec_language.specs.Accepted.{SheetAccepted}
 use Rattle.spec_language.specs.Code.{allInstructions}
 use Rattle.check_faults.specs.Faults.{cyclic}
 use Rattle.back_compile.specs.Verdict.{programOf, lacksParameters, compileOn}
-use Rattle.text_sheet.specs.Tokens.{SheetToken, TokensOfText}
-use Rattle.text_sheet.specs.Text.{Text}
-use Rattle.text_sheet.specs.Faults.{Kind, longText, longSheet, shortBuffer}
-use Rattle.text_sheet.specs.Grammar.{TextSays}
-use Rattle.text_sheet.specs.Renaming.{KeepsApart, textAs}
-use Rattle.text_describe.specs.Describe.{described}
-use Rattle.text_sheet.specs.Answer.{written, turnedDown, assembleOn, TextMeans, refusedAt, SheetWritten}
+use Rattle.source_language.specs.Tokens.{SheetToken, TokensOfText}
+use Rattle.source_language.specs.Text.{Text}
+use Rattle.source_language.specs.Faults.{Kind, longText, longSheet, shortBuffer}
+use Rattle.source_language.specs.Grammar.{TextSays}
+use Rattle.source_language.specs.Renaming.{KeepsApart, textAs}
+use Rattle.source_rendering.specs.Describe.{described}
+use Rattle.source_language.specs.Answer.{written, turnedDown, assembleOn, TextMeans, refusedAt, SheetWritten}
 use Rattle.claims.specs.Demand1.{firstThat}
 
 -- compile's answer for a sheet of which only the length, the parameters lent, circles and instructions are left to
