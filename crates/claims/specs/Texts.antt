@@ -44,12 +44,12 @@ pub record Texts : Type 0 where
   pub no-other : (bytes buffer : List ℕ) (n : ℕ) → assembleOn bytes buffer .0 ≡ written n → SheetWritten bytes buffer n
   -- "or a refusal .., nothing changed"
   pub unchanged : (bytes buffer : List ℕ) (k : Kind) (l c : ℕ) → assembleOn bytes buffer .0 ≡ turnedDown k l c → assembleOn bytes buffer .1 ≡ buffer
-  -- "A text has at most 65,536 bytes; a longer one is turned down before anything else." "Then a sheet over 8,192
-  -- bytes; last a buffer that is too short."
-  pub long-text : (bytes buffer : List ℕ) → 65536 < length bytes → assembleOn bytes buffer ≡ refusedAt longText bytes buffer
-  pub long-sheet : (bytes buffer : List ℕ) (s : Sheet) → TextMeans bytes s → 8192 < length (encode s) → assembleOn bytes buffer ≡ refusedAt longSheet bytes buffer
+  -- "A text has at most 65,536 bytes; a longer one is turned down before anything else", at the first byte that is too
+  -- many. "Then a sheet over 8,192 bytes; last a buffer that is too short", at the end of the text
+  pub long-text : (bytes buffer : List ℕ) → 65536 < length bytes → assembleOn bytes buffer ≡ refusedAt longText 65536 bytes buffer
+  pub long-sheet : (bytes buffer : List ℕ) (s : Sheet) → TextMeans bytes s → 8192 < length (encode s) → assembleOn bytes buffer ≡ refusedAt longSheet (length bytes) bytes buffer
   pub short-buffer : (bytes buffer : List ℕ) (s : Sheet) → TextMeans bytes s → length (encode s) ≤ 8192 → length buffer < length (encode s)
-      → assembleOn bytes buffer ≡ refusedAt shortBuffer bytes buffer
+      → assembleOn bytes buffer ≡ refusedAt shortBuffer (length bytes) bytes buffer
   -- "what assemble writes is accepted by compile but for 12, 13 and 3, and means what the text says": it is within the
   -- grammar and the limits, and its names are known; 20 where too few parameters are lent
   pub fits : (bytes : List ℕ) (s : Sheet) → TextMeans bytes s → length (encode s) ≤ 8192 → SheetFits s

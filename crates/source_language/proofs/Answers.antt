@@ -40,17 +40,17 @@ unfolding assembleOn
 within bytes buffer s m h r =
     rw (judged bytes s (length buffer) m, le-ltb 8192 (length (encode s)) h, le-ltb (length buffer) (length (encode s)) r)
 
-pub too-long-sheet : (bytes buffer : List ℕ) (s : Sheet) → TextMeans bytes s → 8192 < length (encode s) → assembleOn bytes buffer ≡ refusedAt longSheet bytes buffer
+pub too-long-sheet : (bytes buffer : List ℕ) (s : Sheet) → TextMeans bytes s → 8192 < length (encode s) → assembleOn bytes buffer ≡ refusedAt longSheet (length bytes) bytes buffer
 unfolding assembleOn
 too-long-sheet bytes buffer s m h = rw (judged bytes s (length buffer) m, lt-ltb 8192 (length (encode s)) h)
 
 pub too-short : (bytes buffer : List ℕ) (s : Sheet) → TextMeans bytes s → length (encode s) ≤ 8192 → length buffer < length (encode s)
-    → assembleOn bytes buffer ≡ refusedAt shortBuffer bytes buffer
+    → assembleOn bytes buffer ≡ refusedAt shortBuffer (length bytes) bytes buffer
 unfolding assembleOn
 too-short bytes buffer s m h r =
     rw (judged bytes s (length buffer) m, le-ltb 8192 (length (encode s)) h, lt-ltb (length buffer) (length (encode s)) r)
 
-pub too-long-text : (bytes buffer : List ℕ) → 65536 < length bytes → assembleOn bytes buffer ≡ refusedAt longText bytes buffer
+pub too-long-text : (bytes buffer : List ℕ) → 65536 < length bytes → assembleOn bytes buffer ≡ refusedAt longText 65536 bytes buffer
 unfolding assembleOn assembled
 too-long-text bytes buffer h = rw (lt-ltb 65536 (length bytes) h)
 

@@ -12,7 +12,7 @@ use Rattle.source_language.specs.Faults.{fine, fault, outside, tooLarge,
 use Rattle.source_language.specs.Limits.{among, phraseNesting, afterAll}
 use Rattle.source_language.specs.Meaning.{amongPlayers, bitsBelow, behaviourNamed, meaningOfName, eventNamed, termOf, clausesOf, entriesOf, sheetOf}
 use Rattle.source_language.specs.Scanner.{runOfKind, beyondRun, firstInText, scannedTokens}
-use Rattle.source_language.specs.Reader.{pastSign, valueOf, signChain, phraseTower, cellOf, readConstant, readBracketed, readChoice, signedOf, operandWithin, morePlayers, fromOf, seenOf, manyOf, defaultOf, parameterOf, eventDeclared, reactionOf, passiveDeclared, stateOf, rowDeclared, behaviourDeclared, behaviourBegins, declarationsOf, readText}
+use Rattle.source_language.specs.Reader.{pastSign, valueOf, afterOperand, cellOf, readConstant, readNegation, readChoice, signedOf, fromOperand, phraseWithin, morePlayers, fromOf, seenOf, manyOf, defaultOf, parameterOf, eventDeclared, reactionOf, passiveDeclared, stateOf, rowDeclared, behaviourDeclared, behaviourBegins, declarationsOf, readText}
 use Rattle.source_language.specs.Answer.{lineFrom, columnFrom, assembled, turnedDown, assembleOn}
 
 -- the sheet of docs/SHEETS.md
@@ -100,7 +100,7 @@ pub lamps-assembled : assembled lamps 8192 ≡ fine (
     5 ∷ 16 ∷ 0 ∷ 4 ∷ 0 ∷ 0 ∷ 0 ∷ 0 ∷ 17 ∷ 0 ∷ 1 ∷ 4 ∷ 2 ∷ 0 ∷ 12 ∷ 18 ∷ 0 ∷ 9 ∷ 4 ∷ 17 ∷ 0 ∷ 1 ∷ 4 ∷ 17 ∷ 0 ∷
     1 ∷ 15 ∷ 2 ∷ 0 ∷ 19 ∷ 18 ∷ 0 ∷ 16 ∷ 14 ∷ 17 ∷ 0 ∷ 1 ∷ 0 ∷ 17 ∷ 0 ∷ 1 ∷ 1 ∷ 16 ∷ 0 ∷ 4 ∷ 255 ∷ 255 ∷ 255 ∷
     255 ∷ [])
-unfolding marks reserved same signOf isDigit isLetter inWord isBlank inComment decimalValue level runOfKind beyondRun firstInText scannedTokens among phraseNesting afterAll amongPlayers bitsBelow behaviourNamed meaningOfName eventNamed termOf clausesOf entriesOf sheetOf pastSign valueOf signChain phraseTower cellOf readConstant readBracketed readChoice signedOf operandWithin morePlayers fromOf seenOf manyOf defaultOf parameterOf eventDeclared reactionOf passiveDeclared stateOf rowDeclared behaviourDeclared behaviourBegins declarationsOf readText assembled encode encodeEvents encodeBehaviours encodeHandlers encodeExpr
+unfolding marks reserved same signOf isDigit isLetter inWord isBlank inComment decimalValue level runOfKind beyondRun firstInText scannedTokens among phraseNesting afterAll amongPlayers bitsBelow behaviourNamed meaningOfName eventNamed termOf clausesOf entriesOf sheetOf pastSign valueOf afterOperand cellOf readConstant readNegation readChoice signedOf fromOperand phraseWithin morePlayers fromOf seenOf manyOf defaultOf parameterOf eventDeclared reactionOf passiveDeclared stateOf rowDeclared behaviourDeclared behaviourBegins declarationsOf readText assembled encode encodeEvents encodeBehaviours encodeHandlers encodeExpr
 lamps-assembled = refl
 
 -- sheet S of 01 "Rounds to check"
@@ -124,7 +124,7 @@ pub S-assembled : assembled sheet-S 74 ≡ fine (
     1 ∷ 0 ∷ 1 ∷ 1 ∷ 1 ∷ 0 ∷ 1 ∷ 2 ∷ 3 ∷ 0 ∷ 24 ∷ 4 ∷ 0 ∷ 4 ∷ 0 ∷ 0 ∷ 0 ∷ 1 ∷ 5 ∷ 0 ∷ 14 ∷ 0 ∷ 0 ∷ 18 ∷ 0 ∷
     9 ∷ 4 ∷ 17 ∷ 0 ∷ 1 ∷ 0 ∷ 17 ∷ 0 ∷ 1 ∷ 1 ∷ 3 ∷ 0 ∷ 36 ∷ 4 ∷ 0 ∷ 4 ∷ 0 ∷ 0 ∷ 0 ∷ 1 ∷ 5 ∷ 0 ∷ 14 ∷ 0 ∷ 1 ∷
     18 ∷ 0 ∷ 9 ∷ 5 ∷ 17 ∷ 0 ∷ 1 ∷ 0 ∷ 17 ∷ 0 ∷ 1 ∷ 1 ∷ 5 ∷ 0 ∷ 9 ∷ 1 ∷ 0 ∷ 16 ∷ 0 ∷ 4 ∷ 0 ∷ 0 ∷ 0 ∷ 1 ∷ [])
-unfolding marks reserved same signOf isDigit isLetter inWord isBlank inComment decimalValue level runOfKind beyondRun firstInText scannedTokens among phraseNesting afterAll amongPlayers bitsBelow behaviourNamed meaningOfName eventNamed termOf clausesOf entriesOf sheetOf pastSign valueOf signChain phraseTower cellOf readConstant readBracketed readChoice signedOf operandWithin morePlayers fromOf seenOf manyOf defaultOf parameterOf eventDeclared reactionOf passiveDeclared stateOf rowDeclared behaviourDeclared behaviourBegins declarationsOf readText assembled encode encodeEvents encodeBehaviours encodeHandlers encodeExpr
+unfolding marks reserved same signOf isDigit isLetter inWord isBlank inComment decimalValue level runOfKind beyondRun firstInText scannedTokens among phraseNesting afterAll amongPlayers bitsBelow behaviourNamed meaningOfName eventNamed termOf clausesOf entriesOf sheetOf pastSign valueOf afterOperand cellOf readConstant readNegation readChoice signedOf fromOperand phraseWithin morePlayers fromOf seenOf manyOf defaultOf parameterOf eventDeclared reactionOf passiveDeclared stateOf rowDeclared behaviourDeclared behaviourBegins declarationsOf readText assembled encode encodeEvents encodeBehaviours encodeHandlers encodeExpr
 S-assembled = refl
 
 -- the empty text is the rest day's sheet, and so is a comment that the text ends in
@@ -132,7 +132,7 @@ S-assembled = refl
 --   # a \x00ÿ
 pub empty : (assembled [] 8192 ≡ fine [])
     × (assembled (35 ∷ 32 ∷ 97 ∷ 32 ∷ 0 ∷ 255 ∷ []) 8192 ≡ fine [])
-unfolding marks reserved same signOf isDigit isLetter inWord isBlank inComment decimalValue level runOfKind beyondRun firstInText scannedTokens among phraseNesting afterAll amongPlayers bitsBelow behaviourNamed meaningOfName eventNamed termOf clausesOf entriesOf sheetOf pastSign valueOf signChain phraseTower cellOf readConstant readBracketed readChoice signedOf operandWithin morePlayers fromOf seenOf manyOf defaultOf parameterOf eventDeclared reactionOf passiveDeclared stateOf rowDeclared behaviourDeclared behaviourBegins declarationsOf readText assembled encode encodeEvents encodeBehaviours encodeHandlers encodeExpr
+unfolding marks reserved same signOf isDigit isLetter inWord isBlank inComment decimalValue level runOfKind beyondRun firstInText scannedTokens among phraseNesting afterAll amongPlayers bitsBelow behaviourNamed meaningOfName eventNamed termOf clausesOf entriesOf sheetOf pastSign valueOf afterOperand cellOf readConstant readNegation readChoice signedOf fromOperand phraseWithin morePlayers fromOf seenOf manyOf defaultOf parameterOf eventDeclared reactionOf passiveDeclared stateOf rowDeclared behaviourDeclared behaviourBegins declarationsOf readText assembled encode encodeEvents encodeBehaviours encodeHandlers encodeExpr
 empty = (refl, refl)
 
 -- precedence and grouping; a negative constant where an operand is due, else `-` is two-sided
@@ -155,7 +155,7 @@ pub tightness : (assembled (112 ∷ 97 ∷ 115 ∷ 115 ∷ 105 ∷ 118 ∷ 101 �
     × (assembled (112 ∷ 97 ∷ 115 ∷ 115 ∷ 105 ∷ 118 ∷ 101 ∷ 32 ∷ 97 ∷ 61 ∷ 50 ∷ 49 ∷ 52 ∷ 55 ∷ 52 ∷ 56 ∷ 51 ∷ 54 ∷ 52 ∷ 55 ∷ 45 ∷ 49 ∷ 62 ∷ 61 ∷ 45 ∷ 50 ∷ 49 ∷ 52 ∷ 55 ∷ 52 ∷ 56 ∷ 51 ∷ 54 ∷ 52 ∷ 56 ∷ []) 8192 ≡ fine (
     2 ∷ 0 ∷ 29 ∷ 18 ∷ 0 ∷ 26 ∷ 9 ∷ 18 ∷ 0 ∷ 15 ∷ 5 ∷ 16 ∷ 0 ∷ 4 ∷ 127 ∷ 255 ∷ 255 ∷ 255 ∷ 16 ∷ 0 ∷ 4 ∷ 0 ∷
     0 ∷ 0 ∷ 1 ∷ 16 ∷ 0 ∷ 4 ∷ 128 ∷ 0 ∷ 0 ∷ 0 ∷ []))
-unfolding marks reserved same signOf isDigit isLetter inWord isBlank inComment decimalValue level runOfKind beyondRun firstInText scannedTokens among phraseNesting afterAll amongPlayers bitsBelow behaviourNamed meaningOfName eventNamed termOf clausesOf entriesOf sheetOf pastSign valueOf signChain phraseTower cellOf readConstant readBracketed readChoice signedOf operandWithin morePlayers fromOf seenOf manyOf defaultOf parameterOf eventDeclared reactionOf passiveDeclared stateOf rowDeclared behaviourDeclared behaviourBegins declarationsOf readText assembled encode encodeEvents encodeBehaviours encodeHandlers encodeExpr
+unfolding marks reserved same signOf isDigit isLetter inWord isBlank inComment decimalValue level runOfKind beyondRun firstInText scannedTokens among phraseNesting afterAll amongPlayers bitsBelow behaviourNamed meaningOfName eventNamed termOf clausesOf entriesOf sheetOf pastSign valueOf afterOperand cellOf readConstant readNegation readChoice signedOf fromOperand phraseWithin morePlayers fromOf seenOf manyOf defaultOf parameterOf eventDeclared reactionOf passiveDeclared stateOf rowDeclared behaviourDeclared behaviourBegins declarationsOf readText assembled encode encodeEvents encodeBehaviours encodeHandlers encodeExpr
 tightness = (refl, refl, refl, refl, refl)
 
 -- the bits of the players named, `nobody` none, nothing said no byte
@@ -168,7 +168,7 @@ pub players : (assembled (101 ∷ 118 ∷ 101 ∷ 110 ∷ 116 ∷ 32 ∷ 101 ∷
     1 ∷ 0 ∷ 2 ∷ 15 ∷ 0 ∷ []))
     × (assembled (112 ∷ 97 ∷ 115 ∷ 115 ∷ 105 ∷ 118 ∷ 101 ∷ 32 ∷ 97 ∷ 61 ∷ 49 ∷ 32 ∷ 115 ∷ 101 ∷ 101 ∷ 110 ∷ 32 ∷ 98 ∷ 121 ∷ 32 ∷ 49 ∷ 32 ∷ 48 ∷ []) 8192 ≡ fine (
     2 ∷ 0 ∷ 11 ∷ 16 ∷ 0 ∷ 4 ∷ 0 ∷ 0 ∷ 0 ∷ 1 ∷ 8 ∷ 0 ∷ 1 ∷ 3 ∷ []))
-unfolding marks reserved same signOf isDigit isLetter inWord isBlank inComment decimalValue level runOfKind beyondRun firstInText scannedTokens among phraseNesting afterAll amongPlayers bitsBelow behaviourNamed meaningOfName eventNamed termOf clausesOf entriesOf sheetOf pastSign valueOf signChain phraseTower cellOf readConstant readBracketed readChoice signedOf operandWithin morePlayers fromOf seenOf manyOf defaultOf parameterOf eventDeclared reactionOf passiveDeclared stateOf rowDeclared behaviourDeclared behaviourBegins declarationsOf readText assembled encode encodeEvents encodeBehaviours encodeHandlers encodeExpr
+unfolding marks reserved same signOf isDigit isLetter inWord isBlank inComment decimalValue level runOfKind beyondRun firstInText scannedTokens among phraseNesting afterAll amongPlayers bitsBelow behaviourNamed meaningOfName eventNamed termOf clausesOf entriesOf sheetOf pastSign valueOf afterOperand cellOf readConstant readNegation readChoice signedOf fromOperand phraseWithin morePlayers fromOf seenOf manyOf defaultOf parameterOf eventDeclared reactionOf passiveDeclared stateOf rowDeclared behaviourDeclared behaviourBegins declarationsOf readText assembled encode encodeEvents encodeBehaviours encodeHandlers encodeExpr
 players = (refl, refl, refl)
 
 -- cells of rows, before they are declared; in a row's handler the bare name, and cell 0 of a row of another count
@@ -181,7 +181,7 @@ pub cells : (assembled (112 ∷ 97 ∷ 115 ∷ 115 ∷ 105 ∷ 118 ∷ 101 ∷ 3
     1 ∷ 0 ∷ 1 ∷ 1 ∷ 6 ∷ 0 ∷ 33 ∷ 2 ∷ 4 ∷ 0 ∷ 4 ∷ 0 ∷ 0 ∷ 0 ∷ 0 ∷ 5 ∷ 0 ∷ 22 ∷ 0 ∷ 0 ∷ 18 ∷ 0 ∷ 17 ∷ 4 ∷ 18 ∷
     0 ∷ 9 ∷ 4 ∷ 17 ∷ 0 ∷ 1 ∷ 0 ∷ 17 ∷ 0 ∷ 1 ∷ 1 ∷ 17 ∷ 0 ∷ 1 ∷ 2 ∷ 6 ∷ 0 ∷ 8 ∷ 3 ∷ 4 ∷ 0 ∷ 4 ∷ 0 ∷ 0 ∷ 0 ∷
     0 ∷ []))
-unfolding marks reserved same signOf isDigit isLetter inWord isBlank inComment decimalValue level runOfKind beyondRun firstInText scannedTokens among phraseNesting afterAll amongPlayers bitsBelow behaviourNamed meaningOfName eventNamed termOf clausesOf entriesOf sheetOf pastSign valueOf signChain phraseTower cellOf readConstant readBracketed readChoice signedOf operandWithin morePlayers fromOf seenOf manyOf defaultOf parameterOf eventDeclared reactionOf passiveDeclared stateOf rowDeclared behaviourDeclared behaviourBegins declarationsOf readText assembled encode encodeEvents encodeBehaviours encodeHandlers encodeExpr
+unfolding marks reserved same signOf isDigit isLetter inWord isBlank inComment decimalValue level runOfKind beyondRun firstInText scannedTokens among phraseNesting afterAll amongPlayers bitsBelow behaviourNamed meaningOfName eventNamed termOf clausesOf entriesOf sheetOf pastSign valueOf afterOperand cellOf readConstant readNegation readChoice signedOf fromOperand phraseWithin morePlayers fromOf seenOf manyOf defaultOf parameterOf eventDeclared reactionOf passiveDeclared stateOf rowDeclared behaviourDeclared behaviourBegins declarationsOf readText assembled encode encodeEvents encodeBehaviours encodeHandlers encodeExpr
 cells = (refl, refl)
 
 -- outside the grammar: a byte, a name of 33 bytes, a token that cannot follow, the end of the text
@@ -201,7 +201,7 @@ pub outside-the-grammar : (assembled (112 ∷ 97 ∷ 114 ∷ 97 ∷ 109 ∷ 32 �
     × (assembled (112 ∷ 97 ∷ 115 ∷ 115 ∷ 105 ∷ 118 ∷ 101 ∷ 32 ∷ 97 ∷ 61 ∷ 105 ∷ 102 ∷ 40 ∷ 49 ∷ 44 ∷ 50 ∷ []) 8192 ≡ fault outside 16)
     × (assembled (97 ∷ 99 ∷ 116 ∷ 105 ∷ 118 ∷ 101 ∷ 32 ∷ 111 ∷ 110 ∷ 61 ∷ 49 ∷ []) 8192 ≡ fault outside 7)
     × (assembled (112 ∷ 97 ∷ 115 ∷ 115 ∷ 105 ∷ 118 ∷ 101 ∷ 32 ∷ 97 ∷ 61 ∷ 49 ∷ 60 ∷ 61 ∷ 128 ∷ []) 8192 ≡ fault outside 13)
-unfolding marks reserved same signOf isDigit isLetter inWord isBlank inComment decimalValue level runOfKind beyondRun firstInText scannedTokens among phraseNesting afterAll amongPlayers bitsBelow behaviourNamed meaningOfName eventNamed termOf clausesOf entriesOf sheetOf pastSign valueOf signChain phraseTower cellOf readConstant readBracketed readChoice signedOf operandWithin morePlayers fromOf seenOf manyOf defaultOf parameterOf eventDeclared reactionOf passiveDeclared stateOf rowDeclared behaviourDeclared behaviourBegins declarationsOf readText assembled encode encodeEvents encodeBehaviours encodeHandlers encodeExpr
+unfolding marks reserved same signOf isDigit isLetter inWord isBlank inComment decimalValue level runOfKind beyondRun firstInText scannedTokens among phraseNesting afterAll amongPlayers bitsBelow behaviourNamed meaningOfName eventNamed termOf clausesOf entriesOf sheetOf pastSign valueOf afterOperand cellOf readConstant readNegation readChoice signedOf fromOperand phraseWithin morePlayers fromOf seenOf manyOf defaultOf parameterOf eventDeclared reactionOf passiveDeclared stateOf rowDeclared behaviourDeclared behaviourBegins declarationsOf readText assembled encode encodeEvents encodeBehaviours encodeHandlers encodeExpr
 outside-the-grammar = (refl, refl, refl, refl, refl, refl, refl, refl)
 
 -- a number over 2,147,483,647, and one more after a `-` that makes a constant; also as a rank, a count, a cell
@@ -217,7 +217,7 @@ pub too-large : (assembled (112 ∷ 97 ∷ 114 ∷ 97 ∷ 109 ∷ 32 ∷ 97 ∷ 
     × (assembled (101 ∷ 118 ∷ 101 ∷ 110 ∷ 116 ∷ 32 ∷ 101 ∷ 32 ∷ 114 ∷ 97 ∷ 110 ∷ 107 ∷ 32 ∷ 50 ∷ 49 ∷ 52 ∷ 55 ∷ 52 ∷ 56 ∷ 51 ∷ 54 ∷ 52 ∷ 56 ∷ []) 8192 ≡ fault tooLarge 13)
     × (assembled (114 ∷ 111 ∷ 119 ∷ 32 ∷ 114 ∷ 91 ∷ 52 ∷ 50 ∷ 57 ∷ 52 ∷ 57 ∷ 54 ∷ 55 ∷ 50 ∷ 57 ∷ 56 ∷ 93 ∷ 61 ∷ 48 ∷ []) 8192 ≡ fault tooLarge 6)
     × (assembled (112 ∷ 97 ∷ 115 ∷ 115 ∷ 105 ∷ 118 ∷ 101 ∷ 32 ∷ 97 ∷ 61 ∷ 98 ∷ 91 ∷ 50 ∷ 49 ∷ 52 ∷ 55 ∷ 52 ∷ 56 ∷ 51 ∷ 54 ∷ 52 ∷ 56 ∷ 93 ∷ []) 8192 ≡ fault tooLarge 12)
-unfolding marks reserved same signOf isDigit isLetter inWord isBlank inComment decimalValue level runOfKind beyondRun firstInText scannedTokens among phraseNesting afterAll amongPlayers bitsBelow behaviourNamed meaningOfName eventNamed termOf clausesOf entriesOf sheetOf pastSign valueOf signChain phraseTower cellOf readConstant readBracketed readChoice signedOf operandWithin morePlayers fromOf seenOf manyOf defaultOf parameterOf eventDeclared reactionOf passiveDeclared stateOf rowDeclared behaviourDeclared behaviourBegins declarationsOf readText assembled encode encodeEvents encodeBehaviours encodeHandlers encodeExpr
+unfolding marks reserved same signOf isDigit isLetter inWord isBlank inComment decimalValue level runOfKind beyondRun firstInText scannedTokens among phraseNesting afterAll amongPlayers bitsBelow behaviourNamed meaningOfName eventNamed termOf clausesOf entriesOf sheetOf pastSign valueOf afterOperand cellOf readConstant readNegation readChoice signedOf fromOperand phraseWithin morePlayers fromOf seenOf manyOf defaultOf parameterOf eventDeclared reactionOf passiveDeclared stateOf rowDeclared behaviourDeclared behaviourBegins declarationsOf readText assembled encode encodeEvents encodeBehaviours encodeHandlers encodeExpr
 too-large = (refl, refl, refl, refl, refl, refl)
 
 -- a rank over 15, a player over 7, a cell count not 2 to 16
@@ -229,7 +229,7 @@ pub off-scale : (assembled (101 ∷ 118 ∷ 101 ∷ 110 ∷ 116 ∷ 32 ∷ 101 �
     × (assembled (101 ∷ 118 ∷ 101 ∷ 110 ∷ 116 ∷ 32 ∷ 101 ∷ 32 ∷ 114 ∷ 97 ∷ 110 ∷ 107 ∷ 32 ∷ 49 ∷ 32 ∷ 102 ∷ 114 ∷ 111 ∷ 109 ∷ 32 ∷ 48 ∷ 32 ∷ 56 ∷ []) 8192 ≡ fault offScale 22)
     × (assembled (114 ∷ 111 ∷ 119 ∷ 32 ∷ 114 ∷ 91 ∷ 49 ∷ 93 ∷ 61 ∷ 48 ∷ []) 8192 ≡ fault offScale 6)
     × (assembled (114 ∷ 111 ∷ 119 ∷ 32 ∷ 114 ∷ 91 ∷ 49 ∷ 55 ∷ 93 ∷ 61 ∷ 48 ∷ []) 8192 ≡ fault offScale 6)
-unfolding marks reserved same signOf isDigit isLetter inWord isBlank inComment decimalValue level runOfKind beyondRun firstInText scannedTokens among phraseNesting afterAll amongPlayers bitsBelow behaviourNamed meaningOfName eventNamed termOf clausesOf entriesOf sheetOf pastSign valueOf signChain phraseTower cellOf readConstant readBracketed readChoice signedOf operandWithin morePlayers fromOf seenOf manyOf defaultOf parameterOf eventDeclared reactionOf passiveDeclared stateOf rowDeclared behaviourDeclared behaviourBegins declarationsOf readText assembled encode encodeEvents encodeBehaviours encodeHandlers encodeExpr
+unfolding marks reserved same signOf isDigit isLetter inWord isBlank inComment decimalValue level runOfKind beyondRun firstInText scannedTokens among phraseNesting afterAll amongPlayers bitsBelow behaviourNamed meaningOfName eventNamed termOf clausesOf entriesOf sheetOf pastSign valueOf afterOperand cellOf readConstant readNegation readChoice signedOf fromOperand phraseWithin morePlayers fromOf seenOf manyOf defaultOf parameterOf eventDeclared reactionOf passiveDeclared stateOf rowDeclared behaviourDeclared behaviourBegins declarationsOf readText assembled encode encodeEvents encodeBehaviours encodeHandlers encodeExpr
 off-scale = (refl, refl, refl, refl)
 
 -- a ninth parameter; and where a row's cells go past 64, its count
@@ -241,7 +241,7 @@ pub too-many : (assembled (112 ∷ 97 ∷ 114 ∷ 97 ∷ 109 ∷ 32 ∷ 112 ∷ 
     × (assembled (114 ∷ 111 ∷ 119 ∷ 32 ∷ 114 ∷ 48 ∷ 91 ∷ 49 ∷ 54 ∷ 93 ∷ 61 ∷ 48 ∷ 32 ∷ 114 ∷ 111 ∷ 119 ∷ 32 ∷ 114 ∷ 49 ∷ 91 ∷ 49 ∷ 54 ∷ 93 ∷ 61 ∷ 48 ∷ 32 ∷ 114 ∷ 111 ∷ 119 ∷ 32 ∷ 114 ∷ 50 ∷ 91 ∷ 49 ∷ 54 ∷ 93 ∷ 61 ∷ 48 ∷ 32 ∷ 114 ∷ 111 ∷ 119 ∷ 32 ∷ 97 ∷ 91 ∷ 49 ∷ 53 ∷ 93 ∷ 61 ∷ 48 ∷ 32 ∷ 114 ∷ 111 ∷ 119 ∷ 32 ∷ 98 ∷ 91 ∷ 50 ∷ 93 ∷ 61 ∷ 48 ∷ []) 8192 ≡ fault tooMany 57)
     × (assembled (114 ∷ 111 ∷ 119 ∷ 32 ∷ 114 ∷ 48 ∷ 91 ∷ 49 ∷ 54 ∷ 93 ∷ 61 ∷ 48 ∷ 32 ∷ 114 ∷ 111 ∷ 119 ∷ 32 ∷ 114 ∷ 49 ∷ 91 ∷ 49 ∷ 54 ∷ 93 ∷ 61 ∷ 48 ∷ 32 ∷ 114 ∷ 111 ∷ 119 ∷ 32 ∷ 114 ∷ 50 ∷ 91 ∷ 49 ∷ 54 ∷ 93 ∷ 61 ∷ 48 ∷ 32 ∷ 114 ∷ 111 ∷ 119 ∷ 32 ∷ 114 ∷ 51 ∷ 91 ∷ 49 ∷ 54 ∷ 93 ∷ 61 ∷ 48 ∷ 32 ∷ 114 ∷ 111 ∷ 119 ∷ 32 ∷ 49 ∷ []) 8192 ≡ fault tooMany 52)
     × (assembled (101 ∷ 118 ∷ 101 ∷ 110 ∷ 116 ∷ 32 ∷ 101 ∷ 48 ∷ 32 ∷ 114 ∷ 97 ∷ 110 ∷ 107 ∷ 32 ∷ 49 ∷ 32 ∷ 101 ∷ 118 ∷ 101 ∷ 110 ∷ 116 ∷ 32 ∷ 101 ∷ 49 ∷ 32 ∷ 114 ∷ 97 ∷ 110 ∷ 107 ∷ 32 ∷ 49 ∷ 32 ∷ 101 ∷ 118 ∷ 101 ∷ 110 ∷ 116 ∷ 32 ∷ 101 ∷ 50 ∷ 32 ∷ 114 ∷ 97 ∷ 110 ∷ 107 ∷ 32 ∷ 49 ∷ 32 ∷ 101 ∷ 118 ∷ 101 ∷ 110 ∷ 116 ∷ 32 ∷ 101 ∷ 51 ∷ 32 ∷ 114 ∷ 97 ∷ 110 ∷ 107 ∷ 32 ∷ 49 ∷ 32 ∷ 101 ∷ 118 ∷ 101 ∷ 110 ∷ 116 ∷ 32 ∷ 101 ∷ 52 ∷ 32 ∷ 114 ∷ 97 ∷ 110 ∷ 107 ∷ 32 ∷ 49 ∷ 32 ∷ 101 ∷ 118 ∷ 101 ∷ 110 ∷ 116 ∷ 32 ∷ 101 ∷ 53 ∷ 32 ∷ 114 ∷ 97 ∷ 110 ∷ 107 ∷ 32 ∷ 49 ∷ 32 ∷ 101 ∷ 118 ∷ 101 ∷ 110 ∷ 116 ∷ 32 ∷ 101 ∷ 54 ∷ 32 ∷ 114 ∷ 97 ∷ 110 ∷ 107 ∷ 32 ∷ 49 ∷ 32 ∷ 101 ∷ 118 ∷ 101 ∷ 110 ∷ 116 ∷ 32 ∷ 101 ∷ 55 ∷ 32 ∷ 114 ∷ 97 ∷ 110 ∷ 107 ∷ 32 ∷ 49 ∷ 32 ∷ 101 ∷ 118 ∷ 101 ∷ 110 ∷ 116 ∷ 32 ∷ 101 ∷ 56 ∷ 32 ∷ 114 ∷ 97 ∷ 110 ∷ 107 ∷ 32 ∷ 49 ∷ 32 ∷ 101 ∷ 118 ∷ 101 ∷ 110 ∷ 116 ∷ 32 ∷ 101 ∷ 57 ∷ 32 ∷ 114 ∷ 97 ∷ 110 ∷ 107 ∷ 32 ∷ 49 ∷ 32 ∷ 101 ∷ 118 ∷ 101 ∷ 110 ∷ 116 ∷ 32 ∷ 101 ∷ 49 ∷ 48 ∷ 32 ∷ 114 ∷ 97 ∷ 110 ∷ 107 ∷ 32 ∷ 49 ∷ 32 ∷ 101 ∷ 118 ∷ 101 ∷ 110 ∷ 116 ∷ 32 ∷ 101 ∷ 49 ∷ 49 ∷ 32 ∷ 114 ∷ 97 ∷ 110 ∷ 107 ∷ 32 ∷ 49 ∷ 32 ∷ 101 ∷ 118 ∷ 101 ∷ 110 ∷ 116 ∷ 32 ∷ 101 ∷ 49 ∷ 50 ∷ 32 ∷ 114 ∷ 97 ∷ 110 ∷ 107 ∷ 32 ∷ 49 ∷ 32 ∷ 101 ∷ 118 ∷ 101 ∷ 110 ∷ 116 ∷ 32 ∷ 101 ∷ 49 ∷ 51 ∷ 32 ∷ 114 ∷ 97 ∷ 110 ∷ 107 ∷ 32 ∷ 49 ∷ 32 ∷ 101 ∷ 118 ∷ 101 ∷ 110 ∷ 116 ∷ 32 ∷ 101 ∷ 49 ∷ 52 ∷ 32 ∷ 114 ∷ 97 ∷ 110 ∷ 107 ∷ 32 ∷ 49 ∷ 32 ∷ 101 ∷ 118 ∷ 101 ∷ 110 ∷ 116 ∷ 32 ∷ 101 ∷ 49 ∷ 53 ∷ 32 ∷ 114 ∷ 97 ∷ 110 ∷ 107 ∷ 32 ∷ 49 ∷ 32 ∷ 101 ∷ 118 ∷ 101 ∷ 110 ∷ 116 ∷ 32 ∷ 101 ∷ 49 ∷ 54 ∷ 32 ∷ 114 ∷ 97 ∷ 110 ∷ 107 ∷ 32 ∷ 49 ∷ 32 ∷ 101 ∷ 118 ∷ 101 ∷ 110 ∷ 116 ∷ 32 ∷ 101 ∷ 49 ∷ 55 ∷ 32 ∷ 114 ∷ 97 ∷ 110 ∷ 107 ∷ 32 ∷ 49 ∷ 32 ∷ 101 ∷ 118 ∷ 101 ∷ 110 ∷ 116 ∷ 32 ∷ 101 ∷ 49 ∷ 56 ∷ 32 ∷ 114 ∷ 97 ∷ 110 ∷ 107 ∷ 32 ∷ 49 ∷ 32 ∷ 101 ∷ 118 ∷ 101 ∷ 110 ∷ 116 ∷ 32 ∷ 101 ∷ 49 ∷ 57 ∷ 32 ∷ 114 ∷ 97 ∷ 110 ∷ 107 ∷ 32 ∷ 49 ∷ 32 ∷ 101 ∷ 118 ∷ 101 ∷ 110 ∷ 116 ∷ 32 ∷ 101 ∷ 50 ∷ 48 ∷ 32 ∷ 114 ∷ 97 ∷ 110 ∷ 107 ∷ 32 ∷ 49 ∷ 32 ∷ 101 ∷ 118 ∷ 101 ∷ 110 ∷ 116 ∷ 32 ∷ 101 ∷ 50 ∷ 49 ∷ 32 ∷ 114 ∷ 97 ∷ 110 ∷ 107 ∷ 32 ∷ 49 ∷ 32 ∷ 101 ∷ 118 ∷ 101 ∷ 110 ∷ 116 ∷ 32 ∷ 101 ∷ 50 ∷ 50 ∷ 32 ∷ 114 ∷ 97 ∷ 110 ∷ 107 ∷ 32 ∷ 49 ∷ 32 ∷ 101 ∷ 118 ∷ 101 ∷ 110 ∷ 116 ∷ 32 ∷ 101 ∷ 50 ∷ 51 ∷ 32 ∷ 114 ∷ 97 ∷ 110 ∷ 107 ∷ 32 ∷ 49 ∷ 32 ∷ 101 ∷ 118 ∷ 101 ∷ 110 ∷ 116 ∷ 32 ∷ 101 ∷ 50 ∷ 52 ∷ 32 ∷ 114 ∷ 97 ∷ 110 ∷ 107 ∷ 32 ∷ 49 ∷ 32 ∷ 101 ∷ 118 ∷ 101 ∷ 110 ∷ 116 ∷ 32 ∷ 101 ∷ 50 ∷ 53 ∷ 32 ∷ 114 ∷ 97 ∷ 110 ∷ 107 ∷ 32 ∷ 49 ∷ 32 ∷ 101 ∷ 118 ∷ 101 ∷ 110 ∷ 116 ∷ 32 ∷ 101 ∷ 50 ∷ 54 ∷ 32 ∷ 114 ∷ 97 ∷ 110 ∷ 107 ∷ 32 ∷ 49 ∷ 32 ∷ 101 ∷ 118 ∷ 101 ∷ 110 ∷ 116 ∷ 32 ∷ 101 ∷ 50 ∷ 55 ∷ 32 ∷ 114 ∷ 97 ∷ 110 ∷ 107 ∷ 32 ∷ 49 ∷ 32 ∷ 101 ∷ 118 ∷ 101 ∷ 110 ∷ 116 ∷ 32 ∷ 101 ∷ 50 ∷ 56 ∷ 32 ∷ 114 ∷ 97 ∷ 110 ∷ 107 ∷ 32 ∷ 49 ∷ 32 ∷ 101 ∷ 118 ∷ 101 ∷ 110 ∷ 116 ∷ 32 ∷ 101 ∷ 50 ∷ 57 ∷ 32 ∷ 114 ∷ 97 ∷ 110 ∷ 107 ∷ 32 ∷ 49 ∷ 32 ∷ 101 ∷ 118 ∷ 101 ∷ 110 ∷ 116 ∷ 32 ∷ 101 ∷ 51 ∷ 48 ∷ 32 ∷ 114 ∷ 97 ∷ 110 ∷ 107 ∷ 32 ∷ 49 ∷ 32 ∷ 101 ∷ 118 ∷ 101 ∷ 110 ∷ 116 ∷ 32 ∷ 101 ∷ 51 ∷ 49 ∷ 32 ∷ 114 ∷ 97 ∷ 110 ∷ 107 ∷ 32 ∷ 49 ∷ 32 ∷ 101 ∷ 118 ∷ 101 ∷ 110 ∷ 116 ∷ 32 ∷ 101 ∷ 51 ∷ 50 ∷ 32 ∷ 114 ∷ 97 ∷ 110 ∷ 107 ∷ 32 ∷ 49 ∷ 32 ∷ []) 8192 ≡ fault tooMany 534)
-unfolding marks reserved same signOf isDigit isLetter inWord isBlank inComment decimalValue level runOfKind beyondRun firstInText scannedTokens among phraseNesting afterAll amongPlayers bitsBelow behaviourNamed meaningOfName eventNamed termOf clausesOf entriesOf sheetOf pastSign valueOf signChain phraseTower cellOf readConstant readBracketed readChoice signedOf operandWithin morePlayers fromOf seenOf manyOf defaultOf parameterOf eventDeclared reactionOf passiveDeclared stateOf rowDeclared behaviourDeclared behaviourBegins declarationsOf readText assembled encode encodeEvents encodeBehaviours encodeHandlers encodeExpr
+unfolding marks reserved same signOf isDigit isLetter inWord isBlank inComment decimalValue level runOfKind beyondRun firstInText scannedTokens among phraseNesting afterAll amongPlayers bitsBelow behaviourNamed meaningOfName eventNamed termOf clausesOf entriesOf sheetOf pastSign valueOf afterOperand cellOf readConstant readNegation readChoice signedOf fromOperand phraseWithin morePlayers fromOf seenOf manyOf defaultOf parameterOf eventDeclared reactionOf passiveDeclared stateOf rowDeclared behaviourDeclared behaviourBegins declarationsOf readText assembled encode encodeEvents encodeBehaviours encodeHandlers encodeExpr
 too-many = (refl, refl, refl, refl)
 
 -- a name declared twice; events have their own names
@@ -252,7 +252,7 @@ pub declared-twice : (assembled (112 ∷ 97 ∷ 114 ∷ 97 ∷ 109 ∷ 32 ∷ 97
     × (assembled (112 ∷ 97 ∷ 114 ∷ 97 ∷ 109 ∷ 32 ∷ 97 ∷ 32 ∷ 101 ∷ 118 ∷ 101 ∷ 110 ∷ 116 ∷ 32 ∷ 101 ∷ 32 ∷ 114 ∷ 97 ∷ 110 ∷ 107 ∷ 32 ∷ 49 ∷ 32 ∷ 112 ∷ 97 ∷ 115 ∷ 115 ∷ 105 ∷ 118 ∷ 101 ∷ 32 ∷ 97 ∷ 61 ∷ 49 ∷ []) 8192 ≡ fault declaredTwice 31)
     × (assembled (101 ∷ 118 ∷ 101 ∷ 110 ∷ 116 ∷ 32 ∷ 97 ∷ 32 ∷ 114 ∷ 97 ∷ 110 ∷ 107 ∷ 32 ∷ 49 ∷ 32 ∷ 112 ∷ 97 ∷ 115 ∷ 115 ∷ 105 ∷ 118 ∷ 101 ∷ 32 ∷ 97 ∷ 61 ∷ 49 ∷ []) 8192 ≡ fine (
     1 ∷ 0 ∷ 1 ∷ 1 ∷ 2 ∷ 0 ∷ 7 ∷ 16 ∷ 0 ∷ 4 ∷ 0 ∷ 0 ∷ 0 ∷ 1 ∷ []))
-unfolding marks reserved same signOf isDigit isLetter inWord isBlank inComment decimalValue level runOfKind beyondRun firstInText scannedTokens among phraseNesting afterAll amongPlayers bitsBelow behaviourNamed meaningOfName eventNamed termOf clausesOf entriesOf sheetOf pastSign valueOf signChain phraseTower cellOf readConstant readBracketed readChoice signedOf operandWithin morePlayers fromOf seenOf manyOf defaultOf parameterOf eventDeclared reactionOf passiveDeclared stateOf rowDeclared behaviourDeclared behaviourBegins declarationsOf readText assembled encode encodeEvents encodeBehaviours encodeHandlers encodeExpr
+unfolding marks reserved same signOf isDigit isLetter inWord isBlank inComment decimalValue level runOfKind beyondRun firstInText scannedTokens among phraseNesting afterAll amongPlayers bitsBelow behaviourNamed meaningOfName eventNamed termOf clausesOf entriesOf sheetOf pastSign valueOf afterOperand cellOf readConstant readNegation readChoice signedOf fromOperand phraseWithin morePlayers fromOf seenOf manyOf defaultOf parameterOf eventDeclared reactionOf passiveDeclared stateOf rowDeclared behaviourDeclared behaviourBegins declarationsOf readText assembled encode encodeEvents encodeBehaviours encodeHandlers encodeExpr
 declared-twice = (refl, refl, refl)
 
 -- a second handler for an event, an event that is not declared
@@ -260,23 +260,79 @@ declared-twice = (refl, refl, refl)
 --   event e rank 1 active a=0 on f:1  ('unknownName', 29)
 pub handlers : (assembled (101 ∷ 118 ∷ 101 ∷ 110 ∷ 116 ∷ 32 ∷ 101 ∷ 32 ∷ 114 ∷ 97 ∷ 110 ∷ 107 ∷ 32 ∷ 49 ∷ 32 ∷ 97 ∷ 99 ∷ 116 ∷ 105 ∷ 118 ∷ 101 ∷ 32 ∷ 97 ∷ 61 ∷ 48 ∷ 32 ∷ 111 ∷ 110 ∷ 32 ∷ 101 ∷ 58 ∷ 49 ∷ 32 ∷ 111 ∷ 110 ∷ 32 ∷ 101 ∷ 32 ∷ 108 ∷ 97 ∷ 116 ∷ 101 ∷ 114 ∷ 58 ∷ 50 ∷ []) 8192 ≡ fault secondHandler 36)
     × (assembled (101 ∷ 118 ∷ 101 ∷ 110 ∷ 116 ∷ 32 ∷ 101 ∷ 32 ∷ 114 ∷ 97 ∷ 110 ∷ 107 ∷ 32 ∷ 49 ∷ 32 ∷ 97 ∷ 99 ∷ 116 ∷ 105 ∷ 118 ∷ 101 ∷ 32 ∷ 97 ∷ 61 ∷ 48 ∷ 32 ∷ 111 ∷ 110 ∷ 32 ∷ 102 ∷ 58 ∷ 49 ∷ []) 8192 ≡ fault unknownName 29)
-unfolding marks reserved same signOf isDigit isLetter inWord isBlank inComment decimalValue level runOfKind beyondRun firstInText scannedTokens among phraseNesting afterAll amongPlayers bitsBelow behaviourNamed meaningOfName eventNamed termOf clausesOf entriesOf sheetOf pastSign valueOf signChain phraseTower cellOf readConstant readBracketed readChoice signedOf operandWithin morePlayers fromOf seenOf manyOf defaultOf parameterOf eventDeclared reactionOf passiveDeclared stateOf rowDeclared behaviourDeclared behaviourBegins declarationsOf readText assembled encode encodeEvents encodeBehaviours encodeHandlers encodeExpr
+unfolding marks reserved same signOf isDigit isLetter inWord isBlank inComment decimalValue level runOfKind beyondRun firstInText scannedTokens among phraseNesting afterAll amongPlayers bitsBelow behaviourNamed meaningOfName eventNamed termOf clausesOf entriesOf sheetOf pastSign valueOf afterOperand cellOf readConstant readNegation readChoice signedOf fromOperand phraseWithin morePlayers fromOf seenOf manyOf defaultOf parameterOf eventDeclared reactionOf passiveDeclared stateOf rowDeclared behaviourDeclared behaviourBegins declarationsOf readText assembled encode encodeEvents encodeBehaviours encodeHandlers encodeExpr
 handlers = (refl, refl)
 
--- `!` 15 times before a name passes, 16 times is nesting 17, at the first `!`; so for `+`, at the sixteenth
+-- `!` 15 times before a number or a name passes, a 16th has no room; so for `+`, on the left and on the right, and for
+-- `if`; what stands behind the sign at fault is not looked at
 --   passive a=!!!!!!!!!!!!!!!1
---   passive a=!!!!!!!!!!!!!!!!1  ('tooDeep', 10)
---   passive a=1+1+1+1+1+1+1+1+1+1+1+1+1+1+1+1+1@  ('tooDeep', 41)
---   passive a=if(1,2,!!!!!!!!!!!!!!!1)  ('tooDeep', 10)
+--   param p passive a=!!!!!!!!!!!!!!!p
+--   passive a=!!!!!!!!!!!!!!!!1  ('tooDeep', 25)
+--   passive a=!!!!!!!!!!!!!!!!@  ('tooDeep', 25)
+--   passive a=1+1+1+1+1+1+1+1+1+1+1+1+1+1+1+1
+--   passive a=1+1+1+1+1+1+1+1+1+1+1+1+1+1+1+1+1  ('tooDeep', 41)
+--   passive a=1+(1+(1+(1+(1+(1+(1+(1+(1+(1+(1+(1+(1+(1+(1+(1)))))))))))))))
+--   passive a=1+(1+(1+(1+(1+(1+(1+(1+(1+(1+(1+(1+(1+(1+(1+(1+(1))))))))))))))))  ('tooDeep', 56)
+--   passive a=if(1,2,!!!!!!!!!!!!!!1)
+--   passive a=if(1,2,!!!!!!!!!!!!!!!1)  ('tooDeep', 31)
+--   passive a=!!!!!!!!!!!!!!!if(  ('tooDeep', 25)
 pub too-deep : (assembled (112 ∷ 97 ∷ 115 ∷ 115 ∷ 105 ∷ 118 ∷ 101 ∷ 32 ∷ 97 ∷ 61 ∷ 33 ∷ 33 ∷ 33 ∷ 33 ∷ 33 ∷ 33 ∷ 33 ∷ 33 ∷ 33 ∷ 33 ∷ 33 ∷ 33 ∷ 33 ∷ 33 ∷ 33 ∷ 49 ∷ []) 8192 ≡ fine (
-    2 ∷ 0 ∷ 67 ∷ 18 ∷ 0 ∷ 64 ∷ 3 ∷ 18 ∷ 0 ∷ 60 ∷ 3 ∷ 18 ∷ 0 ∷ 56 ∷ 3 ∷ 18 ∷ 0 ∷ 52 ∷ 3 ∷ 18 ∷ 0 ∷ 48 ∷ 3 ∷
-    18 ∷ 0 ∷ 44 ∷ 3 ∷ 18 ∷ 0 ∷ 40 ∷ 3 ∷ 18 ∷ 0 ∷ 36 ∷ 3 ∷ 18 ∷ 0 ∷ 32 ∷ 3 ∷ 18 ∷ 0 ∷ 28 ∷ 3 ∷ 18 ∷ 0 ∷ 24 ∷
-    3 ∷ 18 ∷ 0 ∷ 20 ∷ 3 ∷ 18 ∷ 0 ∷ 16 ∷ 3 ∷ 18 ∷ 0 ∷ 12 ∷ 3 ∷ 18 ∷ 0 ∷ 8 ∷ 3 ∷ 16 ∷ 0 ∷ 4 ∷ 0 ∷ 0 ∷ 0 ∷ 1 ∷ []))
-    × (assembled (112 ∷ 97 ∷ 115 ∷ 115 ∷ 105 ∷ 118 ∷ 101 ∷ 32 ∷ 97 ∷ 61 ∷ 33 ∷ 33 ∷ 33 ∷ 33 ∷ 33 ∷ 33 ∷ 33 ∷ 33 ∷ 33 ∷ 33 ∷ 33 ∷ 33 ∷ 33 ∷ 33 ∷ 33 ∷ 33 ∷ 49 ∷ []) 8192 ≡ fault tooDeep 10)
-    × (assembled (112 ∷ 97 ∷ 115 ∷ 115 ∷ 105 ∷ 118 ∷ 101 ∷ 32 ∷ 97 ∷ 61 ∷ 49 ∷ 43 ∷ 49 ∷ 43 ∷ 49 ∷ 43 ∷ 49 ∷ 43 ∷ 49 ∷ 43 ∷ 49 ∷ 43 ∷ 49 ∷ 43 ∷ 49 ∷ 43 ∷ 49 ∷ 43 ∷ 49 ∷ 43 ∷ 49 ∷ 43 ∷ 49 ∷ 43 ∷ 49 ∷ 43 ∷ 49 ∷ 43 ∷ 49 ∷ 43 ∷ 49 ∷ 43 ∷ 49 ∷ 64 ∷ []) 8192 ≡ fault tooDeep 41)
-    × (assembled (112 ∷ 97 ∷ 115 ∷ 115 ∷ 105 ∷ 118 ∷ 101 ∷ 32 ∷ 97 ∷ 61 ∷ 105 ∷ 102 ∷ 40 ∷ 49 ∷ 44 ∷ 50 ∷ 44 ∷ 33 ∷ 33 ∷ 33 ∷ 33 ∷ 33 ∷ 33 ∷ 33 ∷ 33 ∷ 33 ∷ 33 ∷ 33 ∷ 33 ∷ 33 ∷ 33 ∷ 33 ∷ 49 ∷ 41 ∷ []) 8192 ≡ fault tooDeep 10)
-unfolding marks reserved same signOf isDigit isLetter inWord isBlank inComment decimalValue level runOfKind beyondRun firstInText scannedTokens among phraseNesting afterAll amongPlayers bitsBelow behaviourNamed meaningOfName eventNamed termOf clausesOf entriesOf sheetOf pastSign valueOf signChain phraseTower cellOf readConstant readBracketed readChoice signedOf operandWithin morePlayers fromOf seenOf manyOf defaultOf parameterOf eventDeclared reactionOf passiveDeclared stateOf rowDeclared behaviourDeclared behaviourBegins declarationsOf readText assembled encode encodeEvents encodeBehaviours encodeHandlers encodeExpr
-too-deep = (refl, refl, refl, refl)
+    2 ∷ 0 ∷ 67 ∷ 18 ∷ 0 ∷ 64 ∷ 3 ∷ 18 ∷ 0 ∷ 60 ∷ 3 ∷ 18 ∷ 0 ∷ 56 ∷ 3 ∷ 18 ∷ 0 ∷ 52 ∷ 3 ∷ 18 ∷ 0 ∷ 48 ∷ 3 ∷ 18 ∷ 0 ∷
+    44 ∷ 3 ∷ 18 ∷ 0 ∷ 40 ∷ 3 ∷ 18 ∷ 0 ∷ 36 ∷ 3 ∷ 18 ∷ 0 ∷ 32 ∷ 3 ∷ 18 ∷ 0 ∷ 28 ∷ 3 ∷ 18 ∷ 0 ∷ 24 ∷ 3 ∷ 18 ∷ 0 ∷ 20 ∷
+    3 ∷ 18 ∷ 0 ∷ 16 ∷ 3 ∷ 18 ∷ 0 ∷ 12 ∷ 3 ∷ 18 ∷ 0 ∷ 8 ∷ 3 ∷ 16 ∷ 0 ∷ 4 ∷ 0 ∷ 0 ∷ 0 ∷ 1 ∷ []))
+    × (assembled (112 ∷ 97 ∷ 114 ∷ 97 ∷ 109 ∷ 32 ∷ 112 ∷ 32 ∷ 112 ∷ 97 ∷ 115 ∷ 115 ∷ 105 ∷ 118 ∷ 101 ∷ 32 ∷ 97 ∷ 61 ∷ 33 ∷ 33 ∷ 33 ∷ 33 ∷ 33 ∷ 33 ∷ 33 ∷ 33 ∷ 33 ∷ 33 ∷ 33 ∷ 33 ∷ 33 ∷ 33 ∷ 33 ∷ 112 ∷ []) 8192 ≡ fine (
+    2 ∷ 0 ∷ 64 ∷ 18 ∷ 0 ∷ 61 ∷ 3 ∷ 18 ∷ 0 ∷ 57 ∷ 3 ∷ 18 ∷ 0 ∷ 53 ∷ 3 ∷ 18 ∷ 0 ∷ 49 ∷ 3 ∷ 18 ∷ 0 ∷ 45 ∷ 3 ∷ 18 ∷ 0 ∷
+    41 ∷ 3 ∷ 18 ∷ 0 ∷ 37 ∷ 3 ∷ 18 ∷ 0 ∷ 33 ∷ 3 ∷ 18 ∷ 0 ∷ 29 ∷ 3 ∷ 18 ∷ 0 ∷ 25 ∷ 3 ∷ 18 ∷ 0 ∷ 21 ∷ 3 ∷ 18 ∷ 0 ∷ 17 ∷
+    3 ∷ 18 ∷ 0 ∷ 13 ∷ 3 ∷ 18 ∷ 0 ∷ 9 ∷ 3 ∷ 18 ∷ 0 ∷ 5 ∷ 3 ∷ 19 ∷ 0 ∷ 1 ∷ 0 ∷ []))
+    × (assembled (112 ∷ 97 ∷ 115 ∷ 115 ∷ 105 ∷ 118 ∷ 101 ∷ 32 ∷ 97 ∷ 61 ∷ 33 ∷ 33 ∷ 33 ∷ 33 ∷ 33 ∷ 33 ∷ 33 ∷ 33 ∷ 33 ∷ 33 ∷ 33 ∷ 33 ∷ 33 ∷ 33 ∷ 33 ∷ 33 ∷ 49 ∷ []) 8192 ≡ fault tooDeep 25)
+    × (assembled (112 ∷ 97 ∷ 115 ∷ 115 ∷ 105 ∷ 118 ∷ 101 ∷ 32 ∷ 97 ∷ 61 ∷ 33 ∷ 33 ∷ 33 ∷ 33 ∷ 33 ∷ 33 ∷ 33 ∷ 33 ∷ 33 ∷ 33 ∷ 33 ∷ 33 ∷ 33 ∷ 33 ∷ 33 ∷ 33 ∷ 64 ∷ []) 8192 ≡ fault tooDeep 25)
+    × (assembled (112 ∷ 97 ∷ 115 ∷ 115 ∷ 105 ∷ 118 ∷ 101 ∷ 32 ∷ 97 ∷ 61 ∷ 49 ∷ 43 ∷ 49 ∷ 43 ∷ 49 ∷ 43 ∷ 49 ∷ 43 ∷ 49 ∷ 43 ∷ 49 ∷ 43 ∷ 49 ∷ 43 ∷ 49 ∷ 43 ∷ 49 ∷ 43 ∷ 49 ∷ 43 ∷ 49 ∷ 43 ∷ 49 ∷ 43 ∷ 49 ∷ 43 ∷ 49 ∷ 43 ∷ 49 ∷ 43 ∷ 49 ∷ []) 8192 ≡ fine (
+    2 ∷ 0 ∷ 172 ∷ 18 ∷ 0 ∷ 169 ∷ 4 ∷ 18 ∷ 0 ∷ 158 ∷ 4 ∷ 18 ∷ 0 ∷ 147 ∷ 4 ∷ 18 ∷ 0 ∷ 136 ∷ 4 ∷ 18 ∷ 0 ∷ 125 ∷ 4 ∷
+    18 ∷ 0 ∷ 114 ∷ 4 ∷ 18 ∷ 0 ∷ 103 ∷ 4 ∷ 18 ∷ 0 ∷ 92 ∷ 4 ∷ 18 ∷ 0 ∷ 81 ∷ 4 ∷ 18 ∷ 0 ∷ 70 ∷ 4 ∷ 18 ∷ 0 ∷ 59 ∷ 4 ∷
+    18 ∷ 0 ∷ 48 ∷ 4 ∷ 18 ∷ 0 ∷ 37 ∷ 4 ∷ 18 ∷ 0 ∷ 26 ∷ 4 ∷ 18 ∷ 0 ∷ 15 ∷ 4 ∷ 16 ∷ 0 ∷ 4 ∷ 0 ∷ 0 ∷ 0 ∷ 1 ∷ 16 ∷ 0 ∷
+    4 ∷ 0 ∷ 0 ∷ 0 ∷ 1 ∷ 16 ∷ 0 ∷ 4 ∷ 0 ∷ 0 ∷ 0 ∷ 1 ∷ 16 ∷ 0 ∷ 4 ∷ 0 ∷ 0 ∷ 0 ∷ 1 ∷ 16 ∷ 0 ∷ 4 ∷ 0 ∷ 0 ∷ 0 ∷ 1 ∷ 16 ∷
+    0 ∷ 4 ∷ 0 ∷ 0 ∷ 0 ∷ 1 ∷ 16 ∷ 0 ∷ 4 ∷ 0 ∷ 0 ∷ 0 ∷ 1 ∷ 16 ∷ 0 ∷ 4 ∷ 0 ∷ 0 ∷ 0 ∷ 1 ∷ 16 ∷ 0 ∷ 4 ∷ 0 ∷ 0 ∷ 0 ∷ 1 ∷
+    16 ∷ 0 ∷ 4 ∷ 0 ∷ 0 ∷ 0 ∷ 1 ∷ 16 ∷ 0 ∷ 4 ∷ 0 ∷ 0 ∷ 0 ∷ 1 ∷ 16 ∷ 0 ∷ 4 ∷ 0 ∷ 0 ∷ 0 ∷ 1 ∷ 16 ∷ 0 ∷ 4 ∷ 0 ∷ 0 ∷ 0 ∷
+    1 ∷ 16 ∷ 0 ∷ 4 ∷ 0 ∷ 0 ∷ 0 ∷ 1 ∷ 16 ∷ 0 ∷ 4 ∷ 0 ∷ 0 ∷ 0 ∷ 1 ∷ 16 ∷ 0 ∷ 4 ∷ 0 ∷ 0 ∷ 0 ∷ 1 ∷ []))
+    × (assembled (112 ∷ 97 ∷ 115 ∷ 115 ∷ 105 ∷ 118 ∷ 101 ∷ 32 ∷ 97 ∷ 61 ∷ 49 ∷ 43 ∷ 49 ∷ 43 ∷ 49 ∷ 43 ∷ 49 ∷ 43 ∷ 49 ∷ 43 ∷ 49 ∷ 43 ∷ 49 ∷ 43 ∷ 49 ∷ 43 ∷ 49 ∷ 43 ∷ 49 ∷ 43 ∷ 49 ∷ 43 ∷ 49 ∷ 43 ∷ 49 ∷ 43 ∷ 49 ∷ 43 ∷ 49 ∷ 43 ∷ 49 ∷ 43 ∷ 49 ∷ []) 8192 ≡ fault tooDeep 41)
+    × (assembled (112 ∷ 97 ∷ 115 ∷ 115 ∷ 105 ∷ 118 ∷ 101 ∷ 32 ∷ 97 ∷ 61 ∷ 49 ∷ 43 ∷ 40 ∷ 49 ∷ 43 ∷ 40 ∷ 49 ∷ 43 ∷ 40 ∷ 49 ∷ 43 ∷ 40 ∷ 49 ∷ 43 ∷ 40 ∷ 49 ∷ 43 ∷ 40 ∷ 49 ∷ 43 ∷ 40 ∷ 49 ∷ 43 ∷ 40 ∷ 49 ∷ 43 ∷ 40 ∷ 49 ∷ 43 ∷ 40 ∷ 49 ∷ 43 ∷ 40 ∷ 49 ∷ 43 ∷ 40 ∷ 49 ∷ 43 ∷ 40 ∷ 49 ∷ 43 ∷ 40 ∷ 49 ∷ 43 ∷ 40 ∷ 49 ∷ 41 ∷ 41 ∷ 41 ∷ 41 ∷ 41 ∷ 41 ∷ 41 ∷ 41 ∷ 41 ∷ 41 ∷ 41 ∷ 41 ∷ 41 ∷ 41 ∷ 41 ∷ []) 8192 ≡ fine (
+    2 ∷ 0 ∷ 172 ∷ 18 ∷ 0 ∷ 169 ∷ 4 ∷ 16 ∷ 0 ∷ 4 ∷ 0 ∷ 0 ∷ 0 ∷ 1 ∷ 18 ∷ 0 ∷ 158 ∷ 4 ∷ 16 ∷ 0 ∷ 4 ∷ 0 ∷ 0 ∷ 0 ∷ 1 ∷
+    18 ∷ 0 ∷ 147 ∷ 4 ∷ 16 ∷ 0 ∷ 4 ∷ 0 ∷ 0 ∷ 0 ∷ 1 ∷ 18 ∷ 0 ∷ 136 ∷ 4 ∷ 16 ∷ 0 ∷ 4 ∷ 0 ∷ 0 ∷ 0 ∷ 1 ∷ 18 ∷ 0 ∷ 125 ∷
+    4 ∷ 16 ∷ 0 ∷ 4 ∷ 0 ∷ 0 ∷ 0 ∷ 1 ∷ 18 ∷ 0 ∷ 114 ∷ 4 ∷ 16 ∷ 0 ∷ 4 ∷ 0 ∷ 0 ∷ 0 ∷ 1 ∷ 18 ∷ 0 ∷ 103 ∷ 4 ∷ 16 ∷ 0 ∷ 4 ∷
+    0 ∷ 0 ∷ 0 ∷ 1 ∷ 18 ∷ 0 ∷ 92 ∷ 4 ∷ 16 ∷ 0 ∷ 4 ∷ 0 ∷ 0 ∷ 0 ∷ 1 ∷ 18 ∷ 0 ∷ 81 ∷ 4 ∷ 16 ∷ 0 ∷ 4 ∷ 0 ∷ 0 ∷ 0 ∷ 1 ∷
+    18 ∷ 0 ∷ 70 ∷ 4 ∷ 16 ∷ 0 ∷ 4 ∷ 0 ∷ 0 ∷ 0 ∷ 1 ∷ 18 ∷ 0 ∷ 59 ∷ 4 ∷ 16 ∷ 0 ∷ 4 ∷ 0 ∷ 0 ∷ 0 ∷ 1 ∷ 18 ∷ 0 ∷ 48 ∷ 4 ∷
+    16 ∷ 0 ∷ 4 ∷ 0 ∷ 0 ∷ 0 ∷ 1 ∷ 18 ∷ 0 ∷ 37 ∷ 4 ∷ 16 ∷ 0 ∷ 4 ∷ 0 ∷ 0 ∷ 0 ∷ 1 ∷ 18 ∷ 0 ∷ 26 ∷ 4 ∷ 16 ∷ 0 ∷ 4 ∷ 0 ∷
+    0 ∷ 0 ∷ 1 ∷ 18 ∷ 0 ∷ 15 ∷ 4 ∷ 16 ∷ 0 ∷ 4 ∷ 0 ∷ 0 ∷ 0 ∷ 1 ∷ 16 ∷ 0 ∷ 4 ∷ 0 ∷ 0 ∷ 0 ∷ 1 ∷ []))
+    × (assembled (112 ∷ 97 ∷ 115 ∷ 115 ∷ 105 ∷ 118 ∷ 101 ∷ 32 ∷ 97 ∷ 61 ∷ 49 ∷ 43 ∷ 40 ∷ 49 ∷ 43 ∷ 40 ∷ 49 ∷ 43 ∷ 40 ∷ 49 ∷ 43 ∷ 40 ∷ 49 ∷ 43 ∷ 40 ∷ 49 ∷ 43 ∷ 40 ∷ 49 ∷ 43 ∷ 40 ∷ 49 ∷ 43 ∷ 40 ∷ 49 ∷ 43 ∷ 40 ∷ 49 ∷ 43 ∷ 40 ∷ 49 ∷ 43 ∷ 40 ∷ 49 ∷ 43 ∷ 40 ∷ 49 ∷ 43 ∷ 40 ∷ 49 ∷ 43 ∷ 40 ∷ 49 ∷ 43 ∷ 40 ∷ 49 ∷ 43 ∷ 40 ∷ 49 ∷ 41 ∷ 41 ∷ 41 ∷ 41 ∷ 41 ∷ 41 ∷ 41 ∷ 41 ∷ 41 ∷ 41 ∷ 41 ∷ 41 ∷ 41 ∷ 41 ∷ 41 ∷ 41 ∷ []) 8192 ≡ fault tooDeep 56)
+    × (assembled (112 ∷ 97 ∷ 115 ∷ 115 ∷ 105 ∷ 118 ∷ 101 ∷ 32 ∷ 97 ∷ 61 ∷ 105 ∷ 102 ∷ 40 ∷ 49 ∷ 44 ∷ 50 ∷ 44 ∷ 33 ∷ 33 ∷ 33 ∷ 33 ∷ 33 ∷ 33 ∷ 33 ∷ 33 ∷ 33 ∷ 33 ∷ 33 ∷ 33 ∷ 33 ∷ 33 ∷ 49 ∷ 41 ∷ []) 8192 ≡ fine (
+    2 ∷ 0 ∷ 81 ∷ 18 ∷ 0 ∷ 78 ∷ 14 ∷ 16 ∷ 0 ∷ 4 ∷ 0 ∷ 0 ∷ 0 ∷ 1 ∷ 16 ∷ 0 ∷ 4 ∷ 0 ∷ 0 ∷ 0 ∷ 2 ∷ 18 ∷ 0 ∷ 60 ∷ 3 ∷ 18 ∷
+    0 ∷ 56 ∷ 3 ∷ 18 ∷ 0 ∷ 52 ∷ 3 ∷ 18 ∷ 0 ∷ 48 ∷ 3 ∷ 18 ∷ 0 ∷ 44 ∷ 3 ∷ 18 ∷ 0 ∷ 40 ∷ 3 ∷ 18 ∷ 0 ∷ 36 ∷ 3 ∷ 18 ∷ 0 ∷
+    32 ∷ 3 ∷ 18 ∷ 0 ∷ 28 ∷ 3 ∷ 18 ∷ 0 ∷ 24 ∷ 3 ∷ 18 ∷ 0 ∷ 20 ∷ 3 ∷ 18 ∷ 0 ∷ 16 ∷ 3 ∷ 18 ∷ 0 ∷ 12 ∷ 3 ∷ 18 ∷ 0 ∷ 8 ∷
+    3 ∷ 16 ∷ 0 ∷ 4 ∷ 0 ∷ 0 ∷ 0 ∷ 1 ∷ []))
+    × (assembled (112 ∷ 97 ∷ 115 ∷ 115 ∷ 105 ∷ 118 ∷ 101 ∷ 32 ∷ 97 ∷ 61 ∷ 105 ∷ 102 ∷ 40 ∷ 49 ∷ 44 ∷ 50 ∷ 44 ∷ 33 ∷ 33 ∷ 33 ∷ 33 ∷ 33 ∷ 33 ∷ 33 ∷ 33 ∷ 33 ∷ 33 ∷ 33 ∷ 33 ∷ 33 ∷ 33 ∷ 33 ∷ 49 ∷ 41 ∷ []) 8192 ≡ fault tooDeep 31)
+    × (assembled (112 ∷ 97 ∷ 115 ∷ 115 ∷ 105 ∷ 118 ∷ 101 ∷ 32 ∷ 97 ∷ 61 ∷ 33 ∷ 33 ∷ 33 ∷ 33 ∷ 33 ∷ 33 ∷ 33 ∷ 33 ∷ 33 ∷ 33 ∷ 33 ∷ 33 ∷ 33 ∷ 33 ∷ 33 ∷ 105 ∷ 102 ∷ 40 ∷ []) 8192 ≡ fault tooDeep 25)
+unfolding marks reserved same signOf isDigit isLetter inWord isBlank inComment decimalValue level runOfKind beyondRun firstInText scannedTokens among phraseNesting afterAll amongPlayers bitsBelow behaviourNamed meaningOfName eventNamed termOf clausesOf entriesOf sheetOf pastSign valueOf afterOperand cellOf readConstant readNegation readChoice signedOf fromOperand phraseWithin morePlayers fromOf seenOf manyOf defaultOf parameterOf eventDeclared reactionOf passiveDeclared stateOf rowDeclared behaviourDeclared behaviourBegins declarationsOf readText assembled encode encodeEvents encodeBehaviours encodeHandlers encodeExpr
+too-deep = (refl, refl, refl, refl, refl, refl, refl, refl, refl, refl, refl)
+
+-- brackets nest as deep as they like and are no functions; each is closed by one
+--   passive a=((((((((((((((((((((((((((((((((((((((((1))))))))))))))))))))))))))))))))))))))))
+--   passive a=((((((((((((((((((((1+1+1+1+1+1+1+1+1+1+1+1+1+1+1+1))))))))))))))))))))+1  ('tooDeep', 81)
+--   passive a=(1+2)*((3-4)*5)
+--   passive a=((1)  ('outside', 14)
+--   passive a=(1))  ('outside', 13)
+--   passive a=1+1+1+1+1+1+1+1+1+1+1+1+1+1+1+1)  ('outside', 41)
+pub brackets : (assembled (112 ∷ 97 ∷ 115 ∷ 115 ∷ 105 ∷ 118 ∷ 101 ∷ 32 ∷ 97 ∷ 61 ∷ 40 ∷ 40 ∷ 40 ∷ 40 ∷ 40 ∷ 40 ∷ 40 ∷ 40 ∷ 40 ∷ 40 ∷ 40 ∷ 40 ∷ 40 ∷ 40 ∷ 40 ∷ 40 ∷ 40 ∷ 40 ∷ 40 ∷ 40 ∷ 40 ∷ 40 ∷ 40 ∷ 40 ∷ 40 ∷ 40 ∷ 40 ∷ 40 ∷ 40 ∷ 40 ∷ 40 ∷ 40 ∷ 40 ∷ 40 ∷ 40 ∷ 40 ∷ 40 ∷ 40 ∷ 40 ∷ 40 ∷ 49 ∷ 41 ∷ 41 ∷ 41 ∷ 41 ∷ 41 ∷ 41 ∷ 41 ∷ 41 ∷ 41 ∷ 41 ∷ 41 ∷ 41 ∷ 41 ∷ 41 ∷ 41 ∷ 41 ∷ 41 ∷ 41 ∷ 41 ∷ 41 ∷ 41 ∷ 41 ∷ 41 ∷ 41 ∷ 41 ∷ 41 ∷ 41 ∷ 41 ∷ 41 ∷ 41 ∷ 41 ∷ 41 ∷ 41 ∷ 41 ∷ 41 ∷ 41 ∷ 41 ∷ 41 ∷ 41 ∷ 41 ∷ []) 8192 ≡ fine (
+    2 ∷ 0 ∷ 7 ∷ 16 ∷ 0 ∷ 4 ∷ 0 ∷ 0 ∷ 0 ∷ 1 ∷ []))
+    × (assembled (112 ∷ 97 ∷ 115 ∷ 115 ∷ 105 ∷ 118 ∷ 101 ∷ 32 ∷ 97 ∷ 61 ∷ 40 ∷ 40 ∷ 40 ∷ 40 ∷ 40 ∷ 40 ∷ 40 ∷ 40 ∷ 40 ∷ 40 ∷ 40 ∷ 40 ∷ 40 ∷ 40 ∷ 40 ∷ 40 ∷ 40 ∷ 40 ∷ 40 ∷ 40 ∷ 49 ∷ 43 ∷ 49 ∷ 43 ∷ 49 ∷ 43 ∷ 49 ∷ 43 ∷ 49 ∷ 43 ∷ 49 ∷ 43 ∷ 49 ∷ 43 ∷ 49 ∷ 43 ∷ 49 ∷ 43 ∷ 49 ∷ 43 ∷ 49 ∷ 43 ∷ 49 ∷ 43 ∷ 49 ∷ 43 ∷ 49 ∷ 43 ∷ 49 ∷ 43 ∷ 49 ∷ 41 ∷ 41 ∷ 41 ∷ 41 ∷ 41 ∷ 41 ∷ 41 ∷ 41 ∷ 41 ∷ 41 ∷ 41 ∷ 41 ∷ 41 ∷ 41 ∷ 41 ∷ 41 ∷ 41 ∷ 41 ∷ 41 ∷ 41 ∷ 43 ∷ 49 ∷ []) 8192 ≡ fault tooDeep 81)
+    × (assembled (112 ∷ 97 ∷ 115 ∷ 115 ∷ 105 ∷ 118 ∷ 101 ∷ 32 ∷ 97 ∷ 61 ∷ 40 ∷ 49 ∷ 43 ∷ 50 ∷ 41 ∷ 42 ∷ 40 ∷ 40 ∷ 51 ∷ 45 ∷ 52 ∷ 41 ∷ 42 ∷ 53 ∷ 41 ∷ []) 8192 ≡ fine (
+    2 ∷ 0 ∷ 51 ∷ 18 ∷ 0 ∷ 48 ∷ 6 ∷ 18 ∷ 0 ∷ 15 ∷ 4 ∷ 16 ∷ 0 ∷ 4 ∷ 0 ∷ 0 ∷ 0 ∷ 1 ∷ 16 ∷ 0 ∷ 4 ∷ 0 ∷ 0 ∷ 0 ∷ 2 ∷ 18 ∷
+    0 ∷ 26 ∷ 6 ∷ 18 ∷ 0 ∷ 15 ∷ 5 ∷ 16 ∷ 0 ∷ 4 ∷ 0 ∷ 0 ∷ 0 ∷ 3 ∷ 16 ∷ 0 ∷ 4 ∷ 0 ∷ 0 ∷ 0 ∷ 4 ∷ 16 ∷ 0 ∷ 4 ∷ 0 ∷ 0 ∷
+    0 ∷ 5 ∷ []))
+    × (assembled (112 ∷ 97 ∷ 115 ∷ 115 ∷ 105 ∷ 118 ∷ 101 ∷ 32 ∷ 97 ∷ 61 ∷ 40 ∷ 40 ∷ 49 ∷ 41 ∷ []) 8192 ≡ fault outside 14)
+    × (assembled (112 ∷ 97 ∷ 115 ∷ 115 ∷ 105 ∷ 118 ∷ 101 ∷ 32 ∷ 97 ∷ 61 ∷ 40 ∷ 49 ∷ 41 ∷ 41 ∷ []) 8192 ≡ fault outside 13)
+    × (assembled (112 ∷ 97 ∷ 115 ∷ 115 ∷ 105 ∷ 118 ∷ 101 ∷ 32 ∷ 97 ∷ 61 ∷ 49 ∷ 43 ∷ 49 ∷ 43 ∷ 49 ∷ 43 ∷ 49 ∷ 43 ∷ 49 ∷ 43 ∷ 49 ∷ 43 ∷ 49 ∷ 43 ∷ 49 ∷ 43 ∷ 49 ∷ 43 ∷ 49 ∷ 43 ∷ 49 ∷ 43 ∷ 49 ∷ 43 ∷ 49 ∷ 43 ∷ 49 ∷ 43 ∷ 49 ∷ 43 ∷ 49 ∷ 41 ∷ []) 8192 ≡ fault outside 41)
+unfolding marks reserved same signOf isDigit isLetter inWord isBlank inComment decimalValue level runOfKind beyondRun firstInText scannedTokens among phraseNesting afterAll amongPlayers bitsBelow behaviourNamed meaningOfName eventNamed termOf clausesOf entriesOf sheetOf pastSign valueOf afterOperand cellOf readConstant readNegation readChoice signedOf fromOperand phraseWithin morePlayers fromOf seenOf manyOf defaultOf parameterOf eventDeclared reactionOf passiveDeclared stateOf rowDeclared behaviourDeclared behaviourBegins declarationsOf readText assembled encode encodeEvents encodeBehaviours encodeHandlers encodeExpr
+brackets = (refl, refl, refl, refl, refl, refl)
 
 -- a name in a formula that is not declared; no row, past its end, cell 0 where it cannot be said; first pass first
 --   passive a=1+b  ('unknownName', 12)
@@ -291,13 +347,13 @@ pub unknown : (assembled (112 ∷ 97 ∷ 115 ∷ 115 ∷ 105 ∷ 118 ∷ 101 ∷
     × (assembled (101 ∷ 118 ∷ 101 ∷ 110 ∷ 116 ∷ 32 ∷ 101 ∷ 32 ∷ 114 ∷ 97 ∷ 110 ∷ 107 ∷ 32 ∷ 49 ∷ 32 ∷ 114 ∷ 111 ∷ 119 ∷ 32 ∷ 114 ∷ 91 ∷ 50 ∷ 93 ∷ 61 ∷ 48 ∷ 32 ∷ 111 ∷ 110 ∷ 32 ∷ 101 ∷ 58 ∷ 114 ∷ 91 ∷ 48 ∷ 93 ∷ []) 8192 ≡ fault noSuchCell 32)
     × (assembled (112 ∷ 97 ∷ 115 ∷ 115 ∷ 105 ∷ 118 ∷ 101 ∷ 32 ∷ 97 ∷ 61 ∷ 98 ∷ 32 ∷ 112 ∷ 97 ∷ 115 ∷ 115 ∷ 105 ∷ 118 ∷ 101 ∷ 32 ∷ 97 ∷ 61 ∷ 49 ∷ []) 8192 ≡ fault declaredTwice 20)
     × (assembled (112 ∷ 97 ∷ 114 ∷ 97 ∷ 109 ∷ 32 ∷ 112 ∷ 32 ∷ 112 ∷ 97 ∷ 115 ∷ 115 ∷ 105 ∷ 118 ∷ 101 ∷ 32 ∷ 97 ∷ 61 ∷ 112 ∷ 91 ∷ 48 ∷ 93 ∷ []) 8192 ≡ fault noSuchCell 19)
-unfolding marks reserved same signOf isDigit isLetter inWord isBlank inComment decimalValue level runOfKind beyondRun firstInText scannedTokens among phraseNesting afterAll amongPlayers bitsBelow behaviourNamed meaningOfName eventNamed termOf clausesOf entriesOf sheetOf pastSign valueOf signChain phraseTower cellOf readConstant readBracketed readChoice signedOf operandWithin morePlayers fromOf seenOf manyOf defaultOf parameterOf eventDeclared reactionOf passiveDeclared stateOf rowDeclared behaviourDeclared behaviourBegins declarationsOf readText assembled encode encodeEvents encodeBehaviours encodeHandlers encodeExpr
+unfolding marks reserved same signOf isDigit isLetter inWord isBlank inComment decimalValue level runOfKind beyondRun firstInText scannedTokens among phraseNesting afterAll amongPlayers bitsBelow behaviourNamed meaningOfName eventNamed termOf clausesOf entriesOf sheetOf pastSign valueOf afterOperand cellOf readConstant readNegation readChoice signedOf fromOperand phraseWithin morePlayers fromOf seenOf manyOf defaultOf parameterOf eventDeclared reactionOf passiveDeclared stateOf rowDeclared behaviourDeclared behaviourBegins declarationsOf readText assembled encode encodeEvents encodeBehaviours encodeHandlers encodeExpr
 unknown = (refl, refl, refl, refl, refl, refl)
 
--- a text of 65,537 bytes is turned down before anything else; a buffer of 73 bytes is too short for sheet S, at the end
--- of its text
-pub lengths : (assembled (64 ∷ replicate 65536 32) 0 ≡ fault longText 65537) × (assembled sheet-S 73 ≡ fault shortBuffer 100)
-unfolding marks reserved same signOf isDigit isLetter inWord isBlank inComment decimalValue level runOfKind beyondRun firstInText scannedTokens among phraseNesting afterAll amongPlayers bitsBelow behaviourNamed meaningOfName eventNamed termOf clausesOf entriesOf sheetOf pastSign valueOf signChain phraseTower cellOf readConstant readBracketed readChoice signedOf operandWithin morePlayers fromOf seenOf manyOf defaultOf parameterOf eventDeclared reactionOf passiveDeclared stateOf rowDeclared behaviourDeclared behaviourBegins declarationsOf readText assembled encode encodeEvents encodeBehaviours encodeHandlers encodeExpr
+-- a text of 65,537 bytes is turned down before anything else, at its last byte; a buffer of 73 bytes is too short for
+-- sheet S, at the end of its text
+pub lengths : (assembled (64 ∷ replicate 65536 32) 0 ≡ fault longText 65536) × (assembled sheet-S 73 ≡ fault shortBuffer 100)
+unfolding marks reserved same signOf isDigit isLetter inWord isBlank inComment decimalValue level runOfKind beyondRun firstInText scannedTokens among phraseNesting afterAll amongPlayers bitsBelow behaviourNamed meaningOfName eventNamed termOf clausesOf entriesOf sheetOf pastSign valueOf afterOperand cellOf readConstant readNegation readChoice signedOf fromOperand phraseWithin morePlayers fromOf seenOf manyOf defaultOf parameterOf eventDeclared reactionOf passiveDeclared stateOf rowDeclared behaviourDeclared behaviourBegins declarationsOf readText assembled encode encodeEvents encodeBehaviours encodeHandlers encodeExpr
 lengths = (refl, refl)
 
 -- line and column of the fault, and the buffer as it was
@@ -307,5 +363,5 @@ lengths = (refl, refl)
 --    param a
 pub place-told : assembleOn (112 ∷ 97 ∷ 114 ∷ 97 ∷ 109 ∷ 32 ∷ 97 ∷ 10 ∷ 10 ∷ 32 ∷ 32 ∷ 112 ∷ 97 ∷ 114 ∷ 97 ∷ 109 ∷ 32 ∷ 98 ∷ 10 ∷ 32 ∷ 112 ∷ 97 ∷ 114 ∷ 97 ∷ 109 ∷ 32 ∷ 97 ∷ []) (9 ∷ [])
     ≡ (turnedDown declaredTwice 4 8, 9 ∷ [])
-unfolding lineFrom columnFrom assembleOn marks reserved same signOf isDigit isLetter inWord isBlank inComment decimalValue level runOfKind beyondRun firstInText scannedTokens among phraseNesting afterAll amongPlayers bitsBelow behaviourNamed meaningOfName eventNamed termOf clausesOf entriesOf sheetOf pastSign valueOf signChain phraseTower cellOf readConstant readBracketed readChoice signedOf operandWithin morePlayers fromOf seenOf manyOf defaultOf parameterOf eventDeclared reactionOf passiveDeclared stateOf rowDeclared behaviourDeclared behaviourBegins declarationsOf readText assembled encode encodeEvents encodeBehaviours encodeHandlers encodeExpr
+unfolding lineFrom columnFrom assembleOn marks reserved same signOf isDigit isLetter inWord isBlank inComment decimalValue level runOfKind beyondRun firstInText scannedTokens among phraseNesting afterAll amongPlayers bitsBelow behaviourNamed meaningOfName eventNamed termOf clausesOf entriesOf sheetOf pastSign valueOf afterOperand cellOf readConstant readNegation readChoice signedOf fromOperand phraseWithin morePlayers fromOf seenOf manyOf defaultOf parameterOf eventDeclared reactionOf passiveDeclared stateOf rowDeclared behaviourDeclared behaviourBegins declarationsOf readText assembled encode encodeEvents encodeBehaviours encodeHandlers encodeExpr
 place-told = refl

@@ -10,6 +10,7 @@ use native.Mathlib.Omega.{arith}
 use lib.ListN.{length}
 use Rattle.spec_language.specs.Syntax.{immediate, later}
 use Rattle.text_formula.specs.Grammar.{Operator}
+use Rattle.text_formula.specs.Reader.{level}
 use Rattle.text_formula.proofs.Parses.{level-of}
 use Rattle.source_language.specs.Tokens.{SheetToken, sign, closing, comma, from-word, seen-word, on-word, param-word, event-word, passive-word, endSign}
 use Rattle.source_language.specs.Text.{TextConstant, Phrase, constant, negation, operation, choice, Reaction, on, Body, active, row, Parameter, parameter, TextEvent, event, TextBehaviour, behaviour, Text}
@@ -17,7 +18,7 @@ use Rattle.source_language.specs.Grammar.{IsValue, v-plus, v-minus, Phra
 use Rattle.source_language.specs.Reader.{signAt, tokensAfter}
 use Rattle.source_language.proofs.Scans.{scan-is}
 use Rattle.source_language.proofs.Players.{seen-first}
-use Rattle.source_language.proofs.Parses.{derives-less, Calm, calm-less, calm-high, no-bracket, follows}
+use Rattle.source_language.proofs.Parses.{derives-less, Calm, calm-less, calm-high, operator-calm, follows}
 
 -- what two readings have in common
 pub record Same {A : Type 0} (x : A) (us : List SheetToken) (y : A) (vs : List SheetToken) : Type 0 where
@@ -49,12 +50,13 @@ parted : {l : ℕ} {ts us : List SheetToken} {e : Phrase} → PhraseDerives (suc
 parted {us = us} {e = e} (tighter d) = record { operand = e; after = us; first = d; others = stop }
 parted (two-sided o d e) = let r = parted d in record { operand = r .operand; after = r .after; first = r .first; others = spine-more (r .others) o e }
 
-operator-calm : (l p f : ℕ) (us : List SheetToken) → Operator (suc l) f → Calm (suc l) (sign p f ∷ us)
-operator-calm l p f us o = (no-bracket l f (level-of o), λ j a b e. omega (arith, level-of o))
+-- no operator is looser than itself
+tight-after : (l : ℕ) {f : ℕ} → Operator (suc l) f → (0 < level f → suc (suc l) ≤ level f) → ⊥
+tight-after l o h = omega (arith, level-of o, h (omega (arith, level-of o)))
 
 spine-calm : {l : ℕ} {a e : Phrase} {ts us : List SheetToken} → Spine l a ts e us → Calm (suc (suc l)) us → Calm (suc l) ts
 spine-calm {l} {us = us} stop c = calm-less (suc l) us c
-spine-calm {l} (go {p} {f} {us = us} o d s) c = operator-calm l p f us o
+spine-calm {l} (go {p} {f} {us = us} o d s) c = operator-calm l p f us (level-of o)
 
 abbrev Unique : ℕ → ℕ → Type 0
 Unique k l = (ts us vs : List SheetToken) (e f : Phrase) → length ts ≤ k → PhraseDerives l ts e us → PhraseDerives l ts f vs → Calm (suc l) us → Calm (suc l) vs → Same e us f vs
@@ -63,8 +65,8 @@ module _ (k l : ℕ) (ih : Unique k l) where
   spine-one : {a e f : Phrase} {ts us vs : List SheetToken} → length ts ≤ k → Spine l a ts e us → Spine l a ts f vs → Calm (suc (suc l)) us → Calm (suc (suc l)) vs
       → Same e us f vs
   spine-one h stop stop c d = record { one = refl; left = refl }
-  spine-one h stop (go o x s) c d = absurd (c .1 (suc l) (omega arith) (omega arith) (level-of o))
-  spine-one h (go o x s) stop c d = absurd (d .1 (suc l) (omega arith) (omega arith) (level-of o))
+  spine-one h stop (go o x s) c d = absurd (tight-after l o (c .1))
+  spine-one h (go o x s) stop c d = absurd (tight-after l o (d .1))
   spine-one {f = g} {vs = zs} h (go {f = q} {a} {b} {us = us} {vs} o x s) (go {b = b′} {vs = vs′} o′ y t) c d =
       let r = ih us vs vs′ b b′ (omega arith) x y (spine-calm s c) (spine-calm t d) in
       let u : Spine l (operation q a b) vs g zs = subst (λ (w : Phrase). Spine l (operation q a w) vs g zs) (sym (r .one))

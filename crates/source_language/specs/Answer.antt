@@ -32,18 +32,18 @@ pub data TextOutcome : Type 0 where
   written : ℕ → TextOutcome
   turnedDown : Kind → ℕ → ℕ → TextOutcome
 
--- "A text has at most 65,536 bytes; a longer one is turned down before anything else." "Then a sheet over 8,192 bytes;
--- last a buffer that is too short": at the end of the text
+-- "Then a sheet over 8,192 bytes; last a buffer that is too short": at the end of the text
 abbrev pub lengthJudged : ℕ → ℕ → Sheet → OrFault (List ℕ)
 lengthJudged long room s =
     pick (ltb 8192 (length (encode s))) (fault longSheet long)
     (pick (ltb room (length (encode s))) (fault shortBuffer long)
     (fine (encode s)))
 
--- the bytes of the sheet that a text means, where the buffer has room for so many
+-- the bytes of the sheet that a text means, where the buffer has room for so many. "A text has at most 65,536 bytes; a
+-- longer one is turned down before anything else": at the first byte that is too many
 unfoldable pub assembled : List ℕ → ℕ → OrFault (List ℕ)
 assembled bytes room =
-    pick (ltb 65536 (length bytes)) (fault longText (length bytes))
+    pick (ltb 65536 (length bytes)) (fault longText 65536)
     (andThen (readText bytes) (λ x. andThen (sheetOf x) (lengthJudged (length bytes) room)))
 
 -- "at the start of a lent buffer, whose other bytes stay"; "or a refusal .., nothing changed"
@@ -64,9 +64,9 @@ pub record TextMeans (bytes : List ℕ) (s : Sheet) : Type 0 where
   pub fits : TextFits reading
   pub resolved : sheetOf reading ≡ fine s
 
--- turned down at the end of the text
-abbrev pub refusedAt : Kind → List ℕ → List ℕ → TextOutcome × List ℕ
-refusedAt k bytes buffer = (turnedDown k (lineFrom 1 (length bytes) bytes) (columnFrom 1 (length bytes) bytes), buffer)
+-- turned down at the byte with p before it
+abbrev pub refusedAt : Kind → ℕ → List ℕ → List ℕ → TextOutcome × List ℕ
+refusedAt k p bytes buffer = (turnedDown k (lineFrom 1 p bytes) (columnFrom 1 p bytes), buffer)
 
 -- an answer of n bytes: those of the sheet that the text means
 pub record SheetWritten (bytes buffer : List ℕ) (n : ℕ) : Type 0 where

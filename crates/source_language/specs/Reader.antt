@@ -1,6 +1,6 @@
 -- The reader of a sheet's text as functions on lists of tokens: what is read, with the tokens after it, or the first
 -- fault, in the order of docs/SHEETS.md "Faults".
-use Prim.Native.Nat.{ℕ, zero, suc, _+_}
+use Prim.Native.Nat.{ℕ, zero, suc, _+_, _-_}
 use mathlib.Core.Bool.{Bool, _&&_, _||_}
 use mathlib.Core.Option.{Option, none, some}
 use mathlib.Core.List.{List, [], _∷_}
@@ -72,28 +72,29 @@ valueOf ts =
 
 -- ---- formulas
 
--- an application is judged once its last argument, or the bracket after it, is read; at fault is its operator, `!` or
--- `if`
-abbrev pub within : ℕ → Phrase → List SheetToken → Phrased Phrase
-within p e ts = pick (ltb 16 (phraseNesting e)) (bad tooDeep p) (got e ts)
+-- How deep a formula may nest is `room`: 16, less the functions around it. At fault is the first sign with which it
+-- must nest deeper: `!` or `if` where their arguments have no room, an operator where the operand before it fills it.
 
-abbrev pub signLevel : SheetToken → ℕ
-signLevel t = level (signIn t)
+abbrev pub operatorWithin : ℕ → ℕ → Bool
+operatorWithin l c = ltb 0 (level c) && leb (level c) l
 
--- after the operand a at level l: operators of that level, each with an operand that `next` reads; the number bounds
--- them
-unfoldable pub signChain : ℕ → (List SheetToken → Phrased Phrase) → ℕ → Phrase → List SheetToken → Phrased Phrase
-signChain l next zero a ts = got a ts
-signChain l next (suc k) a [] = got a []
-signChain l next (suc k) a (t ∷ ts) =
-    pick (eqb (signLevel t) l)
-    (thenPhrase (next ts) (λ b us. thenPhrase (within (tokenPlace t) (operation (signIn t) a b) us) (λ e vs. signChain l next k e vs)))
-    (got a (t ∷ ts))
+-- the operator after the operand a, its right operand, and on: that nests less deep, and has a tighter level
+abbrev pub withOperator : (ℕ → List SheetToken → Phrased Phrase) → ℕ → (Phrase → List SheetToken → Phrased Phrase) → Phrase → List SheetToken → Phrased Phrase
+withOperator next room go a ts =
+    pick (ltb (phraseNesting a) room)
+    (thenPhrase (next (level (signAt ts) - 1) (tokensAfter ts)) (λ b us. go (operation (signAt ts) a b) us))
+    (bad tooDeep (placeAt ts))
 
--- level l over `operand`, which reads level 0; the number bounds the tokens
-unfoldable pub phraseTower : (List SheetToken → Phrased Phrase) → ℕ → ℕ → List SheetToken → Phrased Phrase
-phraseTower operand k zero ts = operand ts
-phraseTower operand k (suc l) ts = thenPhrase (phraseTower operand k l ts) (λ a us. signChain (suc l) (phraseTower operand k l) k a us)
+-- after the operand a of a formula of level l, inside so many brackets of its own, in which every operator goes on; the
+-- first number bounds the tokens. `next` reads a formula of a level that nests less deep
+unfoldable pub afterOperand : (ℕ → List SheetToken → Phrased Phrase) → ℕ → ℕ → ℕ → ℕ → Phrase → List SheetToken → Phrased Phrase
+afterOperand next room l zero zero a ts = got a ts
+afterOperand next room l zero (suc k) a ts = bad outside (placeAt ts)
+afterOperand next room l (suc m) zero a ts =
+    pick (operatorWithin l (signAt ts)) (withOperator next room (afterOperand next room l m zero) a ts) (got a ts)
+afterOperand next room l (suc m) (suc k) a ts =
+    pick (operatorWithin 6 (signAt ts)) (withOperator next room (afterOperand next room l m (suc k)) a ts)
+    (pastSign closing (afterOperand next room l m k a) ts)
 
 -- a name, or a row's cell
 unfoldable pub cellOf : ℕ → List ℕ → List SheetToken → Phrased Phrase
@@ -105,42 +106,48 @@ cellOf p s ts =
 unfoldable pub readConstant : List SheetToken → Phrased Phrase
 readConstant ts = thenPhrase (valueOf ts) (λ c us. got (constant c) us)
 
-unfoldable pub readBracketed : (List SheetToken → Phrased Phrase) → List SheetToken → Phrased Phrase
-readBracketed all ts = thenPhrase (all ts) (λ e us. pastSign closing (λ vs. got e vs) us)
+unfoldable pub readNegation : (List SheetToken → Phrased Phrase) → List SheetToken → Phrased Phrase
+readNegation operand ts = thenPhrase (operand ts) (λ a us. got (negation a) us)
 
-unfoldable pub readChoice : ℕ → (List SheetToken → Phrased Phrase) → List SheetToken → Phrased Phrase
-readChoice p all ts =
+unfoldable pub readChoice : (List SheetToken → Phrased Phrase) → List SheetToken → Phrased Phrase
+readChoice all ts =
     pastSign opening (λ us. thenPhrase (all us) (λ a vs.
     pastSign comma (λ ws. thenPhrase (all ws) (λ b xs.
     pastSign comma (λ ys. thenPhrase (all ys) (λ c zs.
-    pastSign closing (λ end. within p (choice a b c) end) zs)) xs)) vs)) ts
+    pastSign closing (λ end. got (choice a b c) end) zs)) xs)) vs)) ts
 
--- `!`, a negative constant, brackets, `if`
-unfoldable pub signedOf : (List SheetToken → Phrased Phrase) → (List SheetToken → Phrased Phrase) → ℕ → ℕ → List SheetToken → Phrased Phrase
-signedOf operand all p c ts =
-    pick (eqb c 3) (thenPhrase (operand ts) (λ a us. within p (negation a) us))
+-- `!` and `if` have arguments, which nest less deep
+abbrev pub withArguments : ℕ → ℕ → Phrased Phrase → Phrased Phrase
+withArguments room p x = pick (ltb 1 room) x (bad tooDeep p)
+
+-- what an operand is but for brackets around it: `!`, a negative constant, `if`, a number, a name, a cell
+unfoldable pub signedOf : (ℕ → List SheetToken → Phrased Phrase) → ℕ → ℕ → ℕ → List SheetToken → Phrased Phrase
+signedOf next room p c ts =
+    pick (eqb c 3) (withArguments room p (readNegation (next 0) ts))
     (pick (eqb c 5) (readConstant (sign p c ∷ ts))
-    (pick (eqb c opening) (readBracketed all ts)
-    (pick (eqb c 14) (readChoice p all ts)
-    (bad outside p))))
+    (pick (eqb c 14) (withArguments room p (readChoice (next 6) ts))
+    (bad outside p)))
 
--- level 0, where `operand` reads level 0 and `all` a formula
-abbrev pub readOperand : (List SheetToken → Phrased Phrase) → (List SheetToken → Phrased Phrase) → List SheetToken → Phrased Phrase
-readOperand operand all [] = bad outside 0
-readOperand operand all (number p n ∷ ts) = readConstant (number p n ∷ ts)
-readOperand operand all (name p s ∷ ts) = cellOf p s ts
-readOperand operand all (sign p c ∷ ts) = signedOf operand all p c ts
+abbrev pub readPrimary : (ℕ → List SheetToken → Phrased Phrase) → ℕ → List SheetToken → Phrased Phrase
+readPrimary next room [] = bad outside 0
+readPrimary next room (number p n ∷ ts) = readConstant (number p n ∷ ts)
+readPrimary next room (name p s ∷ ts) = cellOf p s ts
+readPrimary next room (sign p c ∷ ts) = signedOf next room p c ts
 
-unfoldable pub operandWithin : ℕ → List SheetToken → Phrased Phrase
-operandWithin zero ts = bad outside (placeAt ts)
-operandWithin (suc k) ts = readOperand (operandWithin k) (phraseTower (operandWithin k) k 6) ts
+-- the brackets that open here, after so many before them, the first operand, and on; the first number bounds the tokens
+unfoldable pub fromOperand : (ℕ → List SheetToken → Phrased Phrase) → ℕ → ℕ → ℕ → ℕ → List SheetToken → Phrased Phrase
+fromOperand next room l zero k ts = bad outside (placeAt ts)
+fromOperand next room l (suc m) k ts =
+    pick (eqb (signAt ts) opening) (fromOperand next room l m (suc k) (tokensAfter ts))
+    (thenPhrase (readPrimary next room ts) (λ a us. afterOperand next room l m k a us))
 
--- level l at the front of at most k tokens
-abbrev pub phraseAt : ℕ → ℕ → List SheetToken → Phrased Phrase
-phraseAt l k ts = phraseTower (operandWithin k) k l ts
+-- a formula of level l that nests at most so deep
+unfoldable pub phraseWithin : ℕ → ℕ → List SheetToken → Phrased Phrase
+phraseWithin zero l ts = bad tooDeep (placeAt ts)
+phraseWithin (suc room) l ts = fromOperand (phraseWithin room) (suc room) l (length ts) zero ts
 
 abbrev pub formulaOf : List SheetToken → Phrased Phrase
-formulaOf ts = phraseAt 6 (length ts) ts
+formulaOf ts = phraseWithin 16 6 ts
 
 -- ---- players
 

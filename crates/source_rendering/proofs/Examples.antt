@@ -10,7 +10,7 @@ use Rattle.source_language.specs.Faults.{OrFault, fine, andThen}
 use Rattle.source_language.specs.Limits.{among, phraseNesting, afterAll}
 use Rattle.source_language.specs.Meaning.{amongPlayers, bitsBelow, behaviourNamed, meaningOfName, eventNamed, termOf, clausesOf, entriesOf, sheetOf}
 use Rattle.source_language.specs.Scanner.{runOfKind, beyondRun, firstInText, scannedTokens}
-use Rattle.source_language.specs.Reader.{pastSign, valueOf, signChain, phraseTower, cellOf, readConstant, readBracketed, readChoice, signedOf, operandWithin, morePlayers, fromOf, seenOf, manyOf, defaultOf, parameterOf, eventDeclared, reactionOf, passiveDeclared, stateOf, rowDeclared, behaviourDeclared, behaviourBegins, declarationsOf, readText}
+use Rattle.source_language.specs.Reader.{pastSign, valueOf, afterOperand, cellOf, readConstant, readNegation, readChoice, signedOf, fromOperand, phraseWithin, morePlayers, fromOf, seenOf, manyOf, defaultOf, parameterOf, eventDeclared, reactionOf, passiveDeclared, stateOf, rowDeclared, behaviourDeclared, behaviourBegins, declarationsOf, readText}
 use Rattle.source_rendering.specs.Describe.{digitsOf, cellNamed, phraseOf, describedReactions, playersFrom, describedBehaviours, describedEvents, paramsOf, paramsOfClauses, paramsOfEntries, parametersFrom, phraseTokens, numberTokens, parameterTokens, eventTokens, reactionTokens, behaviourTokens, spelledAs, lastOf, runTogether, rendered, render, described}
 use Rattle.source_language.proofs.Examples.{lamps}
 
@@ -63,7 +63,7 @@ pub lamps-described : again lamps ≡ fine (
     44 ∷ 98 ∷ 52 ∷ 44 ∷ 48 ∷ 45 ∷ 98 ∷ 52 ∷ 41 ∷ 10 ∷ 112 ∷ 97 ∷ 115 ∷ 115 ∷ 105 ∷ 118 ∷ 101 ∷ 32 ∷ 98 ∷ 49 ∷
     54 ∷ 61 ∷ 98 ∷ 52 ∷ 43 ∷ 98 ∷ 52 ∷ 91 ∷ 49 ∷ 49 ∷ 93 ∷ 10 ∷ 112 ∷ 97 ∷ 115 ∷ 115 ∷ 105 ∷ 118 ∷ 101 ∷ 32 ∷
     98 ∷ 49 ∷ 55 ∷ 61 ∷ 105 ∷ 102 ∷ 40 ∷ 98 ∷ 48 ∷ 44 ∷ 98 ∷ 49 ∷ 44 ∷ 45 ∷ 49 ∷ 41 ∷ 10 ∷ [])
-unfolding marks reserved same signOf isDigit isLetter inWord isBlank inComment decimalValue level runOfKind beyondRun firstInText scannedTokens among phraseNesting afterAll amongPlayers bitsBelow behaviourNamed meaningOfName eventNamed termOf clausesOf entriesOf sheetOf pastSign valueOf signChain phraseTower cellOf readConstant readBracketed readChoice signedOf operandWithin morePlayers fromOf seenOf manyOf defaultOf parameterOf eventDeclared reactionOf passiveDeclared stateOf rowDeclared behaviourDeclared behaviourBegins declarationsOf readText digitsOf cellNamed phraseOf describedReactions playersFrom describedBehaviours describedEvents paramsOf paramsOfClauses paramsOfEntries parametersFrom phraseTokens numberTokens parameterTokens eventTokens reactionTokens behaviourTokens spelledAs lastOf runTogether rendered render described
+unfolding marks reserved same signOf isDigit isLetter inWord isBlank inComment decimalValue level runOfKind beyondRun firstInText scannedTokens among phraseNesting afterAll amongPlayers bitsBelow behaviourNamed meaningOfName eventNamed termOf clausesOf entriesOf sheetOf pastSign valueOf afterOperand cellOf readConstant readNegation readChoice signedOf fromOperand phraseWithin morePlayers fromOf seenOf manyOf defaultOf parameterOf eventDeclared reactionOf passiveDeclared stateOf rowDeclared behaviourDeclared behaviourBegins declarationsOf readText digitsOf cellNamed phraseOf describedReactions playersFrom describedBehaviours describedEvents paramsOf paramsOfClauses paramsOfEntries parametersFrom phraseTokens numberTokens parameterTokens eventTokens reactionTokens behaviourTokens spelledAs lastOf runTogether rendered render described
 lamps-described = refl
 
 -- minimal brackets, spaces where they are needed, lines, rows' cells
@@ -82,5 +82,5 @@ pub described-so : (again (112 ∷ 97 ∷ 115 ∷ 115 ∷ 105 ∷ 118 ∷ 101 �
     × (again (112 ∷ 97 ∷ 115 ∷ 115 ∷ 105 ∷ 118 ∷ 101 ∷ 32 ∷ 97 ∷ 61 ∷ 40 ∷ 40 ∷ 49 ∷ 60 ∷ 50 ∷ 41 ∷ 61 ∷ 61 ∷ 40 ∷ 51 ∷ 38 ∷ 38 ∷ 52 ∷ 41 ∷ 124 ∷ 124 ∷ 53 ∷ 41 ∷ 42 ∷ 40 ∷ 105 ∷ 102 ∷ 40 ∷ 40 ∷ 54 ∷ 41 ∷ 44 ∷ 55 ∷ 44 ∷ 56 ∷ 41 ∷ 41 ∷ []) ≡ fine (112 ∷ 97 ∷ 115 ∷ 115 ∷ 105 ∷ 118 ∷ 101 ∷ 32 ∷ 98 ∷ 48 ∷ 61 ∷ 40 ∷ 49 ∷ 60 ∷ 50 ∷ 61 ∷ 61 ∷ 40 ∷ 51 ∷ 38 ∷ 38 ∷ 52 ∷ 41 ∷ 124 ∷ 124 ∷ 53 ∷ 41 ∷ 42 ∷ 105 ∷ 102 ∷ 40 ∷ 54 ∷ 44 ∷ 55 ∷ 44 ∷ 56 ∷ 41 ∷ 10 ∷ []))
     × (again ([]) ≡ fine ([]))
     × (again (101 ∷ 118 ∷ 101 ∷ 110 ∷ 116 ∷ 32 ∷ 97 ∷ 32 ∷ 114 ∷ 97 ∷ 110 ∷ 107 ∷ 32 ∷ 49 ∷ 32 ∷ 102 ∷ 114 ∷ 111 ∷ 109 ∷ 32 ∷ 110 ∷ 111 ∷ 98 ∷ 111 ∷ 100 ∷ 121 ∷ 32 ∷ 114 ∷ 111 ∷ 119 ∷ 32 ∷ 114 ∷ 91 ∷ 50 ∷ 93 ∷ 61 ∷ 48 ∷ 32 ∷ 115 ∷ 101 ∷ 101 ∷ 110 ∷ 32 ∷ 98 ∷ 121 ∷ 32 ∷ 51 ∷ 32 ∷ 112 ∷ 97 ∷ 115 ∷ 115 ∷ 105 ∷ 118 ∷ 101 ∷ 32 ∷ 113 ∷ 61 ∷ 114 ∷ 91 ∷ 49 ∷ 93 ∷ []) ≡ fine (101 ∷ 118 ∷ 101 ∷ 110 ∷ 116 ∷ 32 ∷ 101 ∷ 48 ∷ 32 ∷ 114 ∷ 97 ∷ 110 ∷ 107 ∷ 32 ∷ 49 ∷ 32 ∷ 102 ∷ 114 ∷ 111 ∷ 109 ∷ 32 ∷ 110 ∷ 111 ∷ 98 ∷ 111 ∷ 100 ∷ 121 ∷ 10 ∷ 114 ∷ 111 ∷ 119 ∷ 32 ∷ 98 ∷ 48 ∷ 91 ∷ 50 ∷ 93 ∷ 61 ∷ 48 ∷ 32 ∷ 115 ∷ 101 ∷ 101 ∷ 110 ∷ 32 ∷ 98 ∷ 121 ∷ 32 ∷ 51 ∷ 10 ∷ 112 ∷ 97 ∷ 115 ∷ 115 ∷ 105 ∷ 118 ∷ 101 ∷ 32 ∷ 98 ∷ 50 ∷ 61 ∷ 98 ∷ 48 ∷ 91 ∷ 49 ∷ 93 ∷ 10 ∷ []))
-unfolding marks reserved same signOf isDigit isLetter inWord isBlank inComment decimalValue level runOfKind beyondRun firstInText scannedTokens among phraseNesting afterAll amongPlayers bitsBelow behaviourNamed meaningOfName eventNamed termOf clausesOf entriesOf sheetOf pastSign valueOf signChain phraseTower cellOf readConstant readBracketed readChoice signedOf operandWithin morePlayers fromOf seenOf manyOf defaultOf parameterOf eventDeclared reactionOf passiveDeclared stateOf rowDeclared behaviourDeclared behaviourBegins declarationsOf readText digitsOf cellNamed phraseOf describedReactions playersFrom describedBehaviours describedEvents paramsOf paramsOfClauses paramsOfEntries parametersFrom phraseTokens numberTokens parameterTokens eventTokens reactionTokens behaviourTokens spelledAs lastOf runTogether rendered render described
+unfolding marks reserved same signOf isDigit isLetter inWord isBlank inComment decimalValue level runOfKind beyondRun firstInText scannedTokens among phraseNesting afterAll amongPlayers bitsBelow behaviourNamed meaningOfName eventNamed termOf clausesOf entriesOf sheetOf pastSign valueOf afterOperand cellOf readConstant readNegation readChoice signedOf fromOperand phraseWithin morePlayers fromOf seenOf manyOf defaultOf parameterOf eventDeclared reactionOf passiveDeclared stateOf rowDeclared behaviourDeclared behaviourBegins declarationsOf readText digitsOf cellNamed phraseOf describedReactions playersFrom describedBehaviours describedEvents paramsOf paramsOfClauses paramsOfEntries parametersFrom phraseTokens numberTokens parameterTokens eventTokens reactionTokens behaviourTokens spelledAs lastOf runTogether rendered render described
 described-so = (refl, refl, refl, refl, refl, refl, refl)

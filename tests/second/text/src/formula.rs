@@ -1,9 +1,9 @@
 //! A formula, read with a stack of its own: brackets may be as deep as a text is long.
 //!
-//! What waits for an operand stands on one stack, the operands read so far on another. An application is judged as soon
-//! as it is complete: where it nests 17 deep, the fault is at its `!`, `if` or operator. So nothing that is built nests
-//! deeper, however long the text is.
-use crate::fault::{Fault, Kind, Place};
+//! What waits for an operand stands on one stack, the operands read so far on another. How deep a formula nests is
+//! judged as it is read: at fault is the first `!`, `if` or operator with which it must nest 17 deep. So at most 15
+//! functions wait, and nothing that is built nests deeper, however long the text is.
+use crate::fault::{Fault, Kind};
 use crate::read::{Cell, Reader, Use};
 use crate::token::{Token, Word};
 use crate::tree::{two_sided, Expr, IF, MINUS, NOT};
@@ -13,10 +13,10 @@ use crate::NESTING;
 enum Waiting {
     Bracket,
     /// An `if` with so many arguments behind it.
-    Choice(Place, u8),
-    Not(Place),
+    Choice(u8),
+    Not,
     /// A function and its level.
-    TwoSided(Place, u8, u8),
+    TwoSided(u8, u8),
 }
 
 /// An expression and how deep it nests. A name in it is the number of its use until names are known.
@@ -25,6 +25,8 @@ struct Operand(Expr, usize);
 struct Formula<'r, 't> {
     reader: &'r mut Reader<'t>,
     waiting: Vec<Waiting>,
+    /// How many of them are functions: the brackets are not.
+    functions: usize,
     operands: Vec<Operand>,
     /// The cells of the row whose handler this is.
     row: Option<u8>,
@@ -39,7 +41,7 @@ enum After {
 
 /// The formula at the reader's place.
 pub fn formula(reader: &mut Reader, row: Option<u8>) -> Result<Expr, Fault> {
-    let mut f = Formula { reader, waiting: vec![], operands: vec![], row };
+    let mut f = Formula { reader, waiting: vec![], functions: 0, operands: vec![], row };
     loop {
         f.operand()?;
         loop {
@@ -57,20 +59,31 @@ impl Formula<'_, '_> {
     fn operand(&mut self) -> Result<(), Fault> {
         loop {
             match self.reader.token {
-                Token::Not => self.waiting.push(Waiting::Not(self.reader.place)),
+                Token::Not => self.wait(Waiting::Not, 1)?,
                 Token::Mark(b'(') => self.waiting.push(Waiting::Bracket),
                 Token::Word(Word::If) => {
-                    let place = self.reader.place;
+                    self.wait(Waiting::Choice(0), 1)?;
                     self.reader.next();
                     if self.reader.token != Token::Mark(b'(') {
                         return Err(self.reader.outside("`(` is due after `if`"));
                     }
-                    self.waiting.push(Waiting::Choice(place, 0));
                 }
                 _ => return self.primary(),
             }
             self.reader.next();
         }
+    }
+
+    /// The function at the reader's place waits for arguments, the deepest of which nests so deep at least, inside
+    /// those that wait already.
+    fn wait(&mut self, function: Waiting, nesting: usize) -> Result<(), Fault> {
+        if self.functions + 1 + nesting > NESTING {
+            let why = format!("with this the expression nests over {NESTING} deep");
+            return Err(Fault::new(Kind::TooDeep, self.reader.place, why));
+        }
+        self.waiting.push(function);
+        self.functions += 1;
+        Ok(())
     }
 
     fn primary(&mut self) -> Result<(), Fault> {
@@ -102,8 +115,9 @@ impl Formula<'_, '_> {
         match self.reader.token {
             Token::TwoSided(function) => {
                 let (_, level) = two_sided(function).unwrap_or(("", 0));
-                self.close(level)?;
-                self.waiting.push(Waiting::TwoSided(self.reader.place, function, level));
+                self.close(level);
+                let left = self.operands.last().map_or(1, |o| o.1);
+                self.wait(Waiting::TwoSided(function, level), left)?;
                 self.reader.next();
                 Ok(After::Operand)
             }
@@ -114,9 +128,9 @@ impl Formula<'_, '_> {
     }
 
     fn comma(&mut self) -> Result<After, Fault> {
-        self.close(u8::MAX)?;
+        self.close(u8::MAX);
         match self.waiting.last_mut() {
-            Some(Waiting::Choice(_, done @ 0..=1)) => *done += 1,
+            Some(Waiting::Choice(done @ 0..=1)) => *done += 1,
             _ => return self.done(),
         }
         self.reader.next();
@@ -124,23 +138,22 @@ impl Formula<'_, '_> {
     }
 
     fn bracket(&mut self) -> Result<After, Fault> {
-        self.close(u8::MAX)?;
+        self.close(u8::MAX);
         match self.waiting.last() {
-            Some(Waiting::Bracket) => {}
-            Some(Waiting::Choice(place, 2)) => self.apply(*place, IF, 3)?,
+            Some(Waiting::Bracket) => drop(self.waiting.pop()),
+            Some(Waiting::Choice(2)) => self.apply(IF, 3),
             _ => return self.done(),
         }
-        self.waiting.pop();
         self.reader.next();
         Ok(After::Operator)
     }
 
     /// The formula is over, unless a bracket is open: then the token cannot follow.
     fn done(&mut self) -> Result<After, Fault> {
-        self.close(u8::MAX)?;
+        self.close(u8::MAX);
         match self.waiting.last() {
             None => Ok(After::End),
-            Some(Waiting::Choice(_, 0..=1)) => Err(self.reader.outside("an operator or `,` is due")),
+            Some(Waiting::Choice(0..=1)) => Err(self.reader.outside("an operator or `,` is due")),
             Some(_) => Err(self.reader.outside("an operator or `)` is due")),
         }
     }
@@ -151,27 +164,23 @@ impl Formula<'_, '_> {
     }
 
     /// Applies what waits and binds at least as tightly as a level: all two-sided operators group to the left.
-    fn close(&mut self, level: u8) -> Result<(), Fault> {
+    fn close(&mut self, level: u8) {
         loop {
-            let (place, function, arguments) = match self.waiting.last() {
-                Some(Waiting::Not(place)) => (*place, NOT, 1),
-                Some(Waiting::TwoSided(place, function, own)) if *own <= level => (*place, *function, 2),
-                _ => return Ok(()),
-            };
-            self.waiting.pop();
-            self.apply(place, function, arguments)?;
+            match self.waiting.last() {
+                Some(Waiting::Not) => self.apply(NOT, 1),
+                Some(Waiting::TwoSided(function, own)) if *own <= level => self.apply(*function, 2),
+                _ => return,
+            }
         }
     }
 
-    /// A function that waited takes its arguments.
-    fn apply(&mut self, place: Place, function: u8, arguments: usize) -> Result<(), Fault> {
+    /// The last function that waits takes its arguments.
+    fn apply(&mut self, function: u8, arguments: usize) {
+        self.waiting.pop();
+        self.functions -= 1;
         let from = self.operands.len().saturating_sub(arguments);
         let taken: Vec<Operand> = self.operands.drain(from..).collect();
         let nesting = 1 + taken.iter().map(|o| o.1).max().unwrap_or(0);
-        if nesting > NESTING {
-            return Err(Fault::new(Kind::TooDeep, place, format!("the expression here nests over {NESTING} deep")));
-        }
         self.operands.push(Operand(Expr::Apply(function, taken.into_iter().map(|o| o.0).collect()), nesting));
-        Ok(())
     }
 }

@@ -97,7 +97,7 @@ pub fn assemble_into(text: &[u8], buffer: &mut [u8]) -> Result<usize, Fault> {
 fn assemble_within(text: &[u8], room: usize) -> Result<Assembled, Fault> {
     if text.len() > TEXT {
         let why = format!("{} bytes, and a text has at most {TEXT}", text.len());
-        return Err(Fault::new(Kind::LongText, end_of(text), why));
+        return Err(Fault::new(Kind::LongText, end_of(&text[..TEXT]), why));
     }
     let mut reader = Reader::new(text);
     reader.sheet()?;

@@ -1,6 +1,7 @@
 //! Every kind of fault with its line and column, and every pair of them in both orders.
 //!
-//! In a text `^` stands before the token at fault and is taken out; without one the fault is at the end of the text.
+//! In a text `^` stands before the token or byte at fault and is taken out; without one the fault is at the end of the
+//! text.
 use sheet_text::{assemble, assemble_into, Kind, Place, SHEET, TEXT};
 
 /// The text without its mark, and the place of the mark, or of the end.
@@ -226,21 +227,24 @@ fn handlers() {
 fn nesting() {
     let nots = |n: usize| "!".repeat(n);
     accepted(&format!("passive a = {}1", nots(15)));
-    // at fault is the application that nests 17 deep, the first to be complete
-    check(Kind::TooDeep, &format!("passive a = ^!{}1", nots(15)));
-    check(Kind::TooDeep, &format!("passive a = {}^!{}1 $", nots(50), nots(15)));
-    check(Kind::TooDeep, &format!("passive a = {}^!{}1", nots(60_000), nots(15)));
-    check(Kind::TooDeep, &format!("passive a = ^!({}1)+", nots(15)));
-    // it is judged before the token behind it is looked at, and after all within it
-    check(Kind::TooDeep, &format!("passive a = ^!{}1 ]", nots(15)));
-    check(Kind::Outside, &format!("passive a = {}^]", nots(16)));
-    check(Kind::LargeNumber, &format!("passive a = {}^2147483648", nots(16)));
-    check(Kind::Outside, &format!("passive a = !({}1^]", nots(15)));
-    // grouping to the left: the sixteenth operator, once its operand is read
+    // at fault is the first sign with which it must nest 17 deep
+    check(Kind::TooDeep, &format!("passive a = {}^!1", nots(15)));
+    check(Kind::TooDeep, &format!("passive a = {}^!{}1 $", nots(15), nots(50)));
+    check(Kind::TooDeep, &format!("passive a = {}^!{}1", nots(15), nots(60_000)));
+    check(Kind::TooDeep, &format!("passive a = !({}^!1)+", nots(14)));
+    // it is judged before the token behind it is looked at, and after all before it
+    check(Kind::TooDeep, &format!("passive a = {}^! ]", nots(15)));
+    check(Kind::TooDeep, &format!("passive a = {}^!", nots(15)));
+    check(Kind::Outside, &format!("passive a = {}^]", nots(15)));
+    check(Kind::LargeNumber, &format!("passive a = {}^2147483648", nots(15)));
+    check(Kind::Outside, &format!("passive a = !({}1^]", nots(14)));
+    check(Kind::TooDeep, &format!("passive a = {}(1^+1", nots(15)));
+    // grouping to the left: the sixteenth operator
     let sum = |n: usize| vec!["1"; n].join("+");
     accepted(&format!("passive a = {}", sum(16)));
     check(Kind::TooDeep, &format!("passive a = {}^+1", sum(16)));
-    check(Kind::Outside, &format!("passive a = {}+", sum(16)));
+    check(Kind::TooDeep, &format!("passive a = {}^+", sum(16)));
+    check(Kind::Outside, &format!("passive a = {}^]", sum(16)));
     check(Kind::TooDeep, &format!("passive a = {} ^< 1+1 == ]", sum(16)));
     // a tighter operator only deepens its own operand
     accepted(&format!("passive a = {}*1", sum(16)));
@@ -249,15 +253,19 @@ fn nesting() {
     // brackets add none, and the right side may be deep too
     accepted(&format!("passive a = {}{}{}", "(".repeat(30_000), "1", ")".repeat(30_000)));
     accepted(&format!("passive a = 1{}{}", "+(1".repeat(15), ")".repeat(15)));
-    check(Kind::TooDeep, &format!("passive a = 1^+(1{}{}", "+(1".repeat(15), ")".repeat(16)));
-    check(Kind::Outside, &format!("passive a = 1+(1{}{}^]", "+(1".repeat(15), ")".repeat(15)));
-    // `if`, at its closing bracket
+    check(Kind::TooDeep, &format!("passive a = 1{}^+(1{}", "+(1".repeat(15), ")".repeat(16)));
+    check(Kind::Outside, &format!("passive a = 1{}{}^]", "+(1".repeat(15), ")".repeat(14)));
+    check(Kind::TooDeep, &format!("passive a = {}{}{} ^- 1", "(".repeat(9_000), sum(16), ")".repeat(9_000)));
+    // `if`
     let choice = |n: usize| "if(1,2,".repeat(n) + "3" + &")".repeat(n);
     accepted(&format!("passive a = {}", choice(15)));
-    check(Kind::TooDeep, &format!("passive a = ^{}", choice(16)));
-    check(Kind::Outside, &format!("passive a = if(1, 2, {}^]", choice(15)));
-    check(Kind::Outside, &format!("passive a = {}", "(".repeat(65_000)));
-    check(Kind::Outside, &format!("passive a = {}^]", "if(1,2,".repeat(9_000)));
+    check(Kind::TooDeep, &format!("passive a = {}^if(1,2,3){}", "if(1,2,".repeat(15), ")".repeat(15)));
+    check(Kind::TooDeep, &format!("passive a = {}^if 1", "if(1,".repeat(15)));
+    check(Kind::Outside, &format!("passive a = if(1, 2, {}^]", choice(14)));
+    check(Kind::TooDeep, &format!("passive a = {}^{}", "if(1,2,".repeat(15), "if(1,2,".repeat(9_000)));
+    // as many brackets as a text has bytes
+    let front = "passive a =";
+    check(Kind::Outside, &format!("{front}{}", "(".repeat(TEXT - front.len())));
 }
 
 #[test]
@@ -293,9 +301,10 @@ fn sizes() {
     let front = "passive a = 1 #";
     let padded = |to: usize| front.to_string() + &"x".repeat(to - front.len());
     accepted(&padded(TEXT));
-    check(Kind::LongText, &padded(TEXT + 1));
-    check(Kind::LongText, &"\n".repeat(TEXT + 1));
-    check(Kind::LongText, &"$".repeat(TEXT + 1));
+    check(Kind::LongText, &format!("{}^x", padded(TEXT)));
+    check(Kind::LongText, &format!("{}^x\n  x", padded(TEXT)));
+    check(Kind::LongText, &format!("{}^\n", "\n".repeat(TEXT)));
+    check(Kind::LongText, &format!("{}^$$", "$".repeat(TEXT)));
 }
 
 /// A sheet of exactly 8,192 bytes passes, one more byte does not.
@@ -330,7 +339,7 @@ fn planted(kind: Kind, n: usize) -> String {
         Kind::Crowded => format!("row a{n}[^16] = 0"),
         Kind::Doubled => "active ^x = 0".to_string(),
         Kind::SecondHandler => format!("active a{n} = 0 on e: 1 on ^e: 1"),
-        Kind::TooDeep => format!("passive a{n} = ^!!!!!!!!!!!!!!!!1"),
+        Kind::TooDeep => format!("passive a{n} = !!!!!!!!!!!!!!!^!1"),
         Kind::UnknownName => format!("passive a{n} = ^nix"),
         Kind::NoCell => format!("passive a{n} = y^[1]"),
         Kind::LongSheet => format!("passive a{n} = {}", bushy(11)),
@@ -363,6 +372,7 @@ fn every_pair() {
             // of two alike the first counts
             let other = if first == second { other.replace('^', "") } else { own(second, other) };
             let (text, place) = marked(&format!("{BASE}{}\n{other}\n", own(first, one)));
+            let place = if wanted == Kind::LongText { marked(&text[..TEXT]).1 } else { place };
             let room = if [first, second].contains(&Kind::ShortBuffer) { 0 } else { SHEET };
             let mut buffer = vec![7; room];
             let fault = assemble_into(text.as_bytes(), &mut buffer).expect_err("two faults");
@@ -381,8 +391,8 @@ fn numbers_and_words() {
     assert!(Kind::ALL.iter().map(|k| k.number()).eq(31..31 + Kind::ALL.len() as u32), "numbers in a row");
 }
 
-/// A formula read by one function a level, each application judged once it is complete: a token's number where the first
-/// fault is, and whether it nests too deep there; or where the formula ends.
+/// A formula read by one function a level, each told how deep its part may nest: a token's number where the first fault
+/// is, and whether it nests too deep there; or where the formula ends.
 struct Levels<'a> {
     tokens: Vec<&'a str>,
     at: usize,
@@ -406,48 +416,49 @@ impl Levels<'_> {
         Ok(())
     }
 
-    fn within(from: usize, nesting: usize) -> Read<usize> {
-        if nesting > 16 {
+    /// The room for the arguments of a function there, the first of which nests so deep.
+    fn inside(from: usize, room: usize, nesting: usize) -> Read<usize> {
+        if nesting >= room {
             return Err((from, Kind::TooDeep));
         }
-        Ok(nesting)
+        Ok(room - 1)
     }
 
-    fn operand(&mut self) -> Read<usize> {
+    fn operand(&mut self, room: usize) -> Read<usize> {
         let from = self.at;
         self.at += 1;
         match self.tokens.get(from).copied().unwrap_or("") {
             "1" | "a" => Ok(1),
             "-" => self.past("1").map(|()| 1),
-            "!" => self.operand().and_then(|n| Levels::within(from, n + 1)),
+            "!" => self.operand(Levels::inside(from, room, 1)?).map(|nesting| nesting + 1),
             "(" => {
-                let nesting = self.level(6)?;
+                let nesting = self.level(6, room)?;
                 self.past(")").map(|()| nesting)
             }
             "if" => {
+                let room = Levels::inside(from, room, 1)?;
                 self.past("(")?;
-                let first = self.level(6)?;
+                let first = self.level(6, room)?;
                 self.past(",")?;
-                let second = self.level(6)?;
+                let second = self.level(6, room)?;
                 self.past(",")?;
-                let third = self.level(6)?;
+                let third = self.level(6, room)?;
                 self.past(")")?;
-                Levels::within(from, 1 + first.max(second).max(third))
+                Ok(1 + first.max(second).max(third))
             }
             _ => Err((from, Kind::Outside)),
         }
     }
 
-    fn level(&mut self, level: usize) -> Read<usize> {
+    fn level(&mut self, level: usize, room: usize) -> Read<usize> {
         if level == 0 {
-            return self.operand();
+            return self.operand(room);
         }
-        let mut left = self.level(level - 1)?;
+        let mut left = self.level(level - 1, room)?;
         while LEVELS[level - 1].contains(&self.token()) {
-            let from = self.at;
+            let room = Levels::inside(self.at, room, left)?;
             self.at += 1;
-            let right = self.level(level - 1)?;
-            left = Levels::within(from, 1 + left.max(right))?;
+            left = 1 + left.max(self.level(level - 1, room)?);
         }
         Ok(left)
     }
@@ -501,7 +512,7 @@ fn one_function_a_level() {
         let tokens: Vec<&str> = text.split(' ').collect();
         let mut levels = Levels { tokens, at: 0 };
         let ends = |levels: &Levels| if levels.token().is_empty() { Ok(()) } else { Err((levels.at, Kind::Outside)) };
-        let whole = levels.level(6).and_then(|_| ends(&levels));
+        let whole = levels.level(6, 16).and_then(|_| ends(&levels));
         let front = "passive a = ";
         let column = |token: usize| {
             let before: usize = levels.tokens.iter().take(token).map(|t| t.len() + 1).sum();
