@@ -65,7 +65,7 @@ filled-judged s ps t =
 
 -- the draft filled in and judged is the sheet judged
 pub filled-is : {ev bs n : ℕ} {d : List ℕ} (ps : List ℕ) → All (λ b. b < 256) ps → (l : Bool) (t : List ℕ) (r : ℕ) (t′ : List ℕ) → l ≡ lacksParam d n ps
-    → Judged ev bs n (fillTo ps d 2048) l t r t′ → SheetJudged ev bs n d ps t r t′
+    → Judged ev bs n (fillTo ps d n) l t r t′ → SheetJudged ev bs n d ps t r t′
 filled-is ps bytes l t r t′ e j = record {
   each-sheet = λ o. j .each-program (draft-filled ps bytes o)
       ∙ ap (λ (p : Program). judge p l t) (filled-program ps bytes o)

@@ -70,7 +70,7 @@ module _ (s ps : List ℕ) (bytes : All (λ b. b < 256) s) (hi : length s ≤ 81
     of = drafted-as s bytes hi (Ready ev bs n) d (sym q)
 
     abbrev full : List ℕ
-    full = fillTo ps d 2048
+    full = fillTo ps d n
 
     abbrev pub filled : DraftOf ev bs n full
     filled = draft-filled ps lent (of .0)

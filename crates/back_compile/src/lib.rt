@@ -59,7 +59,7 @@ pub fn judge_sheet(sheet: &[u8], params: &[u8], draft: &mut [u64]) -> Judgement
         return Judgement::Refused(fault_of(reading));
     };
     let lacking = front_params::lacks_param(draft, nodes, params);
-    front_params::fill_draft(draft, params);
+    front_params::fill_draft(draft, nodes, params);
     if !check_faults::names_known(draft, nodes, behaviours) {
         return Judgement::Refused(refusals::UNKNOWN_NAME);
     }

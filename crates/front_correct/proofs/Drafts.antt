@@ -13,7 +13,7 @@ use Rattle.front_draft.specs.Draft.{draftLength, SheetDraft}
 use Rattle.front_sheet.specs.declared.Draft.{Draft}
 use Rattle.front_sheet.specs.declared.Draft.the-variants.{Ready, Broken}
 use Rattle.front_sheet.specs.Whole.{Finish, finished, readOn}
-use Rattle.front_correct.proofs.Sofar.{all-read}
+use Rattle.front_correct.proofs.Sofar.{all-read, all-held}
 use Rattle.front_correct.proofs.Programs.{SameProgram, same-program}
 
 -- what an answer of the reader says of the bytes s, with the draft d that it leaves
@@ -41,6 +41,7 @@ module _ (s : List ℕ) (bytes : All (λ b. b < 256) s) (most : length s ≤ 819
           events-are = refl;
           size-is = refl;
           drafted = all-read (o .1) (h .1) (h .3) (p .signals) (p .entries) (h .4) (length (p .signals)) (f .each) (f .few-behaviours);
+          held = all-held (o .1) (h .1) (h .3) (p .signals) (p .entries) (h .4);
           pool = h .4 .pool;
         },
         t,

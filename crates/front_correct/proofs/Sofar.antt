@@ -25,7 +25,7 @@ use Rattle.spec_language.specs.Sheet.{fillTerm, fillClauses, fillEntries, fill}
 use Rattle.spec_language.proofs.SheetLaws.{blank, length-priorities, length-fill, fill-at}
 use Rattle.spec_language.specs.Reading.{entry, sheet}
 use Rattle.front_draft.proofs.DraftLaws.{take-used}
-use Rattle.front_draft.specs.Draft.{draftLength, behaviourNodes, programNodes, entryOf, placeOf, moved, usedBy, Stands, EntrySays, StartIs, Drafted, unfilled}
+use Rattle.front_draft.specs.Draft.{draftLength, behaviourNodes, programNodes, entryOf, placeOf, moved, usedBy, Stands, EntrySays, EntryIn, StartIs, Drafted, unfilled}
 use Rattle.front_rows.specs.Cells.{cellCopied, cellsCopied, rowCopied}
 use Rattle.front_rows.proofs.CellLaws.{cell-long, cell-take, cell-other, cell-entry, cell-start, cell-viewer, cell-place}
 use Rattle.front_viewers.specs.Ending.{viewer}
@@ -425,6 +425,24 @@ module _ (d : List ℕ) (n : ℕ) (room : n ≤ 2048) where
   unfolding entryOf
   row-says e i (passive x) h = rw (ne-eqb (getD d (4096 + i) 0) 0 (stands-some d n 1 (getD d (4096 + i) 0) x (h .0))) (stands 1 (getD d (4096 + i) 0) x (h .0))
   row-says e i (active w hs) h = rw (eq-eqb (getD d (4096 + i) 0) 0 (h .0)) (says (cell d i e) (handled e hs) (h .2 e))
+
+  stands-in : (kind v : ℕ) (x : Expr) → kind < 4 → StandsBy d n kind v x → EntryIn n v
+  stands-in kind v x small h = omega (arith, h .1, h .2)
+
+  says-in : (v : ℕ) (r : Response) → SaysBy d n v r → EntryIn n v
+  says-in v (follows x) h = stands-in 1 v x (omega arith) h
+  says-in v (takes x) h = stands-in 2 v x (omega arith) h
+  says-in v (defers x) h = stands-in 3 v x (omega arith) h
+  says-in v keeps h = omega (arith, h)
+
+  row-in : (e i : ℕ) (b : Behaviour) → RowIs d n i b → EntryIn n (entryOf d e i)
+  unfolding entryOf
+  row-in e i (passive x) h =
+      rw (ne-eqb (getD d (4096 + i) 0) 0 (stands-some d n 1 (getD d (4096 + i) 0) x (h .0))) (stands-in 1 (getD d (4096 + i) 0) x (omega arith) (h .0))
+  row-in e i (active w hs) h = rw (eq-eqb (getD d (4096 + i) 0) 0 (h .0)) (says-in (cell d i e) (handled e hs) (h .2 e))
+
+  pub all-held : (rs : List Signal) (bs : List Entry) → Sofar rs bs d n → (e i : ℕ) → i < cellCount bs → EntryIn n (entryOf d e i)
+  all-held rs bs s e i h = row-in e i (rawItem (getD (spread bs) i blank .item)) (s .flat .rows i (omega (arith, length-spread bs)))
 
   row-starts : (i : ℕ) (b : Behaviour) → RowIs d n i b → StartIs d i b
   row-starts i (passive x) h = h .1

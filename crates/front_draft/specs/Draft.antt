@@ -91,6 +91,10 @@ EntrySays d v (takes x) = Stands d 2 v x
 EntrySays d v (defers x) = Stands d 3 v x
 EntrySays d v keeps = v ≡ 0
 
+-- the nodes that an entry leads to are among the first n
+abbrev pub EntryIn : ℕ → ℕ → Type 0
+EntryIn n v = v / 4 % 4096 + v / 16384 ≤ n
+
 -- the start value, of an active
 abbrev pub StartIs : List ℕ → ℕ → Behaviour → Type 0
 StartIs d i (passive x) = getD d (4160 + i) 0 ≡ 0
@@ -135,4 +139,5 @@ pub record SheetDraft (ev bs n : ℕ) (d : List ℕ) : Type 0 where
   pub events-are : ev ≡ length (sheet .signals)
   pub size-is : bs ≡ cellCount (sheet .entries)
   pub drafted : Drafted (fill unfilled sheet) d n
+  pub held : (e i : ℕ) → i < bs → EntryIn n (entryOf d e i)
   pub pool : take n d ≡ programNodes (fillEntries unfilled (sheet .entries))

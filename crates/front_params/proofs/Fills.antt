@@ -14,7 +14,7 @@ use Rattle.lib_base.specs.Basics.{All}
 use Rattle.lib_base.proofs.Tools.{split, by-test, all-at, all-at-or}
 use Rattle.lib_word.specs.Word.{getAt, get}
 use Rattle.spec_language.specs.Syntax.{Phase, immediate, later}
-use Rattle.spec_language.specs.Sheet.{Term, Clause, clause, Item, formula, state, row, Entry, Sheet, rowsOut, prioritiesOf}
+use Rattle.spec_language.specs.Sheet.{Term, Clause, clause, Item, formula, state, row, Entry, Sheet, rowsOut, prioritiesOf, cellCount}
 use Rattle.spec_language.specs.Sheet.{fillTerm, fillClauses, fillItem, fillEntries, fill, usesTerm, usesClauses, usesItem, usesEntries, uses}
 use Rattle.spec_language.specs.Dependence.{handled, inPhase, respond}
 use Rattle.spec_language.specs.Grammar.{Arity, unary, ternary, binary, TermFits, t-literal, t-variable, t-param, t-apply1, t-apply2, t-apply3, ClausesFit, ItemFits, EntryFits, SheetFits}
@@ -23,7 +23,7 @@ use Rattle.spec_language.proofs.Laws.{handled-here, handled-there}
 use Rattle.spec_language.proofs.RowLaws.{length-out, rows-fit}
 use Rattle.spec_language.proofs.RowNames.{names-sent}
 use Rattle.spec_language.proofs.SheetLaws.{blank, length-priorities, length-fill, fill-at, size-fill, entries-fit, fill-fits}
-use Rattle.front_draft.specs.Draft.{draftLength, nodes, handlerNodes, behaviourNodes, programNodes, entryOf, placeOf, moved, usedBy, Stands, EntrySays, StartIs, Drafted, DraftOf, unfilled, SheetDraft}
+use Rattle.front_draft.specs.Draft.{draftLength, nodes, handlerNodes, behaviourNodes, programNodes, entryOf, placeOf, moved, usedBy, Stands, EntrySays, EntryIn, StartIs, Drafted, DraftOf, unfilled, SheetDraft}
 use Rattle.front_draft.proofs.DraftLaws.{take-used, moved-places}
 use Rattle.front_draft.specs.Entry.{nodeTag, nodeWord}
 use Rattle.front_params.proofs.PassiveNodes.{passives-few}
@@ -153,16 +153,16 @@ module _ (ps : List ℕ) where
       let q : j ≢ k = eqb-false j k c in
       getD-set-other (fillTo ps d k) k j (filledNode ps (getD (fillTo ps d k) k 0)) 0 q ∙ before-fillTo d k j (omega arith) (omega arith))
 
-  part-filled : (d : List ℕ) → length d ≡ draftLength → (a m : ℕ) → a + m ≤ 2048 → take m (drop a (fillTo ps d 2048)) ≡ fillAll (take m (drop a d))
-  part-filled d long a m h =
-      let l₁ : length (drop a (fillTo ps d 2048)) ≡ draftLength - a = length-drop a (fillTo ps d 2048) ∙ rw (length-fillTo d 2048, long) in
+  part-filled : (d : List ℕ) → length d ≡ draftLength → (n : ℕ) → n ≤ 2048 → (a m : ℕ) → a + m ≤ n → take m (drop a (fillTo ps d n)) ≡ fillAll (take m (drop a d))
+  part-filled d long n few a m h =
+      let l₁ : length (drop a (fillTo ps d n)) ≡ draftLength - a = length-drop a (fillTo ps d n) ∙ rw (length-fillTo d n, long) in
       let l₂ : length (drop a d) ≡ draftLength - a = length-drop a d ∙ rw long in
-      let e₁ : length (take m (drop a (fillTo ps d 2048))) ≡ m = length-take-le m (drop a (fillTo ps d 2048)) (omega arith) in
+      let e₁ : length (take m (drop a (fillTo ps d n))) ≡ m = length-take-le m (drop a (fillTo ps d n)) (omega arith) in
       let e₂ : length (take m (drop a d)) ≡ m = length-take-le m (drop a d) (omega arith) in
-      ext-getD 0 (take m (drop a (fillTo ps d 2048))) (fillAll (take m (drop a d))) (e₁ ∙ sym (length-fillAll (take m (drop a d)) ∙ e₂))
+      ext-getD 0 (take m (drop a (fillTo ps d n))) (fillAll (take m (drop a d))) (e₁ ∙ sym (length-fillAll (take m (drop a d)) ∙ e₂))
       (λ i b.
       let c : i < m = omega arith in
-      getD-take m (drop a (fillTo ps d 2048)) i 0 c ∙ getD-drop a (fillTo ps d 2048) i 0 ∙ before-fillTo d 2048 (a + i) (omega arith) (omega arith)
+      getD-take m (drop a (fillTo ps d n)) i 0 c ∙ getD-drop a (fillTo ps d n) i 0 ∙ before-fillTo d n (a + i) (omega arith) (omega arith)
       ∙ sym (getD-fillAll (take m (drop a d)) i (omega arith) ∙ ap (filledNode ps) (getD-take m (drop a d) i 0 c ∙ getD-drop a d i 0)))
 
   -- a node that a behaviour uses, filled in (02, M-110): its name is moved before or after
@@ -201,95 +201,95 @@ module _ (ps : List ℕ) where
     fill-moved [] = refl
     fill-moved (x ∷ l) = λ t. moved-filled x t ∷ fill-moved l t
 
-  module _ (bytes : All (λ b. b < 256) ps) (d : List ℕ) (long : length d ≡ draftLength) where
+  module _ (bytes : All (λ b. b < 256) ps) (d : List ℕ) (long : length d ≡ draftLength) (n : ℕ) (room : n ≤ 2048) where
     abbrev d′ : List ℕ
-    d′ = fillTo ps d 2048
+    d′ = fillTo ps d n
 
     same-moves : (i : ℕ) (l : List ℕ) → map (moved d′ i) l ≡ map (moved d i) l
     same-moves i [] = refl
-    same-moves i (x ∷ l) = λ t. moved-places d d′ i x (λ j. after-fillTo d 2048 (4352 + j) (omega arith)) t ∷ same-moves i l t
+    same-moves i (x ∷ l) = λ t. moved-places d d′ i x (λ j. after-fillTo d n (4352 + j) (omega arith)) t ∷ same-moves i l t
 
-    used-filled : (i a m : ℕ) → a + m ≤ 2048 → take m (drop a (usedBy d′ i)) ≡ fillAll (take m (drop a (usedBy d i)))
+    used-filled : (i a m : ℕ) → a + m ≤ n → take m (drop a (usedBy d′ i)) ≡ fillAll (take m (drop a (usedBy d i)))
     used-filled i a m h =
-        take-used d′ i m a ∙ ap (map (moved d′ i)) (part-filled d long a m h) ∙ same-moves i (fillAll (take m (drop a d))) ∙ fill-moved bytes d i (take m (drop a d))
+        take-used d′ i m a ∙ ap (map (moved d′ i)) (part-filled d long n room a m h) ∙ same-moves i (fillAll (take m (drop a d))) ∙ fill-moved bytes d i (take m (drop a d))
         ∙ ap fillAll (sym (take-used d i m a))
 
-    stands-filled : (kind v : ℕ) (x : Term) {k : ℕ} → TermFits k x → (i : ℕ) → Stands (usedBy d i) kind v (fillTerm unfilled x) → Stands (usedBy d′ i) kind v (fillTerm (parameterValue ps) x)
-    stands-filled kind v x f i s =
+    stands-filled : (kind v : ℕ) (x : Term) {k : ℕ} → TermFits k x → kind < 4 → EntryIn n v → (i : ℕ) → Stands (usedBy d i) kind v (fillTerm unfilled x) → Stands (usedBy d′ i) kind v (fillTerm (parameterValue ps) x)
+    stands-filled kind v x f small held i s =
         let z = size-fill (parameterValue ps) unfilled x in
         record {
           start = s .start;
           packed = rw z (s .packed);
           within = rw z (s .within);
-          there = rw z (used-filled i (s .start) (sizeOf (fillTerm unfilled x)) (s .within) ∙ ap fillAll (s .there) ∙ term-nodes f);
+          there = rw z (used-filled i (s .start) (sizeOf (fillTerm unfilled x)) (omega (arith, s .packed, s .within, held)) ∙ ap fillAll (s .there) ∙ term-nodes f);
         }
 
-    phase-filled : (i v : ℕ) (φ : Phase) (x : Term) {k : ℕ} → TermFits k x → EntrySays (usedBy d i) v (inPhase φ (fillTerm unfilled x)) → EntrySays (usedBy d′ i) v (inPhase φ (fillTerm (parameterValue ps) x))
-    phase-filled i v immediate x f s = stands-filled 2 v x f i s
-    phase-filled i v later x f s = stands-filled 3 v x f i s
+    phase-filled : (i v : ℕ) (φ : Phase) (x : Term) {k : ℕ} → TermFits k x → EntryIn n v → EntrySays (usedBy d i) v (inPhase φ (fillTerm unfilled x)) → EntrySays (usedBy d′ i) v (inPhase φ (fillTerm (parameterValue ps) x))
+    phase-filled i v immediate x f held s = stands-filled 2 v x f (omega arith) held i s
+    phase-filled i v later x f held s = stands-filled 3 v x f (omega arith) held i s
 
-    handled-filled : (i n e v : ℕ) (cs : List Clause) → ClausesFit n cs → EntrySays (usedBy d i) v (handled e (fillClauses unfilled cs)) → EntrySays (usedBy d′ i) v (handled e (fillClauses (parameterValue ps) cs))
+    handled-filled : (i l e v : ℕ) (cs : List Clause) → ClausesFit l cs → EntryIn n v → EntrySays (usedBy d i) v (handled e (fillClauses unfilled cs)) → EntrySays (usedBy d′ i) v (handled e (fillClauses (parameterValue ps) cs))
     unfolding handled fillClauses
-    handled-filled i n e v [] f s = s
-    handled-filled i n e v (clause g φ x ∷ cs) f s =
+    handled-filled i l e v [] f held s = s
+    handled-filled i l e v (clause g φ x ∷ cs) f held s =
         split (eqb e g)
         (λ c. subst (EntrySays (usedBy d′ i) v) (sym (handled-here e g φ (fillTerm (parameterValue ps) x) (fillClauses (parameterValue ps) cs) c))
-        (phase-filled i v φ x (f .1) (subst (EntrySays (usedBy d i) v) (handled-here e g φ (fillTerm unfilled x) (fillClauses unfilled cs) c) s)))
+        (phase-filled i v φ x (f .1) held (subst (EntrySays (usedBy d i) v) (handled-here e g φ (fillTerm unfilled x) (fillClauses unfilled cs) c) s)))
         (λ c. subst (EntrySays (usedBy d′ i) v) (sym (handled-there e g φ (fillTerm (parameterValue ps) x) (fillClauses (parameterValue ps) cs) c))
-        (handled-filled i n e v cs (f .3) (subst (EntrySays (usedBy d i) v) (handled-there e g φ (fillTerm unfilled x) (fillClauses unfilled cs) c) s)))
+        (handled-filled i l e v cs (f .3) held (subst (EntrySays (usedBy d i) v) (handled-there e g φ (fillTerm unfilled x) (fillClauses unfilled cs) c) s)))
 
-    item-filled : (i n e v : ℕ) (b : Item) → ItemFits n b → EntrySays (usedBy d i) v (respond e (fillItem unfilled b)) → EntrySays (usedBy d′ i) v (respond e (fillItem (parameterValue ps) b))
-    item-filled i n e v (formula x) f s = stands-filled 1 v x f i s
-    item-filled i n e v (state w cs) f s = handled-filled i n e v cs (f .1) s
-    item-filled i n e v (row c w cs) f s = handled-filled i n e v cs (f .3) s
+    item-filled : (i l e v : ℕ) (b : Item) → ItemFits l b → EntryIn n v → EntrySays (usedBy d i) v (respond e (fillItem unfilled b)) → EntrySays (usedBy d′ i) v (respond e (fillItem (parameterValue ps) b))
+    item-filled i l e v (formula x) f held s = stands-filled 1 v x f (omega arith) held i s
+    item-filled i l e v (state w cs) f held s = handled-filled i l e v cs (f .1) held s
+    item-filled i l e v (row c w cs) f held s = handled-filled i l e v cs (f .3) held s
 
     start-filled : (i : ℕ) (b : Item) → StartIs d i (fillItem unfilled b) → StartIs d′ i (fillItem (parameterValue ps) b)
-    start-filled i (formula x) h = after-fillTo d 2048 (4160 + i) (omega arith) ∙ h
-    start-filled i (state w cs) h = after-fillTo d 2048 (4160 + i) (omega arith) ∙ h
-    start-filled i (row c w cs) h = after-fillTo d 2048 (4160 + i) (omega arith) ∙ h
+    start-filled i (formula x) h = after-fillTo d n (4160 + i) (omega arith) ∙ h
+    start-filled i (state w cs) h = after-fillTo d n (4160 + i) (omega arith) ∙ h
+    start-filled i (row c w cs) h = after-fillTo d n (4160 + i) (omega arith) ∙ h
 
     entry-filled : (e i : ℕ) → entryOf d′ e i ≡ entryOf d e i
     unfolding entryOf
-    entry-filled e i = rw (after-fillTo d 2048 (4096 + i) (omega arith), after-fillTo d 2048 (2048 + i * 32 + e) (omega arith))
+    entry-filled e i = rw (after-fillTo d n (4096 + i) (omega arith), after-fillTo d n (2048 + i * 32 + e) (omega arith))
 
-    fill-drafted : (n : ℕ) (s : Sheet) → SheetFits s → Drafted (fill unfilled s) d n → Drafted (fill (parameterValue ps) s) d′ n
-    fill-drafted n s f h =
+    fill-drafted : (s : Sheet) → SheetFits s → ((e i : ℕ) → i < cellCount (s .entries) → EntryIn n (entryOf d e i)) → Drafted (fill unfilled s) d n → Drafted (fill (parameterValue ps) s) d′ n
+    fill-drafted s f held h =
         let out = rowsOut s .entries in
         let l = length (s .signals) in
         let p : length (fillEntries unfilled out) ≡ length out = length-fill unfilled out in
         let q : length (fillEntries (parameterValue ps) out) ≡ length out = length-fill (parameterValue ps) out in
         record {
-          long = length-fillTo d 2048 ∙ long;
+          long = length-fillTo d n ∙ long;
           few = h .few;
           says = λ e i a b.
               rw (entry-filled e i, fill-at (parameterValue ps) out i)
               (item-filled i l e (entryOf d e i) (getD out i blank .item)
-              (all-at (EntryFits l) out i blank (rows-fit s f) (omega arith) .0)
+              (all-at (EntryFits l) out i blank (rows-fit s f) (omega arith) .0) (held e i (omega (arith, length-out (s .entries) (s .entries))))
               (rw (fill-at unfilled out i) at (h .says e i a (omega arith))));
           starts = λ i b.
               rw (fill-at (parameterValue ps) out i) (start-filled i (getD out i blank .item) (rw (fill-at unfilled out i) at (h .starts i (omega arith))));
-          priorities = λ e b. after-fillTo d 2048 (4224 + e) (omega arith) ∙ h .priorities e b;
-          viewers = λ i b. after-fillTo d 2048 (4256 + i) (omega arith) ∙ h .viewers i (omega arith);
-          senders = λ e b. after-fillTo d 2048 (4320 + e) (omega arith) ∙ h .senders e b;
+          priorities = λ e b. after-fillTo d n (4224 + e) (omega arith) ∙ h .priorities e b;
+          viewers = λ i b. after-fillTo d n (4256 + i) (omega arith) ∙ h .viewers i (omega arith);
+          senders = λ e b. after-fillTo d n (4320 + e) (omega arith) ∙ h .senders e b;
         }
 
 -- the draft of a sheet, filled in, is that of its filling
-pub draft-filled : {ev bs n : ℕ} {d : List ℕ} (ps : List ℕ) → All (λ b. b < 256) ps → SheetDraft ev bs n d → DraftOf ev bs n (fillTo ps d 2048)
+pub draft-filled : {ev bs n : ℕ} {d : List ℕ} (ps : List ℕ) → All (λ b. b < 256) ps → SheetDraft ev bs n d → DraftOf ev bs n (fillTo ps d n)
 draft-filled {n = n} {d = d} ps bytes o =
     let s = o .sheet in
     let l : length (prioritiesOf (s .signals)) ≡ length (s .signals) = length-priorities (s .signals) in
-    let same-pool : take n (fillTo ps d 2048) ≡ programNodes (fillEntries (parameterValue ps) (s .entries)) =
-    part-filled ps d (o .drafted .long) 0 n (omega (arith, o .drafted .few)) ∙ ap (fillAll ps) (o .pool) ∙ entries-nodes ps (length (s .signals)) (s .entries) (o .fits .each) in
+    let same-pool : take n (fillTo ps d n) ≡ programNodes (fillEntries (parameterValue ps) (s .entries)) =
+    part-filled ps d (o .drafted .long) n (o .drafted .few) 0 n (omega arith) ∙ ap (fillAll ps) (o .pool) ∙ entries-nodes ps (length (s .signals)) (s .entries) (o .fits .each) in
     record {
       program = fill (parameterValue ps) s;
       fits = fill-fits (parameterValue ps) (value-small ps bytes) s (o .fits);
       events-are = o .events-are ∙ sym l;
       size-is = o .size-is ∙ sym (length-fill (parameterValue ps) (rowsOut s .entries) ∙ length-out (s .entries) (s .entries));
-      drafted = fill-drafted ps bytes d (o .drafted .long) n s (o .fits) (o .drafted);
+      drafted = fill-drafted ps bytes d (o .drafted .long) n (o .drafted .few) s (o .fits) (λ e i h. o .held e i (omega (arith, o .size-is))) (o .drafted);
       sent = fillEntries (parameterValue ps) (s .entries);
       pool = same-pool;
       few-passives =
-          let m : length (programNodes (fillEntries (parameterValue ps) (s .entries))) ≤ n = omega (arith, ap length same-pool, length-take-le n (fillTo ps d 2048) (omega (arith, length-fillTo ps d 2048, o .drafted .long, o .drafted .few))) in
+          let m : length (programNodes (fillEntries (parameterValue ps) (s .entries))) ≤ n = omega (arith, ap length same-pool, length-take-le n (fillTo ps d n) (omega (arith, length-fillTo ps d n, o .drafted .long, o .drafted .few))) in
           omega (arith, passives-few (parameterValue ps) (s .entries) (s .entries), m);
       sent-fits = rw l (entries-fit (parameterValue ps) (value-small ps bytes) (length (s .signals)) (s .entries) (o .fits .each));
       sent-known = names-sent (parameterValue ps) s (o .fits);

@@ -32,13 +32,13 @@ fn fill_node(params: &[u8], node: u64) -> u64
     node
 }
 
-// Fills in the nodes of a draft.
-pub fn fill_draft(draft: &mut [u64], params: &[u8])
-    requires { ⌜ length (now draft) ≡ draftLength ⌝ }
-    ensures { λ _. ⌜ now (draft .exit) ≡ fillTo (now (params .entry)) (now (draft .entry)) 2048 ⌝ }
+// Fills in the first `nodes` nodes of a draft.
+pub fn fill_draft(draft: &mut [u64], nodes: usize, params: &[u8])
+    requires { ⌜ (length (now draft) ≡ draftLength) × (nodes ≤ 2048) ⌝ }
+    ensures { λ _. ⌜ now (draft .exit) ≡ fillTo (now (params .entry)) (now (draft .entry)) nodes ⌝ }
 {
     let mut k = 0;
-    while k < layout::NODES {
+    while k < nodes {
         draft[k] = fill_node(params, draft[k]);
         k += 1;
     }

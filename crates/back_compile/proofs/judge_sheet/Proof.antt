@@ -74,7 +74,7 @@ module _ (r : tie.After-reading) where
   few = read-few (s call-at) (ps call-at) (bytes call-at) (short call-at) (lent call-at) ready
 
   abbrev full : List ℕ
-  full = fillTo (ps call-at) (drafted call-at) 2048
+  full = fillTo (ps call-at) (drafted call-at) nodes
 
   whole : DraftOf events behaviours nodes full
   whole = filled (s call-at) (ps call-at) (bytes call-at) (short call-at) (lent call-at) ready
@@ -203,6 +203,6 @@ judge-sheet-spec =
     (λ c. record { finding = long-falls _ _ (c .if1 .taken) })
     read-program-requires (search needs) (search needs) (search needs) (search needs) returns-2
     (λ c κs. (long (c .before .before), few (c .before .before)))
-    (λ c κs. long (c .before .before .before .before))
+    (λ c κs. (long (c .before .before .before .before), few (c .before .before .before .before)))
     names-known-requires (search needs) returns-3 (search needs) returns-4 has-cycle-requires (search needs)
     returns-5 count-all-requires (search needs) returns-6 (search needs) returns-7)

@@ -9,20 +9,20 @@ use Rattle.front_params.specs.Filling.{filledNode, fillTo}
 use Rattle.front_params.proofs.fill_draft.Statement.{statement}
 use Rattle.front_params.proofs.fill_draft.Tie as tie
 
-record Turn (ps d₀ d : List ℕ) (k : ℕ) : Type 0 where
+record Turn (ps d₀ d : List ℕ) (n k : ℕ) : Type 0 where
   same : d ≡ fillTo ps d₀ k
-  within : k ≤ 2048
+  within : k ≤ n
   long : length d ≡ length d₀
 
-turn : {ps d₀ d : List ℕ} {k x : ℕ} → Turn ps d₀ d k → k < 2048 → x ≡ filledNode ps (getD d k 0) → Turn ps d₀ (set d k x) (k + 1)
+turn : {ps d₀ d : List ℕ} {n k x : ℕ} → Turn ps d₀ d n k → k < n → x ≡ filledNode ps (getD d k 0) → Turn ps d₀ (set d k x) n (k + 1)
 unfolding fillTo
-turn {ps} {d₀} {d} {k} {x} t h e = record { same = rw (add-one k, ← t .same, ← e); within = omega arith; long = length-set d k x ∙ t .long }
+turn {ps} {d₀} {d} {n} {k} {x} t h e = record { same = rw (add-one k, ← t .same, ← e); within = omega arith; long = length-set d k x ∙ t .long }
 
 abbrev Inv-loop : tie.InvT-loop
-Inv-loop d₀ params k₀ d k = Turn params d₀ d k
+Inv-loop d₀ nodes params k₀ d k = Turn params d₀ d nodes k
 
 abbrev μ-loop : tie.MeasureT-loop
-μ-loop d₀ params k₀ d k = 2048 - k
+μ-loop d₀ nodes params k₀ d k = nodes - k
 
 pub fill-draft-spec : {M : Type 1} → statement M
 unfolding fillTo
@@ -41,4 +41,4 @@ fill-draft-spec =
     (λ c. omega arith)
     (λ c. turn (c .before .before .before .loop .inv) (omega arith) (c .fill-node .ensures))
     (λ c. c .before .loop .inv .long)
-    (λ c. let e : c .before .loop .k ≡ 2048 = omega arith in rw e at (c .before .loop .inv .same)))
+    (λ c. let e : c .before .loop .k ≡ c .before .before .before .before .args .nodes = omega arith in rw e at (c .before .loop .inv .same)))
