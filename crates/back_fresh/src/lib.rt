@@ -10,7 +10,7 @@ use spec_language::limits;
 
 const BEHAVIOURS: u32 = limits::BEHAVIOURS as u32;
 // A function's number is the lowest byte of its node.
-const BYTE: u32 = 256;
+const BYTE: u32 = lib_word::BYTE_VALUES;
 
 // The word w on the stack, of depth k; a full stack stays as it is. Its new depth.
 fn push(stack: &mut [u32], k: usize, w: u32) -> usize

@@ -1,6 +1,6 @@
 // How many bytes the parts of a field take, for the code (01, "The sheet").
 // A length is HIGH * its first byte and its second.
-pub const HIGH: usize = 256;
+pub const HIGH: usize = lib_word::BYTE_VALUES as usize;
 // Tag and length.
 pub const HEADER: usize = 3;
 // A constant's or a start's value.

@@ -7,14 +7,19 @@ ghost use Rattle.lib_word.specs.Word.{getAt, get, put, getHalf, putHalf}
 // The bytes of a word.
 pub const WORD_BYTES: usize = 4;
 
-// What a byte weighs with one, two or three bytes after it, and in a half.
-const BASE: u32 = 256;
+// How many values a byte, a half, three bytes and a word have: what a byte weighs with as many bytes after it.
+pub const BYTE_VALUES: u32 = 256;
 
-const BASE_2: u32 = 65536;
+pub const HALF_VALUES: u32 = 65536;
 
-const BASE_3: u32 = 16777216;
+pub const THREE_BYTE_VALUES: u32 = 16777216;
 
-const HALF_BASE: u16 = 256;
+pub const WORD_VALUES: u64 = 4294967296;
+
+// The base of words and of halves, short.
+const BASE: u32 = BYTE_VALUES;
+
+const HALF_BASE: u16 = BYTE_VALUES as u16;
 
 fn wide(x: u8) -> u32
     ensures { λ r. ⌜ r ≡ x ⌝ }
@@ -51,8 +56,8 @@ pub fn put_word(bytes: &mut [u8], k: usize, w: u32)
     requires { ⌜ k * 4 + 4 ≤ length (now bytes) ⌝ }
     ensures { λ _. ⌜ now (bytes .exit) ≡ put (now (bytes .entry)) k w ⌝ }
 {
-    bytes[k * WORD_BYTES] = (w / BASE_3) as u8;
-    bytes[k * WORD_BYTES + 1] = (w / BASE_2 % BASE) as u8;
+    bytes[k * WORD_BYTES] = (w / THREE_BYTE_VALUES) as u8;
+    bytes[k * WORD_BYTES + 1] = (w / HALF_VALUES % BASE) as u8;
     bytes[k * WORD_BYTES + 2] = (w / BASE % BASE) as u8;
     bytes[k * WORD_BYTES + 3] = (w % BASE) as u8;
 }

@@ -13,7 +13,7 @@ ghost use Rattle.link_bytes.specs.Splice.{cellsFrom, nextAt, countFrom, 
 // A field with a value has at least these bytes: its tag, the two of its length, and one.
 const LEAST_BYTES: usize = 4;
 
-const BYTE: usize = 256;
+const BYTE: usize = lib_word::BYTE_VALUES as usize;
 
 // How many bytes stand behind a tag before the next one: the length alone; a row's cells, or a function, beside it; a
 // handler's event; a constant or a value at the start.

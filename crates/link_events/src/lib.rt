@@ -16,9 +16,9 @@ const SENDER_BYTES: usize = 5;
 const SENDER: usize = 4;
 
 // What stands for that byte where it is missing: no byte's value.
-const ANYONE: usize = 256;
+const ANYONE: usize = lib_word::BYTE_VALUES as usize;
 
-const BYTE: usize = 256;
+const BYTE: usize = lib_word::BYTE_VALUES as usize;
 
 // How many bytes the event's field at place i has; 0 where none stands.
 fn width(s: &[u8], i: usize) -> usize

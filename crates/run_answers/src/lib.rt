@@ -7,7 +7,7 @@ ghost use Rattle.run_answers.specs.Answers.{putAnswer};
 // The bytes of an answer.
 pub const ANSWER_BYTES: usize = 8;
 // A word's values.
-const WORDS: u64 = 4294967296;
+const WORDS: u64 = lib_word::WORD_VALUES;
 
 // An answer at place n, in two words.
 pub fn put_answer(answers: &mut [u8], n: usize, answer: u64)

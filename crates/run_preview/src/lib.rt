@@ -9,7 +9,7 @@ ghost use Rattle.run_burst.specs.Sound.{RoundSound};
 ghost use Rattle.run_preview.specs.Preview.{lastStep, toIdle, inHand, previewSteps, previewAnswer, shownIn, previewCopy, previewOn};
 
 // What stands above a value, so that it is no refusal's number.
-const SHOWN: u64 = 4294967296;
+const SHOWN: u64 = spec_language::answers::VALUE;
 
 const FOREIGN: u64 = spec_language::refusals::FOREIGN as u64;
 

@@ -26,11 +26,11 @@ const THIRD: usize = 5;
 const LAST: usize = 6;
 
 // What a word's bytes count, from the last but one on.
-const BYTE: u64 = 256;
+const BYTE: u64 = lib_word::BYTE_VALUES as u64;
 
-const HALF: u64 = 65536;
+const HALF: u64 = lib_word::HALF_VALUES as u64;
 
-const THREE_BYTES: u64 = 16777216;
+const THREE_BYTES: u64 = lib_word::THREE_BYTE_VALUES as u64;
 
 // A constant from place n on: the low four bytes of t.
 pub fn put_number(out: &mut [u8], n: usize, t: u64)

@@ -16,7 +16,7 @@ ghost use Rattle.text_parser.specs.Parser.{Reading, ReadWithin, ChoiceRe
 pub const FIELD_BYTES: usize = limits::FORMULA_BYTES * text_encode::CONSTANT_BYTES;
 
 // A function token's last byte is its function.
-const BYTE: u64 = 256;
+const BYTE: u64 = lib_word::BYTE_VALUES as u64;
 
 // Level 6: `||`, and so a formula.
 pub fn disjunction(ts: &[u64], at: usize, out: &mut [u8; FIELD_BYTES], n: usize) -> Read

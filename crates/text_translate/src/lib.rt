@@ -12,7 +12,7 @@ ghost use Rattle.text_formula.specs.Answer.{answered, formulaOn};
 ghost use Rattle.text_translate.specs.Translate.{largeCode, anyLarge, openAfter, balancedFrom, delivered, Translated};
 
 // What is added to a field's length, so that it is told from a refusal.
-const ACCEPTED: u64 = 4294967296;
+const ACCEPTED: u64 = spec_language::answers::VALUE;
 
 const NO_FORMULA: u64 = refusals::NO_FORMULA as u64;
 
