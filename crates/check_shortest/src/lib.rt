@@ -2,7 +2,7 @@
 // and for none, and for each of bs behaviours, up to bs levels of bs steps: in all (ev + 1) * bs * bs * bs at the most.
 ghost use mathlib.Core.Path.{_≡_};
 ghost use mathlib.Core.Bool.{true};
-ghost use Prim.Native.Nat.{_≤_, _<_, min};
+ghost use Prim.Native.Nat.{_≤_, _<_};
 ghost use lib.ListN.{length};
 ghost use Rattle.check_faults.specs.Checks.{cyclicOn, RowsInside, AllInside};
 ghost use Rattle.front_draft.specs.Draft.{draftLength};
@@ -22,15 +22,6 @@ const NO_EVENT: u64 = 255;
 const EVENT: u64 = 256;
 
 const COUNT: u64 = 65536;
-
-fn lower(a: usize, b: usize) -> usize
-    ensures { λ r. ⌜ r ≡ min a b ⌝ }
-{
-    if b < a {
-        return b;
-    }
-    a
-}
 
 // The events in turn: none, which is number ev, and then those declared.
 fn event_at(ev: usize, t: usize) -> usize
@@ -61,7 +52,7 @@ fn best_under(
     let mut least = best;
     let mut i = 0;
     while i < n {
-        least = lower(
+        least = lib_order::smaller_size(
             least,
             (check_distance::steps_back(rows, levels, i, n) * TURNS + t) * BEHAVIOURS + i,
         );

@@ -106,15 +106,6 @@ fn perform_from(table: &[u8], round: &mut [u8], start: u32, from: u32, m: u32) -
     i
 }
 
-fn smaller_of(a: u32, b: u32) -> u32
-    ensures { λ r. ⌜ (r ≤ a) × (r ≤ b) ⌝ }
-{
-    if a < b {
-        return a;
-    }
-    b
-}
-
 // Up to `most` instructions, none of them the last, where something runs and is not pressed. How many were made.
 fn instructions_on(table: &[u8], round: &mut [u8], most: u32, pressed: bool) -> u32
     requires { ⌜ RoundSound (now table) (now round) × (higherWaits (now table) (now round) ≡ pressed) ⌝ }
@@ -134,7 +125,13 @@ fn instructions_on(table: &[u8], round: &mut [u8], most: u32, pressed: bool) -> 
         return 0;
     }
     let start = format_layout::event_word(&*table, e, format_layout::table::CODE_START);
-    perform_from(&*table, round, start, c, smaller_of(most, len - c - 1))
+    perform_from(
+        &*table,
+        round,
+        start,
+        c,
+        lib_order::smaller(most, len - c - 1),
+    )
 }
 
 // ---- one step

@@ -5,7 +5,7 @@ use format_layout::table;
 use spec_language::answers;
 use spec_language::refusals;
 ghost use mathlib.Core.Path.{_≡_};
-ghost use Prim.Native.Nat.{_≤_, max};
+ghost use Prim.Native.Nat.{_≤_};
 ghost use Rattle.format_layout.specs.Layout.{eventCount, waitingCount};
 ghost use Rattle.format_layout.specs.Bounds.{TableBounds, Bounds};
 ghost use Rattle.run_forecast.specs.Forecast.{stepsIn, longestIn, bound, forecastOn};
@@ -27,15 +27,6 @@ fn steps_in(table: &[u8], round: &[u8], n: usize) -> u32
     steps
 }
 
-fn larger_of(a: u32, b: u32) -> u32
-    ensures { λ r. ⌜ r ≡ max a b ⌝ }
-{
-    if a < b {
-        return b;
-    }
-    a
-}
-
 // The instructions of the longest of the first n events.
 pub fn longest_of(table: &[u8], n: u32) -> u32
     requires { ⌜ TableBounds (now table) × (n ≤ eventCount (now table)) ⌝ }
@@ -45,7 +36,7 @@ pub fn longest_of(table: &[u8], n: u32) -> u32
     let mut longest = 0;
     let mut event = 0;
     while event < n {
-        longest = larger_of(
+        longest = lib_order::larger(
             format_layout::event_word(table, event, table::CODE_LENGTH),
             longest,
         );

@@ -6,7 +6,6 @@ use text_formula::tokens;
 ghost use mathlib.Core.Path.{_≡_};
 ghost use Prim.Native.Nat.{_<_, _≤_, _+_};
 ghost use lib.ListN.{length};
-ghost use Rattle.text_formula.specs.Answer.{deeper as deeperOf};
 ghost use Rattle.text_phrase.specs.Phrase.{levelCode, levelIn, markCode, bracketAt, underOf, closedOf, wrappedIn, endedIn, leafRead, leafOut, Closable};
 
 // The last functions of the levels, of which 01 counts those of one level in a row.
@@ -92,16 +91,6 @@ pub fn mark_at(ts: &[u64], at: usize) -> u64
     0
 }
 
-fn deeper(a: usize, b: usize) -> usize
-    ensures { λ r. ⌜ r ≡ deeperOf a b ⌝ }
-    ensures { λ r. ⌜ r ≤ a + b ⌝ }
-{
-    if a < b {
-        return b;
-    }
-    a
-}
-
 // A reading after others of nesting d.
 pub fn under(d: usize, r: Read) -> Read
     ensures { λ q. ⌜ q ≡ underOf d r ⌝ }
@@ -109,7 +98,7 @@ pub fn under(d: usize, r: Read) -> Read
     let Read::Done(at, end, e) = r else {
         return r;
     };
-    Read::Done(at, end, deeper(d, e))
+    Read::Done(at, end, lib_order::larger_size(d, e))
 }
 
 // The arguments from `start` on become an application of function f; those before r's nest d deep.
@@ -123,7 +112,11 @@ pub fn close(f: u8, start: usize, d: usize, r: Read, out: &mut [u8]) -> Read
         return r;
     };
     text_encode::wrap(out, start, end, f);
-    Read::Done(at, end + text_encode::HEAD_BYTES, deeper(d, e) + 1)
+    Read::Done(
+        at,
+        end + text_encode::HEAD_BYTES,
+        lib_order::larger_size(d, e) + 1,
+    )
 }
 
 // A closing bracket is due.

@@ -58,7 +58,7 @@ loop-again c =
     let p = entry-at filled .pre .0 in
     let alike = rows-cells _ (p .0) _ _ (p .4) (p .5) (filled .fill-rows .ensures) in
     trying-turn (turn .before .loop .inv) (turn .loop-test .taken)
-    (back-as _ _ _ _ alike (turn .loop-test .taken) (counted .steps-back .ensures)) (c .lower .ensures)
+    (back-as _ _ _ _ alike (turn .loop-test .taken) (counted .steps-back .ensures)) (c .smaller-size .ensures)
     (counted .steps-back .kept .1 .0)
 
 same-length-2 : tie.Need-same-length-2 Inv-loop μ-loop

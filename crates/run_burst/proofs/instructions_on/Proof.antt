@@ -32,7 +32,7 @@ returns-4 c = (
   omega (
     arith,
     c .before .before .perform-from .ensures .1,
-    c .before .before .before .smaller-of .ensures,
+    c .before .before .before .smaller .ensures,
   ),
 )
 

@@ -41,7 +41,7 @@ longest-of-spec =
     (λ c κs. tt)
     (λ c. omega arith)
     (λ c. omega arith)
-    (λ c. turn (c .before .before .before .loop .inv) (c .before .before .before .before .before .pre .0) (omega arith) (omega arith) (c .before .event-word .ensures) (c .larger-of .ensures))
+    (λ c. turn (c .before .before .before .loop .inv) (c .before .before .before .before .before .pre .0) (omega arith) (omega arith) (c .before .event-word .ensures) (c .larger .ensures))
     (λ c.
     let e : c .before .loop .event ≡ c .before .before .before .args .n = omega arith in
     (rw e at (c .before .loop .inv .same), c .before .loop .inv .small)))

@@ -14,6 +14,6 @@ close-spec =
     (λ c κs. let h = rw (c .before .before .r .given .1) at (c .before .before .before .before .before .pre .0) in omega arith)
     (λ c. let h = rw (c .before .before .before .before .before .r .given .1) at (c .before .before .before .before .before .before .before .before .pre .0) in omega arith)
     (λ c κs. search needs)
-    (λ c. let h = rw (c .before .before .before .before .before .before .r .given .1) at (c .before .before .before .before .before .before .before .before .before .pre .0) in omega (arith, c .deeper .ensures .1))
+    (λ c. let h = rw (c .before .before .before .before .before .before .r .given .1) at (c .before .before .before .before .before .before .before .before .before .pre .0) in omega (arith, c .larger-size .ensures))
     (λ c. search needs)
-    (λ c. (rw (c .before .before .before .before .before .before .r .given .1, c .deeper .ensures .0), rw (c .before .before .before .before .before .before .r .given .1) (c .before .before .before .wrap .ensures))))
+    (λ c. (rw (c .before .before .before .before .before .before .r .given .1, c .larger-size .ensures), rw (c .before .before .before .before .before .before .r .given .1) (c .before .before .before .wrap .ensures))))

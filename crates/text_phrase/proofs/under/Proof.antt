@@ -12,4 +12,4 @@ under-spec =
     (λ c. search needs)
     (λ c. search needs)
     (λ c κs. search needs)
-    (λ c. rw (c .before .before .r .given .1, c .deeper .ensures .0)))
+    (λ c. rw (c .before .before .r .given .1, c .larger-size .ensures)))
