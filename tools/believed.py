@@ -17,7 +17,7 @@ from sources import NAME, files_under, module_path, read_theories, without_comme
 TOP = "crates/claims/specs/Claims.antt"
 CONTRACTS = "crates/engine/src/lib.rt"
 REVIEW = "docs/REVIEW.md"
-NAMES_ONLY = re.compile(r"^(compile|start|arrive|step|board|forecast|preview|mend|formula|join|frame|agree|leak|assemble)On$")
+NAMES_ONLY = re.compile(r"^(compile|start|arrive|step|board|forecast|preview|mend|formula|join|frame|agree|leak|assemble|describe)On$")
 
 
 class Theory:

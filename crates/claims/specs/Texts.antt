@@ -1,25 +1,32 @@
 -- A sheet as its setter writes it (docs/SHEETS.md): each sentence that is promised of texts, and the part that states
 -- it, of grammar, limits and meaning as source_language defines them apart from its reader, and of `assembleOn`.
-use Prim.Native.Nat.{ℕ, _≤_, _<_}
+use Prim.Native.Nat.{ℕ, _+_, _≤_, _<_}
 use mathlib.Core.Path.{_≡_}
+use mathlib.Core.Logic.{_≢_}
 use mathlib.Core.List.{List, [], _∷_, _++_}
 use lib.Dec.{ltb}
-use lib.ListN.{length, drop}
+use lib.ListN.{length, drop, replicate}
+use Rattle.lib_word.specs.Word.{get}
 use Rattle.spec_language.specs.Refusals.{longProgram, noParameters, cycle, overlong}
 use Rattle.spec_language.specs.Sheet.{Sheet}
 use Rattle.spec_language.specs.Grammar.{encode, SheetFits}
 use Rattle.spec_language.specs.Accepted.{SheetAccepted}
 use Rattle.spec_language.specs.Code.{allInstructions}
 use Rattle.check_faults.specs.Faults.{cyclic}
-use Rattle.back_compile.specs.Verdict.{programOf, lacksParameters, compileOn}
+use Rattle.back_compile.specs.Verdict.{programOf, lacksParameters, compileOn, numberOn}
+use Rattle.text_formula.specs.Answer.{answered}
 use Rattle.source_language.specs.Tokens.{SheetToken, TokensOfText}
 use Rattle.source_language.specs.Text.{Text}
 use Rattle.source_language.specs.Faults.{Kind, longText, longSheet, shortBuffer}
 use Rattle.source_language.specs.Grammar.{TextSays}
 use Rattle.source_language.specs.Renaming.{KeepsApart, textAs}
+use Rattle.source_coding.specs.Faults.{faultNumber}
 use Rattle.source_rendering.specs.Describe.{described}
+use Rattle.source_assemble.specs.Assemble.{assembleNumber}
+use Rattle.source_describe.specs.Describing.{describeOn}
 use Rattle.source_language.specs.Answer.{written, turnedDown, assembleOn, TextMeans, refusedAt, SheetWritten}
 use Rattle.claims.specs.Demand1.{firstThat}
+use Rattle.claims.specs.Requests.{AreBytes}
 
 -- compile's answer for a sheet of which only the length, the parameters lent, circles and instructions are left to
 -- judge
@@ -29,6 +36,18 @@ leftToJudge s ps =
     ((ltb 8192 (length (encode s)), longProgram)
     ∷ ((lacksParameters s ps, noParameters) ∷ ((cyclic (programOf ps s), cycle) ∷ ((ltb 4096 (allInstructions (programOf ps s)), overlong) ∷ []))))
     0
+
+-- a sheet's bytes that compile accepts with 32 zero bytes lent: `describe` writes the sheet's text at the start of a
+-- lent buffer, whose other bytes stay, or nothing where it is too short; read by `assemble` it gives the very bytes
+pub record SheetDescribed (bytes : List ℕ) : Type 0 where
+  pub sheet : Sheet
+  pub of-bytes : encode sheet ≡ bytes
+  pub accepted : SheetAccepted (get (replicate 32 0)) 32 sheet
+  pub text-written : (buffer : List ℕ) → length (described sheet) ≤ length buffer
+      → describeOn bytes buffer ≡ answered (4294967296 + length (described sheet)) (described sheet ++ drop (length (described sheet)) buffer)
+  pub too-short : (buffer : List ℕ) → length buffer < length (described sheet) → describeOn bytes buffer ≡ answered (faultNumber shortBuffer) buffer
+  pub text-within : length (described sheet) ≤ 65536
+  pub back : (buffer : List ℕ) → length bytes ≤ length buffer → assembleOn (described sheet) buffer ≡ (written (length bytes), bytes ++ drop (length bytes) buffer)
 
 pub record Texts : Type 0 where
   -- "A token is as long as it can be": each text is made of one list of tokens, each with its place
@@ -50,6 +69,8 @@ pub record Texts : Type 0 where
   pub long-sheet : (bytes buffer : List ℕ) (s : Sheet) → TextMeans bytes s → 8192 < length (encode s) → assembleOn bytes buffer ≡ refusedAt longSheet (length bytes) bytes buffer
   pub short-buffer : (bytes buffer : List ℕ) (s : Sheet) → TextMeans bytes s → length (encode s) ≤ 8192 → length buffer < length (encode s)
       → assembleOn bytes buffer ≡ refusedAt shortBuffer (length bytes) bytes buffer
+  -- the call's number tells all of this, whatever was lent: how many bytes, or kind, line and column
+  pub told-apart : (a p b q : List ℕ) → assembleNumber a p .0 ≡ assembleNumber b q .0 → assembleOn a p .0 ≡ assembleOn b q .0
   -- "what assemble writes is accepted by compile but for 12, 13 and 3, and means what the text says": it is within the
   -- grammar and the limits, and its names are known; 20 where too few parameters are lent
   pub fits : (bytes : List ℕ) (s : Sheet) → TextMeans bytes s → length (encode s) ≤ 8192 → SheetFits s
@@ -63,3 +84,7 @@ pub record Texts : Type 0 where
   pub every-sheet : (v : ℕ → ℕ) (lent : ℕ) (s : Sheet) → SheetAccepted v lent s → TextMeans (described s) s
   pub read-back : (v : ℕ → ℕ) (lent : ℕ) (s : Sheet) → SheetAccepted v lent s → (buffer : List ℕ) → length (encode s) ≤ length buffer
       → assembleOn (described s) buffer ≡ (written (length (encode s)), encode s ++ drop (length (encode s)) buffer)
+  -- "sheets back to text": an accepted sheet's text, read again to the very bytes; "or a refusal .., nothing changed":
+  -- compile's number for every other
+  pub describes : (bytes : List ℕ) → AreBytes bytes → numberOn bytes (replicate 32 0) ≡ 0 → SheetDescribed bytes
+  pub describes-no-other : (bytes buffer : List ℕ) → numberOn bytes (replicate 32 0) ≢ 0 → describeOn bytes buffer ≡ answered (numberOn bytes (replicate 32 0)) buffer

@@ -18,6 +18,8 @@ ghost use Rattle.run_preview.specs.Preview.{previewOn};
 ghost use Rattle.run_counts.specs.Counts.{versionNumber, eventCountOn, behaviourCountOn, eventRankOn};
 ghost use Rattle.run_frame.specs.Frame.{framed, frameOn};
 ghost use Rattle.text_formula.specs.Answer.{answered, formulaOn};
+ghost use Rattle.source_assemble.specs.Assemble.{assembleNumber};
+ghost use Rattle.source_describe.specs.Describing.{describeOn};
 ghost use Rattle.link_join.specs.Join.{joined, joinOn};
 ghost use Rattle.refine_calls.specs.Refinement.{toldOn, callOn, answersOn, roundAfter};
 ghost use Rattle.engine.specs.Replay.{callOf, callsFrom, putAnswers, callCount};
@@ -289,4 +291,26 @@ pub extern "C" fn leak(sheet: &[u8], params: &[u8], player: u32) -> u64
     ensures { λ _. ⌜ now (params .exit) ≡ now (params .entry) ⌝ }
 {
     check_leak::leak_at(sheet, params, player)
+}
+
+// ---- a sheet as its setter writes it
+
+// A sheet's text becomes its bytes at the start of the buffer: 2 ^ 32 and their number; or the kind of the first fault,
+// 31 to 42, times 2 ^ 56, its line times 2 ^ 28 and its column, the buffer as it was.
+#[no_mangle]
+pub extern "C" fn assemble(text: &[u8], buffer: &mut [u8]) -> u64
+    ensures { λ r. ⌜ answered r (now (buffer .exit)) ≡ assembleNumber (now (text .entry)) (now (buffer .entry)) ⌝ }
+    ensures { λ _. ⌜ now (text .exit) ≡ now (text .entry) ⌝ }
+{
+    source_assemble::assemble_at(text, buffer)
+}
+
+// A sheet becomes its text at the start of the buffer: 2 ^ 32 and its length; or compile's number, parameters lent,
+// then 41, the buffer as it was.
+#[no_mangle]
+pub extern "C" fn describe(sheet: &[u8], buffer: &mut [u8]) -> u64
+    ensures { λ r. ⌜ answered r (now (buffer .exit)) ≡ describeOn (now (sheet .entry)) (now (buffer .entry)) ⌝ }
+    ensures { λ _. ⌜ now (sheet .exit) ≡ now (sheet .entry) ⌝ }
+{
+    source_describe::describe_at(sheet, buffer)
 }

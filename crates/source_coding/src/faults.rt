@@ -25,3 +25,8 @@ pub const LONG_TEXT: u64 = 42;
 
 // What a kind weighs beside the place in a fault's word.
 pub const KIND: u64 = 4294967296;
+
+// What the kind and the line weigh beside the column in assemble's answer.
+pub const TOLD_KIND: u64 = 72057594037927936;
+
+pub const TOLD_LINE: u64 = 268435456;

@@ -14,3 +14,6 @@ pub const TOO_LARGE: u64 = 2147483649;
 
 // The names of parameters and behaviours, which share one set.
 pub const NAMES: usize = 72;
+
+// The numbers of behaviours' first cells, and last how many cells there are.
+pub const FIRST_CELLS: usize = 65;

@@ -1,0 +1,134 @@
+-- A behaviour's bytes: what stands before its expression or handlers, these, who may see it, and the head in front make
+-- its field. Of a passive, an active and a row it is told at once.
+use Prim.Native.Nat.{ℕ, suc, _+_, _≤_, _<_}
+use mathlib.Core.Path.{_≡_, refl, sym, ap, _∙_}
+use mathlib.Core.Option.{Option, none, some}
+use mathlib.Core.List.{List, [], _∷_, _++_, append-assoc, append-nil}
+use native.Mathlib.Omega.{arith}
+use lib.ListN.{length, take, length-append}
+use lib.Seq.{sets, length-sets}
+use lib.Dec.{eqb}
+use borrow.Author.Tests.{ne-eqb}
+use Rattle.lib_base.specs.Basics.{pick}
+use Rattle.lib_base.proofs.Tools.{split}
+use Rattle.spec_language.specs.Sheet.{Item, Entry}
+use Rattle.spec_language.specs.Reading.{entry}
+use Rattle.spec_language.specs.Grammar.{field, tagOf, encodeItem, encodeViewer, encodeBehaviour, encodeBehaviours}
+use Rattle.source_language.specs.Tokens.{SheetToken}
+use Rattle.source_language.specs.Text.{Body, TextEvent, TextBehaviour, behaviour}
+use Rattle.source_language.specs.Faults.{Kind, OrFault, fault, fine, andThen}
+use Rattle.source_language.specs.Meaning.{NameMeaning, bitsBelow, rightsOf, itemOf, entriesOf}
+use Rattle.source_coding.specs.Faults.{faultIn}
+use Rattle.source_coding.specs.Places.{tokensFrom}
+use Rattle.source_coding.specs.Sizes.{bodySize, viewerSize, behavioursSize}
+use Rattle.source_declarations.specs.Players.{rightsNumber}
+use Rattle.source_declarations.proofs.Bits.{bits-below}
+use Rattle.source_declarations.proofs.Writes.{sets-taken}
+use Rattle.source_handlers.specs.Parts.{PartWritten, headed}
+use Rattle.source_handlers.proofs.Faults.{last-behind}
+use Rattle.source_handlers.proofs.Bytes.{field-framed}
+use Rattle.source_handlers.proofs.Gather.{Grows, no-fault}
+use Rattle.source_handlers.proofs.Stages.{made-fault}
+use Rattle.source_behaviours.specs.Behaviours.{behaviourSize, entryMeant, behaviourCoding, behavioursCoding, startBytes, viewerBytes}
+
+-- ---- who may see it
+
+viewer-bytes : (m : Option (List ℕ)) → viewerBytes (rightsNumber m) ≡ encodeViewer (rightsOf m)
+viewer-bytes none = refl
+viewer-bytes (some ns) = rw (ne-eqb (bitsBelow 8 ns) 256 (omega (arith, bits-below 8 ns)))
+
+viewer-size : (m : Option (List ℕ)) → length (encodeViewer (rightsOf m)) ≡ viewerSize m
+viewer-size none = refl
+viewer-size (some ns) = refl
+
+pub viewer-few : (bits : ℕ) → length (viewerBytes bits) ≤ 4
+viewer-few bits = split (eqb bits 256) (λ e. rw e (omega arith)) (λ e. rw e (omega arith))
+
+pub start-few : (c w : ℕ) → length (startBytes c w) ≤ 8
+start-few c w = split (eqb c 0) (λ e. rw e (omega arith)) (λ e. rw e (omega arith))
+
+-- ---- one behaviour
+
+-- an item made of a result
+twice-made : {X : Type 0} (a : OrFault X) (wrap : X → Item) (v : Option ℕ)
+    → faultIn (andThen (andThen a (λ x. fine (wrap x))) (λ x. fine (entry x v))) ≡ faultIn a
+twice-made (fault k p) wrap v = refl
+twice-made (fine x) wrap v = refl
+
+module _ {X : Type 0} (enc : X → List ℕ) (wrap : X → Item) (t : ℕ) (before : List ℕ) (tagged : (x : X) → tagOf (wrap x) ≡ t) (coded : (x : X) → encodeItem (wrap x) ≡ before ++ enc x) where
+  entry-bytes : (v : Option ℕ) (seen : List ℕ) (n m end stop : ℕ) (o p : List ℕ) (a : OrFault X) → seen ≡ encodeViewer v → m ≡ n + 3 + length before
+      → ((x : X) → a ≡ fine x → end ≤ length (sets o (n + 3) before) → take end p ≡ take m (sets o (n + 3) before) ++ enc x) → m ≤ end
+      → length p ≡ length o → length o ≤ 8192 → stop ≡ end + length seen
+      → (y : Entry) → andThen (andThen a (λ x. fine (wrap x))) (λ x. fine (entry x v)) ≡ fine y → stop ≤ length o
+      → take stop (headed t n stop (sets p end seen)) ≡ take n o ++ encodeBehaviour y
+  entry-bytes v seen n m end stop o p (fault k i) hv hm f h l b st y e g = absurd (no-fault e)
+  entry-bytes v seen n m end stop o p (fine x) hv hm f h l b st y e g =
+      let z : y ≡ entry (wrap x) v = cc in
+      let l₁ : length (sets o (n + 3) before) ≡ length o = length-sets o (n + 3) before in
+      let l₂ : length (sets p end seen) ≡ length o = length-sets p end seen ∙ l in
+      let q₁ : take m (sets o (n + 3) before) ≡ take (n + 3) o ++ before = rw hm (sets-taken o (n + 3) before (omega arith)) in
+      let q₂ : take stop (sets p end seen) ≡ take end p ++ seen = rw st (sets-taken p end seen (omega arith)) in
+      let q₃ : take end p ≡ take m (sets o (n + 3) before) ++ enc x = f x refl (omega arith) in
+      let q₄ : take stop (sets p end seen) ≡ take (n + 3) o ++ ((before ++ enc x) ++ seen) = rw (q₂, q₃, q₁) (simp append-assoc) in
+      let r : field (tagOf (wrap x)) (encodeItem (wrap x) ++ encodeViewer v) ≡ field t ((before ++ enc x) ++ seen) = rw (tagged x, coded x, hv) in
+      rw (z, r) (field-framed t n stop o (sets p end seen) ((before ++ enc x) ++ seen) (omega arith) g (omega arith) l₂ q₄)
+
+  pub entry-written : (es : List TextEvent) (find : List ℕ → NameMeaning) (text s : List ℕ) (body : Body) (v : Option (List ℕ)) (a : OrFault X) (size n m to end stop w bits : ℕ) (o p : List ℕ)
+      (us : List SheetToken) → itemOf es find body ≡ andThen a (λ x. fine (wrap x)) → bodySize body ≡ length before + size → bits ≡ rightsNumber v → m ≡ n + 3 + length before
+      → end ≡ m + size → w ≡ faultIn a → us ≡ tokensFrom text to
+      → ((x : X) → a ≡ fine x → end ≤ length (sets o (n + 3) before) → take end p ≡ take m (sets o (n + 3) before) ++ enc x)
+      → length p ≡ length o → length o ≤ 8192 → stop ≡ end + length (viewerBytes bits)
+      → PartWritten (behaviourCoding es find) text n o (headed t n stop (sets p end (viewerBytes bits))) to stop w (behaviour s body v) us
+  entry-written es find text s body v a size n m to end stop w bits o p us ie bs hb hm he hw ho f l few hs =
+      let vb : viewerBytes bits ≡ encodeViewer (rightsOf v) = ap viewerBytes hb ∙ viewer-bytes v in
+      let vs : length (viewerBytes bits) ≡ viewerSize v = ap length vb ∙ viewer-size v in
+      record {
+        onward = ho;
+        size = omega arith;
+        names = rw ie (hw ∙ sym (twice-made a wrap (rightsOf v)));
+        bytes = rw ie (entry-bytes (rightsOf v) (viewerBytes bits) n m end stop o p a vb hm f (omega arith) l few hs);
+      }
+
+-- ---- behaviours one after the other
+
+module _ (es : List TextEvent) (find : List ℕ → NameMeaning) where
+  alone : (a : OrFault Item) (v : Option ℕ)
+      → andThen a (λ x. andThen (fine []) (λ xs. fine (entry x v ∷ xs))) ≡ andThen (andThen a (λ x. fine (entry x v))) (λ y. fine (y ∷ []))
+  alone (fault k p) v = refl
+  alone (fine x) v = refl
+
+  behind : (a : OrFault Item) (v : Option ℕ) (b : OrFault (List Entry))
+      → andThen a (λ x. andThen b (λ xs. fine (entry x v ∷ xs))) ≡ andThen (andThen a (λ x. fine (entry x v))) (λ x. andThen b (λ xs. fine (x ∷ xs)))
+  behind (fault k p) v b = refl
+  behind (fine x) v b = refl
+
+  entries-more : (bs : List TextBehaviour) (b : TextBehaviour)
+      → entriesOf es find (bs ++ (b ∷ [])) ≡ andThen (entriesOf es find bs) (λ ys. andThen (entryMeant es find b) (λ y. fine (ys ++ (y ∷ []))))
+  unfolding entriesOf
+  entries-more [] (behaviour s x m) = alone (itemOf es find x) (rightsOf m)
+  entries-more (behaviour s x m ∷ bs) b =
+      behind (itemOf es find x) (rightsOf m) (entriesOf es find (bs ++ (b ∷ [])))
+      ∙ rw (entries-more bs b) (last-behind (entryMeant es find (behaviour s x m)) (entriesOf es find bs) (entryMeant es find b))
+      ∙ ap (λ a. andThen a (λ ys. andThen (entryMeant es find b) (λ y. fine (ys ++ (y ∷ []))))) (sym (behind (itemOf es find x) (rightsOf m) (entriesOf es find bs)))
+
+encoded-more : (ys : List Entry) (y : Entry) → encodeBehaviours (ys ++ (y ∷ [])) ≡ encodeBehaviours ys ++ encodeBehaviour y
+unfolding encodeBehaviours
+encoded-more [] y = append-nil (encodeBehaviour y)
+encoded-more (x ∷ ys) y = ap (λ bs. encodeBehaviour x ++ bs) (encoded-more ys y) ∙ sym (append-assoc (encodeBehaviour x) (encodeBehaviours ys) (encodeBehaviour y))
+
+sized-more : (bs : List TextBehaviour) (b : TextBehaviour) → behavioursSize (bs ++ (b ∷ [])) ≡ behavioursSize bs + behaviourSize b
+unfolding behavioursSize
+sized-more [] (behaviour s x m) = omega arith
+sized-more (behaviour s x m ∷ bs) b = omega (arith, sized-more bs b)
+
+pub behaviours-grow : (es : List TextEvent) (find : List ℕ → NameMeaning) → Grows (behaviourCoding es find) (behavioursCoding es find)
+unfolding entriesOf encodeBehaviours behavioursSize
+behaviours-grow es find =
+    record {
+      none-resolved = refl;
+      none-encoded = refl;
+      none-sized = refl;
+      more-resolved = entries-more es find;
+      more-encoded = encoded-more;
+      more-sized = sized-more;
+    }

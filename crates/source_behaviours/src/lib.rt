@@ -1,0 +1,667 @@
+// Behaviours, and a whole sheet's text, read from left to right; the sheet's bytes written on the way. Time: one pass
+// over the text, and each name is compared with those before it.
+use source_coding::faults;
+use source_coding::limits as texts;
+use source_coding::signs;
+use source_declarations::Declared;
+use source_declarations::Rights;
+use source_declarations::UNSAID;
+use source_declarations::fault_of;
+use source_declarations::put_byte;
+use source_due::Due;
+use source_due::fault_word;
+use source_due::sign_due;
+use source_field::Read;
+use source_handlers::HEAD_BYTES;
+use source_handlers::Part;
+use source_handlers::first_fault;
+use source_handlers::put_head;
+use source_handlers::refused_formula;
+use source_tokens::Token;
+use spec_language::limits;
+use spec_language::tags;
+ghost use mathlib.Core.Path.{_≡_};
+ghost use Prim.Native.Nat.{_≤_, _<_, _+_, _*_};
+ghost use lib.ListN.{length};
+ghost use lib.Seq.{sets};
+ghost use Rattle.lib_base.specs.Basics.{All};
+ghost use Rattle.spec_language.specs.Grammar.{field, word};
+ghost use Rattle.source_language.specs.Reader.{readText};
+ghost use Rattle.source_coding.specs.Places.{tokensFrom, namesHeld, meaningIn};
+ghost use Rattle.source_due.specs.Due.{DueWithin};
+ghost use Rattle.source_handlers.specs.Parts.{DueRead, PartWithin};
+ghost use Rattle.source_behaviours.specs.Behaviours.{startBytes, viewerBytes, bodyTag, newName, closedCells, countedCells, cellsSaid, numbersTaken, startDeclared, NamedAt, CountIs, StartWordIs, CellsWithin, ClosedWithin, StartWithin, WordRead, WordWithin, StateRead, StateWithin, PassiveRead, StateDeclared, KindRead, BehaviourRead, BehaviourWithin, BehavioursRead, BehavioursWithin, EndFault, refusedRights, refusedPart, refusedBehaviour, refusedBehaviours, refusedDeclared};
+ghost use Rattle.source_behaviours.specs.Whole.{NamesUsable, TextRead, EndWithin};
+
+// What a start value's bytes count, from the last but one on, and where they stand in its field.
+const BYTE: u64 = 256;
+
+const HALF: u64 = 65536;
+
+const THREE_BYTES: u64 = 16777216;
+
+const WORD_BYTES: u8 = 4;
+
+const SECOND: usize = 4;
+
+const THIRD: usize = 5;
+
+const LAST: usize = 6;
+
+// How many bytes a start value's field has, a row's with its count, and a viewers' field.
+const START_BYTES: usize = 7;
+
+const ROW_START_BYTES: usize = 8;
+
+const VIEWER_BYTES: usize = 4;
+
+// The words that begin a behaviour, as what is due tells them.
+const PASSIVE: u64 = signs::PASSIVE as u64;
+
+const ROW: u64 = signs::ROW as u64;
+
+const LEAST_CELLS: u64 = limits::LEAST_CELLS as u64;
+
+const MOST_CELLS: u64 = limits::MOST_CELLS as u64;
+
+// A behaviour: the place of its name, its cells, the place behind it, the end of its field, and the first fault of its
+// names, 0 for none; or a fault's word.
+pub enum Behaviour {
+    Done(usize, usize, usize, usize, u64),
+    Fault(u64),
+}
+
+// Behaviours: the place behind them, how many names there are with theirs, the end of their fields, and the first fault
+// of their names; or a fault's word.
+pub enum Behaviours {
+    Done(usize, usize, usize, u64),
+    Fault(u64),
+}
+
+// The end of the sheet's bytes, how many parameters, how many names, and the first fault of a name in a formula, 0 for
+// none; or the first fault of the first pass.
+pub enum Reading {
+    Read(usize, usize, usize, u64),
+    Fault(u64),
+}
+
+// The value that an active or a row starts with, from place n on.
+fn put_value(out: &mut [u8], n: usize, w: u64)
+    requires { ⌜ n ≤ 2097152 ⌝ }
+    requires { ⌜ w < 4294967296 ⌝ }
+    ensures { λ _. ⌜ now (out .exit) ≡ sets (now (out .entry)) n (field 4 (word w)) ⌝ }
+{
+    put_byte(out, n, tags::START);
+    put_byte(out, n + 1, 0);
+    put_byte(out, n + 2, WORD_BYTES);
+    put_byte(out, n + 3, (w / THREE_BYTES) as u8);
+    put_byte(out, n + SECOND, (w / HALF % BYTE) as u8);
+    put_byte(out, n + THIRD, (w / BYTE % BYTE) as u8);
+    put_byte(out, n + LAST, (w % BYTE) as u8);
+}
+
+// The same after a row's count, where there is one; the place behind it.
+fn put_start(out: &mut [u8], n: usize, w: u64, cells: usize) -> usize
+    requires { ⌜ n ≤ 1048576 ⌝ }
+    requires { ⌜ w < 4294967296 ⌝ }
+    requires { ⌜ cells ≤ 16 ⌝ }
+    ensures { λ r. ⌜ r ≡ n + length (startBytes cells w) ⌝ }
+    ensures { λ _. ⌜ now (out .exit) ≡ sets (now (out .entry)) n (startBytes cells w) ⌝ }
+{
+    if cells == 0 {
+        put_value(out, n, w);
+        return n + START_BYTES;
+    }
+    put_byte(out, n, cells as u8);
+    put_value(out, n + 1, w);
+    n + ROW_START_BYTES
+}
+
+// The tag of an active's field, or of a row's.
+fn tag_of(cells: usize) -> u8
+    ensures { λ r. ⌜ r ≡ bodyTag cells ⌝ }
+{
+    if cells == 0 {
+        return tags::ACTIVE;
+    }
+    tags::ROW
+}
+
+// Who may see a behaviour, where it is said; the place behind it.
+fn put_viewer(out: &mut [u8], n: usize, bits: u64) -> usize
+    requires { ⌜ n ≤ 2097152 ⌝ }
+    requires { ⌜ bits ≤ 256 ⌝ }
+    ensures { λ r. ⌜ r ≡ n + length (viewerBytes bits) ⌝ }
+    ensures { λ _. ⌜ now (out .exit) ≡ sets (now (out .entry)) n (viewerBytes bits) ⌝ }
+{
+    if bits == UNSAID {
+        return n;
+    }
+    put_byte(out, n, tags::VIEWERS);
+    put_byte(out, n + 1, 0);
+    put_byte(out, n + 2, 1);
+    put_byte(out, n + 3, bits as u8);
+    n + VIEWER_BYTES
+}
+
+// What may be seen is at fault, and so the part.
+fn refused_rights(rights: Rights) -> Part
+    ensures { λ r. ⌜ r ≡ refusedRights rights ⌝ }
+{
+    match rights {
+        Rights::Fault(w) => Part::Fault(w),
+        Rights::Given(_, _) => Part::Fault(0),
+    }
+}
+
+// A passive from behind its name on.
+fn passive_at(
+    text: &[u8],
+    at: usize,
+    places: &[usize],
+    params: usize,
+    firsts: &[usize],
+    out: &mut [u8],
+    n: usize,
+) -> Part
+    requires { ⌜ length (now text) ≤ 65536 ⌝ }
+    requires { ⌜ at ≤ length (now text) ⌝ }
+    requires { ⌜ n ≤ at * 16 ⌝ }
+    requires { ⌜ length (now places) ≤ 72 ⌝ }
+    requires { ⌜ All (λ i. i ≤ 64) (now firsts) ⌝ }
+    requires { ⌜ length (now out) ≤ 8192 ⌝ }
+    ensures { λ r. ⌜ PassiveRead (now (text .entry)) (meaningIn (now (text .entry)) (now (places .entry)) params (now (firsts .entry))) at n (now (out .entry)) (now (out .exit)) r ⌝ }
+    ensures { λ r. ⌜ PartWithin (length (now (text .entry))) at n r ⌝ }
+    ensures { λ _. ⌜ length (now (out .exit)) ≡ length (now (out .entry)) ⌝ }
+{
+    let d = sign_due(text, at, signs::EQUALS);
+    let Due::Found(_, _, next) = d else {
+        return Part::Fault(fault_of(d));
+    };
+    let r = source_formula::formula_at(text, next, places, params, firsts, 0, out, n + HEAD_BYTES);
+    let Read::Done(f, _, end, w) = r else {
+        return refused_formula(r);
+    };
+    let s = source_declarations::seen_at(text, f);
+    let Rights::Given(to, bits) = s else {
+        return refused_rights(s);
+    };
+    let stop = put_viewer(out, end, bits);
+    put_head(out, n, stop, tags::PASSIVE);
+    Part::Done(to, stop, w)
+}
+
+// An active, or a row of so many cells, from its handlers on.
+fn state_with(
+    text: &[u8],
+    at: usize,
+    places: &[usize],
+    params: usize,
+    firsts: &[usize],
+    events: &[usize],
+    cells: usize,
+    start: u64,
+    bits: u64,
+    out: &mut [u8],
+    n: usize,
+) -> Part
+    requires { ⌜ length (now text) ≤ 65536 ⌝ }
+    requires { ⌜ at ≤ length (now text) ⌝ }
+    requires { ⌜ n + 16 ≤ at * 16 ⌝ }
+    requires { ⌜ length (now places) ≤ 72 ⌝ }
+    requires { ⌜ All (λ i. i ≤ 64) (now firsts) ⌝ }
+    requires { ⌜ length (now events) ≤ 32 ⌝ }
+    requires { ⌜ cells ≤ 16 ⌝ }
+    requires { ⌜ start < 4294967296 ⌝ }
+    requires { ⌜ bits ≤ 256 ⌝ }
+    requires { ⌜ length (now out) ≤ 8192 ⌝ }
+    ensures { λ r. ⌜ StateRead (now (text .entry)) (meaningIn (now (text .entry)) (now (places .entry)) params (now (firsts .entry))) (now (events .entry)) cells start bits at n (now (out .entry)) (now (out .exit)) r ⌝ }
+    ensures { λ r. ⌜ StateWithin (length (now (text .entry))) at n r ⌝ }
+    ensures { λ _. ⌜ length (now (out .exit)) ≡ length (now (out .entry)) ⌝ }
+{
+    let m = put_start(out, n + HEAD_BYTES, start, cells);
+    let r = source_handlers::handlers_at(text, at, places, params, firsts, cells, events, out, m);
+    let Part::Done(to, end, w) = r else {
+        return r;
+    };
+    let last = put_viewer(out, end, bits);
+    put_head(out, n, last, tag_of(cells));
+    Part::Done(to, last, w)
+}
+
+// The value after `=`.
+fn start_due(text: &[u8], at: usize) -> Due
+    requires { ⌜ length (now text) ≤ 65536 ⌝ }
+    requires { ⌜ at ≤ length (now text) ⌝ }
+    ensures { λ r. ⌜ DueRead StartWordIs (now (text .entry)) r (startDeclared (tokensFrom (now (text .entry)) at)) ⌝ }
+    ensures { λ r. ⌜ StartWithin (length (now (text .entry))) at r ⌝ }
+{
+    let d = sign_due(text, at, signs::EQUALS);
+    let Due::Found(_, _, next) = d else {
+        return d;
+    };
+    source_due::value_at(text, next)
+}
+
+// An active, or a row of so many cells, from behind its name and count on.
+fn state_at(
+    text: &[u8],
+    at: usize,
+    places: &[usize],
+    params: usize,
+    firsts: &[usize],
+    events: &[usize],
+    cells: usize,
+    out: &mut [u8],
+    n: usize,
+) -> Part
+    requires { ⌜ length (now text) ≤ 65536 ⌝ }
+    requires { ⌜ at ≤ length (now text) ⌝ }
+    requires { ⌜ n ≤ at * 16 ⌝ }
+    requires { ⌜ length (now places) ≤ 72 ⌝ }
+    requires { ⌜ All (λ i. i ≤ 64) (now firsts) ⌝ }
+    requires { ⌜ length (now events) ≤ 32 ⌝ }
+    requires { ⌜ cells ≤ 16 ⌝ }
+    requires { ⌜ length (now out) ≤ 8192 ⌝ }
+    ensures { λ r. ⌜ StateDeclared (now (text .entry)) (meaningIn (now (text .entry)) (now (places .entry)) params (now (firsts .entry))) (now (events .entry)) cells at n (now (out .entry)) (now (out .exit)) r ⌝ }
+    ensures { λ r. ⌜ PartWithin (length (now (text .entry))) at n r ⌝ }
+    ensures { λ _. ⌜ length (now (out .exit)) ≡ length (now (out .entry)) ⌝ }
+{
+    let d = start_due(text, at);
+    let Due::Found(_, start, next) = d else {
+        return Part::Fault(fault_of(d));
+    };
+    let s = source_declarations::seen_at(text, next);
+    let Rights::Given(to, bits) = s else {
+        return refused_rights(s);
+    };
+    state_with(
+        text,
+        to,
+        places,
+        params,
+        firsts,
+        events,
+        cells,
+        start,
+        bits,
+        out,
+        n,
+    )
+}
+
+// A behaviour by its first word, from behind its name and count on.
+fn kind_at(
+    text: &[u8],
+    at: usize,
+    places: &[usize],
+    params: usize,
+    firsts: &[usize],
+    events: &[usize],
+    word: u64,
+    cells: usize,
+    out: &mut [u8],
+    n: usize,
+) -> Part
+    requires { ⌜ length (now text) ≤ 65536 ⌝ }
+    requires { ⌜ at ≤ length (now text) ⌝ }
+    requires { ⌜ n ≤ at * 16 ⌝ }
+    requires { ⌜ length (now places) ≤ 72 ⌝ }
+    requires { ⌜ All (λ i. i ≤ 64) (now firsts) ⌝ }
+    requires { ⌜ length (now events) ≤ 32 ⌝ }
+    requires { ⌜ cells ≤ 16 ⌝ }
+    requires { ⌜ length (now out) ≤ 8192 ⌝ }
+    ensures { λ r. ⌜ KindRead (now (text .entry)) (meaningIn (now (text .entry)) (now (places .entry)) params (now (firsts .entry))) (now (events .entry)) word cells at n (now (out .entry)) (now (out .exit)) r ⌝ }
+    ensures { λ r. ⌜ PartWithin (length (now (text .entry))) at n r ⌝ }
+    ensures { λ _. ⌜ length (now (out .exit)) ≡ length (now (out .entry)) ⌝ }
+{
+    if word == PASSIVE {
+        return passive_at(text, at, places, params, firsts, out, n);
+    }
+    state_at(text, at, places, params, firsts, events, cells, out, n)
+}
+
+// A name that is not among the first `count`.
+fn name_at(text: &[u8], at: usize, names: &[usize], count: usize) -> Due
+    requires { ⌜ length (now text) ≤ 65536 ⌝ }
+    requires { ⌜ at ≤ length (now text) ⌝ }
+    requires { ⌜ count ≤ length (now names) ⌝ }
+    ensures { λ r. ⌜ DueRead (NamedAt (now (text .entry))) (now (text .entry)) r (newName (namesHeld (now (text .entry)) (now (names .entry)) count) (tokensFrom (now (text .entry)) at)) ⌝ }
+    ensures { λ r. ⌜ DueWithin (length (now (text .entry))) at r ⌝ }
+{
+    let d = source_due::name_due(text, at);
+    let Due::Found(p, _, next) = d else {
+        return d;
+    };
+    if source_names::is_among(text, p, names, count) {
+        return Due::Fault(fault_word(faults::DECLARED_TWICE, p));
+    }
+    Due::Found(p, 0, next)
+}
+
+// A row's count after `[`, behind i cells.
+fn count_at(text: &[u8], at: usize, i: usize) -> Due
+    requires { ⌜ length (now text) ≤ 65536 ⌝ }
+    requires { ⌜ at ≤ length (now text) ⌝ }
+    requires { ⌜ i ≤ 64 ⌝ }
+    ensures { λ r. ⌜ DueRead CountIs (now (text .entry)) r (countedCells i (tokensFrom (now (text .entry)) at)) ⌝ }
+    ensures { λ r. ⌜ CellsWithin (length (now (text .entry))) at i r ⌝ }
+{
+    let d = source_due::number_due(text, at, texts::LARGEST);
+    let Due::Found(p, v, next) = d else {
+        return d;
+    };
+    if v < LEAST_CELLS {
+        return Due::Fault(fault_word(faults::OFF_SCALE, p));
+    }
+    if MOST_CELLS < v {
+        return Due::Fault(fault_word(faults::OFF_SCALE, p));
+    }
+    if limits::BEHAVIOURS < i + (v as usize) {
+        return Due::Fault(fault_word(faults::TOO_MANY, p));
+    }
+    closed_at(text, next, p, v)
+}
+
+// `]` behind a row's count v, which stands at p.
+fn closed_at(text: &[u8], at: usize, p: usize, v: u64) -> Due
+    requires { ⌜ length (now text) ≤ 65536 ⌝ }
+    requires { ⌜ at ≤ length (now text) ⌝ }
+    ensures { λ r. ⌜ DueRead CountIs (now (text .entry)) r (closedCells v (tokensFrom (now (text .entry)) at)) ⌝ }
+    ensures { λ r. ⌜ ClosedWithin (length (now (text .entry))) at v r ⌝ }
+{
+    let d = sign_due(text, at, signs::UNBRACKET);
+    let Due::Found(_, _, next) = d else {
+        return d;
+    };
+    Due::Found(p, v, next)
+}
+
+// A row's count behind i cells; 0 for another behaviour.
+fn cells_at(text: &[u8], at: usize, word: u64, i: usize) -> Due
+    requires { ⌜ length (now text) ≤ 65536 ⌝ }
+    requires { ⌜ at ≤ length (now text) ⌝ }
+    requires { ⌜ i ≤ 64 ⌝ }
+    ensures { λ r. ⌜ DueRead CountIs (now (text .entry)) r (cellsSaid i word (tokensFrom (now (text .entry)) at)) ⌝ }
+    ensures { λ r. ⌜ CellsWithin (length (now (text .entry))) at i r ⌝ }
+{
+    if word != ROW {
+        return Due::Found(at, 0, at);
+    }
+    let d = sign_due(text, at, signs::BRACKET);
+    let Due::Found(_, _, next) = d else {
+        return d;
+    };
+    count_at(text, next, i)
+}
+
+// How many numbers a behaviour takes, by a row's count or 0.
+fn numbers_of(cells: usize) -> usize
+    requires { ⌜ cells ≤ 16 ⌝ }
+    ensures { λ r. ⌜ r ≡ numbersTaken cells ⌝ }
+{
+    if cells == 0 {
+        return 1;
+    }
+    cells
+}
+
+// A part at fault, and so the behaviour.
+fn refused_part(part: Part) -> Behaviour
+    ensures { λ r. ⌜ r ≡ refusedPart part ⌝ }
+{
+    match part {
+        Part::Fault(w) => Behaviour::Fault(w),
+        Part::Done(_, _, _) => Behaviour::Fault(0),
+    }
+}
+
+// A behaviour whose word stands at q, from behind that on; behind i cells, and `count` names.
+fn behaviour_at(
+    text: &[u8],
+    at: usize,
+    q: usize,
+    word: u64,
+    i: usize,
+    names: &[usize],
+    count: usize,
+    places: &[usize],
+    params: usize,
+    firsts: &[usize],
+    events: &[usize],
+    out: &mut [u8],
+    n: usize,
+) -> Behaviour
+    requires { ⌜ length (now text) ≤ 65536 ⌝ }
+    requires { ⌜ at ≤ length (now text) ⌝ }
+    requires { ⌜ q ≤ at ⌝ }
+    requires { ⌜ i ≤ 64 ⌝ }
+    requires { ⌜ count ≤ length (now names) ⌝ }
+    requires { ⌜ n ≤ at * 16 ⌝ }
+    requires { ⌜ length (now places) ≤ 72 ⌝ }
+    requires { ⌜ All (λ i. i ≤ 64) (now firsts) ⌝ }
+    requires { ⌜ length (now events) ≤ 32 ⌝ }
+    requires { ⌜ length (now out) ≤ 8192 ⌝ }
+    ensures { λ r. ⌜ BehaviourRead (now (text .entry)) (meaningIn (now (text .entry)) (now (places .entry)) params (now (firsts .entry))) (now (events .entry)) (now (names .entry)) count i q word at n (now (out .entry)) (now (out .exit)) r ⌝ }
+    ensures { λ r. ⌜ BehaviourWithin (length (now (text .entry))) at n i r ⌝ }
+    ensures { λ _. ⌜ length (now (out .exit)) ≡ length (now (out .entry)) ⌝ }
+{
+    if limits::BEHAVIOURS <= i {
+        return Behaviour::Fault(fault_word(faults::TOO_MANY, q));
+    }
+    let name = name_at(text, at, names, count);
+    let Due::Found(p, _, next) = name else {
+        return Behaviour::Fault(fault_of(name));
+    };
+    let counted = cells_at(text, next, word, i);
+    let Due::Found(_, cells, after) = counted else {
+        return Behaviour::Fault(fault_of(counted));
+    };
+    let r = kind_at(
+        text,
+        after,
+        places,
+        params,
+        firsts,
+        events,
+        word,
+        cells as usize,
+        out,
+        n,
+    );
+    let Part::Done(to, end, w) = r else {
+        return refused_part(r);
+    };
+    Behaviour::Done(p, numbers_of(cells as usize), to, end, w)
+}
+
+// A word that begins a behaviour: its place, its sign's number, and the place behind it; else no more than a fault.
+fn word_at(text: &[u8], at: usize) -> Due
+    requires { ⌜ length (now text) ≤ 65536 ⌝ }
+    requires { ⌜ at ≤ length (now text) ⌝ }
+    ensures { λ r. ⌜ WordRead (now (text .entry)) at r ⌝ }
+    ensures { λ r. ⌜ WordWithin (length (now (text .entry))) at r ⌝ }
+{
+    let t = source_tokens::token_at(text, at);
+    let Token::Sign(p, c, next) = t else {
+        return Due::Fault(0);
+    };
+    if c < signs::PASSIVE {
+        return Due::Fault(0);
+    }
+    if signs::ROW < c {
+        return Due::Fault(0);
+    }
+    Due::Found(p, c as u64, next)
+}
+
+// A behaviour at fault, and so all of them.
+fn refused_behaviour(behaviour: Behaviour) -> Behaviours
+    ensures { λ r. ⌜ r ≡ refusedBehaviour behaviour ⌝ }
+{
+    match behaviour {
+        Behaviour::Fault(w) => Behaviours::Fault(w),
+        Behaviour::Done(_, _, _, _, _) => Behaviours::Fault(0),
+    }
+}
+
+// The behaviours from a place on. The places of their names go behind the first `taken` of `names`, the numbers of
+// their first cells to `starts`, and behind the last how many cells there are.
+fn behaviours_at(
+    text: &[u8],
+    at: usize,
+    places: &[usize],
+    params: usize,
+    firsts: &[usize],
+    events: &[usize],
+    names: &mut [usize],
+    taken: usize,
+    starts: &mut [usize],
+    out: &mut [u8],
+    n: usize,
+) -> Behaviours
+    requires { ⌜ length (now text) ≤ 65536 ⌝ }
+    requires { ⌜ at ≤ length (now text) ⌝ }
+    requires { ⌜ n ≤ at * 16 ⌝ }
+    requires { ⌜ length (now places) ≤ 72 ⌝ }
+    requires { ⌜ All (λ i. i ≤ 64) (now firsts) ⌝ }
+    requires { ⌜ length (now events) ≤ 32 ⌝ }
+    requires { ⌜ length (now names) ≡ 72 ⌝ }
+    requires { ⌜ taken ≤ 8 ⌝ }
+    requires { ⌜ (length (now starts) ≡ 65) × All (λ i. i ≤ 64) (now starts) ⌝ }
+    requires { ⌜ length (now out) ≤ 8192 ⌝ }
+    ensures { λ r. ⌜ BehavioursRead (now (text .entry)) (meaningIn (now (text .entry)) (now (places .entry)) params (now (firsts .entry))) (now (events .entry)) at n (now (out .entry)) (now (out .exit)) (now (names .entry)) taken (now (names .exit)) (now (starts .exit)) r ⌝ }
+    ensures { λ r. ⌜ BehavioursWithin (length (now (text .entry))) n taken r ⌝ }
+    ensures { λ _. ⌜ length (now (names .exit)) ≡ 72 ⌝ }
+    ensures { λ _. ⌜ (length (now (starts .exit)) ≡ 65) × All (λ i. i ≤ 64) (now (starts .exit)) ⌝ }
+    ensures { λ _. ⌜ length (now (out .exit)) ≡ length (now (out .entry)) ⌝ }
+{
+    starts[0] = 0;
+    let mut f = at;
+    let mut count = taken;
+    let mut i = 0usize;
+    let mut end = n;
+    let mut w = 0u64;
+    loop {
+        let first = word_at(text, f);
+        let Due::Found(q, word, next) = first else {
+            return Behaviours::Done(f, count, end, w);
+        };
+        let b = behaviour_at(
+            text,
+            next,
+            q,
+            word,
+            i,
+            names,
+            count,
+            places,
+            params,
+            firsts,
+            events,
+            out,
+            end,
+        );
+        let Behaviour::Done(p, cells, to, stop, v) = b else {
+            return refused_behaviour(b);
+        };
+        names[count] = p;
+        count = count + 1;
+        i = i + cells;
+        starts[count - taken] = i;
+        f = to;
+        end = stop;
+        w = first_fault(w, v);
+    }
+}
+
+// 0 where the text ends, else a fault's word.
+fn end_fault(text: &[u8], at: usize) -> u64
+    requires { ⌜ length (now text) ≤ 65536 ⌝ }
+    requires { ⌜ at ≤ length (now text) ⌝ }
+    ensures { λ r. ⌜ EndFault (now (text .entry)) at r ⌝ }
+{
+    let t = source_tokens::token_at(text, at);
+    let Token::Sign(p, c, _) = t else {
+        return fault_word(faults::OUTSIDE, source_tokens::place_of(t));
+    };
+    if c != signs::END {
+        return fault_word(faults::OUTSIDE, p);
+    }
+    0
+}
+
+// Declarations at fault, and so the text.
+fn refused_declared(declared: Declared) -> Reading
+    ensures { λ r. ⌜ r ≡ refusedDeclared declared ⌝ }
+{
+    match declared {
+        Declared::Fault(w) => Reading::Fault(w),
+        Declared::Done(_, _, _) => Reading::Fault(0),
+    }
+}
+
+// Behaviours at fault, and so the text.
+fn refused_behaviours(behaviours: Behaviours) -> Reading
+    ensures { λ r. ⌜ r ≡ refusedBehaviours behaviours ⌝ }
+{
+    match behaviours {
+        Behaviours::Fault(w) => Reading::Fault(w),
+        Behaviours::Done(_, _, _, _) => Reading::Fault(0),
+    }
+}
+
+// A text, in which names mean what `places`, `params` and `firsts` say. What it declares goes to `names` and `starts`:
+// the places of parameters and behaviours in their order, and the number of each behaviour's first cell, last of all
+// how many there are.
+pub fn read_at(
+    text: &[u8],
+    places: &[usize],
+    params: usize,
+    firsts: &[usize],
+    names: &mut [usize],
+    starts: &mut [usize],
+    out: &mut [u8],
+) -> Reading
+    requires { ⌜ length (now text) ≤ 65536 ⌝ }
+    requires { ⌜ NamesUsable (now places) params (now firsts) ⌝ }
+    requires { ⌜ length (now names) ≡ 72 ⌝ }
+    requires { ⌜ (length (now starts) ≡ 65) × All (λ i. i ≤ 64) (now starts) ⌝ }
+    requires { ⌜ length (now out) ≤ 8192 ⌝ }
+    ensures { λ r. ⌜ TextRead (now (text .entry)) (meaningIn (now (text .entry)) (now (places .entry)) params (now (firsts .entry))) (now (out .entry)) (now (out .exit)) (now (names .exit)) (now (starts .exit)) r (readText (now (text .entry))) ⌝ }
+    ensures { λ r. ⌜ EndWithin (length (now (text .entry))) r ⌝ }
+    ensures { λ _. ⌜ length (now (names .exit)) ≡ 72 ⌝ }
+    ensures { λ _. ⌜ length (now (starts .exit)) ≡ 65 ⌝ }
+    ensures { λ _. ⌜ length (now (out .exit)) ≡ length (now (out .entry)) ⌝ }
+{
+    let first = source_declarations::parameters_at(text, 0, names);
+    let Declared::Done(a, taken, _) = first else {
+        return refused_declared(first);
+    };
+    let mut events = [0usize; limits::EVENTS];
+    let second = source_declarations::events_at(text, a, &mut events, out, 0);
+    let Declared::Done(b, count, n) = second else {
+        return refused_declared(second);
+    };
+    let third = behaviours_at(
+        text,
+        b,
+        places,
+        params,
+        firsts,
+        &events[0..count],
+        names,
+        taken,
+        starts,
+        out,
+        n,
+    );
+    let Behaviours::Done(f, total, end, w) = third else {
+        return refused_behaviours(third);
+    };
+    let fault = end_fault(text, f);
+    if fault != 0 {
+        return Reading::Fault(fault);
+    }
+    Reading::Read(end, taken, total, w)
+}

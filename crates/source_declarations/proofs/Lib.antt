@@ -1,0 +1,9 @@
+pub mod Many
+pub mod Shorter
+pub mod Held
+pub mod Bits
+pub mod Writes
+pub mod Named
+pub mod Players
+pub mod Parameters
+pub mod Events

@@ -1,0 +1,9 @@
+pub mod Terms
+pub mod Rights
+pub mod Declarations
+pub mod Needed
+pub mod Places
+pub mod Writing
+pub mod Applied
+pub mod Turns
+pub mod Texts

@@ -1,0 +1,51 @@
+-- One token after the other, as `signalTokens` has them.
+use borrow.Author.Needs.{needs}
+use Rattle.source_describe.proofs.Writing.{wrote-on}
+use Rattle.source_describe.proofs.put_signal.Statement.{statement}
+use Rattle.source_describe.proofs.put_signal.Tie as tie
+
+returns : tie.Need-returns
+returns c =
+    let at-put-senders = c .before .before in
+    let at-put-number = at-put-senders .before .before .before .before in
+    let at-put-sign2 = at-put-number .before .before .before .before in
+    let at-put-name = at-put-sign2 .before .before .before .before in
+    let at-put-sign = at-put-name .before .before .before .before in
+    let at-byte-from = at-put-sign .before .before in
+    rw (← at-byte-from .byte-from .ensures)
+    (wrote-on (at-put-sign .put-sign .ensures) (wrote-on (at-put-name .put-name .ensures) (wrote-on (at-put-sign2 .put-sign2 .ensures) (wrote-on (at-put-number .put-number .ensures) (at-put-senders .put-senders .ensures)))))
+
+byte-from-requires : tie.Need-byte-from-requires
+byte-from-requires c κs = search needs
+
+cast-rank : tie.Need-cast-rank
+cast-rank c = search needs
+
+put-sign-requires : tie.Need-put-sign-requires
+put-sign-requires c κs = search needs
+
+put-name-requires : tie.Need-put-name-requires
+put-name-requires c κs = search needs
+
+put-sign-requires-2 : tie.Need-put-sign-requires-2
+put-sign-requires-2 c κs = search needs
+
+put-number-requires : tie.Need-put-number-requires
+put-number-requires c κs = search needs
+
+put-senders-requires : tie.Need-put-senders-requires
+put-senders-requires c κs =
+    let at-put-number = c .before .before .before in
+    let at-put-name = at-put-number .before .before .before .before .before .before .before .before in
+    let at-byte-from = at-put-name .before .before .before .before .before .before in
+    let at-entry = at-byte-from .before .before .before in
+    (at-entry .pre .0 .0, at-put-number .put-number .ensures .stops)
+
+same-length : tie.Need-same-length
+same-length c = returns c .as-long
+
+pub put-signal-spec : {M : Type 1} → statement M
+put-signal-spec =
+    tie.close
+    (tie.spec byte-from-requires cast-rank put-sign-requires put-name-requires put-sign-requires-2
+    put-number-requires put-senders-requires same-length returns)

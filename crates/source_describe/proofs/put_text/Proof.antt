@@ -1,0 +1,45 @@
+-- One part after the other, as `sheetTokens` has them.
+use native.Mathlib.Omega.{arith}
+use borrow.Author.Needs.{needs}
+use Rattle.source_describe.proofs.Writing.{wrote-on, wrote-as}
+use Rattle.source_describe.proofs.Turns.{text-parts}
+use Rattle.source_describe.proofs.put_text.Statement.{statement}
+use Rattle.source_describe.proofs.put_text.Tie as tie
+
+returns : tie.Need-returns
+returns c =
+    let at-put-sign = c .before .before in
+    let at-put-entries = at-put-sign .before .before .before .before in
+    let at-put-signals = at-put-entries .before .before .before .before in
+    let at-put-parameters = at-put-signals .before .before .before .before in
+    let at-needed-from = at-put-parameters .before .before in
+    let at-past-fields = at-needed-from .before in
+    wrote-as (wrote-on (at-put-parameters .put-parameters .ensures) (wrote-on (at-put-signals .put-signals .ensures) (wrote-on (at-put-entries .put-entries .ensures) (at-put-sign .put-sign .ensures))))
+    (text-parts _ (at-past-fields .past-fields .result) (at-needed-from .needed-from .result) (at-past-fields .past-fields .ensures .0) (at-needed-from .needed-from .ensures .0))
+
+past-fields-requires : tie.Need-past-fields-requires
+past-fields-requires c κs = search needs
+
+needed-from-requires : tie.Need-needed-from-requires
+needed-from-requires c κs = search needs
+
+put-parameters-requires : tie.Need-put-parameters-requires
+put-parameters-requires c κs = search needs
+
+put-signals-requires : tie.Need-put-signals-requires
+put-signals-requires c κs = search needs
+
+put-entries-requires : tie.Need-put-entries-requires
+put-entries-requires c κs = search needs
+
+put-sign-requires : tie.Need-put-sign-requires
+put-sign-requires c κs = search needs
+
+same-length : tie.Need-same-length
+same-length c = returns c .as-long
+
+pub put-text-spec : {M : Type 1} → statement M
+put-text-spec =
+    tie.close
+    (tie.spec past-fields-requires needed-from-requires put-parameters-requires put-signals-requires
+    put-entries-requires put-sign-requires same-length returns)

@@ -1,0 +1,105 @@
+// What is due at a place of a text: a sign, a name, a number up to a bound, a constant.
+use source_coding::faults;
+use source_coding::limits;
+use source_tokens::Token;
+use source_tokens::place_of;
+use source_tokens::token_at;
+use spec_language::functions;
+use text_formula::tokens;
+ghost use mathlib.Core.Path.{_≡_};
+ghost use Prim.Native.Nat.{_≤_, _<_, _+_, _*_, _-_, _%_};
+ghost use lib.ListN.{length};
+ghost use Rattle.source_due.specs.Due.{SignTold, NameTold, NumberTold, ValueTold, DueWithin};
+
+// What is due: its place, its number (of a sign, a number or a constant; 0 for a name) and the place behind it; or a
+// fault's word.
+pub enum Due {
+    Found(usize, u64, usize),
+    Fault(u64),
+}
+
+// A fault's word: its kind and its place.
+pub fn fault_word(kind: u64, place: usize) -> u64
+    requires { ⌜ kind ≤ 42 ⌝ }
+    requires { ⌜ place ≤ 65536 ⌝ }
+    ensures { λ r. ⌜ r ≡ kind * 4294967296 + place ⌝ }
+{
+    kind * faults::KIND + (place as u64)
+}
+
+// This sign.
+pub fn sign_due(text: &[u8], at: usize, sign: u8) -> Due
+    requires { ⌜ length (now text) ≤ 65536 ⌝ }
+    requires { ⌜ at ≤ length (now text) ⌝ }
+    requires { ⌜ sign < 34 ⌝ }
+    requires { ⌜ 0 < sign ⌝ }
+    ensures { λ r. ⌜ SignTold (now (text .entry)) at sign r ⌝ }
+    ensures { λ r. ⌜ DueWithin (length (now (text .entry))) at r ⌝ }
+{
+    let t = token_at(text, at);
+    let Token::Sign(p, c, next) = t else {
+        return Due::Fault(fault_word(faults::OUTSIDE, place_of(t)));
+    };
+    if c != sign {
+        return Due::Fault(fault_word(faults::OUTSIDE, p));
+    }
+    Due::Found(p, c as u64, next)
+}
+
+// A name.
+pub fn name_due(text: &[u8], at: usize) -> Due
+    requires { ⌜ length (now text) ≤ 65536 ⌝ }
+    requires { ⌜ at ≤ length (now text) ⌝ }
+    ensures { λ r. ⌜ NameTold (now (text .entry)) at r ⌝ }
+    ensures { λ r. ⌜ DueWithin (length (now (text .entry))) at r ⌝ }
+{
+    let t = token_at(text, at);
+    let Token::Name(p, next) = t else {
+        return Due::Fault(fault_word(faults::OUTSIDE, place_of(t)));
+    };
+    Due::Found(p, 0, next)
+}
+
+// A number of at most `top`.
+pub fn number_due(text: &[u8], at: usize, top: u64) -> Due
+    requires { ⌜ length (now text) ≤ 65536 ⌝ }
+    requires { ⌜ at ≤ length (now text) ⌝ }
+    requires { ⌜ top ≤ 2147483648 ⌝ }
+    ensures { λ r. ⌜ NumberTold (now (text .entry)) at top r ⌝ }
+    ensures { λ r. ⌜ DueWithin (length (now (text .entry))) at r ⌝ }
+{
+    let t = token_at(text, at);
+    let Token::Number(p, v, next) = t else {
+        return Due::Fault(fault_word(faults::OUTSIDE, place_of(t)));
+    };
+    if top < v {
+        return Due::Fault(fault_word(faults::LARGE_NUMBER, p));
+    }
+    Due::Found(p, v, next)
+}
+
+// The word of a negative constant, 2 ^ 32 less than which it is.
+fn negated(n: u64) -> u64
+    requires { ⌜ n ≤ 4294967296 ⌝ }
+    ensures { λ r. ⌜ r ≡ (4294967296 - n) % 4294967296 ⌝ }
+{
+    (tokens::WORDS - n) % tokens::WORDS
+}
+
+// A constant: a number, or `-` and a number.
+pub fn value_at(text: &[u8], at: usize) -> Due
+    requires { ⌜ length (now text) ≤ 65536 ⌝ }
+    requires { ⌜ at ≤ length (now text) ⌝ }
+    ensures { λ r. ⌜ ValueTold (now (text .entry)) at r ⌝ }
+    ensures { λ r. ⌜ DueWithin (length (now (text .entry))) at r ⌝ }
+{
+    let minus = sign_due(text, at, functions::SUBTRACT);
+    let Due::Found(p, c, next) = minus else {
+        return number_due(text, at, limits::LARGEST);
+    };
+    let number = number_due(text, next, limits::LARGEST_NEGATED);
+    let Due::Found(q, v, end) = number else {
+        return number;
+    };
+    Due::Found(p, negated(v), end)
+}

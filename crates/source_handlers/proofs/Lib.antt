@@ -1,0 +1,11 @@
+pub mod Phrases
+pub mod Steps
+pub mod Faults
+pub mod Names
+pub mod Bytes
+pub mod Gather
+pub mod Events
+pub mod Stages
+pub mod Written
+pub mod Body
+pub mod Loop

@@ -1,0 +1,153 @@
+-- Stage by stage: the phase, the formula, and the head in front of them.
+use Rattle.source_coding.specs.Places.{meaningIn}
+use lib.ListN.{length}
+use Rattle.source_handlers.proofs.Written.{opened-as, opened-long}
+use native.Mathlib.Omega.{arith}
+use mathlib.Core.Path.{ap, sym, _∙_}
+use Rattle.source_handlers.proofs.Bytes.{headed-long}
+use Rattle.source_handlers.proofs.Body.{phase-refused, formula-refused, handler-read}
+use Rattle.source_handlers.specs.Parts.{refusedRead}
+use Rattle.source_declarations.specs.Written.{dueFault}
+use borrow.Author.Needs.{needs}
+use Rattle.source_handlers.proofs.body_at.Statement.{statement}
+use Rattle.source_handlers.proofs.body_at.Tie as tie
+
+phase-due-requires : tie.Need-phase-due-requires
+phase-due-requires c κs = search needs
+
+enum-known-d : tie.Need-enum-known-d
+enum-known-d c = search needs
+
+enum-told : tie.Need-enum-told
+enum-told c = search needs
+
+fault-of-requires : tie.Need-fault-of-requires
+fault-of-requires c κs = search needs
+
+returns : tie.Need-returns
+returns c =
+    let e = c .before .enum-told .given .1 in
+    let f = c .before .before .before in
+    let a = f .before .before .before .before .before .args in
+    let h = rw e at (f .phase-due .ensures .0) in
+    rw (c .fault-of .ensures ∙ ap dueFault e)
+    (phase-refused (a .text .now) (meaningIn (a .text .now) (a .places .now) (a .params) (a .firsts .now)) (a .cells) (a .e) (a .at) (a .n) (a .out .now) _ _ h, (tt, search needs))
+
+add-put-byte : tie.Need-add-put-byte
+add-put-byte c = search needs
+
+cast-put-byte : tie.Need-cast-put-byte
+cast-put-byte c = search needs
+
+put-byte-requires : tie.Need-put-byte-requires
+put-byte-requires c κs = search needs
+
+add-put-byte-2 : tie.Need-add-put-byte-2
+add-put-byte-2 c = search needs
+
+cast-put-byte-2 : tie.Need-cast-put-byte-2
+cast-put-byte-2 c =
+    let d = c .before .before .before .before .before .before in
+    let g = rw (d .d .given .1) at (d .before .before .phase-due .ensures .1) in
+    omega arith
+
+put-byte-requires-2 : tie.Need-put-byte-requires-2
+put-byte-requires-2 c κs = search needs
+
+add-formula-at : tie.Need-add-formula-at
+add-formula-at c = search needs
+
+formula-at-requires : tie.Need-formula-at-requires
+formula-at-requires c κs =
+    let b = c .before .before .before in
+    let d = b .before .before .before .before .before .before .before in
+    let q = d .before .before in
+    let s = q .before .before .before .before .before in
+    let a = s .args in
+    let i = rw (d .d .given .1) at (q .phase-due .ensures .1) in
+    let z = opened-as (a .out .now) _ _ (a .n) (a .e) (d .d .given .0 .1 .0) (b .before .before .before .before .put-byte .ensures) (b .put-byte2 .ensures) in
+    let l = ap length z ∙ opened-long (a .out .now) (a .n) (a .e) (d .d .given .0 .1 .0) in
+    (s .pre .0, (i .1, (omega arith, (s .pre .1 .1 .1 .0, (s .pre .1 .1 .1 .1 .0, omega (arith, l))))))
+
+enum-known-r : tie.Need-enum-known-r
+enum-known-r c = search needs
+
+enum-told-2 : tie.Need-enum-told-2
+enum-told-2 c = search needs
+
+refused-formula-requires : tie.Need-refused-formula-requires
+refused-formula-requires c κs = search needs
+
+same-length : tie.Need-same-length
+same-length c = search needs
+
+returns-2 : tie.Need-returns-2
+returns-2 c =
+    let f = c .before .before .before .before .before in
+    let b = f .before .before .before .before in
+    let d = b .before .before .before .before .before .before .before in
+    let q = d .before .before in
+    let a = q .before .before .before .before .before .args in
+    let e = c .before .enum-told2 .given .1 in
+    let h = rw (d .d .given .1) at (q .phase-due .ensures .0) in
+    let g = rw e at (f .formula-at .ensures .0) in
+    let l = f .formula-at .ensures .1 .1 .1 in
+    let z = opened-as (a .out .now) _ _ (a .n) (a .e) (d .d .given .0 .1 .0) (b .before .before .before .before .put-byte .ensures) (b .put-byte2 .ensures) in
+    rw (c .refused-formula .ensures ∙ ap refusedRead e)
+    (formula-refused (a .text .now) (meaningIn (a .text .now) (a .places .now) (a .params) (a .firsts .now)) (a .cells) (a .e) (a .at) (a .n) (a .out .now) _ _ _ h _ _ _ _ _ g, (tt, l ∙ ap length z ∙ opened-long (a .out .now) (a .n) (a .e) (d .d .given .0 .1 .0)))
+
+put-head-requires : tie.Need-put-head-requires
+put-head-requires c κs =
+    let f = c .before .before .before .before .before .before in
+    let g = rw (c .before .before .r .given .1) at (f .formula-at .ensures .1 .0) in
+    omega arith
+
+same-length-2 : tie.Need-same-length-2
+same-length-2 c = search needs
+
+returns-3 : tie.Need-returns-3
+returns-3 c =
+    let t = c .before .before in
+    let r = t .before .before .before in
+    let f = r .before .before .before .before in
+    let b = f .before .before .before .before in
+    let d = b .before .before .before .before .before .before .before in
+    let q = d .before .before in
+    let s = q .before .before .before .before .before in
+    let a = s .args in
+    let h = rw (d .d .given .1) at (q .phase-due .ensures .0) in
+    let i = rw (d .d .given .1) at (q .phase-due .ensures .1) in
+    let z = opened-as (a .out .now) _ _ (a .n) (a .e) (d .d .given .0 .1 .0) (b .before .before .before .before .put-byte .ensures) (b .put-byte2 .ensures) in
+    let g = rw (r .r .given .1, z) at (f .formula-at .ensures .0) in
+    let k = rw (r .r .given .1) at (f .formula-at .ensures .1 .0) in
+    let l = f .formula-at .ensures .1 .1 .1 ∙ ap length z ∙ opened-long (a .out .now) (a .n) (a .e) (d .d .given .0 .1 .0) in
+    rw (t .put-head .ensures) (
+      handler-read (a .text .now) (meaningIn (a .text .now) (a .places .now) (a .params) (a .firsts .now)) (a .cells) (a .e) (a .at) (a .n) (a .out .now) _ _ _ h _ _ _ _ _ g (omega arith) (s .pre .1 .1 .1 .1 .1 .1) l,
+      (omega arith, headed-long 5 _ _ _ ∙ l),
+    )
+
+pub body-at-spec : {M : Type 1} → statement M
+body-at-spec =
+    tie.close
+    (tie.spec
+    phase-due-requires
+    enum-known-d
+    enum-told
+    fault-of-requires
+    returns
+    add-put-byte
+    cast-put-byte
+    put-byte-requires
+    add-put-byte-2
+    cast-put-byte-2
+    put-byte-requires-2
+    add-formula-at
+    formula-at-requires
+    enum-known-r
+    enum-told-2
+    refused-formula-requires
+    same-length
+    returns-2
+    put-head-requires
+    same-length-2
+    returns-3)

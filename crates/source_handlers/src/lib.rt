@@ -1,0 +1,224 @@
+// The handlers of one behaviour, read from left to right, and their fields written. Time: one pass over the text, and
+// each event's name is compared with those declared.
+use source_coding::faults;
+use source_coding::signs;
+use source_declarations::fault_of;
+use source_declarations::put_byte;
+use source_due::Due;
+use source_due::fault_word;
+use source_due::name_due;
+use source_due::sign_due;
+use source_field::Read;
+use spec_language::limits;
+use spec_language::tags;
+ghost use mathlib.Core.Path.{_≡_};
+ghost use Prim.Native.Nat.{_≤_, _<_, _+_, _*_};
+ghost use lib.ListN.{length};
+ghost use Rattle.lib_base.specs.Basics.{All};
+ghost use Rattle.source_coding.specs.Faults.{firstFault};
+ghost use Rattle.source_coding.specs.Places.{tokensFrom, meaningIn};
+ghost use Rattle.source_due.specs.Due.{DueWithin};
+ghost use Rattle.source_handlers.specs.Parts.{PartWithin, DueRead, refusedRead, headed};
+ghost use Rattle.source_handlers.specs.Handlers.{HandledEventRead, HandledEventWithin, PhaseNumbered, PhaseWithin, ColonRead, phaseDeclared, HandlerRead, HandlersRead};
+
+// The bytes of a field before its value, and before an expression in a handler's.
+pub const HEAD_BYTES: usize = 3;
+
+const EVENT_PLACE: usize = 3;
+
+const PHASE_PLACE: usize = 4;
+
+const HANDLER_BYTES: usize = 5;
+
+const BYTE: usize = 256;
+
+const MARKS: usize = limits::EVENTS + 1;
+
+// The phases as a sheet's bytes have them.
+const IMMEDIATE: u64 = 0;
+
+const LATER: u64 = 1;
+
+// A part of a text: the place behind it, the end of its bytes, and the first fault of its names, 0 for none; or a
+// fault's word.
+pub enum Part {
+    Done(usize, usize, u64),
+    Fault(u64),
+}
+
+// A formula is at fault, and so the part.
+pub fn refused_formula(read: Read) -> Part
+    ensures { λ r. ⌜ r ≡ refusedRead read ⌝ }
+{
+    match read {
+        Read::Fault(w) => Part::Fault(w),
+        Read::Done(_, _, _, _) => Part::Fault(0),
+    }
+}
+
+// The first of two faults, 0 for none.
+pub fn first_fault(v: u64, w: u64) -> u64
+    ensures { λ r. ⌜ r ≡ firstFault v w ⌝ }
+{
+    if v == 0 {
+        return w;
+    }
+    v
+}
+
+// A field's tag and length in front of its value, which ends at `end`.
+pub fn put_head(out: &mut [u8], n: usize, end: usize, tag: u8)
+    requires { ⌜ n + 3 ≤ end ⌝ }
+    ensures { λ _. ⌜ now (out .exit) ≡ headed tag n end (now (out .entry)) ⌝ }
+{
+    let long = end - n - HEAD_BYTES;
+    put_byte(out, n, tag);
+    put_byte(out, n + 1, (long / BYTE % BYTE) as u8);
+    put_byte(out, n + 2, (long % BYTE) as u8);
+}
+
+// The event that a handler is for: declared, and `handled` has no mark for its number yet.
+fn event_due(text: &[u8], at: usize, events: &[usize], handled: &[u8]) -> Due
+    requires { ⌜ length (now text) ≤ 65536 ⌝ }
+    requires { ⌜ at ≤ length (now text) ⌝ }
+    requires { ⌜ length (now events) ≤ 32 ⌝ }
+    requires { ⌜ length (now handled) ≡ 33 ⌝ }
+    ensures { λ r. ⌜ HandledEventRead (now (text .entry)) (now (events .entry)) (now (handled .entry)) at r ⌝ }
+    ensures { λ r. ⌜ DueWithin (length (now (text .entry))) at r ⌝ }
+    ensures { λ r. ⌜ HandledEventWithin (length (now (events .entry))) r ⌝ }
+{
+    let name = name_due(text, at);
+    let Due::Found(p, _, next) = name else {
+        return name;
+    };
+    let e = source_names::index_of(text, p, events);
+    if handled[e] == 1 {
+        return Due::Fault(fault_word(faults::SECOND_HANDLER, p));
+    }
+    if e == events.len() {
+        return Due::Fault(fault_word(faults::UNKNOWN_NAME, p));
+    }
+    Due::Found(p, e as u64, next)
+}
+
+// The colon before a handler's formula; its number is the phase.
+fn colon_due(text: &[u8], at: usize, phase: u64) -> Due
+    requires { ⌜ length (now text) ≤ 65536 ⌝ }
+    requires { ⌜ at ≤ length (now text) ⌝ }
+    requires { ⌜ phase ≤ 1 ⌝ }
+    ensures { λ r. ⌜ ColonRead (now (text .entry)) at phase r ⌝ }
+    ensures { λ r. ⌜ PhaseWithin (length (now (text .entry))) at r ⌝ }
+{
+    let d = sign_due(text, at, signs::COLON);
+    let Due::Found(p, _, next) = d else {
+        return d;
+    };
+    Due::Found(p, phase, next)
+}
+
+// The phase and the colon.
+fn phase_due(text: &[u8], at: usize) -> Due
+    requires { ⌜ length (now text) ≤ 65536 ⌝ }
+    requires { ⌜ at ≤ length (now text) ⌝ }
+    ensures { λ r. ⌜ DueRead PhaseNumbered (now (text .entry)) r (phaseDeclared (tokensFrom (now (text .entry)) at)) ⌝ }
+    ensures { λ r. ⌜ PhaseWithin (length (now (text .entry))) at r ⌝ }
+{
+    let d = sign_due(text, at, signs::LATER);
+    let Due::Found(_, _, next) = d else {
+        return colon_due(text, at, IMMEDIATE);
+    };
+    colon_due(text, next, LATER)
+}
+
+// A handler for event e, from its phase on.
+fn body_at(
+    text: &[u8],
+    at: usize,
+    places: &[usize],
+    params: usize,
+    firsts: &[usize],
+    cells: usize,
+    e: u64,
+    out: &mut [u8],
+    n: usize,
+) -> Part
+    requires { ⌜ length (now text) ≤ 65536 ⌝ }
+    requires { ⌜ at ≤ length (now text) ⌝ }
+    requires { ⌜ n ≤ at * 16 ⌝ }
+    requires { ⌜ length (now places) ≤ 72 ⌝ }
+    requires { ⌜ All (λ i. i ≤ 64) (now firsts) ⌝ }
+    requires { ⌜ e < 32 ⌝ }
+    requires { ⌜ length (now out) ≤ 8192 ⌝ }
+    ensures { λ r. ⌜ HandlerRead (now (text .entry)) (meaningIn (now (text .entry)) (now (places .entry)) params (now (firsts .entry))) cells e at n (now (out .entry)) (now (out .exit)) r ⌝ }
+    ensures { λ r. ⌜ PartWithin (length (now (text .entry))) at n r ⌝ }
+    ensures { λ _. ⌜ length (now (out .exit)) ≡ length (now (out .entry)) ⌝ }
+{
+    let d = phase_due(text, at);
+    let Due::Found(_, phase, next) = d else {
+        return Part::Fault(fault_of(d));
+    };
+    put_byte(out, n + EVENT_PLACE, e as u8);
+    put_byte(out, n + PHASE_PLACE, phase as u8);
+    let r = source_formula::formula_at(
+        text,
+        next,
+        places,
+        params,
+        firsts,
+        cells,
+        out,
+        n + HANDLER_BYTES,
+    );
+    let Read::Done(to, _, end, w) = r else {
+        return refused_formula(r);
+    };
+    put_head(out, n, end, tags::HANDLER);
+    Part::Done(to, end, w)
+}
+
+// All handlers from a place on.
+pub fn handlers_at(
+    text: &[u8],
+    at: usize,
+    places: &[usize],
+    params: usize,
+    firsts: &[usize],
+    cells: usize,
+    events: &[usize],
+    out: &mut [u8],
+    n: usize,
+) -> Part
+    requires { ⌜ length (now text) ≤ 65536 ⌝ }
+    requires { ⌜ at ≤ length (now text) ⌝ }
+    requires { ⌜ n ≤ at * 16 ⌝ }
+    requires { ⌜ length (now places) ≤ 72 ⌝ }
+    requires { ⌜ All (λ i. i ≤ 64) (now firsts) ⌝ }
+    requires { ⌜ length (now events) ≤ 32 ⌝ }
+    requires { ⌜ length (now out) ≤ 8192 ⌝ }
+    ensures { λ r. ⌜ HandlersRead (now (text .entry)) (meaningIn (now (text .entry)) (now (places .entry)) params (now (firsts .entry))) cells (now (events .entry)) at n (now (out .entry)) (now (out .exit)) r ⌝ }
+    ensures { λ r. ⌜ PartWithin (length (now (text .entry))) at n r ⌝ }
+    ensures { λ _. ⌜ length (now (out .exit)) ≡ length (now (out .entry)) ⌝ }
+{
+    let mut handled = [0u8; MARKS];
+    let mut f = at;
+    let mut end = n;
+    let mut w = 0u64;
+    loop {
+        let on = sign_due(text, f, signs::ON);
+        let Due::Found(_, _, next) = on else {
+            return Part::Done(f, end, w);
+        };
+        let event = event_due(text, next, events, &handled);
+        let Due::Found(_, e, after) = event else {
+            return Part::Fault(fault_of(event));
+        };
+        let r = body_at(text, after, places, params, firsts, cells, e, out, end);
+        let Part::Done(to, stop, v) = r else {
+            return r;
+        };
+        handled[e as usize] = 1;
+        f = to;
+        end = stop;
+        w = first_fault(w, v);
+    }
+}

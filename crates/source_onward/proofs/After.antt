@@ -1,0 +1,159 @@
+-- What follows an operand: each answer is the turn that `afterOperand` takes on the sign there.
+use Prim.Native.Nat.{ℕ, zero, suc, _-_, _≤_, _<_}
+use mathlib.Core.Bool.{Bool, true, false, _&&_}
+use mathlib.Core.Path.{_≡_, refl, sym, ap, _∙_}
+use mathlib.Core.List.{List, _∷_}
+use native.Mathlib.Omega.{arith}
+use lib.ListN.{length}
+use lib.Dec.{ltb, leb, eqb}
+use borrow.Author.Tests.{ltb-true, ltb-false, leb-true, eqb-true, eqb-false, lt-ltb, le-ltb, ne-eqb}
+use Rattle.lib_base.specs.Basics.{pick}
+use Rattle.lib_base.proofs.Tools.{by-test, past, split}
+use Rattle.text_formula.specs.Reader.{level}
+use Rattle.source_language.specs.Tokens.{SheetToken, sign, closing}
+use Rattle.source_language.specs.Text.{Phrase, operation}
+use Rattle.source_language.specs.Faults.{outside, tooDeep}
+use Rattle.source_language.specs.Limits.{phraseNesting}
+use Rattle.source_language.specs.Reader.{Phrased, bad, got, thenPhrase, placeAt, signAt, pastSign, withOperator, afterOperand}
+use Rattle.source_coding.specs.Faults.{faultWord}
+use Rattle.source_coding.specs.Places.{tokensFrom}
+use Rattle.source_due.specs.Due.{SignTold}
+use Rattle.source_due.specs.declared.Due.{Due}
+use Rattle.source_due.specs.declared.Due.the-variants as D
+use Rattle.source_due.proofs.Passes.{sign-passes, sign-fails}
+use Rattle.source_field.specs.declared.Read.{Read}
+use Rattle.source_field.specs.declared.Read.the-variants as R
+use Rattle.source_onward.specs.Onward.{SignStands, TokenPassed, joinsIn, onwardOf, OnwardRead, EndedRead}
+use Rattle.source_onward.specs.declared.Onward.{Onward}
+use Rattle.source_onward.specs.declared.Onward.the-variants.{Ended, Closed, Operator, Fault}
+
+-- ---- operators
+
+-- a sign that has a level is one of 01's functions
+level-range : (c : ℕ) → 0 < level c → (0 < c) × (c < 14)
+unfolding level
+level-range zero h = absurd (omega arith)
+level-range (suc c) h =
+    split (ltb 13 (suc c)) (λ e. let z = rw e at h in absurd (omega arith)) (λ e. let g = ltb-false 13 (suc c) e in omega arith)
+
+joins-outside : (t l : ℕ) → ltb 0 t && leb t l ≡ joinsIn t l 0
+unfolding joinsIn
+joins-outside zero l = refl
+joins-outside (suc t) l = rw (ne-eqb (suc t) 0 (λ e. omega arith), lt-ltb 0 (suc t) (omega arith))
+
+joins-inside : (t l k : ℕ) → ltb 0 t && leb t 6 ≡ joinsIn t l (suc k)
+unfolding joinsIn
+joins-inside zero l k = refl
+joins-inside (suc t) l k = rw (ne-eqb (suc t) 0 (λ e. omega arith), lt-ltb 0 (suc t) (omega arith), ne-eqb (suc k) 0 (λ e. omega arith))
+
+-- an operator that goes on has a level, of at most 6
+pub joins-some : (t l k : ℕ) → joinsIn t l k ≡ true → 0 < t
+unfolding joinsIn
+joins-some t l k e = omega (arith, eqb-false t 0 (past (eqb t 0) (pick (eqb k 0) (leb t l) (leb t 6)) e .0))
+
+joins-range : (t l k : ℕ) → l ≤ 6 → joinsIn t l k ≡ true → (0 < t) × (t ≤ 6)
+unfolding joinsIn
+joins-range t l k b e =
+    let h = past (eqb t 0) (pick (eqb k 0) (leb t l) (leb t 6)) e in
+    let g : t ≤ 6 =
+    by-test (λ (x : Bool). x ≡ true → t ≤ 6) (eqb k 0) (λ q f. let z = leb-true t l f in omega arith) (λ q f. leb-true t 6 f) (h .1) in
+    (joins-some t l k e, g)
+
+module _ (next : ℕ → List SheetToken → Phrased Phrase) (room l m : ℕ) (a : Phrase) (ts : List SheetToken) where
+  after-joined : (k : ℕ) → joinsIn (level (signAt ts)) l k ≡ true → afterOperand next room l (suc m) k a ts ≡ withOperator next room (afterOperand next room l m k) a ts
+  unfolding afterOperand
+  after-joined zero e = rw (joins-outside (level (signAt ts)) l ∙ e)
+  after-joined (suc k) e = rw (joins-inside (level (signAt ts)) l k ∙ e)
+
+  after-ended : joinsIn (level (signAt ts)) l 0 ≡ false → afterOperand next room l (suc m) 0 a ts ≡ got a ts
+  unfolding afterOperand
+  after-ended e = rw (joins-outside (level (signAt ts)) l ∙ e)
+
+  after-unjoined : (k : ℕ) → joinsIn (level (signAt ts)) l (suc k) ≡ false → afterOperand next room l (suc m) (suc k) a ts ≡ pastSign closing (afterOperand next room l m k a) ts
+  unfolding afterOperand
+  after-unjoined k e = rw (joins-inside (level (signAt ts)) l k ∙ e)
+
+  module _ (p c : ℕ) (us : List SheetToken) (is : ts ≡ sign p c ∷ us) where
+    after-operator : (k : ℕ) → joinsIn (level c) l k ≡ true → phraseNesting a < room
+        → afterOperand next room l (suc m) k a ts ≡ thenPhrase (next (level c - 1) us) (λ b vs. afterOperand next room l m k (operation c a b) vs)
+    after-operator k e h = after-joined k (rw is e) ∙ rw (is, lt-ltb (phraseNesting a) room h)
+
+    after-closed : (k : ℕ) → joinsIn (level c) l (suc k) ≡ false → c ≡ 16 → afterOperand next room l (suc m) (suc k) a ts ≡ afterOperand next room l m k a us
+    unfolding pastSign
+    after-closed k e h = after-unjoined k (rw is e) ∙ rw (is, h)
+
+  after-deep : (k : ℕ) → joinsIn (level (signAt ts)) l k ≡ true → room ≤ phraseNesting a → afterOperand next room l (suc m) k a ts ≡ bad tooDeep (placeAt ts)
+  after-deep k e h = after-joined k e ∙ rw (le-ltb (phraseNesting a) room h)
+
+  after-missing : (k : ℕ) → joinsIn (level (signAt ts)) l (suc k) ≡ false → (signAt ts ≡ 16 → ⊥) → afterOperand next room l (suc m) (suc k) a ts ≡ bad outside (placeAt ts)
+  unfolding pastSign
+  after-missing k e h = after-unjoined k e ∙ rw (ne-eqb (signAt ts) 16 h)
+
+-- ---- all that can follow
+
+module _ (text : List ℕ) (at l depth room p c next : ℕ) (few : l ≤ 6) (s : SignStands text at p c next) where
+  passed : 0 < c → c < 34 → TokenPassed text at next
+  passed x y =
+      let b = s .further x y in
+      let z : length (tokensFrom text at) ≡ suc (length (tokensFrom text next)) = ap length (s .onward x y) in
+      omega arith
+
+  operator-on : (k : ℕ) → joinsIn (level c) l k ≡ true → OnwardRead text at l k depth room (pick (ltb depth room) (Operator c (level c - 1) next) (Fault (faultWord tooDeep p)))
+  operator-on k j =
+      let r = joins-range (level c) l k few j in
+      let b = level-range c (r .0) in
+      by-test (OnwardRead text at l k depth room) (ltb depth room)
+      (λ e. (
+        λ go m a d.
+            after-operator go room l m a (tokensFrom text at) p c (tokensFrom text next) (s .onward (b .0) (omega arith)) k j (rw d (ltb-true depth room e)),
+        omega arith,
+        ltb-true depth room e,
+        passed (b .0) (omega arith),
+      ))
+      (λ e go m a d. record {
+        kind = tooDeep;
+        place = p;
+        turned = after-deep go room l m a (tokensFrom text at) k (rw (s .sign-is) j) (rw d (ltb-false depth room e)) ∙ rw (s .place-is);
+        word = refl;
+      })
+
+  unjoined : (k : ℕ) → joinsIn (level c) l k ≡ false
+      → OnwardRead text at l k depth room (pick (eqb k 0) Ended (pick (eqb c 16) (Closed next) (Fault (faultWord outside p))))
+  unjoined zero j = λ go m a. after-ended go room l m a (tokensFrom text at) (rw (s .sign-is) j)
+  unjoined (suc k) j =
+      rw (ne-eqb (suc k) 0 (λ e. omega arith))
+      (by-test (OnwardRead text at l (suc k) depth room) (eqb c 16)
+      (λ e. let h = eqb-true c 16 e in (
+        λ go m a.
+            let z : suc k - 1 ≡ k = omega arith in
+            rw z (after-closed go room l m a (tokensFrom text at) p c (tokensFrom text next) (s .onward (omega arith) (omega arith)) k j h),
+        omega arith,
+        passed (omega arith) (omega arith),
+      ))
+      (λ e go m a d. record {
+        kind = outside;
+        place = p;
+        turned = after-missing go room l m a (tokensFrom text at) k (rw (s .sign-is) j) (λ q. eqb-false c 16 e (sym (s .sign-is) ∙ q)) ∙ rw (s .place-is);
+        word = refl;
+      }))
+
+  pub onward-read : (k : ℕ) (r : Onward) → r ≡ onwardOf p c next l k depth room → OnwardRead text at l k depth room r
+  unfolding onwardOf
+  onward-read k r e = rw e (by-test (OnwardRead text at l k depth room) (joinsIn (level c) l k) (operator-on k) (unjoined k))
+
+-- ---- the `)` of an `if`
+
+pub ended-none : (text : List ℕ) (r : Read) (w : ℕ) → r ≡ R.Fault w → EndedRead text r r
+ended-none text r w e = rw e refl
+
+module _ (text : List ℕ) (at depth end w : ℕ) (r : Read) (is : r ≡ R.Done at depth end w) (d : Due) (due : SignTold text at closing d) where
+  pub ended-missing : (v : ℕ) → d ≡ D.Fault v → EndedRead text r (R.Fault v)
+  ended-missing v e =
+      let h = rw e at due in
+      rw is (λ x. record { kind = outside; place = placeAt (tokensFrom text at); turned = sign-fails text at closing (λ us. got x us) v h; word = h .1 })
+
+  pub ended-found : (p c to : ℕ) → d ≡ D.Found p c to → (at < to) × (to ≤ length text) → EndedRead text r (R.Done to depth end w)
+  ended-found p c to e b =
+      let h = rw e at due in
+      let z : length (tokensFrom text at) ≡ suc (length (tokensFrom text to)) = ap length h in
+      rw is (λ x. sign-passes text at closing (λ us. got x us) p c to h, refl, refl, refl, omega arith)

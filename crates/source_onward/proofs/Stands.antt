@@ -1,0 +1,113 @@
+-- The sign at a place by its token, and the brackets that open from a place on: each turn of the loop is one turn of
+-- `fromOperand` (`Opening`).
+use Prim.Native.Nat.{ℕ, suc, _+_, _≤_, _<_}
+use mathlib.Core.Path.{_≡_, sym, ap, _∙_}
+use mathlib.Core.List.{List, _∷_}
+use native.Mathlib.Omega.{arith}
+use native.Mathlib.Numerals.{add-one}
+use lib.ListN.{length}
+use borrow.Author.Tests.{lt-leb}
+use Rattle.source_language.specs.Tokens.{SheetToken, sign, opening, endSign}
+use Rattle.source_language.specs.Text.{Phrase}
+use Rattle.source_language.specs.Reader.{Phrased, placeAt, signAt, fromOperand}
+use Rattle.source_coding.specs.Places.{tokensFrom}
+use Rattle.source_tokens.specs.Token.{TokenAt, TokenWithin}
+use Rattle.source_tokens.specs.declared.Token.{Token}
+use Rattle.source_tokens.specs.declared.Token.the-variants.{Number, Name, Sign}
+use Rattle.source_onward.specs.Onward.{SignStands, BracketsOpened}
+
+module _ (text : List ℕ) (at : ℕ) (t : Token) (is : TokenAt text at t) (in-text : TokenWithin (length text) at t) where
+  pub number-stands : (p v next : ℕ) → t ≡ Number p v next → SignStands text at p 0 next
+  number-stands p v next e =
+      let h = rw e at is in
+      let b = rw e at in-text in
+      record {
+        sign-is = ap signAt (h .1);
+        place-is = ap placeAt (h .1);
+        some = rw (h .1) (omega arith);
+        within = omega arith;
+        onward = λ x y. absurd (omega arith);
+        further = λ x y. absurd (omega arith);
+      }
+
+  pub name-stands : (p next : ℕ) → t ≡ Name p next → SignStands text at p 0 next
+  name-stands p next e =
+      let h = rw e at is in
+      let b = rw e at in-text in
+      record {
+        sign-is = ap signAt h;
+        place-is = ap placeAt h;
+        some = rw h (omega arith);
+        within = omega arith;
+        onward = λ x y. absurd (omega arith);
+        further = λ x y. absurd (omega arith);
+      }
+
+  pub sign-stands : (p c next : ℕ) → t ≡ Sign p c next → SignStands text at p c next
+  sign-stands p c next e =
+      let h = rw e at is in
+      let b = rw e at in-text in
+      record {
+        sign-is = ap signAt h;
+        place-is = ap placeAt h;
+        some = rw h (omega arith);
+        within = omega arith;
+        onward = λ x y. h ∙ rw (lt-leb endSign c y);
+        further = λ x y. let z = b .3 y in omega arith;
+      }
+
+-- ---- brackets
+
+pub record Opening (text : List ℕ) (at first opened : ℕ) : Type 0 where
+  pub from : at ≤ first
+  pub within : first ≤ length text
+  pub few : opened + at ≤ first
+  pub counted : length (tokensFrom text first) + opened ≡ length (tokensFrom text at)
+  pub whole : (next : ℕ → List SheetToken → Phrased Phrase) (room l m : ℕ)
+      → fromOperand next room l (m + opened) 0 (tokensFrom text at) ≡ fromOperand next room l m opened (tokensFrom text first)
+
+pub opening-start : (text : List ℕ) (at : ℕ) → at ≤ length text → Opening text at at 0
+opening-start text at h =
+    record {
+      from = omega arith;
+      within = h;
+      few = omega arith;
+      counted = omega arith;
+      whole = λ next room l m. let z : m + 0 ≡ m = omega arith in rw z;
+    }
+
+one-opens : (next : ℕ → List SheetToken → Phrased Phrase) (room l m k p : ℕ) (ts us : List SheetToken) → ts ≡ sign p opening ∷ us
+    → fromOperand next room l (suc m) k ts ≡ fromOperand next room l m (suc k) us
+unfolding fromOperand
+one-opens next room l m k p ts us e = rw e
+
+module _ {text : List ℕ} {at first opened : ℕ} (o : Opening text at first opened) (p c next : ℕ) (s : SignStands text first p c next) where
+  pub opening-less : c ≡ 15 → (first < next) × (next ≤ length text)
+  opening-less e = s .further (omega arith) (omega arith)
+
+  pub opening-turn : c ≡ 15 → Opening text at next (opened + 1)
+  opening-turn e =
+      let h : tokensFrom text first ≡ sign p opening ∷ tokensFrom text next = s .onward (omega arith) (omega arith) ∙ rw e in
+      let b = opening-less e in
+      let l : length (tokensFrom text first) ≡ suc (length (tokensFrom text next)) = ap length h in
+      record {
+        from = omega (arith, o .from);
+        within = b .1;
+        few = omega (arith, o .few);
+        counted = omega (arith, o .counted);
+        whole = λ go room i m.
+            let z : m + (opened + 1) ≡ suc m + opened = omega arith in
+            rw (z, add-one opened) (o .whole go room i (suc m) ∙ one-opens go room i m opened p (tokensFrom text first) (tokensFrom text next) h);
+      }
+
+  pub opening-end : (c ≡ 15 → ⊥) → BracketsOpened text at first opened
+  opening-end e =
+      record {
+        from = o .from;
+        within = o .within;
+        few = o .few;
+        counted = o .counted;
+        some = s .some;
+        other = λ q. e (sym (s .sign-is) ∙ q);
+        whole = o .whole;
+      }

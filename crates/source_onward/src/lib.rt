@@ -1,0 +1,197 @@
+// How a formula of a sheet's text goes on: the brackets before its first operand, and what follows an operand.
+use source_coding::faults;
+use source_coding::signs;
+use source_due::Due;
+use source_due::fault_word;
+use source_due::sign_due;
+use source_field::Read;
+use source_tokens::Token;
+use source_tokens::token_at;
+use spec_language::functions;
+use text_formula::levels;
+ghost use mathlib.Core.Path.{_≡_};
+ghost use Prim.Native.Nat.{_≤_, _<_};
+ghost use lib.ListN.{length};
+ghost use Rattle.text_formula.specs.Reader.{level as levelOf};
+ghost use Rattle.source_coding.specs.Places.{tokensFrom};
+ghost use Rattle.source_onward.specs.Onward.{SignStands, BracketsOpened, joinsIn, onwardOf, OnwardRead, ReadInside, EndedRead};
+
+// The place of a token, its sign's number, 0 for another token, and the place behind it.
+pub struct Standing {
+    pub place: usize,
+    pub sign: u8,
+    pub next: usize,
+}
+
+// The place where no bracket opens, and how many do before it.
+pub struct Brackets {
+    pub first: usize,
+    pub opened: usize,
+}
+
+// What follows an operand: nothing of its formula; the `)` of a bracket of it, with the place behind; an operator, with
+// the level of its right operand and the place behind; or a fault's word.
+pub enum Onward {
+    Ended,
+    Closed(usize),
+    Operator(u8, u64, usize),
+    Fault(u64),
+}
+
+// The sign at a place.
+pub fn standing_at(text: &[u8], at: usize) -> Standing
+    requires { ⌜ length (now text) ≤ 65536 ⌝ }
+    requires { ⌜ at ≤ length (now text) ⌝ }
+    ensures { λ r. ⌜ SignStands (now (text .entry)) at (r .place) (r .sign) (r .next) ⌝ }
+{
+    match token_at(text, at) {
+        Token::Number(p, v, next) => Standing {
+            place: p,
+            sign: 0,
+            next: next,
+        },
+        Token::Name(p, next) => Standing {
+            place: p,
+            sign: 0,
+            next: next,
+        },
+        Token::Sign(p, c, next) => Standing {
+            place: p,
+            sign: c,
+            next: next,
+        },
+    }
+}
+
+// The brackets that open from a place on.
+pub fn brackets_at(text: &[u8], at: usize) -> Brackets
+    requires { ⌜ length (now text) ≤ 65536 ⌝ }
+    requires { ⌜ at ≤ length (now text) ⌝ }
+    ensures { λ r. ⌜ BracketsOpened (now (text .entry)) at (r .first) (r .opened) ⌝ }
+{
+    let mut first = at;
+    let mut opened = 0;
+    loop {
+        let standing = standing_at(text, first);
+        if standing.sign != signs::OPENING {
+            return Brackets {
+                first: first,
+                opened: opened,
+            };
+        }
+        first = standing.next;
+        opened = opened + 1;
+    }
+}
+
+// The level of a two-sided operator; 0 for another sign. Functions of one level have numbers in a row.
+fn level_of(sign: u8) -> u64
+    ensures { λ r. ⌜ r ≡ levelOf sign ⌝ }
+{
+    if functions::UNEQUAL < sign {
+        return 0;
+    }
+    if functions::AT_MOST < sign {
+        return levels::EQUALITY;
+    }
+    if functions::DIVIDE < sign {
+        return levels::ORDERING;
+    }
+    if functions::SUBTRACT < sign {
+        return levels::PRODUCT;
+    }
+    if functions::NOT < sign {
+        return levels::SUM;
+    }
+    if sign == functions::AND {
+        return levels::CONJUNCTION;
+    }
+    if sign == functions::OR {
+        return levels::DISJUNCTION;
+    }
+    0
+}
+
+// An operator of level t goes on with a formula of a level, inside so many brackets of its own.
+fn joins(t: u64, level: u64, opened: usize) -> bool
+    ensures { λ r. ⌜ r ≡ joinsIn t level opened ⌝ }
+{
+    if t == 0 {
+        return false;
+    }
+    if opened == 0 {
+        return t <= level;
+    }
+    t <= levels::DISJUNCTION
+}
+
+// What follows an operand that nests so deep, by the sign there.
+fn onward_of(
+    place: usize,
+    sign: u8,
+    next: usize,
+    level: u64,
+    opened: usize,
+    depth: usize,
+    room: usize,
+) -> Onward
+    requires { ⌜ place ≤ 65536 ⌝ }
+    ensures { λ r. ⌜ r ≡ onwardOf place sign next level opened depth room ⌝ }
+{
+    let t = level_of(sign);
+    if joins(t, level, opened) {
+        if depth < room {
+            return Onward::Operator(sign, t - 1, next);
+        }
+        return Onward::Fault(fault_word(faults::TOO_DEEP, place));
+    }
+    if opened == 0 {
+        return Onward::Ended;
+    }
+    if sign == signs::CLOSING {
+        return Onward::Closed(next);
+    }
+    Onward::Fault(fault_word(faults::OUTSIDE, place))
+}
+
+// What follows an operand that nests so deep, in a formula of a level, inside so many brackets of its own.
+pub fn onward_at(
+    text: &[u8],
+    at: usize,
+    level: u64,
+    opened: usize,
+    depth: usize,
+    room: usize,
+) -> Onward
+    requires { ⌜ length (now text) ≤ 65536 ⌝ }
+    requires { ⌜ at ≤ length (now text) ⌝ }
+    requires { ⌜ level ≤ 6 ⌝ }
+    ensures { λ r. ⌜ OnwardRead (now (text .entry)) at level opened depth room r ⌝ }
+    ensures { λ _. ⌜ 0 < length (tokensFrom (now (text .entry)) at) ⌝ }
+{
+    let standing = standing_at(text, at);
+    onward_of(
+        standing.place,
+        standing.sign,
+        standing.next,
+        level,
+        opened,
+        depth,
+        room,
+    )
+}
+
+// A closing bracket is due after what was read.
+pub fn ended(text: &[u8], r: Read) -> Read
+    requires { ⌜ length (now text) ≤ 65536 ⌝ }
+    requires { ⌜ ReadInside (length (now text)) r ⌝ }
+    ensures { λ q. ⌜ EndedRead (now (text .entry)) r q ⌝ }
+{
+    let Read::Done(at, depth, end, w) = r else {
+        return r;
+    };
+    match sign_due(text, at, signs::CLOSING) {
+        Due::Found(p, c, to) => Read::Done(to, depth, end, w),
+        Due::Fault(v) => Read::Fault(v),
+    }
+}

@@ -1,0 +1,78 @@
+-- What a name in a formula comes to: its meaning as the code holds it, and its field or its fault.
+use Prim.Native.Nat.{ℕ, _+_, _≤_, _<_}
+use mathlib.Core.Path.{_≡_}
+use mathlib.Core.List.{List, [], _∷_}
+use lib.ListN.{length}
+use Rattle.spec_language.specs.Sheet.{Term}
+use Rattle.spec_language.specs.Grammar.{encodeExpr}
+use Rattle.source_language.specs.Tokens.{SheetToken, number, name, sign, unbracket}
+use Rattle.source_language.specs.Text.{Phrase}
+use Rattle.source_language.specs.Faults.{outside, OrFault, fault, fine}
+use Rattle.source_language.specs.Limits.{largest}
+use Rattle.source_language.specs.Meaning.{NameMeaning, nothing, aParameter, aBehaviour, aRow}
+use Rattle.source_language.specs.Reader.{Phrased, bad, got, pastSign, numberDue, readConstant, cellOf}
+use Rattle.source_coding.specs.Faults.{faultWord}
+use Rattle.source_coding.specs.Places.{tokensFrom}
+use Rattle.source_field.specs.Fields.{placedIn}
+use Rattle.source_field.specs.declared.Read.{Read}
+use Rattle.source_field.specs.declared.Read.the-variants.{Done, Fault}
+use Rattle.source_due.specs.Due.{FaultTold}
+use Rattle.source_due.specs.declared.Due.{Due}
+use Rattle.source_due.specs.declared.Due.the-variants as D
+use Rattle.source_operand.specs.declared.Meaning.{Meaning}
+use Rattle.source_operand.specs.declared.Meaning.the-variants.{Nothing, Parameter, Behaviour, Row}
+use Rattle.source_operand.specs.declared.Leaf.{Leaf}
+use Rattle.source_operand.specs.declared.Leaf.the-variants.{Known, Unknown}
+
+-- a name's meaning, and that its numbers are bytes
+abbrev pub meantBy : Meaning → NameMeaning
+meantBy Nothing = nothing
+meantBy (Parameter i) = aParameter i
+meantBy (Behaviour i) = aBehaviour i
+meantBy (Row i n) = aRow i n
+
+abbrev pub MeaningWithin : Meaning → Type 0
+MeaningWithin Nothing = Unit {0}
+MeaningWithin (Parameter i) = i < 72
+MeaningWithin (Behaviour i) = i ≤ 64
+MeaningWithin (Row i n) = (i ≤ 64) × (n ≤ 64)
+
+-- a name's field by its tag and number, or its fault, is that of the expression x
+abbrev pub LeafAs : Leaf → OrFault Term → Type 0
+LeafAs (Known tag i) (fault k p) = ⊥
+LeafAs (Known tag i) (fine x) = (encodeExpr x ≡ tag ∷ 0 ∷ 1 ∷ i ∷ []) × (i < 256)
+LeafAs (Unknown w) (fault k p) = w ≡ faultWord k p
+LeafAs (Unknown w) (fine x) = ⊥
+
+abbrev pub LeafWithin : Leaf → Type 0
+LeafWithin (Known tag i) = i < 256
+LeafWithin (Unknown w) = Unit {0}
+
+-- such a field is read up to a place, and written where it fits
+abbrev pub leafDone : ℕ → ℕ → Leaf → Read
+leafDone to n (Known tag i) = Done to 1 (n + 4) 0
+leafDone to n (Unknown w) = Done to 1 (n + 4) w
+
+abbrev pub leafPlaced : ℕ → Leaf → List ℕ → List ℕ
+leafPlaced n (Known tag i) o = placedIn n (tag ∷ 0 ∷ 1 ∷ i ∷ []) o
+leafPlaced n (Unknown w) o = o
+
+-- a cell's number and the `]` after it
+abbrev pub cellNumber : List SheetToken → Phrased ℕ
+cellNumber ts = numberDue largest (λ r n us. pastSign unbracket (λ vs. got n vs) us) ts
+
+abbrev pub CellDue : List ℕ → ℕ → Due → Type 0
+CellDue text at (D.Found p v next) = (cellNumber (tokensFrom text at) ≡ got v (tokensFrom text next)) × (length (tokensFrom text next) < length (tokensFrom text at))
+CellDue text at (D.Fault w) = FaultTold (cellNumber (tokensFrom text at)) w
+
+-- no more tokens are left than from a place on
+abbrev pub NoMoreLeft : List ℕ → ℕ → Read → Type 0
+NoMoreLeft text at (Fault w) = Unit {0}
+NoMoreLeft text at (Done to depth end w) = length (tokensFrom text to) ≤ length (tokensFrom text at)
+
+-- a constant, a name or a cell, where one is due; `!` and `if` are none
+abbrev pub plainOf : List SheetToken → Phrased Phrase
+plainOf [] = bad outside 0
+plainOf (number p n ∷ ts) = readConstant (number p n ∷ ts)
+plainOf (name p s ∷ ts) = cellOf p s ts
+plainOf (sign p c ∷ ts) = readConstant (sign p c ∷ ts)

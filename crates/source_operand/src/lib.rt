@@ -1,0 +1,262 @@
+// The operands of a formula that have no parts: constants, names and cells of rows. Each is read, a name looked up, and
+// its field written where it fits.
+use source_coding::faults;
+use source_coding::limits;
+use source_coding::signs;
+use source_due::Due;
+use source_due::fault_word;
+use source_due::number_due;
+use source_due::sign_due;
+use source_due::value_at;
+use source_field::Read;
+use source_field::put_constant;
+use source_field::put_named;
+use source_names::index_of;
+use source_tokens::Token;
+use source_tokens::token_at;
+use spec_language::tags;
+use text_encode::CONSTANT_BYTES;
+use text_encode::NAME_BYTES;
+ghost use mathlib.Core.Path.{_≡_};
+ghost use Prim.Native.Nat.{ℕ, _≤_, _<_, _-_};
+ghost use mathlib.Core.List.{List};
+ghost use lib.ListN.{length, getD};
+ghost use Rattle.lib_base.specs.Basics.{All};
+ghost use Rattle.source_language.specs.Meaning.{NameMeaning, aRow, nameTerm, cellTerm};
+ghost use Rattle.source_language.specs.Reader.{readConstant, cellOf};
+ghost use Rattle.source_coding.specs.Places.{tokensFrom, nameAt, behaviourOrRow, meaningAt, meaningIn};
+ghost use Rattle.source_due.specs.Due.{DueWithin};
+ghost use Rattle.source_field.specs.Formula.{FormulaRead, FormulaWithin, FewerLeft, PartRead};
+ghost use Rattle.source_operand.specs.Operand.{meantBy, MeaningWithin, LeafAs, LeafWithin, leafDone, leafPlaced, CellDue, NoMoreLeft, plainOf};
+
+// What a name means: nothing, a parameter, a behaviour, or a row by its first cell and its count.
+pub enum Meaning {
+    Nothing,
+    Parameter(usize),
+    Behaviour(usize),
+    Row(usize, usize),
+}
+
+// A name's field, by its tag and number; or its fault's word.
+pub enum Leaf {
+    Known(u8, usize),
+    Unknown(u64),
+}
+
+// A number of a list; 0 past its end.
+fn number_at(list: &[usize], i: usize) -> usize
+    requires { ⌜ All (λ x. x ≤ 64) (now list) ⌝ }
+    ensures { λ r. ⌜ r ≡ getD (now (list .entry)) i 0 ⌝ }
+    ensures { λ r. ⌜ r ≤ 64 ⌝ }
+{
+    if i < list.len() {
+        return list[i];
+    }
+    0
+}
+
+// The behaviour or row from a first cell to the next one's first.
+fn behaviour_or_row(first: usize, next: usize) -> Meaning
+    requires { ⌜ first ≤ 64 ⌝ }
+    requires { ⌜ next ≤ 64 ⌝ }
+    ensures { λ r. ⌜ meantBy r ≡ behaviourOrRow first (next - first) ⌝ }
+    ensures { λ r. ⌜ MeaningWithin r ⌝ }
+{
+    if next < first + 2 {
+        return Meaning::Behaviour(first);
+    }
+    Meaning::Row(first, next - first)
+}
+
+// What the j-th name means.
+fn meaning_at(j: usize, params: usize, firsts: &[usize]) -> Meaning
+    requires { ⌜ j < 72 ⌝ }
+    requires { ⌜ All (λ x. x ≤ 64) (now firsts) ⌝ }
+    ensures { λ r. ⌜ meantBy r ≡ meaningAt params (now (firsts .entry)) j ⌝ }
+    ensures { λ r. ⌜ MeaningWithin r ⌝ }
+{
+    if j < params {
+        return Meaning::Parameter(j);
+    }
+    let first = number_at(firsts, j - params);
+    let next = number_at(firsts, j - params + 1);
+    behaviour_or_row(first, next)
+}
+
+// What the name at a place means.
+fn meaning_of(text: &[u8], p: usize, places: &[usize], params: usize, firsts: &[usize]) -> Meaning
+    requires { ⌜ length (now places) ≤ 72 ⌝ }
+    requires { ⌜ All (λ x. x ≤ 64) (now firsts) ⌝ }
+    ensures { λ r. ⌜ meantBy r ≡ meaningIn (now (text .entry)) (now (places .entry)) params (now (firsts .entry)) (nameAt (now (text .entry)) p) ⌝ }
+    ensures { λ r. ⌜ MeaningWithin r ⌝ }
+{
+    let j = index_of(text, p, places);
+    if places.len() <= j {
+        return Meaning::Nothing;
+    }
+    meaning_at(j, params, firsts)
+}
+
+// The field of a name at p.
+fn name_leaf(meaning: Meaning, p: usize) -> Leaf
+    requires { ⌜ MeaningWithin meaning ⌝ }
+    requires { ⌜ p ≤ 65536 ⌝ }
+    ensures { λ r. ⌜ LeafAs r (nameTerm p (meantBy meaning)) ⌝ }
+    ensures { λ r. ⌜ LeafWithin r ⌝ }
+{
+    match meaning {
+        Meaning::Nothing => Leaf::Unknown(fault_word(faults::UNKNOWN_NAME, p)),
+        Meaning::Parameter(i) => Leaf::Known(tags::PARAMETER, i),
+        Meaning::Behaviour(i) => Leaf::Known(tags::NAME, i),
+        Meaning::Row(i, n) => Leaf::Known(tags::NAME, i),
+    }
+}
+
+// The field of cell k of the row of n cells from behaviour i on, in a handler of a row of so many cells, else of 0;
+// `[` is at q.
+fn row_cell(i: usize, n: usize, k: usize, q: usize, cells: usize) -> Leaf
+    requires { ⌜ i ≤ 64 ⌝ }
+    requires { ⌜ n ≤ 64 ⌝ }
+    requires { ⌜ q ≤ 65536 ⌝ }
+    ensures { λ r. ⌜ LeafAs r (cellTerm cells 0 q k (aRow i n)) ⌝ }
+    ensures { λ r. ⌜ LeafWithin r ⌝ }
+{
+    if n <= k {
+        return Leaf::Unknown(fault_word(faults::NO_SUCH_CELL, q));
+    }
+    if k != 0 {
+        return Leaf::Known(tags::NAME, i + k);
+    }
+    if n == cells {
+        return Leaf::Unknown(fault_word(faults::NO_SUCH_CELL, q));
+    }
+    Leaf::Known(tags::NAME, i)
+}
+
+// The field of cell k of the name at p, where `[` is at q.
+fn cell_leaf(meaning: Meaning, p: usize, q: usize, k: usize, cells: usize) -> Leaf
+    requires { ⌜ MeaningWithin meaning ⌝ }
+    requires { ⌜ p ≤ 65536 ⌝ }
+    requires { ⌜ q ≤ 65536 ⌝ }
+    ensures { λ r. ⌜ LeafAs r (cellTerm cells p q k (meantBy meaning)) ⌝ }
+    ensures { λ r. ⌜ LeafWithin r ⌝ }
+{
+    match meaning {
+        Meaning::Nothing => Leaf::Unknown(fault_word(faults::UNKNOWN_NAME, p)),
+        Meaning::Parameter(i) => Leaf::Unknown(fault_word(faults::NO_SUCH_CELL, q)),
+        Meaning::Behaviour(i) => Leaf::Unknown(fault_word(faults::NO_SUCH_CELL, q)),
+        Meaning::Row(i, n) => row_cell(i, n, k, q, cells),
+    }
+}
+
+// A name's field is written, or its fault kept; `to` is the place behind it.
+fn put_leaf(to: usize, leaf: Leaf, out: &mut [u8], n: usize) -> Read
+    requires { ⌜ n ≤ 2097152 ⌝ }
+    requires { ⌜ LeafWithin leaf ⌝ }
+    ensures { λ r. ⌜ r ≡ leafDone to n leaf ⌝ }
+    ensures { λ _. ⌜ now (out .exit) ≡ leafPlaced n leaf (now (out .entry)) ⌝ }
+{
+    match leaf {
+        Leaf::Known(tag, i) => {
+            put_named(out, n, tag, i);
+            Read::Done(to, 1, n + NAME_BYTES, 0)
+        }
+        Leaf::Unknown(w) => Read::Done(to, 1, n + NAME_BYTES, w),
+    }
+}
+
+// A cell's number, and `]`.
+fn cell_number(text: &[u8], at: usize) -> Due
+    requires { ⌜ length (now text) ≤ 65536 ⌝ }
+    requires { ⌜ at ≤ length (now text) ⌝ }
+    ensures { λ r. ⌜ CellDue (now (text .entry)) at r ⌝ }
+    ensures { λ r. ⌜ DueWithin (length (now (text .entry))) at r ⌝ }
+{
+    let number = number_due(text, at, limits::LARGEST);
+    let Due::Found(p, k, behind) = number else {
+        return number;
+    };
+    let bracket = sign_due(text, behind, signs::UNBRACKET);
+    let Due::Found(q, c, to) = bracket else {
+        return bracket;
+    };
+    Due::Found(p, k, to)
+}
+
+// What stands after the name at p: a cell of it, or nothing of it.
+fn named_at(
+    text: &[u8],
+    p: usize,
+    next: usize,
+    places: &[usize],
+    params: usize,
+    firsts: &[usize],
+    cells: usize,
+    out: &mut [u8],
+    n: usize,
+) -> Read
+    requires { ⌜ length (now text) ≤ 65536 ⌝ }
+    requires { ⌜ p < next ⌝ }
+    requires { ⌜ next ≤ length (now text) ⌝ }
+    requires { ⌜ n ≤ 2097152 ⌝ }
+    requires { ⌜ length (now places) ≤ 72 ⌝ }
+    requires { ⌜ All (λ x. x ≤ 64) (now firsts) ⌝ }
+    ensures { λ r. ⌜ FormulaRead (now (text .entry)) (meaningIn (now (text .entry)) (now (places .entry)) params (now (firsts .entry))) cells n (now (out .entry)) (now (out .exit)) r (cellOf p (nameAt (now (text .entry)) p) (tokensFrom (now (text .entry)) next)) ⌝ }
+    ensures { λ r. ⌜ FormulaWithin (length (now (text .entry))) 1 p n r ⌝ }
+    ensures { λ r. ⌜ NoMoreLeft (now (text .entry)) next r ⌝ }
+    ensures { λ _. ⌜ length (now (out .exit)) ≡ length (now (out .entry)) ⌝ }
+{
+    let meaning = meaning_of(text, p, places, params, firsts);
+    let bracket = sign_due(text, next, signs::BRACKET);
+    let Due::Found(q, c, inside) = bracket else {
+        return put_leaf(next, name_leaf(meaning, p), out, n);
+    };
+    match cell_number(text, inside) {
+        Due::Found(r, k, to) => put_leaf(to, cell_leaf(meaning, p, q, k as usize, cells), out, n),
+        Due::Fault(w) => Read::Fault(w),
+    }
+}
+
+// A constant: a number, or `-` and a number.
+fn constant_at(text: &[u8], at: usize, out: &mut [u8], n: usize) -> Read
+    requires { ⌜ length (now text) ≤ 65536 ⌝ }
+    requires { ⌜ at ≤ length (now text) ⌝ }
+    requires { ⌜ n ≤ 2097152 ⌝ }
+    ensures { λ r. ⌜ ((find : List ℕ → NameMeaning) (c : ℕ) → FormulaRead (now (text .entry)) find c n (now (out .entry)) (now (out .exit)) r (readConstant (tokensFrom (now (text .entry)) at))) ⌝ }
+    ensures { λ r. ⌜ FormulaWithin (length (now (text .entry))) 1 at n r ⌝ }
+    ensures { λ r. ⌜ FewerLeft (now (text .entry)) at r ⌝ }
+    ensures { λ _. ⌜ length (now (out .exit)) ≡ length (now (out .entry)) ⌝ }
+{
+    match value_at(text, at) {
+        Due::Found(p, word, next) => {
+            put_constant(out, n, word);
+            Read::Done(next, 1, n + CONSTANT_BYTES, 0)
+        }
+        Due::Fault(w) => Read::Fault(w),
+    }
+}
+
+// An operand that has no parts: a constant, a name or a cell.
+pub fn plain_at(
+    text: &[u8],
+    at: usize,
+    places: &[usize],
+    params: usize,
+    firsts: &[usize],
+    cells: usize,
+    out: &mut [u8],
+    n: usize,
+) -> Read
+    requires { ⌜ length (now text) ≤ 65536 ⌝ }
+    requires { ⌜ at ≤ length (now text) ⌝ }
+    requires { ⌜ n ≤ 2097152 ⌝ }
+    requires { ⌜ length (now places) ≤ 72 ⌝ }
+    requires { ⌜ All (λ x. x ≤ 64) (now firsts) ⌝ }
+    ensures { λ r. ⌜ PartRead (now (text .entry)) (meaningIn (now (text .entry)) (now (places .entry)) params (now (firsts .entry))) cells 1 at n (now (out .entry)) (now (out .exit)) r (plainOf (tokensFrom (now (text .entry)) at)) ⌝ }
+{
+    match token_at(text, at) {
+        Token::Number(p, v, next) => constant_at(text, at, out, n),
+        Token::Name(p, next) => named_at(text, p, next, places, params, firsts, cells, out, n),
+        Token::Sign(p, c, next) => constant_at(text, at, out, n),
+    }
+}

@@ -1,0 +1,212 @@
+// The tokens of a text, written one after the other: what stands before each, and its bytes. A byte that is past the
+// end of the buffer is counted and not written, so an empty buffer serves to count.
+use source_coding::signs;
+ghost use mathlib.Core.Path.{_≡_};
+ghost use mathlib.Core.List.{[], _∷_, _++_};
+ghost use Prim.Native.Nat.{_<_, _≤_, _+_};
+ghost use lib.ListN.{length, drop};
+ghost use Rattle.source_language.specs.Tokens.{inWord, number, name, sign};
+ghost use Rattle.source_rendering.specs.Describe.{digits, spell, firstByte, runTogether};
+ghost use Rattle.source_pen.specs.Written.{takesEquals, spaceAfter, tokenAfter, spellingsBefore, Penned, TokensPenned};
+
+// The spellings of all signs in a row, from 1 on; and where each begins, which is where the one before it ends.
+const SPELLINGS: [u8; 81] =
+    *b"||&&!+-*/>>=<<===!=if(),:=[]rankfrombynobodylaterseenonparameventpassiveactiverow";
+
+const STARTS: [u8; 36] =
+    *b"\x00\x00\x02\x04\x05\x06\x07\x08\x09\x0a\x0c\x0d\x0f\x11\x13\x15\x16\x17\x18\x19\x1a\x1b\x1c\x20\x24\x26\x2c\x31\x35\x37\x3c\x41\x48\x4e\x51\x51";
+
+// The most digits of a number below 2^32, and a letter before them.
+const NAME_BYTES: usize = 11;
+
+const TEN: u64 = 10;
+
+// How many bytes are written, and the last of them, 0 at the start.
+pub struct Pen {
+    pub at: usize,
+    pub last: u8,
+}
+
+// Whether a byte is a letter, a digit or `_`.
+fn in_word(b: u8) -> bool
+    ensures { λ r. ⌜ r ≡ inWord b ⌝ }
+{
+    if b < b'0' {
+        return false;
+    }
+    if b <= b'9' {
+        return true;
+    }
+    if b < b'A' {
+        return false;
+    }
+    if b <= b'Z' {
+        return true;
+    }
+    if b < b'a' {
+        return b == b'_';
+    }
+    b <= b'z'
+}
+
+// Whether `=` after a byte makes one mark with it.
+fn takes_equals(a: u8) -> bool
+    ensures { λ r. ⌜ r ≡ takesEquals a ⌝ }
+{
+    if a == b'=' {
+        return true;
+    }
+    if a == b'<' {
+        return true;
+    }
+    if a == b'>' {
+        return true;
+    }
+    a == b'!'
+}
+
+// Whether two bytes would be read as one token, or as part of one.
+fn runs_together(a: u8, b: u8) -> bool
+    ensures { λ r. ⌜ r ≡ runTogether a b ⌝ }
+{
+    if in_word(a) {
+        return in_word(b);
+    }
+    if takes_equals(a) {
+        return b == b'=';
+    }
+    if a == b'|' {
+        return b == b'|';
+    }
+    if a == b'&' {
+        return b == b'&';
+    }
+    false
+}
+
+// One byte: the only place that writes.
+fn put_byte(out: &mut [u8], pen: Pen, b: u8) -> Pen
+    requires { ⌜ pen .at ≤ 4294967360 ⌝ }
+    ensures { λ r. ⌜ Penned (now (out .entry)) (now (out .exit)) pen r (b ∷ []) ⌝ }
+{
+    let n = pen.at;
+    if out.len() <= n {
+        return Pen { at: n + 1, last: b };
+    }
+    out[n] = b;
+    Pen { at: n + 1, last: b }
+}
+
+// Bytes in a row.
+fn put_bytes(out: &mut [u8], pen: Pen, text: &[u8]) -> Pen
+    requires { ⌜ pen .at ≤ 4294967300 ⌝ }
+    requires { ⌜ length (now text) ≤ 11 ⌝ }
+    ensures { λ r. ⌜ Penned (now (out .entry)) (now (out .exit)) pen r (now (text .entry)) ⌝ }
+{
+    let mut after = pen;
+    let mut i = 0;
+    while i < text.len() {
+        after = put_byte(out, after, text[i]);
+        i = i + 1;
+    }
+    after
+}
+
+// A token's bytes, after a space where its first would run into the last that is written.
+fn put_apart(out: &mut [u8], pen: Pen, text: &[u8]) -> Pen
+    requires { ⌜ pen .at ≤ 4294967296 ⌝ }
+    requires { ⌜ (0 < length (now text)) × (length (now text) ≤ 11) ⌝ }
+    ensures { λ r. ⌜ Penned (now (out .entry)) (now (out .exit)) pen r (spaceAfter (pen .last) (firstByte (now (text .entry))) ++ now (text .entry)) ⌝ }
+{
+    if runs_together(pen.last, text[0]) {
+        let spaced = put_byte(out, pen, b' ');
+        return put_bytes(out, spaced, text);
+    }
+    put_bytes(out, pen, text)
+}
+
+// Where the spelling of a sign begins among all of them.
+fn start_of(i: usize) -> usize
+    requires { ⌜ i ≤ 35 ⌝ }
+    ensures { λ r. ⌜ r ≡ length (spellingsBefore i) ⌝ }
+{
+    STARTS[i] as usize
+}
+
+// A sign's spelling after what stands before it: declarations begin a line, handlers one below theirs, two spaces in.
+fn put_spelling(out: &mut [u8], pen: Pen, c: u8, text: &[u8]) -> Pen
+    requires { ⌜ pen .at ≤ 4294967296 ⌝ }
+    requires { ⌜ (0 < c) × (c ≤ 34) ⌝ }
+    requires { ⌜ now text ≡ spell (sign 0 c) ⌝ }
+    ensures { λ r. ⌜ Penned (now (out .entry)) (now (out .exit)) pen r (tokenAfter (pen .last) (sign 0 c)) ⌝ }
+{
+    if pen.last == 0 {
+        return put_bytes(out, pen, text);
+    }
+    if signs::PARAM <= c {
+        let fed = put_byte(out, pen, b'\n');
+        return put_bytes(out, fed, text);
+    }
+    if c == signs::ON {
+        let fed = put_bytes(out, pen, b"\n  ");
+        return put_bytes(out, fed, text);
+    }
+    put_apart(out, pen, text)
+}
+
+// A sign, by its number: an operator, a mark, a word, or the end of the text.
+pub fn put_sign(out: &mut [u8], pen: Pen, c: u8) -> Pen
+    requires { ⌜ pen .at ≤ 4294967296 ⌝ }
+    requires { ⌜ (0 < c) × (c ≤ 34) ⌝ }
+    ensures { λ r. ⌜ TokensPenned (now (out .entry)) (now (out .exit)) pen r (sign 0 c ∷ []) ⌝ }
+    ensures { λ r. ⌜ r .at ≤ pen .at + 12 ⌝ }
+{
+    let i = c as usize;
+    let start = start_of(i);
+    let end = start_of(i + 1);
+    put_spelling(out, pen, c, &SPELLINGS[start..end])
+}
+
+// The digits of a number, at the end of a buffer; where they begin.
+fn put_digits(n: u64, text: &mut [u8; NAME_BYTES]) -> usize
+    requires { ⌜ n < 4294967296 ⌝ }
+    requires { ⌜ length (now text) ≡ 11 ⌝ }
+    ensures { λ r. ⌜ drop r (now (text .exit)) ≡ digits n ⌝ }
+    ensures { λ r. ⌜ (0 < r) × (r < 11) ⌝ }
+    ensures { λ _. ⌜ length (now (text .exit)) ≡ 11 ⌝ }
+{
+    let mut i = NAME_BYTES - 1;
+    let mut m = n;
+    while TEN <= m {
+        text[i] = b'0' + ((m % TEN) as u8);
+        i = i - 1;
+        m = m / TEN;
+    }
+    text[i] = b'0' + (m as u8);
+    i
+}
+
+// A number in decimal digits.
+pub fn put_number(out: &mut [u8], pen: Pen, n: u64) -> Pen
+    requires { ⌜ pen .at ≤ 4294967296 ⌝ }
+    requires { ⌜ n < 4294967296 ⌝ }
+    ensures { λ r. ⌜ TokensPenned (now (out .entry)) (now (out .exit)) pen r (number 0 n ∷ []) ⌝ }
+    ensures { λ r. ⌜ r .at ≤ pen .at + 12 ⌝ }
+{
+    let mut text = [0u8; NAME_BYTES];
+    let i = put_digits(n, &mut text);
+    put_apart(out, pen, &text[i..])
+}
+
+// A name: a letter and the digits of i.
+pub fn put_name(out: &mut [u8], pen: Pen, letter: u8, i: usize) -> Pen
+    requires { ⌜ pen .at ≤ 4294967296 ⌝ }
+    requires { ⌜ i < 256 ⌝ }
+    ensures { λ r. ⌜ TokensPenned (now (out .entry)) (now (out .exit)) pen r (name 0 (letter ∷ digits i) ∷ []) ⌝ }
+    ensures { λ r. ⌜ r .at ≤ pen .at + 12 ⌝ }
+{
+    let mut text = [0u8; NAME_BYTES];
+    let first = put_digits(i as u64, &mut text) - 1;
+    text[first] = letter;
+    put_apart(out, pen, &text[first..])
+}

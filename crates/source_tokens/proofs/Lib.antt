@@ -1,0 +1,6 @@
+pub mod Bytes
+pub mod Runs
+pub mod Rows
+pub mod Scanned
+pub mod Begun
+pub mod Spelling
