@@ -35,6 +35,7 @@ extern "C" {
 #define ENGINE_ROUND 2048u
 #define ENGINE_TEXT 1024u      /* a formula's text has at most so many */
 #define ENGINE_FIELD 7168u     /* and its field */
+#define ENGINE_SHEET_TEXT 65536u /* a sheet's text has at most so many */
 #define ENGINE_CIRCLE_LIST 64u
 #define ENGINE_EVENTS 32u      /* of a sheet, at most */
 #define ENGINE_BEHAVIOURS 64u
@@ -74,7 +75,19 @@ enum engine_refusal {
     ENGINE_SHORT_JOIN = 27,    /* join: the buffer is too short for the joined sheet */
     ENGINE_STRANGE_HAND = 28,  /* mend: the hand holds an event that the new sheet does not declare */
     ENGINE_DEPENDENT = 29,     /* agree: two events of unequal rank are not independent */
-    ENGINE_LEAK = 30           /* leak: a behaviour that the player sees names one that is hidden from it */
+    ENGINE_LEAK = 30,          /* leak: a behaviour that the player sees names one that is hidden from it */
+    ENGINE_OUTSIDE = 31,       /* 31 to 42 are assemble's: a byte or a token with which no text goes on to a sheet */
+    ENGINE_TEXT_NUMBER = 32,   /* over 2,147,483,647; after a - that makes a constant, over 2,147,483,648 */
+    ENGINE_TEXT_SCALE = 33,    /* a rank over 15, a player over 7, a cell count below 2 or over 16 */
+    ENGINE_TOO_MANY = 34,      /* a ninth parameter, a 33rd event, a 65th behaviour */
+    ENGINE_DECLARED_TWICE = 35, /* a name that another parameter or behaviour, or another event, has */
+    ENGINE_SECOND_HANDLER = 36, /* for an event, in one behaviour */
+    ENGINE_TEXT_NESTING = 37,  /* an expression that must nest 17 deep */
+    ENGINE_TEXT_NAME = 38,     /* an event, or a name in a formula, that is not declared */
+    ENGINE_NO_SUCH_CELL = 39,  /* [..] behind what is no row, past its end, or cell 0 where it cannot be said */
+    ENGINE_SHEET_TOO_LONG = 40, /* over 8,192 bytes */
+    ENGINE_BUFFER_TOO_SHORT = 41, /* for the sheet; describe: for the text */
+    ENGINE_TEXT_TOO_LONG = 42  /* over 65,536 bytes; this comes before all others */
 };
 
 /* The refusal's word, for a log or a setter's screen; "accepted" for 0, "no refusal" for a number that is none. */
@@ -84,7 +97,9 @@ static inline const char *engine_refusal_word(uint32_t number)
         "accepted", "short table", "blank", "long sheet", "torn", "wrong tag", "wrong length", "crowded",
         "off the scale", "too deep", "doubled", "unknown name", "circle", "overlong", "foreign", "no such event",
         "full hand", "spent", "no such behaviour", "settling", "no parameters", "no formula", "large number",
-        "short buffer", "no player", "no right", "unlike ranks", "short join", "strange hand", "dependent", "leak"
+        "short buffer", "no player", "no right", "unlike ranks", "short join", "strange hand", "dependent", "leak",
+        "outside the grammar", "number too large", "off the scale", "too many", "declared twice", "second handler",
+        "too deep", "unknown name", "no such cell", "sheet too long", "buffer too short", "text too long"
     };
     return number < sizeof words / sizeof *words ? words[number] : "no refusal";
 }
@@ -146,6 +161,28 @@ uint64_t engine_formula(const uint8_t *text, size_t text_len, uint8_t *buffer, s
 static inline int engine_formula_refused(uint64_t answer) { return answer >> 32 == 0; }
 static inline uint32_t engine_formula_refusal(uint64_t answer) { return answer >> 32 ? 0 : (uint32_t)answer; }
 static inline uint32_t engine_formula_length(uint64_t answer) { return (uint32_t)answer; }
+
+/* A sheet as its setter writes it, text of at most ENGINE_SHEET_TEXT bytes, becomes the sheet's bytes at the start of
+ * the buffer, whose other bytes stay: 2^32 and their number. Or the first fault, packed: its kind, 31 to 42, its line
+ * and its column, both from 1, and the buffer is as it was. ENGINE_SHEET bytes are always enough. compile takes what is
+ * written, but for 12, 13 and 20. docs/SHEETS.md has the format. */
+uint64_t engine_assemble(const uint8_t *text, size_t text_len, uint8_t *buffer, size_t buffer_len);
+
+/* The length; or the fault's kind, 0 for none, its line and its column in bytes. */
+static inline int engine_assemble_refused(uint64_t answer) { return answer >> 56 != 0; }
+static inline uint32_t engine_assemble_length(uint64_t answer) { return (uint32_t)answer; }
+static inline uint32_t engine_assemble_kind(uint64_t answer) { return (uint32_t)(answer >> 56); }
+static inline uint32_t engine_assemble_line(uint64_t answer) { return (uint32_t)(answer >> 28 & 0xFFFFFFF); }
+static inline uint32_t engine_assemble_column(uint64_t answer) { return (uint32_t)(answer & 0xFFFFFFF); }
+
+/* An accepted sheet becomes a text at the start of the buffer, whose other bytes stay, which assemble turns into the
+ * very bytes again: 2^32 and its length; or compile's number, as with a full table and 32 bytes of parameters, then 41,
+ * and the buffer is as it was. ENGINE_SHEET_TEXT bytes are always enough. */
+uint64_t engine_describe(const uint8_t *sheet, size_t sheet_len, uint8_t *buffer, size_t buffer_len);
+
+static inline int engine_describe_refused(uint64_t answer) { return answer >> 32 == 0; }
+static inline uint32_t engine_describe_refusal(uint64_t answer) { return answer >> 32 ? 0 : (uint32_t)answer; }
+static inline uint32_t engine_describe_length(uint64_t answer) { return (uint32_t)answer; }
 
 /* Writes one sheet from two accepted ones to the start of the buffer, the buffer's other bytes as they were: 2^32 and
  * its length, or compile's number of the first sheet, then of the second, both as with a full table, 26, 3, 7, 13 (of

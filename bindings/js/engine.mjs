@@ -8,6 +8,7 @@ export const PARAMS = 32;
 export const TABLE = 34816;
 export const ROUND = 2048;
 export const FIELD = 7168;
+export const SHEET_TEXT = 65536;
 export const LIST = 64;
 export const HOST = 0;
 export const NO_EVENT = 255;
@@ -36,7 +37,9 @@ const WORDS = [
     "accepted", "short table", "blank", "long sheet", "torn", "wrong tag", "wrong length", "crowded", "off the scale",
     "too deep", "doubled", "unknown name", "circle", "overlong", "foreign", "no such event", "full hand", "spent",
     "no such behaviour", "settling", "no parameters", "no formula", "large number", "short buffer", "no player",
-    "no right", "unlike ranks", "short join", "strange hand", "dependent", "leak",
+    "no right", "unlike ranks", "short join", "strange hand", "dependent", "leak", "outside the grammar",
+    "number too large", "off the scale", "too many", "declared twice", "second handler", "too deep", "unknown name",
+    "no such cell", "sheet too long", "buffer too short", "text too long",
 ];
 
 /** The word of a refusal's number. */
@@ -54,11 +57,23 @@ export class Refusal extends Error {
     }
 }
 
+/** A sheet's text was turned down: its first fault, by number and word, line and column, both from 1. */
+export class Fault extends Error {
+    constructor(answer) {
+        const number = Number(answer >> 56n);
+        const line = Number((answer >> 28n) & 0xfffffffn);
+        const column = Number(answer & 0xfffffffn);
+        super(`${line}:${column}: ${number}, ${refusalWord(number)}`);
+        this.name = "Fault";
+        Object.assign(this, { number, word: refusalWord(number), line, column });
+    }
+}
+
 // What each call takes: r a buffer that it reads, w one that it writes, n a number of 32 bits, q one of 64.
 const TAKES = {
     compile: "rrw", circle: "rrw", start: "rw", arrive: "rwnn", step: "rw", told: "q", board: "rrnn", forecast: "rr",
     preview: "rrnnn", mend: "rrw", formula: "rw", join: "rrrw", replay: "rwrw", version: "", event_count: "r",
-    behaviour_count: "r", event_rank: "rn", frame: "rwnw", agree: "rr", leak: "rrn",
+    behaviour_count: "r", event_rank: "rn", frame: "rwnw", agree: "rr", leak: "rrn", assemble: "rw", describe: "rw",
 };
 
 const PAGE = 65536;
@@ -261,6 +276,20 @@ class Engine {
     formula(text) {
         const field = new Uint8Array(FIELD);
         return field.slice(0, this.#worth("formula", new TextEncoder().encode(text), field));
+    }
+
+    /** The sheet that a text means; a text that is turned down throws a Fault. */
+    assemble(text) {
+        const sheet = new Uint8Array(SHEET);
+        const answer = this.call("assemble", new TextEncoder().encode(text), sheet);
+        if (answer >> 56n !== 0n) throw new Fault(answer);
+        return sheet.slice(0, Number(answer & 0xffffffffn));
+    }
+
+    /** A text that assemble turns into the very sheet again. */
+    describe(sheet) {
+        const text = new Uint8Array(SHEET_TEXT);
+        return new TextDecoder().decode(text.subarray(0, this.#worth("describe", sheet, text)));
     }
 
     /** One sheet from two. */

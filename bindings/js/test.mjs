@@ -171,6 +171,14 @@ assert.deepEqual(engine.leak(secret, undefined, 2), { number: 30, seen: 1, hidde
 assert.deepEqual(engine.leak(secret, undefined, 1), { number: 0 });
 assert.deepEqual(engine.leak(secret, undefined, 8), { number: 24 });
 
+// A sheet as text, and back.
+const written = engine.assemble("event hit rank 1\nactive score = 0\n  on hit: score + 10\n");
+assert.deepEqual(new Play(written).run(0, 0), [20]);
+assert.equal(engine.describe(written), "event e0 rank 1\nactive b0=0\n  on e0:b0+10\n");
+assert.deepEqual(engine.assemble(engine.describe(S)), S);
+assert.throws(() => engine.assemble("active score = 0\n  on hit: score + 1"), { number: 38, line: 2, column: 6 });
+refused(4, () => engine.describe(new Uint8Array([1])));
+
 // A rest day, foreign bytes, wrong arguments.
 assert.deepEqual(new Play(new Uint8Array(0)).board(), []);
 refused(14, () => engine.step(new Uint8Array(10), again.round));

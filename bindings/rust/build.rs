@@ -3,13 +3,15 @@
 use std::path::{Path, PathBuf};
 
 /// Calls that are declared.
-const CALLS: [&str; 20] = [
+const CALLS: [&str; 22] = [
     "version",
     "compile",
     "circle",
     "agree",
     "leak",
     "formula",
+    "assemble",
+    "describe",
     "join",
     "event_count",
     "behaviour_count",

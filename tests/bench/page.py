@@ -16,6 +16,7 @@ FRAME_NS = 16.6e6
 KB = 1024
 SMALL_THREAD = 512 * KB
 FORMULA_AIM = 480 * KB
+TEXT_AIM, TEXT_GROWTH, BEHAVIOURS_GROWTH = 10, 2.5, 4
 
 
 # ---- reading what was measured
@@ -42,7 +43,7 @@ def read(folder):
         path = os.path.join(folder, name)
         return open(path, encoding="utf8").read().splitlines() if os.path.exists(path) else []
 
-    found = {"row": [], "grows": [], "beside": [], "old": []}
+    found = {"row": [], "grows": [], "beside": [], "texts": [], "old": []}
     for line in lines("rows") + lines("before"):
         kind, *words = line.split("\t")
         if kind == "runs":
@@ -158,6 +159,15 @@ def besides(found):
     return max(accepted) <= 1, max(accepted), (min(refused), max(refused))
 
 
+def texts(found):
+    room, widths = 60, (12, 24, 24)
+    lines = [heads(room, widths, ("compile, ns", "assemble by compile", "describe by compile"))]
+    for sheet, compiled, _, _, assembled, described in found["texts"]:
+        figures = (figure(spread(compiled)[1]), of_ratio(spread(assembled)), of_ratio(spread(described)))
+        lines += columns(grouped(sheet), figures, widths, room)
+    return block(lines)
+
+
 def before(found):
     if not found["old"]:
         return ["No earlier archive was measured in this run."]
@@ -237,6 +247,19 @@ OLD_AIMS = [
 ]
 
 
+def aims_of_texts(found):
+    """assemble and describe beside compile, and about in proportion to what they read."""
+    for call, k in (("assemble", 4), ("describe", 5)):
+        got, sheet = max((spread(w[k])[3], grouped(w[0])) for w in found["texts"])
+        yield from judged(f"{call}, by compile of the same sheet (greatest: {sheet})", got, TEXT_AIM)
+    for call, what, _, times in found["grows"]:
+        if call in ("assemble", "describe"):
+            least = spread(times)
+            factor = max(b / a for a, b in zip(least, least[1:]))
+            most = BEHAVIOURS_GROWTH if what.startswith("behaviours") else TEXT_GROWTH
+            yield from judged(f"{call} at twice as many {what}, a factor", factor, most)
+
+
 def aims(found):
     lines = [heads(ROOM, WIDTHS, ("at most", "measured"))] + list(aims_of_times(found["row"]))
     for call, part, most, said in OLD_AIMS:
@@ -247,8 +270,9 @@ def aims(found):
         if call == "compile" and "behaviours" in what:
             least = spread(times)
             factor = max(b / a for a, b in zip(least, least[1:]))
-            lines += judged(f"compile at twice as many {what}, a factor", factor, 4)
+            lines += judged(f"compile at twice as many {what}, a factor", factor, BEHAVIOURS_GROWTH)
     lines += judged("agree and leak, by compile of the same sheet, accepted ones", besides(found)[1], 1)
+    lines += aims_of_texts(found)
     for processor, of in found["stacks"].items():
         both = of["formula"] + of["the thread itself"]
         lines += judged(f"formula's stack on {processor}, KB", of["formula"] / KB, FORMULA_AIM / KB, None, 0)
@@ -357,7 +381,7 @@ def replaced(page, name, lines):
 def main():
     found = read(sys.argv[1])
     page = open(RESULTS, encoding="utf8").read()
-    for make in (machine, aims, above, calls, frame, beside, growth, before, stacks):
+    for make in (machine, aims, above, calls, frame, beside, texts, growth, before, stacks):
         page = replaced(page, make.__name__, make(found))
     page = replaced(page, "waits", found["waits"])
     open(RESULTS, "w", encoding="utf8").write(page)

@@ -19,6 +19,8 @@ static int64_t shown;
 
 static const uint8_t text[] = {'b', '0', ' ', '*', ' ', '2'};
 static uint8_t field[64];
+static const uint8_t written[] = {'p', 'a', 's', 's', 'i', 'v', 'e', ' ', 'b', '=', '7'};
+static uint8_t bytes[ENGINE_SHEET], described[ENGINE_SHEET_TEXT];
 
 void show(int64_t value)
 {
@@ -34,7 +36,8 @@ static const struct {
 } want[] = {
     {"arrive", 3, 2, 1, 0}, {"forecast", 2, 1, 1, 0}, {"preview", 1, 1, 0, 3}, {"circle", 1, 1, 0, 1},
     {"compile", 1, 1, 0, 0}, {"step", 1, 1, 0, 0}, {"board", 1, 1, 0, 1}, {"formula", 1, 1, 0, 15},
-    {"join", 1, 1, 0, 84}, {"version", 1, 1, 0, 0}, {"agree", 1, 1, 0, 1},
+    {"join", 1, 1, 0, 84}, {"version", 1, 1, 0, 0}, {"agree", 1, 1, 0, 1}, {"assemble", 1, 1, 0, 10},
+    {"describe", 1, 1, 0, 100},
 };
 
 static void before(uint8_t *round)

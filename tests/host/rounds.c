@@ -347,6 +347,35 @@ static void judge_sheets(void)
     expect(engine_leak(secret, sizeof secret, NULL, 0, ENGINE_PLAYERS) == ENGINE_NO_PLAYER, "there is no player 8");
 }
 
+/* A sheet as its setter writes it, and back. */
+static void write_sheets(void)
+{
+    static const char text[] = "event hit rank 1\nactive score = 0\n  on hit: score + 10\n";
+    static const char slip[] = "event hit rank 1\nactive score = 0\n  on hit: points + 10\n";
+    static const char again[] = "event e0 rank 1\nactive b0=0\n  on e0:b0+10\n";
+    static uint8_t bytes[ENGINE_SHEET], described[ENGINE_SHEET_TEXT];
+    uint64_t a = engine_assemble((const uint8_t *)text, sizeof text - 1, bytes, sizeof bytes);
+    uint32_t n = engine_assemble_length(a);
+
+    expect(!engine_assemble_refused(a) && engine_assemble_kind(a) == 0 && n == 34, "a sheet of 34 bytes");
+    expect(load(bytes, n) == 0, "it is accepted");
+    take(0);
+    play_out();
+    expect(value(0) == 10, "a hit is ten points");
+    a = engine_describe(bytes, n, described, sizeof described);
+    expect(!engine_describe_refused(a) && engine_describe_length(a) == sizeof again - 1, "back to text");
+    expect(memcmp(described, again, sizeof again - 1) == 0, "with names that it invents");
+    a = engine_describe(bytes, n, described, sizeof again - 2);
+    expect(engine_describe_refusal(a) == ENGINE_BUFFER_TOO_SHORT, "one byte too few");
+    a = engine_describe(bytes, 1, described, sizeof described);
+    expect(engine_describe_refusal(a) == ENGINE_TORN, "compile's number");
+    a = engine_assemble((const uint8_t *)slip, sizeof slip - 1, bytes, sizeof bytes);
+    expect(engine_assemble_refused(a) && engine_assemble_kind(a) == ENGINE_TEXT_NAME, "a name that is not declared");
+    expect(engine_assemble_line(a) == 3 && engine_assemble_column(a) == 11, "in line 3, column 11");
+    a = engine_assemble((const uint8_t *)text, sizeof text - 1, bytes, n - 1);
+    expect(engine_assemble_kind(a) == ENGINE_BUFFER_TOO_SHORT && engine_assemble_line(a) == 4, "told at the end");
+}
+
 /* What the getters make of answers, and a table that is none. */
 static void read_answers(void)
 {
@@ -354,10 +383,10 @@ static void read_answers(void)
     uint64_t a;
     uint32_t n;
 
-    for (n = 1; n <= ENGINE_LEAK; n++)
+    for (n = 1; n <= ENGINE_TEXT_TOO_LONG; n++)
         expect(strcmp(engine_refusal_word(n), "no refusal") != 0, "a word for each refusal");
     expect(strcmp(engine_refusal_word(ENGINE_FULL_HAND), "full hand") == 0, "16 is a full hand");
-    expect(strcmp(engine_refusal_word(ENGINE_LEAK + 1), "no refusal") == 0, "31 is no refusal");
+    expect(strcmp(engine_refusal_word(ENGINE_TEXT_TOO_LONG + 1), "no refusal") == 0, "43 is no refusal");
     expect(strcmp(engine_refusal_word(0), "accepted") == 0, "0 is none");
     expect(engine_version() == (ENGINE_VERSION << 16 | ENGINE_LAYOUT), "header and archive are of one version");
     expect(engine_version_interface(engine_version()) == ENGINE_VERSION, "the interface's");
@@ -400,6 +429,8 @@ static void lend_nothing(void)
     expect(engine_mend(NULL, 0, NULL, 0, NULL, 0) == ENGINE_FOREIGN, "mend");
     expect(engine_formula(NULL, 0, NULL, 0) == ENGINE_NO_FORMULA, "formula");
     expect(engine_join(NULL, 0, NULL, 0, NULL, 0, NULL, 0) == UINT64_C(1) << 32, "two sheets of no bytes make one");
+    expect(engine_assemble(NULL, 0, NULL, 0) == UINT64_C(1) << 32, "a text of no bytes is the rest day's");
+    expect(engine_describe(NULL, 0, NULL, 0) == UINT64_C(1) << 32, "and a sheet of none has a text of none");
     expect(engine_replay(NULL, 0, NULL, 0, NULL, 0, NULL, 0) == 0, "no calls");
     expect(engine_event_count(NULL, 0) == ENGINE_FOREIGN, "event_count");
     expect(engine_agree(NULL, 0, NULL, 0) == 0 && engine_leak(NULL, 0, NULL, 0, 1) == 0, "agree and leak");
@@ -486,6 +517,7 @@ int main(void)
     show_circle();
     pool_sheets();
     judge_sheets();
+    write_sheets();
     read_answers();
     lend_nothing();
     frames();

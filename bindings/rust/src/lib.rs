@@ -3,7 +3,7 @@
 //! A [`Sheet`] is compiled to a [`Table`]; a table starts a [`Round`]; events arrive in it, a few steps are made
 //! between frames, and the board is read. What a call answers, and every byte that it leaves, is proved for all bytes
 //! (`docs/CLAIMS.md`); these types lend buffers of the due length and take the packed answers apart. A call that is
-//! turned down is a [`Refusal`], with its number and its word.
+//! turned down is a [`Refusal`], with its number and its word. A sheet may also be written as text: [`Sheet::assemble`].
 //!
 //! ```
 //! use poqashem::{Behaviour, Event, Player, Refusal, Sheet, Step};
@@ -84,15 +84,17 @@
 //! the heap.
 #![warn(missing_docs)]
 
+mod fault;
 pub mod raw;
 pub mod record;
 mod refusal;
 mod round;
 mod sheet;
 
+pub use fault::{Fault, FaultKind};
 pub use refusal::Refusal;
 pub use round::{Answer, Arrival, Behaviour, Call, Ended, Event, Frame, Player, Round, Step, ROUND};
-pub use sheet::{formula, Circle, Clash, Leak, Params, Sheet, Table, PARAMS, SHEET, TABLE};
+pub use sheet::{formula, Circle, Clash, Leak, Params, Sheet, Table, PARAMS, SHEET, SHEET_TEXT, TABLE};
 
 /// The interface, that is calls, arguments and answers, and the layout of table and round. A saved table or round may
 /// be lent to an engine of the same layout, on any processor.
@@ -145,6 +147,7 @@ mod tests {
         assert_eq!(number("ENGINE_TABLE"), crate::TABLE);
         assert_eq!(number("ENGINE_ROUND"), crate::ROUND);
         assert_eq!(number("ENGINE_SHEET"), crate::SHEET);
+        assert_eq!(number("ENGINE_SHEET_TEXT"), crate::SHEET_TEXT);
         assert_eq!(number("ENGINE_PARAMS"), crate::PARAMS);
         assert_eq!(number("ENGINE_PLAYERS"), crate::Player::ALL.len());
         let version = crate::version();

@@ -121,6 +121,10 @@ pub mod ffi {
             player: u32,
         ) -> u64;
     }
+    extern "C" {
+        pub fn engine_assemble(text: *const u8, text_len: usize, buffer: *mut u8, buffer_len: usize) -> u64;
+        pub fn engine_describe(sheet: *const u8, sheet_len: usize, buffer: *mut u8, buffer_len: usize) -> u64;
+    }
 }
 
 /// 0, or the refusal's number.
@@ -251,4 +255,16 @@ pub fn agree(sheet: &[u8], params: &[u8]) -> u64 {
 #[inline]
 pub fn leak(sheet: &[u8], params: &[u8], player: u32) -> u64 {
     unsafe { ffi::engine_leak(sheet.as_ptr(), sheet.len(), params.as_ptr(), params.len(), player) }
+}
+
+/// 2^32 and the sheet's length, or a fault's kind, 31 to 42, packed with its line and column.
+#[inline]
+pub fn assemble(text: &[u8], buffer: &mut [u8]) -> u64 {
+    unsafe { ffi::engine_assemble(text.as_ptr(), text.len(), buffer.as_mut_ptr(), buffer.len()) }
+}
+
+/// 2^32 and the text's length, or compile's number, then 41.
+#[inline]
+pub fn describe(sheet: &[u8], buffer: &mut [u8]) -> u64 {
+    unsafe { ffi::engine_describe(sheet.as_ptr(), sheet.len(), buffer.as_mut_ptr(), buffer.len()) }
 }

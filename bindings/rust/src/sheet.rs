@@ -1,6 +1,6 @@
 //! Sheets, their parameters, and the tables that they are compiled to.
 use crate::raw;
-use crate::{Behaviour, Event, Player, Refusal, Round};
+use crate::{Behaviour, Event, Fault, Player, Refusal, Round};
 use std::fmt;
 use std::sync::Arc;
 
@@ -8,6 +8,8 @@ use std::sync::Arc;
 pub const TABLE: usize = 34_816;
 /// Bytes of a sheet, at most.
 pub const SHEET: usize = 8_192;
+/// Bytes of a sheet's text, at most.
+pub const SHEET_TEXT: usize = 65_536;
 /// Bytes of parameters.
 pub const PARAMS: usize = 32;
 /// Bytes of a formula's field, at most.
@@ -107,6 +109,49 @@ impl Sheet {
     /// Its bytes.
     pub fn bytes(&self) -> &[u8] {
         &self.0
+    }
+
+    /// The sheet that a text means, as its setter writes it: `docs/SHEETS.md`. [`Sheet::compile`] then refuses it by 12,
+    /// 13 and 20 alone. Turned down is a text with its first fault, by kind, line and column.
+    ///
+    /// ```
+    /// use poqashem::{Behaviour, Event, FaultKind, Player, Sheet, Step};
+    /// let sheet = Sheet::assemble("event hit rank 1\nactive score = 0\n  on hit: score + 10\n").unwrap();
+    /// let mut round = sheet.compile(None)?.start()?;
+    /// round.arrive(Event(0), Player::HOST)?;
+    /// while round.step()? != Step::Idle {}
+    /// assert_eq!(round.board(Behaviour(0), Player::HOST), Ok(10));
+    ///
+    /// let fault = Sheet::assemble("event hit rank 1\nactive score = 0\n  on hit: points + 10\n").unwrap_err();
+    /// assert_eq!((fault.kind, fault.line, fault.column), (FaultKind::UnknownName, 3, 11));
+    /// # Ok::<(), poqashem::Refusal>(())
+    /// ```
+    pub fn assemble(text: impl AsRef<[u8]>) -> Result<Sheet, Fault> {
+        let mut buffer = vec![0; SHEET];
+        let answer = raw::assemble(text.as_ref(), &mut buffer);
+        if let Some(fault) = Fault::of(answer) {
+            return Err(fault);
+        }
+        buffer.truncate(answer as u32 as usize);
+        Ok(Sheet(buffer))
+    }
+
+    /// A text of a sheet that compile accepts, which [`Sheet::assemble`] turns into the very bytes again. The names are
+    /// invented, since a sheet has none. Refused by compile's number, parameters lent.
+    ///
+    /// ```
+    /// use poqashem::{Refusal, Sheet};
+    /// let seven = Sheet::new([2, 0, 7, 0x10, 0, 4, 0, 0, 0, 7]);
+    /// assert_eq!(seven.describe()?, "passive b0=7\n");
+    /// assert_eq!(Sheet::assemble(seven.describe()?), Ok(seven));
+    /// assert_eq!(Sheet::new([2, 0]).describe(), Err(Refusal::Torn));
+    /// # Ok::<(), Refusal>(())
+    /// ```
+    pub fn describe(&self) -> Result<String, Refusal> {
+        let mut buffer = vec![0; SHEET_TEXT];
+        let length = Refusal::word_of(raw::describe(&self.0, &mut buffer))?;
+        buffer.truncate(length as usize);
+        Ok(buffer.into_iter().map(char::from).collect())
     }
 
     /// Compiles it. Refused by 3 to 13 and 20.

@@ -6,6 +6,7 @@
 //!   row CALL INPUT OURS PLAIN C RATIO RATIO   times in nanoseconds, then ours by the plain engine's and by C's
 //!   grows CALL WHAT LABELS TIMES              least nanoseconds at x1, x2, x4, x8
 //!   beside SHEET COMPILE AGREE LEAK RATIO RATIO   the two calls beside compile of the same sheet
+//!   texts SHEET COMPILE ASSEMBLE DESCRIBE RATIO RATIO   assemble of its text and describe beside compile of a sheet
 //! Each time and each ratio is `least/median/greatest` of the runs, - where there is none; a ratio is of two times
 //! taken one after the other, and ends in `/` and the ratio of the least times.
 use std::hint::black_box;
@@ -474,6 +475,16 @@ fn text<'a>(s: &'a [u8]) -> Runner<'a> {
     repeat(move || proved::formula(s, &mut field))
 }
 
+fn assembled<'a>(s: &'a [u8]) -> Runner<'a> {
+    let mut buffer = vec![0u8; 8192];
+    repeat(move || proved::assemble(s, &mut buffer))
+}
+
+fn described<'a>(s: &'a [u8]) -> Runner<'a> {
+    let mut buffer = vec![0u8; 65536];
+    repeat(move || proved::describe(s, &mut buffer))
+}
+
 fn joined<'a>([a, b]: &'a [Vec<u8>; 2]) -> Runner<'a> {
     let mut buffer = vec![0u8; 8192];
     repeat(move || proved::join(a, b, &[0; 32], &mut buffer))
@@ -540,6 +551,22 @@ fn sheet_rows(bench: &Bench) {
     }
 }
 
+fn text_rows(bench: &Bench) {
+    let written = cases::written();
+    let sheets: Vec<Case> = written.iter().map(|(what, sheet, _)| (what.clone(), sheet.clone())).collect();
+    let (texts, families) = (cases::sheet_texts(), cases::families());
+    let worst = named(bench.worst(&texts, |t| assembled(t)(1)));
+    for (input, t) in texts[..written.len()].iter().cloned().chain([worst]) {
+        let plain = || crate::text::assembled(black_box(&t), 8192);
+        bench.row("assemble", &of_bytes(&input, &t), 1, [Some(assembled(&t)), Some(repeat(plain)), None]);
+    }
+    for (input, s) in sheets.into_iter().chain([named(bench.worst(&families, |s| described(s)(1)))]) {
+        let length = |s: &[u8]| sheet_text::describe(s).map_or(0, |text| (1 << 32) + text.len() as u64);
+        let plain = plain_sheet(&s, |_| length(&s));
+        bench.row("describe", &of_bytes(&input, &s), 1, [Some(described(&s)), Some(plain), None]);
+    }
+}
+
 fn named((input, bytes): (String, &Vec<u8>)) -> Case {
     (input, bytes.clone())
 }
@@ -555,6 +582,18 @@ fn beside(bench: &Bench) {
         let each: Vec<String> = times.iter().map(|t| said(&spread(t))).collect();
         let ratio = [ratios(&times[1], &times[0]), ratios(&times[2], &times[0])];
         println!("beside\t{}\t{}\t{}", of_bytes(&input, &s), each.join("\t"), ratio.join("\t"));
+        eprint!(".");
+    }
+}
+
+/// assemble of a sheet's text and describe beside compile of the sheet.
+fn texts_beside(bench: &Bench) {
+    for (input, sheet, text) in cases::written() {
+        let times = bench.race(&mut [compile(&sheet), assembled(&text), described(&sheet)]);
+        let each: Vec<String> = times.iter().map(|t| said(&spread(t))).collect();
+        let ratio = [ratios(&times[1], &times[0]), ratios(&times[2], &times[0])];
+        let input = format!("{input} ({} bytes, {} of text)", sheet.len(), text.len());
+        println!("texts\t{input}\t{}\t{}", each.join("\t"), ratio.join("\t"));
         eprint!(".");
     }
 }
@@ -587,6 +626,13 @@ fn growth(bench: &Bench) {
     grow("circle", "behaviours: a ring under 32 events", &|n| cases::ring(32, n), circle, eight);
     grow("circle", "events, a ring of 64", &|n| cases::ring(n, 64), circle, [4, 8, 16, 32]);
     grow("formula", "names, a sum in brackets", &cases::sum_of, text, [16, 32, 64, 128]);
+    let sheets = [1024, 2048, 4096, 8192];
+    let texts: Vec<Vec<u8>> = sheets.iter().map(|n| cases::text_of(*n)).collect();
+    bench.grows("assemble", "bytes of text", texts.iter().map(|t| (t.len().to_string(), assembled(t))).collect());
+    grow("assemble", "brackets", &cases::bracketed, assembled, [4000, 8000, 16000, 32000]);
+    grow("assemble", "bytes of spaces", &|n| vec![b' '; n], assembled, [8000, 16000, 32000, 64000]);
+    grow("assemble", "behaviours, each naming the last 15 times", &cases::text_of_names, assembled, eight);
+    grow("describe", "bytes of passives", &cases::bytes_of, described, sheets);
     let pairs: Vec<[Vec<u8>; 2]> = [512, 1024, 2048, 4096].map(|n| [cases::bytes_of(n), cases::bytes_of(n)]).into();
     let of = pairs.iter().map(|p| (p[0].len().to_string(), joined(p))).collect();
     bench.grows("join", "bytes of each sheet", of);
@@ -653,8 +699,10 @@ pub fn run(runs: usize) {
     round_rows(bench);
     replay_rows(bench);
     sheet_rows(bench);
+    text_rows(bench);
     if runs > 0 {
         beside(bench);
+        texts_beside(bench);
         growth(bench);
         eprintln!();
     }

@@ -246,6 +246,98 @@ pub fn texts() -> Vec<Case> {
     ]
 }
 
+// ---- sheets as text
+
+/// What it is, a sheet that compile accepts, and a text of it.
+pub type Written = (String, Vec<u8>, Vec<u8>);
+
+/// Everyday sheets and full ones of several shapes, with their descriptions; the last with names as long as can be that
+/// differ in their last bytes alone.
+pub fn written() -> Vec<Written> {
+    let named = full_of_names(FULL_BEHAVIOURS);
+    let mut all: Vec<Written> = vec![
+        described("a game", game()),
+        described("S of the scope", crate::desk::sheet_s()),
+        described("full of names", named.clone()),
+        described("full of cells of a row", full_of_cells()),
+        described("full of constants", passives(46, &tree(31, ADD, &con(i32::MIN)))),
+        described("full of nesting, 16 deep", passives(46, &(0..15).fold(con(1), |e, _| app(5, &[con(1), e])))),
+        described("full of handlers", spread_actives(11)),
+        described("full of events and actives", every_event(20)),
+    ];
+    all.push(("full of names of 31 and 32 bytes".to_string(), named, text_of_names(FULL_BEHAVIOURS)));
+    all
+}
+
+/// The text of passives that name the last behaviour, with names as long as can be.
+pub fn text_of_names(behaviours: usize) -> Vec<u8> {
+    let text = sheet_text::describe(&full_of_names(behaviours)).expect("a sheet");
+    text.replace('b', &"x".repeat(30)).into_bytes()
+}
+
+fn described(what: &str, sheet: Vec<u8>) -> Written {
+    assert!(crate::engine::compile(&sheet, &[0; 32]).is_ok(), "{what} is not accepted");
+    let text = sheet_text::describe(&sheet).expect("a sheet");
+    (what.to_string(), sheet, text.into_bytes())
+}
+
+/// An event and passives alike.
+fn passives(n: usize, e: &[u8]) -> Vec<u8> {
+    join(&[event(1), passive(e).repeat(n)])
+}
+
+/// So many behaviours: passives that name the active behind them.
+fn full_of_names(behaviours: usize) -> Vec<u8> {
+    let last = behaviours - 1;
+    join(&[event(1), passive(&tree(29, ADD, &name(last as u8))).repeat(last), active(1, &[])])
+}
+
+/// A row, and passives that name its last cell.
+fn full_of_cells() -> Vec<u8> {
+    let row = field(6, &[vec![16], field(4, &[0; 4])].concat());
+    join(&[event(1), row, passive(&tree(41, ADD, &name(15))).repeat(47)])
+}
+
+/// 32 events with senders, and so many actives with a handler for each of them.
+fn every_event(n: usize) -> Vec<u8> {
+    let handlers: Vec<Vec<u8>> = (0..FULL_EVENTS).map(|e| handler(e as u8, 1, &name(0))).collect();
+    join(&[field(1, &[15, 0xFF]).repeat(FULL_EVENTS), active(i32::MIN, &handlers).repeat(n)])
+}
+
+/// Sheets as text, the first a game: those above, and texts that are long, deep in brackets or functions, or read to
+/// their last byte.
+pub fn sheet_texts() -> Vec<Case> {
+    let text = |what: &str, t: String| case(what, t.into_bytes());
+    let passive = |formula: String| format!("passive a = {formula}");
+    let filled = |piece: &str| passive(piece.repeat((65_536 - 12) / piece.len()));
+    let nested = |n: usize, open: &str, close: &str| passive(format!("{}1{}", open.repeat(n), close.repeat(n)));
+    let mut all: Vec<Case> = written().into_iter().map(|(what, _, text)| (what, text)).collect();
+    all.extend([
+        text("a number in 32,000 brackets", nested(32_000, "(", ")")),
+        text("if within if, 15 deep", nested(15, "if(1,", ",0)")),
+        text("sums within sums, 15 deep", nested(15, "1+(", ")")),
+        text("every operator within the next, 15 deep", nested(2, "1||(1&&(1==(1<(1+(1*(!", "))))))") + "+1"),
+        text("15 times ! and 4,000 brackets each", nested(15, &format!("!{}", "(".repeat(4000)), &")".repeat(4000))),
+        text("65,524 opening brackets", filled("(")),
+        text("a sum of 32,762 ones", filled("1+")),
+        text("a number of 65,524 digits", filled("0")),
+        text("65,524 spaces", filled(" ")),
+        text("a name in 32,000 brackets, unknown", nested(32_000, "(", ")").replace('1', "b")),
+        text("65,537 bytes", " ".repeat(65_537)),
+    ]);
+    all
+}
+
+/// A number in so many brackets.
+pub fn bracketed(n: usize) -> Vec<u8> {
+    format!("passive a={}1{}", "(".repeat(n), ")".repeat(n)).into_bytes()
+}
+
+/// The text of a sheet of passives that has so many bytes.
+pub fn text_of(bytes: usize) -> Vec<u8> {
+    sheet_text::describe(&bytes_of(bytes)).expect("a sheet").into_bytes()
+}
+
 pub fn sum_of(names: usize) -> Vec<u8> {
     sum(names).into_bytes()
 }

@@ -10,7 +10,7 @@
 //! second record FILE CALLS     calls with their answers and bytes, for other processors to replay
 //! second rounds FILE FIRST COUNT   recorded rounds of COUNT seeds from FIRST on, as the plain engine answers them
 //! second league FILE ROUNDS CALLS   so many rounds of so many calls on one sheet, to measure the audit
-//! second text FIRST COUNT      sheets of COUNT seeds from FIRST on as text and back, damaged texts, formulas
+//! second text FIRST COUNT      texts at each limit; sheets of COUNT seeds from FIRST on as text and back, damaged texts, formulas
 //! second audit PROGRAM FOLDER SEEDS   the audit program on such rounds, with differences and damage planted
 mod agree;
 mod bench;
@@ -18,6 +18,7 @@ mod byhand;
 mod cases;
 mod compare;
 mod desk;
+mod edges;
 mod engine;
 mod formula;
 mod frames;

@@ -40,6 +40,8 @@ const CALLS: &[(&str, &str)] = &[
     ("frame", "rwnw"),
     ("agree", "rr"),
     ("leak", "rrn"),
+    ("assemble", "rw"),
+    ("describe", "rw"),
 ];
 
 /// Buffers by what they hold.
@@ -163,6 +165,7 @@ impl Record {
             "told" | "replay" | "version" | "frame" => false,
             "step" => answer == 14,
             "circle" | "agree" | "leak" => answer % 256 != 0,
+            "assemble" => answer >> 56 != 0,
             _ => (1..1 << 32).contains(&answer),
         };
         self.tally[k][1] += number as usize;
@@ -321,6 +324,25 @@ impl Record {
         }
     }
 
+    /// The seed's sheet as text and back, into buffers that are long enough and too short; and with a byte changed.
+    fn texts(&mut self, r: &mut Rng) {
+        self.fill(TEXT, poqashem::SHEET_TEXT, 0x5A);
+        self.fill(BUFFER, poqashem::SHEET, 0x5A);
+        let answer = self.call("describe", &[Whole(SHEET), Whole(TEXT)]);
+        if answer >> 32 == 0 {
+            return;
+        }
+        let n = answer as u32 as usize;
+        self.call("describe", &[Whole(SHEET), Part(TEXT, n.saturating_sub(1))]);
+        self.call("assemble", &[Part(TEXT, n), Whole(BUFFER)]);
+        self.keep(BUFFER);
+        self.call("assemble", &[Part(TEXT, n), Part(BUFFER, r.below(self.slots[SHEET].len() + 1))]);
+        for _ in 0..3 {
+            self.poke(TEXT, r.below(n + 1), 32 + r.below(95) as u8);
+            self.call("assemble", &[Part(TEXT, n), Whole(BUFFER)]);
+        }
+    }
+
     /// The seed's sheet with another, first and second.
     fn joins(&mut self, r: &mut Rng, ranks: Option<Vec<u8>>) {
         let mut other = make::sheet(r);
@@ -353,6 +375,11 @@ impl Record {
             self.set(TEXT, &text);
             self.call("formula", &[Whole(TEXT), Whole(BUFFER)]);
         }
+        self.fill(BUFFER, poqashem::SHEET, 0x5A);
+        for (_, text) in cases::sheet_texts() {
+            self.set(TEXT, &text);
+            self.call("assemble", &[Whole(TEXT), Whole(BUFFER)]);
+        }
         for (_, [first, second]) in cases::pairs() {
             self.set(SHEET, &first);
             self.set(SECOND, &second);
@@ -375,6 +402,8 @@ impl Record {
         self.call("leak", &[Whole(SHEET), Whole(PARAMS), Number(1)]);
         self.call("join", &[Whole(SHEET), Part(SHEET, 0), Whole(PARAMS), Whole(BUFFER)]);
         self.call("compile", &[Whole(SHEET), Whole(PARAMS), Whole(TABLES)]);
+        self.fill(TEXT, poqashem::SHEET_TEXT, 0x5A);
+        self.call("describe", &[Whole(SHEET), Whole(TEXT)]);
         self.keep(LIST);
         self.keep(BUFFER);
         self.keep(TABLES);
@@ -408,6 +437,7 @@ impl Record {
         self.set(SHEET, &bytes);
         self.set(PARAMS, &make::params(r));
         self.formulas(r);
+        self.texts(r);
         self.joins(r, engine::read(&bytes).ok().map(|s| s.ranks));
         let fill = r.next() as u8;
         self.fill(TABLES, TABLE + r.below(40), fill);
@@ -465,6 +495,8 @@ fn made(name: &str, r: &[&[u8]], w: &mut [&mut [u8]], n: &[u64]) -> u64 {
         }
         "agree" => proved::agree(r[0], r[1]),
         "leak" => proved::leak(r[0], r[1], word(0)),
+        "assemble" => proved::assemble(r[0], w[0]),
+        "describe" => proved::describe(r[0], w[0]),
         _ => unreachable!("{name}"),
     }
 }

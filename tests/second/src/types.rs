@@ -81,6 +81,14 @@ fn sheets(sheet: &Sheet, params: Option<&Params>, lent: &[u8]) {
             |l: Option<poqashem::Leak>| l.map_or(0, |l| 30 + ((l.seen.0 as u64) << 8) + ((l.hidden.0 as u64) << 16));
         assert_eq!(number(sheet.leak(params, Player(who)), leak), proved::leak(bytes, lent, who), "leak");
     }
+    let mut text = vec![0u8; poqashem::SHEET_TEXT];
+    let described = proved::describe(bytes, &mut text);
+    let same = |s: String| {
+        assert!(text.starts_with(s.as_bytes()), "the sheet as text");
+        assert_eq!(Sheet::assemble(&s).as_ref(), Ok(sheet), "and back");
+        word(s.len() as u32)
+    };
+    assert_eq!(number(sheet.describe(), same), described, "describe");
     let mut both = vec![0u8; 8192];
     let joined = proved::join(bytes, bytes, lent, &mut both);
     let same = |s: Sheet| {

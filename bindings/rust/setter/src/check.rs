@@ -1,9 +1,8 @@
 //! What the proved engine says of a sheet: its sizes, whether two phones agree, and what may leak.
 use crate::failure::Failure;
-use crate::file::SheetFile;
+use crate::file::{read, SheetFile};
 use crate::wording::{listed, long, several, spans};
 use poqashem::{Behaviour, Clash, Event, Leak, Player, Refusal, Sheet, Table};
-use sheet_text::Body;
 use std::fmt::Write;
 
 const SHEET: u64 = poqashem::SHEET as u64;
@@ -64,29 +63,29 @@ fn instructions(file: &SheetFile, table: &Table) -> Result<Vec<(Event, u64)>, Fa
 
 // ---- two phones
 
-/// The sheet with the handlers of two events only.
-fn only(sheet: &sheet_text::Sheet, kept: [usize; 2]) -> Sheet {
-    let mut sheet = sheet.clone();
-    for behaviour in &mut sheet.behaviours {
-        if let Body::Active(active) | Body::Row(_, active) = &mut behaviour.body {
-            active.handlers.retain(|h| kept.contains(&h.event));
-        }
-    }
-    Sheet::new(sheet_text::encode(&sheet))
+/// The sheet with the handlers of two events only: the text that describes it, which has a handler on a line of its own,
+/// without the lines of all other handlers.
+fn only(file: &SheetFile, text: &str, kept: [u32; 2]) -> Result<Sheet, Failure> {
+    let stays = |line: &&str| {
+        let event = line.strip_prefix("  on e").and_then(|rest| rest.split([' ', ':']).next());
+        event.map_or(true, |e| kept.iter().any(|k| k.to_string() == e))
+    };
+    read(&file.path, text.lines().filter(stays).collect::<Vec<_>>().join("\n").as_bytes())
 }
 
 /// Every two events that are not independent though their ranks differ, each with a behaviour that they share: the
 /// engine's first answer, and then its answer for each pair, the other events having lost their handlers.
-fn clashes(file: &SheetFile) -> Result<Vec<Clash>, Failure> {
+fn clashes(file: &SheetFile, table: &Table) -> Result<Vec<Clash>, Failure> {
     let lent = file.lent();
     if sound(file, file.sheet.agree(Some(&lent)))?.is_none() {
         return Ok(vec![]);
     }
-    let Ok(declared) = sheet_text::decode(file.sheet.bytes()) else { return Ok(vec![]) };
+    let text = file.text()?;
     let mut found = vec![];
-    for second in 1..declared.events.len() {
+    for second in 1..sound(file, table.events())? {
         for first in 0..second {
-            found.extend(sound(file, only(&declared, [first, second]).agree(Some(&lent)))?);
+            let pair = only(file, &text, [first, second])?;
+            found.extend(sound(file, pair.agree(Some(&lent)))?);
         }
     }
     found.sort_by_key(|clash| (clash.first, clash.second));
@@ -94,7 +93,7 @@ fn clashes(file: &SheetFile) -> Result<Vec<Clash>, Failure> {
 }
 
 fn phones(file: &SheetFile, table: &Table) -> Result<Vec<String>, Failure> {
-    let clashes = clashes(file)?;
+    let clashes = clashes(file, table)?;
     if clashes.is_empty() {
         return Ok(vec!["agree: every two events of unequal rank are independent".to_string()]);
     }

@@ -1,29 +1,12 @@
 //! Files of sheets, as text or as bytes, with the names of what they declare.
 use crate::failure::Failure;
+use crate::names::{names_of, Group, Names, Param};
 use crate::wording::{listed, refused};
-use poqashem::{Behaviour, Circle, Event, Params, Refusal, Sheet, Table};
-use sheet_text::{Assembled, Declared, Fault, Kind, Place};
+use poqashem::{Behaviour, Circle, Event, Fault, FaultKind, Params, Refusal, Sheet, Table};
 use std::io::Write;
 
 /// How many parameters the host lends.
 const LENT: usize = 8;
-
-/// A parameter's name and its value, if one is given.
-#[derive(Clone, Debug)]
-pub struct Param {
-    pub name: String,
-    pub value: Option<i32>,
-}
-
-/// A behaviour, or a row of them.
-#[derive(Clone, Debug)]
-pub struct Group {
-    pub name: String,
-    pub first: u32,
-    /// A row's cells.
-    pub cells: Option<u32>,
-    place: Place,
-}
 
 /// A sheet and its names.
 #[derive(Clone, Debug)]
@@ -73,56 +56,64 @@ pub fn write(path: &str, bytes: &[u8]) -> Result<(), Failure> {
 
 /// A fault with its line of the text and a mark under the place.
 fn shown(path: &str, text: &[u8], fault: &Fault) -> Failure {
-    let Fault { kind, place, why } = fault;
-    let mut message = format!("{path}:{}:{}: {} ({}): {why}", place.line, place.column, kind.word(), kind.number());
-    let line = text.split(|b| *b == b'\n').nth(place.line - 1).unwrap_or(b"");
-    let whole = matches!(kind, Kind::LongText | Kind::LongSheet | Kind::ShortBuffer);
+    let mut message = format!("{path}:{fault}: {}", why(text, fault));
+    let Fault { kind, line, column } = *fault;
+    let line = text.split(|b| *b == b'\n').nth(line as usize - 1).unwrap_or(b"");
+    let whole = matches!(kind, FaultKind::LongText | FaultKind::LongSheet | FaultKind::ShortBuffer);
     if !whole && line.len() <= 200 && line.iter().all(|b| b.is_ascii() && (*b >= b' ' || *b == b'\t' || *b == b'\r')) {
         let line = String::from_utf8_lossy(line);
-        let under = line.chars().take(place.column - 1).map(|c| if c == '\t' { '\t' } else { ' ' });
+        let under = line.chars().take(column as usize - 1).map(|c| if c == '\t' { '\t' } else { ' ' });
         message += &format!("\n    {}\n    {}^", line.trim_end(), under.collect::<String>());
     }
     Failure::Input(message)
 }
 
-/// A sheet's bytes as text, where the engine does not turn them down for what they say. A circle and too many
-/// instructions are for whoever compiles the sheet.
-pub fn text_of(path: &str, bytes: &[u8]) -> Result<String, Failure> {
-    match Sheet::new(bytes).compile(Some(&Params::default())) {
-        Ok(_) | Err(Refusal::Circle | Refusal::Overlong) => {}
-        Err(refusal) => return Err(not_a_sheet(path, refusal.number())),
-    }
-    sheet_text::describe(bytes).map_err(|number| not_a_sheet(path, number))
+/// What a fault means here, in words: those of the plain reader where it finds the same one, else what its kind says.
+fn why(text: &[u8], fault: &Fault) -> String {
+    let place = (fault.line as usize, fault.column as usize);
+    let same = |own: &sheet_text::Fault| {
+        own.kind.number() == fault.kind.number() && (own.place.line, own.place.column) == place
+    };
+    let own = sheet_text::assemble(text).err().filter(same);
+    own.map_or(fault.kind.when().to_string(), |own| own.why)
+}
+
+/// The sheet that a text means.
+pub fn read(path: &str, text: &[u8]) -> Result<Sheet, Failure> {
+    Sheet::assemble(text).map_err(|fault| shown(path, text, &fault))
 }
 
 impl SheetFile {
     /// A file as text or as bytes.
     pub fn load(path: &str) -> Result<SheetFile, Failure> {
         let bytes = bytes_of(path)?;
-        if !is_sheet(&bytes) {
-            let read = sheet_text::assemble(&bytes).map_err(|fault| shown(path, &bytes, &fault))?;
-            return Ok(SheetFile::named(path, read, false));
+        if is_sheet(&bytes) {
+            return SheetFile::of_bytes(path, bytes);
         }
-        let text = text_of(path, &bytes)?;
-        let read = sheet_text::assemble(text.as_bytes()).map_err(|fault| shown(path, text.as_bytes(), &fault))?;
-        Ok(SheetFile::named(path, read, true))
+        let sheet = read(path, &bytes)?;
+        Ok(SheetFile::named(path, sheet, names_of(&bytes), false))
     }
 
-    fn named(path: &str, read: Assembled, unnamed: bool) -> SheetFile {
-        let group = |b: &Declared| Group {
-            name: b.name.clone(),
-            first: b.first as u32,
-            cells: b.cells.map(|n| n as u32),
-            place: b.place,
+    /// A sheet's bytes, with the names of the text that describes it. One with a circle or too many instructions has no
+    /// such text; it goes by numbers, and compile says what is wrong.
+    pub fn of_bytes(path: &str, bytes: Vec<u8>) -> Result<SheetFile, Failure> {
+        let sheet = Sheet::new(bytes);
+        let names = match sheet.describe() {
+            Ok(text) => names_of(text.as_bytes()),
+            Err(Refusal::Circle | Refusal::Overlong) => Names::default(),
+            Err(refusal) => return Err(not_a_sheet(path, refusal)),
         };
-        SheetFile {
-            path: path.to_string(),
-            sheet: Sheet::new(read.sheet),
-            params: read.params.into_iter().map(|p| Param { name: p.name, value: p.default }).collect(),
-            events: read.events.into_iter().map(|e| e.name).collect(),
-            groups: read.behaviours.iter().map(group).collect(),
-            unnamed,
-        }
+        Ok(SheetFile::named(path, sheet, names, true))
+    }
+
+    fn named(path: &str, sheet: Sheet, names: Names, unnamed: bool) -> SheetFile {
+        let Names { params, events, groups } = names;
+        SheetFile { path: path.to_string(), sheet, params, events, groups, unnamed }
+    }
+
+    /// The sheet as text, under invented names.
+    pub fn text(&self) -> Result<String, Failure> {
+        self.sheet.describe().map_err(|refusal| not_a_sheet(&self.path, refusal))
     }
 
     /// Gives a parameter a value; whether there is one of this name.
@@ -162,7 +153,7 @@ impl SheetFile {
                 self.path,
                 refused(Refusal::Overlong)
             ))),
-            Err(other) => Err(not_a_sheet(&self.path, other.number())),
+            Err(other) => Err(not_a_sheet(&self.path, other)),
         }
     }
 
@@ -190,17 +181,18 @@ impl SheetFile {
     // ---- names
 
     fn group(&self, behaviour: Behaviour) -> Option<&Group> {
-        self.groups.iter().find(|g| (g.first..g.first + g.cells.unwrap_or(1)).contains(&behaviour.0))
+        self.groups.iter().find(|g| (g.first..g.first + g.count()).contains(&behaviour.0))
     }
 
-    pub fn event(&self, event: Event) -> &str {
-        self.events.get(event.0 as usize).map_or("an event without a name", String::as_str)
+    /// An event's name.
+    pub fn event(&self, event: Event) -> String {
+        self.events.get(event.0 as usize).cloned().unwrap_or_else(|| format!("e{}", event.0))
     }
 
     /// A behaviour's name, with its cell.
     pub fn behaviour(&self, behaviour: Behaviour) -> String {
         match self.group(behaviour) {
-            None => format!("behaviour {}", behaviour.0),
+            None => format!("b{}", behaviour.0),
             Some(Group { name, first, cells: Some(_), .. }) => format!("{name}[{}]", behaviour.0 - first),
             Some(group) => group.name.clone(),
         }
@@ -238,14 +230,13 @@ impl SheetFile {
 }
 
 fn whole(group: &Group) -> Shown {
-    let members = (0..group.cells.unwrap_or(1)).map(|k| Behaviour(group.first + k)).collect();
+    let members = (0..group.count()).map(|k| Behaviour(group.first + k)).collect();
     Shown { label: group.name.clone(), members, row: group.cells.is_some() }
 }
 
 /// Bytes that compile turns down.
-fn not_a_sheet(path: &str, number: u32) -> Failure {
-    let why = Refusal::from_number(number).map_or(format!("refused by {number}"), refused);
-    Failure::input(format!("{path}: {why}"))
+fn not_a_sheet(path: &str, refusal: Refusal) -> Failure {
+    Failure::input(format!("{path}: {}", refused(refusal)))
 }
 
 // ---- joins
@@ -260,7 +251,7 @@ pub fn joined(first: &SheetFile, second: &SheetFile) -> Result<SheetFile, Failur
     let sheet = first.sheet.join(&second.sheet, Some(&both.lent()));
     both.sheet = sheet.map_err(|refusal| not_joined(first, second, &tables, refusal))?;
     both.events.extend(second.events.iter().skip(first.events.len()).cloned());
-    let count = first.groups.last().map_or(0, |g| g.first + g.cells.unwrap_or(1));
+    let count = first.groups.last().map_or(0, |g| g.first + g.count());
     both.groups.extend(second.groups.iter().map(|g| Group { first: g.first + count, ..g.clone() }));
     both.unnamed = true;
     Ok(both)

@@ -1,10 +1,11 @@
 //! The setter's program: sheets written as text are checked, built, shown, played and drawn.
 //!
-//! What judges or runs a sheet is the proved engine, through the Rust crate. Text to bytes and back is plain Rust until
-//! the engine has calls of its own for it.
+//! What reads, judges, describes or runs a sheet is the proved engine, through the Rust crate. Plain Rust are the names
+//! that are printed, taken from the accepted text, and the words behind a fault.
 mod check;
 mod failure;
 mod file;
+mod names;
 mod play;
 mod script;
 mod timeline;
@@ -28,9 +29,9 @@ setter: sheets written as text
   setter timeline FILE SCRIPT OUT.svg  draw the same round
   setter help COMMAND                  more on a command
 
-A FILE is text (docs/SHEETS.md) or a sheet's bytes; of bytes, e0, b0 and p0 are the names. Circles, instructions, phones,
-leaks and rounds are the proved engine's answers. Text is turned to bytes and back by plain Rust, which is tested and
-not proved. Ends with 0; with 1 where a file cannot be read or is turned down, with 2 where it was called wrongly.
+A FILE is text (docs/SHEETS.md) or a sheet's bytes; of bytes, e0, b0 and p0 are the names. A text's sheet or fault, a
+sheet's text, circles, instructions, phones, leaks and rounds are the proved engine's answers. Ends with 0; with 1 where
+a file cannot be read or is turned down, with 2 where it was called wrongly.
 ";
 
 const CHECK: &str = "\
@@ -160,11 +161,9 @@ fn show(asked: &Asked) -> Result<(), Failure> {
     if !bytes.is_empty() && bytes.iter().all(|b| b.is_ascii_graphic() || b.is_ascii_whitespace()) {
         return Err(Failure::input(format!("{path}: is text already, not a sheet's bytes")));
     }
-    let text = file::text_of(path, &bytes)?;
-    if file::is_sheet(&bytes) {
-        SheetFile::load(path)?.compile()?;
-    }
-    print(&text)
+    let file = SheetFile::of_bytes(path, bytes)?;
+    file.compile()?;
+    print(&file.text()?)
 }
 
 fn join(asked: &Asked) -> Result<(), Failure> {

@@ -132,7 +132,7 @@ impl Stage<'_> {
 
     fn act(&self, arrival: Arrival) -> Act {
         let rank = self.round.table().rank(arrival.event).unwrap_or(0);
-        Act { number: arrival.number, event: self.file.event(arrival.event).to_string(), rank }
+        Act { number: arrival.number, event: self.file.event(arrival.event), rank }
     }
 
     /// `hit #3`.

@@ -2,7 +2,10 @@
 //!
 //! In a text `^` stands before the token or byte at fault and is taken out; without one the fault is at the end of the
 //! text.
-use sheet_text::{assemble, assemble_into, Kind, Place, SHEET, TEXT};
+mod held;
+
+use held::{assemble, assemble_into};
+use sheet_text::{Kind, Place, SHEET, TEXT};
 
 /// The text without its mark, and the place of the mark, or of the end.
 fn marked(text: &str) -> (String, Place) {

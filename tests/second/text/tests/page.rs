@@ -1,6 +1,9 @@
 //! docs/SHEETS.md, "Sheets as text": its example with the bytes that it names, the way back, its tables of kinds and of
 //! faults.
-use sheet_text::{assemble, describe, Kind, TEXT};
+mod held;
+
+use held::{assemble, describe};
+use sheet_text::{Kind, TEXT};
 
 fn page() -> String {
     let path = concat!(env!("CARGO_MANIFEST_DIR"), "/../../../docs/SHEETS.md");

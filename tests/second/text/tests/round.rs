@@ -1,5 +1,8 @@
 //! Texts to bytes and back.
-use sheet_text::{assemble, decode, describe, encode};
+mod held;
+
+use held::{assemble, describe};
+use sheet_text::{decode, encode};
 
 const LAMPS: &str = include_str!("lamps.sheet");
 
