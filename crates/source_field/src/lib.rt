@@ -1,4 +1,5 @@
 // The field of a formula that is read: its bytes are counted whatever fits, and written where they do.
+use lib_order::larger_size;
 use text_encode::CONSTANT_BYTES;
 use text_encode::HEAD_BYTES;
 use text_encode::NAME_BYTES;
@@ -6,7 +7,6 @@ ghost use mathlib.Core.Path.{_≡_};
 ghost use mathlib.Core.List.{[], _∷_};
 ghost use Prim.Native.Nat.{_≤_, _<_, _+_, _/_, _%_};
 ghost use lib.ListN.{length};
-ghost use Rattle.text_formula.specs.Answer.{deeper as deeperOf};
 ghost use Rattle.source_coding.specs.Faults.{firstFault};
 ghost use Rattle.source_field.specs.Fields.{placedIn, headPlaced, underBy, appliedBy, headedIn, Headable};
 
@@ -43,19 +43,8 @@ pub fn put_named(out: &mut [u8], n: usize, tag: u8, i: usize)
     out[n + 3] = i as u8;
 }
 
-// The deeper of two nestings.
-fn deeper(a: usize, b: usize) -> usize
-    ensures { λ r. ⌜ r ≡ deeperOf a b ⌝ }
-    ensures { λ r. ⌜ r ≤ a + b ⌝ }
-{
-    if a < b {
-        return b;
-    }
-    a
-}
-
 // The earlier of two faults' words, where 0 is none.
-fn first_fault(v: u64, w: u64) -> u64
+pub fn first_fault(v: u64, w: u64) -> u64
     ensures { λ r. ⌜ r ≡ firstFault v w ⌝ }
 {
     if v == 0 {
@@ -71,7 +60,7 @@ pub fn under(d: usize, v: u64, r: Read) -> Read
     let Read::Done(to, depth, end, w) = r else {
         return r;
     };
-    Read::Done(to, deeper(d, depth), end, first_fault(v, w))
+    Read::Done(to, larger_size(d, depth), end, first_fault(v, w))
 }
 
 // The arguments from `start` to `end` become an application of function f, where it fits.
@@ -101,7 +90,7 @@ pub fn close(f: u8, start: usize, d: usize, v: u64, r: Read, out: &mut [u8]) -> 
     head(out, start, end, f);
     Read::Done(
         to,
-        deeper(d, depth) + 1,
+        larger_size(d, depth) + 1,
         end + HEAD_BYTES,
         first_fault(v, w),
     )

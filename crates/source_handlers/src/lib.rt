@@ -9,13 +9,13 @@ use source_due::fault_word;
 use source_due::name_due;
 use source_due::sign_due;
 use source_field::Read;
+use source_field::first_fault;
 use spec_language::limits;
 use spec_language::tags;
 ghost use mathlib.Core.Path.{_≡_};
 ghost use Prim.Native.Nat.{_≤_, _<_, _+_, _*_};
 ghost use lib.ListN.{length};
 ghost use Rattle.lib_base.specs.Basics.{All};
-ghost use Rattle.source_coding.specs.Faults.{firstFault};
 ghost use Rattle.source_coding.specs.Places.{tokensFrom, meaningIn};
 ghost use Rattle.source_due.specs.Due.{DueWithin};
 ghost use Rattle.source_handlers.specs.Parts.{PartWithin, DueRead, refusedRead, headed};
@@ -54,16 +54,6 @@ pub fn refused_formula(read: Read) -> Part
         Read::Fault(w) => Part::Fault(w),
         Read::Done(_, _, _, _) => Part::Fault(0),
     }
-}
-
-// The first of two faults, 0 for none.
-pub fn first_fault(v: u64, w: u64) -> u64
-    ensures { λ r. ⌜ r ≡ firstFault v w ⌝ }
-{
-    if v == 0 {
-        return w;
-    }
-    v
 }
 
 // A field's tag and length in front of its value, which ends at `end`.

@@ -21,7 +21,7 @@ close-spec =
     let at-r = c .before .before .before .before .before .before in
     let at-entry = at-r .before .before .before in
     let h = rw (at-r .r .given .1) at (at-entry .pre .0) in
-    omega (arith, c .deeper .ensures .1))
+    omega (arith, c .larger-size .ensures))
     (λ c.
     let at-r = c .before .before .before .before .before .before in
     let at-entry = at-r .before .before .before in
@@ -32,4 +32,4 @@ close-spec =
     (λ c.
     let at-head = c .before .before .before .before in
     let at-r = at-head .before .before .before in
-    (rw (at-r .r .given .1, c .before .deeper .ensures .0, c .first-fault .ensures), rw (at-r .r .given .1) (at-head .head .ensures))))
+    (rw (at-r .r .given .1, c .before .larger-size .ensures, c .first-fault .ensures), rw (at-r .r .given .1) (at-head .head .ensures))))

@@ -12,4 +12,4 @@ under-spec =
     (λ c. search needs)
     (λ c κs. search needs)
     (λ c κs. search needs)
-    (λ c. rw (c .before .before .before .r .given .1, c .before .deeper .ensures .0, c .first-fault .ensures)))
+    (λ c. rw (c .before .before .before .r .given .1, c .before .larger-size .ensures, c .first-fault .ensures)))
