@@ -52,6 +52,15 @@ deep-alike ps t room = (
   compile-opens (encode (rowsOut deep)) ps t room (omega (arith, deep-lengths .1)) ∙ ap (λ (g : Got Sheet). judgeRead g ps t) (deep-read .1),
 )
 
+-- ---- a row of 17 behind the 64th behaviour: 7, and so the sheet written out
+
+abbrev behind : Sheet
+behind = sheet [] (replicate 64 (bare (formula (literal 1))) ++ (bare (row 17 1 []) ∷ []))
+
+pub behind-alike : (readSheet (encode behind) ≡ bad 7) × (readSheet (encode (rowsOut behind)) ≡ bad 7)
+unfolding entriesOut flatMap heads renameTerm renameClauses upTo encode encodeEvents encodeBehaviours encodeHandlers encodeExpr readSheet eventsAt behavioursAt handlersAt handles exprAt fieldAt cellCount
+behind-alike = (refl, refl)
+
 -- ---- what is asked of rows is needed: only the second cell of a row is the 65th behaviour, and its handlers are
 -- doubled: 7, and 10 where it is written out; a row of 17 cells: 8, and none
 

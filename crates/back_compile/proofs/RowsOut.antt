@@ -43,7 +43,7 @@ module _ (x : Sheet) where
   sound h before after c s hs m q f =
       let r = h before after c s hs m q (read-back _ _ _ (sheet-result _) f) in
       let z : 0 + cellCount before ≡ cellCount before = omega arith in
-      rw z (r .0, r .1, λ a b. fits-faultless (length (x .signals)) hs (r .2 a b))
+      rw z (r .0, λ a. (r .1 a .0, r .1 a .1, λ b. fits-faultless (length (x .signals)) hs (r .1 a .2 b)))
 
   read-alike : RowsFit x → (ps t : List ℕ) → judgeRead (readSheet (encode x)) ps t ≡ judgeRead (readSheet (encode (rowsOut x))) ps t
   read-alike h ps t = rw (sheet-result x, sheet-result (rowsOut x), fault-rows x (sound h)) (alike (sheetFault x) refl ps t)
@@ -53,7 +53,7 @@ module _ (x : Sheet) where
   rows-fit f few before after c s hs m q met =
       let r = all-split (λ (b : Entry). CountFits (b .item)) before (entry (row c s hs) m ∷ after) (rw q at f) .1 .0 in
       let k : cellCount before + (c + cellCount after) ≤ 64 = rw (q, count-append before (entry (row c s hs) m ∷ after)) at few in
-      (r .0, r .1, λ a b. absurd (omega arith))
+      (omega (arith, r .0), λ a. (r .0, r .1, λ b. absurd (omega arith)))
 
   pub as-rows : AsRows x
   as-rows = record {

@@ -40,11 +40,12 @@ pub record AsWritten (x : Sheet) (ps : List ℕ) : Type 0 where
 abbrev pub ReadSoFar : Sheet → List Entry → Type 0
 ReadSoFar x before = readSheet (encode (sheet (x .signals) before)) ≡ got (sheet (x .signals) before) []
 
--- a row of c cells with the handlers hs, n events being declared and i behaviours standing before it: "a one-byte cell
--- count of 2 to 16 (else 8)"; and where its first cell is one of the 64 and its last is not, handlers within their
--- limits, since 7 is checked after the count and so before them
+-- a row of c cells with the handlers hs, n events being declared and i behaviours standing before it. Where its first
+-- cell is past the 64th, both sheets answer 7, whatever its count, if there is a cell to be written out. Else it has "a
+-- one-byte cell count of 2 to 16 (else 8)"; and where its last cell is past the 64th, handlers within their limits,
+-- since 7 is checked after the count and so before them
 abbrev pub RowFits : ℕ → ℕ → ℕ → List Clause → Type 0
-RowFits n i c hs = (2 ≤ c) × (c ≤ 16) × (i < 64 → 64 < i + c → ClausesFit n hs)
+RowFits n i c hs = (1 ≤ c) × (i < 64 → (2 ≤ c) × (c ≤ 16) × (64 < i + c → ClausesFit n hs))
 
 abbrev pub CountFits : Item → Type 0
 CountFits (formula x) = Unit {0}

@@ -1,7 +1,7 @@
 -- Rows and the order of faults (02, M-110): a sheet and the sheet written out have the same first fault or none, where
--- each row that is met has 2 to 16 cells, and handlers without a fault if only later cells of it pass the 64th
--- behaviour. Names written otherwise change no fault, so each cell has the row's; the rest by induction on the entries,
--- counting behaviours.
+-- each row that is met, and whose first cell is one of the 64, has 2 to 16 cells, and handlers without a fault if later
+-- cells of it pass the 64th behaviour. Names written otherwise change no fault, so each cell has the row's; the rest by
+-- induction on the entries, counting behaviours.
 use Prim.Native.Nat.{ℕ, zero, suc, _+_, _≤_, _<_}
 use mathlib.Core.Bool.{true, false}
 use mathlib.Core.Path.{_≡_, refl, sym, ap, subst, _∙_}
@@ -78,7 +78,7 @@ got-faultless x e = no-fault (sheetFault x) x x [] (sym (sheet-result x) ∙ e)
 -- ---- what is asked of rows: n events are declared, and i behaviours stand before the row
 
 abbrev pub RowSound : ℕ → ℕ → ℕ → List Clause → Type 0
-RowSound n i c cs = (2 ≤ c) × (c ≤ 16) × (i < 64 → 64 < i + c → clausesFault n [] cs ≡ 0)
+RowSound n i c cs = (1 ≤ c) × (i < 64 → (2 ≤ c) × (c ≤ 16) × (64 < i + c → clausesFault n [] cs ≡ 0))
 
 -- of each row that is met: what stands before it has no fault
 abbrev pub RowsSound : (List Entry → ℕ) → ℕ → ℕ → List Entry → Type 0
@@ -150,9 +150,10 @@ module _ (n m : ℕ) (xs rest ys : List Entry) (v : Option ℕ) where
   row-alike c s cs r h =
       split (leb 64 m)
       (λ e. cells-crowded n v rest c m (λ j. state s (renameClauses (meant xs c j) cs)) (omega (arith, r .0)) e ∙ rw e)
-      (λ e. split (ltb 64 (m + c))
-      (λ d. row-past c s cs (r .2 (omega (arith, leb-false 64 m e)) (ltb-true 64 (m + c) d)) (r .0) (r .1) e d h)
-      (λ d. row-within c s cs (clausesFault n [] cs) refl (r .0) (r .1) e d h))
+      (λ e. let f = r .1 (omega (arith, leb-false 64 m e)) in
+      split (ltb 64 (m + c))
+      (λ d. row-past c s cs (f .2 (ltb-true 64 (m + c) d)) (f .0) (f .1) e d h)
+      (λ d. row-within c s cs (clausesFault n [] cs) refl (f .0) (f .1) e d h))
 
   -- of a row, what is asked
   abbrev Asked : Item → Type 0
