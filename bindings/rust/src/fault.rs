@@ -1,34 +1,10 @@
 //! What is wrong with a sheet's text, and where.
+use crate::numbered::numbered;
 use std::fmt;
 
-macro_rules! kinds {
-    ($($name:ident = $number:literal, $word:literal, $when:literal;)*) => {
-        /// The kinds of faults that a sheet's text may have. Their numbers go on from those of the calls.
-        #[derive(Clone, Copy, Debug, PartialEq, Eq, Hash, PartialOrd, Ord)]
-        #[non_exhaustive]
-        #[repr(u8)]
-        pub enum FaultKind {
-            $(#[doc = concat!($word, ", ", stringify!($number), ": ", $when)] $name = $number,)*
-        }
-
-        impl FaultKind {
-            /// All of them, by number.
-            pub const ALL: &'static [FaultKind] = &[$(FaultKind::$name,)*];
-
-            /// Its word.
-            pub fn word(self) -> &'static str {
-                match self { $(FaultKind::$name => $word,)* }
-            }
-
-            /// When a text is turned down so.
-            pub fn when(self) -> &'static str {
-                match self { $(FaultKind::$name => $when,)* }
-            }
-        }
-    };
-}
-
-kinds! {
+numbered! {
+    /// The kinds of faults that a sheet's text may have. Their numbers go on from those of the calls.
+    FaultKind, "When a text is turned down so.";
     Outside = 31, "outside the grammar", "a byte or a token with which no text goes on to a sheet";
     LargeNumber = 32, "number too large", "over 2,147,483,647; after a `-` that makes a constant, over 2,147,483,648";
     OffTheScale = 33, "off the scale", "a rank over 15, a player over 7, a cell count below 2 or over 16";
@@ -41,18 +17,6 @@ kinds! {
     LongSheet = 40, "sheet too long", "over 8,192 bytes";
     ShortBuffer = 41, "buffer too short", "the buffer is too short; only raw calls can lend one";
     LongText = 42, "text too long", "over 65,536 bytes";
-}
-
-impl FaultKind {
-    /// Its number.
-    pub fn number(self) -> u32 {
-        self as u32
-    }
-
-    /// The kind of a number, if there is one.
-    pub fn from_number(number: u32) -> Option<FaultKind> {
-        FaultKind::ALL.iter().copied().find(|k| k.number() == number)
-    }
 }
 
 /// The first fault of a sheet's text. `docs/SHEETS.md` says which comes first.
@@ -100,13 +64,12 @@ impl std::error::Error for Fault {}
 #[cfg(test)]
 mod tests {
     use super::*;
+    use crate::numbered::words_of_header;
 
     /// The header's words, as C has them.
     #[test]
     fn words_are_the_headers() {
-        let header = include_str!("../../../include/engine.h");
-        let (_, after) = header.split_once("static const char *const words[] = {").expect("the header's words");
-        let words: Vec<&str> = after.split('}').next().unwrap().split('"').skip(1).step_by(2).collect();
+        let words = words_of_header();
         assert_eq!(words.len(), 43);
         for k in FaultKind::ALL {
             assert_eq!(words.get(k.number() as usize), Some(&k.word()), "{k:?}");

@@ -85,6 +85,7 @@
 #![warn(missing_docs)]
 
 mod fault;
+mod numbered;
 pub mod raw;
 pub mod record;
 mod refusal;

@@ -1,45 +1,21 @@
 //! Why a call was turned down.
+use crate::numbered::numbered;
 use std::fmt;
 
-macro_rules! refusals {
-    ($($name:ident = $number:literal, $word:literal, $when:literal;)*) => {
-        /// Why a call was turned down. A call that is turned down changes no byte.
-        ///
-        /// Each has a number and a word; `Display` gives both. No call gives 2, a blank sheet: a sheet of no bytes is
-        /// accepted, with no events and no behaviours.
-        ///
-        /// ```
-        /// use poqashem::{Refusal, Sheet};
-        /// let e = Sheet::new([1, 0]).compile(None).unwrap_err();
-        /// assert_eq!(e, Refusal::Torn);
-        /// assert_eq!((e.number(), e.word()), (4, "torn"));
-        /// assert_eq!(e.to_string(), "torn (4)");
-        /// ```
-        #[derive(Clone, Copy, Debug, PartialEq, Eq, Hash, PartialOrd, Ord)]
-        #[non_exhaustive]
-        #[repr(u8)]
-        pub enum Refusal {
-            $(#[doc = concat!($word, ", ", stringify!($number), ": ", $when)] $name = $number,)*
-        }
-
-        impl Refusal {
-            /// All of them, by number.
-            pub const ALL: &'static [Refusal] = &[$(Refusal::$name,)*];
-
-            /// Its word.
-            pub fn word(self) -> &'static str {
-                match self { $(Refusal::$name => $word,)* }
-            }
-
-            /// When a call is turned down so.
-            pub fn when(self) -> &'static str {
-                match self { $(Refusal::$name => $when,)* }
-            }
-        }
-    };
-}
-
-refusals! {
+numbered! {
+    /// Why a call was turned down. A call that is turned down changes no byte.
+    ///
+    /// Each has a number and a word; `Display` gives both. No call gives 2, a blank sheet: a sheet of no bytes is
+    /// accepted, with no events and no behaviours.
+    ///
+    /// ```
+    /// use poqashem::{Refusal, Sheet};
+    /// let e = Sheet::new([1, 0]).compile(None).unwrap_err();
+    /// assert_eq!(e, Refusal::Torn);
+    /// assert_eq!((e.number(), e.word()), (4, "torn"));
+    /// assert_eq!(e.to_string(), "torn (4)");
+    /// ```
+    Refusal, "When a call is turned down so.";
     ShortTable = 1, "short table", "a table under 34,816 bytes; only raw calls can lend one";
     LongSheet = 3, "long sheet", "over 8,192 bytes";
     Torn = 4, "torn", "under three bytes where a field is due, or a length past its enclosing end";
@@ -70,16 +46,6 @@ refusals! {
 }
 
 impl Refusal {
-    /// Its number.
-    pub fn number(self) -> u32 {
-        self as u32
-    }
-
-    /// The refusal of a number, if there is one.
-    pub fn from_number(number: u32) -> Option<Refusal> {
-        Refusal::ALL.iter().copied().find(|r| r.number() == number)
-    }
-
     /// The refusal of a call's answer. The contracts leave no other number; one would mean an archive of another
     /// version.
     pub(crate) fn of(number: u64) -> Refusal {
@@ -115,13 +81,12 @@ impl std::error::Error for Refusal {}
 #[cfg(test)]
 mod tests {
     use super::*;
+    use crate::numbered::words_of_header;
 
     /// The header's words, as C has them.
     #[test]
     fn words_are_the_headers() {
-        let header = include_str!("../../../include/engine.h");
-        let (_, after) = header.split_once("static const char *const words[] = {").expect("the header's words");
-        let words: Vec<&str> = after.split('}').next().unwrap().split('"').skip(1).step_by(2).collect();
+        let words = words_of_header();
         for r in Refusal::ALL {
             assert_eq!(words.get(r.number() as usize), Some(&r.word()), "{r:?}");
         }
