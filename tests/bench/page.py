@@ -137,19 +137,24 @@ def growth(found):
     return block(lines)
 
 
-def beside(found):
+def beside_compile(rows, calls):
+    """Two calls' times on each sheet, by compile's of the same sheet."""
     room, widths = 60, (12, 24, 24)
-    lines = [heads(room, widths, ("compile, ns", "agree by compile", "leak by compile"))]
-    for sheet, compiled, _, _, agreed, leaked in found["beside"]:
-        figures = (figure(spread(compiled)[1]), of_ratio(spread(agreed)), of_ratio(spread(leaked)))
+    lines = [heads(room, widths, ("compile, ns", *(f"{call} by compile" for call in calls)))]
+    for sheet, compiled, _, _, *others in rows:
+        figures = (figure(spread(compiled)[1]), *(of_ratio(spread(times)) for times in others))
         lines += columns(grouped(sheet), figures, widths, room)
+    return block(lines)
+
+
+def beside(found):
     holds, most, refused = besides(found)
     said = (
         f"At most compile's time on every accepted sheet: {'yes' if holds else 'no'}, the greatest ratio of the least "
         f"times is {most:.2f}. On a refused sheet all three do the same work, and the ratio is 1 but for the clock: "
         f"{refused[0]:.2f} to {refused[1]:.2f}."
     )
-    return block(lines) + [""] + textwrap.wrap(said, WIDTH)
+    return beside_compile(found["beside"], ("agree", "leak")) + [""] + textwrap.wrap(said, WIDTH)
 
 
 def besides(found):
@@ -160,12 +165,7 @@ def besides(found):
 
 
 def texts(found):
-    room, widths = 60, (12, 24, 24)
-    lines = [heads(room, widths, ("compile, ns", "assemble by compile", "describe by compile"))]
-    for sheet, compiled, _, _, assembled, described in found["texts"]:
-        figures = (figure(spread(compiled)[1]), of_ratio(spread(assembled)), of_ratio(spread(described)))
-        lines += columns(grouped(sheet), figures, widths, room)
-    return block(lines)
+    return beside_compile(found["texts"], ("assemble", "describe"))
 
 
 def before(found):

@@ -251,8 +251,8 @@ pub fn texts() -> Vec<Case> {
 /// What it is, a sheet that compile accepts, and a text of it.
 pub type Written = (String, Vec<u8>, Vec<u8>);
 
-/// Everyday sheets and full ones of several shapes, with their descriptions; the last with names as long as can be that
-/// differ in their last bytes alone.
+/// Everyday sheets and full ones of several shapes, with their descriptions; the last with names that are hard to tell
+/// apart.
 pub fn written() -> Vec<Written> {
     let named = full_of_names(FULL_BEHAVIOURS);
     let mut all: Vec<Written> = vec![
@@ -265,14 +265,32 @@ pub fn written() -> Vec<Written> {
         described("full of handlers", spread_actives(11)),
         described("full of events and actives", every_event(20)),
     ];
-    all.push(("full of names of 31 and 32 bytes".to_string(), named, text_of_names(FULL_BEHAVIOURS)));
+    let hard: [(&str, fn(usize) -> String); 4] = [
+        ("that differ at their end", differ_at_the_end),
+        ("that differ in the middle", |i| format!("{0}{i:02}{0}", "x".repeat(15))),
+        ("that differ at the front", |i| format!("x{i:02}{}", "x".repeat(29))),
+        ("that differ in length", |i| ["x", "y"][i / 32].repeat(i % 32 + 1)),
+    ];
+    for (how, name) in hard {
+        all.push((format!("full of names {how}"), named.clone(), text_with(&named, name)));
+    }
     all
 }
 
-/// The text of passives that name the last behaviour, with names as long as can be.
+/// A name of 31 or 32 bytes, of which the last ones tell it.
+fn differ_at_the_end(i: usize) -> String {
+    format!("{}{i}", "x".repeat(30))
+}
+
+/// The text of passives that name the last behaviour, with long names.
 pub fn text_of_names(behaviours: usize) -> Vec<u8> {
-    let text = sheet_text::describe(&full_of_names(behaviours)).expect("a sheet");
-    text.replace('b', &"x".repeat(30)).into_bytes()
+    text_with(&full_of_names(behaviours), differ_at_the_end)
+}
+
+/// A sheet's description with other names for its behaviours, which have no `b`; b1 is not the beginning of b12.
+fn text_with(sheet: &[u8], name: fn(usize) -> String) -> Vec<u8> {
+    let text = sheet_text::describe(sheet).expect("a sheet");
+    (0..FULL_BEHAVIOURS).rev().fold(text, |t, i| t.replace(&format!("b{i}"), &name(i))).into_bytes()
 }
 
 fn described(what: &str, sheet: Vec<u8>) -> Written {
