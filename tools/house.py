@@ -6,8 +6,9 @@
 
 Believed and proved are told apart by place: a file under specs/ holds definitions and statements only. The other
 checks: no public name that two definitions' files declare, no public name and no dependency that nothing uses, no edit
-that changes nothing, no number in the code without a name, lines of pages and comments at most 120 columns, every path
-and name on the pages there, and proof files whose answers and places have names.
+that changes nothing and none in two places, no number in the code without a name, lines of pages and comments at most
+120 columns, every path and name on the pages there, every edit cited by its crate and label and there, and proof files
+whose answers and places have names.
 """
 import collections
 import glob
@@ -123,8 +124,20 @@ def unused_dependencies():
 # ---- edits
 
 
+def crate_of_edit(path):
+    return path.split("/")[-3 if path.startswith("crates/") else -2]
+
+
+def edits():
+    """Each edit as pages cite it, NAME/LABEL, with the files that hold it: at the gate, in tests/edits."""
+    found = collections.defaultdict(list)
+    for path in sorted(glob.glob("crates/*/must-fail/*.edit") + glob.glob("tests/edits/*/*.edit")):
+        found[f"{crate_of_edit(path)}/{os.path.basename(path)[:-5]}"].append(path)
+    return found
+
+
 def faults_of_edit(path):
-    crate = path.split("/")[-3 if path.startswith("crates/") else -2]
+    crate = crate_of_edit(path)
     file = old = None
     pairs = 0
     for line in text_of(path).split("\n"):
@@ -148,8 +161,11 @@ def faults_of_edit(path):
 
 
 def faults_of_edits():
-    for path in sorted(glob.glob("crates/*/must-fail/*.edit") + glob.glob("tests/edits/*/*.edit")):
-        yield from faults_of_edit(path)
+    for paths in edits().values():
+        for path in paths:
+            yield from faults_of_edit(path)
+        if len(paths) > 1:
+            yield f"{paths[1]}: the same label as {paths[0]}"
 
 
 # ---- numbers, widths, names on pages
@@ -186,7 +202,7 @@ def wide_lines():
 
 
 def declared_names(theories):
-    """Every name that a page may cite: declared in a theory, a part of a record, a constructor, a function, an edit."""
+    """Every name that a page may cite: declared in a theory, a part of a record, a constructor, a function."""
     names = set(read_crates()[0])
     for path in files_under("crates", ".antt"):
         if not is_theory(path) and not path.endswith("Proof.antt"):
@@ -198,18 +214,48 @@ def declared_names(theories):
                 names.update(re.findall(rf"^\s+(?:pub )?({NAME})(?: {NAME})* :", "\n".join(d.text), re.M))
     for path in files_under("crates", ".rt"):
         names.update(re.findall(r"\b(?:fn|const|struct|enum|mod) (\w+)", text_of(path)))
-    names.update(os.path.basename(p)[:-5] for p in glob.glob("crates/*/must-fail/*.edit") + glob.glob("tests/edits/*/*.edit"))
     return names
 
 
+# the reviewers' pages: on these every name and path must be there, and on all pages every edit
+NAMED_PAGES = ("docs/CLAIMS.md", "docs/REVIEW.md", "docs/ARCHITECTURE.md")
+
+
+def citations(page):
+    """What stands between backticks in one word: what has a space is an expression, and may go on in the next line."""
+    for number, line in enumerate(text_of(page).split("\n"), 1):
+        for cited in re.findall(r"`([^`\s]+)`", line):
+            yield number, cited
+
+
 def unresolved_names(theories):
-    names = declared_names(theories)
-    for page in ("docs/CLAIMS.md", "docs/REVIEW.md", "docs/ARCHITECTURE.md"):
-        if not os.path.exists(page):
-            continue
-        for number, line in enumerate(text_of(page).split("\n"), 1):
-            for cited in re.findall(r"`([^`]+)`", line):
-                yield from (f"{page}:{number}: {fault}" for fault in faults_of_citation(cited, names))
+    names, found = declared_names(theories), edits()
+    crates = set(read_crates()[0]) | {cited.split("/")[0] for cited in found}
+    for page in pages():
+        for number, cited in citations(page):
+            faults = [*edit_by_place(page, cited), *edit_not_there(cited, crates, found)]
+            if page in NAMED_PAGES and not faults and cited not in found:
+                faults = faults_of_citation(cited, names)
+            yield from (f"{page}:{number}: {fault}" for fault in faults)
+
+
+# an edit is cited as NAME/LABEL, so that a page stays true when the edit moves between the gate and tests/edits
+PLACE_OF_EDITS = re.compile(r"((?:crates/)?[a-z0-9_]+/must-fail|tests/edits/(?!run$)[a-z0-9_]+)(/\w+(?:\.edit)?)?")
+EDIT_CITED = re.compile(r"([a-z0-9_]+)/([a-z0-9_]+)")
+PARTS_OF_CRATE = {"specs", "proofs", "src"}
+
+
+def edit_by_place(page, cited):
+    """Pages other than the claims may name a folder of edits alone, as where they count those in it."""
+    place = PLACE_OF_EDITS.fullmatch(cited)
+    if place and (place.group(2) or page == "docs/CLAIMS.md"):
+        yield f"an edit is cited by its label, as NAME/LABEL: {cited}"
+
+
+def edit_not_there(cited, crates, found):
+    parts = EDIT_CITED.fullmatch(cited)
+    if parts and parts.group(1) in crates and parts.group(2) not in PARTS_OF_CRATE and cited not in found:
+        yield f"no such edit: {cited}"
 
 
 # words that a page may cite though no file of the project declares them
@@ -220,10 +266,7 @@ def faults_of_citation(cited, names):
     if "NAME" in cited or re.search(r"[\s(){}\[\]=<>|!+*^&\"',]", cited) or cited.startswith((".", "-")):
         return  # an expression or a command
     if "/" in cited:
-        places = [cited, "crates/" + cited, "docs/" + cited, "tests/" + cited]
-        places += [p + ".edit" for p in places] + [f"crates/{cited.replace('/', '/must-fail/', 1)}.edit"]
-        places += [f"tests/edits/{cited}.edit"]
-        if not any(glob.glob(p) for p in places):
+        if not any(glob.glob(p) for p in (cited, "crates/" + cited, "docs/" + cited, "tests/" + cited)):
             yield f"no such path: {cited}"
         return
     if cited.endswith((".antt", ".rt", ".md", ".h", ".txt", ".svg", ".sh", ".py")):
@@ -327,9 +370,17 @@ PLANTED = [
     ("a public name that nothing uses", "crates/lib_base/proofs/Planted.antt", "abbrev pub plantedName : ℕ\nplantedName = 1\n"),
     ("which nothing in it uses", "crates.txt", None),
     ("it changes nothing", "crates/lib_word/must-fail/planted.edit", None),
+    ("the same label as", "crates/lib_word/must-fail/get_word_by_two.edit", None),
     ("a number without a name", "crates/lib_word/src/planted.rt", "fn planted() -> u32 {\n    17\n}\n"),
     ("a comment of", "crates/lib_base/proofs/Planted.antt", "-- " + "wide " * 30 + "\n"),
     ("no such name", "docs/CLAIMS.md", "\n`plantedNameOfNothing`\n"),
+    ("no such name", "docs/CLAIMS.md", "\n`get_word_by_two`\n"),
+    ("no such edit", "docs/CLAIMS.md", "\n`lib_word/planted_edit_of_nothing`\n"),
+    ("no such edit", "docs/CHANGES.md", "\n`lib_word/planted_edit_of_nothing`\n"),
+    ("no such edit", "CONTRIBUTING.md", "\n`lib_word/planted_edit_of_nothing`\n"),
+    ("an edit is cited by its label", "docs/CLAIMS.md", "\n`lib_word/must-fail`\n"),
+    ("an edit is cited by its label", "docs/CLAIMS.md", "\n`tests/edits/lib_word`\n"),
+    ("an edit is cited by its label", "docs/CHANGES.md", "\n`tests/edits/lib_word/get_word_by_two`\n"),
     ("columns", "docs/CLAIMS.md", "\n" + "wide " * 30 + "\n"),
     ("characters in a proof", "crates/lib_base/proofs/planted/Proof.antt", "planted = " + "x " * 200 + "\n"),
     ("answers by place", "crates/lib_base/proofs/planted/Proof.antt", "planted = (tie.spec" + " (λ c. x)" * 13 + ")\n"),
