@@ -24,7 +24,8 @@ use Rattle.source_handlers.specs.declared.Part.the-variants as P
 use Rattle.source_handlers.specs.Parts.{Coding, PartWritten, PartAgrees, DueRead}
 use Rattle.source_behaviours.specs.declared.Behaviour.{Behaviour}
 use Rattle.source_behaviours.specs.declared.Behaviour.the-variants.{Done, Fault}
-use Rattle.source_behaviours.specs.Behaviours.{behaviourCoding, newName, closedCells, countedCells, cellsSaid, numbersTaken, bodyMade, kindRead, nameOfBehaviour, cellsOfBehaviour, RowTold, NamedAt, CountIs, KindRead, BehaviourAgrees, BehaviourRead}
+use Rattle.source_body.specs.Body.{behaviourCoding, bodyMade, kindRead, KindRead}
+use Rattle.source_behaviours.specs.Behaviours.{newName, closedCells, countedCells, cellsSaid, numbersTaken, nameOfBehaviour, cellsOfBehaviour, RowTold, NamedAt, CountIs, BehaviourAgrees, BehaviourRead}
 use Rattle.source_behaviours.proofs.Steps.{kind-steps, name-steps}
 
 -- ---- what its count tells

@@ -1,9 +1,7 @@
 pub mod Known
 pub mod Steps
-pub mod Stages
-pub mod Written
+pub mod Grow
 pub mod Pieces
-pub mod State
 pub mod Declared
 pub mod Loop
 pub mod Whole

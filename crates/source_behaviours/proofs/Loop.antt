@@ -27,9 +27,10 @@ use Rattle.source_handlers.specs.Parts.{PartWritten, PartAgrees}
 use Rattle.source_handlers.proofs.Gather.{after-more, Gathered, gather-start, gather-turn, gather-over, gather-fault}
 use Rattle.source_behaviours.specs.declared.Behaviour.the-variants as B
 use Rattle.source_behaviours.specs.declared.Behaviours.the-variants.{Done, Fault}
-use Rattle.source_behaviours.specs.Behaviours.{behaviourCoding, behavioursCoding, nameOfBehaviour, cellsOfBehaviour, RowTold, cellsOfAll, BehaviourWritten, BehaviourAgrees, BehaviourRead, StartsAre, BehavioursWritten, BehavioursAgree, behavioursDeclared, BehavioursRead}
+use Rattle.source_body.specs.Body.{behaviourCoding}
+use Rattle.source_behaviours.specs.Behaviours.{behavioursCoding, nameOfBehaviour, cellsOfBehaviour, RowTold, cellsOfAll, BehaviourWritten, BehaviourAgrees, BehaviourRead, StartsAre, BehavioursWritten, BehavioursAgree, behavioursDeclared, BehavioursRead}
 use Rattle.source_behaviours.proofs.Steps.{leaves-behaviour}
-use Rattle.source_behaviours.proofs.Written.{behaviours-grow}
+use Rattle.source_behaviours.proofs.Grow.{behaviours-grow}
 
 pub quiet : behaviourBegins 0 ≡ false
 unfolding behaviourBegins

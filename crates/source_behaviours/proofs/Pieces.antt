@@ -1,24 +1,19 @@
--- The small pieces of behaviours: bytes in a row, a name, a row's count, a start value, a first word, and the text's
--- end.
-use Prim.Native.Nat.{ℕ, suc, _+_, _*_, _≤_, _<_}
-use mathlib.Core.Bool.{Bool, true, false, _&&_, _||_}
-use mathlib.Core.Path.{_≡_, refl, sym, ap, _∙_}
+-- The small pieces of behaviours: a name, a row's count, a first word, and the text's end.
+use Prim.Native.Nat.{ℕ, _+_, _*_, _≤_, _<_}
+use mathlib.Core.Bool.{true, false, _||_}
+use mathlib.Core.Path.{_≡_, refl, ap, _∙_}
 use mathlib.Core.Logic.{_⊎_, ⊎-elim}
 use mathlib.Core.List.{List, [], _∷_}
 use native.Mathlib.Omega.{arith}
-use native.Mathlib.Numerals.{add-one, add-two, add-three, add-four, add-five, add-six}
-use lib.ListN.{length, set}
-use lib.Seq.{sets}
-use lib.Dec.{ltb, leb, eqb}
-use borrow.Author.Tests.{lt-ltb, le-ltb, le-leb, lt-leb, eq-eqb, ne-eqb, ltb-false}
+use lib.Dec.{ltb, leb}
+use borrow.Author.Tests.{lt-ltb, le-ltb, le-leb, lt-leb, eq-eqb, ne-eqb}
 use denote.Enum.Declared.{tagOf}
 use Rattle.lib_base.specs.Basics.{pick}
-use Rattle.lib_base.proofs.Tools.{split}
-use Rattle.source_language.specs.Tokens.{SheetToken, number, name, sign, equals, bracket, unbracket, passive-word, row-word, endSign}
+use Rattle.source_language.specs.Tokens.{SheetToken, number, name, sign, bracket, unbracket, row-word, endSign}
 use Rattle.source_language.specs.Text.{Text}
-use Rattle.source_language.specs.Faults.{Kind, outside, tooLarge, offScale, tooMany, declaredTwice}
+use Rattle.source_language.specs.Faults.{outside, offScale, tooMany}
 use Rattle.source_language.specs.Limits.{among, largest}
-use Rattle.source_language.specs.Reader.{Phrased, bad, got, placeAt, signAt, signIn, tokenPlace, tokensAfter, pastSign, nameDue, numberDue, valueOf, behaviourBegins, textEnds}
+use Rattle.source_language.specs.Reader.{bad, got, placeAt, signAt, signIn, numberDue, behaviourBegins, textEnds}
 use Rattle.source_coding.specs.Faults.{faultWord, faultIn}
 use Rattle.source_coding.specs.Places.{tokensFrom, nameAt, namesHeld}
 use Rattle.source_tokens.specs.declared.Token.{Token}
@@ -27,24 +22,11 @@ use Rattle.source_tokens.specs.Token.{TokenAt, placeOfToken}
 use Rattle.source_due.specs.declared.Due.{Due}
 use Rattle.source_due.specs.declared.Due.the-variants.{Found, Fault}
 use Rattle.source_tokens.proofs.Token.{the-type}
-use Rattle.source_due.specs.Due.{FaultTold, ConstantFound, NoName, DueWithin}
+use Rattle.source_due.specs.Due.{FaultTold, NoName}
 use Rattle.source_due.proofs.Passes.{number-fails}
 use Rattle.source_handlers.specs.Parts.{DueRead}
 use Rattle.source_handlers.proofs.Events.{no-name, no-sign, past-there}
-use Rattle.source_behaviours.specs.Behaviours.{newName, closedCells, countedCells, cellsSaid, startDeclared, NamedAt, CountIs, StartWordIs, CellsWithin, ClosedWithin, StartWithin, EndFault}
-
--- ---- bytes in a row
-
-pub four-in-a-row : (o p q r s : List ℕ) (n a b c d : ℕ) → p ≡ set o n a → q ≡ set p (n + 1) b → r ≡ set q (n + 2) c → s ≡ set r (n + 3) d
-    → s ≡ sets o n (a ∷ b ∷ c ∷ d ∷ [])
-four-in-a-row o p q r s n a b c d h i j k = rw (k, j, i, h) (simp (add-one, add-two, add-three))
-
-pub seven-in-a-row : (o p q r s t u v : List ℕ) (n a b c d e f g : ℕ) → p ≡ set o n a → q ≡ set p (n + 1) b → r ≡ set q (n + 2) c → s ≡ set r (n + 3) d
-    → t ≡ set s (n + 4) e → u ≡ set t (n + 5) f → v ≡ set u (n + 6) g → v ≡ sets o n (a ∷ b ∷ c ∷ d ∷ e ∷ f ∷ g ∷ [])
-seven-in-a-row o p q r s t u v n a b c d e f g h i j k l m x = rw (x, m, l, k, j, i, h) (simp (add-one, add-two, add-three, add-four, add-five, add-six))
-
-pub one-before : (o p q : List ℕ) (n c : ℕ) (vs : List ℕ) → p ≡ set o n c → q ≡ sets p (n + 1) vs → q ≡ sets o n (c ∷ vs)
-one-before o p q n c vs h g = rw (g, h, add-one n)
+use Rattle.source_behaviours.specs.Behaviours.{newName, closedCells, countedCells, cellsSaid, NamedAt, CountIs, CellsWithin, ClosedWithin, EndFault}
 
 -- ---- a name
 
@@ -110,28 +92,6 @@ module _ (text : List ℕ) (at i c : ℕ) where
   pub row-opened : (q next : ℕ) (r : Due) → c ≡ row-word → tokensFrom text at ≡ sign q bracket ∷ tokensFrom text next → DueRead CountIs text r (countedCells i (tokensFrom text next))
       → DueRead CountIs text r (cellsSaid i c (tokensFrom text at))
   row-opened q next r e h d = rw (eq-eqb c row-word e, past-there bracket q (countedCells i) (tokensFrom text at) (tokensFrom text next) h) d
-
--- ---- a value at the start
-
-pub start-missing : (text : List ℕ) (at w : ℕ) → (signAt (tokensFrom text at) ≡ equals → ⊥) × (w ≡ faultWord outside (placeAt (tokensFrom text at)))
-    → DueRead StartWordIs text (Fault w) (startDeclared (tokensFrom text at))
-start-missing text at w h = no-sign StartWordIs text equals valueOf w (tokensFrom text at) (h .0) (h .1)
-
-abbrev ValueHere : List ℕ → ℕ → Due → Type 0
-ValueHere text at (Found p word next) = ConstantFound text at word next
-ValueHere text at (Fault w) = FaultTold (valueOf (tokensFrom text at)) w
-
-value-read : (text : List ℕ) (at : ℕ) (r : Due) → ValueHere text at r → DueRead StartWordIs text r (valueOf (tokensFrom text at))
-value-read text at (Found p word next) h = rw (h .read) (refl, h .written)
-value-read text at (Fault w) h = rw (h .turned) (h .word)
-
-pub start-found : (text : List ℕ) (at q next : ℕ) (r : Due) → tokensFrom text at ≡ sign q equals ∷ tokensFrom text next → ValueHere text next r
-    → DueRead StartWordIs text r (startDeclared (tokensFrom text at))
-start-found text at q next r h v = rw (past-there equals q valueOf (tokensFrom text at) (tokensFrom text next) h) (value-read text next r v)
-
-pub start-within : (long at p from : ℕ) (r : Due) → at ≤ p → p < from → DueWithin long from r → StartWithin long at r
-start-within long at p from (Found q v next) a b h = (omega arith, h .2, h .3)
-start-within long at p from (Fault w) a b h = tt
 
 -- ---- a word that begins a behaviour, and the end
 

@@ -1,8 +1,7 @@
--- The reader's function for a behaviour is its name, its count, its value, who may see it and its handlers, one after
--- the other; and it takes a token.
-use Prim.Native.Nat.{ℕ, zero, suc, _+_, _≤_, _<_}
-use mathlib.Core.Bool.{Bool, true, false, _||_}
-use mathlib.Core.Path.{_≡_, refl, sym, ap, _∙_}
+-- The reader's function for a behaviour is its name, its count and its body, one after the other; and it takes a token.
+use Prim.Native.Nat.{ℕ, _+_, _<_}
+use mathlib.Core.Bool.{false, _||_}
+use mathlib.Core.Path.{_≡_, refl, sym, ap}
 use mathlib.Core.List.{List, [], _∷_}
 use native.Mathlib.Omega.{arith}
 use lib.ListN.{length}
@@ -10,28 +9,20 @@ use lib.Dec.{ltb, leb, eqb}
 use borrow.Author.Tests.{eqb-true, ltb-false, ne-eqb}
 use Rattle.lib_base.specs.Basics.{pick}
 use Rattle.lib_base.proofs.Tools.{by-test, split, none-of}
-use Rattle.source_language.specs.Tokens.{SheetToken, number, name, sign, equals, bracket, unbracket, passive-word, row-word}
-use Rattle.source_language.specs.Text.{TextConstant, Phrase, Reaction, Body, passive, active, row, TextBehaviour, behaviour}
+use Rattle.source_language.specs.Tokens.{SheetToken, number, name, sign, bracket, unbracket, passive-word, row-word}
+use Rattle.source_language.specs.Text.{active, row, TextBehaviour}
 use Rattle.source_language.specs.Faults.{outside, tooLarge, offScale, tooMany, declaredTwice}
-use Rattle.source_language.specs.Limits.{among, largest, withReaction, NamesTaken, taken}
-use Rattle.source_language.specs.Reader.{Phrased, bad, got, thenPhrase, placeAt, signAt, tokensAfter, pastSign, nameDue, numberDue, valueOf, formulaOf, seenOf, manyOf, reactionOf, readReactions, passiveDeclared, stateOf, rowDeclared, kindDeclared, behaviourDeclared}
-use Rattle.source_declarations.proofs.Many.{Leaves, leaves-then}
-use Rattle.source_declarations.proofs.Shorter.{leaves-sign, leaves-name, leaves-number, leaves-value, leaves-seen}
-use Rattle.source_handlers.proofs.Phrases.{fewer-after, leaves-formula}
-use Rattle.source_handlers.proofs.Steps.{then-pick, then-sign, leaves-reaction}
-use Rattle.source_behaviours.specs.Behaviours.{newName, closedCells, countedCells, cellsSaid, bodyMade, kindRead, startDeclared}
+use Rattle.source_language.specs.Limits.{among, largest, NamesTaken, taken}
+use Rattle.source_language.specs.Reader.{Phrased, bad, got, thenPhrase, placeAt, signAt, tokensAfter, pastSign, nameDue, numberDue, stateOf, rowDeclared, kindDeclared, behaviourDeclared}
+use Rattle.source_declarations.proofs.Many.{Leaves}
+use Rattle.source_declarations.proofs.Shorter.{leaves-sign, leaves-name, leaves-number}
+use Rattle.source_handlers.proofs.Phrases.{fewer-after}
+use Rattle.source_handlers.proofs.Steps.{then-pick, then-sign}
+use Rattle.source_body.specs.Body.{bodyMade, kindRead}
+use Rattle.source_behaviours.specs.Behaviours.{newName, closedCells, countedCells, cellsSaid}
+use Rattle.source_body.proofs.Steps.{leaves-state, leaves-passive}
 
 -- ---- stages
-
--- handlers, and so the behaviour
-abbrev pub withHandlers : List (List ℕ) → List ℕ → (TextConstant → List Reaction → Body) → TextConstant → List SheetToken → Phrased TextBehaviour
-withHandlers es s make c vs =
-    thenPhrase (seenOf vs) (λ m ws. thenPhrase (readReactions es ws) (λ hs xs. got (behaviour s (make c hs) m) xs))
-
-pub state-steps : (es : List (List ℕ)) (s : List ℕ) (make : TextConstant → List Reaction → Body) (ts : List SheetToken)
-    → stateOf es s make ts ≡ thenPhrase (startDeclared ts) (withHandlers es s make)
-unfolding stateOf
-state-steps es s make ts = sym (then-sign (withHandlers es s make) equals valueOf ts)
 
 module _ (es : List (List ℕ)) (i : ℕ) (s : List ℕ) where
   abbrev madeOf : ℕ → List SheetToken → Phrased TextBehaviour
@@ -82,33 +73,6 @@ name-steps es ns i q c ts h = rw h (named ts)
     named (sign p d ∷ us) = refl
 
 -- ---- a behaviour takes a token
-
-pub leaves-reactions : (es : List (List ℕ)) (k : ℕ) (ns : List (List ℕ)) (ts : List SheetToken) (b : ℕ) → length ts < b
-    → Leaves b (manyOf (λ c. eqb c 28) (reactionOf es) withReaction k ns ts)
-unfolding manyOf
-leaves-reactions es zero ns ts b h = h
-leaves-reactions es (suc k) ns ts b h =
-    by-test (Leaves b) (eqb (signAt ts) 28)
-    (λ e. leaves-then (length ts) b (reactionOf es ns ts) (λ x us. thenPhrase (manyOf (λ c. eqb c 28) (reactionOf es) withReaction k (withReaction ns x) us) (λ xs vs. got (x ∷ xs) vs))
-    (leaves-reaction es ns ts) (λ x us g.
-    leaves-then b b (manyOf (λ c. eqb c 28) (reactionOf es) withReaction k (withReaction ns x) us) (λ xs vs. got (x ∷ xs) vs)
-    (leaves-reactions es k (withReaction ns x) us b (omega arith)) (λ xs vs i. i)))
-    (λ e. h)
-
-leaves-state : (es : List (List ℕ)) (s : List ℕ) (make : TextConstant → List Reaction → Body) (ts : List SheetToken) (b : ℕ) → length ts < b → Leaves b (stateOf es s make ts)
-unfolding stateOf
-leaves-state es s make ts b h =
-    leaves-sign b equals _ ts (λ us g.
-    leaves-then (length us) b (valueOf us) _ (leaves-value us) (λ c vs i.
-    leaves-then (suc (length vs)) b (seenOf vs) _ (leaves-seen vs) (λ m ws j.
-    leaves-then b b (readReactions es ws) _ (leaves-reactions es (length ws) [] ws b (omega arith)) (λ hs xs k. k))))
-
-leaves-passive : (s : List ℕ) (ts : List SheetToken) (b : ℕ) → length ts < b → Leaves b (passiveDeclared s ts)
-unfolding passiveDeclared
-leaves-passive s ts b h =
-    leaves-sign b equals _ ts (λ us g.
-    leaves-then (length us) b (formulaOf us) _ (leaves-formula us) (λ e vs i.
-    leaves-then (suc (length vs)) b (seenOf vs) _ (leaves-seen vs) (λ m ws j. omega arith)))
 
 leaves-row : (es : List (List ℕ)) (i : ℕ) (s : List ℕ) (ts : List SheetToken) (b : ℕ) → length ts < b → Leaves b (rowDeclared es i s ts)
 unfolding rowDeclared

@@ -1,35 +1,31 @@
 -- What the readings of behaviours promise, in terms of the reader's functions (`behaviourDeclared` and its parts).
-use Prim.Native.Nat.{ℕ, suc, _+_, _*_, _≤_, _<_}
+use Prim.Native.Nat.{ℕ, _+_, _*_, _≤_, _<_}
 use mathlib.Core.Bool.{true, false, _||_}
 use mathlib.Core.Path.{_≡_}
-use mathlib.Core.Option.{Option}
 use mathlib.Core.List.{List, [], _∷_, _++_, map}
 use lib.ListN.{length, getD, take}
 use lib.Dec.{ltb, eqb}
 use Rattle.lib_base.specs.Basics.{pick, All}
 use Rattle.spec_language.specs.Sheet.{Entry}
-use Rattle.spec_language.specs.Reading.{entry}
-use Rattle.spec_language.specs.Grammar.{field, word, encodeBehaviour, encodeBehaviours}
-use Rattle.source_language.specs.Tokens.{SheetToken, sign, equals, bracket, unbracket, passive-word, row-word}
-use Rattle.source_language.specs.Text.{TextConstant, Reaction, Body, passive, active, row, TextEvent, TextBehaviour, behaviour, Text}
-use Rattle.source_language.specs.Faults.{offScale, tooMany, declaredTwice, OrFault, fine, andThen}
-use Rattle.source_language.specs.Limits.{among, largest, bodyCells, afterAll, withEvent, NamesTaken, taken, withBehaviour}
-use Rattle.source_language.specs.Meaning.{NameMeaning, constantWord, rightsOf, itemOf, entriesOf}
-use Rattle.source_language.specs.Reader.{Phrased, bad, got, thenPhrase, signAt, pastSign, nameDue, numberDue, valueOf, manyOf, readReactions, passiveDeclared, stateOf, behaviourDeclared, behaviourBegins, textEnds}
+use Rattle.spec_language.specs.Grammar.{encodeBehaviours}
+use Rattle.source_language.specs.Tokens.{SheetToken, sign, bracket, unbracket, row-word}
+use Rattle.source_language.specs.Text.{passive, active, row, TextEvent, TextBehaviour, behaviour, Text}
+use Rattle.source_language.specs.Faults.{offScale, tooMany, declaredTwice}
+use Rattle.source_language.specs.Limits.{among, largest, bodyCells, afterAll, withEvent, taken, withBehaviour}
+use Rattle.source_language.specs.Meaning.{NameMeaning, entriesOf}
+use Rattle.source_language.specs.Reader.{Phrased, bad, got, signAt, pastSign, nameDue, numberDue, manyOf, behaviourDeclared, behaviourBegins, textEnds}
 use Rattle.source_coding.specs.Faults.{faultWord, faultIn}
 use Rattle.source_coding.specs.Places.{tokensFrom, nameAt, namesHeld}
-use Rattle.source_coding.specs.Sizes.{bodySize, viewerSize, behavioursSize}
+use Rattle.source_coding.specs.Sizes.{behavioursSize}
 use Rattle.source_due.specs.declared.Due.{Due}
 use Rattle.source_due.specs.declared.Due.the-variants as D
-use Rattle.source_declarations.specs.declared.Rights.{Rights}
-use Rattle.source_declarations.specs.declared.Rights.the-variants as G
 use Rattle.source_declarations.specs.declared.Declared.{Declared}
 use Rattle.source_declarations.specs.declared.Declared.the-variants as E
-use Rattle.source_declarations.specs.Players.{rightsNumber}
 use Rattle.source_declarations.specs.Declarations.{nameOfEvent}
 use Rattle.source_handlers.specs.declared.Part.{Part}
 use Rattle.source_handlers.specs.declared.Part.the-variants as P
-use Rattle.source_handlers.specs.Parts.{Coding, PartWritten, PartAgrees}
+use Rattle.source_handlers.specs.Parts.{Coding, PartWritten}
+use Rattle.source_body.specs.Body.{behaviourCoding}
 use Rattle.source_behaviours.specs.declared.Behaviour.{Behaviour}
 use Rattle.source_behaviours.specs.declared.Behaviour.the-variants as B
 use Rattle.source_behaviours.specs.declared.Behaviours.{Behaviours}
@@ -39,29 +35,9 @@ use Rattle.source_behaviours.specs.declared.Reading.the-variants as R
 
 -- ---- how behaviours become bytes
 
-abbrev pub behaviourSize : TextBehaviour → ℕ
-behaviourSize (behaviour s b m) = 3 + (bodySize b + viewerSize m)
-
 module _ (es : List TextEvent) (find : List ℕ → NameMeaning) where
-  abbrev pub entryMeant : TextBehaviour → OrFault Entry
-  entryMeant (behaviour s b m) = andThen (itemOf es find b) (λ x. fine (entry x (rightsOf m)))
-
-  abbrev pub behaviourCoding : Coding TextBehaviour Entry
-  behaviourCoding = record { resolved = entryMeant; encoded = encodeBehaviour; sized = behaviourSize }
-
   abbrev pub behavioursCoding : Coding (List TextBehaviour) (List Entry)
   behavioursCoding = record { resolved = entriesOf es find; encoded = encodeBehaviours; sized = behavioursSize }
-
--- a row's count, where there is one, and the value at the start
-abbrev pub startBytes : ℕ → ℕ → List ℕ
-startBytes c w = pick (eqb c 0) (field 4 (word w)) (c ∷ field 4 (word w))
-
-abbrev pub bodyTag : ℕ → ℕ
-bodyTag c = pick (eqb c 0) 3 6
-
--- who may see it, by the players' bits, 256 where nothing is said
-abbrev pub viewerBytes : ℕ → List ℕ
-viewerBytes m = pick (eqb m 256) [] (8 ∷ 0 ∷ 1 ∷ m ∷ [])
 
 -- ---- the parts of a behaviour: the reader's `behaviourDeclared`, a step at a time
 
@@ -86,17 +62,6 @@ cellsSaid i c ts = pick (eqb c row-word) (pastSign bracket (countedCells i) ts) 
 -- how many numbers it takes, by that
 abbrev pub numbersTaken : ℕ → ℕ
 numbersTaken k = pick (eqb k 0) 1 k
-
--- a row of so many cells, or an active
-abbrev pub bodyMade : ℕ → TextConstant → List Reaction → Body
-bodyMade c = pick (eqb c 0) active (row c)
-
--- a behaviour by its first word, from behind its name and count on
-abbrev pub kindRead : List (List ℕ) → List ℕ → ℕ → ℕ → List SheetToken → Phrased TextBehaviour
-kindRead es s c k ts = pick (eqb c passive-word) (passiveDeclared s ts) (stateOf es s (bodyMade k) ts)
-
-abbrev pub startDeclared : List SheetToken → Phrased TextConstant
-startDeclared ts = pastSign equals valueOf ts
 
 -- ---- what is known of a behaviour beside its bytes
 
@@ -125,9 +90,6 @@ NamedAt text p v s = s ≡ nameAt text p
 abbrev pub CountIs : ℕ → ℕ → ℕ → Type 0
 CountIs p v n = v ≡ n
 
-abbrev pub StartWordIs : ℕ → ℕ → TextConstant → Type 0
-StartWordIs p v c = v ≡ constantWord c
-
 -- a count leaves room among the 64; another behaviour takes no tokens for it
 abbrev pub CellsWithin : ℕ → ℕ → ℕ → Due → Type 0
 CellsWithin long at i (D.Fault w) = Unit {0}
@@ -137,10 +99,6 @@ abbrev pub ClosedWithin : ℕ → ℕ → ℕ → Due → Type 0
 ClosedWithin long at n (D.Fault w) = Unit {0}
 ClosedWithin long at n (D.Found p v next) = (at < next) × (next ≤ long) × (v ≡ n)
 
-abbrev pub StartWithin : ℕ → ℕ → Due → Type 0
-StartWithin long at (D.Fault w) = Unit {0}
-StartWithin long at (D.Found p v next) = (at < next) × (next ≤ long) × (v < 4294967296)
-
 abbrev pub WordWithin : ℕ → ℕ → Due → Type 0
 WordWithin long at (D.Fault w) = Unit {0}
 WordWithin long at (D.Found p c next) = (at ≤ p) × (p < next) × (next ≤ long)
@@ -149,34 +107,6 @@ WordWithin long at (D.Found p c next) = (at ≤ p) × (p < next) × (next ≤ lo
 abbrev pub WordRead : List ℕ → ℕ → Due → Type 0
 WordRead text at (D.Fault w) = behaviourBegins (signAt (tokensFrom text at)) ≡ false
 WordRead text at (D.Found p c next) = (tokensFrom text at ≡ sign p c ∷ tokensFrom text next) × (behaviourBegins c ≡ true)
-
--- an active or a row from its handlers on, whatever the events are whose names stand at these places
-abbrev pub StateRead : List ℕ → (List ℕ → NameMeaning) → List ℕ → ℕ → ℕ → ℕ → ℕ → ℕ → List ℕ → List ℕ → Part → Type 0
-StateRead text find events c start bits at n o p r =
-    (es : List TextEvent) → map (nameAt text) events ≡ map nameOfEvent es
-    → (s : List ℕ) (v : TextConstant) (m : Option (List ℕ)) → start ≡ constantWord v → bits ≡ rightsNumber m
-    → PartAgrees (behaviourCoding es find) text n o p r
-    (thenPhrase (readReactions (afterAll withEvent [] es) (tokensFrom text at)) (λ hs us. got (behaviour s (bodyMade c v hs) m) us))
-
--- of the field's bytes before the handlers, and behind them, the text before gives enough
-abbrev pub StateWithin : ℕ → ℕ → ℕ → Part → Type 0
-StateWithin long at n (P.Fault w) = Unit {0}
-StateWithin long at n (P.Done to end w) = (at ≤ to) × (to ≤ long) × (n ≤ end) × (end + at * 16 ≤ n + 16 + to * 16)
-
--- a passive, and an active or a row, from behind its name and count on
-abbrev pub PassiveRead : List ℕ → (List ℕ → NameMeaning) → ℕ → ℕ → List ℕ → List ℕ → Part → Type 0
-PassiveRead text find at n o p r = (es : List TextEvent) (s : List ℕ) → PartAgrees (behaviourCoding es find) text n o p r (passiveDeclared s (tokensFrom text at))
-
-abbrev pub StateDeclared : List ℕ → (List ℕ → NameMeaning) → List ℕ → ℕ → ℕ → ℕ → List ℕ → List ℕ → Part → Type 0
-StateDeclared text find events c at n o p r =
-    (es : List TextEvent) → map (nameAt text) events ≡ map nameOfEvent es
-    → (s : List ℕ) → PartAgrees (behaviourCoding es find) text n o p r (stateOf (afterAll withEvent [] es) s (bodyMade c) (tokensFrom text at))
-
--- a behaviour from behind its name and count on
-abbrev pub KindRead : List ℕ → (List ℕ → NameMeaning) → List ℕ → ℕ → ℕ → ℕ → ℕ → List ℕ → List ℕ → Part → Type 0
-KindRead text find events c k at n o p r =
-    (es : List TextEvent) → map (nameAt text) events ≡ map nameOfEvent es
-    → (s : List ℕ) → PartAgrees (behaviourCoding es find) text n o p r (kindRead (afterAll withEvent [] es) s c k (tokensFrom text at))
 
 -- a behaviour x was read, whose name stands at q
 pub record BehaviourWritten (es : List TextEvent) (find : List ℕ → NameMeaning) (text : List ℕ) (n : ℕ) (o p : List ℕ) (q cells to end w : ℕ) (x : TextBehaviour) (us : List SheetToken) : Type 0 where
@@ -235,10 +165,6 @@ BehavioursWithin long n params (M.Fault w) = Unit {0}
 BehavioursWithin long n params (M.Done to count end w) = (to ≤ long) × (n ≤ end) × (end ≤ to * 16) × (params ≤ count) × (count ≤ params + 64)
 
 -- what is at fault in a part is so in the whole
-abbrev pub refusedRights : Rights → Part
-refusedRights (G.Fault w) = P.Fault w
-refusedRights (G.Given to bits) = P.Fault 0
-
 abbrev pub refusedPart : Part → Behaviour
 refusedPart (P.Fault w) = B.Fault w
 refusedPart (P.Done to end w) = B.Fault 0

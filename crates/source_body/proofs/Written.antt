@@ -1,35 +1,32 @@
 -- A behaviour's bytes: what stands before its expression or handlers, these, who may see it, and the head in front make
 -- its field. Of a passive, an active and a row it is told at once.
-use Prim.Native.Nat.{ℕ, suc, _+_, _≤_, _<_}
+use Prim.Native.Nat.{ℕ, _+_, _≤_}
 use mathlib.Core.Path.{_≡_, refl, sym, ap, _∙_}
 use mathlib.Core.Option.{Option, none, some}
-use mathlib.Core.List.{List, [], _∷_, _++_, append-assoc, append-nil}
+use mathlib.Core.List.{List, _++_, append-assoc}
 use native.Mathlib.Omega.{arith}
-use lib.ListN.{length, take, length-append}
+use lib.ListN.{length, take}
 use lib.Seq.{sets, length-sets}
 use lib.Dec.{eqb}
 use borrow.Author.Tests.{ne-eqb}
-use Rattle.lib_base.specs.Basics.{pick}
 use Rattle.lib_base.proofs.Tools.{split}
 use Rattle.spec_language.specs.Sheet.{Item, Entry}
 use Rattle.spec_language.specs.Reading.{entry}
-use Rattle.spec_language.specs.Grammar.{field, tagOf, encodeItem, encodeViewer, encodeBehaviour, encodeBehaviours}
+use Rattle.spec_language.specs.Grammar.{field, tagOf, encodeItem, encodeViewer, encodeBehaviour}
 use Rattle.source_language.specs.Tokens.{SheetToken}
-use Rattle.source_language.specs.Text.{Body, TextEvent, TextBehaviour, behaviour}
-use Rattle.source_language.specs.Faults.{Kind, OrFault, fault, fine, andThen}
-use Rattle.source_language.specs.Meaning.{NameMeaning, bitsBelow, rightsOf, itemOf, entriesOf}
+use Rattle.source_language.specs.Text.{Body, TextEvent, behaviour}
+use Rattle.source_language.specs.Faults.{OrFault, fault, fine, andThen}
+use Rattle.source_language.specs.Meaning.{NameMeaning, bitsBelow, rightsOf, itemOf}
 use Rattle.source_coding.specs.Faults.{faultIn}
 use Rattle.source_coding.specs.Places.{tokensFrom}
-use Rattle.source_coding.specs.Sizes.{bodySize, viewerSize, behavioursSize}
+use Rattle.source_coding.specs.Sizes.{bodySize, viewerSize}
 use Rattle.source_declarations.specs.Players.{rightsNumber}
 use Rattle.source_declarations.proofs.Bits.{bits-below}
 use Rattle.source_declarations.proofs.Writes.{sets-taken}
 use Rattle.source_handlers.specs.Parts.{PartWritten, headed}
-use Rattle.source_handlers.proofs.Faults.{last-behind}
 use Rattle.source_handlers.proofs.Bytes.{field-framed}
-use Rattle.source_handlers.proofs.Gather.{Grows, no-fault}
-use Rattle.source_handlers.proofs.Stages.{made-fault}
-use Rattle.source_behaviours.specs.Behaviours.{behaviourSize, entryMeant, behaviourCoding, behavioursCoding, startBytes, viewerBytes}
+use Rattle.source_handlers.proofs.Gather.{no-fault}
+use Rattle.source_body.specs.Body.{behaviourCoding, startBytes, viewerBytes}
 
 -- ---- who may see it
 
@@ -88,47 +85,3 @@ module _ {X : Type 0} (enc : X → List ℕ) (wrap : X → Item) (t : ℕ) (befo
         names = rw ie (hw ∙ sym (twice-made a wrap (rightsOf v)));
         bytes = rw ie (entry-bytes (rightsOf v) (viewerBytes bits) n m end stop o p a vb hm f (omega arith) l few hs);
       }
-
--- ---- behaviours one after the other
-
-module _ (es : List TextEvent) (find : List ℕ → NameMeaning) where
-  alone : (a : OrFault Item) (v : Option ℕ)
-      → andThen a (λ x. andThen (fine []) (λ xs. fine (entry x v ∷ xs))) ≡ andThen (andThen a (λ x. fine (entry x v))) (λ y. fine (y ∷ []))
-  alone (fault k p) v = refl
-  alone (fine x) v = refl
-
-  behind : (a : OrFault Item) (v : Option ℕ) (b : OrFault (List Entry))
-      → andThen a (λ x. andThen b (λ xs. fine (entry x v ∷ xs))) ≡ andThen (andThen a (λ x. fine (entry x v))) (λ x. andThen b (λ xs. fine (x ∷ xs)))
-  behind (fault k p) v b = refl
-  behind (fine x) v b = refl
-
-  entries-more : (bs : List TextBehaviour) (b : TextBehaviour)
-      → entriesOf es find (bs ++ (b ∷ [])) ≡ andThen (entriesOf es find bs) (λ ys. andThen (entryMeant es find b) (λ y. fine (ys ++ (y ∷ []))))
-  unfolding entriesOf
-  entries-more [] (behaviour s x m) = alone (itemOf es find x) (rightsOf m)
-  entries-more (behaviour s x m ∷ bs) b =
-      behind (itemOf es find x) (rightsOf m) (entriesOf es find (bs ++ (b ∷ [])))
-      ∙ rw (entries-more bs b) (last-behind (entryMeant es find (behaviour s x m)) (entriesOf es find bs) (entryMeant es find b))
-      ∙ ap (λ a. andThen a (λ ys. andThen (entryMeant es find b) (λ y. fine (ys ++ (y ∷ []))))) (sym (behind (itemOf es find x) (rightsOf m) (entriesOf es find bs)))
-
-encoded-more : (ys : List Entry) (y : Entry) → encodeBehaviours (ys ++ (y ∷ [])) ≡ encodeBehaviours ys ++ encodeBehaviour y
-unfolding encodeBehaviours
-encoded-more [] y = append-nil (encodeBehaviour y)
-encoded-more (x ∷ ys) y = ap (λ bs. encodeBehaviour x ++ bs) (encoded-more ys y) ∙ sym (append-assoc (encodeBehaviour x) (encodeBehaviours ys) (encodeBehaviour y))
-
-sized-more : (bs : List TextBehaviour) (b : TextBehaviour) → behavioursSize (bs ++ (b ∷ [])) ≡ behavioursSize bs + behaviourSize b
-unfolding behavioursSize
-sized-more [] (behaviour s x m) = omega arith
-sized-more (behaviour s x m ∷ bs) b = omega (arith, sized-more bs b)
-
-pub behaviours-grow : (es : List TextEvent) (find : List ℕ → NameMeaning) → Grows (behaviourCoding es find) (behavioursCoding es find)
-unfolding entriesOf encodeBehaviours behavioursSize
-behaviours-grow es find =
-    record {
-      none-resolved = refl;
-      none-encoded = refl;
-      none-sized = refl;
-      more-resolved = entries-more es find;
-      more-encoded = encoded-more;
-      more-sized = sized-more;
-    }

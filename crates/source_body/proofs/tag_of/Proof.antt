@@ -1,7 +1,7 @@
 -- By the branches of the definition.
 use Rattle.lib_base.proofs.Pick.{code}
-use Rattle.source_behaviours.proofs.tag_of.Statement.{statement}
-use Rattle.source_behaviours.proofs.tag_of.Tie as tie
+use Rattle.source_body.proofs.tag_of.Statement.{statement}
+use Rattle.source_body.proofs.tag_of.Tie as tie
 
 returns : tie.Need-returns
 returns c = search code depth 12

@@ -1,7 +1,7 @@
 -- Stage by stage: `=`, the formula, who may see it, and the head in front.
-use Rattle.source_behaviours.proofs.State.{passive-unsigned, passive-formula, passive-unseen, passive-done}
-use Rattle.source_behaviours.proofs.Written.{viewer-few}
-use Rattle.source_behaviours.specs.Behaviours.{refusedRights, viewerBytes}
+use Rattle.source_body.proofs.State.{passive-unsigned, passive-formula, passive-unseen, passive-done}
+use Rattle.source_body.proofs.Written.{viewer-few}
+use Rattle.source_body.specs.Body.{refusedRights, viewerBytes}
 use Rattle.source_handlers.proofs.Bytes.{headed-long}
 use Rattle.source_handlers.specs.Parts.{refusedRead}
 use Rattle.source_declarations.specs.Written.{dueFault}
@@ -11,8 +11,8 @@ use mathlib.Core.Path.{ap, _∙_}
 use native.Mathlib.Omega.{arith}
 use Rattle.source_coding.specs.Places.{meaningIn}
 use borrow.Author.Needs.{needs}
-use Rattle.source_behaviours.proofs.passive_at.Statement.{statement}
-use Rattle.source_behaviours.proofs.passive_at.Tie as tie
+use Rattle.source_body.proofs.passive_at.Statement.{statement}
+use Rattle.source_body.proofs.passive_at.Tie as tie
 
 sign-due-requires : tie.Need-sign-due-requires
 sign-due-requires c κs = search needs

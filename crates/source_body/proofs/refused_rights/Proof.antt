@@ -1,7 +1,7 @@
 -- By the two cases.
 use borrow.Author.Needs.{needs}
-use Rattle.source_behaviours.proofs.refused_rights.Statement.{statement}
-use Rattle.source_behaviours.proofs.refused_rights.Tie as tie
+use Rattle.source_body.proofs.refused_rights.Statement.{statement}
+use Rattle.source_body.proofs.refused_rights.Tie as tie
 
 enum-known-rights : tie.Need-enum-known-rights
 enum-known-rights c = search needs

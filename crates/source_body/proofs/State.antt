@@ -36,10 +36,10 @@ use Rattle.source_handlers.specs.Parts.{Coding, PartWritten, PartAgrees, PartWi
 use Rattle.source_handlers.specs.Handlers.{handlersCoding, HandlersRead}
 use Rattle.source_handlers.proofs.Events.{past-there}
 use Rattle.source_handlers.proofs.Stages.{due-fails, due-goes, formula-fails, formula-goes}
-use Rattle.source_behaviours.specs.Behaviours.{behaviourCoding, startBytes, bodyTag, viewerBytes, bodyMade, kindRead, startDeclared, StartWordIs, StateRead, PassiveRead, StateDeclared, KindRead, StateWithin}
-use Rattle.source_behaviours.proofs.Steps.{withHandlers, state-steps}
-use Rattle.source_behaviours.proofs.Stages.{rights-fail, rights-go, list-fails, list-goes}
-use Rattle.source_behaviours.proofs.Written.{entry-written}
+use Rattle.source_body.specs.Body.{behaviourCoding, startBytes, bodyTag, viewerBytes, bodyMade, kindRead, startDeclared, StartWordIs, StateRead, PassiveRead, StateDeclared, KindRead, StateWithin}
+use Rattle.source_body.proofs.Steps.{withHandlers, state-steps}
+use Rattle.source_body.proofs.Stages.{rights-fail, rights-go, list-fails, list-goes}
+use Rattle.source_body.proofs.Written.{entry-written}
 
 -- ---- an active or a row
 

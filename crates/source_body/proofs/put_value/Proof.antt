@@ -1,9 +1,9 @@
 -- Seven bytes in a row.
 use Prim.Native.Nat.{_/_, _%_}
-use Rattle.source_behaviours.proofs.Pieces.{seven-in-a-row}
+use Rattle.source_body.proofs.Pieces.{seven-in-a-row}
 use borrow.Author.Needs.{needs}
-use Rattle.source_behaviours.proofs.put_value.Statement.{statement}
-use Rattle.source_behaviours.proofs.put_value.Tie as tie
+use Rattle.source_body.proofs.put_value.Statement.{statement}
+use Rattle.source_body.proofs.put_value.Tie as tie
 
 put-byte-requires : tie.Need-put-byte-requires
 put-byte-requires c κs = search needs

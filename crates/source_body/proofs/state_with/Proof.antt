@@ -1,7 +1,7 @@
 -- What stands before the handlers, these, who may see it, and the head in front.
-use Rattle.source_behaviours.proofs.State.{state-fails, state-done}
-use Rattle.source_behaviours.proofs.Written.{viewer-few, start-few}
-use Rattle.source_behaviours.specs.Behaviours.{startBytes, viewerBytes, bodyTag}
+use Rattle.source_body.proofs.State.{state-fails, state-done}
+use Rattle.source_body.proofs.Written.{viewer-few, start-few}
+use Rattle.source_body.specs.Body.{startBytes, viewerBytes, bodyTag}
 use Rattle.source_handlers.proofs.Bytes.{headed-long}
 use lib.Seq.{length-sets}
 use lib.ListN.{length}
@@ -9,8 +9,8 @@ use mathlib.Core.Path.{ap, _∙_}
 use native.Mathlib.Omega.{arith}
 use Rattle.source_coding.specs.Places.{meaningIn}
 use borrow.Author.Needs.{needs}
-use Rattle.source_behaviours.proofs.state_with.Statement.{statement}
-use Rattle.source_behaviours.proofs.state_with.Tie as tie
+use Rattle.source_body.proofs.state_with.Statement.{statement}
+use Rattle.source_body.proofs.state_with.Tie as tie
 
 add-put-start : tie.Need-add-put-start
 add-put-start c = search needs

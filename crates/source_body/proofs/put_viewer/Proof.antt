@@ -1,11 +1,11 @@
 -- Four bytes in a row, or none.
-use Rattle.source_behaviours.proofs.Pieces.{four-in-a-row}
+use Rattle.source_body.proofs.Pieces.{four-in-a-row}
 use native.Mathlib.Omega.{arith}
 use mathlib.Core.Path.{refl}
 use borrow.Author.Tests.{eq-eqb, ne-eqb}
 use borrow.Author.Needs.{needs}
-use Rattle.source_behaviours.proofs.put_viewer.Statement.{statement}
-use Rattle.source_behaviours.proofs.put_viewer.Tie as tie
+use Rattle.source_body.proofs.put_viewer.Statement.{statement}
+use Rattle.source_body.proofs.put_viewer.Tie as tie
 
 returns : tie.Need-returns
 returns c =

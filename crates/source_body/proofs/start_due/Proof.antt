@@ -1,8 +1,8 @@
 -- `=` and the value behind it.
-use Rattle.source_behaviours.proofs.Pieces.{start-missing, start-found, start-within}
+use Rattle.source_body.proofs.Pieces.{start-missing, start-found, start-within}
 use borrow.Author.Needs.{needs}
-use Rattle.source_behaviours.proofs.start_due.Statement.{statement}
-use Rattle.source_behaviours.proofs.start_due.Tie as tie
+use Rattle.source_body.proofs.start_due.Statement.{statement}
+use Rattle.source_body.proofs.start_due.Tie as tie
 
 sign-due-requires : tie.Need-sign-due-requires
 sign-due-requires c κs = search needs

@@ -1,11 +1,11 @@
 -- With a count and without one.
 use Rattle.spec_language.specs.Grammar.{field, word}
-use Rattle.source_behaviours.proofs.Pieces.{one-before}
+use Rattle.source_body.proofs.Pieces.{one-before}
 use mathlib.Core.Path.{refl}
 use borrow.Author.Tests.{eq-eqb, ne-eqb}
 use borrow.Author.Needs.{needs}
-use Rattle.source_behaviours.proofs.put_start.Statement.{statement}
-use Rattle.source_behaviours.proofs.put_start.Tie as tie
+use Rattle.source_body.proofs.put_start.Statement.{statement}
+use Rattle.source_body.proofs.put_start.Tie as tie
 
 put-value-requires : tie.Need-put-value-requires
 put-value-requires c κs = search needs

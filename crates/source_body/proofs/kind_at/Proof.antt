@@ -1,9 +1,9 @@
 -- By the first word.
-use Rattle.source_behaviours.proofs.State.{kind-passive, kind-state}
+use Rattle.source_body.proofs.State.{kind-passive, kind-state}
 use Rattle.source_coding.specs.Places.{meaningIn}
 use borrow.Author.Needs.{needs}
-use Rattle.source_behaviours.proofs.kind_at.Statement.{statement}
-use Rattle.source_behaviours.proofs.kind_at.Tie as tie
+use Rattle.source_body.proofs.kind_at.Statement.{statement}
+use Rattle.source_body.proofs.kind_at.Tie as tie
 
 passive-at-requires : tie.Need-passive-at-requires
 passive-at-requires c κs =

@@ -1,13 +1,13 @@
 -- Stage by stage: the value, who may see it, and the handlers.
-use Rattle.source_behaviours.proofs.State.{start-refused, seen-refused, state-read, state-within}
-use Rattle.source_behaviours.specs.Behaviours.{refusedRights}
+use Rattle.source_body.proofs.State.{start-refused, seen-refused, state-read, state-within}
+use Rattle.source_body.specs.Body.{refusedRights}
 use Rattle.source_declarations.specs.Written.{dueFault}
 use mathlib.Core.Path.{ap, _∙_}
 use native.Mathlib.Omega.{arith}
 use Rattle.source_coding.specs.Places.{meaningIn}
 use borrow.Author.Needs.{needs}
-use Rattle.source_behaviours.proofs.state_at.Statement.{statement}
-use Rattle.source_behaviours.proofs.state_at.Tie as tie
+use Rattle.source_body.proofs.state_at.Statement.{statement}
+use Rattle.source_body.proofs.state_at.Tie as tie
 
 start-due-requires : tie.Need-start-due-requires
 start-due-requires c κs = search needs

@@ -1,0 +1,5 @@
+pub mod Steps
+pub mod Stages
+pub mod Written
+pub mod Pieces
+pub mod State
