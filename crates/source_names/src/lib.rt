@@ -1,27 +1,108 @@
-// Names by the places where they stand in a text: whether two are the same, and which of several is one.
+// Names by the places where they stand in a text: whether two are the same, and which of several is one. The bytes of
+// the name that is looked up are counted once. Each other name is compared with it in blocks from the end on, all bytes
+// of a block at once, so that it takes about as long wherever the two differ.
 use source_tokens::byte_at;
 use source_tokens::in_word;
+use source_tokens::word_end;
 ghost use mathlib.Core.Path.{_≡_};
-ghost use Prim.Native.Nat.{_≤_};
+ghost use Prim.Native.Nat.{_+_, _≤_, _<_};
 ghost use lib.ListN.{length};
 ghost use Rattle.source_language.specs.Tokens.{same};
 ghost use Rattle.source_language.specs.Limits.{among};
 ghost use Rattle.source_coding.specs.Places.{nameAt, namesHeld, indexIn};
+ghost use Rattle.source_names.specs.Bytes.{sameBytes};
 
-// The same name stands at both places.
-fn same_name(text: &[u8], p: usize, q: usize) -> bool
-    ensures { λ r. ⌜ r ≡ same (nameAt (now (text .entry)) p) (nameAt (now (text .entry)) q) ⌝ }
+// The bytes of a block: the most that a name has, else one.
+const LARGE: usize = 16;
+
+const MIDDLE: usize = 8;
+
+const SMALL: usize = 4;
+
+// How many bytes the name at a place has.
+fn name_size(text: &[u8], p: usize) -> usize
+    ensures { λ r. ⌜ r ≡ length (nameAt (now (text .entry)) p) ⌝ }
 {
-    let mut a = p;
-    let mut b = q;
-    while in_word(byte_at(text, a)) {
-        if byte_at(text, a) != byte_at(text, b) {
+    if text.len() < p {
+        return 0;
+    }
+    word_end(text, p) - p
+}
+
+// The n bytes at both places are the same. All are read, also behind a difference, so that they can be read at once.
+fn alike(text: &[u8], p: usize, q: usize, n: usize) -> bool
+    requires { ⌜ p + n ≤ length (now text) ⌝ }
+    requires { ⌜ q + n ≤ length (now text) ⌝ }
+    ensures { λ r. ⌜ r ≡ sameBytes (now (text .entry)) p q n ⌝ }
+{
+    let mut r = true;
+    let mut k = 0;
+    while k < n {
+        r = r & (text[p + k] == text[q + k]);
+        k = k + 1;
+    }
+    r
+}
+
+// The same in blocks, the last one first. The first one begins with the bytes, and may have some of the next one.
+fn alike_in_blocks(text: &[u8], p: usize, q: usize, n: usize, size: usize) -> bool
+    requires { ⌜ p + n ≤ length (now text) ⌝ }
+    requires { ⌜ q + n ≤ length (now text) ⌝ }
+    requires { ⌜ size ≤ n ⌝ }
+    requires { ⌜ 0 < size ⌝ }
+    ensures { λ r. ⌜ r ≡ sameBytes (now (text .entry)) p q n ⌝ }
+{
+    let mut left = n;
+    while size < left {
+        left = left - size;
+        if !alike(text, p + left, q + left, size) {
             return false;
         }
-        a = a + 1;
-        b = b + 1;
     }
-    !in_word(byte_at(text, b))
+    alike(text, p, q, size)
+}
+
+// The same with blocks of the size that is fit for n bytes. Most names differ in the last byte, which is read first.
+fn same_bytes(text: &[u8], p: usize, q: usize, n: usize) -> bool
+    requires { ⌜ p + n ≤ length (now text) ⌝ }
+    requires { ⌜ q + n ≤ length (now text) ⌝ }
+    requires { ⌜ 0 < n ⌝ }
+    ensures { λ r. ⌜ r ≡ sameBytes (now (text .entry)) p q n ⌝ }
+{
+    let last = n - 1;
+    if text[p + last] != text[q + last] {
+        return false;
+    }
+    if LARGE <= n {
+        return alike_in_blocks(text, p, q, n, LARGE);
+    }
+    if MIDDLE <= n {
+        return alike_in_blocks(text, p, q, n, MIDDLE);
+    }
+    if SMALL <= n {
+        return alike_in_blocks(text, p, q, n, SMALL);
+    }
+    alike_in_blocks(text, p, q, n, 1)
+}
+
+// The same name stands at both places; the one at p has n bytes.
+fn same_name(text: &[u8], p: usize, n: usize, q: usize) -> bool
+    requires { ⌜ n ≡ length (nameAt (now text) p) ⌝ }
+    ensures { λ r. ⌜ r ≡ same (nameAt (now (text .entry)) p) (nameAt (now (text .entry)) q) ⌝ }
+{
+    if n == 0 {
+        return !in_word(byte_at(text, q));
+    }
+    if text.len() < q {
+        return false;
+    }
+    if text.len() - q < n {
+        return false;
+    }
+    if !same_bytes(text, p, q, n) {
+        return false;
+    }
+    !in_word(byte_at(text, q + n))
 }
 
 // The name at p is among those at the first n places.
@@ -29,24 +110,22 @@ pub fn is_among(text: &[u8], p: usize, places: &[usize], n: usize) -> bool
     requires { ⌜ n ≤ length (now places) ⌝ }
     ensures { λ r. ⌜ r ≡ among (nameAt (now (text .entry)) p) (namesHeld (now (text .entry)) (now (places .entry)) n) ⌝ }
 {
-    let mut i = n;
-    while 0 < i {
-        i = i - 1;
-        if same_name(text, p, places[i]) {
-            return true;
-        }
-    }
-    false
+    index_of(text, p, &places[0..n]) < n
 }
 
-// Which of the names at these places is the one at p, from 0; their number where none is.
+// Which of the names at these places is the one at p, from 0; their number where none is. Nothing is counted where no
+// names are known yet.
 pub fn index_of(text: &[u8], p: usize, places: &[usize]) -> usize
     ensures { λ r. ⌜ r ≡ indexIn (now (text .entry)) (now (places .entry)) (nameAt (now (text .entry)) p) ⌝ }
     ensures { λ r. ⌜ r ≤ length (now (places .entry)) ⌝ }
 {
+    if places.len() == 0 {
+        return 0;
+    }
+    let n = name_size(text, p);
     let mut i = 0;
     while i < places.len() {
-        if same_name(text, p, places[i]) {
+        if same_name(text, p, n, places[i]) {
             return i;
         }
         i = i + 1;

@@ -124,7 +124,7 @@ fn pass_over(text: &[u8], at: usize) -> usize
 }
 
 // Where the word ends that begins at a place.
-fn word_end(text: &[u8], at: usize) -> usize
+pub fn word_end(text: &[u8], at: usize) -> usize
     requires { ⌜ at ≤ length (now text) ⌝ }
     ensures { λ r. ⌜ r ≡ at + length (runOfKind inWord (drop at (now (text .entry)))) ⌝ }
 {

@@ -1,85 +1,45 @@
--- The loop goes on while both places have the same byte of a word, as `same` does on the names there.
-use Prim.Native.Nat.{ℕ, _-_}
-use mathlib.Core.Bool.{Bool, not}
-use mathlib.Core.Path.{_≡_, sym, ap, _∙_}
+-- Where the text has room for as many bytes at the second place, these and the one behind them tell.
+use mathlib.Core.Bool.{not}
+use mathlib.Core.Path.{sym, ap, _∙_}
 use native.Mathlib.Omega.{arith}
 use borrow.Author.Needs.{needs}
-use lib.ListN.{length}
+use borrow.Author.Tests.{not-true, not-false}
 use Rattle.source_language.specs.Tokens.{inWord}
-use Rattle.source_names.proofs.Laws.{SameSoFar, same-start, both-inside, same-turn, same-stop, same-end}
+use Rattle.source_names.proofs.Laws.{name-inside, names-unlike, names-alike, no-name, no-room}
 use Rattle.source_names.proofs.same_name.Statement.{statement}
 use Rattle.source_names.proofs.same_name.Tie as tie
 
-abbrev Inv-loop : tie.InvT-loop
-Inv-loop text p q a₀ b₀ a b = SameSoFar text p q a b
-
-abbrev μ-loop : tie.MeasureT-loop
-μ-loop text p q a₀ b₀ a b = length text - a
-
--- what the test of a byte says
-tested : {x y : ℕ} {r t : Bool} → r ≡ inWord x → x ≡ y → r ≡ t → inWord y ≡ t
-tested e d g = sym (ap inWord d) ∙ sym e ∙ g
-
-loop-holds : tie.Need-loop-holds Inv-loop μ-loop
-loop-holds c = same-start _ _ _
-
--- two bytes read are alike
-alike : {x y u v : ℕ} → x ≡ u → y ≡ v → x ≡ y → u ≡ v
-alike d e g = sym d ∙ g ∙ e
-
-returns : tie.Need-returns Inv-loop μ-loop
+returns : tie.Need-returns
 returns c =
-    let at-test = c .before .before .before in
-    let at-word = at-test .before in
-    let at-byte = at-word .before in
-    same-stop (at-byte .before .loop .inv) (tested (at-word .in-word .ensures) (at-byte .byte-at .ensures) (at-test .if1 .taken))
-    (λ z. c .if2 .taken (c .before .before .byte-at2 .ensures ∙ z ∙ sym (c .before .byte-at3 .ensures)))
+    ap not (c .in-word .ensures ∙ ap inWord (c .before .byte-at .ensures))
+    ∙ no-name _ _ _ _ (c .before .before .before .before .pre) (c .before .before .if1 .taken)
 
-add-a : tie.Need-add-a Inv-loop μ-loop
-add-a c =
-    let at-test = c .before .before .before in
-    let at-word = at-test .before in
-    let at-byte = at-word .before in
-    let w = both-inside (at-byte .before .loop .inv) (tested (at-word .in-word .ensures) (at-byte .byte-at .ensures) (at-test .if1 .taken))
-    (alike (c .before .before .byte-at2 .ensures) (c .before .byte-at3 .ensures) (c .if2 .left)) in
-    omega (arith, w .0, w .1)
+returns-2 : tie.Need-returns-2
+returns-2 c = no-room _ _ _ _ (c .before .before .before .pre) (omega arith)
 
-add-b : tie.Need-add-b Inv-loop μ-loop
-add-b c =
-    let at-test = c .before .before .before in
-    let at-word = at-test .before in
-    let at-byte = at-word .before in
-    let w = both-inside (at-byte .before .loop .inv) (tested (at-word .in-word .ensures) (at-byte .byte-at .ensures) (at-test .if1 .taken))
-    (alike (c .before .before .byte-at2 .ensures) (c .before .byte-at3 .ensures) (c .if2 .left)) in
-    omega (arith, w .0, w .1)
+returns-3 : tie.Need-returns-3
+returns-3 c = no-room _ _ _ _ (c .before .before .before .before .pre) (omega arith)
 
-loop-less : tie.Need-loop-less Inv-loop μ-loop
-loop-less c =
-    let at-test = c .before .before .before in
-    let at-word = at-test .before in
-    let at-byte = at-word .before in
-    let w = both-inside (at-byte .before .loop .inv) (tested (at-word .in-word .ensures) (at-byte .byte-at .ensures) (at-test .if1 .taken))
-    (alike (c .before .before .byte-at2 .ensures) (c .before .byte-at3 .ensures) (c .if2 .left)) in
-    omega (arith, w .0, w .1)
+same-bytes-requires : tie.Need-same-bytes-requires
+same-bytes-requires c κs =
+    let start = c .before .before .before .before in
+    let inside = name-inside (start .args .text .now) (start .args .p) in
+    (omega arith, (omega arith, omega arith))
 
-loop-again : tie.Need-loop-again Inv-loop μ-loop
-loop-again c =
-    let at-test = c .before .before .before in
-    let at-word = at-test .before in
-    let at-byte = at-word .before in
-    same-turn (at-byte .before .loop .inv) (tested (at-word .in-word .ensures) (at-byte .byte-at .ensures) (at-test .if1 .taken))
-    (alike (c .before .before .byte-at2 .ensures) (c .before .byte-at3 .ensures) (c .if2 .left))
+returns-4 : tie.Need-returns-4
+returns-4 c =
+    names-unlike _ _ _ _ (c .before .before .before .before .before .before .pre)
+    (sym (c .before .same-bytes .ensures) ∙ not-true (c .before .same-bytes .result) (c .if4 .taken))
 
-returns-2 : tie.Need-returns-2 Inv-loop μ-loop
-returns-2 c =
+returns-5 : tie.Need-returns-5
+returns-5 c =
     let at-test = c .before .before in
-    let at-word = at-test .before in
-    let at-byte = at-word .before in
-    ap not (c .in-word2 .ensures ∙ ap inWord (c .before .byte-at4 .ensures))
-    ∙ same-end (at-byte .before .loop .inv) (tested (at-word .in-word .ensures) (at-byte .byte-at .ensures) (at-test .if1 .left))
+    ap not (c .in-word2 .ensures ∙ ap inWord (c .before .byte-at2 .ensures))
+    ∙ names-alike _ _ _ _ (at-test .before .before .before .before .before .before .pre)
+    (sym (at-test .before .same-bytes .ensures) ∙ not-false (at-test .before .same-bytes .result) (at-test .if4 .left))
 
 pub same-name-spec : {M : Type 1} → statement M
 same-name-spec =
     tie.close
-    (tie.spec Inv-loop μ-loop loop-holds (λ c κs. search needs) (λ c κs. search needs) (λ c κs. search needs)
-    (λ c κs. search needs) returns add-a add-b loop-less loop-again (λ c κs. search needs) (λ c κs. search needs) returns-2)
+    (tie.spec (λ c κs. search needs) (λ c κs. search needs) returns returns-2 (λ c. search needs) returns-3 same-bytes-requires returns-4
+    (λ c. search needs) (λ c κs. search needs) (λ c κs. search needs) returns-5)
