@@ -3,6 +3,7 @@ pub mod Rights
 pub mod Declarations
 pub mod Needed
 pub mod Places
+pub mod Heads
 pub mod Writing
 pub mod Applied
 pub mod Turns

@@ -1,3 +1,4 @@
 pub mod Walk
+pub mod Heads
 pub mod Put
 pub mod Describing

@@ -1,7 +1,8 @@
 // A sheet back as text: the sheet is judged as by compile, then its bytes are walked from front to back and each token
 // handed to the pen; once to count, and again into the buffer if it has room. Time: each walk is one pass over the
-// bytes, the handlers' twice; at each name at most 64 fields are passed over to find the first cell of its row. A place
-// is how many bytes stand before it; a byte past the end counts as 0.
+// bytes, the handlers' twice; before both, one pass to count the parameters, and one over the behaviours' fields that
+// notes the first cell of each behaviour's row, so that a name is looked up. A place is how many bytes stand before it;
+// a byte past the end counts as 0.
 use source_coding::faults;
 use source_coding::limits as texts;
 use source_coding::signs;
@@ -22,13 +23,15 @@ ghost use Rattle.text_formula.specs.Reader.{level as tightness};
 ghost use Rattle.spec_language.specs.Reading.{phaseOf};
 ghost use Rattle.source_language.specs.Tokens.{number, name, sign};
 ghost use Rattle.source_rendering.specs.Describe.{digits, describedConstant, parametersFrom, mark, unless, valueTokens, phaseTokens, parameterTokens};
-ghost use Rattle.source_describe.specs.Walk.{afterField, wordInFront, pastFields, cellsInFront, firstCell, cellTokens, untilTag, tagState, neededAfter, neededIn, headTokens, betweenTokens, firstLevel, secondLevel, leafTokens, termTokens, handlerTokens, handlersTokens, bitTokens, rightTokens, viewerTokens, activeTokens, passiveTokens, rowTokens, stateTokens, entryTokens, entriesTokens, senderTokens, signalTokens, signalsTokens, behavioursIn, sheetTokens};
+ghost use Rattle.source_describe.specs.Walk.{afterField, wordInFront, pastFields, cellsInFront, cellTokens, untilTag, tagState, neededAfter, neededIn, headTokens, betweenTokens, firstLevel, secondLevel, leafTokens, termTokens, handlerTokens, handlersTokens, bitTokens, rightTokens, viewerTokens, activeTokens, passiveTokens, rowTokens, stateTokens, entryTokens, entriesTokens, senderTokens, signalTokens, signalsTokens, behavioursIn, sheetTokens};
+ghost use Rattle.source_describe.specs.Heads.{OwnFrom, CellsNoted, HeadsOf};
 ghost use Rattle.source_describe.specs.Put.{TokensPut, startPen};
 ghost use Rattle.source_describe.specs.Describing.{describeOn};
 
 // A field's header: its tag and the two bytes of its length.
 const HEADER: usize = 3;
 
+// How many numbers a byte can be.
 const BYTE: usize = 256;
 
 // Byte k from a place on.
@@ -108,28 +111,60 @@ fn cells_at(s: &[u8], at: usize) -> usize
     1
 }
 
-// The first cell of behaviour i's field, where the behaviours stand from the place `first` on.
-fn first_cell(s: &[u8], first: usize, i: usize) -> usize
-    requires { ⌜ (first ≤ length (now s)) × (i < 256) ⌝ }
-    ensures { λ r. ⌜ r ≡ firstCell (length (now (s .entry))) 0 (drop first (now (s .entry))) i ⌝ }
-    ensures { λ r. ⌜ r ≤ i ⌝ }
+// The highest number that a byte names.
+const LAST_NUMBER: usize = BYTE - 1;
+
+// Each behaviour as the first cell of its own field.
+fn own_heads() -> [u8; BYTE]
+    ensures { λ r. ⌜ OwnFrom r 0 ⌝ }
 {
+    let mut heads = [0u8; BYTE];
+    let mut i = 0usize;
+    while i < BYTE {
+        heads[i] = i as u8;
+        i += 1;
+    }
+    heads
+}
+
+// Notes j as the first cell of the n behaviours from j on.
+fn note_cells(heads: &mut [u8; BYTE], j: usize, n: usize)
+    requires { ⌜ (j < 256) × (n ≤ 255) × (length (now heads) ≡ 256) ⌝ }
+    ensures { λ _. ⌜ CellsNoted (now (heads .entry)) (now (heads .exit)) j n ⌝ }
+{
+    let mut i = j;
+    while i < BYTE {
+        if j + n <= i {
+            return;
+        }
+        heads[i] = j as u8;
+        i += 1;
+    }
+}
+
+// The first cell of each behaviour's field, where the behaviours stand from the place `first` on.
+fn heads_from(s: &[u8], first: usize) -> [u8; BYTE]
+    requires { ⌜ first ≤ length (now s) ⌝ }
+    ensures { λ r. ⌜ HeadsOf (now (s .entry)) first r ⌝ }
+{
+    let mut heads = own_heads();
     let mut at = first;
     let mut j = 0usize;
     let mut left = s.len();
     while 0 < left {
         if at == s.len() {
-            return i;
+            return heads;
+        }
+        if LAST_NUMBER < j {
+            return heads;
         }
         let n = cells_at(s, at);
-        if i < j + n {
-            return j;
-        }
+        note_cells(&mut heads, j, n);
         j += n;
         at = after_field(s, at);
         left -= 1;
     }
-    i
+    heads
 }
 
 // How many bytes stand behind a tag before the next one: the length alone; a row's cells, or a byte of value, beside
@@ -293,9 +328,10 @@ fn put_cell(out: &mut [u8], pen: Pen, h: usize, i: usize) -> Pen
     put_sign(out, counted, signs::UNBRACKET)
 }
 
-// An expression that is no application: a constant, a name or a parameter.
-fn put_leaf(s: &[u8], first: usize, at: usize, out: &mut [u8], pen: Pen) -> Pen
-    requires { ⌜ (first ≤ length (now s)) × (at ≤ length (now s)) ⌝ }
+// An expression that is no application: a constant, a name or a parameter. The behaviours stand from `first` on, as
+// the contract says; which first cells they have is looked up in `heads`. So it is in what follows.
+fn put_leaf(s: &[u8], first: usize, heads: &[u8; BYTE], at: usize, out: &mut [u8], pen: Pen) -> Pen
+    requires { ⌜ (first ≤ length (now s)) × (at ≤ length (now s)) × HeadsOf (now s) first (now heads) ⌝ }
     requires { ⌜ pen .at ≤ 65548 ⌝ }
     ensures { λ r. ⌜ TokensPut (now (out .entry)) (now (out .exit)) pen r (leafTokens (length (now (s .entry))) (drop first (now (s .entry))) (drop at (now (s .entry)))) ⌝ }
 {
@@ -305,7 +341,7 @@ fn put_leaf(s: &[u8], first: usize, at: usize, out: &mut [u8], pen: Pen) -> Pen
     }
     let i = byte_from(s, at, HEADER) as usize;
     if tag == tags::NAME {
-        return put_cell(out, pen, first_cell(s, first, i), i);
+        return put_cell(out, pen, heads[i] as usize, i);
     }
     put_name(out, pen, PARAMETER, i)
 }
@@ -406,6 +442,9 @@ fn put_between(out: &mut [u8], pen: Pen, f: u8) -> Pen
     put_sign(out, pen, f)
 }
 
+// The level of the loosest operators: where it is due, nothing is in brackets.
+const LOOSEST: u64 = levels::DISJUNCTION;
+
 // An application's function stands behind its header, its arguments behind that.
 const APPLIED: usize = 4;
 
@@ -413,13 +452,14 @@ const APPLIED: usize = 4;
 fn put_term(
     s: &[u8],
     first: usize,
+    heads: &[u8; BYTE],
     at: usize,
     room: usize,
     level: u64,
     out: &mut [u8],
     pen: Pen,
 ) -> Pen
-    requires { ⌜ (first ≤ length (now s)) × (at ≤ length (now s)) ⌝ }
+    requires { ⌜ (first ≤ length (now s)) × (at ≤ length (now s)) × HeadsOf (now s) first (now heads) ⌝ }
     requires { ⌜ pen .at ≤ 65548 ⌝ }
     ensures { λ r. ⌜ TokensPut (now (out .entry)) (now (out .exit)) pen r (termTokens (length (now (s .entry))) (drop first (now (s .entry))) room level (drop at (now (s .entry)))) ⌝ }
 {
@@ -427,24 +467,24 @@ fn put_term(
         return pen;
     }
     if byte_from(s, at, 0) != tags::APPLICATION {
-        return put_leaf(s, first, at, out, pen);
+        return put_leaf(s, first, heads, at, out, pen);
     }
     let f = byte_from(s, at, HEADER);
     let one = onward(s, at, APPLIED);
     let headed = put_head(out, pen, f, level);
-    let after_one = put_term(s, first, one, room - 1, first_level(f), out, headed);
+    let after_one = put_term(s, first, heads, one, room - 1, first_level(f), out, headed);
     if f == functions::NOT {
         return after_one;
     }
     let two = after_field(s, one);
-    let between = put_between(out, after_one, f);
-    let after_two = put_term(s, first, two, room - 1, second_level(f), out, between);
+    let joined = put_between(out, after_one, f);
+    let after_two = put_term(s, first, heads, two, room - 1, second_level(f), out, joined);
     if f != functions::IF {
         return put_unless(out, after_two, f, level, signs::CLOSING);
     }
     let three = after_field(s, two);
     let comma = put_sign(out, after_two, signs::COMMA);
-    let after_three = put_term(s, first, three, room - 1, levels::DISJUNCTION, out, comma);
+    let after_three = put_term(s, first, heads, three, room - 1, LOOSEST, out, comma);
     put_sign(out, after_three, signs::CLOSING)
 }
 
@@ -466,8 +506,15 @@ const PHASE: usize = 4;
 const REACTION: usize = 5;
 
 // The handler at a place.
-fn put_handler(s: &[u8], first: usize, at: usize, out: &mut [u8], pen: Pen) -> Pen
-    requires { ⌜ (first ≤ length (now s)) × (at ≤ length (now s)) ⌝ }
+fn put_handler(
+    s: &[u8],
+    first: usize,
+    heads: &[u8; BYTE],
+    at: usize,
+    out: &mut [u8],
+    pen: Pen,
+) -> Pen
+    requires { ⌜ (first ≤ length (now s)) × (at ≤ length (now s)) × HeadsOf (now s) first (now heads) ⌝ }
     requires { ⌜ pen .at ≤ 65548 ⌝ }
     ensures { λ r. ⌜ TokensPut (now (out .entry)) (now (out .exit)) pen r (handlerTokens (length (now (s .entry))) (drop first (now (s .entry))) (drop at (now (s .entry)))) ⌝ }
 {
@@ -477,20 +524,19 @@ fn put_handler(s: &[u8], first: usize, at: usize, out: &mut [u8], pen: Pen) -> P
     let on = put_sign(out, pen, signs::ON);
     let named = put_name(out, on, EVENT, event);
     let phased = put_phase(out, named, phase);
-    put_term(
-        s,
-        first,
-        body,
-        limits::NESTING,
-        levels::DISJUNCTION,
-        out,
-        phased,
-    )
+    put_term(s, first, heads, body, limits::NESTING, LOOSEST, out, phased)
 }
 
 // The handlers from a place on.
-fn put_handlers(s: &[u8], first: usize, from: usize, out: &mut [u8], pen: Pen) -> Pen
-    requires { ⌜ (first ≤ length (now s)) × (from ≤ length (now s)) ⌝ }
+fn put_handlers(
+    s: &[u8],
+    first: usize,
+    heads: &[u8; BYTE],
+    from: usize,
+    out: &mut [u8],
+    pen: Pen,
+) -> Pen
+    requires { ⌜ (first ≤ length (now s)) × (from ≤ length (now s)) × HeadsOf (now s) first (now heads) ⌝ }
     requires { ⌜ pen .at ≤ 65548 ⌝ }
     ensures { λ r. ⌜ TokensPut (now (out .entry)) (now (out .exit)) pen r (handlersTokens (length (now (s .entry))) (drop first (now (s .entry))) (length (now (s .entry))) (drop from (now (s .entry)))) ⌝ }
 {
@@ -501,7 +547,7 @@ fn put_handlers(s: &[u8], first: usize, from: usize, out: &mut [u8], pen: Pen) -
         if byte_from(s, at, 0) != tags::HANDLER {
             return after;
         }
-        after = put_handler(s, first, at, out, after);
+        after = put_handler(s, first, heads, at, out, after);
         at = after_field(s, at);
         left -= 1;
     }
@@ -566,8 +612,15 @@ fn put_viewers(s: &[u8], at: usize, out: &mut [u8], pen: Pen) -> Pen
 const WORD_FIELD: usize = 7;
 
 // A start value, who may see, and the handlers; who may see stands behind the handlers.
-fn put_active(s: &[u8], first: usize, at: usize, out: &mut [u8], pen: Pen) -> Pen
-    requires { ⌜ (first ≤ length (now s)) × (at ≤ length (now s)) ⌝ }
+fn put_active(
+    s: &[u8],
+    first: usize,
+    heads: &[u8; BYTE],
+    at: usize,
+    out: &mut [u8],
+    pen: Pen,
+) -> Pen
+    requires { ⌜ (first ≤ length (now s)) × (at ≤ length (now s)) × HeadsOf (now s) first (now heads) ⌝ }
     requires { ⌜ pen .at ≤ 65548 ⌝ }
     ensures { λ r. ⌜ TokensPut (now (out .entry)) (now (out .exit)) pen r (activeTokens (length (now (s .entry))) (drop first (now (s .entry))) (drop at (now (s .entry)))) ⌝ }
 {
@@ -576,12 +629,20 @@ fn put_active(s: &[u8], first: usize, at: usize, out: &mut [u8], pen: Pen) -> Pe
     let viewers = past_fields(s, handlers, tags::HANDLER);
     let started = put_value(out, pen, start);
     let seen = put_viewers(s, viewers, out, started);
-    put_handlers(s, first, handlers, out, seen)
+    put_handlers(s, first, heads, handlers, out, seen)
 }
 
 // Passive j, whose value stands at the place.
-fn put_passive(s: &[u8], first: usize, at: usize, j: usize, out: &mut [u8], pen: Pen) -> Pen
-    requires { ⌜ (first ≤ length (now s)) × (at ≤ length (now s)) × (j < 256) ⌝ }
+fn put_passive(
+    s: &[u8],
+    first: usize,
+    heads: &[u8; BYTE],
+    at: usize,
+    j: usize,
+    out: &mut [u8],
+    pen: Pen,
+) -> Pen
+    requires { ⌜ (first ≤ length (now s)) × (at ≤ length (now s)) × (j < 256) × HeadsOf (now s) first (now heads) ⌝ }
     requires { ⌜ pen .at ≤ 65548 ⌝ }
     ensures { λ r. ⌜ TokensPut (now (out .entry)) (now (out .exit)) pen r (passiveTokens (length (now (s .entry))) (drop first (now (s .entry))) j (drop at (now (s .entry)))) ⌝ }
 {
@@ -589,33 +650,41 @@ fn put_passive(s: &[u8], first: usize, at: usize, j: usize, out: &mut [u8], pen:
     let word = put_sign(out, pen, signs::PASSIVE);
     let named = put_name(out, word, BEHAVIOUR, j);
     let equals = put_sign(out, named, signs::EQUALS);
-    let defined = put_term(
-        s,
-        first,
-        at,
-        limits::NESTING,
-        levels::DISJUNCTION,
-        out,
-        equals,
-    );
+    let defined = put_term(s, first, heads, at, limits::NESTING, LOOSEST, out, equals);
     put_viewers(s, viewers, out, defined)
 }
 
 // Active j.
-fn put_state(s: &[u8], first: usize, at: usize, j: usize, out: &mut [u8], pen: Pen) -> Pen
-    requires { ⌜ (first ≤ length (now s)) × (at ≤ length (now s)) × (j < 256) ⌝ }
+fn put_state(
+    s: &[u8],
+    first: usize,
+    heads: &[u8; BYTE],
+    at: usize,
+    j: usize,
+    out: &mut [u8],
+    pen: Pen,
+) -> Pen
+    requires { ⌜ (first ≤ length (now s)) × (at ≤ length (now s)) × (j < 256) × HeadsOf (now s) first (now heads) ⌝ }
     requires { ⌜ pen .at ≤ 65548 ⌝ }
     ensures { λ r. ⌜ TokensPut (now (out .entry)) (now (out .exit)) pen r (stateTokens (length (now (s .entry))) (drop first (now (s .entry))) j (drop at (now (s .entry)))) ⌝ }
 {
     let word = put_sign(out, pen, signs::ACTIVE);
     let named = put_name(out, word, BEHAVIOUR, j);
     let equals = put_sign(out, named, signs::EQUALS);
-    put_active(s, first, at, out, equals)
+    put_active(s, first, heads, at, out, equals)
 }
 
 // The row whose first cell is j.
-fn put_row(s: &[u8], first: usize, at: usize, j: usize, out: &mut [u8], pen: Pen) -> Pen
-    requires { ⌜ (first ≤ length (now s)) × (at ≤ length (now s)) × (j < 256) ⌝ }
+fn put_row(
+    s: &[u8],
+    first: usize,
+    heads: &[u8; BYTE],
+    at: usize,
+    j: usize,
+    out: &mut [u8],
+    pen: Pen,
+) -> Pen
+    requires { ⌜ (first ≤ length (now s)) × (at ≤ length (now s)) × (j < 256) × HeadsOf (now s) first (now heads) ⌝ }
     requires { ⌜ pen .at ≤ 65548 ⌝ }
     ensures { λ r. ⌜ TokensPut (now (out .entry)) (now (out .exit)) pen r (rowTokens (length (now (s .entry))) (drop first (now (s .entry))) j (drop at (now (s .entry)))) ⌝ }
 {
@@ -627,32 +696,40 @@ fn put_row(s: &[u8], first: usize, at: usize, j: usize, out: &mut [u8], pen: Pen
     let counted = put_number(out, opened, cells);
     let closed = put_sign(out, counted, signs::UNBRACKET);
     let equals = put_sign(out, closed, signs::EQUALS);
-    put_active(s, first, rest, out, equals)
+    put_active(s, first, heads, rest, out, equals)
 }
 
 // The behaviour's field at a place, of number j.
-fn put_entry(s: &[u8], first: usize, at: usize, j: usize, out: &mut [u8], pen: Pen) -> Pen
-    requires { ⌜ (first ≤ length (now s)) × (at ≤ length (now s)) × (j < 256) ⌝ }
+fn put_entry(
+    s: &[u8],
+    first: usize,
+    heads: &[u8; BYTE],
+    at: usize,
+    j: usize,
+    out: &mut [u8],
+    pen: Pen,
+) -> Pen
+    requires { ⌜ (first ≤ length (now s)) × (at ≤ length (now s)) × (j < 256) × HeadsOf (now s) first (now heads) ⌝ }
     requires { ⌜ pen .at ≤ 65548 ⌝ }
     ensures { λ r. ⌜ TokensPut (now (out .entry)) (now (out .exit)) pen r (entryTokens (length (now (s .entry))) (drop first (now (s .entry))) j (drop at (now (s .entry)))) ⌝ }
 {
     let tag = byte_from(s, at, 0);
     let value = onward(s, at, HEADER);
     if tag == tags::PASSIVE {
-        return put_passive(s, first, value, j, out, pen);
+        return put_passive(s, first, heads, value, j, out, pen);
     }
     if tag == tags::ROW {
-        return put_row(s, first, value, j, out, pen);
+        return put_row(s, first, heads, value, j, out, pen);
     }
-    put_state(s, first, value, j, out, pen)
+    put_state(s, first, heads, value, j, out, pen)
 }
 
 // The highest number of a behaviour.
 const LAST_BEHAVIOUR: usize = limits::BEHAVIOURS - 1;
 
 // The behaviours, from the first one's place on.
-fn put_entries(s: &[u8], first: usize, out: &mut [u8], pen: Pen) -> Pen
-    requires { ⌜ first ≤ length (now s) ⌝ }
+fn put_entries(s: &[u8], first: usize, heads: &[u8; BYTE], out: &mut [u8], pen: Pen) -> Pen
+    requires { ⌜ (first ≤ length (now s)) × HeadsOf (now s) first (now heads) ⌝ }
     requires { ⌜ pen .at ≤ 65548 ⌝ }
     ensures { λ r. ⌜ TokensPut (now (out .entry)) (now (out .exit)) pen r (entriesTokens (length (now (s .entry))) (drop first (now (s .entry))) (length (now (s .entry))) 0 (drop first (now (s .entry)))) ⌝ }
 {
@@ -667,7 +744,7 @@ fn put_entries(s: &[u8], first: usize, out: &mut [u8], pen: Pen) -> Pen
         if LAST_BEHAVIOUR < j {
             return after;
         }
-        after = put_entry(s, first, at, j, out, after);
+        after = put_entry(s, first, heads, at, j, out, after);
         j += cells_at(s, at);
         at = after_field(s, at);
         left -= 1;
@@ -741,15 +818,15 @@ fn put_parameters(out: &mut [u8], pen: Pen, n: usize) -> Pen
     after
 }
 
-// The whole text.
-fn put_text(s: &[u8], out: &mut [u8]) -> Pen
+// The whole text, of n parameters; the behaviours stand from `first` on, and have those first cells.
+fn put_text(s: &[u8], first: usize, n: usize, heads: &[u8; BYTE], out: &mut [u8]) -> Pen
+    requires { ⌜ (first ≤ length (now s)) × (n ≤ 256) × HeadsOf (now s) first (now heads) ⌝ }
+    requires { ⌜ (drop first (now s) ≡ behavioursIn (now s)) × (n ≡ neededIn 0 0 (drop first (now s))) ⌝ }
     ensures { λ r. ⌜ TokensPut (now (out .entry)) (now (out .exit)) startPen r (sheetTokens (now (s .entry))) ⌝ }
 {
-    let first = past_fields(s, 0, tags::EVENT);
-    let n = needed_from(s, first);
     let parameters = put_parameters(out, Pen { at: 0, last: 0 }, n);
     let events = put_signals(s, out, parameters);
-    let behaviours = put_entries(s, first, out, events);
+    let behaviours = put_entries(s, first, heads, out, events);
     put_sign(out, behaviours, signs::END)
 }
 
@@ -761,13 +838,16 @@ fn deliver(sheet: &[u8], buffer: &mut [u8]) -> u64
     requires { ⌜ numberOn (now sheet) (replicate 32 0) ≡ 0 ⌝ }
     ensures { λ r. ⌜ answered r (now (buffer .exit)) ≡ describeOn (now (sheet .entry)) (now (buffer .entry)) ⌝ }
 {
+    let first = past_fields(sheet, 0, tags::EVENT);
+    let n = needed_from(sheet, first);
+    let heads = heads_from(sheet, first);
     let mut none = [0u8; 0];
-    let counted = put_text(sheet, &mut none);
+    let counted = put_text(sheet, first, n, &heads, &mut none);
     let size = counted.at;
     if buffer.len() < size {
         return faults::SHORT_BUFFER;
     }
-    put_text(sheet, buffer);
+    put_text(sheet, first, n, &heads, buffer);
     ACCEPTED + (size as u64)
 }
 

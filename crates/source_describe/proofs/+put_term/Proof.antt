@@ -22,15 +22,15 @@ use Rattle.source_describe.proofs.second_level.Reads as second-level-re
 use Rattle.source_describe.proofs.+put_term.{statement}
 use Rattle.source_describe.proofs.+put_term.Tie.{close}
 
-abbrev μ-put-term : Measures 2 put-term-kinds.ps ℕ
-μ-put-term κs a = a .1 .1 .1 .0
+abbrev μ-put-term : Measures 3 put-term-kinds.ps ℕ
+μ-put-term κs a = a .1 .1 .1 .1 .0
 
-abbrev put-term-at : ℕ → In 2 put-term-kinds.ps
-put-term-at t = and 2 put-term-kinds.ps (is 2 put-term-kinds.ps μ-put-term t) put-term.Pre
+abbrev put-term-at : ℕ → In 3 put-term-kinds.ps
+put-term-at t = and 3 put-term-kinds.ps (is 3 put-term-kinds.ps μ-put-term t) put-term.Pre
 
-abbrev put-term-below : ℕ → In 2 put-term-kinds.ps
+abbrev put-term-below : ℕ → In 3 put-term-kinds.ps
 put-term-below t =
-    and 2 put-term-kinds.ps (falls 2 put-term-kinds.ps _<_ μ-put-term t) put-term.Pre
+    and 3 put-term-kinds.ps (falls 3 put-term-kinds.ps _<_ μ-put-term t) put-term.Pre
 
 abbrev claims-put-term : ℕ → put-term-lts.Claims
 claims-put-term t = (
@@ -102,7 +102,7 @@ put-term-put-term-requires t c κs =
     let at-onward = at-put-head .before .before in
     let at-if1 = at-onward .before .before .before .before in
     let at-entry = at-if1 .before .before .before in
-    (omega (arith, at-entry .pre .0, at-if1 .if1 .left), ((at-entry .pre .1 .0 .0, at-onward .onward .ensures .1), at-put-head .put-head .ensures .stops))
+    (omega (arith, at-entry .pre .0, at-if1 .if1 .left), ((at-entry .pre .1 .0 .0, at-onward .onward .ensures .1, at-entry .pre .1 .0 .2), at-put-head .put-head .ensures .stops))
 
 put-term-same-length-2 : (t : ℕ) → put-term-lts.Need-same-length-2 (claims-put-term t) (put-term-at t) put-term.Post
 put-term-same-length-2 t c = search needs
@@ -143,7 +143,7 @@ put-term-put-term-requires-2 t c κs =
     let at-onward = at-put-head-arg .before in
     let at-if1 = at-onward .before .before .before .before in
     let at-entry = at-if1 .before .before .before in
-    (omega (arith, at-entry .pre .0, at-if1 .if1 .left), ((at-entry .pre .1 .0 .0, at-after-field .after-field .ensures .1), at-put-between .put-between .ensures .stops))
+    (omega (arith, at-entry .pre .0, at-if1 .if1 .left), ((at-entry .pre .1 .0 .0, at-after-field .after-field .ensures .1, at-entry .pre .1 .0 .2), at-put-between .put-between .ensures .stops))
 
 put-term-put-unless-requires : (t : ℕ) → put-term-lts.Need-put-unless-requires (claims-put-term t) (put-term-at t) put-term.Post
 put-term-put-unless-requires t c κs = search needs
@@ -200,7 +200,7 @@ put-term-put-term-requires-3 t c κs =
     let at-put-head-arg = at-if3 .before .before .before .before .before .before .before .before .before in
     let at-if1 = at-put-head-arg .before .before .before .before .before in
     let at-entry = at-if1 .before .before .before in
-    (omega (arith, at-entry .pre .0, at-if1 .if1 .left), ((at-entry .pre .1 .0 .0, at-after-field2 .after-field2 .ensures .1), at-put-sign .put-sign .ensures .stops))
+    (omega (arith, at-entry .pre .0, at-if1 .if1 .left), ((at-entry .pre .1 .0 .0, at-after-field2 .after-field2 .ensures .1, at-entry .pre .1 .0 .2), at-put-sign .put-sign .ensures .stops))
 
 put-term-put-sign-requires-2 : (t : ℕ) → put-term-lts.Need-put-sign-requires-2 (claims-put-term t) (put-term-at t) put-term.Post
 put-term-put-sign-requires-2 t c κs = search needs

@@ -7,10 +7,10 @@ use Rattle.source_describe.proofs.put_entries.Statement.{statement}
 use Rattle.source_describe.proofs.put_entries.Tie as tie
 
 abbrev Inv-loop : tie.InvT-loop
-Inv-loop s first out₀ at₀ j₀ left₀ after₀ out at j left after = Describing s first out₀ out after₀ after at j left
+Inv-loop s first heads out₀ at₀ j₀ left₀ after₀ out at j left after = Describing s first out₀ out after₀ after at j left
 
 abbrev μ-loop : tie.MeasureT-loop
-μ-loop s first out₀ at₀ j₀ left₀ after₀ out at j left after = left
+μ-loop s first heads out₀ at₀ j₀ left₀ after₀ out at j left after = left
 
 returns : tie.Need-returns Inv-loop μ-loop
 returns c =
@@ -32,7 +32,7 @@ returns-3 c =
 loop-holds : tie.Need-loop-holds Inv-loop μ-loop
 loop-holds c =
     let at-entry = c .before .before in
-    record { underway = under-start _ (at-entry .args .pen) _ (at-entry .pre .1); inside = at-entry .pre .0; few = omega arith }
+    record { underway = under-start _ (at-entry .args .pen) _ (at-entry .pre .1); inside = at-entry .pre .0 .0; few = omega arith }
 
 same-length : tie.Need-same-length Inv-loop μ-loop
 same-length c = c .before .before .loop .inv .underway .so-far .as-long
@@ -45,7 +45,7 @@ put-entry-requires c κs =
     let at-if2 = c .before in
     let at-loop = at-if2 .before .before .before in
     let at-entry = at-loop .before .before .before in
-    ((at-entry .pre .0, at-loop .loop .inv .inside, omega (arith, at-if2 .if2 .left)), at-loop .loop .inv .underway .so-far .stops)
+    ((at-entry .pre .0 .0, at-loop .loop .inv .inside, omega (arith, at-if2 .if2 .left), at-entry .pre .0 .1), at-loop .loop .inv .underway .so-far .stops)
 
 cells-at-requires : tie.Need-cells-at-requires Inv-loop μ-loop
 cells-at-requires c κs = c .before .before .before .before .before .before .before .loop .inv .inside

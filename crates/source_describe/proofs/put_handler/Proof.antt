@@ -26,7 +26,12 @@ put-phase-requires : tie.Need-put-phase-requires
 put-phase-requires c κs = search needs
 
 put-term-requires : tie.Need-put-term-requires
-put-term-requires c κs = search needs
+put-term-requires c κs =
+    let at-put-phase = c .before .before .before in
+    let at-put-name = at-put-phase .before .before .before .before in
+    let at-onward = at-put-name .before .before .before .before .before .before in
+    let at-entry = at-onward .before .before .before .before .before in
+    ((at-entry .pre .0 .0, at-onward .onward .ensures .1, at-entry .pre .0 .2), at-put-phase .put-phase .ensures .stops)
 
 same-length : tie.Need-same-length
 same-length c = search needs

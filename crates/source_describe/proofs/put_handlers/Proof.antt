@@ -6,10 +6,10 @@ use Rattle.source_describe.proofs.put_handlers.Statement.{statement}
 use Rattle.source_describe.proofs.put_handlers.Tie as tie
 
 abbrev Inv-loop : tie.InvT-loop
-Inv-loop s first from out₀ at₀ left₀ after₀ out at left after = Handling s first from out₀ out after₀ after at left
+Inv-loop s first heads from out₀ at₀ left₀ after₀ out at left after = Handling s first from out₀ out after₀ after at left
 
 abbrev μ-loop : tie.MeasureT-loop
-μ-loop s first from out₀ at₀ left₀ after₀ out at left after = left
+μ-loop s first heads from out₀ at₀ left₀ after₀ out at left after = left
 
 loop-holds : tie.Need-loop-holds Inv-loop μ-loop
 loop-holds c =
@@ -37,7 +37,7 @@ put-handler-requires : tie.Need-put-handler-requires Inv-loop μ-loop
 put-handler-requires c κs =
     let at-loop = c .before .before .before .before in
     let at-entry = at-loop .before .before .before in
-    ((at-entry .pre .0 .0, at-loop .loop .inv .inside), at-loop .loop .inv .underway .so-far .stops)
+    ((at-entry .pre .0 .0, at-loop .loop .inv .inside, at-entry .pre .0 .2), at-loop .loop .inv .underway .so-far .stops)
 
 after-field-requires : tie.Need-after-field-requires Inv-loop μ-loop
 after-field-requires c κs =

@@ -1,6 +1,9 @@
--- The tests are the definition's.
+-- The tests are the definition's; a name's first cell is the one that is noted.
 use borrow.Author.Tests.{eq-eqb, ne-eqb}
 use borrow.Author.Needs.{needs}
+use Prim.Native.Nat.{_<_}
+use native.Mathlib.Omega.{arith}
+use Rattle.source_describe.proofs.Heads.{head-below}
 use Rattle.source_describe.proofs.put_leaf.Statement.{statement}
 use Rattle.source_describe.proofs.put_leaf.Tie as tie
 
@@ -35,11 +38,24 @@ byte-from-requires-2 c κs = search needs
 cast-i : tie.Need-cast-i
 cast-i c = search needs
 
-first-cell-requires : tie.Need-first-cell-requires
-first-cell-requires c κs = search needs
+element-copy-out-put-cell : tie.Need-element-copy-out-put-cell
+element-copy-out-put-cell c = search needs
+
+cast-put-cell : tie.Need-cast-put-cell
+cast-put-cell c =
+    let at-byte-from2 = c .before .before .before in
+    let at-byte-from = at-byte-from2 .before .before in
+    let at-entry = at-byte-from .before .before .before in
+    let h : at-byte-from2 .byte-from2 .result < 256 = search needs in
+    omega (arith, head-below (at-entry .pre .0 .2) (at-byte-from2 .byte-from2 .result) h)
 
 put-cell-requires : tie.Need-put-cell-requires
-put-cell-requires c κs = search needs
+put-cell-requires c κs =
+    let at-byte-from2 = c .before .before .before in
+    let at-byte-from = at-byte-from2 .before .before in
+    let at-entry = at-byte-from .before .before .before in
+    let h : at-byte-from2 .byte-from2 .result < 256 = search needs in
+    (at-entry .pre .1, (head-below (at-entry .pre .0 .2) (at-byte-from2 .byte-from2 .result) h, h))
 
 same-length-2 : tie.Need-same-length-2
 same-length-2 c = search needs
@@ -47,12 +63,14 @@ same-length-2 c = search needs
 returns-2 : tie.Need-returns-2
 returns-2 c =
     let at-put-cell = c .before .before in
-    let at-first-cell = at-put-cell .before in
-    let at-if2 = at-first-cell .before .before in
+    let at-if2 = at-put-cell .before .before .before in
     let at-byte-from2 = at-if2 .before in
     let at-if1 = at-byte-from2 .before in
     let at-byte-from = at-if1 .before in
-    rw (← at-byte-from .byte-from .ensures, ne-eqb _ 16 (at-if1 .if1 .left), eq-eqb _ 17 (at-if2 .if2 .taken), ← at-byte-from2 .byte-from2 .ensures, ← at-first-cell .first-cell .ensures .0)
+    let at-entry = at-byte-from .before .before .before in
+    let i = at-byte-from2 .byte-from2 .result in
+    let h : i < 256 = search needs in
+    rw (← at-byte-from .byte-from .ensures, ne-eqb _ 16 (at-if1 .if1 .left), eq-eqb _ 17 (at-if2 .if2 .taken), ← at-byte-from2 .byte-from2 .ensures, ← at-entry .pre .0 .2 .each i h)
     (at-put-cell .put-cell .ensures)
 
 put-name-requires : tie.Need-put-name-requires
@@ -83,7 +101,8 @@ put-leaf-spec =
     returns
     byte-from-requires-2
     cast-i
-    first-cell-requires
+    element-copy-out-put-cell
+    cast-put-cell
     put-cell-requires
     same-length-2
     returns-2

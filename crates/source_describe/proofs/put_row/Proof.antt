@@ -52,7 +52,7 @@ put-active-requires c κs =
     let at-put-name = at-put-number .before .before .before .before .before .before .before .before in
     let at-onward = at-put-name .before .before .before .before .before .before in
     let at-entry = at-onward .before .before .before .before in
-    ((at-entry .pre .0 .0, at-onward .onward .ensures .1), at-put-sign4 .put-sign4 .ensures .stops)
+    ((at-entry .pre .0 .0, at-onward .onward .ensures .1, at-entry .pre .0 .3), at-put-sign4 .put-sign4 .ensures .stops)
 
 same-length : tie.Need-same-length
 same-length c = returns c .as-long

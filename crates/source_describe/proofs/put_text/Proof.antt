@@ -1,5 +1,4 @@
 -- One part after the other, as `sheetTokens` has them.
-use native.Mathlib.Omega.{arith}
 use borrow.Author.Needs.{needs}
 use Rattle.source_describe.proofs.Writing.{wrote-on, wrote-as}
 use Rattle.source_describe.proofs.Turns.{text-parts}
@@ -12,16 +11,9 @@ returns c =
     let at-put-entries = at-put-sign .before .before .before .before in
     let at-put-signals = at-put-entries .before .before .before .before in
     let at-put-parameters = at-put-signals .before .before .before .before in
-    let at-needed-from = at-put-parameters .before .before in
-    let at-past-fields = at-needed-from .before in
+    let at-entry = at-put-parameters .before .before .before .before in
     wrote-as (wrote-on (at-put-parameters .put-parameters .ensures) (wrote-on (at-put-signals .put-signals .ensures) (wrote-on (at-put-entries .put-entries .ensures) (at-put-sign .put-sign .ensures))))
-    (text-parts _ (at-past-fields .past-fields .result) (at-needed-from .needed-from .result) (at-past-fields .past-fields .ensures .0) (at-needed-from .needed-from .ensures .0))
-
-past-fields-requires : tie.Need-past-fields-requires
-past-fields-requires c κs = search needs
-
-needed-from-requires : tie.Need-needed-from-requires
-needed-from-requires c κs = search needs
+    (text-parts _ (at-entry .args .first) (at-entry .args .n) (at-entry .pre .1 .0) (at-entry .pre .1 .1))
 
 put-parameters-requires : tie.Need-put-parameters-requires
 put-parameters-requires c κs = search needs
@@ -41,5 +33,5 @@ same-length c = returns c .as-long
 pub put-text-spec : {M : Type 1} → statement M
 put-text-spec =
     tie.close
-    (tie.spec past-fields-requires needed-from-requires put-parameters-requires put-signals-requires
-    put-entries-requires put-sign-requires same-length returns)
+    (tie.spec put-parameters-requires put-signals-requires put-entries-requires put-sign-requires same-length
+    returns)
