@@ -129,3 +129,12 @@ module _ (b : List ℕ) (bytes : All (λ x. x < 256) b) {m : ℕ} (e : m ≡ num
       let l : length (described (r .0)) ≤ length buffer = omega arith in
       let d = writes v (r .0) (r .2) (r .3) (rw (sym (r .1)) at u) l in
       sym (opened buffer (r .0) (r .4) ∙ rw (le-ltb (length buffer) (length (described (r .0))) l, n, d))
+
+  -- or the buffer has room for every text, and nothing is counted before
+  pub describe-whole : {q : List ℕ} {after : Pen} (buffer : List ℕ) → 65536 ≤ length buffer → TokensPut buffer q startPen after (sheetTokens b)
+      → answered (4294967296 + after .at) q ≡ describeOn b buffer
+  describe-whole {q} {after} buffer h u =
+      let r = accepted-is b bytes (sym e ∙ z) in
+      let v = get (replicate 32 0) in
+      let n = counts v (r .0) (r .2) (r .3) (rw (sym (r .1)) at u) in
+      describe-done buffer u (omega (arith, n, short v (r .0) (r .2) (r .3))) u

@@ -1,8 +1,8 @@
 // A sheet back as text: the sheet is judged as by compile, then its bytes are walked from front to back and each token
-// handed to the pen; once to count, and again into the buffer if it has room. Time: each walk is one pass over the
-// bytes, the handlers' twice; before both, one pass to count the parameters, and one over the behaviours' fields that
-// notes the first cell of each behaviour's row, so that a name is looked up. A place is how many bytes stand before it;
-// a byte past the end counts as 0.
+// handed to the pen; once to count, and again into the buffer if it has room, or into a buffer that has room for every
+// text at once. Time: each walk is one pass over the bytes, the handlers' twice; before it, one pass to count the
+// parameters, and one over the behaviours' fields that notes the first cell of each behaviour's row, so that a name is
+// looked up. A place is how many bytes stand before it; a byte past the end counts as 0.
 use source_coding::faults;
 use source_coding::limits as texts;
 use source_coding::signs;
@@ -833,7 +833,8 @@ fn put_text(s: &[u8], first: usize, n: usize, heads: &[u8; BYTE], out: &mut [u8]
 // What is added to a text's length, so that it is told from a refusal.
 const ACCEPTED: u64 = 4294967296;
 
-// The text of an accepted sheet at the buffer's start, if there is room for it.
+// The text of an accepted sheet at the buffer's start, if there is room for it. It is counted first where the buffer
+// has not room for every text.
 fn deliver(sheet: &[u8], buffer: &mut [u8]) -> u64
     requires { ⌜ numberOn (now sheet) (replicate 32 0) ≡ 0 ⌝ }
     ensures { λ r. ⌜ answered r (now (buffer .exit)) ≡ describeOn (now (sheet .entry)) (now (buffer .entry)) ⌝ }
@@ -841,6 +842,11 @@ fn deliver(sheet: &[u8], buffer: &mut [u8]) -> u64
     let first = past_fields(sheet, 0, tags::EVENT);
     let n = needed_from(sheet, first);
     let heads = heads_from(sheet, first);
+    if texts::TEXT_BYTES <= buffer.len() {
+        let written = put_text(sheet, first, n, &heads, buffer);
+        let end = written.at;
+        return ACCEPTED + (end as u64);
+    }
     let mut none = [0u8; 0];
     let counted = put_text(sheet, first, n, &heads, &mut none);
     let size = counted.at;
