@@ -480,8 +480,13 @@ fn assembled<'a>(s: &'a [u8]) -> Runner<'a> {
     repeat(move || proved::assemble(s, &mut buffer))
 }
 
+/// Into a buffer of just enough bytes, in which a text is counted before it is written: the slower way.
 fn described<'a>(s: &'a [u8]) -> Runner<'a> {
     let mut buffer = vec![0u8; 65536];
+    let answer = proved::describe(s, &mut buffer);
+    if answer >> 32 == 1 {
+        buffer.truncate(answer as u32 as usize);
+    }
     repeat(move || proved::describe(s, &mut buffer))
 }
 
