@@ -8,7 +8,7 @@ ghost use mathlib.Core.List.{[], _∷_};
 ghost use Prim.Native.Nat.{_≤_, _<_, _+_, _*_};
 ghost use lib.ListN.{length, getD, take, drop};
 ghost use Rattle.lib_base.specs.Basics.{pick};
-ghost use Rattle.source_language.specs.Tokens.{marks, reserved, same, signOf, isDigit, inWord, isBlank, inComment};
+ghost use Rattle.source_language.specs.Tokens.{marks, reserved, same, signOf, isDigit, isLetter, inWord, isBlank, inComment};
 ghost use Rattle.source_language.specs.Scanner.{runOfKind};
 ghost use Rattle.source_tokens.specs.Token.{cappedAt, placeOfToken, TokenAt, TokenWithin, TokenBegins, PassedOver};
 
@@ -47,29 +47,21 @@ pub fn byte_at(text: &[u8], at: usize) -> u8
 fn is_digit(b: u8) -> bool
     ensures { λ r. ⌜ r ≡ isDigit b ⌝ }
 {
-    if b < b'0' {
-        return false;
-    }
-    b <= b'9'
+    (b'0' <= b) & (b <= b'9')
 }
 
-// A letter, a digit or `_`.
+// A letter or `_`.
+fn is_letter(b: u8) -> bool
+    ensures { λ r. ⌜ r ≡ isLetter b ⌝ }
+{
+    ((b'A' <= b) & (b <= b'Z')) | (((b'a' <= b) & (b <= b'z')) | (b == b'_'))
+}
+
+// A letter, a digit or `_`. All tests are made, with no branch between them, which names of mixed bytes would mislead.
 pub fn in_word(b: u8) -> bool
     ensures { λ r. ⌜ r ≡ inWord b ⌝ }
 {
-    if b < b'A' {
-        return is_digit(b);
-    }
-    if b <= b'Z' {
-        return true;
-    }
-    if b == b'_' {
-        return true;
-    }
-    if b < b'a' {
-        return false;
-    }
-    b <= b'z'
+    is_letter(b) | is_digit(b)
 }
 
 // Space, tab, line feed, carriage return.
