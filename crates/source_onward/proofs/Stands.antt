@@ -1,7 +1,7 @@
 -- The sign at a place by its token, and the brackets that open from a place on: each turn of the loop is one turn of
 -- `fromOperand` (`Opening`).
-use Prim.Native.Nat.{ℕ, suc, _+_, _≤_, _<_}
-use mathlib.Core.Path.{_≡_, sym, ap, _∙_}
+use Prim.Native.Nat.{ℕ, suc, _+_, _≤_}
+use mathlib.Core.Path.{_≡_, ap, _∙_}
 use mathlib.Core.List.{List, _∷_}
 use native.Mathlib.Omega.{arith}
 use native.Mathlib.Numerals.{add-one}
@@ -11,7 +11,7 @@ use Rattle.source_language.specs.Tokens.{SheetToken, sign, opening, endSign}
 use Rattle.source_language.specs.Text.{Phrase}
 use Rattle.source_language.specs.Reader.{Phrased, placeAt, signAt, fromOperand}
 use Rattle.source_coding.specs.Places.{tokensFrom}
-use Rattle.source_tokens.specs.Token.{TokenAt, TokenWithin}
+use Rattle.source_tokens.specs.Token.{TokenAt, TokenWithin, OpeningAt}
 use Rattle.source_tokens.specs.declared.Token.{Token}
 use Rattle.source_tokens.specs.declared.Token.the-variants.{Number, Name, Sign}
 use Rattle.source_onward.specs.Onward.{SignStands, BracketsOpened}
@@ -81,14 +81,11 @@ one-opens : (next : ℕ → List SheetToken → Phrased Phrase) (room l m k p : 
 unfolding fromOperand
 one-opens next room l m k p ts us e = rw e
 
-module _ {text : List ℕ} {at first opened : ℕ} (o : Opening text at first opened) (p c next : ℕ) (s : SignStands text first p c next) where
-  pub opening-less : c ≡ 15 → (first < next) × (next ≤ length text)
-  opening-less e = s .further (omega arith) (omega arith)
-
-  pub opening-turn : c ≡ 15 → Opening text at next (opened + 1)
+module _ {text : List ℕ} {at first opened : ℕ} (o : Opening text at first opened) (next : ℕ) (s : OpeningAt text first next) where
+  pub opening-turn : (next ≡ 0 → ⊥) → Opening text at next (opened + 1)
   opening-turn e =
-      let h : tokensFrom text first ≡ sign p opening ∷ tokensFrom text next = s .onward (omega arith) (omega arith) ∙ rw e in
-      let b = opening-less e in
+      let h = s .opens e .1 in
+      let b = s .onward e in
       let l : length (tokensFrom text first) ≡ suc (length (tokensFrom text next)) = ap length h in
       record {
         from = omega (arith, o .from);
@@ -97,10 +94,10 @@ module _ {text : List ℕ} {at first opened : ℕ} (o : Opening text at first op
         counted = omega (arith, o .counted);
         whole = λ go room i m.
             let z : m + (opened + 1) ≡ suc m + opened = omega arith in
-            rw (z, add-one opened) (o .whole go room i (suc m) ∙ one-opens go room i m opened p (tokensFrom text first) (tokensFrom text next) h);
+            rw (z, add-one opened) (o .whole go room i (suc m) ∙ one-opens go room i m opened (s .opens e .0) (tokensFrom text first) (tokensFrom text next) h);
       }
 
-  pub opening-end : (c ≡ 15 → ⊥) → BracketsOpened text at first opened
+  pub opening-end : next ≡ 0 → BracketsOpened text at first opened
   opening-end e =
       record {
         from = o .from;
@@ -108,6 +105,6 @@ module _ {text : List ℕ} {at first opened : ℕ} (o : Opening text at first op
         few = o .few;
         counted = o .counted;
         some = s .some;
-        other = λ q. e (sym (s .sign-is) ∙ q);
+        other = s .other e;
         whole = o .whole;
       }

@@ -6,6 +6,7 @@ use source_due::fault_word;
 use source_due::sign_due;
 use source_field::Read;
 use source_tokens::Token;
+use source_tokens::opening_at;
 use source_tokens::token_at;
 use spec_language::functions;
 use text_formula::levels;
@@ -72,14 +73,14 @@ pub fn brackets_at(text: &[u8], at: usize) -> Brackets
     let mut first = at;
     let mut opened = 0;
     loop {
-        let standing = standing_at(text, first);
-        if standing.sign != signs::OPENING {
+        let next = opening_at(text, first);
+        if next == 0 {
             return Brackets {
                 first: first,
                 opened: opened,
             };
         }
-        first = standing.next;
+        first = next;
         opened = opened + 1;
     }
 }

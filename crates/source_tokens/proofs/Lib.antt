@@ -3,4 +3,5 @@ pub mod Runs
 pub mod Rows
 pub mod Scanned
 pub mod Begun
+pub mod Opened
 pub mod Spelling

@@ -93,7 +93,7 @@ any-bound long (suc k) (suc j) bs h g =
 
 module _ (text : List ℕ) where
   -- with the whole text's length as the bound
-  abbrev allFrom : List ℕ → List SheetToken
+  abbrev pub allFrom : List ℕ → List SheetToken
   allFrom bs = scannedTokens (length text) (length text) bs
 
   from-place : (at : ℕ) → allFrom (drop at text) ≡ tokensFrom text at
@@ -130,7 +130,7 @@ module _ (text : List ℕ) where
         unrolled ∙ at-comment (length text) allFrom (getD text at 0) (drop (suc at) text) e (eq-eqb (getD text at 0) 35 d) ∙ rw p (from-place r)
 
   module _ (at : ℕ) (u : TokenBegins text at) where
-    tokens-first : tokensFrom text at ≡ scanOn at allFrom (firstInText at (getD text at 0) (drop (suc at) text))
+    pub tokens-first : tokensFrom text at ≡ scanOn at allFrom (firstInText at (getD text at 0) (drop (suc at) text))
     tokens-first =
         unrolled at (u .inside) ∙ at-token (length text) allFrom (getD text at 0) (drop (suc at) text) (u .no-blank) (u .no-comment)
         ∙ rw (place-is at (getD text at 0) (u .inside))

@@ -2,11 +2,13 @@
 use Prim.Native.Nat.{ℕ, _≤_, _<_}
 use mathlib.Core.Bool.{false}
 use mathlib.Core.Path.{_≡_}
+use mathlib.Core.Logic.{_≢_}
 use mathlib.Core.List.{List, [], _∷_}
 use lib.ListN.{length, getD}
 use lib.Dec.{ltb, leb, eqb}
 use Rattle.lib_base.specs.Basics.{pick}
-use Rattle.source_language.specs.Tokens.{number, name, sign, isBlank, endSign}
+use Rattle.source_language.specs.Tokens.{number, name, sign, opening, isBlank, endSign}
+use Rattle.source_language.specs.Reader.{signAt}
 use Rattle.source_coding.specs.Places.{tokensFrom, nameAt}
 use Rattle.source_tokens.specs.declared.Token.{Token}
 use Rattle.source_tokens.specs.declared.Token.the-variants.{Number, Name, Sign}
@@ -45,3 +47,10 @@ pub record PassedOver (text : List ℕ) (at next : ℕ) : Type 0 where
   pub within : next ≤ length text
   pub all : tokensFrom text at ≡ tokensFrom text next
   pub begun : next < length text → TokenBegins text next
+
+-- `next` is behind an opening bracket that is the first token from `at` on; it is 0 where another token is
+pub record OpeningAt (text : List ℕ) (at next : ℕ) : Type 0 where
+  pub opens : (next ≡ 0 → ⊥) → (p : ℕ) × (tokensFrom text at ≡ sign p opening ∷ tokensFrom text next)
+  pub onward : (next ≡ 0 → ⊥) → (at < next) × (next ≤ length text)
+  pub other : next ≡ 0 → signAt (tokensFrom text at) ≢ opening
+  pub some : 0 < length (tokensFrom text at)

@@ -10,7 +10,7 @@ ghost use lib.ListN.{length, getD, take, drop};
 ghost use Rattle.lib_base.specs.Basics.{pick};
 ghost use Rattle.source_language.specs.Tokens.{marks, reserved, same, signOf, isDigit, isLetter, inWord, isBlank, inComment};
 ghost use Rattle.source_language.specs.Scanner.{runOfKind};
-ghost use Rattle.source_tokens.specs.Token.{cappedAt, placeOfToken, TokenAt, TokenWithin, TokenBegins, PassedOver};
+ghost use Rattle.source_tokens.specs.Token.{cappedAt, placeOfToken, TokenAt, TokenWithin, TokenBegins, PassedOver, OpeningAt};
 
 const TEN: u64 = 10;
 
@@ -330,4 +330,17 @@ pub fn token_at(text: &[u8], at: usize) -> Token
         return token_of(text, p);
     }
     Token::Sign(p, signs::END, p)
+}
+
+// The place behind an opening bracket, where that is the first token from a place on; else 0. No other token is read.
+pub fn opening_at(text: &[u8], at: usize) -> usize
+    requires { ⌜ length (now text) ≤ 65536 ⌝ }
+    requires { ⌜ at ≤ length (now text) ⌝ }
+    ensures { λ r. ⌜ OpeningAt (now (text .entry)) at r ⌝ }
+{
+    let p = pass_over(text, at);
+    if byte_at(text, p) == b'(' {
+        return p + 1;
+    }
+    0
 }

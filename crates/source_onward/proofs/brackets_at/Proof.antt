@@ -2,7 +2,7 @@
 use Prim.Native.Nat.{_-_}
 use native.Mathlib.Omega.{arith}
 use lib.ListN.{length}
-use Rattle.source_onward.proofs.Stands.{Opening, opening-start, opening-less, opening-turn, opening-end}
+use Rattle.source_onward.proofs.Stands.{Opening, opening-start, opening-turn, opening-end}
 use Rattle.source_onward.proofs.brackets_at.Statement.{statement}
 use Rattle.source_onward.proofs.brackets_at.Tie as tie
 
@@ -20,14 +20,7 @@ brackets-at-spec =
     μ-loop
     (λ c. opening-start _ _ (c .before .pre .1))
     (λ c κs. (c .before .before .pre .0, c .loop .inv .within))
-    (λ c.
-    let at-standing = c .before .before in
-    opening-end (at-standing .before .loop .inv) _ _ _ (at-standing .standing-at .ensures) (c .if1 .taken))
-    (λ c. let at-loop = c .before .before .before in omega (arith, at-loop .loop .inv .few, at-loop .loop .inv .within, at-loop .before .before .pre .0))
-    (λ c.
-    let at-standing = c .before .before in
-    let h = opening-less (at-standing .before .loop .inv) _ _ _ (at-standing .standing-at .ensures) (c .if1 .left) in
-    omega arith)
-    (λ c.
-    let at-standing = c .before .before in
-    opening-turn (at-standing .before .loop .inv) _ _ _ (at-standing .standing-at .ensures) (c .if1 .left)))
+    (λ c. opening-end (c .before .before .loop .inv) _ (c .before .opening-at .ensures) (c .if1 .taken))
+    (λ c. let at-loop = c .before .before in omega (arith, at-loop .loop .inv .few, at-loop .loop .inv .within, at-loop .before .before .pre .0))
+    (λ c. let b = c .before .opening-at .ensures .onward (c .if1 .left) in omega arith)
+    (λ c. opening-turn (c .before .before .loop .inv) _ (c .before .opening-at .ensures) (c .if1 .left)))
