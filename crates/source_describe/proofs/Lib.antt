@@ -1,10 +1,4 @@
-pub mod Terms
 pub mod Rights
 pub mod Declarations
-pub mod Needed
-pub mod Places
-pub mod Heads
-pub mod Writing
-pub mod Applied
 pub mod Turns
 pub mod Texts

@@ -30,11 +30,12 @@ use Rattle.source_pen.specs.Written.{writtenAfter, Penned}
 use Rattle.source_pen.proofs.Texts.{described-written}
 use Rattle.back_compile.specs.Verdict.{compileOn, numberOn}
 use Rattle.back_compile.proofs.AcceptedExactly.{accepted-exactly}
-use Rattle.source_describe.specs.Walk.{pastFields, neededIn, entriesTokens, signalsTokens, sheetTokens}
-use Rattle.source_describe.specs.Put.{TokensPut, startPen}
+use Rattle.source_walk.specs.Fields.{pastFields, neededIn}
+use Rattle.source_describe.specs.Walk.{entriesTokens, signalsTokens, sheetTokens}
+use Rattle.source_terms.specs.Put.{TokensPut, startPen}
 use Rattle.source_describe.specs.Describing.{textDelivered, readDescribed, describeOn}
 use Rattle.source_describe.proofs.Declarations.{past-events, behaviour-tag, signals-walk, entries-walk}
-use Rattle.source_describe.proofs.Needed.{needed-entries}
+use Rattle.source_walk.proofs.Needed.{needed-entries}
 
 parameters-on : (k i : ℕ) (ts : List SheetToken) → parameterTokens (parametersFrom k i) [] ++ ts ≡ parameterTokens (parametersFrom k i) ts
 unfolding parameterTokens parametersFrom

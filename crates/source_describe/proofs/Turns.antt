@@ -16,9 +16,10 @@ use Rattle.spec_language.specs.Reading.{phaseOf}
 use Rattle.source_language.specs.Tokens.{SheetToken, number, name, sign, by-word, seen-word, param-word, endSign}
 use Rattle.source_rendering.specs.Describe.{parameterName, describedConstant, parametersFrom, mark, valueTokens, parameterTokens}
 use Rattle.source_pen.specs.declared.Pen.{Pen}
-use Rattle.source_describe.specs.Walk.{afterField, wordInFront, pastFields, cellsInFront, neededIn, handlerTokens, handlersTokens, bitTokens, rightTokens, viewerTokens, activeTokens, entryTokens, entriesTokens, signalTokens, signalsTokens, sheetTokens}
-use Rattle.source_describe.specs.Put.{TokensPut}
-use Rattle.source_describe.proofs.Writing.{Underway, under-start, under-turn, under-end}
+use Rattle.source_walk.specs.Fields.{afterField, wordInFront, pastFields, cellsInFront, neededIn}
+use Rattle.source_describe.specs.Walk.{handlerTokens, handlersTokens, bitTokens, rightTokens, viewerTokens, activeTokens, entryTokens, entriesTokens, signalTokens, signalsTokens, sheetTokens}
+use Rattle.source_terms.specs.Put.{TokensPut}
+use Rattle.source_terms.proofs.Writing.{Underway, under-start, under-turn, under-end}
 
 pub phase-later : (n : ℕ) → n ≢ 0 → phaseOf n ≡ later
 phase-later zero h = absurd (h refl)

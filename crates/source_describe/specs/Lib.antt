@@ -1,4 +1,2 @@
 pub mod Walk
-pub mod Heads
-pub mod Put
 pub mod Describing

@@ -1,5 +1,5 @@
 -- The test is the definition's.
-use Rattle.source_describe.proofs.Writing.{wrote-none}
+use Rattle.source_terms.proofs.Writing.{wrote-none}
 use borrow.Author.Tests.{eq-eqb, ne-eqb}
 use borrow.Author.Needs.{needs}
 use Rattle.source_describe.proofs.put_bit.Statement.{statement}

@@ -1,6 +1,6 @@
 -- What is left of the bits to write is what there was (`Bits`).
 use Rattle.source_describe.proofs.Turns.{Bits, bits-on, bits-end}
-use Rattle.source_describe.proofs.Writing.{under-start}
+use Rattle.source_terms.proofs.Writing.{under-start}
 use native.Mathlib.Omega.{arith}
 use Prim.Native.Nat.{_-_}
 use Rattle.source_describe.proofs.put_bits.Statement.{statement}

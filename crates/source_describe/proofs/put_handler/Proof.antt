@@ -1,5 +1,5 @@
 -- One token after the other, as `handlerTokens` has them.
-use Rattle.source_describe.proofs.Writing.{wrote-on}
+use Rattle.source_terms.proofs.Writing.{wrote-on}
 use borrow.Author.Needs.{needs}
 use Rattle.source_describe.proofs.put_handler.Statement.{statement}
 use Rattle.source_describe.proofs.put_handler.Tie as tie

@@ -1,6 +1,6 @@
 -- What is left of the handlers to write is what there was (`Handling`).
 use Rattle.source_describe.proofs.Turns.{Handling, handling-on, handling-stops, handlers-none}
-use Rattle.source_describe.proofs.Writing.{under-start, under-end}
+use Rattle.source_terms.proofs.Writing.{under-start, under-end}
 use native.Mathlib.Omega.{arith}
 use Rattle.source_describe.proofs.put_handlers.Statement.{statement}
 use Rattle.source_describe.proofs.put_handlers.Tie as tie

@@ -1,6 +1,6 @@
 -- What is left of the parameters to write is what there was (`Parametric`).
 use Rattle.source_describe.proofs.Turns.{Parametric, parametric-start, parametric-on, parametric-end}
-use Rattle.source_describe.proofs.Writing.{wrote-on}
+use Rattle.source_terms.proofs.Writing.{wrote-on}
 use native.Mathlib.Omega.{arith}
 use Prim.Native.Nat.{_-_}
 use Rattle.source_describe.proofs.put_parameters.Statement.{statement}

@@ -1,6 +1,6 @@
 -- One part after the other; who may see stands behind the expression.
 use borrow.Author.Needs.{needs}
-use Rattle.source_describe.proofs.Writing.{wrote-on}
+use Rattle.source_terms.proofs.Writing.{wrote-on}
 use Rattle.source_describe.proofs.put_passive.Statement.{statement}
 use Rattle.source_describe.proofs.put_passive.Tie as tie
 

@@ -1,6 +1,6 @@
 -- 0 is at once, any other number later.
 use Rattle.source_describe.proofs.Turns.{phase-later}
-use Rattle.source_describe.proofs.Writing.{wrote-on}
+use Rattle.source_terms.proofs.Writing.{wrote-on}
 use borrow.Author.Needs.{needs}
 use Rattle.source_describe.proofs.put_phase.Statement.{statement}
 use Rattle.source_describe.proofs.put_phase.Tie as tie

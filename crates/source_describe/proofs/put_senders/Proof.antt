@@ -1,7 +1,7 @@
 -- The test is the definition's; one token after the other.
 use borrow.Author.Needs.{needs}
 use borrow.Author.Tests.{eq-eqb, ne-eqb}
-use Rattle.source_describe.proofs.Writing.{wrote-none, wrote-on}
+use Rattle.source_terms.proofs.Writing.{wrote-none, wrote-on}
 use Rattle.source_describe.proofs.put_senders.Statement.{statement}
 use Rattle.source_describe.proofs.put_senders.Tie as tie
 

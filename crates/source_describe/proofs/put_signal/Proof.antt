@@ -1,6 +1,6 @@
 -- One token after the other, as `signalTokens` has them.
 use borrow.Author.Needs.{needs}
-use Rattle.source_describe.proofs.Writing.{wrote-on}
+use Rattle.source_terms.proofs.Writing.{wrote-on}
 use Rattle.source_describe.proofs.put_signal.Statement.{statement}
 use Rattle.source_describe.proofs.put_signal.Tie as tie
 

@@ -2,7 +2,7 @@
 use Prim.Native.Nat.{_-_}
 use native.Mathlib.Omega.{arith}
 use borrow.Author.Needs.{needs}
-use Rattle.source_describe.proofs.Writing.{under-start, under-end}
+use Rattle.source_terms.proofs.Writing.{under-start, under-end}
 use Rattle.source_describe.proofs.Turns.{Declaring, declaring-on, declaring-stops, signals-none}
 use Rattle.source_describe.proofs.put_signals.Statement.{statement}
 use Rattle.source_describe.proofs.put_signals.Tie as tie

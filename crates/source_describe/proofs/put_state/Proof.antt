@@ -1,6 +1,6 @@
 -- One part after the other.
 use borrow.Author.Needs.{needs}
-use Rattle.source_describe.proofs.Writing.{wrote-on}
+use Rattle.source_terms.proofs.Writing.{wrote-on}
 use Rattle.source_describe.proofs.put_state.Statement.{statement}
 use Rattle.source_describe.proofs.put_state.Tie as tie
 

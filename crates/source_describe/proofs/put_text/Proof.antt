@@ -1,6 +1,6 @@
 -- One part after the other, as `sheetTokens` has them.
 use borrow.Author.Needs.{needs}
-use Rattle.source_describe.proofs.Writing.{wrote-on, wrote-as}
+use Rattle.source_terms.proofs.Writing.{wrote-on, wrote-as}
 use Rattle.source_describe.proofs.Turns.{text-parts}
 use Rattle.source_describe.proofs.put_text.Statement.{statement}
 use Rattle.source_describe.proofs.put_text.Tie as tie

@@ -2,7 +2,7 @@
 use lib.ListN.{drop}
 use borrow.Author.Needs.{needs}
 use borrow.Author.Tests.{ne-eqb}
-use Rattle.source_describe.proofs.Writing.{wrote-none, wrote-on, wrote-as}
+use Rattle.source_terms.proofs.Writing.{wrote-none, wrote-on, wrote-as}
 use Rattle.source_describe.proofs.Turns.{viewers-there}
 use Rattle.source_describe.proofs.put_viewers.Statement.{statement}
 use Rattle.source_describe.proofs.put_viewers.Tie as tie

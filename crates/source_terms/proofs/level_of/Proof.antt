@@ -1,0 +1,20 @@
+-- The tests are the definition's.
+use borrow.Author.Needs.{needs}
+use Rattle.lib_base.proofs.Pick.{code}
+use Rattle.text_formula.specs.Reader.{level}
+use Rattle.source_terms.proofs.level_of.Statement.{statement}
+use Rattle.source_terms.proofs.level_of.Tie as tie
+
+pub level-of-spec : {M : Type 1} → statement M
+unfolding level
+level-of-spec =
+    tie.close
+    (tie.spec
+    (λ c. search code depth 20)
+    (λ c. search code depth 20)
+    (λ c. search code depth 20)
+    (λ c. search code depth 20)
+    (λ c. search code depth 20)
+    (λ c. search code depth 20)
+    (λ c. search code depth 20)
+    (λ c. search code depth 20))

@@ -1,0 +1,56 @@
+-- The tests are the definition's.
+use Rattle.source_terms.proofs.Writing.{wrote-none}
+use borrow.Author.Tests.{eq-eqb, ne-eqb, lt-ltb, le-ltb}
+use borrow.Author.Needs.{needs}
+use Rattle.source_terms.proofs.put_between.Statement.{statement}
+use Rattle.source_terms.proofs.put_between.Tie as tie
+
+put-sign-requires : tie.Need-put-sign-requires
+put-sign-requires c κs = search needs
+
+same-length : tie.Need-same-length
+same-length c = search needs
+
+returns : tie.Need-returns
+returns c =
+    let at-put-sign = c .before .before in
+    rw (eq-eqb _ 14 (at-put-sign .before .before .if1 .taken)) (at-put-sign .put-sign .ensures)
+
+returns-2 : tie.Need-returns-2
+returns-2 c =
+    let at-if1 = c .before in
+    let f = at-if1 .before .before .args .f in
+    rw (ne-eqb f 14 (at-if1 .if1 .left), eq-eqb f 0 (c .if2 .taken)) (wrote-none _ _ (at-if1 .before .before .pre))
+
+returns-3 : tie.Need-returns-3
+returns-3 c =
+    let at-if1 = c .before .before in
+    let f = at-if1 .before .before .args .f in
+    rw (ne-eqb f 14 (at-if1 .if1 .left), ne-eqb f 0 (c .before .if2 .left), lt-ltb 14 f (c .if3 .taken)) (wrote-none _ _ (at-if1 .before .before .pre))
+
+put-sign-requires-2 : tie.Need-put-sign-requires-2
+put-sign-requires-2 c κs = search needs
+
+same-length-2 : tie.Need-same-length-2
+same-length-2 c = search needs
+
+returns-4 : tie.Need-returns-4
+returns-4 c =
+    let at-put-sign2 = c .before .before in
+    let at-if3 = at-put-sign2 .before .before in
+    let at-if1 = at-if3 .before .before in
+    let f = at-if1 .before .before .args .f in
+    rw (ne-eqb f 14 (at-if1 .if1 .left), ne-eqb f 0 (at-if3 .before .if2 .left), le-ltb 14 f (at-if3 .if3 .left)) (at-put-sign2 .put-sign2 .ensures)
+
+pub put-between-spec : {M : Type 1} → statement M
+put-between-spec =
+    tie.close
+    (tie.spec
+    put-sign-requires
+    same-length
+    returns
+    returns-2
+    returns-3
+    put-sign-requires-2
+    same-length-2
+    returns-4)

@@ -1,0 +1,262 @@
+// An expression's bytes written as text: each token is handed to the pen, unless the text is over its length; which
+// first cell a name has is looked up. Time: one pass over the expression's bytes.
+use source_coding::limits as texts;
+use source_coding::signs;
+use source_pen::Pen;
+use source_walk::BYTE;
+use source_walk::HEADER;
+use source_walk::after_field;
+use source_walk::byte_from;
+use source_walk::onward;
+use source_walk::word_from;
+use spec_language::functions;
+use spec_language::tags;
+use text_formula::levels;
+ghost use mathlib.Core.Path.{_≡_};
+ghost use mathlib.Core.List.{[], _∷_};
+ghost use Prim.Native.Nat.{_<_, _≤_};
+ghost use lib.Dec.{leb};
+ghost use lib.ListN.{length, drop};
+ghost use Rattle.text_formula.specs.Reader.{level as tightness};
+ghost use Rattle.source_language.specs.Tokens.{number, name, sign};
+ghost use Rattle.source_rendering.specs.Describe.{digits, describedConstant, unless, valueTokens};
+ghost use Rattle.source_walk.specs.Heads.{HeadsOf};
+ghost use Rattle.source_terms.specs.Terms.{cellTokens, headTokens, betweenTokens, firstLevel, secondLevel, leafTokens, termTokens};
+ghost use Rattle.source_terms.specs.Put.{TokensPut};
+
+// A sign; nothing where the text is over its length, as no accepted sheet's is.
+pub fn put_sign(out: &mut [u8], pen: Pen, c: u8) -> Pen
+    requires { ⌜ pen .at ≤ 65548 ⌝ }
+    requires { ⌜ (0 < c) × (c ≤ 34) ⌝ }
+    ensures { λ r. ⌜ TokensPut (now (out .entry)) (now (out .exit)) pen r (sign 0 c ∷ []) ⌝ }
+{
+    let n = pen.at;
+    if texts::TEXT_BYTES < n {
+        return pen;
+    }
+    source_pen::put_sign(out, pen, c)
+}
+
+// A number, likewise.
+pub fn put_number(out: &mut [u8], pen: Pen, n: u64) -> Pen
+    requires { ⌜ pen .at ≤ 65548 ⌝ }
+    requires { ⌜ n < 4294967296 ⌝ }
+    ensures { λ r. ⌜ TokensPut (now (out .entry)) (now (out .exit)) pen r (number 0 n ∷ []) ⌝ }
+{
+    let size = pen.at;
+    if texts::TEXT_BYTES < size {
+        return pen;
+    }
+    source_pen::put_number(out, pen, n)
+}
+
+// A name, likewise: a letter and a number.
+pub fn put_name(out: &mut [u8], pen: Pen, letter: u8, i: usize) -> Pen
+    requires { ⌜ pen .at ≤ 65548 ⌝ }
+    requires { ⌜ i < 256 ⌝ }
+    ensures { λ r. ⌜ TokensPut (now (out .entry)) (now (out .exit)) pen r (name 0 (letter ∷ digits i) ∷ []) ⌝ }
+{
+    let n = pen.at;
+    if texts::TEXT_BYTES < n {
+        return pen;
+    }
+    source_pen::put_name(out, pen, letter, i)
+}
+
+// The first word that is a negative constant, and how many words there are.
+const NEGATIVE: u64 = 2147483648;
+
+const WORDS: u64 = 4294967296;
+
+// A constant.
+pub fn put_value(out: &mut [u8], pen: Pen, w: u64) -> Pen
+    requires { ⌜ pen .at ≤ 65548 ⌝ }
+    requires { ⌜ w < 4294967296 ⌝ }
+    ensures { λ r. ⌜ TokensPut (now (out .entry)) (now (out .exit)) pen r (valueTokens (describedConstant w) []) ⌝ }
+{
+    if w < NEGATIVE {
+        return put_number(out, pen, w);
+    }
+    let after = put_sign(out, pen, functions::SUBTRACT);
+    put_number(out, after, WORDS - w)
+}
+
+// The first letters of behaviours' and parameters' names.
+pub const BEHAVIOUR: u8 = b'b';
+
+pub const PARAMETER: u8 = b'p';
+
+// Behaviour i, whose field has the first cell h.
+fn put_cell(out: &mut [u8], pen: Pen, h: usize, i: usize) -> Pen
+    requires { ⌜ pen .at ≤ 65548 ⌝ }
+    requires { ⌜ (h ≤ i) × (i < 256) ⌝ }
+    ensures { λ r. ⌜ TokensPut (now (out .entry)) (now (out .exit)) pen r (cellTokens h i) ⌝ }
+{
+    let named = put_name(out, pen, BEHAVIOUR, h);
+    if h == i {
+        return named;
+    }
+    let opened = put_sign(out, named, signs::BRACKET);
+    let counted = put_number(out, opened, (i - h) as u64);
+    put_sign(out, counted, signs::UNBRACKET)
+}
+
+// An expression that is no application: a constant, a name or a parameter. The behaviours stand from `first` on, as
+// the contract says; which first cells they have is looked up in `heads`. So it is in what follows.
+fn put_leaf(s: &[u8], first: usize, heads: &[u8; BYTE], at: usize, out: &mut [u8], pen: Pen) -> Pen
+    requires { ⌜ (first ≤ length (now s)) × (at ≤ length (now s)) × HeadsOf (now s) first (now heads) ⌝ }
+    requires { ⌜ pen .at ≤ 65548 ⌝ }
+    ensures { λ r. ⌜ TokensPut (now (out .entry)) (now (out .exit)) pen r (leafTokens (length (now (s .entry))) (drop first (now (s .entry))) (drop at (now (s .entry)))) ⌝ }
+{
+    let tag = byte_from(s, at, 0);
+    if tag == tags::CONSTANT {
+        return put_value(out, pen, word_from(s, onward(s, at, HEADER)));
+    }
+    let i = byte_from(s, at, HEADER) as usize;
+    if tag == tags::NAME {
+        return put_cell(out, pen, heads[i] as usize, i);
+    }
+    put_name(out, pen, PARAMETER, i)
+}
+
+// The level of a two-sided operator by its function, 1 for the tightest; 0 for another.
+fn level_of(f: u8) -> u64
+    ensures { λ r. ⌜ r ≡ tightness f ⌝ }
+{
+    if functions::UNEQUAL < f {
+        return 0;
+    }
+    if functions::AT_MOST < f {
+        return levels::EQUALITY;
+    }
+    if functions::DIVIDE < f {
+        return levels::ORDERING;
+    }
+    if functions::SUBTRACT < f {
+        return levels::PRODUCT;
+    }
+    if functions::NOT < f {
+        return levels::SUM;
+    }
+    if f == functions::AND {
+        return levels::CONJUNCTION;
+    }
+    if f == functions::OR {
+        return levels::DISJUNCTION;
+    }
+    0
+}
+
+// The level that is due for the first argument of a function.
+fn first_level(f: u8) -> u64
+    ensures { λ r. ⌜ r ≡ firstLevel f ⌝ }
+{
+    if f == functions::IF {
+        return levels::DISJUNCTION;
+    }
+    level_of(f)
+}
+
+// And for the second: one tighter, for operators group to the left.
+fn second_level(f: u8) -> u64
+    ensures { λ r. ⌜ r ≡ secondLevel f ⌝ }
+{
+    if f == functions::IF {
+        return levels::DISJUNCTION;
+    }
+    let n = level_of(f);
+    if n == 0 {
+        return 0;
+    }
+    n - 1
+}
+
+// A bracket, unless the operator is tight enough to do without.
+fn put_unless(out: &mut [u8], pen: Pen, f: u8, level: u64, c: u8) -> Pen
+    requires { ⌜ pen .at ≤ 65548 ⌝ }
+    requires { ⌜ (0 < c) × (c ≤ 34) ⌝ }
+    ensures { λ r. ⌜ TokensPut (now (out .entry)) (now (out .exit)) pen r (unless (leb (tightness f) level) c []) ⌝ }
+{
+    if level_of(f) <= level {
+        return pen;
+    }
+    put_sign(out, pen, c)
+}
+
+// Before the first argument of a function.
+fn put_head(out: &mut [u8], pen: Pen, f: u8, level: u64) -> Pen
+    requires { ⌜ pen .at ≤ 65548 ⌝ }
+    ensures { λ r. ⌜ TokensPut (now (out .entry)) (now (out .exit)) pen r (headTokens f level) ⌝ }
+{
+    if f == functions::NOT {
+        return put_sign(out, pen, f);
+    }
+    if f == functions::IF {
+        let after = put_sign(out, pen, f);
+        return put_sign(out, after, signs::OPENING);
+    }
+    put_unless(out, pen, f, level, signs::OPENING)
+}
+
+// Between its first two.
+fn put_between(out: &mut [u8], pen: Pen, f: u8) -> Pen
+    requires { ⌜ pen .at ≤ 65548 ⌝ }
+    ensures { λ r. ⌜ TokensPut (now (out .entry)) (now (out .exit)) pen r (betweenTokens f) ⌝ }
+{
+    if f == functions::IF {
+        return put_sign(out, pen, signs::COMMA);
+    }
+    if f == 0 {
+        return pen;
+    }
+    if functions::IF < f {
+        return pen;
+    }
+    put_sign(out, pen, f)
+}
+
+// The level of the loosest operators: where it is due, nothing is in brackets.
+pub const LOOSEST: u64 = levels::DISJUNCTION;
+
+// An application's function stands behind its header, its arguments behind that.
+const APPLIED: usize = 4;
+
+// The expression at a place, nested at most `room` deep, where a level is due.
+pub fn put_term(
+    s: &[u8],
+    first: usize,
+    heads: &[u8; BYTE],
+    at: usize,
+    room: usize,
+    level: u64,
+    out: &mut [u8],
+    pen: Pen,
+) -> Pen
+    requires { ⌜ (first ≤ length (now s)) × (at ≤ length (now s)) × HeadsOf (now s) first (now heads) ⌝ }
+    requires { ⌜ pen .at ≤ 65548 ⌝ }
+    ensures { λ r. ⌜ TokensPut (now (out .entry)) (now (out .exit)) pen r (termTokens (length (now (s .entry))) (drop first (now (s .entry))) room level (drop at (now (s .entry)))) ⌝ }
+{
+    if room == 0 {
+        return pen;
+    }
+    if byte_from(s, at, 0) != tags::APPLICATION {
+        return put_leaf(s, first, heads, at, out, pen);
+    }
+    let f = byte_from(s, at, HEADER);
+    let one = onward(s, at, APPLIED);
+    let headed = put_head(out, pen, f, level);
+    let after_one = put_term(s, first, heads, one, room - 1, first_level(f), out, headed);
+    if f == functions::NOT {
+        return after_one;
+    }
+    let two = after_field(s, one);
+    let joined = put_between(out, after_one, f);
+    let after_two = put_term(s, first, heads, two, room - 1, second_level(f), out, joined);
+    if f != functions::IF {
+        return put_unless(out, after_two, f, level, signs::CLOSING);
+    }
+    let three = after_field(s, two);
+    let comma = put_sign(out, after_two, signs::COMMA);
+    let after_three = put_term(s, first, heads, three, room - 1, LOOSEST, out, comma);
+    put_sign(out, after_three, signs::CLOSING)
+}

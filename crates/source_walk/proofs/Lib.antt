@@ -1,0 +1,4 @@
+pub mod Fields
+pub mod Needed
+pub mod Places
+pub mod Heads
