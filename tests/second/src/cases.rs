@@ -11,6 +11,7 @@ pub const FULL_BEHAVIOURS: usize = 64;
 const ADD: u8 = 4;
 const DIVIDE: u8 = 7;
 const NOT: u8 = 3;
+const IF: u8 = 14;
 
 /// An expression of so many nodes, as flat as can be.
 pub fn tree(size: usize, function: u8, leaf: &[u8]) -> Vec<u8> {
@@ -268,13 +269,20 @@ pub fn written() -> Vec<Written> {
     let hard: [(&str, fn(usize) -> String); 4] = [
         ("that differ at their end", differ_at_the_end),
         ("that differ in the middle", |i| format!("{0}{i:02}{0}", "x".repeat(15))),
-        ("that differ at the front", |i| format!("x{i:02}{}", "x".repeat(29))),
+        ("that differ at the front", differ_at_the_front),
         ("that differ in length", |i| ["x", "y"][i / 32].repeat(i % 32 + 1)),
     ];
     for (how, name) in hard {
         all.push((format!("full of names {how}"), named.clone(), text_with(&named, name)));
     }
+    let chosen = full_of_choices();
+    let text = text_with(&chosen, differ_at_the_front);
+    all.push(("full of choices between such names".to_string(), chosen, text));
     all
+}
+
+fn differ_at_the_front(i: usize) -> String {
+    format!("x{i:02}{}", "x".repeat(29))
 }
 
 /// A name of 31 or 32 bytes, of which the last ones tell it.
@@ -308,6 +316,13 @@ fn passives(n: usize, e: &[u8]) -> Vec<u8> {
 fn full_of_names(behaviours: usize) -> Vec<u8> {
     let last = behaviours - 1;
     join(&[event(1), passive(&tree(29, ADD, &name(last as u8))).repeat(last), active(1, &[])])
+}
+
+/// Passives that choose, twice over, between the active behind them and itself.
+fn full_of_choices() -> Vec<u8> {
+    let last = FULL_BEHAVIOURS - 1;
+    let thrice = |e: Vec<u8>| app(IF, &[e.clone(), e.clone(), e]);
+    join(&[event(1), passive(&thrice(thrice(name(last as u8)))).repeat(last), active(1, &[])])
 }
 
 /// A row, and passives that name its last cell.
