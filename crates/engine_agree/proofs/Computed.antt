@@ -20,7 +20,7 @@ use Rattle.spec_language.specs.Accepted.{Accepted, SheetAccepted}
 use Rattle.spec_language.specs.Order.{met, find, order, upTo, metAtOnce, phaseOne}
 use Rattle.spec_language.specs.Code.{sizeOf, postfix, inOrder, copyPart, firstPart, secondPart, restorePart, code, instructions, allInstructions, one?}
 use Rattle.spec_semantics.specs.Meaning.{value, inTurn, firstPhase, starts, fresh}
-use Rattle.spec_execution.specs.Execution.{execute, emptied, offs, ons}
+use Rattle.spec_execution.specs.Execution.{execute, emptied, times}
 use Rattle.spec_model.specs.Model.{Call, call, act, turn, runTurns, replies}
 use Rattle.spec_model.specs.Claims.{after, storeIn, IdleIn, takenTurns, takenInBy, eventsOf}
 use Rattle.check_graph.specs.Matrix.{closeCell, closeRow, closeThrough, closeRows, closeBy, closed}
@@ -36,23 +36,23 @@ use Rattle.engine_agree.specs.Final.{final, finalBytes, finalProgram, at
 -- ---- the lists, by the model engine
 
 pub same : eventsOf (takenInBy finalProgram (map call atOnce)) ≡ eventsOf (takenInBy finalProgram (map call oneByOne))
-unfolding flatMap entriesOut fillTerm fillClauses fillEntries handled mentions met find order upTo metAtOnce phaseOne value inTurn firstPhase starts fresh emptied act turn replies takenTurns code copyPart flatten firstPart inOrder postfix secondPart restorePart execute exact result over beyond offs ons
+unfolding flatMap entriesOut fillTerm fillClauses fillEntries handled mentions met find order upTo metAtOnce phaseOne value inTurn firstPhase starts fresh emptied act turn replies takenTurns code copyPart flatten firstPart inOrder postfix secondPart restorePart execute exact result over beyond times
 same = refl
 
 pub ends-at-once : IdleIn (after finalProgram (map call atOnce))
-unfolding flatMap entriesOut fillTerm fillClauses fillEntries handled mentions met find order upTo metAtOnce phaseOne value inTurn firstPhase starts fresh emptied act turn runTurns code copyPart flatten firstPart inOrder postfix secondPart restorePart execute exact result over beyond offs ons
+unfolding flatMap entriesOut fillTerm fillClauses fillEntries handled mentions met find order upTo metAtOnce phaseOne value inTurn firstPhase starts fresh emptied act turn runTurns code copyPart flatten firstPart inOrder postfix secondPart restorePart execute exact result over beyond times
 ends-at-once = refl
 
 pub ends-one-by-one : IdleIn (after finalProgram (map call oneByOne))
-unfolding flatMap entriesOut fillTerm fillClauses fillEntries handled mentions met find order upTo metAtOnce phaseOne value inTurn firstPhase starts fresh emptied act turn runTurns code copyPart flatten firstPart inOrder postfix secondPart restorePart execute exact result over beyond offs ons
+unfolding flatMap entriesOut fillTerm fillClauses fillEntries handled mentions met find order upTo metAtOnce phaseOne value inTurn firstPhase starts fresh emptied act turn runTurns code copyPart flatten firstPart inOrder postfix secondPart restorePart execute exact result over beyond times
 ends-one-by-one = refl
 
 pub no-points : storeIn (after finalProgram (map call atOnce)) ≡ 1 ∷ 0 ∷ []
-unfolding flatMap entriesOut fillTerm fillClauses fillEntries handled mentions met find order upTo metAtOnce phaseOne value inTurn firstPhase starts fresh emptied act turn runTurns code copyPart flatten firstPart inOrder postfix secondPart restorePart execute exact result over beyond offs ons
+unfolding flatMap entriesOut fillTerm fillClauses fillEntries handled mentions met find order upTo metAtOnce phaseOne value inTurn firstPhase starts fresh emptied act turn runTurns code copyPart flatten firstPart inOrder postfix secondPart restorePart execute exact result over beyond times
 no-points = refl
 
 pub twenty-points : storeIn (after finalProgram (map call oneByOne)) ≡ 1 ∷ 20 ∷ []
-unfolding flatMap entriesOut fillTerm fillClauses fillEntries handled mentions met find order upTo metAtOnce phaseOne value inTurn firstPhase starts fresh emptied act turn runTurns code copyPart flatten firstPart inOrder postfix secondPart restorePart execute exact result over beyond offs ons
+unfolding flatMap entriesOut fillTerm fillClauses fillEntries handled mentions met find order upTo metAtOnce phaseOne value inTurn firstPhase starts fresh emptied act turn runTurns code copyPart flatten firstPart inOrder postfix secondPart restorePart execute exact result over beyond times
 twenty-points = refl
 
 -- ---- the sheet is accepted

@@ -17,7 +17,7 @@ use Rattle.lib_word.proofs.Laws.{long, long-put, get-other, pile-out, pile-push
 use Rattle.lib_arith.specs.Functions.{result, over, arity}
 use Rattle.spec_language.specs.Code.{Instr, off, on, copy, restore, load, fetch, save, defer, move, push, apply}
 use Rattle.spec_semantics.specs.Meaning.{at}
-use Rattle.spec_execution.specs.Execution.{Values, held, heldAt, top, applyUnary, applyBinary, applyTernary, applied, over1, over2, over3, overOn, execute}
+use Rattle.spec_execution.specs.Execution.{Values, held, heldAt, top, onArguments, applied, execute}
 use Rattle.spec_execution.specs.Safe.{Filled, Ok, isFilled, Matches}
 use Rattle.spec_execution.proofs.SafeLaws.{full-some}
 use Rattle.format_image.specs.Image.{operation, constant}
@@ -93,40 +93,22 @@ unfolding pile
 length-pile l a zero = refl
 length-pile l a (suc n) = ap suc (length-pile l a n)
 
-apply1-pile : (f : ℕ) (l : List ℕ) (k : ℕ) → applyUnary f (pile l 328 (k + 1)) ≡ result f (get l (328 + k)) 0 0 ∷ pile l 328 k
+-- the arguments on top of the stack, and what is below them
+two-on-top : (l : List ℕ) (k : ℕ)
+    → (at (pile l 328 (k + 2)) 0 ≡ get l (328 + (k + 1))) × (at (pile l 328 (k + 2)) 1 ≡ get l (328 + k)) × (drop 2 (pile l 328 (k + 2)) ≡ pile l 328 k)
 unfolding pile
-apply1-pile f l k = rw (add-one k)
-
-apply2-pile : (f : ℕ) (l : List ℕ) (k : ℕ) → applyBinary f (pile l 328 (k + 2)) ≡ result f (get l (328 + k)) (get l (328 + (k + 1))) 0 ∷ pile l 328 k
-unfolding pile
-apply2-pile f l k =
+two-on-top l k =
     let z : k + 2 ≡ suc (suc k) = omega arith in
-    rw (z, add-one k)
+    rw (z, add-one k) (refl, refl, refl)
 
-apply3-pile : (f : ℕ) (l : List ℕ) (k : ℕ)
-    → applyTernary f (pile l 328 (k + 3)) ≡ result f (get l (328 + k)) (get l (328 + (k + 1))) (get l (328 + (k + 2))) ∷ pile l 328 k
+three-on-top : (l : List ℕ) (k : ℕ)
+    → (at (pile l 328 (k + 3)) 0 ≡ get l (328 + (k + 2))) × (at (pile l 328 (k + 3)) 1 ≡ get l (328 + (k + 1))) × (at (pile l 328 (k + 3)) 2 ≡ get l (328 + k))
+    × (drop 3 (pile l 328 (k + 3)) ≡ pile l 328 k)
 unfolding pile
-apply3-pile f l k =
+three-on-top l k =
     let z : k + 3 ≡ suc (suc (suc k)) = omega arith in
     let y : k + 2 ≡ suc (suc k) = omega arith in
-    rw (z, y, add-one k)
-
-over1-pile : (f : ℕ) (l : List ℕ) (k : ℕ) → over1 f (pile l 328 (k + 1)) ≡ over f (get l (328 + k)) 0 0
-unfolding pile
-over1-pile f l k = rw (add-one k)
-
-over2-pile : (f : ℕ) (l : List ℕ) (k : ℕ) → over2 f (pile l 328 (k + 2)) ≡ over f (get l (328 + k)) (get l (328 + (k + 1))) 0
-unfolding pile
-over2-pile f l k =
-    let z : k + 2 ≡ suc (suc k) = omega arith in
-    rw (z, add-one k)
-
-over3-pile : (f : ℕ) (l : List ℕ) (k : ℕ) → over3 f (pile l 328 (k + 3)) ≡ over f (get l (328 + k)) (get l (328 + (k + 1))) (get l (328 + (k + 2)))
-unfolding pile
-over3-pile f l k =
-    let z : k + 3 ≡ suc (suc (suc k)) = omega arith in
-    let y : k + 2 ≡ suc (suc k) = omega arith in
-    rw (z, y, add-one k)
+    rw (z, y, add-one k) (refl, refl, refl, refl)
 
 -- ---- what an instruction of operation op, slot s and constant w does: d are the values after it
 
@@ -202,7 +184,7 @@ module _ (n : ℕ) (few : n ≤ 64) (l : List ℕ) (d : Values) (g : long l ≡ 
       )
 
   one-does : (f k : ℕ) → get l 6 ≡ k + 1
-      → Holds n (applyOne l (get l 6) f) (leaves (applyUnary f (d .stack)) (over1 f (d .stack))) × Framed l (applyOne l (get l 6) f)
+      → Holds n (applyOne l (get l 6) f) (leaves (result f (at (d .stack) 0) 0 0 ∷ drop 1 (d .stack)) (over f (at (d .stack) 0) 0 0)) × Framed l (applyOne l (get l 6) f)
   unfolding applyOne
   one-does f k e =
       let z : 327 + (k + 1) ≡ 328 + k = omega arith in
@@ -212,23 +194,25 @@ module _ (n : ℕ) (few : n ≤ 64) (l : List ℕ) (d : Values) (g : long l ≡ 
       let m = put (noted l b) (328 + k) v in
       let s : pile m 328 (get (noted l b) 6) ≡ v ∷ pile l 328 k =
       rw (noted-depth l b, e) (pile-push (noted l b) 328 k v (noted-long l b ∙ g) (omega arith) ∙ ap (λ (st : List ℕ). v ∷ st) (noted-pile l b k)) in
-      rw (e, z, stack-is (k + 1) e, apply1-pile f l k, over1-pile f l k) (
+      rw (e, z, stack-is (k + 1) e, top-pile l k, drop-pile l k) (
         subst (λ (st : List ℕ). Holds n m (leaves st b)) s (place-holds n few (noted l b) k v (marked b d) (noted-long l b ∙ g) (omega arith) (noted-holds n few l b d g h)),
         framed-put _ (328 + k) v (omega arith) (omega arith) (framed-noted l b (framed-all l)),
       )
 
   two-does : (f k : ℕ) → get l 6 ≡ k + 2
-      → Holds n (applyTwo l (get l 6) f) (leaves (applyBinary f (d .stack)) (over2 f (d .stack))) × Framed l (applyTwo l (get l 6) f)
+      → Holds n (applyTwo l (get l 6) f) (leaves (result f (at (d .stack) 1) (at (d .stack) 0) 0 ∷ drop 2 (d .stack)) (over f (at (d .stack) 1) (at (d .stack) 0) 0)) × Framed l (applyTwo l (get l 6) f)
   unfolding applyTwo
   two-does f k e =
       let z : 326 + (k + 2) ≡ 328 + k = omega arith in
       let y : 327 + (k + 2) ≡ 328 + (k + 1) = omega arith in
       let x : k + 2 - 1 ≡ k + 1 = omega arith in
       let c : k + 2 ≤ 64 = rw e at (h .shallow) in
-      rw (e, z, y, x, stack-is (k + 2) e, apply2-pile f l k, over2-pile f l k) (put-result k _ _ (omega arith))
+      let t = two-on-top l k in
+      rw (e, z, y, x, stack-is (k + 2) e, t .0, t .1, t .2) (put-result k _ _ (omega arith))
 
   three-does : (f k : ℕ) → get l 6 ≡ k + 3
-      → Holds n (applyThree l (get l 6) f) (leaves (applyTernary f (d .stack)) (over3 f (d .stack))) × Framed l (applyThree l (get l 6) f)
+      → Holds n (applyThree l (get l 6) f) (leaves (result f (at (d .stack) 2) (at (d .stack) 1) (at (d .stack) 0) ∷ drop 3 (d .stack))
+      (over f (at (d .stack) 2) (at (d .stack) 1) (at (d .stack) 0))) × Framed l (applyThree l (get l 6) f)
   unfolding applyThree
   three-does f k e =
       let z : 325 + (k + 3) ≡ 328 + k = omega arith in
@@ -236,10 +220,11 @@ module _ (n : ℕ) (few : n ≤ 64) (l : List ℕ) (d : Values) (g : long l ≡ 
       let x : 327 + (k + 3) ≡ 328 + (k + 2) = omega arith in
       let u : k + 3 - 2 ≡ k + 1 = omega arith in
       let c : k + 3 ≤ 64 = rw e at (h .shallow) in
-      rw (e, z, y, x, u, stack-is (k + 3) e, apply3-pile f l k, over3-pile f l k) (put-result k _ _ (omega arith))
+      let t = three-on-top l k in
+      rw (e, z, y, x, u, stack-is (k + 3) e, t .0, t .1, t .2, t .3) (put-result k _ _ (omega arith))
 
   apply-does : (f : ℕ) → arity f ≤ get l 6
-      → Holds n (applyOn l (get l 6) f) (leaves (applied f (d .stack)) (overOn f (d .stack))) × Framed l (applyOn l (get l 6) f)
+      → Holds n (applyOn l (get l 6) f) (leaves (applied f (d .stack)) (onArguments (over f) f (d .stack))) × Framed l (applyOn l (get l 6) f)
   unfolding applyOn arity
   apply-does f b =
       split (eqb f 3)

@@ -19,7 +19,7 @@ use Rattle.spec_language.specs.Dependence.{handled, mentions}
 use Rattle.spec_language.specs.Order.{met, find, order, upTo, metAtOnce, phaseOne}
 use Rattle.spec_language.specs.Code.{postfix, inOrder, copyPart, firstPart, secondPart, restorePart, code}
 use Rattle.spec_semantics.specs.Meaning.{value, inTurn, firstPhase, starts, fresh}
-use Rattle.spec_execution.specs.Execution.{execute, emptied, offs, ons}
+use Rattle.spec_execution.specs.Execution.{execute, emptied, times}
 use Rattle.spec_model.specs.Model.{arrive, step, board, refused, takenIn, shows, idle, ran, started, preempted, committed, act, Reply, says, carriedOver, turn, replies, begun, Turn, call}
 use Rattle.spec_model.specs.Carried.{carriedActives, carried}
 use Rattle.secrecy_model.specs.Sight.{AlikeBut, Pair, both, each, inOne, inOther, heardOf, EqualReplies, SameHidden}
@@ -87,11 +87,11 @@ marked (says (committed a m) ∷ l) = m
 marked (carriedOver ∷ l) = marked l
 
 over-marked : marked (replies calls (begun (fill none-lent (closed 2147483647)))) ≡ true
-unfolding flatten flatMap beyond exact result over entriesOut fillTerm fillClauses fillEntries handled mentions met find order upTo metAtOnce phaseOne postfix inOrder copyPart firstPart secondPart restorePart code value inTurn firstPhase starts fresh execute emptied offs ons act turn replies
+unfolding flatten flatMap beyond exact result over entriesOut fillTerm fillClauses fillEntries handled mentions met find order upTo metAtOnce phaseOne postfix inOrder copyPart firstPart secondPart restorePart code value inTurn firstPhase starts fresh execute emptied times act turn replies
 over-marked = refl
 
 not-marked : marked (replies calls (begun (fill none-lent (closed 0)))) ≡ false
-unfolding flatten flatMap beyond exact result over entriesOut fillTerm fillClauses fillEntries handled mentions met find order upTo metAtOnce phaseOne postfix inOrder copyPart firstPart secondPart restorePart code value inTurn firstPhase starts fresh execute emptied offs ons act turn replies
+unfolding flatten flatMap beyond exact result over entriesOut fillTerm fillClauses fillEntries handled mentions met find order upTo metAtOnce phaseOne postfix inOrder copyPart firstPart secondPart restorePart code value inTurn firstPhase starts fresh execute emptied times act turn replies
 not-marked = refl
 
 -- the answers with their marks differ, though player 1 sees nothing

@@ -12,12 +12,12 @@ use Rattle.spec_language.specs.Dependence.{Response, follows, takes, defers, ke
 use Rattle.spec_language.specs.Order.{upTo, phaseOne}
 use Rattle.spec_language.specs.Code.{Instr, off, on, copy, restore, load, fetch, save, defer, move, push, apply}
 use Rattle.spec_language.specs.Code.{postfix, ofC, firstCode, laterCode, moveCode, againCode, inC, byNumber, inOrder, firstPart, secondPart}
-use Rattle.spec_execution.specs.Execution.{Values, execute, executeAll, isOff, isOn}
+use Rattle.spec_execution.specs.Execution.{Values, execute, executeAll, times}
 use Rattle.spec_execution.proofs.Lengths.{mid}
 
 -- neither off nor on; leaves the store alone; both
 abbrev pub Plain : Instr → Type 0
-Plain i = (isOff i ≡ 0) × (isOn i ≡ 0)
+Plain i = (is : List Instr) → (times off (i ∷ is) ≡ times off is) × (times on (i ∷ is) ≡ times on is)
 
 abbrev pub Still : Instr → Type 0
 Still i = (d : Values) → execute i d .store ≡ d .store
@@ -44,33 +44,33 @@ module _ (P : Instr → Type 0) where
 -- ---- the instructions one by one
 
 calm-copy : (i : ℕ) → Calm (copy i)
-unfolding execute
-calm-copy i = ((refl, refl), λ d. refl)
+unfolding execute times
+calm-copy i = (λ is. (refl, refl), λ d. refl)
 
 calm-name : (b : Bool) (i : ℕ) → Calm (pick b (fetch i) (load i))
-unfolding execute
-calm-name true i = ((refl, refl), λ d. refl)
-calm-name false i = ((refl, refl), λ d. refl)
+unfolding execute times
+calm-name true i = (λ is. (refl, refl), λ d. refl)
+calm-name false i = (λ is. (refl, refl), λ d. refl)
 
 calm-push : (w : ℕ) → Calm (push w)
-unfolding execute
-calm-push w = ((refl, refl), λ d. refl)
+unfolding execute times
+calm-push w = (λ is. (refl, refl), λ d. refl)
 
 calm-apply : (f : ℕ) → Calm (apply f)
-unfolding execute
-calm-apply f = ((refl, refl), λ d. refl)
+unfolding execute times
+calm-apply f = (λ is. (refl, refl), λ d. refl)
 
 calm-save : (i : ℕ) → Calm (save i)
-unfolding execute
-calm-save i = ((refl, refl), λ d. refl)
+unfolding execute times
+calm-save i = (λ is. (refl, refl), λ d. refl)
 
 calm-defer : (i : ℕ) → Calm (defer i)
-unfolding execute
-calm-defer i = ((refl, refl), λ d. refl)
+unfolding execute times
+calm-defer i = (λ is. (refl, refl), λ d. refl)
 
 calm-move : (i : ℕ) → Calm (move i)
-unfolding execute
-calm-move i = ((refl, refl), λ d. refl)
+unfolding execute times
+calm-move i = (λ is. (refl, refl), λ d. refl)
 
 pub still-off : Still off
 unfolding execute
@@ -139,7 +139,8 @@ module _ (p : Program) (e : ℕ) where
       (all-turns Calm p e (againCode c) (calm-again c) (phaseOne p e)))
 
   pub plain-restores : All Plain (byNumber p e (ofC restore))
-  plain-restores = all-parts Plain (size p) _ (λ i. all-ofC Plain restore (λ j. (refl, refl)) i (response p e i))
+  unfolding times
+  plain-restores = all-parts Plain (size p) _ (λ i. all-ofC Plain restore (λ j is. (refl, refl)) i (response p e i))
 
 -- what is still leaves the store alone
 pub still-runs : (is : List Instr) → All Still is → (d : Values) → executeAll is d .store ≡ d .store

@@ -2,7 +2,7 @@
 -- instructions, in each of the four stretches that c can lie in.
 use Prim.Native.Nat.{ℕ, suc, _+_, _*_, _-_, _≤_, _<_}
 use mathlib.Core.Bool.{true, false}
-use mathlib.Core.Path.{_≡_, refl, sym, subst}
+use mathlib.Core.Path.{_≡_, refl, sym, subst, _∙_}
 use mathlib.Core.Logic.{by-cases}
 use mathlib.Core.List.{List, [], _∷_, _++_, append-assoc}
 use native.Mathlib.Decide.{decLt}
@@ -15,23 +15,23 @@ use Rattle.lib_base.specs.Basics.{All}
 use Rattle.lib_base.proofs.Tools.{all-imp}
 use Rattle.spec_language.specs.Syntax.{Program}
 use Rattle.spec_language.specs.Code.{Instr, off, on, copy, restore, ofC, byNumber, copyPart, restorePart, code, members}
-use Rattle.spec_execution.specs.Execution.{offs, ons, maskedAfter, copyingBackAfter}
+use Rattle.spec_execution.specs.Execution.{times, maskedAfter, copyingBackAfter}
 use Rattle.spec_execution.specs.CodeFacts.{copyingBackAt, maskedAt}
 use Rattle.spec_execution.proofs.Lengths.{mid, length-C, length-code}
 use Rattle.spec_execution.proofs.Calm.{Plain, Calm, all-take, calm-copies, calm-mid, plain-restores}
 
 abbrev Counts : List Instr → ℕ → ℕ → Type 0
-Counts is a b = (offs is ≡ a) × (ons is ≡ b)
+Counts is a b = (times off is ≡ a) × (times on is ≡ b)
 
 counts-none : (is : List Instr) → All Plain is → Counts is 0 0
-unfolding offs ons
+unfolding times
 counts-none [] h = (refl, refl)
-counts-none (i ∷ is) h = let t = counts-none is (h .1) in (omega arith, omega arith)
+counts-none (i ∷ is) h = let t = counts-none is (h .1) in let k = h .0 is in (k .0 ∙ t .0, k .1 ∙ t .1)
 
 counts-join : (xs ys : List Instr) (a b : ℕ) → All Plain xs → Counts ys a b → Counts (xs ++ ys) a b
-unfolding offs ons
+unfolding times
 counts-join [] ys a b h k = k
-counts-join (x ∷ xs) ys a b h k = let t = counts-join xs ys a b (h .1) k in (omega arith, omega arith)
+counts-join (x ∷ xs) ys a b h k = let t = counts-join xs ys a b (h .1) k in let u = h .0 (xs ++ ys) in (u .0 ∙ t .0, u .1 ∙ t .1)
 
 -- the first c of a list that begins with plain ones: within those, and past them
 within : (c : ℕ) (xs ys : List Instr) → All Plain xs → c ≤ length xs → Counts (take c (xs ++ ys)) 0 0
@@ -41,11 +41,11 @@ past : (c : ℕ) (xs ys : List Instr) (a b : ℕ) → All Plain xs → Counts (t
 past c xs ys a b h k = rw (take-append-add xs ys c) (counts-join xs (take c ys) a b h k)
 
 counts-off : (is : List Instr) (a b : ℕ) → Counts is a b → Counts (off ∷ is) (1 + a) b
-unfolding offs ons
+unfolding times
 counts-off is a b h = (omega arith, omega arith)
 
 counts-on : (is : List Instr) (a b : ℕ) → Counts is a b → Counts (on ∷ is) a (1 + b)
-unfolding offs ons
+unfolding times
 counts-on is a b h = (omega arith, omega arith)
 
 module _ (cs ms rs : List Instr) (hc : All Plain cs) (hm : All Plain ms) (hr : All Plain rs) where
@@ -71,7 +71,7 @@ abbrev Marks : List Instr → ℕ → ℕ → ℕ → Type 0
 Marks is len m c = (maskedAfter is ≡ maskedAt len m c) × (copyingBackAfter is ≡ copyingBackAt len m c)
 
 module _ (is : List Instr) (len m c : ℕ) where
-  marks-start : offs is ≡ 0 → ons is ≡ 0 → c ≡ 0 → m + 1 < len → Marks is len m c
+  marks-start : times off is ≡ 0 → times on is ≡ 0 → c ≡ 0 → m + 1 < len → Marks is len m c
   marks-start a b e l = let t : leb (len - (m + 1)) c ≡ false = lt-leb (len - (m + 1)) c (omega arith) in rw (a, b, t, e) (refl, refl)
 
   marks-copies : Counts is 1 0 → 0 < c → c ≤ m + 1 → m + 1 + (m + 1) < len → Marks is len m c

@@ -18,7 +18,7 @@ use Rattle.spec_language.specs.Order.{upTo}
 use Rattle.spec_language.specs.Code.{Instr, load, fetch, apply, postfix}
 use Rattle.spec_semantics.specs.Meaning.{value, at}
 use Rattle.spec_semantics.specs.OverMeaning.{overIn}
-use Rattle.spec_execution.specs.Execution.{Values, heldAt, applied, overOn, pushed, execute, executeAll}
+use Rattle.spec_execution.specs.Execution.{Values, heldAt, onArguments, applied, pushed, execute, executeAll}
 
 pub execute-append : (xs ys : List Instr) (d : Values) → executeAll (xs ++ ys) d ≡ executeAll ys (executeAll xs d)
 unfolding executeAll
@@ -62,15 +62,15 @@ module _ (f : ℕ) where
   unfolding arity
   three-arguments a b c st h = split (eqb f 3) (λ t. absurd (omega (arith, (rw t at h)))) (λ t. split (eqb f 14) (λ u. rw (t, u)) (λ u. absurd (omega (arith, (rw (t, u) at h)))))
 
-  one-over : (a : ℕ) (st : List ℕ) → arity f ≡ 1 → overOn f (a ∷ st) ≡ over f a 0 0
+  one-over : (a : ℕ) (st : List ℕ) → arity f ≡ 1 → onArguments (over f) f (a ∷ st) ≡ over f a 0 0
   unfolding arity
   one-over a st h = split (eqb f 3) (λ t. rw t) (λ t. split (eqb f 14) (λ u. absurd (omega (arith, (rw (t, u) at h)))) (λ u. absurd (omega (arith, (rw (t, u) at h)))))
 
-  two-over : (a b : ℕ) (st : List ℕ) → arity f ≡ 2 → overOn f (b ∷ (a ∷ st)) ≡ over f a b 0
+  two-over : (a b : ℕ) (st : List ℕ) → arity f ≡ 2 → onArguments (over f) f (b ∷ (a ∷ st)) ≡ over f a b 0
   unfolding arity
   two-over a b st h = split (eqb f 3) (λ t. absurd (omega (arith, (rw t at h)))) (λ t. split (eqb f 14) (λ u. absurd (omega (arith, (rw (t, u) at h)))) (λ u. rw (t, u)))
 
-  three-over : (a b c : ℕ) (st : List ℕ) → arity f ≡ 3 → overOn f (c ∷ (b ∷ (a ∷ st))) ≡ over f a b c
+  three-over : (a b c : ℕ) (st : List ℕ) → arity f ≡ 3 → onArguments (over f) f (c ∷ (b ∷ (a ∷ st))) ≡ over f a b c
   unfolding arity
   three-over a b c st h = split (eqb f 3) (λ t. absurd (omega (arith, (rw t at h)))) (λ t. split (eqb f 14) (λ u. rw (t, u)) (λ u. absurd (omega (arith, (rw (t, u) at h)))))
 

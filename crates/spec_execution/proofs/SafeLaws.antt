@@ -17,8 +17,8 @@ use Rattle.spec_language.specs.Dependence.{size}
 use Rattle.spec_language.specs.Accepted.{Valid}
 use Rattle.spec_language.specs.Code.{code, Instr, off, on, copy, restore, load, fetch, save, defer, move, push, apply}
 use Rattle.spec_semantics.specs.Meaning.{at}
-use Rattle.spec_execution.specs.Execution.{Values, heldAt, top, applyUnary, applyBinary, applyTernary, applied, overOn, execute, executeAll, emptied}
-use Rattle.lib_arith.specs.Functions.{arity}
+use Rattle.spec_execution.specs.Execution.{Values, heldAt, top, onArguments, applied, execute, executeAll, emptied}
+use Rattle.lib_arith.specs.Functions.{over, arity}
 use Rattle.spec_execution.specs.Safe.{Filled, start, Ok, withDepth, filledNext, filledAfter, Safe, isFilled, Matches}
 use Rattle.spec_execution.proofs.SafeParts.{passes}
 
@@ -41,26 +41,8 @@ full-set l m i w e b h j =
     (λ q. rw (getD-set-other l i j (some w) none q, getD-set-other m i j true false q) (h j))
 
 -- the stack's length after a function
-length-applied1 : (f : ℕ) (st : List ℕ) → 1 ≤ length st → length (applyUnary f st) ≡ length st - 1 + 1
-length-applied1 f [] h = absurd (omega arith)
-length-applied1 f (a ∷ st) h = omega arith
-
-length-applied2 : (f : ℕ) (st : List ℕ) → 2 ≤ length st → length (applyBinary f st) ≡ length st - 2 + 1
-length-applied2 f [] h = absurd (omega arith)
-length-applied2 f (b ∷ []) h = absurd (omega arith)
-length-applied2 f (b ∷ (a ∷ st)) h = omega arith
-
-length-applied3 : (f : ℕ) (st : List ℕ) → 3 ≤ length st → length (applyTernary f st) ≡ length st - 3 + 1
-length-applied3 f [] h = absurd (omega arith)
-length-applied3 f (c ∷ []) h = absurd (omega arith)
-length-applied3 f (c ∷ (b ∷ [])) h = absurd (omega arith)
-length-applied3 f (c ∷ (b ∷ (a ∷ st))) h = omega arith
-
 length-applied : (f : ℕ) (st : List ℕ) → arity f ≤ length st → length (applied f st) ≡ length st - arity f + 1
-unfolding arity
-length-applied f st h =
-    split (eqb f 3) (λ t. rw t (length-applied1 f st (rw t at h)))
-    (λ t. split (eqb f 14) (λ u. rw (t, u) (length-applied3 f st (rw (t, u) at h))) (λ u. rw (t, u) (length-applied2 f st (rw (t, u) at h))))
+length-applied f st h = omega (arith, length-drop (arity f) st)
 
 module _ (d : Values) (a : Filled) where
   -- scratch place i filled, the stack changed
@@ -125,7 +107,7 @@ next-matches (defer i) d a k m =
 next-matches (move i) d a k m = scratch-matches d a i (heldAt (d .deferred) i) (d .stack) (a .depth) (k .0) (m .stacked) m
 next-matches (push w) d a k m = stack-matches d a (w ∷ d .stack) (a .depth + 1) (d .mark) (omega (arith, m .stacked)) m
 next-matches (apply f) d a k m =
-    stack-matches d a (applied f (d .stack)) (a .depth - arity f + 1) (overOn f (d .stack) || d .mark)
+    stack-matches d a (applied f (d .stack)) (a .depth - arity f + 1) (onArguments (over f) f (d .stack) || d .mark)
     (length-applied f (d .stack) (rw (m .stacked) (k .2)) ∙ ap (λ n. n - arity f + 1) (m .stacked)) m
 
 pub after-matches : (xs ys : List Instr) (d : Values) (a : Filled) → Safe a (xs ++ ys) → Matches d a → Matches (executeAll xs d) (filledAfter a xs)

@@ -15,6 +15,7 @@ pub data Instr : Type 0 where
   off on : Instr
   copy restore load fetch save defer move : ℕ → Instr
   push apply : ℕ → Instr
+  deriving Discrete as Instr-discrete
 
 -- C: "the set of all passives and of the actives it writes"
 abbrev pub copied : Response → Bool

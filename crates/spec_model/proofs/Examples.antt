@@ -10,7 +10,7 @@ use Rattle.spec_language.specs.Order.{met, find, order, upTo, metAtOnce, phaseO
 use Rattle.spec_language.specs.Code.{postfix, inOrder, copyPart, firstPart, secondPart, restorePart, code}
 use Rattle.spec_language.specs.Refusals as refusals
 use Rattle.spec_semantics.specs.Meaning.{value, inTurn, firstPhase, laterPhase, event, starts, fresh}
-use Rattle.spec_execution.specs.Execution.{execute, executeAll, emptied, offs, ons}
+use Rattle.spec_execution.specs.Execution.{execute, executeAll, emptied, times}
 use Rattle.spec_model.specs.Carried.{carriedActives, carried}
 use Rattle.spec_model.specs.Model.{arrival, arrive, step, refused, act, Turn, call, change, says, carriedOver, turn, runTurns, replies}
 use Rattle.spec_model.specs.Claims.{commits, changes, moments, storeIn, after, historyOf}
@@ -55,5 +55,5 @@ pub record Worked : Type 0 where
   pub undeclared : turn (change silent) (after wrong (call (arrive 0 0) ∷ [])) .reply ≡ says (refused refusals.undeclaredInHand)
 
 pub worked : Worked
-unfolding exact result over handled mentions met find order upTo metAtOnce phaseOne postfix inOrder flatten flatMap copyPart firstPart secondPart restorePart code value inTurn firstPhase laterPhase event starts fresh execute executeAll emptied offs ons carriedActives carried act turn runTurns replies moments
+unfolding exact result over handled mentions met find order upTo metAtOnce phaseOne postfix inOrder flatten flatMap copyPart firstPart secondPart restorePart code value inTurn firstPhase laterPhase event starts fresh execute executeAll emptied times carriedActives carried act turn runTurns replies moments
 worked = record { board = refl; history = refl; settling = refl; not-yet = refl; undeclared = refl }

@@ -18,7 +18,7 @@ use Rattle.spec_language.specs.Syntax.{Program}
 use Rattle.spec_language.specs.Accepted.{Valid}
 use Rattle.spec_language.specs.Code.{code, members}
 use Rattle.spec_language.specs.Dependence.{events}
-use Rattle.spec_execution.specs.Execution.{Values, offs, ons, copyingBackAfter, maskedAfter}
+use Rattle.spec_execution.specs.Execution.{Values, times, copyingBackAfter, maskedAfter}
 use Rattle.spec_execution.specs.CodeFacts.{CodeFacts, copyingBackAt, maskedAt}
 use Rattle.spec_model.specs.Model.{Arrival, arrival, Running, rest, busy, Engine, engine, queue, arrive, step, board, rank, Turn, call, change, State, state, carriedTo}
 use Rattle.spec_model.specs.Claims.{number, inQueue, CopyingBack, Moment, commits, Commit, commitUnder, commitsUnder, inForce, engineIn, numberIn, handIn, after, historyOf, Sound, LowerThan, TakenInLater, LowerFirst}
@@ -166,7 +166,7 @@ module _ (p₀ : Program) where
     }
 
     calls : Cases p (Kept p₀ Lowered p)
-    unfolding offs ons
+    unfolding times
     calls = record {
       refuses = λ e who w r past h taken l here i. same (call (arrive e who)) p w past h taken i;
       takes = λ e who t waiting r d k eight m n reach past h taken l here i.

@@ -16,7 +16,7 @@ use Rattle.spec_language.specs.Dependence.{size, events}
 use Rattle.spec_language.specs.Code.{Instr, off, code}
 use Rattle.spec_semantics.specs.Meaning.{event, fresh}
 use Rattle.spec_semantics.proofs.Lengths.{length-fresh}
-use Rattle.spec_execution.specs.Execution.{Values, execute, executeAll, emptied, offs, maskedAfter, copyingBackAfter}
+use Rattle.spec_execution.specs.Execution.{Values, execute, executeAll, emptied, times, maskedAfter, copyingBackAfter}
 use Rattle.spec_execution.specs.CodeFacts.{CodeFacts}
 use Rattle.spec_execution.proofs.Running.{execute-append}
 use Rattle.spec_model.specs.Model.{Arrival, arrival, Running, rest, busy, Engine, engine, initial, queue, Call, choose, act, run}
@@ -112,7 +112,7 @@ module _ (p : Program) where
 
     -- what is not masked does not copy back
     pub unmasked : (e c : ℕ) → maskedAfter (take c (code p e)) ≡ false → copyingBackAfter (take c (code p e)) ≡ false
-    unmasked e c h = by-test (λ (x : Bool). x ≡ false) (eqb (offs (take c (code p e))) 2) (λ _. h) (λ _. refl)
+    unmasked e c h = by-test (λ (x : Bool). x ≡ false) (eqb (times off (take c (code p e))) 2) (λ _. h) (λ _. refl)
 
     -- where it does not copy back, the store is as it was
     pub still : (s : List ℕ) (w : Engine) → length s ≡ size p → All (Fine (number w)) (inQueue w) → copyBackIn p w ≡ false → DoneIn s w → storeOf w ≡ s
