@@ -13,8 +13,8 @@ use borrow.Author.Tests.{le-ltb}
 use Rattle.lib_base.specs.Basics.{All}
 use Rattle.lib_word.specs.Word.{getAt, get}
 use Rattle.spec_language.specs.Syntax.{Program}
-use Rattle.spec_language.specs.Sheet.{Entry, Sheet, writtenOut}
-use Rattle.spec_language.specs.Grammar.{encode, ItemParamsIn, SheetFits}
+use Rattle.spec_language.specs.Sheet.{Sheet, writtenOut, paramsOfEntries}
+use Rattle.spec_language.specs.Grammar.{encode, SheetFits}
 use Rattle.spec_language.specs.Reading.{Got, bad, got, readSheet}
 use Rattle.spec_language.proofs.SheetLaws.{fill-same, written-unused, fill-written}
 use Rattle.spec_grammar.proofs.Programs.{reads-back, reads-only}
@@ -35,7 +35,7 @@ module _ (x : Sheet) (ps : List ℕ) (enough : 32 ≤ length ps) where
   alike zero qs t = written-judged qs t
   alike (suc n) qs t = refl
 
-  read-alike : All (λ (b : Entry). ItemParamsIn (b .item)) (x .entries) → (qs t : List ℕ) → judgeRead (readSheet (encode x)) ps t ≡ judgeRead (readSheet (encode (writtenOut (get ps) x))) qs t
+  read-alike : paramsOfEntries (x .entries) ≤ 8 → (qs t : List ℕ) → judgeRead (readSheet (encode x)) ps t ≡ judgeRead (readSheet (encode (writtenOut (get ps) x))) qs t
   read-alike h qs t =
       rw (sheet-result x, sheet-result (writtenOut (get ps) x), fault-written (get ps) x h) (alike (sheetFault x) qs t)
 

@@ -5,9 +5,9 @@ use mathlib.Core.Path.{_≡_}
 use mathlib.Core.Option.{Option}
 use mathlib.Core.List.{List, [], _∷_, _++_}
 use lib.ListN.{length}
-use Rattle.spec_language.specs.Sheet.{Sheet, uses, Clause, Item, formula, state, row, Entry, cellCount, writtenOut, rowsOut}
+use Rattle.spec_language.specs.Sheet.{Sheet, uses, Clause, Item, formula, state, row, Entry, cellCount, writtenOut, rowsOut, paramsOfEntries}
 use Rattle.spec_language.specs.Dependence.{NoCycle}
-use Rattle.spec_language.specs.Grammar.{SheetFits, ClausesFit, encode, ItemParamsIn}
+use Rattle.spec_language.specs.Grammar.{SheetFits, ClausesFit, encode}
 use Rattle.spec_language.specs.Reading.{got, entry, sheet, readSheet}
 use Rattle.spec_language.specs.Accepted.{Known}
 use Rattle.back_compile.specs.Verdict.{programOf, compiled, judge, judgeRead, compileOn, lacksParameters}
@@ -26,7 +26,7 @@ Fine ps s = SheetFits s × Known (programOf ps s) × Given ps s × NoCycle (prog
 pub record AsWritten (x : Sheet) (ps : List ℕ) : Type 0 where
   -- compile's answer, a refusal too, and the table's bytes are the same for both, with whatever the second is lent,
   -- where neither has over 8,192 bytes and no parameter is above 7
-  pub same : All (λ (b : Entry). ItemParamsIn (b .item)) (x .entries) → length (encode x) ≤ 8192 → length (encode (writtenOut (get ps) x)) ≤ 8192
+  pub same : paramsOfEntries (x .entries) ≤ 8 → length (encode x) ≤ 8192 → length (encode (writtenOut (get ps) x)) ≤ 8192
       → (qs t : List ℕ) → compileOn (encode x) ps t ≡ compileOn (encode (writtenOut (get ps) x)) qs t
   -- 3 counts the bytes as sent: where they are not over 8,192 the filling is judged, however many bytes it would have
   pub sent : SheetFits x → (t : List ℕ) → 34816 ≤ length t → compileOn (encode x) ps t ≡ judge (programOf ps x) false t

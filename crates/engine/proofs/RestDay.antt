@@ -11,7 +11,7 @@ use borrow.Author.Tests.{le-leb, lt-leb}
 use Rattle.lib_base.proofs.Tools.{by-test}
 use Rattle.lib_word.specs.Word.{get}
 use Rattle.spec_language.specs.Syntax.{Program}
-use Rattle.spec_language.specs.Sheet.{cellCount, entriesOut, fillEntries, usesEntries}
+use Rattle.spec_language.specs.Sheet.{cellCount, entriesOut, fillEntries, paramsOfEntries}
 use Rattle.spec_language.specs.Dependence.{handled, dependsOn, Reach, one, more}
 use Rattle.spec_language.specs.Grammar.{encodeBehaviours, encodeEvents, encode}
 use Rattle.spec_language.specs.Order.{upTo}
@@ -66,7 +66,7 @@ unfolding fillEntries entriesOut flatMap
 means-nothing ps = refl
 
 blank-accepted : (ps : List ℕ) → SheetAccepted (get ps) (length ps) emptySheet
-unfolding fillEntries usesEntries entriesOut flatMap cellCount
+unfolding fillEntries paramsOfEntries entriesOut flatMap cellCount
 blank-accepted ps = record {
   fits = record {
     few-events = omega arith;

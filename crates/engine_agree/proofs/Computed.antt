@@ -12,7 +12,7 @@ use Rattle.lib_base.proofs.Tools.{through}
 use Rattle.lib_word.specs.Word.{get}
 use Rattle.lib_arith.specs.Exact.{beyond}
 use Rattle.lib_arith.specs.Functions.{exact, result, over}
-use Rattle.spec_language.specs.Sheet.{Sheet, cellCount, entriesOut, fillTerm, fillClauses, fillEntries, fill, usesTerm, usesClauses, usesEntries}
+use Rattle.spec_language.specs.Sheet.{Sheet, cellCount, entriesOut, fillTerm, fillClauses, fillEntries, fill, paramsOf, paramsOfClauses, paramsOfEntries}
 use Rattle.spec_language.specs.Dependence.{takes, keeps, handled, mentions, needs, dependsOn, Reach, one, more, NoCycle}
 use Rattle.spec_language.specs.Syntax.{Expr, con, name, app2, app3}
 use Rattle.spec_language.specs.Grammar.{encode, encodeEvents, encodeBehaviours, encodeHandlers, encodeExpr, SheetFits, ternary, binary, t-literal, t-variable, t-apply2, t-apply3}
@@ -116,7 +116,7 @@ unfolding flatMap entriesOut fillTerm fillClauses fillEntries handled upTo instr
 counted = refl
 
 pub final-taken : SheetAccepted (get []) 0 final
-unfolding usesTerm usesClauses usesEntries flatMap entriesOut fillEntries
+unfolding paramsOf paramsOfClauses paramsOfEntries flatMap entriesOut fillEntries
 final-taken =
     let k = known-decides finalProgram .0 names-known in
     record {

@@ -1,6 +1,6 @@
 -- A draft that is filled in is that of the sheet's filling, and a parameter is found in it exactly if the sheet uses
 -- one: node by node, each by induction on the sheet.
-use Prim.Native.Nat.{ℕ, zero, suc, _+_, _*_, _-_, _/_, _%_, _≤_, _<_, _^_}
+use Prim.Native.Nat.{ℕ, zero, suc, _+_, _*_, _-_, _/_, _%_, _≤_, _<_, _^_, max}
 use mathlib.Core.Path.{_≡_, refl, sym, ap, subst, _∙_}
 use mathlib.Core.Logic.{_≢_}
 use mathlib.Core.Bool.{Bool, true, false, _&&_, _||_, and-true, and-false, or-true, or-false, or-assoc}
@@ -9,18 +9,18 @@ use native.Mathlib.Omega.{arith}
 use lib.ListN.{length, getD, take, drop, length-drop, length-set, length-map}
 use lib.Seq.{length-take-le, take-suc, getD-take, getD-drop, getD-set-same, getD-set-other, ext-getD}
 use lib.Dec.{eqb, ltb}
-use borrow.Author.Tests.{eqb-true, eqb-false, eq-eqb, ne-eqb, ltb-true}
+use borrow.Author.Tests.{eqb-true, eqb-false, eq-eqb, ne-eqb, ltb-true, lt-ltb}
 use Rattle.lib_base.specs.Basics.{All}
 use Rattle.lib_base.proofs.Tools.{split, by-test, all-at, all-at-or}
 use Rattle.lib_word.specs.Word.{getAt, get}
 use Rattle.spec_language.specs.Syntax.{Phase, immediate, later}
 use Rattle.spec_language.specs.Sheet.{Term, Clause, clause, Item, formula, state, row, Entry, Sheet, rowsOut, prioritiesOf, cellCount}
-use Rattle.spec_language.specs.Sheet.{fillTerm, fillClauses, fillItem, fillEntries, fill, usesTerm, usesClauses, usesItem, usesEntries, uses}
+use Rattle.spec_language.specs.Sheet.{fillTerm, fillClauses, fillItem, fillEntries, fill, paramsOf, paramsOfClauses, paramsOfItem, paramsOfEntries, uses}
 use Rattle.spec_language.specs.Dependence.{handled, inPhase, respond}
 use Rattle.spec_language.specs.Grammar.{Arity, unary, ternary, binary, TermFits, t-literal, t-variable, t-param, t-apply1, t-apply2, t-apply3, ClausesFit, ItemFits, EntryFits, SheetFits}
 use Rattle.spec_language.specs.Code.{sizeOf}
 use Rattle.spec_language.proofs.Laws.{handled-here, handled-there}
-use Rattle.spec_language.proofs.RowLaws.{length-out, rows-fit}
+use Rattle.spec_language.proofs.RowLaws.{length-out, rows-fit, either-uses}
 use Rattle.spec_language.proofs.RowNames.{names-sent}
 use Rattle.spec_language.proofs.SheetLaws.{blank, length-priorities, length-fill, fill-at, size-fill, entries-fit, fill-fits}
 use Rattle.front_draft.specs.Draft.{draftLength, nodes, handlerNodes, behaviourNodes, programNodes, entryOf, placeOf, moved, usedBy, Stands, EntrySays, EntryIn, StartIs, Drafted, DraftOf, unfilled, SheetDraft}
@@ -324,11 +324,11 @@ param-found : (n : ℕ) → n < 8 → anyIn ((68719476736 + (12884901888 + n)) �
 unfolding anyIn
 param-found n h = rw (eq-eqb (nodeTag (68719476736 + (12884901888 + n))) 19 (omega arith))
 
-term-any : {k : ℕ} {x : Term} → TermFits k x → anyIn (nodes (fillTerm unfilled x)) ≡ usesTerm x
-unfolding fillTerm nodes usesTerm
+term-any : {k : ℕ} {x : Term} → TermFits k x → anyIn (nodes (fillTerm unfilled x)) ≡ ltb 0 (paramsOf x)
+unfolding fillTerm nodes paramsOf
 term-any (t-literal {w = w} h) = no-param (68719476736 + w) (λ e. omega arith)
 term-any (t-variable {i = i} h) = no-param (73014444032 + i) (λ e. omega arith)
-term-any (t-param {n = n} h) = param-found n h
+term-any (t-param {n = n} h) = param-found n h ∙ sym (lt-ltb 0 (suc n) (omega arith))
 term-any (t-apply1 {f = f} {a = a} r p) =
     rw (any-append (nodes (fillTerm unfilled a)) ((77309411328 + f) ∷ []), app-none f 1 r, or-false) (term-any p)
 term-any (t-apply2 {f = f} {a = a} {b = b} r p q) =
@@ -340,6 +340,7 @@ term-any (t-apply2 {f = f} {a = a} {b = b} r p q) =
       term-any p,
       term-any q,
     )
+    (either-uses (paramsOf a) (paramsOf b))
 term-any (t-apply3 {f = f} {a = a} {b = b} {c = c} r p q t) =
     rw (
       any-append (nodes (fillTerm unfilled a)) (nodes (fillTerm unfilled b) ++ (nodes (fillTerm unfilled c) ++ ((77309411328 + f) ∷ []))),
@@ -350,24 +351,28 @@ term-any (t-apply3 {f = f} {a = a} {b = b} {c = c} r p q t) =
       term-any p,
       term-any q,
       term-any t,
+      either-uses (paramsOf b) (paramsOf c),
     )
+    (either-uses (paramsOf a) (max (paramsOf b) (paramsOf c)))
 
-clauses-any : (n : ℕ) (cs : List Clause) → ClausesFit n cs → anyIn (handlerNodes (fillClauses unfilled cs)) ≡ usesClauses cs
-unfolding anyIn fillClauses handlerNodes usesClauses
+clauses-any : (n : ℕ) (cs : List Clause) → ClausesFit n cs → anyIn (handlerNodes (fillClauses unfilled cs)) ≡ ltb 0 (paramsOfClauses cs)
+unfolding anyIn fillClauses handlerNodes paramsOfClauses
 clauses-any n [] h = refl
 clauses-any n (clause e φ x ∷ cs) h =
     rw (any-append (nodes (fillTerm unfilled x)) (handlerNodes (fillClauses unfilled cs)), term-any (h .1), clauses-any n cs (h .3))
+    (either-uses (paramsOf x) (paramsOfClauses cs))
 
-item-any : (n : ℕ) (b : Item) → ItemFits n b → anyIn (behaviourNodes (fillItem unfilled b)) ≡ usesItem b
+item-any : (n : ℕ) (b : Item) → ItemFits n b → anyIn (behaviourNodes (fillItem unfilled b)) ≡ ltb 0 (paramsOfItem b)
 item-any n (formula x) h = term-any h
 item-any n (state s cs) h = clauses-any n cs (h .1)
 item-any n (row c s cs) h = clauses-any n cs (h .3)
 
-entries-any : (n : ℕ) (bs : List Entry) → All (EntryFits n) bs → anyIn (programNodes (fillEntries unfilled bs)) ≡ usesEntries bs
-unfolding anyIn fillEntries programNodes usesEntries
+entries-any : (n : ℕ) (bs : List Entry) → All (EntryFits n) bs → anyIn (programNodes (fillEntries unfilled bs)) ≡ ltb 0 (paramsOfEntries bs)
+unfolding anyIn fillEntries programNodes paramsOfEntries
 entries-any n [] h = refl
 entries-any n (b ∷ bs) h =
     rw (any-append (behaviourNodes (fillItem unfilled (b .item))) (programNodes (fillEntries unfilled bs)), item-any n (b .item) (h .0 .0), entries-any n bs (h .1))
+    (either-uses (paramsOfItem (b .item)) (paramsOfEntries bs))
 
 pass-any : (d : List ℕ) (n : ℕ) → n ≤ length d → anyParam d n ≡ anyIn (take n d)
 unfolding anyParam anyIn

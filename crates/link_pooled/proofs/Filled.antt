@@ -10,11 +10,11 @@ use lib.Bits.{bitAnd}
 use Rattle.spec_language.specs.Syntax.{Behaviour}
 use Rattle.spec_language.specs.Sheet.{Term, literal, variable, param, apply1, apply2, apply3, Clause, clause, Item, formula, state, row, Signal, Entry, Sheet, allowed, prioritiesOf, sendersOf, viewersOf}
 use Rattle.spec_language.specs.Sheet.{renameTerm, renameClauses, rowsOut, fillTerm, fillClauses, fillItem, fillEntries, fillCells, fill}
-use Rattle.spec_language.specs.Sheet.{usesTerm, usesClauses, usesItem, usesEntries, uses}
+use Rattle.spec_language.specs.Sheet.{paramsOfItem, paramsOfEntries, uses}
 use Rattle.spec_language.specs.Dependence.{size}
 use Rattle.spec_language.specs.Grammar.{SheetFits}
 use Rattle.spec_language.specs.Accepted.{Known}
-use Rattle.spec_language.proofs.RowLaws.{length-out}
+use Rattle.spec_language.proofs.RowLaws.{length-out, rename-params, rename-clauses-params, either-uses, params-append}
 use Rattle.spec_language.proofs.SheetLaws.{length-fill}
 use Rattle.link_pooled.specs.Pooled.{mergedByNumber, bothSend, poolSignals, moveTerm, moveClauses, moveItem, moveEntries, count, pooled}
 use Rattle.link_pooled.specs.Together.{moveExpr, moveHandlers, moveBehaviour, together}
@@ -104,38 +104,18 @@ fill-pooled v s t f h =
 -- ---- parameters used
 
 module _ (n : ℕ) where
-  uses-term : (x : Term) → usesTerm (moveTerm n x) ≡ usesTerm x
-  unfolding usesTerm renameTerm
-  uses-term (literal w) = refl
-  uses-term (variable i) = refl
-  uses-term (param k) = refl
-  uses-term (apply1 f a) = uses-term a
-  uses-term (apply2 f a b) = rw (uses-term a, uses-term b)
-  uses-term (apply3 f a b c) = rw (uses-term a, uses-term b, uses-term c)
+  item-params : (b : Item) → paramsOfItem (moveItem n b) ≡ paramsOfItem b
+  item-params (formula x) = rename-params (λ i. n + i) x
+  item-params (state s cs) = rename-clauses-params (λ i. n + i) cs
+  item-params (row c s cs) = rename-clauses-params (λ i. n + i) cs
 
-  uses-clauses : (cs : List Clause) → usesClauses (moveClauses n cs) ≡ usesClauses cs
-  unfolding usesClauses renameClauses
-  uses-clauses [] = refl
-  uses-clauses (clause e φ x ∷ cs) = rw (uses-term x, uses-clauses cs)
-
-  uses-item : (b : Item) → usesItem (moveItem n b) ≡ usesItem b
-  uses-item (formula x) = uses-term x
-  uses-item (state s cs) = uses-clauses cs
-  uses-item (row c s cs) = uses-clauses cs
-
-  uses-entries : (bs : List Entry) → usesEntries (moveEntries n bs) ≡ usesEntries bs
-  unfolding usesEntries moveEntries
-  uses-entries [] = refl
-  uses-entries (b ∷ bs) = rw (uses-item (b .item), uses-entries bs)
-
-uses-both : (k l : List Entry) → usesEntries (k ++ l) ≡ usesEntries k || usesEntries l
-unfolding usesEntries
-uses-both [] l = refl
-uses-both (b ∷ k) l = rw (uses-both k l) (grouped (usesItem (b .item)) (usesEntries k) (usesEntries l))
-  where
-    grouped : (a b c : Bool) → a || (b || c) ≡ (a || b) || c
-    grouped true b c = refl
-    grouped false b c = refl
+  entries-params : (bs : List Entry) → paramsOfEntries (moveEntries n bs) ≡ paramsOfEntries bs
+  unfolding paramsOfEntries moveEntries
+  entries-params [] = refl
+  entries-params (b ∷ bs) = rw (item-params (b .item), entries-params bs)
 
 pub uses-pooled : (s t : Sheet) → uses (pooled s t) ≡ uses s || uses t
-uses-pooled s t = uses-both (s .entries) (moveEntries (count s) (t .entries)) ∙ rw (uses-entries (count s) (t .entries))
+uses-pooled s t =
+    let k = s .entries in
+    let l = t .entries in
+    rw (params-append k (moveEntries (count s) l), entries-params (count s) l) (sym (either-uses (paramsOfEntries k) (paramsOfEntries l)))

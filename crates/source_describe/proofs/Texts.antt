@@ -23,7 +23,8 @@ use Rattle.spec_language.proofs.SheetLaws.{length-fill}
 use Rattle.spec_grammar.proofs.Programs.{many-behaviours, many-events}
 use Rattle.text_formula.specs.Answer.{answered}
 use Rattle.source_language.specs.Tokens.{SheetToken, endSign}
-use Rattle.source_rendering.specs.Describe.{parametersFrom, paramsOfEntries, describedEvents, describedBehaviours, textOf, mark, parameterTokens, eventTokens, behaviourTokens, textTokens, described}
+use Rattle.source_rendering.specs.Describe.{parametersFrom, describedEvents, describedBehaviours, textOf, mark, parameterTokens, eventTokens, behaviourTokens, textTokens, described}
+use Rattle.spec_language.specs.Sheet.{paramsOfEntries}
 use Rattle.source_rendering.proofs.Lengths.{described-short}
 use Rattle.source_pen.specs.declared.Pen.{Pen}
 use Rattle.source_pen.specs.Written.{writtenAfter, Penned}

@@ -14,7 +14,8 @@ use Rattle.spec_language.specs.Sheet.{Sheet, cellCount, fillEntries}
 use Rattle.spec_language.specs.Grammar.{SheetFits}
 use Rattle.spec_language.specs.Accepted.{BehaviourNamesIn}
 use Rattle.source_language.specs.Tokens.{SheetToken, number, name, sign, marks, reserved, endSign, isDigit, isLetter, inWord, Are}
-use Rattle.source_rendering.specs.Describe.{digitsOf, digits, spelledAs, spell, lastOf, gap, rendered, render, parametersFrom, paramsOfEntries, describedEvents, describedBehaviours, textOf, textTokens, described}
+use Rattle.source_rendering.specs.Describe.{digitsOf, digits, spelledAs, spell, lastOf, gap, rendered, render, parametersFrom, describedEvents, describedBehaviours, textOf, textTokens, described}
+use Rattle.spec_language.specs.Sheet.{paramsOfEntries}
 use Rattle.source_rendering.proofs.Digits.{some-digits}
 use Rattle.source_rendering.proofs.Lexes.{allBelow, each-below, Spelt, Ended, at-end, before-end}
 use Rattle.source_rendering.proofs.DescribedFits.{described-parameters, described-events, described-behaviours}

@@ -20,7 +20,8 @@ use Rattle.source_language.specs.Text.{TextBehaviour}
 use Rattle.source_language.specs.Faults.{fine}
 use Rattle.source_language.specs.Limits.{bodyCells}
 use Rattle.source_language.specs.Meaning.{constantWord, amongPlayers, bitsBelow, rightsOf, NameMeaning, aParameter, foundAs, behaviourNamed, meaningOfName, eventNamed, nameTerm, cellTerm, termOf, clausesOf, itemOf, entriesOf, signalOf, sheetOf}
-use Rattle.source_rendering.specs.Describe.{digits, eventName, behaviourName, parameterName, describedConstant, cellNamed, phraseOf, describedReactions, describedBody, playersFrom, playersIn, describedBehaviours, describedEvents, paramsOf, paramsOfClauses, paramsOfItem, paramsOfEntries, parametersFrom, textOf}
+use Rattle.source_rendering.specs.Describe.{digits, eventName, behaviourName, parameterName, describedConstant, cellNamed, phraseOf, describedReactions, describedBody, playersFrom, playersIn, describedBehaviours, describedEvents, parametersFrom, textOf}
+use Rattle.spec_language.specs.Sheet.{paramsOf, paramsOfClauses, paramsOfItem, paramsOfEntries}
 use Rattle.source_language.proofs.Scans.{same-is, same-self}
 use Rattle.source_rendering.proofs.Digits.{digits-own}
 use Rattle.source_rendering.proofs.Lexes.{allBelow, each-below}

@@ -19,7 +19,8 @@ use Rattle.spec_language.specs.Accepted.{NamesIn, HandlerNamesIn, BehaviourName
 use Rattle.source_language.specs.Tokens.{name, same, isLetter}
 use Rattle.source_language.specs.Text.{Phrase}
 use Rattle.source_language.specs.Limits.{among, ConstantFits, phraseNesting, NumbersFit, PhraseFits, PlayersFit, FitInTurn, afterAll, ParameterFits, withParameter, EventFits, withEvent, ReactionFits, withReaction, BodyFits, taken, TextBehaviourFits, withBehaviour, TextFits}
-use Rattle.source_rendering.specs.Describe.{digits, eventName, behaviourName, parameterName, describedConstant, cellNamed, phraseOf, describedReactions, describedBody, playersFrom, playersIn, describedBehaviours, describedEvents, paramsOf, paramsOfClauses, paramsOfItem, paramsOfEntries, parametersFrom, textOf}
+use Rattle.source_rendering.specs.Describe.{digits, eventName, behaviourName, parameterName, describedConstant, cellNamed, phraseOf, describedReactions, describedBody, playersFrom, playersIn, describedBehaviours, describedEvents, parametersFrom, textOf}
+use Rattle.spec_language.specs.Sheet.{paramsOf, paramsOfClauses, paramsOfItem, paramsOfEntries}
 use Rattle.source_language.proofs.Scans.{same-self}
 use Rattle.source_language.proofs.Proper.{Proper, ProperReaction, ProperBody, ProperBehaviour}
 use Rattle.source_rendering.proofs.Lexes.{Spelt, name-spelt}

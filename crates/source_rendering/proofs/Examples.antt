@@ -11,7 +11,8 @@ use Rattle.source_language.specs.Limits.{among, phraseNesting, afterAll}
 use Rattle.source_language.specs.Meaning.{amongPlayers, bitsBelow, behaviourNamed, meaningOfName, eventNamed, termOf, clausesOf, entriesOf, sheetOf}
 use Rattle.source_language.specs.Scanner.{runOfKind, beyondRun, firstInText, scannedTokens}
 use Rattle.source_language.specs.Reader.{pastSign, valueOf, afterOperand, cellOf, readConstant, readNegation, readChoice, signedOf, fromOperand, phraseWithin, morePlayers, fromOf, seenOf, manyOf, defaultOf, parameterOf, eventDeclared, reactionOf, passiveDeclared, stateOf, rowDeclared, behaviourDeclared, behaviourBegins, declarationsOf, readText}
-use Rattle.source_rendering.specs.Describe.{digitsOf, cellNamed, phraseOf, describedReactions, playersFrom, describedBehaviours, describedEvents, paramsOf, paramsOfClauses, paramsOfEntries, parametersFrom, phraseTokens, numberTokens, parameterTokens, eventTokens, reactionTokens, behaviourTokens, spelledAs, lastOf, runTogether, rendered, render, described}
+use Rattle.source_rendering.specs.Describe.{digitsOf, cellNamed, phraseOf, describedReactions, playersFrom, describedBehaviours, describedEvents, parametersFrom, phraseTokens, numberTokens, parameterTokens, eventTokens, reactionTokens, behaviourTokens, spelledAs, lastOf, runTogether, rendered, render, described}
+use Rattle.spec_language.specs.Sheet.{paramsOf, paramsOfClauses, paramsOfEntries}
 use Rattle.source_language.proofs.Examples.{lamps}
 
 -- the text that describes the sheet of a text

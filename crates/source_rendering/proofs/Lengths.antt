@@ -19,7 +19,8 @@ use Rattle.spec_language.specs.Accepted.{NamesIn, HandlerNamesIn, BehaviourName
 use Rattle.text_formula.specs.Reader.{level}
 use Rattle.source_language.specs.Tokens.{SheetToken, number, name, sign, opening, closing, on-word, param-word, endSign, marks, reserved}
 use Rattle.source_language.specs.Text.{TextConstant, Phrase, behaviour}
-use Rattle.source_rendering.specs.Describe.{behaviourName, describedConstant, cellNamed, phraseOf, describedReactions, describedBody, playersFrom, playersIn, describedBehaviours, describedEvents, paramsOfEntries, parametersFrom, textOf, mark, unless, valueTokens, phraseTokens, numberTokens, playerTokens, fromTokens, seenTokens, parameterTokens, eventTokens, reactionTokens, behaviourToken, behaviourTokens, textTokens, spelledAs, spell, lastOf, firstByte, runTogether, spaceBetween, gap, rendered, render, described}
+use Rattle.source_rendering.specs.Describe.{behaviourName, describedConstant, cellNamed, phraseOf, describedReactions, describedBody, playersFrom, playersIn, describedBehaviours, describedEvents, parametersFrom, textOf, mark, unless, valueTokens, phraseTokens, numberTokens, playerTokens, fromTokens, seenTokens, parameterTokens, eventTokens, reactionTokens, behaviourToken, behaviourTokens, textTokens, spelledAs, spell, lastOf, firstByte, runTogether, spaceBetween, gap, rendered, render, described}
+use Rattle.spec_language.specs.Sheet.{paramsOfEntries}
 use Rattle.source_rendering.proofs.Digits.{one-digit, few-digits, ten-digits}
 use Rattle.source_rendering.proofs.Lexes.{allBelow, each-below}
 use Rattle.source_rendering.proofs.Described.{some-cells}

@@ -20,7 +20,8 @@ use Rattle.source_language.specs.Grammar.{says}
 use Rattle.source_language.specs.Limits.{NumbersFit, PhraseFits, FitInTurn, afterAll, withParameter, withEvent, ReactionFits, withReaction, bodyCells, BodyFits, taken, TextBehaviourFits, withBehaviour, TextFits}
 use Rattle.source_language.specs.Meaning.{sheetOf}
 use Rattle.source_language.specs.Renaming.{phraseAs, reactionsAs, bodyAs, parameterAs, eventAs, movedBy}
-use Rattle.source_rendering.specs.Describe.{parametersFrom, paramsOfEntries, describedEvents, describedBehaviours, textOf, described}
+use Rattle.source_rendering.specs.Describe.{parametersFrom, describedEvents, describedBehaviours, textOf, described}
+use Rattle.spec_language.specs.Sheet.{paramsOfEntries}
 use Rattle.source_language.specs.Answer.{TextMeans}
 use Rattle.source_language.proofs.Renamed.{nesting-as, names-do-not-matter, text-as, body-cells}
 use Rattle.source_rendering.proofs.Alike.{same-name, no-place, bare, bareReactions, bareBehaviour, bareText, text-again}

@@ -1,13 +1,13 @@
 -- A sheet back as text: docs/SHEETS.md "Back to text". The text that a sheet is described by, its tokens with minimal
 -- brackets, and their bytes, one space between tokens where one is needed.
-use Prim.Native.Nat.{ℕ, zero, suc, _+_, _-_, _/_, _%_, _^_, max}
+use Prim.Native.Nat.{ℕ, zero, suc, _+_, _-_, _/_, _%_, _^_}
 use mathlib.Core.Bool.{Bool, not, _&&_, _||_}
 use mathlib.Core.Option.{Option, none, some}
 use mathlib.Core.List.{List, [], _∷_, _++_}
 use lib.Dec.{ltb, leb, eqb}
 use Rattle.lib_base.specs.Basics.{pick}
 use Rattle.spec_language.specs.Syntax.{Phase, immediate, later}
-use Rattle.spec_language.specs.Sheet.{Term, literal, variable, param, apply1, apply2, apply3, Clause, clause, Item, formula, state, Signal, Entry, Sheet, cells}
+use Rattle.spec_language.specs.Sheet.{Term, literal, variable, param, apply1, apply2, apply3, Clause, clause, Item, formula, state, Signal, Entry, Sheet, cells, paramsOfEntries}
 use Rattle.spec_language.specs.Sheet as S
 use Rattle.text_formula.specs.Reader.{level}
 use Rattle.source_language.specs.Tokens.{SheetToken, number, name, sign, opening, closing, comma, colon, equals, bracket, unbracket, rank-word, from-word, by-word, nobody-word, later-word, seen-word, on-word, param-word, event-word, passive-word, active-word, row-word, endSign, Spelling, spelled, marks, reserved, signOf, inWord}
@@ -82,29 +82,7 @@ unfoldable pub describedEvents : ℕ → List Signal → List TextEvent
 describedEvents i [] = []
 describedEvents i (x ∷ xs) = event (eventName i) (x .priority) (playersIn (x .sender)) ∷ describedEvents (suc i) xs
 
--- "`param` lines up to the highest parameter used": how many are needed
-unfoldable pub paramsOf : Term → ℕ
-paramsOf (literal w) = 0
-paramsOf (variable i) = 0
-paramsOf (param n) = suc n
-paramsOf (apply1 f a) = paramsOf a
-paramsOf (apply2 f a b) = max (paramsOf a) (paramsOf b)
-paramsOf (apply3 f a b c) = max (paramsOf a) (max (paramsOf b) (paramsOf c))
-
-unfoldable pub paramsOfClauses : List Clause → ℕ
-paramsOfClauses [] = 0
-paramsOfClauses (clause e φ x ∷ cs) = max (paramsOf x) (paramsOfClauses cs)
-
-abbrev pub paramsOfItem : Item → ℕ
-paramsOfItem (formula x) = paramsOf x
-paramsOfItem (state s cs) = paramsOfClauses cs
-paramsOfItem (S.row c s cs) = paramsOfClauses cs
-
-unfoldable pub paramsOfEntries : List Entry → ℕ
-paramsOfEntries [] = 0
-paramsOfEntries (x ∷ xs) = max (paramsOfItem (x .item)) (paramsOfEntries xs)
-
--- so many parameters from i on, without defaults
+-- "`param` lines up to the highest parameter used": so many parameters from i on, without defaults
 unfoldable pub parametersFrom : ℕ → ℕ → List Parameter
 parametersFrom zero i = []
 parametersFrom (suc k) i = parameter (parameterName i) none ∷ parametersFrom k (suc i)

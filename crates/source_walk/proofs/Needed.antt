@@ -13,7 +13,7 @@ use Rattle.lib_base.specs.Basics.{pick}
 use Rattle.lib_base.proofs.Tools.{by-test}
 use Rattle.spec_language.specs.Sheet.{Term, literal, variable, param, apply1, apply2, apply3, Clause, clause, Item, formula, state, row, Entry}
 use Rattle.spec_language.specs.Grammar.{encodeExpr, encodeHandlers, tagOf, encodeItem, encodeViewer, encodeBehaviour, encodeBehaviours}
-use Rattle.source_rendering.specs.Describe.{paramsOf, paramsOfClauses, paramsOfItem, paramsOfEntries}
+use Rattle.spec_language.specs.Sheet.{paramsOf, paramsOfClauses, paramsOfItem, paramsOfEntries}
 use Rattle.source_walk.specs.Fields.{untilTag, tagState, neededAfter, neededIn}
 
 one-more : (n b : ℕ) → pick (ltb n (b + 1)) (b + 1) n ≡ max n (suc b)

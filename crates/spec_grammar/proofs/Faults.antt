@@ -17,7 +17,7 @@ use Rattle.spec_language.specs.Sheet.{Term, literal, variable, param, apply1, a
 use Rattle.spec_language.proofs.RowLaws.{count-append, written-cells-count}
 use Rattle.spec_language.specs.Sheet.{writeTerm, writeClauses, writeItem, writeEntries, writtenOut}
 use Rattle.spec_language.specs.Grammar.{field, word, encodeExpr, encodePhase, encodeHandler, encodeHandlers, tagOf, encodeViewer, encodeBehaviour, encodeBehaviours, encodeSender, encodeEvent, encodeEvents, encode}
-use Rattle.spec_language.specs.Grammar.{ParamsIn, ClauseParamsIn, ItemParamsIn}
+use Rattle.spec_language.specs.Sheet.{paramsOf, paramsOfClauses, paramsOfItem, paramsOfEntries}
 use Rattle.spec_language.specs.Reading.{fieldAt, Got, bad, got, whole, wordOf, then, argsOf, exprAt, exprIn, handles, phaseIn, handlerBody, ends, handlersAt, startBody, entry, endingIn, activeAs, behaviourIn, signal, signalIn, sheet, behavioursAt, eventsAt, readSheet}
 use Rattle.spec_grammar.proofs.Fields.{field-reads}
 use Rattle.spec_grammar.proofs.Handlers.{many-handlers}
@@ -307,15 +307,15 @@ sheet-result x =
 -- ---- parameters written out
 
 module _ (v : ℕ → ℕ) where
-  expr-written : (k : ℕ) (x : Term) → ParamsIn x → exprFault k (writeTerm v x) ≡ exprFault k x
-  unfolding exprFault writeTerm
+  expr-written : (k : ℕ) (x : Term) → paramsOf x ≤ 8 → exprFault k (writeTerm v x) ≡ exprFault k x
+  unfolding exprFault writeTerm paramsOf
   expr-written zero x h = refl
   expr-written (suc k) (literal w) h = refl
   expr-written (suc k) (variable i) h = refl
   expr-written (suc k) (param n) h = rw (le-ltb 7 n (omega arith))
   expr-written (suc k) (apply1 f a) h = rw (expr-written k a h)
-  expr-written (suc k) (apply2 f a b) h = rw (expr-written k a (h .0), expr-written k b (h .1))
-  expr-written (suc k) (apply3 f a b c) h = rw (expr-written k a (h .0), expr-written k b (h .1), expr-written k c (h .2))
+  expr-written (suc k) (apply2 f a b) h = rw (expr-written k a (omega arith), expr-written k b (omega arith))
+  expr-written (suc k) (apply3 f a b c) h = rw (expr-written k a (omega arith), expr-written k b (omega arith), expr-written k c (omega arith))
 
   handles-written : (e : ℕ) (hs : List Clause) → handles e (writeClauses v hs) ≡ handles e hs
   unfolding handles writeClauses
@@ -327,30 +327,30 @@ module _ (v : ℕ → ℕ) where
   write-snoc [] e φ x = refl
   write-snoc (clause f ψ y ∷ hs) e φ x = ap (λ (l : List Clause). clause f ψ (writeTerm v y) ∷ l) (write-snoc hs e φ x)
 
-  clauses-written : (n : ℕ) (hs ks : List Clause) → All ClauseParamsIn ks → clausesFault n (writeClauses v hs) (writeClauses v ks) ≡ clausesFault n hs ks
-  unfolding clausesFault writeClauses
+  clauses-written : (n : ℕ) (hs ks : List Clause) → paramsOfClauses ks ≤ 8 → clausesFault n (writeClauses v hs) (writeClauses v ks) ≡ clausesFault n hs ks
+  unfolding clausesFault writeClauses paramsOfClauses
   clauses-written n hs [] h = refl
   clauses-written n hs (clause e φ x ∷ ks) h =
-      let i = rw (write-snoc hs e φ x) at (clauses-written n (hs ++ (clause e φ x ∷ [])) ks (h .1)) in
-      rw (handles-written e hs, expr-written 16 x (h .0), i)
+      let i = rw (write-snoc hs e φ x) at (clauses-written n (hs ++ (clause e φ x ∷ [])) ks (omega arith)) in
+      rw (handles-written e hs, expr-written 16 x (omega arith), i)
 
-  item-written : (n i : ℕ) (b : Item) → ItemParamsIn b → itemFault n i (writeItem v b) ≡ itemFault n i b
+  item-written : (n i : ℕ) (b : Item) → paramsOfItem b ≤ 8 → itemFault n i (writeItem v b) ≡ itemFault n i b
   unfolding writeClauses
   item-written n i (formula x) h = expr-written 16 x h
   item-written n i (state s hs) h = clauses-written n [] hs h
   item-written n i (row c s hs) h = rw (clauses-written n [] hs h)
 
-  entries-written : (n m : ℕ) (cs : List Entry) → All (λ (c : Entry). ItemParamsIn (c .item)) cs → entriesFault n m (writeEntries v cs) ≡ entriesFault n m cs
-  unfolding entriesFault writeEntries
+  entries-written : (n m : ℕ) (cs : List Entry) → paramsOfEntries cs ≤ 8 → entriesFault n m (writeEntries v cs) ≡ entriesFault n m cs
+  unfolding entriesFault writeEntries paramsOfEntries
   entries-written n m [] h = refl
-  entries-written n m (c ∷ cs) h = rw (item-written n m (c .item) (h .0), written-cells-count v (c .item), entries-written n (m + cells (c .item)) cs (h .1))
+  entries-written n m (c ∷ cs) h = rw (item-written n m (c .item) (omega arith), written-cells-count v (c .item), entries-written n (m + cells (c .item)) cs (omega arith))
 
-  events-written : (n : ℕ) (qs : List Signal) (cs : List Entry) → All (λ (c : Entry). ItemParamsIn (c .item)) cs → eventsFault n qs (writeEntries v cs) ≡ eventsFault n qs cs
+  events-written : (n : ℕ) (qs : List Signal) (cs : List Entry) → paramsOfEntries cs ≤ 8 → eventsFault n qs (writeEntries v cs) ≡ eventsFault n qs cs
   unfolding eventsFault
   events-written n [] cs h = entries-written n 0 cs h
   events-written n (q ∷ qs) cs h = rw (events-written (suc n) qs cs h)
 
   -- a sheet and the sheet written out have the same first fault, or none
-  pub fault-written : (x : Sheet) → All (λ (c : Entry). ItemParamsIn (c .item)) (x .entries) → sheetFault (writtenOut v x) ≡ sheetFault x
+  pub fault-written : (x : Sheet) → paramsOfEntries (x .entries) ≤ 8 → sheetFault (writtenOut v x) ≡ sheetFault x
   unfolding sheetFault
   fault-written x h = events-written 0 (x .signals) (x .entries) h

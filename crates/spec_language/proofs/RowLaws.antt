@@ -1,6 +1,6 @@
 -- Laws of a sheet whose rows are written out: its number of behaviours, its limits, the parameters that it uses, and
 -- that writing out what has no row changes nothing. Each by induction on the entries, with all entries kept apart.
-use Prim.Native.Nat.{ℕ, zero, suc, _+_, _-_, _≤_, _<_}
+use Prim.Native.Nat.{ℕ, zero, suc, _+_, _-_, _≤_, _<_, max}
 use mathlib.Core.Path.{_≡_, refl, sym, ap, _∙_}
 use mathlib.Core.Bool.{Bool, true, false, _||_, false≢true, or-assoc}
 use mathlib.Core.Option.{Option}
@@ -8,14 +8,14 @@ use mathlib.Core.List.{List, [], _∷_, _++_, map, map-append, flatMap}
 use native.Mathlib.Omega.{arith}
 use lib.Dec.{eqb, ltb}
 use lib.ListN.{length, length-append, length-map}
-use borrow.Author.Tests.{eqb-true, ltb-false}
+use borrow.Author.Tests.{eqb-true, lt-ltb, ltb-true, ltb-false}
 use Rattle.lib_base.specs.Basics.{pick, All}
 use Rattle.lib_base.proofs.Tools.{by-test, split, none-of, all-join}
 use Rattle.spec_language.specs.Order.{upTo}
 use Rattle.spec_language.proofs.Laws.{length-upTo}
 use Rattle.spec_language.specs.Sheet.{Term, literal, variable, param, apply1, apply2, apply3, Clause, clause, Item, formula, state, row, Entry, Sheet, cells, cellCount, isRow, heads, meant}
 use Rattle.spec_language.specs.Sheet.{renameTerm, renameClauses, cellsOut, entryOut, entriesOut, rowsOut, fillCells, fill, writeTerm, writeClauses, writeItem, writeEntry, writeEntries, writtenOut}
-use Rattle.spec_language.specs.Sheet.{usesTerm, usesClauses, usesItem, usesEntries, uses}
+use Rattle.spec_language.specs.Sheet.{paramsOf, paramsOfClauses, paramsOfItem, paramsOfEntries, uses}
 use Rattle.spec_language.specs.Grammar.{TermFits, t-literal, t-variable, t-param, t-apply1, t-apply2, t-apply3, NoClauseFor, ClausesFit, ItemFits, ByteFits, EntryFits, SheetFits, encode}
 
 -- ---- how many behaviours
@@ -83,19 +83,19 @@ module _ (f : ℕ → ℕ) (small : (m : ℕ) → m < 256 → f m < 256) where
   rename-clauses-fit n (clause e φ x ∷ cs) h = (h .0, rename-fits (h .1), rename-none e cs (h .2), rename-clauses-fit n cs (h .3))
 
 module _ (f : ℕ → ℕ) where
-  rename-uses : (x : Term) → usesTerm (renameTerm f x) ≡ usesTerm x
-  unfolding renameTerm usesTerm
-  rename-uses (literal w) = refl
-  rename-uses (variable i) = refl
-  rename-uses (param n) = refl
-  rename-uses (apply1 g a) = rename-uses a
-  rename-uses (apply2 g a b) = rw (rename-uses a, rename-uses b)
-  rename-uses (apply3 g a b c) = rw (rename-uses a, rename-uses b, rename-uses c)
+  pub rename-params : (x : Term) → paramsOf (renameTerm f x) ≡ paramsOf x
+  unfolding renameTerm paramsOf
+  rename-params (literal w) = refl
+  rename-params (variable i) = refl
+  rename-params (param n) = refl
+  rename-params (apply1 g a) = rename-params a
+  rename-params (apply2 g a b) = rw (rename-params a, rename-params b)
+  rename-params (apply3 g a b c) = rw (rename-params a, rename-params b, rename-params c)
 
-  rename-clauses-use : (cs : List Clause) → usesClauses (renameClauses f cs) ≡ usesClauses cs
-  unfolding renameClauses usesClauses
-  rename-clauses-use [] = refl
-  rename-clauses-use (clause e φ x ∷ cs) = rw (rename-uses x, rename-clauses-use cs)
+  pub rename-clauses-params : (cs : List Clause) → paramsOfClauses (renameClauses f cs) ≡ paramsOfClauses cs
+  unfolding renameClauses paramsOfClauses
+  rename-clauses-params [] = refl
+  rename-clauses-params (clause e φ x ∷ cs) = rw (rename-params x, rename-clauses-params cs)
 
 -- ---- the limits
 
@@ -125,53 +125,57 @@ rows-fit s h = out-fit (s .entries) (h .few-behaviours) (length (s .signals)) (s
 
 -- ---- the parameters used
 
-uses-append : (l m : List Entry) → usesEntries (l ++ m) ≡ usesEntries l || usesEntries m
-unfolding usesEntries
-uses-append [] m = refl
-uses-append (x ∷ l) m = rw (uses-append l m) (sym (or-assoc (usesItem (x .item)) (usesEntries l) (usesEntries m)))
+-- one of two names a parameter
+pub either-uses : (a b : ℕ) → ltb 0 a || ltb 0 b ≡ ltb 0 (max a b)
+either-uses a b =
+    split (ltb 0 a)
+    (λ e. rw (e, lt-ltb 0 (max a b) (omega (arith, ltb-true 0 a e))))
+    (λ e. let z : max a b ≡ b = omega (arith, ltb-false 0 a e) in rw (e, z))
 
--- none of the cells uses one where the row does not; and where the row does, each does
-none-made : (m : Option ℕ) (n : ℕ) (f : ℕ → Item) → ((j : ℕ) → usesItem (f j) ≡ false) → usesEntries (map (entryOf m) (upTo n f)) ≡ false
-unfolding upTo usesEntries
-none-made m zero f h = refl
-none-made m (suc n) f h = rw (h zero) (none-made m n (λ i. f (suc i)) (λ j. h (suc j)))
+pub params-append : (l m : List Entry) → paramsOfEntries (l ++ m) ≡ max (paramsOfEntries l) (paramsOfEntries m)
+unfolding paramsOfEntries
+params-append [] m = omega arith
+params-append (x ∷ l) m = rw (params-append l m) (omega arith)
 
-cells-unused : (xs : List Entry) (m : Option ℕ) (x : Item) → usesItem x ≡ false → usesEntries (map (entryOf m) (cellsOut xs x)) ≡ false
-unfolding usesEntries
-cells-unused xs m (formula x) h = rw h
-cells-unused xs m (state s cs) h = rw h
-cells-unused xs m (row c s cs) h =
-    none-made m c (λ j. state s (renameClauses (meant xs c j) cs)) (λ j. rename-clauses-use (meant xs c j) cs ∙ h)
+-- of cells that name the same parameters: none names more, and where there is a cell, it names as many
+made-most : (m : Option ℕ) (k n : ℕ) (f : ℕ → Item) → ((j : ℕ) → paramsOfItem (f j) ≡ k) → paramsOfEntries (map (entryOf m) (upTo n f)) ≤ k
+unfolding upTo paramsOfEntries
+made-most m k zero f h = omega arith
+made-most m k (suc n) f h = omega (arith, h zero, made-most m k n (λ i. f (suc i)) (λ j. h (suc j)))
 
-pub out-unused : (xs ys : List Entry) → usesEntries ys ≡ false → usesEntries (entriesOut xs ys) ≡ false
-unfolding entriesOut flatMap usesEntries
-out-unused xs [] h = refl
-out-unused xs (y ∷ ys) h =
-    let r = none-of (usesItem (y .item)) (usesEntries ys) h in
-    rw (uses-append (entryOut xs y) (entriesOut xs ys), cells-unused xs (y .viewer) (y .item) (r .0)) (out-unused xs ys (r .1))
+made-all : (m : Option ℕ) (k n : ℕ) (f : ℕ → Item) → 0 < n → ((j : ℕ) → paramsOfItem (f j) ≡ k) → paramsOfEntries (map (entryOf m) (upTo n f)) ≡ k
+unfolding upTo paramsOfEntries
+made-all m k zero f b h = absurd (omega arith)
+made-all m k (suc n) f b h = omega (arith, h zero, made-most m k n (λ i. f (suc i)) (λ j. h (suc j)))
 
-some-made : (m : Option ℕ) (n : ℕ) (f : ℕ → Item) → 0 < n → usesItem (f 0) ≡ true → usesEntries (map (entryOf m) (upTo n f)) ≡ true
-unfolding upTo usesEntries
-some-made m zero f b h = absurd (omega arith)
-some-made m (suc n) f b h = rw h
+cells-most : (xs : List Entry) (m : Option ℕ) (x : Item) → paramsOfEntries (map (entryOf m) (cellsOut xs x)) ≤ paramsOfItem x
+unfolding paramsOfEntries
+cells-most xs m (formula x) = omega arith
+cells-most xs m (state s cs) = omega arith
+cells-most xs m (row c s cs) =
+    made-most m (paramsOfClauses cs) c (λ j. state s (renameClauses (meant xs c j) cs)) (λ j. rename-clauses-params (meant xs c j) cs)
 
-cells-used : (xs : List Entry) (m : Option ℕ) (x : Item) → 0 < cells x → usesItem x ≡ true → usesEntries (map (entryOf m) (cellsOut xs x)) ≡ true
-unfolding usesEntries
-cells-used xs m (formula x) f h = rw h
-cells-used xs m (state s cs) f h = rw h
-cells-used xs m (row c s cs) f h = some-made m c (λ j. state s (renameClauses (meant xs c j) cs)) f (rename-clauses-use (meant xs c 0) cs ∙ h)
+cells-all : (xs : List Entry) (m : Option ℕ) (x : Item) → 0 < cells x → paramsOfEntries (map (entryOf m) (cellsOut xs x)) ≡ paramsOfItem x
+unfolding paramsOfEntries
+cells-all xs m (formula x) h = omega arith
+cells-all xs m (state s cs) h = omega arith
+cells-all xs m (row c s cs) h =
+    made-all m (paramsOfClauses cs) c (λ j. state s (renameClauses (meant xs c j) cs)) h (λ j. rename-clauses-params (meant xs c j) cs)
 
-out-uses : (xs ys : List Entry) → All (λ (y : Entry). 0 < cells (y .item)) ys → usesEntries (entriesOut xs ys) ≡ usesEntries ys
-unfolding entriesOut flatMap usesEntries
-out-uses xs [] f = refl
-out-uses xs (y ∷ ys) f =
-    split (usesItem (y .item))
-    (λ t. rw (uses-append (entryOut xs y) (entriesOut xs ys), cells-used xs (y .viewer) (y .item) (f .0) t, t))
-    (λ t. rw (uses-append (entryOut xs y) (entriesOut xs ys), cells-unused xs (y .viewer) (y .item) t, t) (out-uses xs ys (f .1)))
+-- the sheet written out names no more parameters, and as many where each row has a cell
+pub out-most : (xs ys : List Entry) → paramsOfEntries (entriesOut xs ys) ≤ paramsOfEntries ys
+unfolding entriesOut flatMap paramsOfEntries
+out-most xs [] = omega arith
+out-most xs (y ∷ ys) =
+    rw (params-append (entryOut xs y) (entriesOut xs ys)) (omega (arith, cells-most xs (y .viewer) (y .item), out-most xs ys))
 
--- the sheet written out uses a parameter exactly if the sheet does, where each row has a cell
+out-all : (xs ys : List Entry) → All (λ (y : Entry). 0 < cells (y .item)) ys → paramsOfEntries (entriesOut xs ys) ≡ paramsOfEntries ys
+unfolding entriesOut flatMap paramsOfEntries
+out-all xs [] f = refl
+out-all xs (y ∷ ys) f = rw (params-append (entryOut xs y) (entriesOut xs ys), cells-all xs (y .viewer) (y .item) (f .0), out-all xs ys (f .1))
+
 pub uses-out : (s : Sheet) → All (λ (y : Entry). 0 < cells (y .item)) (s .entries) → uses (rowsOut s) ≡ uses s
-uses-out s f = out-uses (s .entries) (s .entries) f
+uses-out s f = rw (out-all (s .entries) (s .entries) f)
 
 -- ---- parameters written out as constants (M-103), and rows: in either order
 

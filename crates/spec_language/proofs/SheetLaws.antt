@@ -7,17 +7,17 @@ use mathlib.Core.Option.{Option, none, some}
 use mathlib.Core.List.{List, [], _∷_}
 use native.Mathlib.Omega.{arith}
 use lib.ListN.{length, getD, length-map, List·getD-map}
+use borrow.Author.Tests.{ltb-false}
 use Rattle.lib_base.specs.Basics.{All}
-use Rattle.lib_base.proofs.Tools.{none-of}
 use Rattle.spec_language.specs.Syntax.{Behaviour, active}
 use Rattle.spec_language.specs.Sheet.{Term, literal, variable, param, apply1, apply2, apply3, Clause, clause, Item, formula, state, row, Signal, Entry, Sheet, allowed, prioritiesOf, sendersOf, viewersOf}
 use Rattle.spec_language.specs.Sheet.{rowsOut, fillTerm, fillClauses, fillItem, fillEntries, fillCells, fill, writeTerm, writeClauses, writeItem, writeEntries, writtenOut}
-use Rattle.spec_language.specs.Sheet.{usesTerm, usesClauses, usesItem, usesEntries, uses}
+use Rattle.spec_language.specs.Sheet.{paramsOf, paramsOfClauses, paramsOfItem, paramsOfEntries, uses}
 use Rattle.spec_language.specs.Grammar.{TermFits, t-literal, t-variable, t-param, t-apply1, t-apply2, t-apply3, NoClauseFor, ClausesFit, ItemFits, ByteFits, SignalFits, EntryFits, SheetFits}
 use Rattle.spec_language.specs.Grammar.{Nested, n-con, n-name, n-app1, n-app2, n-app3, NoneFor, HandlersFit, BehaviourFits, Fits}
 use Rattle.spec_language.specs.Code.{sizeOf}
 use Rattle.spec_language.specs.Accepted.{Accepted, SheetAccepted}
-use Rattle.spec_language.proofs.RowLaws.{length-out, out-unused, rows-fit, written-rows}
+use Rattle.spec_language.proofs.RowLaws.{length-out, out-most, rows-fit, written-rows}
 
 -- ---- its shape
 
@@ -60,38 +60,35 @@ size-fill v w (apply3 f a b c) = rw (size-fill v w a, size-fill v w b, size-fill
 -- ---- with no parameter used, every filling is the same
 
 module _ (v w : ℕ → ℕ) where
-  unused-term : (x : Term) → usesTerm x ≡ false → fillTerm v x ≡ fillTerm w x
-  unfolding fillTerm usesTerm
+  unused-term : (x : Term) → paramsOf x ≡ 0 → fillTerm v x ≡ fillTerm w x
+  unfolding fillTerm paramsOf
   unused-term (literal z) h = refl
   unused-term (variable i) h = refl
-  unused-term (param n) h = absurd (true≢false h)
+  unused-term (param n) h = absurd (omega arith)
   unused-term (apply1 f a) h = rw (unused-term a h)
-  unused-term (apply2 f a b) h = let r = none-of (usesTerm a) (usesTerm b) h in rw (unused-term a (r .0), unused-term b (r .1))
-  unused-term (apply3 f a b c) h =
-      let r = none-of (usesTerm a) (usesTerm b || usesTerm c) h in
-      let q = none-of (usesTerm b) (usesTerm c) (r .1) in
-      rw (unused-term a (r .0), unused-term b (q .0), unused-term c (q .1))
+  unused-term (apply2 f a b) h = rw (unused-term a (omega arith), unused-term b (omega arith))
+  unused-term (apply3 f a b c) h = rw (unused-term a (omega arith), unused-term b (omega arith), unused-term c (omega arith))
 
-  unused-clauses : (cs : List Clause) → usesClauses cs ≡ false → fillClauses v cs ≡ fillClauses w cs
-  unfolding fillClauses usesClauses
+  unused-clauses : (cs : List Clause) → paramsOfClauses cs ≡ 0 → fillClauses v cs ≡ fillClauses w cs
+  unfolding fillClauses paramsOfClauses
   unused-clauses [] h = refl
-  unused-clauses (clause e φ x ∷ cs) h = let r = none-of (usesTerm x) (usesClauses cs) h in rw (unused-term x (r .0), unused-clauses cs (r .1))
+  unused-clauses (clause e φ x ∷ cs) h = rw (unused-term x (omega arith), unused-clauses cs (omega arith))
 
-  unused-item : (b : Item) → usesItem b ≡ false → fillItem v b ≡ fillItem w b
+  unused-item : (b : Item) → paramsOfItem b ≡ 0 → fillItem v b ≡ fillItem w b
   unused-item (formula x) h = rw (unused-term x h)
   unused-item (state s cs) h = rw (unused-clauses cs h)
   unused-item (row c s cs) h = rw (unused-clauses cs h)
 
-  unused-entries : (bs : List Entry) → usesEntries bs ≡ false → fillEntries v bs ≡ fillEntries w bs
-  unfolding fillEntries usesEntries
+  unused-entries : (bs : List Entry) → paramsOfEntries bs ≡ 0 → fillEntries v bs ≡ fillEntries w bs
+  unfolding fillEntries paramsOfEntries
   unused-entries [] h = refl
-  unused-entries (b ∷ bs) h = let r = none-of (usesItem (b .item)) (usesEntries bs) h in rw (unused-item (b .item) (r .0), unused-entries bs (r .1))
+  unused-entries (b ∷ bs) h = rw (unused-item (b .item) (omega arith), unused-entries bs (omega arith))
 
   pub fill-unused : (s : Sheet) → uses s ≡ false → fill v s ≡ fill w s
   fill-unused s h =
       let t = rowsOut s in
       ap (λ (bs : List Behaviour). record { priorities = prioritiesOf (t .signals); senders = sendersOf (t .signals); behaviours = bs; viewers = viewersOf (t .entries) })
-      (unused-entries (t .entries) (out-unused (s .entries) (s .entries) h))
+      (unused-entries (t .entries) (omega (arith, out-most (s .entries) (s .entries), ltb-false 0 (paramsOfEntries (s .entries)) h)))
 
 -- ---- only the parameters 0 to 7 matter
 
@@ -195,39 +192,39 @@ module _ (v : ℕ → ℕ) (small : (n : ℕ) → n < 8 → v n < 2 ^ 32) where
 -- ---- the sheet written out uses no parameter, and has the same filling
 
 module _ (v w : ℕ → ℕ) where
-  written-term : (x : Term) → (usesTerm (writeTerm v x) ≡ false) × (fillTerm w (writeTerm v x) ≡ fillTerm v x)
-  unfolding fillTerm writeTerm usesTerm
+  written-term : (x : Term) → (paramsOf (writeTerm v x) ≡ 0) × (fillTerm w (writeTerm v x) ≡ fillTerm v x)
+  unfolding fillTerm writeTerm paramsOf
   written-term (literal z) = (refl, refl)
   written-term (variable i) = (refl, refl)
   written-term (param n) = (refl, refl)
   written-term (apply1 f a) = let p = written-term a in (p .0, rw (p .1))
-  written-term (apply2 f a b) = let p = written-term a in let q = written-term b in (rw (p .0) (q .0), rw (p .1, q .1))
+  written-term (apply2 f a b) = let p = written-term a in let q = written-term b in (omega arith, rw (p .1, q .1))
   written-term (apply3 f a b c) =
       let p = written-term a in
       let q = written-term b in
       let r = written-term c in
-      (rw (p .0, q .0) (r .0), rw (p .1, q .1, r .1))
+      (omega arith, rw (p .1, q .1, r .1))
 
-  written-clauses : (cs : List Clause) → (usesClauses (writeClauses v cs) ≡ false) × (fillClauses w (writeClauses v cs) ≡ fillClauses v cs)
-  unfolding fillClauses writeClauses usesClauses
+  written-clauses : (cs : List Clause) → (paramsOfClauses (writeClauses v cs) ≡ 0) × (fillClauses w (writeClauses v cs) ≡ fillClauses v cs)
+  unfolding fillClauses writeClauses paramsOfClauses
   written-clauses [] = (refl, refl)
   written-clauses (clause e φ x ∷ cs) =
       let p = written-term x in
       let q = written-clauses cs in
-      (rw (p .0) (q .0), rw (p .1, q .1))
+      (omega arith, rw (p .1, q .1))
 
-  written-item : (b : Item) → (usesItem (writeItem v b) ≡ false) × (fillItem w (writeItem v b) ≡ fillItem v b)
+  written-item : (b : Item) → (paramsOfItem (writeItem v b) ≡ 0) × (fillItem w (writeItem v b) ≡ fillItem v b)
   written-item (formula x) = let p = written-term x in (p .0, rw (p .1))
   written-item (state s cs) = let p = written-clauses cs in (p .0, rw (p .1))
   written-item (row c s cs) = let p = written-clauses cs in (p .0, rw (p .1))
 
-  written-entries : (bs : List Entry) → (usesEntries (writeEntries v bs) ≡ false) × (fillEntries w (writeEntries v bs) ≡ fillEntries v bs)
-  unfolding fillEntries writeEntries usesEntries
+  written-entries : (bs : List Entry) → (paramsOfEntries (writeEntries v bs) ≡ 0) × (fillEntries w (writeEntries v bs) ≡ fillEntries v bs)
+  unfolding fillEntries writeEntries paramsOfEntries
   written-entries [] = (refl, refl)
   written-entries (b ∷ bs) =
       let p = written-item (b .item) in
       let q = written-entries bs in
-      (rw (p .0) (q .0), rw (p .1, q .1))
+      (omega arith, rw (p .1, q .1))
 
   written-viewers : (bs : List Entry) → viewersOf (writeEntries v bs) ≡ viewersOf bs
   unfolding writeEntries
@@ -235,7 +232,7 @@ module _ (v w : ℕ → ℕ) where
   written-viewers (b ∷ bs) = rw (written-viewers bs)
 
   pub written-unused : (s : Sheet) → uses (writtenOut v s) ≡ false
-  written-unused s = written-entries (s .entries) .0
+  written-unused s = rw (written-entries (s .entries) .0)
 
   written-cells : (s : Sheet) → fillCells w (writtenOut v s) ≡ fillCells v s
   written-cells s = λ t. record {

@@ -136,23 +136,6 @@ pub record SheetFits (s : Sheet) : Type 0 where
   pub each : All (EntryFits (length (s .signals))) (s .entries)
   pub few-bytes : length (encode s) ≤ 8192
 
--- each parameter is one of 0 to 7, whatever else the sheet is
-abbrev pub ParamsIn : Term → Type 0
-ParamsIn (literal w) = Unit {0}
-ParamsIn (variable i) = Unit {0}
-ParamsIn (param n) = n < 8
-ParamsIn (apply1 f a) = ParamsIn a
-ParamsIn (apply2 f a b) = ParamsIn a × ParamsIn b
-ParamsIn (apply3 f a b c) = ParamsIn a × ParamsIn b × ParamsIn c
-
-abbrev pub ClauseParamsIn : Clause → Type 0
-ClauseParamsIn (clause e φ x) = ParamsIn x
-
-abbrev pub ItemParamsIn : Item → Type 0
-ItemParamsIn (formula x) = ParamsIn x
-ItemParamsIn (state s hs) = All ClauseParamsIn hs
-ItemParamsIn (row c s hs) = All ClauseParamsIn hs
-
 -- ---- the same limits of a program, which has no bytes: "3 counts the bytes as sent and not those of the filling"
 
 pub data Nested : ℕ → Expr → Type 0 where

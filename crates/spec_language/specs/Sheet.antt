@@ -1,8 +1,8 @@
 -- Abstract syntax of a sheet as it is sent, apart from the program that it means (Syntax.antt), and the filling that
 -- leads from one to the other. 01 "The sheet"; 02, M-103: a parameter "means the same as the constant written there";
 -- M-107: who may send an event and see a behaviour; M-110: rows.
-use Prim.Native.Nat.{ℕ, _+_, _-_}
-use mathlib.Core.Bool.{Bool, true, false, _||_}
+use Prim.Native.Nat.{ℕ, suc, _+_, _-_, max}
+use mathlib.Core.Bool.{Bool, true, false}
 use mathlib.Core.Option.{Option, none, some}
 use mathlib.Core.List.{List, [], _∷_, map, flatMap}
 use lib.Dec.{eqb, ltb}
@@ -182,28 +182,30 @@ module _ (v : ℕ → ℕ) where
   abbrev pub writtenOut : Sheet → Sheet
   writtenOut s = record { signals = s .signals; entries = writeEntries (s .entries) }
 
--- ---- "when the sheet uses a parameter"
+-- ---- parameters used
 
-unfoldable pub usesTerm : Term → Bool
-usesTerm (literal w) = false
-usesTerm (variable i) = false
-usesTerm (param n) = true
-usesTerm (apply1 f a) = usesTerm a
-usesTerm (apply2 f a b) = usesTerm a || usesTerm b
-usesTerm (apply3 f a b c) = usesTerm a || (usesTerm b || usesTerm c)
+-- how many parameters there are up to the highest one that is named; 0 where none is
+unfoldable pub paramsOf : Term → ℕ
+paramsOf (literal w) = 0
+paramsOf (variable i) = 0
+paramsOf (param n) = suc n
+paramsOf (apply1 f a) = paramsOf a
+paramsOf (apply2 f a b) = max (paramsOf a) (paramsOf b)
+paramsOf (apply3 f a b c) = max (paramsOf a) (max (paramsOf b) (paramsOf c))
 
-unfoldable pub usesClauses : List Clause → Bool
-usesClauses [] = false
-usesClauses (clause e φ x ∷ cs) = usesTerm x || usesClauses cs
+unfoldable pub paramsOfClauses : List Clause → ℕ
+paramsOfClauses [] = 0
+paramsOfClauses (clause e φ x ∷ cs) = max (paramsOf x) (paramsOfClauses cs)
 
-abbrev pub usesItem : Item → Bool
-usesItem (formula x) = usesTerm x
-usesItem (state s cs) = usesClauses cs
-usesItem (row c s cs) = usesClauses cs
+abbrev pub paramsOfItem : Item → ℕ
+paramsOfItem (formula x) = paramsOf x
+paramsOfItem (state s cs) = paramsOfClauses cs
+paramsOfItem (row c s cs) = paramsOfClauses cs
 
-unfoldable pub usesEntries : List Entry → Bool
-usesEntries [] = false
-usesEntries (b ∷ bs) = usesItem (b .item) || usesEntries bs
+unfoldable pub paramsOfEntries : List Entry → ℕ
+paramsOfEntries [] = 0
+paramsOfEntries (x ∷ xs) = max (paramsOfItem (x .item)) (paramsOfEntries xs)
 
+-- "when the sheet uses a parameter"
 abbrev pub uses : Sheet → Bool
-uses s = usesEntries (s .entries)
+uses s = ltb 0 (paramsOfEntries (s .entries))
