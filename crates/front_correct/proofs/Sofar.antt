@@ -20,7 +20,7 @@ use Rattle.spec_language.specs.Grammar.{TermFits, ClausesFit, ItemFits, EntryFi
 use Rattle.spec_language.specs.Code.{sizeOf}
 use Rattle.spec_language.proofs.Laws.{handled-here, handled-there, length-upTo}
 use Rattle.spec_language.proofs.RowLaws.{length-out}
-use Rattle.spec_language.specs.Sheet.{Term, Clause, clause, Item, formula, state, row, Signal, Entry, cellCount, renameTerm, renameClauses, entriesOut, prioritiesOf, allowed, sendersOf, viewersOf}
+use Rattle.spec_language.specs.Sheet.{Term, Clause, clause, Item, formula, state, row, Signal, Entry, cellCount, renameTerm, renameClauses, entriesOut, prioritiesOf, allowed, sendersOf, viewersOf, changeClauses}
 use Rattle.spec_language.specs.Sheet.{fillTerm, fillClauses, fillEntries, fill}
 use Rattle.spec_language.proofs.SheetLaws.{blank, length-priorities, length-fill, fill-at}
 use Rattle.spec_language.specs.Reading.{entry, sheet}
@@ -468,7 +468,7 @@ module _ (d : List ℕ) (n : ℕ) (room : n ≤ 2048) where
     phase-moved v later x t b = stands-moved 3 v x t b
 
     handled-moved : (e v : ℕ) (cs : List Clause) → ClausesFit l cs → EntrySays d v (handled e (fillClauses unfilled cs)) → EntrySays (usedBy d i) v (handled e (fillClauses unfilled (renameClauses f cs)))
-    unfolding handled fillClauses renameClauses
+    unfolding handled fillClauses changeClauses
     handled-moved e v [] t b = b
     handled-moved e v (clause g φ x ∷ cs) t b =
         split (eqb e g)

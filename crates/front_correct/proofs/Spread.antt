@@ -15,7 +15,7 @@ use lib.Dec.{eqb, ltb}
 use borrow.Author.Tests.{eqb-true, eqb-false, eq-eqb, ne-eqb, ltb-true, ltb-false}
 use Rattle.lib_base.specs.Basics.{pick, All}
 use Rattle.lib_base.proofs.Tools.{split, by-test, all-join, all-at-or}
-use Rattle.spec_language.specs.Sheet.{Term, literal, variable, param, apply1, apply2, apply3, Clause, clause, Item, formula, state, row, Entry, cells, cellCount, isRow, heads, meant}
+use Rattle.spec_language.specs.Sheet.{Term, literal, variable, param, apply1, apply2, apply3, Clause, clause, Item, formula, state, row, Entry, cells, cellCount, isRow, heads, meant, changeClauses}
 use Rattle.spec_language.specs.Sheet.{renameTerm, renameClauses, cellsOut, entryOut, entriesOut, allowed, viewersOf, fillTerm}
 use Rattle.spec_language.specs.Order.{upTo}
 use Rattle.spec_language.specs.Grammar.{Arity, unary, ternary, binary, TermFits, t-literal, t-variable, t-param, t-apply1, t-apply2, t-apply3, ItemFits, EntryFits}
@@ -176,7 +176,7 @@ module _ (f g : ℕ → ℕ) (same : (m : ℕ) → f m ≡ g m) where
   rename-same (apply3 h a b c) = rw (rename-same a, rename-same b, rename-same c)
 
   clauses-same : (cs : List Clause) → renameClauses f cs ≡ renameClauses g cs
-  unfolding renameClauses
+  unfolding changeClauses
   clauses-same [] = refl
   clauses-same (clause e φ x ∷ cs) = rw (rename-same x, clauses-same cs)
 
@@ -190,7 +190,7 @@ rename-none (apply2 h a b) = rw (rename-none a, rename-none b)
 rename-none (apply3 h a b c) = rw (rename-none a, rename-none b, rename-none c)
 
 clauses-none : (cs : List Clause) → renameClauses (λ m. m) cs ≡ cs
-unfolding renameClauses
+unfolding changeClauses
 clauses-none [] = refl
 clauses-none (clause e φ x ∷ cs) = rw (rename-none x, clauses-none cs)
 

@@ -11,11 +11,11 @@ use lib.Seq.{getD-drop, drop-drop, drop-append-seam, drop-length}
 use borrow.Author.Tests.{le-ltb, ltb-false}
 use Rattle.lib_base.specs.Basics.{pick, All}
 use Rattle.lib_base.proofs.Tools.{by-test, split}
-use Rattle.spec_language.specs.Sheet.{Term, literal, variable, param, apply1, apply2, apply3, Clause, clause, Item, formula, state, row, Entry, cells, cellCount, renameTerm, renameClauses}
+use Rattle.spec_language.specs.Sheet.{Term, literal, variable, param, apply1, apply2, apply3, Clause, clause, Item, formula, state, row, Entry, cells, cellCount, renameTerm, changeClauses, changeItem, changeEntry, changeEntries}
 use Rattle.spec_language.specs.Grammar.{field, encodeExpr, encodeHandlers, tagOf, encodeItem, encodeViewer, encodeBehaviour, encodeBehaviours}
 use Rattle.spec_language.specs.Sheet.{fillTerm, fillClauses, fillItem, fillEntries}
 use Rattle.spec_language.specs.Accepted.{NamesIn, HandlerNamesIn, BehaviourNamesIn}
-use Rattle.link_pooled.specs.Pooled.{moveTerm, moveClauses, moveItem, moveEntry, moveEntries}
+use Rattle.link_pooled.specs.Pooled.{moveTerm, moveEntries}
 use Rattle.link_bytes.specs.Splice.{cellsFrom, nextAt, countFrom, opens, scanState, movedByte, scan}
 
 -- ---- names moved up leave every length as it was
@@ -30,12 +30,12 @@ module _ (m : ℕ) where
   length-term (apply2 f a b) = simp (length-append, length-term a, length-term b)
   length-term (apply3 f a b c) = simp (length-append, length-term a, length-term b, length-term c)
 
-  length-clauses : (cs : List Clause) → length (encodeHandlers (moveClauses m cs)) ≡ length (encodeHandlers cs)
-  unfolding encodeHandlers renameClauses
+  length-clauses : (cs : List Clause) → length (encodeHandlers (changeClauses (moveTerm m) cs)) ≡ length (encodeHandlers cs)
+  unfolding encodeHandlers changeClauses
   length-clauses [] = refl
   length-clauses (clause e φ x ∷ cs) = simp (length-append, length-term x, length-clauses cs)
 
-  length-item : (x : Item) → length (encodeItem (moveItem m x)) ≡ length (encodeItem x)
+  length-item : (x : Item) → length (encodeItem (changeItem (moveTerm m) x)) ≡ length (encodeItem x)
   length-item (formula x) = length-term x
   length-item (state s cs) = rw (length-clauses cs)
   length-item (row c s cs) = rw (length-clauses cs)
@@ -76,15 +76,15 @@ module _ (v : ℕ → ℕ) (m k : ℕ) (small : m + k ≤ 256) where
       ∙ sym (append-assoc a′ (b′ ++ c′) (scan m 0 rest)) in
       rw (s, n)
 
-  scan-clauses : (cs : List Clause) → All (HandlerNamesIn k) (fillClauses v cs) → (rest : List ℕ) → scan m 0 (encodeHandlers cs ++ rest) ≡ encodeHandlers (moveClauses m cs) ++ scan m 0 rest
-  unfolding scan movedByte scanState opens encodeHandlers renameClauses fillClauses
+  scan-clauses : (cs : List Clause) → All (HandlerNamesIn k) (fillClauses v cs) → (rest : List ℕ) → scan m 0 (encodeHandlers cs ++ rest) ≡ encodeHandlers (changeClauses (moveTerm m) cs) ++ scan m 0 rest
+  unfolding scan movedByte scanState opens encodeHandlers changeClauses fillClauses
   scan-clauses [] h rest = refl
   scan-clauses (clause e φ x ∷ cs) h rest =
-      let s : scan m 0 (encodeExpr x ++ encodeHandlers cs ++ rest) ≡ encodeExpr (moveTerm m x) ++ encodeHandlers (moveClauses m cs) ++ scan m 0 rest =
+      let s : scan m 0 (encodeExpr x ++ encodeHandlers cs ++ rest) ≡ encodeExpr (moveTerm m x) ++ encodeHandlers (changeClauses (moveTerm m) cs) ++ scan m 0 rest =
       ap (scan m 0) (append-assoc (encodeExpr x) (encodeHandlers cs) rest)
       ∙ scan-term x (h .0) (encodeHandlers cs ++ rest)
       ∙ ap (λ (l : List ℕ). encodeExpr (moveTerm m x) ++ l) (scan-clauses cs (h .1) rest)
-      ∙ sym (append-assoc (encodeExpr (moveTerm m x)) (encodeHandlers (moveClauses m cs)) (scan m 0 rest)) in
+      ∙ sym (append-assoc (encodeExpr (moveTerm m x)) (encodeHandlers (changeClauses (moveTerm m) cs)) (scan m 0 rest)) in
       rw (s, length-term m x)
 
   scan-viewer : (o : Option ℕ) (rest : List ℕ) → scan m 0 (encodeViewer o ++ rest) ≡ encodeViewer o ++ scan m 0 rest
@@ -92,30 +92,30 @@ module _ (v : ℕ → ℕ) (m k : ℕ) (small : m + k ≤ 256) where
   scan-viewer none rest = refl
   scan-viewer (some b) rest = refl
 
-  scan-item : (x : Item) → BehaviourNamesIn k (fillItem v x) → (n : ℕ) (rest : List ℕ) → scan m 0 (tagOf x ∷ (n / 256) ∷ (n % 256) ∷ (encodeItem x ++ rest)) ≡ tagOf x ∷ (n / 256) ∷ (n % 256) ∷ (encodeItem (moveItem m x) ++ scan m 0 rest)
+  scan-item : (x : Item) → BehaviourNamesIn k (fillItem v x) → (n : ℕ) (rest : List ℕ) → scan m 0 (tagOf x ∷ (n / 256) ∷ (n % 256) ∷ (encodeItem x ++ rest)) ≡ tagOf x ∷ (n / 256) ∷ (n % 256) ∷ (encodeItem (changeItem (moveTerm m) x) ++ scan m 0 rest)
   unfolding scan movedByte scanState opens
   scan-item (formula x) h n rest = rw (scan-term x h rest)
   scan-item (state s cs) h n rest = rw (scan-clauses cs h rest)
   scan-item (row c s cs) h n rest = rw (scan-clauses cs h rest)
 
-  tag-moved : (x : Item) → tagOf (moveItem m x) ≡ tagOf x
+  tag-moved : (x : Item) → tagOf (changeItem (moveTerm m) x) ≡ tagOf x
   tag-moved (formula x) = refl
   tag-moved (state s cs) = refl
   tag-moved (row c s cs) = refl
 
-  scan-behaviour : (x : Entry) → BehaviourNamesIn k (fillItem v (x .item)) → (rest : List ℕ) → scan m 0 (encodeBehaviour x ++ rest) ≡ encodeBehaviour (moveEntry m x) ++ scan m 0 rest
+  scan-behaviour : (x : Entry) → BehaviourNamesIn k (fillItem v (x .item)) → (rest : List ℕ) → scan m 0 (encodeBehaviour x ++ rest) ≡ encodeBehaviour (changeEntry (moveTerm m) x) ++ scan m 0 rest
   scan-behaviour x h rest =
-      let n : length (encodeItem (moveItem m (x .item)) ++ encodeViewer (x .viewer)) ≡ length (encodeItem (x .item) ++ encodeViewer (x .viewer)) = simp (length-append, length-item m (x .item)) in
+      let n : length (encodeItem (changeItem (moveTerm m) (x .item)) ++ encodeViewer (x .viewer)) ≡ length (encodeItem (x .item) ++ encodeViewer (x .viewer)) = simp (length-append, length-item m (x .item)) in
       let l : ℕ = length (encodeItem (x .item) ++ encodeViewer (x .viewer)) in
       ap (λ (r : List ℕ). scan m 0 (tagOf (x .item) ∷ (l / 256) ∷ (l % 256) ∷ r)) (append-assoc (encodeItem (x .item)) (encodeViewer (x .viewer)) rest)
       ∙ scan-item (x .item) h l (encodeViewer (x .viewer) ++ rest)
-      ∙ ap (λ (r : List ℕ). tagOf (x .item) ∷ (l / 256) ∷ (l % 256) ∷ (encodeItem (moveItem m (x .item)) ++ r)) (scan-viewer (x .viewer) rest)
-      ∙ rw (tag-moved (x .item), n, append-assoc (encodeItem (moveItem m (x .item))) (encodeViewer (x .viewer)) (scan m 0 rest))
+      ∙ ap (λ (r : List ℕ). tagOf (x .item) ∷ (l / 256) ∷ (l % 256) ∷ (encodeItem (changeItem (moveTerm m) (x .item)) ++ r)) (scan-viewer (x .viewer) rest)
+      ∙ rw (tag-moved (x .item), n, append-assoc (encodeItem (changeItem (moveTerm m) (x .item))) (encodeViewer (x .viewer)) (scan m 0 rest))
 
   pub scan-behaviours : (xs : List Entry) → All (BehaviourNamesIn k) (fillEntries v xs) → scan m 0 (encodeBehaviours xs) ≡ encodeBehaviours (moveEntries m xs)
-  unfolding scan encodeBehaviours moveEntries fillEntries
+  unfolding scan encodeBehaviours changeEntries fillEntries
   scan-behaviours [] h = refl
-  scan-behaviours (x ∷ xs) h = scan-behaviour x (h .0) (encodeBehaviours xs) ∙ ap (λ (r : List ℕ). encodeBehaviour (moveEntry m x) ++ r) (scan-behaviours xs (h .1))
+  scan-behaviours (x ∷ xs) h = scan-behaviour x (h .0) (encodeBehaviours xs) ∙ ap (λ (r : List ℕ). encodeBehaviour (changeEntry (moveTerm m) x) ++ r) (scan-behaviours xs (h .1))
 
 -- ---- moved by nothing
 
@@ -128,18 +128,18 @@ term-still (apply1 f a) = rw (term-still a)
 term-still (apply2 f a b) = rw (term-still a, term-still b)
 term-still (apply3 f a b c) = rw (term-still a, term-still b, term-still c)
 
-clauses-still : (cs : List Clause) → moveClauses 0 cs ≡ cs
-unfolding renameClauses
+clauses-still : (cs : List Clause) → changeClauses (moveTerm 0) cs ≡ cs
+unfolding changeClauses
 clauses-still [] = refl
 clauses-still (clause e φ x ∷ cs) = rw (term-still x, clauses-still cs)
 
-item-still : (x : Item) → moveItem 0 x ≡ x
+item-still : (x : Item) → changeItem (moveTerm 0) x ≡ x
 item-still (formula x) = ap formula (term-still x)
 item-still (state s cs) = ap (state s) (clauses-still cs)
 item-still (row c s cs) = ap (row c s) (clauses-still cs)
 
 pub entries-still : (xs : List Entry) → moveEntries 0 xs ≡ xs
-unfolding moveEntries
+unfolding changeEntries
 entries-still [] = refl
 entries-still (x ∷ xs) = λ i. record { item = item-still (x .item) i; viewer = x .viewer } ∷ entries-still xs i
 

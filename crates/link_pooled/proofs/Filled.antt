@@ -8,15 +8,15 @@ use mathlib.Core.List.{List, [], _∷_, _++_, map}
 use lib.ListN.{length}
 use lib.Bits.{bitAnd}
 use Rattle.spec_language.specs.Syntax.{Behaviour}
-use Rattle.spec_language.specs.Sheet.{Term, literal, variable, param, apply1, apply2, apply3, Clause, clause, Item, formula, state, row, Signal, Entry, Sheet, allowed, prioritiesOf, sendersOf, viewersOf}
-use Rattle.spec_language.specs.Sheet.{renameTerm, renameClauses, rowsOut, fillTerm, fillClauses, fillItem, fillEntries, fillCells, fill}
+use Rattle.spec_language.specs.Sheet.{Term, literal, variable, param, apply1, apply2, apply3, Clause, clause, Item, formula, state, row, Signal, Entry, Sheet, allowed, prioritiesOf, sendersOf, viewersOf, changeClauses, changeItem, changeEntries}
+use Rattle.spec_language.specs.Sheet.{renameTerm, rowsOut, fillTerm, fillClauses, fillItem, fillEntries, fillCells, fill}
 use Rattle.spec_language.specs.Sheet.{paramsOfItem, paramsOfEntries, uses}
 use Rattle.spec_language.specs.Dependence.{size}
 use Rattle.spec_language.specs.Grammar.{SheetFits}
 use Rattle.spec_language.specs.Accepted.{Known}
 use Rattle.spec_language.proofs.RowLaws.{length-out, rename-params, rename-clauses-params, either-uses, params-append}
 use Rattle.spec_language.proofs.SheetLaws.{length-fill}
-use Rattle.link_pooled.specs.Pooled.{mergedByNumber, bothSend, poolSignals, moveTerm, moveClauses, moveItem, moveEntries, count, pooled}
+use Rattle.link_pooled.specs.Pooled.{mergedByNumber, bothSend, poolSignals, moveTerm, moveEntries, count, pooled}
 use Rattle.link_pooled.specs.Together.{moveExpr, moveHandlers, moveBehaviour, together}
 use Rattle.link_pooled.proofs.Rows.{fill-append, rows-pooled}
 
@@ -52,23 +52,23 @@ module _ (v : ℕ → ℕ) (n : ℕ) where
   term-moved (apply2 f a b) = rw (term-moved a, term-moved b)
   term-moved (apply3 f a b c) = rw (term-moved a, term-moved b, term-moved c)
 
-  clauses-moved : (cs : List Clause) → fillClauses v (moveClauses n cs) ≡ moveHandlers n (fillClauses v cs)
-  unfolding fillClauses renameClauses moveHandlers
+  clauses-moved : (cs : List Clause) → fillClauses v (changeClauses (moveTerm n) cs) ≡ moveHandlers n (fillClauses v cs)
+  unfolding fillClauses changeClauses moveHandlers
   clauses-moved [] = refl
   clauses-moved (clause e φ x ∷ cs) = rw (term-moved x, clauses-moved cs)
 
-  item-moved : (b : Item) → fillItem v (moveItem n b) ≡ moveBehaviour n (fillItem v b)
+  item-moved : (b : Item) → fillItem v (changeItem (moveTerm n) b) ≡ moveBehaviour n (fillItem v b)
   item-moved (formula x) = rw (term-moved x)
   item-moved (state s cs) = rw (clauses-moved cs)
   item-moved (row c s cs) = rw (clauses-moved cs)
 
   entries-moved : (bs : List Entry) → fillEntries v (moveEntries n bs) ≡ map (moveBehaviour n) (fillEntries v bs)
-  unfolding fillEntries moveEntries
+  unfolding fillEntries changeEntries
   entries-moved [] = refl
   entries-moved (b ∷ bs) = rw (item-moved (b .item), entries-moved bs)
 
   viewers-moved : (bs : List Entry) → viewersOf (moveEntries n bs) ≡ viewersOf bs
-  unfolding moveEntries
+  unfolding changeEntries
   viewers-moved [] = refl
   viewers-moved (b ∷ bs) = rw (viewers-moved bs)
 
@@ -104,13 +104,13 @@ fill-pooled v s t f h =
 -- ---- parameters used
 
 module _ (n : ℕ) where
-  item-params : (b : Item) → paramsOfItem (moveItem n b) ≡ paramsOfItem b
+  item-params : (b : Item) → paramsOfItem (changeItem (moveTerm n) b) ≡ paramsOfItem b
   item-params (formula x) = rename-params (λ i. n + i) x
   item-params (state s cs) = rename-clauses-params (λ i. n + i) cs
   item-params (row c s cs) = rename-clauses-params (λ i. n + i) cs
 
   entries-params : (bs : List Entry) → paramsOfEntries (moveEntries n bs) ≡ paramsOfEntries bs
-  unfolding paramsOfEntries moveEntries
+  unfolding paramsOfEntries changeEntries
   entries-params [] = refl
   entries-params (b ∷ bs) = rw (item-params (b .item), entries-params bs)
 

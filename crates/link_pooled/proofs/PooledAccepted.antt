@@ -11,14 +11,14 @@ use lib.ListN.{length}
 use lib.Bits.{and-le-l, and-le-r}
 use Rattle.lib_base.specs.Basics.{All}
 use Rattle.lib_base.proofs.Tools.{or-either, all-imp, all-join}
-use Rattle.spec_language.specs.Sheet.{Term, Clause, clause, Item, formula, state, row, Signal, Entry, Sheet, renameTerm, renameClauses, fillTerm, fillClauses, fillItem, fillEntries, fill, uses}
+use Rattle.spec_language.specs.Sheet.{Term, Clause, clause, Item, formula, state, row, Signal, Entry, Sheet, renameTerm, fillTerm, fillClauses, fillItem, fillEntries, fill, uses, changeClauses, changeItem, changeEntries}
 use Rattle.spec_language.specs.Dependence.{size, NoCycle}
 use Rattle.spec_language.specs.Grammar.{TermFits, t-literal, t-variable, t-param, t-apply1, t-apply2, t-apply3, NoClauseFor, ClausesFit, ItemFits, ByteFits, SignalFits, EntryFits, encode}
 use Rattle.spec_language.specs.Code.{allInstructions}
 use Rattle.spec_language.specs.Accepted.{NamesIn, HandlerNamesIn, BehaviourNamesIn, Known, SheetAccepted, Valid}
 use Rattle.spec_language.proofs.RowLaws.{count-append}
 use Rattle.spec_language.proofs.SheetLaws.{filling-accepted}
-use Rattle.link_pooled.specs.Pooled.{mergedByNumber, bothSend, poolSignal, poolSignals, moveTerm, moveClauses, moveItem, moveEntries, count, pooled}
+use Rattle.link_pooled.specs.Pooled.{mergedByNumber, bothSend, poolSignal, poolSignals, moveTerm, moveEntries, count, pooled}
 use Rattle.link_pooled.specs.Together.{together}
 use Rattle.link_pooled.proofs.TogetherValid.{shared-first, shared-second, shared-most, together-valid}
 use Rattle.link_pooled.proofs.Filled.{size-fill, fill-pooled, uses-pooled}
@@ -65,23 +65,23 @@ module _ (v : ℕ → ℕ) (n k : ℕ) (small : n + k ≤ 256) where
   term-moves (t-apply2 r a b) h = t-apply2 r (term-moves a (h .0)) (term-moves b (h .1))
   term-moves (t-apply3 r a b c) h = t-apply3 r (term-moves a (h .0)) (term-moves b (h .1)) (term-moves c (h .2))
 
-  none-moves : (e : ℕ) (cs : List Clause) → NoClauseFor e cs → NoClauseFor e (moveClauses n cs)
-  unfolding renameClauses
+  none-moves : (e : ℕ) (cs : List Clause) → NoClauseFor e cs → NoClauseFor e (changeClauses (moveTerm n) cs)
+  unfolding changeClauses
   none-moves e [] h = tt
   none-moves e (clause f φ x ∷ cs) h = (h .0, none-moves e cs (h .1))
 
-  clauses-move : (m : ℕ) (cs : List Clause) → ClausesFit m cs → All (HandlerNamesIn k) (fillClauses v cs) → ClausesFit m (moveClauses n cs)
-  unfolding renameClauses fillClauses
+  clauses-move : (m : ℕ) (cs : List Clause) → ClausesFit m cs → All (HandlerNamesIn k) (fillClauses v cs) → ClausesFit m (changeClauses (moveTerm n) cs)
+  unfolding changeClauses fillClauses
   clauses-move m [] h w = tt
   clauses-move m (clause e φ x ∷ cs) h w = (h .0, term-moves (h .1) (w .0), none-moves e cs (h .2), clauses-move m cs (h .3) (w .1))
 
-  item-moves : (m : ℕ) (b : Item) → ItemFits m b → BehaviourNamesIn k (fillItem v b) → ItemFits m (moveItem n b)
+  item-moves : (m : ℕ) (b : Item) → ItemFits m b → BehaviourNamesIn k (fillItem v b) → ItemFits m (changeItem (moveTerm n) b)
   item-moves m (formula x) h w = term-moves h w
   item-moves m (state s cs) h w = (h .0, clauses-move m cs (h .1) w)
   item-moves m (row c s cs) h w = (h .0, h .1, h .2, clauses-move m cs (h .3) w)
 
   entries-move : (m : ℕ) (bs : List Entry) → All (EntryFits m) bs → All (BehaviourNamesIn k) (fillEntries v bs) → All (EntryFits m) (moveEntries n bs)
-  unfolding moveEntries fillEntries
+  unfolding changeEntries fillEntries
   entries-move m [] h w = tt
   entries-move m (b ∷ bs) h w = ((item-moves m (b .item) (h .0 .0) (w .0), h .0 .1), entries-move m bs (h .1) (w .1))
 

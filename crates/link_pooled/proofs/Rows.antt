@@ -12,11 +12,11 @@ use Rattle.lib_base.specs.Basics.{All}
 use Rattle.lib_base.proofs.Tools.{by-test, split, all-split}
 use Rattle.spec_language.specs.Order.{upTo}
 use Rattle.spec_language.proofs.Laws.{upTo-same}
-use Rattle.spec_language.specs.Sheet.{Term, literal, variable, param, apply1, apply2, apply3, Clause, clause, Item, formula, state, row, Entry, cells, cellCount, isRow, heads, meant, renameTerm, renameClauses, cellsOut, entryOut, entriesOut}
+use Rattle.spec_language.specs.Sheet.{Term, literal, variable, param, apply1, apply2, apply3, Clause, clause, Item, formula, state, row, Entry, cells, cellCount, isRow, heads, meant, renameTerm, renameClauses, cellsOut, entryOut, entriesOut, changeClauses, changeItem, changeEntry, changeEntries}
 use Rattle.spec_language.specs.Sheet.{fillTerm, fillClauses, fillItem, fillEntries}
 use Rattle.spec_language.specs.Grammar.{ItemFits, EntryFits}
 use Rattle.spec_language.specs.Accepted.{NamesIn, HandlerNamesIn, BehaviourNamesIn}
-use Rattle.link_pooled.specs.Pooled.{moveClauses, moveItem, moveEntry, moveEntries}
+use Rattle.link_pooled.specs.Pooled.{moveEntries, moveTerm}
 
 -- ---- the first cells of rows
 
@@ -41,23 +41,23 @@ heads-past n (x ∷ k) l c m h =
     rw (ne-eqb (cells (x .item) + cellCount k + m) 0 (λ e. omega arith), le-ltb (cells (x .item) + cellCount k + m) (cells (x .item)) (omega arith), z) (heads-past n k l c m (h .1))
 
 module _ (n : ℕ) where
-  cells-moved : (x : Item) → cells (moveItem n x) ≡ cells x
+  cells-moved : (x : Item) → cells (changeItem (moveTerm n) x) ≡ cells x
   cells-moved (formula x) = refl
   cells-moved (state s cs) = refl
   cells-moved (row c s cs) = refl
 
-  row-moved : (c : ℕ) (x : Item) → isRow c (moveItem n x) ≡ isRow c x
+  row-moved : (c : ℕ) (x : Item) → isRow c (changeItem (moveTerm n) x) ≡ isRow c x
   row-moved c (formula x) = refl
   row-moved c (state s cs) = refl
   row-moved c (row k s cs) = refl
 
   heads-moved : (l : List Entry) (c m : ℕ) → heads (moveEntries n l) c m ≡ heads l c m
-  unfolding heads moveEntries
+  unfolding heads changeEntries
   heads-moved [] c m = refl
   heads-moved (x ∷ l) c m = rw (row-moved c (x .item), cells-moved (x .item), heads-moved l c (m - cells (x .item)))
 
   pub count-moved : (l : List Entry) → cellCount (moveEntries n l) ≡ cellCount l
-  unfolding cellCount moveEntries
+  unfolding cellCount changeEntries
   count-moved [] = refl
   count-moved (x ∷ l) = rw (cells-moved (x .item), count-moved l)
 
@@ -73,7 +73,7 @@ rename-same v n f g e (apply2 q a b) h = rw (rename-same v n f g e a (h .0), ren
 rename-same v n f g e (apply3 q a b c) h = rw (rename-same v n f g e a (h .0), rename-same v n f g e b (h .1), rename-same v n f g e c (h .2))
 
 clauses-same : (v : ℕ → ℕ) (n : ℕ) (f g : ℕ → ℕ) → ((m : ℕ) → m < n → f m ≡ g m) → (cs : List Clause) → All (HandlerNamesIn n) (fillClauses v cs) → renameClauses f cs ≡ renameClauses g cs
-unfolding renameClauses fillClauses
+unfolding changeClauses fillClauses
 clauses-same v n f g e [] h = refl
 clauses-same v n f g e (clause d φ x ∷ cs) h = rw (rename-same v n f g e x (h .0), clauses-same v n f g e cs (h .1))
 
@@ -89,7 +89,7 @@ module _ (f g p q : ℕ → ℕ) (e : (m : ℕ) → f (g m) ≡ p (q m)) where
   rename-twice (apply3 r a b c) = rw (rename-twice a, rename-twice b, rename-twice c)
 
   clauses-twice : (cs : List Clause) → renameClauses f (renameClauses g cs) ≡ renameClauses p (renameClauses q cs)
-  unfolding renameClauses
+  unfolding changeClauses
   clauses-twice [] = refl
   clauses-twice (clause d φ x ∷ cs) = rw (rename-twice x, clauses-twice cs)
 
@@ -105,7 +105,7 @@ module _ (v : ℕ → ℕ) (n : ℕ) (f : ℕ → ℕ) (e : (m : ℕ) → m ≤ 
   names-back (apply3 q a b c) h = (names-back a (h .0), names-back b (h .1), names-back c (h .2))
 
   clauses-back : (cs : List Clause) → All (HandlerNamesIn n) (fillClauses v (renameClauses f cs)) → All (HandlerNamesIn n) (fillClauses v cs)
-  unfolding renameClauses fillClauses
+  unfolding changeClauses fillClauses
   clauses-back [] h = tt
   clauses-back (clause d φ x ∷ cs) h = (names-back x (h .0), clauses-back cs (h .1))
 
@@ -163,8 +163,8 @@ module _ (v : ℕ → ℕ) (k l : List Entry) where
 -- ---- the second's, moved, mean what they did, moved
 
 moved-append : (n : ℕ) (k l : List Entry) → moveEntries n (k ++ l) ≡ moveEntries n k ++ moveEntries n l
-unfolding moveEntries
-moved-append n k l = map-append (moveEntry n) k l
+unfolding changeEntries
+moved-append n k l = map-append (changeEntry (moveTerm n)) k l
 
 module _ (e : ℕ) (k l : List Entry) (fits : All (EntryFits e) k) where
   abbrev all : List Entry
@@ -175,21 +175,21 @@ module _ (e : ℕ) (k l : List Entry) (fits : All (EntryFits e) k) where
       rw (heads-past e k (moveEntries (cellCount k) l) c m fits, heads-moved (cellCount k) l c m)
       (split (heads l c m) (λ t. rw t (omega arith)) (λ t. rw t))
 
-  entry-second : (x : Item) (m : Option ℕ) → map (λ (y : Item). record { item = y; viewer = m }) (cellsOut all (moveItem (cellCount k) x))
+  entry-second : (x : Item) (m : Option ℕ) → map (λ (y : Item). record { item = y; viewer = m }) (cellsOut all (changeItem (moveTerm (cellCount k)) x))
       ≡ moveEntries (cellCount k) (map (λ (y : Item). record { item = y; viewer = m }) (cellsOut l x))
-  unfolding moveEntries upTo
+  unfolding changeEntries upTo
   entry-second (formula x) m = refl
   entry-second (state s cs) m = refl
-  entry-second (row c s cs) m = each c (λ j. state s (renameClauses (meant all c j) (moveClauses (cellCount k) cs))) (λ j. state s (renameClauses (meant l c j) cs))
+  entry-second (row c s cs) m = each c (λ j. state s (renameClauses (meant all c j) (changeClauses (moveTerm (cellCount k)) cs))) (λ j. state s (renameClauses (meant l c j) cs))
       (λ j. ap (state s) (clauses-twice (meant all c j) (λ i. cellCount k + i) (λ i. cellCount k + i) (meant l c j) (meant-second c j) cs))
     where
-      each : (n : ℕ) (f g : ℕ → Item) → ((j : ℕ) → f j ≡ moveItem (cellCount k) (g j))
-          → map (λ (y : Item). record { item = y; viewer = m }) (upTo n f) ≡ map (moveEntry (cellCount k)) (map (λ (y : Item). record { item = y; viewer = m }) (upTo n g))
+      each : (n : ℕ) (f g : ℕ → Item) → ((j : ℕ) → f j ≡ changeItem (moveTerm (cellCount k)) (g j))
+          → map (λ (y : Item). record { item = y; viewer = m }) (upTo n f) ≡ map (changeEntry (moveTerm (cellCount k))) (map (λ (y : Item). record { item = y; viewer = m }) (upTo n g))
       each zero f g h = refl
       each (suc n) f g h = λ i. record { item = h zero i; viewer = m } ∷ each n (λ j. f (suc j)) (λ j. g (suc j)) (λ j. h (suc j)) i
 
   out-second : (ys : List Entry) → entriesOut all (moveEntries (cellCount k) ys) ≡ moveEntries (cellCount k) (entriesOut l ys)
-  unfolding entriesOut flatMap moveEntries
+  unfolding entriesOut flatMap changeEntries
   out-second [] = refl
   out-second (y ∷ ys) =
       rw (entry-second (y .item) (y .viewer), out-second ys)

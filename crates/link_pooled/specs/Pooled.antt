@@ -8,7 +8,7 @@ use mathlib.Core.List.{List, [], _∷_, _++_, map}
 use lib.Dec.{eqb}
 use lib.Bits.{bitAnd}
 use Rattle.lib_base.specs.Basics.{pick}
-use Rattle.spec_language.specs.Sheet.{Term, Clause, Item, formula, state, row, Signal, Entry, Sheet, cellCount, renameTerm, renameClauses}
+use Rattle.spec_language.specs.Sheet.{Term, Clause, Item, formula, state, row, Signal, Entry, Sheet, cellCount, renameTerm, changeEntries}
 
 -- ---- events
 
@@ -44,19 +44,8 @@ module _ (n : ℕ) where
   abbrev pub moveTerm : Term → Term
   moveTerm = renameTerm (λ i. n + i)
 
-  abbrev pub moveClauses : List Clause → List Clause
-  moveClauses = renameClauses (λ i. n + i)
-
-  abbrev pub moveItem : Item → Item
-  moveItem (formula x) = formula (moveTerm x)
-  moveItem (state s cs) = state s (moveClauses cs)
-  moveItem (row c s cs) = row c s (moveClauses cs)
-
-  abbrev pub moveEntry : Entry → Entry
-  moveEntry x = record { item = moveItem (x .item); viewer = x .viewer }
-
-  unfoldable pub moveEntries : List Entry → List Entry
-  moveEntries = map moveEntry
+  abbrev pub moveEntries : List Entry → List Entry
+  moveEntries = changeEntries moveTerm
 
 -- the number of behaviours, a row's cells counted
 abbrev pub count : Sheet → ℕ

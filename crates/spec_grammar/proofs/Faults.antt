@@ -13,9 +13,9 @@ use borrow.Author.Tests.{ne-eqb, le-ltb}
 use Rattle.lib_base.specs.Basics.{pick, All}
 use Rattle.lib_base.proofs.Tools.{split}
 use Rattle.spec_language.specs.Syntax.{Phase, immediate, later}
-use Rattle.spec_language.specs.Sheet.{Term, literal, variable, param, apply1, apply2, apply3, Clause, clause, Item, formula, state, row, Signal, Entry, Sheet, cells, cellCount}
+use Rattle.spec_language.specs.Sheet.{Term, literal, variable, param, apply1, apply2, apply3, Clause, clause, Item, formula, state, row, Signal, Entry, Sheet, cells, cellCount, changeClauses, changeItem, changeEntries, asSent, fillTerm}
 use Rattle.spec_language.proofs.RowLaws.{count-append, written-cells-count}
-use Rattle.spec_language.specs.Sheet.{writeTerm, writeClauses, writeItem, writeEntries, writtenOut}
+use Rattle.spec_language.specs.Sheet.{writeTerm, writtenOut}
 use Rattle.spec_language.specs.Grammar.{field, word, encodeExpr, encodePhase, encodeHandler, encodeHandlers, tagOf, encodeViewer, encodeBehaviour, encodeBehaviours, encodeSender, encodeEvent, encodeEvents, encode}
 use Rattle.spec_language.specs.Sheet.{paramsOf, paramsOfClauses, paramsOfItem, paramsOfEntries}
 use Rattle.spec_language.specs.Reading.{fieldAt, Got, bad, got, whole, wordOf, then, argsOf, exprAt, exprIn, handles, phaseIn, handlerBody, ends, handlersAt, startBody, entry, endingIn, activeAs, behaviourIn, signal, signalIn, sheet, behavioursAt, eventsAt, readSheet}
@@ -308,7 +308,7 @@ sheet-result x =
 
 module _ (v : ℕ → ℕ) where
   expr-written : (k : ℕ) (x : Term) → paramsOf x ≤ 8 → exprFault k (writeTerm v x) ≡ exprFault k x
-  unfolding exprFault writeTerm paramsOf
+  unfolding exprFault fillTerm asSent paramsOf
   expr-written zero x h = refl
   expr-written (suc k) (literal w) h = refl
   expr-written (suc k) (variable i) h = refl
@@ -317,35 +317,35 @@ module _ (v : ℕ → ℕ) where
   expr-written (suc k) (apply2 f a b) h = rw (expr-written k a (omega arith), expr-written k b (omega arith))
   expr-written (suc k) (apply3 f a b c) h = rw (expr-written k a (omega arith), expr-written k b (omega arith), expr-written k c (omega arith))
 
-  handles-written : (e : ℕ) (hs : List Clause) → handles e (writeClauses v hs) ≡ handles e hs
-  unfolding handles writeClauses
+  handles-written : (e : ℕ) (hs : List Clause) → handles e (changeClauses (writeTerm v) hs) ≡ handles e hs
+  unfolding handles changeClauses
   handles-written e [] = refl
   handles-written e (clause f φ x ∷ hs) = rw (handles-written e hs)
 
-  write-snoc : (hs : List Clause) (e : ℕ) (φ : Phase) (x : Term) → writeClauses v (hs ++ (clause e φ x ∷ [])) ≡ writeClauses v hs ++ (clause e φ (writeTerm v x) ∷ [])
-  unfolding writeClauses
+  write-snoc : (hs : List Clause) (e : ℕ) (φ : Phase) (x : Term) → changeClauses (writeTerm v) (hs ++ (clause e φ x ∷ [])) ≡ changeClauses (writeTerm v) hs ++ (clause e φ (writeTerm v x) ∷ [])
+  unfolding changeClauses
   write-snoc [] e φ x = refl
   write-snoc (clause f ψ y ∷ hs) e φ x = ap (λ (l : List Clause). clause f ψ (writeTerm v y) ∷ l) (write-snoc hs e φ x)
 
-  clauses-written : (n : ℕ) (hs ks : List Clause) → paramsOfClauses ks ≤ 8 → clausesFault n (writeClauses v hs) (writeClauses v ks) ≡ clausesFault n hs ks
-  unfolding clausesFault writeClauses paramsOfClauses
+  clauses-written : (n : ℕ) (hs ks : List Clause) → paramsOfClauses ks ≤ 8 → clausesFault n (changeClauses (writeTerm v) hs) (changeClauses (writeTerm v) ks) ≡ clausesFault n hs ks
+  unfolding clausesFault changeClauses paramsOfClauses
   clauses-written n hs [] h = refl
   clauses-written n hs (clause e φ x ∷ ks) h =
       let i = rw (write-snoc hs e φ x) at (clauses-written n (hs ++ (clause e φ x ∷ [])) ks (omega arith)) in
       rw (handles-written e hs, expr-written 16 x (omega arith), i)
 
-  item-written : (n i : ℕ) (b : Item) → paramsOfItem b ≤ 8 → itemFault n i (writeItem v b) ≡ itemFault n i b
-  unfolding writeClauses
+  item-written : (n i : ℕ) (b : Item) → paramsOfItem b ≤ 8 → itemFault n i (changeItem (writeTerm v) b) ≡ itemFault n i b
+  unfolding changeClauses
   item-written n i (formula x) h = expr-written 16 x h
   item-written n i (state s hs) h = clauses-written n [] hs h
   item-written n i (row c s hs) h = rw (clauses-written n [] hs h)
 
-  entries-written : (n m : ℕ) (cs : List Entry) → paramsOfEntries cs ≤ 8 → entriesFault n m (writeEntries v cs) ≡ entriesFault n m cs
-  unfolding entriesFault writeEntries paramsOfEntries
+  entries-written : (n m : ℕ) (cs : List Entry) → paramsOfEntries cs ≤ 8 → entriesFault n m (changeEntries (writeTerm v) cs) ≡ entriesFault n m cs
+  unfolding entriesFault changeEntries paramsOfEntries
   entries-written n m [] h = refl
   entries-written n m (c ∷ cs) h = rw (item-written n m (c .item) (omega arith), written-cells-count v (c .item), entries-written n (m + cells (c .item)) cs (omega arith))
 
-  events-written : (n : ℕ) (qs : List Signal) (cs : List Entry) → paramsOfEntries cs ≤ 8 → eventsFault n qs (writeEntries v cs) ≡ eventsFault n qs cs
+  events-written : (n : ℕ) (qs : List Signal) (cs : List Entry) → paramsOfEntries cs ≤ 8 → eventsFault n qs (changeEntries (writeTerm v) cs) ≡ eventsFault n qs cs
   unfolding eventsFault
   events-written n [] cs h = entries-written n 0 cs h
   events-written n (q ∷ qs) cs h = rw (events-written (suc n) qs cs h)

@@ -4,7 +4,7 @@ use mathlib.Core.Path.{_≡_, refl}
 use mathlib.Core.Option.{some}
 use mathlib.Core.List.{[], _∷_, _++_, flatMap}
 use Rattle.spec_language.specs.Syntax.{immediate, later}
-use Rattle.spec_language.specs.Sheet.{literal, variable, apply2, clause, formula, state, row, Sheet, cellCount, heads, renameTerm, renameClauses, entriesOut, rowsOut}
+use Rattle.spec_language.specs.Sheet.{literal, variable, apply2, clause, formula, state, row, Sheet, cellCount, heads, renameTerm, entriesOut, rowsOut, changeClauses}
 use Rattle.spec_language.specs.Order.{upTo}
 use Rattle.spec_language.specs.Grammar.{encodeExpr, encodeHandlers, encodeBehaviours, encodeEvents, encode}
 use Rattle.spec_language.specs.Reading.{fieldAt, got, exprAt, handles, handlersAt, entry, sheet, behavioursAt, eventsAt, readSheet}
@@ -38,7 +38,7 @@ pub written : rowsOut rows
     ∷ bare (formula (apply2 4 (variable 0) (variable 2)))
     ∷ bare (state 1 (clause 0 later (variable 0) ∷ []))
     ∷ [])
-unfolding entriesOut flatMap heads renameTerm renameClauses upTo
+unfolding entriesOut flatMap heads renameTerm changeClauses upTo
 written = refl
 
 pub rows-read : readSheet (encode rows) ≡ got rows []

@@ -14,7 +14,7 @@ use borrow.Author.Tests.{ltb-true, ltb-false, lt-ltb, le-ltb, leb-true, leb-fals
 use Rattle.lib_base.specs.Basics.{pick, All}
 use Rattle.lib_base.proofs.Tools.{split}
 use Rattle.spec_language.specs.Syntax.{Phase}
-use Rattle.spec_language.specs.Sheet.{Term, literal, variable, param, apply1, apply2, apply3, Clause, clause, Item, formula, state, row, Signal, Entry, Sheet, cells, cellCount, meant}
+use Rattle.spec_language.specs.Sheet.{Term, literal, variable, param, apply1, apply2, apply3, Clause, clause, Item, formula, state, row, Signal, Entry, Sheet, cells, cellCount, meant, changeClauses}
 use Rattle.spec_language.specs.Sheet.{renameTerm, renameClauses, cellsOut, entriesOut, rowsOut}
 use Rattle.spec_language.specs.Order.{upTo}
 use Rattle.spec_language.specs.Grammar.{encode, ClausesFit}
@@ -36,24 +36,24 @@ module _ (f : ℕ → ℕ) where
   expr-renamed (suc k) (apply3 g a b c) = rw (expr-renamed k a, expr-renamed k b, expr-renamed k c)
 
   handles-renamed : (e : ℕ) (hs : List Clause) → handles e (renameClauses f hs) ≡ handles e hs
-  unfolding handles renameClauses
+  unfolding handles changeClauses
   handles-renamed e [] = refl
   handles-renamed e (clause g φ x ∷ hs) = rw (handles-renamed e hs)
 
   rename-snoc : (hs : List Clause) (e : ℕ) (φ : Phase) (x : Term) → renameClauses f (hs ++ (clause e φ x ∷ [])) ≡ renameClauses f hs ++ (clause e φ (renameTerm f x) ∷ [])
-  unfolding renameClauses
+  unfolding changeClauses
   rename-snoc [] e φ x = refl
   rename-snoc (clause g ψ y ∷ hs) e φ x = ap (λ (l : List Clause). clause g ψ (renameTerm f y) ∷ l) (rename-snoc hs e φ x)
 
   clauses-renamed : (n : ℕ) (hs ks : List Clause) → clausesFault n (renameClauses f hs) (renameClauses f ks) ≡ clausesFault n hs ks
-  unfolding clausesFault renameClauses
+  unfolding clausesFault changeClauses
   clauses-renamed n hs [] = refl
   clauses-renamed n hs (clause e φ x ∷ ks) =
       let i = rw (rename-snoc hs e φ x) at (clauses-renamed n (hs ++ (clause e φ x ∷ [])) ks) in
       rw (handles-renamed e hs, expr-renamed 16 x, i)
 
   handlers-renamed : (n : ℕ) (cs : List Clause) → clausesFault n [] (renameClauses f cs) ≡ clausesFault n [] cs
-  unfolding renameClauses
+  unfolding changeClauses
   handlers-renamed n cs = clauses-renamed n [] cs
 
 -- ---- handlers within their limits have no fault

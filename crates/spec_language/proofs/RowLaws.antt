@@ -13,8 +13,8 @@ use Rattle.lib_base.specs.Basics.{pick, All}
 use Rattle.lib_base.proofs.Tools.{by-test, split, none-of, all-join}
 use Rattle.spec_language.specs.Order.{upTo}
 use Rattle.spec_language.proofs.Laws.{length-upTo}
-use Rattle.spec_language.specs.Sheet.{Term, literal, variable, param, apply1, apply2, apply3, Clause, clause, Item, formula, state, row, Entry, Sheet, cells, cellCount, isRow, heads, meant}
-use Rattle.spec_language.specs.Sheet.{renameTerm, renameClauses, cellsOut, entryOut, entriesOut, rowsOut, fillCells, fill, writeTerm, writeClauses, writeItem, writeEntry, writeEntries, writtenOut}
+use Rattle.spec_language.specs.Sheet.{Term, literal, variable, param, apply1, apply2, apply3, Clause, clause, Item, formula, state, row, Entry, Sheet, cells, cellCount, isRow, heads, meant, changeClauses, changeItem, changeEntry, changeEntries, asSent, fillTerm}
+use Rattle.spec_language.specs.Sheet.{renameTerm, renameClauses, cellsOut, entryOut, entriesOut, rowsOut, fillCells, fill, writeTerm, writtenOut}
 use Rattle.spec_language.specs.Sheet.{paramsOf, paramsOfClauses, paramsOfItem, paramsOfEntries, uses}
 use Rattle.spec_language.specs.Grammar.{TermFits, t-literal, t-variable, t-param, t-apply1, t-apply2, t-apply3, NoClauseFor, ClausesFit, ItemFits, ByteFits, EntryFits, SheetFits, encode}
 
@@ -73,12 +73,12 @@ module _ (f : ℕ → ℕ) (small : (m : ℕ) → m < 256 → f m < 256) where
   rename-fits (t-apply3 r a b c) = t-apply3 r (rename-fits a) (rename-fits b) (rename-fits c)
 
   rename-none : (e : ℕ) (cs : List Clause) → NoClauseFor e cs → NoClauseFor e (renameClauses f cs)
-  unfolding renameClauses
+  unfolding changeClauses
   rename-none e [] h = tt
   rename-none e (clause g φ x ∷ cs) h = (h .0, rename-none e cs (h .1))
 
   pub rename-clauses-fit : (n : ℕ) (cs : List Clause) → ClausesFit n cs → ClausesFit n (renameClauses f cs)
-  unfolding renameClauses
+  unfolding changeClauses
   rename-clauses-fit n [] h = tt
   rename-clauses-fit n (clause e φ x ∷ cs) h = (h .0, rename-fits (h .1), rename-none e cs (h .2), rename-clauses-fit n cs (h .3))
 
@@ -93,7 +93,7 @@ module _ (f : ℕ → ℕ) where
   rename-params (apply3 g a b c) = rw (rename-params a, rename-params b, rename-params c)
 
   pub rename-clauses-params : (cs : List Clause) → paramsOfClauses (renameClauses f cs) ≡ paramsOfClauses cs
-  unfolding renameClauses paramsOfClauses
+  unfolding changeClauses paramsOfClauses
   rename-clauses-params [] = refl
   rename-clauses-params (clause e φ x ∷ cs) = rw (rename-params x, rename-clauses-params cs)
 
@@ -180,24 +180,24 @@ uses-out s f = rw (out-all (s .entries) (s .entries) f)
 -- ---- parameters written out as constants (M-103), and rows: in either order
 
 module _ (v : ℕ → ℕ) where
-  pub written-cells-count : (x : Item) → cells (writeItem v x) ≡ cells x
+  pub written-cells-count : (x : Item) → cells (changeItem (writeTerm v) x) ≡ cells x
   written-cells-count (formula x) = refl
   written-cells-count (state s cs) = refl
   written-cells-count (row c s cs) = refl
 
-  written-is-row : (c : ℕ) (x : Item) → isRow c (writeItem v x) ≡ isRow c x
+  written-is-row : (c : ℕ) (x : Item) → isRow c (changeItem (writeTerm v) x) ≡ isRow c x
   written-is-row c (formula x) = refl
   written-is-row c (state s cs) = refl
   written-is-row c (row k s cs) = refl
 
-  written-heads : (xs : List Entry) (c m : ℕ) → heads (writeEntries v xs) c m ≡ heads xs c m
-  unfolding heads writeEntries
+  written-heads : (xs : List Entry) (c m : ℕ) → heads (changeEntries (writeTerm v) xs) c m ≡ heads xs c m
+  unfolding heads changeEntries
   written-heads [] c m = refl
   written-heads (x ∷ xs) c m = rw (written-is-row c (x .item), written-cells-count (x .item), written-heads xs c (m - cells (x .item)))
 
   module _ (f g : ℕ → ℕ) (same : (m : ℕ) → f m ≡ g m) where
     term-turn : (x : Term) → renameTerm f (writeTerm v x) ≡ writeTerm v (renameTerm g x)
-    unfolding renameTerm writeTerm
+    unfolding renameTerm fillTerm asSent
     term-turn (literal w) = refl
     term-turn (variable i) = rw (same i)
     term-turn (param n) = refl
@@ -205,28 +205,28 @@ module _ (v : ℕ → ℕ) where
     term-turn (apply2 h a b) = rw (term-turn a, term-turn b)
     term-turn (apply3 h a b c) = rw (term-turn a, term-turn b, term-turn c)
 
-    clauses-turn : (cs : List Clause) → renameClauses f (writeClauses v cs) ≡ writeClauses v (renameClauses g cs)
-    unfolding renameClauses writeClauses
+    clauses-turn : (cs : List Clause) → renameClauses f (changeClauses (writeTerm v) cs) ≡ changeClauses (writeTerm v) (renameClauses g cs)
+    unfolding changeClauses
     clauses-turn [] = refl
     clauses-turn (clause e φ x ∷ cs) = rw (term-turn x, clauses-turn cs)
 
-  made-turn : (m : Option ℕ) (n : ℕ) (f g : ℕ → Item) → ((j : ℕ) → f j ≡ writeItem v (g j)) → map (entryOf m) (upTo n f) ≡ map (writeEntry v) (map (entryOf m) (upTo n g))
+  made-turn : (m : Option ℕ) (n : ℕ) (f g : ℕ → Item) → ((j : ℕ) → f j ≡ changeItem (writeTerm v) (g j)) → map (entryOf m) (upTo n f) ≡ map (changeEntry (writeTerm v)) (map (entryOf m) (upTo n g))
   unfolding upTo
   made-turn m zero f g h = refl
   made-turn m (suc n) f g h = λ t. entryOf m (h zero t) ∷ made-turn m n (λ i. f (suc i)) (λ i. g (suc i)) (λ j. h (suc j)) t
 
-  cells-turn : (xs : List Entry) (m : Option ℕ) (x : Item) → map (entryOf m) (cellsOut (writeEntries v xs) (writeItem v x)) ≡ map (writeEntry v) (map (entryOf m) (cellsOut xs x))
+  cells-turn : (xs : List Entry) (m : Option ℕ) (x : Item) → map (entryOf m) (cellsOut (changeEntries (writeTerm v) xs) (changeItem (writeTerm v) x)) ≡ map (changeEntry (writeTerm v)) (map (entryOf m) (cellsOut xs x))
   cells-turn xs m (formula x) = refl
   cells-turn xs m (state s cs) = refl
   cells-turn xs m (row c s cs) =
-      made-turn m c (λ j. state s (renameClauses (meant (writeEntries v xs) c j) (writeClauses v cs))) (λ j. state s (renameClauses (meant xs c j) cs))
-      (λ j. ap (state s) (clauses-turn (meant (writeEntries v xs) c j) (meant xs c j) (λ k. ap (λ (b : Bool). pick b (k + j) k) (written-heads xs c k)) cs))
+      made-turn m c (λ j. state s (renameClauses (meant (changeEntries (writeTerm v) xs) c j) (changeClauses (writeTerm v) cs))) (λ j. state s (renameClauses (meant xs c j) cs))
+      (λ j. ap (state s) (clauses-turn (meant (changeEntries (writeTerm v) xs) c j) (meant xs c j) (λ k. ap (λ (b : Bool). pick b (k + j) k) (written-heads xs c k)) cs))
 
-  out-turn : (xs ys : List Entry) → entriesOut (writeEntries v xs) (writeEntries v ys) ≡ writeEntries v (entriesOut xs ys)
-  unfolding entriesOut flatMap writeEntries
+  out-turn : (xs ys : List Entry) → entriesOut (changeEntries (writeTerm v) xs) (changeEntries (writeTerm v) ys) ≡ changeEntries (writeTerm v) (entriesOut xs ys)
+  unfolding entriesOut flatMap changeEntries
   out-turn xs [] = refl
   out-turn xs (y ∷ ys) =
-      rw (map-append (writeEntry v) (entryOut xs y) (entriesOut xs ys)) (λ t. cells-turn xs (y .viewer) (y .item) t ++ out-turn xs ys t)
+      rw (map-append (changeEntry (writeTerm v)) (entryOut xs y) (entriesOut xs ys)) (λ t. cells-turn xs (y .viewer) (y .item) t ++ out-turn xs ys t)
 
   pub written-rows : (s : Sheet) → rowsOut (writtenOut v s) ≡ writtenOut v (rowsOut s)
   written-rows s = λ t. record { signals = s .signals; entries = out-turn (s .entries) (s .entries) t }

@@ -7,7 +7,7 @@ use mathlib.Core.List.{List, [], _∷_, _++_, map, map-append, flatMap}
 use native.Mathlib.Omega.{arith}
 use Rattle.lib_base.specs.Basics.{All}
 use Rattle.lib_base.proofs.Tools.{split, all-join, all-split}
-use Rattle.spec_language.specs.Sheet.{Term, literal, variable, param, apply1, apply2, apply3, Clause, clause, Item, formula, state, row, Entry, Sheet, cellCount, heads, meant}
+use Rattle.spec_language.specs.Sheet.{Term, literal, variable, param, apply1, apply2, apply3, Clause, clause, Item, formula, state, row, Entry, Sheet, cellCount, heads, meant, changeClauses}
 use Rattle.spec_language.specs.Sheet.{renameTerm, renameClauses, cellsOut, entryOut, entriesOut, rowsOut, fillTerm, fillClauses, fillItem, fillEntries, fill}
 use Rattle.spec_language.specs.Order.{upTo}
 use Rattle.spec_language.specs.Grammar.{ItemFits, EntryFits, SheetFits}
@@ -36,12 +36,12 @@ module _ (v : ℕ → ℕ) (n : ℕ) (f : ℕ → ℕ) (to : (m : ℕ) → m < n
   names-from (apply3 g a b c) h = (names-from a (h .0), names-from b (h .1), names-from c (h .2))
 
   clauses-to : (cs : List Clause) → All (HandlerNamesIn n) (fillClauses v cs) → All (HandlerNamesIn n) (fillClauses v (renameClauses f cs))
-  unfolding renameClauses fillClauses
+  unfolding changeClauses fillClauses
   clauses-to [] h = tt
   clauses-to (clause e φ x ∷ cs) h = (names-to x (h .0), clauses-to cs (h .1))
 
   clauses-from : (cs : List Clause) → All (HandlerNamesIn n) (fillClauses v (renameClauses f cs)) → All (HandlerNamesIn n) (fillClauses v cs)
-  unfolding renameClauses fillClauses
+  unfolding changeClauses fillClauses
   clauses-from [] h = tt
   clauses-from (clause e φ x ∷ cs) h = (names-from x (h .0), clauses-from cs (h .1))
 

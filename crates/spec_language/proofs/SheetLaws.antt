@@ -10,8 +10,8 @@ use lib.ListN.{length, getD, length-map, List·getD-map}
 use borrow.Author.Tests.{ltb-false}
 use Rattle.lib_base.specs.Basics.{All}
 use Rattle.spec_language.specs.Syntax.{Behaviour, active}
-use Rattle.spec_language.specs.Sheet.{Term, literal, variable, param, apply1, apply2, apply3, Clause, clause, Item, formula, state, row, Signal, Entry, Sheet, allowed, prioritiesOf, sendersOf, viewersOf}
-use Rattle.spec_language.specs.Sheet.{rowsOut, fillTerm, fillClauses, fillItem, fillEntries, fillCells, fill, writeTerm, writeClauses, writeItem, writeEntries, writtenOut}
+use Rattle.spec_language.specs.Sheet.{Term, literal, variable, param, apply1, apply2, apply3, Clause, clause, Item, formula, state, row, Signal, Entry, Sheet, allowed, prioritiesOf, sendersOf, viewersOf, changeClauses, changeItem, changeEntries, asSent}
+use Rattle.spec_language.specs.Sheet.{rowsOut, fillTerm, fillClauses, fillItem, fillEntries, fillCells, fill, writeTerm, writtenOut}
 use Rattle.spec_language.specs.Sheet.{paramsOf, paramsOfClauses, paramsOfItem, paramsOfEntries, uses}
 use Rattle.spec_language.specs.Grammar.{TermFits, t-literal, t-variable, t-param, t-apply1, t-apply2, t-apply3, NoClauseFor, ClausesFit, ItemFits, ByteFits, SignalFits, EntryFits, SheetFits}
 use Rattle.spec_language.specs.Grammar.{Nested, n-con, n-name, n-app1, n-app2, n-app3, NoneFor, HandlersFit, BehaviourFits, Fits}
@@ -193,7 +193,7 @@ module _ (v : ℕ → ℕ) (small : (n : ℕ) → n < 8 → v n < 2 ^ 32) where
 
 module _ (v w : ℕ → ℕ) where
   written-term : (x : Term) → (paramsOf (writeTerm v x) ≡ 0) × (fillTerm w (writeTerm v x) ≡ fillTerm v x)
-  unfolding fillTerm writeTerm paramsOf
+  unfolding fillTerm asSent paramsOf
   written-term (literal z) = (refl, refl)
   written-term (variable i) = (refl, refl)
   written-term (param n) = (refl, refl)
@@ -205,29 +205,29 @@ module _ (v w : ℕ → ℕ) where
       let r = written-term c in
       (omega arith, rw (p .1, q .1, r .1))
 
-  written-clauses : (cs : List Clause) → (paramsOfClauses (writeClauses v cs) ≡ 0) × (fillClauses w (writeClauses v cs) ≡ fillClauses v cs)
-  unfolding fillClauses writeClauses paramsOfClauses
+  written-clauses : (cs : List Clause) → (paramsOfClauses (changeClauses (writeTerm v) cs) ≡ 0) × (fillClauses w (changeClauses (writeTerm v) cs) ≡ fillClauses v cs)
+  unfolding fillClauses changeClauses paramsOfClauses
   written-clauses [] = (refl, refl)
   written-clauses (clause e φ x ∷ cs) =
       let p = written-term x in
       let q = written-clauses cs in
       (omega arith, rw (p .1, q .1))
 
-  written-item : (b : Item) → (paramsOfItem (writeItem v b) ≡ 0) × (fillItem w (writeItem v b) ≡ fillItem v b)
+  written-item : (b : Item) → (paramsOfItem (changeItem (writeTerm v) b) ≡ 0) × (fillItem w (changeItem (writeTerm v) b) ≡ fillItem v b)
   written-item (formula x) = let p = written-term x in (p .0, rw (p .1))
   written-item (state s cs) = let p = written-clauses cs in (p .0, rw (p .1))
   written-item (row c s cs) = let p = written-clauses cs in (p .0, rw (p .1))
 
-  written-entries : (bs : List Entry) → (paramsOfEntries (writeEntries v bs) ≡ 0) × (fillEntries w (writeEntries v bs) ≡ fillEntries v bs)
-  unfolding fillEntries writeEntries paramsOfEntries
+  written-entries : (bs : List Entry) → (paramsOfEntries (changeEntries (writeTerm v) bs) ≡ 0) × (fillEntries w (changeEntries (writeTerm v) bs) ≡ fillEntries v bs)
+  unfolding fillEntries changeEntries paramsOfEntries
   written-entries [] = (refl, refl)
   written-entries (b ∷ bs) =
       let p = written-item (b .item) in
       let q = written-entries bs in
       (omega arith, rw (p .1, q .1))
 
-  written-viewers : (bs : List Entry) → viewersOf (writeEntries v bs) ≡ viewersOf bs
-  unfolding writeEntries
+  written-viewers : (bs : List Entry) → viewersOf (changeEntries (writeTerm v) bs) ≡ viewersOf bs
+  unfolding changeEntries
   written-viewers [] = refl
   written-viewers (b ∷ bs) = rw (written-viewers bs)
 

@@ -87,6 +87,23 @@ heads (x ∷ xs) c m = pick (eqb m 0) (isRow c (x .item)) (pick (ltb m (cells (x
 abbrev pub meant : List Entry → ℕ → ℕ → ℕ → ℕ
 meant xs c j m = pick (heads xs c m) (m + j) m
 
+-- each expression x of handlers, of a behaviour and of a sheet's behaviours written as f x
+module _ (f : Term → Term) where
+  unfoldable pub changeClauses : List Clause → List Clause
+  changeClauses [] = []
+  changeClauses (clause e φ x ∷ cs) = clause e φ (f x) ∷ changeClauses cs
+
+  abbrev pub changeItem : Item → Item
+  changeItem (formula x) = formula (f x)
+  changeItem (state s cs) = state s (changeClauses cs)
+  changeItem (row c s cs) = row c s (changeClauses cs)
+
+  abbrev pub changeEntry : Entry → Entry
+  changeEntry x = record { item = changeItem (x .item); viewer = x .viewer }
+
+  unfoldable pub changeEntries : List Entry → List Entry
+  changeEntries = map changeEntry
+
 -- each name m written as f m
 module _ (f : ℕ → ℕ) where
   unfoldable pub renameTerm : Term → Term
@@ -97,9 +114,8 @@ module _ (f : ℕ → ℕ) where
   renameTerm (apply2 g a b) = apply2 g (renameTerm a) (renameTerm b)
   renameTerm (apply3 g a b c) = apply3 g (renameTerm a) (renameTerm b) (renameTerm c)
 
-  unfoldable pub renameClauses : List Clause → List Clause
-  renameClauses [] = []
-  renameClauses (clause e φ x ∷ cs) = clause e φ (renameTerm x) ∷ renameClauses cs
+  abbrev pub renameClauses : List Clause → List Clause
+  renameClauses = changeClauses renameTerm
 
 -- "It means the sheet in which each cell is written out as an active"; among the entries xs
 abbrev pub cellsOut : List Entry → Item → List Item
@@ -153,34 +169,23 @@ module _ (v : ℕ → ℕ) where
   abbrev pub fill : Sheet → Program
   fill s = fillCells (rowsOut s)
 
--- ---- the same written as a sheet: each parameter written out as its constant
+-- ---- the same written as a sheet
 
+-- an expression as a sheet sends it
+unfoldable pub asSent : Expr → Term
+asSent (con w) = literal w
+asSent (name i) = variable i
+asSent (app1 f a) = apply1 f (asSent a)
+asSent (app2 f a b) = apply2 f (asSent a) (asSent b)
+asSent (app3 f a b c) = apply3 f (asSent a) (asSent b) (asSent c)
+
+-- each parameter written out as its constant
 module _ (v : ℕ → ℕ) where
-  unfoldable pub writeTerm : Term → Term
-  writeTerm (literal w) = literal w
-  writeTerm (variable i) = variable i
-  writeTerm (param n) = literal (v n)
-  writeTerm (apply1 f a) = apply1 f (writeTerm a)
-  writeTerm (apply2 f a b) = apply2 f (writeTerm a) (writeTerm b)
-  writeTerm (apply3 f a b c) = apply3 f (writeTerm a) (writeTerm b) (writeTerm c)
-
-  unfoldable pub writeClauses : List Clause → List Clause
-  writeClauses [] = []
-  writeClauses (clause e φ x ∷ cs) = clause e φ (writeTerm x) ∷ writeClauses cs
-
-  abbrev pub writeItem : Item → Item
-  writeItem (formula x) = formula (writeTerm x)
-  writeItem (state s cs) = state s (writeClauses cs)
-  writeItem (row c s cs) = row c s (writeClauses cs)
-
-  abbrev pub writeEntry : Entry → Entry
-  writeEntry x = record { item = writeItem (x .item); viewer = x .viewer }
-
-  unfoldable pub writeEntries : List Entry → List Entry
-  writeEntries = map writeEntry
+  abbrev pub writeTerm : Term → Term
+  writeTerm x = asSent (fillTerm v x)
 
   abbrev pub writtenOut : Sheet → Sheet
-  writtenOut s = record { signals = s .signals; entries = writeEntries (s .entries) }
+  writtenOut s = record { signals = s .signals; entries = changeEntries writeTerm (s .entries) }
 
 -- ---- parameters used
 

@@ -8,7 +8,7 @@ use lib.Dec.{ltb}
 use Rattle.lib_base.specs.Basics.{pick}
 use Rattle.spec_language.specs.Refusals.{tooDeep, noFormula, largeNumber, shortField}
 use Rattle.spec_language.specs.Syntax.{Expr, con, name, app1, app2, app3}
-use Rattle.spec_language.specs.Sheet.{Term, literal, variable, apply1, apply2, apply3}
+use Rattle.spec_language.specs.Sheet.{Term, literal, variable, apply1, apply2, apply3, asSent}
 use Rattle.spec_language.specs.Grammar.{encodeExpr}
 use Rattle.text_formula.specs.Reader.{readFormula}
 
@@ -32,14 +32,7 @@ nesting (app1 f a) = suc (nesting a)
 nesting (app2 f a b) = suc (deeper (nesting a) (nesting b))
 nesting (app3 f a b c) = suc (deeper (deeper (nesting a) (nesting b)) (nesting c))
 
--- an expression as a sheet sends it, and its field; a formula has no parameters
-unfoldable pub asSent : Expr → Term
-asSent (con w) = literal w
-asSent (name i) = variable i
-asSent (app1 f a) = apply1 f (asSent a)
-asSent (app2 f a b) = apply2 f (asSent a) (asSent b)
-asSent (app3 f a b c) = apply3 f (asSent a) (asSent b) (asSent c)
-
+-- the field of an expression; a formula has no parameters
 abbrev pub formulaField : Expr → List ℕ
 formulaField e = encodeExpr (asSent e)
 

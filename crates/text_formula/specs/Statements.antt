@@ -4,11 +4,11 @@ use mathlib.Core.Path.{_≡_}
 use mathlib.Core.List.{List, _++_}
 use lib.ListN.{length, drop}
 use Rattle.spec_language.specs.Syntax.{Expr}
-use Rattle.spec_language.specs.Sheet.{fillTerm}
+use Rattle.spec_language.specs.Sheet.{fillTerm, asSent}
 use Rattle.spec_language.specs.Grammar.{Nested}
 use Rattle.spec_language.specs.Reading.{got, exprAt}
 use Rattle.text_formula.specs.Grammar.{Formula}
-use Rattle.text_formula.specs.Answer.{asSent, formulaField}
+use Rattle.text_formula.specs.Answer.{formulaField}
 
 -- a refusal changes no byte; no answer changes the buffer's length
 pub record BufferKept (buffer : List ℕ) (a : ℕ × List ℕ) : Type 0 where

@@ -8,13 +8,14 @@ use native.Mathlib.Numerals.{add-one, sub-one}
 use lib.ListN.{length, getD, take, drop, length-append, length-map}
 use lib.Dec.{ltb}
 use borrow.Author.Tests.{ltb-true, ltb-false, eq-eqb, ne-eqb}
+use Rattle.spec_language.specs.Sheet.{asSent}
 use Rattle.lib_base.specs.Basics.{All}
 use Rattle.lib_base.proofs.Tools.{split}
 use Rattle.spec_language.specs.Syntax.{Expr, app2}
 use Rattle.spec_language.specs.Grammar.{field, encodeExpr}
 use Rattle.text_formula.specs.Tokens.{Token, InRange}
 use Rattle.text_formula.specs.Reader.{levelOf, operatorOf, Parsed, unparsed, parsed, thenParse, operatorChain, tower, readAt}
-use Rattle.text_formula.specs.Answer.{deeper, nesting, asSent}
+use Rattle.text_formula.specs.Answer.{deeper, nesting}
 use Rattle.text_formula.proofs.Deeper.{deeper-sum, deeper-none}
 use Rattle.text_lexer.specs.Codes.{tokenCode}
 use Rattle.text_phrase.specs.Phrase.{levelIn, closedOf, wrappedIn, Closable}

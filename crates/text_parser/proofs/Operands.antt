@@ -7,13 +7,14 @@ use native.Mathlib.Numerals.{add-one, sub-one}
 use lib.ListN.{length, getD, take, drop, length-append}
 use lib.Dec.{ltb, eqb}
 use borrow.Author.Tests.{ltb-true, ltb-false, eqb-true, eq-eqb, ne-eqb}
+use Rattle.spec_language.specs.Sheet.{asSent}
 use Rattle.lib_base.specs.Basics.{pick, All}
 use Rattle.lib_base.proofs.Tools.{by-test, by-two, split}
 use Rattle.spec_language.specs.Syntax.{Expr, con, name, app1, app3}
 use Rattle.spec_language.specs.Grammar.{field, word, encodeExpr}
 use Rattle.text_formula.specs.Tokens.{Token, number, behaviour, function, opening, closing, comma, InRange}
 use Rattle.text_formula.specs.Reader.{bracketOf, Parsed, unparsed, parsed, thenParse, past, bracketedOf, choiceOf, operandOf, operandAt, tower, readAt}
-use Rattle.text_formula.specs.Answer.{deeper, nesting, asSent}
+use Rattle.text_formula.specs.Answer.{deeper, nesting}
 use Rattle.text_formula.proofs.Deeper.{deeper-sum, deeper-none}
 use Rattle.text_lexer.specs.Codes.{capped, tokenCode}
 use Rattle.text_lexer.proofs.CodeLaws.{capped-most}
