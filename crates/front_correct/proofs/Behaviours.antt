@@ -1,7 +1,7 @@
 -- Behaviours: both readers find the same fault, or the draft has the behaviour of the tree in its row, and is else as
 -- it was. From the facts on an expression at the front of a value, on handlers and on the ending.
-use Prim.Native.Nat.{ℕ, _+_, _*_, _-_, _≤_, _<_}
-use mathlib.Core.Bool.{true}
+use Prim.Native.Nat.{ℕ, suc, _+_, _*_, _-_, _≤_, _<_}
+use mathlib.Core.Bool.{true, _||_}
 use mathlib.Core.Path.{_≡_, refl, sym, ap, _∙_}
 use mathlib.Core.Logic.{_≢_}
 use mathlib.Core.Option.{Option}
@@ -19,12 +19,12 @@ use Rattle.spec_language.specs.Syntax.{Behaviour, passive, active}
 use Rattle.spec_language.specs.Sheet.{Term, Clause, Item, formula, state, row, Signal, Entry, cells, cellCount, allowed, fillClauses, fillItem}
 use Rattle.spec_language.specs.Dependence.{handled}
 use Rattle.spec_language.specs.Code.{sizeOf}
-use Rattle.spec_language.specs.Reading as tree
-use Rattle.spec_language.specs.Reading.{refused, present, fieldAt, Got, bad, got, wordOf, then, exprAt, handlersAt, startBody, entry, endingIn, passiveIn, activeAs, activeIn, rowIn, behaviourIn, least, most, dueAt, behaviourBody}
-use Rattle.front_field.specs.Field.{stated, fieldOf, partOf}
+use Rattle.spec_language.specs.Refusals.{offScale, crowded}
+use Rattle.spec_language.specs.Reading.{Got, bad, got, then, sized, byteIn, many, exprAt, handlerAt, entry, endingIn, activeAs, behaviourIn, behaviourAt}
+use Rattle.spec_grammar.proofs.Handlers.{stops}
+use Rattle.spec_grammar.proofs.Behaviours.{behaviourTag}
+use Rattle.front_field.specs.Field.{stated}
 use Rattle.front_field.specs.Expression.{Out, out, restFrom, goOnAfter, exprOf}
-use Rattle.front_field.specs.declared.Field.{Field}
-use Rattle.front_field.specs.declared.Field.the-variants.{Value}
 use Rattle.front_field.specs.declared.Read.the-variants.{Done, Fault}
 use Rattle.front_draft.specs.Draft as draft
 use Rattle.front_draft.specs.Draft.{draftLength, nodes, handlerNodes, behaviourNodes, unfilled}
@@ -32,7 +32,7 @@ use Rattle.front_rows.specs.Cells.{leastOf, mostOf, cellsAt, rowCopied}
 use Rattle.front_viewers.specs.Ending.{viewer, endingOf}
 use Rattle.front_behaviours.specs.Handler.{slot, handlersOf}
 use Rattle.front_behaviours.specs.Behaviour.{passiveOf, activeBody, activeFrom, activeOf, cellsOf, rowOf, valueAt, behaviourFrom, behaviourOf}
-use Rattle.front_correct.proofs.Fields.{valueIn, span, SameField, same-field, value-length, rest-drop}
+use Rattle.front_correct.proofs.Fields.{valueIn, span, by-either, between, one-tag, same-field, value-length, rest-drop}
 use Rattle.front_correct.proofs.Expressions.{raw, SameExpr, same-expr}
 use Rattle.front_correct.proofs.Entries.{StandsBy, stands-kept, SaysBy, says-kept, written-long, written-take, written-pool, written-there, written-same, written-other, Frame}
 use Rattle.front_correct.proofs.Handlers.{cell, Turn, SameHandlers, same-handlers}
@@ -163,7 +163,7 @@ module _ (events i : ℕ) (d : List ℕ) (n : ℕ) (few : events ≤ 32) (low : 
         ))
         (drop (span v) v))
 
-    passive-value : Same (passiveIn v r) (passiveOf v i d n)
+    passive-value : Same (then (exprAt 16 v) (λ x left. endingIn (formula x) left r)) (passiveOf v i d n)
     unfolding passiveOf
     passive-value = passive-on (exprAt 16 v) (exprOf 16 v d n) (same-expr 16 v d n)
 
@@ -195,40 +195,31 @@ module _ (events i : ℕ) (d : List ℕ) (n : ℕ) (few : events ≤ 32) (low : 
         (λ x. gots w hs x (o .1) (h .2) (h .4) (t .long, t .frame, t .grown, t .pool, (t .body, t .start, t .rows))) (drop (h .0) v))
 
     active-on : (w : ℕ) (left : List ℕ) → left ≡ drop 7 v → 7 ≤ length v
-        → P (then (handlersAt (length left) events [] left) (λ hs over. endingIn (make w hs) over r)) (activeBody v events i (set d (4160 + i) w) n)
+        → P (then (many stops (handlerAt events) (suc (length left)) [] left) (λ hs over. endingIn (make w hs) over r)) (activeBody v events i (set d (4160 + i) w) n)
     unfolding activeBody
     active-on w left e h =
         let q : length (drop 7 v) ≡ length v - 7 = length-drop 7 v in
         rw e
-        (active-end w (handlersAt (length (drop 7 v)) events [] (drop 7 v)) (handlersOf (length v) v 7 events i (set d (4160 + i) w) n)
-        (same-handlers events i w d n v (n * 4 + length v) few low (omega arith) (length (drop 7 v)) (length v) 7 [] (set d (4160 + i) w) n
+        (active-end w (many stops (handlerAt events) (suc (length (drop 7 v))) [] (drop 7 v)) (handlersOf (length v) v 7 events i (set d (4160 + i) w) n)
+        (same-handlers events i w d n v (n * 4 + length v) few low (omega arith) (suc (length (drop 7 v))) (length v) 7 [] (set d (4160 + i) w) n
         (h, omega arith, no-handlers w) (omega arith) (omega arith)))
 
     start-value : (u left : List ℕ) (z : ℕ) → length u ≡ z → left ≡ drop (z + 3) v → z + 3 ≤ length v
-        → P (then (wordOf (λ w. w) u left) (λ w left. then (handlersAt (length left) events [] left) (λ hs over. endingIn (make w hs) over r)))
+        → P (sized 4 u (then (many stops (handlerAt events) (suc (length left)) [] left) (λ hs over. endingIn (make (getAt u 0) hs) over r)))
         (pick (eqb z 4) (activeBody v events i (set d (4160 + i) (getAt u 0)) n) (out (Fault 6) d))
-    unfolding getAt
-    start-value [] left z q e h = rw (ne-eqb z 4 (omega arith)) (bads 6 (out (Fault 6) d) refl)
-    start-value (a ∷ []) left z q e h = rw (ne-eqb z 4 (omega arith)) (bads 6 (out (Fault 6) d) refl)
-    start-value (a ∷ (b ∷ [])) left z q e h = rw (ne-eqb z 4 (omega arith)) (bads 6 (out (Fault 6) d) refl)
-    start-value (a ∷ (b ∷ (c ∷ []))) left z q e h = rw (ne-eqb z 4 (omega arith)) (bads 6 (out (Fault 6) d) refl)
-    start-value (a ∷ (b ∷ (c ∷ (f ∷ [])))) left z q e h =
-        let p : z + 3 ≡ 7 = omega arith in
-        rw (eq-eqb z 4 (omega arith)) (active-on (((a * 256 + b) * 256 + c) * 256 + f) left (e ∙ rw p) (omega arith))
-    start-value (a ∷ (b ∷ (c ∷ (f ∷ (g ∷ u))))) left z q e h = rw (ne-eqb z 4 (omega arith)) (bads 6 (out (Fault 6) d) refl)
-
-    start-field : (x : tree.Field) (f : Field) → SameField 4 4 v x f
-        → P (then (startBody x) (λ w left. then (handlersAt (length left) events [] left) (λ hs over. endingIn (make w hs) over r))) (activeFrom f (partOf v f) v events i d n)
-    start-field (refused k) f h = rw h (bads k (out (Fault k) d) refl)
-    start-field (present t u left) f h =
-        rw (h .0, h .1) (start-value (valueIn v) left (stated v) (omega (arith, value-length v (h .3))) (h .2) (h .3))
+    start-value u left z q e h =
+        rw q
+        (by-two P (eqb z 4) (λ c. let p : z + 3 ≡ 7 = omega (arith, eqb-true z 4 c) in active-on (getAt u 0) left (e ∙ rw p) (omega arith))
+        (λ c. bads 6 (out (Fault 6) d) refl))
 
     active-value : P (activeAs make events v r) (activeOf v events i d n)
     unfolding activeOf
-    active-value = start-field (fieldAt 4 4 v) (fieldOf v 4 4) (same-field 4 4 v)
+    active-value =
+        same-field P (eqb 4) 4 4 v _ (λ f w. activeFrom f w v events i d n) (one-tag 4 (getD v 0 0)) (λ k. bads k (out (Fault k) d) refl)
+        (λ fits due. start-value (valueIn v) (drop (span v) v) (stated v) (omega (arith, value-length v fits)) refl fits)
 
   module _ (v : List ℕ) (full : length v + 3 ≡ size) where
-    active-same : count ≡ 1 → Same (activeIn events v r) (activeOf v events i d n)
+    active-same : count ≡ 1 → Same (activeAs state events v r) (activeOf v events i d n)
     active-same one =
         active-value state Same v (omega arith) (λ k o e. e)
         (λ w hs x d₁ m h p. (after, fits, m, rw full, omega arith, part-ended i n d d₁ m (state w hs) low (omega arith) p x, one))
@@ -247,38 +238,39 @@ module _ (events i : ℕ) (d : List ℕ) (n : ℕ) (few : events ≤ 32) (low : 
         let q : length v + 3 + 1 ≡ size = omega arith in
         (after, fits, m, rw q, omega arith, (some, within, set d₁ (viewer i) (allowed x), part-ended i n d d₁ m (state w hs) low (omega arith) p x, refl), is))
 
-  row-same : (v : List ℕ) → length v + 3 ≡ size → ((c : ℕ) (u : List ℕ) → v ≡ c ∷ u → count ≡ c) → Same (rowIn events i v r) (rowOf v events i d n)
+  row-same : (v : List ℕ) → length v + 3 ≡ size → ((c : ℕ) (u : List ℕ) → v ≡ c ∷ u → count ≡ c)
+      → Same (byteIn v (λ c w. pick (ltb c 2 || ltb 16 c) (bad offScale) (pick (ltb 64 (i + c)) (bad crowded) (activeAs (row c) events w r)))) (rowOf v events i d n)
   unfolding rowOf
-  row-same [] full many = refl
-  row-same (c ∷ v) full many =
+  row-same [] full is = refl
+  row-same (c ∷ v) full is =
       rw (eqb·suc-zero (length v))
-      (by-two Same (ltb c 2) (λ e. refl)
-      (λ e. by-two Same (ltb 16 c) (λ a. refl)
-      (λ a. by-two Same (ltb 64 (i + c)) (λ b. refl)
-      (λ b. rw (rest-drop 1 (c ∷ v)) (cells-same c v (omega arith) (many c v refl) (omega (arith, ltb-false c 2 e)) (ltb-false 64 (i + c) b))))))
+      (by-either Same (ltb c 2) (ltb 16 c) refl
+      (λ e a. by-two Same (ltb 64 (i + c)) (λ b. refl)
+      (λ b. rw (rest-drop 1 (c ∷ v)) (cells-same c v (omega arith) (is c v refl) (omega (arith, ltb-false c 2 e)) (ltb-false 64 (i + c) b)))))
 
   -- ---- either
 
   pub value-same : (t : ℕ) (v : List ℕ) → length v + 3 ≡ size → (t ≢ 6 → count ≡ 1) → (t ≡ 6 → (c : ℕ) (u : List ℕ) → v ≡ c ∷ u → count ≡ c)
       → Same (behaviourIn events i t v r) (valueAt t v events i d n)
   unfolding valueAt
-  value-same t v full one many =
+  value-same t v full one is =
       rw (lt-leb 64 i low)
       (by-two Same (eqb t 2) (λ e. passive-value v full (one (λ z. omega (arith, eqb-true t 2 e))))
-      (λ e. by-two Same (eqb t 6) (λ b. row-same v full (many (eqb-true t 6 b))) (λ b. active-same v full (one (eqb-false t 6 b)))))
+      (λ e. by-two Same (eqb t 6) (λ b. row-same v full (is (eqb-true t 6 b))) (λ b. active-same v full (one (eqb-false t 6 b)))))
 
 -- ---- behaviour i at the front of s
 
 -- the tags due, and how many behaviours the field makes, as both readers find them
-pub due-least : (lo : ℕ) (s : List ℕ) → leastOf s lo ≡ least lo s
-unfolding leastOf
-due-least lo [] = refl
-due-least lo (t ∷ s) = rw (eqb·suc-zero (length s))
-
-pub due-most : (s : List ℕ) → mostOf s ≡ most s
-unfolding mostOf
-due-most [] = refl
-due-most (t ∷ s) = rw (eqb·suc-zero (length s))
+tags-due : (s : List ℕ) → behaviourTag (getD s 0 0) ≡ between (leastOf s 2) (mostOf s) (getD s 0 0)
+unfolding leastOf mostOf
+tags-due [] = refl
+tags-due (t ∷ s) =
+    rw (eqb·suc-zero (length s))
+    (split (eqb t 6) (λ e. let q : t ≡ 6 = eqb-true t 6 e in rw q)
+    (λ e. rw e
+    (split (ltb t 2) (λ a. rw (a, ne-eqb t 2 (omega (arith, ltb-true t 2 a)), ne-eqb t 3 (omega (arith, ltb-true t 2 a))))
+    (λ a. split (ltb 3 t) (λ b. rw (a, b, ne-eqb t 2 (omega (arith, ltb-true 3 t b)), ne-eqb t 3 (omega (arith, ltb-true 3 t b))))
+    (λ b. split (eqb t 2) (λ c. rw (a, b, c)) (λ c. rw (a, b, c, eq-eqb t 3 (omega (arith, ltb-false t 2 a, ltb-false 3 t b, eqb-false t 2 c)))))))))
 
 cells-one : (s : List ℕ) → getD s 0 0 ≢ 6 → cellsAt s ≡ 1
 unfolding cellsAt
@@ -292,15 +284,11 @@ cells-many s fits h c u e =
     let k : c ≡ getD s 3 0 = sym (ap (λ (v : List ℕ). getD v 0 0) e) ∙ getD-take (stated s) (drop 3 s) 0 0 (omega (arith, value-length s fits)) ∙ getD-drop 3 s 0 0 in
     rw (le-ltb (length s) 4 big, eq-eqb (getD s 0 0) 6 h) (sym k)
 
-least-second : (s : List ℕ) (t : ℕ) → least 1 s ≤ t → t ≢ 1 → least 2 s ≤ t
-least-second [] t a e = omega arith
-least-second (x ∷ s) t a e = split (eqb x 6) (λ c. let b : 6 ≤ t = rw c at a in rw c b) (λ c. let b : 1 ≤ t = rw c at a in rw c (omega arith))
-
 module _ (rs : List Signal) (i : ℕ) (d : List ℕ) (n : ℕ) (few : length rs ≤ 32) (long : length d ≡ draftLength) (blank : i < 64 → Blank d i)
     (s : List ℕ) (small : n * 4 + length s ≤ 8192) where
-  crowded : (t : ℕ) (v : List ℕ) → leb 64 i ≡ true → valueAt t v (length rs) i d n .0 ≡ Fault 7
+  no-room : (t : ℕ) (v : List ℕ) → leb 64 i ≡ true → valueAt t v (length rs) i d n .0 ≡ Fault 7
   unfolding valueAt
-  crowded t v e = rw e refl
+  no-room t v e = rw e refl
 
   abbrev SameHere : Got Entry → Out → Type 0
   SameHere = SameBehaviour i (cellsAt s) s (span s) d n
@@ -312,32 +300,11 @@ module _ (rs : List Signal) (i : ℕ) (d : List ℕ) (n : ℕ) (few : length rs 
       value-same (length rs) i d n few low long (blank low) s (span s) (omega arith) r after fits (cellsAt s) t (valueIn s) (value-length s fits)
       (λ z. cells-one s (λ y. z (q ∙ y))) (λ z. cells-many s fits (sym q ∙ z))
 
-  behaviour-field : (lo hi : ℕ) (bs : List Entry) → cellCount bs ≡ i → (x : tree.Field) (f : Field) → SameField lo hi s x f
-      → SameHere (behaviourBody rs bs x) (behaviourFrom f (partOf s f) (length rs) i d n)
-  behaviour-field lo hi bs q (refused k) f h = rw h refl
-  behaviour-field lo hi bs q (present t v r) f h =
-      rw (h .0, h .1, q)
-      (by-test (λ (g : Got Entry). SameHere g (valueAt t (valueIn s) (length rs) i d n)) (leb 64 i)
-      (λ e. crowded t (valueIn s) e)
-      (λ e. tagged t r (leb-false 64 i e) (h .2) (h .3) (h .6)))
-
-  pub same-behaviour : (bs : List Entry) → cellCount bs ≡ i → SameHere (behaviourBody rs bs (dueAt 2 s)) (behaviourOf s (length rs) i d n)
+  pub same-behaviour : (bs : List Entry) → cellCount bs ≡ i → SameHere (behaviourAt (length rs) bs s) (behaviourOf s (length rs) i d n)
   unfolding behaviourOf
   same-behaviour bs q =
-      rw (due-least 2 s, due-most s)
-      (behaviour-field (least 2 s) (most s) bs q (dueAt 2 s) (fieldOf s (least 2 s) (most s)) (same-field (least 2 s) (most s) s))
-
-  -- the first, where an event could also stand: its tag is none of an event, so the second look finds the same field
-  second-look : (t : ℕ) (v r : List ℕ) (f : Field) → SameField (least 1 s) (most s) s (present t v r) f → t ≢ 1 → fieldOf s (least 2 s) (most s) ≡ Value t (stated s)
-  unfolding fieldOf
-  second-look t v r f h e =
-      let a : least 2 s ≤ getD s 0 0 = rw (h .6) at (least-second s t (h .4) e) in
-      let b : getD s 0 0 ≤ most s = rw (h .6) at (h .5) in
-      rw (le-ltb (length s) 3 (omega arith), le-ltb (getD s 0 0) (least 2 s) a, le-ltb (most s) (getD s 0 0) b, le-ltb (length s - 3) (stated s) (omega arith))
-      (ap (λ (z : ℕ). Value z (stated s)) (sym (h .6)))
-
-  pub first-behaviour : i < 64 → (t : ℕ) (v r : List ℕ) (f : Field) → SameField (least 1 s) (most s) s (present t v r) f → t ≢ 1
-      → SameHere (behaviourIn (length rs) i t v r) (behaviourOf s (length rs) i d n)
-  unfolding behaviourOf
-  first-behaviour low t v r f h e =
-      rw (due-least 2 s, due-most s, second-look t v r f h e, h .1) (tagged t r low (h .2) (h .3) (h .6))
+      same-field SameHere behaviourTag (leastOf s 2) (mostOf s) s _ (λ f v. behaviourFrom f v (length rs) i d n) (tags-due s) (λ k. refl)
+      (λ fits due. rw q
+      (by-test (λ (g : Got Entry). SameHere g (valueAt (getD s 0 0) (valueIn s) (length rs) i d n)) (leb 64 i)
+      (λ e. no-room (getD s 0 0) (valueIn s) e)
+      (λ e. tagged (getD s 0 0) (drop (span s) s) (leb-false 64 i e) refl fits refl)))

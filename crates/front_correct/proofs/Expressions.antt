@@ -1,32 +1,30 @@
 -- The reader by positions finds the fault of the tree reader, or puts the nodes of its expression into the draft.
 -- By induction on the levels left; within an application each argument moves both readers on alike.
 use Prim.Native.Nat.{ℕ, zero, suc, _+_, _*_, _-_, _≤_}
-use mathlib.Core.Bool.{true, false}
+use mathlib.Core.Bool.{true, false, _||_}
 use mathlib.Core.Path.{_≡_, refl, sym, ap, _∙_}
 use mathlib.Core.List.{List, [], _∷_, _++_}
 use native.Mathlib.Omega.{arith}
 use lib.ListN.{length, getD, drop, set, length-drop}
 use lib.Seq.{drop-drop, sets}
 use lib.Dec.{ltb, eqb, eqb·suc-zero}
-use borrow.Author.Tests.{ne-eqb}
+use borrow.Author.Tests.{eqb-true}
 use Rattle.lib_base.specs.Basics.{pick}
 use Rattle.lib_base.proofs.Tools.{split, by-two}
 use Rattle.lib_word.specs.Word.{getAt}
 use Rattle.lib_arith.specs.Functions.{arity}
 use Rattle.spec_language.specs.Syntax.{Expr}
-use Rattle.spec_language.specs.Sheet.{Term, literal, variable, apply1, apply2, apply3, fillTerm}
+use Rattle.spec_language.specs.Sheet.{Term, literal, variable, param, apply1, apply2, apply3, fillTerm}
 use Rattle.spec_language.specs.Code.{sizeOf}
-use Rattle.spec_language.specs.Reading as tree
-use Rattle.spec_language.specs.Reading.{refused, present, fieldAt, Got, bad, got, whole, wordOf, byteOf, then, appOf, paramOf, exprBody, deepest, exprAt}
-use Rattle.front_field.specs.Field.{fieldOf, partOf}
+use Rattle.spec_language.specs.Refusals.{offScale}
+use Rattle.spec_language.specs.Reading.{Got, bad, got, then, sized, byteIn, argsOf, termOf, isTerm, exprAt}
 use Rattle.front_field.specs.Expression.{headAt, headFrom, headOf, Out, out, goOnAfter, readArguments, closeAt, readBody, exprOf}
-use Rattle.front_field.specs.declared.Field.{Field}
 use Rattle.front_field.specs.declared.Head.{Head}
 use Rattle.front_field.specs.declared.Head.the-variants.{Leaf, Apply, NoHead}
 use Rattle.front_field.specs.declared.Read.the-variants.{Done, Fault}
 use Rattle.front_draft.specs.Draft.{nodes, unfilled}
 use Rattle.front_draft.proofs.DraftLaws.{length-nodes}
-use Rattle.front_correct.proofs.Fields.{valueIn, span, SameField, same-field, value-length, rest-drop, whole-at}
+use Rattle.front_correct.proofs.Fields.{valueIn, span, by-either, term-tag, same-field, value-length, rest-drop, whole-at}
 use Rattle.front_correct.proofs.Stores.{sets-append}
 
 -- ---- nodes
@@ -78,13 +76,13 @@ module _ (arg : List ℕ → Got Term) (rd : List ℕ → List ℕ → ℕ → O
     -- the end of the arguments
     end : (at : ℕ) (d : List ℕ) (m : ℕ) (x : Term) → at ≤ length v → sizeOf (raw x) * 4 ≤ at + 3
         → m + 1 ≡ n₀ + sizeOf (raw x) → set d m (77309411328 + f) ≡ sets d₀ n₀ (nodes (raw x))
-        → Same (whole x (drop at v) r) (close (readArguments rd 0 v at d m))
+        → Same (sized 0 (drop at v) (got x r)) (close (readArguments rd 0 v at d m))
     unfolding readArguments closeAt
     end at d m x h few count same =
-        whole-at Same x v r at _ _ h (λ e. (after, fits, omega arith, (let q : at + 3 ≡ size = omega arith in rw (q, count, same)))) refl
+        whole-at Same (got x r) v at _ _ h (λ e. (after, fits, omega arith, (let q : at + 3 ≡ size = omega arith in rw (q, count, same)))) refl
 
   module _ (f : ℕ) (w : List ℕ) (full : length (f ∷ w) + 3 ≡ size) where
-    one-arg : eqb f 3 ≡ true → Same (tree.argsOf arg f w r) (readBody rd (Apply f) (f ∷ w) d₀ n₀)
+    one-arg : eqb f 3 ≡ true → Same (argsOf arg f w r) (readBody rd (Apply f) (f ∷ w) d₀ n₀)
     unfolding arity fillTerm nodes sizeOf
     one-arg e =
         let q : arity f ≡ 1 = rw e in
@@ -93,7 +91,7 @@ module _ (arg : List ℕ → Got Term) (rd : List ℕ → List ℕ → ℕ → O
         (λ a i h k. rw e (end f (f ∷ w) full i (sets d₀ n₀ (nodes (raw a))) (n₀ + sizeOf (raw a)) (apply1 f a) h (omega arith) (omega arith)
         (sym (sets-nodes (raw a) d₀ n₀ ((77309411328 + f) ∷ []))))))
 
-    two-args : eqb f 3 ≡ false → eqb f 14 ≡ false → Same (tree.argsOf arg f w r) (readBody rd (Apply f) (f ∷ w) d₀ n₀)
+    two-args : eqb f 3 ≡ false → eqb f 14 ≡ false → Same (argsOf arg f w r) (readBody rd (Apply f) (f ∷ w) d₀ n₀)
     unfolding arity fillTerm nodes sizeOf
     two-args e c =
         let q : arity f ≡ 2 = rw (e, c) in
@@ -103,7 +101,7 @@ module _ (arg : List ℕ → Got Term) (rd : List ℕ → List ℕ → ℕ → O
         (λ b j h₁ k₁. rw c (end f (f ∷ w) full j (sets (sets d₀ n₀ (nodes (raw a))) (n₀ + sizeOf (raw a)) (nodes (raw b))) (n₀ + sizeOf (raw a) + sizeOf (raw b)) (apply2 f a b) h₁ (omega arith) (omega arith)
         (sym (sets-nodes (raw a) d₀ n₀ (nodes (raw b) ++ ((77309411328 + f) ∷ [])) ∙ sets-nodes (raw b) (sets d₀ n₀ (nodes (raw a))) (n₀ + sizeOf (raw a)) ((77309411328 + f) ∷ []))))))))
 
-    three-args : eqb f 3 ≡ false → eqb f 14 ≡ true → Same (tree.argsOf arg f w r) (readBody rd (Apply f) (f ∷ w) d₀ n₀)
+    three-args : eqb f 3 ≡ false → eqb f 14 ≡ true → Same (argsOf arg f w r) (readBody rd (Apply f) (f ∷ w) d₀ n₀)
     unfolding arity fillTerm nodes sizeOf
     three-args e c =
         let q : arity f ≡ 3 = rw (e, c) in
@@ -117,72 +115,51 @@ module _ (arg : List ℕ → Got Term) (rd : List ℕ → List ℕ → ℕ → O
         ∙ sets-nodes (raw b) (sets d₀ n₀ (nodes (raw a))) (n₀ + sizeOf (raw a)) (nodes (raw x) ++ ((77309411328 + f) ∷ []))
         ∙ sets-nodes (raw x) (sets (sets d₀ n₀ (nodes (raw a))) (n₀ + sizeOf (raw a)) (nodes (raw b))) (n₀ + sizeOf (raw a) + sizeOf (raw b)) ((77309411328 + f) ∷ [])))))))))
 
-    args : Same (tree.argsOf arg f w r) (readBody rd (Apply f) (f ∷ w) d₀ n₀)
+    args : Same (argsOf arg f w r) (readBody rd (Apply f) (f ∷ w) d₀ n₀)
     args = split (eqb f 3) one-arg (λ e. split (eqb f 14) (three-args e) (two-args e))
 
   -- by the tag, with the value w
   abbrev Begins : List ℕ → Got Term → Head → Type 0
   Begins w g h = Same g (readBody rd h w d₀ n₀)
 
-  word-begins : (w : List ℕ) → length w + 3 ≡ size → Begins w (wordOf literal w r) (pick (eqb (length w) 4) (Leaf (68719476736 + getAt w 0) 7) (NoHead 6))
-  unfolding fillTerm nodes sizeOf getAt
-  word-begins [] full = refl
-  word-begins (a ∷ []) full = refl
-  word-begins (a ∷ (b ∷ [])) full = refl
-  word-begins (a ∷ (b ∷ (c ∷ []))) full = refl
-  word-begins (a ∷ (b ∷ (c ∷ (e ∷ [])))) full =
-      let q : 7 ≡ size = omega arith in
-      (after, fits, omega arith, ap (λ (z : ℕ). out (Done z (n₀ + 1)) (set d₀ n₀ (68719476736 + (((a * 256 + b) * 256 + c) * 256 + e)))) q)
-  word-begins (a ∷ (b ∷ (c ∷ (e ∷ (g ∷ w))))) full = rw (ne-eqb (length (a ∷ (b ∷ (c ∷ (e ∷ (g ∷ w)))))) 4 (omega arith)) refl
+  -- a leaf of a fixed length
+  leaf-begins : (w : List ℕ) (g : Got Term) (h : Head) (z : ℕ) → (length w ≡ z → Begins w g h) → Begins w (sized z w g) (pick (eqb (length w) z) h (NoHead 6))
+  leaf-begins w g h z good = by-two (Begins w) (eqb (length w) z) (λ e. good (eqb-true (length w) z e)) (λ e. refl)
 
-  byte-begins : (w : List ℕ) → length w + 3 ≡ size → Begins w (byteOf variable w r) (pick (eqb (length w) 1) (Leaf (73014444032 + getD w 0 0) 4) (NoHead 6))
-  unfolding fillTerm nodes sizeOf
-  byte-begins [] full = refl
-  byte-begins (a ∷ []) full =
-      let q : 4 ≡ size = omega arith in
-      (after, fits, omega arith, ap (λ (z : ℕ). out (Done z (n₀ + 1)) (set d₀ n₀ (73014444032 + a))) q)
-  byte-begins (a ∷ (b ∷ w)) full = rw (ne-eqb (length (a ∷ (b ∷ w))) 1 (omega arith)) refl
-
-  param-begins : (w : List ℕ) → length w + 3 ≡ size
-      → Begins w (paramOf w r) (pick (eqb (length w) 1) (pick (ltb 7 (getD w 0 0)) (NoHead 8) (Leaf (81604378624 + getD w 0 0) 4)) (NoHead 6))
-  unfolding fillTerm nodes sizeOf
-  param-begins [] full = refl
-  param-begins (a ∷ []) full =
-      let q : 4 ≡ size = omega arith in
-      let p : 81604378624 + a ≡ 68719476736 + (12884901888 + a) = omega arith in
-      by-two (Begins (a ∷ [])) (ltb 7 a) (λ e. refl)
-      (λ e. (after, fits, omega arith, rw p (ap (λ (z : ℕ). out (Done z (n₀ + 1)) (set d₀ n₀ (68719476736 + (12884901888 + a)))) q)))
-  param-begins (a ∷ (b ∷ w)) full = rw (ne-eqb (length (a ∷ (b ∷ w))) 1 (omega arith)) refl
+  leaf : (w : List ℕ) (x : Term) (node z : ℕ) → length w + 3 ≡ size → length w ≡ z → sizeOf (raw x) ≡ 1 → nodes (raw x) ≡ node ∷ [] → 1 ≤ z → Begins w (got x r) (Leaf node (z + 3))
+  leaf w x node z full e one is some =
+      let q : z + 3 ≡ size = omega arith in
+      rw (one, is, q) (after, fits, omega arith, refl)
 
   app-begins : (w : List ℕ) → length w + 3 ≡ size
-      → Begins w (appOf arg w r)
+      → Begins w (byteIn w (λ f u. pick (eqb f 0 || ltb 14 f) (bad offScale) (argsOf arg f u r)))
       (pick (eqb (length w) 0) (NoHead 6) (pick (eqb (getD w 0 0) 0) (NoHead 8) (pick (ltb 14 (getD w 0 0)) (NoHead 8) (Apply (getD w 0 0)))))
   app-begins [] full = refl
   app-begins (f ∷ w) full =
-      rw (eqb·suc-zero (length w))
-      (by-two (Begins (f ∷ w)) (eqb f 0) (λ e. refl) (λ e. by-two (Begins (f ∷ w)) (ltb 14 f) (λ c. refl) (λ c. args f w full)))
+      rw (eqb·suc-zero (length w)) (by-either (Begins (f ∷ w)) (eqb f 0) (ltb 14 f) refl (λ e c. args f w full))
 
-  begins : (left t : ℕ) (w : List ℕ) → length w + 3 ≡ size → Begins w (exprBody arg (present t w r)) (headAt (suc left) t w)
-  unfolding headAt
+  begins : (left t : ℕ) (w : List ℕ) → length w + 3 ≡ size → Begins w (termOf arg t w r) (headAt (suc left) t w)
+  unfolding headAt fillTerm nodes sizeOf
   begins left t w full =
       rw (eqb·suc-zero left)
-      (by-two (Begins w) (eqb t 16) (λ e. word-begins w full) (λ e. by-two (Begins w) (eqb t 17) (λ c. byte-begins w full)
-      (λ c. by-two (Begins w) (eqb t 19) (λ b. param-begins w full) (λ b. app-begins w full))))
-
-body : (arg : List ℕ → Got Term) (rd : List ℕ → List ℕ → ℕ → Out) → ((u d : List ℕ) (n : ℕ) → SameExpr u (span u) d n (arg u) (rd u d n))
-    → (left : ℕ) (s d : List ℕ) (n : ℕ) (x : tree.Field) (f : Field) → SameField 16 19 s x f
-    → SameExpr s (span s) d n (exprBody arg x) (readBody rd (headFrom (suc left) f (partOf s f)) (partOf s f) d n)
-body arg rd ih left s d n (refused k) f h = rw h refl
-body arg rd ih left s d n (present t v r) f h =
-    rw (h .0, h .1) (begins arg rd ih s (span s) d n r (h .2) (h .3) left t (valueIn s) (value-length s (h .3)))
-
-bottom : (rd : List ℕ → List ℕ → ℕ → Out) (s d : List ℕ) (n : ℕ) (x : tree.Field) (f : Field) → SameField 16 19 s x f
-    → SameExpr s (span s) d n (deepest x) (readBody rd (headFrom 0 f (partOf s f)) (partOf s f) d n)
-unfolding headAt
-bottom rd s d n (refused k) f h = rw h refl
-bottom rd s d n (present t v r) f h = rw (h .0) refl
+      (by-two (Begins w) (eqb t 16)
+      (λ e. leaf-begins w (got (literal (getAt w 0)) r) (Leaf (68719476736 + getAt w 0) 7) 4
+      (λ z. leaf w (literal (getAt w 0)) (68719476736 + getAt w 0) 4 full z refl refl (omega arith)))
+      (λ e. by-two (Begins w) (eqb t 17)
+      (λ c. leaf-begins w (got (variable (getD w 0 0)) r) (Leaf (73014444032 + getD w 0 0) 4) 1
+      (λ z. leaf w (variable (getD w 0 0)) (73014444032 + getD w 0 0) 1 full z refl refl (omega arith)))
+      (λ c. by-two (Begins w) (eqb t 19)
+      (λ b. leaf-begins w _ _ 1
+      (λ z. by-two (Begins w) (ltb 7 (getD w 0 0)) (λ a. refl)
+      (λ a.
+      let p : 68719476736 + (12884901888 + getD w 0 0) ≡ 81604378624 + getD w 0 0 = omega arith in
+      leaf w (param (getD w 0 0)) (81604378624 + getD w 0 0) 1 full z refl (rw p) (omega arith))))
+      (λ b. app-begins w full))))
 
 pub same-expr : (left : ℕ) (s d : List ℕ) (n : ℕ) → SameExpr s (span s) d n (exprAt left s) (exprOf left s d n)
-unfolding exprAt exprOf headOf
-same-expr zero s d n = bottom _ s d n (fieldAt 16 19 s) (fieldOf s 16 19) (same-field 16 19 s)
-same-expr (suc left) s d n = body (exprAt left) (exprOf left) (same-expr left) left s d n (fieldAt 16 19 s) (fieldOf s 16 19) (same-field 16 19 s)
+unfolding exprAt exprOf headOf headAt
+same-expr zero s d n =
+    same-field (SameExpr s (span s) d n) isTerm 16 19 s _ (λ f v. readBody (λ s′ p m. (Fault 9, p)) (headFrom 0 f v) v d n) (term-tag (getD s 0 0)) (λ k. refl) (λ fits due. refl)
+same-expr (suc left) s d n =
+    same-field (SameExpr s (span s) d n) isTerm 16 19 s (termOf (exprAt left)) (λ f v. readBody (exprOf left) (headFrom (suc left) f v) v d n) (term-tag (getD s 0 0)) (λ k. refl)
+    (λ fits due. begins (exprAt left) (exprOf left) (same-expr left) s (span s) d n (drop (span s) s) refl fits left (getD s 0 0) (valueIn s) (value-length s fits))

@@ -17,15 +17,15 @@ use Rattle.spec_language.specs.Syntax.{Phase, immediate, later}
 use Rattle.spec_language.specs.Sheet.{Term, Clause, clause, fillClauses}
 use Rattle.spec_language.specs.Dependence.{handled, inPhase}
 use Rattle.spec_language.specs.Code.{sizeOf}
+use Rattle.spec_language.specs.Refusals.{offScale, doubled}
 use Rattle.spec_language.specs.Reading as tree
-use Rattle.spec_language.specs.Reading.{refused, present, fieldAt, Got, bad, got, then, handles, phaseOf, handlerIn, handlerBody, handlersAt}
-use Rattle.front_field.specs.Field.{fieldOf, partOf}
+use Rattle.spec_language.specs.Reading.{Got, bad, got, then, sized, byteIn, many, exprAt, handles, phaseOf}
+use Rattle.spec_grammar.proofs.Handlers.{stops}
 use Rattle.front_field.specs.Expression.{Out, out, restFrom, goOnAfter}
-use Rattle.front_field.specs.declared.Field.{Field}
 use Rattle.front_field.specs.declared.Read.the-variants.{Done, Fault}
 use Rattle.front_draft.specs.Draft.{draftLength, nodes, handlerNodes, packedEntry}
 use Rattle.front_behaviours.specs.Handler.{slot, handlerAt, handlerFrom, handlerOf, handlersOf}
-use Rattle.front_correct.proofs.Fields.{valueIn, span, SameField, same-field, value-length, rest-drop, ends-test}
+use Rattle.front_correct.proofs.Fields.{valueIn, span, one-tag, same-field, value-length, rest-drop, ends-test}
 use Rattle.front_correct.proofs.Expressions.{raw}
 use Rattle.front_correct.proofs.Entries.{same-entry, raws, SaysBy, says-kept, written, written-long, written-take, written-pool, written-there, written-same, written-other, Frame, frame-on, handled-other, handled-new, cell-test}
 
@@ -53,7 +53,11 @@ module _ (events : ℕ) (hs : List Clause) (i : ℕ) (d : List ℕ) (n : ℕ)
     abbrev Same : Got Clause → Out → Type 0
     Same = SameHandler events hs i s size d n
 
-    handler-value : (v : List ℕ) → length v + 3 ≡ size → Same (handlerIn events hs v r) (handlerAt v events i d n)
+    handler-value : (v : List ℕ) → length v + 3 ≡ size
+        → Same (byteIn v (λ e v₁. pick (leb events e) (bad offScale)
+        (byteIn v₁ (λ φ v₂. pick (ltb 1 φ) (bad offScale)
+        (pick (handles e hs) (bad doubled)
+        (then (exprAt 16 v₂) (λ x left. sized 0 left (got (clause e (phaseOf φ) x) r)))))))) (handlerAt v events i d n)
     unfolding handlerAt
     handler-value [] full = refl
     handler-value (e ∷ []) full = by-two Same (leb events e) (λ c. refl) (λ c. refl)
@@ -69,14 +73,11 @@ module _ (events : ℕ) (hs : List Clause) (i : ℕ) (d : List ℕ) (n : ℕ)
         let p : length v + 5 ≡ size = omega arith in
         (leb-false events e c, a, after, fits, omega arith, rw (p, phase-kind φ (ltb-false 1 φ b)))))))))
 
-  handler-field : (s : List ℕ) (x : tree.Field) (f : Field) → SameField 5 5 s x f
-      → SameHandler events hs i s (span s) d n (handlerBody events hs x) (handlerFrom f (partOf s f) events i d n)
-  handler-field s (refused k) f h = rw h refl
-  handler-field s (present t v r) f h = rw (h .0, h .1) (handler-value s (span s) r (h .2) (h .3) (valueIn s) (value-length s (h .3)))
-
-  pub same-handler : (s : List ℕ) → SameHandler events hs i s (span s) d n (handlerBody events hs (fieldAt 5 5 s)) (handlerOf s events i d n)
+  pub same-handler : (s : List ℕ) → SameHandler events hs i s (span s) d n (tree.handlerAt events hs s) (handlerOf s events i d n)
   unfolding handlerOf
-  same-handler s = handler-field s (fieldAt 5 5 s) (fieldOf s 5 5) (same-field 5 5 s)
+  same-handler s =
+      same-field (SameHandler events hs i s (span s) d n) (eqb 5) 5 5 s _ (λ f v. handlerFrom f v events i d n) (one-tag 5 (getD s 0 0)) (λ k. refl)
+      (λ fits due. handler-value s (span s) (drop (span s) s) refl fits (valueIn s) (value-length s fits))
 
 -- ---- the row of behaviour i
 
@@ -165,9 +166,9 @@ module _ (events i w : ℕ) (d₀ : List ℕ) (n₀ : ℕ) (v : List ℕ) (most 
 
   next : (k l at : ℕ) (hs : List Clause) (d : List ℕ) (n : ℕ) → Due at hs d n
       → ((at′ : ℕ) (hs′ : List Clause) (d′ : List ℕ) (n′ : ℕ) → at < at′ → Due at′ hs′ d′ n′
-      → Both (handlersAt k events hs′ (drop at′ v)) (handlersOf l v at′ events i d′ n′))
+      → Both (many stops (tree.handlerAt events) k hs′ (drop at′ v)) (handlersOf l v at′ events i d′ n′))
       → (g : Got Clause) (o : Out) → SameHandler events hs i (drop at v) (span (drop at v)) d n g o
-      → Both (then g (λ h r. handlersAt k events (hs ++ (h ∷ [])) r)) (goOnAfter (o .0) (o .1) (λ size m. handlersOf l v (at + size) events i (o .1) m))
+      → Both (then g (λ h r. many stops (tree.handlerAt events) k (hs ++ (h ∷ [])) r)) (goOnAfter (o .0) (o .1) (λ size m. handlersOf l v (at + size) events i (o .1) m))
   next k l at hs d n t ih (bad j) o e = rw e refl
   next k l at hs d n t ih (got (clause e φ x) r) o h =
       let q : length (drop at v) ≡ length v - at = length-drop at v in
@@ -176,15 +177,14 @@ module _ (events i w : ℕ) (d₀ : List ℕ) (n₀ : ℕ) (v : List ℕ) (most 
       (ih (at + span (drop at v)) (hs ++ (clause e φ x ∷ [])) (set (sets d n (nodes (raw x))) (slot i e) (packedEntry (phaseKind φ) n (sizeOf (raw x)))) (n + sizeOf (raw x)) (omega arith)
       (omega arith, omega arith, turn i w d₀ n₀ low hs d n e φ x (t .2) (omega arith) (omega arith) (h .1)))
 
-  pub same-handlers : (k l at : ℕ) (hs : List Clause) (d : List ℕ) (n : ℕ) → Due at hs d n → length v ≤ at + k → length v ≤ at + l
-      → Both (handlersAt k events hs (drop at v)) (handlersOf l v at events i d n)
-  unfolding handlersAt handlersOf
-  same-handlers zero zero at hs d n t a b = ends-test Both at v _ _ _ _ (t .0) (ended at hs d n t) (λ q. absurd (q (omega arith)))
-  same-handlers zero (suc l) at hs d n t a b = ends-test Both at v _ _ _ _ (t .0) (ended at hs d n t) (λ q. absurd (q (omega arith)))
+  pub same-handlers : (k l at : ℕ) (hs : List Clause) (d : List ℕ) (n : ℕ) → Due at hs d n → length v < at + k → length v ≤ at + l
+      → Both (many stops (tree.handlerAt events) k hs (drop at v)) (handlersOf l v at events i d n)
+  unfolding many handlersOf
+  same-handlers zero l at hs d n t a b = absurd (omega arith)
   same-handlers (suc k) zero at hs d n t a b = ends-test Both at v _ _ _ _ (t .0) (ended at hs d n t) (λ q. absurd (q (omega arith)))
   same-handlers (suc k) (suc l) at hs d n t a b =
       rw (rest-drop at v)
       (ends-test Both at v _ _ _ _ (t .0) (ended at hs d n t)
       (λ e. next k l at hs d n t (λ at′ hs′ d′ n′ h t′. same-handlers k l at′ hs′ d′ n′ t′ (omega arith) (omega arith))
-      (handlerBody events hs (fieldAt 5 5 (drop at v))) (handlerOf (drop at v) events i d n)
+      (tree.handlerAt events hs (drop at v)) (handlerOf (drop at v) events i d n)
       (same-handler events hs i d n (turn-test hs d n (t .2)) (drop at v))))

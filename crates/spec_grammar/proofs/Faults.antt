@@ -1,10 +1,10 @@
 -- The reading of every sheet's encoding, also of one outside the limits: the sheet, or its first fault as a function on
 -- the sheet. By induction on the sheet. That fault does not depend on whether a parameter, of 0 to 7, or a constant
 -- stands in an expression.
-use Prim.Native.Nat.{ℕ, zero, suc, _+_, _*_, _/_, _%_, _≤_}
-use mathlib.Core.Path.{_≡_, refl, ap, _∙_}
-use mathlib.Core.Bool.{true}
-use mathlib.Core.Option.{Option, none, some}
+use Prim.Native.Nat.{ℕ, zero, suc, _+_, _≤_, _<_}
+use mathlib.Core.Path.{_≡_, refl, sym, ap, _∙_}
+use mathlib.Core.Bool.{Bool, true, false}
+use mathlib.Core.Option.{Option}
 use mathlib.Core.List.{List, [], _∷_, _++_, append-assoc, append-nil}
 use native.Mathlib.Omega.{arith}
 use lib.ListN.{length, length-append}
@@ -18,12 +18,13 @@ use Rattle.spec_language.proofs.RowLaws.{count-append, written-cells-count}
 use Rattle.spec_language.specs.Sheet.{writeTerm, writtenOut}
 use Rattle.spec_language.specs.Grammar.{field, word, encodeExpr, encodePhase, encodeHandler, encodeHandlers, tagOf, encodeViewer, encodeBehaviour, encodeBehaviours, encodeSender, encodeEvent, encodeEvents, encode}
 use Rattle.spec_language.specs.Sheet.{paramsOf, paramsOfClauses, paramsOfItem, paramsOfEntries}
-use Rattle.spec_language.specs.Reading.{fieldAt, Got, bad, got, whole, wordOf, then, argsOf, exprAt, exprIn, handles, phaseIn, handlerBody, ends, handlersAt, startBody, entry, endingIn, activeAs, behaviourIn, signal, signalIn, sheet, behavioursAt, eventsAt, readSheet}
+use Rattle.spec_language.specs.Reading.{Got, bad, got, then, fieldAt, sized, many, argsOf, termOf, isTerm, exprAt, handles, handlerAt, entry, endingIn, activeAs, behaviourIn, behaviourAt, eventAt, sheet, readSheet}
 use Rattle.spec_grammar.proofs.Fields.{field-reads}
-use Rattle.spec_grammar.proofs.Handlers.{many-handlers}
-use Rattle.spec_grammar.proofs.Endings.{ends-encoded, ending-reads}
-use Rattle.spec_grammar.proofs.Behaviours.{valueOf, tag-least}
-use Rattle.spec_grammar.proofs.Programs.{behaviour-bytes, many-behaviours, many-events, behaviour-at}
+use Rattle.spec_grammar.proofs.Results.{word-back}
+use Rattle.spec_grammar.proofs.Handlers.{stops, handler-goes, many-handlers}
+use Rattle.spec_grammar.proofs.Endings.{stops-there, ending-reads}
+use Rattle.spec_grammar.proofs.Behaviours.{valueOf}
+use Rattle.spec_grammar.proofs.Programs.{behaviour-bytes, behaviour-at, atEnd, noEvent, event-reads, events-end, enough}
 
 -- ---- a result by its fault, 0 for none
 
@@ -35,6 +36,25 @@ result (suc n) x rest = bad (suc n)
 abbrev pub first : ℕ → ℕ → ℕ
 first zero m = m
 first (suc n) m = suc n
+
+onwards : {A B : Type 0} (f : A → List ℕ → Got B) (m o : ℕ) (x : A) (l : List ℕ) (y : B) (rest : List ℕ) → f x l ≡ result o y rest
+    → then (result m x l) f ≡ result (first m o) y rest
+onwards f zero o x l y rest h = h
+onwards f (suc m) o x l y rest h = refl
+
+-- one after another, each with its fault after those before it
+many-result : {A : Type 0} (enc : A → List ℕ) (encs : List A → List ℕ) → encs [] ≡ [] → ((x : A) (xs : List A) → encs (x ∷ xs) ≡ enc x ++ encs xs)
+    → (ended : List ℕ → Bool) (one : List A → List ℕ → Got A) → ((x : A) (rest : List ℕ) → ended (enc x ++ rest) ≡ false)
+    → (fault : List A → A → ℕ) → ((xs : List A) (y : A) (rest : List ℕ) → one xs (enc y ++ rest) ≡ result (fault xs y) y rest)
+    → (faults : List A → List A → ℕ) → ((xs : List A) → faults xs [] ≡ 0) → ((xs : List A) (y : A) (ys : List A) → faults xs (y ∷ ys) ≡ first (fault xs y) (faults (xs ++ (y ∷ [])) ys))
+    → (k : ℕ) (xs ys : List A) (rest : List ℕ) → ended rest ≡ true → length ys < k → many ended one k xs (encs ys ++ rest) ≡ result (faults xs ys) (xs ++ ys) rest
+unfolding many
+many-result enc encs nil cons ended one on fault each faults none next zero xs ys rest z b = absurd (omega arith)
+many-result enc encs nil cons ended one on fault each faults none next (suc k) xs [] rest z b = rw (nil, z, none xs, append-nil xs)
+many-result {A} enc encs nil cons ended one on fault each faults none next (suc k) xs (y ∷ ys) rest z b =
+    rw (cons y ys, append-assoc (enc y) (encs ys) rest, on y (encs ys ++ rest), each xs y (encs ys ++ rest), next xs y ys)
+    (onwards (λ (x : A) (l : List ℕ). many ended one k (xs ++ (x ∷ [])) l) (fault xs y) (faults (xs ++ (y ∷ [])) ys) y (encs ys ++ rest) (xs ++ (y ∷ ys)) rest
+    (rw (append-assoc xs (y ∷ []) ys) at (many-result enc encs nil cons ended one on fault each faults none next k (xs ++ (y ∷ [])) ys rest z (omega arith))))
 
 -- ---- expressions
 
@@ -53,39 +73,38 @@ exprFault (suc k) (apply2 f a b) = judged f (first (exprFault k a) (pick (eqb f 
 exprFault (suc k) (apply3 f a b c) =
     judged f (first (exprFault k a) (pick (eqb f 3) 6 (first (exprFault k b) (pick (eqb f 14) (first (exprFault k c) 0) 6))))
 
-word-any : {A : Type 0} (f : ℕ → A) (w : ℕ) (rest : List ℕ) → wordOf f (word w) rest ≡ got (f w) rest
-word-any f w rest =
-    let e : ((w / 16777216 * 256 + w / 65536 % 256) * 256 + w / 256 % 256) * 256 + w % 256 ≡ w = omega arith in
-    rw e
-
 -- nothing is left where an argument is due
 none-due : (k : ℕ) → exprAt k [] ≡ bad 4
 unfolding exprAt fieldAt
 none-due zero = refl
 none-due (suc k) = refl
 
--- every expression's bytes begin with a tag
-some-bytes : (x : Term) (v rest : List ℕ) (y : Term) → whole y (encodeExpr x ++ v) rest ≡ bad 6
+-- every expression has bytes
+some-bytes : (x : Term) (v : List ℕ) → 0 < length (encodeExpr x ++ v)
 unfolding encodeExpr
-some-bytes (literal w) v rest y = refl
-some-bytes (variable i) v rest y = refl
-some-bytes (param n) v rest y = refl
-some-bytes (apply1 f a) v rest y = refl
-some-bytes (apply2 f a b) v rest y = refl
-some-bytes (apply3 f a b c) v rest y = refl
+some-bytes (literal w) v = omega arith
+some-bytes (variable i) v = omega arith
+some-bytes (param n) v = omega arith
+some-bytes (apply1 f a) v = omega arith
+some-bytes (apply2 f a b) v = omega arith
+some-bytes (apply3 f a b c) v = omega arith
 
-left-over : (x : Term) (rest : List ℕ) (y : Term) → whole y (encodeExpr x) rest ≡ bad 6
-left-over x rest y = rw (append-nil (encodeExpr x)) at (some-bytes x [] rest y)
+-- one more is left over
+two-over : (x y : Term) (g : Got Term) → sized 0 (encodeExpr x ++ encodeExpr y) g ≡ bad 6
+two-over x y g = rw (ne-eqb (length (encodeExpr x ++ encodeExpr y)) 0 (omega (arith, some-bytes x (encodeExpr y))))
 
-deep : (t : ℕ) (v rest : List ℕ) → 16 ≤ t → t ≤ 19 → exprAt 0 (field t v ++ rest) ≡ bad 9
+left-over : (x : Term) (g : Got Term) → sized 0 (encodeExpr x) g ≡ bad 6
+left-over x g = rw (ne-eqb (length (encodeExpr x)) 0 (omega (arith, some-bytes x [], length-append (encodeExpr x) [])))
+
+deep : (t : ℕ) (v rest : List ℕ) → isTerm t ≡ true → exprAt 0 (field t v ++ rest) ≡ bad 9
 unfolding exprAt
-deep t v rest lo hi = rw (field-reads 16 19 t v rest lo hi)
+deep t v rest e = field-reads isTerm t v rest _ e
 
 app-judged : (k f m : ℕ) (v rest : List ℕ) (x : Term) → argsOf (exprAt k) f v rest ≡ result m x rest → exprAt (suc k) (field 18 (f ∷ v) ++ rest) ≡ result (judged f m) x rest
 unfolding exprAt
 app-judged k f m v rest x h =
-    rw (field-reads 16 19 18 (f ∷ v) rest (omega arith) (omega arith))
-    (split (eqb f 0) (λ e. rw e) (λ e. split (ltb 14 f) (λ d. rw (e, d)) (λ d. rw (e, d) h)))
+    field-reads isTerm 18 (f ∷ v) rest (termOf (exprAt k)) refl
+    ∙ split (eqb f 0) (λ e. rw e) (λ e. split (ltb 14 f) (λ d. rw (e, d)) (λ d. rw (e, d) h))
 
 module _ (k f : ℕ) (rest : List ℕ) where
   one-arg : (a : Term) (n : ℕ) → exprAt k (encodeExpr a) ≡ result n a []
@@ -96,36 +115,36 @@ module _ (k f : ℕ) (rest : List ℕ) where
   two-args : (a b : Term) (n m : ℕ) → exprAt k (encodeExpr a ++ encodeExpr b) ≡ result n a (encodeExpr b) → exprAt k (encodeExpr b) ≡ result m b []
       → argsOf (exprAt k) f (encodeExpr a ++ encodeExpr b) rest ≡ result (first n (pick (eqb f 3) 6 (first m (pick (eqb f 14) 4 0)))) (apply2 f a b) rest
   two-args a b (suc n) m h i = rw h
-  two-args a b zero (suc m) h i = rw h (split (eqb f 3) (λ e. rw e (left-over b rest (apply1 f a))) (λ e. rw (e, i)))
+  two-args a b zero (suc m) h i = rw h (split (eqb f 3) (λ e. rw e (left-over b (got (apply1 f a) rest))) (λ e. rw (e, i)))
   two-args a b zero zero h i =
-      rw h (split (eqb f 3) (λ e. rw e (left-over b rest (apply1 f a))) (λ e. rw (e, i) (split (eqb f 14) (λ d. rw (d, none-due k)) (λ d. rw d))))
+      rw h (split (eqb f 3) (λ e. rw e (left-over b (got (apply1 f a) rest))) (λ e. rw (e, i) (split (eqb f 14) (λ d. rw (d, none-due k)) (λ d. rw d))))
 
   three-args : (a b c : Term) (n m o : ℕ) → exprAt k (encodeExpr a ++ (encodeExpr b ++ encodeExpr c)) ≡ result n a (encodeExpr b ++ encodeExpr c)
       → exprAt k (encodeExpr b ++ encodeExpr c) ≡ result m b (encodeExpr c) → exprAt k (encodeExpr c) ≡ result o c []
       → argsOf (exprAt k) f (encodeExpr a ++ (encodeExpr b ++ encodeExpr c)) rest
       ≡ result (first n (pick (eqb f 3) 6 (first m (pick (eqb f 14) (first o 0) 6)))) (apply3 f a b c) rest
   three-args a b c (suc n) m o h i j = rw h
-  three-args a b c zero (suc m) o h i j = rw h (split (eqb f 3) (λ e. rw e (some-bytes b (encodeExpr c) rest (apply1 f a))) (λ e. rw (e, i)))
+  three-args a b c zero (suc m) o h i j = rw h (split (eqb f 3) (λ e. rw e (two-over b c (got (apply1 f a) rest))) (λ e. rw (e, i)))
   three-args a b c zero zero (suc o) h i j =
       rw h
-      (split (eqb f 3) (λ e. rw e (some-bytes b (encodeExpr c) rest (apply1 f a)))
-      (λ e. rw (e, i) (split (eqb f 14) (λ d. rw (d, j)) (λ d. rw d (left-over c rest (apply2 f a b))))))
+      (split (eqb f 3) (λ e. rw e (two-over b c (got (apply1 f a) rest)))
+      (λ e. rw (e, i) (split (eqb f 14) (λ d. rw (d, j)) (λ d. rw d (left-over c (got (apply2 f a b) rest))))))
   three-args a b c zero zero zero h i j =
       rw h
-      (split (eqb f 3) (λ e. rw e (some-bytes b (encodeExpr c) rest (apply1 f a)))
-      (λ e. rw (e, i) (split (eqb f 14) (λ d. rw (d, j)) (λ d. rw d (left-over c rest (apply2 f a b))))))
+      (split (eqb f 3) (λ e. rw e (two-over b c (got (apply1 f a) rest)))
+      (λ e. rw (e, i) (split (eqb f 14) (λ d. rw (d, j)) (λ d. rw d (left-over c (got (apply2 f a b) rest))))))
 
 pub expr-result : (k : ℕ) (x : Term) (rest : List ℕ) → exprAt k (encodeExpr x ++ rest) ≡ result (exprFault k x) x rest
 unfolding encodeExpr exprFault exprAt
-expr-result zero (literal w) rest = deep 16 (word w) rest (omega arith) (omega arith)
-expr-result zero (variable i) rest = deep 17 (i ∷ []) rest (omega arith) (omega arith)
-expr-result zero (param n) rest = deep 19 (n ∷ []) rest (omega arith) (omega arith)
-expr-result zero (apply1 f a) rest = deep 18 (f ∷ encodeExpr a) rest (omega arith) (omega arith)
-expr-result zero (apply2 f a b) rest = deep 18 (f ∷ (encodeExpr a ++ encodeExpr b)) rest (omega arith) (omega arith)
-expr-result zero (apply3 f a b c) rest = deep 18 (f ∷ (encodeExpr a ++ (encodeExpr b ++ encodeExpr c))) rest (omega arith) (omega arith)
-expr-result (suc k) (literal w) rest = rw (field-reads 16 19 16 (word w) rest (omega arith) (omega arith)) (word-any literal w rest)
-expr-result (suc k) (variable i) rest = rw (field-reads 16 19 17 (i ∷ []) rest (omega arith) (omega arith))
-expr-result (suc k) (param n) rest = rw (field-reads 16 19 19 (n ∷ []) rest (omega arith) (omega arith)) (split (ltb 7 n) (λ e. rw e) (λ e. rw e))
+expr-result zero (literal w) rest = deep 16 (word w) rest refl
+expr-result zero (variable i) rest = deep 17 (i ∷ []) rest refl
+expr-result zero (param n) rest = deep 19 (n ∷ []) rest refl
+expr-result zero (apply1 f a) rest = deep 18 (f ∷ encodeExpr a) rest refl
+expr-result zero (apply2 f a b) rest = deep 18 (f ∷ (encodeExpr a ++ encodeExpr b)) rest refl
+expr-result zero (apply3 f a b c) rest = deep 18 (f ∷ (encodeExpr a ++ (encodeExpr b ++ encodeExpr c))) rest refl
+expr-result (suc k) (literal w) rest = field-reads isTerm 16 (word w) rest (termOf (exprAt k)) refl ∙ rw (word-back w)
+expr-result (suc k) (variable i) rest = field-reads isTerm 17 (i ∷ []) rest (termOf (exprAt k)) refl
+expr-result (suc k) (param n) rest = field-reads isTerm 19 (n ∷ []) rest (termOf (exprAt k)) refl ∙ split (ltb 7 n) (λ e. rw e) (λ e. rw e)
 expr-result (suc k) (apply1 f a) rest =
     app-judged k f (first (exprFault k a) (pick (eqb f 3) 0 4)) (encodeExpr a) rest (apply1 f a)
     (one-arg k f rest a (exprFault k a) (rw (append-nil (encodeExpr a)) at (expr-result k a [])))
@@ -138,12 +157,12 @@ expr-result (suc k) (apply3 f a b c) rest =
     (three-args k f rest a b c (exprFault k a) (exprFault k b) (exprFault k c) (expr-result k a (encodeExpr b ++ encodeExpr c)) (expr-result k b (encodeExpr c))
     (rw (append-nil (encodeExpr c)) at (expr-result k c [])))
 
-fills : {A : Type 0} (F : Term → A) (x : Term) (rest : List ℕ) (n : ℕ) → exprAt 16 (encodeExpr x) ≡ result n x [] → exprIn F (encodeExpr x) rest ≡ result n (F x) rest
-fills F x rest zero h = rw h
-fills F x rest (suc n) h = rw h
-
-in-result : {A : Type 0} (F : Term → A) (x : Term) (rest : List ℕ) → exprIn F (encodeExpr x) rest ≡ result (exprFault 16 x) (F x) rest
-in-result F x rest = fills F x rest (exprFault 16 x) (rw (append-nil (encodeExpr x)) at (expr-result 16 x []))
+fills : (F : Term → Clause) (x : Term) (rest : List ℕ) → then (exprAt 16 (encodeExpr x)) (λ y left. sized 0 left (got (F y) rest)) ≡ result (exprFault 16 x) (F x) rest
+fills F x rest = rw (rw (append-nil (encodeExpr x)) at (expr-result 16 x [])) (of (exprFault 16 x))
+  where
+    of : (n : ℕ) → then (result n x []) (λ y left. sized 0 left (got (F y) rest)) ≡ result n (F x) rest
+    of zero = refl
+    of (suc n) = refl
 
 -- ---- handlers
 
@@ -154,33 +173,20 @@ unfoldable pub clausesFault : ℕ → List Clause → List Clause → ℕ
 clausesFault n hs [] = 0
 clausesFault n hs (h ∷ ks) = first (clauseFault n hs h) (clausesFault n (hs ++ (h ∷ [])) ks)
 
-phase-result : (φ : Phase) (hs : List Clause) (e : ℕ) (x : Term) (rest : List ℕ)
-    → phaseIn hs e (encodePhase φ ∷ encodeExpr x) rest ≡ result (pick (handles e hs) 10 (exprFault 16 x)) (clause e φ x) rest
-phase-result immediate hs e x rest = split (handles e hs) (λ c. rw c) (λ c. rw c (in-result (clause e immediate) x rest))
-phase-result later hs e x rest = split (handles e hs) (λ c. rw c) (λ c. rw c (in-result (clause e later) x rest))
+handler-result : (n : ℕ) (hs : List Clause) (h : Clause) (rest : List ℕ) → handlerAt n hs (encodeHandler h ++ rest) ≡ result (clauseFault n hs h) h rest
+handler-result n hs (clause e immediate x) rest =
+    field-reads (eqb 5) 5 (e ∷ 0 ∷ encodeExpr x) rest _ refl
+    ∙ split (leb n e) (λ c. rw c) (λ c. split (handles e hs) (λ d. rw (c, d)) (λ d. rw (c, d) (fills (clause e immediate) x rest)))
+handler-result n hs (clause e later x) rest =
+    field-reads (eqb 5) 5 (e ∷ 1 ∷ encodeExpr x) rest _ refl
+    ∙ split (leb n e) (λ c. rw c) (λ c. split (handles e hs) (λ d. rw (c, d)) (λ d. rw (c, d) (fills (clause e later) x rest)))
 
-handler-result : (n : ℕ) (hs : List Clause) (h : Clause) (rest : List ℕ) → handlerBody n hs (fieldAt 5 5 (encodeHandler h ++ rest)) ≡ result (clauseFault n hs h) h rest
-handler-result n hs (clause e φ x) rest =
-    rw (field-reads 5 5 5 (e ∷ encodePhase φ ∷ encodeExpr x) rest (omega arith) (omega arith))
-    (split (leb n e) (λ c. rw c) (λ c. rw c (phase-result φ hs e x rest)))
-
-next-handler : (k n : ℕ) (hs ks : List Clause) (rest : List ℕ) (h : Clause) (m o : ℕ) (g : Got Clause) → g ≡ result m h (encodeHandlers ks ++ rest)
-    → handlersAt k n (hs ++ (h ∷ [])) (encodeHandlers ks ++ rest) ≡ result o (hs ++ (h ∷ ks)) rest
-    → then g (λ h rest. handlersAt k n (hs ++ (h ∷ [])) rest) ≡ result (first m o) (hs ++ (h ∷ ks)) rest
-next-handler k n hs ks rest h zero o g e i = rw e i
-next-handler k n hs ks rest h (suc m) o g e i = rw e
-
-handlers-result : (k n : ℕ) (hs ks : List Clause) (rest : List ℕ) → ends rest ≡ true → length ks ≤ k
-    → handlersAt k n hs (encodeHandlers ks ++ rest) ≡ result (clausesFault n hs ks) (hs ++ ks) rest
-unfolding handlersAt encodeHandlers clausesFault
-handlers-result zero n hs [] rest z b = rw (append-nil hs, z)
-handlers-result zero n hs (g ∷ ks) rest z b = absurd (omega arith)
-handlers-result (suc k) n hs [] rest z b = rw (append-nil hs, z)
-handlers-result (suc k) n hs (clause e φ x ∷ ks) rest z b =
-    rw (append-assoc (encodeHandler (clause e φ x)) (encodeHandlers ks) rest)
-    (next-handler k n hs ks rest (clause e φ x) (clauseFault n hs (clause e φ x)) (clausesFault n (hs ++ (clause e φ x ∷ [])) ks)
-    (handlerBody n hs (fieldAt 5 5 (encodeHandler (clause e φ x) ++ (encodeHandlers ks ++ rest)))) (handler-result n hs (clause e φ x) (encodeHandlers ks ++ rest))
-    (rw (append-assoc hs (clause e φ x ∷ []) ks) at (handlers-result k n (hs ++ (clause e φ x ∷ [])) ks rest z (omega arith))))
+handlers-result : (k n : ℕ) (ks : List Clause) (rest : List ℕ) → stops rest ≡ true → length ks < k
+    → many stops (handlerAt n) k [] (encodeHandlers ks ++ rest) ≡ result (clausesFault n [] ks) ks rest
+unfolding encodeHandlers clausesFault
+handlers-result k n ks rest z b =
+    many-result encodeHandler encodeHandlers refl (λ x xs. refl) stops (handlerAt n) handler-goes (clauseFault n) (handler-result n) (clausesFault n) (λ xs. refl) (λ xs y ys. refl)
+    k [] ks rest z b
 
 -- ---- behaviours
 
@@ -189,9 +195,6 @@ abbrev pub itemFault : ℕ → ℕ → Item → ℕ
 itemFault n i (formula x) = exprFault 16 x
 itemFault n i (state s hs) = clausesFault n [] hs
 itemFault n i (row c s hs) = pick (ltb c 2) 8 (pick (ltb 16 c) 8 (pick (ltb 64 (i + c)) 7 (clausesFault n [] hs)))
-
-start-any : (w : ℕ) (rest : List ℕ) → startBody (fieldAt 4 4 (field 4 (word w) ++ rest)) ≡ got w rest
-start-any w rest = rw (field-reads 4 4 4 (word w) rest (omega arith) (omega arith)) (word-any (λ w. w) w rest)
 
 passive-ends : (x : Term) (m : Option ℕ) (rest : List ℕ) (k : ℕ) (g : Got Term) → g ≡ result k x (encodeViewer m)
     → then g (λ x left. endingIn (formula x) left rest) ≡ result k (entry (formula x) m) rest
@@ -206,11 +209,12 @@ active-ends make s hs m rest (suc k) g e = rw e
 active-result : (make : ℕ → List Clause → Item) (n s : ℕ) (hs : List Clause) (m : Option ℕ) (rest : List ℕ)
     → activeAs make n (valueOf (entry (state s hs) m)) rest ≡ result (clausesFault n [] hs) (entry (make s hs) m) rest
 active-result make n s hs m rest =
-    let few : length hs ≤ length (encodeHandlers hs ++ encodeViewer m) =
+    let few : length hs < suc (length (encodeHandlers hs ++ encodeViewer m)) =
     omega (arith, many-handlers hs, length-append (encodeHandlers hs) (encodeViewer m)) in
-    rw (start-any s (encodeHandlers hs ++ encodeViewer m))
-    (active-ends make s hs m rest (clausesFault n [] hs) (handlersAt (length (encodeHandlers hs ++ encodeViewer m)) n [] (encodeHandlers hs ++ encodeViewer m))
-    (handlers-result (length (encodeHandlers hs ++ encodeViewer m)) n [] hs (encodeViewer m) (ends-encoded m) few))
+    field-reads (eqb 4) 4 (word s) (encodeHandlers hs ++ encodeViewer m) _ refl
+    ∙ rw (word-back s)
+    (active-ends make s hs m rest (clausesFault n [] hs) (many stops (handlerAt n) (suc (length (encodeHandlers hs ++ encodeViewer m))) [] (encodeHandlers hs ++ encodeViewer m))
+    (handlers-result (suc (length (encodeHandlers hs ++ encodeViewer m))) n hs (encodeViewer m) (stops-there m) few))
 
 pub item-result : (n i : ℕ) (b : Item) (m : Option ℕ) (rest : List ℕ) → behaviourIn n i (tagOf b) (valueOf (entry b m)) rest ≡ result (itemFault n i b) (entry b m) rest
 item-result n i (formula x) m rest = passive-ends x m rest (exprFault 16 x) (exprAt 16 (encodeExpr x ++ encodeViewer m)) (expr-result 16 x (encodeViewer m))
@@ -233,76 +237,67 @@ unfoldable pub eventsFault : ℕ → List Signal → List Entry → ℕ
 eventsFault n [] cs = entriesFault n 0 cs
 eventsFault n (q ∷ qs) cs = pick (leb 32 n) 7 (pick (ltb 15 (q .priority)) 8 (eventsFault (suc n) qs cs))
 
-next-entry : (k : ℕ) (rs : List Signal) (bs cs : List Entry) (c : Entry) (m o : ℕ) (g : Got Entry) → g ≡ result m c (encodeBehaviours cs)
-    → behavioursAt k rs (bs ++ (c ∷ [])) (encodeBehaviours cs) ≡ result o (sheet rs (bs ++ (c ∷ cs))) []
-    → then g (λ x rest. behavioursAt k rs (bs ++ (x ∷ [])) rest) ≡ result (first m o) (sheet rs (bs ++ (c ∷ cs))) []
-next-entry k rs bs cs c zero o g e i = rw e i
-next-entry k rs bs cs c (suc m) o g e i = rw e
+-- a behaviour, and an event, after those before it
+abbrev nextFault : ℕ → List Entry → Entry → ℕ
+nextFault n bs c = pick (leb 64 (cellCount bs)) 7 (itemFault n (cellCount bs) (c .item))
 
-behaviours-result : (k m : ℕ) (rs : List Signal) (bs cs : List Entry) → cellCount bs ≡ m → length cs ≤ k
-    → behavioursAt k rs bs (encodeBehaviours cs) ≡ result (entriesFault (length rs) m cs) (sheet rs (bs ++ cs)) []
-unfolding behavioursAt encodeBehaviours entriesFault cellCount
-behaviours-result zero m rs bs [] l a = rw (append-nil bs)
-behaviours-result zero m rs bs (c ∷ cs) l a = absurd (omega arith)
-behaviours-result (suc k) m rs bs [] l a = rw (append-nil bs)
-behaviours-result (suc k) m rs bs (c ∷ cs) l a =
-    rw (
-      ne-eqb (length (encodeBehaviour c ++ encodeBehaviours cs)) 0 (omega (arith, behaviour-bytes c (encodeBehaviours cs))),
-      behaviour-at 2 c (encodeBehaviours cs) (omega arith),
-      l,
-    )
-    (split (leb 64 m) (λ e. rw e)
-    (λ e. rw e
-    (next-entry k rs bs cs c (itemFault (length rs) m (c .item)) (entriesFault (length rs) (m + cells (c .item)) cs) (behaviourIn (length rs) m (tagOf (c .item)) (valueOf c) (encodeBehaviours cs))
-    (entry-result (length rs) m c (encodeBehaviours cs))
-    (rw (append-assoc bs (c ∷ []) cs) at (behaviours-result k (m + cells (c .item)) rs (bs ++ (c ∷ [])) cs (omega (arith, count-append bs (c ∷ []))) (omega arith))))))
+abbrev eventFault : ℕ → Signal → ℕ
+eventFault n q = pick (leb 32 n) 7 (pick (ltb 15 (q .priority)) 8 0)
 
-first-entry : (k : ℕ) (rs : List Signal) (cs : List Entry) → length cs ≤ k → eventsAt k rs (encodeBehaviours cs) ≡ result (entriesFault (length rs) 0 cs) (sheet rs cs) []
-unfolding eventsAt encodeBehaviours entriesFault cellCount
-first-entry zero rs [] a = refl
-first-entry zero rs (c ∷ cs) a = absurd (omega arith)
-first-entry (suc k) rs [] a = refl
-first-entry (suc k) rs (c ∷ cs) a =
-    rw (
-      ne-eqb (length (encodeBehaviour c ++ encodeBehaviours cs)) 0 (omega (arith, behaviour-bytes c (encodeBehaviours cs))),
-      behaviour-at 1 c (encodeBehaviours cs) (omega arith),
-      ne-eqb (tagOf (c .item)) 1 (omega (arith, tag-least (c .item))),
-    )
-    (next-entry k rs [] cs c (itemFault (length rs) 0 (c .item)) (entriesFault (length rs) (0 + cells (c .item)) cs) (behaviourIn (length rs) 0 (tagOf (c .item)) (valueOf c) (encodeBehaviours cs))
-    (entry-result (length rs) 0 c (encodeBehaviours cs)) (behaviours-result k (0 + cells (c .item)) rs (c ∷ []) cs (omega arith) (omega arith)))
+unfoldable signalsFault : ℕ → List Signal → ℕ
+signalsFault n [] = 0
+signalsFault n (q ∷ qs) = first (eventFault n q) (signalsFault (suc n) qs)
 
-signal-any : (r : ℕ) (m : Option ℕ) (rest : List ℕ) → signalIn (r ∷ encodeSender m) rest ≡ pick (ltb 15 r) (bad 8) (got (signal r m) rest)
-signal-any r none rest = refl
-signal-any r (some m) rest = refl
+next-result : (n : ℕ) (bs : List Entry) (c : Entry) (rest : List ℕ) → behaviourAt n bs (encodeBehaviour c ++ rest) ≡ result (nextFault n bs c) c rest
+next-result n bs c rest = behaviour-at n bs c rest ∙ split (leb 64 (cellCount bs)) (λ e. rw e) (λ e. rw e (entry-result n (cellCount bs) c rest))
 
-events-result : (k n : ℕ) (rs qs : List Signal) (cs : List Entry) → length rs ≡ n → length qs + length cs ≤ k
-    → eventsAt k rs (encodeEvents qs ++ encodeBehaviours cs) ≡ result (eventsFault n qs cs) (sheet (rs ++ qs) cs) []
-unfolding eventsAt encodeEvents eventsFault
-events-result k n rs [] cs l a = rw (append-nil rs, ← l) (first-entry k rs cs (omega arith))
-events-result zero n rs (q ∷ qs) cs l a = absurd (omega arith)
-events-result (suc k) n rs (q ∷ qs) cs l a =
-    ap (eventsAt (suc k) rs) (append-assoc (encodeEvent q) (encodeEvents qs) (encodeBehaviours cs))
-    ∙ rw (
-      ne-eqb (length (encodeEvent q ++ (encodeEvents qs ++ encodeBehaviours cs))) 0 (omega arith),
-      field-reads 1 3 1 (q .priority ∷ encodeSender (q .sender)) (encodeEvents qs ++ encodeBehaviours cs) (omega arith) (omega arith),
-      signal-any (q .priority) (q .sender) (encodeEvents qs ++ encodeBehaviours cs),
-      l,
-    )
-    (split (leb 32 n) (λ e. rw e)
-    (λ e. rw e
-    (split (ltb 15 (q .priority)) (λ d. rw d)
-    (λ d. rw d (rw (append-assoc rs (q ∷ []) qs) at (events-result k (suc n) (rs ++ (q ∷ [])) qs cs (omega (arith, length-append rs (q ∷ []))) (omega arith)))))))
+behaviours-result : (k n : ℕ) (cs : List Entry) → length cs < k → many atEnd (behaviourAt n) k [] (encodeBehaviours cs) ≡ result (entriesFault n 0 cs) cs []
+unfolding encodeBehaviours entriesFault cellCount
+behaviours-result k n cs b =
+    ap (λ (u : List ℕ). many atEnd (behaviourAt n) k [] u) (sym (append-nil (encodeBehaviours cs)))
+    ∙ many-result encodeBehaviour encodeBehaviours refl (λ x xs. refl) atEnd (behaviourAt n)
+    (λ c rest. ne-eqb (length (encodeBehaviour c ++ rest)) 0 (omega (arith, behaviour-bytes c rest)))
+    (nextFault n) (next-result n) (λ bs. entriesFault n (cellCount bs)) (λ bs. refl) next k [] cs [] refl b
+  where
+    next : (bs : List Entry) (c : Entry) (cs : List Entry) → entriesFault n (cellCount bs) (c ∷ cs) ≡ first (nextFault n bs c) (entriesFault n (cellCount (bs ++ (c ∷ []))) cs)
+    next bs c cs =
+        let z : cellCount (bs ++ (c ∷ [])) ≡ cellCount bs + cells (c .item) = omega (arith, count-append bs (c ∷ [])) in
+        split (leb 64 (cellCount bs)) (λ e. rw e) (λ e. rw (e, z))
 
--- the reading of a sheet's encoding
+event-result : (rs : List Signal) (q : Signal) (rest : List ℕ) → eventAt rs (encodeEvent q ++ rest) ≡ result (eventFault (length rs) q) q rest
+event-result rs q rest = event-reads rs q rest ∙ split (leb 32 (length rs)) (λ e. rw e) (λ e. rw e (split (ltb 15 (q .priority)) (λ d. rw d) (λ d. rw d)))
+
+signals-result : (k : ℕ) (qs : List Signal) (rest : List ℕ) → noEvent rest ≡ true → length qs < k → many noEvent eventAt k [] (encodeEvents qs ++ rest) ≡ result (signalsFault 0 qs) qs rest
+unfolding encodeEvents signalsFault
+signals-result k qs rest z b =
+    many-result encodeEvent encodeEvents refl (λ x xs. refl) noEvent eventAt (λ q rest. refl) (λ rs. eventFault (length rs)) event-result (λ rs. signalsFault (length rs)) (λ rs. refl)
+    (λ rs q qs. let y : length (rs ++ (q ∷ [])) ≡ suc (length rs) = omega (arith, length-append rs (q ∷ [])) in rw y) k [] qs rest z b
+
+-- the events' first, then the behaviours'
+events-first : (n m : ℕ) (qs : List Signal) (cs : List Entry) → n + length qs ≡ m → eventsFault n qs cs ≡ first (signalsFault n qs) (entriesFault m 0 cs)
+unfolding eventsFault signalsFault
+events-first n m [] cs e = ap (λ (k : ℕ). entriesFault k 0 cs) (omega arith)
+events-first n m (q ∷ qs) cs e =
+    split (leb 32 n) (λ c. rw c) (λ c. split (ltb 15 (q .priority)) (λ d. rw (c, d)) (λ d. rw (c, d) (events-first (suc n) m qs cs (omega arith))))
+
+-- the first fault of a sheet's encoding
 unfoldable pub sheetFault : Sheet → ℕ
 sheetFault x = eventsFault 0 (x .signals) (x .entries)
+
+behaviours-made : (rs : List Signal) (cs : List Entry) (k : ℕ) → then (result k cs []) (λ bs over. got (sheet rs bs) over) ≡ result k (sheet rs cs) []
+behaviours-made rs cs zero = refl
+behaviours-made rs cs (suc k) = refl
 
 pub sheet-result : (x : Sheet) → readSheet (encode x) ≡ result (sheetFault x) x []
 unfolding readSheet encode sheetFault
 sheet-result x =
-    let bound : length (x .signals) + length (x .entries) ≤ length (encodeEvents (x .signals) ++ encodeBehaviours (x .entries)) =
-    omega (arith, many-events (x .signals), many-behaviours (x .entries), length-append (encodeEvents (x .signals)) (encodeBehaviours (x .entries))) in
-    events-result (length (encodeEvents (x .signals) ++ encodeBehaviours (x .entries))) 0 [] (x .signals) (x .entries) refl bound
+    rw (
+      signals-result (suc (length (encode x))) (x .signals) (encodeBehaviours (x .entries)) (events-end (x .entries)) (enough x .0),
+      events-first 0 (length (x .signals)) (x .signals) (x .entries) (omega arith),
+    )
+    (onwards _ (signalsFault 0 (x .signals)) (entriesFault (length (x .signals)) 0 (x .entries)) (x .signals) (encodeBehaviours (x .entries)) x []
+    (rw (behaviours-result (suc (length (encodeBehaviours (x .entries)))) (length (x .signals)) (x .entries) (enough x .1))
+    (behaviours-made (x .signals) (x .entries) (entriesFault (length (x .signals)) 0 (x .entries)))))
 
 -- ---- parameters written out
 

@@ -3,11 +3,12 @@
 use mathlib.Core.Path.{_≡_, refl}
 use mathlib.Core.Option.{some}
 use mathlib.Core.List.{[], _∷_, _++_, flatMap}
+use Rattle.lib_word.specs.Word.{getAt}
 use Rattle.spec_language.specs.Syntax.{immediate, later}
 use Rattle.spec_language.specs.Sheet.{literal, variable, apply2, clause, formula, state, row, Sheet, cellCount, heads, renameTerm, entriesOut, rowsOut, changeClauses}
 use Rattle.spec_language.specs.Order.{upTo}
 use Rattle.spec_language.specs.Grammar.{encodeExpr, encodeHandlers, encodeBehaviours, encodeEvents, encode}
-use Rattle.spec_language.specs.Reading.{fieldAt, got, exprAt, handles, handlersAt, entry, sheet, behavioursAt, eventsAt, readSheet}
+use Rattle.spec_language.specs.Reading.{got, fieldAt, many, exprAt, handles, entry, sheet, readSheet}
 use Rattle.spec_language.proofs.FaultTable.{events, first, seen, rowed}
 use Rattle.spec_grammar.proofs.Examples.{plain, bare}
 
@@ -42,7 +43,7 @@ unfolding entriesOut flatMap heads renameTerm changeClauses upTo
 written = refl
 
 pub rows-read : readSheet (encode rows) ≡ got rows []
-unfolding encode encodeEvents encodeBehaviours encodeHandlers encodeExpr readSheet eventsAt behavioursAt handlersAt handles exprAt fieldAt cellCount
+unfolding encode encodeEvents encodeBehaviours encodeHandlers encodeExpr readSheet many handles exprAt fieldAt getAt cellCount
 rows-read = refl
 
 -- ---- bytes
@@ -50,10 +51,10 @@ rows-read = refl
 -- 2 and 16 cells, with a handler, and with a right to see
 pub cell-counts : (readSheet (rowed 2 []) ≡ got (sheet [] (bare (row 2 1 []) ∷ [])) []) × (readSheet (rowed 16 []) ≡ got (sheet [] (bare (row 16 1 []) ∷ [])) [])
     × (readSheet (events 1 (rowed 3 (first ++ seen 2))) ≡ got (sheet (plain 0 ∷ []) (entry (row 3 1 (clause 0 immediate (literal 1) ∷ [])) (some 2) ∷ [])) [])
-unfolding readSheet eventsAt behavioursAt handlersAt handles exprAt fieldAt cellCount
+unfolding readSheet many handles exprAt fieldAt getAt cellCount
 cell-counts = (refl, refl, refl)
 
 -- four rows of 16
 pub full-rows : readSheet (rowed 16 [] ++ (rowed 16 [] ++ (rowed 16 [] ++ rowed 16 []))) ≡ got (sheet [] (bare (row 16 1 []) ∷ bare (row 16 1 []) ∷ bare (row 16 1 []) ∷ bare (row 16 1 []) ∷ [])) []
-unfolding readSheet eventsAt behavioursAt handlersAt handles exprAt fieldAt cellCount
+unfolding readSheet many handles exprAt fieldAt getAt cellCount
 full-rows = refl
