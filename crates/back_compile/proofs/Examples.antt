@@ -10,7 +10,7 @@ use Rattle.spec_language.specs.Syntax.{immediate, later}
 use Rattle.spec_language.specs.Order.{upTo}
 use Rattle.spec_language.specs.Sheet.{literal, clause, formula, row, Sheet, cellCount, heads, renameTerm, entriesOut, rowsOut, changeClauses}
 use Rattle.spec_language.specs.Grammar.{encodeExpr, encodeHandlers, encodeBehaviours, encodeEvents, encode}
-use Rattle.spec_language.specs.Reading.{Got, bad, got, fieldAt, many, exprAt, handles, sheet, readSheet}
+use Rattle.spec_language.specs.Reading.{Got, bad, got, fieldAt, readAll, exprAt, handles, sheet, readSheet}
 use Rattle.spec_grammar.proofs.Examples.{plain, bare, nots}
 use Rattle.back_compile.specs.Verdict.{compiled, judgeRead, compileOn}
 use Rattle.back_compile.specs.Statements.{RowsFit}
@@ -34,7 +34,7 @@ abbrev deep : Sheet
 deep = sheet (plain 0 ∷ []) (bare (row 2 1 []) ∷ bare (formula (nots 16 (literal 1))) ∷ [])
 
 deep-read : (readSheet (encode deep) ≡ bad 9) × (readSheet (encode (rowsOut deep)) ≡ bad 9)
-unfolding entriesOut flatMap heads renameTerm changeClauses upTo encode encodeEvents encodeBehaviours encodeHandlers encodeExpr readSheet many handles exprAt fieldAt getAt cellCount
+unfolding entriesOut flatMap heads renameTerm changeClauses upTo encode encodeEvents encodeBehaviours encodeHandlers encodeExpr readSheet readAll handles exprAt fieldAt getAt cellCount
 deep-read = (refl, refl)
 
 deep-lengths : (length (encode deep) ≡ 89) × (length (encode (rowsOut deep)) ≡ 98)
@@ -59,7 +59,7 @@ abbrev behind : Sheet
 behind = sheet [] (replicate 64 (bare (formula (literal 1))) ++ (bare (row 17 1 []) ∷ []))
 
 pub behind-alike : (readSheet (encode behind) ≡ bad 7) × (readSheet (encode (rowsOut behind)) ≡ bad 7)
-unfolding entriesOut flatMap heads renameTerm changeClauses upTo encode encodeEvents encodeBehaviours encodeHandlers encodeExpr readSheet many handles exprAt fieldAt getAt cellCount
+unfolding entriesOut flatMap heads renameTerm changeClauses upTo encode encodeEvents encodeBehaviours encodeHandlers encodeExpr readSheet readAll handles exprAt fieldAt getAt cellCount
 behind-alike = (refl, refl)
 
 -- ---- what is asked of rows is needed: only the second cell of a row is the 65th behaviour, and its handlers are
@@ -72,5 +72,5 @@ abbrev wide : Sheet
 wide = sheet [] (bare (row 17 1 []) ∷ [])
 
 pub needed : (readSheet (encode past) ≡ bad 7) × (readSheet (encode (rowsOut past)) ≡ bad 10) × (readSheet (encode wide) ≡ bad 8) × (readSheet (encode (rowsOut wide)) ≡ got (rowsOut wide) [])
-unfolding entriesOut flatMap heads renameTerm changeClauses upTo encode encodeEvents encodeBehaviours encodeHandlers encodeExpr readSheet many handles exprAt fieldAt getAt cellCount
+unfolding entriesOut flatMap heads renameTerm changeClauses upTo encode encodeEvents encodeBehaviours encodeHandlers encodeExpr readSheet readAll handles exprAt fieldAt getAt cellCount
 needed = (refl, refl, refl, refl)

@@ -20,7 +20,7 @@ use Rattle.spec_language.specs.Sheet.{Term, Clause, Item, formula, state, row, 
 use Rattle.spec_language.specs.Dependence.{handled}
 use Rattle.spec_language.specs.Code.{sizeOf}
 use Rattle.spec_language.specs.Refusals.{offScale, crowded}
-use Rattle.spec_language.specs.Reading.{Got, bad, got, then, sized, byteIn, many, exprAt, handlerAt, entry, endingIn, activeAs, behaviourIn, behaviourAt}
+use Rattle.spec_language.specs.Reading.{Got, bad, got, then, sized, filling, byteIn, readAll, exprAt, handlerIn, entry, endingIn, activeAs, behaviourIn, dueAt}
 use Rattle.spec_grammar.proofs.Handlers.{stops}
 use Rattle.spec_grammar.proofs.Behaviours.{behaviourTag}
 use Rattle.front_field.specs.Field.{stated}
@@ -118,6 +118,9 @@ module _ (events i : ℕ) (d : List ℕ) (n : ℕ) (few : events ≤ 32) (low : 
   abbrev Same : Got Entry → Out → Type 0
   Same = SameBehaviour i count s size d n
 
+  abbrev Filled : Got Entry → Out → Type 0
+  Filled g o = Same (filling g r) o
+
   module _ (v : List ℕ) (full : length v + 3 ≡ size) (one : count ≡ 1) where
     -- ---- a passive
 
@@ -146,7 +149,7 @@ module _ (events i : ℕ) (d : List ℕ) (n : ℕ) (few : events ≤ 32) (low : 
         )
 
     passive-on : (g : Got Term) (o : Out) → SameExpr v (span v) d n g o
-        → Same (then g (λ x left. endingIn (formula x) left r))
+        → Same (filling (then g (λ x left. endingIn (formula x) left)) r)
         (goOnAfter (o .0) (o .1) (λ z m. endingOf (restFrom z v) i (set (o .1) (4096 + i) (draft.packedEntry 1 n (m - n))) (length v + 3) m))
     passive-on (bad k) o e = rw e refl
     passive-on (got x l) o h =
@@ -163,7 +166,7 @@ module _ (events i : ℕ) (d : List ℕ) (n : ℕ) (few : events ≤ 32) (low : 
         ))
         (drop (span v) v))
 
-    passive-value : Same (then (exprAt 16 v) (λ x left. endingIn (formula x) left r)) (passiveOf v i d n)
+    passive-value : Same (filling (then (exprAt 16 v) (λ x left. endingIn (formula x) left)) r) (passiveOf v i d n)
     unfolding passiveOf
     passive-value = passive-on (exprAt 16 v) (exprOf 16 v d n) (same-expr 16 v d n)
 
@@ -186,7 +189,7 @@ module _ (events i : ℕ) (d : List ℕ) (n : ℕ) (few : events ≤ 32) (low : 
     }
 
     active-end : (w : ℕ) (g : Got (List Clause)) (o : Out) → SameHandlers i w d n v (n * 4 + length v) g o
-        → P (then g (λ hs over. endingIn (make w hs) over r)) (goOnAfter (o .0) (o .1) (λ at m. endingOf (restFrom at v) i (o .1) (length v + 3) m))
+        → P (filling (then g (λ hs over. endingIn (make w hs) over)) r) (goOnAfter (o .0) (o .1) (λ at m. endingOf (restFrom at v) i (o .1) (length v + 3) m))
     active-end w (bad k) o e = rw e (bads k (out (Fault k) (o .1)) refl)
     active-end w (got hs over) o h =
         let t = h .5 in
@@ -195,31 +198,35 @@ module _ (events i : ℕ) (d : List ℕ) (n : ℕ) (few : events ≤ 32) (low : 
         (λ x. gots w hs x (o .1) (h .2) (h .4) (t .long, t .frame, t .grown, t .pool, (t .body, t .start, t .rows))) (drop (h .0) v))
 
     active-on : (w : ℕ) (left : List ℕ) → left ≡ drop 7 v → 7 ≤ length v
-        → P (then (many stops (handlerAt events) (suc (length left)) [] left) (λ hs over. endingIn (make w hs) over r)) (activeBody v events i (set d (4160 + i) w) n)
+        → P (filling (then (readAll stops (handlerIn events) (suc (length left)) [] left) (λ hs over. endingIn (make w hs) over)) r) (activeBody v events i (set d (4160 + i) w) n)
     unfolding activeBody
     active-on w left e h =
         let q : length (drop 7 v) ≡ length v - 7 = length-drop 7 v in
         rw e
-        (active-end w (many stops (handlerAt events) (suc (length (drop 7 v))) [] (drop 7 v)) (handlersOf (length v) v 7 events i (set d (4160 + i) w) n)
+        (active-end w (readAll stops (handlerIn events) (suc (length (drop 7 v))) [] (drop 7 v)) (handlersOf (length v) v 7 events i (set d (4160 + i) w) n)
         (same-handlers events i w d n v (n * 4 + length v) few low (omega arith) (suc (length (drop 7 v))) (length v) 7 [] (set d (4160 + i) w) n
         (h, omega arith, no-handlers w) (omega arith) (omega arith)))
 
+    -- with the start and what follows it
+    abbrev Started : Got ℕ → Out → Type 0
+    Started g o = P (filling (then g (λ w left. then (readAll stops (handlerIn events) (suc (length left)) [] left) (λ hs over. endingIn (make w hs) over))) r) o
+
     start-value : (u left : List ℕ) (z : ℕ) → length u ≡ z → left ≡ drop (z + 3) v → z + 3 ≤ length v
-        → P (sized 4 u (then (many stops (handlerAt events) (suc (length left)) [] left) (λ hs over. endingIn (make (getAt u 0) hs) over r)))
-        (pick (eqb z 4) (activeBody v events i (set d (4160 + i) (getAt u 0)) n) (out (Fault 6) d))
+        → Started (filling (sized 4 u (got (getAt u 0) [])) left) (pick (eqb z 4) (activeBody v events i (set d (4160 + i) (getAt u 0)) n) (out (Fault 6) d))
     start-value u left z q e h =
         rw q
-        (by-two P (eqb z 4) (λ c. let p : z + 3 ≡ 7 = omega (arith, eqb-true z 4 c) in active-on (getAt u 0) left (e ∙ rw p) (omega arith))
+        (by-two (λ (g : Got ℕ) (o : Out). Started (filling g left) o) (eqb z 4)
+        (λ c. let p : z + 3 ≡ 7 = omega (arith, eqb-true z 4 c) in active-on (getAt u 0) left (e ∙ rw p) (omega arith))
         (λ c. bads 6 (out (Fault 6) d) refl))
 
-    active-value : P (activeAs make events v r) (activeOf v events i d n)
+    active-value : P (filling (activeAs make events v) r) (activeOf v events i d n)
     unfolding activeOf
     active-value =
-        same-field P (eqb 4) 4 4 v _ (λ f w. activeFrom f w v events i d n) (one-tag 4 (getD v 0 0)) (λ k. bads k (out (Fault k) d) refl)
+        same-field Started (eqb 4) 4 4 v (λ t w. sized 4 w (got (getAt w 0) [])) (λ f w. activeFrom f w v events i d n) (one-tag 4 (getD v 0 0)) (λ k. bads k (out (Fault k) d) refl)
         (λ fits due. start-value (valueIn v) (drop (span v) v) (stated v) (omega (arith, value-length v fits)) refl fits)
 
   module _ (v : List ℕ) (full : length v + 3 ≡ size) where
-    active-same : count ≡ 1 → Same (activeAs state events v r) (activeOf v events i d n)
+    active-same : count ≡ 1 → Same (filling (activeAs state events v) r) (activeOf v events i d n)
     active-same one =
         active-value state Same v (omega arith) (λ k o e. e)
         (λ w hs x d₁ m h p. (after, fits, m, rw full, omega arith, part-ended i n d d₁ m (state w hs) low (omega arith) p x, one))
@@ -230,7 +237,7 @@ module _ (events i : ℕ) (d : List ℕ) (n : ℕ) (few : events ≤ 32) (low : 
     abbrev SameCells : Got Entry → Out → Type 0
     SameCells g o = Same g (goOnAfter (o .0) (o .1) (λ z m. out (Done (z + 1) m) (rowCopied (o .1) i c)))
 
-    cells-same : Same (activeAs (row c) events v r) (cellsOf v c events i d n)
+    cells-same : Same (filling (activeAs (row c) events v) r) (cellsOf v c events i d n)
     unfolding cellsOf
     cells-same =
         active-value (row c) SameCells v (omega arith) (λ k o e. rw e refl)
@@ -239,24 +246,24 @@ module _ (events i : ℕ) (d : List ℕ) (n : ℕ) (few : events ≤ 32) (low : 
         (after, fits, m, rw q, omega arith, (some, within, set d₁ (viewer i) (allowed x), part-ended i n d d₁ m (state w hs) low (omega arith) p x, refl), is))
 
   row-same : (v : List ℕ) → length v + 3 ≡ size → ((c : ℕ) (u : List ℕ) → v ≡ c ∷ u → count ≡ c)
-      → Same (byteIn v (λ c w. pick (ltb c 2 || ltb 16 c) (bad offScale) (pick (ltb 64 (i + c)) (bad crowded) (activeAs (row c) events w r)))) (rowOf v events i d n)
+      → Filled (byteIn v (λ c w. pick (ltb c 2 || ltb 16 c) (bad offScale) (pick (ltb 64 (i + c)) (bad crowded) (activeAs (row c) events w)))) (rowOf v events i d n)
   unfolding rowOf
   row-same [] full is = refl
   row-same (c ∷ v) full is =
       rw (eqb·suc-zero (length v))
-      (by-either Same (ltb c 2) (ltb 16 c) refl
-      (λ e a. by-two Same (ltb 64 (i + c)) (λ b. refl)
+      (by-either Filled (ltb c 2) (ltb 16 c) refl
+      (λ e a. by-two Filled (ltb 64 (i + c)) (λ b. refl)
       (λ b. rw (rest-drop 1 (c ∷ v)) (cells-same c v (omega arith) (is c v refl) (omega (arith, ltb-false c 2 e)) (ltb-false 64 (i + c) b)))))
 
   -- ---- either
 
   pub value-same : (t : ℕ) (v : List ℕ) → length v + 3 ≡ size → (t ≢ 6 → count ≡ 1) → (t ≡ 6 → (c : ℕ) (u : List ℕ) → v ≡ c ∷ u → count ≡ c)
-      → Same (behaviourIn events i t v r) (valueAt t v events i d n)
+      → Filled (behaviourIn events i t v) (valueAt t v events i d n)
   unfolding valueAt
   value-same t v full one is =
       rw (lt-leb 64 i low)
-      (by-two Same (eqb t 2) (λ e. passive-value v full (one (λ z. omega (arith, eqb-true t 2 e))))
-      (λ e. by-two Same (eqb t 6) (λ b. row-same v full (is (eqb-true t 6 b))) (λ b. active-same v full (one (eqb-false t 6 b)))))
+      (by-two Filled (eqb t 2) (λ e. passive-value v full (one (λ z. omega (arith, eqb-true t 2 e))))
+      (λ e. by-two Filled (eqb t 6) (λ b. row-same v full (is (eqb-true t 6 b))) (λ b. active-same v full (one (eqb-false t 6 b)))))
 
 -- ---- behaviour i at the front of s
 
@@ -295,16 +302,16 @@ module _ (rs : List Signal) (i : ℕ) (d : List ℕ) (n : ℕ) (few : length rs 
 
   -- a field with tag t, whatever tags were due
   tagged : (t : ℕ) (r : List ℕ) → i < 64 → r ≡ drop (span s) s → span s ≤ length s → t ≡ getD s 0 0
-      → SameHere (behaviourIn (length rs) i t (valueIn s) r) (valueAt t (valueIn s) (length rs) i d n)
+      → SameHere (filling (behaviourIn (length rs) i t (valueIn s)) r) (valueAt t (valueIn s) (length rs) i d n)
   tagged t r low after fits q =
       value-same (length rs) i d n few low long (blank low) s (span s) (omega arith) r after fits (cellsAt s) t (valueIn s) (value-length s fits)
       (λ z. cells-one s (λ y. z (q ∙ y))) (λ z. cells-many s fits (sym q ∙ z))
 
-  pub same-behaviour : (bs : List Entry) → cellCount bs ≡ i → SameHere (behaviourAt (length rs) bs s) (behaviourOf s (length rs) i d n)
+  pub same-behaviour : (bs : List Entry) → cellCount bs ≡ i → SameHere (dueAt (length rs) bs s) (behaviourOf s (length rs) i d n)
   unfolding behaviourOf
   same-behaviour bs q =
       same-field SameHere behaviourTag (leastOf s 2) (mostOf s) s _ (λ f v. behaviourFrom f v (length rs) i d n) (tags-due s) (λ k. refl)
       (λ fits due. rw q
-      (by-test (λ (g : Got Entry). SameHere g (valueAt (getD s 0 0) (valueIn s) (length rs) i d n)) (leb 64 i)
+      (by-test (λ (g : Got Entry). SameHere (filling g (drop (span s) s)) (valueAt (getD s 0 0) (valueIn s) (length rs) i d n)) (leb 64 i)
       (λ e. no-room (getD s 0 0) (valueIn s) e)
       (λ e. tagged (getD s 0 0) (drop (span s) s) (leb-false 64 i e) refl fits refl)))

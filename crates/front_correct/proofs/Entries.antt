@@ -17,7 +17,7 @@ use Rattle.spec_language.specs.Syntax.{Expr, Phase, immediate, later, Handler}
 use Rattle.spec_language.specs.Sheet.{Term, Clause, clause, fillClauses}
 use Rattle.spec_language.specs.Dependence.{Response, follows, takes, defers, keeps, inPhase, handled}
 use Rattle.spec_language.specs.Code.{sizeOf}
-use Rattle.spec_language.specs.Reading.{Got, bad, got, then, sized, exprAt, handles}
+use Rattle.spec_language.specs.Reading.{Got, bad, got, then, filling, exprAt, handles}
 use Rattle.spec_language.proofs.Laws.{handled-here, handled-there}
 use Rattle.front_field.specs.Expression.{Out, out, goOnAfter, exprOf}
 use Rattle.front_field.specs.declared.Read.the-variants.{Done, Fault}
@@ -35,12 +35,12 @@ pub same-entry : {A : Type 0} (P : Got A → Out → Type 0) (F : Term → A) (v
     → ((k : ℕ) (o : Out) → o .0 ≡ Fault k → P (bad k) o)
     → ((x : Term) → sizeOf (raw x) * 4 ≤ length v
     → P (got (F x) r) (out (Done (length v + over) (n + sizeOf (raw x))) (set (sets d n (nodes (raw x))) place (packedEntry kind n (sizeOf (raw x))))))
-    → P (then (exprAt 16 v) (λ x left. sized 0 left (got (F x) r))) (entryAt v d n place kind over)
+    → P (filling (then (exprAt 16 v) (λ x left. got (F x) left)) r) (entryAt v d n place kind over)
 unfolding entryAt
 same-entry P F v r d n place kind over bads gots = go (exprAt 16 v) (exprOf 16 v d n) (same-expr 16 v d n)
   where
     go : (g : Got Term) (o : Out) → SameExpr v (span v) d n g o
-        → P (then g (λ x left. sized 0 left (got (F x) r)))
+        → P (filling (then g (λ x left. got (F x) left)) r)
         (goOnAfter (o .0) (o .1)
         (λ size m. pick (eqb size (length v)) (out (Done (size + over) m) (set (o .1) place (packedEntry kind n (m - n)))) (out (Fault 6) (o .1))))
     go (bad k) o e = rw e (bads k (out (Fault k) (o .1)) refl)

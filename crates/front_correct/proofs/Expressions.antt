@@ -17,7 +17,7 @@ use Rattle.spec_language.specs.Syntax.{Expr}
 use Rattle.spec_language.specs.Sheet.{Term, literal, variable, param, apply1, apply2, apply3, fillTerm}
 use Rattle.spec_language.specs.Code.{sizeOf}
 use Rattle.spec_language.specs.Refusals.{offScale}
-use Rattle.spec_language.specs.Reading.{Got, bad, got, then, sized, byteIn, argsOf, termOf, isTerm, exprAt}
+use Rattle.spec_language.specs.Reading.{Got, bad, got, then, sized, filling, byteIn, argsOf, termIn, isTerm, exprAt}
 use Rattle.front_field.specs.Expression.{headAt, headFrom, headOf, Out, out, goOnAfter, readArguments, closeAt, readBody, exprOf}
 use Rattle.front_field.specs.declared.Head.{Head}
 use Rattle.front_field.specs.declared.Head.the-variants.{Leaf, Apply, NoHead}
@@ -58,9 +58,9 @@ module _ (arg : List ℕ → Got Term) (rd : List ℕ → List ℕ → ℕ → O
 
     -- one argument, from `at` on
     step-on : (k at : ℕ) (d : List ℕ) (m : ℕ) (F : Term → List ℕ → Got Term) → at ≤ length v
-        → ((a : Term) (next : ℕ) → next ≤ length v → at + sizeOf (raw a) * 4 ≤ next → Same (F a (drop next v)) (close (readArguments rd k v next (sets d m (nodes (raw a))) (m + sizeOf (raw a)))))
+        → ((a : Term) (next : ℕ) → next ≤ length v → at + sizeOf (raw a) * 4 ≤ next → Same (filling (F a (drop next v)) r) (close (readArguments rd k v next (sets d m (nodes (raw a))) (m + sizeOf (raw a)))))
         → (g : Got Term) (o : Out) → SameExpr (drop at v) (span (drop at v)) d m g o
-        → Same (then g F) (close (goOnAfter (o .0) (o .1) (λ size m. readArguments rd k v (at + size) (o .1) m)))
+        → Same (filling (then g F) r) (close (goOnAfter (o .0) (o .1) (λ size m. readArguments rd k v (at + size) (o .1) m)))
     step-on k at d m F h go (bad j) o e = rw e refl
     step-on k at d m F h go (got a u) o e =
         let q : length (drop at v) ≡ length v - at = length-drop at v in
@@ -68,8 +68,8 @@ module _ (arg : List ℕ → Got Term) (rd : List ℕ → List ℕ → ℕ → O
         rw (e .3, p) (go a (at + span (drop at v)) (omega arith) (omega arith))
 
     step : (k at : ℕ) (d : List ℕ) (m : ℕ) (F : Term → List ℕ → Got Term) → at ≤ length v
-        → ((a : Term) (next : ℕ) → next ≤ length v → at + sizeOf (raw a) * 4 ≤ next → Same (F a (drop next v)) (close (readArguments rd k v next (sets d m (nodes (raw a))) (m + sizeOf (raw a)))))
-        → Same (then (arg (drop at v)) F) (close (readArguments rd (suc k) v at d m))
+        → ((a : Term) (next : ℕ) → next ≤ length v → at + sizeOf (raw a) * 4 ≤ next → Same (filling (F a (drop next v)) r) (close (readArguments rd k v next (sets d m (nodes (raw a))) (m + sizeOf (raw a)))))
+        → Same (filling (then (arg (drop at v)) F) r) (close (readArguments rd (suc k) v at d m))
     unfolding readArguments
     step k at d m F h go = rw (rest-drop at v) (step-on k at d m F h go (arg (drop at v)) (rd (drop at v) d m) (ih (drop at v) d m))
 
@@ -82,7 +82,7 @@ module _ (arg : List ℕ → Got Term) (rd : List ℕ → List ℕ → ℕ → O
         whole-at Same (got x r) v at _ _ h (λ e. (after, fits, omega arith, (let q : at + 3 ≡ size = omega arith in rw (q, count, same)))) refl
 
   module _ (f : ℕ) (w : List ℕ) (full : length (f ∷ w) + 3 ≡ size) where
-    one-arg : eqb f 3 ≡ true → Same (argsOf arg f w r) (readBody rd (Apply f) (f ∷ w) d₀ n₀)
+    one-arg : eqb f 3 ≡ true → Same (filling (argsOf arg f w) r) (readBody rd (Apply f) (f ∷ w) d₀ n₀)
     unfolding arity fillTerm nodes sizeOf
     one-arg e =
         let q : arity f ≡ 1 = rw e in
@@ -91,7 +91,7 @@ module _ (arg : List ℕ → Got Term) (rd : List ℕ → List ℕ → ℕ → O
         (λ a i h k. rw e (end f (f ∷ w) full i (sets d₀ n₀ (nodes (raw a))) (n₀ + sizeOf (raw a)) (apply1 f a) h (omega arith) (omega arith)
         (sym (sets-nodes (raw a) d₀ n₀ ((77309411328 + f) ∷ []))))))
 
-    two-args : eqb f 3 ≡ false → eqb f 14 ≡ false → Same (argsOf arg f w r) (readBody rd (Apply f) (f ∷ w) d₀ n₀)
+    two-args : eqb f 3 ≡ false → eqb f 14 ≡ false → Same (filling (argsOf arg f w) r) (readBody rd (Apply f) (f ∷ w) d₀ n₀)
     unfolding arity fillTerm nodes sizeOf
     two-args e c =
         let q : arity f ≡ 2 = rw (e, c) in
@@ -101,7 +101,7 @@ module _ (arg : List ℕ → Got Term) (rd : List ℕ → List ℕ → ℕ → O
         (λ b j h₁ k₁. rw c (end f (f ∷ w) full j (sets (sets d₀ n₀ (nodes (raw a))) (n₀ + sizeOf (raw a)) (nodes (raw b))) (n₀ + sizeOf (raw a) + sizeOf (raw b)) (apply2 f a b) h₁ (omega arith) (omega arith)
         (sym (sets-nodes (raw a) d₀ n₀ (nodes (raw b) ++ ((77309411328 + f) ∷ [])) ∙ sets-nodes (raw b) (sets d₀ n₀ (nodes (raw a))) (n₀ + sizeOf (raw a)) ((77309411328 + f) ∷ []))))))))
 
-    three-args : eqb f 3 ≡ false → eqb f 14 ≡ true → Same (argsOf arg f w r) (readBody rd (Apply f) (f ∷ w) d₀ n₀)
+    three-args : eqb f 3 ≡ false → eqb f 14 ≡ true → Same (filling (argsOf arg f w) r) (readBody rd (Apply f) (f ∷ w) d₀ n₀)
     unfolding arity fillTerm nodes sizeOf
     three-args e c =
         let q : arity f ≡ 3 = rw (e, c) in
@@ -115,38 +115,38 @@ module _ (arg : List ℕ → Got Term) (rd : List ℕ → List ℕ → ℕ → O
         ∙ sets-nodes (raw b) (sets d₀ n₀ (nodes (raw a))) (n₀ + sizeOf (raw a)) (nodes (raw x) ++ ((77309411328 + f) ∷ []))
         ∙ sets-nodes (raw x) (sets (sets d₀ n₀ (nodes (raw a))) (n₀ + sizeOf (raw a)) (nodes (raw b))) (n₀ + sizeOf (raw a) + sizeOf (raw b)) ((77309411328 + f) ∷ [])))))))))
 
-    args : Same (argsOf arg f w r) (readBody rd (Apply f) (f ∷ w) d₀ n₀)
+    args : Same (filling (argsOf arg f w) r) (readBody rd (Apply f) (f ∷ w) d₀ n₀)
     args = split (eqb f 3) one-arg (λ e. split (eqb f 14) (three-args e) (two-args e))
 
   -- by the tag, with the value w
   abbrev Begins : List ℕ → Got Term → Head → Type 0
-  Begins w g h = Same g (readBody rd h w d₀ n₀)
+  Begins w g h = Same (filling g r) (readBody rd h w d₀ n₀)
 
   -- a leaf of a fixed length
   leaf-begins : (w : List ℕ) (g : Got Term) (h : Head) (z : ℕ) → (length w ≡ z → Begins w g h) → Begins w (sized z w g) (pick (eqb (length w) z) h (NoHead 6))
   leaf-begins w g h z good = by-two (Begins w) (eqb (length w) z) (λ e. good (eqb-true (length w) z e)) (λ e. refl)
 
-  leaf : (w : List ℕ) (x : Term) (node z : ℕ) → length w + 3 ≡ size → length w ≡ z → sizeOf (raw x) ≡ 1 → nodes (raw x) ≡ node ∷ [] → 1 ≤ z → Begins w (got x r) (Leaf node (z + 3))
+  leaf : (w : List ℕ) (x : Term) (node z : ℕ) → length w + 3 ≡ size → length w ≡ z → sizeOf (raw x) ≡ 1 → nodes (raw x) ≡ node ∷ [] → 1 ≤ z → Begins w (got x []) (Leaf node (z + 3))
   leaf w x node z full e one is some =
       let q : z + 3 ≡ size = omega arith in
       rw (one, is, q) (after, fits, omega arith, refl)
 
   app-begins : (w : List ℕ) → length w + 3 ≡ size
-      → Begins w (byteIn w (λ f u. pick (eqb f 0 || ltb 14 f) (bad offScale) (argsOf arg f u r)))
+      → Begins w (byteIn w (λ f u. pick (eqb f 0 || ltb 14 f) (bad offScale) (argsOf arg f u)))
       (pick (eqb (length w) 0) (NoHead 6) (pick (eqb (getD w 0 0) 0) (NoHead 8) (pick (ltb 14 (getD w 0 0)) (NoHead 8) (Apply (getD w 0 0)))))
   app-begins [] full = refl
   app-begins (f ∷ w) full =
       rw (eqb·suc-zero (length w)) (by-either (Begins (f ∷ w)) (eqb f 0) (ltb 14 f) refl (λ e c. args f w full))
 
-  begins : (left t : ℕ) (w : List ℕ) → length w + 3 ≡ size → Begins w (termOf arg t w r) (headAt (suc left) t w)
+  begins : (left t : ℕ) (w : List ℕ) → length w + 3 ≡ size → Begins w (termIn arg t w) (headAt (suc left) t w)
   unfolding headAt fillTerm nodes sizeOf
   begins left t w full =
       rw (eqb·suc-zero left)
       (by-two (Begins w) (eqb t 16)
-      (λ e. leaf-begins w (got (literal (getAt w 0)) r) (Leaf (68719476736 + getAt w 0) 7) 4
+      (λ e. leaf-begins w (got (literal (getAt w 0)) []) (Leaf (68719476736 + getAt w 0) 7) 4
       (λ z. leaf w (literal (getAt w 0)) (68719476736 + getAt w 0) 4 full z refl refl (omega arith)))
       (λ e. by-two (Begins w) (eqb t 17)
-      (λ c. leaf-begins w (got (variable (getD w 0 0)) r) (Leaf (73014444032 + getD w 0 0) 4) 1
+      (λ c. leaf-begins w (got (variable (getD w 0 0)) []) (Leaf (73014444032 + getD w 0 0) 4) 1
       (λ z. leaf w (variable (getD w 0 0)) (73014444032 + getD w 0 0) 1 full z refl refl (omega arith)))
       (λ c. by-two (Begins w) (eqb t 19)
       (λ b. leaf-begins w _ _ 1
@@ -161,5 +161,5 @@ unfolding exprAt exprOf headOf headAt
 same-expr zero s d n =
     same-field (SameExpr s (span s) d n) isTerm 16 19 s _ (λ f v. readBody (λ s′ p m. (Fault 9, p)) (headFrom 0 f v) v d n) (term-tag (getD s 0 0)) (λ k. refl) (λ fits due. refl)
 same-expr (suc left) s d n =
-    same-field (SameExpr s (span s) d n) isTerm 16 19 s (termOf (exprAt left)) (λ f v. readBody (exprOf left) (headFrom (suc left) f v) v d n) (term-tag (getD s 0 0)) (λ k. refl)
+    same-field (SameExpr s (span s) d n) isTerm 16 19 s (termIn (exprAt left)) (λ f v. readBody (exprOf left) (headFrom (suc left) f v) v d n) (term-tag (getD s 0 0)) (λ k. refl)
     (λ fits due. begins (exprAt left) (exprOf left) (same-expr left) s (span s) d n (drop (span s) s) refl fits left (getD s 0 0) (valueIn s) (value-length s fits))

@@ -12,7 +12,7 @@ use borrow.Author.Tests.{ltb-true, ltb-false, lt-ltb, le-ltb, lt-leb, le-leb, eq
 use Rattle.lib_base.specs.Basics.{pick}
 use Rattle.lib_base.proofs.Tools.{split, by-two}
 use Rattle.spec_language.specs.Refusals.{wrongLength}
-use Rattle.spec_language.specs.Reading.{Got, bad, got, fieldAt, sized, isTerm}
+use Rattle.spec_language.specs.Reading.{Got, bad, sized, filling, fieldAt, isTerm}
 use Rattle.spec_grammar.proofs.Handlers.{stops}
 use Rattle.front_field.specs.Field.{stated, fieldOf, partOf}
 use Rattle.front_field.specs.Expression.{restFrom}
@@ -60,8 +60,8 @@ length-test s n h =
 
 -- to prove P of both where a field is due: of each fault, and of what both make of the field at the front of s
 pub same-field : {A B : Type 0} (P : Got A → B → Type 0) (due : ℕ → Bool) (lo hi : ℕ) (s : List ℕ)
-    (f : ℕ → List ℕ → List ℕ → Got A) (g : Field → List ℕ → B) → due (getD s 0 0) ≡ between lo hi (getD s 0 0) → ((k : ℕ) → P (bad k) (g (Refused k) []))
-    → (span s ≤ length s → due (getD s 0 0) ≡ true → P (f (getD s 0 0) (valueIn s) (drop (span s) s)) (g (Value (getD s 0 0) (stated s)) (valueIn s)))
+    (f : ℕ → List ℕ → Got A) (g : Field → List ℕ → B) → due (getD s 0 0) ≡ between lo hi (getD s 0 0) → ((k : ℕ) → P (bad k) (g (Refused k) []))
+    → (span s ≤ length s → due (getD s 0 0) ≡ true → P (filling (f (getD s 0 0) (valueIn s)) (drop (span s) s)) (g (Value (getD s 0 0) (stated s)) (valueIn s)))
     → P (fieldAt due s f) (g (fieldOf s lo hi) (partOf s (fieldOf s lo hi)))
 unfolding fieldAt fieldOf
 same-field P due lo hi s f g same bads goods =

@@ -18,8 +18,7 @@ use Rattle.spec_language.specs.Sheet.{Term, Clause, clause, fillClauses}
 use Rattle.spec_language.specs.Dependence.{handled, inPhase}
 use Rattle.spec_language.specs.Code.{sizeOf}
 use Rattle.spec_language.specs.Refusals.{offScale, doubled}
-use Rattle.spec_language.specs.Reading as tree
-use Rattle.spec_language.specs.Reading.{Got, bad, got, then, sized, byteIn, many, exprAt, handles, phaseOf}
+use Rattle.spec_language.specs.Reading.{Got, bad, got, then, filling, byteIn, readAll, exprAt, handles, phaseOf, handlerIn}
 use Rattle.spec_grammar.proofs.Handlers.{stops}
 use Rattle.front_field.specs.Expression.{Out, out, restFrom, goOnAfter}
 use Rattle.front_field.specs.declared.Read.the-variants.{Done, Fault}
@@ -53,19 +52,22 @@ module _ (events : ℕ) (hs : List Clause) (i : ℕ) (d : List ℕ) (n : ℕ)
     abbrev Same : Got Clause → Out → Type 0
     Same = SameHandler events hs i s size d n
 
+    abbrev Filled : Got Clause → Out → Type 0
+    Filled g o = Same (filling g r) o
+
     handler-value : (v : List ℕ) → length v + 3 ≡ size
-        → Same (byteIn v (λ e v₁. pick (leb events e) (bad offScale)
+        → Filled (byteIn v (λ e v₁. pick (leb events e) (bad offScale)
         (byteIn v₁ (λ φ v₂. pick (ltb 1 φ) (bad offScale)
         (pick (handles e hs) (bad doubled)
-        (then (exprAt 16 v₂) (λ x left. sized 0 left (got (clause e (phaseOf φ) x) r)))))))) (handlerAt v events i d n)
+        (then (exprAt 16 v₂) (λ x left. got (clause e (phaseOf φ) x) left))))))) (handlerAt v events i d n)
     unfolding handlerAt
     handler-value [] full = refl
-    handler-value (e ∷ []) full = by-two Same (leb events e) (λ c. refl) (λ c. refl)
+    handler-value (e ∷ []) full = by-two Filled (leb events e) (λ c. refl) (λ c. refl)
     handler-value (e ∷ (φ ∷ v)) full =
         let q : restFrom 2 (e ∷ (φ ∷ v)) ≡ v = rest-drop 2 (e ∷ (φ ∷ v)) in
         rw (eqb·suc-zero (suc (length v)), ne-eqb (length (e ∷ (φ ∷ v))) 1 (omega arith))
-        (by-two Same (leb events e) (λ c. refl)
-        (λ c. by-two Same (ltb 1 φ) (λ b. refl)
+        (by-two Filled (leb events e) (λ c. refl)
+        (λ c. by-two Filled (ltb 1 φ) (λ b. refl)
         (λ b. split (handles e hs) (λ a. rw (test e (leb-false events e c), a) refl)
         (λ a. rw (test e (leb-false events e c), a, q)
         (same-entry Same (clause e (phaseOf φ)) v r d n (slot i e) (2 + φ) 5 (λ k o h. h)
@@ -73,7 +75,7 @@ module _ (events : ℕ) (hs : List Clause) (i : ℕ) (d : List ℕ) (n : ℕ)
         let p : length v + 5 ≡ size = omega arith in
         (leb-false events e c, a, after, fits, omega arith, rw (p, phase-kind φ (ltb-false 1 φ b)))))))))
 
-  pub same-handler : (s : List ℕ) → SameHandler events hs i s (span s) d n (tree.handlerAt events hs s) (handlerOf s events i d n)
+  pub same-handler : (s : List ℕ) → SameHandler events hs i s (span s) d n (handlerIn events hs s) (handlerOf s events i d n)
   unfolding handlerOf
   same-handler s =
       same-field (SameHandler events hs i s (span s) d n) (eqb 5) 5 5 s _ (λ f v. handlerFrom f v events i d n) (one-tag 5 (getD s 0 0)) (λ k. refl)
@@ -166,9 +168,9 @@ module _ (events i w : ℕ) (d₀ : List ℕ) (n₀ : ℕ) (v : List ℕ) (most 
 
   next : (k l at : ℕ) (hs : List Clause) (d : List ℕ) (n : ℕ) → Due at hs d n
       → ((at′ : ℕ) (hs′ : List Clause) (d′ : List ℕ) (n′ : ℕ) → at < at′ → Due at′ hs′ d′ n′
-      → Both (many stops (tree.handlerAt events) k hs′ (drop at′ v)) (handlersOf l v at′ events i d′ n′))
+      → Both (readAll stops (handlerIn events) k hs′ (drop at′ v)) (handlersOf l v at′ events i d′ n′))
       → (g : Got Clause) (o : Out) → SameHandler events hs i (drop at v) (span (drop at v)) d n g o
-      → Both (then g (λ h r. many stops (tree.handlerAt events) k (hs ++ (h ∷ [])) r)) (goOnAfter (o .0) (o .1) (λ size m. handlersOf l v (at + size) events i (o .1) m))
+      → Both (then g (λ h r. readAll stops (handlerIn events) k (hs ++ (h ∷ [])) r)) (goOnAfter (o .0) (o .1) (λ size m. handlersOf l v (at + size) events i (o .1) m))
   next k l at hs d n t ih (bad j) o e = rw e refl
   next k l at hs d n t ih (got (clause e φ x) r) o h =
       let q : length (drop at v) ≡ length v - at = length-drop at v in
@@ -178,13 +180,13 @@ module _ (events i w : ℕ) (d₀ : List ℕ) (n₀ : ℕ) (v : List ℕ) (most 
       (omega arith, omega arith, turn i w d₀ n₀ low hs d n e φ x (t .2) (omega arith) (omega arith) (h .1)))
 
   pub same-handlers : (k l at : ℕ) (hs : List Clause) (d : List ℕ) (n : ℕ) → Due at hs d n → length v < at + k → length v ≤ at + l
-      → Both (many stops (tree.handlerAt events) k hs (drop at v)) (handlersOf l v at events i d n)
-  unfolding many handlersOf
+      → Both (readAll stops (handlerIn events) k hs (drop at v)) (handlersOf l v at events i d n)
+  unfolding readAll handlersOf
   same-handlers zero l at hs d n t a b = absurd (omega arith)
   same-handlers (suc k) zero at hs d n t a b = ends-test Both at v _ _ _ _ (t .0) (ended at hs d n t) (λ q. absurd (q (omega arith)))
   same-handlers (suc k) (suc l) at hs d n t a b =
       rw (rest-drop at v)
       (ends-test Both at v _ _ _ _ (t .0) (ended at hs d n t)
       (λ e. next k l at hs d n t (λ at′ hs′ d′ n′ h t′. same-handlers k l at′ hs′ d′ n′ t′ (omega arith) (omega arith))
-      (tree.handlerAt events hs (drop at v)) (handlerOf (drop at v) events i d n)
+      (handlerIn events hs (drop at v)) (handlerOf (drop at v) events i d n)
       (same-handler events hs i d n (turn-test hs d n (t .2)) (drop at v))))

@@ -1,6 +1,6 @@
 -- Sheets: both readers find the same fault, or the draft is that of the tree reader's sheet, its parameters not filled
 -- in. By induction on the bounds, of behaviours and of events; either reader's bound suffices, since a field has three
--- bytes. Where no tag 01 follows, the reader by positions looks at the first behaviour's field twice, and finds the same.
+-- bytes. Where no tag 01 follows, the reader by positions looks at a behaviour's field twice, and finds the same.
 use Prim.Native.Nat.{ℕ, zero, suc, _+_, _*_, _-_, _≤_, _<_}
 use mathlib.Core.Bool.{true, false, _||_, false≢true, true≢false}
 use mathlib.Core.Path.{_≡_, refl, sym, ap, subst, _∙_}
@@ -17,7 +17,7 @@ use Rattle.lib_base.proofs.Tools.{split, by-two}
 use Rattle.spec_language.specs.Sheet.{Signal, Entry, Sheet, cells, cellCount, allowed}
 use Rattle.spec_language.proofs.RowLaws.{count-append}
 use Rattle.spec_language.specs.Refusals.{wrongLength, crowded, offScale}
-use Rattle.spec_language.specs.Reading.{Got, bad, got, then, many, behaviourAt, signal, eventAt, sheet, readSheet}
+use Rattle.spec_language.specs.Reading.{Got, bad, got, then, filling, readAll, dueAt, signal, signalIn, sheet, readSheet}
 use Rattle.spec_grammar.proofs.Programs.{atEnd, noEvent}
 use Rattle.front_field.specs.Field.{stated, fieldOf}
 use Rattle.front_field.specs.Expression.{Out}
@@ -76,8 +76,8 @@ module _ (s : List ℕ) (rs : List Signal) where
       ))
 
   pub same-behaviours : (k l at : ℕ) (bs : List Entry) (d : List ℕ) (n : ℕ) → Due at bs d n → length s < at + k → length s ≤ at + l
-      → SameProgram (made (many atEnd (behaviourAt (length rs)) k bs (drop at s))) (behavioursOf l s at (length rs) (cellCount bs) d n)
-  unfolding many behavioursOf
+      → SameProgram (made (readAll atEnd (dueAt (length rs)) k bs (drop at s))) (behavioursOf l s at (length rs) (cellCount bs) d n)
+  unfolding readAll behavioursOf
   same-behaviours zero l at bs d n t a b = absurd (omega arith)
   same-behaviours (suc k) zero at bs d n t a b =
       let e : at ≡ length s = omega arith in
@@ -85,10 +85,10 @@ module _ (s : List ℕ) (rs : List Signal) where
   same-behaviours (suc k) (suc l) at bs d n t a b =
       rw (end-test at s (t .0), rest-drop at s)
       (by-two (λ (g : Got (List Entry)) (o : Finish). SameProgram (made g) o) (eqb at (length s)) (λ e. ended at bs d n t (eqb-true at (length s) e))
-      (λ e. next l at bs d n (λ x r. many atEnd (behaviourAt (length rs)) k (bs ++ (x ∷ [])) r) t
-      (λ at′ x d′ n′ h t′. subst (λ (z : ℕ). SameProgram (made (many atEnd (behaviourAt (length rs)) k (bs ++ (x ∷ [])) (drop at′ s))) (behavioursOf l s at′ (length rs) z d′ n′)) (count-snoc bs x)
+      (λ e. next l at bs d n (λ x r. readAll atEnd (dueAt (length rs)) k (bs ++ (x ∷ [])) r) t
+      (λ at′ x d′ n′ h t′. subst (λ (z : ℕ). SameProgram (made (readAll atEnd (dueAt (length rs)) k (bs ++ (x ∷ [])) (drop at′ s))) (behavioursOf l s at′ (length rs) z d′ n′)) (count-snoc bs x)
       (same-behaviours k l at′ (bs ++ (x ∷ [])) d′ n′ t′ (omega arith) (omega arith)))
-      (behaviourAt (length rs) bs (drop at s)) (behaviourOf (drop at s) (length rs) (cellCount bs) d n)
+      (dueAt (length rs) bs (drop at s)) (behaviourOf (drop at s) (length rs) (cellCount bs) d n)
       (same-behaviour rs (cellCount bs) d n (t .2 .flat .few) (t .2 .flat .long) (λ h. t .2 .flat .blanks (cellCount bs) (omega (arith, length-spread bs)) h) (drop at s) (omega (arith, length-drop at s)) bs refl)))
 
 -- ---- where the events end: at the end, or before a field with another tag
@@ -154,13 +154,13 @@ module _ (s : List ℕ) (small : length s ≤ 8192) where
 
   -- the sheet with these events, and the behaviours after them
   abbrev whole : Got (List Signal) → Got Sheet
-  whole g = then g (λ rs left. made s rs (many atEnd (behaviourAt (length rs)) (suc (length left)) [] left))
+  whole g = then g (λ rs left. made s rs (readAll atEnd (dueAt (length rs)) (suc (length left)) [] left))
 
   module _ (k l at : ℕ) (rs : List Signal) (d : List ℕ) (t : Early at rs d)
-      (ih : (at′ : ℕ) (rs′ : List Signal) (d′ : List ℕ) → at < at′ → Early at′ rs′ d′ → SameProgram (whole (many noEvent eventAt k rs′ (drop at′ s))) (go-on (readEvents l s at′ (length rs′) d′))) where
+      (ih : (at′ : ℕ) (rs′ : List Signal) (d′ : List ℕ) → at < at′ → Early at′ rs′ d′ → SameProgram (whole (readAll noEvent signalIn k rs′ (drop at′ s))) (go-on (readEvents l s at′ (length rs′) d′))) where
     abbrev After : Got Signal → EventRead → Type 0
     After g o =
-        SameProgram (whole (then g (λ r w. many noEvent eventAt k (rs ++ (r ∷ [])) w)))
+        SameProgram (whole (then g (λ r w. readAll noEvent signalIn k (rs ++ (r ∷ [])) w)))
         (go-on (eventNext (o .0) (o .1) at (length rs) (λ size. readEvents l s (at + size) (length rs + 1) (o .1))))
 
     -- the draft with event r after those of rs
@@ -168,39 +168,39 @@ module _ (s : List ℕ) (small : length s ≤ 8192) where
     with r = set (set d (4224 + length rs) (r .priority)) (sender (length rs)) (allowed (r .sender))
 
     declared : (r : Signal) (z : ℕ) (u : List ℕ) → length rs < 32 → u ≡ drop z (drop at s) → 0 < z → at + z ≤ length s
-        → SameProgram (whole (many noEvent eventAt k (rs ++ (r ∷ [])) u)) (go-on (readEvents l s (at + z) (length rs + 1) (with r)))
+        → SameProgram (whole (readAll noEvent signalIn k (rs ++ (r ∷ [])) u)) (go-on (readEvents l s (at + z) (length rs + 1) (with r)))
     declared r z u low e b h =
         let q : u ≡ drop (at + z) s = e ∙ drop-drop z at s in
         let p : length (rs ++ (r ∷ [])) ≡ length rs + 1 = length-append rs (r ∷ []) in
         rw (q, sym p) (ih (at + z) (rs ++ (r ∷ [])) (with r) (omega arith) (h, declare rs r d (t .1) low))
 
     signal-value : (v u : List ℕ) (z : ℕ) → length v + 3 ≡ z → u ≡ drop z (drop at s) → z ≤ length (drop at s) → length rs < 32
-        → After (pick (eqb (length v) 0 || ltb 2 (length v)) (bad wrongLength)
+        → After (filling (pick (eqb (length v) 0 || ltb 2 (length v)) (bad wrongLength)
         (pick (ltb 15 (getD v 0 0)) (bad offScale)
-        (got (signal (getD v 0 0) (pick (eqb (length v) 1) none (some (getD v 1 0)))) u))) (signalAt v (length rs) d)
+        (got (signal (getD v 0 0) (pick (eqb (length v) 1) none (some (getD v 1 0)))) []))) u) (signalAt v (length rs) d)
     unfolding signalAt
     signal-value v u z q e h low =
         let c : length (drop at s) ≡ length s - at = length-drop at s in
-        by-either After (eqb (length v) 0) (ltb 2 (length v)) refl
-        (λ a b. by-two After (ltb 15 (getD v 0 0)) (λ y. refl)
+        by-either (λ (g : Got Signal) (o : EventRead). After (filling g u) o) (eqb (length v) 0) (ltb 2 (length v)) refl
+        (λ a b. by-two (λ (g : Got Signal) (o : EventRead). After (filling g u) o) (ltb 15 (getD v 0 0)) (λ y. refl)
         (λ y. split (eqb (length v) 1)
         (λ x. let p : z ≡ 4 = omega (arith, eqb-true (length v) 1 x) in
         rw x (declared (signal (getD v 0 0) none) 4 u low (e ∙ rw p) (omega arith) (omega arith)))
         (λ x. let p : z ≡ 5 = omega (arith, ltb-false 2 (length v) b, eqb-false (length v) 0 a, eqb-false (length v) 1 x) in
         rw x (declared (signal (getD v 0 0) (some (getD v 1 0))) 5 u low (e ∙ rw p) (omega arith) (omega arith)))))
 
-    event-here : getD (drop at s) 0 0 ≡ 1 → After (eventAt rs (drop at s)) (readEvent (drop at s) (length rs) d)
+    event-here : getD (drop at s) 0 0 ≡ 1 → After (signalIn rs (drop at s)) (readEvent (drop at s) (length rs) d)
     unfolding readEvent priorityAt
     event-here y =
         same-field After (eqb 1) (leastOf (drop at s) 1) (mostOf (drop at s)) (drop at s) _ (λ f v. eventFrom f v (length rs) d) (event-due (drop at s) y) (λ j. refl)
         (λ fits due. rw (eq-eqb (getD (drop at s) 0 0) 1 y)
-        (by-two After (leb 32 (length rs)) (λ c. refl)
+        (by-two (λ (g : Got Signal) (o : EventRead). After (filling g (drop (span (drop at s)) (drop at s))) o) (leb 32 (length rs)) (λ c. refl)
         (λ c. signal-value (valueIn (drop at s)) (drop (span (drop at s)) (drop at s)) (span (drop at s)) (value-length (drop at s) fits) refl fits (leb-false 32 (length rs) c))))
 
   -- no event follows
   none-left : (k l at : ℕ) (rs : List Signal) (d : List ℕ) → Early at rs d → length s ≤ at + l → noEvent (drop at s) ≡ true
-      → SameProgram (whole (many noEvent eventAt (suc k) rs (drop at s))) (go-on (readEvents l s at (length rs) d))
-  unfolding many cellCount
+      → SameProgram (whole (readAll noEvent signalIn (suc k) rs (drop at s))) (go-on (readEvents l s at (length rs) d))
+  unfolding readAll cellCount
   none-left k l at rs d t b y =
       rw (y, events-over l at (length rs) d (t .0) b (λ q. absurd (false≢true (rw q at y))))
       (same-behaviours s rs (suc (length (drop at s))) (length s) at [] d 0 (t .0, omega arith, t .1) (omega (arith, length-drop at s)) (omega arith))
@@ -212,16 +212,16 @@ module _ (s : List ℕ) (small : length s ≤ 8192) where
 
   -- one follows
   one-left : (k l at : ℕ) (rs : List Signal) (d : List ℕ) → Early at rs d → length s ≤ at + l → noEvent (drop at s) ≡ false
-      → ((l′ at′ : ℕ) (rs′ : List Signal) (d′ : List ℕ) → l ≡ suc l′ → at < at′ → Early at′ rs′ d′ → SameProgram (whole (many noEvent eventAt k rs′ (drop at′ s))) (go-on (readEvents l′ s at′ (length rs′) d′)))
-      → SameProgram (whole (many noEvent eventAt (suc k) rs (drop at s))) (go-on (readEvents l s at (length rs) d))
-  unfolding many readEvents
+      → ((l′ at′ : ℕ) (rs′ : List Signal) (d′ : List ℕ) → l ≡ suc l′ → at < at′ → Early at′ rs′ d′ → SameProgram (whole (readAll noEvent signalIn k rs′ (drop at′ s))) (go-on (readEvents l′ s at′ (length rs′) d′)))
+      → SameProgram (whole (readAll noEvent signalIn (suc k) rs (drop at s))) (go-on (readEvents l s at (length rs) d))
+  unfolding readAll readEvents
   one-left k zero at rs d t b y ih = absurd (omega (arith, some-left at (t .0) y .0))
   one-left k (suc l) at rs d t b y ih =
       let r = some-left at (t .0) y in
       rw (y, ne-eqb at (length s) (omega (arith, r .0)), rest-drop at s) (event-here k l at rs d t (λ at′ rs′ d′ h t′. ih l at′ rs′ d′ refl h t′) (r .1))
 
   same-events : (k l at : ℕ) (rs : List Signal) (d : List ℕ) → Early at rs d → length s < at + k → length s ≤ at + l
-      → SameProgram (whole (many noEvent eventAt k rs (drop at s))) (go-on (readEvents l s at (length rs) d))
+      → SameProgram (whole (readAll noEvent signalIn k rs (drop at s))) (go-on (readEvents l s at (length rs) d))
   same-events zero l at rs d t a b = absurd (omega arith)
   same-events (suc k) l at rs d t a b =
       split (noEvent (drop at s)) (none-left k l at rs d t b)

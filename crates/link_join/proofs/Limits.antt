@@ -36,7 +36,7 @@ no-fault zero x rest h = refl
 no-fault (suc k) x rest h = let z : _≡_ {A = ℕ} 0 1 = cc in absurd (omega arith)
 
 item-fine : (n m : ℕ) (x : Entry) → EntryFits n x → m + cells (x .item) ≤ 64 → itemFault n m (x .item) ≡ 0
-item-fine n m x f h = no-fault (itemFault n m (x .item)) x [] (sym (entry-result n m x []) ∙ behaviour-reads n m x [] h f)
+item-fine n m x f h = no-fault (itemFault n m (x .item)) x [] (sym (entry-result n m x) ∙ behaviour-reads n m x h f)
 
 -- an item that passes 64 is a row
 item-past : (n m : ℕ) (x : Item) → ItemFits n x → m < 64 → 64 < m + cells x → itemFault n m x ≡ 7

@@ -14,7 +14,7 @@ use Rattle.lib_base.proofs.Tools.{by-test, none-of, all-split}
 use Rattle.spec_language.specs.Refusals.{offScale}
 use Rattle.spec_language.specs.Sheet.{Term, literal, variable, apply1, apply2, apply3}
 use Rattle.spec_language.specs.Grammar.{field, word, encodeExpr, Arity, unary, ternary, binary, TermFits, t-literal, t-variable, t-param, t-apply1, t-apply2, t-apply3}
-use Rattle.spec_language.specs.Reading.{Got, bad, got, sized, byteIn, argsOf, termOf, isTerm, exprAt}
+use Rattle.spec_language.specs.Reading.{Got, bad, got, sized, filling, byteIn, argsOf, termIn, isTerm, exprAt}
 use Rattle.spec_grammar.proofs.Fields.{Bytes, field-reads, field-of, field-bytes}
 use Rattle.spec_grammar.proofs.Results.{Says, one-byte, word-bytes, word-back, then-of, sized-of, whole-of, byte-of}
 
@@ -36,16 +36,16 @@ arity-two ternary e = absurd (omega arith)
 arity-two (binary a b c) e = (a, b, c)
 
 -- with one level of nesting less left, its arguments' reader is `arg`
-app-reads : (k f : ℕ) (v rest : List ℕ) → 0 < f → f ≤ 14 → exprAt (suc k) (field 18 (f ∷ v) ++ rest) ≡ argsOf (exprAt k) f v rest
+app-reads : (k f : ℕ) (v rest : List ℕ) → 0 < f → f ≤ 14 → exprAt (suc k) (field 18 (f ∷ v) ++ rest) ≡ filling (argsOf (exprAt k) f v) rest
 unfolding exprAt
 app-reads k f v rest lo hi =
-    field-reads isTerm 18 (f ∷ v) rest (termOf (exprAt k)) refl ∙ rw (ne-eqb f 0 (omega arith), le-ltb 14 f hi)
+    field-reads isTerm 18 (f ∷ v) rest (termIn (exprAt k)) refl ∙ rw (ne-eqb f 0 (omega arith), le-ltb 14 f hi)
 
 pub expr-reads : {k : ℕ} {x : Term} → TermFits k x → (rest : List ℕ) → exprAt k (encodeExpr x ++ rest) ≡ got x rest
 unfolding exprAt encodeExpr
-expr-reads (t-literal {k} {w} h) rest = field-reads isTerm 16 (word w) rest (termOf (exprAt k)) refl ∙ rw (word-back w)
-expr-reads (t-variable {k} {i} h) rest = field-reads isTerm 17 (i ∷ []) rest (termOf (exprAt k)) refl
-expr-reads (t-param {k} {n} h) rest = field-reads isTerm 19 (n ∷ []) rest (termOf (exprAt k)) refl ∙ rw (le-ltb 7 n (omega arith))
+expr-reads (t-literal {k} {w} h) rest = field-reads isTerm 16 (word w) rest (termIn (exprAt k)) refl ∙ rw (word-back w)
+expr-reads (t-variable {k} {i} h) rest = field-reads isTerm 17 (i ∷ []) rest (termIn (exprAt k)) refl
+expr-reads (t-param {k} {n} h) rest = field-reads isTerm 19 (n ∷ []) rest (termIn (exprAt k)) refl ∙ rw (le-ltb 7 n (omega arith))
 expr-reads (t-apply1 {k} {f} {a} r p) rest =
     let e : f ≡ 3 = arity-one r refl in
     let ih : exprAt k (encodeExpr a) ≡ got a [] = rw (append-nil (encodeExpr a)) at (expr-reads p []) in
@@ -111,13 +111,16 @@ module _ (k : ℕ) (arg : List ℕ → Got Term) (ih : (v : List ℕ) → SaysEx
       let d : f ≡ 14 = eqb-true f 14 e in
       (h y ∙ rw (r .0, q .0, p .0, z, append-nil (encodeExpr c)), t-apply3 (rw d ternary) (r .1) (q .1) (p .1)))
 
-  args-says : SaysExpr (suc k) s (argsOf arg f v rest)
+  abbrev Filled : Got Term → Type 0
+  Filled g = SaysExpr (suc k) s (filling g rest)
+
+  args-says : Filled (argsOf arg f v)
   args-says =
-      then-of (SaysExpr (suc k) s) (SaysExpr k v) _ (λ n g. g)
-      (λ a v₁ ra. by-test (SaysExpr (suc k) s) (eqb f 3) (one-says a v₁ ra)
-      (λ e. then-of (SaysExpr (suc k) s) (SaysExpr k v₁) _ (λ n g. g)
-      (λ b v₂ rb. by-test (SaysExpr (suc k) s) (eqb f 14)
-      (λ d. then-of (SaysExpr (suc k) s) (SaysExpr k v₂) _ (λ n g. g) (three-says a b v₁ v₂ ra rb d) (arg v₂) (ih v₂))
+      then-of Filled (SaysExpr k v) _ (λ n g. g)
+      (λ a v₁ ra. by-test Filled (eqb f 3) (one-says a v₁ ra)
+      (λ e. then-of Filled (SaysExpr k v₁) _ (λ n g. g)
+      (λ b v₂ rb. by-test Filled (eqb f 14)
+      (λ d. then-of Filled (SaysExpr k v₂) _ (λ n g. g) (three-says a b v₁ v₂ ra rb d) (arg v₂) (ih v₂))
       (λ d. two-says a b v₁ v₂ ra rb (arity-of-two f lo hi e d))) (arg v₁) (ih v₁))) (arg v) (ih v)
 
 -- the tags due
@@ -126,10 +129,10 @@ term-tag t e = let r = and-eq-true-iff (leb 16 t) (leb t 19) .0 e in (leb-true 1
 
 module _ (k : ℕ) (arg : List ℕ → Got Term) (ih : (v : List ℕ) → SaysExpr k v (arg v)) (s : List ℕ) where
   app-says : (v rest : List ℕ) → (Bytes s → s ≡ field 18 v ++ rest)
-      → SaysExpr (suc k) s (byteIn v (λ f w. pick (eqb f 0 || ltb 14 f) (bad offScale) (argsOf arg f w rest)))
+      → SaysExpr (suc k) s (filling (byteIn v (λ f w. pick (eqb f 0 || ltb 14 f) (bad offScale) (argsOf arg f w))) rest)
   app-says v rest h =
-      byte-of (SaysExpr (suc k) s) v _ (omega arith)
-      (λ f w q. by-test (SaysExpr (suc k) s) (eqb f 0 || ltb 14 f) (λ e. omega arith)
+      byte-of (λ (g : Got Term). SaysExpr (suc k) s (filling g rest)) v _ (omega arith)
+      (λ f w q. by-test (λ (g : Got Term). SaysExpr (suc k) s (filling g rest)) (eqb f 0 || ltb 14 f) (λ e. omega arith)
       (λ e. let r = none-of (eqb f 0) (ltb 14 f) e in
       args-says k arg ih f s w rest (omega (arith, eqb-false f 0 (r .0))) (ltb-false 14 f (r .1)) (λ b. rw q at (h b))))
 
@@ -139,21 +142,22 @@ module _ (k : ℕ) (arg : List ℕ → Got Term) (ih : (v : List ℕ) → SaysEx
       let y : s ≡ field t (getD v 0 0 ∷ []) ++ rest = q ∙ ap (λ (u : List ℕ). field t u ++ rest) (one-byte v z) in
       (y, field-bytes t (getD v 0 0 ∷ []) rest s b y .0 .0)
 
-  term-says : (t : ℕ) (v rest : List ℕ) → isTerm t ≡ true → (Bytes s → s ≡ field t v ++ rest) → SaysExpr (suc k) s (termOf arg t v rest)
+  term-says : (t : ℕ) (v rest : List ℕ) → isTerm t ≡ true → (Bytes s → s ≡ field t v ++ rest) → SaysExpr (suc k) s (filling (termIn arg t v) rest)
   unfolding encodeExpr
   term-says t v rest due h =
-      by-test (SaysExpr (suc k) s) (eqb t 16)
-      (λ e. sized-of (SaysExpr (suc k) s) 4 v _ (omega arith)
+      let P : Got Term → Type 0 = λ g. SaysExpr (suc k) s (filling g rest) in
+      by-test P (eqb t 16)
+      (λ e. sized-of P 4 v _ (omega arith)
       (λ z b.
       let q : s ≡ field 16 v ++ rest = rw (eqb-true t 16 e) at (h b) in
       let r = word-bytes v z (field-bytes 16 v rest s b q .0) in
       (q ∙ ap (λ (u : List ℕ). field 16 u ++ rest) (r .0), t-literal (r .1))))
-      (λ e. by-test (SaysExpr (suc k) s) (eqb t 17)
-      (λ d. sized-of (SaysExpr (suc k) s) 1 v _ (omega arith)
+      (λ e. by-test P (eqb t 17)
+      (λ d. sized-of P 1 v _ (omega arith)
       (λ z b. let r = byte-there 17 v rest z b (rw (eqb-true t 17 d) at (h b)) in (r .0, t-variable (r .1))))
-      (λ d. by-test (SaysExpr (suc k) s) (eqb t 19)
-      (λ c. sized-of (SaysExpr (suc k) s) 1 v _ (omega arith)
-      (λ z. by-test (SaysExpr (suc k) s) (ltb 7 (getD v 0 0)) (λ g. omega arith)
+      (λ d. by-test P (eqb t 19)
+      (λ c. sized-of P 1 v _ (omega arith)
+      (λ z. by-test P (ltb 7 (getD v 0 0)) (λ g. omega arith)
       (λ g b. (byte-there 19 v rest z b (rw (eqb-true t 19 c) at (h b)) .0, t-param (omega (arith, ltb-false 7 (getD v 0 0) g))))))
       (λ c.
       let q : t ≡ 18 = omega (arith, term-tag t due, eqb-false t 16 e, eqb-false t 17 d, eqb-false t 19 c) in
@@ -162,4 +166,4 @@ module _ (k : ℕ) (arg : List ℕ → Got Term) (ih : (v : List ℕ) → SaysEx
 pub expr-says : (k : ℕ) (s : List ℕ) → SaysExpr k s (exprAt k s)
 unfolding exprAt
 expr-says zero s = field-of (SaysExpr 0 s) isTerm s _ (λ m a b. (a, b)) (λ t v rest due h. omega arith)
-expr-says (suc k) s = field-of (SaysExpr (suc k) s) isTerm s (termOf (exprAt k)) (λ m a b. (a, b)) (term-says k (exprAt k) (expr-says k) s)
+expr-says (suc k) s = field-of (SaysExpr (suc k) s) isTerm s (termIn (exprAt k)) (λ m a b. (a, b)) (term-says k (exprAt k) (expr-says k) s)

@@ -12,13 +12,14 @@ use lib.Dec.{ltb, leb, eqb}
 use borrow.Author.Tests.{ne-eqb, le-ltb}
 use Rattle.lib_base.specs.Basics.{pick, All}
 use Rattle.lib_base.proofs.Tools.{split}
+use Rattle.lib_word.specs.Word.{getAt}
 use Rattle.spec_language.specs.Syntax.{Phase, immediate, later}
 use Rattle.spec_language.specs.Sheet.{Term, literal, variable, param, apply1, apply2, apply3, Clause, clause, Item, formula, state, row, Signal, Entry, Sheet, cells, cellCount, changeClauses, changeItem, changeEntries, asSent, fillTerm}
 use Rattle.spec_language.proofs.RowLaws.{count-append, written-cells-count}
 use Rattle.spec_language.specs.Sheet.{writeTerm, writtenOut}
 use Rattle.spec_language.specs.Grammar.{field, word, encodeExpr, encodePhase, encodeHandler, encodeHandlers, tagOf, encodeViewer, encodeBehaviour, encodeBehaviours, encodeSender, encodeEvent, encodeEvents, encode}
 use Rattle.spec_language.specs.Sheet.{paramsOf, paramsOfClauses, paramsOfItem, paramsOfEntries}
-use Rattle.spec_language.specs.Reading.{Got, bad, got, then, fieldAt, sized, many, argsOf, termOf, isTerm, exprAt, handles, handlerAt, entry, endingIn, activeAs, behaviourIn, behaviourAt, eventAt, sheet, readSheet}
+use Rattle.spec_language.specs.Reading.{Got, bad, got, then, sized, filling, fieldAt, readAll, argsOf, termIn, isTerm, exprAt, handles, handlerIn, entry, endingIn, activeAs, behaviourIn, dueAt, signalIn, sheet, readSheet}
 use Rattle.spec_grammar.proofs.Fields.{field-reads}
 use Rattle.spec_grammar.proofs.Results.{word-back}
 use Rattle.spec_grammar.proofs.Handlers.{stops, handler-goes, many-handlers}
@@ -42,18 +43,22 @@ onwards : {A B : Type 0} (f : A → List ℕ → Got B) (m o : ℕ) (x : A) (l :
 onwards f zero o x l y rest h = h
 onwards f (suc m) o x l y rest h = refl
 
+filled-result : {A : Type 0} (n : ℕ) (x : A) (rest : List ℕ) → filling (result n x []) rest ≡ result n x rest
+filled-result zero x rest = refl
+filled-result (suc n) x rest = refl
+
 -- one after another, each with its fault after those before it
 many-result : {A : Type 0} (enc : A → List ℕ) (encs : List A → List ℕ) → encs [] ≡ [] → ((x : A) (xs : List A) → encs (x ∷ xs) ≡ enc x ++ encs xs)
     → (ended : List ℕ → Bool) (one : List A → List ℕ → Got A) → ((x : A) (rest : List ℕ) → ended (enc x ++ rest) ≡ false)
     → (fault : List A → A → ℕ) → ((xs : List A) (y : A) (rest : List ℕ) → one xs (enc y ++ rest) ≡ result (fault xs y) y rest)
     → (faults : List A → List A → ℕ) → ((xs : List A) → faults xs [] ≡ 0) → ((xs : List A) (y : A) (ys : List A) → faults xs (y ∷ ys) ≡ first (fault xs y) (faults (xs ++ (y ∷ [])) ys))
-    → (k : ℕ) (xs ys : List A) (rest : List ℕ) → ended rest ≡ true → length ys < k → many ended one k xs (encs ys ++ rest) ≡ result (faults xs ys) (xs ++ ys) rest
-unfolding many
+    → (k : ℕ) (xs ys : List A) (rest : List ℕ) → ended rest ≡ true → length ys < k → readAll ended one k xs (encs ys ++ rest) ≡ result (faults xs ys) (xs ++ ys) rest
+unfolding readAll
 many-result enc encs nil cons ended one on fault each faults none next zero xs ys rest z b = absurd (omega arith)
 many-result enc encs nil cons ended one on fault each faults none next (suc k) xs [] rest z b = rw (nil, z, none xs, append-nil xs)
 many-result {A} enc encs nil cons ended one on fault each faults none next (suc k) xs (y ∷ ys) rest z b =
     rw (cons y ys, append-assoc (enc y) (encs ys) rest, on y (encs ys ++ rest), each xs y (encs ys ++ rest), next xs y ys)
-    (onwards (λ (x : A) (l : List ℕ). many ended one k (xs ++ (x ∷ [])) l) (fault xs y) (faults (xs ++ (y ∷ [])) ys) y (encs ys ++ rest) (xs ++ (y ∷ ys)) rest
+    (onwards (λ (x : A) (l : List ℕ). readAll ended one k (xs ++ (x ∷ [])) l) (fault xs y) (faults (xs ++ (y ∷ [])) ys) y (encs ys ++ rest) (xs ++ (y ∷ ys)) rest
     (rw (append-assoc xs (y ∷ []) ys) at (many-result enc encs nil cons ended one on fault each faults none next k (xs ++ (y ∷ [])) ys rest z (omega arith))))
 
 -- ---- expressions
@@ -100,20 +105,20 @@ deep : (t : ℕ) (v rest : List ℕ) → isTerm t ≡ true → exprAt 0 (field t
 unfolding exprAt
 deep t v rest e = field-reads isTerm t v rest _ e
 
-app-judged : (k f m : ℕ) (v rest : List ℕ) (x : Term) → argsOf (exprAt k) f v rest ≡ result m x rest → exprAt (suc k) (field 18 (f ∷ v) ++ rest) ≡ result (judged f m) x rest
+app-judged : (k f m : ℕ) (v rest : List ℕ) (x : Term) → filling (argsOf (exprAt k) f v) rest ≡ result m x rest → exprAt (suc k) (field 18 (f ∷ v) ++ rest) ≡ result (judged f m) x rest
 unfolding exprAt
 app-judged k f m v rest x h =
-    field-reads isTerm 18 (f ∷ v) rest (termOf (exprAt k)) refl
+    field-reads isTerm 18 (f ∷ v) rest (termIn (exprAt k)) refl
     ∙ split (eqb f 0) (λ e. rw e) (λ e. split (ltb 14 f) (λ d. rw (e, d)) (λ d. rw (e, d) h))
 
 module _ (k f : ℕ) (rest : List ℕ) where
   one-arg : (a : Term) (n : ℕ) → exprAt k (encodeExpr a) ≡ result n a []
-      → argsOf (exprAt k) f (encodeExpr a) rest ≡ result (first n (pick (eqb f 3) 0 4)) (apply1 f a) rest
+      → filling (argsOf (exprAt k) f (encodeExpr a)) rest ≡ result (first n (pick (eqb f 3) 0 4)) (apply1 f a) rest
   one-arg a zero h = rw h (split (eqb f 3) (λ e. rw e) (λ e. rw (e, none-due k)))
   one-arg a (suc n) h = rw h
 
   two-args : (a b : Term) (n m : ℕ) → exprAt k (encodeExpr a ++ encodeExpr b) ≡ result n a (encodeExpr b) → exprAt k (encodeExpr b) ≡ result m b []
-      → argsOf (exprAt k) f (encodeExpr a ++ encodeExpr b) rest ≡ result (first n (pick (eqb f 3) 6 (first m (pick (eqb f 14) 4 0)))) (apply2 f a b) rest
+      → filling (argsOf (exprAt k) f (encodeExpr a ++ encodeExpr b)) rest ≡ result (first n (pick (eqb f 3) 6 (first m (pick (eqb f 14) 4 0)))) (apply2 f a b) rest
   two-args a b (suc n) m h i = rw h
   two-args a b zero (suc m) h i = rw h (split (eqb f 3) (λ e. rw e (left-over b (got (apply1 f a) rest))) (λ e. rw (e, i)))
   two-args a b zero zero h i =
@@ -121,7 +126,7 @@ module _ (k f : ℕ) (rest : List ℕ) where
 
   three-args : (a b c : Term) (n m o : ℕ) → exprAt k (encodeExpr a ++ (encodeExpr b ++ encodeExpr c)) ≡ result n a (encodeExpr b ++ encodeExpr c)
       → exprAt k (encodeExpr b ++ encodeExpr c) ≡ result m b (encodeExpr c) → exprAt k (encodeExpr c) ≡ result o c []
-      → argsOf (exprAt k) f (encodeExpr a ++ (encodeExpr b ++ encodeExpr c)) rest
+      → filling (argsOf (exprAt k) f (encodeExpr a ++ (encodeExpr b ++ encodeExpr c))) rest
       ≡ result (first n (pick (eqb f 3) 6 (first m (pick (eqb f 14) (first o 0) 6)))) (apply3 f a b c) rest
   three-args a b c (suc n) m o h i j = rw h
   three-args a b c zero (suc m) o h i j = rw h (split (eqb f 3) (λ e. rw e (two-over b c (got (apply1 f a) rest))) (λ e. rw (e, i)))
@@ -142,9 +147,9 @@ expr-result zero (param n) rest = deep 19 (n ∷ []) rest refl
 expr-result zero (apply1 f a) rest = deep 18 (f ∷ encodeExpr a) rest refl
 expr-result zero (apply2 f a b) rest = deep 18 (f ∷ (encodeExpr a ++ encodeExpr b)) rest refl
 expr-result zero (apply3 f a b c) rest = deep 18 (f ∷ (encodeExpr a ++ (encodeExpr b ++ encodeExpr c))) rest refl
-expr-result (suc k) (literal w) rest = field-reads isTerm 16 (word w) rest (termOf (exprAt k)) refl ∙ rw (word-back w)
-expr-result (suc k) (variable i) rest = field-reads isTerm 17 (i ∷ []) rest (termOf (exprAt k)) refl
-expr-result (suc k) (param n) rest = field-reads isTerm 19 (n ∷ []) rest (termOf (exprAt k)) refl ∙ split (ltb 7 n) (λ e. rw e) (λ e. rw e)
+expr-result (suc k) (literal w) rest = field-reads isTerm 16 (word w) rest (termIn (exprAt k)) refl ∙ rw (word-back w)
+expr-result (suc k) (variable i) rest = field-reads isTerm 17 (i ∷ []) rest (termIn (exprAt k)) refl
+expr-result (suc k) (param n) rest = field-reads isTerm 19 (n ∷ []) rest (termIn (exprAt k)) refl ∙ split (ltb 7 n) (λ e. rw e) (λ e. rw e)
 expr-result (suc k) (apply1 f a) rest =
     app-judged k f (first (exprFault k a) (pick (eqb f 3) 0 4)) (encodeExpr a) rest (apply1 f a)
     (one-arg k f rest a (exprFault k a) (rw (append-nil (encodeExpr a)) at (expr-result k a [])))
@@ -157,10 +162,10 @@ expr-result (suc k) (apply3 f a b c) rest =
     (three-args k f rest a b c (exprFault k a) (exprFault k b) (exprFault k c) (expr-result k a (encodeExpr b ++ encodeExpr c)) (expr-result k b (encodeExpr c))
     (rw (append-nil (encodeExpr c)) at (expr-result k c [])))
 
-fills : (F : Term → Clause) (x : Term) (rest : List ℕ) → then (exprAt 16 (encodeExpr x)) (λ y left. sized 0 left (got (F y) rest)) ≡ result (exprFault 16 x) (F x) rest
+fills : (F : Term → Clause) (x : Term) (rest : List ℕ) → filling (then (exprAt 16 (encodeExpr x)) (λ y left. got (F y) left)) rest ≡ result (exprFault 16 x) (F x) rest
 fills F x rest = rw (rw (append-nil (encodeExpr x)) at (expr-result 16 x [])) (of (exprFault 16 x))
   where
-    of : (n : ℕ) → then (result n x []) (λ y left. sized 0 left (got (F y) rest)) ≡ result n (F x) rest
+    of : (n : ℕ) → filling (then (result n x []) (λ y left. got (F y) left)) rest ≡ result n (F x) rest
     of zero = refl
     of (suc n) = refl
 
@@ -173,7 +178,7 @@ unfoldable pub clausesFault : ℕ → List Clause → List Clause → ℕ
 clausesFault n hs [] = 0
 clausesFault n hs (h ∷ ks) = first (clauseFault n hs h) (clausesFault n (hs ++ (h ∷ [])) ks)
 
-handler-result : (n : ℕ) (hs : List Clause) (h : Clause) (rest : List ℕ) → handlerAt n hs (encodeHandler h ++ rest) ≡ result (clauseFault n hs h) h rest
+handler-result : (n : ℕ) (hs : List Clause) (h : Clause) (rest : List ℕ) → handlerIn n hs (encodeHandler h ++ rest) ≡ result (clauseFault n hs h) h rest
 handler-result n hs (clause e immediate x) rest =
     field-reads (eqb 5) 5 (e ∷ 0 ∷ encodeExpr x) rest _ refl
     ∙ split (leb n e) (λ c. rw c) (λ c. split (handles e hs) (λ d. rw (c, d)) (λ d. rw (c, d) (fills (clause e immediate) x rest)))
@@ -182,10 +187,10 @@ handler-result n hs (clause e later x) rest =
     ∙ split (leb n e) (λ c. rw c) (λ c. split (handles e hs) (λ d. rw (c, d)) (λ d. rw (c, d) (fills (clause e later) x rest)))
 
 handlers-result : (k n : ℕ) (ks : List Clause) (rest : List ℕ) → stops rest ≡ true → length ks < k
-    → many stops (handlerAt n) k [] (encodeHandlers ks ++ rest) ≡ result (clausesFault n [] ks) ks rest
+    → readAll stops (handlerIn n) k [] (encodeHandlers ks ++ rest) ≡ result (clausesFault n [] ks) ks rest
 unfolding encodeHandlers clausesFault
 handlers-result k n ks rest z b =
-    many-result encodeHandler encodeHandlers refl (λ x xs. refl) stops (handlerAt n) handler-goes (clauseFault n) (handler-result n) (clausesFault n) (λ xs. refl) (λ xs y ys. refl)
+    many-result encodeHandler encodeHandlers refl (λ x xs. refl) stops (handlerIn n) handler-goes (clauseFault n) (handler-result n) (clausesFault n) (λ xs. refl) (λ xs y ys. refl)
     k [] ks rest z b
 
 -- ---- behaviours
@@ -196,36 +201,35 @@ itemFault n i (formula x) = exprFault 16 x
 itemFault n i (state s hs) = clausesFault n [] hs
 itemFault n i (row c s hs) = pick (ltb c 2) 8 (pick (ltb 16 c) 8 (pick (ltb 64 (i + c)) 7 (clausesFault n [] hs)))
 
-passive-ends : (x : Term) (m : Option ℕ) (rest : List ℕ) (k : ℕ) (g : Got Term) → g ≡ result k x (encodeViewer m)
-    → then g (λ x left. endingIn (formula x) left rest) ≡ result k (entry (formula x) m) rest
-passive-ends x m rest zero g e = rw e (ending-reads (formula x) m rest)
-passive-ends x m rest (suc k) g e = rw e
-
-active-ends : (make : ℕ → List Clause → Item) (s : ℕ) (hs : List Clause) (m : Option ℕ) (rest : List ℕ) (k : ℕ) (g : Got (List Clause)) → g ≡ result k hs (encodeViewer m)
-    → then g (λ hs over. endingIn (make s hs) over rest) ≡ result k (entry (make s hs) m) rest
-active-ends make s hs m rest zero g e = rw e (ending-reads (make s hs) m rest)
-active-ends make s hs m rest (suc k) g e = rw e
-
-active-result : (make : ℕ → List Clause → Item) (n s : ℕ) (hs : List Clause) (m : Option ℕ) (rest : List ℕ)
-    → activeAs make n (valueOf (entry (state s hs) m)) rest ≡ result (clausesFault n [] hs) (entry (make s hs) m) rest
-active-result make n s hs m rest =
+active-result : (make : ℕ → List Clause → Item) (n s : ℕ) (hs : List Clause) (m : Option ℕ)
+    → activeAs make n (valueOf (entry (state s hs) m)) ≡ result (clausesFault n [] hs) (entry (make s hs) m) []
+active-result make n s hs m =
     let few : length hs < suc (length (encodeHandlers hs ++ encodeViewer m)) =
     omega (arith, many-handlers hs, length-append (encodeHandlers hs) (encodeViewer m)) in
-    field-reads (eqb 4) 4 (word s) (encodeHandlers hs ++ encodeViewer m) _ refl
-    ∙ rw (word-back s)
-    (active-ends make s hs m rest (clausesFault n [] hs) (many stops (handlerAt n) (suc (length (encodeHandlers hs ++ encodeViewer m))) [] (encodeHandlers hs ++ encodeViewer m))
-    (handlers-result (suc (length (encodeHandlers hs ++ encodeViewer m))) n hs (encodeViewer m) (stops-there m) few))
+    rw (
+      field-reads (eqb 4) 4 (word s) (encodeHandlers hs ++ encodeViewer m) (λ t w. sized 4 w (got (getAt w 0) [])) refl,
+      word-back s,
+      handlers-result (suc (length (encodeHandlers hs ++ encodeViewer m))) n hs (encodeViewer m) (stops-there m) few,
+    ) (ends (clausesFault n [] hs))
+  where
+    ends : (k : ℕ) → then (result k hs (encodeViewer m)) (λ hs left. endingIn (make s hs) left) ≡ result k (entry (make s hs) m) []
+    ends zero = ending-reads (make s hs) m
+    ends (suc k) = refl
 
-pub item-result : (n i : ℕ) (b : Item) (m : Option ℕ) (rest : List ℕ) → behaviourIn n i (tagOf b) (valueOf (entry b m)) rest ≡ result (itemFault n i b) (entry b m) rest
-item-result n i (formula x) m rest = passive-ends x m rest (exprFault 16 x) (exprAt 16 (encodeExpr x ++ encodeViewer m)) (expr-result 16 x (encodeViewer m))
-item-result n i (state s hs) m rest = active-result state n s hs m rest
-item-result n i (row c s hs) m rest =
+pub item-result : (n i : ℕ) (b : Item) (m : Option ℕ) → behaviourIn n i (tagOf b) (valueOf (entry b m)) ≡ result (itemFault n i b) (entry b m) []
+item-result n i (formula x) m = rw (expr-result 16 x (encodeViewer m)) (ends (exprFault 16 x))
+  where
+    ends : (k : ℕ) → then (result k x (encodeViewer m)) (λ x left. endingIn (formula x) left) ≡ result k (entry (formula x) m) []
+    ends zero = ending-reads (formula x) m
+    ends (suc k) = refl
+item-result n i (state s hs) m = active-result state n s hs m
+item-result n i (row c s hs) m =
     split (ltb c 2) (λ e. rw e)
     (λ e. split (ltb 16 c) (λ d. rw (e, d))
-    (λ d. split (ltb 64 (i + c)) (λ o. rw (e, d, o)) (λ o. rw (e, d, o) (active-result (row c) n s hs m rest))))
+    (λ d. split (ltb 64 (i + c)) (λ o. rw (e, d, o)) (λ o. rw (e, d, o) (active-result (row c) n s hs m))))
 
-pub entry-result : (n i : ℕ) (b : Entry) (rest : List ℕ) → behaviourIn n i (tagOf (b .item)) (valueOf b) rest ≡ result (itemFault n i (b .item)) b rest
-entry-result n i b rest = item-result n i (b .item) (b .viewer) rest
+pub entry-result : (n i : ℕ) (b : Entry) → behaviourIn n i (tagOf (b .item)) (valueOf b) ≡ result (itemFault n i (b .item)) b []
+entry-result n i b = item-result n i (b .item) (b .viewer)
 
 -- ---- the whole: n events are declared, and m behaviours before these
 
@@ -248,14 +252,16 @@ unfoldable signalsFault : ℕ → List Signal → ℕ
 signalsFault n [] = 0
 signalsFault n (q ∷ qs) = first (eventFault n q) (signalsFault (suc n) qs)
 
-next-result : (n : ℕ) (bs : List Entry) (c : Entry) (rest : List ℕ) → behaviourAt n bs (encodeBehaviour c ++ rest) ≡ result (nextFault n bs c) c rest
-next-result n bs c rest = behaviour-at n bs c rest ∙ split (leb 64 (cellCount bs)) (λ e. rw e) (λ e. rw e (entry-result n (cellCount bs) c rest))
+next-result : (n : ℕ) (bs : List Entry) (c : Entry) (rest : List ℕ) → dueAt n bs (encodeBehaviour c ++ rest) ≡ result (nextFault n bs c) c rest
+next-result n bs c rest =
+    behaviour-at n bs c rest
+    ∙ split (leb 64 (cellCount bs)) (λ e. rw e) (λ e. rw (e, entry-result n (cellCount bs) c) (filled-result (itemFault n (cellCount bs) (c .item)) c rest))
 
-behaviours-result : (k n : ℕ) (cs : List Entry) → length cs < k → many atEnd (behaviourAt n) k [] (encodeBehaviours cs) ≡ result (entriesFault n 0 cs) cs []
+behaviours-result : (k n : ℕ) (cs : List Entry) → length cs < k → readAll atEnd (dueAt n) k [] (encodeBehaviours cs) ≡ result (entriesFault n 0 cs) cs []
 unfolding encodeBehaviours entriesFault cellCount
 behaviours-result k n cs b =
-    ap (λ (u : List ℕ). many atEnd (behaviourAt n) k [] u) (sym (append-nil (encodeBehaviours cs)))
-    ∙ many-result encodeBehaviour encodeBehaviours refl (λ x xs. refl) atEnd (behaviourAt n)
+    ap (λ (u : List ℕ). readAll atEnd (dueAt n) k [] u) (sym (append-nil (encodeBehaviours cs)))
+    ∙ many-result encodeBehaviour encodeBehaviours refl (λ x xs. refl) atEnd (dueAt n)
     (λ c rest. ne-eqb (length (encodeBehaviour c ++ rest)) 0 (omega (arith, behaviour-bytes c rest)))
     (nextFault n) (next-result n) (λ bs. entriesFault n (cellCount bs)) (λ bs. refl) next k [] cs [] refl b
   where
@@ -264,13 +270,13 @@ behaviours-result k n cs b =
         let z : cellCount (bs ++ (c ∷ [])) ≡ cellCount bs + cells (c .item) = omega (arith, count-append bs (c ∷ [])) in
         split (leb 64 (cellCount bs)) (λ e. rw e) (λ e. rw (e, z))
 
-event-result : (rs : List Signal) (q : Signal) (rest : List ℕ) → eventAt rs (encodeEvent q ++ rest) ≡ result (eventFault (length rs) q) q rest
+event-result : (rs : List Signal) (q : Signal) (rest : List ℕ) → signalIn rs (encodeEvent q ++ rest) ≡ result (eventFault (length rs) q) q rest
 event-result rs q rest = event-reads rs q rest ∙ split (leb 32 (length rs)) (λ e. rw e) (λ e. rw e (split (ltb 15 (q .priority)) (λ d. rw d) (λ d. rw d)))
 
-signals-result : (k : ℕ) (qs : List Signal) (rest : List ℕ) → noEvent rest ≡ true → length qs < k → many noEvent eventAt k [] (encodeEvents qs ++ rest) ≡ result (signalsFault 0 qs) qs rest
+signals-result : (k : ℕ) (qs : List Signal) (rest : List ℕ) → noEvent rest ≡ true → length qs < k → readAll noEvent signalIn k [] (encodeEvents qs ++ rest) ≡ result (signalsFault 0 qs) qs rest
 unfolding encodeEvents signalsFault
 signals-result k qs rest z b =
-    many-result encodeEvent encodeEvents refl (λ x xs. refl) noEvent eventAt (λ q rest. refl) (λ rs. eventFault (length rs)) event-result (λ rs. signalsFault (length rs)) (λ rs. refl)
+    many-result encodeEvent encodeEvents refl (λ x xs. refl) noEvent signalIn (λ q rest. refl) (λ rs. eventFault (length rs)) event-result (λ rs. signalsFault (length rs)) (λ rs. refl)
     (λ rs q qs. let y : length (rs ++ (q ∷ [])) ≡ suc (length rs) = omega (arith, length-append rs (q ∷ [])) in rw y) k [] qs rest z b
 
 -- the events' first, then the behaviours'

@@ -13,13 +13,13 @@ use borrow.Author.Tests.{ltb-false, le-ltb}
 use Rattle.lib_base.specs.Basics.{All}
 use Rattle.lib_base.proofs.Tools.{by-test, all-split}
 use Rattle.spec_language.specs.Grammar.{field}
-use Rattle.spec_language.specs.Reading.{Got, bad, fieldAt}
+use Rattle.spec_language.specs.Reading.{Got, bad, filling, fieldAt}
 
 -- ---- reading back
 
 -- a field at the front is read
-pub field-reads : {A : Type 0} (due : ℕ → Bool) (t : ℕ) (v rest : List ℕ) (f : ℕ → List ℕ → List ℕ → Got A) → due t ≡ true
-    → fieldAt due (field t v ++ rest) f ≡ f t v rest
+pub field-reads : {A : Type 0} (due : ℕ → Bool) (t : ℕ) (v rest : List ℕ) (f : ℕ → List ℕ → Got A) → due t ≡ true
+    → fieldAt due (field t v ++ rest) f ≡ filling (f t v) rest
 unfolding fieldAt
 field-reads due t v rest f e =
     let size : length v / 256 * 256 + length v % 256 ≡ length v = omega arith in
@@ -60,9 +60,9 @@ due-holds true e = refl
 due-holds false e = sym e
 
 -- to prove P where a field is due: of a fault, and of what is made of a field with a tag that is due
-pub field-of : {A : Type 0} (P : Got A → Type 0) (due : ℕ → Bool) (s : List ℕ) (f : ℕ → List ℕ → List ℕ → Got A)
+pub field-of : {A : Type 0} (P : Got A → Type 0) (due : ℕ → Bool) (s : List ℕ) (f : ℕ → List ℕ → Got A)
     → ((m : ℕ) → 4 ≤ m → m ≤ 10 → P (bad m))
-    → ((t : ℕ) (v rest : List ℕ) → due t ≡ true → (Bytes s → s ≡ field t v ++ rest) → P (f t v rest)) → P (fieldAt due s f)
+    → ((t : ℕ) (v rest : List ℕ) → due t ≡ true → (Bytes s → s ≡ field t v ++ rest) → P (filling (f t v) rest)) → P (fieldAt due s f)
 unfolding fieldAt
 field-of P due s f faulty good =
     by-test P (ltb (length s) 3) (λ e. faulty 4 (omega arith) (omega arith))

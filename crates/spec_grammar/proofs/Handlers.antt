@@ -10,12 +10,14 @@ use native.Mathlib.Omega.{arith}
 use lib.ListN.{length, getD, length-append}
 use lib.Dec.{ltb, leb, eqb, eqb·suc-zero}
 use borrow.Author.Tests.{ltb-false, leb-false, lt-leb, eqb-true, eqb-false, ne-eqb}
+use Rattle.lib_base.specs.Basics.{pick}
 use Rattle.lib_base.proofs.Tools.{by-test, neither}
 use Rattle.spec_language.specs.Syntax.{Phase, immediate, later}
 use Rattle.spec_language.specs.Sheet.{Term, Clause, clause}
 use Rattle.spec_language.specs.Grammar.{field, encodeExpr, encodePhase, encodeHandler, encodeHandlers, TermFits, NoClauseFor, ClausesFit}
-use Rattle.spec_language.specs.Reading.{Got, got, many, exprAt, handles, phaseOf, handlerAt}
-use Rattle.spec_grammar.proofs.Fields.{field-reads, field-of, field-bytes}
+use Rattle.spec_language.specs.Reading.{Got, bad, got, then, filling, byteIn, readAll, exprAt, handles, phaseOf, handlerIn}
+use Rattle.spec_language.specs.Refusals.{offScale, doubled}
+use Rattle.spec_grammar.proofs.Fields.{Bytes, field-reads, field-of, field-bytes}
 use Rattle.spec_grammar.proofs.Results.{Says, then-of, whole-of, byte-of, SaysMany, many-reads, many-says}
 use Rattle.spec_grammar.proofs.Expressions.{SaysExpr, expr-alone, expr-says}
 
@@ -49,7 +51,7 @@ fit-at n e φ x (clause f ψ y ∷ hs) ks h =
 
 -- ---- reading back
 
-handler-reads : (n : ℕ) (hs : List Clause) (h : Clause) (rest : List ℕ) → HandlerFits n hs h → handlerAt n hs (encodeHandler h ++ rest) ≡ got h rest
+handler-reads : (n : ℕ) (hs : List Clause) (h : Clause) (rest : List ℕ) → HandlerFits n hs h → handlerIn n hs (encodeHandler h ++ rest) ≡ got h rest
 handler-reads n hs (clause e immediate x) rest k =
     field-reads (eqb 5) 5 (e ∷ 0 ∷ encodeExpr x) rest _ refl ∙ rw (lt-leb n e (k .0), k .2, expr-alone (k .1))
 handler-reads n hs (clause e later x) rest k =
@@ -63,11 +65,11 @@ pub handler-goes : (h : Clause) (rest : List ℕ) → stops (encodeHandler h ++ 
 handler-goes (clause e φ x) rest = rw (eqb·suc-zero (suc (suc (suc (suc (length (encodeExpr x ++ rest)))))))
 
 pub handlers-read : (k n : ℕ) (hs ks : List Clause) (rest : List ℕ) → stops rest ≡ true → length ks < k → ClausesFit n (hs ++ ks)
-    → many stops (handlerAt n) k hs (encodeHandlers ks ++ rest) ≡ got (hs ++ ks) rest
+    → readAll stops (handlerIn n) k hs (encodeHandlers ks ++ rest) ≡ got (hs ++ ks) rest
 unfolding encodeHandlers
-handlers-read k n = many-reads encodeHandler encodeHandlers refl (λ x xs. refl) stops (handlerAt n) (ClausesFit n) handler-goes each k
+handlers-read k n = many-reads encodeHandler encodeHandlers refl (λ x xs. refl) stops (handlerIn n) (ClausesFit n) handler-goes each k
   where
-    each : (hs : List Clause) (h : Clause) (ks : List Clause) (rest : List ℕ) → ClausesFit n (hs ++ (h ∷ ks)) → handlerAt n hs (encodeHandler h ++ rest) ≡ got h rest
+    each : (hs : List Clause) (h : Clause) (ks : List Clause) (rest : List ℕ) → ClausesFit n (hs ++ (h ∷ ks)) → handlerIn n hs (encodeHandler h ++ rest) ≡ got h rest
     each hs (clause e φ x) ks rest f = handler-reads n hs (clause e φ x) rest (fit-at n e φ x hs ks f)
 
 -- as many bytes as handlers at least
@@ -87,25 +89,34 @@ module _ (n : ℕ) (hs : List Clause) (s : List ℕ) where
   abbrev SaysHandler : Got Clause → Type 0
   SaysHandler = Says encodeHandler (HandlerFits n hs) s
 
-  handler-says : SaysHandler (handlerAt n hs s)
-  handler-says =
-      field-of SaysHandler (eqb 5) s _ (λ m a b. (a, b))
-      (λ t v rest due h. byte-of SaysHandler v _ (omega arith)
-      (λ e v₁ y. by-test SaysHandler (leb n e) (λ d. omega arith)
-      (λ d. byte-of SaysHandler v₁ _ (omega arith)
-      (λ φ v₂ z. by-test SaysHandler (ltb 1 φ) (λ c. omega arith)
-      (λ c. by-test SaysHandler (handles e hs) (λ g. omega arith)
-      (λ g. then-of SaysHandler (SaysExpr 16 v₂) _ (λ m k. k)
-      (λ x left k. whole-of SaysHandler left _ (omega arith)
-      (λ u b.
-      let q : s ≡ field 5 (e ∷ φ ∷ v₂) ++ rest = rw (sym (eqb-true 5 t due), y, z) at (h b) in
-      let r = k (field-bytes 5 (e ∷ φ ∷ v₂) rest s b q .0 .1 .1) in
-      (q ∙ rw (r .0, u, append-nil (encodeExpr x), phase-code φ (ltb-false 1 φ c)), (leb-false n e d, r .1, g))))
-      (exprAt 16 v₂) (expr-says 16 v₂)))))))
+  module _ (v rest : List ℕ) (h : Bytes s → s ≡ field 5 v ++ rest) where
+    abbrev Filled : Got Clause → Type 0
+    Filled g = SaysHandler (filling g rest)
 
-pub handlers-say : (k n : ℕ) (s : List ℕ) → SaysMany encodeHandlers (ClausesFit n) stops [] s (many stops (handlerAt n) k [] s)
+    value-says : Filled (byteIn v (λ e v₁. pick (leb n e) (bad offScale)
+        (byteIn v₁ (λ φ v₂. pick (ltb 1 φ) (bad offScale)
+        (pick (handles e hs) (bad doubled)
+        (then (exprAt 16 v₂) (λ x left. got (clause e (phaseOf φ) x) left)))))))
+    value-says =
+        byte-of Filled v _ (omega arith)
+        (λ e v₁ y. by-test Filled (leb n e) (λ d. omega arith)
+        (λ d. byte-of Filled v₁ _ (omega arith)
+        (λ φ v₂ z. by-test Filled (ltb 1 φ) (λ c. omega arith)
+        (λ c. by-test Filled (handles e hs) (λ g. omega arith)
+        (λ g. then-of Filled (SaysExpr 16 v₂) _ (λ m k. k)
+        (λ x left k. whole-of SaysHandler left _ (omega arith)
+        (λ u b.
+        let q : s ≡ field 5 (e ∷ φ ∷ v₂) ++ rest = rw (y, z) at (h b) in
+        let r = k (field-bytes 5 (e ∷ φ ∷ v₂) rest s b q .0 .1 .1) in
+        (q ∙ rw (r .0, u, append-nil (encodeExpr x), phase-code φ (ltb-false 1 φ c)), (leb-false n e d, r .1, g))))
+        (exprAt 16 v₂) (expr-says 16 v₂))))))
+
+  handler-says : SaysHandler (handlerIn n hs s)
+  handler-says = field-of SaysHandler (eqb 5) s _ (λ m a b. (a, b)) (λ t v rest due h. value-says v rest (λ b. rw (sym (eqb-true 5 t due)) at (h b)))
+
+pub handlers-say : (k n : ℕ) (s : List ℕ) → SaysMany encodeHandlers (ClausesFit n) stops [] s (readAll stops (handlerIn n) k [] s)
 unfolding encodeHandlers
-handlers-say k n s = many-says encodeHandler encodeHandlers refl (λ x xs. refl) stops (handlerAt n) (ClausesFit n) (HandlerFits n) more (handler-says n) k [] s
+handlers-say k n s = many-says encodeHandler encodeHandlers refl (λ x xs. refl) stops (handlerIn n) (ClausesFit n) (HandlerFits n) more (handler-says n) k [] s
   where
     more : (hs : List Clause) (h : Clause) → ClausesFit n hs → HandlerFits n hs h → ClausesFit n (hs ++ (h ∷ []))
     more hs (clause e φ x) f g = fit-snoc n e φ x hs f g

@@ -16,7 +16,7 @@ use Rattle.spec_language.specs.Sheet.{Item, formula, state, row, Signal, Entry,
 use Rattle.spec_language.proofs.RowLaws.{count-append}
 use Rattle.spec_language.specs.Refusals.{crowded, offScale}
 use Rattle.spec_language.specs.Grammar.{ByteFits, field, tagOf, encodeBehaviour, encodeBehaviours, encodeSender, encodeEvent, encodeEvents, encode, ItemFits, SignalFits, EntryFits, SheetFits}
-use Rattle.spec_language.specs.Reading.{Got, bad, got, many, entry, behaviourIn, behaviourAt, signal, eventAt, sheet, readSheet}
+use Rattle.spec_language.specs.Reading.{Got, bad, got, filling, readAll, behaviourIn, dueAt, signal, signalIn, sheet, readSheet}
 use Rattle.spec_grammar.proofs.Fields.{Bytes, field-reads, field-of, field-bytes}
 use Rattle.spec_grammar.proofs.Results.{Says, none-left, then-of, SaysMany, many-reads, many-says}
 use Rattle.spec_grammar.proofs.Behaviours.{valueOf, behaviourTag, tag-due, tag-other, behaviour-reads, behaviour-says}
@@ -40,7 +40,7 @@ many-events (r ∷ rs) = omega (arith, many-events rs, length-append (encodeEven
 
 -- a behaviour's field at the front
 pub behaviour-at : (n : ℕ) (bs : List Entry) (b : Entry) (rest : List ℕ)
-    → behaviourAt n bs (encodeBehaviour b ++ rest) ≡ pick (leb 64 (cellCount bs)) (bad crowded) (behaviourIn n (cellCount bs) (tagOf (b .item)) (valueOf b) rest)
+    → dueAt n bs (encodeBehaviour b ++ rest) ≡ filling (pick (leb 64 (cellCount bs)) (bad crowded) (behaviourIn n (cellCount bs) (tagOf (b .item)) (valueOf b))) rest
 behaviour-at n bs b rest = field-reads behaviourTag (tagOf (b .item)) (valueOf b) rest _ (tag-due (b .item))
 
 -- a behaviour is one of the 64 at least
@@ -66,36 +66,36 @@ atEnd s = eqb (length s) 0
 abbrev pub noEvent : List ℕ → Bool
 noEvent s = not (eqb (getD s 0 0) 1)
 
-behaviours-read : (k n : ℕ) (cs : List Entry) → length cs < k → EntriesFit n cs → many atEnd (behaviourAt n) k [] (encodeBehaviours cs) ≡ got cs []
+behaviours-read : (k n : ℕ) (cs : List Entry) → length cs < k → EntriesFit n cs → readAll atEnd (dueAt n) k [] (encodeBehaviours cs) ≡ got cs []
 unfolding encodeBehaviours cellCount
 behaviours-read k n cs b f =
-    ap (λ (u : List ℕ). many atEnd (behaviourAt n) k [] u) (sym (append-nil (encodeBehaviours cs)))
-    ∙ many-reads encodeBehaviour encodeBehaviours refl (λ x xs. refl) atEnd (behaviourAt n) (EntriesFit n)
+    ap (λ (u : List ℕ). readAll atEnd (dueAt n) k [] u) (sym (append-nil (encodeBehaviours cs)))
+    ∙ many-reads encodeBehaviour encodeBehaviours refl (λ x xs. refl) atEnd (dueAt n) (EntriesFit n)
     (λ c rest. ne-eqb (length (encodeBehaviour c ++ rest)) 0 (omega (arith, behaviour-bytes c rest))) each k [] cs [] refl b f
   where
-    each : (bs : List Entry) (c : Entry) (cs : List Entry) (rest : List ℕ) → EntriesFit n (bs ++ (c ∷ cs)) → behaviourAt n bs (encodeBehaviour c ++ rest) ≡ got c rest
+    each : (bs : List Entry) (c : Entry) (cs : List Entry) (rest : List ℕ) → EntriesFit n (bs ++ (c ∷ cs)) → dueAt n bs (encodeBehaviour c ++ rest) ≡ got c rest
     each bs c cs rest f =
         let g = all-split (EntryFits n) bs (c ∷ cs) (f .1) .1 .0 in
         let q : cellCount (bs ++ (c ∷ cs)) ≡ cellCount bs + (cells (c .item) + cellCount cs) = count-append bs (c ∷ cs) in
         behaviour-at n bs c rest
-        ∙ rw (lt-leb 64 (cellCount bs) (omega (arith, q, f .0, cells-some n c g))) (behaviour-reads n (cellCount bs) c rest (omega (arith, q, f .0)) g)
+        ∙ rw (lt-leb 64 (cellCount bs) (omega (arith, q, f .0, cells-some n c g)), behaviour-reads n (cellCount bs) c (omega (arith, q, f .0)) g)
 
 -- an event at the front
 event-at : (rs : List Signal) (r : ℕ) (m : Option ℕ) (rest : List ℕ)
-    → eventAt rs (encodeEvent (signal r m) ++ rest) ≡ pick (leb 32 (length rs)) (bad crowded) (pick (ltb 15 r) (bad offScale) (got (signal r m) rest))
+    → signalIn rs (encodeEvent (signal r m) ++ rest) ≡ filling (pick (leb 32 (length rs)) (bad crowded) (pick (ltb 15 r) (bad offScale) (got (signal r m) []))) rest
 event-at rs r none rest = field-reads (eqb 1) 1 (r ∷ []) rest _ refl
 event-at rs r (some m) rest = field-reads (eqb 1) 1 (r ∷ m ∷ []) rest _ refl
 
 pub event-reads : (rs : List Signal) (q : Signal) (rest : List ℕ)
-    → eventAt rs (encodeEvent q ++ rest) ≡ pick (leb 32 (length rs)) (bad crowded) (pick (ltb 15 (q .priority)) (bad offScale) (got q rest))
+    → signalIn rs (encodeEvent q ++ rest) ≡ filling (pick (leb 32 (length rs)) (bad crowded) (pick (ltb 15 (q .priority)) (bad offScale) (got q []))) rest
 event-reads rs q rest = event-at rs (q .priority) (q .sender) rest
 
 events-read : (k : ℕ) (qs : List Signal) (rest : List ℕ) → noEvent rest ≡ true → length qs < k → SignalsFit qs
-    → many noEvent eventAt k [] (encodeEvents qs ++ rest) ≡ got qs rest
+    → readAll noEvent signalIn k [] (encodeEvents qs ++ rest) ≡ got qs rest
 unfolding encodeEvents
-events-read k qs rest z b f = many-reads encodeEvent encodeEvents refl (λ x xs. refl) noEvent eventAt SignalsFit (λ q rest. refl) each k [] qs rest z b f
+events-read k qs rest z b f = many-reads encodeEvent encodeEvents refl (λ x xs. refl) noEvent signalIn SignalsFit (λ q rest. refl) each k [] qs rest z b f
   where
-    each : (rs : List Signal) (q : Signal) (qs : List Signal) (rest : List ℕ) → SignalsFit (rs ++ (q ∷ qs)) → eventAt rs (encodeEvent q ++ rest) ≡ got q rest
+    each : (rs : List Signal) (q : Signal) (qs : List Signal) (rest : List ℕ) → SignalsFit (rs ++ (q ∷ qs)) → signalIn rs (encodeEvent q ++ rest) ≡ got q rest
     each rs q qs rest f =
         let g = all-split SignalFits rs (q ∷ qs) (f .1) .1 .0 in
         event-reads rs q rest ∙ rw (lt-leb 32 (length rs) (omega (arith, f .0, length-append rs (q ∷ qs))), le-ltb 15 (q .priority) (g .0))
@@ -125,16 +125,16 @@ reads-back p h =
 -- ---- what is read
 
 -- one more behaviour, and one more event, after those before it
-behaviour-next : (n : ℕ) (bs : List Entry) (s : List ℕ) → Says encodeBehaviour (λ (x : Entry). EntryFits n x × (cellCount bs + cells (x .item) ≤ 64)) s (behaviourAt n bs s)
+behaviour-next : (n : ℕ) (bs : List Entry) (s : List ℕ) → Says encodeBehaviour (λ (x : Entry). EntryFits n x × (cellCount bs + cells (x .item) ≤ 64)) s (dueAt n bs s)
 behaviour-next n bs s =
     field-of (Says encodeBehaviour (λ (x : Entry). EntryFits n x × (cellCount bs + cells (x .item) ≤ 64)) s) behaviourTag s _ (λ m a b. (a, b))
-    (λ t v rest due h. by-test (Says encodeBehaviour (λ (x : Entry). EntryFits n x × (cellCount bs + cells (x .item) ≤ 64)) s) (leb 64 (cellCount bs)) (λ e. omega arith)
+    (λ t v rest due h. by-test (λ (g : Got Entry). Says encodeBehaviour (λ (x : Entry). EntryFits n x × (cellCount bs + cells (x .item) ≤ 64)) s (filling g rest)) (leb 64 (cellCount bs)) (λ e. omega arith)
     (λ e. behaviour-says n (cellCount bs) s t v rest (leb-false 64 (cellCount bs) e) due h))
 
-behaviours-say : (k n : ℕ) (s : List ℕ) → SaysMany encodeBehaviours (EntriesFit n) atEnd [] s (many atEnd (behaviourAt n) k [] s)
+behaviours-say : (k n : ℕ) (s : List ℕ) → SaysMany encodeBehaviours (EntriesFit n) atEnd [] s (readAll atEnd (dueAt n) k [] s)
 unfolding encodeBehaviours cellCount
 behaviours-say k n s =
-    many-says encodeBehaviour encodeBehaviours refl (λ x xs. refl) atEnd (behaviourAt n) (EntriesFit n)
+    many-says encodeBehaviour encodeBehaviours refl (λ x xs. refl) atEnd (dueAt n) (EntriesFit n)
     (λ (bs : List Entry) (x : Entry). EntryFits n x × (cellCount bs + cells (x .item) ≤ 64)) more (behaviour-next n) k [] s
   where
     more : (bs : List Entry) (x : Entry) → EntriesFit n bs → EntryFits n x × (cellCount bs + cells (x .item) ≤ 64) → EntriesFit n (bs ++ (x ∷ []))
@@ -154,12 +154,14 @@ event-value (r ∷ (m ∷ (x ∷ v))) a b = absurd (omega (arith, ltb-false 2 (l
 sender-fits : (v : List ℕ) → Bytes v → ByteFits (pick (eqb (length v) 1) none (some (getD v 1 0)))
 sender-fits v b = by-test ByteFits (eqb (length v) 1) (λ e. tt) (λ e. all-at-or (λ b. b < 256) v 1 0 b (omega arith))
 
-event-next : (rs : List Signal) (s : List ℕ) → SaysEvent rs s (eventAt rs s)
+event-next : (rs : List Signal) (s : List ℕ) → SaysEvent rs s (signalIn rs s)
 event-next rs s =
     field-of (SaysEvent rs s) (eqb 1) s _ (λ m a b. (a, b))
-    (λ t v rest due h. by-test (SaysEvent rs s) (leb 32 (length rs)) (λ e. omega arith)
-    (λ e. by-test (SaysEvent rs s) (eqb (length v) 0 || ltb 2 (length v)) (λ d. omega arith)
-    (λ d. by-test (SaysEvent rs s) (ltb 15 (getD v 0 0)) (λ c. omega arith)
+    (λ t v rest due h.
+    let P : Got Signal → Type 0 = λ g. SaysEvent rs s (filling g rest) in
+    by-test P (leb 32 (length rs)) (λ e. omega arith)
+    (λ e. by-test P (eqb (length v) 0 || ltb 2 (length v)) (λ d. omega arith)
+    (λ d. by-test P (ltb 15 (getD v 0 0)) (λ c. omega arith)
     (λ c b.
     let p = none-of (eqb (length v) 0) (ltb 2 (length v)) d in
     let q : s ≡ field 1 v ++ rest = rw (sym (eqb-true 1 t due)) at (h b) in (
@@ -167,10 +169,10 @@ event-next rs s =
       (leb-false 32 (length rs) e, (ltb-false 15 (getD v 0 0) c, sender-fits v (field-bytes 1 v rest s b q .0))),
     )))))
 
-events-say : (k : ℕ) (s : List ℕ) → SaysMany encodeEvents SignalsFit noEvent [] s (many noEvent eventAt k [] s)
+events-say : (k : ℕ) (s : List ℕ) → SaysMany encodeEvents SignalsFit noEvent [] s (readAll noEvent signalIn k [] s)
 unfolding encodeEvents
 events-say k s =
-    many-says encodeEvent encodeEvents refl (λ x xs. refl) noEvent eventAt SignalsFit (λ (rs : List Signal) (x : Signal). (length rs < 32) × SignalFits x)
+    many-says encodeEvent encodeEvents refl (λ x xs. refl) noEvent signalIn SignalsFit (λ (rs : List Signal) (x : Signal). (length rs < 32) × SignalFits x)
     (λ rs r f g. (omega (arith, g .0, length-append rs (r ∷ [])), all-join SignalFits rs (r ∷ []) (f .1) (g .1, tt))) event-next k [] s
 
 -- the sheet got is what s has, to its end
@@ -188,8 +190,8 @@ sheet-says s =
     let q = g (all-split (λ b. b < 256) (encodeEvents rs) left (rw (r .0) at b) .1) (omega arith, tt) in
     let z : over ≡ [] = none-left over (eqb-true (length over) 0 (q .2)) in
     (r .0 ∙ ap (λ (u : List ℕ). encodeEvents rs ++ u) (q .0 ∙ rw z (append-nil (encodeBehaviours bs))), r .1, q .1, z))
-    (many atEnd (behaviourAt (length rs)) (suc (length left)) [] left) (behaviours-say (suc (length left)) (length rs) left))
-    (many noEvent eventAt (suc (length s)) [] s) (events-say (suc (length s)) s)
+    (readAll atEnd (dueAt (length rs)) (suc (length left)) [] left) (behaviours-say (suc (length left)) (length rs) left))
+    (readAll noEvent signalIn (suc (length s)) [] s) (events-say (suc (length s)) s)
 
 -- ---- the claims
 

@@ -1,4 +1,4 @@
--- What a result of a reader says of the bytes, and that the reader's connectives (`then`, `sized`, `byteIn`, `many`)
+-- What a result of a reader says of the bytes, and that the reader's connectives (`then`, `sized`, `byteIn`, `readAll`)
 -- carry it. By clauses on the result: a fault has a number from 4 to 10, and what is got is an encoding within its
 -- limits.
 use Prim.Native.Nat.{ℕ, zero, suc, _+_, _*_, _/_, _%_, _≤_, _<_, _^_}
@@ -13,7 +13,7 @@ use Rattle.lib_base.proofs.Tools.{by-test, all-split}
 use Rattle.lib_word.specs.Word.{getAt}
 use Rattle.spec_language.specs.Refusals.{wrongLength}
 use Rattle.spec_language.specs.Grammar.{word}
-use Rattle.spec_language.specs.Reading.{Got, bad, got, then, sized, byteIn, many}
+use Rattle.spec_language.specs.Reading.{Got, bad, got, then, sized, byteIn, readAll}
 use Rattle.spec_grammar.proofs.Fields.{Bytes}
 
 -- a fault's number is one of those for reading; what is read from bytes is its encoding, and the rest
@@ -82,8 +82,8 @@ module _ {A : Type 0} (enc : A → List ℕ) (encs : List A → List ℕ) (nil :
   -- they are read back if each of them is, after those before it
   pub many-reads : (Fits : List A → Type 0) → ((x : A) (rest : List ℕ) → ended (enc x ++ rest) ≡ false)
       → ((xs : List A) (y : A) (ys : List A) (rest : List ℕ) → Fits (xs ++ (y ∷ ys)) → one xs (enc y ++ rest) ≡ got y rest)
-      → (k : ℕ) (xs ys : List A) (rest : List ℕ) → ended rest ≡ true → length ys < k → Fits (xs ++ ys) → many ended one k xs (encs ys ++ rest) ≡ got (xs ++ ys) rest
-  unfolding many
+      → (k : ℕ) (xs ys : List A) (rest : List ℕ) → ended rest ≡ true → length ys < k → Fits (xs ++ ys) → readAll ended one k xs (encs ys ++ rest) ≡ got (xs ++ ys) rest
+  unfolding readAll
   many-reads Fits on each zero xs ys rest z b h = absurd (omega arith)
   many-reads Fits on each (suc k) xs [] rest z b h = rw (nil, z, append-nil xs)
   many-reads Fits on each (suc k) xs (y ∷ ys) rest z b h =
@@ -109,11 +109,11 @@ module _ {A : Type 0} (enc : A → List ℕ) (encs : List A → List ℕ) (nil :
           q .2,
         )
 
-    pub many-says : (k : ℕ) (xs : List A) (s : List ℕ) → SaysMany encs Fits ended xs s (many ended one k xs s)
-    unfolding many
+    pub many-says : (k : ℕ) (xs : List A) (s : List ℕ) → SaysMany encs Fits ended xs s (readAll ended one k xs s)
+    unfolding readAll
     many-says zero xs s = omega arith
     many-says (suc k) xs s =
         by-test (SaysMany encs Fits ended xs s) (ended s) (λ e b f. (refl, f, e))
         (λ e. then-of (SaysMany encs Fits ended xs s) (Says enc (Next xs) s) _ (λ m h. h)
-        (λ x rest g. after xs s x rest g (many ended one k (xs ++ (x ∷ [])) rest) (many-says k (xs ++ (x ∷ [])) rest))
+        (λ x rest g. after xs s x rest g (readAll ended one k (xs ++ (x ∷ [])) rest) (many-says k (xs ++ (x ∷ [])) rest))
         (one xs s) (each xs s))

@@ -8,7 +8,7 @@ use Rattle.spec_language.specs.Syntax.{immediate, later}
 use Rattle.spec_language.specs.Sheet.{literal, variable, apply2, clause, formula, state, row, Sheet, cellCount, heads, renameTerm, entriesOut, rowsOut, changeClauses}
 use Rattle.spec_language.specs.Order.{upTo}
 use Rattle.spec_language.specs.Grammar.{encodeExpr, encodeHandlers, encodeBehaviours, encodeEvents, encode}
-use Rattle.spec_language.specs.Reading.{got, fieldAt, many, exprAt, handles, entry, sheet, readSheet}
+use Rattle.spec_language.specs.Reading.{got, fieldAt, readAll, exprAt, handles, entry, sheet, readSheet}
 use Rattle.spec_language.proofs.FaultTable.{events, first, seen, rowed}
 use Rattle.spec_grammar.proofs.Examples.{plain, bare}
 
@@ -43,7 +43,7 @@ unfolding entriesOut flatMap heads renameTerm changeClauses upTo
 written = refl
 
 pub rows-read : readSheet (encode rows) ≡ got rows []
-unfolding encode encodeEvents encodeBehaviours encodeHandlers encodeExpr readSheet many handles exprAt fieldAt getAt cellCount
+unfolding encode encodeEvents encodeBehaviours encodeHandlers encodeExpr readSheet readAll handles exprAt fieldAt getAt cellCount
 rows-read = refl
 
 -- ---- bytes
@@ -51,10 +51,10 @@ rows-read = refl
 -- 2 and 16 cells, with a handler, and with a right to see
 pub cell-counts : (readSheet (rowed 2 []) ≡ got (sheet [] (bare (row 2 1 []) ∷ [])) []) × (readSheet (rowed 16 []) ≡ got (sheet [] (bare (row 16 1 []) ∷ [])) [])
     × (readSheet (events 1 (rowed 3 (first ++ seen 2))) ≡ got (sheet (plain 0 ∷ []) (entry (row 3 1 (clause 0 immediate (literal 1) ∷ [])) (some 2) ∷ [])) [])
-unfolding readSheet many handles exprAt fieldAt getAt cellCount
+unfolding readSheet readAll handles exprAt fieldAt getAt cellCount
 cell-counts = (refl, refl, refl)
 
 -- four rows of 16
 pub full-rows : readSheet (rowed 16 [] ++ (rowed 16 [] ++ (rowed 16 [] ++ rowed 16 []))) ≡ got (sheet [] (bare (row 16 1 []) ∷ bare (row 16 1 []) ∷ bare (row 16 1 []) ∷ bare (row 16 1 []) ∷ [])) []
-unfolding readSheet many handles exprAt fieldAt getAt cellCount
+unfolding readSheet readAll handles exprAt fieldAt getAt cellCount
 full-rows = refl

@@ -69,7 +69,7 @@ no-fault {A} (suc m) x y r e = absurd (subst kind e tt)
 pub fits-faultless : (n : ℕ) (cs : List Clause) → ClausesFit n cs → clausesFault n [] cs ≡ 0
 fits-faultless n cs h =
     let x : Entry = entry (state 0 cs) none in
-    no-fault (itemFault n 0 (state 0 cs)) x x [] (sym (item-result n 0 (state 0 cs) none []) ∙ behaviour-reads n 0 x [] (omega arith) ((omega arith, h), tt))
+    no-fault (itemFault n 0 (state 0 cs)) x x [] (sym (item-result n 0 (state 0 cs) none) ∙ behaviour-reads n 0 x (omega arith) ((omega arith, h), tt))
 
 -- and a sheet that is read has none
 pub got-faultless : (x : Sheet) → readSheet (encode x) ≡ got x [] → sheetFault x ≡ 0

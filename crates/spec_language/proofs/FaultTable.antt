@@ -9,7 +9,7 @@ use lib.ListN.{length}
 use Rattle.lib_word.specs.Word.{getAt}
 use Rattle.spec_language.specs.Sheet.{Sheet, cellCount}
 use Rattle.spec_language.specs.Grammar.{field, word}
-use Rattle.spec_language.specs.Reading.{Got, bad, got, fieldAt, many, exprAt, handles, readSheet}
+use Rattle.spec_language.specs.Reading.{Got, bad, got, fieldAt, readAll, exprAt, handles, readSheet}
 
 -- ---- bytes
 
@@ -193,9 +193,9 @@ manyCases = (0, after 64 []) ∷ (7, after 65 []) ∷ []
 -- ---- each is told its number
 
 pub faults : Told eventCases × Told passiveCases × Told activeCases × Told handlerCases × Told expressionCases × Told nestedCases × Told rowCases × Told viewerCases
-unfolding readSheet many handles exprAt fieldAt getAt cellCount
+unfolding readSheet readAll handles exprAt fieldAt getAt cellCount
 faults = (refl, refl, refl, refl, refl, refl, refl, refl)
 
 pub crowded : Told crowdedCases × Told manyCases
-unfolding readSheet many handles exprAt fieldAt getAt cellCount
+unfolding readSheet readAll handles exprAt fieldAt getAt cellCount
 crowded = (refl, refl)

@@ -23,59 +23,63 @@ abbrev pub then : {A B : Type 0} → Got A → (A → List ℕ → Got B) → Go
 then (bad n) f = bad n
 then (got x rest) f = f x rest
 
--- a field is due, at the front of the bytes s up to the enclosing end: "4 for its header, 5, 4 for its length", then f
--- of its tag, its value and the bytes after it
-unfoldable pub fieldAt : {A : Type 0} → (ℕ → Bool) → List ℕ → (ℕ → List ℕ → List ℕ → Got A) → Got A
+-- "6 for a fixed length"
+abbrev pub sized : {A : Type 0} → ℕ → List ℕ → Got A → Got A
+sized n v x = pick (eqb (length v) n) x (bad wrongLength)
+
+-- "6 for leftovers": what is read from a field's value leaves nothing of it over, and the bytes after the field follow
+abbrev pub filling : {A : Type 0} → Got A → List ℕ → Got A
+filling g rest = then g (λ x left. sized 0 left (got x rest))
+
+-- a field is due, at the front of the bytes s up to the enclosing end: "4 for its header, 5, 4 for its length", then
+-- what f reads, by its tag, from its value
+unfoldable pub fieldAt : {A : Type 0} → (ℕ → Bool) → List ℕ → (ℕ → List ℕ → Got A) → Got A
 fieldAt due s f =
     let n : ℕ = getD s 1 0 * 256 + getD s 2 0 in
     pick (ltb (length s) 3) (bad torn)
     (pick (not (due (getD s 0 0))) (bad wrongTag)
     (pick (ltb (length s) (n + 3)) (bad torn)
-    (f (getD s 0 0) (take n (drop 3 s)) (drop (n + 3) s))))
-
--- "6 for a fixed length", and with length 0 "6 for leftovers"
-abbrev pub sized : {A : Type 0} → ℕ → List ℕ → Got A → Got A
-sized n v x = pick (eqb (length v) n) x (bad wrongLength)
+    (filling (f (getD s 0 0) (take n (drop 3 s))) (drop (n + 3) s))))
 
 -- a byte is due in a value
 abbrev pub byteIn : {A : Type 0} → List ℕ → (ℕ → List ℕ → Got A) → Got A
 byteIn [] f = bad wrongLength
 byteIn (b ∷ v) f = f b v
 
--- one after another, each read by `one` after those before it, until the bytes left are at an end; the number bounds
--- their count
+-- one after another, each read by `one` after those before it, until the bytes left end them; the number bounds their
+-- count
 module _ {A : Type 0} (ended : List ℕ → Bool) (one : List A → List ℕ → Got A) where
-  unfoldable pub many : ℕ → List A → List ℕ → Got (List A)
-  many zero xs s = bad torn
-  many (suc k) xs s = pick (ended s) (got xs s) (then (one xs s) (λ x rest. many k (xs ++ (x ∷ [])) rest))
+  unfoldable pub readAll : ℕ → List A → List ℕ → Got (List A)
+  readAll zero xs s = bad torn
+  readAll (suc k) xs s = pick (ended s) (got xs s) (then (one xs s) (λ x rest. readAll k (xs ++ (x ∷ [])) rest))
 
 -- ---- expressions
 
 -- the arguments of function f in v, each read by `arg`: `!` (3) needs one, `if` (14) three, the others two
-abbrev pub argsOf : (List ℕ → Got Term) → ℕ → List ℕ → List ℕ → Got Term
-argsOf arg f v rest =
+abbrev pub argsOf : (List ℕ → Got Term) → ℕ → List ℕ → Got Term
+argsOf arg f v =
     then (arg v) (λ a v₁.
-    pick (eqb f 3) (sized 0 v₁ (got (apply1 f a) rest))
+    pick (eqb f 3) (got (apply1 f a) v₁)
     (then (arg v₁) (λ b v₂.
-    pick (eqb f 14) (then (arg v₂) (λ c v₃. sized 0 v₃ (got (apply3 f a b c) rest)))
-    (sized 0 v₂ (got (apply2 f a b) rest)))))
+    pick (eqb f 14) (then (arg v₂) (λ c v₃. got (apply3 f a b c) v₃))
+    (got (apply2 f a b) v₂))))
 
 -- 10 a constant, 11 a name, 12 an application, 13 a parameter, hexadecimal. M-103: "tag 13 hexadecimal, length 1, names
 -- a parameter 0 to 7; a larger one is refused by 8"
-abbrev pub termOf : (List ℕ → Got Term) → ℕ → List ℕ → List ℕ → Got Term
-termOf arg t v rest =
-    pick (eqb t 16) (sized 4 v (got (literal (getAt v 0)) rest))
-    (pick (eqb t 17) (sized 1 v (got (variable (getD v 0 0)) rest))
-    (pick (eqb t 19) (sized 1 v (pick (ltb 7 (getD v 0 0)) (bad offScale) (got (param (getD v 0 0)) rest)))
-    (byteIn v (λ f w. pick (eqb f 0 || ltb 14 f) (bad offScale) (argsOf arg f w rest)))))
+abbrev pub termIn : (List ℕ → Got Term) → ℕ → List ℕ → Got Term
+termIn arg t v =
+    pick (eqb t 16) (sized 4 v (got (literal (getAt v 0)) []))
+    (pick (eqb t 17) (sized 1 v (got (variable (getD v 0 0)) []))
+    (pick (eqb t 19) (sized 1 v (pick (ltb 7 (getD v 0 0)) (bad offScale) (got (param (getD v 0 0)) [])))
+    (byteIn v (λ f w. pick (eqb f 0 || ltb 14 f) (bad offScale) (argsOf arg f w)))))
 
 abbrev pub isTerm : ℕ → Bool
 isTerm t = leb 16 t && leb t 19
 
--- an expression, with so many levels of nesting left; 9 is judged after its length
+-- an expression, with so many levels of nesting left: 9 comes after its length, before its contents
 unfoldable pub exprAt : ℕ → List ℕ → Got Term
-exprAt zero s = fieldAt isTerm s (λ t v rest. bad tooDeep)
-exprAt (suc left) s = fieldAt isTerm s (termOf (exprAt left))
+exprAt zero s = fieldAt isTerm s (λ t v. bad tooDeep)
+exprAt (suc left) s = fieldAt isTerm s (termIn (exprAt left))
 
 -- ---- handlers
 
@@ -88,14 +92,14 @@ abbrev pub phaseOf : ℕ → Phase
 phaseOf zero = immediate
 phaseOf (suc n) = later
 
--- "In a handler: event, phase, 10, expression.", where n events are declared, and the behaviour has the handlers hs so far
-abbrev pub handlerAt : ℕ → List Clause → List ℕ → Got Clause
-handlerAt n hs s =
-    fieldAt (eqb 5) s (λ t v rest.
+-- "In a handler: event, phase, 10, expression."; n events are declared, and the behaviour has the handlers hs so far
+abbrev pub handlerIn : ℕ → List Clause → List ℕ → Got Clause
+handlerIn n hs s =
+    fieldAt (eqb 5) s (λ t v.
     byteIn v (λ e v₁. pick (leb n e) (bad offScale)
     (byteIn v₁ (λ φ v₂. pick (ltb 1 φ) (bad offScale)
     (pick (handles e hs) (bad doubled)
-    (then (exprAt 16 v₂) (λ x left. sized 0 left (got (clause e (phaseOf φ) x) rest))))))))
+    (then (exprAt 16 v₂) (λ x left. got (clause e (phaseOf φ) x) left)))))))
 
 -- ---- behaviours
 
@@ -104,53 +108,49 @@ entry x m = record { item = x; viewer = m }
 
 -- what is left of a behaviour's value after its own part. M-107: "Past a passive's expression only tag 08 begins a
 -- field, other bytes being 6, as are all past an 08."
-abbrev pub endingIn : Item → List ℕ → List ℕ → Got Entry
-endingIn x s rest =
-    pick (eqb (length s) 0) (got (entry x none) rest)
-    (pick (eqb (getD s 0 0) 8)
-    (fieldAt (eqb 8) s (λ t v over. sized 1 v (sized 0 over (got (entry x (some (getD v 0 0))) rest))))
-    (bad wrongLength))
+abbrev pub endingIn : Item → List ℕ → Got Entry
+endingIn x s =
+    pick (eqb (getD s 0 0) 8)
+    (then (fieldAt (eqb 8) s (λ t v. sized 1 v (got (getD v 0 0) []))) (λ m left. got (entry x (some m)) left))
+    (got (entry x none) s)
 
 -- a start, then handlers until the end or a tag 08, and the ending: what they make is an active, or a row of so many
 -- cells
-abbrev pub activeAs : (ℕ → List Clause → Item) → ℕ → List ℕ → List ℕ → Got Entry
-activeAs make n v rest =
-    fieldAt (eqb 4) v (λ t w left.
-    sized 4 w
-    (then (many (λ s. eqb (length s) 0 || eqb (getD s 0 0) 8) (handlerAt n) (suc (length left)) [] left)
-    (λ hs over. endingIn (make (getAt w 0) hs) over rest)))
+abbrev pub activeAs : (ℕ → List Clause → Item) → ℕ → List ℕ → Got Entry
+activeAs make n v =
+    then (fieldAt (eqb 4) v (λ t w. sized 4 w (got (getAt w 0) []))) (λ s v₁.
+    then (readAll (λ u. eqb (length u) 0 || eqb (getD u 0 0) 8) (handlerIn n) (suc (length v₁)) [] v₁) (λ hs v₂.
+    endingIn (make s hs) v₂))
 
--- with n events declared and i behaviours before it, by its tag. M-110: "a one-byte cell count of 2 to 16 (else 8), then
--- goes on as an active. .. past the first cell, 7 is checked after the count."
-abbrev pub behaviourIn : ℕ → ℕ → ℕ → List ℕ → List ℕ → Got Entry
-behaviourIn n i t v rest =
-    pick (eqb t 2) (then (exprAt 16 v) (λ x left. endingIn (formula x) left rest))
+-- by its tag, with n events declared and i behaviours before it. M-110: "a one-byte cell count of 2 to 16 (else 8),
+-- then goes on as an active. .. past the first cell, 7 is checked after the count."
+abbrev pub behaviourIn : ℕ → ℕ → ℕ → List ℕ → Got Entry
+behaviourIn n i t v =
+    pick (eqb t 2) (then (exprAt 16 v) (λ x left. endingIn (formula x) left))
     (pick (eqb t 6)
-    (byteIn v (λ c w.
-    pick (ltb c 2 || ltb 16 c) (bad offScale)
-    (pick (ltb 64 (i + c)) (bad crowded)
-    (activeAs (row c) n w rest))))
-    (activeAs state n v rest))
+    (byteIn v (λ c w. pick (ltb c 2 || ltb 16 c) (bad offScale)
+    (pick (ltb 64 (i + c)) (bad crowded) (activeAs (row c) n w))))
+    (activeAs state n v))
 
--- after those of bs
-abbrev pub behaviourAt : ℕ → List Entry → List ℕ → Got Entry
-behaviourAt n bs s =
-    fieldAt (λ t. eqb t 2 || eqb t 3 || eqb t 6) s (λ t v rest.
-    pick (leb 64 (cellCount bs)) (bad crowded) (behaviourIn n (cellCount bs) t v rest))
+-- where a behaviour is due after those of bs
+abbrev pub dueAt : ℕ → List Entry → List ℕ → Got Entry
+dueAt n bs s =
+    fieldAt (λ t. eqb t 2 || eqb t 3 || eqb t 6) s (λ t v.
+    pick (leb 64 (cellCount bs)) (bad crowded) (behaviourIn n (cellCount bs) t v))
 
 -- ---- the whole
 
 abbrev pub signal : ℕ → Option ℕ → Signal
 signal r m = record { priority = r; sender = m }
 
--- an event after those of rs
-abbrev pub eventAt : List Signal → List ℕ → Got Signal
-eventAt rs s =
-    fieldAt (eqb 1) s (λ t v rest.
+-- an event after those of rs, of one byte or two
+abbrev pub signalIn : List Signal → List ℕ → Got Signal
+signalIn rs s =
+    fieldAt (eqb 1) s (λ t v.
     pick (leb 32 (length rs)) (bad crowded)
     (pick (eqb (length v) 0 || ltb 2 (length v)) (bad wrongLength)
     (pick (ltb 15 (getD v 0 0)) (bad offScale)
-    (got (signal (getD v 0 0) (pick (eqb (length v) 1) none (some (getD v 1 0)))) rest))))
+    (got (signal (getD v 0 0) (pick (eqb (length v) 1) none (some (getD v 1 0)))) []))))
 
 abbrev pub sheet : List Signal → List Entry → Sheet
 sheet rs bs = record { signals = rs; entries = bs }
@@ -158,6 +158,6 @@ sheet rs bs = record { signals = rs; entries = bs }
 -- events as long as a tag 01 follows, then behaviours to the end
 unfoldable pub readSheet : List ℕ → Got Sheet
 readSheet s =
-    then (many (λ u. not (eqb (getD u 0 0) 1)) eventAt (suc (length s)) [] s) (λ rs left.
-    then (many (λ u. eqb (length u) 0) (behaviourAt (length rs)) (suc (length left)) [] left) (λ bs over.
-    got (sheet rs bs) over))
+    then (readAll (λ u. not (eqb (getD u 0 0) 1)) signalIn (suc (length s)) [] s) (λ rs v.
+    then (readAll (λ u. eqb (length u) 0) (dueAt (length rs)) (suc (length v)) [] v) (λ bs left.
+    got (sheet rs bs) left))

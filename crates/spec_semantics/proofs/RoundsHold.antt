@@ -19,7 +19,7 @@ use Rattle.lib_arith.specs.Functions.{exact, result}
 use Rattle.spec_language.specs.Syntax.{Expr, con, name, app2, immediate, later, handler, Behaviour, passive, active, Program}
 use Rattle.spec_language.specs.Sheet.{Term, literal, variable, apply2, clause, state, Sheet, cellCount, entriesOut, fillTerm, fillClauses, fillEntries, fill}
 use Rattle.spec_language.specs.Grammar.{binary, Nested, n-con, n-name, n-app2, encodeExpr, encodeHandlers, encodeBehaviours, encodeEvents, encode}
-use Rattle.spec_language.specs.Reading.{got, fieldAt, many, exprAt, handles, entry, signal, sheet, readSheet}
+use Rattle.spec_language.specs.Reading.{got, fieldAt, readAll, exprAt, handles, entry, signal, sheet, readSheet}
 use Rattle.spec_language.specs.Dependence.{handled, mentions, events, dependsOn, Reach, one, more, NoCycle}
 use Rattle.spec_language.specs.Order.{met, find, order, upTo, metAtOnce, phaseOne}
 use Rattle.spec_language.specs.Accepted.{Valid}
@@ -143,7 +143,7 @@ S-valid = record {
 }
 
 S-holds : (es : List ℕ) → All (λ e. e < 2) es → (board : List ℤ) → map signed (play S-program es (fresh S-program)) ≡ board → Holds (record { bytes = S; given = es; board = board })
-unfolding readSheet many handles exprAt fieldAt getAt cellCount entriesOut flatMap fillTerm fillClauses fillEntries
+unfolding readSheet readAll handles exprAt fieldAt getAt cellCount entriesOut flatMap fillTerm fillClauses fillEntries
 S-holds es h board q = (S-sheet, refl, λ v. by-rules S-program S-valid es h board q)
 
 -- ---- one event
@@ -242,7 +242,7 @@ one-holds x p r f k d board q = (x, r, λ v. subst (λ (o : Program). ByRules o 
 -- ---- the table
 
 pub rounds-hold : All Holds rounds
-unfolding exact result handled mentions met find order upTo metAtOnce phaseOne value inTurn firstPhase laterPhase event starts fresh play readSheet many handles exprAt fieldAt getAt cellCount encode encodeEvents encodeBehaviours encodeHandlers encodeExpr entriesOut flatMap fillTerm fillClauses fillEntries
+unfolding exact result handled mentions met find order upTo metAtOnce phaseOne value inTurn firstPhase laterPhase event starts fresh play readSheet readAll handles exprAt fieldAt getAt cellCount encode encodeEvents encodeBehaviours encodeHandlers encodeExpr entriesOut flatMap fillTerm fillClauses fillEntries
 rounds-hold = (
   S-holds (0 ∷ []) (omega arith, tt) _ refl,
   (
