@@ -1,6 +1,6 @@
 -- Endings: both readers find the same fault, or the draft has who may see the behaviour, 255 where the sheet says
 -- nothing (02, M-107). By the tests of both in turn.
-use Prim.Native.Nat.{ℕ, suc, _+_, _-_, _≤_, _<_}
+use Prim.Native.Nat.{ℕ, suc, _+_, _-_, _≤_}
 use mathlib.Core.Path.{_≡_, refl}
 use mathlib.Core.Option.{Option, none, some}
 use mathlib.Core.List.{List, [], _∷_}

@@ -1,13 +1,13 @@
 -- Where the tree reader and the reader by positions meet: a field, the end of a value, and what is left over.
 -- Both readers make the same tests in the same order, so one walk follows both.
-use Prim.Native.Nat.{ℕ, _+_, _-_, _≤_, _<_}
-use mathlib.Core.Bool.{Bool, true, false, not, _||_}
+use Prim.Native.Nat.{ℕ, _+_, _-_, _≤_}
+use mathlib.Core.Bool.{Bool, true, false, _||_}
 use mathlib.Core.Path.{_≡_, refl, sym, ap, _∙_}
 use mathlib.Core.List.{List, []}
 use native.Mathlib.Omega.{arith}
-use lib.ListN.{length, getD, take, drop, length-drop, drop-of-length-le}
+use lib.ListN.{length, getD, take, drop, length-drop}
 use lib.Seq.{length-take-le, take-all, getD-drop}
-use lib.Dec.{ltb, leb, eqb}
+use lib.Dec.{ltb, eqb}
 use borrow.Author.Tests.{ltb-true, ltb-false, lt-ltb, le-ltb, lt-leb, le-leb, eqb-true, eqb-false, eq-eqb, ne-eqb}
 use Rattle.lib_base.specs.Basics.{pick}
 use Rattle.lib_base.proofs.Tools.{split, by-two}
@@ -96,7 +96,7 @@ pub whole-at : {A B : Type 0} (P : Got A → B → Type 0) (g : Got A) (v : List
 whole-at P g v at a b h y n = rw (end-test at v h) (by-two P (eqb at (length v)) (λ e. y (eqb-true at (length v) e)) (λ e. n))
 
 -- and for the end of a behaviour's own part, which is there or at a tag 08 (02, M-107)
-pub front-byte : (at : ℕ) (v : List ℕ) → getD (drop at v) 0 0 ≡ getD v at 0
+front-byte : (at : ℕ) (v : List ℕ) → getD (drop at v) 0 0 ≡ getD v at 0
 front-byte at v = getD-drop at v 0 0 ∙ ap (λ (i : ℕ). getD v i 0) (omega arith)
 
 pub ends-test : {A B : Type 0} (P : A → B → Type 0) (at : ℕ) (v : List ℕ) (a b : A) (a′ b′ : B) → at ≤ length v → P a a′ → ((at ≡ length v → ⊥) → P b b′)

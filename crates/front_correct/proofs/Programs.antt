@@ -16,19 +16,18 @@ use Rattle.lib_base.specs.Basics.{pick}
 use Rattle.lib_base.proofs.Tools.{split, by-two}
 use Rattle.spec_language.specs.Sheet.{Signal, Entry, Sheet, cells, cellCount, allowed}
 use Rattle.spec_language.proofs.RowLaws.{count-append}
-use Rattle.spec_language.specs.Refusals.{wrongLength, crowded, offScale}
+use Rattle.spec_language.specs.Refusals.{wrongLength, offScale}
 use Rattle.spec_language.specs.Reading.{Got, bad, got, then, filling, readAll, dueAt, signal, signalIn, sheet, readSheet}
 use Rattle.spec_grammar.proofs.Programs.{atEnd, noEvent}
 use Rattle.front_field.specs.Field.{stated, fieldOf}
 use Rattle.front_field.specs.Expression.{Out}
-use Rattle.front_field.specs.declared.Field.{Field}
 use Rattle.front_field.specs.declared.Field.the-variants.{Value, Refused}
 use Rattle.front_draft.specs.Draft.{draftLength}
 use Rattle.front_rows.specs.Cells.{leastOf, mostOf, cellsAt}
 use Rattle.front_sheet.specs.declared.Draft.the-variants.{Ready, Broken}
 use Rattle.front_behaviours.specs.Behaviour.{behaviourOf}
 use Rattle.front_sheet.specs.Whole.{EventRead, sender, signalAt, priorityAt, eventFrom, readEvent, eventNext, readEvents, Finish, finished, proceed, behavioursOf, readOn}
-use Rattle.front_correct.proofs.Fields.{valueIn, span, by-either, between, same-field, value-length, rest-drop, end-test, front-byte}
+use Rattle.front_correct.proofs.Fields.{valueIn, span, by-either, between, same-field, value-length, rest-drop, end-test}
 use Rattle.front_correct.proofs.Behaviours.{GrownBy, SameBehaviour, same-behaviour}
 use Rattle.front_correct.proofs.Spread.{length-spread}
 use Rattle.front_correct.proofs.Sofar.{Sofar, grow, declare, nothing-yet}

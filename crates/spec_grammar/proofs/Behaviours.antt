@@ -8,7 +8,7 @@ use mathlib.Core.List.{List, [], _∷_, _++_, append-assoc}
 use native.Mathlib.Omega.{arith}
 use lib.ListN.{length, length-append}
 use lib.Dec.{eqb, ltb}
-use borrow.Author.Tests.{eqb-true, eqb-false, ltb-false, le-ltb}
+use borrow.Author.Tests.{eqb-true, ltb-false, le-ltb}
 use Rattle.lib_base.proofs.Tools.{by-test, split, none-of, all-split}
 use Rattle.lib_word.specs.Word.{getAt}
 use Rattle.spec_language.specs.Sheet.{Clause, Item, formula, state, row, Entry, cells}

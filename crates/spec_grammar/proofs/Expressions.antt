@@ -12,7 +12,7 @@ use borrow.Author.Tests.{ltb-false, le-ltb, leb-true, eqb-true, eqb-false, eq-eq
 use Rattle.lib_base.specs.Basics.{pick}
 use Rattle.lib_base.proofs.Tools.{by-test, none-of, all-split}
 use Rattle.spec_language.specs.Refusals.{offScale}
-use Rattle.spec_language.specs.Sheet.{Term, literal, variable, apply1, apply2, apply3}
+use Rattle.spec_language.specs.Sheet.{Term, apply1, apply2, apply3}
 use Rattle.spec_language.specs.Grammar.{field, word, encodeExpr, Arity, unary, ternary, binary, TermFits, t-literal, t-variable, t-param, t-apply1, t-apply2, t-apply3}
 use Rattle.spec_language.specs.Reading.{Got, bad, got, sized, filling, byteIn, argsOf, termIn, isTerm, exprAt}
 use Rattle.spec_grammar.proofs.Fields.{Bytes, field-reads, field-of, field-bytes}

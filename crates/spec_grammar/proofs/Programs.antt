@@ -5,7 +5,7 @@ use Prim.Native.Nat.{ℕ, suc, _+_, _≤_, _<_}
 use mathlib.Core.Bool.{Bool, true, false, not, _||_}
 use mathlib.Core.Path.{_≡_, refl, sym, ap, _∙_}
 use mathlib.Core.Option.{Option, none, some}
-use mathlib.Core.List.{List, [], _∷_, _++_, append-assoc, append-nil}
+use mathlib.Core.List.{List, [], _∷_, _++_, append-nil}
 use native.Mathlib.Omega.{arith}
 use lib.ListN.{length, getD, length-append}
 use lib.Dec.{ltb, leb, eqb}
@@ -16,7 +16,7 @@ use Rattle.spec_language.specs.Sheet.{Item, formula, state, row, Signal, Entry,
 use Rattle.spec_language.proofs.RowLaws.{count-append}
 use Rattle.spec_language.specs.Refusals.{crowded, offScale}
 use Rattle.spec_language.specs.Grammar.{ByteFits, field, tagOf, encodeBehaviour, encodeBehaviours, encodeSender, encodeEvent, encodeEvents, encode, ItemFits, SignalFits, EntryFits, SheetFits}
-use Rattle.spec_language.specs.Reading.{Got, bad, got, filling, readAll, behaviourIn, dueAt, signal, signalIn, sheet, readSheet}
+use Rattle.spec_language.specs.Reading.{Got, bad, got, filling, readAll, behaviourIn, dueAt, signal, signalIn, readSheet}
 use Rattle.spec_grammar.proofs.Fields.{Bytes, field-reads, field-of, field-bytes}
 use Rattle.spec_grammar.proofs.Results.{Says, none-left, then-of, SaysMany, many-reads, many-says}
 use Rattle.spec_grammar.proofs.Behaviours.{valueOf, behaviourTag, tag-due, tag-other, behaviour-reads, behaviour-says}

@@ -32,7 +32,7 @@ abbrev pub filling : {A : Type 0} → Got A → List ℕ → Got A
 filling g rest = then g (λ x left. sized 0 left (got x rest))
 
 -- a field is due, at the front of the bytes s up to the enclosing end: "4 for its header, 5, 4 for its length", then
--- what f reads, by its tag, from its value
+-- what f reads, by its tag, from its value. `getD s i 0` is byte i, and 0 past the end
 unfoldable pub fieldAt : {A : Type 0} → (ℕ → Bool) → List ℕ → (ℕ → List ℕ → Got A) → Got A
 fieldAt due s f =
     let n : ℕ = getD s 1 0 * 256 + getD s 2 0 in
@@ -46,8 +46,8 @@ abbrev pub byteIn : {A : Type 0} → List ℕ → (ℕ → List ℕ → Got A) �
 byteIn [] f = bad wrongLength
 byteIn (b ∷ v) f = f b v
 
--- one after another, each read by `one` after those before it, until the bytes left end them; the number bounds their
--- count
+-- one after another, each read by `one` after those before it, until the bytes left end them. The number bounds their
+-- count; one more than the bytes is enough, since a field has three at least
 module _ {A : Type 0} (ended : List ℕ → Bool) (one : List A → List ℕ → Got A) where
   unfoldable pub readAll : ℕ → List A → List ℕ → Got (List A)
   readAll zero xs s = bad torn
@@ -73,6 +73,7 @@ termIn arg t v =
     (pick (eqb t 19) (sized 1 v (pick (ltb 7 (getD v 0 0)) (bad offScale) (got (param (getD v 0 0)) [])))
     (byteIn v (λ f w. pick (eqb f 0 || ltb 14 f) (bad offScale) (argsOf arg f w)))))
 
+-- the tags of expressions
 abbrev pub isTerm : ℕ → Bool
 isTerm t = leb 16 t && leb t 19
 
@@ -132,7 +133,7 @@ behaviourIn n i t v =
     (pick (ltb 64 (i + c)) (bad crowded) (activeAs (row c) n w))))
     (activeAs state n v))
 
--- where a behaviour is due after those of bs
+-- where a behaviour is due after those of bs, with n events declared
 abbrev pub dueAt : ℕ → List Entry → List ℕ → Got Entry
 dueAt n bs s =
     fieldAt (λ t. eqb t 2 || eqb t 3 || eqb t 6) s (λ t v.
