@@ -11,7 +11,7 @@ use Rattle.lib_base.specs.Basics.{pick, All}
 use Rattle.lib_base.proofs.Tools.{through}
 use Rattle.lib_word.specs.Word.{get}
 use Rattle.lib_arith.specs.Exact.{beyond}
-use Rattle.lib_arith.specs.Functions.{exact, result, over}
+use Rattle.lib_arith.specs.Functions.{arity, exact, result, over}
 use Rattle.spec_language.specs.Sheet.{Sheet, cellCount, entriesOut, fillTerm, fillClauses, fillEntries, fill, paramsOf, paramsOfClauses, paramsOfEntries}
 use Rattle.spec_language.specs.Dependence.{takes, keeps, handled, mentions, needs, dependsOn, Reach, one, more, NoCycle}
 use Rattle.spec_language.specs.Syntax.{Expr, con, name, app2, app3}
@@ -48,11 +48,11 @@ unfolding flatMap entriesOut fillTerm fillClauses fillEntries handled mentions m
 ends-one-by-one = refl
 
 pub no-points : storeIn (after finalProgram (map call atOnce)) ≡ 1 ∷ 0 ∷ []
-unfolding flatMap entriesOut fillTerm fillClauses fillEntries handled mentions met find order upTo metAtOnce phaseOne value inTurn firstPhase starts fresh emptied act turn runTurns code copyPart flatten firstPart inOrder postfix secondPart restorePart execute exact result over beyond times
+unfolding flatMap entriesOut fillTerm fillClauses fillEntries handled mentions met find order upTo metAtOnce phaseOne value inTurn firstPhase starts fresh emptied act turn runTurns code copyPart flatten firstPart inOrder postfix secondPart restorePart execute exact result over beyond times arity
 no-points = refl
 
 pub twenty-points : storeIn (after finalProgram (map call oneByOne)) ≡ 1 ∷ 20 ∷ []
-unfolding flatMap entriesOut fillTerm fillClauses fillEntries handled mentions met find order upTo metAtOnce phaseOne value inTurn firstPhase starts fresh emptied act turn runTurns code copyPart flatten firstPart inOrder postfix secondPart restorePart execute exact result over beyond times
+unfolding flatMap entriesOut fillTerm fillClauses fillEntries handled mentions met find order upTo metAtOnce phaseOne value inTurn firstPhase starts fresh emptied act turn runTurns code copyPart flatten firstPart inOrder postfix secondPart restorePart execute exact result over beyond times arity
 twenty-points = refl
 
 -- ---- the sheet is accepted
