@@ -23,7 +23,8 @@ use Rattle.spec_model.specs.Claims.{copyBackIn, aloneCalls, eventsOf, takenInBy
 use Rattle.spec_model.proofs.History.{runs-append, Fit}
 use Rattle.spec_model.proofs.Boards.{storeAfter, stored}
 use Rattle.spec_model.proofs.Replaying.{proper, replays, replays-alone}
-use Rattle.spec_model.proofs.Alone.{calls-run}
+use Rattle.spec_model.proofs.Counts.{mark-right}
+use Rattle.spec_model.proofs.Alone.{calls-run, alone-right}
 use Rattle.spec_model.proofs.ModelHolds.{holds, same-board}
 use Rattle.run_step.specs.Machine.{stepOn}
 use Rattle.refine_calls.specs.Refinement.{decoded, ByteTurn, calls, Bytes, bytesAfter, AreTurns}
@@ -110,7 +111,7 @@ module _ (p : Program) (ok : Accepted p) (t₀ l₀ : List ℕ) (table-room : 34
     mark a m h =
         let s : State = after p ts in
         let e : act (inForce s) step (engineIn s) .answer ≡ committed a m = sym (next-read l₀ (bytesAfter xs bytes) s stand) ∙ h in
-        let k = all .mark a m (says-next s (committed a m) e) in
+        let k = mark-right p v ts sound a m (says-next s (committed a m) e) in
         let g = proper p v ts sound in
         mark-in s (stand .fit) (storeAfter p (historyOf p ts)) (stored p v ts sound .0) a m k
         (replays p v (historyOf p ts) g (fresh p) (length-fresh p)) (λ c r. replays-alone p v (historyOf p ts) g (fresh p) c (length-fresh p) r) refl
@@ -138,7 +139,7 @@ module _ (p : Program) (ok : Accepted p) (t₀ l₀ : List ℕ) (table-room : 34
         × Plays (inForce (after p ts)) (e ∷ []) (boardOf (inForce (after p ts)) (bytesAfter xs bytes .round))
         (boardOf (inForce (after p ts)) (bytesAfter (xs ++ map calls more) bytes .round))
     one-event h b eight sends room =
-        let k = all xs ts mean .one-event (idle-is xs ts mean .0 h) e who b eight sends room in
+        let k = alone-right p v ts (sound xs ts mean) (idle-is xs ts mean .0 h) e who b eight sends room in
         let s : List ℕ = boardOf (inForce (after p ts)) (bytesAfter xs bytes .round) in
         let then : event (inForce (after p ts)) e s ≡ boardOf (inForce (after p ts)) (bytesAfter (xs ++ map calls more) bytes .round) =
         ap (event (inForce (after p ts)) e) (board-is xs ts mean) ∙ sym (k .1) ∙ sym board-then in (

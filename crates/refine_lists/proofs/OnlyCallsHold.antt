@@ -15,8 +15,10 @@ use Rattle.spec_semantics.specs.Plays.{Plays}
 use Rattle.spec_semantics.proofs.PlaysLaws.{plays, plays-alone}
 use Rattle.spec_semantics.proofs.Lengths.{length-fresh}
 use Rattle.spec_model.specs.Model.{Arrival, Call, State, state, call, turn, replies, begun}
-use Rattle.spec_model.specs.Claims.{Moment, Unchanged, commits, committedIn, eventsOf, engineIn, inForce, after, historyOf, takenInBy, replayed, copyBackIn, storeIn, courseOf, last, onward, SameChanges, ApartIn, ApartEach, Course}
+use Rattle.spec_model.specs.Claims.{Moment, Unchanged, commits, committedIn, eventsOf, engineIn, inForce, after, historyOf, takenInBy, copyBackIn, storeIn, courseOf, last, onward, SameChanges, ApartIn, ApartEach, Course}
+use Rattle.spec_model.specs.Evaluated.{replayed}
 use Rattle.spec_model.proofs.Alone.{only-commits}
+use Rattle.spec_model.proofs.Boards.{board-of-commits}
 use Rattle.spec_model.proofs.Confluence.{each-perm}
 use Rattle.spec_model.proofs.Replaying.{Proper, proper}
 use Rattle.refine_calls.specs.Refinement.{calls, Bytes, bytesAfter, turnOnBytes, AreTurns}
@@ -84,7 +86,7 @@ module _ (p : Program) (ok : Accepted p) where
         → boardOf p (bytesAfter (map calls cs) first .round) ≡ play p (eventsOf (committedIn p (map call cs))) (fresh p)
     at-rules cs h =
         board-of-calls cs
-        ∙ list cs .sentences .board (subst (λ (q : Program). copyBackIn q (engineIn (after p (map call cs))) ≡ false) (sym (stays cs)) h)
+        ∙ board-of-commits p (valid p ok) (map call cs) (turns-sound (map calls cs) (map call cs) (are-calls cs)) (subst (λ (q : Program). copyBackIn q (engineIn (after p (map call cs))) ≡ false) (sym (stays cs)) h)
         ∙ ap (λ (l : List Moment). replayed p l (fresh p)) (history cs) ∙ played p (committedIn p (map call cs)) (fresh p)
 
     pub only-calls : (cs : List Call) → OnlyCalls p l₀ first cs

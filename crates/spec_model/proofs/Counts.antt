@@ -14,7 +14,8 @@ use Rattle.spec_semantics.specs.Meaning.{at}
 use Rattle.spec_semantics.specs.OverMeaning.{eventOver}
 use Rattle.spec_execution.proofs.CodeRight.{code-facts}
 use Rattle.spec_model.specs.Model.{Arrival, arrival, Engine, Call, arrive, step, board, Answer, refused, takenIn, shows, idle, ran, started, preempted, committed, rank, act, run, Turn, call, change, State, state, Reply, says, carriedOver, TurnOutcome, turn, runTurns, replies, begun}
-use Rattle.spec_model.specs.Claims.{number, stepsOf, AtRest, previewed, Moment, committedBy, ifCommits, momentOf, moments, ifTakenIn, takenTurns, inForce, engineIn, numberIn, handIn, storeIn, IdleIn, after, historyOf, Sound, NotCarried, Unchanged, callsOf, stepsAmong, countNow, IdleWithin, QuietExactly, NobodyWaits, PreviewRight, MarkRight}
+use Rattle.spec_model.specs.Claims.{number, stepsOf, AtRest, previewed, Moment, committedBy, ifCommits, momentOf, moments, ifTakenIn, takenTurns, inForce, engineIn, numberIn, handIn, storeIn, IdleIn, after, historyOf, Sound, NotCarried, Unchanged, callsOf, stepsAmong, countNow, IdleWithin, QuietExactly, NobodyWaits, PreviewRight}
+use Rattle.spec_model.specs.Evaluated.{MarkRight}
 use Rattle.spec_model.proofs.Calls.{answers, commitsOf, takenFrom}
 use Rattle.spec_model.proofs.Reached.{DoneIn}
 use Rattle.spec_model.proofs.IdleWithin.{idle-from, empty}

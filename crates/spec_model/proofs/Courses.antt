@@ -18,7 +18,8 @@ use Rattle.spec_semantics.proofs.Commute.{commute}
 use Rattle.spec_execution.proofs.CodeRight.{code-facts}
 use Rattle.spec_model.specs.Carried.{carried}
 use Rattle.spec_model.specs.Model.{Arrival, rank}
-use Rattle.spec_model.specs.Claims.{eventsOf, Moment, commits, changes, committedBy, Commit, commitsUnder, replayed, Course, last, thenChange, onward, courseOf, SameChanges, ApartIn, ApartEach, unsigned}
+use Rattle.spec_model.specs.Claims.{eventsOf, Moment, commits, changes, committedBy, Commit, commitsUnder, Course, last, thenChange, onward, courseOf, SameChanges, ApartIn, ApartEach, unsigned}
+use Rattle.spec_model.specs.Evaluated.{replayed}
 use Rattle.spec_model.proofs.Carries.{length-carried}
 use Rattle.spec_model.proofs.Choice.{numbers, distinct-numbers, perm-rest}
 use Rattle.spec_model.proofs.Equals.{Sooner, sooner-prop}

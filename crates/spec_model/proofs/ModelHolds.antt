@@ -6,19 +6,16 @@ use Rattle.spec_language.specs.Syntax.{Program}
 use Rattle.spec_language.specs.Accepted.{Valid}
 use Rattle.spec_model.specs.Model.{Turn}
 use Rattle.spec_model.specs.Claims.{Sound, SameBoard, Sentences}
-use Rattle.spec_model.proofs.Boards as boards
 use Rattle.spec_model.proofs.Replaying as replaying
 use Rattle.spec_model.proofs.Once as once
 use Rattle.spec_model.proofs.Equals as equals
 use Rattle.spec_model.proofs.Lower as lower
 use Rattle.spec_model.proofs.Counts as counts
-use Rattle.spec_model.proofs.Alone as alone
 use Rattle.spec_model.proofs.SameBoard as same
 
 module _ (p : Program) (v : Valid p) where
   pub holds : (ts : List Turn) → All Sound ts → Sentences p ts
   holds ts g = record {
-    board = boards.board-of-commits p v ts g;
     by-rules = replaying.board-by-rules p v ts g;
     once = once.once-each p v ts g;
     equals = equals.equals-in-order p v ts g;
@@ -26,9 +23,7 @@ module _ (p : Program) (v : Valid p) where
     within = counts.idle-in-count p v ts g;
     quiet = counts.quiet-exactly p v ts g;
     nobody-waits = counts.nobody-waits p v ts g;
-    one-event = alone.alone-right p v ts g;
     previews = counts.preview-right p v ts g;
-    mark = counts.mark-right p v ts g;
   }
 
   pub same-board : (ts us : List Turn) → All Sound ts → All Sound us → SameBoard p ts us

@@ -1,5 +1,5 @@
 -- Demand 3 in terms of the model engine: what is said of every list of turns, calls and changes of sheets, from the
--- initial engine of a program. 02, M-100, M-101, M-104, M-112 and M-113. A list of calls alone is a case of it.
+-- initial engine of a program. 02, M-100, M-101, M-112 and M-113. A list of calls alone is a case of it.
 use Prim.Native.Nat.{ℕ, suc, _+_, _*_, _≤_, _<_, max}
 use mathlib.Core.Bool.{Bool, true, false}
 use mathlib.Core.Path.{_≡_}
@@ -10,16 +10,15 @@ use lib.Dec.{leb}
 use Rattle.lib_base.specs.Basics.{pick, All}
 use Rattle.spec_language.specs.Syntax.{Program}
 use Rattle.spec_language.specs.Dependence.{size, events, Independent}
-use Rattle.spec_language.specs.Rights.{maySend, maySee}
+use Rattle.spec_language.specs.Rights.{maySee}
 use Rattle.spec_language.specs.Accepted.{Valid}
 use Rattle.spec_language.specs.Code.{code}
 use Rattle.spec_language.specs.Order.{upTo}
 use Rattle.spec_language.specs.Refusals as refusals
 use Rattle.spec_semantics.specs.Rules.{Runs, Shows}
-use Rattle.spec_semantics.specs.Meaning.{at, event, fresh, withStore}
-use Rattle.spec_semantics.specs.OverMeaning.{eventOver}
+use Rattle.spec_semantics.specs.Meaning.{at, fresh, withStore}
 use Rattle.spec_execution.specs.Execution.{copyingBackAfter}
-use Rattle.spec_model.specs.Carried.{carried, Carries}
+use Rattle.spec_model.specs.Carried.{Carries}
 use Rattle.spec_model.specs.Model.{Arrival, arrival, rest, busy, Engine, engine, queue, Call, arrive, step, board, Answer, refused, takenIn, shows, idle, ran, started, preempted, committed, rank, inCopyBack, act, run, Turn, call, change, State, state, Reply, says, carriedOver, turn, runTurns, replies, begun}
 
 -- ---- what an engine says
@@ -230,25 +229,15 @@ Sound (change q) = Valid q
 
 -- ---- the board. "Commits before the change follow the old sheet and later ones the new"
 
--- what a history does to a store, p being in force
-unfoldable pub replayed : Program → List Moment → List ℕ → List ℕ
-replayed p [] s = s
-replayed p (commits a ∷ h) s = replayed p h (event p (a .event) s)
-replayed p (changes q ∷ h) s = replayed q h (carried p q s)
-
--- "unless a copy-back is under way, the board equals what demand 2's rules give for the committed events, one by one,
--- undivided, in order of commitment"
-abbrev pub BoardOfCommits : Program → List Turn → Type 0
-BoardOfCommits p ts = copyBackAfter p ts ≡ false → storeIn (after p ts) ≡ replayed p (historyOf p ts) (fresh p)
-
--- the same by Figure 1's rules: p being in force, the history leads from the store s to the last store
+-- by Figure 1's rules, p being in force, the history leads from the store s to the last store
 pub data Replays : Program → List Moment → List ℕ → List ℕ → Type 0 where
   done : {p : Program} {s : List ℕ} → Replays p [] s s
   next : {p : Program} {a : Arrival} {h : List Moment} {s first s′ last : List ℕ} → Runs (withStore p s) (a .event) first (withStore p s′) → length s′ ≡ size p
       → ((i : ℕ) → i < size p → Shows (withStore p s′) i (at s′ i)) → Replays p h s′ last → Replays p (commits a ∷ h) s last
   turns : {p q : Program} {h : List Moment} {s s′ last : List ℕ} → Carries p q s s′ → Replays q h s′ last → Replays p (changes q ∷ h) s last
 
--- the rules lead there, and to no other store
+-- "unless a copy-back is under way, the board equals what demand 2's rules give for the committed events, one by one,
+-- undivided, in order of commitment": the rules lead there, and to no other store
 abbrev pub BoardByRules : Program → List Turn → Type 0
 BoardByRules p ts =
     copyBackAfter p ts ≡ false
@@ -343,15 +332,7 @@ NobodyWaits p ts =
     → All (λ b. rank (programAfter p ts) b ≤ rank (programAfter p ts) a) (takenThen p ts us)
     → countNow (after p ts) ≤ stepsAmong us → List·Memᴰ a (committedThen p ts us)
 
--- ---- demand 2, M-101 and M-104, with the program in force
-
--- "An event run alone": from an idle round, an event that is taken in and stepped to its commit leaves the store of its
--- meaning
-abbrev pub AloneRight : Program → List Turn → Type 0
-AloneRight p ts =
-    IdleIn (after p ts) → (e who : ℕ) → e < events (programAfter p ts) → who < 8 → maySend (programAfter p ts) who e ≡ true → numberIn (after p ts) < 1000000
-    → (historyOf p (ts ++ map call (aloneCalls (programAfter p ts) e who)) ≡ historyOf p ts ++ (commits (arrival (numberIn (after p ts)) e who) ∷ []))
-    × (storeIn (after p (ts ++ map call (aloneCalls (programAfter p ts) e who))) ≡ event (programAfter p ts) e (storeIn (after p ts)))
+-- ---- M-101, with the program in force
 
 -- whichever way the round is then run to idle, no further arrival taken in and no sheet changed, the board shows the
 -- previewed value
@@ -363,13 +344,6 @@ PreviewRight p ts =
     → numberIn (after p (ts ++ (call (arrive e who) ∷ us))) ≡ numberIn (after p ts) + 1
     → IdleIn (after p (ts ++ (call (arrive e who) ∷ us)))
     → previewed (programAfter p ts) (engineAfter p ts) e i who ≡ shows (at (storeIn (after p (ts ++ (call (arrive e who) ∷ us)))) i)
-
--- "the committing step's answer carries a mark: set exactly if some application in that event's meaning did so": of a
--- step called after the list, on the store of the history so far
-abbrev pub MarkRight : Program → List Turn → Type 0
-MarkRight p ts =
-    (a : Arrival) (m : Bool) → turn (call step) (after p ts) .reply ≡ says (committed a m)
-    → (a .event < events (programAfter p ts)) × (m ≡ eventOver (programAfter p ts) (a .event) (replayed p (historyOf p ts) (fresh p)))
 
 -- ---- two lists. "equal boards on two phones need independence in each sheet and the same change after the same
 -- commits"
@@ -420,7 +394,6 @@ SameBoard p ts us =
 -- ---- every sentence about one list
 
 pub record Sentences (p : Program) (ts : List Turn) : Type 0 where
-  pub board : BoardOfCommits p ts
   pub by-rules : BoardByRules p ts
   pub once : OnceEach p ts
   pub equals : EqualsInOrder p ts
@@ -428,6 +401,4 @@ pub record Sentences (p : Program) (ts : List Turn) : Type 0 where
   pub within : IdleWithin p ts
   pub quiet : QuietExactly p ts
   pub nobody-waits : NobodyWaits p ts
-  pub one-event : AloneRight p ts
   pub previews : PreviewRight p ts
-  pub mark : MarkRight p ts

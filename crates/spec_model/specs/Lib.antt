@@ -1,3 +1,4 @@
 pub mod Carried
 pub mod Model
 pub mod Claims
+pub mod Evaluated
