@@ -1,6 +1,6 @@
 -- No two answers to one kind of call have the same number: each is read back from it. Answer by answer.
 use Prim.Native.Nat.{ℕ, _+_, _-_, _/_, _%_, _≤_, _<_}
-use mathlib.Core.Bool.{true, false}
+use mathlib.Core.Bool.{Bool, true, false}
 use mathlib.Core.Path.{_≡_, refl, sym, ap, _∙_, subst}
 use mathlib.Core.Logic.{_≢_}
 use mathlib.Core.List.{List, [], _∷_}
@@ -16,7 +16,7 @@ use Rattle.spec_language.specs.Code.{code}
 use Rattle.spec_language.specs.Rights.{maySend, maySee}
 use Rattle.spec_language.specs.Refusals as refusals
 use Rattle.spec_execution.specs.Execution.{Values}
-use Rattle.spec_model.specs.Model.{Arrival, rest, busy, Engine, engine, queue, Call, arrive, step, board, Answer, refused, takenIn, shows, idle, ran, started, preempted, committed, Outcome, rank, masked, inCopyBack, choose, advance, act, unmarked}
+use Rattle.spec_model.specs.Model.{Arrival, rest, busy, Engine, engine, queue, Call, arrive, step, board, Answer, refused, takenIn, shows, idle, ran, started, preempted, committed, Outcome, rank, masked, inCopyBack, choose, advance, act}
 use Rattle.spec_model.proofs.Choice.{choose-perm}
 use Rattle.spec_model.proofs.Reached.{Fine, Reached}
 use Rattle.run_dispatch.specs.Dispatch.{said}
@@ -190,24 +190,28 @@ foreign-read = refl
 pub foreign-apart : (a : Answer) → ToStep a → coded a ≢ refusals.foreign
 foreign-apart a h e = subst ToStep (sym (decoded-step a h) ∙ ap (decoded step) e) h
 
-below : (v : ℕ) → v < overMark → v % overMark ≡ v
-below v h = omega arith
-
-past : (v : ℕ) → v < overMark → (overMark + v) % overMark ≡ v
-past v h = omega arith
-
 -- ---- what the others are told: 02, M-107: "without the mark"
 
-pub told-coded : (a : Answer) → ToStep a → toldOn (coded a) ≡ coded (unmarked a)
-told-coded (refused n) h = absurd h
-told-coded takenIn h = absurd h
-told-coded (shows v) h = absurd h
-told-coded idle h = refl
-told-coded ran h = refl
-told-coded (started a) h = below (said 2 (a .number) (a .event) (a .player)) (said-below 2 (a .number) (a .event) (a .player) (h .0) (h .2) (omega arith) (h .1))
-told-coded (preempted a) h = below (said 4 (a .number) (a .event) (a .player)) (said-below 4 (a .number) (a .event) (a .player) (h .0) (h .2) (omega arith) (h .1))
-told-coded (committed a false) h = below (said 3 (a .number) (a .event) (a .player)) (said-below 3 (a .number) (a .event) (a .player) (h .0) (h .2) (omega arith) (h .1))
-told-coded (committed a true) h = past (said 3 (a .number) (a .event) (a .player)) (said-below 3 (a .number) (a .event) (a .player) (h .0) (h .2) (omega arith) (h .1))
+-- a kind and an arrival are told as they are
+said-told : (k : ℕ) (a : Arrival) → k < 16 → Small a → toldOn (said k (a .number) (a .event) (a .player)) ≡ said k (a .number) (a .event) (a .player)
+said-told k a b h = let z = said-below k (a .number) (a .event) (a .player) (h .0) (h .2) b (h .1) in omega arith
+
+past : (v : ℕ) → toldOn (overMark + v) ≡ toldOn v
+past v = omega arith
+
+pub commit-told : (a : Arrival) (m : Bool) → ToStep (committed a m) → toldOn (coded (committed a m)) ≡ coded (committed a false)
+commit-told a false h = said-told 3 a (omega arith) h
+commit-told a true h = past (said 3 (a .number) (a .event) (a .player)) ∙ said-told 3 a (omega arith) h
+
+pub other-told : (x : Answer) → ToStep x → ((a : Arrival) (m : Bool) → x ≢ committed a m) → toldOn (coded x) ≡ coded x
+other-told (refused n) h c = absurd h
+other-told takenIn h c = absurd h
+other-told (shows v) h c = absurd h
+other-told idle h c = refl
+other-told ran h c = refl
+other-told (started a) h c = said-told 2 a (omega arith) h
+other-told (preempted a) h c = said-told 4 a (omega arith) h
+other-told (committed a m) h c = absurd (c a m refl)
 
 -- ---- the model's answers are such
 

@@ -34,7 +34,7 @@ use Rattle.refine_calls.proofs.TurnsRefine.{Stand, runs, turns-refine, turns-so
 use Rattle.refine_calls.proofs.TurnsRefine as refine
 use Rattle.refine_lists.specs.Lists.{boardOf, IdleNow, CommitMark, OneList, decodedReply}
 use Rattle.refine_lists.proofs.Tables.{turns-left}
-use Rattle.refine_lists.proofs.Standing.{board-of, idle-both, next-read, told-next, forecast-of, preview-of, all-read}
+use Rattle.refine_lists.proofs.Standing.{board-of, idle-both, next-read, commit-told-next, other-told-next, forecast-of, preview-of, all-read}
 
 -- calls alone mean themselves
 pub turns-calls : (xs : List ByteTurn) (ts : List Turn) (cs : List Call) → AreTurns xs ts → AreTurns (xs ++ map calls cs) (ts ++ map call cs)
@@ -167,7 +167,8 @@ module _ (p : Program) (ok : Accepted p) (t₀ l₀ : List ℕ) (table-room : 34
         forecast = forecast-of l₀ b (after p ts) st;
         preview = preview-of l₀ b (after p ts) st;
         mark = mark xs ts mean;
-        told = told-next l₀ b (after p ts) st;
+        told-commit = commit-told-next l₀ b (after p ts) st;
+        told-else = other-told-next l₀ b (after p ts) st;
       }
 
 -- ---- two lists

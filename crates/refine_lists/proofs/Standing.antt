@@ -1,19 +1,21 @@
 -- What the bytes say where the table in force says the program in force and the round stands for the engine: the board,
 -- the step called next, a forecast and a preview. Each call agrees.
 use Prim.Native.Nat.{ℕ, _+_, _≤_}
-use mathlib.Core.Path.{_≡_, refl, sym, ap, _∙_}
+use mathlib.Core.Bool.{Bool, false}
+use mathlib.Core.Path.{_≡_, refl, sym, ap, _∙_, subst}
+use mathlib.Core.Logic.{_≢_}
 use mathlib.Core.List.{List, [], _∷_, map, zipWith}
 use native.Mathlib.Omega.{arith}
 use Rattle.lib_base.proofs.Tools.{by-test}
 use Rattle.spec_language.specs.Syntax.{Program}
 use Rattle.spec_language.specs.Dependence.{events}
-use Rattle.spec_model.specs.Model.{engine, queue, Call, step, idle, unmarked, inCopyBack, act, Turn, call, change, State, state, says, TurnOutcome, declaredIn, turn, replies}
+use Rattle.spec_model.specs.Model.{Arrival, engine, queue, Call, step, idle, committed, inCopyBack, act, Turn, call, change, State, state, says, TurnOutcome, declaredIn, turn, replies}
 use Rattle.spec_model.specs.Claims.{forecast, previewed, inForce, engineIn, storeIn, IdleIn}
 use Rattle.run_step.specs.Machine.{stepOn}
 use Rattle.run_forecast.specs.Forecast.{forecastOn}
 use Rattle.run_preview.specs.Preview.{previewOn}
 use Rattle.refine_calls.specs.Refinement.{coded, decoded, toldOn, callOn, codedReply, ByteTurn, calls, mends, Bytes, turnOnBytes, IsTurn, AreTurns}
-use Rattle.refine_calls.proofs.Coded.{answer-to, decoded-coded, coded-injective, told-coded}
+use Rattle.refine_calls.proofs.Coded.{ToStep, answer-to, decoded-coded, coded-injective, commit-told, other-told}
 use Rattle.refine_calls.proofs.Agrees.{call-agrees}
 use Rattle.refine_calls.proofs.Forecasts.{forecast-agrees}
 use Rattle.refine_calls.proofs.Previews.{preview-agrees}
@@ -44,9 +46,20 @@ pub next-read : (l₀ : List ℕ) (b : Bytes) (s : State) → Stand l₀ b s →
 next-read l₀ b (state p w) h =
     ap (decoded step) (stepped l₀ b (state p w) h) ∙ decoded-coded step (act p step w .answer) (answer-to p (few-of l₀ b (state p w) h) step w (h .fit .1))
 
-pub told-next : (l₀ : List ℕ) (b : Bytes) (s : State) → Stand l₀ b s → toldOn (stepOn (b .table) (b .round) .0) ≡ coded (unmarked (act (inForce s) step (engineIn s) .answer))
-told-next l₀ b (state p w) h =
-    ap toldOn (stepped l₀ b (state p w) h) ∙ told-coded (act p step w .answer) (answer-to p (few-of l₀ b (state p w) h) step w (h .fit .1))
+pub commit-told-next : (l₀ : List ℕ) (b : Bytes) (s : State) → Stand l₀ b s → (a : Arrival) (m : Bool)
+    → decoded step (stepOn (b .table) (b .round) .0) ≡ committed a m → toldOn (stepOn (b .table) (b .round) .0) ≡ coded (committed a false)
+commit-told-next l₀ b (state p w) h a m e =
+    let is : act p step w .answer ≡ committed a m = sym (next-read l₀ b (state p w) h) ∙ e in
+    ap toldOn (stepped l₀ b (state p w) h ∙ ap coded is) ∙ commit-told a m (subst ToStep is (answer-to p (few-of l₀ b (state p w) h) step w (h .fit .1)))
+
+pub other-told-next : (l₀ : List ℕ) (b : Bytes) (s : State) → Stand l₀ b s
+    → ((a : Arrival) (m : Bool) → decoded step (stepOn (b .table) (b .round) .0) ≢ committed a m)
+    → toldOn (stepOn (b .table) (b .round) .0) ≡ stepOn (b .table) (b .round) .0
+other-told-next l₀ b (state p w) h c =
+    let said = stepped l₀ b (state p w) h in
+    ap toldOn said
+    ∙ other-told (act p step w .answer) (answer-to p (few-of l₀ b (state p w) h) step w (h .fit .1)) (λ a m e. c a m (next-read l₀ b (state p w) h ∙ e))
+    ∙ sym said
 
 -- ---- a forecast and a preview
 

@@ -5,6 +5,7 @@ use Prim.Native.Nat.{ℕ, _+_, _≤_, _<_}
 use mathlib.Core.Bool.{Bool, true, false}
 use mathlib.Core.List.{List, [], _∷_, _++_, map, zipWith}
 use mathlib.Core.Path.{_≡_}
+use mathlib.Core.Logic.{_≢_}
 use lib.Dec.{eqb}
 use lib.ListN.{length}
 use Rattle.lib_base.specs.Basics.{All, pick}
@@ -19,7 +20,7 @@ use Rattle.spec_semantics.specs.Meaning.{fresh, withStore}
 use Rattle.spec_semantics.specs.Over.{EventOver}
 use Rattle.spec_semantics.specs.Plays.{Plays}
 use Rattle.spec_model.specs.Claims.{programAfter, engineAfter, copyBackAfter, after, historyOf, takenInBy, courseOf, SameChanges, ApartEach, numberIn, IdleIn, commits, Replays, Sentences, eventsOf, copyBackIn, aloneCalls, forecast, previewed, committedIn, ApartIn, Unchanged}
-use Rattle.spec_model.specs.Model.{Turn, call, Reply, says, carriedOver, replies, begun, change, Arrival, arrival, step, refused, committed, unmarked, act, Call}
+use Rattle.spec_model.specs.Model.{Turn, call, Reply, says, carriedOver, replies, begun, change, Arrival, arrival, step, refused, committed, Call}
 use Rattle.format_image.specs.Image.{tableOf}
 use Rattle.back_compile.specs.Verdict.{programOf, compileOn}
 use Rattle.run_start.specs.Start.{startOn}
@@ -103,8 +104,12 @@ pub record OneList (p : Program) (l₀ : List ℕ) (b : Bytes) (xs : List ByteTu
   -- did so. .. What a broken-in handler found is dropped": of the step called next, as its number is read
   pub mark : (a : Arrival) (m : Bool) → decoded step (stepOn (bytesAfter xs b .table) (bytesAfter xs b .round) .0) ≡ committed a m → CommitMark p ts a m
   -- 02, M-107: "only the host is told M-104's mark: a step carries no player and returns the host's answer, and a
-  -- further call turns that into the others', without the mark": of the step called next
-  pub told : toldOn (stepOn (bytesAfter xs b .table) (bytesAfter xs b .round) .0) ≡ coded (unmarked (act (programAfter p ts) step (engineAfter p ts) .answer))
+  -- further call turns that into the others', without the mark": of the step called next, a commit's number and any
+  -- other
+  pub told-commit : (a : Arrival) (m : Bool) → decoded step (stepOn (bytesAfter xs b .table) (bytesAfter xs b .round) .0) ≡ committed a m
+      → toldOn (stepOn (bytesAfter xs b .table) (bytesAfter xs b .round) .0) ≡ coded (committed a false)
+  pub told-else : ((a : Arrival) (m : Bool) → decoded step (stepOn (bytesAfter xs b .table) (bytesAfter xs b .round) .0) ≢ committed a m)
+      → toldOn (stepOn (bytesAfter xs b .table) (bytesAfter xs b .round) .0) ≡ stepOn (bytesAfter xs b .table) (bytesAfter xs b .round) .0
 
 -- ---- lists of calls alone, as 01 words them: each is a list of turns, so all of the above holds of it
 

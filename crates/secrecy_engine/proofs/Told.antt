@@ -9,7 +9,8 @@ use native.Mathlib.Omega.{arith}
 use lib.Dec.{eqb}
 use Rattle.lib_base.specs.Basics.{pick}
 use Rattle.lib_base.proofs.Tools.{by-two, split}
-use Rattle.spec_model.specs.Model.{Call, arrive, step, board, Answer, refused, takenIn, shows, idle, ran, started, preempted, committed, toldTo, unmarked, Turn, call, change, Reply, says, carriedOver}
+use Rattle.spec_model.specs.Model.{Call, arrive, step, board, Answer, refused, takenIn, shows, idle, ran, started, preempted, committed, Turn, call, change, Reply, says, carriedOver}
+use Rattle.spec_model.specs.Told.{toldTo, unmarked}
 use Rattle.refine_calls.specs.Refinement.{codedReply, coded, toldOn}
 use Rattle.refine_lists.specs.Lists.{SheetTurn, calling, mending, Means, AllMean}
 use Rattle.secrecy_model.specs.Sight.{hears, asReply, hearsOf, Pair, both, each, inOne, inOther}

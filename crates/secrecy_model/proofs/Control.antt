@@ -13,8 +13,9 @@ use Rattle.spec_language.specs.Dependence.{size, events}
 use Rattle.spec_language.specs.Order.{upTo}
 use Rattle.spec_language.specs.Code.{code}
 use Rattle.spec_execution.specs.Execution.{Values, emptied}
-use Rattle.spec_model.specs.Model.{Arrival, Running, rest, busy, Engine, engine, queue, Call, arrive, step, board, Answer, refused, takenIn, shows, idle, ran, started, preempted, committed, unmarked, Outcome, rank, masked, inCopyBack, choose, advance, stepped, arrived, read, act}
+use Rattle.spec_model.specs.Model.{Arrival, Running, rest, busy, Engine, engine, queue, Call, arrive, step, board, Answer, refused, takenIn, shows, idle, ran, started, preempted, committed, Outcome, rank, masked, inCopyBack, choose, advance, stepped, arrived, read, act}
 use Rattle.spec_model.specs.Claims.{inQueue, copyBackIn, longest, stepsOf, forecast, countIn}
+use Rattle.spec_model.specs.Told.{unmarked}
 use Rattle.secrecy_model.proofs.Programs.{Alike, events-same, code-same}
 
 -- an engine without its values

@@ -17,8 +17,9 @@ use Rattle.spec_language.specs.Sheet.{Item, formula, state, row, Entry, Sheet, 
 use Rattle.spec_language.specs.Rights.{may, maySee}
 use Rattle.spec_language.specs.Dependence.{size, behaviourAt, mentions, Reach}
 use Rattle.spec_language.specs.Accepted.{Accepted}
-use Rattle.spec_model.specs.Model.{Call, arrive, step, board, Answer, toldTo, Turn, call, change, State, Reply, says, carriedOver, turn, replies, begun}
+use Rattle.spec_model.specs.Model.{Call, arrive, step, board, Answer, Turn, call, change, State, Reply, says, carriedOver, turn, replies, begun}
 use Rattle.spec_model.specs.Claims.{forecast, previewed, inForce, programAfter, engineAfter}
+use Rattle.spec_model.specs.Told.{toldTo}
 
 -- ---- dependence by names, whatever the event
 

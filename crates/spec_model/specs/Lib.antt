@@ -2,3 +2,4 @@ pub mod Carried
 pub mod Model
 pub mod Claims
 pub mod Evaluated
+pub mod Told

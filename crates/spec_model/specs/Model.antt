@@ -5,7 +5,7 @@ use Prim.Native.Nat.{ℕ, _+_}
 use mathlib.Core.Bool.{Bool, true, false}
 use mathlib.Core.List.{List, [], _∷_}
 use lib.ListN.{length, getD, take}
-use lib.Dec.{ltb, leb, eqb}
+use lib.Dec.{ltb, leb}
 use Rattle.lib_base.specs.Basics.{pick}
 use Rattle.spec_language.specs.Syntax.{Program}
 use Rattle.spec_language.specs.Dependence.{size, events}
@@ -65,22 +65,6 @@ pub data Answer : Type 0 where
   started : Arrival → Answer  -- the next starts
   preempted : Arrival → Answer  -- the next starts, and the running one goes back to the hand (01: breaks in)
   committed : Arrival → Bool → Answer  -- one instruction, the last; and whether the event ran over (02, M-104)
-
--- "only the host is told M-104's mark: a step carries no player and returns the host's answer, and a further call turns
--- that into the others', without the mark"
-abbrev pub unmarked : Answer → Answer
-unmarked (refused n) = refused n
-unmarked takenIn = takenIn
-unmarked (shows v) = shows v
-unmarked idle = idle
-unmarked ran = ran
-unmarked (started a) = started a
-unmarked (preempted a) = preempted a
-unmarked (committed a m) = committed a false
-
--- what a player is told of a step's answer
-abbrev pub toldTo : ℕ → Answer → Answer
-toldTo who a = pick (eqb who 0) a (unmarked a)
 
 -- an answer, and the engine after the call
 pub record Outcome : Type 0 where
