@@ -3,7 +3,7 @@
 use Prim.Native.Nat.{ℕ, zero, suc, _+_, _*_, _≤_, _<_}
 use mathlib.Core.Bool.{Bool, true, false}
 use mathlib.Core.Path.{_≡_, refl, sym, ap, _∙_, subst}
-use mathlib.Core.Logic.{_⊎_, inl, inr, ⊎-elim}
+use mathlib.Core.Logic.{_⊎_, inl, inr, ⊎-elim, _≢_}
 use mathlib.Core.Option.{Option}
 use mathlib.Core.List.{List}
 use native.Mathlib.Omega.{arith}
@@ -24,7 +24,8 @@ use Rattle.spec_semantics.specs.Meaning.{at}
 use Rattle.spec_execution.specs.Execution.{Values}
 use Rattle.spec_execution.proofs.CodeRight.{code-facts}
 use Rattle.spec_model.specs.Model.{Running, rest, busy, Engine, engine, arrive, step, Answer, refused, takenIn, shows, idle, ran, started, preempted, committed, act, run}
-use Rattle.spec_model.specs.Claims.{storeOf, Idle, after, longest, countIn, shownAfter, unlessRefused, previewed}
+use Rattle.spec_model.specs.Claims.{storeOf, Idle, after, longest, countIn, shownAfter, foreseen}
+use Rattle.spec_model.specs.Told.{unlessRefused, previewed}
 use Rattle.spec_model.proofs.Reached.{Reached, act-keeps}
 use Rattle.spec_model.proofs.Previews.{onlySteps, idle-stays, idle-steps, idle-within}
 use Rattle.format_layout.specs.Layout.{eventOf, playerOf}
@@ -222,24 +223,42 @@ module _ (p : Program) (valid : Valid p) (t : List ℕ) (table : Says p t) where
 
   -- ---- turned down as the arrival would be
 
-  after-agrees : (x : CallResult) (a y : Answer) (i who : ℕ) → ToArrive a → x .0 ≡ coded a → previewTaken t (x .1) i who ≡ coded y
-      → previewAfter t x i who ≡ coded (unlessRefused a y)
-  unfolding previewAfter
-  after-agrees x (refused n) y i who h e g = rw (e, ne-eqb n 0 (omega arith))
-  after-agrees x takenIn y i who h e g = rw e g
-  after-agrees x (shows v) y i who h e g = absurd h
-  after-agrees x idle y i who h e g = absurd h
-  after-agrees x ran y i who h e g = absurd h
-  after-agrees x (started a) y i who h e g = absurd h
-  after-agrees x (preempted a) y i who h e g = absurd h
-  after-agrees x (committed a m) y i who h e g = absurd h
+  module _ (l : List ℕ) (w : Engine) (R : Alike (size p) l w) (r : Reached p w) (e who : ℕ) where
+    abbrev copy : List ℕ
+    copy = take 2048 l
+
+    copied : Agree (size p) copy (arriveOn t copy e who) (act p (arrive e who) w)
+    copied = arrive-agrees e who copy w (copy-alike (size p) l w (table .few-behaviours) R) r
+
+    -- the number that the round answers the arrival with, and so does the copy
+    answered : arriveOn t l e who .0 ≡ coded (act p (arrive e who) w .answer)
+    answered = arrive-agrees e who l w R r .answered
+
+    on-copy : arriveOn t copy e who .0 ≡ arriveOn t l e who .0
+    on-copy = copied .answered ∙ sym answered
+
+    pub preview-refused : (i : ℕ) → arriveOn t l e who .0 ≢ 0 → previewOn t l e i who ≡ arriveOn t l e who .0
+    unfolding previewOn previewCopy previewAfter
+    preview-refused i h = rw (le-ltb (length l) 2048 (whole-of (size p) l w R), on-copy, ne-eqb (arriveOn t l e who .0) 0 h)
+
+    pub preview-taken : (i : ℕ) → arriveOn t l e who .0 ≡ 0 → previewOn t l e i who ≡ coded (foreseen p w e i who)
+    unfolding previewOn previewCopy previewAfter
+    preview-taken i h =
+        rw (le-ltb (length l) 2048 (whole-of (size p) l w R), on-copy, h)
+        (taken-agrees (arriveOn t copy e who .1) (act p (arrive e who) w .after) i who (copied .alike) (act-keeps p (code-facts p valid) (arrive e who) w r))
+
+  -- both at once, the answer a to the arrival having the number n
+  by-answer : (a y : Answer) (n x : ℕ) → ToArrive a → n ≡ coded a → (n ≢ 0 → x ≡ n) → (n ≡ 0 → x ≡ coded y) → x ≡ coded (unlessRefused a y)
+  by-answer (refused k) y n x h e f g = f (omega arith) ∙ e
+  by-answer takenIn y n x h e f g = g e
+  by-answer (shows v) y n x h e f g = absurd h
+  by-answer idle y n x h e f g = absurd h
+  by-answer ran y n x h e f g = absurd h
+  by-answer (started a) y n x h e f g = absurd h
+  by-answer (preempted a) y n x h e f g = absurd h
+  by-answer (committed a m) y n x h e f g = absurd h
 
   pub preview-agrees : (l : List ℕ) (w : Engine) (e i who : ℕ) → Alike (size p) l w → Reached p w → previewOn t l e i who ≡ coded (previewed p w e i who)
-  unfolding previewOn previewCopy
   preview-agrees l w e i who R r =
-      let m : List ℕ = take 2048 l in
-      let a = arrive-agrees e who m w (copy-alike (size p) l w (table .few-behaviours) R) r in
-      let v : Engine = act p (arrive e who) w .after in
-      rw (le-ltb (length l) 2048 (whole-of (size p) l w R))
-      (after-agrees (arriveOn t m e who) (act p (arrive e who) w .answer) _ i who (answer-to p few (arrive e who) w r) (a .answered)
-      (taken-agrees (arriveOn t m e who .1) v i who (a .alike) (act-keeps p (code-facts p valid) (arrive e who) w r)))
+      by-answer (act p (arrive e who) w .answer) (foreseen p w e i who) (arriveOn t l e who .0) (previewOn t l e i who) (answer-to p few (arrive e who) w r)
+      (answered l w R r e who) (preview-refused l w R r e who i) (preview-taken l w R r e who i)

@@ -22,7 +22,7 @@ use Rattle.refine_calls.proofs.Short.{sheet-short}
 use Rattle.refine_calls.proofs.TurnsRefine as refine
 use Rattle.refine_lists.specs.Lists.{OneList, TwoLists, boardOf, IdleNow, SheetTurn, calling, mending, Compiles, onBytes, Means, AllMean, freshRoundOn, OnlyCalls, TwoRounds, TwoOnlyCalls}
 use Rattle.refine_lists.proofs.Sheets.{table-room, program-accepted, begun}
-use Rattle.refine_lists.proofs.ListsHold.{one-list, two-lists}
+use Rattle.refine_lists.proofs.ListsHold.{PreviewedAs, list-previewed, one-list, two-lists}
 use Rattle.refine_lists.proofs.OnlyCallsHold.{only-calls, two-only-calls}
 
 -- ---- tables
@@ -93,6 +93,14 @@ module _ (s ps t₀ l₀ : List ℕ) (small : All (λ b. b < 256) s) (words : Al
       let a = table-room s ps t₀ h in
       subst (λ (b : Bytes). OneList (programOf ps x) l₀ b (map onBytes xs) ts) (fresh-is s ps t₀ l₀ small x e taken ok a room)
       (one-list (programOf ps x) ok t₀ l₀ a room (map onBytes xs) ts (all-bytes xs ts k m))
+
+  pub previewed-after : (xs : List SheetTurn) → All Compiles xs → (ts : List Turn) → AllMean xs ts
+      → PreviewedAs (programOf ps x) (freshRoundOn s ps t₀ l₀) (map onBytes xs) ts
+  previewed-after xs k ts m =
+      let ok = program-accepted ps words x taken in
+      let a = table-room s ps t₀ h in
+      subst (λ (b : Bytes). PreviewedAs (programOf ps x) b (map onBytes xs) ts) (fresh-is s ps t₀ l₀ small x e taken ok a room)
+      (list-previewed (programOf ps x) ok t₀ l₀ a room (map onBytes xs) ts (all-bytes xs ts k m))
 
   pub calls-of : (cs : List Call) → OnlyCalls (programOf ps x) l₀ (freshRoundOn s ps t₀ l₀) cs
   calls-of cs =

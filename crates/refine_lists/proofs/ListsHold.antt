@@ -1,6 +1,6 @@
 -- Demand 3 holds of the bytes: they refine the model engine turn by turn, and the model engine's
 -- sentences carry over, for an accepted program's table and a fresh round.
-use Prim.Native.Nat.{ℕ, _+_, _≤_, _<_}
+use Prim.Native.Nat.{ℕ, _≤_, _<_}
 use mathlib.Core.Bool.{Bool, true, false}
 use mathlib.Core.Path.{_≡_, refl, sym, ap, _∙_, subst}
 use mathlib.Core.List.{List, [], _∷_, _++_, map, zipWith}
@@ -20,6 +20,7 @@ use Rattle.spec_semantics.proofs.Lengths.{length-fresh}
 use Rattle.spec_semantics.proofs.OverAgrees.{rules-find, rules-find-only}
 use Rattle.spec_model.specs.Model.{Arrival, arrival, Call, step, Answer, committed, act, Turn, call, State, state, says, turn, runTurns, begun}
 use Rattle.spec_model.specs.Claims.{copyBackIn, aloneCalls, eventsOf, takenInBy, courseOf, SameChanges, ApartEach, commits, inForce, engineIn, numberIn, storeIn, IdleIn, after, historyOf, Sound, Replays, Sentences}
+use Rattle.spec_model.specs.Told.{previewed}
 use Rattle.spec_model.proofs.History.{runs-append, Fit}
 use Rattle.spec_model.proofs.Boards.{storeAfter, stored}
 use Rattle.spec_model.proofs.Replaying.{proper, replays, replays-alone}
@@ -27,14 +28,15 @@ use Rattle.spec_model.proofs.Counts.{mark-right}
 use Rattle.spec_model.proofs.Alone.{calls-run, alone-right}
 use Rattle.spec_model.proofs.ModelHolds.{holds, same-board}
 use Rattle.run_step.specs.Machine.{stepOn}
-use Rattle.refine_calls.specs.Refinement.{decoded, ByteTurn, calls, Bytes, bytesAfter, AreTurns}
+use Rattle.run_preview.specs.Preview.{previewOn}
+use Rattle.refine_calls.specs.Refinement.{coded, decoded, ByteTurn, calls, Bytes, bytesAfter, AreTurns}
 use Rattle.refine_calls.proofs.Relation.{words-length}
 use Rattle.refine_calls.proofs.Refines.{valid}
 use Rattle.refine_calls.proofs.TurnsRefine.{Stand, runs, turns-refine, turns-sound, fresh-stand}
 use Rattle.refine_calls.proofs.TurnsRefine as refine
 use Rattle.refine_lists.specs.Lists.{boardOf, IdleNow, CommitMark, OneList, decodedReply}
 use Rattle.refine_lists.proofs.Tables.{turns-left}
-use Rattle.refine_lists.proofs.Standing.{board-of, idle-both, next-read, commit-told-next, other-told-next, forecast-of, preview-of, all-read}
+use Rattle.refine_lists.proofs.Standing.{board-of, idle-both, next-read, commit-told-next, other-told-next, forecast-of, refused-as-arriving, foreseen-of, previewed-of, all-read}
 
 -- calls alone mean themselves
 pub turns-calls : (xs : List ByteTurn) (ts : List Turn) (cs : List Call) → AreTurns xs ts → AreTurns (xs ++ map calls cs) (ts ++ map call cs)
@@ -53,6 +55,11 @@ valid-in (state p w) f = f .0
 one-played : (p : Program) → Valid p → (e : ℕ) (s : List ℕ) → e < events p → length s ≡ size p → Plays p (e ∷ []) s (event p e s)
 unfolding play
 one-played p v e s b n = plays p v (e ∷ []) (b, tt) s n
+
+-- each preview after the list has the number of the model engine's
+abbrev pub PreviewedAs : Program → Bytes → List ByteTurn → List Turn → Type 0
+PreviewedAs p b xs ts =
+    (e i who : ℕ) → previewOn (bytesAfter xs b .table) (bytesAfter xs b .round) e i who ≡ coded (previewed (inForce (after p ts)) (engineIn (after p ts)) e i who)
 
 module _ (p : Program) (ok : Accepted p) (t₀ l₀ : List ℕ) (table-room : 34816 ≤ length t₀) (round-room : 2048 ≤ length l₀) where
   abbrev bytes : Bytes
@@ -148,6 +155,10 @@ module _ (p : Program) (ok : Accepted p) (t₀ l₀ : List ℕ) (table-room : 34
               (one-played (inForce (after p ts)) (valid-in (after p ts) (stand xs ts mean .fit)) e s b (sized-in l₀ (bytesAfter xs bytes) (after p ts) (stand xs ts mean))),
         )
 
+  -- a preview's number by one function of the model engine
+  pub list-previewed : (xs : List ByteTurn) (ts : List Turn) → AreTurns xs ts → PreviewedAs p bytes xs ts
+  list-previewed xs ts mean = previewed-of l₀ (bytesAfter xs bytes) (after p ts) (stand xs ts mean)
+
   pub one-list : (xs : List ByteTurn) (ts : List Turn) → AreTurns xs ts → OneList p l₀ bytes xs ts
   one-list xs ts mean =
       let agrees = turns-refine p ok t₀ l₀ table-room round-room xs ts mean in
@@ -165,7 +176,8 @@ module _ (p : Program) (ok : Accepted p) (t₀ l₀ : List ℕ) (table-room : 34
         sentences = all xs ts mean;
         one-event = λ h e who d eight sends room. one-event xs ts mean e who h d eight sends room;
         forecast = forecast-of l₀ b (after p ts) st;
-        preview = preview-of l₀ b (after p ts) st;
+        preview-refused = refused-as-arriving l₀ b (after p ts) st;
+        preview = foreseen-of l₀ b (after p ts) st;
         mark = mark xs ts mean;
         told-commit = commit-told-next l₀ b (after p ts) st;
         told-else = other-told-next l₀ b (after p ts) st;

@@ -10,7 +10,9 @@ use Rattle.lib_base.proofs.Tools.{by-test}
 use Rattle.spec_language.specs.Syntax.{Program}
 use Rattle.spec_language.specs.Dependence.{events}
 use Rattle.spec_model.specs.Model.{Arrival, engine, queue, Call, step, idle, committed, inCopyBack, act, Turn, call, change, State, state, says, TurnOutcome, declaredIn, turn, replies}
-use Rattle.spec_model.specs.Claims.{forecast, previewed, inForce, engineIn, storeIn, IdleIn}
+use Rattle.spec_model.specs.Claims.{forecast, foreseen, inForce, engineIn, storeIn, IdleIn}
+use Rattle.spec_model.specs.Told.{previewed}
+use Rattle.run_arrive.specs.Arrivals.{arriveOn}
 use Rattle.run_step.specs.Machine.{stepOn}
 use Rattle.run_forecast.specs.Forecast.{forecastOn}
 use Rattle.run_preview.specs.Preview.{previewOn}
@@ -18,7 +20,7 @@ use Rattle.refine_calls.specs.Refinement.{coded, decoded, toldOn, callOn, coded
 use Rattle.refine_calls.proofs.Coded.{ToStep, answer-to, decoded-coded, coded-injective, commit-told, other-told}
 use Rattle.refine_calls.proofs.Agrees.{call-agrees}
 use Rattle.refine_calls.proofs.Forecasts.{forecast-agrees}
-use Rattle.refine_calls.proofs.Previews.{preview-agrees}
+use Rattle.refine_calls.proofs.Previews.{preview-refused, preview-taken, preview-agrees}
 use Rattle.refine_calls.proofs.TurnsRefine.{Stand, turned}
 use Rattle.refine_lists.specs.Lists.{boardOf, IdleNow, decodedReply}
 
@@ -66,9 +68,18 @@ other-told-next l₀ b (state p w) h c =
 pub forecast-of : (l₀ : List ℕ) (b : Bytes) (s : State) → Stand l₀ b s → forecastOn (b .table) (b .round) ≡ 4294967296 + forecast (inForce s) (engineIn s)
 forecast-of l₀ b (state p w) h = forecast-agrees p (h .fit .0) (b .table) (h .says) (b .round) w (h .alike) (h .fit .1)
 
-pub preview-of : (l₀ : List ℕ) (b : Bytes) (s : State) → Stand l₀ b s → (e i who : ℕ)
+pub refused-as-arriving : (l₀ : List ℕ) (b : Bytes) (s : State) → Stand l₀ b s → (e i who : ℕ)
+    → arriveOn (b .table) (b .round) e who .0 ≢ 0 → previewOn (b .table) (b .round) e i who ≡ arriveOn (b .table) (b .round) e who .0
+refused-as-arriving l₀ b (state p w) h e i who = preview-refused p (h .fit .0) (b .table) (h .says) (b .round) w (h .alike) (h .fit .1) e who i
+
+pub foreseen-of : (l₀ : List ℕ) (b : Bytes) (s : State) → Stand l₀ b s → (e i who : ℕ)
+    → arriveOn (b .table) (b .round) e who .0 ≡ 0 → previewOn (b .table) (b .round) e i who ≡ coded (foreseen (inForce s) (engineIn s) e i who)
+foreseen-of l₀ b (state p w) h e i who = preview-taken p (h .fit .0) (b .table) (h .says) (b .round) w (h .alike) (h .fit .1) e who i
+
+-- both at once, for lemmas
+pub previewed-of : (l₀ : List ℕ) (b : Bytes) (s : State) → Stand l₀ b s → (e i who : ℕ)
     → previewOn (b .table) (b .round) e i who ≡ coded (previewed (inForce s) (engineIn s) e i who)
-preview-of l₀ b (state p w) h e i who = preview-agrees p (h .fit .0) (b .table) (h .says) (b .round) w e i who (h .alike) (h .fit .1)
+previewed-of l₀ b (state p w) h e i who = preview-agrees p (h .fit .0) (b .table) (h .says) (b .round) w e i who (h .alike) (h .fit .1)
 
 -- ---- the replies are read back from the numbers
 

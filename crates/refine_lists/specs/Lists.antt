@@ -19,11 +19,12 @@ use Rattle.spec_language.specs.Syntax.{Program}
 use Rattle.spec_semantics.specs.Meaning.{fresh, withStore}
 use Rattle.spec_semantics.specs.Over.{EventOver}
 use Rattle.spec_semantics.specs.Plays.{Plays}
-use Rattle.spec_model.specs.Claims.{programAfter, engineAfter, copyBackAfter, after, historyOf, takenInBy, courseOf, SameChanges, ApartEach, numberIn, IdleIn, commits, Replays, Sentences, eventsOf, copyBackIn, aloneCalls, forecast, previewed, committedIn, ApartIn, Unchanged}
+use Rattle.spec_model.specs.Claims.{programAfter, engineAfter, copyBackAfter, after, historyOf, takenInBy, courseOf, SameChanges, ApartEach, numberIn, IdleIn, commits, Replays, Sentences, eventsOf, copyBackIn, aloneCalls, forecast, foreseen, committedIn, ApartIn, Unchanged}
 use Rattle.spec_model.specs.Model.{Turn, call, Reply, says, carriedOver, replies, begun, change, Arrival, arrival, step, refused, committed, Call}
 use Rattle.format_image.specs.Image.{tableOf}
 use Rattle.back_compile.specs.Verdict.{programOf, compileOn}
 use Rattle.run_start.specs.Start.{startOn}
+use Rattle.run_arrive.specs.Arrivals.{arriveOn}
 use Rattle.run_step.specs.Machine.{stepOn}
 use Rattle.run_forecast.specs.Forecast.{forecastOn}
 use Rattle.run_preview.specs.Preview.{previewOn}
@@ -81,7 +82,7 @@ pub record OneList (p : Program) (l₀ : List ℕ) (b : Bytes) (xs : List ByteTu
   -- of the model engine, whose answers these are: "Each arrival taken in is committed at most once, exactly once when
   -- idle, and after every earlier one of equal rank. A lower rank precedes a higher one only if the higher was taken in
   -- after the lower's copy-back began. Once no more are taken in, the round is idle within 01's count of steps.";
-  -- M-100's exact count; M-101, that whichever way the round is run to idle its board shows the previewed value; M-113,
+  -- M-100's exact count; M-101, that whichever way the round is run to idle its board shows the value foreseen; M-113,
   -- that nobody waits for ever
   pub sentences : Sentences p ts
   -- demand 2: "An event run alone leaves on the board, for every behaviour, the value that the paper's big-step rules
@@ -98,8 +99,10 @@ pub record OneList (p : Program) (l₀ : List ℕ) (b : Bytes) (xs : List ByteTu
   -- this arrival and everything in hand had been run to idle. It equals doing so on a copy .. It is turned down as the
   -- arrival would be, then by 18": of such a round a step never is, and 01's count is enough. M-107: "Each arrival,
   -- board reading and preview now carries its player .. A preview needs both rights"
-  pub preview : (e i who : ℕ)
-      → previewOn (bytesAfter xs b .table) (bytesAfter xs b .round) e i who ≡ coded (previewed (programAfter p ts) (engineAfter p ts) e i who)
+  pub preview-refused : (e i who : ℕ) → arriveOn (bytesAfter xs b .table) (bytesAfter xs b .round) e who .0 ≢ 0
+      → previewOn (bytesAfter xs b .table) (bytesAfter xs b .round) e i who ≡ arriveOn (bytesAfter xs b .table) (bytesAfter xs b .round) e who .0
+  pub preview : (e i who : ℕ) → arriveOn (bytesAfter xs b .table) (bytesAfter xs b .round) e who .0 ≡ 0
+      → previewOn (bytesAfter xs b .table) (bytesAfter xs b .round) e i who ≡ coded (foreseen (programAfter p ts) (engineAfter p ts) e i who)
   -- 02, M-104: "the committing step's answer carries a mark: set exactly if some application in that event's meaning
   -- did so. .. What a broken-in handler found is dropped": of the step called next, as its number is read
   pub mark : (a : Arrival) (m : Bool) → decoded step (stepOn (bytesAfter xs b .table) (bytesAfter xs b .round) .0) ≡ committed a m → CommitMark p ts a m

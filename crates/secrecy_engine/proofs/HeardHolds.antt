@@ -12,7 +12,7 @@ use Rattle.back_compile.specs.Verdict.{programOf}
 use Rattle.refine_calls.specs.Refinement.{coded}
 use Rattle.refine_lists.specs.Lists.{calling, Compiles, AllMean}
 use Rattle.refine_lists.proofs.Sheets.{program-accepted}
-use Rattle.refine_lists.proofs.FromSheets.{list-of}
+use Rattle.refine_lists.proofs.FromSheets.{list-of, previewed-after}
 use Rattle.secrecy_model.specs.Sight.{Condition, both, inOne, inOther, ConditionAll}
 use Rattle.secrecy_model.proofs.RuleHolds.{players-rule}
 use Rattle.secrecy_engine.specs.Heard.{TwoSheets, hearsIn, WithChanges, OfCalls, RuleOn}
@@ -41,7 +41,10 @@ with-changes player s z ps qs t₀ l₀ t₁ l₁ x y h l f xs ys kx ky mx my =
           ∙ same-kinds player l _
           ∙ sym (turns-heard player ys (map inOther l) my (replies (map inOther l) (begun (programOf qs y))))
           ∙ sym (ap (zipWith (hearsIn player) ys) (q .answers));
-      preview = λ e i. p .preview e i player ∙ ap coded (same .preview e i) ∙ sym (q .preview e i player);
+      preview = λ e i.
+          previewed-after s ps t₀ l₀ (h .one-bytes) (h .one-params) (h .one-room) (h .one-compiles) x (h .one-is) (h .one-taken) xs kx (map inOne l) mx e i player
+          ∙ ap coded (same .preview e i)
+          ∙ sym (previewed-after z qs t₁ l₁ (h .other-bytes) (h .other-params) (h .other-room) (h .other-compiles) y (h .other-is) (h .other-taken) ys ky (map inOther l) my e i player);
       forecast = p .forecast ∙ ap (λ (n : ℕ). 4294967296 + n) (same .forecast) ∙ sym (q .forecast);
     }
 

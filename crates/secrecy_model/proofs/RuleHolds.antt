@@ -16,7 +16,8 @@ use Rattle.spec_semantics.specs.Meaning.{fresh}
 use Rattle.spec_semantics.proofs.Lengths.{length-fresh}
 use Rattle.spec_execution.specs.Execution.{emptied}
 use Rattle.spec_model.specs.Model.{Engine, TurnOutcome, change, State, state, Reply, turn, runTurns, replies, begun}
-use Rattle.spec_model.specs.Claims.{forecast, previewed, inForce, engineIn, after}
+use Rattle.spec_model.specs.Claims.{forecast, inForce, engineIn, after}
+use Rattle.spec_model.specs.Told.{previewed}
 use Rattle.spec_model.proofs.History.{begun-fits}
 use Rattle.secrecy_model.specs.Sight.{Sealed, AlikeBut, Condition, Pair, both, each, inOne, inOther, SameHidden, ConditionAt, ConditionAll, asReply, hearsOf, heardOf, EqualReplies, PlayersRule}
 use Rattle.secrecy_model.proofs.Programs.{Alike, sheets-alike}

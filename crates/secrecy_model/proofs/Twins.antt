@@ -19,8 +19,8 @@ use Rattle.spec_language.specs.Refusals as refusals
 use Rattle.spec_semantics.specs.Meaning.{event, at}
 use Rattle.spec_execution.proofs.CodeRight.{code-facts}
 use Rattle.spec_model.specs.Model.{Engine, engine, Call, arrive, step, board, Answer, refused, takenIn, shows, idle, ran, started, preempted, committed, act, run, State, state}
-use Rattle.spec_model.specs.Claims.{number, storeOf, copyBackIn, forecast, countIn, shownAfter, unlessRefused, previewed}
-use Rattle.spec_model.specs.Told.{unmarked}
+use Rattle.spec_model.specs.Claims.{number, storeOf, copyBackIn, forecast, countIn, shownAfter}
+use Rattle.spec_model.specs.Told.{unmarked, unlessRefused, previewed}
 use Rattle.spec_model.proofs.Moves.{Effect, nothing, took, commit, effect, Cases, act-by}
 use Rattle.spec_model.proofs.Reached.{Reached, DoneIn, onto, still, Computes, computes, act-keeps}
 use Rattle.spec_model.proofs.Previews.{idle-within}

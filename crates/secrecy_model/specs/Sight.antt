@@ -18,8 +18,8 @@ use Rattle.spec_language.specs.Rights.{may, maySee}
 use Rattle.spec_language.specs.Dependence.{size, behaviourAt, mentions, Reach}
 use Rattle.spec_language.specs.Accepted.{Accepted}
 use Rattle.spec_model.specs.Model.{Call, arrive, step, board, Answer, Turn, call, change, State, Reply, says, carriedOver, turn, replies, begun}
-use Rattle.spec_model.specs.Claims.{forecast, previewed, inForce, programAfter, engineAfter}
-use Rattle.spec_model.specs.Told.{toldTo}
+use Rattle.spec_model.specs.Claims.{forecast, inForce, programAfter, engineAfter}
+use Rattle.spec_model.specs.Told.{toldTo, previewed}
 
 -- ---- dependence by names, whatever the event
 

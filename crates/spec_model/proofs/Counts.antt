@@ -14,7 +14,7 @@ use Rattle.spec_semantics.specs.Meaning.{at}
 use Rattle.spec_semantics.specs.OverMeaning.{eventOver}
 use Rattle.spec_execution.proofs.CodeRight.{code-facts}
 use Rattle.spec_model.specs.Model.{Arrival, arrival, Engine, Call, arrive, step, board, Answer, refused, takenIn, shows, idle, ran, started, preempted, committed, rank, act, run, Turn, call, change, State, state, Reply, says, carriedOver, TurnOutcome, turn, runTurns, replies, begun}
-use Rattle.spec_model.specs.Claims.{number, stepsOf, AtRest, previewed, Moment, committedBy, ifCommits, momentOf, moments, ifTakenIn, takenTurns, inForce, engineIn, numberIn, handIn, storeIn, IdleIn, after, historyOf, Sound, NotCarried, Unchanged, callsOf, stepsAmong, countNow, IdleWithin, QuietExactly, NobodyWaits, PreviewRight}
+use Rattle.spec_model.specs.Claims.{number, stepsOf, AtRest, foreseen, Moment, committedBy, ifCommits, momentOf, moments, ifTakenIn, takenTurns, inForce, engineIn, numberIn, handIn, storeIn, IdleIn, after, historyOf, Sound, NotCarried, Unchanged, callsOf, stepsAmong, countNow, IdleWithin, QuietExactly, NobodyWaits, PreviewRight}
 use Rattle.spec_model.specs.Evaluated.{MarkRight}
 use Rattle.spec_model.proofs.Calls.{answers, commitsOf, takenFrom}
 use Rattle.spec_model.proofs.Reached.{DoneIn}
@@ -120,7 +120,7 @@ preview-here : (s : State) → Fit s → (e i who : ℕ) (us : List Turn) → i 
     → Unchanged (call (arrive e who) ∷ us) s
     → numberIn (runTurns (call (arrive e who) ∷ us) s) ≡ numberIn s + 1
     → IdleIn (runTurns (call (arrive e who) ∷ us) s)
-    → previewed (inForce s) (engineIn s) e i who ≡ shows (at (storeIn (runTurns (call (arrive e who) ∷ us) s)) i)
+    → foreseen (inForce s) (engineIn s) e i who ≡ shows (at (storeIn (runTurns (call (arrive e who) ∷ us) s)) i)
 unfolding turn
 preview-here (state p w) f e i who us b sees t h n g =
     let q = as-calls (call (arrive e who) ∷ us) p w h in

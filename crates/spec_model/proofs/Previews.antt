@@ -4,21 +4,18 @@ use Prim.Native.Nat.{ℕ, zero, suc, _+_, _-_, _≤_, _<_}
 use mathlib.Core.Bool.{true}
 use mathlib.Core.Path.{_≡_, refl, sym, ap, _∙_, subst}
 use mathlib.Core.Logic.{by-cases}
-use mathlib.Core.List.{List, [], _∷_, _++_}
+use mathlib.Core.List.{List, [], _∷_}
 use native.Mathlib.Decide.{decLt}
 use native.Mathlib.Omega.{arith}
-use lib.Dec.{leb}
 use lib.ListN.{replicate}
 use borrow.Author.Tests.{lt-leb}
-use Rattle.lib_base.specs.Basics.{pick}
 use Rattle.spec_language.specs.Syntax.{Program}
 use Rattle.spec_language.specs.Dependence.{size}
 use Rattle.spec_language.specs.Rights.{maySee}
-use Rattle.spec_language.specs.Refusals as refusals
 use Rattle.spec_semantics.specs.Meaning.{at}
 use Rattle.spec_execution.specs.CodeFacts.{CodeFacts}
-use Rattle.spec_model.specs.Model.{rest, busy, Engine, engine, Call, arrive, step, board, Answer, refused, takenIn, shows, act, run}
-use Rattle.spec_model.specs.Claims.{number, storeOf, Idle, after, stepCount, countIn, shownAfter, unlessRefused, previewed}
+use Rattle.spec_model.specs.Model.{rest, busy, Engine, engine, Call, arrive, step, board, Answer, takenIn, shows, act, run}
+use Rattle.spec_model.specs.Claims.{number, storeOf, Idle, after, stepCount, countIn, foreseen}
 use Rattle.spec_model.proofs.Moves.{Effect, Cases, effect, act-by}
 use Rattle.spec_model.proofs.Reached.{Reached, act-keeps}
 use Rattle.spec_model.proofs.Calls.{counted, act-number, act-grows, run-grows}
@@ -119,7 +116,7 @@ module _ (p : Program) where
         → act p (arrive e who) w .answer ≡ takenIn
         → number (run p (arrive e who ∷ ds) w) ≡ number w + 1
         → Idle p (run p (arrive e who ∷ ds) w)
-        → previewed p w e i who ≡ shows (at (storeOf (run p (arrive e who ∷ ds) w)) i)
+        → foreseen p w e i who ≡ shows (at (storeOf (run p (arrive e who ∷ ds) w)) i)
     unfolding run
     preview-from w r e i who ds b sees t h g =
         let v : Engine = act p (arrive e who) w .after in
@@ -128,6 +125,4 @@ module _ (p : Program) where
         let k : run p ds v ≡ run p (onlySteps (stepCount ds)) v = as-steps ds v (h ∙ sym one) in
         let quiet : Idle p (run p (onlySteps (countIn p v)) v) = idle-within v (act-keeps p facts (arrive e who) w r) in
         let same = one-idle (countIn p v) (stepCount ds) v quiet (subst (Idle p) k g) in
-        ap (λ (a : Answer). unlessRefused a
-        (pick (leb (size p) i) (refused refusals.noBehaviour) (pick (maySee p who i) (shownAfter p v i) (refused refusals.noRight)))) t
-        ∙ rw (lt-leb (size p) i b, sees) (ap (λ (u : Engine). shows (at (storeOf u) i)) (same ∙ sym k))
+        rw (lt-leb (size p) i b, sees) (ap (λ (u : Engine). shows (at (storeOf u) i)) (same ∙ sym k))

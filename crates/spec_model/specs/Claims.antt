@@ -87,25 +87,13 @@ forecast p (engine t waiting (busy a c) d) = (length (a ∷ waiting) + 1) * (lon
 abbrev pub shownAfter : Program → Engine → ℕ → Answer
 shownAfter p w i = shows (at (storeOf (run p (replicate (countIn p w) step) w)) i)
 
--- the arrival's refusal, or the other answer
-abbrev pub unlessRefused : Answer → Answer → Answer
-unlessRefused (refused n) x = refused n
-unlessRefused takenIn x = x
-unlessRefused (shows v) x = x
-unlessRefused idle x = x
-unlessRefused ran x = x
-unlessRefused (started a) x = x
-unlessRefused (preempted a) x = x
-unlessRefused (committed a m) x = x
-
--- "the value that the board would show after this arrival and everything in hand had been run to idle .. turned down as
--- the arrival would be, then by 18" 02, M-107: "A preview needs both rights .. 25 when the right is missing, after 15
--- for an arrival, a preview's too, and after 18 for a behaviour"
-abbrev pub previewed : Program → Engine → ℕ → ℕ → ℕ → Answer
-previewed p w e i who =
-    unlessRefused (act p (arrive e who) w .answer)
-    (pick (leb (size p) i) (refused refusals.noBehaviour)
-    (pick (maySee p who i) (shownAfter p (act p (arrive e who) w .after) i) (refused refusals.noRight)))
+-- "the value that the board would show after this arrival and everything in hand had been run to idle", where the
+-- arrival is taken in; turned down "then by 18". 02, M-107: "A preview needs both rights .. 25 when the right is
+-- missing, .. after 18 for a behaviour"
+abbrev pub foreseen : Program → Engine → ℕ → ℕ → ℕ → Answer
+foreseen p w e i who =
+    pick (leb (size p) i) (refused refusals.noBehaviour)
+    (pick (maySee p who i) (shownAfter p (act p (arrive e who) w .after) i) (refused refusals.noRight))
 
 -- ---- what the replies say
 
@@ -335,7 +323,7 @@ NobodyWaits p ts =
 -- ---- M-101, with the program in force
 
 -- whichever way the round is then run to idle, no further arrival taken in and no sheet changed, the board shows the
--- previewed value
+-- value foreseen
 abbrev pub PreviewRight : Program → List Turn → Type 0
 PreviewRight p ts =
     (e i who : ℕ) (us : List Turn) → i < size (programAfter p ts) → maySee (programAfter p ts) who i ≡ true
@@ -343,7 +331,7 @@ PreviewRight p ts =
     → Unchanged (call (arrive e who) ∷ us) (after p ts)
     → numberIn (after p (ts ++ (call (arrive e who) ∷ us))) ≡ numberIn (after p ts) + 1
     → IdleIn (after p (ts ++ (call (arrive e who) ∷ us)))
-    → previewed (programAfter p ts) (engineAfter p ts) e i who ≡ shows (at (storeIn (after p (ts ++ (call (arrive e who) ∷ us)))) i)
+    → foreseen (programAfter p ts) (engineAfter p ts) e i who ≡ shows (at (storeIn (after p (ts ++ (call (arrive e who) ∷ us)))) i)
 
 -- ---- two lists. "equal boards on two phones need independence in each sheet and the same change after the same
 -- commits"
