@@ -23,7 +23,7 @@ use Rattle.spec_model.specs.Claims.{copyBackIn, aloneCalls, eventsOf, takenInBy
 use Rattle.spec_model.specs.Told.{previewed}
 use Rattle.spec_model.proofs.History.{runs-append, Fit}
 use Rattle.spec_model.proofs.Boards.{storeAfter, stored}
-use Rattle.spec_model.proofs.Replaying.{proper, replays, replays-alone}
+use Rattle.spec_model.proofs.Replaying.{proper, replays, replays-alone, board-by-rules}
 use Rattle.spec_model.proofs.Counts.{mark-right}
 use Rattle.spec_model.proofs.Alone.{calls-run, alone-right}
 use Rattle.spec_model.proofs.ModelHolds.{holds, same-board}
@@ -88,11 +88,11 @@ module _ (p : Program) (ok : Accepted p) (t₀ l₀ : List ℕ) (table-room : 34
 
     board : copyBackIn (inForce (after p ts)) (engineIn (after p ts)) ≡ false
         → Replays p (historyOf p ts) (fresh p) (boardOf (inForce (after p ts)) (bytesAfter xs bytes .round))
-    board h = subst (Replays p (historyOf p ts) (fresh p)) (sym board-is) (all .by-rules h .0)
+    board h = subst (Replays p (historyOf p ts) (fresh p)) (sym board-is) (board-by-rules p v ts sound h .0)
 
     board-alone : copyBackIn (inForce (after p ts)) (engineIn (after p ts)) ≡ false → (s : List ℕ) → Replays p (historyOf p ts) (fresh p) s
         → s ≡ boardOf (inForce (after p ts)) (bytesAfter xs bytes .round)
-    board-alone h s r = all .by-rules h .1 s r ∙ sym board-is
+    board-alone h s r = board-by-rules p v ts sound h .1 s r ∙ sym board-is
 
     -- ---- a commit's mark
 

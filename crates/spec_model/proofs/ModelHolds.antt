@@ -5,8 +5,8 @@ use Rattle.lib_base.specs.Basics.{All}
 use Rattle.spec_language.specs.Syntax.{Program}
 use Rattle.spec_language.specs.Accepted.{Valid}
 use Rattle.spec_model.specs.Model.{Turn}
-use Rattle.spec_model.specs.Claims.{Sound, SameBoard, Sentences}
-use Rattle.spec_model.proofs.Replaying as replaying
+use Rattle.spec_model.specs.Claims.{Sound, Sentences}
+use Rattle.spec_model.specs.Evaluated.{SameBoard}
 use Rattle.spec_model.proofs.Once as once
 use Rattle.spec_model.proofs.Equals as equals
 use Rattle.spec_model.proofs.Lower as lower
@@ -16,7 +16,6 @@ use Rattle.spec_model.proofs.SameBoard as same
 module _ (p : Program) (v : Valid p) where
   pub holds : (ts : List Turn) → All Sound ts → Sentences p ts
   holds ts g = record {
-    by-rules = replaying.board-by-rules p v ts g;
     once = once.once-each p v ts g;
     equals = equals.equals-in-order p v ts g;
     lower = lower.lower-first p v ts g;

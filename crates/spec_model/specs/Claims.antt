@@ -1,7 +1,7 @@
 -- Demand 3 in terms of the model engine: what is said of every list of turns, calls and changes of sheets, from the
 -- initial engine of a program. 02, M-100, M-101, M-112 and M-113. A list of calls alone is a case of it.
 use Prim.Native.Nat.{ℕ, suc, _+_, _*_, _≤_, _<_, max}
-use mathlib.Core.Bool.{Bool, true, false}
+use mathlib.Core.Bool.{Bool, true}
 use mathlib.Core.Path.{_≡_}
 use mathlib.Core.Logic.{_≢_}
 use mathlib.Core.List.{List, [], _∷_, _++_, map, List·Permᴰ, List·Memᴰ, Pairwise, List·Nodup, foldr, sum}
@@ -16,7 +16,7 @@ use Rattle.spec_language.specs.Code.{code}
 use Rattle.spec_language.specs.Order.{upTo}
 use Rattle.spec_language.specs.Refusals as refusals
 use Rattle.spec_semantics.specs.Rules.{Runs, Shows}
-use Rattle.spec_semantics.specs.Meaning.{at, fresh, withStore}
+use Rattle.spec_semantics.specs.Meaning.{at, withStore}
 use Rattle.spec_execution.specs.Execution.{copyingBackAfter}
 use Rattle.spec_model.specs.Carried.{Carries}
 use Rattle.spec_model.specs.Model.{Arrival, arrival, rest, busy, Engine, engine, queue, Call, arrive, step, board, Answer, refused, takenIn, shows, idle, ran, started, preempted, committed, rank, inCopyBack, act, run, Turn, call, change, State, state, Reply, says, carriedOver, turn, runTurns, replies, begun}
@@ -224,13 +224,6 @@ pub data Replays : Program → List Moment → List ℕ → List ℕ → Type 0 
       → ((i : ℕ) → i < size p → Shows (withStore p s′) i (at s′ i)) → Replays p h s′ last → Replays p (commits a ∷ h) s last
   turns : {p q : Program} {h : List Moment} {s s′ last : List ℕ} → Carries p q s s′ → Replays q h s′ last → Replays p (changes q ∷ h) s last
 
--- "unless a copy-back is under way, the board equals what demand 2's rules give for the committed events, one by one,
--- undivided, in order of commitment": the rules lead there, and to no other store
-abbrev pub BoardByRules : Program → List Turn → Type 0
-BoardByRules p ts =
-    copyBackAfter p ts ≡ false
-    → Replays p (historyOf p ts) (fresh p) (storeIn (after p ts)) × ((s : List ℕ) → Replays p (historyOf p ts) (fresh p) s → s ≡ storeIn (after p ts))
-
 -- ---- order
 
 -- "Each arrival taken in is committed at most once, exactly once when idle"
@@ -369,20 +362,9 @@ abbrev pub ApartEach : Program → Course → Type 0
 ApartEach p (last l) = ApartIn p l
 ApartEach p (thenChange l q c) = ApartIn p l × ApartEach q c
 
--- "for every two such lists on one sheet, taking in the same events in the same order, ..: when both are idle, their
--- boards are equal"
-abbrev pub SameBoard : Program → List Turn → List Turn → Type 0
-SameBoard p ts us =
-    eventsOf (takenInBy p ts) ≡ eventsOf (takenInBy p us)
-    → SameChanges (courseOf (historyOf p ts)) (courseOf (historyOf p us))
-    → ApartEach p (courseOf (historyOf p ts))
-    → IdleIn (after p ts) → IdleIn (after p us)
-    → storeIn (after p ts) ≡ storeIn (after p us)
-
 -- ---- every sentence about one list
 
 pub record Sentences (p : Program) (ts : List Turn) : Type 0 where
-  pub by-rules : BoardByRules p ts
   pub once : OnceEach p ts
   pub equals : EqualsInOrder p ts
   pub lower : LowerFirst p ts

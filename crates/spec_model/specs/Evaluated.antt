@@ -1,6 +1,6 @@
--- The board after a list, an event run alone and a commit's mark by the evaluator, in terms of the model engine. These
--- are for lemmas: the claim says them once, by Figure 1's rules and of the bytes' board (crate refine_lists,
--- Lists.antt), and does not reach this file.
+-- The board after a list and after two, an event run alone and a commit's mark, in terms of the model engine and, where
+-- not by Figure 1's rules, of the evaluator. These are for lemmas: the claim says them once, by the rules and of the
+-- bytes' board (crate refine_lists, Lists.antt), and does not reach this file.
 use Prim.Native.Nat.{ℕ, _<_}
 use mathlib.Core.Bool.{Bool, true, false}
 use mathlib.Core.Path.{_≡_}
@@ -12,7 +12,7 @@ use Rattle.spec_semantics.specs.Meaning.{event, fresh}
 use Rattle.spec_semantics.specs.OverMeaning.{eventOver}
 use Rattle.spec_model.specs.Carried.{carried}
 use Rattle.spec_model.specs.Model.{Arrival, arrival, step, committed, Turn, call, says, turn}
-use Rattle.spec_model.specs.Claims.{aloneCalls, Moment, commits, changes, numberIn, storeIn, IdleIn, after, programAfter, copyBackAfter, historyOf}
+use Rattle.spec_model.specs.Claims.{eventsOf, aloneCalls, Moment, commits, changes, numberIn, storeIn, IdleIn, after, programAfter, copyBackAfter, historyOf, takenInBy, Replays, courseOf, SameChanges, ApartEach}
 
 -- what a history does to a store, p being in force
 unfoldable pub replayed : Program → List Moment → List ℕ → List ℕ
@@ -23,6 +23,21 @@ replayed p (changes q ∷ h) s = replayed q h (carried p q s)
 -- unless a copy-back is under way, the store is that of the history
 abbrev pub BoardOfCommits : Program → List Turn → Type 0
 BoardOfCommits p ts = copyBackAfter p ts ≡ false → storeIn (after p ts) ≡ replayed p (historyOf p ts) (fresh p)
+
+-- by the rules: they lead to that store, and to no other
+abbrev pub BoardByRules : Program → List Turn → Type 0
+BoardByRules p ts =
+    copyBackAfter p ts ≡ false
+    → Replays p (historyOf p ts) (fresh p) (storeIn (after p ts)) × ((s : List ℕ) → Replays p (historyOf p ts) (fresh p) s → s ≡ storeIn (after p ts))
+
+-- two lists on one sheet that take in the same events in the same order: when both are idle, their stores are equal
+abbrev pub SameBoard : Program → List Turn → List Turn → Type 0
+SameBoard p ts us =
+    eventsOf (takenInBy p ts) ≡ eventsOf (takenInBy p us)
+    → SameChanges (courseOf (historyOf p ts)) (courseOf (historyOf p us))
+    → ApartEach p (courseOf (historyOf p ts))
+    → IdleIn (after p ts) → IdleIn (after p us)
+    → storeIn (after p ts) ≡ storeIn (after p us)
 
 -- from an idle round, an event that is taken in and stepped to its commit leaves the store of its meaning
 abbrev pub AloneRight : Program → List Turn → Type 0
