@@ -22,7 +22,8 @@ use Rattle.spec_language.specs.Code.{sizeOf, postfix, inOrder, copyPart, firstP
 use Rattle.spec_semantics.specs.Meaning.{value, inTurn, firstPhase, starts, fresh}
 use Rattle.spec_execution.specs.Execution.{execute, emptied, times}
 use Rattle.spec_model.specs.Model.{Call, call, act, turn, runTurns, replies}
-use Rattle.spec_model.specs.Claims.{after, storeIn, IdleIn, takenTurns, takenInBy, eventsOf}
+use Rattle.spec_model.specs.Claims.{after, IdleIn, takenTurns, takenInBy, eventsOf}
+use Rattle.spec_model.proofs.States.{storeIn}
 use Rattle.check_graph.specs.Matrix.{closeCell, closeRow, closeThrough, closeRows, closeBy, closed}
 use Rattle.check_graph.specs.Any.{anyBelow}
 use Rattle.check_faults.specs.Faults.{knownIn, knownHandlers, knownBehaviours, known, matrixOf}

@@ -8,6 +8,7 @@ use mathlib.Core.Option.{none}
 use mathlib.Core.List.{List}
 use native.Mathlib.Decide.{ℕ-discrete}
 use native.Mathlib.Omega.{arith}
+use lib.Dec.{eqb}
 use lib.ListN.{length, replicate, length-replicate}
 use lib.Seq.{ext-getD}
 use borrow.Author.Tests.{leb-true}
@@ -31,7 +32,7 @@ use Rattle.run_start.specs.Start.{CallResult}
 use Rattle.run_carry.specs.Carry.{carryOn, shownFor, storeShown}
 use Rattle.run_board.specs.Board.{copyBackOn}
 use Rattle.run_mend.specs.Mending.{verdict, mended, mendWith, mendAfter, mendIn, mendOn}
-use Rattle.refine_calls.specs.Refinement.{slots, Kept, codedReply, inForceAfter}
+use Rattle.refine_calls.specs.Refinement.{slots, Kept, codedReply}
 use Rattle.refine_calls.proofs.Slots.{slots-same, kept-all, kept-put}
 use Rattle.refine_calls.proofs.Values.{found-none, Holds}
 use Rattle.refine_calls.proofs.Relation.{Rel, Alike, words-length}
@@ -64,6 +65,10 @@ module _ (u m x : List ℕ) (whole : long x ≡ true) where
   unfolding storeShown
   shown-kept zero b h = h
   shown-kept (suc n) b h = kept-put (storeShown u m x n) (136 + n) (shownFor u m n) (omega arith) (shown-kept n (omega arith) h)
+
+-- the table in force after a change to u that answers n, t being in force before
+abbrev pub inForceAfter : ℕ → List ℕ → List ℕ → List ℕ
+inForceAfter n u t = pick (eqb n 0) u t
 
 -- a change on the bytes and one of the model
 abbrev pub AlikeIn : List ℕ → State → Type 0

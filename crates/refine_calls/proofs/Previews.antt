@@ -24,8 +24,9 @@ use Rattle.spec_semantics.specs.Meaning.{at}
 use Rattle.spec_execution.specs.Execution.{Values}
 use Rattle.spec_execution.proofs.CodeRight.{code-facts}
 use Rattle.spec_model.specs.Model.{Running, rest, busy, Engine, engine, arrive, step, Answer, refused, takenIn, shows, idle, ran, started, preempted, committed, act, run}
-use Rattle.spec_model.specs.Claims.{storeOf, Idle, after, longest, countIn, shownAfter, foreseen}
+use Rattle.spec_model.specs.Claims.{storeOf, after, longest, countIn, shownAfter, foreseen}
 use Rattle.spec_model.specs.Told.{unlessRefused, previewed}
+use Rattle.spec_model.proofs.States.{Idle}
 use Rattle.spec_model.proofs.Reached.{Reached, act-keeps}
 use Rattle.spec_model.proofs.Previews.{onlySteps, idle-stays, idle-steps, idle-within}
 use Rattle.format_layout.specs.Layout.{eventOf, playerOf}

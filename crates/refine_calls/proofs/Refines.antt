@@ -14,11 +14,11 @@ use Rattle.spec_language.proofs.Laws.{upTo-same}
 use Rattle.spec_semantics.proofs.Lengths.{length-fresh}
 use Rattle.spec_execution.proofs.Sums.{length-flatten}
 use Rattle.spec_execution.proofs.CodeRight.{code-facts}
-use Rattle.spec_model.specs.Model.{Running, rest, busy, Engine, engine}
+use Rattle.spec_model.specs.Model.{Running, rest, busy, Engine, engine, state}
 use Rattle.format_image.specs.Image.{allCode, tableOf}
 use Rattle.format_image.proofs.ImageLaws.{Says, table-says}
 use Rattle.run_start.specs.Start.{startOn, freshBytes}
-use Rattle.refine_calls.specs.Refinement.{runningIn, View}
+use Rattle.refine_calls.specs.Refinement.{runningIn, ViewIn}
 use Rattle.refine_calls.proofs.Relation.{RunIs, Alike}
 
 -- ---- what an accepted program is known to satisfy
@@ -42,7 +42,7 @@ run-is : (l : List ℕ) (r : Running) → RunIs l r → runningIn l ≡ r
 run-is l rest h = rw h
 run-is l (busy a c) h = rw (h .0, h .1, h .2, h .3, h .4)
 
-pub alike-view : (p : Program) (l : List ℕ) (w : Engine) → Alike (size p) l w → View p l w
+pub alike-view : (p : Program) (l : List ℕ) (w : Engine) → Alike (size p) l w → ViewIn l (state p w)
 alike-view p l (engine k q r d) R = record {
   number = R .number;
   queue = R .queue;

@@ -1,7 +1,7 @@
 -- Calls and changes of sheets on the bytes, and when their answers and the round agree with the model engine's. 01
 -- "Whole runs"; 02, M-112: "Demand 3's lists may hold such changes, the model engine making them too".
 use Prim.Native.Nat.{ℕ, zero, suc, _+_, _-_, _/_, _%_, _≤_}
-use mathlib.Core.Bool.{Bool, not}
+use mathlib.Core.Bool.{not}
 use mathlib.Core.Path.{_≡_}
 use mathlib.Core.Option.{none, some}
 use mathlib.Core.List.{List, [], _∷_, map, List·Permᴰ}
@@ -15,7 +15,7 @@ use Rattle.spec_language.specs.Dependence.{size}
 use Rattle.spec_language.specs.Refusals as refusals
 use Rattle.spec_language.specs.Answers as kinds
 use Rattle.spec_execution.specs.Execution.{Values}
-use Rattle.spec_model.specs.Model.{Arrival, arrival, Running, rest, busy, Engine, engine, Call, arrive, step, board, Answer, refused, takenIn, shows, idle, ran, started, preempted, committed, Turn, call, change, State, state, Reply, says, carriedOver, runTurns, replies}
+use Rattle.spec_model.specs.Model.{Arrival, arrival, Running, rest, busy, engine, Call, arrive, step, board, Answer, refused, takenIn, shows, idle, ran, started, preempted, committed, Turn, call, change, State, state, Reply, says, carriedOver, runTurns, replies}
 use Rattle.format_layout.specs.Layout.{eventOf, playerOf, taken, waitingCount, runningFlag, runningWord, runningNumber, position, depth, markWord, numberAt, wordAt}
 use Rattle.format_image.specs.Image.{passivesCode, tableOf}
 use Rattle.run_start.specs.Start.{CallResult}
@@ -49,16 +49,13 @@ codedReply carriedOver = 0
 abbrev pub arrivalIn : ℕ → Arrival
 arrivalIn v = arrival (v / 65536 % 1099511627776) (v / 256 % 256) (v / 16 % 16)
 
-abbrev pub overMarkIn : ℕ → Bool
-overMarkIn v = leb overMark v
-
 abbrev pub stepAnswer : ℕ → Answer
 stepAnswer v =
     pick (eqb v refusals.foreign) (refused refusals.foreign)
     (pick (eqb v kinds.idle) idle
     (pick (eqb v kinds.ran) ran
     (pick (eqb (v % 16) kinds.started) (started (arrivalIn v))
-    (pick (eqb (v % 16) kinds.committed) (committed (arrivalIn v) (overMarkIn v)) (preempted (arrivalIn v))))))
+    (pick (eqb (v % 16) kinds.committed) (committed (arrivalIn v) (leb overMark v)) (preempted (arrivalIn v))))))
 
 abbrev pub decoded : Call → ℕ → Answer
 decoded (arrive e who) v = pick (eqb v 0) takenIn (refused v)
@@ -96,16 +93,12 @@ pub record ByteOutcome : Type 0 where
   pub number : ℕ
   pub after : Bytes
 
-abbrev pub byteOutcome : ℕ → Bytes → ByteOutcome
-byteOutcome n b = record { number = n; after = b }
-
-abbrev pub inForceAfter : ℕ → List ℕ → List ℕ → List ℕ
-inForceAfter n u t = pick (eqb n 0) u t
-
 unfoldable pub turnOnBytes : ByteTurn → Bytes → ByteOutcome
-turnOnBytes (calls c) b = byteOutcome (callOn (b .table) c (b .round) .0) (bytes (b .table) (callOn (b .table) c (b .round) .1))
-turnOnBytes (mends u) b =
-    byteOutcome (mendOn (b .table) u (b .round) .0) (bytes (inForceAfter (mendOn (b .table) u (b .round) .0) u (b .table)) (mendOn (b .table) u (b .round) .1))
+turnOnBytes (calls c) b = record { number = callOn (b .table) c (b .round) .0; after = bytes (b .table) (callOn (b .table) c (b .round) .1) }
+turnOnBytes (mends u) b = record {
+  number = mendOn (b .table) u (b .round) .0;
+  after = bytes (pick (eqb (mendOn (b .table) u (b .round) .0) 0) u (b .table)) (mendOn (b .table) u (b .round) .1);
+}
 
 -- the numbers of a list of turns, and the bytes after it
 unfoldable pub numbersOn : List ByteTurn → Bytes → List ℕ
@@ -151,9 +144,6 @@ pub record ViewOf (p : Program) (l : List ℕ) (n : ℕ) (waiting : List Arrival
   pub deferred : (i v : ℕ) → getD (d .deferred) i none ≡ some v → get l (264 + i) ≡ v
   pub mark : not (eqb (markWord l) 0) ≡ d .mark
 
-abbrev pub View : Program → List ℕ → Engine → Type 0
-View p l (engine n waiting r d) = ViewOf p l n waiting r d
-
 -- only the round's 2,048 bytes may change
 pub record Kept (l m : List ℕ) : Type 0 where
   pub as-long : length m ≡ length l
@@ -183,7 +173,7 @@ AreTurns (x ∷ xs) (t ∷ ts) = IsTurn x t × AreTurns xs ts
 
 -- the round agrees with the engine, under the program in force
 abbrev pub ViewIn : List ℕ → State → Type 0
-ViewIn l (state p w) = View p l w
+ViewIn l (state p (engine n waiting r d)) = ViewOf p l n waiting r d
 
 -- turns from the bytes b and a state s: the numbers are the model engine's replies, the round then agrees with it, and
 -- of the round's bytes lent, l₀, only the round's have changed

@@ -19,8 +19,9 @@ use Rattle.spec_semantics.proofs.PlaysLaws.{plays}
 use Rattle.spec_semantics.proofs.Lengths.{length-fresh}
 use Rattle.spec_semantics.proofs.OverAgrees.{rules-find, rules-find-only}
 use Rattle.spec_model.specs.Model.{Arrival, arrival, Call, step, Answer, committed, act, Turn, call, State, state, says, turn, runTurns, begun}
-use Rattle.spec_model.specs.Claims.{copyBackIn, aloneCalls, eventsOf, takenInBy, courseOf, SameChanges, ApartEach, commits, inForce, engineIn, numberIn, storeIn, IdleIn, after, historyOf, Sound, Replays, Sentences}
+use Rattle.spec_model.specs.Claims.{copyBackIn, aloneCalls, eventsOf, takenInBy, courseOf, SameChanges, ApartEach, commits, inForce, engineIn, IdleIn, after, historyOf, Sound, Replays, Sentences}
 use Rattle.spec_model.specs.Told.{previewed}
+use Rattle.spec_model.proofs.States.{numberIn, storeIn}
 use Rattle.spec_model.proofs.History.{runs-append, Fit}
 use Rattle.spec_model.proofs.Boards.{storeAfter, stored}
 use Rattle.spec_model.proofs.Replaying.{proper, replays, replays-alone, board-by-rules}

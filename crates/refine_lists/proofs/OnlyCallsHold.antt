@@ -15,8 +15,9 @@ use Rattle.spec_semantics.specs.Plays.{Plays}
 use Rattle.spec_semantics.proofs.PlaysLaws.{plays, plays-alone}
 use Rattle.spec_semantics.proofs.Lengths.{length-fresh}
 use Rattle.spec_model.specs.Model.{Arrival, Call, State, state, call, turn, replies, begun}
-use Rattle.spec_model.specs.Claims.{Moment, Unchanged, commits, committedIn, eventsOf, engineIn, inForce, after, historyOf, takenInBy, copyBackIn, storeIn, courseOf, last, onward, SameChanges, ApartIn, ApartEach, Course}
+use Rattle.spec_model.specs.Claims.{Moment, Unchanged, commits, committedIn, eventsOf, engineIn, inForce, after, historyOf, takenInBy, copyBackIn, courseOf, last, onward, SameChanges, ApartIn, ApartEach, Course}
 use Rattle.spec_model.specs.Evaluated.{replayed}
+use Rattle.spec_model.proofs.States.{storeIn}
 use Rattle.spec_model.proofs.Alone.{only-commits}
 use Rattle.spec_model.proofs.Boards.{board-of-commits}
 use Rattle.spec_model.proofs.Confluence.{each-perm}

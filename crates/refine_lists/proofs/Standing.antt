@@ -10,7 +10,8 @@ use Rattle.lib_base.proofs.Tools.{by-test}
 use Rattle.spec_language.specs.Syntax.{Program}
 use Rattle.spec_language.specs.Dependence.{events}
 use Rattle.spec_model.specs.Model.{Arrival, engine, queue, Call, step, idle, committed, inCopyBack, act, Turn, call, change, State, state, says, TurnOutcome, declaredIn, turn, replies}
-use Rattle.spec_model.specs.Claims.{forecast, foreseen, inForce, engineIn, storeIn, IdleIn}
+use Rattle.spec_model.specs.Claims.{forecast, foreseen, inForce, engineIn, IdleIn}
+use Rattle.spec_model.proofs.States.{storeIn}
 use Rattle.spec_model.specs.Told.{previewed}
 use Rattle.run_arrive.specs.Arrivals.{arriveOn}
 use Rattle.run_step.specs.Machine.{stepOn}

@@ -1,15 +1,21 @@
 -- The table in force is the one that compile left for the program in force: a call leaves it, a change puts its table
 -- in force exactly if it is made. By induction on the turns.
-use Prim.Native.Nat.{ℕ}
+use Prim.Native.Nat.{ℕ, _≤_}
 use mathlib.Core.Path.{_≡_}
 use mathlib.Core.List.{List, [], _∷_}
+use lib.ListN.{length}
 use Rattle.lib_base.proofs.Tools.{by-test}
 use Rattle.spec_language.specs.Syntax.{Program}
 use Rattle.spec_model.specs.Model.{engine, queue, inCopyBack, Turn, call, change, State, state, TurnOutcome, declaredIn, turn, runTurns}
 use Rattle.spec_model.specs.Claims.{inForce}
-use Rattle.refine_calls.specs.Refinement.{codedReply, ByteTurn, calls, mends, Bytes, inForceAfter, turnOnBytes, bytesAfter, IsTurn, AreTurns}
+use Rattle.format_image.specs.Image.{tableOf}
+use Rattle.refine_calls.specs.Refinement.{codedReply, ByteTurn, calls, mends, Bytes, turnOnBytes, bytesAfter, IsTurn, AreTurns}
+use Rattle.refine_calls.proofs.Mends.{inForceAfter}
 use Rattle.refine_calls.proofs.TurnsRefine.{Stand, turned}
-use Rattle.refine_lists.specs.Lists.{Left}
+
+-- the bytes u are the table that compile leaves for the program q, in bytes lent for it
+abbrev pub Left : Program → List ℕ → Type 0
+Left q u = (lent : List ℕ) × (34816 ≤ length lent) × (u ≡ tableOf q lent)
 
 change-left : (u t : List ℕ) (q : Program) (n : ℕ) (s : State) → Left (inForce s) t → Left q u → n ≡ codedReply (turn (change q) s .reply)
     → Left (inForce (turn (change q) s .after)) (inForceAfter n u t)

@@ -19,7 +19,7 @@ use Rattle.spec_language.specs.Syntax.{Program}
 use Rattle.spec_semantics.specs.Meaning.{fresh, withStore}
 use Rattle.spec_semantics.specs.Over.{EventOver}
 use Rattle.spec_semantics.specs.Plays.{Plays}
-use Rattle.spec_model.specs.Claims.{programAfter, engineAfter, copyBackAfter, after, historyOf, takenInBy, courseOf, SameChanges, ApartEach, numberIn, IdleIn, commits, Replays, Sentences, eventsOf, copyBackIn, aloneCalls, forecast, foreseen, committedIn, ApartIn, Unchanged}
+use Rattle.spec_model.specs.Claims.{programAfter, engineAfter, after, historyOf, takenInBy, courseOf, SameChanges, ApartEach, number, IdleIn, commits, Replays, Sentences, eventsOf, copyBackIn, aloneCalls, forecast, foreseen, committedIn, ApartIn, Unchanged}
 use Rattle.spec_model.specs.Model.{Turn, call, Reply, says, carriedOver, replies, begun, change, Arrival, arrival, step, refused, committed, Call}
 use Rattle.format_image.specs.Image.{tableOf}
 use Rattle.back_compile.specs.Verdict.{programOf, compileOn}
@@ -43,10 +43,6 @@ abbrev pub decodedReply : ByteTurn → ℕ → Reply
 decodedReply (calls c) v = says (decoded c v)
 decodedReply (mends u) v = pick (eqb v 0) carriedOver (says (refused v))
 
--- the bytes u are the table that compile leaves for the program q, in bytes lent for it
-abbrev pub Left : Program → List ℕ → Type 0
-Left q u = (lent : List ℕ) × (34816 ≤ length lent) × (u ≡ tableOf q lent)
-
 -- 02, M-104: the mark m with which arrival a is committed after the turns ts
 pub record CommitMark (p : Program) (ts : List Turn) (a : Arrival) (m : Bool) : Type 0 where
   -- the board that the rules give for the history so far, and no other
@@ -66,7 +62,7 @@ pub record OneList (p : Program) (l₀ : List ℕ) (b : Bytes) (xs : List ByteTu
   -- the numbers name those answers: the committed and the taken in of the other parts are those that they name
   pub read : zipWith decodedReply xs (numbersOn xs b) ≡ replies ts (begun p)
   -- "The table is still as compile left it": the one in force, for the program in force
-  pub table : Left (programAfter p ts) (bytesAfter xs b .table)
+  pub table : (lent : List ℕ) × (34816 ≤ length lent) × (bytesAfter xs b .table ≡ tableOf (programAfter p ts) lent)
   -- ".. and the round after the list"
   pub round : ViewIn (bytesAfter xs b .round) (after p ts)
   pub beyond : Kept l₀ (bytesAfter xs b .round)
@@ -75,9 +71,9 @@ pub record OneList (p : Program) (l₀ : List ℕ) (b : Bytes) (xs : List ByteTu
   -- "After the list, unless a copy-back is under way, the board equals what demand 2's rules give for the committed
   -- events, one by one, undivided, in order of commitment." 02, M-112: "Commits before the change follow the old sheet
   -- and later ones the new"; and the rules lead to no other board
-  pub board : copyBackAfter p ts ≡ false
+  pub board : copyBackIn (programAfter p ts) (engineAfter p ts) ≡ false
       → Replays p (historyOf p ts) (fresh p) (boardOf (programAfter p ts) (bytesAfter xs b .round))
-  pub board-alone : copyBackAfter p ts ≡ false → (s : List ℕ) → Replays p (historyOf p ts) (fresh p) s
+  pub board-alone : copyBackIn (programAfter p ts) (engineAfter p ts) ≡ false → (s : List ℕ) → Replays p (historyOf p ts) (fresh p) s
       → s ≡ boardOf (programAfter p ts) (bytesAfter xs b .round)
   -- of the model engine, whose answers these are: "Each arrival taken in is committed at most once, exactly once when
   -- idle, and after every earlier one of equal rank. A lower rank precedes a higher one only if the higher was taken in
@@ -88,8 +84,8 @@ pub record OneList (p : Program) (l₀ : List ℕ) (b : Bytes) (xs : List ByteTu
   -- demand 2: "An event run alone leaves on the board, for every behaviour, the value that the paper's big-step rules
   -- give": from an idle round, an event that is taken in, from whoever may send it, and stepped to its commit
   pub one-event : IdleNow (bytesAfter xs b) → (e who : ℕ) → e < events (programAfter p ts) → who < 8 → maySend (programAfter p ts) who e ≡ true
-      → numberIn (after p ts) < 1000000
-      → (historyOf p (ts ++ map call (aloneCalls (programAfter p ts) e who)) ≡ historyOf p ts ++ (commits (arrival (numberIn (after p ts)) e who) ∷ []))
+      → number (engineAfter p ts) < 1000000
+      → (historyOf p (ts ++ map call (aloneCalls (programAfter p ts) e who)) ≡ historyOf p ts ++ (commits (arrival (number (engineAfter p ts)) e who) ∷ []))
       × Plays (programAfter p ts) (e ∷ []) (boardOf (programAfter p ts) (bytesAfter xs b .round))
       (boardOf (programAfter p ts) (bytesAfter (xs ++ map calls (aloneCalls (programAfter p ts) e who)) b .round))
   -- 02, M-100: "The same number is offered as a call of its own on a round .. While something runs, that call gives

@@ -18,7 +18,8 @@ use Rattle.spec_language.specs.Accepted.{Accepted, Valid}
 use Rattle.spec_language.specs.Refusals as refusals
 use Rattle.spec_semantics.specs.Meaning.{at}
 use Rattle.spec_model.specs.Model.{rest, busy, Engine, engine, board, Answer, refused, shows, inCopyBack, act}
-use Rattle.spec_model.specs.Claims.{storeOf, copyBackIn, Idle}
+use Rattle.spec_model.specs.Claims.{storeOf, copyBackIn}
+use Rattle.spec_model.proofs.States.{Idle}
 use Rattle.spec_model.proofs.Once.{idle-empty}
 use Rattle.secrecy_model.proofs.Programs.{BehaviourAlike, Alike}
 use Rattle.secrecy_model.proofs.Control.{control, copy-back-both}

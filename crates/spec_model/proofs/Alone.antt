@@ -17,8 +17,9 @@ use Rattle.spec_semantics.specs.Meaning.{event}
 use Rattle.spec_execution.specs.Execution.{Values, executeAll, emptied}
 use Rattle.spec_execution.proofs.CodeRight.{code-facts}
 use Rattle.spec_model.specs.Model.{Arrival, arrival, rest, busy, Engine, engine, Call, Answer, refused, takenIn, shows, idle, ran, started, preempted, committed, act, run, Turn, call, change, State, state, Reply, says, carriedOver, turn, runTurns, replies, begun}
-use Rattle.spec_model.specs.Claims.{committedBy, storeOf, aloneCalls, Moment, commits, ifCommits, momentOf, moments, inForce, numberIn, storeIn, IdleIn, after, historyOf, Sound}
+use Rattle.spec_model.specs.Claims.{committedBy, storeOf, aloneCalls, Moment, commits, ifCommits, momentOf, moments, inForce, IdleIn, after, historyOf, Sound}
 use Rattle.spec_model.specs.Evaluated.{AloneRight}
+use Rattle.spec_model.proofs.States.{numberIn, storeIn}
 use Rattle.spec_model.proofs.Calls.{answers}
 use Rattle.spec_model.proofs.Once.{idle-empty}
 use Rattle.spec_model.proofs.OneEvent.{alone}

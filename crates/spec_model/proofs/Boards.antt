@@ -17,8 +17,9 @@ use Rattle.spec_execution.specs.CodeFacts.{CodeFacts}
 use Rattle.spec_execution.proofs.CodeRight.{code-facts}
 use Rattle.spec_model.specs.Carried.{carried}
 use Rattle.spec_model.specs.Model.{Arrival, Engine, engine, Call, Turn, State, state, carriedTo}
-use Rattle.spec_model.specs.Claims.{copyBackIn, storeOf, Moment, commits, changes, inForce, engineIn, storeIn, after, historyOf, Sound}
+use Rattle.spec_model.specs.Claims.{copyBackIn, storeOf, Moment, commits, changes, inForce, engineIn, after, historyOf, Sound}
 use Rattle.spec_model.specs.Evaluated.{replayed, BoardOfCommits}
+use Rattle.spec_model.proofs.States.{storeIn}
 use Rattle.spec_model.proofs.Carries.{length-carried}
 use Rattle.spec_model.proofs.Moves.{Effect, nothing, took, commit, cases-imp}
 use Rattle.spec_model.proofs.Reached.{DoneIn, onto, still, Computes, computes}

@@ -9,6 +9,12 @@ use Rattle.spec_model.specs.Model.{Arrival, arrival, Engine, Call, arriv
 use Rattle.spec_model.specs.Claims.{ifTaken, number, after}
 use Rattle.spec_model.proofs.Moves.{Effect, nothing, took, commit, said-by, effect, Cases, act-by}
 
+unfoldable pub stepCount : List Call → ℕ
+stepCount [] = 0
+stepCount (arrive e who ∷ cs) = stepCount cs
+stepCount (step ∷ cs) = suc (stepCount cs)
+stepCount (board i who ∷ cs) = stepCount cs
+
 unfoldable pub answers : Program → List Call → Engine → List Answer
 answers p [] w = []
 answers p (c ∷ cs) w = act p c w .answer ∷ answers p cs (act p c w .after)

@@ -14,9 +14,10 @@ use Rattle.spec_semantics.specs.Meaning.{at}
 use Rattle.spec_semantics.specs.OverMeaning.{eventOver}
 use Rattle.spec_execution.proofs.CodeRight.{code-facts}
 use Rattle.spec_model.specs.Model.{Arrival, arrival, Engine, Call, arrive, step, board, Answer, refused, takenIn, shows, idle, ran, started, preempted, committed, rank, act, run, Turn, call, change, State, state, Reply, says, carriedOver, TurnOutcome, turn, runTurns, replies, begun}
-use Rattle.spec_model.specs.Claims.{number, stepsOf, AtRest, foreseen, Moment, committedBy, ifCommits, momentOf, moments, ifTakenIn, takenTurns, inForce, engineIn, numberIn, handIn, storeIn, IdleIn, after, historyOf, Sound, NotCarried, Unchanged, callsOf, stepsAmong, countNow, IdleWithin, QuietExactly, NobodyWaits, PreviewRight}
+use Rattle.spec_model.specs.Claims.{number, stepsOf, AtRest, foreseen, Moment, committedBy, ifCommits, momentOf, moments, ifTakenIn, takenTurns, inForce, engineIn, IdleIn, after, historyOf, Sound, NotCarried, Unchanged, stepsAmong, IdleWithin, QuietExactly, NobodyWaits, PreviewRight}
 use Rattle.spec_model.specs.Evaluated.{MarkRight}
-use Rattle.spec_model.proofs.Calls.{answers, commitsOf, takenFrom}
+use Rattle.spec_model.proofs.States.{numberIn, handIn, storeIn, countNow}
+use Rattle.spec_model.proofs.Calls.{stepCount, answers, commitsOf, takenFrom}
 use Rattle.spec_model.proofs.Reached.{DoneIn}
 use Rattle.spec_model.proofs.IdleWithin.{idle-from, empty}
 use Rattle.spec_model.proofs.Waits.{waits-from}
@@ -35,6 +36,20 @@ refused-same p q w = change-by p q w (λ (o : TurnOutcome). NotCarried (o .reply
 rest-unchanged : (p q : Program) (w : Engine) (us : List Turn) → Unchanged (change q ∷ us) (state p w) → Unchanged us (state p w)
 unfolding replies
 rest-unchanged p q w us h = subst (Unchanged us) (refused-same p q w (h .0)) (h .1)
+
+-- the calls among turns, and their steps
+abbrev callsOf : List Turn → List Call
+callsOf [] = []
+callsOf (call c ∷ ts) = c ∷ callsOf ts
+callsOf (change q ∷ ts) = callsOf ts
+
+as-steps : (us : List Turn) → stepsAmong us ≡ stepCount (callsOf us)
+unfolding stepsAmong stepCount
+as-steps [] = refl
+as-steps (call (arrive e who) ∷ us) = as-steps us
+as-steps (call step ∷ us) = ap suc (as-steps us)
+as-steps (call (board i who) ∷ us) = as-steps us
+as-steps (change q ∷ us) = as-steps us
 
 pub as-calls : (us : List Turn) (p : Program) (w : Engine) → Unchanged us (state p w) → runTurns us (state p w) ≡ state p (run p (callsOf us) w)
 unfolding runTurns run replies turn
@@ -97,7 +112,7 @@ as-taken (change q ∷ us) p w n h =
 idle-here : (s : State) → Fit s → (us : List Turn) → Unchanged us s → numberIn (runTurns us s) ≡ numberIn s → countNow s ≤ stepsAmong us → IdleIn (runTurns us s)
 idle-here (state p w) f us h e b =
     let q = as-calls us p w h in
-    rw q (idle-from p (code-facts p (f .0)) w (f .1) (callsOf us) (sym (ap numberIn q) ∙ e) b)
+    rw q (idle-from p (code-facts p (f .0)) w (f .1) (callsOf us) (sym (ap numberIn q) ∙ e) (rw (as-steps us) at b))
 
 empty-here : (s : State) → Fit s → length (handIn s) ≡ 0 → IdleIn s
 empty-here (state p w) f h = empty p (code-facts p (f .0)) w h
@@ -106,14 +121,14 @@ quiet-here : (s : State) → Fit s → AtRest (engineIn s) → (us : List Turn) 
     → (stepsAmong us < stepsOf (inForce s) (handIn s) → IdleIn (runTurns us s) → ⊥) × (stepsOf (inForce s) (handIn s) ≤ stepsAmong us → IdleIn (runTurns us s))
 quiet-here (state p w) f r us h e =
     let q = as-calls us p w h in
-    rw q (quiet-from p (code-facts p (f .0)) w (f .1) r (callsOf us) (sym (ap numberIn q) ∙ e))
+    rw (q, as-steps us) (quiet-from p (code-facts p (f .0)) w (f .1) r (callsOf us) (sym (ap numberIn q) ∙ e))
 
 waits-here : (s : State) → Fit s → (us : List Turn) (a : Arrival) → List·Memᴰ a (handIn s) → Unchanged us s
     → All (λ b. rank (inForce s) b ≤ rank (inForce s) a) (takenTurns us (replies us s) (numberIn s))
     → countNow s ≤ stepsAmong us → List·Memᴰ a (committedBy (moments us (replies us s)))
 waits-here (state p w) f us a m h g b =
     rw (as-commits us p w h)
-    (waits-from p (code-facts p (f .0)) w (f .1) (callsOf us) a m (rw (as-taken us p w (number w) h) at g) b)
+    (waits-from p (code-facts p (f .0)) w (f .1) (callsOf us) a m (rw (as-taken us p w (number w) h) at g) (rw (as-steps us) at b))
 
 preview-here : (s : State) → Fit s → (e i who : ℕ) (us : List Turn) → i < size (inForce s) → maySee (inForce s) who i ≡ true
     → turn (call (arrive e who)) s .reply ≡ says takenIn

@@ -13,7 +13,8 @@ use Rattle.spec_semantics.specs.Meaning.{value, inTurn, firstPhase, laterPhase,
 use Rattle.spec_execution.specs.Execution.{execute, executeAll, emptied, times}
 use Rattle.spec_model.specs.Carried.{carriedActives, carried}
 use Rattle.spec_model.specs.Model.{arrival, arrive, step, refused, act, Turn, call, change, says, carriedOver, turn, runTurns, replies}
-use Rattle.spec_model.specs.Claims.{commits, changes, moments, storeIn, after, historyOf}
+use Rattle.spec_model.specs.Claims.{commits, changes, moments, after, historyOf}
+use Rattle.spec_model.proofs.States.{storeIn}
 
 -- a bonus of 5, and b1 twice the score
 abbrev pub wrong : Program

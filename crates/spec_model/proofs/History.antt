@@ -18,7 +18,8 @@ use Rattle.spec_execution.specs.CodeFacts.{CodeFacts}
 use Rattle.spec_execution.proofs.CodeRight.{code-facts}
 use Rattle.spec_model.specs.Carried.{carried}
 use Rattle.spec_model.specs.Model.{Arrival, Engine, engine, queue, Call, arrive, step, board, Answer, refused, takenIn, shows, idle, ran, started, preempted, committed, inCopyBack, act, Turn, call, change, State, state, Reply, says, carriedOver, TurnOutcome, turnOutcome, declaredIn, carriedTo, turn, runTurns, replies, begun}
-use Rattle.spec_model.specs.Claims.{number, inQueue, copyBackIn, Moment, commits, changes, ifCommits, momentOf, moments, ifTakenIn, takenTurns, inForce, numberIn, after, historyOf, takenInBy, Sound}
+use Rattle.spec_model.specs.Claims.{number, inQueue, copyBackIn, Moment, commits, changes, ifCommits, momentOf, moments, ifTakenIn, takenTurns, inForce, after, historyOf, takenInBy, Sound}
+use Rattle.spec_model.proofs.States.{numberIn}
 use Rattle.spec_model.proofs.Carries.{length-carried}
 use Rattle.spec_model.proofs.Moves.{Effect, nothing, took, commit, effect, Cases, act-by}
 use Rattle.spec_model.proofs.Reached.{Fine, Reached, act-keeps, initially}

@@ -17,11 +17,12 @@ use Rattle.spec_language.specs.Order.{upTo}
 use Rattle.spec_execution.specs.Execution.{Values}
 use Rattle.spec_execution.specs.CodeFacts.{CodeFacts}
 use Rattle.spec_model.specs.Model.{Arrival, rest, busy, Engine, engine, Call, arrive, step, board, Chosen, rank, aside, choose, begin, act, run}
-use Rattle.spec_model.specs.Claims.{number, inQueue, Idle, after, longest, stepCount}
+use Rattle.spec_model.specs.Claims.{number, inQueue, after, longest}
+use Rattle.spec_model.proofs.States.{Idle}
 use Rattle.spec_model.proofs.Choice.{Leads, choose-perm, choose-first, choose-length}
 use Rattle.spec_model.proofs.Moves.{Effect, Cases, act-by}
 use Rattle.spec_model.proofs.Reached.{Fine, Reached, back-perm, act-keeps}
-use Rattle.spec_model.proofs.Calls.{act-grows, run-grows}
+use Rattle.spec_model.proofs.Calls.{act-grows, run-grows, stepCount}
 
 -- ---- the longest event
 

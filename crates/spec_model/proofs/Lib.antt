@@ -1,3 +1,4 @@
+pub mod States
 pub mod Choice
 pub mod Moves
 pub mod Reached

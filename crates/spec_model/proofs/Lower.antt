@@ -21,7 +21,8 @@ use Rattle.spec_language.specs.Dependence.{events}
 use Rattle.spec_execution.specs.Execution.{Values, times, copyingBackAfter, maskedAfter}
 use Rattle.spec_execution.specs.CodeFacts.{CodeFacts, copyingBackAt, maskedAt}
 use Rattle.spec_model.specs.Model.{Arrival, arrival, Running, rest, busy, Engine, engine, queue, arrive, step, board, rank, Turn, call, change, State, state, carriedTo}
-use Rattle.spec_model.specs.Claims.{number, inQueue, CopyingBack, Moment, commits, Commit, commitUnder, commitsUnder, inForce, engineIn, numberIn, handIn, after, historyOf, Sound, LowerThan, TakenInLater, LowerFirst}
+use Rattle.spec_model.specs.Claims.{number, inQueue, CopyingBack, Moment, commits, Commit, commitsUnder, inForce, engineIn, after, historyOf, Sound, LowerThan, TakenInLater, LowerFirst}
+use Rattle.spec_model.proofs.States.{commitUnder, numberIn, handIn}
 use Rattle.spec_model.proofs.Choice.{choose-perm}
 use Rattle.spec_model.proofs.Moves.{Cases}
 use Rattle.spec_model.proofs.Reached.{back-perm}

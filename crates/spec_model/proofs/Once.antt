@@ -16,7 +16,8 @@ use Rattle.spec_language.specs.Code.{code}
 use Rattle.spec_execution.specs.CodeFacts.{CodeFacts}
 use Rattle.spec_execution.specs.Execution.{Values}
 use Rattle.spec_model.specs.Model.{Arrival, arrival, Running, Engine, engine, queue, Turn, State, state, carriedTo, rest, busy, idle, Outcome, Chosen, rank, masked, advance, contest, choose, act}
-use Rattle.spec_model.specs.Claims.{number, inQueue, Moment, commits, changes, committedBy, numberIn, handIn, after, historyOf, takenInBy, IdleIn, Sound, OnceEach, Idle}
+use Rattle.spec_model.specs.Claims.{number, inQueue, Moment, commits, changes, committedBy, after, historyOf, takenInBy, IdleIn, Sound, OnceEach}
+use Rattle.spec_model.proofs.States.{numberIn, handIn, Idle}
 use Rattle.spec_model.proofs.Choice.{numbers, distinct-numbers, new-number, choose-perm}
 use Rattle.spec_model.proofs.Moves.{Cases}
 use Rattle.spec_model.proofs.Reached.{back-perm}

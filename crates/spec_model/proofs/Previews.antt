@@ -15,10 +15,11 @@ use Rattle.spec_language.specs.Rights.{maySee}
 use Rattle.spec_semantics.specs.Meaning.{at}
 use Rattle.spec_execution.specs.CodeFacts.{CodeFacts}
 use Rattle.spec_model.specs.Model.{rest, busy, Engine, engine, Call, arrive, step, board, Answer, takenIn, shows, act, run}
-use Rattle.spec_model.specs.Claims.{number, storeOf, Idle, after, stepCount, countIn, foreseen}
+use Rattle.spec_model.specs.Claims.{number, storeOf, after, countIn, foreseen}
+use Rattle.spec_model.proofs.States.{Idle}
 use Rattle.spec_model.proofs.Moves.{Effect, Cases, effect, act-by}
 use Rattle.spec_model.proofs.Reached.{Reached, act-keeps}
-use Rattle.spec_model.proofs.Calls.{counted, act-number, act-grows, run-grows}
+use Rattle.spec_model.proofs.Calls.{counted, act-number, act-grows, run-grows, stepCount}
 use Rattle.spec_model.proofs.Once.{idle-empty}
 use Rattle.spec_model.proofs.IdleWithin.{idle-from}
 

@@ -12,11 +12,12 @@ use Rattle.spec_language.specs.Syntax.{Program}
 use Rattle.spec_language.specs.Code.{code}
 use Rattle.spec_execution.specs.CodeFacts.{CodeFacts}
 use Rattle.spec_model.specs.Model.{Arrival, rest, busy, Engine, engine, Call, arrive, step, board, rank, choose, act, run}
-use Rattle.spec_model.specs.Claims.{number, inQueue, Idle, after, stepCount, stepsOf, AtRest}
+use Rattle.spec_model.specs.Claims.{number, inQueue, after, stepsOf, AtRest}
+use Rattle.spec_model.proofs.States.{Idle}
 use Rattle.spec_model.proofs.Choice.{Leads, choose-perm, choose-first}
 use Rattle.spec_model.proofs.Moves.{Effect, Cases, act-by}
 use Rattle.spec_model.proofs.Reached.{Reached, act-keeps, run-keeps}
-use Rattle.spec_model.proofs.Calls.{act-grows, run-grows}
+use Rattle.spec_model.proofs.Calls.{act-grows, run-grows, stepCount}
 use Rattle.spec_model.proofs.Once.{idle-empty}
 
 module _ (p : Program) where

@@ -19,8 +19,9 @@ use Rattle.spec_semantics.proofs.Agreement.{rules-give, rules-show, rules-alone
 use Rattle.spec_execution.specs.CodeFacts.{CodeFacts}
 use Rattle.spec_model.specs.Carried.{carried}
 use Rattle.spec_model.specs.Model.{Arrival, Turn, State}
-use Rattle.spec_model.specs.Claims.{Moment, commits, changes, after, historyOf, storeIn, Sound, Replays, done, next, turns}
+use Rattle.spec_model.specs.Claims.{Moment, commits, changes, after, historyOf, Sound, Replays, done, next, turns}
 use Rattle.spec_model.specs.Evaluated.{replayed, BoardByRules}
+use Rattle.spec_model.proofs.States.{storeIn}
 use Rattle.spec_model.proofs.Carries.{length-carried, carries, carries-alone}
 use Rattle.spec_model.proofs.Moves.{Cases}
 use Rattle.spec_model.proofs.History.{lastOf, Kept, Keeps, always}

@@ -11,8 +11,9 @@ use Rattle.spec_language.specs.Accepted.{Valid}
 use Rattle.spec_semantics.specs.Meaning.{fresh}
 use Rattle.spec_semantics.proofs.Lengths.{length-fresh}
 use Rattle.spec_model.specs.Model.{Arrival, arrival, arrive, step, board, refused, takenIn, shows, idle, ran, started, preempted, committed, Turn, call, change, State, state, Reply, says, carriedOver, replies, begun, rest, busy, engine}
-use Rattle.spec_model.specs.Claims.{copyBackIn, eventsOf, Moment, takenTurns, inForce, engineIn, handIn, storeIn, IdleIn, after, historyOf, takenInBy, Sound, courseOf, unsigned}
+use Rattle.spec_model.specs.Claims.{copyBackIn, eventsOf, Moment, takenTurns, inForce, engineIn, IdleIn, after, historyOf, takenInBy, Sound, courseOf, unsigned}
 use Rattle.spec_model.specs.Evaluated.{replayed, SameBoard}
+use Rattle.spec_model.proofs.States.{handIn, storeIn}
 use Rattle.spec_model.proofs.Choice.{numbers, distinct-numbers}
 use Rattle.spec_model.proofs.Unsigned.{allUnsigned, numbered}
 use Rattle.spec_model.proofs.Boards.{board-of-commits}

@@ -17,8 +17,8 @@ use Rattle.spec_language.specs.Code.{code}
 use Rattle.spec_execution.specs.Execution.{Values}
 use Rattle.spec_execution.specs.CodeFacts.{CodeFacts}
 use Rattle.spec_model.specs.Model.{Arrival, arrival, Running, rest, busy, Engine, engine, queue, Call, Answer, rank, before, aside, choose, begin, act}
-use Rattle.spec_model.specs.Claims.{number, inQueue, after, longest, stepCount}
-use Rattle.spec_model.proofs.Calls.{answers, commitsOf, takenFrom, logged, gathered, counted, commits-logged, taken-gathered, act-number}
+use Rattle.spec_model.specs.Claims.{number, inQueue, after, longest}
+use Rattle.spec_model.proofs.Calls.{answers, commitsOf, takenFrom, logged, gathered, counted, commits-logged, taken-gathered, act-number, stepCount}
 use Rattle.spec_model.proofs.Choice.{Leads, choose-perm, choose-first}
 use Rattle.spec_model.proofs.Moves.{Effect, effect, Cases, act-by}
 use Rattle.spec_model.proofs.Reached.{Fine, Reached, back-perm, act-keeps}

@@ -35,10 +35,6 @@ storeOf (engine t waiting r d) = d .store
 abbrev pub copyBackIn : Program → Engine → Bool
 copyBackIn p (engine t waiting r d) = inCopyBack p r
 
--- "Idle: a step called now would answer idle."
-abbrev pub Idle : Program → Engine → Type 0
-Idle p w = act p step w .answer ≡ idle
-
 -- the copy-back of a is under way
 abbrev pub CopyingBack : Program → Arrival → Engine → Type 0
 CopyingBack p a (engine t waiting rest d) = ⊥
@@ -57,12 +53,6 @@ aloneCalls p e who = arrive e who ∷ step ∷ replicate (length (code p e)) ste
 -- the longest event's instructions, over all events
 unfoldable pub longest : Program → ℕ
 longest p = foldr max 0 (upTo (events p) (λ e. length (code p e)))
-
-unfoldable pub stepCount : List Call → ℕ
-stepCount [] = 0
-stepCount (arrive e who ∷ cs) = stepCount cs
-stepCount (step ∷ cs) = suc (stepCount cs)
-stepCount (board i who ∷ cs) = stepCount cs
 
 -- 01's count of steps, (k + 1) × (L + 1), k being the number in hand and L the longest event's instructions
 abbrev pub countIn : Program → Engine → ℕ
@@ -134,12 +124,9 @@ pub record Commit : Type 0 where
   pub under : Program
   pub what : Arrival
 
-abbrev pub commitUnder : Program → Arrival → Commit
-commitUnder p a = record { under = p; what = a }
-
 unfoldable pub commitsUnder : Program → List Moment → List Commit
 commitsUnder p [] = []
-commitsUnder p (commits a ∷ h) = commitUnder p a ∷ commitsUnder p h
+commitsUnder p (commits a ∷ h) = record { under = p; what = a } ∷ commitsUnder p h
 commitsUnder p (changes q ∷ h) = commitsUnder q h
 
 -- the arrivals taken in, numbered from n on: "An arrival is taken in if its call wasn't refused": of a call
@@ -173,33 +160,21 @@ inForce (state p w) = p
 abbrev pub engineIn : State → Engine
 engineIn (state p w) = w
 
-abbrev pub numberIn : State → ℕ
-numberIn s = number (engineIn s)
-
-abbrev pub handIn : State → List Arrival
-handIn s = inQueue (engineIn s)
-
-abbrev pub storeIn : State → List ℕ
-storeIn s = storeOf (engineIn s)
-
 -- "Idle: a step called now would answer idle."
 abbrev pub IdleIn : State → Type 0
-IdleIn s = Idle (inForce s) (engineIn s)
+IdleIn s = act (inForce s) step (engineIn s) .answer ≡ idle
 
 -- ---- of a list of turns from a fresh round of p
 
 abbrev pub after : Program → List Turn → State
 after p ts = runTurns ts (begun p)
 
--- the program in force, and the engine; a copy-back is under way
+-- the program in force, and the engine
 abbrev pub programAfter : Program → List Turn → Program
 programAfter p ts = inForce (after p ts)
 
 abbrev pub engineAfter : Program → List Turn → Engine
 engineAfter p ts = engineIn (after p ts)
-
-abbrev pub copyBackAfter : Program → List Turn → Bool
-copyBackAfter p ts = copyBackIn (programAfter p ts) (engineAfter p ts)
 
 abbrev pub historyOf : Program → List Turn → List Moment
 historyOf p ts = moments ts (replies ts (begun p))
@@ -229,7 +204,7 @@ pub data Replays : Program → List Moment → List ℕ → List ℕ → Type 0 
 -- "Each arrival taken in is committed at most once, exactly once when idle"
 abbrev pub OnceEach : Program → List Turn → Type 0
 OnceEach p ts =
-    List·Permᴰ (takenInBy p ts) (committedIn p ts ++ handIn (after p ts))
+    List·Permᴰ (takenInBy p ts) (committedIn p ts ++ inQueue (engineAfter p ts))
     × List·Nodup (map (λ (a : Arrival). a .number) (takenInBy p ts))
     × (IdleIn (after p ts) → List·Permᴰ (takenInBy p ts) (committedIn p ts))
 
@@ -245,7 +220,7 @@ LowerThan x b = rank (x .under) (x .what) < rank (x .under) b
 abbrev pub EqualsInOrder : Program → List Turn → Type 0
 EqualsInOrder p ts =
     Pairwise (λ (x y : Commit). EqualTo x (y .what) → x .what .number < y .what .number) (commitsUnder p (historyOf p ts))
-    × All (λ (x : Commit). All (λ b. EqualTo x b → x .what .number < b .number) (handIn (after p ts))) (commitsUnder p (historyOf p ts))
+    × All (λ (x : Commit). All (λ b. EqualTo x b → x .what .number < b .number) (inQueue (engineAfter p ts))) (commitsUnder p (historyOf p ts))
 
 -- b was taken in after the copy-back of a began: at some moment it is under way, and b's number is not yet given
 pub record TakenInLater (p : Program) (ts : List Turn) (a b : Arrival) : Type 0 where
@@ -253,13 +228,13 @@ pub record TakenInLater (p : Program) (ts : List Turn) (a b : Arrival) : Type 0 
   pub rest-of : List Turn
   pub moment : ts ≡ past ++ rest-of
   pub copying : CopyingBack (programAfter p past) a (engineAfter p past)
-  pub not-yet : numberIn (after p past) ≤ b .number
+  pub not-yet : number (engineAfter p past) ≤ b .number
 
 -- "A lower rank precedes a higher one only if the higher was taken in after the lower's copy-back began."
 abbrev pub LowerFirst : Program → List Turn → Type 0
 LowerFirst p ts =
     Pairwise (λ (x y : Commit). LowerThan x (y .what) → TakenInLater p ts (x .what) (y .what)) (commitsUnder p (historyOf p ts))
-    × All (λ (x : Commit). All (λ b. LowerThan x b → TakenInLater p ts (x .what) b) (handIn (after p ts))) (commitsUnder p (historyOf p ts))
+    × All (λ (x : Commit). All (λ b. LowerThan x b → TakenInLater p ts (x .what) b) (inQueue (engineAfter p ts))) (commitsUnder p (historyOf p ts))
 
 -- ---- counts of steps. "counts of steps, M-100's too, run from the last" change: the turns us after ts change no
 -- sheet, L and the instruction counts being those of the program in force
@@ -272,46 +247,35 @@ NotCarried carriedOver = ⊥
 abbrev pub Unchanged : List Turn → State → Type 0
 Unchanged us s = All NotCarried (replies us s)
 
--- the calls among turns
-abbrev pub callsOf : List Turn → List Call
-callsOf [] = []
-callsOf (call c ∷ ts) = c ∷ callsOf ts
-callsOf (change q ∷ ts) = callsOf ts
-
-abbrev pub stepsAmong : List Turn → ℕ
-stepsAmong ts = stepCount (callsOf ts)
-
-abbrev pub countNow : State → ℕ
-countNow s = countIn (inForce s) (engineIn s)
+unfoldable pub stepsAmong : List Turn → ℕ
+stepsAmong [] = 0
+stepsAmong (call (arrive e who) ∷ ts) = stepsAmong ts
+stepsAmong (call step ∷ ts) = suc (stepsAmong ts)
+stepsAmong (call (board i who) ∷ ts) = stepsAmong ts
+stepsAmong (change q ∷ ts) = stepsAmong ts
 
 -- "Once no more are taken in, the round is idle within 01's count of steps"; "k = 0 is idle already"
 abbrev pub IdleWithin : Program → List Turn → Type 0
 IdleWithin p ts =
-    ((us : List Turn) → Unchanged us (after p ts) → numberIn (after p (ts ++ us)) ≡ numberIn (after p ts)
-    → countNow (after p ts) ≤ stepsAmong us → IdleIn (after p (ts ++ us)))
-    × (length (handIn (after p ts)) ≡ 0 → IdleIn (after p ts))
+    ((us : List Turn) → Unchanged us (after p ts) → number (engineAfter p (ts ++ us)) ≡ number (engineAfter p ts)
+    → countIn (programAfter p ts) (engineAfter p ts) ≤ stepsAmong us → IdleIn (after p (ts ++ us)))
+    × (length (inQueue (engineAfter p ts)) ≡ 0 → IdleIn (after p ts))
 
 -- M-100: "with nothing running and no further arrivals, idle shall come after exactly the sum, over the hand, of each
 -- event's instruction count plus one"
 abbrev pub QuietExactly : Program → List Turn → Type 0
 QuietExactly p ts =
-    AtRest (engineAfter p ts) → (us : List Turn) → Unchanged us (after p ts) → numberIn (after p (ts ++ us)) ≡ numberIn (after p ts)
-    → (stepsAmong us < stepsOf (programAfter p ts) (handIn (after p ts)) → IdleIn (after p (ts ++ us)) → ⊥)
-    × (stepsOf (programAfter p ts) (handIn (after p ts)) ≤ stepsAmong us → IdleIn (after p (ts ++ us)))
+    AtRest (engineAfter p ts) → (us : List Turn) → Unchanged us (after p ts) → number (engineAfter p (ts ++ us)) ≡ number (engineAfter p ts)
+    → (stepsAmong us < stepsOf (programAfter p ts) (inQueue (engineAfter p ts)) → IdleIn (after p (ts ++ us)) → ⊥)
+    × (stepsOf (programAfter p ts) (inQueue (engineAfter p ts)) ≤ stepsAmong us → IdleIn (after p (ts ++ us)))
 
 -- M-113: "If during the next (k + 1) × (L + 1) steps nothing of higher rank arrives and no sheet is changed, that
 -- arrival is committed by the end of them."
-abbrev pub takenThen : Program → List Turn → List Turn → List Arrival
-takenThen p ts us = takenTurns us (replies us (after p ts)) (numberIn (after p ts))
-
-abbrev pub committedThen : Program → List Turn → List Turn → List Arrival
-committedThen p ts us = committedBy (moments us (replies us (after p ts)))
-
 abbrev pub NobodyWaits : Program → List Turn → Type 0
 NobodyWaits p ts =
-    (us : List Turn) (a : Arrival) → List·Memᴰ a (handIn (after p ts)) → Unchanged us (after p ts)
-    → All (λ b. rank (programAfter p ts) b ≤ rank (programAfter p ts) a) (takenThen p ts us)
-    → countNow (after p ts) ≤ stepsAmong us → List·Memᴰ a (committedThen p ts us)
+    (us : List Turn) (a : Arrival) → List·Memᴰ a (inQueue (engineAfter p ts)) → Unchanged us (after p ts)
+    → All (λ b. rank (programAfter p ts) b ≤ rank (programAfter p ts) a) (takenTurns us (replies us (after p ts)) (number (engineAfter p ts)))
+    → countIn (programAfter p ts) (engineAfter p ts) ≤ stepsAmong us → List·Memᴰ a (committedBy (moments us (replies us (after p ts))))
 
 -- ---- M-101, with the program in force
 
@@ -322,9 +286,9 @@ PreviewRight p ts =
     (e i who : ℕ) (us : List Turn) → i < size (programAfter p ts) → maySee (programAfter p ts) who i ≡ true
     → turn (call (arrive e who)) (after p ts) .reply ≡ says takenIn
     → Unchanged (call (arrive e who) ∷ us) (after p ts)
-    → numberIn (after p (ts ++ (call (arrive e who) ∷ us))) ≡ numberIn (after p ts) + 1
+    → number (engineAfter p (ts ++ (call (arrive e who) ∷ us))) ≡ number (engineAfter p ts) + 1
     → IdleIn (after p (ts ++ (call (arrive e who) ∷ us)))
-    → foreseen (programAfter p ts) (engineAfter p ts) e i who ≡ shows (at (storeIn (after p (ts ++ (call (arrive e who) ∷ us)))) i)
+    → foreseen (programAfter p ts) (engineAfter p ts) e i who ≡ shows (at (storeOf (engineAfter p (ts ++ (call (arrive e who) ∷ us)))) i)
 
 -- ---- two lists. "equal boards on two phones need independence in each sheet and the same change after the same
 -- commits"

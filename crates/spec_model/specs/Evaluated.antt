@@ -12,7 +12,7 @@ use Rattle.spec_semantics.specs.Meaning.{event, fresh}
 use Rattle.spec_semantics.specs.OverMeaning.{eventOver}
 use Rattle.spec_model.specs.Carried.{carried}
 use Rattle.spec_model.specs.Model.{Arrival, arrival, step, committed, Turn, call, says, turn}
-use Rattle.spec_model.specs.Claims.{eventsOf, aloneCalls, Moment, commits, changes, numberIn, storeIn, IdleIn, after, programAfter, copyBackAfter, historyOf, takenInBy, Replays, courseOf, SameChanges, ApartEach}
+use Rattle.spec_model.specs.Claims.{number, storeOf, copyBackIn, eventsOf, aloneCalls, Moment, commits, changes, IdleIn, after, programAfter, engineAfter, historyOf, takenInBy, Replays, courseOf, SameChanges, ApartEach}
 
 -- what a history does to a store, p being in force
 unfoldable pub replayed : Program → List Moment → List ℕ → List ℕ
@@ -22,13 +22,13 @@ replayed p (changes q ∷ h) s = replayed q h (carried p q s)
 
 -- unless a copy-back is under way, the store is that of the history
 abbrev pub BoardOfCommits : Program → List Turn → Type 0
-BoardOfCommits p ts = copyBackAfter p ts ≡ false → storeIn (after p ts) ≡ replayed p (historyOf p ts) (fresh p)
+BoardOfCommits p ts = copyBackIn (programAfter p ts) (engineAfter p ts) ≡ false → storeOf (engineAfter p ts) ≡ replayed p (historyOf p ts) (fresh p)
 
 -- by the rules: they lead to that store, and to no other
 abbrev pub BoardByRules : Program → List Turn → Type 0
 BoardByRules p ts =
-    copyBackAfter p ts ≡ false
-    → Replays p (historyOf p ts) (fresh p) (storeIn (after p ts)) × ((s : List ℕ) → Replays p (historyOf p ts) (fresh p) s → s ≡ storeIn (after p ts))
+    copyBackIn (programAfter p ts) (engineAfter p ts) ≡ false
+    → Replays p (historyOf p ts) (fresh p) (storeOf (engineAfter p ts)) × ((s : List ℕ) → Replays p (historyOf p ts) (fresh p) s → s ≡ storeOf (engineAfter p ts))
 
 -- two lists on one sheet that take in the same events in the same order: when both are idle, their stores are equal
 abbrev pub SameBoard : Program → List Turn → List Turn → Type 0
@@ -37,14 +37,14 @@ SameBoard p ts us =
     → SameChanges (courseOf (historyOf p ts)) (courseOf (historyOf p us))
     → ApartEach p (courseOf (historyOf p ts))
     → IdleIn (after p ts) → IdleIn (after p us)
-    → storeIn (after p ts) ≡ storeIn (after p us)
+    → storeOf (engineAfter p ts) ≡ storeOf (engineAfter p us)
 
 -- from an idle round, an event that is taken in and stepped to its commit leaves the store of its meaning
 abbrev pub AloneRight : Program → List Turn → Type 0
 AloneRight p ts =
-    IdleIn (after p ts) → (e who : ℕ) → e < events (programAfter p ts) → who < 8 → maySend (programAfter p ts) who e ≡ true → numberIn (after p ts) < 1000000
-    → (historyOf p (ts ++ map call (aloneCalls (programAfter p ts) e who)) ≡ historyOf p ts ++ (commits (arrival (numberIn (after p ts)) e who) ∷ []))
-    × (storeIn (after p (ts ++ map call (aloneCalls (programAfter p ts) e who))) ≡ event (programAfter p ts) e (storeIn (after p ts)))
+    IdleIn (after p ts) → (e who : ℕ) → e < events (programAfter p ts) → who < 8 → maySend (programAfter p ts) who e ≡ true → number (engineAfter p ts) < 1000000
+    → (historyOf p (ts ++ map call (aloneCalls (programAfter p ts) e who)) ≡ historyOf p ts ++ (commits (arrival (number (engineAfter p ts)) e who) ∷ []))
+    × (storeOf (engineAfter p (ts ++ map call (aloneCalls (programAfter p ts) e who))) ≡ event (programAfter p ts) e (storeOf (engineAfter p ts)))
 
 -- a commit's mark is set exactly if the event's meaning runs over, on the store of the history so far: of a step called
 -- after the list
