@@ -17,7 +17,7 @@ use Rattle.spec_semantics.specs.Meaning.{fresh}
 use Rattle.spec_semantics.specs.Plays.{done}
 use Rattle.spec_semantics.proofs.Agreement.{fresh-shows, fresh-alone}
 use Rattle.spec_model.specs.Model.{runTurns}
-use Rattle.spec_model.specs.Claims.{moments}
+use Rattle.spec_model.specs.Claims.{moments, commitsUnder}
 use Rattle.format_layout.specs.Layout.{eventWord}
 use Rattle.format_image.specs.Image.{codeStart, tableOf}
 use Rattle.format_image.proofs.ImageLaws.{Says}
@@ -54,7 +54,7 @@ code-in p t says e h =
 
 -- the empty list has the fresh board
 fresh-board : (p : Program) (s ps t₀ l₀ : List ℕ) → OnlyCalls p l₀ (freshRoundOn s ps t₀ l₀) [] → boardOf p (freshRoundOn s ps t₀ l₀ .round) ≡ fresh p
-unfolding runTurns moments bytesAfter
+unfolding runTurns moments commitsUnder bytesAfter
 fresh-board p s ps t₀ l₀ h = sym (h .board-alone refl (fresh p) done)
 
 pub every-sheet : EverySheet

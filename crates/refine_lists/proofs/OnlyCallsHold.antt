@@ -2,7 +2,7 @@
 -- the rules replay of it they play. Two such lists have no changes to compare, and when idle the commits are the
 -- arrivals taken in, so independence among these is enough.
 use Prim.Native.Nat.{ℕ, _≤_, _<_}
-use mathlib.Core.Bool.{false}
+use mathlib.Core.Bool.{false, false≢true}
 use mathlib.Core.Path.{_≡_, refl, sym, ap, _∙_, subst}
 use mathlib.Core.List.{List, [], _∷_, map, List·Permᴰ}
 use lib.ListN.{length}
@@ -17,7 +17,7 @@ use Rattle.spec_semantics.proofs.Lengths.{length-fresh}
 use Rattle.spec_model.specs.Model.{Arrival, Call, State, state, call, turn, replies, begun}
 use Rattle.spec_model.specs.Claims.{Moment, Unchanged, commits, committedIn, eventsOf, engineIn, inForce, after, historyOf, takenInBy, copyBackIn, courseOf, last, onward, SameChanges, ApartIn, ApartEach, Course}
 use Rattle.spec_model.specs.Evaluated.{replayed}
-use Rattle.spec_model.proofs.States.{storeIn}
+use Rattle.spec_model.proofs.States.{storeIn, committed-arrivals}
 use Rattle.spec_model.proofs.Alone.{only-commits}
 use Rattle.spec_model.proofs.Boards.{board-of-commits}
 use Rattle.spec_model.proofs.Confluence.{each-perm}
@@ -54,7 +54,7 @@ table-stays (c ∷ cs) b = table-stays cs (turnOnBytes (calls c) b .after)
 calls-say : (ds : List Call) (s : State) → Unchanged (map call ds) s
 unfolding replies turn
 calls-say [] s = tt
-calls-say (d ∷ ds) (state p w) = (tt, calls-say ds (turn (call d) (state p w) .after))
+calls-say (d ∷ ds) (state p w) = (λ e. false≢true (cc e), calls-say ds (turn (call d) (state p w) .after))
 
 are-calls : (cs : List Call) → AreTurns (map calls cs) (map call cs)
 are-calls cs = turns-calls [] [] cs tt
@@ -62,7 +62,7 @@ are-calls cs = turns-calls [] [] cs tt
 module _ (p : Program) (ok : Accepted p) where
   -- the history of calls, which is their commits
   history : (cs : List Call) → historyOf p (map call cs) ≡ map commits (committedIn p (map call cs))
-  history cs = only-commits cs p _
+  history cs = only-commits cs p _ ∙ ap (map commits) (sym (committed-arrivals p (historyOf p (map call cs))))
 
   stays : (cs : List Call) → inForce (after p (map call cs)) ≡ p
   stays cs = in-force-calls cs (begun p)

@@ -17,9 +17,9 @@ use Rattle.spec_semantics.specs.Meaning.{event}
 use Rattle.spec_execution.specs.Execution.{Values, executeAll, emptied}
 use Rattle.spec_execution.proofs.CodeRight.{code-facts}
 use Rattle.spec_model.specs.Model.{Arrival, arrival, rest, busy, Engine, engine, Call, Answer, refused, takenIn, shows, idle, ran, started, preempted, committed, act, run, Turn, call, change, State, state, Reply, says, carriedOver, turn, runTurns, replies, begun}
-use Rattle.spec_model.specs.Claims.{committedBy, storeOf, aloneCalls, Moment, commits, ifCommits, momentOf, moments, inForce, IdleIn, after, historyOf, Sound}
+use Rattle.spec_model.specs.Claims.{storeOf, aloneCalls, Moment, commits, ifCommits, momentOf, moments, inForce, IdleIn, after, historyOf, Sound}
 use Rattle.spec_model.specs.Evaluated.{AloneRight}
-use Rattle.spec_model.proofs.States.{numberIn, storeIn}
+use Rattle.spec_model.proofs.States.{numberIn, storeIn, arrivalsCommitted}
 use Rattle.spec_model.proofs.Calls.{answers}
 use Rattle.spec_model.proofs.Once.{idle-empty}
 use Rattle.spec_model.proofs.OneEvent.{alone}
@@ -68,7 +68,7 @@ calls-moments [] p w = refl
 calls-moments (c ∷ cs) p w = ap (ifCommits (act p c w .answer)) (calls-moments cs p (act p c w .after))
 
 -- so the history of calls is their commits
-named-commits : (l : List Answer) → named l ≡ map commits (committedBy (named l))
+named-commits : (l : List Answer) → named l ≡ map commits (arrivalsCommitted (named l))
 named-commits [] = refl
 named-commits (refused n ∷ l) = named-commits l
 named-commits (takenIn ∷ l) = named-commits l
@@ -80,7 +80,7 @@ named-commits (preempted a ∷ l) = named-commits l
 named-commits (committed a m ∷ l) = ap (λ (h : List Moment). commits a ∷ h) (named-commits l)
 
 pub only-commits : (cs : List Call) (p : Program) (w : Engine)
-    → moments (map call cs) (replies (map call cs) (state p w)) ≡ map commits (committedBy (moments (map call cs) (replies (map call cs) (state p w))))
+    → moments (map call cs) (replies (map call cs) (state p w)) ≡ map commits (arrivalsCommitted (moments (map call cs) (replies (map call cs) (state p w))))
 only-commits cs p w = rw (calls-moments cs p w) (named-commits (answers p cs w))
 
 named-ran : (k : ℕ) (a : Arrival) (m : Bool) → named (replicate k ran ++ (committed a m ∷ [])) ≡ commits a ∷ []

@@ -3,6 +3,7 @@
 use Prim.Native.Nat.{ℕ, suc, _+_, _≤_, _<_}
 use mathlib.Core.Bool.{Bool, true}
 use mathlib.Core.Path.{_≡_, refl, sym, ap, _∙_, subst}
+use mathlib.Core.Logic.{_≢_}
 use mathlib.Core.List.{List, [], _∷_, _++_, List·Memᴰ}
 use lib.ListN.{length}
 use Rattle.lib_base.specs.Basics.{All}
@@ -14,9 +15,9 @@ use Rattle.spec_semantics.specs.Meaning.{at}
 use Rattle.spec_semantics.specs.OverMeaning.{eventOver}
 use Rattle.spec_execution.proofs.CodeRight.{code-facts}
 use Rattle.spec_model.specs.Model.{Arrival, arrival, Engine, Call, arrive, step, board, Answer, refused, takenIn, shows, idle, ran, started, preempted, committed, rank, act, run, Turn, call, change, State, state, Reply, says, carriedOver, TurnOutcome, turn, runTurns, replies, begun}
-use Rattle.spec_model.specs.Claims.{number, stepsOf, AtRest, foreseen, Moment, committedBy, ifCommits, momentOf, moments, ifTakenIn, takenTurns, inForce, engineIn, IdleIn, after, historyOf, Sound, NotCarried, Unchanged, stepsAmong, IdleWithin, QuietExactly, NobodyWaits, PreviewRight}
+use Rattle.spec_model.specs.Claims.{number, stepsOf, AtRest, foreseen, Moment, ifCommits, momentOf, moments, ifTakenIn, takenTurns, inForce, engineIn, IdleIn, after, historyOf, Sound, Unchanged, stepsAmong, IdleWithin, QuietExactly, NobodyWaits, PreviewRight}
 use Rattle.spec_model.specs.Evaluated.{MarkRight}
-use Rattle.spec_model.proofs.States.{numberIn, handIn, storeIn, countNow}
+use Rattle.spec_model.proofs.States.{numberIn, handIn, storeIn, countNow, arrivalsCommitted, committed-arrivals}
 use Rattle.spec_model.proofs.Calls.{stepCount, answers, commitsOf, takenFrom}
 use Rattle.spec_model.proofs.Reached.{DoneIn}
 use Rattle.spec_model.proofs.IdleWithin.{idle-from, empty}
@@ -30,8 +31,8 @@ use Rattle.spec_model.proofs.Boards.{storeAfter, stored}
 -- ---- turns that change no sheet
 
 -- a refused change changes nothing
-refused-same : (p q : Program) (w : Engine) → NotCarried (turn (change q) (state p w) .reply) → turn (change q) (state p w) .after ≡ state p w
-refused-same p q w = change-by p q w (λ (o : TurnOutcome). NotCarried (o .reply) → o .after ≡ state p w) (λ x n. refl) (λ u f n. absurd n)
+refused-same : (p q : Program) (w : Engine) → turn (change q) (state p w) .reply ≢ carriedOver → turn (change q) (state p w) .after ≡ state p w
+refused-same p q w = change-by p q w (λ (o : TurnOutcome). o .reply ≢ carriedOver → o .after ≡ state p w) (λ x n. refl) (λ u f n. absurd (n refl))
 
 rest-unchanged : (p q : Program) (w : Engine) (us : List Turn) → Unchanged (change q ∷ us) (state p w) → Unchanged us (state p w)
 unfolding replies
@@ -57,11 +58,11 @@ as-calls [] p w h = refl
 as-calls (call c ∷ us) p w h = as-calls us p (act p c w .after) (h .1)
 as-calls (change q ∷ us) p w h = ap (runTurns us) (refused-same p q w (h .0)) ∙ as-calls us p w (rest-unchanged p q w us h)
 
-no-moment : (q : Program) (r : Reply) (l : List Moment) → NotCarried r → momentOf (change q) r l ≡ l
+no-moment : (q : Program) (r : Reply) (l : List Moment) → r ≢ carriedOver → momentOf (change q) r l ≡ l
 no-moment q (says x) l h = refl
-no-moment q carriedOver l h = absurd h
+no-moment q carriedOver l h = absurd (h refl)
 
-committed-answer : (x : Answer) (h : List Moment) (l : List Answer) → committedBy h ≡ commitsOf l → committedBy (ifCommits x h) ≡ commitsOf (x ∷ l)
+committed-answer : (x : Answer) (h : List Moment) (l : List Answer) → arrivalsCommitted h ≡ commitsOf l → arrivalsCommitted (ifCommits x h) ≡ commitsOf (x ∷ l)
 unfolding commitsOf
 committed-answer (refused n) h l e = e
 committed-answer takenIn h l e = e
@@ -73,15 +74,15 @@ committed-answer (preempted a) h l e = e
 committed-answer (committed a m) h l e = ap (λ (x : List Arrival). a ∷ x) e
 
 pub as-commits : (us : List Turn) (p : Program) (w : Engine) → Unchanged us (state p w)
-    → committedBy (moments us (replies us (state p w))) ≡ commitsOf (answers p (callsOf us) w)
+    → arrivalsCommitted (moments us (replies us (state p w))) ≡ commitsOf (answers p (callsOf us) w)
 unfolding moments replies answers commitsOf turn
 as-commits [] p w h = refl
 as-commits (call c ∷ us) p w h =
     committed-answer (act p c w .answer) (moments us (replies us (state p (act p c w .after)))) (answers p (callsOf us) (act p c w .after))
     (as-commits us p (act p c w .after) (h .1))
 as-commits (change q ∷ us) p w h =
-    ap committedBy (no-moment q (turn (change q) (state p w) .reply) (moments us (replies us (turn (change q) (state p w) .after))) (h .0))
-    ∙ ap (λ (s : State). committedBy (moments us (replies us s))) (refused-same p q w (h .0)) ∙ as-commits us p w (rest-unchanged p q w us h)
+    ap arrivalsCommitted (no-moment q (turn (change q) (state p w) .reply) (moments us (replies us (turn (change q) (state p w) .after))) (h .0))
+    ∙ ap (λ (s : State). arrivalsCommitted (moments us (replies us s))) (refused-same p q w (h .0)) ∙ as-commits us p w (rest-unchanged p q w us h)
 
 taken-answer : (c : Call) (x : Answer) (us : List Turn) (cs : List Call) (r : List Reply) (l : List Answer) (n : ℕ)
     → ((m : ℕ) → takenTurns us r m ≡ takenFrom cs l m) → ifTakenIn (call c) (says x) n (takenTurns us r) ≡ takenFrom (c ∷ cs) (x ∷ l) n
@@ -125,7 +126,7 @@ quiet-here (state p w) f r us h e =
 
 waits-here : (s : State) → Fit s → (us : List Turn) (a : Arrival) → List·Memᴰ a (handIn s) → Unchanged us s
     → All (λ b. rank (inForce s) b ≤ rank (inForce s) a) (takenTurns us (replies us s) (numberIn s))
-    → countNow s ≤ stepsAmong us → List·Memᴰ a (committedBy (moments us (replies us s)))
+    → countNow s ≤ stepsAmong us → List·Memᴰ a (arrivalsCommitted (moments us (replies us s)))
 waits-here (state p w) f us a m h g b =
     rw (as-commits us p w h)
     (waits-from p (code-facts p (f .0)) w (f .1) (callsOf us) a m (rw (as-taken us p w (number w) h) at g) (rw (as-steps us) at b))
@@ -162,7 +163,7 @@ module _ (p : Program) (v : Valid p) where
   quiet-exactly ts g r us h e = let q = split-at ts us in rw q (quiet-here (after p ts) (fits p v ts g) r us h (sym (ap numberIn q) ∙ e))
 
   pub nobody-waits : (ts : List Turn) → All Sound ts → NobodyWaits p ts
-  nobody-waits ts g us a m h k b = waits-here (after p ts) (fits p v ts g) us a m h k b
+  nobody-waits ts g us a m h k b = rw (committed-arrivals (inForce (after p ts)) (moments us (replies us (after p ts)))) (waits-here (after p ts) (fits p v ts g) us a m h k b)
 
   pub preview-right : (ts : List Turn) → All Sound ts → PreviewRight p ts
   preview-right ts g e i who us b sees t h n k =

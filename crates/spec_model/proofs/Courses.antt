@@ -18,8 +18,9 @@ use Rattle.spec_semantics.proofs.Commute.{commute}
 use Rattle.spec_execution.proofs.CodeRight.{code-facts}
 use Rattle.spec_model.specs.Carried.{carried}
 use Rattle.spec_model.specs.Model.{Arrival, rank}
-use Rattle.spec_model.specs.Claims.{eventsOf, Moment, commits, changes, committedBy, Commit, commitsUnder, Course, last, thenChange, onward, courseOf, SameChanges, ApartIn, ApartEach, unsigned}
+use Rattle.spec_model.specs.Claims.{eventsOf, Moment, commits, changes, Commit, commitsUnder, Course, last, thenChange, onward, courseOf, SameChanges, ApartIn, ApartEach, unsigned}
 use Rattle.spec_model.specs.Evaluated.{replayed}
+use Rattle.spec_model.proofs.States.{arrivalsCommitted}
 use Rattle.spec_model.proofs.Carries.{length-carried}
 use Rattle.spec_model.proofs.Choice.{numbers, distinct-numbers, perm-rest}
 use Rattle.spec_model.proofs.Equals.{Sooner, sooner-prop}
@@ -58,7 +59,7 @@ all-onward : (a : Arrival) (c : Course) → allOf (onward a c) ≡ a ∷ allOf c
 all-onward a (last l) = refl
 all-onward a (thenChange l q c) = refl
 
-pub committed-all : (h : List Moment) → committedBy h ≡ allOf (courseOf h)
+pub committed-all : (h : List Moment) → arrivalsCommitted h ≡ allOf (courseOf h)
 unfolding courseOf
 committed-all [] = refl
 committed-all (commits a ∷ h) = ap (λ (l : List Arrival). a ∷ l) (committed-all h) ∙ sym (all-onward a (courseOf h))

@@ -21,7 +21,7 @@ use Rattle.spec_language.specs.Dependence.{events}
 use Rattle.spec_execution.specs.Execution.{Values, times, copyingBackAfter, maskedAfter}
 use Rattle.spec_execution.specs.CodeFacts.{CodeFacts, copyingBackAt, maskedAt}
 use Rattle.spec_model.specs.Model.{Arrival, arrival, Running, rest, busy, Engine, engine, queue, arrive, step, board, rank, Turn, call, change, State, state, carriedTo}
-use Rattle.spec_model.specs.Claims.{number, inQueue, CopyingBack, Moment, commits, Commit, commitsUnder, inForce, engineIn, after, historyOf, Sound, LowerThan, TakenInLater, LowerFirst}
+use Rattle.spec_model.specs.Claims.{number, inQueue, CopyingBack, Moment, commits, Commit, commitsUnder, inForce, engineIn, after, historyOf, Sound, TakenInLater, LowerFirst}
 use Rattle.spec_model.proofs.States.{commitUnder, numberIn, handIn}
 use Rattle.spec_model.proofs.Choice.{choose-perm}
 use Rattle.spec_model.proofs.Moves.{Cases}
@@ -206,8 +206,8 @@ module _ (p₀ : Program) where
   spread P (x ∷ l) h = (h .0, spread P l (h .1))
 
   laters : (ts : List Turn) (t : ℕ) (q : List Arrival) (log : List Commit) → Marked ts t q log
-      → Pairwise (λ (x y : Commit). LowerThan x (y .what) → TakenInLater p₀ ts (x .what) (y .what)) log
-      × All (λ (x : Commit). All (λ b. LowerThan x b → TakenInLater p₀ ts (x .what) b) q) log
+      → Pairwise (λ (x y : Commit). rank (x .under) (x .what) < rank (x .under) (y .what) → TakenInLater p₀ ts (x .what) (y .what)) log
+      × All (λ (x : Commit). All (λ b. rank (x .under) (x .what) < rank (x .under) b → TakenInLater p₀ ts (x .what) b) q) log
   laters ts t q [] h = (Pairwise·nil, tt)
   laters ts t q (x ∷ l) h =
       let b = h .0 in

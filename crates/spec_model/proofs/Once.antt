@@ -16,8 +16,8 @@ use Rattle.spec_language.specs.Code.{code}
 use Rattle.spec_execution.specs.CodeFacts.{CodeFacts}
 use Rattle.spec_execution.specs.Execution.{Values}
 use Rattle.spec_model.specs.Model.{Arrival, arrival, Running, Engine, engine, queue, Turn, State, state, carriedTo, rest, busy, idle, Outcome, Chosen, rank, masked, advance, contest, choose, act}
-use Rattle.spec_model.specs.Claims.{number, inQueue, Moment, commits, changes, committedBy, after, historyOf, takenInBy, IdleIn, Sound, OnceEach}
-use Rattle.spec_model.proofs.States.{numberIn, handIn, Idle}
+use Rattle.spec_model.specs.Claims.{number, inQueue, Moment, commits, changes, after, historyOf, takenInBy, IdleIn, Sound, OnceEach}
+use Rattle.spec_model.proofs.States.{numberIn, handIn, Idle, arrivalsCommitted, committed-arrivals}
 use Rattle.spec_model.proofs.Choice.{numbers, distinct-numbers, new-number, choose-perm}
 use Rattle.spec_model.proofs.Moves.{Cases}
 use Rattle.spec_model.proofs.Reached.{back-perm}
@@ -56,12 +56,12 @@ module _ (p : Program) where
 
 -- ---- histories
 
-pub committed-commit : (h : List Moment) (a : Arrival) → committedBy (h ++ (commits a ∷ [])) ≡ committedBy h ++ (a ∷ [])
+pub committed-commit : (h : List Moment) (a : Arrival) → arrivalsCommitted (h ++ (commits a ∷ [])) ≡ arrivalsCommitted h ++ (a ∷ [])
 committed-commit [] a = refl
 committed-commit (commits b ∷ h) a = λ t. b ∷ committed-commit h a t
 committed-commit (changes q ∷ h) a = committed-commit h a
 
-committed-change : (h : List Moment) (q : Program) → committedBy (h ++ (changes q ∷ [])) ≡ committedBy h
+committed-change : (h : List Moment) (q : Program) → arrivalsCommitted (h ++ (changes q ∷ [])) ≡ arrivalsCommitted h
 committed-change [] q = refl
 committed-change (commits b ∷ h) q = λ t. b ∷ committed-change h q t
 committed-change (changes r ∷ h) q = committed-change h q
@@ -71,7 +71,7 @@ abbrev pub Split : List Arrival → List Arrival → ℕ → List Arrival → Ty
 Split log hand t taken = List·Permᴰ taken (log ++ hand) × All (λ a. a .number < t) taken × List·Nodup (numbers taken)
 
 abbrev pub Once : List Turn → List Moment → List Arrival → State → Type 0
-Once past h taken s = Split (committedBy h) (handIn s) (numberIn s) taken
+Once past h taken s = Split (arrivalsCommitted h) (handIn s) (numberIn s) taken
 
 moved : (log : List Arrival) (t : ℕ) (taken : List Arrival) {q r : List Arrival} → List·Permᴰ q r → Split log q t taken → Split log r t taken
 moved log t taken d h = (List·Permᴰ·trans (h .0) (Permᴰ·append-left log d), h .1, h .2)
@@ -89,22 +89,22 @@ takes-once e who t waiting r log taken h =
     let m : List·Permᴰ (a ∷ taken) (taken ++ (a ∷ [])) = snoc-perm taken a in
     (List·Permᴰ·trans (Permᴰ·symm m) d, all-perm (λ x. x .number < t + 1) m f, distinct-numbers m g)
 
-carried-once : (p q : Program) (w : Engine) (h : List Moment) (taken : List Arrival) → Split (committedBy h) (inQueue w) (number w) taken
-    → Split (committedBy (h ++ (changes q ∷ []))) (inQueue (carriedTo p q w)) (number (carriedTo p q w)) taken
+carried-once : (p q : Program) (w : Engine) (h : List Moment) (taken : List Arrival) → Split (arrivalsCommitted h) (inQueue w) (number w) taken
+    → Split (arrivalsCommitted (h ++ (changes q ∷ []))) (inQueue (carriedTo p q w)) (number (carriedTo p q w)) taken
 carried-once p q (engine t waiting r d) h taken i = rw (committed-change h q) i
 
 module _ (p₀ : Program) where
   calls : (p : Program) → CodeFacts p → Cases p (Kept p₀ Once p)
   calls p facts = record {
     refuses = λ e who w r past h taken l here i. i;
-    takes = λ e who t waiting r d k eight m n reach past h taken l here i. takes-once e who t waiting r (committedBy h) taken i;
+    takes = λ e who t waiting r d k eight m n reach past h taken l here i. takes-once e who t waiting r (arrivalsCommitted h) taken i;
     reads = λ j who w r past h taken l here i. i;
     idles = λ t d r past h taken l here i. i;
-    starts = λ t b m d r past h taken l here i. moved (committedBy h) t taken (choose-perm p b m) i;
-    preempts = λ t b m a n d u o r past h taken l here i. moved (committedBy h) t taken (back-perm p a b m) i;
+    starts = λ t b m d r past h taken l here i. moved (arrivalsCommitted h) t taken (choose-perm p b m) i;
+    preempts = λ t b m a n d u o r past h taken l here i. moved (arrivalsCommitted h) t taken (back-perm p a b m) i;
     runs = λ t waiting a n d k u r past h taken l here i. i;
     commits = λ t waiting a n d k u r past h taken l here i.
-        rw (committed-commit h a) (rw (append-assoc (committedBy h) (a ∷ []) waiting) (i .0), i .1, i .2);
+        rw (committed-commit h a) (rw (append-assoc (arrivalsCommitted h) (a ∷ []) waiting) (i .0), i .1, i .2);
   }
 
   keeps : Keeps p₀ Once
@@ -122,4 +122,6 @@ module _ (p₀ : Program) where
     idle-hand (state p w) h = idle-empty p w h
 
     pub once-each : (ts : List Turn) → All Sound ts → OnceEach p₀ ts
-    once-each ts g = let h = once ts g in (h .0, h .2, λ z. rw (idle-hand (after p₀ ts) z, append-nil) at (h .0))
+    once-each ts g =
+        let h = once ts g in
+        rw (committed-arrivals p₀ (historyOf p₀ ts)) (h .0, h .2, λ z. rw (idle-hand (after p₀ ts) z, append-nil) at (h .0))

@@ -13,7 +13,7 @@ use Rattle.spec_semantics.proofs.Lengths.{length-fresh}
 use Rattle.spec_model.specs.Model.{Arrival, arrival, arrive, step, board, refused, takenIn, shows, idle, ran, started, preempted, committed, Turn, call, change, State, state, Reply, says, carriedOver, replies, begun, rest, busy, engine}
 use Rattle.spec_model.specs.Claims.{copyBackIn, eventsOf, Moment, takenTurns, inForce, engineIn, IdleIn, after, historyOf, takenInBy, Sound, courseOf, unsigned}
 use Rattle.spec_model.specs.Evaluated.{replayed, SameBoard}
-use Rattle.spec_model.proofs.States.{handIn, storeIn}
+use Rattle.spec_model.proofs.States.{handIn, storeIn, committed-arrivals}
 use Rattle.spec_model.proofs.Choice.{numbers, distinct-numbers}
 use Rattle.spec_model.proofs.Unsigned.{allUnsigned, numbered}
 use Rattle.spec_model.proofs.Boards.{board-of-commits}
@@ -51,7 +51,7 @@ module _ (p : Program) (v : Valid p) where
   idle-store ts g h = board-of-commits p v ts g (no-copy-back (after p ts) (idle-hand p v (after p ts) h))
 
   idle-course : (ts : List Turn) → All Sound ts → IdleIn (after p ts) → List·Permᴰ (takenInBy p ts) (allOf (courseOf (historyOf p ts)))
-  idle-course ts g h = subst (List·Permᴰ (takenInBy p ts)) (committed-all (historyOf p ts)) (once-each p v ts g .2 h)
+  idle-course ts g h = subst (List·Permᴰ (takenInBy p ts)) (committed-arrivals p (historyOf p ts) ∙ committed-all (historyOf p ts)) (once-each p v ts g .2 h)
 
   pub same-board : (ts us : List Turn) → All Sound ts → All Sound us → SameBoard p ts us
   same-board ts us gt gu same kept apart it iu =

@@ -21,7 +21,7 @@ use Rattle.spec_execution.specs.Execution.{copyingBackAfter}
 use Rattle.spec_model.specs.Carried.{Carries}
 use Rattle.spec_model.specs.Model.{Arrival, arrival, rest, busy, Engine, engine, queue, Call, arrive, step, board, Answer, refused, takenIn, shows, idle, ran, started, preempted, committed, rank, inCopyBack, act, run, Turn, call, change, State, state, Reply, says, carriedOver, turn, runTurns, replies, begun}
 
--- ---- what an engine says
+-- ---- what an engine says: the number taken in, the hand, the board, and whether a copy-back is under way
 
 abbrev pub number : Engine → ℕ
 number (engine t waiting r d) = t
@@ -62,6 +62,7 @@ countIn p w = (length (inQueue w) + 1) * (longest p + 1)
 unfoldable pub stepsOf : Program → List Arrival → ℕ
 stepsOf p l = sum _+_ 0 (map (λ (a : Arrival). length (code p (a .event)) + 1) l)
 
+-- nothing runs
 abbrev pub AtRest : Engine → Type 0
 AtRest (engine t waiting rest d) = Unit {0}
 AtRest (engine t waiting (busy a c) d) = ⊥
@@ -113,21 +114,20 @@ moments [] l = []
 moments (t ∷ ts) [] = []
 moments (t ∷ ts) (r ∷ l) = momentOf t r (moments ts l)
 
--- the arrivals committed, in order of commitment: "committed when a step's answer says so"
-abbrev pub committedBy : List Moment → List Arrival
-committedBy [] = []
-committedBy (commits a ∷ h) = a ∷ committedBy h
-committedBy (changes q ∷ h) = committedBy h
-
--- and each with the program in force when it commits, p being the first
+-- a commit, and the program in force when it is made
 pub record Commit : Type 0 where
   pub under : Program
   pub what : Arrival
 
+-- in order of commitment, p being the first program
 unfoldable pub commitsUnder : Program → List Moment → List Commit
 commitsUnder p [] = []
 commitsUnder p (commits a ∷ h) = record { under = p; what = a } ∷ commitsUnder p h
 commitsUnder p (changes q ∷ h) = commitsUnder q h
+
+-- the arrivals committed: "committed when a step's answer says so"
+abbrev pub committedBy : Program → List Moment → List Arrival
+committedBy p h = map (λ (x : Commit). x .what) (commitsUnder p h)
 
 -- the arrivals taken in, numbered from n on: "An arrival is taken in if its call wasn't refused": of a call
 abbrev pub ifTaken : Call → Answer → ℕ → (ℕ → List Arrival) → List Arrival
@@ -180,7 +180,7 @@ abbrev pub historyOf : Program → List Turn → List Moment
 historyOf p ts = moments ts (replies ts (begun p))
 
 abbrev pub committedIn : Program → List Turn → List Arrival
-committedIn p ts = committedBy (historyOf p ts)
+committedIn p ts = committedBy p (historyOf p ts)
 
 abbrev pub takenInBy : Program → List Turn → List Arrival
 takenInBy p ts = takenTurns ts (replies ts (begun p)) 0
@@ -208,19 +208,12 @@ OnceEach p ts =
     × List·Nodup (map (λ (a : Arrival). a .number) (takenInBy p ts))
     × (IdleIn (after p ts) → List·Permᴰ (takenInBy p ts) (committedIn p ts))
 
--- "between two events, ranks are those in force when the first commits": of this commit and a later one, or one still
--- in hand
-abbrev pub EqualTo : Commit → Arrival → Type 0
-EqualTo x b = rank (x .under) (x .what) ≡ rank (x .under) b
-
-abbrev pub LowerThan : Commit → Arrival → Type 0
-LowerThan x b = rank (x .under) (x .what) < rank (x .under) b
-
--- "and after every earlier one of equal rank"
+-- "and after every earlier one of equal rank": of each commit and a later one, and of each and one still in hand;
+-- "between two events, ranks are those in force when the first commits"
 abbrev pub EqualsInOrder : Program → List Turn → Type 0
 EqualsInOrder p ts =
-    Pairwise (λ (x y : Commit). EqualTo x (y .what) → x .what .number < y .what .number) (commitsUnder p (historyOf p ts))
-    × All (λ (x : Commit). All (λ b. EqualTo x b → x .what .number < b .number) (inQueue (engineAfter p ts))) (commitsUnder p (historyOf p ts))
+    Pairwise (λ (x y : Commit). rank (x .under) (x .what) ≡ rank (x .under) (y .what) → x .what .number < y .what .number) (commitsUnder p (historyOf p ts))
+    × All (λ (x : Commit). All (λ b. rank (x .under) (x .what) ≡ rank (x .under) b → x .what .number < b .number) (inQueue (engineAfter p ts))) (commitsUnder p (historyOf p ts))
 
 -- b was taken in after the copy-back of a began: at some moment it is under way, and b's number is not yet given
 pub record TakenInLater (p : Program) (ts : List Turn) (a b : Arrival) : Type 0 where
@@ -233,20 +226,17 @@ pub record TakenInLater (p : Program) (ts : List Turn) (a b : Arrival) : Type 0 
 -- "A lower rank precedes a higher one only if the higher was taken in after the lower's copy-back began."
 abbrev pub LowerFirst : Program → List Turn → Type 0
 LowerFirst p ts =
-    Pairwise (λ (x y : Commit). LowerThan x (y .what) → TakenInLater p ts (x .what) (y .what)) (commitsUnder p (historyOf p ts))
-    × All (λ (x : Commit). All (λ b. LowerThan x b → TakenInLater p ts (x .what) b) (inQueue (engineAfter p ts))) (commitsUnder p (historyOf p ts))
+    Pairwise (λ (x y : Commit). rank (x .under) (x .what) < rank (x .under) (y .what) → TakenInLater p ts (x .what) (y .what)) (commitsUnder p (historyOf p ts))
+    × All (λ (x : Commit). All (λ b. rank (x .under) (x .what) < rank (x .under) b → TakenInLater p ts (x .what) b) (inQueue (engineAfter p ts))) (commitsUnder p (historyOf p ts))
 
 -- ---- counts of steps. "counts of steps, M-100's too, run from the last" change: the turns us after ts change no
 -- sheet, L and the instruction counts being those of the program in force
 
-abbrev pub NotCarried : Reply → Type 0
-NotCarried (says a) = Unit {0}
-NotCarried carriedOver = ⊥
-
 -- "no sheet is changed": every change among them is refused
 abbrev pub Unchanged : List Turn → State → Type 0
-Unchanged us s = All NotCarried (replies us s)
+Unchanged us s = All (λ r. r ≢ carriedOver) (replies us s)
 
+-- the steps among turns
 unfoldable pub stepsAmong : List Turn → ℕ
 stepsAmong [] = 0
 stepsAmong (call (arrive e who) ∷ ts) = stepsAmong ts
@@ -275,7 +265,7 @@ abbrev pub NobodyWaits : Program → List Turn → Type 0
 NobodyWaits p ts =
     (us : List Turn) (a : Arrival) → List·Memᴰ a (inQueue (engineAfter p ts)) → Unchanged us (after p ts)
     → All (λ b. rank (programAfter p ts) b ≤ rank (programAfter p ts) a) (takenTurns us (replies us (after p ts)) (number (engineAfter p ts)))
-    → countIn (programAfter p ts) (engineAfter p ts) ≤ stepsAmong us → List·Memᴰ a (committedBy (moments us (replies us (after p ts))))
+    → countIn (programAfter p ts) (engineAfter p ts) ≤ stepsAmong us → List·Memᴰ a (committedBy (programAfter p ts) (moments us (replies us (after p ts))))
 
 -- ---- M-101, with the program in force
 
