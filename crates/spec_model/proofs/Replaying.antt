@@ -1,21 +1,19 @@
 -- By the rules of Figure 1 a history leads to the store that it replays, and to no other: every commit's event is
 -- declared in the program in force, which each turn keeps, and rules and evaluator agree on each moment. By induction
 -- on the history.
-use Prim.Native.Nat.{ℕ, _≤_, _<_}
+use Prim.Native.Nat.{ℕ, _<_}
 use mathlib.Core.Path.{_≡_, refl, sym, _∙_, subst}
 use mathlib.Core.List.{List, [], _∷_, _++_}
 use native.Mathlib.Omega.{arith}
 use lib.ListN.{length}
-use lib.Seq.{ext-getD}
 use Rattle.lib_base.specs.Basics.{All}
 use Rattle.spec_language.specs.Syntax.{Program}
 use Rattle.spec_language.specs.Accepted.{Valid}
-use Rattle.spec_language.specs.Dependence.{size, events, noEvent}
-use Rattle.spec_semantics.specs.Rules.{Shows}
-use Rattle.spec_semantics.specs.Meaning.{at, event, fresh, withStore}
+use Rattle.spec_language.specs.Dependence.{size, events}
+use Rattle.spec_semantics.specs.Meaning.{event, fresh, play}
 use Rattle.spec_semantics.proofs.Lengths.{length-fresh}
 use Rattle.spec_semantics.proofs.Solution.{event-length}
-use Rattle.spec_semantics.proofs.Agreement.{rules-give, rules-show, rules-alone, shows-alone}
+use Rattle.spec_semantics.proofs.PlaysLaws.{plays, plays-alone}
 use Rattle.spec_execution.specs.CodeFacts.{CodeFacts}
 use Rattle.spec_model.specs.Carried.{carried}
 use Rattle.spec_model.specs.Model.{Arrival, Turn, State}
@@ -36,25 +34,18 @@ Proper p (commits a ∷ h) = (a .event < events p) × Proper p h
 Proper p (changes q ∷ h) = Valid q × Proper q h
 
 pub replays : (p : Program) → Valid p → (h : List Moment) → Proper p h → (s : List ℕ) → length s ≡ size p → Replays p h s (replayed p h s)
-unfolding replayed
+unfolding replayed play
 replays p v [] k s n = done
 replays p v (commits a ∷ h) k s n =
-    let d : a .event ≤ noEvent p = omega arith in
-    let l : length (event p (a .event) s) ≡ size p = event-length p v (a .event) d s n in
-    next (rules-give p v (a .event) d s n) l (rules-show p v (a .event) d s n) (replays p v h (k .1) (event p (a .event) s) l)
+    next (plays p v (a .event ∷ []) (k .0, tt) s n) (replays p v h (k .1) (event p (a .event) s) (event-length p v (a .event) (omega arith) s n))
 replays p v (changes q ∷ h) k s n = turns (carries p q (k .0) s) (replays q (k .0) h (k .1) (carried p q s) (length-carried p q s))
 
 pub replays-alone : (p : Program) → Valid p → (h : List Moment) → Proper p h → (s last : List ℕ) → length s ≡ size p → Replays p h s last → last ≡ replayed p h s
-unfolding replayed
+unfolding replayed play
 replays-alone p v [] k s last n done = refl
-replays-alone p v (commits a ∷ h) k s last n (next {s′ = s′} r l sh q) =
-    let d : a .event ≤ noEvent p = omega arith in
-    let m : length (event p (a .event) s) ≡ size p = event-length p v (a .event) d s n in
-    let moved : withStore p s′ ≡ withStore p (event p (a .event) s) = rules-alone p v (a .event) d s n _ (withStore p s′) r .1 in
-    let same : s′ ≡ event p (a .event) s =
-    ext-getD 0 s′ (event p (a .event) s) (l ∙ sym m)
-    (λ i b. shows-alone p v (a .event) d s n i (at s′ i) (omega arith) (subst (λ (x : Program). Shows x i (at s′ i)) moved (sh i (omega arith)))) in
-    rw same at (replays-alone p v h (k .1) s′ last l q)
+replays-alone p v (commits a ∷ h) k s last n (next {s′ = s′} r q) =
+    let same : s′ ≡ event p (a .event) s = plays-alone p v (a .event ∷ []) (k .0, tt) s s′ n r in
+    replays-alone p v h (k .1) (event p (a .event) s) last (event-length p v (a .event) (omega arith) s n) (rw same at q)
 replays-alone p v (changes r ∷ h) k s last n (turns {s′ = s′} c q) =
     let same : s′ ≡ carried p r s = carries-alone p r (k .0) s s′ c in
     rw same at (replays-alone r (k .0) h (k .1) s′ last (c .sized) q)

@@ -15,8 +15,8 @@ use Rattle.spec_language.specs.Accepted.{Valid}
 use Rattle.spec_language.specs.Code.{code}
 use Rattle.spec_language.specs.Order.{upTo}
 use Rattle.spec_language.specs.Refusals as refusals
-use Rattle.spec_semantics.specs.Rules.{Runs, Shows}
-use Rattle.spec_semantics.specs.Meaning.{at, withStore}
+use Rattle.spec_semantics.specs.Meaning.{at}
+use Rattle.spec_semantics.specs.Plays.{Plays}
 use Rattle.spec_execution.specs.Execution.{copyingBackAfter}
 use Rattle.spec_model.specs.Carried.{Carries}
 use Rattle.spec_model.specs.Model.{Arrival, arrival, rest, busy, Engine, engine, queue, Call, arrive, step, board, Answer, refused, takenIn, shows, idle, ran, started, preempted, committed, rank, inCopyBack, act, run, Turn, call, change, State, state, Reply, says, carriedOver, turn, runTurns, replies, begun}
@@ -195,8 +195,7 @@ Sound (change q) = Valid q
 -- by Figure 1's rules, p being in force, the history leads from the store s to the last store
 pub data Replays : Program → List Moment → List ℕ → List ℕ → Type 0 where
   done : {p : Program} {s : List ℕ} → Replays p [] s s
-  next : {p : Program} {a : Arrival} {h : List Moment} {s first s′ last : List ℕ} → Runs (withStore p s) (a .event) first (withStore p s′) → length s′ ≡ size p
-      → ((i : ℕ) → i < size p → Shows (withStore p s′) i (at s′ i)) → Replays p h s′ last → Replays p (commits a ∷ h) s last
+  next : {p : Program} {a : Arrival} {h : List Moment} {s s′ last : List ℕ} → Plays p (a .event ∷ []) s s′ → Replays p h s′ last → Replays p (commits a ∷ h) s last
   turns : {p q : Program} {h : List Moment} {s s′ last : List ℕ} → Carries p q s s′ → Replays q h s′ last → Replays p (changes q ∷ h) s last
 
 -- ---- order
