@@ -1,7 +1,6 @@
 -- compile takes exactly the encodings of the accepted sheets, and leaves the table of their filling; whatever it turns
--- down leaves the table as it was. 11, 20, 12 and 13 stand exactly for what 01 and 02 say: 13 for a sheet that is fine
--- but for its length. 2 is never answered. By the reader's theorem and the checks' (crates spec_grammar, analysis),
--- from the verdict's branches.
+-- down leaves the table as it was. 12 is answered only for a circle. 2 is never answered. By the reader's theorem and
+-- the checks' (crates spec_grammar, check_faults), from the verdict's branches.
 use Prim.Native.Nat.{ℕ, _≤_, _<_}
 use mathlib.Core.Bool.{true, false, true≢false, and-eq-true-iff}
 use mathlib.Core.Path.{_≡_, refl, sym, ap, _∙_, subst}
@@ -9,7 +8,7 @@ use mathlib.Core.Logic.{_≢_, by-cases}
 use mathlib.Core.List.{List, []}
 use native.Mathlib.Decide.{decLt}
 use native.Mathlib.Omega.{arith}
-use lib.ListN.{length}
+use lib.ListN.{length, replicate, length-replicate}
 use lib.Dec.{ltb}
 use borrow.Author.Tests.{lt-ltb, le-ltb, ltb-true, ltb-false}
 use Rattle.lib_base.specs.Basics.{All}
@@ -20,24 +19,23 @@ use Rattle.spec_language.specs.Dependence.{size, NoCycle}
 use Rattle.spec_language.specs.Grammar.{encode, SheetFits}
 use Rattle.spec_language.specs.Accepted.{Known, SheetAccepted}
 use Rattle.spec_language.specs.Reading.{Got, bad, got, readSheet}
-use Rattle.spec_language.specs.Code.{allInstructions}
 use Rattle.spec_language.proofs.RowLaws.{length-out}
 use Rattle.spec_language.proofs.SheetLaws.{length-fill}
 use Rattle.spec_grammar.proofs.Programs.{reads-back, reads-only, fault-numbers}
 use Rattle.check_faults.specs.Faults.{known, cyclic}
 use Rattle.check_faults.proofs.CycleDecides.{known-decides, cyclic-decides}
 use Rattle.format_image.specs.Image.{tableOf}
-use Rattle.back_compile.specs.Verdict.{Compiled, compiled, judge, lacksParameters, programOf, judgeRead, compileOn}
-use Rattle.back_compile.proofs.JudgeLaws.{judge-unknown, judge-lacking, judge-cycle, judge-long, judge-passes, Verdict, unknown, lacking, circular, long, passed, judge-says, compile-opens, compile-short, compile-long}
-use Rattle.back_compile.specs.Statements.{Given, Fine}
+use Rattle.back_compile.specs.Verdict.{Compiled, compiled, judge, lacksParameters, programOf, judgeRead, compileOn, numberOn}
+use Rattle.back_compile.proofs.JudgeLaws.{judge-passes, Verdict, unknown, lacking, circular, long, passed, judge-says, compile-opens, compile-short, compile-long}
+use Rattle.back_compile.specs.Statements.{Given}
 
 -- ---- what is read and judged
 
 -- the test for 20, and what it stands for
-lacks-says : (ps : List ℕ) (s : Sheet) → lacksParameters s ps ≡ true → (uses s ≡ true) × (length ps < 32)
+pub lacks-says : (ps : List ℕ) (s : Sheet) → lacksParameters s ps ≡ true → (uses s ≡ true) × (length ps < 32)
 lacks-says ps s h = let q = and-eq-true-iff (uses s) (ltb (length ps) 32) .0 h in (q .0, ltb-true (length ps) 32 (q .1))
 
-lacks-is : (ps : List ℕ) (s : Sheet) → uses s ≡ true → length ps < 32 → lacksParameters s ps ≡ true
+pub lacks-is : (ps : List ℕ) (s : Sheet) → uses s ≡ true → length ps < 32 → lacksParameters s ps ≡ true
 lacks-is ps s u h = rw (u, lt-ltb (length ps) 32 h)
 
 given-says : (ps : List ℕ) (s : Sheet) → lacksParameters s ps ≡ false → Given ps s
@@ -53,20 +51,29 @@ few ps s f = omega (arith, length-fill (get ps) (rowsOut s .entries), length-out
 fine-known : (ps : List ℕ) (s : Sheet) → SheetFits s → known (programOf ps s) ≡ true → cyclic (programOf ps s) ≡ false → Known (programOf ps s) × NoCycle (programOf ps s)
 fine-known ps s f k c = let h = known-decides (programOf ps s) .0 k in (h, cyclic-decides (programOf ps s) h (few ps s f) .0 c)
 
+-- ---- a sheet that is accepted
+
+module _ (s ps : List ℕ) (x : Sheet) (q : encode x ≡ s) (a : SheetAccepted (get ps) (length ps) x) where
+  pub accepted-taken : (t : List ℕ) → 34816 ≤ length t → compileOn s ps t ≡ compiled 0 (tableOf (programOf ps x) t)
+  accepted-taken t room =
+      let p = programOf ps x in
+      let hi : length s ≤ 8192 = rw q at (a .fits .few-bytes) in
+      let e : readSheet s ≡ got x [] = rw q at (reads-back x (a .fits)) in
+      compile-opens s ps t room hi
+      ∙ ap (λ (g : Got Sheet). judgeRead g ps t) e
+      ∙ rw (given-is ps x (a .given)) (judge-passes p t (known-decides p .1 (a .known)) (cyclic-decides p (a .known) (few ps x (a .fits)) .1 (a .acyclic)) (a .short))
+
+  pub accepted-number : numberOn s ps ≡ 0
+  unfolding numberOn
+  accepted-number = ap (λ (r : Compiled). r .0) (accepted-taken (replicate 34816 0) (omega (arith, length-replicate {A = ℕ} 34816 0)))
+
+-- ---- what led to an answer
+
 module _ (s ps t : List ℕ) (bytes : All (λ b. b < 256) s) (room : 34816 ≤ length t) where
   -- what an accepted sheet is
   abbrev Taken : Type 0
   Taken =
       (x : Sheet) × (encode x ≡ s) × SheetAccepted (get ps) (length ps) x × (compileOn s ps t ≡ compiled 0 (tableOf (programOf ps x) t)) × (readSheet s ≡ got x [])
-
-  abbrev TooLong : Type 0
-  TooLong = (x : Sheet) × (encode x ≡ s) × Fine ps x × (4096 < allInstructions (programOf ps x))
-
-  abbrev Stray : Type 0
-  Stray = (x : Sheet) × (encode x ≡ s) × SheetFits x × (Known (programOf ps x) → ⊥)
-
-  abbrev Lacking : Type 0
-  Lacking = (x : Sheet) × (encode x ≡ s) × SheetFits x × Known (programOf ps x) × (uses x ≡ true) × (length ps < 32)
 
   abbrev Circular : Type 0
   Circular = (x : Sheet) × (encode x ≡ s) × SheetFits x × Known (programOf ps x) × Given ps x × (NoCycle (programOf ps x) → ⊥)
@@ -74,57 +81,24 @@ module _ (s ps t : List ℕ) (bytes : All (λ b. b < 256) s) (room : 34816 ≤ l
   -- what led to an answer that compile gave
   record Told (r : Compiled) : Type 0 where
     at-0 : r .0 ≡ 0 → Taken
-    at-11 : r .0 ≡ 11 → Stray
-    at-20 : r .0 ≡ 20 → Lacking
     at-12 : r .0 ≡ 12 → Circular
-    at-13 : r .0 ≡ 13 → TooLong
 
   -- another answer
-  other : (r : Compiled) → r .0 ≢ 0 → r .0 ≢ 11 → r .0 ≢ 20 → r .0 ≢ 12 → r .0 ≢ 13 → Told r
-  other r a b c d e = record {
-    at-0 = λ z. absurd (a z);
-    at-11 = λ z. absurd (b z);
-    at-20 = λ z. absurd (c z);
-    at-12 = λ z. absurd (d z);
-    at-13 = λ z. absurd (e z);
-  }
+  other : (r : Compiled) → r .0 ≢ 0 → r .0 ≢ 12 → Told r
+  other r a b = record { at-0 = λ z. absurd (a z); at-12 = λ z. absurd (b z) }
 
   module _ (hi : length s ≤ 8192) where
-    judged : (x : Sheet) → readSheet s ≡ got x [] → encode x ≡ s → SheetFits x → (r : Compiled) → judge (programOf ps x) (lacksParameters x ps) t ≡ r
-        → Verdict (programOf ps x) t (lacksParameters x ps) r → Told r
-    judged x e q f r j (unknown k) = record {
+    judged : (x : Sheet) → readSheet s ≡ got x [] → encode x ≡ s → SheetFits x → (r : Compiled) → Verdict (programOf ps x) t (lacksParameters x ps) r → Told r
+    judged x e q f r (unknown k) = other (compiled 11 t) (omega arith) (omega arith)
+    judged x e q f r (lacking k l) = other (compiled 20 t) (omega arith) (omega arith)
+    judged x e q f r (circular k l c) = record {
       at-0 = λ z. absurd (omega arith);
-      at-11 = λ z. (x, q, f, λ h. true≢false (sym (known-decides (programOf ps x) .1 h) ∙ k));
-      at-20 = λ z. absurd (omega arith);
-      at-12 = λ z. absurd (omega arith);
-      at-13 = λ z. absurd (omega arith);
-    }
-    judged x e q f r j (lacking k l) = record {
-      at-0 = λ z. absurd (omega arith);
-      at-11 = λ z. absurd (omega arith);
-      at-20 = λ z. let u = lacks-says ps x l in (x, q, f, known-decides (programOf ps x) .0 k, u .0, u .1);
-      at-12 = λ z. absurd (omega arith);
-      at-13 = λ z. absurd (omega arith);
-    }
-    judged x e q f r j (circular k l c) = record {
-      at-0 = λ z. absurd (omega arith);
-      at-11 = λ z. absurd (omega arith);
-      at-20 = λ z. absurd (omega arith);
       at-12 = λ z.
           let w = known-decides (programOf ps x) .0 k in
           (x, q, f, w, given-says ps x l, λ h. true≢false (sym c ∙ cyclic-decides (programOf ps x) w (few ps x f) .1 h));
-      at-13 = λ z. absurd (omega arith);
     }
-    judged x e q f r j (long k l c h) =
-        let w = fine-known ps x f k c in
-        record {
-          at-0 = λ z. absurd (omega arith);
-          at-11 = λ z. absurd (omega arith);
-          at-20 = λ z. absurd (omega arith);
-          at-12 = λ z. absurd (omega arith);
-          at-13 = λ z. (x, q, (f, w .0, given-says ps x l, w .1), h);
-        }
-    judged x e q f r j (passed k l c h) =
+    judged x e q f r (long k l c h) = other (compiled 13 t) (omega arith) (omega arith)
+    judged x e q f r (passed k l c h) =
         let w = fine-known ps x f k c in
         record {
           at-0 = λ z. (
@@ -134,83 +108,30 @@ module _ (s ps t : List ℕ) (bytes : All (λ b. b < 256) s) (room : 34816 ≤ l
             compile-opens s ps t room hi ∙ ap (λ (g : Got Sheet). judgeRead g ps t) e ∙ rw l (judge-passes (programOf ps x) t k c h),
             e,
           );
-          at-11 = λ z. absurd (omega arith);
-          at-20 = λ z. absurd (omega arith);
           at-12 = λ z. absurd (omega arith);
-          at-13 = λ z. absurd (omega arith);
         }
 
     read : (g : Got Sheet) → readSheet s ≡ g → Told (judgeRead g ps t)
-    read (bad k) e = let h = fault-numbers s k e in other (compiled k t) (omega arith) (omega arith) (omega arith) (omega arith) (omega arith)
+    read (bad k) e = let h = fault-numbers s k e in other (compiled k t) (omega arith) (omega arith)
     read (got x rest) e =
         let h = reads-only s bytes hi x rest e in
-        judged x (e ∙ ap (got x) (h .2)) (sym (h .0)) (h .1) (judge (programOf ps x) (lacksParameters x ps) t) refl (judge-says (programOf ps x) t (lacksParameters x ps))
+        judged x (e ∙ ap (got x) (h .2)) (sym (h .0)) (h .1) (judge (programOf ps x) (lacksParameters x ps) t) (judge-says (programOf ps x) t (lacksParameters x ps))
 
   told : Told (compileOn s ps t)
   told =
       by-cases (decLt 8192 (length s))
-      (λ l. subst Told (sym (compile-long s ps t room l)) (other (compiled 3 t) (omega arith) (omega arith) (omega arith) (omega arith) (omega arith)))
+      (λ l. subst Told (sym (compile-long s ps t room l)) (other (compiled 3 t) (omega arith) (omega arith)))
       (λ l. subst Told (sym (compile-opens s ps t room (omega arith))) (read (omega arith) (readSheet s) refl))
-
-  -- a sheet within the grammar is read and judged
-  reaches : (x : Sheet) → encode x ≡ s → SheetFits x → compileOn s ps t ≡ judge (programOf ps x) (lacksParameters x ps) t
-  reaches x q f =
-      let hi : length s ≤ 8192 = rw q at (f .few-bytes) in
-      let e : readSheet s ≡ got x [] = rw q at (reads-back x f) in
-      compile-opens s ps t room hi ∙ ap (λ (g : Got Sheet). judgeRead g ps t) e
-
-  -- where nothing lacks
-  passes-on : (x : Sheet) → encode x ≡ s → SheetFits x → Given ps x → compileOn s ps t ≡ judge (programOf ps x) false t
-  passes-on x q f g = rw (given-is ps x g) at (reaches x q f)
 
   pub accepted-exactly :
       ((compileOn s ps t .0 ≡ 0
       → (x : Sheet) × (encode x ≡ s) × SheetAccepted (get ps) (length ps) x × (compileOn s ps t ≡ compiled 0 (tableOf (programOf ps x) t)) × (readSheet s ≡ got x []))
       × ((x : Sheet) → encode x ≡ s → SheetAccepted (get ps) (length ps) x → compileOn s ps t ≡ compiled 0 (tableOf (programOf ps x) t)))
-  accepted-exactly = (
-    told .at-0,
-    λ x q a. passes-on x q (a .fits) (a .given)
-        ∙ judge-passes (programOf ps x) t (known-decides (programOf ps x) .1 (a .known)) (cyclic-decides (programOf ps x) (a .known) (few ps x (a .fits)) .1 (a .acyclic)) (a .short),
-  )
+  accepted-exactly = (told .at-0, λ x q a. accepted-taken s ps x q a t room)
 
-  -- 11 exactly when a name is no behaviour's
-  pub eleven :
-      ((compileOn s ps t .0 ≡ 11 → (x : Sheet) × (encode x ≡ s) × SheetFits x × (Known (programOf ps x) → ⊥))
-      × ((x : Sheet) → encode x ≡ s → SheetFits x → (Known (programOf ps x) → ⊥) → compileOn s ps t ≡ compiled 11 t))
-  eleven = (
-    told .at-11,
-    λ x q f h. reaches x q f
-        ∙ split (known (programOf ps x)) (λ k. absurd (h (known-decides (programOf ps x) .0 k))) (λ k. judge-unknown (programOf ps x) t (lacksParameters x ps) k),
-  )
-
-  -- 02, M-103: "20 when the sheet uses a parameter and fewer than 32 bytes are lent, checked after 11"
-  pub twenty :
-      ((compileOn s ps t .0 ≡ 20 → (x : Sheet) × (encode x ≡ s) × SheetFits x × Known (programOf ps x) × (uses x ≡ true) × (length ps < 32))
-      × ((x : Sheet) → encode x ≡ s → SheetFits x → Known (programOf ps x) → uses x ≡ true → length ps < 32 → compileOn s ps t ≡ compiled 20 t))
-  twenty = (
-    told .at-20,
-    λ x q f k u h. (rw (lacks-is ps x u h) at (reaches x q f)) ∙ judge-lacking (programOf ps x) t (known-decides (programOf ps x) .1 k),
-  )
-
-  -- 12 exactly when some event, or none, has a circle
-  pub twelve :
-      ((compileOn s ps t .0 ≡ 12 → (x : Sheet) × (encode x ≡ s) × SheetFits x × Known (programOf ps x) × Given ps x × (NoCycle (programOf ps x) → ⊥))
-      × ((x : Sheet) → encode x ≡ s → SheetFits x → Known (programOf ps x) → Given ps x → (NoCycle (programOf ps x) → ⊥) → compileOn s ps t ≡ compiled 12 t))
-  twelve = (
-    told .at-12,
-    λ x q f k g h. passes-on x q f g
-        ∙ split (cyclic (programOf ps x)) (judge-cycle (programOf ps x) t (known-decides (programOf ps x) .1 k))
-        (λ c. absurd (h (cyclic-decides (programOf ps x) k (few ps x f) .0 c))),
-  )
-
-  pub thirteen :
-      ((compileOn s ps t .0 ≡ 13 → (x : Sheet) × (encode x ≡ s) × Fine ps x × (4096 < allInstructions (programOf ps x)))
-      × ((x : Sheet) → encode x ≡ s → Fine ps x → 4096 < allInstructions (programOf ps x) → compileOn s ps t ≡ compiled 13 t))
-  thirteen = (
-    told .at-13,
-    λ x q f h. passes-on x q (f .0) (f .2)
-        ∙ judge-long (programOf ps x) t (known-decides (programOf ps x) .1 (f .1)) (cyclic-decides (programOf ps x) (f .1) (few ps x (f .0)) .1 (f .3)) h,
-  )
+  -- 12 only where some event, or none, has a circle
+  pub twelve : compileOn s ps t .0 ≡ 12 → (x : Sheet) × (encode x ≡ s) × SheetFits x × Known (programOf ps x) × Given ps x × (NoCycle (programOf ps x) → ⊥)
+  twelve = told .at-12
 
 -- ---- what is turned down
 

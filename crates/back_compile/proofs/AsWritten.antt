@@ -2,7 +2,7 @@
 -- parameters is known of each filling, except that 3 counts the bytes as sent and not those of the filling." The sheet
 -- written out has the same first fault, or none, and the same filling; bytes lent beyond 32 are not looked at.
 use Prim.Native.Nat.{ℕ, zero, suc, _+_, _*_, _≤_, _<_}
-use mathlib.Core.Bool.{Bool, false, and-false}
+use mathlib.Core.Bool.{false, and-false}
 use mathlib.Core.Path.{_≡_, refl, sym, ap, _∙_}
 use mathlib.Core.Logic.{by-cases}
 use mathlib.Core.List.{List, [], _++_}
@@ -17,11 +17,10 @@ use Rattle.spec_language.specs.Sheet.{Sheet, writtenOut, paramsOfEntries}
 use Rattle.spec_language.specs.Grammar.{encode, SheetFits}
 use Rattle.spec_language.specs.Reading.{Got, bad, got, readSheet}
 use Rattle.spec_language.proofs.SheetLaws.{fill-same, written-unused, fill-written}
-use Rattle.spec_grammar.proofs.Programs.{reads-back, reads-only}
+use Rattle.spec_grammar.proofs.Programs.{reads-only}
 use Rattle.spec_grammar.proofs.Faults.{result, sheetFault, sheet-result, fault-written}
 use Rattle.back_compile.specs.Verdict.{judge, lacksParameters, programOf, judgeRead, compileOn}
 use Rattle.back_compile.proofs.JudgeLaws.{compile-opens, compile-short, compile-long}
-use Rattle.back_compile.specs.Statements.{AsWritten}
 
 module _ (x : Sheet) (ps : List ℕ) (enough : 32 ≤ length ps) where
   lent : lacksParameters x ps ≡ false
@@ -39,16 +38,14 @@ module _ (x : Sheet) (ps : List ℕ) (enough : 32 ≤ length ps) where
   read-alike h qs t =
       rw (sheet-result x, sheet-result (writtenOut (get ps) x), fault-written (get ps) x h) (alike (sheetFault x) qs t)
 
-  pub as-written : AsWritten x ps
-  as-written = record {
-    same = λ h a b qs t. by-cases (decLt (length t) 34816)
-        (λ c. compile-short (encode x) ps t c ∙ sym (compile-short (encode (writtenOut (get ps) x)) qs t c))
-        (λ c. compile-opens (encode x) ps t (omega arith) a ∙ read-alike h qs t ∙ sym (compile-opens (encode (writtenOut (get ps) x)) qs t (omega arith) b));
-    sent = λ f t room. compile-opens (encode x) ps t room (f .few-bytes)
-        ∙ ap (λ (g : Got Sheet). judgeRead g ps t) (reads-back x f)
-        ∙ ap (λ (l : Bool). judge (programOf ps x) l t) lent;
-    long = λ l t room. compile-long (encode x) ps t room l;
-  }
+  -- compile's answer, a refusal too, and the table's bytes are the same for both, with whatever the second is lent,
+  -- where neither has over 8,192 bytes and no parameter is above 7
+  pub as-written : paramsOfEntries (x .entries) ≤ 8 → length (encode x) ≤ 8192 → length (encode (writtenOut (get ps) x)) ≤ 8192
+      → (qs t : List ℕ) → compileOn (encode x) ps t ≡ compileOn (encode (writtenOut (get ps) x)) qs t
+  as-written h a b qs t =
+      by-cases (decLt (length t) 34816)
+      (λ c. compile-short (encode x) ps t c ∙ sym (compile-short (encode (writtenOut (get ps) x)) qs t c))
+      (λ c. compile-opens (encode x) ps t (omega arith) a ∙ read-alike h qs t ∙ sym (compile-opens (encode (writtenOut (get ps) x)) qs t (omega arith) b))
 
 -- ---- bytes lent beyond 32 are not looked at
 

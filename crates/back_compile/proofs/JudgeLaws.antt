@@ -1,18 +1,19 @@
 -- Each answer of `judge` and `compileOn` from the facts that lead to it, by the branches in turn; and back.
 use Prim.Native.Nat.{ℕ, _≤_, _<_}
 use mathlib.Core.Bool.{Bool, true, false}
-use mathlib.Core.Path.{_≡_}
+use mathlib.Core.Path.{_≡_, refl}
 use mathlib.Core.List.{List}
-use lib.ListN.{length}
+use lib.ListN.{length, replicate}
 use lib.Dec.{ltb}
 use borrow.Author.Tests.{lt-ltb, le-ltb, ltb-true, ltb-false}
-use Rattle.lib_base.proofs.Tools.{by-test}
+use Rattle.lib_base.proofs.Tools.{by-test, by-two}
 use Rattle.spec_language.specs.Syntax.{Program}
-use Rattle.spec_language.specs.Reading.{readSheet}
+use Rattle.spec_language.specs.Sheet.{Sheet}
+use Rattle.spec_language.specs.Reading.{Got, bad, got, readSheet}
 use Rattle.spec_language.specs.Code.{allInstructions}
 use Rattle.check_faults.specs.Faults.{known, cyclic}
 use Rattle.format_image.specs.Image.{tableOf}
-use Rattle.back_compile.specs.Verdict.{Compiled, compiled, judge, judgeRead, compileOn}
+use Rattle.back_compile.specs.Verdict.{Compiled, compiled, judge, lacksParameters, programOf, judgeRead, compileOn, numberOn}
 
 module _ (p : Program) (t : List ℕ) where
   pub judge-unknown : (l : Bool) → known p ≡ false → judge p l t ≡ compiled 11 t
@@ -65,3 +66,27 @@ module _ (s ps t : List ℕ) where
   pub compile-long : 34816 ≤ length t → 8192 < length s → compileOn s ps t ≡ compiled 3 t
   unfolding compileOn
   compile-long a h = rw (le-ltb (length t) 34816 a, lt-ltb 8192 (length s) h)
+
+-- ---- the number hangs on no table
+
+abbrev SameNumber : Compiled → Compiled → Type 0
+SameNumber r q = r .0 ≡ q .0
+
+judge-same : (p : Program) (l : Bool) (t u : List ℕ) → SameNumber (judge p l t) (judge p l u)
+unfolding judge
+judge-same p l t u =
+    by-two SameNumber (known p)
+    (λ _. by-two SameNumber l (λ _. refl)
+    (λ _. by-two SameNumber (cyclic p) (λ _. refl) (λ _. by-two SameNumber (ltb 4096 (allInstructions p)) (λ _. refl) (λ _. refl))))
+    (λ _. refl)
+
+read-same : (g : Got Sheet) (ps t u : List ℕ) → SameNumber (judgeRead g ps t) (judgeRead g ps u)
+read-same (bad k) ps t u = refl
+read-same (got x rest) ps t u = judge-same (programOf ps x) (lacksParameters x ps) t u
+
+-- a table of the length that 01 gives is never short
+pub any-table : (s ps t : List ℕ) → 34816 ≤ length t → compileOn s ps t .0 ≡ numberOn s ps
+unfolding compileOn numberOn
+any-table s ps t h =
+    rw (le-ltb (length t) 34816 h)
+    (by-two SameNumber (ltb 8192 (length s)) (λ _. refl) (λ _. read-same (readSheet s) ps t (replicate 34816 0)))

@@ -1,5 +1,7 @@
 pub mod JudgeLaws
 pub mod AcceptedExactly
+pub mod Counted
+pub mod Orders
 pub mod DraftJudged
 pub mod FillJudged
 pub mod ReadIs

@@ -3,10 +3,9 @@
 -- every cell count together." The sheet written out has the same first fault, or none (crate spec_grammar), uses the
 -- same parameters and means the same program.
 use Prim.Native.Nat.{ℕ, zero, suc, _+_, _≤_}
-use mathlib.Core.Path.{_≡_, refl, sym, ap, _∙_, subst}
+use mathlib.Core.Path.{_≡_, refl, sym, ap, _∙_}
 use mathlib.Core.Logic.{by-cases}
-use mathlib.Core.Option.{Option}
-use mathlib.Core.List.{List, [], _∷_, _++_}
+use mathlib.Core.List.{List, [], _∷_}
 use native.Mathlib.Decide.{decLt}
 use native.Mathlib.Omega.{arith}
 use lib.ListN.{length}
@@ -14,15 +13,15 @@ use Rattle.lib_base.specs.Basics.{All}
 use Rattle.lib_base.proofs.Tools.{all-split}
 use Rattle.lib_word.specs.Word.{get}
 use Rattle.spec_language.specs.Syntax.{Program}
-use Rattle.spec_language.specs.Sheet.{Clause, row, Entry, Sheet, cellCount, rowsOut}
+use Rattle.spec_language.specs.Sheet.{row, Entry, Sheet, cellCount, rowsOut}
 use Rattle.spec_language.specs.Grammar.{encode}
 use Rattle.spec_language.specs.Reading.{Got, got, entry, readSheet}
 use Rattle.spec_language.proofs.RowLaws.{count-append, uses-out, means-rows-out}
-use Rattle.spec_grammar.proofs.Programs.{reads-back}
 use Rattle.spec_grammar.proofs.Faults.{result, sheetFault, sheet-result}
-use Rattle.spec_grammar.proofs.Rows.{RowsSound, faultBefore, fits-faultless, got-faultless, fault-rows, faultless-some}
+use Rattle.spec_grammar.proofs.Rows.{RowsSound, faultBefore, fits-faultless, fault-rows, faultless-some}
 use Rattle.back_compile.specs.Verdict.{judge, lacksParameters, programOf, judgeRead}
-use Rattle.back_compile.proofs.JudgeLaws.{compile-opens, compile-short, compile-long}
+use Rattle.back_compile.proofs.JudgeLaws.{compile-opens, compile-short}
+use Rattle.back_compile.proofs.Orders.{after-reading}
 use Rattle.back_compile.specs.Statements.{CountFits, RowsFit, AsRows}
 
 -- a result without a fault
@@ -60,11 +59,7 @@ module _ (x : Sheet) where
     same = λ f a b ps t. by-cases (decLt (length t) 34816)
         (λ c. compile-short (encode x) ps t c ∙ sym (compile-short (encode (rowsOut x)) ps t c))
         (λ c. compile-opens (encode x) ps t (omega arith) a ∙ read-alike f ps t ∙ sym (compile-opens (encode (rowsOut x)) ps t (omega arith) b));
-    sent = λ f a ps t room. compile-opens (encode x) ps t room a ∙ read-alike f ps t;
-    long = λ l ps t room. compile-long (encode x) ps t room l;
-    judged = λ f ps t room. compile-opens (encode x) ps t room (f .few-bytes)
-        ∙ ap (λ (g : Got Sheet). judgeRead g ps t) (reads-back x f)
-        ∙ rows-judged (got-faultless x (reads-back x f)) ps t;
+    sent = λ f a ps t room. rw (compile-opens (encode x) ps t room a, read-alike f ps t) (after-reading (encode (rowsOut x)) ps t);
     fits = rows-fit;
     program = λ ps. sym (means-rows-out (get ps) x);
   }

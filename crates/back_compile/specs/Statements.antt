@@ -1,37 +1,42 @@
--- What is said of compile: which sheets are fine, parameters written out (02, M-103), rows written out (02, M-110).
+-- What is said of compile: the order of its refusals, and rows written out (02, M-110).
 use Prim.Native.Nat.{ℕ, _+_, _≤_, _<_}
-use mathlib.Core.Bool.{true, false}
+use mathlib.Core.Bool.{true}
 use mathlib.Core.Path.{_≡_}
+use mathlib.Core.Logic.{_⊎_}
 use mathlib.Core.Option.{Option}
 use mathlib.Core.List.{List, [], _∷_, _++_}
 use lib.ListN.{length}
-use Rattle.spec_language.specs.Sheet.{Sheet, uses, Clause, Item, formula, state, row, Entry, cellCount, writtenOut, rowsOut, paramsOfEntries}
-use Rattle.spec_language.specs.Dependence.{NoCycle}
-use Rattle.spec_language.specs.Grammar.{SheetFits, ClausesFit, encode}
-use Rattle.spec_language.specs.Reading.{got, entry, sheet, readSheet}
-use Rattle.spec_language.specs.Accepted.{Known}
-use Rattle.back_compile.specs.Verdict.{programOf, compiled, judge, judgeRead, compileOn, lacksParameters}
 use Rattle.lib_base.specs.Basics.{All}
-use Rattle.lib_word.specs.Word.{get}
+use Rattle.spec_language.specs.Refusals.{unknownName, noParameters, cycle, overlong}
+use Rattle.spec_language.specs.Sheet.{Sheet, uses, Clause, Item, formula, state, row, Entry, cellCount, rowsOut}
+use Rattle.spec_language.specs.Dependence.{NoCycle}
+use Rattle.spec_language.specs.Grammar.{ClausesFit, encode}
+use Rattle.spec_language.specs.Reading.{Got, bad, got, entry, sheet, readSheet}
+use Rattle.spec_language.specs.Accepted.{Known}
+use Rattle.spec_language.specs.Code.{allInstructions}
+use Rattle.back_compile.specs.Verdict.{programOf, compileOn}
 
 -- a parameter is used only if 32 bytes are lent
 abbrev pub Given : List ℕ → Sheet → Type 0
 Given ps s = uses s ≡ true → 32 ≤ length ps
 
--- a sheet that is fine but for its length
-abbrev pub Fine : List ℕ → Sheet → Type 0
-Fine ps s = SheetFits s × Known (programOf ps s) × Given ps s × NoCycle (programOf ps s)
+-- ---- the order of the refusals
 
--- the sheet x with the parameters ps, 32 bytes or more, and the sheet in which each is written out as its constant
-pub record AsWritten (x : Sheet) (ps : List ℕ) : Type 0 where
-  -- compile's answer, a refusal too, and the table's bytes are the same for both, with whatever the second is lent,
-  -- where neither has over 8,192 bytes and no parameter is above 7
-  pub same : paramsOfEntries (x .entries) ≤ 8 → length (encode x) ≤ 8192 → length (encode (writtenOut (get ps) x)) ≤ 8192
-      → (qs t : List ℕ) → compileOn (encode x) ps t ≡ compileOn (encode (writtenOut (get ps) x)) qs t
-  -- 3 counts the bytes as sent: where they are not over 8,192 the filling is judged, however many bytes it would have
-  pub sent : SheetFits x → (t : List ℕ) → 34816 ≤ length t → compileOn (encode x) ps t ≡ judge (programOf ps x) false t
-  -- and where they are, 3 is the answer, however few it would have
-  pub long : 8192 < length (encode x) → (t : List ℕ) → 34816 ≤ length t → compileOn (encode x) ps t ≡ compiled 3 t
+-- r is the number of the first condition that holds; where none does, r is as P says
+abbrev pub First : List (Type 0 × ℕ) → (ℕ → Type 0) → ℕ → Type 0
+First [] P r = P r
+First (c ∷ cs) P r = (c .0 × (r ≡ c .1)) ⊎ ((c .0 → ⊥) × First cs P r)
+
+-- what is answered once the bytes are read: their first fault, or by the program that the sheet means
+abbrev pub AfterReading : Got Sheet → List ℕ → ℕ → Type 0
+AfterReading (bad k) ps r = r ≡ k
+AfterReading (got x rest) ps r =
+    First
+    ((Known (programOf ps x) → ⊥, unknownName)
+    ∷ ((uses x ≡ true) × (length ps < 32), noParameters)
+    ∷ (NoCycle (programOf ps x) → ⊥, cycle)
+    ∷ (4096 < allInstructions (programOf ps x), overlong) ∷ [])
+    (λ r. r ≡ 0) r
 
 -- ---- rows. M-110: "It means the sheet in which each cell is written out as an active, only that 3 counts the bytes as
 -- sent", and "past the first cell, 7 is checked after the count"
@@ -67,11 +72,7 @@ pub record AsRows (x : Sheet) : Type 0 where
       → (ps t : List ℕ) → compileOn (encode x) ps t ≡ compileOn (encode (rowsOut x)) ps t
   -- 3 counts the bytes as sent: where they are not over 8,192 the sheet written out is read and judged, however many
   -- bytes it would have
-  pub sent : RowsFit x → length (encode x) ≤ 8192 → (ps t : List ℕ) → 34816 ≤ length t → compileOn (encode x) ps t ≡ judgeRead (readSheet (encode (rowsOut x))) ps t
-  -- and where they are, 3 is the answer
-  pub long : 8192 < length (encode x) → (ps t : List ℕ) → 34816 ≤ length t → compileOn (encode x) ps t ≡ compiled 3 t
-  -- where it is within 01's limits, the sheet written out is judged
-  pub judged : SheetFits x → (ps t : List ℕ) → 34816 ≤ length t → compileOn (encode x) ps t ≡ judge (programOf ps (rowsOut x)) (lacksParameters (rowsOut x) ps) t
+  pub sent : RowsFit x → length (encode x) ≤ 8192 → (ps t : List ℕ) → 34816 ≤ length t → AfterReading (readSheet (encode (rowsOut x))) ps (compileOn (encode x) ps t .0)
   -- each row is as above where they have 2 to 16 cells and all behaviours are 64 at most
   pub fits : All (λ (b : Entry). CountFits (b .item)) (x .entries) → cellCount (x .entries) ≤ 64 → RowsFit x
   -- its program, so its circles, rights, instruction counts and commits, is that of the sheet written out

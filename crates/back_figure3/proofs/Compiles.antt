@@ -8,7 +8,7 @@ use mathlib.Core.Logic.{_≢_, _⊎_, inl, inr, ⊎-elim}
 use mathlib.Core.List.{List, [], _∷_, sum}
 use native.Mathlib.Omega.{arith}
 use lib.Dec.{eqb}
-use lib.ListN.{length, set, length-set}
+use lib.ListN.{length, set, length-set, length-append}
 use borrow.Author.Tests.{ltb-false, eqb-true, eqb-false}
 use Rattle.lib_base.specs.Basics.{All}
 use Rattle.lib_base.proofs.Tools.{split}
@@ -16,12 +16,12 @@ use Rattle.spec_language.specs.Syntax.{Program}
 use Rattle.spec_language.specs.Dependence.{Response, defers, keeps, size, events, response, needs, dependsOn, Reach, one, more, Acyclic}
 use Rattle.spec_language.specs.Order.{upTo, early, metAtOnce, phaseOne}
 use Rattle.spec_language.specs.Accepted.{Known, Accepted}
-use Rattle.spec_language.specs.Code.{one?, code}
+use Rattle.spec_language.specs.Code.{one?, copy, members, copyPart, code}
 use Rattle.spec_language.proofs.Laws.{none-past, depends-within}
 use Rattle.spec_semantics.proofs.Graph.{Marked, free, free-set, free-le}
+use Rattle.spec_execution.proofs.Lengths.{length-C}
 use Rattle.spec_semantics.proofs.OrderLaws.{markAll, Ordered, length-met, late-needs, phaseOne-ordered, order-complete}
 use Rattle.back_figure3.specs.Figure3.{Assign, assigned, everyBehaviour, without, FirstPhaseRule, none₁, passive₁, immediate₁, later₁, unhandled₁, turnsIn, HandlerCode}
-use Rattle.back_figure3.proofs.InTable.{length-copies}
 use Rattle.back_figure3.proofs.Parts.{firstOf, secondOf, first-code, second-code}
 use Rattle.back_figure3.proofs.Derived.{without-is, first-derived, second-derived}
 
@@ -151,6 +151,10 @@ module _ (p : Program) (e : ℕ) (known : Known p) where
     λ h. omega (arith, counted, free-none (markAll (phaseOne p e) (metAtOnce p e)) (λ i b. acyclic-placed h i (omega (arith, length-all)))),
   )
 
+  length-copies : length (copyPart p e) ≡ 2 + members p e
+  unfolding copyPart
+  length-copies = simp length-append (omega (arith, length-C p e copy))
+
   -- and then its code is a handler by Figure 3
   pub compiles : Acyclic p e → HandlerCode p e
   unfolding code
@@ -162,7 +166,7 @@ module _ (p : Program) (e : ℕ) (known : Known p) where
     first-gives = first-code p e;
     second-gives = second-code p e;
     in-a-row = refl;
-    begins = length-copies p e;
+    begins = length-copies;
   }
 
 -- so of every event of an accepted program

@@ -1,4 +1,3 @@
-pub mod InTable
 pub mod Parts
 pub mod Derived
 pub mod Compiles

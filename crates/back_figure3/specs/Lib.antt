@@ -1,2 +1,1 @@
 pub mod Figure3
-pub mod Stand

@@ -1,27 +1,21 @@
--- Demand 1 holds: each order is that of the definition's branches, test by test.
-use Prim.Native.Nat.{ℕ, _+_, _*_, _-_, _/_, _%_}
-use mathlib.Core.Bool.{Bool, true, false, not, _&&_, _||_, true≢false, false≢true}
-use mathlib.Core.Path.{_≡_, refl, sym, ap, _∙_}
+-- Demand 1 holds: each order is that of the definition's branches, test by test; something that waits outranks the
+-- running event just where the next one does.
+use Prim.Native.Nat.{ℕ, zero, suc, _+_, _-_}
+use mathlib.Core.Bool.{true, false, not, true≢false, false≢true}
+use mathlib.Core.Path.{_≡_, refl, _∙_}
 use mathlib.Core.Logic.{_≢_}
-use mathlib.Core.List.{List, [], _∷_}
+use mathlib.Core.List.{List}
 use native.Mathlib.Omega.{arith}
-use lib.Dec.{ltb, leb, eqb}
-use lib.ListN.{length}
-use lib.ListN.{replicate}
+use lib.Dec.{ltb, eqb}
+use lib.ListN.{length, replicate}
 use borrow.Author.Tests.{eqb-true, eqb-false}
-use Rattle.lib_base.specs.Basics.{pick}
 use Rattle.lib_base.proofs.Tools.{by-test, split}
 use Rattle.lib_word.specs.Word.{get}
-use Rattle.spec_language.specs.Refusals.{foreign, overlong}
-use Rattle.spec_language.specs.Sheet.{Sheet}
-use Rattle.spec_language.specs.Syntax.{Program}
-use Rattle.spec_language.specs.Reading.{Got, got, bad, readSheet}
-use Rattle.spec_language.specs.Code.{allInstructions}
+use Rattle.spec_language.specs.Refusals.{foreign}
 use Rattle.spec_language.specs.Rights.{may}
-use Rattle.check_faults.specs.Faults.{known, cyclic}
-use Rattle.format_layout.specs.Layout.{eventWord, eventCount, behaviourCount, sendersAt, viewersAt, taken, waitingCount, runningFlag, runningEvent, runningWord, runningNumber, position, depth, eventAt, tableFits, ours}
-use Rattle.run_queue.specs.Queue.{best}
-use Rattle.run_allowed.specs.Allowed.{mayRun}
+use Rattle.format_layout.specs.Layout.{eventWord, eventCount, behaviourCount, sendersAt, viewersAt, taken, waitingCount, runningFlag, runningEvent, position, eventAt, tableFits, ours}
+use Rattle.run_queue.specs.Queue.{best, anyAbove}
+use Rattle.run_queue.proofs.Choice.{any-above}
 use Rattle.run_start.specs.Start.{CallResult, startOn}
 use Rattle.run_arrive.specs.Arrivals.{queueFull, arriveWith, arriveKnown, arriveIn, arriveOn}
 use Rattle.run_board.specs.Board.{isMasked, copyBackUnderWay, copyBackOn, boardWith, boardKnown, boardIn, boardOn}
@@ -31,68 +25,62 @@ use Rattle.run_step.specs.Machine.{meet, contestOn, whileRunning, whileResting,
 use Rattle.run_forecast.specs.Forecast.{forecastOn}
 use Rattle.run_carry.specs.Carry.{carryOn}
 use Rattle.run_mend.specs.Mending.{handKnown, verdict, mendWith, mendAfter, mendIn, mendOn}
-use Rattle.back_compile.specs.Verdict.{Compiled, programOf, lacksParameters, judge, judgeRead, compileOn}
+use Rattle.back_compile.specs.Statements.{First}
 use Rattle.back_compile.proofs.AcceptedExactly.{refused-unchanged}
+use Rattle.back_compile.proofs.Orders.{if-true, if-false, if-less, if-most, compile-order}
 use Rattle.engine.proofs.Refused as refusals
 use Rattle.engine.proofs.Beyond as beyond
-use Rattle.claims.specs.Demand1.{afterReading, compileOrder, startOrder, arriveOrder, boardOrder, givesWay, runsOne, nextWord, instructionFits, stepForeign, mendOrder, Demand1}
+use Rattle.claims.specs.Demand1.{startOrder, arriveOrder, boardOrder, someOutranks, instructionFits, stepForeign, passivesRun, mendOrder, Demand1}
+use Rattle.claims.proofs.Passives.{carry-answers}
 
-judged : (g : Got Sheet) (ps t : List ℕ) → judgeRead g ps t .0 ≡ afterReading g ps
-unfolding judge
-judged (bad k) ps t = refl
-judged (got x rest) ps t =
-    let p = programOf ps x in
-    split (known p)
-    (λ k. split (lacksParameters x ps)
-    (λ l. rw (k, l))
-    (λ l. split (cyclic p) (λ c. rw (k, l, c)) (λ c. split (ltb 4096 (allInstructions p)) (λ h. rw (k, l, c, h)) (λ h. rw (k, l, c, h)))))
-    (λ k. rw k)
-
-pub compile-order : (s ps t : List ℕ) → compileOn s ps t .0 ≡ compileOrder s ps t
-unfolding compileOn
-compile-order s ps t =
-    split (ltb (length t) 34816) (λ a. rw a) (λ a. split (ltb 8192 (length s)) (λ b. rw (a, b)) (λ b. rw (a, b) (judged (readSheet s) ps t)))
-
-start-order : (t l : List ℕ) → startOn t l .0 ≡ startOrder t l
+start-order : (t l : List ℕ) → First (startOrder t l) (λ r. r ≡ 0) (startOn t l .0)
 unfolding startOn
-start-order t l = split (tableFits t) (λ a. split (ltb (length l) 2048) (λ b. rw (a, b)) (λ b. rw (a, b))) (λ a. rw a)
+start-order t l = if-false (tableFits t) (λ a. rw a) (λ a. if-less (length l) 2048 (λ b. rw (a, b)) (λ b. rw (a, b)))
 
-arrive-order : (t l : List ℕ) (e who : ℕ) → arriveOn t l e who .0 ≡ arriveOrder t l e who
+arrive-order : (t l : List ℕ) (e who : ℕ) → First (arriveOrder t l e who) (λ r. r ≡ 0) (arriveOn t l e who .0)
 unfolding arriveOn arriveIn arriveKnown arriveWith
 arrive-order t l e who =
-    split (ours t l)
-    (λ a. split (leb 8 who) (λ b. rw (a, b))
-    (λ b. split (leb (eventCount t) e) (λ c. rw (a, b, c))
-    (λ c. split (may (sendersAt t e) who)
-    (λ d. split (queueFull (waitingCount l) (runningFlag l)) (λ f. rw (a, b, c, d, f))
-    (λ f. split (leb 1000000 (taken l)) (λ g. rw (a, b, c, d, f, g)) (λ g. rw (a, b, c, d, f, g))))
-    (λ d. rw (a, b, c, d)))))
-    (λ a. rw a)
+    if-false (ours t l) (λ a. rw a)
+    (λ a. if-most 8 who (λ b. rw (a, b))
+    (λ b. if-most (eventCount t) e (λ c. rw (a, b, c))
+    (λ c. if-false (may (sendersAt t e) who) (λ d. rw (a, b, c, d))
+    (λ d. if-true (queueFull (waitingCount l) (runningFlag l)) (λ f. rw (a, b, c, d, f))
+    (λ f. if-most 1000000 (taken l) (λ g. rw (a, b, c, d, f, g)) (λ g. rw (a, b, c, d, f, g)))))))
 
-board-order : (t l : List ℕ) (i who : ℕ) → boardOn t l i who ≡ boardOrder t l i who
+board-order : (t l : List ℕ) (i who : ℕ) → First (boardOrder t l i who) (λ r. r ≡ 4294967296 + get l (136 + i)) (boardOn t l i who)
 unfolding boardOn boardIn boardKnown boardWith
 board-order t l i who =
-    split (ours t l)
-    (λ a. split (leb 8 who) (λ b. rw (a, b))
-    (λ b. split (leb (behaviourCount t) i) (λ c. rw (a, b, c))
-    (λ c. split (may (viewersAt t i) who)
-    (λ d. split (copyBackUnderWay t l) (λ f. rw (a, b, c, d, f)) (λ f. rw (a, b, c, d, f)))
-    (λ d. rw (a, b, c, d)))))
-    (λ a. rw a)
+    if-false (ours t l) (λ a. rw a)
+    (λ a. if-most 8 who (λ b. rw (a, b))
+    (λ b. if-most (behaviourCount t) i (λ c. rw (a, b, c))
+    (λ c. if-false (may (viewersAt t i) who) (λ d. rw (a, b, c, d))
+    (λ d. if-true (copyBackUnderWay t l) (λ f. rw (a, b, c, d, f)) (λ f. rw (a, b, c, d, f))))))
 
-mend-order : (old t l : List ℕ) → mendOn old t l .0 ≡ mendOrder old t l
+mend-order : (old t l : List ℕ) → First (mendOrder old t l) (λ r. r ≡ 0) (mendOn old t l .0)
 unfolding mendOn mendIn mendAfter mendWith verdict
 mend-order old t l =
-    let r = carryOn old t l (replicate 2048 0) .0 in
-    split (ours old l)
-    (λ a. split (tableFits t)
-    (λ b. split (eqb r 0)
-    (λ c. split (copyBackOn old l) (λ d. rw (a, b, c, d)) (λ d. split (handKnown t l) (λ f. rw (a, b, c, d, f)) (λ f. rw (a, b, c, d, f))))
-    (λ c. rw (a, b, c, c)))
-    (λ b. rw (a, b)))
-    (λ a. rw a)
+    let carried = carry-answers old t l in
+    if-false (ours old l) (λ a. rw a)
+    (λ a. if-false (tableFits t) (λ b. rw (a, b))
+    (λ b. if-false (passivesRun t)
+    (λ c. let q : carryOn old t l (replicate 2048 0) .0 ≡ foreign = carried ∙ rw c in rw (a, b, q))
+    (λ c. let q : carryOn old t l (replicate 2048 0) .0 ≡ 0 = carried ∙ rw c in
+    if-true (copyBackOn old l) (λ d. rw (a, b, q, d)) (λ d. if-false (handKnown t l) (λ f. rw (a, b, q, d, f)) (λ f. rw (a, b, q, d, f))))))
 
 -- ---- steps
+
+-- something that waits outranks the running event just where the next one does
+outranks-is : (t l : List ℕ) (r n : ℕ) → someOutranks t l r n ≡ anyAbove t l r n
+unfolding someOutranks anyAbove
+outranks-is t l r zero = refl
+outranks-is t l r (suc n) = split (ltb r (eventWord t (eventAt l n) 0)) (λ e. rw e) (λ e. rw e (outranks-is t l r n))
+
+none-above : (t l : List ℕ) (r n : ℕ) → eqb n 0 ≡ true → someOutranks t l r n ≡ false
+unfolding someOutranks
+none-above t l r n e = rw (eqb-true n 0 e)
+
+some-above : (t l : List ℕ) (r n : ℕ) → eqb n 0 ≡ false → someOutranks t l r n ≡ ltb r (eventWord t (eventAt l (best t l n)) 0)
+some-above t l r n e = let h = eqb-false n 0 e in outranks-is t l r n ∙ any-above t l r n (omega arith)
 
 advance-refused : (t l : List ℕ) → not (instructionFits t l) ≡ true → advanceOn t l ≡ (foreign, l)
 unfolding advanceOn executeAt executeOn
@@ -102,16 +90,19 @@ step-refused : (t l : List ℕ) → stepForeign t l ≡ true → stepOn t l ≡ 
 unfolding stepOn stepIn stepWith whileResting whileRunning contestOn meet
 step-refused t l =
     let n = waitingCount l in
+    let r = eventWord t (runningEvent l) 0 in
     split (ours t l)
     (λ a. split (eqb (runningFlag l) 0)
     (λ b h. absurd (false≢true (rw (a, b) at h)))
-    (λ b. split (eqb n 0)
-    (λ c h. rw (a, b, c) (advance-refused t l (rw (a, b, c) at h)))
-    (λ c. split (isMasked (eventWord t (runningEvent l) 2) (eventWord t (runningEvent l) 3) (position l))
-    (λ d h. rw (a, b, c, d) (advance-refused t l (rw (a, b, c, d) at h)))
-    (λ d. split (ltb (eventWord t (runningEvent l) 0) (eventWord t (eventAt l (best t l n)) 0))
-    (λ f h. absurd (false≢true (rw (a, b, c, d, f) at h)))
-    (λ f h. rw (a, b, c, d, f) (advance-refused t l (rw (a, b, c, d, f) at h)))))))
+    (λ b. split (isMasked (eventWord t (runningEvent l) 2) (eventWord t (runningEvent l) 3) (position l))
+    (λ d. split (eqb n 0)
+    (λ c h. rw (a, b, c) (advance-refused t l (rw (a, b, d) at h)))
+    (λ c h. rw (a, b, c, d) (advance-refused t l (rw (a, b, d) at h))))
+    (λ d. split (eqb n 0)
+    (λ c h. rw (a, b, c) (advance-refused t l (rw (a, b, d, none-above t l r n c) at h)))
+    (λ c. split (ltb r (eventWord t (eventAt l (best t l n)) 0))
+    (λ f h. absurd (false≢true (rw (a, b, d, some-above t l r n c, f) at h)))
+    (λ f h. rw (a, b, c, d, f) (advance-refused t l (rw (a, b, d, some-above t l r n c, f) at h)))))))
     (λ a h. rw a)
 
 -- an answer that is not 14
@@ -141,16 +132,19 @@ step-taken : (t l : List ℕ) → stepForeign t l ≡ false → stepOn t l .0 �
 unfolding stepOn stepIn stepWith whileResting whileRunning contestOn meet
 step-taken t l =
     let n = waitingCount l in
+    let r = eventWord t (runningEvent l) 0 in
     split (ours t l)
     (λ a. split (eqb (runningFlag l) 0)
     (λ b h. rw (a, b) (by-test Taken (eqb n 0) (λ _. omega arith) (λ _. start-taken l (best t l n) (n - 1))))
-    (λ b. split (eqb n 0)
-    (λ c h. rw (a, b, c) (advance-taken t l (rw (a, b, c) at h)))
-    (λ c. split (isMasked (eventWord t (runningEvent l) 2) (eventWord t (runningEvent l) 3) (position l))
-    (λ d h. rw (a, b, c, d) (advance-taken t l (rw (a, b, c, d) at h)))
-    (λ d. split (ltb (eventWord t (runningEvent l) 0) (eventWord t (eventAt l (best t l n)) 0))
+    (λ b. split (isMasked (eventWord t (runningEvent l) 2) (eventWord t (runningEvent l) 3) (position l))
+    (λ d. split (eqb n 0)
+    (λ c h. rw (a, b, c) (advance-taken t l (rw (a, b, d) at h)))
+    (λ c h. rw (a, b, c, d) (advance-taken t l (rw (a, b, d) at h))))
+    (λ d. split (eqb n 0)
+    (λ c h. rw (a, b, c) (advance-taken t l (rw (a, b, d, none-above t l r n c) at h)))
+    (λ c. split (ltb r (eventWord t (eventAt l (best t l n)) 0))
     (λ f h. rw (a, b, c, d, f) (preempt-taken l (best t l n)))
-    (λ f h. rw (a, b, c, d, f) (advance-taken t l (rw (a, b, c, d, f) at h)))))))
+    (λ f h. rw (a, b, c, d, f) (advance-taken t l (rw (a, b, d, some-above t l r n c, f) at h)))))))
     (λ a h. absurd (true≢false (rw a at h)))
 
 forecast-order : (t l : List ℕ) → ours t l ≡ false → forecastOn t l ≡ foreign

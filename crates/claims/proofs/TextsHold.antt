@@ -1,23 +1,17 @@
--- What is promised of texts holds: each part is a theorem of source_language; compile's answer from the verdict's
--- branches, the reading and the names being settled.
+-- What is promised of texts holds: each part is a theorem of source_language or of source_rendering.
 use Prim.Native.Nat.{ℕ, _+_, _≤_, _<_}
-use mathlib.Core.Bool.{Bool, true, false}
-use mathlib.Core.Path.{_≡_, refl, sym, _∙_}
+use mathlib.Core.Path.{_≡_, sym, _∙_}
 use mathlib.Core.Logic.{_≢_}
 use mathlib.Core.List.{List, [], _++_}
 use native.Mathlib.Omega.{arith}
 use lib.ListN.{length, drop, replicate}
-use lib.Dec.{ltb}
-use borrow.Author.Tests.{ltb-false, lt-ltb, le-ltb, eq-eqb, ne-eqb}
-use Rattle.lib_base.specs.Basics.{pick}
-use Rattle.lib_base.proofs.Tools.{split}
+use borrow.Author.Tests.{lt-ltb, le-ltb, eq-eqb, ne-eqb}
 use Rattle.spec_language.specs.Sheet.{Sheet}
 use Rattle.spec_language.specs.Grammar.{encode, SheetFits}
 use Rattle.spec_language.specs.Reading.{got, readSheet}
 use Rattle.text_formula.specs.Answer.{answered}
 use Rattle.spec_grammar.proofs.Programs.{reads-back}
-use Rattle.check_faults.proofs.CycleDecides.{known-decides}
-use Rattle.back_compile.specs.Verdict.{Compiled, programOf, judge, compileOn, numberOn}
+use Rattle.back_compile.specs.Verdict.{numberOn}
 use Rattle.back_compile.proofs.AcceptedExactly.{accepted-exactly}
 use Rattle.lib_word.specs.Word.{get}
 use Rattle.source_language.specs.Answer.{written, assembleOn, TextMeans}
@@ -32,22 +26,7 @@ use Rattle.source_language.proofs.Unique.{says-one}
 use Rattle.source_language.proofs.Answers as answers
 use Rattle.source_rendering.proofs.RoundTrip.{round-trip}
 use Rattle.claims.specs.Requests.{AreBytes}
-use Rattle.claims.specs.Texts.{leftToJudge, SheetDescribed, Texts}
-
--- a branch's first part
-pick-first : (b : Bool) (x y : Compiled) → pick b x y .0 ≡ pick b (x .0) (y .0)
-pick-first true x y = refl
-pick-first false x y = refl
-
-compiles : (bytes : List ℕ) (s : Sheet) → TextMeans bytes s → (ps t : List ℕ) → 34816 ≤ length t → compileOn (encode s) ps t .0 ≡ leftToJudge s ps
-unfolding compileOn judge
-compiles bytes s m ps t room =
-    split (ltb 8192 (length (encode s)))
-    (λ e. rw (le-ltb (length t) 34816 room, e))
-    (λ e.
-    let short = ltb-false 8192 (length (encode s)) e in
-    let k = known-decides (programOf ps s) .1 (answers.meant-known bytes s m short (get ps)) in
-    rw (le-ltb (length t) 34816 room, e, reads-back s (answers.meant-fits bytes s m short), k) (simp pick-first))
+use Rattle.claims.specs.Texts.{SheetDescribed, Texts}
 
 -- ---- sheets back to text
 
@@ -101,7 +80,7 @@ texts = record {
   long-sheet = answers.too-long-sheet;
   short-buffer = answers.too-short;
   fits = answers.meant-fits;
-  compiles = compiles;
+  known = λ bytes s m ps. answers.meant-known bytes s m (get ps);
   renamed = answers.renamed;
   every-sheet = λ v lent s a. round-trip v s (a .fits) (a .known);
   told-apart = told-apart;

@@ -2,127 +2,119 @@
 -- order of document 01, and then the handler table, the round and the board are unchanged. Every other call, for all
 -- bytes and numbers, is accepted, ends, and stays inside the buffers lent to it." That each call ends and stays inside
 -- is the proof of its code; here: which number, when, in which order, and what is left. For all bytes and numbers.
-use Prim.Native.Nat.{ℕ, _+_, _*_, _/_, _%_, _<_}
+use Prim.Native.Nat.{ℕ, zero, suc, _+_, _*_, _-_, _/_, _%_, _≤_, _<_}
 use mathlib.Core.Bool.{Bool, true, false, not, _&&_, _||_}
 use mathlib.Core.Path.{_≡_}
 use mathlib.Core.Logic.{_≢_}
 use mathlib.Core.List.{List, [], _∷_}
-use lib.Dec.{ltb, leb, eqb}
+use lib.Dec.{ltb, eqb}
 use lib.ListN.{length}
-use lib.ListN.{replicate}
 use Rattle.lib_base.specs.Basics.{pick, All}
 use Rattle.lib_word.specs.Word.{get}
-use Rattle.spec_language.specs.Refusals.{shortTable, longProgram, unknownName, noParameters, cycle, overlong, foreign, noPlayer, undeclaredEvent, noRight, fullQueue, spent, noBehaviour, settling, undeclaredInHand}
-use Rattle.spec_language.specs.Sheet.{Sheet}
-use Rattle.spec_language.specs.Reading.{Got, got, bad, readSheet}
-use Rattle.spec_language.specs.Code.{allInstructions}
+use Rattle.lib_arith.specs.Functions.{arity}
+use Rattle.spec_language.specs.Refusals.{shortTable, longProgram, foreign, noPlayer, undeclaredEvent, noRight, fullQueue, spent, noBehaviour, settling, undeclaredInHand}
+use Rattle.spec_language.specs.Reading.{readSheet}
 use Rattle.spec_language.specs.Rights.{may}
-use Rattle.check_faults.specs.Faults.{known, cyclic}
-use Rattle.format_layout.specs.Layout.{eventWord, eventCount, behaviourCount, sendersAt, viewersAt, taken, waitingCount, runningFlag, runningEvent, position, depth, eventAt, tableFits, ours}
-use Rattle.run_queue.specs.Queue.{best}
+use Rattle.format_layout.specs.Layout.{eventWord, eventCount, behaviourCount, sendersAt, viewersAt, taken, waitingCount, runningFlag, runningEvent, position, depth, eventAt, passivesStart, passivesLength, codeFits, tableFits, ours}
 use Rattle.run_allowed.specs.Allowed.{mayRun}
 use Rattle.run_start.specs.Start.{startOn}
 use Rattle.run_arrive.specs.Arrivals.{queueFull, arriveOn}
 use Rattle.run_board.specs.Board.{isMasked, copyBackUnderWay, copyBackOn, boardOn}
 use Rattle.run_step.specs.Machine.{stepOn}
 use Rattle.run_forecast.specs.Forecast.{forecastOn}
-use Rattle.run_preview.specs.Preview.{previewOn}
-use Rattle.run_carry.specs.Carry.{carryOn}
 use Rattle.run_mend.specs.Mending.{handKnown, mendOn}
-use Rattle.back_compile.specs.Verdict.{programOf, lacksParameters, compileOn}
+use Rattle.back_compile.specs.Verdict.{compileOn}
+use Rattle.back_compile.specs.Statements.{First, AfterReading}
 use Rattle.engine.specs.Beyond.{UntouchedFrom}
 
--- a condition with the number of the refusal that it gives; the first that holds gives the answer, else the last number
-abbrev pub Refusal : Type 0
-Refusal = Bool × ℕ
+-- ---- the conditions of each call with their numbers, in their order
 
-abbrev pub firstThat : List Refusal → ℕ → ℕ
-firstThat [] n = n
-firstThat (c ∷ cs) n = pick (c .0) (c .1) (firstThat cs n)
+-- "Start: 14 for the two lengths and the table only"
+abbrev pub startOrder : List ℕ → List ℕ → List (Type 0 × ℕ)
+startOrder t l = (tableFits t ≡ false, foreign) ∷ (length l < 2048, foreign) ∷ []
 
--- ---- compile: "1, 2, 3; then left to right, the first fault met; then 11, 12, 13." 02: 2 is never given, 20 after 11
-
--- what is judged of the program once the sheet is read: a bad reading gives its fault
-abbrev pub afterReading : Got Sheet → List ℕ → ℕ
-afterReading (bad k) ps = k
-afterReading (got x rest) ps =
-    firstThat
-    ((not (known (programOf ps x)), unknownName)
-    ∷ ((lacksParameters x ps, noParameters) ∷ ((cyclic (programOf ps x), cycle) ∷ ((ltb 4096 (allInstructions (programOf ps x)), overlong) ∷ []))))
-    0
-
-abbrev pub compileOrder : List ℕ → List ℕ → List ℕ → ℕ
-compileOrder s ps t = firstThat ((ltb (length t) 34816, shortTable) ∷ ((ltb 8192 (length s), longProgram) ∷ [])) (afterReading (readSheet s) ps)
-
--- ---- "Start: 14 for the two lengths and the table only"
-
-abbrev pub startOrder : List ℕ → List ℕ → ℕ
-startOrder t l = firstThat ((not (tableFits t), foreign) ∷ ((ltb (length l) 2048, foreign) ∷ [])) 0
-
--- ---- "Arrival: 14, 15, 16, 17."; 02, M-107: 24 after 14, 25 after 15
-
-abbrev pub arriveOrder : List ℕ → List ℕ → ℕ → ℕ → ℕ
+-- "Arrival: 14, 15, 16, 17."; 02, M-107: 24 after 14, 25 after 15
+abbrev pub arriveOrder : List ℕ → List ℕ → ℕ → ℕ → List (Type 0 × ℕ)
 arriveOrder t l e who =
-    firstThat
-    ((not (ours t l), foreign)
-    ∷ ((leb 8 who, noPlayer)
-    ∷ ((leb (eventCount t) e, undeclaredEvent)
-    ∷ ((not (may (sendersAt t e) who), noRight)
-    ∷ ((queueFull (waitingCount l) (runningFlag l), fullQueue) ∷ ((leb 1000000 (taken l), spent) ∷ []))))))
-    0
+    (ours t l ≡ false, foreign)
+    ∷ (8 ≤ who, noPlayer)
+    ∷ (eventCount t ≤ e, undeclaredEvent)
+    ∷ (may (sendersAt t e) who ≡ false, noRight)
+    ∷ (queueFull (waitingCount l) (runningFlag l) ≡ true, fullQueue) ∷ (1000000 ≤ taken l, spent) ∷ []
 
--- ---- "Board: 14, 18, 19."; 02, M-107: 24 after 14, 25 after 18. Else 2 ^ 32 and the word
-
-abbrev pub boardOrder : List ℕ → List ℕ → ℕ → ℕ → ℕ
+-- "Board: 14, 18, 19."; 02, M-107: 24 after 14, 25 after 18
+abbrev pub boardOrder : List ℕ → List ℕ → ℕ → ℕ → List (Type 0 × ℕ)
 boardOrder t l i who =
-    firstThat
-    ((not (ours t l), foreign)
-    ∷ ((leb 8 who, noPlayer)
-    ∷ ((leb (behaviourCount t) i, noBehaviour) ∷ ((not (may (viewersAt t i) who), noRight) ∷ ((copyBackUnderWay t l, settling) ∷ [])))))
-    (4294967296 + get l (136 + i))
+    (ours t l ≡ false, foreign)
+    ∷ (8 ≤ who, noPlayer)
+    ∷ (behaviourCount t ≤ i, noBehaviour)
+    ∷ (may (viewersAt t i) who ≡ false, noRight)
+    ∷ (copyBackUnderWay t l ≡ true, settling) ∷ []
+
+-- ---- an instruction in the table
+
+-- instruction k may run on a stack of depth d
+abbrev pub mayRunAt : List ℕ → ℕ → ℕ → Bool
+mayRunAt t k d = mayRun (get t (512 + k * 2) / 256) (get t (512 + k * 2) % 256) d
 
 -- ---- "Step: 14." and, "for a step that would run one, an instruction not of this paper ..": it runs one where
--- something
--- runs, unless it is unmasked and what is next outranks it
+-- something runs, unless it is unmasked and something that waits outranks it
+
+-- the event of one of the first n that wait has a rank above r
+unfoldable pub someOutranks : List ℕ → List ℕ → ℕ → ℕ → Bool
+someOutranks t l r zero = false
+someOutranks t l r (suc n) = ltb r (eventWord t (eventAt l n) 0) || someOutranks t l r n
 
 abbrev pub givesWay : List ℕ → List ℕ → Bool
 givesWay t l =
-    not (eqb (waitingCount l) 0) && (not (isMasked (eventWord t (runningEvent l) 2) (eventWord t (runningEvent l) 3) (position l))
-    && ltb (eventWord t (runningEvent l) 0) (eventWord t (eventAt l (best t l (waitingCount l))) 0))
+    not (isMasked (eventWord t (runningEvent l) 2) (eventWord t (runningEvent l) 3) (position l))
+    && someOutranks t l (eventWord t (runningEvent l) 0) (waitingCount l)
 
 abbrev pub runsOne : List ℕ → List ℕ → Bool
 runsOne t l = not (eqb (runningFlag l) 0) && not (givesWay t l)
 
--- the first word of the instruction at the running one's count: operation * 256 + slot
-abbrev pub nextWord : List ℕ → List ℕ → ℕ
-nextWord t l = get t (512 + (eventWord t (runningEvent l) 1 + position l) * 2)
-
+-- the instruction at the running one's count may run
 abbrev pub instructionFits : List ℕ → List ℕ → Bool
-instructionFits t l = mayRun (nextWord t l / 256) (nextWord t l % 256) (depth l)
+instructionFits t l = mayRunAt t (eventWord t (runningEvent l) 1 + position l) (depth l)
 
 abbrev pub stepForeign : List ℕ → List ℕ → Bool
 stepForeign t l = not (ours t l) || (runsOne t l && not (instructionFits t l))
 
--- ---- 02, M-112: 14, which looks at the round with the old table, the new table, and each instruction that the
--- passives
--- need; "19, checked after 14"; "28 .., checked after 19"
+-- ---- 02, M-112: 14, which looks "at the round with the old table, at the new table's length, counts and code, and at
+-- each instruction that the passives need"; "19, checked after 14"; "28 .., checked after 19"
 
-abbrev pub mendOrder : List ℕ → List ℕ → List ℕ → ℕ
+-- how deep a stack of depth d is after operation op with slot s: push, load and fetch add one, a function takes its
+-- arguments and adds one, save and defer take one
+abbrev pub depthAfter : ℕ → ℕ → ℕ → ℕ
+depthAfter op s d = pick (ltb op 5) d (pick (ltb op 8) (d + 1) (pick (eqb op 8) (d - (arity s - 1)) (pick (ltb op 11) (d - 1) d)))
+
+-- each of n instructions from k on may run in turn, on a stack of depth d at first
+unfoldable pub allRun : List ℕ → ℕ → ℕ → ℕ → Bool
+allRun t k zero d = true
+allRun t k (suc n) d = mayRunAt t k d && allRun t (k + 1) n (depthAfter (get t (512 + k * 2) / 256) (get t (512 + k * 2) % 256) d)
+
+-- the instructions that the passives need lie within the table's, and may run
+abbrev pub passivesRun : List ℕ → Bool
+passivesRun t = codeFits (passivesStart t) (passivesLength t) && allRun t (passivesStart t) (passivesLength t) 0
+
+abbrev pub mendOrder : List ℕ → List ℕ → List ℕ → List (Type 0 × ℕ)
 mendOrder old t l =
-    firstThat
-    ((not (ours old l), foreign)
-    ∷ ((not (tableFits t), foreign)
-    ∷ ((not (eqb (carryOn old t l (replicate 2048 0) .0) 0), carryOn old t l (replicate 2048 0) .0)
-    ∷ ((copyBackOn old l, settling) ∷ ((not (handKnown t l), undeclaredInHand) ∷ [])))))
-    0
+    (ours old l ≡ false, foreign)
+    ∷ (tableFits t ≡ false, foreign)
+    ∷ (passivesRun t ≡ false, foreign)
+    ∷ (copyBackOn old l ≡ true, settling)
+    ∷ (handKnown t l ≡ false, undeclaredInHand) ∷ []
 
 pub record Demand1 : Type 0 where
   -- "A call is refused by the conditions and order of document 01"; "Every other call .. is accepted": 0
-  pub compile-order : (s ps t : List ℕ) → compileOn s ps t .0 ≡ compileOrder s ps t
-  pub start-order : (t l : List ℕ) → startOn t l .0 ≡ startOrder t l
-  pub arrive-order : (t l : List ℕ) (e who : ℕ) → arriveOn t l e who .0 ≡ arriveOrder t l e who
-  pub board-order : (t l : List ℕ) (i who : ℕ) → boardOn t l i who ≡ boardOrder t l i who
-  pub mend-order : (old t l : List ℕ) → mendOn old t l .0 ≡ mendOrder old t l
+  -- compile: "1, 2, 3; then left to right, the first fault met; then 11, 12, 13." 02: 2 is never given, 20 after 11
+  pub compile-order : (s ps t : List ℕ)
+      → First ((length t < 34816, shortTable) ∷ (8192 < length s, longProgram) ∷ []) (AfterReading (readSheet s) ps) (compileOn s ps t .0)
+  pub start-order : (t l : List ℕ) → First (startOrder t l) (λ r. r ≡ 0) (startOn t l .0)
+  pub arrive-order : (t l : List ℕ) (e who : ℕ) → First (arriveOrder t l e who) (λ r. r ≡ 0) (arriveOn t l e who .0)
+  -- 2 ^ 32 and the word
+  pub board-order : (t l : List ℕ) (i who : ℕ) → First (boardOrder t l i who) (λ r. r ≡ 4294967296 + get l (136 + i)) (boardOn t l i who)
+  pub mend-order : (old t l : List ℕ) → First (mendOrder old t l) (λ r. r ≡ 0) (mendOn old t l .0)
   pub forecast-order : (t l : List ℕ) → ours t l ≡ false → forecastOn t l ≡ foreign
   -- a step answers 14 exactly where it is refused
   pub step-refused : (t l : List ℕ) → stepForeign t l ≡ true → stepOn t l ≡ (foreign, l)

@@ -1,10 +1,10 @@
 -- Document 02, request by request, as far as it is no part of demand 3's lists (M-100, M-101, M-104, M-112 and M-113
 -- are: engine, Demand.antt): each sentence, and the part that states it, of the functions that the contracts cite.
 use Prim.Native.Nat.{ℕ, _-_, _≤_, _<_, _^_}
-use mathlib.Core.Bool.{Bool, true, false, _&&_}
+use mathlib.Core.Bool.{true}
 use mathlib.Core.Path.{_≡_}
 use mathlib.Core.Logic.{_≢_, _⊎_}
-use mathlib.Core.List.{List, [], _∷_, _++_, map}
+use mathlib.Core.List.{List, [], _++_, map}
 use mathlib.Core.Option.{Option, none, some}
 use lib.IntN.{ℤ, pos, negsuc, _+ℤ_, _*ℤ_}
 use lib.Signed.{_≤ℤ_, _<ℤ_}
@@ -13,12 +13,12 @@ use Rattle.lib_base.specs.Basics.{All}
 use Rattle.lib_word.specs.Word.{get}
 use Rattle.lib_arith.specs.Functions.{floorZ, result}
 use Rattle.spec_language.specs.Syntax.{Expr, Program}
-use Rattle.spec_language.specs.Dependence.{size, events, noEvent, Acyclic, NoCycle}
-use Rattle.spec_language.specs.Sheet.{Sheet, Entry, Signal, param, fillTerm, fill, rowsOut, uses}
-use Rattle.spec_language.specs.Reading.{signal}
+use Rattle.spec_language.specs.Dependence.{events, Acyclic}
+use Rattle.spec_language.specs.Sheet.{Sheet, Entry, param, fillTerm, fill, writtenOut, rowsOut, paramsOfEntries}
+use Rattle.spec_language.specs.Reading.{got, signal, readSheet}
 use Rattle.spec_language.specs.Grammar.{encode, SheetFits}
 use Rattle.spec_language.specs.Accepted.{Known, SheetAccepted}
-use Rattle.spec_language.specs.Code.{sizeOf, allInstructions}
+use Rattle.spec_language.specs.Code.{sizeOf}
 use Rattle.spec_language.specs.Rights.{may, maySend, maySee}
 use Rattle.format_image.specs.Image.{tableOf}
 use Rattle.text_formula.specs.Grammar.{Formula}
@@ -26,13 +26,13 @@ use Rattle.text_formula.specs.Answer.{answered, fieldAnswer, formulaOn}
 use Rattle.text_formula.specs.Statements.{BufferKept, Fields}
 use Rattle.spec_language.specs.Refusals.{noFormula}
 use Rattle.back_compile.specs.Verdict.{compiled, programOf, compileOn, numberOn}
-use Rattle.back_compile.specs.Statements.{Given, Fine, AsWritten, AsRows}
+use Rattle.back_compile.specs.Statements.{First, Given, AsRows}
 use Rattle.back_figure3.specs.Figure3.{Assign, FirstPhaseRule, SecondPhaseRule, everyBehaviour, PassivesAcyclic, HandlerCode}
-use Rattle.back_figure3.specs.Stand.{StepsStand}
+use Rattle.engine.specs.Demand.{CodeIn}
 use Rattle.check_circle.specs.Witness.{CircleListed, Witnessed}
 use Rattle.link_pooled.specs.Pooled.{pooled}
-use Rattle.link_join.specs.Join.{joinOn}
-use Rattle.link_join.specs.Statements.{limits, JoinAnswer}
+use Rattle.link_join.specs.Join.{joined, joinOn}
+use Rattle.link_join.specs.Statements.{limits, JoinOrder}
 
 -- bytes are below 256
 abbrev pub AreBytes : List ℕ → Type 0
@@ -45,16 +45,10 @@ pub record AcceptedExactly : Type 0 where
   pub accepted : (s ps t : List ℕ) → AreBytes s → 34816 ≤ length t → compileOn s ps t .0 ≡ 0 → (x : Sheet) × (encode x ≡ s) × SheetAccepted (get ps) (length ps) x
   pub exactly : (s ps t : List ℕ) → AreBytes s → 34816 ≤ length t → (x : Sheet) → encode x ≡ s → SheetAccepted (get ps) (length ps) x
       → compileOn s ps t ≡ compiled 0 (tableOf (programOf ps x) t)
-  -- 11, 12 and 13 stand for what 01 says, and for nothing else
-  pub unknown : (s ps t : List ℕ) → AreBytes s → 34816 ≤ length t
-      → ((compileOn s ps t .0 ≡ 11 → (x : Sheet) × (encode x ≡ s) × SheetFits x × (Known (programOf ps x) → ⊥))
-      × ((x : Sheet) → encode x ≡ s → SheetFits x → (Known (programOf ps x) → ⊥) → compileOn s ps t ≡ compiled 11 t))
-  pub circular : (s ps t : List ℕ) → AreBytes s → 34816 ≤ length t
-      → ((compileOn s ps t .0 ≡ 12 → (x : Sheet) × (encode x ≡ s) × SheetFits x × Known (programOf ps x) × Given ps x × (NoCycle (programOf ps x) → ⊥))
-      × ((x : Sheet) → encode x ≡ s → SheetFits x → Known (programOf ps x) → Given ps x → (NoCycle (programOf ps x) → ⊥) → compileOn s ps t ≡ compiled 12 t))
-  pub overlong : (s ps t : List ℕ) → AreBytes s → 34816 ≤ length t
-      → ((compileOn s ps t .0 ≡ 13 → (x : Sheet) × (encode x ≡ s) × Fine ps x × (4096 < allInstructions (programOf ps x)))
-      × ((x : Sheet) → encode x ≡ s → Fine ps x → 4096 < allInstructions (programOf ps x) → compileOn s ps t ≡ compiled 13 t))
+  -- what is read: a sheet within the grammar from its bytes, and no other; so compile's order (`Demand1`) says of
+  -- sheets what 11, 20, 12 and 13 stand for
+  pub reads : (x : Sheet) → SheetFits x → readSheet (encode x) ≡ got x []
+  pub reads-only : (s : List ℕ) → AreBytes s → length s ≤ 8192 → (x : Sheet) (rest : List ℕ) → readSheet s ≡ got x rest → (encode x ≡ s) × SheetFits x
   -- the sheet is determined by its bytes
   pub one-sheet : (x y : Sheet) → SheetFits x → SheetFits y → encode x ≡ encode y → x ≡ y
 
@@ -81,14 +75,13 @@ pub record Parameters : Type 0 where
   -- "It counts as one in an expression's size"
   pub counts-one : (v : ℕ → ℕ) (n : ℕ) → sizeOf (fillTerm v (param n)) ≡ 1
   -- ".. and means the same as the constant written there. So everything known of a sheet without parameters is known of
-  -- each filling, except that 3 counts the bytes as sent and not those of the filling."
-  pub written : (x : Sheet) (ps : List ℕ) → 32 ≤ length ps → AsWritten x ps
+  -- each filling, except that 3 counts the bytes as sent and not those of the filling.": compile's answer, a refusal
+  -- too, and the table's bytes are the same for the sheet and for that in which each parameter is written out as its
+  -- constant, with whatever the second is lent, where neither has over 8,192 bytes and no parameter is above 7
+  pub written : (x : Sheet) (ps : List ℕ) → 32 ≤ length ps → paramsOfEntries (x .entries) ≤ 8 → length (encode x) ≤ 8192 → length (encode (writtenOut (get ps) x)) ≤ 8192
+      → (qs t : List ℕ) → compileOn (encode x) ps t ≡ compileOn (encode (writtenOut (get ps) x)) qs t
   -- "Compile is lent eight signed 32-bit values, 32 bytes": what is lent beyond them is not read
   pub more-unread : (s ps qs t : List ℕ) → AreBytes s → 32 ≤ length ps → compileOn s (ps ++ qs) t ≡ compileOn s ps t
-  -- "20 when the sheet uses a parameter and fewer than 32 bytes are lent, checked after 11."
-  pub twenty : (s ps t : List ℕ) → AreBytes s → 34816 ≤ length t
-      → ((compileOn s ps t .0 ≡ 20 → (x : Sheet) × (encode x ≡ s) × SheetFits x × Known (programOf ps x) × (uses x ≡ true) × (length ps < 32))
-      × ((x : Sheet) → encode x ≡ s → SheetFits x → Known (programOf ps x) → uses x ≡ true → length ps < 32 → compileOn s ps t ≡ compiled 20 t))
 
 -- ---- M-105: formulas as we write them
 
@@ -145,7 +138,7 @@ pub record PaperOrder : Type 0 where
   -- "it is shown which instructions each step gives, an event's code being the copy's, phase one's, phase two's and the
   -- copy-back's in a row": of the table that compile leaves, for every accepted sheet and each event
   pub in-the-table : (s ps t : List ℕ) → AreBytes s → AreBytes ps → (x : Sheet) → encode x ≡ s → SheetAccepted (get ps) (length ps) x → 34816 ≤ length t → (e : ℕ) → e < events (programOf ps x)
-      → HandlerCode (programOf ps x) e × StepsStand (programOf ps x) (compileOn s ps t .1) e
+      → HandlerCode (programOf ps x) e × CodeIn (programOf ps x) (compileOn s ps t .1) e
   -- "the check on dependence": no first phase is derived for an event with a circle, and no second one where passives
   -- are in one
   pub first-acyclic : (p : Program) (e : ℕ) {A : List Assign} → FirstPhaseRule p e (everyBehaviour p) A → Acyclic p e
@@ -161,9 +154,17 @@ pub record Rows : Type 0 where
 -- ---- M-111: pool two sheets (each half of the joined board: link_halves)
 
 pub record Pooling : Type 0 where
+  -- "A sheet that compile turns down gives compile's number, the first sheet's before the second's"
+  pub first-refused : (s z ps buffer : List ℕ) → numberOn s ps ≢ 0 → joinOn s z ps buffer ≡ joined (numberOn s ps) buffer
+  pub second-refused : (s z ps buffer : List ℕ) → numberOn s ps ≡ 0 → numberOn z ps ≢ 0 → joinOn s z ps buffer ≡ joined (numberOn z ps) buffer
+  -- of two accepted ones: every refusal in its order, or the length
+  pub answer : (ps buffer : List ℕ) → AreBytes ps → (x y : Sheet) → SheetAccepted (get ps) (length ps) x → SheetAccepted (get ps) (length ps) y
+      → JoinOrder ps buffer x y (joinOn (encode x) (encode y) ps buffer .0)
   -- "A join writes one sheet from two accepted ones to the start of a lent buffer, whose other bytes stay, and returns
-  -- its length", and every refusal in its order, case by case
-  pub answer : (s z ps buffer : List ℕ) → AreBytes s → AreBytes z → AreBytes ps → JoinAnswer s z ps buffer (joinOn s z ps buffer)
+  -- its length"; what is refused leaves all of it
+  pub written : (ps buffer : List ℕ) → AreBytes ps → (x y : Sheet) → SheetAccepted (get ps) (length ps) x → SheetAccepted (get ps) (length ps) y
+      → 2 ^ 32 ≤ joinOn (encode x) (encode y) ps buffer .0 → joinOn (encode x) (encode y) ps buffer .1 ≡ encode (pooled x y) ++ drop (length (encode (pooled x y))) buffer
+  pub unchanged : (s z ps buffer : List ℕ) → joinOn s z ps buffer .0 < 2 ^ 32 → joinOn s z ps buffer .1 ≡ buffer
   -- "The result must pass compile's 3, 7 and 13, checked in that order": compile has no other number for it
   pub number : (ps : List ℕ) → ((n : ℕ) → n < 8 → get ps n < 2 ^ 32) → (a b : Sheet) → SheetAccepted (get ps) (length ps) a → SheetAccepted (get ps) (length ps) b
-      → numberOn (encode (pooled a b)) ps ≡ limits ps (pooled a b)
+      → First (limits ps (pooled a b)) (λ r. r ≡ 0) (numberOn (encode (pooled a b)) ps)

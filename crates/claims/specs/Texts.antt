@@ -3,17 +3,13 @@
 use Prim.Native.Nat.{ℕ, _+_, _≤_, _<_}
 use mathlib.Core.Path.{_≡_}
 use mathlib.Core.Logic.{_≢_}
-use mathlib.Core.List.{List, [], _∷_, _++_}
-use lib.Dec.{ltb}
+use mathlib.Core.List.{List, _++_}
 use lib.ListN.{length, drop, replicate}
 use Rattle.lib_word.specs.Word.{get}
-use Rattle.spec_language.specs.Refusals.{longProgram, noParameters, cycle, overlong}
 use Rattle.spec_language.specs.Sheet.{Sheet}
 use Rattle.spec_language.specs.Grammar.{encode, SheetFits}
-use Rattle.spec_language.specs.Accepted.{SheetAccepted}
-use Rattle.spec_language.specs.Code.{allInstructions}
-use Rattle.check_faults.specs.Faults.{cyclic}
-use Rattle.back_compile.specs.Verdict.{programOf, lacksParameters, compileOn, numberOn}
+use Rattle.spec_language.specs.Accepted.{Known, SheetAccepted}
+use Rattle.back_compile.specs.Verdict.{programOf, numberOn}
 use Rattle.text_formula.specs.Answer.{answered}
 use Rattle.source_language.specs.Tokens.{SheetToken, TokensOfText}
 use Rattle.source_language.specs.Text.{Text}
@@ -25,17 +21,7 @@ use Rattle.source_rendering.specs.Describe.{described}
 use Rattle.source_assemble.specs.Assemble.{assembleNumber}
 use Rattle.source_describe.specs.Describing.{describeOn}
 use Rattle.source_language.specs.Answer.{written, turnedDown, assembleOn, TextMeans, refusedAt, SheetWritten}
-use Rattle.claims.specs.Demand1.{firstThat}
 use Rattle.claims.specs.Requests.{AreBytes}
-
--- compile's answer for a sheet of which only the length, the parameters lent, circles and instructions are left to
--- judge
-abbrev pub leftToJudge : Sheet → List ℕ → ℕ
-leftToJudge s ps =
-    firstThat
-    ((ltb 8192 (length (encode s)), longProgram)
-    ∷ ((lacksParameters s ps, noParameters) ∷ ((cyclic (programOf ps s), cycle) ∷ ((ltb 4096 (allInstructions (programOf ps s)), overlong) ∷ []))))
-    0
 
 -- a sheet's bytes that compile accepts with 32 zero bytes lent: `describe` writes the sheet's text at the start of a
 -- lent buffer, whose other bytes stay, or nothing where it is too short; read by `assemble` it gives the very bytes
@@ -72,9 +58,10 @@ pub record Texts : Type 0 where
   -- the call's number tells all of this, whatever was lent: how many bytes, or kind, line and column
   pub told-apart : (a p b q : List ℕ) → assembleNumber a p .0 ≡ assembleNumber b q .0 → assembleOn a p .0 ≡ assembleOn b q .0
   -- "what assemble writes is accepted by compile but for 12, 13 and 3, and means what the text says": it is within the
-  -- grammar and the limits, and its names are known; 20 where too few parameters are lent
+  -- grammar and the limits, so that it is read (`AcceptedExactly`), and its names are known, so that of compile's order
+  -- (`Demand1`) only 3, 20, where too few parameters are lent, 12 and 13 are left
   pub fits : (bytes : List ℕ) (s : Sheet) → TextMeans bytes s → length (encode s) ≤ 8192 → SheetFits s
-  pub compiles : (bytes : List ℕ) (s : Sheet) → TextMeans bytes s → (ps t : List ℕ) → 34816 ≤ length t → compileOn (encode s) ps t .0 ≡ leftToJudge s ps
+  pub known : (bytes : List ℕ) (s : Sheet) → TextMeans bytes s → (ps : List ℕ) → Known (programOf ps s)
   -- "names do not matter (renaming consistently gives the same bytes)": f for parameters and behaviours, h for events,
   -- g for the places, which longer names move
   pub renamed : (f h : List ℕ → List ℕ) (g : ℕ → ℕ) → KeepsApart f → KeepsApart h → (a b : List ℕ) (s : Sheet) (m : TextMeans a s) → length b ≤ 65536

@@ -2,19 +2,17 @@
 -- three boards by the rules, and the rules lead to the two boards in a row (crate link_join).
 use Prim.Native.Nat.{ℕ, _+_, _≤_, _<_}
 use mathlib.Core.Bool.{Bool, true, false}
-use mathlib.Core.Path.{_≡_, sym, ap, ap₂, _∙_, subst}
+use mathlib.Core.Logic.{inl, inr}
+use mathlib.Core.Path.{_≡_, refl, sym, ap, ap₂, _∙_, subst}
 use mathlib.Core.List.{List, [], _∷_, _++_, map}
 use native.Mathlib.Omega.{arith}
-use lib.ListN.{length, getD, take, drop, replicate, length-replicate}
+use lib.ListN.{length, getD, take, drop}
 use lib.Seq.{take-append-seam, drop-append-seam}
-use borrow.Author.Tests.{le-ltb}
 use Rattle.lib_base.specs.Basics.{All}
-use Rattle.lib_base.proofs.Tools.{split}
 use Rattle.lib_word.specs.Word.{get}
 use Rattle.spec_language.specs.Syntax.{Program}
-use Rattle.spec_language.specs.Sheet.{Sheet, uses}
+use Rattle.spec_language.specs.Sheet.{Sheet}
 use Rattle.spec_language.specs.Grammar.{encode}
-use Rattle.spec_language.specs.Reading.{Got, bad, got, readSheet}
 use Rattle.spec_language.specs.Dependence.{size}
 use Rattle.spec_language.specs.Accepted.{Accepted, SheetAccepted}
 use Rattle.spec_language.specs.Rights.{maySend, maySee}
@@ -25,16 +23,16 @@ use Rattle.spec_semantics.proofs.Lengths.{length-fresh}
 use Rattle.spec_model.specs.Model.{Call, call}
 use Rattle.spec_model.specs.Claims.{committedIn, eventsOf}
 use Rattle.format_image.specs.Image.{tableOf}
-use Rattle.check_faults.proofs.CycleDecides.{known-decides, cyclic-decides}
-use Rattle.back_compile.specs.Verdict.{Compiled, compiled, judge, lacksParameters, judgeRead, programOf, compileOn, numberOn}
-use Rattle.back_compile.proofs.JudgeLaws.{judge-passes, compile-opens}
+use Rattle.back_compile.specs.Verdict.{Compiled, programOf, compileOn}
+use Rattle.back_compile.proofs.AcceptedExactly.{accepted-taken}
 use Rattle.link_pooled.specs.Pooled.{pooled, sameRanks}
 use Rattle.link_pooled.specs.Together.{together, declared}
-use Rattle.link_pooled.proofs.Filled.{fill-pooled, size-fill}
+use Rattle.link_pooled.proofs.Filled.{fill-pooled}
 use Rattle.link_pooled.proofs.Rights.{send-both, send-first, send-second, see-first, see-second, rank-first, rank-second}
-use Rattle.link_join.specs.Join.{Joined, joined}
-use Rattle.link_join.specs.Statements.{AcceptedSheet, JoinAnswer, first-refused, second-refused, unlike, long, crowded, overlong, short, done}
-use Rattle.link_join.proofs.Says.{join-says, rules-board}
+use Rattle.link_join.specs.Join.{Joined, joined, joinOn}
+use Rattle.link_join.specs.Statements.{JoinOrder}
+use Rattle.link_join.proofs.JoinLaws.{AcceptedSheet}
+use Rattle.link_join.proofs.Says.{Answered, join-says, rules-board}
 use Rattle.run_start.specs.Start.{CallResult}
 use Rattle.refine_calls.specs.Refinement.{calls, Bytes, bytes, bytesAfter}
 use Rattle.refine_lists.specs.Lists.{boardOf, freshRoundOn, OnlyCalls}
@@ -45,23 +43,6 @@ use Rattle.link_halves.specs.HalfBoards.{boardAfter, SameCommits, NoCopy
 -- ---- a sheet that is accepted, whatever its bytes are written from
 
 module _ (ps : List ℕ) (x : Sheet) (ok : SheetAccepted (get ps) (length ps) x) where
-  enough : lacksParameters x ps ≡ false
-  enough = split (uses x) (λ u. rw (u, le-ltb (length ps) 32 (ok .given u))) (λ u. rw u)
-
-  compiles : (s t : List ℕ) → encode x ≡ s → 34816 ≤ length t → compileOn s ps t ≡ compiled 0 (tableOf (programOf ps x) t)
-  compiles s t e room =
-      let p = programOf ps x in
-      let few : length s ≤ 8192 = rw e at (ok .fits .few-bytes) in
-      let read : readSheet s ≡ got x [] = rw e at (reads-back x (ok .fits)) in
-      compile-opens s ps t room few
-      ∙ ap (λ (g : Got Sheet). judgeRead g ps t) read
-      ∙ ap (λ (l : Bool). judge p l t) enough
-      ∙ judge-passes p t (known-decides p .1 (ok .known)) (cyclic-decides p (ok .known) (omega (arith, size-fill (get ps) x, ok .fits .few-behaviours)) .1 (ok .acyclic)) (ok .short)
-
-  number : (s : List ℕ) → encode x ≡ s → numberOn s ps ≡ 0
-  unfolding numberOn
-  number s e = ap (λ (r : Compiled). r .0) (compiles s (replicate 34816 0) e (omega (arith, length-replicate {A = ℕ} 34816 0)))
-
   as-read : (s : List ℕ) → encode x ≡ s → AcceptedSheet s ps
   as-read s e = record { sheet = x; bytes = e; accepted = ok; read = rw e at (reads-back x (ok .fits)) }
 
@@ -71,24 +52,21 @@ list-of : (ps : List ℕ) → All (λ b. b < 256) ps → (x : Sheet) → SheetAc
 list-of ps words x ok s t₀ l₀ e a b cs =
     let p = programOf ps x in
     let accepted = program-accepted ps words x ok in
-    let t : compileOn s ps t₀ .1 ≡ tableOf p t₀ = ap (λ (r : Compiled). r .1) (compiles ps x ok s t₀ e a) in
+    let t : compileOn s ps t₀ .1 ≡ tableOf p t₀ = ap (λ (r : Compiled). r .1) (accepted-taken s ps x e ok t₀ a) in
     let m = ap (λ (r : CallResult). r .1) (begun p accepted t₀ l₀ (compileOn s ps t₀ .1) a b t) in
     subst (λ (c : Bytes). OnlyCalls p l₀ c cs) (λ i. bytes (sym t i) (sym m i)) (only-calls p accepted t₀ l₀ a b cs)
 
 -- ---- what join's answer says
 
--- two sheets read from the same bytes are one
-abbrev the-sheet : Sheet → Got Sheet → Sheet
-the-sheet d (bad k) = d
-the-sheet d (got x rest) = x
-
-same-sheet : {s ps : List ℕ} (x y : AcceptedSheet s ps) → x .sheet ≡ y .sheet
-same-sheet x y = ap (the-sheet (x .sheet)) (sym (x .read) ∙ y .read)
-
 record Delivered (ps v : List ℕ) (x y : Sheet) : Type 0 where
   same : sameRanks (x .signals) (y .signals) ≡ true
   accepted : SheetAccepted (get ps) (length ps) (pooled x y)
   bytes : encode (pooled x y) ≡ v
+
+-- what is not false
+not-false : (b : Bool) → (b ≡ false → ⊥) → b ≡ true
+not-false true h = refl
+not-false false h = absurd (h refl)
 
 -- equal lengths and equal buffers have the same bytes in front
 in-front : (buffer v w : List ℕ) → joined (4294967296 + length w) (w ++ drop (length w) buffer) ≡ joined (4294967296 + length v) (v ++ drop (length v) buffer) → w ≡ v
@@ -99,19 +77,25 @@ in-front buffer v w e =
     ∙ ap₂ (λ (i : ℕ) (l : List ℕ). take i l) k (ap (λ (r : Joined). r .1) e)
     ∙ take-append-seam v (drop (length v) buffer)
 
-module _ (buffer v : List ℕ) {s z ps : List ℕ} (x : AcceptedSheet s ps) (y : AcceptedSheet z ps) (n : numberOn s ps ≡ 0) (m : numberOn z ps ≡ 0) where
-  told : {r : Joined} → JoinAnswer s z ps buffer r → r ≡ joined (4294967296 + length v) (v ++ drop (length v) buffer) → Delivered ps v (x .sheet) (y .sheet)
-  told (first-refused h) e = absurd (h n)
-  told (second-refused g h) e = absurd (h m)
-  told (unlike a b h) e = let k : _≡_ {A = ℕ} 26 (4294967296 + length v) = ap (λ (r : Joined). r .0) e in absurd (omega arith)
-  told (long a b h g) e = let k : _≡_ {A = ℕ} 3 (4294967296 + length v) = ap (λ (r : Joined). r .0) e in absurd (omega arith)
-  told (crowded a b h g f) e = let k : _≡_ {A = ℕ} 7 (4294967296 + length v) = ap (λ (r : Joined). r .0) e in absurd (omega arith)
-  told (overlong a b h g f d) e = let k : _≡_ {A = ℕ} 13 (4294967296 + length v) = ap (λ (r : Joined). r .0) e in absurd (omega arith)
-  told (short a b h g f) e = let k : _≡_ {A = ℕ} 27 (4294967296 + length v) = ap (λ (r : Joined). r .0) e in absurd (omega arith)
-  told (done a b h g f) e =
-      subst (λ (c : Sheet). Delivered ps v c (y .sheet)) (same-sheet a x)
-      (subst (λ (c : Sheet). Delivered ps v (a .sheet) c) (same-sheet b y)
-      (record { same = h; accepted = g; bytes = in-front buffer v (encode (pooled (a .sheet) (b .sheet))) e }))
+module _ (ps buffer v : List ℕ) (x y : Sheet) where
+  -- the answer is none of the refusals
+  told : (o : Joined) → Answered ps buffer x y o → o ≡ joined (4294967296 + length v) (v ++ drop (length v) buffer) → Delivered ps v x y
+  told o w e = by-order (w .order)
+    where
+      n : o .0 ≡ 4294967296 + length v
+      n = ap (λ (r : Joined). r .0) e
+
+      by-order : JoinOrder ps buffer x y (o .0) → Delivered ps v x y
+      by-order (inl (_, k)) = absurd (omega (arith, n))
+      by-order (inr (_, inl (_, k))) = absurd (omega (arith, n))
+      by-order (inr (_, inr (_, inl (_, k)))) = absurd (omega (arith, n))
+      by-order (inr (_, inr (_, inr (_, inl (_, k))))) = absurd (omega (arith, n))
+      by-order (inr (_, inr (_, inr (_, inr (_, (_, inl (_, k))))))) = absurd (omega (arith, n))
+      by-order (inr (same, inr (_, inr (_, inr (_, (ok, inr (_, k))))))) = record {
+        same = not-false (sameRanks (x .signals) (y .signals)) same;
+        accepted = ok;
+        bytes = in-front buffer v (encode (pooled x y)) (sym (λ i. joined (k i) (w .written (omega (arith, n)) i)) ∙ e);
+      }
 
 -- ---- the boards
 
@@ -215,10 +199,11 @@ unfolding as-read
 half-boards s z ps buffer v t₀ l₀ t₁ l₁ t₂ l₂ bytes others words a₀ b₀ b₁ b₂ h₁ h₂ x y e f ok also answer =
     let u = as-read ps x ok s e in
     let w = as-read ps y also z f in
-    let d = told buffer v u w (number ps x ok s e) (number ps y also z f) (join-says s z ps buffer bytes others words) answer in
+    let q : joinOn (encode x) (encode y) ps buffer ≡ joined (4294967296 + length v) (v ++ drop (length v) buffer) = rw (e, f) answer in
+    let d = told ps buffer v x y (joinOn (encode x) (encode y) ps buffer) (join-says ps buffer words x y ok also) q in
     record {
       bytes = d .bytes;
       taken = d .accepted;
-      compiles = ap (λ (r : Compiled). r .0) (compiles ps (pooled x y) (d .accepted) v t₀ (d .bytes) a₀);
+      compiles = ap (λ (r : Compiled). r .0) (accepted-taken v ps (pooled x y) (d .bytes) (d .accepted) t₀ a₀);
       halves = halves ps words u w v d t₀ l₀ t₁ l₁ t₂ l₂ a₀ (table-room s ps t₁ h₁) (table-room z ps t₂ h₂) b₀ b₁ b₂;
     }

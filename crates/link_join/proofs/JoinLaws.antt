@@ -3,7 +3,7 @@
 use Prim.Native.Nat.{ℕ, _+_, _-_, _≤_, _<_}
 use mathlib.Core.Bool.{Bool, true, false, not, true≢false, false≢true}
 use mathlib.Core.Path.{_≡_, refl, sym, ap, _∙_}
-use mathlib.Core.List.{List, _++_}
+use mathlib.Core.List.{List, [], _++_}
 use native.Mathlib.Omega.{arith}
 use lib.ListN.{length, take, drop, replicate, length-replicate}
 use lib.Seq.{take-length}
@@ -11,8 +11,10 @@ use borrow.Author.Tests.{le-ltb, eq-eqb, ne-eqb}
 use Rattle.lib_base.specs.Basics.{All}
 use Rattle.lib_word.specs.Word.{get}
 use Rattle.spec_language.specs.Refusals.{unlikeRanks}
+use Rattle.spec_language.specs.Sheet.{Sheet}
 use Rattle.spec_language.specs.Grammar.{encode}
-use Rattle.spec_language.specs.Reading.{readSheet}
+use Rattle.spec_language.specs.Accepted.{SheetAccepted}
+use Rattle.spec_language.specs.Reading.{got, readSheet}
 use Rattle.link_pooled.specs.Pooled.{pooled, sameRanks}
 use Rattle.link_events.specs.Merging.{agreeFrom}
 use Rattle.link_events.specs.Written.{BytesWritten}
@@ -21,7 +23,13 @@ use Rattle.link_bytes.proofs.Spliced.{spliced-are, ranks-agree}
 use Rattle.back_compile.proofs.AcceptedExactly.{accepted-exactly}
 use Rattle.back_compile.specs.Verdict.{numberOn}
 use Rattle.link_join.specs.Join.{Joined, joined, deliveredIn, resultOn, poolOn, poolRead, joinOn}
-use Rattle.link_join.specs.Statements.{AcceptedSheet}
+
+-- a sheet that compile takes
+pub record AcceptedSheet (s ps : List ℕ) : Type 0 where
+  pub sheet : Sheet
+  pub bytes : encode sheet ≡ s
+  pub accepted : SheetAccepted (get ps) (length ps) sheet
+  pub read : readSheet s ≡ got sheet []
 
 pub taken : (s ps : List ℕ) → All (λ b. b < 256) s → numberOn s ps ≡ 0 → AcceptedSheet s ps
 unfolding numberOn

@@ -26,6 +26,8 @@ use Rattle.check_faults.specs.Faults.{known, cyclic}
 use Rattle.check_faults.proofs.CycleDecides.{known-decides, cyclic-decides}
 use Rattle.back_compile.specs.Verdict.{Compiled, judge, lacksParameters, programOf, judgeRead, numberOn}
 use Rattle.back_compile.proofs.JudgeLaws.{judge-long, judge-passes, compile-opens, compile-long}
+use Rattle.back_compile.specs.Statements.{First}
+use Rattle.back_compile.proofs.Orders.{if-less}
 use Rattle.link_pooled.proofs.Filled.{size-fill}
 use Rattle.link_join.specs.Statements.{limits}
 
@@ -97,24 +99,21 @@ module _ (ps : List ℕ) (x : Sheet) (near : Nearly (get ps) (length ps) x) wher
   no-circle : count x ≤ 64 → cyclic (programOf ps x) ≡ false
   no-circle k = cyclic-decides (programOf ps x) (near .known) (omega (arith, size-fill (get ps) x)) .1 (near .acyclic)
 
-  number-near : numberOn (encode x) ps ≡ limits ps x
+  number-near : First (limits ps x) (λ r. r ≡ 0) (numberOn (encode x) ps)
   unfolding numberOn
   number-near =
-      split (ltb 8192 (length (encode x)))
-      (λ a. rw a (ap (λ (r : Compiled). r .0) (compile-long (encode x) ps table room (ltb-true 8192 (length (encode x)) a))))
-      (λ a. rw a (
-      let h = ltb-false 8192 (length (encode x)) a in
-      split (ltb 64 (count x))
-      (λ b. rw b
-      (ap (λ (r : Compiled). r .0) (compile-opens (encode x) ps table room h)
-      ∙ ap (λ (g : Got Sheet). judgeRead g ps table .0) (crowded-read x (near .few-events) (near .scale) (near .each) (ltb-true 64 (count x) b))))
-      (λ b. rw b (
-      let k = ltb-false 64 (count x) b in
-      split (ltb 4096 (allInstructions (programOf ps x)))
-      (λ c. rw c (judged h k ∙ ap (λ (r : Compiled). r .0) (judge-long (programOf ps x) table is-known (no-circle k) (ltb-true 4096 (allInstructions (programOf ps x)) c))))
-      (λ c. rw c (judged h k ∙ ap (λ (r : Compiled). r .0) (judge-passes (programOf ps x) table is-known (no-circle k) (ltb-false 4096 (allInstructions (programOf ps x)) c))))))))
+      if-less 8192 (length (encode x))
+      (λ a. ap (λ (r : Compiled). r .0) (compile-long (encode x) ps table room (ltb-true 8192 (length (encode x)) a)))
+      (λ a. let h = ltb-false 8192 (length (encode x)) a in
+      if-less 64 (count x)
+      (λ b. ap (λ (r : Compiled). r .0) (compile-opens (encode x) ps table room h)
+      ∙ ap (λ (g : Got Sheet). judgeRead g ps table .0) (crowded-read x (near .few-events) (near .scale) (near .each) (ltb-true 64 (count x) b)))
+      (λ b. let k = ltb-false 64 (count x) b in
+      if-less 4096 (allInstructions (programOf ps x))
+      (λ c. judged h k ∙ ap (λ (r : Compiled). r .0) (judge-long (programOf ps x) table is-known (no-circle k) (ltb-true 4096 (allInstructions (programOf ps x)) c)))
+      (λ c. judged h k ∙ ap (λ (r : Compiled). r .0) (judge-passes (programOf ps x) table is-known (no-circle k) (ltb-false 4096 (allInstructions (programOf ps x)) c)))))
 
 -- of the sheet pooled from two accepted ones
 pub pooled-number : (ps : List ℕ) → ((n : ℕ) → n < 8 → get ps n < 2 ^ 32) → (a b : Sheet) → SheetAccepted (get ps) (length ps) a → SheetAccepted (get ps) (length ps) b
-    → numberOn (encode (pooled a b)) ps ≡ limits ps (pooled a b)
+    → First (limits ps (pooled a b)) (λ r. r ≡ 0) (numberOn (encode (pooled a b)) ps)
 pooled-number ps small a b x y = number-near ps (pooled a b) (pooled-nearly (get ps) small (length ps) a b x y)

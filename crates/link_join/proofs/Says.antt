@@ -2,12 +2,15 @@
 -- its events sent by whom both sheets let. From the definitions' branches, the limits that a pooled sheet can pass
 -- (Limits.antt) and what is known of two programs side by side (crate link_pooled).
 use Prim.Native.Nat.{ℕ, _≤_, _<_, _^_}
-use mathlib.Core.Bool.{true}
-use mathlib.Core.Path.{_≡_, _∙_, subst}
+use mathlib.Core.Bool.{true, false, true≢false}
+use mathlib.Core.Path.{_≡_, refl, sym, _∙_, subst}
+use mathlib.Core.Logic.{inl, inr, by-cases}
 use mathlib.Core.List.{List, _++_}
-use lib.ListN.{length}
+use native.Mathlib.Decide.{decLt}
+use native.Mathlib.Omega.{arith}
+use lib.ListN.{length, drop}
 use lib.Dec.{ltb, eqb}
-use borrow.Author.Tests.{eqb-true, eqb-false, ltb-true, ltb-false}
+use borrow.Author.Tests.{ltb-true, ltb-false}
 use Rattle.lib_base.specs.Basics.{All}
 use Rattle.lib_base.proofs.Tools.{by-test, split}
 use Rattle.lib_word.specs.Word.{get}
@@ -15,8 +18,10 @@ use Rattle.spec_language.specs.Syntax.{Program}
 use Rattle.spec_language.specs.Sheet.{Sheet}
 use Rattle.spec_language.specs.Grammar.{encode}
 use Rattle.spec_language.specs.Dependence.{events}
-use Rattle.spec_language.specs.Accepted.{Valid}
+use Rattle.spec_language.specs.Accepted.{Valid, SheetAccepted}
+use Rattle.spec_language.specs.Reading.{Got, bad, got, readSheet}
 use Rattle.spec_language.specs.Code.{allInstructions}
+use Rattle.spec_grammar.proofs.Programs.{reads-back}
 use Rattle.spec_semantics.specs.Meaning.{fresh, play}
 use Rattle.spec_semantics.specs.Plays.{Plays}
 use Rattle.link_pooled.specs.Pooled.{pooled, sameRanks, count}
@@ -26,58 +31,89 @@ use Rattle.link_pooled.proofs.Filled.{fill-pooled}
 use Rattle.link_pooled.proofs.PooledAccepted.{valid-filling, pooled-valid, pooled-accepted}
 use Rattle.front_params.proofs.Fills.{get-small}
 use Rattle.back_compile.specs.Verdict.{programOf, numberOn}
-use Rattle.link_join.specs.Join.{deliveredIn, resultOn, poolOn, joinOn}
-use Rattle.link_join.proofs.JoinLaws.{taken}
-use Rattle.link_join.specs.Statements.{AcceptedSheet, limits, JoinAnswer, first-refused, second-refused, unlike, long, crowded, overlong, short, done}
+use Rattle.back_compile.specs.Statements.{First}
+use Rattle.back_compile.proofs.AcceptedExactly.{accepted-number}
+use Rattle.link_join.specs.Join.{Joined, deliveredIn, resultOn, poolOn, poolRead, joinOn}
+use Rattle.link_join.specs.Statements.{limits, JoinOrder}
+use Rattle.link_join.proofs.JoinLaws.{AcceptedSheet}
 use Rattle.link_join.proofs.Limits.{pooled-number}
 
-module _ (s t ps buffer : List ℕ) (bs : All (λ b. b < 256) s) (bt : All (λ b. b < 256) t) (bp : All (λ b. b < 256) ps) where
-  module _ (x : AcceptedSheet s ps) (y : AcceptedSheet t ps) where
-    abbrev z : Sheet
-    z = pooled (x .sheet) (y .sheet)
+-- ---- two accepted sheets
 
-    small : (n : ℕ) → n < 8 → get ps n < 2 ^ 32
-    small n h = get-small ps bp n
+-- what is answered, and what is then left in the buffer
+pub record Answered (ps buffer : List ℕ) (x y : Sheet) (o : Joined) : Type 0 where
+  pub order : JoinOrder ps buffer x y (o .0)
+  pub written : 2 ^ 32 ≤ o .0 → o .1 ≡ encode (pooled x y) ++ drop (length (encode (pooled x y))) buffer
 
-    number : numberOn (encode z) ps ≡ limits ps z
-    number = pooled-number ps small (x .sheet) (y .sheet) (x .accepted) (y .accepted)
+-- a number that is not above another
+not-over : (m n : ℕ) → (m < n → ⊥) → n ≤ m
+not-over m n h = by-cases (decLt m n) (λ l. absurd (h l)) (λ l. omega arith)
 
-    module _ (same : sameRanks (x .sheet .signals) (y .sheet .signals) ≡ true) where
-      delivered : length (encode z) ≤ 8192 → count z ≤ 64 → allInstructions (programOf ps z) ≤ 4096 → JoinAnswer s t ps buffer (deliveredIn (encode z) buffer)
-      unfolding deliveredIn
-      delivered a b c =
-          let ok = pooled-accepted (get ps) small (length ps) (x .sheet) (y .sheet) (x .accepted) (y .accepted) a b c in
-          by-test (JoinAnswer s t ps buffer) (ltb (length buffer) (length (encode z))) (λ e. short x y same ok (ltb-true (length buffer) (length (encode z)) e))
-          (λ e. done x y same ok (ltb-false (length buffer) (length (encode z)) e))
+module _ (ps buffer : List ℕ) (bp : All (λ b. b < 256) ps) (x y : Sheet) (a : SheetAccepted (get ps) (length ps) x) (b : SheetAccepted (get ps) (length ps) y) where
+  abbrev z : Sheet
+  z = pooled x y
 
-      judged : JoinAnswer s t ps buffer (resultOn (encode z) ps buffer)
-      unfolding resultOn
-      judged =
-          split (ltb 8192 (length (encode z)))
-          (λ a. let n : numberOn (encode z) ps ≡ 3 = number ∙ rw a in rw n (long x y same (ltb-true 8192 (length (encode z)) a)))
-          (λ a. let h = ltb-false 8192 (length (encode z)) a in
-          split (ltb 64 (count z))
-          (λ b. let n : numberOn (encode z) ps ≡ 7 = number ∙ rw (a, b) in rw n (crowded x y same h (ltb-true 64 (count z) b)))
-          (λ b. let k = ltb-false 64 (count z) b in
-          split (ltb 4096 (allInstructions (programOf ps z)))
-          (λ c. let n : numberOn (encode z) ps ≡ 13 = number ∙ rw (a, b, c) in rw n (overlong x y same h k (ltb-true 4096 (allInstructions (programOf ps z)) c)))
-          (λ c. let n : numberOn (encode z) ps ≡ 0 = number ∙ rw (a, b, c) in rw n (delivered h k (ltb-false 4096 (allInstructions (programOf ps z)) c)))))
+  small : (n : ℕ) → n < 8 → get ps n < 2 ^ 32
+  small n h = get-small ps bp n
 
-    pooled-says : JoinAnswer s t ps buffer (poolOn (x .sheet) (y .sheet) ps buffer)
-    unfolding poolOn
-    pooled-says = by-test (JoinAnswer s t ps buffer) (sameRanks (x .sheet .signals) (y .sheet .signals)) (λ e. judged e) (λ e. unlike x y e)
+  module _ (same : sameRanks (x .signals) (y .signals) ≡ true) where
+    alike : sameRanks (x .signals) (y .signals) ≡ false → ⊥
+    alike e = true≢false (sym same ∙ e)
 
-  pub join-says : JoinAnswer s t ps buffer (joinOn s t ps buffer)
+    delivered : (8192 < length (encode z) → ⊥) → (64 < count z → ⊥) → (4096 < allInstructions (programOf ps z) → ⊥) → Answered ps buffer x y (deliveredIn (encode z) buffer)
+    unfolding deliveredIn
+    delivered f g h =
+        let ok = pooled-accepted (get ps) small (length ps) x y a b (not-over 8192 (length (encode z)) f) (not-over 64 (count z) g) (not-over 4096 (allInstructions (programOf ps z)) h) in
+        split (ltb (length buffer) (length (encode z)))
+        (λ e. rw e (record { order = inr (alike, inr (f, inr (g, inr (h, (ok, inl (ltb-true (length buffer) (length (encode z)) e, refl)))))); written = λ l. absurd (omega arith) }))
+        (λ e.
+        let room = ltb-false (length buffer) (length (encode z)) e in
+        rw e (record { order = inr (alike, inr (f, inr (g, inr (h, (ok, inr (λ l. omega arith, refl)))))); written = λ l. refl }))
+
+    judged : First (limits ps z) (λ r. r ≡ 0) (numberOn (encode z) ps) → Answered ps buffer x y (resultOn (encode z) ps buffer)
+    unfolding resultOn
+    judged (inl (f, n)) = rw n (record { order = inr (alike, inl (f, refl)); written = λ l. absurd (omega arith) })
+    judged (inr (f, inl (g, n))) = rw n (record { order = inr (alike, inr (f, inl (g, refl))); written = λ l. absurd (omega arith) })
+    judged (inr (f, inr (g, inl (h, n)))) = rw n (record { order = inr (alike, inr (f, inr (g, inl (h, refl)))); written = λ l. absurd (omega arith) })
+    judged (inr (f, inr (g, inr (h, n)))) = rw n (delivered f g h)
+
+  pooled-says : Answered ps buffer x y (poolOn x y ps buffer)
+  unfolding poolOn
+  pooled-says =
+      by-test (Answered ps buffer x y) (sameRanks (x .signals) (y .signals)) (λ e. judged e (pooled-number ps small x y a b))
+      (λ e. record { order = inl (e, refl); written = λ l. absurd (omega arith) })
+
+  pub join-says : Answered ps buffer x y (joinOn (encode x) (encode y) ps buffer)
   unfolding joinOn
   join-says =
-      by-test (JoinAnswer s t ps buffer) (eqb (numberOn s ps) 0)
-      (λ e. by-test (JoinAnswer s t ps buffer) (eqb (numberOn t ps) 0)
-      (λ d.
-      let x = taken s ps bs (eqb-true (numberOn s ps) 0 e) in
-      let y = taken t ps bt (eqb-true (numberOn t ps) 0 d) in
-      rw (x .read, y .read) (pooled-says x y))
-      (λ d. second-refused (eqb-true (numberOn s ps) 0 e) (eqb-false (numberOn t ps) 0 d)))
-      (λ e. first-refused (eqb-false (numberOn s ps) 0 e))
+      rw (accepted-number (encode x) ps x refl a, accepted-number (encode y) ps y refl b, reads-back x (a .fits), reads-back y (b .fits)) pooled-says
+
+-- ---- any bytes
+
+-- an answer below 2 ^ 32 leaves the buffer as it was
+abbrev Kept : List ℕ → Joined → Type 0
+Kept buffer o = o .0 < 2 ^ 32 → o .1 ≡ buffer
+
+result-kept : (v ps buffer : List ℕ) → Kept buffer (resultOn v ps buffer)
+unfolding resultOn deliveredIn
+result-kept v ps buffer =
+    by-test (Kept buffer) (eqb (numberOn v ps) 0)
+    (λ e. by-test (Kept buffer) (ltb (length buffer) (length v)) (λ _ h. refl) (λ _ h. absurd (omega arith)))
+    (λ e h. refl)
+
+pool-kept : (g h : Got Sheet) (ps buffer : List ℕ) → Kept buffer (poolRead g h ps buffer)
+unfolding poolOn
+pool-kept (bad k) h ps buffer = λ l. refl
+pool-kept (got x rest) (bad k) ps buffer = λ l. refl
+pool-kept (got x rest) (got y more) ps buffer =
+    by-test (Kept buffer) (sameRanks (x .signals) (y .signals)) (λ e. result-kept (encode (pooled x y)) ps buffer) (λ e l. refl)
+
+pub join-kept : (s t ps buffer : List ℕ) → Kept buffer (joinOn s t ps buffer)
+unfolding joinOn
+join-kept s t ps buffer =
+    by-test (Kept buffer) (eqb (numberOn s ps) 0)
+    (λ e. by-test (Kept buffer) (eqb (numberOn t ps) 0) (λ d. pool-kept (readSheet s) (readSheet t) ps buffer) (λ d l. refl))
+    (λ e l. refl)
 
 -- "After the same commits, each half of the joined board equals that sheet's own board, events that it doesn't declare
 -- being passed over."

@@ -109,7 +109,7 @@ unchanged bytes buffer k l c = go (assembled bytes (length buffer))
 pub meant-fits : (bytes : List ℕ) (s : Sheet) → TextMeans bytes s → length (encode s) ≤ 8192 → SheetFits s
 meant-fits bytes s m = sheet-of-text (m .says-so) (m .fits) (m .resolved) .fits
 
-pub meant-known : (bytes : List ℕ) (s : Sheet) → TextMeans bytes s → length (encode s) ≤ 8192 → (v : ℕ → ℕ) → Known (fill v s)
+pub meant-known : (bytes : List ℕ) (s : Sheet) → TextMeans bytes s → (v : ℕ → ℕ) → Known (fill v s)
 meant-known bytes s m = sheet-of-text (m .says-so) (m .fits) (m .resolved) .known
 
 -- ---- other names

@@ -19,7 +19,7 @@ use Rattle.spec_language.specs.Reading.{sheet}
 use Rattle.spec_language.specs.Grammar.{encode, unary, ternary, TermFits, t-literal, t-variable, t-param, t-apply1, t-apply2, t-apply3, NoClauseFor, ClausesFit, ItemFits, ByteFits, SignalFits, EntryFits, SheetFits}
 use Rattle.spec_language.specs.Accepted.{NamesIn, HandlerNamesIn, BehaviourNamesIn, Known}
 use Rattle.spec_language.proofs.RowLaws.{length-out}
-use Rattle.spec_language.proofs.RowNames.{names-sent}
+use Rattle.spec_language.proofs.RowNames.{names-known}
 use Rattle.spec_language.proofs.SheetLaws.{length-fill}
 use Rattle.source_language.specs.Tokens.{same}
 use Rattle.source_language.specs.Text.{TextConstant, plus, minus, Phrase, constant, named, cell, negation, operation, choice, Reaction, on, Body, passive, active, row, TextEvent, event, TextBehaviour, behaviour, Text}
@@ -214,14 +214,14 @@ signals-fit : (ns : List (List ℕ)) (es : List TextEvent) → FitInTurn EventFi
 signals-fit ns [] f = tt
 signals-fit ns (event s n m ∷ es) f = ((f .0 .2, rights-fit m), signals-fit (s ∷ ns) es (f .1))
 
--- within 01's limits but for the length, and every name known
+-- within 01's limits where it is not too long, and every name known
 pub record Sound (s : Sheet) : Type 0 where
   pub fits : length (encode s) ≤ 8192 → SheetFits s
-  pub known : length (encode s) ≤ 8192 → (v : ℕ → ℕ) → Known (fill v s)
+  pub known : (v : ℕ → ℕ) → Known (fill v s)
 
 sheet-sound : (es : List TextEvent) (m : ℕ) (xs : List Entry) → FitInTurn EventFits withEvent [] es → m ≤ 64 → EntriesIn m (length es) m xs
     → Sound (sheet (map signalOf es) xs)
-sheet-sound es m xs f few h = record { fits = fits; known = λ short v. names-sent v s (fits short) .0 (subst (λ k. All (BehaviourNamesIn k) (fillEntries v xs)) (sym (sized v)) (h .known v)) }
+sheet-sound es m xs f few h = record { fits = fits; known = λ v. names-known v s (subst (λ k. All (BehaviourNamesIn k) (fillEntries v xs)) (sym (sized v)) (h .known v)) }
   where
     s : Sheet
     s = sheet (map signalOf es) xs

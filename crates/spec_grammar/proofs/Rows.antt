@@ -17,10 +17,10 @@ use Rattle.spec_language.specs.Syntax.{Phase}
 use Rattle.spec_language.specs.Sheet.{Term, literal, variable, param, apply1, apply2, apply3, Clause, clause, Item, formula, state, row, Signal, Entry, Sheet, cells, cellCount, meant, changeClauses}
 use Rattle.spec_language.specs.Sheet.{renameTerm, renameClauses, cellsOut, entriesOut, rowsOut}
 use Rattle.spec_language.specs.Order.{upTo}
-use Rattle.spec_language.specs.Grammar.{encode, ClausesFit}
-use Rattle.spec_language.specs.Reading.{Got, bad, got, handles, entry, sheet, readSheet}
+use Rattle.spec_language.specs.Grammar.{ClausesFit}
+use Rattle.spec_language.specs.Reading.{Got, bad, got, handles, entry, sheet}
 use Rattle.spec_grammar.proofs.Behaviours.{behaviour-reads}
-use Rattle.spec_grammar.proofs.Faults.{result, exprFault, clausesFault, itemFault, item-result, entriesFault, eventsFault, sheetFault, sheet-result, first}
+use Rattle.spec_grammar.proofs.Faults.{result, exprFault, clausesFault, itemFault, item-result, entriesFault, eventsFault, sheetFault, first}
 
 -- ---- names written otherwise
 
@@ -70,10 +70,6 @@ pub fits-faultless : (n : ℕ) (cs : List Clause) → ClausesFit n cs → clause
 fits-faultless n cs h =
     let x : Entry = entry (state 0 cs) none in
     no-fault (itemFault n 0 (state 0 cs)) x x [] (sym (item-result n 0 (state 0 cs) none) ∙ behaviour-reads n 0 x (omega arith) ((omega arith, h), tt))
-
--- and a sheet that is read has none
-pub got-faultless : (x : Sheet) → readSheet (encode x) ≡ got x [] → sheetFault x ≡ 0
-got-faultless x e = no-fault (sheetFault x) x x [] (sym (sheet-result x) ∙ e)
 
 -- ---- what is asked of rows: n events are declared, and i behaviours stand before the row
 

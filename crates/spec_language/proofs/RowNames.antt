@@ -107,8 +107,13 @@ module _ (v : ℕ → ℕ) (xs : List Entry) where
       (cells-from l (y .viewer) (y .item) (f .0 .0) (r .0), out-from l ys (f .1) (r .1))
 
 -- the names of a sheet's entries as they are sent, and those of its program
-pub names-sent : (v : ℕ → ℕ) (s : Sheet) → SheetFits s
-    → (All (BehaviourNamesIn (size (fill v s))) (fillEntries v (s .entries)) → Known (fill v s)) × (Known (fill v s) → All (BehaviourNamesIn (size (fill v s))) (fillEntries v (s .entries)))
-names-sent v s f =
-    let e : size (fill v s) ≡ cellCount (s .entries) = length-fill v (rowsOut s .entries) ∙ length-out (s .entries) (s .entries) in
-    rw e (out-to v (s .entries) 0 (s .entries), out-from v (s .entries) _ (s .entries) (f .each))
+module _ (v : ℕ → ℕ) (s : Sheet) where
+  sized : size (fill v s) ≡ cellCount (s .entries)
+  sized = length-fill v (rowsOut s .entries) ∙ length-out (s .entries) (s .entries)
+
+  pub names-known : All (BehaviourNamesIn (size (fill v s))) (fillEntries v (s .entries)) → Known (fill v s)
+  names-known = rw sized (out-to v (s .entries) 0 (s .entries))
+
+  pub names-sent : SheetFits s
+      → (All (BehaviourNamesIn (size (fill v s))) (fillEntries v (s .entries)) → Known (fill v s)) × (Known (fill v s) → All (BehaviourNamesIn (size (fill v s))) (fillEntries v (s .entries)))
+  names-sent f = (names-known, rw sized (out-from v (s .entries) _ (s .entries) (f .each)))
