@@ -1,169 +1,191 @@
--- Demand 1 holds: each order is that of the definition's branches, test by test; something that waits outranks the
--- running event just where the next one does.
-use Prim.Native.Nat.{ℕ, zero, suc, _+_, _-_}
-use mathlib.Core.Bool.{true, false, not, true≢false, false≢true}
-use mathlib.Core.Path.{_≡_, refl, _∙_}
-use mathlib.Core.Logic.{_≢_}
-use mathlib.Core.List.{List}
+-- Demand 1 holds: each order is that of the definition's branches, test by test, each test deciding the condition that
+-- it stands for (Foreign, Passives). One that waits outranks the running event just where the test over all of them
+-- says so, by induction on how many.
+use Prim.Native.Nat.{ℕ, zero, suc, _+_, _-_, _≤_, _<_}
+use mathlib.Core.Bool.{Bool, true, false, true≢false, false≢true}
+use mathlib.Core.Path.{_≡_, refl, sym, subst, _∙_}
+use mathlib.Core.Logic.{_≢_, _⊎_, inl, inr, ⊎-elim}
+use mathlib.Core.List.{List, [], _∷_}
 use native.Mathlib.Omega.{arith}
 use lib.Dec.{ltb, eqb}
 use lib.ListN.{length, replicate}
-use borrow.Author.Tests.{eqb-true, eqb-false}
-use Rattle.lib_base.proofs.Tools.{by-test, split}
+use borrow.Author.Tests.{ltb-true, ltb-false, lt-ltb, eqb-true, eqb-false}
+use Rattle.lib_base.specs.Basics.{pick}
+use Rattle.lib_base.proofs.Tools.{by-test, past, neither, split}
 use Rattle.lib_word.specs.Word.{get}
 use Rattle.spec_language.specs.Refusals.{foreign}
 use Rattle.spec_language.specs.Rights.{may}
 use Rattle.format_layout.specs.Layout.{eventWord, eventCount, behaviourCount, sendersAt, viewersAt, taken, waitingCount, runningFlag, runningEvent, position, eventAt, tableFits, ours}
 use Rattle.run_queue.specs.Queue.{best, anyAbove}
-use Rattle.run_queue.proofs.Choice.{any-above}
 use Rattle.run_start.specs.Start.{CallResult, startOn}
 use Rattle.run_arrive.specs.Arrivals.{queueFull, arriveWith, arriveKnown, arriveIn, arriveOn}
 use Rattle.run_board.specs.Board.{isMasked, copyBackUnderWay, copyBackOn, boardWith, boardKnown, boardIn, boardOn}
 use Rattle.run_dispatch.specs.Dispatch.{said, startAt, preemptAt}
 use Rattle.run_advance.specs.Advance.{commitSaid, countInstruction, executeOn, executeAt, advanceOn}
-use Rattle.run_step.specs.Machine.{meet, contestOn, whileRunning, whileResting, stepWith, stepIn, stepOn}
+use Rattle.run_step.specs.Machine.{whileResting, outranked, stepWith, stepIn, stepOn}
+use Rattle.run_step.proofs.Rule.{preempts, goes-on}
 use Rattle.run_forecast.specs.Forecast.{forecastOn}
 use Rattle.run_carry.specs.Carry.{carryOn}
 use Rattle.run_mend.specs.Mending.{handKnown, verdict, mendWith, mendAfter, mendIn, mendOn}
 use Rattle.back_compile.specs.Statements.{First}
 use Rattle.back_compile.proofs.AcceptedExactly.{refused-unchanged}
-use Rattle.back_compile.proofs.Orders.{if-true, if-false, if-less, if-most, compile-order}
+use Rattle.back_compile.proofs.Orders.{decided, if-true, if-false, if-less, if-most, compile-order}
 use Rattle.engine.proofs.Refused as refusals
 use Rattle.engine.proofs.Beyond as beyond
-use Rattle.claims.specs.Demand1.{startOrder, arriveOrder, boardOrder, someOutranks, instructionFits, stepForeign, passivesRun, mendOrder, Demand1}
-use Rattle.claims.proofs.Passives.{carry-answers}
+use Rattle.claims.specs.Demand1.{OurTable, OurRound, arriveOrder, boardOrder, GivesWay, RunsOne, instructionFits, mendOrder, Demand1}
+use Rattle.claims.proofs.Foreign.{our-table, table-fits, our-round, round-fits, full-says, full-is, declared-says, declared-is}
+use Rattle.claims.proofs.Passives.{passivesPass, passives-say, passives-are, carry-answers}
 
-start-order : (t l : List ℕ) → First (startOrder t l) (λ r. r ≡ 0) (startOn t l .0)
+-- a test stands for a condition A: where it fails, and so A does, X is to be shown, and else Y
+unless : {A X Y : Type 0} (b : Bool) → (b ≡ true → A) → (A → b ≡ true) → (b ≡ false → X) → (b ≡ true → Y) → ((A → ⊥) × X) ⊎ (((A → ⊥) → ⊥) × Y)
+unless b is of f g = split b (λ e. inr (λ z. z (is e), g e)) (λ e. inl (λ a. true≢false (sym (of a) ∙ e), f e))
+
+module _ {X Y : Type 0} where
+  unless-table : (t : List ℕ) → (tableFits t ≡ false → X) → (tableFits t ≡ true → Y) → ((OurTable t → ⊥) × X) ⊎ (((OurTable t → ⊥) → ⊥) × Y)
+  unless-table t = unless (tableFits t) (our-table t) (table-fits t)
+
+  unless-ours : (t l : List ℕ) → (ours t l ≡ false → X) → (ours t l ≡ true → Y) → ((OurRound t l → ⊥) × X) ⊎ (((OurRound t l → ⊥) → ⊥) × Y)
+  unless-ours t l = unless (ours t l) (our-round t l) (round-fits t l)
+
+start-order : (t l : List ℕ) → First ((OurTable t → ⊥, foreign) ∷ (length l < 2048, foreign) ∷ []) (λ r. r ≡ 0) (startOn t l .0)
 unfolding startOn
-start-order t l = if-false (tableFits t) (λ a. rw a) (λ a. if-less (length l) 2048 (λ b. rw (a, b)) (λ b. rw (a, b)))
+start-order t l = unless-table t (λ a. rw a) (λ a. if-less (length l) 2048 (λ b. rw (a, b)) (λ b. rw (a, b)))
 
 arrive-order : (t l : List ℕ) (e who : ℕ) → First (arriveOrder t l e who) (λ r. r ≡ 0) (arriveOn t l e who .0)
 unfolding arriveOn arriveIn arriveKnown arriveWith
 arrive-order t l e who =
-    if-false (ours t l) (λ a. rw a)
+    unless-ours t l (λ a. rw a)
     (λ a. if-most 8 who (λ b. rw (a, b))
     (λ b. if-most (eventCount t) e (λ c. rw (a, b, c))
     (λ c. if-false (may (sendersAt t e) who) (λ d. rw (a, b, c, d))
-    (λ d. if-true (queueFull (waitingCount l) (runningFlag l)) (λ f. rw (a, b, c, d, f))
+    (λ d. decided (queueFull (waitingCount l) (runningFlag l)) (full-says l) (full-is l) (λ f. rw (a, b, c, d, f))
     (λ f. if-most 1000000 (taken l) (λ g. rw (a, b, c, d, f, g)) (λ g. rw (a, b, c, d, f, g)))))))
 
 board-order : (t l : List ℕ) (i who : ℕ) → First (boardOrder t l i who) (λ r. r ≡ 4294967296 + get l (136 + i)) (boardOn t l i who)
 unfolding boardOn boardIn boardKnown boardWith
 board-order t l i who =
-    if-false (ours t l) (λ a. rw a)
+    unless-ours t l (λ a. rw a)
     (λ a. if-most 8 who (λ b. rw (a, b))
     (λ b. if-most (behaviourCount t) i (λ c. rw (a, b, c))
     (λ c. if-false (may (viewersAt t i) who) (λ d. rw (a, b, c, d))
     (λ d. if-true (copyBackUnderWay t l) (λ f. rw (a, b, c, d, f)) (λ f. rw (a, b, c, d, f))))))
 
 mend-order : (old t l : List ℕ) → First (mendOrder old t l) (λ r. r ≡ 0) (mendOn old t l .0)
-unfolding mendOn mendIn mendAfter mendWith verdict
+unfolding mendOn mendIn mendAfter mendWith verdict copyBackOn
 mend-order old t l =
     let carried = carry-answers old t l in
-    if-false (ours old l) (λ a. rw a)
-    (λ a. if-false (tableFits t) (λ b. rw (a, b))
-    (λ b. if-false (passivesRun t)
+    unless-ours old l (λ a. rw a)
+    (λ a. unless-table t (λ b. rw (a, b))
+    (λ b. unless (passivesPass t) (passives-say t) (passives-are t)
     (λ c. let q : carryOn old t l (replicate 2048 0) .0 ≡ foreign = carried ∙ rw c in rw (a, b, q))
     (λ c. let q : carryOn old t l (replicate 2048 0) .0 ≡ 0 = carried ∙ rw c in
-    if-true (copyBackOn old l) (λ d. rw (a, b, q, d)) (λ d. if-false (handKnown t l) (λ f. rw (a, b, q, d, f)) (λ f. rw (a, b, q, d, f))))))
+    if-true (copyBackUnderWay old l) (λ d. rw (a, b, q, d))
+    (λ d. unless (handKnown t l) (declared-says t l) (declared-is t l) (λ f. rw (a, b, q, d, f)) (λ f. rw (a, b, q, d, f))))))
+
+forecast-order : (t l : List ℕ) → First ((OurRound t l → ⊥, foreign) ∷ []) (λ r. 4294967296 ≤ r) (forecastOn t l)
+unfolding forecastOn
+forecast-order t l = unless-ours t l (λ a. rw a) (λ a. rw a (omega arith))
 
 -- ---- steps
 
--- something that waits outranks the running event just where the next one does
-outranks-is : (t l : List ℕ) (r n : ℕ) → someOutranks t l r n ≡ anyAbove t l r n
-unfolding someOutranks anyAbove
-outranks-is t l r zero = refl
-outranks-is t l r (suc n) = split (ltb r (eventWord t (eventAt l n) 0)) (λ e. rw e) (λ e. rw e (outranks-is t l r n))
+-- one of the first n that wait has a rank above r
+abbrev SomeAbove : List ℕ → List ℕ → ℕ → ℕ → Type 0
+SomeAbove t l r n = (i : ℕ) × (i < n) × (r < eventWord t (eventAt l i) 0)
 
-none-above : (t l : List ℕ) (r n : ℕ) → eqb n 0 ≡ true → someOutranks t l r n ≡ false
-unfolding someOutranks
-none-above t l r n e = rw (eqb-true n 0 e)
+above-says : (t l : List ℕ) (r n : ℕ) → anyAbove t l r n ≡ true → SomeAbove t l r n
+unfolding anyAbove
+above-says t l r zero h = absurd (false≢true h)
+above-says t l r (suc n) h =
+    split (ltb r (eventWord t (eventAt l n) 0))
+    (λ e. (n, omega arith, ltb-true r (eventWord t (eventAt l n) 0) e))
+    (λ e. let s = above-says t l r n (rw e at h) in (s .0, omega (arith, s .1), s .2))
 
-some-above : (t l : List ℕ) (r n : ℕ) → eqb n 0 ≡ false → someOutranks t l r n ≡ ltb r (eventWord t (eventAt l (best t l n)) 0)
-some-above t l r n e = let h = eqb-false n 0 e in outranks-is t l r n ∙ any-above t l r n (omega arith)
-
-advance-refused : (t l : List ℕ) → not (instructionFits t l) ≡ true → advanceOn t l ≡ (foreign, l)
-unfolding advanceOn executeAt executeOn
-advance-refused t l = split (instructionFits t l) (λ e h. absurd (false≢true (rw e at h))) (λ e h. rw e)
-
-step-refused : (t l : List ℕ) → stepForeign t l ≡ true → stepOn t l ≡ (foreign, l)
-unfolding stepOn stepIn stepWith whileResting whileRunning contestOn meet
-step-refused t l =
-    let n = waitingCount l in
-    let r = eventWord t (runningEvent l) 0 in
-    split (ours t l)
-    (λ a. split (eqb (runningFlag l) 0)
-    (λ b h. absurd (false≢true (rw (a, b) at h)))
-    (λ b. split (isMasked (eventWord t (runningEvent l) 2) (eventWord t (runningEvent l) 3) (position l))
-    (λ d. split (eqb n 0)
-    (λ c h. rw (a, b, c) (advance-refused t l (rw (a, b, d) at h)))
-    (λ c h. rw (a, b, c, d) (advance-refused t l (rw (a, b, d) at h))))
-    (λ d. split (eqb n 0)
-    (λ c h. rw (a, b, c) (advance-refused t l (rw (a, b, d, none-above t l r n c) at h)))
-    (λ c. split (ltb r (eventWord t (eventAt l (best t l n)) 0))
-    (λ f h. absurd (false≢true (rw (a, b, d, some-above t l r n c, f) at h)))
-    (λ f h. rw (a, b, c, d, f) (advance-refused t l (rw (a, b, d, some-above t l r n c, f) at h)))))))
-    (λ a h. rw a)
+none-above : (t l : List ℕ) (r n : ℕ) → anyAbove t l r n ≡ false → SomeAbove t l r n → ⊥
+unfolding anyAbove
+none-above t l r zero h s = omega (arith, s .1)
+none-above t l r (suc n) h s =
+    let q = neither (ltb r (eventWord t (eventAt l n) 0)) (anyAbove t l r n) h in
+    split (eqb (s .0) n)
+    (λ e. let z : eventWord t (eventAt l (s .0)) 0 ≡ eventWord t (eventAt l n) 0 = rw (eqb-true (s .0) n e) in
+    omega (arith, z, ltb-false r (eventWord t (eventAt l n) 0) (q .0), s .2))
+    (λ e. none-above t l r n (q .1) (s .0, omega (arith, s .1, eqb-false (s .0) n e), s .2))
 
 -- an answer that is not 14
 abbrev Taken : CallResult → Type 0
 Taken o = o .0 ≢ foreign
 
-commit-not : (n e w : ℕ) → commitSaid n e w ≢ foreign
-unfolding commitSaid said
-commit-not n e w = by-test (λ (x : ℕ). x ≢ foreign) (eqb w 0) (λ _. omega arith) (λ _. omega arith)
+module _ (t l : List ℕ) where
+  gives-way : outranked t l (waitingCount l) ≡ true → GivesWay t l
+  unfolding outranked
+  gives-way h =
+      let q = past (isMasked (eventWord t (runningEvent l) 2) (eventWord t (runningEvent l) 3) (position l)) (anyAbove t l (eventWord t (runningEvent l) 0) (waitingCount l)) h in
+      (q .0, above-says t l (eventWord t (runningEvent l) 0) (waitingCount l) (q .1))
 
-advance-taken : (t l : List ℕ) → not (instructionFits t l) ≡ false → Taken (advanceOn t l)
-unfolding advanceOn executeAt executeOn countInstruction
-advance-taken t l =
-    split (instructionFits t l)
-    (λ e h. rw e (by-test Taken (ltb (position l + 1) (eventWord t (runningEvent l) 2)) (λ _. omega arith) (λ _. commit-not _ _ _)))
-    (λ e h. absurd (true≢false (rw e at h)))
+  goes-first : outranked t l (waitingCount l) ≡ false → GivesWay t l → ⊥
+  unfolding outranked
+  goes-first h g = none-above t l (eventWord t (runningEvent l) 0) (waitingCount l) (rw (g .0) at h) (g .1)
 
-start-taken : (l : List ℕ) (b m : ℕ) → Taken (startAt l b m)
-unfolding startAt said
-start-taken l b m = omega arith
+  advance-refused : instructionFits t l ≡ false → advanceOn t l .0 ≡ foreign
+  unfolding advanceOn executeAt executeOn
+  advance-refused e = rw e
 
-preempt-taken : (l : List ℕ) (b : ℕ) → Taken (preemptAt l b)
-unfolding preemptAt said
-preempt-taken l b = omega arith
+  commit-not : (n e w : ℕ) → commitSaid n e w ≢ foreign
+  unfolding commitSaid said
+  commit-not n e w = by-test (λ (x : ℕ). x ≢ foreign) (eqb w 0) (λ _. omega arith) (λ _. omega arith)
 
-step-taken : (t l : List ℕ) → stepForeign t l ≡ false → stepOn t l .0 ≢ foreign
-unfolding stepOn stepIn stepWith whileResting whileRunning contestOn meet
-step-taken t l =
-    let n = waitingCount l in
-    let r = eventWord t (runningEvent l) 0 in
-    split (ours t l)
-    (λ a. split (eqb (runningFlag l) 0)
-    (λ b h. rw (a, b) (by-test Taken (eqb n 0) (λ _. omega arith) (λ _. start-taken l (best t l n) (n - 1))))
-    (λ b. split (isMasked (eventWord t (runningEvent l) 2) (eventWord t (runningEvent l) 3) (position l))
-    (λ d. split (eqb n 0)
-    (λ c h. rw (a, b, c) (advance-taken t l (rw (a, b, d) at h)))
-    (λ c h. rw (a, b, c, d) (advance-taken t l (rw (a, b, d) at h))))
-    (λ d. split (eqb n 0)
-    (λ c h. rw (a, b, c) (advance-taken t l (rw (a, b, d, none-above t l r n c) at h)))
-    (λ c. split (ltb r (eventWord t (eventAt l (best t l n)) 0))
-    (λ f h. rw (a, b, c, d, f) (preempt-taken l (best t l n)))
-    (λ f h. rw (a, b, c, d, f) (advance-taken t l (rw (a, b, d, some-above t l r n c, f) at h)))))))
-    (λ a h. absurd (true≢false (rw a at h)))
+  advance-taken : instructionFits t l ≡ true → Taken (advanceOn t l)
+  unfolding advanceOn executeAt executeOn countInstruction
+  advance-taken e = rw e (by-test Taken (ltb (position l + 1) (eventWord t (runningEvent l) 2)) (λ _. omega arith) (λ _. commit-not _ _ _))
 
-forecast-order : (t l : List ℕ) → ours t l ≡ false → forecastOn t l ≡ foreign
-unfolding forecastOn
-forecast-order t l h = rw h
+  start-taken : (b m : ℕ) → Taken (startAt l b m)
+  unfolding startAt said
+  start-taken b m = omega arith
+
+  preempt-taken : (b : ℕ) → Taken (preemptAt l b)
+  unfolding preemptAt said
+  preempt-taken b = omega arith
+
+  rest-taken : eqb (runningFlag l) 0 ≡ true → Taken (stepIn t l)
+  unfolding stepIn stepWith whileResting
+  rest-taken e = rw e (by-test Taken (eqb (waitingCount l) 0) (λ _. omega arith) (λ _. start-taken (best t l (waitingCount l)) (waitingCount l - 1)))
+
+  -- a step would run an instruction that may not run
+  abbrev StepUnfit : Type 0
+  StepUnfit = RunsOne t l × (instructionFits t l ≡ false)
+
+  -- the running event goes on: its instruction decides
+  advance-order : runningFlag l ≢ 0 → outranked t l (waitingCount l) ≡ false
+      → (StepUnfit × (stepIn t l .0 ≡ foreign)) ⊎ ((StepUnfit → ⊥) × Taken (stepIn t l))
+  advance-order f o =
+      let q : advanceOn t l ≡ stepIn t l = goes-on t l refl f refl refl o refl in
+      split (instructionFits t l)
+      (λ e. inr (λ h. true≢false (sym e ∙ h .1), subst Taken q (advance-taken e)))
+      (λ e. inl (((f, goes-first o), e), subst (λ (r : CallResult). r .0 ≡ foreign) q (advance-refused e)))
+
+  step-order : First ((OurRound t l → ⊥, foreign) ∷ (StepUnfit, foreign) ∷ []) (λ r. r ≢ foreign) (stepOn t l .0)
+  unfolding stepOn
+  step-order =
+      unless-ours t l (λ a. rw a)
+      (λ a. rw a (split (eqb (runningFlag l) 0)
+      (λ b. inr (λ h. h .0 .0 (eqb-true (runningFlag l) 0 b), rest-taken b))
+      (λ b. let f = eqb-false (runningFlag l) 0 b in
+      split (outranked t l (waitingCount l))
+      (λ o. inr (λ h. h .0 .1 (gives-way o), subst Taken (preempts t l refl f refl refl o refl refl) (preempt-taken (best t l (waitingCount l)))))
+      (λ o. advance-order f o))))
 
 pub demand-1 : Demand1
 demand-1 = record {
   compile-order = compile-order;
   start-order = start-order;
   arrive-order = arrive-order;
+  step-order = step-order;
   board-order = board-order;
   mend-order = mend-order;
   forecast-order = forecast-order;
-  step-refused = step-refused;
-  step-taken = step-taken;
   compile-unchanged = refused-unchanged;
   start-unchanged = refusals.start-refused;
   arrive-unchanged = refusals.arrive-refused;
+  step-unchanged = refusals.step-refused;
   mend-unchanged = refusals.mend-refused;
   compile-beyond = beyond.compile-beyond;
   start-beyond = beyond.start-beyond;

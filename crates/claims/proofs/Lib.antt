@@ -1,3 +1,4 @@
+pub mod Foreign
 pub mod Passives
 pub mod Demand1Holds
 pub mod RequestsHold

@@ -2,7 +2,7 @@
 -- on the stack is how deep its operation makes it, whatever the values. By its operation, and by induction on how many
 -- instructions are left.
 use Prim.Native.Nat.{ℕ, zero, suc, _+_, _*_, _-_, _/_, _%_, _≤_}
-use mathlib.Core.Bool.{Bool, false}
+use mathlib.Core.Bool.{Bool, true, false, _&&_, and-eq-true-iff}
 use mathlib.Core.Path.{_≡_, refl, _∙_}
 use mathlib.Core.List.{List}
 use native.Mathlib.Omega.{arith}
@@ -16,13 +16,15 @@ use Rattle.lib_word.proofs.Laws.{length-put, get-same, get-other}
 use Rattle.lib_arith.specs.Functions.{arity, result, over}
 use Rattle.spec_language.specs.Refusals.{foreign}
 use Rattle.format_layout.specs.Layout.{passivesStart, passivesLength, codeFits}
+use Rattle.format_layout.proofs.BoundsLaws.{code-bound}
 use Rattle.run_stack.specs.Stack.{pushOn, popTo, noted, applyOne, applyTwo, applyThree, applyOn}
 use Rattle.run_instruction.specs.Instruction.{transfer, perform}
 use Rattle.run_burst.proofs.Performs.{perform-keeps}
 use Rattle.run_stretch.specs.Stretch.{stretchOn, stretchAt, stretchFrom}
 use Rattle.run_carry.specs.Carry.{filledStore, workedOut, carryOn}
 use Rattle.run_carry.proofs.CarryLaws.{length-filled, filled-head}
-use Rattle.claims.specs.Demand1.{mayRunAt, depthAfter, allRun, passivesRun}
+use Rattle.claims.specs.Demand1.{mayRunAt, depthAfter, allRun, PassivesRun}
+use Rattle.claims.proofs.Foreign.{code-fits}
 
 -- ---- how deep the stack is
 
@@ -108,7 +110,19 @@ stretch-answers t k (suc n) d l long q =
     rw (← q, e) ih)
     (λ e. rw (← q, e))
 
-pub carry-answers : (old t l : List ℕ) → carryOn old t l (replicate 2048 0) .0 ≡ pick (passivesRun t) 0 foreign
+-- the tests of the passives' instructions
+abbrev pub passivesPass : List ℕ → Bool
+passivesPass t = codeFits (passivesStart t) (passivesLength t) && allRun t (passivesStart t) (passivesLength t) 0
+
+pub passives-say : (t : List ℕ) → passivesPass t ≡ true → PassivesRun t
+passives-say t h =
+    let p = and-eq-true-iff (codeFits (passivesStart t) (passivesLength t)) (allRun t (passivesStart t) (passivesLength t) 0) .0 h in
+    (code-bound (passivesStart t) (passivesLength t) (p .0), p .1)
+
+pub passives-are : (t : List ℕ) → PassivesRun t → passivesPass t ≡ true
+passives-are t h = rw (code-fits (passivesStart t) (passivesLength t) (h .0)) (h .1)
+
+pub carry-answers : (old t l : List ℕ) → carryOn old t l (replicate 2048 0) .0 ≡ pick (passivesPass t) 0 foreign
 unfolding carryOn workedOut get getAt
 carry-answers old t l =
     let m = filledStore old t l (replicate 2048 0) 64 in

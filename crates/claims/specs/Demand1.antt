@@ -3,7 +3,7 @@
 -- bytes and numbers, is accepted, ends, and stays inside the buffers lent to it." That each call ends and stays inside
 -- is the proof of its code; here: which number, when, in which order, and what is left. For all bytes and numbers.
 use Prim.Native.Nat.{ℕ, zero, suc, _+_, _*_, _-_, _/_, _%_, _≤_, _<_}
-use mathlib.Core.Bool.{Bool, true, false, not, _&&_, _||_}
+use mathlib.Core.Bool.{Bool, true, false, _&&_}
 use mathlib.Core.Path.{_≡_}
 use mathlib.Core.Logic.{_≢_}
 use mathlib.Core.List.{List, [], _∷_}
@@ -15,73 +15,66 @@ use Rattle.lib_arith.specs.Functions.{arity}
 use Rattle.spec_language.specs.Refusals.{shortTable, longProgram, foreign, noPlayer, undeclaredEvent, noRight, fullQueue, spent, noBehaviour, settling, undeclaredInHand}
 use Rattle.spec_language.specs.Reading.{readSheet}
 use Rattle.spec_language.specs.Rights.{may}
-use Rattle.format_layout.specs.Layout.{eventWord, eventCount, behaviourCount, sendersAt, viewersAt, taken, waitingCount, runningFlag, runningEvent, position, depth, eventAt, passivesStart, passivesLength, codeFits, tableFits, ours}
+use Rattle.format_layout.specs.Layout.{eventWord, eventCount, behaviourCount, sendersAt, viewersAt, passivesStart, passivesLength, eventOf, playerOf, taken, waitingCount, runningFlag, runningWord, runningEvent, position, depth, wordAt, eventAt}
 use Rattle.run_allowed.specs.Allowed.{mayRun}
 use Rattle.run_start.specs.Start.{startOn}
-use Rattle.run_arrive.specs.Arrivals.{queueFull, arriveOn}
-use Rattle.run_board.specs.Board.{isMasked, copyBackUnderWay, copyBackOn, boardOn}
+use Rattle.run_arrive.specs.Arrivals.{arriveOn}
+use Rattle.run_board.specs.Board.{isMasked, copyBackUnderWay, boardOn}
 use Rattle.run_step.specs.Machine.{stepOn}
 use Rattle.run_forecast.specs.Forecast.{forecastOn}
-use Rattle.run_mend.specs.Mending.{handKnown, mendOn}
+use Rattle.run_mend.specs.Mending.{mendOn}
 use Rattle.back_compile.specs.Verdict.{compileOn}
 use Rattle.back_compile.specs.Statements.{First, AfterReading}
 use Rattle.engine.specs.Beyond.{UntouchedFrom}
 
--- ---- the conditions of each call with their numbers, in their order
+-- ---- a table and a round that are not foreign
 
--- "Start: 14 for the two lengths and the table only"
-abbrev pub startOrder : List ℕ → List ℕ → List (Type 0 × ℕ)
-startOrder t l = (tableFits t ≡ false, foreign) ∷ (length l < 2048, foreign) ∷ []
+-- "Foreign: table .. shorter than stated; counts above 32 events, 64 behaviours ..; code outside 4,096"
+pub record OurTable (t : List ℕ) : Type 0 where
+  pub long : 34816 ≤ length t
+  pub few-events : eventCount t ≤ 32
+  pub few-behaviours : behaviourCount t ≤ 64
+  pub code-within : (e : ℕ) → e < eventCount t → eventWord t e 1 + eventWord t e 2 ≤ 4096
 
--- "Arrival: 14, 15, 16, 17."; 02, M-107: 24 after 14, 25 after 15
-abbrev pub arriveOrder : List ℕ → List ℕ → ℕ → ℕ → List (Type 0 × ℕ)
-arriveOrder t l e who =
-    (ours t l ≡ false, foreign)
-    ∷ (8 ≤ who, noPlayer)
-    ∷ (eventCount t ≤ e, undeclaredEvent)
-    ∷ (may (sendersAt t e) who ≡ false, noRight)
-    ∷ (queueFull (waitingCount l) (runningFlag l) ≡ true, fullQueue) ∷ (1000000 ≤ taken l, spent) ∷ []
+-- P of each arrival in hand, by the word of its event and player: those that wait, and the running one
+abbrev pub EachInHand : (ℕ → Type 0) → List ℕ → Type 0
+EachInHand P l = ((i : ℕ) → i < waitingCount l → P (wordAt l i)) × (runningFlag l ≢ 0 → P (runningWord l))
 
--- "Board: 14, 18, 19."; 02, M-107: 24 after 14, 25 after 18
-abbrev pub boardOrder : List ℕ → List ℕ → ℕ → ℕ → List (Type 0 × ℕ)
-boardOrder t l i who =
-    (ours t l ≡ false, foreign)
-    ∷ (8 ≤ who, noPlayer)
-    ∷ (behaviourCount t ≤ i, noBehaviour)
-    ∷ (may (viewersAt t i) who ≡ false, noRight)
-    ∷ (copyBackUnderWay t l ≡ true, settling) ∷ []
+-- how many are in hand
+abbrev pub handCount : List ℕ → ℕ
+handCount l = waitingCount l + pick (eqb (runningFlag l) 0) 0 1
 
--- ---- an instruction in the table
+-- ".. or round shorter than stated; .. 64 in hand; .. an undeclared event in hand; running position outside its event's
+-- code; evaluation stack above 64"; 02, M-107: "24 when the player is above 7, after 14, which also covers such a
+-- player in hand"
+pub record OurRound (t l : List ℕ) : Type 0 where
+  pub table : OurTable t
+  pub long : 2048 ≤ length l
+  pub few-in-hand : handCount l ≤ 64
+  pub shallow : depth l ≤ 64
+  pub hand : EachInHand (λ w. (eventOf w < eventCount t) × (playerOf w < 8)) l
+  pub running : runningFlag l ≢ 0 → position l < eventWord t (runningEvent l) 2
 
--- instruction k may run on a stack of depth d
+-- ---- an instruction that may run, and one that a step would run
+
+-- instruction k may run on a stack of depth d: it is not "an instruction not of this paper, with a slot above 63, or
+-- taking from an empty or adding to a full stack"
 abbrev pub mayRunAt : List ℕ → ℕ → ℕ → Bool
 mayRunAt t k d = mayRun (get t (512 + k * 2) / 256) (get t (512 + k * 2) % 256) d
 
--- ---- "Step: 14." and, "for a step that would run one, an instruction not of this paper ..": it runs one where
--- something runs, unless it is unmasked and something that waits outranks it
+-- the running event is unmasked, and one that waits is of a higher rank
+abbrev pub GivesWay : List ℕ → List ℕ → Type 0
+GivesWay t l =
+    (isMasked (eventWord t (runningEvent l) 2) (eventWord t (runningEvent l) 3) (position l) ≡ false)
+    × ((i : ℕ) × (i < waitingCount l) × (eventWord t (runningEvent l) 0 < eventWord t (eventAt l i) 0))
 
--- the event of one of the first n that wait has a rank above r
-unfoldable pub someOutranks : List ℕ → List ℕ → ℕ → ℕ → Bool
-someOutranks t l r zero = false
-someOutranks t l r (suc n) = ltb r (eventWord t (eventAt l n) 0) || someOutranks t l r n
+-- "a step that would run one"
+abbrev pub RunsOne : List ℕ → List ℕ → Type 0
+RunsOne t l = (runningFlag l ≢ 0) × (GivesWay t l → ⊥)
 
-abbrev pub givesWay : List ℕ → List ℕ → Bool
-givesWay t l =
-    not (isMasked (eventWord t (runningEvent l) 2) (eventWord t (runningEvent l) 3) (position l))
-    && someOutranks t l (eventWord t (runningEvent l) 0) (waitingCount l)
-
-abbrev pub runsOne : List ℕ → List ℕ → Bool
-runsOne t l = not (eqb (runningFlag l) 0) && not (givesWay t l)
-
--- the instruction at the running one's count may run
+-- the instruction at the running event's count may run
 abbrev pub instructionFits : List ℕ → List ℕ → Bool
 instructionFits t l = mayRunAt t (eventWord t (runningEvent l) 1 + position l) (depth l)
-
-abbrev pub stepForeign : List ℕ → List ℕ → Bool
-stepForeign t l = not (ours t l) || (runsOne t l && not (instructionFits t l))
-
--- ---- 02, M-112: 14, which looks "at the round with the old table, at the new table's length, counts and code, and at
--- each instruction that the passives need"; "19, checked after 14"; "28 .., checked after 19"
 
 -- how deep a stack of depth d is after operation op with slot s: push, load and fetch add one, a function takes its
 -- arguments and adds one, save and defer take one
@@ -93,37 +86,63 @@ unfoldable pub allRun : List ℕ → ℕ → ℕ → ℕ → Bool
 allRun t k zero d = true
 allRun t k (suc n) d = mayRunAt t k d && allRun t (k + 1) n (depthAfter (get t (512 + k * 2) / 256) (get t (512 + k * 2) % 256) d)
 
--- the instructions that the passives need lie within the table's, and may run
-abbrev pub passivesRun : List ℕ → Bool
-passivesRun t = codeFits (passivesStart t) (passivesLength t) && allRun t (passivesStart t) (passivesLength t) 0
+-- 02, M-112: "each instruction that the passives need" lies within 4,096 and may run
+abbrev pub PassivesRun : List ℕ → Type 0
+PassivesRun t = (passivesStart t + passivesLength t ≤ 4096) × (allRun t (passivesStart t) (passivesLength t) 0 ≡ true)
 
+-- ---- the longer orders: a call's conditions with their numbers
+
+-- "Arrival: 14, 15, 16, 17."; 02, M-107: 24 after 14, 25 after 15
+abbrev pub arriveOrder : List ℕ → List ℕ → ℕ → ℕ → List (Type 0 × ℕ)
+arriveOrder t l e who =
+    (OurRound t l → ⊥, foreign)
+    ∷ (8 ≤ who, noPlayer)
+    ∷ (eventCount t ≤ e, undeclaredEvent)
+    ∷ (may (sendersAt t e) who ≡ false, noRight)
+    ∷ (64 ≤ handCount l, fullQueue) ∷ (1000000 ≤ taken l, spent) ∷ []
+
+-- "Board: 14, 18, 19."; 02, M-107: 24 after 14, 25 after 18
+abbrev pub boardOrder : List ℕ → List ℕ → ℕ → ℕ → List (Type 0 × ℕ)
+boardOrder t l i who =
+    (OurRound t l → ⊥, foreign)
+    ∷ (8 ≤ who, noPlayer)
+    ∷ (behaviourCount t ≤ i, noBehaviour)
+    ∷ (may (viewersAt t i) who ≡ false, noRight)
+    ∷ (copyBackUnderWay t l ≡ true, settling) ∷ []
+
+-- 02, M-112: 14, which looks "at the round with the old table, at the new table's length, counts and code, and at each
+-- instruction that the passives need"; "19, checked after 14"; "28 when the hand holds an event that the new sheet
+-- doesn't declare, checked after 19"
 abbrev pub mendOrder : List ℕ → List ℕ → List ℕ → List (Type 0 × ℕ)
 mendOrder old t l =
-    (ours old l ≡ false, foreign)
-    ∷ (tableFits t ≡ false, foreign)
-    ∷ (passivesRun t ≡ false, foreign)
-    ∷ (copyBackOn old l ≡ true, settling)
-    ∷ (handKnown t l ≡ false, undeclaredInHand) ∷ []
+    (OurRound old l → ⊥, foreign)
+    ∷ (OurTable t → ⊥, foreign)
+    ∷ (PassivesRun t → ⊥, foreign)
+    ∷ (copyBackUnderWay old l ≡ true, settling)
+    ∷ (EachInHand (λ w. eventOf w < eventCount t) l → ⊥, undeclaredInHand) ∷ []
 
 pub record Demand1 : Type 0 where
   -- "A call is refused by the conditions and order of document 01"; "Every other call .. is accepted": 0
   -- compile: "1, 2, 3; then left to right, the first fault met; then 11, 12, 13." 02: 2 is never given, 20 after 11
   pub compile-order : (s ps t : List ℕ)
       → First ((length t < 34816, shortTable) ∷ (8192 < length s, longProgram) ∷ []) (AfterReading (readSheet s) ps) (compileOn s ps t .0)
-  pub start-order : (t l : List ℕ) → First (startOrder t l) (λ r. r ≡ 0) (startOn t l .0)
+  -- "Start: 14 for the two lengths and the table only"
+  pub start-order : (t l : List ℕ) → First ((OurTable t → ⊥, foreign) ∷ (length l < 2048, foreign) ∷ []) (λ r. r ≡ 0) (startOn t l .0)
   pub arrive-order : (t l : List ℕ) (e who : ℕ) → First (arriveOrder t l e who) (λ r. r ≡ 0) (arriveOn t l e who .0)
+  -- "Step: 14."; one that is accepted answers what it did
+  pub step-order : (t l : List ℕ)
+      → First ((OurRound t l → ⊥, foreign) ∷ (RunsOne t l × (instructionFits t l ≡ false), foreign) ∷ []) (λ r. r ≢ foreign) (stepOn t l .0)
   -- 2 ^ 32 and the word
   pub board-order : (t l : List ℕ) (i who : ℕ) → First (boardOrder t l i who) (λ r. r ≡ 4294967296 + get l (136 + i)) (boardOn t l i who)
   pub mend-order : (old t l : List ℕ) → First (mendOrder old t l) (λ r. r ≡ 0) (mendOn old t l .0)
-  pub forecast-order : (t l : List ℕ) → ours t l ≡ false → forecastOn t l ≡ foreign
-  -- a step answers 14 exactly where it is refused
-  pub step-refused : (t l : List ℕ) → stepForeign t l ≡ true → stepOn t l ≡ (foreign, l)
-  pub step-taken : (t l : List ℕ) → stepForeign t l ≡ false → stepOn t l .0 ≢ foreign
+  -- M-100: "refused by 14 only", else 2 ^ 32 and the steps
+  pub forecast-order : (t l : List ℕ) → First ((OurRound t l → ⊥, foreign) ∷ []) (λ r. 4294967296 ≤ r) (forecastOn t l)
   -- ".. and then the handler table, the round and the board are unchanged": a board reading, a forecast and a preview
   -- change nothing at all, and no call but compile changes a table (their contracts)
   pub compile-unchanged : (s ps t : List ℕ) → compileOn s ps t .0 ≢ 0 → compileOn s ps t .1 ≡ t
   pub start-unchanged : (t l : List ℕ) → startOn t l .0 ≢ 0 → startOn t l .1 ≡ l
   pub arrive-unchanged : (t l : List ℕ) (e who : ℕ) → arriveOn t l e who .0 ≢ 0 → arriveOn t l e who .1 ≡ l
+  pub step-unchanged : (t l : List ℕ) → stepOn t l .0 ≡ foreign → stepOn t l .1 ≡ l
   pub mend-unchanged : (old t l : List ℕ) → mendOn old t l .0 ≢ 0 → mendOn old t l .1 ≡ l
   -- "bytes beyond these are untouched": 34,816 of a table, 2,048 of a round
   pub compile-beyond : (s ps t : List ℕ) → All (λ b. b < 256) s → All (λ b. b < 256) ps → UntouchedFrom 34816 t (compileOn s ps t .1)
