@@ -30,6 +30,10 @@ use Rattle.back_compile.proofs.Counted.{Counted, read-counted}
 pub decided : {A X Y : Type 0} (b : Bool) → (b ≡ true → A) → (A → b ≡ true) → (b ≡ true → X) → (b ≡ false → Y) → (A × X) ⊎ ((A → ⊥) × Y)
 decided b is of f g = split b (λ e. inl (is e, f e)) (λ e. inr (λ a. true≢false (sym (of a) ∙ e), g e))
 
+-- where it fails, and so A does, X is to be shown, and else Y
+pub unless : {A X Y : Type 0} (b : Bool) → (b ≡ true → A) → (A → b ≡ true) → (b ≡ false → X) → (b ≡ true → Y) → ((A → ⊥) × X) ⊎ (((A → ⊥) → ⊥) × Y)
+unless b is of f g = split b (λ e. inr (λ z. z (is e), g e)) (λ e. inl (λ a. true≢false (sym (of a) ∙ e), f e))
+
 module _ {X Y : Type 0} where
   pub if-true : (b : Bool) → (b ≡ true → X) → (b ≡ false → Y) → ((b ≡ true) × X) ⊎ (((b ≡ true) → ⊥) × Y)
   if-true b = decided b (λ e. e) (λ e. e)
@@ -52,17 +56,13 @@ judged (bad k) ps t h = refl
 judged (got x rest) ps t h =
     let p = programOf ps x in
     let few : size p ≤ 64 = omega (arith, length-fill (get ps) (rowsOut x .entries), length-out (x .entries) (x .entries)) in
-    split (known p)
+    unless (known p) (known-decides p .0) (known-decides p .1) (λ k. rw k)
     (λ k.
     let names = known-decides p .0 k in
-    inr (
-      λ z. z names,
-      decided (lacksParameters x ps) (lacks-says ps x) (λ u. lacks-is ps x (u .0) (u .1)) (λ l. rw (k, l))
-          (λ l. split (cyclic p)
-          (λ c. inl (λ n. true≢false (sym c ∙ cyclic-decides p names few .1 n), rw (k, l, c)))
-          (λ c. inr (λ z. z (cyclic-decides p names few .0 c), if-less 4096 (allInstructions p) (λ o. rw (k, l, c, o)) (λ o. rw (k, l, c, o))))),
-    ))
-    (λ k. inl (λ z. true≢false (sym (known-decides p .1 z) ∙ k), rw k))
+    decided (lacksParameters x ps) (lacks-says ps x) (λ u. lacks-is ps x (u .0) (u .1)) (λ l. rw (k, l))
+    (λ l. split (cyclic p)
+    (λ c. inl (λ n. true≢false (sym c ∙ cyclic-decides p names few .1 n), rw (k, l, c)))
+    (λ c. inr (λ z. z (cyclic-decides p names few .0 c), if-less 4096 (allInstructions p) (λ o. rw (k, l, c, o)) (λ o. rw (k, l, c, o))))))
 
 pub after-reading : (s ps t : List ℕ) → AfterReading (readSheet s) ps (judgeRead (readSheet s) ps t .0)
 after-reading s ps t = judged (readSheet s) ps t (read-counted s)

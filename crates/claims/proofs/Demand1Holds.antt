@@ -2,15 +2,14 @@
 -- it stands for (Foreign, Passives). One that waits outranks the running event just where the test over all of them
 -- says so, by induction on how many.
 use Prim.Native.Nat.{ℕ, zero, suc, _+_, _-_, _≤_, _<_}
-use mathlib.Core.Bool.{Bool, true, false, true≢false, false≢true}
+use mathlib.Core.Bool.{true, false, true≢false, false≢true}
 use mathlib.Core.Path.{_≡_, refl, sym, subst, _∙_}
-use mathlib.Core.Logic.{_≢_, _⊎_, inl, inr, ⊎-elim}
+use mathlib.Core.Logic.{_≢_, _⊎_, inl, inr}
 use mathlib.Core.List.{List, [], _∷_}
 use native.Mathlib.Omega.{arith}
 use lib.Dec.{ltb, eqb}
 use lib.ListN.{length, replicate}
-use borrow.Author.Tests.{ltb-true, ltb-false, lt-ltb, eqb-true, eqb-false}
-use Rattle.lib_base.specs.Basics.{pick}
+use borrow.Author.Tests.{ltb-true, ltb-false, eqb-true, eqb-false}
 use Rattle.lib_base.proofs.Tools.{by-test, past, neither, split}
 use Rattle.lib_word.specs.Word.{get}
 use Rattle.spec_language.specs.Refusals.{foreign}
@@ -29,16 +28,12 @@ use Rattle.run_carry.specs.Carry.{carryOn}
 use Rattle.run_mend.specs.Mending.{handKnown, verdict, mendWith, mendAfter, mendIn, mendOn}
 use Rattle.back_compile.specs.Statements.{First}
 use Rattle.back_compile.proofs.AcceptedExactly.{refused-unchanged}
-use Rattle.back_compile.proofs.Orders.{decided, if-true, if-false, if-less, if-most, compile-order}
+use Rattle.back_compile.proofs.Orders.{decided, unless, if-true, if-false, if-less, if-most, compile-order}
 use Rattle.engine.proofs.Refused as refusals
 use Rattle.engine.proofs.Beyond as beyond
 use Rattle.claims.specs.Demand1.{OurTable, OurRound, arriveOrder, boardOrder, GivesWay, RunsOne, instructionFits, mendOrder, Demand1}
 use Rattle.claims.proofs.Foreign.{our-table, table-fits, our-round, round-fits, full-says, full-is, declared-says, declared-is}
 use Rattle.claims.proofs.Passives.{passivesPass, passives-say, passives-are, carry-answers}
-
--- a test stands for a condition A: where it fails, and so A does, X is to be shown, and else Y
-unless : {A X Y : Type 0} (b : Bool) → (b ≡ true → A) → (A → b ≡ true) → (b ≡ false → X) → (b ≡ true → Y) → ((A → ⊥) × X) ⊎ (((A → ⊥) → ⊥) × Y)
-unless b is of f g = split b (λ e. inr (λ z. z (is e), g e)) (λ e. inl (λ a. true≢false (sym (of a) ∙ e), f e))
 
 module _ {X Y : Type 0} where
   unless-table : (t : List ℕ) → (tableFits t ≡ false → X) → (tableFits t ≡ true → Y) → ((OurTable t → ⊥) × X) ⊎ (((OurTable t → ⊥) → ⊥) × Y)
@@ -114,6 +109,18 @@ none-above t l r (suc n) h s =
 abbrev Taken : CallResult → Type 0
 Taken o = o .0 ≢ foreign
 
+commit-not : (n e w : ℕ) → commitSaid n e w ≢ foreign
+unfolding commitSaid said
+commit-not n e w = by-test (λ (x : ℕ). x ≢ foreign) (eqb w 0) (λ _. omega arith) (λ _. omega arith)
+
+start-taken : (l : List ℕ) (b m : ℕ) → Taken (startAt l b m)
+unfolding startAt said
+start-taken l b m = omega arith
+
+preempt-taken : (l : List ℕ) (b : ℕ) → Taken (preemptAt l b)
+unfolding preemptAt said
+preempt-taken l b = omega arith
+
 module _ (t l : List ℕ) where
   gives-way : outranked t l (waitingCount l) ≡ true → GivesWay t l
   unfolding outranked
@@ -129,25 +136,13 @@ module _ (t l : List ℕ) where
   unfolding advanceOn executeAt executeOn
   advance-refused e = rw e
 
-  commit-not : (n e w : ℕ) → commitSaid n e w ≢ foreign
-  unfolding commitSaid said
-  commit-not n e w = by-test (λ (x : ℕ). x ≢ foreign) (eqb w 0) (λ _. omega arith) (λ _. omega arith)
-
   advance-taken : instructionFits t l ≡ true → Taken (advanceOn t l)
   unfolding advanceOn executeAt executeOn countInstruction
   advance-taken e = rw e (by-test Taken (ltb (position l + 1) (eventWord t (runningEvent l) 2)) (λ _. omega arith) (λ _. commit-not _ _ _))
 
-  start-taken : (b m : ℕ) → Taken (startAt l b m)
-  unfolding startAt said
-  start-taken b m = omega arith
-
-  preempt-taken : (b : ℕ) → Taken (preemptAt l b)
-  unfolding preemptAt said
-  preempt-taken b = omega arith
-
   rest-taken : eqb (runningFlag l) 0 ≡ true → Taken (stepIn t l)
   unfolding stepIn stepWith whileResting
-  rest-taken e = rw e (by-test Taken (eqb (waitingCount l) 0) (λ _. omega arith) (λ _. start-taken (best t l (waitingCount l)) (waitingCount l - 1)))
+  rest-taken e = rw e (by-test Taken (eqb (waitingCount l) 0) (λ _. omega arith) (λ _. start-taken l (best t l (waitingCount l)) (waitingCount l - 1)))
 
   -- a step would run an instruction that may not run
   abbrev StepUnfit : Type 0
@@ -170,7 +165,7 @@ module _ (t l : List ℕ) where
       (λ b. inr (λ h. h .0 .0 (eqb-true (runningFlag l) 0 b), rest-taken b))
       (λ b. let f = eqb-false (runningFlag l) 0 b in
       split (outranked t l (waitingCount l))
-      (λ o. inr (λ h. h .0 .1 (gives-way o), subst Taken (preempts t l refl f refl refl o refl refl) (preempt-taken (best t l (waitingCount l)))))
+      (λ o. inr (λ h. h .0 .1 (gives-way o), subst Taken (preempts t l refl f refl refl o refl refl) (preempt-taken l (best t l (waitingCount l)))))
       (λ o. advance-order f o))))
 
 pub demand-1 : Demand1

@@ -1,19 +1,18 @@
 -- A table and a round pass the code's tests just where they are not foreign by the papers' words: each test that passes
--- is a part of the record and the other way round, those over events and over the hand by induction on how many.
-use Prim.Native.Nat.{ℕ, zero, suc, _+_, _-_, _≤_, _<_}
+-- is a part of the record and the other way round, those over the hand by induction on how many.
+use Prim.Native.Nat.{ℕ, zero, suc, _+_, _≤_, _<_}
 use mathlib.Core.Bool.{Bool, true, false}
 use mathlib.Core.Path.{_≡_, refl}
 use mathlib.Core.Logic.{_≢_}
 use mathlib.Core.List.{List}
 use native.Mathlib.Omega.{arith}
-use lib.ListN.{length}
-use lib.Dec.{ltb, leb, eqb}
-use borrow.Author.Tests.{ltb-true, lt-ltb, le-ltb, leb-true, le-leb, lt-leb, ne-eqb, eqb-true, eqb-false}
+use lib.Dec.{ltb, eqb}
+use borrow.Author.Tests.{ltb-true, lt-ltb, leb-true, le-leb, lt-leb, ne-eqb, eqb-true, eqb-false}
 use Rattle.lib_base.specs.Basics.{pick}
 use Rattle.lib_base.proofs.Tools.{by-test, through, split}
-use Rattle.format_layout.specs.Layout.{eventWord, eventCount, behaviourCount, codeFits, codesFit, tableWith, tableFits, eventOf, playerOf, waitingCount, runningFlag, runningWord, runningEvent, eventAt, wordAt, handFits, ours}
-use Rattle.format_layout.specs.Bounds.{TableBounds, Bounds}
-use Rattle.format_layout.proofs.BoundsLaws.{table-bounds, hand-bound, bounds}
+use Rattle.format_layout.specs.Layout.{eventCount, tableFits, eventOf, playerOf, waitingCount, runningFlag, runningWord, runningEvent, eventAt, wordAt, handFits, ours}
+use Rattle.format_layout.specs.Bounds.{TableBounds}
+use Rattle.format_layout.proofs.BoundsLaws.{table-bounds, fit-table, hand-bound, bounds}
 use Rattle.run_arrive.specs.Arrivals.{queueFull}
 use Rattle.run_burst.specs.Sound.{RoundSound}
 use Rattle.run_burst.proofs.Fits.{ours-sound, sound-ours}
@@ -22,15 +21,6 @@ use Rattle.claims.specs.Demand1.{OurTable, EachInHand, handCount, OurRou
 
 -- ---- the table
 
-pub code-fits : (a n : ℕ) → a + n ≤ 4096 → codeFits a n ≡ true
-unfolding codeFits
-code-fits a n h = rw (le-ltb 4096 a (omega arith)) (le-leb n (4096 - a) (omega arith))
-
-codes-fit : (t : List ℕ) (n : ℕ) → ((e : ℕ) → e < n → eventWord t e 1 + eventWord t e 2 ≤ 4096) → codesFit t n ≡ true
-unfolding codesFit
-codes-fit t zero h = refl
-codes-fit t (suc n) h = rw (code-fits (eventWord t n 1) (eventWord t n 2) (h n (omega arith))) (codes-fit t n (λ e b. h e (omega arith)))
-
 module _ (t : List ℕ) where
   pub our-table : tableFits t ≡ true → OurTable t
   our-table h =
@@ -38,25 +28,20 @@ module _ (t : List ℕ) where
       record { long = b .long; few-events = b .few-events; few-behaviours = b .few-behaviours; code-within = b .codes }
 
   pub table-fits : OurTable t → tableFits t ≡ true
-  unfolding tableFits tableWith
-  table-fits o =
-      rw (
-        le-ltb (length t) 34816 (o .long),
-        le-ltb 32 (eventCount t) (o .few-events),
-        le-ltb 64 (behaviourCount t) (o .few-behaviours),
-      ) (codes-fit t (eventCount t) (o .code-within))
+  table-fits o = fit-table t (record { long = o .long; few-events = o .few-events; few-behaviours = o .few-behaviours; codes = o .code-within })
 
 -- ---- the hand
 
 module _ (l : List ℕ) where
-  abbrev One : ℕ
-  One = pick (eqb (runningFlag l) 0) 0 1
+  -- how many run
+  abbrev runningCount : ℕ
+  runningCount = pick (eqb (runningFlag l) 0) 0 1
 
   resting : eqb (runningFlag l) 0 ≡ true → handCount l ≡ waitingCount l
-  resting e = let z : One ≡ 0 = rw e in omega arith
+  resting e = let z : runningCount ≡ 0 = rw e in omega arith
 
   one-more : eqb (runningFlag l) 0 ≡ false → handCount l ≡ waitingCount l + 1
-  one-more e = let z : One ≡ 1 = rw e in omega arith
+  one-more e = let z : runningCount ≡ 1 = rw e in omega arith
 
   pub full-says : queueFull (waitingCount l) (runningFlag l) ≡ true → 64 ≤ handCount l
   unfolding queueFull

@@ -16,7 +16,7 @@ use Rattle.lib_word.proofs.Laws.{length-put, get-same, get-other}
 use Rattle.lib_arith.specs.Functions.{arity, result, over}
 use Rattle.spec_language.specs.Refusals.{foreign}
 use Rattle.format_layout.specs.Layout.{passivesStart, passivesLength, codeFits}
-use Rattle.format_layout.proofs.BoundsLaws.{code-bound}
+use Rattle.format_layout.proofs.BoundsLaws.{code-bound, fit-code}
 use Rattle.run_stack.specs.Stack.{pushOn, popTo, noted, applyOne, applyTwo, applyThree, applyOn}
 use Rattle.run_instruction.specs.Instruction.{transfer, perform}
 use Rattle.run_burst.proofs.Performs.{perform-keeps}
@@ -24,7 +24,6 @@ use Rattle.run_stretch.specs.Stretch.{stretchOn, stretchAt, stretchFrom}
 use Rattle.run_carry.specs.Carry.{filledStore, workedOut, carryOn}
 use Rattle.run_carry.proofs.CarryLaws.{length-filled, filled-head}
 use Rattle.claims.specs.Demand1.{mayRunAt, depthAfter, allRun, PassivesRun}
-use Rattle.claims.proofs.Foreign.{code-fits}
 
 -- ---- how deep the stack is
 
@@ -120,7 +119,7 @@ passives-say t h =
     (code-bound (passivesStart t) (passivesLength t) (p .0), p .1)
 
 pub passives-are : (t : List ℕ) → PassivesRun t → passivesPass t ≡ true
-passives-are t h = rw (code-fits (passivesStart t) (passivesLength t) (h .0)) (h .1)
+passives-are t h = rw (fit-code (passivesStart t) (passivesLength t) (h .0)) (h .1)
 
 pub carry-answers : (old t l : List ℕ) → carryOn old t l (replicate 2048 0) .0 ≡ pick (passivesPass t) 0 foreign
 unfolding carryOn workedOut get getAt

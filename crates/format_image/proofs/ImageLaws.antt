@@ -9,7 +9,7 @@ use native.Mathlib.Omega.{arith}
 use lib.ListN.{length, getD, take, replicate, length-append, length-replicate, List·getD-append}
 use lib.Seq.{getD-append-add, getD-set-other, take-all}
 use lib.Dec.{eqb}
-use borrow.Author.Tests.{lt-ltb, le-ltb, le-leb, ne-eqb, eqb-true, eqb-false}
+use borrow.Author.Tests.{lt-ltb, ne-eqb, eqb-true, eqb-false}
 use Rattle.lib_base.proofs.Tools.{by-test, split}
 use Rattle.lib_word.specs.Word.{get, put}
 use Rattle.lib_word.proofs.Laws.{length-put, get-same, get-other}
@@ -19,7 +19,8 @@ use Rattle.spec_language.specs.Order.{upTo}
 use Rattle.spec_language.specs.Code.{Instr, off, secondPart, restorePart, code, members}
 use Rattle.spec_language.proofs.Laws.{length-upTo, getD-upTo}
 use Rattle.spec_semantics.specs.Meaning.{at, fresh}
-use Rattle.format_layout.specs.Layout.{eventWord, codeFits, codesFit, tableWith, tableFits}
+use Rattle.format_layout.specs.Layout.{eventWord, tableFits}
+use Rattle.format_layout.proofs.BoundsLaws.{fit-table}
 use Rattle.format_image.specs.Image.{operation, constant, codeWords, allCode, codeStart, eventRecord, padded, kindNumber, passivesCode, beforePassives, tableCode, passivesAt, kindWords, passiveWords, boardWords, imageWords, putWords, tableOf}
 use Rattle.format_image.proofs.PutWords.{length-putWords}
 
@@ -409,21 +410,6 @@ module _ (p : Program) (few : events p ≤ 32) (small : size p ≤ 64) (whole : 
         rw (lt-ltb e 32 (omega arith), z)
         (get-table (8 + (e * 4 + k)) (omega arith) ∙ in-records (e * 4 + k) (omega arith) ∙ getD-even 4 (events p) (eventRecord p) e k (λ i. refl) h b)
 
-    code-fits : (start len : ℕ) → start + len ≤ 4096 → codeFits start len ≡ true
-    unfolding codeFits
-    code-fits start len h = rw (le-ltb 4096 start (omega arith)) (le-leb len (4096 - start) (omega arith))
-
-    codes-fit : (n : ℕ) → n ≤ events p → codesFit (tableOf p t₀) n ≡ true
-    unfolding codesFit
-    codes-fit zero h = refl
-    codes-fit (suc n) h =
-        rw (
-          event-word n 1 (omega arith) (omega arith),
-          event-word n 2 (omega arith) (omega arith),
-          code-fits (codeStart p n) (length (code p n)) (code-within n (omega arith)),
-          codes-fit n (omega arith),
-        )
-
     count-events : get (tableOf p t₀) 0 ≡ events p
     count-events = get-table 0 (omega arith) ∙ in-heads 0 (omega arith)
 
@@ -431,16 +417,14 @@ module _ (p : Program) (few : events p ≤ 32) (small : size p ≤ 64) (whole : 
     count-behaviours = get-table 1 (omega arith) ∙ in-heads 1 (omega arith)
 
     table-fits : tableFits (tableOf p t₀) ≡ true
-    unfolding tableFits tableWith
-    table-fits =
-        rw (
-          le-ltb (length (tableOf p t₀)) 34816 (rw length-table room),
-          count-events,
-          count-behaviours,
-          le-ltb 32 (events p) few,
-          le-ltb 64 (size p) small,
-          codes-fit (events p) (omega arith),
-        )
+    table-fits = fit-table (tableOf p t₀) (record {
+      long = rw length-table room;
+      few-events = rw count-events few;
+      few-behaviours = rw count-behaviours small;
+      codes = λ e h.
+          let g : e < events p = rw count-events at h in
+          rw (event-word e 1 g (omega arith), event-word e 2 g (omega arith)) (code-within e g);
+    })
 
     operation-at : (k : ℕ) → k < length (tableCode p) → get (tableOf p t₀) (512 + k * 2) ≡ operation (getD (tableCode p) k off)
     operation-at k g = get-table (512 + k * 2) (omega (arith, length-tableCode)) ∙ in-codes (k * 2) ∙ getD-operation (tableCode p) k g

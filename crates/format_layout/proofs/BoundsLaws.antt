@@ -1,14 +1,14 @@
--- A table and a round that are not foreign are within their bounds: each test that passed is a bound; the checks over
--- events and slots by induction on how many.
+-- A table and a round that are not foreign are within their bounds, and a table within them is not foreign: each test
+-- that passes is a bound; the checks over events and slots by induction on how many.
 use Prim.Native.Nat.{ℕ, zero, suc, _+_, _-_, _≤_, _<_}
 use mathlib.Core.Bool.{Bool, true, false}
-use mathlib.Core.Path.{_≡_}
+use mathlib.Core.Path.{_≡_, refl}
 use mathlib.Core.Logic.{_≢_}
 use mathlib.Core.List.{List}
 use native.Mathlib.Omega.{arith}
 use lib.ListN.{length}
 use lib.Dec.{ltb, leb, eqb}
-use borrow.Author.Tests.{ltb-true, ltb-false, leb-true, leb-false, ne-eqb, eqb-true, eqb-false}
+use borrow.Author.Tests.{ltb-true, ltb-false, le-ltb, leb-true, leb-false, le-leb, ne-eqb, eqb-true, eqb-false}
 use Rattle.lib_base.specs.Basics.{pick}
 use Rattle.lib_base.proofs.Tools.{past, through, split}
 use Rattle.format_layout.specs.Layout.{eventCount, behaviourCount, eventWord, codeFits, codesFit, tableWith, tableFits}
@@ -49,6 +49,26 @@ table-bounds t h =
       few-behaviours = ltb-false 64 b (r .0);
       codes = codes-bound t n (r .1);
     }
+
+-- and back
+
+pub fit-code : (a n : ℕ) → a + n ≤ 4096 → codeFits a n ≡ true
+unfolding codeFits
+fit-code a n h = rw (le-ltb 4096 a (omega arith)) (le-leb n (4096 - a) (omega arith))
+
+fit-codes : (t : List ℕ) (n : ℕ) → ((e : ℕ) → e < n → eventWord t e 1 + eventWord t e 2 ≤ 4096) → codesFit t n ≡ true
+unfolding codesFit
+fit-codes t zero h = refl
+fit-codes t (suc n) h = rw (fit-code (eventWord t n 1) (eventWord t n 2) (h n (omega arith))) (fit-codes t n (λ e b. h e (omega arith)))
+
+pub fit-table : (t : List ℕ) → TableBounds t → tableFits t ≡ true
+unfolding tableFits tableWith
+fit-table t b =
+    rw (
+      le-ltb (length t) 34816 (b .long),
+      le-ltb 32 (eventCount t) (b .few-events),
+      le-ltb 64 (behaviourCount t) (b .few-behaviours),
+    ) (fit-codes t (eventCount t) (b .codes))
 
 -- ---- the round
 
