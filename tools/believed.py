@@ -6,8 +6,8 @@
                                  or where the page's table of lines is not up to date
     tools/believed.py --write    brings that table up to date
 
-The functions that the contracts cite (compileOn, stepOn ..) count as names: what they mean is proved. `--all` follows
-them too.
+The functions that the contracts cite (compileOn, stepOn ..) count as names: what they mean is proved. So does tableOf,
+the table that compile leaves: 01 leaves its layout free, and the claim says what stands in it. `--all` follows them too.
 """
 import re
 import sys
@@ -17,7 +17,11 @@ from sources import NAME, files_under, module_path, read_theories, without_comme
 TOP = "crates/claims/specs/Claims.antt"
 CONTRACTS = "crates/engine/src/lib.rt"
 REVIEW = "docs/REVIEW.md"
-NAMES_ONLY = re.compile(r"^(compile|start|arrive|step|board|forecast|preview|mend|formula|join|frame|agree|leak|assemble|describe)On$")
+CALLS = (
+    "compile start arrive step board forecast preview mend formula join frame agree leak assemble describe"
+    " eventCount behaviourCount eventRank"
+)
+NAMES_ONLY = {f"{call}On" for call in CALLS.split()} | {"tableOf"}
 
 
 class Theory:
@@ -68,7 +72,7 @@ class Believed:
 
     def words(self, declaration):
         text = "\n".join(declaration.text)
-        if NAMES_ONLY.match(declaration.name) and not self.follow_all:
+        if declaration.name in NAMES_ONLY and not self.follow_all:
             text = declaration.text[0]
         for found in re.finditer(rf"(?<![.\w])({NAME})(?:\.({NAME}))?", text):
             yield found.group(1), found.group(2)
@@ -89,7 +93,7 @@ class Believed:
         return seen
 
     def lines_of(self, d):
-        if NAMES_ONLY.match(d.name) and not self.follow_all:
+        if d.name in NAMES_ONLY and not self.follow_all:
             return 1
         return len([t for t in d.text if t.strip()])
 
