@@ -1,2 +1,1 @@
 pub mod LeakLaws
-pub mod Decides

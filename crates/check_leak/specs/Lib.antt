@@ -1,3 +1,2 @@
 pub mod Leaking
 pub mod Leak
-pub mod Claims

@@ -26,9 +26,9 @@ use Rattle.back_compile.proofs.AcceptedExactly.{accepted-exactly}
 use Rattle.run_start.specs.Start.{CallResult}
 use Rattle.refine_calls.specs.Refinement.{bytesAfter}
 use Rattle.refine_calls.proofs.Refines.{valid, accepted-says}
-use Rattle.refine_lists.specs.Lists.{boardOf, freshRoundOn, OnlyCalls}
-use Rattle.refine_lists.proofs.Sheets.{table-room, program-accepted, begun}
-use Rattle.refine_lists.proofs.FromSheets.{some-turns, list-of, calls-of, two-lists-hold, two-only-calls-hold}
+use Rattle.refine_lists.specs.Lists.{boardOf, freshRoundOn, OnlyCalls, Prepared}
+use Rattle.refine_lists.proofs.Sheets.{table-room, begun}
+use Rattle.refine_lists.proofs.FromSheets.{some-turns, prepared-accepted, list-of, calls-of, two-lists-hold, two-only-calls-hold}
 use Rattle.engine.specs.Demand.{CodeIn, EverySheet, WholeDemand}
 
 -- what a table says of a program, read by `get`
@@ -62,21 +62,22 @@ every-sheet s ps t₀ l₀ bytes words room h =
     let a = table-room s ps t₀ h in
     let k = accepted-exactly s ps t₀ bytes a .0 h in
     let p = programOf ps (k .0) in
-    let ok = program-accepted ps words (k .0) (k .2) in
+    let r : Prepared s ps t₀ l₀ (k .0) =
+    record { param-bytes = words; room = room; compiles = h; sent-as = k .1; taken = k .2 } in
+    let ok = prepared-accepted s ps t₀ l₀ (k .0) r in
     let e : compileOn s ps t₀ .1 ≡ tableOf p t₀ = ap (λ (o : Compiled). o .1) (k .3) in
-    let calls = calls-of s ps t₀ l₀ bytes words room h (k .0) (k .1) (k .2) in
+    let calls = calls-of s ps t₀ l₀ (k .0) r in
     record {
       sheet = k .0;
       bytes = k .1;
       taken = k .2;
-      accepted = ok;
       table = e;
       code = λ x d. subst (λ (t : List ℕ). CodeIn p t x) (sym e) (code-in p (tableOf p t₀) (accepted-says p ok t₀ a) x d);
       begun = ap (λ (r : CallResult). r .0) (begun p ok t₀ l₀ (compileOn s ps t₀ .1) a room e);
       board = fresh-board p s ps t₀ l₀ (calls []);
       values = fresh-shows p (valid p ok);
       values-alone = fresh-alone p (valid p ok);
-      each = λ xs c. let ts = some-turns xs c in (ts .0, ts .1, list-of s ps t₀ l₀ bytes words room h (k .0) (k .1) (k .2) xs c (ts .0) (ts .1));
+      each = λ xs c. let ts = some-turns xs c in (ts .0, ts .1, list-of s ps t₀ l₀ (k .0) r xs c (ts .0) (ts .1));
       calls = calls;
     }
 

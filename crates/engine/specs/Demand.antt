@@ -14,7 +14,7 @@ use Rattle.spec_language.specs.Syntax.{Program}
 use Rattle.spec_language.specs.Dependence.{size, events}
 use Rattle.spec_language.specs.Sheet.{Sheet}
 use Rattle.spec_language.specs.Grammar.{encode}
-use Rattle.spec_language.specs.Accepted.{Accepted, SheetAccepted}
+use Rattle.spec_language.specs.Accepted.{SheetAccepted}
 use Rattle.spec_language.specs.Code.{off, code, members}
 use Rattle.spec_semantics.specs.Rules.{Shows}
 use Rattle.spec_semantics.specs.Meaning.{at, fresh}
@@ -45,10 +45,8 @@ pub record EveryList (s ps t₀ l₀ : List ℕ) : Type 0 where
   pub sheet : Sheet
   pub bytes : encode sheet ≡ s
   pub taken : SheetAccepted (get ps) (length ps) sheet
-  -- its program, each parameter being the constant lent (02, M-103)
-  pub accepted : Accepted (programOf ps sheet)
-  -- "each event's code is the one 01 lists": the table is the program's, and its words are those of `code` for each
-  -- event e
+  -- "each event's code is the one 01 lists": the table is that of the program, each parameter being the constant lent
+  -- (02, M-103), and its words are those of `code` for each event e
   pub table : compileOn s ps t₀ .1 ≡ tableOf (programOf ps sheet) t₀
   pub code : (e : ℕ) → e < events (programOf ps sheet) → CodeIn (programOf ps sheet) (compileOn s ps t₀ .1) e
   -- a fresh round: start answers 0, and the board has the start values with the passives worked out, which is what the

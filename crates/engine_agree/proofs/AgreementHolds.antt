@@ -3,7 +3,7 @@
 use Prim.Native.Nat.{ℕ, _<_}
 use mathlib.Core.Path.{_≡_, sym, subst}
 use mathlib.Core.Logic.{_≢_}
-use mathlib.Core.List.{List, [], _∷_, map}
+use mathlib.Core.List.{List, [], _∷_, map, Forall₂·nil, Forall₂·cons}
 use lib.ListN.{length}
 use Rattle.lib_base.specs.Basics.{All}
 use Rattle.lib_word.specs.Word.{get}
@@ -15,9 +15,9 @@ use Rattle.spec_language.specs.Accepted.{SheetAccepted}
 use Rattle.spec_model.specs.Model.{Arrival, Answer, refused, takenIn, shows, idle, ran, started, preempted, committed, rank, Turn, call, change, Reply, says, carriedOver, replies, begun}
 use Rattle.spec_model.specs.Claims.{takenInBy, Moment, commits, changes, ifCommits, momentOf, moments, historyOf, Course, last, thenChange, onward, courseOf, ApartIn, ApartEach}
 use Rattle.back_compile.specs.Verdict.{programOf}
-use Rattle.refine_lists.specs.Lists.{SheetTurn, calling, mending, Compiles, AllMean}
+use Rattle.refine_lists.specs.Lists.{SheetTurn, calling, mending, Compiles, Means, AllMean, Prepared}
 use Rattle.refine_lists.proofs.Sheets.{program-accepted}
-use Rattle.refine_lists.proofs.FromSheets.{two-lists-hold, two-only-calls-hold}
+use Rattle.refine_lists.proofs.FromSheets.{prepared-bytes, two-lists-hold, two-only-calls-hold}
 use Rattle.check_agree.specs.Agree.{agreeOn}
 use Rattle.check_agree.specs.Claims.{Unequal}
 use Rattle.check_agree.proofs.Answers.{answers}
@@ -33,6 +33,9 @@ good : (s ps : List ℕ) → All (λ b. b < 256) s → All (λ b. b < 256) ps �
 good s ps bytes words x e taken z =
     any-two (programOf ps x) (program-accepted ps words x taken .fits .each) (answers s ps bytes words .0 x e taken .only-if z)
 
+prepared-good : (s ps t l : List ℕ) (x : Sheet) → Prepared s ps t l x → agreeOn s ps ≡ 0 → Good (programOf ps x)
+prepared-good s ps t l x r z = good s ps (prepared-bytes s ps t l x r) (r .param-bytes) x (r .sent-as) (r .taken) z
+
 all-of : {A : Type 0} (P : A → Type 0) → ((x : A) → P x) → (l : List A) → All P l
 all-of P h [] = tt
 all-of P h (x ∷ l) = (h x, all-of P h l)
@@ -45,9 +48,9 @@ good-in p g l =
 -- ---- two lists of calls
 
 pub phones-agree : PhonesAgree
-phones-agree s ps qs t₀ l₀ t₁ l₁ x two z cs ds same i j =
+phones-agree s ps qs t₀ l₀ t₁ l₁ x two cs ds same z i j =
     let p = programOf ps x in
-    let g = good s ps (two .sheet-bytes) (two .param-bytes) x (two .sheet-is) (two .one-taken) z in
+    let g = prepared-good s ps t₀ l₀ x (two .one) z in
     two-only-calls-hold s ps qs t₀ l₀ t₁ l₁ x two cs ds same (good-in p g (takenInBy p (map call cs))) i j
 
 -- ---- with changes: every program of the course is good
@@ -100,19 +103,19 @@ apart-each : (p : Program) (c : Course) → Good p → GoodCourse c → ApartEac
 apart-each p (last l) g h = good-in p g l
 apart-each p (thenChange l q c) g h = (good-in p g l, apart-each q c (h .0) (h .1))
 
-turn-good : (xs : List SheetTurn) (ts : List Turn) → AllMean xs ts → All Compiles xs → All AgreesToo xs → All GoodTurn ts
-turn-good [] [] m k a = tt
-turn-good [] (t ∷ ts) m k a = absurd m
-turn-good (x ∷ xs) [] m k a = absurd m
-turn-good (calling c ∷ xs) (call d ∷ ts) m k a = (tt, turn-good xs ts (m .1) (k .1) (a .1))
-turn-good (calling c ∷ xs) (change q ∷ ts) m k a = absurd (m .0)
-turn-good (mending s ps t ∷ xs) (call d ∷ ts) m k a = absurd (m .0)
-turn-good (mending s ps t ∷ xs) (change q ∷ ts) m k a =
-    (subst Good (sym (m .0 .3)) (good s ps (k .0 .0) (k .0 .1) (m .0 .0) (m .0 .1) (m .0 .2) (a .0)), turn-good xs ts (m .1) (k .1) (a .1))
+turn-good : (x : SheetTurn) (t : Turn) → Means x t → Compiles x → AgreesToo x → GoodTurn t
+turn-good (calling c) (call d) m k a = tt
+turn-good (calling c) (change q) m k a = absurd m
+turn-good (mending s ps t) (call d) m k a = tt
+turn-good (mending s ps t) (change q) m k a = subst Good (sym (m .3)) (good s ps (k .0) (k .1) (m .0) (m .1) (m .2) a)
+
+turns-good : {xs : List SheetTurn} {ts : List Turn} → AllMean xs ts → All Compiles xs → All AgreesToo xs → All GoodTurn ts
+turns-good Forall₂·nil k a = tt
+turns-good (Forall₂·cons {a = x} {b = t} {l₁ = xs} {l₂ = ts} m ms) k a = (turn-good x t m (k .0) (a .0), turns-good {xs = xs} {ts = ts} ms (k .1) (a .1))
 
 pub rounds-agree : RoundsAgree
-rounds-agree s ps qs t₀ l₀ t₁ l₁ x two z xs ys k l a ts us m n same alike i j =
+rounds-agree s ps qs t₀ l₀ t₁ l₁ x two xs ys k l ts us m n same alike z i j =
     let p = programOf ps x in
-    let g = good s ps (two .sheet-bytes) (two .param-bytes) x (two .sheet-is) (two .one-taken) z in
+    let g = prepared-good s ps t₀ l₀ x (two .one) (z .0) in
     two-lists-hold s ps qs t₀ l₀ t₁ l₁ x two xs ys k l ts us m n same alike
-    (apart-each p (courseOf (historyOf p ts)) g (course-good (historyOf p ts) (moments-good ts (replies ts (begun p)) (turn-good xs ts m k a)))) i j
+    (apart-each p (courseOf (historyOf p ts)) g (course-good (historyOf p ts) (moments-good ts (replies ts (begun p)) (turns-good m k (z .1))))) i j

@@ -25,7 +25,9 @@ module _ (t l : List ℕ) (a : 34816 ≤ length t) (b : 2048 ≤ length l) where
   taken = ap (λ (o : Compiled). o .0) (accepted-exactly finalBytes [] t bytes a .1 final refl final-taken)
 
   list : (cs : List Call) → OnlyCalls finalProgram l (freshRoundOn finalBytes [] t l) cs
-  list cs = calls-of finalBytes [] t l bytes tt b taken final refl final-taken cs
+  list cs =
+      calls-of finalBytes [] t l final
+      (record { param-bytes = tt; room = b; compiles = taken; sent-as = refl; taken = final-taken }) cs
 
   shows : (cs : List Call) → boardOf finalProgram (roundOf t l cs .round) ≡ storeIn (after finalProgram (map call cs))
   shows cs =

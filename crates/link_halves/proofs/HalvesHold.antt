@@ -33,11 +33,11 @@ use Rattle.link_join.specs.Join.{Joined, joined, joinOn}
 use Rattle.link_join.specs.Statements.{JoinOrder}
 use Rattle.link_join.proofs.JoinLaws.{AcceptedSheet}
 use Rattle.link_join.proofs.Says.{Answered, join-says, rules-board}
-use Rattle.run_start.specs.Start.{CallResult}
 use Rattle.refine_calls.specs.Refinement.{calls, Bytes, bytes, bytesAfter}
-use Rattle.refine_lists.specs.Lists.{boardOf, freshRoundOn, OnlyCalls}
-use Rattle.refine_lists.proofs.Sheets.{table-room, program-accepted, begun}
-use Rattle.refine_lists.proofs.OnlyCallsHold.{known, only-calls}
+use Rattle.refine_lists.specs.Lists.{boardOf, freshRoundOn, OnlyCalls, Prepared}
+use Rattle.refine_lists.proofs.Sheets.{program-accepted}
+use Rattle.refine_lists.proofs.FromSheets.{prepared-bytes, calls-of}
+use Rattle.refine_lists.proofs.OnlyCallsHold.{known}
 use Rattle.link_halves.specs.HalfBoards.{boardAfter, SameCommits, NoCopyBack, Halves, HalfBoards}
 
 -- ---- a sheet that is accepted, whatever its bytes are written from
@@ -45,16 +45,6 @@ use Rattle.link_halves.specs.HalfBoards.{boardAfter, SameCommits, NoCopy
 module _ (ps : List ℕ) (x : Sheet) (ok : SheetAccepted (get ps) (length ps) x) where
   as-read : (s : List ℕ) → encode x ≡ s → AcceptedSheet s ps
   as-read s e = record { sheet = x; bytes = e; accepted = ok; read = rw e at (reads-back x (ok .fits)) }
-
--- a list of calls on its table, by demand 3
-list-of : (ps : List ℕ) → All (λ b. b < 256) ps → (x : Sheet) → SheetAccepted (get ps) (length ps) x → (s t₀ l₀ : List ℕ) → encode x ≡ s → 34816 ≤ length t₀ → 2048 ≤ length l₀
-    → (cs : List Call) → OnlyCalls (programOf ps x) l₀ (freshRoundOn s ps t₀ l₀) cs
-list-of ps words x ok s t₀ l₀ e a b cs =
-    let p = programOf ps x in
-    let accepted = program-accepted ps words x ok in
-    let t : compileOn s ps t₀ .1 ≡ tableOf p t₀ = ap (λ (r : Compiled). r .1) (accepted-taken s ps x e ok t₀ a) in
-    let m = ap (λ (r : CallResult). r .1) (begun p accepted t₀ l₀ (compileOn s ps t₀ .1) a b t) in
-    subst (λ (c : Bytes). OnlyCalls p l₀ c cs) (λ i. bytes (sym t i) (sym m i)) (only-calls p accepted t₀ l₀ a b cs)
 
 -- ---- what join's answer says
 
@@ -115,7 +105,7 @@ behind : (n : ℕ) (f g : List ℕ) → length f ≡ n → drop n (f ++ g) ≡ g
 behind n f g e = subst (λ (k : ℕ). drop k (f ++ g) ≡ g) e (drop-append-seam f g)
 
 module _ (ps : List ℕ) (words : All (λ b. b < 256) ps) {s z : List ℕ} (x : AcceptedSheet s ps) (y : AcceptedSheet z ps) (v : List ℕ) (d : Delivered ps v (x .sheet) (y .sheet))
-    (t₀ l₀ t₁ l₁ t₂ l₂ : List ℕ) (a₀ : 34816 ≤ length t₀) (a₁ : 34816 ≤ length t₁) (a₂ : 34816 ≤ length t₂) (b₀ : 2048 ≤ length l₀) (b₁ : 2048 ≤ length l₁) (b₂ : 2048 ≤ length l₂) where
+    (t₀ l₀ t₁ l₁ t₂ l₂ : List ℕ) (joint : Prepared v ps t₀ l₀ (pooled (x .sheet) (y .sheet))) (first : Prepared s ps t₁ l₁ (x .sheet)) (second : Prepared z ps t₂ l₂ (y .sheet)) where
   abbrev p : Program
   p = programOf ps (x .sheet)
 
@@ -145,7 +135,7 @@ module _ (ps : List ℕ) (words : All (λ b. b < 256) ps) {s z : List ℕ} (x : 
 
   cut : (cs : List Call) → NoCopyBack j cs → Cut cs
   cut cs h =
-      let all = list-of ps words (pooled (x .sheet) (y .sheet)) (d .accepted) v t₀ l₀ (d .bytes) a₀ b₀ cs in
+      let all = calls-of v ps t₀ l₀ (pooled (x .sheet) (y .sheet)) joint cs in
       let es = eventsOf (committedIn j (map call cs)) in
       let k = rules-board words x y es (known j okj cs) (boardAfter j (compileOn v ps t₀ .1) l₀ cs) (all .board h) in
       record {
@@ -161,7 +151,7 @@ module _ (ps : List ℕ) (words : All (λ b. b < 256) ps) {s z : List ℕ} (x : 
       → take (size p) (boardAfter j (compileOn v ps t₀ .1) l₀ cs) ≡ boardAfter p (compileOn s ps t₁ .1) l₁ ds
   first-half cs ds h h₁ same =
       let c = cut cs h in
-      let mine = list-of ps words (x .sheet) (x .accepted) s t₁ l₁ (x .bytes) a₁ b₁ ds in
+      let mine = calls-of s ps t₁ l₁ (x .sheet) first ds in
       ap (take (size p)) (c .row) ∙ front (size p) (c .one) (c .two) (c .long-one)
       ∙ by-rules p l₁ (freshRoundOn s ps t₁ l₁) ds mine h₁ (declared p (eventsOf (committedIn j (map call cs)))) (c .one) same (c .first-plays)
 
@@ -169,7 +159,7 @@ module _ (ps : List ℕ) (words : All (λ b. b < 256) ps) {s z : List ℕ} (x : 
       → drop (size p) (boardAfter j (compileOn v ps t₀ .1) l₀ cs) ≡ boardAfter q (compileOn z ps t₂ .1) l₂ ds
   second-half cs ds h h₂ same =
       let c = cut cs h in
-      let mine = list-of ps words (y .sheet) (y .accepted) z t₂ l₂ (y .bytes) a₂ b₂ ds in
+      let mine = calls-of z ps t₂ l₂ (y .sheet) second ds in
       ap (drop (size p)) (c .row) ∙ behind (size p) (c .one) (c .two) (c .long-one)
       ∙ by-rules q l₂ (freshRoundOn z ps t₂ l₂) ds mine h₂ (declared q (eventsOf (committedIn j (map call cs)))) (c .two) same (c .second-plays)
 
@@ -196,14 +186,17 @@ module _ (ps : List ℕ) (words : All (λ b. b < 256) ps) {s z : List ℕ} (x : 
 
 pub half-boards : HalfBoards
 unfolding as-read
-half-boards s z ps buffer v t₀ l₀ t₁ l₁ t₂ l₂ bytes others words a₀ b₀ b₁ b₂ h₁ h₂ x y e f ok also answer =
-    let u = as-read ps x ok s e in
-    let w = as-read ps y also z f in
-    let q : joinOn (encode x) (encode y) ps buffer ≡ joined (4294967296 + length v) (v ++ drop (length v) buffer) = rw (e, f) answer in
-    let d = told ps buffer v x y (joinOn (encode x) (encode y) ps buffer) (join-says ps buffer words x y ok also) q in
-    record {
-      bytes = d .bytes;
-      taken = d .accepted;
+half-boards s z ps buffer v t₀ l₀ t₁ l₁ t₂ l₂ x y one two a₀ b₀ answer =
+    let words = one .param-bytes in
+    let u = as-read ps x (one .taken) s (one .sent-as) in
+    let w = as-read ps y (two .taken) z (two .sent-as) in
+    let q : joinOn (encode x) (encode y) ps buffer ≡ joined (4294967296 + length v) (v ++ drop (length v) buffer) = rw (one .sent-as, two .sent-as) answer in
+    let d = told ps buffer v x y (joinOn (encode x) (encode y) ps buffer) (join-says ps buffer words x y (one .taken) (two .taken)) q in
+    let joint : Prepared v ps t₀ l₀ (pooled x y) = record {
+      param-bytes = words;
+      room = b₀;
       compiles = ap (λ (r : Compiled). r .0) (accepted-taken v ps (pooled x y) (d .bytes) (d .accepted) t₀ a₀);
-      halves = halves ps words u w v d t₀ l₀ t₁ l₁ t₂ l₂ a₀ (table-room s ps t₁ h₁) (table-room z ps t₂ h₂) b₀ b₁ b₂;
-    }
+      sent-as = d .bytes;
+      taken = d .accepted;
+    } in
+    (joint, halves ps words u w v d t₀ l₀ t₁ l₁ t₂ l₂ joint one two)

@@ -8,13 +8,9 @@ use mathlib.Core.Bool.{false, _&&_}
 use mathlib.Core.Path.{_≡_}
 use mathlib.Core.List.{List, _++_, map}
 use lib.ListN.{length, getD, take, drop}
-use Rattle.lib_base.specs.Basics.{All}
-use Rattle.lib_word.specs.Word.{get}
 use Rattle.spec_language.specs.Syntax.{Program}
 use Rattle.spec_language.specs.Sheet.{Sheet}
-use Rattle.spec_language.specs.Grammar.{encode}
 use Rattle.spec_language.specs.Dependence.{size, events}
-use Rattle.spec_language.specs.Accepted.{SheetAccepted}
 use Rattle.spec_language.specs.Rights.{maySend, maySee}
 use Rattle.spec_model.specs.Model.{Call, call}
 use Rattle.spec_model.specs.Claims.{engineAfter, committedIn, eventsOf, copyBackIn}
@@ -24,7 +20,7 @@ use Rattle.link_pooled.specs.Together.{declared}
 use Rattle.link_join.specs.Join.{joined, joinOn}
 use Rattle.run_start.specs.Start.{startOn}
 use Rattle.refine_calls.specs.Refinement.{calls, bytes, bytesAfter}
-use Rattle.refine_lists.specs.Lists.{boardOf}
+use Rattle.refine_lists.specs.Lists.{boardOf, Prepared}
 
 -- the board after the calls cs on the table t of program p and the round that start makes fresh in the bytes l
 abbrev pub boardAfter : Program → List ℕ → List ℕ → List Call → List ℕ
@@ -56,21 +52,13 @@ pub record Halves (p q j : Program) (t₀ l₀ t₁ l₁ t₂ l₂ : List ℕ) :
   pub rank-first : (e : ℕ) → e < events p → getD (j .priorities) e 0 ≡ getD (p .priorities) e 0
   pub rank-second : (e : ℕ) → e < events q → getD (j .priorities) e 0 ≡ getD (q .priorities) e 0
 
--- the joined sheet is the one pooled from both, compile takes its bytes v in a table of 01's length, and its round is
--- the two sheets' side by side
-pub record JoinedRound (x y : Sheet) (s z ps v t₀ l₀ t₁ l₁ t₂ l₂ : List ℕ) : Type 0 where
-  pub bytes : encode (pooled x y) ≡ v
-  pub taken : SheetAccepted (get ps) (length ps) (pooled x y)
-  pub compiles : compileOn v ps t₀ .0 ≡ 0
-  pub halves : Halves (programOf ps x) (programOf ps y) (programOf ps (pooled x y)) (compileOn v ps t₀ .1) l₀ (compileOn s ps t₁ .1) l₁ (compileOn z ps t₂ .1) l₂
-
--- every two sheets x and y that compile accepts as the bytes s and z with the same parameters ps, in any table and
--- round bytes of 01's lengths, where join has delivered the bytes v in the buffer
+-- every two sheets x and y that compile accepts as the bytes s and z with the same parameters ps, and any table and
+-- round bytes of 01's lengths for the joined one, where join has delivered the bytes v in the buffer: the joined sheet
+-- is the one pooled from both, compile takes its bytes v, and its round is the two sheets' side by side
 abbrev pub HalfBoards : Type 0
 HalfBoards =
-    (s z ps buffer v t₀ l₀ t₁ l₁ t₂ l₂ : List ℕ) → All (λ b. b < 256) s → All (λ b. b < 256) z → All (λ b. b < 256) ps
-    → 34816 ≤ length t₀ → 2048 ≤ length l₀ → 2048 ≤ length l₁ → 2048 ≤ length l₂
-    → compileOn s ps t₁ .0 ≡ 0 → compileOn z ps t₂ .0 ≡ 0
-    → (x y : Sheet) → encode x ≡ s → encode y ≡ z → SheetAccepted (get ps) (length ps) x → SheetAccepted (get ps) (length ps) y
+    (s z ps buffer v t₀ l₀ t₁ l₁ t₂ l₂ : List ℕ) (x y : Sheet) → Prepared s ps t₁ l₁ x → Prepared z ps t₂ l₂ y
+    → 34816 ≤ length t₀ → 2048 ≤ length l₀
     → joinOn s z ps buffer ≡ joined (4294967296 + length v) (v ++ drop (length v) buffer)
-    → JoinedRound x y s z ps v t₀ l₀ t₁ l₁ t₂ l₂
+    → Prepared v ps t₀ l₀ (pooled x y)
+    × Halves (programOf ps x) (programOf ps y) (programOf ps (pooled x y)) (compileOn v ps t₀ .1) l₀ (compileOn s ps t₁ .1) l₁ (compileOn z ps t₂ .1) l₂

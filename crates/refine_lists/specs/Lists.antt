@@ -3,7 +3,7 @@
 -- sentences of the model engine: crate spec_model, Claims.antt. Turns on bytes: crate refine_calls, Refinement.antt.
 use Prim.Native.Nat.{ℕ, _+_, _≤_, _<_}
 use mathlib.Core.Bool.{Bool, true, false}
-use mathlib.Core.List.{List, [], _∷_, _++_, map, zipWith}
+use mathlib.Core.List.{List, [], _∷_, _++_, map, zipWith, Forall₂}
 use mathlib.Core.Path.{_≡_}
 use mathlib.Core.Logic.{_≢_}
 use lib.Dec.{eqb}
@@ -152,55 +152,61 @@ Means (calling c) (change q) = ⊥
 Means (mending s ps t) (call d) = ⊥
 Means (mending s ps t) (change q) = (x : Sheet) × (encode x ≡ s) × SheetAccepted (get ps) (length ps) x × (q ≡ programOf ps x)
 
+-- turn by turn, and none left over (the library's `Forall₂`)
 abbrev pub AllMean : List SheetTurn → List Turn → Type 0
-AllMean [] [] = Unit {0}
-AllMean [] (t ∷ ts) = ⊥
-AllMean (x ∷ xs) [] = ⊥
-AllMean (x ∷ xs) (t ∷ ts) = Means x t × AllMean xs ts
+AllMean = Forall₂ Means
 
 -- the table that compile leaves, and the round that start makes fresh from it
 abbrev pub freshRoundOn : List ℕ → List ℕ → List ℕ → List ℕ → Bytes
 freshRoundOn s ps t₀ l₀ = bytes (compileOn s ps t₀ .1) (startOn (compileOn s ps t₀ .1) l₀ .1)
 
+-- compile takes the sheet x, sent as the bytes s with the parameters ps, into the table t; l has room for a round. The
+-- sheet is the one that `encode-injective` makes the only one
+pub record Prepared (s ps t l : List ℕ) (x : Sheet) : Type 0 where
+  pub param-bytes : All (λ b. b < 256) ps
+  pub room : 2048 ≤ length l
+  pub compiles : compileOn s ps t .0 ≡ 0
+  pub sent-as : encode x ≡ s
+  pub taken : SheetAccepted (get ps) (length ps) x
+
 -- ---- two lists on one sheet, each on a table and a round of its own. The parameters lent may differ where the program
 -- filled in is the same: none to one and 32 bytes to the other of a sheet that uses none, for instance
 
 pub record TwoRounds (s ps qs t₀ l₀ t₁ l₁ : List ℕ) (x : Sheet) : Type 0 where
-  pub sheet-bytes : All (λ b. b < 256) s
-  pub param-bytes : All (λ b. b < 256) ps
-  pub one-room : 2048 ≤ length l₀
-  pub other-room : 2048 ≤ length l₁
-  pub one-compiles : compileOn s ps t₀ .0 ≡ 0
-  pub other-compiles : compileOn s qs t₁ .0 ≡ 0
-  -- the sheet is the one that `encode-injective` makes the only one
-  pub sheet-is : encode x ≡ s
-  pub one-taken : SheetAccepted (get ps) (length ps) x
-  pub other-taken : SheetAccepted (get qs) (length qs) x
+  pub one : Prepared s ps t₀ l₀ x
+  pub other : Prepared s qs t₁ l₁ x
   pub filled : programOf qs x ≡ programOf ps x
 
 -- "for every two such lists on one sheet, taking in the same events in the same order ..: when both are idle, their
--- boards are equal"; 02, M-112: "equal boards on two phones need independence in each sheet and the same change after
--- the same commits"
-abbrev pub TwoLists : Type 0
-TwoLists =
+-- boards are equal"; 02, M-112: with "the same change after the same commits"; under the condition C, of the bytes of
+-- sheet and parameters, the program and the first list
+abbrev pub TwoListsWhere : (List ℕ → List ℕ → Program → List SheetTurn → List Turn → Type 0) → Type 0
+TwoListsWhere C =
     (s ps qs t₀ l₀ t₁ l₁ : List ℕ) (x : Sheet) → TwoRounds s ps qs t₀ l₀ t₁ l₁ x
     → (xs ys : List SheetTurn) → All Compiles xs → All Compiles ys
     → (ts us : List Turn) → AllMean xs ts → AllMean ys us
     → eventsOf (takenInBy (programOf ps x) ts) ≡ eventsOf (takenInBy (programOf ps x) us)
     → SameChanges (courseOf (historyOf (programOf ps x) ts)) (courseOf (historyOf (programOf ps x) us))
-    → ApartEach (programOf ps x) (courseOf (historyOf (programOf ps x) ts))
+    → C s ps (programOf ps x) xs ts
     → IdleNow (bytesAfter (map onBytes xs) (freshRoundOn s ps t₀ l₀)) → IdleNow (bytesAfter (map onBytes ys) (freshRoundOn s qs t₁ l₁))
     → boardOf (programAfter (programOf ps x) ts) (bytesAfter (map onBytes xs) (freshRoundOn s ps t₀ l₀) .round)
     ≡ boardOf (programAfter (programOf ps x) us) (bytesAfter (map onBytes ys) (freshRoundOn s qs t₁ l₁) .round)
 
--- of calls alone, as 01 words it: "those of unequal rank being independent", of the arrivals taken in; 02, M-107:
--- "Arrivals in hand commit as before, whoever sent them"
-abbrev pub TwoOnlyCalls : Type 0
-TwoOnlyCalls =
+-- "equal boards on two phones need independence in each sheet"
+abbrev pub TwoLists : Type 0
+TwoLists = TwoListsWhere (λ s ps p xs ts. ApartEach p (courseOf (historyOf p ts)))
+
+-- of calls alone, as 01 words it; 02, M-107: "Arrivals in hand commit as before, whoever sent them"
+abbrev pub TwoCallsWhere : (List ℕ → List ℕ → Program → List Call → Type 0) → Type 0
+TwoCallsWhere C =
     (s ps qs t₀ l₀ t₁ l₁ : List ℕ) (x : Sheet) → TwoRounds s ps qs t₀ l₀ t₁ l₁ x
     → (cs ds : List Call)
     → eventsOf (takenInBy (programOf ps x) (map call cs)) ≡ eventsOf (takenInBy (programOf ps x) (map call ds))
-    → ApartIn (programOf ps x) (takenInBy (programOf ps x) (map call cs))
+    → C s ps (programOf ps x) cs
     → IdleNow (bytesAfter (map calls cs) (freshRoundOn s ps t₀ l₀)) → IdleNow (bytesAfter (map calls ds) (freshRoundOn s qs t₁ l₁))
     → boardOf (programOf ps x) (bytesAfter (map calls cs) (freshRoundOn s ps t₀ l₀) .round)
     ≡ boardOf (programOf ps x) (bytesAfter (map calls ds) (freshRoundOn s qs t₁ l₁) .round)
+
+-- "those of unequal rank being independent", of the arrivals taken in
+abbrev pub TwoOnlyCalls : Type 0
+TwoOnlyCalls = TwoCallsWhere (λ s ps p cs. ApartIn p (takenInBy p (map call cs)))

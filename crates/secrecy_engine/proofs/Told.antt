@@ -4,7 +4,7 @@ use Prim.Native.Nat.{ℕ}
 use mathlib.Core.Bool.{true, false}
 use mathlib.Core.Path.{_≡_, refl, ap, _∙_}
 use mathlib.Core.Option.{Option, none, some}
-use mathlib.Core.List.{List, [], _∷_, map, zipWith}
+use mathlib.Core.List.{List, [], _∷_, map, zipWith, Forall₂·nil, Forall₂·cons}
 use native.Mathlib.Omega.{arith}
 use lib.Dec.{eqb}
 use Rattle.lib_base.specs.Basics.{pick}
@@ -65,14 +65,13 @@ turn-heard player (calling d) (change q) m r = absurd m
 turn-heard player (mending s ps t) (call c) m r = absurd m
 turn-heard player (mending s ps t) (change q) m r = refl
 
-pub turns-heard : (player : ℕ) (xs : List SheetTurn) (ts : List Turn) → AllMean xs ts → (rs : List Reply)
+pub turns-heard : (player : ℕ) {xs : List SheetTurn} {ts : List Turn} → AllMean xs ts → (rs : List Reply)
     → zipWith (hearsIn player) xs (map codedReply rs) ≡ zipWith (renumbered player) ts (zipWith (hearsOf player) ts rs)
 unfolding zipWith
-turns-heard player [] [] m rs = refl
-turns-heard player [] (t ∷ ts) m rs = absurd m
-turns-heard player (x ∷ xs) [] m rs = absurd m
-turns-heard player (x ∷ xs) (t ∷ ts) m [] = refl
-turns-heard player (x ∷ xs) (t ∷ ts) m (r ∷ rs) = λ z. turn-heard player x t (m .0) r z ∷ turns-heard player xs ts (m .1) rs z
+turns-heard player Forall₂·nil rs = refl
+turns-heard player (Forall₂·cons m ms) [] = refl
+turns-heard player (Forall₂·cons {a = x} {b = t} {l₁ = xs} {l₂ = ts} m ms) (r ∷ rs) =
+    λ z. turn-heard player x t m r z ∷ turns-heard player {xs = xs} {ts = ts} ms rs z
 
 -- a pair's turns are of one kind
 one-kind : (player : ℕ) (c : Pair) (r : Option Reply) → renumbered player (inOne c) r ≡ renumbered player (inOther c) r

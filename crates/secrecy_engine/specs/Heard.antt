@@ -6,46 +6,30 @@
 -- refusals included." M-112: "M-107's rule for a player needs its condition of both sheets, with the same behaviours
 -- hidden." The condition, and what a pair of turns is: crate secrecy_model, Sight.antt. Turns from sheets: crate
 -- refine_lists, Lists.antt.
-use Prim.Native.Nat.{ℕ, _≤_, _<_}
+use Prim.Native.Nat.{ℕ}
 use mathlib.Core.Path.{_≡_}
 use mathlib.Core.Option.{Option, none, some}
 use mathlib.Core.List.{List, map, zipWith}
 use lib.Dec.{eqb}
-use lib.ListN.{length}
 use Rattle.lib_base.specs.Basics.{pick, All}
-use Rattle.lib_word.specs.Word.{get}
-use Rattle.spec_language.specs.Sheet.{Sheet}
-use Rattle.spec_language.specs.Grammar.{encode}
-use Rattle.spec_language.specs.Accepted.{SheetAccepted}
+use Rattle.spec_language.specs.Syntax.{Program}
+use Rattle.spec_language.specs.Sheet.{Sheet, fill}
 use Rattle.spec_model.specs.Model.{Call, arrive, step, board, begun}
-use Rattle.back_compile.specs.Verdict.{programOf, compileOn}
+use Rattle.back_compile.specs.Verdict.{programOf}
 use Rattle.run_forecast.specs.Forecast.{forecastOn}
 use Rattle.run_preview.specs.Preview.{previewOn}
 use Rattle.refine_calls.specs.Refinement.{toldOn, Bytes, numbersOn, bytesAfter}
-use Rattle.refine_lists.specs.Lists.{SheetTurn, calling, mending, Compiles, onBytes, AllMean, freshRoundOn}
-use Rattle.secrecy_model.specs.Sight.{Sealed, AlikeBut, Pair, inOne, inOther, ConditionAll}
+use Rattle.refine_lists.specs.Lists.{SheetTurn, calling, mending, Compiles, onBytes, AllMean, freshRoundOn, Prepared}
+use Rattle.secrecy_model.specs.Sight.{Sealed, AlikeBut, Pair, inOne, inOther, SameHidden, AtChanges}
 
--- ---- the two sheets x and y, which compile accepts as the bytes s and z with the parameters ps and qs, in any table
--- and
--- round bytes of 01's lengths
+-- ---- the two sheets x and y, which compile accepts as the bytes s and z with the parameters ps and qs
 
 pub record TwoSheets (player : ℕ) (s z ps qs t₀ l₀ t₁ l₁ : List ℕ) (x y : Sheet) : Type 0 where
-  pub one-bytes : All (λ b. b < 256) s
-  pub other-bytes : All (λ b. b < 256) z
-  pub one-params : All (λ b. b < 256) ps
-  pub other-params : All (λ b. b < 256) qs
-  pub one-room : 2048 ≤ length l₀
-  pub other-room : 2048 ≤ length l₁
-  pub one-compiles : compileOn s ps t₀ .0 ≡ 0
-  pub other-compiles : compileOn z qs t₁ .0 ≡ 0
-  pub one-is : encode x ≡ s
-  pub other-is : encode y ≡ z
-  pub one-taken : SheetAccepted (get ps) (length ps) x
-  pub other-taken : SheetAccepted (get qs) (length qs) y
-  -- "their sheets differing only in start values of hidden behaviours", "no behaviour this player sees depends on a
-  -- hidden one", and "the same parameters": or others where the program filled in is the same
+  pub one : Prepared s ps t₀ l₀ x
+  pub other : Prepared z qs t₁ l₁ y
+  -- "their sheets differing only in start values of hidden behaviours", and "the same parameters": or others where the
+  -- program filled in is the same
   pub alike : AlikeBut player x y
-  pub sealed : Sealed (programOf ps x) player
   pub filled : programOf qs y ≡ programOf ps y
 
 -- ---- "equal answers, refusals included"
@@ -72,22 +56,19 @@ pub record HeardAlike (player : ℕ) (b : Bytes) (xs : List SheetTurn) (c : Byte
   pub forecast : forecastOn (bytesAfter (map onBytes xs) b .table) (bytesAfter (map onBytes xs) b .round)
       ≡ forecastOn (bytesAfter (map onBytes ys) c .table) (bytesAfter (map onBytes ys) c .round)
 
--- ---- the rule: every player, every two such sheets, and every two lists of turns that are the pairs l, at each change
--- that is made the condition being asked of the sheet in force and the new one
+-- ---- the rule: every player, every two such sheets of which "no behaviour this player sees depends on a hidden one",
+-- and every two lists of turns that are the pairs l, where the same is asked of the new sheets at each change that is
+-- made. "The same calls in the same order", cs, are the case `map both cs`, of which nothing more is asked
 
-abbrev pub WithChanges : Type 0
-WithChanges =
+-- a change to the sheets a and b, filled with v and w, the program p being in force: they are alike as above, "with the
+-- same behaviours hidden"
+abbrev pub AlikeAt : ℕ → Program → (ℕ → ℕ) → (ℕ → ℕ) → Sheet → Sheet → Type 0
+AlikeAt player p v w a b = AlikeBut player a b × (fill w b ≡ fill v b) × SameHidden player p (fill v a)
+
+abbrev pub RuleOn : Type 0
+RuleOn =
     (player : ℕ) (s z ps qs t₀ l₀ t₁ l₁ : List ℕ) (x y : Sheet) → TwoSheets player s z ps qs t₀ l₀ t₁ l₁ x y
-    → (l : List Pair) → ConditionAll player l (begun (programOf ps x)) (begun (programOf qs y))
+    → Sealed (programOf ps x) player → (l : List Pair)
+    → AtChanges (λ p v w a b. AlikeAt player p v w a b × Sealed (fill v a) player) l (begun (programOf ps x)) (begun (programOf qs y))
     → (xs ys : List SheetTurn) → All Compiles xs → All Compiles ys → AllMean xs (map inOne l) → AllMean ys (map inOther l)
     → HeardAlike player (freshRoundOn s ps t₀ l₀) xs (freshRoundOn z qs t₁ l₁) ys
-
--- as M-107 words it, of the same calls in both rounds
-abbrev pub OfCalls : Type 0
-OfCalls =
-    (player : ℕ) (s z ps qs t₀ l₀ t₁ l₁ : List ℕ) (x y : Sheet) → TwoSheets player s z ps qs t₀ l₀ t₁ l₁ x y
-    → (cs : List Call) → HeardAlike player (freshRoundOn s ps t₀ l₀) (map calling cs) (freshRoundOn z qs t₁ l₁) (map calling cs)
-
-pub record RuleOn : Type 0 where
-  pub with-changes : WithChanges
-  pub of-calls : OfCalls

@@ -1,5 +1,5 @@
--- Names decide M-107's condition: the names that the entries of a behaviour have, event by event, are all its names;
--- and a chain from a behaviour that is seen stays among those that are seen, step by step.
+-- The names that the entries of a behaviour have, event by event, are all its names, and they are behaviours' of the
+-- program: each handler is the one for its event, and names exist.
 use Prim.Native.Nat.{ℕ, _+_, _≤_, _<_}
 use mathlib.Core.Bool.{Bool, true, false, _||_, true≢false, false≢true, or-true}
 use mathlib.Core.Path.{_≡_, refl, sym, ap, _∙_}
@@ -13,8 +13,7 @@ use borrow.Author.Tests.{eq-eqb, ne-eqb, eqb-true, eqb-false}
 use Rattle.lib_base.specs.Basics.{All}
 use Rattle.lib_base.proofs.Tools.{split, or-either, all-at-or}
 use Rattle.spec_language.specs.Syntax.{Expr, Phase, immediate, later, Handler, handler, Behaviour, passive, active, Program}
-use Rattle.spec_language.specs.Rights.{maySee}
-use Rattle.spec_language.specs.Dependence.{Response, follows, takes, defers, keeps, size, events, inPhase, handled, respond, response, behaviourAt, mentions, Reach, one, more}
+use Rattle.spec_language.specs.Dependence.{Response, follows, takes, defers, keeps, size, events, inPhase, handled, respond, response, behaviourAt, mentions}
 use Rattle.spec_language.specs.Grammar.{NoneFor, HandlersFit, BehaviourFits}
 use Rattle.spec_language.specs.Accepted.{HandlerNamesIn, BehaviourNamesIn, Known}
 use Rattle.spec_language.proofs.Laws.{handled-here, handled-there, named-in}
@@ -23,8 +22,7 @@ use Rattle.check_graph.proofs.Any.{any-none, any-some}
 use Rattle.check_reads.specs.Named.{inResponse}
 use Rattle.check_reads.proofs.Decides.{any-found}
 use Rattle.check_leak.specs.Leak.{behaviourNames}
-use Rattle.check_leak.specs.Claims.{NoHiddenName}
-use Rattle.secrecy_model.specs.Sight.{inHandlers, inBehaviour, names, Sealed}
+use Rattle.secrecy_model.specs.Sight.{inHandlers, inBehaviour, names}
 
 -- ---- the handlers of an active, event by event
 
@@ -83,27 +81,16 @@ names-in n j (passive x) k h = named-in n j x k h
 names-in n j (active s hs) k h = handlers-in n j hs k h
 
 module _ (p : Program) (each : All (BehaviourFits (events p)) (p .behaviours)) (known : Known p) where
-  names-are : (i j : ℕ) → behaviourNames p i j ≡ names p i j
+  pub names-are : (i j : ℕ) → behaviourNames p i j ≡ names p i j
   unfolding behaviourNames
   names-are i j =
       behaviour-names (events p) j (behaviourAt p i)
       (all-at-or (BehaviourFits (events p)) (p .behaviours) i (active 0 []) each (omega arith, tt))
 
-  named-within : (i j : ℕ) → names p i j ≡ true → (i < size p) × (j < size p)
+  pub named-within : (i j : ℕ) → names p i j ≡ true → (i < size p) × (j < size p)
   unfolding inHandlers
   named-within i j h = (
     by-cases (decLt i (size p)) (λ s. s)
         (λ s. absurd (false≢true (sym (ap (inBehaviour j) (List·getD-eq-default (p .behaviours) (active 0 []) (omega arith))) ∙ h))),
     names-in (size p) j (behaviourAt p i) (all-at-or (BehaviourNamesIn (size p)) (p .behaviours) i (active 0 []) known tt) h,
   )
-
-  module _ (player : ℕ) where
-    step : NoHiddenName p player → (i j : ℕ) → maySee p player i ≡ true → names p i j ≡ true → maySee p player j ≡ true
-    step h i j s n = let w = named-within i j n in h i j (w .0) (w .1) s (names-are i j ∙ n)
-
-    pub sealed-is : NoHiddenName p player → Sealed p player
-    sealed-is h i j s (one n) = step h i j s n
-    sealed-is h i j s (more {b = k} r n) = step h k j (sealed-is h i k s r) n
-
-    pub sealed-says : Sealed p player → NoHiddenName p player
-    sealed-says h i j a b s n = h i j s (one (sym (names-are i j) ∙ n))

@@ -12,24 +12,24 @@ use borrow.Author.Tests.{ne-eqb, lt-ltb, le-ltb}
 use Rattle.lib_base.specs.Basics.{All}
 use Rattle.lib_word.specs.Word.{get}
 use Rattle.spec_language.specs.Syntax.{Program}
-use Rattle.spec_language.specs.Sheet.{Sheet}
+use Rattle.spec_language.specs.Sheet.{Sheet, fill}
 use Rattle.spec_language.specs.Reading.{got, readSheet}
 use Rattle.spec_language.specs.Grammar.{encode}
-use Rattle.spec_language.specs.Accepted.{Accepted, SheetAccepted}
+use Rattle.spec_language.specs.Accepted.{SheetAccepted}
 use Rattle.spec_language.specs.Refusals.{noPlayer}
 use Rattle.spec_grammar.proofs.Programs.{reads-back}
 use Rattle.back_compile.specs.Verdict.{Compiled, programOf, numberOn}
 use Rattle.back_compile.proofs.AcceptedExactly.{accepted-exactly}
 use Rattle.refine_lists.proofs.Sheets.{program-accepted}
-use Rattle.spec_model.specs.Model.{State, turn}
-use Rattle.refine_lists.specs.Lists.{SheetTurn, calling, mending, Compiles, AllMean}
-use Rattle.secrecy_model.specs.Sight.{Sealed, Pair, both, each, inOne, inOther, ConditionAll}
-use Rattle.secrecy_engine.specs.Heard.{TwoSheets}
-use Rattle.secrecy_engine.proofs.HeardHolds.{rule-on}
+use Rattle.refine_lists.proofs.FromSheets.{prepared-bytes}
+use Rattle.spec_model.specs.Model.{Call, change, begun}
+use Rattle.refine_lists.specs.Lists.{SheetTurn, calling, mending, Compiles, Means, freshRoundOn, Prepared}
+use Rattle.secrecy_model.specs.Sight.{Sealed}
+use Rattle.secrecy_engine.specs.Heard.{TwoSheets, HeardAlike, AlikeAt}
+use Rattle.secrecy_engine.proofs.HeardHolds.{at-changes, rule-on, of-calls}
 use Rattle.check_leak.specs.Leak.{leakIn, leakRead, leakOn}
-use Rattle.check_leak.proofs.Decides.{zero-says, zero-is, named-is-true}
-use Rattle.secrecy_leak.specs.Leakless.{LeakAnswer, LeakAnswers, SheetsAlike, RuleHolds, SealedToo, AlikeAll, RuleWithChanges, WithNoCondition}
-use Rattle.secrecy_leak.proofs.ByNames.{sealed-is, sealed-says}
+use Rattle.secrecy_leak.specs.Leakless.{LeakAnswer, LeakAnswers, SealedToo, RuleWithChanges, WithNoCondition}
+use Rattle.secrecy_leak.proofs.Decides.{zero-says, zero-is, named-is-true}
 
 full : 34816 ≤ length {A = ℕ} (replicate 34816 0)
 full = omega (arith, length-replicate {A = ℕ} 34816 0)
@@ -53,9 +53,9 @@ module _ (s ps : List ℕ) (bytes : All (λ b. b < 256) s) (x : Sheet) (e : enco
         let p = programOf ps x in
         let k = program-accepted ps words x taken in
         record {
-          zero-if = λ h. leak-is player few ∙ zero-is p player (sealed-says p (k .fits .each) (k .known) player h);
-          only-if = λ z. sealed-is p (k .fits .each) (k .known) player (zero-says p player (sym (leak-is player few) ∙ z));
-          named = λ h. named-is-true p player (leakOn s ps player) (sym (leak-is player few)) h;
+          zero-if = λ h. leak-is player few ∙ zero-is p (k .fits .each) (k .known) player h;
+          only-if = λ z. zero-says p (k .fits .each) (k .known) player (sym (leak-is player few) ∙ z);
+          named = λ h. named-is-true p (k .fits .each) (k .known) player (leakOn s ps player) (sym (leak-is player few)) h;
         }
 
   -- 0 says that the player is one of eight
@@ -77,60 +77,36 @@ answers s ps player bytes words = (λ x e taken b. answered s ps bytes x e taken
 
 -- ---- the rule
 
-two-sheets : (player : ℕ) (s z ps qs t₀ l₀ t₁ l₁ : List ℕ) (x y : Sheet) → SheetsAlike player s z ps qs t₀ l₀ t₁ l₁ x y → leakOn s ps player ≡ 0
-    → TwoSheets player s z ps qs t₀ l₀ t₁ l₁ x y
-two-sheets player s z ps qs t₀ l₀ t₁ l₁ x y two free = record {
-  one-bytes = two .one-bytes;
-  other-bytes = two .other-bytes;
-  one-params = two .one-params;
-  other-params = two .other-params;
-  one-room = two .one-room;
-  other-room = two .other-room;
-  one-compiles = two .one-compiles;
-  other-compiles = two .other-compiles;
-  one-is = two .one-is;
-  other-is = two .other-is;
-  one-taken = two .one-taken;
-  other-taken = two .other-taken;
-  alike = two .alike;
-  sealed = sealed-by s ps (two .one-bytes) x (two .one-is) (two .one-taken) (two .one-params) player free;
-  filled = two .filled;
-}
+prepared-sealed : (s ps t l : List ℕ) (x : Sheet) → Prepared s ps t l x → (player : ℕ) → leakOn s ps player ≡ 0 → Sealed (programOf ps x) player
+prepared-sealed s ps t l x r player z = sealed-by s ps (prepared-bytes s ps t l x r) x (r .sent-as) (r .taken) (r .param-bytes) player z
 
-rule-holds : RuleHolds
-rule-holds player s z ps qs t₀ l₀ t₁ l₁ x y two free cs =
-    rule-on .of-calls player s z ps qs t₀ l₀ t₁ l₁ x y (two-sheets player s z ps qs t₀ l₀ t₁ l₁ x y two free) cs
+-- as M-107 words it, of the same calls in both rounds
+pub rule-of-calls : (player : ℕ) (s z ps qs t₀ l₀ t₁ l₁ : List ℕ) (x y : Sheet) → TwoSheets player s z ps qs t₀ l₀ t₁ l₁ x y → leakOn s ps player ≡ 0
+    → (cs : List Call) → HeardAlike player (freshRoundOn s ps t₀ l₀) (map calling cs) (freshRoundOn z qs t₁ l₁) (map calling cs)
+rule-of-calls player s z ps qs t₀ l₀ t₁ l₁ x y two free cs =
+    of-calls player s z ps qs t₀ l₀ t₁ l₁ x y two (prepared-sealed s ps t₀ l₀ x (two .one) player free) cs
 
 -- ---- at each change
 
-conditions : (player : ℕ) (l : List Pair) (a b : State) → AlikeAll player l a b
-    → (xs ys : List SheetTurn) → All Compiles xs → All Compiles ys → AllMean xs (map inOne l) → AllMean ys (map inOther l)
-    → All (SealedToo player) xs → ConditionAll player l a b
-conditions player [] a b h xs ys k m e f q = tt
-conditions player (c ∷ l) a b h [] ys k m e f q = absurd e
-conditions player (c ∷ l) a b h (x ∷ xs) [] k m e f q = absurd f
-conditions player (both c ∷ l) a b h (x ∷ xs) (y ∷ ys) k m e f q =
-    (tt, conditions player l (turn (inOne (both c)) a .after) (turn (inOther (both c)) b .after) (h .1) xs ys (k .1) (m .1) (e .1) (f .1) (q .1))
-conditions player (each v w s t ∷ l) a b h (calling c ∷ xs) (y ∷ ys) k m e f q = absurd (e .0)
-conditions player (each v w s t ∷ l) a b h (mending d ps u ∷ xs) (calling c ∷ ys) k m e f q = absurd (f .0)
-conditions player (each v w s t ∷ l) a b h (mending d ps u ∷ xs) (mending g qs o ∷ ys) k m e f q = (
-  λ made. let r = h .0 made in (
-    record {
-      alike = r .0;
-      sealed = subst (λ (p : Program). Sealed p player) (sym (e .0 .3)) (sealed-by d ps (k .0 .0) (e .0 .0) (e .0 .1) (e .0 .2) (k .0 .1) player (q .0));
-      filled = r .1;
-      one = subst Accepted (sym (e .0 .3)) (program-accepted ps (k .0 .1) (e .0 .0) (e .0 .2));
-      other = subst Accepted (sym (f .0 .3) ∙ r .1) (program-accepted qs (m .0 .1) (f .0 .0) (f .0 .2));
-    },
-    r .2,
-  ),
-  conditions player l (turn (inOne (each v w s t)) a .after) (turn (inOther (each v w s t)) b .after) (h .1) xs ys (k .1) (m .1) (e .1) (f .1) (q .1),
-)
+-- what is known of a turn of the first list
+abbrev Free : ℕ → SheetTurn → Type 0
+Free player a = Compiles a × SealedToo player a
+
+all-free : (player : ℕ) (xs : List SheetTurn) → All Compiles xs → All (SealedToo player) xs → All (Free player) xs
+all-free player [] k q = tt
+all-free player (x ∷ xs) k q = ((k .0, q .0), all-free player xs (k .1) (q .1))
+
+sealed-new : (player : ℕ) (a b : SheetTurn) (p : Program) (v w : ℕ → ℕ) (s t : Sheet) → Free player a → Compiles b → Means a (change (fill v s)) → Means b (change (fill w t))
+    → AlikeAt player p v w s t → AlikeAt player p v w s t × Sealed (fill v s) player
+sealed-new player (calling c) b p v w s t k m e f h = absurd e
+sealed-new player (mending d ps u) b p v w s t k m e f h =
+    (h, subst (λ (q : Program). Sealed q player) (sym (e .3)) (sealed-by d ps (k .0 .0) (e .0) (e .1) (e .2) (k .0 .1) player (k .1)))
 
 with-changes : RuleWithChanges
 with-changes player s z ps qs t₀ l₀ t₁ l₁ x y two free l h xs ys k m e f q =
-    rule-on .with-changes player s z ps qs t₀ l₀ t₁ l₁ x y (two-sheets player s z ps qs t₀ l₀ t₁ l₁ x y two free) l
-    (conditions player l _ _ h xs ys k m e f q) xs ys k m e f
+    rule-on player s z ps qs t₀ l₀ t₁ l₁ x y two (prepared-sealed s ps t₀ l₀ x (two .one) player free) l
+    (at-changes (Free player) Compiles (AlikeAt player) _ (sealed-new player) l (begun (programOf ps x)) (begun (programOf qs y)) h xs ys (all-free player xs k q) m e f)
+    xs ys k m e f
 
 pub with-no-condition : WithNoCondition
-with-no-condition = record { answers = answers; rule = rule-holds; with-changes = with-changes }
+with-no-condition = record { answers = answers; rule = with-changes }

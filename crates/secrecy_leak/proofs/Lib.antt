@@ -1,2 +1,3 @@
 pub mod ByNames
+pub mod Decides
 pub mod LeaklessHolds

@@ -7,7 +7,7 @@ use Prim.Native.Nat.{ℕ, zero, suc}
 use mathlib.Core.Bool.{Bool, true, false, true≢false}
 use mathlib.Core.Path.{_≡_, refl, sym, ap, _∙_}
 use mathlib.Core.Option.{Option, none, some}
-use mathlib.Core.List.{List, [], _∷_, flatten, flatMap, zipWith, map}
+use mathlib.Core.List.{List, [], _∷_, flatten, flatMap, zipWith, map, Forall₂·nil, Forall₂·cons}
 use native.Mathlib.Omega.{arith}
 use lib.ListN.{replicate}
 use Rattle.lib_arith.specs.Exact.{beyond}
@@ -22,7 +22,7 @@ use Rattle.spec_semantics.specs.Meaning.{value, inTurn, firstPhase, starts, fre
 use Rattle.spec_execution.specs.Execution.{execute, emptied, times}
 use Rattle.spec_model.specs.Model.{arrive, step, board, refused, takenIn, shows, idle, ran, started, preempted, committed, act, Reply, says, carriedOver, turn, replies, begun, Turn, call}
 use Rattle.spec_model.specs.Carried.{carriedActives, carried}
-use Rattle.secrecy_model.specs.Sight.{AlikeBut, Pair, both, each, inOne, inOther, heardOf, EqualReplies, SameHidden}
+use Rattle.secrecy_model.specs.Sight.{two-formulas, two-states, AlikeBut, Pair, both, each, inOne, inOther, heardOf, EqualReplies, SameHidden}
 
 -- no parameter is used
 abbrev none-lent : ℕ → ℕ
@@ -34,7 +34,7 @@ abbrev leaky : ℕ → Sheet
 leaky n = sheet [] (entry (formula (variable 1)) none ∷ entry (state n []) (some 1) ∷ [])
 
 leaky-alike : AlikeBut 1 (leaky 1) (leaky 2)
-leaky-alike = (refl, ((refl, refl), ((refl, (λ h. absurd (true≢false (sym h)), refl)), tt)))
+leaky-alike = (refl, Forall₂·cons (refl, two-formulas) (Forall₂·cons (refl, two-states (λ h. absurd (true≢false (sym h)))) Forall₂·nil))
 
 -- the first value shown in replies
 abbrev shown : List (Option Reply) → ℕ
@@ -68,7 +68,7 @@ abbrev closed : ℕ → Sheet
 closed n = sheet (signal 0 none ∷ []) (entry (state n (clause 0 immediate (apply2 4 (variable 0) (literal 1)) ∷ [])) (some 1) ∷ [])
 
 closed-alike : AlikeBut 1 (closed 2147483647) (closed 0)
-closed-alike = (refl, ((refl, (λ h. absurd (true≢false (sym h)), refl)), tt))
+closed-alike = (refl, Forall₂·cons (refl, two-states (λ h. absurd (true≢false (sym h)))) Forall₂·nil)
 
 abbrev calls : List Turn
 calls = map call (arrive 0 1 ∷ replicate 11 step)
@@ -113,7 +113,7 @@ abbrev reading : List Pair
 reading = each none-lent none-lent opened opened ∷ both (board 0 1) ∷ []
 
 veiled-alike : AlikeBut 1 (veiled 1) (veiled 2)
-veiled-alike = (refl, ((refl, (λ h. absurd (true≢false (sym h)), refl)), tt))
+veiled-alike = (refl, Forall₂·cons (refl, two-states (λ h. absurd (true≢false (sym h)))) Forall₂·nil)
 
 one-changed : shown (heardOf 1 (inOne (each none-lent none-lent opened opened) ∷ inOne (both (board 0 1)) ∷ []) (begun (fill none-lent (veiled 1)))) ≡ 1
 unfolding zipWith flatMap fillTerm fillClauses fillEntries entriesOut handled mentions met find order upTo metAtOnce phaseOne value inTurn firstPhase starts fresh emptied carriedActives carried act turn replies

@@ -5,17 +5,17 @@ use Prim.Native.Nat.{ℕ, zero, suc, _+_, _-_}
 use mathlib.Core.Bool.{Bool, true, false, not}
 use mathlib.Core.Path.{_≡_, refl, sym, ap, _∙_, subst}
 use mathlib.Core.Option.{Option}
-use mathlib.Core.List.{List, [], _∷_, _++_, map, flatten, flatMap}
+use mathlib.Core.List.{List, [], _∷_, _++_, map, flatten, flatMap, Forall₂, Forall₂·nil, Forall₂·cons}
 use lib.Dec.{eqb, ltb}
 use lib.ListN.{length, getD}
 use Rattle.lib_base.specs.Basics.{pick}
 use Rattle.spec_language.specs.Syntax.{Behaviour, passive, active, Program}
-use Rattle.spec_language.specs.Sheet.{Item, formula, state, row, Entry, Sheet, allowed, cells, isRow, heads, meant, renameClauses, cellsOut, entryOut, entriesOut, rowsOut, prioritiesOf, sendersOf, viewersOf, fillTerm, fillClauses, fillItem, fillEntries, fill}
+use Rattle.spec_language.specs.Sheet.{Clause, Item, state, Entry, Sheet, allowed, cells, isRow, heads, meant, renameClauses, cellsOut, entryOut, entriesOut, rowsOut, prioritiesOf, sendersOf, viewersOf, fillItem, fillEntries, fill}
 use Rattle.spec_language.specs.Rights.{may, maySee}
 use Rattle.spec_language.specs.Dependence.{Response, size, events, respond, behaviourAt, response, needs}
 use Rattle.spec_language.specs.Order.{upTo, order, early, metAtOnce, phaseOne}
 use Rattle.spec_language.specs.Code.{Instr, off, on, copy, restore, copied, ofC, firstCode, laterCode, moveCode, againCode, inOrder, copyPart, firstPart, secondPart, restorePart, code}
-use Rattle.secrecy_model.specs.Sight.{ItemAlike, EntriesAlike, AlikeBut}
+use Rattle.secrecy_model.specs.Sight.{ItemAlike, two-formulas, two-states, two-rows, EntryAlike, AlikeBut}
 
 -- ---- the same but for hidden start values
 
@@ -35,129 +35,89 @@ pub record Alike (player : ℕ) (p q : Program) : Type 0 where
 -- ---- of two sheets, their rows written out: the same numbers are first cells of rows in both, so the cells' names
 -- mean the same
 
+cells-same : {seen : Bool} {x y : Item} → ItemAlike seen x y → cells x ≡ cells y
+cells-same two-formulas = refl
+cells-same (two-states h) = refl
+cells-same (two-rows h) = refl
+
+isRow-same : {seen : Bool} {x y : Item} (c : ℕ) → ItemAlike seen x y → isRow c x ≡ isRow c y
+isRow-same c two-formulas = refl
+isRow-same c (two-states h) = refl
+isRow-same c (two-rows h) = refl
+
 module _ (player : ℕ) where
-  cells-same : (seen : Bool) (x y : Item) → ItemAlike seen x y → cells x ≡ cells y
-  cells-same seen (formula x) (formula y) h = refl
-  cells-same seen (formula x) (state t ds) h = absurd h
-  cells-same seen (formula x) (row k t ds) h = absurd h
-  cells-same seen (state s cs) (formula y) h = absurd h
-  cells-same seen (state s cs) (state t ds) h = refl
-  cells-same seen (state s cs) (row k t ds) h = absurd h
-  cells-same seen (row c s cs) (formula y) h = absurd h
-  cells-same seen (row c s cs) (state t ds) h = absurd h
-  cells-same seen (row c s cs) (row k t ds) h = h .0
+  abbrev EntriesAlike : List Entry → List Entry → Type 0
+  EntriesAlike = Forall₂ (EntryAlike player)
 
-  isRow-same : (seen : Bool) (c : ℕ) (x y : Item) → ItemAlike seen x y → isRow c x ≡ isRow c y
-  isRow-same seen c (formula x) (formula y) h = refl
-  isRow-same seen c (formula x) (state t ds) h = absurd h
-  isRow-same seen c (formula x) (row k t ds) h = absurd h
-  isRow-same seen c (state s cs) (formula y) h = absurd h
-  isRow-same seen c (state s cs) (state t ds) h = refl
-  isRow-same seen c (state s cs) (row k t ds) h = absurd h
-  isRow-same seen c (row n s cs) (formula y) h = absurd h
-  isRow-same seen c (row n s cs) (state t ds) h = absurd h
-  isRow-same seen c (row n s cs) (row k t ds) h = ap (λ (z : ℕ). eqb z c) (h .0)
-
-  heads-same : (xs ys : List Entry) → EntriesAlike player xs ys → (c m : ℕ) → heads xs c m ≡ heads ys c m
+  heads-same : {xs ys : List Entry} → EntriesAlike xs ys → (c m : ℕ) → heads xs c m ≡ heads ys c m
   unfolding heads
-  heads-same [] [] h c m = refl
-  heads-same [] (y ∷ ys) h c m = absurd h
-  heads-same (x ∷ xs) [] h c m = absurd h
-  heads-same (x ∷ xs) (y ∷ ys) h c m =
-      let seen : Bool = may (allowed (x .viewer)) player in
-      let k : cells (x .item) ≡ cells (y .item) = cells-same seen (x .item) (y .item) (h .0 .1) in
-      λ z. pick (eqb m 0) (isRow-same seen c (x .item) (y .item) (h .0 .1) z) (pick (ltb m (k z)) false (heads-same xs ys (h .1) c (m - k z) z))
+  heads-same Forall₂·nil c m = refl
+  heads-same (Forall₂·cons {a = x} {b = y} {l₁ = xs} {l₂ = ys} h hs) c m =
+      let k : cells (x .item) ≡ cells (y .item) = cells-same (h .1) in
+      λ z. pick (eqb m 0) (isRow-same c (h .1) z) (pick (ltb m (k z)) false (heads-same {xs = xs} {ys = ys} hs c (m - k z) z))
 
   -- entries with the same right to see
   abbrev out : Option ℕ → List Item → List Entry
   out viewer = map (λ (y : Item). record { item = y; viewer = viewer })
 
   upTo-alike : (w u : Option ℕ) → w ≡ u → (n : ℕ) (f g : ℕ → Item) → ((j : ℕ) → ItemAlike (may (allowed w) player) (f j) (g j))
-      → EntriesAlike player (out w (upTo n f)) (out u (upTo n g))
+      → EntriesAlike (out w (upTo n f)) (out u (upTo n g))
   unfolding upTo
-  upTo-alike w u e zero f g h = tt
-  upTo-alike w u e (suc n) f g h = ((e, h 0), upTo-alike w u e n (λ i. f (suc i)) (λ i. g (suc i)) (λ j. h (suc j)))
+  upTo-alike w u e zero f g h = Forall₂·nil
+  upTo-alike w u e (suc n) f g h = Forall₂·cons (e, h 0) (upTo-alike w u e n (λ i. f (suc i)) (λ i. g (suc i)) (λ j. h (suc j)))
 
-  append-alike : (xs ys us ws : List Entry) → EntriesAlike player xs ys → EntriesAlike player us ws → EntriesAlike player (xs ++ us) (ys ++ ws)
-  append-alike [] [] us ws h k = k
-  append-alike [] (y ∷ ys) us ws h k = absurd h
-  append-alike (x ∷ xs) [] us ws h k = absurd h
-  append-alike (x ∷ xs) (y ∷ ys) us ws h k = (h .0, append-alike xs ys us ws (h .1) k)
+  append-alike : {xs ys us ws : List Entry} → EntriesAlike xs ys → EntriesAlike us ws → EntriesAlike (xs ++ us) (ys ++ ws)
+  append-alike Forall₂·nil k = k
+  append-alike (Forall₂·cons {l₁ = xs} {l₂ = ys} h hs) k = Forall₂·cons h (append-alike {xs = xs} {ys = ys} hs k)
 
-  module _ (xs ys : List Entry) (whole : EntriesAlike player xs ys) where
-    cells-alike : (w u : Option ℕ) → w ≡ u → (x y : Item) → ItemAlike (may (allowed w) player) x y
-        → EntriesAlike player (out w (cellsOut xs x)) (out u (cellsOut ys y))
-    cells-alike w u e (formula x) (formula y) h = ((e, h), tt)
-    cells-alike w u e (formula x) (state t ds) h = absurd h
-    cells-alike w u e (formula x) (row k t ds) h = absurd h
-    cells-alike w u e (state s cs) (formula y) h = absurd h
-    cells-alike w u e (state s cs) (state t ds) h = ((e, h), tt)
-    cells-alike w u e (state s cs) (row k t ds) h = absurd h
-    cells-alike w u e (row c s cs) (formula y) h = absurd h
-    cells-alike w u e (row c s cs) (state t ds) h = absurd h
-    cells-alike w u e (row c s cs) (row k t ds) h =
-        let f : ℕ → ℕ → Item = λ n j. state t (renameClauses (meant ys n j) ds) in
-        subst (λ (n : ℕ). EntriesAlike player (out w (upTo c (λ j. state s (renameClauses (meant xs c j) cs)))) (out u (upTo n (f n)))) (h .0)
-        (upTo-alike w u e c (λ j. state s (renameClauses (meant xs c j) cs)) (f c) (λ j. (
-          h .1,
-          λ z. renameClauses (λ m. pick (heads-same xs ys whole c m z) (m + j) m) (h .2 z),
-        )))
+  module _ (xs ys : List Entry) (whole : EntriesAlike xs ys) where
+    cells-alike : (w u : Option ℕ) → w ≡ u → {x y : Item} → ItemAlike (may (allowed w) player) x y → EntriesAlike (out w (cellsOut xs x)) (out u (cellsOut ys y))
+    cells-alike w u e two-formulas = Forall₂·cons (e, two-formulas) Forall₂·nil
+    cells-alike w u e (two-states h) = Forall₂·cons (e, two-states h) Forall₂·nil
+    cells-alike w u e (two-rows {c = c} {s = s} {t = t} {cs = cs} h) =
+        upTo-alike w u e c (λ j. state s (renameClauses (meant xs c j) cs)) (λ j. state t (renameClauses (meant ys c j) cs))
+        (λ j. subst (λ (ds : List Clause). ItemAlike (may (allowed w) player) (state s (renameClauses (meant xs c j) cs)) (state t ds))
+        (λ z. renameClauses (λ m. pick (heads-same whole c m z) (m + j) m) cs) (two-states h))
 
-    entries-out : (us ws : List Entry) → EntriesAlike player us ws → EntriesAlike player (entriesOut xs us) (entriesOut ys ws)
+    entries-out : {us ws : List Entry} → EntriesAlike us ws → EntriesAlike (entriesOut xs us) (entriesOut ys ws)
     unfolding entriesOut flatMap
-    entries-out [] [] h = tt
-    entries-out [] (b ∷ ws) h = absurd h
-    entries-out (a ∷ us) [] h = absurd h
-    entries-out (a ∷ us) (b ∷ ws) h =
-        append-alike (entryOut xs a) (entryOut ys b) (entriesOut xs us) (entriesOut ys ws)
-        (cells-alike (a .viewer) (b .viewer) (h .0 .0) (a .item) (b .item) (h .0 .1)) (entries-out us ws (h .1))
+    entries-out Forall₂·nil = Forall₂·nil
+    entries-out (Forall₂·cons {a = a} {b = b} {l₁ = us} {l₂ = ws} h hs) =
+        append-alike {xs = entryOut xs a} {ys = entryOut ys b} (cells-alike (a .viewer) (b .viewer) (h .0) (h .1)) (entries-out {us = us} {ws = ws} hs)
 
 -- ---- and filled
 
 module _ (v : ℕ → ℕ) (player : ℕ) where
-  item-alike : (seen : Bool) (x y : Item) → ItemAlike seen x y → BehaviourAlike seen (fillItem v x) (fillItem v y)
-  item-alike seen (formula x) (formula y) h = ap (fillTerm v) h
-  item-alike seen (formula x) (state t ds) h = h
-  item-alike seen (formula x) (row k t ds) h = h
-  item-alike seen (state s cs) (formula y) h = h
-  item-alike seen (state s cs) (state t ds) h = (h .0, ap (fillClauses v) (h .1))
-  item-alike seen (state s cs) (row k t ds) h = absurd h
-  item-alike seen (row c s cs) (formula y) h = h
-  item-alike seen (row c s cs) (state t ds) h = absurd h
-  item-alike seen (row c s cs) (row k t ds) h = (h .1, ap (fillClauses v) (h .2))
+  item-alike : {seen : Bool} {x y : Item} → ItemAlike seen x y → BehaviourAlike seen (fillItem v x) (fillItem v y)
+  item-alike two-formulas = refl
+  item-alike (two-states h) = (h, refl)
+  item-alike (two-rows h) = (h, refl)
 
-  entries-viewers : (xs ys : List Entry) → EntriesAlike player xs ys → viewersOf xs ≡ viewersOf ys
-  entries-viewers [] [] h = refl
-  entries-viewers [] (y ∷ ys) h = absurd h
-  entries-viewers (x ∷ xs) [] h = absurd h
-  entries-viewers (x ∷ xs) (y ∷ ys) h = λ t. allowed (h .0 .0 t) ∷ entries-viewers xs ys (h .1) t
+  entries-viewers : {xs ys : List Entry} → EntriesAlike player xs ys → viewersOf xs ≡ viewersOf ys
+  entries-viewers Forall₂·nil = refl
+  entries-viewers (Forall₂·cons {l₁ = xs} {l₂ = ys} h hs) = λ t. allowed (h .0 t) ∷ entries-viewers {xs = xs} {ys = ys} hs t
 
-  entries-length : (xs ys : List Entry) → EntriesAlike player xs ys → length (fillEntries v xs) ≡ length (fillEntries v ys)
+  entries-length : {xs ys : List Entry} → EntriesAlike player xs ys → length (fillEntries v xs) ≡ length (fillEntries v ys)
   unfolding fillEntries
-  entries-length [] [] h = refl
-  entries-length [] (y ∷ ys) h = absurd h
-  entries-length (x ∷ xs) [] h = absurd h
-  entries-length (x ∷ xs) (y ∷ ys) h = ap suc (entries-length xs ys (h .1))
+  entries-length Forall₂·nil = refl
+  entries-length (Forall₂·cons {l₁ = xs} {l₂ = ys} h hs) = ap suc (entries-length {xs = xs} {ys = ys} hs)
 
-  entries-each : (xs ys : List Entry) → EntriesAlike player xs ys → (i : ℕ)
+  entries-each : {xs ys : List Entry} → EntriesAlike player xs ys → (i : ℕ)
       → BehaviourAlike (may (getD (viewersOf xs) i 0) player) (getD (fillEntries v xs) i (active 0 [])) (getD (fillEntries v ys) i (active 0 []))
   unfolding fillEntries
-  entries-each [] [] h i = (λ k. refl, refl)
-  entries-each [] (y ∷ ys) h i = absurd h
-  entries-each (x ∷ xs) [] h i = absurd h
-  entries-each (x ∷ xs) (y ∷ ys) h zero = item-alike (may (allowed (x .viewer)) player) (x .item) (y .item) (h .0 .1)
-  entries-each (x ∷ xs) (y ∷ ys) h (suc i) = entries-each xs ys (h .1) i
+  entries-each Forall₂·nil i = (λ k. refl, refl)
+  entries-each (Forall₂·cons h hs) zero = item-alike (h .1)
+  entries-each (Forall₂·cons {l₁ = xs} {l₂ = ys} h hs) (suc i) = entries-each {xs = xs} {ys = ys} hs i
 
   pub sheets-alike : (s t : Sheet) → AlikeBut player s t → Alike player (fill v s) (fill v t)
   sheets-alike s t h =
-      let k : EntriesAlike player (rowsOut s .entries) (rowsOut t .entries) =
-      entries-out player (s .entries) (t .entries) (h .1) (s .entries) (t .entries) (h .1) in
+      let k : EntriesAlike player (rowsOut s .entries) (rowsOut t .entries) = entries-out player (s .entries) (t .entries) (h .1) (h .1) in
       record {
         priorities = ap prioritiesOf (h .0);
         senders = ap sendersOf (h .0);
-        viewers = entries-viewers (rowsOut s .entries) (rowsOut t .entries) k;
-        sizes = entries-length (rowsOut s .entries) (rowsOut t .entries) k;
-        each = entries-each (rowsOut s .entries) (rowsOut t .entries) k;
+        viewers = entries-viewers {xs = rowsOut s .entries} {ys = rowsOut t .entries} k;
+        sizes = entries-length {xs = rowsOut s .entries} {ys = rowsOut t .entries} k;
+        each = entries-each {xs = rowsOut s .entries} {ys = rowsOut t .entries} k;
       }
 
 -- ---- what is the same in both

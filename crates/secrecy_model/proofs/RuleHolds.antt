@@ -19,7 +19,7 @@ use Rattle.spec_model.specs.Model.{Engine, TurnOutcome, change, State, state, R
 use Rattle.spec_model.specs.Claims.{forecast, inForce, engineIn, after}
 use Rattle.spec_model.specs.Told.{previewed}
 use Rattle.spec_model.proofs.History.{begun-fits}
-use Rattle.secrecy_model.specs.Sight.{Sealed, AlikeBut, Condition, Pair, both, each, inOne, inOther, SameHidden, ConditionAt, ConditionAll, asReply, hearsOf, heardOf, EqualReplies, PlayersRule}
+use Rattle.secrecy_model.specs.Sight.{Sealed, AlikeBut, Condition, Pair, both, each, inOne, inOther, SameHidden, EitherMakes, AtChanges, ConditionAt, asReply, hearsOf, heardOf, EqualReplies, PlayersRule}
 use Rattle.secrecy_model.proofs.Programs.{Alike, sheets-alike}
 use Rattle.secrecy_model.proofs.Stores.{sealed-direct, fresh-agree}
 use Rattle.secrecy_model.proofs.Answered.{host-same, valid}
@@ -27,23 +27,39 @@ use Rattle.secrecy_model.proofs.Twins.{Twin, TwinStates, twin-call, cal
 use Rattle.secrecy_model.proofs.Changed.{refused-or-made, twin-change}
 use Rattle.secrecy_model.proofs.Control.{copy-back-both}
 
+-- ---- what is asked of a pair in these states, and of those after it
+
+abbrev Asked : ℕ → Pair → State → State → Type 0
+Asked player (both c) x y = Unit {0}
+Asked player (each v w s t) x y = EitherMakes (change (fill v s)) x (change (fill w t)) y → ConditionAt player (inForce x) v w s t
+
+asked-first : (player : ℕ) (c : Pair) (l : List Pair) (x y : State) → AtChanges (ConditionAt player) (c ∷ l) x y → Asked player c x y
+asked-first player (both c) l x y f = tt
+asked-first player (each v w s t) l x y f = f .0
+
+asked-after : (player : ℕ) (c : Pair) (l : List Pair) (x y : State) → AtChanges (ConditionAt player) (c ∷ l) x y
+    → AtChanges (ConditionAt player) l (turn (inOne c) x .after) (turn (inOther c) y .after)
+asked-after player (both c) l x y f = f
+asked-after player (each v w s t) l x y f = f .1
+
 -- ---- what each turn keeps holds after every list, and what is heard of each is heard of the list
 
 module _ (player : ℕ) (R : State → State → Type 0)
-    (go : (c : Pair) (x y : State) → R x y → ConditionAt player c x y
+    (go : (c : Pair) (x y : State) → R x y → Asked player c x y
     → (hearsOf player (inOne c) (turn (inOne c) x .reply) ≡ hearsOf player (inOther c) (turn (inOther c) y .reply))
     × R (turn (inOne c) x .after) (turn (inOther c) y .after)) where
-  runs : (l : List Pair) (x y : State) → R x y → ConditionAll player l x y → R (runTurns (map inOne l) x) (runTurns (map inOther l) y)
+  runs : (l : List Pair) (x y : State) → R x y → AtChanges (ConditionAt player) l x y → R (runTurns (map inOne l) x) (runTurns (map inOther l) y)
   unfolding runTurns
   runs [] x y r f = r
-  runs (c ∷ l) x y r f = runs l (turn (inOne c) x .after) (turn (inOther c) y .after) (go c x y r (f .0) .1) (f .1)
+  runs (c ∷ l) x y r f =
+      runs l (turn (inOne c) x .after) (turn (inOther c) y .after) (go c x y r (asked-first player c l x y f) .1) (asked-after player c l x y f)
 
-  all-heard : (l : List Pair) (x y : State) → R x y → ConditionAll player l x y → heardOf player (map inOne l) x ≡ heardOf player (map inOther l) y
+  all-heard : (l : List Pair) (x y : State) → R x y → AtChanges (ConditionAt player) l x y → heardOf player (map inOne l) x ≡ heardOf player (map inOther l) y
   unfolding replies zipWith
   all-heard [] x y r f = refl
   all-heard (c ∷ l) x y r f =
-      let k = go c x y r (f .0) in
-      let h = all-heard l (turn (inOne c) x .after) (turn (inOther c) y .after) (k .1) (f .1) in
+      let k = go c x y r (asked-first player c l x y f) in
+      let h = all-heard l (turn (inOne c) x .after) (turn (inOther c) y .after) (k .1) (asked-after player c l x y f) in
       λ z. k .0 z ∷ h z
 
 -- ---- a player who is not the host
@@ -58,7 +74,7 @@ module _ (player : ℕ) (guest : eqb player 0 ≡ false) where
       subst (λ (r : Program). Both (turn (change (fill v s)) (state p x)) (turn (change r) (state q y))) (sym (c .filled))
       (twin-change player p x q y h (fill v s) (fill v t) (sheets-alike v player s t (c .alike)) (c .sealed) hidden (valid (fill v s) (c .one)) (valid (fill v t) (c .other)))
 
-  twin-turn : (c : Pair) (x y : State) → TwinStates player x y → ConditionAt player c x y
+  twin-turn : (c : Pair) (x y : State) → TwinStates player x y → Asked player c x y
       → (hearsOf player (inOne c) (turn (inOne c) x .reply) ≡ hearsOf player (inOther c) (turn (inOther c) y .reply))
       × TwinStates player (turn (inOne c) x .after) (turn (inOther c) y .after)
   unfolding turn
@@ -99,7 +115,7 @@ module _ (player : ℕ) (guest : eqb player 0 ≡ false) where
         agree = fresh-agree player p q alike (sealed-direct p player sealed) vp vq;
       }
 
-  guest-replies : (v w : ℕ → ℕ) (s t : Sheet) → Condition player v w s t → (l : List Pair) → ConditionAll player l (begun (fill v s)) (begun (fill w t))
+  guest-replies : (v w : ℕ → ℕ) (s t : Sheet) → Condition player v w s t → (l : List Pair) → AtChanges (ConditionAt player) l (begun (fill v s)) (begun (fill w t))
       → EqualReplies player (fill v s) (fill w t) l
   guest-replies v w s t c l f =
       let start : TwinStates player (begun (fill v s)) (begun (fill w t)) =
@@ -119,7 +135,7 @@ host-sheets v w s t c = host-same (fill v s) (fill v t) (sheets-alike v 0 s t (c
 abbrev Same : TurnOutcome → TurnOutcome → Type 0
 Same a b = (a .reply ≡ b .reply) × (a .after ≡ b .after)
 
-host-here : (c : Pair) (x : State) → ConditionAt 0 c x x
+host-here : (c : Pair) (x : State) → Asked 0 c x x
     → (hearsOf 0 (inOne c) (turn (inOne c) x .reply) ≡ hearsOf 0 (inOther c) (turn (inOther c) x .reply)) × (turn (inOne c) x .after ≡ turn (inOther c) x .after)
 host-here (both c) x f = (refl, refl)
 host-here (each v w s t) (state p x) f =
@@ -128,13 +144,13 @@ host-here (each v w s t) (state p x) f =
     (λ m. subst (λ (r : Program). Same (turn (change (fill v s)) (state p x)) (turn (change r) (state p x))) (host-sheets v w s t (f m .0)) (refl, refl)) in
     (ap (λ (r : Reply). some r) (k .0), k .1)
 
-host-turn : (c : Pair) (x y : State) → x ≡ y → ConditionAt 0 c x y
+host-turn : (c : Pair) (x y : State) → x ≡ y → Asked 0 c x y
     → (hearsOf 0 (inOne c) (turn (inOne c) x .reply) ≡ hearsOf 0 (inOther c) (turn (inOther c) y .reply)) × (turn (inOne c) x .after ≡ turn (inOther c) y .after)
 host-turn c x y e =
-    subst (λ (z : State). ConditionAt 0 c x z → (hearsOf 0 (inOne c) (turn (inOne c) x .reply) ≡ hearsOf 0 (inOther c) (turn (inOther c) z .reply))
+    subst (λ (z : State). Asked 0 c x z → (hearsOf 0 (inOne c) (turn (inOne c) x .reply) ≡ hearsOf 0 (inOther c) (turn (inOther c) z .reply))
     × (turn (inOne c) x .after ≡ turn (inOther c) z .after)) e (host-here c x)
 
-host-replies : (v w : ℕ → ℕ) (s t : Sheet) → Condition 0 v w s t → (l : List Pair) → ConditionAll 0 l (begun (fill v s)) (begun (fill w t)) → EqualReplies 0 (fill v s) (fill w t) l
+host-replies : (v w : ℕ → ℕ) (s t : Sheet) → Condition 0 v w s t → (l : List Pair) → AtChanges (ConditionAt 0) l (begun (fill v s)) (begun (fill w t)) → EqualReplies 0 (fill v s) (fill w t) l
 host-replies v w s t c l f =
     let start : begun (fill v s) ≡ begun (fill w t) = ap begun (host-sheets v w s t c) in
     let late : after (fill v s) (map inOne l) ≡ after (fill w t) (map inOther l) = runs 0 (λ (x y : State). x ≡ y) host-turn l (begun (fill v s)) (begun (fill w t)) start f in
@@ -151,6 +167,6 @@ players-rule player v w s t c l f =
     split (eqb player 0)
     (λ z.
     let host : player ≡ 0 = eqb-true player 0 z in
-    subst (λ (k : ℕ). Condition k v w s t → ConditionAll k l (begun (fill v s)) (begun (fill w t)) → EqualReplies k (fill v s) (fill w t) l) (sym host)
+    subst (λ (k : ℕ). Condition k v w s t → AtChanges (ConditionAt k) l (begun (fill v s)) (begun (fill w t)) → EqualReplies k (fill v s) (fill w t) l) (sym host)
     (λ d g. host-replies v w s t d l g) c f)
     (λ z. guest-replies player z v w s t c l f)

@@ -9,11 +9,11 @@ use mathlib.Core.Bool.{Bool, true, false, _||_}
 use mathlib.Core.Path.{_≡_}
 use mathlib.Core.Logic.{_⊎_}
 use mathlib.Core.Option.{Option, none, some}
-use mathlib.Core.List.{List, [], _∷_, map, zipWith}
+use mathlib.Core.List.{List, [], _∷_, map, zipWith, Forall₂}
 use lib.Dec.{eqb}
 use Rattle.lib_base.specs.Basics.{pick}
 use Rattle.spec_language.specs.Syntax.{Handler, handler, Behaviour, passive, active, Program}
-use Rattle.spec_language.specs.Sheet.{Item, formula, state, row, Entry, Sheet, allowed, fill}
+use Rattle.spec_language.specs.Sheet.{Term, Clause, Item, formula, state, row, Entry, Sheet, allowed, fill}
 use Rattle.spec_language.specs.Rights.{may, maySee}
 use Rattle.spec_language.specs.Dependence.{size, behaviourAt, mentions, Reach}
 use Rattle.spec_language.specs.Accepted.{Accepted}
@@ -45,32 +45,21 @@ Sealed p player = (i j : ℕ) → maySee p player i ≡ true → Reach (names p)
 
 -- two behaviours or rows, seen or hidden: the same but for the start value of a hidden active or of a hidden row's
 -- cells
-abbrev pub ItemAlike : Bool → Item → Item → Type 0
-ItemAlike seen (formula x) (formula y) = x ≡ y
-ItemAlike seen (formula x) (state t ds) = ⊥
-ItemAlike seen (formula x) (row k t ds) = ⊥
-ItemAlike seen (state s cs) (formula y) = ⊥
-ItemAlike seen (state s cs) (state t ds) = (seen ≡ true → s ≡ t) × (cs ≡ ds)
-ItemAlike seen (state s cs) (row k t ds) = ⊥
-ItemAlike seen (row c s cs) (formula y) = ⊥
-ItemAlike seen (row c s cs) (state t ds) = ⊥
-ItemAlike seen (row c s cs) (row k t ds) = (c ≡ k) × (seen ≡ true → s ≡ t) × (cs ≡ ds)
+pub data ItemAlike (seen : Bool) : Item → Item → Type 0 where
+  two-formulas : {x : Term} → ItemAlike seen (formula x) (formula x)
+  two-states : {s t : ℕ} {cs : List Clause} → (seen ≡ true → s ≡ t) → ItemAlike seen (state s cs) (state t cs)
+  two-rows : {c s t : ℕ} {cs : List Clause} → (seen ≡ true → s ≡ t) → ItemAlike seen (row c s cs) (row c t cs)
 
+-- with the same right to see
 abbrev pub EntryAlike : ℕ → Entry → Entry → Type 0
 EntryAlike player x y = (x .viewer ≡ y .viewer) × ItemAlike (may (allowed (x .viewer)) player) (x .item) (y .item)
 
-abbrev pub EntriesAlike : ℕ → List Entry → List Entry → Type 0
-EntriesAlike player [] [] = Unit {0}
-EntriesAlike player [] (y ∷ ys) = ⊥
-EntriesAlike player (x ∷ xs) [] = ⊥
-EntriesAlike player (x ∷ xs) (y ∷ ys) = EntryAlike player x y × EntriesAlike player xs ys
-
+-- the same events, and entries alike one by one, none left over (the library's `Forall₂`)
 abbrev pub AlikeBut : ℕ → Sheet → Sheet → Type 0
-AlikeBut player s t = (s .signals ≡ t .signals) × EntriesAlike player (s .entries) (t .entries)
+AlikeBut player s t = (s .signals ≡ t .signals) × Forall₂ (EntryAlike player) (s .entries) (t .entries)
 
 -- ---- the condition, of two sheets with the parameters lent to each: "the same parameters", or others where the
--- program
--- filled in is the same
+-- program filled in is the same
 
 pub record Condition (player : ℕ) (v w : ℕ → ℕ) (s t : Sheet) : Type 0 where
   pub alike : AlikeBut player s t
@@ -101,15 +90,18 @@ SameHidden player p q = (i : ℕ) → i < size p → i < size q → maySee p pla
 abbrev pub EitherMakes : Turn → State → Turn → State → Type 0
 EitherMakes t x u y = (turn t x .reply ≡ carriedOver) ⊎ (turn u y .reply ≡ carriedOver)
 
--- "M-107's rule for a player needs its condition of both sheets, with the same behaviours hidden": at each change that
--- is made, the rounds being in these states
-abbrev pub ConditionAt : ℕ → Pair → State → State → Type 0
-ConditionAt player (both c) x y = Unit {0}
-ConditionAt player (each v w s t) x y = EitherMakes (change (fill v s)) x (change (fill w t)) y → Condition player v w s t × SameHidden player (inForce x) (fill v s)
+-- P of the first round's program in force, the parameters lent and the two sheets, at each change that is made, the
+-- rounds being in these states
+abbrev pub AtChanges : (Program → (ℕ → ℕ) → (ℕ → ℕ) → Sheet → Sheet → Type 0) → List Pair → State → State → Type 0
+AtChanges P [] x y = Unit {0}
+AtChanges P (both c ∷ l) x y = AtChanges P l (turn (call c) x .after) (turn (call c) y .after)
+AtChanges P (each v w s t ∷ l) x y =
+    (EitherMakes (change (fill v s)) x (change (fill w t)) y → P (inForce x) v w s t)
+    × AtChanges P l (turn (change (fill v s)) x .after) (turn (change (fill w t)) y .after)
 
-abbrev pub ConditionAll : ℕ → List Pair → State → State → Type 0
-ConditionAll player [] x y = Unit {0}
-ConditionAll player (c ∷ l) x y = ConditionAt player c x y × ConditionAll player l (turn (inOne c) x .after) (turn (inOther c) y .after)
+-- "M-107's rule for a player needs its condition of both sheets, with the same behaviours hidden"
+abbrev pub ConditionAt : ℕ → Program → (ℕ → ℕ) → (ℕ → ℕ) → Sheet → Sheet → Type 0
+ConditionAt player p v w s t = Condition player v w s t × SameHidden player p (fill v s)
 
 -- ---- "equal answers, refusals included"
 
@@ -147,4 +139,4 @@ pub record EqualReplies (player : ℕ) (p q : Program) (l : List Pair) : Type 0 
 abbrev pub PlayersRule : Type 0
 PlayersRule =
     (player : ℕ) (v w : ℕ → ℕ) (s t : Sheet) → Condition player v w s t
-    → (l : List Pair) → ConditionAll player l (begun (fill v s)) (begun (fill w t)) → EqualReplies player (fill v s) (fill w t) l
+    → (l : List Pair) → AtChanges (ConditionAt player) l (begun (fill v s)) (begun (fill w t)) → EqualReplies player (fill v s) (fill w t) l

@@ -1,6 +1,6 @@
 -- The field that is written is one of a sheet: the sheet's expression reader accepts it and reads the formula's
 -- expression (01 "The sheet"). A formula's names and functions are a sheet's, by induction on the derivation; `nesting`
--- is what `Nested` bounds, by induction on the expression; then the grammar crate's `expr-reads`.
+-- is what `TermFits` bounds, by induction on the expression; then the grammar crate's `expr-reads`.
 use Prim.Native.Nat.{ℕ, zero, suc, _≤_, _<_}
 use mathlib.Core.Bool.{true, false}
 use mathlib.Core.Path.{_≡_, refl, sym}
@@ -14,7 +14,7 @@ use Rattle.lib_base.specs.Basics.{pick, All}
 use Rattle.lib_base.proofs.Tools.{by-test, all-split, neither}
 use Rattle.spec_language.specs.Syntax.{Expr, con, name, app1, app2, app3}
 use Rattle.spec_language.specs.Sheet.{fillTerm, asSent}
-use Rattle.spec_language.specs.Grammar.{Arity, unary, ternary, binary, Nested, n-con, n-name, n-app1, n-app2, n-app3, TermFits, t-literal, t-variable, t-apply1, t-apply2, t-apply3}
+use Rattle.spec_language.specs.Grammar.{Arity, unary, ternary, binary, TermFits, t-literal, t-variable, t-apply1, t-apply2, t-apply3}
 use Rattle.spec_grammar.proofs.Expressions.{expr-reads}
 use Rattle.text_formula.specs.Tokens.{Token, function, closing, comma, InRange}
 use Rattle.text_formula.specs.Grammar.{Operator, times, divided, plus, minus, above, at-least, below, at-most, equal, different, both, either, Derives, tighter, two-sided, negated, a-number, a-name, bracketed, choice, Formula, formula}
@@ -65,41 +65,33 @@ derives-proper (choice {ts} {us} {vs} p q r) h =
 pub formula-proper : {text : List ℕ} {e : Expr} → Formula text e → Proper e
 formula-proper (formula t d) = derives-proper d (tokens-fine t)
 
--- ---- nesting
+-- ---- nesting, as a sheet sends it
 
-pub nested : (e : Expr) (k : ℕ) → Proper e → large e ≡ false → nesting e ≤ k → Nested k e
-unfolding Proper large nesting
-nested (con n) zero p s h = absurd (omega arith)
-nested (con n) (suc k) p s h = n-con {w = n} (omega (arith, ltb-false 2147483647 n s))
-nested (name i) zero p s h = absurd (omega arith)
-nested (name i) (suc k) p s h = n-name {i = i} (omega arith)
-nested (app1 f a) zero p s h = absurd (omega arith)
-nested (app1 f a) (suc k) p s h = n-app1 (p .0) (nested a k (p .1) s (omega arith))
-nested (app2 f a b) zero p s h = absurd (omega arith)
-nested (app2 f a b) (suc k) p s h =
+sent-fits : (e : Expr) (k : ℕ) → Proper e → large e ≡ false → nesting e ≤ k → TermFits k (asSent e)
+unfolding Proper large nesting asSent
+sent-fits (con n) zero p s h = absurd (omega arith)
+sent-fits (con n) (suc k) p s h = t-literal {w = n} (omega (arith, ltb-false 2147483647 n s))
+sent-fits (name i) zero p s h = absurd (omega arith)
+sent-fits (name i) (suc k) p s h = t-variable {i = i} (omega arith)
+sent-fits (app1 f a) zero p s h = absurd (omega arith)
+sent-fits (app1 f a) (suc k) p s h = t-apply1 (p .0) (sent-fits a k (p .1) s (omega arith))
+sent-fits (app2 f a b) zero p s h = absurd (omega arith)
+sent-fits (app2 f a b) (suc k) p s h =
     let z = neither (large a) (large b) s in
     let l = deeper-left (nesting a) (nesting b) in
     let r = deeper-right (nesting a) (nesting b) in
-    n-app2 (p .0) (nested a k (p .1) (z .0) (omega arith)) (nested b k (p .2) (z .1) (omega arith))
-nested (app3 f a b c) zero p s h = absurd (omega arith)
-nested (app3 f a b c) (suc k) p s h =
+    t-apply2 (p .0) (sent-fits a k (p .1) (z .0) (omega arith)) (sent-fits b k (p .2) (z .1) (omega arith))
+sent-fits (app3 f a b c) zero p s h = absurd (omega arith)
+sent-fits (app3 f a b c) (suc k) p s h =
     let z = neither (large a) (pick (large b) true (large c)) s in
     let y = neither (large b) (large c) (z .1) in
     let l = deeper-left (nesting a) (nesting b) in
     let r = deeper-right (nesting a) (nesting b) in
     let m = deeper-left (deeper (nesting a) (nesting b)) (nesting c) in
     let n = deeper-right (deeper (nesting a) (nesting b)) (nesting c) in
-    n-app3 (p .0) (nested a k (p .1) (z .0) (omega arith)) (nested b k (p .2) (y .0) (omega arith)) (nested c k (p .3) (y .1) (omega arith))
+    t-apply3 (p .0) (sent-fits a k (p .1) (z .0) (omega arith)) (sent-fits b k (p .2) (y .0) (omega arith)) (sent-fits c k (p .3) (y .1) (omega arith))
 
--- ---- as a sheet sends it
-
-pub sent-fits : {k : ℕ} {e : Expr} → Nested k e → TermFits k (asSent e)
-unfolding asSent
-sent-fits (n-con h) = t-literal h
-sent-fits (n-name h) = t-variable h
-sent-fits (n-app1 r p) = t-apply1 r (sent-fits p)
-sent-fits (n-app2 r p q) = t-apply2 r (sent-fits p) (sent-fits q)
-sent-fits (n-app3 r p q t) = t-apply3 r (sent-fits p) (sent-fits q) (sent-fits t)
+-- ---- what it means
 
 -- whatever the parameters are, it means the expression
 pub sent-means : (v : ℕ → ℕ) (e : Expr) → fillTerm v (asSent e) ≡ e
@@ -120,7 +112,7 @@ field-of text buffer e f =
     (λ y. by-test (Fields text buffer) (ltb (length buffer) (length (formulaField e))) (λ z n h. absurd (omega arith))
     (λ z n h.
     let q : length (formulaField e) ≡ n = omega arith in
-    let m = nested e 16 (formula-proper f) x (ltb-false 16 (nesting e) y) in
+    let m = sent-fits e 16 (formula-proper f) x (ltb-false 16 (nesting e) y) in
     record {
       expression = e;
       reading = f;
@@ -128,7 +120,7 @@ field-of text buffer e f =
       fits = omega (arith, ltb-false (length buffer) (length (formulaField e)) z);
       bytes = rw q;
       nests = m;
-      read-back = rw q (expr-reads (sent-fits m) (drop n buffer));
+      read-back = rw q (expr-reads m (drop n buffer));
       means = λ v. sent-means v e;
     })))
 

@@ -5,7 +5,7 @@ use mathlib.Core.List.{List, _++_}
 use lib.ListN.{length, drop}
 use Rattle.spec_language.specs.Syntax.{Expr}
 use Rattle.spec_language.specs.Sheet.{fillTerm, asSent}
-use Rattle.spec_language.specs.Grammar.{Nested}
+use Rattle.spec_language.specs.Grammar.{TermFits}
 use Rattle.spec_language.specs.Reading.{got, exprAt}
 use Rattle.text_formula.specs.Grammar.{Formula}
 use Rattle.text_formula.specs.Answer.{formulaField}
@@ -21,7 +21,7 @@ pub record FieldWritten (text buffer : List ℕ) (n : ℕ) (after : List ℕ) : 
   pub length-is : n ≡ length (formulaField expression)
   pub fits : n ≤ length buffer
   pub bytes : after ≡ formulaField expression ++ drop n buffer
-  pub nests : Nested 16 expression
+  pub nests : TermFits 16 (asSent expression)
   pub read-back : exprAt 16 after ≡ got (asSent expression) (drop n buffer)
   pub means : (v : ℕ → ℕ) → fillTerm v (asSent expression) ≡ expression
 
