@@ -27,6 +27,12 @@ abbrev pub First : List (Type 0 × ℕ) → (ℕ → Type 0) → ℕ → Type 0
 First [] P r = P r
 First (c ∷ cs) P r = (c .0 × (r ≡ c .1)) ⊎ ((c .0 → ⊥) × First cs P r)
 
+-- what a call needs, in this order: r is the number of the first condition that does not hold; where all hold, r is as
+-- P says
+abbrev pub FirstUnmet : List (Type 0 × ℕ) → (ℕ → Type 0) → ℕ → Type 0
+FirstUnmet [] P r = P r
+FirstUnmet (c ∷ cs) P r = ((c .0 → ⊥) × (r ≡ c .1)) ⊎ (c .0 × FirstUnmet cs P r)
+
 -- what is answered once the bytes are read: their first fault, or by the program that the sheet means
 abbrev pub AfterReading : Got Sheet → List ℕ → ℕ → Type 0
 AfterReading (bad k) ps r = r ≡ k

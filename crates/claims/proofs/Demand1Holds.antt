@@ -34,6 +34,7 @@ use Rattle.engine.proofs.Beyond as beyond
 use Rattle.claims.specs.Demand1.{OurTable, OurRound, arriveOrder, boardOrder, GivesWay, RunsOne, instructionFits, mendOrder, Demand1}
 use Rattle.claims.proofs.Foreign.{our-table, table-fits, our-round, round-fits, full-says, full-is, declared-says, declared-is}
 use Rattle.claims.proofs.Passives.{passivesPass, passives-say, passives-are, carry-answers}
+use Rattle.claims.proofs.PreviewOrder.{preview-order}
 
 module _ {X Y : Type 0} where
   unless-table : (t : List ℕ) → (tableFits t ≡ false → X) → (tableFits t ≡ true → Y) → ((OurTable t → ⊥) × X) ⊎ (((OurTable t → ⊥) → ⊥) × Y)
@@ -177,6 +178,7 @@ demand-1 = record {
   board-order = board-order;
   mend-order = mend-order;
   forecast-order = forecast-order;
+  preview-order = preview-order;
   compile-unchanged = refused-unchanged;
   start-unchanged = refusals.start-refused;
   arrive-unchanged = refusals.arrive-refused;

@@ -5,26 +5,29 @@
 use Prim.Native.Nat.{ℕ, zero, suc, _+_, _*_, _-_, _/_, _%_, _≤_, _<_}
 use mathlib.Core.Bool.{Bool, true, false, _&&_}
 use mathlib.Core.Path.{_≡_}
-use mathlib.Core.Logic.{_≢_}
+use mathlib.Core.Logic.{_≢_, _⊎_}
 use mathlib.Core.List.{List, [], _∷_}
 use lib.Dec.{ltb, eqb}
-use lib.ListN.{length}
+use lib.ListN.{length, take, replicate}
 use Rattle.lib_base.specs.Basics.{pick, All}
 use Rattle.lib_word.specs.Word.{get}
 use Rattle.lib_arith.specs.Functions.{arity}
 use Rattle.spec_language.specs.Refusals.{shortTable, longProgram, foreign, noPlayer, undeclaredEvent, noRight, fullQueue, spent, noBehaviour, settling, undeclaredInHand}
 use Rattle.spec_language.specs.Reading.{readSheet}
 use Rattle.spec_language.specs.Rights.{may}
+use Rattle.spec_model.specs.Model.{arrive, step}
 use Rattle.format_layout.specs.Layout.{eventWord, eventCount, behaviourCount, sendersAt, viewersAt, passivesStart, passivesLength, eventOf, playerOf, taken, waitingCount, runningFlag, runningWord, runningEvent, position, depth, wordAt, eventAt}
 use Rattle.run_allowed.specs.Allowed.{mayRun}
 use Rattle.run_start.specs.Start.{startOn}
 use Rattle.run_arrive.specs.Arrivals.{arriveOn}
 use Rattle.run_board.specs.Board.{isMasked, copyBackUnderWay, boardOn}
 use Rattle.run_step.specs.Machine.{stepOn}
-use Rattle.run_forecast.specs.Forecast.{forecastOn}
+use Rattle.run_forecast.specs.Forecast.{longestIn, forecastOn}
+use Rattle.run_preview.specs.Preview.{previewOn}
 use Rattle.run_mend.specs.Mending.{mendOn}
 use Rattle.back_compile.specs.Verdict.{compileOn}
-use Rattle.back_compile.specs.Statements.{First, AfterReading}
+use Rattle.back_compile.specs.Statements.{First, FirstUnmet, AfterReading}
+use Rattle.refine_calls.specs.Refinement.{roundAfter}
 use Rattle.engine.specs.Beyond.{UntouchedFrom}
 
 -- ---- a table and a round that are not foreign
@@ -121,6 +124,24 @@ mendOrder old t l =
     ∷ (copyBackUnderWay old l ≡ true, settling)
     ∷ (EachInHand (λ w. eventOf w < eventCount t) l → ⊥, undeclaredInHand) ∷ []
 
+-- ---- a preview
+
+-- "on a copy", of the round's 2,048 bytes: the copy, once the arrival is taken in and n steps are made
+abbrev pub copyAfter : List ℕ → List ℕ → ℕ → ℕ → ℕ → List ℕ
+copyAfter t l e who n = roundAfter t (arrive e who ∷ replicate n step) (take 2048 l)
+
+-- 01's count: "(k + 1) × (L + 1) steps .., k being the number in hand .., L the longest event's instructions"
+abbrev pub countToIdle : List ℕ → List ℕ → ℕ
+countToIdle t l = (handCount l + 1) * (longestIn t (eventCount t) + 1)
+
+-- "the value that the board would show after this arrival and everything in hand had been run to idle": 2 ^ 32 and the
+-- word, where a step finds the copy idle after no more than 01's count; "last by 14 where a step on the copy would be
+-- or 01's count runs out": where none does, a step that is refused leaving the copy as it was
+abbrev pub PreviewEnds : List ℕ → List ℕ → ℕ → ℕ → ℕ → ℕ → Type 0
+PreviewEnds t l e i who r =
+    ((n : ℕ) × (n ≤ countToIdle t (copyAfter t l e who 0)) × (stepOn t (copyAfter t l e who n) .0 ≡ 0) × (r ≡ 4294967296 + get (copyAfter t l e who n) (136 + i)))
+    ⊎ (((n : ℕ) → n ≤ countToIdle t (copyAfter t l e who 0) → stepOn t (copyAfter t l e who n) .0 ≢ 0) × (r ≡ foreign))
+
 pub record Demand1 : Type 0 where
   -- "A call is refused by the conditions and order of document 01"; "Every other call .. is accepted": 0
   -- compile: "1, 2, 3; then left to right, the first fault met; then 11, 12, 13." 02: 2 is never given, 20 after 11
@@ -137,6 +158,11 @@ pub record Demand1 : Type 0 where
   pub mend-order : (old t l : List ℕ) → First (mendOrder old t l) (λ r. r ≡ 0) (mendOn old t l .0)
   -- M-100: "refused by 14 only", else 2 ^ 32 and the steps
   pub forecast-order : (t l : List ℕ) → First ((OurRound t l → ⊥, foreign) ∷ []) (λ r. 4294967296 ≤ r) (forecastOn t l)
+  -- M-101: "turned down as the arrival would be, then by 18, and last by 14"; M-107: 25 after 18
+  pub preview-order : (t l : List ℕ) (e i who : ℕ)
+      → FirstUnmet
+      ((arriveOn t l e who .0 ≡ 0, arriveOn t l e who .0) ∷ (i < behaviourCount t, noBehaviour) ∷ (may (viewersAt t i) who ≡ true, noRight) ∷ [])
+      (PreviewEnds t l e i who) (previewOn t l e i who)
   -- ".. and then the handler table, the round and the board are unchanged": a board reading, a forecast and a preview
   -- change nothing at all, and no call but compile changes a table (their contracts)
   pub compile-unchanged : (s ps t : List ℕ) → compileOn s ps t .0 ≢ 0 → compileOn s ps t .1 ≡ t

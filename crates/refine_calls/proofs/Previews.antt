@@ -48,7 +48,7 @@ use Rattle.refine_calls.proofs.Coded.{ToArrive, ToStep, answer-to}
 
 -- ---- the copy has the round's words
 
-taken-word : (l : List ℕ) (k : ℕ) → k < 512 → get (take 2048 l) k ≡ get l k
+pub taken-word : (l : List ℕ) (k : ℕ) → k < 512 → get (take 2048 l) k ≡ get l k
 unfolding get getAt
 taken-word l k b =
     rw (
