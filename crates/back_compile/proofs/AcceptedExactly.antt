@@ -2,15 +2,14 @@
 -- down leaves the table as it was. 12 is answered only for a circle. 2 is never answered. By the reader's theorem and
 -- the checks' (crates spec_grammar, check_faults), from the verdict's branches.
 use Prim.Native.Nat.{ℕ, _≤_, _<_}
-use mathlib.Core.Bool.{true, false, true≢false, and-eq-true-iff}
+use mathlib.Core.Bool.{true, false, true≢false}
 use mathlib.Core.Path.{_≡_, refl, sym, ap, _∙_, subst}
 use mathlib.Core.Logic.{_≢_, by-cases}
 use mathlib.Core.List.{List, []}
 use native.Mathlib.Decide.{decLt}
 use native.Mathlib.Omega.{arith}
 use lib.ListN.{length, replicate, length-replicate}
-use lib.Dec.{ltb}
-use borrow.Author.Tests.{lt-ltb, le-ltb, ltb-true, ltb-false}
+use borrow.Author.Tests.{le-ltb, ltb-false}
 use Rattle.lib_base.specs.Basics.{All}
 use Rattle.lib_base.proofs.Tools.{split}
 use Rattle.lib_word.specs.Word.{get}
@@ -32,16 +31,10 @@ use Rattle.back_compile.specs.Statements.{Given}
 -- ---- what is read and judged
 
 -- the test for 20, and what it stands for
-pub lacks-says : (ps : List ℕ) (s : Sheet) → lacksParameters s ps ≡ true → (uses s ≡ true) × (length ps < 32)
-lacks-says ps s h = let q = and-eq-true-iff (uses s) (ltb (length ps) 32) .0 h in (q .0, ltb-true (length ps) 32 (q .1))
-
-pub lacks-is : (ps : List ℕ) (s : Sheet) → uses s ≡ true → length ps < 32 → lacksParameters s ps ≡ true
-lacks-is ps s u h = rw (u, lt-ltb (length ps) 32 h)
-
-given-says : (ps : List ℕ) (s : Sheet) → lacksParameters s ps ≡ false → Given ps s
+pub given-says : (ps : List ℕ) (s : Sheet) → lacksParameters s ps ≡ false → Given ps s
 given-says ps s h u = ltb-false (length ps) 32 (rw u at h)
 
-given-is : (ps : List ℕ) (s : Sheet) → Given ps s → lacksParameters s ps ≡ false
+pub given-is : (ps : List ℕ) (s : Sheet) → Given ps s → lacksParameters s ps ≡ false
 given-is ps s g = split (uses s) (λ u. rw (u, le-ltb (length ps) 32 (g u))) (λ u. rw u)
 
 -- the checks' answers, and what they stand for

@@ -8,7 +8,7 @@ use mathlib.Core.List.{List, [], _∷_}
 use native.Mathlib.Omega.{arith}
 use lib.ListN.{length}
 use lib.Dec.{ltb, leb}
-use borrow.Author.Tests.{ltb-true, lt-ltb, leb-true, le-leb}
+use borrow.Author.Tests.{ltb-false, le-ltb, leb-false, lt-leb}
 use Rattle.lib_word.specs.Word.{get}
 use Rattle.lib_base.proofs.Tools.{split}
 use Rattle.spec_language.specs.Refusals.{shortTable, longProgram}
@@ -21,32 +21,33 @@ use Rattle.spec_language.proofs.SheetLaws.{length-fill}
 use Rattle.check_faults.specs.Faults.{known, cyclic}
 use Rattle.check_faults.proofs.CycleDecides.{known-decides, cyclic-decides}
 use Rattle.back_compile.specs.Verdict.{judge, lacksParameters, programOf, judgeRead, compileOn}
-use Rattle.back_compile.specs.Statements.{First, AfterReading}
-use Rattle.back_compile.proofs.AcceptedExactly.{lacks-says, lacks-is}
+use Rattle.back_compile.specs.Statements.{FirstUnmet, AfterReading}
+use Rattle.back_compile.proofs.AcceptedExactly.{given-says, given-is}
 use Rattle.back_compile.proofs.Counted.{Counted, read-counted}
 
--- ---- a test stands for a condition A: where it holds, X is to be shown, and else Y
+-- ---- a call needs C, which a test stands for: where C fails, X is to be shown, and else Y
 
-pub decided : {A X Y : Type 0} (b : Bool) → (b ≡ true → A) → (A → b ≡ true) → (b ≡ true → X) → (b ≡ false → Y) → (A × X) ⊎ ((A → ⊥) × Y)
-decided b is of f g = split b (λ e. inl (is e, f e)) (λ e. inr (λ a. true≢false (sym (of a) ∙ e), g e))
+module _ {C X Y : Type 0} where
+  -- the test passes just where C holds
+  pub need : (b : Bool) → (b ≡ true → C) → (C → b ≡ true) → (b ≡ false → X) → (b ≡ true → Y) → ((C → ⊥) × X) ⊎ (C × Y)
+  need b is of f g = split b (λ e. inr (is e, g e)) (λ e. inl (λ c. true≢false (sym (of c) ∙ e), f e))
 
--- where it fails, and so A does, X is to be shown, and else Y
-pub unless : {A X Y : Type 0} (b : Bool) → (b ≡ true → A) → (A → b ≡ true) → (b ≡ false → X) → (b ≡ true → Y) → ((A → ⊥) × X) ⊎ (((A → ⊥) → ⊥) × Y)
-unless b is of f g = split b (λ e. inr (λ z. z (is e), g e)) (λ e. inl (λ a. true≢false (sym (of a) ∙ e), f e))
+  -- the test passes just where C fails
+  pub need-not : (b : Bool) → (b ≡ false → C) → (C → b ≡ false) → (b ≡ true → X) → (b ≡ false → Y) → ((C → ⊥) × X) ⊎ (C × Y)
+  need-not b is of f g = split b (λ e. inl (λ c. true≢false (sym e ∙ of c), f e)) (λ e. inr (is e, g e))
 
 module _ {X Y : Type 0} where
-  pub if-true : (b : Bool) → (b ≡ true → X) → (b ≡ false → Y) → ((b ≡ true) × X) ⊎ (((b ≡ true) → ⊥) × Y)
-  if-true b = decided b (λ e. e) (λ e. e)
+  pub need-true : (b : Bool) → (b ≡ false → X) → (b ≡ true → Y) → ((b ≡ true → ⊥) × X) ⊎ ((b ≡ true) × Y)
+  need-true b = need b (λ e. e) (λ e. e)
 
-  pub if-false : (b : Bool) → (b ≡ false → X) → (b ≡ true → Y) → ((b ≡ false) × X) ⊎ (((b ≡ false) → ⊥) × Y)
-  if-false true f g = inr (λ e. true≢false e, g refl)
-  if-false false f g = inl (refl, f refl)
+  pub need-false : (b : Bool) → (b ≡ true → X) → (b ≡ false → Y) → ((b ≡ false → ⊥) × X) ⊎ ((b ≡ false) × Y)
+  need-false b = need-not b (λ e. e) (λ e. e)
 
-  pub if-less : (m n : ℕ) → (ltb m n ≡ true → X) → (ltb m n ≡ false → Y) → ((m < n) × X) ⊎ ((m < n → ⊥) × Y)
-  if-less m n = decided (ltb m n) (ltb-true m n) (lt-ltb m n)
+  pub need-most : (m n : ℕ) → (ltb n m ≡ true → X) → (ltb n m ≡ false → Y) → ((m ≤ n → ⊥) × X) ⊎ ((m ≤ n) × Y)
+  need-most m n = need-not (ltb n m) (ltb-false n m) (le-ltb n m)
 
-  pub if-most : (m n : ℕ) → (leb m n ≡ true → X) → (leb m n ≡ false → Y) → ((m ≤ n) × X) ⊎ ((m ≤ n → ⊥) × Y)
-  if-most m n = decided (leb m n) (leb-true m n) (le-leb m n)
+  pub need-less : (m n : ℕ) → (leb n m ≡ true → X) → (leb n m ≡ false → Y) → ((m < n → ⊥) × X) ⊎ ((m < n) × Y)
+  need-less m n = need-not (leb n m) (leb-false n m) (lt-leb n m)
 
 -- ---- compile
 
@@ -56,19 +57,18 @@ judged (bad k) ps t h = refl
 judged (got x rest) ps t h =
     let p = programOf ps x in
     let few : size p ≤ 64 = omega (arith, length-fill (get ps) (rowsOut x .entries), length-out (x .entries) (x .entries)) in
-    unless (known p) (known-decides p .0) (known-decides p .1) (λ k. rw k)
+    need (known p) (known-decides p .0) (known-decides p .1) (λ k. rw k)
     (λ k.
-    let names = known-decides p .0 k in
-    decided (lacksParameters x ps) (lacks-says ps x) (λ u. lacks-is ps x (u .0) (u .1)) (λ l. rw (k, l))
-    (λ l. split (cyclic p)
-    (λ c. inl (λ n. true≢false (sym c ∙ cyclic-decides p names few .1 n), rw (k, l, c)))
-    (λ c. inr (λ z. z (cyclic-decides p names few .0 c), if-less 4096 (allInstructions p) (λ o. rw (k, l, c, o)) (λ o. rw (k, l, c, o))))))
+    let cycles = cyclic-decides p (known-decides p .0 k) few in
+    need-not (lacksParameters x ps) (given-says ps x) (given-is ps x) (λ l. rw (k, l))
+    (λ l. need-not (cyclic p) (cycles .0) (cycles .1) (λ c. rw (k, l, c))
+    (λ c. need-most (allInstructions p) 4096 (λ o. rw (k, l, c, o)) (λ o. rw (k, l, c, o)))))
 
 pub after-reading : (s ps t : List ℕ) → AfterReading (readSheet s) ps (judgeRead (readSheet s) ps t .0)
 after-reading s ps t = judged (readSheet s) ps t (read-counted s)
 
 pub compile-order : (s ps t : List ℕ)
-    → First ((length t < 34816, shortTable) ∷ (8192 < length s, longProgram) ∷ []) (AfterReading (readSheet s) ps) (compileOn s ps t .0)
+    → FirstUnmet ((34816 ≤ length t, shortTable) ∷ (length s ≤ 8192, longProgram) ∷ []) (AfterReading (readSheet s) ps) (compileOn s ps t .0)
 unfolding compileOn
 compile-order s ps t =
-    if-less (length t) 34816 (λ a. rw a) (λ a. if-less 8192 (length s) (λ b. rw (a, b)) (λ b. rw (a, b) (after-reading s ps t)))
+    need-most 34816 (length t) (λ a. rw a) (λ a. need-most (length s) 8192 (λ b. rw (a, b)) (λ b. rw (a, b) (after-reading s ps t)))

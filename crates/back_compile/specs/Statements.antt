@@ -22,26 +22,21 @@ Given ps s = uses s ≡ true → 32 ≤ length ps
 
 -- ---- the order of the refusals
 
--- r is the number of the first condition that holds; where none does, r is as P says
-abbrev pub First : List (Type 0 × ℕ) → (ℕ → Type 0) → ℕ → Type 0
-First [] P r = P r
-First (c ∷ cs) P r = (c .0 × (r ≡ c .1)) ⊎ ((c .0 → ⊥) × First cs P r)
-
 -- what a call needs, in this order: r is the number of the first condition that does not hold; where all hold, r is as
 -- P says
 abbrev pub FirstUnmet : List (Type 0 × ℕ) → (ℕ → Type 0) → ℕ → Type 0
 FirstUnmet [] P r = P r
 FirstUnmet (c ∷ cs) P r = ((c .0 → ⊥) × (r ≡ c .1)) ⊎ (c .0 × FirstUnmet cs P r)
 
--- what is answered once the bytes are read: their first fault, or by the program that the sheet means
+-- what is answered once the bytes are read: their first fault, or by what the program that the sheet means needs
 abbrev pub AfterReading : Got Sheet → List ℕ → ℕ → Type 0
 AfterReading (bad k) ps r = r ≡ k
 AfterReading (got x rest) ps r =
-    First
-    ((Known (programOf ps x) → ⊥, unknownName)
-    ∷ ((uses x ≡ true) × (length ps < 32), noParameters)
-    ∷ (NoCycle (programOf ps x) → ⊥, cycle)
-    ∷ (4096 < allInstructions (programOf ps x), overlong) ∷ [])
+    FirstUnmet
+    ((Known (programOf ps x), unknownName)
+    ∷ (Given ps x, noParameters)
+    ∷ (NoCycle (programOf ps x), cycle)
+    ∷ (allInstructions (programOf ps x) ≤ 4096, overlong) ∷ [])
     (λ r. r ≡ 0) r
 
 -- ---- rows. M-110: "It means the sheet in which each cell is written out as an active, only that 3 counts the bytes as

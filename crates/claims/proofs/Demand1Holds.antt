@@ -2,9 +2,9 @@
 -- it stands for (Foreign, Passives). One that waits outranks the running event just where the test over all of them
 -- says so, by induction on how many.
 use Prim.Native.Nat.{ℕ, zero, suc, _+_, _-_, _≤_, _<_}
-use mathlib.Core.Bool.{true, false, true≢false, false≢true}
-use mathlib.Core.Path.{_≡_, refl, sym, subst, _∙_}
-use mathlib.Core.Logic.{_≢_, _⊎_, inl, inr}
+use mathlib.Core.Bool.{true, false, false≢true}
+use mathlib.Core.Path.{_≡_, refl, subst, _∙_}
+use mathlib.Core.Logic.{_≢_, _⊎_, inr}
 use mathlib.Core.List.{List, [], _∷_}
 use native.Mathlib.Omega.{arith}
 use lib.Dec.{ltb, eqb}
@@ -26,61 +26,61 @@ use Rattle.run_step.proofs.Rule.{preempts, goes-on}
 use Rattle.run_forecast.specs.Forecast.{forecastOn}
 use Rattle.run_carry.specs.Carry.{carryOn}
 use Rattle.run_mend.specs.Mending.{handKnown, verdict, mendWith, mendAfter, mendIn, mendOn}
-use Rattle.back_compile.specs.Statements.{First}
+use Rattle.back_compile.specs.Statements.{FirstUnmet}
 use Rattle.back_compile.proofs.AcceptedExactly.{refused-unchanged}
-use Rattle.back_compile.proofs.Orders.{decided, unless, if-true, if-false, if-less, if-most, compile-order}
+use Rattle.back_compile.proofs.Orders.{need, need-not, need-true, need-false, need-most, need-less, compile-order}
 use Rattle.engine.proofs.Refused as refusals
 use Rattle.engine.proofs.Beyond as beyond
 use Rattle.claims.specs.Demand1.{OurTable, OurRound, arriveOrder, boardOrder, GivesWay, RunsOne, instructionFits, mendOrder, Demand1}
-use Rattle.claims.proofs.Foreign.{our-table, table-fits, our-round, round-fits, full-says, full-is, declared-says, declared-is}
+use Rattle.claims.proofs.Foreign.{our-table, table-fits, our-round, round-fits, room-says, room-is, declared-says, declared-is}
 use Rattle.claims.proofs.Passives.{passivesPass, passives-say, passives-are, carry-answers}
 use Rattle.claims.proofs.PreviewOrder.{preview-order}
 
 module _ {X Y : Type 0} where
-  unless-table : (t : List ℕ) → (tableFits t ≡ false → X) → (tableFits t ≡ true → Y) → ((OurTable t → ⊥) × X) ⊎ (((OurTable t → ⊥) → ⊥) × Y)
-  unless-table t = unless (tableFits t) (our-table t) (table-fits t)
+  need-table : (t : List ℕ) → (tableFits t ≡ false → X) → (tableFits t ≡ true → Y) → ((OurTable t → ⊥) × X) ⊎ (OurTable t × Y)
+  need-table t = need (tableFits t) (our-table t) (table-fits t)
 
-  unless-ours : (t l : List ℕ) → (ours t l ≡ false → X) → (ours t l ≡ true → Y) → ((OurRound t l → ⊥) × X) ⊎ (((OurRound t l → ⊥) → ⊥) × Y)
-  unless-ours t l = unless (ours t l) (our-round t l) (round-fits t l)
+  need-ours : (t l : List ℕ) → (ours t l ≡ false → X) → (ours t l ≡ true → Y) → ((OurRound t l → ⊥) × X) ⊎ (OurRound t l × Y)
+  need-ours t l = need (ours t l) (our-round t l) (round-fits t l)
 
-start-order : (t l : List ℕ) → First ((OurTable t → ⊥, foreign) ∷ (length l < 2048, foreign) ∷ []) (λ r. r ≡ 0) (startOn t l .0)
+start-order : (t l : List ℕ) → FirstUnmet ((OurTable t, foreign) ∷ (2048 ≤ length l, foreign) ∷ []) (λ r. r ≡ 0) (startOn t l .0)
 unfolding startOn
-start-order t l = unless-table t (λ a. rw a) (λ a. if-less (length l) 2048 (λ b. rw (a, b)) (λ b. rw (a, b)))
+start-order t l = need-table t (λ a. rw a) (λ a. need-most 2048 (length l) (λ b. rw (a, b)) (λ b. rw (a, b)))
 
-arrive-order : (t l : List ℕ) (e who : ℕ) → First (arriveOrder t l e who) (λ r. r ≡ 0) (arriveOn t l e who .0)
+arrive-order : (t l : List ℕ) (e who : ℕ) → FirstUnmet (arriveOrder t l e who) (λ r. r ≡ 0) (arriveOn t l e who .0)
 unfolding arriveOn arriveIn arriveKnown arriveWith
 arrive-order t l e who =
-    unless-ours t l (λ a. rw a)
-    (λ a. if-most 8 who (λ b. rw (a, b))
-    (λ b. if-most (eventCount t) e (λ c. rw (a, b, c))
-    (λ c. if-false (may (sendersAt t e) who) (λ d. rw (a, b, c, d))
-    (λ d. decided (queueFull (waitingCount l) (runningFlag l)) (full-says l) (full-is l) (λ f. rw (a, b, c, d, f))
-    (λ f. if-most 1000000 (taken l) (λ g. rw (a, b, c, d, f, g)) (λ g. rw (a, b, c, d, f, g)))))))
+    need-ours t l (λ a. rw a)
+    (λ a. need-less who 8 (λ b. rw (a, b))
+    (λ b. need-less e (eventCount t) (λ c. rw (a, b, c))
+    (λ c. need-true (may (sendersAt t e) who) (λ d. rw (a, b, c, d))
+    (λ d. need-not (queueFull (waitingCount l) (runningFlag l)) (room-says l) (room-is l) (λ f. rw (a, b, c, d, f))
+    (λ f. need-less (taken l) 1000000 (λ g. rw (a, b, c, d, f, g)) (λ g. rw (a, b, c, d, f, g)))))))
 
-board-order : (t l : List ℕ) (i who : ℕ) → First (boardOrder t l i who) (λ r. r ≡ 4294967296 + get l (136 + i)) (boardOn t l i who)
+board-order : (t l : List ℕ) (i who : ℕ) → FirstUnmet (boardOrder t l i who) (λ r. r ≡ 4294967296 + get l (136 + i)) (boardOn t l i who)
 unfolding boardOn boardIn boardKnown boardWith
 board-order t l i who =
-    unless-ours t l (λ a. rw a)
-    (λ a. if-most 8 who (λ b. rw (a, b))
-    (λ b. if-most (behaviourCount t) i (λ c. rw (a, b, c))
-    (λ c. if-false (may (viewersAt t i) who) (λ d. rw (a, b, c, d))
-    (λ d. if-true (copyBackUnderWay t l) (λ f. rw (a, b, c, d, f)) (λ f. rw (a, b, c, d, f))))))
+    need-ours t l (λ a. rw a)
+    (λ a. need-less who 8 (λ b. rw (a, b))
+    (λ b. need-less i (behaviourCount t) (λ c. rw (a, b, c))
+    (λ c. need-true (may (viewersAt t i) who) (λ d. rw (a, b, c, d))
+    (λ d. need-false (copyBackUnderWay t l) (λ f. rw (a, b, c, d, f)) (λ f. rw (a, b, c, d, f))))))
 
-mend-order : (old t l : List ℕ) → First (mendOrder old t l) (λ r. r ≡ 0) (mendOn old t l .0)
+mend-order : (old t l : List ℕ) → FirstUnmet (mendOrder old t l) (λ r. r ≡ 0) (mendOn old t l .0)
 unfolding mendOn mendIn mendAfter mendWith verdict copyBackOn
 mend-order old t l =
     let carried = carry-answers old t l in
-    unless-ours old l (λ a. rw a)
-    (λ a. unless-table t (λ b. rw (a, b))
-    (λ b. unless (passivesPass t) (passives-say t) (passives-are t)
+    need-ours old l (λ a. rw a)
+    (λ a. need-table t (λ b. rw (a, b))
+    (λ b. need (passivesPass t) (passives-say t) (passives-are t)
     (λ c. let q : carryOn old t l (replicate 2048 0) .0 ≡ foreign = carried ∙ rw c in rw (a, b, q))
     (λ c. let q : carryOn old t l (replicate 2048 0) .0 ≡ 0 = carried ∙ rw c in
-    if-true (copyBackUnderWay old l) (λ d. rw (a, b, q, d))
-    (λ d. unless (handKnown t l) (declared-says t l) (declared-is t l) (λ f. rw (a, b, q, d, f)) (λ f. rw (a, b, q, d, f))))))
+    need-false (copyBackUnderWay old l) (λ d. rw (a, b, q, d))
+    (λ d. need (handKnown t l) (declared-says t l) (declared-is t l) (λ f. rw (a, b, q, d, f)) (λ f. rw (a, b, q, d, f))))))
 
-forecast-order : (t l : List ℕ) → First ((OurRound t l → ⊥, foreign) ∷ []) (λ r. 4294967296 ≤ r) (forecastOn t l)
+forecast-order : (t l : List ℕ) → FirstUnmet ((OurRound t l, foreign) ∷ []) (λ r. 4294967296 ≤ r) (forecastOn t l)
 unfolding forecastOn
-forecast-order t l = unless-ours t l (λ a. rw a) (λ a. rw a (omega arith))
+forecast-order t l = need-ours t l (λ a. rw a) (λ a. rw a (omega arith))
 
 -- ---- steps
 
@@ -145,28 +145,28 @@ module _ (t l : List ℕ) where
   unfolding stepIn stepWith whileResting
   rest-taken e = rw e (by-test Taken (eqb (waitingCount l) 0) (λ _. omega arith) (λ _. start-taken l (best t l (waitingCount l)) (waitingCount l - 1)))
 
-  -- a step would run an instruction that may not run
-  abbrev StepUnfit : Type 0
-  StepUnfit = RunsOne t l × (instructionFits t l ≡ false)
+  -- what a step would run may run
+  abbrev StepFits : Type 0
+  StepFits = RunsOne t l → instructionFits t l ≡ true
 
   -- the running event goes on: its instruction decides
   advance-order : runningFlag l ≢ 0 → outranked t l (waitingCount l) ≡ false
-      → (StepUnfit × (stepIn t l .0 ≡ foreign)) ⊎ ((StepUnfit → ⊥) × Taken (stepIn t l))
+      → ((StepFits → ⊥) × (stepIn t l .0 ≡ foreign)) ⊎ (StepFits × Taken (stepIn t l))
   advance-order f o =
       let q : advanceOn t l ≡ stepIn t l = goes-on t l refl f refl refl o refl in
-      split (instructionFits t l)
-      (λ e. inr (λ h. true≢false (sym e ∙ h .1), subst Taken q (advance-taken e)))
-      (λ e. inl (((f, goes-first o), e), subst (λ (r : CallResult). r .0 ≡ foreign) q (advance-refused e)))
+      need (instructionFits t l) (λ e _. e) (λ h. h (f, goes-first o))
+      (λ e. subst (λ (r : CallResult). r .0 ≡ foreign) q (advance-refused e))
+      (λ e. subst Taken q (advance-taken e))
 
-  step-order : First ((OurRound t l → ⊥, foreign) ∷ (StepUnfit, foreign) ∷ []) (λ r. r ≢ foreign) (stepOn t l .0)
+  step-order : FirstUnmet ((OurRound t l, foreign) ∷ (StepFits, foreign) ∷ []) (λ r. r ≢ foreign) (stepOn t l .0)
   unfolding stepOn
   step-order =
-      unless-ours t l (λ a. rw a)
+      need-ours t l (λ a. rw a)
       (λ a. rw a (split (eqb (runningFlag l) 0)
-      (λ b. inr (λ h. h .0 .0 (eqb-true (runningFlag l) 0 b), rest-taken b))
+      (λ b. inr (λ h. absurd (h .0 (eqb-true (runningFlag l) 0 b)), rest-taken b))
       (λ b. let f = eqb-false (runningFlag l) 0 b in
       split (outranked t l (waitingCount l))
-      (λ o. inr (λ h. h .0 .1 (gives-way o), subst Taken (preempts t l refl f refl refl o refl refl) (preempt-taken l (best t l (waitingCount l)))))
+      (λ o. inr (λ h. absurd (h .1 (gives-way o)), subst Taken (preempts t l refl f refl refl o refl refl) (preempt-taken l (best t l (waitingCount l)))))
       (λ o. advance-order f o))))
 
 pub demand-1 : Demand1

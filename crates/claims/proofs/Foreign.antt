@@ -7,7 +7,7 @@ use mathlib.Core.Logic.{_≢_}
 use mathlib.Core.List.{List}
 use native.Mathlib.Omega.{arith}
 use lib.Dec.{ltb, eqb}
-use borrow.Author.Tests.{ltb-true, lt-ltb, leb-true, le-leb, lt-leb, ne-eqb, eqb-true, eqb-false}
+use borrow.Author.Tests.{ltb-true, lt-ltb, leb-false, lt-leb, ne-eqb, eqb-true, eqb-false}
 use Rattle.lib_base.specs.Basics.{pick}
 use Rattle.lib_base.proofs.Tools.{by-test, through, split}
 use Rattle.format_layout.specs.Layout.{eventCount, tableFits, eventOf, playerOf, waitingCount, runningFlag, runningWord, runningEvent, eventAt, wordAt, handFits, ours}
@@ -43,19 +43,19 @@ module _ (l : List ℕ) where
   one-more : eqb (runningFlag l) 0 ≡ false → handCount l ≡ waitingCount l + 1
   one-more e = let z : runningCount ≡ 1 = rw e in omega arith
 
-  pub full-says : queueFull (waitingCount l) (runningFlag l) ≡ true → 64 ≤ handCount l
+  pub room-says : queueFull (waitingCount l) (runningFlag l) ≡ false → handCount l < 64
   unfolding queueFull
-  full-says =
+  room-says =
       split (eqb (runningFlag l) 0)
-      (λ e h. omega (arith, resting e, leb-true 64 (waitingCount l) (rw e at h)))
-      (λ e h. omega (arith, one-more e, leb-true 63 (waitingCount l) (rw e at h)))
+      (λ e h. omega (arith, resting e, leb-false 64 (waitingCount l) (rw e at h)))
+      (λ e h. omega (arith, one-more e, leb-false 63 (waitingCount l) (rw e at h)))
 
-  pub full-is : 64 ≤ handCount l → queueFull (waitingCount l) (runningFlag l) ≡ true
+  pub room-is : handCount l < 64 → queueFull (waitingCount l) (runningFlag l) ≡ false
   unfolding queueFull
-  full-is h =
-      by-test (λ (x : Bool). x ≡ true) (eqb (runningFlag l) 0)
-      (λ e. le-leb 64 (waitingCount l) (omega (arith, resting e)))
-      (λ e. le-leb 63 (waitingCount l) (omega (arith, one-more e)))
+  room-is h =
+      by-test (λ (x : Bool). x ≡ false) (eqb (runningFlag l) 0)
+      (λ e. lt-leb 64 (waitingCount l) (omega (arith, resting e)))
+      (λ e. lt-leb 63 (waitingCount l) (omega (arith, one-more e)))
 
 -- those that wait have events below `known`
 waiting-says : (l : List ℕ) (known n : ℕ) → waitingKnown l known n ≡ true → (i : ℕ) → i < n → eventAt l i < known

@@ -2,7 +2,7 @@
 -- copy idle. The copy's words are the round's, so the arrival's tests go alike on both; the steps by induction on how
 -- many may be made, a step that is refused leaving the copy as it was.
 use Prim.Native.Nat.{ℕ, zero, suc, _+_, _*_, _≤_, _<_}
-use mathlib.Core.Bool.{true, false, true≢false}
+use mathlib.Core.Bool.{true, false}
 use mathlib.Core.Path.{_≡_, refl, sym, ap, _∙_}
 use mathlib.Core.Logic.{_≢_, _⊎_, inl, inr, ⊎-elim}
 use mathlib.Core.List.{List, [], _∷_}
@@ -10,7 +10,7 @@ use native.Mathlib.Omega.{arith}
 use lib.Dec.{ltb, leb, eqb}
 use lib.ListN.{length, take, replicate}
 use lib.Seq.{length-take-le}
-use borrow.Author.Tests.{ltb-false, leb-true, leb-false, eqb-true, eqb-false}
+use borrow.Author.Tests.{ltb-false, eqb-true, eqb-false}
 use Rattle.lib_base.proofs.Tools.{split}
 use Rattle.lib_word.specs.Word.{get}
 use Rattle.spec_language.specs.Refusals.{foreign, noRight, noBehaviour}
@@ -22,6 +22,7 @@ use Rattle.run_step.specs.Machine.{stepOn}
 use Rattle.run_burst.proofs.Still.{idle-stays, refused-stays}
 use Rattle.run_preview.specs.Preview.{lastStep, toIdle, inHand, previewSteps, previewAnswer, shownIn, previewSeen, previewTaken, previewAfter, previewCopy, previewOn}
 use Rattle.back_compile.specs.Statements.{FirstUnmet}
+use Rattle.back_compile.proofs.Orders.{need-true, need-less}
 use Rattle.refine_calls.specs.Refinement.{callOn, turnOnBytes, bytesAfter, roundAfter}
 use Rattle.refine_calls.proofs.Previews.{taken-word}
 use Rattle.claims.specs.Demand1.{handCount, countToIdle, PreviewEnds}
@@ -155,14 +156,8 @@ module _ (t m : List ℕ) (i who : ℕ) where
   ends-order : FirstUnmet ((i < behaviourCount t, noBehaviour) ∷ (may (viewersAt t i) who ≡ true, noRight) ∷ []) Ends (previewTaken t m i who)
   unfolding previewTaken previewSeen shown
   ends-order =
-      split (leb (behaviourCount t) i)
-      (λ a. inl (λ h. omega (arith, leb-true (behaviourCount t) i a), rw a))
-      (λ a. inr (
-        leb-false (behaviourCount t) i a,
-        split (may (viewersAt t i) who)
-            (λ b. inr (b, rw (a, b) (ends (shown t i (previewSteps t m + 1) m) (told t i (previewSteps t m + 1) m))))
-            (λ b. inl (λ h. true≢false (sym h ∙ b), rw (a, b))),
-      ))
+      need-less i (behaviourCount t) (λ a. rw a)
+      (λ a. need-true (may (viewersAt t i) who) (λ b. rw (a, b)) (λ b. rw (a, b) (ends (shown t i (previewSteps t m + 1) m) (told t i (previewSteps t m + 1) m))))
 
 pub preview-order : (t l : List ℕ) (e i who : ℕ)
     → FirstUnmet

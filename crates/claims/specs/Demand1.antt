@@ -26,7 +26,7 @@ use Rattle.run_forecast.specs.Forecast.{longestIn, forecastOn}
 use Rattle.run_preview.specs.Preview.{previewOn}
 use Rattle.run_mend.specs.Mending.{mendOn}
 use Rattle.back_compile.specs.Verdict.{compileOn}
-use Rattle.back_compile.specs.Statements.{First, FirstUnmet, AfterReading}
+use Rattle.back_compile.specs.Statements.{FirstUnmet, AfterReading}
 use Rattle.refine_calls.specs.Refinement.{roundAfter}
 use Rattle.engine.specs.Beyond.{UntouchedFrom}
 
@@ -93,36 +93,36 @@ allRun t k (suc n) d = mayRunAt t k d && allRun t (k + 1) n (depthAfter (get t (
 abbrev pub PassivesRun : List ℕ → Type 0
 PassivesRun t = (passivesStart t + passivesLength t ≤ 4096) × (allRun t (passivesStart t) (passivesLength t) 0 ≡ true)
 
--- ---- the longer orders: a call's conditions with their numbers
+-- ---- the longer orders: what a call needs, in this order, each with the number that is answered where it fails
 
 -- "Arrival: 14, 15, 16, 17."; 02, M-107: 24 after 14, 25 after 15
 abbrev pub arriveOrder : List ℕ → List ℕ → ℕ → ℕ → List (Type 0 × ℕ)
 arriveOrder t l e who =
-    (OurRound t l → ⊥, foreign)
-    ∷ (8 ≤ who, noPlayer)
-    ∷ (eventCount t ≤ e, undeclaredEvent)
-    ∷ (may (sendersAt t e) who ≡ false, noRight)
-    ∷ (64 ≤ handCount l, fullQueue) ∷ (1000000 ≤ taken l, spent) ∷ []
+    (OurRound t l, foreign)
+    ∷ (who < 8, noPlayer)
+    ∷ (e < eventCount t, undeclaredEvent)
+    ∷ (may (sendersAt t e) who ≡ true, noRight)
+    ∷ (handCount l < 64, fullQueue) ∷ (taken l < 1000000, spent) ∷ []
 
 -- "Board: 14, 18, 19."; 02, M-107: 24 after 14, 25 after 18
 abbrev pub boardOrder : List ℕ → List ℕ → ℕ → ℕ → List (Type 0 × ℕ)
 boardOrder t l i who =
-    (OurRound t l → ⊥, foreign)
-    ∷ (8 ≤ who, noPlayer)
-    ∷ (behaviourCount t ≤ i, noBehaviour)
-    ∷ (may (viewersAt t i) who ≡ false, noRight)
-    ∷ (copyBackUnderWay t l ≡ true, settling) ∷ []
+    (OurRound t l, foreign)
+    ∷ (who < 8, noPlayer)
+    ∷ (i < behaviourCount t, noBehaviour)
+    ∷ (may (viewersAt t i) who ≡ true, noRight)
+    ∷ (copyBackUnderWay t l ≡ false, settling) ∷ []
 
 -- 02, M-112: 14, which looks "at the round with the old table, at the new table's length, counts and code, and at each
 -- instruction that the passives need"; "19, checked after 14"; "28 when the hand holds an event that the new sheet
 -- doesn't declare, checked after 19"
 abbrev pub mendOrder : List ℕ → List ℕ → List ℕ → List (Type 0 × ℕ)
 mendOrder old t l =
-    (OurRound old l → ⊥, foreign)
-    ∷ (OurTable t → ⊥, foreign)
-    ∷ (PassivesRun t → ⊥, foreign)
-    ∷ (copyBackUnderWay old l ≡ true, settling)
-    ∷ (EachInHand (λ w. eventOf w < eventCount t) l → ⊥, undeclaredInHand) ∷ []
+    (OurRound old l, foreign)
+    ∷ (OurTable t, foreign)
+    ∷ (PassivesRun t, foreign)
+    ∷ (copyBackUnderWay old l ≡ false, settling)
+    ∷ (EachInHand (λ w. eventOf w < eventCount t) l, undeclaredInHand) ∷ []
 
 -- ---- a preview
 
@@ -143,21 +143,22 @@ PreviewEnds t l e i who r =
     ⊎ (((n : ℕ) → n ≤ countToIdle t (copyAfter t l e who 0) → stepOn t (copyAfter t l e who n) .0 ≢ 0) × (r ≡ foreign))
 
 pub record Demand1 : Type 0 where
-  -- "A call is refused by the conditions and order of document 01"; "Every other call .. is accepted": 0
+  -- "A call is refused by the conditions and order of document 01": what it needs, in this order; "Every other call ..
+  -- is accepted": 0
   -- compile: "1, 2, 3; then left to right, the first fault met; then 11, 12, 13." 02: 2 is never given, 20 after 11
   pub compile-order : (s ps t : List ℕ)
-      → First ((length t < 34816, shortTable) ∷ (8192 < length s, longProgram) ∷ []) (AfterReading (readSheet s) ps) (compileOn s ps t .0)
+      → FirstUnmet ((34816 ≤ length t, shortTable) ∷ (length s ≤ 8192, longProgram) ∷ []) (AfterReading (readSheet s) ps) (compileOn s ps t .0)
   -- "Start: 14 for the two lengths and the table only"
-  pub start-order : (t l : List ℕ) → First ((OurTable t → ⊥, foreign) ∷ (length l < 2048, foreign) ∷ []) (λ r. r ≡ 0) (startOn t l .0)
-  pub arrive-order : (t l : List ℕ) (e who : ℕ) → First (arriveOrder t l e who) (λ r. r ≡ 0) (arriveOn t l e who .0)
+  pub start-order : (t l : List ℕ) → FirstUnmet ((OurTable t, foreign) ∷ (2048 ≤ length l, foreign) ∷ []) (λ r. r ≡ 0) (startOn t l .0)
+  pub arrive-order : (t l : List ℕ) (e who : ℕ) → FirstUnmet (arriveOrder t l e who) (λ r. r ≡ 0) (arriveOn t l e who .0)
   -- "Step: 14."; one that is accepted answers what it did
   pub step-order : (t l : List ℕ)
-      → First ((OurRound t l → ⊥, foreign) ∷ (RunsOne t l × (instructionFits t l ≡ false), foreign) ∷ []) (λ r. r ≢ foreign) (stepOn t l .0)
+      → FirstUnmet ((OurRound t l, foreign) ∷ (RunsOne t l → instructionFits t l ≡ true, foreign) ∷ []) (λ r. r ≢ foreign) (stepOn t l .0)
   -- 2 ^ 32 and the word
-  pub board-order : (t l : List ℕ) (i who : ℕ) → First (boardOrder t l i who) (λ r. r ≡ 4294967296 + get l (136 + i)) (boardOn t l i who)
-  pub mend-order : (old t l : List ℕ) → First (mendOrder old t l) (λ r. r ≡ 0) (mendOn old t l .0)
+  pub board-order : (t l : List ℕ) (i who : ℕ) → FirstUnmet (boardOrder t l i who) (λ r. r ≡ 4294967296 + get l (136 + i)) (boardOn t l i who)
+  pub mend-order : (old t l : List ℕ) → FirstUnmet (mendOrder old t l) (λ r. r ≡ 0) (mendOn old t l .0)
   -- M-100: "refused by 14 only", else 2 ^ 32 and the steps
-  pub forecast-order : (t l : List ℕ) → First ((OurRound t l → ⊥, foreign) ∷ []) (λ r. 4294967296 ≤ r) (forecastOn t l)
+  pub forecast-order : (t l : List ℕ) → FirstUnmet ((OurRound t l, foreign) ∷ []) (λ r. 4294967296 ≤ r) (forecastOn t l)
   -- M-101: "turned down as the arrival would be, then by 18, and last by 14"; M-107: 25 after 18
   pub preview-order : (t l : List ℕ) (e i who : ℕ)
       → FirstUnmet

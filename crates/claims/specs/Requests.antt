@@ -26,7 +26,7 @@ use Rattle.text_formula.specs.Answer.{answered, fieldAnswer, formulaOn}
 use Rattle.text_formula.specs.Statements.{BufferKept, Fields}
 use Rattle.spec_language.specs.Refusals.{noFormula}
 use Rattle.back_compile.specs.Verdict.{compiled, programOf, compileOn, numberOn}
-use Rattle.back_compile.specs.Statements.{First, Given, AsRows}
+use Rattle.back_compile.specs.Statements.{FirstUnmet, Given, AsRows}
 use Rattle.back_figure3.specs.Figure3.{Assign, FirstPhaseRule, SecondPhaseRule, everyBehaviour, PassivesAcyclic, HandlerCode}
 use Rattle.engine.specs.Demand.{CodeIn}
 use Rattle.check_circle.specs.Witness.{CircleListed, Witnessed}
@@ -167,4 +167,4 @@ pub record Pooling : Type 0 where
   pub unchanged : (s z ps buffer : List ℕ) → joinOn s z ps buffer .0 < 2 ^ 32 → joinOn s z ps buffer .1 ≡ buffer
   -- "The result must pass compile's 3, 7 and 13, checked in that order": compile has no other number for it
   pub number : (ps : List ℕ) → ((n : ℕ) → n < 8 → get ps n < 2 ^ 32) → (a b : Sheet) → SheetAccepted (get ps) (length ps) a → SheetAccepted (get ps) (length ps) b
-      → First (limits ps (pooled a b)) (λ r. r ≡ 0) (numberOn (encode (pooled a b)) ps)
+      → FirstUnmet (limits ps (pooled a b)) (λ r. r ≡ 0) (numberOn (encode (pooled a b)) ps)

@@ -1,9 +1,9 @@
 -- The joined round is the two rounds side by side: join's answer names the pooled sheet, demand 3's theorem gives the
 -- three boards by the rules, and the rules lead to the two boards in a row (crate link_join).
-use Prim.Native.Nat.{ℕ, _+_, _≤_, _<_}
-use mathlib.Core.Bool.{Bool, true, false}
+use Prim.Native.Nat.{ℕ, _+_, _<_}
+use mathlib.Core.Bool.{true}
 use mathlib.Core.Logic.{inl, inr}
-use mathlib.Core.Path.{_≡_, refl, sym, ap, ap₂, _∙_, subst}
+use mathlib.Core.Path.{_≡_, sym, ap, ap₂, _∙_, subst}
 use mathlib.Core.List.{List, [], _∷_, _++_, map}
 use native.Mathlib.Omega.{arith}
 use lib.ListN.{length, getD, take, drop}
@@ -22,7 +22,6 @@ use Rattle.spec_semantics.specs.Plays.{Plays, done as played, next as plays}
 use Rattle.spec_semantics.proofs.Lengths.{length-fresh}
 use Rattle.spec_model.specs.Model.{Call, call}
 use Rattle.spec_model.specs.Claims.{committedIn, eventsOf}
-use Rattle.format_image.specs.Image.{tableOf}
 use Rattle.back_compile.specs.Verdict.{Compiled, programOf, compileOn}
 use Rattle.back_compile.proofs.AcceptedExactly.{accepted-taken}
 use Rattle.link_pooled.specs.Pooled.{pooled, sameRanks}
@@ -36,7 +35,7 @@ use Rattle.link_join.proofs.Says.{Answered, join-says, rules-board}
 use Rattle.refine_calls.specs.Refinement.{calls, Bytes, bytes, bytesAfter}
 use Rattle.refine_lists.specs.Lists.{boardOf, freshRoundOn, OnlyCalls, Prepared}
 use Rattle.refine_lists.proofs.Sheets.{program-accepted}
-use Rattle.refine_lists.proofs.FromSheets.{prepared-bytes, calls-of}
+use Rattle.refine_lists.proofs.FromSheets.{calls-of}
 use Rattle.refine_lists.proofs.OnlyCallsHold.{known}
 use Rattle.link_halves.specs.HalfBoards.{boardAfter, SameCommits, NoCopyBack, Halves, HalfBoards}
 
@@ -52,11 +51,6 @@ record Delivered (ps v : List ℕ) (x y : Sheet) : Type 0 where
   same : sameRanks (x .signals) (y .signals) ≡ true
   accepted : SheetAccepted (get ps) (length ps) (pooled x y)
   bytes : encode (pooled x y) ≡ v
-
--- what is not false
-not-false : (b : Bool) → (b ≡ false → ⊥) → b ≡ true
-not-false true h = refl
-not-false false h = absurd (h refl)
 
 -- equal lengths and equal buffers have the same bytes in front
 in-front : (buffer v w : List ℕ) → joined (4294967296 + length w) (w ++ drop (length w) buffer) ≡ joined (4294967296 + length v) (v ++ drop (length v) buffer) → w ≡ v
@@ -82,7 +76,7 @@ module _ (ps buffer v : List ℕ) (x y : Sheet) where
       by-order (inr (_, inr (_, inr (_, inl (_, k))))) = absurd (omega (arith, n))
       by-order (inr (_, inr (_, inr (_, inr (_, (_, inl (_, k))))))) = absurd (omega (arith, n))
       by-order (inr (same, inr (_, inr (_, inr (_, (ok, inr (_, k))))))) = record {
-        same = not-false (sameRanks (x .signals) (y .signals)) same;
+        same = same;
         accepted = ok;
         bytes = in-front buffer v (encode (pooled x y)) (sym (λ i. joined (k i) (w .written (omega (arith, n)) i)) ∙ e);
       }

@@ -12,7 +12,7 @@ use borrow.Author.Tests.{le-ltb, lt-ltb, ltb-true, ltb-false, leb-false, lt-leb}
 use Rattle.lib_base.specs.Basics.{All}
 use Rattle.lib_base.proofs.Tools.{split}
 use Rattle.lib_word.specs.Word.{get}
-use Rattle.spec_language.specs.Sheet.{Item, formula, state, row, Signal, Entry, Sheet, cells, cellCount, uses}
+use Rattle.spec_language.specs.Sheet.{Item, formula, state, row, Signal, Entry, Sheet, cells, cellCount}
 use Rattle.spec_language.specs.Grammar.{encode, ItemFits, SignalFits, EntryFits, SheetFits}
 use Rattle.spec_language.specs.Accepted.{SheetAccepted}
 use Rattle.spec_language.specs.Reading.{Got, bad, got, readSheet}
@@ -24,10 +24,11 @@ use Rattle.link_pooled.specs.Pooled.{count, pooled}
 use Rattle.link_pooled.proofs.PooledAccepted.{Nearly, pooled-nearly}
 use Rattle.check_faults.specs.Faults.{known, cyclic}
 use Rattle.check_faults.proofs.CycleDecides.{known-decides, cyclic-decides}
-use Rattle.back_compile.specs.Verdict.{Compiled, judge, lacksParameters, programOf, judgeRead, numberOn}
+use Rattle.back_compile.specs.Verdict.{Compiled, judge, programOf, judgeRead, numberOn}
 use Rattle.back_compile.proofs.JudgeLaws.{judge-long, judge-passes, compile-opens, compile-long}
-use Rattle.back_compile.specs.Statements.{First}
-use Rattle.back_compile.proofs.Orders.{if-less}
+use Rattle.back_compile.specs.Statements.{FirstUnmet}
+use Rattle.back_compile.proofs.AcceptedExactly.{given-is}
+use Rattle.back_compile.proofs.Orders.{need-most}
 use Rattle.link_pooled.proofs.Filled.{size-fill}
 use Rattle.link_join.specs.Statements.{limits}
 
@@ -80,9 +81,6 @@ module _ (ps : List ℕ) (x : Sheet) (near : Nearly (get ps) (length ps) x) wher
   room : 34816 ≤ length table
   room = omega (arith, length-replicate {A = ℕ} 34816 0)
 
-  enough : lacksParameters x ps ≡ false
-  enough = split (uses x) (λ u. rw (u, le-ltb (length ps) 32 (near .given u))) (λ u. rw u)
-
   fits : length (encode x) ≤ 8192 → count x ≤ 64 → SheetFits x
   fits h k = record { few-events = near .few-events; few-behaviours = k; scale = near .scale; each = near .each; few-bytes = h }
 
@@ -91,7 +89,7 @@ module _ (ps : List ℕ) (x : Sheet) (near : Nearly (get ps) (length ps) x) wher
   judged h k =
       ap (λ (r : Compiled). r .0) (compile-opens (encode x) ps table room h)
       ∙ ap (λ (g : Got Sheet). judgeRead g ps table .0) (reads-back x (fits h k))
-      ∙ ap (λ (l : Bool). judge (programOf ps x) l table .0) enough
+      ∙ ap (λ (l : Bool). judge (programOf ps x) l table .0) (given-is ps x (near .given))
 
   is-known : known (programOf ps x) ≡ true
   is-known = known-decides (programOf ps x) .1 (near .known)
@@ -99,21 +97,21 @@ module _ (ps : List ℕ) (x : Sheet) (near : Nearly (get ps) (length ps) x) wher
   no-circle : count x ≤ 64 → cyclic (programOf ps x) ≡ false
   no-circle k = cyclic-decides (programOf ps x) (near .known) (omega (arith, size-fill (get ps) x)) .1 (near .acyclic)
 
-  number-near : First (limits ps x) (λ r. r ≡ 0) (numberOn (encode x) ps)
+  number-near : FirstUnmet (limits ps x) (λ r. r ≡ 0) (numberOn (encode x) ps)
   unfolding numberOn
   number-near =
-      if-less 8192 (length (encode x))
+      need-most (length (encode x)) 8192
       (λ a. ap (λ (r : Compiled). r .0) (compile-long (encode x) ps table room (ltb-true 8192 (length (encode x)) a)))
       (λ a. let h = ltb-false 8192 (length (encode x)) a in
-      if-less 64 (count x)
+      need-most (count x) 64
       (λ b. ap (λ (r : Compiled). r .0) (compile-opens (encode x) ps table room h)
       ∙ ap (λ (g : Got Sheet). judgeRead g ps table .0) (crowded-read x (near .few-events) (near .scale) (near .each) (ltb-true 64 (count x) b)))
       (λ b. let k = ltb-false 64 (count x) b in
-      if-less 4096 (allInstructions (programOf ps x))
+      need-most (allInstructions (programOf ps x)) 4096
       (λ c. judged h k ∙ ap (λ (r : Compiled). r .0) (judge-long (programOf ps x) table is-known (no-circle k) (ltb-true 4096 (allInstructions (programOf ps x)) c)))
       (λ c. judged h k ∙ ap (λ (r : Compiled). r .0) (judge-passes (programOf ps x) table is-known (no-circle k) (ltb-false 4096 (allInstructions (programOf ps x)) c)))))
 
 -- of the sheet pooled from two accepted ones
 pub pooled-number : (ps : List ℕ) → ((n : ℕ) → n < 8 → get ps n < 2 ^ 32) → (a b : Sheet) → SheetAccepted (get ps) (length ps) a → SheetAccepted (get ps) (length ps) b
-    → First (limits ps (pooled a b)) (λ r. r ≡ 0) (numberOn (encode (pooled a b)) ps)
+    → FirstUnmet (limits ps (pooled a b)) (λ r. r ≡ 0) (numberOn (encode (pooled a b)) ps)
 pooled-number ps small a b x y = number-near ps (pooled a b) (pooled-nearly (get ps) small (length ps) a b x y)

@@ -2,11 +2,10 @@
 -- its events sent by whom both sheets let. From the definitions' branches, the limits that a pooled sheet can pass
 -- (Limits.antt) and what is known of two programs side by side (crate link_pooled).
 use Prim.Native.Nat.{ℕ, _≤_, _<_, _^_}
-use mathlib.Core.Bool.{true, false, true≢false}
+use mathlib.Core.Bool.{true, true≢false}
 use mathlib.Core.Path.{_≡_, refl, sym, _∙_, subst}
-use mathlib.Core.Logic.{inl, inr, by-cases}
+use mathlib.Core.Logic.{inl, inr}
 use mathlib.Core.List.{List, _++_}
-use native.Mathlib.Decide.{decLt}
 use native.Mathlib.Omega.{arith}
 use lib.ListN.{length, drop}
 use lib.Dec.{ltb, eqb}
@@ -31,7 +30,7 @@ use Rattle.link_pooled.proofs.Filled.{fill-pooled}
 use Rattle.link_pooled.proofs.PooledAccepted.{valid-filling, pooled-valid, pooled-accepted}
 use Rattle.front_params.proofs.Fills.{get-small}
 use Rattle.back_compile.specs.Verdict.{programOf, numberOn}
-use Rattle.back_compile.specs.Statements.{First}
+use Rattle.back_compile.specs.Statements.{FirstUnmet}
 use Rattle.back_compile.proofs.AcceptedExactly.{accepted-number}
 use Rattle.link_join.specs.Join.{Joined, deliveredIn, resultOn, poolOn, poolRead, joinOn}
 use Rattle.link_join.specs.Statements.{limits, JoinOrder}
@@ -45,10 +44,6 @@ pub record Answered (ps buffer : List ℕ) (x y : Sheet) (o : Joined) : Type 0 w
   pub order : JoinOrder ps buffer x y (o .0)
   pub written : 2 ^ 32 ≤ o .0 → o .1 ≡ encode (pooled x y) ++ drop (length (encode (pooled x y))) buffer
 
--- a number that is not above another
-not-over : (m n : ℕ) → (m < n → ⊥) → n ≤ m
-not-over m n h = by-cases (decLt m n) (λ l. absurd (h l)) (λ l. omega arith)
-
 module _ (ps buffer : List ℕ) (bp : All (λ b. b < 256) ps) (x y : Sheet) (a : SheetAccepted (get ps) (length ps) x) (b : SheetAccepted (get ps) (length ps) y) where
   abbrev z : Sheet
   z = pooled x y
@@ -57,31 +52,28 @@ module _ (ps buffer : List ℕ) (bp : All (λ b. b < 256) ps) (x y : Sheet) (a :
   small n h = get-small ps bp n
 
   module _ (same : sameRanks (x .signals) (y .signals) ≡ true) where
-    alike : sameRanks (x .signals) (y .signals) ≡ false → ⊥
-    alike e = true≢false (sym same ∙ e)
-
-    delivered : (8192 < length (encode z) → ⊥) → (64 < count z → ⊥) → (4096 < allInstructions (programOf ps z) → ⊥) → Answered ps buffer x y (deliveredIn (encode z) buffer)
+    delivered : length (encode z) ≤ 8192 → count z ≤ 64 → allInstructions (programOf ps z) ≤ 4096 → Answered ps buffer x y (deliveredIn (encode z) buffer)
     unfolding deliveredIn
     delivered f g h =
-        let ok = pooled-accepted (get ps) small (length ps) x y a b (not-over 8192 (length (encode z)) f) (not-over 64 (count z) g) (not-over 4096 (allInstructions (programOf ps z)) h) in
+        let ok = pooled-accepted (get ps) small (length ps) x y a b f g h in
         split (ltb (length buffer) (length (encode z)))
-        (λ e. rw e (record { order = inr (alike, inr (f, inr (g, inr (h, (ok, inl (ltb-true (length buffer) (length (encode z)) e, refl)))))); written = λ l. absurd (omega arith) }))
         (λ e.
-        let room = ltb-false (length buffer) (length (encode z)) e in
-        rw e (record { order = inr (alike, inr (f, inr (g, inr (h, (ok, inr (λ l. omega arith, refl)))))); written = λ l. refl }))
+        let short = ltb-true (length buffer) (length (encode z)) e in
+        rw e (record { order = inr (same, inr (f, inr (g, inr (h, (ok, inl (λ l. omega arith, refl)))))); written = λ l. absurd (omega arith) }))
+        (λ e. rw e (record { order = inr (same, inr (f, inr (g, inr (h, (ok, inr (ltb-false (length buffer) (length (encode z)) e, refl)))))); written = λ l. refl }))
 
-    judged : First (limits ps z) (λ r. r ≡ 0) (numberOn (encode z) ps) → Answered ps buffer x y (resultOn (encode z) ps buffer)
+    judged : FirstUnmet (limits ps z) (λ r. r ≡ 0) (numberOn (encode z) ps) → Answered ps buffer x y (resultOn (encode z) ps buffer)
     unfolding resultOn
-    judged (inl (f, n)) = rw n (record { order = inr (alike, inl (f, refl)); written = λ l. absurd (omega arith) })
-    judged (inr (f, inl (g, n))) = rw n (record { order = inr (alike, inr (f, inl (g, refl))); written = λ l. absurd (omega arith) })
-    judged (inr (f, inr (g, inl (h, n)))) = rw n (record { order = inr (alike, inr (f, inr (g, inl (h, refl)))); written = λ l. absurd (omega arith) })
+    judged (inl (f, n)) = rw n (record { order = inr (same, inl (f, refl)); written = λ l. absurd (omega arith) })
+    judged (inr (f, inl (g, n))) = rw n (record { order = inr (same, inr (f, inl (g, refl))); written = λ l. absurd (omega arith) })
+    judged (inr (f, inr (g, inl (h, n)))) = rw n (record { order = inr (same, inr (f, inr (g, inl (h, refl)))); written = λ l. absurd (omega arith) })
     judged (inr (f, inr (g, inr (h, n)))) = rw n (delivered f g h)
 
   pooled-says : Answered ps buffer x y (poolOn x y ps buffer)
   unfolding poolOn
   pooled-says =
       by-test (Answered ps buffer x y) (sameRanks (x .signals) (y .signals)) (λ e. judged e (pooled-number ps small x y a b))
-      (λ e. record { order = inl (e, refl); written = λ l. absurd (omega arith) })
+      (λ e. record { order = inl (λ a. true≢false (sym a ∙ e), refl); written = λ l. absurd (omega arith) })
 
   pub join-says : Answered ps buffer x y (joinOn (encode x) (encode y) ps buffer)
   unfolding joinOn

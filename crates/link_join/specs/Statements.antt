@@ -1,6 +1,6 @@
 -- What is said of join's answers: 02, M-111.
-use Prim.Native.Nat.{ℕ, _+_, _<_}
-use mathlib.Core.Bool.{false}
+use Prim.Native.Nat.{ℕ, _+_, _≤_}
+use mathlib.Core.Bool.{true}
 use mathlib.Core.Path.{_≡_}
 use mathlib.Core.List.{List, [], _∷_}
 use lib.ListN.{length}
@@ -12,17 +12,17 @@ use Rattle.spec_language.specs.Accepted.{SheetAccepted}
 use Rattle.spec_language.specs.Code.{allInstructions}
 use Rattle.link_pooled.specs.Pooled.{count, pooled, sameRanks}
 use Rattle.back_compile.specs.Verdict.{programOf}
-use Rattle.back_compile.specs.Statements.{First}
+use Rattle.back_compile.specs.Statements.{FirstUnmet}
 
--- "The result must pass compile's 3, 7 and 13, checked in that order"
+-- what the result needs, in this order: "The result must pass compile's 3, 7 and 13, checked in that order"
 abbrev pub limits : List ℕ → Sheet → List (Type 0 × ℕ)
-limits ps z = (8192 < length (encode z), longProgram) ∷ (64 < count z, crowded) ∷ (4096 < allInstructions (programOf ps z), overlong) ∷ []
+limits ps z = (length (encode z) ≤ 8192, longProgram) ∷ (count z ≤ 64, crowded) ∷ (allInstructions (programOf ps z) ≤ 4096, overlong) ∷ []
 
 -- r is the answer for two accepted sheets x and y: 26, "checked once both are accepted", the limits "after 26"; the
 -- joined sheet is then one that compile accepts, and 27 is "checked last"; else 2 ^ 32 and its length
 abbrev pub JoinOrder : List ℕ → List ℕ → Sheet → Sheet → ℕ → Type 0
 JoinOrder ps buffer x y =
-    First ((sameRanks (x .signals) (y .signals) ≡ false, unlikeRanks) ∷ [])
-    (First (limits ps (pooled x y))
+    FirstUnmet ((sameRanks (x .signals) (y .signals) ≡ true, unlikeRanks) ∷ [])
+    (FirstUnmet (limits ps (pooled x y))
     (λ r. SheetAccepted (get ps) (length ps) (pooled x y)
-    × First ((length buffer < length (encode (pooled x y)), shortJoin) ∷ []) (λ r. r ≡ 4294967296 + length (encode (pooled x y))) r))
+    × FirstUnmet ((length (encode (pooled x y)) ≤ length buffer, shortJoin) ∷ []) (λ r. r ≡ 4294967296 + length (encode (pooled x y))) r))
