@@ -5,14 +5,24 @@
     tools/believed.py --check    fails where one stands in a file that docs/REVIEW.md does not list, or in a lemma's file,
                                  or where the page's table of lines is not up to date
     tools/believed.py --write    brings that table up to date
+    tools/believed.py --planted  fails where --check does not find a planted fault
 
 The functions that the contracts cite (compileOn, stepOn ..) count as names: what they mean is proved. So does tableOf,
 the table that compile leaves: 01 leaves its layout free, and the claim says what stands in it. `--all` follows them too.
-"""
-import re
-import sys
 
-from sources import NAME, files_under, module_path, read_theories, without_comment
+Definitions of the toolchain's library that these reach (lists, permutations, pairwise ..) are read but not ours: they
+are followed inside the library too, and counted apart. Where the toolchain has no text of a module, its names are built
+into the checker.
+"""
+import json
+import os
+import re
+import subprocess
+import sys
+import textwrap
+
+from planted import planted
+from sources import NAME, module_path, read_source, read_theories, without_comment
 
 TOP = "crates/claims/specs/Claims.antt"
 CONTRACTS = "crates/engine/src/lib.rt"
@@ -42,9 +52,33 @@ class Theory:
         for use in re.finditer(r"^(?:pub )?use (\S+?)\.\{([^}]*)\}\s*$", text, re.M):
             for part in use.group(2).split(","):
                 old, _, new = part.strip().partition(" as ")
-                self.imported[(new or old).strip()] = (module_path(use.group(1)), old)
+                self.imported[(new or old).strip()] = (place_of(use.group(1)), old.strip())
         for use in re.finditer(r"^(?:pub )?use (\S+?)(?: as (\S+))?\s*$", text, re.M):
-            self.modules[use.group(2) or use.group(1).split(".")[-1]] = module_path(use.group(1))
+            self.modules[use.group(2) or use.group(1).split(".")[-1]] = place_of(use.group(1))
+
+
+def place_of(module):
+    """A module's file where it is the project's, else its name, which is the library's."""
+    return module_path(module) or module
+
+
+class Library:
+    """The toolchain's library: the text of its modules, where it has one."""
+
+    def __init__(self):
+        guide = subprocess.run(["rt", "doc"], capture_output=True, text=True, check=True).stdout.strip()
+        self.logic = os.path.join(os.path.dirname(os.path.dirname(guide)), "logic")
+        with open(os.path.join(self.logic, "antt-project.json"), encoding="utf8") as file:
+            self.folders = {part["name"]: part["src"] for part in json.load(file)["libraries"]}
+        self.theories = {}
+
+    def theory(self, module):
+        """The module's text; None where it is built into the checker."""
+        if module not in self.theories:
+            name, _, rest = module.partition(".")
+            path = os.path.join(self.logic, self.folders.get(name, "none"), rest.replace(".", "/") + ".antt")
+            self.theories[module] = Theory(read_source(path)) if os.path.exists(path) else None
+        return self.theories[module]
 
 
 def readings(word):
@@ -58,6 +92,7 @@ class Believed:
     def __init__(self, follow_all):
         self.theories = {p: Theory(s) for p, s in read_theories().items()}
         self.follow_all = follow_all
+        self.library = Library()
 
     def find(self, path, name):
         """The declaration that a name of a file leads to, through imports; None for the library's."""
@@ -69,6 +104,40 @@ class Believed:
                 return theory.own[name]
             path, name = theory.imported.get(name, (None, name))
         return None
+
+    def find_outside(self, path, name):
+        """The module of the library and the name there that a name leads to, through imports; None for the project's."""
+        for _ in range(8):
+            theory = self.theories.get(path) or (path and self.library.theory(path))
+            if not theory:
+                return (path, name, None) if path and path not in self.theories else None
+            if name in theory.own:
+                return None if path in self.theories else (path, theory.own[name].name, theory.own[name])
+            if name not in theory.imported:
+                return None
+            path, name = theory.imported[name]
+        return None
+
+    def names_outside(self, place, declaration):
+        """What a declaration names in the library."""
+        theory = self.theories.get(place) or self.library.theory(place)
+        for word, part in self.words(declaration):
+            if part and word in theory.modules:
+                yield self.find_outside(theory.modules[word], part)
+            else:
+                yield from (self.find_outside(place, form) for form in readings(word))
+
+    def library_reached(self, seen):
+        """The library's definitions that those of the project reach, by module and name; None where it has no text."""
+        found, todo = {}, [(d.file, d) for d in seen.values()]
+        while todo:
+            for outside in self.names_outside(*todo.pop()):
+                if outside and outside[:2] not in found:
+                    module, name, declaration = outside
+                    found[(module, name)] = declaration
+                    if declaration:
+                        todo.append((module, declaration))
+        return found
 
     def words(self, declaration):
         text = "\n".join(declaration.text)
@@ -97,6 +166,9 @@ class Believed:
             return 1
         return len([t for t in d.text if t.strip()])
 
+    def lines_in(self, seen):
+        return sum(self.lines_of(d) for d in seen.values() if d)
+
 
 def contract_roots(believed):
     with open(CONTRACTS, encoding="utf8") as file:
@@ -116,54 +188,131 @@ def parts_of_claim(believed):
             yield found.group(1), believed.reached_from([r for r in roots if r])
 
 
-def table(believed):
-    """The page's table: how many lines each part of the claim reaches."""
+def sums(believed):
+    """The claim, the contracts, and both: what each reaches."""
     whole = believed.reached_from([believed.find(TOP, "Claims")])
     contracts = believed.reached_from(contract_roots(believed))
-    rows = [("the whole claim", whole), ("the contracts", contracts)]
-    rows += [(f"`Claims.{name}`", seen) for name, seen in parts_of_claim(believed)]
-    lines = [f"| {title} | {sum(map(believed.lines_of, seen.values()))} |" for title, seen in rows]
-    return "\n".join(["| reached by | lines |", "|---|---|", *lines])
+    return [("the whole claim", whole), ("the contracts", contracts), ("both", {**whole, **contracts})]
 
 
-TABLE = re.compile(r"\| reached by \| lines \|\n(?:\|.*\n?)*")
+def table(believed):
+    """The page's table: how many lines each part of the claim reaches."""
+    rows = sums(believed) + [(f"`Claims.{name}`", seen) for name, seen in parts_of_claim(believed)]
+    lines = [f"| {title} | {believed.lines_in(seen)} |" for title, seen in rows]
+    return "\n".join(["| reached by | lines |", "|---|---|", *lines]) + "\n"
+
+
+def library_list(believed, seen):
+    """The page's list of the library's definitions, by module."""
+    reached = believed.library_reached(seen)
+    lines = []
+    for module in sorted({module for module, _ in reached}):
+        names = {name: d for (m, name), d in sorted(reached.items()) if m == module}
+        count = f"{believed.lines_in(names)} lines" if any(names.values()) else "built into the checker"
+        lines += textwrap.wrap(f"- {module}, {count}: {', '.join(names)}", 120, subsequent_indent="  ")
+    built_in = sum(d is None for d in reached.values())
+    lines.append("")
+    total = f"Together {len(reached)} names: {built_in} are built into the checker, {len(reached) - built_in} are defined"
+    lines.append(f"{total} in {believed.lines_in(reached)} lines.")
+    return "\n".join(["<!-- library -->", *lines, "<!-- end -->"]) + "\n"
+
+
+TABLE = re.compile(r"\| reached by \| lines \|\n(?:\|.*\n)*")
+LIBRARY = re.compile(r"<!-- library -->\n(?:.*\n)*?<!-- end -->\n")
+
+
+def text_of(path):
+    with open(path, encoding="utf8") as file:
+        return file.read()
 
 
 def write(believed):
-    with open(REVIEW, encoding="utf8") as file:
-        page = file.read()
+    page = TABLE.sub(lambda _: table(believed), text_of(REVIEW))
+    page = LIBRARY.sub(lambda _: library_list(believed, sums(believed)[-1][1]), page)
     with open(REVIEW, "w", encoding="utf8") as file:
-        file.write(TABLE.sub(lambda _: table(believed) + "\n", page))
+        file.write(page)
     return 0
 
 
 def report(believed):
-    whole = believed.reached_from([believed.find(TOP, "Claims")])
-    contracts = believed.reached_from(contract_roots(believed))
-    for title, seen in [("the whole claim", whole), ("the contracts", contracts)] + list(parts_of_claim(believed)):
-        print(f"{title}: {sum(map(believed.lines_of, seen.values()))} lines, {len(seen)} definitions")
+    (_, whole), (_, contracts), (_, both) = sums(believed)
+    for title, seen in sums(believed) + list(parts_of_claim(believed)):
+        print(f"{title}: {believed.lines_in(seen)} lines, {len(seen)} definitions")
     files = {}
     for d in {**whole, **contracts}.values():
         files[d.file] = files.get(d.file, 0) + believed.lines_of(d)
     for path, count in sorted(files.items()):
         print(f"  {path.removeprefix('crates/')}: {count}")
+    print(library_list(believed, both), end="")
+
+
+def faults_of(believed):
+    page, seen = text_of(REVIEW), sums(believed)[-1][1]
+    beside = [d for d in seen.values() if "/proofs/" in d.file and not d.is_lemma]
+    yield from sorted(f"{d.file}: {d.name} must be believed, and stands beside lemmas" for d in beside)
+    unlisted = {d.file for d in seen.values() if f"`{d.file.removeprefix('crates/')}`" not in page}
+    yield from sorted(f"{path} must be believed, and {REVIEW} does not list it" for path in unlisted)
+    if table(believed) not in page:
+        yield f"{REVIEW}: its table of lines is not up to date: run tools/believed.py --write"
+    if library_list(believed, seen) not in page:
+        yield f"{REVIEW}: its list of the library's definitions is not up to date: run tools/believed.py --write"
 
 
 def check(believed):
-    seen = believed.reached_from([believed.find(TOP, "Claims"), *contract_roots(believed)])
-    with open(REVIEW, encoding="utf8") as file:
-        page = file.read()
-    faults = sorted({f"{d.file}: {d.name} must be believed, and stands beside lemmas" for d in seen.values() if "/proofs/" in d.file and not d.is_lemma})
-    faults += sorted({f"{d.file} must be believed, and {REVIEW} does not list it" for d in seen.values() if d.file.removeprefix("crates/") not in page})
-    if table(believed) not in page:
-        faults.append(f"{REVIEW}: its table of lines is not up to date: run tools/believed.py --write")
+    faults = list(faults_of(believed))
     for fault in faults:
         print(fault)
-    print(f"believed: {len(seen)} definitions, {sum(map(believed.lines_of, seen.values()))} lines; {len(faults)} faults")
+    both = sums(believed)[-1][1]
+    outside = believed.library_reached(both)
+    print(f"believed: {len(both)} definitions, {believed.lines_in(both)} lines; of the toolchain's library, read but not", end=" ")
+    print(f"ours, {len(outside)} definitions, {believed.lines_in(outside)} lines; {len(faults)} faults")
     return 1 if faults else 0
 
 
+# ---- planted faults
+
+PART = "  pub texts : Texts\n"
+PAGE_FILE = "`spec_model/specs/Model.antt`"
+ELSEWHERE = "crates/lib_base/specs/Planted.antt"
+PLANTED_NAME = "abbrev pub planted : ℕ → ℕ\nplanted n = n\n"
+
+
+def reached_by(use, word, definition=PLANTED_NAME, elsewhere=ELSEWHERE):
+    """A definition in a file of its own, which the claim reaches by this import and this word."""
+    return [(elsewhere, None, definition), (TOP, PART, f"{PART}  pub planted-part : {word} ≡ 0\n"), (TOP, None, use)]
+
+
+def import_of(names, kind="specs"):
+    return f"use Rattle.lib_base.{kind}.Planted{names}\n"
+
+
+UNLISTED = f"{ELSEWHERE} must be believed"
+PROOFS = "crates/lib_base/proofs/Planted.antt"
+RENAMED = [(ELSEWHERE, None, PLANTED_NAME), ("crates/lib_base/specs/Between.antt", None, "pub " + import_of(".{planted}"))]
+PLANTED = [
+    ("does not list it", [(REVIEW, PAGE_FILE, "`spec_model`")]),
+    (UNLISTED, reached_by(import_of(".{planted}"), "planted 1")),
+    (UNLISTED, reached_by(import_of(".{planted as other}"), "other 1")),
+    (UNLISTED, reached_by(import_of(" as far"), "far.planted 1")),
+    (UNLISTED, reached_by(import_of(".{_⊛_}"), "1 ⊛ 2", "abbrev pub _⊛_ : ℕ → ℕ → ℕ\nm ⊛ n = n\n")),
+    (UNLISTED, reached_by(import_of(".{one-case}"), "one-case", "pub data Cases : Type 0 where\n  one-case : Cases\n")),
+    (UNLISTED, RENAMED + reached_by("use Rattle.lib_base.specs.Between.{planted}\n", "planted 1", "")),
+    ("planted must be believed, and stands beside lemmas", reached_by(import_of(".{planted}", "proofs"), "planted 1", elsewhere=PROOFS)),
+    ("table of lines is not up to date", [(REVIEW, "| the whole claim | ", "| the whole claim | 1")]),
+    ("table of lines is not up to date", [(TOP, PART, f"{PART}  pub planted-part : Texts\n")]),
+    ("list of the library's definitions", [(REVIEW, "List·Permᴰ, ", "")]),
+    ("list of the library's definitions", [(REVIEW, "Together ", "Together 1")]),
+    ("list of the library's definitions", reached_by("use mathlib.Core.List.{reverse}\n", "reverse", "")),
+    ("list of the library's definitions", reached_by("use mathlib.Core.List as far\n", "far.reverse", "")),
+]
+
+
+def planted_faults():
+    return planted("believed", lambda: list(faults_of(Believed(False))), ["crates", REVIEW], PLANTED)
+
+
 if __name__ == "__main__":
-    believed = Believed("--all" in sys.argv)
+    if "--planted" in sys.argv:
+        sys.exit(planted_faults())
     act = check if "--check" in sys.argv else write if "--write" in sys.argv else report
-    sys.exit(act(believed))
+    sys.exit(act(Believed("--all" in sys.argv)))
