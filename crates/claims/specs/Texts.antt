@@ -57,9 +57,9 @@ pub record Texts : Type 0 where
       → assembleOn bytes buffer ≡ refusedAt shortBuffer (length bytes) bytes buffer
   -- the call's number tells all of this, whatever was lent: how many bytes, or kind, line and column
   pub told-apart : (a p b q : List ℕ) → assembleNumber a p .0 ≡ assembleNumber b q .0 → assembleOn a p .0 ≡ assembleOn b q .0
-  -- "what assemble writes is accepted by compile but for 12, 13 and 3, and means what the text says": it is within the
-  -- grammar and the limits, so that it is read (`AcceptedExactly`), and its names are known, so that of compile's order
-  -- (`Demand1`) only 3, 20, where too few parameters are lent, 12 and 13 are left
+  -- "what assemble writes is accepted by compile but for 12, 13 and 20, and means what the text says": it is within the
+  -- grammar and the limits, 3 among them, so that it is read (`AcceptedExactly`), and its names are known, so that of
+  -- compile's order (`Demand1`) only 20, where too few parameters are lent, 12 and 13 are left
   pub fits : (bytes : List ℕ) (s : Sheet) → TextMeans bytes s → length (encode s) ≤ 8192 → SheetFits s
   pub known : (bytes : List ℕ) (s : Sheet) → TextMeans bytes s → (ps : List ℕ) → Known (programOf ps s)
   -- "names do not matter (renaming consistently gives the same bytes)": f for parameters and behaviours, h for events,
