@@ -7,8 +7,9 @@
  * for all bytes and numbers (docs/CLAIMS.md).
  *
  * Table: at least ENGINE_TABLE bytes; engine_compile writes it, the other calls only read it. Round: at least
- * ENGINE_ROUND bytes; engine_start makes it fresh. Buffers lent to one call must not overlap. Bytes beyond these sizes
- * are never touched. A refused call changes no byte. The program must not change table or round between calls.
+ * ENGINE_ROUND bytes; engine_start makes it fresh. A buffer that a call writes must overlap no other lent to it;
+ * buffers that it only reads may overlap or be one. Bytes beyond these sizes are never touched. A refused call changes
+ * no byte. The program must not change table or round between calls.
  */
 #ifndef ENGINE_H
 #define ENGINE_H
@@ -24,8 +25,9 @@
 extern "C" {
 #endif
 
-/* The interface, that is calls, arguments and answers; and the layout of table and round. A saved table or round may be
- * lent to an engine of the same layout, on any processor. */
+/* The interface, that is calls, arguments, answers and what they mean: a change after which the same calls give another
+ * answer moves it. And the layout of table and round: a saved table or round may be lent to an engine of the same
+ * layout, on any processor. Phones that play one round have both in common. */
 #define ENGINE_VERSION 1u
 #define ENGINE_LAYOUT 1u
 
@@ -74,7 +76,7 @@ enum engine_refusal {
     ENGINE_UNLIKE_RANKS = 26,  /* join: the sheets give one event different ranks */
     ENGINE_SHORT_JOIN = 27,    /* join: the buffer is too short for the joined sheet */
     ENGINE_STRANGE_HAND = 28,  /* mend: the hand holds an event that the new sheet does not declare */
-    ENGINE_DEPENDENT = 29,     /* agree: two events of unequal rank are not independent */
+    ENGINE_DEPENDENT = 29,     /* agree: two events of unequal rank are not independent; phones may end apart */
     ENGINE_LEAK = 30,          /* leak: a behaviour that the player sees names one that is hidden from it */
     ENGINE_OUTSIDE = 31,       /* 31 to 42 are assemble's: a byte or a token with which no text goes on to a sheet */
     ENGINE_TEXT_NUMBER = 32,   /* over 2,147,483,647; after a - that makes a constant, over 2,147,483,648 */
@@ -133,10 +135,12 @@ static inline uint32_t engine_circle_number(uint64_t answer) { return (uint32_t)
 static inline uint32_t engine_circle_event(uint64_t answer) { return (uint32_t)(answer >> 8 & 0xFF); }
 static inline uint32_t engine_circle_length(uint64_t answer) { return (uint32_t)(answer >> 16); }
 
-/* Whether two phones that take in the same events in the same order always end with the same board: compile's number,
- * as with a full table; 0 where every two events of unequal rank are independent, so that they do; else 29 with two
- * events of unequal rank and a behaviour that one writes and the other reads or writes: the least first event, then the
- * least second, then the least behaviour. */
+/* Whether two phones may end apart: compile's number, as with a full table; 0 where every two events of unequal rank
+ * are independent, so that phones that take in the same events in the same order have equal boards when both are idle
+ * and have taken in equally many; else 29 with two events of unequal rank and a behaviour that one writes and the other
+ * reads or writes: the least first event, then the least second, then the least behaviour. 29 warns that the boards may
+ * differ, and does not state that they do. 0 promises nothing of the marks ENGINE_OVER and of the order of commits, and
+ * with ENGINE_HAND in hand one phone may refuse what the other takes in. */
 uint64_t engine_agree(const uint8_t *sheet, size_t sheet_len, const uint8_t *params, size_t params_len);
 
 static inline uint32_t engine_agree_number(uint64_t answer) { return (uint32_t)(answer & 0xFF); }
@@ -144,9 +148,11 @@ static inline uint32_t engine_agree_first(uint64_t answer) { return (uint32_t)(a
 static inline uint32_t engine_agree_second(uint64_t answer) { return (uint32_t)(answer >> 16 & 0xFF); }
 static inline uint32_t engine_agree_behaviour(uint64_t answer) { return (uint32_t)(answer >> 24 & 0xFF); }
 
-/* Whether a player can learn of what is hidden from it: compile's number, as with a full table; 24; 0 where no
- * behaviour that the player sees depends on a hidden one; else 30 with the least that it sees and that names a hidden
- * one, and the least hidden one that this names. */
+/* Whether what a player sees may depend on what is hidden from it: compile's number, as with a full table; 24; 0 where
+ * no behaviour that the player sees depends on a hidden one, so that its answers are the same whatever the start values
+ * of hidden behaviours are; else 30 with the least that it sees and that names a hidden one, and the least hidden one
+ * that this names. 30 warns, and does not state that something can be learned. 0 is about start values alone: a step's
+ * answer tells which event was committed and who sent it. */
 uint64_t engine_leak(const uint8_t *sheet, size_t sheet_len, const uint8_t *params, size_t params_len, uint32_t player);
 
 static inline uint32_t engine_leak_number(uint64_t answer) { return (uint32_t)(answer & 0xFF); }
@@ -165,7 +171,8 @@ static inline uint32_t engine_formula_length(uint64_t answer) { return (uint32_t
 /* A sheet as its setter writes it, text of at most ENGINE_SHEET_TEXT bytes, becomes the sheet's bytes at the start of
  * the buffer, whose other bytes stay: 2^32 and their number. Or the first fault, packed: its kind, 31 to 42, its line
  * and its column, both from 1, and the buffer is as it was. ENGINE_SHEET bytes are always enough. compile takes what is
- * written, but for 12, 13 and 20. docs/SHEETS.md has the format. */
+ * written, but for 12, 13 and 20. docs/SHEETS.md has the format. That a text without a meaning is turned down is
+ * proved, kind and place of 40, 41 and 42 too; those of the others are the reader's definition, with worked texts. */
 uint64_t engine_assemble(const uint8_t *text, size_t text_len, uint8_t *buffer, size_t buffer_len);
 
 /* The length; or the fault's kind, 0 for none, its line and its column in bytes. */
@@ -228,7 +235,8 @@ enum engine_step_answer {
 };
 
 /* With a commit: in the event's meaning some application ran over. Its exact whole-number result was not the 32-bit
- * one, or it divided by zero. */
+ * one, or it divided by zero. Every passive counts in every event's meaning, so that two phones may differ in this
+ * mark, also where agree is 0: decide by the board when idle. */
 #define ENGINE_OVER (UINT64_C(1) << 56)
 
 /* Which of these; for 2, 3 and 4 the player who sent the event, its number and the arrival's; for 3 whether it ran
@@ -243,7 +251,8 @@ static inline int engine_step_over(uint64_t answer) { return (answer & ENGINE_OV
 /* A frame: at most so many steps, one after the other. The answers of steps that commit are written to the start of the
  * buffer, eight bytes each, big-endian, as many as there is room for: engine_answer_get reads them. It tells
  * ENGINE_FRAME_IDLE wherever nothing is left in hand, also after the last of the steps and where the buffer is full;
- * with no step asked for ENGINE_FRAME_MADE, whatever the round is. */
+ * with no step asked for ENGINE_FRAME_MADE, whatever the round is; with no room ENGINE_FRAME_FULL, also where the next
+ * step would be refused. */
 uint64_t engine_frame(const uint8_t *table, size_t table_len, uint8_t *round, size_t round_len, uint32_t steps,
                       uint8_t *commits, size_t commits_len);
 
@@ -294,9 +303,9 @@ uint64_t engine_preview(const uint8_t *table, size_t table_len, const uint8_t *r
 
 /* The round goes on under a newly compiled table: 0, or 14, 19 during copy-back, then 28 where the hand holds an event
  * that the new table does not declare. The hand with its players, arrival numbers and the number taken in stay; the
- * running event goes back to the hand. Behaviours that are active in both sheets keep their value, other actives take
- * the new start, passives are worked out anew. From then on lend the new table; the old one is not kept. A refused
- * change leaves the round to its old table. */
+ * running event goes back to the hand. Behaviours that are active in both sheets keep their value, by number and not by
+ * name, other actives take the new start, passives are worked out anew. From then on lend the new table; the old one is
+ * not kept. A refused change leaves the round to its old table. */
 uint32_t engine_mend(const uint8_t *old_table, size_t old_table_len, const uint8_t *table, size_t table_len,
                      uint8_t *round, size_t round_len);
 

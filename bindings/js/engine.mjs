@@ -190,7 +190,7 @@ class Engine {
         return { number, event, circle: [...list.subarray(0, Number(answer >> 16n))] };
     }
 
-    /** Whether phones always agree: compile's number or 0; with 29 two events and a behaviour that they share. */
+    /** Whether phones may end apart: compile's number or 0; with 29, a warning, two events and what they share. */
     agree(sheet, params = NONE) {
         const answer = this.call("agree", sheet, params);
         const [number, first, second, behaviour] = bytesOf(answer);

@@ -66,8 +66,10 @@
 //!
 //! # Two phones
 //!
-//! Two phones that take in the same events in the same order end with the same board where every two events of unequal
-//! rank are independent: neither writes what the other reads or writes. Sheet S above does not meet that condition.
+//! Two phones that take in the same events in the same order have equal boards, when both are idle and have taken in
+//! equally many, where every two events of unequal rank are independent: neither writes what the other reads or writes.
+//! Sheet S above does not meet that condition. With 64 in hand a phone refuses what another may take in; and marks that
+//! an event ran over, and the order of commits, may differ: decide by the board when idle (`docs/HOST.md`).
 //! A [`record::Recorder`] keeps what a round was asked and what it answered; [`record::audit`] makes the same calls
 //! again and finds the first answer that differs.
 //!
@@ -79,8 +81,8 @@
 //! # Threads and memory
 //!
 //! The engine keeps no state and no pointer: tables are shared freely, rounds move between threads, and calls on
-//! different rounds may run at the same time. The largest call, [`Sheet::join`], takes about 90 KB of stack, and
-//! [`formula`] the stack that `docs/HOST.md` names. No call of the engine allocates; these types put table and round in
+//! different rounds may run at the same time. `docs/HOST.md` has the stack that each call takes: [`formula`] at most
+//! 400 KB, [`Sheet::join`] 60 KB, the others less. No call of the engine allocates; these types put table and round in
 //! the heap.
 #![warn(missing_docs)]
 
@@ -97,8 +99,8 @@ pub use refusal::Refusal;
 pub use round::{Answer, Arrival, Behaviour, Call, Ended, Event, Frame, Player, Round, Step, ROUND};
 pub use sheet::{formula, Circle, Clash, Leak, Params, Sheet, Table, PARAMS, SHEET, SHEET_TEXT, TABLE};
 
-/// The interface, that is calls, arguments and answers, and the layout of table and round. A saved table or round may
-/// be lent to an engine of the same layout, on any processor.
+/// The interface, that is calls, arguments, answers and what they mean, and the layout of table and round. A saved
+/// table or round may be lent to an engine of the same layout, on any processor.
 #[derive(Clone, Copy, Debug, PartialEq, Eq, Hash)]
 pub struct Version {
     /// Of the calls.

@@ -2,7 +2,8 @@
 //!
 //! The types of this crate lend what is due, so that an app has no need of these functions. They are for tests that
 //! lend buffers that are too short, too long or damaged. Every one is safe: a slice is a true length, the borrow keeps
-//! buffers from overlapping, and the engine's answer and every byte that it leaves are proved for all bytes.
+//! a buffer that is written from overlapping any other, and those that are only read may be one; the engine's answer
+//! and every byte that it leaves are proved for all bytes.
 //! `include/engine.h` says what each answers.
 //!
 //! ```

@@ -215,8 +215,9 @@ impl Sheet {
         Ok(Sheet(buffer))
     }
 
-    /// Whether two phones that take in the same events in the same order end with the same board: none where every two
-    /// declared events of unequal rank are independent, else two that are not. Refused by compile's number.
+    /// Whether two phones that take in the same events in the same order may end with unequal boards: none where every
+    /// two declared events of unequal rank are independent, so that they do not; else two that are not, a warning that
+    /// they may, which does not state that they do. Refused by compile's number.
     ///
     /// ```
     /// use poqashem::{Behaviour, Clash, Event, Sheet};
@@ -244,8 +245,9 @@ impl Sheet {
         }
     }
 
-    /// Whether a hidden value leaks to a player: none where no behaviour that this player sees depends on a hidden one,
-    /// else a seen one and a hidden one that it names. Refused by compile's number, then 24.
+    /// Whether a hidden start value may leak to a player: none where no behaviour that this player sees depends on a
+    /// hidden one, so that it does not; else a seen one and a hidden one that it names, a warning. Moves are not
+    /// hidden: a step tells which event was committed and who sent it. Refused by compile's number, then 24.
     ///
     /// ```
     /// use poqashem::{Behaviour, Leak, Player, Sheet};

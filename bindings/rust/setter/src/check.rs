@@ -63,6 +63,13 @@ fn instructions(file: &SheetFile, table: &Table) -> Result<Vec<(Event, u64)>, Fa
 
 // ---- two phones
 
+/// What is promised of a sheet that gets 0, and what is not: docs/HOST.md, "Two phones".
+const AGREE: [&str; 3] = [
+    "agree: every two events of unequal rank are independent",
+    "boards are equal when idle and the same events are taken in; with 64 in hand the next is refused",
+    "marks of results that ran over, and the order of commits, may differ",
+];
+
 /// The sheet with the handlers of two events only: the text that describes it, which has a handler on a line of its own,
 /// without the lines of all other handlers.
 fn only(file: &SheetFile, text: &str, kept: [u32; 2]) -> Result<Sheet, Failure> {
@@ -95,7 +102,7 @@ fn clashes(file: &SheetFile, table: &Table) -> Result<Vec<Clash>, Failure> {
 fn phones(file: &SheetFile, table: &Table) -> Result<Vec<String>, Failure> {
     let clashes = clashes(file, table)?;
     if clashes.is_empty() {
-        return Ok(vec!["agree: every two events of unequal rank are independent".to_string()]);
+        return Ok(AGREE.map(str::to_string).to_vec());
     }
     let mut lines = vec!["may end apart: events of unequal rank are not independent".to_string()];
     let more = clashes.len().saturating_sub(PAIRS);
@@ -106,7 +113,7 @@ fn phones(file: &SheetFile, table: &Table) -> Result<Vec<String>, Failure> {
     if more > 0 {
         lines.push(format!("and {}", several(more as u64, "more pair", "more pairs")));
     }
-    lines.push("give such events one rank, or nothing in common".to_string());
+    lines.push("give such events one rank, or nothing in common; it is a warning, and need not come true".to_string());
     Ok(lines)
 }
 
@@ -139,7 +146,10 @@ fn told(file: &SheetFile, who: &[u32], hidden: &[String], leak: Option<Leak>) ->
     let are = if hidden.len() == 1 { "is" } else { "are" };
     match leak {
         _ if hidden.is_empty() => format!("{who}: nothing is hidden from them"),
-        None => format!("{who}: {} {are} hidden, and nothing that they see depends on that", listed(hidden)),
+        None => format!(
+            "{who}: {} {are} hidden, and nothing that they see depends on that; a commit tells event and sender",
+            listed(hidden)
+        ),
         Some(Leak { seen, hidden: from }) => format!(
             "{who}: {} {are} hidden, but may leak: {} is seen and depends on {}",
             listed(hidden),

@@ -21,7 +21,7 @@ use wording::several;
 const HELP: &str = "\
 setter: sheets written as text
 
-  setter check FILE                    is it accepted, how large is it, do two phones agree, what may leak
+  setter check FILE                    is it accepted, how large is it, may two phones end apart, what may leak
   setter build FILE OUT                write the sheet's bytes
   setter show SHEET                    a sheet's bytes as text
   setter join FIRST SECOND OUT         write the bytes of two sheets joined to one
@@ -38,9 +38,10 @@ const CHECK: &str = "\
 setter check FILE [--join OTHER] [--param NAME=VALUE ..]
 
 Says whether the sheet is accepted, with its bytes, parameters, events, behaviours and instructions beside their limits;
-whether two phones that take in the same events in the same order end with the same board, and if not which events
-share what; for the players, what is hidden and what of it may leak. A fault of the text is told as FILE:LINE:COLUMN,
-a circle by its names and event. With --join, of FILE joined with OTHER.
+whether two phones that take in the same events in the same order, at most 64 in hand, have equal boards when idle, or
+may end apart, and then which events share what, a warning; for the players, what is hidden, and whether its start value
+may leak, also a warning. A fault of the text is told as FILE:LINE:COLUMN, a circle by its names and event. With --join,
+of FILE joined with OTHER.
 ";
 
 const BUILD: &str = "\
