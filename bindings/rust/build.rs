@@ -41,21 +41,26 @@ fn fail(what: &str) -> ! {
     std::process::exit(1)
 }
 
-fn folder() -> PathBuf {
+/// The folder of the archive, as it is named and from the root on. The one of the repository is named from this package's
+/// folder on, where a build script runs: checkouts that share a target folder share the compiled script and what cargo
+/// keeps of its run, and a path from the root on would be that of the checkout that was built first.
+fn folder() -> (PathBuf, PathBuf) {
     println!("cargo:rerun-if-env-changed=ENGINE_LIB_DIR");
     if let Some(named) = std::env::var_os("ENGINE_LIB_DIR") {
         let named = PathBuf::from(named);
         if named.is_relative() {
             fail("ENGINE_LIB_DIR is a relative path, and a build runs in several folders: name it from the root on");
         }
-        return named;
+        return (named.clone(), named);
     }
     let target = std::env::var("TARGET").expect("cargo sets TARGET");
     let known = FOLDERS.iter().find(|(name, _)| *name == target);
     let Some((_, own)) = known else {
         fail(&format!("no archive is released for {target}; ENGINE_LIB_DIR names the folder of another libengine.a"));
     };
-    Path::new(env!("CARGO_MANIFEST_DIR")).join("../../target/release/lib").join(own)
+    let own = Path::new("../../target/release/lib").join(own);
+    let package = std::env::var_os("CARGO_MANIFEST_DIR").expect("cargo sets CARGO_MANIFEST_DIR");
+    (own.clone(), Path::new(&package).join(own))
 }
 
 /// Whether the archive has this call: its name ends at a zero byte in a symbol table, and begins there, behind an
@@ -67,9 +72,9 @@ fn has(archive: &[u8], call: &str) -> bool {
 }
 
 fn main() {
-    let folder = folder();
+    let (named, folder) = folder();
+    println!("cargo:rerun-if-changed={}", named.join("libengine.a").display());
     let file = folder.join("libengine.a");
-    println!("cargo:rerun-if-changed={}", file.display());
     let archive = std::fs::read(&file).unwrap_or_else(|e| {
         fail(&format!(
             "{}: {e}. ./release in the repository's root writes it; ENGINE_LIB_DIR names the folder of another one",

@@ -8,7 +8,8 @@ fn run(command: &mut Command) {
 }
 
 fn main() {
-    let folder = Path::new(env!("CARGO_MANIFEST_DIR")).join("../bench");
+    let package = std::env::var_os("CARGO_MANIFEST_DIR").expect("cargo sets CARGO_MANIFEST_DIR");
+    let folder = Path::new(&package).join("../bench");
     let out = std::env::var("OUT_DIR").expect("cargo sets OUT_DIR");
     let (object, archive) = (format!("{out}/cengine.o"), format!("{out}/libcengine.a"));
     println!("cargo:rerun-if-changed={}", folder.join("cengine.c").display());
