@@ -153,6 +153,7 @@ mod tests {
         assert_eq!(number("ENGINE_SHEET_TEXT"), crate::SHEET_TEXT);
         assert_eq!(number("ENGINE_PARAMS"), crate::PARAMS);
         assert_eq!(number("ENGINE_PLAYERS"), crate::Player::ALL.len());
+        assert_eq!(number("ENGINE_HAND"), crate::round::HAND);
         let version = crate::version();
         assert_eq!(number("ENGINE_VERSION"), version.interface as usize);
         assert_eq!(number("ENGINE_LAYOUT"), version.layout as usize);

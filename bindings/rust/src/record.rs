@@ -71,6 +71,7 @@ mod file;
 pub use audit::{audit, Auditor, Difference, Verdict};
 pub use file::{Damage, Harm, Reader, Writer};
 
+use crate::round::commit_bytes;
 use crate::{raw, Behaviour, Event, Params, Player, Refusal, Round, Sheet, Step, Table};
 use std::fmt;
 
@@ -83,9 +84,6 @@ const MEND: u8 = 5;
 const FRAME: u8 = 6;
 const RAN: u8 = 7;
 const IDLE: u8 = 8;
-
-/// A round takes in at most so many arrivals.
-const ARRIVALS: u32 = 1_000_000;
 
 /// What a step is answered that ran one instruction, and one that found the round idle.
 const RAN_ANSWER: u64 = 1;
@@ -490,10 +488,8 @@ fn ask(table: &[u8], round: &mut [u8], request: Request, commits: &mut Vec<u8>) 
         Request::Preview(event, behaviour, player) => raw::preview(table, round, event.0, behaviour.0, player.0),
         Request::Mend(_) => unreachable!("a change of sheets is made with both tables"),
         Request::Frame(steps, room) => {
-            // no frame makes more commits than steps, nor a round more than arrivals
-            let enough = room.min(steps.saturating_add(1)).min(ARRIVALS + 1);
             commits.clear();
-            commits.resize(8 * enough as usize, 0);
+            commits.resize(commit_bytes(room as usize), 0);
             let answer = raw::frame(table, round, steps, commits);
             commits.truncate(8 * commit_count(answer));
             answer

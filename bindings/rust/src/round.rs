@@ -6,6 +6,8 @@ use std::fmt;
 
 /// Bytes of a round.
 pub const ROUND: usize = 2_048;
+/// Arrivals in hand, at most.
+pub(crate) const HAND: usize = 64;
 /// Bytes of a recorded call, and of its answer.
 const CALL: usize = 6;
 const ANSWER: usize = 8;
@@ -157,6 +159,12 @@ pub struct Frame {
     pub ended: Ended,
 }
 
+/// Bytes for the commits of a frame with so much room, or with as much of it as can be used: no step takes an arrival in,
+/// so that a frame commits at most what is in hand, and with one place more it is never full.
+pub(crate) fn commit_bytes(room: usize) -> usize {
+    room.min(HAND + 1) * ANSWER
+}
+
 /// A round and the table that it runs on.
 ///
 /// ```
@@ -175,7 +183,23 @@ pub struct Frame {
 /// assert_eq!(round.board(Behaviour(0), Player::HOST)?, 4);
 /// # Ok::<(), poqashem::Refusal>(())
 /// ```
-#[derive(Clone, PartialEq, Eq)]
+///
+/// Rounds have no `==`. Two phones whose boards are equal may have rounds of unequal bytes, so compare what
+/// [`Round::board`] answers when both are idle and have taken in the same events; [`Round::bytes`] compares two copies
+/// of one round.
+///
+/// ```
+/// # let round = poqashem::Sheet::new([]).compile(None)?.start()?;
+/// assert!(round.clone().bytes() == round.bytes());
+/// # Ok::<(), poqashem::Refusal>(())
+/// ```
+///
+/// ```compile_fail,E0369
+/// # let round = poqashem::Sheet::new([]).compile(None)?.start()?;
+/// assert!(round.clone() == round);
+/// # Ok::<(), poqashem::Refusal>(())
+/// ```
+#[derive(Clone)]
 pub struct Round {
     table: Table,
     bytes: Box<[u8; ROUND]>,
@@ -282,7 +306,7 @@ impl Round {
 
     /// Up to so many steps in one call, for a frame: it ends early where the next step would be idle or refused, or
     /// where there is no room for a further commit, and nothing is lost. Where nothing is left in hand it says so, also
-    /// after the last of its steps.
+    /// after the last of its steps. Any room will do: `usize::MAX` is no limit, and takes no more memory than the hand.
     ///
     /// ```
     /// use poqashem::{Arrival, Ended, Event, Player, Sheet, Step};
@@ -296,7 +320,7 @@ impl Round {
     /// # Ok::<(), poqashem::Refusal>(())
     /// ```
     pub fn frame(&mut self, steps: u32, room: usize) -> Frame {
-        let mut commits = vec![0; room * ANSWER];
+        let mut commits = vec![0; commit_bytes(room)];
         let answer = raw::frame(self.table.bytes(), &mut self.bytes[..], steps, &mut commits);
         let ended = match answer >> 56 {
             0 => Ended::Done,
@@ -339,5 +363,48 @@ fn answered(call: Call, answer: u64) -> Answer {
             Ok(word) => Answer::Value(word as i32),
             Err(refusal) => Answer::Refused(refusal),
         },
+    }
+}
+
+#[cfg(test)]
+mod tests {
+    use super::*;
+    use crate::record::{audit, Recorder, Verdict};
+    use crate::Sheet;
+
+    /// An event that nothing handles: it takes five steps.
+    const SHEET: [u8; 4] = [1, 0, 1, 5];
+    const STEPS: u32 = 5;
+
+    fn full_hand() -> Round {
+        let mut round = Sheet::new(SHEET).compile(None).unwrap().start().unwrap();
+        (0..HAND).for_each(|_| round.arrive(Event(0), Player(1)).unwrap());
+        assert_eq!(round.arrive(Event(0), Player(1)), Err(Refusal::FullHand));
+        round
+    }
+
+    /// Room that no memory would hold is room for the whole hand, also where one of the hand runs.
+    #[test]
+    fn frames_with_any_room() {
+        for (first, room) in [(0, usize::MAX), (0, u32::MAX as usize), (3, usize::MAX), (0, HAND + 1), (0, HAND)] {
+            let mut round = full_hand();
+            assert_eq!(round.frame(first, room).steps, first);
+            let frame = round.frame(u32::MAX, room);
+            let made = (frame.steps, frame.commits.len(), frame.ended);
+            assert_eq!(made, (STEPS * HAND as u32 - first, HAND, Ended::Idle), "{first} steps, room for {room}");
+        }
+        let mut round = full_hand();
+        let frame = round.frame(u32::MAX, HAND - 1);
+        assert_eq!((frame.commits.len(), frame.ended), (HAND - 1, Ended::NoRoom));
+    }
+
+    #[test]
+    fn recorded_frames_with_any_room() {
+        let mut round = Recorder::start("any room", Sheet::new(SHEET), None).unwrap();
+        (0..HAND).for_each(|_| round.arrive(Event(0), Player(1)).unwrap());
+        assert_eq!(round.frame(10, u32::MAX).commits.len(), 2);
+        assert_eq!(round.frame(u32::MAX, u32::MAX).commits.len(), HAND - 2);
+        let record = round.finish();
+        assert_eq!(audit(&record), Verdict::Agrees { calls: HAND as u64 + 2 });
     }
 }
