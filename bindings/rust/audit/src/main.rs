@@ -1,11 +1,8 @@
 //! Audits files of recorded rounds on all cores: each round is played again by the engine, and for each that differs
 //! the first call that does is printed.
 //!
-//! audit [--threads N] [--every SECONDS | --quiet] FILE ..
-//!
-//! Findings go to standard output, one line each, in the order of the files; progress and the sum go to standard error.
-//! Ends with 0 where all rounds agree, with 1 where one differs, cannot be played or is damaged, with 2 where it was
-//! called wrongly or a file cannot be read. The format is that of the crate's module `record`.
+//! `audit --help` says how it is called. Findings go to standard output, one line each, in the order of the files;
+//! progress and the sum go to standard error. The format is that of the crate's module `record`.
 mod pool;
 
 use pool::{Found, Totals};
@@ -13,10 +10,20 @@ use std::io::{IsTerminal, Write};
 use std::process::ExitCode;
 use std::time::{Duration, Instant};
 
-const USAGE: &str = "audit [--threads N] [--every SECONDS | --quiet] FILE ..";
+const HELP: &str = "\
+audit [--threads N] [--every SECONDS | --quiet] FILE ..
+
+Plays each round of the files again, on all cores, and prints a line for each that differs, with the first call that
+does, for each that cannot be played, and for each stretch that is damaged. A FILE - is standard input. --threads sets
+how many threads there are, --every how often progress is shown, --quiet shows none.
+
+Ends with 0 where all rounds agree, with 1 where something stands out, with 2 where it was called wrongly or a file
+cannot be read. It writes no file.
+";
 
 struct Asked {
     files: Vec<String>,
+    help: bool,
     threads: usize,
     /// How often progress is shown.
     every: Option<Duration>,
@@ -25,18 +32,19 @@ struct Asked {
 fn asked(mut words: impl Iterator<Item = String>) -> Result<Asked, String> {
     let threads = std::thread::available_parallelism().map_or(1, |n| n.get());
     let seconds = if std::io::stderr().is_terminal() { 1 } else { 10 };
-    let mut asked = Asked { files: vec![], threads, every: Some(Duration::from_secs(seconds)) };
+    let mut asked = Asked { files: vec![], help: false, threads, every: Some(Duration::from_secs(seconds)) };
     while let Some(word) = words.next() {
         let mut number = || words.next().and_then(|w| w.parse::<u64>().ok()).ok_or(format!("{word} needs a number"));
         match word.as_str() {
             "--threads" => asked.threads = (number()? as usize).clamp(1, 1024),
             "--every" => asked.every = Some(Duration::from_secs(number()?)),
             "--quiet" => asked.every = None,
-            _ if word.starts_with("--") => return Err(format!("no option {word}")),
+            "--help" | "-h" => asked.help = true,
+            _ if word.starts_with('-') && word != pool::STANDARD_INPUT => return Err(format!("no option {word}")),
             _ => asked.files.push(word),
         }
     }
-    if asked.files.is_empty() {
+    if asked.files.is_empty() && !asked.help {
         Err("no file is named".to_string())
     } else {
         Ok(asked)
@@ -94,10 +102,14 @@ fn main() -> ExitCode {
     let asked = match asked(std::env::args().skip(1)) {
         Ok(asked) => asked,
         Err(why) => {
-            eprintln!("audit: {why}\n{USAGE}");
+            eprintln!("audit: {why}\n\n{HELP}");
             return ExitCode::from(2);
         }
     };
+    if asked.help {
+        let _ = std::io::stdout().write_all(HELP.as_bytes());
+        return ExitCode::SUCCESS;
+    }
     let since = Instant::now();
     let size = |file: &String| std::fs::metadata(file).map_or(0, |m| m.len());
     let bytes = asked.files.iter().map(size).sum();

@@ -2,6 +2,7 @@
 use poqashem::record::{Auditor, Damage, Harm, Reader, Record, Verdict};
 use std::collections::BTreeMap;
 use std::fs::File;
+use std::io::Read;
 use std::sync::mpsc::{channel, sync_channel, Receiver, RecvTimeoutError, Sender, SyncSender};
 use std::sync::Mutex;
 use std::time::Duration;
@@ -53,6 +54,16 @@ struct Done {
     totals: Totals,
 }
 
+/// What stands for standard input among the files.
+pub const STANDARD_INPUT: &str = "-";
+
+fn source(name: &str) -> std::io::Result<Box<dyn Read>> {
+    Ok(match name {
+        STANDARD_INPUT => Box::new(std::io::stdin()),
+        _ => Box::new(File::open(name)?),
+    })
+}
+
 /// The files' rounds in batches, until the other side is gone.
 struct Feeder {
     to: SyncSender<Batch>,
@@ -67,11 +78,11 @@ impl Feeder {
     }
 
     fn file(&mut self, name: &str) -> Option<()> {
-        let file = match File::open(name) {
-            Ok(file) => file,
+        let source = match source(name) {
+            Ok(source) => source,
             Err(e) => return self.send(name, vec![Item::Broken(e.to_string())], 0),
         };
-        let mut reader = Reader::new(file);
+        let mut reader = Reader::new(source);
         let (mut items, mut rounds, mut from) = (Vec::new(), 0, 0);
         while let Some(next) = reader.next() {
             items.push(match next {

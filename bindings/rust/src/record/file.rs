@@ -95,6 +95,8 @@ pub struct Damage {
 pub enum Harm {
     /// The file does not begin as it should.
     First,
+    /// The file has no bytes.
+    Empty,
     /// No head of a round stands where one is due.
     Head,
     /// The body is not the one that its sum was taken of.
@@ -110,6 +112,7 @@ pub enum Harm {
 impl fmt::Display for Damage {
     fn fmt(&self, f: &mut fmt::Formatter<'_>) -> fmt::Result {
         match &self.harm {
+            Harm::Empty => return write!(f, "the file has no bytes"),
             Harm::First => write!(f, "the file does not begin as a file of recorded rounds")?,
             Harm::Head => write!(f, "no round begins where one should")?,
             Harm::Sum => write!(f, "a round's bytes are not those that were written")?,
@@ -117,7 +120,10 @@ impl fmt::Display for Damage {
             Harm::Form(why) => write!(f, "a round is not of the format: {why}")?,
             Harm::Io(why) => return write!(f, "the file cannot be read from byte {} on: {why}", self.at),
         }
-        write!(f, " (bytes {} to {})", self.at, self.at + self.length.max(1) - 1)
+        match self.length {
+            0 => write!(f, " (at byte {})", self.at),
+            length => write!(f, " (bytes {} to {})", self.at, self.at + length - 1),
+        }
     }
 }
 
@@ -232,7 +238,10 @@ impl<R: Read> Reader<R> {
         }
         if !self.begun {
             self.begun = true;
-            if self.head(0)?.is_none() && self.have(1)? {
+            if !self.have(1)? {
+                return Ok(Some(Err(Harm::Empty)));
+            }
+            if self.head(0)?.is_none() {
                 self.search()?;
             }
             return Ok(Some(Err(Harm::First)));
@@ -256,7 +265,9 @@ impl<R: Read> Iterator for Reader<R> {
     fn next(&mut self) -> Option<Self::Item> {
         let at = self.at;
         let read = self.read().unwrap_or_else(|e| {
+            // nothing is known of what was not read: neither a beginning nor a round is missed
             self.ended = true;
+            self.begun = true;
             self.buffer.clear();
             self.from = 0;
             Some(Err(Harm::Io(e)))
@@ -328,10 +339,40 @@ mod tests {
     #[test]
     fn other_bytes() {
         assert_eq!(read(b""), (vec![], 1));
+        assert_eq!(Reader::new(&b""[..]).next().unwrap().unwrap_err().to_string(), "the file has no bytes");
+        let headless = rounds(1).concat();
+        let first = Reader::new(&headless[..]).next().unwrap().unwrap_err().to_string();
+        assert_eq!(first, "the file does not begin as a file of recorded rounds (at byte 0)");
         assert_eq!(read(&[0xF5; 100_000]), (vec![], 1));
         assert_eq!(read(&FIRST[..]), (vec![], 0), "a file of no rounds");
         let file = [&FIRST[..], &rounds(2).concat()].concat();
         let (names, harmed) = read(&[&file[..], &FIRST[..], &file].concat());
         assert_eq!((names.len(), harmed), (4, 0), "files one behind the other");
+    }
+
+    /// Bytes, and then an error.
+    struct Breaks<'a>(&'a [u8]);
+
+    impl Read for Breaks<'_> {
+        fn read(&mut self, buffer: &mut [u8]) -> io::Result<usize> {
+            if self.0.is_empty() {
+                return Err(io::Error::other("the disk is gone"));
+            }
+            self.0.read(buffer)
+        }
+    }
+
+    /// A file that cannot be read on, from its first byte or any other: the rounds before, the error, and nothing else,
+    /// since nothing is known of what was not read.
+    #[test]
+    fn an_error_is_the_last() {
+        let parts = rounds(3);
+        let whole = [&FIRST[..], &parts.concat()].concat();
+        for at in 0..=whole.len() {
+            let all: Vec<_> = Reader::new(Breaks(&whole[..at])).collect();
+            let (last, before) = all.split_last().expect("an error");
+            assert!(matches!(last, Err(Damage { harm: Harm::Io(_), .. })), "cut at {at}: {last:?}");
+            assert!(before.iter().all(Result::is_ok), "cut at {at}: {before:?}");
+        }
     }
 }
