@@ -1,9 +1,9 @@
 //! Files of sheets, as text or as bytes, with the names of what they declare.
+use crate::excerpt;
 use crate::failure::Failure;
-use crate::names::{names_of, Group, Names, Param};
+use crate::names::{names_of, params_used, Group, Names, Param};
 use crate::wording::{listed, refused};
 use poqashem::{Behaviour, Circle, Event, Fault, FaultKind, Params, Refusal, Sheet, Table};
-use std::io::Write;
 
 /// How many parameters the host lends.
 const LENT: usize = 8;
@@ -38,32 +38,14 @@ pub fn is_sheet(bytes: &[u8]) -> bool {
     matches!(bytes.first(), Some(1 | 2 | 3 | 6))
 }
 
-/// Writes a file whole or not at all.
-pub fn write(path: &str, bytes: &[u8]) -> Result<(), Failure> {
-    let told = |e: std::io::Error| Failure::input(format!("{path}: cannot be written: {e}"));
-    // something that is no file, such as /dev/stdout, is written to as it is
-    if std::fs::metadata(path).is_ok_and(|m| !m.is_file()) {
-        return std::fs::write(path, bytes).map_err(told);
-    }
-    let beside = format!("{path}.{}.part", std::process::id());
-    let whole = std::fs::File::create(&beside).and_then(|mut file| file.write_all(bytes));
-    let done = whole.and_then(|()| std::fs::rename(&beside, path));
-    if done.is_err() {
-        let _ = std::fs::remove_file(&beside);
-    }
-    done.map_err(told)
-}
-
 /// A fault with its line of the text and a mark under the place.
 fn shown(path: &str, text: &[u8], fault: &Fault) -> Failure {
     let mut message = format!("{path}:{fault}: {}", why(text, fault));
     let Fault { kind, line, column } = *fault;
     let line = text.split(|b| *b == b'\n').nth(line as usize - 1).unwrap_or(b"");
-    let whole = matches!(kind, FaultKind::LongText | FaultKind::LongSheet | FaultKind::ShortBuffer);
-    if !whole && line.len() <= 200 && line.iter().all(|b| b.is_ascii() && (*b >= b' ' || *b == b'\t' || *b == b'\r')) {
-        let line = String::from_utf8_lossy(line);
-        let under = line.chars().take(column as usize - 1).map(|c| if c == '\t' { '\t' } else { ' ' });
-        message += &format!("\n    {}\n    {}^", line.trim_end(), under.collect::<String>());
+    if !matches!(kind, FaultKind::LongText | FaultKind::LongSheet | FaultKind::ShortBuffer) {
+        let [line, under] = excerpt::marked(line, column as usize - 1);
+        message += &format!("\n    {line}\n    {under}");
     }
     Failure::Input(message)
 }
@@ -131,11 +113,13 @@ impl SheetFile {
         Params::new(values)
     }
 
-    /// A round needs a value for each parameter.
+    /// A round needs a value for each parameter that the sheet uses. A sheet that has no text is turned down anyway.
     pub fn all_given(&self) -> Result<(), Failure> {
-        match self.params.iter().find(|p| p.value.is_none()) {
+        let used = self.sheet.describe().map_or(vec![], |text| params_used(text.as_bytes()));
+        let missing = |(number, p): &(usize, &Param)| p.value.is_none() && used.contains(number);
+        match self.params.iter().enumerate().find(missing) {
             None => Ok(()),
-            Some(p) => Err(Failure::input(format!(
+            Some((_, p)) => Err(Failure::input(format!(
                 "{}: the parameter {} has no default: give it a value with --param {}=VALUE",
                 self.path, p.name, p.name
             ))),
@@ -217,6 +201,17 @@ impl SheetFile {
         let group = self.groups.iter().find(|g| g.name == name && g.cells.is_some_and(|n| cell < n))?;
         let members = vec![Behaviour(group.first + cell)];
         Some(Shown { label: word.to_string(), members, row: false })
+    }
+
+    /// ` with points = 10, need = 3`: the values that a round is played with.
+    pub fn with_values(&self) -> String {
+        let given = |p: &Param| p.value.map(|value| format!("{} = {value}", p.name));
+        let given: Vec<String> = self.params.iter().filter_map(given).collect();
+        if given.is_empty() {
+            String::new()
+        } else {
+            format!(" with {}", given.join(", "))
+        }
     }
 
     /// `points = 10, need = 3`.

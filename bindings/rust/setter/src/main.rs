@@ -3,9 +3,11 @@
 //! What reads, judges, describes or runs a sheet is the proved engine, through the Rust crate. Plain Rust are the names
 //! that are printed, taken from the accepted text, and the words behind a fault.
 mod check;
+mod excerpt;
 mod failure;
 mod file;
 mod names;
+mod output;
 mod play;
 mod script;
 mod timeline;
@@ -13,6 +15,7 @@ mod wording;
 
 use failure::Failure;
 use file::SheetFile;
+use output::{Kind, Output};
 use script::Script;
 use std::io::Write;
 use std::process::ExitCode;
@@ -28,10 +31,12 @@ setter: sheets written as text
   setter play FILE SCRIPT              play a round by name
   setter timeline FILE SCRIPT OUT.svg  draw the same round
   setter help COMMAND                  more on a command
+  setter --version                     the program's version and the engine's
 
 A FILE is text (docs/SHEETS.md) or a sheet's bytes; of bytes, e0, b0 and p0 are the names. A text's sheet or fault, a
-sheet's text, circles, instructions, phones, leaks and rounds are the proved engine's answers. Ends with 0; with 1 where
-a file cannot be read or is turned down, with 2 where it was called wrongly.
+sheet's text, circles, instructions, phones, leaks and rounds are the proved engine's answers. No file that is read, and
+none of another kind than is written, is written over without --force. Ends with 0; with 1 where a file cannot be read
+or is turned down, with 2 where it was called wrongly.
 ";
 
 const CHECK: &str = "\
@@ -45,9 +50,10 @@ of FILE joined with OTHER.
 ";
 
 const BUILD: &str = "\
-setter build FILE OUT [--join OTHER]
+setter build FILE OUT [--join OTHER] [--force]
 
 Writes the sheet's bytes to OUT if the engine accepts the sheet, and nothing else. Parameters stay parameters.
+A file OUT that is there must be a sheet's bytes, and none that is read; --force writes over any.
 ";
 
 const SHOW: &str = "\
@@ -58,10 +64,11 @@ engine turns down is told with its number.
 ";
 
 const JOIN: &str = "\
-setter join FIRST SECOND OUT
+setter join FIRST SECOND OUT [--force]
 
 Writes one sheet from two: events are shared by number and have the same rank in both, behaviours of the second follow
-those of the first, parameters are shared by number.
+those of the first, parameters are shared by number. A file OUT that is there must be a sheet's bytes, and none that is
+read; --force writes over any.
 ";
 
 const PLAY: &str = "\
@@ -80,10 +87,11 @@ text's default unless one is given. A script has one statement a line; # begins 
 ";
 
 const TIMELINE: &str = "\
-setter timeline FILE SCRIPT OUT.svg [--join OTHER] [--param NAME=VALUE ..]
+setter timeline FILE SCRIPT OUT.svg [--join OTHER] [--param NAME=VALUE ..] [--force]
 
 Draws what play prints: a lane for each event, a bar while it runs, what was dropped at a break-in, restarts, commits,
-refused arrivals and changes of the sheet, over the steps.
+refused arrivals and changes of the sheet, over the steps. A file OUT.svg that is there must be a picture, and none that
+is read; --force writes over any.
 ";
 
 /// A command, its help, and how many files it names.
@@ -105,7 +113,18 @@ struct Asked {
     files: Vec<String>,
     given: Vec<(String, i32)>,
     join: Option<String>,
+    force: bool,
     help: bool,
+}
+
+impl Asked {
+    /// The last of the files, which the command writes; the others it reads, and those that a script changes to.
+    fn output(&self, kind: Kind, mended: &[&str]) -> Result<Output<'_>, Failure> {
+        let (path, inputs) = self.files.split_last().expect("a command that writes names a file");
+        let output = Output { path, kind, force: self.force };
+        output.check(inputs.iter().chain(&self.join).map(String::as_str).chain(mended.iter().copied()))?;
+        Ok(output)
+    }
 }
 
 fn asked(words: impl Iterator<Item = String>) -> Result<Asked, Failure> {
@@ -114,6 +133,7 @@ fn asked(words: impl Iterator<Item = String>) -> Result<Asked, Failure> {
     while let Some(word) = words.next() {
         match word.as_str() {
             "--help" | "-h" => asked.help = true,
+            "--force" => asked.force = true,
             "--join" => asked.join = Some(words.next().ok_or(Failure::Usage("--join needs a file".to_string()))?),
             "--param" => {
                 let given = words.next().and_then(|w| script::assignment(&w));
@@ -146,14 +166,15 @@ fn load(asked: &Asked) -> Result<SheetFile, Failure> {
 }
 
 fn build(asked: &Asked) -> Result<(), Failure> {
+    let output = asked.output(Kind::Sheet, &[])?;
     let file = load(asked)?;
     file.compile()?;
-    written(&asked.files[1], file.sheet.bytes())
+    written(output, file.sheet.bytes())
 }
 
-fn written(path: &str, bytes: &[u8]) -> Result<(), Failure> {
-    file::write(path, bytes)?;
-    print(&format!("{path}: {}\n", several(bytes.len() as u64, "byte", "bytes")))
+fn written(output: Output, bytes: &[u8]) -> Result<(), Failure> {
+    output.write(bytes)?;
+    print(&format!("{}: {}\n", output.path, several(bytes.len() as u64, "byte", "bytes")))
 }
 
 fn show(asked: &Asked) -> Result<(), Failure> {
@@ -168,14 +189,14 @@ fn show(asked: &Asked) -> Result<(), Failure> {
 }
 
 fn join(asked: &Asked) -> Result<(), Failure> {
+    let output = asked.output(Kind::Sheet, &[])?;
     let both = file::joined(&SheetFile::load(&asked.files[0])?, &SheetFile::load(&asked.files[1])?)?;
-    written(&asked.files[2], both.sheet.bytes())
+    written(output, both.sheet.bytes())
 }
 
 /// What is played, at the head of what is printed.
 fn head(file: &SheetFile) -> String {
-    let with = if file.params.is_empty() { String::new() } else { format!(" with {}", file.values()) };
-    format!("{}{with}", file.path)
+    format!("{}{}", file.path, file.with_values())
 }
 
 fn play(asked: &Asked) -> Result<(), Failure> {
@@ -193,6 +214,7 @@ fn play(asked: &Asked) -> Result<(), Failure> {
 fn timeline(asked: &Asked) -> Result<(), Failure> {
     let file = load(asked)?;
     let script = Script::load(&asked.files[1], &asked.given)?;
+    let output = asked.output(Kind::Picture, &script.sheets())?;
     play::names_known(&file, &script)?;
     let mut marks = vec![];
     let steps = play::play(&file, &script, &mut |entry| {
@@ -200,18 +222,33 @@ fn timeline(asked: &Asked) -> Result<(), Failure> {
         Ok(())
     })?;
     let picture = timeline::draw(&file, &head(&file), &marks, steps);
-    file::write(&asked.files[2], picture.as_bytes())
+    output.write(picture.as_bytes())
+}
+
+/// A command that there is none of, with the one that it may be meant for.
+fn no_command(word: &str) -> Failure {
+    let near = play::perhaps(word, COMMANDS.iter().map(|(name, ..)| *name));
+    Failure::Usage(format!("no command {word}{near}\n\n{HELP}"))
+}
+
+fn version() -> String {
+    let engine = poqashem::version();
+    let own = env!("CARGO_PKG_VERSION");
+    format!("setter {own}, on the engine's interface {} and layout {}\n", engine.interface, engine.layout)
 }
 
 fn run(mut words: impl Iterator<Item = String>) -> Result<(), Failure> {
     let command = words.next().ok_or(Failure::Usage(format!("no command is named\n\n{HELP}")))?;
     if ["help", "--help", "-h"].contains(&command.as_str()) {
-        let about = words.next();
-        let known = COMMANDS.iter().find(|(name, ..)| Some(*name) == about.as_deref());
-        return print(known.map_or(HELP, |(_, help, _)| help));
+        let Some(about) = words.next() else { return print(HELP) };
+        let known = COMMANDS.iter().find(|(name, ..)| *name == about);
+        return print(known.ok_or_else(|| no_command(&about))?.1);
+    }
+    if ["--version", "-V"].contains(&command.as_str()) {
+        return print(&version());
     }
     let Some((name, help, files)) = COMMANDS.iter().find(|(name, ..)| *name == command) else {
-        return Err(Failure::Usage(format!("no command {command}\n\n{HELP}")));
+        return Err(no_command(&command));
     };
     let wrong = |why: String| Failure::Usage(format!("{why}\n\n{help}"));
     let asked = asked(words).map_err(|failure| match failure {

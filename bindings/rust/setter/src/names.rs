@@ -105,6 +105,14 @@ pub fn names_of(text: &[u8]) -> Names {
     names
 }
 
+/// The numbers of the parameters that formulas of a described text name: it calls them p0, p1 and so on.
+pub fn params_used(described: &[u8]) -> Vec<usize> {
+    let words = words(described);
+    let number = |k: usize| words[k].text.strip_prefix('p').and_then(|number| number.parse().ok());
+    let declared = |k: usize| k > 0 && words[k - 1].text == "param";
+    (0..words.len()).filter(|k| !declared(*k)).filter_map(number).collect()
+}
+
 #[cfg(test)]
 mod tests {
     use super::*;

@@ -84,11 +84,11 @@ pub fn names_known(file: &SheetFile, script: &Script) -> Result<(), Failure> {
         };
         let path = &file.path;
         if let Some(event) = events.iter().find(|e| sheets.iter().all(|s| s.event_named(e).is_none())) {
-            let near = perhaps(event, sheets.iter().flat_map(|s| &s.events));
+            let near = perhaps(event, sheets.iter().flat_map(|s| s.events.iter().map(String::as_str)));
             return Err(wrong(&script.path, *line, format!("{path} has no event {event}{near}")));
         }
         if let Some(name) = names.iter().find(|n| sheets.iter().all(|s| s.shown(n).is_none())) {
-            let near = perhaps(name, sheets.iter().flat_map(|s| s.groups.iter().map(|g| &g.name)));
+            let near = perhaps(name, sheets.iter().flat_map(|s| s.groups.iter().map(|g| g.name.as_str())));
             return Err(wrong(&script.path, *line, format!("{path} has no behaviour or cell {name}{near}")));
         }
     }
@@ -96,8 +96,8 @@ pub fn names_known(file: &SheetFile, script: &Script) -> Result<(), Failure> {
 }
 
 /// A question behind a message, where a name that is not known is near another.
-fn perhaps<'a>(word: &str, known: impl Iterator<Item = &'a String>) -> String {
-    sheet_text::nearest(word, known.map(String::as_str)).map_or(String::new(), |near| format!("; is it {near}?"))
+pub fn perhaps<'a>(word: &str, known: impl Iterator<Item = &'a str>) -> String {
+    sheet_text::nearest(word, known).map_or(String::new(), |near| format!("; is it {near}?"))
 }
 
 /// Plays a script; all that happens is told as it happens. The number of steps made.
@@ -305,7 +305,7 @@ impl Stage<'_> {
             return self.say(format!("the change to {} is refused, {}", file.path, refused(refusal)), None);
         }
         let back = self.running.take().map(|a| format!(": {} goes back to the hand", self.named(a)));
-        let with = if file.params.is_empty() { String::new() } else { format!(" with {}", file.values()) };
+        let with = file.with_values();
         self.file = file.clone();
         let words = format!("the sheet is now {}{with}{}", file.path, back.unwrap_or_default());
         self.say(words, Some(Mark::Mended(file.path.clone())))

@@ -50,6 +50,12 @@ impl Script {
         }
         Ok(script)
     }
+
+    /// The paths of the sheets that it changes to.
+    pub fn sheets(&self) -> Vec<&str> {
+        let asks = self.statements.iter().map(|statement| &statement.ask);
+        asks.filter_map(|ask| if let Ask::Mend(file) = ask { Some(file.path.as_str()) } else { None }).collect()
+    }
 }
 
 /// A line that is being read.
