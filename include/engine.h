@@ -322,16 +322,17 @@ size_t engine_replay(const uint8_t *table, size_t table_len, uint8_t *round, siz
 
 enum engine_call_kind { ENGINE_CALL_ARRIVE = 0, ENGINE_CALL_STEP = 1, ENGINE_CALL_BOARD = 2 };
 
-/* Writes call k of a record: the number is the event's or the behaviour's, 0 for a step. */
-static inline void engine_call_put(uint8_t *calls, size_t k, uint8_t kind, uint32_t number, uint8_t player)
+/* Writes call k of a record: the number is the event's or the behaviour's, 0 for a step. A player or a kind above 255,
+ * for which there is no byte, is written as 255, so that replay refuses the player as the call itself does. */
+static inline void engine_call_put(uint8_t *calls, size_t k, uint32_t kind, uint32_t number, uint32_t player)
 {
     uint8_t *at = calls + k * ENGINE_CALL;
-    at[0] = kind;
+    at[0] = (uint8_t)(kind < 255 ? kind : 255);
     at[1] = (uint8_t)(number >> 24);
     at[2] = (uint8_t)(number >> 16);
     at[3] = (uint8_t)(number >> 8);
     at[4] = (uint8_t)number;
-    at[5] = player;
+    at[5] = (uint8_t)(player < 255 ? player : 255);
 }
 
 /* Answer k of a list of answers. */

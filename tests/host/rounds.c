@@ -125,6 +125,28 @@ static void audit(void)
     expect(answers[19 * 8 + 3] == 1 && answers[19 * 8 + 7] == 2, "b0 is 2");
 }
 
+/* A call that was refused is refused in the replay: of a player that a byte does not hold, too, who is not the host. */
+static void audit_of_any_player(void)
+{
+    static const uint32_t players[] = {0, 7, 8, 255, 256, 257, 512, 65536, 0xFFFFFF00, 0xFFFFFFFF};
+    size_t i;
+
+    for (i = 0; i < sizeof players / sizeof *players; i++) {
+        uint8_t calls[2 * ENGINE_CALL], answers[2 * ENGINE_ANSWER];
+        uint64_t sent, seen;
+
+        load(S, sizeof S);
+        sent = engine_arrive(TABLE, ROUND, 0, players[i]);
+        seen = engine_board(TABLE, ROUND, 1, players[i]);
+        engine_call_put(calls, 0, ENGINE_CALL_ARRIVE, 0, players[i]);
+        engine_call_put(calls, 1, ENGINE_CALL_BOARD, 1, players[i]);
+        load(S, sizeof S);
+        expect(engine_replay(TABLE, ROUND, calls, sizeof calls, answers, sizeof answers) == 2, "two calls are made");
+        expect(engine_answer_get(answers, 0) == sent, "an arrival of any player is replayed as it was answered");
+        expect(engine_answer_get(answers, 1) == seen, "and so is a board reading");
+    }
+}
+
 /* The frame planner books the forecast's steps: with nothing running, idle comes after exactly those. */
 static void plan(void)
 {
@@ -507,6 +529,7 @@ int main(void)
     expect(engine_arrive(TABLE, ROUND, 0, ENGINE_HOST) == ENGINE_NO_SUCH_EVENT, "it has no event");
     expect(engine_board(TABLE, ROUND, 0, ENGINE_HOST) == ENGINE_NO_SUCH_BEHAVIOUR, "and no behaviour");
     audit();
+    audit_of_any_player();
     plan();
     hover();
     levels();
