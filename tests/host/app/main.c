@@ -140,7 +140,9 @@ static void describe(const struct match *m)
     putchar('\n');
 }
 
-/* Before a sheet is played: whether the phones will agree, and whether player 2 can learn of what it may not see. */
+/* Before a sheet is played: whether the phones will agree, and whether what player 2 sees depends on what it may not
+ * see. It does not here, and yet player 2, who sees b0 and b1, can work out their product, b2; and every phone is told
+ * which events were committed and who sent them. */
 static void judge(const struct sheet *s)
 {
     uint64_t a = engine_agree(s->bytes, s->len, no_params, sizeof no_params);
@@ -150,7 +152,7 @@ static void judge(const struct sheet *s)
         printf("phones may disagree: events %u and %u differ in rank and share b%u\n", (unsigned)engine_agree_first(a),
                (unsigned)engine_agree_second(a), (unsigned)engine_agree_behaviour(a));
     if (engine_leak_number(l) == 0)
-        printf("nothing that is hidden from player 2 leaks to it\n");
+        printf("no behaviour that player 2 sees depends on one that is hidden from it\n");
 }
 
 /* Saved while an event runs, closed, and gone on with. */

@@ -4,7 +4,9 @@
 #include <stdlib.h>
 #include <string.h>
 
-#define COMMITS 64u /* told of in one frame call; further ones come with the next */
+#define COMMITS 64u  /* told of in one frame call; further ones come with the next */
+#define ASKED 17u    /* bytes of the longest call in the record, but for a frame's commits */
+#define SHEETS 65535 /* of a match, at most: files count them in two bytes */
 
 const char *match_word(uint32_t number)
 {
@@ -13,24 +15,34 @@ const char *match_word(uint32_t number)
     case MATCH_FILE: return "the file is not read or written";
     case MATCH_OTHER_VERSION: return "saved by another version";
     case MATCH_DIFFERS: return "the record comes to something else";
+    case MATCH_SHEETS: return "no further sheet";
     default: return engine_refusal_word(number);
     }
 }
 
 /* ---- bytes */
 
+/* Room for so many bytes more; 0 where there is no memory. */
+static int reserve(struct log *l, size_t bytes)
+{
+    size_t room = 2 * l->room + bytes + 64;
+    uint8_t *grown;
+
+    if (l->room - l->len >= bytes)
+        return 1;
+    grown = (uint8_t *)realloc(l->bytes, room);
+    if (!grown)
+        return 0;
+    l->bytes = grown;
+    l->room = room;
+    return 1;
+}
+
 /* Appends a big-endian number of so many bytes; 0 where there is no memory. */
 static int put(struct log *l, uint64_t number, size_t bytes)
 {
-    if (l->room - l->len < bytes) {
-        size_t room = 2 * l->room + 64;
-        uint8_t *grown = (uint8_t *)realloc(l->bytes, room);
-
-        if (!grown)
-            return 0;
-        l->bytes = grown;
-        l->room = room;
-    }
+    if (!reserve(l, bytes))
+        return 0;
     while (bytes-- > 0)
         l->bytes[l->len++] = (uint8_t)(number >> 8 * bytes);
     return 1;
@@ -78,29 +90,32 @@ static uint64_t get(struct reader *r, size_t bytes)
 
 /* ---- the record: a call's kind, what it was asked with, its answer */
 
+/* There is room in the record before the engine is asked, so that what it has done is always kept. Where there is none
+ * the engine is not asked: a move that is told to be refused was not taken in. */
 enum { ASKED_ARRIVE = 0, ASKED_BOARD = 2, ASKED_MEND = 5, ASKED_FRAME = 6 };
 
 /* An arrival, a board reading or a frame. */
-static uint32_t record(struct match *m, unsigned kind, uint32_t first, uint32_t second, uint64_t answer)
+static void record(struct match *m, unsigned kind, uint32_t first, uint32_t second, uint64_t answer)
 {
     struct log *l = &m->asked;
-    int kept = put(l, kind, 1) && put(l, first, 4) && put(l, second, 4) && put(l, answer, 8);
 
-    return kept ? 0 : (uint32_t)MATCH_NO_MEMORY;
+    (void)(put(l, kind, 1) && put(l, first, 4) && put(l, second, 4) && put(l, answer, 8));
 }
 
-static uint32_t record_mend(struct match *m, size_t which, uint32_t answer)
+static void record_mend(struct match *m, size_t which, uint32_t answer)
 {
     struct log *l = &m->asked;
-    int kept = put(l, ASKED_MEND, 1) && put(l, which, 2) && put(l, answer, 8);
 
-    return kept ? 0 : (uint32_t)MATCH_NO_MEMORY;
+    (void)(put(l, ASKED_MEND, 1) && put(l, which, 2) && put(l, answer, 8));
 }
 
 static uint32_t add_sheet(struct match *m, const struct sheet *sheet, const uint8_t params[ENGINE_PARAMS])
 {
-    struct played *sheets = (struct played *)realloc(m->sheets, (m->count + 1) * sizeof *sheets);
+    struct played *sheets;
 
+    if (m->count == SHEETS)
+        return MATCH_SHEETS;
+    sheets = (struct played *)realloc(m->sheets, (m->count + 1) * sizeof *sheets);
     if (!sheets)
         return MATCH_NO_MEMORY;
     m->sheets = sheets;
@@ -108,6 +123,23 @@ static uint32_t add_sheet(struct match *m, const struct sheet *sheet, const uint
     memcpy(sheets[m->count].params, params, ENGINE_PARAMS);
     m->count++;
     return 0;
+}
+
+static int same_sheet(const struct played *p, const struct sheet *sheet, const uint8_t params[ENGINE_PARAMS])
+{
+    return p->sheet.len == sheet->len && memcmp(p->sheet.bytes, sheet->bytes, sheet->len) == 0
+        && memcmp(p->params, params, ENGINE_PARAMS) == 0;
+}
+
+/* A sheet's number; one that the match does not have yet is added. So a change that is tried again in each frame until
+ * it is made adds its sheet once. */
+static uint32_t find_sheet(struct match *m, const struct sheet *sheet, const uint8_t params[ENGINE_PARAMS],
+                           size_t *which)
+{
+    for (*which = 0; *which < m->count; ++*which)
+        if (same_sheet(m->sheets + *which, sheet, params))
+            return 0;
+    return add_sheet(m, sheet, params);
 }
 
 /* ---- playing */
@@ -147,64 +179,76 @@ void match_close(struct match *m)
 
 uint32_t match_send(struct match *m, uint32_t event, uint32_t player)
 {
-    uint32_t answer = engine_arrive(m->table, sizeof m->table, m->round, sizeof m->round, event, player);
-    uint32_t kept = record(m, ASKED_ARRIVE, event, player, answer);
+    uint32_t answer;
 
-    return answer ? answer : kept;
+    if (!reserve(&m->asked, ASKED))
+        return MATCH_NO_MEMORY;
+    answer = engine_arrive(m->table, sizeof m->table, m->round, sizeof m->round, event, player);
+    record(m, ASKED_ARRIVE, event, player, answer);
+    return answer;
 }
 
 uint32_t match_read(struct match *m, uint32_t behaviour, uint32_t player, int32_t *value)
 {
-    uint64_t answer = engine_board(m->table, sizeof m->table, m->round, sizeof m->round, behaviour, player);
-    uint32_t kept = record(m, ASKED_BOARD, behaviour, player, answer);
+    uint64_t answer;
 
+    if (!reserve(&m->asked, ASKED))
+        return MATCH_NO_MEMORY;
+    answer = engine_board(m->table, sizeof m->table, m->round, sizeof m->round, behaviour, player);
+    record(m, ASKED_BOARD, behaviour, player, answer);
     if (engine_board_refused(answer))
         return engine_board_refusal(answer);
     *value = engine_board_value(answer);
-    return kept;
+    return 0;
 }
 
 uint32_t match_frame(struct match *m, uint32_t steps, void (*commit)(void *app, uint64_t answer), void *app, int *idle)
 {
     uint8_t commits[COMMITS * ENGINE_ANSWER];
-    uint32_t kept, k;
+    uint32_t k;
     uint64_t f;
 
+    *idle = 0;
     do {
+        if (!reserve(&m->asked, ASKED + sizeof commits))
+            return MATCH_NO_MEMORY;
         f = engine_frame(m->table, sizeof m->table, m->round, sizeof m->round, steps, commits, sizeof commits);
-        kept = record(m, ASKED_FRAME, steps, COMMITS, f);
-        if (kept == 0 && !put_all(&m->asked, commits, engine_frame_commits(f) * ENGINE_ANSWER))
-            kept = MATCH_NO_MEMORY;
+        record(m, ASKED_FRAME, steps, COMMITS, f);
+        put_all(&m->asked, commits, engine_frame_commits(f) * ENGINE_ANSWER);
         for (k = 0; k < engine_frame_commits(f); k++)
             commit(app, engine_answer_get(commits, k));
         steps -= engine_frame_steps(f);
-    } while (engine_frame_end(f) == ENGINE_FRAME_FULL && kept == 0);
+    } while (engine_frame_end(f) == ENGINE_FRAME_FULL);
     *idle = engine_frame_end(f) == ENGINE_FRAME_IDLE;
-    return engine_frame_end(f) == ENGINE_FRAME_REFUSED ? (uint32_t)ENGINE_FOREIGN : kept;
+    return engine_frame_end(f) == ENGINE_FRAME_REFUSED ? (uint32_t)ENGINE_FOREIGN : 0;
 }
 
-/* The round goes on under another sheet, if the engine lets it. */
-static uint32_t change(struct match *m, const uint8_t *table)
+/* The round goes on under another of the match's sheets, if the engine lets it. */
+static uint32_t change(struct match *m, const uint8_t *table, size_t which)
 {
-    uint32_t refusal = engine_mend(m->table, sizeof m->table, table, ENGINE_TABLE, m->round, sizeof m->round);
-    uint32_t kept = record_mend(m, m->count - 1, refusal);
+    uint32_t refusal;
 
+    if (!reserve(&m->asked, ASKED))
+        return MATCH_NO_MEMORY;
+    refusal = engine_mend(m->table, sizeof m->table, table, ENGINE_TABLE, m->round, sizeof m->round);
+    record_mend(m, which, refusal);
     if (refusal)
         return refusal;
     memcpy(m->table, table, sizeof m->table);
-    m->in_force = m->count - 1;
-    return kept;
+    m->in_force = which;
+    return 0;
 }
 
 uint32_t match_mend(struct match *m, const struct sheet *sheet, const uint8_t params[ENGINE_PARAMS])
 {
     uint8_t *table = (uint8_t *)malloc(ENGINE_TABLE);
     uint32_t refusal = table ? compiled(sheet, params, table) : (uint32_t)MATCH_NO_MEMORY;
+    size_t which = 0;
 
     if (refusal == 0)
-        refusal = add_sheet(m, sheet, params);
+        refusal = find_sheet(m, sheet, params, &which);
     if (refusal == 0)
-        refusal = change(m, table);
+        refusal = change(m, table, which);
     free(table);
     return refusal;
 }

@@ -26,18 +26,19 @@ struct match {
 };
 
 /* Numbers below 64 are the engine's refusals. */
-enum { MATCH_NO_MEMORY = 64, MATCH_FILE = 65, MATCH_OTHER_VERSION = 66, MATCH_DIFFERS = 67 };
+enum { MATCH_NO_MEMORY = 64, MATCH_FILE = 65, MATCH_OTHER_VERSION = 66, MATCH_DIFFERS = 67, MATCH_SHEETS = 68 };
 
 const char *match_word(uint32_t number);
 
-/* Each answers 0, or why not. What was opened or loaded, also in vain, is to be closed. */
+/* Each answers 0, or why not: then the round is as it was. What was opened or loaded, also in vain, is to be closed. */
 uint32_t match_open(struct match *m, const struct sheet *sheet, const uint8_t params[ENGINE_PARAMS]);
 void match_close(struct match *m);
 uint32_t match_send(struct match *m, uint32_t event, uint32_t player);
 uint32_t match_read(struct match *m, uint32_t behaviour, uint32_t player, int32_t *value);
 uint32_t match_mend(struct match *m, const struct sheet *sheet, const uint8_t params[ENGINE_PARAMS]);
 
-/* One frame: at most so many steps. Calls commit(app, answer) for each commit; idle tells whether nothing is left. */
+/* One frame: at most so many steps. Calls commit(app, answer) for each commit; idle tells whether nothing is left. Where
+ * it answers why not, the steps whose commits were told are made and recorded, and no others. */
 uint32_t match_frame(struct match *m, uint32_t steps, void (*commit)(void *app, uint64_t answer), void *app, int *idle);
 
 /* To a file of the app's own, and back: the match goes on where it was. A file that comes to something else than its
