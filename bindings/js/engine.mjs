@@ -10,6 +10,7 @@ export const ROUND = 2048;
 export const FIELD = 7168;
 export const SHEET_TEXT = 65536;
 export const LIST = 64;
+export const HAND = 64; // arrivals in hand, at most
 export const HOST = 0;
 export const NO_EVENT = 255;
 
@@ -47,7 +48,7 @@ export function refusalWord(number) {
     return WORDS[number] ?? "no refusal";
 }
 
-/** A call was turned down: its number and its word. Nothing was changed. */
+/** A call was turned down: its number and its word. It changed nothing. */
 export class Refusal extends Error {
     constructor(call, number) {
         super(`${call}: ${number}, ${refusalWord(number)}`);
@@ -69,36 +70,131 @@ export class Fault extends Error {
     }
 }
 
-// What each call takes: r a buffer that it reads, w one that it writes, n a number of 32 bits, q one of 64.
-const TAKES = {
-    compile: "rrw", circle: "rrw", start: "rw", arrive: "rwnn", step: "rw", told: "q", board: "rrnn", forecast: "rr",
-    preview: "rrnnn", mend: "rrw", formula: "rw", join: "rrrw", replay: "rwrw", version: "", event_count: "r",
-    behaviour_count: "r", event_rank: "rn", frame: "rwnw", agree: "rr", leak: "rrn", assemble: "rw", describe: "rw",
-};
+// What each call takes, by kind and name: r a buffer that it reads, w one that it writes, n a number of 32 bits, q one
+// of 64.
+const TAKES = new Map(Object.entries({
+    compile: "r sheet, r params, w table",
+    circle: "r sheet, r params, w list",
+    start: "r table, w round",
+    arrive: "r table, w round, n event, n player",
+    step: "r table, w round",
+    told: "q answer",
+    board: "r table, r round, n behaviour, n player",
+    forecast: "r table, r round",
+    preview: "r table, r round, n event, n behaviour, n player",
+    mend: "r old, r table, w round",
+    formula: "r text, w buffer",
+    join: "r first, r second, r params, w buffer",
+    replay: "r table, w round, r calls, w answers",
+    version: "",
+    event_count: "r table",
+    behaviour_count: "r table",
+    event_rank: "r table, n event",
+    frame: "r table, w round, n steps, w commits",
+    agree: "r sheet, r params",
+    leak: "r sheet, r params, n player",
+    assemble: "r text, w buffer",
+    describe: "r sheet, w buffer",
+}).map(([call, list]) => [call, list === "" ? [] : list.split(", ").map((arg) => arg.split(" "))]));
 
 const PAGE = 65536;
 const NONE = new Uint8Array(0);
+const WORD = 0xffffffff;
+const CALL_PLAYER = 255; // the most that a recorded call's player can be: no player, as every number over 7
 
-/** The parts of a step's answer; player, event and arrival are those of a start, a commit or a break-in. */
+/**
+ * What a step did, and with a start, a commit or a break-in the arrival's player, event and number. These parts are
+ * what is copied, cloned and written as JSON; what comes back of them is taken wherever a step is.
+ */
+class Step {
+    constructor(kind, player, event, arrival, over) {
+        this.kind = kind;
+        this.player = player;
+        this.event = event;
+        this.arrival = arrival;
+        this.over = over;
+    }
+
+    /** The packed answer, a BigInt, as C has it. */
+    get answer() {
+        return packed(this);
+    }
+}
+
+/** The parts of a step's answer, as `call` and `replay` give it. */
 export function stepOf(answer) {
     const low = Number(answer & 0xffffn);
-    return {
-        answer,
-        kind: low & 15,
-        player: (low >> 4) & 15,
-        event: low >> 8,
-        arrival: Number((answer >> 16n) & 0xffffffffn),
-        over: ((answer >> 56n) & 1n) === 1n,
-    };
+    const arrival = Number((answer >> 16n) & 0xffffffffn);
+    return new Step(low & 15, (low >> 4) & 15, low >> 8, arrival, ((answer >> 56n) & 1n) === 1n);
+}
+
+// The answer of a step, which may come from another phone.
+function packed(step) {
+    const part = (name, most) => BigInt(within("step", name, step[name], most));
+    if (typeof step.over !== "boolean") throw new TypeError("step: over is no boolean");
+    const arrival = (part("arrival", WORD) << 16n) | (part("event", 255) << 8n) | (part("player", 15) << 4n);
+    return (BigInt(step.over) << 56n) | arrival | part("kind", 15);
 }
 
 /** Loads engine.wasm: its bytes, a WebAssembly.Module, or a Response (a promise of one will do). */
 export async function load(source) {
     const given = await source;
-    if (given instanceof WebAssembly.Module) return new Engine(given, await WebAssembly.instantiate(given));
-    const bytes = typeof Response !== "undefined" && given instanceof Response ? await given.arrayBuffer() : given;
-    const { module, instance } = await WebAssembly.instantiate(bytes);
-    return new Engine(module, instance);
+    if (tagged(given, "WebAssembly.Module")) return new Engine(given, await WebAssembly.instantiate(given));
+    const both = tagged(given, "Response") ? await received(given) : await WebAssembly.instantiate(given);
+    return new Engine(both.module, both.instance);
+}
+
+// Compiled while it is received, where the browser can and the server names the type; else when all of it is there.
+async function received(response) {
+    const { ok, status, statusText, url } = response;
+    if (!ok) throw new Error(`load: ${url || "the response"} has status ${`${status} ${statusText}`.trim()}`);
+    const type = response.headers.get("content-type")?.trim().toLowerCase();
+    const own = typeof Response === "function" && response instanceof Response;
+    const streams = own && typeof WebAssembly.instantiateStreaming === "function";
+    if (streams && type === "application/wasm") return WebAssembly.instantiateStreaming(response);
+    return WebAssembly.instantiate(await response.arrayBuffer());
+}
+
+// By its tag, so that it may be of another realm: a frame, a vm, a test's own globals.
+function tagged(given, tag) {
+    return Object.prototype.toString.call(given) === `[object ${tag}]`;
+}
+
+function isBytes(given) {
+    return ArrayBuffer.isView(given) && given[Symbol.toStringTag] === "Uint8Array";
+}
+
+function whole(call, name, n) {
+    return within(call, name, n, WORD);
+}
+
+function within(call, name, n, most) {
+    if (n === undefined) throw new TypeError(`${call}: ${name} is missing`);
+    if (typeof n !== "number") throw new TypeError(`${call}: ${name} is no number`);
+    if (!Number.isInteger(n) || n < 0 || n > most) throw new RangeError(`${call}: ${name}: ${n} is not 0 to ${most}`);
+    return n;
+}
+
+function checked(call, [kind, name], given) {
+    if (given === undefined) throw new TypeError(`${call}: ${name} is missing`);
+    if (kind === "n") whole(call, name, given);
+    else if (kind === "q") {
+        if (typeof given !== "bigint") throw new TypeError(`${call}: ${name} is no BigInt`);
+    } else if (!isBytes(given)) throw new TypeError(`${call}: ${name} is no Uint8Array`);
+}
+
+// A text as bytes; bytes of UTF-8 are taken as they are.
+function bytesOfText(call, text) {
+    if (isBytes(text)) return text;
+    if (typeof text !== "string") throw new TypeError(`${call}: text is no string`);
+    return new TextEncoder().encode(text);
+}
+
+// Room for as many commits as a frame can make: one for each step and each arrival in hand. One more, so that it is
+// never the room that ends it where more was asked for.
+function roomFor(steps, most) {
+    if (most !== Infinity) whole("frame", "most", most);
+    return Math.min(most, whole("frame", "steps", steps) + 1, HAND + 1);
 }
 
 class Engine {
@@ -123,13 +219,13 @@ class Engine {
      * answer is a BigInt. Buffers are copied in, and those that are written are copied out again.
      */
     call(name, ...given) {
-        const takes = TAKES[name];
+        const takes = TAKES.get(name);
         if (takes === undefined) throw new TypeError(`no call ${name}`);
         if (given.length !== takes.length) throw new TypeError(`${name} takes ${takes.length} arguments`);
+        takes.forEach((arg, k) => checked(name, arg, given[k]));
         let room = this.#base;
         const places = given.map((arg, k) => {
-            if (takes[k] === "n" || takes[k] === "q") return undefined;
-            if (!(arg instanceof Uint8Array)) throw new TypeError(`${name}: argument ${k} is no Uint8Array`);
+            if (takes[k][0] === "n" || takes[k][0] === "q") return undefined;
             const at = room;
             room += (arg.length + 7) & ~7;
             return at;
@@ -137,16 +233,15 @@ class Engine {
         const lacking = room - this.#memory.buffer.byteLength;
         if (lacking > 0) this.#memory.grow(Math.ceil(lacking / PAGE));
         const bytes = new Uint8Array(this.#memory.buffer);
-        const words = [];
-        given.forEach((arg, k) => {
-            if (takes[k] === "q") return words.push(BigInt.asUintN(64, arg));
-            if (takes[k] === "n") return words.push(whole(name, arg));
+        const words = given.flatMap((arg, k) => {
+            if (takes[k][0] === "q") return BigInt.asUintN(64, arg);
+            if (takes[k][0] === "n") return arg;
             bytes.set(arg, places[k]);
-            words.push(places[k], BigInt(arg.length));
+            return [places[k], BigInt(arg.length)];
         });
         const answer = this.#made(name, words);
         given.forEach((arg, k) => {
-            if (takes[k] === "w") arg.set(bytes.subarray(places[k], places[k] + arg.length));
+            if (takes[k][0] === "w") arg.set(bytes.subarray(places[k], places[k] + arg.length));
         });
         return typeof answer === "bigint" ? BigInt.asUintN(64, answer) : BigInt(answer >>> 0);
     }
@@ -198,7 +293,7 @@ class Engine {
     }
 
     /** Whether a player can learn of what is hidden: compile's number, 24 or 0; with 30 one seen and one hidden. */
-    leak(sheet, params = NONE, player = HOST) {
+    leak(sheet, params = NONE, player) {
         const [number, seen, hidden] = bytesOf(this.call("leak", sheet, params, player));
         return number === 30 ? { number, seen, hidden } : { number };
     }
@@ -228,7 +323,8 @@ class Engine {
         return round;
     }
 
-    arrive(table, round, event, player = HOST) {
+    /** An event is taken in, sent by this player. */
+    arrive(table, round, event, player) {
         this.#done("arrive", table, round, event, player);
     }
 
@@ -239,22 +335,25 @@ class Engine {
         return did;
     }
 
-    /** At most so many steps, and at most `most` commits: { steps, commits, end }, a commit being as step gives it. */
-    frame(table, round, steps, most = 64) {
-        const room = new Uint8Array(8 * most);
+    /**
+     * At most so many steps, and at most `most` commits: { steps, commits, end }, a commit being as step gives it. Also
+     * where a step is refused, which `end` tells: the steps before it were made.
+     */
+    frame(table, round, steps, most = HAND) {
+        const room = new Uint8Array(8 * roomFor(steps, most));
         const answer = this.call("frame", table, round, steps, room);
-        const end = Number(answer >> 56n);
-        if (end === FRAME_REFUSED) throw new Refusal("frame", STEP_REFUSED);
         const commits = answers(room, Number((answer >> 32n) & 0xffffffn)).map(stepOf);
-        return { steps: Number(answer & 0xffffffffn), commits, end };
+        return { steps: Number(answer & 0xffffffffn), commits, end: Number(answer >> 56n) };
     }
 
     /** A step as the other players are told of it: without the mark that the event ran over. */
-    told(did) {
-        return stepOf(this.call("told", did.answer));
+    told(step) {
+        if (step === undefined) throw new TypeError("told: step is missing");
+        return stepOf(this.call("told", packed(step)));
     }
 
-    board(table, round, behaviour, player = HOST) {
+    /** A behaviour's value, as this player may see it. */
+    board(table, round, behaviour, player) {
         return this.#worth("board", table, round, behaviour, player) | 0;
     }
 
@@ -263,7 +362,8 @@ class Engine {
         return this.#worth("forecast", table, round);
     }
 
-    preview(table, round, event, behaviour, player = HOST) {
+    /** The value that a behaviour would show after this event of this player had been run to idle. */
+    preview(table, round, event, behaviour, player) {
         return this.#worth("preview", table, round, event, behaviour, player) | 0;
     }
 
@@ -275,13 +375,13 @@ class Engine {
     /** The expression field of a formula's text. */
     formula(text) {
         const field = new Uint8Array(FIELD);
-        return field.slice(0, this.#worth("formula", new TextEncoder().encode(text), field));
+        return field.slice(0, this.#worth("formula", bytesOfText("formula", text), field));
     }
 
     /** The sheet that a text means; a text that is turned down throws a Fault. */
     assemble(text) {
         const sheet = new Uint8Array(SHEET);
-        const answer = this.call("assemble", new TextEncoder().encode(text), sheet);
+        const answer = this.call("assemble", bytesOfText("assemble", text), sheet);
         if (answer >> 56n !== 0n) throw new Fault(answer);
         return sheet.slice(0, Number(answer & 0xffffffffn));
     }
@@ -300,7 +400,7 @@ class Engine {
 
     /** Makes recorded calls one after the other: their answers, as BigInts. */
     replay(table, round, calls) {
-        const room = new Uint8Array(8 * Math.floor(calls.length / 6));
+        const room = new Uint8Array(8 * Math.floor((calls?.length ?? 0) / 6));
         return answers(room, Number(this.call("replay", table, round, calls, room)));
     }
 }
@@ -315,12 +415,14 @@ function answers(room, count) {
     return Array.from({ length: count }, (_, k) => view.getBigUint64(8 * k));
 }
 
-function whole(name, n) {
-    if (!Number.isInteger(n) || n < 0 || n > 0xffffffff) throw new RangeError(`${name}: ${n} is no number of 32 bits`);
-    return n | 0;
-}
-
-/** A recorded call's six bytes: its kind, the event or behaviour, and the player. */
-export function recorded(kind, number = 0, player = HOST) {
-    return [kind, number >>> 24, (number >>> 16) & 255, (number >>> 8) & 255, number & 255, player];
+/**
+ * A recorded call's six bytes: its kind, the event or behaviour, and the player; a step has neither. A player over 7 is
+ * refused by replay as it was live, however large.
+ */
+export function recorded(kind, number, player) {
+    within("recorded", "kind", kind, CALL_BOARD);
+    const [n, p] = kind === CALL_STEP ? [number ?? 0, player ?? HOST] : [number, player];
+    whole("recorded", "number", n);
+    const held = Math.min(whole("recorded", "player", p), CALL_PLAYER);
+    return [kind, n >>> 24, (n >>> 16) & 255, (n >>> 8) & 255, n & 255, held];
 }

@@ -1,64 +1,15 @@
-// Plays the rounds of the scope in WebAssembly, and runs the page's example: test.mjs FOLDER, the folder having
-// engine.mjs and engine.wasm.
+// Plays the rounds of the scope in WebAssembly, tries what the module does with what it is given (tests/), and runs the
+// page's example: test.mjs FOLDER, the folder having engine.mjs and engine.wasm.
 import assert from "node:assert/strict";
 import { execFileSync } from "node:child_process";
 import { readFileSync, writeFileSync, rmSync } from "node:fs";
-import { join, resolve } from "node:path";
-import { pathToFileURL } from "node:url";
+import { join } from "node:path";
+import * as common from "./tests/common.mjs";
 
-const folder = resolve(process.argv[2]);
-const lib = await import(pathToFileURL(join(folder, "engine.mjs")));
+const { folder, lib, engine, field, event, word, active, on, later, passive, sheet, refused, Play, S } = common;
 const { IDLE, STARTED, COMMITTED, BROKE_IN, HOST, NO_EVENT, CALL_ARRIVE, CALL_STEP, CALL_BOARD } = lib;
-const engine = await lib.load(readFileSync(join(folder, "engine.wasm")));
-
-const field = (tag, ...bytes) => [tag, bytes.length >> 8, bytes.length & 255, ...bytes];
-const event = (...v) => field(1, ...v);
-const word = (n) => [n >>> 24, (n >>> 16) & 255, (n >>> 8) & 255, n & 255];
-const active = (start, ...handlers) => field(3, ...field(4, ...word(start)), ...handlers.flat());
-const on = (e, text) => field(5, e, 0, ...engine.formula(text));
-const later = (e, text) => field(5, e, 1, ...engine.formula(text));
-const passive = (text) => field(2, ...engine.formula(text));
-const sheet = (...parts) => new Uint8Array(parts.flat());
-
-function refused(number, make) {
-    assert.throws(make, (e) => e instanceof lib.Refusal && e.number === number && e.word === lib.refusalWord(number));
-}
-
-/** A round in play. */
-class Play {
-    constructor(bytes, params) {
-        this.table = engine.compile(bytes, params);
-        this.round = engine.start(this.table);
-    }
-
-    run(...events) {
-        for (const e of events) {
-            engine.arrive(this.table, this.round, e);
-            this.playOut();
-        }
-        return this.board();
-    }
-
-    playOut() {
-        while (engine.step(this.table, this.round).kind !== IDLE);
-    }
-
-    board(player = HOST) {
-        const shown = [];
-        for (let i = 0; i < 64; i++) {
-            try {
-                shown.push(engine.board(this.table, this.round, i, player));
-            } catch (e) {
-                if (e.number !== 18) throw e;
-                return shown;
-            }
-        }
-        return shown;
-    }
-}
 
 // Sheet S: three times event 0, then 1 and 0, or 0 and 1.
-const S = sheet(event(1), event(2), active(1, on(0, "b0 + b1")), active(1, later(0, "b0 - b1"), on(1, "1")));
 assert.equal(S.length, 74);
 const s = new Play(S);
 assert.deepEqual([s.run(0), s.run(0), s.run(0)], [[2, 1], [3, 2], [5, 3]]);
@@ -66,16 +17,16 @@ assert.deepEqual(s.run(1, 0), [6, 5]);
 assert.deepEqual(new Play(S).run(0, 0, 0, 0, 1), [8, 1]);
 const waits = new Play(S);
 waits.run(0, 0, 0);
-engine.arrive(waits.table, waits.round, 0);
-engine.arrive(waits.table, waits.round, 1);
+engine.arrive(waits.table, waits.round, 0, HOST);
+engine.arrive(waits.table, waits.round, 1, HOST);
 waits.playOut();
 assert.deepEqual(waits.board(), [6, 5], "event 1 goes first where both wait");
 
 // Events of 17 and 8 instructions, one step more for each start.
 const planned = new Play(S);
-engine.arrive(planned.table, planned.round, 0);
+engine.arrive(planned.table, planned.round, 0, HOST);
 assert.equal(engine.forecast(planned.table, planned.round), 18);
-engine.arrive(planned.table, planned.round, 1);
+engine.arrive(planned.table, planned.round, 1, HOST);
 assert.equal(engine.forecast(planned.table, planned.round), 18 + 9);
 
 // Immediate and later handlers, passives, arithmetic.
@@ -96,18 +47,18 @@ refused(9, () => engine.formula("!".repeat(16) + "1"));
 
 // 64 arrivals pass, the next is refused; after a commit one more passes.
 const full = new Play(S);
-for (let i = 0; i < 64; i++) engine.arrive(full.table, full.round, 0);
-refused(16, () => engine.arrive(full.table, full.round, 0));
+for (let i = 0; i < 64; i++) engine.arrive(full.table, full.round, 0, HOST);
+refused(16, () => engine.arrive(full.table, full.round, 0, HOST));
 while (engine.step(full.table, full.round).kind !== COMMITTED);
-engine.arrive(full.table, full.round, 0);
+engine.arrive(full.table, full.round, 0, HOST);
 
 // Equal ranks A and B, and H of higher rank that breaks in: A before B.
 const pair = active(1, on(0, "b0 + 1"), on(1, "b0 * 2"));
 const trap = new Play(sheet(event(1), event(1), event(9), pair, active(0, on(2, "7")), passive("2")));
-engine.arrive(trap.table, trap.round, 0);
-engine.arrive(trap.table, trap.round, 1);
+engine.arrive(trap.table, trap.round, 0, HOST);
+engine.arrive(trap.table, trap.round, 1, HOST);
 for (let i = 0; i < 6; i++) engine.step(trap.table, trap.round);
-engine.arrive(trap.table, trap.round, 2);
+engine.arrive(trap.table, trap.round, 2, HOST);
 const broke = engine.step(trap.table, trap.round);
 assert.deepEqual([broke.kind, broke.event, broke.arrival], [BROKE_IN, 2, 2]);
 trap.playOut();
@@ -143,21 +94,20 @@ mended.table = next;
 assert.deepEqual(mended.run(1), [2, 5]);
 const again = new Play(S);
 const steps = new Array(18).fill(lib.recorded(CALL_STEP));
-const calls = [lib.recorded(CALL_ARRIVE, 0), ...steps, lib.recorded(CALL_BOARD, 0)];
+const calls = [lib.recorded(CALL_ARRIVE, 0, HOST), ...steps, lib.recorded(CALL_BOARD, 0, HOST)];
 const answers = engine.replay(again.table, again.round, new Uint8Array(calls.flat()));
 assert.deepEqual([answers.length, lib.stepOf(answers[18]).kind, answers[19]], [20, COMMITTED, (1n << 32n) + 2n]);
 
 // Frames, counts, ranks, the version.
 const framed = new Play(S);
-engine.arrive(framed.table, framed.round, 0);
-engine.arrive(framed.table, framed.round, 1);
+engine.arrive(framed.table, framed.round, 0, HOST);
+engine.arrive(framed.table, framed.round, 1, HOST);
 assert.deepEqual(engine.frame(framed.table, framed.round, 5), { steps: 5, commits: [], end: lib.FRAME_MADE });
 const one = engine.frame(framed.table, framed.round, 100, 1);
 assert.deepEqual([one.steps, one.commits[0].event, one.end], [4, 1, lib.FRAME_FULL]);
 assert.equal(engine.frame(framed.table, framed.round, 17).end, lib.FRAME_MADE);
 const rest = engine.frame(framed.table, framed.round, 1, 1);
 assert.deepEqual([rest.steps, rest.commits.length, rest.end], [1, 1, lib.FRAME_IDLE]);
-refused(14, () => engine.frame(new Uint8Array(10), framed.round, 1));
 assert.deepEqual([engine.eventCount(s.table), engine.behaviourCount(s.table), engine.eventRank(s.table, 1)], [2, 2, 2]);
 refused(15, () => engine.eventRank(s.table, 2));
 assert.deepEqual(engine.version(), { interface: lib.VERSION, layout: lib.LAYOUT });
@@ -183,7 +133,7 @@ refused(4, () => engine.describe(new Uint8Array([1])));
 assert.deepEqual(new Play(new Uint8Array(0)).board(), []);
 refused(14, () => engine.step(new Uint8Array(10), again.round));
 refused(4, () => engine.compile(new Uint8Array([1])));
-assert.throws(() => engine.arrive(again.table, again.round, -1), RangeError);
+assert.throws(() => engine.arrive(again.table, again.round, -1, HOST), RangeError);
 assert.throws(() => engine.compile("sheet"), TypeError);
 assert.equal(engine.formula("(".repeat(511) + "b0" + ")".repeat(511)).length, 4);
 
@@ -203,6 +153,8 @@ for (let n = 1000; n < 20000; n += 500) {
 assert.ok(out > 0, "no stack ran out");
 assert.deepEqual(new Play(S).run(0, 0, 0), [5, 3]);
 console.log("the rounds of the scope in WebAssembly: all as it says");
+
+await import("./tests/calls.mjs");
 
 // The page's example prints what the page says.
 const page = readFileSync(join(folder, "README.md"), "utf8");
