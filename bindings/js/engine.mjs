@@ -415,6 +415,19 @@ function answers(room, count) {
     return Array.from({ length: count }, (_, k) => view.getBigUint64(8 * k));
 }
 
+/** Eight parameters as their 32 bytes, from at most eight whole numbers of 32 bits with a sign; the others are 0. */
+export function parameters(values) {
+    const given = [...values];
+    if (given.length > PARAMS / 4) throw new RangeError(`parameters: ${given.length} values, over ${PARAMS / 4}`);
+    const view = new DataView(new ArrayBuffer(PARAMS));
+    given.forEach((value, k) => {
+        // with 2^31 added it is a number of 32 bits
+        within("parameters", `value ${k}`, typeof value === "number" ? value + 0x80000000 : value, WORD);
+        view.setInt32(4 * k, value);
+    });
+    return new Uint8Array(view.buffer);
+}
+
 /**
  * A recorded call's six bytes: its kind, the event or behaviour, and the player; a step has neither. A player over 7 is
  * refused by replay as it was live, however large.

@@ -182,6 +182,22 @@ function realms() {
     }
 }
 
+// Numbers become the 32 bytes that compile and the others take.
+function parameters() {
+    const bytes = (...list) => new Uint8Array([...list, ...new Array(32 - list.length).fill(0)]);
+    assert.deepEqual(lib.parameters([]), bytes());
+    assert.deepEqual(lib.parameters([5]), bytes(0, 0, 0, 5));
+    assert.deepEqual(lib.parameters([-1, 0x01020304, -2147483648, 2147483647]), bytes(
+        255, 255, 255, 255, 1, 2, 3, 4, 128, 0, 0, 0, 127, 255, 255, 255));
+    assert.deepEqual(lib.parameters([0, 0, 0, 0, 0, 0, 0, 9])[31], 9);
+    for (const n of [2147483648, -2147483649, 0.5, NaN, Infinity]) assert.throws(() => lib.parameters([n]), RangeError);
+    assert.throws(() => lib.parameters(new Array(9).fill(0)), RangeError);
+    named("value 1 is missing", () => lib.parameters([1, undefined]));
+    named("value 0 is no number", () => lib.parameters(["1"]));
+    const level = engine.assemble("param p\nparam q\nevent e rank 1\nactive b = 0\n  on e: b + p * q");
+    assert.deepEqual(new Play(level, lib.parameters([6, -7])).run(0), [-42]);
+}
+
 // A server with the module under several types, asked by `at`.
 async function served(part) {
     const types = { "/engine.wasm": "application/wasm", "/long": "application/wasm; v=1", "/plain": "text/plain" };
@@ -225,6 +241,7 @@ async function failedLoading(at) {
 
 await parts({
     missing, wrong, records, recordedRanges, json, toldParts, refusedFrame, muchRoom, room, realms,
+    parameters,
     loading: () => served(loading),
     failedLoading: () => served(failedLoading),
 });
