@@ -16,6 +16,10 @@ unfoldable pub put : List ℕ → ℕ → ℕ → List ℕ
 put l k w =
     set (set (set (set l (k * 4) (w / 16777216)) (k * 4 + 1) (w / 65536 % 256)) (k * 4 + 2) (w / 256 % 256)) (k * 4 + 3) (w % 256)
 
+-- a word with its four bytes in the other order
+unfoldable pub swapBytes : ℕ → ℕ
+swapBytes w = ((w % 256 * 256 + w / 256 % 256) * 256 + w / 65536 % 256) * 256 + w / 16777216
+
 -- n words from word a on
 unfoldable pub words : List ℕ → ℕ → ℕ → List ℕ
 words l a zero = []

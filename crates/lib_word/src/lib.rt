@@ -2,7 +2,7 @@
 ghost use mathlib.Core.Path.{_≡_};
 ghost use Prim.Native.Nat.{_+_, _*_, _≤_, _<_};
 ghost use lib.ListN.{length};
-ghost use Rattle.lib_word.specs.Word.{getAt, get, put, getHalf, putHalf};
+ghost use Rattle.lib_word.specs.Word.{getAt, get, put, swapBytes, getHalf, putHalf};
 
 // The bytes of a word.
 pub const WORD_BYTES: usize = 4;
@@ -35,13 +35,45 @@ fn half(x: u8) -> u16
     x as u16
 }
 
+// A word with its bytes in the other order: one machine instruction.
+fn swap_bytes(w: u32) -> u32
+    ensures { λ r. ⌜ r ≡ swapBytes w ⌝ }
+{
+    w % BASE * THREE_BYTE_VALUES
+        + w / BASE % BASE * HALF_VALUES
+        + w / HALF_VALUES % BASE * BASE
+        + w / THREE_BYTE_VALUES
+}
+
+// The word at byte i with its bytes swapped, as little-endian: in the order of the usual processors four bytes are one
+// load.
+fn get_little(bytes: &[u8], i: usize) -> u32
+    requires { ⌜ i + 4 ≤ length (now bytes) ⌝ }
+    ensures { λ r. ⌜ swapBytes r ≡ getAt (now (bytes .entry)) i ⌝ }
+{
+    wide(bytes[i])
+        + wide(bytes[i + 1]) * BASE
+        + wide(bytes[i + 2]) * HALF_VALUES
+        + wide(bytes[i + 3]) * THREE_BYTE_VALUES
+}
+
+// Little-endian too: one store.
+fn put_little(bytes: &mut [u8], k: usize, w: u32)
+    requires { ⌜ k * 4 + 4 ≤ length (now bytes) ⌝ }
+    ensures { λ _. ⌜ now (bytes .exit) ≡ put (now (bytes .entry)) k (swapBytes w) ⌝ }
+{
+    bytes[k * WORD_BYTES] = (w % BASE) as u8;
+    bytes[k * WORD_BYTES + 1] = (w / BASE % BASE) as u8;
+    bytes[k * WORD_BYTES + 2] = (w / HALF_VALUES % BASE) as u8;
+    bytes[k * WORD_BYTES + 3] = (w / THREE_BYTE_VALUES) as u8;
+}
+
 // The word at byte i.
 pub fn get_at(bytes: &[u8], i: usize) -> u32
     requires { ⌜ i + 4 ≤ length (now bytes) ⌝ }
     ensures { λ r. ⌜ r ≡ getAt (now (bytes .entry)) i ⌝ }
 {
-    ((wide(bytes[i]) * BASE + wide(bytes[i + 1])) * BASE + wide(bytes[i + 2])) * BASE
-        + wide(bytes[i + 3])
+    swap_bytes(get_little(bytes, i))
 }
 
 // Word k.
@@ -56,10 +88,7 @@ pub fn put_word(bytes: &mut [u8], k: usize, w: u32)
     requires { ⌜ k * 4 + 4 ≤ length (now bytes) ⌝ }
     ensures { λ _. ⌜ now (bytes .exit) ≡ put (now (bytes .entry)) k w ⌝ }
 {
-    bytes[k * WORD_BYTES] = (w / THREE_BYTE_VALUES) as u8;
-    bytes[k * WORD_BYTES + 1] = (w / HALF_VALUES % BASE) as u8;
-    bytes[k * WORD_BYTES + 2] = (w / BASE % BASE) as u8;
-    bytes[k * WORD_BYTES + 3] = (w % BASE) as u8;
+    put_little(bytes, k, swap_bytes(w));
 }
 
 // The half at byte i.

@@ -1,19 +1,14 @@
--- The four writes are the definition's four `set`s: each is inside, as `set` keeps the length.
-use native.Mathlib.Omega.{arith}
-use lib.ListN.{length-set}
-use Rattle.lib_word.specs.Word.{put}
+-- Swapping twice changes nothing.
+use Rattle.lib_word.proofs.Swap.{swap-twice}
 use borrow.Author.Needs.{needs}
 use Rattle.lib_word.proofs.put_word.Statement.{statement}
 use Rattle.lib_word.proofs.put_word.Tie as tie
 
 pub put-word-spec : {M : Type 1} → statement M
-unfolding put
 put-word-spec =
     tie.close
-    (tie.spec (search needs) (search needs) (search needs) (search needs) (search needs) (search needs)
-    (λ c. simp length-set (omega arith))
-    (search needs) (search needs) (search needs)
-    (λ c. simp length-set (omega arith))
-    (search needs) (search needs) (search needs)
-    (λ c. simp length-set (omega arith))
-    (search needs) (search needs))
+    (tie.spec (search needs) (search needs) (search needs)
+    (λ c.
+    let swapped = c .before .before .before in
+    let w = swapped .before .before .before .args .w in
+    rw (c .before .before .put-little .ensures, swapped .swap-bytes .ensures, swap-twice w (search needs))))
