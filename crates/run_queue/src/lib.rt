@@ -4,42 +4,29 @@ use format_layout::table;
 ghost use mathlib.Core.Path.{_≡_};
 ghost use Prim.Native.Nat.{_+_, _*_, _≤_, _<_};
 ghost use lib.ListN.{length};
-ghost use Rattle.run_queue.specs.Queue.{ahead, better, best, anyAbove, putSlot};
+ghost use Rattle.format_layout.specs.Layout.{eventWord, eventAt};
+ghost use Rattle.run_queue.specs.Queue.{ahead, best, anyAbove, putSlot};
 
 // Priority p, number n goes before priority q, number m.
 fn is_ahead(p: u32, n: u32, q: u32, m: u32) -> bool
     ensures { λ r. ⌜ r ≡ ahead p n q m ⌝ }
 {
-    if q < p {
-        return true;
-    }
     if p < q {
         return false;
+    }
+    if q < p {
+        return true;
     }
     n < m
 }
 
-// The slot, of i and b, that goes before the other.
-fn better_of(table: &[u8], round: &[u8], i: usize, b: usize) -> usize
-    requires { ⌜ (34816 ≤ length (now table)) × (2048 ≤ length (now round)) × (i < 64) × (b < 64) ⌝ }
-    ensures { λ r. ⌜ r ≡ better (now (table .entry)) (now (round .entry)) i b ⌝ }
+// The priority of what waits in slot i.
+fn priority_at(table: &[u8], round: &[u8], i: usize) -> u32
+    requires { ⌜ (34816 ≤ length (now table)) × (2048 ≤ length (now round)) × (i < 64) ⌝ }
+    ensures { λ r. ⌜ r ≡ eventWord (now (table .entry)) (eventAt (now (round .entry)) i) 0 ⌝ }
 {
-    let p = format_layout::event_word(
-        table,
-        format_layout::event_at(round, round::WORDS + i * 2),
-        table::PRIORITY,
-    );
-    let q = format_layout::event_word(
-        table,
-        format_layout::event_at(round, round::WORDS + b * 2),
-        table::PRIORITY,
-    );
-    let n = lib_word::get_word(round, round::NUMBERS + i * 2);
-    let m = lib_word::get_word(round, round::NUMBERS + b * 2);
-    if is_ahead(p, n, q, m) {
-        return i;
-    }
-    b
+    let event = format_layout::event_at(round, round::WORDS + i * 2);
+    format_layout::event_word(table, event, table::PRIORITY)
 }
 
 // The slot that goes before all others of the first n.
@@ -48,13 +35,21 @@ pub fn best_of(table: &[u8], round: &[u8], n: usize) -> usize
     ensures { λ r. ⌜ r ≡ best (now (table .entry)) (now (round .entry)) n ⌝ }
     ensures { λ r. ⌜ r < 64 ⌝ }
 {
-    let mut b = 0;
-    let mut i = 0;
+    let mut best = 0;
+    let mut best_priority = priority_at(&*table, &*round, 0);
+    let mut best_number = lib_word::get_word(round, round::NUMBERS);
+    let mut i = 1;
     while i < n {
-        b = better_of(table, round, i, b);
+        let priority = priority_at(&*table, &*round, i);
+        let number = lib_word::get_word(round, round::NUMBERS + i * 2);
+        if is_ahead(priority, number, best_priority, best_number) {
+            best = i;
+            best_priority = priority;
+            best_number = number;
+        }
         i += 1;
     }
-    b
+    best
 }
 
 // Whether one of the first n waiting has a priority above p.
@@ -65,8 +60,7 @@ pub fn is_any_above(table: &[u8], round: &[u8], p: u32, n: usize) -> bool
     let mut i = n;
     while i > 0 {
         i -= 1;
-        let event = format_layout::event_at(round, round::WORDS + i * 2);
-        if p < format_layout::event_word(table, event, table::PRIORITY) {
+        if p < priority_at(&*table, &*round, i) {
             return true;
         }
     }

@@ -7,56 +7,36 @@ ghost use mathlib.Core.Path.{_≡_};
 ghost use mathlib.Core.Bool.{true};
 ghost use Prim.Native.Nat.{_≤_};
 ghost use lib.ListN.{length};
-ghost use lib.Dec.{ltb};
-ghost use Rattle.lib_base.specs.Basics.{pick};
 ghost use Rattle.format_layout.specs.Layout.{eventWord, runningFlag, runningWord, runningEvent, position, handFits, slotsFit, runningFits, ours};
 ghost use Rattle.format_layout.specs.Bounds.{Bounds};
 
 const STACK: u32 = limits::STACK as u32;
 
-// The greatest word of the eight players. Its event, 255, no table declares.
-const GREATEST: u32 = round::PLAYER * limits::PLAYERS - 1;
-
-// A word of event and player; any of a further player becomes the greatest, whose event is not declared.
-fn capped(word: u32) -> u32
-    ensures { λ r. ⌜ r ≡ pick (ltb word 2047) word 2047 ⌝ }
-{
-    if word < GREATEST {
-        return word;
-    }
-    GREATEST
-}
-
-// Whether a word of event and player is that of one of `known` events and one of eight players: one comparison, since a
-// word that is capped has an event that is not known.
+// Whether a word of event and player is that of one of `known` events and one of eight players.
 fn hand_fits(known: u32, word: u32) -> bool
-    requires { ⌜ known ≤ 32 ⌝ }
     ensures { λ r. ⌜ r ≡ handFits known word ⌝ }
 {
-    format_layout::event_of(capped(word)) < known
+    (format_layout::event_of(word) < known) & (format_layout::player_of(word) < limits::PLAYERS)
 }
 
-// Whether the words of the first n waiting are.
-fn slots_fit(round: &[u8], known: u32, n: u32) -> bool
-    requires { ⌜ (2048 ≤ length (now round)) × (n ≤ 64) × (known ≤ 32) ⌝ }
+// Whether the words of the first n waiting are. All are judged, with no way out between them, so that the compiler
+// takes several at a time.
+fn slots_fit(round: &[u8], known: u32, n: usize) -> bool
+    requires { ⌜ (2048 ≤ length (now round)) × (n ≤ 64) ⌝ }
     ensures { λ r. ⌜ r ≡ slotsFit (now (round .entry)) known n ⌝ }
 {
-    let mut i = n;
-    while i > 0 {
-        i -= 1;
-        if !hand_fits(
-            known,
-            lib_word::get_word(round, round::WORDS + (i as usize) * 2),
-        ) {
-            return false;
-        }
+    let mut fit = true;
+    let mut i = 0;
+    while i < n {
+        fit = fit & hand_fits(known, lib_word::get_word(round, round::WORDS + i * 2));
+        i += 1;
     }
-    true
+    fit
 }
 
 // Whether nothing runs, or there is room in the hand for what runs, its word fits, and its position is in its code.
 fn running_fits(table: &[u8], round: &[u8], known: u32, waiting: u32) -> bool
-    requires { ⌜ (34816 ≤ length (now table)) × (2048 ≤ length (now round)) × (known ≤ 32) ⌝ }
+    requires { ⌜ (34816 ≤ length (now table)) × (2048 ≤ length (now round)) ⌝ }
     ensures { λ r. ⌜ r ≡ runningFits waiting (runningFlag (now (round .entry))) (handFits known (runningWord (now (round .entry)))) (position (now (round .entry))) (eventWord (now (table .entry)) (runningEvent (now (round .entry))) 2) ⌝ }
 {
     if lib_word::get_word(round, round::RUNNING) == 0 {
@@ -99,5 +79,5 @@ pub fn is_ours(table: &[u8], round: &[u8]) -> bool
     if !running_fits(table, round, known, waiting) {
         return false;
     }
-    slots_fit(round, known, waiting)
+    slots_fit(round, known, waiting as usize)
 }

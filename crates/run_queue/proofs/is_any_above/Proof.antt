@@ -7,8 +7,7 @@ use native.Mathlib.Omega.{arith}
 use lib.Dec.{ltb}
 use borrow.Author.Tests.{lt-ltb, le-ltb}
 use Rattle.lib_base.specs.Basics.{pick}
-use Rattle.lib_word.specs.Word.{get}
-use Rattle.format_layout.specs.Layout.{eventOf, eventWord}
+use Rattle.format_layout.specs.Layout.{eventAt, eventWord}
 use Rattle.run_queue.specs.Queue.{anyAbove}
 use Rattle.run_queue.proofs.is_any_above.Statement.{statement}
 use Rattle.run_queue.proofs.is_any_above.Tie as tie
@@ -17,16 +16,22 @@ record Turn (t l : List ℕ) (p n i : ℕ) : Type 0 where
   whole : anyAbove t l p n ≡ anyAbove t l p i
   within : i ≤ n
 
-unroll : (t l : List ℕ) (p i : ℕ) → 0 < i → anyAbove t l p i ≡ pick (ltb p (eventWord t (eventOf (get l (9 + (i - 1) * 2))) 0)) true (anyAbove t l p (i - 1))
+unroll : (t l : List ℕ) (p i : ℕ) → 0 < i
+    → anyAbove t l p i ≡ pick (ltb p (eventWord t (eventAt l (i - 1)) 0)) true (anyAbove t l p (i - 1))
 unfolding anyAbove
 unroll t l p zero h = absurd (omega arith)
 unroll t l p (suc i) h = let s : suc i - 1 ≡ i = omega arith in rw s
 
-found : {t l : List ℕ} {p n i e q : ℕ} → Turn t l p n i → 0 < i → e ≡ eventOf (get l (9 + (i - 1) * 2)) → q ≡ eventWord t e 0 → p < q → true ≡ anyAbove t l p n
-found {t} {l} {p} {n} {i} {e} {q} k h d f g = sym (k .whole ∙ rw (unroll t l p i h, ← d, ← f, lt-ltb p q g))
+found : {t l : List ℕ} {p n i q : ℕ} → Turn t l p n i → 0 < i → q ≡ eventWord t (eventAt l (i - 1)) 0 → p < q
+    → true ≡ anyAbove t l p n
+found {t} {l} {p} {n} {i} {q} k h f g = sym (k .whole ∙ rw (unroll t l p i h, ← f, lt-ltb p q g))
 
-turn : {t l : List ℕ} {p n i e q : ℕ} → Turn t l p n i → 0 < i → e ≡ eventOf (get l (9 + (i - 1) * 2)) → q ≡ eventWord t e 0 → q ≤ p → Turn t l p n (i - 1)
-turn {t} {l} {p} {n} {i} {e} {q} k h d f g = record { whole = k .whole ∙ rw (unroll t l p i h, ← d, ← f, le-ltb p q g); within = omega arith }
+turn : {t l : List ℕ} {p n i q : ℕ} → Turn t l p n i → 0 < i → q ≡ eventWord t (eventAt l (i - 1)) 0 → q ≤ p
+    → Turn t l p n (i - 1)
+turn {t} {l} {p} {n} {i} {q} k h f g = record {
+  whole = k .whole ∙ rw (unroll t l p i h, ← f, le-ltb p q g);
+  within = omega arith;
+}
 
 end : {t l : List ℕ} {p n i : ℕ} → Turn t l p n i → i ≤ 0 → false ≡ anyAbove t l p n
 unfolding anyAbove
@@ -46,11 +51,8 @@ is-any-above-spec =
     μ-loop
     (λ c. record { whole = refl; within = omega arith })
     (λ c. omega arith)
-    (λ c. omega arith)
-    (λ c. omega arith)
     (λ c κs. omega arith)
-    (λ c κs. omega arith)
-    (λ c. found (c .before .before .before .before .loop .inv) (omega arith) (c .before .before .event-at .ensures) (c .before .event-word .ensures) (c .if1 .taken))
+    (λ c. found (c .before .before .before .loop .inv) (omega arith) (c .before .priority-at .ensures) (c .if1 .taken))
     (λ c. omega arith)
-    (λ c. turn (c .before .before .before .before .loop .inv) (omega arith) (c .before .before .event-at .ensures) (c .before .event-word .ensures) (c .if1 .left))
+    (λ c. turn (c .before .before .before .loop .inv) (omega arith) (c .before .priority-at .ensures) (c .if1 .left))
     (λ c. end (c .before .loop .inv) (c .loop-test .left)))

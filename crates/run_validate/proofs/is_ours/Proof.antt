@@ -112,6 +112,4 @@ is-ours-spec =
     (λ c. inside (c .before .before .before) (many _ _ (c .before .get-word2 .ensures) (c .if3 .taken)))
     (search needs) returns-4
     (λ c κs. let h = table-bounds (c .before .before .before .before .before .before) in search needs)
-    returns-5
-    (λ c κs. let h = table-bounds (c .before .before .before .before .before .before .before .before) in search needs)
-    returns-6)
+    returns-5 (search needs) (search needs) returns-6)

@@ -1,55 +1,55 @@
--- `slots_fit` is `slotsFit`: the loop keeps that the first i waiting decide: `slotsFit l known n ≡ slotsFit l known i`.
-use Prim.Native.Nat.{ℕ, zero, suc, _+_, _*_, _-_, _≤_, _<_}
-use mathlib.Core.Bool.{Bool, true, false}
-use mathlib.Core.Path.{_≡_, refl, sym, _∙_}
+-- `slots_fit` is `slotsFit`: the loop keeps that `fit` is so of the first i.
+use Prim.Native.Nat.{ℕ, _+_, _-_, _≤_, _<_}
+use mathlib.Core.Bool.{Bool, true, false, _&&_}
+use mathlib.Core.Path.{_≡_, refl}
 use mathlib.Core.List.{List}
 use native.Mathlib.Omega.{arith}
-use borrow.Author.Tests.{not-true, not-false}
+use native.Mathlib.Numerals.{add-one}
 use Rattle.lib_base.specs.Basics.{pick}
-use Rattle.lib_word.specs.Word.{get}
-use Rattle.format_layout.specs.Layout.{handFits, slotsFit}
+use Rattle.format_layout.specs.Layout.{wordAt, handFits, slotsFit}
+use borrow.Author.Needs.{needs}
 use Rattle.run_validate.proofs.slots_fit.Statement.{statement}
 use Rattle.run_validate.proofs.slots_fit.Tie as tie
 
-record Turn (l : List ℕ) (known n i : ℕ) : Type 0 where
-  whole : slotsFit l known n ≡ slotsFit l known i
+record Turn (l : List ℕ) (known n : ℕ) (fit : Bool) (i : ℕ) : Type 0 where
+  same : fit ≡ slotsFit l known i
   within : i ≤ n
 
-unroll : (l : List ℕ) (known i : ℕ) → 0 < i → slotsFit l known i ≡ pick (handFits known (get l (9 + (i - 1) * 2))) (slotsFit l known (i - 1)) false
+both : (x y : Bool) → x && y ≡ pick y x false
+both true true = refl
+both true false = refl
+both false true = refl
+both false false = refl
+
+turn : {l : List ℕ} {known n i w : ℕ} {fit x : Bool} → Turn l known n fit i → i < n → w ≡ wordAt l i
+    → x ≡ handFits known w → Turn l known n (fit && x) (i + 1)
 unfolding slotsFit
-unroll l known zero h = absurd (omega arith)
-unroll l known (suc i) h = let s : suc i - 1 ≡ i = omega arith in rw s
-
-fails : {l : List ℕ} {known n i w : ℕ} {x : Bool} → Turn l known n i → 0 < i → w ≡ get l (9 + (i - 1) * 2) → x ≡ handFits known w → x ≡ false → false ≡ slotsFit l known n
-fails {l} {known} {n} {i} k h d e f = sym (k .whole ∙ rw (unroll l known i h, ← d, ← e, f))
-
-turn : {l : List ℕ} {known n i w : ℕ} {x : Bool} → Turn l known n i → 0 < i → w ≡ get l (9 + (i - 1) * 2) → x ≡ handFits known w → x ≡ true → Turn l known n (i - 1)
-turn {l} {known} {n} {i} k h d e f = record { whole = k .whole ∙ rw (unroll l known i h, ← d, ← e, f); within = omega arith }
-
-end : {l : List ℕ} {known n i : ℕ} → Turn l known n i → i ≤ 0 → true ≡ slotsFit l known n
-unfolding slotsFit
-end {l} {known} {n} {i} k h = let z : i ≡ 0 = omega arith in sym (rw z at (k .whole))
+turn {l} {known} {n} {i} {w} {fit} {x} k h d e = record {
+  same = rw (add-one i, ← d, ← e, ← k .same) (both fit x);
+  within = omega arith;
+}
 
 abbrev Inv-loop : tie.InvT-loop
-Inv-loop l known n i₀ i = Turn l known n i
+Inv-loop l known n fit₀ i₀ fit i = Turn l known n fit i
 
 abbrev μ-loop : tie.MeasureT-loop
-μ-loop l known n i₀ i = i
+μ-loop l known n fit₀ i₀ fit i = n - i
 
 pub slots-fit-spec : {M : Type 1} → statement M
+unfolding slotsFit
 slots-fit-spec =
     tie.close
     (tie.spec
     Inv-loop
     μ-loop
-    (λ c. record { whole = refl; within = omega arith })
-    (λ c. omega arith)
-    (λ c. omega arith)
+    (λ c. record { same = refl; within = omega arith })
     (λ c. omega arith)
     (λ c. omega arith)
     (λ c κs. omega arith)
-    (λ c κs. omega arith)
-    (λ c. fails (c .before .before .before .before .loop .inv) (omega arith) (c .before .before .get-word .ensures) (c .before .hand-fits .ensures) (not-true _ (c .if1 .taken)))
+    (λ c κs. search needs)
     (λ c. omega arith)
-    (λ c. turn (c .before .before .before .before .loop .inv) (omega arith) (c .before .before .get-word .ensures) (c .before .hand-fits .ensures) (not-false _ (c .if1 .left)))
-    (λ c. end (c .before .loop .inv) (c .loop-test .left)))
+    (λ c. omega arith)
+    (λ c. turn (c .before .before .before .loop .inv) (omega arith) (c .before .get-word .ensures) (c .hand-fits .ensures))
+    (λ c.
+    let e : c .before .loop .i ≡ c .before .before .before .args .n = omega arith in
+    rw e at (c .before .loop .inv .same)))
