@@ -1,4 +1,5 @@
 // The table and the round as words, and which tables are foreign. Layout: specs/Layout.antt.
+use round::Round;
 use spec_language::limits;
 ghost use mathlib.Core.Path.{_≡_};
 ghost use mathlib.Core.Bool.{true};
@@ -36,13 +37,13 @@ pub fn event_word(table: &[u8], event: u32, k: usize) -> u32
 pub fn event_of(word: u32) -> u32
     ensures { λ r. ⌜ r ≡ eventOf word ⌝ }
 {
-    word % round::PLAYER
+    word % Round::PLAYER
 }
 
 pub fn player_of(word: u32) -> u32
     ensures { λ r. ⌜ r ≡ playerOf word ⌝ }
 {
-    word / round::PLAYER
+    word / Round::PLAYER
 }
 
 // The event of the arrival in hand whose word is word k of the round.

@@ -11,7 +11,7 @@ use Rattle.spec_language.specs.Refusals.{foreign, noPlayer, undeclaredEvent, no
 use Rattle.spec_language.specs.Rights.{may}
 use Rattle.format_layout.specs.Layout.{eventCount, sendersAt, handWord, taken, waitingCount, runningFlag, ours}
 use Rattle.run_queue.specs.Queue.{putSlot}
-use Rattle.run_start.specs.Start.{CallResult}
+use Rattle.format_layout.specs.Round.{CallResult}
 
 -- event e of player who joins: n wait, k are taken in
 unfoldable pub admit : List ℕ → ℕ → ℕ → ℕ → ℕ → List ℕ

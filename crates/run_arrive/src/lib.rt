@@ -1,13 +1,12 @@
 // Arrivals on the round's bytes, refused by 14 where table or round is foreign.
-use format_layout::round;
+use format_layout::round::Round;
 use format_layout::table;
-use run_start::Round;
 use spec_language::limits;
 use spec_language::refusals;
 ghost use mathlib.Core.Path.{_≡_};
 ghost use mathlib.Core.Bool.{false};
 ghost use Prim.Native.Nat.{_<_};
-ghost use Rattle.run_start.specs.Start.{callResult};
+ghost use Rattle.format_layout.specs.Round.{callResult};
 ghost use Rattle.run_arrive.specs.Arrivals.{queueFull, arriveOn};
 
 // Whether the queue (01: hand) is full, so many waiting, and one running where the flag is not 0.
@@ -39,11 +38,11 @@ pub fn arrive_at(table: &[u8], round: &mut [u8], event: u32, player: u32) -> u32
     if !run_rights::may_send(table, event, player) {
         return refusals::NO_RIGHT;
     }
-    let waiting = lib_word::get_word(round, round::WAITING);
-    if is_full(waiting, lib_word::get_word(round, round::RUNNING)) {
+    let waiting = lib_word::get_word(round, Round::WAITING);
+    if is_full(waiting, lib_word::get_word(round, Round::RUNNING)) {
         return refusals::FULL_QUEUE;
     }
-    let number = lib_word::get_word(round, round::TAKEN);
+    let number = lib_word::get_word(round, Round::TAKEN);
     if number >= Round::ARRIVALS {
         return refusals::SPENT;
     }
@@ -51,9 +50,9 @@ pub fn arrive_at(table: &[u8], round: &mut [u8], event: u32, player: u32) -> u32
         round,
         waiting as usize,
         number,
-        player * round::PLAYER + event,
+        player * Round::PLAYER + event,
     );
-    lib_word::put_word(round, round::TAKEN, number + 1);
-    lib_word::put_word(round, round::WAITING, waiting + 1);
+    lib_word::put_word(round, Round::TAKEN, number + 1);
+    lib_word::put_word(round, Round::WAITING, waiting + 1);
     0
 }

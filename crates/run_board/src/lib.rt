@@ -1,6 +1,6 @@
 // Board readings on the round's bytes, refused by 14 where table or round is foreign, and when the running one is
 // masked.
-use format_layout::round;
+use format_layout::round::Round;
 use format_layout::table;
 use spec_language::answers;
 use spec_language::limits;
@@ -49,14 +49,14 @@ fn copy_back_under_way(table: &[u8], round: &[u8]) -> bool
     requires { ⌜ Bounds (now table) (now round) ⌝ }
     ensures { λ r. ⌜ r ≡ copyBackUnderWay (now (table .entry)) (now (round .entry)) ⌝ }
 {
-    if lib_word::get_word(round, round::RUNNING) == 0 {
+    if lib_word::get_word(round, Round::RUNNING) == 0 {
         return false;
     }
-    let event = format_layout::event_at(round, round::RUNNING_WORD);
+    let event = format_layout::event_at(round, Round::RUNNING_WORD);
     is_copying_back(
         format_layout::event_word(table, event, table::CODE_LENGTH),
         format_layout::event_word(table, event, table::MEMBERS),
-        lib_word::get_word(round, round::POSITION),
+        lib_word::get_word(round, Round::POSITION),
     )
 }
 
@@ -80,7 +80,7 @@ pub fn board_at(table: &[u8], round: &[u8], behaviour: u32, player: u32) -> u64
     if copy_back_under_way(&*table, &*round) {
         return SETTLING;
     }
-    answers::VALUE + (lib_word::get_word(round, round::STORE + (behaviour as usize)) as u64)
+    answers::VALUE + (lib_word::get_word(round, Round::STORE + (behaviour as usize)) as u64)
 }
 
 // Whether a copy-back is under way; false where table or round is foreign.

@@ -1,5 +1,5 @@
 // The queue in the round's bytes: the choice of the next, and writing a waiting arrival.
-use format_layout::round;
+use format_layout::round::Round;
 use format_layout::table;
 ghost use mathlib.Core.Path.{_≡_};
 ghost use Prim.Native.Nat.{_+_, _*_, _≤_, _<_};
@@ -25,7 +25,7 @@ fn priority_at(table: &[u8], round: &[u8], i: usize) -> u32
     requires { ⌜ (34816 ≤ length (now table)) × (2048 ≤ length (now round)) × (i < 64) ⌝ }
     ensures { λ r. ⌜ r ≡ eventWord (now (table .entry)) (eventAt (now (round .entry)) i) 0 ⌝ }
 {
-    let event = format_layout::event_at(round, round::WORDS + i * 2);
+    let event = format_layout::event_at(round, Round::WORDS + i * 2);
     format_layout::event_word(table, event, table::PRIORITY)
 }
 
@@ -37,11 +37,11 @@ pub fn best_of(table: &[u8], round: &[u8], n: usize) -> usize
 {
     let mut best = 0;
     let mut best_priority = priority_at(&*table, &*round, 0);
-    let mut best_number = lib_word::get_word(round, round::NUMBERS);
+    let mut best_number = lib_word::get_word(round, Round::NUMBERS);
     let mut i = 1;
     while i < n {
         let priority = priority_at(&*table, &*round, i);
-        let number = lib_word::get_word(round, round::NUMBERS + i * 2);
+        let number = lib_word::get_word(round, Round::NUMBERS + i * 2);
         if is_ahead(priority, number, best_priority, best_number) {
             best = i;
             best_priority = priority;
@@ -72,6 +72,6 @@ pub fn put_slot(round: &mut [u8], i: usize, number: u32, word: u32)
     requires { ⌜ (2048 ≤ length (now round)) × (i < 64) ⌝ }
     ensures { λ _. ⌜ now (round .exit) ≡ putSlot (now (round .entry)) i number word ⌝ }
 {
-    lib_word::put_word(round, round::NUMBERS + i * 2, number);
-    lib_word::put_word(round, round::WORDS + i * 2, word);
+    lib_word::put_word(round, Round::NUMBERS + i * 2, number);
+    lib_word::put_word(round, Round::WORDS + i * 2, word);
 }

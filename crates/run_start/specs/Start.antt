@@ -7,18 +7,10 @@ use lib.Dec.{ltb}
 use Rattle.lib_base.specs.Basics.{pick}
 use Rattle.lib_word.specs.Word.{get, put}
 use Rattle.spec_language.specs.Refusals.{foreign}
-use Rattle.run_start.specs.declared.Round.{Round}
+use Rattle.format_layout.specs.declared.round.Round.{Round}
 use Rattle.format_layout.specs.Layout.{tableFits}
-
--- a call's answer, and the round's bytes after it
-abbrev pub CallResult : Type 0
-CallResult = ℕ × List ℕ
-
-abbrev pub callResult : ℕ → List ℕ → CallResult
-callResult r l = (r, l)
-
-abbrev pub freshOf : List ℕ → Round
-freshOf store = record { taken = 0; waiting = 0; running = 0; store = store }
+use Rattle.format_layout.specs.Round.{freshOf}
+pub use Rattle.format_layout.specs.Round.{CallResult, callResult}
 
 -- the first n words are 0
 unfoldable pub cleared : List ℕ → ℕ → List ℕ

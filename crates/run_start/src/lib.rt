@@ -1,39 +1,13 @@
 // A fresh round, and `start`.
-use format_layout::round;
+use format_layout::round::Round;
 use format_layout::table;
 use spec_language::limits;
 use spec_language::refusals;
 ghost use mathlib.Core.Path.{_≡_};
 ghost use Prim.Native.Nat.{_+_, _≤_, _<_};
 ghost use lib.ListN.{length, replicate};
-ghost use Rattle.run_start.specs.Start.{callResult, freshOf, cleared, stored, image, valuesIn, startOn};
-
-// A round (01's word), as it begins: number taken in, waiting count, whether one runs, the store.
-pub struct Round {
-    pub taken: u32,
-    pub waiting: u32,
-    pub running: u32,
-    pub store: [u32; limits::BEHAVIOURS],
-}
-
-impl Round {
-    // At most so many in the queue (01: hand), the running one included.
-    pub const QUEUE: u32 = 64;
-
-    // At most so many arrivals are taken in.
-    pub const ARRIVALS: u32 = 1000000;
-
-    pub fn fresh(store: [u32; limits::BEHAVIOURS]) -> Self
-        ensures { λ r. ⌜ r ≡ freshOf store ⌝ }
-    {
-        Self {
-            taken: 0,
-            waiting: 0,
-            running: 0,
-            store: store,
-        }
-    }
-}
+ghost use Rattle.format_layout.specs.Round.{callResult};
+ghost use Rattle.run_start.specs.Start.{cleared, stored, image, valuesIn, startOn};
 
 // The words of a round become 0.
 fn clear(round: &mut [u8])
@@ -41,7 +15,7 @@ fn clear(round: &mut [u8])
     ensures { λ _. ⌜ now (round .exit) ≡ cleared (now (round .entry)) 512 ⌝ }
 {
     let mut i = 0;
-    while i < round::WORD_COUNT {
+    while i < Round::WORD_COUNT {
         lib_word::put_word(round, i, 0);
         i += 1;
     }
@@ -53,7 +27,7 @@ fn put_store(round: &mut [u8], store: &[u32])
 {
     let mut i = 0;
     while i < limits::BEHAVIOURS {
-        lib_word::put_word(round, round::STORE + i, store[i]);
+        lib_word::put_word(round, Round::STORE + i, store[i]);
         i += 1;
     }
 }
@@ -64,9 +38,9 @@ fn write_round(fresh: Round, round: &mut [u8])
     ensures { λ _. ⌜ now (round .exit) ≡ image fresh (now (round .entry)) ⌝ }
 {
     clear(round);
-    lib_word::put_word(round, round::TAKEN, fresh.taken);
-    lib_word::put_word(round, round::WAITING, fresh.waiting);
-    lib_word::put_word(round, round::RUNNING, fresh.running);
+    lib_word::put_word(round, Round::TAKEN, fresh.taken);
+    lib_word::put_word(round, Round::WAITING, fresh.waiting);
+    lib_word::put_word(round, Round::RUNNING, fresh.running);
     let store = fresh.store;
     put_store(round, &store);
 }
@@ -92,7 +66,7 @@ pub fn start_round(table: &[u8], round: &mut [u8]) -> u32
     if !format_layout::table_fits(&*table) {
         return refusals::FOREIGN;
     }
-    if round.len() < round::BYTES {
+    if round.len() < Round::BYTES {
         return refusals::FOREIGN;
     }
     write_round(Round::fresh(first_values(table)), round);

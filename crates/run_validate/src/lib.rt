@@ -1,7 +1,6 @@
 // Which rounds are foreign: 01's conditions, on the round's bytes beside the table's.
-use format_layout::round;
+use format_layout::round::Round;
 use format_layout::table;
-use run_start::Round;
 use spec_language::limits;
 ghost use mathlib.Core.Path.{_≡_};
 ghost use mathlib.Core.Bool.{true};
@@ -28,7 +27,7 @@ fn slots_fit(round: &[u8], known: u32, n: usize) -> bool
     let mut fit = true;
     let mut i = 0;
     while i < n {
-        fit = fit & hand_fits(known, lib_word::get_word(round, round::WORDS + i * 2));
+        fit = fit & hand_fits(known, lib_word::get_word(round, Round::WORDS + i * 2));
         i += 1;
     }
     fit
@@ -39,13 +38,13 @@ fn running_fits(table: &[u8], round: &[u8], known: u32, waiting: u32) -> bool
     requires { ⌜ (34816 ≤ length (now table)) × (2048 ≤ length (now round)) ⌝ }
     ensures { λ r. ⌜ r ≡ runningFits waiting (runningFlag (now (round .entry))) (handFits known (runningWord (now (round .entry)))) (position (now (round .entry))) (eventWord (now (table .entry)) (runningEvent (now (round .entry))) 2) ⌝ }
 {
-    if lib_word::get_word(round, round::RUNNING) == 0 {
+    if lib_word::get_word(round, Round::RUNNING) == 0 {
         return true;
     }
     if waiting >= Round::QUEUE {
         return false;
     }
-    let word = lib_word::get_word(round, round::RUNNING_WORD);
+    let word = lib_word::get_word(round, Round::RUNNING_WORD);
     if !hand_fits(known, word) {
         return false;
     }
@@ -54,7 +53,7 @@ fn running_fits(table: &[u8], round: &[u8], known: u32, waiting: u32) -> bool
         format_layout::event_of(word),
         table::CODE_LENGTH,
     );
-    lib_word::get_word(round, round::POSITION) < length
+    lib_word::get_word(round, Round::POSITION) < length
 }
 
 // Whether neither the table nor the round is foreign (01 "Why a call was turned down").
@@ -65,15 +64,15 @@ pub fn is_ours(table: &[u8], round: &[u8]) -> bool
     if !format_layout::table_fits(&*table) {
         return false;
     }
-    if round.len() < round::BYTES {
+    if round.len() < Round::BYTES {
         return false;
     }
     let known = lib_word::get_word(table, table::EVENT_COUNT);
-    let waiting = lib_word::get_word(round, round::WAITING);
+    let waiting = lib_word::get_word(round, Round::WAITING);
     if waiting > Round::QUEUE {
         return false;
     }
-    if lib_word::get_word(round, round::DEPTH) > STACK {
+    if lib_word::get_word(round, Round::DEPTH) > STACK {
         return false;
     }
     if !running_fits(table, round, known, waiting) {

@@ -14,7 +14,7 @@ use Rattle.spec_language.specs.Rights.{may}
 use Rattle.format_layout.specs.Layout.{eventCount, sendersAt, taken, waitingCount, runningFlag, ours}
 use Rattle.format_layout.specs.Bounds.{Bounds}
 use Rattle.run_queue.specs.Queue.{putSlot}
-use Rattle.run_start.specs.Start.{CallResult, callResult}
+use Rattle.format_layout.specs.Round.{CallResult, callResult}
 use Rattle.run_arrive.specs.Arrivals.{admit, queueFull, arriveWith, arriveKnown, arriveIn, arriveOn}
 use borrow.Author.Needs.{needs}
 use Rattle.run_arrive.proofs.arrive_at.Statement.{statement}

@@ -2,8 +2,9 @@
 -- table's values.
 use mathlib.Core.Path.{ap, _∙_}
 use Rattle.lib_base.proofs.Pick.{code}
-use Rattle.run_start.specs.declared.Round.{Round}
-use Rattle.run_start.specs.Start.{freshOf, image, freshBytes, startOn}
+use Rattle.format_layout.specs.declared.round.Round.{Round}
+use Rattle.format_layout.specs.Round.{freshOf}
+use Rattle.run_start.specs.Start.{image, freshBytes, startOn}
 use borrow.Author.Needs.{needs}
 use borrow.Author.Tests.{not-true, not-false}
 use Rattle.run_start.proofs.start_round.Statement.{statement}
