@@ -89,7 +89,9 @@ enum engine_refusal {
     ENGINE_NO_SUCH_CELL = 39,  /* [..] behind what is no row, past its end, or cell 0 where it cannot be said */
     ENGINE_SHEET_TOO_LONG = 40, /* over 8,192 bytes */
     ENGINE_BUFFER_TOO_SHORT = 41, /* for the sheet; describe: for the text */
-    ENGINE_TEXT_TOO_LONG = 42  /* over 65,536 bytes; this comes before all others */
+    ENGINE_TEXT_TOO_LONG = 42, /* over 65,536 bytes; this comes before all others */
+    ENGINE_MISSING_ENTRIES = 43, /* deliver: fewer were taken in, entries before this one are missing */
+    ENGINE_TAKEN_BEFORE = 44   /* deliver: more were taken in, this entry was taken in before */
 };
 
 /* The refusal's word, for a log or a setter's screen; "accepted" for 0, "no refusal" for a number that is none. */
@@ -101,7 +103,8 @@ static inline const char *engine_refusal_word(uint32_t number)
         "full hand", "spent", "no such behaviour", "settling", "no parameters", "no formula", "large number",
         "short buffer", "no player", "no right", "unlike ranks", "short join", "strange hand", "dependent", "leak",
         "outside the grammar", "number too large", "off the scale", "too many", "declared twice", "second handler",
-        "too deep", "unknown name", "no such cell", "sheet too long", "buffer too short", "text too long"
+        "too deep", "unknown name", "no such cell", "sheet too long", "buffer too short", "text too long",
+        "missing entries", "taken before"
     };
     return number < sizeof words / sizeof *words ? words[number] : "no refusal";
 }
@@ -267,6 +270,35 @@ enum engine_frame_answer {
 static inline uint32_t engine_frame_steps(uint64_t answer) { return (uint32_t)answer; }
 static inline uint32_t engine_frame_commits(uint64_t answer) { return (uint32_t)(answer >> 32 & 0xFFFFFF); }
 static inline uint32_t engine_frame_end(uint64_t answer) { return (uint32_t)(answer >> 56); }
+
+/* Entry `number` of an order that several phones share, counted from 0: this event of this player is taken in once, and
+ * in its place. Refused by 14; by 43 where fewer than `number` were taken in; by 44 where more were; then by 24, 15,
+ * 25, 17; and then nothing is changed. It is never refused by 16: where 64 are in hand it makes steps until one
+ * commits, writes that answer to the buffer as engine_frame does, eight bytes, and then takes the event in. */
+uint64_t engine_deliver(const uint8_t *table, size_t table_len, uint8_t *round, size_t round_len, uint32_t number,
+                        uint32_t event, uint32_t player, uint8_t *commits, size_t commits_len);
+
+enum engine_deliver_answer {
+    ENGINE_DELIVER_REFUSED = 0, /* by engine_deliver_refusal */
+    ENGINE_DELIVERED = 1,       /* taken in */
+    ENGINE_DELIVER_FULL = 2,    /* 64 in hand and under eight bytes lent: no step made, nothing taken in */
+    ENGINE_DELIVER_BROKEN = 3   /* a step on the way was refused, by ENGINE_FOREIGN: table or round were damaged */
+};
+
+/* Which of these; the refusal's number, or 0; how many steps were made, and how many commits were written, at most
+ * one. */
+static inline uint32_t engine_deliver_end(uint64_t answer) { return (uint32_t)(answer >> 56); }
+static inline uint32_t engine_deliver_refusal(uint64_t answer) { return answer >> 56 ? 0 : (uint32_t)answer; }
+static inline uint32_t engine_deliver_steps(uint64_t answer) { return answer >> 56 ? (uint32_t)answer : 0; }
+static inline uint32_t engine_deliver_commits(uint64_t answer) { return (uint32_t)(answer >> 32 & 0xFFFFFF); }
+
+/* How many were taken in, and how many of them are in hand: so many less are committed. Packed, or 14. */
+uint64_t engine_taken(const uint8_t *table, size_t table_len, const uint8_t *round, size_t round_len);
+
+static inline int engine_taken_refused(uint64_t answer) { return answer >> 32 == 0; }
+static inline uint32_t engine_taken_refusal(uint64_t answer) { return answer >> 32 ? 0 : (uint32_t)answer; }
+static inline uint32_t engine_taken_number(uint64_t answer) { return (uint32_t)answer; }
+static inline uint32_t engine_taken_in_hand(uint64_t answer) { return (uint32_t)(answer >> 40); }
 
 /* A step's answer as the other players are told it: without ENGINE_OVER. A number that no step answers comes back as
  * its lowest 56 bits. */

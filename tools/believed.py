@@ -29,7 +29,7 @@ CONTRACTS = "crates/engine/src/lib.rt"
 REVIEW = "docs/REVIEW.md"
 CALLS = (
     "compile start arrive step board forecast preview mend formula join frame agree leak assemble describe"
-    " eventCount behaviourCount eventRank"
+    " eventCount behaviourCount eventRank deliver taken"
 )
 NAMES_ONLY = {f"{call}On" for call in CALLS.split()} | {"tableOf"}
 

@@ -17,6 +17,7 @@ ghost use Rattle.run_forecast.specs.Forecast.{forecastOn};
 ghost use Rattle.run_preview.specs.Preview.{previewOn};
 ghost use Rattle.run_counts.specs.Counts.{versionNumber, eventCountOn, behaviourCountOn, eventRankOn};
 ghost use Rattle.run_frame.specs.Frame.{framed, frameOn};
+ghost use Rattle.run_deliver.specs.Deliver.{delivery, deliverOn, takenOn};
 ghost use Rattle.text_formula.specs.Answer.{answered, formulaOn};
 ghost use Rattle.source_assemble.specs.Assemble.{assembleNumber};
 ghost use Rattle.source_describe.specs.Describing.{describeOn};
@@ -265,6 +266,39 @@ pub extern "C" fn frame(table: &[u8], round: &mut [u8], steps: u32, commits: &mu
     ensures { λ _. ⌜ now (table .exit) ≡ now (table .entry) ⌝ }
 {
     run_frame::frame_at(&*table, round, steps, commits)
+}
+
+// ---- an order that several phones share
+
+// Entry `number` of the order, an event sent by a player: taken in once, and in its place. Refused by 14, by 43 where
+// entries before it are missing, by 44 where it was taken in before, then by 24, 15, 25, 17, and nothing is changed.
+// Where 64 are in hand it makes steps until one commits, whose answer is written to `commits`, eight bytes. Bits 0 to
+// 31: the steps made; 32 to 55: the commits written; 56 to 63: 1 taken in, 2 the hand is full and there is no room for
+// a commit: no step made, 3 a step was refused by 14. Below 2 ^ 56: the refusal's number.
+#[no_mangle]
+pub extern "C" fn deliver(
+    table: &[u8],
+    round: &mut [u8],
+    number: u32,
+    event: u32,
+    player: u32,
+    commits: &mut [u8],
+) -> u64
+    ensures { λ r. ⌜ delivery r (now (round .exit)) (now (commits .exit)) ≡ deliverOn (now (table .entry)) (now (round .entry)) number event player (now (commits .entry)) ⌝ }
+    ensures { λ _. ⌜ now (table .exit) ≡ now (table .entry) ⌝ }
+{
+    run_deliver::deliver_at(&*table, round, number, event, player, commits)
+}
+
+// How many were taken in, and how many of them are in hand: 2 ^ 32 and the number taken in, and 2 ^ 40 for each in
+// hand; or 14.
+#[no_mangle]
+pub extern "C" fn taken(table: &[u8], round: &[u8]) -> u64
+    ensures { λ r. ⌜ r ≡ takenOn (now (table .entry)) (now (round .entry)) ⌝ }
+    ensures { λ _. ⌜ now (table .exit) ≡ now (table .entry) ⌝ }
+    ensures { λ _. ⌜ now (round .exit) ≡ now (round .entry) ⌝ }
+{
+    run_deliver::taken_at(table, round)
 }
 
 // ---- what a sheet promises

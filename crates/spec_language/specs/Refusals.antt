@@ -82,3 +82,9 @@ shortJoin = 27
 
 abbrev pub undeclaredInHand : ℕ  -- 02, M-112: "the hand holds an event that the new sheet doesn't declare"
 undeclaredInHand = 28
+
+abbrev pub missingEntries : ℕ  -- a delivery: entries before this one are not taken in yet
+missingEntries = 43
+
+abbrev pub takenBefore : ℕ  -- a delivery: this entry, or one in its place, is taken in already
+takenBefore = 44

@@ -52,3 +52,7 @@ pub const UNLIKE_RANKS: u32 = 26;
 pub const SHORT_JOIN: u32 = 27;
 
 pub const UNDECLARED_IN_HAND: u32 = 28;
+
+pub const MISSING_ENTRIES: u32 = 43;
+
+pub const TAKEN_BEFORE: u32 = 44;
