@@ -18,7 +18,7 @@ use Rattle.lib_word.proofs.Laws.{long, long-put, length-put, get-put, get-same,
 use Rattle.format_layout.specs.Layout.{eventWord, taken, waitingCount, runningFlag, runningWord, runningEvent, runningNumber, position, depth, markWord, numberAt, wordAt, ours}
 use Rattle.format_layout.specs.Bounds.{TableBounds, Bounds}
 use Rattle.format_layout.proofs.BoundsLaws.{bounds, table-bounds, hand-bound}
-use Rattle.run_start.specs.Start.{CallResult}
+use Rattle.format_layout.specs.Round.{CallResult}
 use Rattle.run_queue.specs.Queue.{best, putSlot}
 use Rattle.run_board.specs.Board.{isMasked}
 use Rattle.run_allowed.specs.Allowed.{mayRun}

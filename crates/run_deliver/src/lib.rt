@@ -1,8 +1,8 @@
 // Deliveries: entry `number` of an order is taken in once and in its place. Where the hand is full, steps are made
 // until one commits: one commit makes room. And what is taken in and in hand.
 use format_layout::round;
+use format_layout::round::Round;
 use format_layout::table;
-use run_start::Round;
 use spec_language::limits;
 use spec_language::refusals;
 ghost use mathlib.Core.Path.{_≡_};
