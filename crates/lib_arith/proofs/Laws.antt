@@ -26,6 +26,19 @@ view a h = go (ltb a (2 ^ 31)) refl
     go true e = low (ltb-true a (2 ^ 31) e)
     go false e = high (2 ^ 32 - 1 - a) (omega arith) (ltb-false a (2 ^ 31) e)
 
+-- the numbers in order, as a count from the least one on
+pub counted : {a : ℕ} {z : ℤ} → View a z → (r : ℕ) → r ≡ (a + 2 ^ 31) % 2 ^ 32 → subℕ r 2147483648 ≡ z
+counted {a} (low p) r e = go (ltb r 2147483648) refl
+  where
+    go : (t : Bool) → ltb r 2147483648 ≡ t → cond t (negsuc (2147483648 - suc r)) (pos (r - 2147483648)) ≡ pos a
+    go true f = absurd (omega (arith, ltb-true r 2147483648 f))
+    go false f = let h : r - 2147483648 ≡ a = omega arith in rw h
+counted (high x g n) r e = go (ltb r 2147483648) refl
+  where
+    go : (t : Bool) → ltb r 2147483648 ≡ t → cond t (negsuc (2147483648 - suc r)) (pos (r - 2147483648)) ≡ negsuc x
+    go true f = let h : 2147483648 - suc r ≡ x = omega arith in rw h
+    go false f = absurd (omega (arith, ltb-false r 2147483648 f))
+
 difference : (a b r : ℕ) → r < 2 ^ 32 → (r + b) % 2 ^ 32 ≡ a % 2 ^ 32 → r ≡ wrapped (subℕ a b)
 difference a b r h e = go (ltb a b) refl
   where
@@ -102,23 +115,6 @@ turned a b x y e = go (ltb a b) refl
     go : (t : Bool) → ltb a b ≡ t → t ≡ ltb y x
     go true t = sym (lt-ltb y x (omega (arith, ltb-true a b t)))
     go false t = sym (le-ltb y x (omega (arith, ltb-false a b t)))
-
--- words of one sign are ordered as they stand, and of two a negative one is below
-pub one-sign : {a b : ℕ} {z w : ℤ} → View a z → View b w → a / 2 ^ 31 ≡ b / 2 ^ 31 → ltb a b ≡ ltZ z w
-one-sign (low p) (low q) h = refl
-one-sign (low p) (high y g n) h = absurd (omega arith)
-one-sign (high x f n) (low q) h = absurd (omega arith)
-one-sign {a} {b} (high x f n) (high y g o) h = turned a b x y (omega arith)
-
-pub not-below : {a b : ℕ} {z w : ℤ} → View a z → View b w → a < 2 ^ 31 → 2 ^ 31 ≤ b → false ≡ ltZ z w
-not-below (low p) (low q) h k = absurd (omega arith)
-not-below (low p) (high y g n) h k = refl
-not-below (high x f n) w h k = absurd (omega arith)
-
-pub is-below : {a b : ℕ} {z w : ℤ} → View a z → View b w → 2 ^ 31 ≤ a → b < 2 ^ 31 → true ≡ ltZ z w
-is-below (low p) w h k = absurd (omega arith)
-is-below (high x f n) (low q) h k = refl
-is-below (high x f n) (high y g o) h k = absurd (omega arith)
 
 -- two words are equal when neither is below the other
 by-order : (a b : ℕ) → eqb a b ≡ not (ltb a b) && not (ltb b a)

@@ -1,13 +1,14 @@
--- Which exact sums, differences, products and quotients of two words differ from the 32-bit one, in natural numbers: by
--- the cases of the two signs (`View`).
+-- Which whole numbers differ from their 32-bit one, and which quotients of two words do, in natural numbers: by the
+-- cases of the two signs (`View`).
 use Prim.Native.Nat.{ℕ, zero, suc, _+_, _-_, _*_, _/_, _^_, _<_, _≤_}
-use mathlib.Core.Bool.{Bool, true, false, cond}
+use mathlib.Core.Bool.{Bool, true, false, _||_}
 use mathlib.Core.Path.{_≡_, refl, sym, _∙_}
 use mathlib.Core.Logic.{_≢_}
 use native.Mathlib.Omega.{arith}
 use native.Mathlib.Nat.{div-le-self, div-mul-le-self, mul-le-mul-left, mul-le-mul-right}
 use lib.Dec.{ltb, eqb}
-use lib.IntN.{ℤ, pos, negsuc, negℤ, subℕ, _+ℤ_, _-ℤ_, _*ℤ_}
+use lib.IntN.{ℤ, pos, negsuc, negℤ}
+use lib.Signed.{ltZ}
 use borrow.Author.Tests.{ltb-true, ltb-false, lt-ltb, le-ltb, ne-eqb, eqb-true, eqb-false}
 use Rattle.lib_base.proofs.Tools.{split}
 use Rattle.lib_arith.specs.Exact.{beyond}
@@ -23,95 +24,18 @@ same-test a b c d h k = go (ltb a b) refl
     go true e = sym (lt-ltb c d (h (ltb-true a b e)))
     go false e = sym (le-ltb c d (k (ltb-false a b e)))
 
--- a difference of numbers that are not far apart, and minus a number
-small-difference : (a b : ℕ) → a < b + 2 ^ 31 → b ≤ a + 2 ^ 31 → false ≡ beyond (subℕ a b)
-small-difference a b h k = go (ltb a b) refl
-  where
-    go : (t : Bool) → ltb a b ≡ t → false ≡ beyond (cond t (negsuc (b - suc a)) (pos (a - b)))
-    go true e = sym (beyond-neg (b - suc a) ∙ le-ltb 2147483647 (b - suc a) (omega (arith, ltb-true a b e)))
-    go false e = sym (beyond-pos (a - b) ∙ le-ltb 2147483647 (a - b) (omega (arith, ltb-false a b e)))
-
 beyond-minus : (n : ℕ) → beyond (negℤ (pos n)) ≡ ltb 2147483648 n
 beyond-minus zero = beyond-pos 0
 beyond-minus (suc n) = beyond-neg n ∙ same-test 2147483647 n 2147483648 (suc n) (λ h. omega arith) (λ h. omega arith)
 
--- ---- sums
+-- the numbers beyond 32 bits are those above the largest and those below the least
+or-false : (b : Bool) → b || false ≡ b
+or-false true = refl
+or-false false = refl
 
-pub sum-low : {a b : ℕ} {z w : ℤ} → View a z → View b w → a < 2 ^ 31 → b < 2 ^ 31 → ltb 2147483647 (a + b) ≡ beyond (z +ℤ w)
-sum-low {a} {b} (low p) (low q) h k = sym (beyond-pos (a + b))
-sum-low (low p) (high y g n) h k = absurd (omega arith)
-sum-low (high x f n) w h k = absurd (omega arith)
-
-pub sum-low-high : {a b : ℕ} {z w : ℤ} → View a z → View b w → a < 2 ^ 31 → 2 ^ 31 ≤ b → false ≡ beyond (z +ℤ w)
-sum-low-high (low p) (low q) h k = absurd (omega arith)
-sum-low-high {a} (low p) (high y g n) h k = small-difference a (suc y) (omega arith) (omega arith)
-sum-low-high (high x f n) w h k = absurd (omega arith)
-
-pub sum-high-low : {a b : ℕ} {z w : ℤ} → View a z → View b w → 2 ^ 31 ≤ a → b < 2 ^ 31 → false ≡ beyond (z +ℤ w)
-sum-high-low (low p) w h k = absurd (omega arith)
-sum-high-low {b = b} (high x f n) (low q) h k = small-difference b (suc x) (omega arith) (omega arith)
-sum-high-low (high x f n) (high y g o) h k = absurd (omega arith)
-
-pub sum-high : {a b : ℕ} {z w : ℤ} → View a z → View b w → 2 ^ 31 ≤ a → 2 ^ 31 ≤ b → ltb 2147483646 (4294967295 - a + (4294967295 - b)) ≡ beyond (z +ℤ w)
-sum-high (low p) w h k = absurd (omega arith)
-sum-high (high x f n) (low q) h k = absurd (omega arith)
-sum-high {a} {b} (high x f n) (high y g o) h k =
-    same-test 2147483646 (4294967295 - a + (4294967295 - b)) 2147483647 (suc (x + y)) (λ l. omega arith) (λ l. omega arith) ∙ sym (beyond-neg (suc (x + y)))
-
--- ---- differences
-
-pub less-low : {a b : ℕ} {z w : ℤ} → View a z → View b w → a < 2 ^ 31 → b < 2 ^ 31 → false ≡ beyond (z -ℤ w)
-less-low {a} {b = zero} (low p) (low q) h k = sym (beyond-pos (a + 0) ∙ le-ltb 2147483647 (a + 0) (omega arith))
-less-low {a} {b = suc b} (low p) (low q) h k = small-difference a (suc b) (omega arith) (omega arith)
-less-low (low p) (high y g n) h k = absurd (omega arith)
-less-low (high x f n) w h k = absurd (omega arith)
-
-pub less-low-high : {a b : ℕ} {z w : ℤ} → View a z → View b w → a < 2 ^ 31 → 2 ^ 31 ≤ b → ltb 2147483646 (a + (4294967295 - b)) ≡ beyond (z -ℤ w)
-less-low-high (low p) (low q) h k = absurd (omega arith)
-less-low-high {a} {b} (low p) (high y g n) h k =
-    same-test 2147483646 (a + (4294967295 - b)) 2147483647 (a + suc y) (λ l. omega arith) (λ l. omega arith) ∙ sym (beyond-pos (a + suc y))
-less-low-high (high x f n) w h k = absurd (omega arith)
-
-pub less-high-low : {a b : ℕ} {z w : ℤ} → View a z → View b w → 2 ^ 31 ≤ a → b < 2 ^ 31 → ltb 2147483647 (4294967295 - a + b) ≡ beyond (z -ℤ w)
-less-high-low (low p) w h k = absurd (omega arith)
-less-high-low {a} {b = zero} (high x f n) (low q) h k =
-    le-ltb 2147483647 (4294967295 - a + 0) (omega arith) ∙ small-difference 0 (suc x) (omega arith) (omega arith)
-less-high-low {a} {b = suc b} (high x f n) (low q) h k =
-    same-test 2147483647 (4294967295 - a + suc b) 2147483647 (suc (x + b)) (λ l. omega arith) (λ l. omega arith) ∙ sym (beyond-neg (suc (x + b)))
-less-high-low (high x f n) (high y g o) h k = absurd (omega arith)
-
-pub less-high : {a b : ℕ} {z w : ℤ} → View a z → View b w → 2 ^ 31 ≤ a → 2 ^ 31 ≤ b → false ≡ beyond (z -ℤ w)
-less-high (low p) w h k = absurd (omega arith)
-less-high (high x f n) (low q) h k = absurd (omega arith)
-less-high (high x f n) (high y g o) h k = small-difference (suc y) (suc x) (omega arith) (omega arith)
-
--- ---- products
-
-pub product-low : {a b : ℕ} {z w : ℤ} → View a z → View b w → a < 2 ^ 31 → b < 2 ^ 31 → ltb 2147483647 (a * b) ≡ beyond (z *ℤ w)
-product-low {a} {b} (low p) (low q) h k = sym (beyond-pos (a * b))
-product-low (low p) (high y g n) h k = absurd (omega arith)
-product-low (high x f n) w h k = absurd (omega arith)
-
-pub product-low-high : {a b : ℕ} {z w : ℤ} → View a z → View b w → a < 2 ^ 31 → 2 ^ 31 ≤ b → ltb 2147483648 (a * (4294967296 - b)) ≡ beyond (z *ℤ w)
-product-low-high (low p) (low q) h k = absurd (omega arith)
-product-low-high {a} {b} (low p) (high y g n) h k =
-    let d : 4294967296 - b ≡ suc y = omega arith in rw d (sym (beyond-minus (a * suc y)))
-product-low-high (high x f n) w h k = absurd (omega arith)
-
-pub product-high-low : {a b : ℕ} {z w : ℤ} → View a z → View b w → 2 ^ 31 ≤ a → b < 2 ^ 31 → ltb 2147483648 ((4294967296 - a) * b) ≡ beyond (z *ℤ w)
-product-high-low (low p) w h k = absurd (omega arith)
-product-high-low {a} {b} (high x f n) (low q) h k =
-    let d : 4294967296 - a ≡ suc x = omega arith in rw d (sym (beyond-minus (suc x * b)))
-product-high-low (high x f n) (high y g o) h k = absurd (omega arith)
-
-pub product-high : {a b : ℕ} {z w : ℤ} → View a z → View b w → 2 ^ 31 ≤ a → 2 ^ 31 ≤ b
-    → ltb 2147483647 ((4294967296 - a) * (4294967296 - b)) ≡ beyond (z *ℤ w)
-product-high (low p) w h k = absurd (omega arith)
-product-high (high x f n) (low q) h k = absurd (omega arith)
-product-high {a} {b} (high x f n) (high y g o) h k =
-    let d : 4294967296 - a ≡ suc x = omega arith in
-    let e : 4294967296 - b ≡ suc y = omega arith in
-    rw (d, e) (sym (beyond-pos (suc x * suc y)))
+pub outside : (z : ℤ) → ltZ (pos 2147483647) z || ltZ z (negsuc 2147483647) ≡ beyond z
+outside (pos n) = or-false (ltb 2147483647 n) ∙ sym (beyond-pos n)
+outside (negsuc n) = sym (beyond-neg n)
 
 -- ---- quotients
 

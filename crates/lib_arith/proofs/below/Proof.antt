@@ -1,14 +1,19 @@
--- Words of one sign are ordered as they stand, and of two signs the negative one is below: one law for each branch.
+-- The two numbers are compared: each is read back from its bits.
 use native.Mathlib.Omega.{arith}
-use Rattle.lib_arith.proofs.Laws.{view, one-sign, not-below, is-below}
+use borrow.Author.Needs.{needs}
+use Rattle.lib_arith.proofs.Laws.{view}
+use Rattle.lib_arith.proofs.Wide.{number-back}
 use Rattle.lib_arith.proofs.below.Statement.{statement}
 use Rattle.lib_arith.proofs.below.Tie as tie
 
 pub below-spec : {M : Type 1} → statement M
 below-spec =
     tie.close
-    (tie.spec
-    (λ c. one-sign (view (c .before .before .args .a) (omega arith)) (view (c .before .before .args .b) (omega arith)) (omega arith))
-    (λ c. not-below (view (c .before .before .args .a) (omega arith)) (view (c .before .before .args .b) (omega arith)) (omega arith) (omega arith))
-    (λ c. is-below (view (c .before .before .args .a) (omega arith)) (view (c .before .before .args .b) (omega arith)) (omega arith) (omega arith))
-    (λ c. one-sign (view (c .before .before .args .a) (omega arith)) (view (c .before .before .args .b) (omega arith)) (omega arith)))
+    (tie.spec (search needs) (search needs)
+    (λ c.
+    rw (
+      c .before .number .ensures,
+      c .number2 .ensures,
+      number-back (view (c .before .before .args .a) (omega arith)),
+      number-back (view (c .before .before .args .b) (omega arith)),
+    )))

@@ -1,13 +1,35 @@
--- The word and the mark are the callees', by their contracts.
+-- The word and the mark are the callees', by their contracts; the exact difference of two words fits 64 bits.
+use native.Mathlib.Omega.{arith}
 use borrow.Author.Needs.{needs}
+use mir.Syntax.{w64}
+use mir.Facts.{toZ-ofZ}
+use Rattle.lib_arith.proofs.Laws.{view}
+use Rattle.lib_arith.proofs.Wide.{number-back}
+use Rattle.lib_overflow.proofs.Ranges.{difference-fits}
 use Rattle.lib_overflow.proofs.difference.Statement.{statement}
 use Rattle.lib_overflow.proofs.difference.Tie as tie
 
 pub difference-spec : {M : Type 1} → statement M
 difference-spec =
     tie.close
-    (tie.spec
-    (λ c κs. search needs)
-    (λ c κs. search needs)
-    (λ c κs. search needs)
-    (λ c. cc (c .mark .ensures, c .before .difference-differs .ensures, c .before .before .subtract .ensures)))
+    (tie.spec (search needs) (search needs) (search needs)
+    (λ c.
+    let u = view (c .before .before .before .args .a) (omega arith) in
+    let v = view (c .before .before .before .args .b) (omega arith) in
+    rw (c .before .number .ensures, c .number2 .ensures, number-back u, number-back v) (difference-fits u v))
+    (search needs) (search needs)
+    (λ c.
+    let numbers = c .before .before in
+    let entry = numbers .before .before .before in
+    let u = view (entry .args .a) (omega arith) in
+    let v = view (entry .args .b) (omega arith) in
+    rw (
+      c .mark .ensures,
+      c .before .is-beyond .ensures,
+      numbers .before .number .ensures,
+      numbers .number2 .ensures,
+      number-back u,
+      number-back v,
+      toZ-ofZ {w = w64} (difference-fits u v),
+      numbers .before .before .subtract .ensures,
+    )))
