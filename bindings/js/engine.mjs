@@ -1,5 +1,6 @@
 // The round engine in WebAssembly, for a browser or node. The calls are those of include/engine.h; README.md beside
-// this file says how they are used. Tables, rounds and sheets are plain Uint8Arrays: save and send them as they are.
+// this file says how they are used. Tables, rounds and sheets are plain Uint8Arrays: save and send them as they are. A
+// Round is one that stays in the module's memory while it is played.
 
 export const VERSION = 1; // of the interface
 export const LAYOUT = 1; // of table and round
@@ -95,12 +96,34 @@ const TAKES = new Map(Object.entries({
     leak: "r sheet, r params, n player",
     assemble: "r text, w buffer",
     describe: "r sheet, w buffer",
-}).map(([call, list]) => [call, list === "" ? [] : list.split(", ").map((arg) => arg.split(" "))]));
+}).map(([call, list]) => [call, list === "" ? [] : list.split(", ").map(argument)]));
 
+function argument(text) {
+    const [kind, name] = text.split(" ");
+    return { kind, name, buffer: kind === "r" || kind === "w" };
+}
+
+const TABLE_ARGUMENT = argument("r table");
+const ROUND_ARGUMENT = argument("r round");
 const PAGE = 65536;
 const NONE = new Uint8Array(0);
 const WORD = 0xffffffff;
 const CALL_PLAYER = 255; // the most that a recorded call's player can be: no player, as every number over 7
+const FOREIGN = 14;
+const TABLE_LENGTH = BigInt(TABLE);
+const ROUND_LENGTH = BigInt(ROUND);
+const ANSWER = 8; // bytes of one
+const ROOMS = Array.from({ length: HAND + 2 }, (_, k) => BigInt(ANSWER * k)); // bytes for k commits
+const OVER = 1 << 24; // of an answer's high half: the event ran over
+const NOBODY = null; // no call is under way
+const NO_ROUND = { at: 0 }; // one that writes no round
+const GROWTH = 16; // pages at least, so that opening rounds one by one seldom waits for memory
+
+// An answer of 64 bits by its halves: no arithmetic on BigInts, which would take as long as the call.
+const WIDE = new BigInt64Array(1);
+const HALVES = new Uint32Array(WIDE.buffer);
+const LOW = new Uint8Array(new Uint32Array([1]).buffer)[0] === 1 ? 0 : 1;
+const HIGH = 1 - LOW;
 
 /**
  * What a step did, and with a start, a commit or a break-in the arrival's player, event and number. These parts are
@@ -123,9 +146,13 @@ class Step {
 
 /** The parts of a step's answer, as `call` and `replay` give it. */
 export function stepOf(answer) {
-    const low = Number(answer & 0xffffn);
-    const arrival = Number((answer >> 16n) & 0xffffffffn);
-    return new Step(low & 15, (low >> 4) & 15, low >> 8, arrival, ((answer >> 56n) & 1n) === 1n);
+    WIDE[0] = answer;
+    return stepOfHalves(HALVES[HIGH], HALVES[LOW]);
+}
+
+function stepOfHalves(high, low) {
+    const arrival = ((high << 16) | (low >>> 16)) >>> 0;
+    return new Step(low & 15, (low >> 4) & 15, (low >> 8) & 255, arrival, (high & OVER) !== 0);
 }
 
 // The answer of a step, which may come from another phone.
@@ -165,7 +192,7 @@ function isBytes(given) {
 }
 
 function whole(call, name, n) {
-    return within(call, name, n, WORD);
+    return typeof n === "number" && n >>> 0 === n ? n : within(call, name, n, WORD);
 }
 
 function within(call, name, n, most) {
@@ -175,12 +202,11 @@ function within(call, name, n, most) {
     return n;
 }
 
-function checked(call, [kind, name], given) {
+function checked(call, { kind, name, buffer }, given) {
     if (given === undefined) throw new TypeError(`${call}: ${name} is missing`);
     if (kind === "n") whole(call, name, given);
-    else if (kind === "q") {
-        if (typeof given !== "bigint") throw new TypeError(`${call}: ${name} is no BigInt`);
-    } else if (!isBytes(given)) throw new TypeError(`${call}: ${name} is no Uint8Array`);
+    else if (buffer && !isBytes(given)) throw new TypeError(`${call}: ${name} is no Uint8Array`);
+    else if (kind === "q" && typeof given !== "bigint") throw new TypeError(`${call}: ${name} is no BigInt`);
 }
 
 // A text as bytes; bytes of UTF-8 are taken as they are.
@@ -197,21 +223,268 @@ function roomFor(steps, most) {
     return Math.min(most, whole("frame", "steps", steps) + 1, HAND + 1);
 }
 
+// Tables and rounds that stay in memory: in that of an instance of their own, which no other call writes to.
+class Arena {
+    constructor(module) {
+        this.module = module;
+        this.calls = new WebAssembly.Instance(module).exports;
+        this.commits = this.calls.memory.buffer.byteLength; // what the engine has of its own ends here
+        this.top = this.commits + ANSWER * (HAND + 1);
+        this.tables = new Set(); // { at, rounds }: its place, and how many rounds are on it
+        this.spare = { tables: [], rounds: [] }; // places given back
+        this.busy = NOBODY; // what the call under way writes
+        this.seen = undefined;
+        this.reserve(0);
+    }
+
+    // Memory for what there is and for so much more.
+    reserve(more) {
+        const { memory } = this.calls;
+        const lacking = this.top + more - memory.buffer.byteLength;
+        if (lacking > 0) memory.grow(Math.max(Math.ceil(lacking / PAGE), GROWTH));
+    }
+
+    take(spare, size) {
+        if (spare.length > 0) return spare.pop();
+        this.reserve(size);
+        this.top += size;
+        return this.top - size;
+    }
+
+    bytes(at, size) {
+        return new Uint8Array(this.calls.memory.buffer, at, size);
+    }
+
+    // The commits that the last frame wrote.
+    written(count) {
+        if (count === 0) return [];
+        const { buffer } = this.calls.memory;
+        if (this.seen?.buffer !== buffer) this.seen = new DataView(buffer); // it has grown
+        const steps = [];
+        for (let at = this.commits; steps.length < count; at += ANSWER) {
+            steps.push(stepOfHalves(this.seen.getUint32(at), this.seen.getUint32(at + ANSWER / 2)));
+        }
+        return steps;
+    }
+
+    // A table's place, for one more round. The same bytes have one place.
+    lend(bytes) {
+        const at = this.take(this.spare.tables, TABLE);
+        this.bytes(at, TABLE).set(bytes.subarray(0, TABLE));
+        const found = [...this.tables].find((table) => this.same(table.at, at));
+        if (found === undefined) {
+            const table = { at, rounds: 1 };
+            this.tables.add(table);
+            return table;
+        }
+        this.spare.tables.push(at);
+        found.rounds++;
+        return found;
+    }
+
+    same(one, other) {
+        const words = new Int32Array(this.calls.memory.buffer);
+        for (let k = 0; k < TABLE; k += 4) if (words[(one + k) / 4] !== words[(other + k) / 4]) return false;
+        return true;
+    }
+
+    giveBack(table) {
+        table.rounds--;
+        if (table.rounds > 0) return;
+        this.tables.delete(table);
+        this.spare.tables.push(table.at);
+    }
+
+    // The last call was cut short, JavaScript's own stack having run out. The engine's stack is not as it was, so that
+    // it is entered afresh, with all that stays; a round that the call was writing is none any more.
+    recover() {
+        release(this.busy, "lost, JavaScript's stack having run out in a call");
+        const { buffer } = this.calls.memory;
+        const calls = new WebAssembly.Instance(this.module).exports;
+        calls.memory.grow((buffer.byteLength - calls.memory.buffer.byteLength) / PAGE);
+        new Uint8Array(calls.memory.buffer, this.commits).set(new Uint8Array(buffer, this.commits));
+        this.calls = calls;
+        this.busy = NOBODY;
+    }
+}
+
+// What a Round keeps: { arena, table, at, why }; without a place, at 0, it cannot be used any more, and `why` says why.
+// The place goes first, so that it is never given back twice.
+function release(kept, why) {
+    const { arena, table, at } = kept;
+    if (at === 0) return;
+    kept.at = 0;
+    kept.why = why;
+    arena.spare.rounds.push(at);
+    arena.giveBack(table);
+}
+
+const DROPPED = new FinalizationRegistry((kept) => release(kept, "dropped"));
+
+function inPlace(kept, call) {
+    if (kept.arena.busy !== NOBODY) kept.arena.recover();
+    if (kept.at === 0) throw new Error(`${call}: the round was ${kept.why}`);
+    return kept;
+}
+
+// A table's bytes in the arena, for one more round.
+function lentTable(arena, call, bytes) {
+    checked(call, TABLE_ARGUMENT, bytes);
+    if (bytes.length < TABLE) throw new Refusal(call, FOREIGN);
+    return arena.lend(bytes);
+}
+
+// The word of the answer in WIDE: 2^32 and the word, or a refusal's number.
+function wordOf(call) {
+    if (HALVES[HIGH] === 0) throw new Refusal(call, HALVES[LOW]);
+    return HALVES[LOW];
+}
+
+/** A round that stays in the module's memory with its table: `open` and `resume` make it. */
+class Round {
+    #kept;
+
+    constructor(kept) {
+        this.#kept = kept;
+        DROPPED.register(this, kept, kept);
+    }
+
+    /** An event is taken in, sent by this player. */
+    arrive(event, player) {
+        whole("arrive", "event", event);
+        whole("arrive", "player", player);
+        const kept = inPlace(this.#kept, "arrive");
+        const { arena, table, at } = kept;
+        arena.busy = kept;
+        const number = arena.calls.engine_arrive(table.at, TABLE_LENGTH, at, ROUND_LENGTH, event, player);
+        arena.busy = NOBODY;
+        if (number !== 0) throw new Refusal("arrive", number);
+    }
+
+    /** One step: { kind, player, event, arrival, over, answer }. */
+    step() {
+        const kept = inPlace(this.#kept, "step");
+        const { arena, table, at } = kept;
+        arena.busy = kept;
+        WIDE[0] = arena.calls.engine_step(table.at, TABLE_LENGTH, at, ROUND_LENGTH);
+        const did = stepOfHalves(HALVES[HIGH], HALVES[LOW]);
+        arena.busy = NOBODY; // not before: a step that was made is not told of by an error alone
+        if (did.kind === STEP_REFUSED) throw new Refusal("step", STEP_REFUSED);
+        return did;
+    }
+
+    /** At most so many steps, and at most `most` commits: { steps, commits, end }, as the engine's `frame`. */
+    frame(steps, most = HAND) {
+        const room = ROOMS[roomFor(steps, most)];
+        const kept = inPlace(this.#kept, "frame");
+        const { arena, table, at } = kept;
+        arena.busy = kept;
+        WIDE[0] = arena.calls.engine_frame(table.at, TABLE_LENGTH, at, ROUND_LENGTH, steps, arena.commits, room);
+        const high = HALVES[HIGH];
+        const did = { steps: HALVES[LOW], commits: arena.written(high & 0xffffff), end: high >>> 24 };
+        arena.busy = NOBODY;
+        return did;
+    }
+
+    /** A behaviour's value, as this player may see it. */
+    board(behaviour, player) {
+        whole("board", "behaviour", behaviour);
+        whole("board", "player", player);
+        const { arena, table, at } = inPlace(this.#kept, "board");
+        arena.busy = NO_ROUND;
+        WIDE[0] = arena.calls.engine_board(table.at, TABLE_LENGTH, at, ROUND_LENGTH, behaviour, player);
+        arena.busy = NOBODY;
+        return wordOf("board") | 0;
+    }
+
+    /** The value that a behaviour would show after this event of this player had been run to idle. */
+    preview(event, behaviour, player) {
+        whole("preview", "event", event);
+        whole("preview", "behaviour", behaviour);
+        whole("preview", "player", player);
+        const { arena, table, at } = inPlace(this.#kept, "preview");
+        arena.busy = NO_ROUND;
+        WIDE[0] = arena.calls.engine_preview(table.at, TABLE_LENGTH, at, ROUND_LENGTH, event, behaviour, player);
+        arena.busy = NOBODY;
+        return wordOf("preview") | 0;
+    }
+
+    /** Steps to idle if no arrival is taken in meanwhile: exact with nothing running, else a bound. */
+    forecast() {
+        const { arena, table, at } = inPlace(this.#kept, "forecast");
+        arena.busy = NO_ROUND;
+        WIDE[0] = arena.calls.engine_forecast(table.at, TABLE_LENGTH, at, ROUND_LENGTH);
+        arena.busy = NOBODY;
+        return wordOf("forecast");
+    }
+
+    /** The round goes on under another table. */
+    mend(table) {
+        const kept = inPlace(this.#kept, "mend");
+        const { arena, at, table: old } = kept;
+        const next = lentTable(arena, "mend", table);
+        arena.busy = kept;
+        const number = arena.calls.engine_mend(old.at, TABLE_LENGTH, next.at, TABLE_LENGTH, at, ROUND_LENGTH);
+        if (number === 0) kept.table = next;
+        arena.giveBack(number === 0 ? old : next);
+        arena.busy = NOBODY;
+        if (number !== 0) throw new Refusal("mend", number);
+    }
+
+    /** Its bytes, a copy: to save it, to send it, or for the engine's own calls. */
+    bytes() {
+        const { arena, at } = inPlace(this.#kept, "bytes");
+        return arena.bytes(at, ROUND).slice();
+    }
+
+    /** Gives its memory back: it cannot be used any more. One that is dropped without it is freed some time later. */
+    free() {
+        release(this.#kept, "freed");
+        DROPPED.unregister(this.#kept);
+    }
+}
+
+const aligned = (length) => (length + 7) & ~7;
+
+// Buffers go to memory one behind the other; the words are what the call is made with, a buffer's place and length.
+function copiedIn(bytes, base, takes, given) {
+    const words = [];
+    let at = base;
+    for (let k = 0; k < takes.length; k++) {
+        if (takes[k].buffer) {
+            bytes.set(given[k], at);
+            words.push(at, BigInt(given[k].length));
+            at += aligned(given[k].length);
+        } else words.push(takes[k].kind === "q" ? BigInt.asUintN(64, given[k]) : given[k]);
+    }
+    return words;
+}
+
+function copiedOut(bytes, base, takes, given) {
+    let at = base;
+    for (let k = 0; k < takes.length; k++) {
+        if (takes[k].kind === "w") given[k].set(bytes.subarray(at, at + given[k].length));
+        if (takes[k].buffer) at += aligned(given[k].length);
+    }
+}
+
 class Engine {
     #module;
+    #arena; // made when the first round is opened
     #calls;
-    #memory;
     #base;
+    #cut; // a call is under way, or was cut short
 
     constructor(module, instance) {
         this.#module = module;
         this.#enter(instance);
     }
 
-    #enter(instance) {
-        this.#calls = instance.exports;
-        this.#memory = instance.exports.memory;
-        this.#base = this.#memory.buffer.byteLength; // what the engine has of its own ends here
+    #enter({ exports }) {
+        const { byteLength } = exports.memory.buffer;
+        this.#base = byteLength; // what the engine has of its own ends here
+        this.#calls = exports;
+        this.#cut = false;
     }
 
     /**
@@ -222,38 +495,24 @@ class Engine {
         const takes = TAKES.get(name);
         if (takes === undefined) throw new TypeError(`no call ${name}`);
         if (given.length !== takes.length) throw new TypeError(`${name} takes ${takes.length} arguments`);
-        takes.forEach((arg, k) => checked(name, arg, given[k]));
-        let room = this.#base;
-        const places = given.map((arg, k) => {
-            if (takes[k][0] === "n" || takes[k][0] === "q") return undefined;
-            const at = room;
-            room += (arg.length + 7) & ~7;
-            return at;
-        });
-        const lacking = room - this.#memory.buffer.byteLength;
-        if (lacking > 0) this.#memory.grow(Math.ceil(lacking / PAGE));
-        const bytes = new Uint8Array(this.#memory.buffer);
-        const words = given.flatMap((arg, k) => {
-            if (takes[k][0] === "q") return BigInt.asUintN(64, arg);
-            if (takes[k][0] === "n") return arg;
-            bytes.set(arg, places[k]);
-            return [places[k], BigInt(arg.length)];
-        });
-        const answer = this.#made(name, words);
-        given.forEach((arg, k) => {
-            if (takes[k][0] === "w") arg.set(bytes.subarray(places[k], places[k] + arg.length));
-        });
-        return typeof answer === "bigint" ? BigInt.asUintN(64, answer) : BigInt(answer >>> 0);
-    }
-
-    // No call traps; but where JavaScript's own stack runs out in one, the engine is entered afresh, having no state.
-    #made(name, words) {
-        try {
-            return this.#calls[`engine_${name}`](...words);
-        } catch (broken) {
-            this.#enter(new WebAssembly.Instance(this.#module));
-            throw broken;
+        // No call traps; but where JavaScript's own stack ran out in the last, the engine is entered afresh, having no
+        // state.
+        if (this.#cut) this.#enter(new WebAssembly.Instance(this.#module));
+        let end = this.#base;
+        for (let k = 0; k < takes.length; k++) {
+            checked(name, takes[k], given[k]);
+            if (takes[k].buffer) end += aligned(given[k].length);
         }
+        const { memory } = this.#calls;
+        const lacking = end - memory.buffer.byteLength;
+        if (lacking > 0) memory.grow(Math.ceil(lacking / PAGE));
+        const bytes = new Uint8Array(memory.buffer);
+        const words = copiedIn(bytes, this.#base, takes, given);
+        this.#cut = true;
+        const answer = this.#calls[`engine_${name}`](...words);
+        this.#cut = false;
+        copiedOut(bytes, this.#base, takes, given);
+        return typeof answer === "bigint" ? BigInt.asUintN(64, answer) : BigInt(answer >>> 0);
     }
 
     // an answer of 2^32 and a word, or of a refusal's number
@@ -314,6 +573,38 @@ class Engine {
 
     eventRank(table, event) {
         return this.#worth("event_rank", table, event);
+    }
+
+    /** A fresh Round on this table, both of which stay in the module's memory. */
+    open(table) {
+        return this.#opened("open", table, (arena, under, at) =>
+            arena.calls.engine_start(under, TABLE_LENGTH, at, ROUND_LENGTH));
+    }
+
+    /** A Round that goes on from the bytes of a saved one. */
+    resume(table, round) {
+        checked("resume", ROUND_ARGUMENT, round);
+        if (round.length < ROUND) throw new Refusal("resume", FOREIGN);
+        return this.#opened("resume", table, (arena, under, at) => {
+            arena.bytes(at, ROUND).set(round.subarray(0, ROUND));
+            WIDE[0] = arena.calls.engine_forecast(under, TABLE_LENGTH, at, ROUND_LENGTH);
+            return HALVES[HIGH] === 0 ? HALVES[LOW] : 0;
+        });
+    }
+
+    // A Round on a place of its own, whose bytes `made` writes: it answers 0 or a refusal's number.
+    #opened(call, table, made) {
+        const arena = (this.#arena ??= new Arena(this.#module));
+        if (arena.busy !== NOBODY) arena.recover();
+        arena.reserve(TABLE + ROUND); // so that neither place is taken where there is no memory for both
+        const under = lentTable(arena, call, table);
+        const kept = { arena, table: under, at: arena.take(arena.spare.rounds, ROUND), why: "" };
+        arena.busy = kept;
+        const number = made(arena, under.at, kept.at);
+        arena.busy = NOBODY;
+        if (number === 0) return new Round(kept);
+        release(kept, "refused");
+        throw new Refusal(call, number);
     }
 
     /** A fresh round. */

@@ -155,6 +155,7 @@ assert.deepEqual(new Play(S).run(0, 0, 0), [5, 3]);
 console.log("the rounds of the scope in WebAssembly: all as it says");
 
 await import("./tests/calls.mjs");
+await import("./tests/rounds.mjs");
 
 // The page's example prints what the page says.
 const page = readFileSync(join(folder, "README.md"), "utf8");
