@@ -156,6 +156,7 @@ console.log("the rounds of the scope in WebAssembly: all as it says");
 
 await import("./tests/calls.mjs");
 await import("./tests/rounds.mjs");
+await import("./tests/types.mjs");
 
 // The page's example prints what the page says.
 const page = readFileSync(join(folder, "README.md"), "utf8");
