@@ -1,7 +1,8 @@
 /* Holds the proved engine against the one written by hand (cengine.c): hold [ROUNDS] [SEED]. Sheets are made at random
- * and compiled; then step, arrive and board are called on both, on rounds as they come, on tables and rounds with bytes
- * damaged, on noise and on short buffers. After every call the answers and all bytes of the round must be the same, and
- * the table as it was. The first difference is printed, and the program ends with 1. */
+ * and compiled, and tables of random instructions besides, most of which may run; then frame, step, arrive and board
+ * are called on both, on rounds as they come, on tables and rounds with bytes damaged, on noise and on short buffers.
+ * After every call the answers and all bytes of the round and of the commits must be the same, and the table as it was.
+ * The first difference is printed, and the program ends with 1. */
 #include <stdio.h>
 #include <stdlib.h>
 #include <string.h>
@@ -9,27 +10,30 @@
 #include "cengine.h"
 #include "engine.h"
 
-enum { WORD = 4, CALLS = 2000, BEYOND = 16, MOST_ANSWER = 32, FOREIGN = 14, TRIES = 1000 };
+enum { WORD = 4, CALLS = 2000, BEYOND = 16, MOST_ANSWER = 32, FOREIGN = 14, TRIES = 1000, COMMITS = 80 };
 
 /* Words that are damaged more often than others: see cengine.c. */
 enum { ROUND_HEAD = 8, RUNNING = 3, POSITION = 5, QUEUE = 8, QUEUE_END = 136 };
-enum { TABLE_HEAD = 2, EVENTS = 8, EVENTS_END = 136, EVENT_WORDS = 4, START = 1, LENGTH = 2, RIGHTS = 200,
-       RIGHTS_END = 296, CODE = 512, CODE_END = 8704, MOST_CODE = 4096 };
+enum { TABLE_HEAD = 2, EVENTS = 8, EVENTS_END = 136, EVENT_WORDS = 4, RANK = 0, START = 1, LENGTH = 2, MEMBERS = 3,
+       RIGHTS = 200, RIGHTS_END = 296, CODE = 512, CODE_END = 8704, MOST_CODE = 4096, MOST_DEEP = 64 };
 
 /* Tags of a sheet, of its expressions, and the numbers of functions and operations. */
 enum { EVENT = 1, PASSIVE, ACTIVE, INITIAL, HANDLER, VIEWERS = 8, CONSTANT = 16, NAME, APPLICATION };
-enum { FUNCTIONS = 14, NOT = 3, IF = 14, RANKS = 16, OPERATIONS = 11, APPLY = 8 };
+enum { FUNCTIONS = 14, NOT = 3, IF = 14, RANKS = 16 };
+enum { OFF = 1, ON, COPY, RESTORE, PUSH, LOAD, FETCH, APPLY, SAVE, DEFER, MOVE, OPERATIONS = MOVE };
 
 static uint8_t table[ENGINE_TABLE + BEYOND], clean[ENGINE_TABLE], kept[ENGINE_TABLE + BEYOND];
 static uint8_t ours[ENGINE_ROUND + BEYOND], other[ENGINE_ROUND + BEYOND], whole[ENGINE_ROUND + BEYOND];
+static uint8_t our_commits[ENGINE_ANSWER * COMMITS + BEYOND], other_commits[sizeof our_commits];
 static uint8_t sheet[ENGINE_SHEET];
 static size_t sheet_len;
 static size_t table_lent, round_lent;
-static unsigned long calls, damaged;
+static unsigned long calls, damaged, steps;
 
-enum call { ARRIVE, BOARD, STEP, KINDS };
-static const char *const names[KINDS] = {"arrive", "board", "step"};
-static unsigned long answers[KINDS][MOST_ANSWER]; /* by a refusal's number, or the kind of a step; 0 for a value */
+enum call { ARRIVE, BOARD, STEP, FRAME, KINDS };
+static const char *const names[KINDS] = {"arrive", "board", "step", "frame"};
+/* By a refusal's number, the kind of a step or the end of a frame; 0 for a value. */
+static unsigned long answers[KINDS][MOST_ANSWER];
 
 /* ---- chance */
 
@@ -273,6 +277,72 @@ static void noise(uint8_t *bytes, size_t n)
         bytes[n] = (uint8_t)(one_in(3) ? below(256) : 0);
 }
 
+/* ---- tables of random instructions */
+
+static uint32_t some_slot(uint32_t operation) { return operation << 8 | below(ENGINE_BEHAVIOURS); }
+
+static uint32_t arguments_of(uint32_t function) { return function == NOT ? 1 : function == IF ? 3 : 2; }
+
+/* An instruction that may run where the stack is so deep, but for one in some hundreds. */
+static uint32_t runnable(uint32_t *deep)
+{
+    static const uint8_t still[] = {OFF, ON, COPY, RESTORE, MOVE};
+    uint32_t function = 1 + below(FUNCTIONS);
+
+    if (one_in(400))
+        return odd_instruction();
+    if (one_in(5))
+        return some_slot(still[below(sizeof still)]);
+    if (*deep > 0 && one_in(4)) {
+        --*deep;
+        return some_slot(one_in(2) ? SAVE : DEFER);
+    }
+    if (*deep >= arguments_of(function) && one_in(2)) {
+        *deep -= arguments_of(function) - 1;
+        return APPLY << 8 | function;
+    }
+    if (*deep == MOST_DEEP)
+        return some_slot(OFF);
+    ++*deep;
+    return some_slot(PUSH + below(FETCH - PUSH + 1));
+}
+
+/* An event's code: some have none, some only push, so that the stack gets full. */
+static uint32_t put_code(uint32_t at, uint32_t length)
+{
+    uint32_t k, deep = 0;
+    int pushes = one_in(6);
+
+    for (k = 0; k < length; k++) {
+        put(clean, CODE + 2 * (size_t)(at + k), pushes ? some_slot(PUSH) : runnable(&deep));
+        put(clean, CODE + 2 * (size_t)(at + k) + 1, one_in(3) ? any_word() : below(5));
+    }
+    return at + length;
+}
+
+static void make_code(void)
+{
+    uint32_t events = 1 + below(one_in(6) ? ENGINE_EVENTS : 4), e, at = 0, length;
+    size_t k;
+
+    memset(clean, 0, sizeof clean);
+    put(clean, 0, events);
+    put(clean, 1, below(ENGINE_BEHAVIOURS + 1));
+    for (e = 0; e < events; e++) {
+        size_t record = EVENTS + EVENT_WORDS * (size_t)e;
+
+        length = one_in(12) ? 0 : 1 + below(one_in(4) ? 300 : 40);
+        length = at + length > MOST_CODE ? 0 : length;
+        put(clean, record + RANK, one_in(20) ? any_word() : below(4));
+        put(clean, record + START, at);
+        put(clean, record + LENGTH, length);
+        put(clean, record + MEMBERS, one_in(3) ? below(length + 3) : below(4));
+        at = put_code(at, length);
+    }
+    for (k = RIGHTS; k < RIGHTS_END; k++)
+        put(clean, k, below(256));
+}
+
 /* ---- the two engines */
 
 static void differ(enum call call, uint32_t number, uint32_t player, uint64_t a, uint64_t b)
@@ -286,21 +356,52 @@ static void differ(enum call call, uint32_t number, uint32_t player, uint64_t a,
             printf("; round byte %u is %u, by hand %u", (unsigned)k, ours[k], other[k]);
             break;
         }
+    if (memcmp(our_commits, other_commits, sizeof our_commits) != 0)
+        printf("; the commits differ");
     puts("");
     exit(1);
 }
 
 #define LENT table, table_lent
 
-/* One call on both; its answer. */
-static uint64_t call_both(void)
+/* Of a frame: none, one, a few, more than an event has, or more than there can be. */
+static uint32_t some_steps(void)
+{
+    switch (below(8)) {
+    case 0: return below(3);
+    case 1: return below(5000);
+    case 2: return one_in(4) ? UINT32_MAX - below(3) : 200;
+    default: return 1 + below(60);
+    }
+}
+
+/* Bytes for commits: none, less than one, a few, or more than there can be. */
+static size_t some_room(void)
+{
+    return one_in(6) ? below(ENGINE_ANSWER + 1) : one_in(3) ? below(4 * ENGINE_ANSWER) : ENGINE_ANSWER * COMMITS;
+}
+
+static void tally(enum call call, uint64_t answer)
+{
+    uint64_t kind = call == STEP ? engine_step_kind(answer) : call == FRAME ? engine_frame_end(answer) : answer;
+
+    answers[call][kind < MOST_ANSWER ? kind : 0]++;
+    steps += call == FRAME ? engine_frame_steps(answer) : 0;
+    calls++;
+}
+
+/* One call on both; whether it was refused as foreign. */
+static int call_both(void)
 {
     uint32_t number = one_in(20) ? any_word() : one_in(3) ? below(70) : below(6);
     uint32_t player = one_in(30) ? any_word() : one_in(3) ? below(10) : 0;
-    enum call call = one_in(8) ? ARRIVE : one_in(10) ? BOARD : STEP;
+    enum call call = one_in(6) ? ARRIVE : one_in(10) ? BOARD : one_in(2) ? STEP : FRAME;
     uint64_t a, b;
+    size_t room = some_room();
 
     memcpy(other, ours, sizeof ours);
+    memset(our_commits, (int)(calls & 255), sizeof our_commits);
+    memcpy(other_commits, our_commits, sizeof our_commits);
     switch (call) {
     case ARRIVE:
         a = engine_arrive(LENT, ours, round_lent, number, player);
@@ -310,15 +411,19 @@ static uint64_t call_both(void)
         a = engine_board(LENT, ours, round_lent, number, player);
         b = cengine_board(LENT, other, round_lent, number, player);
         break;
-    default:
+    case STEP:
         a = engine_step(LENT, ours, round_lent);
         b = cengine_step(LENT, other, round_lent);
+        break;
+    default:
+        number = some_steps();
+        a = engine_frame(LENT, ours, round_lent, number, our_commits, room);
+        b = cengine_frame(LENT, other, round_lent, number, other_commits, room);
     }
-    if (a != b || memcmp(ours, other, sizeof ours) != 0)
+    if (a != b || memcmp(ours, other, sizeof ours) != 0 || memcmp(our_commits, other_commits, sizeof our_commits) != 0)
         differ(call, number, player, a, b);
-    answers[call][call == STEP ? a & 15 : a < MOST_ANSWER ? a : 0]++;
-    calls++;
-    return a;
+    tally(call, a);
+    return call == FRAME ? engine_frame_end(a) == ENGINE_FRAME_REFUSED : a == FOREIGN;
 }
 
 static void check_table(void)
@@ -329,15 +434,22 @@ static void check_table(void)
     }
 }
 
+/* Arrivals, so that there is something to run. */
+static void take_in(uint32_t n)
+{
+    uint32_t k, events = get(clean, 0);
+
+    for (k = 0; events > 0 && k < n; k++)
+        engine_arrive(table, sizeof table, ours, sizeof ours, below(events), 0);
+}
+
 /* A fresh table and round, the hand at times nearly full from the start. */
 static void begin(void)
 {
-    uint32_t k, n = one_in(3) ? below(ENGINE_HAND + 2) : 0;
-
     memcpy(table, clean, sizeof clean);
     engine_start(table, sizeof table, ours, sizeof ours);
-    for (k = 0; k < n; k++)
-        engine_arrive(table, sizeof table, ours, sizeof ours, below(5), 0);
+    take_in(one_in(3) ? below(ENGINE_HAND + 2) : 0);
+    memcpy(whole, ours, sizeof whole);
     table_lent = sizeof table;
     round_lent = sizeof ours;
     memcpy(kept, table, sizeof kept);
@@ -354,15 +466,21 @@ static void heal(void)
     memcpy(kept, table, sizeof kept);
 }
 
+/* Of a buffer that should have so many bytes: just as many, one or two less or more, or any number. */
+static size_t some_length(uint32_t bytes)
+{
+    return one_in(2) ? bytes - 2 + below(5) : below(bytes + BEYOND + 1);
+}
+
 static void harm(void)
 {
     check_table();
     memcpy(whole, ours, sizeof whole);
     damaged++;
     if (one_in(40))
-        table_lent = below(ENGINE_TABLE + BEYOND + 1);
+        table_lent = some_length(ENGINE_TABLE);
     else if (one_in(40))
-        round_lent = below(ENGINE_ROUND + BEYOND + 1);
+        round_lent = some_length(ENGINE_ROUND);
     else if (one_in(60))
         noise(ours, ENGINE_ROUND);
     else if (one_in(2))
@@ -386,10 +504,12 @@ static void one_round(int harmed)
             hurt = 1;
             harm();
         }
-        if (call_both() == FOREIGN && one_in(2)) {
+        if (call_both() && one_in(2)) {
             heal();
             hurt = 0;
         }
+        if (!hurt && one_in(20))
+            take_in(one_in(8) ? ENGINE_HAND : below(9));
     }
     check_table();
 }
@@ -401,11 +521,14 @@ int main(int argc, char **argv)
 
     state = 88172645463325252u + (argc > 2 ? strtoull(argv[2], NULL, 10) : 0);
     for (k = 0; k < rounds; k++) {
-        if (k % 3 == 0)
+        if (k % 6 == 0)
             make_table();
+        if (k % 6 == 3)
+            make_code();
         one_round(k % 3 != 0);
     }
-    printf("hold: %lu calls answered as by the engine written by hand, bytes damaged %lu times;", calls, damaged);
+    printf("hold: %lu calls, %lu steps by frame, as by the engine written by hand, bytes damaged %lu times;", calls,
+           steps, damaged);
     for (call = 0; call < KINDS; call++) {
         printf(" %s", names[call]);
         for (k = 0; k < MOST_ANSWER; k++)

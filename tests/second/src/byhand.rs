@@ -1,6 +1,15 @@
 //! The engine that was written by hand in C: tests/bench/cengine.c.
 mod c {
     extern "C" {
+        pub fn cengine_frame(
+            table: *const u8,
+            table_len: usize,
+            round: *mut u8,
+            round_len: usize,
+            steps: u32,
+            commits: *mut u8,
+            commits_len: usize,
+        ) -> u64;
         pub fn cengine_step(table: *const u8, table_len: usize, round: *mut u8, round_len: usize) -> u64;
         pub fn cengine_arrive(
             table: *const u8,
@@ -19,6 +28,12 @@ mod c {
             player: u32,
         ) -> u64;
     }
+}
+
+#[inline]
+pub fn frame(table: &[u8], round: &mut [u8], steps: u32, commits: &mut [u8]) -> u64 {
+    let (len, room) = (round.len(), commits.len());
+    unsafe { c::cengine_frame(table.as_ptr(), table.len(), round.as_mut_ptr(), len, steps, commits.as_mut_ptr(), room) }
 }
 
 #[inline]
