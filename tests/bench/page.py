@@ -2,7 +2,7 @@
 """page.py FOLDER: writes what tests/bench/run measured to docs/RESULTS.md, docs/bench.svg and docs/HOST.md.
 
 Of the pages only what stands between `<!-- bench: NAME -->` and `<!-- end -->` is written; the rest is by hand. FOLDER
-has the files rows, waits, stacks, machine and, where an earlier archive was measured, before.
+has the files rows, waits, stacks, sizes, machine and, where an earlier archive was measured, before.
 """
 import math
 import os
@@ -17,6 +17,7 @@ KB = 1024
 SMALL_THREAD = 512 * KB
 FORMULA_AIM = 480 * KB
 TEXT_AIM, TEXT_GROWTH, BEHAVIOURS_GROWTH = 10, 2.5, 4
+WORST_AIM = 2
 
 
 # ---- reading what was measured
@@ -53,6 +54,7 @@ def read(folder):
     found["row"] = [Row(w) for w in found["row"]]
     found["waits"], found["machine"] = lines("waits"), lines("machine")
     found["stacks"] = dict(read_stacks(line) for line in lines("stacks"))
+    found["sizes"] = [line.split("\t") for line in lines("sizes")]
     return found
 
 
@@ -189,14 +191,24 @@ def frame(found):
     rows = [
         ("steps one call each, none waits", time_of(found, "step", "an instruction, none waits")),
         ("steps one call each, 63 wait, 32 events", time_of(found, "step", "an instruction, 63 wait, 32")),
-        ("steps by frame, none waits", time_of(found, "frame", "200 instructions, none waits, a")),
-        ("steps by frame, 63 wait, 32 events", time_of(found, "frame", "200 instructions, 63 wait, 32")),
-        ("steps by frame, of events of 4 instructions, 64 in hand", time_of(found, "frame", "64 events of 4")),
+        ("steps by frame, none waits", time_of(found, "frame", "an instruction, none waits")),
+        ("steps by frame, 63 wait, 32 events", time_of(found, "frame", "an instruction, 63 wait, 32")),
+        ("steps by frame, of events of 4 instructions, 64 in hand", time_of(found, "frame", "a step of 64")),
         ("previews of a game, 3 in hand", time_of(found, "preview", "a game, 3")),
         ("previews of a game, 63 in hand", time_of(found, "preview", "a game, 63")),
         (f"previews, the worst: {worst.input}", worst.ours[1]),
     ]
     return block([columns(what, (f"{int(FRAME_NS / ns):,}",), (14,), 84)[0] for what, ns in rows])
+
+
+def sizes(found):
+    """Bytes of what is released, and where it was measured the time of an event of daily."""
+    room, widths = 40, (14, 14, 30)
+    lines = [heads(room, widths, ("bytes", "by gzip", "an event of daily.sheet, ns"))]
+    for what, size, packed, times in found["sizes"]:
+        figures = (f"{int(size):,}", f"{int(packed):,}", "-" if times == "-" else figure(spread(times)[1]))
+        lines += columns(what, figures, widths, room)
+    return block(lines)
 
 
 def stacks(found):
@@ -227,17 +239,33 @@ def greatest(what, rows, which, most):
 
 def aims_of_times(rows):
     of = lambda call, *starts: [r for r in rows if r.call == call and r.input.startswith(starts)]
-    stepped, framed = ([r for r in rows if r.call == "an event" and w in r.input] for w in ("stepped", "by frame"))
-    steps = of("step", *(f"an instruction, {w}" for w in ("none waits", "8 wait", "32 wait", "62 wait")))
-    single = steps + stepped + of("step", "idle") + of("board", "one event") + of("arrive", "one event")
+    waits = lambda r: "62 wait" in r.input or "63 wait" in r.input
+    steps = of("step", "an instruction, ") + of("step", "idle") + of("arrive", "one event") + of("board", "one ")
+    pressed = [r for r in steps if waits(r)]
+    single = [r for r in steps if not waits(r)] + of("an event by steps", "")
+    framed = of("an event by frame", "")
     shortest = [r for r in framed if r.input.startswith("of 3 ")]
-    usual = [r for r in steps if "32 events" not in r.input] + of("compile", "")
-    usual += [r for r in framed if r not in shortest]
+    usual = of("step", *(f"an instruction, {w}" for w in ("none waits", "8 wait", "32 wait", "62 wait")))
+    usual = [r for r in usual if "32 events" not in r.input] + [r for r in framed if r not in shortest]
+    usual += [r for r in of("compile", "") if "refused" not in r.input]
+    yield from greatest("by frame, by a C frame", of("frame", "") + framed, "to_c", 1.6)
+    none, many = (of("frame", f"an instruction, {w}")[0].ours[0] for w in ("none waits", "62 wait"))
+    yield from judged("an instruction by frame with 62 waiting, by one with none", many / none, 1.2)
     yield from greatest("step, arrive, board, stepped events, by C's", single, "to_c", 2.2)
-    yield from greatest("board with 63 waiting, by C's", of("board", "one runs and 63 wait, one"), "to_c", 4)
-    yield from greatest("frame, by the single steps of C", of("frame", "200 ") + framed, "to_c", 1.2)
+    yield from greatest("step, arrive, board, with 62 or 63 waiting, by C's", pressed, "to_c", 3)
     yield from greatest("steps, events by frame, compile, by the plain engine's", usual, "to_plain", 1.05)
     yield from greatest("the event of 3 nodes by frame, by the plain engine's", shortest, "to_plain", 1.5)
+    yield from by_known("assemble's slowest text, by a number of 65,524 digits", of("assemble", "a number of"),
+                        of("assemble", ""))
+    accepted, refused = ([r for r in of("compile", "") if ("refused" in r.input) == w] for w in (False, True))
+    yield from by_known("compile's slowest refused sheet, by its slowest accepted one", accepted, refused)
+
+
+def by_known(what, known, rows):
+    """The slowest of some rows by the slowest of others, of the least times."""
+    slowest = max(rows, key=lambda r: r.ours[0])
+    got = slowest.ours[0] / max(r.ours[0] for r in known)
+    return judged(f"{what} (slowest: {slowest.input})", got, WORST_AIM)
 
 
 OLD_AIMS = [
@@ -267,7 +295,7 @@ def aims(found):
             if w[0] == call and part in w[1]:
                 lines += judged(f"{call}, {w[1]}, by the earlier archive's", spread(w[4])[3], most, said, 3)
     for call, what, _, times in found["grows"]:
-        if call == "compile" and "behaviours" in what:
+        if call == "compile" and what.startswith("behaviours:"):
             least = spread(times)
             factor = max(b / a for a, b in zip(least, least[1:]))
             lines += judged(f"compile at twice as many {what}, a factor", factor, BEHAVIOURS_GROWTH)
@@ -364,6 +392,11 @@ def stack_table(found, page):
     return lines + [""] + textwrap.wrap(" ".join(small_thread(p, of) for p, of in processors.items()), WIDTH)
 
 
+def slowest_circle(found):
+    most = max(r.ours[1] for r in found["row"] if r.call == "circle") / 1e6
+    return [f"The slowest sheet that is known takes {most:.1f} ms where `docs/RESULTS.md` was measured."]
+
+
 def small_thread(processor, of):
     both = of["formula"] + of["the thread itself"]
     fits = "fits" if both <= SMALL_THREAD else "does not fit"
@@ -381,13 +414,14 @@ def replaced(page, name, lines):
 def main():
     found = read(sys.argv[1])
     page = open(RESULTS, encoding="utf8").read()
-    for make in (machine, aims, above, calls, frame, beside, texts, growth, before, stacks):
+    for make in (machine, aims, above, calls, frame, beside, texts, growth, before, stacks, sizes):
         page = replaced(page, make.__name__, make(found))
     page = replaced(page, "waits", found["waits"])
     open(RESULTS, "w", encoding="utf8").write(page)
     open(PLOT, "w", encoding="utf8").write(plot(found))
     host = open(HOST, encoding="utf8").read()
-    open(HOST, "w", encoding="utf8").write(replaced(host, "stacks", stack_table(found, host)))
+    host = replaced(host, "stacks", stack_table(found, host))
+    open(HOST, "w", encoding="utf8").write(replaced(host, "circle", slowest_circle(found)))
     print(f"bench: written to {RESULTS}, {PLOT} and {HOST}", file=sys.stderr)
 
 

@@ -1,6 +1,6 @@
-//! Times of every exported call: the proved engine beside the plain one and, for step, arrive, board and frame, beside
-//! the one written by hand in C. One process, the same inputs, all built for release, buffers warm, the engines run in
-//! turn.
+//! Times of every exported call: the proved engine beside the plain one and, for frame, step, arrive and board, beside
+//! the same call of the one written by hand in C. One process, the same inputs, all built for release, buffers warm,
+//! the engines run in turn.
 //!
 //! What is printed are lines of words between tabs, for tests/bench/page.py:
 //!   row CALL INPUT OURS PLAIN C RATIO RATIO   times in nanoseconds, then ours by the plain engine's and by C's
@@ -30,7 +30,9 @@ const LONG: f64 = 5e7;
 const LEAST_RUNS: usize = 15;
 /// Of so many runs the least time is taken where the worst of many inputs is looked for.
 const LOOKS: usize = 5;
-/// A round's words for what runs, and two of its queue: all that one step changes of a round whose next is in slot 0.
+/// A round's words for what it has taken in, how many wait and what runs: all that decides what a row of steps does.
+const RUNS: usize = 32;
+/// And two of its queue: all that one step changes of a round whose next is in slot 0.
 const HEAD: usize = 48;
 /// The instructions of a step's rows: the event has 207.
 const STEPS: usize = 200;
@@ -159,10 +161,14 @@ struct Set {
 }
 
 fn set(sheet: &[u8], calls: &[Call]) -> Set {
+    set_with(sheet, &[], calls)
+}
+
+fn set_with(sheet: &[u8], params: &[u8], calls: &[Call]) -> Set {
     let (mut table, mut round) = (vec![0u8; TABLE], vec![0u8; ROUND]);
-    assert_eq!(proved::compile(sheet, &[], &mut table), 0);
+    assert_eq!(proved::compile(sheet, params, &mut table), 0);
     proved::start(&table, &mut round);
-    let mut model = Model::new(engine::compile(sheet, &[]).unwrap());
+    let mut model = Model::new(engine::compile(sheet, params).unwrap());
     for c in calls {
         assert_eq!(crate::compare::call(&table, &mut round, *c), packed(model.call(*c)));
     }
@@ -183,7 +189,25 @@ impl Set {
         })
     }
 
+    /// On the round's bytes as they come, from the same ones in each run: `call` is lent how many were made before.
+    fn onward<'a>(&'a self, call: impl Fn(&[u8], &mut [u8], usize) -> u64 + 'a) -> Runner<'a> {
+        let mut round = self.round.clone();
+        Box::new(move |reps| {
+            round.copy_from_slice(&self.round);
+            (0..reps).fold(0u64, |sum, k| sum.wrapping_add(call(&self.table, &mut round, k)))
+        })
+    }
+
     /// The same on the plain engine.
+    fn plain_onward<'a>(&'a self, call: impl Fn(&mut Model, usize) -> u64 + 'a) -> Runner<'a> {
+        let mut m = self.model.clone();
+        Box::new(move |reps| {
+            m.clone_from(&self.model);
+            (0..reps).fold(0u64, |sum, k| sum.wrapping_add(call(black_box(&mut m), k)))
+        })
+    }
+
+    /// The plain engine, its round put back before each call but for the values.
     fn plain<'a>(&'a self, call: impl Fn(&mut Model) -> u64 + 'a) -> Runner<'a> {
         let mut m = self.model.clone();
         repeat(move || {
@@ -262,7 +286,16 @@ impl Set {
 
 // ---- steps and frames
 
-fn steps_of(one: impl Fn(&[u8], &mut [u8]) -> u64) -> impl Fn(&[u8], &mut [u8]) -> u64 {
+type Step = fn(&[u8], &mut [u8]) -> u64;
+type Frame = fn(&[u8], &mut [u8], u32, &mut [u8]) -> u64;
+type Arrive = fn(&[u8], &mut [u8], u32, u32) -> u32;
+
+/// A frame of 200 steps at most, of which none commits.
+fn framed(frame: Frame) -> impl Fn(&[u8], &mut [u8]) -> u64 {
+    move |t, l| frame(t, l, STEPS as u32, &mut [0u8; 8])
+}
+
+fn steps_of(one: Step) -> impl Fn(&[u8], &mut [u8]) -> u64 {
     move |t, l| (0..STEPS).fold(0, |sum, _| sum + one(t, l))
 }
 
@@ -272,29 +305,23 @@ fn long_event(declared: usize, waiting: usize) -> Set {
     set(&cases::one_event(declared, STEPS, &name(0)), &calls)
 }
 
-/// Single steps, and as many in one frame beside the single steps of the engine in C.
+/// Single steps, and as many in one frame.
 fn step_rows(bench: &Bench) {
     for (declared, waiting, input) in [
-        (1, 0, "an instruction, none waits"),
-        (1, 8, "an instruction, 8 wait"),
-        (1, 32, "an instruction, 32 wait"),
-        (1, 62, "an instruction, 62 wait"),
-        (32, 0, "an instruction, none waits, 32 events"),
-        (32, 63, "an instruction, 63 wait, 32 events"),
+        (1, 0, "none waits"),
+        (1, 8, "8 wait"),
+        (1, 32, "32 wait"),
+        (1, 62, "62 wait"),
+        (32, 0, "none waits, 32 events"),
+        (32, 63, "63 wait, 32 events"),
     ] {
         let s = long_event(declared, waiting);
         let plain = |m: &mut Model| (0..STEPS).fold(0, |sum, _| sum + packed(m.call(Call::Step)));
-        let one = s.three::<ROUND>(steps_of(proved::step), plain, steps_of(byhand::step));
-        bench.row("step", input, STEPS, one);
-        let ours = |t: &[u8], l: &mut [u8]| {
-            let mut commits = [0u8; 8];
-            let answer = proved::frame(t, l, STEPS as u32, &mut commits);
-            assert_eq!(answer as u32, STEPS as u32);
-            answer as u32 as u64
-        };
+        let one = s.three::<RUNS>(steps_of(proved::step), plain, steps_of(byhand::step));
+        bench.row("step", &format!("an instruction, {input}"), STEPS, one);
         let plain = |m: &mut Model| m.frame(STEPS as u32, 1).0 as u64;
-        let input = input.replace("an instruction", "200 instructions");
-        bench.row("frame", &format!("{input}, a step"), STEPS, s.three::<ROUND>(ours, plain, steps_of(byhand::step)));
+        let all = s.three::<RUNS>(framed(proved::frame), plain, framed(byhand::frame));
+        bench.row("frame", &format!("an instruction, {input}"), STEPS, all);
     }
     set(&cases::one_event(1, 3, &name(0)), &[]).step_row::<0>(bench, "idle, one event");
     let none = join(&vec![event(1); FULL_EVENTS]);
@@ -306,10 +333,58 @@ fn step_rows(bench: &Bench) {
     set(&ranked, &meet).step_row::<HEAD>(bench, "a break-in, 63 wait, 32 events");
 }
 
-/// A whole event of so many nodes, from its arrival to its commit: stepped, and run by frames.
-fn event_rows(bench: &Bench, size: usize) {
+/// More steps than an event has.
+const WHOLE: u32 = 100_000;
+
+/// Before they are timed so many events, one after the other, must be answered alike.
+const ALL_ALIKE: usize = 200;
+
+/// Of daily.sheet, and who sends them: solve, miss, bonus, tick.
+const DAILY_EVENTS: [(u32, u32); 4] = [(0, 1), (1, 2), (2, HOST), (4, HOST)];
+
+/// One event after the other, each taken in and run to a commit: with some waiting the oldest runs, and the new one
+/// waits. Arrivals are of these events and players in turn.
+fn event_runner<'a>(s: &'a Set, events: &'a [(u32, u32)], arrive: Arrive, frame: Frame) -> Runner<'a> {
+    s.onward(move |t: &[u8], l: &mut [u8], k: usize| {
+        let (event, player) = events[k % events.len()];
+        let mut commits = [0u8; 8];
+        let taken = arrive(t, l, event, player);
+        frame(t, l, WHOLE, &mut commits);
+        u64::from_be_bytes(commits).wrapping_add(taken as u64)
+    })
+}
+
+fn plain_events<'a>(s: &'a Set, events: &'a [(u32, u32)]) -> Runner<'a> {
+    s.plain_onward(move |m: &mut Model, k: usize| {
+        let (event, player) = events[k % events.len()];
+        let taken = packed(m.call(Call::Arrive(event, player)));
+        packed(m.frame(WHOLE, 1).1[0]).wrapping_add(taken)
+    })
+}
+
+/// Events by frame: of one event with so many nodes, and those of daily's players.
+fn event_rows(bench: &Bench) {
+    let one = |size: usize| (format!("of {size} nodes"), cases::one_event(1, size, &crate::limits::con(1)), vec![]);
+    let (daily, params) = cases::daily();
+    for (what, sheet, params) in [one(3), one(30), one(300), ("of daily.sheet".to_string(), daily, params)] {
+        let events: &[(u32, u32)] = if params.is_empty() { &[(0, HOST)] } else { &DAILY_EVENTS };
+        for (waiting, said) in [(0, "none waits"), (62, "62 wait")] {
+            let hand: Vec<Call> = events.iter().cycle().take(waiting).map(|(e, p)| Call::Arrive(*e, *p)).collect();
+            let s = set_with(&sheet, &params, &hand);
+            let ours = event_runner(&s, events, proved::arrive, proved::frame);
+            let by_hand = event_runner(&s, events, byhand::arrive, byhand::frame);
+            let mut runners = [ours, plain_events(&s, events), by_hand];
+            let answers = runners.each_mut().map(|r| r(ALL_ALIKE));
+            assert!(answers.iter().all(|a| *a == answers[0]), "events {what}, {said}: {answers:x?}");
+            bench.row("an event by frame", &format!("{what}, {said}"), 1, runners.map(Some));
+        }
+    }
+}
+
+/// A whole event of so many nodes, from its arrival to its commit, by single steps.
+fn stepped_rows(bench: &Bench, size: usize) {
     let s = set(&cases::one_event(1, size, &crate::limits::con(1)), &[]);
-    let stepped = |arrive: fn(&[u8], &mut [u8], u32, u32) -> u32, step: fn(&[u8], &mut [u8]) -> u64| {
+    let stepped = |arrive: Arrive, step: Step| {
         s.bytes::<8>(move |t: &[u8], l: &mut [u8]| {
             arrive(t, l, 0, HOST);
             loop {
@@ -320,53 +395,28 @@ fn event_rows(bench: &Bench, size: usize) {
             }
         })
     };
-    let framed = || {
-        s.bytes::<8>(|t: &[u8], l: &mut [u8]| {
-            let mut commits = [0u8; 8];
-            proved::arrive(t, l, 0, HOST);
-            proved::frame(t, l, 1000, &mut commits);
-            u64::from_be_bytes(commits)
-        })
-    };
-    let plain_steps = || {
-        s.plain(|m: &mut Model| {
-            m.call(Call::Arrive(0, HOST));
-            loop {
-                if let a @ Answer::Committed(..) = m.call(Call::Step) {
-                    return packed(a);
-                }
-            }
-        })
-    };
-    let plain_frame = s.plain(|m: &mut Model| {
+    let plain = s.plain(|m: &mut Model| {
         m.call(Call::Arrive(0, HOST));
-        packed(m.frame(1000, 1).1[0])
+        loop {
+            if let a @ Answer::Committed(..) = m.call(Call::Step) {
+                return packed(a);
+            }
+        }
     });
-    let by_hand = || stepped(byhand::arrive, byhand::step);
-    let ours = stepped(proved::arrive, proved::step);
-    bench.row("an event", &format!("of {size} nodes, stepped"), 1, [Some(ours), Some(plain_steps()), Some(by_hand())]);
-    bench.row(
-        "an event",
-        &format!("of {size} nodes, by frame"),
-        1,
-        [Some(framed()), Some(plain_frame), Some(by_hand())],
-    );
+    let (ours, by_hand) = (stepped(proved::arrive, proved::step), stepped(byhand::arrive, byhand::step));
+    bench.row("an event by steps", &format!("of {size} nodes"), 1, [Some(ours), Some(plain), Some(by_hand)]);
 }
 
 fn frame_rows(bench: &Bench) {
-    let frame = |t: &[u8], l: &mut [u8]| proved::frame(t, l, 400, &mut [0u8; 8 * 64]) as u32 as u64;
+    let all = |frame: Frame| move |t: &[u8], l: &mut [u8]| frame(t, l, 400, &mut [0u8; 8 * 64]) as u32 as u64;
     let plain = |m: &mut Model| m.frame(400, 64).0 as u64;
-    let by_hand = |t: &[u8], l: &mut [u8]| (0..400).take_while(|_| byhand::step(t, l) != 0).count() as u64;
-    let none = set(&join(&vec![event(1); FULL_EVENTS]), &arrivals(64, 0));
-    bench.row(
-        "frame",
-        "64 events of 4 instructions, 32 declared, a step",
-        320,
-        none.three::<ROUND>(frame, plain, by_hand),
-    );
-    let game = set(&cases::game(), &[arrivals(1, 0), arrivals(1, 1), arrivals(1, 2)].concat());
-    let made = game.model.forecast();
-    bench.row("frame", "3 events of a game, a step", made, game.three::<ROUND>(frame, plain, by_hand));
+    let row = |s: &Set, input: &str| {
+        bench.row("frame", input, s.model.forecast(), s.three::<ROUND>(all(proved::frame), plain, all(byhand::frame)));
+    };
+    let none = join(&vec![event(1); FULL_EVENTS]);
+    row(&set(&none, &arrivals(64, 0)), "a step of 64 events of 4 instructions, 32 declared");
+    let three = [arrivals(1, 0), arrivals(1, 1), arrivals(1, 2)].concat();
+    row(&set(&cases::game(), &three), "a step of 3 events of a game");
 }
 
 fn round_rows(bench: &Bench) {
@@ -375,9 +425,11 @@ fn round_rows(bench: &Bench) {
     let one = |n: usize| set(&cases::one_event(1, STEPS, &name(0)), &arrivals(n, 0));
     game(3).arrive_row(bench, "a game, 3 in hand");
     one(0).arrive_row(bench, "one event, nothing in hand");
+    one(62).arrive_row(bench, "one event, 62 wait");
     wide(63).arrive_row(bench, "63 wait, 32 events");
     game(3).board_row(bench, "a game, 3 wait");
     one(0).board_row(bench, "one event, nothing in hand");
+    one(62).board_row(bench, "one event, 62 wait");
     long_event(1, 63).board_row(bench, "one runs and 63 wait, one event");
     long_event(FULL_EVENTS, 63).board_row(bench, "one runs and 63 wait, 32 events");
     game(3).forecast_row(bench, "a game, 3 in hand");
@@ -385,13 +437,19 @@ fn round_rows(bench: &Bench) {
     long_event(FULL_EVENTS, 63).forecast_row(bench, "one runs and 63 wait, 32 events");
     game(3).preview_row(bench, "a game, 3 in hand");
     game(63).preview_row(bench, "a game, 63 in hand");
-    for (function, what) in [(4, "sums"), (7, "quotients")] {
-        let s = set(&cases::longest(function), &arrivals(63, 0));
+    let full = [
+        ("sums", cases::longest(4)),
+        ("quotients", cases::longest(7)),
+        ("mixed, of numbers at random", cases::shaken(32)),
+    ];
+    for (what, sheet) in &full {
+        let s = set(sheet, &arrivals(63, 0));
         s.preview_row(bench, &format!("63 in hand, an event of {} instructions, {what}", s.model.code[0].len()));
     }
     game(3).mend_row(bench, "a game for itself, 3 in hand");
-    set(&cases::longest(4), &arrivals(64, 0)).mend_row(bench, "32 passives of 61 nodes, sums, 64 in hand");
-    set(&cases::longest(7), &arrivals(64, 0)).mend_row(bench, "32 passives of 61 nodes, quotients, 64 in hand");
+    for (what, sheet) in &full {
+        set(sheet, &arrivals(64, 0)).mend_row(bench, &format!("passives of 61 nodes, {what}, 64 in hand"));
+    }
     game(0).start_row(bench, "a game");
     wide(0).start_row(bench, "32 events");
     game(0).count_rows(bench, "a game");
@@ -500,38 +558,55 @@ fn plain_sheet<'a>(s: &'a [u8], then: impl Fn(engine::Sheet) -> u64 + 'a) -> Run
     repeat(move || engine::compile(black_box(s), &[0; 32]).map_or_else(|n| n as u64, &then))
 }
 
+/// Whether a case says that its call refuses it.
+fn is_refused<T>((what, _): &(String, T)) -> bool {
+    what.contains("refused by")
+}
+
+/// The slowest input that is accepted, and the slowest that is refused, where there is one.
+fn both_worst<T: Clone>(bench: &Bench, all: &[(String, T)], call: impl Fn(&T) -> u64) -> Vec<(String, T)> {
+    let (refused, accepted): (Vec<_>, Vec<_>) = all.iter().cloned().partition(is_refused);
+    [accepted, refused]
+        .iter()
+        .filter(|part| !part.is_empty())
+        .map(|part| {
+            let (what, input) = bench.worst(part, &call);
+            (what, input.clone())
+        })
+        .collect()
+}
+
 fn sheet_rows(bench: &Bench) {
     let families = cases::families();
-    let find = |of: fn(&[u8]) -> Runner| bench.worst(&families, |s| of(s)(1));
-    let typical = || ("a game".to_string(), cases::game());
+    let find = |of: fn(&[u8]) -> Runner| both_worst(bench, &families, |s| of(s)(1));
+    let typical = || vec![("a game".to_string(), cases::game())];
     let usual = [
         "S of the scope",
         "64 passives in a chain",
         "64 passives in a backward chain",
         "32 events, 12 actives of 60 nodes",
     ];
-    let mut compiles = vec![typical()];
-    compiles.extend(families.iter().filter(|(what, _)| usual.contains(&what.as_str())).cloned());
-    compiles.push(named(find(compile)));
-    for (input, s) in compiles {
+    let usual = families.iter().filter(|(what, _)| usual.contains(&what.as_str())).cloned();
+    for (input, s) in typical().into_iter().chain(usual).chain(find(compile)) {
         let plain = plain_sheet(&s, |sheet| {
             black_box(Model::new(sheet));
             0
         });
         bench.row("compile", &of_bytes(&input, &s), 1, [Some(compile(&s)), Some(plain), None]);
     }
-    for (input, s) in [typical(), named(find(agree))] {
+    for (input, s) in [typical(), find(agree)].concat() {
         let packed = |c: (usize, usize, usize)| 29 + ((c.0 as u64) << 8) + ((c.1 as u64) << 16) + ((c.2 as u64) << 24);
         let plain = plain_sheet(&s, move |sheet| sheet.clash().map_or(0, packed));
         bench.row("agree", &of_bytes(&input, &s), 1, [Some(agree(&s)), Some(plain), None]);
     }
-    for (input, s) in [typical(), named(find(leak))] {
+    for (input, s) in [typical(), find(leak)].concat() {
         let packed = |c: (usize, usize)| 30 + ((c.0 as u64) << 8) + ((c.1 as u64) << 16);
         let plain = plain_sheet(&s, move |sheet| sheet.leak(1).map_or(0, packed));
         bench.row("leak", &of_bytes(&input, &s), 1, [Some(leak(&s)), Some(plain), None]);
     }
     let rings = cases::circles();
-    for (input, s) in [typical(), rings[0].clone(), named(bench.worst(&rings, |s| circle(s)(1)))] {
+    let worst = vec![rings[0].clone(), named(bench.worst(&rings, |s| circle(s)(1)))];
+    for (input, s) in [typical(), worst].concat() {
         let of = |s: &[u8]| engine::read(s).unwrap().shortest().unwrap() as u64;
         let plain = repeat(|| match engine::compile(black_box(&s), &[0; 32]) {
             Ok(_) => 0,
@@ -541,13 +616,12 @@ fn sheet_rows(bench: &Bench) {
         bench.row("circle", &of_bytes(&input, &s), 1, [Some(circle(&s)), Some(plain), None]);
     }
     let pairs = cases::pairs();
-    let (worst, pair) = bench.worst(&pairs, |p| joined(p)(1));
-    for (input, p) in [(pairs[0].0.clone(), &pairs[0].1), (worst, pair)] {
+    for (input, p) in [vec![pairs[0].clone()], both_worst(bench, &pairs, |p| joined(p)(1))].concat() {
         let plain = || {
             pool::pooled(black_box(&p[0]), &p[1], &[0; 32], 8192)
                 .map_or_else(|n| n as u64, |v| (1 << 32) + v.len() as u64)
         };
-        bench.row("join", &input, 1, [Some(joined(p)), Some(repeat(plain)), None]);
+        bench.row("join", &input, 1, [Some(joined(&p)), Some(repeat(plain)), None]);
     }
     let texts = cases::texts();
     for (input, t) in [texts[0].clone(), named(bench.worst(&texts, |t| text(t)(1)))] {
@@ -560,12 +634,15 @@ fn text_rows(bench: &Bench) {
     let written = cases::written();
     let sheets: Vec<Case> = written.iter().map(|(what, sheet, _)| (what.clone(), sheet.clone())).collect();
     let (texts, families) = (cases::sheet_texts(), cases::families());
-    let worst = named(bench.worst(&texts, |t| assembled(t)(1)));
-    for (input, t) in texts[..written.len()].iter().cloned().chain([worst]) {
+    let listed = texts[..written.len()].iter().cloned();
+    let rest = texts[written.len()..].to_vec();
+    let worst = vec![named(bench.worst(&rest, |t| assembled(t)(1)))];
+    let known = cases::digits();
+    for (input, t) in listed.chain([known]).chain(cases::hard_texts()).chain(worst) {
         let plain = || crate::text::assembled(black_box(&t), 8192);
         bench.row("assemble", &of_bytes(&input, &t), 1, [Some(assembled(&t)), Some(repeat(plain)), None]);
     }
-    for (input, s) in sheets.into_iter().chain([named(bench.worst(&families, |s| described(s)(1)))]) {
+    for (input, s) in sheets.into_iter().chain(both_worst(bench, &families, |s| described(s)(1))) {
         let length = |s: &[u8]| sheet_text::describe(s).map_or(0, |text| (1 << 32) + text.len() as u64);
         let plain = plain_sheet(&s, |_| length(&s));
         bench.row("describe", &of_bytes(&input, &s), 1, [Some(described(&s)), Some(plain), None]);
@@ -607,6 +684,7 @@ fn texts_beside(bench: &Bench) {
 
 fn growth(bench: &Bench) {
     let eight = [8, 16, 32, 64];
+    let trailing = |n: usize| cases::trailing(n, &[" ", "#\n"]);
     let grow =
         |call: &str, what: &str, sheet: &dyn Fn(usize) -> Vec<u8>, of: fn(&[u8]) -> Runner, sizes: [usize; 4]| {
             let sheets: Vec<Vec<u8>> = sizes.iter().map(|n| sheet(*n)).collect();
@@ -628,6 +706,10 @@ fn growth(bench: &Bench) {
     grow("agree", "bytes of passives", &cases::bytes_of, agree, [1024, 2048, 4096, 8192]);
     grow("leak", "behaviours: actives in a backward chain, 12 events", &actives, leak, eight);
     grow("leak", "bytes of passives", &cases::bytes_of, leak, [1024, 2048, 4096, 8192]);
+    let late = |n: usize| cases::late_circle(FULL_EVENTS, n, 8192 * n / 64);
+    grow("compile", "behaviours and bytes: a circle under the last of 32 events", &late, compile, eight);
+    let late = |n: usize| cases::late_circle(n, 64, 8192);
+    grow("compile", "events: a circle under the last", &late, compile, [4, 8, 16, 32]);
     grow("circle", "behaviours: a ring under 32 events", &|n| cases::ring(32, n), circle, eight);
     grow("circle", "events, a ring of 64", &|n| cases::ring(n, 64), circle, [4, 8, 16, 32]);
     grow("formula", "names, a sum in brackets", &cases::sum_of, text, [16, 32, 64, 128]);
@@ -637,7 +719,11 @@ fn growth(bench: &Bench) {
     grow("assemble", "brackets", &cases::bracketed, assembled, [4000, 8000, 16000, 32000]);
     grow("assemble", "bytes of spaces", &|n| vec![b' '; n], assembled, [8000, 16000, 32000, 64000]);
     grow("assemble", "behaviours, each naming the last 15 times", &cases::text_of_names, assembled, eight);
+    let long = [8192, 16_384, 32_768, 65_536];
+    grow("assemble", "bytes of names alike, behind six !", &|n| cases::named_operands(n, 6), assembled, long);
+    grow("assemble", "bytes of blanks and comments behind formulas", &trailing, assembled, long);
     grow("describe", "bytes of passives", &cases::bytes_of, described, sheets);
+    grow("describe", "passives of if within if", &cases::chosen_cells, described, [2, 4, 8, 16]);
     let pairs: Vec<[Vec<u8>; 2]> = [512, 1024, 2048, 4096].map(|n| [cases::bytes_of(n), cases::bytes_of(n)]).into();
     let of = pairs.iter().map(|p| (p[0].len().to_string(), joined(p))).collect();
     bench.grows("join", "bytes of each sheet", of);
@@ -665,11 +751,10 @@ fn rounds_growth(bench: &Bench) {
     grow::<0>(bench, "board", "in hand, a game", &full, &|t, l| proved::board(t, l, 0, HOST));
     grow::<8>(bench, "arrive", "in hand, a game", &full, &|t, l| proved::arrive(t, l, 0, HOST) as u64);
     let runs = sets(&|n| long_event(1, n - 1), hands);
-    grow::<ROUND>(bench, "step", "in hand, 200 instructions", &runs, &steps_of(proved::step));
-    let frame = |t: &[u8], l: &mut [u8]| proved::frame(t, l, STEPS as u32, &mut [0u8; 8]);
-    grow::<ROUND>(bench, "frame", "in hand, 200 instructions", &runs, &frame);
+    grow::<RUNS>(bench, "step", "in hand, 200 instructions", &runs, &steps_of(proved::step));
+    grow::<RUNS>(bench, "frame", "in hand, 200 instructions", &runs, &framed(proved::frame));
     let wide = sets(&|n| long_event(n, 0), [4, 8, 16, 32]);
-    grow::<ROUND>(bench, "step", "events declared, 200 instructions", &wide, &steps_of(proved::step));
+    grow::<RUNS>(bench, "step", "events declared, 200 instructions", &wide, &steps_of(proved::step));
     let long = set(&cases::longest(4), &[arrivals(2, 0), vec![Call::Step]].concat());
     let steps = [500, 1000, 2000, 4000];
     let one = |n: u32| long.bytes::<ROUND>(move |t: &[u8], l: &mut [u8]| proved::frame(t, l, n, &mut [0u8; 8]));
@@ -697,8 +782,9 @@ pub fn run(runs: usize) {
     let bench = &Bench { runs };
     println!("runs\t{runs}");
     step_rows(bench);
+    event_rows(bench);
     for size in [3, 30, 300] {
-        event_rows(bench, size);
+        stepped_rows(bench, size);
     }
     frame_rows(bench);
     round_rows(bench);

@@ -1,6 +1,7 @@
 //! Inputs for the measurements: sheets and texts, each with what it is in words. `families` are those among which the
 //! worst case of a call is looked for: the limits of 01 and 02 filled in every way that was thought of.
 use crate::limits::{active, app, con, event, field, handler, join, name, of_bytes, passive};
+use crate::make::Rng;
 
 /// An input, and what it is.
 pub type Case = (String, Vec<u8>);
@@ -8,9 +9,14 @@ pub type Case = (String, Vec<u8>);
 pub const FULL_EVENTS: usize = 32;
 pub const FULL_BEHAVIOURS: usize = 64;
 
-const ADD: u8 = 4;
-const DIVIDE: u8 = 7;
+/// The most bytes of a sheet, and of a sheet's text.
+const FULL_SHEET: usize = 8192;
+const FULL_TEXT: usize = 65_536;
+
 const NOT: u8 = 3;
+const ADD: u8 = 4;
+const MULTIPLY: u8 = 6;
+const DIVIDE: u8 = 7;
 const IF: u8 = 14;
 
 /// An expression of so many nodes, as flat as can be.
@@ -103,6 +109,15 @@ pub fn rows(declared: usize, names: usize) -> Vec<u8> {
     join(&[events(declared), (0..4).flat_map(row).collect()])
 }
 
+/// examples/daily.sheet, and its parameters as that page has them.
+pub fn daily() -> (Vec<u8>, Vec<u8>) {
+    let (text, mut sheet) = (include_bytes!("../../../examples/daily.sheet"), vec![0; FULL_SHEET]);
+    let answer = crate::proved::assemble(text, &mut sheet);
+    assert_eq!(answer >> 32, 1, "examples/daily.sheet is not a sheet");
+    sheet.truncate(answer as u32 as usize);
+    (sheet, [10u32, 3, 25, 0, 0, 0, 0, 0].map(u32::to_be_bytes).concat())
+}
+
 /// One event and 32 passives of 61 nodes: 4,042 instructions.
 pub fn longest(function: u8) -> Vec<u8> {
     let step = active(1, &[handler(0, 0, &app(ADD, &[name(0), con(1)]))]);
@@ -134,6 +149,78 @@ fn ring_of_actives(declared: usize, n: usize) -> Vec<u8> {
 fn dense_ring(declared: usize, n: usize) -> Vec<u8> {
     let next = |i: usize| (i + 1..n.min(i + 9)).fold(name(((i + 1) % n) as u8), |e, j| app(ADD, &[e, name(j as u8)]));
     join(&[events(declared), (0..n).flat_map(|i| passive(&next(i))).collect()])
+}
+
+/// An expression over these names, `if` of three of them, as flat as can be.
+fn over_names(names: &[usize]) -> Vec<u8> {
+    let mut parts: Vec<Vec<u8>> = names.iter().map(|i| name(*i as u8)).collect();
+    while parts.len() > 1 {
+        let (function, n) = if parts.len() > 2 { (IF, 3) } else { (ADD, 2) };
+        let one = app(function, &parts[..n]);
+        parts.drain(..n);
+        parts.push(one);
+    }
+    parts.remove(0)
+}
+
+/// As many names as fit so many bytes, again and again in turn.
+fn full_of(names: &[usize], bytes: usize) -> Vec<u8> {
+    let many = |n: usize| over_names(&names.iter().cycle().take(n).copied().collect::<Vec<_>>());
+    let n = (2..).find(|n| many(*n).len() > bytes).unwrap() - 1;
+    many(n)
+}
+
+/// A circle that the last event alone closes, in so many bytes. Under every event before it all names of all passives
+/// are read in vain. Under the last one a circle of the last two behaviours leads to the passives, and these lead to
+/// another circle of two: they are in none, and from each of them the search goes through all.
+pub fn late_circle(declared: usize, behaviours: usize, bytes: usize) -> Vec<u8> {
+    let (last, passives) = (declared as u8 - 1, behaviours - 4);
+    let [a, b, c, d] = [4, 3, 2, 1].map(|k| behaviours - k);
+    let to = |e: Vec<u8>| active(0, &[handler(last, 0, &e)]);
+    let leads = app(ADD, &[name(d as u8), over_names(&(0..passives.min(8)).collect::<Vec<_>>())]);
+    let circles = join(&[to(name(b as u8)), to(name(a as u8)), to(leads), to(name(c as u8))]);
+    let each = (bytes - declared * event(1).len() - circles.len()) / passives - passive(&[]).len();
+    let names = |i: usize| [vec![a], (i + 1..passives.min(i + 4)).collect()].concat();
+    join(&[events(declared), (0..passives).flat_map(|i| passive(&full_of(&names(i), each))).collect(), circles])
+}
+
+/// An active that an event shakes as a random number is, and passives of mixed functions of it: which way a branch goes
+/// cannot be foretold.
+pub fn shaken(passives: usize) -> Vec<u8> {
+    fn mixed(size: usize, draw: &mut Rng) -> Vec<u8> {
+        match size {
+            1 if draw.one_in(2) => name(0),
+            1 => con(draw.next() as i32 >> (4 * draw.below(8))),
+            2 => app(NOT, &[mixed(1, draw)]),
+            _ => {
+                let left = (size - 1) / 2;
+                let function = ADD + draw.below((DIVIDE - ADD + 1) as usize) as u8;
+                app(function, &[mixed(left, draw), mixed(size - 1 - left, draw)])
+            }
+        }
+    }
+    let draw = &mut Rng::new(41);
+    let shake = app(ADD, &[app(MULTIPLY, &[name(0), con(1_103_515_245)]), con(12_345)]);
+    let mut sheet = join(&[event(1), active(12_345, &[handler(0, 0, &shake)])]);
+    for _ in 0..passives {
+        let one = passive(&mixed(61, draw));
+        if sheet.len() + one.len() <= FULL_SHEET {
+            sheet.extend(one);
+        }
+    }
+    sheet
+}
+
+/// Passives of `if` within `if`, each leaf the last cell of a row that stands behind them.
+pub fn chosen_cells(passives: usize) -> Vec<u8> {
+    fn chosen(deep: usize, leaf: &[u8]) -> Vec<u8> {
+        match deep {
+            0 => leaf.to_vec(),
+            _ => app(IF, &vec![chosen(deep - 1, leaf); 3]),
+        }
+    }
+    let row = field(6, &[vec![16], field(4, &[0; 4])].concat());
+    join(&[event(1), passive(&chosen(4, &name(passives as u8 + 15))).repeat(passives), row])
 }
 
 /// Handlers that hide every other behaviour from player 1: what it sees names what it sees.
@@ -172,6 +259,9 @@ pub fn families() -> Vec<Case> {
             join(&[events(32), (0..12).flat_map(one).collect()])
         }),
         case("hidden from player 1: every other of 64 passives", hidden_halves()),
+        case("16 passives of if within if, each leaf a cell of a row behind them", chosen_cells(16)),
+        case("a circle under the last of 32 events", late_circle(FULL_EVENTS, FULL_BEHAVIOURS, FULL_SHEET)),
+        case("a ring of 64 passives under 32 events", ring(FULL_EVENTS, FULL_BEHAVIOURS)),
     ];
     for (declared, names) in [(15, 1), (8, 5), (32, 1), (32, 7)] {
         all.push((format!("4 rows of 16 cells, {declared} events, {names} names a handler"), rows(declared, names)));
@@ -195,6 +285,7 @@ pub fn circles() -> Vec<Case> {
         case("a ring of 64 actives, by the last of 32 events", ring_of_actives(32, 64)),
         case("64 passives under 32 events, each names the next 8, the last the first", dense_ring(32, 64)),
         case("32 passives under 32 events, each names the next 8, the last the first", dense_ring(32, 32)),
+        case("a circle under the last of 32 events", late_circle(FULL_EVENTS, FULL_BEHAVIOURS, FULL_SHEET)),
     ]
 }
 
@@ -218,6 +309,7 @@ pub fn pairs() -> Vec<(String, [Vec<u8>; 2])> {
             join(&[event(1), active(1, &[]), passive(&tree(61, ADD, &name(0))).repeat(15)]),
         ),
         ("12 events, 64 actives in a backward chain, and nothing".into(), [backward_twelve(), vec![]]),
+        twice("32 events, 22 actives of each in a backward chain, refused by 3", bands(22)),
     ]
 }
 
@@ -337,12 +429,87 @@ fn every_event(n: usize) -> Vec<u8> {
     join(&[field(1, &[15, 0xFF]).repeat(FULL_EVENTS), active(i32::MIN, &handlers).repeat(n)])
 }
 
+/// So many names of three bytes, as much alike as they can be: by their first byte, and where these are used up by the
+/// second.
+fn alike(n: usize) -> Vec<String> {
+    let firsts = ('a'..='z').chain('A'..='Z').chain(['_']).map(|c| format!("{c}xx"));
+    let seconds = ('0'..='9').chain('a'..='w').map(|c| format!("a{c}x"));
+    firsts.chain(seconds).take(n).collect()
+}
+
+/// A text of so many bytes with 8 parameters and 64 passives, whose names are alike: each formula is made of the name
+/// of the last passive, by `formula`, which is lent that name and how many bytes it may take. Blanks fill up what is
+/// left.
+fn text_of_operands(bytes: usize, formula: &mut dyn FnMut(&str, usize) -> String) -> Vec<u8> {
+    const PARAMS: usize = 8;
+    let names = alike(PARAMS + FULL_BEHAVIOURS);
+    let (params, passives) = names.split_at(PARAMS);
+    let start: String = params.iter().map(|p| format!("param {p}\n")).collect();
+    let heads: Vec<String> = passives.iter().map(|p| format!("passive {p}=")).collect();
+    let each = (bytes - start.len()) / FULL_BEHAVIOURS - heads[0].len() - 1;
+    let one = |head: &String| format!("{head}{:each$}\n", formula(passives.last().unwrap(), each));
+    (start + &heads.iter().map(one).collect::<String>()).into_bytes()
+}
+
+/// So many leaves under operators of six levels, which do without brackets, and brackets around these.
+fn leveled(leaf: &str, leaves: usize, level: usize) -> String {
+    const OPERATORS: [&str; 6] = ["*", "+", "<", "==", "&&", "||"];
+    match (leaves, level) {
+        (1, _) => leaf.to_string(),
+        (_, 0) => format!("({})", leveled(leaf, leaves, OPERATORS.len())),
+        _ => {
+            let left = leaves.next_power_of_two() / 2;
+            leveled(leaf, left, level - 1) + OPERATORS[level - 1] + &leveled(leaf, leaves - left, level - 1)
+        }
+    }
+}
+
+/// Formulas that name the last of 72 names as often as fits, behind so many `!`: each name is compared with all of
+/// them. The sheet gets too long, and is read to its end.
+pub fn named_operands(bytes: usize, nots: usize) -> Vec<u8> {
+    let most = 1 << (15 - nots);
+    text_of_operands(bytes, &mut |last, room| {
+        let leaf = "!".repeat(nots) + last;
+        let leaves = (2..=most).find(|n| leveled(&leaf, *n, 6).len() > room).unwrap_or(most + 1) - 1;
+        leveled(&leaf, leaves, 6)
+    })
+}
+
+/// Formulas in which sixteen end at one place, behind it these pieces without a pattern.
+pub fn trailing(bytes: usize, pieces: &[&str]) -> Vec<u8> {
+    let draw = &mut Rng::new(1);
+    let longest = pieces.iter().map(|p| p.len()).max().unwrap();
+    text_of_operands(bytes, &mut |last, room| {
+        let operators: String = ["||", "&&", "==", "<", "+", "*"].map(|op| last.to_string() + op).concat();
+        let mut text = operators + &"!".repeat(9) + last;
+        while text.len() + longest <= room {
+            text += pieces[draw.below(pieces.len())];
+        }
+        text
+    })
+}
+
+/// A number of so many digits that the text is full.
+pub fn digits() -> Case {
+    case("a number of 65,524 digits", format!("passive a = {}", "0".repeat(FULL_TEXT - 12)).into_bytes())
+}
+
+/// Texts that are hard to read, whose last formula is read to its end.
+pub fn hard_texts() -> Vec<Case> {
+    vec![
+        case("72 names alike, the last one behind six !, refused by 40", named_operands(FULL_TEXT, 6)),
+        case("72 names alike, the last one again and again, refused by 40", named_operands(FULL_TEXT, 0)),
+        case("sixteen formulas end before blanks, 64 times", trailing(FULL_TEXT, &[" "])),
+        case("sixteen formulas end before blanks and comments, 64 times", trailing(FULL_TEXT, &[" ", "#\n"])),
+    ]
+}
+
 /// Sheets as text, the first a game: those above, and texts that are long, deep in brackets or functions, or read to
 /// their last byte.
 pub fn sheet_texts() -> Vec<Case> {
     let text = |what: &str, t: String| case(what, t.into_bytes());
     let passive = |formula: String| format!("passive a = {formula}");
-    let filled = |piece: &str| passive(piece.repeat((65_536 - 12) / piece.len()));
+    let filled = |piece: &str| passive(piece.repeat((FULL_TEXT - 12) / piece.len()));
     let nested = |n: usize, open: &str, close: &str| passive(format!("{}1{}", open.repeat(n), close.repeat(n)));
     let mut all: Vec<Case> = written().into_iter().map(|(what, _, text)| (what, text)).collect();
     all.extend([
@@ -353,11 +520,12 @@ pub fn sheet_texts() -> Vec<Case> {
         text("15 times ! and 4,000 brackets each", nested(15, &format!("!{}", "(".repeat(4000)), &")".repeat(4000))),
         text("65,524 opening brackets", filled("(")),
         text("a sum of 32,762 ones", filled("1+")),
-        text("a number of 65,524 digits", filled("0")),
+        digits(),
         text("65,524 spaces", filled(" ")),
         text("a name in 32,000 brackets, unknown", nested(32_000, "(", ")").replace('1', "b")),
         text("65,537 bytes", " ".repeat(65_537)),
     ]);
+    all.extend(hard_texts());
     all
 }
 
