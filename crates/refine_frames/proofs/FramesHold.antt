@@ -213,12 +213,12 @@ every-frame t l asked b h = together t l asked b (frameOn t l asked b) h (from t
 
 -- ---- in a list of calls
 
-round-append : (t : List ℕ) (cs ds : List Call) (l : List ℕ) → roundAfter t (cs ++ ds) l ≡ roundAfter t ds (roundAfter t cs l)
+pub round-append : (t : List ℕ) (cs ds : List Call) (l : List ℕ) → roundAfter t (cs ++ ds) l ≡ roundAfter t ds (roundAfter t cs l)
 unfolding roundAfter numbersOn bytesAfter turnOnBytes
 round-append t [] ds l = refl
 round-append t (c ∷ cs) ds l = round-append t cs ds (callOn t c l .1)
 
-answers-append : (t : List ℕ) (cs ds : List Call) (l : List ℕ) → answersOn t (cs ++ ds) l ≡ answersOn t cs l ++ answersOn t ds (roundAfter t cs l)
+pub answers-append : (t : List ℕ) (cs ds : List Call) (l : List ℕ) → answersOn t (cs ++ ds) l ≡ answersOn t cs l ++ answersOn t ds (roundAfter t cs l)
 unfolding answersOn roundAfter numbersOn bytesAfter turnOnBytes
 answers-append t [] ds l = refl
 answers-append t (c ∷ cs) ds l = ap (λ (x : List ℕ). callOn t c l .0 ∷ x) (answers-append t cs ds (callOn t c l .1))

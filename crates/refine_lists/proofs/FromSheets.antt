@@ -10,7 +10,7 @@ use Rattle.spec_language.specs.Syntax.{Program}
 use Rattle.spec_language.specs.Sheet.{Sheet}
 use Rattle.spec_language.specs.Grammar.{encode}
 use Rattle.spec_language.specs.Accepted.{Accepted, SheetAccepted}
-use Rattle.spec_model.specs.Model.{Turn, call, change, Call}
+use Rattle.spec_model.specs.Model.{Turn, call, change, Call, begun}
 use Rattle.spec_model.specs.Claims.{inForce, after}
 use Rattle.format_image.specs.Image.{tableOf}
 use Rattle.back_compile.specs.Verdict.{Compiled, programOf, compileOn}
@@ -22,7 +22,7 @@ use Rattle.refine_calls.proofs.Short.{sheet-short}
 use Rattle.refine_calls.proofs.TurnsRefine as refine
 use Rattle.refine_lists.specs.Lists.{OneList, TwoLists, boardOf, IdleNow, SheetTurn, calling, mending, Compiles, onBytes, Means, AllMean, freshRoundOn, OnlyCalls, Prepared, TwoRounds, TwoOnlyCalls}
 use Rattle.refine_lists.proofs.Bytes.{encode-small}
-use Rattle.refine_lists.proofs.Sheets.{table-room, program-accepted, begun}
+use Rattle.refine_lists.proofs.Sheets.{table-room, program-accepted, begun as begins}
 use Rattle.refine_lists.proofs.ListsHold.{PreviewedAs, list-previewed, one-list, two-lists}
 use Rattle.refine_lists.proofs.OnlyCallsHold.{only-calls, two-only-calls}
 
@@ -84,7 +84,7 @@ fresh-is : (s ps t₀ l₀ : List ℕ) (x : Sheet) (r : Prepared s ps t₀ l₀ 
 fresh-is s ps t₀ l₀ x r p f ok a =
     let t : compileOn s ps t₀ .1 ≡ tableOf p t₀ =
     table-is s ps t₀ (prepared-bytes s ps t₀ l₀ x r) x (r .sent-as) (r .taken) a ∙ ap (λ (q : Program). tableOf q t₀) f in
-    let m = ap (λ (o : CallResult). o .1) (begun p ok t₀ l₀ (compileOn s ps t₀ .1) a (r .room) t) in
+    let m = ap (λ (o : CallResult). o .1) (begins p ok t₀ l₀ (compileOn s ps t₀ .1) a (r .room) t) in
     λ i. bytes (sym t i) (sym m i)
 
 -- ---- every list, and two
@@ -103,6 +103,15 @@ module _ (s ps t₀ l₀ : List ℕ) (x : Sheet) (r : Prepared s ps t₀ l₀ x)
   list-of xs k ts m =
       moved-to (λ (b : Bytes). OneList (programOf ps x) l₀ b (map onBytes xs) ts)
       (one-list (programOf ps x) prepared-accepted t₀ l₀ prepared-room (r .room) (map onBytes xs) ts (all-bytes m k))
+
+  pub stands-fresh : refine.Stand l₀ (freshRoundOn s ps t₀ l₀) (begun (programOf ps x))
+  stands-fresh = moved-to (λ (b : Bytes). refine.Stand l₀ b (begun (programOf ps x))) (refine.fresh-stand (programOf ps x) prepared-accepted t₀ l₀ prepared-room (r .room))
+
+  pub stands-after : (xs : List SheetTurn) → All Compiles xs → (ts : List Turn) → AllMean xs ts
+      → refine.Stand l₀ (bytesAfter (map onBytes xs) (freshRoundOn s ps t₀ l₀)) (after (programOf ps x) ts)
+  stands-after xs k ts m =
+      moved-to (λ (b : Bytes). refine.Stand l₀ (bytesAfter (map onBytes xs) b) (after (programOf ps x) ts))
+      (refine.runs (programOf ps x) prepared-accepted t₀ l₀ prepared-room (r .room) (map onBytes xs) ts (all-bytes m k) .stand)
 
   pub previewed-after : (xs : List SheetTurn) → All Compiles xs → (ts : List Turn) → AllMean xs ts
       → PreviewedAs (programOf ps x) (freshRoundOn s ps t₀ l₀) (map onBytes xs) ts

@@ -56,7 +56,7 @@ unfolding replies turn
 calls-say [] s = tt
 calls-say (d ∷ ds) (state p w) = (λ e. false≢true (cc e), calls-say ds (turn (call d) (state p w) .after))
 
-are-calls : (cs : List Call) → AreTurns (map calls cs) (map call cs)
+pub are-calls : (cs : List Call) → AreTurns (map calls cs) (map call cs)
 are-calls cs = turns-calls [] [] cs tt
 
 module _ (p : Program) (ok : Accepted p) where

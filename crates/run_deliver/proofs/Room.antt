@@ -37,21 +37,21 @@ use Rattle.run_burst.proofs.Steps.{step-rest, step-over, step-calm, step-presse
 -- ---- one instruction
 
 -- it is no last one, and leaves l′
-record Ran (t l l′ : List ℕ) : Type 0 where
-  sound : RoundSound t l′
-  flag : runningFlag l′ ≡ runningFlag l
-  word : runningWord l′ ≡ runningWord l
-  at : position l′ ≡ position l + 1
-  more : position l + 1 < eventWord t (runningEvent l) 2
-  rank : higherWaits t l′ ≡ higherWaits t l
-  kept : taken l′ ≡ taken l
+pub record Ran (t l l′ : List ℕ) : Type 0 where
+  pub sound : RoundSound t l′
+  pub flag : runningFlag l′ ≡ runningFlag l
+  pub word : runningWord l′ ≡ runningWord l
+  pub at : position l′ ≡ position l + 1
+  pub more : position l + 1 < eventWord t (runningEvent l) 2
+  pub rank : higherWaits t l′ ≡ higherWaits t l
+  pub kept : taken l′ ≡ taken l
 
 -- it commits, and leaves l′
-record Done (t l l′ : List ℕ) : Type 0 where
-  sound : RoundSound t l′
-  rests : runningFlag l′ ≡ 0
-  waiting : waitingCount l′ ≡ waitingCount l
-  kept : taken l′ ≡ taken l
+pub record Done (t l l′ : List ℕ) : Type 0 where
+  pub sound : RoundSound t l′
+  pub rests : runningFlag l′ ≡ 0
+  pub waiting : waitingCount l′ ≡ waitingCount l
+  pub kept : taken l′ ≡ taken l
 
 commit-kind : (n hand w : ℕ) → commitSaid n hand w % 16 ≡ 3
 unfolding commitSaid said
@@ -65,7 +65,7 @@ commits a h =
     (eq-eqb (a % 16) 3 h, rw (ne-eqb a 0 x, ne-eqb a 14 y))
 
 module _ (t l : List ℕ) (s : RoundSound t l) where
-  advance-cases : (P : CallResult → Type 0) → P (14, l) → ((l′ : List ℕ) → Ran t l l′ → P (1, l′))
+  pub advance-cases : (P : CallResult → Type 0) → P (14, l) → ((l′ : List ℕ) → Ran t l l′ → P (1, l′))
       → ((a : ℕ) (l′ : List ℕ) → a % 16 ≡ 3 → Done t l l′ → P (a, l′)) → P (advanceOn t l)
   unfolding advanceOn executeAt executeOn countInstruction
   advance-cases P none one last =
@@ -98,11 +98,11 @@ module _ (t l : List ℕ) (s : RoundSound t l) where
 -- ---- the next starts, or preempts
 
 -- one that nothing outranks begins
-record Began (t l l′ : List ℕ) : Type 0 where
-  sound : RoundSound t l′
-  flag : runningFlag l′ ≢ 0
-  calm : higherWaits t l′ ≡ false
-  kept : taken l′ ≡ taken l
+pub record Began (t l l′ : List ℕ) : Type 0 where
+  pub sound : RoundSound t l′
+  pub flag : runningFlag l′ ≢ 0
+  pub calm : higherWaits t l′ ≡ false
+  pub kept : taken l′ ≡ taken l
 
 module _ (l : List ℕ) (n w : ℕ) (h : 2048 ≤ length l) where
   is-long : long l ≡ true
@@ -143,7 +143,7 @@ started t l s some =
       kept = run-taken m (numberAt l b) (wordAt l b) room ∙ get-other a 1 (n - 1) 0 (omega arith) ∙ slot-taken l b (numberAt l (n - 1)) (wordAt l (n - 1));
     }
 
-preempted : (t l : List ℕ) → RoundSound t l → runningFlag l ≢ 0 → position l < eventWord t (runningEvent l) 2 → higherWaits t l ≡ true
+pub preempted : (t l : List ℕ) → RoundSound t l → runningFlag l ≢ 0 → position l < eventWord t (runningEvent l) 2 → higherWaits t l ≡ true
     → Began t l (preemptAt l (best t l (waitingCount l)) .1)
 unfolding preemptAt
 preempted t l s f w o =
@@ -177,7 +177,7 @@ start-starts : (l : List ℕ) (b m : ℕ) → Starts (startAt l b m .0)
 unfolding startAt said
 start-starts l b m = kind-starts (startAt l b m .0) 2 (omega arith) (omega arith) (omega arith) (omega arith)
 
-preempt-starts : (l : List ℕ) (b : ℕ) → Starts (preemptAt l b .0)
+pub preempt-starts : (l : List ℕ) (b : ℕ) → Starts (preemptAt l b .0)
 unfolding preemptAt said
 preempt-starts l b = kind-starts (preemptAt l b .0) 4 (omega arith) (omega arith) (omega arith) (omega arith)
 
@@ -266,29 +266,29 @@ code-short t l s f =
     omega (arith, b .codes (runningEvent l) (hand-bound _ (runningWord l) (s .running-fits f) .0))
 
 -- a burst that ended so
-abbrev Ends : Burst → Type 0
+abbrev pub Ends : Burst → Type 0
 Ends o = (isCommit (o .0) ≡ true) ⊎ (o .0 ≡ 14)
 
 -- its first step is refused, commits, or is made and the rest goes on
-first-refused : (t l : List ℕ) (k : ℕ) → stepOn t l ≡ (14, l) → Ends (burstOn t (suc k) l)
+pub first-refused : (t l : List ℕ) (k : ℕ) → stepOn t l ≡ (14, l) → Ends (burstOn t (suc k) l)
 unfolding burstOn unmade
 first-refused t l k e = rw e (inr refl)
 
-first-commits : (t l : List ℕ) (k a : ℕ) (l′ : List ℕ) → a % 16 ≡ 3 → stepOn t l ≡ (a, l′) → Ends (burstOn t (suc k) l)
+pub first-commits : (t l : List ℕ) (k a : ℕ) (l′ : List ℕ) → a % 16 ≡ 3 → stepOn t l ≡ (a, l′) → Ends (burstOn t (suc k) l)
 unfolding burstOn
 first-commits t l k a l′ h e = let c = commits a h in rw (e, c .1, c .0) (inl (c .0))
 
-first-made : (t l : List ℕ) (k a : ℕ) (l′ : List ℕ) → unmade a ≡ false → isCommit a ≡ false → stepOn t l ≡ (a, l′) → burstOn t k l′ ≡ burstOn t (suc k) l
+pub first-made : (t l : List ℕ) (k a : ℕ) (l′ : List ℕ) → unmade a ≡ false → isCommit a ≡ false → stepOn t l ≡ (a, l′) → burstOn t k l′ ≡ burstOn t (suc k) l
 unfolding burstOn
 first-made t l k a l′ u c e = rw (e, u, c)
 
-made-one : unmade 1 ≡ false
+pub made-one : unmade 1 ≡ false
 unfolding unmade
 made-one = refl
 
 -- by what the first step does
 module _ (t l : List ℕ) (k : ℕ) (s : RoundSound t l) where
-  ends-by : (runningFlag l ≡ 0 → waitingCount l ≡ 0 → ⊥) → (runningFlag l ≢ 0 → (l′ : List ℕ) → Ran t l l′ → Ends (burstOn t k l′))
+  pub ends-by : (runningFlag l ≡ 0 → waitingCount l ≡ 0 → ⊥) → (runningFlag l ≢ 0 → (l′ : List ℕ) → Ran t l l′ → Ends (burstOn t k l′))
       → ((l′ : List ℕ) → Began t l l′ → Ends (burstOn t k l′)) → Ends (burstOn t (suc k) l)
   ends-by some one begin =
       step-cases t l s (λ (o : CallResult). stepOn t l ≡ o → Ends (burstOn t (suc k) l)) (λ f z _. absurd (some f z)) (first-refused t l k)
@@ -296,7 +296,7 @@ module _ (t l : List ℕ) (k : ℕ) (s : RoundSound t l) where
       (λ a l′ b r e. subst Ends (first-made t l k a l′ (b .made) (b .none) e) (begin l′ r)) refl
 
 -- nothing outranks the running one
-calm-ends : (t : List ℕ) (k : ℕ) (l : List ℕ) → RoundSound t l → runningFlag l ≢ 0 → higherWaits t l ≡ false → 0 < k
+pub calm-ends : (t : List ℕ) (k : ℕ) (l : List ℕ) → RoundSound t l → runningFlag l ≢ 0 → higherWaits t l ≡ false → 0 < k
     → eventWord t (runningEvent l) 2 - position l ≤ k → Ends (burstOn t k l)
 calm-ends t zero l s f o h m = absurd (omega arith)
 calm-ends t (suc k) l s f o h m =
@@ -334,7 +334,7 @@ resting-ends t (suc k) l s f n m =
     ends-by t l k s (λ _ z. n z) (λ g _ _. absurd (g f)) (λ l′ b. began-ends t l l′ k b (omega arith))
 
 -- a full hand is not empty
-full-ends : (t l : List ℕ) → ours t l ≡ true → queueFull (waitingCount l) (runningFlag l) ≡ true → Ends (burstOn t 8192 l)
+pub full-ends : (t l : List ℕ) → ours t l ≡ true → queueFull (waitingCount l) (runningFlag l) ≡ true → Ends (burstOn t 8192 l)
 unfolding queueFull
 full-ends t l h full =
     let s : RoundSound t l = ours-sound t l h in

@@ -1,0 +1,3 @@
+pub mod DeliveriesHold
+pub mod Bound
+pub mod Takes
