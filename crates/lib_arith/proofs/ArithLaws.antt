@@ -1,13 +1,12 @@
 -- Words and the numbers that they stand for: a word comes back, and it is true unless it is 0; which numbers differ
 -- from their word's reading, and what an answer with a mark says. By the two cases of `signed`.
 use Prim.Native.Nat.{ℕ, _-_, _%_, _^_, _≤_, _<_}
-use mathlib.Core.Bool.{Bool, true, false, not, _&&_, _||_}
+use mathlib.Core.Bool.{Bool, true, false, not}
 use mathlib.Core.Path.{_≡_, refl, sym, _∙_}
 use mathlib.Core.Logic.{_≢_}
 use native.Mathlib.Omega.{arith}
 use lib.Dec.{ltb, eqb}
 use lib.IntN.{ℤ, pos, negsuc}
-use lib.Signed.{ltZ}
 use borrow.Author.Tests.{ltb-true, ltb-false, lt-ltb, le-ltb, eq-eqb, ne-eqb}
 use Rattle.lib_base.proofs.Tools.{by-test, split}
 use Rattle.lib_arith.specs.Exact.{signed, wrapped, differZ, beyond, packed}
@@ -64,18 +63,16 @@ pub within-others : (f a b c : ℕ) → b < 2 ^ 32 → c < 2 ^ 32 → f ≢ 4 �
 unfolding over exact
 within-others f a b c hb hc n4 n5 n6 n7 =
     let P : ℤ → Type 0 = λ z. beyond z ≡ false in
-    let x : ℤ = signed a in
-    let y : ℤ = signed b in
     rw (ne-eqb f 4 n4, ne-eqb f 5 n5, ne-eqb f 6 n6, ne-eqb f 7 n7)
-    (by-test P (eqb f 1) (λ _. truth-within (isTrue x || isTrue y))
-    (λ _. by-test P (eqb f 2) (λ _. truth-within (isTrue x && isTrue y))
-    (λ _. by-test P (eqb f 3) (λ _. truth-within (not (isTrue x)))
-    (λ _. by-test P (eqb f 8) (λ _. truth-within (ltZ y x))
-    (λ _. by-test P (eqb f 9) (λ _. truth-within (not (ltZ x y)))
-    (λ _. by-test P (eqb f 10) (λ _. truth-within (ltZ x y))
-    (λ _. by-test P (eqb f 11) (λ _. truth-within (not (ltZ y x)))
-    (λ _. by-test P (eqb f 12) (λ _. truth-within (not (ltZ x y) && not (ltZ y x)))
-    (λ _. by-test P (eqb f 13) (λ _. truth-within (ltZ x y || ltZ y x))
+    (by-test P (eqb f 1) (λ _. simp truth-within)
+    (λ _. by-test P (eqb f 2) (λ _. simp truth-within)
+    (λ _. by-test P (eqb f 3) (λ _. simp truth-within)
+    (λ _. by-test P (eqb f 8) (λ _. simp truth-within)
+    (λ _. by-test P (eqb f 9) (λ _. simp truth-within)
+    (λ _. by-test P (eqb f 10) (λ _. simp truth-within)
+    (λ _. by-test P (eqb f 11) (λ _. simp truth-within)
+    (λ _. by-test P (eqb f 12) (λ _. simp truth-within)
+    (λ _. by-test P (eqb f 13) (λ _. simp truth-within)
     (λ _. by-test P (eqb f 14)
     (λ _. by-test P (isTrue (signed a)) (λ _. word-within b hb) (λ _. word-within c hc))
     (λ _. beyond-pos 0)))))))))))

@@ -82,6 +82,45 @@ pub least-by-minus-one : result 7 (minus 2147483648) (minus 1) 0 ≡ minus 21474
 unfolding result exact
 least-by-minus-one = refl
 
+-- "`||` .. `&&`": all four pairs of truths, and the truth of any number but 0
+pub or-table : (result 1 0 0 0 ≡ 0) × (result 1 1 0 0 ≡ 1) × (result 1 0 1 0 ≡ 1) × (result 1 1 1 0 ≡ 1)
+unfolding result exact
+or-table = (refl, refl, refl, refl)
+
+pub and-table : (result 2 0 0 0 ≡ 0) × (result 2 1 0 0 ≡ 0) × (result 2 0 1 0 ≡ 0) × (result 2 1 1 0 ≡ 1)
+unfolding result exact
+and-table = (refl, refl, refl, refl)
+
+-- the six comparisons on equal and on neighbouring words, both ways round
+pub above : (result 8 7 7 0 ≡ 0) × (result 8 8 7 0 ≡ 1) × (result 8 7 8 0 ≡ 0)
+unfolding result exact
+above = (refl, refl, refl)
+
+pub at-least : (result 9 7 7 0 ≡ 1) × (result 9 8 7 0 ≡ 1) × (result 9 7 8 0 ≡ 0)
+unfolding result exact
+at-least = (refl, refl, refl)
+
+pub below : (result 10 7 7 0 ≡ 0) × (result 10 8 7 0 ≡ 0) × (result 10 7 8 0 ≡ 1)
+unfolding result exact
+below = (refl, refl, refl)
+
+pub at-most : (result 11 7 7 0 ≡ 1) × (result 11 8 7 0 ≡ 0) × (result 11 7 8 0 ≡ 1)
+unfolding result exact
+at-most = (refl, refl, refl)
+
+pub equality : (result 12 7 7 0 ≡ 1) × (result 12 8 7 0 ≡ 0) × (result 12 7 8 0 ≡ 0)
+unfolding result exact
+equality = (refl, refl, refl)
+
+pub inequality : (result 13 7 7 0 ≡ 0) × (result 13 8 7 0 ≡ 1) × (result 13 7 8 0 ≡ 1)
+unfolding result exact
+inequality = (refl, refl, refl)
+
+-- the order is that of signed numbers: the greatest word below 2^31 is above all others
+pub greatest-above-least : (result 8 2147483647 2147483648 0 ≡ 1) × (result 10 2147483647 2147483648 0 ≡ 0)
+unfolding result exact
+greatest-above-least = (refl, refl)
+
 -- "Zero is false, all else true; tests give 1 or 0."
 pub and-is-of-truth : result 2 2 1 0 ≡ 1
 unfolding result exact
@@ -135,6 +174,10 @@ second-if-true = refl
 pub third-if-false : result 14 0 10 20 ≡ 20
 unfolding result exact
 third-if-false = refl
+
+pub second-if-negative : result 14 (minus 3) 7 9 ≡ 7
+unfolding result exact
+second-if-negative = refl
 
 -- M-104: "whether its exact whole-number result differed from the 32-bit one, or the divisor was zero"
 pub sum-over : over 4 2147483647 1 0 ≡ true

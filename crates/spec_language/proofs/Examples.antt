@@ -1,6 +1,7 @@
--- Worked examples, by computation: the code of S's two events written out, 17 and 8 instructions; events that are
--- independent, and that are not: by what both write, by what one reads, and only through a passive.
-use Prim.Native.Nat.{ℕ, zero, suc}
+-- Worked examples in the papers' own numbers, by computation: the code of S's two events written out, 17 and 8
+-- instructions, and of one with both phases and two ready behaviours; players' bits; the numbers of refusals; events
+-- that are independent, and that are not: by what both write, by what one reads, and only through a passive.
+use Prim.Native.Nat.{ℕ, zero, suc, _-_, _^_, _<_, _≤_}
 use mathlib.Core.Bool.{Bool, true, false, _||_, false≢true, true≢false}
 use mathlib.Core.Path.{_≡_, refl, sym, ap, _∙_, subst}
 use mathlib.Core.List.{List, [], _∷_, _++_, flatten, flatMap, sum}
@@ -9,10 +10,13 @@ use lib.Dec.{eqb}
 use lib.ListN.{length}
 use borrow.Author.Tests.{eqb-true}
 use Rattle.lib_base.specs.Basics.{pick}
-use Rattle.spec_language.specs.Syntax.{Expr, con, name, app2, Phase, immediate, later, Handler, handler, Behaviour, passive, active, Program}
+use Rattle.spec_language.specs.Syntax.{Expr, con, name, app2, app3, Phase, immediate, later, Handler, handler, Behaviour, passive, active, Program}
 use Rattle.spec_language.specs.Dependence.{Response, follows, takes, defers, keeps, handled, response, behaviourAt, mentions, isActive, writes, Named, in-immediate, in-later, through, Reads, Apart, Independent}
 use Rattle.spec_language.specs.Order.{met, find, order, upTo, metAtOnce, phaseOne}
 use Rattle.spec_language.specs.Code.{Instr, off, on, copy, restore, push, load, fetch, apply, save, defer, move, postfix, inOrder, copyPart, firstPart, secondPart, restorePart, code, instructions, sizeOf}
+use Rattle.spec_language.specs.Rights.{may}
+use Rattle.spec_language.specs.Refusals as refusals
+use Rattle.spec_language.specs.Answers as answers
 
 -- ---- the code of S: "b0 = init 1 {0 ⇒ b0 + b1}; b1 = init 1 {0 ⇒ b0 − b1 later, 1 ⇒ 1}"
 
@@ -47,6 +51,117 @@ code-1 = refl
 pub counts : (instructions S 0 ≡ 17) × (instructions S 1 ≡ 8)
 unfolding instructions sizeOf upTo handled sum
 counts = (refl, refl)
+
+-- ---- the code of W's event 0, of both phases, instruction by instruction. b0 and b2 follow, b0 naming the higher b2;
+-- b3 and b4 have immediate handlers for it, b1 and b5 later ones; b6 has none.
+
+abbrev pub W : Program
+W = record {
+  priorities = 1 ∷ 2 ∷ [];
+  senders = 255 ∷ 255 ∷ [];
+  behaviours =
+      passive (app2 4 (name 2) (con 1))
+      ∷ active 50 (handler 0 later (app2 5 (name 1) (name 0)) ∷ [])
+      ∷ passive (app2 4 (name 3) (name 5))
+      ∷ active 1 (handler 0 immediate (app3 14 (name 6) (app2 4 (name 3) (con 1)) (con 9)) ∷ [])
+      ∷ active 0 (handler 0 immediate (name 6) ∷ [])
+      ∷ active 2 (handler 0 later (app2 6 (name 3) (con 10)) ∷ [])
+      ∷ active 3 (handler 1 immediate (con 0) ∷ [])
+      ∷ [];
+  viewers = 255 ∷ 255 ∷ 255 ∷ 255 ∷ 255 ∷ 255 ∷ 255 ∷ [];
+}
+
+-- "the lowest number first among those whose needs are met": b3 and b4 are ready at once; after b3 comes b2, which it
+-- makes ready, then b0, and only then b4
+pub order-W : phaseOne W 0 ≡ 3 ∷ 2 ∷ 0 ∷ 4 ∷ []
+unfolding phaseOne order find met metAtOnce upTo handled mentions
+order-W = refl
+
+-- later handlers, moves and copies go by number; an `if` takes its three arguments in their order; a name outside C
+-- means the board
+pub code-W :
+    code W 0
+    ≡ off ∷ copy 0 ∷ copy 1 ∷ copy 2 ∷ copy 3 ∷ copy 4 ∷ copy 5 ∷ on
+    ∷ load 6 ∷ fetch 3 ∷ push 1 ∷ apply 4 ∷ push 9 ∷ apply 14 ∷ save 3
+    ∷ fetch 3 ∷ fetch 5 ∷ apply 4 ∷ save 2
+    ∷ fetch 2 ∷ push 1 ∷ apply 4 ∷ save 0
+    ∷ load 6 ∷ save 4
+    ∷ fetch 1 ∷ fetch 0 ∷ apply 5 ∷ defer 1
+    ∷ fetch 3 ∷ push 10 ∷ apply 6 ∷ defer 5
+    ∷ move 1 ∷ move 5
+    ∷ fetch 3 ∷ fetch 5 ∷ apply 4 ∷ save 2
+    ∷ fetch 2 ∷ push 1 ∷ apply 4 ∷ save 0
+    ∷ off ∷ restore 0 ∷ restore 1 ∷ restore 2 ∷ restore 3 ∷ restore 4 ∷ restore 5 ∷ on ∷ []
+unfolding code copyPart firstPart secondPart restorePart inOrder postfix phaseOne order find met metAtOnce upTo handled mentions flatten flatMap
+code-W = refl
+
+pub count-W : instructions W 0 ≡ 51
+unfolding instructions sizeOf upTo handled sum
+count-W = refl
+
+-- two behaviours that need nothing: the lower first
+abbrev pub two-ready : Program
+two-ready = record {
+  priorities = 1 ∷ [];
+  senders = 255 ∷ [];
+  behaviours = active 0 (handler 0 immediate (con 1) ∷ []) ∷ active 0 (handler 0 immediate (con 2) ∷ []) ∷ [];
+  viewers = 255 ∷ 255 ∷ [];
+}
+
+pub code-of-two-ready :
+    code two-ready 0
+    ≡ off ∷ copy 0 ∷ copy 1 ∷ on ∷ push 1 ∷ save 0 ∷ push 2 ∷ save 1 ∷ off ∷ restore 0 ∷ restore 1 ∷ on ∷ []
+unfolding code copyPart firstPart secondPart restorePart inOrder postfix phaseOne order find met metAtOnce upTo handled mentions flatten flatMap
+code-of-two-ready = refl
+
+-- ---- players: "(bit n for player n)"
+
+-- a byte with the bit of player n alone lets that player in
+pub own-bit : (n : ℕ) → n < 8 → may (2 ^ n) n ≡ true
+own-bit zero h = refl
+own-bit (suc zero) h = refl
+own-bit (suc (suc zero)) h = refl
+own-bit (suc (suc (suc zero))) h = refl
+own-bit (suc (suc (suc (suc zero)))) h = refl
+own-bit (suc (suc (suc (suc (suc zero))))) h = refl
+own-bit (suc (suc (suc (suc (suc (suc zero)))))) h = refl
+own-bit (suc (suc (suc (suc (suc (suc (suc zero))))))) h = refl
+own-bit (suc (suc (suc (suc (suc (suc (suc (suc n)))))))) h = absurd (omega arith)
+
+-- and one with all other bits does not, unless it is the host
+pub all-other-bits : (n : ℕ) → 1 ≤ n → n < 8 → may (255 - 2 ^ n) n ≡ false
+all-other-bits zero g h = absurd (omega arith)
+all-other-bits (suc zero) g h = refl
+all-other-bits (suc (suc zero)) g h = refl
+all-other-bits (suc (suc (suc zero))) g h = refl
+all-other-bits (suc (suc (suc (suc zero)))) g h = refl
+all-other-bits (suc (suc (suc (suc (suc zero))))) g h = refl
+all-other-bits (suc (suc (suc (suc (suc (suc zero)))))) g h = refl
+all-other-bits (suc (suc (suc (suc (suc (suc (suc zero))))))) g h = refl
+all-other-bits (suc (suc (suc (suc (suc (suc (suc (suc n)))))))) g h = absurd (omega arith)
+
+-- "The host may do everything": player 0, whatever the byte is
+pub host : (byte : ℕ) → may byte 0 ≡ true
+host byte = refl
+
+-- the byte 6: players 1 and 2, and the host
+pub six : upTo 8 (may 6) ≡ true ∷ true ∷ true ∷ false ∷ false ∷ false ∷ false ∷ false ∷ []
+unfolding upTo
+six = refl
+
+-- ---- "Why a call was turned down": the numbers of 01 and 02, in their order; 43 and 44 are a delivery's
+pub numbers-of-refusals :
+    (refusals.shortTable ∷ refusals.longProgram ∷ refusals.torn ∷ refusals.wrongTag ∷ refusals.wrongLength ∷ [] ≡ 1 ∷ 3 ∷ 4 ∷ 5 ∷ 6 ∷ [])
+    × (refusals.crowded ∷ refusals.offScale ∷ refusals.tooDeep ∷ refusals.doubled ∷ refusals.unknownName ∷ [] ≡ 7 ∷ 8 ∷ 9 ∷ 10 ∷ 11 ∷ [])
+    × (refusals.cycle ∷ refusals.overlong ∷ refusals.foreign ∷ refusals.undeclaredEvent ∷ refusals.fullQueue ∷ [] ≡ 12 ∷ 13 ∷ 14 ∷ 15 ∷ 16 ∷ [])
+    × (refusals.spent ∷ refusals.noBehaviour ∷ refusals.settling ∷ refusals.noParameters ∷ refusals.noFormula ∷ [] ≡ 17 ∷ 18 ∷ 19 ∷ 20 ∷ 21 ∷ [])
+    × (refusals.largeNumber ∷ refusals.shortField ∷ refusals.noPlayer ∷ refusals.noRight ∷ refusals.unlikeRanks ∷ [] ≡ 22 ∷ 23 ∷ 24 ∷ 25 ∷ 26 ∷ [])
+    × (refusals.shortJoin ∷ refusals.undeclaredInHand ∷ refusals.missingEntries ∷ refusals.takenBefore ∷ [] ≡ 27 ∷ 28 ∷ 43 ∷ 44 ∷ [])
+numbers-of-refusals = (refl, refl, refl, refl, refl, refl)
+
+-- a step's answers, in the order of 01's sentence and of engine.h
+pub numbers-of-answers : answers.idle ∷ answers.ran ∷ answers.started ∷ answers.committed ∷ answers.preempted ∷ [] ≡ 0 ∷ 1 ∷ 2 ∷ 3 ∷ 4 ∷ []
+numbers-of-answers = refl
 
 -- ---- independence: b0 {0 ⇒ 1, 3 ⇒ 2}, b1 {1 ⇒ b2}, b2 passive b0, b3 {2 ⇒ b3 + 1}
 
