@@ -26,13 +26,13 @@ one-takes (change q) r n l = refl
 abbrev pub takenBy : List Turn → State → List Arrival
 takenBy ts s = takenTurns ts (replies ts s) (numberIn s)
 
-first-takes : (t : Turn) (ts : List Turn) (s : State) → takenBy (t ∷ ts) s ≡ takeTurn t (turn t s .reply) (numberIn s) [] ++ takenBy ts (turn t s .after)
+pub first-takes : (t : Turn) (ts : List Turn) (s : State) → takenBy (t ∷ ts) s ≡ takeTurn t (turn t s .reply) (numberIn s) [] ++ takenBy ts (turn t s .after)
 unfolding takenTurns replies
 first-takes t ts s =
     one-takes t (turn t s .reply) (numberIn s) (takenTurns ts (replies ts (turn t s .after)))
     ∙ ap (λ (n : ℕ). takeTurn t (turn t s .reply) (numberIn s) [] ++ takenTurns ts (replies ts (turn t s .after)) n) (sym (number-turn t s))
 
-none-takes : (s : State) → takenBy [] s ≡ []
+pub none-takes : (s : State) → takenBy [] s ≡ []
 unfolding takenTurns
 none-takes s = refl
 

@@ -1,2 +1,4 @@
 pub mod Blocks
 pub mod PhonesHold
+pub mod TablesSame
+pub mod RemediesHold

@@ -1,1 +1,3 @@
 pub mod Orders
+pub mod SameTables
+pub mod Remedies
