@@ -11,3 +11,4 @@ pub mod MarkRight
 pub mod CodeRight
 pub mod SafeParts
 pub mod SafeLaws
+pub mod Examples

@@ -1,19 +1,23 @@
--- Worked changes. 02, M-112: "A wrong bonus should be mended without ending the round." The model engine computes each.
-use Prim.Native.Nat.{ℕ}
+-- Worked runs in the papers' own numbers, by computation. 02, M-112: "A wrong bonus should be mended without ending the
+-- round."; 01 "Handlers and steps": where an event is broken into, and its values in the middle of it.
+use Prim.Native.Nat.{ℕ, _+_}
+use mathlib.Core.Bool.{false}
 use mathlib.Core.Path.{_≡_, refl}
+use mathlib.Core.Option.{none, some}
 use mathlib.Core.List.{List, [], _∷_, _++_, map, flatten, flatMap}
 use lib.ListN.{replicate}
-use Rattle.lib_arith.specs.Functions.{exact, result, over}
+use Rattle.lib_arith.specs.Exact.{beyond}
+use Rattle.lib_arith.specs.Functions.{exact, result, over, arity}
 use Rattle.spec_language.specs.Syntax.{con, name, app2, immediate, handler, passive, active, Program}
 use Rattle.spec_language.specs.Dependence.{handled, mentions}
 use Rattle.spec_language.specs.Order.{met, find, order, upTo, metAtOnce, phaseOne}
 use Rattle.spec_language.specs.Code.{postfix, inOrder, copyPart, firstPart, secondPart, restorePart, code}
-use Rattle.spec_language.specs.Refusals as refusals
 use Rattle.spec_semantics.specs.Meaning.{value, inTurn, firstPhase, laterPhase, event, starts, fresh}
-use Rattle.spec_execution.specs.Execution.{execute, executeAll, emptied, times}
+use Rattle.spec_execution.specs.Execution.{Values, execute, executeAll, emptied, times}
+use Rattle.spec_language.proofs.Examples.{W}
 use Rattle.spec_model.specs.Carried.{carriedActives, carried}
-use Rattle.spec_model.specs.Model.{arrival, arrive, step, refused, act, Turn, call, change, says, carriedOver, turn, runTurns, replies}
-use Rattle.spec_model.specs.Claims.{commits, changes, moments, after, historyOf}
+use Rattle.spec_model.specs.Model.{arrival, Engine, engine, arrive, step, board, refused, shows, ran, preempted, committed, act, Turn, call, change, Reply, says, carriedOver, turn, runTurns, replies}
+use Rattle.spec_model.specs.Claims.{commits, changes, moments, after, engineAfter, historyOf}
 use Rattle.spec_model.proofs.States.{storeIn}
 
 -- a bonus of 5, and b1 twice the score
@@ -34,6 +38,23 @@ right = record {
   viewers = 255 ∷ 255 ∷ 255 ∷ [];
 }
 
+-- b1 turns from a passive to an active; then b0 from an active to a passive
+abbrev pub turned : Program
+turned = record {
+  priorities = 1 ∷ [];
+  senders = 255 ∷ [];
+  behaviours = active 100 [] ∷ active 40 [] ∷ [];
+  viewers = 255 ∷ 255 ∷ [];
+}
+
+abbrev pub swapped : Program
+swapped = record {
+  priorities = 1 ∷ [];
+  senders = 255 ∷ [];
+  behaviours = passive (app2 4 (name 1) (con 1)) ∷ active 7 [] ∷ [];
+  viewers = 255 ∷ 255 ∷ [];
+}
+
 -- no event is declared
 abbrev pub silent : Program
 silent = record { priorities = []; senders = []; behaviours = []; viewers = [] }
@@ -50,11 +71,74 @@ pub record Worked : Type 0 where
   pub board : storeIn (after wrong mending) ≡ 8 ∷ 9 ∷ 7 ∷ []
   pub history : historyOf wrong mending ≡ commits (arrival 0 0 0) ∷ changes right ∷ commits (arrival 1 0 0) ∷ []
   -- "During copy-back it is refused by 19": the second off is the 17th of 20 instructions
-  pub settling : turn (change right) (after wrong (call (arrive 0 0) ∷ stepping 18)) .reply ≡ says (refused refusals.settling)
+  pub settling : turn (change right) (after wrong (call (arrive 0 0) ∷ stepping 18)) .reply ≡ says (refused 19)
   pub not-yet : turn (change right) (after wrong (call (arrive 0 0) ∷ stepping 17)) .reply ≡ carriedOver
   -- "28 when the hand holds an event that the new sheet doesn't declare"
-  pub undeclared : turn (change silent) (after wrong (call (arrive 0 0) ∷ [])) .reply ≡ says (refused refusals.undeclaredInHand)
+  pub undeclared : turn (change silent) (after wrong (call (arrive 0 0) ∷ [])) .reply ≡ says (refused 28)
+  -- "other actives take the new start, passives are worked out anew": b1 = 10 turns active and is 40, not 10; b0 = 5
+  -- turns passive and follows it
+  pub turned-active : storeIn (after wrong (call (arrive 0 0) ∷ (stepping 21 ++ (change turned ∷ [])))) ≡ 5 ∷ 40 ∷ []
+  pub turned-passive : storeIn (after wrong (call (arrive 0 0) ∷ (stepping 21 ++ (change turned ∷ change swapped ∷ [])))) ≡ 41 ∷ 40 ∷ []
 
 pub worked : Worked
 unfolding exact result over handled mentions met find order upTo metAtOnce phaseOne postfix inOrder flatten flatMap copyPart firstPart secondPart restorePart code value inTurn firstPhase laterPhase event starts fresh execute executeAll emptied times carriedActives carried act turn runTurns replies moments
-worked = record { board = refl; history = refl; settling = refl; not-yet = refl; undeclared = refl }
+worked = record { board = refl; history = refl; settling = refl; not-yet = refl; undeclared = refl; turned-active = refl; turned-passive = refl }
+
+-- ---- the model engine on W (crate spec_language, Examples), whose event 0 of rank 1 has 51 instructions: an arrival
+-- of event 1, of rank 2, when c of them are done
+
+-- event 0 taken in, started and run for c instructions
+abbrev runTo : ℕ → List Turn
+runTo c = call (arrive 0 0) ∷ stepping (1 + c)
+
+-- then event 1 is taken in: the answer to the next step
+abbrev brokenInAt : ℕ → Reply
+brokenInAt c = turn (call step) (after W (runTo c ++ (call (arrive 1 0) ∷ []))) .reply
+
+-- a board reading of b0 after c instructions, by the host
+abbrev shownAt : ℕ → Reply
+shownAt c = turn (call (board 0 0)) (after W (runTo c)) .reply
+
+-- "Interrupts are masked between off and on."
+pub record BreakIns : Type 0 where
+  -- before the first off, in the copy, and right after the first on
+  pub before-off : brokenInAt 0 ≡ says (preempted (arrival 1 1 0))
+  pub after-off : brokenInAt 1 ≡ says ran
+  pub in-the-copy : brokenInAt 4 ≡ says ran
+  pub before-on : brokenInAt 7 ≡ says ran
+  pub after-on : brokenInAt 8 ≡ says (preempted (arrival 1 1 0))
+  -- just before the second off, after it, in the copy-back, and at its last instruction
+  pub before-the-second-off : brokenInAt 43 ≡ says (preempted (arrival 1 1 0))
+  pub after-the-second-off : brokenInAt 44 ≡ says ran
+  pub in-the-copy-back : brokenInAt 47 ≡ says ran
+  pub at-the-last : brokenInAt 50 ≡ says (committed (arrival 0 0 0) false)
+  -- "settling: board read during copy-back", and only then
+  pub read-before : shownAt 43 ≡ says (shows 4)
+  pub read-from-off : shownAt 44 ≡ says (refused 19)
+  pub read-to-on : shownAt 50 ≡ says (refused 19)
+  pub read-after : shownAt 51 ≡ says (shows 23)
+  -- event 1 writes b6 = 0: the event that was broken into begins anew and takes the third argument of its `if`
+  pub begun-anew : storeIn (after W (runTo 20 ++ (call (arrive 1 0) ∷ stepping 81))) ≡ 100 ∷ 38 ∷ 99 ∷ 9 ∷ 0 ∷ 90 ∷ 0 ∷ []
+
+pub break-ins : BreakIns
+unfolding beyond exact result over arity handled mentions met find order upTo metAtOnce phaseOne postfix inOrder flatten flatMap copyPart firstPart secondPart restorePart code value inTurn firstPhase starts fresh execute emptied times act turn runTurns
+break-ins = record { before-off = refl; after-off = refl; in-the-copy = refl; before-on = refl; after-on = refl; before-the-second-off = refl; after-the-second-off = refl; in-the-copy-back = refl; at-the-last = refl; read-before = refl; read-from-off = refl; read-to-on = refl; read-after = refl; begun-anew = refl }
+
+-- its values after c instructions: each step does one
+abbrev valuesIn : Engine → Values
+valuesIn (engine t waiting r d) = d
+
+abbrev valuesAt : ℕ → Values
+valuesAt c = valuesIn (engineAfter W (runTo c))
+
+pub record InTheMiddle : Type 0 where
+  pub copied : valuesAt 3 .scratch ≡ some 4 ∷ some 50 ∷ none ∷ none ∷ none ∷ none ∷ none ∷ []
+  pub three-arguments : valuesAt 13 .stack ≡ 9 ∷ 2 ∷ 3 ∷ []
+  pub places : valuesAt 33 .deferred ≡ none ∷ some 45 ∷ none ∷ none ∷ none ∷ some 20 ∷ none ∷ []
+  pub board-before : valuesAt 44 .store ≡ 4 ∷ 50 ∷ 3 ∷ 1 ∷ 0 ∷ 2 ∷ 3 ∷ []
+  pub board-within : valuesAt 47 .store ≡ 23 ∷ 45 ∷ 22 ∷ 1 ∷ 0 ∷ 2 ∷ 3 ∷ []
+  pub board-after : valuesAt 51 .store ≡ 23 ∷ 45 ∷ 22 ∷ 2 ∷ 3 ∷ 20 ∷ 3 ∷ []
+
+pub in-the-middle : InTheMiddle
+unfolding beyond exact result over arity handled mentions met find order upTo metAtOnce phaseOne postfix inOrder flatten flatMap copyPart firstPart secondPart restorePart code value inTurn firstPhase starts fresh execute emptied times act turn runTurns
+in-the-middle = record { copied = refl; three-arguments = refl; places = refl; board-before = refl; board-within = refl; board-after = refl }
