@@ -2,3 +2,4 @@ pub mod Blocks
 pub mod PhonesHold
 pub mod TablesSame
 pub mod RemediesHold
+pub mod ChangesHold

@@ -44,12 +44,12 @@ use Rattle.engine_order.proofs.Blocks.{takenBy, rows-take, steps-take-n
 
 -- ---- rows of calls on bytes
 
-map-append : (cs ds : List Call) → map call (cs ++ ds) ≡ map call cs ++ map call ds
+pub map-append : (cs ds : List Call) → map call (cs ++ ds) ≡ map call cs ++ map call ds
 map-append [] ds = refl
 map-append (c ∷ cs) ds = ap (λ (l : List Turn). call c ∷ l) (map-append cs ds)
 
 -- the bytes after calls: the table stays
-calls-leave : (t : List ℕ) (cs : List Call) (l : List ℕ) → bytesAfter (map calls cs) (bytes t l) ≡ bytes t (roundAfter t cs l)
+pub calls-leave : (t : List ℕ) (cs : List Call) (l : List ℕ) → bytesAfter (map calls cs) (bytes t l) ≡ bytes t (roundAfter t cs l)
 unfolding roundAfter
 calls-leave t cs l = λ i. bytes (table-stays cs (bytes t l) i) (bytesAfter (map calls cs) (bytes t l) .round)
 

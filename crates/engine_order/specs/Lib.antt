@@ -1,3 +1,4 @@
 pub mod Orders
 pub mod SameTables
 pub mod Remedies
+pub mod Changes

@@ -97,14 +97,14 @@ module _ (t : List ℕ) where
 -- ---- the refusals
 
 -- none of them fits
-record Allowed (k known senders number e who : ℕ) : Type 0 where
-  in-place : k ≡ number
-  player : who < 8
-  declared : e < known
-  right : may senders who ≡ true
-  few : number < 1000000
+pub record Allowed (k known senders number e who : ℕ) : Type 0 where
+  pub in-place : k ≡ number
+  pub player : who < 8
+  pub declared : e < known
+  pub right : may senders who ≡ true
+  pub few : number < 1000000
 
-allowed : (k known senders number e who : ℕ) → deliveryRefusal k known senders number e who ≡ 0 → Allowed k known senders number e who
+pub allowed : (k known senders number e who : ℕ) → deliveryRefusal k known senders number e who ≡ 0 → Allowed k known senders number e who
 unfolding deliveryRefusal
 allowed k known senders number e who =
     let P : ℕ → Type 0 = λ r. r ≡ 0 → Allowed k known senders number e who in
@@ -123,7 +123,7 @@ allowed k known senders number e who =
     }))
     (λ _ z. absurd (omega arith))))))
 
-refusal-small : (k known senders number e who : ℕ) → deliveryRefusal k known senders number e who < 64
+pub refusal-small : (k known senders number e who : ℕ) → deliveryRefusal k known senders number e who < 64
 unfolding deliveryRefusal
 refusal-small k known senders number e who =
     let P : ℕ → Type 0 = λ r. r < 64 in

@@ -33,7 +33,7 @@ pub table-is : (s ps t₀ : List ℕ) → All (λ b. b < 256) s → (x : Sheet) 
 table-is s ps t₀ small x e ok a = ap (λ (o : Compiled). o .1) (accepted-exactly s ps t₀ small a .1 x e ok)
 
 -- the table of an accepted sheet
-table-for : (s ps t : List ℕ) → All (λ b. b < 256) s → All (λ b. b < 256) ps → compileOn s ps t .0 ≡ 0 → (x : Sheet) → encode x ≡ s
+pub table-for : (s ps t : List ℕ) → All (λ b. b < 256) s → All (λ b. b < 256) ps → compileOn s ps t .0 ≡ 0 → (x : Sheet) → encode x ≡ s
     → SheetAccepted (get ps) (length ps) x → TableFor (programOf ps x) (compileOn s ps t .1)
 table-for s ps t small words h x e ok =
     let room = table-room s ps t h in

@@ -121,7 +121,7 @@ front-goes : (l m n : List Arrival) → List·Permᴰ (l ++ m) (l ++ n) → List
 front-goes [] m n d h = d
 front-goes (a ∷ l) m n d h = front-goes l m n (perm-rest a d h) (Pairwise·of-cons h)
 
-rest-same : (l k m n : List Arrival) → List·Permᴰ l k → List·Permᴰ (l ++ m) (k ++ n) → List·Nodup (numbers (l ++ m)) → List·Permᴰ m n
+pub rest-same : (l k m n : List Arrival) → List·Permᴰ l k → List·Permᴰ (l ++ m) (k ++ n) → List·Nodup (numbers (l ++ m)) → List·Permᴰ m n
 rest-same l k m n d e h =
     let f : List·Permᴰ (l ++ m) (l ++ n) = List·Permᴰ·trans e (Permᴰ·append-right n (Permᴰ·symm d)) in
     front-goes l m n f (distinct-numbers f h)
