@@ -10,7 +10,12 @@ use Rattle.check_agree.proofs.Answers.{answers}
 use Rattle.engine_agree.proofs.AgreementHolds.{phones-agree, rounds-agree}
 use Rattle.engine_agree.proofs.FinalHolds.{needed}
 use Rattle.secrecy_leak.proofs.LeaklessHolds.{with-no-condition}
+use Rattle.engine_order.proofs.PhonesHold.{in-order}
+use Rattle.engine_order.proofs.ChangesHold.{in-order-changed}
+use Rattle.engine_order.proofs.RemediesHold.{remedies}
+use Rattle.engine_order.proofs.TablesSame.{same-tables}
 use Rattle.claims.specs.Claims.{Claims}
+use Rattle.claims.proofs.DeliveriesHold.{deliveries}
 use Rattle.claims.proofs.Demand1Holds.{demand-1}
 use Rattle.claims.proofs.RequestsHold.{exactly, halves-go-down, parameters, formulas, rights, circles, paper-order, rows, pooling}
 use Rattle.claims.proofs.TextsHold.{texts}
@@ -34,6 +39,11 @@ claims = record {
   halves = half-boards;
   frames = every-frame;
   frames-in-lists = frame-in-list;
+  deliveries = deliveries;
+  in-order = in-order;
+  in-order-changed = in-order-changed;
+  remedies = remedies;
+  same-tables = same-tables;
   tables = every-table;
   agreement = answers;
   phones = phones-agree;

@@ -40,7 +40,7 @@ module _ {X Y : Type 0} where
   need-table : (t : List ℕ) → (tableFits t ≡ false → X) → (tableFits t ≡ true → Y) → ((OurTable t → ⊥) × X) ⊎ (OurTable t × Y)
   need-table t = need (tableFits t) (our-table t) (table-fits t)
 
-  need-ours : (t l : List ℕ) → (ours t l ≡ false → X) → (ours t l ≡ true → Y) → ((OurRound t l → ⊥) × X) ⊎ (OurRound t l × Y)
+  pub need-ours : (t l : List ℕ) → (ours t l ≡ false → X) → (ours t l ≡ true → Y) → ((OurRound t l → ⊥) × X) ⊎ (OurRound t l × Y)
   need-ours t l = need (ours t l) (our-round t l) (round-fits t l)
 
 start-order : (t l : List ℕ) → FirstUnmet ((OurTable t, foreign) ∷ (2048 ≤ length l, foreign) ∷ []) (λ r. r ≡ 0) (startOn t l .0)

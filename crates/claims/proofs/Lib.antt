@@ -5,3 +5,4 @@ pub mod Demand1Holds
 pub mod RequestsHold
 pub mod TextsHold
 pub mod ClaimsHold
+pub mod DeliveriesHold

@@ -2,3 +2,4 @@ pub mod Demand1
 pub mod Requests
 pub mod Texts
 pub mod Claims
+pub mod Deliveries

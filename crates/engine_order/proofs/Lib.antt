@@ -3,3 +3,4 @@ pub mod PhonesHold
 pub mod TablesSame
 pub mod RemediesHold
 pub mod ChangesHold
+pub mod TakenHolds

@@ -12,15 +12,15 @@ use Rattle.spec_language.specs.Dependence.{events}
 use Rattle.spec_language.specs.Rights.{maySend}
 use Rattle.spec_language.specs.Sheet.{Sheet}
 use Rattle.spec_language.specs.Syntax.{Program}
-use Rattle.spec_model.specs.Model.{Arrival, arrival, Call, call}
-use Rattle.spec_model.specs.Claims.{longest, takenInBy, ApartIn}
+use Rattle.spec_model.specs.Model.{Arrival, arrival, Call, Turn, call}
+use Rattle.spec_model.specs.Claims.{longest, number, inQueue, engineAfter, committedIn, takenInBy, ApartIn}
 use Rattle.back_compile.specs.Verdict.{programOf}
 use Rattle.check_agree.specs.Agree.{agreeOn}
 use Rattle.run_step.specs.Machine.{stepOn}
 use Rattle.run_frame.specs.Frame.{frameOn}
-use Rattle.run_deliver.specs.Deliver.{deliverOn, takenOn}
+use Rattle.run_deliver.specs.Deliver.{deliverOn, takenSaid, takenOn}
 use Rattle.refine_calls.specs.Refinement.{Bytes, bytes, calls, bytesAfter}
-use Rattle.refine_lists.specs.Lists.{boardOf, IdleNow, freshRoundOn, Prepared, TwoRounds}
+use Rattle.refine_lists.specs.Lists.{boardOf, IdleNow, SheetTurn, Compiles, onBytes, AllMean, freshRoundOn, Prepared, TwoRounds}
 use Rattle.refine_deliver.specs.Deliveries.{TakesIn}
 
 -- ---- an order: events with the players who send them, entry 0 first
@@ -72,6 +72,15 @@ appAfter order (c ∷ cs) b = appAfter order cs (bytes (b .table) (appRound (b .
 -- "as long as `taken` says": the number that it tells
 abbrev pub takenNow : Bytes → ℕ
 takenNow b = takenOn (b .table) (b .round) % 4294967296
+
+-- on demand 3's lists, changes of sheets included, it tells the number taken in and how many are in hand, "so that
+-- commits are their difference"
+abbrev pub TakenTells : Type 0
+TakenTells =
+    (s ps t₀ l₀ : List ℕ) (x : Sheet) → Prepared s ps t₀ l₀ x → (xs : List SheetTurn) → All Compiles xs → (ts : List Turn) → AllMean xs ts
+    → (takenOn (bytesAfter (map onBytes xs) (freshRoundOn s ps t₀ l₀) .table) (bytesAfter (map onBytes xs) (freshRoundOn s ps t₀ l₀) .round)
+    ≡ takenSaid (number (engineAfter (programOf ps x) ts)) (length (inQueue (engineAfter (programOf ps x) ts))))
+    × (length (committedIn (programOf ps x) ts) + length (inQueue (engineAfter (programOf ps x) ts)) ≡ number (engineAfter (programOf ps x) ts))
 
 -- ---- one phone
 
