@@ -3,7 +3,7 @@ use Prim.Native.Nat.{ℕ, zero, suc, _+_, _*_, _≤_, _<_}
 use mathlib.Core.Bool.{Bool, true, false, not, _&&_, _||_}
 use mathlib.Core.Path.{_≡_}
 use mathlib.Core.List.{List, [], _∷_}
-use lib.ListN.{getD, set, replicate, take, drop}
+use lib.ListN.{length, getD, set, replicate, take, drop}
 use lib.Dec.{eqb, ltb, leb}
 use Rattle.lib_base.specs.Basics.{pick}
 use Rattle.lib_bits.specs.Bits.{bit}
@@ -85,6 +85,24 @@ cyclicOn d ev bs = anyBelow (ev + 1) (λ e. anyBelow bs (λ i. cell (closedOn d 
 -- none of the set reaches itself, by the rows of the first n
 pub record PlacedOn (rows : List ℕ) (n set : ℕ) : Type 0 where
   pub none-round : (i : ℕ) → i < n → bit set i ≡ true → cell (closed (bytesOf rows) n) i i ≡ false
+
+-- the lowest of the first n that is not in the set
+pub record LowestLeft (set n r : ℕ) : Type 0 where
+  pub before : (i : ℕ) → i < r → bit set i ≡ true
+  pub within : r ≤ n
+
+-- of who is not in the set the row after has what is reached from it, by the rows of the first n
+pub record LeftClosed (rows : List ℕ) (set n : ℕ) (after : List ℕ) : Type 0 where
+  pub reached : (i : ℕ) → i < n → bit set i ≡ false → bit (getD after i 0) i ≡ cell (closed (bytesOf rows) n) i i
+  pub long : length after ≡ length rows
+
+-- who is in the set does not reach itself, of another its row tells it
+unfoldable pub leftRound : ℕ → List ℕ → ℕ → Bool
+leftRound set rows b = pick (bit set b) false (bit (getD rows b 0) b)
+
+-- a set and rows that tell who reaches itself on event e
+pub record RoundOn (d : List ℕ) (e n set : ℕ) (rows : List ℕ) : Type 0 where
+  pub told : (b : ℕ) → b < n → leftRound set rows b ≡ cell (closedOn d e n) b b
 
 -- ---- what the code asks of a draft: the nodes of each entry lie among the 2,048
 

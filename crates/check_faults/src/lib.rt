@@ -1,7 +1,7 @@
 // The checks of a whole program, on its draft (layout: front_draft, specs/Draft.antt): names that no behaviour has,
 // cycles. Time: the names take one pass over the nodes. The cycles take, for each of ev events and for none, a pass
 // over the nodes of the entries for their names, and an order of bs behaviours: in all (ev + 1) * (nodes + bs * bs).
-// Who is left out of the order is searched from, bs * bs steps at the most; the last one searched from reaches itself.
+// Where one is left out of the order, what is reached from each is worked out, bs * bs steps; and one reaches itself.
 ghost use mathlib.Core.Path.{_≡_};
 ghost use Prim.Native.Nat.{ℕ, _+_, _*_, _≤_, _<_};
 ghost use mathlib.Core.Bool.{_&&_, _||_};
@@ -10,9 +10,8 @@ ghost use lib.Dec.{ltb};
 ghost use Rattle.lib_bits.specs.Bits.{bit};
 ghost use Rattle.front_draft.specs.Entry.{entryStart, entryCount};
 ghost use Rattle.front_draft.specs.Draft.{draftLength, usedBy};
-ghost use Rattle.check_graph.specs.Matrix.{cell, closed};
-ghost use Rattle.check_graph.specs.Sets.{RowsBelow, bytesOf};
-ghost use Rattle.check_faults.specs.Checks.{stray, namesKnown, nodeNames, someNodeNames, needsOn, RowsAre, PlacedOn, cyclicOn, RowsInside, AllInside};
+ghost use Rattle.check_graph.specs.Sets.{RowsBelow};
+ghost use Rattle.check_faults.specs.Checks.{stray, namesKnown, nodeNames, someNodeNames, needsOn, RowsAre, PlacedOn, LowestLeft, LeftClosed, leftRound, RoundOn, cyclicOn, RowsInside, AllInside};
 use front_draft::layout;
 use spec_language::limits;
 
@@ -108,16 +107,51 @@ fn place_all(rows: &[u64], n: usize) -> u64
     arranged.set
 }
 
-// Whether b is reached from itself (01: a circle): who is placed is not; of another, the steps back tell it.
-fn reaches_itself(rows: &[u64], placed: u64, b: usize, n: usize) -> bool
-    requires { ⌜ (length (now rows) ≡ 64) × (b < n) × (n ≤ 64) × RowsBelow (now rows) n × PlacedOn (now rows) n placed ⌝ }
-    ensures { λ r. ⌜ r ≡ cell (closed (bytesOf (now (rows .entry))) n) b b ⌝ }
+// The lowest of the first n that is not in the set; n if there is none.
+fn first_left(placed: u64, n: usize) -> usize
+    requires { ⌜ n ≤ 64 ⌝ }
+    ensures { λ r. ⌜ LowestLeft placed n r ⌝ }
+{
+    let mut i = 0;
+    while i < n {
+        if !lib_bits::contains(placed, i) {
+            return i;
+        }
+        i += 1;
+    }
+    i
+}
+
+// Where one is not placed, each takes in what is reached from it: else none is asked for it.
+fn close_left(rows: &mut [u64], placed: u64, n: usize)
+    requires { ⌜ (length (now rows) ≡ 64) × (n ≤ 64) ⌝ }
+    ensures { λ _. ⌜ LeftClosed (now (rows .entry)) placed n (now (rows .exit)) ⌝ }
+{
+    if first_left(placed, n) < n {
+        check_graph::close(rows, n);
+    }
+}
+
+// The rows on event e, of which those that are not placed have what is reached from them; and who is placed.
+fn reach_all(d: &[u64], e: usize, n: usize, rows: &mut [u64]) -> u64
+    requires { ⌜ (length (now d) ≡ draftLength) × (length (now rows) ≡ 64) × (e ≤ 32) × (n ≤ 64) × RowsInside (now d) e n ⌝ }
+    ensures { λ r. ⌜ RoundOn (now (d .entry)) e n r (now (rows .exit)) ⌝ }
+{
+    fill_rows(d, e, n, rows);
+    let placed = place_all(rows, n);
+    close_left(rows, placed, n);
+    placed
+}
+
+// Whether b is reached from itself (01: a circle): who is placed is not; of another, its row tells it.
+fn reaches_itself(rows: &[u64], placed: u64, b: usize) -> bool
+    requires { ⌜ (length (now rows) ≡ 64) × (b < 64) ⌝ }
+    ensures { λ r. ⌜ r ≡ leftRound placed (now (rows .entry)) b ⌝ }
 {
     if lib_bits::contains(placed, b) {
         return false;
     }
-    let mut levels = [0u64; check_distance::LEVELS];
-    check_distance::steps_back(rows, &mut levels, b, n) <= n
+    lib_bits::contains(rows[b], b)
 }
 
 // Whether, on one of ev events or on none, one of bs behaviours reaches itself: a search over events and behaviours,
@@ -130,11 +164,10 @@ pub fn has_cycle(d: &[u64], ev: usize, bs: usize) -> bool
     let mut found = false;
     let mut e = 0;
     'search: while e <= ev {
-        fill_rows(d, e, bs, &mut rows);
-        let placed = place_all(&rows, bs);
+        let placed = reach_all(d, e, bs, &mut rows);
         let mut b = 0;
         while b < bs {
-            if reaches_itself(&rows, placed, b, bs) {
+            if reaches_itself(&rows, placed, b) {
                 found = true;
                 break 'search;
             }

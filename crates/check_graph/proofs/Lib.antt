@@ -1,4 +1,5 @@
 pub mod Any
 pub mod Closure
 pub mod OrderIs
+pub mod Passes
 pub mod SetLaws

@@ -1,11 +1,11 @@
 // Dependence of up to 64 behaviours as sets of 64 bits, a row for each (crate lib_bits), j in rows[i]: an order in
-// which each comes after its needs. The proofs see it as a matrix of 64 x 64 bytes with its transitive closure
-// (specs/Matrix.antt), which is not computed.
+// which each comes after its needs, and the transitive closure, what is reached from each. The proofs see both as
+// matrices of 64 x 64 bytes (specs/Matrix.antt).
 ghost use mathlib.Core.Path.{_≡_};
 ghost use Prim.Native.Nat.{_+_, _*_, _≤_, _<_};
 ghost use lib.ListN.{length};
 ghost use Rattle.check_graph.specs.Placing.{findOn, placed, orderOn};
-ghost use Rattle.check_graph.specs.Sets.{readySet, RowsBelow, bytesOf, marksOf};
+ghost use Rattle.check_graph.specs.Sets.{readySet, RowsBelow, bytesOf, marksOf, TakenIn, PassedThrough, ClosedRows};
 
 // How many rows there are, and numbers in a row.
 pub const ROW: usize = spec_language::limits::BEHAVIOURS;
@@ -65,5 +65,41 @@ pub fn order_of(rows: &[u64], met: u64, n: usize, out: &mut [u8]) -> Arranged
     Arranged {
         set: set,
         count: count,
+    }
+}
+
+// What a row needs, and where it needs k what k needs.
+fn taken_in(row: u64, through: u64, k: usize) -> u64
+    requires { ⌜ k < 64 ⌝ }
+    ensures { λ r. ⌜ TakenIn row through k r ⌝ }
+{
+    if lib_bits::contains(row, k) {
+        return lib_bits::union_of(row, through);
+    }
+    row
+}
+
+// Each of the first n takes in what k needs, if it needs k.
+fn pass(rows: &mut [u64], k: usize, n: usize)
+    requires { ⌜ (length (now rows) ≡ 64) × (k < n) × (n ≤ 64) ⌝ }
+    ensures { λ _. ⌜ PassedThrough (now (rows .entry)) k n (now (rows .exit)) ⌝ }
+{
+    let through = rows[k];
+    let mut i = 0;
+    while i < n {
+        rows[i] = taken_in(rows[i], through, k);
+        i += 1;
+    }
+}
+
+// Each of the first n takes in what is reached from it: through each of them in turn (Warshall). Time: n * n.
+pub fn close(rows: &mut [u64], n: usize)
+    requires { ⌜ (length (now rows) ≡ 64) × (n ≤ 64) ⌝ }
+    ensures { λ _. ⌜ ClosedRows (now (rows .entry)) n (now (rows .exit)) ⌝ }
+{
+    let mut k = 0;
+    while k < n {
+        pass(rows, k, n);
+        k += 1;
     }
 }

@@ -12,8 +12,6 @@ use Rattle.check_graph.specs.Any.{anyBelow}
 use Rattle.check_graph.specs.Matrix.{cell}
 use Rattle.check_graph.proofs.Any.{any-none, any-some}
 use Rattle.check_faults.specs.Checks.{closedOn, cyclicOn}
-use Rattle.check_faults.proofs.RowLaws.{rows-past}
-use Rattle.check_faults.proofs.Left.{rows-closed}
 use Rattle.check_faults.proofs.has_cycle.Statement.{statement}
 use Rattle.check_faults.proofs.has_cycle.Tie as tie
 
@@ -70,44 +68,32 @@ Inv-search d ev bs rows₀ found₀ e₀ rows found e = Passed d ev bs e found r
 abbrev μ-search : tie.MeasureT-search
 μ-search d ev bs rows₀ found₀ e₀ rows found e = ev + 1 - e
 
-fill-rows-requires : tie.Need-fill-rows-requires Inv-loop μ-loop Inv-search μ-search
-fill-rows-requires c κs =
+reach-all-requires : tie.Need-reach-all-requires Inv-loop μ-loop Inv-search μ-search
+reach-all-requires c κs =
     let p = c .before .before .before .before .pre in
     (p .0, c .before .before .search .inv .long, omega arith, p .2, p .3 (c .before .before .search .e) (omega arith))
 
-place-all-requires : tie.Need-place-all-requires Inv-loop μ-loop Inv-search μ-search
-place-all-requires c κs =
-    let f = c .before .before in
-    (f .fill-rows .kept .1 .1 .1 .0 ∙ f .before .before .before .search .inv .long, f .before .before .before .before .before .pre .2, record { none-past = rows-past (f .fill-rows .ensures) })
-
 reaches-itself-requires : tie.Need-reaches-itself-requires Inv-loop μ-loop Inv-search μ-search
 reaches-itself-requires c κs =
-    let f = c .before .before .before .before .before .before in (
-      f .fill-rows .kept .1 .1 .1 .0 ∙ f .before .before .before .search .inv .long,
-      c .before .loop-test .taken,
-      f .before .before .before .before .before .pre .2,
-      record { none-past = rows-past (f .fill-rows .ensures) },
-      c .before .before .before .place-all .ensures,
-    )
+    let f = c .before .before .before .before in
+    (f .reach-all .kept .1 .1 .1 .0 ∙ f .before .before .before .search .inv .long, omega arith)
 
--- what is told of the rows holds of the event
+-- what is told by set and rows holds of the event
 loop-again : tie.Need-loop-again Inv-loop μ-loop Inv-search μ-search
 loop-again c =
-    let f = c .before .before .before .before .before .before .before .before in
-    let p = f .before .before .before .before .before .pre in
-    let e = rows-closed _ (p .0) _ _ (p .2) (p .3 (f .before .before .before .search .e) (omega arith)) (f .fill-rows .ensures) _ (c .before .before .before .loop-test .taken) in
+    let h = c .before .before .before .loop-test .taken in
+    let e = c .before .before .before .before .before .before .reach-all .ensures .told _ h in
     turn (c .before .before .before .before .loop .inv) (omega arith) (sym e ∙ sym (c .before .reaches-itself .ensures) ∙ c .if1 .left)
 
 search-again : tie.Need-search-again Inv-loop μ-loop Inv-search μ-search
-search-again c = pass (c .before .before .before .before .before .before .before .before .search .inv) (omega arith) (c .before .loop .inv) (omega arith) (c .before .before .before .before .before .fill-rows .kept .1 .1 .1 .0)
+search-again c = pass (c .before .before .before .before .before .before .search .inv) (omega arith) (c .before .loop .inv) (omega arith) (c .before .before .before .reach-all .kept .1 .1 .1 .0)
 
 -- left where one reaches itself
 returns-2 : tie.Need-returns-2 Inv-loop μ-loop Inv-search μ-search
 returns-2 c =
-    let f = c .before .before .before .before .before .before .before .before in
-    let p = f .before .before .before .before .before .pre in
-    let e = rows-closed _ (p .0) _ _ (p .2) (p .3 (f .before .before .before .search .e) (omega arith)) (f .fill-rows .ensures) _ (c .before .before .before .loop-test .taken) in
-    stop _ _ _ (f .before .before .before .search .e) _ (omega arith) (c .before .before .before .loop-test .taken) (sym e ∙ sym (c .before .reaches-itself .ensures) ∙ c .if1 .taken)
+    let f = c .before .before .before .before .before .before in
+    let h = c .before .before .before .loop-test .taken in
+    stop _ _ _ (f .before .before .before .search .e) _ (omega arith) h (sym (f .reach-all .ensures .told _ h) ∙ sym (c .before .reaches-itself .ensures) ∙ c .if1 .taken)
 
 pub has-cycle-spec : {M : Type 1} → statement M
 has-cycle-spec =
@@ -119,10 +105,8 @@ has-cycle-spec =
     μ-search
     (λ c. start _ _ _ _ refl)
     (λ c. search needs)
-    fill-rows-requires
-    (λ c. search needs)
-    place-all-requires
-    (λ c. try _ _ _ (c .before .before .before .before .before .before .search .inv .not-yet))
+    reach-all-requires
+    (λ c. try _ _ _ (c .before .before .before .before .search .inv .not-yet))
     (λ c. search needs)
     reaches-itself-requires
     (λ c. omega arith)
