@@ -20,7 +20,7 @@ const UNLIKE_RANKS: u64 = refusals::UNLIKE_RANKS as u64;
 const SHORT_JOIN: u64 = refusals::SHORT_JOIN as u64;
 
 // The bytes at the start of the buffer, where it has room for them.
-fn deliver(v: &[u8], buffer: &mut [u8]) -> u64
+fn put_result(v: &[u8], buffer: &mut [u8]) -> u64
     requires { ⌜ length (now v) ≤ 16544 ⌝ }
     ensures { λ r. ⌜ joined r (now (buffer .exit)) ≡ deliveredIn (now (v .entry)) (now (buffer .entry)) ⌝ }
 {
@@ -40,7 +40,7 @@ fn result_at(v: &[u8], params: &[u8], buffer: &mut [u8]) -> u64
     if n != 0 {
         return n as u64;
     }
-    deliver(v, buffer)
+    put_result(v, buffer)
 }
 
 // Two sheets that compile takes.

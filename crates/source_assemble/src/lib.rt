@@ -70,7 +70,7 @@ fn fault_told(text: &[u8], w: u64) -> u64
 }
 
 // The sheet's n bytes to the buffer, unless they are too many for a sheet or for the buffer.
-fn deliver(text: &[u8], n: usize, out: &[u8], buffer: &mut [u8]) -> u64
+fn put_result(text: &[u8], n: usize, out: &[u8], buffer: &mut [u8]) -> u64
     requires { ⌜ length (now text) ≤ 65536 ⌝ }
     requires { ⌜ length (now out) ≡ 8192 ⌝ }
     ensures { λ r. ⌜ answered r (now (buffer .exit)) ≡ sheetAnswer (now (text .entry)) n (now (out .entry)) (now (buffer .entry)) ⌝ }
@@ -122,7 +122,7 @@ fn with_names(
             if w != 0 {
                 return fault_told(text, w);
             }
-            deliver(text, end, &out, buffer)
+            put_result(text, end, &out, buffer)
         }
     }
 }

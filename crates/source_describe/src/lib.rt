@@ -394,7 +394,7 @@ const ACCEPTED: u64 = 4294967296;
 
 // The text of an accepted sheet at the buffer's start, if there is room for it. It is counted first where the buffer
 // has not room for every text.
-fn deliver(sheet: &[u8], buffer: &mut [u8]) -> u64
+fn put_result(sheet: &[u8], buffer: &mut [u8]) -> u64
     requires { ⌜ numberOn (now sheet) (replicate 32 0) ≡ 0 ⌝ }
     ensures { λ r. ⌜ answered r (now (buffer .exit)) ≡ describeOn (now (sheet .entry)) (now (buffer .entry)) ⌝ }
 {
@@ -426,5 +426,5 @@ pub fn describe_at(sheet: &[u8], buffer: &mut [u8]) -> u64
     if number != 0 {
         return number as u64;
     }
-    deliver(sheet, buffer)
+    put_result(sheet, buffer)
 }

@@ -80,7 +80,7 @@ fn balanced(ts: &[u64]) -> bool
 }
 
 // The field of a formula that was read, unless a number is too large, the nesting too deep or the buffer too short.
-fn deliver(large: bool, depth: usize, field: &[u8], buffer: &mut [u8]) -> u64
+fn put_result(large: bool, depth: usize, field: &[u8], buffer: &mut [u8]) -> u64
     requires { ⌜ length (now field) ≤ 7168 ⌝ }
     ensures { λ r. ⌜ answered r (now (buffer .exit)) ≡ delivered large depth (now (field .entry)) (now (buffer .entry)) ⌝ }
 {
@@ -113,7 +113,7 @@ fn from_tokens(ts: &[u64], buffer: &mut [u8]) -> u64
     if at != ts.len() {
         return NO_FORMULA;
     }
-    deliver(any_large(ts), depth, &out[0..end], buffer)
+    put_result(any_large(ts), depth, &out[0..end], buffer)
 }
 
 // The formula's field at the start of the buffer: 2 ^ 32 and its length; or 21, 22, 9, 23.

@@ -16,22 +16,22 @@ returns c =
     not-taken (at-entry .args .v .now) (at-entry .args .params .now) (at-entry .args .buffer .now) _
     (c .before .number-at .ensures) (c .if1 .taken)
 
-deliver-requires : tie.Need-deliver-requires
-deliver-requires c κs = search needs
+put-result-requires : tie.Need-put-result-requires
+put-result-requires c κs = search needs
 
 same-length : tie.Need-same-length
 same-length c = search needs
 
 returns-2 : tie.Need-returns-2
 returns-2 c =
-    let at-deliver = c .before .before in
-    let at-if1 = at-deliver .before .before in
+    let at-put-result = c .before .before in
+    let at-if1 = at-put-result .before .before in
     let at-number = at-if1 .before in
     let at-entry = at-number .before .before .before .before in
     is-taken (at-entry .args .v .now) (at-entry .args .params .now) (at-entry .args .buffer .now) _
-    (at-number .number-at .ensures) (at-if1 .if1 .left) _ (at-deliver .deliver .ensures)
+    (at-number .number-at .ensures) (at-if1 .if1 .left) _ (at-put-result .put-result .ensures)
 
 pub result-at-spec : {M : Type 1} → statement M
 result-at-spec =
     tie.close
-    (tie.spec number-at-requires cast-result returns deliver-requires same-length returns-2)
+    (tie.spec number-at-requires cast-result returns put-result-requires same-length returns-2)

@@ -50,11 +50,11 @@ returns c =
     (at-entry .args .firsts .now) _ _ _ _ _ _ _ _ (at-entry .pre .1 .1) (rw (at-r .r2 .given .1) at (at-read .read-at .ensures .0)) (c .before .if1 .taken) in
     rw (c .fault-told2 .ensures) (found .1)
 
-slice-aggregate-deliver : tie.Need-slice-aggregate-deliver
-slice-aggregate-deliver c = search needs
+slice-aggregate-put-result : tie.Need-slice-aggregate-put-result
+slice-aggregate-put-result c = search needs
 
-deliver-requires : tie.Need-deliver-requires
-deliver-requires c κs = search needs
+put-result-requires : tie.Need-put-result-requires
+put-result-requires c κs = search needs
 
 returns-2 : tie.Need-returns-2
 returns-2 c =
@@ -69,12 +69,12 @@ same-length c = search needs
 
 returns-3 : tie.Need-returns-3
 returns-3 c =
-    let at-deliver = c .before .before in
-    let at-if1 = at-deliver .before .before .before in
+    let at-put-result = c .before .before in
+    let at-if1 = at-put-result .before .before .before in
     let at-r = at-if1 .before .before in
     let at-read = at-r .before .before .before .before .before in
     let at-entry = at-read .before .before .before .before .before .before .before .before in
-    at-deliver .deliver .ensures
+    at-put-result .put-result .ensures
     ∙ sheet-written (at-entry .args .text .now) (at-entry .args .buffer .now) (at-entry .pre .0) (at-entry .args .places .now) (at-entry .args .params)
     (at-entry .args .firsts .now) _ _ _ _ _ _ _ _ (at-entry .pre .1 .1) (rw (at-r .r2 .given .1) at (at-read .read-at .ensures .0)) refl (at-if1 .if1 .left)
 
@@ -82,5 +82,5 @@ pub with-names-spec : {M : Type 1} → statement M
 with-names-spec =
     tie.close
     (tie.spec slice-aggregate-read-at slice-aggregate-read-at-2 slice-aggregate-read-at-3 read-at-requires enum-known-r
-    fault-told-requires enum-known-r-2 fault-told-requires-2 returns slice-aggregate-deliver deliver-requires returns-2
+    fault-told-requires enum-known-r-2 fault-told-requires-2 returns slice-aggregate-put-result put-result-requires returns-2
     same-length returns-3)

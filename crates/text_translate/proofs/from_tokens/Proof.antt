@@ -46,22 +46,22 @@ returns-3 c =
 any-large-requires : tie.Need-any-large-requires
 any-large-requires c κs = search needs
 
-sub-deliver : tie.Need-sub-deliver
-sub-deliver c = search needs
+sub-put-result : tie.Need-sub-put-result
+sub-put-result c = search needs
 
-part-deliver-start : tie.Need-part-deliver-start
-part-deliver-start c = search needs
+part-put-result-start : tie.Need-part-put-result-start
+part-put-result-start c = search needs
 
-part-deliver-end : tie.Need-part-deliver-end
-part-deliver-end c =
+part-put-result-end : tie.Need-part-put-result-end
+part-put-result-end c =
     let at-r = c .before .before .before .before in
     let at-disjunction = at-r .before .before in
     let at-entry = at-disjunction .before .before .before .before .before .before in
     let w = rw (at-r .r .given .1) at (at-disjunction .disjunction .ensures .1 .0) in
     omega (arith, at-disjunction .disjunction .ensures .1 .1, at-entry .pre)
 
-deliver-requires : tie.Need-deliver-requires
-deliver-requires c κs =
+put-result-requires : tie.Need-put-result-requires
+put-result-requires c κs =
     let at-r = c .before .before .before .before .before .before in
     let at-disjunction = at-r .before .before in
     let at-entry = at-disjunction .before .before .before .before .before .before in
@@ -73,8 +73,8 @@ same-length c = search needs
 
 returns-4 : tie.Need-returns-4
 returns-4 c =
-    let at-deliver = c .before .before in
-    let at-any-large = at-deliver .before .before .before .before in
+    let at-put-result = c .before .before in
+    let at-any-large = at-put-result .before .before .before .before in
     let at-if2 = at-any-large .before in
     let at-r = at-if2 .before .before in
     let at-disjunction = at-r .before .before in
@@ -82,10 +82,10 @@ returns-4 c =
     read-whole (at-entry .args .ts .now) _ (at-disjunction .disjunction .last .1 .1 .0) (at-entry .args .buffer .now)
     (at-disjunction .disjunction .result) (at-disjunction .disjunction .ensures .0) _ _ _
     (at-any-large .any-large .result) _ (at-r .r .given .1) (at-if2 .if2 .left) (at-any-large .any-large .ensures)
-    (at-deliver .deliver .ensures)
+    (at-put-result .put-result .ensures)
 
 pub from-tokens-spec : {M : Type 1} → statement M
 from-tokens-spec =
     tie.close
     (tie.spec balanced-requires returns disjunction-requires enum-known-r enum-told returns-2 returns-3
-    any-large-requires sub-deliver part-deliver-start part-deliver-end deliver-requires same-length returns-4)
+    any-large-requires sub-put-result part-put-result-start part-put-result-end put-result-requires same-length returns-4)

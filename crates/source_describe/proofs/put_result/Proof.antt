@@ -5,8 +5,8 @@ use native.Mathlib.Omega.{arith}
 use borrow.Author.Needs.{needs}
 use Rattle.back_compile.proofs.ReadIs.{all-bytes}
 use Rattle.source_describe.proofs.Texts.{describe-short, describe-done, describe-whole}
-use Rattle.source_describe.proofs.deliver.Statement.{statement}
-use Rattle.source_describe.proofs.deliver.Tie as tie
+use Rattle.source_describe.proofs.put_result.Statement.{statement}
+use Rattle.source_describe.proofs.put_result.Tie as tie
 
 returns : tie.Need-returns
 returns c =
@@ -40,8 +40,8 @@ returns-3 c =
     describe-done sheet (all-bytes sheet (λ i h. omega (arith, at-known .shared-slice-known .given i))) refl (at-entry .pre)
     (at-entry .args .buffer .now) (at-put-text2 .put-text2 .ensures) (at-if2 .if2 .left) (at-put-text3 .put-text3 .ensures)
 
-pub deliver-spec : {M : Type 1} → statement M
-deliver-spec =
+pub put-result-spec : {M : Type 1} → statement M
+put-result-spec =
     tie.close
     (tie.spec
     (λ c κs. search needs)

@@ -3,12 +3,12 @@ use borrow.Author.Needs.{needs}
 use Rattle.lib_base.proofs.Pick.{code}
 use Rattle.link_join.specs.Join.{deliveredIn}
 use Rattle.link_join.proofs.JoinLaws.{copied}
-use Rattle.link_join.proofs.deliver.Statement.{statement}
-use Rattle.link_join.proofs.deliver.Tie as tie
+use Rattle.link_join.proofs.put_result.Statement.{statement}
+use Rattle.link_join.proofs.put_result.Tie as tie
 
-pub deliver-spec : {M : Type 1} → statement M
+pub put-result-spec : {M : Type 1} → statement M
 unfolding deliveredIn
-deliver-spec =
+put-result-spec =
     tie.close
     (tie.spec
     (λ c. search code depth 12)

@@ -3,8 +3,8 @@ use native.Mathlib.Omega.{arith}
 use borrow.Author.Needs.{needs}
 use Rattle.lib_base.proofs.Pick.{code}
 use Rattle.source_assemble.proofs.Answers.{copied}
-use Rattle.source_assemble.proofs.deliver.Statement.{statement}
-use Rattle.source_assemble.proofs.deliver.Tie as tie
+use Rattle.source_assemble.proofs.put_result.Statement.{statement}
+use Rattle.source_assemble.proofs.put_result.Tie as tie
 
 mul-fault-told : tie.Need-mul-fault-told
 mul-fault-told c = search needs
@@ -57,8 +57,8 @@ returns-3 c =
     copied (at-entry .args .text .now) (at-entry .args .buffer .now) (at-entry .args .out .now) (at-copy .copy .last .1 .0)
     (at-entry .args .n) (at-if1 .if1 .left) (at-if2 .if2 .left) (at-entry .pre .1) (at-copy .copy .ensures .1)
 
-pub deliver-spec : {M : Type 1} → statement M
-deliver-spec =
+pub put-result-spec : {M : Type 1} → statement M
+put-result-spec =
     tie.close
     (tie.spec mul-fault-told add-fault-told fault-told-requires returns mul-fault-told-2 add-fault-told-2
     fault-told-requires-2 returns-2 sub-copy part-copy-start part-copy-end copy-requires add-result same-length returns-3)

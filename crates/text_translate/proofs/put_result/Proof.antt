@@ -3,8 +3,8 @@ use Rattle.text_translate.proofs.Laws.{copied}
 use Rattle.text_translate.specs.Translate.{delivered}
 use Rattle.lib_base.proofs.Pick.{code}
 use borrow.Author.Needs.{needs}
-use Rattle.text_translate.proofs.deliver.Statement.{statement}
-use Rattle.text_translate.proofs.deliver.Tie as tie
+use Rattle.text_translate.proofs.put_result.Statement.{statement}
+use Rattle.text_translate.proofs.put_result.Tie as tie
 
 returns : tie.Need-returns
 unfolding delivered
@@ -39,7 +39,7 @@ returns-4 c =
     (at-copy .copy .last .1 .0) (at-if1 .if1 .left) (at-if2 .if2 .left) (at-if3 .if3 .left)
     (at-copy .copy .ensures .1)
 
-pub deliver-spec : {M : Type 1} → statement M
-deliver-spec =
+pub put-result-spec : {M : Type 1} → statement M
+put-result-spec =
     tie.close
     (tie.spec returns returns-2 returns-3 copy-requires add-result same-length returns-4)
