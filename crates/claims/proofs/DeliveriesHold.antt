@@ -1,4 +1,5 @@
--- Deliveries hold: the order is that of the definition's branches, test by test; the rest are theorems of refine_deliver.
+-- Deliveries hold: the order is that of the definition's branches, test by test; the rest are theorems of crates
+-- refine_deliver and engine_order.
 use Prim.Native.Nat.{ℕ, _+_, _*_, _-_, _≤_, _<_}
 use mathlib.Core.Bool.{true, false}
 use mathlib.Core.Path.{_≡_, refl, sym, ap, _∙_}

@@ -2,7 +2,8 @@
 -- Demand 2's first sentence and demand 3 with M-100, M-101, M-104, M-112 and M-113, which are of its lists, are the
 -- parts of `OneList`, one by one (refine_lists, Lists.antt). All of it is about the functions that the contracts of the
 -- exported calls cite: `compileOn`, `startOn`, `arriveOn`, `stepOn`, `boardOn`, `forecastOn`, `previewOn`, `mendOn`,
--- `formulaOn`, `joinOn`, `toldOn`, `frameOn`, `deliverOn`, `takenOn`. proofs/ClaimsHold.antt has the one theorem that proves it.
+-- `formulaOn`, `joinOn`, `toldOn`, `frameOn`, `deliverOn`, `takenOn`. proofs/ClaimsHold.antt has the one theorem that
+-- proves it.
 use Rattle.lib_base.specs.Basics.{All}
 use Rattle.spec_semantics.specs.Rounds.{Holds, rounds}
 use Rattle.engine.specs.Demand.{WholeDemand}
@@ -15,8 +16,8 @@ use Rattle.check_agree.specs.Claims.{AgreeAnswers as Agreement}
 use Rattle.engine_agree.specs.Agreement.{PhonesAgree, RoundsAgree}
 use Rattle.engine_agree.specs.Final.{Needed}
 use Rattle.secrecy_leak.specs.Leakless.{WithNoCondition as NoLeak}
-use Rattle.engine_order.specs.Orders.{InOrder}
-use Rattle.engine_order.specs.Changes.{InOrderChanged}
+use Rattle.engine_order.specs.Orders.{SharedOrder}
+use Rattle.engine_order.specs.Changes.{SharedOrderChanged}
 use Rattle.engine_order.specs.Remedies.{Remedies}
 use Rattle.engine_order.specs.SameTables.{SameTables}
 use Rattle.claims.specs.Deliveries.{Deliveries}
@@ -64,10 +65,10 @@ pub record Claims : Type 0 where
   -- a delivery: its refusals in their order; it is the steps that it makes and its arrival, and on demand 3's lists it
   -- takes the next entry in; what `taken` tells
   pub deliveries : Deliveries
-  -- phones that share an order: what is taken in is a beginning of it, and where `agree` is 0 boards are equal when both
-  -- are idle with the same number taken in; with changes of sheets too, each on an idle round at the same number
-  pub in-order : InOrder
-  pub in-order-changed : InOrderChanged
+  -- phones that share an order: what is taken in is a beginning of it, and where `agree` is 0 boards are equal when
+  -- both are idle with the same number taken in; with changes of sheets too, each on an idle round at the same number
+  pub in-order : SharedOrder
+  pub in-order-changed : SharedOrderChanged
   -- what a host can do whatever `agree` says: equal commits give equal boards, and one by one commits go as handed in
   pub remedies : Remedies
   -- a table's bytes depend on sheet and parameters alone

@@ -13,7 +13,7 @@ use Rattle.spec_model.proofs.Moves.{Effect, nothing, took, commit, effect}
 use Rattle.spec_model.proofs.Calls.{gathered, counted, taken-gathered}
 use Rattle.spec_model.proofs.History.{takeTurn, countTurn, number-turn}
 use Rattle.refine_frames.specs.Frames.{stepCalls}
-use Rattle.engine_order.specs.Orders.{Order, eventIn, playerIn, entriesFrom, firstOf}
+use Rattle.engine_order.specs.Orders.{EventOrder, entryEvent, entryPlayer, entriesFrom, firstEntries}
 
 -- ---- one turn, and rows
 
@@ -83,39 +83,39 @@ board-takes-none i who carriedOver n = refl
 -- ---- a beginning of an order
 
 -- from s on the turns take in what comes next in the order: n of it are taken in before them
-pub record Onward (order : Order) (s : State) (ts : List Turn) : Type 0 where
-  pub taken : firstOf (numberIn s) order ++ takenBy ts s ≡ firstOf (numberIn (runTurns ts s)) order
+pub record Onward (order : EventOrder) (s : State) (ts : List Turn) : Type 0 where
+  pub taken : firstEntries (numberIn s) order ++ takenBy ts s ≡ firstEntries (numberIn (runTurns ts s)) order
   pub within : numberIn (runTurns ts s) ≤ length order
 
-pub takes-none : (order : Order) (s : State) (ts : List Turn) → takenBy ts s ≡ [] → numberIn s ≤ length order → Onward order s ts
+pub takes-none : (order : EventOrder) (s : State) (ts : List Turn) → takenBy ts s ≡ [] → numberIn s ≤ length order → Onward order s ts
 takes-none order s ts e h =
     let n : numberIn (runTurns ts s) ≡ numberIn s = row-grows ts s ∙ rw e (omega arith) in
     record {
-      taken = rw (e, n) (append-nil (firstOf (numberIn s) order));
+      taken = rw (e, n) (append-nil (firstEntries (numberIn s) order));
       within = rw n h;
     }
 
-entries-append : (n : ℕ) (a b : Order) → entriesFrom n (a ++ b) ≡ entriesFrom n a ++ entriesFrom (n + length a) b
+entries-append : (n : ℕ) (a b : EventOrder) → entriesFrom n (a ++ b) ≡ entriesFrom n a ++ entriesFrom (n + length a) b
 unfolding entriesFrom
 entries-append n [] b = let z : n + 0 ≡ n = omega arith in rw z
 entries-append n (x ∷ a) b =
     let z : suc n + length a ≡ n + suc (length a) = omega arith in
     ap (λ (l : List Arrival). arrival n (x .0) (x .1) ∷ l) (entries-append (suc n) a b ∙ ap (λ (k : ℕ). entriesFrom (suc n) a ++ entriesFrom k b) z)
 
-length-taken : (k : ℕ) (l : Order) → k ≤ length l → length (take k l) ≡ k
+length-taken : (k : ℕ) (l : EventOrder) → k ≤ length l → length (take k l) ≡ k
 length-taken zero l h = refl
 length-taken (suc k) [] h = absurd (omega arith)
 length-taken (suc k) (x ∷ l) h = ap suc (length-taken k l (omega arith))
 
-one-more : (n : ℕ) (order : Order) → n < length order → firstOf (suc n) order ≡ firstOf n order ++ (arrival n (eventIn order n) (playerIn order n) ∷ [])
+one-more : (n : ℕ) (order : EventOrder) → n < length order → firstEntries (suc n) order ≡ firstEntries n order ++ (arrival n (entryEvent order n) (entryPlayer order n) ∷ [])
 unfolding entriesFrom
 one-more n order h =
     let z : 0 + length (take n order) ≡ n = omega (arith, length-taken n order (omega arith)) in
     ap (entriesFrom 0) (take-suc order n (0, 0) h) ∙ entries-append 0 (take n order) (getD order n (0, 0) ∷ [])
-    ∙ ap (λ (k : ℕ). firstOf n order ++ entriesFrom k (getD order n (0, 0) ∷ [])) z
+    ∙ ap (λ (k : ℕ). firstEntries n order ++ entriesFrom k (getD order n (0, 0) ∷ [])) z
 
-pub takes-next : (order : Order) (s : State) (ts : List Turn) (n : ℕ) → n < length order → numberIn s ≡ n
-    → takenBy ts s ≡ arrival n (eventIn order n) (playerIn order n) ∷ [] → Onward order s ts
+pub takes-next : (order : EventOrder) (s : State) (ts : List Turn) (n : ℕ) → n < length order → numberIn s ≡ n
+    → takenBy ts s ≡ arrival n (entryEvent order n) (entryPlayer order n) ∷ [] → Onward order s ts
 takes-next order s ts n h at e =
     let z : numberIn (runTurns ts s) ≡ suc n = row-grows ts s ∙ rw (e, at) (omega arith) in
     record {
@@ -123,10 +123,10 @@ takes-next order s ts n h at e =
       within = rw z h;
     }
 
-pub onward-rows : (order : Order) (s : State) (ts us : List Turn) → runTurns (ts ++ us) s ≡ runTurns us (runTurns ts s)
+pub onward-rows : (order : EventOrder) (s : State) (ts us : List Turn) → runTurns (ts ++ us) s ≡ runTurns us (runTurns ts s)
     → Onward order s ts → Onward order (runTurns ts s) us → Onward order s (ts ++ us)
 onward-rows order s ts us same a b = record {
-  taken = rw (same, rows-take ts us s) (sym (append-assoc (firstOf (numberIn s) order) (takenBy ts s) (takenBy us (runTurns ts s)))
+  taken = rw (same, rows-take ts us s) (sym (append-assoc (firstEntries (numberIn s) order) (takenBy ts s) (takenBy us (runTurns ts s)))
       ∙ ap (λ (l : List Arrival). l ++ takenBy us (runTurns ts s)) (a .taken) ∙ b .taken);
   within = rw same (b .within);
 }

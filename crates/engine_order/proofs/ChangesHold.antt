@@ -50,8 +50,8 @@ use Rattle.refine_deliver.proofs.DeliveriesHold.{allowed, refusal-small}
 use Rattle.refine_deliver.proofs.Takes.{stand-takes}
 use Rattle.engine_agree.specs.Agreement.{AgreesToo}
 use Rattle.engine_agree.proofs.AgreementHolds.{rounds-agree}
-use Rattle.engine_order.specs.Orders.{Order, eventIn, playerIn, entriesFrom, firstOf, AppCall, Offered, appRound, takenNow}
-use Rattle.engine_order.specs.Changes.{SheetChange, Acceptable, AppTurn, asks, alters, appTurn, turnsAfter, Planned, AllMade, ChangedPhone, outcomeOf, boardShown, ChangedAlike, InOrderChanged}
+use Rattle.engine_order.specs.Orders.{EventOrder, entryEvent, entryPlayer, entriesFrom, firstEntries, AppCall, Offered, appRound, takenNow}
+use Rattle.engine_order.specs.Changes.{SheetChange, Acceptable, AppTurn, asks, alters, appTurn, turnsAfter, ByPlan, ChangesMade, ChangedPhone, outcomeOf, boardShown, ChangedAlike, SharedOrderChanged}
 use Rattle.engine_order.proofs.Blocks.{takenBy, rows-take, Onward, takes-none}
 use Rattle.engine_order.proofs.PhonesHold.{map-append, calls-leave, calls-stand, appCalls, app-round, app-onward, tells}
 
@@ -62,22 +62,22 @@ programIn c = programOf (c .params) (c .sheet)
 
 -- `done` being committed before it, a course makes the changes of the plan, each where what is committed is what the
 -- order has up to its place
-abbrev Follows : Order → List Arrival → List SheetChange → Course → Type 0
+abbrev Follows : EventOrder → List Arrival → List SheetChange → Course → Type 0
 Follows order done [] (last l) = Unit {0}
 Follows order done [] (thenChange l q c) = ⊥
 Follows order done (x ∷ plan) (last l) = ⊥
-Follows order done (x ∷ plan) (thenChange l q c) = (q ≡ programIn x) × List·Permᴰ (firstOf (x .at) order) (done ++ l) × Follows order (done ++ l) plan c
+Follows order done (x ∷ plan) (thenChange l q c) = (q ≡ programIn x) × List·Permᴰ (firstEntries (x .at) order) (done ++ l) × Follows order (done ++ l) plan c
 
-follows-onward : (order : Order) (a : Arrival) (done : List Arrival) (plan : List SheetChange) (c : Course) → Follows order (done ++ (a ∷ [])) plan c
+follows-onward : (order : EventOrder) (a : Arrival) (done : List Arrival) (plan : List SheetChange) (c : Course) → Follows order (done ++ (a ∷ [])) plan c
     → Follows order done plan (onward a c)
 follows-onward order a done [] (last l) f = tt
 follows-onward order a done [] (thenChange l q c) f = absurd f
 follows-onward order a done (x ∷ plan) (last l) f = absurd f
 follows-onward order a done (x ∷ plan) (thenChange l q c) f =
     let e : (done ++ (a ∷ [])) ++ l ≡ done ++ (a ∷ l) = append-assoc done (a ∷ []) l in
-    (f .0, subst (List·Permᴰ (firstOf (x .at) order)) e (f .1), subst (λ (d : List Arrival). Follows order d plan c) e (f .2))
+    (f .0, subst (List·Permᴰ (firstEntries (x .at) order)) e (f .1), subst (λ (d : List Arrival). Follows order d plan c) e (f .2))
 
-follows-commits : (order : Order) (l done : List Arrival) (plan : List SheetChange) (h : List Moment) → Follows order (done ++ l) plan (courseOf h)
+follows-commits : (order : EventOrder) (l done : List Arrival) (plan : List SheetChange) (h : List Moment) → Follows order (done ++ l) plan (courseOf h)
     → Follows order done plan (courseOf (map commits l ++ h))
 unfolding courseOf
 follows-commits order [] done plan h f = subst (λ (d : List Arrival). Follows order d plan (courseOf h)) (append-nil done) f
@@ -87,13 +87,13 @@ follows-commits order (a ∷ l) done plan h f =
 
 -- ---- numbers of an order's entries are distinct
 
-entries-above : (n : ℕ) (order : Order) → All (λ a. n ≤ a .number) (entriesFrom n order)
+entries-above : (n : ℕ) (order : EventOrder) → All (λ a. n ≤ a .number) (entriesFrom n order)
 unfolding entriesFrom
 entries-above n [] = tt
 entries-above n (x ∷ order) =
     (omega arith, all-imp (λ a. suc n ≤ a .number) (λ a. n ≤ a .number) (λ a h. omega arith) (entriesFrom (suc n) order) (entries-above (suc n) order))
 
-entries-distinct : (n : ℕ) (order : Order) → List·Nodup (numbers (entriesFrom n order))
+entries-distinct : (n : ℕ) (order : EventOrder) → List·Nodup (numbers (entriesFrom n order))
 unfolding entriesFrom
 entries-distinct n [] = Pairwise·nil
 entries-distinct n (x ∷ order) =
@@ -102,7 +102,7 @@ entries-distinct n (x ∷ order) =
     (entries-distinct (suc n) order)
 
 -- two that follow one plan have the same changes after the same commits
-same-follow : (order : Order) (plan : List SheetChange) (d e : List Arrival) (c k : Course) → List·Permᴰ d e → Follows order d plan c → Follows order e plan k → SameChanges c k
+same-follow : (order : EventOrder) (plan : List SheetChange) (d e : List Arrival) (c k : Course) → List·Permᴰ d e → Follows order d plan c → Follows order e plan k → SameChanges c k
 same-follow order [] d e (last l) (last m) p f g = tt
 same-follow order [] d e (last l) (thenChange m r k) p f g = absurd g
 same-follow order [] d e (thenChange l q c) k p f g = absurd f
@@ -195,12 +195,12 @@ calls-force cs s = in-force-calls cs s
 
 -- ---- from the turns `past` on
 
-module _ (p : Program) (v : Valid p) (l₀ : List ℕ) (order : Order) (short : length order ≤ 1000000) where
+module _ (p : Program) (v : Valid p) (l₀ : List ℕ) (order : EventOrder) (short : length order ≤ 1000000) where
   -- what the past has come to
   record Past (past : List Turn) (b : Bytes) (s : State) : Type 0 where
     here : after p past ≡ s
     sound : All Sound past
-    begun-with : takenInBy p past ≡ firstOf (numberIn s) order
+    begun-with : takenInBy p past ≡ firstEntries (numberIn s) order
     within : numberIn s ≤ length order
     stand : Stand l₀ b s
 
@@ -211,7 +211,7 @@ module _ (p : Program) (v : Valid p) (l₀ : List ℕ) (order : Order) (short : 
     means : List Turn
     mean : AllMean list means
     leaves : turnsAfter order xs b ≡ bytesAfter (map onBytes list) b
-    made : AllMade order xs b
+    made : ChangesMade order xs b
     force : inForce (runTurns means s) ≡ lastIn (inForce s) plan
     follows : Follows order (arrivalsCommitted (historyOf p past)) plan (courseOf (moments means (replies means s)))
     at-last : Past (past ++ means) (turnsAfter order xs b) (runTurns means s)
@@ -238,7 +238,7 @@ module _ (p : Program) (v : Valid p) (l₀ : List ℕ) (order : Order) (short : 
     here = runs-append past ts (begun p) ∙ ap (runTurns ts) (h .here);
     sound = all-join Sound past ts (h .sound) g;
     begun-with = rows-take past ts (begun p) ∙ ap (λ (l : List Arrival). l ++ takenBy ts (runTurns past (begun p))) (h .begun-with)
-        ∙ ap (λ (x : State). firstOf (numberIn s) order ++ takenBy ts x) (h .here) ∙ o .taken;
+        ∙ ap (λ (x : State). firstEntries (numberIn s) order ++ takenBy ts x) (h .here) ∙ o .taken;
     within = o .within;
     stand = st;
   }
@@ -342,11 +342,11 @@ module _ (p : Program) (v : Valid p) (l₀ : List ℕ) (order : Order) (short : 
       means-it = (c .sheet, refl, ok .1, refl)
 
       -- what is committed then is what the order has up to here
-      all-committed : List·Permᴰ (firstOf (c .at) order) (arrivalsCommitted (historyOf p past))
+      all-committed : List·Permᴰ (firstEntries (c .at) order) (arrivalsCommitted (historyOf p past))
       all-committed =
           let k : List·Permᴰ (takenInBy p past) (committedIn p past) = once-each p v past (h .sound) .2 (subst IdleIn (sym (h .here)) idle-now) in
           let n : numberIn s ≡ c .at = sym (tells l₀ b s (h .stand) (omega (arith, h .within))) ∙ at in
-          subst (λ (m : ℕ). List·Permᴰ (firstOf m order) (arrivalsCommitted (historyOf p past))) n
+          subst (λ (m : ℕ). List·Permᴰ (firstEntries m order) (arrivalsCommitted (historyOf p past))) n
           (subst (λ (y : List Arrival). List·Permᴰ y (arrivalsCommitted (historyOf p past))) (h .begun-with)
           (subst (List·Permᴰ (takenInBy p past)) (committed-arrivals p (historyOf p past)) k))
 
@@ -368,14 +368,14 @@ module _ (p : Program) (v : Valid p) (l₀ : List ℕ) (order : Order) (short : 
         force = w .force ∙ ap (λ (y : Program). lastIn y plan) (idle-changes q s idle-now .1);
         follows = rw replied (
           refl,
-          subst (List·Permᴰ (firstOf (c .at) order)) (sym (append-nil (arrivalsCommitted (historyOf p past)))) all-committed,
+          subst (List·Permᴰ (firstEntries (c .at) order)) (sym (append-nil (arrivalsCommitted (historyOf p past)))) all-committed,
           subst (λ (d : List Arrival). Follows order d plan (courseOf (moments (w .means) (replies (w .means) v′)))) history-same (w .follows),
         );
         at-last = subst (λ (ts : List Turn). Past ts (turnsAfter order xs (turnOnBytes (mends w′) b .after)) (runTurns (w .means) v′))
             (append-assoc past (change q ∷ []) (w .means)) (w .at-last);
       }
 
-  walk : (plan : List SheetChange) → All Acceptable plan → (xs : List AppTurn) (past : List Turn) (b : Bytes) (s : State) → Past past b s → Planned order plan xs b
+  walk : (plan : List SheetChange) → All Acceptable plan → (xs : List AppTurn) (past : List Turn) (b : Bytes) (s : State) → Past past b s → ByPlan order plan xs b
       → Walk past b s plan xs
   unfolding appTurn
   walk [] ok [] past b s h f = none past b s h
@@ -386,14 +386,14 @@ module _ (p : Program) (v : Valid p) (l₀ : List ℕ) (order : Order) (short : 
       asked past b s h a (f .0) (c ∷ plan) xs (walk (c ∷ plan) ok xs (past ++ map call (appCalls (b .table) order a (b .round))) _ _ (then past b s h a (f .0)) (f .1))
   walk [] ok (alters d u ∷ xs) past b s h f = absurd f
   walk (c ∷ plan) ok (alters d u ∷ xs) past b s h f =
-      subst (λ (y : SheetChange). Planned order (c ∷ plan) (alters y u ∷ xs) b → Walk past b s (c ∷ plan) (alters y u ∷ xs)) (sym (f .0))
+      subst (λ (y : SheetChange). ByPlan order (c ∷ plan) (alters y u ∷ xs) b → Walk past b s (c ∷ plan) (alters y u ∷ xs)) (sym (f .0))
       (λ g. altered past b s h c (ok .0) u (g .1) (g .2) (g .3) plan xs
       (walk plan (ok .1) xs (past ++ (change (programIn c) ∷ [])) _ _ (then-changed past b s h c (ok .0) u (g .1) (g .2) (g .3)) (g .4))) f
 
 -- ---- one phone
 
-module _ (s ps t₀ l₀ : List ℕ) (x : Sheet) (r : Prepared s ps t₀ l₀ x) (p : Program) (filled : programOf ps x ≡ p) (order : Order) (short : length order ≤ 1000000)
-    (plan : List SheetChange) (ok : All Acceptable plan) (xs : List AppTurn) (f : Planned order plan xs (freshRoundOn s ps t₀ l₀)) where
+module _ (s ps t₀ l₀ : List ℕ) (x : Sheet) (r : Prepared s ps t₀ l₀ x) (p : Program) (filled : programOf ps x ≡ p) (order : EventOrder) (short : length order ≤ 1000000)
+    (plan : List SheetChange) (ok : All Acceptable plan) (xs : List AppTurn) (f : ByPlan order plan xs (freshRoundOn s ps t₀ l₀)) where
   abbrev first : Bytes
   first = freshRoundOn s ps t₀ l₀
 
@@ -432,7 +432,7 @@ module _ (s ps t₀ l₀ : List ℕ) (x : Sheet) (r : Prepared s ps t₀ l₀ x)
   unfolding moments replies
   follow = w .follows
 
-  took-in : takenInBy p (w .means) ≡ firstOf (takenNow end) order
+  took-in : takenInBy p (w .means) ≡ firstEntries (takenNow end) order
   took-in = rw told (w .at-last .begun-with)
 
   phone : ChangedPhone p first order xs end
@@ -447,8 +447,8 @@ module _ (s ps t₀ l₀ : List ℕ) (x : Sheet) (r : Prepared s ps t₀ l₀ x)
     within = rw told (w .at-last .within);
     next = λ some declared eight right commits room.
         let n = takenNow end in
-        subst (λ (m : ℕ). TakesIn end m (eventIn order n) (playerIn order n) commits (longest (inForce S) * 3 / 2)) (sym told)
-        (stand-takes l₀ end S (w .at-last .stand) (eventIn order n) (playerIn order n) commits declared eight right (omega (arith, told)) room);
+        subst (λ (m : ℕ). TakesIn end m (entryEvent order n) (entryPlayer order n) commits (longest (inForce S) * 3 / 2)) (sym told)
+        (stand-takes l₀ end S (w .at-last .stand) (entryEvent order n) (entryPlayer order n) commits declared eight right (omega (arith, told)) room);
   }
 
 -- ---- deliveries alike
@@ -497,7 +497,7 @@ outcome l₀ b (state p (engine k q r d)) h n e who c room =
 
 -- ---- two phones
 
-pub in-order-changed : InOrderChanged
+pub in-order-changed : SharedOrderChanged
 in-order-changed = record {
   one = λ s ps t₀ l₀ x r order short plan ok xs f. phone s ps t₀ l₀ x r (programOf ps x) refl order short plan ok xs f;
   two = λ s ps qs t₀ l₀ t₁ l₁ x r order short plan ok z zs xs ys f g same.
@@ -521,7 +521,7 @@ in-order-changed = record {
             shown s ps t₀ l₀ x (r .one) p refl order short plan ok xs f
             ∙ ap (λ (y : Bytes). boardOf (inForce (after p (a .means))) (y .round)) (a .leaves)
             ∙ rounds-agree s ps qs t₀ l₀ t₁ l₁ x r (a .list) (b .list) (a .compile) (b .compile) (a .means) (b .means) (a .mean) (b .mean)
-            (ap eventsOf (ta ∙ ap (λ (k : ℕ). firstOf k order) same ∙ sym tb))
+            (ap eventsOf (ta ∙ ap (λ (k : ℕ). firstEntries k order) same ∙ sym tb))
             (same-follow order plan [] [] (courseOf (historyOf p (a .means))) (courseOf (historyOf p (b .means))) (Permᴰ·refl [])
             (follow s ps t₀ l₀ x (r .one) p refl order short plan ok xs f) (follow s qs t₁ l₁ x (r .other) p (r .filled) order short plan ok ys g))
             (z, a .agree zs) (subst IdleNow (a .leaves) i) (subst IdleNow (b .leaves) j)

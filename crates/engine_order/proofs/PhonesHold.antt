@@ -39,7 +39,7 @@ use Rattle.refine_deliver.specs.Deliveries.{deliverySteps, deliveryCalls, Takes
 use Rattle.refine_deliver.proofs.DeliveriesHold.{every-delivery}
 use Rattle.refine_deliver.proofs.Takes.{stand-takes}
 use Rattle.engine_agree.proofs.AgreementHolds.{phones-agree}
-use Rattle.engine_order.specs.Orders.{Order, eventIn, playerIn, entriesFrom, firstOf, AppCall, delivers, frames, steps, reads, Offered, appRound, appAfter, takenNow, OnePhone, EveryPhone, TwoPhonesWhere, InOrder}
+use Rattle.engine_order.specs.Orders.{EventOrder, entryEvent, entryPlayer, entriesFrom, firstEntries, AppCall, delivers, frames, steps, reads, Offered, appRound, appAfter, takenNow, OnePhone, EveryPhone, TwoPhonesWhere, SharedOrder}
 use Rattle.engine_order.proofs.Blocks.{takenBy, rows-take, steps-take-none, board-takes-none, Onward, takes-none, takes-next, onward-rows}
 
 -- ---- rows of calls on bytes
@@ -64,15 +64,15 @@ calls-stand l₀ t l cs s h =
 
 -- ---- what a call of the app is
 
-unfoldable pub appCalls : List ℕ → Order → AppCall → List ℕ → List Call
-appCalls t order (delivers n b) l = deliveryCalls (deliverOn t l n (eventIn order n) (playerIn order n) b .0) (eventIn order n) (playerIn order n)
+unfoldable pub appCalls : List ℕ → EventOrder → AppCall → List ℕ → List Call
+appCalls t order (delivers n b) l = deliveryCalls (deliverOn t l n (entryEvent order n) (entryPlayer order n) b .0) (entryEvent order n) (entryPlayer order n)
 appCalls t order (frames k b) l = stepCalls (stepsMade (frameOn t l k b .0))
 appCalls t order steps l = step ∷ []
 appCalls t order (reads i who) l = board i who ∷ []
 
-pub app-round : (t : List ℕ) (order : Order) (c : AppCall) (l : List ℕ) → Offered order c → appRound t order c l ≡ roundAfter t (appCalls t order c l) l
+pub app-round : (t : List ℕ) (order : EventOrder) (c : AppCall) (l : List ℕ) → Offered order c → appRound t order c l ≡ roundAfter t (appCalls t order c l) l
 unfolding appRound appCalls roundAfter bytesAfter turnOnBytes callOn
-app-round t order (delivers n b) l h = every-delivery t l n (eventIn order n) (playerIn order n) b .round
+app-round t order (delivers n b) l h = every-delivery t l n (entryEvent order n) (entryPlayer order n) b .round
 app-round t order (frames k b) l h = every-frame t l k b h .round
 app-round t order steps l h = refl
 app-round t order (reads i who) l h = refl
@@ -94,16 +94,16 @@ arrival-taken l₀ t l (state p w) h e who z =
     let few : events p ≤ 256 = omega (arith, h .says .few-events) in
     ap says (coded-injective (arrive e who) (act p (arrive e who) w .answer) takenIn (answer-to p few (arrive e who) w (h .fit .1)) (omega arith) (sym said ∙ z))
 
-module _ (l₀ t l : List ℕ) (order : Order) (s : State) (h : Stand l₀ (bytes t l) s) (small : numberIn s ≤ length order) where
+module _ (l₀ t l : List ℕ) (order : EventOrder) (s : State) (h : Stand l₀ (bytes t l) s) (small : numberIn s ≤ length order) where
   steps-onward : (k : ℕ) → Onward order s (map call (stepCalls k))
   steps-onward k = takes-none order s (map call (stepCalls k)) (steps-take-none k (replies (map call (stepCalls k)) s) (numberIn s)) small
 
   -- the arrival behind k steps
-  delivery-onward : (n k : ℕ) → n < length order → callOn t (arrive (eventIn order n) (playerIn order n)) (roundAfter t (stepCalls k) l) .0 ≡ 0
-      → taken (roundAfter t (stepCalls k) l) ≡ n → Onward order s (map call (stepCalls k ++ (arrive (eventIn order n) (playerIn order n) ∷ [])))
+  delivery-onward : (n k : ℕ) → n < length order → callOn t (arrive (entryEvent order n) (entryPlayer order n)) (roundAfter t (stepCalls k) l) .0 ≡ 0
+      → taken (roundAfter t (stepCalls k) l) ≡ n → Onward order s (map call (stepCalls k ++ (arrive (entryEvent order n) (entryPlayer order n) ∷ [])))
   delivery-onward n k b z at =
-      let e = eventIn order n in
-      let who = playerIn order n in
+      let e = entryEvent order n in
+      let who = entryPlayer order n in
       let ts : List Turn = map call (stepCalls k) in
       let v : State = runTurns ts s in
       let st : Stand l₀ (bytes t (roundAfter t (stepCalls k) l)) v = calls-stand l₀ t l (stepCalls k) s h in
@@ -117,8 +117,8 @@ module _ (l₀ t l : List ℕ) (order : Order) (s : State) (h : Stand l₀ (byte
   pub app-onward : (c : AppCall) → Offered order c → Onward order s (map call (appCalls t order c l))
   unfolding appCalls replies
   app-onward (delivers n b) o =
-      let e = eventIn order n in
-      let who = playerIn order n in
+      let e = entryEvent order n in
+      let who = entryPlayer order n in
       let v = deliverOn t l n e who b .0 in
       let d = every-delivery t l n e who b in
       split (eqb (endedBy v) 1)
@@ -135,17 +135,17 @@ module _ (l₀ t l : List ℕ) (order : Order) (s : State) (h : Stand l₀ (byte
 
 -- ---- a list of the app's calls
 
-unfoldable appLists : Order → List AppCall → Bytes → List Call
+unfoldable appLists : EventOrder → List AppCall → Bytes → List Call
 appLists order [] b = []
 appLists order (c ∷ cs) b =
     appCalls (b .table) order c (b .round) ++ appLists order cs (bytes (b .table) (appRound (b .table) order c (b .round)))
 
-record Walked (l₀ : List ℕ) (order : Order) (b : Bytes) (s : State) (cs : List AppCall) : Type 0 where
+record Walked (l₀ : List ℕ) (order : EventOrder) (b : Bytes) (s : State) (cs : List AppCall) : Type 0 where
   leaves : appAfter order cs b ≡ bytesAfter (map calls (appLists order cs b)) b
   onward : Onward order s (map call (appLists order cs b))
   stand : Stand l₀ (appAfter order cs b) (runTurns (map call (appLists order cs b)) s)
 
-walked : (l₀ : List ℕ) (order : Order) (cs : List AppCall) (b : Bytes) (s : State) → Stand l₀ b s → numberIn s ≤ length order → All (Offered order) cs → Walked l₀ order b s cs
+walked : (l₀ : List ℕ) (order : EventOrder) (cs : List AppCall) (b : Bytes) (s : State) → Stand l₀ b s → numberIn s ≤ length order → All (Offered order) cs → Walked l₀ order b s cs
 unfolding appAfter appLists bytesAfter runTurns
 walked l₀ order [] b s h small o = record {
   leaves = refl;
@@ -181,7 +181,7 @@ tells l₀ b (state p (engine k q r d)) h small =
 
 -- ---- one phone
 
-module _ (s ps t₀ l₀ : List ℕ) (x : Sheet) (r : Prepared s ps t₀ l₀ x) (order : Order) (short : length order ≤ 1000000) (cs : List AppCall) (o : All (Offered order) cs) where
+module _ (s ps t₀ l₀ : List ℕ) (x : Sheet) (r : Prepared s ps t₀ l₀ x) (order : EventOrder) (short : length order ≤ 1000000) (cs : List AppCall) (o : All (Offered order) cs) where
   abbrev p : Program
   p = programOf ps x
 
@@ -208,9 +208,9 @@ module _ (s ps t₀ l₀ : List ℕ) (x : Sheet) (r : Prepared s ps t₀ l₀ x)
         let v : State = after p (map call listOf) in
         let n = takenNow (appAfter order cs first) in
         let q : inForce v ≡ p = in-force-calls listOf (begun p) in
-        subst (λ (m : ℕ). TakesIn (appAfter order cs first) m (eventIn order n) (playerIn order n) commits (longest p * 3 / 2)) (sym told)
-        (subst (λ (y : Program). TakesIn (appAfter order cs first) (numberIn v) (eventIn order n) (playerIn order n) commits (longest y * 3 / 2)) q
-        (stand-takes l₀ (appAfter order cs first) v (w .stand) (eventIn order n) (playerIn order n) commits (rw q declared) eight (rw q right)
+        subst (λ (m : ℕ). TakesIn (appAfter order cs first) m (entryEvent order n) (entryPlayer order n) commits (longest p * 3 / 2)) (sym told)
+        (subst (λ (y : Program). TakesIn (appAfter order cs first) (numberIn v) (entryEvent order n) (entryPlayer order n) commits (longest y * 3 / 2)) q
+        (stand-takes l₀ (appAfter order cs first) v (w .stand) (entryEvent order n) (entryPlayer order n) commits (rw q declared) eight (rw q right)
         (omega (arith, told)) room));
   }
 
@@ -221,15 +221,15 @@ two-phones C hold s ps qs t₀ l₀ t₁ l₁ x r order short cs ds oc od same c
     let p : Program = programOf ps x in
     let a = one-phone s ps t₀ l₀ x (r .one) order short cs oc in
     let b = one-phone s qs t₁ l₁ x (r .other) order short ds od in
-    let tb : takenInBy p (map call (b .list)) ≡ firstOf (takenNow (appAfter order ds (freshRoundOn s qs t₁ l₁))) order =
-    subst (λ (q : Program). takenInBy q (map call (b .list)) ≡ firstOf (takenNow (appAfter order ds (freshRoundOn s qs t₁ l₁))) order) (r .filled) (b .taken-in) in
+    let tb : takenInBy p (map call (b .list)) ≡ firstEntries (takenNow (appAfter order ds (freshRoundOn s qs t₁ l₁))) order =
+    subst (λ (q : Program). takenInBy q (map call (b .list)) ≡ firstEntries (takenNow (appAfter order ds (freshRoundOn s qs t₁ l₁))) order) (r .filled) (b .taken-in) in
     let events-same : eventsOf (takenInBy p (map call (a .list))) ≡ eventsOf (takenInBy p (map call (b .list))) =
-    ap eventsOf (a .taken-in ∙ ap (λ (k : ℕ). firstOf k order) same ∙ sym tb) in
+    ap eventsOf (a .taken-in ∙ ap (λ (k : ℕ). firstEntries k order) same ∙ sym tb) in
     ap (λ (y : Bytes). boardOf p (y .round)) (a .leaves)
     ∙ hold s ps qs t₀ l₀ t₁ l₁ x r (a .list) (b .list) events-same (subst (C s ps p) (sym (a .taken-in)) c) (subst IdleNow (a .leaves) ic) (subst IdleNow (b .leaves) id)
     ∙ sym (ap (λ (y : Bytes). boardOf p (y .round)) (b .leaves))
 
-pub in-order : InOrder
+pub in-order : SharedOrder
 in-order = record {
   one = λ s ps t₀ l₀ x r order short cs o. one-phone s ps t₀ l₀ x r order short cs o;
   agreed = two-phones (λ s ps p l. agreeOn s ps ≡ 0) phones-agree;

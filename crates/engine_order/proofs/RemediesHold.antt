@@ -23,12 +23,12 @@ use Rattle.refine_calls.proofs.TurnsRefine.{Stand, turned}
 use Rattle.refine_lists.specs.Lists.{boardOf, IdleNow, freshRoundOn, Prepared, TwoRounds, OnlyCalls}
 use Rattle.refine_lists.proofs.Standing.{idle-both}
 use Rattle.refine_lists.proofs.FromSheets.{stands-fresh, calls-of}
-use Rattle.engine_order.specs.Remedies.{SameCommits, OneByOne, AsHandedIn, BothOneByOne, Remedies}
+use Rattle.engine_order.specs.Remedies.{EqualCommits, Patiently, AsHandedIn, BothPatiently, Remedies}
 use Rattle.engine_order.proofs.Blocks.{takenBy, none-takes, first-takes}
 
 -- ---- the same commits
 
-pub same-commits : SameCommits
+pub same-commits : EqualCommits
 same-commits s ps qs t₀ l₀ t₁ l₁ x r cs ds same fc fd =
     let p : Program = programOf ps x in
     let a = calls-of s ps t₀ l₀ x (r .one) cs in
@@ -141,7 +141,7 @@ module _ (p : Program) where
 
 -- ---- of the bytes
 
-patient : (l₀ : List ℕ) (p : Program) (cs : List Call) (b : Bytes) (w : Engine) → Stand l₀ b (state p w) → OneByOne cs b → Patient p cs w
+patient : (l₀ : List ℕ) (p : Program) (cs : List Call) (b : Bytes) (w : Engine) → Stand l₀ b (state p w) → Patiently cs b → Patient p cs w
 unfolding turn turnOnBytes
 patient l₀ p [] b w h o = tt
 patient l₀ p (arrive e who ∷ cs) b w h o =
@@ -167,7 +167,7 @@ no-copy-back : (p : Program) (w : Engine) → inQueue w ≡ [] → copyBackIn p 
 no-copy-back p (engine t waiting rest d) h = refl
 no-copy-back p (engine t waiting (busy a c) d) h = cc
 
-pub both : BothOneByOne
+pub both : BothPatiently
 both s ps qs t₀ l₀ t₁ l₁ x r cs ds oc od same ic id =
     let p : Program = programOf ps x in
     let a = as-handed-in s ps t₀ l₀ x (r .one) cs oc ic in

@@ -26,7 +26,7 @@ use Rattle.refine_calls.specs.Refinement.{Bytes, bytes, mends, turnOnBytes, byt
 use Rattle.refine_frames.specs.Frames.{endedBy}
 use Rattle.refine_lists.specs.Lists.{SheetTurn, Compiles, onBytes, AllMean, IdleNow, freshRoundOn, Prepared, TwoRounds}
 use Rattle.refine_deliver.specs.Deliveries.{TakesIn}
-use Rattle.engine_order.specs.Orders.{Order, eventIn, playerIn, firstOf, AppCall, Offered, appRound, takenNow}
+use Rattle.engine_order.specs.Orders.{EventOrder, entryEvent, entryPlayer, firstEntries, AppCall, Offered, appRound, takenNow}
 
 -- a change that the phones share: with so many taken in, to this sheet with these parameters
 pub record SheetChange : Type 0 where
@@ -43,47 +43,47 @@ pub data AppTurn : Type 0 where
   asks : AppCall → AppTurn
   alters : SheetChange → List ℕ → AppTurn
 
-unfoldable pub appTurn : Order → AppTurn → Bytes → Bytes
+unfoldable pub appTurn : EventOrder → AppTurn → Bytes → Bytes
 appTurn order (asks c) b = bytes (b .table) (appRound (b .table) order c (b .round))
 appTurn order (alters c u) b = turnOnBytes (mends (compileOn (encode (c .sheet)) (c .params) u .1)) b .after
 
-unfoldable pub turnsAfter : Order → List AppTurn → Bytes → Bytes
+unfoldable pub turnsAfter : EventOrder → List AppTurn → Bytes → Bytes
 turnsAfter order [] b = b
 turnsAfter order (x ∷ xs) b = turnsAfter order xs (appTurn order x b)
 
 -- "the same changes (sheet, filling, place), each made on an idle round with the same number taken in": those of the
 -- plan, all of them, in its order
-abbrev pub Planned : Order → List SheetChange → List AppTurn → Bytes → Type 0
-Planned order [] [] b = Unit {0}
-Planned order (c ∷ plan) [] b = ⊥
-Planned order [] (asks a ∷ xs) b = Offered order a × Planned order [] xs (appTurn order (asks a) b)
-Planned order (c ∷ plan) (asks a ∷ xs) b = Offered order a × Planned order (c ∷ plan) xs (appTurn order (asks a) b)
-Planned order [] (alters d u ∷ xs) b = ⊥
-Planned order (c ∷ plan) (alters d u ∷ xs) b =
-    (d ≡ c) × (34816 ≤ length u) × IdleNow b × (takenNow b ≡ c .at) × Planned order plan xs (appTurn order (alters d u) b)
+abbrev pub ByPlan : EventOrder → List SheetChange → List AppTurn → Bytes → Type 0
+ByPlan order [] [] b = Unit {0}
+ByPlan order (c ∷ plan) [] b = ⊥
+ByPlan order [] (asks a ∷ xs) b = Offered order a × ByPlan order [] xs (appTurn order (asks a) b)
+ByPlan order (c ∷ plan) (asks a ∷ xs) b = Offered order a × ByPlan order (c ∷ plan) xs (appTurn order (asks a) b)
+ByPlan order [] (alters d u ∷ xs) b = ⊥
+ByPlan order (c ∷ plan) (alters d u ∷ xs) b =
+    (d ≡ c) × (34816 ≤ length u) × IdleNow b × (takenNow b ≡ c .at) × ByPlan order plan xs (appTurn order (alters d u) b)
 
 -- "each change is made": it answers 0
-abbrev pub AllMade : Order → List AppTurn → Bytes → Type 0
-AllMade order [] b = Unit {0}
-AllMade order (asks a ∷ xs) b = AllMade order xs (appTurn order (asks a) b)
-AllMade order (alters c u ∷ xs) b =
-    (mendOn (b .table) (compileOn (encode (c .sheet)) (c .params) u .1) (b .round) .0 ≡ 0) × AllMade order xs (appTurn order (alters c u) b)
+abbrev pub ChangesMade : EventOrder → List AppTurn → Bytes → Type 0
+ChangesMade order [] b = Unit {0}
+ChangesMade order (asks a ∷ xs) b = ChangesMade order xs (appTurn order (asks a) b)
+ChangesMade order (alters c u ∷ xs) b =
+    (mendOn (b .table) (compileOn (encode (c .sheet)) (c .params) u .1) (b .round) .0 ≡ 0) × ChangesMade order xs (appTurn order (alters c u) b)
 
 -- ---- one phone
 
-pub record ChangedPhone (p : Program) (first : Bytes) (order : Order) (xs : List AppTurn) (b : Bytes) : Type 0 where
+pub record ChangedPhone (p : Program) (first : Bytes) (order : EventOrder) (xs : List AppTurn) (b : Bytes) : Type 0 where
   -- the turns of demand 3's lists that it is
   pub list : List SheetTurn
   pub compile : All Compiles list
   pub means : List Turn
   pub mean : AllMean list means
   pub leaves : b ≡ bytesAfter (map onBytes list) first
-  pub made : AllMade order xs first
-  pub taken-in : takenInBy p means ≡ firstOf (takenNow b) order
+  pub made : ChangesMade order xs first
+  pub taken-in : takenInBy p means ≡ firstEntries (takenNow b) order
   pub within : takenNow b ≤ length order
-  pub next : takenNow b < length order → eventIn order (takenNow b) < events (programAfter p means) → playerIn order (takenNow b) < 8
-      → maySend (programAfter p means) (playerIn order (takenNow b)) (eventIn order (takenNow b)) ≡ true → (commits : List ℕ) → 8 ≤ length commits
-      → TakesIn b (takenNow b) (eventIn order (takenNow b)) (playerIn order (takenNow b)) commits (longest (programAfter p means) * 3 / 2)
+  pub next : takenNow b < length order → entryEvent order (takenNow b) < events (programAfter p means) → entryPlayer order (takenNow b) < 8
+      → maySend (programAfter p means) (entryPlayer order (takenNow b)) (entryEvent order (takenNow b)) ≡ true → (commits : List ℕ) → 8 ≤ length commits
+      → TakesIn b (takenNow b) (entryEvent order (takenNow b)) (entryPlayer order (takenNow b)) commits (longest (programAfter p means) * 3 / 2)
 
 -- ---- two phones
 
@@ -102,12 +102,12 @@ pub record ChangedAlike (a b : Bytes) : Type 0 where
   -- "when both are idle with the same number taken in their boards are equal"
   pub boards : IdleNow a → IdleNow b → boardShown a ≡ boardShown b
 
-pub record InOrderChanged : Type 0 where
-  pub one : (s ps t₀ l₀ : List ℕ) (x : Sheet) → Prepared s ps t₀ l₀ x → (order : Order) → length order ≤ 1000000
-      → (plan : List SheetChange) → All Acceptable plan → (xs : List AppTurn) → Planned order plan xs (freshRoundOn s ps t₀ l₀)
+pub record SharedOrderChanged : Type 0 where
+  pub one : (s ps t₀ l₀ : List ℕ) (x : Sheet) → Prepared s ps t₀ l₀ x → (order : EventOrder) → length order ≤ 1000000
+      → (plan : List SheetChange) → All Acceptable plan → (xs : List AppTurn) → ByPlan order plan xs (freshRoundOn s ps t₀ l₀)
       → ChangedPhone (programOf ps x) (freshRoundOn s ps t₀ l₀) order xs (turnsAfter order xs (freshRoundOn s ps t₀ l₀))
-  pub two : (s ps qs t₀ l₀ t₁ l₁ : List ℕ) (x : Sheet) → TwoRounds s ps qs t₀ l₀ t₁ l₁ x → (order : Order) → length order ≤ 1000000
+  pub two : (s ps qs t₀ l₀ t₁ l₁ : List ℕ) (x : Sheet) → TwoRounds s ps qs t₀ l₀ t₁ l₁ x → (order : EventOrder) → length order ≤ 1000000
       → (plan : List SheetChange) → All Acceptable plan → agreeOn s ps ≡ 0 → All (λ (c : SheetChange). agreeOn (encode (c .sheet)) (c .params) ≡ 0) plan
-      → (xs ys : List AppTurn) → Planned order plan xs (freshRoundOn s ps t₀ l₀) → Planned order plan ys (freshRoundOn s qs t₁ l₁)
+      → (xs ys : List AppTurn) → ByPlan order plan xs (freshRoundOn s ps t₀ l₀) → ByPlan order plan ys (freshRoundOn s qs t₁ l₁)
       → takenNow (turnsAfter order xs (freshRoundOn s ps t₀ l₀)) ≡ takenNow (turnsAfter order ys (freshRoundOn s qs t₁ l₁))
       → ChangedAlike (turnsAfter order xs (freshRoundOn s ps t₀ l₀)) (turnsAfter order ys (freshRoundOn s qs t₁ l₁))

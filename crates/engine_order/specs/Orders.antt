@@ -25,23 +25,23 @@ use Rattle.refine_deliver.specs.Deliveries.{TakesIn}
 
 -- ---- an order: events with the players who send them, entry 0 first
 
-abbrev pub Order : Type 0
-Order = List (ℕ × ℕ)
+abbrev pub EventOrder : Type 0
+EventOrder = List (ℕ × ℕ)
 
-abbrev pub eventIn : Order → ℕ → ℕ
-eventIn order n = getD order n (0, 0) .0
+abbrev pub entryEvent : EventOrder → ℕ → ℕ
+entryEvent order n = getD order n (0, 0) .0
 
-abbrev pub playerIn : Order → ℕ → ℕ
-playerIn order n = getD order n (0, 0) .1
+abbrev pub entryPlayer : EventOrder → ℕ → ℕ
+entryPlayer order n = getD order n (0, 0) .1
 
 -- its entries as arrivals, numbered from n on
-unfoldable pub entriesFrom : ℕ → Order → List Arrival
+unfoldable pub entriesFrom : ℕ → EventOrder → List Arrival
 entriesFrom n [] = []
 entriesFrom n (x ∷ order) = arrival n (x .0) (x .1) ∷ entriesFrom (suc n) order
 
 -- the first k of them
-abbrev pub firstOf : ℕ → Order → List Arrival
-firstOf k order = entriesFrom 0 (take k order)
+abbrev pub firstEntries : ℕ → EventOrder → List Arrival
+firstEntries k order = entriesFrom 0 (take k order)
 
 -- ---- what an app calls
 
@@ -52,20 +52,20 @@ pub data AppCall : Type 0 where
   reads : ℕ → ℕ → AppCall  -- the behaviour and the player
 
 -- "deliveries of entry n under the number n (any n, again, too early, too late, each with eight bytes or more)"
-abbrev pub Offered : Order → AppCall → Type 0
+abbrev pub Offered : EventOrder → AppCall → Type 0
 Offered order (delivers n b) = (n < length order) × (8 ≤ length b)
 Offered order (frames k b) = k < 4294967296
 Offered order steps = Unit {0}
 Offered order (reads i who) = Unit {0}
 
 -- the round's bytes after a call on the table t
-unfoldable pub appRound : List ℕ → Order → AppCall → List ℕ → List ℕ
-appRound t order (delivers n b) l = deliverOn t l n (eventIn order n) (playerIn order n) b .1
+unfoldable pub appRound : List ℕ → EventOrder → AppCall → List ℕ → List ℕ
+appRound t order (delivers n b) l = deliverOn t l n (entryEvent order n) (entryPlayer order n) b .1
 appRound t order (frames k b) l = frameOn t l k b .1
 appRound t order steps l = stepOn t l .1
 appRound t order (reads i who) l = l
 
-unfoldable pub appAfter : Order → List AppCall → Bytes → Bytes
+unfoldable pub appAfter : EventOrder → List AppCall → Bytes → Bytes
 appAfter order [] b = b
 appAfter order (c ∷ cs) b = appAfter order cs (bytes (b .table) (appRound (b .table) order c (b .round)))
 
@@ -85,21 +85,21 @@ TakenTells =
 -- ---- one phone
 
 -- a list of the app's calls from a fresh round of p, which leaves the bytes b
-pub record OnePhone (p : Program) (first : Bytes) (order : Order) (b : Bytes) : Type 0 where
+pub record OnePhone (p : Program) (first : Bytes) (order : EventOrder) (b : Bytes) : Type 0 where
   -- the calls of demand 3's lists that it is, so that all of demand 3 holds of it
   pub list : List Call
   pub leaves : b ≡ bytesAfter (map calls list) first
   -- "what is taken in is a beginning of the order, each entry once and in its place, as long as `taken` says"
-  pub taken-in : takenInBy p (map call list) ≡ firstOf (takenNow b) order
+  pub taken-in : takenInBy p (map call list) ≡ firstEntries (takenNow b) order
   pub within : takenNow b ≤ length order
   -- "a delivery of the next entry is always taken in": of one that is declared and allowed
-  pub next : takenNow b < length order → eventIn order (takenNow b) < events p → playerIn order (takenNow b) < 8
-      → maySend p (playerIn order (takenNow b)) (eventIn order (takenNow b)) ≡ true → (commits : List ℕ) → 8 ≤ length commits
-      → TakesIn b (takenNow b) (eventIn order (takenNow b)) (playerIn order (takenNow b)) commits (longest p * 3 / 2)
+  pub next : takenNow b < length order → entryEvent order (takenNow b) < events p → entryPlayer order (takenNow b) < 8
+      → maySend p (entryPlayer order (takenNow b)) (entryEvent order (takenNow b)) ≡ true → (commits : List ℕ) → 8 ≤ length commits
+      → TakesIn b (takenNow b) (entryEvent order (takenNow b)) (entryPlayer order (takenNow b)) commits (longest p * 3 / 2)
 
 abbrev pub EveryPhone : Type 0
 EveryPhone =
-    (s ps t₀ l₀ : List ℕ) (x : Sheet) → Prepared s ps t₀ l₀ x → (order : Order) → length order ≤ 1000000 → (cs : List AppCall) → All (Offered order) cs
+    (s ps t₀ l₀ : List ℕ) (x : Sheet) → Prepared s ps t₀ l₀ x → (order : EventOrder) → length order ≤ 1000000 → (cs : List AppCall) → All (Offered order) cs
     → OnePhone (programOf ps x) (freshRoundOn s ps t₀ l₀) order (appAfter order cs (freshRoundOn s ps t₀ l₀))
 
 -- ---- two phones on one sheet with one filling, under the condition C of sheet, parameters, program and what is taken
@@ -107,17 +107,17 @@ EveryPhone =
 
 abbrev pub TwoPhonesWhere : (List ℕ → List ℕ → Program → List Arrival → Type 0) → Type 0
 TwoPhonesWhere C =
-    (s ps qs t₀ l₀ t₁ l₁ : List ℕ) (x : Sheet) → TwoRounds s ps qs t₀ l₀ t₁ l₁ x → (order : Order) → length order ≤ 1000000
+    (s ps qs t₀ l₀ t₁ l₁ : List ℕ) (x : Sheet) → TwoRounds s ps qs t₀ l₀ t₁ l₁ x → (order : EventOrder) → length order ≤ 1000000
     → (cs ds : List AppCall) → All (Offered order) cs → All (Offered order) ds
     → takenNow (appAfter order cs (freshRoundOn s ps t₀ l₀)) ≡ takenNow (appAfter order ds (freshRoundOn s qs t₁ l₁))
-    → C s ps (programOf ps x) (firstOf (takenNow (appAfter order cs (freshRoundOn s ps t₀ l₀))) order)
+    → C s ps (programOf ps x) (firstEntries (takenNow (appAfter order cs (freshRoundOn s ps t₀ l₀))) order)
     → IdleNow (appAfter order cs (freshRoundOn s ps t₀ l₀)) → IdleNow (appAfter order ds (freshRoundOn s qs t₁ l₁))
     → boardOf (programOf ps x) (appAfter order cs (freshRoundOn s ps t₀ l₀) .round)
     ≡ boardOf (programOf ps x) (appAfter order ds (freshRoundOn s qs t₁ l₁) .round)
 
 -- "where `agree` is 0 (or those of unequal rank are independent): when both are idle with the same number taken in,
 -- their boards are equal"
-pub record InOrder : Type 0 where
+pub record SharedOrder : Type 0 where
   pub one : EveryPhone
   pub agreed : TwoPhonesWhere (λ s ps p l. agreeOn s ps ≡ 0)
   pub apart : TwoPhonesWhere (λ s ps p l. ApartIn p l)
