@@ -4,7 +4,7 @@ use Prim.Native.Nat.{ℕ, _+_}
 use mathlib.Core.Bool.{false}
 use mathlib.Core.Path.{_≡_, refl}
 use mathlib.Core.Option.{none, some}
-use mathlib.Core.List.{List, [], _∷_, _++_, map, flatten, flatMap}
+use mathlib.Core.List.{List, [], _∷_, _++_, map, flatten, flatMap, sum}
 use lib.ListN.{replicate}
 use Rattle.lib_arith.specs.Exact.{beyond}
 use Rattle.lib_arith.specs.Functions.{exact, result, over, arity}
@@ -17,7 +17,7 @@ use Rattle.spec_execution.specs.Execution.{Values, execute, executeAll, emptied
 use Rattle.spec_language.proofs.Examples.{W}
 use Rattle.spec_model.specs.Carried.{carriedActives, carried}
 use Rattle.spec_model.specs.Model.{arrival, Engine, engine, arrive, step, board, refused, shows, ran, preempted, committed, act, Turn, call, change, Reply, says, carriedOver, turn, runTurns, replies}
-use Rattle.spec_model.specs.Claims.{commits, changes, moments, after, engineAfter, historyOf}
+use Rattle.spec_model.specs.Claims.{commits, changes, longest, countIn, stepsOf, forecast, moments, after, engineAfter, historyOf}
 use Rattle.spec_model.proofs.States.{storeIn}
 
 -- a bonus of 5, and b1 twice the score
@@ -142,3 +142,20 @@ pub record InTheMiddle : Type 0 where
 pub in-the-middle : InTheMiddle
 unfolding beyond exact result over arity handled mentions met find order upTo metAtOnce phaseOne postfix inOrder flatten flatMap copyPart firstPart secondPart restorePart code value inTurn firstPhase starts fresh execute emptied times act turn runTurns
 in-the-middle = record { copied = refl; three-arguments = refl; places = refl; board-before = refl; board-within = refl; board-after = refl }
+
+-- ---- numbers of steps: W's events have 51 and 28 instructions
+
+pub record Steps : Type 0 where
+  -- "(k + 1) × (L + 1) steps .., k being the number in hand .., L the longest event's instructions": one runs, and one
+  -- runs while one waits
+  pub bound-of-one : countIn W (engineAfter W (runTo 5)) ≡ 104
+  pub bound-of-two : countIn W (engineAfter W (runTo 5 ++ (call (arrive 1 0) ∷ []))) ≡ 156
+  -- M-100: "While something runs, that call gives 01's bound"; with nothing running "the sum, over the hand, of each
+  -- event's instruction count plus one"
+  pub forecast-running : forecast W (engineAfter W (runTo 5 ++ (call (arrive 1 0) ∷ []))) ≡ 156
+  pub forecast-at-rest : forecast W (engineAfter W (call (arrive 0 0) ∷ call (arrive 1 0) ∷ [])) ≡ 81
+  pub forecast-of-none : forecast W (engineAfter W []) ≡ 0
+
+pub steps-W : Steps
+unfolding beyond exact result over arity handled mentions met find order upTo metAtOnce phaseOne postfix inOrder flatten flatMap copyPart firstPart secondPart restorePart code value inTurn firstPhase starts fresh execute emptied times act turn runTurns longest stepsOf sum
+steps-W = record { bound-of-one = refl; bound-of-two = refl; forecast-running = refl; forecast-at-rest = refl; forecast-of-none = refl }

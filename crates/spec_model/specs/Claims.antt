@@ -72,7 +72,7 @@ AtRest (engine t waiting (busy a c) d) = ⊥
 -- "The same number is offered as a call of its own on a round .. While something runs, that call gives 01's bound."
 abbrev pub forecast : Program → Engine → ℕ
 forecast p (engine t waiting rest d) = stepsOf p waiting
-forecast p (engine t waiting (busy a c) d) = (length (a ∷ waiting) + 1) * (longest p + 1)
+forecast p (engine t waiting (busy a c) d) = countIn p (engine t waiting (busy a c) d)
 
 -- the value on the board after that many steps
 abbrev pub shownAfter : Program → Engine → ℕ → Answer
