@@ -35,7 +35,14 @@ pub fn report(file: &SheetFile) -> Result<String, Failure> {
     size("instructions", counts.iter().map(|(_, n)| n).sum(), INSTRUCTIONS, longest);
     put(&mut out, "phones", &phones(file, &table)?);
     put(&mut out, "players", &players(file, &table)?);
+    put(&mut out, "warnings", &warnings(file));
     Ok(out)
+}
+
+/// What is written so and hardly meant, by its place in the text.
+fn warnings(file: &SheetFile) -> Vec<String> {
+    let one = |w: sheet_text::Warning| format!("{}:{}: {}", w.place.line, w.place.column, w.words);
+    sheet_text::warnings(&file.source).into_iter().map(one).collect()
 }
 
 /// Lines under one heading.

@@ -1,9 +1,10 @@
 //! Files of sheets, as text or as bytes, with the names of what they declare.
 use crate::excerpt;
 use crate::failure::Failure;
-use crate::names::{names_of, params_used, Group, Names, Param};
+use crate::names::{declared_by, handler_line, names_of, params_used, Group, Names, Param};
 use crate::wording::{listed, refused};
-use poqashem::{Behaviour, Circle, Event, Fault, FaultKind, Params, Refusal, Sheet, Table};
+use poqashem::{Behaviour, Circle, Event, Fault, Params, Refusal, Sheet, Table};
+use sheet_text::{words, Kind};
 
 /// How many parameters the host lends.
 const LENT: usize = 8;
@@ -18,6 +19,8 @@ pub struct SheetFile {
     pub groups: Vec<Group>,
     /// It came as bytes, so the names are invented.
     pub unnamed: bool,
+    /// The text that it came as.
+    pub source: Vec<u8>,
 }
 
 /// What a board or a preview shows under one name.
@@ -38,31 +41,41 @@ pub fn is_sheet(bytes: &[u8]) -> bool {
     matches!(bytes.first(), Some(1 | 2 | 3 | 6))
 }
 
-/// A fault with its line of the text and a mark under the place.
-fn shown(path: &str, text: &[u8], fault: &Fault) -> Failure {
-    let mut message = format!("{path}:{fault}: {}", why(text, fault));
-    let Fault { kind, line, column } = *fault;
-    let line = text.split(|b| *b == b'\n').nth(line as usize - 1).unwrap_or(b"");
-    if !matches!(kind, FaultKind::LongText | FaultKind::LongSheet | FaultKind::ShortBuffer) {
-        let [line, under] = excerpt::marked(line, column as usize - 1);
-        message += &format!("\n    {line}\n    {under}");
-    }
-    Failure::Input(message)
+/// The faults of a text, each with its line, a mark under its place, and what to do.
+fn shown(path: &str, text: &[u8]) -> Failure {
+    let read = |text: &[u8]| Sheet::assemble(text).err().map(|fault| why(text, &fault));
+    let all = sheet_text::faults(text, &read);
+    Failure::Input(all.iter().map(|fault| told(path, text, fault)).collect::<Vec<_>>().join("\n"))
 }
 
-/// What a fault means here, in words: those of the plain reader where it finds the same one, else what its kind says.
-fn why(text: &[u8], fault: &Fault) -> String {
-    let place = (fault.line as usize, fault.column as usize);
-    let same = |own: &sheet_text::Fault| {
-        own.kind.number() == fault.kind.number() && (own.place.line, own.place.column) == place
-    };
-    let own = sheet_text::assemble(text).err().filter(same);
-    own.map_or(fault.kind.when().to_string(), |own| own.why)
+fn told(path: &str, text: &[u8], fault: &sheet_text::Fault) -> String {
+    let mut message = format!("{path}:{fault}");
+    let sheet_text::Fault { kind, place, hint, .. } = fault;
+    if !matches!(kind, Kind::LongText | Kind::LongSheet | Kind::ShortBuffer) {
+        let [line, under] = excerpt::marked(line_of(text, place.line), place.column - 1);
+        message += &format!("\n    {line}\n    {under}");
+    }
+    hint.iter().for_each(|hint| message += &format!("\n    {hint}"));
+    message
+}
+
+fn line_of(text: &[u8], line: usize) -> &[u8] {
+    text.split(|b| *b == b'\n').nth(line - 1).unwrap_or(b"")
+}
+
+/// The engine's fault in words: those of the plain reader where it finds the same one, else what its kind says.
+fn why(text: &[u8], fault: &Fault) -> sheet_text::Fault {
+    let number = fault.kind.number();
+    let kind = *Kind::ALL.iter().find(|kind| kind.number() == number).unwrap_or(&Kind::Outside);
+    let place = sheet_text::Place { line: fault.line as usize, column: fault.column as usize };
+    let own = sheet_text::assemble(text).err().filter(|own| (own.kind, own.place) == (kind, place));
+    let why = own.map_or(fault.kind.when().to_string(), |own| own.why);
+    sheet_text::Fault { kind, place, why, hint: None }
 }
 
 /// The sheet that a text means.
 pub fn read(path: &str, text: &[u8]) -> Result<Sheet, Failure> {
-    Sheet::assemble(text).map_err(|fault| shown(path, text, &fault))
+    Sheet::assemble(text).map_err(|_| shown(path, text))
 }
 
 impl SheetFile {
@@ -73,7 +86,7 @@ impl SheetFile {
             return SheetFile::of_bytes(path, bytes);
         }
         let sheet = read(path, &bytes)?;
-        Ok(SheetFile::named(path, sheet, names_of(&bytes), false))
+        Ok(SheetFile { source: bytes.clone(), ..SheetFile::named(path, sheet, names_of(&bytes), false) })
     }
 
     /// A sheet's bytes, with the names of the text that describes it. One with a circle or too many instructions has no
@@ -83,14 +96,14 @@ impl SheetFile {
         let names = match sheet.describe() {
             Ok(text) => names_of(text.as_bytes()),
             Err(Refusal::Circle | Refusal::Overlong) => Names::default(),
-            Err(refusal) => return Err(not_a_sheet(path, refusal)),
+            Err(refusal) => return Err(bytes_at_fault(path, sheet.bytes(), refusal)),
         };
         Ok(SheetFile::named(path, sheet, names, true))
     }
 
     fn named(path: &str, sheet: Sheet, names: Names, unnamed: bool) -> SheetFile {
         let Names { params, events, groups } = names;
-        SheetFile { path: path.to_string(), sheet, params, events, groups, unnamed }
+        SheetFile { path: path.to_string(), sheet, params, events, groups, unnamed, source: vec![] }
     }
 
     /// The sheet as text, under invented names.
@@ -159,7 +172,41 @@ impl SheetFile {
             .collect();
         let place = behaviours.first().and_then(|b| self.group(*b)).filter(|_| !self.unnamed);
         let place = place.map_or(String::new(), |g| format!(":{}:{}", g.place.line, g.place.column));
-        Failure::input(format!("{}{place}: {refusal}: {under}, {}", self.path, listed(&needs)))
+        let lines = self.circle_lines(event, &behaviours);
+        Failure::input(format!("{}{place}: {refusal}: {under}, {}{lines}", self.path, listed(&needs)))
+    }
+
+    /// The lines of a circle, and the ways out of it.
+    fn circle_lines(&self, event: Option<Event>, behaviours: &[Behaviour]) -> String {
+        if self.unnamed || self.source.is_empty() {
+            return String::new();
+        }
+        let groups: Vec<&Group> = behaviours.iter().filter_map(|b| self.group(*b)).collect();
+        let mut lines: Vec<usize> = vec![];
+        for group in &groups {
+            lines.push(group.place.line);
+            lines.extend(event.and_then(|e| handler_line(&self.source, &group.name, &self.event(e))));
+        }
+        lines.sort();
+        lines.dedup();
+        let width = lines.iter().max().map_or(1, |n| n.to_string().len());
+        let shown = |n: &usize| {
+            let [line, _] = excerpt::marked(line_of(&self.source, *n), 0);
+            format!("\n    {n:width$} {line}")
+        };
+        let mut out: String = lines.iter().map(shown).collect();
+        let follows = |g: &&&Group| declared_by(&self.source, g, "passive");
+        let passive = groups.iter().find(follows);
+        let active = groups.iter().find(|g| !follows(g));
+        let ways = match (active, passive) {
+            (Some(active), Some(passive)) => {
+                vec![words("circle.passive", &[&active.name, &passive.name]), words("circle.later", &[])]
+            }
+            (Some(_), None) => vec![words("circle.later", &[])],
+            _ => vec![words("circle.passives", &[])],
+        };
+        ways.into_iter().flatten().for_each(|way| out += &format!("\n    {way}"));
+        out
     }
 
     // ---- names
@@ -232,6 +279,13 @@ fn whole(group: &Group) -> Shown {
 /// Bytes that compile turns down.
 fn not_a_sheet(path: &str, refusal: Refusal) -> Failure {
     Failure::input(format!("{path}: {}", refused(refusal)))
+}
+
+/// Bytes that are no sheet: where the field is that compile turns down, as far as the plain reader finds it.
+fn bytes_at_fault(path: &str, bytes: &[u8], refusal: Refusal) -> Failure {
+    let place = sheet_text::field_at_fault(bytes, refusal.number());
+    let place = place.map_or(String::new(), |(from, what)| format!("; in {what}, which begins at byte {from}"));
+    Failure::input(format!("{path}: {}{place}", refused(refusal)))
 }
 
 // ---- joins

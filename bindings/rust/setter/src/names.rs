@@ -105,6 +105,22 @@ pub fn names_of(text: &[u8]) -> Names {
     names
 }
 
+/// Whether a behaviour is declared by this word.
+pub fn declared_by(text: &[u8], group: &Group, word: &str) -> bool {
+    let words = words(text);
+    words.windows(2).any(|w| w[0].text == word && w[1].place == group.place)
+}
+
+/// The line of a behaviour's handler for an event.
+pub fn handler_line(text: &[u8], behaviour: &str, event: &str) -> Option<usize> {
+    let words = words(text);
+    let begins = |k: &usize| ["passive", "active", "row"].contains(&words[*k].text);
+    let first = (0..words.len() - 1).find(|k| begins(k) && words[k + 1].text == behaviour)?;
+    let last = (first + 1..words.len()).find(begins).unwrap_or(words.len());
+    let found = words[first..last].windows(2).find(|w| w[0].text == "on" && w[1].text == event)?;
+    Some(found[0].place.line)
+}
+
 /// The numbers of the parameters that formulas of a described text name: it calls them p0, p1 and so on.
 pub fn params_used(described: &[u8]) -> Vec<usize> {
     let words = words(described);

@@ -39,6 +39,9 @@ impl Script {
     /// Reads a script and the sheets that it changes to.
     pub fn load(path: &str, given: &[(String, i32)]) -> Result<Script, Failure> {
         let bytes = bytes_of(path)?;
+        if let Some(hint) = sheet_text::encoding(&bytes) {
+            return Err(wrong(path, 1, hint));
+        }
         let text = String::from_utf8(bytes).map_err(|_| Failure::input(format!("{path}: is no text")))?;
         let mut script = Script { path: path.to_string(), statements: vec![] };
         for (k, line) in text.lines().enumerate() {

@@ -162,7 +162,7 @@ fn a_faulty_line_is_shown() {
         let done = room.setter("check slip.sheet");
         let said = said(&done);
         let lines: Vec<&str> = said.lines().collect();
-        assert_eq!((done.status.code(), lines.len()), (Some(1), 3), "{said}");
+        assert!(done.status.code() == Some(1) && lines.len() >= 3, "{said}");
         assert!(lines[1].starts_with(&format!("    {line}")) && lines[1].len() < 220, "{said}");
         assert_eq!(lines[2], format!("    {under}"), "{said}");
     }
@@ -205,4 +205,147 @@ fn parameters_that_are_not_used() {
     assert!(room.done("play one.bin change.play").contains("board: b0 10\n"));
     room.put("change.play", "mend one.sheet\nmend both.sheet\n");
     assert_eq!(room.setter("play one.sheet change.play").status.code(), Some(1));
+}
+
+/// A slip, where its fault is told, and the last line of what is said.
+const SLIPS: [(&str, &str, &str); 34] = [
+    ("evnet e rank 1", "1:1", "is it `event`?"),
+    ("{}actve b = 0", "4:1", "is it `active`?"),
+    ("{}passive p = (a + 1\nactive b = 0", "5:1", "the `(` in line 4, column 13, is still open"),
+    ("{}passive p = -a", "4:14", "`-` stands before a number or between two values: write `0 - a`"),
+    ("{}passive p = if(a = 1, 2, 3)", "4:18", "`==` compares; `=` only gives a declaration its value"),
+    (
+        "{}passive p = if(a, 1)",
+        "4:20",
+        "`if` has three: `if(condition, value if so, value if not)`; one that stays is its own name",
+    ),
+    ("event e rank 1\nparam p", "2:1", "parameters stand first: put this line above the first `event`"),
+    (
+        "{}event f rank 1",
+        "4:1",
+        "events stand before behaviours: put this line above the first `active`, `passive` or `row`",
+    ),
+    (
+        "param lives = 3\nactive left = lives",
+        "2:15",
+        "a start value is a number: to begin with another, set it by an event, as in `on begin: lives`",
+    ),
+    ("row lamp[4] = 0\npassive p = lamp[i]", "2:18", "a cell's place is a number, as in `lamp[3]`"),
+    ("event on rank 1", "1:7", "`on` is a reserved word: take another name, such as `on_`"),
+    (
+        "{}passive p = e + 1",
+        "4:13",
+        "`e` is an event, which has no value: in a formula stand behaviours, parameters and numbers; let an active \
+         count it",
+    ),
+    (
+        "{}passive p = a+a+a+a+a+a+a+a+a+a+a+a+a+a+a+a+a",
+        "4:44",
+        "a long sum is one operator within the other: put halves in brackets, or give a part to a passive of its own",
+    ),
+    ("event e rank 1 from 1, 2", "1:22", "players stand one behind the other without commas, as in `from 1 2`"),
+    ("event e rank 1;", "1:15", "a declaration ends where the next begins: leave it out"),
+    ("{}passive p = a & 1", "4:15", "write `&&`"),
+    ("{}passive p = a and 1", "4:15", "write `&&`"),
+    ("{}passive p = a | 1", "4:15", "write `||`"),
+    ("{}passive p = a or 1", "4:15", "write `||`"),
+    (
+        "{}passive p = a % 2",
+        "4:15",
+        "there is no `%`: of numbers that are not negative, the remainder of a by b is `a - a / b * b`",
+    ),
+    ("{}passive p = a ** 2", "4:16", "there are no powers: write `a * a`"),
+    ("{}passive p = 1.5", "4:14", "numbers are whole: count in tenths, say"),
+    ("{}passive p = max(a, 3)", "4:16", "there is no `max`: write `if(a > b, a, b)`"),
+    ("{}passive p = (a + 1))", "4:20", "no `(` is open here"),
+    ("{}passive p = a \u{2013} 1", "4:15", "`\u{2013}` is an en dash (U+2013): write `-`"),
+    ("{}passive p = a \u{d7} 2", "4:15", "`\u{d7}` is a multiplication sign (U+00D7): write `*`"),
+    (
+        "{}passive p = 1\n  on e: 2",
+        "5:3",
+        "a passive has no handlers, since it follows its formula at all times: make it an `active`, or leave the \
+         handler out",
+    ),
+    (
+        "active gr\u{f6}\u{df}e = 0",
+        "1:10",
+        "`\u{f6}` (U+00F6) cannot stand in a name: names have a to z, A to Z, digits and `_`; comments may have any \
+         letter",
+    ),
+    ("active\u{a0}a = 0", "1:7", "this is a no-break space (U+00A0): write a plain space"),
+    (
+        "\u{feff}event e rank 1",
+        "1:1",
+        "the file begins with a byte order mark (EF BB BF): save it as UTF-8 without one",
+    ),
+    ("e\0v\0e\0", "1:1", "the file is UTF-16: save it as UTF-8 or ASCII"),
+    ("event e rank = 2", "1:14", "an event is `event NAME rank 0` to `rank 15`: the higher rank breaks in"),
+    ("event e rank 1 from host", "1:21", "players are numbers: 0 is the host, 1 to 7 play"),
+    ("// hello", "1:1", "a comment begins with `#`"),
+];
+
+#[test]
+fn slips_are_told_with_what_to_do() {
+    let room = Room::new("slips");
+    for (text, place, hint) in SLIPS {
+        room.put("slip.sheet", text.replace("{}", "event e rank 1\nactive a = 0\n  on e: a + 1\n"));
+        let done = room.setter("check slip.sheet");
+        let said = said(&done);
+        assert_eq!(done.status.code(), Some(1), "{text}");
+        assert!(said.starts_with(&format!("slip.sheet:{place}: ")), "{said}");
+        assert_eq!(said.lines().last().map(str::trim), Some(hint), "{said}");
+    }
+}
+
+/// Faults in unlike declarations are told together, a circle with its lines, bytes by their field.
+#[test]
+fn all_that_is_at_fault() {
+    let room = Room::new("all");
+    let fault = |text: &str| {
+        room.put("slip.sheet", text);
+        said(&room.setter("check slip.sheet"))
+    };
+    let faults = fault("event e rank 1\nactive a = 0\n  on e: b % 2\n  on f: 1\npassive c = if(a, 1)\n");
+    let places: Vec<&str> = faults.lines().filter_map(|l| l.strip_prefix("slip.sheet:")?.split(": ").next()).collect();
+    assert_eq!(places, ["3:11", "4:6", "5:20"], "{faults}");
+    let circle = fault("event e rank 1\nactive a = 1\n  on e: if(p, a + 1, 0)\npassive p = a > 0\n");
+    let lines: Vec<&str> = circle.lines().collect();
+    assert_eq!(
+        lines[1..4],
+        ["    2 active a = 1", "    3   on e: if(p, a + 1, 0)", "    4 passive p = a > 0"],
+        "{circle}"
+    );
+    assert!(lines[4].starts_with("    write the formula of `p` for its name in the handlers of `a`"), "{circle}");
+    for way in ["if(a > 0, a + 1, 0)", "if(p, a + 1, 0)"] {
+        let later = if way.contains('p') { " later" } else { "" };
+        room.put("slip.sheet", format!("event e rank 1\nactive a = 1\n  on e{later}: {way}\npassive p = a > 0\n"));
+        room.done("check slip.sheet");
+    }
+    room.put("slip.bin", [1, 0, 1, 1, 1, 0, 1, 32]);
+    let bytes = said(&room.setter("check slip.bin"));
+    assert!(bytes.ends_with("; in event 1, which begins at byte 4\n"), "{bytes}");
+    room.put("slip.play", "\u{feff}send hit");
+    assert!(
+        said(&room.setter("play one.sheet slip.play")).starts_with("slip.play:1: the file begins with a byte order")
+    );
+}
+
+#[test]
+fn what_is_hardly_meant() {
+    let room = Room::new("warnings");
+    let text =
+        "param x\nevent e rank 1\nevent f rank 1\nactive a = 0\n  on e: a\nactive h = 1 seen by nobody\n  on e: \
+                if(1, h, 2)\npassive p = 0 < a < 5\n";
+    room.put("odd.sheet", text);
+    let told = room.done("check odd.sheet");
+    let told: Vec<&str> = told.lines().skip_while(|l| !l.starts_with("  warnings")).map(|l| &l[16..]).collect();
+    let due = [
+        "1:7: no formula has the parameter `x`",
+        "3:7: nothing handles event `f`: it changes nothing",
+        "5:6: this handler writes `a` to itself: leave it out",
+        "6:8: `h` is seen by nobody, and no other behaviour reads it",
+        "7:6: a condition here is always true",
+        "8:19: `a < b < c` compares the answer 0 or 1 of the first with c: write `a < b && b < c`",
+    ];
+    assert_eq!(told, due);
 }

@@ -228,6 +228,29 @@ pub fn decode(bytes: &[u8]) -> Result<Sheet, u32> {
     }
 }
 
+/// Where the event or the behaviour begins that is turned down with this number, 4 to 10, and which one it is.
+pub fn field_at_fault(bytes: &[u8], number: u32) -> Option<(usize, String)> {
+    let mut from = 0;
+    let mut counts = [0, 0];
+    while from < bytes.len() {
+        let length = |header: &[u8]| HEADER + usize::from(u16::from_be_bytes([header[1], header[2]]));
+        let to = bytes.get(from..from + HEADER).map_or(bytes.len(), |header| from + length(header)).min(bytes.len());
+        let is_event = bytes[from] == EVENT;
+        if decode(&bytes[..to]).err() == Some(number) && number != UNKNOWN_NAME {
+            let [events, behaviours] = counts;
+            let what = if is_event {
+                format!("event {events}")
+            } else {
+                format!("declaration {behaviours} behind the events")
+            };
+            return Some((from, what));
+        }
+        counts[usize::from(!is_event)] += 1;
+        from = to;
+    }
+    None
+}
+
 // ---- to bytes
 
 fn expr_length(expr: &Expr) -> usize {

@@ -62,11 +62,13 @@ pub struct Fault {
     pub place: Place,
     /// The same in a setter's words. Kind and place are what the format fixes; this is a help.
     pub why: String,
+    /// What to do about it, where that can be told.
+    pub hint: Option<String>,
 }
 
 impl Fault {
     pub(crate) fn new(kind: Kind, place: Place, why: impl Into<String>) -> Fault {
-        Fault { kind, place, why: why.into() }
+        Fault { kind, place, why: why.into(), hint: None }
     }
 }
 
@@ -99,7 +101,7 @@ pub(crate) fn perhaps<'a>(word: &str, known: impl Iterator<Item = &'a str>) -> S
 
 impl fmt::Display for Fault {
     fn fmt(&self, f: &mut fmt::Formatter<'_>) -> fmt::Result {
-        let Fault { kind, place, why } = self;
+        let Fault { kind, place, why, .. } = self;
         write!(f, "{}:{}: {} ({}): {why}", place.line, place.column, kind.word(), kind.number())
     }
 }

@@ -20,15 +20,23 @@
 mod bytes;
 mod fault;
 mod formula;
+mod hint;
+mod lint;
+mod more;
 mod read;
 mod token;
 mod tree;
+mod words;
 mod write;
 
-pub use bytes::{decode, encode};
+pub use bytes::{decode, encode, field_at_fault};
 pub use fault::{nearest, Fault, Kind, Place};
+pub use hint::{encoding, hint};
+pub use lint::{warnings, Warning};
+pub use more::faults;
 pub use read::{assemble, assemble_into, Assembled, Declared, Param};
 pub use tree::{Active, Behaviour, Body, Event, Expr, Handler, Sheet};
+pub use words::words;
 pub use write::describe;
 
 /// Bytes of a text, at most.

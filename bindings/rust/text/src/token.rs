@@ -148,6 +148,28 @@ impl<'a> Scanner<'a> {
     }
 }
 
+/// A token with its place and its bytes.
+pub struct Spot<'a> {
+    pub token: Token<'a>,
+    pub place: Place,
+    pub from: usize,
+    pub to: usize,
+}
+
+/// All tokens, the end too.
+pub fn all(text: &[u8]) -> Vec<Spot<'_>> {
+    let mut scanner = Scanner::new(text);
+    let mut spots = vec![];
+    loop {
+        let (token, place) = scanner.next();
+        let from = scanner.line_from + place.column - 1;
+        spots.push(Spot { token, place, from, to: scanner.at });
+        if token == Token::End {
+            return spots;
+        }
+    }
+}
+
 /// Where a text ends.
 pub fn end_of(text: &[u8]) -> Place {
     let lines = text.iter().filter(|b| **b == b'\n').count();
