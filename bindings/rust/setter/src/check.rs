@@ -42,7 +42,7 @@ pub fn report(file: &SheetFile) -> Result<String, Failure> {
 /// What is written so and hardly meant, by its place in the text.
 fn warnings(file: &SheetFile) -> Vec<String> {
     let one = |w: sheet_text::Warning| format!("{}:{}: {}", w.place.line, w.place.column, w.words);
-    sheet_text::warnings(&file.source).into_iter().map(one).collect()
+    file.warnings.iter().cloned().chain(sheet_text::warnings(&file.source).into_iter().map(one)).collect()
 }
 
 /// Lines under one heading.

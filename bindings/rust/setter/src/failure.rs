@@ -17,6 +17,14 @@ impl Failure {
         Failure::Input(message.into())
     }
 
+    /// The same, of a script's line.
+    pub fn at(self, path: &str, line: usize) -> Failure {
+        match self {
+            Failure::Input(message) => Failure::Input(format!("{path}:{line}: {message}")),
+            other => other,
+        }
+    }
+
     /// Tells it and gives the status.
     pub fn tell(&self) -> ExitCode {
         match self {

@@ -1,7 +1,7 @@
 //! Files of sheets, as text or as bytes, with the names of what they declare.
 use crate::excerpt;
 use crate::failure::Failure;
-use crate::names::{declared_by, handler_line, names_of, params_used, Group, Names, Param};
+use crate::names::{declared_by, handler_line, names_of, params_used, parts, Group, Names, Param, Part, Sort};
 use crate::wording::{listed, refused};
 use poqashem::{Behaviour, Circle, Event, Fault, Params, Refusal, Sheet, Table};
 use sheet_text::{words, Kind};
@@ -21,6 +21,8 @@ pub struct SheetFile {
     pub unnamed: bool,
     /// The text that it came as.
     pub source: Vec<u8>,
+    /// What a join makes of names that are not alike.
+    pub warnings: Vec<String>,
 }
 
 /// What a board or a preview shows under one name.
@@ -103,7 +105,7 @@ impl SheetFile {
 
     fn named(path: &str, sheet: Sheet, names: Names, unnamed: bool) -> SheetFile {
         let Names { params, events, groups } = names;
-        SheetFile { path: path.to_string(), sheet, params, events, groups, unnamed, source: vec![] }
+        SheetFile { path: path.to_string(), sheet, params, events, groups, unnamed, source: vec![], warnings: vec![] }
     }
 
     /// The sheet as text, under invented names.
@@ -271,6 +273,82 @@ impl SheetFile {
     }
 }
 
+// ---- by name
+
+/// What of another sheet is brought into the order of the first.
+#[derive(Clone, Copy, PartialEq, Eq)]
+pub enum Order {
+    /// Parameters and events, as a join shares them.
+    Join,
+    /// Events and behaviours, as a change of sheets keeps them.
+    Change,
+}
+
+impl SheetFile {
+    /// The same sheet with its declarations in the order of another's, by name, so that what is alike in both has one
+    /// number. Events and parameters that it lacks are declared as there.
+    pub fn in_order_of(&self, first: &SheetFile, order: Order) -> Result<SheetFile, Failure> {
+        if self.source.is_empty() || first.source.is_empty() {
+            let why = format!("{} and {} go together by name only where both are text", first.path, self.path);
+            return Err(Failure::input(why));
+        }
+        let (theirs, own) = (parts(&first.source), parts(&self.source));
+        let kept = match order {
+            Order::Join => [Sort::Param, Sort::Event],
+            Order::Change => [Sort::Event, Sort::Behaviour],
+        };
+        let mut text: Vec<u8> = vec![];
+        for sort in [Sort::Param, Sort::Event, Sort::Behaviour] {
+            let theirs: Vec<&Part> = theirs.iter().filter(|p| p.sort == sort && kept.contains(&sort)).collect();
+            let own: Vec<&Part> = own.iter().filter(|p| p.sort == sort).collect();
+            for part in &theirs {
+                let found = own.iter().find(|p| p.name == part.name);
+                if sort == Sort::Behaviour {
+                    self.same_cells(first, part.name)?;
+                }
+                text.extend([found.unwrap_or(part).text, b"\n"].concat());
+            }
+            let more = own.iter().filter(|p| theirs.iter().all(|t| t.name != p.name));
+            more.for_each(|part| text.extend([part.text, b"\n"].concat()));
+        }
+        let sheet = read(&self.path, &text)?;
+        let mut file =
+            SheetFile { source: text.clone(), ..SheetFile::named(&self.path, sheet, names_of(&text), false) };
+        for Param { name, value } in &self.params {
+            if let Some(value) = value {
+                file.set(name, *value);
+            }
+        }
+        Ok(file)
+    }
+
+    /// A behaviour of another sheet is one here, of as many cells.
+    fn same_cells(&self, first: &SheetFile, name: &str) -> Result<(), Failure> {
+        let cells = |file: &SheetFile| file.groups.iter().find(|g| g.name == name).map(Group::count);
+        match (cells(self), cells(first)) {
+            (None, _) => Err(Failure::input(format!("{}: has no {name}, whose value {} keeps", self.path, first.path))),
+            (own, other) if own != other => {
+                Err(Failure::input(format!("{}: {name} has not the cells that it has in {}", self.path, first.path)))
+            }
+            _ => Ok(()),
+        }
+    }
+
+    /// Where a change from another sheet to this one gives a number another name.
+    pub fn changes(&self, old: &SheetFile) -> Vec<String> {
+        if self.unnamed || old.unnamed {
+            return vec![];
+        }
+        let count = |file: &SheetFile| file.groups.iter().map(Group::count).sum::<u32>();
+        let both = |b: &u32| [old.behaviour(Behaviour(*b)), self.behaviour(Behaviour(*b))];
+        let behaviours = (0..count(self).min(count(old))).map(|b| ("change.behaviour", b, both(&b)));
+        let events = old.events.iter().zip(&self.events).map(|(a, b)| [a.clone(), b.clone()]);
+        let events = events.enumerate().map(|(e, both)| ("change.event", e as u32, both));
+        let unlike = behaviours.chain(events).filter(|(.., [was, is])| was != is);
+        unlike.filter_map(|(key, number, [was, is])| words(key, &[&number.to_string(), &was, &is])).collect()
+    }
+}
+
 fn whole(group: &Group) -> Shown {
     let members = (0..group.count()).map(|k| Behaviour(group.first + k)).collect();
     Shown { label: group.name.clone(), members, row: group.cells.is_some() }
@@ -299,11 +377,25 @@ pub fn joined(first: &SheetFile, second: &SheetFile) -> Result<SheetFile, Failur
     let tables = [first.compile()?, second.compile()?];
     let sheet = first.sheet.join(&second.sheet, Some(&both.lent()));
     both.sheet = sheet.map_err(|refusal| not_joined(first, second, &tables, refusal))?;
+    both.warnings = unlike_events(first, second);
     both.events.extend(second.events.iter().skip(first.events.len()).cloned());
     let count = first.groups.last().map_or(0, |g| g.first + g.count());
     both.groups.extend(second.groups.iter().map(|g| Group { first: g.first + count, ..g.clone() }));
     both.unnamed = true;
+    both.source.clear();
     Ok(both)
+}
+
+/// Events that are one in a join, under two names.
+fn unlike_events(first: &SheetFile, second: &SheetFile) -> Vec<String> {
+    if first.unnamed || second.unnamed {
+        return vec![];
+    }
+    let pairs = first.events.iter().zip(&second.events).enumerate().filter(|(_, (a, b))| a != b);
+    let told = |(k, (a, b)): (usize, (&String, &String))| {
+        words("join.event", &[&k.to_string(), a, &first.path, b, &second.path])
+    };
+    pairs.filter_map(told).collect()
 }
 
 /// Names of both sheets that mean two behaviours.
@@ -330,9 +422,8 @@ fn shared_params(first: &SheetFile, second: &SheetFile) -> Result<Vec<Param>, Fa
             Some(own) => {
                 let why =
                     format!("parameter {k} is {} in {} and {} in {}", own.name, first.path, other.name, second.path);
-                return Err(Failure::input(format!(
-                    "{why}: a join shares parameters by number, so give them one name"
-                )));
+                let way = words("join.param", &[&first.path, &second.path]).unwrap_or_default();
+                return Err(Failure::input(format!("{why}: {way}")));
             }
         }
     }

@@ -14,7 +14,7 @@ mod timeline;
 mod wording;
 
 use failure::Failure;
-use file::SheetFile;
+use file::{Order, SheetFile};
 use output::{Kind, Output};
 use script::Script;
 use std::io::Write;
@@ -40,7 +40,7 @@ or is turned down, with 2 where it was called wrongly.
 ";
 
 const CHECK: &str = "\
-setter check FILE [--join OTHER] [--param NAME=VALUE ..]
+setter check FILE [--join OTHER [--by-name]] [--param NAME=VALUE ..]
 
 Says whether the sheet is accepted, with its bytes, parameters, events, behaviours and instructions beside their limits;
 whether two phones that take in the same events in the same order, at most 64 in hand, have equal boards when idle, or
@@ -50,7 +50,7 @@ of FILE joined with OTHER.
 ";
 
 const BUILD: &str = "\
-setter build FILE OUT [--join OTHER] [--force]
+setter build FILE OUT [--join OTHER [--by-name]] [--force]
 
 Writes the sheet's bytes to OUT if the engine accepts the sheet, and nothing else. Parameters stay parameters.
 A file OUT that is there must be a sheet's bytes, and none that is read; --force writes over any.
@@ -64,15 +64,16 @@ engine turns down is told with its number.
 ";
 
 const JOIN: &str = "\
-setter join FIRST SECOND OUT [--force]
+setter join FIRST SECOND OUT [--by-name] [--force]
 
 Writes one sheet from two: events are shared by number and have the same rank in both, behaviours of the second follow
-those of the first, parameters are shared by number. A file OUT that is there must be a sheet's bytes, and none that is
-read; --force writes over any.
+those of the first, parameters are shared by number; where a number has two names, that is a warning. With --by-name the
+second, a text, is first brought into the order of the first. A file OUT that is there must be a sheet's bytes, and none
+that is read; --force writes over any.
 ";
 
 const PLAY: &str = "\
-setter play FILE SCRIPT [--join OTHER] [--param NAME=VALUE ..]
+setter play FILE SCRIPT [--join OTHER [--by-name]] [--param NAME=VALUE ..]
 
 Plays a fresh round of the sheet and prints what happens, each line after the number of steps made. A parameter has the
 text's default unless one is given. A script has one statement a line; # begins a comment:
@@ -83,11 +84,14 @@ text's default unless one is given. A script has one statement a line; # begins 
   board [BEHAVIOUR ..] [by PLAYER]          what the player sees: all, or a behaviour, a row or a cell, lamp[3]
   preview EVENT [BEHAVIOUR ..] [by PLAYER]  what the board would show if the player sent this event now
   forecast                                  how many steps until nothing is in hand
-  mend OTHER [NAME=VALUE ..]                the round goes on under another sheet, its path from the script's folder
+  mend OTHER [by name] [NAME=VALUE ..]      the round goes on under another sheet, its path from the script's folder
+
+A change of sheets goes by number, and warns where a number has another name then; by name, OTHER, a text, is brought
+into the order of the sheet before.
 ";
 
 const TIMELINE: &str = "\
-setter timeline FILE SCRIPT OUT.svg [--join OTHER] [--param NAME=VALUE ..] [--force]
+setter timeline FILE SCRIPT OUT.svg [--join OTHER [--by-name]] [--param NAME=VALUE ..] [--force]
 
 Draws what play prints: a lane for each event, a bar while it runs, what was dropped at a break-in, restarts, commits,
 refused arrivals and changes of the sheet, over the steps. A file OUT.svg that is there must be a picture, and none that
@@ -114,6 +118,7 @@ struct Asked {
     given: Vec<(String, i32)>,
     join: Option<String>,
     force: bool,
+    by_name: bool,
     help: bool,
 }
 
@@ -134,6 +139,7 @@ fn asked(words: impl Iterator<Item = String>) -> Result<Asked, Failure> {
         match word.as_str() {
             "--help" | "-h" => asked.help = true,
             "--force" => asked.force = true,
+            "--by-name" => asked.by_name = true,
             "--join" => asked.join = Some(words.next().ok_or(Failure::Usage("--join needs a file".to_string()))?),
             "--param" => {
                 let given = words.next().and_then(|w| script::assignment(&w));
@@ -154,7 +160,7 @@ fn print(text: &str) -> Result<(), Failure> {
 fn load(asked: &Asked) -> Result<SheetFile, Failure> {
     let mut file = SheetFile::load(&asked.files[0])?;
     if let Some(other) = &asked.join {
-        file = file::joined(&file, &SheetFile::load(other)?)?;
+        file = together(&file, other, asked.by_name)?;
         file::same_names(&file)?;
     }
     for (name, value) in &asked.given {
@@ -165,10 +171,25 @@ fn load(asked: &Asked) -> Result<SheetFile, Failure> {
     Ok(file)
 }
 
+/// A sheet joined with another, by number or by name.
+fn together(first: &SheetFile, other: &str, by_name: bool) -> Result<SheetFile, Failure> {
+    let mut second = SheetFile::load(other)?;
+    if by_name {
+        second = second.in_order_of(first, Order::Join)?;
+    }
+    file::joined(first, &second)
+}
+
+/// What a join makes of unlike names, beside what a command prints.
+fn warn(file: &SheetFile) {
+    file.warnings.iter().for_each(|warning| eprintln!("{}: warning: {warning}", file.path));
+}
+
 fn build(asked: &Asked) -> Result<(), Failure> {
     let output = asked.output(Kind::Sheet, &[])?;
     let file = load(asked)?;
     file.compile()?;
+    warn(&file);
     written(output, file.sheet.bytes())
 }
 
@@ -190,7 +211,8 @@ fn show(asked: &Asked) -> Result<(), Failure> {
 
 fn join(asked: &Asked) -> Result<(), Failure> {
     let output = asked.output(Kind::Sheet, &[])?;
-    let both = file::joined(&SheetFile::load(&asked.files[0])?, &SheetFile::load(&asked.files[1])?)?;
+    let both = together(&SheetFile::load(&asked.files[0])?, &asked.files[1], asked.by_name)?;
+    warn(&both);
     written(output, both.sheet.bytes())
 }
 
@@ -203,6 +225,7 @@ fn play(asked: &Asked) -> Result<(), Failure> {
     let file = load(asked)?;
     let script = Script::load(&asked.files[1], &asked.given)?;
     play::names_known(&file, &script)?;
+    warn(&file);
     print(&format!("{}\n  step\n", head(&file)))?;
     play::play(&file, &script, &mut |entry| {
         let words = wording::folded(&entry.words, COLUMNS, MARGIN + 2);

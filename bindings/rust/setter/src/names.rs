@@ -47,21 +47,25 @@ pub struct Names {
 struct Word<'t> {
     text: &'t str,
     place: Place,
+    /// Its first byte.
+    at: usize,
 }
 
 /// The words of a text, without spaces and comments.
 fn words(text: &[u8]) -> Vec<Word<'_>> {
     let mut words = vec![];
+    let mut from = 0;
     for (k, line) in text.split(|b| *b == b'\n').enumerate() {
         let code = line.split(|b| *b == b'#').next().unwrap_or(b"");
         let mut at = 0;
         while at < code.len() {
             let length = length(&code[at..]);
             if let Ok(text) = std::str::from_utf8(&code[at..at + length]) {
-                words.push(Word { text, place: Place { line: k + 1, column: at + 1 } });
+                words.push(Word { text, place: Place { line: k + 1, column: at + 1 }, at: from + at });
             }
             at += length;
         }
+        from += line.len() + 1;
     }
     words.retain(|w| !w.text.trim().is_empty());
     words
@@ -103,6 +107,39 @@ pub fn names_of(text: &[u8]) -> Names {
         }
     }
     names
+}
+
+/// What a declaration declares.
+#[derive(Clone, Copy, Debug, PartialEq, Eq)]
+pub enum Sort {
+    Param,
+    Event,
+    Behaviour,
+}
+
+/// A declaration of a text, with all that stands up to the next one.
+pub struct Part<'t> {
+    pub sort: Sort,
+    pub name: &'t str,
+    pub text: &'t [u8],
+}
+
+/// The declarations of an accepted text.
+pub fn parts(text: &[u8]) -> Vec<Part<'_>> {
+    let words = words(text);
+    let sort = |word: &Word| match word.text {
+        "param" => Some(Sort::Param),
+        "event" => Some(Sort::Event),
+        "passive" | "active" | "row" => Some(Sort::Behaviour),
+        _ => None,
+    };
+    let firsts: Vec<usize> = (0..words.len()).filter(|k| sort(&words[*k]).is_some()).collect();
+    let end = |k: usize| firsts.get(k + 1).map_or(text.len(), |next| words[*next].at);
+    let part = |(k, first): (usize, &usize)| {
+        let (word, name) = (&words[*first], words.get(first + 1)?);
+        Some(Part { sort: sort(word)?, name: name.text, text: &text[word.at..end(k)] })
+    };
+    firsts.iter().enumerate().filter_map(part).collect()
 }
 
 /// Whether a behaviour is declared by this word.

@@ -1,6 +1,6 @@
 //! A round played by a script on the proved engine, told in words.
 use crate::failure::Failure;
-use crate::file::{SheetFile, Shown};
+use crate::file::{Order, SheetFile, Shown};
 use crate::script::{wrong, Ask, Script, Statement};
 use crate::wording::{long, player, refused, several};
 use poqashem::{Arrival, Behaviour, Event, Player, Refusal, Round, Step};
@@ -10,6 +10,17 @@ use std::time::{Duration, Instant};
 /// How many steps are made before the clock is looked at, and how often progress is told.
 const BATCH: u64 = 4_096;
 const EVERY: Duration = Duration::from_secs(2);
+
+/// So many numbers that change their meaning are named at a change of sheets; the others are counted.
+const CHANGES: usize = 8;
+
+/// The sheet that a round goes on under, in its own order or in that of the one before.
+fn changed(old: &SheetFile, file: &SheetFile, by_name: bool) -> Result<SheetFile, Failure> {
+    if by_name {
+        return file.in_order_of(old, Order::Change);
+    }
+    Ok(file.clone())
+}
 
 /// An arrival under its event's name, as the sheet in force has it.
 #[derive(Clone, Debug, PartialEq, Eq)]
@@ -71,12 +82,14 @@ pub fn names_known(file: &SheetFile, script: &Script) -> Result<(), Failure> {
     file.all_given()?;
     file.compile()?;
     let mut sheets = vec![file];
+    let mut last = file.clone();
     for Statement { line, ask } in &script.statements {
         let (events, names): (&[String], &[String]) = match ask {
             Ask::Send { events, .. } => (events, &[]),
             Ask::Board { names, .. } => (&[], names),
             Ask::Preview { event, names, .. } => (std::slice::from_ref(event), names),
-            Ask::Mend(other) => {
+            Ask::Mend { file: other, by_name } => {
+                last = changed(&last, other, *by_name).map_err(|failure| failure.at(&script.path, *line))?;
                 sheets.push(other);
                 continue;
             }
@@ -161,7 +174,7 @@ impl Stage<'_> {
             Ask::Board { names, player } => self.board(line, names, *player),
             Ask::Preview { event, names, player } => self.preview(line, event, names, *player),
             Ask::Forecast => self.forecast(),
-            Ask::Mend(file) => self.mend(file),
+            Ask::Mend { file, by_name } => self.mend(file, *by_name),
         }
     }
 
@@ -299,16 +312,26 @@ impl Stage<'_> {
         self.say(words, None)
     }
 
-    fn mend(&mut self, file: &SheetFile) -> Result<(), Failure> {
+    fn mend(&mut self, file: &SheetFile, by_name: bool) -> Result<(), Failure> {
+        let file = &changed(&self.file, file, by_name)?;
         let table = file.compile()?;
         if let Err(refusal) = self.round.mend(&table) {
             return self.say(format!("the change to {} is refused, {}", file.path, refused(refusal)), None);
         }
         let back = self.running.take().map(|a| format!(": {} goes back to the hand", self.named(a)));
         let with = file.with_values();
+        let changes = file.changes(&self.file);
         self.file = file.clone();
         let words = format!("the sheet is now {}{with}{}", file.path, back.unwrap_or_default());
-        self.say(words, Some(Mark::Mended(file.path.clone())))
+        self.say(words, Some(Mark::Mended(file.path.clone())))?;
+        let more = changes.len().saturating_sub(CHANGES);
+        for change in changes.into_iter().take(CHANGES) {
+            self.say(format!("warning: {change}"), None)?;
+        }
+        match more {
+            0 => Ok(()),
+            more => self.say(format!("warning: and {}", several(more as u64, "more", "more")), None),
+        }
     }
 }
 

@@ -18,8 +18,8 @@ pub enum Ask {
     Preview { event: String, names: Vec<String>, player: Player },
     /// How many steps until idle.
     Forecast,
-    /// The round goes on under another sheet.
-    Mend(Box<SheetFile>),
+    /// The round goes on under another sheet, by number or by name.
+    Mend { file: Box<SheetFile>, by_name: bool },
 }
 
 pub struct Statement {
@@ -57,7 +57,7 @@ impl Script {
     /// The paths of the sheets that it changes to.
     pub fn sheets(&self) -> Vec<&str> {
         let asks = self.statements.iter().map(|statement| &statement.ask);
-        asks.filter_map(|ask| if let Ask::Mend(file) = ask { Some(file.path.as_str()) } else { None }).collect()
+        asks.filter_map(|ask| if let Ask::Mend { file, .. } = ask { Some(file.path.as_str()) } else { None }).collect()
     }
 }
 
@@ -124,7 +124,11 @@ impl At<'_> {
     /// Another sheet, its path taken from the script's folder.
     fn mend(&self, rest: &[&str]) -> Result<Ask, Failure> {
         let [name, values @ ..] = rest else {
-            return Err(self.wrong("mend needs a file: mend FILE [PARAMETER=VALUE ..]"));
+            return Err(self.wrong("mend needs a file: mend FILE [by name] [PARAMETER=VALUE ..]"));
+        };
+        let (values, by_name) = match values {
+            ["by", "name", values @ ..] => (values, true),
+            values => (values, false),
         };
         let folder = Path::new(self.path).parent().unwrap_or(Path::new(""));
         let path = folder.join(name);
@@ -142,7 +146,7 @@ impl At<'_> {
         }
         file.all_given()?;
         file.compile()?;
-        Ok(Ask::Mend(Box::new(file)))
+        Ok(Ask::Mend { file: Box::new(file), by_name })
     }
 }
 

@@ -349,3 +349,53 @@ fn what_is_hardly_meant() {
     ];
     assert_eq!(told, due);
 }
+
+/// A change of sheets and a join go by number, with a warning where a number has two names, or by name.
+#[test]
+fn numbers_and_names() {
+    let room = Room::new("names");
+    let events = "event hit rank 1\nevent end rank 1\n";
+    let [score, over] = ["active score = 0\n  on hit: if(over, score, score + 10)\n", "active over = 0\n  on end: 1\n"];
+    room.put("old.sheet", format!("{events}{score}{over}"));
+    room.put("new.sheet", format!("event end rank 1\nevent hit rank 1\n{over}passive won = score > 5\n{score}"));
+    room.put("number.play", "send hit end\nrun\nmend new.sheet\nboard\n");
+    let played = room.done("play old.sheet number.play");
+    for line in [
+        "warning: behaviour 0 was score and is over now: values go by number",
+        "warning: behaviour 1 was over and is won now: values go by number",
+        "warning: event 0 was hit and is end now: what is in hand goes by number",
+        "board: over 10, won 0, score 0",
+    ] {
+        assert!(played.contains(line), "{line}\n{played}");
+    }
+    room.put("name.play", "send hit end\nrun\nmend new.sheet by name\nboard\n");
+    let played = room.done("play old.sheet name.play");
+    assert!(played.contains("board: score 10, over 1, won 1\n") && !played.contains("warning"), "{played}");
+    // only where it is at hand: a behaviour that is gone, a sheet's bytes
+    let gone = |text: &str, why: &str| {
+        room.put("slip.play", text);
+        let done = room.setter("play old.sheet slip.play");
+        assert_eq!((done.status.code(), said(&done).as_str(), done.stdout.len()), (Some(1), why, 0));
+    };
+    gone("mend other.sheet by name", "slip.play:1: other.sheet: has no score, whose value old.sheet keeps\n");
+    room.done("build new.sheet new.bin");
+    gone("mend new.bin by name", "slip.play:1: old.sheet and new.bin go together by name only where both are text\n");
+
+    // of two sheets joined, the events' names
+    room.put("gems.sheet", "event end rank 1\nevent hit rank 1\nactive gems = 0\n  on end: gems + 1\n");
+    let told = room.done("check old.sheet --join gems.sheet");
+    let unlike =
+        "event 0 is hit in old.sheet and end in gems.sheet, and is one in the join: events are shared by number";
+    assert!(told.contains(&format!("  warnings      {unlike}\n")), "{told}");
+    let done = room.setter("join old.sheet gems.sheet both.bin");
+    assert!(done.status.success() && said(&done).contains(&format!(": warning: {unlike}\n")), "{}", said(&done));
+    room.put("both.play", "send hit hit end\nrun\nboard gems\n");
+    assert!(!room.done("check old.sheet --join gems.sheet --by-name").contains("warnings"));
+    assert!(room.done("play old.sheet both.play --join gems.sheet --by-name").contains("board: gems 1\n"));
+    room.put("one.sheet", "param gain\nevent hit rank 1\n");
+    room.put("gem.sheet", "param gem\nevent hit rank 1\nactive gems = 0\n  on hit: gems + gem\n");
+    let why = "parameter 0 is gain in one.sheet and gem in gem.sheet: a join shares parameters by number: declare the \
+               parameters of one.sheet first in gem.sheet, in its order\n";
+    assert_eq!(said(&room.setter("check one.sheet --join gem.sheet")), why);
+    assert!(room.done("check one.sheet --join gem.sheet --by-name").contains("parameters         2 of 8"));
+}
