@@ -28,12 +28,18 @@ const CALLS: [&str; 22] = [
     "replay",
 ];
 
-/// The folder that ./release has for a Rust target.
-const FOLDERS: [(&str, &str); 4] = [
+/// The folder that ./release has for a Rust target. Rust's x86_64-apple-ios is the simulator: no device has that
+/// processor.
+const FOLDERS: [(&str, &str); 9] = [
     ("x86_64-unknown-linux-gnu", "x86_64-linux"),
     ("aarch64-unknown-linux-gnu", "aarch64-linux"),
+    ("x86_64-linux-android", "x86_64-android"),
     ("aarch64-linux-android", "aarch64-android"),
     ("aarch64-apple-ios", "arm64-ios"),
+    ("aarch64-apple-ios-sim", "arm64-ios-simulator"),
+    ("x86_64-apple-ios", "x86_64-ios-simulator"),
+    ("aarch64-apple-darwin", "arm64-macos"),
+    ("x86_64-apple-darwin", "x86_64-macos"),
 ];
 
 fn fail(what: &str) -> ! {

@@ -1,12 +1,14 @@
 // What each released file is: formats.mjs FOLDER CALL... Reads the archives' own bytes: that they hold one object of
-// the format and processor that their folder says, which names a linker sees, and which it must find elsewhere, and
-// that they have unwind tables; and that engine.wasm imports nothing and exports its memory and the calls.
-import { readFileSync } from "node:fs";
+// the format and processor that their folder says, for Apple's the platform and the least version of it, which names a
+// linker sees, and which it must find elsewhere, and that they have unwind tables; that the XCFramework's list names
+// its libraries as they are; and that engine.wasm imports nothing and exports its memory and the calls.
+import { execFileSync } from "node:child_process";
+import { readdirSync, readFileSync } from "node:fs";
 import { join } from "node:path";
 
 const [folder, ...calls] = process.argv.slice(2);
 const wanted = calls.map((name) => `engine_${name}`).sort();
-const elsewhere = new Set(["memcpy", "memmove", "memset", "memcmp", "bzero"]);
+const elsewhere = new Set(["memcpy", "memmove", "memset", "memcmp", "bzero", "__bzero"]);
 
 function check(ok, what) {
     if (ok) return;
@@ -15,8 +17,7 @@ function check(ok, what) {
 }
 
 // The archive's members but for its index.
-function members(file) {
-    const b = readFileSync(file);
+function members(file, b = readFileSync(file)) {
     check(b.toString("latin1", 0, 8) === "!<arch>\n", `${file} is no archive`);
     const out = [];
     for (let at = 8; at + 60 <= b.length; ) {
@@ -64,15 +65,27 @@ function elf(b) {
     return { processor: b.readUInt16LE(18), defined, undefinedNames, unwind };
 }
 
-// Mach-O: the same, and the platform that it was built for.
+// A fat archive: the processor and the bytes of each of its archives.
+function slices(file) {
+    const b = readFileSync(file);
+    check(b.readUInt32BE(0) === 0xcafebabe, `${file} is no fat archive`);
+    return Array.from({ length: b.readUInt32BE(4) }, (_, k) => {
+        const [processor, , offset, size, align] = [0, 4, 8, 12, 16].map((n) => b.readUInt32BE(8 + 20 * k + n));
+        check(offset % 2 ** align === 0 && offset + size <= b.length, `${file}: slice ${k} is out of its place`);
+        return { processor, bytes: b.subarray(offset, offset + size) };
+    });
+}
+
+// Mach-O: the same, and the platform that it was built for, with its least version, as 65,536 times 15 for 15.0.
 function macho(b) {
     check(b.readUInt32LE(0) === 0xfeedfacf && b.readUInt32LE(12) === 1, "no 64-bit Mach-O object");
     const defined = [];
     const undefinedNames = [];
     let platform;
+    let least;
     let unwind = 0;
     for (let k = 0, at = 32; k < b.readUInt32LE(16); k++, at += b.readUInt32LE(at + 4)) {
-        if (b.readUInt32LE(at) === 0x32) platform = b.readUInt32LE(at + 8);
+        if (b.readUInt32LE(at) === 0x32) [platform, least] = [b.readUInt32LE(at + 8), b.readUInt32LE(at + 12)];
         if (b.readUInt32LE(at) === 0x19) {
             for (let n = 0, s = at + 72; n < b.readUInt32LE(at + 64); n++, s += 80) {
                 const section = b.toString("latin1", s, s + 16); // a name of 16 bytes has no zero behind it
@@ -89,24 +102,28 @@ function macho(b) {
             ((b[s + 4] & 0xe) === 0 ? undefinedNames : defined).push(name.slice(1));
         }
     }
-    return { processor: b.readUInt32LE(4), platform, defined, undefinedNames, unwind };
+    return { processor: b.readUInt32LE(4), platform, least, defined, undefinedNames, unwind };
 }
 
-const X86_64 = 62;
-const AARCH64 = 183;
-const ARM64 = 0x0100000c;
-const IOS = 2;
-for (const [name, read, processor, platform] of [
-    ["x86_64-linux", elf, X86_64],
-    ["aarch64-linux", elf, AARCH64],
-    ["aarch64-android", elf, AARCH64],
-    ["arm64-ios", macho, ARM64, IOS],
-]) {
+const ELF = { x86_64: 62, aarch64: 183 };
+const APPLE = { x86_64: 0x01000007, arm64: 0x0100000c };
+// Apple's platforms and their variants: number and least version.
+const PLATFORMS = { ios: [2, 15], "ios-simulator": [7, 15], macos: [1, 12] };
+const names = ["x86_64-linux", "aarch64-linux", "x86_64-android", "aarch64-android"];
+for (const [name] of Object.entries(PLATFORMS)) names.push(`arm64-${name}`);
+names.push("x86_64-ios-simulator", "x86_64-macos");
+
+const there = readdirSync(join(folder, "lib")).filter((n) => n !== "cmake");
+check(there.sort().join() === names.sort().join(), `archives for ${there}`);
+for (const name of names) {
+    const [processor, system] = [name.slice(0, name.indexOf("-")), name.slice(name.indexOf("-") + 1)];
+    const apple = PLATFORMS[system];
     const objects = members(join(folder, "lib", name, "libengine.a"));
     check(objects.length === 1, `${name}: ${objects.length} objects in the archive`);
-    const found = read(objects[0]);
-    check(found.processor === processor, `${name}: processor ${found.processor}`);
-    check(found.platform === platform, `${name}: platform ${found.platform}`);
+    const found = apple ? macho(objects[0]) : elf(objects[0]);
+    check(found.processor === (apple ? APPLE : ELF)[processor], `${name}: processor ${found.processor}`);
+    check(found.platform === apple?.[0], `${name}: platform ${found.platform}`);
+    check(!apple || found.least === apple[1] << 16, `${name}: least version ${found.least / 65536}`);
     check(found.defined.sort().join() === wanted.join(), `${name} defines ${found.defined}`);
     const strange = found.undefinedNames.filter((n) => !elsewhere.has(n));
     check(strange.length === 0, `${name} needs ${strange}`);
@@ -114,6 +131,44 @@ for (const [name, read, processor, platform] of [
     const needs = found.undefinedNames.sort().join(", ");
     console.log(`${name}: ${found.defined.length} calls, needs ${needs}, ${found.unwind} bytes of unwind tables`);
 }
+
+// The XCFramework: its list is a property list, every library stands in it and nothing else is there, and each has the
+// very archives of the processors and the platform that the list states.
+const framework = join(folder, "apple", "Engine.xcframework");
+const script = "import json, plistlib, sys; print(json.dumps(plistlib.load(open(sys.argv[1], 'rb'))))";
+const list = JSON.parse(execFileSync("python3", ["-c", script, join(framework, "Info.plist")], { encoding: "utf8" }));
+check(list.CFBundlePackageType === "XFWK" && list.XCFrameworkFormatVersion === "1.0", "Info.plist is of another format");
+const parts = list.AvailableLibraries.map((l) => l.LibraryIdentifier);
+const entries = readdirSync(framework).filter((n) => n !== "Info.plist");
+check(entries.sort().join() === [...parts].sort().join(), `the XCFramework has ${entries}, and lists ${parts}`);
+const covered = list.AvailableLibraries.flatMap((l) => {
+    const at = join(framework, l.LibraryIdentifier);
+    check(l.LibraryPath === "libengine.a" && l.BinaryPath === l.LibraryPath, `${at}: library ${l.LibraryPath}`);
+    const system = l.SupportedPlatformVariant ? `${l.SupportedPlatform}-${l.SupportedPlatformVariant}` : l.SupportedPlatform;
+    const variant = l.SupportedPlatformVariant ? `-${l.SupportedPlatformVariant}` : "";
+    const due = `${l.SupportedPlatform}-${l.SupportedArchitectures.join("_")}${variant}`;
+    check(l.LibraryIdentifier === due, `${at} should be ${due}`);
+    const headers = readdirSync(join(at, l.HeadersPath, "Engine"));
+    check(headers.sort().join() === "engine.h,module.modulemap", `${at}: headers ${headers}`);
+    const own = readFileSync(join(at, l.HeadersPath, "Engine", "engine.h"));
+    check(own.equals(readFileSync(join(folder, "include", "engine.h"))), `${at}: another header`);
+    const file = join(at, l.LibraryPath);
+    const bytes = (name) => readFileSync(join(folder, "lib", name, "libengine.a"));
+    const archives = l.SupportedArchitectures.map((processor) => `${processor}-${system}`);
+    if (archives.length === 1) check(readFileSync(file).equals(bytes(archives[0])), `${file} is not ${archives[0]}`);
+    else {
+        const found = slices(file);
+        check(found.length === archives.length, `${file}: ${found.length} archives`);
+        l.SupportedArchitectures.forEach((processor, k) => {
+            const one = found.find((s) => s.processor === APPLE[processor]);
+            check(one && one.bytes.equals(bytes(archives[k])), `${file} does not have ${archives[k]}`);
+        });
+    }
+    return archives;
+});
+const apples = names.filter((n) => PLATFORMS[n.slice(n.indexOf("-") + 1)]);
+check(covered.sort().join() === apples.sort().join(), `the XCFramework has ${covered}`);
+console.log(`Engine.xcframework: ${parts.join(", ")}`);
 
 const wasm = new WebAssembly.Module(readFileSync(join(folder, "wasm", "engine.wasm")));
 check(WebAssembly.Module.imports(wasm).length === 0, "engine.wasm has imports");
