@@ -2,15 +2,15 @@
 -- it stands for (Foreign, Passives). One that waits outranks the running event just where the test over all of them
 -- says so, by induction on how many.
 use Prim.Native.Nat.{ℕ, zero, suc, _+_, _-_, _≤_, _<_}
-use mathlib.Core.Bool.{true, false, false≢true}
-use mathlib.Core.Path.{_≡_, refl, subst, _∙_}
+use mathlib.Core.Bool.{Bool, true, false, not, false≢true, true≢false}
+use mathlib.Core.Path.{_≡_, refl, sym, subst, _∙_}
 use mathlib.Core.Logic.{_≢_, _⊎_, inr}
 use mathlib.Core.List.{List, [], _∷_}
 use native.Mathlib.Omega.{arith}
 use lib.Dec.{ltb, eqb}
 use lib.ListN.{length, replicate}
-use borrow.Author.Tests.{ltb-true, ltb-false, eqb-true, eqb-false}
-use Rattle.lib_base.proofs.Tools.{by-test, past, neither, split}
+use borrow.Author.Tests.{ltb-true, ltb-false, eqb-true, eqb-false, ne-eqb, not-true}
+use Rattle.lib_base.proofs.Tools.{by-test, past, through, neither, split}
 use Rattle.lib_word.specs.Word.{get}
 use Rattle.spec_language.specs.Refusals.{foreign}
 use Rattle.spec_language.specs.Rights.{may}
@@ -21,8 +21,9 @@ use Rattle.run_arrive.specs.Arrivals.{queueFull, arriveWith, arriveKnown, arriv
 use Rattle.run_board.specs.Board.{isMasked, copyBackUnderWay, copyBackOn, boardWith, boardKnown, boardIn, boardOn}
 use Rattle.run_dispatch.specs.Dispatch.{said, startAt, preemptAt}
 use Rattle.run_advance.specs.Advance.{commitSaid, countInstruction, executeOn, executeAt, advanceOn}
-use Rattle.run_step.specs.Machine.{whileResting, outranked, stepWith, stepIn, stepOn}
-use Rattle.run_step.proofs.Rule.{preempts, goes-on}
+use Rattle.run_step.specs.Machine.{whileResting, stepWith, stepIn, stepOn}
+use Rattle.run_step.specs.Sound.{maskedNow, isOutranked, isPreempted}
+use Rattle.run_step.proofs.Rule.{runs}
 use Rattle.run_forecast.specs.Forecast.{forecastOn}
 use Rattle.run_carry.specs.Carry.{carryOn}
 use Rattle.run_mend.specs.Mending.{handKnown, verdict, mendWith, mendAfter, mendIn, mendOn}
@@ -123,15 +124,27 @@ unfolding preemptAt said
 preempt-taken l b = omega arith
 
 module _ (t l : List ℕ) where
-  gives-way : outranked t l (waitingCount l) ≡ true → GivesWay t l
-  unfolding outranked
-  gives-way h =
-      let q = past (isMasked (eventWord t (runningEvent l) 2) (eventWord t (runningEvent l) 3) (position l)) (anyAbove t l (eventWord t (runningEvent l) 0) (waitingCount l)) h in
-      (q .0, above-says t l (eventWord t (runningEvent l) 0) (waitingCount l) (q .1))
+  -- the running event is preempted
+  abbrev way : Bool
+  way = isPreempted t l (isOutranked t l)
 
-  goes-first : outranked t l (waitingCount l) ≡ false → GivesWay t l → ⊥
-  unfolding outranked
-  goes-first h g = none-above t l (eventWord t (runningEvent l) 0) (waitingCount l) (rw (g .0) at h) (g .1)
+  abbrev masked : Bool
+  masked = isMasked (eventWord t (runningEvent l) 2) (eventWord t (runningEvent l) 3) (position l)
+
+  abbrev above : Bool
+  above = anyAbove t l (eventWord t (runningEvent l) 0) (waitingCount l)
+
+  gives-way : runningFlag l ≢ 0 → way ≡ true → GivesWay t l
+  unfolding isPreempted maskedNow isOutranked
+  gives-way f h =
+      let q = through above (not masked) (rw (ne-eqb (runningFlag l) 0 f) at h) in
+      (not-true masked (q .1), above-says t l (eventWord t (runningEvent l) 0) (waitingCount l) (q .0))
+
+  goes-first : runningFlag l ≢ 0 → way ≡ false → GivesWay t l → ⊥
+  unfolding isPreempted maskedNow isOutranked
+  goes-first f h g =
+      split above (λ e. true≢false (rw (ne-eqb (runningFlag l) 0 f, e, g .0) at h))
+      (λ e. none-above t l (eventWord t (runningEvent l) 0) (waitingCount l) e (g .1))
 
   advance-refused : instructionFits t l ≡ false → advanceOn t l .0 ≡ foreign
   unfolding advanceOn executeAt executeOn
@@ -150,11 +163,11 @@ module _ (t l : List ℕ) where
   StepFits = RunsOne t l → instructionFits t l ≡ true
 
   -- the running event goes on: its instruction decides
-  advance-order : runningFlag l ≢ 0 → outranked t l (waitingCount l) ≡ false
+  advance-order : runningFlag l ≢ 0 → way ≡ false
       → ((StepFits → ⊥) × (stepIn t l .0 ≡ foreign)) ⊎ (StepFits × Taken (stepIn t l))
   advance-order f o =
-      let q : advanceOn t l ≡ stepIn t l = goes-on t l refl f refl refl o refl in
-      need (instructionFits t l) (λ e _. e) (λ h. h (f, goes-first o))
+      let q : advanceOn t l ≡ stepIn t l = sym (runs t l f ∙ rw o) in
+      need (instructionFits t l) (λ e _. e) (λ h. h (f, goes-first f o))
       (λ e. subst (λ (r : CallResult). r .0 ≡ foreign) q (advance-refused e))
       (λ e. subst Taken q (advance-taken e))
 
@@ -165,8 +178,8 @@ module _ (t l : List ℕ) where
       (λ a. rw a (split (eqb (runningFlag l) 0)
       (λ b. inr (λ h. absurd (h .0 (eqb-true (runningFlag l) 0 b)), rest-taken b))
       (λ b. let f = eqb-false (runningFlag l) 0 b in
-      split (outranked t l (waitingCount l))
-      (λ o. inr (λ h. absurd (h .1 (gives-way o)), subst Taken (preempts t l refl f refl refl o refl refl) (preempt-taken l (best t l (waitingCount l)))))
+      split way
+      (λ o. inr (λ h. absurd (h .1 (gives-way f o)), subst Taken (sym (runs t l f ∙ rw o)) (preempt-taken l (best t l (waitingCount l)))))
       (λ o. advance-order f o))))
 
 pub demand-1 : Demand1

@@ -14,8 +14,8 @@ use Rattle.format_layout.specs.Layout.{eventCount, tableFits, eventOf, playerOf
 use Rattle.format_layout.specs.Bounds.{TableBounds}
 use Rattle.format_layout.proofs.BoundsLaws.{table-bounds, fit-table, hand-bound, bounds}
 use Rattle.run_arrive.specs.Arrivals.{queueFull}
-use Rattle.run_burst.specs.Sound.{RoundSound}
-use Rattle.run_burst.proofs.Fits.{ours-sound, sound-ours}
+use Rattle.run_step.specs.Sound.{RoundSound}
+use Rattle.run_step.proofs.Fits.{ours-sound, sound-ours}
 use Rattle.run_mend.specs.Mending.{waitingKnown, knownWith, handKnown}
 use Rattle.claims.specs.Demand1.{OurTable, EachInHand, handCount, OurRound}
 

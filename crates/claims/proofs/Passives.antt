@@ -17,9 +17,9 @@ use Rattle.lib_arith.specs.Functions.{arity, result, over}
 use Rattle.spec_language.specs.Refusals.{foreign}
 use Rattle.format_layout.specs.Layout.{passivesStart, passivesLength, codeFits}
 use Rattle.format_layout.proofs.BoundsLaws.{code-bound, fit-code}
-use Rattle.run_stack.specs.Stack.{pushOn, popTo, noted, applyOne, applyTwo, applyThree, applyOn}
+use Rattle.run_instruction.specs.Stack.{pushOn, popTo, noted, applyOne, applyTwo, applyThree, applyOn}
 use Rattle.run_instruction.specs.Instruction.{transfer, perform}
-use Rattle.run_burst.proofs.Performs.{perform-keeps}
+use Rattle.run_instruction.proofs.Performs.{perform-keeps}
 use Rattle.run_stretch.specs.Stretch.{stretchOn, stretchAt, stretchFrom}
 use Rattle.run_carry.specs.Carry.{filledStore, workedOut, carryOn}
 use Rattle.run_carry.proofs.CarryLaws.{length-filled, filled-head}

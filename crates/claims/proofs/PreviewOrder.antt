@@ -19,7 +19,7 @@ use Rattle.spec_model.specs.Model.{step}
 use Rattle.format_layout.specs.Layout.{eventCount, behaviourCount, sendersAt, viewersAt, taken, waitingCount, runningFlag, tableFits, slotsFit, roundWith, roundIn, roundFits, ours}
 use Rattle.run_arrive.specs.Arrivals.{queueFull, arriveWith, arriveKnown, arriveIn, arriveOn}
 use Rattle.run_step.specs.Machine.{stepOn}
-use Rattle.run_burst.proofs.Still.{idle-stays, refused-stays}
+use Rattle.run_step.proofs.Still.{idle-stays, refused-stays}
 use Rattle.run_preview.specs.Preview.{lastStep, toIdle, inHand, previewSteps, previewAnswer, shownIn, previewSeen, previewTaken, previewAfter, previewCopy, previewOn}
 use Rattle.back_compile.specs.Statements.{FirstUnmet}
 use Rattle.back_compile.proofs.Orders.{need-true, need-less}

@@ -17,7 +17,7 @@ use Rattle.spec_language.specs.Reading.{readSheet}
 use Rattle.spec_language.specs.Rights.{may}
 use Rattle.spec_model.specs.Model.{arrive, step}
 use Rattle.format_layout.specs.Layout.{eventWord, eventCount, behaviourCount, sendersAt, viewersAt, passivesStart, passivesLength, eventOf, playerOf, taken, waitingCount, runningFlag, runningWord, runningEvent, position, depth, wordAt, eventAt}
-use Rattle.run_allowed.specs.Allowed.{mayRun}
+use Rattle.run_instruction.specs.Allowed.{mayRun}
 use Rattle.run_start.specs.Start.{startOn}
 use Rattle.run_arrive.specs.Arrivals.{arriveOn}
 use Rattle.run_board.specs.Board.{isMasked, copyBackUnderWay, boardOn}

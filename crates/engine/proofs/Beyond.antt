@@ -25,9 +25,9 @@ use Rattle.back_compile.specs.Verdict.{Compiled, programOf, compileOn}
 use Rattle.back_compile.proofs.AcceptedExactly.{accepted-exactly, refused-unchanged}
 use Rattle.run_queue.specs.Queue.{best, better, eitherSlot, ahead}
 use Rattle.run_start.specs.Start.{CallResult, startOn}
-use Rattle.run_stack.specs.Stack.{pushOn, popTo, noted, applyOne, applyTwo, applyThree, applyOn}
-use Rattle.run_allowed.specs.Allowed.{mayRun}
-use Rattle.run_allowed.proofs.AllowedLaws.{slot-small}
+use Rattle.run_instruction.specs.Stack.{pushOn, popTo, noted, applyOne, applyTwo, applyThree, applyOn}
+use Rattle.run_instruction.specs.Allowed.{mayRun}
+use Rattle.run_instruction.proofs.AllowedLaws.{slot-small}
 use Rattle.run_instruction.specs.Instruction.{transfer, perform}
 use Rattle.run_carry.specs.Carry.{carryOn, shownFor, storeShown}
 use Rattle.run_arrive.specs.Arrivals.{queueFull, arriveWith, arriveKnown, arriveIn, arriveOn}

@@ -15,7 +15,7 @@ use Rattle.run_arrive.specs.Arrivals.{arriveOn}
 use Rattle.run_board.specs.Board.{boardOn}
 use Rattle.run_step.specs.Machine.{stepOn}
 use Rattle.run_answers.specs.Answers.{putAnswer}
-use Rattle.run_burst.specs.Sound.{RoundSound, higherWaits}
+use Rattle.run_step.specs.Sound.{RoundSound, isOutranked, outrankedAfter}
 use Rattle.refine_calls.specs.Refinement.{callOn, turnOnBytes, numbersOn, bytesAfter, answersOn, roundAfter}
 use Rattle.engine.specs.Replay.{callOf, callsFrom, putAnswers, RowOfSteps}
 
@@ -87,19 +87,19 @@ module _ {t calls : List ℕ} {n : ℕ} {l₀ a₀ : List ℕ} {i : ℕ} {l a : 
 
 -- ---- steps in a row, judged once
 
-pub record Stepping (t calls : List ℕ) (n i₀ : ℕ) (l₀ a₀ : List ℕ) (pressed : Bool) (i : ℕ) (l a : List ℕ) : Type 0 where
+pub record Stepping (t calls : List ℕ) (n i₀ : ℕ) (l₀ a₀ : List ℕ) (o : Bool) (i : ℕ) (l a : List ℕ) : Type 0 where
   pub made : RowOfSteps t calls n i₀ l₀ a₀ i l a
   pub sound : RoundSound t l
-  pub rank : higherWaits t l ≡ pressed
+  pub rank : isOutranked t l ≡ o
 
-pub first : (t calls l a : List ℕ) {n i : ℕ} {p : Bool} → i ≤ n → RoundSound t l → p ≡ higherWaits t l → Stepping t calls n i l a p i l a
+pub first : (t calls l a : List ℕ) {n i : ℕ} {p : Bool} → i ≤ n → RoundSound t l → p ≡ isOutranked t l → Stepping t calls n i l a p i l a
 first t calls l a h s e = record { made = none-made t calls l a h; sound = s; rank = sym e }
 
-pub next-step : {t calls : List ℕ} {n i₀ : ℕ} {l₀ a₀ : List ℕ} {pressed : Bool} {i : ℕ} {l a : List ℕ} {p : Bool} {r : ℕ} {l′ a′ : List ℕ} → Stepping t calls n i₀ l₀ a₀ pressed i l a
-    → i < n → getD calls (i * 6) 0 ≡ 1 → callResult r l′ ≡ stepOn t l → RoundSound t l′ × (higherWaits t l′ ≡ p) → a′ ≡ putAnswer a i r → length a′ ≡ length a → length l′ ≡ length l
+pub next-step : {t calls : List ℕ} {n i₀ : ℕ} {l₀ a₀ : List ℕ} {o : Bool} {i : ℕ} {l a : List ℕ} {p : Bool} {r : ℕ} {l′ a′ : List ℕ} → Stepping t calls n i₀ l₀ a₀ o i l a
+    → i < n → getD calls (i * 6) 0 ≡ 1 → callResult r l′ ≡ stepOn t l → RoundSound t l′ × (isOutranked t l′ ≡ outrankedAfter o r) → p ≡ outrankedAfter o r → a′ ≡ putAnswer a i r → length a′ ≡ length a → length l′ ≡ length l
     → Stepping t calls n i₀ l₀ a₀ p (i + 1) l′ a′
-next-step {t} {calls} {n} {i₀} {l₀} {a₀} {pressed} {i} {l} {a} g h k e s f w x = record {
+next-step {t} {calls} {n} {i₀} {l₀} {a₀} {o} {i} {l} {a} g h k e s q f w x = record {
   made = and-then (g .made) (one-step t calls l a h k e f w x);
   sound = s .0;
-  rank = s .1;
+  rank = s .1 ∙ sym q;
 }

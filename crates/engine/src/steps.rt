@@ -2,7 +2,7 @@
 ghost use mathlib.Core.Path.{_≡_};
 ghost use Prim.Native.Nat.{_+_, _*_, _≤_, _<_};
 ghost use lib.ListN.{length};
-ghost use Rattle.run_burst.specs.Sound.{RoundSound};
+ghost use Rattle.run_step.specs.Sound.{RoundSound};
 ghost use Rattle.engine.specs.Replay.{RowOfSteps};
 
 // The bytes of a recorded call, of which the first is its kind; the kind of a step.
@@ -23,14 +23,14 @@ fn steps_from(
     ensures { λ r. ⌜ RowOfSteps (now (table .entry)) (now (calls .entry)) n i (now (round .entry)) (now (answers .entry)) r (now (round .exit)) (now (answers .exit)) ⌝ }
 {
     let mut at = i;
-    let mut pressed = run_burst::is_outranked(&*table, round);
+    let mut outranked = run_step::is_outranked(&*table, round);
     while at < n {
         if calls[at * CALL_BYTES] != STEP {
             return at;
         }
-        let went = run_burst::step_on(&*table, round, pressed);
-        pressed = went.pressed;
-        run_answers::put_answer(answers, at, went.answer);
+        let answer = run_step::step_on(&*table, round, outranked);
+        outranked = run_step::is_outranked_after(outranked, answer);
+        run_answers::put_answer(answers, at, answer);
         at += 1;
     }
     at

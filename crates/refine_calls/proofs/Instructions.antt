@@ -21,8 +21,8 @@ use Rattle.spec_execution.specs.Execution.{Values, held, heldAt, top, onArgumen
 use Rattle.spec_execution.specs.Safe.{Filled, Ok, isFilled, Matches}
 use Rattle.spec_execution.proofs.SafeLaws.{full-some}
 use Rattle.format_image.specs.Image.{operation, constant}
-use Rattle.run_stack.specs.Stack.{pushOn, popTo, noted, applyOne, applyTwo, applyThree, applyOn}
-use Rattle.run_allowed.specs.Allowed.{applies, mayRun}
+use Rattle.run_instruction.specs.Stack.{pushOn, popTo, noted, applyOne, applyTwo, applyThree, applyOn}
+use Rattle.run_instruction.specs.Allowed.{applies, mayRun}
 use Rattle.run_instruction.specs.Instruction.{transfer, perform}
 use Rattle.refine_calls.specs.Refinement.{Kept}
 use Rattle.refine_calls.proofs.Slots.{kept-all, kept-put}

@@ -17,7 +17,7 @@ use Rattle.lib_word.proofs.Laws.{long, long-put, get-put, get-same, get-other, 
 use Rattle.spec_semantics.specs.Meaning.{at}
 use Rattle.spec_execution.specs.Execution.{Values, emptied}
 use Rattle.spec_execution.specs.Safe.{isFilled}
-use Rattle.run_stack.specs.Stack.{noted}
+use Rattle.run_instruction.specs.Stack.{noted}
 use Rattle.run_dispatch.specs.Dispatch.{runArrival}
 
 -- ---- values as far as filled, from word a on

@@ -3,14 +3,14 @@
 -- calls it.
 use Prim.Native.Nat.{ℕ, _+_, _*_, _/_, _%_}
 use mathlib.Core.List.{List}
-use lib.Dec.{ltb, eqb}
+use lib.Dec.{ltb, leb, eqb}
 use Rattle.lib_base.specs.Basics.{pick}
 use Rattle.lib_word.specs.Word.{get, put}
 use Rattle.spec_language.specs.Refusals.{foreign}
 use Rattle.spec_language.specs.Answers as kinds
 use Rattle.format_layout.specs.Layout.{eventWord, runningWord, runningEvent, runningNumber, position, depth, markWord}
 use Rattle.run_start.specs.Start.{CallResult}
-use Rattle.run_allowed.specs.Allowed.{mayRun}
+use Rattle.run_instruction.specs.Allowed.{mayRun}
 use Rattle.run_instruction.specs.Instruction.{perform}
 use Rattle.run_dispatch.specs.Dispatch.{saidOf}
 
@@ -38,3 +38,7 @@ executeAt t l k c hand n len = executeOn l (get t (512 + k * 2)) (get t (513 + k
 unfoldable pub advanceOn : List ℕ → List ℕ → CallResult
 advanceOn t l =
     executeAt t l (eventWord t (runningEvent l) 1 + position l) (position l) (runningWord l) (runningNumber l) (eventWord t (runningEvent l) 2)
+
+-- the same, where one is left: an event of a damaged table may have no instructions
+unfoldable pub advanceLeft : List ℕ → List ℕ → CallResult
+advanceLeft t l = pick (leb (eventWord t (runningEvent l) 2) (position l)) (foreign, l) (advanceOn t l)

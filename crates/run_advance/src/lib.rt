@@ -4,11 +4,12 @@ use format_layout::table;
 use spec_language::answers;
 use spec_language::refusals;
 ghost use mathlib.Core.Path.{_≡_};
-ghost use mathlib.Core.Logic.{_≢_};
-ghost use Rattle.lib_word.specs.Word.{get};
-ghost use Rattle.format_layout.specs.Bounds.{Bounds};
+ghost use Prim.Native.Nat.{_≤_, _<_};
+ghost use lib.ListN.{length};
+ghost use Rattle.format_layout.specs.Layout.{eventCount, runningEvent, depth};
+ghost use Rattle.format_layout.specs.Bounds.{TableBounds};
 ghost use Rattle.run_start.specs.Start.{callResult};
-ghost use Rattle.run_advance.specs.Advance.{commitSaid, advanceOn};
+ghost use Rattle.run_advance.specs.Advance.{commitSaid, advanceLeft};
 
 const FOREIGN: u64 = refusals::FOREIGN as u64;
 
@@ -24,10 +25,11 @@ fn commit_of(number: u32, word: u32, mark: u32) -> u64
 }
 
 // One instruction of the running arrival: the one at its count of instructions done, which then grows by one; after the
-// last, nothing runs and the event is committed. 14 where the instruction may not run.
+// last, nothing runs and the event is committed. 14 where none is left (an event of none, of a damaged table) or the
+// instruction may not run.
 pub fn advance_on(table: &[u8], round: &mut [u8]) -> u64
-    requires { ⌜ Bounds (now table) (now round) × (get (now round) 2 ≢ 0) ⌝ }
-    ensures { λ r. ⌜ callResult r (now (round .exit)) ≡ advanceOn (now (table .entry)) (now (round .entry)) ⌝ }
+    requires { ⌜ TableBounds (now table) × (2048 ≤ length (now round)) × (depth (now round) ≤ 64) × (runningEvent (now round) < eventCount (now table)) ⌝ }
+    ensures { λ r. ⌜ callResult r (now (round .exit)) ≡ advanceLeft (now (table .entry)) (now (round .entry)) ⌝ }
 {
     let word = lib_word::get_word(round, round::RUNNING_WORD);
     let number = lib_word::get_word(round, round::RUNNING_NUMBER);
@@ -35,7 +37,10 @@ pub fn advance_on(table: &[u8], round: &mut [u8]) -> u64
     let event = format_layout::event_of(word);
     let start = format_layout::event_word(table, event, table::CODE_START);
     let length = format_layout::event_word(table, event, table::CODE_LENGTH);
-    if run_stretch::execute_at(&*table, round, (start + done) as usize) != 0 {
+    if length <= done {
+        return FOREIGN;
+    }
+    if run_stretch::execute_from(&*table, round, (start + done) as usize, 1) != 0 {
         return FOREIGN;
     }
     if done + 1 < length {

@@ -15,13 +15,13 @@ use Rattle.format_layout.specs.Layout.{eventWord, waitingCount, runningFlag, ru
 use Rattle.run_start.specs.Start.{CallResult}
 use Rattle.run_queue.specs.Queue.{best}
 use Rattle.run_board.specs.Board.{isMasked}
-use Rattle.run_allowed.specs.Allowed.{mayRun}
+use Rattle.run_instruction.specs.Allowed.{mayRun}
 use Rattle.run_instruction.specs.Instruction.{perform}
 use Rattle.run_dispatch.specs.Dispatch.{said, startAt, preemptAt}
 use Rattle.run_advance.specs.Advance.{commitSaid, countInstruction, executeOn, executeAt, advanceOn}
 use Rattle.run_step.specs.Machine.{meet, contestOn, whileRunning, whileResting, stepWith, stepIn, stepOn}
-use Rattle.run_burst.specs.Sound.{RoundSound}
-use Rattle.run_burst.proofs.Steps.{step-rest}
+use Rattle.run_step.specs.Sound.{RoundSound}
+use Rattle.run_step.proofs.Steps.{step-rest}
 
 -- an outcome that is not idle
 abbrev Busy : CallResult → Type 0

@@ -1,16 +1,12 @@
 -- A burst: the steps up to the next commit, for all bytes. It ends before a step that is idle or refused, and after one
 -- that commits.
-use Prim.Native.Nat.{ℕ, zero, suc, _+_, _*_, _/_, _%_}
-use mathlib.Core.Bool.{Bool, true, false}
+use Prim.Native.Nat.{ℕ, zero, suc, _%_}
+use mathlib.Core.Bool.{Bool, true}
 use mathlib.Core.List.{List}
 use lib.Dec.{eqb}
 use Rattle.lib_base.specs.Basics.{pick}
-use Rattle.lib_word.specs.Word.{get, put}
 use Rattle.spec_language.specs.Refusals.{foreign}
 use Rattle.spec_language.specs.Answers as kinds
-use Rattle.format_layout.specs.Layout.{depth}
-use Rattle.run_allowed.specs.Allowed.{mayRun}
-use Rattle.run_instruction.specs.Instruction.{perform}
 use Rattle.run_step.specs.Machine.{stepOn}
 
 -- a step that answers a commits: the kind is the remainder by 16
@@ -39,18 +35,3 @@ burstOn t (suc k) l =
     pick (unmade (stepOn t l .0)) (stepOn t l .0, suc k, l)
     (pick (isCommit (stepOn t l .0)) (stepOn t l .0, k, stepOn t l .1)
     (burstOn t k (stepOn t l .1)))
-
--- ---- one instruction, k-th of the table, with which c are done: whether it may run, and the round's bytes
-
-abbrev pub Performed : Type 0
-Performed = Bool × List ℕ
-
-abbrev pub performed : Bool → List ℕ → Performed
-performed b l = (b, l)
-
--- of first word a and constant w
-unfoldable pub performOn : List ℕ → ℕ → ℕ → ℕ → Performed
-performOn l a w c = pick (mayRun (a / 256) (a % 256) (depth l)) (true, put (perform l (a / 256) (a % 256) w (depth l)) 5 c) (false, l)
-
-unfoldable pub performAt : List ℕ → List ℕ → ℕ → ℕ → Performed
-performAt t l k c = performOn l (get t (512 + k * 2)) (get t (513 + k * 2)) c

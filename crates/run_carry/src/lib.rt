@@ -75,7 +75,7 @@ pub fn carry_on(old: &[u8], table: &[u8], round: &[u8], values: &mut [u8]) -> u3
     if !format_layout::code_fits(start, length) {
         return refusals::FOREIGN;
     }
-    run_stretch::execute_from(table, start as usize, length as usize, values)
+    run_stretch::execute_from(table, values, start as usize, length)
 }
 
 // ---- what the board shows then

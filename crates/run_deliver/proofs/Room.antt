@@ -21,7 +21,7 @@ use Rattle.format_layout.proofs.BoundsLaws.{bounds, table-bounds, hand-bound}
 use Rattle.format_layout.specs.Round.{CallResult}
 use Rattle.run_queue.specs.Queue.{best, putSlot}
 use Rattle.run_board.specs.Board.{isMasked}
-use Rattle.run_allowed.specs.Allowed.{mayRun}
+use Rattle.run_instruction.specs.Allowed.{mayRun}
 use Rattle.run_instruction.specs.Instruction.{perform}
 use Rattle.run_dispatch.specs.Dispatch.{said, runArrival, startAt, preemptAt}
 use Rattle.run_advance.specs.Advance.{commitSaid, countInstruction, executeOn, executeAt, advanceOn}

@@ -15,7 +15,7 @@ use Rattle.lib_word.proofs.Laws.{length-put}
 use Rattle.format_layout.specs.Layout.{ours, runningFlag, waitingCount}
 use Rattle.run_answers.specs.Answers.{putAnswer}
 use Rattle.run_step.specs.Machine.{stepOn}
-use Rattle.run_burst.specs.Sound.{RoundSound}
+use Rattle.run_step.specs.Sound.{RoundSound}
 use Rattle.run_burst.specs.Burst.{isCommit, unmade, Burst, burst, burstOn}
 use Rattle.run_burst.proofs.Glue.{left-at-most, left-fewer}
 use Rattle.run_burst.proofs.Rests.{one-runs, one-waits, none-in-hand}

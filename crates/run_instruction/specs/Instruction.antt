@@ -5,7 +5,7 @@ use mathlib.Core.List.{List}
 use lib.Dec.{eqb}
 use Rattle.lib_base.specs.Basics.{pick}
 use Rattle.lib_word.specs.Word.{get, put}
-use Rattle.run_stack.specs.Stack.{pushOn, popTo, applyOn}
+use Rattle.run_instruction.specs.Stack.{pushOn, popTo, applyOn}
 
 -- word k to word j
 unfoldable pub transfer : List ℕ → ℕ → ℕ → List ℕ

@@ -1,1 +1,4 @@
+pub mod Stack
+pub mod Allowed
 pub mod Instruction
+pub mod Execution

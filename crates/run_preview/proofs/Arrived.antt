@@ -18,9 +18,9 @@ use Rattle.format_layout.proofs.BoundsLaws.{table-bounds}
 use Rattle.run_start.specs.Start.{CallResult, callResult}
 use Rattle.run_queue.specs.Queue.{putSlot}
 use Rattle.run_arrive.specs.Arrivals.{admit, queueFull, arriveWith, arriveKnown, arriveIn, arriveOn}
-use Rattle.run_burst.specs.Sound.{RoundSound}
-use Rattle.run_burst.proofs.Fits.{ours-sound}
-use Rattle.run_burst.proofs.Moves.{slot-length, slot-waiting, slot-here, slot-there}
+use Rattle.run_step.specs.Sound.{RoundSound}
+use Rattle.run_step.proofs.Fits.{ours-sound}
+use Rattle.run_step.proofs.Moves.{slot-length, slot-waiting, slot-here, slot-there}
 
 not-full : (n f : ℕ) → queueFull n f ≡ false → (n < 64) × (f ≢ 0 → n < 63)
 unfolding queueFull

@@ -11,7 +11,7 @@ use Rattle.lib_base.specs.Basics.{pick}
 use Rattle.lib_base.proofs.Tools.{split}
 use Rattle.run_start.specs.Start.{CallResult, callResult}
 use Rattle.run_step.specs.Machine.{stepOn}
-use Rattle.run_burst.specs.Sound.{RoundSound}
+use Rattle.run_step.specs.Sound.{RoundSound}
 use Rattle.run_burst.specs.Burst.{isCommit, unmade, Burst, burst, burstOn}
 use Rattle.run_burst.proofs.Glue.{stays, left-fewer}
 use Rattle.run_preview.specs.Preview.{lastStep, toIdle}

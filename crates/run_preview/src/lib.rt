@@ -5,7 +5,7 @@ ghost use Prim.Native.Nat.{_+_, _≤_, _<_};
 ghost use lib.ListN.{length};
 ghost use Rattle.format_layout.specs.Bounds.{TableBounds};
 ghost use Rattle.run_start.specs.Start.{callResult};
-ghost use Rattle.run_burst.specs.Sound.{RoundSound};
+ghost use Rattle.run_step.specs.Sound.{RoundSound};
 ghost use Rattle.run_preview.specs.Preview.{lastStep, toIdle, inHand, previewSteps, previewAnswer, shownIn, previewCopy, previewOn};
 
 // What stands above a value, so that it is no refusal's number.

@@ -1,1 +1,6 @@
 pub mod Rule
+pub mod Fits
+pub mod Choice
+pub mod Moves
+pub mod Still
+pub mod Steps

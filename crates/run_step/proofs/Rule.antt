@@ -1,79 +1,83 @@
--- A step's definition, branch by branch: what it is where one runs that is outranked or not, where none runs, and where
--- table or round is foreign. The running one is outranked just where the best of those that wait is, by `any-above`.
+-- A step's definition where one runs: the best of those that wait preempts it where it is unmasked and outranked, else
+-- it goes on. Some that wait outrank it just where the best of them does, by `any-above`.
 use Prim.Native.Nat.{ℕ, _-_, _≤_, _<_}
-use mathlib.Core.Bool.{Bool, true, false}
-use mathlib.Core.Path.{_≡_, refl}
+use mathlib.Core.Bool.{Bool, true, false, not, true≢false}
+use mathlib.Core.Path.{_≡_, refl, sym, _∙_}
 use mathlib.Core.Logic.{_≢_}
 use mathlib.Core.List.{List}
 use native.Mathlib.Omega.{arith}
 use lib.Dec.{ltb, eqb}
-use borrow.Author.Tests.{eqb-true, eqb-false, ne-eqb}
+use borrow.Author.Tests.{ltb-true, eqb-true, eqb-false, ne-eqb}
 use Rattle.lib_base.specs.Basics.{pick}
-use Rattle.lib_base.proofs.Tools.{split, by-test}
+use Rattle.lib_base.proofs.Tools.{split}
+use Rattle.lib_word.specs.Word.{get}
 use Rattle.spec_language.specs.Refusals as refusals
-use Rattle.spec_language.specs.Answers as kinds
-use Rattle.format_layout.specs.Layout.{eventWord, waitingCount, runningFlag, runningEvent, position, eventAt, ours}
-use Rattle.run_start.specs.Start.{CallResult, callResult}
+use Rattle.format_layout.specs.Layout.{eventWord, eventOf, waitingCount, runningFlag, runningEvent, position, eventAt, ours}
+use Rattle.run_start.specs.Start.{callResult}
 use Rattle.run_queue.specs.Queue.{best, anyAbove}
 use Rattle.run_queue.proofs.Choice.{any-above}
 use Rattle.run_board.specs.Board.{isMasked}
-use Rattle.run_dispatch.specs.Dispatch.{startAt, preemptAt}
+use Rattle.run_dispatch.specs.Dispatch.{preemptAt}
 use Rattle.run_advance.specs.Advance.{advanceOn}
-use Rattle.run_step.specs.Machine.{meet, contestOn, whileRunning, whileResting, outranked, stepWith, stepIn, stepOn}
+use Rattle.run_step.specs.Machine.{meet, contestOn, whileRunning, stepWith, stepIn, stepOn}
+use Rattle.run_step.specs.Sound.{maskedNow, isOutranked, isPreempted}
 
--- one runs, and n wait
+module _ (t l : List ℕ) (f : runningFlag l ≢ 0) where
+  abbrev n : ℕ
+  n = waitingCount l
+
+  abbrev rank : ℕ
+  rank = eventWord t (runningEvent l) 0
+
+  outranked-is : isOutranked t l ≡ anyAbove t l rank n
+  unfolding isOutranked
+  outranked-is = rw (ne-eqb (runningFlag l) 0 f)
+
+  above-is : n ≢ 0 → isOutranked t l ≡ ltb rank (eventWord t (eventAt l (best t l n)) 0)
+  above-is h = outranked-is ∙ any-above t l rank n (omega arith)
+
+  -- nothing waits
+  none-waits : n ≡ 0 → isOutranked t l ≡ false
+  unfolding anyAbove
+  none-waits e = outranked-is ∙ rw e
+
+  pub some-wait : isOutranked t l ≡ true → n ≢ 0
+  some-wait o e = true≢false (sym o ∙ none-waits e)
+
+  -- the best of the hand outranks it
+  pub best-outranks : isOutranked t l ≡ true → rank < eventWord t (eventAt l (best t l n)) 0
+  best-outranks o = ltb-true rank (eventWord t (eventAt l (best t l n)) 0) (sym (above-is (some-wait o)) ∙ o)
+
+  pub runs : stepIn t l ≡ pick (isPreempted t l (isOutranked t l)) (preemptAt l (best t l n)) (advanceOn t l)
+  unfolding stepIn stepWith whileRunning contestOn meet isPreempted maskedNow
+  runs =
+      let m = isMasked (eventWord t (runningEvent l) 2) (eventWord t (runningEvent l) 3) (position l) in
+      rw (ne-eqb (runningFlag l) 0 f)
+      (split (eqb n 0)
+      (λ e. rw (e, none-waits (eqb-true n 0 e)))
+      (λ e. rw (e, above-is (eqb-false n 0 e))
+      (split (ltb rank (eventWord t (eventAt l (best t l n)) 0)) (λ o. rw o (split m (λ k. rw k) (λ k. rw k))) (λ o. rw o (split m (λ k. rw k) (λ k. rw k))))))
+
+-- ---- what the code's tests are made of
+
 module _ (t l : List ℕ) where
-  abbrev maskedNow : Bool
-  maskedNow = isMasked (eventWord t (runningEvent l) 2) (eventWord t (runningEvent l) 3) (position l)
+  pub none-runs : {f : ℕ} → f ≡ get l 2 → f ≡ 0 → false ≡ isOutranked t l
+  unfolding isOutranked
+  none-runs p h = rw (← p, h)
 
-  -- nothing waits: the running one is not outranked
-  pub none-waits : {n : ℕ} → n ≡ 0 → false ≡ outranked t l n
-  unfolding outranked anyAbove
-  none-waits e = rw e (by-test (λ (x : Bool). false ≡ x) maskedNow (λ _. refl) (λ _. refl))
+  pub one-runs : {f e p n : ℕ} {r : Bool} → f ≡ get l 2 → f ≢ 0 → e ≡ eventOf (get l 3) → p ≡ eventWord t e 0 → n ≡ get l 1 → r ≡ anyAbove t l p n → r ≡ isOutranked t l
+  unfolding isOutranked
+  one-runs {f} a h b c d k = rw (← a, ne-eqb f 0 h, ← b, ← c, ← d) k
 
-  runs : (n : ℕ) → pick (outranked t l n) (preemptAt l (best t l n)) (advanceOn t l) ≡ whileRunning t l n
-  unfolding outranked whileRunning contestOn meet
-  runs n =
-      split (eqb n 0)
-      (λ e. let z = eqb-true n 0 e in rw (e, ← none-waits z))
-      (λ e.
-      let h : 0 < n = omega (arith, eqb-false n 0 e) in
-      rw (e, any-above t l (eventWord t (runningEvent l) 0) n h) (split maskedNow (λ k. rw k) (λ k. rw k)))
+  pub stays : {o : Bool} → o ≡ false → false ≡ isPreempted t l o
+  unfolding isPreempted
+  stays h = rw h
 
-  -- the first that fits
-  pub preempts : {f n b : ℕ} {x : Bool} {r : CallResult} → f ≡ runningFlag l → f ≢ 0 → n ≡ waitingCount l → x ≡ outranked t l n → x ≡ true → b ≡ best t l n
-      → r ≡ preemptAt l b → r ≡ stepIn t l
-  unfolding stepIn stepWith
-  preempts {f} {n} p h q o k s z = rw (← p, ne-eqb f 0 h, ← q, ← runs n, ← o, k, ← s) z
-
-  pub goes-on : {f n : ℕ} {x : Bool} {r : CallResult} → f ≡ runningFlag l → f ≢ 0 → n ≡ waitingCount l → x ≡ outranked t l n → x ≡ false → r ≡ advanceOn t l
-      → r ≡ stepIn t l
-  unfolding stepIn stepWith
-  goes-on {f} {n} p h q o k z = rw (← p, ne-eqb f 0 h, ← q, ← runs n, ← o, k) z
-
-  pub starts : {f n b : ℕ} {r : CallResult} → f ≡ runningFlag l → f ≡ 0 → n ≡ waitingCount l → 0 < n → b ≡ best t l n → r ≡ startAt l b (n - 1) → r ≡ stepIn t l
-  unfolding stepIn stepWith whileResting
-  starts {f} {n} p h q k s z = let w = ne-eqb n 0 (omega arith) in rw (← p, h, ← q, w, ← s) z
-
-  pub idles : {f n : ℕ} → f ≡ runningFlag l → f ≡ 0 → n ≡ waitingCount l → n ≤ 0 → callResult kinds.idle l ≡ stepIn t l
-  unfolding stepIn stepWith whileResting
-  idles {f} {n} p h q k = let w : n ≡ 0 = omega arith in rw (← p, h, ← q, w)
+  pub tests : {o : Bool} {e len m c : ℕ} {x : Bool} → o ≡ true → e ≡ eventOf (get l 3) → len ≡ eventWord t e 2 → m ≡ eventWord t e 3 → c ≡ get l 5 → x ≡ isMasked len m c
+      → not x ≡ isPreempted t l o
+  unfolding isPreempted maskedNow
+  tests h a b c d k = rw (h, ← a, ← b, ← c, ← d, ← k)
 
   pub foreign : {x : Bool} → x ≡ ours t l → x ≡ false → callResult refusals.foreign l ≡ stepOn t l
   unfolding stepOn
   foreign p h = rw (← p, h)
-
-  pub opened : {x : Bool} {r : CallResult} → x ≡ ours t l → x ≡ true → r ≡ stepIn t l → r ≡ stepOn t l
-  unfolding stepOn
-  opened p h z = rw (← p, h) z
-
-  -- what `outranked` is made of
-  pub is-masked : (n : ℕ) {e len m c : ℕ} {x : Bool} → e ≡ runningEvent l → len ≡ eventWord t e 2 → m ≡ eventWord t e 3 → c ≡ position l → x ≡ isMasked len m c
-      → x ≡ true → false ≡ outranked t l n
-  unfolding outranked
-  is-masked n p q r s o k = rw (← p, ← q, ← r, ← s, ← o, k)
-
-  pub unmasked : (n : ℕ) {e len m c q : ℕ} {x y : Bool} → e ≡ runningEvent l → len ≡ eventWord t e 2 → m ≡ eventWord t e 3 → c ≡ position l → x ≡ isMasked len m c
-      → x ≡ false → q ≡ eventWord t e 0 → y ≡ anyAbove t l q n → y ≡ outranked t l n
-  unfolding outranked
-  unmasked n p q r s o k z w = rw (← p, ← q, ← r, ← s, ← o, k, ← z) w

@@ -1,15 +1,15 @@
--- What step does to the round's bytes, for all bytes (layout: crate format_layout): which of them (crates dispatch and
--- advance). 01 "Handlers and steps", "Why a call was turned down". A function that branches takes plain numbers; one
--- that reads calls it.
+-- What step does to the round's bytes, for all bytes (layout: crate format_layout): which of what crates run_dispatch
+-- and run_advance do. 01 "Handlers and steps", "Why a call was turned down". A function that branches takes plain
+-- numbers; one that reads calls it.
 use Prim.Native.Nat.{ℕ, _-_}
-use mathlib.Core.Bool.{Bool, false}
+use mathlib.Core.Bool.{Bool}
 use mathlib.Core.List.{List}
 use lib.Dec.{ltb, eqb}
 use Rattle.lib_base.specs.Basics.{pick}
 use Rattle.spec_language.specs.Refusals.{foreign}
 use Rattle.spec_language.specs.Answers as kinds
 use Rattle.format_layout.specs.Layout.{eventWord, waitingCount, runningFlag, runningEvent, position, eventAt, ours}
-use Rattle.run_queue.specs.Queue.{best, anyAbove}
+use Rattle.run_queue.specs.Queue.{best}
 use Rattle.run_start.specs.Start.{CallResult}
 use Rattle.run_board.specs.Board.{isMasked}
 use Rattle.run_dispatch.specs.Dispatch.{startAt, preemptAt}
@@ -30,12 +30,6 @@ whileRunning t l n = pick (eqb n 0) (advanceOn t l) (contestOn t l (best t l n))
 
 unfoldable pub whileResting : List ℕ → List ℕ → ℕ → CallResult
 whileResting t l n = pick (eqb n 0) (kinds.idle, l) (startAt l (best t l n) (n - 1))
-
--- the running one is not masked, and one of the n waiting has a higher priority
-unfoldable pub outranked : List ℕ → List ℕ → ℕ → Bool
-outranked t l n =
-    pick (isMasked (eventWord t (runningEvent l) 2) (eventWord t (runningEvent l) 3) (position l)) false
-    (anyAbove t l (eventWord t (runningEvent l) 0) n)
 
 unfoldable pub stepWith : List ℕ → List ℕ → ℕ → ℕ → CallResult
 stepWith t l n f = pick (eqb f 0) (whileResting t l n) (whileRunning t l n)

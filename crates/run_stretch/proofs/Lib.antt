@@ -1,1 +1,1 @@
-pub mod StretchLaws
+pub mod Late

@@ -1,47 +1,69 @@
-// A stretch of a table's instructions on the round's bytes, refused by 14 at the first that may not run.
-use format_layout::operations;
+// A stretch of a table's instructions on the round's bytes, up to the first that may not run: with the depth of the
+// evaluation stack by value, and with its word in the round.
 use format_layout::round;
 use format_layout::table;
+use run_instruction::NONE;
 use spec_language::refusals;
 ghost use mathlib.Core.Path.{_≡_};
 ghost use Prim.Native.Nat.{_+_, _≤_, _<_};
 ghost use lib.ListN.{length};
 ghost use Rattle.lib_word.specs.Word.{get};
 ghost use Rattle.run_start.specs.Start.{callResult};
-ghost use Rattle.run_stretch.specs.Stretch.{stretchAt, stretchFrom};
+ghost use Rattle.run_instruction.specs.Execution.{left};
+ghost use Rattle.run_stretch.specs.Stretch.{stretchFrom, executedAt, ranTo, ranFrom};
 
-// Instruction k of the table is performed: 0, or 14 where it may not run.
-pub fn execute_at(table: &[u8], round: &mut [u8], k: usize) -> u32
-    requires { ⌜ (34816 ≤ length (now table)) × (2048 ≤ length (now round)) × (k < 4096) × (get (now round) 6 ≤ 64) ⌝ }
-    ensures { λ r. ⌜ callResult r (now (round .exit)) ≡ stretchAt (now (table .entry)) (now (round .entry)) k ⌝ }
-    ensures { λ _. ⌜ get (now (round .exit)) 6 ≤ 64 ⌝ }
+// How many instructions ran, and the stack's depth then.
+pub struct Ran {
+    pub done: u32,
+    pub depth: u32,
+}
+
+// Instruction k of the table, on a stack of that depth: the depth after it, or NONE where it may not run.
+fn execute_at(table: &[u8], round: &mut [u8], k: usize, depth: u32) -> u32
+    requires { ⌜ (34816 ≤ length (now table)) × (2048 ≤ length (now round)) × (k < 4096) × (depth ≤ 64) ⌝ }
+    ensures { λ r. ⌜ left r (now (round .exit)) ≡ executedAt (now (table .entry)) (now (round .entry)) k depth ⌝ }
 {
     let code = lib_word::get_word(table, table::CODE + k * 2);
     let constant = lib_word::get_word(table, table::CONSTANTS + k * 2);
-    let depth = lib_word::get_word(round, round::DEPTH);
-    let operation = code / operations::SLOTS;
-    let slot = code % operations::SLOTS;
-    if !run_allowed::is_allowed(operation, slot, depth) {
-        return refusals::FOREIGN;
-    }
-    run_instruction::perform_on(round, operation, slot, constant, depth);
-    0
+    run_instruction::execute(round, code, constant, depth)
 }
 
-// The n instructions from k on: 0, or 14 where one of them may not run.
-pub fn execute_from(table: &[u8], k: usize, n: usize, round: &mut [u8]) -> u32
+// The n instructions from k on, on a stack of that depth, up to the first that may not run. The depth's word stays.
+pub fn run_from(table: &[u8], round: &mut [u8], k: usize, n: u32, depth: u32) -> Ran
+    requires { ⌜ (34816 ≤ length (now table)) × (2048 ≤ length (now round)) × (k + n ≤ 4096) × (depth ≤ 64) ⌝ }
+    ensures { λ r. ⌜ ranTo (r .done) (r .depth) (now (round .exit)) ≡ ranFrom (now (table .entry)) k n depth (now (round .entry)) ⌝ }
+    ensures { λ r. ⌜ (r .done ≤ n) × (r .depth ≤ 64) ⌝ }
+{
+    let mut done = 0;
+    let mut deep = depth;
+    while done < n {
+        let after = execute_at(&*table, round, k + (done as usize), deep);
+        if after == NONE {
+            return Ran {
+                done: done,
+                depth: deep,
+            };
+        }
+        deep = after;
+        done += 1;
+    }
+    Ran {
+        done: done,
+        depth: deep,
+    }
+}
+
+// The n instructions from k on, the depth's word read and written: 0, or 14 where one of them may not run.
+pub fn execute_from(table: &[u8], round: &mut [u8], k: usize, n: u32) -> u32
     requires { ⌜ (34816 ≤ length (now table)) × (2048 ≤ length (now round)) × (k + n ≤ 4096) × (get (now round) 6 ≤ 64) ⌝ }
     ensures { λ r. ⌜ callResult r (now (round .exit)) ≡ stretchFrom (now (table .entry)) k n (now (round .entry)) ⌝ }
 {
-    let mut i = k;
-    let mut left = n;
-    while left > 0 {
-        let answer = execute_at(&*table, round, i);
-        if answer != 0 {
-            return answer;
-        }
-        i += 1;
-        left -= 1;
+    let depth = lib_word::get_word(round, round::DEPTH);
+    let ran = run_from(&*table, round, k, n, depth);
+    let done = ran.done;
+    lib_word::put_word(round, round::DEPTH, ran.depth);
+    if done < n {
+        return refusals::FOREIGN;
     }
     0
 }

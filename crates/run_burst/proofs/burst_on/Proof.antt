@@ -7,10 +7,10 @@ use Rattle.run_burst.proofs.burst_on.Statement.{statement}
 use Rattle.run_burst.proofs.burst_on.Tie as tie
 
 abbrev Inv-loop : tie.InvT-loop
-Inv-loop table round₀ most pressed₀ left₀ round pressed left = Bursting table most round₀ pressed left round
+Inv-loop table round₀ most outranked₀ left₀ round outranked left = Bursting table most round₀ outranked left round
 
 abbrev μ-loop : tie.MeasureT-loop
-μ-loop table round₀ most pressed₀ left₀ round pressed left = left
+μ-loop table round₀ most outranked₀ left₀ round outranked left = left
 
 pub burst-on-spec : {M : Type 1} → statement M
 burst-on-spec =
@@ -23,9 +23,9 @@ burst-on-spec =
     (λ c κs. (c .before .before .loop .inv .sound, c .before .before .loop .inv .rank, c .before .loop-test .taken))
     (λ c κs. search needs)
     (λ c. omega (arith, c .before .before .before .before .before .before .before .loop .inv .as-long))
-    (λ c. burst-ends (c .before .before .before .before .before .before .before .loop .inv) (c .before .before .before .before .turn-on .ensures) (c .before .is-stop .ensures) (c .if1 .taken))
+    (λ c. burst-ends (c .before .before .before .before .before .before .before .loop .inv) (c .before .before .before .before .run-then-step .ensures) (c .before .is-stop .ensures) (c .if1 .taken))
     (λ c κs. search needs)
-    (λ c. burst-goes-on (c .before .before .before .before .before .before .before .before .loop .inv) (c .before .before .before .before .before .turn-on .ensures) (c .before .before .is-stop .ensures) (c .before .if1 .left) (c .is-pressed-after .ensures) (search needs) .1)
-    (λ c. burst-goes-on (c .before .before .before .before .before .before .before .before .loop .inv) (c .before .before .before .before .before .turn-on .ensures) (c .before .before .is-stop .ensures) (c .before .if1 .left) (c .is-pressed-after .ensures) (search needs) .0)
+    (λ c. burst-goes-on (c .before .before .before .before .before .before .before .before .loop .inv) (c .before .before .before .before .before .run-then-step .ensures) (c .before .before .is-stop .ensures) (c .before .if1 .left) (c .is-outranked-after .ensures) (search needs) .1)
+    (λ c. burst-goes-on (c .before .before .before .before .before .before .before .before .loop .inv) (c .before .before .before .before .before .run-then-step .ensures) (c .before .before .is-stop .ensures) (c .before .if1 .left) (c .is-outranked-after .ensures) (search needs) .0)
     (λ c. c .before .loop .inv .as-long)
     (λ c. burst-spent (c .before .loop .inv) (c .loop-test .left)))

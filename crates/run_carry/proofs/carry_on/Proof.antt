@@ -60,4 +60,4 @@ pub carry-on-spec : {M : Type 1} → statement M
 carry-on-spec =
     tie.close
     (tie.spec (search needs) (search needs) (search needs) (search needs) (search needs) returns (search needs)
-    (search needs) execute-from-requires (search needs) returns-2)
+    execute-from-requires (search needs) returns-2)

@@ -2,7 +2,7 @@
 -- is that from the start; of others no step is made.
 use mathlib.Core.Path.{sym, _∙_}
 use borrow.Author.Needs.{needs}
-use Rattle.run_burst.proofs.Fits.{ours-sound}
+use Rattle.run_step.proofs.Fits.{ours-sound}
 use Rattle.run_frame.proofs.Laws.{none-asked, judged, foreign-frame}
 use Rattle.run_frame.proofs.frame_at.Statement.{statement}
 use Rattle.run_frame.proofs.frame_at.Tie as tie

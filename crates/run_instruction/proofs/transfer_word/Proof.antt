@@ -7,9 +7,5 @@ use Rattle.run_instruction.proofs.transfer_word.Tie as tie
 pub transfer-word-spec : {M : Type 1} → statement M
 unfolding transfer
 transfer-word-spec =
-    tie.close
-    (tie.spec
-    (λ c κs. search needs)
-    (λ c κs. search needs)
-    (λ c. search needs)
-    (λ c. cc (c .before .before .before .before .get-word .ensures, c .before .before .put-word .ensures)))
+    tie.close (tie.spec (search needs) (search needs) (search needs)
+    (λ c. rw (c .before .before .put-word .ensures, c .before .before .before .before .get-word .ensures)))

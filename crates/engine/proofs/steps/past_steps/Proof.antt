@@ -3,7 +3,7 @@ use mathlib.Core.Path.{sym, _∙_}
 use native.Mathlib.Omega.{arith}
 use borrow.Author.Needs.{needs}
 use borrow.Author.Tests.{not-true, not-false}
-use Rattle.run_burst.proofs.Fits.{ours-sound}
+use Rattle.run_step.proofs.Fits.{ours-sound}
 use Rattle.engine.proofs.Laws.{none-made}
 use Rattle.engine.proofs.steps.past_steps.Statement.{statement}
 use Rattle.engine.proofs.steps.past_steps.Tie as tie

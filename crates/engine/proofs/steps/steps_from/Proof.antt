@@ -8,14 +8,14 @@ use Rattle.engine.proofs.steps.steps_from.Statement.{statement}
 use Rattle.engine.proofs.steps.steps_from.Tie as tie
 
 abbrev Inv-loop : tie.InvT-loop
-Inv-loop table round₀ calls i n answers₀ at₀ pressed₀ round answers at pressed = Stepping table calls n i round₀ answers₀ pressed at round answers
+Inv-loop table round₀ calls i n answers₀ at₀ outranked₀ round answers at outranked = Stepping table calls n i round₀ answers₀ outranked at round answers
 
 abbrev μ-loop : tie.MeasureT-loop
-μ-loop table round₀ calls i n answers₀ at₀ pressed₀ round answers at pressed = n - at
+μ-loop table round₀ calls i n answers₀ at₀ outranked₀ round answers at outranked = n - at
 
 -- back from the answer to be put to the step made, from there to the test of the call, and to the turn's start
 abbrev stepped-at : tie.After-put-answer-arg Inv-loop μ-loop → tie.After-step-on Inv-loop μ-loop
-stepped-at c = c .before .before .before
+stepped-at c = c .before .before .before .before
 
 abbrev tested-at : tie.After-step-on Inv-loop μ-loop → tie.Else1 Inv-loop μ-loop
 tested-at c = c .before .before
@@ -41,7 +41,7 @@ loop-again c =
     let tested = tested-at stepped in
     let turn = turn-at tested in
     next-step (turn .before .loop .inv) (turn .loop-test .taken) (tested .if1 .left) (stepped .step-on .ensures .0)
-    (stepped .step-on .ensures .1) (c .before .before .put-answer .ensures) (search needs) (search needs)
+    (stepped .step-on .ensures .1) (c .before .before .before .before .is-outranked-after .ensures) (c .before .before .put-answer .ensures) (search needs) (search needs)
 
 pub steps-from-spec : {M : Type 1} → statement M
 steps-from-spec =
@@ -52,7 +52,9 @@ steps-from-spec =
     (λ c. c .before .before .before .loop .inv .made .round-long)
     (λ c. c .before .before .before .loop .inv .made .as-long)
     (λ c. c .before .before .before .loop .inv .made)
-    step-on-requires put-answer-requires (search needs) (search needs) loop-again
+    step-on-requires
+    (λ c κs. search needs)
+    put-answer-requires (search needs) (search needs) loop-again
     (λ c. c .before .loop .inv .made .round-long)
     (λ c. c .before .loop .inv .made .as-long)
     (λ c. c .before .loop .inv .made))
