@@ -16,7 +16,8 @@ use Rattle.spec_language.specs.Refusals.{foreign}
 use Rattle.spec_language.specs.Rights.{may}
 use Rattle.format_layout.specs.Layout.{eventWord, eventCount, behaviourCount, sendersAt, viewersAt, taken, waitingCount, runningFlag, runningEvent, position, eventAt, tableFits, ours}
 use Rattle.run_queue.specs.Queue.{best, anyAbove}
-use Rattle.run_start.specs.Start.{CallResult, startOn}
+use Rattle.format_layout.specs.Round.{CallResult}
+use Rattle.run_start.specs.Start.{startOn}
 use Rattle.run_arrive.specs.Arrivals.{queueFull, arriveWith, arriveKnown, arriveIn, arriveOn}
 use Rattle.run_board.specs.Board.{isMasked, copyBackUnderWay, copyBackOn, boardWith, boardKnown, boardIn, boardOn}
 use Rattle.run_dispatch.specs.Dispatch.{said, startAt, preemptAt}

@@ -24,7 +24,8 @@ use Rattle.format_image.proofs.ImageLaws.{length-table, beyond-table}
 use Rattle.back_compile.specs.Verdict.{Compiled, programOf, compileOn}
 use Rattle.back_compile.proofs.AcceptedExactly.{accepted-exactly, refused-unchanged}
 use Rattle.run_queue.specs.Queue.{best, better, eitherSlot, ahead}
-use Rattle.run_start.specs.Start.{CallResult, startOn}
+use Rattle.format_layout.specs.Round.{CallResult}
+use Rattle.run_start.specs.Start.{startOn}
 use Rattle.run_instruction.specs.Stack.{pushOn, popTo, noted, applyOne, applyTwo, applyThree, applyOn}
 use Rattle.run_instruction.specs.Allowed.{mayRun}
 use Rattle.run_instruction.proofs.AllowedLaws.{slot-small}

@@ -23,7 +23,7 @@ use Rattle.format_image.specs.Image.{codeStart, tableOf}
 use Rattle.format_image.proofs.ImageLaws.{Says}
 use Rattle.back_compile.specs.Verdict.{Compiled, programOf, compileOn}
 use Rattle.back_compile.proofs.AcceptedExactly.{accepted-exactly}
-use Rattle.run_start.specs.Start.{CallResult}
+use Rattle.format_layout.specs.Round.{CallResult}
 use Rattle.refine_calls.specs.Refinement.{bytesAfter}
 use Rattle.refine_calls.proofs.Refines.{valid, accepted-says}
 use Rattle.refine_lists.specs.Lists.{boardOf, freshRoundOn, OnlyCalls, Prepared}

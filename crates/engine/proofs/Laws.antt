@@ -10,7 +10,7 @@ use lib.ListN.{length, getD}
 use borrow.Author.Tests.{eq-eqb, ne-eqb}
 use Rattle.lib_word.specs.Word.{getAt}
 use Rattle.spec_model.specs.Model.{Call}
-use Rattle.run_start.specs.Start.{CallResult, callResult}
+use Rattle.format_layout.specs.Round.{CallResult, callResult}
 use Rattle.run_arrive.specs.Arrivals.{arriveOn}
 use Rattle.run_board.specs.Board.{boardOn}
 use Rattle.run_step.specs.Machine.{stepOn}

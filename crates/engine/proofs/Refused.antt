@@ -13,7 +13,8 @@ use Rattle.spec_language.specs.Refusals.{foreign}
 use Rattle.spec_language.specs.Rights.{may}
 use Rattle.format_layout.specs.Layout.{eventCount, eventWord, sendersAt, taken, waitingCount, runningFlag, runningWord, runningEvent, runningNumber, position, depth, eventAt, tableFits, ours}
 use Rattle.run_queue.specs.Queue.{best}
-use Rattle.run_start.specs.Start.{CallResult, startOn}
+use Rattle.format_layout.specs.Round.{CallResult}
+use Rattle.run_start.specs.Start.{startOn}
 use Rattle.run_instruction.specs.Allowed.{mayRun}
 use Rattle.run_carry.specs.Carry.{carryOn}
 use Rattle.run_arrive.specs.Arrivals.{queueFull, arriveWith, arriveKnown, arriveIn, arriveOn}

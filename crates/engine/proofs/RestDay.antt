@@ -22,7 +22,8 @@ use Rattle.spec_model.specs.Claims.{after}
 use Rattle.format_image.specs.Image.{tableOf}
 use Rattle.back_compile.specs.Verdict.{Compiled, compiled, programOf, compileOn}
 use Rattle.back_compile.proofs.AcceptedExactly.{accepted-exactly, never-two}
-use Rattle.run_start.specs.Start.{CallResult, startOn}
+use Rattle.format_layout.specs.Round.{CallResult}
+use Rattle.run_start.specs.Start.{startOn}
 use Rattle.refine_calls.specs.Refinement.{coded, callOn, roundAfter, calls, Bytes, bytes, turnOnBytes, bytesAfter}
 use Rattle.refine_calls.proofs.TurnsRefine.{Stand}
 use Rattle.refine_calls.proofs.TurnsRefine as refine

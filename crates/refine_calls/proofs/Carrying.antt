@@ -32,7 +32,7 @@ use Rattle.format_layout.specs.Layout.{codeFits}
 use Rattle.format_image.specs.Image.{kindNumber, passivesAt}
 use Rattle.format_image.specs.Image as image
 use Rattle.format_image.proofs.ImageLaws.{Says}
-use Rattle.run_start.specs.Start.{CallResult}
+use Rattle.format_layout.specs.Round.{CallResult}
 use Rattle.run_stretch.specs.Stretch.{stretchFrom}
 use Rattle.run_carry.specs.Carry.{activeInTable, keptOrFresh, valueFor, filledStore, workedOut, carryOn, shownOf, shownFor}
 use Rattle.run_carry.specs.Carry as carry

@@ -28,7 +28,7 @@ use Rattle.spec_model.proofs.Carries.{length-carried}
 use Rattle.spec_model.proofs.Reached.{Reached}
 use Rattle.format_image.specs.Image.{passivesCode}
 use Rattle.format_image.proofs.ImageLaws.{Says}
-use Rattle.run_start.specs.Start.{CallResult}
+use Rattle.format_layout.specs.Round.{CallResult}
 use Rattle.run_carry.specs.Carry.{carryOn, shownFor, storeShown}
 use Rattle.run_board.specs.Board.{copyBackOn}
 use Rattle.run_mend.specs.Mending.{verdict, mended, mendWith, mendAfter, mendIn, mendOn}

@@ -31,7 +31,7 @@ use Rattle.spec_model.proofs.Reached.{Reached, act-keeps}
 use Rattle.spec_model.proofs.Previews.{onlySteps, idle-stays, idle-steps, idle-within}
 use Rattle.format_layout.specs.Layout.{eventOf, playerOf}
 use Rattle.format_image.proofs.ImageLaws.{Says}
-use Rattle.run_start.specs.Start.{CallResult}
+use Rattle.format_layout.specs.Round.{CallResult}
 use Rattle.run_arrive.specs.Arrivals.{arriveOn}
 use Rattle.run_dispatch.specs.Dispatch.{said}
 use Rattle.run_advance.specs.Advance.{overMark}

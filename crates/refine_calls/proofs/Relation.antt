@@ -16,7 +16,7 @@ use Rattle.spec_model.specs.Model.{Arrival, arrival, Running, rest, busy, Engin
 use Rattle.spec_model.proofs.Choice.{perm-length}
 use Rattle.format_layout.specs.Layout.{handWord, eventOf, playerOf}
 use Rattle.run_queue.specs.Queue.{putSlot}
-use Rattle.run_start.specs.Start.{CallResult}
+use Rattle.format_layout.specs.Round.{CallResult}
 use Rattle.run_arrive.specs.Arrivals.{admit}
 use Rattle.run_dispatch.specs.Dispatch.{runArrival}
 use Rattle.refine_calls.specs.Refinement.{coded, arrivalOf, slots, Kept}

@@ -14,7 +14,7 @@ use Rattle.spec_execution.specs.Execution.{Values, execute, executeAll}
 use Rattle.spec_execution.specs.Safe.{Filled, Ok, filledNext, Safe, Matches}
 use Rattle.spec_execution.proofs.SafeLaws.{next-matches}
 use Rattle.format_image.specs.Image.{operation, constant}
-use Rattle.run_start.specs.Start.{CallResult}
+use Rattle.format_layout.specs.Round.{CallResult}
 use Rattle.run_stretch.specs.Stretch.{stretchOn, stretchAt, stretchFrom}
 use Rattle.refine_calls.proofs.Values.{Holds}
 use Rattle.refine_calls.proofs.Instructions.{Does, does}

@@ -18,7 +18,7 @@ use Rattle.spec_execution.specs.Execution.{Values}
 use Rattle.spec_model.specs.Model.{Arrival, arrival, Running, rest, busy, engine, Call, arrive, step, board, Answer, refused, takenIn, shows, idle, ran, started, preempted, committed, Turn, call, change, State, state, Reply, says, carriedOver, runTurns, replies}
 use Rattle.format_layout.specs.Layout.{eventOf, playerOf, taken, waitingCount, runningFlag, runningWord, runningNumber, position, depth, markWord, numberAt, wordAt}
 use Rattle.format_image.specs.Image.{passivesCode, tableOf}
-use Rattle.run_start.specs.Start.{CallResult}
+use Rattle.format_layout.specs.Round.{CallResult}
 use Rattle.run_arrive.specs.Arrivals.{arriveOn}
 use Rattle.run_board.specs.Board.{boardOn}
 use Rattle.run_mend.specs.Mending.{mendOn}

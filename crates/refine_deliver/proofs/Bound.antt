@@ -15,18 +15,18 @@ use Rattle.lib_base.proofs.Tools.{by-test, split}
 use Rattle.format_layout.specs.Layout.{eventCount, eventWord, waitingCount, runningFlag, runningWord, runningEvent, position, ours}
 use Rattle.format_layout.specs.Bounds.{Bounds}
 use Rattle.format_layout.proofs.BoundsLaws.{bounds, hand-bound}
-use Rattle.run_start.specs.Start.{CallResult}
+use Rattle.format_layout.specs.Round.{CallResult}
 use Rattle.run_arrive.specs.Arrivals.{queueFull}
 use Rattle.run_queue.specs.Queue.{best}
 use Rattle.run_board.specs.Board.{isCopyingBack, isMasked}
 use Rattle.run_dispatch.specs.Dispatch.{preemptAt}
 use Rattle.run_advance.specs.Advance.{advanceOn}
 use Rattle.run_step.specs.Machine.{stepOn}
-use Rattle.run_burst.specs.Sound.{RoundSound, higherWaits}
+use Rattle.run_step.specs.Sound.{RoundSound, isOutranked}
 use Rattle.run_burst.specs.Burst.{isCommit, unmade, Burst, burstOn}
-use Rattle.run_burst.proofs.Fits.{ours-sound}
+use Rattle.run_step.proofs.Fits.{ours-sound}
 use Rattle.run_burst.proofs.Glue.{left-at-most}
-use Rattle.run_burst.proofs.Steps.{step-calm, step-pressed}
+use Rattle.run_step.proofs.Steps.{step-calm, step-outranked}
 use Rattle.run_deliver.proofs.Room.{Ran, Began, advance-cases, preempted, preempt-starts, Ends, first-refused, first-commits, first-made, made-one, ends-by, calm-ends}
 
 -- ---- with more steps to make a burst ends where it did
@@ -73,7 +73,7 @@ module _ (t : List ℕ) (most : ℕ)
   masked-step : (l : List ℕ) → RoundSound t l → runningFlag l ≢ 0 → position l < eventWord t (runningEvent l) 2
       → isMasked (eventWord t (runningEvent l) 2) (eventWord t (runningEvent l) 3) (position l) ≡ true → stepOn t l ≡ advanceOn t l
   masked-step l s f w m =
-      split (higherWaits t l) (λ o. step-pressed t l s f w o ∙ rw m) (λ o. step-calm t l s f w o)
+      split (isOutranked t l) (λ o. step-outranked t l s f w o ∙ rw m) (λ o. step-calm t l s f w o)
 
   -- in its copy-back it goes on to its end
   tail-ends : (k : ℕ) (l : List ℕ) → RoundSound t l → runningFlag l ≢ 0 → position l < eventWord t (runningEvent l) 2
@@ -98,7 +98,7 @@ module _ (t : List ℕ) (most : ℕ)
       calm-ends t k l′ (b .sound) (b .flag) (b .calm) (omega arith) (omega arith)
 
   -- outranked
-  pressed-ends : (k : ℕ) (l : List ℕ) → RoundSound t l → runningFlag l ≢ 0 → position l < eventWord t (runningEvent l) 2 → higherWaits t l ≡ true
+  pressed-ends : (k : ℕ) (l : List ℕ) → RoundSound t l → runningFlag l ≢ 0 → position l < eventWord t (runningEvent l) 2 → isOutranked t l ≡ true
       → suc most ≤ k → (0 < position l → eventWord t (runningEvent l) 3 + 2 - position l + suc most ≤ k) → Ends (burstOn t k l)
   pressed-ends zero l s f w o m b = absurd (omega arith)
   pressed-ends (suc k) l s f w o m b =
@@ -122,7 +122,7 @@ module _ (t : List ℕ) (most : ℕ)
       (λ x.
       let q = best t l (waitingCount l) in
       let st = preempt-starts l q in
-      let e : stepOn t l ≡ (preemptAt l q .0, preemptAt l q .1) = step-pressed t l s f w o ∙ rw x in
+      let e : stepOn t l ≡ (preemptAt l q .0, preemptAt l q .1) = step-outranked t l s f w o ∙ rw x in
       subst Ends (first-made t l k (preemptAt l q .0) (preemptAt l q .1) (st .made) (st .none) e)
       (begun-ends k l (preemptAt l q .1) (preempted t l s f w o) (omega arith)))
 
@@ -133,7 +133,7 @@ module _ (t : List ℕ) (most : ℕ)
   running-ends : (l : List ℕ) → RoundSound t l → runningFlag l ≢ 0 → position l < eventWord t (runningEvent l) 2 → Ends (burstOn t (most * 3 / 2) l)
   running-ends l s f w =
       let short = running-fit l s f in
-      split (higherWaits t l) (λ o. pressed-ends (most * 3 / 2) l s f w o (omega arith) (λ some. omega arith))
+      split (isOutranked t l) (λ o. pressed-ends (most * 3 / 2) l s f w o (omega arith) (λ some. omega arith))
       (λ o. calm-ends t (most * 3 / 2) l s f o (omega arith) (omega arith))
 
   -- 4 ≤ most: some event is declared

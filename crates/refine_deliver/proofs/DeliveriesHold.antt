@@ -15,13 +15,13 @@ use Rattle.lib_base.proofs.Tools.{by-test, split}
 use Rattle.spec_language.specs.Rights.{may}
 use Rattle.spec_model.specs.Model.{Call, arrive, step}
 use Rattle.format_layout.specs.Layout.{eventCount, sendersAt, taken, waitingCount, runningFlag, ours}
-use Rattle.run_start.specs.Start.{CallResult}
+use Rattle.format_layout.specs.Round.{CallResult}
 use Rattle.run_arrive.specs.Arrivals.{queueFull, arriveWith, arriveKnown, arriveIn, arriveOn}
 use Rattle.run_answers.specs.Answers.{putAnswer}
 use Rattle.run_step.specs.Machine.{stepOn}
-use Rattle.run_burst.specs.Sound.{RoundSound}
+use Rattle.run_step.specs.Sound.{RoundSound}
 use Rattle.run_burst.specs.Burst.{isCommit, unmade, Burst, burstOn}
-use Rattle.run_burst.proofs.Fits.{ours-sound, sound-ours}
+use Rattle.run_step.proofs.Fits.{ours-sound, sound-ours}
 use Rattle.run_frame.specs.Frame.{frameSaid}
 use Rattle.run_deliver.specs.Deliver.{Delivery, deliveryRefusal, admitted, deliverAfter, deliverFull, deliverKnown, deliverWith, deliverOn}
 use Rattle.run_deliver.proofs.Room.{Ends, BurstKept, burst-keeps, full-ends}

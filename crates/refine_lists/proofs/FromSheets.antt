@@ -15,7 +15,7 @@ use Rattle.spec_model.specs.Claims.{inForce, after}
 use Rattle.format_image.specs.Image.{tableOf}
 use Rattle.back_compile.specs.Verdict.{Compiled, programOf, compileOn}
 use Rattle.back_compile.proofs.AcceptedExactly.{accepted-exactly}
-use Rattle.run_start.specs.Start.{CallResult}
+use Rattle.format_layout.specs.Round.{CallResult}
 use Rattle.refine_calls.specs.Refinement.{IsTurn, AreTurns, calls, bytesAfter, TableFor, Bytes, bytes}
 use Rattle.refine_calls.proofs.Refines.{valid}
 use Rattle.refine_calls.proofs.Short.{sheet-short}

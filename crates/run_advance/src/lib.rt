@@ -8,7 +8,7 @@ ghost use Prim.Native.Nat.{_≤_, _<_};
 ghost use lib.ListN.{length};
 ghost use Rattle.format_layout.specs.Layout.{eventCount, runningEvent, depth};
 ghost use Rattle.format_layout.specs.Bounds.{TableBounds};
-ghost use Rattle.run_start.specs.Start.{callResult};
+ghost use Rattle.format_layout.specs.Round.{callResult};
 ghost use Rattle.run_advance.specs.Advance.{commitSaid, advanceLeft};
 
 const FOREIGN: u64 = refusals::FOREIGN as u64;

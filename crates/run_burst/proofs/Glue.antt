@@ -10,7 +10,7 @@ use lib.Dec.{eqb}
 use borrow.Author.Tests.{eqb-true}
 use Rattle.lib_base.specs.Basics.{pick}
 use Rattle.lib_base.proofs.Tools.{by-test, split}
-use Rattle.run_start.specs.Start.{CallResult, callResult}
+use Rattle.format_layout.specs.Round.{CallResult, callResult}
 use Rattle.run_step.specs.Machine.{stepOn}
 use Rattle.run_step.specs.Sound.{RoundSound, isOutranked, outrankedAfter}
 use Rattle.run_step.proofs.Still.{idle-stays, refused-stays}

@@ -14,7 +14,7 @@ use Rattle.lib_base.proofs.Tools.{split}
 use Rattle.lib_word.specs.Word.{get, put}
 use Rattle.lib_word.proofs.Laws.{length-put, get-same, get-other}
 use Rattle.format_layout.specs.Layout.{eventWord, eventOf, runningFlag, runningWord, runningEvent, position, depth}
-use Rattle.run_start.specs.Start.{CallResult}
+use Rattle.format_layout.specs.Round.{CallResult}
 use Rattle.run_instruction.specs.Allowed.{mayRun}
 use Rattle.run_instruction.specs.Instruction.{perform}
 use Rattle.run_instruction.specs.Execution.{none}

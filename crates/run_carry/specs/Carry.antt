@@ -10,7 +10,7 @@ use Rattle.lib_base.specs.Basics.{pick}
 use Rattle.lib_word.specs.Word.{get, put}
 use Rattle.spec_language.specs.Refusals.{foreign}
 use Rattle.format_layout.specs.Layout.{behaviourCount, kindAt, passivesStart, passivesLength, codeFits}
-use Rattle.run_start.specs.Start.{CallResult}
+use Rattle.format_layout.specs.Round.{CallResult}
 use Rattle.run_stretch.specs.Stretch.{stretchFrom}
 
 -- ---- what each behaviour begins with

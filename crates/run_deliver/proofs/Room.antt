@@ -26,13 +26,14 @@ use Rattle.run_instruction.specs.Instruction.{perform}
 use Rattle.run_dispatch.specs.Dispatch.{said, runArrival, startAt, preemptAt}
 use Rattle.run_advance.specs.Advance.{commitSaid, countInstruction, executeOn, executeAt, advanceOn}
 use Rattle.run_step.specs.Machine.{whileResting, stepOn}
-use Rattle.run_burst.specs.Sound.{RoundSound, higherWaits, StepMade}
+use Rattle.run_step.specs.Sound.{RoundSound, isOutranked}
 use Rattle.run_burst.specs.Burst.{isCommit, unmade, Burst, burst, burstOn}
 use Rattle.run_arrive.specs.Arrivals.{queueFull}
-use Rattle.run_burst.proofs.Fits.{ours-sound}
-use Rattle.run_burst.proofs.Performs.{Keeps, perform-keeps}
-use Rattle.run_burst.proofs.Moves.{resting-calm, ran-sound, ran-outranked, ran-position, ran-flag, ran-word, committed-sound, started-sound, started-calm, preempted-sound, preempted-calm}
-use Rattle.run_burst.proofs.Steps.{step-rest, step-over, step-calm, step-pressed, some-wait, outranks}
+use Rattle.run_step.proofs.Fits.{ours-sound}
+use Rattle.run_instruction.proofs.Performs.{Keeps, perform-keeps}
+use Rattle.run_step.proofs.Moves.{resting-calm, ran-sound, ran-outranked, ran-position, ran-flag, ran-word, committed-sound, started-sound, started-calm, preempted-sound, preempted-calm}
+use Rattle.run_step.proofs.Rule.{some-wait, best-outranks}
+use Rattle.run_step.proofs.Steps.{step-rest, step-over, step-calm, step-outranked}
 
 -- ---- one instruction
 
@@ -43,7 +44,7 @@ pub record Ran (t l l′ : List ℕ) : Type 0 where
   pub word : runningWord l′ ≡ runningWord l
   pub at : position l′ ≡ position l + 1
   pub more : position l + 1 < eventWord t (runningEvent l) 2
-  pub rank : higherWaits t l′ ≡ higherWaits t l
+  pub rank : isOutranked t l′ ≡ isOutranked t l
   pub kept : taken l′ ≡ taken l
 
 -- it commits, and leaves l′
@@ -101,7 +102,7 @@ module _ (t l : List ℕ) (s : RoundSound t l) where
 pub record Began (t l l′ : List ℕ) : Type 0 where
   pub sound : RoundSound t l′
   pub flag : runningFlag l′ ≢ 0
-  pub calm : higherWaits t l′ ≡ false
+  pub calm : isOutranked t l′ ≡ false
   pub kept : taken l′ ≡ taken l
 
 module _ (l : List ℕ) (n w : ℕ) (h : 2048 ≤ length l) where
@@ -143,7 +144,7 @@ started t l s some =
       kept = run-taken m (numberAt l b) (wordAt l b) room ∙ get-other a 1 (n - 1) 0 (omega arith) ∙ slot-taken l b (numberAt l (n - 1)) (wordAt l (n - 1));
     }
 
-pub preempted : (t l : List ℕ) → RoundSound t l → runningFlag l ≢ 0 → position l < eventWord t (runningEvent l) 2 → higherWaits t l ≡ true
+pub preempted : (t l : List ℕ) → RoundSound t l → runningFlag l ≢ 0 → position l < eventWord t (runningEvent l) 2 → isOutranked t l ≡ true
     → Began t l (preemptAt l (best t l (waitingCount l)) .1)
 unfolding preemptAt
 preempted t l s f w o =
@@ -151,11 +152,11 @@ preempted t l s f w o =
     let b = best t l n in
     let m : List ℕ = putSlot l b (runningNumber l) (runningWord l) in
     let room : 2048 ≤ length m = rw (slot-length l b (runningNumber l) (runningWord l)) (s .long) in
-    let some : 0 < waitingCount l = omega (arith, some-wait t l s f w o) in
+    let some : 0 < waitingCount l = omega (arith, some-wait t l f o) in
     record {
       sound = preempted-sound t l s some f;
       flag = one-not-none (runningFlag (runArrival m (numberAt l b) (wordAt l b))) (run-flag m (numberAt l b) (wordAt l b) room);
-      calm = preempted-calm t l s some f (outranks t l s f w o);
+      calm = preempted-calm t l s some f (best-outranks t l f o);
       kept = run-taken m (numberAt l b) (wordAt l b) room ∙ slot-taken l b (runningNumber l) (runningWord l);
     }
 
@@ -203,9 +204,9 @@ module _ (t l : List ℕ) (s : RoundSound t l) where
       let f : runningFlag l ≢ 0 = eqb-false (runningFlag l) 0 z in
       by-cases (decLt (position l) (eventWord t e 2))
       (λ w.
-      split (higherWaits t l)
+      split (isOutranked t l)
       (λ o.
-      subst P (sym (step-pressed t l s f w o))
+      subst P (sym (step-outranked t l s f w o))
       (by-test P (isMasked (eventWord t e 2) (eventWord t e 3) (position l)) (λ _. advance-cases t l s P none (one f) (last f))
       (λ _. begin (preemptAt l (best t l n) .0) (preemptAt l (best t l n) .1) (preempt-starts l (best t l n)) (preempted t l s f w o))))
       (λ o. subst P (sym (step-calm t l s f w o)) (advance-cases t l s P none (one f) (last f))))
@@ -296,7 +297,7 @@ module _ (t l : List ℕ) (k : ℕ) (s : RoundSound t l) where
       (λ a l′ b r e. subst Ends (first-made t l k a l′ (b .made) (b .none) e) (begin l′ r)) refl
 
 -- nothing outranks the running one
-pub calm-ends : (t : List ℕ) (k : ℕ) (l : List ℕ) → RoundSound t l → runningFlag l ≢ 0 → higherWaits t l ≡ false → 0 < k
+pub calm-ends : (t : List ℕ) (k : ℕ) (l : List ℕ) → RoundSound t l → runningFlag l ≢ 0 → isOutranked t l ≡ false → 0 < k
     → eventWord t (runningEvent l) 2 - position l ≤ k → Ends (burstOn t k l)
 calm-ends t zero l s f o h m = absurd (omega arith)
 calm-ends t (suc k) l s f o h m =

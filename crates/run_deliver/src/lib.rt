@@ -12,7 +12,7 @@ ghost use lib.ListN.{length};
 ghost use Rattle.format_layout.specs.Bounds.{Bounds};
 ghost use Rattle.format_layout.specs.Layout.{taken, eventCount, sendersAt, waitingCount, runningFlag};
 ghost use Rattle.run_arrive.specs.Arrivals.{queueFull};
-ghost use Rattle.run_burst.specs.Sound.{RoundSound};
+ghost use Rattle.run_step.specs.Sound.{RoundSound};
 ghost use Rattle.run_frame.specs.Frame.{frameSaid};
 ghost use Rattle.run_preview.specs.Preview.{inHand};
 ghost use Rattle.run_deliver.specs.Deliver.{delivery, deliveryRefusal, admitted, deliverFull, deliverKnown, deliverOn, takenOn};

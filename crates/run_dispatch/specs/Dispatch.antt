@@ -6,7 +6,7 @@ use Rattle.lib_word.specs.Word.{put}
 use Rattle.spec_language.specs.Answers as kinds
 use Rattle.format_layout.specs.Layout.{eventOf, playerOf, runningWord, runningNumber, numberAt, wordAt}
 use Rattle.run_queue.specs.Queue.{putSlot}
-use Rattle.run_start.specs.Start.{CallResult}
+use Rattle.format_layout.specs.Round.{CallResult}
 
 -- The answer of a step: one of the kinds of crate spec_language, Answers.antt, those of a start or a commit with
 -- player, event number and arrival number; or foreign.

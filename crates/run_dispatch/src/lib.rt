@@ -4,7 +4,7 @@ use spec_language::answers;
 ghost use mathlib.Core.Path.{_≡_};
 ghost use Prim.Native.Nat.{_≤_, _<_};
 ghost use lib.ListN.{length};
-ghost use Rattle.run_start.specs.Start.{callResult};
+ghost use Rattle.format_layout.specs.Round.{callResult};
 ghost use Rattle.run_dispatch.specs.Dispatch.{saidOf, runArrival, startAt, preemptAt};
 
 // The answer of a kind about an arrival, from its number and the word of its event and player.

@@ -11,7 +11,7 @@ use Rattle.lib_word.specs.Word.{put}
 use Rattle.spec_language.specs.Refusals.{foreign, settling, undeclaredInHand}
 use Rattle.format_layout.specs.Layout.{eventCount, tableFits, waitingCount, runningFlag, runningEvent, runningWord, runningNumber, eventAt, ours}
 use Rattle.run_queue.specs.Queue.{putSlot}
-use Rattle.run_start.specs.Start.{CallResult}
+use Rattle.format_layout.specs.Round.{CallResult}
 use Rattle.run_carry.specs.Carry.{carryOn, storeShown}
 use Rattle.run_board.specs.Board.{copyBackOn}
 

@@ -9,7 +9,7 @@ ghost use Prim.Native.Nat.{_≤_};
 ghost use lib.ListN.{length};
 ghost use Rattle.format_layout.specs.Layout.{waitingCount, runningFlag, runningNumber, runningWord};
 ghost use Rattle.format_layout.specs.Bounds.{TableBounds};
-ghost use Rattle.run_start.specs.Start.{callResult};
+ghost use Rattle.format_layout.specs.Round.{callResult};
 ghost use Rattle.run_mend.specs.Mending.{waitingKnown, handKnown, backInHand, rested, mendOn};
 
 // ---- the hand

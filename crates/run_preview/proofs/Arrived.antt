@@ -15,7 +15,7 @@ use Rattle.lib_word.proofs.Laws.{length-put, get-same, get-other}
 use Rattle.spec_language.specs.Rights.{may}
 use Rattle.format_layout.specs.Layout.{eventCount, sendersAt, handWord, eventOf, playerOf, taken, waitingCount, runningFlag, wordAt, handFits, ours}
 use Rattle.format_layout.proofs.BoundsLaws.{table-bounds}
-use Rattle.run_start.specs.Start.{CallResult, callResult}
+use Rattle.format_layout.specs.Round.{CallResult, callResult}
 use Rattle.run_queue.specs.Queue.{putSlot}
 use Rattle.run_arrive.specs.Arrivals.{admit, queueFull, arriveWith, arriveKnown, arriveIn, arriveOn}
 use Rattle.run_step.specs.Sound.{RoundSound}

@@ -11,7 +11,7 @@ use Rattle.lib_word.specs.Word.{get}
 use Rattle.spec_language.specs.Refusals as refusals
 use Rattle.spec_language.specs.Rights.{may}
 use Rattle.format_layout.specs.Layout.{eventCount, behaviourCount, viewersAt, waitingCount, runningFlag}
-use Rattle.run_start.specs.Start.{CallResult}
+use Rattle.format_layout.specs.Round.{CallResult}
 use Rattle.run_arrive.specs.Arrivals.{arriveOn}
 use Rattle.run_step.specs.Machine.{stepOn}
 use Rattle.run_forecast.specs.Forecast.{longestIn}

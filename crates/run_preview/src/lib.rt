@@ -4,7 +4,7 @@ ghost use mathlib.Core.Path.{_≡_};
 ghost use Prim.Native.Nat.{_+_, _≤_, _<_};
 ghost use lib.ListN.{length};
 ghost use Rattle.format_layout.specs.Bounds.{TableBounds};
-ghost use Rattle.run_start.specs.Start.{callResult};
+ghost use Rattle.format_layout.specs.Round.{callResult};
 ghost use Rattle.run_step.specs.Sound.{RoundSound};
 ghost use Rattle.run_preview.specs.Preview.{lastStep, toIdle, inHand, previewSteps, previewAnswer, shownIn, previewCopy, previewOn};
 

@@ -9,8 +9,7 @@ use Rattle.lib_word.specs.Word.{get, put}
 use Rattle.spec_language.specs.Refusals.{foreign}
 use Rattle.format_layout.specs.declared.round.Round.{Round}
 use Rattle.format_layout.specs.Layout.{tableFits}
-use Rattle.format_layout.specs.Round.{freshOf}
-pub use Rattle.format_layout.specs.Round.{CallResult, callResult}
+use Rattle.format_layout.specs.Round.{CallResult, freshOf}
 
 -- the first n words are 0
 unfoldable pub cleared : List ℕ → ℕ → List ℕ

@@ -13,7 +13,7 @@ use Rattle.lib_base.proofs.Tools.{split}
 use Rattle.lib_word.specs.Word.{get}
 use Rattle.spec_language.specs.Refusals as refusals
 use Rattle.format_layout.specs.Layout.{eventWord, eventOf, waitingCount, runningFlag, runningEvent, position, eventAt, ours}
-use Rattle.run_start.specs.Start.{callResult}
+use Rattle.format_layout.specs.Round.{callResult}
 use Rattle.run_queue.specs.Queue.{best, anyAbove}
 use Rattle.run_queue.proofs.Choice.{any-above}
 use Rattle.run_board.specs.Board.{isMasked}

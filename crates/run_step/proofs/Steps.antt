@@ -15,7 +15,7 @@ use Rattle.spec_language.specs.Refusals.{foreign}
 use Rattle.format_layout.specs.Layout.{eventCount, eventWord, eventOf, waitingCount, runningFlag, runningWord, runningEvent, runningNumber, position, depth, markWord, eventAt, ours}
 use Rattle.format_layout.specs.Bounds.{TableBounds}
 use Rattle.format_layout.proofs.BoundsLaws.{table-bounds, hand-bound}
-use Rattle.run_start.specs.Start.{CallResult, callResult}
+use Rattle.format_layout.specs.Round.{CallResult, callResult}
 use Rattle.run_queue.specs.Queue.{best}
 use Rattle.run_board.specs.Board.{isCopyingBack, isMasked}
 use Rattle.run_instruction.specs.Allowed.{mayRun}
@@ -55,13 +55,23 @@ module _ (t l : List ℕ) (s : RoundSound t l) where
   unfolding stepOn stepIn stepWith
   step-rest f = rw (sound-ours t l s (λ g. absurd (g f)), eq-eqb (runningFlag l) 0 f)
 
-  step-over : runningFlag l ≢ 0 → len ≤ position l → stepOn t l ≡ (14, l)
+  pub step-over : runningFlag l ≢ 0 → len ≤ position l → stepOn t l ≡ (14, l)
   unfolding stepOn
   step-over f w = rw (sound-over t l s f w)
 
   step-runs : runningFlag l ≢ 0 → position l < len → stepOn t l ≡ pick (isPreempted t l (isOutranked t l)) (preemptAt l (best t l (waitingCount l))) (advanceOn t l)
   unfolding stepOn
   step-runs f w = rw (sound-ours t l s (λ _. w)) (runs t l f)
+
+  pub step-calm : runningFlag l ≢ 0 → position l < len → isOutranked t l ≡ false → stepOn t l ≡ advanceOn t l
+  unfolding isPreempted
+  step-calm f w o = step-runs f w ∙ rw o
+
+  pub step-outranked : runningFlag l ≢ 0 → position l < len → isOutranked t l ≡ true
+      → stepOn t l ≡ pick (isMasked len (eventWord t (runningEvent l) 3) (position l)) (advanceOn t l) (preemptAt l (best t l (waitingCount l)))
+  unfolding isPreempted maskedNow
+  step-outranked f w o =
+      step-runs f w ∙ rw o (split (isMasked len (eventWord t (runningEvent l) 3) (position l)) (λ m. rw m) (λ m. rw m))
 
   -- it gives way
   module _ (o : Bool) (is : isOutranked t l ≡ o) where

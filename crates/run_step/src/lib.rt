@@ -5,7 +5,7 @@ use format_layout::table;
 use spec_language::answers;
 use spec_language::refusals;
 ghost use mathlib.Core.Path.{_≡_};
-ghost use Rattle.run_start.specs.Start.{callResult};
+ghost use Rattle.format_layout.specs.Round.{callResult};
 ghost use Rattle.run_step.specs.Machine.{stepOn};
 ghost use Rattle.run_step.specs.Sound.{RoundSound, isOutranked, isPreempted, outrankedAfter};
 

@@ -14,7 +14,7 @@ use Rattle.lib_base.proofs.Tools.{split}
 use Rattle.lib_word.specs.Word.{get, put}
 use Rattle.lib_word.proofs.Laws.{length-put, get-same}
 use Rattle.spec_language.specs.Refusals.{foreign}
-use Rattle.run_start.specs.Start.{CallResult, callResult}
+use Rattle.format_layout.specs.Round.{CallResult, callResult}
 use Rattle.run_instruction.specs.Allowed.{mayRun}
 use Rattle.run_instruction.specs.Instruction.{perform}
 use Rattle.run_instruction.specs.Execution.{Left, left, none, executed}

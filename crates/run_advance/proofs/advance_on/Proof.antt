@@ -12,7 +12,7 @@ use Rattle.lib_word.specs.Word.{get, put}
 use Rattle.spec_language.specs.Refusals as refusals
 use Rattle.spec_language.specs.Answers as kinds
 use Rattle.format_layout.specs.Layout.{eventOf, eventWord, runningWord, runningNumber, position, depth, markWord}
-use Rattle.run_start.specs.Start.{CallResult, callResult}
+use Rattle.format_layout.specs.Round.{CallResult, callResult}
 use Rattle.run_instruction.specs.Allowed.{mayRun}
 use Rattle.run_instruction.specs.Instruction.{perform}
 use Rattle.run_stretch.specs.Stretch.{stretchOn, stretchAt, stretchFrom}

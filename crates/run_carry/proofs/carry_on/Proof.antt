@@ -10,7 +10,7 @@ use Rattle.lib_word.specs.Word.{get}
 use Rattle.spec_language.specs.Refusals as refusals
 use Rattle.format_layout.specs.Layout.{passivesStart, passivesLength, codeFits}
 use Rattle.format_layout.proofs.BoundsLaws.{code-bound}
-use Rattle.run_start.specs.Start.{CallResult, callResult}
+use Rattle.format_layout.specs.Round.{CallResult, callResult}
 use Rattle.run_stretch.specs.Stretch.{stretchFrom}
 use Rattle.run_carry.specs.Carry.{filledStore, workedOut, carryOn}
 use Rattle.run_carry.proofs.CarryLaws.{filled-head}

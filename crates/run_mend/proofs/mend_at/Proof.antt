@@ -12,7 +12,7 @@ use Rattle.lib_word.specs.Word.{get, getAt}
 use Rattle.spec_language.specs.Refusals as refusals
 use Rattle.format_layout.specs.Layout.{tableFits, waitingCount, runningFlag, runningNumber, runningWord, ours}
 use Rattle.format_layout.specs.Bounds.{TableBounds, Bounds}
-use Rattle.run_start.specs.Start.{CallResult, callResult}
+use Rattle.format_layout.specs.Round.{CallResult, callResult}
 use Rattle.run_carry.specs.Carry.{carryOn, storeShown}
 use Rattle.run_board.specs.Board.{copyBackOn}
 use Rattle.run_mend.specs.Mending.{handKnown, backInHand, rested, verdict, mended, mendWith, mendAfter, mendIn, mendOn}

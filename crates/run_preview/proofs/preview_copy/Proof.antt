@@ -11,7 +11,7 @@ use Rattle.lib_word.specs.Word.{get}
 use Rattle.spec_language.specs.Rights.{may}
 use Rattle.format_layout.specs.Layout.{viewersAt}
 use Rattle.format_layout.proofs.BoundsLaws.{table-bounds}
-use Rattle.run_start.specs.Start.{CallResult, callResult}
+use Rattle.format_layout.specs.Round.{CallResult, callResult}
 use Rattle.run_arrive.specs.Arrivals.{arriveOn}
 use Rattle.run_preview.specs.Preview.{toIdle, previewSteps, shownIn, previewSeen, previewTaken, previewAfter, previewCopy}
 use Rattle.run_preview.proofs.Arrived.{arrive-sound}

@@ -3,7 +3,7 @@ use Prim.Native.Nat.{ℕ, _+_}
 use mathlib.Core.Path.{_≡_, ap, _∙_}
 use mathlib.Core.List.{List}
 use Rattle.lib_word.specs.Word.{get}
-use Rattle.run_start.specs.Start.{CallResult, callResult}
+use Rattle.format_layout.specs.Round.{CallResult, callResult}
 use Rattle.run_preview.specs.Preview.{toIdle, previewSteps, previewAnswer, shownIn}
 use borrow.Author.Needs.{needs}
 use Rattle.run_preview.proofs.shown_in.Statement.{statement}

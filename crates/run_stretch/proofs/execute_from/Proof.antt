@@ -7,7 +7,7 @@ use lib.Dec.{ltb}
 use borrow.Author.Tests.{lt-ltb, le-ltb}
 use Rattle.lib_base.specs.Basics.{pick}
 use Rattle.spec_language.specs.Refusals.{foreign}
-use Rattle.run_start.specs.Start.{CallResult, callResult}
+use Rattle.format_layout.specs.Round.{CallResult, callResult}
 use Rattle.run_stretch.proofs.Late.{written-late}
 use borrow.Author.Needs.{needs}
 use Rattle.run_stretch.proofs.execute_from.Statement.{statement}
