@@ -172,6 +172,12 @@ module _ (t l : List ℕ) where
       (λ e. subst (λ (r : CallResult). r .0 ≡ foreign) q (advance-refused e))
       (λ e. subst Taken q (advance-taken e))
 
+  -- it gives way: what preempts it starts
+  preempted-taken : runningFlag l ≢ 0 → way ≡ true → Taken (stepIn t l)
+  preempted-taken f o =
+      let q : preemptAt l (best t l (waitingCount l)) ≡ stepIn t l = sym (runs t l f ∙ rw o) in
+      subst Taken q (preempt-taken l (best t l (waitingCount l)))
+
   step-order : FirstUnmet ((OurRound t l, foreign) ∷ (StepFits, foreign) ∷ []) (λ r. r ≢ foreign) (stepOn t l .0)
   unfolding stepOn
   step-order =
@@ -180,7 +186,7 @@ module _ (t l : List ℕ) where
       (λ b. inr (λ h. absurd (h .0 (eqb-true (runningFlag l) 0 b)), rest-taken b))
       (λ b. let f = eqb-false (runningFlag l) 0 b in
       split way
-      (λ o. inr (λ h. absurd (h .1 (gives-way f o)), subst Taken (sym (runs t l f ∙ rw o)) (preempt-taken l (best t l (waitingCount l)))))
+      (λ o. inr (λ h. absurd (h .1 (gives-way f o)), preempted-taken f o))
       (λ o. advance-order f o))))
 
 pub demand-1 : Demand1
