@@ -12,7 +12,7 @@ use Rattle.engine_agree.proofs.FinalHolds.{needed}
 use Rattle.secrecy_leak.proofs.LeaklessHolds.{with-no-condition}
 use Rattle.engine_order.proofs.PhonesHold.{in-order}
 use Rattle.engine_order.proofs.ChangesHold.{in-order-changed}
-use Rattle.engine_order.proofs.RemediesHold.{remedies}
+use Rattle.engine_order.proofs.PatientHolds.{remedies}
 use Rattle.engine_order.proofs.TablesSame.{same-tables}
 use Rattle.claims.specs.Claims.{Claims}
 use Rattle.claims.proofs.DeliveriesHold.{deliveries}

@@ -4,3 +4,4 @@ pub mod TablesSame
 pub mod RemediesHold
 pub mod ChangesHold
 pub mod TakenHolds
+pub mod PatientHolds

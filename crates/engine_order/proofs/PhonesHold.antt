@@ -135,7 +135,7 @@ module _ (l₀ t l : List ℕ) (order : EventOrder) (s : State) (h : Stand l₀ 
 
 -- ---- a list of the app's calls
 
-unfoldable appLists : EventOrder → List AppCall → Bytes → List Call
+unfoldable pub appLists : EventOrder → List AppCall → Bytes → List Call
 appLists order [] b = []
 appLists order (c ∷ cs) b =
     appCalls (b .table) order c (b .round) ++ appLists order cs (bytes (b .table) (appRound (b .table) order c (b .round)))
@@ -197,7 +197,7 @@ module _ (s ps t₀ l₀ : List ℕ) (x : Sheet) (r : Prepared s ps t₀ l₀ x)
   told : takenNow (appAfter order cs first) ≡ numberIn (after p (map call listOf))
   told = tells l₀ (appAfter order cs first) (after p (map call listOf)) (w .stand) (omega (arith, w .onward .within))
 
-  one-phone : OnePhone p first order (appAfter order cs first)
+  pub one-phone : OnePhone p first order (appAfter order cs first)
   unfolding entriesFrom
   one-phone = record {
     list = listOf;
@@ -213,6 +213,10 @@ module _ (s ps t₀ l₀ : List ℕ) (x : Sheet) (r : Prepared s ps t₀ l₀ x)
         (stand-takes l₀ (appAfter order cs first) v (w .stand) (entryEvent order n) (entryPlayer order n) commits (rw q declared) eight (rw q right)
         (omega (arith, told)) room));
   }
+
+  pub list-is : one-phone .list ≡ appLists order cs first
+  unfolding one-phone
+  list-is = refl
 
 -- ---- two phones
 

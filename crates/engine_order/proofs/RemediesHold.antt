@@ -23,7 +23,7 @@ use Rattle.refine_calls.proofs.TurnsRefine.{Stand, turned}
 use Rattle.refine_lists.specs.Lists.{boardOf, IdleNow, freshRoundOn, Prepared, TwoRounds, OnlyCalls}
 use Rattle.refine_lists.proofs.Standing.{idle-both}
 use Rattle.refine_lists.proofs.FromSheets.{stands-fresh, calls-of}
-use Rattle.engine_order.specs.Remedies.{EqualCommits, Patiently, AsHandedIn, BothPatiently, Remedies}
+use Rattle.engine_order.specs.Remedies.{EqualCommits, Patiently, AsHandedIn, BothPatiently}
 use Rattle.engine_order.proofs.Blocks.{takenBy, none-takes, first-takes}
 
 -- ---- the same commits
@@ -179,6 +179,3 @@ both s ps qs t₀ l₀ t₁ l₁ x r cs ds oc od same ic id =
     same-commits s ps qs t₀ l₀ t₁ l₁ x r cs ds (ap eventsOf a ∙ same ∙ ap eventsOf (sym b))
     (no-copy-back p (engineAfter p (map call cs)) (empty-hand (after p (map call cs)) ha))
     (no-copy-back p (engineAfter p (map call ds)) (empty-hand (after p (map call ds)) hb))
-
-pub remedies : Remedies
-remedies = record { same-commits = same-commits; as-handed-in = as-handed-in; both = both }
