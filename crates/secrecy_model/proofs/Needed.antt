@@ -13,7 +13,7 @@ use lib.ListN.{replicate}
 use Rattle.lib_arith.specs.Exact.{beyond}
 use Rattle.lib_arith.specs.Functions.{exact, result, over}
 use Rattle.spec_language.specs.Syntax.{immediate}
-use Rattle.spec_language.specs.Sheet.{literal, variable, apply2, clause, formula, state, Sheet, entriesOut, fillTerm, fillClauses, fillEntries, fill}
+use Rattle.spec_language.specs.Sheet.{literal, variable, apply2, clause, formula, state, row, Sheet, entriesOut, fillTerm, fillClauses, fillEntries, fill}
 use Rattle.spec_language.specs.Reading.{entry, signal, sheet}
 use Rattle.spec_language.specs.Dependence.{handled, mentions}
 use Rattle.spec_language.specs.Order.{met, find, order, upTo, metAtOnce, phaseOne}
@@ -22,7 +22,7 @@ use Rattle.spec_semantics.specs.Meaning.{value, inTurn, firstPhase, starts, fre
 use Rattle.spec_execution.specs.Execution.{execute, emptied, times}
 use Rattle.spec_model.specs.Model.{arrive, step, board, refused, takenIn, shows, idle, ran, started, preempted, committed, act, Reply, says, carriedOver, turn, replies, begun, Turn, call}
 use Rattle.spec_model.specs.Carried.{carriedActives, carried}
-use Rattle.secrecy_model.specs.Sight.{two-formulas, two-states, AlikeBut, Pair, both, each, inOne, inOther, heardOf, EqualReplies, SameHidden}
+use Rattle.secrecy_model.specs.Sight.{two-formulas, two-states, two-rows, AlikeBut, Pair, both, each, inOne, inOther, heardOf, EqualReplies, SameHidden}
 
 -- no parameter is used
 abbrev none-lent : ℕ → ℕ
@@ -35,6 +35,13 @@ leaky n = sheet [] (entry (formula (variable 1)) none ∷ entry (state n []) (so
 
 leaky-alike : AlikeBut 1 (leaky 1) (leaky 2)
 leaky-alike = (refl, Forall₂·cons (refl, two-formulas) (Forall₂·cons (refl, two-states (λ h. absurd (true≢false (sym h)))) Forall₂·nil))
+
+-- a row of three cells that the host alone sees may have another start value too
+abbrev hiddenRow : ℕ → Sheet
+hiddenRow n = sheet [] (entry (row 3 n []) (some 1) ∷ [])
+
+hidden-row : AlikeBut 1 (hiddenRow 1) (hiddenRow 2)
+hidden-row = (refl, Forall₂·cons (refl, two-rows (λ h. absurd (true≢false (sym h)))) Forall₂·nil)
 
 -- the first value shown in replies
 abbrev shown : List (Option Reply) → ℕ

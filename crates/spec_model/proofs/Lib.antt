@@ -25,3 +25,4 @@ pub mod OneEvent
 pub mod Alone
 pub mod ModelHolds
 pub mod Examples
+pub mod Instances
