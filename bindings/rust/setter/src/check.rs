@@ -1,6 +1,7 @@
 //! What the proved engine says of a sheet: its sizes, whether two phones agree, and what may leak.
 use crate::failure::Failure;
-use crate::file::{read, SheetFile};
+use crate::file::{bytes_of, faults, is_sheet, read, SheetFile};
+use crate::json::{list, object, text};
 use crate::wording::{listed, long, several, spans};
 use poqashem::{Behaviour, Clash, Event, Leak, Player, Refusal, Sheet, Table};
 use std::fmt::Write;
@@ -14,6 +15,67 @@ const INSTRUCTIONS: u64 = 4_096;
 const MARGIN: usize = 16;
 /// So many pairs of events are named; the others are counted.
 const PAIRS: usize = 12;
+
+/// What a strict check turns down, in words: phones that may end apart, and what may leak.
+pub fn loose(file: &SheetFile) -> Result<Option<String>, Failure> {
+    let table = file.compile()?;
+    let apart = (!clashes(file, &table)?.is_empty()).then_some("phones may end apart");
+    let leaks = groups(file, &table)?.iter().any(|(.., leak)| leak.is_some()).then_some("something may leak");
+    let both: Vec<String> = [apart, leaks].into_iter().flatten().map(str::to_string).collect();
+    Ok((!both.is_empty()).then(|| format!("{}: {}, and the check is strict", file.path, listed(&both))))
+}
+
+/// The same as JSON.
+pub fn json(file: &SheetFile) -> Result<String, Failure> {
+    let table = file.compile()?;
+    let rank = |e: Event| table.rank(e).unwrap_or(0).to_string();
+    let counts = instructions(file, &table)?;
+    let event = |(e, n): &(Event, u64)| {
+        object(&[("name", text(&file.event(*e))), ("rank", rank(*e)), ("instructions", n.to_string())])
+    };
+    let pair = |c: &Clash| {
+        let names = [("first", c.first), ("second", c.second)].map(|(key, e)| (key, text(&file.event(e))));
+        object(&[names[0].clone(), names[1].clone(), ("share", text(&file.behaviour(c.behaviour)))])
+    };
+    let player = |(who, hidden, leak): &Group| {
+        let leak = leak.map_or("null".to_string(), |l| text(&file.behaviour(l.seen)));
+        let hidden = list(hidden.iter().map(|name| text(name)));
+        object(&[("players", list(who.iter().map(u32::to_string))), ("hidden", hidden), ("leak", leak)])
+    };
+    let clashes = clashes(file, &table)?;
+    let value = |p: &crate::names::Param| p.value.map_or("null".to_string(), |v| v.to_string());
+    let param = |p: &crate::names::Param| object(&[("name", text(&p.name)), ("value", value(p))]);
+    Ok(object(&[
+        ("file", text(&file.path)),
+        ("accepted", "true".to_string()),
+        ("bytes", file.sheet.bytes().len().to_string()),
+        ("parameters", list(file.params.iter().map(param))),
+        ("events", list(counts.iter().map(event))),
+        ("behaviours", list(file.everything().iter().map(|shown| text(&shown.label)))),
+        ("agree", clashes.is_empty().to_string()),
+        ("pairs", list(clashes.iter().map(pair))),
+        ("players", list(groups(file, &table)?.iter().map(player))),
+        ("warnings", list(warnings(file).iter().map(|warning| text(warning)))),
+    ]) + "\n")
+}
+
+/// The faults of a text as JSON, or why the file is turned down otherwise.
+pub fn json_faults(path: &str, failure: &Failure) -> String {
+    let bytes = bytes_of(path).unwrap_or_default();
+    let faults = if is_sheet(&bytes) { vec![] } else { faults(&bytes) };
+    let fault = |f: &sheet_text::Fault| {
+        object(&[
+            ("kind", f.kind.number().to_string()),
+            ("line", f.place.line.to_string()),
+            ("column", f.place.column.to_string()),
+            ("why", text(&f.why)),
+            ("hint", f.hint.as_ref().map_or("null".to_string(), |hint| text(hint))),
+        ])
+    };
+    let message = if let Failure::Input(message) = failure { message.as_str() } else { "" };
+    let faults = list(faults.iter().map(fault));
+    object(&[("file", text(path)), ("accepted", "false".into()), ("faults", faults), ("message", text(message))]) + "\n"
+}
 
 /// The whole report.
 pub fn report(file: &SheetFile) -> Result<String, Failure> {
@@ -94,11 +156,11 @@ fn clashes(file: &SheetFile, table: &Table) -> Result<Vec<Clash>, Failure> {
     if sound(file, file.sheet.agree(Some(&lent)))?.is_none() {
         return Ok(vec![]);
     }
-    let text = file.text()?;
+    let described = file.text()?;
     let mut found = vec![];
     for second in 1..sound(file, table.events())? {
         for first in 0..second {
-            let pair = only(file, &text, [first, second])?;
+            let pair = only(file, &described, [first, second])?;
             found.extend(sound(file, pair.agree(Some(&lent)))?);
         }
     }
@@ -134,9 +196,12 @@ fn hidden(file: &SheetFile, table: &Table, player: Player) -> Result<Vec<String>
     Ok(shown.map(|s| s.label).collect())
 }
 
+/// Players, what is hidden from them, and what may leak to them.
+type Group = (Vec<u32>, Vec<String>, Option<Leak>);
+
 /// Players for whom the same is true, together.
-fn players(file: &SheetFile, table: &Table) -> Result<Vec<String>, Failure> {
-    let mut groups: Vec<(Vec<u32>, Vec<String>, Option<Leak>)> = vec![];
+fn groups(file: &SheetFile, table: &Table) -> Result<Vec<Group>, Failure> {
+    let mut groups: Vec<Group> = vec![];
     for player in Player::ALL.into_iter().filter(|p| *p != Player::HOST) {
         let hidden = hidden(file, table, player)?;
         let leak = sound(file, file.sheet.leak(Some(&file.lent()), player))?;
@@ -145,7 +210,11 @@ fn players(file: &SheetFile, table: &Table) -> Result<Vec<String>, Failure> {
             None => groups.push((vec![player.0], hidden, leak)),
         }
     }
-    Ok(groups.iter().map(|(who, hidden, leak)| told(file, who, hidden, *leak)).collect())
+    Ok(groups)
+}
+
+fn players(file: &SheetFile, table: &Table) -> Result<Vec<String>, Failure> {
+    Ok(groups(file, table)?.iter().map(|(who, hidden, leak)| told(file, who, hidden, *leak)).collect())
 }
 
 fn told(file: &SheetFile, who: &[u32], hidden: &[String], leak: Option<Leak>) -> String {

@@ -1,4 +1,5 @@
 //! Why the program ends early, and with which status.
+use crate::paint;
 use std::process::ExitCode;
 
 /// A message for standard error.
@@ -33,7 +34,8 @@ impl Failure {
                 ExitCode::from(2)
             }
             Failure::Input(message) => {
-                eprintln!("{message}");
+                let colours = paint::wanted(&std::io::stderr());
+                eprintln!("{}", if colours { paint::painted(message) } else { message.clone() });
                 ExitCode::from(1)
             }
             Failure::Unheard => ExitCode::SUCCESS,

@@ -5,6 +5,8 @@ use crate::names::{declared_by, handler_line, names_of, params_used, parts, Grou
 use crate::wording::{listed, refused};
 use poqashem::{Behaviour, Circle, Event, Fault, Params, Refusal, Sheet, Table};
 use sheet_text::{words, Kind};
+use std::io::Read;
+use std::sync::OnceLock;
 
 /// How many parameters the host lends.
 const LENT: usize = 8;
@@ -33,9 +35,24 @@ pub struct Shown {
     pub row: bool,
 }
 
+/// The path that stands for standard input.
+pub const STANDARD_INPUT: &str = "-";
+
+/// All of it, however often it is asked for.
+fn standard_input() -> std::io::Result<Vec<u8>> {
+    static READ: OnceLock<Vec<u8>> = OnceLock::new();
+    if let Some(bytes) = READ.get() {
+        return Ok(bytes.clone());
+    }
+    let mut bytes = vec![];
+    std::io::stdin().read_to_end(&mut bytes)?;
+    Ok(READ.get_or_init(|| bytes).clone())
+}
+
 /// A file's bytes.
 pub fn bytes_of(path: &str) -> Result<Vec<u8>, Failure> {
-    std::fs::read(path).map_err(|e| Failure::input(format!("{path}: cannot be read: {e}")))
+    let read = if path == STANDARD_INPUT { standard_input() } else { std::fs::read(path) };
+    read.map_err(|e| Failure::input(format!("{path}: cannot be read: {e}")))
 }
 
 /// Whether bytes are a sheet's and no text: no text begins with one of these bytes.
@@ -45,9 +62,12 @@ pub fn is_sheet(bytes: &[u8]) -> bool {
 
 /// The faults of a text, each with its line, a mark under its place, and what to do.
 fn shown(path: &str, text: &[u8]) -> Failure {
-    let read = |text: &[u8]| Sheet::assemble(text).err().map(|fault| why(text, &fault));
-    let all = sheet_text::faults(text, &read);
-    Failure::Input(all.iter().map(|fault| told(path, text, fault)).collect::<Vec<_>>().join("\n"))
+    Failure::Input(faults(text).iter().map(|fault| told(path, text, fault)).collect::<Vec<_>>().join("\n"))
+}
+
+/// The faults that the engine finds, in words.
+pub fn faults(text: &[u8]) -> Vec<sheet_text::Fault> {
+    sheet_text::faults(text, &|text| Sheet::assemble(text).err().map(|fault| why(text, &fault)))
 }
 
 fn told(path: &str, text: &[u8], fault: &sheet_text::Fault) -> String {

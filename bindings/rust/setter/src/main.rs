@@ -3,14 +3,18 @@
 //! What reads, judges, describes or runs a sheet is the proved engine, through the Rust crate. Plain Rust are the names
 //! that are printed, taken from the accepted text, and the words behind a fault.
 mod check;
+mod constants;
 mod excerpt;
 mod failure;
 mod file;
+mod json;
 mod names;
 mod output;
+mod paint;
 mod play;
 mod script;
 mod timeline;
+mod trial;
 mod wording;
 
 use failure::Failure;
@@ -26,6 +30,9 @@ setter: sheets written as text
 
   setter check FILE                    is it accepted, how large is it, may two phones end apart, what may leak
   setter build FILE OUT                write the sheet's bytes
+  setter new FILE                      write a small sheet to begin with
+  setter try FILE                      look for two phones that end apart, at random
+  setter names FILE                    its numbers for a host's program, in C, Rust, TypeScript, Java or Swift
   setter show SHEET                    a sheet's bytes as text
   setter join FIRST SECOND OUT         write the bytes of two sheets joined to one
   setter play FILE SCRIPT              play a round by name
@@ -33,20 +40,43 @@ setter: sheets written as text
   setter help COMMAND                  more on a command
   setter --version                     the program's version and the engine's
 
-A FILE is text (docs/SHEETS.md) or a sheet's bytes; of bytes, e0, b0 and p0 are the names. A text's sheet or fault, a
-sheet's text, circles, instructions, phones, leaks and rounds are the proved engine's answers. No file that is read, and
+A FILE is text (docs/SHEETS.md) or a sheet's bytes, - is standard input; of bytes, e0, b0 and p0 are the names. A text's
+sheet or fault, a sheet's text, circles, instructions, phones, leaks and rounds are the proved engine's answers. No file that is read, and
 none of another kind than is written, is written over without --force. Ends with 0; with 1 where a file cannot be read
 or is turned down, with 2 where it was called wrongly.
 ";
 
 const CHECK: &str = "\
-setter check FILE [--join OTHER [--by-name]] [--param NAME=VALUE ..]
+setter check FILE [--join OTHER [--by-name]] [--param NAME=VALUE ..] [--strict] [--json]
 
 Says whether the sheet is accepted, with its bytes, parameters, events, behaviours and instructions beside their limits;
 whether two phones that take in the same events in the same order, at most 64 in hand, have equal boards when idle, or
 may end apart, and then which events share what, a warning; for the players, what is hidden, and whether its start value
 may leak, also a warning. A fault of the text is told as FILE:LINE:COLUMN, a circle by its names and event. With --join,
-of FILE joined with OTHER.
+of FILE joined with OTHER. --strict ends with 1 where phones may end apart or something may leak; --json prints one line
+of JSON, of faults too.
+";
+
+const NEW: &str = "\
+setter new FILE
+
+Writes a small sheet with comments, and beside it a script that plays it, under the same name with the ending .play. No
+file that is there is written over.
+";
+
+const TRY: &str = "\
+setter try FILE [--seed N] [--runs N] [--join OTHER [--by-name]] [--param NAME=VALUE ..] [--strict]
+
+Draws events at random and lets two phones take them in, in one order, with unlike cuts of their steps; compares the
+boards when both are idle. Says found, with the two scripts and boards, or not found, which is no proof. The same seed
+gives the same runs: 1, and 10,000 runs, where none are given. --strict ends with 1 where it is found.
+";
+
+const NAMES: &str = "\
+setter names FILE [--as LANGUAGE] [--join OTHER [--by-name]] [--param NAME=VALUE ..]
+
+Prints the numbers of events, behaviours, rows and parameters under their names, and the 32 bytes that lend the
+parameters, as c (where none is named), rust, typescript, java or swift.
 ";
 
 const BUILD: &str = "\
@@ -82,9 +112,11 @@ text's default unless one is given. A script has one statement a line; # begins 
   steps COUNT                               so many steps pass
   run                                       steps until nothing is in hand
   board [BEHAVIOUR ..] [by PLAYER]          what the player sees: all, or a behaviour, a row or a cell, lamp[3]
+  expect BEHAVIOUR VALUE .. [by PLAYER]     the player sees this value, or hidden; else it ends with 1
   preview EVENT [BEHAVIOUR ..] [by PLAYER]  what the board would show if the player sent this event now
   forecast                                  how many steps until nothing is in hand
   mend OTHER [by name] [NAME=VALUE ..]      the round goes on under another sheet, its path from the script's folder
+  repeat COUNT STATEMENT [, STATEMENT ..]   these, so often
 
 A change of sheets goes by number, and warns where a number has another name then; by name, OTHER, a text, is brought
 into the order of the sheet before.
@@ -99,7 +131,10 @@ is read; --force writes over any.
 ";
 
 /// A command, its help, and how many files it names.
-const COMMANDS: [(&str, &str, usize); 6] = [
+const COMMANDS: [(&str, &str, usize); 9] = [
+    ("new", NEW, 1),
+    ("try", TRY, 1),
+    ("names", NAMES, 1),
     ("check", CHECK, 1),
     ("build", BUILD, 2),
     ("show", SHOW, 1),
@@ -119,6 +154,11 @@ struct Asked {
     join: Option<String>,
     force: bool,
     by_name: bool,
+    strict: bool,
+    json: bool,
+    language: Option<String>,
+    seed: Option<u64>,
+    runs: Option<u64>,
     help: bool,
 }
 
@@ -132,6 +172,11 @@ impl Asked {
     }
 }
 
+/// The word behind an option.
+fn behind<T: std::str::FromStr>(words: &mut impl Iterator<Item = String>, why: &str) -> Result<T, Failure> {
+    words.next().and_then(|word| word.parse().ok()).ok_or_else(|| Failure::Usage(why.to_string()))
+}
+
 fn asked(words: impl Iterator<Item = String>) -> Result<Asked, Failure> {
     let mut asked = Asked::default();
     let mut words = words;
@@ -140,6 +185,11 @@ fn asked(words: impl Iterator<Item = String>) -> Result<Asked, Failure> {
             "--help" | "-h" => asked.help = true,
             "--force" => asked.force = true,
             "--by-name" => asked.by_name = true,
+            "--strict" => asked.strict = true,
+            "--json" => asked.json = true,
+            "--as" => asked.language = Some(behind(&mut words, "--as needs a language")?),
+            "--seed" => asked.seed = Some(behind(&mut words, "--seed needs a number")?),
+            "--runs" => asked.runs = Some(behind(&mut words, "--runs needs a number")?),
             "--join" => asked.join = Some(words.next().ok_or(Failure::Usage("--join needs a file".to_string()))?),
             "--param" => {
                 let given = words.next().and_then(|w| script::assignment(&w));
@@ -153,7 +203,11 @@ fn asked(words: impl Iterator<Item = String>) -> Result<Asked, Failure> {
 }
 
 fn print(text: &str) -> Result<(), Failure> {
-    Ok(std::io::stdout().write_all(text.as_bytes())?)
+    let mut out = std::io::stdout();
+    match paint::wanted(&out) {
+        true => Ok(out.write_all(paint::painted(text).as_bytes())?),
+        false => Ok(out.write_all(text.as_bytes())?),
+    }
 }
 
 /// The sheet that a command is about, joined with another where that is asked, its parameters filled in.
@@ -214,6 +268,52 @@ fn join(asked: &Asked) -> Result<(), Failure> {
     let both = together(&SheetFile::load(&asked.files[0])?, &asked.files[1], asked.by_name)?;
     warn(&both);
     written(output, both.sheet.bytes())
+}
+
+fn check(asked: &Asked) -> Result<(), Failure> {
+    let said = |file: &SheetFile| if asked.json { check::json(file) } else { check::report(file) };
+    let done = load(asked).and_then(|file| said(&file).map(|words| (file, words)));
+    if let (Err(failure), true) = (&done, asked.json) {
+        print(&check::json_faults(&asked.files[0], failure))?;
+    }
+    let (file, words) = done?;
+    print(&words)?;
+    match check::loose(&file)?.filter(|_| asked.strict) {
+        Some(why) => Err(Failure::Input(why)),
+        None => Ok(()),
+    }
+}
+
+/// A small sheet and its script.
+const FIRST_SHEET: &str = include_str!("new.sheet");
+const FIRST_SCRIPT: &str = include_str!("new.play");
+
+fn new(asked: &Asked) -> Result<(), Failure> {
+    let sheet = asked.files[0].clone();
+    let script = std::path::Path::new(&sheet).with_extension("play").to_string_lossy().into_owned();
+    let there = [&sheet, &script].into_iter().find(|path| std::fs::symlink_metadata(path).is_ok());
+    if let Some(there) = there {
+        return Err(Failure::Usage(format!("{there} is there already, and nothing is written over")));
+    }
+    for (path, text) in [(&sheet, FIRST_SHEET), (&script, FIRST_SCRIPT)] {
+        let made = std::fs::OpenOptions::new().write(true).create_new(true).open(path);
+        made.and_then(|mut file| file.write_all(text.as_bytes()))
+            .map_err(|e| Failure::input(format!("{path}: cannot be written: {e}")))?;
+    }
+    print(&format!("{sheet} and {script} are written; next: setter check {sheet}, setter play {sheet} {script}\n"))
+}
+
+/// How many runs a search makes where none are named.
+const RUNS: u64 = 10_000;
+
+fn search(asked: &Asked) -> Result<(), Failure> {
+    let file = load(asked)?;
+    let (told, found) = trial::search(&file, asked.seed.unwrap_or(1), asked.runs.unwrap_or(RUNS))?;
+    print(&told)?;
+    if found && asked.strict {
+        return Err(Failure::Input(format!("{}: phones end apart, and the search is strict", file.path)));
+    }
+    Ok(())
 }
 
 /// What is played, at the head of what is printed.
@@ -281,11 +381,17 @@ fn run(mut words: impl Iterator<Item = String>) -> Result<(), Failure> {
     if asked.help {
         return print(help);
     }
+    if asked.files.iter().chain(&asked.join).filter(|path| *path == file::STANDARD_INPUT).count() > 1 {
+        return Err(wrong("- is standard input, which is read once".to_string()));
+    }
     if asked.files.len() != *files {
         return Err(wrong(format!("{name} names {}", several(*files as u64, "file", "files"))));
     }
     match *name {
-        "check" => print(&check::report(&load(&asked)?)?),
+        "check" => check(&asked),
+        "new" => new(&asked),
+        "try" => search(&asked),
+        "names" => print(&constants::written(&load(&asked)?, asked.language.as_deref().unwrap_or("c"))?),
         "build" => build(&asked),
         "show" => show(&asked),
         "join" => join(&asked),

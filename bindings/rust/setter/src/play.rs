@@ -73,6 +73,8 @@ pub struct Stage<'a> {
     /// Arrivals that have started, to tell a start from a restart.
     started: HashSet<u32>,
     idle: bool,
+    /// What was expected and is not so.
+    failed: Vec<String>,
     tell: &'a mut dyn FnMut(Entry) -> Result<(), Failure>,
     told: Instant,
 }
@@ -84,7 +86,12 @@ pub fn names_known(file: &SheetFile, script: &Script) -> Result<(), Failure> {
     let mut sheets = vec![file];
     let mut last = file.clone();
     for Statement { line, ask } in &script.statements {
+        let expected: Vec<String>;
         let (events, names): (&[String], &[String]) = match ask {
+            Ask::Expect { values, .. } => {
+                expected = values.iter().map(|(name, _)| name.clone()).collect();
+                (&[], &expected)
+            }
             Ask::Send { events, .. } => (events, &[]),
             Ask::Board { names, .. } => (&[], names),
             Ask::Preview { event, names, .. } => (std::slice::from_ref(event), names),
@@ -129,11 +136,15 @@ pub fn play(
         running: None,
         started: HashSet::new(),
         idle: true,
+        failed: vec![],
         tell,
         told: Instant::now(),
     };
     for statement in &script.statements {
         stage.one(statement.line, &statement.ask)?;
+    }
+    if !stage.failed.is_empty() {
+        return Err(Failure::Input(stage.failed.join("\n")));
     }
     Ok(stage.step)
 }
@@ -173,6 +184,7 @@ impl Stage<'_> {
             Ask::Run => self.run(line),
             Ask::Board { names, player } => self.board(line, names, *player),
             Ask::Preview { event, names, player } => self.preview(line, event, names, *player),
+            Ask::Expect { values, player } => self.expect(line, values, *player),
             Ask::Forecast => self.forecast(),
             Ask::Mend { file, by_name } => self.mend(file, *by_name),
         }
@@ -301,6 +313,27 @@ impl Stage<'_> {
             },
             None,
         )
+    }
+
+    /// What is not as expected is told, and the round goes on; the script has failed then.
+    fn expect(&mut self, line: usize, values: &[(String, String)], who: Player) -> Result<(), Failure> {
+        for (name, value) in values {
+            let shown = self.shown(line, std::slice::from_ref(name))?;
+            let [Shown { members, row: false, .. }] = &shown[..] else {
+                return Err(wrong(&self.script.path, line, format!("expect names a cell of {name}, as in {name}[0]")));
+            };
+            let seen = match self.round.board(members[0], who) {
+                Ok(seen) => seen.to_string(),
+                Err(Refusal::NoRight) => "hidden".to_string(),
+                Err(refusal) => refused(refusal),
+            };
+            let words = if seen == *value { "as expected".to_string() } else { format!("expected {value}") };
+            if seen != *value {
+                self.failed.push(format!("{}:{line}: {name} is {seen}, expected {value}", self.script.path));
+            }
+            self.say(format!("{name} is {seen}, {words}"), None)?;
+        }
+        Ok(())
     }
 
     fn forecast(&mut self) -> Result<(), Failure> {

@@ -16,6 +16,8 @@ pub enum Ask {
     Board { names: Vec<String>, player: Player },
     /// What the board would show if this event arrived now and all in hand were run.
     Preview { event: String, names: Vec<String>, player: Player },
+    /// What a player must see, name by name; else the script fails.
+    Expect { values: Vec<(String, String)>, player: Player },
     /// How many steps until idle.
     Forecast,
     /// The round goes on under another sheet, by number or by name.
@@ -33,7 +35,10 @@ pub struct Script {
 }
 
 /// What a script may say, for messages.
-const VERBS: &str = "a line begins with send, steps, run, board, preview, forecast or mend";
+const VERBS: &str = "a line begins with send, steps, run, board, expect, preview, forecast, mend or repeat";
+
+/// So often a line is repeated, at most.
+const REPEATS: usize = 100_000;
 
 impl Script {
     /// Reads a script and the sheets that it changes to.
@@ -48,8 +53,7 @@ impl Script {
             let words: Vec<&str> = line.split('#').next().unwrap_or("").split_whitespace().collect();
             let [verb, rest @ ..] = &words[..] else { continue };
             let at = At { path, line: k + 1, given };
-            let ask = at.ask(verb, rest)?;
-            script.statements.push(Statement { line: k + 1, ask });
+            script.statements.extend(at.statements(verb, rest)?);
         }
         Ok(script)
     }
@@ -73,8 +77,41 @@ impl At<'_> {
         wrong(self.path, self.line, why)
     }
 
+    /// One statement, or those of a `repeat`, which commas part.
+    fn statements(&self, verb: &str, rest: &[&str]) -> Result<Vec<Statement>, Failure> {
+        let one = |verb: &str, rest: &[&str]| self.ask(verb, rest).map(|ask| Statement { line: self.line, ask });
+        if verb != "repeat" {
+            return Ok(vec![one(verb, rest)?]);
+        }
+        let usage = || self.wrong("repeat needs a number and what to repeat: repeat COUNT STATEMENT [, STATEMENT ..]");
+        let [count, rest @ ..] = rest else { return Err(usage()) };
+        let count: usize = count.parse().ok().filter(|n| *n <= REPEATS).ok_or_else(usage)?;
+        let whole = rest.join(" ");
+        let parts: Vec<Vec<&str>> = whole.split(',').map(|part| part.split_whitespace().collect()).collect();
+        let mut statements = vec![];
+        for _ in 0..count {
+            for part in &parts {
+                let [verb, rest @ ..] = &part[..] else { return Err(usage()) };
+                statements.push(one(verb, rest)?);
+            }
+        }
+        Ok(statements)
+    }
+
+    /// Names and values in turn.
+    fn expect(&self, rest: &[&str]) -> Result<Ask, Failure> {
+        let (words, player) = self.player(rest, "by")?;
+        let pairs: Vec<(String, String)> = words.chunks_exact(2).map(|w| (w[0].clone(), w[1].clone())).collect();
+        let value = |value: &str| value == "hidden" || value.parse::<i32>().is_ok();
+        if pairs.is_empty() || words.len() % 2 == 1 || !pairs.iter().all(|(_, v)| value(v)) {
+            return Err(self.wrong("expect needs names and values: expect BEHAVIOUR VALUE .. [by PLAYER]"));
+        }
+        Ok(Ask::Expect { values: pairs, player })
+    }
+
     fn ask(&self, verb: &str, rest: &[&str]) -> Result<Ask, Failure> {
         match verb {
+            "expect" => self.expect(rest),
             "send" => {
                 let (events, player) = self.player(rest, "from")?;
                 if events.is_empty() {

@@ -399,3 +399,147 @@ fn numbers_and_names() {
     assert_eq!(said(&room.setter("check one.sheet --join gem.sheet")), why);
     assert!(room.done("check one.sheet --join gem.sheet --by-name").contains("parameters         2 of 8"));
 }
+
+const APART: &str =
+    "event hit rank 2\nevent late rank 9\nactive over = 0\n  on late: 1\nactive points = 0\n  on hit: if(over, \
+                     points, points + 10)\n";
+
+/// Ends with 1 where phones may part or something leaks, and only when it is asked.
+#[test]
+fn strict() {
+    let room = Room::new("strict");
+    let strict = |text: &str, why: &str| {
+        room.put("one.sheet", text);
+        room.done("check one.sheet");
+        let done = room.setter("check one.sheet --strict");
+        let due = if why.is_empty() { (Some(0), why.to_string()) } else { (Some(1), format!("one.sheet: {why}\n")) };
+        assert_eq!((done.status.code(), said(&done)), due);
+        assert!(String::from_utf8_lossy(&done.stdout).starts_with("one.sheet: accepted\n"));
+    };
+    strict(APART, "phones may end apart, and the check is strict");
+    strict(&APART.replace("rank 9", "rank 2"), "");
+    strict("active a = 0 seen by 1\npassive b = a\n", "something may leak, and the check is strict");
+    strict(
+        &format!("{APART}active a = 0 seen by 1\npassive b = a\n"),
+        "phones may end apart and something may leak, and the check is strict",
+    );
+}
+
+/// The output of a command that reads this on standard input.
+fn piped(room: &Room, words: &str, text: &str) -> Output {
+    use std::io::Write;
+    let mut command = Command::new(env!("CARGO_BIN_EXE_setter"));
+    let pipe = std::process::Stdio::piped;
+    let command = command.args(words.split(' ')).current_dir(&room.0).stdin(pipe()).stdout(pipe()).stderr(pipe());
+    let mut child = command.spawn().unwrap();
+    child.stdin.take().unwrap().write_all(text.as_bytes()).unwrap();
+    child.wait_with_output().unwrap()
+}
+
+#[test]
+fn json_and_standard_input() {
+    let room = Room::new("json");
+    let done = piped(&room, "check - --json", APART);
+    let told = String::from_utf8(done.stdout).unwrap();
+    assert_eq!(done.status.code(), Some(0));
+    for part in [
+        "{\"file\":\"-\",\"accepted\":true,",
+        "\"events\":[{\"name\":\"hit\",\"rank\":2,\"instructions\":13},",
+        "\"agree\":false,\"pairs\":[{\"first\":\"hit\",\"second\":\"late\",\"share\":\"over\"}],",
+        "\"leak\":null}],\"warnings\":[]}\n",
+    ] {
+        assert!(told.contains(part), "{part}\n{told}");
+    }
+    let done = piped(&room, "check --json -", "active a = 0\npassive p = a % 2\nactive a = 1\n");
+    let told = String::from_utf8(done.stdout).unwrap();
+    assert_eq!((done.status.code(), told.lines().count()), (Some(1), 1));
+    let faults = ["\"faults\":[{\"kind\":31,\"line\":2,\"column\":15,", "{\"kind\":35,\"line\":3,\"column\":8,"];
+    assert!(faults.iter().all(|fault| told.contains(fault)), "{told}");
+    // a script too, but one of them
+    let done = piped(&room, "play one.sheet -", "send hit\nrun\nboard\n");
+    assert!(String::from_utf8(done.stdout).unwrap().contains("board: score 10\n"));
+    let done = piped(&room, "play - -", "");
+    assert!(said(&done).starts_with("setter: - is standard input, which is read once\n"), "{}", said(&done));
+    // no colours where there is no terminal
+    assert!(!told.contains('\u{1b}'));
+}
+
+#[test]
+fn a_sheet_to_begin_with() {
+    let room = Room::new("new");
+    room.done("new first.sheet");
+    assert!(room.done("check first.sheet --strict").contains("agree"));
+    assert!(room.done("play first.sheet first.play").contains("won is 1, as expected\n"));
+    room.refused("new first.sheet", "first.sheet is there already, and nothing is written over");
+    std::fs::remove_file(room.0.join("first.sheet")).unwrap();
+    room.refused("new first.sheet", "first.play is there already, and nothing is written over");
+}
+
+/// Two phones are found where they can end apart, the same ones by the same seed, and their scripts lead there.
+#[test]
+fn two_phones_at_random() {
+    let room = Room::new("try");
+    room.put("apart.sheet", APART);
+    let told = room.done("try apart.sheet");
+    assert!(
+        told.starts_with("apart.sheet: found in run ") && told.ends_with("the first that differs is points\n"),
+        "{told}"
+    );
+    assert_eq!(told, room.done("try apart.sheet --seed 1 --runs 10000"));
+    assert_eq!(room.setter("try apart.sheet --strict").status.code(), Some(1));
+    for phone in told.split("phone ").skip(1) {
+        let lines: Vec<&str> = phone.lines().filter_map(|line| line.strip_prefix("  ")).collect();
+        let (board, script) = lines.split_last().unwrap();
+        room.put("phone.play", format!("{}\nboard\n", script.join("\n")));
+        assert!(room.done("play apart.sheet phone.play").contains(board), "{phone}");
+    }
+    room.put("apart.sheet", APART.replace("rank 9", "rank 2"));
+    let none = "apart.sheet: not found in 200 runs of at most 40 events, seed 7; that is a search, and no proof\n";
+    assert_eq!(room.done("try apart.sheet --strict --seed 7 --runs 200"), none);
+}
+
+#[test]
+fn expected_values() {
+    let room = Room::new("expect");
+    room.put("one.play", "repeat 3 send hit, run\nexpect score 30\nexpect score 20\nexpect score 30\n");
+    let done = room.setter("play one.sheet one.play");
+    assert_eq!((done.status.code(), said(&done).as_str()), (Some(1), "one.play:3: score is 30, expected 20\n"));
+    let told = String::from_utf8(done.stdout).unwrap();
+    assert!(told.contains("score is 30, expected 20\n") && told.ends_with("score is 30, as expected\n"), "{told}");
+    room.put("hidden.sheet", "active a = 1 seen by 1\n");
+    room.put("one.play", "expect a 1\nexpect a 1 by 1\nexpect a hidden by 2\n");
+    room.done("play hidden.sheet one.play");
+    for slip in
+        ["expect score", "expect score x", "expect scor 1", "repeat", "repeat 3", "repeat 3 send hit,", "repeat x run"]
+    {
+        room.put("one.play", slip);
+        let done = room.setter("play one.sheet one.play");
+        assert!(done.status.code() == Some(1) && said(&done).starts_with("one.play:1: "), "{slip}");
+    }
+}
+
+#[test]
+fn numbers_for_a_program() {
+    let room = Room::new("constants");
+    room.put("my-day.sheet", "param gain = -2\nparam more\nevent hit rank 1\nrow lamp[4] = 0\nactive score = 0\n");
+    let bytes =
+        "255, 255, 255, 254, 0, 0, 0, 0, 0, 0, 0, 0, 0, 0, 0, 0, 0, 0, 0, 0, 0, 0, 0, 0, 0, 0, 0, 0, 0, 0, 0, 0";
+    for (language, lines) in [
+        ("c", ["#define MY_DAY_BEHAVIOUR_score 4u", "static const unsigned char MY_DAY_PARAMS[32] = {", bytes]),
+        ("rust", ["pub const CELLS_lamp: u32 = 4;", "pub const PARAMS: [u8; 32] = [", bytes]),
+        ("typescript", ["export const PARAM_more = 1;", "export const EVENT_hit = 0;", bytes]),
+        (
+            "java",
+            ["public final class MyDay {", "    public static final int BEHAVIOUR_lamp = 0;", "{-1, -1, -1, -2, 0,"],
+        ),
+        ("swift", ["public enum MyDay {", "    public static let BEHAVIOUR_score: UInt32 = 4", bytes]),
+    ] {
+        let told = room.done(&format!("names my-day.sheet --as {language}"));
+        assert!(lines.iter().all(|line| told.contains(line)), "{told}");
+    }
+    assert_eq!(room.done("names my-day.sheet"), room.done("names my-day.sheet --as c"));
+    assert!(room.done("names my-day.sheet --param more=7").contains("{255, 255, 255, 254, 0, 0, 0, 7, 0,"));
+    assert!(
+        said(&room.setter("names my-day.sheet --as pascal")).starts_with("setter: no language pascal: names writes c,")
+    );
+}
