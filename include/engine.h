@@ -151,6 +151,14 @@ static inline uint32_t engine_agree_first(uint64_t answer) { return (uint32_t)(a
 static inline uint32_t engine_agree_second(uint64_t answer) { return (uint32_t)(answer >> 16 & 0xFF); }
 static inline uint32_t engine_agree_behaviour(uint64_t answer) { return (uint32_t)(answer >> 24 & 0xFF); }
 
+/* Whether two phones that take in the same events in the same order always end with the same value of one behaviour,
+ * whatever the rest of their boards does: compile's number, as with a full table; 18; 0 where no two events of unequal
+ * rank meet in what the behaviour depends on, so that they do; else 29 with two that meet and the behaviour at which they
+ * do, the least first event, then the least second, then the least behaviour: engine_agree_number and the like take it
+ * apart. docs/SHEETS.md says where two events meet. With changes of sheets nothing is said of one behaviour. */
+uint64_t engine_agree_for(const uint8_t *sheet, size_t sheet_len, const uint8_t *params, size_t params_len,
+                          uint32_t behaviour);
+
 /* Whether what a player sees may depend on what is hidden from it: compile's number, as with a full table; 24; 0 where
  * no behaviour that the player sees depends on a hidden one, so that its answers are the same whatever the start values
  * of hidden behaviours are; else 30 with the least that it sees and that names a hidden one, and the least hidden one

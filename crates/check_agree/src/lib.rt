@@ -37,7 +37,7 @@ fn clash_of(we: u64, ne: u64, wf: u64, nf: u64) -> u64
 }
 
 // The least behaviour in the set, with the events; 0 for an empty set.
-fn least_in(set: u64, n: usize, e: usize, f: usize) -> u64
+pub fn least_in(set: u64, n: usize, e: usize, f: usize) -> u64
     requires { ⌜ (n ≤ 64) × (e < 32) × (f < 32) ⌝ }
     ensures { λ r. ⌜ r ≡ leastIn set n e f ⌝ }
 {

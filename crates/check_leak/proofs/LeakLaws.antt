@@ -86,7 +86,7 @@ module _ (p : Program) (d : List ℕ) (n : ℕ) (fits : Fits p) (dr : Drafted p 
   unfolding hiddenOn
   hidden-are i b = rw (dr .viewers i b)
 
-  any-are : (i j : ℕ) → i < size p → namesAny d (events p) i j ≡ behaviourNames p i j
+  pub any-are : (i j : ℕ) → i < size p → namesAny d (events p) i j ≡ behaviourNames p i j
   unfolding namesAny behaviourNames
   any-are i j b =
       any-same (events p + 1) (λ e. namesOn d e i j) (λ e. inResponse j (response p e i))

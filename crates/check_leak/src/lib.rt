@@ -30,7 +30,7 @@ const LAST_PLAYER: u32 = spec_language::limits::PLAYERS - 1;
 const VIEWERS: usize = layout::VIEWERS;
 
 // The names in behaviour i, its expression or its handlers for ev events.
-fn names_of(d: &[u64], ev: usize, i: usize, n: usize) -> u64
+pub fn names_of(d: &[u64], ev: usize, i: usize, n: usize) -> u64
     requires { ⌜ (length (now d) ≡ draftLength) × (ev ≤ 32) × (n ≤ 64) × (i < n) × AllInside (now d) ev n ⌝ }
     ensures { λ r. ⌜ Gathers 64 r (namesAny (now (d .entry)) ev i) ⌝ }
 {

@@ -134,7 +134,7 @@ cells-closed m n l few (suc k) i j a b h =
       cells-closed m n l few k k j (omega arith) b (omega arith),
     )
 
-closed-same : (n : ℕ) (dep dep′ : ℕ → ℕ → Bool) → ((x y : ℕ) → x < n → y < n → dep x y ≡ dep′ x y) → (k i j : ℕ) → i < n → j < n → k ≤ n → closedBy k dep i j ≡ closedBy k dep′ i j
+pub closed-same : (n : ℕ) (dep dep′ : ℕ → ℕ → Bool) → ((x y : ℕ) → x < n → y < n → dep x y ≡ dep′ x y) → (k i j : ℕ) → i < n → j < n → k ≤ n → closedBy k dep i j ≡ closedBy k dep′ i j
 unfolding closedBy
 closed-same n dep dep′ h zero i j a b c = h i j a b
 closed-same n dep dep′ h (suc k) i j a b c =
@@ -183,7 +183,7 @@ module _ (p : Program) (d : List ℕ) (n : ℕ) (f : Fits p) (dr : Drafted p d n
       passive-entry (entryOf d (events p) i) i j (response p (events p) i) (entry-of p d n dr (events p) i (f .few-events) b) (response-nested p (f .each) (events p) i)
       (plain (behaviourAt p i) (all-at-or (BehaviourFits (events p)) (p .behaviours) i (active 0 []) (f .each) (omega arith, tt)))
 
-  chains-are : (i j : ℕ) → i < size p → j < size p → closedBy (size p) (passiveOn d (events p)) i j ≡ throughPassives p i j
+  pub chains-are : (i j : ℕ) → i < size p → j < size p → closedBy (size p) (passiveOn d (events p)) i j ≡ throughPassives p i j
   unfolding throughPassives closed
   chains-are i j a b =
       closed-same (size p) (passiveOn d (events p)) (λ x y. cell (matrixOf p (noEvent p)) x y)

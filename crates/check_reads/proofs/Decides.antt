@@ -81,12 +81,12 @@ module _ (p : Program) (each : All (BehaviourFits (events p)) (p .behaviours)) w
         let w = below-says (size p) (matrixOf p (noEvent p)) i j h in
         sym (cell-is p (noEvent p) i j (omega (arith, w .0)) (omega (arith, w .1))) ∙ w .2
 
-    chain-says : (i j : ℕ) → i < size p → j < size p → throughPassives p i j ≡ true → Reach (dependsOn p (noEvent p)) i j
+    pub chain-says : (i j : ℕ) → i < size p → j < size p → throughPassives p i j ≡ true → Reach (dependsOn p (noEvent p)) i j
     unfolding throughPassives
     chain-says i j a b h =
         reach-map from-below (closed-decides (matrixOf p (noEvent p)) (size p) (length-matrixOf p (noEvent p)) few i j a b .0 h)
 
-    chain-is : (i j : ℕ) → i < size p → j < size p → Reach (dependsOn p (noEvent p)) i j → throughPassives p i j ≡ true
+    pub chain-is : (i j : ℕ) → i < size p → j < size p → Reach (dependsOn p (noEvent p)) i j → throughPassives p i j ≡ true
     unfolding throughPassives
     chain-is i j a b r =
         closed-decides (matrixOf p (noEvent p)) (size p) (length-matrixOf p (noEvent p)) few i j a b .1 (reach-map to-below r)

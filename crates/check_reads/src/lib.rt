@@ -141,7 +141,7 @@ fn pass_through(rows: &mut [u64], k: usize, n: usize)
 }
 
 // The rows with whatever is reached by a chain, in place.
-fn close_rows(rows: &mut [u64], n: usize)
+pub fn close_rows(rows: &mut [u64], n: usize)
     requires { ⌜ (length (now rows) ≡ 64) × (n ≤ 64) ⌝ }
     ensures { λ _. ⌜ ((dep : ℕ → ℕ → Bool) → RowsBy dep n (now (rows .entry)) → RowsBy (closedBy n dep) n (now (rows .exit))) ⌝ }
 {
@@ -153,7 +153,7 @@ fn close_rows(rows: &mut [u64], n: usize)
 }
 
 // What each of n behaviours names through passives.
-fn passive_rows(d: &[u64], ev: usize, n: usize, rows: &mut [u64])
+pub fn passive_rows(d: &[u64], ev: usize, n: usize, rows: &mut [u64])
     requires { ⌜ (length (now d) ≡ draftLength) × (length (now rows) ≡ 64) × (ev ≤ 32) × (n ≤ 64) × RowsInside (now d) ev n ⌝ }
     ensures { λ _. ⌜ RowsBy (closedBy n (passiveOn (now (d .entry)) ev)) n (now (rows .exit)) ⌝ }
 {
@@ -162,7 +162,7 @@ fn passive_rows(d: &[u64], ev: usize, n: usize, rows: &mut [u64])
 }
 
 // The names, and whatever they lead to.
-fn add_rows(rows: &[u64], names: u64, n: usize) -> u64
+pub fn add_rows(rows: &[u64], names: u64, n: usize) -> u64
     requires { ⌜ (length (now rows) ≡ 64) × (n ≤ 64) ⌝ }
     ensures { λ r. ⌜ Gathers 64 r (λ j. bit names j || anyBelow n (λ i. bit names i && bit (getD (now (rows .entry)) i 0) j)) ⌝ }
 {

@@ -9,6 +9,8 @@ use Rattle.refine_counts.proofs.CompiledTells.{every-table}
 use Rattle.check_agree.proofs.Answers.{answers}
 use Rattle.engine_agree.proofs.AgreementHolds.{phones-agree, rounds-agree}
 use Rattle.engine_agree.proofs.FinalHolds.{needed}
+use Rattle.engine_agree_for.proofs.Answers.{for-answers}
+use Rattle.engine_agree_for.proofs.ValuesHold.{one-value, each-agrees, each-round-agrees}
 use Rattle.secrecy_leak.proofs.LeaklessHolds.{with-no-condition}
 use Rattle.engine_order.proofs.PhonesHold.{in-order}
 use Rattle.engine_order.proofs.ChangesHold.{in-order-changed}
@@ -49,6 +51,10 @@ claims = record {
   phones = phones-agree;
   rounds-agree = rounds-agree;
   condition-needed = needed;
+  agreement-for = for-answers;
+  one-value = one-value;
+  each-agrees = each-agrees;
+  each-round-agrees = each-round-agrees;
   leaks = with-no-condition;
   texts = texts;
 }

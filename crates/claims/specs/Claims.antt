@@ -15,6 +15,7 @@ use Rattle.refine_counts.specs.Compiled.{EveryTable}
 use Rattle.check_agree.specs.Claims.{AgreeAnswers as Agreement}
 use Rattle.engine_agree.specs.Agreement.{PhonesAgree, RoundsAgree}
 use Rattle.engine_agree.specs.Final.{Needed}
+use Rattle.engine_agree_for.specs.OneBehaviour.{AgreeForAnswers as AgreementFor, OneValue, EachAgrees, EachRoundAgrees}
 use Rattle.secrecy_leak.specs.Leakless.{WithNoCondition as NoLeak}
 use Rattle.engine_order.specs.Orders.{SharedOrder}
 use Rattle.engine_order.specs.Changes.{SharedOrderChanged}
@@ -81,6 +82,13 @@ pub record Claims : Type 0 where
   pub phones : PhonesAgree
   pub rounds-agree : RoundsAgree
   pub condition-needed : Needed
+  -- will they agree on one behaviour? 0 exactly if no two events of unequal rank meet in what it depends on, which a 0
+  -- of `agree` implies, and what is named is true; then its value is equal on both phones, whatever the rest of the
+  -- board does; and where it is 0 for each behaviour, in every sheet, their boards are equal
+  pub agreement-for : AgreementFor
+  pub one-value : OneValue
+  pub each-agrees : EachAgrees
+  pub each-round-agrees : EachRoundAgrees
   -- may a hidden value leak to a player? 0 exactly under M-107's condition, and what is named is true; then M-107's
   -- rule holds with no condition left; with changes of sheets, where each sheet gets 0, none but M-112's own: at each
   -- change the same behaviours are hidden

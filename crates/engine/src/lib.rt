@@ -7,6 +7,7 @@ ghost use lib.ListN.{length};
 ghost use Rattle.back_compile.specs.Verdict.{compiled, compileOn};
 ghost use Rattle.check_circle.specs.Witness.{Witnessed};
 ghost use Rattle.check_agree.specs.Agree.{agreeOn};
+ghost use Rattle.check_agree_for.specs.AgreeFor.{agreeForOn};
 ghost use Rattle.check_leak.specs.Leak.{leakOn};
 ghost use Rattle.format_layout.specs.Round.{callResult};
 ghost use Rattle.run_start.specs.Start.{startOn};
@@ -314,6 +315,19 @@ pub extern "C" fn agree(sheet: &[u8], params: &[u8]) -> u64
     ensures { λ _. ⌜ now (params .exit) ≡ now (params .entry) ⌝ }
 {
     check_agree::agree_at(sheet, params)
+}
+
+// Will two phones agree on one behaviour? compile's number, as with a full table; 18 for a number that is no
+// behaviour's; 0 where no two declared events of unequal rank meet in what the behaviour depends on; else 29, the first
+// event times 256, the second times 65,536 and times 2 ^ 24 the behaviour at which they meet: the least first event,
+// then the least second, then the least behaviour.
+#[no_mangle]
+pub extern "C" fn agree_for(sheet: &[u8], params: &[u8], behaviour: u32) -> u64
+    ensures { λ r. ⌜ r ≡ agreeForOn (now (sheet .entry)) (now (params .entry)) behaviour ⌝ }
+    ensures { λ _. ⌜ now (sheet .exit) ≡ now (sheet .entry) ⌝ }
+    ensures { λ _. ⌜ now (params .exit) ≡ now (params .entry) ⌝ }
+{
+    check_agree_for::agree_for_at(sheet, params, behaviour)
 }
 
 // May a hidden value leak to a player? compile's number, as with a full table; 24 for a player above 7; 0 where no

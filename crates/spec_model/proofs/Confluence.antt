@@ -1,5 +1,5 @@
--- Two orders of the same commits give one store, if each has those of equal priority in order of number and those of
--- unequal priority commute: both play as the list sorted by number does.
+-- Two orders of the same commits give one store, or stores alike, if each has those of equal priority in order of
+-- number and those of unequal priority commute: both play as the list sorted by number does.
 use Prim.Native.Nat.{ℕ, _≤_, _<_}
 use mathlib.Core.Bool.{true, false}
 use mathlib.Core.Path.{_≡_, refl, sym, ap, ap₂, _∙_}
@@ -82,37 +82,68 @@ module _ (p : Program) where
   abbrev pub played : List Arrival → List ℕ → List ℕ
   played l s = play p (map (λ (a : Arrival). a .event) l) s
 
-  -- either order of the two gives one store
-  abbrev pub Commute : Arrival → Arrival → Type 0
-  Commute a b =
-      rank p a ≢ rank p b → (s : List ℕ) → length s ≡ size p
-      → event p (a .event) (event p (b .event) s) ≡ event p (b .event) (event p (a .event) s)
-
   abbrev pub Declared : Arrival → Type 0
   Declared a = a .event < events p
 
-  module _ (facts : CodeFacts p) where
-    play-insert : (a : Arrival) (l : List Arrival) (s : List ℕ) → length s ≡ size p → All Declared l → All (Sooner p a) l → All (Commute a) l
-        → played (insert a l) s ≡ played l (event p (a .event) s)
-    unfolding play insert
-    play-insert a [] s n f h c = refl
-    play-insert a (b ∷ l) s n f h c =
-        by-elim (λ m. played m s ≡ played l (event p (b .event) (event p (a .event) s))) (ltb (b .number) (a .number))
-        (λ e. play-insert a l (event p (b .event) s) (facts .kept (b .event) (f .0) s n) (f .1) (h .1) (c .1)
-        ∙ ap (played l) (c .0 (λ r. omega (arith, ltb-true, h .0 r)) s n))
-        (λ e. refl)
+  -- stores that count as alike: an equivalence that every event keeps
+  pub record Likeness (R : List ℕ → List ℕ → Type 0) : Type 0 where
+    pub same : {s : List ℕ} → R s s
+    pub back : {s t : List ℕ} → R s t → R t s
+    pub join : {s t u : List ℕ} → R s t → R t u → R s u
+    pub kept : (e : ℕ) → e < events p → (s t : List ℕ) → length s ≡ size p → length t ≡ size p → R s t → R (event p e s) (event p e t)
 
-    play-sort : (l : List Arrival) (s : List ℕ) → length s ≡ size p → All Declared l → Pairwise (Sooner p) l → All (λ a. All (Commute a) l) l
-        → played (sort l) s ≡ played l s
+  -- either order of the two gives stores alike
+  abbrev pub CommuteBy : (List ℕ → List ℕ → Type 0) → Arrival → Arrival → Type 0
+  CommuteBy R a b =
+      rank p a ≢ rank p b → (s : List ℕ) → length s ≡ size p
+      → R (event p (a .event) (event p (b .event) s)) (event p (b .event) (event p (a .event) s))
+
+  -- one store
+  abbrev pub Commute : Arrival → Arrival → Type 0
+  Commute = CommuteBy (λ s t. s ≡ t)
+
+  module _ (facts : CodeFacts p) (R : List ℕ → List ℕ → Type 0) (like : Likeness R) where
+    play-alike : (l : List Arrival) (s t : List ℕ) → length s ≡ size p → length t ≡ size p → All Declared l → R s t → R (played l s) (played l t)
+    unfolding play
+    play-alike [] s t n m f r = r
+    play-alike (a ∷ l) s t n m f r =
+        play-alike l (event p (a .event) s) (event p (a .event) t) (facts .kept (a .event) (f .0) s n) (facts .kept (a .event) (f .0) t m) (f .1)
+        (like .kept (a .event) (f .0) s t n m r)
+
+    play-insert : (a : Arrival) (l : List Arrival) (s : List ℕ) → length s ≡ size p → Declared a → All Declared l → All (Sooner p a) l → All (CommuteBy R a) l
+        → R (played (insert a l) s) (played l (event p (a .event) s))
+    unfolding play insert
+    play-insert a [] s n da f h c = like .same
+    play-insert a (b ∷ l) s n da f h c =
+        let na : length (event p (a .event) s) ≡ size p = facts .kept (a .event) da s n in
+        let nb : length (event p (b .event) s) ≡ size p = facts .kept (b .event) (f .0) s n in
+        by-elim (λ m. R (played m s) (played l (event p (b .event) (event p (a .event) s)))) (ltb (b .number) (a .number))
+        (λ e. like .join (play-insert a l (event p (b .event) s) nb da (f .1) (h .1) (c .1))
+        (play-alike l (event p (a .event) (event p (b .event) s)) (event p (b .event) (event p (a .event) s))
+        (facts .kept (a .event) da (event p (b .event) s) nb) (facts .kept (b .event) (f .0) (event p (a .event) s) na) (f .1)
+        (c .0 (λ r. omega (arith, ltb-true, h .0 r)) s n)))
+        (λ e. like .same)
+
+    play-sort : (l : List Arrival) (s : List ℕ) → length s ≡ size p → All Declared l → Pairwise (Sooner p) l → All (λ a. All (CommuteBy R a) l) l
+        → R (played (sort l) s) (played l s)
     unfolding play sort
-    play-sort [] s n f h c = refl
+    play-sort [] s n f h c = like .same
     play-sort (a ∷ l) s n f h c =
-        play-insert a (sort l) s n (all-perm Declared (sort-perm l) (f .1)) (all-perm _ (sort-perm l) (all-of-mem _ l (pairwise-cons .0 h .0)))
-        (all-perm _ (sort-perm l) (c .0 .1))
-        ∙ play-sort l (event p (a .event) s) (facts .kept (a .event) (f .0) s n) (f .1) (Pairwise·of-cons h) (all-imp _ _ (λ x k. k .1) l (c .1))
+        like .join
+        (play-insert a (sort l) s n (f .0) (all-perm Declared (sort-perm l) (f .1)) (all-perm _ (sort-perm l) (all-of-mem _ l (pairwise-cons .0 h .0)))
+        (all-perm _ (sort-perm l) (c .0 .1)))
+        (play-sort l (event p (a .event) s) (facts .kept (a .event) (f .0) s n) (f .1) (Pairwise·of-cons h) (all-imp _ _ (λ x k. k .1) l (c .1)))
 
     pub confluent : (l m : List Arrival) (s : List ℕ) → length s ≡ size p → List·Permᴰ l m → List·Nodup (numbers l) → All Declared l
-        → All (λ a. All (Commute a) l) l → Pairwise (Sooner p) l → Pairwise (Sooner p) m → played l s ≡ played m s
+        → All (λ a. All (CommuteBy R a) l) l → Pairwise (Sooner p) l → Pairwise (Sooner p) m → R (played l s) (played m s)
     confluent l m s n d h f c il im =
-        sym (play-sort l s n f il c) ∙ ap (λ (x : List Arrival). played x s) (sort-same d h)
-        ∙ play-sort m s n (all-perm Declared d f) im (each-perm Commute d c)
+        like .join (like .back (play-sort l s n f il c))
+        (rw (sort-same d h) (play-sort m s n (all-perm Declared d f) im (each-perm (CommuteBy R) d c)))
+
+  pub one-store : Likeness (λ s t. s ≡ t)
+  one-store = record {
+    same = refl;
+    back = λ r. sym r;
+    join = λ r q. r ∙ q;
+    kept = λ e d s t n m r. ap (event p e) r;
+  }

@@ -1,7 +1,7 @@
 -- Two courses with the same changes after the same commits lead to one store, if in each sheet those of unequal
--- priority are independent and those of equal priority go by number: under each sheet the commits are confluent, and a
--- change is a function of the store. What was committed under the last sheet is what is left of the same arrivals. By
--- induction on the courses.
+-- priority commute (they do where they are independent) and those of equal priority go by number: under each sheet the
+-- commits are confluent, and a change is a function of the store. What was committed under the last sheet is what is
+-- left of the same arrivals. By induction on the courses.
 use Prim.Native.Nat.{ℕ, _<_}
 use mathlib.Core.Path.{_≡_, refl, sym, ap, _∙_, subst}
 use mathlib.Core.List.{List, [], _∷_, _++_, List·Nodup, nodup-append, Pairwise, Pairwise·nil, Pairwise·cons, pairwise-cons, Pairwise·of-cons, List·Permᴰ, List·Permᴰ·trans, Permᴰ·symm, Permᴰ·append-right}
@@ -25,7 +25,7 @@ use Rattle.spec_model.proofs.Carries.{length-carried}
 use Rattle.spec_model.proofs.Choice.{numbers, distinct-numbers, perm-rest}
 use Rattle.spec_model.proofs.Equals.{Sooner, sooner-prop}
 use Rattle.spec_model.proofs.Unsigned.{allUnsigned, same-events, same-numbers, all-unsigned, pairs-unsigned}
-use Rattle.spec_model.proofs.Confluence.{Commute, Declared, confluent}
+use Rattle.spec_model.proofs.Confluence.{Declared, Likeness, CommuteBy, Commute, confluent, one-store}
 use Rattle.spec_model.proofs.Replaying.{Proper}
 
 -- ---- what a course does to a store
@@ -130,15 +130,9 @@ unsigned-append : (l m : List Arrival) → allUnsigned (l ++ m) ≡ allUnsigned 
 unsigned-append [] m = refl
 unsigned-append (a ∷ l) m = ap (λ (x : List Arrival). unsigned a ∷ x) (unsigned-append l m)
 
--- ---- what is independent commutes, whoever sent it
+-- ---- what is independent commutes
 
 module _ (p : Program) where
-  pub apart-unsigned : (l : List Arrival) → All (λ a. All (λ b. rank p a ≢ rank p b → Independent p (a .event) (b .event)) l) l
-      → All (λ a. All (λ b. rank p a ≢ rank p b → Independent p (a .event) (b .event)) (allUnsigned l)) (allUnsigned l)
-  apart-unsigned l h =
-      all-unsigned (λ a. All (λ b. rank p a ≢ rank p b → Independent p (a .event) (b .event)) (allUnsigned l)) l
-      (all-imp _ _ (λ a k. all-unsigned (λ b. rank p a ≢ rank p b → Independent p (a .event) (b .event)) l k) l h)
-
   module _ (commute : (e f : ℕ) → e < events p → f < events p → Independent p e f → (s : List ℕ) → length s ≡ size p
       → event p e (event p f s) ≡ event p f (event p e s)) where
     -- what is independent commutes, one with each and each with each
@@ -165,27 +159,44 @@ module _ (p : Program) (v : Valid p) where
   commuting : (e f : ℕ) → e < events p → f < events p → Independent p e f → (s : List ℕ) → length s ≡ size p → event p e (event p f s) ≡ event p f (event p e s)
   commuting e f d b i s n = commute p v e f (omega arith) (omega arith) i s n
 
-  -- the same commits in two orders
-  one-sheet : (l m : List Arrival) (s : List ℕ) → length s ≡ size p → List·Permᴰ (allUnsigned l) (allUnsigned m) → List·Nodup (numbers l) → All (Declared p) l → ApartIn p l
-      → Pairwise (Sooner p) l → Pairwise (Sooner p) m → play p (eventsOf l) s ≡ play p (eventsOf m) s
-  one-sheet l m s n d h f apart sl sm =
-      let u : List Arrival = allUnsigned l in
-      let k : All (Declared p) u = all-unsigned (Declared p) l f in
-      let c : All (λ a. All (Commute p a) u) u = each-commutes p commuting u u k k (apart-unsigned p l apart) in
-      ap (λ (es : List ℕ). play p es s) (sym (same-events l))
-      ∙ confluent p (code-facts p v) u (allUnsigned m) s n d (rw (same-numbers l) h) k c (pairs-unsigned p l sl) (pairs-unsigned p m sm)
-      ∙ ap (λ (es : List ℕ). play p es s) (same-events m)
+  commutes-in : (l : List Arrival) → All (Declared p) l → ApartIn p l → All (λ a. All (Commute p a) l) l
+  commutes-in l f h = each-commutes p commuting l l f f h
+
+  -- the same commits in two orders, up to a likeness
+  module _ (R : List ℕ → List ℕ → Type 0) (like : Likeness p R) where
+    pub one-sheet : (l m : List Arrival) (s : List ℕ) → length s ≡ size p → List·Permᴰ (allUnsigned l) (allUnsigned m) → List·Nodup (numbers l) → All (Declared p) l
+        → All (λ a. All (CommuteBy p R a) l) l → Pairwise (Sooner p) l → Pairwise (Sooner p) m → R (play p (eventsOf l) s) (play p (eventsOf m) s)
+    one-sheet l m s n d h f commute sl sm =
+        let u : List Arrival = allUnsigned l in
+        let k : All (Declared p) u = all-unsigned (Declared p) l f in
+        let c : All (λ a. All (CommuteBy p R a) u) u =
+        all-unsigned (λ a. All (CommuteBy p R a) u) l (all-imp _ _ (λ a k. all-unsigned (CommuteBy p R a) l k) l commute) in
+        let r : R (play p (eventsOf u) s) (play p (eventsOf (allUnsigned m)) s) =
+        confluent p (code-facts p v) R like u (allUnsigned m) s n d (rw (same-numbers l) h) k c (pairs-unsigned p l sl) (pairs-unsigned p m sm) in
+        subst (λ (es : List ℕ). R (play p es s) (play p (eventsOf m) s)) (same-events l)
+        (subst (λ (es : List ℕ). R (play p (eventsOf u) s) (play p es s)) (same-events m) r)
+
+-- ---- under each sheet, those of unequal priority commute
+
+abbrev pub CommuteEach : Program → Course → Type 0
+CommuteEach p (last l) = All (λ a. All (Commute p a) l) l
+CommuteEach p (thenChange l q c) = All (λ a. All (Commute p a) l) l × CommuteEach q c
+
+-- what is independent does
+pub apart-commute : (p : Program) (c : Course) → Known p c → ApartEach p c → CommuteEach p c
+apart-commute p (last l) k a = commutes-in p (k .0) l (k .1) a
+apart-commute p (thenChange l q c) k a = (commutes-in p (k .0) l (k .1) (a .0), apart-commute q c (k .2) (a .1))
 
 -- ---- two courses
 
 pub same-course : (p : Program) (c d : Course) (s : List ℕ) → length s ≡ size p → SameChanges c d → List·Permᴰ (allUnsigned (allOf c)) (allUnsigned (allOf d))
-    → List·Nodup (numbers (allOf c)) → Known p c → ApartEach p c → Orderly p c → Orderly p d → along p c s ≡ along p d s
+    → List·Nodup (numbers (allOf c)) → Known p c → CommuteEach p c → Orderly p c → Orderly p d → along p c s ≡ along p d s
 unfolding along
-same-course p (last l) (last m) s n h e z k a oc od = one-sheet p (k .0) l m s n e z (k .1) a oc od
+same-course p (last l) (last m) s n h e z k a oc od = one-sheet p (k .0) (λ x y. x ≡ y) (one-store p) l m s n e z (k .1) a oc od
 same-course p (last l) (thenChange m r d) s n h e z k a oc od = absurd h
 same-course p (thenChange l q c) (last m) s n h e z k a oc od = absurd h
 same-course p (thenChange l q c) (thenChange m r d) s n h e z k a oc od =
-    let first : play p (eventsOf l) s ≡ play p (eventsOf m) s = one-sheet p (k .0) l m s n (h .0) (nodup-left l (allOf c) z) (k .1) (a .0) (oc .0) (od .0) in
+    let first : play p (eventsOf l) s ≡ play p (eventsOf m) s = one-sheet p (k .0) (λ x y. x ≡ y) (one-store p) l m s n (h .0) (nodup-left l (allOf c) z) (k .1) (a .0) (oc .0) (od .0) in
     let w : List·Permᴰ (allUnsigned l ++ allUnsigned (allOf c)) (allUnsigned m ++ allUnsigned (allOf d)) = rw (← unsigned-append l (allOf c), ← unsigned-append m (allOf d)) e in
     let y : List·Nodup (numbers (allUnsigned l ++ allUnsigned (allOf c))) = rw (← unsigned-append l (allOf c), same-numbers (l ++ allOf c)) z in
     let left : List·Permᴰ (allUnsigned (allOf c)) (allUnsigned (allOf d)) = rest-same (allUnsigned l) (allUnsigned m) (allUnsigned (allOf c)) (allUnsigned (allOf d)) (h .0) w y in
@@ -193,3 +204,17 @@ same-course p (thenChange l q c) (thenChange m r d) s n h e z k a oc od =
     (subst (λ (x : Program). Orderly x d) (sym (h .1)) (od .1))
     ∙ ap (λ (x : List ℕ). along q d (carried p q x)) first
     ∙ ap (λ (x : Program). along x d (carried p x (play p (eventsOf m) s))) (h .1)
+
+-- ---- two courses under one sheet, up to a likeness
+
+abbrev pub OneSheet : Course → Type 0
+OneSheet (last l) = Unit {0}
+OneSheet (thenChange l q c) = ⊥
+
+pub alike-course : (p : Program) (R : List ℕ → List ℕ → Type 0) (like : Likeness p R) (c d : Course) (s : List ℕ) → length s ≡ size p → OneSheet c → OneSheet d
+    → List·Permᴰ (allUnsigned (allOf c)) (allUnsigned (allOf d)) → List·Nodup (numbers (allOf c)) → Known p c → All (λ a. All (CommuteBy p R a) (allOf c)) (allOf c)
+    → Orderly p c → Orderly p d → R (along p c s) (along p d s)
+unfolding along
+alike-course p R like (last l) (last m) s n g h e z k a oc od = one-sheet p (k .0) R like l m s n e z (k .1) a oc od
+alike-course p R like (last l) (thenChange m r d) s n g h e z k a oc od = absurd h
+alike-course p R like (thenChange l q c) d s n g h e z k a oc od = absurd g

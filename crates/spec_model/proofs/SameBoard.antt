@@ -1,6 +1,6 @@
 -- Two lists of turns that take in the same events in the same order, with the same changes after the same commits and
--- independence in each sheet, end in one store when both are idle: each commits what it took in, so their courses hold
--- the same arrivals.
+-- events that commute (or are independent) in each sheet, end in one store when both are idle: each commits what it
+-- took in, so their courses hold the same arrivals. With no change, the same up to a likeness of stores.
 use Prim.Native.Nat.{ℕ, suc}
 use mathlib.Core.Bool.{false}
 use mathlib.Core.Path.{_≡_, refl, sym, ap, _∙_, subst}
@@ -11,7 +11,7 @@ use Rattle.spec_language.specs.Accepted.{Valid}
 use Rattle.spec_semantics.specs.Meaning.{fresh}
 use Rattle.spec_semantics.proofs.Lengths.{length-fresh}
 use Rattle.spec_model.specs.Model.{Arrival, arrival, arrive, step, board, refused, takenIn, shows, idle, ran, started, preempted, committed, Turn, call, change, State, state, Reply, says, carriedOver, replies, begun, rest, busy, engine}
-use Rattle.spec_model.specs.Claims.{copyBackIn, eventsOf, Moment, takenTurns, inForce, engineIn, IdleIn, after, historyOf, takenInBy, Sound, courseOf, unsigned}
+use Rattle.spec_model.specs.Claims.{copyBackIn, eventsOf, Moment, takenTurns, inForce, engineIn, IdleIn, after, historyOf, takenInBy, Sound, Course, SameChanges, courseOf, unsigned}
 use Rattle.spec_model.specs.Evaluated.{replayed, SameBoard}
 use Rattle.spec_model.proofs.States.{handIn, storeIn, committed-arrivals}
 use Rattle.spec_model.proofs.Choice.{numbers, distinct-numbers}
@@ -20,7 +20,8 @@ use Rattle.spec_model.proofs.Boards.{board-of-commits}
 use Rattle.spec_model.proofs.Replaying.{proper}
 use Rattle.spec_model.proofs.Once.{once-each, idle-hand}
 use Rattle.spec_model.proofs.Equals.{equals-in-order}
-use Rattle.spec_model.proofs.Courses.{replay-along, allOf, committed-all, orderly, known, same-course}
+use Rattle.spec_model.proofs.Courses.{replay-along, allOf, committed-all, orderly, known, CommuteEach, apart-commute, same-course, OneSheet, alike-course}
+use Rattle.spec_model.proofs.Confluence.{Likeness, CommuteBy}
 
 -- the arrivals taken in, without their players, are their events numbered from n on
 taken-numbered : (ts : List Turn) (l : List Reply) (n : ℕ) → allUnsigned (takenTurns ts l n) ≡ numbered n (eventsOf (takenTurns ts l n))
@@ -53,18 +54,41 @@ module _ (p : Program) (v : Valid p) where
   idle-course : (ts : List Turn) → All Sound ts → IdleIn (after p ts) → List·Permᴰ (takenInBy p ts) (allOf (courseOf (historyOf p ts)))
   idle-course ts g h = subst (List·Permᴰ (takenInBy p ts)) (committed-arrivals p (historyOf p ts) ∙ committed-all (historyOf p ts)) (once-each p v ts g .2 h)
 
+  pub distinct-course : (ts : List Turn) → All Sound ts → IdleIn (after p ts) → List·Nodup (numbers (allOf (courseOf (historyOf p ts))))
+  distinct-course ts g h = distinct-numbers (idle-course ts g h) (once-each p v ts g .1)
+
+  -- two lists of turns that took in the same events in the same order
+  module _ (ts us : List Turn) (gt : All Sound ts) (gu : All Sound us) (same : eventsOf (takenInBy p ts) ≡ eventsOf (takenInBy p us))
+      (it : IdleIn (after p ts)) (iu : IdleIn (after p us)) where
+    abbrev one : Course
+    one = courseOf (historyOf p ts)
+
+    abbrev other : Course
+    other = courseOf (historyOf p us)
+
+    same-arrivals : List·Permᴰ (allUnsigned (allOf one)) (allUnsigned (allOf other))
+    same-arrivals =
+        let taken : allUnsigned (takenInBy p us) ≡ allUnsigned (takenInBy p ts) =
+        taken-numbered us (replies us (begun p)) 0 ∙ ap (numbered 0) (sym same) ∙ sym (taken-numbered ts (replies ts (begun p)) 0) in
+        List·Permᴰ·trans (Permᴰ·symm (Permᴰ·map unsigned (idle-course ts gt it)))
+        (subst (λ (l : List Arrival). List·Permᴰ l (allUnsigned (allOf other))) taken (Permᴰ·map unsigned (idle-course us gu iu)))
+
+    -- where those of unequal priority commute in each sheet
+    pub same-store : SameChanges one other → CommuteEach p one → storeIn (after p ts) ≡ storeIn (after p us)
+    same-store kept commute =
+        idle-store ts gt it ∙ replay-along p (historyOf p ts) (fresh p)
+        ∙ same-course p one other (fresh p) (length-fresh p) kept same-arrivals (distinct-course ts gt it) (known p (historyOf p ts) v (proper p v ts gt)) commute
+        (orderly p (historyOf p ts) (equals-in-order p v ts gt .0)) (orderly p (historyOf p us) (equals-in-order p v us gu .0))
+        ∙ sym (replay-along p (historyOf p us) (fresh p)) ∙ sym (idle-store us gu iu)
+
+    -- with no change, where they commute up to a likeness
+    pub same-likeness : (R : List ℕ → List ℕ → Type 0) → Likeness p R → OneSheet one → OneSheet other → All (λ a. All (CommuteBy p R a) (allOf one)) (allOf one)
+        → R (storeIn (after p ts)) (storeIn (after p us))
+    same-likeness R like g h commute =
+        rw (idle-store ts gt it, idle-store us gu iu, replay-along p (historyOf p ts) (fresh p), replay-along p (historyOf p us) (fresh p))
+        (alike-course p R like one other (fresh p) (length-fresh p) g h same-arrivals (distinct-course ts gt it) (known p (historyOf p ts) v (proper p v ts gt)) commute
+        (orderly p (historyOf p ts) (equals-in-order p v ts gt .0)) (orderly p (historyOf p us) (equals-in-order p v us gu .0)))
+
   pub same-board : (ts us : List Turn) → All Sound ts → All Sound us → SameBoard p ts us
   same-board ts us gt gu same kept apart it iu =
-      let ht : List Moment = historyOf p ts in
-      let hu : List Moment = historyOf p us in
-      let dt = idle-course ts gt it in
-      let du = idle-course us gu iu in
-      let taken : allUnsigned (takenInBy p us) ≡ allUnsigned (takenInBy p ts) =
-      taken-numbered us (replies us (begun p)) 0 ∙ ap (numbered 0) (sym same) ∙ sym (taken-numbered ts (replies ts (begun p)) 0) in
-      let d : List·Permᴰ (allUnsigned (allOf (courseOf ht))) (allUnsigned (allOf (courseOf hu))) =
-      List·Permᴰ·trans (Permᴰ·symm (Permᴰ·map unsigned dt)) (subst (λ (l : List Arrival). List·Permᴰ l (allUnsigned (allOf (courseOf hu)))) taken (Permᴰ·map unsigned du)) in
-      let n : List·Nodup (numbers (allOf (courseOf ht))) = distinct-numbers dt (once-each p v ts gt .1) in
-      idle-store ts gt it ∙ replay-along p ht (fresh p)
-      ∙ same-course p (courseOf ht) (courseOf hu) (fresh p) (length-fresh p) kept d n (known p ht v (proper p v ts gt)) apart
-      (orderly p ht (equals-in-order p v ts gt .0)) (orderly p hu (equals-in-order p v us gu .0))
-      ∙ sym (replay-along p hu (fresh p)) ∙ sym (idle-store us gu iu)
+      same-store ts us gt gu same it iu kept (apart-commute p (courseOf (historyOf p ts)) (known p (historyOf p ts) v (proper p v ts gt)) apart)

@@ -1,0 +1,2 @@
+pub mod EncounterLaws
+pub mod Decides

@@ -1,0 +1,3 @@
+pub mod Encounter
+pub mod AgreeFor
+pub mod Claims

@@ -1,0 +1,3 @@
+pub mod Marks
+pub mod Meeting
+pub mod Strict

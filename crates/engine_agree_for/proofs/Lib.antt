@@ -1,0 +1,3 @@
+pub mod ConeDecides
+pub mod Answers
+pub mod ValuesHold

@@ -1,0 +1,5 @@
+pub mod Adding
+pub mod OnSet
+pub mod CommuteOn
+pub mod Cones
+pub mod TwoLists
