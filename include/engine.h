@@ -16,6 +16,7 @@
 
 #include <stddef.h>
 #include <stdint.h>
+#include <string.h>
 
 #if SIZE_MAX != UINT64_MAX
 #error "the engine's archives are for 64-bit processors"
@@ -223,6 +224,13 @@ uint64_t engine_event_rank(const uint8_t *table, size_t table_len, uint32_t even
 static inline int engine_count_refused(uint64_t answer) { return answer >> 32 == 0; }
 static inline uint32_t engine_count_refusal(uint64_t answer) { return answer >> 32 ? 0 : (uint32_t)answer; }
 static inline uint32_t engine_count_value(uint64_t answer) { return (uint32_t)answer; }
+
+/* Whether two tables are the same program: a table's bytes depend on sheet and parameters alone. Phones that play one
+ * round compare a sum of theirs first. */
+static inline int engine_same_table(const uint8_t *one, const uint8_t *other)
+{
+    return memcmp(one, other, ENGINE_TABLE) == 0;
+}
 
 /* ---- rounds */
 

@@ -37,6 +37,11 @@ export declare const FRAME_REFUSED: 2;
 export declare const FRAME_FULL: 3;
 export type FrameEnd = typeof FRAME_MADE | typeof FRAME_IDLE | typeof FRAME_REFUSED | typeof FRAME_FULL;
 
+/** How a delivery ended that was not refused, as C has it. */
+export declare const DELIVERED: 1;
+export declare const DELIVER_FULL: 2;
+export declare const DELIVER_BROKEN: 3;
+
 /** The kinds of a recorded call. */
 export declare const CALL_ARRIVE: 0;
 export declare const CALL_STEP: 1;
@@ -63,6 +68,24 @@ export interface Frame {
     readonly steps: number;
     readonly commits: Step[];
     readonly end: FrameEnd;
+}
+
+/** An entry that was taken in: the steps that made room for it, and their commit, none or one. */
+export interface Delivered {
+    readonly steps: number;
+    readonly commits: Step[];
+}
+
+/** How many arrivals were taken in, and how many of them are in hand. */
+export interface Taken {
+    readonly number: number;
+    readonly inHand: number;
+}
+
+/** The board after a number of entries, null for what is hidden from the player, and the commits on the way. */
+export interface BoardAfter {
+    readonly board: (number | null)[];
+    readonly commits: Step[];
 }
 
 /** A recorded call: its kind, a number of four bytes, and the player. */
@@ -102,6 +125,13 @@ export declare class Refusal extends Error {
     readonly word: string;
 }
 
+/** A board or a change was asked for at another number of entries than are taken in. */
+export declare class NotThere extends Error {
+    constructor(call: string, asked: number, taken: number);
+    readonly name: "NotThere";
+    readonly taken: number;
+}
+
 /** A sheet's text was turned down: its first fault, line and column from 1. */
 export declare class Fault extends Error {
     constructor(answer: bigint);
@@ -126,6 +156,9 @@ export declare function recorded(
 
 /** Eight parameters as their 32 bytes, from at most eight whole numbers of 32 bits with a sign; the others are 0. */
 export declare function parameters(values: Iterable<number>): Uint8Array;
+
+/** Whether two tables are the same program. */
+export declare function sameTable(one: Uint8Array, other: Uint8Array): boolean;
 
 /** What is asked of a Response. */
 export interface Received {
@@ -153,6 +186,11 @@ export type Text = string | Uint8Array;
 /** A round that stays in the module's memory with its table. */
 export interface Round {
     arrive(event: number, player: number): void;
+    deliver(number: number, event: number, player: number): Delivered;
+    taken(): Taken;
+    runToIdle(): Step[];
+    boardAfter(number: number, player: number): BoardAfter;
+    mendAfter(number: number, table: Uint8Array): Step[];
     step(): Step;
     frame(steps: number, most?: number): Frame;
     board(behaviour: number, player: number): number;
@@ -188,6 +226,8 @@ export interface Engine {
 
     start(table: Uint8Array): Uint8Array;
     arrive(table: Uint8Array, round: Uint8Array, event: number, player: number): void;
+    deliver(table: Uint8Array, round: Uint8Array, number: number, event: number, player: number): Delivered;
+    taken(table: Uint8Array, round: Uint8Array): Taken;
     step(table: Uint8Array, round: Uint8Array): Step;
     frame(table: Uint8Array, round: Uint8Array, steps: number, most?: number): Frame;
     told(step: StepParts): Step;

@@ -30,6 +30,11 @@ export const FRAME_IDLE = 1;
 export const FRAME_REFUSED = 2;
 export const FRAME_FULL = 3;
 
+/** How a delivery ended that was not refused: taken in; a full hand and no room for a commit; a step was refused. */
+export const DELIVERED = 1;
+export const DELIVER_FULL = 2;
+export const DELIVER_BROKEN = 3;
+
 /** The kinds of a recorded call. */
 export const CALL_ARRIVE = 0;
 export const CALL_STEP = 1;
@@ -41,7 +46,7 @@ const WORDS = [
     "no such behaviour", "settling", "no parameters", "no formula", "large number", "short buffer", "no player",
     "no right", "unlike ranks", "short join", "strange hand", "dependent", "leak", "outside the grammar",
     "number too large", "off the scale", "too many", "declared twice", "second handler", "too deep", "unknown name",
-    "no such cell", "sheet too long", "buffer too short", "text too long",
+    "no such cell", "sheet too long", "buffer too short", "text too long", "missing entries", "taken before",
 ];
 
 /** The word of a refusal's number. */
@@ -56,6 +61,15 @@ export class Refusal extends Error {
         this.name = "Refusal";
         this.number = number;
         this.word = refusalWord(number);
+    }
+}
+
+/** A board or a change was asked for at another number of entries than are taken in: `taken` tells how many are. */
+export class NotThere extends Error {
+    constructor(call, asked, taken) {
+        super(`${call}: ${taken} entries are taken in, not ${asked}`);
+        this.name = "NotThere";
+        this.taken = taken;
     }
 }
 
@@ -78,6 +92,8 @@ const TAKES = new Map(Object.entries({
     circle: "r sheet, r params, w list",
     start: "r table, w round",
     arrive: "r table, w round, n event, n player",
+    deliver: "r table, w round, n number, n event, n player, w commits",
+    taken: "r table, r round",
     step: "r table, w round",
     told: "q answer",
     board: "r table, r round, n behaviour, n player",
@@ -110,6 +126,7 @@ const NONE = new Uint8Array(0);
 const WORD = 0xffffffff;
 const CALL_PLAYER = 255; // the most that a recorded call's player can be: no player, as every number over 7
 const FOREIGN = 14;
+const NO_RIGHT = 25;
 const TABLE_LENGTH = BigInt(TABLE);
 const ROUND_LENGTH = BigInt(ROUND);
 const ANSWER = 8; // bytes of one
@@ -334,6 +351,20 @@ function lentTable(arena, call, bytes) {
     return arena.lend(bytes);
 }
 
+// What a delivery's answer of two halves tells, and the commits that it wrote: { steps, commits }.
+function delivered(high, low, commits) {
+    const end = high >>> 24;
+    if (end === DELIVERED) return { steps: low, commits };
+    // a refusal; or only of bytes that no engine left, since room for a commit is always lent
+    throw new Refusal("deliver", end === 0 ? low : FOREIGN);
+}
+
+// What `taken` answers: { number, inHand }.
+function counted(high, low) {
+    if (high === 0) throw new Refusal("taken", low);
+    return { number: low, inHand: high >>> 8 };
+}
+
 // The word of the answer in WIDE: 2^32 and the word, or a refusal's number.
 function wordOf(call) {
     if (HALVES[HIGH] === 0) throw new Refusal(call, HALVES[LOW]);
@@ -359,6 +390,82 @@ class Round {
         const number = arena.calls.engine_arrive(table.at, TABLE_LENGTH, at, ROUND_LENGTH, event, player);
         arena.busy = NOBODY;
         if (number !== 0) throw new Refusal("arrive", number);
+    }
+
+    /**
+     * Entry `number` of the order that all phones share is taken in under this number; with a full hand steps are made
+     * until one commits: { steps, commits }, none or one of these. Refused by 43 where entries are missing, by 44 where
+     * it was taken in before.
+     */
+    deliver(number, event, player) {
+        whole("deliver", "number", number);
+        whole("deliver", "event", event);
+        whole("deliver", "player", player);
+        const kept = inPlace(this.#kept, "deliver");
+        const { arena, table, at } = kept;
+        arena.busy = kept;
+        WIDE[0] = arena.calls.engine_deliver(
+            table.at, TABLE_LENGTH, at, ROUND_LENGTH, number, event, player, arena.commits, ROOMS[1]);
+        const [high, low] = [HALVES[HIGH], HALVES[LOW]];
+        const commits = arena.written(high & 0xffffff);
+        arena.busy = NOBODY;
+        return delivered(high, low, commits);
+    }
+
+    /** How many were taken in and how many of them are in hand: { number, inHand }. */
+    taken() {
+        const { arena, table, at } = inPlace(this.#kept, "taken");
+        arena.busy = NO_ROUND;
+        WIDE[0] = arena.calls.engine_taken(table.at, TABLE_LENGTH, at, ROUND_LENGTH);
+        arena.busy = NOBODY;
+        return counted(HALVES[HIGH], HALVES[LOW]);
+    }
+
+    /** Steps until nothing is left in hand: the commits, in their order. */
+    runToIdle() {
+        const commits = [];
+        for (;;) {
+            const frame = this.frame(WORD);
+            commits.push(...frame.commits);
+            if (frame.end === FRAME_IDLE) return commits;
+            if (frame.end === FRAME_REFUSED) throw new Refusal("step", FOREIGN);
+        }
+    }
+
+    /**
+     * The board after exactly `number` entries, as this player sees it, null for what is hidden, and the commits on the
+     * way: { board, commits }. A winner that is named by it is the same on every phone.
+     */
+    boardAfter(number, player) {
+        whole("boardAfter", "player", player);
+        const commits = this.#settle("boardAfter", number);
+        const { arena, table } = inPlace(this.#kept, "boardAfter");
+        WIDE[0] = arena.calls.engine_behaviour_count(table.at, TABLE_LENGTH);
+        const board = Array.from({ length: wordOf("boardAfter") }, (_, b) => this.#seen(b, player));
+        return { board, commits };
+    }
+
+    /** The change to another table after exactly `number` entries: the commits on the way. */
+    mendAfter(number, table) {
+        const commits = this.#settle("mendAfter", number);
+        this.mend(table);
+        return commits;
+    }
+
+    #settle(call, number) {
+        whole(call, "number", number);
+        const { number: taken } = this.taken();
+        if (taken !== number) throw new NotThere(call, number, taken);
+        return this.runToIdle();
+    }
+
+    #seen(behaviour, player) {
+        try {
+            return this.board(behaviour, player);
+        } catch (refusal) {
+            if (refusal.number === NO_RIGHT) return null;
+            throw refusal;
+        }
     }
 
     /** One step: { kind, player, event, arrival, over, answer }. */
@@ -619,6 +726,20 @@ class Engine {
         this.#done("arrive", table, round, event, player);
     }
 
+    /** Entry `number` of the order that all phones share, as a Round's `deliver`: { steps, commits }. */
+    deliver(table, round, number, event, player) {
+        const room = new Uint8Array(ANSWER);
+        const answer = this.call("deliver", table, round, number, event, player, room);
+        const count = Number((answer >> 32n) & 0xffffffn);
+        return delivered(Number(answer >> 32n), Number(answer & 0xffffffffn), answers(room, count).map(stepOf));
+    }
+
+    /** How many were taken in and how many of them are in hand: { number, inHand }. */
+    taken(table, round) {
+        const answer = this.call("taken", table, round);
+        return counted(Number(answer >> 32n), Number(answer & 0xffffffffn));
+    }
+
     /** One step: { kind, player, event, arrival, over, answer }. */
     step(table, round) {
         const did = stepOf(this.call("step", table, round));
@@ -704,6 +825,16 @@ function bytesOf(answer) {
 function answers(room, count) {
     const view = new DataView(room.buffer);
     return Array.from({ length: count }, (_, k) => view.getBigUint64(8 * k));
+}
+
+/** Whether two tables are the same program: a table's bytes depend on sheet and parameters alone. */
+export function sameTable(one, other) {
+    for (const [name, table] of Object.entries({ one, other })) {
+        checked("sameTable", { kind: "r", name, buffer: true }, table);
+        if (table.length < TABLE) throw new RangeError(`sameTable: ${name} has under ${TABLE} bytes`);
+    }
+    for (let k = 0; k < TABLE; k++) if (one[k] !== other[k]) return false;
+    return true;
 }
 
 /** Eight parameters as their 32 bytes, from at most eight whole numbers of 32 bits with a sign; the others are 0. */

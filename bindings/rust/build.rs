@@ -3,7 +3,7 @@
 use std::path::{Path, PathBuf};
 
 /// Calls that are declared.
-const CALLS: [&str; 22] = [
+const CALLS: [&str; 24] = [
     "version",
     "compile",
     "circle",
@@ -18,6 +18,8 @@ const CALLS: [&str; 22] = [
     "event_rank",
     "start",
     "arrive",
+    "deliver",
+    "taken",
     "step",
     "frame",
     "told",

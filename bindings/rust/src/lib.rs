@@ -86,6 +86,7 @@
 //! the heap.
 #![warn(missing_docs)]
 
+mod deliver;
 mod fault;
 mod numbered;
 pub mod raw;
@@ -94,6 +95,7 @@ mod refusal;
 mod round;
 mod sheet;
 
+pub use deliver::{Delivered, NotThere, Taken};
 pub use fault::{Fault, FaultKind};
 pub use refusal::Refusal;
 pub use round::{Answer, Arrival, Behaviour, Call, Ended, Event, Frame, Player, Round, Step, ROUND};

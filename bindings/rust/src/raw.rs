@@ -114,6 +114,20 @@ pub mod ffi {
         pub fn engine_agree(sheet: *const u8, sheet_len: usize, params: *const u8, params_len: usize) -> u64;
     }
     extern "C" {
+        pub fn engine_deliver(
+            table: *const u8,
+            table_len: usize,
+            round: *mut u8,
+            round_len: usize,
+            number: u32,
+            event: u32,
+            player: u32,
+            commits: *mut u8,
+            commits_len: usize,
+        ) -> u64;
+        pub fn engine_taken(table: *const u8, table_len: usize, round: *const u8, round_len: usize) -> u64;
+    }
+    extern "C" {
         pub fn engine_leak(
             sheet: *const u8,
             sheet_len: usize,
@@ -268,4 +282,21 @@ pub fn assemble(text: &[u8], buffer: &mut [u8]) -> u64 {
 #[inline]
 pub fn describe(sheet: &[u8], buffer: &mut [u8]) -> u64 {
     unsafe { ffi::engine_describe(sheet.as_ptr(), sheet.len(), buffer.as_mut_ptr(), buffer.len()) }
+}
+
+/// A refusal's number, or how a delivery ended, packed with the commits that it wrote and the steps that it made.
+#[inline]
+pub fn deliver(table: &[u8], round: &mut [u8], number: u32, event: u32, player: u32, commits: &mut [u8]) -> u64 {
+    let (t, r, c) = (table, round, commits);
+    let (to, room) = (c.as_mut_ptr(), c.len());
+    unsafe {
+        ffi::engine_deliver(t.as_ptr(), t.len(), r.as_mut_ptr(), r.len(), number, event, player, to, room)
+    }
+}
+
+/// 2^32 and the number taken in, packed with the number in hand; or 14.
+#[inline]
+pub fn taken(table: &[u8], round: &[u8]) -> u64 {
+    let (t, r) = (table, round);
+    unsafe { ffi::engine_taken(t.as_ptr(), t.len(), r.as_ptr(), r.len()) }
 }

@@ -72,6 +72,7 @@ pub use audit::{audit, Auditor, Difference, Verdict};
 pub use file::{Damage, Harm, Reader, Writer};
 
 use crate::round::commit_bytes;
+use crate::deliver::{self, Delivered, NotThere};
 use crate::{raw, Behaviour, Event, Params, Player, Refusal, Round, Sheet, Step, Table};
 use std::fmt;
 
@@ -449,6 +450,72 @@ impl Recorder {
         let k = at.map_or_else(|| self.record.add_sheet(sheet, params), |k| k as u16);
         self.record.push(Request::Mend(k), number(done), &[]);
         done
+    }
+
+    /// [`Round::deliver`], recorded as what it is proved to be: a frame of the steps that it made, with room for their
+    /// one commit, and the arrival. What is refused by 43 or 44 did nothing and is not recorded.
+    ///
+    /// ```
+    /// use poqashem::record::{audit, Recorder, Verdict};
+    /// use poqashem::{Event, Player, Refusal, Sheet};
+    /// let mut round = Recorder::start("crowd", Sheet::new([1, 0, 1, 5]), None)?;
+    /// for number in 0..100 {
+    ///     round.deliver(number, Event(0), Player(1))?;
+    /// }
+    /// assert_eq!(round.deliver(3, Event(0), Player(1)), Err(Refusal::TakenBefore));
+    /// assert_eq!(audit(&round.finish()), Verdict::Agrees { calls: 100 + 36 }, "36 made room for themselves");
+    /// # Ok::<(), Refusal>(())
+    /// ```
+    pub fn deliver(&mut self, number: u32, event: Event, player: Player) -> Result<Delivered, Refusal> {
+        let done = self.round.deliver(number, event, player);
+        let arrival = Request::Arrive(event, player);
+        match done {
+            Ok(Delivered { steps, commit }) => {
+                if let Some(commit) = commit {
+                    self.record.push(Request::Frame(steps, 1), 1 << 32 | steps as u64, &commit.answer().to_be_bytes());
+                }
+                self.record.push(arrival, 0, &[]);
+            }
+            Err(refusal @ (Refusal::NoPlayer | Refusal::NoSuchEvent | Refusal::NoRight)) => {
+                self.record.push(arrival, refusal.number() as u64, &[]);
+            }
+            Err(_) => {}
+        }
+        done
+    }
+
+    /// [`Round::run_to_idle`]
+    pub fn run_to_idle(&mut self) -> Result<Vec<Step>, Refusal> {
+        let mut all = Vec::new();
+        loop {
+            let crate::Frame { commits, ended, .. } = self.frame(deliver::STEPS, deliver::STEPS);
+            all.extend(commits);
+            match ended {
+                crate::Ended::Idle => return Ok(all),
+                crate::Ended::Foreign => return Err(Refusal::Foreign),
+                crate::Ended::Done | crate::Ended::NoRoom => {}
+            }
+        }
+    }
+
+    /// [`Round::mend_after`], to a sheet that is compiled first.
+    pub fn mend_after(&mut self, number: u32, sheet: Sheet, params: Option<Params>) -> Result<Vec<Step>, NotThere> {
+        self.round.at_number(number)?;
+        let commits = self.run_to_idle()?;
+        self.mend(sheet, params)?;
+        Ok(commits)
+    }
+
+    /// [`Round::board_after`]
+    pub fn board_after(&mut self, number: u32, player: Player) -> Result<(Vec<Option<i32>>, Vec<Step>), NotThere> {
+        self.round.at_number(number)?;
+        let commits = self.run_to_idle()?;
+        let (board, _) = self.round.board_after(number, player)?;
+        for (b, value) in board.iter().enumerate() {
+            let answer = value.map_or(Refusal::NoRight.number() as u64, |v| word(Ok(v)));
+            self.record.push(Request::Board(Behaviour(b as u32), player), answer, &[]);
+        }
+        Ok((board, commits))
     }
 
     /// [`Round::frame`]

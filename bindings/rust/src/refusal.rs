@@ -43,6 +43,8 @@ numbered! {
     UnlikeRanks = 26, "unlike ranks", "two sheets to be joined give one event different ranks";
     ShortJoin = 27, "short join", "the buffer is too short for the joined sheet; only raw calls can lend one";
     StrangeHand = 28, "strange hand", "the hand holds an event that the new sheet does not declare";
+    MissingEntries = 43, "missing entries", "fewer entries were taken in than the delivery's number";
+    TakenBefore = 44, "taken before", "more entries were taken in than the delivery's number";
 }
 
 impl Refusal {
@@ -97,7 +99,7 @@ mod tests {
         for n in 0..=300 {
             assert!(Refusal::from_number(n).map_or(true, |r| r.number() == n));
         }
-        assert_eq!(Refusal::ALL.len(), 27);
+        assert_eq!(Refusal::ALL.len(), 29);
         assert_eq!(Refusal::from_number(2), None);
     }
 }

@@ -223,6 +223,11 @@ impl Round {
         &self.bytes
     }
 
+    /// Table and round, to be lent to a call.
+    pub(crate) fn parts(&mut self) -> (&[u8], &mut [u8]) {
+        (self.table.bytes(), &mut self.bytes[..])
+    }
+
     /// The table that it runs on.
     pub fn table(&self) -> &Table {
         &self.table

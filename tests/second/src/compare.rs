@@ -532,6 +532,7 @@ pub struct Tally {
     pub formulas: [usize; 32],
     pub joins: [usize; 32],
     pub agree: crate::agree::Tally,
+    pub deliveries: crate::deliver::Tally,
     /// Calls of frames that were compared.
     pub frames: usize,
     /// What a seed is being held against: named where it differs.
@@ -634,6 +635,8 @@ pub fn one(seed: u64, tally: &mut Tally) {
     crate::frames::counts(seed, &table);
     tally.part = "frame";
     tally.frames += crate::frames::one(seed, &sheet, &table);
+    tally.part = "deliver";
+    crate::deliver::one(seed, &sheet, &table, &mut tally.deliveries);
     tally.part = "replay";
     replays(r, &table, &case.calls);
     tally.part = "mend";

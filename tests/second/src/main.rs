@@ -11,12 +11,14 @@
 //! second rounds FILE FIRST COUNT   recorded rounds of COUNT seeds from FIRST on, as the plain engine answers them
 //! second league FILE ROUNDS CALLS   so many rounds of so many calls on one sheet, to measure the audit
 //! second text FIRST COUNT      texts at each limit; sheets of COUNT seeds from FIRST on as text and back, damaged texts, formulas
+//! second phones FOLDER MATCHES   matches as two phones play them, by deliveries on two threads; for other hosts to play
 //! second audit PROGRAM FOLDER SEEDS   the audit program on such rounds, with differences and damage planted
 mod agree;
 mod bench;
 mod byhand;
 mod cases;
 mod compare;
+mod deliver;
 mod desk;
 mod edges;
 mod engine;
@@ -25,6 +27,7 @@ mod frames;
 mod limits;
 mod make;
 mod page;
+mod phones;
 mod pool;
 mod proved;
 mod record;
@@ -45,6 +48,7 @@ fn main() {
         Some("waits") => waits::run(),
         Some("desk") => desk::run(&words[2], number(3, 200)),
         Some("page") => page::run(&words[2], &words[3], &words[4]),
+        Some("phones") => phones::run(&words[2], number(3, 60) as usize),
         Some("text") => text::run(number(2, 1), number(3, 2000)),
         Some("rounds") => rounds::write(&words[2], number(3, 1), number(4, 1000)),
         Some("league") => rounds::league(&words[2], number(3, 10_000), number(4, 1000)),
@@ -84,7 +88,7 @@ fn compare(first: u64, count: u64) {
     for (n, k) in tally.formulas.iter().enumerate().skip(1).filter(|(_, k)| **k > 0) {
         print!(" {n}:{k}");
     }
-    print!("; frames {}; {}", tally.frames, tally.agree);
+    print!("; frames {}; {}; {}", tally.frames, tally.deliveries, tally.agree);
     print!("; joined {}, refused", tally.joins[0]);
     for (n, k) in tally.joins.iter().enumerate().skip(1).filter(|(_, k)| **k > 0) {
         print!(" {n}:{k}");

@@ -261,6 +261,53 @@ pub fn frame(t: &[u8], l: &mut Vec<u8>, steps: u32, commits: &mut [u8]) -> u64 {
     (idle as u64) << 56 | (written as u64) << 32 | steps as u64
 }
 
+/// Entry `number` of an order, handed in once: 14; 43 where entries are missing, 44 where it was taken in before; 24, 15,
+/// 25, 17. With a full hand steps are made until one commits, its answer in the first eight bytes lent for it: 2^56 where
+/// the entry is taken in, twice that where there is no room for the commit, three times where a step is refused; with it
+/// the commits written, from bit 32 on, and the steps made.
+pub fn deliver(t: &[u8], l: &mut Vec<u8>, number: u32, (e, who): (u32, u32), commits: &mut [u8]) -> u64 {
+    let refused = match () {
+        _ if foreign(t, l) => 14,
+        _ if get(l, 0) < number => 43,
+        _ if get(l, 0) > number => 44,
+        _ if who > 7 => 24,
+        _ if e >= get(t, 0) => 15,
+        _ if !may(get(t, 264 + e as usize), who) => 25,
+        _ if number >= 1_000_000 => 17,
+        _ => 0,
+    };
+    if refused != 0 {
+        return refused;
+    }
+    let full = get(l, 1) + (get(l, 2) != 0) as u32 == 64;
+    if full && commits.len() < 8 {
+        return 2 << 56;
+    }
+    let mut steps = 0;
+    while get(l, 1) + (get(l, 2) != 0) as u32 == 64 {
+        let before = l.clone();
+        match call(t, l, Call::Step) {
+            14 => {
+                *l = before;
+                return 3 << 56 | steps;
+            }
+            a if a % 16 == 3 => commits[..8].copy_from_slice(&a.to_be_bytes()),
+            _ => {}
+        }
+        steps += 1;
+    }
+    assert_eq!(call(t, l, Call::Arrive(e, who)), 0, "room was made");
+    1 << 56 | (full as u64) << 32 | steps
+}
+
+/// 2^32 and the number taken in, with the number in hand from bit 40 on; or 14.
+pub fn taken(t: &[u8], l: &[u8]) -> u64 {
+    if foreign(t, l) {
+        return 14;
+    }
+    (1 << 32) + get(l, 0) as u64 + (((get(l, 1) + (get(l, 2) != 0) as u32) as u64) << 40)
+}
+
 /// What a table tells of itself: 2^32 and its events, its behaviours, the rank of one of its events; or 14, 15.
 pub fn counts(t: &[u8], event: u32) -> [u64; 3] {
     if foreign_table(t) {
