@@ -9,7 +9,7 @@ static uint8_t table[ENGINE_TABLE];
 static int faults, examples;
 
 /* What the examples leave to the host. */
-uint32_t event = 0, behaviour = 0, player = 1;
+uint32_t event = 0, behaviour = 0, player = 1, number = 2;
 static uint8_t sheet[74];
 static uint8_t list[ENGINE_CIRCLE_LIST], params[ENGINE_PARAMS];
 static const uint8_t refused[] = {2, 0, 4, 0x11, 0, 1, 1, 2, 0, 4, 0x11, 0, 1, 1}; /* b0 = b1, b1 = b1 */
@@ -20,7 +20,7 @@ static int64_t shown;
 static const uint8_t text[] = {'b', '0', ' ', '*', ' ', '2'};
 static uint8_t field[64];
 static const uint8_t written[] = {'p', 'a', 's', 's', 'i', 'v', 'e', ' ', 'b', '=', '7'};
-static uint8_t bytes[ENGINE_SHEET], described[ENGINE_SHEET_TEXT];
+static uint8_t bytes[ENGINE_SHEET], described[ENGINE_SHEET_TEXT], commits[ENGINE_ANSWER];
 
 void show(int64_t value)
 {
@@ -37,7 +37,7 @@ static const struct {
     {"arrive", 3, 2, 1, 0}, {"forecast", 2, 1, 1, 0}, {"preview", 1, 1, 0, 3}, {"circle", 1, 1, 0, 1},
     {"compile", 1, 1, 0, 0}, {"step", 1, 1, 0, 0}, {"board", 1, 1, 0, 1}, {"formula", 1, 1, 0, 15},
     {"join", 1, 1, 0, 84}, {"version", 1, 1, 0, 0}, {"agree", 1, 1, 0, 1}, {"assemble", 1, 1, 0, 10},
-    {"describe", 1, 1, 0, 100},
+    {"describe", 1, 1, 0, 100}, {"deliver", 1, 1, 0, 0},
 };
 
 static void before(uint8_t *round)
@@ -57,6 +57,8 @@ static void after(uint8_t *round, const char *call)
     size_t i;
 
     examples++;
+    if (strcmp(call, "deliver") == 0 && number != 3)
+        faults++;
     for (i = 0; i < sizeof want / sizeof *want; i++)
         if (strcmp(want[i].call, call) == 0 && b0 == want[i].b0 && b1 == want[i].b1 && idle == want[i].idle
             && shown == want[i].shown)
