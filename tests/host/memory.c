@@ -48,14 +48,22 @@ static void sheet_of(struct sheet *s, int events, int32_t start)
     sheet_active(s, start, up, events ? 1 : 0, EVERYBODY);
 }
 
-/* A call: an arrival, a board reading, a frame or a change of sheets. */
+/* The next entry of the order. */
+static uint32_t deliver(struct match *m, unsigned *commits)
+{
+    uint64_t t = engine_taken(m->table, sizeof m->table, m->round, sizeof m->round);
+
+    return match_deliver(m, engine_taken_number(t), 0, 1, count, commits);
+}
+
+/* A call: a delivery, a board reading, a frame or a change of sheets. */
 static uint32_t call(struct match *m, unsigned kind, const struct sheet *other, unsigned *commits)
 {
     int32_t value;
     int idle;
 
     switch (kind) {
-    case 0: return match_send(m, 0, 1);
+    case 0: return deliver(m, commits);
     case 1: return match_read(m, 0, 1, &value);
     case 2: return match_frame(m, 100, count, commits, &idle);
     default: return match_mend(m, other, no_params);
@@ -94,7 +102,7 @@ static void tried_again(struct match *m, const struct sheet *other, const char *
     unsigned commits = 0, k;
     int idle;
 
-    expect(match_send(m, 0, 1) == 0, "an event arrives");
+    expect(deliver(m, &commits) == 0, "an event is delivered");
     for (k = 0; k < 50; k++)
         expect(match_mend(m, other, no_params) == ENGINE_STRANGE_HAND, "the event in hand is not in the other sheet");
     expect(m->count == sheets + 1, "a sheet is kept once, however often it is tried");

@@ -1,5 +1,5 @@
-/* A match of two players, played in frames of a few steps: rights, a look ahead, a bonus sheet that joins in mid-round,
- * a save and a load, a mended sheet, and an audit. Prints what happens. */
+/* A match of two players, played in frames of a few steps: entries of an order, rights, a look ahead, a bonus sheet that
+ * joins in mid-round, a save and a load, a mended sheet, a crowd of entries at once, and an audit. Prints what happens. */
 #include <stdio.h>
 #include <stdlib.h>
 
@@ -30,6 +30,12 @@ static void committed(void *app, uint64_t answer)
            engine_step_over(answer) ? ", which ran over" : "");
 }
 
+static void count_commit(void *app, uint64_t answer)
+{
+    (void)answer;
+    (*(unsigned *)app)++;
+}
+
 /* Frames until nothing is left to do. */
 static void play_out(struct match *m)
 {
@@ -43,11 +49,44 @@ static void play_out(struct match *m)
     printf("    idle after %u frames, %u commits\n", frames, commits);
 }
 
+/* The next entry of the order: an app gets event, player and number from whoever makes the order. What the sheet refuses
+ * takes no number. */
+static uint32_t entry;
+
 static void send(struct match *m, uint32_t event, uint32_t player)
 {
-    uint32_t refusal = match_send(m, event, player);
+    unsigned commits = 0;
+    uint32_t refusal = match_deliver(m, entry, event, player, committed, &commits);
 
+    if (refusal == 0)
+        entry++;
     printf("player %u sends event %u: %s\n", (unsigned)player, (unsigned)event, match_word(refusal));
+}
+
+/* So many entries at once, more than the hand has places for: none is refused. One that comes twice is. */
+static void crowd(struct match *m, uint32_t count)
+{
+    unsigned commits = 0;
+    uint64_t t;
+
+    for (; count > 0; count--)
+        stop_if(match_deliver(m, entry++, TURN, 2, committed, &commits), "an entry of the crowd");
+    t = engine_taken(m->table, sizeof m->table, m->round, sizeof m->round);
+    printf("    %u taken in, %u of them in hand\n", (unsigned)engine_taken_number(t), (unsigned)engine_taken_in_hand(t));
+    printf("the last entry once more: %s\n", match_word(match_deliver(m, entry - 1, TURN, 2, committed, &commits)));
+}
+
+/* Frames until nothing is left to do, and how many entries the board is of: a winner that is read here is the same on
+ * every phone. */
+static void settle(struct match *m)
+{
+    unsigned commits = 0;
+    int idle;
+
+    do
+        stop_if(match_frame(m, 1000 * BUDGET, count_commit, &commits, &idle), "frame");
+    while (!idle);
+    printf("    %u commits later: the board after %u entries\n", commits, (unsigned)entry);
 }
 
 /* Each player's screen: what it may not see is left out. */
@@ -219,6 +258,9 @@ int main(int argc, char **argv)
     printf("the bonus is mended\n");
     send(&m, BONUS, 1);
     play_out(&m);
+    show(&m, 2);
+    crowd(&m, 67);
+    settle(&m);
     show(&m, 2);
     settle_dispute(&m);
     stop_if(match_export(&m, "final, table 3", rounds), "export");

@@ -177,15 +177,26 @@ void match_close(struct match *m)
     empty(m);
 }
 
-uint32_t match_send(struct match *m, uint32_t event, uint32_t player)
+/* A delivery is recorded as what it is: a frame of the steps that made room, and the arrival. One that is refused did
+ * nothing and is not recorded. */
+uint32_t match_deliver(struct match *m, uint32_t number, uint32_t event, uint32_t player,
+                       void (*commit)(void *app, uint64_t answer), void *app)
 {
-    uint32_t answer;
+    uint8_t made[ENGINE_ANSWER];
+    uint64_t d;
 
-    if (!reserve(&m->asked, ASKED))
+    if (!reserve(&m->asked, 2 * ASKED + sizeof made))
         return MATCH_NO_MEMORY;
-    answer = engine_arrive(m->table, sizeof m->table, m->round, sizeof m->round, event, player);
-    record(m, ASKED_ARRIVE, event, player, answer);
-    return answer;
+    d = engine_deliver(m->table, sizeof m->table, m->round, sizeof m->round, number, event, player, made, sizeof made);
+    if (engine_deliver_end(d) != ENGINE_DELIVERED)
+        return engine_deliver_end(d) == ENGINE_DELIVER_BROKEN ? (uint32_t)ENGINE_FOREIGN : engine_deliver_refusal(d);
+    if (engine_deliver_commits(d) > 0) {
+        record(m, ASKED_FRAME, engine_deliver_steps(d), COMMITS, UINT64_C(1) << 32 | engine_deliver_steps(d));
+        put_all(&m->asked, made, sizeof made);
+        commit(app, engine_answer_get(made, 0));
+    }
+    record(m, ASKED_ARRIVE, event, player, 0);
+    return 0;
 }
 
 uint32_t match_read(struct match *m, uint32_t behaviour, uint32_t player, int32_t *value)

@@ -33,9 +33,13 @@ const char *match_word(uint32_t number);
 /* Each answers 0, or why not: then the round is as it was. What was opened or loaded, also in vain, is to be closed. */
 uint32_t match_open(struct match *m, const struct sheet *sheet, const uint8_t params[ENGINE_PARAMS]);
 void match_close(struct match *m);
-uint32_t match_send(struct match *m, uint32_t event, uint32_t player);
 uint32_t match_read(struct match *m, uint32_t behaviour, uint32_t player, int32_t *value);
 uint32_t match_mend(struct match *m, const struct sheet *sheet, const uint8_t params[ENGINE_PARAMS]);
+
+/* Entry `number` of the order that all phones share: what they take in is then the same, however fast they are. With a
+ * full hand it makes steps up to the next commit, and calls commit(app, answer) for that. */
+uint32_t match_deliver(struct match *m, uint32_t number, uint32_t event, uint32_t player,
+                       void (*commit)(void *app, uint64_t answer), void *app);
 
 /* One frame: at most so many steps. Calls commit(app, answer) for each commit; idle tells whether nothing is left. Where
  * it answers why not, the steps whose commits were told are made and recorded, and no others. */
