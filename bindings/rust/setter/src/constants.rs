@@ -2,7 +2,6 @@
 //! the parameters their values.
 use crate::failure::Failure;
 use crate::file::SheetFile;
-use std::fmt::Write;
 
 /// Languages, by the word that asks for them.
 pub const LANGUAGES: [&str; 5] = ["c", "rust", "typescript", "java", "swift"];
@@ -45,50 +44,78 @@ fn numbers(file: &SheetFile) -> Vec<Named> {
     all
 }
 
+/// What a file of constants is made of.
+struct Parts<'f> {
+    file: &'f SheetFile,
+    /// Whose numbers they are, and what the bytes lend.
+    about: String,
+    lent: String,
+    /// The 32 bytes, parted by commas.
+    bytes: String,
+}
+
+impl Parts<'_> {
+    /// A line for each number.
+    fn lines(&self, one: impl Fn(&str, u32) -> String) -> String {
+        numbers(self.file).iter().map(|(name, n)| one(name, *n) + "\n").collect()
+    }
+
+    fn c(&self, upper: &str) -> String {
+        let Parts { about, lent, bytes, .. } = self;
+        let guard = format!("{upper}_NAMES_H");
+        let lines = self.lines(|name, n| format!("#define {upper}_{name} {n}u"));
+        let array = format!("static const unsigned char {upper}_PARAMS[32] = {{{bytes}}};");
+        format!("/* {about} */\n#ifndef {guard}\n#define {guard}\n{lines}/* {lent} */\n{array}\n#endif\n")
+    }
+
+    fn rust(&self) -> String {
+        let Parts { about, lent, bytes, .. } = self;
+        let lines = self.lines(|name, n| format!("pub const {name}: u32 = {n};"));
+        let head = "#![allow(dead_code, non_upper_case_globals)]";
+        format!("//! {about}\n{head}\n{lines}/// {lent}\npub const PARAMS: [u8; 32] = [{bytes}];\n")
+    }
+
+    fn typescript(&self) -> String {
+        let Parts { about, lent, bytes, .. } = self;
+        let lines = self.lines(|name, n| format!("export const {name} = {n};"));
+        format!("// {about}\n{lines}// {lent}\nexport const PARAMS = Uint8Array.of({bytes});\n")
+    }
+
+    fn java(&self, name: &str) -> String {
+        let Parts { about, lent, .. } = self;
+        let lines = self.lines(|name, n| format!("    public static final int {name} = {n};"));
+        // Java's bytes have a sign
+        let signed: Vec<String> = self.file.lent().bytes().iter().map(|b| (*b as i8).to_string()).collect();
+        let bytes = signed.join(", ");
+        let array = format!("    public static byte[] params() {{\n        return new byte[] {{{bytes}}};\n    }}");
+        let own = format!("    private {name}() {{}}\n");
+        format!("// {about}\npublic final class {name} {{\n{own}{lines}    // {lent}\n{array}\n}}\n")
+    }
+
+    fn swift(&self, name: &str) -> String {
+        let Parts { about, lent, bytes, .. } = self;
+        let lines = self.lines(|name, n| format!("    public static let {name}: UInt32 = {n}"));
+        let array = format!("    public static let PARAMS: [UInt8] = [{bytes}]");
+        format!("// {about}\npublic enum {name} {{\n{lines}    // {lent}\n{array}\n}}\n")
+    }
+}
+
 /// The numbers in a language, as a file of it.
 pub fn written(file: &SheetFile, language: &str) -> Result<String, Failure> {
     let stem = stem(&file.path);
-    let name = capital(&stem);
-    let upper = stem.to_ascii_uppercase();
-    let lent = file.lent();
-    let bytes = |one: &dyn Fn(u8) -> String| lent.bytes().iter().map(|b| one(*b)).collect::<Vec<_>>().join(", ");
-    let plain = bytes(&|b| b.to_string());
-    let about = format!("The numbers of {}, as setter names writes them. A row has its first cell's.", file.path);
-    let lent = format!("Lends the parameters: {}.", if file.params.is_empty() { "none".into() } else { file.values() });
-    let list = |one: &dyn Fn(&str, u32) -> String| {
-        numbers(file).iter().fold(String::new(), |out, (name, n)| out + &one(name, *n) + "\n")
+    let values = if file.params.is_empty() { "none".to_string() } else { file.values() };
+    let parts = Parts {
+        file,
+        about: format!("The numbers of {}, as setter names writes them. A row has its first cell's.", file.path),
+        lent: format!("Lends the parameters: {values}."),
+        bytes: file.lent().bytes().map(|b| b.to_string()).join(", "),
     };
-    let mut out = String::new();
-    let _ = match language {
-        "c" => {
-            let guard = format!("{upper}_NAMES_H");
-            let lines = list(&|name, n| format!("#define {upper}_{name} {n}u"));
-            let array = format!("static const unsigned char {upper}_PARAMS[32] = {{{plain}}};");
-            write!(out, "/* {about} */\n#ifndef {guard}\n#define {guard}\n{lines}/* {lent} */\n{array}\n#endif\n")
-        }
-        "rust" => {
-            let lines = list(&|name, n| format!("pub const {name}: u32 = {n};"));
-            let head = "#![allow(dead_code, non_upper_case_globals)]";
-            write!(out, "//! {about}\n{head}\n{lines}/// {lent}\npub const PARAMS: [u8; 32] = [{plain}];\n")
-        }
-        "typescript" => {
-            let lines = list(&|name, n| format!("export const {name} = {n};"));
-            write!(out, "// {about}\n{lines}// {lent}\nexport const PARAMS = Uint8Array.of({plain});\n")
-        }
-        "java" => {
-            let lines = list(&|name, n| format!("    public static final int {name} = {n};"));
-            let signed = bytes(&|b| (b as i8).to_string());
-            let array =
-                format!("    public static byte[] params() {{\n        return new byte[] {{{signed}}};\n    }}");
-            let own = format!("    private {name}() {{}}\n");
-            write!(out, "// {about}\npublic final class {name} {{\n{own}{lines}    // {lent}\n{array}\n}}\n")
-        }
-        "swift" => {
-            let lines = list(&|name, n| format!("    public static let {name}: UInt32 = {n}"));
-            let array = format!("    public static let PARAMS: [UInt8] = [{plain}]");
-            write!(out, "// {about}\npublic enum {name} {{\n{lines}    // {lent}\n{array}\n}}\n")
-        }
-        _ => return Err(Failure::Usage(format!("no language {language}: names writes {}", LANGUAGES.join(", ")))),
-    };
-    Ok(out)
+    match language {
+        "c" => Ok(parts.c(&stem.to_ascii_uppercase())),
+        "rust" => Ok(parts.rust()),
+        "typescript" => Ok(parts.typescript()),
+        "java" => Ok(parts.java(&capital(&stem))),
+        "swift" => Ok(parts.swift(&capital(&stem))),
+        _ => Err(Failure::Usage(format!("no language {language}: names writes {}", LANGUAGES.join(", ")))),
+    }
 }
