@@ -67,9 +67,11 @@
 //! | 8 | so many steps, each answered by 0, idle | how many 4; no answer stands behind it |
 mod audit;
 mod file;
+mod same;
 
 pub use audit::{audit, Auditor, Difference, Verdict};
 pub use file::{Damage, Harm, Reader, Writer};
+pub use same::{moves, parting, Change, Moves, Parting};
 
 use crate::round::commit_bytes;
 use crate::deliver::{self, Delivered, NotThere};
@@ -320,6 +322,17 @@ impl<'a> Entries<'a> {
     /// Passes over the rest of a run: how many steps.
     fn pass_run(&mut self) -> u64 {
         std::mem::take(&mut self.run) as u64
+    }
+
+    /// The answer of the next call where that is a step, and passes it; else nothing is passed.
+    fn next_step(&mut self) -> Option<u64> {
+        if self.run == 0 && !matches!(self.bytes.first(), Some(&(STEP | RAN | IDLE))) {
+            return None;
+        }
+        let mut ahead = self.clone();
+        let answer = ahead.read().ok()?.answer;
+        *self = ahead;
+        Some(answer)
     }
 
     fn read(&mut self) -> Result<Entry<'a>, Malformed> {

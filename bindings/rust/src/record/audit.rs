@@ -1,11 +1,22 @@
 //! Making the calls of a record again.
-use super::{ask, Record, Request, IDLE_ANSWER};
+use super::{ask, Entries, Record, Request, IDLE_ANSWER, STEP};
 use crate::{raw, Params, Refusal, Round, Sheet, Step, Table, ROUND};
 use std::collections::HashMap;
 use std::fmt;
 
 /// How many tables are kept, 34,816 bytes each.
 const KEPT: usize = 64;
+/// Steps in a row that are made by one call of `replay`, at most; and how it is asked for them, six bytes each.
+const ROW: usize = 256;
+const STEPS: [u8; 6 * ROW] = {
+    let mut calls = [0; 6 * ROW];
+    let mut k = 0;
+    while k < ROW {
+        calls[6 * k] = STEP;
+        k += 1;
+    }
+    calls
+};
 
 /// What the audit of a round found.
 #[derive(Clone, Debug, PartialEq, Eq)]
@@ -102,6 +113,46 @@ impl fmt::Display for Step {
 pub struct Auditor {
     tables: HashMap<(Sheet, Option<Params>), Result<Table, Refusal>>,
     commits: Vec<u8>,
+    row: Row,
+}
+
+/// Steps in a row: what the phone had of each, and what the engine gives, eight bytes each.
+#[derive(Debug, Default)]
+struct Row {
+    phone: Vec<u8>,
+    engine: Vec<u8>,
+}
+
+impl Row {
+    /// Makes the step that was answered so and those that follow it, up to one that was idle: how many, or which is the
+    /// first that differs, and both answers. Each is made as by itself; those behind one that differs do not count.
+    fn make(
+        &mut self,
+        first: u64,
+        entries: &mut Entries,
+        table: &[u8],
+        round: &mut [u8],
+    ) -> Result<u64, (u64, [u64; 2])> {
+        self.phone.clear();
+        self.phone.extend(first.to_be_bytes());
+        let mut last = first;
+        while last != IDLE_ANSWER && self.phone.len() < 8 * ROW {
+            let Some(next) = entries.next_step() else { break };
+            self.phone.extend(next.to_be_bytes());
+            last = next;
+        }
+        let count = self.phone.len() / 8;
+        self.engine.resize(8 * ROW, 0);
+        let engine = &mut self.engine[..8 * count];
+        raw::replay(table, round, &STEPS[..6 * count], engine);
+        if *engine == self.phone[..] {
+            return Ok(count as u64);
+        }
+        let word = |c: &[u8]| u64::from_be_bytes(c.try_into().expect("eight bytes"));
+        let mut pairs = self.phone.chunks_exact(8).zip(engine.chunks_exact(8)).enumerate();
+        let (k, (phone, engine)) = pairs.find(|(_, (a, b))| a != b).expect("the rows differ");
+        Err((k as u64, [word(phone), word(engine)]))
+    }
 }
 
 impl Auditor {
@@ -149,23 +200,43 @@ impl Auditor {
         while let Some(entry) = entries.next() {
             let at = |why: &dyn fmt::Display| format!("call {call}: {why}");
             let entry = entry.map_err(|why| at(&why))?;
-            let engine = self.answer(record, &mut table, &mut round, entry.request).map_err(|why| at(&why))?;
             let (request, phone) = (entry.request, entry.answer);
-            let first = match self.other_commit(&entry) {
-                _ if engine != phone => Difference { call, request, commit: None, phone, engine },
-                Some((k, [phone, engine])) => Difference { call, request, commit: Some(k), phone, engine },
-                None => {
-                    call += 1;
-                    if (request, engine) == (Request::Step, IDLE_ANSWER) {
-                        // an idle step changes nothing, so the others of its run are idle too
-                        call += entries.pass_run();
+            let done = match request {
+                Request::Step => self.steps(call, phone, &mut entries, &table, &mut round),
+                _ => {
+                    let engine = self.answer(record, &mut table, &mut round, request).map_err(|why| at(&why))?;
+                    match self.other_commit(&entry) {
+                        _ if engine != phone => Err(Difference { call, request, commit: None, phone, engine }),
+                        Some((k, [phone, engine])) => Err(Difference { call, request, commit: Some(k), phone, engine }),
+                        None => Ok(1),
                     }
-                    continue;
                 }
             };
-            return Ok((Verdict::Differs(first), Round::from_bytes(&table, &round)));
+            match done {
+                Ok(made) => call += made,
+                Err(first) => return Ok((Verdict::Differs(first), Round::from_bytes(&table, &round))),
+            }
         }
         Ok((Verdict::Agrees { calls: call }, Round::from_bytes(&table, &round)))
+    }
+
+    /// Steps in a row from this call on: how many, or the first that differs.
+    fn steps(
+        &mut self,
+        call: u64,
+        first: u64,
+        entries: &mut Entries,
+        table: &Table,
+        round: &mut [u8],
+    ) -> Result<u64, Difference> {
+        match self.row.make(first, entries, table.bytes(), round) {
+            // an idle step changes nothing, so the others of its run are idle too
+            Ok(made) if self.row.phone.ends_with(&IDLE_ANSWER.to_be_bytes()) => Ok(made + entries.pass_run()),
+            Ok(made) => Ok(made),
+            Err((k, [phone, engine])) => {
+                Err(Difference { call: call + k, request: Request::Step, commit: None, phone, engine })
+            }
+        }
     }
 
     /// What the engine gives; a change of sheets that it accepts changes the table. An error for a refused sheet.
@@ -228,6 +299,59 @@ mod tests {
         assert!(first.to_string().contains("step: the phone had idle, the engine gives start of arrival"), "{first}");
     }
 
+    /// The audit with each step made by itself: which call differs first, and both answers; none where a call is not of
+    /// the format or a sheet is refused.
+    fn one_by_one(record: &Record) -> Option<Result<u64, (u64, [u64; 2])>> {
+        let mut auditor = Auditor::new();
+        let mut table = auditor.table(0, record).ok()?;
+        let mut round = [0; ROUND];
+        raw::start(table.bytes(), &mut round);
+        let mut call = 0;
+        // idle runs may be of any length, and an idle step changes nothing
+        for entry in record.entries().take(100_000) {
+            let entry = entry.ok()?;
+            let engine = auditor.answer(record, &mut table, &mut round, entry.request).ok()?;
+            if engine != entry.answer {
+                return Some(Err((call, [entry.answer, engine])));
+            }
+            if auditor.other_commit(&entry).is_some() {
+                return None;
+            }
+            call += 1;
+        }
+        (call < 100_000).then_some(Ok(call))
+    }
+
+    /// Steps in a row are audited as one by one: rows of every length around that of one call of `replay`, with every
+    /// answer of them changed in turn.
+    #[test]
+    fn steps_in_a_row() {
+        let sheet = recorded().sheets()[0].0.clone();
+        for length in [1, 2, 3, ROW - 1, ROW, ROW + 1, 2 * ROW + 3] {
+            let mut round = Recorder::start("row", sheet.clone(), None).expect("a sheet");
+            for k in 0..length {
+                if k == 0 || k == length / 2 {
+                    (0..60).for_each(|_| round.arrive(Event(0), Player(1)).unwrap_or_default());
+                }
+                round.step().expect("a step");
+            }
+            let record = round.finish();
+            let calls = record.entries().count() as u64;
+            assert_eq!(audit(&record), Verdict::Agrees { calls }, "{length} steps");
+            let steps: Vec<_> = record.entries().map(|e| e.expect("an entry")).collect();
+            for at in (0..steps.len()).filter(|at| steps[*at].request == Request::Step) {
+                let mut other = Record::new("other", sheet.clone(), None);
+                steps.iter().enumerate().for_each(|(k, e)| other.push(e.request, e.answer ^ (k == at) as u64, &[]));
+                let Verdict::Differs(first) = audit(&other) else { panic!("step {at} of {length} is not noticed") };
+                assert_eq!(
+                    (first.call, first.phone, first.engine),
+                    (at as u64, steps[at].answer ^ 1, steps[at].answer)
+                );
+                assert_eq!(one_by_one(&other), Some(Err((first.call, [first.phone, first.engine]))));
+            }
+        }
+    }
+
     /// Bodies of any bytes, as a forger would send them with right sums: a verdict, and never a panic.
     #[test]
     fn bodies_of_any_bytes() {
@@ -237,7 +361,7 @@ mod tests {
             state = state.wrapping_mul(6364136223846793005).wrapping_add(1442695040888963407);
             (state >> 33) as usize % n
         };
-        let mut found = [0; 4];
+        let (mut found, version) = ([0; 4], crate::version().number());
         for _ in 0..20_000 {
             let mut body = whole.clone();
             for _ in 0..1 + draw(3) {
@@ -255,6 +379,15 @@ mod tests {
             };
             let verdict = audit(&record);
             assert!(!verdict.to_string().is_empty());
+            match (one_by_one(&record), &verdict) {
+                (_, v) if record.version != version => assert!(matches!(v, Verdict::Unplayable(_)), "{v}"),
+                (Some(Ok(calls)), v) => assert_eq!(*v, Verdict::Agrees { calls }),
+                (Some(Err((call, both))), Verdict::Differs(d)) => {
+                    assert_eq!((call, both), (d.call, [d.phone, d.engine]));
+                }
+                (Some(Err(_)), v) => panic!("{v}"),
+                (None, _) => {}
+            }
             found[match verdict {
                 Verdict::Agrees { .. } => 1,
                 Verdict::Differs(_) => 2,
