@@ -211,6 +211,7 @@ export interface Engine {
     compile(sheet: Uint8Array, params?: Uint8Array): Uint8Array;
     circle(sheet: Uint8Array, params?: Uint8Array): Circle;
     agree(sheet: Uint8Array, params?: Uint8Array): Agreement;
+    agreeFor(sheet: Uint8Array, params: Uint8Array | undefined, behaviour: number): Agreement;
     leak(sheet: Uint8Array, params: Uint8Array | undefined, player: number): Leak;
     formula(text: Text): Uint8Array;
     assemble(text: Text): Uint8Array;

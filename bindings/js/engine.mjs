@@ -109,6 +109,7 @@ const TAKES = new Map(Object.entries({
     event_rank: "r table, n event",
     frame: "r table, w round, n steps, w commits",
     agree: "r sheet, r params",
+    agree_for: "r sheet, r params, n behaviour",
     leak: "r sheet, r params, n player",
     assemble: "r text, w buffer",
     describe: "r sheet, w buffer",
@@ -653,9 +654,12 @@ class Engine {
 
     /** Whether phones may end apart: compile's number or 0; with 29, a warning, two events and what they share. */
     agree(sheet, params = NONE) {
-        const answer = this.call("agree", sheet, params);
-        const [number, first, second, behaviour] = bytesOf(answer);
-        return number === 29 ? { number, events: [first, second], behaviour } : { number };
+        return agreement(this.call("agree", sheet, params));
+    }
+
+    /** Whether they may on one behaviour: compile's number, 18 or 0; with 29 two events and where they meet. */
+    agreeFor(sheet, params = NONE, behaviour) {
+        return agreement(this.call("agree_for", sheet, params, behaviour));
     }
 
     /** Whether a player can learn of what is hidden: compile's number, 24 or 0; with 30 one seen and one hidden. */
@@ -815,6 +819,11 @@ class Engine {
         const room = new Uint8Array(8 * Math.floor((calls?.length ?? 0) / 6));
         return answers(room, Number(this.call("replay", table, round, calls, room)));
     }
+}
+
+function agreement(answer) {
+    const [number, first, second, behaviour] = bytesOf(answer);
+    return number === 29 ? { number, events: [first, second], behaviour } : { number };
 }
 
 function bytesOf(answer) {

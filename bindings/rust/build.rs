@@ -3,11 +3,12 @@
 use std::path::{Path, PathBuf};
 
 /// Calls that are declared.
-const CALLS: [&str; 24] = [
+const CALLS: [&str; 25] = [
     "version",
     "compile",
     "circle",
     "agree",
+    "agree_for",
     "leak",
     "formula",
     "assemble",

@@ -86,6 +86,7 @@
 //! the heap.
 #![warn(missing_docs)]
 
+mod agreement;
 mod deliver;
 mod fault;
 mod numbered;

@@ -114,6 +114,13 @@ pub mod ffi {
         pub fn engine_agree(sheet: *const u8, sheet_len: usize, params: *const u8, params_len: usize) -> u64;
     }
     extern "C" {
+        pub fn engine_agree_for(
+            sheet: *const u8,
+            sheet_len: usize,
+            params: *const u8,
+            params_len: usize,
+            behaviour: u32,
+        ) -> u64;
         pub fn engine_deliver(
             table: *const u8,
             table_len: usize,
@@ -282,6 +289,13 @@ pub fn assemble(text: &[u8], buffer: &mut [u8]) -> u64 {
 #[inline]
 pub fn describe(sheet: &[u8], buffer: &mut [u8]) -> u64 {
     unsafe { ffi::engine_describe(sheet.as_ptr(), sheet.len(), buffer.as_mut_ptr(), buffer.len()) }
+}
+
+/// compile's number; 18; 0; or 29 packed with two events of unequal rank and the behaviour at which they meet.
+#[inline]
+pub fn agree_for(sheet: &[u8], params: &[u8], behaviour: u32) -> u64 {
+    let (s, p) = (sheet, params);
+    unsafe { ffi::engine_agree_for(s.as_ptr(), s.len(), p.as_ptr(), p.len(), behaviour) }
 }
 
 /// A refusal's number, or how a delivery ended, packed with the commits that it wrote and the steps that it made.

@@ -67,7 +67,7 @@ impl Params {
 }
 
 /// The bytes lent for parameters: 32, or none.
-fn lent(params: Option<&Params>) -> &[u8] {
+pub(crate) fn lent(params: Option<&Params>) -> &[u8] {
     params.map_or(&[], |p| &p.0)
 }
 
@@ -89,6 +89,18 @@ pub struct Clash {
     pub second: Event,
     /// One of them writes it, and the other reads or writes it.
     pub behaviour: Behaviour,
+}
+
+impl Clash {
+    /// Of a packed answer: none for 0, and 29 with its parts.
+    pub(crate) fn of(answer: u64) -> Result<Option<Clash>, Refusal> {
+        let byte = |k: u32| (answer >> (8 * k) & 0xFF) as u32;
+        match byte(0) {
+            0 => Ok(None),
+            29 => Ok(Some(Clash { first: Event(byte(1)), second: Event(byte(2)), behaviour: Behaviour(byte(3)) })),
+            _ => Err(Refusal::of(answer)),
+        }
+    }
 }
 
 /// A behaviour that a player sees and that depends on one hidden from this player.
@@ -236,13 +248,7 @@ impl Sheet {
     /// # Ok::<(), poqashem::Refusal>(())
     /// ```
     pub fn agree(&self, params: Option<&Params>) -> Result<Option<Clash>, Refusal> {
-        let answer = raw::agree(&self.0, lent(params));
-        let byte = |k: u32| (answer >> (8 * k) & 0xFF) as u32;
-        match byte(0) {
-            0 => Ok(None),
-            29 => Ok(Some(Clash { first: Event(byte(1)), second: Event(byte(2)), behaviour: Behaviour(byte(3)) })),
-            _ => Err(Refusal::of(answer)),
-        }
+        Clash::of(raw::agree(&self.0, lent(params)))
     }
 
     /// Whether a hidden start value may leak to a player: none where no behaviour that this player sees depends on a

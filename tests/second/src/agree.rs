@@ -17,6 +17,8 @@ const BEFORE: usize = 4;
 pub struct Tally {
     /// Sheets with a pair that is not independent, and without.
     sheets: [usize; 2],
+    /// Behaviours that two events meet at, and that none do.
+    behaviours: [usize; 2],
     /// Pairs of unequal rank that are not independent: two lists end apart, or none was found that does.
     pairs: [usize; 2],
     /// Sheets and players: a hidden value leaks, or none does.
@@ -28,7 +30,9 @@ pub struct Tally {
 impl fmt::Display for Tally {
     fn fmt(&self, f: &mut fmt::Formatter<'_>) -> fmt::Result {
         let ([clash, apart], [ended, found]) = (self.sheets, self.pairs);
-        write!(f, "sheets on which phones agree {apart}, not {clash}: of their dependent pairs ")?;
+        write!(f, "sheets on which phones agree {apart}, not {clash}; ")?;
+        write!(f, "behaviours on which they do {}, not {}; ", self.behaviours[1], self.behaviours[0])?;
+        write!(f, "of the dependent pairs ")?;
         write!(f, "{ended} have two lists that end apart, ")?;
         write!(
             f,
@@ -38,10 +42,14 @@ impl fmt::Display for Tally {
     }
 }
 
+fn packed_clash(clash: Option<(usize, usize, usize)>) -> u64 {
+    clash.map_or(0, |(e, f, i)| 29 + (e << 8) as u64 + (f << 16) as u64 + (i << 24) as u64)
+}
+
 fn agreed(read: &Result<Sheet, u32>) -> u64 {
     match read {
         Err(n) => *n as u64,
-        Ok(sheet) => sheet.clash().map_or(0, |(e, f, i)| 29 + (e << 8) as u64 + (f << 16) as u64 + (i << 24) as u64),
+        Ok(sheet) => packed_clash(sheet.clash()),
     }
 }
 
@@ -63,11 +71,30 @@ fn held_leak(bytes: &[u8], params: &[u8], who: u32, want: u64) {
     assert!(lent == (bytes.to_vec(), params.to_vec()), "leak changed what it was lent to read");
 }
 
+/// What agree_for answers of a behaviour, packed as agree's answer is.
+fn agreed_for(read: &Result<Sheet, u32>, b: u32) -> u64 {
+    match read {
+        Err(n) => *n as u64,
+        Ok(sheet) if b as usize >= sheet.behaviours.len() => 18,
+        Ok(sheet) => packed_clash(sheet.clash_for(b as usize)),
+    }
+}
+
+/// agree_for of every behaviour.
+fn held_agree_for(bytes: &[u8], params: &[u8], read: &Result<Sheet, u32>) {
+    let lent = (bytes.to_vec(), params.to_vec());
+    let behaviours = read.as_ref().map_or(1, |s| s.behaviours.len() as u32);
+    for b in (0..=behaviours).chain([255, 256, u32::MAX]) {
+        assert_eq!(proved::agree_for(bytes, params, b), agreed_for(read, b), "agree_for b{b}");
+    }
+    assert!(lent == (bytes.to_vec(), params.to_vec()), "agree_for changed what it was lent to read");
+}
 
 /// Both calls on a sheet, and on each player; the answer of agree.
 pub fn check(bytes: &[u8], params: &[u8]) -> u64 {
     let read = engine::compile(bytes, params);
     held_agree(bytes, params, agreed(&read));
+    held_agree_for(bytes, params, &read);
     for who in (0..10).chain([255, 256, u32::MAX]) {
         held_leak(bytes, params, who, leaked(&read, who));
     }
@@ -127,9 +154,17 @@ fn search(r: &mut Rng, sheet: &Sheet, table: &Guarded, tally: &mut Tally) {
     while pairs.len() > PAIRS {
         pairs.swap_remove(r.below(pairs.len()));
     }
+    let safe: Vec<usize> = (0..sheet.behaviours.len()).filter(|b| sheet.clash_for(*b).is_none()).collect();
+    tally.behaviours[0] += sheet.behaviours.len() - safe.len();
+    tally.behaviours[1] += safe.len();
+    assert!(sheet.clash().is_some() || safe.len() == sheet.behaviours.len(), "agree 0, and a behaviour that is not safe");
     let mut shown = false;
     for (e, f) in pairs {
         let lists = end_apart(r, sheet, e, f);
+        if let Some(lists) = &lists {
+            let [x, y] = lists.each_ref().map(|calls| compare::run(sheet, table, calls).0.board);
+            assert!(safe.iter().all(|b| x[*b] == y[*b]), "a behaviour that agree_for answers 0 for differs");
+        }
         if sheet.independent(e, f) {
             assert!(lists.is_none(), "events {e} and {f} are independent, and two lists end apart");
             continue;
@@ -209,6 +244,7 @@ pub fn one(seed: u64, bytes: &[u8], params: &[u8], tally: &mut Tally) {
 /// Both calls on sheets of a few behaviours: what counts as writing, as reading and as depending, and which is named.
 pub fn limits() {
     agreements();
+    behaviours();
     leaks();
 }
 
@@ -265,6 +301,34 @@ fn agreements() {
         ),
     ];
     cases.iter().for_each(|(what, sheet, want)| assert_eq!(check(sheet, &[]), *want, "{what}"));
+}
+
+/// Of single behaviours: what counts as meeting, and that adding commutes.
+fn behaviours() {
+    let clash = |e: u64, f: u64, i: u64| 29 + (e << 8) + (f << 16) + (i << 24);
+    let plus = |x: Vec<u8>, y: Vec<u8>| app(4, &[x, y]);
+    let minus = |x: Vec<u8>, y: Vec<u8>| app(5, &[x, y]);
+    let scores = |x: Vec<u8>, y: Vec<u8>| with(&[1, 9], &[holds(&[now(0, x), now(1, y)]), holds(&[]), passive(&name(0))]);
+    let open = app(14, &[name(1), name(0), plus(name(0), con(10))]);
+    let own = app(14, &[name(2), name(0), plus(name(0), con(10))]);
+    let light = with(&[1, 9], &[holds(&[now(0, plus(name(0), con(1)))]), holds(&[now(1, name(0))])]);
+    let cases = [
+        ("both add", scores(plus(name(0), con(1)), plus(con(2), name(0))), 0, 0),
+        ("a difference and a choice add", scores(minus(name(0), con(1)), open.clone()), 0, 0),
+        ("a passive of a score to which both add", scores(plus(name(0), con(1)), open.clone()), 2, 0),
+        ("the score on the right of a minus", scores(minus(con(1), name(0)), plus(name(0), con(1))), 0, clash(0, 1, 0)),
+        ("twice the score", scores(plus(name(0), name(0)), plus(name(0), con(1))), 0, clash(0, 1, 0)),
+        ("the score through a passive", scores(plus(name(0), name(2)), plus(name(0), con(1))), 0, clash(0, 1, 0)),
+        ("a condition on the score", scores(own, plus(name(0), con(1))), 0, clash(0, 1, 0)),
+        ("one sets it", scores(con(5), plus(name(0), con(1))), 0, clash(0, 1, 0)),
+        ("a light that reads the score", light.clone(), 0, 0),
+        ("and the light itself", light, 1, clash(0, 1, 0)),
+        ("no such behaviour", with(&[1], &[]), 0, 18),
+    ];
+    for (what, sheet, b, want) in cases {
+        check(&sheet, &[]);
+        assert_eq!(agreed_for(&engine::compile(&sheet, &[]), b), want, "{what}");
+    }
 }
 
 /// Hidden from player 1 alone.

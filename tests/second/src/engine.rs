@@ -629,6 +629,85 @@ impl Sheet {
         named
     }
 
+    /// What a behaviour depends on, by a name in its expression or in a handler of either phase, directly or by a chain;
+    /// itself included.
+    pub fn depends(&self, b: usize) -> Vec<usize> {
+        let (mut todo, mut seen) = (vec![b], vec![]);
+        while let Some(i) = todo.pop() {
+            if !seen.contains(&i) {
+                seen.push(i);
+                todo.extend(self.mentions(i));
+            }
+        }
+        seen
+    }
+
+    /// Whether an expression names a behaviour, directly or through passives.
+    fn names_it(&self, e: &Expr, b: usize) -> bool {
+        let (mut todo, mut seen) = (vec![], vec![]);
+        names(e, &mut todo);
+        while let Some(i) = todo.pop() {
+            if !seen.contains(&i) {
+                seen.push(i);
+                if let Behaviour::Passive(e) = &self.behaviours[i] {
+                    names(e, &mut todo);
+                }
+            }
+        }
+        seen.contains(&b)
+    }
+
+    /// Whether a handler of b adds to it: the value is b's plus what it is for b = 0.
+    fn adds(&self, b: usize, e: &Expr) -> bool {
+        let without = |e: &Expr| !self.names_it(e, b);
+        match e {
+            Expr::Name(i) => *i == b,
+            Expr::App(4, x) => self.adds(b, &x[0]) && without(&x[1]) || self.adds(b, &x[1]) && without(&x[0]),
+            Expr::App(5, x) => self.adds(b, &x[0]) && without(&x[1]),
+            Expr::App(14, x) => without(&x[0]) && self.adds(b, &x[1]) && self.adds(b, &x[2]),
+            _ => false,
+        }
+    }
+
+    /// The handler that an event has in a behaviour, of either phase.
+    fn handled(&self, event: usize, b: usize) -> Option<&Expr> {
+        match self.does(Some(event), b) {
+            Does::Takes(e) | Does::Defers(e) => Some(e),
+            _ => None,
+        }
+    }
+
+    /// Of an event and a behaviour b of `within`: whether the event writes b, whether it reads b in a handler of one of
+    /// `within`, whether in one of another than b, and whether its handler of b adds to b.
+    fn touch(&self, event: usize, b: usize, within: &[usize]) -> [bool; 4] {
+        let reads = |i: &usize| self.handled(event, *i).is_some_and(|e| self.names_it(e, b));
+        let active = matches!(self.behaviours[b], Behaviour::Active(..));
+        [
+            self.handled(event, b).is_some(),
+            active && within.iter().any(reads),
+            active && within.iter().any(|i| *i != b && reads(i)),
+            self.handled(event, b).is_some_and(|e| self.adds(b, e)),
+        ]
+    }
+
+    /// Whether two events meet at a behaviour b of `within`.
+    fn meets(&self, e: usize, f: usize, b: usize, within: &[usize]) -> bool {
+        let ([we, re, oe, ae], [wf, rf, of, af]) = (self.touch(e, b, within), self.touch(f, b, within));
+        let both_add = ae && af && !oe && !of;
+        (we && (wf || rf) || wf && (we || re)) && !both_add
+    }
+
+    /// For one behaviour: the first two events of unequal rank, by number, that meet at something it depends on, and the
+    /// least such.
+    pub fn clash_for(&self, b: usize) -> Option<(usize, usize, usize)> {
+        let (n, within) = (self.ranks.len(), self.depends(b));
+        let pairs = (0..n).flat_map(|e| (e + 1..n).map(move |f| (e, f)));
+        let mut all = pairs.filter(|(e, f)| self.ranks[*e] != self.ranks[*f]).filter_map(|(e, f)| {
+            within.iter().filter(|i| self.meets(e, f, **i, &within)).min().map(|i| (e, f, *i))
+        });
+        all.next()
+    }
+
     pub fn independent(&self, e: usize, f: usize) -> bool {
         let apart = |e: usize, f: usize| self.writes(e).iter().all(|i| !self.reads(f).contains(i) && !self.writes(f).contains(i));
         apart(e, f) && apart(f, e)
