@@ -405,10 +405,10 @@ static void read_answers(void)
     uint64_t a;
     uint32_t n;
 
-    for (n = 1; n <= ENGINE_TEXT_TOO_LONG; n++)
+    for (n = 1; n <= ENGINE_TAKEN_BEFORE; n++)
         expect(strcmp(engine_refusal_word(n), "no refusal") != 0, "a word for each refusal");
     expect(strcmp(engine_refusal_word(ENGINE_FULL_HAND), "full hand") == 0, "16 is a full hand");
-    expect(strcmp(engine_refusal_word(ENGINE_TEXT_TOO_LONG + 1), "no refusal") == 0, "43 is no refusal");
+    expect(strcmp(engine_refusal_word(ENGINE_TAKEN_BEFORE + 1), "no refusal") == 0, "45 is no refusal");
     expect(strcmp(engine_refusal_word(0), "accepted") == 0, "0 is none");
     expect(engine_version() == (ENGINE_VERSION << 16 | ENGINE_LAYOUT), "header and archive are of one version");
     expect(engine_version_interface(engine_version()) == ENGINE_VERSION, "the interface's");

@@ -70,7 +70,7 @@ mod tests {
     #[test]
     fn words_are_the_headers() {
         let words = words_of_header();
-        assert_eq!(words.len(), 43);
+        assert_eq!(words.len(), 45);
         for k in FaultKind::ALL {
             assert_eq!(words.get(k.number() as usize), Some(&k.word()), "{k:?}");
         }

@@ -3,19 +3,36 @@
 //!
 //! `audit --help` says how it is called. Findings go to standard output, one line each, in the order of the files;
 //! progress and the sum go to standard error. The format is that of the crate's module `record`.
+mod part;
 mod pool;
+mod report;
+mod same;
 
-use pool::{Found, Totals};
+use part::Part;
+use pool::{Found, League, Work};
+use poqashem::{Params, Sheet};
+use report::Took;
 use std::io::{IsTerminal, Write};
 use std::process::ExitCode;
 use std::time::{Duration, Instant};
 
 const HELP: &str = "\
-audit [--threads N] [--every SECONDS | --quiet] FILE ..
+audit [--threads N] [--every SECONDS | --quiet] [--json] [--part K/N] [--sheet FILE].. [--params N,..] FILE ..
+audit --same A B
 
 Plays each round of the files again, on all cores, and prints a line for each that differs, with the first call that
 does, for each that cannot be played, and for each stretch that is damaged. A FILE - is standard input. --threads sets
 how many threads there are, --every how often progress is shown, --quiet shows none.
+
+--sheet asks for the league's own sheet: a round that did not begin with these bytes is printed, too. Where it is given
+several times, rounds begin with the first and may change to the others. --params has the numbers of its parameters.
+--part audits the K-th of N parts, K from 1: the rounds that begin in that stretch of the files' bytes. All parts
+together audit each round once, on as many machines. --json prints each finding as a line of JSON, and the sum as the
+last line, whose numbers are to be added up.
+
+--same holds two players' records of one round against each other, the first round of A against the first of B and so
+on: what they began with, the events that were taken in with their players, and the changes of sheets. It prints where
+they part. Each is audited too.
 
 Ends with 0 where all rounds agree, with 1 where something stands out, with 2 where it was called wrongly or a file
 cannot be read. It writes no file.
@@ -27,114 +44,150 @@ struct Asked {
     threads: usize,
     /// How often progress is shown.
     every: Option<Duration>,
+    json: bool,
+    same: bool,
+    part: Part,
+    /// Files of sheets, and their parameters.
+    sheets: Vec<String>,
+    params: Option<Params>,
+}
+
+/// Up to eight numbers with commas between them; those that are left out are 0.
+fn params(word: &str) -> Result<Params, String> {
+    let mut values = [0; 8];
+    for (k, number) in word.split(',').enumerate() {
+        let own = values.get_mut(k).ok_or("--params takes up to eight numbers")?;
+        *own = number.trim().parse().map_err(|_| format!("--params takes numbers, and not {number}"))?;
+    }
+    Ok(Params::new(values))
 }
 
 fn asked(mut words: impl Iterator<Item = String>) -> Result<Asked, String> {
     let threads = std::thread::available_parallelism().map_or(1, |n| n.get());
     let seconds = if std::io::stderr().is_terminal() { 1 } else { 10 };
-    let mut asked = Asked { files: vec![], help: false, threads, every: Some(Duration::from_secs(seconds)) };
+    let mut asked = Asked {
+        files: vec![],
+        help: false,
+        threads,
+        every: Some(Duration::from_secs(seconds)),
+        json: false,
+        same: false,
+        part: Part::ALL,
+        sheets: vec![],
+        params: None,
+    };
     while let Some(word) = words.next() {
-        let mut number = || words.next().and_then(|w| w.parse::<u64>().ok()).ok_or(format!("{word} needs a number"));
+        let mut next = |what: &str| words.next().ok_or(format!("{word} needs {what}"));
+        let number = |word: String, next: &str| next.parse::<u64>().map_err(|_| format!("{word} needs a number"));
         match word.as_str() {
-            "--threads" => asked.threads = (number()? as usize).clamp(1, 1024),
-            "--every" => asked.every = Some(Duration::from_secs(number()?)),
+            "--threads" => asked.threads = (number(word.clone(), &next("a number")?)? as usize).clamp(1, 1024),
+            "--every" => asked.every = Some(Duration::from_secs(number(word.clone(), &next("a number")?)?)),
             "--quiet" => asked.every = None,
+            "--json" => asked.json = true,
+            "--same" => asked.same = true,
+            "--part" => asked.part = Part::read(&next("K/N")?)?,
+            "--sheet" => asked.sheets.push(next("a file")?),
+            "--params" => asked.params = Some(params(&next("numbers")?)?),
             "--help" | "-h" => asked.help = true,
             _ if word.starts_with('-') && word != pool::STANDARD_INPUT => return Err(format!("no option {word}")),
             _ => asked.files.push(word),
         }
     }
-    if asked.files.is_empty() && !asked.help {
-        Err("no file is named".to_string())
-    } else {
-        Ok(asked)
-    }
+    asked.fits()
 }
 
-/// A number with commas.
-fn long(n: u64) -> String {
-    let digits = n.to_string();
-    let mut out = String::new();
-    for (k, d) in digits.chars().enumerate() {
-        if k > 0 && (digits.len() - k) % 3 == 0 {
-            out.push(',');
+impl Asked {
+    fn fits(self) -> Result<Asked, String> {
+        let input = self.files.iter().any(|file| file == pool::STANDARD_INPUT);
+        match () {
+            _ if self.help => Ok(self),
+            _ if self.files.is_empty() => Err("no file is named".to_string()),
+            _ if self.same && self.files.len() != 2 => Err("--same takes two files".to_string()),
+            _ if !self.part.is_all() && input => Err("--part needs files, whose length is known".to_string()),
+            _ if self.params.is_some() && self.sheets.is_empty() => Err("--params needs --sheet".to_string()),
+            _ => Ok(self),
         }
-        out.push(d);
     }
-    out
+
+    fn league(&self) -> Result<Option<League>, String> {
+        if self.sheets.is_empty() {
+            return Ok(None);
+        }
+        let sheet = |file: &String| std::fs::read(file).map(Sheet::new).map_err(|e| format!("{file}: {e}"));
+        let sheets = self.sheets.iter().map(sheet).collect::<Result<Vec<_>, _>>()?;
+        Ok(Some(League { sheets, params: self.params }))
+    }
+
+    /// The files of the part, and how many bytes it has.
+    fn files(&self) -> (Vec<(&str, Option<std::ops::Range<u64>>)>, u64) {
+        let size = |file: &String| std::fs::metadata(file).map_or(0, |m| m.len());
+        let sizes: Vec<u64> = self.files.iter().map(size).collect();
+        if self.part.is_all() {
+            return (self.files.iter().map(|file| (file.as_str(), None)).collect(), sizes.iter().sum());
+        }
+        let own = self.part.of_files(&sizes);
+        let bytes = own.iter().flatten().map(|range| range.end - range.start).sum();
+        let files = self.files.iter().zip(own).filter_map(|(file, range)| Some((file.as_str(), Some(range?))));
+        (files.collect(), bytes)
+    }
 }
 
-fn several(n: u64, one: &str, many: &str) -> String {
-    format!("{} {}", long(n), if n == 1 { one } else { many })
+/// A line; a reader that has gone away ends the printing, not the audit.
+fn print(line: &str) {
+    let _ = writeln!(std::io::stdout(), "{line}");
 }
 
-/// Rounds so far, those that stand out, how far the files are read, and how long the rest may take.
-fn progress(totals: &Totals, bytes: u64, since: Instant) -> String {
-    let seconds = since.elapsed().as_secs_f64();
-    let part = if bytes == 0 { 1.0 } else { (totals.bytes as f64 / bytes as f64).min(1.0) };
-    let left = if part > 0.0 { format!(", about {:.0} s left", seconds / part - seconds) } else { String::new() };
-    format!(
-        "{}, {} differ, {} cannot be played, {} damaged, {:.0} % of the bytes{left}",
-        several(totals.rounds, "round", "rounds"),
-        long(totals.differ),
-        long(totals.unplayable),
-        long(totals.damaged),
-        100.0 * part
-    )
+fn audit(asked: &Asked, league: Option<League>) -> ExitCode {
+    let since = Instant::now();
+    let (files, bytes) = asked.files();
+    let mut shown = Instant::now();
+    let mut broken = 0;
+    let work = Work { files, league, threads: asked.threads };
+    let totals = pool::run(&work, &mut |found, totals| {
+        match found {
+            Some(Found::Finding { file, finding }) if asked.json => print(&report::finding_json(&file, &finding)),
+            Some(Found::Finding { file, finding }) => print(&report::finding_line(&file, &finding, &asked.part)),
+            Some(Found::Broken { file, why }) => {
+                broken += 1;
+                eprintln!("audit: {file}: {why}");
+            }
+            None => {}
+        }
+        if asked.every.is_some_and(|every| shown.elapsed() >= every) {
+            shown = Instant::now();
+            eprintln!("audit: {}", report::progress(totals, bytes, since));
+        }
+    });
+    let took = Took { seconds: since.elapsed().as_secs_f64(), threads: asked.threads };
+    if asked.json {
+        print(&report::sum_json(&totals, &took, &asked.part, broken));
+    }
+    eprintln!("audit: {}", report::sum(&totals, &took));
+    ExitCode::from(if broken > 0 { 2 } else { totals.stands_out() as u8 })
 }
 
-fn sum(totals: &Totals, threads: usize, seconds: f64) -> String {
-    let agree = totals.rounds - totals.differ - totals.unplayable;
-    format!(
-        "{}, {}: {} agree, {} differ, {} cannot be played; {}; {seconds:.2} s on {}, {:.0} rounds a second",
-        several(totals.rounds, "round", "rounds"),
-        several(totals.calls, "call", "calls"),
-        long(agree),
-        long(totals.differ),
-        long(totals.unplayable),
-        several(totals.damaged, "damaged stretch", "damaged stretches"),
-        several(threads as u64, "thread", "threads"),
-        totals.rounds as f64 / seconds.max(1e-9)
-    )
+fn wrong(why: &str) -> ExitCode {
+    eprintln!("audit: {why}\n\n{HELP}");
+    ExitCode::from(2)
 }
 
 fn main() -> ExitCode {
     let asked = match asked(std::env::args().skip(1)) {
         Ok(asked) => asked,
-        Err(why) => {
-            eprintln!("audit: {why}\n\n{HELP}");
-            return ExitCode::from(2);
-        }
+        Err(why) => return wrong(&why),
     };
     if asked.help {
         let _ = std::io::stdout().write_all(HELP.as_bytes());
         return ExitCode::SUCCESS;
     }
-    let since = Instant::now();
-    let size = |file: &String| std::fs::metadata(file).map_or(0, |m| m.len());
-    let bytes = asked.files.iter().map(size).sum();
-    let mut shown = Instant::now();
-    let mut broken = false;
-    let totals = pool::run(&asked.files, asked.threads, &mut |found, totals| {
-        let line = match found {
-            Some(Found::Finding { file, line }) => Some(format!("{file}: {line}")),
-            Some(Found::Broken { file, why }) => {
-                broken = true;
-                eprintln!("audit: {file}: {why}");
-                None
-            }
-            None => None,
-        };
-        if let Some(line) = line {
-            // a reader that has gone away ends the printing, not the audit
-            let _ = writeln!(std::io::stdout(), "{line}");
+    if asked.same {
+        return same::run(&asked.files[0], &asked.files[1]);
+    }
+    match asked.league() {
+        Ok(league) => audit(&asked, league),
+        Err(why) => {
+            eprintln!("audit: {why}");
+            ExitCode::from(2)
         }
-        if asked.every.is_some_and(|every| shown.elapsed() >= every) {
-            shown = Instant::now();
-            eprintln!("audit: {}", progress(totals, bytes, since));
-        }
-    });
-    eprintln!("audit: {}", sum(&totals, asked.threads, since.elapsed().as_secs_f64()));
-    let stands_out = totals.differ + totals.unplayable + totals.damaged > 0;
-    ExitCode::from(if broken { 2 } else { stands_out as u8 })
+    }
 }
