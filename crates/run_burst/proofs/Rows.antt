@@ -149,7 +149,7 @@ row t (suc m) start c d l h s r =
     split (May t l d k s)
     (λ may.
     let q = ran-late t l d k s may in
-    let e : eqb (o .0) none ≡ false = ne-eqb (o .0) 65 (omega (arith, q .1)) in
+    let e : eqb (o .0) none ≡ false = ne-eqb (o .0) none (omega (arith, q .1)) in
     let j = ranFrom t (k + 1) m (o .0) (o .1) in
     let len = ran-length t l d k s may in
     let one = one-ran r (rw (depth-is l d c h) may) in

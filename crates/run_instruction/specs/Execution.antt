@@ -17,9 +17,9 @@ Left = ℕ × List ℕ
 abbrev pub left : ℕ → List ℕ → Left
 left d l = (d, l)
 
--- the depth of an instruction that may not run: one that no stack has
+-- the depth of an instruction that may not run: one that no stack has, 2^32 - 1
 abbrev pub none : ℕ
-none = 65
+none = 4294967295
 
 -- v on top of a stack of depth d; the top of one to word k
 unfoldable pub pushedOn : List ℕ → ℕ → ℕ → Left

@@ -17,8 +17,9 @@ mod codes;
 
 const FULL: u32 = limits::STACK as u32;
 
-// The answer of an instruction that may not run: a depth that no stack has.
-pub const NONE: u32 = FULL + 1;
+// The answer of an instruction that may not run: 2^32 - 1, a depth that no stack has. A compiler sees that no depth
+// that an instruction leaves is as large, so that the answer is not looked at again.
+pub const NONE: u32 = 4294967295;
 
 // With its depth added, these are the words of the stack's top, and of the two values below it.
 const TOP: usize = round::STACK - 1;

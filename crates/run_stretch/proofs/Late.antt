@@ -54,10 +54,10 @@ module _ (t l : List ℕ) (d k : ℕ) (shallow : d ≤ 64) where
       ∙ perform-keeps (put l 6 d) (word / 256) (word % 256) constant d .long ∙ length-put l 6 d
 
   -- by what it answers
-  pub goes : out .0 ≢ 65 → May ≡ true
+  pub goes : out .0 ≢ none → May ≡ true
   goes h = split May (λ e. e) (λ e. absurd (h (ap (λ (o : Left). o .0) (barred-late e))))
 
-  pub stops : out .0 ≡ 65 → May ≡ false
+  pub stops : out .0 ≡ none → May ≡ false
   stops h = split May (λ e. absurd (omega (arith, h, ran-late e .1))) (λ e. e)
 
   -- the same with the depth in its word
@@ -93,7 +93,7 @@ at-end t (suc n) k d l h s =
     (λ may.
     let r = ran-late t l d k s may in
     let len = ran-length t l d k s may in
-    let c : eqb (o .0) none ≡ false = ne-eqb (o .0) 65 (omega (arith, r .1)) in
+    let c : eqb (o .0) none ≡ false = ne-eqb (o .0) none (omega (arith, r .1)) in
     rw (at-ran t l d k s h may, c, one-more (ranFrom t (k + 1) n (o .0) (o .1) .0) n) (at-end t n (k + 1) (o .0) (o .1) (omega arith) (r .1)))
     (λ may. rw (at-barred t l d k s h may, barred-late t l d k s may, lt-ltb 0 (suc n) (omega arith)))
 
@@ -137,16 +137,16 @@ module _ {t l₀ : List ℕ} {k n d₀ : ℕ} {l : List ℕ} {done deep : ℕ} (
   more : done < n → n - done ≡ suc rest
   more h = omega arith
 
-  pub halt : {a : ℕ} {m : List ℕ} → done < n → left a m ≡ executedAt t l (k + done) deep → a ≡ 65 → ranTo done deep m ≡ ranFrom t k n d₀ l₀
+  pub halt : {a : ℕ} {m : List ℕ} → done < n → left a m ≡ executedAt t l (k + done) deep → a ≡ none → ranTo done deep m ≡ ranFrom t k n d₀ l₀
   unfolding ranFrom
   halt {a} {m} h e b =
-      let o : executedAt t l (k + done) deep .0 ≡ 65 = sym (ap (λ (x : Left). x .0) e) ∙ b in
+      let o : executedAt t l (k + done) deep .0 ≡ none = sym (ap (λ (x : Left). x .0) e) ∙ b in
       let may = stops t l deep (k + done) (u .shallow) o in
       let q : m ≡ l = ap (λ (x : Left). x .1) (e ∙ barred-late t l deep (k + done) (u .shallow) may) in
       let z : done + 0 ≡ done = omega arith in
       rw q (rw (more h, o, z) at (u .whole))
 
-  pub turn : {a : ℕ} {m : List ℕ} → done < n → left a m ≡ executedAt t l (k + done) deep → a ≢ 65 → Turn t l₀ k n d₀ m (done + 1) a
+  pub turn : {a : ℕ} {m : List ℕ} → done < n → left a m ≡ executedAt t l (k + done) deep → a ≢ none → Turn t l₀ k n d₀ m (done + 1) a
   unfolding ranFrom
   turn {a} {m} h e b =
       let o : executedAt t l (k + done) deep .0 ≡ a = sym (ap (λ (x : Left). x .0) e) in
@@ -154,7 +154,7 @@ module _ {t l₀ : List ℕ} {k n d₀ : ℕ} {l : List ℕ} {done deep : ℕ} (
       let may = goes t l deep (k + done) (u .shallow) (λ z. b (sym o ∙ z)) in
       let z : k + (done + 1) ≡ k + done + 1 = omega arith in
       record {
-        whole = rw z (sym (one-before done (ranFrom t (k + done + 1) rest a m)) ∙ (rw (more h, o, p, ne-eqb a 65 b) at (u .whole)));
+        whole = rw z (sym (one-before done (ranFrom t (k + done + 1) rest a m)) ∙ (rw (more h, o, p, ne-eqb a none b) at (u .whole)));
         as-long = sym (ap (λ (x : List ℕ). length x) p) ∙ ran-length t l deep (k + done) (u .shallow) may ∙ u .as-long;
         shallow = omega (arith, o, ran-late t l deep (k + done) (u .shallow) may .1);
         within = omega arith;
