@@ -14,18 +14,18 @@ use Rattle.lib_base.proofs.Tools.{by-test, past, through, neither, split}
 use Rattle.lib_word.specs.Word.{get}
 use Rattle.spec_language.specs.Refusals.{foreign}
 use Rattle.spec_language.specs.Rights.{may}
-use Rattle.format_layout.specs.Layout.{eventWord, eventCount, behaviourCount, sendersAt, viewersAt, taken, waitingCount, runningFlag, runningEvent, position, eventAt, tableFits, ours}
-use Rattle.run_queue.specs.Queue.{best, anyAbove}
+use Rattle.format_layout.specs.Layout.{eventWord, eventCount, behaviourCount, sendersAt, viewersAt, taken, waitingCount, runningFlag, runningNumber, runningWord, runningEvent, position, numberAt, eventAt, tableFits, ours}
+use Rattle.run_queue.specs.Queue.{ahead, eitherSlot, better, best, anyAbove}
 use Rattle.format_layout.specs.Round.{CallResult}
 use Rattle.run_start.specs.Start.{startOn}
 use Rattle.run_arrive.specs.Arrivals.{queueFull, arriveWith, arriveKnown, arriveIn, arriveOn}
 use Rattle.run_board.specs.Board.{isMasked, copyBackUnderWay, copyBackOn, boardWith, boardKnown, boardIn, boardOn}
-use Rattle.run_dispatch.specs.Dispatch.{said, startAt, preemptAt}
+use Rattle.run_dispatch.specs.Dispatch.{startAt, preemptAt}
 use Rattle.run_advance.specs.Advance.{commitSaid, countInstruction, executeOn, executeAt, advanceOn}
 use Rattle.run_step.specs.Machine.{whileResting, stepWith, stepIn, stepOn}
 use Rattle.run_step.specs.Sound.{maskedNow, isOutranked, isPreempted}
 use Rattle.run_step.proofs.Rule.{runs}
-use Rattle.run_forecast.specs.Forecast.{forecastOn}
+use Rattle.run_forecast.specs.Forecast.{bound, forecastWith, forecastIn, forecastOn}
 use Rattle.run_carry.specs.Carry.{carryOn}
 use Rattle.run_mend.specs.Mending.{handKnown, verdict, mendWith, mendAfter, mendIn, mendOn}
 use Rattle.back_compile.specs.Statements.{FirstUnmet}
@@ -33,10 +33,11 @@ use Rattle.back_compile.proofs.AcceptedExactly.{refused-unchanged}
 use Rattle.back_compile.proofs.Orders.{need, need-not, need-true, need-false, need-most, need-less, compile-order}
 use Rattle.engine.proofs.Refused as refusals
 use Rattle.engine.proofs.Beyond as beyond
-use Rattle.claims.specs.Demand1.{OurTable, OurRound, arriveOrder, boardOrder, GivesWay, RunsOne, instructionFits, mendOrder, Demand1}
+use Rattle.claims.specs.Demand1.{OurTable, OurRound, arriveOrder, boardOrder, GivesWay, RunsOne, instructionFits, mendOrder, StepGives, is-idle, has-run, has-committed, has-committed-over, has-started, has-broken-in, forecastCount, Demand1}
 use Rattle.claims.proofs.Foreign.{our-table, table-fits, our-round, round-fits, room-says, room-is, declared-says, declared-is}
 use Rattle.claims.proofs.Passives.{passivesPass, passives-say, passives-are, carry-answers}
 use Rattle.claims.proofs.PreviewOrder.{preview-order}
+use Rattle.run_start.proofs.Fresh.{start-fresh}
 
 module _ {X Y : Type 0} where
   need-table : (t : List ℕ) → (tableFits t ≡ false → X) → (tableFits t ≡ true → Y) → ((OurTable t → ⊥) × X) ⊎ (OurTable t × Y)
@@ -80,9 +81,9 @@ mend-order old t l =
     need-false (copyBackUnderWay old l) (λ d. rw (a, b, q, d))
     (λ d. need (handKnown t l) (declared-says t l) (declared-is t l) (λ f. rw (a, b, q, d, f)) (λ f. rw (a, b, q, d, f))))))
 
-forecast-order : (t l : List ℕ) → FirstUnmet ((OurRound t l, foreign) ∷ []) (λ r. 4294967296 ≤ r) (forecastOn t l)
-unfolding forecastOn
-forecast-order t l = need-ours t l (λ a. rw a) (λ a. rw a (omega arith))
+forecast-order : (t l : List ℕ) → FirstUnmet ((OurRound t l, foreign) ∷ []) (λ r. r ≡ 4294967296 + forecastCount t l) (forecastOn t l)
+unfolding forecastOn forecastIn forecastWith bound
+forecast-order t l = need-ours t l (λ a. rw a) (λ a. rw a (split (eqb (runningFlag l) 0) (λ e. rw e) (λ e. rw e)))
 
 -- ---- steps
 
@@ -108,21 +109,30 @@ none-above t l r (suc n) h s =
     omega (arith, z, ltb-false r (eventWord t (eventAt l n) 0) (q .0), s .2))
     (λ e. none-above t l r n (q .1) (s .0, omega (arith, s .1, eqb-false (s .0) n e), s .2))
 
--- an answer that is not 14
-abbrev Taken : CallResult → Type 0
-Taken o = o .0 ≢ foreign
+-- the best of some that wait is one of them
+abbrev aheadOf : List ℕ → List ℕ → ℕ → Bool
+aheadOf t l n = ahead (eventWord t (eventAt l n) 0) (numberAt l n) (eventWord t (eventAt l (best t l n)) 0) (numberAt l (best t l n))
 
-commit-not : (n e w : ℕ) → commitSaid n e w ≢ foreign
-unfolding commitSaid said
-commit-not n e w = by-test (λ (x : ℕ). x ≢ foreign) (eqb w 0) (λ _. omega arith) (λ _. omega arith)
+best-waits : (t l : List ℕ) (n : ℕ) → best t l (suc n) ≤ n
+unfolding best better eitherSlot
+best-waits t l zero = by-test (λ (i : ℕ). i ≤ 0) (aheadOf t l 0) (λ _. omega arith) (λ _. omega arith)
+best-waits t l (suc n) = by-test (λ (i : ℕ). i ≤ suc n) (aheadOf t l (suc n)) (λ _. omega arith) (λ _. omega (arith, best-waits t l n))
 
-start-taken : (l : List ℕ) (b m : ℕ) → Taken (startAt l b m)
-unfolding startAt said
-start-taken l b m = omega arith
+best-below : (t l : List ℕ) (n : ℕ) → n ≢ 0 → best t l n < n
+best-below t l zero h = absurd (h refl)
+best-below t l (suc n) h = omega (arith, best-waits t l n)
 
-preempt-taken : (l : List ℕ) (b : ℕ) → Taken (preemptAt l b)
-unfolding preemptAt said
-preempt-taken l b = omega arith
+-- an answer of a step on l that is not refused
+abbrev Answered : List ℕ → CallResult → Type 0
+Answered l o = StepGives l (o .0)
+
+start-answered : (t l : List ℕ) → runningFlag l ≡ 0 → waitingCount l ≢ 0 → Answered l (startAt l (best t l (waitingCount l)) (waitingCount l - 1))
+unfolding startAt
+start-answered t l f n = has-started (best t l (waitingCount l)) f (best-below t l (waitingCount l) n)
+
+preempt-answered : (t l : List ℕ) → runningFlag l ≢ 0 → waitingCount l ≢ 0 → Answered l (preemptAt l (best t l (waitingCount l)))
+unfolding preemptAt
+preempt-answered t l f n = has-broken-in (best t l (waitingCount l)) f (best-below t l (waitingCount l) n)
 
 module _ (t l : List ℕ) where
   -- the running event is preempted
@@ -151,13 +161,24 @@ module _ (t l : List ℕ) where
   unfolding advanceOn executeAt executeOn
   advance-refused e = rw e
 
-  advance-taken : instructionFits t l ≡ true → Taken (advanceOn t l)
-  unfolding advanceOn executeAt executeOn countInstruction
-  advance-taken e = rw e (by-test Taken (ltb (position l + 1) (eventWord t (runningEvent l) 2)) (λ _. omega arith) (λ _. commit-not _ _ _))
+  commit-answered : (w : ℕ) → runningFlag l ≢ 0 → StepGives l (commitSaid (runningNumber l) (runningWord l) w)
+  unfolding commitSaid
+  commit-answered w f = by-test (StepGives l) (eqb w 0) (λ _. has-committed f) (λ _. has-committed-over f)
 
-  rest-taken : eqb (runningFlag l) 0 ≡ true → Taken (stepIn t l)
+  advance-answered : runningFlag l ≢ 0 → instructionFits t l ≡ true → Answered l (advanceOn t l)
+  unfolding advanceOn executeAt executeOn countInstruction
+  advance-answered f e = rw e (by-test (Answered l) (ltb (position l + 1) (eventWord t (runningEvent l) 2)) (λ _. has-run f) (λ _. commit-answered _ f))
+
+  rest-answered : eqb (runningFlag l) 0 ≡ true → Answered l (stepIn t l)
   unfolding stepIn stepWith whileResting
-  rest-taken e = rw e (by-test Taken (eqb (waitingCount l) 0) (λ _. omega arith) (λ _. start-taken l (best t l (waitingCount l)) (waitingCount l - 1)))
+  rest-answered e =
+      let f = eqb-true (runningFlag l) 0 e in
+      rw e (by-test (Answered l) (eqb (waitingCount l) 0) (λ n. is-idle f (eqb-true (waitingCount l) 0 n))
+      (λ n. start-answered t l f (eqb-false (waitingCount l) 0 n)))
+
+  -- what outranks the running event waits
+  some-wait : runningFlag l ≢ 0 → way ≡ true → waitingCount l ≢ 0
+  some-wait f o z = let i = gives-way f o .1 in omega (arith, i .1)
 
   -- what a step would run may run
   abbrev StepFits : Type 0
@@ -165,28 +186,28 @@ module _ (t l : List ℕ) where
 
   -- the running event goes on: its instruction decides
   advance-order : runningFlag l ≢ 0 → way ≡ false
-      → ((StepFits → ⊥) × (stepIn t l .0 ≡ foreign)) ⊎ (StepFits × Taken (stepIn t l))
+      → ((StepFits → ⊥) × (stepIn t l .0 ≡ foreign)) ⊎ (StepFits × Answered l (stepIn t l))
   advance-order f o =
       let q : advanceOn t l ≡ stepIn t l = sym (runs t l f ∙ rw o) in
       need (instructionFits t l) (λ e _. e) (λ h. h (f, goes-first f o))
       (λ e. subst (λ (r : CallResult). r .0 ≡ foreign) q (advance-refused e))
-      (λ e. subst Taken q (advance-taken e))
+      (λ e. subst (Answered l) q (advance-answered f e))
 
   -- it gives way: what preempts it starts
-  preempted-taken : runningFlag l ≢ 0 → way ≡ true → Taken (stepIn t l)
-  preempted-taken f o =
+  preempted-answered : runningFlag l ≢ 0 → way ≡ true → Answered l (stepIn t l)
+  preempted-answered f o =
       let q : preemptAt l (best t l (waitingCount l)) ≡ stepIn t l = sym (runs t l f ∙ rw o) in
-      subst Taken q (preempt-taken l (best t l (waitingCount l)))
+      subst (Answered l) q (preempt-answered t l f (some-wait f o))
 
-  step-order : FirstUnmet ((OurRound t l, foreign) ∷ (StepFits, foreign) ∷ []) (λ r. r ≢ foreign) (stepOn t l .0)
+  step-order : FirstUnmet ((OurRound t l, foreign) ∷ (StepFits, foreign) ∷ []) (λ r. StepGives l r) (stepOn t l .0)
   unfolding stepOn
   step-order =
       need-ours t l (λ a. rw a)
       (λ a. rw a (split (eqb (runningFlag l) 0)
-      (λ b. inr (λ h. absurd (h .0 (eqb-true (runningFlag l) 0 b)), rest-taken b))
+      (λ b. inr (λ h. absurd (h .0 (eqb-true (runningFlag l) 0 b)), rest-answered b))
       (λ b. let f = eqb-false (runningFlag l) 0 b in
       split way
-      (λ o. inr (λ h. absurd (h .1 (gives-way f o)), preempted-taken f o))
+      (λ o. inr (λ h. absurd (h .1 (gives-way f o)), preempted-answered f o))
       (λ o. advance-order f o))))
 
 pub demand-1 : Demand1
@@ -204,6 +225,7 @@ demand-1 = record {
   arrive-unchanged = refusals.arrive-refused;
   step-unchanged = refusals.step-refused;
   mend-unchanged = refusals.mend-refused;
+  start-fresh = start-fresh;
   compile-beyond = beyond.compile-beyond;
   start-beyond = beyond.start-beyond;
   arrive-beyond = beyond.arrive-beyond;

@@ -1,3 +1,4 @@
+pub mod Quotients
 pub mod Foreign
 pub mod Passives
 pub mod PreviewOrder

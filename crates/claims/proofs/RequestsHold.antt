@@ -6,10 +6,9 @@ use mathlib.Core.List.{List, [], _∷_, map}
 use mathlib.Core.Option.{none, some}
 use native.Mathlib.Omega.{arith}
 use lib.ListN.{length, getD, replicate, length-replicate}
-use Rattle.lib_arith.proofs.FloorLaws.{floor-at-most, floor-next-above, floor-at-least, floor-next-below, floor-by-zero}
 use Rattle.lib_arith.specs.Functions.{exact, result}
 use Rattle.spec_language.specs.Dependence.{events}
-use Rattle.spec_language.specs.Sheet.{Sheet, Entry, allowed, viewersOf, fill, rowsOut}
+use Rattle.spec_language.specs.Sheet.{Sheet, Signal, Entry, allowed, viewersOf, fill, rowsOut}
 use Rattle.spec_language.specs.Rights.{may, maySee}
 use Rattle.spec_language.proofs.SheetLaws.{param-size}
 use Rattle.spec_grammar.proofs.Programs.{reads-back, reads-only, encode-injective}
@@ -29,9 +28,17 @@ use Rattle.check_circle.specs.Witness.{ListAnswer}
 use Rattle.check_circle.proofs.Shown.{shown}
 use Rattle.engine.specs.Demand.{CodeIn}
 use Rattle.engine.proofs.Holds.{whole}
+use Rattle.spec_execution.proofs.CodeRight.{code-facts}
+use Rattle.refine_calls.proofs.Refines.{valid}
+use Rattle.spec_language.specs.Reading.{signal}
+use lib.Dec.{eqb}
+use borrow.Author.Tests.{eqb-true, eq-eqb}
+use Rattle.lib_base.proofs.Tools.{through}
+use Rattle.link_pooled.specs.Pooled.{sameRanks}
 use Rattle.link_join.proofs.JoinLaws as joins
 use Rattle.link_join.proofs.Says.{join-says, join-kept}
 use Rattle.link_join.proofs.Limits.{pooled-number}
+use Rattle.claims.proofs.Quotients as quotients
 use Rattle.claims.specs.Requests.{sentViewer, AcceptedExactly, HalvesGoDown, Parameters, Formulas, Rights, Circles, PaperOrder, Rows, Pooling}
 
 pub exactly : AcceptedExactly
@@ -46,11 +53,11 @@ exactly = record {
 pub halves-go-down : HalvesGoDown
 unfolding result exact
 halves-go-down = record {
-  at-most = floor-at-most;
-  next-above = floor-next-above;
-  at-least = floor-at-least;
-  next-below = floor-next-below;
-  by-zero = floor-by-zero;
+  at-most = quotients.at-most;
+  next-above = quotients.next-above;
+  at-least = quotients.at-least;
+  next-below = quotients.next-below;
+  by-zero = quotients.by-zero;
   minus-seven-by-two = refl;
   seven-by-minus-two = refl;
   seven-by-two = refl;
@@ -114,6 +121,7 @@ paper-order = record {
         accepted-compiles (programOf ps x) (program-accepted ps bp x a) e h,
         subst (λ (y : Sheet). e < events (programOf ps y) → CodeIn (programOf ps y) (compileOn s ps t .1) e) (sym same) (w .code e) h,
       );
+  counted = λ ps b x a e h. code-facts (programOf ps x) (valid (programOf ps x) (program-accepted ps b x a)) .counted e h;
   first-acyclic = derived-acyclic;
   second-acyclic = second-acyclic;
 }
@@ -121,8 +129,26 @@ paper-order = record {
 pub rows : Rows
 rows = record { written-out = as-rows }
 
+-- ---- 26
+
+ranks-say : (k l : List Signal) → sameRanks k l ≡ true → (e : ℕ) → e < length k → e < length l → getD k e (signal 0 none) .priority ≡ getD l e (signal 0 none) .priority
+unfolding sameRanks
+ranks-say [] l h e a b = absurd (omega arith)
+ranks-say (x ∷ k) [] h e a b = absurd (omega arith)
+ranks-say (x ∷ k) (y ∷ l) h zero a b = eqb-true (x .priority) (y .priority) (through (eqb (x .priority) (y .priority)) (sameRanks k l) h .0)
+ranks-say (x ∷ k) (y ∷ l) h (suc e) a b = ranks-say k l (through (eqb (x .priority) (y .priority)) (sameRanks k l) h .1) e (omega arith) (omega arith)
+
+ranks-are : (k l : List Signal) → ((e : ℕ) → e < length k → e < length l → getD k e (signal 0 none) .priority ≡ getD l e (signal 0 none) .priority) → sameRanks k l ≡ true
+unfolding sameRanks
+ranks-are [] l h = refl
+ranks-are (x ∷ k) [] h = refl
+ranks-are (x ∷ k) (y ∷ l) h =
+    let q : eqb (x .priority) (y .priority) ≡ true = eq-eqb (x .priority) (y .priority) (h 0 (omega arith) (omega arith)) in
+    rw q (ranks-are k l (λ e a b. h (suc e) (omega arith) (omega arith)))
+
 pub pooling : Pooling
 pooling = record {
+  like-ranks = λ x y. (ranks-say (x .signals) (y .signals), ranks-are (x .signals) (y .signals));
   first-refused = λ s z ps buffer h. sym (joins.first-refused s z ps buffer (numberOn s ps) 0 refl h);
   second-refused = λ s z ps buffer e h. sym (joins.second-refused s z ps buffer (numberOn s ps) (numberOn z ps) refl e refl h);
   answer = λ ps buffer b x y ok also. join-says ps buffer b x y ok also .order;

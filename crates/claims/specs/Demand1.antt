@@ -8,7 +8,7 @@ use mathlib.Core.Path.{_≡_}
 use mathlib.Core.Logic.{_≢_, _⊎_}
 use mathlib.Core.List.{List, [], _∷_}
 use lib.Dec.{ltb, eqb}
-use lib.ListN.{length, take, replicate}
+use lib.ListN.{length, take, drop, replicate}
 use Rattle.lib_base.specs.Basics.{pick, All}
 use Rattle.lib_word.specs.Word.{get}
 use Rattle.lib_arith.specs.Functions.{arity}
@@ -16,13 +16,15 @@ use Rattle.spec_language.specs.Refusals.{shortTable, longProgram, foreign, noPl
 use Rattle.spec_language.specs.Reading.{readSheet}
 use Rattle.spec_language.specs.Rights.{may}
 use Rattle.spec_model.specs.Model.{arrive, step}
-use Rattle.format_layout.specs.Layout.{eventWord, eventCount, behaviourCount, sendersAt, viewersAt, passivesStart, passivesLength, eventOf, playerOf, taken, waitingCount, runningFlag, runningWord, runningEvent, position, depth, wordAt, eventAt}
+use Rattle.format_layout.specs.Layout.{eventWord, eventCount, behaviourCount, sendersAt, viewersAt, passivesStart, passivesLength, eventOf, playerOf, taken, waitingCount, runningFlag, runningNumber, runningWord, runningEvent, position, depth, numberAt, wordAt, eventAt}
 use Rattle.run_instruction.specs.Allowed.{mayRun}
 use Rattle.run_start.specs.Start.{startOn}
 use Rattle.run_arrive.specs.Arrivals.{arriveOn}
 use Rattle.run_board.specs.Board.{isMasked, copyBackUnderWay, boardOn}
+use Rattle.run_dispatch.specs.Dispatch.{saidOf}
+use Rattle.run_advance.specs.Advance.{overMark}
 use Rattle.run_step.specs.Machine.{stepOn}
-use Rattle.run_forecast.specs.Forecast.{longestIn, forecastOn}
+use Rattle.run_forecast.specs.Forecast.{stepsIn, longestIn, forecastOn}
 use Rattle.run_preview.specs.Preview.{previewOn}
 use Rattle.run_mend.specs.Mending.{mendOn}
 use Rattle.back_compile.specs.Verdict.{compileOn}
@@ -142,6 +144,25 @@ PreviewEnds t l e i who r =
     ((n : ℕ) × (n ≤ countToIdle t (copyAfter t l e who 0)) × (stepOn t (copyAfter t l e who n) .0 ≡ 0) × (r ≡ 4294967296 + get (copyAfter t l e who n) (136 + i)))
     ⊎ (((n : ℕ) → n ≤ countToIdle t (copyAfter t l e who 0) → stepOn t (copyAfter t l e who n) .0 ≢ 0) × (r ≡ foreign))
 
+-- ---- what a step that is not refused answers: one of 01's five, and where one starts or commits, the number, event
+-- and player of an arrival in hand; 2 ^ 56 more where a commit carries M-104's mark
+
+pub data StepGives (l : List ℕ) : ℕ → Type 0 where
+  -- "else idle": nothing is in hand
+  is-idle : runningFlag l ≡ 0 → waitingCount l ≡ 0 → StepGives l 0
+  -- "something runs: one instruction", and the one that commits it
+  has-run : runningFlag l ≢ 0 → StepGives l 1
+  has-committed : runningFlag l ≢ 0 → StepGives l (saidOf 3 (runningNumber l) (runningWord l))
+  has-committed-over : runningFlag l ≢ 0 → StepGives l (overMark + saidOf 3 (runningNumber l) (runningWord l))
+  -- "something waits: the next starts"; it breaks in where something runs
+  has-started : (i : ℕ) → runningFlag l ≡ 0 → i < waitingCount l → StepGives l (saidOf 2 (numberAt l i) (wordAt l i))
+  has-broken-in : (i : ℕ) → runningFlag l ≢ 0 → i < waitingCount l → StepGives l (saidOf 4 (numberAt l i) (wordAt l i))
+
+-- ---- M-100: "with nothing running .. the sum, over the hand, of each event's instruction count plus one"; "While
+-- something runs, that call gives 01's bound.": the count that a preview's steps end by
+abbrev pub forecastCount : List ℕ → List ℕ → ℕ
+forecastCount t l = pick (eqb (runningFlag l) 0) (stepsIn t l (waitingCount l)) (countToIdle t l)
+
 pub record Demand1 : Type 0 where
   -- "A call is refused by the conditions and order of document 01": what it needs, in this order; "Every other call ..
   -- is accepted": 0
@@ -151,14 +172,14 @@ pub record Demand1 : Type 0 where
   -- "Start: 14 for the two lengths and the table only"
   pub start-order : (t l : List ℕ) → FirstUnmet ((OurTable t, foreign) ∷ (2048 ≤ length l, foreign) ∷ []) (λ r. r ≡ 0) (startOn t l .0)
   pub arrive-order : (t l : List ℕ) (e who : ℕ) → FirstUnmet (arriveOrder t l e who) (λ r. r ≡ 0) (arriveOn t l e who .0)
-  -- "Step: 14."; one that is accepted answers what it did
+  -- "Step: 14."; one that is accepted answers what it did, of an arrival that was in hand
   pub step-order : (t l : List ℕ)
-      → FirstUnmet ((OurRound t l, foreign) ∷ (RunsOne t l → instructionFits t l ≡ true, foreign) ∷ []) (λ r. r ≢ foreign) (stepOn t l .0)
+      → FirstUnmet ((OurRound t l, foreign) ∷ (RunsOne t l → instructionFits t l ≡ true, foreign) ∷ []) (λ r. StepGives l r) (stepOn t l .0)
   -- 2 ^ 32 and the word
   pub board-order : (t l : List ℕ) (i who : ℕ) → FirstUnmet (boardOrder t l i who) (λ r. r ≡ 4294967296 + get l (136 + i)) (boardOn t l i who)
   pub mend-order : (old t l : List ℕ) → FirstUnmet (mendOrder old t l) (λ r. r ≡ 0) (mendOn old t l .0)
   -- M-100: "refused by 14 only", else 2 ^ 32 and the steps
-  pub forecast-order : (t l : List ℕ) → FirstUnmet ((OurRound t l, foreign) ∷ []) (λ r. 4294967296 ≤ r) (forecastOn t l)
+  pub forecast-order : (t l : List ℕ) → FirstUnmet ((OurRound t l, foreign) ∷ []) (λ r. r ≡ 4294967296 + forecastCount t l) (forecastOn t l)
   -- M-101: "turned down as the arrival would be, then by 18, and last by 14"; M-107: 25 after 18
   pub preview-order : (t l : List ℕ) (e i who : ℕ)
       → FirstUnmet
@@ -171,6 +192,8 @@ pub record Demand1 : Type 0 where
   pub arrive-unchanged : (t l : List ℕ) (e who : ℕ) → arriveOn t l e who .0 ≢ 0 → arriveOn t l e who .1 ≡ l
   pub step-unchanged : (t l : List ℕ) → stepOn t l .0 ≡ foreign → stepOn t l .1 ≡ l
   pub mend-unchanged : (old t l : List ℕ) → mendOn old t l .0 ≢ 0 → mendOn old t l .1 ≡ l
+  -- "the round's old bytes are not read": rounds of one length, alike beyond 2,048 bytes, start as the same bytes
+  pub start-fresh : (t l m : List ℕ) → length l ≡ length m → drop 2048 l ≡ drop 2048 m → startOn t l .0 ≡ 0 → startOn t l .1 ≡ startOn t m .1
   -- "bytes beyond these are untouched": 34,816 of a table, 2,048 of a round
   pub compile-beyond : (s ps t : List ℕ) → All (λ b. b < 256) s → All (λ b. b < 256) ps → UntouchedFrom 34816 t (compileOn s ps t .1)
   pub start-beyond : (t l : List ℕ) → UntouchedFrom 2048 l (startOn t l .1)

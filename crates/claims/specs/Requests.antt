@@ -6,19 +6,20 @@ use mathlib.Core.Path.{_≡_}
 use mathlib.Core.Logic.{_≢_, _⊎_}
 use mathlib.Core.List.{List, [], _++_, map}
 use mathlib.Core.Option.{Option, none, some}
-use lib.IntN.{ℤ, pos, negsuc, _+ℤ_, _*ℤ_}
+use lib.IntN.{pos, _+ℤ_, _*ℤ_}
 use lib.Signed.{_≤ℤ_, _<ℤ_}
 use lib.ListN.{length, getD, drop}
 use Rattle.lib_base.specs.Basics.{All}
 use Rattle.lib_word.specs.Word.{get}
-use Rattle.lib_arith.specs.Functions.{floorZ, result}
+use Rattle.lib_arith.specs.Exact.{signed}
+use Rattle.lib_arith.specs.Functions.{result}
 use Rattle.spec_language.specs.Syntax.{Expr, Program}
 use Rattle.spec_language.specs.Dependence.{events, Acyclic}
 use Rattle.spec_language.specs.Sheet.{Sheet, Entry, param, fillTerm, fill, writtenOut, rowsOut, paramsOfEntries}
 use Rattle.spec_language.specs.Reading.{got, signal, readSheet}
 use Rattle.spec_language.specs.Grammar.{encode, SheetFits}
 use Rattle.spec_language.specs.Accepted.{Known, SheetAccepted}
-use Rattle.spec_language.specs.Code.{sizeOf}
+use Rattle.spec_language.specs.Code.{code, sizeOf, instructions}
 use Rattle.spec_language.specs.Rights.{may, maySend, maySee}
 use Rattle.format_image.specs.Image.{tableOf}
 use Rattle.text_formula.specs.Grammar.{Formula}
@@ -30,7 +31,7 @@ use Rattle.back_compile.specs.Statements.{FirstUnmet, Given, AsRows}
 use Rattle.back_figure3.specs.Figure3.{Assign, FirstPhaseRule, SecondPhaseRule, everyBehaviour, PassivesAcyclic, HandlerCode}
 use Rattle.engine.specs.Demand.{CodeIn}
 use Rattle.check_circle.specs.Witness.{CircleListed, Witnessed}
-use Rattle.link_pooled.specs.Pooled.{pooled}
+use Rattle.link_pooled.specs.Pooled.{pooled, sameRanks}
 use Rattle.link_join.specs.Join.{joined, joinOn}
 use Rattle.link_join.specs.Statements.{limits, JoinOrder}
 
@@ -55,14 +56,15 @@ pub record AcceptedExactly : Type 0 where
 -- ---- M-102: halves go down
 
 pub record HalvesGoDown : Type 0 where
-  -- "A quotient with a fraction goes to the next whole number below": q of n / d with q * d at most n, and (q + 1) * d
-  -- above it, for d above zero; the other way round below
-  pub at-most : (n : ℤ) (d : ℕ) → 0 < d → (floorZ n (pos d) *ℤ pos d) ≤ℤ n
-  pub next-above : (n : ℤ) (d : ℕ) → 0 < d → n <ℤ ((floorZ n (pos d) +ℤ pos 1) *ℤ pos d)
-  pub at-least : (n : ℤ) (b : ℕ) → n ≤ℤ (floorZ n (negsuc b) *ℤ negsuc b)
-  pub next-below : (n : ℤ) (b : ℕ) → ((floorZ n (negsuc b) +ℤ pos 1) *ℤ negsuc b) <ℤ n
+  -- "A quotient with a fraction goes to the next whole number below": of words a and b as signed numbers, b above zero,
+  -- the quotient times b is at most a, and one more is too much
+  pub at-most : (a b c : ℕ) → a < 2 ^ 32 → 0 < b → b < 2 ^ 31 → (signed (result 7 a b c) *ℤ signed b) ≤ℤ signed a
+  pub next-above : (a b c : ℕ) → a < 2 ^ 32 → 0 < b → b < 2 ^ 31 → signed a <ℤ ((signed (result 7 a b c) +ℤ pos 1) *ℤ signed b)
+  -- the other way round for b below zero, unless the quotient is 2,147,483,648
+  pub at-least : (a b c : ℕ) → a < 2 ^ 32 → 2 ^ 31 ≤ b → b < 2 ^ 32 → (a ≢ 2 ^ 31) ⊎ (b ≢ 2 ^ 32 - 1) → signed a ≤ℤ (signed (result 7 a b c) *ℤ signed b)
+  pub next-below : (a b c : ℕ) → a < 2 ^ 32 → 2 ^ 31 ≤ b → b < 2 ^ 32 → (a ≢ 2 ^ 31) ⊎ (b ≢ 2 ^ 32 - 1) → ((signed (result 7 a b c) +ℤ pos 1) *ℤ signed b) <ℤ signed a
   -- "By zero still gives 0"
-  pub by-zero : (n : ℤ) → floorZ n (pos 0) ≡ pos 0
+  pub by-zero : (a c : ℕ) → result 7 a 0 c ≡ 0
   -- "so −7 / 2 is −4 and 7 / −2 is −4; 7 / 2 stays 3", "and −2,147,483,648 / −1 still wraps to itself", as words
   pub minus-seven-by-two : result 7 (2 ^ 32 - 7) 2 0 ≡ 2 ^ 32 - 4
   pub seven-by-minus-two : result 7 7 (2 ^ 32 - 2) 0 ≡ 2 ^ 32 - 4
@@ -139,6 +141,9 @@ pub record PaperOrder : Type 0 where
   -- copy-back's in a row": of the table that compile leaves, for every accepted sheet and each event
   pub in-the-table : (s ps t : List ℕ) → AreBytes s → AreBytes ps → (x : Sheet) → encode x ≡ s → SheetAccepted (get ps) (length ps) x → 34816 ≤ length t → (e : ℕ) → e < events (programOf ps x)
       → HandlerCode (programOf ps x) e × CodeIn (programOf ps x) (compileOn s ps t .1) e
+  -- "So an event has 4 + 2 × (members of C) + .." instructions: of every such sheet and each event
+  pub counted : (ps : List ℕ) → AreBytes ps → (x : Sheet) → SheetAccepted (get ps) (length ps) x → (e : ℕ) → e < events (programOf ps x)
+      → length (code (programOf ps x) e) ≡ instructions (programOf ps x) e
   -- "the check on dependence": no first phase is derived for an event with a circle, and no second one where passives
   -- are in one
   pub first-acyclic : (p : Program) (e : ℕ) {A : List Assign} → FirstPhaseRule p e (everyBehaviour p) A → Acyclic p e
@@ -153,7 +158,14 @@ pub record Rows : Type 0 where
 
 -- ---- M-111: pool two sheets (each half of the joined board: link_halves)
 
+-- an event that both sheets declare has one rank
+abbrev pub LikeRanks : Sheet → Sheet → Type 0
+LikeRanks x y =
+    (e : ℕ) → e < length (x .signals) → e < length (y .signals) → getD (x .signals) e (signal 0 none) .priority ≡ getD (y .signals) e (signal 0 none) .priority
+
 pub record Pooling : Type 0 where
+  -- "26 when the sheets give one event different ranks": what `JoinOrder` asks first is that none does
+  pub like-ranks : (x y : Sheet) → (sameRanks (x .signals) (y .signals) ≡ true → LikeRanks x y) × (LikeRanks x y → sameRanks (x .signals) (y .signals) ≡ true)
   -- "A sheet that compile turns down gives compile's number, the first sheet's before the second's"
   pub first-refused : (s z ps buffer : List ℕ) → numberOn s ps ≢ 0 → joinOn s z ps buffer ≡ joined (numberOn s ps) buffer
   pub second-refused : (s z ps buffer : List ℕ) → numberOn s ps ≡ 0 → numberOn z ps ≢ 0 → joinOn s z ps buffer ≡ joined (numberOn z ps) buffer

@@ -113,7 +113,7 @@ fresh-same : (t l m : List ℕ) → length l ≡ length m → drop 2048 l ≡ dr
 unfolding freshBytes image
 fresh-same t l m e d = rw (cleared-same l m e d)
 
-start-fresh : (t l m : List ℕ) → length l ≡ length m → drop 2048 l ≡ drop 2048 m → startOn t l .0 ≡ 0 → startOn t l .1 ≡ startOn t m .1
+pub start-fresh : (t l m : List ℕ) → length l ≡ length m → drop 2048 l ≡ drop 2048 m → startOn t l .0 ≡ 0 → startOn t l .1 ≡ startOn t m .1
 unfolding startOn
 start-fresh t l m e d =
     split (tableFits t)
