@@ -1,1 +1,2 @@
 pub mod LeakLaws
+pub mod Examples
