@@ -194,6 +194,16 @@ static void judge(const struct sheet *s)
         printf("no behaviour that player 2 sees depends on one that is hidden from it\n");
 }
 
+/* Before a round: the other phone's table, of the sheet and parameters that it has, is the same program. An app sends a
+ * sum of the bytes. */
+static void compare(const struct match *m, const struct sheet *other)
+{
+    static uint8_t table[ENGINE_TABLE];
+
+    if (engine_compile(other->bytes, other->len, no_params, sizeof no_params, table, sizeof table) == 0)
+        printf("both phones have the same program: %s\n", engine_same_table(m->table, table) ? "yes" : "no");
+}
+
 /* Saved while an event runs, closed, and gone on with. */
 static void save_and_load(struct match *m, const char *path)
 {
@@ -228,6 +238,7 @@ int main(int argc, char **argv)
     puzzle(&day);
     stop_if(match_open(&m, &day, no_params), "the day's puzzle");
     describe(&m);
+    compare(&m, &day);
     judge(&day);
     send(&m, TURN, 2);
     send(&m, BONUS, 2);

@@ -239,6 +239,16 @@ impl Set {
         bench.row("arrive", input, 1, self.three::<8>(ours, plain, hand));
     }
 
+    /// The next entry of an order, and what is taken in; of the plain engine on the bytes.
+    fn deliver_rows(&self, bench: &Bench, input: &str) {
+        let next = words::get(&self.round, 0);
+        let ours = move |t: &[u8], l: &mut [u8]| proved::deliver(t, l, next, 0, HOST, &mut [0; 8]);
+        bench.row("deliver", input, 1, [Some(self.bytes::<ROUND>(ours)), None, None]);
+        let ours = |t: &[u8], l: &mut [u8]| proved::taken(t, l);
+        let plain = |t: &[u8], l: &mut [u8]| words::taken(t, l);
+        bench.row("taken", input, 1, [Some(self.bytes::<0>(ours)), Some(self.bytes::<0>(plain)), None]);
+    }
+
     fn board_row(&self, bench: &Bench, input: &str) {
         let ours = |t: &[u8], l: &mut [u8]| proved::board(t, l, 0, 1);
         let hand = |t: &[u8], l: &mut [u8]| byhand::board(t, l, 0, 1);
@@ -427,6 +437,9 @@ fn round_rows(bench: &Bench) {
     one(0).arrive_row(bench, "one event, nothing in hand");
     one(62).arrive_row(bench, "one event, 62 wait");
     wide(63).arrive_row(bench, "63 wait, 32 events");
+    game(3).deliver_rows(bench, "a game, 3 in hand");
+    wide(64).deliver_rows(bench, "64 wait, 32 events");
+    set(&cases::longest(4), &arrivals(64, 0)).deliver_rows(bench, "64 wait, an event as long as can be");
     game(3).board_row(bench, "a game, 3 wait");
     one(0).board_row(bench, "one event, nothing in hand");
     one(62).board_row(bench, "one event, 62 wait");
@@ -524,6 +537,10 @@ fn agree<'a>(s: &'a [u8]) -> Runner<'a> {
     repeat(move || proved::agree(s, &[0; 32]))
 }
 
+fn agree_for<'a>(s: &'a [u8]) -> Runner<'a> {
+    repeat(move || proved::agree_for(s, &[0; 32], 0))
+}
+
 fn leak<'a>(s: &'a [u8]) -> Runner<'a> {
     repeat(move || proved::leak(s, &[0; 32], 1))
 }
@@ -598,6 +615,14 @@ fn sheet_rows(bench: &Bench) {
         let packed = |c: (usize, usize, usize)| 29 + ((c.0 as u64) << 8) + ((c.1 as u64) << 16) + ((c.2 as u64) << 24);
         let plain = plain_sheet(&s, move |sheet| sheet.clash().map_or(0, packed));
         bench.row("agree", &of_bytes(&input, &s), 1, [Some(agree(&s)), Some(plain), None]);
+    }
+    for (input, s) in [typical(), find(agree_for)].concat() {
+        let packed = |c: (usize, usize, usize)| 29 + ((c.0 as u64) << 8) + ((c.1 as u64) << 16) + ((c.2 as u64) << 24);
+        let plain = plain_sheet(&s, move |sheet| match sheet.behaviours.len() {
+            0 => 18,
+            _ => sheet.clash_for(0).map_or(0, packed),
+        });
+        bench.row("agree_for", &of_bytes(&input, &s), 1, [Some(agree_for(&s)), Some(plain), None]);
     }
     for (input, s) in [typical(), find(leak)].concat() {
         let packed = |c: (usize, usize)| 30 + ((c.0 as u64) << 8) + ((c.1 as u64) << 16);

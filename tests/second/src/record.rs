@@ -39,6 +39,9 @@ const CALLS: &[(&str, &str)] = &[
     ("event_rank", "rn"),
     ("frame", "rwnw"),
     ("agree", "rr"),
+    ("agree_for", "rrn"),
+    ("deliver", "rwnnnw"),
+    ("taken", "rr"),
     ("leak", "rrn"),
     ("assemble", "rw"),
     ("describe", "rw"),
@@ -164,7 +167,7 @@ impl Record {
         let number = match name {
             "told" | "replay" | "version" | "frame" => false,
             "step" => answer == 14,
-            "circle" | "agree" | "leak" => answer % 256 != 0,
+            "circle" | "agree" | "agree_for" | "leak" => answer % 256 != 0,
             "assemble" => answer >> 56 != 0,
             _ => (1..1 << 32).contains(&answer),
         };
@@ -198,6 +201,22 @@ impl Record {
             self.keep(COMMITS);
         }
         self.call("frame", &[Part(TABLES, r.below(TABLE)), on[1], Number(9), Whole(COMMITS)]);
+        self.keep(ROUNDS);
+    }
+
+    /// Entries of an order, most under their number, more than the hand has places for, with room for a commit or not.
+    fn deliveries(&mut self, r: &mut Rng, sheet: &Sheet) {
+        self.fresh(r);
+        let on = [Whole(TABLES), Whole(ROUNDS)];
+        self.fill(COMMITS, 8 + r.below(9), 0x3C);
+        for _ in 0..90 {
+            let next = self.call("taken", &on) as u32;
+            let number = if r.one_in(9) { r.below(100) as u32 } else { next };
+            let e = r.below(sheet.ranks.len() + 1) as u32;
+            let room = if r.one_in(5) { Part(COMMITS, r.below(8)) } else { Whole(COMMITS) };
+            self.call("deliver", &[on[0], on[1], Number(number), Number(e), Number(make::player(r) % 9), room]);
+        }
+        self.keep(COMMITS);
         self.keep(ROUNDS);
     }
 
@@ -399,6 +418,7 @@ impl Record {
         self.fill(BUFFER, 8192, 0);
         self.call("circle", &[Whole(SHEET), Whole(PARAMS), Whole(LIST)]);
         self.call("agree", &[Whole(SHEET), Whole(PARAMS)]);
+        self.call("agree_for", &[Whole(SHEET), Whole(PARAMS), Number(0)]);
         self.call("leak", &[Whole(SHEET), Whole(PARAMS), Number(1)]);
         self.call("join", &[Whole(SHEET), Part(SHEET, 0), Whole(PARAMS), Whole(BUFFER)]);
         self.call("compile", &[Whole(SHEET), Whole(PARAMS), Whole(TABLES)]);
@@ -418,6 +438,9 @@ impl Record {
             self.call("arrive", &[on[0], on[1], Number(k % 2), Number(0)]);
         }
         self.call("preview", &[on[0], on[1], Number(0), Number(0), Number(0)]);
+        self.fill(COMMITS, 80, 0);
+        self.call("taken", &on);
+        self.call("deliver", &[on[0], on[1], Number(64), Number(0), Number(0), Whole(COMMITS)]);
         for _ in 0..3000 {
             self.call("step", &on);
         }
@@ -446,6 +469,9 @@ impl Record {
         self.call("circle", &[Whole(SHEET), Whole(PARAMS), Whole(LIST)]);
         self.keep(LIST);
         self.call("agree", &[Whole(SHEET), Whole(PARAMS)]);
+        for b in 0..5 {
+            self.call("agree_for", &[Whole(SHEET), Whole(PARAMS), Number(b)]);
+        }
         for player in 0..9 {
             self.call("leak", &[Whole(SHEET), Whole(PARAMS), Number(player)]);
         }
@@ -455,6 +481,7 @@ impl Record {
         let Ok(sheet) = engine::compile(&bytes, &self.slots[PARAMS]) else { return };
         self.counts(r, Whole(TABLES));
         self.frames(r, &sheet);
+        self.deliveries(r, &sheet);
         self.fresh(r);
         let n = if r.one_in(20) { 3000 } else { 300 };
         self.list(r, &sheet, n);
@@ -494,6 +521,12 @@ fn made(name: &str, r: &[&[u8]], w: &mut [&mut [u8]], n: &[u64]) -> u64 {
             proved::frame(r[0], round[0], word(0), commits[0])
         }
         "agree" => proved::agree(r[0], r[1]),
+        "agree_for" => proved::agree_for(r[0], r[1], word(0)),
+        "deliver" => {
+            let (round, commits) = w.split_at_mut(1);
+            proved::deliver(r[0], round[0], word(0), word(1), word(2), commits[0])
+        }
+        "taken" => proved::taken(r[0], r[1]),
         "leak" => proved::leak(r[0], r[1], word(0)),
         "assemble" => proved::assemble(r[0], w[0]),
         "describe" => proved::describe(r[0], w[0]),
