@@ -160,6 +160,23 @@ static inline uint32_t engine_agree_behaviour(uint64_t answer) { return (uint32_
 uint64_t engine_agree_for(const uint8_t *sheet, size_t sheet_len, const uint8_t *params, size_t params_len,
                           uint32_t behaviour);
 
+/* What two events share: compile's number, as with a full table; 15 where either is not declared; 0 where they are
+ * independent, whatever their ranks; else 2^32, a behaviour and flags: the least at which they meet, else the least that
+ * one writes and the other reads or writes. */
+uint64_t engine_pair(const uint8_t *sheet, size_t sheet_len, const uint8_t *params, size_t params_len,
+                     uint32_t first, uint32_t second);
+
+#define ENGINE_PAIR_FIRST_WRITES 1u
+#define ENGINE_PAIR_SECOND_WRITES 2u
+#define ENGINE_PAIR_FIRST_READS 4u
+#define ENGINE_PAIR_SECOND_READS 8u
+#define ENGINE_PAIR_BOTH_ADD 16u
+#define ENGINE_PAIR_MEET 32u
+static inline uint32_t engine_pair_number(uint64_t answer) { return answer >> 32 ? 0 : (uint32_t)answer; }
+static inline int engine_pair_dependent(uint64_t answer) { return answer >> 32 != 0; }
+static inline uint32_t engine_pair_behaviour(uint64_t answer) { return (uint32_t)(answer & 0xFF); }
+static inline uint32_t engine_pair_flags(uint64_t answer) { return (uint32_t)(answer >> 8 & 0xFF); }
+
 /* Whether what a player sees may depend on what is hidden from it: compile's number, as with a full table; 24; 0 where
  * no behaviour that the player sees depends on a hidden one, so that its answers are the same whatever the start values
  * of hidden behaviours are; else 30 with the least that it sees and that names a hidden one, and the least hidden one

@@ -28,7 +28,8 @@ TOP = "crates/claims/specs/Claims.antt"
 CONTRACTS = "crates/engine/src/lib.rt"
 REVIEW = "docs/REVIEW.md"
 CALLS = (
-    "compile start arrive step board forecast preview mend formula join frame agree agreeFor leak assemble describe"
+    "compile start arrive step board forecast preview mend formula join frame agree agreeFor pair leak assemble"
+    " describe"
     " eventCount behaviourCount eventRank deliver taken"
 )
 NAMES_ONLY = {f"{call}On" for call in CALLS.split()} | {"tableOf"}

@@ -8,6 +8,7 @@ ghost use Rattle.back_compile.specs.Verdict.{compiled, compileOn};
 ghost use Rattle.check_circle.specs.Witness.{Witnessed};
 ghost use Rattle.check_agree.specs.Agree.{agreeOn};
 ghost use Rattle.check_agree_for.specs.AgreeFor.{agreeForOn};
+ghost use Rattle.check_pair.specs.Pair.{pairOn};
 ghost use Rattle.check_leak.specs.Leak.{leakOn};
 ghost use Rattle.format_layout.specs.Round.{callResult};
 ghost use Rattle.run_start.specs.Start.{startOn};
@@ -328,6 +329,19 @@ pub extern "C" fn agree_for(sheet: &[u8], params: &[u8], behaviour: u32) -> u64
     ensures { λ _. ⌜ now (params .exit) ≡ now (params .entry) ⌝ }
 {
     check_agree_for::agree_for_at(sheet, params, behaviour)
+}
+
+// What do two events share? compile's number, as with a full table; 15 where either is not declared; 0 where they are
+// independent, whatever their ranks; else 2 ^ 32, the least behaviour at which they meet, else the least that they
+// share, and 256 times flags: 1 the first writes it, 2 the second does, 4 the first reads it, 8 the second does, 16
+// both only add to it, 32 they meet there.
+#[no_mangle]
+pub extern "C" fn pair(sheet: &[u8], params: &[u8], first: u32, second: u32) -> u64
+    ensures { λ r. ⌜ r ≡ pairOn (now (sheet .entry)) (now (params .entry)) first second ⌝ }
+    ensures { λ _. ⌜ now (sheet .exit) ≡ now (sheet .entry) ⌝ }
+    ensures { λ _. ⌜ now (params .exit) ≡ now (params .entry) ⌝ }
+{
+    check_pair::pair_at(sheet, params, first, second)
 }
 
 // May a hidden value leak to a player? compile's number, as with a full table; 24 for a player above 7; 0 where no
