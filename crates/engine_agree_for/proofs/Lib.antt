@@ -1,3 +1,4 @@
 pub mod ConeDecides
 pub mod Answers
 pub mod ValuesHold
+pub mod Examples
