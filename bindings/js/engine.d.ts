@@ -105,6 +105,16 @@ export interface Agreement {
     readonly behaviour?: number;
 }
 
+/** Compile's number, 15 or 0; where two events share a behaviour, who of the two writes and reads it. */
+export interface Pair {
+    readonly number: number;
+    readonly behaviour?: number;
+    readonly writes?: [boolean, boolean];
+    readonly reads?: [boolean, boolean];
+    readonly bothAdd?: boolean;
+    readonly meet?: boolean;
+}
+
 /** Compile's number, 24 or 0; with 30 a behaviour that the player sees and a hidden one that it names. */
 export interface Leak {
     readonly number: number;
@@ -212,6 +222,7 @@ export interface Engine {
     circle(sheet: Uint8Array, params?: Uint8Array): Circle;
     agree(sheet: Uint8Array, params?: Uint8Array): Agreement;
     agreeFor(sheet: Uint8Array, params: Uint8Array | undefined, behaviour: number): Agreement;
+    pair(sheet: Uint8Array, params: Uint8Array | undefined, first: number, second: number): Pair;
     leak(sheet: Uint8Array, params: Uint8Array | undefined, player: number): Leak;
     formula(text: Text): Uint8Array;
     assemble(text: Text): Uint8Array;

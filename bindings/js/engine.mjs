@@ -110,6 +110,7 @@ const TAKES = new Map(Object.entries({
     frame: "r table, w round, n steps, w commits",
     agree: "r sheet, r params",
     agree_for: "r sheet, r params, n behaviour",
+    pair: "r sheet, r params, n first, n second",
     leak: "r sheet, r params, n player",
     assemble: "r text, w buffer",
     describe: "r sheet, w buffer",
@@ -660,6 +661,21 @@ class Engine {
     /** Whether they may on one behaviour: compile's number, 18 or 0; with 29 two events and where they meet. */
     agreeFor(sheet, params = NONE, behaviour) {
         return agreement(this.call("agree_for", sheet, params, behaviour));
+    }
+
+    /**
+     * What two events share: { number }, compile's, 15 or 0 where they are independent; else also the least behaviour
+     * at which they meet, or that they share, and who writes and reads it: { number, behaviour, writes, reads, bothAdd,
+     * meet }.
+     */
+    pair(sheet, params = NONE, first, second) {
+        const answer = this.call("pair", sheet, params, first, second);
+        if (answer >> 32n === 0n) return { number: Number(answer) };
+        const bits = Number((answer >> 8n) & 0xffn);
+        const both = (bit) => [(bits & bit) !== 0, (bits & (2 * bit)) !== 0];
+        const behaviour = Number(answer & 0xffn);
+        const [bothAdd, meet] = both(16);
+        return { number: 0, behaviour, writes: both(1), reads: both(4), bothAdd, meet };
     }
 
     /** Whether a player can learn of what is hidden: compile's number, 24 or 0; with 30 one seen and one hidden. */

@@ -3,12 +3,13 @@
 use std::path::{Path, PathBuf};
 
 /// Calls that are declared.
-const CALLS: [&str; 25] = [
+const CALLS: [&str; 26] = [
     "version",
     "compile",
     "circle",
     "agree",
     "agree_for",
+    "pair",
     "leak",
     "formula",
     "assemble",

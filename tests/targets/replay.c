@@ -62,6 +62,7 @@ CALL(event_rank, BUFFER(0), NUMBER(0))
 CALL(frame, BUFFER(0), BUFFER(1), NUMBER(0), BUFFER(2))
 CALL(agree, BUFFER(0), BUFFER(1))
 CALL(agree_for, BUFFER(0), BUFFER(1), NUMBER(0))
+CALL(pair, BUFFER(0), BUFFER(1), NUMBER(0), NUMBER(1))
 CALL(deliver, BUFFER(0), BUFFER(1), NUMBER(0), NUMBER(1), NUMBER(2), BUFFER(2))
 CALL(taken, BUFFER(0), BUFFER(1))
 CALL(leak, BUFFER(0), BUFFER(1), NUMBER(0))
@@ -83,7 +84,8 @@ static const struct {
     {"preview", make_preview}, {"mend", make_mend}, {"formula", make_formula}, {"join", make_join},
     {"replay", make_replay}, {"version", make_version}, {"event_count", make_event_count},
     {"behaviour_count", make_behaviour_count}, {"event_rank", make_event_rank}, {"frame", make_frame},
-    {"agree", make_agree}, {"agree_for", make_agree_for}, {"deliver", make_deliver}, {"taken", make_taken},
+    {"agree", make_agree}, {"agree_for", make_agree_for}, {"pair", make_pair}, {"deliver", make_deliver},
+    {"taken", make_taken},
     {"leak", make_leak}, {"assemble", make_assemble}, {"describe", make_describe},
 };
 

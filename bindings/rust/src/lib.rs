@@ -96,6 +96,7 @@ mod refusal;
 mod round;
 mod sheet;
 
+pub use agreement::Shared;
 pub use deliver::{Delivered, NotThere, Taken};
 pub use fault::{Fault, FaultKind};
 pub use refusal::Refusal;

@@ -121,6 +121,14 @@ pub mod ffi {
             params_len: usize,
             behaviour: u32,
         ) -> u64;
+        pub fn engine_pair(
+            sheet: *const u8,
+            sheet_len: usize,
+            params: *const u8,
+            params_len: usize,
+            first: u32,
+            second: u32,
+        ) -> u64;
         pub fn engine_deliver(
             table: *const u8,
             table_len: usize,
@@ -296,6 +304,13 @@ pub fn describe(sheet: &[u8], buffer: &mut [u8]) -> u64 {
 pub fn agree_for(sheet: &[u8], params: &[u8], behaviour: u32) -> u64 {
     let (s, p) = (sheet, params);
     unsafe { ffi::engine_agree_for(s.as_ptr(), s.len(), p.as_ptr(), p.len(), behaviour) }
+}
+
+/// compile's number; 15; 0 where the events are independent; or 2^32, a behaviour, and what each does to it.
+#[inline]
+pub fn pair(sheet: &[u8], params: &[u8], first: u32, second: u32) -> u64 {
+    let (s, p) = (sheet, params);
+    unsafe { ffi::engine_pair(s.as_ptr(), s.len(), p.as_ptr(), p.len(), first, second) }
 }
 
 /// A refusal's number, or how a delivery ended, packed with the commits that it wrote and the steps that it made.

@@ -80,14 +80,26 @@ fn agreed_for(read: &Result<Sheet, u32>, b: u32) -> u64 {
     }
 }
 
-/// agree_for of every behaviour.
+/// What pair answers of two events: 2^32, the behaviour, and from bit 8 on what each does to it.
+fn paired(read: &Result<Sheet, u32>, e: u32, f: u32) -> u64 {
+    match read {
+        Err(n) => *n as u64,
+        Ok(sheet) if e.max(f) as usize >= sheet.ranks.len() => 15,
+        Ok(sheet) => sheet.pair(e as usize, f as usize).map_or(0, |(b, bits)| (1 << 32) + b as u64 + 256 * bits as u64),
+    }
+}
+
+/// agree_for of every behaviour, and pair of every two events of a few.
 fn held_agree_for(bytes: &[u8], params: &[u8], read: &Result<Sheet, u32>) {
     let lent = (bytes.to_vec(), params.to_vec());
-    let behaviours = read.as_ref().map_or(1, |s| s.behaviours.len() as u32);
+    let (events, behaviours) = read.as_ref().map_or((1, 1), |s| (s.ranks.len() as u32, s.behaviours.len() as u32));
     for b in (0..=behaviours).chain([255, 256, u32::MAX]) {
         assert_eq!(proved::agree_for(bytes, params, b), agreed_for(read, b), "agree_for b{b}");
     }
-    assert!(lent == (bytes.to_vec(), params.to_vec()), "agree_for changed what it was lent to read");
+    for (e, f) in (0..events.min(6) + 1).flat_map(|e| [0, 1, 2, events - events.min(1), events, u32::MAX].map(|f| (e, f))) {
+        assert_eq!(proved::pair(bytes, params, e, f), paired(read, e, f), "pair {e}, {f}");
+    }
+    assert!(lent == (bytes.to_vec(), params.to_vec()), "agree_for or pair changed what it was lent to read");
 }
 
 /// Both calls on a sheet, and on each player; the answer of agree.

@@ -708,6 +708,23 @@ impl Sheet {
         all.next()
     }
 
+    /// Two events that are not independent: the least behaviour at which they meet, else the least that they share, and of
+    /// it, as bits: the first writes it, the second does, the first reads it, the second does, both only add to it, they
+    /// meet there.
+    pub fn pair(&self, e: usize, f: usize) -> Option<(usize, u32)> {
+        let all: Vec<usize> = (0..self.behaviours.len()).collect();
+        let of = |b: usize| (self.touch(e, b, &all), self.touch(f, b, &all));
+        let shares = |b: &usize| {
+            let ([we, re, ..], [wf, rf, ..]) = of(*b);
+            we && (wf || rf) || wf && (we || re)
+        };
+        let meet = all.iter().find(|b| self.meets(e, f, **b, &all));
+        let b = *meet.or_else(|| all.iter().find(|b| shares(b)))?;
+        let ([we, re, oe, ae], [wf, rf, of, af]) = of(b);
+        let bits = [we, wf, re, rf, ae && af && !oe && !of, meet.is_some()];
+        Some((b, bits.iter().enumerate().map(|(k, bit)| (*bit as u32) << k).sum()))
+    }
+
     pub fn independent(&self, e: usize, f: usize) -> bool {
         let apart = |e: usize, f: usize| self.writes(e).iter().all(|i| !self.reads(f).contains(i) && !self.writes(f).contains(i));
         apart(e, f) && apart(f, e)

@@ -40,6 +40,7 @@ const CALLS: &[(&str, &str)] = &[
     ("frame", "rwnw"),
     ("agree", "rr"),
     ("agree_for", "rrn"),
+    ("pair", "rrnn"),
     ("deliver", "rwnnnw"),
     ("taken", "rr"),
     ("leak", "rrn"),
@@ -419,6 +420,7 @@ impl Record {
         self.call("circle", &[Whole(SHEET), Whole(PARAMS), Whole(LIST)]);
         self.call("agree", &[Whole(SHEET), Whole(PARAMS)]);
         self.call("agree_for", &[Whole(SHEET), Whole(PARAMS), Number(0)]);
+        self.call("pair", &[Whole(SHEET), Whole(PARAMS), Number(0), Number(1)]);
         self.call("leak", &[Whole(SHEET), Whole(PARAMS), Number(1)]);
         self.call("join", &[Whole(SHEET), Part(SHEET, 0), Whole(PARAMS), Whole(BUFFER)]);
         self.call("compile", &[Whole(SHEET), Whole(PARAMS), Whole(TABLES)]);
@@ -471,6 +473,7 @@ impl Record {
         self.call("agree", &[Whole(SHEET), Whole(PARAMS)]);
         for b in 0..5 {
             self.call("agree_for", &[Whole(SHEET), Whole(PARAMS), Number(b)]);
+            self.call("pair", &[Whole(SHEET), Whole(PARAMS), Number(b), Number(r.below(5) as u32)]);
         }
         for player in 0..9 {
             self.call("leak", &[Whole(SHEET), Whole(PARAMS), Number(player)]);
@@ -522,6 +525,7 @@ fn made(name: &str, r: &[&[u8]], w: &mut [&mut [u8]], n: &[u64]) -> u64 {
         }
         "agree" => proved::agree(r[0], r[1]),
         "agree_for" => proved::agree_for(r[0], r[1], word(0)),
+        "pair" => proved::pair(r[0], r[1], word(0), word(1)),
         "deliver" => {
             let (round, commits) = w.split_at_mut(1);
             proved::deliver(r[0], round[0], word(0), word(1), word(2), commits[0])
