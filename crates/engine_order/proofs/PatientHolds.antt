@@ -14,7 +14,7 @@ use Rattle.spec_model.specs.Model.{Call, arrive, step, board, call}
 use Rattle.spec_model.specs.Claims.{takenInBy, eventsOf}
 use Rattle.back_compile.specs.Verdict.{programOf}
 use Rattle.run_frame.specs.Frame.{frameOn}
-use Rattle.run_burst.proofs.Still.{idle-stays}
+use Rattle.run_step.proofs.Still.{idle-stays}
 use Rattle.run_deliver.specs.Deliver.{deliverOn}
 use Rattle.refine_calls.specs.Refinement.{callOn, calls, Bytes, bytes, turnOnBytes, bytesAfter, roundAfter}
 use Rattle.refine_frames.specs.Frames.{stepsMade, endedBy, stepCalls}
