@@ -16,7 +16,6 @@
 
 #include <stddef.h>
 #include <stdint.h>
-#include <string.h>
 
 #if SIZE_MAX != UINT64_MAX
 #error "the engine's archives are for 64-bit processors"
@@ -246,7 +245,11 @@ static inline uint32_t engine_count_value(uint64_t answer) { return (uint32_t)an
  * round compare a sum of theirs first. */
 static inline int engine_same_table(const uint8_t *one, const uint8_t *other)
 {
-    return memcmp(one, other, ENGINE_TABLE) == 0;
+    size_t i;
+    for (i = 0; i < ENGINE_TABLE; i++)
+        if (one[i] != other[i])
+            return 0;
+    return 1;
 }
 
 /* ---- rounds */
