@@ -320,7 +320,7 @@ fn behaviours() {
     let clash = |e: u64, f: u64, i: u64| 29 + (e << 8) + (f << 16) + (i << 24);
     let plus = |x: Vec<u8>, y: Vec<u8>| app(4, &[x, y]);
     let minus = |x: Vec<u8>, y: Vec<u8>| app(5, &[x, y]);
-    let scores = |x: Vec<u8>, y: Vec<u8>| with(&[1, 9], &[holds(&[now(0, x), now(1, y)]), holds(&[]), passive(&name(0))]);
+    let scores = |x: Vec<u8>, y: Vec<u8>| with(&[1, 9], &[holds(&[later(0, x), now(1, y)]), holds(&[]), passive(&name(0))]);
     let open = app(14, &[name(1), name(0), plus(name(0), con(10))]);
     let own = app(14, &[name(2), name(0), plus(name(0), con(10))]);
     let light = with(&[1, 9], &[holds(&[now(0, plus(name(0), con(1)))]), holds(&[now(1, name(0))])]);
