@@ -14,9 +14,7 @@ fn main() {
     let (object, archive) = (format!("{out}/cengine.o"), format!("{out}/libcengine.a"));
     println!("cargo:rerun-if-changed={}", folder.join("cengine.c").display());
     println!("cargo:rerun-if-changed={}", folder.join("cengine.h").display());
-    run(Command::new("gcc")
-        .args(["-std=c99", "-O3", "-c", "-o", &object])
-        .arg(folder.join("cengine.c")));
+    run(Command::new("gcc").args(["-std=c99", "-O3", "-c", "-o", &object]).arg(folder.join("cengine.c")));
     run(Command::new("ar").args(["rcs", &archive, &object]));
     println!("cargo:rustc-link-search=native={out}");
     println!("cargo:rustc-link-lib=static=cengine");

@@ -96,7 +96,9 @@ fn held_agree_for(bytes: &[u8], params: &[u8], read: &Result<Sheet, u32>) {
     for b in (0..=behaviours).chain([255, 256, u32::MAX]) {
         assert_eq!(proved::agree_for(bytes, params, b), agreed_for(read, b), "agree_for b{b}");
     }
-    for (e, f) in (0..events.min(6) + 1).flat_map(|e| [0, 1, 2, events - events.min(1), events, u32::MAX].map(|f| (e, f))) {
+    for (e, f) in
+        (0..events.min(6) + 1).flat_map(|e| [0, 1, 2, events - events.min(1), events, u32::MAX].map(|f| (e, f)))
+    {
         assert_eq!(proved::pair(bytes, params, e, f), paired(read, e, f), "pair {e}, {f}");
     }
     assert!(lent == (bytes.to_vec(), params.to_vec()), "agree_for or pair changed what it was lent to read");
@@ -169,7 +171,10 @@ fn search(r: &mut Rng, sheet: &Sheet, table: &Guarded, tally: &mut Tally) {
     let safe: Vec<usize> = (0..sheet.behaviours.len()).filter(|b| sheet.clash_for(*b).is_none()).collect();
     tally.behaviours[0] += sheet.behaviours.len() - safe.len();
     tally.behaviours[1] += safe.len();
-    assert!(sheet.clash().is_some() || safe.len() == sheet.behaviours.len(), "agree 0, and a behaviour that is not safe");
+    assert!(
+        sheet.clash().is_some() || safe.len() == sheet.behaviours.len(),
+        "agree 0, and a behaviour that is not safe"
+    );
     let mut shown = false;
     for (e, f) in pairs {
         let lists = end_apart(r, sheet, e, f);
@@ -320,7 +325,8 @@ fn behaviours() {
     let clash = |e: u64, f: u64, i: u64| 29 + (e << 8) + (f << 16) + (i << 24);
     let plus = |x: Vec<u8>, y: Vec<u8>| app(4, &[x, y]);
     let minus = |x: Vec<u8>, y: Vec<u8>| app(5, &[x, y]);
-    let scores = |x: Vec<u8>, y: Vec<u8>| with(&[1, 9], &[holds(&[later(0, x), now(1, y)]), holds(&[]), passive(&name(0))]);
+    let scores =
+        |x: Vec<u8>, y: Vec<u8>| with(&[1, 9], &[holds(&[later(0, x), now(1, y)]), holds(&[]), passive(&name(0))]);
     let open = app(14, &[name(1), name(0), plus(name(0), con(10))]);
     let own = app(14, &[name(2), name(0), plus(name(0), con(10))]);
     let light = with(&[1, 9], &[holds(&[now(0, plus(name(0), con(1)))]), holds(&[now(1, name(0))])]);

@@ -152,6 +152,8 @@ fn ratios(ours: &[f64], other: &[f64]) -> String {
 
 // ---- rounds on the engines
 
+type Count = fn(&[u8]) -> u64;
+
 /// A round after some calls, as bytes and in the plain engine.
 #[derive(Clone)]
 struct Set {
@@ -281,7 +283,7 @@ impl Set {
     }
 
     fn count_rows(&self, bench: &Bench, input: &str) {
-        let calls: [(&str, fn(&[u8]) -> u64); 3] = [
+        let calls: [(&str, Count); 3] = [
             ("event_count", proved::event_count),
             ("behaviour_count", proved::behaviour_count),
             ("event_rank", |t| proved::event_rank(t, 0)),

@@ -344,6 +344,9 @@ pub fn texts() -> Vec<Case> {
 /// What it is, a sheet that compile accepts, and a text of it.
 pub type Written = (String, Vec<u8>, Vec<u8>);
 
+/// The name of a behaviour, by its number.
+type Name = fn(usize) -> String;
+
 /// Everyday sheets and full ones of several shapes, with their descriptions; the last with names that are hard to tell
 /// apart.
 pub fn written() -> Vec<Written> {
@@ -358,7 +361,7 @@ pub fn written() -> Vec<Written> {
         described("full of handlers", spread_actives(11)),
         described("full of events and actives", every_event(20)),
     ];
-    let hard: [(&str, fn(usize) -> String); 4] = [
+    let hard: [(&str, Name); 4] = [
         ("that differ at their end", differ_at_the_end),
         ("that differ in the middle", |i| format!("{0}{i:02}{0}", "x".repeat(15))),
         ("that differ at the front", differ_at_the_front),
@@ -388,7 +391,7 @@ pub fn text_of_names(behaviours: usize) -> Vec<u8> {
 }
 
 /// A sheet's description with other names for its behaviours, which have no `b`; b1 is not the beginning of b12.
-fn text_with(sheet: &[u8], name: fn(usize) -> String) -> Vec<u8> {
+fn text_with(sheet: &[u8], name: Name) -> Vec<u8> {
     let text = sheet_text::describe(sheet).expect("a sheet");
     (0..FULL_BEHAVIOURS).rev().fold(text, |t, i| t.replace(&format!("b{i}"), &name(i))).into_bytes()
 }

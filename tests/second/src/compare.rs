@@ -34,7 +34,10 @@ impl Guarded {
     }
 
     pub fn check(&self) {
-        assert!(self.bytes[..GUARD].iter().chain(&self.bytes[GUARD + self.len..]).all(|b| *b == 0xA5), "a guard byte changed");
+        assert!(
+            self.bytes[..GUARD].iter().chain(&self.bytes[GUARD + self.len..]).all(|b| *b == 0xA5),
+            "a guard byte changed"
+        );
     }
 }
 
@@ -93,7 +96,8 @@ fn image(m: &Model) -> Vec<u32> {
     w
 }
 
-/// circle on both: compile's number and the list as it was; for 12 a circle, as short as any, in the list's first bytes.
+/// circle on both: compile's number and the list as it was; for 12 a circle, as short as any, in the list's first
+/// bytes.
 pub fn circle(bytes: &[u8], params: &[u8], room: usize) {
     let mut list = Guarded::new(room, 0x5A);
     let lent = (bytes.to_vec(), params.to_vec());
@@ -147,7 +151,8 @@ pub fn compile(bytes: &[u8], params: &[u8], table: &mut Guarded) -> Option<engin
     }
 }
 
-/// The sheet with each parameter written out as its constant, and each cell of a row as an active, has the same table; 3 where it is too long.
+/// The sheet with each parameter written out as its constant, and each cell of a row as an active, has the same table;
+/// 3 where it is too long.
 fn written_out(bytes: &[u8], table: &[u8]) {
     let mut other = vec![0u8; TABLE];
     let got = proved::compile(bytes, &[], &mut other);
@@ -180,7 +185,8 @@ pub fn call(table: &[u8], round: &mut [u8], c: Call) -> u64 {
 pub fn same_round(l: &[u8], m: &Model) {
     assert_eq!(word(l, 0), m.taken, "number taken in");
     let arrival = |n: u32, w: u32| (n, w as usize % 256, w / 256);
-    let mut hand: Vec<Arrival> = (0..word(l, 1) as usize).map(|i| arrival(word(l, 8 + 2 * i), word(l, 9 + 2 * i))).collect();
+    let mut hand: Vec<Arrival> =
+        (0..word(l, 1) as usize).map(|i| arrival(word(l, 8 + 2 * i), word(l, 9 + 2 * i))).collect();
     let mut want = m.waiting.clone();
     hand.sort();
     want.sort();
@@ -192,8 +198,8 @@ pub fn same_round(l: &[u8], m: &Model) {
     assert_eq!(word(l, 7) != 0, m.mark, "mark");
     for i in 0..m.board.len() {
         assert_eq!(word(l, 136 + i) as i32, m.board[i], "store {i}");
-        m.scratch[i].map(|v| assert_eq!(word(l, 200 + i) as i32, v, "scratch {i}"));
-        m.places[i].map(|v| assert_eq!(word(l, 264 + i) as i32, v, "deferred {i}"));
+        m.scratch[i].into_iter().for_each(|v| assert_eq!(word(l, 200 + i) as i32, v, "scratch {i}"));
+        m.places[i].into_iter().for_each(|v| assert_eq!(word(l, 264 + i) as i32, v, "deferred {i}"));
     }
 }
 
@@ -201,7 +207,11 @@ pub fn same_round(l: &[u8], m: &Model) {
 fn same_preview(t: &[u8], l: &[u8], m: &Model, k: usize) {
     let before = l.to_vec();
     let (e, i, who) = ((k / 16 % (m.code.len() + 1)) as u32, (k / 5 % (m.board.len() + 1)) as u32, (k / 64 % 9) as u32);
-    assert_eq!(proved::preview(t, l, e, i, who), packed(m.preview(e, i, who)), "preview of {e} and {i} by {who} after {k}");
+    assert_eq!(
+        proved::preview(t, l, e, i, who),
+        packed(m.preview(e, i, who)),
+        "preview of {e} and {i} by {who} after {k}"
+    );
     assert!(before == l, "a preview changed the round");
 }
 
@@ -219,7 +229,11 @@ pub fn run(sheet: &engine::Sheet, table: &Guarded, calls: &[Call]) -> (Model, Ve
         assert_eq!(got, packed(want), "answer {k} to {c:?}");
         assert_eq!(proved::forecast(table.part(), round.part()), (1 << 32) + m.forecast() as u64, "forecast after {k}");
         if let Answer::Committed(a, mark) = want {
-            assert_eq!(proved::told(got), packed(Answer::Committed(a, false)), "what the others are told of answer {k}");
+            assert_eq!(
+                proved::told(got),
+                packed(Answer::Committed(a, false)),
+                "what the others are told of answer {k}"
+            );
             let e = a.1;
             let over;
             (by_commits, over) = sheet.event(e, &by_commits);
@@ -302,7 +316,8 @@ pub fn length(r: &mut Rng, due: usize) -> usize {
     }
 }
 
-/// A table with a count or an event's code at its limit or one off, or with any byte among its counts, events and values changed.
+/// A table with a count or an event's code at its limit or one off, or with any byte among its counts, events and
+/// values changed.
 pub fn damage(r: &mut Rng, t: &mut [u8]) {
     if t.len() < 800 {
         return;
@@ -320,7 +335,8 @@ pub fn damage(r: &mut Rng, t: &mut [u8]) {
     }
 }
 
-/// start on damaged tables and buffers of all lengths, over any old bytes: the answer and each byte as the plain reading of the words says.
+/// start on damaged tables and buffers of all lengths, over any old bytes: the answer and each byte as the plain
+/// reading of the words says.
 fn starts(r: &mut Rng, table: &Guarded, tally: &mut Tally) {
     for _ in 0..8 {
         let mut t = Guarded::new(length(r, TABLE), 0);
@@ -341,7 +357,8 @@ fn starts(r: &mut Rng, table: &Guarded, tally: &mut Tally) {
     }
 }
 
-/// Six bytes for each call, as replay reads them; a board reading has any kind above 1. A player that does not fit a byte is recorded as 255, and refused alike.
+/// Six bytes for each call, as replay reads them; a board reading has any kind above 1. A player that does not fit a
+/// byte is recorded as 255, and refused alike.
 fn recorded(r: &mut Rng, calls: &[Call]) -> Vec<u8> {
     let mut out = Vec::new();
     for c in calls {
@@ -357,7 +374,8 @@ fn recorded(r: &mut Rng, calls: &[Call]) -> Vec<u8> {
     out
 }
 
-/// replay of recorded bytes against the same calls made one by one: how many, the answers, the round, and nothing beyond.
+/// replay of recorded bytes against the same calls made one by one: how many, the answers, the round, and nothing
+/// beyond.
 fn same_replay(t: &[u8], l: &[u8], calls: &[Call], bytes: &[u8], room: usize) {
     let made = (bytes.len() / 6).min(room / 8);
     let mut one_by_one = l.to_vec();
@@ -374,7 +392,8 @@ fn same_replay(t: &[u8], l: &[u8], calls: &[Call], bytes: &[u8], room: usize) {
     answers.check();
 }
 
-/// replay of a list from a fresh round: whole, its last call torn, with too little room, from a damaged round, on short buffers.
+/// replay of a list from a fresh round: whole, its last call torn, with too little room, from a damaged round, on short
+/// buffers.
 fn replays(r: &mut Rng, table: &Guarded, calls: &[Call]) {
     let t = table.part().to_vec();
     let mut l = vec![0x5A; ROUND + 8];
@@ -393,7 +412,8 @@ fn replays(r: &mut Rng, table: &Guarded, calls: &[Call]) {
     assert!(t == table.part(), "replay changed the table");
 }
 
-/// Damaged table or round bytes: each call answers and leaves what the plain reading of the words says, and nothing else changes.
+/// Damaged table or round bytes: each call answers and leaves what the plain reading of the words says, and nothing
+/// else changes.
 fn foreign(r: &mut Rng, sheet: &engine::Sheet, table: &Guarded, opening: &[Call], tally: &mut Tally) {
     let mut t = Guarded::new(TABLE + 8, 0);
     t.part_mut().copy_from_slice(&table.part()[..TABLE + 8]);
@@ -421,10 +441,18 @@ fn foreign(r: &mut Rng, sheet: &engine::Sheet, table: &Guarded, opening: &[Call]
             tally.foreign += 1;
         }
         assert_eq!(call(t.part(), l.part_mut(), c), answer, "damaged bytes, {c:?}");
-        assert_eq!(proved::forecast(t.part(), l.part()), words::forecast(t.part(), l.part()), "damaged bytes, forecast after {c:?}");
+        assert_eq!(
+            proved::forecast(t.part(), l.part()),
+            words::forecast(t.part(), l.part()),
+            "damaged bytes, forecast after {c:?}"
+        );
         if k % 64 == 8 {
             let (e, i, who) = ((k / 8 % (sheet.ranks.len() + 1)) as u32, (k / 8) as u32, make::player(r));
-            assert_eq!(proved::preview(t.part(), l.part(), e, i, who), words::preview(t.part(), l.part(), e, i, who), "damaged bytes, preview of {e} and {i} by {who}");
+            assert_eq!(
+                proved::preview(t.part(), l.part(), e, i, who),
+                words::preview(t.part(), l.part(), e, i, who),
+                "damaged bytes, preview of {e} and {i} by {who}"
+            );
         }
         assert!(want == l.part(), "damaged bytes, {c:?}: the round");
     }
@@ -433,7 +461,8 @@ fn foreign(r: &mut Rng, sheet: &engine::Sheet, table: &Guarded, opening: &[Call]
     l.check();
 }
 
-/// A list of calls from a fresh round with changes to other sheets in it: answers, rounds, boards, and the forecast under the sheet in force.
+/// A list of calls from a fresh round with changes to other sheets in it: answers, rounds, boards, and the forecast
+/// under the sheet in force.
 fn mends(r: &mut Rng, sheet: &engine::Sheet, table: &Guarded, tally: &mut Tally) {
     let mut t = Guarded::new(TABLE, 0);
     t.part_mut().copy_from_slice(&table.part()[..TABLE]);
@@ -509,7 +538,11 @@ fn damaged_mends(r: &mut Rng, sheet: &engine::Sheet, table: &Guarded, opening: &
         if answer != 0 {
             want = before;
         }
-        assert_eq!(proved::mend(&t.part()[..a], &u.part()[..b], &mut l.part_mut()[..c]), answer, "damaged bytes, a change of sheets");
+        assert_eq!(
+            proved::mend(&t.part()[..a], &u.part()[..b], &mut l.part_mut()[..c]),
+            answer,
+            "damaged bytes, a change of sheets"
+        );
         assert!(want == l.part()[..c], "damaged bytes, a change of sheets: the round");
         assert!(t0 == t.part() && u0 == u.part(), "a change of sheets changed a table");
         l.check();
@@ -569,8 +602,9 @@ impl Case {
     }
 }
 
-/// The part of a seed that differs, as the desk program reads it, every call being the host's there: its sheet, parameters written out, and calls, run to idle, two phones one after the other; or the calls up to where
-/// bytes are damaged.
+/// The part of a seed that differs, as the desk program reads it, every call being the host's there: its sheet,
+/// parameters written out, and calls, run to idle, two phones one after the other; or the calls up to where bytes are
+/// damaged.
 pub fn script(seed: u64, part: &str) -> Vec<u8> {
     let case = Case::new(seed);
     let bytes = engine::compile(&case.bytes, &case.params).map_or(case.bytes, |s| make::encode(&s));

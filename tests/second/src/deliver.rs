@@ -1,6 +1,6 @@
 //! Deliveries and the number taken in: entry after entry of an order that two phones share, against the model engine on
-//! rounds of a seed's sheet and against the plain reading of the words on damaged bytes; and what deliveries promise: two
-//! phones that cut their steps differently take in the same beginning of the order.
+//! rounds of a seed's sheet and against the plain reading of the words on damaged bytes; and what deliveries promise:
+//! two phones that cut their steps differently take in the same beginning of the order.
 use crate::compare::{self, packed, Guarded};
 use crate::engine::{self, Answer, Call, Model, Sheet};
 use crate::make::{self, Rng};
@@ -181,8 +181,7 @@ impl Phone<'_> {
         for k in [number.saturating_sub(r.below(3)), number + r.below(3), number] {
             let Some((event, player)) = order.get(k) else { continue };
             let before = self.taken();
-            let answer =
-                proved::deliver(self.table, &mut self.round, k as u32, *event, *player, &mut commits);
+            let answer = proved::deliver(self.table, &mut self.round, k as u32, *event, *player, &mut commits);
             let next = k as u64 == before;
             assert_eq!(answer >> 56 == 1, next, "entry {k} with {before} taken in");
             assert_eq!(self.taken(), before + next as u64, "the number taken in");

@@ -1,4 +1,5 @@
-//! The desk program held against a plain one: the rounds and traps of the scope, torn input at every cut, scripts made at random.
+//! The desk program held against a plain one: the rounds and traps of the scope, torn input at every cut, scripts made
+//! at random.
 use std::io::Write;
 use std::process::{Command, Stdio};
 
@@ -78,7 +79,8 @@ pub fn expected(input: &[u8]) -> String {
 }
 
 pub fn play(program: &str, input: &[u8]) -> String {
-    let mut child = Command::new(program).stdin(Stdio::piped()).stdout(Stdio::piped()).spawn().expect("the desk program");
+    let mut child =
+        Command::new(program).stdin(Stdio::piped()).stdout(Stdio::piped()).spawn().expect("the desk program");
     let mut pipe = child.stdin.take().unwrap();
     let bytes = input.to_vec();
     let feed = std::thread::spawn(move || {
@@ -117,16 +119,22 @@ fn all(s: &[u8], events: &[u8]) -> Vec<u8> {
 /// The rounds to check.
 fn rounds() -> Vec<Round> {
     let s = sheet_s();
-    let pair = |a: u8, b: u8| join(&[event(1), active(1, &[handler(0, a, &name(1))]), active(2, &[handler(0, b, &name(0))])]);
+    let pair =
+        |a: u8, b: u8| join(&[event(1), active(1, &[handler(0, a, &name(1))]), active(2, &[handler(0, b, &name(0))])]);
     let one = |e: Vec<u8>| join(&[event(0), active(0, &[handler(0, 0, &e)])]);
-    let follows = |phase: u8| join(&[event(1), active(0, &[handler(0, phase, &name(1))]), passive(&app(4, &[name(0), con(1)]))]);
+    let follows =
+        |phase: u8| join(&[event(1), active(0, &[handler(0, phase, &name(1))]), passive(&app(4, &[name(0), con(1)]))]);
     let full = |after: &[Vec<u8>]| join(&[sheet(&s), join(&vec![arrive(0); 65]), join(after)]);
     vec![
         ("the example", join(&[sheet(&s), arrive(0), steps(18), show()]), "C 0 0\nB 2 1\n"),
         ("three times", all(&s, &[0, 0, 0]), "C 0 0\nC 1 0\nC 2 0\nB 5 3\n"),
         ("then 1, 0", all(&s, &[0, 0, 0, 1, 0]), "C 0 0\nC 1 0\nC 2 0\nC 3 1\nC 4 0\nB 6 5\n"),
         ("0, 1 instead", all(&s, &[0, 0, 0, 0, 1]), "C 0 0\nC 1 0\nC 2 0\nC 3 0\nC 4 1\nB 8 1\n"),
-        ("17 and 8 instructions", join(&[sheet(&s), arrive(0), steps(17), show(), steps(1), arrive(1), steps(8), show(), steps(1)]), "R 19\nC 0 0\nR 19\nC 1 1\n"),
+        (
+            "17 and 8 instructions",
+            join(&[sheet(&s), arrive(0), steps(17), show(), steps(1), arrive(1), steps(8), show(), steps(1)]),
+            "R 19\nC 0 0\nR 19\nC 1 1\n",
+        ),
         ("immediate, later", all(&pair(0, 1), &[0]), "C 0 0\nB 2 2\n"),
         ("both immediate", sheet(&pair(0, 0)), "R 12\n"),
         ("passive, later", all(&follows(1), &[0]), "C 0 0\nB 1 2\n"),
@@ -139,8 +147,9 @@ fn rounds() -> Vec<Round> {
     ]
 }
 
-/// The traps. The events of both sheets but H of the first have ten instructions: off, copy, on, two values, the function, the store, off, copy back, on; with the start, step n makes
-/// instruction n - 1. So a break-in is possible after steps 4 to 8, and steps 9 and 10 end in copy-back.
+/// The traps. The events of both sheets but H of the first have ten instructions: off, copy, on, two values, the
+/// function, the store, off, copy back, on; with the start, step n makes instruction n - 1. So a break-in is possible
+/// after steps 4 to 8, and steps 9 and 10 end in copy-back.
 fn traps() -> Vec<Round> {
     let equals = join(&[
         event(1),
@@ -149,18 +158,34 @@ fn traps() -> Vec<Round> {
         active(1, &[handler(0, 0, &app(4, &[name(0), con(1)])), handler(1, 0, &app(6, &[name(0), con(2)]))]),
         active(0, &[handler(2, 0, &con(7))]),
     ]);
-    let same = join(&[event(1), event(2), active(1, &[handler(0, 0, &app(4, &[name(0), con(1)])), handler(1, 0, &app(6, &[name(0), con(10)]))])]);
+    let same = join(&[
+        event(1),
+        event(2),
+        active(1, &[handler(0, 0, &app(4, &[name(0), con(1)])), handler(1, 0, &app(6, &[name(0), con(10)]))]),
+    ]);
     let again = |n: u16| join(&[sheet(&same), arrive(0), steps(n), arrive(1), steps(11), show(), steps(11), show()]);
     let swap = join(&[event(1), active(1, &[handler(0, 1, &name(1))]), active(2, &[handler(0, 1, &name(0))])]);
     let late = join(&[arrive(2), show(), steps(1), show(), steps(1), show(), steps(60), show()]);
     vec![
-        ("equal ranks A, B", join(&[sheet(&equals), arrive(0), arrive(1), steps(3), arrive(2), steps(100), show()]), "C 2 2\nC 0 0\nC 1 1\nB 4 7\n"),
+        (
+            "equal ranks A, B",
+            join(&[sheet(&equals), arrive(0), arrive(1), steps(3), arrive(2), steps(100), show()]),
+            "C 2 2\nC 0 0\nC 1 1\nB 4 7\n",
+        ),
         ("no old scratch, past the copies", again(4), "C 1 1\nB 10\nC 0 0\nB 11\n"),
         ("no old stack", again(6), "C 1 1\nB 10\nC 0 0\nB 11\n"),
         ("no old scratch, past the store", again(8), "C 1 1\nB 10\nC 0 0\nB 11\n"),
         ("both later", all(&swap, &[0]), "C 0 0\nB 2 1\n"),
-        ("a break-in just before copy-back", join(&[sheet(&equals), arrive(0), steps(8), arrive(2), steps(60), show()]), "C 1 2\nC 0 0\nB 2 7\n"),
-        ("no break-in in copy-back", join(&[sheet(&equals), arrive(0), steps(9), late]), "R 19\nR 19\nC 0 0\nB 2 0\nC 1 2\nB 2 7\n"),
+        (
+            "a break-in just before copy-back",
+            join(&[sheet(&equals), arrive(0), steps(8), arrive(2), steps(60), show()]),
+            "C 1 2\nC 0 0\nB 2 7\n",
+        ),
+        (
+            "no break-in in copy-back",
+            join(&[sheet(&equals), arrive(0), steps(9), late]),
+            "R 19\nR 19\nC 0 0\nB 2 0\nC 1 2\nB 2 7\n",
+        ),
     ]
 }
 
@@ -168,11 +193,23 @@ fn traps() -> Vec<Round> {
 fn manners() -> Vec<Round> {
     let s = sheet_s();
     vec![
-        ("no behaviours", join(&[sheet(&event(1)), show(), arrive(0), steps(4), show(), steps(1), show()]), "B\nR 19\nC 0 0\nB\n"),
+        (
+            "no behaviours",
+            join(&[sheet(&event(1)), show(), arrive(0), steps(4), show(), steps(1), show()]),
+            "B\nR 19\nC 0 0\nB\n",
+        ),
         ("before a sheet", join(&[arrive(0), steps(1), show(), sheet(&s), show()]), "R 14\nR 14\nR 14\nB 1 1\n"),
-        ("a refused sheet leaves the round", join(&[sheet(&s), arrive(0), steps(18), sheet(&[9]), show()]), "C 0 0\nR 4\nB 2 1\n"),
+        (
+            "a refused sheet leaves the round",
+            join(&[sheet(&s), arrive(0), steps(18), sheet(&[9]), show()]),
+            "C 0 0\nR 4\nB 2 1\n",
+        ),
         ("a rest day", join(&[sheet(&[]), show(), arrive(0), steps(100), show()]), "B\nR 15\nB\n"),
-        ("a rest day after a round", join(&[sheet(&s), arrive(0), steps(18), sheet(&[]), arrive(0), show()]), "C 0 0\nR 15\nB\n"),
+        (
+            "a rest day after a round",
+            join(&[sheet(&s), arrive(0), steps(18), sheet(&[]), arrive(0), show()]),
+            "C 0 0\nR 15\nB\n",
+        ),
         ("a parameter", join(&[sheet(&passive(&param(0))), show(), sheet(&s), show()]), "R 20\nR 14\nB 1 1\n"),
         ("a long sheet", join(&[sheet(&vec![0; 65535]), show()]), "R 3\nR 14\n"),
         ("another tag", join(&[sheet(&s), field(0x24, &[]), show()]), "R 5\n"),

@@ -1,5 +1,6 @@
-//! A plain second engine, written from documents 01 and 02 alone: a tree, the big-step meaning, the instruction lists and the model engine.
-//! It shares nothing with the proved engine and is as simple as possible; speed does not matter here.
+//! A plain second engine, written from documents 01 and 02 alone: a tree, the big-step meaning, the instruction lists
+//! and the model engine. It shares nothing with the proved engine and is as simple as possible; speed does not matter
+//! here.
 
 use std::cell::{Cell, RefCell};
 
@@ -49,7 +50,11 @@ fn floor(n: i64, d: i64) -> i64 {
     if d == 0 {
         return 0;
     }
-    if n % d != 0 && (n < 0) != (d < 0) { n / d - 1 } else { n / d }
+    if n % d != 0 && (n < 0) != (d < 0) {
+        n / d - 1
+    } else {
+        n / d
+    }
 }
 
 pub fn apply(f: u8, a: &[i32]) -> i32 {
@@ -68,7 +73,13 @@ pub fn apply(f: u8, a: &[i32]) -> i32 {
         11 => t(a[0] <= a[1]),
         12 => t(a[0] == a[1]),
         13 => t(a[0] != a[1]),
-        14 => if a[0] != 0 { a[1] } else { a[2] },
+        14 => {
+            if a[0] != 0 {
+                a[1]
+            } else {
+                a[2]
+            }
+        }
         _ => unreachable!(),
     }
 }
@@ -89,7 +100,7 @@ pub fn over(f: u8, a: &[i32]) -> bool {
 // ---- reading a sheet: the first fault from left to right
 
 /// The field at the front of `s`: tag, value, rest. 4 for its header, 5, 4 for its length.
-fn field<'a>(s: &'a [u8], lo: u8, hi: u8) -> Result<(u8, &'a [u8], &'a [u8]), u32> {
+fn field(s: &[u8], lo: u8, hi: u8) -> Result<(u8, &[u8], &[u8]), u32> {
     if s.len() < 3 {
         return Err(4);
     }
@@ -107,7 +118,7 @@ fn word(v: &[u8]) -> i32 {
     i32::from_be_bytes([v[0], v[1], v[2], v[3]])
 }
 
-fn expr<'a>(s: &'a [u8], nesting: usize) -> Result<(Expr, &'a [u8]), u32> {
+fn expr(s: &[u8], nesting: usize) -> Result<(Expr, &[u8]), u32> {
     let (tag, v, rest) = field(s, 0x10, 0x13)?;
     if nesting == 17 {
         return Err(9);
@@ -144,7 +155,11 @@ fn expr<'a>(s: &'a [u8], nesting: usize) -> Result<(Expr, &'a [u8]), u32> {
 
 fn whole_expr(v: &[u8]) -> Result<Expr, u32> {
     let (e, left) = expr(v, 1)?;
-    if left.is_empty() { Ok(e) } else { Err(6) }
+    if left.is_empty() {
+        Ok(e)
+    } else {
+        Err(6)
+    }
 }
 
 fn handler(v: &[u8], events: usize, so_far: &[Handler]) -> Result<Handler, u32> {
@@ -167,7 +182,8 @@ fn handler(v: &[u8], events: usize, so_far: &[Handler]) -> Result<Handler, u32> 
     Ok(Handler { event, later: v[1] == 1, expr: whole_expr(&v[2..])? })
 }
 
-/// What is left of a behaviour's value: a field 08 of length 1 and nothing else, or nothing. Other bytes are 6, as are all past the field.
+/// What is left of a behaviour's value: a field 08 of length 1 and nothing else, or nothing. Other bytes are 6, as are
+/// all past the field.
 fn ending(left: &[u8]) -> Result<Option<u8>, u32> {
     if left.is_empty() {
         return Ok(None);
@@ -202,7 +218,8 @@ fn active(v: &[u8], events: usize) -> Result<(Behaviour, Option<u8>), u32> {
     Ok((Behaviour::Active(word(w), hs), ending(rest)?))
 }
 
-/// Document 02, M-110: the cell count at the front of a row's value, and the rest; `first` is the number of its first cell.
+/// Document 02, M-110: the cell count at the front of a row's value, and the rest; `first` is the number of its first
+/// cell.
 fn cell_count(v: &[u8], first: usize) -> Result<(usize, &[u8]), u32> {
     if v.is_empty() {
         return Err(6);
@@ -216,7 +233,8 @@ fn cell_count(v: &[u8], first: usize) -> Result<(usize, &[u8]), u32> {
     Ok((v[0] as usize, &v[1..]))
 }
 
-/// An expression in cell `place` of a row of `count`: the first cell of a row with the same count means the cell at the same place.
+/// An expression in cell `place` of a row of `count`: the first cell of a row with the same count means the cell at the
+/// same place.
 fn in_cell(e: &Expr, rows: &[(usize, usize)], count: usize, place: usize) -> Expr {
     match e {
         Expr::Name(m) if rows.contains(&(*m, count)) => Expr::Name(m + place),
@@ -355,14 +373,19 @@ impl Sheet {
         self.cases().iter().any(|&e| (0..self.behaviours.len()).any(|i| self.reaches(e, i, i)))
     }
 
-    /// The least number of behaviours in a circle, over all events and none: from each behaviour outward, as far as it takes to come back.
+    /// The least number of behaviours in a circle, over all events and none: from each behaviour outward, as far as it
+    /// takes to come back.
     pub fn shortest(&self) -> Option<usize> {
         let n = self.behaviours.len();
         let back = |e: Option<usize>, i: usize| {
             let mut seen = vec![false; n];
             let mut front = vec![i];
             (1..=n).find(|_| {
-                let mut next: Vec<usize> = front.iter().flat_map(|&j| self.needs(e, j)).filter(|&j| !std::mem::replace(&mut seen[j], true)).collect();
+                let mut next: Vec<usize> = front
+                    .iter()
+                    .flat_map(|&j| self.needs(e, j))
+                    .filter(|&j| !std::mem::replace(&mut seen[j], true))
+                    .collect();
                 std::mem::swap(&mut front, &mut next);
                 front.contains(&i)
             })
@@ -372,7 +395,11 @@ impl Sheet {
 
     /// Whether each of these depends on the next, and the last on the first.
     pub fn is_circle(&self, event: Option<usize>, list: &[usize]) -> bool {
-        !list.is_empty() && list.iter().zip(list.iter().cycle().skip(1)).all(|(&i, j)| i < self.behaviours.len() && self.needs(event, i).contains(j))
+        !list.is_empty()
+            && list
+                .iter()
+                .zip(list.iter().cycle().skip(1))
+                .all(|(&i, j)| i < self.behaviours.len() && self.needs(event, i).contains(j))
     }
 
     fn unknown(&self) -> bool {
@@ -390,7 +417,10 @@ impl Sheet {
     fn filled(&self, value: &dyn Fn(usize) -> i32) -> Sheet {
         let one = |b: &Behaviour| match b {
             Behaviour::Passive(e) => Behaviour::Passive(filled(e, value)),
-            Behaviour::Active(s, hs) => Behaviour::Active(*s, hs.iter().map(|h| Handler { expr: filled(&h.expr, value), ..h.clone() }).collect()),
+            Behaviour::Active(s, hs) => Behaviour::Active(
+                *s,
+                hs.iter().map(|h| Handler { expr: filled(&h.expr, value), ..h.clone() }).collect(),
+            ),
         };
         Sheet { behaviours: self.behaviours.iter().map(one).collect(), ..self.clone() }
     }
@@ -424,13 +454,22 @@ impl Sheet {
     }
 
     /// First-phase value of i, kept once it is known.
-    fn first(&self, event: Option<usize>, board: &[i32], i: usize, known: &RefCell<Vec<Option<i32>>>, mark: &Cell<bool>) -> i32 {
+    fn first(
+        &self,
+        event: Option<usize>,
+        board: &[i32],
+        i: usize,
+        known: &RefCell<Vec<Option<i32>>>,
+        mark: &Cell<bool>,
+    ) -> i32 {
         if let Some(v) = known.borrow()[i] {
             return v;
         }
         let v = match self.does(event, i) {
             Does::Follows(e) => self.value(e, &|j| self.first(event, board, j, known, mark), mark),
-            Does::Takes(e) => self.value(e, &|j| if j == i { board[i] } else { self.first(event, board, j, known, mark) }, mark),
+            Does::Takes(e) => {
+                self.value(e, &|j| if j == i { board[i] } else { self.first(event, board, j, known, mark) }, mark)
+            }
             _ => board[i],
         };
         known.borrow_mut()[i] = Some(v);
@@ -442,7 +481,8 @@ impl Sheet {
         (0..board.len()).map(|i| self.first(event, board, i, &known, mark)).collect()
     }
 
-    /// The board after an event: later handlers over first-phase values, all together; then the passives again. And whether some application ran over.
+    /// The board after an event: later handlers over first-phase values, all together; then the passives again. And
+    /// whether some application ran over.
     pub fn event(&self, event: usize, board: &[i32]) -> (Vec<i32>, bool) {
         let mark = Cell::new(false);
         let one = self.first_phase(Some(event), board, &mark);
@@ -503,7 +543,11 @@ impl Sheet {
         let n = self.behaviours.len();
         let early = |i: usize| matches!(self.does(Some(event), i), Does::Follows(_) | Does::Takes(_));
         let mut order = Vec::new();
-        while let Some(i) = (0..n).find(|&i| early(i) && !order.contains(&i) && self.needs(Some(event), i).iter().all(|j| !early(*j) || order.contains(j))) {
+        while let Some(i) = (0..n).find(|&i| {
+            early(i)
+                && !order.contains(&i)
+                && self.needs(Some(event), i).iter().all(|j| !early(*j) || order.contains(j))
+        }) {
             order.push(i);
         }
         order
@@ -555,7 +599,9 @@ impl Sheet {
 
     /// The actives that an event writes, and those that it reads.
     fn writes(&self, event: usize) -> Vec<usize> {
-        (0..self.behaviours.len()).filter(|&i| matches!(self.does(Some(event), i), Does::Takes(_) | Does::Defers(_))).collect()
+        (0..self.behaviours.len())
+            .filter(|&i| matches!(self.does(Some(event), i), Does::Takes(_) | Does::Defers(_)))
+            .collect()
     }
 
     fn reads(&self, event: usize) -> Vec<usize> {
@@ -578,14 +624,15 @@ impl Sheet {
         seen
     }
 
-    /// Of every two events of unequal rank that are not independent the first pair by number, and the least behaviour that
-    /// one of the two writes and the other reads or writes.
+    /// Of every two events of unequal rank that are not independent the first pair by number, and the least behaviour
+    /// that one of the two writes and the other reads or writes.
     pub fn clash(&self) -> Option<(usize, usize, usize)> {
         let n = self.ranks.len();
         let of: Vec<[Vec<usize>; 2]> = (0..n).map(|e| [self.writes(e), self.reads(e)]).collect();
         let writes = |e: usize, i: &usize| of[e][0].contains(i);
         let touches = |e: usize, i: &usize| writes(e, i) || of[e][1].contains(i);
-        let pairs = (0..n).flat_map(|e| (e + 1..n).map(move |f| (e, f))).filter(|(e, f)| self.ranks[*e] != self.ranks[*f]);
+        let pairs =
+            (0..n).flat_map(|e| (e + 1..n).map(move |f| (e, f))).filter(|(e, f)| self.ranks[*e] != self.ranks[*f]);
         let mut all = pairs.filter_map(|(e, f)| {
             let both = |i: &usize| writes(e, i) && touches(f, i) || writes(f, i) && touches(e, i);
             (0..self.behaviours.len()).find(both).map(|i| (e, f, i))
@@ -593,8 +640,8 @@ impl Sheet {
         all.next()
     }
 
-    /// Document 02, M-107: what a behaviour depends on for a player: each name in its expression, or in a handler of either
-    /// phase.
+    /// Document 02, M-107: what a behaviour depends on for a player: each name in its expression, or in a handler of
+    /// either phase.
     fn mentions(&self, i: usize) -> Vec<usize> {
         let mut out = vec![];
         match &self.behaviours[i] {
@@ -619,18 +666,22 @@ impl Sheet {
         false
     }
 
-    /// The first behaviour that this player sees and that names a hidden one, and the least that it names; none where none
-    /// that the player sees depends on a hidden one.
+    /// The first behaviour that this player sees and that names a hidden one, and the least that it names; none where
+    /// none that the player sees depends on a hidden one.
     pub fn leak(&self, who: u32) -> Option<(usize, usize)> {
         let hidden = |j: &usize| !may(self.viewers[*j], who);
         let seen = || (0..self.behaviours.len()).filter(|i| !hidden(i));
         let named = seen().find_map(|i| self.mentions(i).into_iter().filter(hidden).min().map(|j| (i, j)));
-        assert_eq!(named.is_some(), seen().any(|i| self.tells(i, who)), "a chain to a hidden one leaves the seen ones somewhere");
+        assert_eq!(
+            named.is_some(),
+            seen().any(|i| self.tells(i, who)),
+            "a chain to a hidden one leaves the seen ones somewhere"
+        );
         named
     }
 
-    /// What a behaviour depends on, by a name in its expression or in a handler of either phase, directly or by a chain;
-    /// itself included.
+    /// What a behaviour depends on, by a name in its expression or in a handler of either phase, directly or by a
+    /// chain; itself included.
     pub fn depends(&self, b: usize) -> Vec<usize> {
         let (mut todo, mut seen) = (vec![b], vec![]);
         while let Some(i) = todo.pop() {
@@ -697,20 +748,20 @@ impl Sheet {
         (we && (wf || rf) || wf && (we || re)) && !both_add
     }
 
-    /// For one behaviour: the first two events of unequal rank, by number, that meet at something it depends on, and the
-    /// least such.
+    /// For one behaviour: the first two events of unequal rank, by number, that meet at something it depends on, and
+    /// the least such.
     pub fn clash_for(&self, b: usize) -> Option<(usize, usize, usize)> {
         let (n, within) = (self.ranks.len(), self.depends(b));
         let pairs = (0..n).flat_map(|e| (e + 1..n).map(move |f| (e, f)));
-        let mut all = pairs.filter(|(e, f)| self.ranks[*e] != self.ranks[*f]).filter_map(|(e, f)| {
-            within.iter().filter(|i| self.meets(e, f, **i, &within)).min().map(|i| (e, f, *i))
-        });
+        let mut all = pairs
+            .filter(|(e, f)| self.ranks[*e] != self.ranks[*f])
+            .filter_map(|(e, f)| within.iter().filter(|i| self.meets(e, f, **i, &within)).min().map(|i| (e, f, *i)));
         all.next()
     }
 
-    /// Two events that are not independent: the least behaviour at which they meet, else the least that they share, and of
-    /// it, as bits: the first writes it, the second does, the first reads it, the second does, both only add to it, they
-    /// meet there.
+    /// Two events that are not independent: the least behaviour at which they meet, else the least that they share, and
+    /// of it, as bits: the first writes it, the second does, the first reads it, the second does, both only add to it,
+    /// they meet there.
     pub fn pair(&self, e: usize, f: usize) -> Option<(usize, u32)> {
         let all: Vec<usize> = (0..self.behaviours.len()).collect();
         let of = |b: usize| (self.touch(e, b, &all), self.touch(f, b, &all));
@@ -726,7 +777,9 @@ impl Sheet {
     }
 
     pub fn independent(&self, e: usize, f: usize) -> bool {
-        let apart = |e: usize, f: usize| self.writes(e).iter().all(|i| !self.reads(f).contains(i) && !self.writes(f).contains(i));
+        let apart = |e: usize, f: usize| {
+            self.writes(e).iter().all(|i| !self.reads(f).contains(i) && !self.writes(f).contains(i))
+        };
         apart(e, f) && apart(f, e)
     }
 }
@@ -821,7 +874,18 @@ impl Model {
         let board = sheet.fresh();
         let n = board.len();
         let code = (0..sheet.ranks.len()).map(|e| sheet.code(e)).collect();
-        Model { sheet, code, board, taken: 0, waiting: vec![], running: None, scratch: vec![None; n], stack: vec![], places: vec![None; n], mark: false }
+        Model {
+            sheet,
+            code,
+            board,
+            taken: 0,
+            waiting: vec![],
+            running: None,
+            scratch: vec![None; n],
+            stack: vec![],
+            places: vec![None; n],
+            mark: false,
+        }
     }
 
     fn rank(&self, e: usize) -> u8 {
@@ -852,7 +916,7 @@ impl Model {
     }
 
     pub fn settling(&self) -> bool {
-        self.running.map_or(false, |((_, e, _), c)| self.masks(e, c) == (2, true))
+        self.running.is_some_and(|((_, e, _), c)| self.masks(e, c) == (2, true))
     }
 
     fn execute(&mut self, i: Instr) {
@@ -911,7 +975,8 @@ impl Model {
         }
     }
 
-    /// Document 02, M-101: what the board shows once this arrival and everything in hand are run to idle, on a copy; turned down as the arrival, then by 18; M-107: then by 25.
+    /// Document 02, M-101: what the board shows once this arrival and everything in hand are run to idle, on a copy;
+    /// turned down as the arrival, then by 18; M-107: then by 25.
     pub fn preview(&self, e: u32, i: u32, who: u32) -> Answer {
         let mut copy = self.clone();
         match copy.call(Call::Arrive(e, who)) {
@@ -923,8 +988,8 @@ impl Model {
         }
     }
 
-    /// Up to so many steps with room for so many commits: how many were made, the commits, and why it ended: 0 all made, 1
-    /// nothing is in hand, 3 no room for a further commit. A step that finds the round idle is none of them.
+    /// Up to so many steps with room for so many commits: how many were made, the commits, and why it ended: 0 all
+    /// made, 1 nothing is in hand, 3 no room for a further commit. A step that finds the round idle is none of them.
     pub fn frame(&mut self, steps: u32, room: usize) -> (u32, Vec<Answer>, u64) {
         let mut commits = vec![];
         let mut made = 0;

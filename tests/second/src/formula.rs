@@ -1,4 +1,5 @@
-//! Formulas: a plain reader written from the request, held against the proved one on texts made at random, whole and damaged, and on both sides of each limit.
+//! Formulas: a plain reader written from the request, held against the proved one on texts made at random, whole and
+//! damaged, and on both sides of each limit.
 use crate::compare::Guarded;
 use crate::engine::arity;
 use crate::limits::{app, con, name};
@@ -144,7 +145,11 @@ pub fn plain(text: &[u8], room: usize) -> Result<Vec<u8>, u64> {
         return Err(9);
     }
     let field = tree.field();
-    if field.len() > room { Err(23) } else { Ok(field) }
+    if field.len() > room {
+        Err(23)
+    } else {
+        Ok(field)
+    }
 }
 
 /// Both readers on a text and a buffer of so many bytes: the answer, every byte of the buffer, and nothing beyond.
@@ -173,7 +178,8 @@ pub fn same(text: &[u8], room: usize) -> u64 {
 
 /// A text within the grammar: an operand at so many levels of nesting, with spaces and brackets here and there.
 pub fn text(r: &mut Rng, depth: usize, out: &mut String) {
-    let space = |r: &mut Rng, out: &mut String| (0..if r.one_in(4) { 1 + r.below(3) } else { 0 }).for_each(|_| out.push(' '));
+    let space =
+        |r: &mut Rng, out: &mut String| (0..if r.one_in(4) { 1 + r.below(3) } else { 0 }).for_each(|_| out.push(' '));
     space(r, out);
     if r.one_in(8) {
         out.push('(');
@@ -181,7 +187,9 @@ pub fn text(r: &mut Rng, depth: usize, out: &mut String) {
         out.push(')');
     } else if depth <= 1 || r.one_in(3) {
         match r.below(8) {
-            0 => *out += ["2147483647", "2147483648", "2147483646", "99999999999999999999999", "4294967296"][r.below(5)],
+            0 => {
+                *out += ["2147483647", "2147483648", "2147483646", "99999999999999999999999", "4294967296"][r.below(5)]
+            }
             1 => *out += &format!("{}{}", "0".repeat(r.below(4)), r.below(1000)),
             2..=4 => *out += &r.below(40).to_string(),
             _ => *out += &format!("b{}", r.below(64)),
@@ -243,7 +251,15 @@ pub fn one(seed: u64, tally: &mut [usize; 32]) {
         let t = match k {
             0..=2 => whole.into_bytes(),
             3 | 4 => damaged(r, whole.into_bytes()),
-            _ => (0..1 + r.below(12)).map(|_| ["||", "&&", "!", "+", "-", "*", "/", ">", ">=", "<", "<=", "==", "!=", "if", "(", ")", ",", "b7", "12", " ", "="][r.below(21)]).collect::<String>().into_bytes(),
+            _ => (0..1 + r.below(12))
+                .map(|_| {
+                    [
+                        "||", "&&", "!", "+", "-", "*", "/", ">", ">=", "<", "<=", "==", "!=", "if", "(", ")", ",",
+                        "b7", "12", " ", "=",
+                    ][r.below(21)]
+                })
+                .collect::<String>()
+                .into_bytes(),
         };
         let answer = same(&t, 8192);
         count(answer);
@@ -265,7 +281,31 @@ pub fn limits() {
     at("!!b3", 64, ok(12));
     at("if(b0<b1,b0,b1)", 64, ok(24));
     at("007", 7, ok(7));
-    for t in ["", " ", "1 2", "b64", "b00", "b 1", "b", "1+", "(1", "1)", "if(1,2)", "if 1", "i f(1,2,3)", "1< =2", "a", "-1", "1=2", "!==1", "1!2", "1,2", "\t1", "b1b2", "1&2"] {
+    for t in [
+        "",
+        " ",
+        "1 2",
+        "b64",
+        "b00",
+        "b 1",
+        "b",
+        "1+",
+        "(1",
+        "1)",
+        "if(1,2)",
+        "if 1",
+        "i f(1,2,3)",
+        "1< =2",
+        "a",
+        "-1",
+        "1=2",
+        "!==1",
+        "1!2",
+        "1,2",
+        "\t1",
+        "b1b2",
+        "1&2",
+    ] {
         at(t, 64, 21);
     }
     at("2147483647", 7, ok(7));
@@ -299,6 +339,8 @@ pub fn example(line: &str) {
         return;
     }
     let digits = says.replace(' ', "");
-    let field: Vec<u8> = (0..digits.len() / 2).map(|k| u8::from_str_radix(&digits[2 * k..2 * k + 2], 16).expect("a byte of a field")).collect();
+    let field: Vec<u8> = (0..digits.len() / 2)
+        .map(|k| u8::from_str_radix(&digits[2 * k..2 * k + 2], 16).expect("a byte of a field"))
+        .collect();
     assert_eq!(plain(text.as_bytes(), 64), Ok(field), "the page's {text}");
 }

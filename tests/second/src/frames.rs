@@ -94,7 +94,6 @@ pub fn one(seed: u64, sheet: &Sheet, table: &Guarded) -> usize {
     rounds(r, sheet, table) + damaged(r, sheet, table)
 }
 
-
 /// What tables tell of themselves: as compile left them, damaged, and of all lengths.
 pub fn counts(seed: u64, table: &Guarded) {
     let r = &mut Rng::new(seed ^ 0xC0);
@@ -114,4 +113,3 @@ pub fn counts(seed: u64, table: &Guarded) {
         t.check();
     }
 }
-

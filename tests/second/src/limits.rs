@@ -56,7 +56,8 @@ fn nots(n: usize) -> Vec<u8> {
     (0..n).fold(con(1), |e, _| app(3, &[e]))
 }
 
-/// A sheet whose events have so many instructions together: eight events over four passives of 58 nodes, 484 each, and one active with handlers for the rest.
+/// A sheet whose events have so many instructions together: eight events over four passives of 58 nodes, 484 each, and
+/// one active with handlers for the rest.
 fn of_length(total: usize, leaf: &[u8]) -> Vec<u8> {
     let mut left = total - 8 * (4 + 4 * (2 + 2 * 59));
     let mut handlers = Vec::new();
@@ -84,7 +85,8 @@ fn tree_of(size: usize) -> Vec<u8> {
     tree_with(size, &con(0))
 }
 
-/// A sheet of passives that has so many bytes: the last is a sum of a constants and b leaves of four bytes, 11 a + 8 b - 1 bytes.
+/// A sheet of passives that has so many bytes: the last is a sum of a constants and b leaves of four bytes, 11 a + 8 b
+/// - 1 bytes.
 pub fn of_bytes(n: usize, leaf: &[u8]) -> Vec<u8> {
     let mut s = passive(&con(1));
     while n - s.len() > 400 {
@@ -118,7 +120,8 @@ fn spent() {
     assert_eq!(proved::preview(&table, &round, 0, 0, 0), 17, "its preview");
 }
 
-/// S's events have 17 and 8 instructions: each arrival's and its start while nothing runs, the bound as soon as one does.
+/// S's events have 17 and 8 instructions: each arrival's and its start while nothing runs, the bound as soon as one
+/// does.
 fn forecast() {
     let mut table = vec![0u8; TABLE];
     let mut round = vec![0u8; 2048];
@@ -150,8 +153,29 @@ fn forecast() {
 /// M-102's quotients, as compile works them out and as an event does.
 fn quotients() {
     let (least, most) = (i32::MIN, i32::MAX);
-    let cases = [(-7, 2, -4), (7, -2, -4), (7, 2, 3), (-7, -2, 3), (-6, 2, -3), (6, -2, -3), (-1, 2, -1), (1, -2, -1), (0, -2, 0)];
-    let ends = [(5, 0, 0), (-5, 0, 0), (least, 0, 0), (least, -1, least), (least, 1, least), (most, -1, -most), (least, most, -2), (most, least, -1), (1, least, -1), (least, least, 1)];
+    let cases = [
+        (-7, 2, -4),
+        (7, -2, -4),
+        (7, 2, 3),
+        (-7, -2, 3),
+        (-6, 2, -3),
+        (6, -2, -3),
+        (-1, 2, -1),
+        (1, -2, -1),
+        (0, -2, 0),
+    ];
+    let ends = [
+        (5, 0, 0),
+        (-5, 0, 0),
+        (least, 0, 0),
+        (least, -1, least),
+        (least, 1, least),
+        (most, -1, -most),
+        (least, most, -2),
+        (most, least, -1),
+        (1, least, -1),
+        (least, least, 1),
+    ];
     for (n, d, want) in cases.into_iter().chain(ends) {
         let quotient = app(7, &[con(n), con(d)]);
         let sheet = join(&[event(0), active(0, &[handler(0, 0, &quotient)]), passive(&quotient)]);
@@ -184,10 +208,40 @@ fn marks_of(sheet: &[u8], calls: &[Call]) -> Vec<bool> {
 /// M-104: a commit's mark, for each function at its ends and wherever the meaning evaluates.
 fn marks() {
     let (least, most) = (i32::MIN, i32::MAX);
-    let sums = [(4, most, 1, true), (4, most, 0, false), (4, least, -1, true), (4, least, most, false), (4, -1, -1, false), (4, -1, 1, false)];
-    let differences = [(5, least, 1, true), (5, 0, least, true), (5, -1, least, false), (5, most, -1, true), (5, -2, most, true), (5, -1, most, false)];
-    let products = [(6, 46341, 46341, true), (6, 46340, 46340, false), (6, 65536, -32768, false), (6, 65536, 32768, true), (6, least, -1, true), (6, -65536, -32768, true), (6, -65537, 32768, true)];
-    let quotients = [(7, least, -1, true), (7, least, 1, false), (7, 5, 0, true), (7, 0, 0, true), (7, -7, 2, false), (7, least, 2, false), (7, least + 1, -1, false)];
+    let sums = [
+        (4, most, 1, true),
+        (4, most, 0, false),
+        (4, least, -1, true),
+        (4, least, most, false),
+        (4, -1, -1, false),
+        (4, -1, 1, false),
+    ];
+    let differences = [
+        (5, least, 1, true),
+        (5, 0, least, true),
+        (5, -1, least, false),
+        (5, most, -1, true),
+        (5, -2, most, true),
+        (5, -1, most, false),
+    ];
+    let products = [
+        (6, 46341, 46341, true),
+        (6, 46340, 46340, false),
+        (6, 65536, -32768, false),
+        (6, 65536, 32768, true),
+        (6, least, -1, true),
+        (6, -65536, -32768, true),
+        (6, -65537, 32768, true),
+    ];
+    let quotients = [
+        (7, least, -1, true),
+        (7, least, 1, false),
+        (7, 5, 0, true),
+        (7, 0, 0, true),
+        (7, -7, 2, false),
+        (7, least, 2, false),
+        (7, least + 1, -1, false),
+    ];
     let tests = [1, 2, 8, 9, 10, 11, 12, 13].map(|f| (f, least, most, false));
     for (f, a, b, want) in sums.into_iter().chain(differences).chain(products).chain(quotients).chain(tests) {
         let x = app(f, &[con(a), con(b)]);
@@ -195,16 +249,33 @@ fn marks() {
             let sheet = join(&[event(0), active(0, &[handler(0, later, &x)])]);
             assert_eq!(marks_of(&sheet, &[Call::Arrive(0, 0)]), [want], "{f} of {a} and {b}");
         }
-        let sheet = join(&[event(0), passive(&app(3, &[x.clone()]))]);
+        let sheet = join(&[event(0), passive(&app(3, &[x]))]);
         assert_eq!(marks_of(&sheet, &[Call::Arrive(0, 0)]), [want], "{f} of {a} and {b} in a passive");
     }
     let over = app(4, &[con(most), con(1)]);
     let unused = app(14, &[con(0), over.clone(), con(3)]);
-    assert_eq!(marks_of(&join(&[event(0), active(0, &[handler(0, 0, &unused)])]), &[Call::Arrive(0, 0)]), [true], "`if` evaluates all three");
+    assert_eq!(
+        marks_of(&join(&[event(0), active(0, &[handler(0, 0, &unused)])]), &[Call::Arrive(0, 0)]),
+        [true],
+        "`if` evaluates all three"
+    );
     let unread = join(&[event(0), event(0), active(0, &[handler(1, 0, &over)])]);
-    assert_eq!(marks_of(&unread, &[Call::Arrive(0, 0), Call::Arrive(1, 0), Call::Arrive(0, 0)]), [false, true, false], "each commit has its own");
-    let second = join(&[event(0), event(0), active(1, &[handler(0, 1, &con(0)), handler(1, 0, &con(1))]), passive(&app(7, &[con(5), name(0)]))]);
-    assert_eq!(marks_of(&second, &[Call::Arrive(0, 0), Call::Arrive(1, 0), Call::Arrive(1, 0)]), [true, false, false], "in the second phase alone");
+    assert_eq!(
+        marks_of(&unread, &[Call::Arrive(0, 0), Call::Arrive(1, 0), Call::Arrive(0, 0)]),
+        [false, true, false],
+        "each commit has its own"
+    );
+    let second = join(&[
+        event(0),
+        event(0),
+        active(1, &[handler(0, 1, &con(0)), handler(1, 0, &con(1))]),
+        passive(&app(7, &[con(5), name(0)])),
+    ]);
+    assert_eq!(
+        marks_of(&second, &[Call::Arrive(0, 0), Call::Arrive(1, 0), Call::Arrive(1, 0)]),
+        [true, false, false],
+        "in the second phase alone"
+    );
     let broken = join(&[event(1), event(2), active(0, &[handler(0, 0, &over)]), active(0, &[handler(1, 0, &con(1))])]);
     let calls = [&[Call::Arrive(0, 0)][..], &[Call::Step; 7], &[Call::Arrive(1, 0)]].concat();
     assert_eq!(marks_of(&broken, &calls), [false, true], "what a broken-in handler found is dropped");
@@ -215,7 +286,8 @@ fn rest_day() {
     let mut table = Guarded::new(TABLE + 8, 0x33);
     let sheet = compare::compile(&[], &[], &mut table).expect("a sheet of no bytes");
     assert!(sheet.ranks.is_empty() && sheet.behaviours.is_empty());
-    let calls: Vec<Call> = [0, 1, 31, 32, u32::MAX].iter().flat_map(|&n| [Call::Arrive(n, 0), Call::Step, Call::Board(n, 0)]).collect();
+    let calls: Vec<Call> =
+        [0, 1, 31, 32, u32::MAX].iter().flat_map(|&n| [Call::Arrive(n, 0), Call::Step, Call::Board(n, 0)]).collect();
     compare::run(&sheet, &table, &calls);
     let mut round = vec![0u8; 2048];
     assert_eq!(proved::start(table.part(), &mut round), 0);
@@ -231,7 +303,8 @@ fn rest_day() {
     assert!(round == fresh, "a rest day changed the round");
 }
 
-/// Event 0 of S makes (1, 1) to (2, 1) and that to (3, 2); event 1 makes b1 1. A preview tells so and leaves the round, also during copy-back; then what turns it down.
+/// Event 0 of S makes (1, 1) to (2, 1) and that to (3, 2); event 1 makes b1 1. A preview tells so and leaves the round,
+/// also during copy-back; then what turns it down.
 fn preview() {
     let mut table = vec![0u8; TABLE];
     let mut round = vec![0u8; 2048];
@@ -265,10 +338,16 @@ fn preview() {
     assert_eq!(proved::arrive(&table, &mut round, 0, 0), 0, "the arrival is not");
 }
 
-/// 02, M-108: a circle of 64 under the last of 32 events, a shorter one beside it, one of itself, one under no event, a list of 63 bytes, and parameters lent, too few, or none.
+/// 02, M-108: a circle of 64 under the last of 32 events, a shorter one beside it, one of itself, one under no event, a
+/// list of 63 bytes, and parameters lent, too few, or none.
 fn circles() {
     let events = join(&vec![event(1); 32]);
-    let ring = |n: u8, to: u8| (0..n).map(|i| active(0, &[handler(31, 0, &name(if i == to { 0 } else { (i + 1) % n }))])).collect::<Vec<_>>().concat();
+    let ring = |n: u8, to: u8| {
+        (0..n)
+            .map(|i| active(0, &[handler(31, 0, &name(if i == to { 0 } else { (i + 1) % n }))]))
+            .collect::<Vec<_>>()
+            .concat()
+    };
     let answer = |sheet: &[u8], params: &[u8]| {
         let mut list = [0u8; 64];
         compare::circle(sheet, params, 64);
@@ -278,10 +357,20 @@ fn circles() {
     };
     assert_eq!(answer(&join(&[events.clone(), ring(64, 64)]), &[]), 12 + 31 * 256 + 64 * 65536, "64 behaviours");
     assert_eq!(answer(&join(&[events.clone(), ring(64, 20)]), &[]), 12 + 31 * 256 + 21 * 65536, "21 of 64");
-    assert_eq!(answer(&join(&[events.clone(), ring(62, 62), passive(&app(4, &[name(62), con(1)])), passive(&name(63))]), &[]) % 65536, 12 + 255 * 256, "itself, under none");
-    assert_eq!(answer(&join(&[passive(&name(1)), passive(&name(0))]), &[]), 12 + 255 * 256 + 2 * 65536, "under none, with no event");
+    assert_eq!(
+        answer(&join(&[events.clone(), ring(62, 62), passive(&app(4, &[name(62), con(1)])), passive(&name(63))]), &[])
+            % 65536,
+        12 + 255 * 256,
+        "itself, under none"
+    );
+    assert_eq!(
+        answer(&join(&[passive(&name(1)), passive(&name(0))]), &[]),
+        12 + 255 * 256 + 2 * 65536,
+        "under none, with no event"
+    );
     assert_eq!(answer(&crate::desk::sheet_s(), &[]), 0, "no circle");
-    let with = join(&[events, ring(61, 61), passive(&app(4, &[param(7), name(62)])), passive(&app(4, &[param(0), name(61)]))]);
+    let with =
+        join(&[events, ring(61, 61), passive(&app(4, &[param(7), name(62)])), passive(&app(4, &[param(0), name(61)]))]);
     for lent in [0, 31] {
         assert_eq!(answer(&with, &vec![0x80; lent]), 20, "{lent} bytes lent");
     }
@@ -342,7 +431,8 @@ fn parameters() {
     }
 }
 
-/// M-107 in the sheet: an event of length 2, a field 08 at the end of a passive and of an active, and what is refused there.
+/// M-107 in the sheet: an event of length 2, a field 08 at the end of a passive and of an active, and what is refused
+/// there.
 fn rights() {
     let seen = |m: u8| field(8, &[m]);
     let with = |end: &[u8]| passive(&join(&[con(1), end.to_vec()]));
@@ -371,16 +461,12 @@ fn rights() {
     check("a field 08 alone", &seen(1), 5);
 }
 
-/// M-107 in a round: event 0 is player 1's, event 1 everybody's; b0 is hidden from all but the host and player 2, b1 is seen by all. Which refusal comes first, what the hand and the answers keep, what the
-/// others are told.
+/// M-107 in a round: event 0 is player 1's, event 1 everybody's; b0 is hidden from all but the host and player 2, b1 is
+/// seen by all. Which refusal comes first, what the hand and the answers keep, what the others are told.
 fn players() {
     let over = app(4, &[con(i32::MAX), con(1)]);
-    let sheet = join(&[
-        field(1, &[1, 2]),
-        event(2),
-        active(5, &[handler(0, 0, &over), field(8, &[4])]),
-        active(7, &[]),
-    ]);
+    let sheet =
+        join(&[field(1, &[1, 2]), event(2), active(5, &[handler(0, 0, &over), field(8, &[4])]), active(7, &[])]);
     let (mut table, mut round) = (vec![0u8; TABLE], vec![0u8; proved::ROUND]);
     assert_eq!(proved::compile(&sheet, &[], &mut table), 0);
     proved::start(&table, &mut round);
@@ -388,7 +474,15 @@ fn players() {
         let arrives = |e: u32| proved::arrive(&table, &mut round.clone(), e, who);
         let reads = |i: u32| proved::board(&table, &round, i, who);
         let tries = |e: u32, i: u32| proved::preview(&table, &round, e, i, who);
-        let no = |right: bool, n: u64| if who > 7 { 24 } else if right { n } else { 25 };
+        let no = |right: bool, n: u64| {
+            if who > 7 {
+                24
+            } else if right {
+                n
+            } else {
+                25
+            }
+        };
         let value = |v: u64| (1u64 << 32) + v;
         assert_eq!(arrives(0) as u64, no(who < 2, 0), "event 0 of {who}");
         assert_eq!(arrives(1) as u64, no(true, 0), "event 1 of {who}");
@@ -416,7 +510,11 @@ fn players() {
     let both = |kind: u64, n: u64, e: u64, who: u64| n * 65536 + e * 256 + who * 16 + kind;
     let over = both(3, 0, 0, 1) + (1 << 56);
     assert_eq!(said, [both(4, 1, 1, 7), both(3, 1, 1, 7), both(2, 0, 0, 1), over], "the answers keep the players");
-    assert_eq!(said.iter().map(|a| proved::told(*a)).collect::<Vec<_>>(), [said[0], said[1], said[2], both(3, 0, 0, 1)], "told without the mark");
+    assert_eq!(
+        said.iter().map(|a| proved::told(*a)).collect::<Vec<_>>(),
+        [said[0], said[1], said[2], both(3, 0, 0, 1)],
+        "told without the mark"
+    );
     (0..64).for_each(|_| assert_eq!(proved::arrive(&table, &mut round, 1, 3), 0));
     assert_eq!(proved::arrive(&table, &mut round, 0, 3), 25, "25 before 16");
     assert_eq!(proved::arrive(&table, &mut round, 1, 3), 16, "a full hand");
@@ -431,9 +529,12 @@ fn players() {
     }
 }
 
-/// M-110: cell counts, the order of a row's faults, the 64 behaviours, names in a row's handlers, and the limits of a sheet with rows.
+/// M-110: cell counts, the order of a row's faults, the 64 behaviours, names in a row's handlers, and the limits of a
+/// sheet with rows.
 fn rows() {
-    let row = |count: u8, start: i32, parts: &[Vec<u8>]| field(6, &join(&[vec![count], field(4, &start.to_be_bytes()), join(parts)]));
+    let row = |count: u8, start: i32, parts: &[Vec<u8>]| {
+        field(6, &join(&[vec![count], field(4, &start.to_be_bytes()), join(parts)]))
+    };
     let ones = |n: usize| join(&vec![passive(&con(1)); n]);
     for count in [0, 1, 2, 16, 17, 255] {
         check("a cell count", &row(count, 1, &[]), if (2..=16).contains(&count) { 0 } else { 8 });
@@ -453,7 +554,11 @@ fn rows() {
     check("four rows of 16", &join(&vec![row(16, 1, &[]); 4]), 0);
     check("and a passive", &join(&[join(&vec![row(16, 1, &[]); 4]), ones(1)]), 7);
     check("who may see a row", &row(3, 1, &[field(8, &[2])]), 0);
-    check("a handler past a row's field 08", &join(&[event(0), row(3, 1, &[field(8, &[2]), handler(0, 0, &con(1))])]), 6);
+    check(
+        "a handler past a row's field 08",
+        &join(&[event(0), row(3, 1, &[field(8, &[2]), handler(0, 0, &con(1))])]),
+        6,
+    );
     check("a doubled handler", &join(&[event(0), row(3, 1, &[handler(0, 0, &con(1)), handler(0, 1, &con(1))])]), 10);
     let own = |f: u8, n: u8| handler(0, f, &app(4, &[name(n), con(1)]));
     check("a row names its own first cell", &join(&[event(0), row(16, 0, &[own(0, 0)])]), 0);
@@ -462,7 +567,8 @@ fn rows() {
     check("two rows of a count in a circle", &join(&[event(0), row(3, 0, &[own(0, 3)]), row(3, 0, &[own(0, 0)])]), 12);
     check("one of them later", &join(&[event(0), row(3, 0, &[own(0, 3)]), row(3, 0, &[own(1, 0)])]), 0);
     check("a parameter in a row, none lent", &join(&[event(0), row(2, 0, &[handler(0, 0, &param(0))])]), 20);
-    // two rows of 2 and one of 3, each cell starting apart by an event of its own; then the second row's cells move to the first row's, the third's to b0
+    // two rows of 2 and one of 3, each cell starting apart by an event of its own; then the second row's cells move to
+    // the first row's, the third's to b0
     let sheet = join(&[
         event(0),
         event(0),
@@ -490,18 +596,28 @@ fn rows() {
     }
     // 3 counts the bytes as sent: written out, these 34 cells with 20 handlers of 12 bytes would be over 8,192
     let many: Vec<Vec<u8>> = (0..20).map(|e| handler(e, 0, &con(7))).collect();
-    check("rows that are long when written out", &join(&[join(&vec![event(0); 20]), row(16, 0, &many), row(16, 0, &many), row(2, 0, &many)]), 0);
+    check(
+        "rows that are long when written out",
+        &join(&[join(&vec![event(0); 20]), row(16, 0, &many), row(16, 0, &many), row(2, 0, &many)]),
+        0,
+    );
     check("8,193 bytes with a row", &join(&[row(2, 0, &[]), of_bytes(8193 - row(2, 0, &[]).len(), &name(0))]), 3);
 }
 
-/// Document 02, M-112: a round goes on under a sheet without events, whose passives follow what was kept; 28 with something in hand, 19 in copy-back before it, 14 for the passives' instructions before both.
+/// Document 02, M-112: a round goes on under a sheet without events, whose passives follow what was kept; 28 with
+/// something in hand, 19 in copy-back before it, 14 for the passives' instructions before both.
 fn changes() {
     let table_of = |sheet: &[u8]| {
         let mut t = vec![0u8; TABLE];
         assert_eq!(proved::compile(sheet, &[], &mut t), 0);
         t
     };
-    let old = table_of(&join(&[event(1), active(3, &[handler(0, 0, &app(4, &[name(0), con(1)]))]), passive(&con(8)), active(5, &[])]));
+    let old = table_of(&join(&[
+        event(1),
+        active(3, &[handler(0, 0, &app(4, &[name(0), con(1)]))]),
+        passive(&con(8)),
+        active(5, &[]),
+    ]));
     // an active kept, an active that was a passive, a passive that was an active, and one past the old sheet's end
     let new = table_of(&join(&[active(9, &[]), active(7, &[]), passive(&app(6, &[name(0), name(1)])), active(6, &[])]));
     let mut round = vec![0u8; 2048];
@@ -514,7 +630,8 @@ fn changes() {
         proved::step(&old, &mut round);
     }
     assert_eq!(proved::mend(&old, &new, &mut round), 19, "19 before 28");
-    let words: Vec<(usize, u32)> = vec![(0, 33), (1, 65), (360, 4097), (361, 4096), (512, 0), (512, 6 * 256 + 64), (516, 8 * 256 + 14)];
+    let words: Vec<(usize, u32)> =
+        vec![(0, 33), (1, 65), (360, 4097), (361, 4096), (512, 0), (512, 6 * 256 + 64), (516, 8 * 256 + 14)];
     for (k, w) in words.iter().copied().chain([(361, 4097)]) {
         let mut bad = new.clone();
         crate::words::put(&mut bad, k, w);
@@ -524,7 +641,11 @@ fn changes() {
     assert_eq!(proved::mend(&old[..TABLE - 1], &new, &mut round), 14, "a short old table");
     while proved::step(&old, &mut round) != 0 {}
     assert_eq!(proved::mend(&old, &new, &mut round), 0, "a sheet without events");
-    assert_eq!((0..4).map(|i| value(&new, &round, i)).collect::<Vec<_>>(), [4, 7, 28, 6], "kept, new start, worked out anew, new start");
+    assert_eq!(
+        (0..4).map(|i| value(&new, &round, i)).collect::<Vec<_>>(),
+        [4, 7, 28, 6],
+        "kept, new start, worked out anew, new start"
+    );
     assert_eq!(crate::words::get(&round, 0), 1, "the number taken in");
     let full = table_of(&of_bytes(8192, &name(0)));
     assert_eq!(proved::mend(&new, &full, &mut round), 0, "as many passives as a sheet can hold");
@@ -558,12 +679,14 @@ pub fn run() {
     check("unknown name", &passive(&name(1)), 11);
     check("a name further on", &join(&[passive(&name(1)), passive(&con(1))]), 0);
     check("circle under no event", &passive(&name(0)), 12);
-    let both = |later: u8| join(&[event(1), active(1, &[handler(0, 0, &name(1))]), active(2, &[handler(0, later, &name(0))])]);
+    let both =
+        |later: u8| join(&[event(1), active(1, &[handler(0, 0, &name(1))]), active(2, &[handler(0, later, &name(0))])]);
     check("immediate and later", &both(1), 0);
     check("both immediate", &both(0), 12);
     for total in [4095, 4096, 4097] {
         let s = of_length(total, &con(0));
-        let counted: usize = engine::compile(&s, &[]).map(|p| (0..p.ranks.len()).map(|e| p.count(e)).sum()).unwrap_or(0);
+        let counted: usize =
+            engine::compile(&s, &[]).map(|p| (0..p.ranks.len()).map(|e| p.count(e)).sum()).unwrap_or(0);
         check("instructions", &s, if total > 4096 { 13 } else { 0 });
         assert!(total > 4096 || counted == total);
     }
@@ -585,5 +708,9 @@ pub fn run() {
     crate::pool::limits();
     crate::agree::limits();
     spent();
-    println!("limits: every refusal of compile, both sides of each limit, forecasts, quotients, marks, a rest day, parameters, rights in sheets, rows, players, changes of sheets, previews, formulas, circles, joins, agreement, leaks, 1,000,000 arrivals");
+    println!(
+        "limits: every refusal of compile, both sides of each limit, forecasts, quotients, marks, a rest day, \
+         parameters, rights in sheets, rows, players, changes of sheets, previews, formulas, circles, joins, \
+         agreement, leaks, 1,000,000 arrivals"
+    );
 }

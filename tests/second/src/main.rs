@@ -1,6 +1,7 @@
 //! Holds the proved engine against a plain one.
 //!
-//! second compare FIRST COUNT   sheets, tables, answers, rounds, damaged bytes, starts, replays, changes of sheets, formulas and joins on COUNT seeds from FIRST on
+//! second compare FIRST COUNT   sheets, tables, answers, rounds, damaged bytes, starts, replays, changes of sheets,
+//!                              formulas and joins on COUNT seeds from FIRST on
 //! second limits                every refusal of compile, and both sides of each limit
 //! second bench [RUNS]          times of every call beside the plain engine and the one in C, for tests/bench/run
 //! second sheets FOLDER         sheets that are measured, for tests/bench/old.c
@@ -10,8 +11,9 @@
 //! second record FILE CALLS     calls with their answers and bytes, for other processors to replay
 //! second rounds FILE FIRST COUNT   recorded rounds of COUNT seeds from FIRST on, as the plain engine answers them
 //! second league FILE ROUNDS CALLS   so many rounds of so many calls on one sheet, to measure the audit
-//! second text FIRST COUNT      texts at each limit; sheets of COUNT seeds from FIRST on as text and back, damaged texts, formulas
-//! second phones FOLDER MATCHES   matches as two phones play them, by deliveries on two threads; for other hosts to play
+//! second text FIRST COUNT      texts at each limit; sheets of COUNT seeds from FIRST on as text and back, damaged
+//!                              texts, formulas
+//! second phones FOLDER MATCHES   matches as two phones play them, by deliveries on two threads; for other hosts
 //! second audit PROGRAM FOLDER SEEDS   the audit program on such rounds, with differences and damage planted
 mod agree;
 mod bench;
@@ -55,7 +57,11 @@ fn main() {
         Some("audit") => rounds::run(&words[2], &words[3], number(4, 400)),
         Some("record") => record::run(&words[2], number(3, 120_000)),
         _ => {
-            println!("second compare FIRST COUNT | limits | bench [RUNS] | sheets FOLDER | waits | desk PROGRAM SEEDS | page PAGE PROGRAM INPUT | record FILE CALLS | rounds FILE FIRST COUNT | league FILE ROUNDS CALLS | audit PROGRAM FOLDER SEEDS | text FIRST COUNT");
+            println!(
+                "second compare FIRST COUNT | limits | bench [RUNS] | sheets FOLDER | waits | desk PROGRAM SEEDS | \
+                 page PAGE PROGRAM INPUT | record FILE CALLS | rounds FILE FIRST COUNT | league FILE ROUNDS CALLS | \
+                 audit PROGRAM FOLDER SEEDS | text FIRST COUNT"
+            );
             std::process::exit(2);
         }
     }
@@ -76,7 +82,11 @@ fn compare(first: u64, count: u64) {
         }
     }
     let [not_started, started] = tally.starts;
-    print!("accepted {}, calls {}, pairs of phones {}, foreign {}, starts {started} and {not_started} refused; sheets refused", tally.accepted, tally.calls, tally.pairs, tally.foreign);
+    print!(
+        "accepted {}, calls {}, pairs of phones {}, foreign {}, starts {started} and {not_started} refused; sheets \
+         refused",
+        tally.accepted, tally.calls, tally.pairs, tally.foreign
+    );
     for (n, k) in tally.refused.iter().enumerate().filter(|(_, k)| **k > 0) {
         print!(" {n}:{k}");
     }

@@ -48,7 +48,11 @@ fn expr(r: &mut Rng, w: &Within) -> Expr {
             let known = if r.one_in(20) { 10 } else { 8 };
             return Expr::Param(r.below(known));
         }
-        if w.names.is_empty() || r.one_in(3) { Expr::Con(constant(r)) } else { Expr::Name(w.names[r.below(w.names.len())]) }
+        if w.names.is_empty() || r.one_in(3) {
+            Expr::Con(constant(r))
+        } else {
+            Expr::Name(w.names[r.below(w.names.len())])
+        }
     } else {
         let f = 1 + r.below(14) as u8;
         let inner = Within { depth: w.depth - 1, ..*w };
@@ -125,8 +129,8 @@ fn handlers(r: &mut Rng, events: usize, seen: &[usize], n: usize, depth: usize) 
     hs
 }
 
-/// The bytes of a sheet with rows (02, M-110) among its behaviours, mostly accepted: immediate handlers and passives name what is further down in a hidden order of the fields, first cells
-/// above all, and a row its own first cell.
+/// The bytes of a sheet with rows (02, M-110) among its behaviours, mostly accepted: immediate handlers and passives
+/// name what is further down in a hidden order of the fields, first cells above all, and a row its own first cell.
 pub fn rowed(r: &mut Rng) -> Vec<u8> {
     let events = r.below(4);
     let fields = 1 + r.below(6);
@@ -140,7 +144,8 @@ pub fn rowed(r: &mut Rng) -> Vec<u8> {
     for k in 0..fields {
         let mut names: Vec<usize> = first.clone();
         names.extend(0..n);
-        names.retain(|&j| wild || (0..fields).any(|f| place[f] < place[k] && first[f] <= j && j < first[f] + counts[f]));
+        names
+            .retain(|&j| wild || (0..fields).any(|f| place[f] < place[k] && first[f] <= j && j < first[f] + counts[f]));
         if r.one_in(30) {
             names.push(n);
         }
@@ -268,7 +273,11 @@ pub fn damaged(r: &mut Rng, mut s: Vec<u8>) -> Vec<u8> {
 
 /// One of the eight, mostly, or 8 or 9; now and then a large number.
 pub fn player(r: &mut Rng) -> u32 {
-    if r.one_in(50) { r.next() as u32 } else { r.below(10) as u32 }
+    if r.one_in(50) {
+        r.next() as u32
+    } else {
+        r.below(10) as u32
+    }
 }
 
 pub fn calls(r: &mut Rng, sheet: &Sheet, n: usize) -> Vec<Call> {

@@ -1,11 +1,13 @@
-//! The setter's page, docs/SHEETS.md: its worked sheet byte by byte, the boards it names, and what it says is printed, held against the desk program; its formulas and their fields.
+//! The setter's page, docs/SHEETS.md: its worked sheet byte by byte, the boards it names, and what it says is printed,
+//! held against the desk program; its formulas and their fields.
 use crate::desk::{arrive, play, sheet, show, steps};
 use crate::formula;
 use crate::proved::{self, ROUND, TABLE};
 
 /// A section of the page, without its heading.
 fn section<'a>(page: &'a str, heading: &str) -> &'a str {
-    let (_, after) = page.split_once(&format!("\n## {heading}\n")).unwrap_or_else(|| panic!("the page has no section '{heading}'"));
+    let (_, after) =
+        page.split_once(&format!("\n## {heading}\n")).unwrap_or_else(|| panic!("the page has no section '{heading}'"));
     after.split("\n## ").next().unwrap()
 }
 
@@ -17,7 +19,9 @@ fn example(section: &str) -> Vec<&str> {
 /// The bytes of a line: hexadecimal digits in groups, up to two spaces and what they mean.
 fn bytes_of(line: &str) -> Vec<u8> {
     let digits: String = line.trim_start().split("  ").next().unwrap().replace(' ', "");
-    (0..digits.len() / 2).map(|k| u8::from_str_radix(&digits[2 * k..2 * k + 2], 16).expect("a byte of the worked sheet")).collect()
+    (0..digits.len() / 2)
+        .map(|k| u8::from_str_radix(&digits[2 * k..2 * k + 2], 16).expect("a byte of the worked sheet"))
+        .collect()
 }
 
 /// The pairs in brackets that a section's text names, each as the desk program shows a board.
@@ -26,16 +30,22 @@ fn boards(section: &str) -> Vec<String> {
     text.split('(').skip(1).map(|p| format!("B {}\n", p.split(')').next().unwrap().replace(", ", " "))).collect()
 }
 
-/// The sheet with a parameter: its bytes, what the desk program prints, and the pairs of a parameter and b0 after three events.
+/// The sheet with a parameter: its bytes, what the desk program prints, and the pairs of a parameter and b0 after three
+/// events.
 fn parameters(section: &str, program: &str) {
     let bytes: Vec<u8> = example(section).iter().flat_map(|l| bytes_of(l)).collect();
-    assert!(section.contains(&format!("These are {} bytes.", bytes.len())), "the sheet with a parameter has {} bytes", bytes.len());
+    assert!(
+        section.contains(&format!("These are {} bytes.", bytes.len())),
+        "the sheet with a parameter has {} bytes",
+        bytes.len()
+    );
     let printed = play(program, &sheet(&bytes));
     assert!(section.contains(&format!("it prints {}.", printed.trim())), "the sheet with a parameter prints {printed}");
     let pairs = boards(section);
     assert_eq!(pairs.len(), 3, "pairs of a parameter and b0");
     for pair in pairs {
-        let numbers: Vec<i32> = pair.split_whitespace().skip(1).map(|n| n.parse().expect("a number of the page")).collect();
+        let numbers: Vec<i32> =
+            pair.split_whitespace().skip(1).map(|n| n.parse().expect("a number of the page")).collect();
         let mut params = [0u8; 32];
         params[..4].copy_from_slice(&numbers[0].to_be_bytes());
         let (mut table, mut round) = (vec![0u8; TABLE], vec![0u8; ROUND]);
@@ -50,11 +60,19 @@ fn parameters(section: &str, program: &str) {
 /// The sheet with rows: its bytes, and the boards after event 0 and event 1.
 fn rows(section: &str, program: &str) {
     let bytes: Vec<u8> = example(section).iter().flat_map(|l| bytes_of(l)).collect();
-    assert!(section.contains(&format!("These are {} bytes.", bytes.len())), "the sheet with rows has {} bytes", bytes.len());
+    assert!(
+        section.contains(&format!("These are {} bytes.", bytes.len())),
+        "the sheet with rows has {} bytes",
+        bytes.len()
+    );
     let boards: Vec<String> = boards(section).into_iter().filter(|b| b.matches(' ').count() == 6).collect();
     assert_eq!(boards.len(), 2, "boards of the sheet with rows");
     let script = [sheet(&bytes), arrive(0), steps(60), show(), arrive(1), steps(60), show()].concat();
-    assert_eq!(play(program, &script), format!("C 0 0\n{}C 1 1\n{}", boards[0], boards[1]), "the boards of the sheet with rows");
+    assert_eq!(
+        play(program, &script),
+        format!("C 0 0\n{}C 1 1\n{}", boards[0], boards[1]),
+        "the boards of the sheet with rows"
+    );
 }
 
 /// A section's indented lines, block by block.
@@ -71,8 +89,8 @@ fn examples(section: &str) -> Vec<Vec<&str>> {
     blocks
 }
 
-/// The final on which phones differ and the one on which they agree: what `agree` answers, and the boards of both ways of
-/// stepping two hits and a time-up, as the page names them.
+/// The final on which phones differ and the one on which they agree: what `agree` answers, and the boards of both ways
+/// of stepping two hits and a time-up, as the page names them.
 fn agreement(section: &str, program: &str) {
     let sheets: Vec<Vec<u8>> = examples(section).iter().map(|b| b.iter().flat_map(|l| bytes_of(l)).collect()).collect();
     assert_eq!(sheets.len(), 2, "a bad final and a good one");
@@ -83,8 +101,10 @@ fn agreement(section: &str, program: &str) {
     let boards = boards(section);
     assert_eq!(boards.len(), 3, "the bad final's two boards and the good one's");
     let at_once = |s: &[u8]| [sheet(s), arrive(0), arrive(0), arrive(1), steps(200), show()].concat();
-    let one_by_one = |s: &[u8]| [sheet(s), [arrive(0), steps(60)].concat().repeat(2), arrive(1), steps(60), show()].concat();
-    let ends = |script: Vec<u8>, board: &str| assert!(play(program, &script).ends_with(board), "a final ends with {board}");
+    let one_by_one =
+        |s: &[u8]| [sheet(s), [arrive(0), steps(60)].concat().repeat(2), arrive(1), steps(60), show()].concat();
+    let ends =
+        |script: Vec<u8>, board: &str| assert!(play(program, &script).ends_with(board), "a final ends with {board}");
     ends(at_once(&sheets[0]), &boards[0]);
     ends(one_by_one(&sheets[0]), &boards[1]);
     ends(at_once(&sheets[1]), &boards[2]);
@@ -103,11 +123,23 @@ pub fn run(page: &str, program: &str, input: &str) {
     let input = std::fs::read(input).expect("the desk program's example");
     let worked = section(&page, "A worked sheet");
     let bytes: Vec<u8> = example(worked).iter().flat_map(|l| bytes_of(l)).collect();
-    assert!(worked.contains(&format!("These are {} bytes.", bytes.len())), "the worked sheet has {} bytes", bytes.len());
+    assert!(
+        worked.contains(&format!("These are {} bytes.", bytes.len())),
+        "the worked sheet has {} bytes",
+        bytes.len()
+    );
     as_text("s", &bytes);
     let text = example(section(&page, "Written as text")).join("\n");
-    assert_eq!(sheet_text::assemble(text.as_bytes()).map(|read| read.sheet), Ok(bytes.clone()), "the worked sheet as text");
-    assert_eq!([sheet(&bytes), arrive(0), steps(18), show()].concat(), input, "the example's sheet, arrival, 18 steps and show");
+    assert_eq!(
+        sheet_text::assemble(text.as_bytes()).map(|read| read.sheet),
+        Ok(bytes.clone()),
+        "the worked sheet as text"
+    );
+    assert_eq!(
+        [sheet(&bytes), arrive(0), steps(18), show()].concat(),
+        input,
+        "the example's sheet, arrival, 18 steps and show"
+    );
 
     let boards = boards(worked);
     assert_eq!(boards.len(), 3, "boards after event 0 once, twice, three times");
@@ -123,5 +155,9 @@ pub fn run(page: &str, program: &str, input: &str) {
     let formulas = example(section(&page, "Formulas"));
     assert!(!formulas.is_empty(), "formulas with their fields");
     formulas.iter().for_each(|l| formula::example(l));
-    println!("page: the worked sheet, its boards, what the desk program prints, the sheet with a parameter, the sheet with rows, the finals, {} formulas", formulas.len());
+    println!(
+        "page: the worked sheet, its boards, what the desk program prints, the sheet with a parameter, the sheet with \
+         rows, the finals, {} formulas",
+        formulas.len()
+    );
 }

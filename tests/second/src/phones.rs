@@ -1,7 +1,7 @@
-//! Matches as two phones play them: one order of a thousand events in bursts of over 64, with changes of sheets between,
-//! on two threads that make a different number of steps a frame. Their boards must be equal, and a host that hands events
-//! in by `arrive` and drops refusals must be noticed. The matches are written to a folder, with the board that each ends
-//! with, for the hosts in C and JavaScript.
+//! Matches as two phones play them: one order of a thousand events in bursts of over 64, with changes of sheets
+//! between, on two threads that make a different number of steps a frame. Their boards must be equal, and a host that
+//! hands events in by `arrive` and drops refusals must be noticed. The matches are written to a folder, with the board
+//! that each ends with, for the hosts in C and JavaScript.
 use poqashem::{Event, NotThere, Params, Player, Refusal, Round, Sheet, Table};
 
 use crate::engine;
@@ -113,7 +113,10 @@ fn daily(r: &mut Rng) -> Match {
     let sheet = Sheet::assemble(include_str!("../../../examples/daily.sheet")).expect("the example");
     let filled = |points: i32| {
         let mut params = [0; 32];
-        [points, 3, 25].iter().enumerate().for_each(|(k, v)| params[4 * k..4 * k + 4].copy_from_slice(&v.to_be_bytes()));
+        [points, 3, 25]
+            .iter()
+            .enumerate()
+            .for_each(|(k, v)| params[4 * k..4 * k + 4].copy_from_slice(&v.to_be_bytes()));
         (sheet.bytes().to_vec(), params)
     };
     let entry = |r: &mut Rng, k: usize| match r.below(12) {
@@ -154,7 +157,16 @@ fn random(r: &mut Rng) -> Option<Match> {
 
 /// Both phones, each on a thread of its own.
 fn both<F: Fn(u32) -> Vec<Option<i32>> + Sync>(play: F) -> [Vec<Option<i32>>; 2] {
-    std::thread::scope(|s| [FAST, SLOW].map(|pace| s.spawn({ let play = &play; move || play(pace) })).map(|t| t.join().expect("a phone")))
+    std::thread::scope(|s| {
+        [FAST, SLOW]
+            .map(|pace| {
+                s.spawn({
+                    let play = &play;
+                    move || play(pace)
+                })
+            })
+            .map(|t| t.join().expect("a phone"))
+    })
 }
 
 /// So many matches, the daily example's first, into a folder.
@@ -174,5 +186,8 @@ pub fn run(folder: &str, count: usize) {
         std::fs::write(format!("{folder}/{made}.match"), this.bytes(&fast)).expect("a match's file");
         made += 1;
     }
-    println!("{made} matches of {ENTRIES} turns on two threads: equal boards; a host that drops refusals: unequal on {noticed}");
+    println!(
+        "{made} matches of {ENTRIES} turns on two threads: equal boards; a host that drops refusals: unequal on \
+         {noticed}"
+    );
 }

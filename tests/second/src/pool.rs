@@ -1,4 +1,5 @@
-//! Document 02, M-111: one sheet from two, written from the request alone. The sheets are taken as trees of fields, rows as they stand.
+//! Document 02, M-111: one sheet from two, written from the request alone. The sheets are taken as trees of fields,
+//! rows as they stand.
 
 use crate::compare::{self, Guarded};
 use crate::engine::{self, Model};
@@ -90,7 +91,8 @@ fn check(first: &[u8], second: &[u8], params: &[u8], room: usize) -> Result<Vec<
     want
 }
 
-/// After the same commits each half of the joined board is that sheet's own; and the joined sheet runs on both engines as any other.
+/// After the same commits each half of the joined board is that sheet's own; and the joined sheet runs on both engines
+/// as any other.
 fn halves(r: &mut Rng, first: &[u8], second: &[u8], params: &[u8], v: &[u8]) {
     let own = |s| engine::compile(s, params).expect("accepted");
     let (a, b, both) = (own(first), own(second), own(v));
@@ -119,7 +121,8 @@ fn halves(r: &mut Rng, first: &[u8], second: &[u8], params: &[u8], v: &[u8]) {
     compare::run(&sheet, &table, &make::calls(r, &sheet, 60));
 }
 
-/// A seed's sheet, whole or damaged, with another, whole or damaged, first and second; with room, exactly enough, and too little.
+/// A seed's sheet, whole or damaged, with another, whole or damaged, first and second; with room, exactly enough, and
+/// too little.
 pub fn one(seed: u64, bytes: &[u8], params: &[u8], tally: &mut [usize; 32]) {
     let r = &mut Rng::new(seed ^ 0x706F6F6C);
     let mut other = make::sheet(r);
@@ -171,8 +174,18 @@ pub fn limits() {
     assert_eq!(number(&busy(11), &busy(9)), 0, "32 * (4 + 6 * 20) instructions");
     assert_eq!(number(&busy(11), &busy(10)), 13, "32 * (4 + 6 * 21), over 4,096");
     assert_eq!(check(&busy(11), &busy(10), &[], 0), Err(13), "13 before 27");
-    let v = check(&join(&[said(1, 6), event(2), passive(&con(7))]), &join(&[said(1, 12), said(2, 9), said(3, 1), active(5, &[handler(0, 0, &name(0))])]), &[], room).unwrap();
-    assert_eq!(v, join(&[said(1, 4), said(2, 9), said(3, 1), passive(&con(7)), active(5, &[handler(0, 0, &name(1))])]), "rights and names");
+    let v = check(
+        &join(&[said(1, 6), event(2), passive(&con(7))]),
+        &join(&[said(1, 12), said(2, 9), said(3, 1), active(5, &[handler(0, 0, &name(0))])]),
+        &[],
+        room,
+    )
+    .unwrap();
+    assert_eq!(
+        v,
+        join(&[said(1, 4), said(2, 9), said(3, 1), passive(&con(7)), active(5, &[handler(0, 0, &name(1))])]),
+        "rights and names"
+    );
     assert_eq!(check(&many(1), &passive(&param(3)), &[0; 31], room), Err(20), "31 bytes of parameters");
     assert!(check(&many(1), &passive(&param(3)), &[1; 32], room).is_ok(), "32 bytes");
 }

@@ -27,10 +27,10 @@ fn waits(ranks: [u8; 3], ticks: u64) -> [u64; 3] {
     let mut born = Vec::new();
     let mut longest = [0u64; 3];
     for now in 0..ticks {
-        for e in 0..3 {
-            if next[e] == now && proved::arrive(&table, &mut round, e as u32, 0) == 0 {
+        for (e, next) in next.iter_mut().enumerate() {
+            if *next == now && proved::arrive(&table, &mut round, e as u32, 0) == 0 {
                 born.push(now);
-                next[e] = now + 130 + r.below(21) as u64;
+                *next = now + 130 + r.below(21) as u64;
             }
         }
         let a = proved::step(&table, &mut round);

@@ -1,4 +1,5 @@
-//! The calls on any bytes, as plain as can be: the layout of docs and the scope's list of what is foreign. What a call on damaged bytes must answer and leave.
+//! The calls on any bytes, as plain as can be: the layout of docs and the scope's list of what is foreign. What a call
+//! on damaged bytes must answer and leave.
 use crate::engine::{apply, arity, over, Call};
 
 pub fn get(b: &[u8], k: usize) -> u32 {
@@ -11,11 +12,18 @@ pub fn put(b: &mut [u8], k: usize, w: u32) {
 
 /// Priority, start, length, members of C.
 fn record(t: &[u8], e: u32) -> [u32; 4] {
-    if e < 32 { std::array::from_fn(|k| get(t, 8 + 4 * e as usize + k)) } else { [0; 4] }
+    if e < 32 {
+        std::array::from_fn(|k| get(t, 8 + 4 * e as usize + k))
+    } else {
+        [0; 4]
+    }
 }
 
 fn foreign_table(t: &[u8]) -> bool {
-    t.len() < 34816 || get(t, 0) > 32 || get(t, 1) > 64 || (0..get(t, 0)).any(|e| record(t, e)[1] as u64 + record(t, e)[2] as u64 > 4096)
+    t.len() < 34816
+        || get(t, 0) > 32
+        || get(t, 1) > 64
+        || (0..get(t, 0)).any(|e| record(t, e)[1] as u64 + record(t, e)[2] as u64 > 4096)
 }
 
 /// Event and player of a word in hand.
@@ -41,7 +49,8 @@ fn foreign(t: &[u8], l: &[u8]) -> bool {
         return true;
     }
     let stray = |w: u32| event(w) >= known || player(w) > 7;
-    (0..waiting as usize).any(|i| stray(get(l, 9 + 2 * i))) || runs && (stray(get(l, 3)) || get(l, 5) >= record(t, event(get(l, 3)))[2])
+    (0..waiting as usize).any(|i| stray(get(l, 9 + 2 * i)))
+        || runs && (stray(get(l, 3)) || get(l, 5) >= record(t, event(get(l, 3)))[2])
 }
 
 fn copying_back(t: &[u8], l: &[u8]) -> bool {
@@ -183,7 +192,8 @@ pub fn call(t: &[u8], l: &mut [u8], c: Call) -> u64 {
     }
 }
 
-/// 14 for the two lengths and the table only; else the fresh values stand in the store and all other words are 0, whatever the round's old bytes.
+/// 14 for the two lengths and the table only; else the fresh values stand in the store and all other words are 0,
+/// whatever the round's old bytes.
 pub fn start(t: &[u8], l: &mut [u8]) -> u32 {
     if foreign_table(t) || l.len() < 2048 {
         return 14;
@@ -208,7 +218,8 @@ pub fn forecast(t: &[u8], l: &[u8]) -> u64 {
     (1 << 32) + steps
 }
 
-/// Document 02, M-101: the arrival, and steps until idle, on a copy. Turned down as the arrival, then by 18 and 25, last by 14 where a step is or 01's count runs out.
+/// Document 02, M-101: the arrival, and steps until idle, on a copy. Turned down as the arrival, then by 18 and 25,
+/// last by 14 where a step is or 01's count runs out.
 pub fn preview(t: &[u8], l: &[u8], e: u32, i: u32, who: u32) -> u64 {
     let mut copy = l.to_vec();
     let taken = call(t, &mut copy, Call::Arrive(e, who));
@@ -233,8 +244,8 @@ pub fn preview(t: &[u8], l: &[u8], e: u32, i: u32, who: u32) -> u64 {
     14
 }
 
-/// Up to so many steps, each commit's answer written to the buffer: how many were made, how many commits were written, and
-/// why it ended: 1 the next would be idle, else 0 all made, 3 no room for a further commit, 2 the next is refused.
+/// Up to so many steps, each commit's answer written to the buffer: how many were made, how many commits were written,
+/// and why it ended: 1 the next would be idle, else 0 all made, 3 no room for a further commit, 2 the next is refused.
 pub fn frame(t: &[u8], l: &mut Vec<u8>, steps: u32, commits: &mut [u8]) -> u64 {
     let room = (commits.len() / 8).min(0xFF_FFFF);
     let mut written = 0;
@@ -261,10 +272,10 @@ pub fn frame(t: &[u8], l: &mut Vec<u8>, steps: u32, commits: &mut [u8]) -> u64 {
     (idle as u64) << 56 | (written as u64) << 32 | steps as u64
 }
 
-/// Entry `number` of an order, handed in once: 14; 43 where entries are missing, 44 where it was taken in before; 24, 15,
-/// 25, 17. With a full hand steps are made until one commits, its answer in the first eight bytes lent for it: 2^56 where
-/// the entry is taken in, twice that where there is no room for the commit, three times where a step is refused; with it
-/// the commits written, from bit 32 on, and the steps made.
+/// Entry `number` of an order, handed in once: 14; 43 where entries are missing, 44 where it was taken in before; 24,
+/// 15, 25, 17. With a full hand steps are made until one commits, its answer in the first eight bytes lent for it: 2^56
+/// where the entry is taken in, twice that where there is no room for the commit, three times where a step is refused;
+/// with it the commits written, from bit 32 on, and the steps made.
 pub fn deliver(t: &[u8], l: &mut Vec<u8>, number: u32, (e, who): (u32, u32), commits: &mut [u8]) -> u64 {
     let refused = match () {
         _ if foreign(t, l) => 14,
@@ -317,7 +328,8 @@ pub fn counts(t: &[u8], event: u32) -> [u64; 3] {
     [(1 << 32) + get(t, 0) as u64, (1 << 32) + get(t, 1) as u64, rank]
 }
 
-/// Document 02, M-112: the round goes on under table t. 14 for the round with the old table, for t, and for the instructions of its passives, tried in bytes of their own; then 19, then 28.
+/// Document 02, M-112: the round goes on under table t. 14 for the round with the old table, for t, and for the
+/// instructions of its passives, tried in bytes of their own; then 19, then 28.
 pub fn mend(old: &[u8], t: &[u8], l: &mut [u8]) -> u32 {
     if foreign(old, l) || foreign_table(t) {
         return 14;
@@ -331,7 +343,9 @@ pub fn mend(old: &[u8], t: &[u8], l: &mut [u8]) -> u32 {
     }
     let (from, count) = (get(t, 360) as u64, get(t, 361) as u64);
     let mut stretch = (from..from + count).map(|k| 512 + 2 * k as usize);
-    if from + count > 4096 || stretch.any(|k| execute(&mut own, get(t, k) / 256, get(t, k) as usize % 256, get(t, k + 1)).is_none()) {
+    if from + count > 4096
+        || stretch.any(|k| execute(&mut own, get(t, k) / 256, get(t, k) as usize % 256, get(t, k + 1)).is_none())
+    {
         return 14;
     }
     if copying_back(old, l) {
