@@ -14,12 +14,15 @@
 //! second text FIRST COUNT      texts at each limit; sheets of COUNT seeds from FIRST on as text and back, damaged
 //!                              texts, formulas
 //! second phones FOLDER MATCHES   matches as two phones play them, by deliveries on two threads; for other hosts
+//! second definitions FILE HEAD FIRST COUNT [spoilt]   lemmas on the definitions, of COUNT seeds, for
+//!                              tests/definitions/run
 //! second audit PROGRAM FOLDER SEEDS   the audit program on such rounds, with differences and damage planted
 mod agree;
 mod bench;
 mod byhand;
 mod cases;
 mod compare;
+mod definitions;
 mod deliver;
 mod desk;
 mod edges;
@@ -55,6 +58,9 @@ fn main() {
         Some("rounds") => rounds::write(&words[2], number(3, 1), number(4, 1000)),
         Some("league") => rounds::league(&words[2], number(3, 10_000), number(4, 1000)),
         Some("audit") => rounds::run(&words[2], &words[3], number(4, 400)),
+        Some("definitions") => {
+            definitions::run(&words[2], &words[3], number(4, 1), number(5, 20), words.iter().any(|w| w == "spoilt"))
+        }
         Some("record") => record::run(&words[2], number(3, 120_000)),
         _ => {
             println!(

@@ -25,7 +25,8 @@ impl Rng {
     }
 }
 
-fn constant(r: &mut Rng) -> i32 {
+/// A word that is at an end of the range, near 0, or a root of it.
+pub fn constant(r: &mut Rng) -> i32 {
     match r.below(6) {
         0 => i32::MIN,
         1 => i32::MAX,
