@@ -1,16 +1,18 @@
 #!/usr/bin/env python3
-"""page.py FOLDER: writes what tests/bench/run measured to docs/RESULTS.md, docs/bench.svg and docs/HOST.md.
+"""page.py FOLDER: writes what tests/bench/run measured to docs/bench.svg and to the pages of docs/.
 
-Of the pages only what stands between `<!-- bench: NAME -->` and `<!-- end -->` is written; the rest is by hand. FOLDER
-has the files rows, waits, stacks, sizes, machine and, where an earlier archive was measured, before.
+Of the pages only what stands between `<!-- bench: NAME -->` and `<!-- end -->` is written, on whichever page the mark
+stands; the rest is by hand. FOLDER has the files rows, waits, stacks, sizes, machine and, where an earlier archive was
+measured, before.
 """
+import glob
 import math
 import os
 import re
 import sys
 import textwrap
 
-RESULTS, HOST, PLOT = "docs/RESULTS.md", "docs/HOST.md", "docs/bench.svg"
+PLOT = "docs/bench.svg"
 WIDTH = 120
 FRAME_NS = 16.6e6
 KB = 1024
@@ -404,25 +406,30 @@ def small_thread(processor, of):
     return f"On {processor} {need}: that {fits} a thread of 512 KB."
 
 
-def replaced(page, name, lines):
+def write_part(name, make):
+    """Writes the lines that `make` gives for a page between its marks of that name; the page that has them."""
     mark = f"<!-- bench: {name} -->"
-    begin = page.index(mark) + len(mark)
-    end = page.index("<!-- end -->", begin)
-    return page[:begin] + "\n" + "\n".join(lines) + "\n" + page[end:]
+    for path in sorted(glob.glob("docs/**/*.md", recursive=True)):
+        page = open(path, encoding="utf8").read()
+        if mark in page:
+            begin = page.index(mark) + len(mark)
+            end = page.index("<!-- end -->", begin)
+            lines = make(page)
+            open(path, "w", encoding="utf8").write(page[:begin] + "\n" + "\n".join(lines) + "\n" + page[end:])
+            return path
+    sys.exit(f"page.py: no page of docs/ has the mark {mark}")
 
 
 def main():
     found = read(sys.argv[1])
-    page = open(RESULTS, encoding="utf8").read()
-    for make in (machine, aims, above, calls, frame, beside, texts, growth, before, stacks, sizes):
-        page = replaced(page, make.__name__, make(found))
-    page = replaced(page, "waits", found["waits"])
-    open(RESULTS, "w", encoding="utf8").write(page)
+    parts = (machine, aims, above, calls, frame, beside, texts, growth, before, stacks, sizes)
+    makers = {make.__name__: lambda page, make=make: make(found) for make in parts}
+    makers["waits"] = lambda page: found["waits"]
+    makers["stack-sizes"] = lambda page: stack_table(found, page)
+    makers["circle"] = lambda page: slowest_circle(found)
+    written = {write_part(name, make) for name, make in makers.items()}
     open(PLOT, "w", encoding="utf8").write(plot(found))
-    host = open(HOST, encoding="utf8").read()
-    host = replaced(host, "stacks", stack_table(found, host))
-    open(HOST, "w", encoding="utf8").write(replaced(host, "circle", slowest_circle(found)))
-    print(f"bench: written to {RESULTS}, {PLOT} and {HOST}", file=sys.stderr)
+    print(f"bench: written to {PLOT}, {', '.join(sorted(written))}", file=sys.stderr)
 
 
 if __name__ == "__main__":
