@@ -189,7 +189,7 @@ static inline uint32_t engine_leak_hidden(uint64_t answer) { return (uint32_t)(a
 
 /* A formula, as text of at most 1,024 bytes, becomes one expression field (01's 10, 11 or 12) at the start of the
  * buffer, whose other bytes stay: 2^32 and the field's length; or 21, then 22, then 9 where the expression nests over
- * 16 deep, last 23, and the buffer is as it was. The text is not kept. docs/SHEETS.md has the grammar. */
+ * 16 deep, last 23, and the buffer is as it was. The text is not kept. docs/BYTES.md has the grammar. */
 uint64_t engine_formula(const uint8_t *text, size_t text_len, uint8_t *buffer, size_t buffer_len);
 
 static inline int engine_formula_refused(uint64_t answer) { return answer >> 32 == 0; }

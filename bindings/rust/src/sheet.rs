@@ -295,7 +295,7 @@ impl AsRef<[u8]> for Sheet {
     }
 }
 
-/// A formula's text becomes one expression field. Refused by 21, 22, 9. `docs/SHEETS.md` has the grammar. The reader
+/// A formula's text becomes one expression field. Refused by 21, 22, 9. `docs/BYTES.md` has the grammar. The reader
 /// calls itself for brackets; a thread that reads texts of strangers needs the stack that `docs/HOST.md` names.
 ///
 /// ```

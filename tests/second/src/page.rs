@@ -1,4 +1,4 @@
-//! The setter's page, docs/SHEETS.md: its worked sheet byte by byte, the boards it names, and what it says is printed,
+//! The page of bytes, docs/BYTES.md: its worked sheet byte by byte, the boards it names, and what it says is printed,
 //! held against the desk program; its formulas and their fields.
 use crate::desk::{arrive, play, sheet, show, steps};
 use crate::formula;
