@@ -1,0 +1,75 @@
+// What the proved engine states of an accepted sheet: its sizes, whether two phones agree, and what may leak to whom.
+import { answered } from "./stage.mjs";
+
+const APART = 29;
+const LEAK = 30;
+const NO_RIGHT = 25;
+const PLAYERS = [1, 2, 3, 4, 5, 6, 7];
+
+const numbers = (count) => Array.from({ length: count }, (_, k) => k);
+
+/** { sizes, agrees, pairs, equal, players } of a sheet; `equal` tells of each behaviour whether phones agree on it. */
+export function verdict(engine, sheet) {
+    const lent = sheet.lent();
+    const table = sheet.compile();
+    return {
+        sizes: sizes(engine, sheet, table),
+        agrees: engine.agree(sheet.sheet, lent).number !== APART,
+        pairs: pairs(engine, sheet, table),
+        equal: numbers(sheet.count).map((b) => engine.agreeFor(sheet.sheet, lent, b).number !== APART),
+        players: players(engine, sheet, table),
+    };
+}
+
+function sizes(engine, sheet, table) {
+    const counts = instructions(engine, sheet, table);
+    const longest = sheet.events[counts.indexOf(Math.max(...counts))];
+    return [
+        { what: "bytes", has: sheet.sheet.length, most: 8192 },
+        { what: "parameters", has: sheet.params.length, most: 8 },
+        { what: "events", has: sheet.events.length, most: 32 },
+        { what: "behaviours", has: sheet.count, most: 64 },
+        { what: "instructions", has: counts.reduce((a, b) => a + b, 0), most: 4096, longest },
+    ];
+}
+
+/** Of each event: the steps until idle, exact while nothing runs, but the one that starts it. */
+function instructions(engine, sheet, table) {
+    return numbers(sheet.events.length).map((event) => {
+        const round = engine.open(table);
+        round.arrive(event, 0);
+        const steps = round.forecast();
+        round.free();
+        return steps - 1;
+    });
+}
+
+/** Every two events of unequal rank that are not independent: { events, ranks, behaviour }. */
+export function pairs(engine, sheet, table) {
+    const lent = sheet.lent();
+    const ranks = numbers(sheet.events.length).map((event) => engine.eventRank(table, event));
+    return numbers(ranks.length).flatMap((first) => numbers(ranks.length).flatMap((second) => {
+        if (second <= first || ranks[first] === ranks[second]) return [];
+        const { behaviour } = engine.pair(sheet.sheet, lent, first, second);
+        const found = { events: [first, second], ranks: [ranks[first], ranks[second]], behaviour };
+        return behaviour === undefined ? [] : [found];
+    }));
+}
+
+/** Players for whom the same is true, together: { who, hidden, leak }. */
+function players(engine, sheet, table) {
+    const round = engine.open(table);
+    const groups = [];
+    for (const player of PLAYERS) {
+        const hides = (b) => answered(() => round.board(b, player)).refused === NO_RIGHT;
+        const hidden = sheet.everything().filter(({ members }) => members.every(hides)).map(({ label }) => label);
+        const { number, seen, hidden: from } = engine.leak(sheet.sheet, sheet.lent(), player);
+        const leak = number === LEAK ? [sheet.behaviour(seen), sheet.behaviour(from)] : [];
+        const key = JSON.stringify([hidden, leak]);
+        const same = groups.find((group) => group.key === key);
+        if (same === undefined) groups.push({ who: [player], hidden, leak, key });
+        else same.who.push(player);
+    }
+    round.free();
+    return groups;
+}

@@ -1,0 +1,129 @@
+// The page's player of scripts against `setter play`, and its words of faults against `setter check`.
+//
+//     node tests/workbench/script.mjs ENGINE.wasm SETTER
+//
+// Every sheet of examples with every script that names only what it has prints the same lines by both, and every
+// example with slips put in gets the same faults, words and hints.
+import { execFileSync, spawnSync } from "node:child_process";
+import { mkdtempSync, readFileSync, rmSync, writeFileSync } from "node:fs";
+import { tmpdir } from "node:os";
+import { join, resolve } from "node:path";
+import { load } from "../../bindings/js/engine.mjs";
+import { faults } from "../../bindings/workbench/faults.mjs";
+import { readScript } from "../../bindings/workbench/script.mjs";
+import { loadSheet } from "../../bindings/workbench/sheet.mjs";
+import { transcript } from "../../bindings/workbench/stage.mjs";
+import { useData } from "../../bindings/workbench/words.mjs";
+
+const [wasm, setter] = process.argv.slice(2).map((path) => resolve(path));
+const engine = await load(readFileSync(wasm));
+const data = JSON.parse(execFileSync("bindings/workbench/build.py", ["--data"], { maxBuffer: 1 << 24 }));
+useData(data);
+
+const room = mkdtempSync(join(tmpdir(), "workbench-"));
+process.on("exit", () => rmSync(room, { recursive: true, force: true }));
+for (const [name, text] of Object.entries(data.files)) writeFileSync(join(room, name), text);
+
+function fail(what, one, other) {
+    console.error(`workbench: ${what}\n--- setter\n${one}\n--- the page\n${other}`);
+    process.exit(1);
+}
+
+const run = (...words) => spawnSync(setter, words, { cwd: room, encoding: "utf8", maxBuffer: 1 << 26 });
+const bytesOf = (name) => (name in data.files ? new TextEncoder().encode(data.files[name]) : undefined);
+
+function played(sheet, script) {
+    const place = { engine, path: script, given: [], file: bytesOf };
+    try {
+        const statements = readScript(bytesOf(script), place);
+        return transcript(engine, loadSheet(engine, sheet, bytesOf(sheet)), script, statements);
+    } catch (failure) {
+        if (failure.name !== "Failure") throw failure;
+        return { lines: [], failure };
+    }
+}
+
+/** All that a play prints, and what it ends with, by both; and whether anything was played. */
+function bothPlays(sheet, script) {
+    const { lines, failure } = played(sheet, script);
+    const real = run("play", sheet, script);
+    const known = lines.length > 1 || failure === undefined;
+    const own = `${known ? `${lines.join("\n")}\n` : ""}${failure?.message ?? ""}`;
+    return { known, own, real: real.stdout + real.stderr.replace(/^setter: /, "").trimEnd() };
+}
+
+/** The faults of a text by both, and how many there are. */
+function bothFaults(text) {
+    writeFileSync(join(room, "slip.sheet"), text);
+    const real = JSON.parse(run("check", "slip.sheet", "--json").stdout);
+    const own = faults(engine, text);
+    const plain = (list) => JSON.stringify(list.map(({ kind, line, column, why, hint }) =>
+        [kind, line, column, why, hint ?? null]), undefined, 1);
+    return { count: own.length, own: plain(own), real: plain(real.faults ?? []) };
+}
+
+function same(what, { own, real }) {
+    if (own !== real) fail(what, real, own);
+}
+
+// ---- scripts
+
+const sheets = Object.keys(data.files).filter((name) => name.endsWith(".sheet"));
+const scripts = Object.keys(data.files).filter((name) => name.endsWith(".play"));
+let count = 0;
+for (const sheet of sheets) {
+    for (const script of scripts) {
+        const both = bothPlays(sheet, script);
+        same(`${sheet} with ${script}`, both);
+        if (both.known) count++;
+    }
+}
+if (count < scripts.length) fail("too few scripts are played", scripts.length, count);
+
+// ---- slips: one byte or word of an example changed, from a fixed seed
+
+let state = 1n;
+function draw(n) {
+    state = (state * 6364136223846793005n + 1442695040888963407n) & (2n ** 64n - 1n);
+    return Number((state >> 33n) % BigInt(n));
+}
+const SLIPS = ["%", "=", "&", "and", "(", ")", ",", "if(", "-", "max(", "\u2013", "\u00e4", "event", "on", "[0]", "1.5",
+    "then", ";", "//", "'", "<>", "++", "seen by", "later", "rank 16", "3000000000", "hti", "param x", "\n", "row",
+    ":"];
+function slipped(text) {
+    const at = draw(text.length);
+    const to = at + draw(4);
+    return text.slice(0, at) + (draw(3) === 0 ? "" : ` ${SLIPS[draw(SLIPS.length)]} `) + text.slice(to);
+}
+let found = 0;
+const tries = 400;
+for (let k = 0; k < tries; k++) {
+    const text = slipped(data.files[sheets[draw(sheets.length)]]);
+    const both = bothFaults(new TextEncoder().encode(draw(2) === 0 ? text : slipped(text)));
+    same("the faults of a text", both);
+    found += both.count;
+}
+if (found < tries / 2) fail("too few slips are faults", tries, found);
+
+// ---- a planted difference is found, in a sheet, in a word of refusals and in a hint
+
+const plants = [
+    [() => (data.files["final.sheet"] = data.files["final.sheet"].replace("+ 10", "+ 11")), "final.sheet"],
+    [() => (data.refusals[19][1] = "planted"), "story.sheet"],
+];
+data.files["planted.play"] = "send hit\nsteps 12\nboard\nrun\nboard\n";
+writeFileSync(join(room, "planted.play"), data.files["planted.play"]);
+data.files["story.sheet"] = data.files["final.sheet"];
+writeFileSync(join(room, "story.sheet"), data.files["story.sheet"]);
+for (const [plant, sheet] of plants) {
+    same(`${sheet} before it is changed`, bothPlays(sheet, "planted.play"));
+    plant();
+    const { own, real } = bothPlays(sheet, "planted.play");
+    if (own === real) fail(`a planted difference in ${sheet} was not found`, real, own);
+}
+const slip = new TextEncoder().encode("event hit rank 2\nactive a = 0\n  on hit: a % 2\n");
+same("a slip before a hint is changed", bothFaults(slip));
+data.hints["operator.remainder"] = "planted";
+const { own, real } = bothFaults(slip);
+if (own === real) fail("a planted hint was not found", real, own);
+console.log(`workbench: ${count} scripts print setter play's lines; ${found} faults of ${tries} slips have its words`);
