@@ -1,9 +1,10 @@
 //! What the proved engine says of a sheet: its sizes, whether two phones agree, and what may leak.
 use crate::failure::Failure;
-use crate::file::{bytes_of, faults, is_sheet, read, SheetFile};
+use crate::file::{bytes_of, faults, is_sheet, SheetFile};
 use crate::json::{list, object, text};
-use crate::wording::{listed, long, several, spans};
-use poqashem::{Behaviour, Clash, Event, Leak, Player, Refusal, Sheet, Table};
+use crate::phones::{Answer, Meeting, Phones, Wish};
+use crate::wording::{folded, listed, long, several, spans};
+use poqashem::{Behaviour, Event, Leak, Player, Refusal, Table};
 use std::fmt::Write;
 
 const SHEET: u64 = poqashem::SHEET as u64;
@@ -11,52 +12,101 @@ const PARAMS: u64 = 8;
 const EVENTS: u64 = 32;
 const BEHAVIOURS: u64 = 64;
 const INSTRUCTIONS: u64 = 4_096;
+/// How wide what stands there may be.
+const COLUMNS: usize = 100;
 /// The width of what stands before each line of the report.
 const MARGIN: usize = 16;
-/// So many pairs of events are named; the others are counted.
-const PAIRS: usize = 12;
-
-/// What a strict check turns down, in words: phones that may end apart, and what may leak.
-pub fn loose(file: &SheetFile) -> Result<Option<String>, Failure> {
-    let table = file.compile()?;
-    let apart = (!clashes(file, &table)?.is_empty()).then_some("phones may end apart");
-    let leaks = groups(file, &table)?.iter().any(|(.., leak)| leak.is_some()).then_some("something may leak");
-    let both: Vec<String> = [apart, leaks].into_iter().flatten().map(str::to_string).collect();
-    Ok((!both.is_empty()).then(|| format!("{}: {}, and the check is strict", file.path, listed(&both))))
+/// What is asked of a check.
+#[derive(Default)]
+pub struct Asked {
+    pub wish: Wish,
+    /// As JSON.
+    pub json: bool,
+    /// So many steps are a frame.
+    pub frame: Option<u64>,
 }
 
-/// The same as JSON.
-pub fn json(file: &SheetFile) -> Result<String, Failure> {
+/// What a check says, and what a strict one turns down: phones that may end apart, and what may leak.
+pub fn check(file: &SheetFile, asked: &Asked) -> Result<(String, Option<String>), Failure> {
     let table = file.compile()?;
+    let phones = Phones::of(file, &table, &asked.wish)?;
+    let groups = groups(file, &table)?;
+    let said = if asked.json { json(&phones, &groups)? } else { report(&phones, &groups, asked.frame)? };
+    let apart = (phones.answer == Answer::Apart).then_some("phones may end apart");
+    let leaks = groups.iter().any(|(.., leak)| leak.is_some()).then_some("something may leak");
+    let both: Vec<String> = [apart, leaks].into_iter().flatten().map(str::to_string).collect();
+    Ok((said, (!both.is_empty()).then(|| format!("{}: {}, and the check is strict", file.path, listed(&both)))))
+}
+
+/// The report as JSON.
+fn json(phones: &Phones, groups: &[Group]) -> Result<String, Failure> {
+    let (file, table) = (phones.file, phones.table);
     let rank = |e: Event| table.rank(e).unwrap_or(0).to_string();
-    let counts = instructions(file, &table)?;
+    let counts = instructions(file, table)?;
     let event = |(e, n): &(Event, u64)| {
         object(&[("name", text(&file.event(*e))), ("rank", rank(*e)), ("instructions", n.to_string())])
-    };
-    let pair = |c: &Clash| {
-        let names = [("first", c.first), ("second", c.second)].map(|(key, e)| (key, text(&file.event(e))));
-        object(&[names[0].clone(), names[1].clone(), ("share", text(&file.behaviour(c.behaviour)))])
     };
     let player = |(who, hidden, leak): &Group| {
         let leak = leak.map_or("null".to_string(), |l| text(&file.behaviour(l.seen)));
         let hidden = list(hidden.iter().map(|name| text(name)));
         object(&[("players", list(who.iter().map(u32::to_string))), ("hidden", hidden), ("leak", leak)])
     };
-    let clashes = clashes(file, &table)?;
     let value = |p: &crate::names::Param| p.value.map_or("null".to_string(), |v| v.to_string());
     let param = |p: &crate::names::Param| object(&[("name", text(&p.name)), ("value", value(p))]);
-    Ok(object(&[
+    let fields = [
         ("file", text(&file.path)),
         ("accepted", "true".to_string()),
         ("bytes", file.sheet.bytes().len().to_string()),
         ("parameters", list(file.params.iter().map(param))),
         ("events", list(counts.iter().map(event))),
         ("behaviours", list(file.everything().iter().map(|shown| text(&shown.label)))),
-        ("agree", clashes.is_empty().to_string()),
-        ("pairs", list(clashes.iter().map(pair))),
-        ("players", list(groups(file, &table)?.iter().map(player))),
+    ];
+    let rest = [
+        ("players", list(groups.iter().map(player))),
         ("warnings", list(warnings(file).iter().map(|warning| text(warning)))),
-    ]) + "\n")
+    ];
+    Ok(object(&[&fields[..], &json_phones(phones), &rest].concat()) + "\n")
+}
+
+/// What is told of two phones.
+fn json_phones(phones: &Phones) -> Vec<(&'static str, String)> {
+    let file = phones.file;
+    let names = |events: &[Event]| list(events.iter().map(|e| text(&file.event(*e))));
+    let pair = |m: &Meeting| {
+        let s = &m.shared;
+        let flag = |(key, set): (&'static str, bool)| (key, set.to_string());
+        let flags = [
+            ("first_writes", s.first_writes),
+            ("first_reads", s.first_reads),
+            ("second_writes", s.second_writes),
+            ("second_reads", s.second_reads),
+        ];
+        let names = [("first", m.first), ("second", m.second)].map(|(key, e)| (key, text(&file.event(e))));
+        let share = [("share", text(&file.behaviour(s.behaviour)))];
+        object(&[&names[..], &share, &flags.map(flag)].concat())
+    };
+    let searched = phones.told.as_ref().map_or("null".to_string(), |told| {
+        let board = |board: &Vec<i32>| list(board.iter().map(i32::to_string));
+        let found = told.found.as_ref().map_or("null".to_string(), |f| {
+            object(&[
+                ("before", names(&f.before)),
+                ("slow", text(&file.event(f.slow))),
+                ("urgent", text(&file.event(f.urgent))),
+                ("boards", list(f.boards.iter().map(board))),
+                ("differs", text(&file.behaviour(f.differs()))),
+            ])
+        });
+        object(&[("boards", told.looked.to_string()), ("all", told.all.to_string()), ("found", found)])
+    });
+    let equal = (0..).zip(&phones.equal).filter(|(_, equal)| **equal).map(|(b, _)| text(&file.behaviour(Behaviour(b))));
+    vec![
+        ("agree", (phones.answer == Answer::Agree).to_string()),
+        ("apart", (phones.answer == Answer::Apart).to_string()),
+        ("pairs", list(phones.meetings.iter().map(pair))),
+        ("groups", list(phones.groups.iter().map(|group| names(group)))),
+        ("equal", list(equal)),
+        ("search", searched),
+    ]
 }
 
 /// The faults of a text as JSON, or why the file is turned down otherwise.
@@ -78,8 +128,8 @@ pub fn json_faults(path: &str, failure: &Failure) -> String {
 }
 
 /// The whole report.
-pub fn report(file: &SheetFile) -> Result<String, Failure> {
-    let table = file.compile()?;
+fn report(phones: &Phones, groups: &[Group], frame: Option<u64>) -> Result<String, Failure> {
+    let (file, table) = (phones.file, phones.table);
     let mut out = format!("{}: accepted\n", file.path);
     let mut size = |what: &str, has: u64, most: u64, more: String| {
         let _ = writeln!(out, "  {what:12}  {:>6} of {}{more}", long(has), long(most));
@@ -90,13 +140,25 @@ pub fn report(file: &SheetFile) -> Result<String, Failure> {
     }
     size("events", file.events.len() as u64, EVENTS, String::new());
     size("behaviours", table.behaviours().unwrap_or(0).into(), BEHAVIOURS, String::new());
-    let counts = instructions(file, &table)?;
+    let counts = instructions(file, table)?;
     let longest = counts.iter().max_by_key(|(_, n)| *n);
-    let longest =
-        longest.map_or(String::new(), |(e, n)| format!("; the longest event is {}, {}", file.event(*e), long(*n)));
+    let frames = |steps: u64| {
+        let of = |budget: u64| format!(", {} of {}", several(steps.div_ceil(budget), "frame", "frames"), long(budget));
+        frame.map_or(String::new(), of)
+    };
+    // the step that starts an event counts too
+    let longest = longest.map_or(String::new(), |(e, n)| {
+        format!("; the longest event is {}, {}{}", file.event(*e), long(*n), frames(*n + 1))
+    });
     size("instructions", counts.iter().map(|(_, n)| n).sum(), INSTRUCTIONS, longest);
-    put(&mut out, "phones", &phones(file, &table)?);
-    put(&mut out, "players", &players(file, &table)?);
+    let mut lines = phones.lines();
+    lines.extend(phones.parted().and_then(|_| sheet_text::words("search.write", &[&file.path])));
+    put(&mut out, "phones", &lines);
+    put(
+        &mut out,
+        "players",
+        &groups.iter().map(|(who, hidden, leak)| told(file, who, hidden, *leak)).collect::<Vec<_>>(),
+    );
     put(&mut out, "warnings", &warnings(file));
     Ok(out)
 }
@@ -111,7 +173,9 @@ fn warnings(file: &SheetFile) -> Vec<String> {
 fn put(out: &mut String, what: &str, lines: &[String]) {
     for (k, line) in lines.iter().enumerate() {
         let heading = if k == 0 { what } else { "" };
-        let _ = writeln!(out, "  {heading:width$}{line}", width = MARGIN - 2);
+        let indent = line.len() - line.trim_start().len();
+        let words = folded(line.trim_start(), COLUMNS - indent, MARGIN + indent + 2);
+        let _ = writeln!(out, "  {heading:width$}{:indent$}{words}", "", width = MARGIN - 2);
     }
 }
 
@@ -128,62 +192,6 @@ fn instructions(file: &SheetFile, table: &Table) -> Result<Vec<(Event, u64)>, Fa
         Ok((Event(e), u64::from(sound(file, round.forecast())?) - 1))
     };
     (0..file.events.len() as u32).map(one).collect()
-}
-
-// ---- two phones
-
-/// What is promised of a sheet that gets 0, and what is not: docs/HOST.md, "Two phones".
-const AGREE: [&str; 3] = [
-    "agree: every two events of unequal rank are independent",
-    "boards are equal when idle and the same events are taken in; with 64 in hand the next is refused",
-    "marks of results that ran over, and the order of commits, may differ",
-];
-
-/// The sheet with the handlers of two events only: the text that describes it, which has a handler on a line of its own,
-/// without the lines of all other handlers.
-fn only(file: &SheetFile, text: &str, kept: [u32; 2]) -> Result<Sheet, Failure> {
-    let stays = |line: &&str| {
-        let event = line.strip_prefix("  on e").and_then(|rest| rest.split([' ', ':']).next());
-        event.map_or(true, |e| kept.iter().any(|k| k.to_string() == e))
-    };
-    read(&file.path, text.lines().filter(stays).collect::<Vec<_>>().join("\n").as_bytes())
-}
-
-/// Every two events that are not independent though their ranks differ, each with a behaviour that they share: the
-/// engine's first answer, and then its answer for each pair, the other events having lost their handlers.
-fn clashes(file: &SheetFile, table: &Table) -> Result<Vec<Clash>, Failure> {
-    let lent = file.lent();
-    if sound(file, file.sheet.agree(Some(&lent)))?.is_none() {
-        return Ok(vec![]);
-    }
-    let described = file.text()?;
-    let mut found = vec![];
-    for second in 1..sound(file, table.events())? {
-        for first in 0..second {
-            let pair = only(file, &described, [first, second])?;
-            found.extend(sound(file, pair.agree(Some(&lent)))?);
-        }
-    }
-    found.sort_by_key(|clash| (clash.first, clash.second));
-    Ok(found)
-}
-
-fn phones(file: &SheetFile, table: &Table) -> Result<Vec<String>, Failure> {
-    let clashes = clashes(file, table)?;
-    if clashes.is_empty() {
-        return Ok(AGREE.map(str::to_string).to_vec());
-    }
-    let mut lines = vec!["may end apart: events of unequal rank are not independent".to_string()];
-    let more = clashes.len().saturating_sub(PAIRS);
-    for Clash { first, second, behaviour } in clashes.into_iter().take(PAIRS) {
-        let named = |e: Event| format!("{} (rank {})", file.event(e), table.rank(e).unwrap_or(0));
-        lines.push(format!("{} and {} share {}", named(first), named(second), file.behaviour(behaviour)));
-    }
-    if more > 0 {
-        lines.push(format!("and {}", several(more as u64, "more pair", "more pairs")));
-    }
-    lines.push("give such events one rank, or nothing in common; it is a warning, and need not come true".to_string());
-    Ok(lines)
 }
 
 // ---- players
@@ -211,10 +219,6 @@ fn groups(file: &SheetFile, table: &Table) -> Result<Vec<Group>, Failure> {
         }
     }
     Ok(groups)
-}
-
-fn players(file: &SheetFile, table: &Table) -> Result<Vec<String>, Failure> {
-    Ok(groups(file, table)?.iter().map(|(who, hidden, leak)| told(file, who, hidden, *leak)).collect())
 }
 
 fn told(file: &SheetFile, who: &[u32], hidden: &[String], leak: Option<Leak>) -> String {

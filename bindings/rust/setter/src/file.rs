@@ -200,7 +200,7 @@ impl SheetFile {
 
     /// The lines of a circle, and the ways out of it.
     fn circle_lines(&self, event: Option<Event>, behaviours: &[Behaviour]) -> String {
-        if self.unnamed || self.source.is_empty() {
+        if !self.has_lines() {
             return String::new();
         }
         let groups: Vec<&Group> = behaviours.iter().filter_map(|b| self.group(*b)).collect();
@@ -233,7 +233,12 @@ impl SheetFile {
 
     // ---- names
 
-    fn group(&self, behaviour: Behaviour) -> Option<&Group> {
+    /// Whether names stand in lines of a text.
+    pub fn has_lines(&self) -> bool {
+        !self.unnamed && !self.source.is_empty()
+    }
+
+    pub fn group(&self, behaviour: Behaviour) -> Option<&Group> {
         self.groups.iter().find(|g| (g.first..g.first + g.count()).contains(&behaviour.0))
     }
 

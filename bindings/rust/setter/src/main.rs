@@ -2,8 +2,10 @@
 //!
 //! What reads, judges, describes or runs a sheet is the proved engine, through the Rust crate. Plain Rust are the names
 //! that are printed, taken from the accepted text, and the words behind a fault.
+mod apart;
 mod check;
 mod constants;
+mod differ;
 mod excerpt;
 mod failure;
 mod file;
@@ -11,7 +13,9 @@ mod json;
 mod names;
 mod output;
 mod paint;
+mod phones;
 mod play;
+mod scene;
 mod script;
 mod timeline;
 mod trial;
@@ -20,6 +24,7 @@ mod wording;
 use failure::Failure;
 use file::{Order, SheetFile};
 use output::{Kind, Output};
+use phones::Wish;
 use script::Script;
 use std::io::Write;
 use std::process::ExitCode;
@@ -31,6 +36,7 @@ setter: sheets written as text
   setter check FILE                    is it accepted, how large is it, may two phones end apart, what may leak
   setter build FILE OUT                write the sheet's bytes
   setter new FILE                      write a small sheet to begin with
+  setter differ FILE [OUT]             two phones that end apart: both scripts, and a picture
   setter try FILE                      look for two phones that end apart, at random
   setter names FILE                    its numbers for a host's program, in C, Rust, TypeScript, Java or Swift
   setter show SHEET                    a sheet's bytes as text
@@ -47,14 +53,26 @@ or is turned down, with 2 where it was called wrongly.
 ";
 
 const CHECK: &str = "\
-setter check FILE [--join OTHER [--by-name]] [--param NAME=VALUE ..] [--strict] [--json]
+setter check FILE [--winner NAME ..] [--boards N] [--frame STEPS] [--strict] [--json]
+                  [--join OTHER [--by-name]] [--param NAME=VALUE ..]
 
 Says whether the sheet is accepted, with its bytes, parameters, events, behaviours and instructions beside their limits;
 whether two phones that take in the same events in the same order, at most 64 in hand, have equal boards when idle, or
-may end apart, and then which events share what, a warning; for the players, what is hidden, and whether its start value
-may leak, also a warning. A fault of the text is told as FILE:LINE:COLUMN, a circle by its names and event. With --join,
-of FILE joined with OTHER. --strict ends with 1 where phones may end apart or something may leak; --json prints one line
-of JSON, of faults too.
+may end apart: then which event writes and which reads what, which events must have one rank, and two lists of calls on
+which phones end apart, looked for on at most N boards (about two seconds' worth where none are named), a search; and
+what is proved equal and what may differ, of the behaviours that --winner names, or of all; for the players, what is
+hidden, and whether its start value may leak, a warning. A fault of the text is told as FILE:LINE:COLUMN, a circle by
+its names and event. --frame tells the longest event in frames of so many steps. With --join, of FILE joined with OTHER.
+--strict ends with 1 where phones may end apart or something may leak; --json prints one line of JSON, of faults too.
+";
+
+const DIFFER: &str = "\
+setter differ FILE [OUT] [--winner NAME ..] [--boards N] [--join OTHER [--by-name]] [--param NAME=VALUE ..] [--force]
+
+Looks for two phones that end apart, as check does. Where it finds some it writes what they do as scripts for
+`setter play`, OUT-1.play and OUT-2.play, and a picture of both over the same steps, OUT.svg; OUT is FILE's name with
+-differ where none is named. Else it writes nothing and says how far it looked. A file that is there must be one that
+differ wrote; --force writes over any.
 ";
 
 const NEW: &str = "\
@@ -103,10 +121,11 @@ that is read; --force writes over any.
 ";
 
 const PLAY: &str = "\
-setter play FILE SCRIPT [--join OTHER [--by-name]] [--param NAME=VALUE ..]
+setter play FILE SCRIPT [--frame STEPS] [--join OTHER [--by-name]] [--param NAME=VALUE ..]
 
-Plays a fresh round of the sheet and prints what happens, each line after the number of steps made. A parameter has the
-text's default unless one is given. A script has one statement a line; # begins a comment:
+Plays a fresh round of the sheet and prints what happens, each line after the number of steps made, and of the frames
+begun where a frame has so many STEPS. A parameter has the text's default unless one is given. A script has one
+statement a line; # begins a comment:
 
   send EVENT .. [from PLAYER]               they arrive, one after the other; from the host where none is named
   steps COUNT                               so many steps pass
@@ -123,15 +142,17 @@ into the order of the sheet before.
 ";
 
 const TIMELINE: &str = "\
-setter timeline FILE SCRIPT OUT.svg [--join OTHER [--by-name]] [--param NAME=VALUE ..] [--force]
+setter timeline FILE SCRIPT OUT.svg [--frame STEPS] [--join OTHER [--by-name]] [--param NAME=VALUE ..] [--force]
 
 Draws what play prints: a lane for each event, a bar while it runs, what was dropped at a break-in, restarts, commits,
-refused arrivals and changes of the sheet, over the steps. A file OUT.svg that is there must be a picture, and none that
-is read; --force writes over any.
+arrivals with their senders, what waits, refusals by their word, boards, previews and forecasts, and changes of the
+sheet, over the steps, or over frames of so many STEPS. What a sign stands for is told where the pointer rests on it. A
+file OUT.svg that is there must be a picture, and none that is read; --force writes over any.
 ";
 
 /// A command, its help, and how many files it names.
-const COMMANDS: [(&str, &str, usize); 9] = [
+const COMMANDS: [(&str, &str, usize); 10] = [
+    ("differ", DIFFER, 1),
     ("new", NEW, 1),
     ("try", TRY, 1),
     ("names", NAMES, 1),
@@ -159,6 +180,8 @@ struct Asked {
     language: Option<String>,
     seed: Option<u64>,
     runs: Option<u64>,
+    wish: Wish,
+    frame: Option<u64>,
     help: bool,
 }
 
@@ -177,6 +200,12 @@ fn behind<T: std::str::FromStr>(words: &mut impl Iterator<Item = String>, why: &
     words.next().and_then(|word| word.parse().ok()).ok_or_else(|| Failure::Usage(why.to_string()))
 }
 
+/// How many steps a frame has.
+fn steps_of_a_frame(words: &mut impl Iterator<Item = String>) -> Result<u64, Failure> {
+    let why = "--frame needs a number of steps, 1 or more";
+    behind(words, why).and_then(|steps| if steps > 0 { Ok(steps) } else { Err(Failure::Usage(why.to_string())) })
+}
+
 fn asked(words: impl Iterator<Item = String>) -> Result<Asked, Failure> {
     let mut asked = Asked::default();
     let mut words = words;
@@ -190,6 +219,9 @@ fn asked(words: impl Iterator<Item = String>) -> Result<Asked, Failure> {
             "--as" => asked.language = Some(behind(&mut words, "--as needs a language")?),
             "--seed" => asked.seed = Some(behind(&mut words, "--seed needs a number")?),
             "--runs" => asked.runs = Some(behind(&mut words, "--runs needs a number")?),
+            "--boards" => asked.wish.boards = Some(behind(&mut words, "--boards needs a number")?),
+            "--winner" => asked.wish.winners.push(behind(&mut words, "--winner needs a behaviour's name")?),
+            "--frame" => asked.frame = Some(steps_of_a_frame(&mut words)?),
             "--join" => asked.join = Some(words.next().ok_or(Failure::Usage("--join needs a file".to_string()))?),
             "--param" => {
                 let given = words.next().and_then(|w| script::assignment(&w));
@@ -271,17 +303,26 @@ fn join(asked: &Asked) -> Result<(), Failure> {
 }
 
 fn check(asked: &Asked) -> Result<(), Failure> {
-    let said = |file: &SheetFile| if asked.json { check::json(file) } else { check::report(file) };
-    let done = load(asked).and_then(|file| said(&file).map(|words| (file, words)));
+    let how = check::Asked { wish: asked.wish.clone(), json: asked.json, frame: asked.frame };
+    let done = load(asked).and_then(|file| check::check(&file, &how));
     if let (Err(failure), true) = (&done, asked.json) {
         print(&check::json_faults(&asked.files[0], failure))?;
     }
-    let (file, words) = done?;
+    let (words, loose) = done?;
     print(&words)?;
-    match check::loose(&file)?.filter(|_| asked.strict) {
+    match loose.filter(|_| asked.strict) {
         Some(why) => Err(Failure::Input(why)),
         None => Ok(()),
     }
+}
+
+fn differ(asked: &Asked) -> Result<(), Failure> {
+    let file = load(asked)?;
+    let default =
+        || std::path::Path::new(&asked.files[0]).with_extension("").to_string_lossy().into_owned() + "-differ";
+    let out = asked.files.get(1).cloned().unwrap_or_else(default);
+    let reads: Vec<&str> = asked.files.iter().take(1).chain(&asked.join).map(String::as_str).collect();
+    print(&differ::written(&file, &asked.wish, &differ::To { out: &out, reads: &reads, force: asked.force })?)
 }
 
 /// A small sheet and its script.
@@ -326,10 +367,12 @@ fn play(asked: &Asked) -> Result<(), Failure> {
     let script = Script::load(&asked.files[1], &asked.given)?;
     play::names_known(&file, &script)?;
     warn(&file);
-    print(&format!("{}\n  step\n", head(&file)))?;
+    let column = asked.frame.map_or(String::new(), |budget| format!("   frame of {}", wording::long(budget)));
+    print(&format!("{}\n  step{column}\n", head(&file)))?;
     play::play(&file, &script, &mut |entry| {
-        let words = wording::folded(&entry.words, COLUMNS, MARGIN + 2);
-        print(&format!("{:6}  {words}\n", entry.step))
+        let frame = asked.frame.map_or(String::new(), |budget| format!("{:6}  ", entry.step.div_ceil(budget)));
+        let words = wording::folded(&entry.words, COLUMNS - frame.len(), MARGIN + frame.len() + 2);
+        print(&format!("{:6}  {frame}{words}\n", entry.step))
     })?;
     Ok(())
 }
@@ -344,8 +387,8 @@ fn timeline(asked: &Asked) -> Result<(), Failure> {
         marks.extend(entry.mark.map(|mark| (entry.step, mark)));
         Ok(())
     })?;
-    let picture = timeline::draw(&file, &head(&file), &marks, steps);
-    output.write(picture.as_bytes())
+    let panel = timeline::Panel { title: String::new(), file: &file, marks, steps };
+    output.write(timeline::draw(&head(&file), &[panel], asked.frame).as_bytes())
 }
 
 /// A command that there is none of, with the one that it may be meant for.
@@ -384,11 +427,13 @@ fn run(mut words: impl Iterator<Item = String>) -> Result<(), Failure> {
     if asked.files.iter().chain(&asked.join).filter(|path| *path == file::STANDARD_INPUT).count() > 1 {
         return Err(wrong("- is standard input, which is read once".to_string()));
     }
-    if asked.files.len() != *files {
+    let more = usize::from(*name == "differ" && asked.files.len() == 2);
+    if asked.files.len() != *files + more {
         return Err(wrong(format!("{name} names {}", several(*files as u64, "file", "files"))));
     }
     match *name {
         "check" => check(&asked),
+        "differ" => differ(&asked),
         "new" => new(&asked),
         "try" => search(&asked),
         "names" => print(&constants::written(&load(&asked)?, asked.language.as_deref().unwrap_or("c"))?),

@@ -12,10 +12,14 @@ pub enum Kind {
     Sheet,
     /// A timeline, as SVG.
     Picture,
+    /// A script that `differ` wrote.
+    Script,
 }
 
 /// What a picture begins with.
 const PICTURE: &[u8] = b"<svg";
+/// What a script begins with that `differ` wrote.
+pub const SCRIPT: &str = "# setter differ";
 
 /// A file that a command writes.
 #[derive(Clone, Copy, Debug)]
@@ -51,6 +55,7 @@ impl Kind {
         match self {
             Kind::Sheet => Sheet::new(bytes).compile(Some(&Params::default())).is_ok(),
             Kind::Picture => bytes.is_empty() || bytes.starts_with(PICTURE),
+            Kind::Script => bytes.is_empty() || bytes.starts_with(SCRIPT.as_bytes()),
         }
     }
 
@@ -58,6 +63,7 @@ impl Kind {
         match self {
             Kind::Sheet => "a sheet's bytes",
             Kind::Picture => "a picture (SVG)",
+            Kind::Script => "a script that differ wrote",
         }
     }
 }

@@ -28,14 +28,19 @@ pub struct Act {
     pub number: u32,
     pub event: String,
     pub rank: u32,
+    pub player: Player,
 }
 
 /// What a picture shows.
 #[derive(Clone, Debug, PartialEq, Eq)]
 pub enum Mark {
     Arrived(Act),
-    /// Not taken in: the event and the refusal's number.
-    Refused(String, u32),
+    /// Not taken in.
+    Refused {
+        event: String,
+        player: Player,
+        refusal: Refusal,
+    },
     Started {
         act: Act,
         again: bool,
@@ -49,8 +54,10 @@ pub enum Mark {
         act: Act,
         over: bool,
     },
-    /// The sheet is now that of the file.
+    /// The sheet is now that of the file, with its parameters.
     Mended(String),
+    /// A board, a preview or a forecast, in words.
+    Looked(String),
 }
 
 /// One thing that happened, after so many steps.
@@ -156,7 +163,7 @@ impl Stage<'_> {
 
     fn act(&self, arrival: Arrival) -> Act {
         let rank = self.round.table().rank(arrival.event).unwrap_or(0);
-        Act { number: arrival.number, event: self.file.event(arrival.event), rank }
+        Act { number: arrival.number, event: self.file.event(arrival.event), rank, player: arrival.player }
     }
 
     /// `hit #3`.
@@ -199,7 +206,7 @@ impl Stage<'_> {
                 _ => refused(refusal),
             };
             let words = format!("{name} from {who} is refused, {why}");
-            return self.say(words, Some(Mark::Refused(name.to_string(), refusal.number())));
+            return self.say(words, Some(Mark::Refused { event: name.to_string(), player: from, refusal }));
         }
         let arrival = Arrival { number: self.taken, event, player: from };
         self.taken += 1;
@@ -292,13 +299,16 @@ impl Stage<'_> {
         let shown = self.shown(line, names)?;
         let seen = values(&shown, &|b| self.round.board(b, who));
         let whose = if who == Player::HOST { String::new() } else { format!(" as {} sees it", player(who)) };
-        self.say(
-            match seen {
-                Ok(values) => format!("board{whose}: {values}"),
-                Err(refusal) => format!("board{whose} is refused, {}", refused(refusal)),
-            },
-            None,
-        )
+        self.look(match seen {
+            Ok(values) => format!("board{whose}: {values}"),
+            Err(refusal) => format!("board{whose} is refused, {}", refused(refusal)),
+        })
+    }
+
+    /// What is read, in words.
+    fn look(&mut self, words: String) -> Result<(), Failure> {
+        let mark = Mark::Looked(words.clone());
+        self.say(words, Some(mark))
     }
 
     fn preview(&mut self, line: usize, name: &str, names: &[String], who: Player) -> Result<(), Failure> {
@@ -306,13 +316,10 @@ impl Stage<'_> {
         let shown = self.shown(line, names)?;
         let seen = values(&shown, &|b| self.round.preview(event, b, who));
         let what = format!("preview of {name} from {}", player(who));
-        self.say(
-            match seen {
-                Ok(values) => format!("{what}: {values}"),
-                Err(refusal) => format!("{what} is refused, {}", refused(refusal)),
-            },
-            None,
-        )
+        self.look(match seen {
+            Ok(values) => format!("{what}: {values}"),
+            Err(refusal) => format!("{what} is refused, {}", refused(refusal)),
+        })
     }
 
     /// What is not as expected is told, and the round goes on; the script has failed then.
@@ -342,7 +349,7 @@ impl Stage<'_> {
             Ok(steps) => format!("forecast: idle after {bound}{}", several(steps.into(), "step", "steps")),
             Err(refusal) => format!("forecast is refused, {}", refused(refusal)),
         };
-        self.say(words, None)
+        self.look(words)
     }
 
     fn mend(&mut self, file: &SheetFile, by_name: bool) -> Result<(), Failure> {
@@ -356,7 +363,7 @@ impl Stage<'_> {
         let changes = file.changes(&self.file);
         self.file = file.clone();
         let words = format!("the sheet is now {}{with}{}", file.path, back.unwrap_or_default());
-        self.say(words, Some(Mark::Mended(file.path.clone())))?;
+        self.say(words, Some(Mark::Mended(format!("{}{}", file.path, file.with_values()))))?;
         let more = changes.len().saturating_sub(CHANGES);
         for change in changes.into_iter().take(CHANGES) {
             self.say(format!("warning: {change}"), None)?;
@@ -370,7 +377,7 @@ impl Stage<'_> {
 
 /// Values under their names: `score 10, lamp [1 0 0]`. What is hidden is told so; where all are turned down alike, that
 /// is the answer.
-fn values(shown: &[Shown], read: &dyn Fn(Behaviour) -> Result<i32, Refusal>) -> Result<String, Refusal> {
+pub fn values(shown: &[Shown], read: &dyn Fn(Behaviour) -> Result<i32, Refusal>) -> Result<String, Refusal> {
     let mut first = None;
     let mut seen = false;
     let mut words = vec![];

@@ -43,7 +43,11 @@ const REPEATS: usize = 100_000;
 impl Script {
     /// Reads a script and the sheets that it changes to.
     pub fn load(path: &str, given: &[(String, i32)]) -> Result<Script, Failure> {
-        let bytes = bytes_of(path)?;
+        Script::read(path, bytes_of(path)?, given)
+    }
+
+    /// The same from the bytes of a file of this path.
+    pub fn read(path: &str, bytes: Vec<u8>, given: &[(String, i32)]) -> Result<Script, Failure> {
         if let Some(hint) = sheet_text::encoding(&bytes) {
             return Err(wrong(path, 1, hint));
         }

@@ -1,26 +1,33 @@
-//! A round as a picture: a lane for each event, the more urgent ones above, over the steps.
+//! A round as a picture, or the rounds of two phones over the same steps: a lane for each event, the more urgent ones
+//! above. What a sign stands for is told by the legend, and of each sign by its title, where the pointer rests on it.
 use crate::file::SheetFile;
 use crate::play::{Act, Mark};
-use crate::wording::long;
+use crate::scene::{Arrivals, Break, End, Refused, Scene, Stretch};
+use crate::wording::{folded, listed, long, player, several};
+use poqashem::Player;
 use std::fmt::Write;
 
 // the page, in pixels
 const LEFT: f64 = 150.0;
 const RIGHT: f64 = 40.0;
-const TOP: f64 = 60.0;
 const LANE: f64 = 58.0;
 const BAR: f64 = 22.0;
-const LEGEND: f64 = 74.0;
 const ROW: f64 = 34.0;
 const AXIS: f64 = 46.0;
-/// A step's width at most, and the plot's at least and at most.
+const NOTE: f64 = 16.0;
+/// The strip of what is read, below the lanes.
+const STRIP: f64 = 26.0;
+/// A step's width at most, the plot's at least, at most, and where many commit.
 const STEP: f64 = 12.0;
 const NARROW: f64 = 680.0;
 const WIDE: f64 = 1040.0;
-/// About so wide is a letter.
+const WIDEST: f64 = 2080.0;
+const COMMIT_WIDTH: f64 = 28.0;
+/// About so wide is a letter, and a small one.
 const LETTER: f64 = 6.4;
-/// With more lanes than these, events that never arrive have none.
-const LANES: usize = 16;
+const SMALL: f64 = 5.1;
+/// So many readings are told below the picture; all have titles.
+const NOTES: usize = 40;
 
 // colours
 const INK: &str = "#1f2933";
@@ -32,145 +39,57 @@ const LOST: &str = "#d6402b";
 const COMMIT: &str = "#1f8a4c";
 const WAIT: &str = "#9aa7b4";
 const CHANGE: &str = "#7a3fb0";
+const LOOK: &str = "#b06a00";
 /// Letters that lie on something else.
 const HALO: &str = r##"stroke="#ffffff" stroke-width="3" stroke-linejoin="round" paint-order="stroke""##;
 
-/// How a stretch ended.
-#[derive(Clone, Copy, PartialEq, Eq)]
-enum End {
-    Committed {
-        over: bool,
-    },
-    /// Broken into, or put back by a change of the sheet: its work is dropped.
-    Dropped,
-    /// The script ends while it runs.
-    Open,
+/// One phone.
+pub struct Panel<'a> {
+    /// Above its lanes, where there are several.
+    pub title: String,
+    pub file: &'a SheetFile,
+    pub marks: Vec<(u64, Mark)>,
+    pub steps: u64,
 }
 
-/// A stretch in which an arrival runs, from before one step to after another.
-struct Stretch {
-    act: Act,
-    from: u64,
-    to: u64,
-    again: bool,
-    end: End,
+/// The place of an event.
+struct Lane {
+    event: String,
+    rank: Option<u32>,
+    top: f64,
+    height: f64,
+    /// How far below the bar's middle refusals stand.
+    low: f64,
 }
 
-/// What is to be drawn.
-#[derive(Default)]
-struct Scene {
-    stretches: Vec<Stretch>,
-    /// Arrivals with their lane's event and step.
-    arrivals: Vec<(Act, u64)>,
-    refused: Vec<(String, u32, u64)>,
-    /// Who breaks into whom.
-    breaks: Vec<(String, String, u64)>,
-    changes: Vec<(String, u64)>,
-    /// Waiting: event, from, to.
-    waits: Vec<(String, u64, u64)>,
-}
-
-impl Scene {
-    fn of(marks: &[(u64, Mark)], steps: u64) -> Scene {
-        let mut scene = Scene::default();
-        let mut running: Option<(Act, u64, bool)> = None;
-        let mut waiting: Vec<(Act, u64)> = vec![];
-        for (step, mark) in marks {
-            let before = step.saturating_sub(1);
-            match mark {
-                Mark::Arrived(act) => {
-                    scene.arrivals.push((act.clone(), *step));
-                    waiting.push((act.clone(), *step));
-                }
-                Mark::Refused(event, number) => scene.refused.push((event.clone(), *number, *step)),
-                Mark::Started { act, again } | Mark::BrokeIn { act, again } => {
-                    if let Some((other, from, restarted)) = running.take() {
-                        scene.breaks.push((act.event.clone(), other.event.clone(), before));
-                        scene.close(&other, from, before, restarted, End::Dropped);
-                        waiting.push((other, before));
-                    }
-                    scene.waited(&mut waiting, act, before);
-                    running = Some((act.clone(), before, *again));
-                }
-                Mark::Committed { act, over } => {
-                    let (from, again) = running.take().map_or((before, false), |(_, from, again)| (from, again));
-                    scene.close(act, from, *step, again, End::Committed { over: *over });
-                }
-                Mark::Mended(path) => {
-                    if let Some((act, from, again)) = running.take() {
-                        scene.close(&act, from, *step, again, End::Dropped);
-                        waiting.push((act, *step));
-                    }
-                    scene.changes.push((path.clone(), *step));
-                }
-            }
-        }
-        if let Some((act, from, again)) = running {
-            scene.close(&act, from, steps, again, End::Open);
-        }
-        scene.waits.extend(waiting.into_iter().map(|(act, from)| (act.event, from, steps)));
-        scene
-    }
-
-    fn close(&mut self, act: &Act, from: u64, to: u64, again: bool, end: End) {
-        self.stretches.push(Stretch { act: act.clone(), from, to, again, end });
-    }
-
-    fn waited(&mut self, waiting: &mut Vec<(Act, u64)>, act: &Act, to: u64) {
-        if let Some(k) = waiting.iter().position(|(w, _)| w.number == act.number) {
-            let (own, from) = waiting.remove(k);
-            self.waits.push((own.event, from, to));
-        }
-    }
-
-    /// Events with their ranks, those of the sheet and any that came with another; the more urgent ones first.
-    fn lanes(&self, file: &SheetFile) -> Vec<(String, Option<u32>)> {
-        let table = file.compile().ok();
-        let rank = |e: usize| table.as_ref().and_then(|t| t.rank(poqashem::Event(e as u32)).ok());
-        let mut lanes: Vec<_> = file.events.iter().enumerate().map(|(e, name)| (name.clone(), rank(e))).collect();
-        let refused = self.refused.iter().map(|(event, ..)| (event.clone(), None));
-        let arrived = self.arrivals.iter().map(|(act, _)| (act.event.clone(), Some(act.rank)));
-        for lane in arrived.chain(refused) {
-            if !lanes.iter().any(|(name, _)| *name == lane.0) {
-                lanes.push(lane);
-            }
-        }
-        if lanes.len() > LANES {
-            let seen = |name: &str| {
-                self.arrivals.iter().any(|(a, _)| a.event == name) || self.refused.iter().any(|(e, ..)| e == name)
-            };
-            lanes.retain(|(name, _)| seen(name));
-        }
-        lanes.sort_by_key(|(_, rank)| std::cmp::Reverse(*rank));
-        lanes
+impl Lane {
+    /// The middle of its bars.
+    fn middle(&self) -> f64 {
+        self.top + LANE / 2.0 + 4.0
     }
 }
 
-/// The picture.
-pub fn draw(file: &SheetFile, title: &str, marks: &[(u64, Mark)], steps: u64) -> String {
-    let scene = Scene::of(marks, steps);
-    let lanes = scene.lanes(file);
-    let plot = (steps.max(1) as f64 * STEP).clamp(NARROW, WIDE);
-    let mut page = Page {
-        out: String::new(),
-        step: plot / steps.max(1) as f64,
-        width: LEFT + plot + RIGHT,
-        bottom: TOP + LANE * lanes.len().max(1) as f64,
-        lanes,
-    };
-    page.head(title);
-    page.axis(steps, plot);
-    scene.waits.iter().for_each(|(event, from, to)| page.wait(event, *from, *to));
-    scene.stretches.iter().for_each(|stretch| page.stretch(stretch));
-    scene.changes.iter().for_each(|(path, step)| page.change(path, *step));
-    // what may lie at the edge of the next bar or label comes last
-    scene.stretches.iter().for_each(|stretch| page.commit(stretch));
-    page.arrivals(&scene);
-    page.refused(&scene);
-    scene.breaks.iter().for_each(|(by, of, step)| page.break_in(by, of, *step));
-    page.legend(&scene);
-    page.out += "</svg>\n";
-    page.out
+/// How high it is where so many wait.
+fn heap(count: u64) -> f64 {
+    2.0 + 1.5 * (count.min(64) as f64).sqrt()
+}
+
+/// The picture. Where a frame has so many steps, the axis counts frames.
+pub fn draw(title: &str, panels: &[Panel], frame: Option<u64>) -> String {
+    let scenes: Vec<Scene> = panels.iter().map(|panel| Scene::of(&panel.marks, panel.steps)).collect();
+    let steps = panels.iter().map(|panel| panel.steps).max().unwrap_or(0).max(1);
+    let commits = scenes.iter().map(|scene| scene.stretches.len()).max().unwrap_or(0) as f64;
+    let most = (commits * COMMIT_WIDTH).clamp(WIDE, WIDEST);
+    let plot = (steps as f64 * STEP).clamp(NARROW, most);
+    let width = LEFT + plot + RIGHT;
+    let (step, figures) = (plot / steps as f64, figures(steps, frame.unwrap_or(1)));
+    let mut page = Page { out: String::new(), step, width, figures, lanes: vec![], bottom: 0.0, notes: vec![] };
+    page.bottom = page.heading(title);
+    panels.iter().zip(&scenes).for_each(|(panel, scene)| page.panel(panel, scene));
+    page.axis(steps, frame);
+    page.notes_below();
+    page.legend(&scenes);
+    page.whole(title)
 }
 
 struct Page {
@@ -178,12 +97,73 @@ struct Page {
     /// A step's width.
     step: f64,
     width: f64,
+    /// What the axis shows: a step, and its figure.
+    figures: Vec<(u64, u64)>,
+    /// Those of the panel that is drawn.
+    lanes: Vec<Lane>,
+    /// How far down something is drawn.
     bottom: f64,
-    lanes: Vec<(String, Option<u32>)>,
+    /// What was read, each with its mark.
+    notes: Vec<(String, String)>,
 }
 
 fn escaped(text: &str) -> String {
     text.replace('&', "&amp;").replace('<', "&lt;").replace('>', "&gt;").replace('"', "&quot;")
+}
+
+/// `#0 #1`, or `#0 to #63 (64)`, and who sent them, if it was not the host.
+fn numbers(acts: &[Act]) -> String {
+    let name = |act: &Act| format!("#{}", act.number);
+    let named = match acts {
+        [first, .., last] if acts.len() > 3 => format!("{} to {} ({})", name(first), name(last), acts.len()),
+        _ => acts.iter().map(name).collect::<Vec<_>>().join(" "),
+    };
+    named + &from(acts.iter().map(|act| act.player))
+}
+
+/// ` from 1 and 2`; of the host alone nothing is said.
+fn from(players: impl Iterator<Item = Player>) -> String {
+    let mut all: Vec<u32> = players.map(|p| p.0).collect();
+    all.sort_unstable();
+    all.dedup();
+    if all == [Player::HOST.0] || all.is_empty() {
+        return String::new();
+    }
+    format!(" from {}", listed(&all.iter().map(u32::to_string).collect::<Vec<_>>()))
+}
+
+/// `36 refused from 2: full hand`.
+fn refused(group: &Refused) -> String {
+    let number = if group.count == 1 { String::new() } else { format!("{} ", long(group.count)) };
+    format!("{number}refused{}: {}", from(group.players.iter().copied()), group.refusal.word())
+}
+
+/// The same in full.
+fn refusal(group: &Refused) -> String {
+    let Refused { event, step, refusal, players, count } = group;
+    let who = listed(&players.iter().map(|p| player(*p)).collect::<Vec<_>>());
+    format!("step {step}: {} {event} from {who} refused, {refusal}: {}", long(*count), refusal.when())
+}
+
+fn act(act: &Act) -> String {
+    format!("{} #{} from {}", act.event, act.number, player(act.player))
+}
+
+/// Figures of steps, or of frames of so many: apart by 1, 2 or 5 times a power of ten, about ten in all.
+fn figures(steps: u64, unit: u64) -> Vec<(u64, u64)> {
+    let count = steps / unit;
+    let mut every = 1;
+    for factor in [2, 5, 10].into_iter().cycle() {
+        if count / every <= 12 {
+            break;
+        }
+        every = match factor {
+            2 => every * 2,
+            5 => every / 2 * 5,
+            _ => every * 2,
+        };
+    }
+    (0..=count).step_by(every as usize).map(|figure| (figure * unit, figure)).collect()
 }
 
 impl Page {
@@ -195,10 +175,13 @@ impl Page {
         LEFT + step as f64 * self.step
     }
 
+    fn lane(&self, event: &str) -> &Lane {
+        self.lanes.iter().find(|lane| lane.event == event).unwrap_or(&self.lanes[0])
+    }
+
     /// The middle of an event's bars.
     fn y(&self, event: &str) -> f64 {
-        let lane = self.lanes.iter().position(|(name, _)| name == event).unwrap_or(0);
-        TOP + LANE * (lane as f64 + 0.5) + 4.0
+        self.lane(event).middle()
     }
 
     fn text(&mut self, x: f64, y: f64, style: &str, words: &str) {
@@ -211,90 +194,170 @@ impl Page {
         self.put(format_args!(r#"<line x1="{x1:.1}" y1="{y1:.1}" x2="{x2:.1}" y2="{y2:.1}" {style}/>"#));
     }
 
+    /// Signs with a title.
+    fn titled(&mut self, words: &str, signs: impl FnOnce(&mut Page)) {
+        let words = escaped(words);
+        self.put(format_args!("<g><title>{words}</title>"));
+        signs(self);
+        self.put(format_args!("</g>"));
+    }
+
     // ---- the frame
 
-    fn head(&mut self, title: &str) {
-        let (width, height) = (self.width, self.bottom + AXIS + LEGEND);
-        self.put(format_args!(
-            r#"<svg xmlns="http://www.w3.org/2000/svg" viewBox="0 0 {width:.0} {height:.0}" width="{width:.0}" height="{height:.0}" font-family="Helvetica, Arial, sans-serif" font-size="12" role="img">"#
-        ));
-        let about = escaped(title);
-        self.put(format_args!(r#"<title>Timeline of {about}</title>"#));
-        self.put(format_args!(
-            r#"<defs><pattern id="dropped" width="7" height="7" patternUnits="userSpaceOnUse" patternTransform="rotate(45)"><rect width="7" height="7" fill="{LOST}" fill-opacity="0.12"/><rect width="2.4" height="7" fill="{LOST}" fill-opacity="0.55"/></pattern></defs>"#
-        ));
-        self.put(format_args!(r##"<rect width="{width:.0}" height="{height:.0}" fill="#ffffff"/>"##));
-        self.text(16.0, 26.0, &format!(r#"font-size="15" font-weight="bold" fill="{INK}""#), title);
+    /// The whole file, once its height is known.
+    fn whole(self, title: &str) -> String {
+        let (width, height, about) = (self.width, self.bottom, escaped(title));
+        format!(
+            r##"<svg xmlns="http://www.w3.org/2000/svg" viewBox="0 0 {width:.0} {height:.0}" width="{width:.0}" height="{height:.0}" font-family="Helvetica, Arial, sans-serif" font-size="12" role="img">
+<title>Timeline of {about}</title>
+<defs><pattern id="dropped" width="7" height="7" patternUnits="userSpaceOnUse" patternTransform="rotate(45)"><rect width="7" height="7" fill="{LOST}" fill-opacity="0.12"/><rect width="2.4" height="7" fill="{LOST}" fill-opacity="0.55"/></pattern></defs>
+<rect width="{width:.0}" height="{height:.0}" fill="#ffffff"/>
+{}</svg>
+"##,
+            self.out
+        )
+    }
+
+    /// The title, in as many lines as it takes. How far down it comes.
+    fn heading(&mut self, title: &str) -> f64 {
+        let columns = ((self.width - 32.0) / 8.2) as usize;
+        let mut y = 26.0;
+        for line in folded(title, columns, 0).lines() {
+            self.text(16.0, y, &format!(r#"font-size="15" font-weight="bold" fill="{INK}""#), line);
+            y += 19.0;
+        }
+        y + 6.0
+    }
+
+    /// One phone below what is drawn.
+    fn panel(&mut self, panel: &Panel, scene: &Scene) {
+        if !panel.title.is_empty() {
+            self.text(20.0, self.bottom + 14.0, &format!(r#"font-weight="bold" fill="{INK}""#), &panel.title);
+            self.bottom += 22.0;
+        }
+        // what a change says stands above the lanes
+        self.bottom += if scene.changes.is_empty() { 0.0 } else { 10.0 };
+        let top = self.bottom;
+        self.place(scene, panel.file);
+        self.names();
+        self.grid(top);
         for k in 0..self.lanes.len() {
-            let (name, rank) = self.lanes[k].clone();
-            let top = TOP + LANE * k as f64;
+            self.waits(scene, k);
+        }
+        scene.stretches.iter().for_each(|stretch| self.stretch(stretch));
+        scene.changes.iter().for_each(|(words, step)| self.change(words, *step, top));
+        // what may lie at the edge of the next bar or label comes last
+        scene.stretches.iter().for_each(|stretch| self.commit(stretch));
+        for k in 0..self.lanes.len() {
+            self.arrivals(scene, k);
+            self.refused(scene, k);
+        }
+        scene.breaks.iter().for_each(|one| self.break_in(one));
+        self.looks(panel, scene);
+    }
+
+    /// A lane for each event, as high as what is drawn in it.
+    fn place(&mut self, scene: &Scene, file: &SheetFile) {
+        self.lanes.clear();
+        for (event, rank) in scene.lanes(file) {
+            let waiting = scene.waiting(&event).iter().map(|(.., count)| *count).max().unwrap_or(0);
+            let more = if waiting > 3 { heap(waiting) + 6.0 } else { 0.0 };
+            let refused = if scene.refused.iter().any(|r| r.event == event) { 14.0 } else { 0.0 };
+            let (top, height, low) = (self.bottom, LANE + more + refused, LANE / 2.0 - 6.0 + more + refused / 2.0);
+            self.lanes.push(Lane { event, rank, top, height, low });
+            self.bottom += height;
+        }
+        if self.lanes.is_empty() {
+            self.lanes.push(Lane { event: String::new(), rank: None, top: self.bottom, height: LANE, low: 0.0 });
+            self.bottom += LANE;
+        }
+    }
+
+    fn names(&mut self) {
+        for k in 0..self.lanes.len() {
+            let Lane { event, rank, top, height, .. } = &self.lanes[k];
+            let (name, rank, top, height) = (event.clone(), *rank, *top, *height);
             if k % 2 == 0 {
-                let whole = width - 24.0;
+                let whole = self.width - 24.0;
                 self.put(format_args!(
-                    r##"<rect x="12" y="{top:.1}" width="{whole:.1}" height="{LANE}" fill="#f6f8fa"/>"##
+                    r##"<rect x="12" y="{top:.1}" width="{whole:.1}" height="{height:.1}" fill="#f6f8fa"/>"##
                 ));
             }
-            let middle = self.y(&name);
-            self.text(20.0, middle, &format!(r#"font-size="13" font-weight="bold" fill="{INK}""#), &name);
+            let middle = self.lanes[k].middle();
+            let size = if name.len() > 16 { 10 } else { 13 };
+            self.text(20.0, middle, &format!(r#"font-size="{size}" font-weight="bold" fill="{INK}""#), &name);
             let rank = rank.map_or(String::new(), |r| format!("rank {r}"));
             self.text(20.0, middle + 15.0, &format!(r#"font-size="11" fill="{PALE}""#), &rank);
         }
     }
 
-    /// Steps between two figures: 1, 2 or 5 times a power of ten, about ten figures in all.
-    fn axis(&mut self, steps: u64, plot: f64) {
-        let mut every = 1;
-        for factor in [2, 5, 10].into_iter().cycle() {
-            if steps / every <= 12 {
-                break;
-            }
-            every = match factor {
-                2 => every * 2,
-                5 => every / 2 * 5,
-                _ => every * 2,
-            };
+    /// The lines of the axis, behind what is drawn in the lanes.
+    fn grid(&mut self, top: f64) {
+        for (step, _) in self.figures.clone() {
+            let (x, bottom) = (self.x(step), self.bottom);
+            self.line((x, top), (x, bottom), &format!(r#"stroke="{GRID}""#));
         }
-        for step in (0..=steps).step_by(every as usize) {
+    }
+
+    fn axis(&mut self, steps: u64, frame: Option<u64>) {
+        let bottom = self.bottom;
+        for (step, figure) in self.figures.clone() {
             let x = self.x(step);
-            self.line((x, TOP), (x, self.bottom), &format!(r#"stroke="{GRID}""#));
-            self.line((x, self.bottom), (x, self.bottom + 5.0), &format!(r#"stroke="{PALE}""#));
-            self.text(x, self.bottom + 19.0, &format!(r#"text-anchor="middle" fill="{PALE}""#), &long(step));
+            self.line((x, bottom), (x, bottom + 5.0), &format!(r#"stroke="{PALE}""#));
+            self.text(x, bottom + 19.0, &format!(r#"text-anchor="middle" fill="{PALE}""#), &long(figure));
         }
-        self.line((LEFT, self.bottom), (LEFT + plot, self.bottom), &format!(r#"stroke="{PALE}""#));
-        self.text(20.0, self.bottom + 19.0, &format!(r#"fill="{PALE}""#), "steps made");
+        self.line((LEFT, bottom), (self.x(steps), bottom), &format!(r#"stroke="{PALE}""#));
+        let what = frame.map_or("steps made".to_string(), |n| format!("frames of {}", several(n, "step", "steps")));
+        self.text(20.0, bottom + 19.0, &format!(r#"fill="{PALE}""#), &what);
+        self.bottom += AXIS - 8.0;
     }
 
     // ---- what happens
 
-    fn wait(&mut self, event: &str, from: u64, to: u64) {
-        let y = self.y(event) + BAR / 2.0 + 5.0;
-        if to > from {
-            self.line((self.x(from), y), (self.x(to), y), &format!(r#"stroke="{WAIT}" stroke-width="3""#));
+    /// What waits in a lane: the higher, the more.
+    fn waits(&mut self, scene: &Scene, k: usize) {
+        let (event, y) = (self.lanes[k].event.clone(), self.lanes[k].middle() + BAR / 2.0 + 4.0);
+        let spans = scene.waiting(&event);
+        for (from, to, count) in &spans {
+            let (x, width, height) = (self.x(*from), self.x(*to) - self.x(*from), heap(*count));
+            let have = if *count == 1 { "waits" } else { "wait" };
+            let words = format!("{} of {event} {have} in the hand, steps {from} to {to}", long(*count));
+            self.titled(&words, |page| {
+                page.put(format_args!(
+                    r#"<rect x="{x:.1}" y="{y:.1}" width="{width:.1}" height="{height:.1}" fill="{WAIT}"/>"#
+                ));
+            });
         }
+        let Some((from, _, most)) = spans.iter().rev().max_by_key(|(.., count)| *count).filter(|(.., c)| *c > 3) else {
+            return;
+        };
+        let style = format!(r#"font-size="10" fill="{PALE}" {HALO}"#);
+        self.text(self.x(*from), y + heap(*most) + 9.0, &style, &format!("{most} wait"));
     }
 
-    /// A triangle for the arrivals of one event at one step, with their numbers where there is room: to the left where
-    /// an arrow is in the way.
-    fn arrivals(&mut self, scene: &Scene) {
-        let mut groups: Vec<(String, u64, Vec<u32>)> = vec![];
-        for (act, step) in &scene.arrivals {
-            match groups.iter_mut().find(|(event, at, _)| *event == act.event && at == step) {
-                Some((_, _, numbers)) => numbers.push(act.number),
-                None => groups.push((act.event.clone(), *step, vec![act.number])),
-            }
-        }
-        for (event, step, numbers) in &groups {
-            let (x, y) = (self.x(*step), self.y(event) - BAR / 2.0 - 3.0);
-            self.triangle(x, y);
-            let words = numbers.iter().map(|n| format!("#{n}")).collect::<Vec<_>>().join(" ");
-            let wide = words.len() as f64 * LETTER + 16.0;
-            let next = groups.iter().filter(|(e, s, _)| e == event && s > step).map(|(_, s, _)| *s).min();
-            let arrow = scene.breaks.iter().any(|(_, of, s)| of == event && s >= step && self.x(*s) < x + wide);
-            let (anchor, at) = if arrow { ("end", x - 7.0) } else { ("start", x + 7.0) };
-            if arrow || next.map_or(true, |s| x + wide < self.x(s)) {
-                let style = format!(r#"font-size="11" text-anchor="{anchor}" fill="{INK}" {HALO}"#);
-                self.text(at, y - 1.0, &style, &words);
-            }
+    /// A triangle for the arrivals of one event at one step, with their numbers and senders where there is room: to the
+    /// left where an arrow, the next one or the edge is in the way.
+    fn arrivals(&mut self, scene: &Scene, k: usize) {
+        let event = self.lanes[k].event.clone();
+        let groups: Vec<&Arrivals> = scene.arrivals.iter().filter(|a| a.event == event).collect();
+        let mut free = 10.0;
+        for (n, group) in groups.iter().enumerate() {
+            let (x, y) = (self.x(group.step), self.lanes[k].middle() - BAR / 2.0 - 3.0);
+            let all: Vec<String> = group.acts.iter().map(act).collect();
+            self.titled(&format!("step {}: {} arrives", group.step, listed(&all)), |page| page.triangle(x, y));
+            let words = numbers(&group.acts);
+            let wide = words.len() as f64 * LETTER + 12.0;
+            let next = groups.get(n + 1).map_or(self.width - 6.0, |g| self.x(g.step) - 6.0);
+            let arrow =
+                scene.breaks.iter().any(|b| b.of.event == event && b.step >= group.step && self.x(b.step) < x + wide);
+            let (anchor, at, end) = match (arrow || x + wide > next, x - wide > free) {
+                (false, _) => ("start", x + 7.0, x + wide),
+                (true, true) => ("end", x - 7.0, x + 7.0),
+                (true, false) => continue,
+            };
+            free = end;
+            let style = format!(r#"font-size="11" text-anchor="{anchor}" fill="{INK}" {HALO}"#);
+            self.text(at, y - 1.0, &style, &words);
         }
     }
 
@@ -312,20 +375,42 @@ impl Page {
         self.line((x - 4.5, y), (x + 4.5, y - 9.0), &style);
     }
 
-    /// A cross, beside the triangle where one arrives at the same step.
-    fn refused(&mut self, scene: &Scene) {
-        for (event, number, step) in &scene.refused {
-            let beside = scene.arrivals.iter().any(|(act, s)| act.event == *event && s == step);
-            let x = self.x(*step) - if beside { 12.0 } else { 0.0 };
-            let y = self.y(event) - BAR / 2.0 - 3.0;
-            self.cross(x, y);
-            let style = format!(r#"font-size="11" text-anchor="end" fill="{LOST}" {HALO}"#);
-            self.text(x - 8.0, y, &style, &format!("refused {number}"));
+    /// A cross below the bars for what is refused at one step, with the refusals' words where there is room.
+    fn refused(&mut self, scene: &Scene, k: usize) {
+        let event = self.lanes[k].event.clone();
+        let own: Vec<&Refused> = scene.refused.iter().filter(|r| r.event == event).collect();
+        let mut free = 0.0;
+        for group in own.chunk_by(|a, b| a.step == b.step) {
+            let (x, y) = (self.x(group[0].step), self.lanes[k].middle() + self.lanes[k].low);
+            let titles: Vec<String> = group.iter().map(|r| refusal(r)).collect();
+            self.titled(&titles.join("; "), |page| page.cross(x, y));
+            let words = group.iter().map(|r| refused(r)).collect::<Vec<_>>().join("; ");
+            let wide = words.len() as f64 * LETTER + 14.0;
+            let (anchor, at) = if x + wide > self.width { ("end", x - 9.0) } else { ("start", x + 9.0) };
+            if (anchor == "start" && x < free) || (anchor == "end" && x - wide < free) {
+                continue;
+            }
+            free = if anchor == "start" { x + wide } else { x + 6.0 };
+            let style = format!(r#"font-size="11" text-anchor="{anchor}" fill="{LOST}" {HALO}"#);
+            self.text(at, y, &style, &words);
         }
     }
 
     /// A bar with its arrival's number, where there is room.
     fn stretch(&mut self, stretch: &Stretch) {
+        let Stretch { act: own, from, to, again, end } = stretch;
+        let done = match end {
+            End::Committed { over: true } => "runs and commits; a result ran over",
+            End::Committed { over: false } => "runs and commits",
+            End::Open => "runs, and the script ends",
+            End::Dropped => "runs, and its work is dropped",
+        };
+        let once = if *again { " again" } else { "" };
+        let words = format!("{}: {done}{once}, steps {from} to {to}", act(own));
+        self.titled(&words, |page| page.bar(stretch));
+    }
+
+    fn bar(&mut self, stretch: &Stretch) {
         let (x, to) = (self.x(stretch.from), self.x(stretch.to));
         let y = self.y(&stretch.act.event);
         let ink = match stretch.end {
@@ -343,13 +428,17 @@ impl Page {
             }
         };
         let name = format!("#{}", stretch.act.number);
+        let room = to - x - 2.0 * dot_size(to - x);
         let again = format!("{name} again");
-        let fits = |words: &str| words.len() as f64 * LETTER < to - x - 10.0;
-        let words = if stretch.again && fits(&again) { again } else { name };
-        if fits(&words) {
-            let style = format!(r#"{ink} text-anchor="middle" font-weight="bold""#);
-            self.text((x + to) / 2.0 - 1.0, y + 4.0, &style, &words);
-        }
+        let fits = |words: &str, letter: f64| words.len() as f64 * letter < room;
+        let (words, size) = match () {
+            () if stretch.again && fits(&again, LETTER + 0.8) => (again, 12),
+            () if fits(&name, LETTER + 0.8) => (name, 12),
+            () if fits(&name, SMALL) => (name, 9),
+            () => return,
+        };
+        let style = format!(r#"{ink} font-size="{size}" text-anchor="middle" font-weight="bold""#);
+        self.text((x + to) / 2.0, y + 4.0, &style, &words);
     }
 
     fn solid(&mut self, x: f64, to: f64, y: f64, fill: &str) {
@@ -372,26 +461,32 @@ impl Page {
 
     fn commit(&mut self, stretch: &Stretch) {
         if let End::Committed { over } = stretch.end {
-            self.dot(self.x(stretch.to), self.y(&stretch.act.event), over);
+            let (x, y) = (self.x(stretch.to), self.y(&stretch.act.event));
+            let size = dot_size(x - self.x(stretch.from));
+            let ran = if over { "; a result ran over" } else { "" };
+            let words = format!("step {}: {} commits{ran}", stretch.to, act(&stretch.act));
+            self.titled(&words, |page| page.dot(x, y, size, over));
         }
     }
 
-    fn dot(&mut self, x: f64, y: f64, over: bool) {
-        let (fill, mark) = if over { (LOST, "!") } else { (COMMIT, "") };
+    fn dot(&mut self, x: f64, y: f64, size: f64, over: bool) {
+        let (fill, edge) = (if over { LOST } else { COMMIT }, size / 3.5);
         self.put(format_args!(
-            r##"<circle cx="{x:.1}" cy="{y:.1}" r="6.5" fill="{fill}" stroke="#ffffff" stroke-width="2"/>"##
+            r##"<circle cx="{x:.1}" cy="{y:.1}" r="{size:.1}" fill="{fill}" stroke="#ffffff" stroke-width="{edge:.1}"/>"##
         ));
-        if over {
+        if over && size > 5.0 {
             let style = r##"text-anchor="middle" font-size="10" font-weight="bold" fill="#ffffff""##;
-            self.text(x, y + 3.5, style, mark);
+            self.text(x, y + 3.5, style, "!");
         }
     }
 
     /// An arrow from the one that breaks in to the one that is dropped; a change of ranks may have put it below.
-    fn break_in(&mut self, by: &str, of: &str, step: u64) {
-        let (from, to) = (self.y(by), self.y(of));
+    fn break_in(&mut self, one: &Break) {
+        let Break { by, of, step } = one;
+        let (from, to, x) = (self.y(&by.event), self.y(&of.event), self.x(*step));
         let down = if from <= to { 1.0 } else { -1.0 };
-        self.arrow(self.x(step), from + down * BAR / 2.0, to - down * (BAR / 2.0 + 1.0));
+        let words = format!("step {step}: {} breaks into {}", act(by), act(of));
+        self.titled(&words, |page| page.arrow(x, from + down * BAR / 2.0, to - down * (BAR / 2.0 + 1.0)));
     }
 
     fn arrow(&mut self, x: f64, from: f64, to: f64) {
@@ -403,32 +498,92 @@ impl Page {
         ));
     }
 
-    fn change(&mut self, path: &str, step: u64) {
-        let x = self.x(step);
-        let style = format!(r#"stroke="{CHANGE}" stroke-width="1.6" stroke-dasharray="6 4""#);
-        self.line((x, TOP - 12.0), (x, self.bottom), &style);
-        let (anchor, at) = if x > LEFT + 200.0 { ("end", x - 5.0) } else { ("start", x + 5.0) };
-        let style = format!(r#"font-size="11" text-anchor="{anchor}" fill="{CHANGE}""#);
-        self.text(at, TOP - 6.0, &style, &format!("now {path}"));
+    fn change(&mut self, words: &str, step: u64, top: f64) {
+        let (x, bottom) = (self.x(step), self.bottom);
+        let told = format!("now {words}");
+        self.titled(&format!("step {step}: the sheet is {told}"), |page| {
+            let style = format!(r#"stroke="{CHANGE}" stroke-width="1.6" stroke-dasharray="6 4""#);
+            page.line((x, top - 12.0), (x, bottom), &style);
+            let left = x > page.width / 2.0;
+            let (anchor, at) = if left { ("end", x - 5.0) } else { ("start", x + 5.0) };
+            let style = format!(r#"font-size="11" text-anchor="{anchor}" fill="{CHANGE}""#);
+            page.text(at, top - 3.0, &style, &told);
+        });
+    }
+
+    // ---- what is read
+
+    /// A diamond for each reading, with the mark under which it is told below.
+    fn looks(&mut self, panel: &Panel, scene: &Scene) {
+        if scene.looks.is_empty() {
+            return;
+        }
+        let y = self.bottom + STRIP / 2.0;
+        self.text(20.0, y + 4.0, &format!(r#"font-size="11" fill="{PALE}""#), "what is read");
+        let mut free = 0.0;
+        for (step, words) in &scene.looks {
+            let mark = format!("B{}", self.notes.len() + 1);
+            let x = self.x(*step);
+            self.titled(&format!("step {step}: {words}"), |page| page.diamond(x, y));
+            let at = (x + 7.0).max(free);
+            let style = format!(r#"font-size="11" font-weight="bold" fill="{LOOK}" {HALO}"#);
+            if at + 24.0 < self.width {
+                self.text(at, y + 4.0, &style, &mark);
+                free = at + mark.len() as f64 * LETTER + 6.0;
+            }
+            let phone = panel.title.split(',').next().unwrap_or("").trim();
+            let whose = if phone.is_empty() { String::new() } else { format!("{phone}, ") };
+            self.notes.push((mark, format!("{whose}step {}: {words}", long(*step))));
+        }
+        self.bottom += STRIP;
+    }
+
+    fn diamond(&mut self, x: f64, y: f64) {
+        let (left, right, top, low) = (x - 5.0, x + 5.0, y - 5.0, y + 5.0);
+        self.put(format_args!(
+            r#"<path d="M {x:.1} {top:.1} L {right:.1} {y:.1} L {x:.1} {low:.1} L {left:.1} {y:.1} Z" fill="{LOOK}"/>"#
+        ));
+    }
+
+    /// What was read, in words.
+    fn notes_below(&mut self) {
+        let notes = std::mem::take(&mut self.notes);
+        let columns = ((self.width - 80.0) / LETTER) as usize;
+        for (mark, words) in notes.iter().take(NOTES) {
+            let style = format!(r#"font-size="11" font-weight="bold" fill="{LOOK}""#);
+            self.text(20.0, self.bottom + 10.0, &style, mark);
+            for line in folded(words, columns, 0).lines() {
+                self.text(56.0, self.bottom + 10.0, &format!(r#"font-size="11" fill="{INK}""#), line);
+                self.bottom += NOTE;
+            }
+        }
+        if notes.len() > NOTES {
+            let more = format!("and {} more", notes.len() - NOTES);
+            self.text(56.0, self.bottom + 10.0, &format!(r#"font-size="11" fill="{PALE}""#), &more);
+            self.bottom += NOTE;
+        }
     }
 
     // ---- the legend
 
     /// What the picture has, each sign with its meaning, in as many lines as it takes.
-    fn legend(&mut self, scene: &Scene) {
-        let ends = |of: fn(&End) -> bool| scene.stretches.iter().any(|s| of(&s.end));
+    fn legend(&mut self, scenes: &[Scene]) {
+        let ends = |of: fn(&End) -> bool| scenes.iter().any(|scene| scene.stretches.iter().any(|s| of(&s.end)));
+        let some = |of: fn(&Scene) -> bool| scenes.iter().any(of);
+        let waits = |scene: &Scene| scene.arrivals.iter().any(|a| !scene.waiting(&a.event).is_empty());
         let signs = [
             (Sign::Commits, "runs, then commits", ends(|e| matches!(e, End::Committed { .. }))),
             (Sign::Dropped, "its work is dropped", ends(|e| *e == End::Dropped)),
-            (Sign::BreakIn, "who breaks into whom", !scene.breaks.is_empty()),
-            (Sign::Arrives, "arrives", !scene.arrivals.is_empty()),
-            (Sign::Refused, "is refused", !scene.refused.is_empty()),
-            (Sign::Waits, "waits in the hand", !scene.waits.is_empty()),
+            (Sign::BreakIn, "who breaks into whom", some(|s| !s.breaks.is_empty())),
+            (Sign::Arrives, "arrives, from the host if no player is named", some(|s| !s.arrivals.is_empty())),
+            (Sign::Refused, "is refused", some(|s| !s.refused.is_empty())),
+            (Sign::Waits, "waits in the hand", some(waits)),
             (Sign::Over, "commits, but a result ran over", ends(|e| *e == End::Committed { over: true })),
             (Sign::Open, "still running", ends(|e| *e == End::Open)),
-            (Sign::Changed, "the sheet is changed", !scene.changes.is_empty()),
+            (Sign::Changed, "the sheet is changed", some(|s| !s.changes.is_empty())),
+            (Sign::Looks, "is read, see above", some(|s| !s.looks.is_empty())),
         ];
-        let (mut x, mut y) = (20.0, self.bottom + AXIS + 14.0);
+        let (mut x, mut y) = (20.0, self.bottom + 22.0);
         for (sign, words, _) in signs.into_iter().filter(|(_, _, used)| *used) {
             let wide = sign.width() + 8.0 + words.len() as f64 * LETTER + 22.0;
             if x + wide > self.width {
@@ -438,6 +593,7 @@ impl Page {
             self.text(x + sign.width() + 8.0, y + 4.0, &format!(r#"fill="{INK}""#), words);
             x += wide;
         }
+        self.bottom = y + 24.0;
     }
 
     fn sign(&mut self, sign: Sign, x: f64, y: f64) {
@@ -446,21 +602,27 @@ impl Page {
         match sign {
             Sign::Commits => {
                 self.solid(x, to - 6.0, y, DONE);
-                self.dot(to - 6.0, y, false);
+                self.dot(to - 6.0, y, 6.5, false);
             }
             Sign::Dropped => self.torn(x, to, y),
             Sign::Open => self.solid(x, to, y, OPEN),
             Sign::BreakIn => self.arrow(middle, y - BAR / 2.0, y + BAR / 2.0),
             Sign::Arrives => self.triangle(middle, y + 4.0),
             Sign::Refused => self.cross(middle, y + 4.0),
-            Sign::Waits => self.line((x, y), (to, y), &format!(r#"stroke="{WAIT}" stroke-width="3""#)),
-            Sign::Over => self.dot(middle, y, true),
+            Sign::Waits => self.line((x, y), (to, y), &format!(r#"stroke="{WAIT}" stroke-width="4""#)),
+            Sign::Over => self.dot(middle, y, 6.5, true),
+            Sign::Looks => self.diamond(middle, y),
             Sign::Changed => {
                 let style = format!(r#"stroke="{CHANGE}" stroke-width="1.6" stroke-dasharray="6 4""#);
                 self.line((middle, y - 12.0), (middle, y + 12.0), &style);
             }
         }
     }
+}
+
+/// A commit's size at the end of a bar of this width.
+fn dot_size(width: f64) -> f64 {
+    (width * 0.14).clamp(2.2, 6.5)
 }
 
 /// What the legend explains.
@@ -475,6 +637,7 @@ enum Sign {
     Over,
     Open,
     Changed,
+    Looks,
 }
 
 impl Sign {

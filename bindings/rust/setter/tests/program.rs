@@ -445,7 +445,9 @@ fn json_and_standard_input() {
     for part in [
         "{\"file\":\"-\",\"accepted\":true,",
         "\"events\":[{\"name\":\"hit\",\"rank\":2,\"instructions\":13},",
-        "\"agree\":false,\"pairs\":[{\"first\":\"hit\",\"second\":\"late\",\"share\":\"over\"}],",
+        "\"agree\":false,\"apart\":true,\"pairs\":[{\"first\":\"hit\",\"second\":\"late\",\"share\":\"over\",",
+        "\"groups\":[[\"hit\",\"late\"]],\"equal\":[\"over\"],\"search\":{\"boards\":1,\"all\":false,",
+        "\"slow\":\"hit\",\"urgent\":\"late\",\"boards\":[[1,10],[1,0]],\"differs\":\"points\"}},",
         "\"leak\":null}],\"warnings\":[]}\n",
     ] {
         assert!(told.contains(part), "{part}\n{told}");
@@ -496,6 +498,118 @@ fn two_phones_at_random() {
     room.put("apart.sheet", APART.replace("rank 9", "rank 2"));
     let none = "apart.sheet: not found in 200 runs of at most 40 events, seed 7; that is a search, and no proof\n";
     assert_eq!(room.done("try apart.sheet --strict --seed 7 --runs 200"), none);
+}
+
+/// Two phones that end apart are written as scripts that lead there, and as a picture; nothing else is written over.
+#[test]
+fn two_phones_as_files() {
+    let room = Room::new("differ");
+    room.put("apart.sheet", APART);
+    let told = room.done("differ apart.sheet");
+    let written = "apart-differ-1.play, apart-differ-2.play and apart-differ.svg are written\n";
+    assert!(told.ends_with(written) && told.contains("differs is points: 10 and 0\n"), "{told}");
+    for (phone, board) in [(1, "over 1, points 10"), (2, "over 1, points 0")] {
+        let play = room.done(&format!("play apart.sheet apart-differ-{phone}.play"));
+        assert!(play.contains(&format!("board: {board}\n")) && play.contains("as expected\n"), "{play}");
+    }
+    let picture = String::from_utf8(room.get("apart-differ.svg")).unwrap();
+    for part in ["phone 1, which", "phone 2, which", "board: over 1, points 10", "board: over 1, points 0"] {
+        assert!(picture.contains(part), "{part}");
+    }
+    // again, over what it wrote; over nothing else, and then none of the three
+    assert_eq!(room.done("differ apart.sheet"), told);
+    room.put("apart-differ-2.play", "send hit\n");
+    room.refused(
+        "differ apart.sheet",
+        &format!("apart-differ-2.play is there and is not a script that differ wrote: {WAY}"),
+    );
+    room.done("differ apart.sheet two --force");
+    assert!(room.get("two-1.play") == room.get("apart-differ-1.play"));
+    // nothing to write
+    room.put("apart.sheet", "event a rank 1 event b rank 2 active x = 0 on a: 1 on b: 1");
+    let told = room.done("differ apart.sheet three");
+    assert!(
+        told.ends_with("none on all 2 boards (searched, not proved)\nmay differ: x\nnothing is written\n"),
+        "{told}"
+    );
+    assert!(!room.0.join("three.svg").exists());
+}
+
+/// What check tells of phones: lines, groups of events, how far it looked, and winners.
+#[test]
+fn phones_that_part() {
+    let room = Room::new("part");
+    let says = |text: &str, words: &str, parts: &[&str]| {
+        room.put("one.sheet", text);
+        let told = room.done(&format!("check one.sheet{words}"));
+        parts.iter().for_each(|part| assert!(told.contains(part), "{part}\n{told}"));
+    };
+    let over = "late (rank 9) writes over, line ";
+    says(
+        APART,
+        "",
+        &[over, "; hit (rank 2) reads it, line ", "nothing in common: hit and late\n", "may differ: points\n"],
+    );
+    says(APART, " --winner over", &["winner over: proved equal\n"]);
+    says(APART, " --winner points", &["winner points: may differ, and is 10 and 0 in these two lists\n"]);
+    // of three events two meet, and the third meets one of them at its own rank: all must have one
+    let three = "event a rank 1 event b rank 2 event c rank 2 event d rank 3 active x = 0 on a: x * 2 on b: x + 1 \
+                 active y = 0 on b: y * 3 on c: y + 1 active z = 0 on d: 1";
+    says(three, "", &["nothing in common: a, b and c\n"]);
+    // through a passive
+    let through =
+        "event a rank 1 event b rank 2\nactive x = 0\n  on a: x + 1\npassive p = x > 3\nactive y = 0\n  on b: p\n";
+    says(through, "", &["a (rank 1) reads and writes x, line 3; b (rank 2) reads it, line 6\n"]);
+    let more = "event a rank 1 event b rank 9 active t = 0 on b: t + 1 active s = 0 on a: if(0, t, s + 1)";
+    says(more, " --boards 7", &["none on the first 7 boards (searched, not proved)\n"]);
+    // both only add: 29, and each behaviour is proved equal
+    let add = "event a rank 1 event b rank 9 active s = 0 on a: s + 10 on b: s + 5";
+    says(add, " --strict --winner s", &["phones        agree on each behaviour", "winner s: proved equal\n"]);
+    says("active a = 0", "", &["phones        agree: ", "by `deliver`", "decides by the board when idle"]);
+    let done = room.setter("check one.sheet --winner b");
+    assert_eq!(
+        (done.status.code(), said(&done).as_str()),
+        (Some(1), "one.sheet: no behaviour or cell b to be a winner\n")
+    );
+}
+
+/// Steps as frames of a stated budget, in what is printed and on the axis.
+#[test]
+fn frames() {
+    let room = Room::new("frames");
+    assert!(room.done("check one.sheet --frame 4").contains("the longest event is hit, 10, 3 frames of 4\n"));
+    let told = room.done("play one.sheet one.play --frame 4");
+    assert!(told.contains("  step   frame of 4\n") && told.contains("\n    11       3  hit #0 commits\n"), "{told}");
+    room.done("timeline one.sheet one.play one.svg --frame 4");
+    assert!(String::from_utf8(room.get("one.svg")).unwrap().contains("frames of 4 steps"));
+    assert!(said(&room.setter("play one.sheet one.play --frame 0")).starts_with("setter: --frame needs"));
+}
+
+/// A picture has senders, refusals by their word and what was read, each sign with a title, and few signs where many
+/// arrive at once.
+#[test]
+fn pictures() {
+    let room = Room::new("picture");
+    room.put("many.sheet", "event hit rank 1 from 1 2\nactive score = 0\n  on hit: score + 1\n");
+    room.put(
+        "many.play",
+        "send hit from 3\nrepeat 100 send hit from 2\nboard\nsteps 5\npreview hit by 1\nforecast\nrun\nboard score\n",
+    );
+    room.done("timeline many.sheet many.play many.svg");
+    let picture = String::from_utf8(room.get("many.svg")).unwrap();
+    for part in [
+        ">#0 to #63 (64) from 2<",
+        ">refused from 3: no right; 36 refused from 2: full hand<",
+        ">63 wait<",
+        "<title>step 0: hit #0 from player 2, hit #1 from player 2, ",
+        "step 0: board: score 0<",
+        "board: score 64<",
+        "preview of hit from player 1",
+        "forecast: idle after",
+    ] {
+        assert!(picture.contains(part), "{part}");
+    }
+    assert!(picture.matches("<title>").count() > 64 && picture.len() < 100_000, "{}", picture.len());
 }
 
 #[test]
