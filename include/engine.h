@@ -17,8 +17,13 @@
 #include <stddef.h>
 #include <stdint.h>
 
-#if SIZE_MAX != UINT64_MAX
-#error "the engine's archives are for 64-bit processors"
+/* A length in bytes: size_t, and in WebAssembly, where size_t has 32 bits, a number of 64 as everywhere. */
+#if SIZE_MAX == UINT64_MAX
+typedef size_t engine_size;
+#elif defined(__wasm32__)
+typedef uint64_t engine_size;
+#else
+#error "the engine's archives are for 64-bit processors and for WebAssembly"
 #endif
 
 #ifdef __cplusplus
@@ -120,16 +125,24 @@ static inline uint32_t engine_version_layout(uint32_t version) { return version 
 /* Compiles a sheet into the table: 0, or the refusal's number (1, 3 to 13, 20; 20 is checked after 11). Parameters:
  * eight big-endian signed values of 32 bits, ENGINE_PARAMS bytes, parameter n of the sheet standing for the n-th; bytes
  * beyond are not read. A sheet that uses none may be lent none. */
-uint32_t engine_compile(const uint8_t *sheet, size_t sheet_len, const uint8_t *params, size_t params_len,
-                        uint8_t *table, size_t table_len);
+uint32_t engine_compile(const uint8_t *sheet, engine_size sheet_len, const uint8_t *params, engine_size params_len,
+                        uint8_t *table, engine_size table_len);
+
+/* Writes parameter n, 0 to 7, to its place in the 32 bytes; the others stay. For a larger n it writes nothing. */
+static inline void engine_params_put(uint8_t *params, uint32_t n, int32_t value)
+{
+    uint32_t word = (uint32_t)value, i;
+    for (i = 0; i < 4 && n < ENGINE_PARAMS / 4; i++)
+        params[4 * n + i] = (uint8_t)(word >> (24 - 8 * i));
+}
 
 /* Shows why a sheet is turned down with these parameters: compile's number, as with a full table, and the list as it
  * was; but for 12 a packed answer, and the behaviours of a circle in the first bytes of the list, each depending on the
  * next and the last on the first, the list's other bytes as they were. A list that is too short for the circle is left
  * as it was; ENGINE_CIRCLE_LIST bytes are always enough. No circle of fewer behaviours exists under an event or under
  * none; it is one under none where one of these is as short. */
-uint64_t engine_circle(const uint8_t *sheet, size_t sheet_len, const uint8_t *params, size_t params_len,
-                       uint8_t *list, size_t list_len);
+uint64_t engine_circle(const uint8_t *sheet, engine_size sheet_len, const uint8_t *params, engine_size params_len,
+                       uint8_t *list, engine_size list_len);
 
 /* The refusal's number, or 0; for 12 the event that the circle arises under, ENGINE_NO_EVENT for none, and how many
  * behaviours it has. */
@@ -144,7 +157,7 @@ static inline uint32_t engine_circle_length(uint64_t answer) { return (uint32_t)
  * reads or writes: the least first event, then the least second, then the least behaviour. 29 warns that the boards may
  * differ, and does not state that they do. 0 promises nothing of the marks ENGINE_OVER and of the order of commits, and
  * with ENGINE_HAND in hand one phone may refuse what the other takes in. */
-uint64_t engine_agree(const uint8_t *sheet, size_t sheet_len, const uint8_t *params, size_t params_len);
+uint64_t engine_agree(const uint8_t *sheet, engine_size sheet_len, const uint8_t *params, engine_size params_len);
 
 static inline uint32_t engine_agree_number(uint64_t answer) { return (uint32_t)(answer & 0xFF); }
 static inline uint32_t engine_agree_first(uint64_t answer) { return (uint32_t)(answer >> 8 & 0xFF); }
@@ -153,16 +166,16 @@ static inline uint32_t engine_agree_behaviour(uint64_t answer) { return (uint32_
 
 /* Whether two phones that take in the same events in the same order always end with the same value of one behaviour,
  * whatever the rest of their boards does: compile's number, as with a full table; 18; 0 where no two events of unequal
- * rank meet in what the behaviour depends on, so that they do; else 29 with two that meet and the behaviour at which they
- * do, the least first event, then the least second, then the least behaviour: engine_agree_number and the like take it
- * apart. docs/SHEETS.md says where two events meet. With changes of sheets nothing is said of one behaviour. */
-uint64_t engine_agree_for(const uint8_t *sheet, size_t sheet_len, const uint8_t *params, size_t params_len,
+ * rank meet in what the behaviour depends on, so that they do; else 29 with two that meet and the behaviour at which
+ * they do, the least first event, then the least second, then the least behaviour: engine_agree_number and the like
+ * take it apart. docs/SHEETS.md says where two events meet. With changes of sheets nothing is said of one behaviour. */
+uint64_t engine_agree_for(const uint8_t *sheet, engine_size sheet_len, const uint8_t *params, engine_size params_len,
                           uint32_t behaviour);
 
 /* What two events share: compile's number, as with a full table; 15 where either is not declared; 0 where they are
- * independent, whatever their ranks; else 2^32, a behaviour and flags: the least at which they meet, else the least that
- * one writes and the other reads or writes. */
-uint64_t engine_pair(const uint8_t *sheet, size_t sheet_len, const uint8_t *params, size_t params_len,
+ * independent, whatever their ranks; else 2^32, a behaviour and flags: the least at which they meet, else the least
+ * that one writes and the other reads or writes. */
+uint64_t engine_pair(const uint8_t *sheet, engine_size sheet_len, const uint8_t *params, engine_size params_len,
                      uint32_t first, uint32_t second);
 
 #define ENGINE_PAIR_FIRST_WRITES 1u
@@ -181,7 +194,8 @@ static inline uint32_t engine_pair_flags(uint64_t answer) { return (uint32_t)(an
  * of hidden behaviours are; else 30 with the least that it sees and that names a hidden one, and the least hidden one
  * that this names. 30 warns, and does not state that something can be learned. 0 is about start values alone: a step's
  * answer tells which event was committed and who sent it. */
-uint64_t engine_leak(const uint8_t *sheet, size_t sheet_len, const uint8_t *params, size_t params_len, uint32_t player);
+uint64_t engine_leak(const uint8_t *sheet, engine_size sheet_len, const uint8_t *params, engine_size params_len,
+                     uint32_t player);
 
 static inline uint32_t engine_leak_number(uint64_t answer) { return (uint32_t)(answer & 0xFF); }
 static inline uint32_t engine_leak_seen(uint64_t answer) { return (uint32_t)(answer >> 8 & 0xFF); }
@@ -190,7 +204,7 @@ static inline uint32_t engine_leak_hidden(uint64_t answer) { return (uint32_t)(a
 /* A formula, as text of at most 1,024 bytes, becomes one expression field (01's 10, 11 or 12) at the start of the
  * buffer, whose other bytes stay: 2^32 and the field's length; or 21, then 22, then 9 where the expression nests over
  * 16 deep, last 23, and the buffer is as it was. The text is not kept. docs/BYTES.md has the grammar. */
-uint64_t engine_formula(const uint8_t *text, size_t text_len, uint8_t *buffer, size_t buffer_len);
+uint64_t engine_formula(const uint8_t *text, engine_size text_len, uint8_t *buffer, engine_size buffer_len);
 
 static inline int engine_formula_refused(uint64_t answer) { return answer >> 32 == 0; }
 static inline uint32_t engine_formula_refusal(uint64_t answer) { return answer >> 32 ? 0 : (uint32_t)answer; }
@@ -201,7 +215,7 @@ static inline uint32_t engine_formula_length(uint64_t answer) { return (uint32_t
  * and its column, both from 1, and the buffer is as it was. ENGINE_SHEET bytes are always enough. compile takes what is
  * written, but for 12, 13 and 20. docs/SHEETS.md has the format. That a text without a meaning is turned down is
  * proved, kind and place of 40, 41 and 42 too; those of the others are the reader's definition, with worked texts. */
-uint64_t engine_assemble(const uint8_t *text, size_t text_len, uint8_t *buffer, size_t buffer_len);
+uint64_t engine_assemble(const uint8_t *text, engine_size text_len, uint8_t *buffer, engine_size buffer_len);
 
 /* The length; or the fault's kind, 0 for none, its line and its column in bytes. */
 static inline int engine_assemble_refused(uint64_t answer) { return answer >> 56 != 0; }
@@ -213,7 +227,7 @@ static inline uint32_t engine_assemble_column(uint64_t answer) { return (uint32_
 /* An accepted sheet becomes a text at the start of the buffer, whose other bytes stay, which assemble turns into the
  * very bytes again: 2^32 and its length; or compile's number, as with a full table and 32 bytes of parameters, then 41,
  * and the buffer is as it was. ENGINE_SHEET_TEXT bytes are always enough. */
-uint64_t engine_describe(const uint8_t *sheet, size_t sheet_len, uint8_t *buffer, size_t buffer_len);
+uint64_t engine_describe(const uint8_t *sheet, engine_size sheet_len, uint8_t *buffer, engine_size buffer_len);
 
 static inline int engine_describe_refused(uint64_t answer) { return answer >> 32 == 0; }
 static inline uint32_t engine_describe_refusal(uint64_t answer) { return answer >> 32 ? 0 : (uint32_t)answer; }
@@ -223,8 +237,8 @@ static inline uint32_t engine_describe_length(uint64_t answer) { return (uint32_
  * its length, or compile's number of the first sheet, then of the second, both as with a full table, 26, 3, 7, 13 (of
  * the joined sheet, in this order), 27. Events are shared by number, behaviours of the second follow those of the
  * first. Parameters are lent as to compile; lend the same to compile for the joined sheet. */
-uint64_t engine_join(const uint8_t *first, size_t first_len, const uint8_t *second, size_t second_len,
-                     const uint8_t *params, size_t params_len, uint8_t *buffer, size_t buffer_len);
+uint64_t engine_join(const uint8_t *first, engine_size first_len, const uint8_t *second, engine_size second_len,
+                     const uint8_t *params, engine_size params_len, uint8_t *buffer, engine_size buffer_len);
 
 static inline int engine_join_refused(uint64_t answer) { return answer >> 32 == 0; }
 static inline uint32_t engine_join_refusal(uint64_t answer) { return answer >> 32 ? 0 : (uint32_t)answer; }
@@ -232,9 +246,9 @@ static inline uint32_t engine_join_length(uint64_t answer) { return (uint32_t)an
 
 /* What a table has: 2^32 and the count of its events, of its behaviours, or 14; 2^32 and an event's rank, or 14, then
  * 15. */
-uint64_t engine_event_count(const uint8_t *table, size_t table_len);
-uint64_t engine_behaviour_count(const uint8_t *table, size_t table_len);
-uint64_t engine_event_rank(const uint8_t *table, size_t table_len, uint32_t event);
+uint64_t engine_event_count(const uint8_t *table, engine_size table_len);
+uint64_t engine_behaviour_count(const uint8_t *table, engine_size table_len);
+uint64_t engine_event_rank(const uint8_t *table, engine_size table_len, uint32_t event);
 
 /* Of these three. */
 static inline int engine_count_refused(uint64_t answer) { return answer >> 32 == 0; }
@@ -255,14 +269,14 @@ static inline int engine_same_table(const uint8_t *one, const uint8_t *other)
 /* ---- rounds */
 
 /* Makes the round fresh for the table's sheet; its old bytes are not read. 0, or 14. */
-uint32_t engine_start(const uint8_t *table, size_t table_len, uint8_t *round, size_t round_len);
+uint32_t engine_start(const uint8_t *table, engine_size table_len, uint8_t *round, engine_size round_len);
 
 /* An event arrives, sent by a player. 0 where it is taken in, or 14, 24, 15, 25, 16, 17. */
-uint32_t engine_arrive(const uint8_t *table, size_t table_len, uint8_t *round, size_t round_len, uint32_t event,
-                       uint32_t player);
+uint32_t engine_arrive(const uint8_t *table, engine_size table_len, uint8_t *round, engine_size round_len,
+                       uint32_t event, uint32_t player);
 
 /* One step, at most one instruction. The answer is packed, and the host's: */
-uint64_t engine_step(const uint8_t *table, size_t table_len, uint8_t *round, size_t round_len);
+uint64_t engine_step(const uint8_t *table, engine_size table_len, uint8_t *round, engine_size round_len);
 
 enum engine_step_answer {
     ENGINE_IDLE = 0,        /* nothing in hand */
@@ -292,8 +306,8 @@ static inline int engine_step_over(uint64_t answer) { return (answer & ENGINE_OV
  * ENGINE_FRAME_IDLE wherever nothing is left in hand, also after the last of the steps and where the buffer is full;
  * with no step asked for ENGINE_FRAME_MADE, whatever the round is; with no room ENGINE_FRAME_FULL, also where the next
  * step would be refused. */
-uint64_t engine_frame(const uint8_t *table, size_t table_len, uint8_t *round, size_t round_len, uint32_t steps,
-                      uint8_t *commits, size_t commits_len);
+uint64_t engine_frame(const uint8_t *table, engine_size table_len, uint8_t *round, engine_size round_len,
+                      uint32_t steps, uint8_t *commits, engine_size commits_len);
 
 enum engine_frame_answer {
     ENGINE_FRAME_MADE = 0,    /* all steps were made, and something is still in hand */
@@ -311,8 +325,8 @@ static inline uint32_t engine_frame_end(uint64_t answer) { return (uint32_t)(ans
  * in its place. Refused by 14; by 43 where fewer than `number` were taken in; by 44 where more were; then by 24, 15,
  * 25, 17; and then nothing is changed. It is never refused by 16: where 64 are in hand it makes steps until one
  * commits, writes that answer to the buffer as engine_frame does, eight bytes, and then takes the event in. */
-uint64_t engine_deliver(const uint8_t *table, size_t table_len, uint8_t *round, size_t round_len, uint32_t number,
-                        uint32_t event, uint32_t player, uint8_t *commits, size_t commits_len);
+uint64_t engine_deliver(const uint8_t *table, engine_size table_len, uint8_t *round, engine_size round_len,
+                        uint32_t number, uint32_t event, uint32_t player, uint8_t *commits, engine_size commits_len);
 
 enum engine_deliver_answer {
     ENGINE_DELIVER_REFUSED = 0, /* by engine_deliver_refusal */
@@ -329,7 +343,7 @@ static inline uint32_t engine_deliver_steps(uint64_t answer) { return answer >> 
 static inline uint32_t engine_deliver_commits(uint64_t answer) { return (uint32_t)(answer >> 32 & 0xFFFFFF); }
 
 /* How many were taken in, and how many of them are in hand: so many less are committed. Packed, or 14. */
-uint64_t engine_taken(const uint8_t *table, size_t table_len, const uint8_t *round, size_t round_len);
+uint64_t engine_taken(const uint8_t *table, engine_size table_len, const uint8_t *round, engine_size round_len);
 
 static inline int engine_taken_refused(uint64_t answer) { return answer >> 32 == 0; }
 static inline uint32_t engine_taken_refusal(uint64_t answer) { return answer >> 32 ? 0 : (uint32_t)answer; }
@@ -341,7 +355,7 @@ static inline uint32_t engine_taken_in_hand(uint64_t answer) { return (uint32_t)
 uint64_t engine_told(uint64_t answer);
 
 /* The value of a behaviour on the board, for a player: 2^32 and the 32-bit word, or 14, 24, 18, 25, 19. */
-uint64_t engine_board(const uint8_t *table, size_t table_len, const uint8_t *round, size_t round_len,
+uint64_t engine_board(const uint8_t *table, engine_size table_len, const uint8_t *round, engine_size round_len,
                       uint32_t behaviour, uint32_t player);
 
 /* Of board and preview. The word is a two's complement number. */
@@ -356,7 +370,7 @@ static inline int32_t engine_board_value(uint64_t answer)
 /* How many steps until idle if no arrival is taken in meanwhile: 2^32 and the number, or 14. With nothing running it
  * is exact: the sum, over the hand, of each event's instructions plus one for its start. While an event runs it is a
  * bound: (k + 1) * (L + 1), k being the number in hand, L the longest event's instructions. */
-uint64_t engine_forecast(const uint8_t *table, size_t table_len, const uint8_t *round, size_t round_len);
+uint64_t engine_forecast(const uint8_t *table, engine_size table_len, const uint8_t *round, engine_size round_len);
 
 static inline int engine_forecast_refused(uint64_t answer) { return answer >> 32 == 0; }
 static inline uint32_t engine_forecast_refusal(uint64_t answer) { return answer >> 32 ? 0 : (uint32_t)answer; }
@@ -366,24 +380,24 @@ static inline uint32_t engine_forecast_steps(uint64_t answer) { return (uint32_t
  * answered as by board. It is tried on a copy; the round stays. Refused as the arrival of this player would be, 14, 24,
  * 15, 25, 16, 17, then by 18, then by 25 for the behaviour; last by 14 where a step on the copy is or 01's count of
  * steps runs out. During copy-back it works. */
-uint64_t engine_preview(const uint8_t *table, size_t table_len, const uint8_t *round, size_t round_len, uint32_t event,
-                        uint32_t behaviour, uint32_t player);
+uint64_t engine_preview(const uint8_t *table, engine_size table_len, const uint8_t *round, engine_size round_len,
+                        uint32_t event, uint32_t behaviour, uint32_t player);
 
 /* The round goes on under a newly compiled table: 0, or 14, 19 during copy-back, then 28 where the hand holds an event
  * that the new table does not declare. The hand with its players, arrival numbers and the number taken in stay; the
  * running event goes back to the hand. Behaviours that are active in both sheets keep their value, by number and not by
  * name, other actives take the new start, passives are worked out anew. From then on lend the new table; the old one is
  * not kept. A refused change leaves the round to its old table. */
-uint32_t engine_mend(const uint8_t *old_table, size_t old_table_len, const uint8_t *table, size_t table_len,
-                     uint8_t *round, size_t round_len);
+uint32_t engine_mend(const uint8_t *old_table, engine_size old_table_len, const uint8_t *table, engine_size table_len,
+                     uint8_t *round, engine_size round_len);
 
 /* ---- records */
 
 /* Makes recorded calls one after the other, to audit a round: six bytes for each call, its kind (0 arrival, 1 step, any
  * other a board reading), a big-endian number of 32 bits and the player; eight bytes for each answer, big-endian. How
  * many were made: it stops where a call is not whole or an answer has no room. */
-size_t engine_replay(const uint8_t *table, size_t table_len, uint8_t *round, size_t round_len, const uint8_t *calls,
-                     size_t calls_len, uint8_t *answers, size_t answers_len);
+engine_size engine_replay(const uint8_t *table, engine_size table_len, uint8_t *round, engine_size round_len,
+                          const uint8_t *calls, engine_size calls_len, uint8_t *answers, engine_size answers_len);
 
 #define ENGINE_CALL 6u    /* bytes of a recorded call */
 #define ENGINE_ANSWER 8u  /* bytes of an answer */
@@ -412,6 +426,173 @@ static inline uint64_t engine_answer_get(const uint8_t *answers, size_t k)
     for (i = 0; i < ENGINE_ANSWER; i++)
         answer = answer << 8 | at[i];
     return answer;
+}
+
+/* ---- answers as structs */
+
+/* Each call whose packed answer may be a refusal, with the answer taken apart: engine_try_board for engine_board, and
+ * so on. `refusal` is the refusal's number, and then the value is 0; or it is 0. So a refusal is never read as a value,
+ * and one call's answer is not taken apart as another's. */
+
+struct engine_value { uint32_t refusal; int32_t value; };      /* of board and preview */
+struct engine_number { uint32_t refusal; uint32_t number; };   /* a count, a rank, a number of steps, a length */
+struct engine_assembled { uint32_t refusal, line, column, length; }; /* with a refusal the fault's place, else 0 */
+struct engine_shared { uint32_t refusal; int dependent; uint32_t behaviour, flags; };
+struct engine_stepped { uint32_t refusal, kind, player, event, arrival; int over; };
+struct engine_framed { uint32_t refusal, end, steps, commits; }; /* with a refusal the steps before it were made */
+struct engine_delivered { uint32_t refusal, end, steps, commits; };
+struct engine_counted { uint32_t refusal, number, in_hand; };
+
+static inline struct engine_number engine_number_of(uint64_t answer)
+{
+    struct engine_number n;
+    n.refusal = answer >> 32 ? 0 : (uint32_t)answer;
+    n.number = answer >> 32 ? (uint32_t)answer : 0;
+    return n;
+}
+
+static inline struct engine_value engine_value_of(uint64_t answer)
+{
+    struct engine_value v;
+    v.refusal = engine_board_refusal(answer);
+    v.value = engine_board_refused(answer) ? 0 : engine_board_value(answer);
+    return v;
+}
+
+/* A step's answer, also one of a frame's commits. */
+static inline struct engine_stepped engine_stepped_of(uint64_t answer)
+{
+    struct engine_stepped s;
+    s.kind = engine_step_kind(answer);
+    s.refusal = engine_step_refused(answer) ? (uint32_t)ENGINE_FOREIGN : 0;
+    s.player = engine_step_player(answer);
+    s.event = engine_step_event(answer);
+    s.arrival = engine_step_arrival(answer);
+    s.over = engine_step_over(answer);
+    return s;
+}
+
+static inline struct engine_value engine_try_board(const uint8_t *table, engine_size table_len, const uint8_t *round,
+                                                   engine_size round_len, uint32_t behaviour, uint32_t player)
+{
+    return engine_value_of(engine_board(table, table_len, round, round_len, behaviour, player));
+}
+
+static inline struct engine_value engine_try_preview(const uint8_t *table, engine_size table_len, const uint8_t *round,
+                                                     engine_size round_len, uint32_t event, uint32_t behaviour,
+                                                     uint32_t player)
+{
+    return engine_value_of(engine_preview(table, table_len, round, round_len, event, behaviour, player));
+}
+
+static inline struct engine_number engine_try_forecast(const uint8_t *table, engine_size table_len,
+                                                       const uint8_t *round, engine_size round_len)
+{
+    return engine_number_of(engine_forecast(table, table_len, round, round_len));
+}
+
+static inline struct engine_number engine_try_event_count(const uint8_t *table, engine_size table_len)
+{
+    return engine_number_of(engine_event_count(table, table_len));
+}
+
+static inline struct engine_number engine_try_behaviour_count(const uint8_t *table, engine_size table_len)
+{
+    return engine_number_of(engine_behaviour_count(table, table_len));
+}
+
+static inline struct engine_number engine_try_event_rank(const uint8_t *table, engine_size table_len, uint32_t event)
+{
+    return engine_number_of(engine_event_rank(table, table_len, event));
+}
+
+static inline struct engine_number engine_try_formula(const uint8_t *text, engine_size text_len, uint8_t *buffer,
+                                                      engine_size buffer_len)
+{
+    return engine_number_of(engine_formula(text, text_len, buffer, buffer_len));
+}
+
+static inline struct engine_number engine_try_describe(const uint8_t *sheet, engine_size sheet_len, uint8_t *buffer,
+                                                       engine_size buffer_len)
+{
+    return engine_number_of(engine_describe(sheet, sheet_len, buffer, buffer_len));
+}
+
+static inline struct engine_number engine_try_join(const uint8_t *first, engine_size first_len, const uint8_t *second,
+                                                   engine_size second_len, const uint8_t *params,
+                                                   engine_size params_len, uint8_t *buffer, engine_size buffer_len)
+{
+    return engine_number_of(engine_join(first, first_len, second, second_len, params, params_len, buffer, buffer_len));
+}
+
+static inline struct engine_assembled engine_try_assemble(const uint8_t *text, engine_size text_len, uint8_t *buffer,
+                                                          engine_size buffer_len)
+{
+    uint64_t answer = engine_assemble(text, text_len, buffer, buffer_len);
+    int refused = engine_assemble_refused(answer);
+    struct engine_assembled a;
+    a.refusal = engine_assemble_kind(answer);
+    a.line = refused ? engine_assemble_line(answer) : 0;
+    a.column = refused ? engine_assemble_column(answer) : 0;
+    a.length = refused ? 0 : engine_assemble_length(answer);
+    return a;
+}
+
+static inline struct engine_shared engine_try_pair(const uint8_t *sheet, engine_size sheet_len, const uint8_t *params,
+                                                   engine_size params_len, uint32_t first, uint32_t second)
+{
+    uint64_t answer = engine_pair(sheet, sheet_len, params, params_len, first, second);
+    struct engine_shared s;
+    s.refusal = engine_pair_number(answer);
+    s.dependent = engine_pair_dependent(answer);
+    s.behaviour = s.dependent ? engine_pair_behaviour(answer) : 0;
+    s.flags = s.dependent ? engine_pair_flags(answer) : 0;
+    return s;
+}
+
+static inline struct engine_stepped engine_try_step(const uint8_t *table, engine_size table_len, uint8_t *round,
+                                                    engine_size round_len)
+{
+    return engine_stepped_of(engine_step(table, table_len, round, round_len));
+}
+
+static inline struct engine_framed engine_try_frame(const uint8_t *table, engine_size table_len, uint8_t *round,
+                                                    engine_size round_len, uint32_t steps, uint8_t *commits,
+                                                    engine_size commits_len)
+{
+    uint64_t answer = engine_frame(table, table_len, round, round_len, steps, commits, commits_len);
+    struct engine_framed f;
+    f.end = engine_frame_end(answer);
+    f.refusal = f.end == ENGINE_FRAME_REFUSED ? (uint32_t)ENGINE_FOREIGN : 0;
+    f.steps = engine_frame_steps(answer);
+    f.commits = engine_frame_commits(answer);
+    return f;
+}
+
+/* With ENGINE_DELIVER_FULL there is no refusal, and nothing was taken in. */
+static inline struct engine_delivered engine_try_deliver(const uint8_t *table, engine_size table_len, uint8_t *round,
+                                                         engine_size round_len, uint32_t number, uint32_t event,
+                                                         uint32_t player, uint8_t *commits, engine_size commits_len)
+{
+    uint64_t answer = engine_deliver(table, table_len, round, round_len, number, event, player, commits, commits_len);
+    struct engine_delivered d;
+    d.end = engine_deliver_end(answer);
+    d.refusal = d.end == ENGINE_DELIVER_BROKEN ? (uint32_t)ENGINE_FOREIGN : engine_deliver_refusal(answer);
+    d.steps = engine_deliver_steps(answer);
+    d.commits = engine_deliver_commits(answer);
+    return d;
+}
+
+static inline struct engine_counted engine_try_taken(const uint8_t *table, engine_size table_len, const uint8_t *round,
+                                                     engine_size round_len)
+{
+    uint64_t answer = engine_taken(table, table_len, round, round_len);
+    int refused = engine_taken_refused(answer);
+    struct engine_counted c;
+    c.refusal = engine_taken_refusal(answer);
+    c.number = refused ? 0 : engine_taken_number(answer);
+    c.in_hand = refused ? 0 : engine_taken_in_hand(answer);
+    return c;
 }
 
 #ifdef __cplusplus

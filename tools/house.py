@@ -218,7 +218,7 @@ def declared_names(theories):
 
 
 # the reviewers' pages: on these every name and path must be there, and on all pages every edit
-NAMED_PAGES = ("docs/CLAIMS.md", "docs/REVIEW.md", "docs/ARCHITECTURE.md")
+NAMED_PAGES = ("docs/CLAIMS.md", "docs/REVIEW.md", "docs/ARCHITECTURE.md", "docs/CHANGES.md")
 
 
 def citations(page):

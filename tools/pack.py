@@ -1,6 +1,9 @@
 #!/usr/bin/env python3
-"""pack.py FOLDER TOP TAR ZIP: a folder as a tar (compressed by gzip) and as a zip, its files below a folder TOP. The same
-files give the same bytes whenever and wherever it runs: names are sorted, times, owners and permissions fixed."""
+"""pack.py FOLDER TOP TAR ZIP: a folder as a tar (compressed by gzip) and as a zip, its files below a folder TOP.
+pack.py FOLDER ZIP: as a zip alone, its files at the top, as a jar or an AAR has them.
+
+The same files give the same bytes whenever and wherever it runs: names are sorted, times, owners and permissions
+fixed."""
 import gzip
 import io
 import pathlib
@@ -41,10 +44,13 @@ def zip_of(files):
 
 
 def main():
-    folder, top, tar, zipped = sys.argv[1:]
-    files = [(f"{top}/{path}", data) for path, data in files_of(pathlib.Path(folder))]
-    pathlib.Path(tar).write_bytes(tar_of(files))
-    pathlib.Path(zipped).write_bytes(zip_of(files))
+    folder, *names = sys.argv[1:]
+    files = files_of(pathlib.Path(folder))
+    if len(names) > 1:
+        top, tar, _ = names
+        files = [(f"{top}/{path}", data) for path, data in files]
+        pathlib.Path(tar).write_bytes(tar_of(files))
+    pathlib.Path(names[-1]).write_bytes(zip_of(files))
 
 
 if __name__ == "__main__":

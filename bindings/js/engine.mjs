@@ -1,6 +1,6 @@
-// The round engine in WebAssembly, for a browser or node. The calls are those of include/engine.h; README.md beside
-// this file says how they are used. Tables, rounds and sheets are plain Uint8Arrays: save and send them as they are. A
-// Round is one that stays in the module's memory while it is played.
+// The round engine in WebAssembly, for a browser or node. The calls are those of include/engine.h; README.md of the
+// package, docs/host/JAVASCRIPT.md, says how they are used. Tables, rounds and sheets are plain Uint8Arrays: save and send
+// them as they are. A Round is one that stays in the module's memory while it is played.
 
 export const VERSION = 1; // of the interface
 export const LAYOUT = 1; // of table and round

@@ -169,4 +169,4 @@ try {
 } finally {
     rmSync(program);
 }
-console.log("the example of bindings/js/README.md prints what it says");
+console.log("the example of docs/host/JAVASCRIPT.md prints what it says");

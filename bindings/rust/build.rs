@@ -1,6 +1,10 @@
 //! Links the archive that ./release writes: the one in the folder that ENGINE_LIB_DIR names, or the one for this target
-//! under target/release/lib of the repository.
+//! of the release that this crate stands in or beside. Where there is none there, checking and documenting go on, with
+//! a warning, and linking fails.
 use std::path::{Path, PathBuf};
+
+/// The release's archives, from this package's folder on: of a crate in a release, and of the repository's.
+const LIBS: [&str; 2] = ["../../lib", "../../target/release/lib"];
 
 /// Calls that are declared.
 const CALLS: [&str; 26] = [
@@ -51,7 +55,7 @@ fn fail(what: &str) -> ! {
     std::process::exit(1)
 }
 
-/// The folder of the archive, as it is named and from the root on. The one of the repository is named from this package's
+/// The folder of the archive, as it is named and from the root on. That of a release is named from this package's
 /// folder on, where a build script runs: checkouts that share a target folder share the compiled script and what cargo
 /// keeps of its run, and a path from the root on would be that of the checkout that was built first.
 fn folder() -> (PathBuf, PathBuf) {
@@ -68,9 +72,13 @@ fn folder() -> (PathBuf, PathBuf) {
     let Some((_, own)) = known else {
         fail(&format!("no archive is released for {target}; ENGINE_LIB_DIR names the folder of another libengine.a"));
     };
-    let own = Path::new("../../target/release/lib").join(own);
     let package = std::env::var_os("CARGO_MANIFEST_DIR").expect("cargo sets CARGO_MANIFEST_DIR");
-    (own.clone(), Path::new(&package).join(own))
+    let all = LIBS.map(|lib| Path::new(lib).join(own)).map(|own| (own.clone(), Path::new(&package).join(own)));
+    for (named, _) in &all {
+        println!("cargo:rerun-if-changed={}", named.join("libengine.a").display());
+    }
+    let [_, ref last] = all;
+    all.iter().find(|(_, at)| at.join("libengine.a").exists()).unwrap_or(last).clone()
 }
 
 /// Whether the archive has this call: its name ends at a zero byte in a symbol table, and begins there, behind an
@@ -85,14 +93,21 @@ fn main() {
     let (named, folder) = folder();
     println!("cargo:rerun-if-changed={}", named.join("libengine.a").display());
     let file = folder.join("libengine.a");
-    let archive = std::fs::read(&file).unwrap_or_else(|e| {
-        fail(&format!(
-            "{}: {e}. ./release in the repository's root writes it; ENGINE_LIB_DIR names the folder of another one",
-            file.display()
-        ))
-    });
-    if let Some(call) = CALLS.iter().find(|call| !has(&archive, call)) {
-        fail(&format!("{} does not have engine_{call}: it is not one that this ./release wrote", file.display()));
+    match std::fs::read(&file) {
+        Ok(archive) => {
+            if let Some(call) = CALLS.iter().find(|call| !has(&archive, call)) {
+                let told = "it is not one that this ./release wrote";
+                fail(&format!("{} does not have engine_{call}: {told}", file.display()));
+            }
+        }
+        Err(e) => {
+            let told = "./release in the repository's root writes it; ENGINE_LIB_DIR names the folder of another one";
+            let told = format!("{}: {e}. {told}", file.display());
+            if std::env::var_os("ENGINE_LIB_DIR").is_some() {
+                fail(&told);
+            }
+            println!("cargo:warning=poqashem: {told}. Without it nothing can be linked");
+        }
     }
     println!("cargo:rustc-link-search=native={}", folder.display());
     println!("cargo:rustc-link-lib=static=engine");

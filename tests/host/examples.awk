@@ -18,7 +18,7 @@ fenced { next }
         open = 1
         call = ""
     }
-    if (call == "" && match($0, /engine_[a-z]+\(/))
+    if (call == "" && match($0, /engine_[a-z_]+\(/))
         call = substr($0, RSTART + 7, RLENGTH - 8)
     print
     next

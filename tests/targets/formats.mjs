@@ -1,7 +1,8 @@
 // What each released file is: formats.mjs FOLDER CALL... Reads the archives' own bytes: that they hold one object of
 // the format and processor that their folder says, for Apple's the platform and the least version of it, which names a
-// linker sees, and which it must find elsewhere, and that they have unwind tables; that the XCFramework's list names
-// its libraries as they are; and that engine.wasm imports nothing and exports its memory and the calls.
+// linker sees, and which it must find elsewhere, and that they have unwind tables, but in WebAssembly, which has none;
+// that the XCFramework's list names its libraries as they are; and that engine.wasm imports nothing and exports its
+// memory and the calls.
 import { execFileSync } from "node:child_process";
 import { readdirSync, readFileSync } from "node:fs";
 import { join } from "node:path";
@@ -105,6 +106,62 @@ function macho(b) {
     return { processor: b.readUInt32LE(4), platform, least, defined, undefinedNames, unwind };
 }
 
+// An object of WebAssembly: the same names, from its table of symbols; the name of one that it needs stands in its
+// imports. Numbers are of seven bits a byte.
+function wasmObject(b) {
+    check(b.readUInt32LE(0) === 0x6d736100 && b.readUInt32LE(4) === 1, "no object of WebAssembly");
+    let at = 8;
+    const byte = () => b[at++];
+    const number = () => {
+        for (let n = 0, shift = 0; ; shift += 7) {
+            const part = byte();
+            n += (part & 127) * 2 ** shift;
+            if (part < 128) return n;
+        }
+    };
+    const name = () => {
+        const length = number();
+        at += length;
+        return b.toString("latin1", at - length, at);
+    };
+    const imports = [[], [], [], []]; // of functions, tables, memories, globals
+    const found = { defined: [], undefinedNames: [] };
+    const limits = () => (number() & 1 ? (number(), number()) : number());
+    const skip = [number, () => (byte(), limits()), limits, () => (byte(), byte())]; // what is behind an import's kind
+    const symbol = () => {
+        const [kind, flags] = [byte(), number()];
+        if (kind === 3) return number(); // a section
+        const missing = (flags & 16) !== 0;
+        const index = kind === 1 ? undefined : number(); // data have their name first
+        const said = kind !== 1 && missing && (flags & 64) === 0 ? imports[kind === 2 ? 3 : kind][index] : name();
+        if (kind === 1 && !missing) [number(), number(), number()];
+        if ((flags & 3) !== 2) found[missing ? "undefinedNames" : "defined"].push(said);
+    };
+    const table = (end) => {
+        check(number() === 2, "a table of symbols of another version");
+        while (at < end) {
+            const [kind, length] = [byte(), number()];
+            const next = at + length;
+            if (kind === 8) for (let n = number(); n > 0; n--) symbol();
+            at = next;
+        }
+    };
+    while (at < b.length) {
+        const [kind, length] = [byte(), number()];
+        const end = at + length;
+        if (kind === 2) {
+            for (let n = number(); n > 0; n--) {
+                name();
+                const [called, sort] = [name(), byte()];
+                imports[sort].push(called);
+                skip[sort]();
+            }
+        } else if (kind === 0 && name() === "linking") table(end);
+        at = end;
+    }
+    return found;
+}
+
 const ELF = { x86_64: 62, aarch64: 183 };
 const APPLE = { x86_64: 0x01000007, arm64: 0x0100000c };
 // Apple's platforms and their variants: number and least version.
@@ -114,8 +171,8 @@ for (const [name] of Object.entries(PLATFORMS)) names.push(`arm64-${name}`);
 names.push("x86_64-ios-simulator", "x86_64-macos");
 
 const there = readdirSync(join(folder, "lib")).filter((n) => n !== "cmake");
-check(there.sort().join() === names.sort().join(), `archives for ${there}`);
-for (const name of names) {
+check(there.sort().join() === [...names, "wasm32"].sort().join(), `archives for ${there}`);
+for (const name of names.sort()) {
     const [processor, system] = [name.slice(0, name.indexOf("-")), name.slice(name.indexOf("-") + 1)];
     const apple = PLATFORMS[system];
     const objects = members(join(folder, "lib", name, "libengine.a"));
@@ -131,6 +188,14 @@ for (const name of names) {
     const needs = found.undefinedNames.sort().join(", ");
     console.log(`${name}: ${found.defined.length} calls, needs ${needs}, ${found.unwind} bytes of unwind tables`);
 }
+
+const [whole, ...more] = members(join(folder, "lib", "wasm32", "libengine.a"));
+const linked = wasmObject(whole);
+check(more.length === 0, `wasm32: ${1 + more.length} objects in the archive`);
+check(linked.defined.sort().join() === wanted.join(), `wasm32 defines ${linked.defined}`);
+const needed = linked.undefinedNames.filter((n) => !elsewhere.has(n) && n !== "__stack_pointer");
+check(needed.length === 0, `wasm32 needs ${needed}`);
+console.log(`wasm32: ${linked.defined.length} calls, needs ${linked.undefinedNames.sort().join(", ")}`);
 
 // The XCFramework: its list is a property list, every library stands in it and nothing else is there, and each has the
 // very archives of the processors and the platform that the list states.

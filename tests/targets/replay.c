@@ -2,18 +2,20 @@
  * the record must come out again. tests/second/src/record.rs writes the record and says how it is laid out. STACKS has
  * lines `NAME KB`: then each kind of call is made in a thread of its own, whose stack has exactly so many KB for the
  * call below the frame that makes it; the byte under these cannot be touched. The most bytes that each kind of call
- * left a mark in are printed, and what the thread itself takes. */
+ * left a mark in are printed, and what the thread itself takes. In WebAssembly there are no threads, and no STACKS. */
 #define _DEFAULT_SOURCE
 #define _XOPEN_SOURCE 600
-#include <pthread.h>
-#include <semaphore.h>
-#include <signal.h>
 #include <stdarg.h>
 #include <stdio.h>
 #include <stdlib.h>
 #include <string.h>
+#ifndef __wasm__
+#include <pthread.h>
+#include <semaphore.h>
+#include <signal.h>
 #include <sys/mman.h>
 #include <unistd.h>
+#endif
 
 #include "engine.h"
 
@@ -96,8 +98,10 @@ static struct call {
     const uint8_t *frame;     /* of the thread's function, which makes the call */
     size_t room;              /* bytes below the frame */
     void *handler;            /* the stack of the handler that tells of a stack run over */
+#ifndef __wasm__
     pthread_t thread;
     sem_t asked, done;
+#endif
 } calls[64];
 static size_t known;
 static uint64_t made;
@@ -210,6 +214,7 @@ static void read_calls(void)
 
 /* ---- a call in a thread of its own */
 
+#ifndef __wasm__
 #define BELOW 262144u       /* bytes under a stack that cannot be touched; more than the least that a thread may have */
 #define PAINT 0x5C
 #define HANDLER 65536u      /* bytes of a handler's stack */
@@ -348,6 +353,21 @@ static void print_stacks(void)
         printf("%s %lu of %lu, ", calls[k].name, (unsigned long)touched(calls + k), (unsigned long)calls[k].room);
     printf("and the thread itself %lu\n", (unsigned long)own);
 }
+#else
+static void read_stacks(const char *path)
+{
+    fail("%s: no threads here", path);
+}
+
+static uint64_t make_in_thread(struct call *c, const struct lent *b, const uint64_t *n)
+{
+    return c->make(b, n);
+}
+
+static void print_stacks(void)
+{
+}
+#endif
 
 static void make_one(void)
 {

@@ -107,8 +107,8 @@ impl Round {
             all.extend(commits);
             match ended {
                 Ended::Idle => return Ok(all),
-                Ended::Foreign => return Err(Refusal::Foreign),
-                Ended::Done | Ended::NoRoom => {}
+                Ended::Refused => return Err(Refusal::Foreign),
+                Ended::Made | Ended::Full => {}
             }
         }
     }

@@ -505,8 +505,8 @@ impl Recorder {
             all.extend(commits);
             match ended {
                 crate::Ended::Idle => return Ok(all),
-                crate::Ended::Foreign => return Err(Refusal::Foreign),
-                crate::Ended::Done | crate::Ended::NoRoom => {}
+                crate::Ended::Refused => return Err(Refusal::Foreign),
+                crate::Ended::Made | crate::Ended::Full => {}
             }
         }
     }
@@ -535,10 +535,10 @@ impl Recorder {
     pub fn frame(&mut self, steps: u32, room: u32) -> crate::Frame {
         let done = self.round.frame(steps, room as usize);
         let why = match done.ended {
-            crate::Ended::Done => 0,
+            crate::Ended::Made => 0,
             crate::Ended::Idle => 1,
-            crate::Ended::Foreign => 2,
-            crate::Ended::NoRoom => 3u64,
+            crate::Ended::Refused => 2,
+            crate::Ended::Full => 3u64,
         };
         let commits: Vec<u8> = done.commits.iter().flat_map(|c| c.answer().to_be_bytes()).collect();
         let answer = why << 56 | (done.commits.len() as u64) << 32 | done.steps as u64;

@@ -135,17 +135,31 @@ pub enum Answer {
     Refused(Refusal),
 }
 
-/// Why a frame ended.
+/// Why a frame ended, by the names of C's `ENGINE_FRAME_..`.
 #[derive(Clone, Copy, Debug, PartialEq, Eq, Hash)]
 pub enum Ended {
     /// All its steps were made, and something is still in hand; or none was asked for.
-    Done,
+    Made,
     /// Nothing is left in hand, whatever else ended it.
     Idle,
     /// A step was refused by 14.
-    Foreign,
+    Refused,
     /// There was no room for a further commit.
-    NoRoom,
+    Full,
+}
+
+/// The names of earlier releases.
+#[allow(non_upper_case_globals)]
+impl Ended {
+    #[allow(missing_docs)]
+    #[deprecated(note = "named Made, as in C and JavaScript")]
+    pub const Done: Ended = Ended::Made;
+    #[allow(missing_docs)]
+    #[deprecated(note = "named Refused, as in C and JavaScript")]
+    pub const Foreign: Ended = Ended::Refused;
+    #[allow(missing_docs)]
+    #[deprecated(note = "named Full, as in C and JavaScript")]
+    pub const NoRoom: Ended = Ended::Full;
 }
 
 /// What a frame's steps did.
@@ -317,7 +331,7 @@ impl Round {
     /// use poqashem::{Arrival, Ended, Event, Player, Sheet, Step};
     /// let mut round = Sheet::new([1, 0, 1, 5]).compile(None)?.start()?; // an event that nothing handles
     /// round.arrive(Event(0), Player(2))?;
-    /// assert_eq!(round.frame(3, 8).ended, Ended::Done);
+    /// assert_eq!(round.frame(3, 8).ended, Ended::Made);
     /// let frame = round.frame(2, 8);
     /// assert_eq!((frame.steps, frame.ended), (2, Ended::Idle), "it takes five steps");
     /// let arrival = Arrival { number: 0, event: Event(0), player: Player(2) };
@@ -328,10 +342,10 @@ impl Round {
         let mut commits = vec![0; commit_bytes(room)];
         let answer = raw::frame(self.table.bytes(), &mut self.bytes[..], steps, &mut commits);
         let ended = match answer >> 56 {
-            0 => Ended::Done,
+            0 => Ended::Made,
             1 => Ended::Idle,
-            2 => Ended::Foreign,
-            3 => Ended::NoRoom,
+            2 => Ended::Refused,
+            3 => Ended::Full,
             _ => panic!("the archive answered {answer} to a frame"),
         };
         let commit = |a: &[u8]| match Step::from_answer(u64_of(a)) {
@@ -400,7 +414,20 @@ mod tests {
         }
         let mut round = full_hand();
         let frame = round.frame(u32::MAX, HAND - 1);
-        assert_eq!((frame.commits.len(), frame.ended), (HAND - 1, Ended::NoRoom));
+        assert_eq!((frame.commits.len(), frame.ended), (HAND - 1, Ended::Full));
+    }
+
+    /// The names of earlier releases, in values and in patterns.
+    #[test]
+    #[allow(deprecated)]
+    fn old_names_of_a_frames_end() {
+        let old = |end: Ended| match end {
+            Ended::Done => 0,
+            Ended::Foreign => 2,
+            Ended::NoRoom => 3,
+            _ => 1,
+        };
+        assert_eq!([Ended::Made, Ended::Idle, Ended::Refused, Ended::Full].map(old), [0, 1, 2, 3]);
     }
 
     #[test]

@@ -4,6 +4,7 @@
 //! `audit --help` says how it is called. Findings go to standard output, one line each, in the order of the files;
 //! progress and the sum go to standard error. The format is that of the crate's module `record`.
 mod part;
+mod parts;
 mod pool;
 mod report;
 mod same;
@@ -18,6 +19,7 @@ use std::time::{Duration, Instant};
 
 const HELP: &str = "\
 audit [--threads N] [--every SECONDS | --quiet] [--json] [--part K/N] [--sheet FILE].. [--params N,..] FILE ..
+audit --sum FILE ..
 audit --same A B
 
 Plays each round of the files again, on all cores, and prints a line for each that differs, with the first call that
@@ -28,7 +30,8 @@ how many threads there are, --every how often progress is shown, --quiet shows n
 several times, rounds begin with the first and may change to the others. --params has the numbers of its parameters.
 --part audits the K-th of N parts, K from 1: the rounds that begin in that stretch of the files' bytes. All parts
 together audit each round once, on as many machines. --json prints each finding as a line of JSON, and the sum as the
-last line, whose numbers are to be added up.
+last line. --sum puts what all parts printed so together: their findings and one sum, its seconds being those of one
+core. A part that is missing, is there twice or did not come to its end is told.
 
 --same holds two players' records of one round against each other, the first round of A against the first of B and so
 on: what they began with, the events that were taken in with their players, and the changes of sheets. It prints where
@@ -45,6 +48,7 @@ struct Asked {
     /// How often progress is shown.
     every: Option<Duration>,
     json: bool,
+    sum: bool,
     same: bool,
     part: Part,
     /// Files of sheets, and their parameters.
@@ -71,6 +75,7 @@ fn asked(mut words: impl Iterator<Item = String>) -> Result<Asked, String> {
         threads,
         every: Some(Duration::from_secs(seconds)),
         json: false,
+        sum: false,
         same: false,
         part: Part::ALL,
         sheets: vec![],
@@ -84,6 +89,7 @@ fn asked(mut words: impl Iterator<Item = String>) -> Result<Asked, String> {
             "--every" => asked.every = Some(Duration::from_secs(number(word.clone(), &next("a number")?)?)),
             "--quiet" => asked.every = None,
             "--json" => asked.json = true,
+            "--sum" => asked.sum = true,
             "--same" => asked.same = true,
             "--part" => asked.part = Part::read(&next("K/N")?)?,
             "--sheet" => asked.sheets.push(next("a file")?),
@@ -102,6 +108,7 @@ impl Asked {
         match () {
             _ if self.help => Ok(self),
             _ if self.files.is_empty() => Err("no file is named".to_string()),
+            _ if self.same && self.sum => Err("--same and --sum are two questions".to_string()),
             _ if self.same && self.files.len() != 2 => Err("--same takes two files".to_string()),
             _ if !self.part.is_all() && input => Err("--part needs files, whose length is known".to_string()),
             _ if self.params.is_some() && self.sheets.is_empty() => Err("--params needs --sheet".to_string()),
@@ -119,7 +126,7 @@ impl Asked {
     }
 
     /// The files of the part, and how many bytes it has.
-    fn files(&self) -> (Vec<(&str, Option<std::ops::Range<u64>>)>, u64) {
+    fn files(&self) -> (Vec<pool::Stretch<'_>>, u64) {
         let size = |file: &String| std::fs::metadata(file).map_or(0, |m| m.len());
         let sizes: Vec<u64> = self.files.iter().map(size).collect();
         if self.part.is_all() {
@@ -162,7 +169,7 @@ fn audit(asked: &Asked, league: Option<League>) -> ExitCode {
     if asked.json {
         print(&report::sum_json(&totals, &took, &asked.part, broken));
     }
-    eprintln!("audit: {}", report::sum(&totals, &took));
+    eprintln!("audit: {}", report::sum_line(&totals, &took));
     ExitCode::from(if broken > 0 { 2 } else { totals.stands_out() as u8 })
 }
 
@@ -179,6 +186,9 @@ fn main() -> ExitCode {
     if asked.help {
         let _ = std::io::stdout().write_all(HELP.as_bytes());
         return ExitCode::SUCCESS;
+    }
+    if asked.sum {
+        return parts::run(&asked.files);
     }
     if asked.same {
         return same::run(&asked.files[0], &asked.files[1]);

@@ -1,6 +1,6 @@
-//! A part of a list of files. The files' bytes, one file behind the other, are cut into so many stretches; a part has the
-//! rounds, and the damages, that begin in its stretch. So each round is in one part, whatever its length, and a file that
-//! lies in other parts' stretches alone is not opened.
+//! A part of a list of files. The files' bytes, one file behind the other, are cut into so many stretches; a part has
+//! the rounds, and the damages, that begin in its stretch. So each round is in one part, whatever its length, and a
+//! file that lies in other parts' stretches alone is not opened.
 use std::ops::Range;
 
 /// Which part, from 1, of how many.
@@ -32,8 +32,8 @@ impl Part {
         cut(self.number - 1)..cut(self.number)
     }
 
-    /// What each file has of it, by the files' lengths: from where to where; none where it has nothing. A file of no bytes
-    /// is a finding of its own, and belongs to the part in whose stretch it stands, the last at the end.
+    /// What each file has of it, by the files' lengths: from where to where; none where it has nothing. A file of no
+    /// bytes is a finding of its own, and belongs to the part in whose stretch it stands, the last at the end.
     pub fn of_files(&self, lengths: &[u64]) -> Vec<Option<Range<u64>>> {
         let all = lengths.iter().sum();
         let own = self.stretch(all);

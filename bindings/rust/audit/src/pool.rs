@@ -66,10 +66,12 @@ impl League {
     }
 }
 
+/// A file, and what of it: all, or the rounds that begin in these bytes.
+pub type Stretch<'a> = (&'a str, Option<Range<u64>>);
+
 /// What is audited, and how.
 pub struct Work<'a> {
-    /// Each file, and what of it: all, or the rounds that begin in these bytes.
-    pub files: Vec<(&'a str, Option<Range<u64>>)>,
+    pub files: Vec<Stretch<'a>>,
     pub league: Option<League>,
     pub threads: usize,
 }
@@ -89,6 +91,16 @@ pub struct Totals {
 impl Totals {
     pub fn agree(&self) -> u64 {
         self.rounds - self.differ - self.unplayable - self.strange
+    }
+
+    pub fn add(&mut self, other: &Totals) {
+        self.rounds += other.rounds;
+        self.calls += other.calls;
+        self.differ += other.differ;
+        self.unplayable += other.unplayable;
+        self.strange += other.strange;
+        self.damaged += other.damaged;
+        self.bytes += other.bytes;
     }
 
     pub fn stands_out(&self) -> bool {
@@ -269,13 +281,7 @@ fn collect(results: Receiver<Done>, tell: &mut dyn FnMut(Option<Found>, &Totals)
         }
         while let Some(done) = early.remove(&next) {
             next += 1;
-            totals.rounds += done.totals.rounds;
-            totals.calls += done.totals.calls;
-            totals.differ += done.totals.differ;
-            totals.unplayable += done.totals.unplayable;
-            totals.strange += done.totals.strange;
-            totals.damaged += done.totals.damaged;
-            totals.bytes += done.totals.bytes;
+            totals.add(&done.totals);
             done.found.into_iter().for_each(|found| tell(Some(found), &totals));
         }
         tell(None, &totals);

@@ -50,14 +50,14 @@ impl Took {
     }
 }
 
-pub fn sum(totals: &Totals, took: &Took) -> String {
+pub fn sum_line(totals: &Totals, took: &Took) -> String {
     let asked = match totals.strange {
         0 => String::new(),
         n => format!(", {} of another sheet", long(n)),
     };
     format!(
-        "{}, {}: {} agree, {} differ, {} cannot be played{asked}; {}; {:.2} s on {}, {:.0} rounds a second, {:.0} a core \
-         and second",
+        "{}, {}: {} agree, {} differ, {} cannot be played{asked}; {}; {:.2} s on {}, {:.0} rounds a second, {:.0} a \
+         core and second",
         several(totals.rounds, "round", "rounds"),
         several(totals.calls, "call", "calls"),
         long(totals.agree()),
@@ -109,7 +109,8 @@ pub fn finding_line(file: &str, finding: &Finding, part: &Part) -> String {
 pub fn sum_json(totals: &Totals, took: &Took, part: &Part, broken: u64) -> String {
     format!(
         "{{\"sum\":{{\"part\":{},\"parts\":{},\"rounds\":{},\"calls\":{},\"agree\":{},\"differ\":{},\"unplayable\":{},\
-         \"sheet\":{},\"damaged\":{},\"unread\":{broken},\"seconds\":{:.3},\"threads\":{},\"rounds_a_core_and_second\":{:.0}}}}}",
+         \"sheet\":{},\"damaged\":{},\"unread\":{broken},\"seconds\":{:.3},\"threads\":{},\
+         \"rounds_a_core_and_second\":{:.0}}}}}",
         part.number,
         part.of,
         totals.rounds,

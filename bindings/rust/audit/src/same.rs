@@ -17,14 +17,13 @@ fn compared(auditor: &mut Auditor, both: [&Record; 2]) -> Result<[usize; 2], Vec
             found.push(format!("{which} {verdict}"));
         }
     }
-    match (moves(both[0]), moves(both[1])) {
-        (Ok(a), Ok(b)) => match parting(&a, &b) {
+    // where the moves of one cannot be read the audit has told it
+    if let (Ok(a), Ok(b)) = (moves(both[0]), moves(both[1])) {
+        match parting(&a, &b) {
             Some(parting) => found.push(format!("they part: {parting}")),
             None if found.is_empty() => return Ok([a.arrivals.len(), a.changes.len()]),
             None => {}
-        },
-        // the audit has told it
-        _ => {}
+        }
     }
     Err(found)
 }
@@ -39,10 +38,13 @@ pub fn run(first: &str, second: &str) -> ExitCode {
         }
     };
     let mut auditor = Auditor::new();
-    let (mut apart, mut common) = (a.len() != b.len(), [0, 0]);
+    let (mut apart, mut alike, mut common) = (a.len() != b.len(), 0, [0, 0]);
     for (k, (one, other)) in a.iter().zip(&b).enumerate() {
         match compared(&mut auditor, [one, other]) {
-            Ok([arrivals, changes]) => common = [common[0] + arrivals, common[1] + changes],
+            Ok([arrivals, changes]) => {
+                alike += 1;
+                common = [common[0] + arrivals, common[1] + changes];
+            }
             Err(found) => {
                 apart = true;
                 found.iter().for_each(|line| crate::print(&format!("round {k}, {:?}: {line}", one.name)));
@@ -53,6 +55,9 @@ pub fn run(first: &str, second: &str) -> ExitCode {
         crate::print(&format!("the first has {} rounds, the second {}", a.len(), b.len()));
     }
     let [arrivals, changes] = common;
-    eprintln!("audit: the same in {arrivals} events taken in and {changes} changes of sheets");
+    let rounds = a.len().max(b.len());
+    eprintln!(
+        "audit: {alike} of {rounds} rounds are the same, {arrivals} events taken in, {changes} changes of sheets"
+    );
     ExitCode::from(apart as u8)
 }

@@ -53,6 +53,8 @@ fn help() {
         (&["--part", "1/3", "-"], "--part needs files, whose length is known"),
         (&["--params", "1", "a"], "--params needs --sheet"),
         (&["--same", "a"], "--same takes two files"),
+        (&["--same", "--sum", "a", "b"], "--same and --sum are two questions"),
+        (&["--sum"], "no file is named"),
         (&["--threads", "many", "a"], "--threads needs a number"),
     ];
     for (words, why) in wrong {
@@ -179,6 +181,77 @@ fn parts() {
     files.iter().for_each(|f| std::fs::remove_file(f).unwrap());
 }
 
+/// What five parts of a file printed is put together; a part that is missing, doubled, cut, of another count or no
+/// audit's is told, and then there is no sum.
+#[test]
+fn parts_put_together() {
+    let round = |k: usize| if k % 4 == 1 { forged(k) } else { played(&format!("{k}"), 9, &vec![1; k % 5]).finish() };
+    let day = file("day", &written(&(0..30).map(round).collect::<Vec<_>>()));
+    let name = day.to_str().unwrap();
+    let (_, whole, _) = told(&["--json", "--quiet", name], b"");
+    let part = |k: u32, n: u32| told(&["--json", "--quiet", "--part", &format!("{k}/{n}"), name], b"").1;
+    let all: Vec<String> = (1..=5).map(|k| part(k, 5)).collect();
+    let sum = |lines: &str| told(&["--sum", "-"], lines.as_bytes());
+    let (status, out, error) = sum(&all.concat());
+    let (expected, found): (Vec<&str>, Vec<&str>) = (whole.lines().collect(), out.lines().collect());
+    assert_eq!((status, found.len()), (Some(1), expected.len()), "{error}");
+    assert_eq!(found[..found.len() - 1], expected[..found.len() - 1], "the findings in their order");
+    for name in ["part", "parts", "rounds", "calls", "agree", "differ", "unplayable", "sheet", "damaged", "unread"] {
+        assert_eq!(number(found[found.len() - 1], name), number(expected[found.len() - 1], name), "{name}");
+    }
+    assert!(error.contains("30 rounds, ") && error.contains(" a core and second"), "{error}");
+    // in any order, from files, and sums of sums
+    let files: Vec<PathBuf> = (0..5).map(|k| file(&format!("part{k}"), all[4 - k].as_bytes())).collect();
+    let names: Vec<&str> = files.iter().map(|f| f.to_str().unwrap()).collect();
+    let (_, again, _) = told(&[&["--sum"], &names[..]].concat(), b"");
+    assert_eq!(number(again.lines().last().unwrap(), "differ"), 8);
+    assert_eq!(number(sum(&again).1.lines().last().unwrap(), "differ"), 8);
+    for (lines, why) in [
+        (all[1..].concat(), "part 1 of 5 is missing"),
+        (all[..4].concat(), "part 5 of 5 is missing"),
+        ([&all[..], &all[2..3]].concat().concat(), "part 3 of 5 is there twice"),
+        ([&all[..4], &[part(1, 2)]].concat().concat(), "some are parts of 5, others of 2"),
+        (all.concat() + whole.lines().next().unwrap() + "\n", "-: it does not end with a sum"),
+        (all.concat().trim_end().to_string(), "-: it does not end with a sum"),
+        (all.concat() + "hello\n", "is none that audit --json prints"),
+        (String::new(), "-: it does not end with a sum"),
+    ] {
+        let (status, out, error) = sum(&lines);
+        assert_eq!(status, Some(2), "{error}");
+        assert!(error.contains(why) && !out.contains("\"sum\""), "{why}: {out}{error}");
+    }
+    files.iter().chain([&day]).for_each(|f| std::fs::remove_file(f).unwrap());
+}
+
+/// Records of a cheat that agree with themselves, and so pass the audit: each is found beside the opponent's record,
+/// and another start or a sheet of one's own by the league's sheet alone.
+#[test]
+fn cheats() {
+    let fair = || played("final", 9, &[1, 2, 1, 2]);
+    let mut own_sheet = fair();
+    own_sheet.mend(counter(255), None).unwrap();
+    let cheats = [
+        ("the opponent's moves left out", played("final", 9, &[1, 1]), false),
+        ("moves made up", played("final", 9, &[1, 2, 1, 2, 1, 1]), false),
+        ("another start value", played("final", 99, &[1, 2, 1, 2]), true),
+        ("a change to a sheet of one's own", own_sheet, true),
+        ("cut before the end", played("final", 9, &[1, 2, 1]), false),
+        ("moves in another order", played("final", 9, &[2, 1, 1, 2]), false),
+    ];
+    let (sheet, theirs) = (file("sheet", counter(9).bytes()), file("theirs", &written(&[fair().finish()])));
+    for (what, record, by_sheet) in cheats {
+        let ours = file("ours of a cheat", &written(&[record.finish()]));
+        let [ours_name, theirs, sheet] = [&ours, &theirs, &sheet].map(|f| f.to_str().unwrap());
+        assert_eq!(told(&["--quiet", ours_name], b"").0, Some(0), "{what}: its answers follow from its calls");
+        let (status, out, _) = told(&["--same", ours_name, theirs], b"");
+        assert!(status == Some(1) && out.contains("they part: "), "{what}: {out}");
+        let asked = told(&["--quiet", "--sheet", sheet, ours_name], b"").0;
+        assert_eq!(asked, Some(by_sheet as i32), "{what}, by the league's sheet");
+        std::fs::remove_file(ours).unwrap();
+    }
+    [sheet, theirs].iter().for_each(|f| std::fs::remove_file(f).unwrap());
+}
+
 /// Rounds that began with another sheet or other parameters, or changed to one that is not the league's.
 #[test]
 fn the_leagues_sheet() {
@@ -229,7 +302,7 @@ fn two_records_of_one_round() {
     framed.frame(500, 9);
     let (status, out, error) = same(fair(), framed);
     assert_eq!((status, out.as_str()), (Some(0), ""), "however the steps are cut");
-    assert_eq!(error, "audit: the same in 3 events taken in and 0 changes of sheets\n");
+    assert_eq!(error, "audit: 1 of 1 rounds are the same, 3 events taken in, 0 changes of sheets\n");
     let arrival = |k: u32, ours: &str, theirs: &str| {
         format!("round 0, \"final\": they part: arrival {k}: the first has {ours}, the second {theirs}\n")
     };
