@@ -1,14 +1,14 @@
 /* A match of two players, played in frames of a few steps: entries of an order, rights, a look ahead, a bonus sheet that
- * joins in mid-round, a save and a load, a mended sheet, a crowd of entries at once, and an audit. Prints what happens. */
+ * joins in mid-round, a save and a load, a mended sheet, a crowd of entries at once, and an audit. Prints what happens:
+ * match SAVE ROUNDS SHEETS. The same match in Rust, Java and JavaScript stands beside this folder. */
 #include <stdio.h>
 #include <stdlib.h>
 
+#include "day.h" /* setter names day.sheet */
 #include "match.h"
 
 #define BUDGET 10u /* steps of a frame */
-enum { TURN = 0, BONUS = 1, TURN_SCORE = 0, STREAK = 1, SECRET = 2, PURSE = 3 };
-
-static const uint8_t no_params[ENGINE_PARAMS] = {0};
+enum { TURN = DAY_EVENT_turn, BONUS = DAY_EVENT_bonus };
 
 static void stop_if(uint32_t refusal, const char *what)
 {
@@ -130,38 +130,10 @@ static void plan(const struct match *m)
         printf("    %u steps to idle\n", (unsigned)engine_forecast_steps(f));
 }
 
-/* The day's puzzle: sheet S of the scope with rights, and a product that only player 1 sees. */
-static void puzzle(struct sheet *s)
-{
-    static const struct handler score[] = {{TURN, 0, "b0 + b1"}};
-    static const struct handler streak[] = {{TURN, 1, "b0 - b1"}, {BONUS, 0, "1"}};
-
-    sheet_begin(s);
-    sheet_event(s, 1, EVERYBODY);
-    sheet_event(s, 2, PLAYER(1));
-    sheet_active(s, 1, score, 1, EVERYBODY);
-    sheet_active(s, 1, streak, 2, EVERYBODY);
-    sheet_passive(s, "b0 * b1", PLAYER(1));
-}
-
-/* The league's bonus, of the same two events: a purse that the bonus event doubles, or squares by mistake. */
-static void league(struct sheet *s, const char *formula)
-{
-    struct handler purse;
-
-    purse.event = BONUS;
-    purse.later = 0;
-    purse.formula = formula;
-    sheet_begin(s);
-    sheet_event(s, 1, EVERYBODY);
-    sheet_event(s, 2, EVERYBODY);
-    sheet_active(s, 1000, &purse, 1, EVERYBODY);
-}
-
-/* Both in one sheet; parameters would be lent as to compile. */
+/* Both in one sheet; parameters are lent as to compile. */
 static void joined(struct sheet *both, const struct sheet *a, const struct sheet *b)
 {
-    uint64_t n = engine_join(a->bytes, a->len, b->bytes, b->len, no_params, sizeof no_params, both->bytes,
+    uint64_t n = engine_join(a->bytes, a->len, b->bytes, b->len, DAY_PARAMS, sizeof DAY_PARAMS, both->bytes,
                              sizeof both->bytes);
 
     both->refusal = engine_join_refusal(n);
@@ -184,8 +156,8 @@ static void describe(const struct match *m)
  * which events were committed and who sent them. */
 static void judge(const struct sheet *s)
 {
-    uint64_t a = engine_agree(s->bytes, s->len, no_params, sizeof no_params);
-    uint64_t l = engine_leak(s->bytes, s->len, no_params, sizeof no_params, 2);
+    uint64_t a = engine_agree(s->bytes, s->len, DAY_PARAMS, sizeof DAY_PARAMS);
+    uint64_t l = engine_leak(s->bytes, s->len, DAY_PARAMS, sizeof DAY_PARAMS, 2);
 
     if (engine_agree_number(a) == ENGINE_DEPENDENT)
         printf("phones may disagree: events %u and %u differ in rank and share b%u\n", (unsigned)engine_agree_first(a),
@@ -200,7 +172,7 @@ static void compare(const struct match *m, const struct sheet *other)
 {
     static uint8_t table[ENGINE_TABLE];
 
-    if (engine_compile(other->bytes, other->len, no_params, sizeof no_params, table, sizeof table) == 0)
+    if (engine_compile(other->bytes, other->len, DAY_PARAMS, sizeof DAY_PARAMS, table, sizeof table) == 0)
         printf("both phones have the same program: %s\n", engine_same_table(m->table, table) ? "yes" : "no");
 }
 
@@ -234,9 +206,10 @@ int main(int argc, char **argv)
     static struct match m;
     static struct sheet day, bonus, both;
     const char *save = argc > 1 ? argv[1] : "match.save", *rounds = argc > 2 ? argv[2] : "match.rounds";
+    const char *sheets = argc > 3 ? argv[3] : "sheets";
 
-    puzzle(&day);
-    stop_if(match_open(&m, &day, no_params), "the day's puzzle");
+    sheet_read(&day, sheets, "day");
+    stop_if(match_open(&m, &day, DAY_PARAMS), "the day's puzzle");
     describe(&m);
     compare(&m, &day);
     judge(&day);
@@ -246,26 +219,25 @@ int main(int argc, char **argv)
     plan(&m);
     play_out(&m);
     show(&m, 2);
-    hover(&m, TURN, TURN_SCORE, 2);
-    hover(&m, TURN, SECRET, 2);
+    hover(&m, TURN, DAY_BEHAVIOUR_score, 2);
+    hover(&m, TURN, DAY_BEHAVIOUR_secret, 2);
 
-    league(&bonus, "b0 * b0");
+    sheet_read(&bonus, sheets, "squares");
     joined(&both, &day, &bonus);
     send(&m, TURN, 1);
-    stop_if(match_mend(&m, &both, no_params), "joining the league");
+    stop_if(match_mend(&m, &both, DAY_PARAMS), "joining the league");
     printf("the league's bonus joins in\n");
     send(&m, BONUS, 1);
-    sheet_begin(&bonus);
-    sheet_event(&bonus, 1, EVERYBODY);
-    printf("a sheet without the event in hand: %s\n", match_word(match_mend(&m, &bonus, no_params)));
+    sheet_read(&bonus, sheets, "turns");
+    printf("a sheet without the event in hand: %s\n", match_word(match_mend(&m, &bonus, DAY_PARAMS)));
     save_and_load(&m, save);
     send(&m, BONUS, 1);
     play_out(&m);
     show(&m, 2);
 
-    league(&bonus, "b0 + b0");
+    sheet_read(&bonus, sheets, "doubles");
     joined(&both, &day, &bonus);
-    stop_if(match_mend(&m, &both, no_params), "mending the bonus");
+    stop_if(match_mend(&m, &both, DAY_PARAMS), "mending the bonus");
     printf("the bonus is mended\n");
     send(&m, BONUS, 1);
     play_out(&m);

@@ -1,8 +1,31 @@
 #include "sheet.h"
 
+#include <stdio.h>
 #include <string.h>
 
 enum { EVENT = 0x01, PASSIVE = 0x02, ACTIVE = 0x03, START = 0x04, HANDLER = 0x05, VIEWERS = 0x08, HEAD = 3 };
+
+void sheet_read(struct sheet *s, const char *folder, const char *name)
+{
+    static uint8_t text[ENGINE_SHEET_TEXT];
+    char path[4096];
+    struct engine_assembled a;
+    size_t n;
+    FILE *f;
+
+    sheet_begin(s);
+    snprintf(path, sizeof path, "%s/%s.sheet", folder, name);
+    f = fopen(path, "rb");
+    if (!f) {
+        s->refusal = ENGINE_TEXT_TOO_LONG;
+        return;
+    }
+    n = fread(text, 1, sizeof text, f);
+    fclose(f);
+    a = engine_try_assemble(text, n, s->bytes, sizeof s->bytes);
+    s->refusal = a.refusal;
+    s->len = a.length;
+}
 
 void sheet_begin(struct sheet *s)
 {

@@ -1,4 +1,5 @@
-/* A sheet put together from formulas, as a setter's screen would: events first, then behaviours. */
+/* A sheet from a file of the setter's text, or put together from formulas, as a setter's screen would: events first,
+ * then behaviours. */
 #ifndef SHEET_H
 #define SHEET_H
 
@@ -7,7 +8,7 @@
 struct sheet {
     uint8_t bytes[ENGINE_SHEET];
     size_t len;
-    uint32_t refusal; /* of the first formula that was turned down, or ENGINE_LONG_SHEET; 0 where all is well */
+    uint32_t refusal; /* of the text, or of the first formula that was turned down; 0 where all is well */
 };
 
 struct handler {
@@ -18,6 +19,9 @@ struct handler {
 
 #define EVERYBODY 0xFFu            /* who may send an event, or see a behaviour */
 #define PLAYER(n) (1u << (n))      /* a bit for each; the host always may */
+
+/* The sheet of the file folder/name.sheet; refused by ENGINE_TEXT_TOO_LONG where the file cannot be read. */
+void sheet_read(struct sheet *s, const char *folder, const char *name);
 
 void sheet_begin(struct sheet *s);
 void sheet_event(struct sheet *s, uint8_t rank, unsigned senders);
