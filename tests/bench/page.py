@@ -2,8 +2,8 @@
 """page.py FOLDER: writes what tests/bench/run measured to docs/bench.svg and to the pages of docs/.
 
 Of the pages only what stands between `<!-- bench: NAME -->` and `<!-- end -->` is written, on whichever page the mark
-stands; the rest is by hand. FOLDER has the files rows, waits, stacks, sizes, machine and, where an earlier archive was
-measured, before.
+stands; the rest is by hand. FOLDER has the files rows, waits, stacks, sizes, audited, machine and, where an earlier
+archive was measured, before.
 """
 import glob
 import math
@@ -41,6 +41,18 @@ class Row:
         self.ours, self.plain, self.byhand, self.to_plain, self.to_c = map(spread, words[2:7])
 
 
+class Audited:
+    """A kind of recorded rounds, and how many of them one core audited in a second, in each run."""
+
+    def __init__(self, words):
+        self.what, self.calls, self.bytes = words[0], int(words[1]), int(words[2])
+        self.rates = sorted(int(rate) for rate in words[3].split("/"))
+
+    def seconds(self, rounds):
+        """Of one core, by the median."""
+        return rounds / self.rates[len(self.rates) // 2]
+
+
 def read(folder):
     def lines(name):
         path = os.path.join(folder, name)
@@ -57,6 +69,7 @@ def read(folder):
     found["waits"], found["machine"] = lines("waits"), lines("machine")
     found["stacks"] = dict(read_stacks(line) for line in lines("stacks"))
     found["sizes"] = [line.split("\t") for line in lines("sizes")]
+    found["audited"] = [Audited(line.split("\t")) for line in lines("audited")]
     return found
 
 
@@ -226,6 +239,31 @@ def stacks(found):
 
 
 ROOM, WIDTHS = 86, (12, 10, 10)
+
+
+def duration(seconds):
+    for unit, least in (("hours", 7200), ("minutes", 120)):
+        if seconds >= least:
+            return f"{seconds / (least / 2):.1f} {unit}"
+    return f"{seconds:.0f} seconds"
+
+
+def audits(found):
+    """What was measured, and what a league's day takes by it."""
+    table = ["| rounds | calls of each | bytes of each | rounds a core audits in a second | nanoseconds a call |",
+             "|---|---|---|---|---|"]
+    for row in found["audited"]:
+        least, most = row.rates[0], row.rates[-1]
+        ns = " to ".join(f"{1e9 / (rate * row.calls):.0f}" for rate in (most, least))
+        table.append(f"| {row.what} | {row.calls:,} | {row.bytes:,} | {least:,} to {most:,} | {ns} |")
+    days = ["", "| a day of | calls of each | time of one core | cores that do it in an hour | files |",
+            "|---|---|---|---|---|"]
+    for rounds in (10**6, 10**8):
+        for row in found["audited"][:2]:
+            seconds, size = row.seconds(rounds), rounds * row.bytes / 1e9
+            cores = math.ceil(seconds / 3600)
+            days.append(f"| {rounds:,} rounds | {row.calls:,} | {duration(seconds)} | {cores} | {size:,.1f} GB |")
+    return table + days
 
 
 def judged(what, got, most, said=None, digits=2):
@@ -426,6 +464,8 @@ def main():
     makers = {make.__name__: lambda page, make=make: make(found) for make in parts}
     makers["waits"] = lambda page: found["waits"]
     makers["stack-sizes"] = lambda page: stack_table(found, page)
+    if found["audited"]:
+        makers["audits"] = lambda page: audits(found)
     makers["circle"] = lambda page: slowest_circle(found)
     written = {write_part(name, make) for name, make in makers.items()}
     open(PLOT, "w", encoding="utf8").write(plot(found))
