@@ -37,7 +37,7 @@ module _ (s ps : List ℕ) (bytes : All (λ b. b < 256) s) (x : Sheet) (e : enco
   agree-is = let r : readSheet s ≡ got x [] = rw e at (reads-back x (taken .fits)) in rw (number-zero, r)
 
   module _ (words : All (λ b. b < 256) ps) where
-    accepted : Accepted (programOf ps x)
+    pub accepted : Accepted (programOf ps x)
     accepted = filling-accepted (get ps) (λ n _. get-small ps words n) (length ps) x taken
 
     answered : AgreeAnswer s ps x

@@ -31,7 +31,7 @@ use Rattle.check_agree.proofs.ConflictLaws.{packed-some}
 
 -- ---- what is written is an active of the sheet
 
-active-written : (e : ℕ) (b : Behaviour) → written (respond e b) ≡ true → isActive b ≡ true
+pub active-written : (e : ℕ) (b : Behaviour) → written (respond e b) ≡ true → isActive b ≡ true
 active-written e (passive x) h = absurd (false≢true h)
 active-written e (active s hs) h = refl
 
@@ -43,11 +43,11 @@ written-within p e i h =
 
 -- ---- a test that is not 0
 
-chosen : (b : Bool) (v : ℕ) → pick b v 0 ≢ 0 → (b ≡ true) × (pick b v 0 ≡ v)
+pub chosen : (b : Bool) (v : ℕ) → pick b v 0 ≢ 0 → (b ≡ true) × (pick b v 0 ≡ v)
 chosen true v h = (refl, refl)
 chosen false v h = absurd (h refl)
 
-not-chosen : (b : Bool) (v : ℕ) → v ≢ 0 → pick b v 0 ≡ 0 → b ≡ false
+pub not-chosen : (b : Bool) (v : ℕ) → v ≢ 0 → pick b v 0 ≡ 0 → b ≡ false
 not-chosen true v n h = absurd (n h)
 not-chosen false v n h = refl
 
@@ -59,7 +59,7 @@ module _ (p : Program) (each : All (BehaviourFits (events p)) (p .behaviours)) (
   reads-is : (e f i : ℕ) → writes p e i ≡ true → namedBy p f i ≡ true → Reads p f i
   reads-is e f i w h = (named-says p each known few f i (written-within p e i w) h, active-written e (behaviourAt p i) w)
 
-  shared-says : (e f i : ℕ) → clashes p e f i ≡ true → SharedBehaviour p e f i
+  pub shared-says : (e f i : ℕ) → clashes p e f i ≡ true → SharedBehaviour p e f i
   unfolding clashes
   shared-says e f i h =
       ⊎-elim
@@ -68,21 +68,21 @@ module _ (p : Program) (each : All (BehaviourFits (events p)) (p .behaviours)) (
       (λ t. let g = and-eq-true-iff (writes p f i) (namedBy p e i) .0 t in second-writes (g .0) (reads-is f e i (g .0) (g .1)))
       (or-either (writes p e i && (writes p f i || namedBy p f i)) (writes p f i && namedBy p e i) h)
 
-  shared-is : (e f i : ℕ) → SharedBehaviour p e f i → clashes p e f i ≡ true
+  pub shared-is : (e f i : ℕ) → SharedBehaviour p e f i → clashes p e f i ≡ true
   unfolding clashes
   shared-is e f i (both-write a b) = rw (a, b)
   shared-is e f i (first-writes a r) = rw (a, named-is p each known few f (r .0), or-true (writes p f i))
   shared-is e f i (second-writes b r) =
       rw (b, named-is p each known few e (r .0)) (or-true (writes p e i && true))
 
-  shared-within : (e f i : ℕ) → SharedBehaviour p e f i → i < size p
+  pub shared-within : (e f i : ℕ) → SharedBehaviour p e f i → i < size p
   shared-within e f i (both-write a b) = written-within p e i a
   shared-within e f i (first-writes a r) = written-within p e i a
   shared-within e f i (second-writes b r) = written-within p f i b
 
   -- ---- independence is that nothing is shared
 
-  none-shared : (e f : ℕ) → Independent p e f → (i : ℕ) → SharedBehaviour p e f i → ⊥
+  pub none-shared : (e f : ℕ) → Independent p e f → (i : ℕ) → SharedBehaviour p e f i → ⊥
   none-shared e f h i (both-write a b) = true≢false (sym b ∙ h .0 i a .1)
   none-shared e f h i (first-writes a r) = h .0 i a .0 r
   none-shared e f h i (second-writes b r) = h .1 i b .0 r
@@ -91,7 +91,7 @@ module _ (p : Program) (each : All (BehaviourFits (events p)) (p .behaviours)) (
   not-written true h = absurd (h refl)
   not-written false h = refl
 
-  apart : (e f : ℕ) → ((i : ℕ) → SharedBehaviour p e f i → ⊥) → Independent p e f
+  pub apart : (e f : ℕ) → ((i : ℕ) → SharedBehaviour p e f i → ⊥) → Independent p e f
   apart e f h = (
     λ i w. ((λ r. h i (first-writes w r)), not-written (writes p f i) (λ t. h i (both-write w t))),
     λ i w. ((λ r. h i (second-writes w r)), not-written (writes p e i) (λ t. h i (both-write t w))),

@@ -5,3 +5,4 @@ pub mod Agrees
 pub mod Leading
 pub mod MarkDecides
 pub mod MeetDecides
+pub mod Reading

@@ -149,20 +149,20 @@ module _ (p : Program) (each : All (BehaviourFits (events p)) (p .behaviours)) (
         (or-either (writes p e j && strictIn p D f j) (writes p f j && strictIn p D e j) (g .1))
 
     -- where both write, one of them is strict or both only add
-    both-write : (e f j : ℕ) → T j → writes p e j ≡ true → writes p f j ≡ true → (OnlyAdd p T e f j → ⊥) → meets p D e f j ≡ true
-    both-write e f j m we wf h =
+    both-write : (e f j : ℕ) → T j → writes p e j ≡ true → writes p f j ≡ true → (meets p D e f j ≡ true) ⊎ OnlyAdd p T e f j
+    both-write e f j m we wf =
         let b = written-in p e j we in
         let d = is j b m in
-        split (strictIn p D e j) (λ s. back e f j d wf s)
-        (λ s. split (strictIn p D f j) (λ t. both e f j d we t)
+        split (strictIn p D e j) (λ s. inl (back e f j d wf s))
+        (λ s. split (strictIn p D f j) (λ t. inl (both e f j d we t))
         (λ t. split (addsOf p e j)
         (λ a. split (addsOf p f j)
-        (λ c. absurd (h (record {
+        (λ c. inr (record {
           one = adds-says p j each known few b e a;
           other = adds-says p j each known few b f c;
           one-elsewhere = λ r. true≢false (sym (strict-read e j b r) ∙ s);
           other-elsewhere = λ r. true≢false (sym (strict-read f j b r) ∙ t);
-        })))
+        }))
         (λ c. absurd (true≢false (sym (strict-plain f j m wf c) ∙ t))))
         (λ a. absurd (true≢false (sym (strict-plain e j m we a) ∙ s)))))
 
@@ -171,17 +171,18 @@ module _ (p : Program) (each : All (BehaviourFits (events p)) (p .behaviours)) (
     reads-or-writes e j (i, m, r) =
         split (eqb i j) (λ t. inr (subst (λ (x : ℕ). writes p e x ≡ true) (eqb-true i j t) (r .0))) (λ t. inl (i, m, eqb-false i j t, r))
 
-    meets-by : (e f j : ℕ) → T j → SharedIn p T e f j → (OnlyAdd p T e f j → ⊥) → meets p D e f j ≡ true
-    meets-by e f j m (two-write we wf) h = both-write e f j m we wf h
-    meets-by e f j m (one-writes we r) h =
+    -- what two events share in the set: they meet there, or both only add to it
+    pub meets-or-adds : (e f j : ℕ) → T j → SharedIn p T e f j → (meets p D e f j ≡ true) ⊎ OnlyAdd p T e f j
+    meets-or-adds e f j m (two-write we wf) = both-write e f j m we wf
+    meets-or-adds e f j m (one-writes we r) =
         let b = written-in p e j we in
-        ⊎-elim (λ t. both e f j (is j b m) we (strict-read f j b t)) (λ wf. both-write e f j m we wf h) (reads-or-writes f j r)
-    meets-by e f j m (other-writes wf r) h =
+        ⊎-elim (λ t. inl (both e f j (is j b m) we (strict-read f j b t))) (λ wf. both-write e f j m we wf) (reads-or-writes f j r)
+    meets-or-adds e f j m (other-writes wf r) =
         let b = written-in p f j wf in
-        ⊎-elim (λ t. back e f j (is j b m) wf (strict-read e j b t)) (λ we. both-write e f j m we wf h) (reads-or-writes e j r)
+        ⊎-elim (λ t. inl (back e f j (is j b m) wf (strict-read e j b t))) (λ we. both-write e f j m we wf) (reads-or-writes e j r)
 
     pub meets-is : (e f j : ℕ) → MeetAt p T e f j → meets p D e f j ≡ true
-    meets-is e f j m = meets-by e f j (m .inside) (m .shared) (m .not-only-add)
+    meets-is e f j m = ⊎-elim (λ t. t) (λ a. absurd (m .not-only-add a)) (meets-or-adds e f j (m .inside) (m .shared))
 
     -- ---- not to meet is to be clear of each other
 

@@ -1,1 +1,4 @@
 pub mod PairLaws
+pub mod Decides
+pub mod Answers
+pub mod Examples

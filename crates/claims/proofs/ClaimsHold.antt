@@ -11,6 +11,8 @@ use Rattle.engine_agree.proofs.AgreementHolds.{phones-agree, rounds-agree}
 use Rattle.engine_agree.proofs.FinalHolds.{needed}
 use Rattle.engine_agree_for.proofs.Answers.{for-answers}
 use Rattle.engine_agree_for.proofs.ValuesHold.{one-value, each-agrees, each-round-agrees}
+use Rattle.engine_agree_for.proofs.InOrderHolds.{one-value-in-order, each-in-order}
+use Rattle.check_pair.proofs.Answers.{pair-answers}
 use Rattle.secrecy_leak.proofs.LeaklessHolds.{with-no-condition}
 use Rattle.engine_order.proofs.PhonesHold.{in-order}
 use Rattle.engine_order.proofs.ChangesHold.{in-order-changed}
@@ -55,6 +57,9 @@ claims = record {
   one-value = one-value;
   each-agrees = each-agrees;
   each-round-agrees = each-round-agrees;
+  one-value-in-order = one-value-in-order;
+  each-in-order = each-in-order;
+  pairs = pair-answers;
   leaks = with-no-condition;
   texts = texts;
 }

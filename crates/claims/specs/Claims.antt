@@ -2,8 +2,8 @@
 -- Demand 2's first sentence and demand 3 with M-100, M-101, M-104, M-112 and M-113, which are of its lists, are the
 -- parts of `OneList`, one by one (refine_lists, Lists.antt). All of it is about the functions that the contracts of the
 -- exported calls cite: `compileOn`, `startOn`, `arriveOn`, `stepOn`, `boardOn`, `forecastOn`, `previewOn`, `mendOn`,
--- `formulaOn`, `joinOn`, `toldOn`, `frameOn`, `deliverOn`, `takenOn`. proofs/ClaimsHold.antt has the one theorem that
--- proves it.
+-- `formulaOn`, `joinOn`, `toldOn`, `frameOn`, `deliverOn`, `takenOn`, `agreeOn`, `agreeForOn`, `pairOn`, `leakOn`.
+-- proofs/ClaimsHold.antt has the one theorem that proves it.
 use Rattle.lib_base.specs.Basics.{All}
 use Rattle.spec_semantics.specs.Rounds.{Holds, rounds}
 use Rattle.engine.specs.Demand.{WholeDemand}
@@ -16,6 +16,8 @@ use Rattle.check_agree.specs.Claims.{AgreeAnswers as Agreement}
 use Rattle.engine_agree.specs.Agreement.{PhonesAgree, RoundsAgree}
 use Rattle.engine_agree.specs.Final.{Needed}
 use Rattle.engine_agree_for.specs.OneBehaviour.{AgreeForAnswers as AgreementFor, OneValue, EachAgrees, EachRoundAgrees}
+use Rattle.engine_agree_for.specs.OneBehaviourInOrder.{OneValueInOrder, EachInOrder}
+use Rattle.check_pair.specs.Claims.{PairAnswers as Pairs}
 use Rattle.secrecy_leak.specs.Leakless.{WithNoCondition as NoLeak}
 use Rattle.engine_order.specs.Orders.{SharedOrder}
 use Rattle.engine_order.specs.Changes.{SharedOrderChanged}
@@ -89,6 +91,12 @@ pub record Claims : Type 0 where
   pub one-value : OneValue
   pub each-agrees : EachAgrees
   pub each-round-agrees : EachRoundAgrees
+  -- the same of phones that share an order, idle with the same number taken in; with changes of sheets, of the boards
+  pub one-value-in-order : OneValueInOrder
+  pub each-in-order : EachInOrder
+  -- what do two events share? 15 exactly if one is not declared, 0 exactly if they are independent, else the least
+  -- behaviour at which they meet or, where there is none, that they share, with what each of the two does to it
+  pub pairs : Pairs
   -- may a hidden value leak to a player? 0 exactly under M-107's condition, and what is named is true; then M-107's
   -- rule holds with no condition left; with changes of sheets, where each sheet gets 0, none but M-112's own: at each
   -- change the same behaviours are hidden

@@ -1,28 +1,28 @@
 -- The test of the cone decides what a behaviour depends on: the names that are gathered are all names, and the closed
 -- rows find all chains. And independent events meet nowhere.
 use Prim.Native.Nat.{ℕ, _≤_, _<_}
-use mathlib.Core.Bool.{Bool, true, false, _||_, true≢false, or-true}
-use mathlib.Core.Path.{_≡_, refl, sym, ap, _∙_, subst}
-use mathlib.Core.Logic.{_≢_, _⊎_, inl, inr, ⊎-elim}
-use mathlib.Core.List.{List}
+use mathlib.Core.Bool.{true, true≢false, or-true}
+use mathlib.Core.Path.{_≡_, sym, _∙_}
+use mathlib.Core.Logic.{inl, inr, ⊎-elim}
 use lib.Dec.{eqb}
 use borrow.Author.Tests.{eq-eqb, eqb-true}
 use Rattle.lib_base.specs.Basics.{All}
 use Rattle.lib_base.proofs.Tools.{or-either}
-use Rattle.spec_language.specs.Syntax.{Expr, Behaviour, passive, active, Program}
-use Rattle.spec_language.specs.Dependence.{Response, follows, takes, defers, keeps, size, events, respond, response, behaviourAt, mentions, Reach, isActive, written, writes, Named, in-immediate, in-later, through, Reads, Apart, Independent}
+use Rattle.spec_language.specs.Syntax.{Program}
+use Rattle.spec_language.specs.Dependence.{size, events, behaviourAt, writes, Reads, Independent}
 use Rattle.spec_language.specs.Grammar.{BehaviourFits}
 use Rattle.spec_language.specs.Accepted.{Known}
 use Rattle.check_graph.proofs.Closure.{reach-map}
 use Rattle.check_reads.specs.Sets.{closedBy}
-use Rattle.check_reads.specs.Named.{inResponse}
 use Rattle.check_leak.specs.Leak.{behaviourNames}
-use Rattle.check_agree.specs.Claims.{Unequal, AllIndependent}
+use Rattle.check_agree.specs.Claims.{AllIndependent}
+use Rattle.check_agree.proofs.Decides.{active-written}
 use Rattle.secrecy_model.specs.Sight.{names}
 use Rattle.secrecy_leak.proofs.ByNames.{names-are, named-within}
-use Rattle.spec_commute.specs.Meets.{Cone, Via, itself, passing, ReadsAt, ReadsIn, SharedIn, two-write, one-writes, other-writes, MeetAt, NoneMeet}
+use Rattle.spec_commute.specs.Meets.{Cone, ReadsIn, SharedIn, two-write, one-writes, other-writes, MeetAt, NoneMeet}
 use Rattle.check_meets.specs.Meeting.{inCone}
 use Rattle.check_meets.proofs.Leading.{closed-says, closed-is}
+use Rattle.check_meets.proofs.Reading.{reads-named}
 
 module _ (p : Program) (each : All (BehaviourFits (events p)) (p .behaviours)) (known : Known p) where
   to-names : (i j : ℕ) → behaviourNames p i j ≡ true → names p i j ≡ true
@@ -47,23 +47,9 @@ module _ (p : Program) (each : All (BehaviourFits (events p)) (p .behaviours)) (
 
 -- ---- independent events meet nowhere
 
-handler-named : (p : Program) (e i k : ℕ) (r : Response) → response p e i ≡ r → written r ≡ true → inResponse k r ≡ true → Named p e k
-handler-named p e i k (follows x) q w m = absurd (true≢false (sym w))
-handler-named p e i k (takes x) q w m = in-immediate i q m
-handler-named p e i k (defers x) q w m = in-later i q m
-handler-named p e i k keeps q w m = absurd (true≢false (sym w))
-
-via-named : (p : Program) (e : ℕ) {k j : ℕ} → Named p e k → Via p k j → Named p e j
-via-named p e n itself = n
-via-named p e n (passing q m u) = via-named p e (through n q m) u
-
-active-written : (e : ℕ) (b : Behaviour) → written (respond e b) ≡ true → isActive b ≡ true
-active-written e (passive x) h = absurd (true≢false (sym h))
-active-written e (active s hs) h = refl
-
 reads-in : (p : Program) (D : ℕ → Type 0) (e f j : ℕ) → writes p f j ≡ true → ReadsIn p D e j → Reads p e j
 reads-in p D e f j w (i, m, r) =
-    (via-named p e (handler-named p e i (r .1 .0) (response p e i) refl (r .0) (r .1 .1)) (r .1 .2), active-written f (behaviourAt p j) w)
+    (reads-named p e i j r, active-written f (behaviourAt p j) w)
 
 apart-meets : (p : Program) (D : ℕ → Type 0) (e f j : ℕ) → Independent p e f → SharedIn p D e f j → ⊥
 apart-meets p D e f j h (two-write a b) = true≢false (sym b ∙ h .0 j a .1)

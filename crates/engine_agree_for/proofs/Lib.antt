@@ -2,3 +2,4 @@ pub mod ConeDecides
 pub mod Answers
 pub mod ValuesHold
 pub mod Examples
+pub mod InOrderHolds

@@ -1,1 +1,2 @@
 pub mod OneBehaviour
+pub mod OneBehaviourInOrder

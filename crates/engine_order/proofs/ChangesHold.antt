@@ -39,7 +39,7 @@ use Rattle.refine_calls.proofs.Agrees.{ours-is}
 use Rattle.refine_calls.proofs.Refines.{valid}
 use Rattle.refine_calls.proofs.TurnsRefine.{Stand, Turned, turned}
 use Rattle.refine_frames.specs.Frames.{endedBy}
-use Rattle.refine_lists.specs.Lists.{SheetTurn, calling, mending, Compiles, onBytes, Means, AllMean, IdleNow, boardOf, freshRoundOn, Prepared, TwoRounds}
+use Rattle.refine_lists.specs.Lists.{SheetTurn, calling, mending, Compiles, onBytes, Means, AllMean, IdleNow, boardOf, freshRoundOn, Prepared, TwoRounds, TwoListsWhere}
 use Rattle.refine_lists.proofs.Bytes.{encode-small}
 use Rattle.refine_lists.proofs.Sheets.{program-accepted}
 use Rattle.refine_lists.proofs.ListsHold.{in-force-calls}
@@ -51,7 +51,7 @@ use Rattle.refine_deliver.proofs.Takes.{stand-takes}
 use Rattle.engine_agree.specs.Agreement.{AgreesToo}
 use Rattle.engine_agree.proofs.AgreementHolds.{rounds-agree}
 use Rattle.engine_order.specs.Orders.{EventOrder, entryEvent, entryPlayer, entriesFrom, firstEntries, AppCall, Offered, appRound, takenNow}
-use Rattle.engine_order.specs.Changes.{SheetChange, Acceptable, AppTurn, asks, alters, appTurn, turnsAfter, ByPlan, ChangesMade, ChangedPhone, outcomeOf, boardShown, ChangedAlike, SharedOrderChanged}
+use Rattle.engine_order.specs.Changes.{SheetChange, Acceptable, AppTurn, asks, alters, appTurn, turnsAfter, ByPlan, ChangesMade, ChangedPhone, outcomeOf, boardShown, ChangedAlike, TwoChangedWhere, SharedOrderChanged}
 use Rattle.engine_order.proofs.Blocks.{takenBy, rows-take, Onward, takes-none}
 use Rattle.engine_order.proofs.PhonesHold.{map-append, calls-leave, calls-stand, appCalls, app-round, app-onward, tells}
 
@@ -162,9 +162,14 @@ calls-compile : (cs : List Call) → All Compiles (map calling cs)
 calls-compile [] = tt
 calls-compile (c ∷ cs) = (tt, calls-compile cs)
 
-calls-agree : (cs : List Call) → All AgreesToo (map calling cs)
-calls-agree [] = tt
-calls-agree (c ∷ cs) = (tt, calls-agree cs)
+-- the condition C holds of the sheet of a change
+abbrev pub OfChange : (List ℕ → List ℕ → Type 0) → SheetTurn → Type 0
+OfChange C (calling c) = Unit {0}
+OfChange C (mending s ps t) = C s ps
+
+calls-hold : (C : List ℕ → List ℕ → Type 0) (cs : List Call) → All (OfChange C) (map calling cs)
+calls-hold C [] = tt
+calls-hold C (c ∷ cs) = (tt, calls-hold C cs)
 
 calls-sound : (cs : List Call) → All Sound (map call cs)
 calls-sound [] = tt
@@ -195,7 +200,7 @@ calls-force cs s = in-force-calls cs s
 
 -- ---- from the turns `past` on
 
-module _ (p : Program) (v : Valid p) (l₀ : List ℕ) (order : EventOrder) (short : length order ≤ 1000000) where
+module _ (C : List ℕ → List ℕ → Type 0) (p : Program) (v : Valid p) (l₀ : List ℕ) (order : EventOrder) (short : length order ≤ 1000000) where
   -- what the past has come to
   record Past (past : List Turn) (b : Bytes) (s : State) : Type 0 where
     here : after p past ≡ s
@@ -207,7 +212,7 @@ module _ (p : Program) (v : Valid p) (l₀ : List ℕ) (order : EventOrder) (sho
   record Walk (past : List Turn) (b : Bytes) (s : State) (plan : List SheetChange) (xs : List AppTurn) : Type 0 where
     list : List SheetTurn
     compile : All Compiles list
-    agree : All (λ (c : SheetChange). agreeOn (encode (c .sheet)) (c .params) ≡ 0) plan → All AgreesToo list
+    holds : All (λ (c : SheetChange). C (encode (c .sheet)) (c .params)) plan → All (OfChange C) list
     means : List Turn
     mean : AllMean list means
     leaves : turnsAfter order xs b ≡ bytesAfter (map onBytes list) b
@@ -222,7 +227,7 @@ module _ (p : Program) (v : Valid p) (l₀ : List ℕ) (order : EventOrder) (sho
   none past b s h = record {
     list = [];
     compile = tt;
-    agree = λ _. tt;
+    holds = λ _. tt;
     means = [];
     mean = Forall₂·nil;
     leaves = refl;
@@ -287,7 +292,7 @@ module _ (p : Program) (v : Valid p) (l₀ : List ℕ) (order : EventOrder) (sho
           record {
             list = map calling cs ++ w .list;
             compile = all-join Compiles (map calling cs) (w .list) (calls-compile cs) (w .compile);
-            agree = λ z. all-join AgreesToo (map calling cs) (w .list) (calls-agree cs) (w .agree z);
+            holds = λ z. all-join (OfChange C) (map calling cs) (w .list) (calls-hold C cs) (w .holds z);
             means = map call cs ++ w .means;
             mean = means-append (calls-mean cs) (w .mean);
             leaves = w .leaves ∙ ap (bytesAfter (map onBytes (w .list))) (sym first) ∙ sym (turns-append (map calling cs) (w .list) b);
@@ -360,7 +365,7 @@ module _ (p : Program) (v : Valid p) (l₀ : List ℕ) (order : EventOrder) (sho
       altered plan xs w = record {
         list = mending (encode (c .sheet)) (c .params) u ∷ w .list;
         compile = (turns-to c ok u room, w .compile);
-        agree = λ z. (z .0, w .agree (z .1));
+        holds = λ z. (z .0, w .holds (z .1));
         means = change q ∷ w .means;
         mean = Forall₂·cons means-it (w .mean);
         leaves = w .leaves;
@@ -392,7 +397,7 @@ module _ (p : Program) (v : Valid p) (l₀ : List ℕ) (order : EventOrder) (sho
 
 -- ---- one phone
 
-module _ (s ps t₀ l₀ : List ℕ) (x : Sheet) (r : Prepared s ps t₀ l₀ x) (p : Program) (filled : programOf ps x ≡ p) (order : EventOrder) (short : length order ≤ 1000000)
+module _ (C : List ℕ → List ℕ → Type 0) (s ps t₀ l₀ : List ℕ) (x : Sheet) (r : Prepared s ps t₀ l₀ x) (p : Program) (filled : programOf ps x ≡ p) (order : EventOrder) (short : length order ≤ 1000000)
     (plan : List SheetChange) (ok : All Acceptable plan) (xs : List AppTurn) (f : ByPlan order plan xs (freshRoundOn s ps t₀ l₀)) where
   abbrev first : Bytes
   first = freshRoundOn s ps t₀ l₀
@@ -400,7 +405,7 @@ module _ (s ps t₀ l₀ : List ℕ) (x : Sheet) (r : Prepared s ps t₀ l₀ x)
   v : Valid p
   v = subst Valid filled (valid (programOf ps x) (prepared-accepted s ps t₀ l₀ x r))
 
-  nothing-yet : Past p v l₀ order short [] first (begun p)
+  nothing-yet : Past C p v l₀ order short [] first (begun p)
   unfolding takenTurns entriesFrom runTurns
   nothing-yet = record {
     here = refl;
@@ -410,8 +415,8 @@ module _ (s ps t₀ l₀ : List ℕ) (x : Sheet) (r : Prepared s ps t₀ l₀ x)
     stand = subst (λ (q : Program). Stand l₀ first (begun q)) filled (stands-fresh s ps t₀ l₀ x r);
   }
 
-  w : Walk p v l₀ order short [] first (begun p) plan xs
-  w = walk p v l₀ order short plan ok xs [] first (begun p) nothing-yet f
+  w : Walk C p v l₀ order short [] first (begun p) plan xs
+  w = walk C p v l₀ order short plan ok xs [] first (begun p) nothing-yet f
 
   abbrev end : Bytes
   end = turnsAfter order xs first
@@ -497,35 +502,45 @@ outcome l₀ b (state p (engine k q r d)) h n e who c room =
 
 -- ---- two phones
 
+-- equal boards of demand 3's lists, where C holds of each sheet, are equal boards of the phones
+pub two-changed : (C : List ℕ → List ℕ → Type 0) → TwoListsWhere (λ s ps p xs ts. C s ps × All (OfChange C) xs) → TwoChangedWhere C
+two-changed C hold s ps qs t₀ l₀ t₁ l₁ x r order short plan ok z zs xs ys f g same =
+    let p : Program = programOf ps x in
+    let a = w C s ps t₀ l₀ x (r .one) p refl order short plan ok xs f in
+    let b = w C s qs t₁ l₁ x (r .other) p (r .filled) order short plan ok ys g in
+    let ta = took-in C s ps t₀ l₀ x (r .one) p refl order short plan ok xs f in
+    let tb = took-in C s qs t₁ l₁ x (r .other) p (r .filled) order short plan ok ys g in
+    let A : Bytes = turnsAfter order xs (freshRoundOn s ps t₀ l₀) in
+    let B : Bytes = turnsAfter order ys (freshRoundOn s qs t₁ l₁) in
+    let numbers-same : numberIn (after p (a .means)) ≡ numberIn (after p (b .means)) =
+    sym (told C s ps t₀ l₀ x (r .one) p refl order short plan ok xs f) ∙ same ∙ told C s qs t₁ l₁ x (r .other) p (r .filled) order short plan ok ys g in
+    let forces-same : inForce (after p (a .means)) ≡ inForce (after p (b .means)) = a .force ∙ sym (b .force) in
+    record {
+      deliveries = λ n e who c d rc rd.
+          outcome l₀ A (after p (a .means)) (a .at-last .stand) n e who c rc
+          ∙ ap (λ (m : ℕ). endsWith (deliveryRefusal m (events (inForce (after p (a .means)))) (getD (inForce (after p (a .means)) .senders) e 0) n e who)) numbers-same
+          ∙ ap (λ (q : Program). endsWith (deliveryRefusal (numberIn (after p (b .means))) (events q) (getD (q .senders) e 0) n e who)) forces-same
+          ∙ sym (outcome l₁ B (after p (b .means)) (b .at-last .stand) n e who d rd);
+      boards = λ i j.
+          shown C s ps t₀ l₀ x (r .one) p refl order short plan ok xs f
+          ∙ ap (λ (y : Bytes). boardOf (inForce (after p (a .means))) (y .round)) (a .leaves)
+          ∙ hold s ps qs t₀ l₀ t₁ l₁ x r (a .list) (b .list) (a .compile) (b .compile) (a .means) (b .means) (a .mean) (b .mean)
+          (ap eventsOf (ta ∙ ap (λ (k : ℕ). firstEntries k order) same ∙ sym tb))
+          (same-follow order plan [] [] (courseOf (historyOf p (a .means))) (courseOf (historyOf p (b .means))) (Permᴰ·refl [])
+          (follow C s ps t₀ l₀ x (r .one) p refl order short plan ok xs f) (follow C s qs t₁ l₁ x (r .other) p (r .filled) order short plan ok ys g))
+          (z, a .holds zs) (subst IdleNow (a .leaves) i) (subst IdleNow (b .leaves) j)
+          ∙ sym (ap (λ (y : Bytes). boardOf (inForce (after p (b .means))) (y .round)) (b .leaves))
+          ∙ sym (shown C s qs t₁ l₁ x (r .other) p (r .filled) order short plan ok ys g);
+    }
+
+agrees-too : (x : SheetTurn) → OfChange (λ s ps. agreeOn s ps ≡ 0) x → AgreesToo x
+agrees-too (calling c) h = h
+agrees-too (mending s ps t) h = h
+
 pub in-order-changed : SharedOrderChanged
 in-order-changed = record {
-  one = λ s ps t₀ l₀ x r order short plan ok xs f. phone s ps t₀ l₀ x r (programOf ps x) refl order short plan ok xs f;
-  two = λ s ps qs t₀ l₀ t₁ l₁ x r order short plan ok z zs xs ys f g same.
-      let p : Program = programOf ps x in
-      let a = w s ps t₀ l₀ x (r .one) p refl order short plan ok xs f in
-      let b = w s qs t₁ l₁ x (r .other) p (r .filled) order short plan ok ys g in
-      let ta = took-in s ps t₀ l₀ x (r .one) p refl order short plan ok xs f in
-      let tb = took-in s qs t₁ l₁ x (r .other) p (r .filled) order short plan ok ys g in
-      let A : Bytes = turnsAfter order xs (freshRoundOn s ps t₀ l₀) in
-      let B : Bytes = turnsAfter order ys (freshRoundOn s qs t₁ l₁) in
-      let numbers-same : numberIn (after p (a .means)) ≡ numberIn (after p (b .means)) =
-      sym (told s ps t₀ l₀ x (r .one) p refl order short plan ok xs f) ∙ same ∙ told s qs t₁ l₁ x (r .other) p (r .filled) order short plan ok ys g in
-      let forces-same : inForce (after p (a .means)) ≡ inForce (after p (b .means)) = a .force ∙ sym (b .force) in
-      record {
-        deliveries = λ n e who c d rc rd.
-            outcome l₀ A (after p (a .means)) (a .at-last .stand) n e who c rc
-            ∙ ap (λ (m : ℕ). endsWith (deliveryRefusal m (events (inForce (after p (a .means)))) (getD (inForce (after p (a .means)) .senders) e 0) n e who)) numbers-same
-            ∙ ap (λ (q : Program). endsWith (deliveryRefusal (numberIn (after p (b .means))) (events q) (getD (q .senders) e 0) n e who)) forces-same
-            ∙ sym (outcome l₁ B (after p (b .means)) (b .at-last .stand) n e who d rd);
-        boards = λ i j.
-            shown s ps t₀ l₀ x (r .one) p refl order short plan ok xs f
-            ∙ ap (λ (y : Bytes). boardOf (inForce (after p (a .means))) (y .round)) (a .leaves)
-            ∙ rounds-agree s ps qs t₀ l₀ t₁ l₁ x r (a .list) (b .list) (a .compile) (b .compile) (a .means) (b .means) (a .mean) (b .mean)
-            (ap eventsOf (ta ∙ ap (λ (k : ℕ). firstEntries k order) same ∙ sym tb))
-            (same-follow order plan [] [] (courseOf (historyOf p (a .means))) (courseOf (historyOf p (b .means))) (Permᴰ·refl [])
-            (follow s ps t₀ l₀ x (r .one) p refl order short plan ok xs f) (follow s qs t₁ l₁ x (r .other) p (r .filled) order short plan ok ys g))
-            (z, a .agree zs) (subst IdleNow (a .leaves) i) (subst IdleNow (b .leaves) j)
-            ∙ sym (ap (λ (y : Bytes). boardOf (inForce (after p (b .means))) (y .round)) (b .leaves))
-            ∙ sym (shown s qs t₁ l₁ x (r .other) p (r .filled) order short plan ok ys g);
-      };
+  one = λ s ps t₀ l₀ x r order short plan ok xs f. phone (λ s ps. Unit {0}) s ps t₀ l₀ x r (programOf ps x) refl order short plan ok xs f;
+  two = two-changed (λ s ps. agreeOn s ps ≡ 0)
+      (λ s ps qs t₀ l₀ t₁ l₁ x r xs ys kx ky ts us mt mu same kept z.
+      rounds-agree s ps qs t₀ l₀ t₁ l₁ x r xs ys kx ky ts us mt mu same kept (z .0, all-imp (OfChange (λ s ps. agreeOn s ps ≡ 0)) AgreesToo agrees-too xs (z .1)));
 }

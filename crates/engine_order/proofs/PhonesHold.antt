@@ -220,7 +220,7 @@ module _ (s ps t₀ l₀ : List ℕ) (x : Sheet) (r : Prepared s ps t₀ l₀ x)
 
 -- ---- two phones
 
-two-phones : (C : List ℕ → List ℕ → Program → List Arrival → Type 0) → TwoCallsWhere (λ s ps p cs. C s ps p (takenInBy p (map call cs))) → TwoPhonesWhere C
+pub two-phones : (C : List ℕ → List ℕ → Program → List Arrival → Type 0) → TwoCallsWhere (λ s ps p cs. C s ps p (takenInBy p (map call cs))) → TwoPhonesWhere C
 two-phones C hold s ps qs t₀ l₀ t₁ l₁ x r order short cs ds oc od same c ic id =
     let p : Program = programOf ps x in
     let a = one-phone s ps t₀ l₀ x (r .one) order short cs oc in

@@ -102,12 +102,18 @@ pub record ChangedAlike (a b : Bytes) : Type 0 where
   -- "when both are idle with the same number taken in their boards are equal"
   pub boards : IdleNow a → IdleNow b → boardShown a ≡ boardShown b
 
+-- on one sheet with one filling, under the condition C of sheet and parameters, which holds of each sheet
+abbrev pub TwoChangedWhere : (List ℕ → List ℕ → Type 0) → Type 0
+TwoChangedWhere C =
+    (s ps qs t₀ l₀ t₁ l₁ : List ℕ) (x : Sheet) → TwoRounds s ps qs t₀ l₀ t₁ l₁ x → (order : EventOrder) → length order ≤ 1000000
+    → (plan : List SheetChange) → All Acceptable plan → C s ps → All (λ (c : SheetChange). C (encode (c .sheet)) (c .params)) plan
+    → (xs ys : List AppTurn) → ByPlan order plan xs (freshRoundOn s ps t₀ l₀) → ByPlan order plan ys (freshRoundOn s qs t₁ l₁)
+    → takenNow (turnsAfter order xs (freshRoundOn s ps t₀ l₀)) ≡ takenNow (turnsAfter order ys (freshRoundOn s qs t₁ l₁))
+    → ChangedAlike (turnsAfter order xs (freshRoundOn s ps t₀ l₀)) (turnsAfter order ys (freshRoundOn s qs t₁ l₁))
+
 pub record SharedOrderChanged : Type 0 where
   pub one : (s ps t₀ l₀ : List ℕ) (x : Sheet) → Prepared s ps t₀ l₀ x → (order : EventOrder) → length order ≤ 1000000
       → (plan : List SheetChange) → All Acceptable plan → (xs : List AppTurn) → ByPlan order plan xs (freshRoundOn s ps t₀ l₀)
       → ChangedPhone (programOf ps x) (freshRoundOn s ps t₀ l₀) order xs (turnsAfter order xs (freshRoundOn s ps t₀ l₀))
-  pub two : (s ps qs t₀ l₀ t₁ l₁ : List ℕ) (x : Sheet) → TwoRounds s ps qs t₀ l₀ t₁ l₁ x → (order : EventOrder) → length order ≤ 1000000
-      → (plan : List SheetChange) → All Acceptable plan → agreeOn s ps ≡ 0 → All (λ (c : SheetChange). agreeOn (encode (c .sheet)) (c .params) ≡ 0) plan
-      → (xs ys : List AppTurn) → ByPlan order plan xs (freshRoundOn s ps t₀ l₀) → ByPlan order plan ys (freshRoundOn s qs t₁ l₁)
-      → takenNow (turnsAfter order xs (freshRoundOn s ps t₀ l₀)) ≡ takenNow (turnsAfter order ys (freshRoundOn s qs t₁ l₁))
-      → ChangedAlike (turnsAfter order xs (freshRoundOn s ps t₀ l₀)) (turnsAfter order ys (freshRoundOn s qs t₁ l₁))
+  -- "`agree` 0 for each sheet"
+  pub two : TwoChangedWhere (λ s ps. agreeOn s ps ≡ 0)
