@@ -48,12 +48,15 @@ static void sheet_of(struct sheet *s, int events, int32_t start)
     sheet_active(s, start, up, events ? 1 : 0, EVERYBODY);
 }
 
+static uint32_t taken(const struct match *m)
+{
+    return engine_taken_number(engine_taken(m->table, sizeof m->table, m->round, sizeof m->round));
+}
+
 /* The next entry of the order. */
 static uint32_t deliver(struct match *m, unsigned *commits)
 {
-    uint64_t t = engine_taken(m->table, sizeof m->table, m->round, sizeof m->round);
-
-    return match_deliver(m, engine_taken_number(t), 0, 1, count, commits);
+    return match_deliver(m, taken(m), 0, 1, count, commits);
 }
 
 /* A call: a delivery, a board reading, a frame or a change of sheets. */
@@ -66,7 +69,7 @@ static uint32_t call(struct match *m, unsigned kind, const struct sheet *other, 
     case 0: return deliver(m, commits);
     case 1: return match_read(m, 0, 1, &value);
     case 2: return match_frame(m, 100, count, commits, &idle);
-    default: return match_mend(m, other, no_params);
+    default: return match_mend(m, taken(m), other, no_params, count, commits);
     }
 }
 
@@ -95,19 +98,25 @@ static void memory_runs_out(struct match *m, const struct sheet *other)
     expect(match_audit(m) == 0, "the record does not have every call");
 }
 
-/* An event in hand is not in the other sheet: the change is refused, and tried again in each frame. */
+/* A change whose place is not reached yet is refused and tried again in each frame; at its place it is made on an idle
+ * round, though the event in hand is not in the other sheet. */
 static void tried_again(struct match *m, const struct sheet *other, const char *path)
 {
+    static struct match before;
     size_t sheets = m->count;
     unsigned commits = 0, k;
-    int idle;
 
     expect(deliver(m, &commits) == 0, "an event is delivered");
+    before = *m;
     for (k = 0; k < 50; k++)
-        expect(match_mend(m, other, no_params) == ENGINE_STRANGE_HAND, "the event in hand is not in the other sheet");
+        expect(match_mend(m, taken(m) + 1, other, no_params, count, &commits) == ENGINE_MISSING_ENTRIES,
+               "the entry before it is missing");
+    expect(match_mend(m, taken(m) - 1, other, no_params, count, &commits) == ENGINE_TAKEN_BEFORE,
+           "its place is passed");
+    expect(memcmp(m->round, before.round, sizeof m->round) == 0 && commits == 0, "what is not made does nothing");
     expect(m->count == sheets + 1, "a sheet is kept once, however often it is tried");
-    expect(match_frame(m, 100, count, &commits, &idle) == 0 && idle, "the event is committed");
-    expect(match_mend(m, other, no_params) == 0 && m->count == sheets + 1, "then the change is made");
+    expect(match_mend(m, taken(m), other, no_params, count, &commits) == 0 && commits == 1, "at its place it is made");
+    expect(m->count == sheets + 1, "and its sheet is the one that is kept");
     expect(match_save(m, path) == 0, "it is saved");
     match_close(m);
     expect(match_load(m, path) == 0 && m->count == sheets + 1 && m->in_force == sheets, "and gone on with");

@@ -1,36 +1,56 @@
 // A host in strict TypeScript over the package; types.mjs beside it compiles and runs it. Its last function has what
 // must not compile.
-import { COMMITTED, FRAME_IDLE, FRAME_REFUSED, HOST, CALL_ARRIVE, CALL_STEP } from "poqashem-engine";
-import { Fault, load, parameters, recorded, Refusal, stepOf } from "poqashem-engine";
-import type { Engine, Frame, Leak, Round, Step, StepParts } from "poqashem-engine";
+import { COMMITTED, HOST, CALL_ARRIVE, CALL_STEP } from "poqashem-engine";
+import { Fault, load, parameters, recorded, Refusal, sameTable, stepOf } from "poqashem-engine";
+import type { BoardAfter, Engine, Leak, Round, Step, StepParts } from "poqashem-engine";
 
 const TEXT = "param worth = 0\nevent hit rank 1 from 1\nactive score = 2\n  on hit: score + worth\n";
+
+/** What a phone sends before a round: its engine's version and its table. */
+interface Greeting {
+    version: string;
+    table: Uint8Array;
+}
+
+function greeting(engine: Engine, worth: number): Greeting {
+    const table = engine.compile(engine.assemble(TEXT), parameters([worth]));
+    return { version: JSON.stringify(engine.version()), table };
+}
+
+/** Whether two phones may play a round: the same engine and the same program. */
+function meets(own: Greeting, received: Greeting): boolean {
+    return own.version === received.version && sameTable(own.table, received.table);
+}
 
 export async function play(wasm: Uint8Array): Promise<string> {
     const engine: Engine = await load(wasm);
     const sheet: Uint8Array = engine.assemble(TEXT);
-    const params: Uint8Array = parameters([5]);
-    const table: Uint8Array = engine.compile(sheet, params);
-    const leak: Leak = engine.leak(sheet, params, 1);
+    const leak: Leak = engine.leak(sheet, parameters([5]), 1);
     if (leak.number !== 0) throw new Error(`b${leak.seen} tells of b${leak.hidden}`);
-    const round: Round = engine.open(table);
-    round.arrive(0, 1);
-    const frame: Frame = round.frame(round.forecast());
-    if (frame.end === FRAME_REFUSED || frame.end !== FRAME_IDLE) throw new Error("not played out");
-    const sent: StepParts = JSON.parse(JSON.stringify(frame.commits[0]));
+    const own: Greeting = greeting(engine, 5);
+    const other: Engine = await load(wasm);
+    if (!meets(own, greeting(other, 5))) throw new Error("the other phone plays another program");
+    if (meets(own, greeting(other, 6))) throw new Error("another filling is taken for the same program");
+    const round: Round = engine.open(own.table);
+    round.deliver(0, 0, 1);
+    const after: BoardAfter = round.boardAfter(1, HOST);
+    const sent: StepParts = JSON.parse(JSON.stringify(after.commits[0]));
     const told: Step = engine.told(sent);
-    const points: number = round.board(0, HOST);
-    const audited: bigint[] = replayed(engine, table, frame.steps);
+    const points: number | null | undefined = after.board[0];
+    const audited: bigint[] = replayed(engine, own.table);
     const last = audited[audited.length - 1];
     if (last === undefined || stepOf(last).kind !== COMMITTED) throw new Error("not as recorded");
-    const copy: Round = engine.resume(table, round.bytes());
+    const copy: Round = engine.resume(own.table, round.bytes());
     round.free();
     if (copy.board(0, HOST) !== points) throw new Error("not as saved");
     copy.free();
     return `${points} points, event ${told.event} of player ${told.player}`;
 }
 
-function replayed(engine: Engine, table: Uint8Array, steps: number): bigint[] {
+function replayed(engine: Engine, table: Uint8Array): bigint[] {
+    const fresh: Uint8Array = engine.start(table);
+    engine.arrive(table, fresh, 0, 1);
+    const steps: number = engine.forecast(table, fresh);
     const calls = [recorded(CALL_ARRIVE, 0, 1), ...Array.from({ length: steps }, () => recorded(CALL_STEP))];
     return engine.replay(table, engine.start(table), new Uint8Array(calls.flat()));
 }

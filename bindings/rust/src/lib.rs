@@ -26,7 +26,7 @@
 //! let board = |round: &poqashem::Round| [0, 1].map(|i| round.board(Behaviour(i), Player::HOST));
 //!
 //! assert_eq!(round.preview(Event(0), Behaviour(0), Player::HOST)?, 2, "what a move would lead to");
-//! round.arrive(Event(0), Player::HOST)?;
+//! round.deliver(0, Event(0), Player::HOST)?; // entry 0 of the order
 //! assert_eq!(round.forecast()?, 18, "17 instructions, and a step to start");
 //! loop {
 //!     match round.step()? {
@@ -37,13 +37,13 @@
 //! }
 //! assert_eq!(board(&round), [Ok(2), Ok(1)]);
 //!
-//! assert_eq!(round.arrive(Event(2), Player::HOST), Err(Refusal::NoSuchEvent));
+//! assert_eq!(round.deliver(1, Event(2), Player::HOST), Err(Refusal::NoSuchEvent));
 //! assert_eq!(round.board(Behaviour(0), Player(8)), Err(Refusal::NoPlayer));
 //!
 //! // save the round, and go on from what was saved
 //! let saved = *round.bytes();
 //! let mut round = poqashem::Round::from_bytes(&table, &saved);
-//! round.arrive(Event(0), Player(3))?;
+//! round.deliver(1, Event(0), Player(3))?;
 //! while round.step()? != Step::Idle {}
 //! assert_eq!(board(&round), [Ok(3), Ok(2)]);
 //! # Ok::<(), Refusal>(())
@@ -68,8 +68,10 @@
 //!
 //! Two phones that take in the same events in the same order have equal boards, when both are idle and have taken in
 //! equally many, where every two events of unequal rank are independent: neither writes what the other reads or writes.
-//! Sheet S above does not meet that condition. With 64 in hand a phone refuses what another may take in; and marks that
-//! an event ran over, and the order of commits, may differ: decide by the board when idle (`docs/HOST.md`).
+//! Sheet S above does not meet that condition. Compare the other phone's [`Table`] with yours by `==` before the round,
+//! hand events in by [`Round::deliver`], read winners by [`Round::board_after`] and change sheets by
+//! [`Round::mend_after`] (`docs/HOST.md`, "So that two phones agree"). Marks that an event ran over, and the order of
+//! commits, may differ: decide by the board when idle after that many entries.
 //! A [`record::Recorder`] keeps what a round was asked and what it answered; [`record::audit`] makes the same calls
 //! again and finds the first answer that differs.
 //!

@@ -1,6 +1,7 @@
-/* A match of two players, played in frames of a few steps: entries of an order, rights, a look ahead, a bonus sheet that
- * joins in mid-round, a save and a load, a mended sheet, a crowd of entries at once, and an audit. Prints what happens:
- * match SAVE ROUNDS SHEETS. The same match in Rust, Java and JavaScript stands beside this folder. */
+/* A match of two players, played in frames of a few steps: the other phone's table, entries of an order, rights, a look
+ * ahead, a bonus sheet that joins in mid-round, a save and a load, a mended sheet, a crowd of entries at once, a board
+ * at a place of the order, and an audit. Prints what happens: match SAVE ROUNDS SHEETS. The same match in Rust, Java and
+ * JavaScript stands beside this folder. */
 #include <stdio.h>
 #include <stdlib.h>
 
@@ -49,8 +50,8 @@ static void play_out(struct match *m)
     printf("    idle after %u frames, %u commits\n", frames, commits);
 }
 
-/* The next entry of the order: an app gets event, player and number from whoever makes the order. What the sheet refuses
- * takes no number. */
+/* The next entry of the order: an app gets event, player and number from whoever makes the order. What the sheet
+ * refuses takes no number. */
 static uint32_t entry;
 
 static void send(struct match *m, uint32_t event, uint32_t player)
@@ -72,21 +73,34 @@ static void crowd(struct match *m, uint32_t count)
     for (; count > 0; count--)
         stop_if(match_deliver(m, entry++, TURN, 2, committed, &commits), "an entry of the crowd");
     t = engine_taken(m->table, sizeof m->table, m->round, sizeof m->round);
-    printf("    %u taken in, %u of them in hand\n", (unsigned)engine_taken_number(t), (unsigned)engine_taken_in_hand(t));
+    printf("    %u taken in, %u of them in hand\n", (unsigned)engine_taken_number(t),
+           (unsigned)engine_taken_in_hand(t));
     printf("the last entry once more: %s\n", match_word(match_deliver(m, entry - 1, TURN, 2, committed, &commits)));
 }
 
-/* Frames until nothing is left to do, and how many entries the board is of: a winner that is read here is the same on
- * every phone. */
-static void settle(struct match *m)
+/* The board after all entries so far: a winner that is read from it is the same on every phone. */
+static void settle(struct match *m, uint32_t player)
 {
     unsigned commits = 0;
-    int idle;
+    struct shown board;
+    uint32_t i;
 
-    do
-        stop_if(match_frame(m, 1000 * BUDGET, count_commit, &commits, &idle), "frame");
-    while (!idle);
-    printf("    %u commits later: the board after %u entries\n", commits, (unsigned)entry);
+    stop_if(match_board_after(m, entry, player, &board, count_commit, &commits), "the board");
+    printf("    %u commits later, the board after %u entries: player %u sees", commits, (unsigned)entry,
+           (unsigned)player);
+    for (i = 0; i < board.count; i++)
+        if (!board.hidden[i])
+            printf(" b%u = %d", (unsigned)i, (int)board.values[i]);
+    putchar('\n');
+}
+
+/* A change to another sheet after all entries so far. */
+static void mend(struct match *m, const struct sheet *sheet, const char *what)
+{
+    unsigned commits = 0;
+
+    stop_if(match_mend(m, entry, sheet, DAY_PARAMS, committed, &commits), what);
+    printf("%s, after %u entries\n", what, (unsigned)entry);
 }
 
 /* Each player's screen: what it may not see is left out. */
@@ -166,14 +180,17 @@ static void judge(const struct sheet *s)
         printf("no behaviour that player 2 sees depends on one that is hidden from it\n");
 }
 
-/* Before a round: the other phone's table, of the sheet and parameters that it has, is the same program. An app sends a
- * sum of the bytes. */
-static void compare(const struct match *m, const struct sheet *other)
+/* Before a round: the other phone opens the match with the sheet that it has got, and sends its greeting; ours
+ * compares. Here both are in one program; an app sends the bytes. */
+static void compare(const struct match *m, const struct sheet *got)
 {
-    static uint8_t table[ENGINE_TABLE];
+    static uint8_t sent[MATCH_GREETING];
+    static struct match other;
 
-    if (engine_compile(other->bytes, other->len, DAY_PARAMS, sizeof DAY_PARAMS, table, sizeof table) == 0)
-        printf("both phones have the same program: %s\n", engine_same_table(m->table, table) ? "yes" : "no");
+    stop_if(match_open(&other, got, DAY_PARAMS), "the other phone");
+    match_greet(&other, sent);
+    match_close(&other);
+    printf("the other phone's greeting: %s\n", match_word(match_meets(m, sent)));
 }
 
 /* Saved while an event runs, closed, and gone on with. */
@@ -212,6 +229,8 @@ int main(int argc, char **argv)
     stop_if(match_open(&m, &day, DAY_PARAMS), "the day's puzzle");
     describe(&m);
     compare(&m, &day);
+    sheet_read(&bonus, sheets, "turns");
+    compare(&m, &bonus);
     judge(&day);
     send(&m, TURN, 2);
     send(&m, BONUS, 2);
@@ -225,11 +244,8 @@ int main(int argc, char **argv)
     sheet_read(&bonus, sheets, "squares");
     joined(&both, &day, &bonus);
     send(&m, TURN, 1);
-    stop_if(match_mend(&m, &both, DAY_PARAMS), "joining the league");
-    printf("the league's bonus joins in\n");
+    mend(&m, &both, "the league's bonus joins in");
     send(&m, BONUS, 1);
-    sheet_read(&bonus, sheets, "turns");
-    printf("a sheet without the event in hand: %s\n", match_word(match_mend(&m, &bonus, DAY_PARAMS)));
     save_and_load(&m, save);
     send(&m, BONUS, 1);
     play_out(&m);
@@ -237,13 +253,12 @@ int main(int argc, char **argv)
 
     sheet_read(&bonus, sheets, "doubles");
     joined(&both, &day, &bonus);
-    stop_if(match_mend(&m, &both, DAY_PARAMS), "mending the bonus");
-    printf("the bonus is mended\n");
+    mend(&m, &both, "the bonus is mended");
     send(&m, BONUS, 1);
     play_out(&m);
     show(&m, 2);
     crowd(&m, 67);
-    settle(&m);
+    settle(&m, 1);
     show(&m, 2);
     settle_dispute(&m);
     stop_if(match_export(&m, "final, table 3", rounds), "export");

@@ -4,18 +4,20 @@
 #include <stdlib.h>
 #include <string.h>
 
-#define COMMITS 64u  /* told of in one frame call; further ones come with the next */
-#define ASKED 17u    /* bytes of the longest call in the record, but for a frame's commits */
-#define SHEETS 65535 /* of a match, at most: files count them in two bytes */
+#define COMMITS 64u    /* told of in one frame call; further ones come with the next */
+#define TO_IDLE 300000u /* steps: more than the (64 + 1) x (4,096 + 1) that a hand takes at most */
+#define ASKED 17u      /* bytes of the longest call in the record, but for a frame's commits */
+#define SHEETS 65535   /* of a match, at most: files count them in two bytes */
 
 const char *match_word(uint32_t number)
 {
     switch (number) {
     case MATCH_NO_MEMORY: return "no memory";
     case MATCH_FILE: return "the file is not read or written";
-    case MATCH_OTHER_VERSION: return "saved by another version";
+    case MATCH_OTHER_VERSION: return "of another version";
     case MATCH_DIFFERS: return "the record comes to something else";
     case MATCH_SHEETS: return "no further sheet";
+    case MATCH_OTHER_PROGRAM: return "another program";
     default: return engine_refusal_word(number);
     }
 }
@@ -177,6 +179,24 @@ void match_close(struct match *m)
     empty(m);
 }
 
+void match_greet(const struct match *m, uint8_t greeting[MATCH_GREETING])
+{
+    uint32_t version = engine_version(), k;
+
+    for (k = 0; k < 4; k++)
+        greeting[k] = (uint8_t)(version >> (24 - 8 * k));
+    memcpy(greeting + 4, m->table, ENGINE_TABLE);
+}
+
+uint32_t match_meets(const struct match *m, const uint8_t greeting[MATCH_GREETING])
+{
+    struct reader r = {greeting, MATCH_GREETING, 0};
+
+    if (get(&r, 4) != engine_version())
+        return MATCH_OTHER_VERSION;
+    return engine_same_table(m->table, r.at) ? 0 : (uint32_t)MATCH_OTHER_PROGRAM;
+}
+
 /* A delivery is recorded as what it is: a frame of the steps that made room, and the arrival. One that is refused did
  * nothing and is not recorded. */
 uint32_t match_deliver(struct match *m, uint32_t number, uint32_t event, uint32_t player,
@@ -234,6 +254,42 @@ uint32_t match_frame(struct match *m, uint32_t steps, void (*commit)(void *app, 
     return engine_frame_end(f) == ENGINE_FRAME_REFUSED ? (uint32_t)ENGINE_FOREIGN : 0;
 }
 
+/* ---- at a place of the order */
+
+/* Exactly so many entries are taken in, and the round is run to idle. A hand commits at most COMMITS times, so that two
+ * frames do: there is room for both in the record, and for one call after them, before the first is made. */
+static uint32_t settle(struct match *m, uint32_t number, void (*commit)(void *app, uint64_t answer), void *app)
+{
+    uint64_t taken = engine_taken(m->table, sizeof m->table, m->round, sizeof m->round);
+    uint32_t refusal = 0;
+    int idle = 0;
+
+    if (engine_taken_refused(taken))
+        return engine_taken_refusal(taken);
+    if (engine_taken_number(taken) != number)
+        return engine_taken_number(taken) < number ? (uint32_t)ENGINE_MISSING_ENTRIES : (uint32_t)ENGINE_TAKEN_BEFORE;
+    if (!reserve(&m->asked, 3 * ASKED + 3 * COMMITS * ENGINE_ANSWER))
+        return MATCH_NO_MEMORY;
+    while (refusal == 0 && !idle)
+        refusal = match_frame(m, TO_IDLE, commit, app, &idle);
+    return refusal;
+}
+
+uint32_t match_board_after(struct match *m, uint32_t number, uint32_t player, struct shown *board,
+                           void (*commit)(void *app, uint64_t answer), void *app)
+{
+    uint32_t refusal = settle(m, number, commit, app), i;
+
+    board->count = engine_count_value(engine_behaviour_count(m->table, sizeof m->table));
+    for (i = 0; i < board->count && refusal == 0; i++) {
+        refusal = match_read(m, i, player, board->values + i);
+        board->hidden[i] = refusal == ENGINE_NO_RIGHT;
+        if (board->hidden[i])
+            refusal = 0;
+    }
+    return refusal;
+}
+
 /* The round goes on under another of the match's sheets, if the engine lets it. */
 static uint32_t change(struct match *m, const uint8_t *table, size_t which)
 {
@@ -250,7 +306,8 @@ static uint32_t change(struct match *m, const uint8_t *table, size_t which)
     return 0;
 }
 
-uint32_t match_mend(struct match *m, const struct sheet *sheet, const uint8_t params[ENGINE_PARAMS])
+uint32_t match_mend(struct match *m, uint32_t number, const struct sheet *sheet, const uint8_t params[ENGINE_PARAMS],
+                    void (*commit)(void *app, uint64_t answer), void *app)
 {
     uint8_t *table = (uint8_t *)malloc(ENGINE_TABLE);
     uint32_t refusal = table ? compiled(sheet, params, table) : (uint32_t)MATCH_NO_MEMORY;
@@ -258,6 +315,8 @@ uint32_t match_mend(struct match *m, const struct sheet *sheet, const uint8_t pa
 
     if (refusal == 0)
         refusal = find_sheet(m, sheet, params, &which);
+    if (refusal == 0)
+        refusal = settle(m, number, commit, app);
     if (refusal == 0)
         refusal = change(m, table, which);
     free(table);

@@ -3,13 +3,15 @@ import java.nio.charset.StandardCharsets;
 import java.nio.file.Files;
 import java.nio.file.Path;
 import java.nio.file.Paths;
+import java.util.ArrayList;
+import java.util.List;
 import poqashem.Engine;
 
 /**
- * A match of two players, played in frames of a few steps: entries of an order, rights, a look ahead, a bonus sheet
- * that joins in mid-round, a save and a load, a mended sheet, a crowd of entries at once, and an audit. Prints what
- * happens: Main SAVE ROUNDS SHEETS. The numbers of the sheet are in Day, as `setter names day.sheet --as java` writes
- * them.
+ * A match of two players, played in frames of a few steps: the other phone's table, entries of an order, rights, a look
+ * ahead, a bonus sheet that joins in mid-round, a save and a load, a mended sheet, a crowd of entries at once, a board
+ * at a place of the order, and an audit. Prints what happens: Main SAVE ROUNDS SHEETS. The numbers of the sheet are in
+ * Day, as `setter names day.sheet --as java` writes them.
  */
 public final class Main {
     private static final int BUDGET = 10; // steps of a frame
@@ -93,16 +95,22 @@ public final class Main {
         System.out.println("player " + player + (got.refusal == 0 ? move : " may not" + move));
     }
 
-    // Before a sheet is played: its program, which the other phone must have too, whether the phones will agree, and
-    // whether what player 2 sees depends on what it may not see.
-    private static void judge(byte[] day) {
-        Engine.Table table = Engine.Table.compile(day, Day.params());
+    // Before a round: the other phone opens the match with the sheet that it has got, and sends its greeting; ours
+    // compares.
+    private void compare(byte[] got) {
+        System.out.println("the other phone's greeting: " + match.meets(new Match(got, Day.params()).greeting()));
+    }
+
+    // Before a sheet is played: whether the other phone, which has got this sheet or another, has the same program,
+    // whether the phones will agree, and whether what player 2 sees depends on what it may not see.
+    private void judge(byte[] day, byte[] other) {
+        Engine.Table table = match.round.table();
         System.out.print("interface " + (Engine.version() >>> 16) + ", layout " + (Engine.version() & 0xFFFF) + "; "
                 + table.events() + " events of rank");
         for (int event = 0; event < table.events(); event++) System.out.print(" " + table.rank(event));
         System.out.println();
-        boolean same = table.same(Engine.Table.compile(day, Day.params()));
-        System.out.println("both phones have the same program: " + (same ? "yes" : "no"));
+        compare(day);
+        compare(other);
         Engine.Found agree = Engine.agree(day, Day.params());
         if (agree.number == DEPENDENT) {
             System.out.println("phones may disagree: events " + agree.first + " and " + agree.second
@@ -131,15 +139,22 @@ public final class Main {
         entry++;
     }
 
-    // The board after a number of entries: a winner that is read here is the same on every phone.
-    private void settle() {
-        int commits = 0;
-        Engine.Frame frame;
-        do {
-            frame = match.frame(1000 * BUDGET);
-            commits += frame.commits.length;
-        } while (frame.end != Engine.FRAME_IDLE);
-        System.out.println("    " + commits + " commits later: the board after " + entry + " entries");
+    // The board after all entries so far: a winner that is read from it is the same on every phone.
+    private void settle(int player) {
+        List<Engine.Step> commits = new ArrayList<>();
+        List<Match.Got> board = match.boardAfter(entry, player, commits);
+        System.out.print("    " + commits.size() + " commits later, the board after " + entry + " entries: player "
+                + player + " sees");
+        for (int b = 0; b < board.size(); b++) {
+            if (board.get(b).refusal == 0) System.out.print(" b" + b + " = " + board.get(b).value);
+        }
+        System.out.println();
+    }
+
+    // A change to another sheet after all entries so far.
+    private void mend(byte[] sheet, String what) {
+        for (Engine.Step step : match.mendAfter(entry, sheet, Day.params())) committed(step);
+        System.out.println(what + ", after " + entry + " entries");
     }
 
     // The record is played again; then one answer in it is changed, as a cheat would.
@@ -152,8 +167,8 @@ public final class Main {
     }
 
     private void play(Path save, Path rounds) throws IOException {
-        judge(sheet("day"));
         match = new Match(sheet("day"), Day.params());
+        judge(sheet("day"), sheet("turns"));
         send(TURN, 2);
         send(BONUS, 2);
         send(BONUS, 1);
@@ -164,22 +179,19 @@ public final class Main {
         hover(TURN, Day.BEHAVIOUR_secret, 2);
 
         send(TURN, 1);
-        if (match.mend(withLeague("squares"), Day.params()).refusal == 0) {
-            System.out.println("the league's bonus joins in");
-        }
+        mend(withLeague("squares"), "the league's bonus joins in");
         send(BONUS, 1);
-        System.out.println("a sheet without the event in hand: " + match.mend(sheet("turns"), Day.params()).word());
         saveAndLoad(save);
         send(BONUS, 1);
         playOut();
         show();
 
-        if (match.mend(withLeague("doubles"), Day.params()).refusal == 0) System.out.println("the bonus is mended");
+        mend(withLeague("doubles"), "the bonus is mended");
         send(BONUS, 1);
         playOut();
         show();
         crowd(67);
-        settle();
+        settle(1);
         show();
         settleDispute();
         Files.write(rounds, match.exported("final, table 3"));

@@ -3,6 +3,7 @@ import java.io.ByteArrayOutputStream;
 import java.io.DataInputStream;
 import java.io.DataOutputStream;
 import java.io.IOException;
+import java.nio.ByteBuffer;
 import java.nio.charset.StandardCharsets;
 import java.util.ArrayList;
 import java.util.Arrays;
@@ -21,6 +22,8 @@ final class Match {
     private static final int MEND = 5;
     private static final int FRAME = 6;
     private static final int ROOM = 64;
+    // steps: more than the (64 + 1) x (4,096 + 1) that a hand takes at most
+    private static final int TO_IDLE = 300000;
 
     /** A call that may be refused: its value, or the refusal's number. */
     static final class Got {
@@ -130,6 +133,45 @@ final class Match {
         Got got = ask(() -> round.board(behaviour, player));
         record.add(new Call(BOARD, behaviour, player, got.worth()));
         return got;
+    }
+
+    /** What this phone sends before a round: its engine's version and its table. */
+    byte[] greeting() {
+        ByteBuffer greeting = ByteBuffer.allocate(4 + Engine.TABLE);
+        return greeting.putInt(Engine.version()).put(round.table().bytes(), 0, Engine.TABLE).array();
+    }
+
+    /** Whether the greeting that came from another phone is of the same program. */
+    String meets(byte[] received) {
+        if (ByteBuffer.wrap(received).getInt() != Engine.version()) return "of another version";
+        return Arrays.equals(received, greeting()) ? "accepted" : "another program";
+    }
+
+    /** The place of the order at which exactly `number` entries are taken in, the round run to idle: the commits. */
+    private List<Engine.Step> settle(int number) {
+        if (round.taken() != number) throw new IllegalStateException(round.taken() + " entries are taken in");
+        List<Engine.Step> commits = new ArrayList<>();
+        Engine.Frame frame;
+        do {
+            frame = frame(TO_IDLE);
+            commits.addAll(Arrays.asList(frame.commits));
+        } while (frame.end != Engine.FRAME_IDLE);
+        return commits;
+    }
+
+    /** The board there, as the player sees it; the commits on the way are added to those given. */
+    List<Got> boardAfter(int number, int player, List<Engine.Step> commits) {
+        commits.addAll(settle(number));
+        List<Got> board = new ArrayList<>();
+        for (int b = 0; b < round.table().behaviours(); b++) board.add(board(b, player));
+        return board;
+    }
+
+    /** The change to another sheet there: the commits on the way. */
+    List<Engine.Step> mendAfter(int number, byte[] sheet, byte[] params) {
+        List<Engine.Step> commits = settle(number);
+        if (mend(sheet, params).refusal != 0) throw new IllegalStateException("an idle round is not carried over");
+        return commits;
     }
 
     /** The round goes on under another sheet; a sheet that is tried again is kept once. */

@@ -1,10 +1,10 @@
-// A match of two players, played in frames of a few steps: entries of an order, rights, a look ahead, a bonus sheet
-// that joins in mid-round, a save and a load, a mended sheet, a crowd of entries at once, and an audit. Prints what
-// happens: main.mjs SAVE ROUNDS SHEETS.
+// A match of two players, played in frames of a few steps: the other phone's table, entries of an order, rights, a look
+// ahead, a bonus sheet that joins in mid-round, a save and a load, a mended sheet, a crowd of entries at once, a board at
+// a place of the order, and an audit. Prints what happens: main.mjs SAVE ROUNDS SHEETS.
 import { readFileSync, writeFileSync } from "node:fs";
 import { join } from "node:path";
 import { fileURLToPath } from "node:url";
-import { load, refusalWord, sameTable, Refusal } from "poqashem-engine";
+import { load, refusalWord, Refusal } from "poqashem-engine";
 import * as day from "./day.mjs"; // setter names day.sheet --as typescript
 import { Match } from "./match.mjs";
 
@@ -74,15 +74,21 @@ function hover(match, event, behaviour, player) {
     else print(`player ${player} may not try event ${event} on b${behaviour}: ${refused}`);
 }
 
-// Before a sheet is played: its program, which the other phone must have too, whether the phones will agree, and
-// whether what player 2 sees depends on what it may not see.
-function judge(bytes) {
-    const [table, other] = [engine.compile(bytes, PARAMS), engine.compile(bytes, PARAMS)];
+// Before a round: the other phone opens the match with the sheet that it has got, and sends its greeting; ours compares.
+function compare(match, got) {
+    print(`the other phone's greeting: ${match.meets(new Match(engine, got, PARAMS).greeting())}`);
+}
+
+// Before a sheet is played: whether the other phone, which has got this sheet or another, has the same program, whether
+// the phones will agree, and whether what player 2 sees depends on what it may not see.
+function judge(match, bytes, other) {
+    const table = match.table();
     const events = engine.eventCount(table);
     const ranks = Array.from({ length: events }, (_, event) => engine.eventRank(table, event));
     const version = engine.version();
     print(`interface ${version.interface}, layout ${version.layout}; ${events} events of rank ${ranks.join(" ")}`);
-    print(`both phones have the same program: ${sameTable(table, other) ? "yes" : "no"}`);
+    compare(match, bytes);
+    compare(match, other);
     const { number, events: both, behaviour } = engine.agree(bytes, PARAMS);
     if (number === 29) {
         print(`phones may disagree: events ${both.join(" and ")} differ in rank and share b${behaviour}`);
@@ -110,25 +116,24 @@ function crowd(match, count) {
     print(`the last entry once more: ${word(() => match.deliver(entry - 1, TURN, 2))}`);
 }
 
-// The board after a number of entries: a winner that is read here is the same on every phone.
-function settle(match) {
-    let [count, idle] = [0, false];
-    while (!idle) {
-        const did = match.frame(1000 * BUDGET);
-        [count, idle] = [count + did.commits.length, did.idle];
-    }
-    print(`    ${count} commits later: the board after ${entry} entries`);
+// The board after all entries so far: a winner that is read from it is the same on every phone.
+function settle(match, player) {
+    const { board, commits } = match.boardAfter(entry, player);
+    const shown = board.map((value, b) => (value === null ? "" : ` b${b} = ${value}`)).join("");
+    print(`    ${commits.length} commits later, the board after ${entry} entries: player ${player} sees${shown}`);
+}
+
+// A change to another sheet after all entries so far.
+function mend(match, bytes, what) {
+    match.mendAfter(entry, bytes, PARAMS).forEach(committed);
+    print(`${what}, after ${entry} entries`);
 }
 
 const puzzle = sheet("day");
 const withLeague = (name) => engine.join(puzzle, sheet(name), PARAMS);
-const mended = (match, bytes) => {
-    const refusal = match.mend(bytes, PARAMS);
-    return refusal === 0 ? "accepted" : refusalWord(refusal);
-};
 
-judge(puzzle);
 let match = new Match(engine, puzzle, PARAMS);
+judge(match, puzzle, sheet("turns"));
 send(match, TURN, 2);
 send(match, BONUS, 2);
 send(match, BONUS, 1);
@@ -139,20 +144,19 @@ hover(match, TURN, day.BEHAVIOUR_score, 2);
 hover(match, TURN, day.BEHAVIOUR_secret, 2);
 
 send(match, TURN, 1);
-if (mended(match, withLeague("squares")) === "accepted") print("the league's bonus joins in");
+mend(match, withLeague("squares"), "the league's bonus joins in");
 send(match, BONUS, 1);
-print(`a sheet without the event in hand: ${mended(match, sheet("turns"))}`);
 match = saveAndLoad(match);
 send(match, BONUS, 1);
 playOut(match);
 show(match);
 
-if (mended(match, withLeague("doubles")) === "accepted") print("the bonus is mended");
+mend(match, withLeague("doubles"), "the bonus is mended");
 send(match, BONUS, 1);
 playOut(match);
 show(match);
 crowd(match, 67);
-settle(match);
+settle(match, 1);
 show(match);
 
 // The record is played again; then one answer in it is changed, as a cheat would.

@@ -1,8 +1,9 @@
 // A match: a round of the engine with all that an app keeps beside it. It is played in frames, saved, gone on with, and
 // audited: what was asked of the engine is asked again, from the sheets on, and must come to the same.
-import { FRAME_IDLE, FRAME_REFUSED, Refusal } from "poqashem-engine";
+import { FRAME_IDLE, FRAME_REFUSED, NotThere, Refusal, sameTable } from "poqashem-engine";
 
 const ROOM = 64; // commits told of in one frame; there are never more in hand
+const TO_IDLE = 300000; // steps: more than the (64 + 1) x (4,096 + 1) that a hand takes at most
 // Kinds of a recorded call, as the league's format has them.
 const [ARRIVE, BOARD, MEND, FRAME] = [0, 2, 5, 6];
 
@@ -63,6 +64,45 @@ export class Match {
         this.#kept(FRAME, steps, ROOM, frameAnswer(did), did.commits);
         if (did.end === FRAME_REFUSED) throw new Error("not a round of this table");
         return { commits: did.commits, idle: did.end === FRAME_IDLE };
+    }
+
+    // What this phone sends before a round, and whether what came from another phone is of the same program.
+    greeting() {
+        return { version: JSON.stringify(this.#engine.version()), table: this.table() };
+    }
+
+    meets({ version, table }) {
+        const own = this.greeting();
+        if (version !== own.version) return "of another version";
+        return sameTable(table, own.table) ? "accepted" : "another program";
+    }
+
+    // The place of the order at which exactly `number` entries are taken in, the round run to idle: the commits.
+    #settle(number) {
+        const taken = this.#round.taken().number;
+        if (taken !== number) throw new NotThere("settle", number, taken);
+        const all = [];
+        for (;;) {
+            const { commits, idle } = this.frame(TO_IDLE);
+            all.push(...commits);
+            if (idle) return all;
+        }
+    }
+
+    // The board there, null for what the player may not see, and the commits on the way.
+    boardAfter(number, player) {
+        const commits = this.#settle(number);
+        const length = this.#engine.behaviourCount(this.table());
+        const seen = Array.from({ length }, (_, b) => this.board(b, player));
+        return { commits, board: seen.map(({ value, refusal }) => (refusal ? null : value)) };
+    }
+
+    // The change to another sheet there: the commits on the way.
+    mendAfter(number, sheet, params) {
+        const commits = this.#settle(number);
+        const refusal = this.mend(sheet, params);
+        if (refusal) throw new Refusal("mend", refusal);
+        return commits;
     }
 
     // A behaviour's value, or its refusal.

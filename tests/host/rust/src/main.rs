@@ -1,10 +1,11 @@
-//! A match of two players, played in frames of a few steps: entries of an order, rights, a look ahead, a bonus sheet
-//! that joins in mid-round, a save and a load, a mended sheet, a crowd of entries at once, and an audit. Prints what
-//! happens: match SAVE ROUNDS SHEETS. A Recorder keeps what the round is asked, and its record is what is saved.
+//! A match of two players, played in frames of a few steps: the other phone's table, entries of an order, rights, a look
+//! ahead, a bonus sheet that joins in mid-round, a save and a load, a mended sheet, a crowd of entries at once, a board
+//! at a place of the order, and an audit. Prints what happens: match SAVE ROUNDS SHEETS. A Recorder keeps what the round
+//! is asked, and its record is what is saved.
 mod day; // setter names day.sheet --as rust
 
 use poqashem::record::{audit, Record, Recorder, Verdict, Writer};
-use poqashem::{version, Behaviour, Ended, Event, Params, Player, Refusal, Sheet, Step};
+use poqashem::{version, Behaviour, Ended, Event, Params, Player, Refusal, Sheet, Step, Table, Version};
 use std::error::Error;
 use std::path::Path;
 
@@ -130,10 +131,24 @@ impl Match {
         Ok(())
     }
 
-    /// The board after a number of entries: a winner that is read here is the same on every phone.
-    fn settle(&mut self) -> Done {
-        let commits = self.round.run_to_idle()?.len();
-        println!("    {commits} commits later: the board after {} entries", self.entry);
+    /// The board after all entries so far: a winner that is read from it is the same on every phone.
+    fn settle(&mut self, player: Player) -> Done {
+        let (board, commits) = self.round.board_after(self.entry, player)?;
+        let (count, p) = (commits.len(), player.0);
+        print!("    {count} commits later, the board after {} entries: player {p} sees", self.entry);
+        for (b, value) in board.iter().enumerate() {
+            if let Some(value) = value {
+                print!(" b{b} = {value}");
+            }
+        }
+        println!();
+        Ok(())
+    }
+
+    /// A change to another sheet after all entries so far.
+    fn mend(&mut self, sheet: Sheet, what: &str) -> Done {
+        self.round.mend_after(self.entry, sheet, Some(params()))?.iter().for_each(Match::committed);
+        println!("{what}, after {} entries", self.entry);
         Ok(())
     }
 }
@@ -142,16 +157,40 @@ fn word(done: Result<(), Refusal>) -> &'static str {
     done.map_or_else(|refusal| refusal.word(), |()| "accepted")
 }
 
-/// Before a sheet is played: its program, which the other phone must have too, whether the phones will agree, and
-/// whether what player 2 sees depends on what it may not see.
-fn judge(day: &Sheet) -> Done {
-    let (table, other) = (day.compile(Some(&params()))?, day.compile(Some(&params()))?);
+/// What a phone sends before a round: its engine's version and its table.
+struct Greeting {
+    version: Version,
+    table: Table,
+}
+
+impl Greeting {
+    fn new(sheet: &Sheet) -> Done<Greeting> {
+        Ok(Greeting { version: version(), table: sheet.compile(Some(&params()))? })
+    }
+
+    /// Whether the greeting that came from another phone is of the same program.
+    fn meets(&self, received: &Greeting) -> &'static str {
+        match (self.version == received.version, self.table == received.table) {
+            (false, _) => "of another version",
+            (true, false) => "another program",
+            (true, true) => "accepted",
+        }
+    }
+}
+
+/// Before a sheet is played: whether the other phone, which has got this sheet or another, has the same program,
+/// whether the phones will agree, and whether what player 2 sees depends on what it may not see.
+fn judge(day: &Sheet, other: &Sheet) -> Done {
+    let own = Greeting::new(day)?;
+    let table = &own.table;
     print!("interface {}, layout {}; {} events of rank", version().interface, version().layout, table.events()?);
     for event in 0..table.events()? {
         print!(" {}", table.rank(Event(event))?);
     }
     println!();
-    println!("both phones have the same program: {}", if table == other { "yes" } else { "no" });
+    for got in [day, other] {
+        println!("the other phone's greeting: {}", own.meets(&Greeting::new(got)?));
+    }
     if let Some(clash) = day.agree(Some(&params()))? {
         let (first, second, b) = (clash.first.0, clash.second.0, clash.behaviour.0);
         println!("phones may disagree: events {first} and {second} differ in rank and share b{b}");
@@ -181,7 +220,7 @@ fn main() -> Done {
     let day = sheet(sheets, "day")?;
     let with = |name| -> Done<Sheet> { Ok(day.join(&sheet(sheets, name)?, Some(&params()))?) };
 
-    judge(&day)?;
+    judge(&day, &sheet(sheets, "turns")?)?;
     let mut m = Match { round: Recorder::start("final, table 3", day.clone(), Some(params()))?, entry: 0 };
     m.send(TURN, Player(2));
     m.send(BONUS, Player(2));
@@ -193,23 +232,19 @@ fn main() -> Done {
     m.hover(TURN, SECRET, Player(2));
 
     m.send(TURN, Player(1));
-    m.round.mend(with("squares")?, Some(params()))?;
-    println!("the league's bonus joins in");
+    m.mend(with("squares")?, "the league's bonus joins in")?;
     m.send(BONUS, Player(1));
-    let strange = m.round.mend(sheet(sheets, "turns")?, Some(params()));
-    println!("a sheet without the event in hand: {}", word(strange));
     m = m.save_and_load(save)?;
     m.send(BONUS, Player(1));
     m.play_out()?;
     m.show()?;
 
-    m.round.mend(with("doubles")?, Some(params()))?;
-    println!("the bonus is mended");
+    m.mend(with("doubles")?, "the bonus is mended")?;
     m.send(BONUS, Player(1));
     m.play_out()?;
     m.show()?;
     m.crowd(67)?;
-    m.settle()?;
+    m.settle(Player(1))?;
     m.show()?;
     let record = m.round.finish();
     settle_dispute(&record)?;
