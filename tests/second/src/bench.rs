@@ -543,6 +543,10 @@ fn agree_for<'a>(s: &'a [u8]) -> Runner<'a> {
     repeat(move || proved::agree_for(s, &[0; 32], 0))
 }
 
+fn pair<'a>(s: &'a [u8]) -> Runner<'a> {
+    repeat(move || proved::pair(s, &[0; 32], 0, 1))
+}
+
 fn leak<'a>(s: &'a [u8]) -> Runner<'a> {
     repeat(move || proved::leak(s, &[0; 32], 1))
 }
@@ -625,6 +629,13 @@ fn sheet_rows(bench: &Bench) {
             _ => sheet.clash_for(0).map_or(0, packed),
         });
         bench.row("agree_for", &of_bytes(&input, &s), 1, [Some(agree_for(&s)), Some(plain), None]);
+    }
+    for (input, s) in [typical(), find(pair)].concat() {
+        let plain = plain_sheet(&s, |sheet| match sheet.ranks.len() {
+            0 | 1 => 15,
+            _ => sheet.pair(0, 1).map_or(0, |(b, flags)| (1 << 32) + b as u64 + 256 * flags as u64),
+        });
+        bench.row("pair", &of_bytes(&input, &s), 1, [Some(pair(&s)), Some(plain), None]);
     }
     for (input, s) in [typical(), find(leak)].concat() {
         let packed = |c: (usize, usize)| 30 + ((c.0 as u64) << 8) + ((c.1 as u64) << 16);
