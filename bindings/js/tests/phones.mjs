@@ -50,6 +50,30 @@ function play(lib, engine, file, pace, drops) {
     return JSON.stringify(ended) === JSON.stringify(board);
 }
 
+// The race of docs/HOST.md, 90 points each, 10 for a hit, 100 wins: the winner that a phone finds when it is first idle,
+// and the one that it finds after two entries.
+function race(lib, engine, fast) {
+    const text = "event h1 rank 1 event h2 rank 1 active s1 = 90 on h1: s1 + 10 active s2 = 90 on h2: s2 + 10";
+    const round = engine.open(engine.compile(engine.assemble(text)));
+    const winner = (number) => round.boardAfter(number, lib.HOST).board.findIndex((score) => score >= 100);
+    round.deliver(0, 1, 1);
+    const early = fast ? winner(1) : -1;
+    round.deliver(1, 0, 1);
+    const placed = winner(2);
+    assert.throws(() => round.boardAfter(1, lib.HOST), lib.NotThere);
+    assert.throws(() => round.boardAfter(3, lib.HOST), lib.NotThere);
+    round.free();
+    return { found: early < 0 ? placed : early, placed };
+}
+
+async function raced(folder) {
+    const lib = await import(pathToFileURL(resolve(folder, "engine.mjs")));
+    const engine = await lib.load(readFileSync(resolve(folder, "engine.wasm")));
+    const [fast, slow] = [true, false].map((pace) => race(lib, engine, pace));
+    assert.deepEqual([fast.found, slow.found], [1, 0], "read whenever a phone is idle");
+    assert.deepEqual([fast.placed, slow.placed], [0, 0], "read after two entries");
+}
+
 async function phone({ folder, files, pace }) {
     const lib = await import(pathToFileURL(resolve(folder, "engine.mjs")));
     const engine = await lib.load(readFileSync(resolve(folder, "engine.wasm")));
@@ -71,5 +95,7 @@ async function both(folder, files) {
     console.log(`a host that drops refusals is noticed in ${noticed}`);
 }
 
-if (isMainThread) await both(process.argv[2], process.argv.slice(3));
-else await phone(workerData);
+if (isMainThread) {
+    await raced(process.argv[2]);
+    await both(process.argv[2], process.argv.slice(3));
+} else await phone(workerData);
