@@ -1,7 +1,8 @@
 //! Matches as two phones play them: one order of a thousand events in bursts of over 64, with changes of sheets
-//! between, on two threads that make a different number of steps a frame. Their boards must be equal, and a host that
-//! hands events in by `arrive` and drops refusals must be noticed. The matches are written to a folder, with the board
-//! that each ends with, for the hosts in C and JavaScript.
+//! between, on two threads that make a different number of steps a frame. Their boards must be equal, the record of a
+//! match must be audited, and a host that hands events in by `arrive` and drops refusals must be noticed. The matches
+//! are written to a folder, with the board that each ends with, for the hosts in C and JavaScript.
+use poqashem::record::{audit, Recorder, Verdict};
 use poqashem::{Event, NotThere, Params, Player, Refusal, Round, Sheet, Table};
 
 use crate::engine;
@@ -52,6 +53,30 @@ impl Match {
             }
         }
         round.board_after(number, Player::HOST).expect("the board at the end").0
+    }
+
+    /// The same by a phone that records what it does: its board, and what an audit of the record finds.
+    fn recorded(&self, pace: u32) -> (Vec<Option<i32>>, Verdict) {
+        let sheet = |k: usize| (Sheet::new(self.sheets[k].0.clone()), Some(Params::from_bytes(self.sheets[k].1)));
+        let (first, params) = sheet(0);
+        let mut round = Recorder::start("phone", first, params).expect("an accepted sheet");
+        let mut number = 0;
+        for (k, turn) in self.turns.iter().enumerate() {
+            match *turn {
+                Turn::Entry(event, player) => {
+                    number += round.deliver(number, Event(event), Player(player)).is_ok() as u32
+                }
+                Turn::Change(to) => {
+                    let (next, params) = sheet(to);
+                    drop(round.mend_after(number, next, params).expect("a change at its place"));
+                }
+            }
+            if pace == FAST || k % BURST == 0 {
+                round.frame(pace, pace);
+            }
+        }
+        let (board, _) = round.board_after(number, Player::HOST).expect("the board at the end");
+        (board, audit(&round.finish()))
     }
 
     /// The same by a host that does not deliver: `arrive`, and refusals are dropped.
@@ -180,6 +205,8 @@ pub fn run(folder: &str, count: usize) {
         let Some(this) = found else { continue };
         let [fast, slow] = both(|pace| this.played(pace));
         assert!(fast == slow, "match {made}: the boards are {fast:?} and {slow:?}");
+        let (board, verdict) = this.recorded(SLOW);
+        assert!(board == fast && matches!(verdict, Verdict::Agrees { .. }), "match {made}, recorded: {verdict:?}");
         let [a, b] = both(|pace| this.dropped(pace));
         noticed += (a != b) as usize;
         assert!(made > 0 || a != b, "a host that drops refusals is not noticed on the daily example");
@@ -187,7 +214,7 @@ pub fn run(folder: &str, count: usize) {
         made += 1;
     }
     println!(
-        "{made} matches of {ENTRIES} turns on two threads: equal boards; a host that drops refusals: unequal on \
-         {noticed}"
+        "{made} matches of {ENTRIES} turns on two threads: equal boards, audited; a host that drops refusals: unequal \
+         on {noticed}"
     );
 }
