@@ -29,12 +29,24 @@ export class Editor {
 
     // ---- typing
 
-    // Letters have no style here, and a line's end is a new line.
+    // Letters have no style here, a line's end is a new line, and at its ends there is nothing to delete.
     guard(event) {
-        if (event.inputType.startsWith("format")) event.preventDefault();
-        if (event.inputType !== "insertLineBreak") return;
-        event.preventDefault();
-        document.execCommand("insertParagraph");
+        const { inputType } = event;
+        const nothing = (inputType === "deleteContentForward" && this.atEnd()) ||
+            (inputType === "deleteContentBackward" && this.atStart());
+        if (inputType.startsWith("format") || inputType === "insertLineBreak" || nothing) event.preventDefault();
+        if (inputType === "insertLineBreak") document.execCommand("insertParagraph");
+    }
+
+    atStart() {
+        const { line, column } = this.caret() ?? {};
+        return getSelection().isCollapsed && line === 1 && column === 0;
+    }
+
+    atEnd() {
+        const { line, column } = this.caret() ?? {};
+        const lines = this.lines();
+        return getSelection().isCollapsed && line === lines.length && column === lines.at(-1).length;
     }
 
     // What is pasted or dropped is taken as text.
@@ -87,6 +99,12 @@ export class Editor {
         const text = own.firstChild;
         const at = text.nodeType === Node.TEXT_NODE ? text : own;
         getSelection().collapse(at, Math.min(column, at === text ? text.length : 0));
+    }
+
+    /** Gives it the focus, the caret at its end. */
+    focus() {
+        this.root.focus();
+        this.place({ line: this.root.childNodes.length, column: Infinity });
     }
 
     // ---- what is shown of it

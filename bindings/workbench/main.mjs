@@ -8,7 +8,7 @@ import { packed, unpacked } from "./link.mjs";
 import { Phone } from "./phone.mjs";
 import { readScript } from "./script.mjs";
 import { isSheet, loadSheet } from "./sheet.mjs";
-import { namesKnown } from "./stage.mjs";
+import { answered, namesKnown } from "./stage.mjs";
 import { Story } from "./story.mjs";
 import { draw } from "./timeline.mjs";
 import { verdict } from "./verdict.mjs";
@@ -16,6 +16,10 @@ import { listed, long, player, refusal, spans, useData } from "./words.mjs";
 
 const BOARDS = 2000; // that the search for two phones that part looks at
 const TYPING = 60; // thousandths of a second without a key, before a text is judged
+const AGREE = "Two phones agree: this is proved for every two that take in the same moves in the same order.";
+const EACH = "Two phones agree on every behaviour, in a round without a change of sheets: what events of unequal rank "
+    + "have in common, they only add to it.";
+const APART = "Two phones may end apart: events of unequal rank share something.";
 const PLAYERS = [0, 1, 2, 3, 4, 5, 6, 7];
 
 class Bench {
@@ -59,6 +63,7 @@ class Bench {
         on("#own", "click", () => this.begin());
         on("#part", "click", () => this.part());
         on("#tick", "click", () => this.breakIn());
+        on("#fresh", "click", () => this.fresh());
         on("#look", "change", (event) => this.looked(Number(event.target.value)));
         on("#sender", "change", (event) => this.sends(Number(event.target.value)));
         for (const id of ["#look", "#sender"]) {
@@ -181,12 +186,11 @@ class Bench {
     // ---- what the engine states
 
     showVerdict({ sizes, agrees, pairs, equal, players }) {
-        one("#verdict").className = `verdict ${agrees ? "agrees" : "parts"}`;
-        one("#verdict-line").textContent = agrees
-            ? "Accepted. Two phones agree: this is proved for every two that take in the same moves in the same order."
-            : "Accepted. Two phones may end apart: events of unequal rank share something.";
-        one("#agreement").replaceChildren(...(agrees ? [] : this.pairList(pairs, equal)));
-        one("#part-actions").hidden = agrees;
+        const parts = equal.includes(false);
+        one("#verdict").className = `verdict ${parts ? "parts" : "agrees"}`;
+        one("#verdict-line").textContent = `Accepted. ${parts ? APART : agrees ? AGREE : EACH}`;
+        one("#agreement").replaceChildren(...(parts ? this.pairList(pairs.filter(({ meet }) => meet), equal) : []));
+        one("#part-actions").hidden = !parts;
         one("#part-told").textContent = "";
         one("#limits").replaceChildren(...sizes.map(({ what, has, most, longest }) => element("tr", {},
             element("th", { scope: "row" }, what),
@@ -254,6 +258,7 @@ class Bench {
         const first = sheet.events[ranks.indexOf(Math.max(...ranks))];
         select.value = sheet.events.includes(chosen) && select.dataset.sheet === this.name ? chosen : first ?? "";
         select.dataset.sheet = this.name;
+        this.showRights();
     }
 
     targets() {
@@ -289,6 +294,12 @@ class Bench {
         this.say(phones.map((phone, k) => `Phone ${phone.name}: ${phone.news(before[k])}`).join(". "));
     }
 
+    fresh() {
+        this.story.stop();
+        this.targets().forEach((phone) => phone.play([]));
+        this.say("Started over");
+    }
+
     preview(event) {
         this.hover = event;
         this.showPhones();
@@ -301,6 +312,20 @@ class Bench {
 
     sends(number) {
         this.sender = number;
+        this.showRights();
+    }
+
+    /** Which events the sheet does not let the sender send: they can be pressed, and are refused. */
+    showRights() {
+        const round = this.engine.open(this.sheet.compile());
+        this.sheet.events.forEach((_, event) => {
+            const { refused: number } = answered(() => round.arrive(event, this.sender));
+            const button = one("#events").children[event];
+            button.classList.toggle("no-right", number !== undefined);
+            if (number === undefined) button.removeAttribute("title");
+            else button.title = `${refusal(number)}: the sheet does not let ${player(this.sender)} send it`;
+        });
+        round.free();
     }
 
     // ---- what is shown
@@ -357,7 +382,7 @@ class Bench {
         const text = "# My sheet.\nevent hit  rank 2\nevent tick rank 9\n\nactive points = 0\n  on hit: points + 10\n\n"
             + "active clock = 60\n  on tick: clock - 1\n";
         this.useSheet("mine.sheet", text, [[], []]);
-        one("#editor").focus();
+        this.editor.focus();
     }
 
     /** The scripts of a sheet that go with it best, by name, among those that can be played on it. */
@@ -391,7 +416,8 @@ class Bench {
     async opened(list) {
         const read = await Promise.all(list.map(async (file) => [file.name, new Uint8Array(await file.arrayBuffer())]));
         one("#files").value = "";
-        const texts = read.map(([name, bytes]) => [name, this.textOf(name, bytes)])
+        const named = (name, bytes) => (isSheet(bytes) ? `${name.replace(/\.\w+$/, "")}.sheet` : name);
+        const texts = read.map(([name, bytes]) => [named(name, bytes), this.textOf(name, bytes)])
             .filter(([, text]) => text !== undefined);
         texts.forEach(([name, text]) => this.files.set(name, text));
         const scripts = texts.filter(([name]) => name.endsWith(".play")).map(([, text]) => text.trimEnd().split("\n"));
@@ -513,4 +539,7 @@ async function begin() {
     if (!(await bench.address())) await bench.story.tell("story.sheet");
 }
 
-begin();
+begin().catch((error) => {
+    one("#outcome").textContent = `This browser cannot run the workbench: ${error.message}`;
+    throw error;
+});

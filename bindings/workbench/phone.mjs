@@ -24,7 +24,6 @@ export class Phone {
         on(".frame", "click", () => this.does(`steps ${this.frame}`));
         on(".run", "click", () => this.does("run"));
         on(".back", "click", () => this.play(this.script.slice(0, -1)));
-        on(".fresh", "click", () => this.play([]));
         on(".budget", "change", (event) => this.budget(event.target.value));
         on(".script", "change", (event) => this.play(event.target.value.replace(/\n+$/, "").split("\n")));
         on(".store", "click", () => bench.store(this));
@@ -212,7 +211,7 @@ export class Phone {
     showTold() {
         const list = one(".told", this.root);
         const from = Math.max(0, this.entries.length - SHOWN);
-        const lines = this.entries.slice(from).map((entry) => element("li", { class: kindOf(entry) }, printed(entry)));
+        const lines = this.entries.slice(from).map((entry) => element("div", { class: kindOf(entry) }, printed(entry)));
         list.replaceChildren(...lines);
         list.scrollTop = list.scrollHeight;
     }

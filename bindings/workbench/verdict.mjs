@@ -44,14 +44,14 @@ function instructions(engine, sheet, table) {
     });
 }
 
-/** Every two events of unequal rank that are not independent: { events, ranks, behaviour }. */
+/** Every two events of unequal rank that are not independent: { events, ranks, behaviour, meet }. */
 export function pairs(engine, sheet, table) {
     const lent = sheet.lent();
     const ranks = numbers(sheet.events.length).map((event) => engine.eventRank(table, event));
     return numbers(ranks.length).flatMap((first) => numbers(ranks.length).flatMap((second) => {
         if (second <= first || ranks[first] === ranks[second]) return [];
-        const { behaviour } = engine.pair(sheet.sheet, lent, first, second);
-        const found = { events: [first, second], ranks: [ranks[first], ranks[second]], behaviour };
+        const { behaviour, meet } = engine.pair(sheet.sheet, lent, first, second);
+        const found = { events: [first, second], ranks: [ranks[first], ranks[second]], behaviour, meet };
         return behaviour === undefined ? [] : [found];
     }));
 }

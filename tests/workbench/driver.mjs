@@ -10,8 +10,9 @@ const ELEMENT = "element-6066-11e4-a52e-4f735466cecf";
 const ARGUMENTS = ["--headless=new", "--no-sandbox", "--disable-gpu", "--disable-dev-shm-usage", "--hide-scrollbars",
     "--no-first-run", "--disable-extensions", "--disable-background-networking", "--force-device-scale-factor=1"];
 
-export const KEYS = { tab: "\ue004", enter: "\ue007", end: "\ue010", home: "\ue011", right: "\ue014",
-    control: "\ue009", space: " ", backspace: "\ue003" };
+export const KEYS = { tab: "\ue004", enter: "\ue007", end: "\ue010", home: "\ue011", left: "\ue012", up: "\ue013",
+    right: "\ue014", down: "\ue015", shift: "\ue008", control: "\ue009", space: " ", backspace: "\ue003",
+    remove: "\ue017" };
 
 const later = (time) => new Promise((done) => setTimeout(done, time));
 
@@ -30,6 +31,8 @@ async function started() {
             done(found[1]);
         });
     });
+    process.on("exit", () => child.kill());
+    for (const signal of ["SIGINT", "SIGTERM"]) process.on(signal, () => process.exit(1));
     return { address: `http://127.0.0.1:${port}`, end: () => child.kill() };
 }
 

@@ -47,7 +47,7 @@ const shown = () => browser.run(`
         text: all("#editor .line").map((line) => line.textContent).join("\\n"),
         phones: all(".phone:is(article)").map((phone) => ({
             script: phone.querySelector(".script").value,
-            lines: all(".told li", phone).map((line) => line.textContent),
+            lines: all(".told > *", phone).map((line) => line.textContent),
             board: all(".board tr", phone).map((row) => [row.children[0].textContent,
                 [...row.children[1].children].map((cell) => cell.firstChild.data)]),
             ahead: all(".board tr", phone).map((row) => [row.children[0].textContent, row.children[2].textContent]),
@@ -141,6 +141,31 @@ async function slip() {
     await asPlayed("an edited sheet");
 }
 
+/** Keys do to the sheet's text what they do to a plain text field. */
+async function typing() {
+    await open();
+    await browser.run("document.body.prepend(Object.assign(document.createElement('textarea'), { id: 'plain', rows: 20 }))");
+    const { shift, control, left, right, up, down, home, end, enter, backspace, remove } = KEYS;
+    const keys = ["a", "b", " ", "#", enter, enter, backspace, remove, left, left, right, up, down, home, end,
+        [shift, left, left], [shift, right], [shift, home], [shift, down], [shift, enter], [control, home],
+        [control, end], [control, "b"]];
+    let state = 5;
+    const draw = () => keys[(state = (state * 1103515245 + 12345) % 2 ** 31) % keys.length];
+    for (let run = 0; run < 3; run++) {
+        const pressed = Array.from({ length: 40 }, draw);
+        for (const id of ["plain", "editor"]) {
+            await browser.run("document.getElementById(arguments[0]).focus()", id);
+            await browser.press([control, "a"], backspace, ...pressed);
+        }
+        const plain = await browser.run("return document.querySelector('#plain').value");
+        equal("a text that is typed", (await shown()).text, plain);
+        await browser.press([control, "a"], [control, "c"]);
+        await browser.run("document.querySelector('#plain').focus()");
+        await browser.press([control, "a"], [control, "v"]);
+        equal("and copied", await browser.run("return document.querySelector('#plain').value"), plain);
+    }
+}
+
 /** Each example with its scripts; one of them changes its sheet on the way. */
 async function sheets() {
     await open();
@@ -182,7 +207,8 @@ async function files() {
     const bytes = join(room, "auction.bin");
     spawnSync(setter, ["build", join(examples, "auction.sheet"), bytes]);
     await browser.type("#files", bytes);
-    await nameIs("auction.bin");
+    await nameIs("auction.sheet");
+    await browser.until("the bytes are opened", "return document.querySelector('.line').textContent.startsWith('event e0')");
     equal("as the text that means them", (await shown()).text.trim(),
         spawnSync(setter, ["show", bytes], { encoding: "utf8" }).stdout.trim());
 }
@@ -222,14 +248,14 @@ async function links() {
 async function phones() {
     await open();
     await browser.select("#examples", "auction.sheet");
-    await browser.run("document.querySelectorAll('.fresh').forEach((button) => button.click())");
+    await browser.click("#fresh");
     await outcome("none");
     await browser.click("#part");
     await outcome("apart");
     await asPlayed("a pair that parts");
     await browser.select("#examples", "story.sheet");
     await outcome("apart");
-    await browser.run("document.querySelectorAll('.fresh').forEach((button) => button.click())");
+    await browser.click("#fresh");
     await browser.hover("[data-event=timeup]");
     const { text, phones: [{ ahead }] } = await shown();
     const values = ahead.map(([name, to]) => `${name} ${to.slice(2)}`).join(", ");
@@ -237,6 +263,8 @@ async function phones() {
     await browser.select("#sender", "2");
     await browser.click("[data-event=hit]");
     const [refused] = (await shown()).phones;
+    check("and is known to be", await browser.run(
+        "return document.querySelector('[data-event=hit]').title.startsWith('no right (25)')"));
     check("a move without the right is refused", refused.lines.at(-1).includes("refused, no right (25)"));
     await browser.select("#sender", "1");
     await browser.click("[data-event=hit]");
@@ -376,7 +404,7 @@ async function looks() {
     await take("workbench-narrow", 375, 1500, "light");
 }
 
-const parts = { story, slip, sheets, files, links, phones, keyboard, named, hostile, policy };
+const parts = { story, slip, typing, sheets, files, links, phones, keyboard, named, hostile, policy };
 if (pictures !== undefined) parts.looks = looks;
 let failed = "";
 try {
