@@ -45,11 +45,12 @@ def modules(path, done):
 def data():
     """What the page knows: the setter's words, refusals by number, the examples and the story."""
     tables = (RUST / "src" / "refusal.rs").read_text() + (RUST / "src" / "fault.rs").read_text()
-    files = [f for f in sorted(EXAMPLES.iterdir()) if f.suffix in (".sheet", ".play")]
+    files = {f.name: f.read_text() for f in sorted(EXAMPLES.iterdir()) if f.suffix in (".sheet", ".play")}
+    story = {f"story-{f.name}": f.read_text() for f in sorted(EXAMPLES.glob("story/*.sheet"))}
     return {
         "hints": json.loads((RUST / "text" / "src" / "hints.json").read_text()),
         "refusals": {number: [word, when] for number, word, when in NUMBERED.findall(tables)},
-        "files": {f.name: f.read_text() for f in files + sorted((HERE / "story").iterdir())},
+        "files": files | story,
     }
 
 

@@ -123,6 +123,14 @@ export class Phone {
         return this.entries.slice(before).map(({ words }) => words).join("; ");
     }
 
+    /** Steps until something is told: where an event may break in is the engine's to decide. */
+    goOn() {
+        const before = this.entries.length;
+        let steps = 0;
+        while (this.entries.length === before && this.stage.make(this.script.length + 1)) steps++;
+        if (steps > 0) this.note(`steps ${steps}`);
+    }
+
     /** At most so many steps of a `run` that is shown as it goes: whether it is over. The script then has the `run`. */
     advance(count) {
         for (let k = 0; k < count; k++) {

@@ -1,29 +1,26 @@
 // The story of the final, which plays itself once: the same moves in the same order on both phones, and two winners;
 // and the same on the mended sheet, with one.
 import { one, still, wait } from "./dom.mjs";
+import { STORY } from "./library.mjs";
 
-const MOVES = ["send hit from 1", "send hit from 1", "send timeup"];
-const BEAT = 900; // in thousandths of a second
+const MOVES = ["send hit from 1", "send timeup"];
+const BEAT = 1000; // in thousandths of a second
 const TICK = 110;
-const STEPS = 4; // made in a tick
+const STEPS = 3; // made in a tick
 
-const TOLD = {
-    "story.sheet": undefined, // as the page has it
-    "story-mended.sheet": [
-        "Now hit and time-up have one rank. The moves are the same, in the same order, on both phones.",
-        "Phone A does each move as it comes; phone B is late again, but takes the moves in the order in which they "
-            + "came.",
-        "Both name player 1: on this sheet the engine is proved to give both phones one board, however each of them "
-            + "cuts its steps.",
-    ],
-};
+const TOLD = [
+    "Now hit and time-up have one rank. The moves are the same, in the same order, on both phones.",
+    "Phone A does each move as it comes; phone B is late again, but takes the moves in the order in which they came.",
+    "Both name player 1: on this sheet the engine is proved to give both phones one board, however they cut steps.",
+];
 
 export class Story {
     constructor(bench) {
         this.bench = bench;
         this.turn = 0; // of the story that plays; another number ends it
+        this.sheet = STORY;
         this.sentences = [...one("#sentences").children];
-        TOLD["story.sheet"] = this.sentences.map((sentence) => sentence.textContent);
+        this.told = this.sentences.map((sentence) => sentence.textContent);
     }
 
     /** Ends the story where it is. */
@@ -39,12 +36,13 @@ export class Story {
     async tell(sheet) {
         const turn = ++this.turn;
         const { bench } = this;
+        this.sheet = sheet;
         one("#story").hidden = false;
-        one("#story").dataset.sheet = sheet;
-        one("#story-title").textContent = sheet === "story.sheet" ? "The final, and two winners" : "The final, mended";
-        one("#mend").textContent = sheet === "story.sheet" ? "Now with one rank" : "Back to two ranks";
-        this.sentences.forEach((sentence, k) => (sentence.textContent = TOLD[sheet][k]));
-        bench.useSheet(sheet, bench.files.get(sheet), [[], []]);
+        one("#story-title").textContent = sheet === STORY ? "The final, and two winners" : "The final, mended";
+        one("#mend").textContent = sheet === STORY ? "Now with one rank" : "Back to two ranks";
+        const told = sheet === STORY ? this.told : TOLD;
+        this.sentences.forEach((sentence, k) => (sentence.textContent = told[k]));
+        bench.useSheet(sheet, bench.library.text(sheet), [[], []]);
         for (const act of this.acts()) {
             if (turn !== this.turn) return;
             await act();

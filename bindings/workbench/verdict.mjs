@@ -8,7 +8,10 @@ const PLAYERS = [1, 2, 3, 4, 5, 6, 7];
 
 const numbers = (count) => Array.from({ length: count }, (_, k) => k);
 
-/** { sizes, agrees, pairs, equal, players } of a sheet; `equal` tells of each behaviour whether phones agree on it. */
+/**
+ * { sizes, agrees, pairs, groups, equal, players } of a sheet; `equal` tells of each behaviour whether phones agree on
+ * it, and a group has events that must have one rank, or nothing in common.
+ */
 export function verdict(engine, sheet) {
     const lent = sheet.lent();
     const table = sheet.compile();
@@ -16,6 +19,7 @@ export function verdict(engine, sheet) {
         sizes: sizes(engine, sheet, table),
         agrees: engine.agree(sheet.sheet, lent).number !== APART,
         pairs: pairs(engine, sheet, table),
+        groups: groups(engine, sheet, table),
         equal: numbers(sheet.count).map((b) => engine.agreeFor(sheet.sheet, lent, b).number !== APART),
         players: players(engine, sheet, table),
     };
@@ -44,16 +48,33 @@ function instructions(engine, sheet, table) {
     });
 }
 
-/** Every two events of unequal rank that are not independent: { events, ranks, behaviour, meet }. */
-export function pairs(engine, sheet, table) {
+/** Every two events that are not independent: { events, ranks, behaviour, writes, reads, meet }. */
+function dependent(engine, sheet, table) {
     const lent = sheet.lent();
     const ranks = numbers(sheet.events.length).map((event) => engine.eventRank(table, event));
-    return numbers(ranks.length).flatMap((first) => numbers(ranks.length).flatMap((second) => {
-        if (second <= first || ranks[first] === ranks[second]) return [];
-        const { behaviour, meet } = engine.pair(sheet.sheet, lent, first, second);
-        const found = { events: [first, second], ranks: [ranks[first], ranks[second]], behaviour, meet };
-        return behaviour === undefined ? [] : [found];
+    return ranks.flatMap((_, first) => numbers(ranks.length).slice(first + 1).flatMap((second) => {
+        const shared = engine.pair(sheet.sheet, lent, first, second);
+        const found = { ...shared, events: [first, second], ranks: [ranks[first], ranks[second]] };
+        return shared.behaviour === undefined ? [] : [found];
     }));
+}
+
+/** Those of unequal rank. */
+export function pairs(engine, sheet, table) {
+    return dependent(engine, sheet, table).filter(({ ranks }) => ranks[0] !== ranks[1]);
+}
+
+/** Events that meet, directly or by others, where their ranks are not all one. */
+function groups(engine, sheet, table) {
+    const of = numbers(sheet.events.length);
+    const meeting = dependent(engine, sheet, table).filter(({ meet }) => meet);
+    for (const { events: [first, second] } of meeting) {
+        const [low, high] = [of[first], of[second]].sort((a, b) => a - b);
+        of.forEach((group, event) => (of[event] = group === high ? low : group));
+    }
+    const rank = (event) => engine.eventRank(table, event);
+    const all = numbers(of.length).map((group) => numbers(of.length).filter((event) => of[event] === group));
+    return all.filter((group) => group.some((event) => rank(event) !== rank(group[0])));
 }
 
 /** Players for whom the same is true, together: { who, hidden, leak }. */

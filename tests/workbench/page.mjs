@@ -57,7 +57,9 @@ const shown = () => browser.run(`
 /** What setter play prints for a sheet's and a script's text, in a copy of the examples. */
 function played(text, script) {
     const folder = mkdtempSync(join(room, "play-"));
-    for (const name of readdirSync(examples)) writeFileSync(join(folder, name), readFileSync(join(examples, name)));
+    for (const name of readdirSync(examples).filter((own) => own.endsWith(".sheet"))) {
+        writeFileSync(join(folder, name), readFileSync(join(examples, name)));
+    }
     writeFileSync(join(folder, "own.sheet"), text);
     writeFileSync(join(folder, "own.play"), script);
     const { stdout, stderr } = spawnSync(setter, ["play", "own.sheet", "own.play"], { cwd: folder, encoding: "utf8" });
@@ -120,23 +122,23 @@ async function story() {
 /** A slip gets its fault under its line with the hint of setter check, and is gone when it is mended. */
 async function slip() {
     await open();
-    await caretAt(10);
+    await caretAt(9);
     await browser.press(..." % 2");
-    const words = await faulty(10);
+    const words = await faulty(9);
     const { text } = await shown();
     writeFileSync(join(room, "slip.sheet"), text);
     const { stdout } = spawnSync(setter, ["check", join(room, "slip.sheet"), "--json"], { encoding: "utf8" });
     const [{ why, hint }] = JSON.parse(stdout).faults;
     check(`the fault under its line has the setter's words: ${words}`, words.endsWith(`: ${why}\n${hint}`));
-    const drawn = await browser.run(`const line = document.querySelectorAll("#editor .line")[9];
+    const drawn = await browser.run(`const line = document.querySelectorAll("#editor .line")[8];
         return getComputedStyle(line, "::after").display + getComputedStyle(line, "::after").content`);
     check("and stands there", drawn.startsWith("block") && drawn.includes("there is no `%`"));
     await browser.press(...Array.from({ length: 4 }, () => KEYS.backspace));
     await browser.until("the slip is gone", "return document.querySelector('[data-fault]') === null");
     await outcome("apart");
     // a rank changed in the text is played at once
-    await caretAt(4);
-    await browser.press(KEYS.home, ...Array.from({ length: 19 }, () => KEYS.right), KEYS.backspace, "2");
+    await caretAt(3);
+    await browser.press(KEYS.backspace, "2");
     await outcome("agree");
     await asPlayed("an edited sheet");
 }
@@ -144,7 +146,8 @@ async function slip() {
 /** Keys do to the sheet's text what they do to a plain text field. */
 async function typing() {
     await open();
-    await browser.run("document.body.prepend(Object.assign(document.createElement('textarea'), { id: 'plain', rows: 20 }))");
+    await browser.run(`
+        document.body.prepend(Object.assign(document.createElement("textarea"), { id: "plain", rows: 20 }))`);
     const { shift, control, left, right, up, down, home, end, enter, backspace, remove } = KEYS;
     const keys = ["a", "b", " ", "#", enter, enter, backspace, remove, left, left, right, up, down, home, end,
         [shift, left, left], [shift, right], [shift, home], [shift, down], [shift, enter], [control, home],
@@ -208,7 +211,8 @@ async function files() {
     spawnSync(setter, ["build", join(examples, "auction.sheet"), bytes]);
     await browser.type("#files", bytes);
     await nameIs("auction.sheet");
-    await browser.until("the bytes are opened", "return document.querySelector('.line').textContent.startsWith('event e0')");
+    await browser.until("the bytes are opened",
+        "return document.querySelector('.line').textContent.startsWith('event e0')");
     equal("as the text that means them", (await shown()).text.trim(),
         spawnSync(setter, ["show", bytes], { encoding: "utf8" }).stdout.trim());
 }
@@ -253,25 +257,23 @@ async function phones() {
     await browser.click("#part");
     await outcome("apart");
     await asPlayed("a pair that parts");
-    await browser.select("#examples", "story.sheet");
-    await outcome("apart");
     await browser.click("#fresh");
-    await browser.hover("[data-event=timeup]");
+    await browser.hover("[data-event=tick]");
     const { text, phones: [{ ahead }] } = await shown();
     const values = ahead.map(([name, to]) => `${name} ${to.slice(2)}`).join(", ");
-    equal("the preview", `preview of timeup from the host: ${values}`, unfolded(played(text, "preview timeup\n")[0]));
+    equal("the preview", `preview of tick from the host: ${values}`, unfolded(played(text, "preview tick\n")[0]));
     await browser.select("#sender", "2");
-    await browser.click("[data-event=hit]");
+    await browser.click("[data-event=bid1]");
     const [refused] = (await shown()).phones;
     check("and is known to be", await browser.run(
-        "return document.querySelector('[data-event=hit]').title.startsWith('no right (25)')"));
+        "return document.querySelector('[data-event=bid1]').title.startsWith('no right (25)')"));
     check("a move without the right is refused", refused.lines.at(-1).includes("refused, no right (25)"));
     await browser.select("#sender", "1");
-    await browser.click("[data-event=hit]");
+    await browser.click("[data-event=bid1]");
     await browser.select("#sender", "0");
     await browser.click("#tick");
     const [{ lines }] = await asPlayed("a tick that breaks in");
-    check("it breaks in", lines.at(-1).includes("timeup #1 breaks in: hit #0 drops its work"));
+    check("it breaks in", lines.at(-1).includes("tick #1 breaks in: bid1 #0 drops its work"));
     await browser.click("article:nth-child(1) .step");
     await browser.click("article:nth-child(2) .frame");
     await browser.run("document.querySelectorAll('.run').forEach((button) => button.click())");

@@ -3,16 +3,20 @@
 //     node tests/workbench/script.mjs ENGINE.wasm SETTER
 //
 // Every sheet of examples with every script that names only what it has prints the same lines by both, and every
-// example with slips put in gets the same faults, words and hints.
+// example with slips put in gets the same faults, words and hints. What is told of two phones stands in the report of
+// `setter check`, and a search finds the two scripts that `setter differ` writes, or none as well.
 import { execFileSync, spawnSync } from "node:child_process";
 import { mkdtempSync, readFileSync, rmSync, writeFileSync } from "node:fs";
 import { tmpdir } from "node:os";
 import { join, resolve } from "node:path";
 import { load } from "../../bindings/js/engine.mjs";
+import { partingPair, partingScripts } from "../../bindings/workbench/apart.mjs";
 import { faults } from "../../bindings/workbench/faults.mjs";
+import { phoneLines } from "../../bindings/workbench/meets.mjs";
 import { readScript } from "../../bindings/workbench/script.mjs";
 import { loadSheet } from "../../bindings/workbench/sheet.mjs";
 import { transcript } from "../../bindings/workbench/stage.mjs";
+import { verdict } from "../../bindings/workbench/verdict.mjs";
 import { useData } from "../../bindings/workbench/words.mjs";
 
 const [wasm, setter] = process.argv.slice(2).map((path) => resolve(path));
@@ -105,16 +109,71 @@ for (let k = 0; k < tries; k++) {
 }
 if (found < tries / 2) fail("too few slips are faults", tries, found);
 
+// ---- two phones: the examples, and small sheets as setters write them
+
+const BOARDS = 400;
+async function bothPhones(name) {
+    const sheet = loadSheet(engine, name, bytesOf(name));
+    const lines = phoneLines(sheet, verdict(engine, sheet));
+    const winner = sheet.groups.find((group) => group.name === "winner");
+    const asked = { boards: BOARDS, winners: winner ? [winner.first] : [], pause: async () => {} };
+    const { found: two, looked, all } = await partingPair(engine, sheet, asked);
+    const named = winner ? ["--winner", "winner"] : [];
+    const report = run("check", name, "--boards", String(BOARDS)).stdout.replace(/\s+/g, " "); // it folds lines
+    const missing = lines.filter((line) => !report.includes(` ${line} `));
+    if (missing.length > 0) fail(`${name}: two phones`, report, missing.join("\n"));
+    const apart = lines[0] === data.hints["phones.apart"];
+    for (const k of [1, 2]) rmSync(join(room, `out-${k}.play`), { force: true });
+    const told = run("differ", name, "out", "--boards", String(BOARDS), ...named).stdout;
+    if (two === undefined) {
+        const none = data.hints[all ? "search.all" : "search.first"].replace("{0}", looked.toLocaleString("en"));
+        if (apart && !told.includes(none)) fail(`${name}: none is found`, told, none);
+        return 0;
+    }
+    const written = [1, 2].map((k) => readFileSync(join(room, `out-${k}.play`), "utf8").split("\n").slice(1, -1));
+    same(`${name}: two scripts`, {
+        own: JSON.stringify(partingScripts(engine, sheet, two)), real: JSON.stringify(written) });
+    return 1;
+}
+
+const FORMULAS = ["1", "S + 2", "S - 1", "!S", "if(F, S, S + 10)", "if(S >= 3, 0, S + 1)", "S + F", "S * 2", "F"];
+function drawnSheet() {
+    const names = ["a", "b", "c"].slice(0, 2 + draw(2));
+    const events = ["hit", "tick", "time"].slice(0, 2 + draw(2));
+    const rank = () => [1, 2, 9][draw(3)];
+    const handler = (own, event) => {
+        const formula = FORMULAS[draw(FORMULAS.length)];
+        const other = names[draw(names.length)];
+        return `  on ${event}: ${formula.replaceAll("S", own).replaceAll("F", other)}\n`;
+    };
+    const behaviour = (own) => {
+        const handled = events.filter(() => draw(3) > 0).map((event) => handler(own, event));
+        return `active ${own} = ${draw(3)}\n${handled.join("")}`;
+    };
+    const passive = draw(2) === 0 ? "passive winner = if(a > b, 1, 2)\n" : "";
+    const declared = events.map((event) => `event ${event} rank ${rank()}\n`);
+    return [...declared, ...names.map(behaviour), passive].join("");
+}
+
+let parted = 0;
+for (const sheet of sheets) parted += await bothPhones(sheet);
+for (let k = 0; k < 40; k++) {
+    data.files["drawn.sheet"] = drawnSheet();
+    writeFileSync(join(room, "drawn.sheet"), data.files["drawn.sheet"]);
+    if (run("build", "drawn.sheet", "drawn.bin").status === 0 && run("check", "drawn.sheet").status === 0) {
+        parted += await bothPhones("drawn.sheet");
+    }
+}
+if (parted < 10) fail("too few pairs part", 10, parted);
+
 // ---- a planted difference is found, in a sheet, in a word of refusals and in a hint
 
 const plants = [
     [() => (data.files["final.sheet"] = data.files["final.sheet"].replace("+ 10", "+ 11")), "final.sheet"],
-    [() => (data.refusals[19][1] = "planted"), "story.sheet"],
+    [() => (data.refusals[19][1] = "planted"), "good-final.sheet"],
 ];
 data.files["planted.play"] = "send hit\nsteps 12\nboard\nrun\nboard\n";
 writeFileSync(join(room, "planted.play"), data.files["planted.play"]);
-data.files["story.sheet"] = data.files["final.sheet"];
-writeFileSync(join(room, "story.sheet"), data.files["story.sheet"]);
 for (const [plant, sheet] of plants) {
     same(`${sheet} before it is changed`, bothPlays(sheet, "planted.play"));
     plant();
@@ -126,4 +185,5 @@ same("a slip before a hint is changed", bothFaults(slip));
 data.hints["operator.remainder"] = "planted";
 const { own, real } = bothFaults(slip);
 if (own === real) fail("a planted hint was not found", real, own);
-console.log(`workbench: ${count} scripts print setter play's lines; ${found} faults of ${tries} slips have its words`);
+console.log(`workbench: ${count} scripts print setter play's lines; ${found} faults of ${tries} slips have its words;`,
+    `${parted} pairs that part are those of setter differ`);
