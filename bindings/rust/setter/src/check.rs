@@ -153,7 +153,7 @@ fn report(phones: &Phones, groups: &[Group], frame: Option<u64>) -> Result<Strin
     size("instructions", counts.iter().map(|(_, n)| n).sum(), INSTRUCTIONS, longest);
     let mut lines = phones.lines();
     lines.extend(phones.parted().and_then(|_| sheet_text::words("search.write", &[&file.path])));
-    put(&mut out, "phones", &lines);
+    put(&mut out, "phones", &lines.iter().map(narrow).collect::<Vec<_>>());
     put(
         &mut out,
         "players",
@@ -173,10 +173,14 @@ fn warnings(file: &SheetFile) -> Vec<String> {
 fn put(out: &mut String, what: &str, lines: &[String]) {
     for (k, line) in lines.iter().enumerate() {
         let heading = if k == 0 { what } else { "" };
-        let indent = line.len() - line.trim_start().len();
-        let words = folded(line.trim_start(), COLUMNS - indent, MARGIN + indent + 2);
-        let _ = writeln!(out, "  {heading:width$}{:indent$}{words}", "", width = MARGIN - 2);
+        let _ = writeln!(out, "  {heading:width$}{line}", width = MARGIN - 2);
     }
+}
+
+/// A line that is not too long, else broken, what follows further in.
+fn narrow(line: &String) -> String {
+    let indent = line.len() - line.trim_start().len();
+    format!("{:indent$}{}", "", folded(line.trim_start(), COLUMNS - indent, MARGIN + indent + 2))
 }
 
 /// A call that is never turned down on a table that compile made.

@@ -47,9 +47,9 @@ setter: sheets written as text
   setter --version                     the program's version and the engine's
 
 A FILE is text (docs/SHEETS.md) or a sheet's bytes, - is standard input; of bytes, e0, b0 and p0 are the names. A text's
-sheet or fault, a sheet's text, circles, instructions, phones, leaks and rounds are the proved engine's answers. No file that is read, and
-none of another kind than is written, is written over without --force. Ends with 0; with 1 where a file cannot be read
-or is turned down, with 2 where it was called wrongly.
+sheet or fault, a sheet's text, circles, instructions, phones, leaks and rounds are the proved engine's answers. No file
+that is read, and none of another kind than is written, is written over without --force. Ends with 0; with 1 where a
+file cannot be read or is turned down, with 2 where it was called wrongly.
 ";
 
 const CHECK: &str = "\

@@ -8,8 +8,16 @@ const GREEN: &str = "\x1b[32m";
 const PLAIN: &str = "\x1b[0m";
 
 /// What a line's words stand for.
-const WORDS: [(&str, &str); 6] = [
+const WORDS: [(&str, &str); 14] = [
     ("may end apart", YELLOW),
+    ("two phones that end apart, found", RED),
+    ("the first behaviour that differs", YELLOW),
+    ("proved equal", GREEN),
+    ("may differ:", YELLOW),
+    (", as expected", GREEN),
+    (", expected", RED),
+    ("is refused", RED),
+    ("breaks in", YELLOW),
     ("may leak", YELLOW),
     ("warnings", YELLOW),
     ("warning:", YELLOW),

@@ -4,7 +4,7 @@ use crate::apart::{pairs, Apart, Search, Told};
 use crate::failure::Failure;
 use crate::file::{SheetFile, Shown};
 use crate::names::handler_line;
-use crate::wording::{listed, long, player};
+use crate::wording::{listed, long, player, several};
 use poqashem::{Behaviour, Event, Player, Refusal, Shared, Table};
 use sheet_text::{words, Active, Body, Expr};
 
@@ -177,9 +177,9 @@ impl<'a> Phones<'a> {
 
     fn searched(&self) -> Vec<String> {
         let Some(told) = &self.told else { return vec![] };
-        let looked = long(told.looked as u64);
+        let looked = several(told.looked as u64, "board", "boards");
         match (&told.found, told.all) {
-            (Some(found), _) => self.found(found, &looked),
+            (Some(found), _) => self.found(found, &long(told.looked as u64)),
             (None, true) => vec![say("search.all", &[&looked])],
             (None, false) => vec![say("search.first", &[&looked])],
         }
