@@ -61,6 +61,7 @@ export class Phone {
         this.stage?.free();
         this.stage = undefined;
         this.entries = [];
+        this.going = 0;
         this.failure = undefined;
         if (this.bench.sheet === undefined) return;
         this.stage = new Stage(this.bench.engine, this.bench.sheet, this.path, (entry) => this.told(entry));
@@ -77,7 +78,7 @@ export class Phone {
             act();
         } catch (failure) {
             if (failure.name !== "Failure") throw failure;
-            this.failure = failure.message;
+            this.failure = failure.message.replace(/ with --param \S+$/, " in its field under the sheet");
         }
     }
 
@@ -134,12 +135,21 @@ export class Phone {
     /** At most so many steps of a `run` that is shown as it goes: whether it is over. The script then has the `run`. */
     advance(count) {
         for (let k = 0; k < count; k++) {
-            if (this.stage.make(this.script.length + 1)) continue;
-            this.stage.rest();
-            this.note("run");
-            return true;
+            if (!this.stage.make(this.script.length + 1)) {
+                this.stage.rest();
+                this.going = 0;
+                this.note("run");
+                return true;
+            }
+            this.going++;
         }
         return false;
+    }
+
+    /** Ends such a run where it is: the script has the steps that were made. */
+    halt() {
+        if (this.going > 0) this.note(`steps ${this.going}`);
+        this.going = 0;
     }
 
     // ---- what it shows

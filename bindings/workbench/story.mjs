@@ -27,6 +27,7 @@ export class Story {
     stop() {
         this.turn++;
         this.at(undefined);
+        this.bench.phones.forEach((phone) => phone.halt());
     }
 
     at(number) {

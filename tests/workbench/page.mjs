@@ -1,8 +1,9 @@
 // The workbench in a real browser, from opening it to two winners, and every line that it shows against `setter play`.
 //
-//     node tests/workbench/page.mjs WORKBENCH.html SETTER [PICTURES]
+//     node tests/workbench/page.mjs WORKBENCH.html SETTER [PICTURES [PART..]]
 //
-// With a folder for pictures it also writes what the page looks like: light, dark and narrow.
+// With a folder for pictures it also writes what the page looks like: light, dark and narrow. Parts that are named are
+// tried alone.
 import { spawnSync } from "node:child_process";
 import { mkdirSync, mkdtempSync, readFileSync, readdirSync, rmSync, writeFileSync } from "node:fs";
 import { tmpdir } from "node:os";
@@ -10,7 +11,8 @@ import { join, resolve } from "node:path";
 import { pathToFileURL } from "node:url";
 import { Browser, KEYS } from "./driver.mjs";
 
-const [page, setter, pictures] = process.argv.slice(2).map((path) => resolve(path));
+const [page, setter, pictures] = process.argv.slice(2, 5).map((path) => resolve(path));
+const chosen = process.argv.slice(5);
 const address = pathToFileURL(page).href;
 const room = mkdtempSync(join(tmpdir(), "workbench-"));
 const examples = resolve("examples");
@@ -112,6 +114,14 @@ async function story() {
     equal("two winners", phones.map((phone) => valueOf(phone, "winner")).join(), "1,2");
     equal("three sentences", await browser.run("return document.querySelectorAll('#sentences li').length"), 3);
     check("both winners are marked", await browser.run("return document.querySelectorAll('.board mark').length === 4"));
+    // whoever presses a button on the way ends it there
+    await browser.click("#again");
+    await browser.until("phone A works",
+        "return document.querySelector('article .state').textContent.startsWith('hit #0 runs')");
+    await browser.click("article .step");
+    await browser.click("[data-event=timeup]");
+    const [ended] = await asPlayed("the story, ended on the way");
+    check("the script goes on from there", ended.script.endsWith("\nstep\nsend timeup"));
     await browser.media("prefers-reduced-motion", "reduce");
     await browser.click("#mend");
     await outcome("agree");
@@ -330,6 +340,41 @@ async function named() {
     await browser.tools("Emulation.clearDeviceMetricsOverride", {});
 }
 
+// The texts whose colour is too near to what is behind them: a contrast under 4.5.
+const FAINT = `
+    const parts = (colour) => colour.match(/[\\d.]+/g).map(Number);
+    const light = (value) => (value <= 10 ? value / 3294 : ((value / 255 + 0.055) / 1.055) ** 2.4);
+    const luminance = ([r, g, b]) => 0.2126 * light(r) + 0.7152 * light(g) + 0.0722 * light(b);
+    const opaque = (node) => (parts(getComputedStyle(node).backgroundColor)[3] ?? 1) === 1;
+    const behind = (node) => (node === null || opaque(node) ? node : behind(node.parentElement));
+    const written = (node) => [...node.childNodes].some((child) => child.nodeType === 3 && child.data.trim() !== "");
+    const faint = (node) => {
+        const { color, fill } = getComputedStyle(node);
+        const own = luminance(parts(node.namespaceURI.endsWith("svg") ? fill : color));
+        const ground = luminance(parts(getComputedStyle(behind(node)).backgroundColor));
+        return (Math.max(own, ground) + 0.05) / (Math.min(own, ground) + 0.05) < 4.5;
+    };
+    document.querySelectorAll("details").forEach((node) => (node.open = true));
+    const left = ":is([hidden], template, script, title, .hidden, .on), :is([hidden], template, .hidden) *";
+    const texts = [...document.querySelectorAll("body *")].filter((node) => !node.matches(left) && written(node));
+    return [texts.length, texts.filter(faint).map((node) => node.textContent)];`;
+
+/** What is written can be read, in light and in dark. */
+async function readable() {
+    for (const value of ["light", "dark"]) {
+        await browser.tools("Emulation.setEmulatedMedia", { features: [
+            { name: "prefers-color-scheme", value }, { name: "prefers-reduced-motion", value: "reduce" }] });
+        await browser.go("about:blank");
+        await browser.go(address);
+        await outcome("apart");
+        const [count, faint] = await browser.run(FAINT);
+        check(`${count} texts are looked at`, count > 80);
+        equal(`too faint in ${value}`, faint.join("\n"), "");
+        await browser.run("document.querySelector('#outcome').style.color = 'rgb(128, 128, 128)'");
+        check("what is too faint is found", (await browser.run(FAINT))[1].length > 0);
+    }
+}
+
 /** What a text, a file's name or an address holds is shown as it is, and is never markup. */
 async function hostile() {
     const mark = "<img src=x onerror=\"window.hurt=1\"><b>bold</b>";
@@ -370,6 +415,9 @@ async function policy() {
     const planted = "<script>window.planted = 1</script>" +
         "<p id=foreign onclick='window.planted = 2' style='color: rgb(1, 2, 3)'>planted</p>";
     const source = readFileSync(page, "utf8");
+    const [, allowed] = /http-equiv="Content-Security-Policy" content="([^"]*)"/.exec(source);
+    equal("the policy", allowed.replaceAll(/'sha256-[\w+/=]{44}'/g, "HASH"), "default-src 'none'; " +
+        "script-src HASH 'wasm-unsafe-eval'; style-src HASH; base-uri 'none'; form-action 'none'");
     const tried = async (text, name) => {
         const path = join(room, name);
         writeFileSync(path, text.replace("<body>", `<body>${planted}`));
@@ -406,11 +454,13 @@ async function looks() {
     await take("workbench-narrow", 375, 1500, "light");
 }
 
-const parts = { story, slip, typing, sheets, files, links, phones, keyboard, named, hostile, policy };
+const parts = { story, slip, typing, sheets, files, links, phones, keyboard, named, readable, hostile, policy };
 if (pictures !== undefined) parts.looks = looks;
-let failed = "";
+let [failed, tried] = ["", 0];
 try {
     for (const [name, part] of Object.entries(parts)) {
+        if (chosen.length > 0 && !chosen.includes(name)) continue;
+        tried++;
         await part().catch((error) => { throw new Error(`${name}: ${error.message}`); });
         const complaints = await browser.complaints();
         if (complaints.length > 0) throw new Error(`${name}: the browser complains: ${complaints.join("\n")}`);
@@ -424,4 +474,4 @@ if (failed !== "") {
     console.error(`workbench: ${failed}`);
     process.exit(1);
 }
-console.log(`workbench: ${Object.keys(parts).length} parts in the browser, ${checks} checks`);
+console.log(`workbench: ${tried} parts in the browser, ${checks} checks`);
