@@ -104,7 +104,9 @@ def by_hand():
 
 def main(setter, folder):
     pairs = sorted({p for out in EXAMPLES.glob("*.out") for p in PLAYED.findall(out.read_text())})
-    seeds = {f"{s[:-6]}.{p[:-5]}": played(setter, s, p) for s, p in pairs if (EXAMPLES / s).exists()}
+    # some are written by the transcripts themselves
+    stored = [(s, p) for s, p in pairs if (EXAMPLES / s).exists() and (EXAMPLES / p).exists()]
+    seeds = {f"{s[:-6]}.{p[:-5]}": played(setter, s, p) for s, p in stored}
     seeds.update(by_hand())
     for name, data in seeds.items():
         (pathlib.Path(folder) / name).write_bytes(data)

@@ -148,7 +148,7 @@ fn frames(r: &mut Rng, mut round: Round, mut recorder: Recorder, calls: &[Call])
         let mut commits = vec![0u8; 8 * room];
         let got = proved::frame(table.bytes(), &mut l, steps, &mut commits);
         let frame = round.frame(steps, room);
-        let why = [poqashem::Ended::Done, poqashem::Ended::Idle, poqashem::Ended::Foreign, poqashem::Ended::NoRoom];
+        let why = [poqashem::Ended::Made, poqashem::Ended::Idle, poqashem::Ended::Refused, poqashem::Ended::Full];
         assert_eq!(Some(&frame.ended), why.get((got >> 56) as usize), "why a frame ended");
         assert_eq!(frame.steps, got as u32, "steps of a frame");
         let packed: Vec<u8> = frame.commits.iter().flat_map(|c| step(*c).to_be_bytes()).collect();
