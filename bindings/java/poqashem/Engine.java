@@ -158,7 +158,7 @@ public final class Engine {
      */
     public static final class Found {
         public final int number;
-        /** agree and pair: two events, or the event of a circle and -1; leak: -1. */
+        /** agree and pair: two events. */
         public final int first;
         public final int second;
         /** What they share; leak: what is seen. */
