@@ -13,7 +13,8 @@ import { answered } from "./stage.mjs";
 import { Story } from "./story.mjs";
 import { draw } from "./timeline.mjs";
 import { verdict } from "./verdict.mjs";
-import { listed, long, player, refusal, words } from "./words.mjs";
+import { warnings } from "./warnings.mjs";
+import { listed, long, player, refusal, several, words } from "./words.mjs";
 
 const BOARDS = 5000; // that the search for two phones that part looks at
 const TYPING = 60; // thousandths of a second without a key, before a text is judged
@@ -104,7 +105,7 @@ export class Bench {
             this.given = this.given.filter(([name, value]) => sheet.set(name, value));
             found.push(...uncompiled(sheet));
         }
-        this.editor.show(found, bytes);
+        this.editor.show(found, found.length > 0 ? [] : warnings(bytes), bytes);
         if (found.length > 0) this.refused(found);
         else this.accepted(sheet);
     }
@@ -165,7 +166,7 @@ export class Bench {
         const { found, looked, all } = await partingPair(this.engine, sheet, { boards: BOARDS, winners, pause });
         one("#part").disabled = false;
         if (sheet !== this.sheet) return;
-        const none = words(all ? "search.all" : "search.first", long(looked));
+        const none = words(all ? "search.all" : "search.first", several(looked, "board", "boards"));
         told.textContent = found === undefined ? none : `Found on board ${long(looked)}; both scripts are loaded.`;
         if (found === undefined) return;
         one("#story").hidden = true;

@@ -109,12 +109,15 @@ export class Editor {
 
     // ---- what is shown of it
 
-    /** Faults under their lines: [{ line, column, words }]. */
-    show(faults, bytes) {
+    /** Faults and warnings under their lines: [{ line, column, words }]. */
+    show(faults, warnings, bytes) {
+        const put = (line, name, told) => {
+            if (told.length === 0) line.removeAttribute(name);
+            else line.setAttribute(name, told.map(({ words }) => words).join("\n"));
+        };
         [...this.root.children].forEach((line, k) => {
-            const own = faults.filter((fault) => fault.line === k + 1).map(({ words }) => words);
-            if (own.length === 0) line.removeAttribute("data-fault");
-            else line.setAttribute("data-fault", own.join("\n"));
+            put(line, "data-fault", faults.filter((fault) => fault.line === k + 1));
+            put(line, "data-warning", warnings.filter((warning) => warning.line === k + 1));
         });
         this.root.setAttribute("aria-invalid", faults.length > 0);
         this.paint(faults, bytes);

@@ -1,6 +1,6 @@
-// A plain reader of a sheet's text, for the words of its first fault. Kind and place are the engine's to state: these
-// words are shown only where both find the same fault. It follows bindings/rust/text, which `setter` takes its words
-// from; tests/workbench holds the two together.
+// A plain reader of a sheet's text, for the words of its first fault and for warnings. Kind and place of a fault are
+// the engine's to state: these words are shown only where both find the same fault. It follows bindings/rust/text,
+// which `setter` takes its words from; tests/workbench holds the two together.
 import { LEVELS, declares, is, named, tokens } from "./tokens.mjs";
 import { nearest } from "./words.mjs";
 
@@ -37,6 +37,13 @@ export function firstFault(bytes) {
     }
 }
 
+/** What a text without a fault declares: { params, events, behaviours }, by name. */
+export function declared(bytes) {
+    const reader = new Reader(tokens(bytes));
+    reader.sheet();
+    return reader;
+}
+
 function fault(kind, { line, column }, why) {
     return { kind, line, column, why };
 }
@@ -53,7 +60,7 @@ class Reader {
         this.at = 0;
         this.params = new Map(); // name to its token
         this.events = new Map();
-        this.behaviours = new Map(); // name to { token, cells }
+        this.behaviours = new Map(); // name to { token, cells, passive, nobody, handlers }
         this.count = 0; // of behaviours, a row's cells counted
         this.uses = []; // names in formulas: { token, cell, bracket, row }
     }
@@ -154,16 +161,19 @@ class Reader {
         if (this.take("from")) this.players();
     }
 
+    /** Whether nobody is named. */
     players() {
-        if (this.take("nobody")) return;
+        if (this.take("nobody")) return true;
         if (this.token.kind !== "number") this.outside("`nobody` or a player's number is due");
         while (this.token.kind === "number") this.onScale(0, 7, "a player");
+        return false;
     }
 
-    viewers() {
-        if (!this.take("seen")) return;
+    /** Whether it is seen by nobody. */
+    unseen() {
+        if (!this.take("seen")) return false;
         if (!this.take("by")) this.outside("`by` is due after `seen`");
-        this.players();
+        return this.players();
     }
 
     behaviour() {
@@ -171,14 +181,14 @@ class Reader {
         if (!["passive", "active", "row"].includes(kind)) this.outside(this.due());
         this.opened(this.count, "behaviours");
         const token = this.token;
-        const own = { token, cells: undefined };
+        const own = { token, cells: undefined, handlers: [] };
         this.behaviours.set(this.declared(this.known()), own);
         if (kind === "row") this.cells(own);
         this.mark("=");
-        if (kind === "passive") formula(this, undefined);
+        if (kind === "passive") own.passive = formula(this, undefined);
         else this.value();
-        this.viewers();
-        if (kind !== "passive") this.handlers(own.cells);
+        own.nobody = this.unseen();
+        if (kind !== "passive") this.handlers(own);
         this.count += own.cells ?? 1;
     }
 
@@ -201,7 +211,7 @@ class Reader {
         this.mark("]");
     }
 
-    handlers(row) {
+    handlers({ cells: row, handlers }) {
         const handled = new Set();
         while (this.take("on")) {
             const { kind, value } = this.token;
@@ -212,10 +222,11 @@ class Reader {
             }
             if (handled.has(value)) this.fail(SECOND_HANDLER, `this behaviour has a handler for \`${value}\` already`);
             handled.add(value);
+            const token = this.token;
             this.next();
             this.take("later");
             this.mark(":");
-            formula(this, row);
+            handlers.push({ token, formula: formula(this, row) });
         }
     }
 
@@ -245,12 +256,14 @@ class Reader {
     }
 }
 
-// ---- formulas: what waits for an operand on one stack, how deep each operand nests on another
+// ---- formulas: what waits for an operand on one stack, the operands on another, each with how deep it nests. An
+// operand is { value }, { name, cell } or { function, operands }.
 
 function formula(reader, row) {
     const stacks = { waiting: [], operands: [], functions: 0 };
     do operand(reader, stacks, row);
     while (goesOn(reader, stacks));
+    return stacks.operands[0];
 }
 
 function wait(reader, stacks, function_, nesting) {
@@ -265,22 +278,22 @@ function wait(reader, stacks, function_, nesting) {
 function operand(reader, stacks, row) {
     for (;;) {
         const token = reader.token;
-        if (token.kind === "not") wait(reader, stacks, { arguments: 1, level: 0 }, 1);
+        if (token.kind === "not") wait(reader, stacks, { function: "!", arguments: 1, level: 0 }, 1);
         else if (is(token, "mark", "(")) stacks.waiting.push({ bracket: true });
         else if (is(token, "word", "if")) {
-            wait(reader, stacks, { choice: 0, arguments: 3 }, 1);
+            wait(reader, stacks, { function: "if", choice: 0, arguments: 3 }, 1);
             reader.next();
             if (!is(reader.token, "mark", "(")) reader.outside("`(` is due after `if`");
         } else break;
         reader.next();
     }
-    primary(reader, row);
-    stacks.operands.push(1);
+    stacks.operands.push({ ...primary(reader, row), nesting: 1 });
 }
 
 function primary(reader, row) {
     const token = reader.token;
-    if (token.kind === "number" || is(token, "two", "-")) return reader.value();
+    if (token.kind === "number") return { value: reader.value() };
+    if (is(token, "two", "-")) return { value: -reader.value() };
     if (token.kind !== "name") reader.outside("a number, a name, `(`, `!` or `if` is due");
     reader.next();
     const use = { token, row };
@@ -290,7 +303,8 @@ function primary(reader, row) {
         use.cell = reader.number();
         reader.mark("]");
     }
-    return reader.uses.push(use);
+    reader.uses.push(use);
+    return { name: token.value, cell: use.cell };
 }
 
 /** What follows an operand: whether another one is due. */
@@ -300,7 +314,7 @@ function goesOn(reader, stacks) {
         if (kind === "two") {
             const level = LEVELS.get(value);
             close(stacks, level);
-            wait(reader, stacks, { arguments: 2, level }, stacks.operands.at(-1));
+            wait(reader, stacks, { function: value, arguments: 2, level }, stacks.operands.at(-1).nesting);
             reader.next();
             return true;
         }
@@ -331,8 +345,10 @@ function close(stacks, level) {
 }
 
 function apply(stacks) {
-    const taken = stacks.operands.splice(-stacks.waiting.pop().arguments);
+    const { function: name, arguments: count } = stacks.waiting.pop();
+    const operands = stacks.operands.splice(-count);
     stacks.functions--;
-    stacks.operands.push(1 + Math.max(...taken));
+    const deepest = Math.max(...operands.map(({ nesting }) => nesting));
+    stacks.operands.push({ function: name, operands, nesting: 1 + deepest });
 }
 

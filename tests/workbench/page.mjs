@@ -146,6 +146,13 @@ async function slip() {
     await browser.press(...Array.from({ length: 4 }, () => KEYS.backspace));
     await browser.until("the slip is gone", "return document.querySelector('[data-fault]') === null");
     await outcome("apart");
+    // what is accepted and hardly meant is warned of in the same place
+    await caretAt(6);
+    await browser.press(KEYS.backspace, ..."over");
+    const warned = await browser.until("a warning is there",
+        "return document.querySelectorAll('#editor .line')[5].getAttribute('data-warning')");
+    equal("a warning", warned, "this handler writes `over` to itself: leave it out");
+    await browser.press(...Array.from({ length: 4 }, () => KEYS.backspace), "1");
     // a rank changed in the text is played at once
     await caretAt(3);
     await browser.press(KEYS.backspace, "2");

@@ -17,7 +17,8 @@ import { readScript } from "../../bindings/workbench/script.mjs";
 import { loadSheet } from "../../bindings/workbench/sheet.mjs";
 import { transcript } from "../../bindings/workbench/stage.mjs";
 import { verdict } from "../../bindings/workbench/verdict.mjs";
-import { useData } from "../../bindings/workbench/words.mjs";
+import { warnings } from "../../bindings/workbench/warnings.mjs";
+import { several, useData, words } from "../../bindings/workbench/words.mjs";
 
 const [wasm, setter] = process.argv.slice(2).map((path) => resolve(path));
 const engine = await load(readFileSync(wasm));
@@ -63,7 +64,12 @@ function bothFaults(text) {
     const own = faults(engine, text);
     const plain = (list) => JSON.stringify(list.map(({ kind, line, column, why, hint }) =>
         [kind, line, column, why, hint ?? null]), undefined, 1);
-    return { count: own.length, own: plain(own), real: plain(real.faults ?? []) };
+    const told = real.accepted ? warnings(text).map(({ line, column, words }) => `${line}:${column}: ${words}`) : [];
+    return {
+        count: own.length + told.length,
+        own: plain(own) + JSON.stringify(told),
+        real: plain(real.faults ?? []) + JSON.stringify(real.warnings ?? []),
+    };
 }
 
 function same(what, { own, real }) {
@@ -101,6 +107,19 @@ function slipped(text) {
 }
 let found = 0;
 const tries = 400;
+// what is written so and hardly meant
+const ODD = ["if(1, a, 2)", "(a > 1) < 5", "!(a > 1 && 0)", "2 == 1 + 1", "(a == 1) >= 0", "a && 2 > 3",
+    "if(a, 1, 2) > 2", "(a < 3) * 2 > 2", "a > 0", "a * 2147483647 > 0", "a / a == 1", "0 < a < 5", "a == 1 == 1",
+    "a < 1 == a < 2", "a", "p", "if(a < 1, a < 2, (a < 3)) > a + (a < 4)", "if(a > 0, a, 1 < 0)",
+    "-2147483648 * -1 > 0", "0 - 5 < 0 || a", "b != b"];
+for (const formula of ODD) {
+    const text = `param p = 1\nevent e rank 1\nevent f rank 1\nactive a = 0 seen by nobody\n  on e: ${formula}\n`
+        + `active b = 0\n  on e: b\npassive c = 1 + ${formula.replace("p", "2")}\n`
+        + "row r[3] = 0 seen by nobody\n  on e: r\n";
+    const both = bothFaults(new TextEncoder().encode(text));
+    same(`what is odd in ${formula}`, both);
+    if (both.count < 2) fail(`too little is odd in ${formula}`, 2, both.count);
+}
 for (let k = 0; k < tries; k++) {
     const text = slipped(data.files[sheets[draw(sheets.length)]]);
     const both = bothFaults(new TextEncoder().encode(draw(2) === 0 ? text : slipped(text)));
@@ -126,7 +145,7 @@ async function bothPhones(name) {
     for (const k of [1, 2]) rmSync(join(room, `out-${k}.play`), { force: true });
     const told = run("differ", name, "out", "--boards", String(BOARDS), ...named).stdout;
     if (two === undefined) {
-        const none = data.hints[all ? "search.all" : "search.first"].replace("{0}", looked.toLocaleString("en"));
+        const none = words(all ? "search.all" : "search.first", several(looked, "board", "boards"));
         if (apart && !told.includes(none)) fail(`${name}: none is found`, told, none);
         return 0;
     }
@@ -185,5 +204,8 @@ same("a slip before a hint is changed", bothFaults(slip));
 data.hints["operator.remainder"] = "planted";
 const { own, real } = bothFaults(slip);
 if (own === real) fail("a planted hint was not found", real, own);
+data.hints["warn.own"] = "planted";
+const own_ = bothFaults(new TextEncoder().encode("event e rank 1\nactive a = 0\n  on e: a\n"));
+if (own_.own === own_.real) fail("a planted warning was not found", own_.real, own_.own);
 console.log(`workbench: ${count} scripts print setter play's lines; ${found} faults of ${tries} slips have its words;`,
     `${parted} pairs that part are those of setter differ`);
