@@ -15,7 +15,8 @@
 //!    of their numbers: does the first and then the second lead to the same board as the second and then the first? The
 //!    others need not be asked: it is proved that they do. Two boards are a find. Where winners are named, the first
 //!    find in which one of them differs counts, and else the first of all.
-//! 4. At most so many boards are looked at, and four times as many kept. Where none is left, all were looked at.
+//! 4. At most so many boards are looked at; one that would come later than that in `wide` is not kept. Where none is
+//!    left and none was dropped, all were looked at.
 //! 5. A find becomes shorter: of the events before the pair all are left out, or a half, a quarter and so on down to
 //!    single ones, from the first on, wherever the pair's two orders still lead to two boards without them.
 //! 6. Its two lists have the events before, each run to idle, then the less urgent event of the pair and the more
@@ -72,12 +73,10 @@ pub struct Search<'a> {
 /// So many steps take about as long as to copy a round, hand in an event and read the board.
 const COPY: u64 = 900;
 /// So many of these steps are about two seconds.
-const BUDGET: u64 = 3_000_000_000;
+const BUDGET: u64 = 2_500_000_000;
 /// Boards where no number is named, at least and at most.
 const FEW: u64 = 50;
 const MANY: u64 = 200_000;
-/// For each board that may be looked at, so many are kept.
-const KEPT: usize = 4;
 /// So often in a row one event is followed before others.
 const ROW: u32 = 200;
 
@@ -149,18 +148,19 @@ struct Boards {
 }
 
 impl Boards {
-    fn add(&mut self, round: &Round, from: usize, event: Option<Event>, most: usize) -> Result<(), Refusal> {
+    /// A board that an event led to, if it is new; `room` is how many are still looked at.
+    fn add(&mut self, round: &Round, from: usize, event: Option<Event>, room: usize) -> Result<(), Refusal> {
         let board = board(round)?;
         if self.known.contains(&board) {
             return Ok(());
         }
-        if self.found.len() >= most.saturating_mul(KEPT) {
+        let before = self.found.get(from).filter(|f| f.event == event).map_or(0, |f| f.row);
+        let (at, row) = (self.found.len(), before + 1);
+        if row == 1 && self.wide.len() >= room {
             self.more = true;
             return Ok(());
         }
         self.known.insert(board);
-        let before = self.found.get(from).filter(|f| f.event == event).map_or(0, |f| f.row);
-        let (at, row) = (self.found.len(), before + 1);
         match row {
             1 => self.wide.push_back(at),
             3..=ROW => self.long.push_front(at),
@@ -213,7 +213,7 @@ impl Search<'_> {
         while looked < most {
             let Some(at) = boards.next(looked) else { break };
             looked += 1;
-            if let Some(mut found) = self.look(&mut boards, at)? {
+            if let Some(mut found) = self.look(&mut boards, at, most - looked)? {
                 let won = self.winners.is_empty() || self.won(&found);
                 if won || first.is_none() {
                     found.before = boards.way(at);
@@ -234,12 +234,12 @@ impl Search<'_> {
     }
 
     /// One board: what follows it is found, and its pairs are asked. A find has no events before it yet.
-    fn look(&self, boards: &mut Boards, at: usize) -> Result<Option<Apart>, Refusal> {
+    fn look(&self, boards: &mut Boards, at: usize, room: usize) -> Result<Option<Apart>, Refusal> {
         let round = unpacked(self.table, &std::mem::take(&mut boards.found[at].round));
         let count = self.table.events()?;
         let next: Vec<Round> = (0..count).map(|e| commit(&round, Event(e))).collect::<Result<_, _>>()?;
         for (e, round) in next.iter().enumerate() {
-            boards.add(round, at, Some(Event(e as u32)), self.most)?;
+            boards.add(round, at, Some(Event(e as u32)), room)?;
         }
         let mut first = None;
         for (slow, urgent) in &self.pairs {
