@@ -1,29 +1,32 @@
 -- What follows an operand: each answer is the turn that `afterOperand` takes on the sign there.
 use Prim.Native.Nat.{ℕ, zero, suc, _-_, _≤_, _<_}
-use mathlib.Core.Bool.{Bool, true, false, _&&_}
+use mathlib.Core.Bool.{Bool, true, false, _&&_, true≢false}
 use mathlib.Core.Path.{_≡_, refl, sym, ap, _∙_}
 use mathlib.Core.List.{List, _∷_}
 use native.Mathlib.Omega.{arith}
-use lib.ListN.{length}
+use lib.ListN.{length, getD, List·getD-eq-default}
 use lib.Dec.{ltb, leb, eqb}
-use borrow.Author.Tests.{ltb-true, ltb-false, leb-true, eqb-true, eqb-false, lt-ltb, le-ltb, ne-eqb}
+use borrow.Author.Tests.{ltb-true, ltb-false, leb-true, eqb-true, eqb-false, lt-ltb, le-ltb, lt-leb, ne-eqb}
 use Rattle.lib_base.specs.Basics.{pick}
 use Rattle.lib_base.proofs.Tools.{by-test, past, split}
 use Rattle.text_formula.specs.Reader.{level}
-use Rattle.source_language.specs.Tokens.{SheetToken, sign, closing}
+use Rattle.source_language.specs.Tokens.{SheetToken, sign, closing, isDigit, isLetter, inWord}
 use Rattle.source_language.specs.Text.{Phrase, operation}
 use Rattle.source_language.specs.Faults.{outside, tooDeep}
 use Rattle.source_language.specs.Limits.{phraseNesting}
 use Rattle.source_language.specs.Reader.{Phrased, bad, got, thenPhrase, placeAt, signAt, pastSign, withOperator, afterOperand}
 use Rattle.source_coding.specs.Faults.{faultWord}
 use Rattle.source_coding.specs.Places.{tokensFrom}
+use Rattle.source_tokens.specs.Token.{PassedOver}
+use Rattle.source_tokens.proofs.Begun.{tokens-some}
+use Rattle.source_tokens.proofs.Words.{NoOperator, word-no-operator}
 use Rattle.source_due.specs.Due.{SignTold}
 use Rattle.source_due.specs.declared.Due.{Due}
 use Rattle.source_due.specs.declared.Due.the-variants as D
 use Rattle.source_due.proofs.Passes.{sign-passes, sign-fails}
 use Rattle.source_field.specs.declared.Read.{Read}
 use Rattle.source_field.specs.declared.Read.the-variants as R
-use Rattle.source_onward.specs.Onward.{SignStands, TokenPassed, joinsIn, onwardOf, OnwardRead, EndedRead}
+use Rattle.source_onward.specs.Onward.{SignStands, SignAhead, TokenPassed, joinsIn, onwardOf, OnwardRead, EndedRead}
 use Rattle.source_onward.specs.declared.Onward.{Onward}
 use Rattle.source_onward.specs.declared.Onward.the-variants.{Ended, Closed, Operator, Fault}
 
@@ -89,9 +92,47 @@ module _ (next : ℕ → List SheetToken → Phrased Phrase) (room l m : ℕ) (a
   unfolding pastSign
   after-missing k e h = after-unjoined k e ∙ rw (ne-eqb (signAt ts) 16 h)
 
+-- ---- the sign ahead
+
+no-level : (c : ℕ) → NoOperator c → level c ≡ 0
+no-level c n = split (ltb 0 (level c)) (λ t. let b = level-range c (ltb-true 0 (level c) t) in let h = n .0 (b .0) in absurd (omega arith)) (λ f. omega (arith, ltb-false 0 (level c) f))
+
+module _ (text : List ℕ) (at p : ℕ) (o : PassedOver text at p) where
+  begins-word : inWord (getD text p 0) ≡ true → p < length text
+  unfolding inWord isLetter isDigit
+  begins-word e =
+      split (ltb p (length text)) (λ t. ltb-true p (length text) t)
+      (λ f. absurd (true≢false (sym e ∙ ap inWord (List·getD-eq-default text 0 (ltb-false p (length text) f)))))
+
+  pub ahead-word : at ≤ length text → inWord (getD text p 0) ≡ true → SignAhead text at p 0 p
+  unfolding level
+  ahead-word h e =
+      let n = word-no-operator text p (o .begun (begins-word e)) e in
+      record {
+        level-is = ap (λ (ts : List SheetToken). level (signAt ts)) (o .all) ∙ no-level (signAt (tokensFrom text p)) (n .0);
+        closing-is = λ q. absurd (n .0 .1 (ap signAt (sym (o .all)) ∙ q));
+        place-is = ap placeAt (o .all) ∙ n .1;
+        some = tokens-some text at h;
+        within = o .within;
+        onward = λ x y. absurd (omega arith);
+        further = λ x y. absurd (omega arith);
+      }
+
+  pub ahead-sign : (q c next to : ℕ) → SignStands text p q c next → PassedOver text next to → SignAhead text at q c to
+  ahead-sign q c next to s n =
+      record {
+        level-is = ap (λ (ts : List SheetToken). level (signAt ts)) (o .all) ∙ ap level (s .sign-is);
+        closing-is = λ z. sym (s .sign-is) ∙ ap signAt (sym (o .all)) ∙ z;
+        place-is = ap placeAt (o .all) ∙ s .place-is;
+        some = rw (o .all) (s .some);
+        within = s .within;
+        onward = λ x y. o .all ∙ s .onward x y ∙ ap (λ (ts : List SheetToken). sign q c ∷ ts) (n .all);
+        further = λ x y. let b = s .further x y in (omega (arith, o .onward, n .onward), n .within);
+      }
+
 -- ---- all that can follow
 
-module _ (text : List ℕ) (at l depth room p c next : ℕ) (few : l ≤ 6) (s : SignStands text at p c next) where
+module _ (text : List ℕ) (at l depth room p c next : ℕ) (few : l ≤ 6) (s : SignAhead text at p c next) where
   passed : 0 < c → c < 34 → TokenPassed text at next
   passed x y =
       let b = s .further x y in
@@ -113,13 +154,13 @@ module _ (text : List ℕ) (at l depth room p c next : ℕ) (few : l ≤ 6) (s :
       (λ e go m a d. record {
         kind = tooDeep;
         place = p;
-        turned = after-deep go room l m a (tokensFrom text at) k (rw (s .sign-is) j) (rw d (ltb-false depth room e)) ∙ rw (s .place-is);
+        turned = after-deep go room l m a (tokensFrom text at) k (rw (s .level-is) j) (rw d (ltb-false depth room e)) ∙ rw (s .place-is);
         word = refl;
       })
 
   unjoined : (k : ℕ) → joinsIn (level c) l k ≡ false
       → OnwardRead text at l k depth room (pick (eqb k 0) Ended (pick (eqb c 16) (Closed next) (Fault (faultWord outside p))))
-  unjoined zero j = λ go m a. after-ended go room l m a (tokensFrom text at) (rw (s .sign-is) j)
+  unjoined zero j = λ go m a. after-ended go room l m a (tokensFrom text at) (rw (s .level-is) j)
   unjoined (suc k) j =
       rw (ne-eqb (suc k) 0 (λ e. omega arith))
       (by-test (OnwardRead text at l (suc k) depth room) (eqb c 16)
@@ -133,13 +174,23 @@ module _ (text : List ℕ) (at l depth room p c next : ℕ) (few : l ≤ 6) (s :
       (λ e go m a d. record {
         kind = outside;
         place = p;
-        turned = after-missing go room l m a (tokensFrom text at) k (rw (s .sign-is) j) (λ q. eqb-false c 16 e (sym (s .sign-is) ∙ q)) ∙ rw (s .place-is);
+        turned = after-missing go room l m a (tokensFrom text at) k (rw (s .level-is) j) (λ q. eqb-false c 16 e (s .closing-is q)) ∙ rw (s .place-is);
         word = refl;
       }))
 
   pub onward-read : (k : ℕ) (r : Onward) → r ≡ onwardOf p c next l k depth room → OnwardRead text at l k depth room r
   unfolding onwardOf
   onward-read k r e = rw e (by-test (OnwardRead text at l k depth room) (joinsIn (level c) l k) (operator-on k) (unjoined k))
+
+-- a formula of the lowest level ends, whatever follows
+no-operator : (t : ℕ) → joinsIn t 0 0 ≡ false
+unfolding joinsIn
+no-operator zero = refl
+no-operator (suc t) = rw (ne-eqb (suc t) 0 (λ e. omega arith), lt-leb (suc t) 0 (omega arith))
+
+pub onward-lowest : (text : List ℕ) (at l k depth room : ℕ) → l ≡ 0 → k ≡ 0 → OnwardRead text at l k depth room Ended
+onward-lowest text at l k depth room e d =
+    rw (e, d) (λ go m a. after-ended go room 0 m a (tokensFrom text at) (no-operator (level (signAt (tokensFrom text at)))))
 
 -- ---- the `)` of an `if`
 
@@ -152,8 +203,14 @@ module _ (text : List ℕ) (at depth end w : ℕ) (r : Read) (is : r ≡ R.Done 
       let h = rw e at due in
       rw is (λ x. record { kind = outside; place = placeAt (tokensFrom text at); turned = sign-fails text at closing (λ us. got x us) v h; word = h .1 })
 
-  pub ended-found : (p c to : ℕ) → d ≡ D.Found p c to → (at < to) × (to ≤ length text) → EndedRead text r (R.Done to depth end w)
-  ended-found p c to e b =
+  pub ended-found : (p c to next : ℕ) → d ≡ D.Found p c to → (at < to) × (to ≤ length text) → PassedOver text to next → EndedRead text r (R.Done next depth end w)
+  ended-found p c to next e b o =
       let h = rw e at due in
-      let z : length (tokensFrom text at) ≡ suc (length (tokensFrom text to)) = ap length h in
-      rw is (λ x. sign-passes text at closing (λ us. got x us) p c to h, refl, refl, refl, omega arith)
+      let z : length (tokensFrom text at) ≡ suc (length (tokensFrom text next)) = ap length h ∙ ap (λ (ts : List SheetToken). suc (length ts)) (o .all) in
+      rw is (
+        λ x. sign-passes text at closing (λ us. got x us) p c to h ∙ ap (λ (ts : List SheetToken). got x ts) (o .all),
+        refl,
+        refl,
+        refl,
+        omega (arith, o .onward, o .within),
+      )

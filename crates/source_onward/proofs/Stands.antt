@@ -11,7 +11,7 @@ use Rattle.source_language.specs.Tokens.{SheetToken, sign, opening, endSign}
 use Rattle.source_language.specs.Text.{Phrase}
 use Rattle.source_language.specs.Reader.{Phrased, placeAt, signAt, fromOperand}
 use Rattle.source_coding.specs.Places.{tokensFrom}
-use Rattle.source_tokens.specs.Token.{TokenAt, TokenWithin, OpeningAt}
+use Rattle.source_tokens.specs.Token.{TokenAt, TokenWithin, PassedOver, OpeningAt}
 use Rattle.source_tokens.specs.declared.Token.{Token}
 use Rattle.source_tokens.specs.declared.Token.the-variants.{Number, Name, Sign}
 use Rattle.source_onward.specs.Onward.{SignStands, BracketsOpened}
@@ -26,6 +26,7 @@ module _ (text : List ℕ) (at : ℕ) (t : Token) (is : TokenAt text at t) (in-t
         place-is = ap placeAt (h .1);
         some = rw (h .1) (omega arith);
         within = omega arith;
+        behind = omega arith;
         onward = λ x y. absurd (omega arith);
         further = λ x y. absurd (omega arith);
       }
@@ -39,6 +40,7 @@ module _ (text : List ℕ) (at : ℕ) (t : Token) (is : TokenAt text at t) (in-t
         place-is = ap placeAt h;
         some = rw h (omega arith);
         within = omega arith;
+        behind = omega arith;
         onward = λ x y. absurd (omega arith);
         further = λ x y. absurd (omega arith);
       }
@@ -52,6 +54,7 @@ module _ (text : List ℕ) (at : ℕ) (t : Token) (is : TokenAt text at t) (in-t
         place-is = ap placeAt h;
         some = rw h (omega arith);
         within = omega arith;
+        behind = omega arith;
         onward = λ x y. h ∙ rw (lt-leb endSign c y);
         further = λ x y. let z = b .3 y in omega arith;
       }
@@ -97,14 +100,14 @@ module _ {text : List ℕ} {at first opened : ℕ} (o : Opening text at first op
             rw (z, add-one opened) (o .whole go room i (suc m) ∙ one-opens go room i m opened (s .opens e .0) (tokensFrom text first) (tokensFrom text next) h);
       }
 
-  pub opening-end : next ≡ 0 → BracketsOpened text at first opened
-  opening-end e =
+  pub opening-end : next ≡ 0 → (p : ℕ) → PassedOver text first p → BracketsOpened text at p opened
+  opening-end e p b =
       record {
-        from = o .from;
-        within = o .within;
-        few = o .few;
-        counted = o .counted;
-        some = s .some;
-        other = s .other e;
-        whole = o .whole;
+        from = omega (arith, o .from, b .onward);
+        within = b .within;
+        few = omega (arith, o .few, b .onward);
+        counted = rw (← b .all) (o .counted);
+        some = rw (← b .all) (s .some);
+        other = rw (← b .all) (s .other e);
+        whole = λ go room l m. rw (← b .all) (o .whole go room l m);
       }

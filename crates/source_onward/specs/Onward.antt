@@ -29,6 +29,17 @@ pub record SignStands (text : List ℕ) (at p c next : ℕ) : Type 0 where
   pub place-is : placeAt (tokensFrom text at) ≡ p
   pub some : 0 < length (tokensFrom text at)
   pub within : p ≤ length text
+  pub behind : next ≤ length text
+  pub onward : 0 < c → c < endSign → tokensFrom text at ≡ sign p c ∷ tokensFrom text next
+  pub further : 0 < c → c < endSign → (at < next) × (next ≤ length text)
+
+-- the sign at a place as far as a formula goes on by it: 0 stands for any that is no operator and no `)`
+pub record SignAhead (text : List ℕ) (at p c next : ℕ) : Type 0 where
+  pub level-is : level (signAt (tokensFrom text at)) ≡ level c
+  pub closing-is : signAt (tokensFrom text at) ≡ closing → c ≡ closing
+  pub place-is : placeAt (tokensFrom text at) ≡ p
+  pub some : 0 < length (tokensFrom text at)
+  pub within : p ≤ length text
   pub onward : 0 < c → c < endSign → tokensFrom text at ≡ sign p c ∷ tokensFrom text next
   pub further : 0 < c → c < endSign → (at < next) × (next ≤ length text)
 

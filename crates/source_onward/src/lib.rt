@@ -6,7 +6,10 @@ use source_due::fault_word;
 use source_due::sign_due;
 use source_field::Read;
 use source_tokens::Token;
+use source_tokens::byte_at;
+use source_tokens::in_word;
 use source_tokens::opening_at;
+use source_tokens::pass_over;
 use source_tokens::token_at;
 use spec_language::functions;
 use text_formula::levels;
@@ -15,7 +18,7 @@ ghost use Prim.Native.Nat.{_≤_, _<_};
 ghost use lib.ListN.{length};
 ghost use Rattle.text_formula.specs.Reader.{level as levelOf};
 ghost use Rattle.source_coding.specs.Places.{tokensFrom};
-ghost use Rattle.source_onward.specs.Onward.{SignStands, BracketsOpened, joinsIn, onwardOf, OnwardRead, ReadInside, EndedRead};
+ghost use Rattle.source_onward.specs.Onward.{SignStands, SignAhead, BracketsOpened, joinsIn, onwardOf, OnwardRead, ReadInside, EndedRead};
 
 // The place of a token, its sign's number, 0 for another token, and the place behind it.
 pub struct Standing {
@@ -64,7 +67,30 @@ pub fn standing_at(text: &[u8], at: usize) -> Standing
     }
 }
 
-// The brackets that open from a place on.
+// The sign ahead, as far as a formula goes on by it: it does by no word, of which only the first byte is read. Behind a
+// sign is the place of the next token, for all formulas that end there.
+fn sign_ahead(text: &[u8], at: usize) -> Standing
+    requires { ⌜ length (now text) ≤ 65536 ⌝ }
+    requires { ⌜ at ≤ length (now text) ⌝ }
+    ensures { λ r. ⌜ SignAhead (now (text .entry)) at (r .place) (r .sign) (r .next) ⌝ }
+{
+    let p = pass_over(text, at);
+    if in_word(byte_at(text, p)) {
+        return Standing {
+            place: p,
+            sign: 0,
+            next: p,
+        };
+    }
+    let standing = standing_at(text, p);
+    Standing {
+        place: standing.place,
+        sign: standing.sign,
+        next: pass_over(text, standing.next),
+    }
+}
+
+// The brackets that open from a place on, and the token behind them.
 pub fn brackets_at(text: &[u8], at: usize) -> Brackets
     requires { ⌜ length (now text) ≤ 65536 ⌝ }
     requires { ⌜ at ≤ length (now text) ⌝ }
@@ -76,7 +102,7 @@ pub fn brackets_at(text: &[u8], at: usize) -> Brackets
         let next = opening_at(text, first);
         if next == 0 {
             return Brackets {
-                first: first,
+                first: pass_over(text, first),
                 opened: opened,
             };
         }
@@ -155,7 +181,8 @@ fn onward_of(
     Onward::Fault(fault_word(faults::OUTSIDE, place))
 }
 
-// What follows an operand that nests so deep, in a formula of a level, inside so many brackets of its own.
+// What follows an operand that nests so deep, in a formula of a level, inside so many brackets of its own. One of the
+// lowest level is an operand alone.
 pub fn onward_at(
     text: &[u8],
     at: usize,
@@ -170,7 +197,12 @@ pub fn onward_at(
     ensures { λ r. ⌜ OnwardRead (now (text .entry)) at level opened depth room r ⌝ }
     ensures { λ _. ⌜ 0 < length (tokensFrom (now (text .entry)) at) ⌝ }
 {
-    let standing = standing_at(text, at);
+    if level == 0 {
+        if opened == 0 {
+            return Onward::Ended;
+        }
+    }
+    let standing = sign_ahead(text, at);
     onward_of(
         standing.place,
         standing.sign,
@@ -192,7 +224,7 @@ pub fn ended(text: &[u8], r: Read) -> Read
         return r;
     };
     match sign_due(text, at, signs::CLOSING) {
-        Due::Found(p, c, to) => Read::Done(to, depth, end, w),
+        Due::Found(p, c, to) => Read::Done(pass_over(text, to), depth, end, w),
         Due::Fault(v) => Read::Fault(v),
     }
 }

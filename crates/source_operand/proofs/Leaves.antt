@@ -19,7 +19,7 @@ use Rattle.source_language.specs.Meaning.{NameMeaning, nameTerm, cellTerm, term
 use Rattle.source_language.specs.Reader.{Phrased, bad, got, thenPhrase, placeAt, signAt, tokensAfter, pastSign, numberDue, valueOf, cellOf, readConstant}
 use Rattle.source_coding.specs.Places.{tokensFrom, nameAt}
 use Rattle.source_coding.specs.Sizes.{phraseSize}
-use Rattle.source_tokens.specs.Token.{TokenAt, TokenWithin}
+use Rattle.source_tokens.specs.Token.{TokenAt, TokenWithin, PassedOver}
 use Rattle.source_tokens.specs.declared.Token.{Token}
 use Rattle.source_tokens.specs.declared.Token.the-variants.{Number, Name, Sign}
 use Rattle.source_due.specs.Due.{SignTold, NumberTold, ValueTold, DueWithin}
@@ -32,7 +32,7 @@ use Rattle.source_field.specs.declared.Read.{Read}
 use Rattle.source_field.specs.declared.Read.the-variants.{Done, Fault}
 use Rattle.source_field.proofs.Laid.{laid-leaf, laid-fault, encodedOf}
 use Rattle.source_field.proofs.Parts.{laid-written}
-use Rattle.source_operand.specs.Operand.{LeafAs, leafDone, leafPlaced, cellNumber, CellDue, NoMoreLeft, plainOf}
+use Rattle.source_operand.specs.Operand.{LeafAs, leafDone, leafPlaced, cellNumber, CellDue, NoMoreLeft, plainOf, PlaceWithin, SettledRead}
 use Rattle.source_operand.specs.declared.Leaf.{Leaf}
 use Rattle.source_operand.specs.declared.Leaf.the-variants.{Known, Unknown}
 
@@ -219,3 +219,34 @@ module _ (text : List ℕ) (find : List ℕ → NameMeaning) (c at n : ℕ) (o o
       let d = rw e at b in
       let q : plainOf (tokensFrom text at) ≡ cellOf p (nameAt text p) (tokensFrom text next) = rw z in
       rw q record { reads = f .0; within = within-earlier p r (d .0) (f .1 .0); fewer = fewer-left next r (ap length z) (f .1 .1); kept = long }
+
+-- ---- up to the token behind it
+
+pub settled-fault : (text : List ℕ) (r : Read) (w : ℕ) → r ≡ Fault w → SettledRead text r r
+settled-fault text r w e = rw e refl
+
+pub settled-done : (text : List ℕ) (r : Read) (to depth end w next : ℕ) → r ≡ Done to depth end w → PassedOver text to next → SettledRead text r (Done next depth end w)
+settled-done text r to depth end w next e b = rw e (next, refl, b)
+
+pub read-within : (long room at n : ℕ) (r : Read) → FormulaWithin long room at n r → PlaceWithin long r
+read-within long room at n (Fault w) h = tt
+read-within long room at n (Done to depth end w) h = h .1
+
+module _ (text : List ℕ) (find : List ℕ → NameMeaning) (c room at n : ℕ) (o p : List ℕ) where
+  settled-reads : (r q : Read) (g : Phrased Phrase) → FormulaRead text find c n o p r g → SettledRead text r q → FormulaRead text find c n o p q g
+  settled-reads (Fault w) q g h e = rw e h
+  settled-reads (Done to depth end w) q (bad k j) h e = absurd h
+  settled-reads (Done to depth end w) q (got x us) h (next, e, b) =
+      rw e record { onward = h .onward ∙ b .all; nests = h .nests; size = h .size; names = h .names; bytes = h .bytes }
+
+  settled-within : (r q : Read) → FormulaWithin (length text) room at n r → SettledRead text r q → FormulaWithin (length text) room at n q
+  settled-within (Fault w) q h e = rw e tt
+  settled-within (Done to depth end w) q h (next, e, b) = rw e (omega (arith, b .onward, b .within))
+
+  settled-fewer : (r q : Read) → FewerLeft text at r → SettledRead text r q → FewerLeft text at q
+  settled-fewer (Fault w) q h e = rw e tt
+  settled-fewer (Done to depth end w) q h (next, e, b) = rw (e, ← b .all) h
+
+  pub settled-part : (r q : Read) (g : Phrased Phrase) → PartRead text find c room at n o p r g → SettledRead text r q → PartRead text find c room at n o p q g
+  settled-part r q g h e =
+      record { reads = settled-reads r q g (h .reads) e; within = settled-within r q (h .within) e; fewer = settled-fewer r q (h .fewer) e; kept = h .kept }

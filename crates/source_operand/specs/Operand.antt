@@ -13,6 +13,7 @@ use Rattle.source_language.specs.Meaning.{NameMeaning, nothing, aParameter, aBe
 use Rattle.source_language.specs.Reader.{Phrased, bad, got, pastSign, numberDue, readConstant, cellOf}
 use Rattle.source_coding.specs.Faults.{faultWord}
 use Rattle.source_coding.specs.Places.{tokensFrom}
+use Rattle.source_tokens.specs.Token.{PassedOver}
 use Rattle.source_field.specs.Fields.{placedIn}
 use Rattle.source_field.specs.declared.Read.{Read}
 use Rattle.source_field.specs.declared.Read.the-variants.{Done, Fault}
@@ -76,3 +77,13 @@ plainOf [] = bad outside 0
 plainOf (number p n ∷ ts) = readConstant (number p n ∷ ts)
 plainOf (name p s ∷ ts) = cellOf p s ts
 plainOf (sign p c ∷ ts) = readConstant (sign p c ∷ ts)
+
+-- a reading's place is in a text of so many bytes
+abbrev pub PlaceWithin : ℕ → Read → Type 0
+PlaceWithin long (Fault w) = Unit {0}
+PlaceWithin long (Done to depth end w) = to ≤ long
+
+-- the same reading, up to the token behind it
+abbrev pub SettledRead : List ℕ → Read → Read → Type 0
+SettledRead text (Fault w) q = q ≡ Fault w
+SettledRead text (Done to depth end w) q = (next : ℕ) × (q ≡ Done next depth end w) × PassedOver text to next

@@ -13,6 +13,7 @@ use source_field::put_constant;
 use source_field::put_named;
 use source_names::index_of;
 use source_tokens::Token;
+use source_tokens::pass_over;
 use source_tokens::token_at;
 use spec_language::tags;
 use text_encode::CONSTANT_BYTES;
@@ -27,7 +28,7 @@ ghost use Rattle.source_language.specs.Reader.{readConstant, cellOf};
 ghost use Rattle.source_coding.specs.Places.{tokensFrom, nameAt, behaviourOrRow, meaningAt, meaningIn};
 ghost use Rattle.source_due.specs.Due.{DueWithin};
 ghost use Rattle.source_field.specs.Formula.{FormulaRead, FormulaWithin, FewerLeft, PartRead};
-ghost use Rattle.source_operand.specs.Operand.{meantBy, MeaningWithin, LeafAs, LeafWithin, leafDone, leafPlaced, CellDue, NoMoreLeft, plainOf};
+ghost use Rattle.source_operand.specs.Operand.{meantBy, MeaningWithin, LeafAs, LeafWithin, leafDone, leafPlaced, CellDue, NoMoreLeft, plainOf, PlaceWithin, SettledRead};
 
 // What a name means: nothing, a parameter, a behaviour, or a row by its first cell and its count.
 pub enum Meaning {
@@ -236,8 +237,8 @@ fn constant_at(text: &[u8], at: usize, out: &mut [u8], n: usize) -> Read
     }
 }
 
-// An operand that has no parts: a constant, a name or a cell.
-pub fn plain_at(
+// A constant, a name or a cell, by its first token.
+fn leaf_at(
     text: &[u8],
     at: usize,
     places: &[usize],
@@ -259,4 +260,38 @@ pub fn plain_at(
         Token::Name(p, next) => named_at(text, p, next, places, params, firsts, cells, out, n),
         Token::Sign(p, c, next) => constant_at(text, at, out, n),
     }
+}
+
+// What was read, up to the token behind it: blanks and comments there are passed over once, however many formulas end
+// there.
+fn settled(text: &[u8], r: Read) -> Read
+    requires { ⌜ PlaceWithin (length (now text)) r ⌝ }
+    ensures { λ q. ⌜ SettledRead (now (text .entry)) r q ⌝ }
+{
+    let Read::Done(to, depth, end, w) = r else {
+        return r;
+    };
+    Read::Done(pass_over(text, to), depth, end, w)
+}
+
+// An operand that has no parts: a constant, a name or a cell, up to the token behind it.
+pub fn plain_at(
+    text: &[u8],
+    at: usize,
+    places: &[usize],
+    params: usize,
+    firsts: &[usize],
+    cells: usize,
+    out: &mut [u8],
+    n: usize,
+) -> Read
+    requires { ⌜ length (now text) ≤ 65536 ⌝ }
+    requires { ⌜ at ≤ length (now text) ⌝ }
+    requires { ⌜ n ≤ 2097152 ⌝ }
+    requires { ⌜ length (now places) ≤ 72 ⌝ }
+    requires { ⌜ All (λ x. x ≤ 64) (now firsts) ⌝ }
+    ensures { λ r. ⌜ PartRead (now (text .entry)) (meaningIn (now (text .entry)) (now (places .entry)) params (now (firsts .entry))) cells 1 at n (now (out .entry)) (now (out .exit)) r (plainOf (tokensFrom (now (text .entry)) at)) ⌝ }
+{
+    let r = leaf_at(text, at, places, params, firsts, cells, out, n);
+    settled(text, r)
 }

@@ -1,5 +1,5 @@
 -- The token that begins at a place, for each kind of first byte: what stands there, and where the rest begins.
-use Prim.Native.Nat.{ℕ, suc, _+_, _*_, _-_, _≤_, _<_}
+use Prim.Native.Nat.{ℕ, zero, suc, _+_, _*_, _-_, _≤_, _<_}
 use mathlib.Core.Bool.{true, false}
 use mathlib.Core.Path.{_≡_, refl, sym, ap, _∙_}
 use mathlib.Core.List.{List, [], _∷_}
@@ -8,12 +8,12 @@ use native.Mathlib.Numerals.{add-one}
 use lib.ListN.{length, getD, take, drop, length-drop}
 use lib.Seq.{getD-drop, drop-drop}
 use lib.Dec.{ltb, leb, eqb}
-use borrow.Author.Tests.{ltb-true, ltb-false, le-ltb, le-leb, lt-leb, eq-eqb, ne-eqb}
+use borrow.Author.Tests.{ltb-true, ltb-false, le-ltb, le-leb, lt-leb, eqb-true, eq-eqb, ne-eqb}
 use Rattle.lib_base.specs.Basics.{pick}
-use Rattle.lib_base.proofs.Tools.{by-test}
+use Rattle.lib_base.proofs.Tools.{by-test, split}
 use Rattle.text_formula.specs.Tokens.{decimalValue}
 use Rattle.source_language.specs.Tokens.{SheetToken, number, name, sign, marks, reserved, signOf, isDigit, inWord, isBlank, inComment}
-use Rattle.source_language.specs.Scanner.{runOfKind, begins, shortMark, markAt, longWord, firstInText}
+use Rattle.source_language.specs.Scanner.{runOfKind, FirstInText, nothing, begins, shortMark, markAt, longWord, firstInText, scanOn}
 use Rattle.source_coding.specs.Places.{tokensFrom, nameAt}
 use Rattle.source_tokens.specs.Token.{cappedAt, TokenAt, TokenWithin, TokenBegins, PassedOver}
 use Rattle.source_tokens.specs.declared.Token.{Token}
@@ -21,7 +21,7 @@ use Rattle.source_tokens.specs.declared.Token.the-variants.{Number, Name
 use Rattle.source_tokens.proofs.Bytes.{word-letter, word-none}
 use Rattle.source_tokens.proofs.Runs.{run-taken, run-here, run-ends, run-out, run-past, run-within, RunSoFar, run-start, run-turn, run-stop, run-end}
 use Rattle.source_tokens.proofs.Rows.{zero-none, mark-below, word-below}
-use Rattle.source_tokens.proofs.Scanned.{tokens-end, tokens-blank, tokens-comment, tokens-begin, tokens-stray}
+use Rattle.source_tokens.proofs.Scanned.{tokens-end, tokens-blank, tokens-comment, tokens-first, tokens-begin, tokens-stray}
 
 -- ---- a number
 
@@ -235,3 +235,29 @@ module _ (text : List ℕ) where
     s .all ∙ tokens-end text p (omega (arith, s .within)),
     (s .onward, omega arith, s .within, λ t. absurd (omega arith), omega arith, omega arith),
   )
+
+-- ---- from every place on there is a token, the end of the text if no other
+
+scan-some : (p : ℕ) (go : List ℕ → List SheetToken) (f : FirstInText) → 0 < length (scanOn p go f)
+scan-some p go nothing = omega arith
+scan-some p go (begins t rest) = omega arith
+
+some-within : (text : List ℕ) (k at : ℕ) → at ≤ length text → length text - at ≤ k → 0 < length (tokensFrom text at)
+some-within text zero at h g = rw (tokens-end text at (omega arith)) (omega arith)
+some-within text (suc k) at h g =
+    split (ltb at (length text))
+    (λ t. let l = ltb-true at (length text) t in
+    split (isBlank (getD text at 0))
+    (λ e. rw (tokens-blank text at l e) (some-within text k (at + 1) (omega arith) (omega arith)))
+    (λ e. split (eqb (getD text at 0) 35)
+    (λ d.
+    let r = (at + 1) + length (runOfKind inComment (drop (at + 1) text)) in
+    let b = run-within inComment text (at + 1) r (omega arith) refl in
+    rw (tokens-comment text at l r e (eqb-true (getD text at 0) 35 d) refl) (some-within text k r (b .1) (omega (arith, b .0))))
+    (λ d.
+    rw (tokens-first text at record { inside = l; no-blank = e; no-comment = d })
+    (scan-some at _ (firstInText at (getD text at 0) (drop (suc at) text))))))
+    (λ f. rw (tokens-end text at (omega (arith, ltb-false at (length text) f))) (omega arith))
+
+pub tokens-some : (text : List ℕ) (at : ℕ) → at ≤ length text → 0 < length (tokensFrom text at)
+tokens-some text at h = some-within text (length text - at) at h (omega arith)

@@ -5,3 +5,4 @@ pub mod Scanned
 pub mod Begun
 pub mod Opened
 pub mod Spelling
+pub mod Words

@@ -96,7 +96,7 @@ fn line_end(text: &[u8], at: usize) -> usize
 }
 
 // The first place that is in no blank and no comment.
-fn pass_over(text: &[u8], at: usize) -> usize
+pub fn pass_over(text: &[u8], at: usize) -> usize
     requires { ⌜ at ≤ length (now text) ⌝ }
     ensures { λ r. ⌜ PassedOver (now (text .entry)) at r ⌝ }
 {

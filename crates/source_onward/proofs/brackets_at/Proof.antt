@@ -20,7 +20,8 @@ brackets-at-spec =
     μ-loop
     (λ c. opening-start _ _ (c .before .pre .1))
     (λ c κs. (c .before .before .pre .0, c .loop .inv .within))
-    (λ c. opening-end (c .before .before .loop .inv) _ (c .before .opening-at .ensures) (c .if1 .taken))
+    (λ c κs. c .before .before .loop .inv .within)
+    (λ c. opening-end (c .before .before .before .loop .inv) _ (c .before .before .opening-at .ensures) (c .before .if1 .taken) _ (c .pass-over .ensures))
     (λ c. let at-loop = c .before .before in omega (arith, at-loop .loop .inv .few, at-loop .loop .inv .within, at-loop .before .before .pre .0))
     (λ c. let b = c .before .opening-at .ensures .onward (c .if1 .left) in omega arith)
     (λ c. opening-turn (c .before .before .loop .inv) _ (c .before .opening-at .ensures) (c .if1 .left)))

@@ -18,11 +18,16 @@ ended-spec =
     let h = rw (at-r .r .given .1) at (at-entry .pre .1) in
     omega (arith, at-entry .pre .0))
     (λ c. search needs)
+    (λ c κs.
+    let at-p = c .before in
+    let h = rw (at-p .p .given .1) at (at-p .before .before .sign-due .ensures .1) in
+    omega arith)
     (λ c. search needs)
     (λ c.
-    let at-sign = c .before .before .before in
-    let h = rw (c .before .p .given .1) at (at-sign .sign-due .ensures .1) in
-    ended-found _ _ _ _ _ _ (at-sign .before .before .r .given .1) _ (at-sign .sign-due .ensures .0) _ _ _ (c .before .p .given .1) (omega arith))
+    let at-p = c .before .before in
+    let at-sign = at-p .before .before in
+    let h = rw (at-p .p .given .1) at (at-sign .sign-due .ensures .1) in
+    ended-found _ _ _ _ _ _ (at-sign .before .before .r .given .1) _ (at-sign .sign-due .ensures .0) _ _ _ _ (at-p .p .given .1) (omega arith) (c .pass-over .ensures))
     (λ c.
     let at-sign = c .before .before .before in
     ended-missing _ _ _ _ _ _ (at-sign .before .before .r .given .1) _ (at-sign .sign-due .ensures .0) _ (c .before .v .given .1)))
