@@ -111,7 +111,7 @@ def check_aar(data, release, calls):
     archive = zipfile.ZipFile(io.BytesIO(data))
     check(archive.testzip() is None, "the AAR is damaged")
     files = {name: archive.read(name) for name in archive.namelist()}
-    for name in ("AndroidManifest.xml", "classes.jar", "proguard.txt", "prefab/prefab.json"):
+    for name in ("AndroidManifest.xml", "R.txt", "classes.jar", "proguard.txt", "prefab/prefab.json"):
         check(name in files, f"the AAR has no {name}")
     manifest = tree.fromstring(files["AndroidManifest.xml"])
     check(manifest.tag == "manifest" and manifest.get("package"), "the manifest names no package")
