@@ -9,6 +9,9 @@ pub type Case = (String, Vec<u8>);
 pub const FULL_EVENTS: usize = 32;
 pub const FULL_BEHAVIOURS: usize = 64;
 
+/// The most parameters of a sheet.
+const PARAMS: usize = 8;
+
 /// The most bytes of a sheet, and of a sheet's text.
 const FULL_SHEET: usize = 8192;
 const FULL_TEXT: usize = 65_536;
@@ -440,16 +443,21 @@ fn alike(n: usize) -> Vec<String> {
     firsts.chain(seconds).take(n).collect()
 }
 
-/// A text of so many bytes with 8 parameters and 64 passives, whose names are alike: each formula is made of the name
-/// of the last passive, by `formula`, which is lent that name and how many bytes it may take. Blanks fill up what is
-/// left.
-fn text_of_operands(bytes: usize, formula: &mut dyn FnMut(&str, usize) -> String) -> Vec<u8> {
-    const PARAMS: usize = 8;
-    let names = alike(PARAMS + FULL_BEHAVIOURS);
+/// As many names as there can be, and as short: of one byte, and where these are used up of two.
+fn short(n: usize) -> Vec<String> {
+    let letters: Vec<char> = ('a'..='z').chain('A'..='Z').chain(['_']).collect();
+    let longer = letters.iter().map(|c| format!("x{c}")).take(n - letters.len());
+    longer.chain(letters.iter().map(char::to_string)).collect()
+}
+
+/// A text of so many bytes with 8 parameters and 64 passives of these names: each formula is made by `formula`, which is
+/// lent the name of the last passive and how many bytes it may take. Blanks fill up what is left.
+fn text_of_operands(bytes: usize, names: &[String], formula: &mut dyn FnMut(&str, usize) -> String) -> Vec<u8> {
     let (params, passives) = names.split_at(PARAMS);
     let start: String = params.iter().map(|p| format!("param {p}\n")).collect();
     let heads: Vec<String> = passives.iter().map(|p| format!("passive {p}=")).collect();
-    let each = (bytes - start.len()) / FULL_BEHAVIOURS - heads[0].len() - 1;
+    let longest = heads.iter().map(String::len).max().unwrap();
+    let each = (bytes - start.len()) / FULL_BEHAVIOURS - longest - 1;
     let one = |head: &String| format!("{head}{:each$}\n", formula(passives.last().unwrap(), each));
     (start + &heads.iter().map(one).collect::<String>()).into_bytes()
 }
@@ -467,22 +475,27 @@ fn leveled(leaf: &str, leaves: usize, level: usize) -> String {
     }
 }
 
-/// Formulas that name the last of 72 names as often as fits, behind so many `!`: each name is compared with all of
-/// them. The sheet gets too long, and is read to its end.
-pub fn named_operands(bytes: usize, nots: usize) -> Vec<u8> {
+/// Formulas of this operand, else of the name of the last of these, as often as it fits, behind so many `!`. The sheet
+/// gets too long, and is read to its end.
+fn operands(bytes: usize, names: &[String], operand: Option<&str>, nots: usize) -> Vec<u8> {
     let most = 1 << (15 - nots);
-    text_of_operands(bytes, &mut |last, room| {
-        let leaf = "!".repeat(nots) + last;
+    text_of_operands(bytes, names, &mut |last, room| {
+        let leaf = "!".repeat(nots) + operand.unwrap_or(last);
         let leaves = (2..=most).find(|n| leveled(&leaf, *n, 6).len() > room).unwrap_or(most + 1) - 1;
         leveled(&leaf, leaves, 6)
     })
+}
+
+/// Formulas that name the last of 72 names, which are alike, behind so many `!`.
+pub fn named_operands(bytes: usize, nots: usize) -> Vec<u8> {
+    operands(bytes, &alike(PARAMS + FULL_BEHAVIOURS), None, nots)
 }
 
 /// Formulas in which sixteen end at one place, behind it these pieces without a pattern.
 pub fn trailing(bytes: usize, pieces: &[&str]) -> Vec<u8> {
     let draw = &mut Rng::new(1);
     let longest = pieces.iter().map(|p| p.len()).max().unwrap();
-    text_of_operands(bytes, &mut |last, room| {
+    text_of_operands(bytes, &alike(PARAMS + FULL_BEHAVIOURS), &mut |last, room| {
         let operators: String = ["||", "&&", "==", "<", "+", "*"].map(|op| last.to_string() + op).concat();
         let mut text = operators + &"!".repeat(9) + last;
         while text.len() + longest <= room {
@@ -497,13 +510,21 @@ pub fn digits() -> Case {
     case("a number of 65,524 digits", format!("passive a = {}", "0".repeat(FULL_TEXT - 12)).into_bytes())
 }
 
-/// Texts that are hard to read, whose last formula is read to its end.
+/// Texts that are hard to read: most are read to the end of the last formula, the others are at fault late.
 pub fn hard_texts() -> Vec<Case> {
+    let (like, short) = (alike(PARAMS + FULL_BEHAVIOURS), short(PARAMS + FULL_BEHAVIOURS));
+    let behind = |token: &str| format!("passive a = {}1 {}", "!".repeat(15), token.repeat(FULL_TEXT - 29)).into_bytes();
     vec![
         case("72 names alike, the last one behind six !, refused by 40", named_operands(FULL_TEXT, 6)),
         case("72 names alike, the last one again and again, refused by 40", named_operands(FULL_TEXT, 0)),
+        case("72 short names, the last one again and again, refused by 40", operands(FULL_TEXT, &short, None, 0)),
+        case("72 names alike, another one again and again, refused by 38", operands(FULL_TEXT, &like, Some("axy"), 0)),
+        case("ones behind six !, refused by 40", operands(FULL_TEXT, &like, Some("1"), 6)),
+        case("ones again and again, refused by 40", operands(FULL_TEXT, &like, Some("1"), 0)),
         case("sixteen formulas end before blanks, 64 times", trailing(FULL_TEXT, &[" "])),
         case("sixteen formulas end before blanks and comments, 64 times", trailing(FULL_TEXT, &[" ", "#\n"])),
+        case("sixteen formulas end before 65,507 digits, refused by 31", behind("0")),
+        case("sixteen formulas end before a word of 65,507 bytes, refused by 31", behind("a")),
     ]
 }
 
