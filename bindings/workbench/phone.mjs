@@ -8,6 +8,7 @@ import { refused } from "./words.mjs";
 
 const NO_RIGHT = 25;
 const SETTLING = 19;
+const STATEMENTS = 20_000; // so many of a script are played
 const LINES = 4000; // so many lines are told
 const SHOWN = 300; // so many of them are shown
 
@@ -49,7 +50,7 @@ export class Phone {
     // ---- the round
 
     place() {
-        return { ...this.bench, path: this.path };
+        return { ...this.bench, path: this.path, most: STATEMENTS };
     }
 
     get path() {

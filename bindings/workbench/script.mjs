@@ -14,8 +14,9 @@ export function wrong(path, line, why) {
 }
 
 /**
- * The statements of a script's bytes: [{ line, verb, .. }]. `place` is where it stands: { engine, path, given, file },
- * with the parameters given by name, and `file` giving the bytes of another file by its name, or undefined.
+ * The statements of a script's bytes: [{ line, verb, .. }]. `place` is where it stands: { engine, path, given, file,
+ * most }, with the parameters given by name, `file` giving the bytes of another file by its name, or undefined, and how
+ * many statements there may be, where that is bounded.
  */
 export function readScript(bytes, place) {
     const hint = encoding(bytes);
@@ -27,7 +28,12 @@ export function readScript(bytes, place) {
         throw new Failure(`${place.path}: is no text`);
     }
     const lines = text.split("\n").map((line) => line.split("#")[0].split(/\s+/).filter((word) => word !== ""));
-    return lines.flatMap((words, k) => (words.length === 0 ? [] : new Line(place, k + 1).statements(words)));
+    let room = place.most ?? Infinity;
+    return lines.flatMap((words, k) => {
+        const found = words.length === 0 ? [] : new Line(place, k + 1).statements(words, room);
+        room -= found.length;
+        return found;
+    });
 }
 
 /** A line that is being read. */
@@ -41,14 +47,16 @@ class Line {
         return wrong(this.place.path, this.number, why);
     }
 
-    /** One statement, or those of a `repeat`, which commas part. */
-    statements([verb, ...rest]) {
+    /** One statement, or those of a `repeat`, which commas part; at most so many as there is room for. */
+    statements([verb, ...rest], room) {
+        if (room < 1) throw this.wrong("these are more statements than the page plays");
         if (verb !== "repeat") return [this.ask(verb, rest)];
         const [count, ...repeated] = rest;
         const parts = repeated.join(" ").split(",").map((part) => part.split(" ").filter((word) => word !== ""));
         if (count === undefined || !isWhole(count, REPEATS) || parts.some((part) => part.length === 0)) {
             throw this.wrong("repeat needs a number and what to repeat: repeat COUNT STATEMENT [, STATEMENT ..]");
         }
+        if (Number(count) * parts.length > room) throw this.wrong("these are more statements than the page plays");
         return Array.from({ length: Number(count) }, () => parts.map(([own, ...words]) => this.ask(own, words))).flat();
     }
 

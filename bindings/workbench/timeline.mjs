@@ -10,6 +10,7 @@ const LANE = 30;
 const BAR = 14;
 const AXIS = 26;
 const STEP = 14; // a step's width, at most
+const NARROW = 0.4; // and at least
 const WIDEST = 16_000;
 
 /** What happened on a phone, as stretches, waits and points: marks are { step, mark }. */
@@ -66,7 +67,7 @@ export function draw(svg, phones, room) {
     const scenes = phones.map(({ marks, steps }) => sceneOf(marks, steps));
     const lanes = lanesOf(scenes);
     const steps = Math.max(1, ...phones.map((phone) => phone.steps));
-    const plot = Math.min(Math.max(room - LEFT - RIGHT, steps), WIDEST);
+    const plot = Math.min(Math.max(room - LEFT - RIGHT, NARROW * steps), WIDEST);
     const page = { lanes, step: Math.min(plot / steps, STEP), width: LEFT + plot + RIGHT, steps };
     const block = HEAD + LANE * Math.max(lanes.length, 1);
     const height = phones.length * block + AXIS;

@@ -153,6 +153,7 @@ async function slip() {
         "return document.querySelectorAll('#editor .line')[5].getAttribute('data-warning')");
     equal("a warning", warned, "this handler writes `over` to itself: leave it out");
     await browser.press(...Array.from({ length: 4 }, () => KEYS.backspace), "1");
+    await outcome("apart");
     // a rank changed in the text is played at once
     await caretAt(3);
     await browser.press(KEYS.backspace, "2");
@@ -415,6 +416,11 @@ async function hostile() {
     await browser.go(link);
     await nameIs("<b>mark<b>.sheet");
     await none("an address's markup");
+    // a script without end is turned down, and the page goes on
+    writeFileSync(script, "repeat 100000 send hit, run\n".repeat(1000));
+    await browser.type("#files", `${sheet}\n${script}`);
+    await browser.until("it is turned down",
+        "return document.querySelector('article .failure').textContent.includes('more statements than')");
 }
 
 /** The policy forbids what is not the page's own: a planted script does not run, and nothing is asked for. */
