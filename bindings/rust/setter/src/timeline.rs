@@ -4,7 +4,7 @@ use crate::file::SheetFile;
 use crate::play::{Act, Mark};
 use crate::scene::{Arrivals, Break, End, Refused, Scene, Stretch};
 use crate::wording::{folded, listed, long, player, several};
-use poqashem::Player;
+use poqashem::{Player, Refusal};
 use std::fmt::Write;
 
 // the page, in pixels
@@ -26,6 +26,8 @@ const COMMIT_WIDTH: f64 = 28.0;
 /// About so wide is a letter, and a small one.
 const LETTER: f64 = 6.4;
 const SMALL: f64 = 5.1;
+/// Signs that are no further apart share a label.
+const CLOSE: f64 = 12.0;
 /// So many readings are told below the picture; all have titles.
 const NOTES: usize = 40;
 
@@ -67,6 +69,14 @@ impl Lane {
     fn middle(&self) -> f64 {
         self.top + LANE / 2.0 + 4.0
     }
+}
+
+/// What is said beside signs from one place to another.
+struct Label {
+    from: f64,
+    to: f64,
+    wide: f64,
+    words: String,
 }
 
 /// How high it is where so many wait.
@@ -132,10 +142,21 @@ fn from(players: impl Iterator<Item = Player>) -> String {
     format!(" from {}", listed(&all.iter().map(u32::to_string).collect::<Vec<_>>()))
 }
 
-/// `36 refused from 2: full hand`.
-fn refused(group: &Refused) -> String {
-    let number = if group.count == 1 { String::new() } else { format!("{} ", long(group.count)) };
-    format!("{number}refused{}: {}", from(group.players.iter().copied()), group.refusal.word())
+/// `36 refused from 2: full hand`, of each refusal.
+fn together(close: &[&Refused]) -> String {
+    let mut kinds: Vec<Refusal> = vec![];
+    for group in close {
+        if !kinds.contains(&group.refusal) {
+            kinds.push(group.refusal);
+        }
+    }
+    let one = |kind: &Refusal| {
+        let own = || close.iter().filter(|r| r.refusal == *kind);
+        let count: u64 = own().map(|r| r.count).sum();
+        let number = if count == 1 { String::new() } else { format!("{} ", long(count)) };
+        format!("{number}refused{}: {}", from(own().flat_map(|r| r.players.iter().copied())), kind.word())
+    };
+    kinds.iter().map(one).collect::<Vec<_>>().join("; ")
 }
 
 /// The same in full.
@@ -335,29 +356,55 @@ impl Page {
         self.text(self.x(*from), y + heap(*most) + 9.0, &style, &format!("{most} wait"));
     }
 
-    /// A triangle for the arrivals of one event at one step, with their numbers and senders where there is room: to the
-    /// left where an arrow, the next one or the edge is in the way.
+    /// A triangle for the arrivals of one event at one step; of those that stand close together, and of single ones, the
+    /// numbers and senders where there is room.
     fn arrivals(&mut self, scene: &Scene, k: usize) {
         let event = self.lanes[k].event.clone();
-        let groups: Vec<&Arrivals> = scene.arrivals.iter().filter(|a| a.event == event).collect();
+        let own: Vec<&Arrivals> = scene.arrivals.iter().filter(|a| a.event == event).collect();
+        let y = self.lanes[k].middle() - BAR / 2.0 - 3.0;
+        let mut labels = vec![];
+        let step = self.step;
+        for close in own.chunk_by(|a, b| (b.step - a.step) as f64 * step < CLOSE) {
+            for group in close {
+                let all: Vec<String> = group.acts.iter().map(act).collect();
+                let x = self.x(group.step);
+                self.titled(&format!("step {}: {} arrives", group.step, listed(&all)), |page| page.triangle(x, y));
+            }
+            let acts: Vec<Act> = close.iter().flat_map(|group| group.acts.clone()).collect();
+            labels.push(self.label(close.iter().map(|group| group.step), numbers(&acts)));
+        }
+        // an arrow comes down to where the label would be
+        let arrow = |label: &Label| {
+            let comes = |b: &Break| b.of.event == event && self.x(b.step) >= label.to - 1.0;
+            scene.breaks.iter().any(|b| comes(b) && self.x(b.step) < label.to + label.wide)
+        };
+        let left: Vec<bool> = labels.iter().map(arrow).collect();
+        self.labels(&labels, &left, y - 1.0, INK);
+    }
+
+    /// A label for signs at these steps.
+    fn label(&self, steps: impl Iterator<Item = u64> + Clone, words: String) -> Label {
+        let [from, to] = [steps.clone().min(), steps.max()].map(|step| self.x(step.unwrap_or(0)));
+        Label { from, to, wide: words.len() as f64 * LETTER + 14.0, words }
+    }
+
+    /// Labels of one row: to the right of their signs, or to the left where the next sign, the edge or something else is
+    /// in the way; none where there is no room.
+    fn labels(&mut self, labels: &[Label], left: &[bool], y: f64, colour: &str) {
         let mut free = 10.0;
-        for (n, group) in groups.iter().enumerate() {
-            let (x, y) = (self.x(group.step), self.lanes[k].middle() - BAR / 2.0 - 3.0);
-            let all: Vec<String> = group.acts.iter().map(act).collect();
-            self.titled(&format!("step {}: {} arrives", group.step, listed(&all)), |page| page.triangle(x, y));
-            let words = numbers(&group.acts);
-            let wide = words.len() as f64 * LETTER + 12.0;
-            let next = groups.get(n + 1).map_or(self.width - 6.0, |g| self.x(g.step) - 6.0);
-            let arrow =
-                scene.breaks.iter().any(|b| b.of.event == event && b.step >= group.step && self.x(b.step) < x + wide);
-            let (anchor, at, end) = match (arrow || x + wide > next, x - wide > free) {
-                (false, _) => ("start", x + 7.0, x + wide),
-                (true, true) => ("end", x - 7.0, x + 7.0),
-                (true, false) => continue,
+        for (k, label) in labels.iter().enumerate() {
+            let next = labels.get(k + 1).map_or(self.width - 4.0, |next| next.from - 6.0);
+            let (anchor, at, end) = match (left[k] || label.to + label.wide > next, label.from - label.wide > free) {
+                (false, _) => ("start", label.to + 8.0, label.to + label.wide),
+                (true, true) => ("end", label.from - 8.0, label.to + 6.0),
+                (true, false) => {
+                    free = label.to + 6.0;
+                    continue;
+                }
             };
             free = end;
-            let style = format!(r#"font-size="11" text-anchor="{anchor}" fill="{INK}" {HALO}"#);
-            self.text(at, y - 1.0, &style, &words);
+            let style = format!(r#"font-size="11" text-anchor="{anchor}" fill="{colour}" {HALO}"#);
+            self.text(at, y, &style, &label.words);
         }
     }
 
@@ -375,25 +422,23 @@ impl Page {
         self.line((x - 4.5, y), (x + 4.5, y - 9.0), &style);
     }
 
-    /// A cross below the bars for what is refused at one step, with the refusals' words where there is room.
+    /// A cross below the bars for what is refused at one step; of those that stand close together, and of single ones,
+    /// how many and the refusals' words.
     fn refused(&mut self, scene: &Scene, k: usize) {
         let event = self.lanes[k].event.clone();
         let own: Vec<&Refused> = scene.refused.iter().filter(|r| r.event == event).collect();
-        let mut free = 0.0;
-        for group in own.chunk_by(|a, b| a.step == b.step) {
-            let (x, y) = (self.x(group[0].step), self.lanes[k].middle() + self.lanes[k].low);
-            let titles: Vec<String> = group.iter().map(|r| refusal(r)).collect();
-            self.titled(&titles.join("; "), |page| page.cross(x, y));
-            let words = group.iter().map(|r| refused(r)).collect::<Vec<_>>().join("; ");
-            let wide = words.len() as f64 * LETTER + 14.0;
-            let (anchor, at) = if x + wide > self.width { ("end", x - 9.0) } else { ("start", x + 9.0) };
-            if (anchor == "start" && x < free) || (anchor == "end" && x - wide < free) {
-                continue;
+        let y = self.lanes[k].middle() + self.lanes[k].low;
+        let mut labels = vec![];
+        let step = self.step;
+        for close in own.chunk_by(|a, b| (b.step - a.step) as f64 * step < CLOSE) {
+            for group in close.chunk_by(|a, b| a.step == b.step) {
+                let titles: Vec<String> = group.iter().map(|r| refusal(r)).collect();
+                let x = self.x(group[0].step);
+                self.titled(&titles.join("; "), |page| page.cross(x, y));
             }
-            free = if anchor == "start" { x + wide } else { x + 6.0 };
-            let style = format!(r#"font-size="11" text-anchor="{anchor}" fill="{LOST}" {HALO}"#);
-            self.text(at, y, &style, &words);
+            labels.push(self.label(close.iter().map(|group| group.step), together(close)));
         }
+        self.labels(&labels, &vec![false; labels.len()], y, LOST);
     }
 
     /// A bar with its arrival's number, where there is room.
