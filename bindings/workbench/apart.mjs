@@ -2,7 +2,6 @@
 // search of `setter differ` (bindings/rust/setter/src/apart.rs states how it goes and why), and finds the same.
 import { pairs } from "./verdict.mjs";
 
-const KEPT = 4; // for each board that may be looked at, so many are kept
 const ROW = 200; // so often in a row one event is followed before others
 const BUSY = 30; // thousandths of a second between two looks at the page
 
@@ -67,16 +66,17 @@ class Search {
 
     // ---- boards
 
+    // A board that an event led to, if it is new; one that would come too late to be looked at is not kept.
     add({ bytes, board }, from, event) {
         const key = board.join();
         if (this.known.has(key)) return;
-        if (this.found.length >= this.most * KEPT) {
+        const last = this.found[from];
+        const row = (last !== undefined && last.event === event ? last.row : 0) + 1;
+        if (row === 1 && this.wide.length >= this.most - this.looked) {
             this.more = true;
             return;
         }
         this.known.add(key);
-        const last = this.found[from];
-        const row = (last !== undefined && last.event === event ? last.row : 0) + 1;
         if (row === 1) this.wide.push(this.found.length);
         else if (row >= 3 && row <= ROW) this.long.unshift(this.found.length);
         else this.long.push(this.found.length);
