@@ -4,6 +4,8 @@ use format_layout::round;
 use format_layout::table;
 use libc::STDIN_FILENO;
 use libc::STDOUT_FILENO;
+use sheet_field::Field;
+use sheet_field::sizes;
 ghost use Prim.Native.Nat.{_≤_, _<_};
 ghost use lib.ListN.{length};
 ghost use Rattle.io.specs.Counts.{Counts};
@@ -130,17 +132,16 @@ fn field(tag: u8, size: usize, table: &mut [u8], round: &mut [u8], ready: bool) 
 
 // One field of the input: 0 where the program ends, 1 where it goes on, 2 where a sheet was accepted.
 fn turn(table: &mut [u8], round: &mut [u8], ready: bool) -> u8 {
-    let mut head = [0u8; 3];
+    let mut head = [0u8; sizes::HEADER];
     let got = io::read_full(STDIN_FILENO, &mut head);
     if got == 0 {
         return 0;
     }
-    let verdict = desk_format::judge_head(got, head[0]);
-    if verdict != 0 {
-        return pass_over(verdict);
-    }
-    let size = lib_word::get_half(&head, 1) as usize;
-    field(head[0], size, table, round, ready)
+    let a = desk_format::header(&head[..got]);
+    let Field::Value(tag, size) = a else {
+        return pass_over(sheet_field::number(a));
+    };
+    field(tag, size, table, round, ready)
 }
 
 // Field after field. A proved loop has to end, and nothing says that the input does: it counts its turns down, from a

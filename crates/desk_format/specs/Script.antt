@@ -8,10 +8,6 @@ use lib.ListN.{length, getD}
 use Rattle.lib_base.specs.Basics.{pick}
 use Rattle.lib_word.specs.Word.{getHalf}
 
--- A field's header, of which `got` bytes were there: "a torn field prints R 4, another tag R 5". 0: not refused
-unfoldable pub headVerdict : ℕ → ℕ → ℕ
-headVerdict got tag = pick (ltb got 3) 4 (pick (ltb tag 32) 5 (pick (ltb 35 tag) 5 0))
-
 -- the length of a 21, 22 or 23
 unfoldable pub due : ℕ → ℕ
 due tag = pick (eqb tag 33) 1 (pick (eqb tag 34) 2 0)

@@ -1,5 +1,6 @@
 // The desk program's format: how its fields are judged, and the lines that it prints. 01 "The desk program". Tags are
 // 20 to 23 in hexadecimal, 32 to 35 in decimal.
+use sheet_field::Field;
 use spec_language::answers;
 use spec_language::refusals;
 ghost use mathlib.Core.Path.{_≡_};
@@ -7,13 +8,12 @@ ghost use mathlib.Core.List.{_++_, _∷_};
 ghost use Prim.Native.Nat.{_+_, _*_, _≤_};
 ghost use lib.ListN.{length, take};
 ghost use Rattle.io.specs.Counts.{Counts};
-ghost use Rattle.desk_format.specs.Script.{headVerdict, due, playVerdict, valueVerdict, endsAfter, argumentNumber, decimalText, signedText, refusalLine, commitLine, stepLine, boardLine};
+ghost use Rattle.sheet_field.specs.Header.{headerOf, HeaderWithin};
+ghost use Rattle.desk_format.specs.Script.{due, playVerdict, valueVerdict, endsAfter, argumentNumber, decimalText, signedText, refusalLine, commitLine, stepLine, boardLine};
 
 pub mod tags;
 
 const TORN: u8 = refusals::TORN as u8;
-
-const WRONG_TAG: u8 = refusals::WRONG_TAG as u8;
 
 const WRONG_LENGTH: u8 = refusals::WRONG_LENGTH as u8;
 
@@ -35,20 +35,12 @@ const NUMBERS: u64 = 1099511627776;
 // The most digits of a number.
 const DIGITS: usize = 20;
 
-// What a field's header is refused for: 4 where fewer than 3 bytes were there, 5 for another tag; else 0.
-pub fn judge_head(got: usize, tag: u8) -> u8
-    ensures { λ r. ⌜ r ≡ headVerdict got tag ⌝ }
+// A field's header: 4 where fewer than 3 bytes were there, 5 for another tag; else its tag and the size that it states.
+pub fn header(head: &[u8]) -> Field
+    ensures { λ r. ⌜ r ≡ headerOf (now (head .entry)) 32 35 ⌝ }
+    ensures { λ r. ⌜ HeaderWithin (now (head .entry)) r ⌝ }
 {
-    if got < 3 {
-        return TORN;
-    }
-    if tag < tags::SHEET {
-        return WRONG_TAG;
-    }
-    if tag > tags::SHOW {
-        return WRONG_TAG;
-    }
-    0
+    sheet_field::header_answer(head, tags::SHEET, tags::SHOW)
 }
 
 // The length that an arrival, a count of steps or a show has.

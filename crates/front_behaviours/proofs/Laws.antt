@@ -8,11 +8,11 @@ use native.Mathlib.Numerals.{sub-one}
 use lib.ListN.{length, getD, set}
 use borrow.Author.Tests.{eq-eqb, ne-eqb}
 use Rattle.lib_word.specs.Word.{getAt}
-use Rattle.front_field.specs.Field.{fieldOf, partOf, fieldRefusal}
+use Rattle.sheet_field.specs.Field.{fieldOf, partOf, fieldRefusal}
 use Rattle.front_field.proofs.RestLaws.{rest-length}
 use Rattle.front_field.specs.Expression.{out, restFrom, exprOf, ReadIn}
-use Rattle.front_field.specs.declared.Field.{Field}
-use Rattle.front_field.specs.declared.Field.the-variants.{Value, Refused}
+use Rattle.sheet_field.specs.declared.Field.{Field}
+use Rattle.sheet_field.specs.declared.Field.the-variants.{Value, Refused}
 use Rattle.front_field.specs.declared.Read.{Read}
 use Rattle.front_field.specs.declared.Read.the-variants.{Done, Fault}
 use Rattle.front_draft.specs.Draft.{draftLength, packedEntry}

@@ -10,10 +10,10 @@ use lib.Dec.{ltb, leb, eqb}
 use Rattle.lib_base.specs.Basics.{pick}
 use Rattle.lib_word.specs.Word.{getAt}
 use Rattle.spec_language.specs.Refusals.{wrongLength, crowded, offScale}
-use Rattle.front_field.specs.Field.{fieldOf, partOf}
+use Rattle.sheet_field.specs.Field.{fieldOf, partOf}
 use Rattle.front_field.specs.Expression.{Out, out, restFrom, goOnAfter, exprOf}
-use Rattle.front_field.specs.declared.Field.{Field}
-use Rattle.front_field.specs.declared.Field.the-variants.{Value, Refused}
+use Rattle.sheet_field.specs.declared.Field.{Field}
+use Rattle.sheet_field.specs.declared.Field.the-variants.{Value, Refused}
 use Rattle.front_field.specs.declared.Read.{Read}
 use Rattle.front_field.specs.declared.Read.the-variants.{Done, Fault}
 use Rattle.front_draft.specs.Draft.{packedEntry}

@@ -1,7 +1,7 @@
 // The reader of one behaviour and its handlers: from the bytes of its field to its place in the draft, the first fault
 // met from left to right.
-use front_field::Field;
 use front_field::Read;
+use sheet_field::Field;
 ghost use mathlib.Core.Path.{_≡_};
 ghost use Prim.Native.Nat.{_<_, _≤_, _*_, _+_};
 ghost use lib.ListN.{length};
@@ -11,9 +11,10 @@ ghost use Rattle.front_behaviours.specs.Handler.{entryAt, handlerAt, han
 ghost use Rattle.front_behaviours.specs.Behaviour.{passiveOf, activeBody, activeOf, cellsOf, rowOf, valueAt, behaviourOf, Counted};
 use front_draft::layout;
 use front_field::faults;
-use front_field::sizes;
+use sheet_field::places;
+use sheet_field::sizes;
+use sheet_field::tags;
 use spec_language::limits;
-use spec_language::tags;
 
 // How an entry is packed, as sizes.
 const FIRSTS: usize = layout::FIRSTS as usize;
@@ -67,14 +68,14 @@ fn read_handler_value(v: &[u8], events: usize, i: usize, draft: &mut [u64], n: u
     if v.len() == 0 {
         return Read::Fault(faults::WRONG_LENGTH);
     }
-    let e = v[0] as usize;
+    let e = v[places::EVENT] as usize;
     if events <= e {
         return Read::Fault(faults::OFF_SCALE);
     }
-    if v.len() == 1 {
+    if v.len() == places::PHASE {
         return Read::Fault(faults::WRONG_LENGTH);
     }
-    let phase = v[1] as usize;
+    let phase = v[places::PHASE] as usize;
     if 1 < phase {
         return Read::Fault(faults::OFF_SCALE);
     }
@@ -83,7 +84,7 @@ fn read_handler_value(v: &[u8], events: usize, i: usize, draft: &mut [u64], n: u
         return Read::Fault(faults::DOUBLED);
     }
     read_entry(
-        &v[2..],
+        &v[places::REACTION..],
         draft,
         n,
         place,
@@ -101,12 +102,12 @@ fn read_handler(s: &[u8], events: usize, i: usize, draft: &mut [u64], n: usize) 
     ensures { λ r. ⌜ out r (now (draft .exit)) ≡ handlerOf (now (s .entry)) events i (now (draft .entry)) n ⌝ }
     ensures { λ r. ⌜ ReadIn (length (now (s .entry))) n r ⌝ }
 {
-    let a = front_field::field_answer(s, tags::HANDLER, tags::HANDLER);
+    let a = sheet_field::field_answer(s, tags::HANDLER, tags::HANDLER);
     let Field::Value(_, _) = a else {
-        return Read::Fault(front_field::number(a));
+        return Read::Fault(sheet_field::number(a));
     };
     read_handler_value(
-        front_field::field_value(s, tags::HANDLER, tags::HANDLER),
+        sheet_field::field_value(s, tags::HANDLER, tags::HANDLER),
         events,
         i,
         draft,
@@ -166,14 +167,14 @@ fn read_active(v: &[u8], events: usize, i: usize, draft: &mut [u64], n: usize) -
     ensures { λ r. ⌜ out r (now (draft .exit)) ≡ activeOf (now (v .entry)) events i (now (draft .entry)) n ⌝ }
     ensures { λ r. ⌜ BodyIn (length (now (v .entry)) + 3) n r ⌝ }
 {
-    let a = front_field::field_answer(v, tags::START, tags::START);
+    let a = sheet_field::field_answer(v, tags::START, tags::START);
     let Field::Value(_, size) = a else {
-        return Read::Fault(front_field::number(a));
+        return Read::Fault(sheet_field::number(a));
     };
     if size != sizes::WORD {
         return Read::Fault(faults::WRONG_LENGTH);
     }
-    let w = front_field::field_value(v, tags::START, tags::START);
+    let w = sheet_field::field_value(v, tags::START, tags::START);
     draft[layout::STARTS + i] = lib_word::get_at(w, 0) as u64;
     read_body(v, events, i, draft, n)
 }
@@ -225,7 +226,7 @@ fn read_row(v: &[u8], events: usize, i: usize, draft: &mut [u64], n: usize) -> R
     if v.len() == 0 {
         return Read::Fault(faults::WRONG_LENGTH);
     }
-    let count = v[0] as usize;
+    let count = v[places::CELLS] as usize;
     if count < limits::LEAST_CELLS {
         return Read::Fault(faults::OFF_SCALE);
     }
@@ -235,7 +236,7 @@ fn read_row(v: &[u8], events: usize, i: usize, draft: &mut [u64], n: usize) -> R
     if limits::BEHAVIOURS < i + count {
         return Read::Fault(faults::CROWDED);
     }
-    read_cells(&v[1..], count, events, i, draft, n)
+    read_cells(&v[places::START..], count, events, i, draft, n)
 }
 
 // The value of a behaviour's field with tag t.
@@ -270,9 +271,9 @@ pub fn read_behaviour(s: &[u8], events: usize, i: usize, draft: &mut [u64], n: u
 {
     let lo = front_rows::least_tag(s, tags::PASSIVE);
     let hi = front_rows::most_tag(s);
-    let a = front_field::field_answer(s, lo, hi);
+    let a = sheet_field::field_answer(s, lo, hi);
     let Field::Value(t, _) = a else {
-        return Read::Fault(front_field::number(a));
+        return Read::Fault(sheet_field::number(a));
     };
-    read_value(t, front_field::field_value(s, lo, hi), events, i, draft, n)
+    read_value(t, sheet_field::field_value(s, lo, hi), events, i, draft, n)
 }

@@ -23,7 +23,7 @@ use Rattle.spec_language.specs.Refusals.{offScale, crowded}
 use Rattle.spec_language.specs.Reading.{Got, bad, got, then, sized, filling, byteIn, readAll, exprAt, handlerIn, entry, endingIn, activeAs, behaviourIn, dueAt}
 use Rattle.spec_grammar.proofs.Handlers.{stops}
 use Rattle.spec_grammar.proofs.Behaviours.{behaviourTag}
-use Rattle.front_field.specs.Field.{stated}
+use Rattle.sheet_field.specs.Field.{stated}
 use Rattle.front_field.specs.Expression.{Out, out, restFrom, goOnAfter, exprOf}
 use Rattle.front_field.specs.declared.Read.the-variants.{Done, Fault}
 use Rattle.front_draft.specs.Draft as draft

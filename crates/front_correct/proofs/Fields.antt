@@ -14,10 +14,10 @@ use Rattle.lib_base.proofs.Tools.{split, by-two}
 use Rattle.spec_language.specs.Refusals.{wrongLength}
 use Rattle.spec_language.specs.Reading.{Got, bad, sized, filling, fieldAt, isTerm}
 use Rattle.spec_grammar.proofs.Handlers.{stops}
-use Rattle.front_field.specs.Field.{stated, fieldOf, partOf}
+use Rattle.sheet_field.specs.Field.{stated, fieldOf, partOf}
 use Rattle.front_field.specs.Expression.{restFrom}
-use Rattle.front_field.specs.declared.Field.{Field}
-use Rattle.front_field.specs.declared.Field.the-variants.{Value, Refused}
+use Rattle.sheet_field.specs.declared.Field.{Field}
+use Rattle.sheet_field.specs.declared.Field.the-variants.{Value, Refused}
 
 -- the bytes of a field's value, and the size of the field
 abbrev pub valueIn : List ℕ → List ℕ

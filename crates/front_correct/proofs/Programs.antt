@@ -19,9 +19,9 @@ use Rattle.spec_language.proofs.RowLaws.{count-append}
 use Rattle.spec_language.specs.Refusals.{wrongLength, offScale}
 use Rattle.spec_language.specs.Reading.{Got, bad, got, then, filling, readAll, dueAt, signal, signalIn, sheet, readSheet}
 use Rattle.spec_grammar.proofs.Programs.{atEnd, noEvent}
-use Rattle.front_field.specs.Field.{stated, fieldOf}
+use Rattle.sheet_field.specs.Field.{stated, fieldOf}
 use Rattle.front_field.specs.Expression.{Out}
-use Rattle.front_field.specs.declared.Field.the-variants.{Value, Refused}
+use Rattle.sheet_field.specs.declared.Field.the-variants.{Value, Refused}
 use Rattle.front_draft.specs.Draft.{draftLength}
 use Rattle.front_rows.specs.Cells.{leastOf, mostOf, cellsAt}
 use Rattle.front_sheet.specs.declared.Draft.the-variants.{Ready, Broken}

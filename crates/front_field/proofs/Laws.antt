@@ -6,9 +6,9 @@ use native.Mathlib.Omega.{arith}
 use native.Mathlib.Numerals.{sub-one}
 use lib.ListN.{length}
 use Rattle.front_draft.specs.Draft.{draftLength}
-use Rattle.front_field.specs.declared.Field.{Field}
-use Rattle.front_field.specs.declared.Field.the-variants.{Value, Refused}
-use Rattle.front_field.specs.Field.{fieldOf}
+use Rattle.sheet_field.specs.declared.Field.{Field}
+use Rattle.sheet_field.specs.declared.Field.the-variants.{Value, Refused}
+use Rattle.sheet_field.specs.Field.{fieldOf}
 use Rattle.front_field.proofs.RestLaws.{rest-length}
 use Rattle.front_field.specs.Expression.{Out, out, restFrom, goOnAfter, readArguments, closeAt, readBody, headAt, headFrom, headOf, expressionValue, exprOf, ReadIn, CloseIn}
 use Rattle.front_field.specs.declared.Read.{Read}

@@ -10,9 +10,9 @@ use Rattle.lib_base.specs.Basics.{pick}
 use Rattle.lib_word.specs.Word.{getAt}
 use Rattle.lib_arith.specs.Functions.{arity}
 use Rattle.spec_language.specs.Refusals.{wrongLength, offScale, tooDeep}
-use Rattle.front_field.specs.Field.{fieldOf, partOf}
-use Rattle.front_field.specs.declared.Field.{Field}
-use Rattle.front_field.specs.declared.Field.the-variants.{Value, Refused}
+use Rattle.sheet_field.specs.Field.{fieldOf, partOf}
+use Rattle.sheet_field.specs.declared.Field.{Field}
+use Rattle.sheet_field.specs.declared.Field.the-variants.{Value, Refused}
 use Rattle.front_field.specs.declared.Head.{Head}
 use Rattle.front_field.specs.declared.Head.the-variants.{Leaf, Apply, NoHead}
 use Rattle.front_field.specs.declared.Read.{Read}

@@ -1,10 +1,6 @@
 // The refusals of the reader, as the bytes that it hands on.
 use spec_language::refusals;
 
-pub const TORN: u8 = refusals::TORN as u8;
-
-pub const WRONG_TAG: u8 = refusals::WRONG_TAG as u8;
-
 pub const WRONG_LENGTH: u8 = refusals::WRONG_LENGTH as u8;
 
 pub const CROWDED: u8 = refusals::CROWDED as u8;

@@ -1,24 +1,19 @@
-// Fields of a program, and the reader of expressions.
+// The reader of expressions.
 ghost use mathlib.Core.Path.{_≡_};
 ghost use Prim.Native.Nat.{_<_, _≤_, _*_, _+_, _-_, _^_};
 ghost use lib.ListN.{length};
 ghost use Rattle.front_draft.specs.Draft.{draftLength};
-ghost use Rattle.front_field.specs.Field.{fieldOf, partOf, fieldSize, fieldRefusal, FieldWithin};
 ghost use Rattle.front_field.specs.Expression.{headAt, headOf, expressionValue, HeadIn, out, closeAt, exprOf, ReadIn, CloseIn};
 use front_draft::layout;
+use sheet_field::Field;
+use sheet_field::places;
+use sheet_field::sizes;
+use sheet_field::tags;
 use spec_language::functions;
-use spec_language::tags;
 
 pub mod faults;
-pub mod sizes;
 
 const LAST_PARAMETER: u8 = spec_language::limits::PARAMETERS as u8 - 1;
-
-// What stands where a field is due: its tag and the size of its value, or a refusal by its number.
-pub enum Field {
-    Value(u8, usize),
-    Refused(u8),
-}
 
 // What an expression field begins with: a leaf's node and size, an application's function, or a refusal.
 pub enum Head {
@@ -31,50 +26,6 @@ pub enum Head {
 pub enum Read {
     Done(usize, usize),
     Fault(u8),
-}
-
-// The answer of the field reader, where a tag from `lo` to `hi` is due.
-pub fn field_answer(s: &[u8], lo: u8, hi: u8) -> Field
-    ensures { λ r. ⌜ r ≡ fieldOf (now (s .entry)) lo hi ⌝ }
-    ensures { λ r. ⌜ FieldWithin (now (s .entry)) r ⌝ }
-{
-    if s.len() < 3 {
-        return Field::Refused(faults::TORN);
-    }
-    if s[0] < lo {
-        return Field::Refused(faults::WRONG_TAG);
-    }
-    if hi < s[0] {
-        return Field::Refused(faults::WRONG_TAG);
-    }
-    let n = (s[1] as usize) * sizes::HIGH + (s[2] as usize);
-    if s.len() - 3 < n {
-        return Field::Refused(faults::TORN);
-    }
-    Field::Value(s[0], n)
-}
-
-// The value as a part of the caller's own slice; an empty part where the reader refuses.
-pub fn field_value(s: &[u8], lo: u8, hi: u8) -> &[u8]
-    ensures { λ r. ⌜ now r ≡ partOf (now (s .entry)) (fieldOf (now (s .entry)) lo hi) ⌝ }
-    ensures { λ r. ⌜ length (now r) ≡ fieldSize (fieldOf (now (s .entry)) lo hi) ⌝ }
-    ensures { λ r. ⌜ length (now r) ≤ length (now (s .entry)) - 3 ⌝ }
-{
-    let Field::Value(_, n) = field_answer(s, lo, hi) else {
-        return &s[0..0];
-    };
-    let e = n + 3;
-    &s[3..e]
-}
-
-// The number of a refusal; 0 of a value.
-pub fn number(f: Field) -> u8
-    ensures { λ r. ⌜ r ≡ fieldRefusal f ⌝ }
-{
-    match f {
-        Field::Value(_, _) => 0,
-        Field::Refused(k) => k,
-    }
 }
 
 // What a field with tag t and value v begins, with `left` levels of nesting left.
@@ -95,30 +46,36 @@ fn head_of(left: usize, t: u8, v: &[u8]) -> Head
         );
     }
     if t == tags::NAME {
-        if v.len() != 1 {
+        if v.len() != sizes::BYTE {
             return Head::NoHead(faults::WRONG_LENGTH);
         }
-        return Head::Leaf(layout::NAME_NODE + (v[0] as u64), sizes::BYTE_FIELD);
+        return Head::Leaf(
+            layout::NAME_NODE + (v[places::NUMBER] as u64),
+            sizes::BYTE_FIELD,
+        );
     }
     if t == tags::PARAMETER {
-        if v.len() != 1 {
+        if v.len() != sizes::BYTE {
             return Head::NoHead(faults::WRONG_LENGTH);
         }
-        if LAST_PARAMETER < v[0] {
+        if LAST_PARAMETER < v[places::NUMBER] {
             return Head::NoHead(faults::OFF_SCALE);
         }
-        return Head::Leaf(layout::PARAMETER_NODE + (v[0] as u64), sizes::BYTE_FIELD);
+        return Head::Leaf(
+            layout::PARAMETER_NODE + (v[places::NUMBER] as u64),
+            sizes::BYTE_FIELD,
+        );
     }
     if v.len() == 0 {
         return Head::NoHead(faults::WRONG_LENGTH);
     }
-    if v[0] == 0 {
+    if v[places::FUNCTION] == 0 {
         return Head::NoHead(faults::OFF_SCALE);
     }
-    if functions::IF < v[0] {
+    if functions::IF < v[places::FUNCTION] {
         return Head::NoHead(faults::OFF_SCALE);
     }
-    Head::Apply(v[0])
+    Head::Apply(v[places::FUNCTION])
 }
 
 // What the expression field at the front of s begins.
@@ -127,11 +84,15 @@ fn read_head(left: usize, s: &[u8]) -> Head
     ensures { λ r. ⌜ HeadIn left (length (expressionValue (now (s .entry)))) r ⌝ }
     ensures { λ _. ⌜ length (expressionValue (now (s .entry))) ≤ length (now (s .entry)) - 3 ⌝ }
 {
-    let a = field_answer(s, tags::CONSTANT, tags::PARAMETER);
+    let a = sheet_field::field_answer(s, tags::CONSTANT, tags::PARAMETER);
     let Field::Value(t, _) = a else {
-        return Head::NoHead(number(a));
+        return Head::NoHead(sheet_field::number(a));
     };
-    head_of(left, t, field_value(s, tags::CONSTANT, tags::PARAMETER))
+    head_of(
+        left,
+        t,
+        sheet_field::field_value(s, tags::CONSTANT, tags::PARAMETER),
+    )
 }
 
 // The node of an application whose arguments end at `at`, in a value of `size` bytes.
@@ -146,7 +107,7 @@ fn close_at(f: u8, size: usize, at: usize, draft: &mut [u64], m: usize) -> Read
         return Read::Fault(faults::WRONG_LENGTH);
     }
     draft[m] = layout::APPLICATION_NODE + (f as u64);
-    Read::Done(at + 3, m + 1)
+    Read::Done(at + sizes::HEADER, m + 1)
 }
 
 // One expression at the front of s, with `left` levels of nesting left. Its nodes go into the draft from place n on.
@@ -164,8 +125,8 @@ pub fn read_expr(left: usize, s: &[u8], draft: &mut [u64], n: usize) -> Read
             Read::Done(size, n + 1)
         }
         Head::Apply(f) => {
-            let v = field_value(s, tags::CONSTANT, tags::PARAMETER);
-            let mut at = 1;
+            let v = sheet_field::field_value(s, tags::CONSTANT, tags::PARAMETER);
+            let mut at = places::ARGUMENTS;
             let mut m = n;
             let mut k = lib_functions::arity_of(f);
             while k != 0 {

@@ -8,11 +8,9 @@ ghost use lib.ListN.{length};
 ghost use Rattle.front_draft.specs.Draft.{draftLength};
 ghost use Rattle.front_rows.specs.Cells.{leastOf, mostOf, cellsAt, entriesCopied, startCopied, viewerCopied, cellCopied, rowCopied};
 use front_draft::layout;
+use sheet_field::sizes;
+use sheet_field::tags;
 use spec_language::limits;
-use spec_language::tags;
-
-// A field's header and the count of a row's cells.
-const COUNTED: usize = 4;
 
 const CELLS: usize = layout::CELLS as usize;
 
@@ -39,7 +37,7 @@ pub fn most_tag(s: &[u8]) -> u8
     if s[0] == tags::ROW {
         return tags::ROW;
     }
-    3
+    tags::ACTIVE
 }
 
 // How many behaviours the field at the front of s makes.
@@ -47,11 +45,11 @@ pub fn cells_at(s: &[u8]) -> usize
     ensures { λ r. ⌜ r ≡ cellsAt (now (s .entry)) ⌝ }
     ensures { λ r. ⌜ r < 256 ⌝ }
 {
-    if s.len() < COUNTED {
+    if s.len() < sizes::BYTE_HEAD {
         return 1;
     }
     if s[0] == tags::ROW {
-        return s[3] as usize;
+        return s[sizes::HEADER] as usize;
     }
     1
 }

@@ -7,11 +7,11 @@ use native.Mathlib.Omega.{arith}
 use native.Mathlib.Numerals.{sub-one}
 use lib.ListN.{length}
 use borrow.Author.Tests.{eq-eqb, ne-eqb}
-use Rattle.front_field.specs.Field.{fieldOf, partOf, fieldRefusal}
+use Rattle.sheet_field.specs.Field.{fieldOf, partOf, fieldRefusal}
 use Rattle.front_field.proofs.RestLaws.{rest-length}
 use Rattle.front_field.specs.Expression.{out, restFrom, ReadIn}
-use Rattle.front_field.specs.declared.Field.{Field}
-use Rattle.front_field.specs.declared.Field.the-variants.{Value, Refused}
+use Rattle.sheet_field.specs.declared.Field.{Field}
+use Rattle.sheet_field.specs.declared.Field.the-variants.{Value, Refused}
 use Rattle.front_field.specs.declared.Read.{Read}
 use Rattle.front_field.specs.declared.Read.the-variants.{Done, Fault}
 use Rattle.front_rows.specs.Cells.{leastOf, mostOf, cellsAt}

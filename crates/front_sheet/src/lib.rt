@@ -1,6 +1,6 @@
 // The reader: from the bytes of a program to its draft, the first fault met from left to right.
-use front_field::Field;
 use front_field::Read;
+use sheet_field::Field;
 ghost use mathlib.Core.Path.{_≡_};
 ghost use Prim.Native.Nat.{_<_, _≤_, _+_};
 ghost use lib.ListN.{length};
@@ -9,9 +9,10 @@ ghost use Rattle.front_draft.specs.Draft.{draftLength};
 ghost use Rattle.front_sheet.specs.Whole.{eventRead, signalAt, priorityAt, readEvent, readEvents, finished, behavioursOf, readOn, EventIn, EventsIn};
 use front_draft::layout;
 use front_field::faults;
-use front_field::sizes;
+use sheet_field::places;
+use sheet_field::sizes;
+use sheet_field::tags;
 use spec_language::limits;
-use spec_language::tags;
 
 // What stands where an event or the first behaviour is due: an event's field of so many bytes, or another field, or a
 // refusal by its number.
@@ -37,18 +38,18 @@ fn take_event(v: &[u8], e: usize, draft: &mut [u64]) -> Event
     if v.len() == 0 {
         return Event::NoEvent(faults::WRONG_LENGTH);
     }
-    if 2 < v.len() {
+    if sizes::PAIR < v.len() {
         return Event::NoEvent(faults::WRONG_LENGTH);
     }
-    if limits::HIGHEST_PRIORITY < v[0] {
+    if limits::HIGHEST_PRIORITY < v[places::RANK] {
         return Event::NoEvent(faults::OFF_SCALE);
     }
-    draft[layout::PRIORITIES + e] = v[0] as u64;
-    if v.len() == 1 {
+    draft[layout::PRIORITIES + e] = v[places::RANK] as u64;
+    if v.len() == sizes::BYTE {
         draft[layout::SENDERS + e] = layout::EVERYONE;
         return Event::Declared(sizes::BYTE_FIELD);
     }
-    draft[layout::SENDERS + e] = v[1] as u64;
+    draft[layout::SENDERS + e] = v[places::SENDERS] as u64;
     Event::Declared(sizes::PAIR_FIELD)
 }
 
@@ -77,11 +78,11 @@ fn read_event(s: &[u8], e: usize, draft: &mut [u64]) -> Event
 {
     let lo = front_rows::least_tag(s, tags::EVENT);
     let hi = front_rows::most_tag(s);
-    let a = front_field::field_answer(s, lo, hi);
+    let a = sheet_field::field_answer(s, lo, hi);
     let Field::Value(t, _) = a else {
-        return Event::NoEvent(front_field::number(a));
+        return Event::NoEvent(sheet_field::number(a));
     };
-    read_priority(t, front_field::field_value(s, lo, hi), e, draft)
+    read_priority(t, sheet_field::field_value(s, lo, hi), e, draft)
 }
 
 // The events of s: the place after them and their number.

@@ -3,10 +3,10 @@ use Prim.Native.Nat.{ℕ}
 use mathlib.Core.Path.{_≡_, sym, _∙_}
 use mathlib.Core.List.{List}
 use lib.ListN.{length}
-use Rattle.front_field.specs.Field.{fieldOf, partOf, fieldRefusal}
+use Rattle.sheet_field.specs.Field.{fieldOf, partOf, fieldRefusal}
 use Rattle.front_field.specs.Expression.{out}
-use Rattle.front_field.specs.declared.Field.{Field}
-use Rattle.front_field.specs.declared.Field.the-variants.{Value, Refused}
+use Rattle.sheet_field.specs.declared.Field.{Field}
+use Rattle.sheet_field.specs.declared.Field.the-variants.{Value, Refused}
 use Rattle.front_field.specs.declared.Read.{Read}
 use Rattle.front_field.specs.declared.Read.the-variants.{Fault}
 use Rattle.front_viewers.specs.Ending.{viewerAt, viewerOf}

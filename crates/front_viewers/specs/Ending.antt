@@ -9,10 +9,10 @@ use lib.ListN.{length, getD, set}
 use lib.Dec.{eqb}
 use Rattle.lib_base.specs.Basics.{pick}
 use Rattle.spec_language.specs.Refusals.{wrongLength}
-use Rattle.front_field.specs.Field.{fieldOf, partOf}
+use Rattle.sheet_field.specs.Field.{fieldOf, partOf}
 use Rattle.front_field.specs.Expression.{Out, out}
-use Rattle.front_field.specs.declared.Field.{Field}
-use Rattle.front_field.specs.declared.Field.the-variants.{Value, Refused}
+use Rattle.sheet_field.specs.declared.Field.{Field}
+use Rattle.sheet_field.specs.declared.Field.the-variants.{Value, Refused}
 use Rattle.front_field.specs.declared.Read.{Read}
 use Rattle.front_field.specs.declared.Read.the-variants.{Done, Fault}
 

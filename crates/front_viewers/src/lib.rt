@@ -1,6 +1,6 @@
 // The end of a behaviour's value: who may see it, from a field 08 or from nothing (02, M-107).
-use front_field::Field;
 use front_field::Read;
+use sheet_field::Field;
 ghost use mathlib.Core.Path.{_≡_};
 ghost use Prim.Native.Nat.{_<_};
 ghost use lib.ListN.{length};
@@ -9,8 +9,9 @@ ghost use Rattle.front_field.specs.Expression.{out};
 ghost use Rattle.front_viewers.specs.Ending.{viewerAt, viewerOf, endingOf, EndIn};
 use front_draft::layout;
 use front_field::faults;
-use front_field::sizes;
-use spec_language::tags;
+use sheet_field::places;
+use sheet_field::sizes;
+use sheet_field::tags;
 
 // The value v of a field 08 at the front of `left` bytes: who may see behaviour i. The behaviour's field takes `all`
 // bytes, the next node goes to place n.
@@ -20,13 +21,13 @@ fn take_viewer(v: &[u8], left: usize, i: usize, draft: &mut [u64], all: usize, n
     ensures { λ r. ⌜ out r (now (draft .exit)) ≡ viewerAt (now (v .entry)) left i (now (draft .entry)) all n ⌝ }
     ensures { λ r. ⌜ EndIn all n r ⌝ }
 {
-    if v.len() != 1 {
+    if v.len() != sizes::BYTE {
         return Read::Fault(faults::WRONG_LENGTH);
     }
     if left != sizes::BYTE_FIELD {
         return Read::Fault(faults::WRONG_LENGTH);
     }
-    draft[layout::VIEWERS + i] = v[0] as u64;
+    draft[layout::VIEWERS + i] = v[places::VIEWERS] as u64;
     Read::Done(all, n)
 }
 
@@ -37,12 +38,12 @@ fn read_viewer(s: &[u8], i: usize, draft: &mut [u64], all: usize, n: usize) -> R
     ensures { λ r. ⌜ out r (now (draft .exit)) ≡ viewerOf (now (s .entry)) i (now (draft .entry)) all n ⌝ }
     ensures { λ r. ⌜ EndIn all n r ⌝ }
 {
-    let a = front_field::field_answer(s, tags::VIEWERS, tags::VIEWERS);
+    let a = sheet_field::field_answer(s, tags::VIEWERS, tags::VIEWERS);
     let Field::Value(_, _) = a else {
-        return Read::Fault(front_field::number(a));
+        return Read::Fault(sheet_field::number(a));
     };
     take_viewer(
-        front_field::field_value(s, tags::VIEWERS, tags::VIEWERS),
+        sheet_field::field_value(s, tags::VIEWERS, tags::VIEWERS),
         s.len(),
         i,
         draft,

@@ -17,6 +17,7 @@ use Rattle.spec_language.specs.Sheet.{Item, formula, state, row, Signal, Entry}
 use Rattle.spec_language.specs.Grammar.{field, tagOf, encodeItem, encodeViewer, encodeSender, encodeEvent, encodeEvents, encodeBehaviours, ByteFits, SignalFits}
 use Rattle.link_pooled.specs.Pooled.{mergedByNumber, bothSend, poolSignal, poolSignals, sameRanks}
 use Rattle.link_pooled.proofs.Bits.{both-missing}
+use Rattle.sheet_field.specs.Field.{fieldOf}
 use Rattle.link_events.specs.Merging.{widthAt, rankAt, senderAt, merged, eventBytes, pairBytes, eventsFrom, endFrom, agreeFrom}
 
 -- ---- at a place as at the front of what follows it
@@ -27,10 +28,7 @@ module _ (s : List ℕ) (i : ℕ) where
 
   width-drop : widthAt s i ≡ widthAt (drop i s) 0
   unfolding widthAt
-  width-drop =
-      let z : length (drop i s) - 0 ≡ length s - i = omega (arith, length-drop i s) in
-      let y : getD (drop i s) 0 0 ≡ getD s i 0 = byte-drop 0 ∙ ap (λ (n : ℕ). getD s n 0) (omega arith) in
-      rw (z, y, byte-drop 2)
+  width-drop = refl
 
   rank-drop : (w : ℕ) → rankAt s i w ≡ rankAt (drop i s) 0 w
   unfolding rankAt
@@ -47,16 +45,13 @@ abbrev pub Ends : List ℕ → Type 0
 Ends l = widthAt l 0 ≡ 0
 
 other-tag : (x : Item) (h l : ℕ) (rest : List ℕ) → widthAt (tagOf x ∷ h ∷ l ∷ rest) 0 ≡ 0
-unfolding widthAt
-other-tag x h l rest = split (ltb (suc (suc (suc (length rest))) - 0) 4) (λ t. rw t) (λ t. rw t (by-tag x))
-  where
-    by-tag : (x : Item) → _≡_ {A = ℕ} (pick (eqb (tagOf x) 1) (pick (eqb l 1) 4 (pick (ltb (suc (suc (suc (length rest))) - 0) 5) 0 5)) 0) 0
-    by-tag (formula x) = refl
-    by-tag (state s cs) = refl
-    by-tag (row c s cs) = refl
+unfolding widthAt fieldOf
+other-tag (formula x) h l rest = rw (le-ltb (suc (suc (suc (length rest)))) 3 (omega arith))
+other-tag (state s cs) h l rest = rw (le-ltb (suc (suc (suc (length rest)))) 3 (omega arith))
+other-tag (row c s cs) h l rest = rw (le-ltb (suc (suc (suc (length rest)))) 3 (omega arith))
 
 none-there : widthAt [] 0 ≡ 0
-unfolding widthAt
+unfolding widthAt fieldOf
 none-there = refl
 
 pub behaviours-end : (xs : List Entry) → Ends (encodeBehaviours xs)
@@ -75,9 +70,9 @@ codeOf (some m) = m
 
 module _ (r : ℕ) (rest : List ℕ) where
   width-event : (m : Option ℕ) → widthAt (field 1 (r ∷ encodeSender m) ++ rest) 0 ≡ widthOf m
-  unfolding widthAt widthOf
-  width-event none = rw (le-ltb (suc (suc (suc (suc (length rest)))) - 0) 4 (omega arith))
-  width-event (some m) = rw (le-ltb (suc (suc (suc (suc (suc (length rest))))) - 0) 4 (omega arith), le-ltb (suc (suc (suc (suc (suc (length rest))))) - 0) 5 (omega arith))
+  unfolding widthAt fieldOf widthOf
+  width-event none = rw (le-ltb (suc (suc (suc (suc (length rest))))) 3 (omega arith), le-ltb (suc (suc (suc (suc (length rest)))) - 3) 1 (omega arith))
+  width-event (some m) = rw (le-ltb (suc (suc (suc (suc (suc (length rest)))))) 3 (omega arith), le-ltb (suc (suc (suc (suc (suc (length rest))))) - 3) 2 (omega arith))
 
   drop-event : (m : Option ℕ) → drop (widthOf m) (field 1 (r ∷ encodeSender m) ++ rest) ≡ rest
   unfolding widthOf

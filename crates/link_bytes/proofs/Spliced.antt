@@ -1,21 +1,18 @@
 -- The bytes worked out from those of two sheets are the pooled sheet's, and their ranks agree where the sheets' do:
 -- from the events and the behaviours.
-use Prim.Native.Nat.{ℕ, zero, suc, _+_, _-_, _≤_}
+use Prim.Native.Nat.{ℕ, zero, suc, _+_, _≤_}
 use mathlib.Core.Path.{_≡_, refl, sym, ap, _∙_}
 use mathlib.Core.List.{List, [], _∷_, _++_, append-assoc}
 use native.Mathlib.Omega.{arith}
-use lib.Dec.{ltb, eqb}
-use lib.ListN.{length, getD, drop}
-use borrow.Author.Tests.{ltb-false}
+use lib.ListN.{length, drop}
 use Rattle.lib_base.specs.Basics.{All}
-use Rattle.lib_base.proofs.Tools.{by-test}
 use Rattle.spec_language.specs.Sheet.{Item, formula, state, row, Entry, Sheet, cells, cellCount, fillEntries, fill}
 use Rattle.spec_language.specs.Grammar.{encode, encodeEvents, encodeBehaviour, encodeBehaviours, ItemFits, EntryFits, SheetFits}
 use Rattle.spec_language.specs.Accepted.{BehaviourNamesIn, Known}
 use Rattle.link_pooled.specs.Pooled.{poolSignals, moveEntries, count, pooled, sameRanks}
 use Rattle.link_pooled.proofs.Rows.{known-back}
 use Rattle.link_pooled.proofs.Filled.{size-fill}
-use Rattle.link_events.specs.Merging.{widthAt, eventsFrom, endFrom, agreeFrom}
+use Rattle.link_events.specs.Merging.{eventsFrom, endFrom, agreeFrom}
 use Rattle.link_bytes.specs.Splice.{countFrom, scan, spliced}
 use Rattle.link_bytes.proofs.EventsAre.{behaviours-end, events-are, ranks-are, end-is}
 use Rattle.link_bytes.proofs.BehavioursAre.{scan-behaviours, entries-still, count-behaviours}
@@ -45,25 +42,9 @@ whole : (a : Sheet) → encode a ≡ encodeEvents (a .signals) ++ encodeBehaviou
 unfolding encode
 whole a = refl
 
-split-up : (s t : List ℕ) → spliced s t ≡ eventsFrom 32 s 0 t 0 ++ (scan 0 0 (drop (endFrom 32 s 0) s) ++ scan (countFrom 64 s (endFrom 32 s 0) 0) 0 (drop (endFrom 32 t 0) t))
+split-up : (s t : List ℕ) → spliced s t ≡ eventsFrom 32 s 0 t 0 ++ (scan 0 0 0 (drop (endFrom 32 s 0) s) ++ scan (countFrom 64 (drop (endFrom 32 s 0) s) 0) 0 0 (drop (endFrom 32 t 0) t))
 unfolding spliced
 split-up s t = refl
-
-wide-inside : (s : List ℕ) (i : ℕ) → i ≤ length s → i + widthAt s i ≤ length s
-unfolding widthAt
-wide-inside s i h =
-    by-test (λ (w : ℕ). i + w ≤ length s) (ltb (length s - i) 4) (λ t. omega arith) (λ t.
-    let x = ltb-false (length s - i) 4 t in
-    by-test (λ (w : ℕ). i + w ≤ length s) (eqb (getD s i 0) 1)
-    (λ u. by-test (λ (w : ℕ). i + w ≤ length s) (eqb (getD s (i + 2) 0) 1) (λ y. omega arith)
-    (λ y. by-test (λ (w : ℕ). i + w ≤ length s) (ltb (length s - i) 5) (λ z. omega arith) (λ z. omega (arith, ltb-false (length s - i) 5 z))))
-    (λ u. omega arith))
-
--- the end of the events lies inside
-end-inside : (n : ℕ) (s : List ℕ) (i : ℕ) → i ≤ length s → endFrom n s i ≤ length s
-unfolding endFrom
-end-inside zero s i h = h
-end-inside (suc n) s i h = end-inside n s (i + widthAt s i) (wide-inside s i h)
 
 module _ (v : ℕ → ℕ) (a b : Sheet) (fa : SheetFits a) (fb : SheetFits b) (ka : Known (fill v a)) (kb : Known (fill v b)) where
   abbrev es : List ℕ
@@ -85,16 +66,13 @@ module _ (v : ℕ → ℕ) (a b : Sheet) (fa : SheetFits a) (fb : SheetFits b) (
   rest-b : drop (endFrom 32 (encode b) 0) (encode b) ≡ fs
   rest-b = end-is fs (behaviours-end (b .entries)) 32 (b .signals) (encode b) 0 (opened b) (fb .few-events)
 
-  counted : countFrom 64 (encode a) (endFrom 32 (encode a) 0) 0 ≡ count a
-  counted =
-      count-behaviours 64 (a .entries) (encode a) (endFrom 32 (encode a) 0) 0 (end-inside 32 (encode a) 0 (omega arith)) rest-a
-      (omega (arith, few-entries (length (a .signals)) (a .entries) (fa .each), fa .few-behaviours))
-      ∙ (let z : 0 + count a ≡ count a = omega arith in z)
+  counted : countFrom 64 es 0 ≡ count a
+  counted = count-behaviours 64 (a .entries) 0 (omega (arith, few-entries (length (a .signals)) (a .entries) (fa .each), fa .few-behaviours)) ∙ (let z : 0 + count a ≡ count a = omega arith in z)
 
-  first-copied : scan 0 0 es ≡ es
+  first-copied : scan 0 0 0 es ≡ es
   first-copied = scan-behaviours v 0 (count a) (omega (arith, fa .few-behaviours)) (a .entries) names-a ∙ ap encodeBehaviours (entries-still (a .entries))
 
-  second-copied : scan (count a) 0 fs ≡ encodeBehaviours (moveEntries (count a) (b .entries))
+  second-copied : scan (count a) 0 0 fs ≡ encodeBehaviours (moveEntries (count a) (b .entries))
   second-copied = scan-behaviours v (count a) (count b) (omega (arith, fa .few-behaviours, fb .few-behaviours)) (b .entries) names-b
 
   joined-events : eventsFrom 32 (encode a) 0 (encode b) 0 ≡ encodeEvents (poolSignals (a .signals) (b .signals))
@@ -107,9 +85,9 @@ module _ (v : ℕ → ℕ) (a b : Sheet) (fa : SheetFits a) (fb : SheetFits b) (
       split-up (encode a) (encode b)
       ∙ (rw (
         joined-events,
-        counted,
         rest-a,
         rest-b,
+        counted,
         first-copied,
         second-copied,
         ← behaviours-append (a .entries) (moveEntries (count a) (b .entries)),

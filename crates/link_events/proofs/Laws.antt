@@ -5,11 +5,34 @@ use mathlib.Core.Path.{_≡_, refl, sym, ap, _∙_}
 use mathlib.Core.List.{List, [], _∷_, _++_, append-assoc, append-nil}
 use native.Mathlib.Omega.{arith}
 use native.Mathlib.Numerals.{add-one, add-two, add-three, add-four}
-use lib.ListN.{length, take, drop, set, length-append}
-use lib.Seq.{sets, sets-eq, take-at, length-take-le}
+use lib.ListN.{length, take, drop, set, length-append, length-take, length-drop}
+use lib.Seq.{sets, sets-eq, take-at, length-take-le, take-length}
 use borrow.Author.Tests.{eq-eqb, ne-eqb}
-use Rattle.link_events.specs.Merging.{widthAt, rankAt, senderAt, merged, eventBytes, pairBytes, eventsFrom, endFrom, agreeFrom}
+use Rattle.sheet_field.specs.Field.{fieldOf, FieldWithin}
+use Rattle.sheet_field.specs.declared.Field.{Field}
+use Rattle.sheet_field.specs.declared.Field.the-variants.{Value, Refused}
+use Rattle.link_events.specs.Merging.{fieldWidth, widthAt, rankAt, senderAt, merged, eventBytes, pairBytes, eventsFrom, endFrom, agreeFrom}
 use Rattle.link_events.specs.Written.{BytesWritten}
+
+-- ---- the field at a place, by the field reader
+
+module _ (s : List ℕ) (i : ℕ) {a : Field} (e : a ≡ fieldOf (take (length s - i) (drop i s)) 1 1) where
+  width-is : fieldWidth a ≡ widthAt s i
+  unfolding widthAt
+  width-is =
+      let all : take (length s - i) (drop i s) ≡ drop i s = ap (λ (n : ℕ). take n (drop i s)) (sym (length-drop i s)) ∙ take-length (drop i s) in
+      ap fieldWidth (e ∙ ap (λ (b : List ℕ). fieldOf b 1 1) all)
+
+  pub width-none : {k : ℕ} → a ≡ Refused k → 0 ≡ widthAt s i
+  width-none q = sym (ap fieldWidth q) ∙ width-is
+
+  pub width-some : {t n : ℕ} → a ≡ Value t n → n + 3 ≡ widthAt s i
+  width-some q = sym (ap fieldWidth q) ∙ width-is
+
+pub width-fits : (s : List ℕ) (i : ℕ) {a : Field} {t n : ℕ} → i ≤ length s → FieldWithin (take (length s - i) (drop i s)) a → a ≡ Value t n → i + (n + 3) ≤ length s
+width-fits s i {a} {t} {n} h w q =
+    let v : n + 3 ≤ length (take (length s - i) (drop i s)) = rw q at w in
+    omega (arith, simp (length-take, length-drop) at v)
 
 -- ---- writing in a row
 

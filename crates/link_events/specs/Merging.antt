@@ -1,21 +1,24 @@
 -- The events of two sheets by number, worked out from the sheets' bytes alone, as the code does. 02, M-111. That these
--- are the pooled sheet's is shown in crate `splice`.
-use Prim.Native.Nat.{ℕ, zero, suc, _+_, _-_, _%_}
+-- are the pooled sheet's is shown in crate link_bytes.
+use Prim.Native.Nat.{ℕ, zero, suc, _+_, _%_}
 use mathlib.Core.Bool.{Bool, true, false}
 use mathlib.Core.List.{List, [], _∷_, _++_}
-use lib.ListN.{length, getD}
+use lib.ListN.{getD, drop}
 use lib.Dec.{ltb, eqb}
 use lib.Bits.{bitAnd}
 use Rattle.lib_base.specs.Basics.{pick}
+use Rattle.sheet_field.specs.Field.{fieldOf}
+use Rattle.sheet_field.specs.declared.Field.{Field}
+use Rattle.sheet_field.specs.declared.Field.the-variants.{Value, Refused}
 
--- how many bytes the event's field at place i has: 4, or 5 with a byte that says who may send it; 0 where no event
--- stands
+-- how many bytes the event's field at place i has, by the field reader: 4, or 5 with a byte that says who may send it;
+-- 0 where no event stands
+abbrev pub fieldWidth : Field → ℕ
+fieldWidth (Value t n) = n + 3
+fieldWidth (Refused k) = 0
+
 unfoldable pub widthAt : List ℕ → ℕ → ℕ
-widthAt s i =
-    pick (ltb (length s - i) 4) 0
-    (pick (eqb (getD s i 0) 1)
-    (pick (eqb (getD s (i + 2) 0) 1) 4 (pick (ltb (length s - i) 5) 0 5))
-    0)
+widthAt s i = fieldWidth (fieldOf (drop i s) 1 1)
 
 -- the priority (01: rank) and the sender byte of a field of w bytes, 256 where there is none
 unfoldable pub rankAt : List ℕ → ℕ → ℕ → ℕ

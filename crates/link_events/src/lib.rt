@@ -1,45 +1,41 @@
 // The events of two sheets joined by number (02, M-111), from the sheets' bytes: their fields, the place where they
 // end, and whether two ranks differ. Time: at most 32 turns, a field of each sheet a turn.
+use sheet_field::Field;
+use sheet_field::places;
+use sheet_field::sizes;
+use sheet_field::tags;
 use spec_language::limits;
-use spec_language::tags;
 ghost use mathlib.Core.Path.{_≡_};
 ghost use Prim.Native.Nat.{_≤_, _+_, _-_};
 ghost use lib.ListN.{length};
 ghost use Rattle.link_events.specs.Merging.{widthAt, rankAt, senderAt, merged, eventBytes, pairBytes, eventsFrom, endFrom, agreeFrom};
 ghost use Rattle.link_events.specs.Written.{BytesWritten};
 
-// How many bytes an event's field has, without and with the byte that says who may send it, and where that stands.
-const PLAIN_BYTES: usize = 4;
+// Where an event's field has its priority and who may send it, and the two lengths.
+const RANK: usize = sizes::HEADER + places::RANK;
 
-const SENDER_BYTES: usize = 5;
+const SENDER: usize = sizes::HEADER + places::SENDERS;
 
-const SENDER: usize = 4;
+const ALONE: u8 = sizes::BYTE as u8;
+
+const BOTH: u8 = sizes::PAIR as u8;
 
 // What stands for that byte where it is missing: no byte's value.
 const ANYONE: usize = lib_word::BYTE_VALUES as usize;
 
 const BYTE: usize = lib_word::BYTE_VALUES as usize;
 
-// How many bytes the event's field at place i has; 0 where none stands.
+// How many bytes the event's field at place i has, by the field reader; 0 where none stands.
 fn width(s: &[u8], i: usize) -> usize
     requires { ⌜ i ≤ length (now s) ⌝ }
     ensures { λ r. ⌜ r ≡ widthAt (now (s .entry)) i ⌝ }
-    ensures { λ r. ⌜ (i + r ≤ length (now (s .entry))) × (r ≤ 5) ⌝ }
+    ensures { λ r. ⌜ i + r ≤ length (now (s .entry)) ⌝ }
 {
-    let left = s.len() - i;
-    if left < PLAIN_BYTES {
+    let a = sheet_field::field_answer(&s[i..], tags::EVENT, tags::EVENT);
+    let Field::Value(_, n) = a else {
         return 0;
-    }
-    if s[i] != tags::EVENT {
-        return 0;
-    }
-    if s[i + 2] == 1 {
-        return PLAIN_BYTES;
-    }
-    if left < SENDER_BYTES {
-        return 0;
-    }
-    SENDER_BYTES
+    };
+    n + sizes::HEADER
 }
 
 // The priority in a field of w bytes.
@@ -47,10 +43,10 @@ fn rank(s: &[u8], i: usize, w: usize) -> u8
     requires { ⌜ i + w ≤ length (now s) ⌝ }
     ensures { λ r. ⌜ r ≡ rankAt (now (s .entry)) i w ⌝ }
 {
-    if w < PLAIN_BYTES {
+    if w < sizes::BYTE_FIELD {
         return 0;
     }
-    s[i + 3]
+    s[i + RANK]
 }
 
 // Who may send it, 256 where no byte says it.
@@ -58,7 +54,7 @@ fn sender(s: &[u8], i: usize, w: usize) -> usize
     requires { ⌜ i + w ≤ length (now s) ⌝ }
     ensures { λ r. ⌜ r ≡ senderAt (now (s .entry)) i w ⌝ }
 {
-    if w == SENDER_BYTES {
+    if w == sizes::PAIR_FIELD {
         return s[i + SENDER] as usize;
     }
     ANYONE
@@ -85,17 +81,17 @@ fn put_event(out: &mut [u8], k: usize, r: u8, m: usize) -> usize
 {
     if m == ANYONE {
         out[k] = tags::EVENT;
-        out[k + 1] = 0;
-        out[k + 2] = 1;
-        out[k + 3] = r;
-        return k + PLAIN_BYTES;
+        out[k + places::LENGTH] = 0;
+        out[k + places::LOW_LENGTH] = ALONE;
+        out[k + RANK] = r;
+        return k + sizes::BYTE_FIELD;
     }
     out[k] = tags::EVENT;
-    out[k + 1] = 0;
-    out[k + 2] = 2;
-    out[k + 3] = r;
+    out[k + places::LENGTH] = 0;
+    out[k + places::LOW_LENGTH] = BOTH;
+    out[k + RANK] = r;
     out[k + SENDER] = (m % BYTE) as u8;
-    k + SENDER_BYTES
+    k + sizes::PAIR_FIELD
 }
 
 // The field of the events at place i of s and at place j of t, which have a and b bytes.

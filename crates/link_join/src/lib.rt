@@ -10,7 +10,8 @@ ghost use Rattle.back_compile.specs.Verdict.{numberOn};
 ghost use Rattle.link_join.specs.Join.{joined, deliveredIn, resultOn, poolRead, joinOn};
 
 // The most bytes of a joined sheet: those of both, and five for each event.
-const JOINED_BYTES: usize = limits::SHEET_BYTES * 2 + limits::EVENTS * 5;
+const JOINED_BYTES: usize = limits::SHEET_BYTES * 2
+    + limits::EVENTS * sheet_field::sizes::PAIR_FIELD;
 
 // What is added to its length, so that it is told from a refusal.
 const ACCEPTED: u64 = spec_language::answers::VALUE;

@@ -21,10 +21,10 @@ use Rattle.source_language.specs.Tokens.{SheetToken, number, name, rank-word, f
 use Rattle.source_language.specs.Text.{behaviour}
 use Rattle.source_rendering.specs.Describe.{eventName, behaviourName, describedConstant, phraseOf, describedReactions, describedBody, playersIn, describedBehaviours, describedEvents, mark, valueTokens, phraseTokens, fromTokens, seenTokens, phaseTokens, eventTokens, reactionTokens, behaviourToken, behaviourTokens}
 use Rattle.source_rendering.proofs.Described.{some-cells}
-use Rattle.source_walk.specs.Fields.{afterField, wordInFront, pastFields, cellsInFront}
+use Rattle.sheet_walk.specs.Fields.{afterField, wordInFront, pastFields, cellsInFront}
 use Rattle.source_terms.specs.Terms.{termTokens}
 use Rattle.source_describe.specs.Walk.{handlersTokens, viewerTokens, activeTokens, entryTokens, entriesTokens, senderTokens, signalsTokens}
-use Rattle.source_walk.proofs.Fields.{after-field, after-term, after-behaviour, cells-in-front, word-in-front}
+use Rattle.sheet_walk.proofs.Fields.{after-field, after-term, after-behaviour, cells-in-front, word-in-front}
 use Rattle.source_terms.proofs.Terms.{value-on, term-walks}
 use Rattle.source_describe.proofs.Rights.{right-walks}
 

@@ -31,7 +31,8 @@ use Rattle.source_pen.specs.Written.{writtenAfter, Penned}
 use Rattle.source_pen.proofs.Texts.{described-written}
 use Rattle.back_compile.specs.Verdict.{compileOn, numberOn}
 use Rattle.back_compile.proofs.AcceptedExactly.{accepted-exactly}
-use Rattle.source_walk.specs.Fields.{pastFields, neededIn}
+use Rattle.sheet_walk.specs.Fields.{pastFields}
+use Rattle.source_walk.specs.Fields.{neededIn}
 use Rattle.source_describe.specs.Walk.{entriesTokens, signalsTokens, sheetTokens}
 use Rattle.source_terms.specs.Put.{TokensPut, startPen}
 use Rattle.source_describe.specs.Describing.{textDelivered, readDescribed, describeOn}
@@ -54,7 +55,7 @@ sheet-walks s f =
     let tag : getD bs 0 0 ≢ 1 = behaviour-tag 1 (omega arith) (omega arith) (omega arith) (omega arith) xs in
     let past : pastFields 1 (length all) all ≡ bs = past-events (length all) rs bs (omega (arith, many-events rs)) tag in
     let few : length xs ≤ length all = omega (arith, many-behaviours xs) in
-    let needed : neededIn 0 0 bs ≡ paramsOfEntries xs = needed-entries xs 0 ∙ omega arith in
+    let needed : neededIn 0 0 0 bs ≡ paramsOfEntries xs = needed-entries xs 0 ∙ omega arith in
     let us = mark endSign [] in
     let ws = behaviourTokens (describedBehaviours xs 0 xs) us in
     rw (

@@ -16,7 +16,8 @@ use Rattle.spec_language.specs.Reading.{phaseOf}
 use Rattle.source_language.specs.Tokens.{SheetToken, number, name, sign, by-word, seen-word, param-word, endSign}
 use Rattle.source_rendering.specs.Describe.{parameterName, describedConstant, parametersFrom, mark, valueTokens, parameterTokens}
 use Rattle.source_pen.specs.declared.Pen.{Pen}
-use Rattle.source_walk.specs.Fields.{afterField, wordInFront, pastFields, cellsInFront, neededIn}
+use Rattle.sheet_walk.specs.Fields.{afterField, wordInFront, pastFields, cellsInFront}
+use Rattle.source_walk.specs.Fields.{neededIn}
 use Rattle.source_describe.specs.Walk.{handlerTokens, handlersTokens, bitTokens, rightTokens, viewerTokens, activeTokens, entryTokens, entriesTokens, signalTokens, signalsTokens, sheetTokens}
 use Rattle.source_terms.specs.Put.{TokensPut}
 use Rattle.source_terms.proofs.Writing.{Underway, under-start, under-turn, under-end}
@@ -195,7 +196,7 @@ active-parts n bs b x h v d e f g = rw (g, f, e, d)
 
 -- ---- the whole
 
-pub text-parts : (s : List ℕ) (first n : ℕ) → drop first s ≡ pastFields 1 (length s) (drop 0 s) → n ≡ neededIn 0 0 (drop first s)
+pub text-parts : (s : List ℕ) (first n : ℕ) → drop first s ≡ pastFields 1 (length s) (drop 0 s) → n ≡ neededIn 0 0 0 (drop first s)
     → parameterTokens (parametersFrom n 0) []
     ++ (signalsTokens 32 0 s ++ (entriesTokens (length s) (drop first s) (length s) 0 (drop first s) ++ mark endSign []))
     ≡ sheetTokens s

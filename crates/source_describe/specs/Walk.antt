@@ -9,7 +9,8 @@ use Rattle.lib_base.specs.Basics.{pick}
 use Rattle.spec_language.specs.Reading.{phaseOf}
 use Rattle.source_language.specs.Tokens.{SheetToken, number, name, equals, bracket, unbracket, rank-word, from-word, by-word, nobody-word, seen-word, on-word, event-word, passive-word, active-word, row-word, endSign}
 use Rattle.source_rendering.specs.Describe.{eventName, behaviourName, describedConstant, parametersFrom, mark, valueTokens, phaseTokens, parameterTokens}
-use Rattle.source_walk.specs.Fields.{afterField, wordInFront, pastFields, cellsInFront, neededIn}
+use Rattle.sheet_walk.specs.Fields.{afterField, wordInFront, pastFields, cellsInFront}
+use Rattle.source_walk.specs.Fields.{neededIn}
 use Rattle.source_terms.specs.Terms.{termTokens}
 
 -- ---- handlers and behaviours, where the behaviours' bytes are bs, of at most n fields
@@ -87,6 +88,6 @@ behavioursIn s = pastFields 1 (length s) s
 
 unfoldable pub sheetTokens : List ℕ → List SheetToken
 sheetTokens s =
-    parameterTokens (parametersFrom (neededIn 0 0 (behavioursIn s)) 0) []
+    parameterTokens (parametersFrom (neededIn 0 0 0 (behavioursIn s)) 0) []
     ++ (signalsTokens 32 0 s
     ++ (entriesTokens (length s) (behavioursIn s) (length s) 0 (behavioursIn s) ++ mark endSign []))

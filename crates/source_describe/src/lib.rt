@@ -2,7 +2,16 @@
 // handed to the pen; once to count, and again into the buffer if it has room, or into a buffer that has room for every
 // text at once. Time: each walk is one pass over the bytes, the handlers' twice; before it, one pass to count the
 // parameters, and one over the behaviours' fields that notes the first cell of each behaviour's row, so that a name is
-// looked up. Places are those of source_walk.
+// looked up. Places are those of sheet_walk.
+use sheet_field::places;
+use sheet_field::sizes;
+use sheet_field::tags;
+use sheet_walk::after_field;
+use sheet_walk::byte_from;
+use sheet_walk::cells_at;
+use sheet_walk::onward;
+use sheet_walk::past_fields;
+use sheet_walk::word_from;
 use source_coding::faults;
 use source_coding::limits as texts;
 use source_coding::signs;
@@ -16,17 +25,9 @@ use source_terms::put_sign;
 use source_terms::put_term;
 use source_terms::put_value;
 use source_walk::BYTE;
-use source_walk::HEADER;
-use source_walk::after_field;
-use source_walk::byte_from;
-use source_walk::cells_at;
 use source_walk::heads_from;
 use source_walk::needed_from;
-use source_walk::onward;
-use source_walk::past_fields;
-use source_walk::word_from;
 use spec_language::limits;
-use spec_language::tags;
 ghost use mathlib.Core.Path.{_≡_};
 ghost use mathlib.Core.List.{[], _∷_};
 ghost use Prim.Native.Nat.{_<_, _≤_, _%_};
@@ -60,9 +61,7 @@ fn put_phase(out: &mut [u8], pen: Pen, b: u8) -> Pen
 const EVENT: u8 = b'e';
 
 // In a handler the event stands behind the header, then the phase, then the expression.
-const PHASE: usize = 4;
-
-const REACTION: usize = 5;
+const PHASE: usize = sizes::HEADER + places::PHASE;
 
 // The handler at a place.
 fn put_handler(
@@ -77,9 +76,9 @@ fn put_handler(
     requires { ⌜ pen .at ≤ 65548 ⌝ }
     ensures { λ r. ⌜ TokensPut (now (out .entry)) (now (out .exit)) pen r (handlerTokens (length (now (s .entry))) (drop first (now (s .entry))) (drop at (now (s .entry)))) ⌝ }
 {
-    let event = byte_from(s, at, HEADER) as usize;
+    let event = byte_from(s, at, sizes::HEADER) as usize;
     let phase = byte_from(s, at, PHASE);
-    let body = onward(s, at, REACTION);
+    let body = onward(s, at, sizes::HANDLER_HEAD);
     let on = put_sign(out, pen, signs::ON);
     let named = put_name(out, on, EVENT, event);
     let phased = put_phase(out, named, phase);
@@ -161,14 +160,11 @@ fn put_viewers(s: &[u8], at: usize, out: &mut [u8], pen: Pen) -> Pen
     if byte_from(s, at, 0) != tags::VIEWERS {
         return pen;
     }
-    let m = byte_from(s, at, HEADER);
+    let m = byte_from(s, at, sizes::HEADER);
     let seen = put_sign(out, pen, signs::SEEN);
     let by = put_sign(out, seen, signs::BY);
     put_rights(out, by, m)
 }
-
-// A field with a word has so many bytes.
-const WORD_FIELD: usize = 7;
 
 // A start value, who may see, and the handlers; who may see stands behind the handlers.
 fn put_active(
@@ -183,8 +179,8 @@ fn put_active(
     requires { ⌜ pen .at ≤ 65548 ⌝ }
     ensures { λ r. ⌜ TokensPut (now (out .entry)) (now (out .exit)) pen r (activeTokens (length (now (s .entry))) (drop first (now (s .entry))) (drop at (now (s .entry)))) ⌝ }
 {
-    let start = word_from(s, onward(s, at, HEADER));
-    let handlers = onward(s, at, WORD_FIELD);
+    let start = word_from(s, onward(s, at, sizes::HEADER));
+    let handlers = onward(s, at, sizes::WORD_FIELD);
     let viewers = past_fields(s, handlers, tags::HANDLER);
     let started = put_value(out, pen, start);
     let seen = put_viewers(s, viewers, out, started);
@@ -247,8 +243,8 @@ fn put_row(
     requires { ⌜ pen .at ≤ 65548 ⌝ }
     ensures { λ r. ⌜ TokensPut (now (out .entry)) (now (out .exit)) pen r (rowTokens (length (now (s .entry))) (drop first (now (s .entry))) j (drop at (now (s .entry)))) ⌝ }
 {
-    let cells = byte_from(s, at, 0) as u64;
-    let rest = onward(s, at, 1);
+    let cells = byte_from(s, at, places::CELLS) as u64;
+    let rest = onward(s, at, places::START);
     let word = put_sign(out, pen, signs::ROW);
     let named = put_name(out, word, BEHAVIOUR, j);
     let opened = put_sign(out, named, signs::BRACKET);
@@ -273,7 +269,7 @@ fn put_entry(
     ensures { λ r. ⌜ TokensPut (now (out .entry)) (now (out .exit)) pen r (entryTokens (length (now (s .entry))) (drop first (now (s .entry))) j (drop at (now (s .entry)))) ⌝ }
 {
     let tag = byte_from(s, at, 0);
-    let value = onward(s, at, HEADER);
+    let value = onward(s, at, sizes::HEADER);
     if tag == tags::PASSIVE {
         return put_passive(s, first, heads, value, j, out, pen);
     }
@@ -311,8 +307,10 @@ fn put_entries(s: &[u8], first: usize, heads: &[u8; BYTE], out: &mut [u8], pen: 
     after
 }
 
-// In an event's field the rank stands behind the header, then who may send.
-const SENDERS: usize = 4;
+// In an event's field the rank stands behind the header, then who may send, where its length is that of both.
+const SENDERS: usize = sizes::HEADER + places::SENDERS;
+
+const BOTH: u8 = sizes::PAIR as u8;
 
 // Who may send, where the event's field at the place says it.
 fn put_senders(s: &[u8], at: usize, out: &mut [u8], pen: Pen) -> Pen
@@ -320,7 +318,7 @@ fn put_senders(s: &[u8], at: usize, out: &mut [u8], pen: Pen) -> Pen
     requires { ⌜ pen .at ≤ 65548 ⌝ }
     ensures { λ r. ⌜ TokensPut (now (out .entry)) (now (out .exit)) pen r (senderTokens (drop at (now (s .entry)))) ⌝ }
 {
-    if byte_from(s, at, 2) != 2 {
+    if byte_from(s, at, places::LOW_LENGTH) != BOTH {
         return pen;
     }
     let m = byte_from(s, at, SENDERS);
@@ -334,7 +332,7 @@ fn put_signal(s: &[u8], at: usize, i: usize, out: &mut [u8], pen: Pen) -> Pen
     requires { ⌜ pen .at ≤ 65548 ⌝ }
     ensures { λ r. ⌜ TokensPut (now (out .entry)) (now (out .exit)) pen r (signalTokens i (drop at (now (s .entry)))) ⌝ }
 {
-    let rank = byte_from(s, at, HEADER) as u64;
+    let rank = byte_from(s, at, sizes::HEADER) as u64;
     let word = put_sign(out, pen, signs::EVENT);
     let named = put_name(out, word, EVENT, i);
     let ranked = put_sign(out, named, signs::RANK);
@@ -380,7 +378,7 @@ fn put_parameters(out: &mut [u8], pen: Pen, n: usize) -> Pen
 // The whole text, of n parameters; the behaviours stand from `first` on, and have those first cells.
 fn put_text(s: &[u8], first: usize, n: usize, heads: &[u8; BYTE], out: &mut [u8]) -> Pen
     requires { ⌜ (first ≤ length (now s)) × (n ≤ 256) × HeadsOf (now s) first (now heads) ⌝ }
-    requires { ⌜ (drop first (now s) ≡ behavioursIn (now s)) × (n ≡ neededIn 0 0 (drop first (now s))) ⌝ }
+    requires { ⌜ (drop first (now s) ≡ behavioursIn (now s)) × (n ≡ neededIn 0 0 0 (drop first (now s))) ⌝ }
     ensures { λ r. ⌜ TokensPut (now (out .entry)) (now (out .exit)) startPen r (sheetTokens (now (s .entry))) ⌝ }
 {
     let parameters = put_parameters(out, Pen { at: 0, last: 0 }, n);

@@ -12,7 +12,7 @@ use Rattle.lib_base.specs.Basics.{pick}
 use Rattle.text_formula.specs.Reader.{level}
 use Rattle.source_language.specs.Tokens.{closing, comma}
 use Rattle.source_rendering.specs.Describe.{mark, unless}
-use Rattle.source_walk.specs.Fields.{afterField}
+use Rattle.sheet_walk.specs.Fields.{afterField}
 use Rattle.source_terms.specs.Terms.{headTokens, betweenTokens, firstLevel, secondLevel, applicationTokens, leafTokens, termTokens}
 
 pub term-none : (n : ℕ) (bs : List ℕ) (room l : ℕ) (b : List ℕ) → room ≡ 0 → [] ≡ termTokens n bs room l b

@@ -19,7 +19,7 @@ use Rattle.source_language.specs.Tokens.{SheetToken, opening, closing, comma}
 use Rattle.source_rendering.specs.Describe.{describedConstant, cellNamed, phraseOf, mark, unless, valueTokens, phraseTokens}
 use Rattle.source_rendering.proofs.Described.{some-cells}
 use Rattle.source_walk.specs.Fields.{firstCell}
-use Rattle.source_walk.proofs.Fields.{after-term, after-behaviour, cells-in-front, word-in-front}
+use Rattle.sheet_walk.proofs.Fields.{after-term, after-behaviour, cells-in-front, word-in-front}
 use Rattle.source_terms.specs.Terms.{cellTokens, termTokens}
 
 -- ---- names

@@ -9,7 +9,8 @@ use Rattle.lib_base.specs.Basics.{pick}
 use Rattle.text_formula.specs.Reader.{level}
 use Rattle.source_language.specs.Tokens.{SheetToken, number, name, opening, closing, comma, bracket, unbracket}
 use Rattle.source_rendering.specs.Describe.{behaviourName, parameterName, describedConstant, mark, unless, valueTokens}
-use Rattle.source_walk.specs.Fields.{afterField, wordInFront, firstCell}
+use Rattle.sheet_walk.specs.Fields.{afterField, wordInFront}
+use Rattle.source_walk.specs.Fields.{firstCell}
 
 -- ---- names
 

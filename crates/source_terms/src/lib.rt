@@ -1,16 +1,16 @@
 // An expression's bytes written as text: each token is handed to the pen, unless the text is over its length; which
 // first cell a name has is looked up. Time: one pass over the expression's bytes.
+use sheet_field::sizes;
+use sheet_field::tags;
+use sheet_walk::after_field;
+use sheet_walk::byte_from;
+use sheet_walk::onward;
+use sheet_walk::word_from;
 use source_coding::limits as texts;
 use source_coding::signs;
 use source_pen::Pen;
 use source_walk::BYTE;
-use source_walk::HEADER;
-use source_walk::after_field;
-use source_walk::byte_from;
-use source_walk::onward;
-use source_walk::word_from;
 use spec_language::functions;
-use spec_language::tags;
 use text_formula::levels;
 ghost use mathlib.Core.Path.{_≡_};
 ghost use mathlib.Core.List.{[], _∷_};
@@ -110,9 +110,9 @@ fn put_leaf(s: &[u8], first: usize, heads: &[u8; BYTE], at: usize, out: &mut [u8
 {
     let tag = byte_from(s, at, 0);
     if tag == tags::CONSTANT {
-        return put_value(out, pen, word_from(s, onward(s, at, HEADER)));
+        return put_value(out, pen, word_from(s, onward(s, at, sizes::HEADER)));
     }
-    let i = byte_from(s, at, HEADER) as usize;
+    let i = byte_from(s, at, sizes::HEADER) as usize;
     if tag == tags::NAME {
         return put_cell(out, pen, heads[i] as usize, i);
     }
@@ -218,9 +218,6 @@ fn put_between(out: &mut [u8], pen: Pen, f: u8) -> Pen
 // The level of the loosest operators: where it is due, nothing is in brackets.
 pub const LOOSEST: u64 = levels::DISJUNCTION;
 
-// An application's function stands behind its header, its arguments behind that.
-const APPLIED: usize = 4;
-
 // The expression at a place, nested at most `room` deep, where a level is due.
 pub fn put_term(
     s: &[u8],
@@ -242,8 +239,8 @@ pub fn put_term(
     if byte_from(s, at, 0) != tags::APPLICATION {
         return put_leaf(s, first, heads, at, out, pen);
     }
-    let f = byte_from(s, at, HEADER);
-    let one = onward(s, at, APPLIED);
+    let f = byte_from(s, at, sizes::HEADER);
+    let one = onward(s, at, sizes::BYTE_HEAD);
     let headed = put_head(out, pen, f, level);
     let after_one = put_term(s, first, heads, one, room - 1, first_level(f), out, headed);
     if f == functions::NOT {

@@ -11,7 +11,8 @@ use lib.Seq.{getD-set-same, getD-set-other}
 use lib.Dec.{ltb, eqb}
 use borrow.Author.Tests.{ltb-false}
 use Rattle.lib_base.proofs.Tools.{split}
-use Rattle.source_walk.specs.Fields.{afterField, cellsInFront, firstCell}
+use Rattle.sheet_walk.specs.Fields.{afterField, cellsInFront}
+use Rattle.source_walk.specs.Fields.{firstCell}
 use Rattle.source_walk.specs.Heads.{OwnFrom, CellsNoted, HeadsOf}
 use Rattle.source_walk.proofs.Places.{Seeking, seeking-on, seeking-finds, seeking-stops, seeking-ends}
 

@@ -1,4 +1,3 @@
-pub mod Fields
 pub mod Needed
 pub mod Places
 pub mod Heads

@@ -1,67 +1,23 @@
--- Laws of reading at a place, and of the loops that go from field to field: what is left to do from the place on is
--- what there was to do at the start.
+-- Laws of the loops that note first cells and count parameters: what is left to do from the place on is what there was
+-- to do at the start.
 use Prim.Native.Nat.{ℕ, zero, suc, _+_, _-_, _*_, _≤_, _<_}
-use mathlib.Core.Bool.{true, false}
 use mathlib.Core.Path.{_≡_, refl, sym, ap, _∙_}
 use mathlib.Core.Logic.{_≢_}
 use mathlib.Core.List.{List, [], _∷_, _++_}
 use native.Mathlib.Omega.{arith}
-use lib.ListN.{length, getD, drop, length-drop, drop-of-length-le, List·getD-eq-default}
+use lib.ListN.{length, getD, drop, length-drop, drop-of-length-le}
 use native.Mathlib.Numerals.{add-one}
-use lib.Seq.{getD-drop, drop-drop, drop-length, drop-cons}
+use lib.Seq.{drop-cons}
 use lib.Dec.{ltb, eqb}
 use borrow.Author.Tests.{eq-eqb, ne-eqb, lt-ltb, le-ltb}
 use Rattle.lib_base.specs.Basics.{pick}
-use Rattle.source_walk.specs.Fields.{afterField, pastFields, cellsInFront, firstCell, tagState, neededAfter, neededIn}
-
--- ---- a byte, and a place further on
-
-pub byte-past : (s : List ℕ) (at k : ℕ) → at ≤ length s → length s - at ≤ k → 0 ≡ getD (drop at s) k 0
-byte-past s at k h l = let g : length s ≤ at + k = omega arith in rw (getD-drop at s k 0) (sym (List·getD-eq-default s 0 g))
-
-pub onward-end : (s : List ℕ) (at n : ℕ) → at ≤ length s → length s - at < n → drop (length s) s ≡ drop n (drop at s)
-onward-end s at n h l =
-    let g : length (drop at s) ≤ n = simp length-drop (omega arith) in rw (drop-length s) (sym (drop-of-length-le (drop at s) g))
+use Rattle.sheet_walk.specs.Fields.{afterField, cellsInFront}
+use Rattle.sheet_walk.specs.Scanner.{leftAfter, tagAfter}
+use Rattle.source_walk.specs.Fields.{firstCell, neededAfter, neededIn}
 
 -- what is left of a number of turns
 turns : (left : ℕ) → 0 < left → left ≡ suc (left - 1)
 turns left h = omega arith
-
--- ---- past the fields of a tag
-
-pub record Passing (s : List ℕ) (from tag at left : ℕ) : Type 0 where
-  pub whole : pastFields tag left (drop at s) ≡ pastFields tag (length s) (drop from s)
-  pub inside : at ≤ length s
-
-past-opens : (t k : ℕ) (b : List ℕ) → pastFields t (suc k) b ≡ pick (eqb (getD b 0 0) t) (pastFields t k (afterField b)) b
-unfolding pastFields
-past-opens t k b = refl
-
-past-none : (t : ℕ) (b : List ℕ) → pastFields t 0 b ≡ b
-unfolding pastFields
-past-none t b = refl
-
-pub passing-on : {s : List ℕ} {from tag at left x y : ℕ} → Passing s from tag at left → 0 < left → x ≡ getD (drop at s) 0 0 → x ≡ tag
-    → drop y s ≡ afterField (drop at s) → y ≤ length s → Passing s from tag y (left - 1)
-passing-on {s} {from} {tag} {at} {left} {x} {y} u h e t d l = record {
-  whole =
-      sym (ap (λ (k : ℕ). pastFields tag k (drop at s)) (turns left h)
-      ∙ (past-opens tag (left - 1) (drop at s) ∙ rw (eq-eqb (getD (drop at s) 0 0) tag (sym e ∙ t), ← d)))
-      ∙ u .whole;
-  inside = l;
-}
-
-pub passing-stops : {s : List ℕ} {from tag at left x : ℕ} → Passing s from tag at left → 0 < left → x ≡ getD (drop at s) 0 0 → x ≢ tag
-    → drop at s ≡ pastFields tag (length s) (drop from s)
-passing-stops {s} {from} {tag} {at} {left} {x} u h e t =
-    sym (ap (λ (k : ℕ). pastFields tag k (drop at s)) (turns left h)
-    ∙ (past-opens tag (left - 1) (drop at s) ∙ rw (ne-eqb (getD (drop at s) 0 0) tag (λ q. t (e ∙ q)))))
-    ∙ u .whole
-
-pub passing-ends : {s : List ℕ} {from tag at left : ℕ} → Passing s from tag at left → left ≤ 0 → drop at s ≡ pastFields tag (length s) (drop from s)
-passing-ends {s} {from} {tag} {at} {left} u h =
-    let z : left ≡ 0 = omega arith in
-    sym (ap (λ (k : ℕ). pastFields tag k (drop at s)) z ∙ past-none tag (drop at s)) ∙ u .whole
 
 -- ---- the first cell of a field
 
@@ -113,20 +69,20 @@ seeking-ends {s} {first} {i} {at} {j} {left} u h =
 
 -- ---- parameters
 
-pub record Counting (s : List ℕ) (first at k n : ℕ) : Type 0 where
-  pub whole : neededIn k n (drop at s) ≡ neededIn 0 0 (drop first s)
+pub record Counting (s : List ℕ) (first at t k n : ℕ) : Type 0 where
+  pub whole : neededIn t k n (drop at s) ≡ neededIn 0 0 0 (drop first s)
   pub inside : at ≤ length s
   pub few : n ≤ 256
 
-pub counting-on : {s : List ℕ} {first at k n b m j : ℕ} → Counting s first at k n → at < length s → b ≡ getD s at 0 → m ≡ neededAfter k n b → m ≤ 256 → j ≡ tagState k b
-    → Counting s first (at + 1) j m
+pub counting-on : {s : List ℕ} {first at t k n b m j u : ℕ} → Counting s first at t k n → at < length s → b ≡ getD s at 0 → m ≡ neededAfter t k n b → m ≤ 256
+    → u ≡ tagAfter t k b → j ≡ leftAfter k b → Counting s first (at + 1) u j m
 unfolding neededIn
-counting-on {s} {first} {at} {k} {n} {b} {m} {j} u h e p l q = record {
-  whole = rw (add-one at, p, q, e) (sym (ap (neededIn k n) (drop-cons s at 0 h)) ∙ u .whole);
+counting-on {s} {first} {at} {t} {k} {n} {b} {m} {j} {u} i h e p l v q = record {
+  whole = rw (add-one at, p, q, v, e) (sym (ap (neededIn t k n) (drop-cons s at 0 h)) ∙ i .whole);
   inside = omega arith;
   few = l;
 }
 
-pub counting-ends : {s : List ℕ} {first at k n : ℕ} → Counting s first at k n → length s ≤ at → n ≡ neededIn 0 0 (drop first s)
+pub counting-ends : {s : List ℕ} {first at t k n : ℕ} → Counting s first at t k n → length s ≤ at → n ≡ neededIn 0 0 0 (drop first s)
 unfolding neededIn
-counting-ends {s} {first} {at} {k} {n} u h = sym (ap (neededIn k n) (drop-of-length-le s h)) ∙ u .whole
+counting-ends {s} {first} {at} {t} {k} {n} u h = sym (ap (neededIn t k n) (drop-of-length-le s h)) ∙ u .whole

@@ -2,7 +2,7 @@
 use mathlib.Core.Path.{sym, ap, _∙_}
 use native.Mathlib.Omega.{arith}
 use borrow.Author.Needs.{needs}
-use Rattle.front_field.specs.Field.{fieldSize}
+use Rattle.sheet_field.specs.Field.{fieldSize}
 use lib.ListN.{length-set}
 use Rattle.front_behaviours.proofs.Laws.{active-refused, active-long, active-taken}
 use Rattle.front_behaviours.proofs.read_active.Statement.{statement}

@@ -14,7 +14,7 @@ use Rattle.front_field.proofs.+read_expr.Lts-read_expr as read-expr-lts
 use Rattle.lib_functions.proofs.arity_of.Reads as arity-of-reads
 use Rattle.front_field.proofs.close_at.Reads as close-at-reads
 use Rattle.front_field.proofs.read_head.Reads as read-head-reads
-use Rattle.front_field.proofs.field_value.Reads as field-value-reads
+use Rattle.sheet_field.proofs.field_value.Reads as field-value-reads
 use Rattle.front_field.proofs.+read_expr.{statement}
 use Rattle.front_field.proofs.+read_expr.Tie.{close}
 

@@ -2,7 +2,7 @@
 use native.Mathlib.Omega.{arith}
 use Rattle.front_field.specs.declared.Head.the-variants.{NoHead}
 use Rattle.front_field.specs.Expression.{headOf}
-use Rattle.front_field.specs.Field.{fieldRefusal}
+use Rattle.sheet_field.specs.Field.{fieldRefusal}
 use mathlib.Core.Path.{sym, ap, _∙_}
 use borrow.Author.Needs.{needs}
 use Rattle.front_field.proofs.read_head.Statement.{statement}

@@ -11,7 +11,8 @@ unfolding movedByte
 lift-spec =
     tie.close
     (tie.spec
+    (λ c κs. search needs)
     (λ c. omega arith)
     (λ c. omega arith)
-    (λ c. search code depth 12)
-    (λ c. search code depth 12))
+    (λ c. rw (← c .before .is-number .ensures) (search code depth 12))
+    (λ c. rw (← c .before .is-number .ensures) (search code depth 12)))

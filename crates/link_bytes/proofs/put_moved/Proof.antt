@@ -9,10 +9,10 @@ use Rattle.link_bytes.proofs.put_moved.Statement.{statement}
 use Rattle.link_bytes.proofs.put_moved.Tie as tie
 
 abbrev Inv-loop : tie.InvT-loop
-Inv-loop s i m out₀ k at₀ to₀ left₀ out at to left = Moving s out₀ out i m k at to left
+Inv-loop s i m out₀ k at₀ to₀ tag₀ left₀ out at to tag left = Moving s out₀ out i m k at to tag left
 
 abbrev μ-loop : tie.MeasureT-loop
-μ-loop s i m out₀ k at₀ to₀ left₀ out at to left = length s - at
+μ-loop s i m out₀ k at₀ to₀ tag₀ left₀ out at to tag left = length s - at
 
 pub put-moved-spec : {M : Type 1} → statement M
 put-moved-spec =
@@ -25,9 +25,10 @@ put-moved-spec =
     (λ c κs. c .before .before .before .before .before .pre .1)
     (λ c. let u = c .before .before .before .loop .inv in omega (arith, u .count, u .room, u .kept, c .before .before .loop-test .taken))
     (λ c κs. search needs)
+    (λ c κs. search needs)
     (λ c. omega arith)
-    (λ c. let u = c .before .before .before .before .loop .inv in omega (arith, u .count, u .room, u .kept))
+    (λ c. let u = c .before .before .before .before .before .loop .inv in omega (arith, u .count, u .room, u .kept))
     (λ c. omega arith)
-    (λ c. moving-on (c .before .before .before .before .loop .inv) (c .before .before .before .loop-test .taken) refl (c .before .lift .ensures) (c .follow .ensures))
+    (λ c. moving-on (c .before .before .before .before .before .loop .inv) (c .before .before .before .before .loop-test .taken) refl (c .before .before .lift .ensures) (c .before .tag-after .ensures) (c .left-after .ensures))
     (λ c. c .before .loop .inv .kept)
     (λ c. let u = c .before .loop .inv in (moving-end u (c .loop-test .left), omega (arith, u .count, c .loop-test .left))))

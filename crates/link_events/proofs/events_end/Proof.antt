@@ -21,8 +21,8 @@ events-end-spec =
     μ-loop
     (λ c. record { whole = refl; inside = omega arith; turns = omega arith })
     (λ c κs. c .before .loop .inv .inside)
-    (λ c. omega (arith, c .width .ensures .1 .0, c .before .before .before .before .good .0 .0))
+    (λ c. omega (arith, c .width .ensures .1, c .before .before .before .before .good .0 .0))
     (λ c. omega arith)
     (λ c. omega arith)
-    (λ c. passed-on (c .before .before .loop .inv) (c .before .loop-test .taken) (c .width .ensures .0) (c .width .ensures .1 .0))
+    (λ c. passed-on (c .before .before .loop .inv) (c .before .loop-test .taken) (c .width .ensures .0) (c .width .ensures .1))
     (λ c. passed-end (c .before .loop .inv) (c .loop-test .left)))

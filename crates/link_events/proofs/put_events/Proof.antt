@@ -26,19 +26,19 @@ put-pair-requires c κs =
     let at-width = c .before .before in
     let at-loop = at-width .before .before in
     let u = at-loop .loop .inv in
-    ((at-width .width .ensures .1 .0, c .before .width2 .ensures .1 .0, omega (arith, u .few, u .room, u .kept)))
+    ((at-width .width .ensures .1, c .before .width2 .ensures .1, omega (arith, u .few, u .room, u .kept)))
 
 add-i : tie.Need-add-i Inv-loop μ-loop
 add-i c =
     let at-width = c .before .before .before .before .before in
     let at-entry = at-width .before .before .before .before .before .before in
-    omega (arith, at-width .width .ensures .1 .0, at-entry .good .0 .0)
+    omega (arith, at-width .width .ensures .1, at-entry .good .0 .0)
 
 add-j : tie.Need-add-j Inv-loop μ-loop
 add-j c =
     let at-width2 = c .before .before .before .before in
     let at-entry = at-width2 .before .before .before .before .before .before .before in
-    omega (arith, at-width2 .width2 .ensures .1 .0, at-entry .good .1 .0 .0)
+    omega (arith, at-width2 .width2 .ensures .1, at-entry .good .1 .0 .0)
 
 add-n : tie.Need-add-n Inv-loop μ-loop
 add-n c = omega arith
@@ -54,7 +54,7 @@ loop-again c =
     let at-loop-test = at-width .before in
     let at-loop = at-loop-test .before in
     turn-on (at-loop .loop .inv) (at-loop-test .loop-test .taken) (at-width .width .ensures .0)
-    (at-width .width .ensures .1 .0) (at-width2 .width2 .ensures .0) (at-width2 .width2 .ensures .1 .0)
+    (at-width .width .ensures .1) (at-width2 .width2 .ensures .0) (at-width2 .width2 .ensures .1)
     (at-put-pair .put-pair .ensures .0) (at-put-pair .put-pair .ensures .1)
     (at-put-pair .put-pair .kept .1 .1 .1 .1 .1 .1 .0)
 

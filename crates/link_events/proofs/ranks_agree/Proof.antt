@@ -39,10 +39,10 @@ returns-2 c =
     (at-width2 .width2 .ensures .0) (c .before .if1 .left) (c .if2 .taken)
 
 rank-requires : tie.Need-rank-requires Inv-loop μ-loop
-rank-requires c κs = c .before .before .before .width .ensures .1 .0
+rank-requires c κs = c .before .before .before .width .ensures .1
 
 rank-requires-2 : tie.Need-rank-requires-2 Inv-loop μ-loop
-rank-requires-2 c κs = c .before .before .before .width2 .ensures .1 .0
+rank-requires-2 c κs = c .before .before .before .width2 .ensures .1
 
 returns-3 : tie.Need-returns-3 Inv-loop μ-loop
 returns-3 c =
@@ -61,13 +61,13 @@ add-i : tie.Need-add-i Inv-loop μ-loop
 add-i c =
     let at-width = c .before .before .before .before .before .before in
     let at-entry = at-width .before .before .before .before .before in
-    omega (arith, at-width .width .ensures .1 .0, at-entry .good .0 .0)
+    omega (arith, at-width .width .ensures .1, at-entry .good .0 .0)
 
 add-j : tie.Need-add-j Inv-loop μ-loop
 add-j c =
     let at-width2 = c .before .before .before .before .before in
     let at-entry = at-width2 .before .before .before .before .before .before in
-    omega (arith, at-width2 .width2 .ensures .1 .0, at-entry .good .1 .0 .0)
+    omega (arith, at-width2 .width2 .ensures .1, at-entry .good .1 .0 .0)
 
 add-n : tie.Need-add-n Inv-loop μ-loop
 add-n c = omega arith
@@ -86,7 +86,7 @@ loop-again c =
     let at-loop = at-loop-test .before in
     agree-on (at-loop .loop .inv) (at-loop-test .loop-test .taken) (at-width .width .ensures .0)
     (at-width2 .width2 .ensures .0) (at-if1 .if1 .left) (at-if2 .if2 .left) (at-rank .rank .ensures)
-    (c .before .rank2 .ensures) (c .if3 .left) (at-width .width .ensures .1 .0) (at-width2 .width2 .ensures .1 .0)
+    (c .before .rank2 .ensures) (c .if3 .left) (at-width .width .ensures .1) (at-width2 .width2 .ensures .1)
 
 returns-4 : tie.Need-returns-4 Inv-loop μ-loop
 returns-4 c = agree-end (c .before .loop .inv) (c .loop-test .left)

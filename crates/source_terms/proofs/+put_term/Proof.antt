@@ -9,10 +9,10 @@ use borrow.Fn.PlainCycle.{Measures, is, falls, and}
 use Rattle.source_terms.proofs.put_term.Reads as put-term
 use Rattle.source_terms.proofs.put_term.Kinds as put-term-kinds
 use Rattle.source_terms.proofs.+put_term.Lts-put_term as put-term-lts
-use Rattle.source_walk.proofs.after_field.Reads as after-field-reads
-use Rattle.source_walk.proofs.byte_from.Reads as byte-from-reads
+use Rattle.sheet_walk.proofs.after_field.Reads as after-field-reads
+use Rattle.sheet_walk.proofs.byte_from.Reads as byte-from-reads
 use Rattle.source_terms.proofs.first_level.Reads as first-level-reads
-use Rattle.source_walk.proofs.onward.Reads as onward-reads
+use Rattle.sheet_walk.proofs.onward.Reads as onward-reads
 use Rattle.source_terms.proofs.put_between.Reads as put-between-reads
 use Rattle.source_terms.proofs.put_head.Reads as put-head-reads
 use Rattle.source_terms.proofs.put_leaf.Reads as put-leaf-reads

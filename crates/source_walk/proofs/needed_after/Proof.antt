@@ -1,4 +1,4 @@
--- The tests are the definition's.
+-- The tests are the definition's, the first by the scanner.
 use native.Mathlib.Omega.{arith}
 use borrow.Author.Needs.{needs}
 use Rattle.lib_base.proofs.Pick.{code}
@@ -11,8 +11,9 @@ unfolding neededAfter
 needed-after-spec =
     tie.close
     (tie.spec
-    (λ c. search needs)
-    (λ c. search needs)
-    (λ c. (search code depth 12, omega arith))
-    (λ c. (search code depth 12, omega arith))
-    (λ c. (search code depth 12, omega arith)))
+    (λ c κs. search needs)
+    (search needs)
+    (search needs)
+    (λ c. (rw (← c .before .before .is-number .ensures) (search code depth 12), omega arith))
+    (λ c. (rw (← c .before .before .is-number .ensures) (search code depth 12), omega arith))
+    (λ c. (rw (← c .before .is-number .ensures) (search code depth 12), omega arith)))
