@@ -6,9 +6,9 @@
 
 Believed and proved are told apart by place: a file under specs/ holds definitions and statements only. The other
 checks: no public name that two definitions' files declare, no public name and no dependency that nothing uses, no edit
-that changes nothing and none in two places, no number in the code without a name, lines of pages and comments at most
-120 columns, every path and name on the pages there, every edit cited by its crate and label and there, and proof files
-whose answers and places have names.
+that changes nothing and none in two places, no number in the code without a name, no tag, width or offset of a sheet's
+field outside the room sheet, lines of pages and comments at most 120 columns, every path and name on the pages there,
+every edit cited by its crate and label and there, and proof files whose answers and places have names.
 """
 import collections
 import glob
@@ -190,6 +190,50 @@ def bare_numbers():
                     yield f"{path}:{number}: a number without a name: {found.group(1)}"
 
 
+# ---- one owner of a sheet's bytes
+
+# the rooms that read or write sheets by the names of the room `sheet`; of them the crates whose writers have numbers of
+# their own still, and all that take tags from the language's definitions
+SHEET_ROOMS = {"front", "link", "text", "source", "desk"}
+SHEET_WRITERS = {"text_encode", "source_field", "source_declarations", "source_handlers", "source_body"}
+TAGS_BY_LANGUAGE = SHEET_WRITERS | {"front_draft", "text_formula", "source_operand"}
+OWN_NUMBER = re.compile(r"^(?:pub )?const (\w+): (?:u8|usize) = (?:0x[0-9A-Fa-f]+|\d+);", re.M)
+INDEX = re.compile(r"\w\[([^\[\];]*)\]")
+PLACED = re.compile(r"\b(?:put_byte|byte_from|onward|put_half|get_half|get_at)\(([^;{]*)")
+LENGTH = re.compile(r"\.len\(\)\s*(?:[<>=!]=?|-)\s*([^;{]*)")
+TAG = re.compile(r"(?:\btag\b|\w\[[^\[\];]*\])\s*[<>=!]=?\s*(\w+)\b(?!::)")
+
+
+def own_terms(text, own):
+    """The numbers above 0, bare or as a constant of the file's own, that are a whole term of a sum or of an argument."""
+    for term in re.split(r"\+|,|\.\.|\)|\(", text):
+        word = term.strip()
+        if word in own or (LITERAL.fullmatch(word) and int(word, 0) > 0):
+            yield word
+
+
+def numbers_of_sheets():
+    """A tag, a width or an offset of a sheet's field that does not come from the room `sheet`."""
+    for path in files_under("crates", ".rt"):
+        crate = path.split("/")[1]
+        text = text_of(path)
+        if "spec_language::tags" in text and crate not in TAGS_BY_LANGUAGE:
+            yield f"{path}: tags of a sheet's fields that are not those of sheet_field"
+        if crate.split("_")[0] not in SHEET_ROOMS or crate in SHEET_WRITERS:
+            continue
+        own = {m.group(1) for m in OWN_NUMBER.finditer(text)}
+        for number, line in enumerate(text.split("\n"), 1):
+            code = re.sub(r"b'.'", "", line.split("//")[0])
+            if re.match(r"\s*((pub )?const|requires|ensures|ghost|use)\b", code):
+                continue
+            places = [m.group(1) for pattern in (INDEX, PLACED) for m in pattern.finditer(code)]
+            lengths = [] if crate == "desk_format" else [m.group(1) for m in LENGTH.finditer(code)]
+            tags = [m.group(1) for m in TAG.finditer(code) if m.group(1) in own or (m.group(0).startswith("tag") and m.group(1).isdigit())]
+            for kind, found in (("an offset", places), ("a width", lengths), ("a tag", tags)):
+                for word in (w for f in found for w in own_terms(f, own)):
+                    yield f"{path}:{number}: {kind} in a sheet's field that does not come from the room sheet: {word}"
+
+
 def wide_lines():
     for path in pages():
         for number, line in enumerate(text_of(path).split("\n"), 1):
@@ -346,6 +390,7 @@ def all_faults():
     yield from unused_dependencies()
     yield from faults_of_edits()
     yield from bare_numbers()
+    yield from numbers_of_sheets()
     yield from wide_lines()
     yield from unresolved_names(theories)
     yield from crates_without_a_line()
@@ -372,6 +417,12 @@ PLANTED = [
     ("it changes nothing", "crates/lib_word/must-fail/planted.edit", None),
     ("the same label as", "crates/lib_word/must-fail/get_word_by_two.edit", None),
     ("a number without a name", "crates/lib_word/src/planted.rt", "fn planted() -> u32 {\n    17\n}\n"),
+    ("an offset", "crates/front_rows/src/planted.rt", "fn planted(s: &[u8]) -> u8 {\n    s[3]\n}\n"),
+    ("an offset", "crates/link_bytes/src/planted.rt", "const AT: usize = 4;\n\nfn planted(s: &[u8]) {\n    s[0 + AT]\n}\n"),
+    ("an offset", "crates/source_walk/src/planted.rt", "fn planted(s: &[u8]) -> u8 {\n    byte_from(s, 0, 3)\n}\n"),
+    ("a width", "crates/front_viewers/src/planted.rt", "fn planted(s: &[u8]) -> bool {\n    s.len() < 3\n}\n"),
+    ("a tag", "crates/source_terms/src/planted.rt", "const ROW: u8 = 6;\n\nfn planted(tag: u8) {\n    tag == ROW\n}\n"),
+    ("tags of a sheet's fields", "crates/desk_format/src/planted.rt", "use spec_language::tags;\n"),
     ("a comment of", "crates/lib_base/proofs/Planted.antt", "-- " + "wide " * 30 + "\n"),
     ("no such name", "docs/CLAIMS.md", "\n`plantedNameOfNothing`\n"),
     ("no such name", "docs/CLAIMS.md", "\n`get_word_by_two`\n"),
