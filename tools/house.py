@@ -7,8 +7,9 @@
 Believed and proved are told apart by place: a file under specs/ holds definitions and statements only. The other
 checks: no public name that two definitions' files declare, no public name and no dependency that nothing uses, no edit
 that changes nothing and none in two places, no number in the code without a name, no tag, width or offset of a sheet's
-field outside the room sheet, lines of pages and comments at most 120 columns, every path and name on the pages there,
-every edit cited by its crate and label and there, and proof files whose answers and places have names.
+field outside the room sheet, no two rooms that stand on each other, lines of pages and comments at most 120 columns,
+every path and name on the pages there, every edit cited by its crate and label and there, and proof files whose answers
+and places have names.
 """
 import collections
 import glob
@@ -377,6 +378,25 @@ def unreadable_proofs():
             yield f"{path}: it breaks no rule of proof text: take it off the list"
 
 
+# ---- rooms
+
+
+def room_cycles():
+    """Rooms that stand on each other, over any way: each crate that stands on a room from which its own is reached."""
+    crates, rooms = read_crates()
+    below = collections.defaultdict(set)
+    for crate, stands_on in crates.items():
+        below[rooms[crate]] |= {rooms[other] for other in stands_on if other in rooms} - {rooms[crate]}
+    reached = {room: set(below[room]) for room in rooms.values()}
+    for _ in reached:
+        for room in reached:
+            reached[room] |= {further for other in reached[room] for further in reached[other]}
+    for crate, stands_on in crates.items():
+        for other in stands_on:
+            if other in rooms and rooms[other] != rooms[crate] and rooms[crate] in reached[rooms[other]]:
+                yield f"crates.txt: rooms that stand on each other: {crate} on {other}"
+
+
 # ---- all of it
 
 
@@ -394,6 +414,7 @@ def all_faults():
     yield from wide_lines()
     yield from unresolved_names(theories)
     yield from crates_without_a_line()
+    yield from room_cycles()
     yield from unreadable_proofs()
 
 
@@ -414,6 +435,7 @@ PLANTED = [
     ("declares too", "crates/lib_base/specs/Planted.antt", "abbrev pub NoEvent : ℕ\nNoEvent = 1\n"),
     ("a public name that nothing uses", "crates/lib_base/proofs/Planted.antt", "abbrev pub plantedName : ℕ\nplantedName = 1\n"),
     ("which nothing in it uses", "crates.txt", None),
+    ("rooms that stand on each other", "crates.txt", None),
     ("it changes nothing", "crates/lib_word/must-fail/planted.edit", None),
     ("the same label as", "crates/lib_word/must-fail/get_word_by_two.edit", None),
     ("a number without a name", "crates/lib_word/src/planted.rt", "fn planted() -> u32 {\n    17\n}\n"),
@@ -441,7 +463,7 @@ PLANTED = [
 
 def plant(path, text):
     if path == "crates.txt":
-        lines = text_of(path).replace("lib_word: ", "lib_word: lib_arith ")
+        lines = text_of(path).replace("lib_word: ", "lib_word: lib_arith engine ")
         lines = lines.replace("lib_arith: lib_base", "lib_arith: lib_base")
         return lines
     if path.endswith(".edit"):

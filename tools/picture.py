@@ -15,7 +15,7 @@ from sources import read_crates
 
 PICTURE = "docs/rooms.svg"
 COLUMNS = [
-    ["sheet", "text", "source", "front", "check", "back", "link"],
+    ["sheet", "text", "source", "front", "check", "back", "ask", "link"],
     ["format", "run", "engine", "desk"],
     ["lib", "spec", "secrecy", "refine", "claims"],
 ]

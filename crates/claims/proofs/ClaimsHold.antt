@@ -3,17 +3,17 @@ use Rattle.spec_semantics.proofs.RoundsHold.{rounds-hold}
 use Rattle.engine.proofs.Holds.{whole}
 use Rattle.engine.proofs.RestDay.{rest-day}
 use Rattle.secrecy_engine.proofs.HeardHolds.{rule-on}
-use Rattle.link_halves.proofs.HalvesHold.{half-boards}
+use Rattle.refine_halves.proofs.HalvesHold.{half-boards}
 use Rattle.refine_frames.proofs.FramesHold.{every-frame, frame-in-list}
 use Rattle.refine_counts.proofs.CompiledTells.{every-table}
-use Rattle.check_agree.proofs.Answers.{answers}
+use Rattle.ask_agree.proofs.Answers.{answers}
 use Rattle.engine_agree.proofs.AgreementHolds.{phones-agree, rounds-agree}
 use Rattle.engine_agree.proofs.FinalHolds.{needed}
 use Rattle.engine_agree_for.proofs.Answers.{for-answers}
 use Rattle.engine_agree_for.proofs.ValuesHold.{one-value, each-agrees, each-round-agrees}
 use Rattle.engine_agree_for.proofs.InOrderHolds.{one-value-in-order, each-in-order}
-use Rattle.check_pair.proofs.Answers.{pair-answers}
-use Rattle.secrecy_leak.proofs.LeaklessHolds.{with-no-condition}
+use Rattle.ask_pair.proofs.Answers.{pair-answers}
+use Rattle.engine_leak.proofs.LeaklessHolds.{with-no-condition}
 use Rattle.engine_order.proofs.PhonesHold.{in-order}
 use Rattle.engine_order.proofs.ChangesHold.{in-order-changed}
 use Rattle.engine_order.proofs.PatientHolds.{remedies}

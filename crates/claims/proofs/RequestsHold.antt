@@ -24,8 +24,8 @@ use Rattle.back_compile.proofs.RowsOut.{as-rows}
 use Rattle.back_figure3.proofs.Compiles.{accepted-compiles, derived-acyclic}
 use Rattle.back_figure3.proofs.SecondPhase.{second-acyclic}
 use Rattle.refine_lists.proofs.Sheets.{program-accepted}
-use Rattle.check_circle.specs.Witness.{ListAnswer}
-use Rattle.check_circle.proofs.Shown.{shown}
+use Rattle.ask_circle.specs.Witness.{ListAnswer}
+use Rattle.ask_circle.proofs.Shown.{shown}
 use Rattle.engine.specs.Demand.{CodeIn}
 use Rattle.engine.proofs.Holds.{whole}
 use Rattle.spec_execution.proofs.CodeRight.{code-facts}

@@ -9,16 +9,16 @@ use Rattle.spec_semantics.specs.Rounds.{Holds, rounds}
 use Rattle.engine.specs.Demand.{WholeDemand}
 use Rattle.engine.specs.RestDay.{RestDay}
 use Rattle.secrecy_engine.specs.Heard.{RuleOn}
-use Rattle.link_halves.specs.HalfBoards.{HalfBoards}
+use Rattle.refine_halves.specs.HalfBoards.{HalfBoards}
 use Rattle.refine_frames.specs.Frames.{EveryFrame, FrameInList}
 use Rattle.refine_counts.specs.Compiled.{EveryTable}
-use Rattle.check_agree.specs.Claims.{AgreeAnswers as Agreement}
+use Rattle.ask_agree.specs.Claims.{AgreeAnswers as Agreement}
 use Rattle.engine_agree.specs.Agreement.{PhonesAgree, RoundsAgree}
 use Rattle.engine_agree.specs.Final.{Needed}
 use Rattle.engine_agree_for.specs.OneBehaviour.{AgreeForAnswers as AgreementFor, OneValue, EachAgrees, EachRoundAgrees}
 use Rattle.engine_agree_for.specs.OneBehaviourInOrder.{OneValueInOrder, EachInOrder}
-use Rattle.check_pair.specs.Claims.{PairAnswers as Pairs}
-use Rattle.secrecy_leak.specs.Leakless.{WithNoCondition as NoLeak}
+use Rattle.ask_pair.specs.Claims.{PairAnswers as Pairs}
+use Rattle.engine_leak.specs.Leakless.{WithNoCondition as NoLeak}
 use Rattle.engine_order.specs.Orders.{SharedOrder}
 use Rattle.engine_order.specs.Changes.{SharedOrderChanged}
 use Rattle.engine_order.specs.Remedies.{Remedies}

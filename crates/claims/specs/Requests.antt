@@ -30,7 +30,7 @@ use Rattle.back_compile.specs.Verdict.{compiled, programOf, compileOn, numberOn
 use Rattle.back_compile.specs.Statements.{FirstUnmet, Given, AsRows}
 use Rattle.back_figure3.specs.Figure3.{Assign, FirstPhaseRule, SecondPhaseRule, everyBehaviour, PassivesAcyclic, HandlerCode}
 use Rattle.engine.specs.Demand.{CodeIn}
-use Rattle.check_circle.specs.Witness.{CircleListed, Witnessed}
+use Rattle.ask_circle.specs.Witness.{CircleListed, Witnessed}
 use Rattle.link_pooled.specs.Pooled.{pooled, sameRanks}
 use Rattle.link_join.specs.Join.{joined, joinOn}
 use Rattle.link_join.specs.Statements.{limits, JoinOrder}
@@ -156,7 +156,7 @@ pub record Rows : Type 0 where
   -- "Circles, rights, instruction counts and commits are those of the sheet written out."
   pub written-out : (x : Sheet) → AsRows x
 
--- ---- M-111: pool two sheets (each half of the joined board: link_halves)
+-- ---- M-111: pool two sheets (each half of the joined board: refine_halves)
 
 -- an event that both sheets declare has one rank
 abbrev pub LikeRanks : Sheet → Sheet → Type 0

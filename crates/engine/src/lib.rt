@@ -5,11 +5,11 @@ ghost use mathlib.Core.Path.{_≡_};
 ghost use Prim.Native.Nat.{_+_, _*_, _≤_, _<_};
 ghost use lib.ListN.{length};
 ghost use Rattle.back_compile.specs.Verdict.{compiled, compileOn};
-ghost use Rattle.check_circle.specs.Witness.{Witnessed};
-ghost use Rattle.check_agree.specs.Agree.{agreeOn};
-ghost use Rattle.check_agree_for.specs.AgreeFor.{agreeForOn};
-ghost use Rattle.check_pair.specs.Pair.{pairOn};
-ghost use Rattle.check_leak.specs.Leak.{leakOn};
+ghost use Rattle.ask_circle.specs.Witness.{Witnessed};
+ghost use Rattle.ask_agree.specs.Agree.{agreeOn};
+ghost use Rattle.ask_agree_for.specs.AgreeFor.{agreeForOn};
+ghost use Rattle.ask_pair.specs.Pair.{pairOn};
+ghost use Rattle.ask_leak.specs.Leak.{leakOn};
 ghost use Rattle.format_layout.specs.Round.{callResult};
 ghost use Rattle.run_start.specs.Start.{startOn};
 ghost use Rattle.run_arrive.specs.Arrivals.{arriveOn};
@@ -48,7 +48,7 @@ pub extern "C" fn circle(sheet: &[u8], params: &[u8], list: &mut [u8]) -> u64
     ensures { λ _. ⌜ now (sheet .exit) ≡ now (sheet .entry) ⌝ }
     ensures { λ _. ⌜ now (params .exit) ≡ now (params .entry) ⌝ }
 {
-    check_circle::circle_at(sheet, params, list)
+    ask_circle::circle_at(sheet, params, list)
 }
 
 // A fresh round. 0, or 14.
@@ -315,7 +315,7 @@ pub extern "C" fn agree(sheet: &[u8], params: &[u8]) -> u64
     ensures { λ _. ⌜ now (sheet .exit) ≡ now (sheet .entry) ⌝ }
     ensures { λ _. ⌜ now (params .exit) ≡ now (params .entry) ⌝ }
 {
-    check_agree::agree_at(sheet, params)
+    ask_agree::agree_at(sheet, params)
 }
 
 // Will two phones agree on one behaviour? compile's number, as with a full table; 18 for a number that is no
@@ -328,7 +328,7 @@ pub extern "C" fn agree_for(sheet: &[u8], params: &[u8], behaviour: u32) -> u64
     ensures { λ _. ⌜ now (sheet .exit) ≡ now (sheet .entry) ⌝ }
     ensures { λ _. ⌜ now (params .exit) ≡ now (params .entry) ⌝ }
 {
-    check_agree_for::agree_for_at(sheet, params, behaviour)
+    ask_agree_for::agree_for_at(sheet, params, behaviour)
 }
 
 // What do two events share? compile's number, as with a full table; 15 where either is not declared; 0 where they are
@@ -341,7 +341,7 @@ pub extern "C" fn pair(sheet: &[u8], params: &[u8], first: u32, second: u32) -> 
     ensures { λ _. ⌜ now (sheet .exit) ≡ now (sheet .entry) ⌝ }
     ensures { λ _. ⌜ now (params .exit) ≡ now (params .entry) ⌝ }
 {
-    check_pair::pair_at(sheet, params, first, second)
+    ask_pair::pair_at(sheet, params, first, second)
 }
 
 // May a hidden value leak to a player? compile's number, as with a full table; 24 for a player above 7; 0 where no
@@ -353,7 +353,7 @@ pub extern "C" fn leak(sheet: &[u8], params: &[u8], player: u32) -> u64
     ensures { λ _. ⌜ now (sheet .exit) ≡ now (sheet .entry) ⌝ }
     ensures { λ _. ⌜ now (params .exit) ≡ now (params .entry) ⌝ }
 {
-    check_leak::leak_at(sheet, params, player)
+    ask_leak::leak_at(sheet, params, player)
 }
 
 // ---- a sheet as its setter writes it

@@ -18,10 +18,10 @@ use Rattle.back_compile.specs.Verdict.{programOf}
 use Rattle.refine_lists.specs.Lists.{SheetTurn, calling, mending, Compiles, Means, AllMean, Prepared}
 use Rattle.refine_lists.proofs.Sheets.{program-accepted}
 use Rattle.refine_lists.proofs.FromSheets.{prepared-bytes, two-lists-hold, two-only-calls-hold}
-use Rattle.check_agree.specs.Agree.{agreeOn}
-use Rattle.check_agree.specs.Claims.{Unequal}
-use Rattle.check_agree.proofs.Answers.{answers}
-use Rattle.check_agree.proofs.Undeclared.{any-two}
+use Rattle.ask_agree.specs.Agree.{agreeOn}
+use Rattle.ask_agree.specs.Claims.{Unequal}
+use Rattle.ask_agree.proofs.Answers.{answers}
+use Rattle.ask_agree.proofs.Undeclared.{any-two}
 use Rattle.engine_agree.specs.Agreement.{PhonesAgree, AgreesToo, RoundsAgree}
 
 -- ---- any two events of unequal rank are independent

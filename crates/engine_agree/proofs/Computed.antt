@@ -30,8 +30,8 @@ use Rattle.check_faults.specs.Faults.{knownIn, knownHandlers, knownBehaviours, 
 use Rattle.check_faults.proofs.CycleDecides.{known-decides}
 use Rattle.check_reads.specs.First.{firstFrom}
 use Rattle.check_reads.specs.Named.{namedDirectly, throughPassives, namedBy}
-use Rattle.check_agree.specs.Answer.{packedDifference}
-use Rattle.check_agree.specs.Agree.{clashes, clashOf, clashFrom, clashIn, agreeOn}
+use Rattle.ask_agree.specs.Answer.{packedDifference}
+use Rattle.ask_agree.specs.Agree.{clashes, clashOf, clashFrom, clashIn, agreeOn}
 use Rattle.engine_agree.specs.Final.{final, finalBytes, finalProgram, atOnce, oneByOne}
 
 -- ---- the lists, by the model engine

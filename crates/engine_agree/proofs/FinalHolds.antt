@@ -12,7 +12,7 @@ use Rattle.back_compile.proofs.AcceptedExactly.{accepted-exactly}
 use Rattle.refine_calls.specs.Refinement.{ViewIn}
 use Rattle.refine_lists.specs.Lists.{boardOf, freshRoundOn, OnlyCalls}
 use Rattle.refine_lists.proofs.FromSheets.{calls-of}
-use Rattle.check_agree.proofs.Answers.{agree-is}
+use Rattle.ask_agree.proofs.Answers.{agree-is}
 use Rattle.engine_agree.specs.Final.{final, finalBytes, finalProgram, atOnce, oneByOne, roundOf, Needed}
 use Rattle.engine_agree.proofs.Computed.{same, ends-at-once, ends-one-by-one, no-points, twenty-points, final-taken, clash-is, bytes}
 

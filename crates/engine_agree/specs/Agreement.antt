@@ -4,7 +4,7 @@
 use mathlib.Core.Path.{_≡_}
 use Rattle.lib_base.specs.Basics.{All}
 use Rattle.refine_lists.specs.Lists.{SheetTurn, calling, mending, TwoListsWhere, TwoCallsWhere}
-use Rattle.check_agree.specs.Agree.{agreeOn}
+use Rattle.ask_agree.specs.Agree.{agreeOn}
 
 -- every two lists of calls on tables that compile left for the sheet and rounds that start made
 abbrev pub PhonesAgree : Type 0

@@ -18,8 +18,8 @@ use Rattle.spec_model.specs.Claims.{takenInBy, eventsOf}
 use Rattle.back_compile.specs.Verdict.{programOf}
 use Rattle.refine_calls.specs.Refinement.{calls, Bytes, bytesAfter}
 use Rattle.refine_lists.specs.Lists.{boardOf, IdleNow, freshRoundOn}
-use Rattle.check_agree.specs.Answer.{packedDifference}
-use Rattle.check_agree.specs.Agree.{agreeOn}
+use Rattle.ask_agree.specs.Answer.{packedDifference}
+use Rattle.ask_agree.specs.Agree.{agreeOn}
 
 -- event 0 is a hit, event 1 the time-up; b0 says that time is up, b1 has the points
 abbrev pub final : Sheet

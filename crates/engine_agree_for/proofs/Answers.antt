@@ -17,16 +17,16 @@ use Rattle.spec_language.specs.Dependence.{size}
 use Rattle.spec_language.specs.Grammar.{encode}
 use Rattle.spec_language.specs.Accepted.{Accepted, SheetAccepted}
 use Rattle.spec_grammar.proofs.Programs.{reads-back}
-use Rattle.spec_commute.specs.Meets.{Cone}
-use Rattle.spec_commute.proofs.Cones.{Settled}
+use Rattle.ask_commute.specs.Meets.{Cone}
+use Rattle.ask_commute.proofs.Cones.{Settled}
 use Rattle.back_compile.specs.Verdict.{programOf, numberOn}
 use Rattle.refine_lists.proofs.Sheets.{program-accepted}
-use Rattle.check_agree.specs.Answer.{packedDifference}
-use Rattle.check_agree.proofs.Answers.{number-zero, answers}
-use Rattle.check_meets.specs.Meeting.{inCone}
-use Rattle.check_agree_for.specs.AgreeFor.{encounterIn, agreeForIn, agreeForOn}
-use Rattle.check_agree_for.specs.Claims.{EncounterNamed}
-use Rattle.check_agree_for.proofs.Decides.{zero-settles, zero-says, zero-is, named-is-true}
+use Rattle.ask_agree.specs.Answer.{packedDifference}
+use Rattle.ask_agree.proofs.Answers.{number-zero, answers}
+use Rattle.ask_meets.specs.Meeting.{inCone}
+use Rattle.ask_agree_for.specs.AgreeFor.{encounterIn, agreeForIn, agreeForOn}
+use Rattle.ask_agree_for.specs.Claims.{EncounterNamed}
+use Rattle.ask_agree_for.proofs.Decides.{zero-settles, zero-says, zero-is, named-is-true}
 use Rattle.engine_agree_for.specs.OneBehaviour.{AgreeForAnswer, AgreeForAnswers, ZeroForEach}
 use Rattle.engine_agree_for.proofs.ConeDecides.{cone-says, cone-is, independent-none}
 

@@ -14,15 +14,15 @@ use Rattle.spec_language.specs.Grammar.{BehaviourFits}
 use Rattle.spec_language.specs.Accepted.{Known}
 use Rattle.check_graph.proofs.Closure.{reach-map}
 use Rattle.check_reads.specs.Sets.{closedBy}
-use Rattle.check_leak.specs.Leak.{behaviourNames}
-use Rattle.check_agree.specs.Claims.{AllIndependent}
-use Rattle.check_agree.proofs.Decides.{active-written}
+use Rattle.ask_leak.specs.Leak.{behaviourNames}
+use Rattle.ask_agree.specs.Claims.{AllIndependent}
+use Rattle.ask_agree.proofs.Decides.{active-written}
 use Rattle.secrecy_model.specs.Sight.{names}
-use Rattle.secrecy_leak.proofs.ByNames.{names-are, named-within}
-use Rattle.spec_commute.specs.Meets.{Cone, ReadsIn, SharedIn, two-write, one-writes, other-writes, MeetAt, NoneMeet}
-use Rattle.check_meets.specs.Meeting.{inCone}
-use Rattle.check_meets.proofs.Leading.{closed-says, closed-is}
-use Rattle.check_meets.proofs.Reading.{reads-named}
+use Rattle.engine_leak.proofs.ByNames.{names-are, named-within}
+use Rattle.ask_commute.specs.Meets.{Cone, ReadsIn, SharedIn, two-write, one-writes, other-writes, MeetAt, NoneMeet}
+use Rattle.ask_meets.specs.Meeting.{inCone}
+use Rattle.ask_meets.proofs.Leading.{closed-says, closed-is}
+use Rattle.ask_meets.proofs.Reading.{reads-named}
 
 module _ (p : Program) (each : All (BehaviourFits (events p)) (p .behaviours)) (known : Known p) where
   to-names : (i j : ℕ) → behaviourNames p i j ≡ true → names p i j ≡ true

@@ -23,13 +23,13 @@ use Rattle.check_faults.specs.Faults.{matrixOf}
 use Rattle.check_reads.specs.First.{firstFrom}
 use Rattle.check_reads.specs.Sets.{closedBy}
 use Rattle.check_reads.specs.Named.{namedDirectly, throughPassives, namedBy}
-use Rattle.check_leak.specs.Leak.{behaviourNames}
-use Rattle.check_agree.specs.Answer.{packedDifference}
-use Rattle.check_agree.specs.Agree.{clashes, clashOf, clashFrom, clashIn}
-use Rattle.check_meets.specs.Marks.{nameMark, twoMark, ifMark, markOf, addsOf}
-use Rattle.check_meets.specs.Meeting.{inCone, refersAt, strictAt, strictIn, meeting, meets}
-use Rattle.check_agree_for.specs.Encounter.{encounterAt, encounterWith, encounterFrom, encounterBy}
-use Rattle.check_agree_for.specs.AgreeFor.{encounterIn, agreeForIn}
+use Rattle.ask_leak.specs.Leak.{behaviourNames}
+use Rattle.ask_agree.specs.Answer.{packedDifference}
+use Rattle.ask_agree.specs.Agree.{clashes, clashOf, clashFrom, clashIn}
+use Rattle.ask_meets.specs.Marks.{nameMark, twoMark, ifMark, markOf, addsOf}
+use Rattle.ask_meets.specs.Meeting.{inCone, refersAt, strictAt, strictIn, meeting, meets}
+use Rattle.ask_agree_for.specs.Encounter.{encounterAt, encounterWith, encounterFrom, encounterBy}
+use Rattle.ask_agree_for.specs.AgreeFor.{encounterIn, agreeForIn}
 
 -- ---- a hit (event 0, rank 2) is worth 10 points unless time is up, a bonus (1, rank 9) 50; b0 says that time is up,
 -- b1 has the score

@@ -18,16 +18,16 @@ use Rattle.spec_model.proofs.States.{storeIn}
 use Rattle.spec_model.proofs.Courses.{OneSheet, known}
 use Rattle.spec_model.proofs.Replaying.{proper}
 use Rattle.spec_model.proofs.SameBoard.{same-store}
-use Rattle.spec_commute.specs.Meets.{Cone}
-use Rattle.spec_commute.proofs.Cones.{cone-closed}
-use Rattle.spec_commute.proofs.TwoLists.{same-values, SettledAll, SettledEach, settled-commute}
+use Rattle.ask_commute.specs.Meets.{Cone}
+use Rattle.ask_commute.proofs.Cones.{cone-closed}
+use Rattle.ask_commute.proofs.TwoLists.{same-values, SettledAll, SettledEach, settled-commute}
 use Rattle.back_compile.specs.Verdict.{programOf}
 use Rattle.refine_calls.specs.Refinement.{calls, ViewIn, Bytes, bytesAfter}
 use Rattle.refine_calls.proofs.Refines.{valid}
 use Rattle.refine_lists.specs.Lists.{boardOf, IdleNow, SheetTurn, calling, mending, Compiles, onBytes, Means, AllMean, freshRoundOn, Prepared, TwoRounds, OneList, OnlyCalls}
 use Rattle.refine_lists.proofs.Sheets.{program-accepted}
 use Rattle.refine_lists.proofs.FromSheets.{prepared-bytes, prepared-accepted, calls-of, list-of}
-use Rattle.check_agree_for.specs.AgreeFor.{agreeForOn}
+use Rattle.ask_agree_for.specs.AgreeFor.{agreeForOn}
 use Rattle.engine_agree_for.specs.OneBehaviour.{OneValue, ZeroForEach, EachAgrees, EachAgreesToo, EachRoundAgrees}
 use Rattle.engine_agree_for.proofs.Answers.{settled, zero-settled}
 

@@ -1,7 +1,7 @@
 -- Agreement on one behaviour: what the call `agree_for` says of a sheet, and what its 0 promises. "In the sheet filled
 -- and with rows written out, let D be what the behaviour depends on (..; itself included). 0 exactly if no two events
 -- of unequal rank meet in D. Theorem: then this behaviour's value is equal on both phones when both are idle, for every
--- two lists as in demand 3 .., whatever the rest of the board does." D and where two events meet: crate spec_commute,
+-- two lists as in demand 3 .., whatever the rest of the board does." D and where two events meet: crate ask_commute,
 -- Meets.antt, `Cone` and `MeetAt`.
 use Prim.Native.Nat.{ℕ, _≤_, _<_}
 use mathlib.Core.Path.{_≡_}
@@ -18,13 +18,13 @@ use Rattle.spec_language.specs.Refusals.{noBehaviour}
 use Rattle.spec_semantics.specs.Meaning.{at}
 use Rattle.spec_model.specs.Model.{Call, call}
 use Rattle.spec_model.specs.Claims.{takenInBy, eventsOf}
-use Rattle.spec_commute.specs.Meets.{Cone, NoneMeet}
+use Rattle.ask_commute.specs.Meets.{Cone, NoneMeet}
 use Rattle.back_compile.specs.Verdict.{programOf, numberOn}
 use Rattle.refine_calls.specs.Refinement.{calls, bytesAfter}
 use Rattle.refine_lists.specs.Lists.{boardOf, IdleNow, SheetTurn, calling, mending, freshRoundOn, TwoRounds, TwoListsWhere, TwoCallsWhere}
-use Rattle.check_agree.specs.Agree.{agreeOn}
-use Rattle.check_agree_for.specs.AgreeFor.{agreeForOn}
-use Rattle.check_agree_for.specs.Claims.{EncounterNamed}
+use Rattle.ask_agree.specs.Agree.{agreeOn}
+use Rattle.ask_agree_for.specs.AgreeFor.{agreeForOn}
+use Rattle.ask_agree_for.specs.Claims.{EncounterNamed}
 
 -- of a sheet that compile accepts, with the bytes ps lent for its parameters, and the number b
 pub record AgreeForAnswer (s ps : List ℕ) (b : ℕ) (x : Sheet) : Type 0 where

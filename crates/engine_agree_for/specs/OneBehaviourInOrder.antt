@@ -12,7 +12,7 @@ use Rattle.spec_language.specs.Dependence.{size}
 use Rattle.spec_semantics.specs.Meaning.{at}
 use Rattle.back_compile.specs.Verdict.{programOf}
 use Rattle.refine_lists.specs.Lists.{boardOf, IdleNow, freshRoundOn, TwoRounds}
-use Rattle.check_agree_for.specs.AgreeFor.{agreeForOn}
+use Rattle.ask_agree_for.specs.AgreeFor.{agreeForOn}
 use Rattle.engine_order.specs.Orders.{EventOrder, AppCall, Offered, appAfter, takenNow, TwoPhonesWhere}
 use Rattle.engine_order.specs.Changes.{TwoChangedWhere}
 use Rattle.engine_agree_for.specs.OneBehaviour.{ZeroForEach}

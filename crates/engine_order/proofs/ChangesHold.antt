@@ -31,7 +31,7 @@ use Rattle.spec_model.proofs.Once.{idle-empty, once-each}
 use Rattle.format_layout.specs.Layout.{eventCount, sendersAt, taken, ours, behaviourCount}
 use Rattle.back_compile.specs.Verdict.{Compiled, programOf, compileOn}
 use Rattle.back_compile.proofs.AcceptedExactly.{accepted-exactly}
-use Rattle.check_agree.specs.Agree.{agreeOn}
+use Rattle.ask_agree.specs.Agree.{agreeOn}
 use Rattle.run_mend.specs.Mending.{mendOn}
 use Rattle.run_deliver.specs.Deliver.{Delivery, deliveryRefusal, deliverWith, deliverOn}
 use Rattle.refine_calls.specs.Refinement.{codedReply, TableFor, calls, mends, Bytes, bytes, turnOnBytes, bytesAfter, roundAfter}

@@ -21,7 +21,7 @@ use Rattle.spec_model.specs.Claims.{longest, inForce, engineIn, takenTurns, aft
 use Rattle.spec_model.proofs.States.{numberIn}
 use Rattle.spec_model.proofs.History.{runs-append}
 use Rattle.back_compile.specs.Verdict.{programOf}
-use Rattle.check_agree.specs.Agree.{agreeOn}
+use Rattle.ask_agree.specs.Agree.{agreeOn}
 use Rattle.format_layout.specs.Layout.{taken, ours}
 use Rattle.run_frame.specs.Frame.{frameOn}
 use Rattle.run_deliver.specs.Deliver.{deliverOn, takenOn, takenSaid}

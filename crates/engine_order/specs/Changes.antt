@@ -19,7 +19,7 @@ use Rattle.spec_model.specs.Model.{Turn}
 use Rattle.spec_model.specs.Claims.{longest, takenInBy, programAfter}
 use Rattle.format_layout.specs.Layout.{behaviourCount}
 use Rattle.back_compile.specs.Verdict.{programOf, compileOn}
-use Rattle.check_agree.specs.Agree.{agreeOn}
+use Rattle.ask_agree.specs.Agree.{agreeOn}
 use Rattle.run_mend.specs.Mending.{mendOn}
 use Rattle.run_deliver.specs.Deliver.{deliverOn}
 use Rattle.refine_calls.specs.Refinement.{Bytes, bytes, mends, turnOnBytes, bytesAfter}

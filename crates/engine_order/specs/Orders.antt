@@ -15,7 +15,7 @@ use Rattle.spec_language.specs.Syntax.{Program}
 use Rattle.spec_model.specs.Model.{Arrival, arrival, Call, Turn, call}
 use Rattle.spec_model.specs.Claims.{longest, number, inQueue, engineAfter, committedIn, takenInBy, ApartIn}
 use Rattle.back_compile.specs.Verdict.{programOf}
-use Rattle.check_agree.specs.Agree.{agreeOn}
+use Rattle.ask_agree.specs.Agree.{agreeOn}
 use Rattle.run_step.specs.Machine.{stepOn}
 use Rattle.run_frame.specs.Frame.{frameOn}
 use Rattle.run_deliver.specs.Deliver.{deliverOn, takenSaid, takenOn}
