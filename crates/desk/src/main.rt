@@ -5,6 +5,7 @@ use format_layout::table;
 use libc::STDIN_FILENO;
 use libc::STDOUT_FILENO;
 use sheet_field::Field;
+use sheet_field::places;
 use sheet_field::sizes;
 ghost use Prim.Native.Nat.{_≤_, _<_};
 ghost use lib.ListN.{length};
@@ -138,9 +139,10 @@ fn turn(table: &mut [u8], round: &mut [u8], ready: bool) -> u8 {
         return 0;
     }
     let a = desk_format::header(&head[..got]);
-    let Field::Value(tag, size) = a else {
+    let Field::Value(tag, _) = a else {
         return pass_over(sheet_field::number(a));
     };
+    let size = lib_word::get_half(&head, places::LENGTH) as usize;
     field(tag, size, table, round, ready)
 }
 
