@@ -130,7 +130,7 @@ final-taken =
 
 -- ---- what is named
 
-pub clash-is : clashIn finalProgram ≡ packedDifference 0 1 0
+pub clash-is : clashIn finalProgram ≡ 65565
 unfolding flatMap entriesOut fillTerm fillClauses fillEntries handled mentions upTo anyBelow matrixOf closed closeBy closeRows closeThrough closeRow closeCell firstFrom namedDirectly throughPassives namedBy packedDifference clashes clashOf clashFrom clashIn
 clash-is = refl
 

@@ -18,7 +18,6 @@ use Rattle.spec_model.specs.Claims.{takenInBy, eventsOf}
 use Rattle.back_compile.specs.Verdict.{programOf}
 use Rattle.refine_calls.specs.Refinement.{calls, Bytes, bytesAfter}
 use Rattle.refine_lists.specs.Lists.{boardOf, IdleNow, freshRoundOn}
-use Rattle.ask_agree.specs.Answer.{packedDifference}
 use Rattle.ask_agree.specs.Agree.{agreeOn}
 
 -- event 0 is a hit, event 1 the time-up; b0 says that time is up, b1 has the points
@@ -47,9 +46,9 @@ abbrev pub roundOf : List ℕ → List ℕ → List Call → Bytes
 roundOf t l cs = bytesAfter (map calls cs) (freshRoundOn finalBytes [] t l)
 
 pub record Needed : Type 0 where
-  -- compile accepts the sheet, and `agree` names the hit, the time-up and b0
+  -- compile accepts the sheet, and `agree` names the hit, the time-up and b0: 29, event 1 times 65,536, all else 0
   pub taken : SheetAccepted (get []) 0 final
-  pub named : agreeOn finalBytes [] ≡ packedDifference 0 1 0
+  pub named : agreeOn finalBytes [] ≡ 65565
   -- the two lists take in the same events in the same order
   pub same : eventsOf (takenInBy finalProgram (map call atOnce)) ≡ eventsOf (takenInBy finalProgram (map call oneByOne))
   -- both end idle, with no points and with 20

@@ -1,11 +1,11 @@
 -- Instances of the claims' hypotheses that are no trivial ones, on W (crate spec_language, Examples): each is the claim
 -- applied, so that one whose hypothesis was narrowed does not fit. M-100: two in hand while nothing runs. M-113: one of
--- equal rank is taken in meanwhile.
+-- equal rank is taken in meanwhile. M-112: an event is in hand at a change of sheets.
 use Prim.Native.Nat.{ℕ, _+_, _≤_, _<_}
 use mathlib.Core.Bool.{Bool, true, false, false≢true}
 use mathlib.Core.Path.{_≡_, refl, sym, ap}
 use mathlib.Core.Logic.{_≢_}
-use mathlib.Core.List.{List, [], _∷_, _++_, map, flatten, flatMap, sum, List·Memᴰ, List·Memᴰ·head}
+use mathlib.Core.List.{List, [], _∷_, _++_, map, flatten, flatMap, sum, List·Memᴰ, List·Memᴰ·head, Permᴰ·refl}
 use native.Mathlib.Omega.{arith}
 use lib.ListN.{replicate}
 use Rattle.lib_arith.specs.Exact.{beyond}
@@ -16,8 +16,11 @@ use Rattle.spec_language.specs.Code.{postfix, inOrder, copyPart, firstPart, sec
 use Rattle.spec_language.proofs.Examples.{W}
 use Rattle.spec_semantics.specs.Meaning.{value, inTurn, firstPhase, starts, fresh}
 use Rattle.spec_execution.specs.Execution.{execute, emptied, times}
-use Rattle.spec_model.specs.Model.{arrival, Engine, Call, arrive, step, Answer, act, Turn, call, State, state, Reply, says, carriedOver, turn, runTurns, replies}
-use Rattle.spec_model.specs.Claims.{longest, countIn, stepsOf, moments, commitsUnder, committedBy, takenTurns, IdleIn, after, Unchanged, stepsAmong, QuietExactly, NobodyWaits}
+use Rattle.spec_model.specs.Model.{arrival, Engine, Call, arrive, step, Answer, act, Turn, call, change, State, state, Reply, says, carriedOver, turn, runTurns, replies}
+use Rattle.spec_model.specs.Carried.{carriedActives, carried}
+use Rattle.spec_model.specs.Claims.{storeOf, engineAfter, courseOf, longest, countIn, stepsOf, moments, commitsUnder, committedBy, takenTurns, IdleIn, after, Unchanged, stepsAmong, QuietExactly, NobodyWaits}
+use Rattle.spec_model.specs.Evaluated.{SameBoard}
+use Rattle.spec_model.proofs.Examples.{wrong, right, stepping, mending}
 
 -- ---- calls change no sheet
 
@@ -61,3 +64,14 @@ equal-rank : NobodyWaits W one → List·Memᴰ (arrival 0 0 0) (committedBy W (
 unfolding beyond exact result over arity handled mentions met find order upTo metAtOnce phaseOne postfix inOrder flatten flatMap copyPart firstPart secondPart restorePart code value inTurn firstPhase starts fresh execute emptied times act turn runTurns replies takenTurns longest stepsAmong
 equal-rank n =
     n meanwhile (arrival 0 0 0) (List·Memᴰ·head refl) (calls-stay (arrive 0 0 ∷ replicate 104 step) (after W one)) (omega arith, tt) (omega arith)
+
+-- ---- M-112: on one phone the second event has run for four instructions when the sheet is changed, on the other it
+-- waits; both are committed under the new sheet
+
+abbrev waiting : List Turn
+waiting = (call (arrive 0 0) ∷ stepping 21) ++ (call (arrive 0 0) ∷ change right ∷ stepping 21)
+
+in-hand-at-a-change : SameBoard wrong mending waiting → storeOf (engineAfter wrong mending) ≡ storeOf (engineAfter wrong waiting)
+unfolding beyond exact result over arity handled mentions met find order upTo metAtOnce phaseOne postfix inOrder flatten flatMap copyPart firstPart secondPart restorePart code value inTurn firstPhase starts fresh execute emptied times carriedActives carried act turn runTurns replies moments takenTurns courseOf
+in-hand-at-a-change s =
+    s refl (Permᴰ·refl _, refl, tt) (((λ h. absurd (h refl), tt), tt), ((λ h. absurd (h refl), tt), tt)) refl refl

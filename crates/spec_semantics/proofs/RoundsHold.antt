@@ -1,11 +1,11 @@
--- Every round of the table holds: each sheet is read by computing, its program has no circle since what a behaviour
--- depends on is lower by a height, and then the rules give what the evaluator computes, and nothing else.
+-- Every round of the table holds: each sheet is within the grammar's limits, its program has no circle since what a
+-- behaviour depends on is lower by a height, and then the rules give what the evaluator computes, and nothing else.
 use Prim.Native.Nat.{ℕ, zero, suc, _≤_, _<_, _^_}
 use mathlib.Core.Bool.{Bool, true, false, not, _&&_, _||_, false≢true}
-use mathlib.Core.Path.{_≡_, refl, sym, subst}
+use mathlib.Core.Path.{_≡_, refl, sym, _∙_, subst}
 use mathlib.Core.Logic.{_≢_}
 use mathlib.Core.Option.{none}
-use mathlib.Core.List.{List, [], _∷_, flatMap, map}
+use mathlib.Core.List.{List, [], _∷_, flatMap, map, sum}
 use native.Mathlib.Omega.{arith}
 use lib.IntN.{ℤ, pos, negsuc}
 use lib.Dec.{eqb}
@@ -13,16 +13,16 @@ use lib.ListN.{length}
 use borrow.Author.Tests.{eqb-true}
 use Rattle.lib_base.specs.Basics.{All}
 use Rattle.lib_base.proofs.Tools.{split}
-use Rattle.lib_word.specs.Word.{getAt}
 use Rattle.lib_arith.specs.Exact.{signed, wrapped}
 use Rattle.lib_arith.specs.Functions.{exact, result}
 use Rattle.spec_language.specs.Syntax.{Expr, con, name, app2, immediate, later, handler, Behaviour, passive, active, Program}
-use Rattle.spec_language.specs.Sheet.{Term, literal, variable, apply2, clause, state, Sheet, cellCount, entriesOut, fillTerm, fillClauses, fillEntries, fill}
-use Rattle.spec_language.specs.Grammar.{binary, Nested, n-con, n-name, n-app2, encodeExpr, encodeHandlers, encodeBehaviours, encodeEvents, encode}
-use Rattle.spec_language.specs.Reading.{got, fieldAt, readAll, exprAt, handles, entry, signal, sheet, readSheet}
+use Rattle.spec_language.specs.Sheet.{Term, literal, variable, apply2, clause, state, Sheet, cellCount, entriesOut, fillTerm, fillClauses, fillEntries, fill, paramsOf, paramsOfClauses, paramsOfEntries, uses}
+use Rattle.spec_language.specs.Grammar.{binary, TermFits, t-literal, t-variable, t-apply2, SheetFits, Nested, n-con, n-name, n-app2, encodeExpr, encodeHandlers, encodeBehaviours, encodeEvents, encode}
+use Rattle.spec_language.specs.Reading.{entry, signal, sheet}
 use Rattle.spec_language.specs.Dependence.{handled, mentions, events, dependsOn, Reach, one, more, NoCycle}
 use Rattle.spec_language.specs.Order.{met, find, order, upTo, metAtOnce, phaseOne}
-use Rattle.spec_language.specs.Accepted.{Valid}
+use Rattle.spec_language.specs.Code.{sizeOf, instructions, allInstructions}
+use Rattle.spec_language.specs.Accepted.{Known, SheetAccepted, Valid}
 use Rattle.spec_semantics.specs.Meaning.{value, inTurn, firstPhase, laterPhase, event, starts, fresh, play}
 use Rattle.spec_semantics.specs.Rounds.{Round, ByRules, Holds, num, plus, dividedBy, S, halfLater, bothLater, throughPassive, taking, rounds}
 use Rattle.spec_semantics.proofs.Agreement.{fresh-consistent, fresh-shows, fresh-alone}
@@ -44,6 +44,33 @@ by-rules p v es h board q = record {
   played-alone = λ other d. plays-alone p v es h (fresh p) other (fresh-consistent p v .0) d;
   shown = q;
 }
+
+-- ---- a sheet within the grammar's limits, without parameters, of a valid program that is not overlong is accepted
+
+accepted : (x : Sheet) (p : Program) → ((v : ℕ → ℕ) → p ≡ fill v x) → SheetFits x → uses x ≡ false → Valid p → allInstructions p ≤ 4096 → (v : ℕ → ℕ) (lent : ℕ) → SheetAccepted v lent x
+accepted x p f s u k short v lent = record {
+  fits = s;
+  known = subst Known (f v) (k .known);
+  given = λ h. absurd (false≢true (sym u ∙ h));
+  acyclic = subst NoCycle (f v) (k .acyclic);
+  short = subst (λ (o : Program). allInstructions o ≤ 4096) (f v) short;
+}
+
+-- names and a constant as the sheets have them
+t0 : {k : ℕ} → TermFits (suc k) (variable 0)
+t0 = t-variable {i = 0} (omega arith)
+
+t1 : {k : ℕ} → TermFits (suc k) (variable 1)
+t1 = t-variable {i = 1} (omega arith)
+
+l1 : {k : ℕ} → TermFits (suc k) (literal 1)
+l1 = t-literal {w = 1} (omega arith)
+
+plus-fits : {k : ℕ} {a b : Term} → TermFits k a → TermFits k b → TermFits (suc k) (apply2 4 a b)
+plus-fits = t-apply2 (binary {f = 4} (omega arith) (omega arith) (omega arith))
+
+minus-fits : {k : ℕ} {a b : Term} → TermFits k a → TermFits k b → TermFits (suc k) (apply2 5 a b)
+minus-fits = t-apply2 (binary {f = 5} (omega arith) (omega arith) (omega arith))
 
 -- ---- no circle: a height falls along each dependence
 
@@ -76,8 +103,8 @@ b1 = n-name {i = 1} (omega arith)
 c1 : {k : ℕ} → Nested (suc k) (con 1)
 c1 = n-con {w = 1} (omega arith)
 
-sum : {k : ℕ} {a b : Expr} → Nested k a → Nested k b → Nested (suc k) (app2 4 a b)
-sum = n-app2 (binary {f = 4} (omega arith) (omega arith) (omega arith))
+plus-nested : {k : ℕ} {a b : Expr} → Nested k a → Nested k b → Nested (suc k) (app2 4 a b)
+plus-nested = n-app2 (binary {f = 4} (omega arith) (omega arith) (omega arith))
 
 difference : {k : ℕ} {a b : Expr} → Nested k a → Nested k b → Nested (suc k) (app2 5 a b)
 difference = n-app2 (binary {f = 5} (omega arith) (omega arith) (omega arith))
@@ -132,7 +159,7 @@ S-falls (suc (suc (suc e))) b i j d = absurd (omega arith)
 S-valid : Valid S-program
 S-valid = record {
   each = (
-    (omega arith, (omega arith, sum b0 b1, tt, tt)),
+    (omega arith, (omega arith, plus-nested b0 b1, tt, tt)),
     (
       (omega arith, (omega arith, difference b0 b1, (omega arith, tt), (omega arith, c1, tt, tt))),
       tt,
@@ -142,9 +169,30 @@ S-valid = record {
   acyclic = λ e b. uncircled (dependsOn S-program e) zeroHigh (S-falls e b);
 }
 
+S-fits : SheetFits S-sheet
+unfolding cellCount encode encodeEvents encodeBehaviours encodeHandlers encodeExpr
+S-fits = record {
+  few-events = omega arith;
+  few-behaviours = omega arith;
+  scale = ((omega arith, tt), ((omega arith, tt), tt));
+  each = (
+    ((omega arith, (omega arith, plus-fits t0 t1, tt, tt)), tt),
+    (
+      ((omega arith, (omega arith, minus-fits t0 t1, (omega arith, tt), (omega arith, l1, tt, tt))), tt),
+      tt,
+    ),
+  );
+  few-bytes = omega arith;
+}
+
+S-count : allInstructions S-program ≡ 25
+unfolding allInstructions instructions sizeOf upTo handled sum
+S-count = refl
+
 S-holds : (es : List ℕ) → All (λ e. e < 2) es → (board : List ℤ) → map signed (play S-program es (fresh S-program)) ≡ board → Holds (record { bytes = S; given = es; board = board })
-unfolding readSheet readAll handles exprAt fieldAt getAt cellCount entriesOut flatMap fillTerm fillClauses fillEntries
-S-holds es h board q = (S-sheet, refl, λ v. by-rules S-program S-valid es h board q)
+unfolding entriesOut flatMap fillTerm fillClauses fillEntries paramsOf paramsOfClauses paramsOfEntries
+S-holds es h board q =
+    (S-sheet, S-encoded, λ v lent. (accepted S-sheet S-program (λ v. refl) S-fits refl S-valid (omega (arith, S-count)) v lent, by-rules S-program S-valid es h board q))
 
 -- ---- one event
 
@@ -172,6 +220,16 @@ half-valid = record {
   acyclic = λ e b. uncircled (dependsOn half e) zeroHigh (half-falls e b);
 }
 
+half-fits : SheetFits halfLater
+unfolding cellCount encode encodeEvents encodeBehaviours encodeHandlers encodeExpr
+half-fits = record {
+  few-events = omega arith;
+  few-behaviours = omega arith;
+  scale = ((omega arith, tt), tt);
+  each = (((omega arith, (omega arith, t1, tt, tt)), tt), (((omega arith, (omega arith, t0, tt, tt)), tt), tt));
+  few-bytes = omega arith;
+}
+
 -- "both later"
 abbrev bothLate : Program
 bothLate = oneEvent (active 1 (handler 0 later (name 1) ∷ []) ∷ active 2 (handler 0 later (name 0) ∷ []) ∷ [])
@@ -193,6 +251,16 @@ both-valid = record {
   acyclic = λ e b. uncircled (dependsOn bothLate e) zeroHigh (both-falls e b);
 }
 
+both-fits : SheetFits bothLater
+unfolding cellCount encode encodeEvents encodeBehaviours encodeHandlers encodeExpr
+both-fits = record {
+  few-events = omega arith;
+  few-behaviours = omega arith;
+  scale = ((omega arith, tt), tt);
+  each = (((omega arith, (omega arith, t1, tt, tt)), tt), (((omega arith, (omega arith, t0, tt, tt)), tt), tt));
+  few-bytes = omega arith;
+}
+
 -- "init 0 {0 ⇒ b1 later}, b1 passive b0 + 1"
 abbrev passed : Program
 passed = oneEvent (active 0 (handler 0 later (name 1) ∷ []) ∷ passive (app2 4 (name 0) (con 1)) ∷ [])
@@ -209,9 +277,19 @@ passed-falls (suc (suc e)) b i j d = absurd (omega arith)
 
 passed-valid : Valid passed
 passed-valid = record {
-  each = ((omega arith, (omega arith, b1, tt, tt)), (sum b0 c1, tt));
+  each = ((omega arith, (omega arith, b1, tt, tt)), (plus-nested b0 c1, tt));
   known = ((omega arith, tt), ((omega arith, tt), tt));
   acyclic = λ e b. uncircled (dependsOn passed e) oneHigh (passed-falls e b);
+}
+
+passed-fits : SheetFits throughPassive
+unfolding cellCount encode encodeEvents encodeBehaviours encodeHandlers encodeExpr
+passed-fits = record {
+  few-events = omega arith;
+  few-behaviours = omega arith;
+  scale = ((omega arith, tt), tt);
+  each = (((omega arith, (omega arith, t1, tt, tt)), tt), ((plus-fits t0 l1, tt), tt));
+  few-bytes = omega arith;
 }
 
 -- one behaviour that takes f of two constants
@@ -234,15 +312,50 @@ module _ (f a c : ℕ) where
     acyclic = λ e b. uncircled (dependsOn (takes-app f a c) e) zeroHigh (app-falls e b);
   }
 
--- a sheet without rows and parameters, read as it is encoded, and its program
-one-holds : (x : Sheet) (p : Program) → readSheet (encode x) ≡ got x [] → ((v : ℕ → ℕ) → p ≡ fill v x) → Valid p → 0 < events p
+  app-fits : 0 < f → f < 14 → f ≢ 3 → a < 2 ^ 32 → c < 2 ^ 32 → SheetFits (taking (apply2 f (literal a) (literal c)))
+  unfolding cellCount encode encodeEvents encodeBehaviours encodeHandlers encodeExpr
+  app-fits g h k l m = record {
+    few-events = omega arith;
+    few-behaviours = omega arith;
+    scale = ((omega arith, tt), tt);
+    each = (((omega arith, (omega arith, t-apply2 (binary g h k) (t-literal l) (t-literal m), tt, tt)), tt), tt);
+    few-bytes = omega arith;
+  }
+
+-- 01's counts
+half-count : allInstructions half ≡ 13
+unfolding allInstructions instructions sizeOf upTo handled sum
+half-count = refl
+
+both-count : allInstructions bothLate ≡ 14
+unfolding allInstructions instructions sizeOf upTo handled sum
+both-count = refl
+
+passed-count : allInstructions passed ≡ 19
+unfolding allInstructions instructions sizeOf upTo handled sum
+passed-count = refl
+
+app-count : (f a c : ℕ) → allInstructions (takes-app f a c) ≡ 10
+unfolding allInstructions instructions sizeOf upTo handled sum
+app-count f a c = refl
+
+-- a sheet without rows and parameters, and its program
+one-holds : (x : Sheet) (p : Program) → ((v : ℕ → ℕ) → p ≡ fill v x) → SheetFits x → uses x ≡ false → Valid p → allInstructions p ≤ 4096 → 0 < events p
     → (board : List ℤ) → map signed (play p (0 ∷ []) (fresh p)) ≡ board → Holds (record { bytes = encode x; given = 0 ∷ []; board = board })
-one-holds x p r f k d board q = (x, r, λ v. subst (λ (o : Program). ByRules o (0 ∷ []) board) (f v) (by-rules p k (0 ∷ []) (d, tt) board q))
+one-holds x p f s u k short d board q =
+    (x, refl, λ v lent. (accepted x p f s u k short v lent, subst (λ (o : Program). ByRules o (0 ∷ []) board) (f v) (by-rules p k (0 ∷ []) (d, tt) board q)))
+
+app-holds : (f a c : ℕ) → 0 < f → f < 14 → f ≢ 3 → a < 2 ^ 32 → c < 2 ^ 32 → (board : List ℤ)
+    → map signed (play (takes-app f a c) (0 ∷ []) (fresh (takes-app f a c))) ≡ board
+    → Holds (record { bytes = encode (taking (apply2 f (literal a) (literal c))); given = 0 ∷ []; board = board })
+unfolding entriesOut flatMap fillTerm fillClauses fillEntries paramsOf paramsOfClauses paramsOfEntries
+app-holds f a c g h k l m board q =
+    one-holds (taking (apply2 f (literal a) (literal c))) (takes-app f a c) (λ v. refl) (app-fits f a c g h k l m) refl (app-valid f a c g h k l m) (omega (arith, app-count f a c)) (omega arith) board q
 
 -- ---- the table
 
 pub rounds-hold : All Holds rounds
-unfolding exact result handled mentions met find order upTo metAtOnce phaseOne value inTurn firstPhase laterPhase event starts fresh play readSheet readAll handles exprAt fieldAt getAt cellCount encode encodeEvents encodeBehaviours encodeHandlers encodeExpr entriesOut flatMap fillTerm fillClauses fillEntries
+unfolding exact result handled mentions met find order upTo metAtOnce phaseOne value inTurn firstPhase laterPhase event starts fresh play entriesOut flatMap fillTerm fillClauses fillEntries paramsOf paramsOfClauses paramsOfEntries
 rounds-hold = (
   S-holds (0 ∷ []) (omega arith, tt) _ refl,
   (
@@ -254,17 +367,17 @@ rounds-hold = (
         (
           S-holds (0 ∷ 0 ∷ 0 ∷ 0 ∷ 1 ∷ []) (omega arith, (omega arith, (omega arith, (omega arith, (omega arith, tt))))) _ refl,
           (
-            one-holds halfLater half refl (λ v. refl) half-valid (omega arith) _ refl,
+            one-holds halfLater half (λ v. refl) half-fits refl half-valid (omega (arith, half-count)) (omega arith) _ refl,
             (
-              one-holds bothLater bothLate refl (λ v. refl) both-valid (omega arith) _ refl,
+              one-holds bothLater bothLate (λ v. refl) both-fits refl both-valid (omega (arith, both-count)) (omega arith) _ refl,
               (
-                one-holds throughPassive passed refl (λ v. refl) passed-valid (omega arith) _ refl,
+                one-holds throughPassive passed (λ v. refl) passed-fits refl passed-valid (omega (arith, passed-count)) (omega arith) _ refl,
                 (
-                  one-holds (taking (plus (num (pos 2147483647)) (num (pos 1)))) (takes-app 4 2147483647 1) refl (λ v. refl) (app-valid 4 2147483647 1 (omega arith) (omega arith) (omega arith) (omega arith) (omega arith)) (omega arith) _ refl,
+                  app-holds 4 2147483647 1 (omega arith) (omega arith) (omega arith) (omega arith) (omega arith) _ refl,
                   (
-                    one-holds (taking (dividedBy (num (negsuc 6)) (num (pos 2)))) (takes-app 7 4294967289 2) refl (λ v. refl) (app-valid 7 4294967289 2 (omega arith) (omega arith) (omega arith) (omega arith) (omega arith)) (omega arith) _ refl,
+                    app-holds 7 4294967289 2 (omega arith) (omega arith) (omega arith) (omega arith) (omega arith) _ refl,
                     (
-                      one-holds (taking (dividedBy (num (pos 5)) (num (pos 0)))) (takes-app 7 5 0) refl (λ v. refl) (app-valid 7 5 0 (omega arith) (omega arith) (omega arith) (omega arith) (omega arith)) (omega arith) _ refl,
+                      app-holds 7 5 0 (omega arith) (omega arith) (omega arith) (omega arith) (omega arith) _ refl,
                       tt,
                     ),
                   ),

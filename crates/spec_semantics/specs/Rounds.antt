@@ -10,7 +10,7 @@ use Rattle.lib_arith.specs.Exact.{signed, wrapped}
 use Rattle.spec_language.specs.Syntax.{immediate, later, Program}
 use Rattle.spec_language.specs.Sheet.{Term, literal, variable, apply2, clause, Item, formula, state, Entry, Sheet, fill}
 use Rattle.spec_language.specs.Grammar.{encode}
-use Rattle.spec_language.specs.Reading.{got, readSheet}
+use Rattle.spec_language.specs.Accepted.{SheetAccepted}
 use Rattle.spec_language.specs.Dependence.{size}
 use Rattle.spec_semantics.specs.Rules.{Shows}
 use Rattle.spec_semantics.specs.Meaning.{at}
@@ -33,9 +33,9 @@ pub record ByRules (p : Program) (given : List ℕ) (board : List ℤ) : Type 0 
   pub played-alone : (other : List ℕ) → Plays p given before other → other ≡ after
   pub shown : map signed after ≡ board
 
--- of the program that the bytes are read as, whatever the parameters
+-- the bytes are those of a sheet that is accepted, whatever is lent as parameters, and of its program the rules hold
 abbrev pub Holds : Round → Type 0
-Holds r = (x : Sheet) × (readSheet (r .bytes) ≡ got x []) × ((v : ℕ → ℕ) → ByRules (fill v x) (r .given) (r .board))
+Holds r = (x : Sheet) × (encode x ≡ r .bytes) × ((v : ℕ → ℕ) (lent : ℕ) → SheetAccepted v lent x × ByRules (fill v x) (r .given) (r .board))
 
 -- ---- expressions as 01 writes them; negsuc n is -(n + 1)
 
