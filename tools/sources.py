@@ -109,17 +109,14 @@ def files_under(folder, endings):
 
 
 def read_crates():
-    """crates.txt: each crate with the crates that it stands on, in order; and the room that each stands in."""
-    crates, rooms, room = {}, {}, None
+    """crates.txt: each crate with the crates that it stands on, in order; and its room, with which its name begins."""
+    crates = {}
     with open("crates.txt", encoding="utf8") as file:
         for line in file:
-            heading = re.match(r"# ([a-z]+): ", line)
-            room = heading.group(1) if heading else room
             name, colon, rest = line.split("#")[0].partition(":")
             if colon:
                 crates[name.strip()] = rest.split()
-                rooms[name.strip()] = room
-    return crates, rooms
+    return crates, {crate: crate.split("_")[0] for crate in crates}
 
 
 def module_path(module):

@@ -15,7 +15,7 @@ use Rattle.spec_language.specs.Grammar.{encode}
 use Rattle.spec_language.specs.Accepted.{Accepted, SheetAccepted}
 use Rattle.spec_language.proofs.SheetLaws.{filling-accepted}
 use Rattle.spec_grammar.proofs.Programs.{reads-back}
-use Rattle.front_params.proofs.Fills.{get-small}
+use Rattle.draft_params.proofs.Fills.{get-small}
 use Rattle.back_compile.specs.Verdict.{Compiled, programOf, compileOn, numberOn}
 use Rattle.back_compile.proofs.AcceptedExactly.{accepted-exactly}
 use Rattle.ask_agree.specs.Agree.{clashIn, clashRead, agreeOn}

@@ -16,8 +16,8 @@ use Rattle.spec_language.specs.Syntax.{Program}
 use Rattle.spec_language.specs.Sheet.{Sheet}
 use Rattle.spec_language.specs.Reading.{Got, got, readSheet}
 use Rattle.spec_language.specs.Dependence.{size, events, writes}
-use Rattle.front_draft.specs.Draft.{DraftOf, Drafted}
-use Rattle.front_draft.proofs.DraftLaws.{draft-events, draft-behaviours}
+use Rattle.draft_form.specs.Draft.{DraftOf, Drafted}
+use Rattle.draft_form.proofs.DraftLaws.{draft-events, draft-behaviours}
 use Rattle.spec_language.specs.Grammar.{Fits}
 use Rattle.check_reads.specs.First.{firstFrom}
 use Rattle.check_reads.specs.Sets.{writesOn, namedOn, WritesIn, NamedIn}

@@ -6,12 +6,12 @@ ghost use mathlib.Core.Bool.{_&&_, _||_};
 ghost use Prim.Native.Nat.{ℕ, _+_, _-_, _≤_, _<_};
 ghost use lib.ListN.{length, getD};
 ghost use Rattle.lib_bits.specs.Bits.{bit};
-ghost use Rattle.front_draft.specs.Draft.{draftLength};
+ghost use Rattle.draft_form.specs.Draft.{draftLength};
 ghost use Rattle.check_faults.specs.Checks.{AllInside};
 ghost use Rattle.ask_agree.specs.Conflict.{clash, leastIn, conflictWith, conflictFrom, conflictBy, conflictOn, member};
 ghost use Rattle.ask_agree.specs.Agree.{agreeOn};
 use back_compile::Judgement;
-use front_draft::layout;
+use draft_form::layout;
 
 // The answer: this number, and the first event, the second and a behaviour, each in bits of its own.
 const PHONES_MAY_DIFFER: u64 = 29;

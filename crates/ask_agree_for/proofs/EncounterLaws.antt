@@ -14,7 +14,7 @@ use Rattle.spec_language.specs.Syntax.{Program}
 use Rattle.spec_language.specs.Reading.{got, readSheet}
 use Rattle.spec_language.specs.Refusals.{noBehaviour}
 use Rattle.spec_language.specs.Dependence.{size, events, writes}
-use Rattle.front_draft.specs.Draft.{DraftOf}
+use Rattle.draft_form.specs.Draft.{DraftOf}
 use Rattle.check_graph.proofs.Any.{any-same}
 use Rattle.check_faults.proofs.CycleDecides.{known-decides}
 use Rattle.check_reads.specs.First.{firstFrom}

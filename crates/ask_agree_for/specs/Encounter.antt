@@ -12,7 +12,7 @@ use Rattle.spec_language.specs.Syntax.{Program}
 use Rattle.spec_language.specs.Dependence.{size, events}
 use Rattle.spec_language.specs.Grammar.{Fits}
 use Rattle.spec_language.specs.Accepted.{Known}
-use Rattle.front_draft.specs.Draft.{Drafted}
+use Rattle.draft_form.specs.Draft.{Drafted}
 use Rattle.check_reads.specs.First.{firstFrom}
 use Rattle.ask_agree.specs.Answer.{packedDifference}
 use Rattle.ask_meets.specs.Meeting.{meeting}

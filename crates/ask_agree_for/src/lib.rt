@@ -7,13 +7,13 @@ ghost use Prim.Native.Nat.{ℕ, _+_, _-_, _≤_, _<_};
 ghost use lib.ListN.{length, getD};
 ghost use Rattle.lib_bits.specs.Bits.{bit};
 ghost use Rattle.spec_language.specs.Syntax.{Program};
-ghost use Rattle.front_draft.specs.Draft.{draftLength};
+ghost use Rattle.draft_form.specs.Draft.{draftLength};
 ghost use Rattle.check_faults.specs.Checks.{AllInside};
 ghost use Rattle.ask_meets.specs.Meeting.{meeting, inCone};
 ghost use Rattle.ask_agree_for.specs.Encounter.{encounterWith, encounterFrom, encounterBy, priorityOn, metBy, DraftFor};
 ghost use Rattle.ask_agree_for.specs.AgreeFor.{encounterIn, agreeForIn, agreeForOn};
 use back_compile::Judgement;
-use front_draft::layout;
+use draft_form::layout;
 use spec_language::limits;
 use spec_language::refusals;
 

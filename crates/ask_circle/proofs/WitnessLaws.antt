@@ -17,8 +17,8 @@ use Rattle.spec_language.specs.Accepted.{Known}
 use Rattle.spec_language.specs.Reading.{got}
 use Rattle.spec_language.proofs.Laws.{depends-within}
 use Rattle.spec_grammar.proofs.Programs.{reads-back}
-use Rattle.front_draft.specs.Draft.{draftLength, Drafted, DraftOf}
-use Rattle.front_draft.proofs.DraftLaws.{draft-long, draft-events, draft-behaviours}
+use Rattle.draft_form.specs.Draft.{draftLength, Drafted, DraftOf}
+use Rattle.draft_form.proofs.DraftLaws.{draft-long, draft-events, draft-behaviours}
 use Rattle.check_graph.specs.Matrix.{cell, cellBelow}
 use Rattle.check_graph.proofs.Closure.{below-is}
 use Rattle.check_faults.specs.Faults.{known}

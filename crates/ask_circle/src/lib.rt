@@ -1,7 +1,7 @@
 // compile's number for a sheet, and with 12 a shortest circle of its behaviours (02, M-108).
 ghost use Rattle.ask_circle.specs.Witness.{Witnessed};
 use back_compile::Judgement;
-use front_draft::layout;
+use draft_form::layout;
 
 // compile's number, as with a full table, and the list as it was; but with 12, its event times 256 (255 for none) and
 // its length times 65,536, and the circle in the list's first bytes, where it has room for it.

@@ -16,7 +16,7 @@ use Rattle.spec_language.specs.Reading.{got, readSheet}
 use Rattle.spec_language.specs.Rights.{may, maySee}
 use Rattle.spec_language.specs.Dependence.{size, events, response}
 use Rattle.spec_language.specs.Grammar.{Fits}
-use Rattle.front_draft.specs.Draft.{DraftOf, Drafted}
+use Rattle.draft_form.specs.Draft.{DraftOf, Drafted}
 use Rattle.check_graph.specs.Any.{anyBelow}
 use Rattle.check_graph.proofs.Any.{any-same}
 use Rattle.check_reads.specs.First.{firstFrom}

@@ -8,13 +8,13 @@ ghost use lib.ListN.{length, getD};
 ghost use Rattle.lib_base.specs.Basics.{pick};
 ghost use Rattle.lib_bits.specs.Bits.{bit, Gathers};
 ghost use Rattle.spec_language.specs.Rights.{may};
-ghost use Rattle.front_draft.specs.Draft.{draftLength};
+ghost use Rattle.draft_form.specs.Draft.{draftLength};
 ghost use Rattle.check_faults.specs.Checks.{AllInside};
 ghost use Rattle.check_reads.specs.First.{firstFrom};
 ghost use Rattle.ask_leak.specs.Leaking.{packedLeak, leakAt, leakFrom, leakBy, namesAny, hiddenOn, leakingOn, leakFor};
 ghost use Rattle.ask_leak.specs.Leak.{leakOn};
 use back_compile::Judgement;
-use front_draft::layout;
+use draft_form::layout;
 
 // The answer: this number, and the behaviour that is seen and the hidden one, each in bits of its own.
 const MAY_LEAK: u64 = 30;
@@ -37,7 +37,7 @@ pub fn names_of(d: &[u64], ev: usize, i: usize, n: usize) -> u64
     let mut set = 0;
     let mut e = 0;
     while e <= ev {
-        let v = front_draft::entry_of(d, e, i);
+        let v = draft_form::entry_of(d, e, i);
         set = lib_bits::union_of(set, check_reads::names_in(d, i, v));
         e += 1;
     }

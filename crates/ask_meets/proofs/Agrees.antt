@@ -15,9 +15,9 @@ use Rattle.spec_language.specs.Dependence.{Response, follows, takes, defers, ke
 use Rattle.spec_language.specs.Grammar.{Fits, Nested}
 use Rattle.spec_language.specs.Accepted.{NamesIn, Known}
 use Rattle.spec_language.proofs.Laws.{ResponseNested, response-nested, ResponseNamesIn, response-names}
-use Rattle.front_draft.specs.Draft.{draftLength, nodes, entryOf, usedBy, Drafted}
-use Rattle.front_draft.specs.Entry.{entryStart, entryCount}
-use Rattle.front_draft.proofs.DraftLaws.{Holds, Entry, entry-of, length-used}
+use Rattle.draft_form.specs.Draft.{draftLength, nodes, entryOf, usedBy, Drafted}
+use Rattle.draft_form.specs.Entry.{entryStart, entryCount}
+use Rattle.draft_form.proofs.DraftLaws.{Holds, Entry, entry-of, length-used}
 use Rattle.check_graph.specs.Any.{anyBelow}
 use Rattle.check_graph.proofs.Any.{any-same}
 use Rattle.check_reads.specs.Sets.{namesOn, writesOn, passiveOn, closedBy, RowsBy}

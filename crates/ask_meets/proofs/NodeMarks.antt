@@ -15,8 +15,8 @@ use Rattle.lib_base.proofs.Tools.{by-test}
 use Rattle.spec_language.specs.Syntax.{Expr, con, name, app1, app2, app3, Program}
 use Rattle.spec_language.specs.Grammar.{Arity, unary, ternary, binary, Nested, n-con, n-name, n-app1, n-app2, n-app3}
 use Rattle.spec_language.specs.Accepted.{NamesIn}
-use Rattle.front_draft.specs.Draft.{nodes}
-use Rattle.front_draft.specs.Entry.{nodeTag, nodeWord}
+use Rattle.draft_form.specs.Draft.{nodes}
+use Rattle.draft_form.specs.Entry.{nodeTag, nodeWord}
 use Rattle.check_reads.specs.Named.{throughPassives}
 use Rattle.ask_meets.specs.Marks.{nameMark, oneMark, twoMark, ifMark, markOf, pushMark, appliedMark, markStep, marksAmong}
 

@@ -9,7 +9,7 @@ use lib.Dec.{eqb}
 use Rattle.lib_base.specs.Basics.{pick}
 use Rattle.spec_language.specs.Syntax.{Expr, con, name, app1, app2, app3, Program}
 use Rattle.spec_language.specs.Dependence.{Response, follows, takes, defers, keeps, response}
-use Rattle.front_draft.specs.Entry.{nodeTag, nodeWord}
+use Rattle.draft_form.specs.Entry.{nodeTag, nodeWord}
 use Rattle.check_reads.specs.Named.{throughPassives}
 
 -- ---- from marks to marks

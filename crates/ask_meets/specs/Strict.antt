@@ -7,8 +7,8 @@ use lib.ListN.{getD}
 use lib.Dec.{eqb}
 use Rattle.lib_base.specs.Basics.{pick}
 use Rattle.lib_bits.specs.Bits.{bit, Gathers}
-use Rattle.front_draft.specs.Draft.{entryOf, usedBy}
-use Rattle.front_draft.specs.Entry.{entryStart, entryCount}
+use Rattle.draft_form.specs.Draft.{entryOf, usedBy}
+use Rattle.draft_form.specs.Entry.{entryStart, entryCount}
 use Rattle.check_graph.specs.Any.{anyBelow}
 use Rattle.check_reads.specs.Sets.{namesOn, writesOn, closedBy}
 use Rattle.ask_leak.specs.Leaking.{namesAny}

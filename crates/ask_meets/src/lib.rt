@@ -1,4 +1,4 @@
-// What two events may meet at, on the draft of a program (layout: front_draft, specs/Draft.antt): what a behaviour
+// What two events may meet at, on the draft of a program (layout: draft_form, specs/Draft.antt): what a behaviour
 // depends on, whether a handler adds to its behaviour, and what each event is strict about (specs/Meeting.antt). Time:
 // a pass over the nodes, and n * n operations on words for the chains of n behaviours.
 ghost use mathlib.Core.Path.{_≡_};
@@ -8,14 +8,14 @@ ghost use lib.ListN.{length, getD};
 ghost use lib.Dec.{eqb, leb};
 ghost use Rattle.lib_base.specs.Basics.{pick};
 ghost use Rattle.lib_bits.specs.Bits.{bit, Gathers};
-ghost use Rattle.front_draft.specs.Draft.{draftLength, usedBy, entryOf};
-ghost use Rattle.front_draft.specs.Entry.{entryKind, entryStart, entryCount};
+ghost use Rattle.draft_form.specs.Draft.{draftLength, usedBy, entryOf};
+ghost use Rattle.draft_form.specs.Entry.{entryKind, entryStart, entryCount};
 ghost use Rattle.check_faults.specs.Checks.{RowsInside, AllInside};
 ghost use Rattle.check_reads.specs.Sets.{RowsBy};
 ghost use Rattle.ask_leak.specs.Leaking.{namesAny};
 ghost use Rattle.ask_meets.specs.Marks.{nameMark, oneMark, twoMark, ifMark, pushMark, appliedMark, markStep};
 ghost use Rattle.ask_meets.specs.Strict.{coneOn, markIn, strictAtOn, strictOn, StrictSets};
-use front_draft::layout;
+use draft_form::layout;
 use spec_language::functions;
 use spec_language::limits;
 
@@ -156,7 +156,7 @@ fn mark_in(d: &[u64], rows: &[u64], i: usize, v: u64) -> u64
     let mut s = 0;
     let mut k = 0;
     while k < count {
-        s = mark_node(rows, i, s, front_draft::moved_node(d, i, d[start + k]));
+        s = mark_node(rows, i, s, draft_form::moved_node(d, i, d[start + k]));
         k += 1;
     }
     s
@@ -214,7 +214,7 @@ fn strict_of(d: &[u64], rows: &[u64], n: usize, cone: u64, e: usize) -> u64
     let mut set = 0;
     let mut i = 0;
     while i < n {
-        set = add_strict(d, rows, n, set, cone, i, front_draft::entry_of(d, e, i));
+        set = add_strict(d, rows, n, set, cone, i, draft_form::entry_of(d, e, i));
         i += 1;
     }
     set

@@ -8,12 +8,12 @@ ghost use lib.ListN.{length, getD};
 ghost use Rattle.lib_base.specs.Basics.{pick};
 ghost use Rattle.lib_bits.specs.Bits.{bit, Gathers};
 ghost use Rattle.spec_language.specs.Syntax.{Program};
-ghost use Rattle.front_draft.specs.Draft.{draftLength};
+ghost use Rattle.draft_form.specs.Draft.{draftLength};
 ghost use Rattle.check_faults.specs.Checks.{AllInside};
 ghost use Rattle.ask_agree_for.specs.Encounter.{DraftFor};
 ghost use Rattle.ask_pair.specs.Pair.{everyone, weight, leastTold, flagsAt, packedPair, pairBy, pairBySets, pairOf, pairIn, pairOn};
 use back_compile::Judgement;
-use front_draft::layout;
+use draft_form::layout;
 use spec_language::limits;
 use spec_language::refusals;
 

@@ -6,7 +6,7 @@ use mathlib.Core.Path.{_≡_, sym, ap, _∙_}
 use mathlib.Core.List.{List}
 use native.Mathlib.Omega.{arith}
 use Rattle.format_image.specs.Image.{tableOf, putWords}
-use Rattle.front_draft.specs.Draft.{DraftOf}
+use Rattle.draft_form.specs.Draft.{DraftOf}
 use Rattle.check_faults.specs.Checks.{namesKnown, cyclicOn}
 use Rattle.check_faults.proofs.DraftChecks.{draft-names, draft-cyclic}
 use Rattle.back_table.specs.TableWords.{countBefore, tableWords}

@@ -1,4 +1,4 @@
--- A draft filled in and judged is the sheet judged: by the theorem on the filling (crate front_params), and since the
+-- A draft filled in and judged is the sheet judged: by the theorem on the filling (crate draft_params), and since the
 -- values do not matter where no parameter is used, nor for its names.
 use Prim.Native.Nat.{ℕ, _<_}
 use mathlib.Core.Path.{_≡_, refl, ap, _∙_}
@@ -14,8 +14,8 @@ use Rattle.spec_language.specs.Sheet.{Term, literal, variable, param, apply1, a
 use Rattle.spec_language.specs.Sheet.{fillTerm, fillClauses, fillItem, fillEntries, fill, uses}
 use Rattle.spec_language.proofs.SheetLaws.{length-fill, fill-unused}
 use Rattle.check_faults.specs.Faults.{knownIn, knownHandlers, knownBehaviour, knownBehaviours, known}
-use Rattle.front_params.specs.Filling.{parameterValue, fillTo, lacksParam}
-use Rattle.front_params.proofs.Fills.{draft-filled, filled-program, draft-lacks}
+use Rattle.draft_params.specs.Filling.{parameterValue, fillTo, lacksParam}
+use Rattle.draft_params.proofs.Fills.{draft-filled, filled-program, draft-lacks}
 use Rattle.back_compile.specs.Verdict.{judge, lacksParameters}
 use Rattle.back_compile.specs.Judged.{Judged, SheetJudged}
 

@@ -17,13 +17,13 @@ use Rattle.spec_language.specs.Reading.{bad, readSheet}
 use Rattle.spec_language.proofs.SheetLaws.{fill-unused}
 use Rattle.spec_grammar.proofs.Programs.{fault-numbers}
 use Rattle.format_image.specs.Image.{putWords}
-use Rattle.front_draft.specs.Draft.{draftLength, DraftOf}
+use Rattle.draft_form.specs.Draft.{draftLength, DraftOf}
 use Rattle.front_sheet.specs.declared.Draft.{Draft}
 use Rattle.front_sheet.specs.declared.Draft.the-variants.{Ready, Broken}
 use Rattle.front_sheet.specs.Whole.{finished, readOn}
 use Rattle.front_correct.proofs.Drafts.{Outcome, empty, drafted-as}
-use Rattle.front_params.specs.Filling.{parameterValue, fillTo, lacksParam}
-use Rattle.front_params.proofs.Fills.{draft-filled, filled-program, draft-lacks}
+use Rattle.draft_params.specs.Filling.{parameterValue, fillTo, lacksParam}
+use Rattle.draft_params.proofs.Fills.{draft-filled, filled-program, draft-lacks}
 use Rattle.check_faults.specs.Checks.{namesKnown, cyclicOn}
 use Rattle.check_faults.proofs.DraftChecks.{draft-names}
 use Rattle.back_table.specs.TableWords.{countBefore, tableWords}

@@ -7,7 +7,7 @@ use lib.ListN.{length, getD}
 use Rattle.lib_base.specs.Basics.{All}
 use Rattle.spec_language.specs.Sheet.{Sheet}
 use Rattle.spec_language.specs.Reading.{Got, bad, readSheet}
-use Rattle.front_draft.specs.Draft.{SheetDraft}
+use Rattle.draft_form.specs.Draft.{SheetDraft}
 use Rattle.front_sheet.specs.declared.Draft.{Draft}
 use Rattle.front_sheet.specs.declared.Draft.the-variants.{Ready, Broken}
 use Rattle.front_sheet.specs.Whole.{finished, readOn}

@@ -9,7 +9,7 @@ use lib.ListN.{length}
 use Rattle.spec_language.specs.Sheet.{Sheet}
 use Rattle.spec_language.specs.Reading.{got, readSheet}
 use Rattle.format_image.specs.Image.{putWords}
-use Rattle.front_draft.specs.Draft.{DraftOf, SheetDraft}
+use Rattle.draft_form.specs.Draft.{DraftOf, SheetDraft}
 use Rattle.front_sheet.specs.declared.Draft.{Draft}
 use Rattle.front_sheet.specs.declared.Draft.the-variants.{Ready, Broken}
 use Rattle.check_faults.specs.Faults.{known}

@@ -6,11 +6,11 @@
 ghost use mathlib.Core.Path.{_≡_};
 ghost use Prim.Native.Nat.{_≤_};
 ghost use lib.ListN.{length, replicate};
-ghost use Rattle.front_draft.specs.Draft.{draftLength};
+ghost use Rattle.draft_form.specs.Draft.{draftLength};
 ghost use Rattle.back_compile.specs.Verdict.{compiled, compileOn, numberOn};
 ghost use Rattle.back_compile.specs.Judged.{JudgedAs, answerOf, draftRefusal};
+use draft_form::layout;
 use format_layout::table;
-use front_draft::layout;
 use front_sheet::Draft;
 use spec_language::limits;
 use spec_language::refusals;
@@ -58,8 +58,8 @@ pub fn judge_sheet(sheet: &[u8], params: &[u8], draft: &mut [u64]) -> Judgement
     let Draft::Ready(events, behaviours, nodes) = reading else {
         return Judgement::Refused(fault_of(reading));
     };
-    let lacking = front_params::lacks_param(draft, nodes, params);
-    front_params::fill_draft(draft, nodes, params);
+    let lacking = draft_params::lacks_param(draft, nodes, params);
+    draft_params::fill_draft(draft, nodes, params);
     if !check_faults::names_known(draft, nodes, behaviours) {
         return Judgement::Refused(refusals::UNKNOWN_NAME);
     }

@@ -10,8 +10,8 @@ use Rattle.spec_language.specs.Syntax.{Program}
 use Rattle.spec_language.specs.Dependence.{Response, follows, takes, defers, keeps, size, response}
 use Rattle.spec_language.specs.Order.{upTo}
 use Rattle.spec_language.specs.Code.{copied, inC, share, instructions, one?, members}
-use Rattle.front_draft.specs.Draft.{entryOf, usedBy, Drafted}
-use Rattle.front_draft.proofs.DraftLaws.{Entry, entry-of}
+use Rattle.draft_form.specs.Draft.{entryOf, usedBy, Drafted}
+use Rattle.draft_form.proofs.DraftLaws.{Entry, entry-of}
 use Rattle.back_counts.specs.Counts.{total, shareOf, countEvent, isMember, countMembers}
 
 -- ---- sums

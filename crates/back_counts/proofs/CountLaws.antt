@@ -6,8 +6,8 @@ use native.Mathlib.Omega.{arith}
 use native.Mathlib.Numerals.{add-one}
 use lib.Dec.{eqb}
 use Rattle.lib_base.proofs.Tools.{by-test}
-use Rattle.front_draft.specs.Draft.{entryOf}
-use Rattle.front_draft.specs.Entry.{entryKind, entryStart, entryCount}
+use Rattle.draft_form.specs.Draft.{entryOf}
+use Rattle.draft_form.specs.Entry.{entryKind, entryStart, entryCount}
 use Rattle.back_counts.specs.Counts.{EntriesInside, total, shareOf, isMember, countMembers}
 
 -- ---- what is asked of a draft

@@ -1,13 +1,13 @@
 -- 01's count of an event's instructions, and the number of behaviours that it copies, from the draft (crate
--- front_draft). 01 "Handlers and steps".
+-- draft_form). 01 "Handlers and steps".
 use Prim.Native.Nat.{ℕ, zero, suc, _+_, _*_, _≤_, _<_}
 use mathlib.Core.Path.{_≡_}
 use mathlib.Core.List.{List}
 use lib.ListN.{length}
 use lib.Dec.{eqb}
 use Rattle.lib_base.specs.Basics.{pick}
-use Rattle.front_draft.specs.Draft.{draftLength, entryOf}
-use Rattle.front_draft.specs.Entry.{entryKind, entryStart, entryCount}
+use Rattle.draft_form.specs.Draft.{draftLength, entryOf}
+use Rattle.draft_form.specs.Entry.{entryKind, entryStart, entryCount}
 
 -- the draft d of n behaviours: each entry for event e lies within the nodes
 pub record EntriesInside (d : List ℕ) (e n : ℕ) : Type 0 where

@@ -1,12 +1,12 @@
-// 01's count of an event's instructions, and how many behaviours it copies, from the draft (crate front_draft).
+// 01's count of an event's instructions, and how many behaviours it copies, from the draft (crate draft_form).
 ghost use mathlib.Core.Path.{_≡_};
 ghost use Prim.Native.Nat.{_≤_};
 ghost use lib.ListN.{length};
-ghost use Rattle.front_draft.specs.Entry.{entryCount};
-ghost use Rattle.front_draft.specs.Draft.{draftLength};
+ghost use Rattle.draft_form.specs.Entry.{entryCount};
+ghost use Rattle.draft_form.specs.Draft.{draftLength};
 ghost use Rattle.back_counts.specs.Counts.{EntriesInside, shareOf, countEvent, isMember, countMembers};
-use front_draft::entry_of;
-use front_draft::layout;
+use draft_form::entry_of;
+use draft_form::layout;
 
 // Off and on around the copy and around the copy-back.
 const MASKS: usize = 4;

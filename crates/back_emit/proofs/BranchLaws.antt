@@ -3,8 +3,8 @@ use Prim.Native.Nat.{ℕ, _+_, _%_}
 use mathlib.Core.Path.{_≡_, refl, sym, _∙_}
 use mathlib.Core.List.{List, [], _∷_, _++_}
 use Rattle.lib_base.proofs.Pick.{if-eq, if-not-eq}
-use Rattle.front_draft.specs.Draft.{entryOf}
-use Rattle.front_draft.specs.Entry.{entryKind, entryStart, entryCount, nodeTag, nodeWord}
+use Rattle.draft_form.specs.Draft.{entryOf}
+use Rattle.draft_form.specs.Entry.{entryKind, entryStart, entryCount, nodeTag, nodeWord}
 use Rattle.back_emit.specs.Words.{nameWords, nodeWords, exprWords, turnWords, turnWordsOfKind, moveWords, memberWords}
 
 module _ (d : List ℕ) (e j v : ℕ) (is : v ≡ entryOf d e j) where

@@ -13,9 +13,9 @@ use Rattle.spec_language.specs.Grammar.{Arity, unary, ternary, binary, Nested, 
 use Rattle.spec_language.specs.Accepted.{NamesIn}
 use Rattle.spec_language.specs.Code.{Instr, load, fetch, apply, inC, postfix}
 use Rattle.format_image.specs.Image.{operation, constant, codeWords}
-use Rattle.front_draft.specs.Draft.{nodes, entryOf, moved, usedBy, Drafted}
-use Rattle.front_draft.specs.Entry.{entryStart, entryCount, nodeTag, nodeWord}
-use Rattle.front_draft.proofs.DraftLaws.{Holds, entry-of, length-used, used-at}
+use Rattle.draft_form.specs.Draft.{nodes, entryOf, moved, usedBy, Drafted}
+use Rattle.draft_form.specs.Entry.{entryStart, entryCount, nodeTag, nodeWord}
+use Rattle.draft_form.proofs.DraftLaws.{Holds, entry-of, length-used, used-at}
 use Rattle.back_counts.proofs.CountIs.{copied-is}
 use Rattle.back_emit.specs.Words.{each, nameWords, nodeWords, exprWords}
 use Rattle.back_emit.proofs.WritingLaws.{in-turn-each}

@@ -1,4 +1,4 @@
--- The words of one behaviour's instructions on an event, from the draft (crate front_draft), as the compiler writes
+-- The words of one behaviour's instructions on an event, from the draft (crate draft_form), as the compiler writes
 -- them. An instruction is two words: operation * 256 + slot, and a constant (crate format_image). 01 "Handlers and
 -- steps".
 use Prim.Native.Nat.{ℕ, zero, suc, _+_, _%_}
@@ -6,8 +6,8 @@ use mathlib.Core.List.{List, [], _∷_, _++_}
 use lib.ListN.{getD}
 use lib.Dec.{eqb}
 use Rattle.lib_base.specs.Basics.{pick}
-use Rattle.front_draft.specs.Draft.{entryOf, moved}
-use Rattle.front_draft.specs.Entry.{entryKind, entryStart, entryCount, nodeTag, nodeWord}
+use Rattle.draft_form.specs.Draft.{entryOf, moved}
+use Rattle.draft_form.specs.Entry.{entryKind, entryStart, entryCount, nodeTag, nodeWord}
 
 -- f of each number below n, one after the other
 unfoldable pub each : ℕ → (ℕ → List ℕ) → List ℕ

@@ -1,4 +1,4 @@
-// The instructions of one behaviour on an event, written into the table from the draft (crate front_draft). Each
+// The instructions of one behaviour on an event, written into the table from the draft (crate draft_form). Each
 // function writes from word `place` on and returns the next word. An instruction is two words: operation * 256 + slot,
 // and a constant (crate format_image).
 ghost use mathlib.Core.Path.{_≡_};
@@ -6,12 +6,12 @@ ghost use mathlib.Core.List.{[], _∷_};
 ghost use Prim.Native.Nat.{_+_, _<_, _≤_};
 ghost use lib.ListN.{length};
 ghost use Rattle.back_counts.specs.Counts.{EntriesInside};
-ghost use Rattle.front_draft.specs.Draft.{draftLength};
+ghost use Rattle.draft_form.specs.Draft.{draftLength};
 ghost use Rattle.back_emit.specs.Words.{nameWords, nodeWords, exprWords, turnWords, turnWordsOfKind, moveWords, memberWords};
 ghost use Rattle.back_emit.specs.Writing.{Room, Wrote};
-use front_draft::entry_of;
-use front_draft::layout;
-use front_draft::moved_node;
+use draft_form::entry_of;
+use draft_form::layout;
+use draft_form::moved_node;
 use lib_word::put_word;
 
 pub mod opcodes;

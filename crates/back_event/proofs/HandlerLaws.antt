@@ -7,7 +7,7 @@ use native.Mathlib.Omega.{arith}
 use lib.Dec.{eqb}
 use lib.ListN.{length, take, length-append}
 use Rattle.lib_base.proofs.Tools.{split}
-use Rattle.front_draft.specs.Draft.{entryOf}
+use Rattle.draft_form.specs.Draft.{entryOf}
 use Rattle.back_counts.specs.Counts.{total, isMember, countMembers}
 use Rattle.back_schedule.specs.Ordering.{orderUnder, isOrdered, OrderHolds}
 use Rattle.back_emit.specs.Words.{each, memberWords}

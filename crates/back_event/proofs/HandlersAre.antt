@@ -11,8 +11,8 @@ use Rattle.spec_language.specs.Grammar.{Fits}
 use Rattle.spec_language.specs.Accepted.{Known}
 use Rattle.spec_language.specs.Code.{on, copy, restore, ofC, byNumber, copyPart, firstPart, secondPart, restorePart, code}
 use Rattle.format_image.specs.Image.{codeWords}
-use Rattle.front_draft.specs.Draft.{entryOf, usedBy, Drafted}
-use Rattle.front_draft.proofs.DraftLaws.{Entry, entry-of}
+use Rattle.draft_form.specs.Draft.{entryOf, usedBy, Drafted}
+use Rattle.draft_form.proofs.DraftLaws.{Entry, entry-of}
 use Rattle.back_counts.proofs.CountIs.{copied-is}
 use Rattle.back_schedule.specs.Ordering.{orderUnder}
 use Rattle.back_schedule.proofs.OrderingIs.{order-is, ordered-exactly}

@@ -1,4 +1,4 @@
--- The words of an event's code, from the draft (crate front_draft), as the compiler writes them: the copy's, phase
+-- The words of an event's code, from the draft (crate draft_form), as the compiler writes them: the copy's, phase
 -- one's, phase two's and the copy-back's in a row. 01 "Handlers and steps".
 use Prim.Native.Nat.{ℕ}
 use mathlib.Core.List.{List, [], _∷_, _++_}

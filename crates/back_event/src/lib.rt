@@ -1,4 +1,4 @@
-// The handler of one event (003, Figure 3; 01: its code), written into the table from its draft (crate front_draft), in
+// The handler of one event (003, Figure 3; 01: its code), written into the table from its draft (crate draft_form), in
 // the order of Figure 3: the check on dependence, phase one, phase two, and then the copy and the copy-back around
 // them. Each function writes from word `place` on and returns the next word.
 ghost use mathlib.Core.Path.{_≡_};
@@ -7,7 +7,7 @@ ghost use lib.ListN.{length};
 ghost use Rattle.back_counts.specs.Counts.{EntriesInside};
 ghost use Rattle.back_emit.specs.Words.{each, memberWords};
 ghost use Rattle.back_emit.specs.Writing.{Room, Wrote};
-ghost use Rattle.front_draft.specs.Draft.{draftLength};
+ghost use Rattle.draft_form.specs.Draft.{draftLength};
 ghost use Rattle.back_event.specs.Handlers.{maskedWords, codeOf};
 use back_emit::emit_instr;
 use back_emit::emit_member;

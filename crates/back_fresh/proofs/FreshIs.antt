@@ -25,7 +25,7 @@ use Rattle.spec_semantics.proofs.OrderLaws.{phaseOne-early}
 use Rattle.spec_semantics.proofs.Lengths.{length-first, length-starts, length-fresh}
 use Rattle.spec_execution.proofs.Responses.{ResponseFits, response-fits}
 use Rattle.spec_execution.proofs.Running.{value-same}
-use Rattle.front_draft.specs.Draft.{entryOf, usedBy, Stands, EntrySays, StartIs, Drafted}
+use Rattle.draft_form.specs.Draft.{entryOf, usedBy, Stands, EntrySays, StartIs, Drafted}
 use Rattle.back_fresh.specs.Evaluate.{startsOn, turnOn, turnsOn, freshOn}
 use Rattle.back_fresh.proofs.NodesAre.{entry-is}
 

@@ -18,8 +18,8 @@ use Rattle.spec_language.specs.Accepted.{NamesIn}
 use Rattle.spec_language.specs.Code.{sizeOf}
 use Rattle.spec_semantics.specs.Meaning.{value, at}
 use Rattle.spec_execution.proofs.Running.{arity-is}
-use Rattle.front_draft.specs.Draft.{nodes, Stands}
-use Rattle.front_draft.specs.Entry.{entryStart, entryCount, nodeTag, nodeWord}
+use Rattle.draft_form.specs.Draft.{nodes, Stands}
+use Rattle.draft_form.specs.Entry.{entryStart, entryCount, nodeTag, nodeWord}
 use Rattle.back_fresh.specs.Evaluate.{functionOf, appliedAt, nodeDepth, nodeStack, nodesOn, evaluated, entryValue}
 
 module _ (v : List ℕ) where

@@ -7,8 +7,8 @@ use lib.ListN.{getD, set, take, drop, replicate}
 use lib.Dec.{eqb, ltb}
 use Rattle.lib_base.specs.Basics.{pick}
 use Rattle.lib_arith.specs.Functions.{result, arity}
-use Rattle.front_draft.specs.Draft.{entryOf, usedBy}
-use Rattle.front_draft.specs.Entry.{entryStart, entryCount, nodeTag, nodeWord}
+use Rattle.draft_form.specs.Draft.{entryOf, usedBy}
+use Rattle.draft_form.specs.Entry.{entryStart, entryCount, nodeTag, nodeWord}
 
 -- ---- one node, on the stack s of depth k; v has the values of names
 

@@ -2,10 +2,10 @@
 ghost use mathlib.Core.Path.{_≡_};
 ghost use Prim.Native.Nat.{_+_, _-_, _%_, _<_, _≤_};
 ghost use lib.ListN.{length, take, drop};
-ghost use Rattle.front_draft.specs.Draft.{draftLength, usedBy};
+ghost use Rattle.draft_form.specs.Draft.{draftLength, usedBy};
 ghost use Rattle.back_fresh.specs.Evaluate.{pushDepth, pushStack, look, argument, appliedAt, applyDepth, applyStack, nodeDepth, nodeStack, evaluated};
 ghost use Rattle.back_fresh.specs.Evaluate.{entryValue, startsOn, turnOn, freshOn};
-use front_draft::layout;
+use draft_form::layout;
 use spec_language::limits;
 
 const BEHAVIOURS: u32 = limits::BEHAVIOURS as u32;
@@ -106,7 +106,7 @@ fn eval_nodes(draft: &[u64], b: usize, start: usize, count: usize, values: &[u32
     let mut i = 0;
     while i < count {
         k = eval_node(
-            front_draft::moved_node(draft, b, draft[start + i]),
+            draft_form::moved_node(draft, b, draft[start + i]),
             values,
             &mut st,
             k,
@@ -149,7 +149,7 @@ fn take_turn(draft: &[u64], event: usize, i: usize, values: &mut [u32])
     ensures { λ _. ⌜ now (values .exit) ≡ turnOn (now (draft .entry)) event i (now (values .entry)) ⌝ }
 {
     if i < limits::BEHAVIOURS {
-        let w = front_draft::entry_of(draft, event, i);
+        let w = draft_form::entry_of(draft, event, i);
         let u = eval_entry(draft, i, values, w);
         values[i] = u;
     }

@@ -1,4 +1,4 @@
--- The table's words on rights, from the draft (crate front_draft): who may see each behaviour, and who may send each
+-- The table's words on rights, from the draft (crate draft_form): who may see each behaviour, and who may send each
 -- event. 02, M-107.
 use Prim.Native.Nat.{ℕ, _+_, _%_}
 use mathlib.Core.List.{List, [], _∷_, _++_}

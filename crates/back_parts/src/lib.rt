@@ -8,10 +8,10 @@ ghost use Rattle.format_image.specs.Image.{padded};
 ghost use Rattle.back_counts.specs.Counts.{countMembers};
 ghost use Rattle.back_emit.specs.Words.{each};
 ghost use Rattle.back_emit.specs.Writing.{Room, Wrote};
-ghost use Rattle.front_draft.specs.Draft.{draftLength};
+ghost use Rattle.draft_form.specs.Draft.{draftLength};
 ghost use Rattle.back_parts.specs.RightWords.{draftNumber, rightWords};
+use draft_form::layout;
 use format_layout::table;
-use front_draft::layout;
 use lib_word::put_word;
 use spec_language::limits;
 

@@ -9,8 +9,8 @@ use Rattle.lib_base.specs.Basics.{pick}
 use Rattle.lib_base.proofs.Tools.{by-test}
 use Rattle.lib_word.specs.Word.{put}
 use Rattle.format_image.proofs.ImageLaws.{length-padded}
-use Rattle.front_draft.specs.Draft.{entryOf}
-use Rattle.front_draft.specs.Entry.{entryKind, entryCount}
+use Rattle.draft_form.specs.Draft.{entryOf}
+use Rattle.draft_form.specs.Entry.{entryKind, entryCount}
 use Rattle.back_counts.specs.Counts.{EntriesInside, shareOf, countEvent, countMembers}
 use Rattle.back_counts.proofs.CountLaws.{total-le, share-small}
 use Rattle.back_emit.specs.Words.{each}

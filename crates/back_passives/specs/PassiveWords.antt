@@ -1,4 +1,4 @@
--- The table's words on passives, from the draft (crate front_draft): which behaviours are passives, and where the
+-- The table's words on passives, from the draft (crate draft_form): which behaviours are passives, and where the
 -- instructions that work them out begin and how many they are. 02, M-112. They are those of event 0's second time over
 -- the passives, which stand before its copy-back; where no event is declared its number is that of no event, and they
 -- stand alone.
@@ -7,8 +7,8 @@ use mathlib.Core.List.{List, [], _∷_, _++_}
 use lib.Dec.{eqb}
 use Rattle.lib_base.specs.Basics.{pick}
 use Rattle.format_image.specs.Image.{padded}
-use Rattle.front_draft.specs.Draft.{entryOf}
-use Rattle.front_draft.specs.Entry.{entryKind, entryCount}
+use Rattle.draft_form.specs.Draft.{entryOf}
+use Rattle.draft_form.specs.Entry.{entryKind, entryCount}
 use Rattle.back_counts.specs.Counts.{total, countEvent, countMembers}
 use Rattle.back_emit.specs.Words.{each}
 

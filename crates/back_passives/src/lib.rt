@@ -5,14 +5,14 @@ ghost use Prim.Native.Nat.{_≤_, _<_};
 ghost use lib.ListN.{length};
 ghost use lib.Dec.{eqb};
 ghost use Rattle.lib_base.specs.Basics.{pick};
-ghost use Rattle.front_draft.specs.Entry.{entryKind, entryCount};
+ghost use Rattle.draft_form.specs.Entry.{entryKind, entryCount};
 ghost use Rattle.back_counts.specs.Counts.{EntriesInside};
 ghost use Rattle.back_emit.specs.Words.{each};
 ghost use Rattle.back_emit.specs.Writing.{Room, Wrote};
 ghost use Rattle.back_passives.specs.PassiveWords.{kindWord, againShare, countAgain, againStart, draftPassiveWords};
+use draft_form::entry_of;
+use draft_form::layout;
 use format_layout::table;
-use front_draft::entry_of;
-use front_draft::layout;
 use lib_word::put_word;
 
 // The word after the last that is told of passives.

@@ -17,9 +17,9 @@ use Rattle.spec_language.specs.Code.{Instr, save, defer, inC, postfix, firstCod
 use Rattle.spec_language.proofs.Laws.{ResponseNamesIn, response-names, ResponseNested, response-nested}
 use Rattle.spec_semantics.proofs.OrderLaws.{phaseOne-early}
 use Rattle.format_image.specs.Image.{operation, constant, codeWords}
-use Rattle.front_draft.specs.Draft.{entryOf, usedBy, Drafted}
-use Rattle.front_draft.specs.Entry.{entryKind}
-use Rattle.front_draft.proofs.DraftLaws.{Holds, Entry, entry-of}
+use Rattle.draft_form.specs.Draft.{entryOf, usedBy, Drafted}
+use Rattle.draft_form.specs.Entry.{entryKind}
+use Rattle.draft_form.proofs.DraftLaws.{Holds, Entry, entry-of}
 use Rattle.back_emit.specs.Words.{each, turnWords, turnWordsOfKind, moveWords}
 use Rattle.back_emit.proofs.ExprWords.{codeWords-append, expr-code}
 use Rattle.back_phases.specs.Phases.{firstWords, secondWords}

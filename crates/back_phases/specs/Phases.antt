@@ -1,4 +1,4 @@
--- The words of the two phases of an event, from the draft (crate front_draft) and the order of phase one, as the
+-- The words of the two phases of an event, from the draft (crate draft_form) and the order of phase one, as the
 -- compiler writes them. 01 "Handlers and steps".
 use Prim.Native.Nat.{ℕ}
 use mathlib.Core.List.{List, _++_, flatMap}

@@ -1,4 +1,4 @@
-// The two phases of an event's handler (003, Figure 3), written into the table from its draft (crate front_draft) and
+// The two phases of an event's handler (003, Figure 3), written into the table from its draft (crate draft_form) and
 // the order that the check on dependence gives. Each function writes from word `place` on and returns the next word.
 ghost use mathlib.Core.Path.{_≡_};
 ghost use Prim.Native.Nat.{_≤_};
@@ -8,13 +8,13 @@ ghost use Rattle.back_counts.specs.Counts.{EntriesInside};
 ghost use Rattle.back_schedule.specs.Ordering.{OrderListed};
 ghost use Rattle.back_emit.specs.Words.{each, turnWords, turnWordsOfKind, moveWords};
 ghost use Rattle.back_emit.specs.Writing.{Room, Wrote};
-ghost use Rattle.front_draft.specs.Draft.{draftLength};
+ghost use Rattle.draft_form.specs.Draft.{draftLength};
 ghost use Rattle.back_phases.specs.Phases.{firstWords, secondWords};
 use back_emit::emit_kind;
 use back_emit::emit_move;
 use back_emit::emit_turn;
 use back_emit::opcodes;
-use front_draft::layout;
+use draft_form::layout;
 
 // Each behaviour in its order.
 fn emit_turns(

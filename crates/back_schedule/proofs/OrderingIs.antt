@@ -15,8 +15,8 @@ use Rattle.spec_language.specs.Grammar.{Fits}
 use Rattle.spec_language.specs.Accepted.{Known}
 use Rattle.spec_language.specs.Code.{one?}
 use Rattle.spec_language.proofs.Laws.{upTo-same}
-use Rattle.front_draft.specs.Draft.{entryOf, usedBy, Drafted}
-use Rattle.front_draft.proofs.DraftLaws.{Entry, entry-of}
+use Rattle.draft_form.specs.Draft.{entryOf, usedBy, Drafted}
+use Rattle.draft_form.proofs.DraftLaws.{Entry, entry-of}
 use Rattle.check_graph.specs.Matrix.{cell}
 use Rattle.check_graph.proofs.OrderIs.{order-same}
 use Rattle.check_faults.specs.Checks.{matrixOn}

@@ -13,8 +13,8 @@ use borrow.Author.Tests.{lt-ltb, le-ltb, eq-eqb, ne-eqb}
 use Rattle.lib_base.proofs.Tools.{by-test}
 use Rattle.lib_bits.specs.Bits.{bit}
 use Rattle.lib_bits.proofs.BitLaws.{bit-none}
-use Rattle.front_draft.specs.Draft.{draftLength, entryOf}
-use Rattle.front_draft.specs.Entry.{entryKind}
+use Rattle.draft_form.specs.Draft.{draftLength, entryOf}
+use Rattle.draft_form.specs.Entry.{entryKind}
 use Rattle.check_graph.specs.Matrix.{cell}
 use Rattle.check_graph.specs.Placing.{placed, orderOn, ordered}
 use Rattle.check_graph.specs.Sets.{bytesOf, marksOf}

@@ -1,4 +1,4 @@
--- The check on dependence of one event, on its draft (crate front_draft): phase one's order, and whether everyone that
+-- The check on dependence of one event, on its draft (crate draft_form): phase one's order, and whether everyone that
 -- has a turn there stands in it.
 use Prim.Native.Nat.{ℕ, _-_, _≤_, _<_}
 use mathlib.Core.Bool.{Bool, true, false, not}
@@ -9,8 +9,8 @@ use lib.Dec.{eqb, ltb}
 use Rattle.lib_base.specs.Basics.{pick}
 use Rattle.lib_bits.specs.Bits.{bit}
 use Rattle.spec_language.specs.Order.{order, upTo}
-use Rattle.front_draft.specs.Draft.{entryOf}
-use Rattle.front_draft.specs.Entry.{entryKind}
+use Rattle.draft_form.specs.Draft.{entryOf}
+use Rattle.draft_form.specs.Entry.{entryKind}
 use Rattle.check_graph.specs.Matrix.{cell}
 use Rattle.check_faults.specs.Checks.{matrixOn}
 use Rattle.back_counts.specs.Counts.{total}

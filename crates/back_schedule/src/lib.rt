@@ -7,9 +7,9 @@ ghost use lib.ListN.{length};
 ghost use lib.Dec.{eqb};
 ghost use Rattle.lib_bits.specs.Bits.{bit};
 ghost use Rattle.check_faults.specs.Checks.{RowsInside};
-ghost use Rattle.front_draft.specs.Draft.{draftLength};
+ghost use Rattle.draft_form.specs.Draft.{draftLength};
 ghost use Rattle.back_schedule.specs.Ordering.{metMark, MetAre, orderUnder, OrderHolds, countTurns, Checked};
-use front_draft::layout;
+use draft_form::layout;
 
 // How many behaviours have their turn in phase one, in an order that is complete; or a circle.
 pub enum Order {
@@ -48,7 +48,7 @@ fn met_set(draft: &[u64], event: usize, behaviours: usize) -> u64
     let mut set = 0;
     let mut i = 0;
     while i < behaviours {
-        set = add_met(set, i, front_draft::entry_of(draft, event, i));
+        set = add_met(set, i, draft_form::entry_of(draft, event, i));
         i += 1;
     }
     set
@@ -75,7 +75,7 @@ fn count_turns(draft: &[u64], event: usize, behaviours: usize) -> usize
     let mut sum = 0;
     let mut i = 0;
     while i < behaviours {
-        sum += 1 - mark_of(front_draft::entry_of(draft, event, i)) as usize;
+        sum += 1 - mark_of(draft_form::entry_of(draft, event, i)) as usize;
         i += 1;
     }
     sum

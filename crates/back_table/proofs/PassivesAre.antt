@@ -19,9 +19,9 @@ use Rattle.spec_semantics.proofs.Handlers.{Says, handled-says}
 use Rattle.spec_execution.proofs.Lengths.{length-postfix, late-again, length-C, length-turns, length-counted}
 use Rattle.format_image.specs.Image as image
 use Rattle.format_image.specs.Image.{codeWords, passivesCode, beforePassives, passivesAt, passiveWords}
-use Rattle.front_draft.specs.Draft.{entryOf, usedBy, passiveNodes, Drafted}
-use Rattle.front_draft.specs.Entry.{entryKind}
-use Rattle.front_draft.proofs.DraftLaws.{Entry, entry-of}
+use Rattle.draft_form.specs.Draft.{entryOf, usedBy, passiveNodes, Drafted}
+use Rattle.draft_form.specs.Entry.{entryKind}
+use Rattle.draft_form.proofs.DraftLaws.{Entry, entry-of}
 use Rattle.back_counts.specs.Counts.{countEvent, countMembers}
 use Rattle.back_counts.proofs.CountIs.{total-sum, count-is, members-is}
 use Rattle.back_schedule.proofs.OrderingIs.{order-is}

@@ -21,8 +21,8 @@ use Rattle.spec_execution.proofs.Sums.{length-flatten}
 use Rattle.spec_execution.proofs.Lengths.{length-counted}
 use Rattle.format_image.specs.Image.{codeWords, allCode, codeStart, eventRecord, padded, passivesCode, tableCode, boardWords, imageWords}
 use Rattle.format_image.proofs.ImageLaws.{length-codeWords}
-use Rattle.front_draft.specs.Draft.{passiveNodes, Drafted, DraftOf}
-use Rattle.front_draft.proofs.DraftLaws.{draft-long, draft-events, draft-behaviours}
+use Rattle.draft_form.specs.Draft.{passiveNodes, Drafted, DraftOf}
+use Rattle.draft_form.proofs.DraftLaws.{draft-long, draft-events, draft-behaviours}
 use Rattle.check_faults.specs.Checks.{namesKnown, cyclicOn}
 use Rattle.check_faults.proofs.CycleDecides.{known-decides, cyclic-decides}
 use Rattle.check_faults.proofs.DraftChecks.{draft-inside, draft-names, draft-cyclic}

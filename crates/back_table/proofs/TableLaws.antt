@@ -11,7 +11,7 @@ use borrow.Author.Tests.{ne-eqb}
 use lib.ListN.{length, getD, take, replicate, length-append}
 use Rattle.format_image.proofs.ImageLaws.{length-padded}
 use Rattle.format_image.specs.Image.{putWords, padded}
-use Rattle.front_draft.specs.Draft.{entryOf}
+use Rattle.draft_form.specs.Draft.{entryOf}
 use Rattle.check_faults.specs.Checks.{Inside, RowsInside, AllInside}
 use Rattle.back_fresh.specs.Evaluate.{freshOn}
 use Rattle.back_counts.specs.Counts.{EntriesInside, total, shareOf, countEvent, countMembers}

@@ -1,4 +1,4 @@
--- The words of the table from the draft (crate front_draft), as the compiler writes them: the image's parts (crate
+-- The words of the table from the draft (crate draft_form), as the compiler writes them: the image's parts (crate
 -- image) one after the other.
 use Prim.Native.Nat.{ℕ, _+_, _%_, _≤_}
 use mathlib.Core.Path.{_≡_}
@@ -13,7 +13,7 @@ use Rattle.back_counts.specs.Counts.{total, countEvent, countMembers}
 use Rattle.back_schedule.specs.Ordering.{orderUnder}
 use Rattle.back_emit.specs.Words.{each, turnWordsOfKind}
 use Rattle.back_event.specs.Handlers.{codeOf}
-use Rattle.front_draft.specs.Draft.{draftLength}
+use Rattle.draft_form.specs.Draft.{draftLength}
 use Rattle.back_parts.specs.RightWords.{rightWords}
 use Rattle.back_passives.specs.PassiveWords.{draftPassiveWords}
 

@@ -1,4 +1,4 @@
-// Writes the table of a draft (crate front_draft) whose faults are judged: the image's parts one after the other.
+// Writes the table of a draft (crate draft_form) whose faults are judged: the image's parts one after the other.
 ghost use mathlib.Core.Path.{_≡_};
 ghost use Prim.Native.Nat.{_≤_};
 ghost use lib.ListN.{length};
@@ -7,7 +7,7 @@ ghost use Rattle.check_faults.specs.Checks.{AllInside};
 ghost use Rattle.back_emit.specs.Words.{each};
 ghost use Rattle.back_emit.specs.Writing.{Room, Wrote};
 ghost use Rattle.back_event.specs.Handlers.{codeOf};
-ghost use Rattle.front_draft.specs.Draft.{draftLength};
+ghost use Rattle.draft_form.specs.Draft.{draftLength};
 ghost use Rattle.back_table.specs.TableWords.{countBefore, recordWords, freshWords, aloneWords, codesOf, tableWords, Planned};
 use format_layout::table;
 use spec_language::limits;

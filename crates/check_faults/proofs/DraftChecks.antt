@@ -6,8 +6,8 @@ use mathlib.Core.List.{List}
 use native.Mathlib.Omega.{arith}
 use lib.ListN.{length}
 use Rattle.spec_language.specs.Dependence.{size, events}
-use Rattle.front_draft.specs.Draft.{DraftOf}
-use Rattle.front_draft.proofs.DraftLaws.{draft-events, bounded}
+use Rattle.draft_form.specs.Draft.{DraftOf}
+use Rattle.draft_form.proofs.DraftLaws.{draft-events, bounded}
 use Rattle.check_faults.specs.Faults.{knownBehaviours, known, cyclic}
 use Rattle.check_faults.specs.Checks.{namesKnown, cyclicOn, AllInside}
 use Rattle.check_faults.proofs.NamesAgree.{names-known-is}

@@ -13,7 +13,7 @@ use Rattle.spec_language.specs.Dependence.{Reach, one, more}
 use Rattle.spec_language.specs.Order.{order, upTo}
 use Rattle.spec_language.proofs.Laws.{getD-upTo}
 use Rattle.spec_semantics.proofs.OrderLaws.{markAll, order-ordered, along}
-use Rattle.front_draft.specs.Draft.{draftLength}
+use Rattle.draft_form.specs.Draft.{draftLength}
 use Rattle.check_graph.specs.Matrix.{cell, cellBelow, closed}
 use Rattle.check_graph.specs.Placing.{placed, orderOn, isMarked}
 use Rattle.check_graph.specs.Sets.{bytesOf, marksOf}

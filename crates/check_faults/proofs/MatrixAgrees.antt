@@ -17,9 +17,9 @@ use Rattle.spec_language.specs.Dependence.{Response, follows, takes, defers, ke
 use Rattle.spec_language.specs.Grammar.{Arity, unary, ternary, binary, Nested, n-con, n-name, n-app1, n-app2, n-app3, Fits}
 use Rattle.spec_language.specs.Code.{one?}
 use Rattle.spec_language.proofs.Laws.{length-upTo, getD-upTo, none-past, ResponseNested, response-nested}
-use Rattle.front_draft.specs.Draft.{draftLength, nodes, entryOf, usedBy, Drafted}
-use Rattle.front_draft.specs.Entry.{entryKind, entryStart, entryCount, nodeTag, nodeWord}
-use Rattle.front_draft.proofs.DraftLaws.{Holds, Entry, entry-of, length-used}
+use Rattle.draft_form.specs.Draft.{draftLength, nodes, entryOf, usedBy, Drafted}
+use Rattle.draft_form.specs.Entry.{entryKind, entryStart, entryCount, nodeTag, nodeWord}
+use Rattle.draft_form.proofs.DraftLaws.{Holds, Entry, entry-of, length-used}
 use Rattle.check_graph.specs.Matrix.{cell, closed}
 use Rattle.check_graph.specs.Any.{anyBelow}
 use Rattle.check_faults.specs.Faults.{matrixOf, cyclicUnder, cyclic}

@@ -13,8 +13,8 @@ use Rattle.lib_base.specs.Basics.{All}
 use Rattle.lib_base.proofs.Tools.{split}
 use Rattle.spec_language.specs.Syntax.{Expr, Handler, handler, Behaviour, passive, active}
 use Rattle.spec_language.specs.Grammar.{Arity, unary, ternary, binary, Nested, n-con, n-name, n-app1, n-app2, n-app3, HandlersFit, BehaviourFits}
-use Rattle.front_draft.specs.Draft.{nodes, handlerNodes, behaviourNodes, programNodes}
-use Rattle.front_draft.specs.Entry.{nodeTag, nodeWord}
+use Rattle.draft_form.specs.Draft.{nodes, handlerNodes, behaviourNodes, programNodes}
+use Rattle.draft_form.specs.Entry.{nodeTag, nodeWord}
 use Rattle.check_faults.specs.Faults.{knownIn, knownHandlers, knownBehaviour, knownBehaviours}
 use Rattle.check_faults.specs.Checks.{stray, namesKnown}
 

@@ -15,9 +15,9 @@ use Rattle.lib_base.proofs.Tools.{split}
 use Rattle.lib_bits.specs.Bits.{bit}
 use Rattle.lib_bits.proofs.BitLaws.{bit-none}
 use Rattle.spec_language.specs.Code.{one?}
-use Rattle.front_draft.specs.Draft.{draftLength, entryOf, usedBy, moved}
-use Rattle.front_draft.specs.Entry.{entryKind, entryStart, entryCount, nodeTag, nodeWord}
-use Rattle.front_draft.proofs.DraftLaws.{length-used, used-at}
+use Rattle.draft_form.specs.Draft.{draftLength, entryOf, usedBy, moved}
+use Rattle.draft_form.specs.Entry.{entryKind, entryStart, entryCount, nodeTag, nodeWord}
+use Rattle.draft_form.proofs.DraftLaws.{length-used, used-at}
 use Rattle.check_graph.specs.Matrix.{cell}
 use Rattle.check_graph.specs.Sets.{bytesOf}
 use Rattle.check_graph.proofs.SetLaws.{cell-bytes}

@@ -7,8 +7,8 @@ use lib.ListN.{length, getD, set, replicate, take, drop}
 use lib.Dec.{eqb, ltb, leb}
 use Rattle.lib_base.specs.Basics.{pick}
 use Rattle.lib_bits.specs.Bits.{bit}
-use Rattle.front_draft.specs.Draft.{entryOf, usedBy}
-use Rattle.front_draft.specs.Entry.{entryKind, entryStart, entryCount, nodeTag, nodeWord}
+use Rattle.draft_form.specs.Draft.{entryOf, usedBy}
+use Rattle.draft_form.specs.Entry.{entryKind, entryStart, entryCount, nodeTag, nodeWord}
 use Rattle.check_graph.specs.Matrix.{cell, closed}
 use Rattle.check_graph.specs.Sets.{bytesOf}
 use Rattle.check_graph.specs.Any.{anyBelow}

@@ -1,4 +1,4 @@
-// The checks of a whole program, on its draft (layout: front_draft, specs/Draft.antt): names that no behaviour has,
+// The checks of a whole program, on its draft (layout: draft_form, specs/Draft.antt): names that no behaviour has,
 // cycles. Time: the names take one pass over the nodes. The cycles take, for each of ev events and for none, a pass
 // over the nodes of the entries for their names, and an order of bs behaviours: in all (ev + 1) * (nodes + bs * bs).
 // Where one is left out of the order, what is reached from each is worked out, bs * bs steps; and one reaches itself.
@@ -8,11 +8,11 @@ ghost use mathlib.Core.Bool.{_&&_, _||_};
 ghost use lib.ListN.{length, take, drop};
 ghost use lib.Dec.{ltb};
 ghost use Rattle.lib_bits.specs.Bits.{bit};
-ghost use Rattle.front_draft.specs.Entry.{entryStart, entryCount};
-ghost use Rattle.front_draft.specs.Draft.{draftLength, usedBy};
+ghost use Rattle.draft_form.specs.Entry.{entryStart, entryCount};
+ghost use Rattle.draft_form.specs.Draft.{draftLength, usedBy};
 ghost use Rattle.check_graph.specs.Sets.{RowsBelow};
 ghost use Rattle.check_faults.specs.Checks.{stray, namesKnown, nodeNames, someNodeNames, needsOn, RowsAre, PlacedOn, LowestLeft, LeftClosed, leftRound, RoundOn, cyclicOn, RowsInside, AllInside};
-use front_draft::layout;
+use draft_form::layout;
 use spec_language::limits;
 
 fn is_stray(x: u64, b: usize) -> bool
@@ -63,7 +63,7 @@ fn need_set(d: &[u64], i: usize, but: usize, n: usize, start: usize, count: usiz
     let mut set = 0;
     let mut k = 0;
     while k < count {
-        set = add_need(set, but, n, front_draft::moved_node(d, i, d[start + k]));
+        set = add_need(set, but, n, draft_form::moved_node(d, i, d[start + k]));
         k += 1;
     }
     set
@@ -92,7 +92,7 @@ pub fn fill_rows(d: &[u64], e: usize, n: usize, rows: &mut [u64])
 {
     let mut i = 0;
     while i < n {
-        rows[i] = row_of(d, i, n, front_draft::entry_of(d, e, i));
+        rows[i] = row_of(d, i, n, draft_form::entry_of(d, e, i));
         i += 1;
     }
 }

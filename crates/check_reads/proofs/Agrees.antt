@@ -14,9 +14,9 @@ use Rattle.spec_language.specs.Syntax.{Expr, Behaviour, passive, active, Progra
 use Rattle.spec_language.specs.Dependence.{Response, follows, takes, defers, keeps, size, events, noEvent, respond, response, behaviourAt, mentions, needs, dependsOn, written, writes}
 use Rattle.spec_language.specs.Grammar.{Arity, unary, ternary, binary, Nested, n-con, n-name, n-app1, n-app2, n-app3, BehaviourFits, Fits}
 use Rattle.spec_language.proofs.Laws.{ResponseNested, response-nested}
-use Rattle.front_draft.specs.Draft.{draftLength, nodes, entryOf, usedBy, Drafted}
-use Rattle.front_draft.specs.Entry.{entryKind, entryStart, entryCount, nodeTag, nodeWord}
-use Rattle.front_draft.proofs.DraftLaws.{Holds, Entry, entry-of, length-used}
+use Rattle.draft_form.specs.Draft.{draftLength, nodes, entryOf, usedBy, Drafted}
+use Rattle.draft_form.specs.Entry.{entryKind, entryStart, entryCount, nodeTag, nodeWord}
+use Rattle.draft_form.proofs.DraftLaws.{Holds, Entry, entry-of, length-used}
 use Rattle.check_graph.specs.Matrix.{cell, closeBy, closed}
 use Rattle.check_graph.proofs.Closure.{length-closeBy, pass-is}
 use Rattle.check_graph.specs.Any.{anyBelow}

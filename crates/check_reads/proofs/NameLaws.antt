@@ -7,7 +7,7 @@ use lib.Dec.{eqb}
 use borrow.Author.Tests.{eq-eqb, ne-eqb, eqb-true, eqb-false}
 use Rattle.lib_base.proofs.Tools.{split}
 use Rattle.lib_bits.specs.Bits.{bit}
-use Rattle.front_draft.specs.Entry.{nodeTag, nodeWord}
+use Rattle.draft_form.specs.Entry.{nodeTag, nodeWord}
 use Rattle.check_reads.specs.Sets.{isName}
 
 eqb-turned : (i j : ℕ) → eqb i j ≡ eqb j i

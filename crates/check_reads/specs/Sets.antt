@@ -6,8 +6,8 @@ use mathlib.Core.Path.{_≡_}
 use lib.ListN.{getD}
 use lib.Dec.{eqb, leb}
 use Rattle.lib_bits.specs.Bits.{bit, Gathers}
-use Rattle.front_draft.specs.Draft.{entryOf, usedBy}
-use Rattle.front_draft.specs.Entry.{entryKind, entryStart, entryCount, nodeTag, nodeWord}
+use Rattle.draft_form.specs.Draft.{entryOf, usedBy}
+use Rattle.draft_form.specs.Entry.{entryKind, entryStart, entryCount, nodeTag, nodeWord}
 use Rattle.check_graph.specs.Any.{anyBelow}
 
 -- node x is the name of j

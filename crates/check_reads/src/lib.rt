@@ -1,5 +1,5 @@
 // What each event writes, and what its handlers name, directly or through passives, as sets of behaviours: on the draft
-// of a program (layout: front_draft, specs/Draft.antt). Time: a pass over the nodes of the handlers and of the
+// of a program (layout: draft_form, specs/Draft.antt). Time: a pass over the nodes of the handlers and of the
 // passives, and n * n operations on words for the chains of n behaviours.
 ghost use mathlib.Core.Path.{_≡_};
 ghost use mathlib.Core.Bool.{Bool, _&&_, _||_};
@@ -7,12 +7,12 @@ ghost use Prim.Native.Nat.{ℕ, _+_, _≤_, _<_};
 ghost use lib.ListN.{length, getD};
 ghost use lib.Dec.{eqb, leb};
 ghost use Rattle.lib_bits.specs.Bits.{bit, Gathers};
-ghost use Rattle.front_draft.specs.Draft.{draftLength, usedBy};
-ghost use Rattle.front_draft.specs.Entry.{entryKind, entryStart, entryCount};
+ghost use Rattle.draft_form.specs.Draft.{draftLength, usedBy};
+ghost use Rattle.draft_form.specs.Entry.{entryKind, entryStart, entryCount};
 ghost use Rattle.check_graph.specs.Any.{anyBelow};
 ghost use Rattle.check_faults.specs.Checks.{RowsInside, AllInside};
 ghost use Rattle.check_reads.specs.Sets.{isName, namedAmong, writesOn, handlersName, passiveOn, closedBy, RowsBy, Passed, WritesIn, NamedIn};
-use front_draft::layout;
+use draft_form::layout;
 use spec_language::limits;
 
 // The set with the name that node x is.
@@ -38,7 +38,7 @@ pub fn names_in(d: &[u64], i: usize, v: u64) -> u64
     let mut set = 0;
     let mut k = 0;
     while k < count {
-        set = add_name(set, front_draft::moved_node(d, i, d[start + k]));
+        set = add_name(set, draft_form::moved_node(d, i, d[start + k]));
         k += 1;
     }
     set
@@ -63,7 +63,7 @@ fn writes_of(d: &[u64], e: usize, n: usize) -> u64
     let mut set = 0;
     let mut i = 0;
     while i < n {
-        set = add_writer(set, i, front_draft::entry_of(d, e, i));
+        set = add_writer(set, i, draft_form::entry_of(d, e, i));
         i += 1;
     }
     set
@@ -88,7 +88,7 @@ fn handler_names(d: &[u64], e: usize, n: usize) -> u64
     let mut set = 0;
     let mut i = 0;
     while i < n {
-        set = add_names(d, set, i, front_draft::entry_of(d, e, i));
+        set = add_names(d, set, i, draft_form::entry_of(d, e, i));
         i += 1;
     }
     set
@@ -112,7 +112,7 @@ fn fill_rows(d: &[u64], ev: usize, n: usize, rows: &mut [u64])
 {
     let mut i = 0;
     while i < n {
-        rows[i] = passive_names(d, i, front_draft::entry_of(d, ev, i));
+        rows[i] = passive_names(d, i, draft_form::entry_of(d, ev, i));
         i += 1;
     }
 }

@@ -1,11 +1,11 @@
-// A shortest circle of a draft (crate front_draft), over all events and none (02, M-108). Time: for each of ev events
+// A shortest circle of a draft (crate draft_form), over all events and none (02, M-108). Time: for each of ev events
 // and for none, and for each of bs behaviours, up to bs levels of bs steps: in all (ev + 1) * bs * bs * bs at the most.
 ghost use mathlib.Core.Path.{_≡_};
 ghost use mathlib.Core.Bool.{true};
 ghost use Prim.Native.Nat.{_≤_, _<_};
 ghost use lib.ListN.{length};
 ghost use Rattle.check_faults.specs.Checks.{cyclicOn, RowsInside, AllInside};
-ghost use Rattle.front_draft.specs.Draft.{draftLength};
+ghost use Rattle.draft_form.specs.Draft.{draftLength};
 ghost use Rattle.check_shortest.specs.Search.{backOn, eventOfTurn, bestOf, shortestOn, eventNumber, Wide, CircleMembers, handed, ShortestFound};
 
 // How the steps from a behaviour back to itself are packed with the event's turn and the behaviour: both are below 64.

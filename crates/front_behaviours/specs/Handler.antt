@@ -13,7 +13,7 @@ use Rattle.sheet_field.specs.declared.Field.{Field}
 use Rattle.sheet_field.specs.declared.Field.the-variants.{Value, Refused}
 use Rattle.front_field.specs.declared.Read.{Read}
 use Rattle.front_field.specs.declared.Read.the-variants.{Done, Fault}
-use Rattle.front_draft.specs.Draft.{packedEntry}
+use Rattle.draft_form.specs.Draft.{packedEntry}
 
 -- the number of a refusal; 0 of a reading that is done
 abbrev pub faultOf : Read → ℕ

@@ -26,8 +26,8 @@ use Rattle.spec_grammar.proofs.Behaviours.{behaviourTag}
 use Rattle.sheet_field.specs.Field.{stated}
 use Rattle.front_field.specs.Expression.{Out, out, restFrom, goOnAfter, exprOf}
 use Rattle.front_field.specs.declared.Read.the-variants.{Done, Fault}
-use Rattle.front_draft.specs.Draft as draft
-use Rattle.front_draft.specs.Draft.{draftLength, nodes, handlerNodes, behaviourNodes, unfilled}
+use Rattle.draft_form.specs.Draft as draft
+use Rattle.draft_form.specs.Draft.{draftLength, nodes, handlerNodes, behaviourNodes, unfilled}
 use Rattle.front_rows.specs.Cells.{leastOf, mostOf, cellsAt, rowCopied}
 use Rattle.front_viewers.specs.Ending.{viewer, endingOf}
 use Rattle.front_behaviours.specs.Handler.{slot, handlersOf}

@@ -9,7 +9,7 @@ use Rattle.spec_language.specs.Sheet.{Sheet}
 use Rattle.spec_language.specs.Reading.{Got, bad, got, readSheet}
 use Rattle.spec_language.specs.Grammar.{SheetFits}
 use Rattle.spec_grammar.proofs.Programs.{reads-only}
-use Rattle.front_draft.specs.Draft.{draftLength, SheetDraft}
+use Rattle.draft_form.specs.Draft.{draftLength, SheetDraft}
 use Rattle.front_sheet.specs.declared.Draft.{Draft}
 use Rattle.front_sheet.specs.declared.Draft.the-variants.{Ready, Broken}
 use Rattle.front_sheet.specs.Whole.{Finish, finished, readOn}

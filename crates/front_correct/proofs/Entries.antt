@@ -21,8 +21,8 @@ use Rattle.spec_language.specs.Reading.{Got, bad, got, then, filling, exprAt, h
 use Rattle.spec_language.proofs.Laws.{handled-here, handled-there}
 use Rattle.front_field.specs.Expression.{Out, out, goOnAfter, exprOf}
 use Rattle.front_field.specs.declared.Read.the-variants.{Done, Fault}
-use Rattle.front_draft.specs.Draft.{draftLength, nodes, packedEntry, unfilled}
-use Rattle.front_draft.proofs.DraftLaws.{length-nodes, size-positive}
+use Rattle.draft_form.specs.Draft.{draftLength, nodes, packedEntry, unfilled}
+use Rattle.draft_form.proofs.DraftLaws.{length-nodes, size-positive}
 use Rattle.front_behaviours.specs.Handler.{entryAt, slot}
 use Rattle.front_correct.proofs.Fields.{span, whole-at}
 use Rattle.front_correct.proofs.Stores.{getD-sets, take-sets, take-sets-all, take-drop}

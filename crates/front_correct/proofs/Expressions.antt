@@ -22,8 +22,8 @@ use Rattle.front_field.specs.Expression.{headAt, headFrom, headOf, Out, out, go
 use Rattle.front_field.specs.declared.Head.{Head}
 use Rattle.front_field.specs.declared.Head.the-variants.{Leaf, Apply, NoHead}
 use Rattle.front_field.specs.declared.Read.the-variants.{Done, Fault}
-use Rattle.front_draft.specs.Draft.{nodes, unfilled}
-use Rattle.front_draft.proofs.DraftLaws.{length-nodes}
+use Rattle.draft_form.specs.Draft.{nodes, unfilled}
+use Rattle.draft_form.proofs.DraftLaws.{length-nodes}
 use Rattle.front_correct.proofs.Fields.{valueIn, span, by-either, term-tag, same-field, value-length, rest-drop, whole-at}
 use Rattle.front_correct.proofs.Stores.{sets-append}
 

@@ -22,7 +22,7 @@ use Rattle.spec_language.specs.Reading.{Got, bad, got, then, filling, byteIn, r
 use Rattle.spec_grammar.proofs.Handlers.{stops}
 use Rattle.front_field.specs.Expression.{Out, out, restFrom, goOnAfter}
 use Rattle.front_field.specs.declared.Read.the-variants.{Done, Fault}
-use Rattle.front_draft.specs.Draft.{draftLength, nodes, handlerNodes, packedEntry}
+use Rattle.draft_form.specs.Draft.{draftLength, nodes, handlerNodes, packedEntry}
 use Rattle.front_behaviours.specs.Handler.{slot, handlerAt, handlerFrom, handlerOf, handlersOf}
 use Rattle.front_correct.proofs.Fields.{valueIn, span, one-tag, same-field, value-length, rest-drop, ends-test}
 use Rattle.front_correct.proofs.Expressions.{raw}

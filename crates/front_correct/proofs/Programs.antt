@@ -22,7 +22,7 @@ use Rattle.spec_grammar.proofs.Programs.{atEnd, noEvent}
 use Rattle.sheet_field.specs.Field.{stated, fieldOf}
 use Rattle.front_field.specs.Expression.{Out}
 use Rattle.sheet_field.specs.declared.Field.the-variants.{Value, Refused}
-use Rattle.front_draft.specs.Draft.{draftLength}
+use Rattle.draft_form.specs.Draft.{draftLength}
 use Rattle.front_rows.specs.Cells.{leastOf, mostOf, cellsAt}
 use Rattle.front_sheet.specs.declared.Draft.the-variants.{Ready, Broken}
 use Rattle.front_behaviours.specs.Behaviour.{behaviourOf}

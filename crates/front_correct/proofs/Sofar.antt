@@ -24,8 +24,8 @@ use Rattle.spec_language.specs.Sheet.{Term, Clause, clause, Item, formula, stat
 use Rattle.spec_language.specs.Sheet.{fillTerm, fillClauses, fillEntries, fill}
 use Rattle.spec_language.proofs.SheetLaws.{blank, length-priorities, length-fill, fill-at}
 use Rattle.spec_language.specs.Reading.{entry, sheet}
-use Rattle.front_draft.proofs.DraftLaws.{take-used}
-use Rattle.front_draft.specs.Draft.{draftLength, behaviourNodes, programNodes, entryOf, placeOf, moved, usedBy, Stands, EntrySays, EntryIn, StartIs, Drafted, unfilled}
+use Rattle.draft_form.proofs.DraftLaws.{take-used}
+use Rattle.draft_form.specs.Draft.{draftLength, behaviourNodes, programNodes, entryOf, placeOf, moved, usedBy, Stands, EntrySays, EntryIn, StartIs, Drafted, unfilled}
 use Rattle.front_rows.specs.Cells.{cellCopied, cellsCopied, rowCopied}
 use Rattle.front_rows.proofs.CellLaws.{cell-long, cell-take, cell-other, cell-entry, cell-start, cell-viewer, cell-place}
 use Rattle.front_viewers.specs.Ending.{viewer}

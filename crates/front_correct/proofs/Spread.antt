@@ -23,8 +23,8 @@ use Rattle.spec_language.specs.Code.{sizeOf}
 use Rattle.spec_language.proofs.Laws.{length-upTo, getD-upTo}
 use Rattle.spec_language.proofs.RowLaws.{length-entry, head-within}
 use Rattle.spec_language.proofs.SheetLaws.{blank}
-use Rattle.front_draft.specs.Draft.{nodes, placeOf, moved, unfilled}
-use Rattle.front_draft.specs.Entry.{nodeTag, nodeWord}
+use Rattle.draft_form.specs.Draft.{nodes, placeOf, moved, unfilled}
+use Rattle.draft_form.specs.Entry.{nodeTag, nodeWord}
 
 -- ---- the cells
 

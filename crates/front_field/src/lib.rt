@@ -2,9 +2,9 @@
 ghost use mathlib.Core.Path.{_≡_};
 ghost use Prim.Native.Nat.{_<_, _≤_, _*_, _+_, _-_, _^_};
 ghost use lib.ListN.{length};
-ghost use Rattle.front_draft.specs.Draft.{draftLength};
+ghost use Rattle.draft_form.specs.Draft.{draftLength};
 ghost use Rattle.front_field.specs.Expression.{headAt, headOf, expressionValue, HeadIn, out, closeAt, exprOf, ReadIn, CloseIn};
-use front_draft::layout;
+use draft_form::layout;
 use sheet_field::Field;
 use sheet_field::places;
 use sheet_field::sizes;

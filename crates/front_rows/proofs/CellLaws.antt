@@ -8,7 +8,7 @@ use native.Mathlib.Decide.{ℕ-discrete}
 use native.Mathlib.Omega.{arith}
 use lib.ListN.{length, getD, take, length-set}
 use lib.Seq.{take-set-le, getD-set-same, getD-set-other}
-use Rattle.front_draft.specs.Draft.{draftLength}
+use Rattle.draft_form.specs.Draft.{draftLength}
 use Rattle.front_rows.specs.Cells.{entriesCopied, startCopied, viewerCopied, cellCopied}
 
 -- ---- entries

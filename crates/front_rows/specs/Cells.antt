@@ -1,6 +1,6 @@
 -- Rows as the reader reads them. 02, M-110: "A new field 06 in place of 03 begins with a one-byte cell count": which
 -- tags are due where a behaviour may stand, how many behaviours the field there makes, and the draft (crate
--- front_draft) with the cells of a row after the first: each has the entries, the start and the right to see of the
+-- draft_form) with the cells of a row after the first: each has the entries, the start and the right to see of the
 -- first, and a place of its own.
 use Prim.Native.Nat.{ℕ, zero, suc, _+_, _*_, _-_}
 use mathlib.Core.List.{List}

@@ -1,13 +1,13 @@
 // Rows in the reader (02, M-110): which tags are due where a behaviour may stand, how many behaviours the field there
-// makes, and the cells of a row after the first, which the draft (layout: front_draft, specs/Draft.antt) has as copies
+// makes, and the cells of a row after the first, which the draft (layout: draft_form, specs/Draft.antt) has as copies
 // of the first.
 // Time: 36 words for each cell.
 ghost use mathlib.Core.Path.{_≡_};
 ghost use Prim.Native.Nat.{_+_, _<_, _≤_};
 ghost use lib.ListN.{length};
-ghost use Rattle.front_draft.specs.Draft.{draftLength};
+ghost use Rattle.draft_form.specs.Draft.{draftLength};
 ghost use Rattle.front_rows.specs.Cells.{leastOf, mostOf, cellsAt, entriesCopied, startCopied, viewerCopied, cellCopied, rowCopied};
-use front_draft::layout;
+use draft_form::layout;
 use sheet_field::sizes;
 use sheet_field::tags;
 use spec_language::limits;

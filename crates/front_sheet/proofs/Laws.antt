@@ -17,7 +17,7 @@ use Rattle.front_field.specs.declared.Read.the-variants.{Done, Fault}
 use Rattle.front_rows.specs.Cells.{leastOf, mostOf, cellsAt}
 use Rattle.front_behaviours.specs.Handler.{faultOf}
 use Rattle.front_behaviours.specs.Behaviour.{behaviourOf, Counted}
-use Rattle.front_draft.specs.Draft.{draftLength}
+use Rattle.draft_form.specs.Draft.{draftLength}
 use Rattle.front_sheet.specs.declared.Event.{Event}
 use Rattle.front_sheet.specs.declared.Event.the-variants.{Declared, Ended, NoEvent}
 use Rattle.front_sheet.specs.declared.Draft.{Draft}

@@ -28,7 +28,7 @@ use Rattle.link_pooled.specs.Together.{together, declared}
 use Rattle.link_pooled.proofs.Halves.{halves, rules-halves}
 use Rattle.link_pooled.proofs.Filled.{fill-pooled}
 use Rattle.link_pooled.proofs.PooledAccepted.{valid-filling, pooled-valid, pooled-accepted}
-use Rattle.front_params.proofs.Fills.{get-small}
+use Rattle.draft_params.proofs.Fills.{get-small}
 use Rattle.back_compile.specs.Verdict.{programOf, numberOn}
 use Rattle.back_compile.specs.Statements.{FirstUnmet}
 use Rattle.back_compile.proofs.AcceptedExactly.{accepted-number}

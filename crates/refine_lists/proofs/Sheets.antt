@@ -14,7 +14,7 @@ use Rattle.spec_language.specs.Sheet.{Sheet}
 use Rattle.spec_language.specs.Accepted.{Accepted, SheetAccepted}
 use Rattle.spec_language.proofs.SheetLaws.{filling-accepted}
 use Rattle.format_image.specs.Image.{tableOf}
-use Rattle.front_params.proofs.Fills.{get-small}
+use Rattle.draft_params.proofs.Fills.{get-small}
 use Rattle.back_compile.specs.Verdict.{Compiled, programOf, compileOn}
 use Rattle.back_compile.proofs.JudgeLaws.{compile-short}
 use Rattle.run_start.specs.Start.{startOn, freshBytes}

@@ -6,8 +6,8 @@ use mathlib.Core.List.{List}
 use native.Mathlib.Omega.{arith}
 use lib.Dec.{eqb}
 use Rattle.lib_bits.specs.Bits.{bit, Gathers}
-use Rattle.front_draft.specs.Draft.{entryOf, usedBy}
-use Rattle.front_draft.specs.Entry.{entryStart, entryCount}
+use Rattle.draft_form.specs.Draft.{entryOf, usedBy}
+use Rattle.draft_form.specs.Entry.{entryStart, entryCount}
 use Rattle.check_reads.specs.Sets.{namedAmong, namesOn}
 use Rattle.check_reads.proofs.Gathering.{Gathered, begin, turn, end}
 use Rattle.ask_leak.specs.Leaking.{namesAny}

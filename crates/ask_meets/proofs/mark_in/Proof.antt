@@ -7,8 +7,8 @@ use native.Mathlib.Omega.{arith}
 use native.Mathlib.Numerals.{add-one}
 use lib.ListN.{length, getD}
 use Rattle.lib_bits.specs.Bits.{bit}
-use Rattle.front_draft.specs.Draft.{moved, usedBy}
-use Rattle.front_draft.proofs.DraftLaws.{used-at}
+use Rattle.draft_form.specs.Draft.{moved, usedBy}
+use Rattle.draft_form.proofs.DraftLaws.{used-at}
 use Rattle.ask_meets.specs.Marks.{markStep, marksAmong}
 use Rattle.ask_meets.specs.Strict.{markIn}
 use Rattle.ask_meets.proofs.mark_in.Statement.{statement}

@@ -1,6 +1,6 @@
 -- A sheet that compile turns down has compile's number; of another the answer on its draft is its program's.
 use borrow.Author.Needs.{needs}
-use Rattle.front_draft.proofs.DraftLaws.{draft-long, draft-events, draft-behaviours}
+use Rattle.draft_form.proofs.DraftLaws.{draft-long, draft-events, draft-behaviours}
 use Rattle.check_faults.proofs.DraftChecks.{draft-inside}
 use Rattle.back_compile.proofs.Judging.{judged-passes, judged-number, refused-some}
 use Rattle.ask_pair.proofs.PairLaws.{passed, refused}

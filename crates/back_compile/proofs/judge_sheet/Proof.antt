@@ -8,13 +8,13 @@ use lib.ListN.{length, length-replicate}
 use borrow.Author.Needs.{needs}
 use borrow.Author.Tests.{not-true, not-false}
 use Rattle.lib_base.specs.Basics.{All}
-use Rattle.front_draft.specs.Draft.{draftLength, DraftOf}
-use Rattle.front_draft.proofs.DraftLaws.{draft-long, draft-events, draft-behaviours}
+use Rattle.draft_form.specs.Draft.{draftLength, DraftOf}
+use Rattle.draft_form.proofs.DraftLaws.{draft-long, draft-events, draft-behaviours}
 use Rattle.front_sheet.specs.declared.Draft.{Draft}
 use Rattle.front_sheet.specs.declared.Draft.the-variants.{Ready}
 use Rattle.front_sheet.specs.Whole.{finished, readOn}
 use Rattle.front_correct.proofs.Drafts.{empty}
-use Rattle.front_params.specs.Filling.{fillTo}
+use Rattle.draft_params.specs.Filling.{fillTo}
 use Rattle.check_faults.specs.Checks.{namesKnown, cyclicOn}
 use Rattle.check_faults.proofs.DraftChecks.{draft-inside}
 use Rattle.back_compile.proofs.ReadIs.{all-bytes}

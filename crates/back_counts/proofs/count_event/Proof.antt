@@ -3,7 +3,7 @@
 use Prim.Native.Nat.{_-_}
 use mathlib.Core.Path.{ap, _∙_}
 use native.Mathlib.Omega.{arith}
-use Rattle.front_draft.specs.Draft.{entryOf}
+use Rattle.draft_form.specs.Draft.{entryOf}
 use Rattle.back_counts.specs.Counts.{shareOf, countEvent}
 use Rattle.back_counts.proofs.CountLaws.{sound-inside, Sum, sum-start, sum-turn, sum-end, share-small}
 use Rattle.back_counts.proofs.count_event.Statement.{statement}

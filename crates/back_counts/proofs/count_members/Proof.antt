@@ -4,7 +4,7 @@ use Prim.Native.Nat.{_-_}
 use mathlib.Core.Path.{ap, _∙_}
 use native.Mathlib.Omega.{arith}
 use borrow.Author.Needs.{needs}
-use Rattle.front_draft.specs.Draft.{entryOf}
+use Rattle.draft_form.specs.Draft.{entryOf}
 use Rattle.back_counts.specs.Counts.{isMember, countMembers}
 use Rattle.back_counts.proofs.CountLaws.{Sum, sum-start, sum-turn, sum-end, member-small}
 use Rattle.back_counts.proofs.count_members.Statement.{statement}

@@ -4,7 +4,7 @@ use mathlib.Core.Path.{_≡_, ap}
 use mathlib.Core.List.{List}
 use native.Mathlib.Omega.{arith}
 use lib.ListN.{getD}
-use Rattle.front_draft.specs.Draft.{moved}
+use Rattle.draft_form.specs.Draft.{moved}
 use Rattle.back_emit.specs.Words.{nodeWords, exprWords}
 use Rattle.back_emit.specs.Writing.{Room, Wrote}
 use Rattle.back_emit.proofs.WritingLaws.{room-as, wrote-as, Turn, start, turn-room, turn, end, turn-long}

@@ -7,8 +7,8 @@ use native.Mathlib.Omega.{arith}
 use native.Mathlib.Nat.{sub-zero, add-zero}
 use lib.ListN.{length, getD, take, drop, replicate}
 use lib.Seq.{drop-cons}
-use Rattle.front_draft.specs.Draft.{usedBy}
-use Rattle.front_draft.proofs.DraftLaws.{length-used, used-at}
+use Rattle.draft_form.specs.Draft.{usedBy}
+use Rattle.draft_form.proofs.DraftLaws.{length-used, used-at}
 use Rattle.back_fresh.specs.Evaluate.{nodeDepth, nodeStack, nodesOn, evaluated}
 use Rattle.back_fresh.proofs.eval_nodes.Statement.{statement}
 use Rattle.back_fresh.proofs.eval_nodes.Tie as tie

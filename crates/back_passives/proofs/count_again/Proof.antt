@@ -2,7 +2,7 @@
 use Prim.Native.Nat.{_-_}
 use mathlib.Core.Path.{ap, _∙_}
 use native.Mathlib.Omega.{arith}
-use Rattle.front_draft.specs.Draft.{entryOf}
+use Rattle.draft_form.specs.Draft.{entryOf}
 use Rattle.back_counts.proofs.CountLaws.{sound-inside, Sum, sum-start, sum-turn, sum-end}
 use Rattle.back_passives.specs.PassiveWords.{againShare, countAgain}
 use Rattle.back_passives.proofs.PassiveLaws.{again-small}

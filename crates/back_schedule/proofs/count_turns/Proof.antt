@@ -3,7 +3,7 @@
 use Prim.Native.Nat.{_-_}
 use native.Mathlib.Omega.{arith}
 use borrow.Author.Needs.{needs}
-use Rattle.front_draft.specs.Draft.{entryOf}
+use Rattle.draft_form.specs.Draft.{entryOf}
 use Rattle.back_counts.proofs.CountLaws.{Sum, sum-start, sum-turn, sum-end}
 use Rattle.back_schedule.specs.Ordering.{metMark, countTurns}
 use Rattle.back_schedule.proofs.OrderingLaws.{turn-from, mark-fits}

@@ -7,7 +7,7 @@ use lib.ListN.{length}
 use borrow.Author.Needs.{needs}
 use Rattle.lib_base.proofs.Tools.{by-test}
 use Rattle.lib_bits.specs.Bits.{bit}
-use Rattle.front_draft.specs.Draft.{draftLength}
+use Rattle.draft_form.specs.Draft.{draftLength}
 use Rattle.check_graph.specs.Matrix.{cell}
 use Rattle.check_faults.specs.Checks.{closedOn, RowsAre, RowsInside, PlacedOn, LeftClosed, leftRound, RoundOn}
 use Rattle.check_faults.proofs.RowLaws.{rows-past}

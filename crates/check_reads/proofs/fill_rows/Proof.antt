@@ -6,8 +6,8 @@ use mathlib.Core.List.{List}
 use native.Mathlib.Omega.{arith}
 use lib.Dec.{eqb}
 use Rattle.lib_bits.specs.Bits.{Gathers}
-use Rattle.front_draft.specs.Draft.{entryOf, usedBy}
-use Rattle.front_draft.specs.Entry.{entryKind, entryStart, entryCount}
+use Rattle.draft_form.specs.Draft.{entryOf, usedBy}
+use Rattle.draft_form.specs.Entry.{entryKind, entryStart, entryCount}
 use Rattle.check_reads.specs.Sets.{namedAmong, namesOn, passiveOn}
 use Rattle.check_reads.proofs.Filling.{Filled, fill-none, fill-one, fill-end}
 use Rattle.check_reads.proofs.fill_rows.Statement.{statement}

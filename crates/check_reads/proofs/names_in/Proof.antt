@@ -6,8 +6,8 @@ use mathlib.Core.List.{List}
 use native.Mathlib.Omega.{arith}
 use lib.ListN.{length, getD}
 use Rattle.lib_bits.specs.Bits.{bit}
-use Rattle.front_draft.specs.Draft.{moved, usedBy}
-use Rattle.front_draft.proofs.DraftLaws.{used-at}
+use Rattle.draft_form.specs.Draft.{moved, usedBy}
+use Rattle.draft_form.proofs.DraftLaws.{used-at}
 use Rattle.check_reads.specs.Sets.{isName, namedAmong}
 use Rattle.check_reads.proofs.Gathering.{Gathered, begin, turn, end}
 use Rattle.check_reads.proofs.names_in.Statement.{statement}

@@ -6,8 +6,8 @@ use mathlib.Core.List.{List}
 use native.Mathlib.Omega.{arith}
 use lib.Dec.{eqb, leb}
 use Rattle.lib_bits.specs.Bits.{bit}
-use Rattle.front_draft.specs.Draft.{entryOf}
-use Rattle.front_draft.specs.Entry.{entryKind}
+use Rattle.draft_form.specs.Draft.{entryOf}
+use Rattle.draft_form.specs.Entry.{entryKind}
 use Rattle.check_reads.specs.Sets.{writesOn}
 use Rattle.check_reads.proofs.Gathering.{Gathered, begin, turn, end, any-own}
 use Rattle.check_reads.proofs.writes_of.Statement.{statement}

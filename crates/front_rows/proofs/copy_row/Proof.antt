@@ -5,7 +5,7 @@ use mathlib.Core.List.{List}
 use native.Mathlib.Omega.{arith}
 use native.Mathlib.Numerals.{add-one}
 use lib.ListN.{length, length-set}
-use Rattle.front_draft.specs.Draft.{draftLength}
+use Rattle.draft_form.specs.Draft.{draftLength}
 use Rattle.front_rows.specs.Cells.{cellCopied, cellsCopied, rowCopied}
 use Rattle.front_rows.proofs.copy_row.Statement.{statement}
 use Rattle.front_rows.proofs.copy_row.Tie as tie

@@ -3,9 +3,9 @@ use Prim.Native.Nat.{_+_}
 use native.Mathlib.Omega.{arith}
 use borrow.Author.Needs.{needs}
 use Rattle.lib_base.proofs.Pick.{code}
-use Rattle.front_draft.specs.Draft.{moved}
-use Rattle.front_draft.proofs.moved_node.Statement.{statement}
-use Rattle.front_draft.proofs.moved_node.Tie as tie
+use Rattle.draft_form.specs.Draft.{moved}
+use Rattle.draft_form.proofs.moved_node.Statement.{statement}
+use Rattle.draft_form.proofs.moved_node.Tie as tie
 
 pub moved-node-spec : {M : Type 1} → statement M
 unfolding moved

@@ -5,9 +5,9 @@ use mathlib.Core.List.{List}
 use native.Mathlib.Omega.{arith}
 use native.Mathlib.Numerals.{add-one}
 use lib.ListN.{length, getD, set, length-set}
-use Rattle.front_params.specs.Filling.{filledNode, fillTo}
-use Rattle.front_params.proofs.fill_draft.Statement.{statement}
-use Rattle.front_params.proofs.fill_draft.Tie as tie
+use Rattle.draft_params.specs.Filling.{filledNode, fillTo}
+use Rattle.draft_params.proofs.fill_draft.Statement.{statement}
+use Rattle.draft_params.proofs.fill_draft.Tie as tie
 
 record Turn (ps d₀ d : List ℕ) (n k : ℕ) : Type 0 where
   same : d ≡ fillTo ps d₀ k

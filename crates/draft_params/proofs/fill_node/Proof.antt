@@ -1,9 +1,9 @@
 -- The branch is the definition's.
 use borrow.Author.Needs.{needs}
 use Rattle.lib_base.proofs.Pick.{code}
-use Rattle.front_params.specs.Filling.{filledNode}
-use Rattle.front_params.proofs.fill_node.Statement.{statement}
-use Rattle.front_params.proofs.fill_node.Tie as tie
+use Rattle.draft_params.specs.Filling.{filledNode}
+use Rattle.draft_params.proofs.fill_node.Statement.{statement}
+use Rattle.draft_params.proofs.fill_node.Tie as tie
 
 pub fill-node-spec : {M : Type 1} → statement M
 unfolding filledNode

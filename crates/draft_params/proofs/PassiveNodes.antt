@@ -9,8 +9,8 @@ use lib.ListN.{length, length-append}
 use Rattle.spec_language.specs.Syntax.{Behaviour}
 use Rattle.spec_language.specs.Sheet.{Clause, Item, formula, state, row, Entry, meant, renameClauses, cellsOut, entryOut, entriesOut, fillTerm, fillItem, fillEntries}
 use Rattle.spec_language.specs.Order.{upTo}
-use Rattle.front_draft.specs.Draft.{behaviourNodes, programNodes, passiveNodes}
-use Rattle.front_draft.proofs.DraftLaws.{length-nodes}
+use Rattle.draft_form.specs.Draft.{behaviourNodes, programNodes, passiveNodes}
+use Rattle.draft_form.proofs.DraftLaws.{length-nodes}
 
 module _ (v : ℕ → ℕ) where
   one-more : (x : Item) (l m : List Behaviour) → passiveNodes (l ++ m) ≡ passiveNodes l + passiveNodes m

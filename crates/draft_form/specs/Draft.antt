@@ -20,7 +20,7 @@ use Rattle.spec_language.specs.Dependence.{Response, follows, takes, defers, ke
 use Rattle.spec_language.specs.Grammar.{SheetFits, BehaviourFits, Fits}
 use Rattle.spec_language.specs.Accepted.{BehaviourNamesIn, Known}
 use Rattle.spec_language.specs.Code.{sizeOf}
-use Rattle.front_draft.specs.Entry.{nodeTag, nodeWord}
+use Rattle.draft_form.specs.Entry.{nodeTag, nodeWord}
 
 -- how many numbers it has
 abbrev pub draftLength : ℕ

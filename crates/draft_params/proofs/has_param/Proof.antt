@@ -7,10 +7,10 @@ use native.Mathlib.Omega.{arith}
 use lib.ListN.{getD}
 use lib.Dec.{eqb}
 use borrow.Author.Tests.{eq-eqb, ne-eqb}
-use Rattle.front_draft.specs.Entry.{nodeTag}
-use Rattle.front_params.specs.Filling.{anyParam}
-use Rattle.front_params.proofs.has_param.Statement.{statement}
-use Rattle.front_params.proofs.has_param.Tie as tie
+use Rattle.draft_form.specs.Entry.{nodeTag}
+use Rattle.draft_params.specs.Filling.{anyParam}
+use Rattle.draft_params.proofs.has_param.Statement.{statement}
+use Rattle.draft_params.proofs.has_param.Tie as tie
 
 record Turn (d : List ℕ) (n k : ℕ) : Type 0 where
   whole : anyParam d k ≡ anyParam d n

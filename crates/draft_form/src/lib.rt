@@ -2,7 +2,7 @@
 ghost use mathlib.Core.Path.{_≡_};
 ghost use Prim.Native.Nat.{_<_};
 ghost use lib.ListN.{length};
-ghost use Rattle.front_draft.specs.Draft.{draftLength, entryOf, moved};
+ghost use Rattle.draft_form.specs.Draft.{draftLength, entryOf, moved};
 use spec_language::limits;
 
 pub mod layout;

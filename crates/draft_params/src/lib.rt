@@ -1,11 +1,11 @@
-// Parameters in the draft of a sheet (layout: front_draft, specs/Draft.antt; 02, M-103): whether one stands there, and
+// Parameters in the draft of a sheet (layout: draft_form, specs/Draft.antt; 02, M-103): whether one stands there, and
 // each node of one replaced by its constant's. Time: one pass over the nodes for either.
 ghost use mathlib.Core.Path.{_≡_};
 ghost use Prim.Native.Nat.{_<_, _≤_, _^_};
 ghost use lib.ListN.{length};
-ghost use Rattle.front_draft.specs.Draft.{draftLength};
-ghost use Rattle.front_params.specs.Filling.{parameterValue, filledNode, fillTo, anyParam, lacksParam};
-use front_draft::layout;
+ghost use Rattle.draft_form.specs.Draft.{draftLength};
+ghost use Rattle.draft_params.specs.Filling.{parameterValue, filledNode, fillTo, anyParam, lacksParam};
+use draft_form::layout;
 use spec_language::limits;
 
 const PARAMETERS: u64 = limits::PARAMETERS as u64;

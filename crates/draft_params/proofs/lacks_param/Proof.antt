@@ -1,9 +1,9 @@
 -- The branch is the definition's.
 use borrow.Author.Needs.{needs}
 use Rattle.lib_base.proofs.Pick.{code}
-use Rattle.front_params.specs.Filling.{lacksParam}
-use Rattle.front_params.proofs.lacks_param.Statement.{statement}
-use Rattle.front_params.proofs.lacks_param.Tie as tie
+use Rattle.draft_params.specs.Filling.{lacksParam}
+use Rattle.draft_params.proofs.lacks_param.Statement.{statement}
+use Rattle.draft_params.proofs.lacks_param.Tie as tie
 
 pub lacks-param-spec : {M : Type 1} → statement M
 unfolding lacksParam

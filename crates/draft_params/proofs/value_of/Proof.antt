@@ -2,9 +2,9 @@
 use native.Mathlib.Omega.{arith}
 use borrow.Author.Needs.{needs}
 use Rattle.lib_base.proofs.Pick.{code}
-use Rattle.front_params.specs.Filling.{parameterValue}
-use Rattle.front_params.proofs.value_of.Statement.{statement}
-use Rattle.front_params.proofs.value_of.Tie as tie
+use Rattle.draft_params.specs.Filling.{parameterValue}
+use Rattle.draft_params.proofs.value_of.Statement.{statement}
+use Rattle.draft_params.proofs.value_of.Tie as tie
 
 pub value-of-spec : {M : Type 1} → statement M
 unfolding parameterValue

@@ -1,9 +1,9 @@
 -- `draft::entry_of` meets its contract: each return is its branch of `entryOf`. Assumes nothing.
 use borrow.Author.Needs.{needs}
 use Rattle.lib_base.proofs.Pick.{code}
-use Rattle.front_draft.specs.Draft.{entryOf}
-use Rattle.front_draft.proofs.entry_of.Statement.{statement}
-use Rattle.front_draft.proofs.entry_of.Tie as tie
+use Rattle.draft_form.specs.Draft.{entryOf}
+use Rattle.draft_form.proofs.entry_of.Statement.{statement}
+use Rattle.draft_form.proofs.entry_of.Tie as tie
 
 pub entry-of-spec : {M : Type 1} → statement M
 unfolding entryOf

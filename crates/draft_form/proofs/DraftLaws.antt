@@ -8,8 +8,8 @@ use lib.ListN.{length, getD, take, drop, length-append, length-map, List·getD-m
 use Rattle.spec_language.specs.Syntax.{Expr, con, name, app1, app2, app3, Program}
 use Rattle.spec_language.specs.Dependence.{Response, follows, takes, defers, keeps, size, response}
 use Rattle.spec_language.specs.Code.{sizeOf}
-use Rattle.front_draft.specs.Draft.{draftLength, nodes, packedEntry, entryOf, placeOf, moved, usedBy, Stands, EntrySays, Drafted, DraftOf}
-use Rattle.front_draft.specs.Entry.{entryKind, entryStart, entryCount, nodeWord}
+use Rattle.draft_form.specs.Draft.{draftLength, nodes, packedEntry, entryOf, placeOf, moved, usedBy, Stands, EntrySays, Drafted, DraftOf}
+use Rattle.draft_form.specs.Entry.{entryKind, entryStart, entryCount, nodeWord}
 
 -- ---- entries
 

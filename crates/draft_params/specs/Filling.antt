@@ -7,7 +7,7 @@ use lib.ListN.{length, getD, set}
 use lib.Dec.{eqb, ltb}
 use Rattle.lib_base.specs.Basics.{pick}
 use Rattle.lib_word.specs.Word.{get}
-use Rattle.front_draft.specs.Entry.{nodeTag}
+use Rattle.draft_form.specs.Entry.{nodeTag}
 
 -- the value of parameter k: a word of the bytes lent, 0 where fewer than 32 are
 unfoldable pub parameterValue : List ℕ → ℕ → ℕ

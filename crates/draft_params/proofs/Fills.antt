@@ -23,11 +23,11 @@ use Rattle.spec_language.proofs.Laws.{handled-here, handled-there}
 use Rattle.spec_language.proofs.RowLaws.{length-out, rows-fit, either-uses}
 use Rattle.spec_language.proofs.RowNames.{names-sent}
 use Rattle.spec_language.proofs.SheetLaws.{blank, length-priorities, length-fill, fill-at, size-fill, entries-fit, fill-fits}
-use Rattle.front_draft.specs.Draft.{draftLength, nodes, handlerNodes, behaviourNodes, programNodes, entryOf, placeOf, moved, usedBy, Stands, EntrySays, EntryIn, StartIs, Drafted, DraftOf, unfilled, SheetDraft}
-use Rattle.front_draft.proofs.DraftLaws.{take-used, moved-places}
-use Rattle.front_draft.specs.Entry.{nodeTag, nodeWord}
-use Rattle.front_params.proofs.PassiveNodes.{passives-few}
-use Rattle.front_params.specs.Filling.{parameterValue, filledNode, fillTo, anyParam, lacksParam}
+use Rattle.draft_form.specs.Draft.{draftLength, nodes, handlerNodes, behaviourNodes, programNodes, entryOf, placeOf, moved, usedBy, Stands, EntrySays, EntryIn, StartIs, Drafted, DraftOf, unfilled, SheetDraft}
+use Rattle.draft_form.proofs.DraftLaws.{take-used, moved-places}
+use Rattle.draft_form.specs.Entry.{nodeTag, nodeWord}
+use Rattle.draft_params.proofs.PassiveNodes.{passives-few}
+use Rattle.draft_params.specs.Filling.{parameterValue, filledNode, fillTo, anyParam, lacksParam}
 
 -- ---- values are words
 
