@@ -273,6 +273,24 @@ def citations(page):
             yield number, cited
 
 
+def header(path):
+    """The comment on top of a file of definitions or proofs, line by line."""
+    for number, line in enumerate(text_of(path).split("\n"), 1):
+        if not line.startswith("--"):
+            return
+        yield number, line
+
+
+def unresolved_in_headers(theories):
+    """Headers name crates, functions and files that are there."""
+    files = files_under("crates", ".antt")
+    names = declared_names(theories) | {os.path.basename(path).removesuffix(".antt") for path in files} | LIBRARY
+    for path in files:
+        for number, line in header(path):
+            for cited in re.findall(r"`([^`\s]+)`", line):
+                yield from (f"{path}:{number}: in its header, {fault}" for fault in faults_of_citation(cited, names))
+
+
 def unresolved_names(theories):
     names, found = declared_names(theories), edits()
     crates = set(read_crates()[0]) | {cited.split("/")[0] for cited in found}
@@ -303,6 +321,8 @@ def edit_not_there(cited, crates, found):
         yield f"no such edit: {cited}"
 
 
+# words of the toolchain's library and of sheets that a header may cite
+LIBRARY = {"set", "getD", "take", "drop", "omega", "set-out", "later", "refl"}
 # words that a page may cite though no file of the project declares them
 WORDS = {"must-fail", "requires", "ensures", "if", "pick", "s", "ps", "t₀", "l₀", "cs", "N", "NAME"}
 
@@ -413,6 +433,7 @@ def all_faults():
     yield from numbers_of_sheets()
     yield from wide_lines()
     yield from unresolved_names(theories)
+    yield from unresolved_in_headers(theories)
     yield from crates_without_a_line()
     yield from room_cycles()
     yield from unreadable_proofs()
@@ -448,6 +469,7 @@ PLANTED = [
     ("a comment of", "crates/lib_base/proofs/Planted.antt", "-- " + "wide " * 30 + "\n"),
     ("no such name", "docs/CLAIMS.md", "\n`plantedNameOfNothing`\n"),
     ("no such name", "docs/CLAIMS.md", "\n`get_word_by_two`\n"),
+    ("in its header, no such name", "crates/lib_base/proofs/Planted.antt", "-- `planted::nothing` meets its contract.\n"),
     ("no such edit", "docs/CLAIMS.md", "\n`lib_word/planted_edit_of_nothing`\n"),
     ("no such edit", "docs/CHANGES.md", "\n`lib_word/planted_edit_of_nothing`\n"),
     ("no such edit", "CONTRIBUTING.md", "\n`lib_word/planted_edit_of_nothing`\n"),

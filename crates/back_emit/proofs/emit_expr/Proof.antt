@@ -1,4 +1,5 @@
--- `emit::emit_expr` meets its contract. The loop keeps: the words of the nodes passed are written. Assumes nothing.
+-- `back_emit::emit_expr` meets its contract. The loop keeps: the words of the nodes passed are written. Assumes
+-- nothing.
 use Prim.Native.Nat.{ℕ, _+_, _-_}
 use mathlib.Core.Path.{_≡_, ap}
 use mathlib.Core.List.{List}

@@ -1,4 +1,4 @@
--- `emit::emit_instr` meets its contract: the two writes are those of `putWords`. Assumes nothing.
+-- `back_emit::emit_instr` meets its contract: the two writes are those of `putWords`. Assumes nothing.
 use borrow.Author.Needs.{needs}
 use Rattle.back_emit.proofs.WritingLaws.{wrote-two}
 use Rattle.back_emit.proofs.emit_instr.Statement.{statement}

@@ -1,4 +1,4 @@
--- `emit::emit_member` meets its contract: each return is its branch of `memberWords`. Assumes nothing.
+-- `back_emit::emit_member` meets its contract: each return is its branch of `memberWords`. Assumes nothing.
 use borrow.Author.Needs.{needs}
 use Rattle.back_emit.proofs.WritingLaws.{wrote-none, wrote-as, room-as}
 use Rattle.back_emit.proofs.BranchLaws.{member-none, member-some}

@@ -1,4 +1,4 @@
--- `emit::emit_name` meets its contract: each return is its branch of `nameWords`. Assumes nothing.
+-- `back_emit::emit_name` meets its contract: each return is its branch of `nameWords`. Assumes nothing.
 use borrow.Author.Needs.{needs}
 use Rattle.back_emit.proofs.WritingLaws.{wrote-as, room-as}
 use Rattle.back_emit.proofs.BranchLaws.{name-load, name-fetch}

@@ -1,4 +1,4 @@
--- `emit::emit_node` meets its contract: each return is its branch of `nodeWords`. Assumes nothing.
+-- `back_emit::emit_node` meets its contract: each return is its branch of `nodeWords`. Assumes nothing.
 use native.Mathlib.Omega.{arith}
 use borrow.Author.Needs.{needs}
 use Rattle.back_emit.proofs.WritingLaws.{wrote-as, room-as}

@@ -1,4 +1,4 @@
--- `emit::emit_turn` meets its contract: the words of the expression, and then those of the instruction. Assumes
+-- `back_emit::emit_turn` meets its contract: the words of the expression, and then those of the instruction. Assumes
 -- nothing.
 use native.Mathlib.Omega.{arith}
 use borrow.Author.Needs.{needs}

@@ -1,4 +1,4 @@
--- `evaluate::apply_at` meets its contract, by those of what it calls. Assumes nothing.
+-- `back_fresh::apply_at` meets its contract, by those of what it calls. Assumes nothing.
 use borrow.Author.Needs.{needs}
 use Rattle.back_fresh.proofs.apply_at.Statement.{statement}
 use Rattle.back_fresh.proofs.apply_at.Tie as tie

@@ -1,4 +1,4 @@
--- `evaluate::eval_entry` meets its contract: each return is its branch. Assumes nothing.
+-- `back_fresh::eval_entry` meets its contract: each return is its branch. Assumes nothing.
 use borrow.Author.Needs.{needs}
 use Rattle.lib_base.proofs.Pick.{code}
 use Rattle.back_fresh.specs.Evaluate.{entryValue}

@@ -1,4 +1,4 @@
--- `evaluate::eval_node` meets its contract: each return is its branch, with the callee's contract. Assumes nothing.
+-- `back_fresh::eval_node` meets its contract: each return is its branch, with the callee's contract. Assumes nothing.
 use borrow.Author.Needs.{needs}
 use Rattle.lib_base.proofs.Pick.{code}
 use Rattle.back_fresh.specs.Evaluate.{nodeDepth, nodeStack}

@@ -1,4 +1,4 @@
--- `evaluate::eval_nodes` meets its contract. The loop keeps: the nodes that are left, on the stack as it stands, give
+-- `back_fresh::eval_nodes` meets its contract. The loop keeps: the nodes that are left, on the stack as it stands, give
 -- the whole. Assumes nothing.
 use Prim.Native.Nat.{ℕ, suc, _+_, _-_, _≤_, _<_}
 use mathlib.Core.Path.{_≡_, refl, sym, _∙_}

@@ -1,4 +1,4 @@
--- `evaluate::fresh_values` meets its contract. The loop keeps: the turns that are left, on the values as they stand,
+-- `back_fresh::fresh_values` meets its contract. The loop keeps: the turns that are left, on the values as they stand,
 -- give the whole. Assumes nothing.
 use Prim.Native.Nat.{ℕ, suc, _+_, _-_, _≤_, _<_}
 use mathlib.Core.Path.{_≡_, _∙_}

@@ -1,4 +1,4 @@
--- `evaluate::push` meets its contract: each return is its branch. Assumes nothing.
+-- `back_fresh::push` meets its contract: each return is its branch. Assumes nothing.
 use borrow.Author.Needs.{needs}
 use Rattle.lib_base.proofs.Pick.{code}
 use Rattle.back_fresh.proofs.push.Statement.{statement}

@@ -1,4 +1,4 @@
--- `evaluate::start_values` meets its contract. The loop keeps: the values are those of the behaviours passed. Assumes
+-- `back_fresh::start_values` meets its contract. The loop keeps: the values are those of the behaviours passed. Assumes
 -- nothing.
 use Prim.Native.Nat.{_-_, _≤_}
 use mathlib.Core.Path.{_≡_, refl}

@@ -1,4 +1,4 @@
--- `evaluate::take_turn` meets its contract: each return is its branch. Assumes nothing.
+-- `back_fresh::take_turn` meets its contract: each return is its branch. Assumes nothing.
 use borrow.Author.Needs.{needs}
 use Rattle.lib_base.proofs.Pick.{code}
 use Rattle.back_fresh.specs.Evaluate.{turnOn}

@@ -1,5 +1,5 @@
--- `phases::emit_laters` meets its contract. The loop keeps: the later handlers of the behaviours passed are written.
--- Assumes nothing.
+-- `back_phases::emit_laters` meets its contract. The loop keeps: the later handlers of the behaviours passed are
+-- written. Assumes nothing.
 use Prim.Native.Nat.{_-_}
 use native.Mathlib.Omega.{arith}
 use Rattle.back_counts.proofs.CountLaws.{sound-at}

@@ -1,4 +1,4 @@
--- `phases::emit_moves` meets its contract. The loop keeps: the moves of the behaviours passed are written. Assumes
+-- `back_phases::emit_moves` meets its contract. The loop keeps: the moves of the behaviours passed are written. Assumes
 -- nothing.
 use Prim.Native.Nat.{_-_}
 use native.Mathlib.Omega.{arith}

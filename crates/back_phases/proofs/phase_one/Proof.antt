@@ -1,4 +1,4 @@
--- `phases::phase_one` meets its contract: its two parts, one after the other. Assumes nothing.
+-- `back_phases::phase_one` meets its contract: its two parts, one after the other. Assumes nothing.
 use borrow.Author.Needs.{needs}
 use Rattle.back_phases.proofs.PhaseLaws.{first-turns, first-laters, first-all}
 use Rattle.back_phases.proofs.phase_one.Statement.{statement}

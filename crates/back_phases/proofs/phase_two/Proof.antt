@@ -1,4 +1,4 @@
--- `phases::phase_two` meets its contract: its two parts, one after the other. Assumes nothing.
+-- `back_phases::phase_two` meets its contract: its two parts, one after the other. Assumes nothing.
 use borrow.Author.Needs.{needs}
 use Rattle.back_phases.proofs.PhaseLaws.{second-moves, second-again, second-all}
 use Rattle.back_phases.proofs.phase_two.Statement.{statement}
