@@ -7,7 +7,7 @@ use mathlib.Core.Path.{_≡_, refl, sym, ap, _∙_}
 use mathlib.Core.List.{List, [], _++_, map}
 use native.Mathlib.Omega.{arith}
 use lib.ListN.{length, take, drop, replicate, length-take}
-use lib.Seq.{take-all}
+use lib.Seq.{take-all, length-take-le}
 use lib.Dec.{ltb}
 use borrow.Author.Tests.{ltb-false, lt-ltb, le-ltb}
 use Rattle.lib_base.specs.Basics.{pick, All}
@@ -25,7 +25,10 @@ use Rattle.source_coding.specs.Faults.{faultNumber, faultWord, faultIn, outcome
 use Rattle.source_coding.specs.Places.{meaningIn}
 use Rattle.source_coding.specs.Sizes.{textSize}
 use Rattle.source_coding.proofs.Lengths.{sheet-takes}
-use Rattle.source_behaviours.specs.Whole.{NamesUsable, TextWritten, TextRead}
+use Rattle.source_names.specs.Known.{meaningBy}
+use Rattle.source_index.specs.Index.{MeaningsPut, AllFound}
+use Rattle.source_index.proofs.Laws.{known-sorted, known-plain}
+use Rattle.source_behaviours.specs.Whole.{NamesUsable, LookupUsable, TextWritten, TextRead}
 use Rattle.source_behaviours.specs.declared.Reading.the-variants.{Read, Fault}
 use Rattle.source_assemble.specs.Assemble.{assembleNumber, placeTold, faultNumbered, TellsFault, NamesResolved, sheetAnswer}
 use Rattle.source_assemble.proofs.Within.{first-pass-within, names-within}
@@ -90,8 +93,51 @@ pub zeros-low : (n : ℕ) → All (λ i. i ≤ 64) (replicate n 0)
 zeros-low zero = tt
 zeros-low (suc n) = (omega arith, zeros-low n)
 
-pub none-usable : NamesUsable [] 0 (replicate 65 0)
-none-usable = record { few-parameters = omega arith; few-names = omega arith; all-firsts = refl; low = zeros-low 65 }
+pub zeros-mean : (n : ℕ) → All (λ m. m < 8320) (replicate n 0)
+zeros-mean zero = tt
+zeros-mean (suc n) = (omega arith, zeros-mean n)
+
+pub none-known : LookupUsable [] 0 (replicate 65 0)
+none-known = record { some-sorted = omega arith; low = zeros-mean 65 }
+
+-- what names mean in one way they mean in another
+pub resolved-so : (bytes : List ℕ) (find other : List ℕ → NameMeaning) (x : OrFault Text) → ((s : List ℕ) → other s ≡ find s) → NamesResolved bytes find x → NamesResolved bytes other x
+resolved-so bytes find other (fault k p) e h = h
+resolved-so bytes find other (fine (text ps es bs)) e h = λ s. e s ∙ h s
+
+-- ---- names in order, and as they are declared
+
+part-long : (n : ℕ) (l : List ℕ) → n ≤ length l → length (take (n - 0) l) ≡ n
+part-long n l h = let z : n - 0 ≡ n = omega arith in rw z (length-take-le n l h)
+
+pub part-few : (n : ℕ) (l : List ℕ) → n ≤ 72 → length l ≡ 72 → length (take (n - 0) l) ≤ 72
+part-few n l h e = omega (arith, part-long n l (omega arith))
+
+module _ (bytes names : List ℕ) (params : ℕ) (firsts : List ℕ) (usable : NamesUsable names params firsts) (x : OrFault Text)
+    (resolved : NamesResolved bytes (meaningIn bytes names params firsts) x) where
+  pub few-names : length names ≤ 72
+  few-names = omega (arith, usable .few-parameters, usable .few-names)
+
+  pub known-in-order : (places before meanings : List ℕ) → length places ≡ 72
+      → MeaningsPut bytes names params firsts (take (length names - 0) places) (length (take (length names - 0) places)) before meanings
+      → AllFound bytes names (take (length names - 0) places) (length names)
+      → LookupUsable (take (length names - 0) places) (length names) meanings × NamesResolved bytes (meaningBy bytes (take (length names - 0) places) (length names) meanings) x
+  known-in-order places before meanings long put found =
+      let l : length (take (length names - 0) places) ≡ length names = part-long (length names) places (omega (arith, few-names)) in (
+        record { some-sorted = omega arith; low = put .low },
+        resolved-so bytes (meaningIn bytes names params firsts) (meaningBy bytes (take (length names - 0) places) (length names) meanings) x
+            (λ s.
+            ap (λ (n : ℕ). meaningBy bytes (take (length names - 0) places) n meanings s) (sym l)
+            ∙ known-sorted bytes names params firsts (usable .few-parameters) (usable .low) (take (length names - 0) places) before meanings l put found s) resolved,
+      )
+
+  pub known-as-declared : (before meanings : List ℕ) → MeaningsPut bytes names params firsts names (length names) before meanings
+      → LookupUsable names 0 meanings × NamesResolved bytes (meaningBy bytes names 0 meanings) x
+  known-as-declared before meanings put = (
+    record { some-sorted = omega arith; low = put .low },
+    resolved-so bytes (meaningIn bytes names params firsts) (meaningBy bytes names 0 meanings) x
+        (λ s. known-plain bytes names params firsts (usable .few-parameters) (usable .low) before meanings put s) resolved,
+  )
 
 -- ---- the first run
 
@@ -99,7 +145,7 @@ none-usable = record { few-parameters = omega arith; few-names = omega arith; al
 pub record NamesLeft (bytes names starts : List ℕ) (params count : ℕ) (x : OrFault Text) : Type 0 where
   pub counted : count ≤ 72
   pub usable : NamesUsable (take (count - 0) names) params starts
-  pub known : NamesResolved bytes (take (count - 0) names) params starts x
+  pub known : NamesResolved bytes (meaningIn bytes (take (count - 0) names) params starts) x
 
 module _ (bytes : List ℕ) (find : List ℕ → NameMeaning) (o p names starts : List ℕ) (end params count w : ℕ) where
   left-by : (x : OrFault Text) → TextRead bytes find o p names starts (Read end params count w) x → NamesLeft bytes names starts params count x
@@ -160,20 +206,17 @@ module _ (bytes buffer : List ℕ) (few : length bytes ≤ 65536) where
       let all : find ≡ meaningOfName 0 ps bs = λ i s. known s i in
       ap (λ (f : List ℕ → NameMeaning). entriesOf es f bs) all
 
-  module _ (places : List ℕ) (params : ℕ) (firsts o p names starts : List ℕ) (end params' count w : ℕ) where
-    abbrev find : List ℕ → NameMeaning
-    find = meaningIn bytes places params firsts
-
+  module _ (find : List ℕ → NameMeaning) (o p names starts : List ℕ) (end params' count w : ℕ) where
     abbrev SecondRun : OrFault Text → Type 0
     SecondRun x = TextRead bytes find o p names starts (Read end params' count w) x
 
-    fault-of-name : (x : OrFault Text) → readText bytes ≡ x → NamesResolved bytes places params firsts x → SecondRun x → (w ≡ 0 → ⊥) → Told w
+    fault-of-name : (x : OrFault Text) → readText bytes ≡ x → NamesResolved bytes find x → SecondRun x → (w ≡ 0 → ⊥) → Told w
     fault-of-name (fault k at) e known t h = absurd known
     fault-of-name (fine (text ps es bs)) e known t h =
         let same = same-entries find ps es bs known in
         name-fault ps es bs e (entriesOf es (meaningOfName 0 ps bs) bs) refl w (t .fault ∙ rw same) h
 
-    pub name-found : NamesResolved bytes places params firsts (readText bytes) → SecondRun (readText bytes) → (w ≡ 0 → ⊥) → Told w
+    pub name-found : NamesResolved bytes find (readText bytes) → SecondRun (readText bytes) → (w ≡ 0 → ⊥) → Told w
     name-found = fault-of-name (readText bytes) refl
 
     -- no fault is 0
@@ -189,11 +232,11 @@ module _ (bytes buffer : List ℕ) (few : length bytes ≤ 65536) where
         let same = same-entries find ps es bs known in
         written-out ps es bs e xs f p end (t .size) (λ h. t .written xs (same ∙ f) (omega arith))
 
-    sheet-of : (x : OrFault Text) → readText bytes ≡ x → NamesResolved bytes places params firsts x → SecondRun x → length o ≡ 8192 → w ≡ 0
+    sheet-of : (x : OrFault Text) → readText bytes ≡ x → NamesResolved bytes find x → SecondRun x → length o ≡ 8192 → w ≡ 0
         → sheetAnswer bytes end p buffer ≡ assembleNumber bytes buffer
     sheet-of (fault k at) e known t long z = absurd known
     sheet-of (fine (text ps es bs)) e known t long z = all-written ps es bs e known t long z (entriesOf es (meaningOfName 0 ps bs) bs) refl
 
-    pub sheet-written : NamesResolved bytes places params firsts (readText bytes) → SecondRun (readText bytes) → length o ≡ 8192 → w ≡ 0
+    pub sheet-written : NamesResolved bytes find (readText bytes) → SecondRun (readText bytes) → length o ≡ 8192 → w ≡ 0
         → sheetAnswer bytes end p buffer ≡ assembleNumber bytes buffer
     sheet-written = sheet-of (readText bytes) refl

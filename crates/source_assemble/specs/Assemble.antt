@@ -8,10 +8,9 @@ use Rattle.lib_base.specs.Basics.{pick}
 use Rattle.text_formula.specs.Answer.{answered}
 use Rattle.source_language.specs.Text.{Text, text}
 use Rattle.source_language.specs.Faults.{Kind, longSheet, shortBuffer, OrFault, fault, fine}
-use Rattle.source_language.specs.Meaning.{meaningOfName}
+use Rattle.source_language.specs.Meaning.{NameMeaning, meaningOfName}
 use Rattle.source_language.specs.Answer.{lineFrom, columnFrom, TextOutcome, assembleOn}
 use Rattle.source_coding.specs.Faults.{faultWord, outcomeNumber}
-use Rattle.source_coding.specs.Places.{meaningIn}
 
 -- what the call answers, and the buffer
 unfoldable pub assembleNumber : List ℕ → List ℕ → ℕ × List ℕ
@@ -39,9 +38,9 @@ pub record TellsFault (long w : ℕ) : Type 0 where
   pub low : w % 4294967296 ≤ 65536
 
 -- names mean what the text declares them to
-abbrev pub NamesResolved : List ℕ → List ℕ → ℕ → List ℕ → OrFault Text → Type 0
-NamesResolved bytes places params firsts (fault k p) = ⊥
-NamesResolved bytes places params firsts (fine (text ps es bs)) = (s : List ℕ) → meaningIn bytes places params firsts s ≡ meaningOfName 0 ps bs s
+abbrev pub NamesResolved : List ℕ → (List ℕ → NameMeaning) → OrFault Text → Type 0
+NamesResolved bytes find (fault k p) = ⊥
+NamesResolved bytes find (fine (text ps es bs)) = (s : List ℕ) → find s ≡ meaningOfName 0 ps bs s
 
 -- the answer for a sheet whose n bytes stand at the start of `out`: "Then a sheet over 8,192 bytes; last a buffer that
 -- is too short", at the end of the text

@@ -10,7 +10,9 @@ ghost use Prim.Native.Nat.{_<_, _≤_, _+_};
 ghost use lib.ListN.{length};
 ghost use Rattle.text_formula.specs.Answer.{answered};
 ghost use Rattle.source_language.specs.Reader.{readText};
-ghost use Rattle.source_behaviours.specs.Whole.{NamesUsable};
+ghost use Rattle.source_coding.specs.Places.{meaningIn};
+ghost use Rattle.source_names.specs.Known.{meaningBy};
+ghost use Rattle.source_behaviours.specs.Whole.{NamesUsable, LookupUsable};
 ghost use Rattle.source_assemble.specs.Assemble.{assembleNumber, lineAfter, columnAfter, placeTold, faultNumbered, TellsFault, NamesResolved, sheetAnswer};
 
 // What ends a line.
@@ -92,16 +94,16 @@ fn put_result(text: &[u8], n: usize, out: &[u8], buffer: &mut [u8]) -> u64
 }
 
 // The second run: names mean what the first one found, and the sheet is written.
-fn with_names(
+fn second_run(
     text: &[u8],
     places: &[usize],
-    params: usize,
-    firsts: &[usize],
+    sorted: usize,
+    meanings: &[usize],
     buffer: &mut [u8],
 ) -> u64
     requires { ⌜ length (now text) ≤ 65536 ⌝ }
-    requires { ⌜ NamesUsable (now places) params (now firsts) ⌝ }
-    requires { ⌜ NamesResolved (now text) (now places) params (now firsts) (readText (now text)) ⌝ }
+    requires { ⌜ LookupUsable (now places) sorted (now meanings) ⌝ }
+    requires { ⌜ NamesResolved (now text) (meaningBy (now text) (now places) sorted (now meanings)) (readText (now text)) ⌝ }
     ensures { λ r. ⌜ answered r (now (buffer .exit)) ≡ assembleNumber (now (text .entry)) (now (buffer .entry)) ⌝ }
 {
     let mut names = [0usize; limits::NAMES];
@@ -110,8 +112,8 @@ fn with_names(
     let r = source_behaviours::read_at(
         text,
         places,
-        params,
-        firsts,
+        sorted,
+        meanings,
         &mut names,
         &mut starts,
         &mut out,
@@ -125,6 +127,32 @@ fn with_names(
             put_result(text, end, &out, buffer)
         }
     }
+}
+
+// The names that the first run found are brought into order for the second one; where a trial does not find each of
+// them so, they are looked up one after another.
+fn with_names(
+    text: &[u8],
+    names: &[usize],
+    params: usize,
+    firsts: &[usize],
+    buffer: &mut [u8],
+) -> u64
+    requires { ⌜ length (now text) ≤ 65536 ⌝ }
+    requires { ⌜ NamesUsable (now names) params (now firsts) ⌝ }
+    requires { ⌜ NamesResolved (now text) (meaningIn (now text) (now names) params (now firsts)) (readText (now text)) ⌝ }
+    ensures { λ r. ⌜ answered r (now (buffer .exit)) ≡ assembleNumber (now (text .entry)) (now (buffer .entry)) ⌝ }
+{
+    let mut places = [0usize; limits::NAMES];
+    let mut meanings = [0usize; limits::NAMES];
+    let n = names.len();
+    source_index::put_in_order(text, names, &mut places);
+    source_index::put_meanings(text, names, params, firsts, &places[0..n], &mut meanings);
+    if source_index::all_found(text, names, &places[0..n]) {
+        return second_run(text, &places[0..n], n, &meanings, buffer);
+    }
+    source_index::put_meanings(text, names, params, firsts, names, &mut meanings);
+    second_run(text, names, 0, &meanings, buffer)
 }
 
 // The sheet's bytes at the start of the buffer: 2 ^ 32 and their number; or the fault's kind, line and column.

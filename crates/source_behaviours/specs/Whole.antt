@@ -1,6 +1,6 @@
 -- What the reading of a whole text promises: the fault of the first pass that the reader finds (`readText`), or the
 -- sheet's bytes, and where the names stand that it declares.
-use Prim.Native.Nat.{ℕ, _+_, _*_, _≤_}
+use Prim.Native.Nat.{ℕ, _+_, _*_, _≤_, _<_}
 use mathlib.Core.Path.{_≡_}
 use mathlib.Core.List.{List, map}
 use lib.ListN.{length, take}
@@ -17,13 +17,18 @@ use Rattle.source_coding.specs.Sizes.{textSize}
 use Rattle.source_behaviours.specs.declared.Reading.{Reading}
 use Rattle.source_behaviours.specs.declared.Reading.the-variants.{Read, Fault}
 
--- what names can be looked up in: their places, the first of them parameters', and the numbers of the behaviours' first
--- cells
+-- what a text declares: the places of its names, the first of them parameters', and the numbers of the behaviours'
+-- first cells
 pub record NamesUsable (places : List ℕ) (params : ℕ) (firsts : List ℕ) : Type 0 where
   pub few-parameters : params ≤ 8
   pub few-names : length places ≤ params + 64
   pub all-firsts : length firsts ≡ 65
   pub low : All (λ i. i ≤ 64) firsts
+
+-- what names are looked up in: their places, the first of them in order, and their meanings, each below 65 times 128
+pub record LookupUsable (places : List ℕ) (sorted : ℕ) (meanings : List ℕ) : Type 0 where
+  pub some-sorted : sorted ≤ length places
+  pub low : All (λ m. m < 8320) meanings
 
 -- a text was read, in which names are found so: what is written into o, which becomes p, and the names and first cells
 -- that it declares

@@ -18,11 +18,12 @@ ghost use Prim.Native.Nat.{_≤_, _<_, _+_, _*_};
 ghost use lib.ListN.{length};
 ghost use Rattle.lib_base.specs.Basics.{All};
 ghost use Rattle.source_language.specs.Reader.{readText};
-ghost use Rattle.source_coding.specs.Places.{tokensFrom, namesHeld, meaningIn};
+ghost use Rattle.source_coding.specs.Places.{tokensFrom, namesHeld};
+ghost use Rattle.source_names.specs.Known.{meaningBy};
 ghost use Rattle.source_due.specs.Due.{DueWithin};
 ghost use Rattle.source_handlers.specs.Parts.{DueRead};
 ghost use Rattle.source_behaviours.specs.Behaviours.{newName, closedCells, countedCells, cellsSaid, numbersTaken, NamedAt, CountIs, CellsWithin, ClosedWithin, WordRead, WordWithin, BehaviourRead, BehaviourWithin, BehavioursRead, BehavioursWithin, EndFault, refusedPart, refusedBehaviour, refusedBehaviours, refusedDeclared};
-ghost use Rattle.source_behaviours.specs.Whole.{NamesUsable, TextRead, EndWithin};
+ghost use Rattle.source_behaviours.specs.Whole.{LookupUsable, TextRead, EndWithin};
 
 // The word that begins a row, as what is due tells it, and how many cells one has.
 const ROW: u64 = signs::ROW as u64;
@@ -157,8 +158,8 @@ fn behaviour_at(
     names: &[usize],
     count: usize,
     places: &[usize],
-    params: usize,
-    firsts: &[usize],
+    sorted: usize,
+    meanings: &[usize],
     events: &[usize],
     out: &mut [u8],
     n: usize,
@@ -169,11 +170,11 @@ fn behaviour_at(
     requires { ⌜ i ≤ 64 ⌝ }
     requires { ⌜ count ≤ length (now names) ⌝ }
     requires { ⌜ n ≤ at * 16 ⌝ }
-    requires { ⌜ length (now places) ≤ 72 ⌝ }
-    requires { ⌜ All (λ i. i ≤ 64) (now firsts) ⌝ }
+    requires { ⌜ sorted ≤ length (now places) ⌝ }
+    requires { ⌜ All (λ m. m < 8320) (now meanings) ⌝ }
     requires { ⌜ length (now events) ≤ 32 ⌝ }
     requires { ⌜ length (now out) ≤ 8192 ⌝ }
-    ensures { λ r. ⌜ BehaviourRead (now (text .entry)) (meaningIn (now (text .entry)) (now (places .entry)) params (now (firsts .entry))) (now (events .entry)) (now (names .entry)) count i q word at n (now (out .entry)) (now (out .exit)) r ⌝ }
+    ensures { λ r. ⌜ BehaviourRead (now (text .entry)) (meaningBy (now (text .entry)) (now (places .entry)) sorted (now (meanings .entry))) (now (events .entry)) (now (names .entry)) count i q word at n (now (out .entry)) (now (out .exit)) r ⌝ }
     ensures { λ r. ⌜ BehaviourWithin (length (now (text .entry))) at n i r ⌝ }
     ensures { λ _. ⌜ length (now (out .exit)) ≡ length (now (out .entry)) ⌝ }
 {
@@ -192,8 +193,8 @@ fn behaviour_at(
         text,
         after,
         places,
-        params,
-        firsts,
+        sorted,
+        meanings,
         events,
         word,
         cells as usize,
@@ -242,8 +243,8 @@ fn behaviours_at(
     text: &[u8],
     at: usize,
     places: &[usize],
-    params: usize,
-    firsts: &[usize],
+    sorted: usize,
+    meanings: &[usize],
     events: &[usize],
     names: &mut [usize],
     taken: usize,
@@ -254,14 +255,14 @@ fn behaviours_at(
     requires { ⌜ length (now text) ≤ 65536 ⌝ }
     requires { ⌜ at ≤ length (now text) ⌝ }
     requires { ⌜ n ≤ at * 16 ⌝ }
-    requires { ⌜ length (now places) ≤ 72 ⌝ }
-    requires { ⌜ All (λ i. i ≤ 64) (now firsts) ⌝ }
+    requires { ⌜ sorted ≤ length (now places) ⌝ }
+    requires { ⌜ All (λ m. m < 8320) (now meanings) ⌝ }
     requires { ⌜ length (now events) ≤ 32 ⌝ }
     requires { ⌜ length (now names) ≡ 72 ⌝ }
     requires { ⌜ taken ≤ 8 ⌝ }
     requires { ⌜ (length (now starts) ≡ 65) × All (λ i. i ≤ 64) (now starts) ⌝ }
     requires { ⌜ length (now out) ≤ 8192 ⌝ }
-    ensures { λ r. ⌜ BehavioursRead (now (text .entry)) (meaningIn (now (text .entry)) (now (places .entry)) params (now (firsts .entry))) (now (events .entry)) at n (now (out .entry)) (now (out .exit)) (now (names .entry)) taken (now (names .exit)) (now (starts .exit)) r ⌝ }
+    ensures { λ r. ⌜ BehavioursRead (now (text .entry)) (meaningBy (now (text .entry)) (now (places .entry)) sorted (now (meanings .entry))) (now (events .entry)) at n (now (out .entry)) (now (out .exit)) (now (names .entry)) taken (now (names .exit)) (now (starts .exit)) r ⌝ }
     ensures { λ r. ⌜ BehavioursWithin (length (now (text .entry))) n taken r ⌝ }
     ensures { λ _. ⌜ length (now (names .exit)) ≡ 72 ⌝ }
     ensures { λ _. ⌜ (length (now (starts .exit)) ≡ 65) × All (λ i. i ≤ 64) (now (starts .exit)) ⌝ }
@@ -287,8 +288,8 @@ fn behaviours_at(
             names,
             count,
             places,
-            params,
-            firsts,
+            sorted,
+            meanings,
             events,
             out,
             end,
@@ -342,24 +343,24 @@ fn refused_behaviours(behaviours: Behaviours) -> Reading
     }
 }
 
-// A text, in which names mean what `places`, `params` and `firsts` say. What it declares goes to `names` and `starts`:
-// the places of parameters and behaviours in their order, and the number of each behaviour's first cell, last of all
-// how many there are.
+// A text, in which names mean what `places`, `sorted` and `meanings` say. What it declares goes to `names` and
+// `starts`: the places of parameters and behaviours in their order, and the number of each behaviour's first cell, last
+// of all how many there are.
 pub fn read_at(
     text: &[u8],
     places: &[usize],
-    params: usize,
-    firsts: &[usize],
+    sorted: usize,
+    meanings: &[usize],
     names: &mut [usize],
     starts: &mut [usize],
     out: &mut [u8],
 ) -> Reading
     requires { ⌜ length (now text) ≤ 65536 ⌝ }
-    requires { ⌜ NamesUsable (now places) params (now firsts) ⌝ }
+    requires { ⌜ LookupUsable (now places) sorted (now meanings) ⌝ }
     requires { ⌜ length (now names) ≡ 72 ⌝ }
     requires { ⌜ (length (now starts) ≡ 65) × All (λ i. i ≤ 64) (now starts) ⌝ }
     requires { ⌜ length (now out) ≤ 8192 ⌝ }
-    ensures { λ r. ⌜ TextRead (now (text .entry)) (meaningIn (now (text .entry)) (now (places .entry)) params (now (firsts .entry))) (now (out .entry)) (now (out .exit)) (now (names .exit)) (now (starts .exit)) r (readText (now (text .entry))) ⌝ }
+    ensures { λ r. ⌜ TextRead (now (text .entry)) (meaningBy (now (text .entry)) (now (places .entry)) sorted (now (meanings .entry))) (now (out .entry)) (now (out .exit)) (now (names .exit)) (now (starts .exit)) r (readText (now (text .entry))) ⌝ }
     ensures { λ r. ⌜ EndWithin (length (now (text .entry))) r ⌝ }
     ensures { λ _. ⌜ length (now (names .exit)) ≡ 72 ⌝ }
     ensures { λ _. ⌜ length (now (starts .exit)) ≡ 65 ⌝ }
@@ -378,8 +379,8 @@ pub fn read_at(
         text,
         b,
         places,
-        params,
-        firsts,
+        sorted,
+        meanings,
         &events[0..count],
         names,
         taken,

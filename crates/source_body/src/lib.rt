@@ -19,7 +19,8 @@ ghost use lib.ListN.{length};
 ghost use lib.Seq.{sets};
 ghost use Rattle.lib_base.specs.Basics.{All};
 ghost use Rattle.spec_language.specs.Grammar.{field, word};
-ghost use Rattle.source_coding.specs.Places.{tokensFrom, meaningIn};
+ghost use Rattle.source_coding.specs.Places.{tokensFrom};
+ghost use Rattle.source_names.specs.Known.{meaningBy};
 ghost use Rattle.source_handlers.specs.Parts.{DueRead, PartWithin};
 ghost use Rattle.source_body.specs.Body.{startBytes, bodyTag, viewerBytes, startDeclared, StartWordIs, StartWithin, StateRead, StateWithin, PassiveRead, StateDeclared, KindRead, refusedRights};
 
@@ -122,18 +123,18 @@ fn passive_at(
     text: &[u8],
     at: usize,
     places: &[usize],
-    params: usize,
-    firsts: &[usize],
+    sorted: usize,
+    meanings: &[usize],
     out: &mut [u8],
     n: usize,
 ) -> Part
     requires { ⌜ length (now text) ≤ 65536 ⌝ }
     requires { ⌜ at ≤ length (now text) ⌝ }
     requires { ⌜ n ≤ at * 16 ⌝ }
-    requires { ⌜ length (now places) ≤ 72 ⌝ }
-    requires { ⌜ All (λ i. i ≤ 64) (now firsts) ⌝ }
+    requires { ⌜ sorted ≤ length (now places) ⌝ }
+    requires { ⌜ All (λ m. m < 8320) (now meanings) ⌝ }
     requires { ⌜ length (now out) ≤ 8192 ⌝ }
-    ensures { λ r. ⌜ PassiveRead (now (text .entry)) (meaningIn (now (text .entry)) (now (places .entry)) params (now (firsts .entry))) at n (now (out .entry)) (now (out .exit)) r ⌝ }
+    ensures { λ r. ⌜ PassiveRead (now (text .entry)) (meaningBy (now (text .entry)) (now (places .entry)) sorted (now (meanings .entry))) at n (now (out .entry)) (now (out .exit)) r ⌝ }
     ensures { λ r. ⌜ PartWithin (length (now (text .entry))) at n r ⌝ }
     ensures { λ _. ⌜ length (now (out .exit)) ≡ length (now (out .entry)) ⌝ }
 {
@@ -141,7 +142,16 @@ fn passive_at(
     let Due::Found(_, _, next) = d else {
         return Part::Fault(fault_of(d));
     };
-    let r = source_formula::formula_at(text, next, places, params, firsts, 0, out, n + HEAD_BYTES);
+    let r = source_formula::formula_at(
+        text,
+        next,
+        places,
+        sorted,
+        meanings,
+        0,
+        out,
+        n + HEAD_BYTES,
+    );
     let Read::Done(f, _, end, w) = r else {
         return refused_formula(r);
     };
@@ -159,8 +169,8 @@ fn state_with(
     text: &[u8],
     at: usize,
     places: &[usize],
-    params: usize,
-    firsts: &[usize],
+    sorted: usize,
+    meanings: &[usize],
     events: &[usize],
     cells: usize,
     start: u64,
@@ -171,19 +181,19 @@ fn state_with(
     requires { ⌜ length (now text) ≤ 65536 ⌝ }
     requires { ⌜ at ≤ length (now text) ⌝ }
     requires { ⌜ n + 16 ≤ at * 16 ⌝ }
-    requires { ⌜ length (now places) ≤ 72 ⌝ }
-    requires { ⌜ All (λ i. i ≤ 64) (now firsts) ⌝ }
+    requires { ⌜ sorted ≤ length (now places) ⌝ }
+    requires { ⌜ All (λ m. m < 8320) (now meanings) ⌝ }
     requires { ⌜ length (now events) ≤ 32 ⌝ }
     requires { ⌜ cells ≤ 16 ⌝ }
     requires { ⌜ start < 4294967296 ⌝ }
     requires { ⌜ bits ≤ 256 ⌝ }
     requires { ⌜ length (now out) ≤ 8192 ⌝ }
-    ensures { λ r. ⌜ StateRead (now (text .entry)) (meaningIn (now (text .entry)) (now (places .entry)) params (now (firsts .entry))) (now (events .entry)) cells start bits at n (now (out .entry)) (now (out .exit)) r ⌝ }
+    ensures { λ r. ⌜ StateRead (now (text .entry)) (meaningBy (now (text .entry)) (now (places .entry)) sorted (now (meanings .entry))) (now (events .entry)) cells start bits at n (now (out .entry)) (now (out .exit)) r ⌝ }
     ensures { λ r. ⌜ StateWithin (length (now (text .entry))) at n r ⌝ }
     ensures { λ _. ⌜ length (now (out .exit)) ≡ length (now (out .entry)) ⌝ }
 {
     let m = put_start(out, n + HEAD_BYTES, start, cells);
-    let r = source_handlers::handlers_at(text, at, places, params, firsts, cells, events, out, m);
+    let r = source_handlers::handlers_at(text, at, places, sorted, meanings, cells, events, out, m);
     let Part::Done(to, end, w) = r else {
         return r;
     };
@@ -211,8 +221,8 @@ fn state_at(
     text: &[u8],
     at: usize,
     places: &[usize],
-    params: usize,
-    firsts: &[usize],
+    sorted: usize,
+    meanings: &[usize],
     events: &[usize],
     cells: usize,
     out: &mut [u8],
@@ -221,12 +231,12 @@ fn state_at(
     requires { ⌜ length (now text) ≤ 65536 ⌝ }
     requires { ⌜ at ≤ length (now text) ⌝ }
     requires { ⌜ n ≤ at * 16 ⌝ }
-    requires { ⌜ length (now places) ≤ 72 ⌝ }
-    requires { ⌜ All (λ i. i ≤ 64) (now firsts) ⌝ }
+    requires { ⌜ sorted ≤ length (now places) ⌝ }
+    requires { ⌜ All (λ m. m < 8320) (now meanings) ⌝ }
     requires { ⌜ length (now events) ≤ 32 ⌝ }
     requires { ⌜ cells ≤ 16 ⌝ }
     requires { ⌜ length (now out) ≤ 8192 ⌝ }
-    ensures { λ r. ⌜ StateDeclared (now (text .entry)) (meaningIn (now (text .entry)) (now (places .entry)) params (now (firsts .entry))) (now (events .entry)) cells at n (now (out .entry)) (now (out .exit)) r ⌝ }
+    ensures { λ r. ⌜ StateDeclared (now (text .entry)) (meaningBy (now (text .entry)) (now (places .entry)) sorted (now (meanings .entry))) (now (events .entry)) cells at n (now (out .entry)) (now (out .exit)) r ⌝ }
     ensures { λ r. ⌜ PartWithin (length (now (text .entry))) at n r ⌝ }
     ensures { λ _. ⌜ length (now (out .exit)) ≡ length (now (out .entry)) ⌝ }
 {
@@ -242,8 +252,8 @@ fn state_at(
         text,
         to,
         places,
-        params,
-        firsts,
+        sorted,
+        meanings,
         events,
         cells,
         start,
@@ -258,8 +268,8 @@ pub fn kind_at(
     text: &[u8],
     at: usize,
     places: &[usize],
-    params: usize,
-    firsts: &[usize],
+    sorted: usize,
+    meanings: &[usize],
     events: &[usize],
     word: u64,
     cells: usize,
@@ -269,17 +279,17 @@ pub fn kind_at(
     requires { ⌜ length (now text) ≤ 65536 ⌝ }
     requires { ⌜ at ≤ length (now text) ⌝ }
     requires { ⌜ n ≤ at * 16 ⌝ }
-    requires { ⌜ length (now places) ≤ 72 ⌝ }
-    requires { ⌜ All (λ i. i ≤ 64) (now firsts) ⌝ }
+    requires { ⌜ sorted ≤ length (now places) ⌝ }
+    requires { ⌜ All (λ m. m < 8320) (now meanings) ⌝ }
     requires { ⌜ length (now events) ≤ 32 ⌝ }
     requires { ⌜ cells ≤ 16 ⌝ }
     requires { ⌜ length (now out) ≤ 8192 ⌝ }
-    ensures { λ r. ⌜ KindRead (now (text .entry)) (meaningIn (now (text .entry)) (now (places .entry)) params (now (firsts .entry))) (now (events .entry)) word cells at n (now (out .entry)) (now (out .exit)) r ⌝ }
+    ensures { λ r. ⌜ KindRead (now (text .entry)) (meaningBy (now (text .entry)) (now (places .entry)) sorted (now (meanings .entry))) (now (events .entry)) word cells at n (now (out .entry)) (now (out .exit)) r ⌝ }
     ensures { λ r. ⌜ PartWithin (length (now (text .entry))) at n r ⌝ }
     ensures { λ _. ⌜ length (now (out .exit)) ≡ length (now (out .entry)) ⌝ }
 {
     if word == PASSIVE {
-        return passive_at(text, at, places, params, firsts, out, n);
+        return passive_at(text, at, places, sorted, meanings, out, n);
     }
-    state_at(text, at, places, params, firsts, events, cells, out, n)
+    state_at(text, at, places, sorted, meanings, events, cells, out, n)
 }

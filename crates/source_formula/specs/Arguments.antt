@@ -1,5 +1,5 @@
 -- What reading a formula needs, and what the arguments of an `if` promise, one after another.
-use Prim.Native.Nat.{ℕ, _*_, _-_, _≤_}
+use Prim.Native.Nat.{ℕ, _*_, _-_, _≤_, _<_}
 use mathlib.Core.Path.{_≡_}
 use mathlib.Core.List.{List}
 use lib.ListN.{length}
@@ -14,9 +14,9 @@ use Rattle.source_field.specs.declared.Read.the-variants.{Done, Fault}
 
 -- a place of a text, and one of the buffer for what follows; names and numbers that bytes can say; a buffer whose
 -- places two bytes can say
-abbrev pub Readable : List ℕ → ℕ → ℕ → List ℕ → List ℕ → List ℕ → Type 0
-Readable text at n places firsts out =
-    (length text ≤ 65536) × (at ≤ length text) × (n ≤ at * 16) × (length places ≤ 72) × All (λ i. i ≤ 64) firsts × (length out ≤ 65535)
+abbrev pub Readable : List ℕ → ℕ → ℕ → List ℕ → ℕ → List ℕ → List ℕ → Type 0
+Readable text at n places sorted meanings out =
+    (length text ≤ 65536) × (at ≤ length text) × (n ≤ at * 16) × (sorted ≤ length places) × All (λ m. m < 8320) meanings × (length out ≤ 65535)
 
 -- a further argument can be read after r
 abbrev pub ArgumentRoom : ℕ → Read → Type 0

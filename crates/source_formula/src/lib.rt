@@ -20,19 +20,20 @@ ghost use Prim.Native.Nat.{_≤_, _<_, _*_, _-_};
 ghost use lib.ListN.{length};
 ghost use Rattle.lib_base.specs.Basics.{All};
 ghost use Rattle.source_language.specs.Reader.{readPrimary, readChoice, phraseWithin, formulaOf};
-ghost use Rattle.source_coding.specs.Places.{tokensFrom, meaningIn};
+ghost use Rattle.source_coding.specs.Places.{tokensFrom};
+ghost use Rattle.source_names.specs.Known.{meaningBy};
 ghost use Rattle.source_field.specs.Formula.{FormulaRead, FormulaWithin, FewerLeft, PartRead};
 ghost use Rattle.source_formula.specs.Arguments.{Readable, ArgumentRoom, ArgumentAfter};
 
-// The formula that begins at a place. The names at `places` are known, the first `params` of them parameters; `firsts`
-// has the number of each behaviour's first cell, and last the number of all. `cells` are those of the row whose handler
-// this is, else 0. The field is written from place n of `out` on, where it fits.
+// The formula that begins at a place. The names at `places` are known, the first `sorted` of them in order; `meanings`
+// has the number for each that tells what it means. `cells` are those of the row whose handler this is, else 0. The
+// field is written from place n of `out` on, where it fits.
 pub fn formula_at(
     text: &[u8],
     at: usize,
     places: &[usize],
-    params: usize,
-    firsts: &[usize],
+    sorted: usize,
+    meanings: &[usize],
     cells: usize,
     out: &mut [u8],
     n: usize,
@@ -40,10 +41,10 @@ pub fn formula_at(
     requires { ⌜ length (now text) ≤ 65536 ⌝ }
     requires { ⌜ at ≤ length (now text) ⌝ }
     requires { ⌜ n ≤ at * 16 ⌝ }
-    requires { ⌜ length (now places) ≤ 72 ⌝ }
-    requires { ⌜ All (λ i. i ≤ 64) (now firsts) ⌝ }
+    requires { ⌜ sorted ≤ length (now places) ⌝ }
+    requires { ⌜ All (λ m. m < 8320) (now meanings) ⌝ }
     requires { ⌜ length (now out) ≤ 65535 ⌝ }
-    ensures { λ r. ⌜ FormulaRead (now (text .entry)) (meaningIn (now (text .entry)) (now (places .entry)) params (now (firsts .entry))) cells n (now (out .entry)) (now (out .exit)) r (formulaOf (tokensFrom (now (text .entry)) at)) ⌝ }
+    ensures { λ r. ⌜ FormulaRead (now (text .entry)) (meaningBy (now (text .entry)) (now (places .entry)) sorted (now (meanings .entry))) cells n (now (out .entry)) (now (out .exit)) r (formulaOf (tokensFrom (now (text .entry)) at)) ⌝ }
     ensures { λ r. ⌜ FormulaWithin (length (now (text .entry))) 16 at n r ⌝ }
     ensures { λ r. ⌜ FewerLeft (now (text .entry)) at r ⌝ }
     ensures { λ _. ⌜ length (now (out .exit)) ≡ length (now (out .entry)) ⌝ }
@@ -54,8 +55,8 @@ pub fn formula_at(
         levels::DISJUNCTION,
         limits::NESTING,
         places,
-        params,
-        firsts,
+        sorted,
+        meanings,
         cells,
         out,
         n,
@@ -69,20 +70,20 @@ fn phrase(
     level: u64,
     room: usize,
     places: &[usize],
-    params: usize,
-    firsts: &[usize],
+    sorted: usize,
+    meanings: &[usize],
     cells: usize,
     out: &mut [u8],
     n: usize,
 ) -> Read
-    requires { ⌜ Readable (now text) at n (now places) (now firsts) (now out) ⌝ }
+    requires { ⌜ Readable (now text) at n (now places) sorted (now meanings) (now out) ⌝ }
     requires { ⌜ (level ≤ 6) × (0 < room) × (room ≤ 16) ⌝ }
-    ensures { λ r. ⌜ PartRead (now (text .entry)) (meaningIn (now (text .entry)) (now (places .entry)) params (now (firsts .entry))) cells room at n (now (out .entry)) (now (out .exit)) r (phraseWithin room level (tokensFrom (now (text .entry)) at)) ⌝ }
+    ensures { λ r. ⌜ PartRead (now (text .entry)) (meaningBy (now (text .entry)) (now (places .entry)) sorted (now (meanings .entry))) cells room at n (now (out .entry)) (now (out .exit)) r (phraseWithin room level (tokensFrom (now (text .entry)) at)) ⌝ }
 {
     let brackets = source_onward::brackets_at(text, at);
     let first = brackets.first;
     let mut opened = brackets.opened;
-    let mut r = primary(text, first, room, places, params, firsts, cells, out, n);
+    let mut r = primary(text, first, room, places, sorted, meanings, cells, out, n);
     loop {
         let Read::Done(to, depth, end, w) = r else {
             return r;
@@ -96,7 +97,18 @@ fn phrase(
             }
             Onward::Operator(f, t, next) => {
                 let less = room - 1;
-                r = phrase(text, next, t, less, places, params, firsts, cells, out, end);
+                r = phrase(
+                    text,
+                    next,
+                    t,
+                    less,
+                    places,
+                    sorted,
+                    meanings,
+                    cells,
+                    out,
+                    end,
+                );
                 r = close(f, n, depth, w, r, out);
             }
         }
@@ -109,15 +121,15 @@ fn primary(
     at: usize,
     room: usize,
     places: &[usize],
-    params: usize,
-    firsts: &[usize],
+    sorted: usize,
+    meanings: &[usize],
     cells: usize,
     out: &mut [u8],
     n: usize,
 ) -> Read
-    requires { ⌜ Readable (now text) at n (now places) (now firsts) (now out) ⌝ }
+    requires { ⌜ Readable (now text) at n (now places) sorted (now meanings) (now out) ⌝ }
     requires { ⌜ (0 < room) × (room ≤ 16) ⌝ }
-    ensures { λ r. ⌜ PartRead (now (text .entry)) (meaningIn (now (text .entry)) (now (places .entry)) params (now (firsts .entry))) cells room at n (now (out .entry)) (now (out .exit)) r (readPrimary (phraseWithin (room - 1)) room (tokensFrom (now (text .entry)) at)) ⌝ }
+    ensures { λ r. ⌜ PartRead (now (text .entry)) (meaningBy (now (text .entry)) (now (places .entry)) sorted (now (meanings .entry))) cells room at n (now (out .entry)) (now (out .exit)) r (readPrimary (phraseWithin (room - 1)) room (tokensFrom (now (text .entry)) at)) ⌝ }
 {
     let standing = source_onward::standing_at(text, at);
     let next = standing.next;
@@ -126,16 +138,16 @@ fn primary(
             return Read::Fault(fault_word(faults::TOO_DEEP, standing.place));
         }
         let less = room - 1;
-        let r = phrase(text, next, 0, less, places, params, firsts, cells, out, n);
+        let r = phrase(text, next, 0, less, places, sorted, meanings, cells, out, n);
         return close(functions::NOT, n, 0, 0, r, out);
     }
     if standing.sign == functions::IF {
         if room < 2 {
             return Read::Fault(fault_word(faults::TOO_DEEP, standing.place));
         }
-        return choice(text, next, room, places, params, firsts, cells, out, n);
+        return choice(text, next, room, places, sorted, meanings, cells, out, n);
     }
-    plain_at(text, at, places, params, firsts, cells, out, n)
+    plain_at(text, at, places, sorted, meanings, cells, out, n)
 }
 
 // The three arguments of an `if`, from the place behind it on.
@@ -144,20 +156,20 @@ fn choice(
     at: usize,
     room: usize,
     places: &[usize],
-    params: usize,
-    firsts: &[usize],
+    sorted: usize,
+    meanings: &[usize],
     cells: usize,
     out: &mut [u8],
     n: usize,
 ) -> Read
-    requires { ⌜ Readable (now text) at n (now places) (now firsts) (now out) ⌝ }
+    requires { ⌜ Readable (now text) at n (now places) sorted (now meanings) (now out) ⌝ }
     requires { ⌜ (1 < room) × (room ≤ 16) ⌝ }
-    ensures { λ r. ⌜ PartRead (now (text .entry)) (meaningIn (now (text .entry)) (now (places .entry)) params (now (firsts .entry))) cells room at n (now (out .entry)) (now (out .exit)) r (readChoice (phraseWithin (room - 1) 6) (tokensFrom (now (text .entry)) at)) ⌝ }
+    ensures { λ r. ⌜ PartRead (now (text .entry)) (meaningBy (now (text .entry)) (now (places .entry)) sorted (now (meanings .entry))) cells room at n (now (out .entry)) (now (out .exit)) r (readChoice (phraseWithin (room - 1) 6) (tokensFrom (now (text .entry)) at)) ⌝ }
 {
     let mut r = Read::Done(at, 0, n, 0);
-    r = argument(text, OPENING, room, r, places, params, firsts, cells, out);
-    r = argument(text, COMMA, room, r, places, params, firsts, cells, out);
-    r = argument(text, COMMA, room, r, places, params, firsts, cells, out);
+    r = argument(text, OPENING, room, r, places, sorted, meanings, cells, out);
+    r = argument(text, COMMA, room, r, places, sorted, meanings, cells, out);
+    r = argument(text, COMMA, room, r, places, sorted, meanings, cells, out);
     r = source_onward::ended(text, r);
     close(functions::IF, n, 0, 0, r, out)
 }
@@ -169,16 +181,16 @@ fn argument(
     room: usize,
     r: Read,
     places: &[usize],
-    params: usize,
-    firsts: &[usize],
+    sorted: usize,
+    meanings: &[usize],
     cells: usize,
     out: &mut [u8],
 ) -> Read
     requires { ⌜ (length (now text) ≤ 65536) × ArgumentRoom (length (now text)) r ⌝ }
-    requires { ⌜ (length (now places) ≤ 72) × All (λ i. i ≤ 64) (now firsts) × (length (now out) ≤ 65535) ⌝ }
+    requires { ⌜ (sorted ≤ length (now places)) × All (λ m. m < 8320) (now meanings) × (length (now out) ≤ 65535) ⌝ }
     requires { ⌜ (0 < sign) × (sign < 34) ⌝ }
     requires { ⌜ (1 < room) × (room ≤ 16) ⌝ }
-    ensures { λ q. ⌜ ArgumentAfter (now (text .entry)) (meaningIn (now (text .entry)) (now (places .entry)) params (now (firsts .entry))) cells sign room (now (out .entry)) (now (out .exit)) r q ⌝ }
+    ensures { λ q. ⌜ ArgumentAfter (now (text .entry)) (meaningBy (now (text .entry)) (now (places .entry)) sorted (now (meanings .entry))) cells sign room (now (out .entry)) (now (out .exit)) r q ⌝ }
 {
     let Read::Done(at, depth, n, w) = r else {
         return r;
@@ -192,8 +204,8 @@ fn argument(
                 levels::DISJUNCTION,
                 room - 1,
                 places,
-                params,
-                firsts,
+                sorted,
+                meanings,
                 cells,
                 out,
                 n,

@@ -16,7 +16,8 @@ ghost use mathlib.Core.Path.{_≡_};
 ghost use Prim.Native.Nat.{_≤_, _<_, _+_, _*_};
 ghost use lib.ListN.{length};
 ghost use Rattle.lib_base.specs.Basics.{All};
-ghost use Rattle.source_coding.specs.Places.{tokensFrom, meaningIn};
+ghost use Rattle.source_coding.specs.Places.{tokensFrom};
+ghost use Rattle.source_names.specs.Known.{meaningBy};
 ghost use Rattle.source_due.specs.Due.{DueWithin};
 ghost use Rattle.source_handlers.specs.Parts.{PartWithin, DueRead, refusedRead, headed};
 ghost use Rattle.source_handlers.specs.Handlers.{HandledEventRead, HandledEventWithin, PhaseNumbered, PhaseWithin, ColonRead, phaseDeclared, HandlerRead, HandlersRead};
@@ -125,8 +126,8 @@ fn body_at(
     text: &[u8],
     at: usize,
     places: &[usize],
-    params: usize,
-    firsts: &[usize],
+    sorted: usize,
+    meanings: &[usize],
     cells: usize,
     e: u64,
     out: &mut [u8],
@@ -135,11 +136,11 @@ fn body_at(
     requires { ⌜ length (now text) ≤ 65536 ⌝ }
     requires { ⌜ at ≤ length (now text) ⌝ }
     requires { ⌜ n ≤ at * 16 ⌝ }
-    requires { ⌜ length (now places) ≤ 72 ⌝ }
-    requires { ⌜ All (λ i. i ≤ 64) (now firsts) ⌝ }
+    requires { ⌜ sorted ≤ length (now places) ⌝ }
+    requires { ⌜ All (λ m. m < 8320) (now meanings) ⌝ }
     requires { ⌜ e < 32 ⌝ }
     requires { ⌜ length (now out) ≤ 8192 ⌝ }
-    ensures { λ r. ⌜ HandlerRead (now (text .entry)) (meaningIn (now (text .entry)) (now (places .entry)) params (now (firsts .entry))) cells e at n (now (out .entry)) (now (out .exit)) r ⌝ }
+    ensures { λ r. ⌜ HandlerRead (now (text .entry)) (meaningBy (now (text .entry)) (now (places .entry)) sorted (now (meanings .entry))) cells e at n (now (out .entry)) (now (out .exit)) r ⌝ }
     ensures { λ r. ⌜ PartWithin (length (now (text .entry))) at n r ⌝ }
     ensures { λ _. ⌜ length (now (out .exit)) ≡ length (now (out .entry)) ⌝ }
 {
@@ -153,8 +154,8 @@ fn body_at(
         text,
         next,
         places,
-        params,
-        firsts,
+        sorted,
+        meanings,
         cells,
         out,
         n + HANDLER_BYTES,
@@ -171,8 +172,8 @@ pub fn handlers_at(
     text: &[u8],
     at: usize,
     places: &[usize],
-    params: usize,
-    firsts: &[usize],
+    sorted: usize,
+    meanings: &[usize],
     cells: usize,
     events: &[usize],
     out: &mut [u8],
@@ -181,11 +182,11 @@ pub fn handlers_at(
     requires { ⌜ length (now text) ≤ 65536 ⌝ }
     requires { ⌜ at ≤ length (now text) ⌝ }
     requires { ⌜ n ≤ at * 16 ⌝ }
-    requires { ⌜ length (now places) ≤ 72 ⌝ }
-    requires { ⌜ All (λ i. i ≤ 64) (now firsts) ⌝ }
+    requires { ⌜ sorted ≤ length (now places) ⌝ }
+    requires { ⌜ All (λ m. m < 8320) (now meanings) ⌝ }
     requires { ⌜ length (now events) ≤ 32 ⌝ }
     requires { ⌜ length (now out) ≤ 8192 ⌝ }
-    ensures { λ r. ⌜ HandlersRead (now (text .entry)) (meaningIn (now (text .entry)) (now (places .entry)) params (now (firsts .entry))) cells (now (events .entry)) at n (now (out .entry)) (now (out .exit)) r ⌝ }
+    ensures { λ r. ⌜ HandlersRead (now (text .entry)) (meaningBy (now (text .entry)) (now (places .entry)) sorted (now (meanings .entry))) cells (now (events .entry)) at n (now (out .entry)) (now (out .exit)) r ⌝ }
     ensures { λ r. ⌜ PartWithin (length (now (text .entry))) at n r ⌝ }
     ensures { λ _. ⌜ length (now (out .exit)) ≡ length (now (out .entry)) ⌝ }
 {
@@ -202,7 +203,7 @@ pub fn handlers_at(
         let Due::Found(_, e, after) = event else {
             return Part::Fault(fault_of(event));
         };
-        let r = body_at(text, after, places, params, firsts, cells, e, out, end);
+        let r = body_at(text, after, places, sorted, meanings, cells, e, out, end);
         let Part::Done(to, stop, v) = r else {
             return r;
         };

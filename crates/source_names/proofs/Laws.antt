@@ -27,18 +27,18 @@ unfolding inWord isLetter isDigit
 zero-no-word = refl
 
 module _ (text : List ℕ) (i : ℕ) where
-  word-inside : inWord (getD text i 0) ≡ true → i < length text
+  pub word-inside : inWord (getD text i 0) ≡ true → i < length text
   word-inside e =
       split (ltb i (length text)) (λ t. ltb-true i (length text) t)
       (λ f.
       let l : length text ≤ i = ltb-false i (length text) f in
       absurd (true≢false (sym e ∙ ap inWord (List·getD-eq-default text 0 l) ∙ zero-no-word)))
 
-  name-goes : inWord (getD text i 0) ≡ true → nameAt text i ≡ getD text i 0 ∷ nameAt text (i + 1)
+  pub name-goes : inWord (getD text i 0) ≡ true → nameAt text i ≡ getD text i 0 ∷ nameAt text (i + 1)
   unfolding nameAt
   name-goes e = rw (add-one i) (run-here inWord text i (word-inside e) e)
 
-  name-stops : inWord (getD text i 0) ≡ false → nameAt text i ≡ []
+  pub name-stops : inWord (getD text i 0) ≡ false → nameAt text i ≡ []
   unfolding nameAt
   name-stops e =
       split (ltb i (length text)) (λ t. run-ends inWord text i (ltb-true i (length text) t) e)
@@ -61,11 +61,11 @@ module _ (text : List ℕ) (p : ℕ) where
   unfolding nameAt
   name-inside = omega (arith, run-short inWord (drop p text), length-drop p text)
 
-  in-name : (i : ℕ) → i < length (nameAt text p) → inWord (getD text (p + i) 0) ≡ true
+  pub in-name : (i : ℕ) → i < length (nameAt text p) → inWord (getD text (p + i) 0) ≡ true
   unfolding nameAt
   in-name i h = rw (getD-drop p text i 0) at (run-has (drop p text) i h)
 
-  behind-name : inWord (getD text (p + length (nameAt text p)) 0) ≡ false
+  pub behind-name : inWord (getD text (p + length (nameAt text p)) 0) ≡ false
   unfolding nameAt
   behind-name = rw (getD-drop p text (length (runOfKind inWord (drop p text))) 0) at (run-lacks (drop p text))
 

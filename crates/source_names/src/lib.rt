@@ -11,6 +11,7 @@ ghost use Rattle.source_language.specs.Tokens.{same};
 ghost use Rattle.source_language.specs.Limits.{among};
 ghost use Rattle.source_coding.specs.Places.{nameAt, namesHeld, indexIn};
 ghost use Rattle.source_names.specs.Bytes.{sameBytes};
+ghost use Rattle.source_names.specs.Search.{orderOfBytes, orderAt, seek, foundIn};
 
 // The bytes of a block: the most that a name has, else one.
 const LARGE: usize = 16;
@@ -19,8 +20,14 @@ const MIDDLE: usize = 8;
 
 const SMALL: usize = 4;
 
+// In the number that tells what a name means, so much stands for each cell that it has; a parameter has none.
+pub const CELL: usize = 128;
+
+// So many halves make one of all names.
+const STEPS: usize = 7;
+
 // How many bytes the name at a place has.
-fn name_size(text: &[u8], p: usize) -> usize
+pub fn name_size(text: &[u8], p: usize) -> usize
     ensures { λ r. ⌜ r ≡ length (nameAt (now (text .entry)) p) ⌝ }
 {
     if text.len() < p {
@@ -131,4 +138,91 @@ pub fn index_of(text: &[u8], p: usize, places: &[usize]) -> usize
         i = i + 1;
     }
     i
+}
+
+// How a name stands to another: names are in order by their first bytes that differ.
+pub enum Order {
+    Before,
+    Same,
+    Behind,
+}
+
+// A byte of a name and another one at the same place, where the other name may have ended.
+fn order_of(b: u8, c: u8) -> Order
+    ensures { λ r. ⌜ r ≡ orderOfBytes b c ⌝ }
+{
+    if in_word(c) {
+        if b < c {
+            return Order::Before;
+        }
+    }
+    Order::Behind
+}
+
+// How the name of n bytes at p stands to the one at q.
+pub fn order_at(text: &[u8], p: usize, n: usize, q: usize) -> Order
+    requires { ⌜ n ≡ length (nameAt (now text) p) ⌝ }
+    requires { ⌜ q ≤ length (now text) ⌝ }
+    ensures { λ r. ⌜ r ≡ orderAt (now (text .entry)) q (nameAt (now (text .entry)) p) ⌝ }
+{
+    let mut k = 0;
+    while k < n {
+        let b = text[p + k];
+        let c = byte_at(text, q + k);
+        if b != c {
+            return order_of(b, c);
+        }
+        k = k + 1;
+    }
+    if in_word(byte_at(text, q + n)) {
+        return Order::Before;
+    }
+    Order::Same
+}
+
+// Which of the first `top` names the one of n bytes at p is, where these are in order; `top` where it is not met.
+fn sought(text: &[u8], p: usize, n: usize, places: &[usize], top: usize) -> usize
+    requires { ⌜ n ≡ length (nameAt (now text) p) ⌝ }
+    requires { ⌜ top ≤ length (now places) ⌝ }
+    ensures { λ r. ⌜ r ≡ seek (now (text .entry)) (now (places .entry)) (nameAt (now (text .entry)) p) top 7 0 top ⌝ }
+{
+    let mut lo = 0;
+    let mut hi = top;
+    let mut steps = STEPS;
+    while 0 < steps {
+        if hi <= lo {
+            return top;
+        }
+        let mid = (lo + hi) / 2;
+        let q = places[mid];
+        if text.len() < q {
+            return top;
+        }
+        steps = steps - 1;
+        match order_at(text, p, n, q) {
+            Order::Before => {
+                hi = mid;
+            }
+            Order::Same => {
+                return mid;
+            }
+            Order::Behind => {
+                lo = mid + 1;
+            }
+        }
+    }
+    top
+}
+
+// Which of the names at these places is the one at p, from 0: the first `sorted`, which are in order, are searched by
+// halves, those behind them one after another. Their number where none is.
+pub fn found_in(text: &[u8], p: usize, places: &[usize], sorted: usize) -> usize
+    requires { ⌜ sorted ≤ length (now places) ⌝ }
+    ensures { λ r. ⌜ r ≡ foundIn (now (text .entry)) (now (places .entry)) sorted (nameAt (now (text .entry)) p) ⌝ }
+{
+    let k = sought(text, p, name_size(text, p), places, sorted);
+    if k < sorted {
+        return k;
+    }
+    sorted + index_of(text, p, &places[sorted..places.len()])
 }

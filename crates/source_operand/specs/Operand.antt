@@ -34,9 +34,9 @@ meantBy (Row i n) = aRow i n
 
 abbrev pub MeaningWithin : Meaning → Type 0
 MeaningWithin Nothing = Unit {0}
-MeaningWithin (Parameter i) = i < 72
-MeaningWithin (Behaviour i) = i ≤ 64
-MeaningWithin (Row i n) = (i ≤ 64) × (n ≤ 64)
+MeaningWithin (Parameter i) = i < 128
+MeaningWithin (Behaviour i) = i < 128
+MeaningWithin (Row i n) = (i < 128) × (n ≤ 64)
 
 -- a name's field by its tag and number, or its fault, is that of the expression x
 abbrev pub LeafAs : Leaf → OrFault Term → Type 0

@@ -11,7 +11,8 @@ use source_due::value_at;
 use source_field::Read;
 use source_field::put_constant;
 use source_field::put_named;
-use source_names::index_of;
+use source_names::CELL;
+use source_names::found_in;
 use source_tokens::Token;
 use source_tokens::pass_over;
 use source_tokens::token_at;
@@ -19,13 +20,14 @@ use spec_language::tags;
 use text_encode::CONSTANT_BYTES;
 use text_encode::NAME_BYTES;
 ghost use mathlib.Core.Path.{_≡_};
-ghost use Prim.Native.Nat.{ℕ, _≤_, _<_, _-_};
+ghost use Prim.Native.Nat.{ℕ, _≤_, _<_};
 ghost use mathlib.Core.List.{List};
 ghost use lib.ListN.{length, getD};
 ghost use Rattle.lib_base.specs.Basics.{All};
 ghost use Rattle.source_language.specs.Meaning.{NameMeaning, aRow, nameTerm, cellTerm};
 ghost use Rattle.source_language.specs.Reader.{readConstant, cellOf};
-ghost use Rattle.source_coding.specs.Places.{tokensFrom, nameAt, behaviourOrRow, meaningAt, meaningIn};
+ghost use Rattle.source_coding.specs.Places.{tokensFrom, nameAt, behaviourOrRow};
+ghost use Rattle.source_names.specs.Known.{numberMeans, meaningBy};
 ghost use Rattle.source_due.specs.Due.{DueWithin};
 ghost use Rattle.source_field.specs.Formula.{FormulaRead, FormulaWithin, FewerLeft, PartRead};
 ghost use Rattle.source_operand.specs.Operand.{meantBy, MeaningWithin, LeafAs, LeafWithin, leafDone, leafPlaced, CellDue, NoMoreLeft, plainOf, PlaceWithin, SettledRead};
@@ -44,58 +46,55 @@ pub enum Leaf {
     Unknown(u64),
 }
 
-// A number of a list; 0 past its end.
-fn number_at(list: &[usize], i: usize) -> usize
-    requires { ⌜ All (λ x. x ≤ 64) (now list) ⌝ }
-    ensures { λ r. ⌜ r ≡ getD (now (list .entry)) i 0 ⌝ }
-    ensures { λ r. ⌜ r ≤ 64 ⌝ }
+// The meaning at a place of the list; 0 past its end.
+fn number_at(meanings: &[usize], i: usize) -> usize
+    requires { ⌜ All (λ m. m < 8320) (now meanings) ⌝ }
+    ensures { λ r. ⌜ r ≡ getD (now (meanings .entry)) i 0 ⌝ }
+    ensures { λ r. ⌜ r < 8320 ⌝ }
 {
-    if i < list.len() {
-        return list[i];
+    if i < meanings.len() {
+        return meanings[i];
     }
     0
 }
 
-// The behaviour or row from a first cell to the next one's first.
-fn behaviour_or_row(first: usize, next: usize) -> Meaning
-    requires { ⌜ first ≤ 64 ⌝ }
-    requires { ⌜ next ≤ 64 ⌝ }
-    ensures { λ r. ⌜ meantBy r ≡ behaviourOrRow first (next - first) ⌝ }
+// The behaviour or row from a first cell on, by how many cells it has.
+fn behaviour_or_row(first: usize, cells: usize) -> Meaning
+    requires { ⌜ first < 128 ⌝ }
+    requires { ⌜ cells ≤ 64 ⌝ }
+    ensures { λ r. ⌜ meantBy r ≡ behaviourOrRow first cells ⌝ }
     ensures { λ r. ⌜ MeaningWithin r ⌝ }
 {
-    if next < first + 2 {
+    if cells < 2 {
         return Meaning::Behaviour(first);
     }
-    Meaning::Row(first, next - first)
+    Meaning::Row(first, cells)
 }
 
-// What the j-th name means.
-fn meaning_at(j: usize, params: usize, firsts: &[usize]) -> Meaning
-    requires { ⌜ j < 72 ⌝ }
-    requires { ⌜ All (λ x. x ≤ 64) (now firsts) ⌝ }
-    ensures { λ r. ⌜ meantBy r ≡ meaningAt params (now (firsts .entry)) j ⌝ }
+// What a name means, by the number beside its place.
+fn meaning_at(number: usize) -> Meaning
+    requires { ⌜ number < 8320 ⌝ }
+    ensures { λ r. ⌜ meantBy r ≡ numberMeans number ⌝ }
     ensures { λ r. ⌜ MeaningWithin r ⌝ }
 {
-    if j < params {
-        return Meaning::Parameter(j);
+    if number < CELL {
+        return Meaning::Parameter(number);
     }
-    let first = number_at(firsts, j - params);
-    let next = number_at(firsts, j - params + 1);
-    behaviour_or_row(first, next)
+    behaviour_or_row(number % CELL, number / CELL)
 }
 
 // What the name at a place means.
-fn meaning_of(text: &[u8], p: usize, places: &[usize], params: usize, firsts: &[usize]) -> Meaning
-    requires { ⌜ length (now places) ≤ 72 ⌝ }
-    requires { ⌜ All (λ x. x ≤ 64) (now firsts) ⌝ }
-    ensures { λ r. ⌜ meantBy r ≡ meaningIn (now (text .entry)) (now (places .entry)) params (now (firsts .entry)) (nameAt (now (text .entry)) p) ⌝ }
+fn meaning_of(text: &[u8], p: usize, places: &[usize], sorted: usize, meanings: &[usize]) -> Meaning
+    requires { ⌜ sorted ≤ length (now places) ⌝ }
+    requires { ⌜ All (λ m. m < 8320) (now meanings) ⌝ }
+    ensures { λ r. ⌜ meantBy r ≡ meaningBy (now (text .entry)) (now (places .entry)) sorted (now (meanings .entry)) (nameAt (now (text .entry)) p) ⌝ }
     ensures { λ r. ⌜ MeaningWithin r ⌝ }
 {
-    let j = index_of(text, p, places);
+    let j = found_in(text, p, places, sorted);
     if places.len() <= j {
         return Meaning::Nothing;
     }
-    meaning_at(j, params, firsts)
+    meaning_at(number_at(meanings, j))
 }
 
 // The field of a name at p.
@@ -116,7 +115,7 @@ fn name_leaf(meaning: Meaning, p: usize) -> Leaf
 // The field of cell k of the row of n cells from behaviour i on, in a handler of a row of so many cells, else of 0;
 // `[` is at q.
 fn row_cell(i: usize, n: usize, k: usize, q: usize, cells: usize) -> Leaf
-    requires { ⌜ i ≤ 64 ⌝ }
+    requires { ⌜ i < 128 ⌝ }
     requires { ⌜ n ≤ 64 ⌝ }
     requires { ⌜ q ≤ 65536 ⌝ }
     ensures { λ r. ⌜ LeafAs r (cellTerm cells 0 q k (aRow i n)) ⌝ }
@@ -190,8 +189,8 @@ fn named_at(
     p: usize,
     next: usize,
     places: &[usize],
-    params: usize,
-    firsts: &[usize],
+    sorted: usize,
+    meanings: &[usize],
     cells: usize,
     out: &mut [u8],
     n: usize,
@@ -200,14 +199,14 @@ fn named_at(
     requires { ⌜ p < next ⌝ }
     requires { ⌜ next ≤ length (now text) ⌝ }
     requires { ⌜ n ≤ 2097152 ⌝ }
-    requires { ⌜ length (now places) ≤ 72 ⌝ }
-    requires { ⌜ All (λ x. x ≤ 64) (now firsts) ⌝ }
-    ensures { λ r. ⌜ FormulaRead (now (text .entry)) (meaningIn (now (text .entry)) (now (places .entry)) params (now (firsts .entry))) cells n (now (out .entry)) (now (out .exit)) r (cellOf p (nameAt (now (text .entry)) p) (tokensFrom (now (text .entry)) next)) ⌝ }
+    requires { ⌜ sorted ≤ length (now places) ⌝ }
+    requires { ⌜ All (λ m. m < 8320) (now meanings) ⌝ }
+    ensures { λ r. ⌜ FormulaRead (now (text .entry)) (meaningBy (now (text .entry)) (now (places .entry)) sorted (now (meanings .entry))) cells n (now (out .entry)) (now (out .exit)) r (cellOf p (nameAt (now (text .entry)) p) (tokensFrom (now (text .entry)) next)) ⌝ }
     ensures { λ r. ⌜ FormulaWithin (length (now (text .entry))) 1 p n r ⌝ }
     ensures { λ r. ⌜ NoMoreLeft (now (text .entry)) next r ⌝ }
     ensures { λ _. ⌜ length (now (out .exit)) ≡ length (now (out .entry)) ⌝ }
 {
-    let meaning = meaning_of(text, p, places, params, firsts);
+    let meaning = meaning_of(text, p, places, sorted, meanings);
     let bracket = sign_due(text, next, signs::BRACKET);
     let Due::Found(q, c, inside) = bracket else {
         return put_leaf(next, name_leaf(meaning, p), out, n);
@@ -242,8 +241,8 @@ fn leaf_at(
     text: &[u8],
     at: usize,
     places: &[usize],
-    params: usize,
-    firsts: &[usize],
+    sorted: usize,
+    meanings: &[usize],
     cells: usize,
     out: &mut [u8],
     n: usize,
@@ -251,13 +250,13 @@ fn leaf_at(
     requires { ⌜ length (now text) ≤ 65536 ⌝ }
     requires { ⌜ at ≤ length (now text) ⌝ }
     requires { ⌜ n ≤ 2097152 ⌝ }
-    requires { ⌜ length (now places) ≤ 72 ⌝ }
-    requires { ⌜ All (λ x. x ≤ 64) (now firsts) ⌝ }
-    ensures { λ r. ⌜ PartRead (now (text .entry)) (meaningIn (now (text .entry)) (now (places .entry)) params (now (firsts .entry))) cells 1 at n (now (out .entry)) (now (out .exit)) r (plainOf (tokensFrom (now (text .entry)) at)) ⌝ }
+    requires { ⌜ sorted ≤ length (now places) ⌝ }
+    requires { ⌜ All (λ m. m < 8320) (now meanings) ⌝ }
+    ensures { λ r. ⌜ PartRead (now (text .entry)) (meaningBy (now (text .entry)) (now (places .entry)) sorted (now (meanings .entry))) cells 1 at n (now (out .entry)) (now (out .exit)) r (plainOf (tokensFrom (now (text .entry)) at)) ⌝ }
 {
     match token_at(text, at) {
         Token::Number(p, v, next) => constant_at(text, at, out, n),
-        Token::Name(p, next) => named_at(text, p, next, places, params, firsts, cells, out, n),
+        Token::Name(p, next) => named_at(text, p, next, places, sorted, meanings, cells, out, n),
         Token::Sign(p, c, next) => constant_at(text, at, out, n),
     }
 }
@@ -279,8 +278,8 @@ pub fn plain_at(
     text: &[u8],
     at: usize,
     places: &[usize],
-    params: usize,
-    firsts: &[usize],
+    sorted: usize,
+    meanings: &[usize],
     cells: usize,
     out: &mut [u8],
     n: usize,
@@ -288,10 +287,10 @@ pub fn plain_at(
     requires { ⌜ length (now text) ≤ 65536 ⌝ }
     requires { ⌜ at ≤ length (now text) ⌝ }
     requires { ⌜ n ≤ 2097152 ⌝ }
-    requires { ⌜ length (now places) ≤ 72 ⌝ }
-    requires { ⌜ All (λ x. x ≤ 64) (now firsts) ⌝ }
-    ensures { λ r. ⌜ PartRead (now (text .entry)) (meaningIn (now (text .entry)) (now (places .entry)) params (now (firsts .entry))) cells 1 at n (now (out .entry)) (now (out .exit)) r (plainOf (tokensFrom (now (text .entry)) at)) ⌝ }
+    requires { ⌜ sorted ≤ length (now places) ⌝ }
+    requires { ⌜ All (λ m. m < 8320) (now meanings) ⌝ }
+    ensures { λ r. ⌜ PartRead (now (text .entry)) (meaningBy (now (text .entry)) (now (places .entry)) sorted (now (meanings .entry))) cells 1 at n (now (out .entry)) (now (out .exit)) r (plainOf (tokensFrom (now (text .entry)) at)) ⌝ }
 {
-    let r = leaf_at(text, at, places, params, firsts, cells, out, n);
+    let r = leaf_at(text, at, places, sorted, meanings, cells, out, n);
     settled(text, r)
 }

@@ -3,7 +3,7 @@
 use mathlib.Core.Path.{refl}
 use native.Mathlib.Omega.{arith}
 use borrow.Author.Needs.{needs}
-use Rattle.source_assemble.proofs.Answers.{zeros-low, none-usable, long-answer, names-left, fault-found}
+use Rattle.source_assemble.proofs.Answers.{zeros-low, none-known, long-answer, names-left, fault-found}
 use Rattle.source_assemble.proofs.assemble_at.Statement.{statement}
 use Rattle.source_assemble.proofs.assemble_at.Tie as tie
 
@@ -45,7 +45,7 @@ part-nothing-end c = search needs
 read-at-requires : tie.Need-read-at-requires
 read-at-requires c κs =
     let at-if1 = c .before .before .before .before .before .before in
-    (at-if1 .if1 .left, (none-usable, (refl, ((refl, zeros-low 65), omega arith))))
+    (at-if1 .if1 .left, (none-known, (refl, ((refl, zeros-low 65), omega arith))))
 
 enum-known-r : tie.Need-enum-known-r
 enum-known-r c = search needs

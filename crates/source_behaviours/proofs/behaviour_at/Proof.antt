@@ -4,7 +4,7 @@ use Rattle.source_behaviours.specs.Behaviours.{refusedPart}
 use Rattle.source_declarations.specs.Written.{dueFault}
 use mathlib.Core.Path.{ap, _∙_}
 use native.Mathlib.Omega.{arith}
-use Rattle.source_coding.specs.Places.{meaningIn}
+use Rattle.source_names.specs.Known.{meaningBy}
 use borrow.Author.Needs.{needs}
 use Rattle.source_behaviours.proofs.behaviour_at.Statement.{statement}
 use Rattle.source_behaviours.proofs.behaviour_at.Tie as tie
@@ -17,7 +17,7 @@ returns c =
     let x1 = c .before in
     let x8 = x1 .before .before .before .before .before .before .before in
     let a = x8 .args in
-    (behaviour-over (a .text .now) (meaningIn (a .text .now) (a .places .now) (a .params) (a .firsts .now)) (a .events .now) (a .names .now) (a .count) (a .i) (a .q) (a .word) (a .at) (a .n) (a .out .now) _ _ (x1 .if1 .taken) (c .fault-word .ensures), (tt, search needs))
+    (behaviour-over (a .text .now) (meaningBy (a .text .now) (a .places .now) (a .sorted) (a .meanings .now)) (a .events .now) (a .names .now) (a .count) (a .i) (a .q) (a .word) (a .at) (a .n) (a .out .now) _ _ (x1 .if1 .taken) (c .fault-word .ensures), (tt, search needs))
 
 name-at-requires : tie.Need-name-at-requires
 name-at-requires c κs = search needs
@@ -40,7 +40,7 @@ returns-2 c =
     let a = x11 .args in
     let e = x1 .enum-told .given .1 in
     let h = rw e at (x3 .name-at .ensures .0) in
-    rw (c .fault-of .ensures ∙ ap dueFault e) (behaviour-unnamed (a .text .now) (meaningIn (a .text .now) (a .places .now) (a .params) (a .firsts .now)) (a .events .now) (a .names .now) (a .count) (a .i) (a .q) (a .word) (a .at) (a .n) (a .out .now) _ (omega (arith, x4 .if1 .left)) _ h, (tt, search needs))
+    rw (c .fault-of .ensures ∙ ap dueFault e) (behaviour-unnamed (a .text .now) (meaningBy (a .text .now) (a .places .now) (a .sorted) (a .meanings .now)) (a .events .now) (a .names .now) (a .count) (a .i) (a .q) (a .word) (a .at) (a .n) (a .out .now) _ (omega (arith, x4 .if1 .left)) _ h, (tt, search needs))
 
 cells-at-requires : tie.Need-cells-at-requires
 cells-at-requires c κs =
@@ -72,7 +72,7 @@ returns-3 c =
     let e = x1 .enum-told2 .given .1 in
     let g = rw (x5 .name .given .1) at (x7 .name-at .ensures .0) in
     let h = rw e at (x3 .cells-at .ensures .0) in
-    rw (c .fault-of2 .ensures ∙ ap dueFault e) (behaviour-uncounted (a .text .now) (meaningIn (a .text .now) (a .places .now) (a .params) (a .firsts .now)) (a .events .now) (a .names .now) (a .count) (a .i) (a .q) (a .word) (a .at) (a .n) (a .out .now) _ (omega (arith, x8 .if1 .left)) _ _ _ g _ h, (tt, search needs))
+    rw (c .fault-of2 .ensures ∙ ap dueFault e) (behaviour-uncounted (a .text .now) (meaningBy (a .text .now) (a .places .now) (a .sorted) (a .meanings .now)) (a .events .now) (a .names .now) (a .count) (a .i) (a .q) (a .word) (a .at) (a .n) (a .out .now) _ (omega (arith, x8 .if1 .left)) _ _ _ g _ h, (tt, search needs))
 
 kind-at-requires : tie.Need-kind-at-requires
 kind-at-requires c κs =
@@ -114,7 +114,7 @@ returns-4 c =
     let g = rw (x12 .name .given .1) at (x14 .name-at .ensures .0) in
     let h = rw (x8 .counted .given .1) at (x10 .cells-at .ensures .0) in
     let k = rw e at (x5 .kind-at .ensures .0) in
-    rw (c .refused-part .ensures ∙ ap refusedPart e) (behaviour-refused (a .text .now) (meaningIn (a .text .now) (a .places .now) (a .params) (a .firsts .now)) (a .events .now) (a .names .now) (a .count) (a .i) (a .q) (a .word) (a .at) (a .n) (a .out .now) _ (omega (arith, x15 .if1 .left)) _ _ _ g _ _ _ h _ k, (tt, x5 .kind-at .ensures .1 .1))
+    rw (c .refused-part .ensures ∙ ap refusedPart e) (behaviour-refused (a .text .now) (meaningBy (a .text .now) (a .places .now) (a .sorted) (a .meanings .now)) (a .events .now) (a .names .now) (a .count) (a .i) (a .q) (a .word) (a .at) (a .n) (a .out .now) _ (omega (arith, x15 .if1 .left)) _ _ _ g _ _ _ h _ k, (tt, x5 .kind-at .ensures .1 .1))
 
 numbers-of-requires : tie.Need-numbers-of-requires
 numbers-of-requires c κs =
@@ -144,7 +144,7 @@ returns-5 c =
     let k = rw (x2 .r .given .1) at (x6 .kind-at .ensures .0) in
     let m = rw (x2 .r .given .1) at (x6 .kind-at .ensures .1 .0) in
     let b = numbers-within (a .i) _ (omega (arith, x16 .if1 .left)) (j .3) in
-    rw (c .numbers-of .ensures) (behaviour-done (a .text .now) (meaningIn (a .text .now) (a .places .now) (a .params) (a .firsts .now)) (a .events .now) (a .names .now) (a .count) (a .i) (a .q) (a .word) (a .at) (a .n) (a .out .now) _ (omega (arith, x16 .if1 .left)) _ _ _ g _ _ _ h _ _ _ k, (omega arith, x6 .kind-at .ensures .1 .1))
+    rw (c .numbers-of .ensures) (behaviour-done (a .text .now) (meaningBy (a .text .now) (a .places .now) (a .sorted) (a .meanings .now)) (a .events .now) (a .names .now) (a .count) (a .i) (a .q) (a .word) (a .at) (a .n) (a .out .now) _ (omega (arith, x16 .if1 .left)) _ _ _ g _ _ _ h _ _ _ k, (omega arith, x6 .kind-at .ensures .1 .1))
 
 pub behaviour-at-spec : {M : Type 1} → statement M
 behaviour-at-spec =

@@ -3,7 +3,7 @@ use Rattle.source_behaviours.proofs.Loop.{Turn, turn-start, turn-over, 
 use Rattle.source_behaviours.specs.Behaviours.{refusedBehaviour}
 use mathlib.Core.Path.{ap, _∙_}
 use native.Mathlib.Omega.{arith}
-use Rattle.source_coding.specs.Places.{meaningIn}
+use Rattle.source_names.specs.Known.{meaningBy}
 use Prim.Native.Nat.{_-_}
 use borrow.Author.Needs.{needs}
 use lib.ListN.{length}
@@ -11,11 +11,11 @@ use Rattle.source_behaviours.proofs.behaviours_at.Statement.{statement}
 use Rattle.source_behaviours.proofs.behaviours_at.Tie as tie
 
 abbrev Inv-loop : tie.InvT-loop
-Inv-loop text at places params firsts events names₀ taken starts₀ out₀ n f₀ count₀ i₀ end₀ w₀ names starts out f count i end w =
-    Turn text (meaningIn text places params firsts) events at n out₀ names₀ taken names starts out f count i end w
+Inv-loop text at places sorted meanings events names₀ taken starts₀ out₀ n f₀ count₀ i₀ end₀ w₀ names starts out f count i end w =
+    Turn text (meaningBy text places sorted meanings) events at n out₀ names₀ taken names starts out f count i end w
 
 abbrev μ-loop : tie.MeasureT-loop
-μ-loop text at places params firsts events names₀ taken starts₀ out₀ n f₀ count₀ i₀ end₀ w₀ names starts out f count i end w =
+μ-loop text at places sorted meanings events names₀ taken starts₀ out₀ n f₀ count₀ i₀ end₀ w₀ names starts out f count i end w =
     length text - f
 
 slice-write-starts : tie.Need-slice-write-starts Inv-loop μ-loop
@@ -28,7 +28,7 @@ loop-holds c =
     let x7 = c .before .before .before .before .before .before .before in
     let a = x7 .args in
     let p = x7 .pre in
-    turn-start (a .text .now) (meaningIn (a .text .now) (a .places .now) (a .params) (a .firsts .now)) (a .events .now) (a .at) (a .n) (a .out .now) (a .names .now) (a .taken) (a .starts .now) (p .1 .0) (p .1 .1 .1 .1 .1 .1 .0) (p .1 .1 .1 .1 .1 .1 .1 .0) (p .1 .1 .1 .1 .1 .1 .1 .1 .0 .0) (p .1 .1 .1 .1 .1 .1 .1 .1 .0 .1)
+    turn-start (a .text .now) (meaningBy (a .text .now) (a .places .now) (a .sorted) (a .meanings .now)) (a .events .now) (a .at) (a .n) (a .out .now) (a .names .now) (a .taken) (a .starts .now) (p .1 .0) (p .1 .1 .1 .1 .1 .1 .0) (p .1 .1 .1 .1 .1 .1 .1 .0) (p .1 .1 .1 .1 .1 .1 .1 .1 .0 .0) (p .1 .1 .1 .1 .1 .1 .1 .1 .0 .1)
 
 word-at-requires : tie.Need-word-at-requires Inv-loop μ-loop
 word-at-requires c κs =
@@ -59,7 +59,7 @@ returns c =
     let t = x3 .loop .inv in
     let l = x11 .pre .1 .1 .0 in
     let h = rw (c .enum-told .given .1) at (x2 .word-at .ensures .0) in
-    (turn-over (a .text .now) (meaningIn (a .text .now) (a .places .now) (a .params) (a .firsts .now)) (a .events .now) (a .at) (a .n) (a .out .now) (a .names .now) (a .taken) t h, (omega (arith, t .inside, t .rising, t .bounded, t .some, t .few, t .room), (t .names-all, ((t .starts-all, t .low), t .kept))))
+    (turn-over (a .text .now) (meaningBy (a .text .now) (a .places .now) (a .sorted) (a .meanings .now)) (a .events .now) (a .at) (a .n) (a .out .now) (a .names .now) (a .taken) t h, (omega (arith, t .inside, t .rising, t .bounded, t .some, t .few, t .room), (t .names-all, ((t .starts-all, t .low), t .kept))))
 
 behaviour-at-requires : tie.Need-behaviour-at-requires Inv-loop μ-loop
 behaviour-at-requires c κs =
@@ -114,7 +114,7 @@ returns-2 c =
     let e = x1 .enum-told2 .given .1 in
     let h = rw (x9 .first .given .1) at (x11 .word-at .ensures .0) in
     let b = rw e at (x5 .behaviour-at .ensures .0) in
-    rw (c .refused-behaviour .ensures ∙ ap refusedBehaviour e) (turn-fault (a .text .now) (meaningIn (a .text .now) (a .places .now) (a .params) (a .firsts .now)) (a .events .now) (a .at) (a .n) (a .out .now) (a .names .now) (a .taken) t _ _ _ (h .0) (h .1) _ _ _ _ b, (tt, (t .names-all, ((t .starts-all, t .low), x5 .behaviour-at .ensures .1 .1 ∙ t .kept))))
+    rw (c .refused-behaviour .ensures ∙ ap refusedBehaviour e) (turn-fault (a .text .now) (meaningBy (a .text .now) (a .places .now) (a .sorted) (a .meanings .now)) (a .events .now) (a .at) (a .n) (a .out .now) (a .names .now) (a .taken) t _ _ _ (h .0) (h .1) _ _ _ _ b, (tt, (t .names-all, ((t .starts-all, t .low), x5 .behaviour-at .ensures .1 .1 ∙ t .kept))))
 
 mul-names : tie.Need-mul-names Inv-loop μ-loop
 mul-names c =
@@ -198,7 +198,7 @@ loop-again c =
     let g = rw (x10 .first .given .1) at (x12 .word-at .ensures .1) in
     let b = rw (x2 .b .given .1) at (x6 .behaviour-at .ensures .0) in
     let k = rw (x2 .b .given .1) at (x6 .behaviour-at .ensures .1 .0) in
-    rw (c .first-fault .ensures) (turn-on (a .text .now) (meaningIn (a .text .now) (a .places .now) (a .params) (a .firsts .now)) (a .events .now) (a .at) (a .n) (a .out .now) (a .names .now) (a .taken) t _ _ _ (h .0) (h .1) _ _ _ _ _ _ b (k .2) (omega arith) (k .1) (omega arith) (k .4) (k .5) (x6 .behaviour-at .ensures .1 .1))
+    rw (c .first-fault .ensures) (turn-on (a .text .now) (meaningBy (a .text .now) (a .places .now) (a .sorted) (a .meanings .now)) (a .events .now) (a .at) (a .n) (a .out .now) (a .names .now) (a .taken) t _ _ _ (h .0) (h .1) _ _ _ _ _ _ b (k .2) (omega arith) (k .1) (omega arith) (k .4) (k .5) (x6 .behaviour-at .ensures .1 .1))
 
 pub behaviours-at-spec : {M : Type 1} → statement M
 behaviours-at-spec =

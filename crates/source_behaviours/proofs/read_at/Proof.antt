@@ -4,7 +4,8 @@ use Rattle.source_behaviours.proofs.Whole.{parameters-fail, events-fail
 use Rattle.source_behaviours.specs.Behaviours.{refusedDeclared, refusedBehaviours}
 use mathlib.Core.Path.{ap, _∙_}
 use native.Mathlib.Omega.{arith}
-use Rattle.source_coding.specs.Places.{meaningIn, tokensFrom}
+use Rattle.source_coding.specs.Places.{tokensFrom}
+use Rattle.source_names.specs.Known.{meaningBy}
 use Rattle.source_declarations.specs.Declarations.{parametersDeclared, eventsDeclared}
 use borrow.Author.Needs.{needs}
 use Rattle.source_behaviours.proofs.read_at.Statement.{statement}
@@ -33,7 +34,7 @@ returns c =
     let a = x13 .args in
     let e = x1 .enum-told .given .1 in
     let h = rw e at (x5 .parameters-at .ensures .0) in
-    rw (c .refused-declared .ensures ∙ ap refusedDeclared e) (parameters-fail (a .text .now) (meaningIn (a .text .now) (a .places .now) (a .params) (a .firsts .now)) (a .out .now) _ _ _ _ _ h, (tt, (x5 .parameters-at .ensures .1 .1, (x13 .pre .1 .1 .1 .0 .0, search needs))))
+    rw (c .refused-declared .ensures ∙ ap refusedDeclared e) (parameters-fail (a .text .now) (meaningBy (a .text .now) (a .places .now) (a .sorted) (a .meanings .now)) (a .out .now) _ _ _ _ _ h, (tt, (x5 .parameters-at .ensures .1 .1, (x13 .pre .1 .1 .1 .0 .0, search needs))))
 
 slice-aggregate-events-at : tie.Need-slice-aggregate-events-at
 slice-aggregate-events-at c = search needs
@@ -74,7 +75,7 @@ returns-2 c =
     let g = rw (x10 .first .given .1) at (x14 .parameters-at .ensures .0) in
     let h = rw e at (x6 .events-at .ensures .0) in
     rw (c .refused-declared2 .ensures ∙ ap refusedDeclared e) (
-      events-fail (a .text .now) (meaningIn (a .text .now) (a .places .now) (a .params) (a .firsts .now))
+      events-fail (a .text .now) (meaningBy (a .text .now) (a .places .now) (a .sorted) (a .meanings .now))
           (a .out .now) _ _ _ _ _ _ _ g _ _ _ _ h,
       (tt, (x14 .parameters-at .ensures .1 .1, (x22 .pre .1 .1 .1 .0 .0, x6 .events-at .ensures .1 .1 .1))),
     )
@@ -114,7 +115,7 @@ behaviours-at-requires c κs =
         (
           g .2,
           (
-            omega (arith, u .few-parameters, u .few-names),
+            u .some-sorted,
             (
               u .low,
               (
@@ -168,7 +169,7 @@ returns-3 c =
     let k = rw e at (x9 .behaviours-at .ensures .0) in
     let f = parameters-few (a .text .now) (x29 .parameters-at .last .1 .1 .0) (x25 .first .given .0 .0) (x25 .first .given .0 .1 .0) (x25 .first .given .0 .1 .1 .0) (parametersDeclared (tokensFrom (a .text .now) 0)) g in
     rw (c .refused-behaviours .ensures ∙ ap refusedBehaviours e) (
-      behaviours-fail (a .text .now) (meaningIn (a .text .now) (a .places .now) (a .params) (a .firsts .now))
+      behaviours-fail (a .text .now) (meaningBy (a .text .now) (a .places .now) (a .sorted) (a .meanings .now))
           (a .out .now) _ _ _ _ _ _ _ g _ _ _ _ _ h (omega (arith, x29 .parameters-at .ensures .1 .1)) _ (front-of (x16 .second .given .0 .1 .0)
           (x21 .events-at .last .1 .1 .0)) _ _ _ k,
       (tt, (x9 .behaviours-at .ensures .1 .1 .0, (x9 .behaviours-at .ensures .1 .1 .1 .0 .0, x9 .behaviours-at .ensures .1 .1 .1 .1 ∙ x21 .events-at .ensures .1 .1 .1))),
@@ -216,7 +217,7 @@ returns-4 c =
     let h = rw (x18 .second .given .1) at (x23 .events-at .ensures .0) in
     let k = rw (x3 .third .given .1) at (x11 .behaviours-at .ensures .0) in
     let f = parameters-few (a .text .now) (x31 .parameters-at .last .1 .1 .0) (x27 .first .given .0 .0) (x27 .first .given .0 .1 .0) (x27 .first .given .0 .1 .1 .0) (parametersDeclared (tokensFrom (a .text .now) 0)) g in (
-      end-fails (a .text .now) (meaningIn (a .text .now) (a .places .now) (a .params) (a .firsts .now)) (a .out .now) _ _ _ _ _ _ _ g _ _ _ _ _ h (omega (arith, x31 .parameters-at .ensures .1 .1)) _ (front-of (x18 .second .given .0 .1 .0) (x23 .events-at .last .1 .1 .0)) _ _ _ _ k _ (c .if1 .taken)
+      end-fails (a .text .now) (meaningBy (a .text .now) (a .places .now) (a .sorted) (a .meanings .now)) (a .out .now) _ _ _ _ _ _ _ g _ _ _ _ _ h (omega (arith, x31 .parameters-at .ensures .1 .1)) _ (front-of (x18 .second .given .0 .1 .0) (x23 .events-at .last .1 .1 .0)) _ _ _ _ k _ (c .if1 .taken)
           (x1 .end-fault .ensures),
       (tt, (x11 .behaviours-at .ensures .1 .1 .0, (x11 .behaviours-at .ensures .1 .1 .1 .0 .0, x11 .behaviours-at .ensures .1 .1 .1 .1 ∙ x23 .events-at .ensures .1 .1 .1))),
     )
@@ -255,7 +256,7 @@ returns-5 c =
     let m = rw (x3 .third .given .1) at (b .1 .0) in
     let f = parameters-few (a .text .now) (x31 .parameters-at .last .1 .1 .0) (x27 .first .given .0 .0) (x27 .first .given .0 .1 .0) (x27 .first .given .0 .1 .1 .0) (parametersDeclared (tokensFrom (a .text .now) 0)) g in
     let z = rw (c .if1 .left) at (x1 .end-fault .ensures) in (
-      text-read (a .text .now) (meaningIn (a .text .now) (a .places .now) (a .params) (a .firsts .now)) (a .out .now) _ _ _ _ _ _ _ g _ _ _ _ _ h (omega (arith, x31 .parameters-at .ensures .1 .1)) _ (front-of (x18 .second .given .0 .1 .0)
+      text-read (a .text .now) (meaningBy (a .text .now) (a .places .now) (a .sorted) (a .meanings .now)) (a .out .now) _ _ _ _ _ _ _ g _ _ _ _ _ h (omega (arith, x31 .parameters-at .ensures .1 .1)) _ (front-of (x18 .second .given .0 .1 .0)
           (x23 .events-at .last .1 .1 .0)) _ _ _ _ k z (x23 .events-at .ensures .1 .1 .1) (b .1 .1 .0) (b .1 .1 .1 .0 .0) (b .1 .1 .1 .0 .1) (m .3) (m .4),
       (omega arith, (b .1 .1 .0, (b .1 .1 .1 .0 .0, b .1 .1 .1 .1 ∙ x23 .events-at .ensures .1 .1 .1))),
     )

@@ -9,7 +9,7 @@ use lib.Seq.{length-sets}
 use lib.ListN.{length}
 use mathlib.Core.Path.{ap, _∙_}
 use native.Mathlib.Omega.{arith}
-use Rattle.source_coding.specs.Places.{meaningIn}
+use Rattle.source_names.specs.Known.{meaningBy}
 use borrow.Author.Needs.{needs}
 use Rattle.source_body.proofs.passive_at.Statement.{statement}
 use Rattle.source_body.proofs.passive_at.Tie as tie
@@ -34,7 +34,7 @@ returns c =
     let a = x8 .args in
     let e = x1 .enum-told .given .1 in
     let h = rw e at (x3 .sign-due .ensures .0) in
-    rw (c .fault-of .ensures ∙ ap dueFault e) (passive-unsigned (a .text .now) (meaningIn (a .text .now) (a .places .now) (a .params) (a .firsts .now)) (a .at) (a .n) (a .out .now) _ _ h, (tt, search needs))
+    rw (c .fault-of .ensures ∙ ap dueFault e) (passive-unsigned (a .text .now) (meaningBy (a .text .now) (a .places .now) (a .sorted) (a .meanings .now)) (a .at) (a .n) (a .out .now) _ _ h, (tt, search needs))
 
 add-formula-at : tie.Need-add-formula-at
 add-formula-at c = search needs
@@ -72,7 +72,7 @@ returns-2 c =
     let e = x1 .enum-told2 .given .1 in
     let h = rw (x8 .d .given .1) at (x10 .sign-due .ensures .0) in
     let f = rw e at (x5 .formula-at .ensures .0) in
-    rw (c .refused-formula .ensures ∙ ap refusedRead e) (passive-formula (a .text .now) (meaningIn (a .text .now) (a .places .now) (a .params) (a .firsts .now)) (a .at) (a .n) (a .out .now) _ _ h _ _ _ _ _ f, (tt, x5 .formula-at .ensures .1 .1 .1))
+    rw (c .refused-formula .ensures ∙ ap refusedRead e) (passive-formula (a .text .now) (meaningBy (a .text .now) (a .places .now) (a .sorted) (a .meanings .now)) (a .at) (a .n) (a .out .now) _ _ h _ _ _ _ _ f, (tt, x5 .formula-at .ensures .1 .1 .1))
 
 seen-at-requires : tie.Need-seen-at-requires
 seen-at-requires c κs =
@@ -109,7 +109,7 @@ returns-3 c =
     let h = rw (x12 .d .given .1) at (x14 .sign-due .ensures .0) in
     let f = rw (x5 .r .given .1) at (x9 .formula-at .ensures .0) in
     let g = rw e at (x3 .seen-at .ensures .0) in
-    rw (c .refused-rights .ensures ∙ ap refusedRights e) (passive-unseen (a .text .now) (meaningIn (a .text .now) (a .places .now) (a .params) (a .firsts .now)) (a .at) (a .n) (a .out .now) _ _ h _ _ _ _ _ f _ _ g, (tt, x9 .formula-at .ensures .1 .1 .1))
+    rw (c .refused-rights .ensures ∙ ap refusedRights e) (passive-unseen (a .text .now) (meaningBy (a .text .now) (a .places .now) (a .sorted) (a .meanings .now)) (a .at) (a .n) (a .out .now) _ _ h _ _ _ _ _ f _ _ g, (tt, x9 .formula-at .ensures .1 .1 .1))
 
 put-viewer-requires : tie.Need-put-viewer-requires
 put-viewer-requires c κs =
@@ -158,7 +158,7 @@ returns-4 c =
     let i = rw (x9 .s .given .1) at (x11 .seen-at .ensures .1) in
     let l = x17 .formula-at .ensures .1 .1 .1 in
     rw (x2 .put-head .ensures, x6 .put-viewer .ensures .1) (
-      passive-done (a .text .now) (meaningIn (a .text .now) (a .places .now) (a .params) (a .firsts .now)) (a .at) (a .n) (a .out .now) _ _ d _ _ _ _ _ f _ _ _ h l (x27 .pre .1 .1 .1 .1 .1) (x6 .put-viewer .ensures .0),
+      passive-done (a .text .now) (meaningBy (a .text .now) (a .places .now) (a .sorted) (a .meanings .now)) (a .at) (a .n) (a .out .now) _ _ d _ _ _ _ _ f _ _ _ h l (x27 .pre .1 .1 .1 .1 .1) (x6 .put-viewer .ensures .0),
       (omega (arith, viewer-few (x9 .s .given .0 .1 .0), x6 .put-viewer .ensures .0), headed-long 2 _ _ _ ∙ length-sets _ _ (viewerBytes (x9 .s .given .0 .1 .0)) ∙ l),
     )
 

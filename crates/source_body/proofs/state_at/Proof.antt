@@ -4,7 +4,7 @@ use Rattle.source_body.specs.Body.{refusedRights}
 use Rattle.source_declarations.specs.Written.{dueFault}
 use mathlib.Core.Path.{ap, _∙_}
 use native.Mathlib.Omega.{arith}
-use Rattle.source_coding.specs.Places.{meaningIn}
+use Rattle.source_names.specs.Known.{meaningBy}
 use borrow.Author.Needs.{needs}
 use Rattle.source_body.proofs.state_at.Statement.{statement}
 use Rattle.source_body.proofs.state_at.Tie as tie
@@ -29,7 +29,7 @@ returns c =
     let a = x9 .args in
     let e = x1 .enum-told .given .1 in
     let h = rw e at (x3 .start-due .ensures .0) in
-    rw (c .fault-of .ensures ∙ ap dueFault e) (start-refused (a .text .now) (meaningIn (a .text .now) (a .places .now) (a .params) (a .firsts .now)) (a .events .now) (a .cells) (a .at) (a .n) (a .out .now) _ _ h, (tt, search needs))
+    rw (c .fault-of .ensures ∙ ap dueFault e) (start-refused (a .text .now) (meaningBy (a .text .now) (a .places .now) (a .sorted) (a .meanings .now)) (a .events .now) (a .cells) (a .at) (a .n) (a .out .now) _ _ h, (tt, search needs))
 
 seen-at-requires : tie.Need-seen-at-requires
 seen-at-requires c κs =
@@ -59,7 +59,7 @@ returns-2 c =
     let e = x1 .enum-told2 .given .1 in
     let d = rw (x5 .d .given .1) at (x7 .start-due .ensures .0) in
     let h = rw e at (x3 .seen-at .ensures .0) in
-    rw (c .refused-rights .ensures ∙ ap refusedRights e) (seen-refused (a .text .now) (meaningIn (a .text .now) (a .places .now) (a .params) (a .firsts .now)) (a .events .now) (a .cells) (a .at) (a .n) (a .out .now) _ _ _ d _ _ h, (tt, search needs))
+    rw (c .refused-rights .ensures ∙ ap refusedRights e) (seen-refused (a .text .now) (meaningBy (a .text .now) (a .places .now) (a .sorted) (a .meanings .now)) (a .events .now) (a .cells) (a .at) (a .n) (a .out .now) _ _ _ d _ _ h, (tt, search needs))
 
 state-with-requires : tie.Need-state-with-requires
 state-with-requires c κs =
@@ -90,7 +90,7 @@ returns-3 c =
     let g = rw (x9 .d .given .1) at (x11 .start-due .ensures .1) in
     let h = rw (x5 .s .given .1) at (x7 .seen-at .ensures .0) in
     let i = rw (x5 .s .given .1) at (x7 .seen-at .ensures .1) in
-    (state-read (a .text .now) (meaningIn (a .text .now) (a .places .now) (a .params) (a .firsts .now)) (a .events .now) (a .cells) (a .at) (a .n) (a .out .now) _ _ _ d _ _ _ (x2 .state-with .result) h (x2 .state-with .ensures .0), (state-within _ _ _ _ _ (x2 .state-with .result) (g .0) (i .0) (x2 .state-with .ensures .1 .0), x2 .state-with .ensures .1 .1))
+    (state-read (a .text .now) (meaningBy (a .text .now) (a .places .now) (a .sorted) (a .meanings .now)) (a .events .now) (a .cells) (a .at) (a .n) (a .out .now) _ _ _ d _ _ _ (x2 .state-with .result) h (x2 .state-with .ensures .0), (state-within _ _ _ _ _ (x2 .state-with .result) (g .0) (i .0) (x2 .state-with .ensures .1 .0), x2 .state-with .ensures .1 .1))
 
 pub state-at-spec : {M : Type 1} → statement M
 state-at-spec =

@@ -7,7 +7,7 @@ use lib.Seq.{length-sets}
 use lib.ListN.{length}
 use mathlib.Core.Path.{ap, _∙_}
 use native.Mathlib.Omega.{arith}
-use Rattle.source_coding.specs.Places.{meaningIn}
+use Rattle.source_names.specs.Known.{meaningBy}
 use borrow.Author.Needs.{needs}
 use Rattle.source_body.proofs.state_with.Statement.{statement}
 use Rattle.source_body.proofs.state_with.Tie as tie
@@ -47,7 +47,7 @@ returns c =
     let e = c .enum-told .given .1 in
     let h = rw (e, x8 .put-start .ensures .1) at (x4 .handlers-at .ensures .0) in
     let l = x4 .handlers-at .ensures .1 .1 ∙ ap length (x8 .put-start .ensures .1) ∙ length-sets (a .out .now) _ (startBytes (a .cells) (a .start)) in
-    rw e (state-fails (a .text .now) (meaningIn (a .text .now) (a .places .now) (a .params) (a .firsts .now)) (a .events .now) (a .cells) (a .start) (a .bits) (a .at) (a .n) _ (a .out .now) _ _ _ h, (tt, l))
+    rw e (state-fails (a .text .now) (meaningBy (a .text .now) (a .places .now) (a .sorted) (a .meanings .now)) (a .events .now) (a .cells) (a .start) (a .bits) (a .at) (a .n) _ (a .out .now) _ _ _ h, (tt, l))
 
 put-viewer-requires : tie.Need-put-viewer-requires
 put-viewer-requires c κs =
@@ -93,7 +93,7 @@ returns-2 c =
     let g = rw (x10 .r .given .1) at (x14 .handlers-at .ensures .1 .0) in
     let l = x14 .handlers-at .ensures .1 .1 ∙ ap length (x18 .put-start .ensures .1) ∙ length-sets (a .out .now) _ (startBytes (a .cells) (a .start)) in
     rw (x2 .put-head .ensures, x3 .tag-of .ensures, x7 .put-viewer .ensures .1) (
-      state-done (a .text .now) (meaningIn (a .text .now) (a .places .now) (a .params) (a .firsts .now)) (a .events .now) (a .cells) (a .start) (a .bits) (a .at) (a .n) _ (a .out .now) _ _ _ _ _ h z l (p .1 .1 .1 .1 .1 .1 .1 .1 .1) (x7 .put-viewer .ensures .0),
+      state-done (a .text .now) (meaningBy (a .text .now) (a .places .now) (a .sorted) (a .meanings .now)) (a .events .now) (a .cells) (a .start) (a .bits) (a .at) (a .n) _ (a .out .now) _ _ _ _ _ h z l (p .1 .1 .1 .1 .1 .1 .1 .1 .1) (x7 .put-viewer .ensures .0),
       (omega (arith, viewer-few (a .bits), start-few (a .cells) (a .start), x7 .put-viewer .ensures .0), headed-long (bodyTag (a .cells)) _ _ _ ∙ length-sets _ _ (viewerBytes (a .bits)) ∙ l),
     )
 

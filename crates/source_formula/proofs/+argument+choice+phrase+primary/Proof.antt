@@ -4,7 +4,7 @@ use Prim.Native.Nat.{ℕ, _+_, _*_, _<_}
 use native.Mathlib.Omega.{arith}
 use borrow.Author.Needs.{needs}
 use lib.ListN.{length}
-use Rattle.source_coding.specs.Places.{meaningIn}
+use Rattle.source_names.specs.Known.{meaningBy}
 use Rattle.source_formula.proofs.Turns.{Keeps, turn-start, turn-fault, onward-room, turn-end, turn-stop, turn-closed, closing-on, operand-room, operand-headable, turn-operator, bytesLeft, operator-less, closing-less}
 use Rattle.source_formula.proofs.Primaries.{plain-read, not-too-deep, if-too-deep, if-read, not-headable, not-read}
 use Rattle.source_formula.proofs.Choices.{argument-fault, argument-missing, argument-read, gone-start, gone-further, kept-after, gone-room, gone-inside, ended-headable, choice-read}
@@ -238,11 +238,11 @@ choice-returns t c =
     (at-close .close .ensures .0) (at-close .close .ensures .1) (at-close .close .kept .1 .1 .1 .1 .1 .0)
 
 abbrev phrase-Inv-loop : phrase-lts.InvT-loop
-phrase-Inv-loop text at level room places params firsts cells out₀ n first opened₀ r₀ out opened r =
-    Keeps text (meaningIn text places params firsts) cells room level at n out₀ opened₀ r₀ out opened r
+phrase-Inv-loop text at level room places sorted meanings cells out₀ n first opened₀ r₀ out opened r =
+    Keeps text (meaningBy text places sorted meanings) cells room level at n out₀ opened₀ r₀ out opened r
 
 abbrev phrase-μ-loop : phrase-lts.MeasureT-loop
-phrase-μ-loop text at level room places params firsts cells out₀ n first opened₀ r₀ out opened r = bytesLeft (length text) r
+phrase-μ-loop text at level room places sorted meanings cells out₀ n first opened₀ r₀ out opened r = bytesLeft (length text) r
 
 phrase-brackets-at-requires : (t : ℕ) → phrase-lts.Need-brackets-at-requires (claims-phrase t) (phrase-at t) phrase.Post phrase-Inv-loop phrase-μ-loop
 phrase-brackets-at-requires t c κs =

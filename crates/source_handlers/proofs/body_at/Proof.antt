@@ -1,5 +1,5 @@
 -- Stage by stage: the phase, the formula, and the head in front of them.
-use Rattle.source_coding.specs.Places.{meaningIn}
+use Rattle.source_names.specs.Known.{meaningBy}
 use lib.ListN.{length}
 use Rattle.source_handlers.proofs.Written.{opened-as, opened-long}
 use native.Mathlib.Omega.{arith}
@@ -31,7 +31,7 @@ returns c =
     let a = f .before .before .before .before .before .args in
     let h = rw e at (f .phase-due .ensures .0) in
     rw (c .fault-of .ensures ∙ ap dueFault e)
-    (phase-refused (a .text .now) (meaningIn (a .text .now) (a .places .now) (a .params) (a .firsts .now)) (a .cells) (a .e) (a .at) (a .n) (a .out .now) _ _ h, (tt, search needs))
+    (phase-refused (a .text .now) (meaningBy (a .text .now) (a .places .now) (a .sorted) (a .meanings .now)) (a .cells) (a .e) (a .at) (a .n) (a .out .now) _ _ h, (tt, search needs))
 
 add-put-byte : tie.Need-add-put-byte
 add-put-byte c = search needs
@@ -94,7 +94,7 @@ returns-2 c =
     let l = f .formula-at .ensures .1 .1 .1 in
     let z = opened-as (a .out .now) _ _ (a .n) (a .e) (d .d .given .0 .1 .0) (b .before .before .before .before .put-byte .ensures) (b .put-byte2 .ensures) in
     rw (c .refused-formula .ensures ∙ ap refusedRead e)
-    (formula-refused (a .text .now) (meaningIn (a .text .now) (a .places .now) (a .params) (a .firsts .now)) (a .cells) (a .e) (a .at) (a .n) (a .out .now) _ _ _ h _ _ _ _ _ g, (tt, l ∙ ap length z ∙ opened-long (a .out .now) (a .n) (a .e) (d .d .given .0 .1 .0)))
+    (formula-refused (a .text .now) (meaningBy (a .text .now) (a .places .now) (a .sorted) (a .meanings .now)) (a .cells) (a .e) (a .at) (a .n) (a .out .now) _ _ _ h _ _ _ _ _ g, (tt, l ∙ ap length z ∙ opened-long (a .out .now) (a .n) (a .e) (d .d .given .0 .1 .0)))
 
 put-head-requires : tie.Need-put-head-requires
 put-head-requires c κs =
@@ -122,7 +122,7 @@ returns-3 c =
     let k = rw (r .r .given .1) at (f .formula-at .ensures .1 .0) in
     let l = f .formula-at .ensures .1 .1 .1 ∙ ap length z ∙ opened-long (a .out .now) (a .n) (a .e) (d .d .given .0 .1 .0) in
     rw (t .put-head .ensures) (
-      handler-read (a .text .now) (meaningIn (a .text .now) (a .places .now) (a .params) (a .firsts .now)) (a .cells) (a .e) (a .at) (a .n) (a .out .now) _ _ _ h _ _ _ _ _ g (omega arith) (s .pre .1 .1 .1 .1 .1 .1) l,
+      handler-read (a .text .now) (meaningBy (a .text .now) (a .places .now) (a .sorted) (a .meanings .now)) (a .cells) (a .e) (a .at) (a .n) (a .out .now) _ _ _ h _ _ _ _ _ g (omega arith) (s .pre .1 .1 .1 .1 .1 .1) l,
       (omega arith, headed-long 5 _ _ _ ∙ l),
     )
 

@@ -1,5 +1,4 @@
 -- By the two branches of `behaviourOrRow`.
-use Prim.Native.Nat.{_-_}
 use native.Mathlib.Omega.{arith}
 use borrow.Author.Needs.{needs}
 use borrow.Author.Tests.{lt-ltb, le-ltb}
@@ -10,7 +9,5 @@ pub behaviour-or-row-spec : {M : Type 1} → statement M
 behaviour-or-row-spec =
     tie.close
     (tie.spec
-    (λ c. search needs)
-    (λ c. (rw (lt-ltb (c .before .args .next - c .before .args .first) 2 (omega (arith, c .if1 .taken))), c .before .pre .0))
-    (λ c. search needs)
-    (λ c. (rw (le-ltb (c .before .args .next - c .before .args .first) 2 (omega (arith, c .if1 .left))), omega arith)))
+    (λ c. (rw (lt-ltb (c .before .args .cells) 2 (c .if1 .taken)), c .before .pre .0))
+    (λ c. (rw (le-ltb (c .before .args .cells) 2 (c .if1 .left)), c .before .pre)))

@@ -1,5 +1,5 @@
--- Within the list by the list, else 0; each number of the list is at most 64.
-use Prim.Native.Nat.{_≤_}
+-- Within the list by the list, else 0; each number of the list is below 8320.
+use Prim.Native.Nat.{_<_}
 use mathlib.Core.Path.{refl, sym}
 use native.Mathlib.Omega.{arith}
 use borrow.Author.Needs.{needs}
@@ -16,5 +16,5 @@ number-at-spec =
     (λ c. search needs)
     (λ c.
     let at-entry = c .before .before in
-    (refl, all-at-or (λ x. x ≤ 64) (at-entry .args .list .now) (at-entry .args .i) 0 (at-entry .pre) (omega arith)))
-    (λ c. (sym (List·getD-eq-default (c .before .args .list .now) 0 (c .if1 .left)), omega arith)))
+    (refl, all-at-or (λ m. m < 8320) (at-entry .args .meanings .now) (at-entry .args .i) 0 (at-entry .pre) (omega arith)))
+    (λ c. (sym (List·getD-eq-default (c .before .args .meanings .now) 0 (c .if1 .left)), omega arith)))
