@@ -7,3 +7,4 @@ pub mod RequestsHold
 pub mod TextsHold
 pub mod ClaimsHold
 pub mod DeliveriesHold
+pub mod Instances
