@@ -29,7 +29,7 @@ def modules(path, done):
     """The modules that this one needs, and it, as functions, each once."""
     if path in done:
         return
-    text = path.read_text()
+    text = path.read_text("utf8")
     for _, other in IMPORT.findall(text):
         modules((path.parent / other).resolve(), done)
     text = IMPORT.sub(lambda m: f"const {{{m[1].replace(' as ', ': ')}}} = ${pathlib.Path(m[2]).stem};\n", text)
@@ -44,11 +44,11 @@ def modules(path, done):
 
 def data():
     """What the page knows: the setter's words, refusals by number, the examples and the story."""
-    tables = (RUST / "src" / "refusal.rs").read_text() + (RUST / "src" / "fault.rs").read_text()
-    files = {f.name: f.read_text() for f in sorted(EXAMPLES.iterdir()) if f.suffix in (".sheet", ".play")}
-    story = {f"story-{f.name}": f.read_text() for f in sorted(EXAMPLES.glob("story/*.sheet"))}
+    tables = (RUST / "src" / "refusal.rs").read_text("utf8") + (RUST / "src" / "fault.rs").read_text("utf8")
+    files = {f.name: f.read_text("utf8") for f in sorted(EXAMPLES.iterdir()) if f.suffix in (".sheet", ".play")}
+    story = {f"story-{f.name}": f.read_text("utf8") for f in sorted(EXAMPLES.glob("story/*.sheet"))}
     return {
-        "hints": json.loads((RUST / "text" / "src" / "hints.json").read_text()),
+        "hints": json.loads((RUST / "text" / "src" / "hints.json").read_text("utf8")),
         "refusals": {number: [word, when] for number, word, when in NUMBERED.findall(tables)},
         "files": files | story,
     }
@@ -63,7 +63,7 @@ def page(engine):
     done = {}
     modules(HERE / "main.mjs", done)
     script = '\n"use strict";\n' + "".join(done.values())
-    style = "\n" + (HERE / "style.css").read_text()
+    style = "\n" + (HERE / "style.css").read_text("utf8")
     assert "</" not in script and "</" not in style
     known = data() | {"engine": base64.b64encode(gzip.compress(engine, 9, mtime=0)).decode()}
     parts = {
@@ -73,12 +73,12 @@ def page(engine):
         "@DATA@": json.dumps(known).replace("<", "\\u003c"),
         "@SCRIPT@": script,
     }
-    return re.sub("|".join(parts), lambda m: parts[m[0]], (HERE / "page.html").read_text())
+    return re.sub("|".join(parts), lambda m: parts[m[0]], (HERE / "page.html").read_text("utf8"))
 
 
 if sys.argv[1:] == ["--data"]:
     print(json.dumps(data()))
 elif len(sys.argv) == 3:
-    pathlib.Path(sys.argv[2]).write_text(page(pathlib.Path(sys.argv[1]).read_bytes()))
+    pathlib.Path(sys.argv[2]).write_text(page(pathlib.Path(sys.argv[1]).read_bytes()), encoding="utf8")
 else:
     sys.exit(__doc__)
