@@ -283,7 +283,7 @@ def header(path):
 
 def unresolved_in_headers(theories):
     """Headers name crates, functions and files that are there."""
-    files = files_under("crates", ".antt")
+    files = list(files_under("crates", ".antt"))
     names = declared_names(theories) | {os.path.basename(path).removesuffix(".antt") for path in files} | LIBRARY
     for path in files:
         for number, line in header(path):
