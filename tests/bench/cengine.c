@@ -1,5 +1,5 @@
 /* frame, step, arrive and board as a person writes them in C99 who wants them fast: from documents 01 and 02, on the
- * bytes that docs/DECISIONS.md (14, 15, 44, 60, 61) and crates/format_layout/specs/Layout.antt lay out. It is what the
+ * bytes that crates/format_layout/specs/Layout.antt and crates/format_image/specs/Image.antt lay out. It is what the
  * proved engine's times are held against (docs/RESULTS.md), so it does the same work: table and round are judged in
  * every call, since the bytes may be anybody's, each instruction before it runs, and every refusal comes in the same
  * place. tests/bench/hold.c compares the two, with all bytes of the round and of the commits.
