@@ -447,7 +447,7 @@ def small_thread(processor, of):
 def write_part(name, make):
     """Writes the lines that `make` gives for a page between its marks of that name; the page that has them."""
     mark = f"<!-- bench: {name} -->"
-    for path in sorted(glob.glob("docs/**/*.md", recursive=True)):
+    for path in sorted(glob.glob("docs/**/*.md", recursive=True) + glob.glob("docs/*.txt")):
         page = open(path, encoding="utf8").read()
         if mark in page:
             begin = page.index(mark) + len(mark)
