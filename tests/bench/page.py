@@ -213,7 +213,8 @@ def frame(found):
         ("previews of a game, 63 in hand", time_of(found, "preview", "a game, 63")),
         (f"previews, the worst: {worst.input}", worst.ours[1]),
     ]
-    return block([columns(what, (f"{int(FRAME_NS / ns):,}",), (14,), 84)[0] for what, ns in rows])
+    lines = [columns(what, (f"{int(FRAME_NS / ns):,}",), (14,), 84) for what, ns in rows]
+    return block([line for several in lines for line in several])
 
 
 def sizes(found):
