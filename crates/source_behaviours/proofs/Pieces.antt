@@ -9,7 +9,7 @@ use lib.Dec.{ltb, leb}
 use borrow.Author.Tests.{lt-ltb, le-ltb, le-leb, lt-leb, eq-eqb, ne-eqb}
 use denote.Enum.Declared.{tagOf}
 use Rattle.lib_base.specs.Basics.{pick}
-use Rattle.source_language.specs.Tokens.{SheetToken, number, name, sign, bracket, unbracket, row-word, endSign}
+use Rattle.source_language.specs.Tokens.{SheetToken, number, name, sign, bracket, unbracket, passive-word, row-word, endSign}
 use Rattle.source_language.specs.Text.{Text}
 use Rattle.source_language.specs.Faults.{outside, offScale, tooMany}
 use Rattle.source_language.specs.Limits.{among, largest}
@@ -106,19 +106,19 @@ module _ (text : List ℕ) (at : ℕ) (t : Token) (told : TokenAt text at t) whe
   word-missing k = rw (no-word text at t k told)
 
   module _ (p c next : ℕ) (is : t ≡ Sign p c next) where
-    pub word-before : c < 31 → behaviourBegins (signAt (tokensFrom text at)) ≡ false
+    pub word-before : c < passive-word → behaviourBegins (signAt (tokensFrom text at)) ≡ false
     unfolding behaviourBegins
-    word-before h = let e = rw is at told in rw (e, lt-leb 31 c h)
+    word-before h = let e = rw is at told in rw (e, lt-leb passive-word c h)
 
-    pub word-behind : (c < 31 → ⊥) → 33 < c → behaviourBegins (signAt (tokensFrom text at)) ≡ false
+    pub word-behind : (c < passive-word → ⊥) → row-word < c → behaviourBegins (signAt (tokensFrom text at)) ≡ false
     unfolding behaviourBegins
-    word-behind g h = let e = rw is at told in rw (e, le-leb 31 c (omega arith), lt-leb c 33 h)
+    word-behind g h = let e = rw is at told in rw (e, le-leb passive-word c (omega arith), lt-leb c row-word h)
 
-    pub word-here : (c < 31 → ⊥) → (33 < c → ⊥) → (tokensFrom text at ≡ sign p c ∷ tokensFrom text next) × (behaviourBegins c ≡ true)
+    pub word-here : (c < passive-word → ⊥) → (row-word < c → ⊥) → (tokensFrom text at ≡ sign p c ∷ tokensFrom text next) × (behaviourBegins c ≡ true)
     unfolding behaviourBegins
     word-here g h =
         let e = rw is at told in
-        (rw (lt-leb 34 c (omega arith)) at e, rw (le-leb 31 c (omega arith), le-leb c 33 (omega arith)))
+        (rw (lt-leb endSign c (omega arith)) at e, rw (le-leb passive-word c (omega arith), le-leb c row-word (omega arith)))
 
 -- another sign, or none, stands there: not the end
 other-end : (x : Text) (w : ℕ) (ts : List SheetToken) → (signAt ts ≡ endSign → ⊥) → w ≡ faultWord outside (placeAt ts) → w ≡ faultIn (textEnds x ts)
@@ -137,8 +137,8 @@ module _ (text : List ℕ) (at : ℕ) (t : Token) (told : TokenAt text at t) whe
       place-told (Name p next) e = rw e
       place-told (Sign p c next) e = rw e
 
-  pub end-elsewhere : (p c next w : ℕ) → t ≡ Sign p c next → (c ≡ 34 → ⊥) → w ≡ 31 * 4294967296 + p → EndFault text at w
+  pub end-elsewhere : (p c next w : ℕ) → t ≡ Sign p c next → (c ≡ endSign → ⊥) → w ≡ 31 * 4294967296 + p → EndFault text at w
   end-elsewhere p c next w i k h x = let e = rw i at told in rw e (other-end x w (sign p c ∷ pick (leb endSign c) [] (tokensFrom text next)) k h)
 
-  pub end-here : (p c next : ℕ) → t ≡ Sign p c next → c ≡ 34 → EndFault text at 0
+  pub end-here : (p c next : ℕ) → t ≡ Sign p c next → c ≡ endSign → EndFault text at 0
   end-here p c next i k x = let e = rw (i, k) at told in rw e

@@ -7,7 +7,7 @@ use native.Mathlib.Omega.{arith}
 use lib.ListN.{length}
 use lib.Dec.{eqb}
 use Rattle.lib_base.proofs.Tools.{by-test}
-use Rattle.source_language.specs.Tokens.{SheetToken, equals}
+use Rattle.source_language.specs.Tokens.{SheetToken, equals, on-word}
 use Rattle.source_language.specs.Text.{TextConstant, Reaction, Body, TextBehaviour, behaviour}
 use Rattle.source_language.specs.Limits.{withReaction}
 use Rattle.source_language.specs.Reader.{Phrased, got, thenPhrase, signAt, valueOf, formulaOf, seenOf, manyOf, reactionOf, readReactions, passiveDeclared, stateOf}
@@ -32,14 +32,14 @@ state-steps es s make ts = sym (then-sign (withHandlers es s make) equals valueO
 -- ---- behind a body there are no more tokens than before it
 
 pub leaves-reactions : (es : List (List ℕ)) (k : ℕ) (ns : List (List ℕ)) (ts : List SheetToken) (b : ℕ) → length ts < b
-    → Leaves b (manyOf (λ c. eqb c 28) (reactionOf es) withReaction k ns ts)
+    → Leaves b (manyOf (λ c. eqb c on-word) (reactionOf es) withReaction k ns ts)
 unfolding manyOf
 leaves-reactions es zero ns ts b h = h
 leaves-reactions es (suc k) ns ts b h =
-    by-test (Leaves b) (eqb (signAt ts) 28)
-    (λ e. leaves-then (length ts) b (reactionOf es ns ts) (λ x us. thenPhrase (manyOf (λ c. eqb c 28) (reactionOf es) withReaction k (withReaction ns x) us) (λ xs vs. got (x ∷ xs) vs))
+    by-test (Leaves b) (eqb (signAt ts) on-word)
+    (λ e. leaves-then (length ts) b (reactionOf es ns ts) (λ x us. thenPhrase (manyOf (λ c. eqb c on-word) (reactionOf es) withReaction k (withReaction ns x) us) (λ xs vs. got (x ∷ xs) vs))
     (leaves-reaction es ns ts) (λ x us g.
-    leaves-then b b (manyOf (λ c. eqb c 28) (reactionOf es) withReaction k (withReaction ns x) us) (λ xs vs. got (x ∷ xs) vs)
+    leaves-then b b (manyOf (λ c. eqb c on-word) (reactionOf es) withReaction k (withReaction ns x) us) (λ xs vs. got (x ∷ xs) vs)
     (leaves-reactions es k (withReaction ns x) us b (omega arith)) (λ xs vs i. i)))
     (λ e. h)
 

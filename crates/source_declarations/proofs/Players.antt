@@ -12,7 +12,7 @@ use Rattle.lib_base.specs.Basics.{All}
 use Rattle.lib_base.proofs.Tools.{split, all-join}
 use Rattle.lib_bits.specs.Bits.{bit}
 use Rattle.lib_bits.proofs.BitLaws.{bit-none}
-use Rattle.source_language.specs.Tokens.{from-word, by-word, seen-word}
+use Rattle.source_language.specs.Tokens.{from-word, by-word, nobody-word, seen-word}
 use Rattle.source_language.specs.Limits.{largest}
 use Rattle.source_language.specs.Meaning.{amongPlayers, bitsBelow}
 use Rattle.source_language.specs.Reader.{got, signAt, pastSign, morePlayers, playersOf, fromOf, seenOf}
@@ -119,11 +119,11 @@ pub players-named : (text : List ℕ) (at : ℕ) (t : Token) (p next w : ℕ) �
     → RightsRead text (Fault w) (playersSaid (playersOf (tokensFrom text at)))
 players-named text at t p next w h e f = let k = rw e at h in rw k f
 
-pub players-other : (text : List ℕ) (at : ℕ) (t : Token) (p c next w : ℕ) → TokenAt text at t → t ≡ Sign p c next → (c ≡ 25 → ⊥) → w ≡ 31 * 4294967296 + p
+pub players-other : (text : List ℕ) (at : ℕ) (t : Token) (p c next w : ℕ) → TokenAt text at t → t ≡ Sign p c next → (c ≡ nobody-word → ⊥) → w ≡ 31 * 4294967296 + p
     → RightsRead text (Fault w) (playersSaid (playersOf (tokensFrom text at)))
-players-other text at t p c next w h e d f = let k = rw e at h in rw (k, ne-eqb c 25 d) f
+players-other text at t p c next w h e d f = let k = rw e at h in rw (k, ne-eqb c nobody-word d) f
 
-pub players-nobody : (text : List ℕ) (at : ℕ) (t : Token) (p c next : ℕ) → TokenAt text at t → t ≡ Sign p c next → c ≡ 25
+pub players-nobody : (text : List ℕ) (at : ℕ) (t : Token) (p c next : ℕ) → TokenAt text at t → t ≡ Sign p c next → c ≡ nobody-word
     → RightsRead text (Given next 0) (playersSaid (playersOf (tokensFrom text at)))
 unfolding bitsBelow amongPlayers
 players-nobody text at t p c next h e d = let k = rw (e, d) at h in rw k (refl, refl)

@@ -9,7 +9,7 @@ use lib.ListN.{length}
 use lib.Dec.{ltb}
 use borrow.Author.Tests.{ltb-false, lt-ltb, le-ltb, lt-leb, ne-eqb}
 use Rattle.lib_base.proofs.Tools.{by-test}
-use Rattle.source_language.specs.Tokens.{number, name, sign}
+use Rattle.source_language.specs.Tokens.{number, name, sign, endSign}
 use Rattle.source_language.specs.Text.{plus, minus}
 use Rattle.source_language.specs.Faults.{outside, tooLarge}
 use Rattle.source_language.specs.Limits.{largest}
@@ -42,12 +42,12 @@ module _ (text : List ℕ) (at : ℕ) where
       → SignTold text at c (Fault w) × DueWithin (length text) at (Fault w)
   sign-differs c t p d next w q e h s = let f = rw q at e in (rw f (h, s), omega arith)
 
-  pub sign-found : (c : ℕ) (t : Token) (p d next : ℕ) → t ≡ Sign p d next → TokenAt text at t → TokenWithin (length text) at t → c < 34 → d ≡ c
+  pub sign-found : (c : ℕ) (t : Token) (p d next : ℕ) → t ≡ Sign p d next → TokenAt text at t → TokenWithin (length text) at t → c < endSign → d ≡ c
       → SignTold text at c (Found p d next) × DueWithin (length text) at (Found p d next)
   sign-found c t p d next q e b h s =
       let f = rw q at e in
       let g = rw q at b in
-      (f ∙ rw (lt-leb 34 d (omega arith), s), (g .0, g .3 (omega arith), g .2, omega arith))
+      (f ∙ rw (lt-leb endSign d (omega arith), s), (g .0, g .3 (omega arith), g .2, omega arith))
 
   -- ---- a name
 

@@ -9,6 +9,7 @@ use text_formula::tokens;
 ghost use mathlib.Core.Path.{_≡_};
 ghost use Prim.Native.Nat.{_≤_, _<_, _+_, _*_, _-_, _%_};
 ghost use lib.ListN.{length};
+ghost use Rattle.source_language.specs.Tokens.{endSign};
 ghost use Rattle.source_due.specs.Due.{SignTold, NameTold, NumberTold, ValueTold, DueWithin};
 
 // What is due: its place, its number (of a sign, a number or a constant; 0 for a name) and the place behind it; or a
@@ -31,7 +32,7 @@ pub fn fault_word(kind: u64, place: usize) -> u64
 pub fn sign_due(text: &[u8], at: usize, sign: u8) -> Due
     requires { ⌜ length (now text) ≤ 65536 ⌝ }
     requires { ⌜ at ≤ length (now text) ⌝ }
-    requires { ⌜ sign < 34 ⌝ }
+    requires { ⌜ sign < endSign ⌝ }
     requires { ⌜ 0 < sign ⌝ }
     ensures { λ r. ⌜ SignTold (now (text .entry)) at sign r ⌝ }
     ensures { λ r. ⌜ DueWithin (length (now (text .entry))) at r ⌝ }

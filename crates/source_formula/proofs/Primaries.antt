@@ -8,7 +8,7 @@ use lib.ListN.{length}
 use lib.Dec.{eqb}
 use borrow.Author.Tests.{lt-ltb, le-ltb, ne-eqb}
 use Rattle.lib_base.proofs.Tools.{by-test}
-use Rattle.source_language.specs.Tokens.{SheetToken, number, name, sign}
+use Rattle.source_language.specs.Tokens.{SheetToken, number, name, sign, endSign}
 use Rattle.source_language.specs.Text.{Phrase, negation}
 use Rattle.source_language.specs.Faults.{outside, tooDeep}
 use Rattle.source_language.specs.Meaning.{NameMeaning}
@@ -86,7 +86,7 @@ module _ (text : List ℕ) (find : List ℕ → NameMeaning) (c room at n p s ne
       deep-read v (if-deep (phraseWithin (room - 1)) room p (tokensFrom text at) (tokensFrom text next) (st .onward (omega arith) (omega arith) ∙ rw e) (omega arith)) w
 
   -- the places and tokens behind the sign
-  module _ (few : (0 < s) × (s < 34)) where
+  module _ (few : (0 < s) × (s < endSign)) where
     behind-sign : (at < next) × (next ≤ length text)
     behind-sign = st .further (few .0) (few .1)
 

@@ -19,6 +19,7 @@ ghost use mathlib.Core.Path.{_≡_};
 ghost use Prim.Native.Nat.{_≤_, _<_, _*_, _-_};
 ghost use lib.ListN.{length};
 ghost use Rattle.lib_base.specs.Basics.{All};
+ghost use Rattle.source_language.specs.Tokens.{endSign};
 ghost use Rattle.source_language.specs.Reader.{readPrimary, readChoice, phraseWithin, formulaOf};
 ghost use Rattle.source_coding.specs.Places.{tokensFrom};
 ghost use Rattle.source_names.specs.Known.{meaningBy};
@@ -188,7 +189,7 @@ fn argument(
 ) -> Read
     requires { ⌜ (length (now text) ≤ 65536) × ArgumentRoom (length (now text)) r ⌝ }
     requires { ⌜ (sorted ≤ length (now places)) × All (λ m. m < 8320) (now meanings) × (length (now out) ≤ 65535) ⌝ }
-    requires { ⌜ (0 < sign) × (sign < 34) ⌝ }
+    requires { ⌜ (0 < sign) × (sign < endSign) ⌝ }
     requires { ⌜ (1 < room) × (room ≤ 16) ⌝ }
     ensures { λ q. ⌜ ArgumentAfter (now (text .entry)) (meaningBy (now (text .entry)) (now (places .entry)) sorted (now (meanings .entry))) cells sign room (now (out .entry)) (now (out .exit)) r q ⌝ }
 {

@@ -513,13 +513,13 @@ reach (chosen {p} {q} {r} {s} {t = o} {ts} {us} {vs} {ws} {a} {b} {c} d e f) roo
     primary-step room l m k (sign p 14 ∷ sign q opening ∷ ts) ws (choice a b c) refl (omega (arith, derives-less d, derives-less e, derives-less f)) (rw (room-for room a (y .0), i, j, g))
 
 -- a formula before a sign that can follow one, which is a reserved word or the end
-pub follows : (l : ℕ) (us : List SheetToken) → 21 < signAt us → Calm l us
+pub follows : (l : ℕ) (us : List SheetToken) → unbracket < signAt us → Calm l us
 follows l [] h = absurd (omega arith)
 follows l (number p n ∷ us) h = absurd (omega arith)
 follows l (name p s ∷ us) h = absurd (omega arith)
 follows l (sign p c ∷ us) h = calm-high l p c us (omega arith) (ne-eqb c bracket (omega arith))
 
-pub formula-reads : {ts us : List SheetToken} {e : Phrase} → PhraseDerives 6 ts e us → PhraseFits e → 21 < signAt us → formulaOf ts ≡ got e us
+pub formula-reads : {ts us : List SheetToken} {e : Phrase} → PhraseDerives 6 ts e us → PhraseFits e → unbracket < signAt us → formulaOf ts ≡ got e us
 formula-reads {ts} {us} {e} d t h =
     part-reads 16 6 ts e us (record { numbers = t .numbers; nests = t .nested }) (follows 7 us h .1)
     (λ r z. reach d r 6 (length ts) zero (omega arith) z (follows 6 us h) (omega arith))

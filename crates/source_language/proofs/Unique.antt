@@ -12,7 +12,7 @@ use Rattle.spec_language.specs.Syntax.{immediate, later}
 use Rattle.text_formula.specs.Grammar.{Operator}
 use Rattle.text_formula.specs.Reader.{level}
 use Rattle.text_formula.proofs.Parses.{level-of}
-use Rattle.source_language.specs.Tokens.{SheetToken, sign, closing, comma, from-word, seen-word, on-word, param-word, event-word, passive-word, endSign}
+use Rattle.source_language.specs.Tokens.{SheetToken, sign, closing, comma, unbracket, from-word, seen-word, on-word, param-word, event-word, passive-word, endSign}
 use Rattle.source_language.specs.Text.{TextConstant, Phrase, constant, negation, operation, choice, Reaction, on, Body, active, row, Parameter, parameter, TextEvent, event, TextBehaviour, behaviour, Text}
 use Rattle.source_language.specs.Grammar.{IsValue, v-plus, v-minus, PhraseDerives, tighter, two-sided, negated, a-value, a-name, a-cell, bracketed, chosen, IsPlayers, nobody, last-player, and-player, IsFrom, from-unsaid, from-said, IsSeen, seen-unsaid, seen-said, Many, no-more, one-more, IsParameter, p-bare, p-given, IsEvent, e-event, IsReaction, r-now, r-later, IsBehaviour, b-passive, b-active, b-row, IsText, a-text, TextSays, says}
 use Rattle.source_language.specs.Reader.{signAt, tokensAfter}
@@ -128,7 +128,7 @@ lowest zero ts us vs e f h x y c d = absurd (omega (arith, derives-less x))
 lowest (suc k) ts us vs e f h x y c d = zero-one k (climb k (lowest k)) h x y c d
 
 -- a formula before a reserved word or the end
-formula-one : {ts us vs : List SheetToken} {e f : Phrase} → PhraseDerives 6 ts e us → PhraseDerives 6 ts f vs → 21 < signAt us → 21 < signAt vs → Same e us f vs
+formula-one : {ts us vs : List SheetToken} {e f : Phrase} → PhraseDerives 6 ts e us → PhraseDerives 6 ts f vs → unbracket < signAt us → unbracket < signAt vs → Same e us f vs
 formula-one {ts} {us} {vs} {e} {f} x y c d = climb (length ts) (lowest (length ts)) 6 ts us vs e f (omega arith) x y (follows 7 us c) (follows 7 vs d)
 
 -- ---- players

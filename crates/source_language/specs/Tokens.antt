@@ -17,71 +17,72 @@ pub data SheetToken : Type 0 where
   name : ℕ → List ℕ → SheetToken
   sign : ℕ → ℕ → SheetToken
 
--- ---- the signs beyond 01's functions. Those that can follow a whole declaration or handler have the highest numbers
+-- ---- the signs beyond 01's functions, from 64 on: a function's number is below 64, so that no function moves a sign.
+-- Those that can follow a whole declaration or handler have the highest numbers
 
 abbrev pub opening : ℕ
-opening = 15
+opening = 64
 
 abbrev pub closing : ℕ
-closing = 16
+closing = 65
 
 abbrev pub comma : ℕ
-comma = 17
+comma = 66
 
 abbrev pub colon : ℕ
-colon = 18
+colon = 67
 
 abbrev pub equals : ℕ
-equals = 19
+equals = 68
 
 abbrev pub bracket : ℕ
-bracket = 20
+bracket = 69
 
 abbrev pub unbracket : ℕ
-unbracket = 21
+unbracket = 70
 
 abbrev pub rank-word : ℕ
-rank-word = 22
+rank-word = 71
 
 abbrev pub from-word : ℕ
-from-word = 23
+from-word = 72
 
 abbrev pub by-word : ℕ
-by-word = 24
+by-word = 73
 
 abbrev pub nobody-word : ℕ
-nobody-word = 25
+nobody-word = 74
 
 abbrev pub later-word : ℕ
-later-word = 26
+later-word = 75
 
 abbrev pub seen-word : ℕ
-seen-word = 27
+seen-word = 76
 
 abbrev pub on-word : ℕ
-on-word = 28
+on-word = 77
 
 abbrev pub param-word : ℕ
-param-word = 29
+param-word = 78
 
 abbrev pub event-word : ℕ
-event-word = 30
+event-word = 79
 
 abbrev pub passive-word : ℕ
-passive-word = 31
+passive-word = 80
 
 abbrev pub active-word : ℕ
-active-word = 32
+active-word = 81
 
 abbrev pub row-word : ℕ
-row-word = 33
+row-word = 82
 
 -- the end of the text, and a byte where no token begins
 abbrev pub endSign : ℕ
-endSign = 34
+endSign = 83
 
 abbrev pub straySign : ℕ
-straySign = 35
+straySign = 84
 
 -- how a sign is spelled
 pub data Spelling : Type 0 where

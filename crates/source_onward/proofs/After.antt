@@ -10,7 +10,7 @@ use borrow.Author.Tests.{ltb-true, ltb-false, leb-true, eqb-true, eqb-false, lt-
 use Rattle.lib_base.specs.Basics.{pick}
 use Rattle.lib_base.proofs.Tools.{by-test, past, split}
 use Rattle.text_formula.specs.Reader.{level}
-use Rattle.source_language.specs.Tokens.{SheetToken, sign, closing, isDigit, isLetter, inWord}
+use Rattle.source_language.specs.Tokens.{SheetToken, sign, closing, endSign, isDigit, isLetter, inWord}
 use Rattle.source_language.specs.Text.{Phrase, operation}
 use Rattle.source_language.specs.Faults.{outside, tooDeep}
 use Rattle.source_language.specs.Limits.{phraseNesting}
@@ -81,16 +81,16 @@ module _ (next : ℕ → List SheetToken → Phrased Phrase) (room l m : ℕ) (a
         → afterOperand next room l (suc m) k a ts ≡ thenPhrase (next (level c - 1) us) (λ b vs. afterOperand next room l m k (operation c a b) vs)
     after-operator k e h = after-joined k (rw is e) ∙ rw (is, lt-ltb (phraseNesting a) room h)
 
-    after-closed : (k : ℕ) → joinsIn (level c) l (suc k) ≡ false → c ≡ 16 → afterOperand next room l (suc m) (suc k) a ts ≡ afterOperand next room l m k a us
+    after-closed : (k : ℕ) → joinsIn (level c) l (suc k) ≡ false → c ≡ closing → afterOperand next room l (suc m) (suc k) a ts ≡ afterOperand next room l m k a us
     unfolding pastSign
     after-closed k e h = after-unjoined k (rw is e) ∙ rw (is, h)
 
   after-deep : (k : ℕ) → joinsIn (level (signAt ts)) l k ≡ true → room ≤ phraseNesting a → afterOperand next room l (suc m) k a ts ≡ bad tooDeep (placeAt ts)
   after-deep k e h = after-joined k e ∙ rw (le-ltb (phraseNesting a) room h)
 
-  after-missing : (k : ℕ) → joinsIn (level (signAt ts)) l (suc k) ≡ false → (signAt ts ≡ 16 → ⊥) → afterOperand next room l (suc m) (suc k) a ts ≡ bad outside (placeAt ts)
+  after-missing : (k : ℕ) → joinsIn (level (signAt ts)) l (suc k) ≡ false → (signAt ts ≡ closing → ⊥) → afterOperand next room l (suc m) (suc k) a ts ≡ bad outside (placeAt ts)
   unfolding pastSign
-  after-missing k e h = after-unjoined k e ∙ rw (ne-eqb (signAt ts) 16 h)
+  after-missing k e h = after-unjoined k e ∙ rw (ne-eqb (signAt ts) closing h)
 
 -- ---- the sign ahead
 
@@ -133,7 +133,7 @@ module _ (text : List ℕ) (at p : ℕ) (o : PassedOver text at p) where
 -- ---- all that can follow
 
 module _ (text : List ℕ) (at l depth room p c next : ℕ) (few : l ≤ 6) (s : SignAhead text at p c next) where
-  passed : 0 < c → c < 34 → TokenPassed text at next
+  passed : 0 < c → c < endSign → TokenPassed text at next
   passed x y =
       let b = s .further x y in
       let z : length (tokensFrom text at) ≡ suc (length (tokensFrom text next)) = ap length (s .onward x y) in
@@ -159,12 +159,12 @@ module _ (text : List ℕ) (at l depth room p c next : ℕ) (few : l ≤ 6) (s :
       })
 
   unjoined : (k : ℕ) → joinsIn (level c) l k ≡ false
-      → OnwardRead text at l k depth room (pick (eqb k 0) Ended (pick (eqb c 16) (Closed next) (Fault (faultWord outside p))))
+      → OnwardRead text at l k depth room (pick (eqb k 0) Ended (pick (eqb c closing) (Closed next) (Fault (faultWord outside p))))
   unjoined zero j = λ go m a. after-ended go room l m a (tokensFrom text at) (rw (s .level-is) j)
   unjoined (suc k) j =
       rw (ne-eqb (suc k) 0 (λ e. omega arith))
-      (by-test (OnwardRead text at l (suc k) depth room) (eqb c 16)
-      (λ e. let h = eqb-true c 16 e in (
+      (by-test (OnwardRead text at l (suc k) depth room) (eqb c closing)
+      (λ e. let h = eqb-true c closing e in (
         λ go m a.
             let z : suc k - 1 ≡ k = omega arith in
             rw z (after-closed go room l m a (tokensFrom text at) p c (tokensFrom text next) (s .onward (omega arith) (omega arith)) k j h),
@@ -174,7 +174,7 @@ module _ (text : List ℕ) (at l depth room p c next : ℕ) (few : l ≤ 6) (s :
       (λ e go m a d. record {
         kind = outside;
         place = p;
-        turned = after-missing go room l m a (tokensFrom text at) k (rw (s .level-is) j) (λ q. eqb-false c 16 e (s .closing-is q)) ∙ rw (s .place-is);
+        turned = after-missing go room l m a (tokensFrom text at) k (rw (s .level-is) j) (λ q. eqb-false c closing e (s .closing-is q)) ∙ rw (s .place-is);
         word = refl;
       }))
 

@@ -71,7 +71,7 @@ unfoldable pub onwardOf : ℕ → ℕ → ℕ → ℕ → ℕ → ℕ → ℕ �
 onwardOf p c next l opened depth room =
     pick (joinsIn (level c) l opened)
     (pick (ltb depth room) (Operator c (level c - 1) next) (Fault (faultWord tooDeep p)))
-    (pick (eqb opened 0) Ended (pick (eqb c 16) (Closed next) (Fault (faultWord outside p))))
+    (pick (eqb opened 0) Ended (pick (eqb c closing) (Closed next) (Fault (faultWord outside p))))
 
 -- it says how `afterOperand` goes on
 abbrev pub OnwardRead : List ℕ → ℕ → ℕ → ℕ → ℕ → ℕ → Onward → Type 0

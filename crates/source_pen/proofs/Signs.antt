@@ -10,91 +10,126 @@ use lib.Dec.{ltb, leb, eqb}
 use borrow.Author.Tests.{ltb-true, leb-true, eqb-true, eq-eqb, ne-eqb, le-leb, lt-leb}
 use Rattle.lib_base.specs.Basics.{pick}
 use Rattle.lib_base.proofs.Tools.{by-test, through}
-use Rattle.source_language.specs.Tokens.{number, name, sign, marks, reserved, same}
+use Rattle.source_language.specs.Tokens.{number, name, sign, opening, on-word, param-word, endSign, marks, reserved, same}
 use Rattle.source_language.proofs.Scans.{same-is}
 use Rattle.source_rendering.specs.Describe.{digits, spelledAs, spell, firstByte, runTogether}
 use Rattle.source_rendering.proofs.Lexes.{allBelow, each-below}
 use Rattle.source_pen.specs.declared.Pen.{Pen}
-use Rattle.source_pen.specs.Written.{spaceAfter, gapAfter, tokenAfter, spellingsBefore, Penned, TokensPenned}
+use Rattle.source_pen.specs.Written.{spaceAfter, gapAfter, tokenAfter, spellingsFrom, Penned, TokensPenned}
 use Rattle.source_pen.proofs.Bytes.{none-together}
 use Rattle.source_pen.proofs.Pens.{penned-on, penned-as, one-token}
 
 -- ---- the tables
 
--- all spellings, and where each begins
-unfoldable pub spellings : List ℕ
-spellings =
+-- all spellings, and where each begins: of the functions, and of the text's own signs
+unfoldable pub functionBytes : List ℕ
+functionBytes =
     124 ∷ 124 ∷ 38 ∷ 38 ∷ 33 ∷ 43 ∷ 45 ∷ 42 ∷ 47 ∷ 62 ∷ 62 ∷ 61 ∷ 60 ∷ 60 ∷ 61 ∷ 61 ∷ 61 ∷ 33 ∷ 61 ∷ 105
-    ∷ 102 ∷ 40 ∷ 41 ∷ 44 ∷ 58 ∷ 61 ∷ 91 ∷ 93 ∷ 114 ∷ 97 ∷ 110 ∷ 107 ∷ 102 ∷ 114 ∷ 111 ∷ 109 ∷ 98 ∷ 121 ∷ 110 ∷ 111
-    ∷ 98 ∷ 111 ∷ 100 ∷ 121 ∷ 108 ∷ 97 ∷ 116 ∷ 101 ∷ 114 ∷ 115 ∷ 101 ∷ 101 ∷ 110 ∷ 111 ∷ 110 ∷ 112 ∷ 97 ∷ 114 ∷ 97 ∷ 109
-    ∷ 101 ∷ 118 ∷ 101 ∷ 110 ∷ 116 ∷ 112 ∷ 97 ∷ 115 ∷ 115 ∷ 105 ∷ 118 ∷ 101 ∷ 97 ∷ 99 ∷ 116 ∷ 105 ∷ 118 ∷ 101 ∷ 114 ∷ 111
-    ∷ 119
+    ∷ 102
     ∷ []
 
-unfoldable pub starts : List ℕ
-starts =
-    0 ∷ 0 ∷ 2 ∷ 4 ∷ 5 ∷ 6 ∷ 7 ∷ 8 ∷ 9 ∷ 10 ∷ 12 ∷ 13 ∷ 15 ∷ 17 ∷ 19 ∷ 21 ∷ 22 ∷ 23 ∷ 24 ∷ 25
-    ∷ 26 ∷ 27 ∷ 28 ∷ 32 ∷ 36 ∷ 38 ∷ 44 ∷ 49 ∷ 53 ∷ 55 ∷ 60 ∷ 65 ∷ 72 ∷ 78 ∷ 81 ∷ 81
+unfoldable pub functionStarts : List ℕ
+functionStarts =
+    0 ∷ 0 ∷ 2 ∷ 4 ∷ 5 ∷ 6 ∷ 7 ∷ 8 ∷ 9 ∷ 10 ∷ 12 ∷ 13 ∷ 15 ∷ 17 ∷ 19 ∷ 21
     ∷ []
 
-startIs : ℕ → Bool
-startIs i = pick (leb (getD starts i 0) 81) (eqb (getD starts i 0) (length (spellingsBefore i))) false
+unfoldable pub signBytes : List ℕ
+signBytes =
+    40 ∷ 41 ∷ 44 ∷ 58 ∷ 61 ∷ 91 ∷ 93 ∷ 114 ∷ 97 ∷ 110 ∷ 107 ∷ 102 ∷ 114 ∷ 111 ∷ 109 ∷ 98 ∷ 121 ∷ 110 ∷ 111 ∷ 98
+    ∷ 111 ∷ 100 ∷ 121 ∷ 108 ∷ 97 ∷ 116 ∷ 101 ∷ 114 ∷ 115 ∷ 101 ∷ 101 ∷ 110 ∷ 111 ∷ 110 ∷ 112 ∷ 97 ∷ 114 ∷ 97 ∷ 109 ∷ 101
+    ∷ 118 ∷ 101 ∷ 110 ∷ 116 ∷ 112 ∷ 97 ∷ 115 ∷ 115 ∷ 105 ∷ 118 ∷ 101 ∷ 97 ∷ 99 ∷ 116 ∷ 105 ∷ 118 ∷ 101 ∷ 114 ∷ 111 ∷ 119
+    ∷ []
 
-starts-are : allBelow 36 startIs ≡ true
-unfolding allBelow startIs starts spellingsBefore spelledAs marks reserved
-starts-are = refl
+unfoldable pub signStarts : List ℕ
+signStarts =
+    0 ∷ 1 ∷ 2 ∷ 3 ∷ 4 ∷ 5 ∷ 6 ∷ 7 ∷ 11 ∷ 15 ∷ 17 ∷ 23 ∷ 28 ∷ 32 ∷ 34 ∷ 39 ∷ 44 ∷ 51 ∷ 57 ∷ 60
+    ∷ 60
+    ∷ []
 
-start-both : (i : ℕ) → i ≤ 35 → (leb (getD starts i 0) 81 ≡ true) × (eqb (getD starts i 0) (length (spellingsBefore i)) ≡ true)
-unfolding startIs
-start-both i h = through (leb (getD starts i 0) 81) (eqb (getD starts i 0) (length (spellingsBefore i))) (each-below 36 startIs starts-are i (omega arith))
+-- each start is as many bytes as the spellings before it have
+startIs : ℕ → List ℕ → ℕ → ℕ → Bool
+startIs first starts top i = pick (leb (getD starts i 0) top) (eqb (getD starts i 0) (length (spellingsFrom first i))) false
 
-pub start-small : (i : ℕ) → i ≤ 35 → getD starts i 0 ≤ 81
-start-small i h = leb-true (getD starts i 0) 81 (start-both i h .0)
+module _ (first : ℕ) (starts : List ℕ) (top n : ℕ) (fine : allBelow n (startIs first starts top) ≡ true) (i : ℕ) (h : i < n) where
+  start-both : (leb (getD starts i 0) top ≡ true) × (eqb (getD starts i 0) (length (spellingsFrom first i)) ≡ true)
+  unfolding startIs
+  start-both = through (leb (getD starts i 0) top) (eqb (getD starts i 0) (length (spellingsFrom first i))) (each-below n (startIs first starts top) fine i h)
 
-pub start-is : (i : ℕ) → i ≤ 35 → getD starts i 0 ≡ length (spellingsBefore i)
-start-is i h = eqb-true (getD starts i 0) (length (spellingsBefore i)) (start-both i h .1)
+  start-told : (getD starts i 0 ≤ top) × (getD starts i 0 ≡ length (spellingsFrom first i))
+  start-told = (leb-true (getD starts i 0) top (start-both .0), eqb-true (getD starts i 0) (length (spellingsFrom first i)) (start-both .1))
+
+function-starts : allBelow 16 (startIs 0 functionStarts 21) ≡ true
+unfolding allBelow startIs functionStarts spellingsFrom spelledAs marks reserved
+function-starts = refl
+
+pub function-start : (f : ℕ) → f < 16 → (getD functionStarts f 0 ≤ 21) × (getD functionStarts f 0 ≡ length (spellingsFrom 0 f))
+function-start = start-told 0 functionStarts 21 16 function-starts
+
+sign-starts : allBelow 21 (startIs opening signStarts 60) ≡ true
+unfolding allBelow startIs signStarts spellingsFrom spelledAs marks reserved
+sign-starts = refl
+
+pub sign-start : (i : ℕ) → i < 21 → (getD signStarts i 0 ≤ 60) × (getD signStarts i 0 ≡ length (spellingsFrom opening i))
+sign-start = start-told opening signStarts 60 21 sign-starts
 
 -- the part of all spellings that is a sign's, by its two ends
-abbrev part : ℕ → ℕ → List ℕ
-part a b = take (b - a) (drop a spellings)
+abbrev part : List ℕ → ℕ → ℕ → List ℕ
+part all a b = take (b - a) (drop a all)
 
-spellingIs : ℕ → Bool
-spellingIs c = pick (leb (length (spellingsBefore (suc c))) 81) (same (part (length (spellingsBefore c)) (length (spellingsBefore (suc c)))) (spell (sign 0 c))) false
+-- it is the sign's spelling, which has at most 7 bytes, and some but at the end of the text
+rowIs : ℕ → List ℕ → ℕ → Bool
+rowIs first all i =
+    pick (leb (length (spellingsFrom first (suc i))) (length all))
+    (pick (same (part all (length (spellingsFrom first i)) (length (spellingsFrom first (suc i)))) (spell (sign 0 (first + i))))
+    (pick (leb (length (spell (sign 0 (first + i)))) 7)
+    (pick (eqb (first + i) 0) true (pick (eqb (first + i) endSign) true (ltb 0 (length (spell (sign 0 (first + i))))))) false) false) false
 
-spellings-are : allBelow 35 spellingIs ≡ true
-unfolding allBelow spellingIs spellings spellingsBefore spelledAs marks reserved same
-spellings-are = refl
+-- what is known of a part
+pub record RowOf (all : List ℕ) (c a b : ℕ) : Type 0 where
+  pub spells : part all a b ≡ spell (sign 0 c)
+  pub upward : a ≤ b
+  pub inside : b ≤ length all
+  pub short : length (spell (sign 0 c)) ≤ 7
+  pub some : 0 < c → c < endSign → 0 < length (spell (sign 0 c))
 
-pub spelling-is : (c a b : ℕ) → c ≤ 34 → a ≡ length (spellingsBefore c) → b ≡ length (spellingsBefore (c + 1)) → part a b ≡ spell (sign 0 c)
-unfolding spellingIs
-spelling-is c a b h d e =
-    let f : b ≡ length (spellingsBefore (suc c)) = rw add-one at e in
-    rw (d, f) (same-is (part (length (spellingsBefore c)) (length (spellingsBefore (suc c)))) (spell (sign 0 c))
-    (through (leb (length (spellingsBefore (suc c))) 81) _ (each-below 35 spellingIs spellings-are c (omega arith)) .1))
+-- the same of the part itself
+pub row-short : {all : List ℕ} {c a b : ℕ} → RowOf all c a b → length (part all a b) ≤ 7
+row-short w = rw (w .spells) (w .short)
 
-pub spelling-within : (c a b : ℕ) → c ≤ 34 → a ≡ length (spellingsBefore c) → b ≡ length (spellingsBefore (c + 1)) → (a ≤ b) × (b ≤ 81)
-unfolding spellingIs spellingsBefore
-spelling-within c a b h d e =
-    let f : b ≡ length (spellingsBefore (suc c)) = rw add-one at e in
-    let g = leb-true (length (spellingsBefore (suc c))) 81 (through (leb (length (spellingsBefore (suc c))) 81) _ (each-below 35 spellingIs spellings-are c (omega arith)) .0) in
-    (omega (arith, length-append (spellingsBefore c) (spell (sign 0 c))), omega arith)
+pub row-some : {all : List ℕ} {c a b : ℕ} → RowOf all c a b → 0 < c → c < endSign → 0 < length (part all a b)
+row-some w h k = rw (w .spells) (w .some h k)
 
-sizeIs : ℕ → Bool
-sizeIs c = pick (leb (length (spell (sign 0 c))) 7) (pick (eqb c 0) true (pick (eqb c 34) true (ltb 0 (length (spell (sign 0 c)))))) false
+module _ (first : ℕ) (all : List ℕ) (n : ℕ) (fine : allBelow n (rowIs first all) ≡ true) where
+  row-of : (i a b : ℕ) → i < n → a ≡ length (spellingsFrom first i) → b ≡ length (spellingsFrom first (i + 1)) → RowOf all (first + i) a b
+  unfolding rowIs spellingsFrom
+  row-of i a b h d e =
+      let f : b ≡ length (spellingsFrom first (suc i)) = rw add-one at e in
+      let k = through (leb (length (spellingsFrom first (suc i))) (length all)) _ (each-below n (rowIs first all) fine i h) in
+      let l = through (same (part all (length (spellingsFrom first i)) (length (spellingsFrom first (suc i)))) (spell (sign 0 (first + i)))) _ (k .1) in
+      let m = through (leb (length (spell (sign 0 (first + i)))) 7) _ (l .1) in
+      record {
+        spells = rw (d, f) (same-is (part all (length (spellingsFrom first i)) (length (spellingsFrom first (suc i)))) (spell (sign 0 (first + i))) (l .0));
+        upward = omega (arith, length-append (spellingsFrom first i) (spell (sign 0 (first + i))));
+        inside = omega (arith, leb-true (length (spellingsFrom first (suc i))) (length all) (k .0));
+        short = leb-true (length (spell (sign 0 (first + i)))) 7 (m .0);
+        some = λ p q. ltb-true 0 (length (spell (sign 0 (first + i)))) (rw (ne-eqb (first + i) 0 (omega arith), ne-eqb (first + i) endSign (omega arith)) at (m .1));
+      }
 
-sizes-are : allBelow 35 sizeIs ≡ true
-unfolding allBelow sizeIs spelledAs marks reserved
-sizes-are = refl
+function-rows : allBelow 15 (rowIs 0 functionBytes) ≡ true
+unfolding allBelow rowIs functionBytes spellingsFrom spelledAs marks reserved same
+function-rows = refl
 
-pub sign-short : (c : ℕ) → c ≤ 34 → length (spell (sign 0 c)) ≤ 7
-unfolding sizeIs
-sign-short c h = leb-true (length (spell (sign 0 c))) 7 (through (leb (length (spell (sign 0 c))) 7) _ (each-below 35 sizeIs sizes-are c (omega arith)) .0)
+pub function-row : (f a b : ℕ) → f < 15 → a ≡ length (spellingsFrom 0 f) → b ≡ length (spellingsFrom 0 (f + 1)) → RowOf functionBytes f a b
+function-row f a b h d e = let q : 0 + f ≡ f = omega arith in rw q at (row-of 0 functionBytes 15 function-rows f a b h d e)
 
-pub sign-some : (c : ℕ) → 0 < c → c < 34 → 0 < length (spell (sign 0 c))
-unfolding sizeIs
-sign-some c g h =
-    let t = through (leb (length (spell (sign 0 c))) 7) _ (each-below 35 sizeIs sizes-are c (omega arith)) .1 in
-    ltb-true 0 (length (spell (sign 0 c))) (rw (ne-eqb c 0 (omega arith), ne-eqb c 34 (omega arith)) at t)
+sign-rows : allBelow 20 (rowIs opening signBytes) ≡ true
+unfolding allBelow rowIs signBytes spellingsFrom spelledAs marks reserved same
+sign-rows = refl
+
+pub sign-row : (c a b : ℕ) → opening ≤ c → c ≤ endSign → a ≡ length (spellingsFrom opening (c - opening)) → b ≡ length (spellingsFrom opening (c - opening + 1)) → RowOf signBytes c a b
+sign-row c a b h l d e =
+    let q : opening + (c - opening) ≡ c = omega arith in
+    rw q at (row-of opening signBytes 20 sign-rows (c - opening) a b (omega arith) d e)
 
 -- ---- a token after its gap
 
@@ -145,38 +180,32 @@ apart-short {o} {p} {a} {b} text d h =
 
 -- ---- a sign after its gap
 
-pub text-short : {text : List ℕ} (c : ℕ) → c ≤ 34 → text ≡ spell (sign 0 c) → length text ≤ 11
-text-short {text} c h e = let g = sign-short c h in rw e (omega arith)
-
-pub text-some : {text : List ℕ} (c : ℕ) → 0 < c → c < 34 → text ≡ spell (sign 0 c) → 0 < length text
-text-some {text} c g h e = rw e (sign-some c g h)
-
 pub sign-first : {o p : List ℕ} {a b : Pen} {text : List ℕ} (c : ℕ) → a .last ≡ 0 → text ≡ spell (sign 0 c) → Penned o p a b text
     → Penned o p a b (tokenAfter (a .last) (sign 0 c))
 sign-first {o} {p} {a} {b} {text} c z e d = penned-as d (rw (eq-eqb (a .last) 0 z) e)
 
-pub sign-lined : {o p q : List ℕ} {a x b : Pen} {text : List ℕ} (c : ℕ) → (a .last ≡ 0 → ⊥) → 29 ≤ c → text ≡ spell (sign 0 c) → Penned o p a x (10 ∷ [])
+pub sign-lined : {o p q : List ℕ} {a x b : Pen} {text : List ℕ} (c : ℕ) → (a .last ≡ 0 → ⊥) → param-word ≤ c → text ≡ spell (sign 0 c) → Penned o p a x (10 ∷ [])
     → Penned p q x b text → Penned o q a b (tokenAfter (a .last) (sign 0 c))
 sign-lined {o} {p} {q} {a} {x} {b} {text} c z h e d f =
-    penned-as (penned-on d f) (rw (ne-eqb (a .last) 0 z, le-leb 29 c h) (ap (λ (l : List ℕ). 10 ∷ l) e))
+    penned-as (penned-on d f) (rw (ne-eqb (a .last) 0 z, le-leb param-word c h) (ap (λ (l : List ℕ). 10 ∷ l) e))
 
-pub sign-on : {o p q : List ℕ} {a x b : Pen} {text : List ℕ} (c : ℕ) → (a .last ≡ 0 → ⊥) → c ≡ 28 → text ≡ spell (sign 0 c)
+pub sign-on : {o p q : List ℕ} {a x b : Pen} {text : List ℕ} (c : ℕ) → (a .last ≡ 0 → ⊥) → c ≡ on-word → text ≡ spell (sign 0 c)
     → Penned o p a x (10 ∷ 32 ∷ 32 ∷ []) → Penned p q x b text → Penned o q a b (tokenAfter (a .last) (sign 0 c))
 sign-on {o} {p} {q} {a} {x} {b} {text} c z h e d f =
     penned-as (penned-on d f)
-    (rw (ne-eqb (a .last) 0 z, lt-leb 29 c (omega arith), eq-eqb c 28 h) (ap (λ (l : List ℕ). 10 ∷ 32 ∷ 32 ∷ l) e))
+    (rw (ne-eqb (a .last) 0 z, lt-leb param-word c (omega arith), eq-eqb c on-word h) (ap (λ (l : List ℕ). 10 ∷ 32 ∷ 32 ∷ l) e))
 
-pub sign-apart : {o p : List ℕ} {a b : Pen} {text : List ℕ} (c : ℕ) → (a .last ≡ 0 → ⊥) → c < 29 → (c ≡ 28 → ⊥) → text ≡ spell (sign 0 c)
+pub sign-apart : {o p : List ℕ} {a b : Pen} {text : List ℕ} (c : ℕ) → (a .last ≡ 0 → ⊥) → c < param-word → (c ≡ on-word → ⊥) → text ≡ spell (sign 0 c)
     → Penned o p a b (spaceAfter (a .last) (firstByte text) ++ text) → Penned o p a b (tokenAfter (a .last) (sign 0 c))
 sign-apart {o} {p} {a} {b} {text} c z h g e d =
-    penned-as d (rw (ne-eqb (a .last) 0 z, lt-leb 29 c h, ne-eqb c 28 g) (ap (λ (l : List ℕ). spaceAfter (a .last) (firstByte l) ++ l) e))
+    penned-as d (rw (ne-eqb (a .last) 0 z, lt-leb param-word c h, ne-eqb c on-word g) (ap (λ (l : List ℕ). spaceAfter (a .last) (firstByte l) ++ l) e))
 
 gap-short : (a c : ℕ) → length (gapAfter a (sign 0 c)) ≤ 3
 gap-short a c =
     by-test (λ (l : List ℕ). length l ≤ 3) (eqb a 0) (λ e. omega arith)
-    (λ e. by-test (λ (l : List ℕ). length l ≤ 3) (leb 29 c) (λ f. omega arith)
-    (λ f. by-test (λ (l : List ℕ). length l ≤ 3) (eqb c 28) (λ g. omega arith) (λ g. omega (arith, space-short a (firstByte (spell (sign 0 c)))))))
+    (λ e. by-test (λ (l : List ℕ). length l ≤ 3) (leb param-word c) (λ f. omega arith)
+    (λ f. by-test (λ (l : List ℕ). length l ≤ 3) (eqb c on-word) (λ g. omega arith) (λ g. omega (arith, space-short a (firstByte (spell (sign 0 c)))))))
 
-pub sign-ends : {o p : List ℕ} {a b : Pen} (c : ℕ) → c ≤ 34 → Penned o p a b (tokenAfter (a .last) (sign 0 c)) → b .at ≤ a .at + 12
+pub sign-ends : {o p : List ℕ} {a b : Pen} (c : ℕ) → length (spell (sign 0 c)) ≤ 7 → Penned o p a b (tokenAfter (a .last) (sign 0 c)) → b .at ≤ a .at + 12
 sign-ends {o} {p} {a} {b} c h d =
-    omega (arith, d .counted, length-append (gapAfter (a .last) (sign 0 c)) (spell (sign 0 c)), gap-short (a .last) c, sign-short c h)
+    omega (arith, d .counted, length-append (gapAfter (a .last) (sign 0 c)) (spell (sign 0 c)), gap-short (a .last) c, h)

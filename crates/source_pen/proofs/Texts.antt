@@ -17,7 +17,7 @@ use Rattle.source_language.specs.Tokens.{SheetToken, number, name, sign, marks,
 use Rattle.source_rendering.specs.Describe.{digitsOf, digits, spelledAs, spell, lastOf, gap, rendered, render, parametersFrom, describedEvents, describedBehaviours, textOf, textTokens, described}
 use Rattle.spec_language.specs.Sheet.{paramsOfEntries}
 use Rattle.source_rendering.proofs.Digits.{some-digits}
-use Rattle.source_rendering.proofs.Lexes.{allBelow, each-below, Spelt, Ended, at-end, before-end}
+use Rattle.source_rendering.proofs.Lexes.{allBelow, each-below, isSpelled, spelled-low, Spelt, Ended, at-end, before-end}
 use Rattle.source_rendering.proofs.DescribedFits.{described-parameters, described-events, described-behaviours}
 use Rattle.source_rendering.proofs.Prints.{text-ended}
 use Rattle.source_pen.specs.Written.{spaceAfter, spacingAfter, gapAfter, tokenAfter, lastAfter, writtenAfter}
@@ -46,9 +46,9 @@ word-last (suc b ∷ []) a l = omega arith
 word-last (b ∷ c ∷ w) a l = word-last (c ∷ w) (a .1) (omega arith)
 
 signEnds : ℕ → Bool
-signEnds c = pick (eqb c 0) true (ltb 0 (lastOf (spell (sign 0 c))))
+signEnds c = pick (isSpelled c) (ltb 0 (lastOf (spell (sign 0 c)))) true
 
-signs-end : allBelow 34 signEnds ≡ true
+signs-end : allBelow endSign signEnds ≡ true
 unfolding allBelow signEnds spelledAs marks reserved lastOf
 signs-end = refl
 
@@ -57,8 +57,8 @@ unfolding signEnds
 spelt-last (number p n) v = rw (sym (last-of 0 (digits n) (some-digits n))) (digits-last n n 0)
 spelt-last (name p s) v = word-last s (v .0 .within) (v .0 .some)
 spelt-last (sign p c) v =
-    let e : signEnds c ≡ true = each-below 34 signEnds signs-end c (v .1) in
-    ltb-true 0 (lastOf (spell (sign 0 c))) (rw (ne-eqb c 0 (omega (arith, v .0))) at e)
+    let e : signEnds c ≡ true = each-below endSign signEnds signs-end c (spelled-low c v .1) in
+    ltb-true 0 (lastOf (spell (sign 0 c))) (rw v at e)
 
 nonempty : (s : List ℕ) → 0 < lastOf s → 0 < length s
 unfolding lastOf

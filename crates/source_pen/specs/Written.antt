@@ -42,10 +42,10 @@ unfoldable pub writtenAfter : ℕ → List SheetToken → List ℕ
 writtenAfter a [] = []
 writtenAfter a (t ∷ ts) = tokenAfter a t ++ writtenAfter (lastAfter a (tokenAfter a t)) ts
 
--- the spellings of the signs before one, in a row
-unfoldable pub spellingsBefore : ℕ → List ℕ
-spellingsBefore zero = []
-spellingsBefore (suc c) = spellingsBefore c ++ spell (sign 0 c)
+-- the spellings of so many signs in a row, from one on
+unfoldable pub spellingsFrom : ℕ → ℕ → List ℕ
+spellingsFrom first zero = []
+spellingsFrom first (suc n) = spellingsFrom first n ++ spell (sign 0 (first + n))
 
 -- `=` after these makes one mark with them
 unfoldable pub takesEquals : ℕ → Bool

@@ -5,16 +5,21 @@ ghost use mathlib.Core.Path.{_≡_};
 ghost use mathlib.Core.List.{[], _∷_, _++_};
 ghost use Prim.Native.Nat.{_<_, _≤_, _+_};
 ghost use lib.ListN.{length, drop};
-ghost use Rattle.source_language.specs.Tokens.{inWord, number, name, sign};
+ghost use Rattle.source_language.specs.Tokens.{inWord, number, name, sign, opening, endSign};
 ghost use Rattle.source_rendering.specs.Describe.{digits, spell, firstByte, runTogether};
-ghost use Rattle.source_pen.specs.Written.{takesEquals, spaceAfter, tokenAfter, spellingsBefore, Penned, TokensPenned};
+ghost use Rattle.source_pen.specs.Written.{takesEquals, spaceAfter, tokenAfter, spellingsFrom, Penned, TokensPenned};
 
-// The spellings of all signs in a row, from 1 on; and where each begins, which is where the one before it ends.
-const SPELLINGS: [u8; 81] =
-    *b"||&&!+-*/>>=<<===!=if(),:=[]rankfrombynobodylaterseenonparameventpassiveactiverow";
+// The spellings of the functions in a row, and where each begins, which is where the one before it ends; 0 is none.
+const FUNCTIONS: [u8; 21] = *b"||&&!+-*/>>=<<===!=if";
 
-const STARTS: [u8; 36] =
-    *b"\x00\x00\x02\x04\x05\x06\x07\x08\x09\x0a\x0c\x0d\x0f\x11\x13\x15\x16\x17\x18\x19\x1a\x1b\x1c\x20\x24\x26\x2c\x31\x35\x37\x3c\x41\x48\x4e\x51\x51";
+const FUNCTION_STARTS: [u8; 16] =
+    *b"\x00\x00\x02\x04\x05\x06\x07\x08\x09\x0a\x0c\x0d\x0f\x11\x13\x15";
+
+// The same of the text's own signs, from the first on.
+const SIGNS: [u8; 60] = *b"(),:=[]rankfrombynobodylaterseenonparameventpassiveactiverow";
+
+const SIGN_STARTS: [u8; 21] =
+    *b"\x00\x01\x02\x03\x04\x05\x06\x07\x0b\x0f\x11\x17\x1c\x20\x22\x27\x2c\x33\x39\x3c\x3c";
 
 // The most digits of a number below 2^32, and a letter before them.
 const NAME_BYTES: usize = 11;
@@ -125,18 +130,27 @@ fn put_apart(out: &mut [u8], pen: Pen, text: &[u8]) -> Pen
     put_bytes(out, pen, text)
 }
 
-// Where the spelling of a sign begins among all of them.
-fn start_of(i: usize) -> usize
-    requires { ⌜ i ≤ 35 ⌝ }
-    ensures { λ r. ⌜ r ≡ length (spellingsBefore i) ⌝ }
+// Where the spelling of a function begins among all of them.
+fn function_start(f: usize) -> usize
+    requires { ⌜ f < 16 ⌝ }
+    ensures { λ r. ⌜ r ≡ length (spellingsFrom 0 f) ⌝ }
 {
-    STARTS[i] as usize
+    FUNCTION_STARTS[f] as usize
+}
+
+// And that of a sign of the text's own, by its place among them.
+fn sign_start(i: usize) -> usize
+    requires { ⌜ i < 21 ⌝ }
+    ensures { λ r. ⌜ r ≡ length (spellingsFrom opening i) ⌝ }
+{
+    SIGN_STARTS[i] as usize
 }
 
 // A sign's spelling after what stands before it: declarations begin a line, handlers one below theirs, two spaces in.
 fn put_spelling(out: &mut [u8], pen: Pen, c: u8, text: &[u8]) -> Pen
     requires { ⌜ pen .at ≤ 4294967296 ⌝ }
-    requires { ⌜ (0 < c) × (c ≤ 34) ⌝ }
+    requires { ⌜ length (now text) ≤ 7 ⌝ }
+    requires { ⌜ (c < endSign → 0 < length (now text)) ⌝ }
     requires { ⌜ now text ≡ spell (sign 0 c) ⌝ }
     ensures { λ r. ⌜ Penned (now (out .entry)) (now (out .exit)) pen r (tokenAfter (pen .last) (sign 0 c)) ⌝ }
 {
@@ -154,17 +168,30 @@ fn put_spelling(out: &mut [u8], pen: Pen, c: u8, text: &[u8]) -> Pen
     put_apart(out, pen, text)
 }
 
-// A sign, by its number: an operator, a mark, a word, or the end of the text.
+// A function's sign: an operator, or `if`.
+pub fn put_function(out: &mut [u8], pen: Pen, f: u8) -> Pen
+    requires { ⌜ pen .at ≤ 4294967296 ⌝ }
+    requires { ⌜ (0 < f) × (f ≤ 14) ⌝ }
+    ensures { λ r. ⌜ TokensPenned (now (out .entry)) (now (out .exit)) pen r (sign 0 f ∷ []) ⌝ }
+    ensures { λ r. ⌜ r .at ≤ pen .at + 12 ⌝ }
+{
+    let i = f as usize;
+    let start = function_start(i);
+    let end = function_start(i + 1);
+    put_spelling(out, pen, f, &FUNCTIONS[start..end])
+}
+
+// A sign of the text's own: a mark, a word, or the end of the text.
 pub fn put_sign(out: &mut [u8], pen: Pen, c: u8) -> Pen
     requires { ⌜ pen .at ≤ 4294967296 ⌝ }
-    requires { ⌜ (0 < c) × (c ≤ 34) ⌝ }
+    requires { ⌜ (opening ≤ c) × (c ≤ endSign) ⌝ }
     ensures { λ r. ⌜ TokensPenned (now (out .entry)) (now (out .exit)) pen r (sign 0 c ∷ []) ⌝ }
     ensures { λ r. ⌜ r .at ≤ pen .at + 12 ⌝ }
 {
-    let i = c as usize;
-    let start = start_of(i);
-    let end = start_of(i + 1);
-    put_spelling(out, pen, c, &SPELLINGS[start..end])
+    let i = (c - signs::OPENING) as usize;
+    let start = sign_start(i);
+    let end = sign_start(i + 1);
+    put_spelling(out, pen, c, &SIGNS[start..end])
 }
 
 // The digits of a number, at the end of a buffer; where they begin.

@@ -17,7 +17,7 @@ use Rattle.spec_language.specs.Sheet.{Term, Clause, clause, Item, formula, stat
 use Rattle.spec_language.specs.Grammar.{encode, encodeExpr, encodeHandlers, encodeItem, encodeViewer, encodeBehaviour, encodeBehaviours, encodeEvents, unary, ternary, binary, TermFits, t-literal, t-variable, t-param, t-apply1, t-apply2, t-apply3, ClausesFit, ItemFits, EntryFits, SignalFits, SheetFits}
 use Rattle.spec_language.specs.Accepted.{NamesIn, HandlerNamesIn, BehaviourNamesIn}
 use Rattle.text_formula.specs.Reader.{level}
-use Rattle.source_language.specs.Tokens.{SheetToken, number, name, sign, opening, closing, on-word, param-word, endSign, marks, reserved}
+use Rattle.source_language.specs.Tokens.{SheetToken, number, name, sign, opening, closing, comma, on-word, param-word, endSign, marks, reserved}
 use Rattle.source_language.specs.Text.{TextConstant, Phrase, behaviour}
 use Rattle.source_rendering.specs.Describe.{behaviourName, describedConstant, cellNamed, phraseOf, describedReactions, describedBody, playersFrom, playersIn, describedBehaviours, describedEvents, parametersFrom, textOf, mark, unless, valueTokens, phraseTokens, numberTokens, playerTokens, fromTokens, seenTokens, parameterTokens, eventTokens, reactionTokens, behaviourToken, behaviourTokens, textTokens, spelledAs, spell, lastOf, firstByte, runTogether, spaceBetween, gap, rendered, render, described}
 use Rattle.spec_language.specs.Sheet.{paramsOfEntries}
@@ -129,13 +129,13 @@ module _ (xs : List Entry) (m : ℕ) (few : m ≤ 64) (v : ℕ → ℕ) where
       )
   term-share (t-apply3 {a = x} {b = y} {c = z} ternary a b c) n l ts =
       let e = phraseTokens 6 (phraseOf xs z) (mark closing ts) in
-      let d = phraseTokens 6 (phraseOf xs y) (sign 0 17 ∷ e) in
+      let d = phraseTokens 6 (phraseOf xs y) (mark comma e) in
       omega (
         arith,
         length-append (encodeExpr x) (encodeExpr y ++ encodeExpr z),
         length-append (encodeExpr y) (encodeExpr z),
-        term-share a (n .0) 6 (sign 0 17 ∷ d),
-        term-share b (n .1) 6 (sign 0 17 ∷ e),
+        term-share a (n .0) 6 (mark comma d),
+        term-share b (n .1) 6 (mark comma e),
         term-share c (n .2) 6 (mark closing ts),
       )
 

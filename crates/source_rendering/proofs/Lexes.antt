@@ -7,12 +7,12 @@ use mathlib.Core.Logic.{_≢_}
 use mathlib.Core.List.{List, [], _∷_, _++_}
 use native.Mathlib.Omega.{arith}
 use lib.ListN.{length, getD}
-use lib.Dec.{leb, eqb}
-use borrow.Author.Tests.{leb-true, eqb-true, eqb-false, ne-eqb}
+use lib.Dec.{ltb, leb, eqb}
+use borrow.Author.Tests.{ltb-true, ltb-false, leb-true, eqb-true, eqb-false, ne-eqb}
 use Rattle.lib_base.specs.Basics.{pick}
 use Rattle.lib_base.proofs.Tools.{by-test, split, past, through, none-of, all-imp}
 use Rattle.text_formula.specs.Tokens.{decimalValue, NotFirst}
-use Rattle.source_language.specs.Tokens.{SheetToken, number, name, sign, on-word, param-word, endSign, Spelling, spelled, marks, reserved, same, signOf, isDigit, isLetter, inWord, isBlank, Are, KindStops, placeIn, wordAtPlace, TextBegins, a-number, a-word, a-long-mark, a-mark, TokensOfText, t-end, t-blank, t-token}
+use Rattle.source_language.specs.Tokens.{SheetToken, number, name, sign, opening, on-word, param-word, endSign, Spelling, spelled, marks, reserved, same, signOf, isDigit, isLetter, inWord, isBlank, Are, KindStops, placeIn, wordAtPlace, TextBegins, a-number, a-word, a-long-mark, a-mark, TokensOfText, t-end, t-blank, t-token}
 use Rattle.source_rendering.specs.Describe.{digits, spelledAs, spell, lastOf, firstByte, runTogether, spaceBetween, gap, rendered, render}
 use Rattle.source_language.proofs.Scans.{same-is}
 use Rattle.source_rendering.proofs.Alike.{Alike, alike-end, alike-number, alike-name, alike-sign}
@@ -68,22 +68,32 @@ wordFine c =
     (pick (leb (length (spelling c)) 32) (leb 1 (length (spelling c))) false) false) false)
     false
 
-signFine : ℕ → Bool
-signFine c = pick (eqb c 0) true (pick (markFine c) true (wordFine c))
+-- a sign has a spelling: a function's, or one of the text's own but for the end
+abbrev pub isSpelled : ℕ → Bool
+isSpelled c = pick (ltb c opening) (pick (eqb c 0) false (leb c 14)) (ltb c endSign)
 
-table-fine : allBelow 34 signFine ≡ true
+pub spelled-low : (c : ℕ) → isSpelled c ≡ true → (0 < c) × (c < endSign)
+spelled-low c h =
+    split (ltb c opening)
+    (λ e. let k = past (eqb c 0) (leb c 14) (rw e at h) in omega (arith, ltb-true c opening e, eqb-false c 0 (k .0)))
+    (λ e. omega (arith, ltb-false c opening e, ltb-true c endSign (rw e at h)))
+
+signFine : ℕ → Bool
+signFine c = pick (isSpelled c) (pick (markFine c) true (wordFine c)) true
+
+table-fine : allBelow endSign signFine ≡ true
 unfolding allBelow signFine markFine wordFine areWord spelledAs signOf marks reserved same isLetter isDigit inWord
 table-fine = refl
 
-sign-sorted : (c : ℕ) → 0 < c → c < 34 → Sort c (spelling c)
+sign-sorted : (c : ℕ) → isSpelled c ≡ true → Sort c (spelling c)
 unfolding signFine markFine wordFine
-sign-sorted c l h =
-    let t : signFine c ≡ true = each-below 34 signFine table-fine c h in
+sign-sorted c h =
+    let t : signFine c ≡ true = each-below endSign signFine table-fine c (spelled-low c h .1) in
     split (markFine c)
     (λ e. let r = through (eqb (signOf (spelling c) marks) c) (leb (length (spelling c)) 2) e in
     as-mark (eqb-true (signOf (spelling c) marks) c (r .0)) (leb-true (length (spelling c)) 2 (r .1)))
     (λ e.
-    let u : wordFine c ≡ true = rw (ne-eqb c 0 (omega arith), e) at t in
+    let u : wordFine c ≡ true = rw (h, e) at t in
     let r = through (eqb (signOf (spelling c) reserved) c) _ u in
     let s = through (isLetter (firstByte (spelling c))) _ (r .1) in
     let v = through (areWord (spelling c)) _ (s .1) in
@@ -155,7 +165,7 @@ clear-first a (b ∷ w) r l h = h
 abbrev pub Spelt : SheetToken → Type 0
 Spelt (number p n) = Unit {0}
 Spelt (name p s) = IsWord s × (signOf s reserved ≡ 0)
-Spelt (sign p c) = (0 < c) × (c < 34)
+Spelt (sign p c) = isSpelled c ≡ true
 
 sort-some : (c : ℕ) (w : List ℕ) → 0 < c → Sort c w → 0 < length w
 unfolding signOf marks same
@@ -166,7 +176,7 @@ sort-some c w l (as-word e h) = h .some
 spelt-some : (t : SheetToken) → Spelt t → 0 < length (spell t)
 spelt-some (number p n) h = some-digits n
 spelt-some (name p s) h = h .0 .some
-spelt-some (sign p c) h = sort-some c (spelling c) (h .0) (sign-sorted c (h .0) (h .1))
+spelt-some (sign p c) h = sort-some c (spelling c) (spelled-low c h .0) (sign-sorted c h)
 
 -- what follows a token does not run into it
 space-clear : (t u : SheetToken) (r : List ℕ) → Spelt u → Clear (lastOf (spell t)) (spaceBetween t u ++ (spell u ++ r))
@@ -276,7 +286,7 @@ module _ (long : ℕ) where
       number-scanned p n (digits n) r (are-digits n) (some-digits n) (say-number n)
       (digit-stops r (word-stops (digits n) r (all-imp (λ b. isDigit b ≡ true) (λ b. inWord b ≡ true) digit-in (digits n) (are-digits n)) (some-digits n) k))
   token-scanned (name p s) r h k = name-scanned p s r (h .0) (h .1) (word-stops s r (h .0 .within) (h .0 .some) k)
-  token-scanned (sign p c) r h k = sorted-scanned p c (spelling c) r (h .0) (sign-sorted c (h .0) (h .1)) k
+  token-scanned (sign p c) r h k = sorted-scanned p c (spelling c) r (spelled-low c h .0) (sign-sorted c h) k
 
   -- ---- blanks are passed over
 

@@ -7,21 +7,21 @@ use mathlib.Core.Option.{Option, none, some}
 use mathlib.Core.List.{List, [], _∷_, map}
 use native.Mathlib.Omega.{arith}
 use lib.Dec.{leb, eqb}
-use borrow.Author.Tests.{leb-true, eqb-true, eqb-false, ne-eqb}
+use borrow.Author.Tests.{leb-true, eqb-true, eqb-false, lt-ltb, le-leb, ne-eqb}
 use Rattle.lib_base.specs.Basics.{pick, All}
 use Rattle.lib_base.proofs.Tools.{by-test, split, through}
 use Rattle.spec_language.specs.Syntax.{immediate, later}
 use Rattle.spec_language.specs.Grammar.{Arity, binary}
 use Rattle.text_formula.specs.Reader.{level}
 use Rattle.text_formula.proofs.Parses.{operator-of}
-use Rattle.source_language.specs.Tokens.{SheetToken, number, name, sign, opening, closing, endSign}
+use Rattle.source_language.specs.Tokens.{SheetToken, number, name, sign, opening, closing, comma, colon, equals, bracket, unbracket, rank-word, from-word, by-word, nobody-word, later-word, seen-word, on-word, param-word, event-word, passive-word, active-word, row-word, endSign}
 use Rattle.source_language.specs.Text.{TextConstant, plus, minus, Phrase, constant, named, cell, negation, operation, choice, Reaction, on, Body, passive, active, row, Parameter, parameter, TextEvent, event, TextBehaviour, behaviour, text}
 use Rattle.source_language.specs.Grammar.{IsValue, v-plus, v-minus, PhraseDerives, tighter, two-sided, negated, a-value, a-name, a-cell, bracketed, chosen, IsPlayers, nobody, last-player, and-player, IsFrom, from-unsaid, from-said, IsSeen, seen-unsaid, seen-said, Many, no-more, one-more, IsParameter, p-bare, p-given, IsEvent, e-event, IsReaction, r-now, r-later, IsBehaviour, b-passive, b-active, b-row, IsText, a-text}
 use Rattle.source_language.specs.Renaming.{phraseAs, reactionsAs, parameterAs, eventAs}
 use Rattle.source_rendering.specs.Describe.{mark, unless, valueTokens, phraseTokens, numberTokens, playerTokens, fromTokens, seenTokens, parameterTokens, eventTokens, reactionTokens, behaviourToken, behaviourTokens, textTokens}
 use Rattle.source_language.proofs.Proper.{Proper, ProperReaction, ProperBehaviour}
 use Rattle.source_rendering.proofs.Alike.{same-name, no-place, bare, bareReactions, bareBehaviour, bareText}
-use Rattle.source_rendering.proofs.Lexes.{allBelow, each-below, Spelt, Ended, at-end, before-end}
+use Rattle.source_rendering.proofs.Lexes.{allBelow, each-below, isSpelled, Spelt, Ended, at-end, before-end}
 
 -- ---- levels
 
@@ -135,8 +135,8 @@ prints-text ps es bs h =
 
 -- ---- spellings
 
-more-mark : (c : ℕ) {ts : List SheetToken} → 0 < c → c < 34 → Ended ts → Ended (mark c ts)
-more-mark c l h e = before-end {t = sign 0 c} (l, h) e
+more-mark : (c : ℕ) {ts : List SheetToken} → isSpelled c ≡ true → Ended ts → Ended (mark c ts)
+more-mark c h e = before-end {t = sign 0 c} h e
 
 more-number : (n : ℕ) {ts : List SheetToken} → Ended ts → Ended (number 0 n ∷ ts)
 more-number n e = before-end {t = number 0 n} tt e
@@ -146,7 +146,7 @@ more-name n h e = before-end {t = name 0 n} h e
 
 more-value : (c : TextConstant) (ts : List SheetToken) → Ended ts → Ended (valueTokens c ts)
 more-value (plus n) ts e = more-number n e
-more-value (minus n) ts e = more-mark 5 (omega arith) (omega arith) (more-number n e)
+more-value (minus n) ts e = more-mark 5 refl (more-number n e)
 
 -- each name has a spelling
 unfoldable pub SpeltNames : Phrase → Type 0
@@ -157,29 +157,29 @@ SpeltNames (negation a) = SpeltNames a
 SpeltNames (operation f a b) = SpeltNames a × SpeltNames b
 SpeltNames (choice a b c) = SpeltNames a × SpeltNames b × SpeltNames c
 
-more-unless : (b : Bool) (c : ℕ) (ts : List SheetToken) → 0 < c → c < 34 → Ended ts → Ended (unless b c ts)
-more-unless b c ts l h e = by-test Ended b (λ x. e) (λ x. more-mark c l h e)
+more-unless : (b : Bool) (c : ℕ) (ts : List SheetToken) → isSpelled c ≡ true → Ended ts → Ended (unless b c ts)
+more-unless b c ts h e = by-test Ended b (λ x. e) (λ x. more-mark c h e)
 
-arity-small : (f : ℕ) → Arity f 2 → (0 < f) × (f < 34)
-arity-small f (binary a b c) = omega arith
+operator-spelled : (f : ℕ) → Arity f 2 → isSpelled f ≡ true
+operator-spelled f (binary a b c) = rw (lt-ltb f opening (omega arith), ne-eqb f 0 (omega arith), le-leb f 14 (omega arith))
 
 more-phrase : (e : Phrase) → Proper e → SpeltNames e → (l : ℕ) (ts : List SheetToken) → Ended ts → Ended (phraseTokens l e ts)
 unfolding phraseTokens Proper SpeltNames
 more-phrase (constant c) h s l ts e = more-value c ts e
 more-phrase (named p n) h s l ts e = more-name n s e
 more-phrase (cell p n q k) h s l ts e =
-    more-name n s (more-mark 20 (omega arith) (omega arith) (more-number k (more-mark 21 (omega arith) (omega arith) e)))
-more-phrase (negation a) h s l ts e = more-mark 3 (omega arith) (omega arith) (more-phrase a h s 0 ts e)
+    more-name n s (more-mark bracket refl (more-number k (more-mark unbracket refl e)))
+more-phrase (negation a) h s l ts e = more-mark 3 refl (more-phrase a h s 0 ts e)
 more-phrase (operation f a b) h s l ts e =
-    let r = arity-small f (h .0) in
-    more-unless (leb (level f) l) opening _ (omega arith) (omega arith)
-    (more-phrase a (h .1) (s .0) (level f) _ (more-mark f (r .0) (r .1)
-    (more-phrase b (h .2) (s .1) (level f - 1) _ (more-unless (leb (level f) l) closing ts (omega arith) (omega arith) e))))
+    let r = operator-spelled f (h .0) in
+    more-unless (leb (level f) l) opening _ refl
+    (more-phrase a (h .1) (s .0) (level f) _ (more-mark f r
+    (more-phrase b (h .2) (s .1) (level f - 1) _ (more-unless (leb (level f) l) closing ts refl e))))
 more-phrase (choice a b c) h s l ts e =
-    more-mark 14 (omega arith) (omega arith) (more-mark 15 (omega arith) (omega arith)
-    (more-phrase a (h .0) (s .0) 6 _ (more-mark 17 (omega arith) (omega arith)
-    (more-phrase b (h .1) (s .1) 6 _ (more-mark 17 (omega arith) (omega arith)
-    (more-phrase c (h .2) (s .2) 6 _ (more-mark 16 (omega arith) (omega arith) e)))))))
+    more-mark 14 refl (more-mark opening refl
+    (more-phrase a (h .0) (s .0) 6 _ (more-mark comma refl
+    (more-phrase b (h .1) (s .1) 6 _ (more-mark comma refl
+    (more-phrase c (h .2) (s .2) 6 _ (more-mark closing refl e)))))))
 
 more-numbers : (ns : List ℕ) (ts : List SheetToken) → Ended ts → Ended (numberTokens ns ts)
 unfolding numberTokens
@@ -187,16 +187,16 @@ more-numbers [] ts e = e
 more-numbers (n ∷ ns) ts e = more-number n (more-numbers ns ts e)
 
 more-players : (ns : List ℕ) (ts : List SheetToken) → Ended ts → Ended (playerTokens ns ts)
-more-players [] ts e = more-mark 25 (omega arith) (omega arith) e
+more-players [] ts e = more-mark nobody-word refl e
 more-players (n ∷ ns) ts e = more-number n (more-numbers ns ts e)
 
 more-from : (m : Option (List ℕ)) (ts : List SheetToken) → Ended ts → Ended (fromTokens m ts)
 more-from none ts e = e
-more-from (some ns) ts e = more-mark 23 (omega arith) (omega arith) (more-players ns ts e)
+more-from (some ns) ts e = more-mark from-word refl (more-players ns ts e)
 
 more-seen : (m : Option (List ℕ)) (ts : List SheetToken) → Ended ts → Ended (seenTokens m ts)
 more-seen none ts e = e
-more-seen (some ns) ts e = more-mark 27 (omega arith) (omega arith) (more-mark 24 (omega arith) (omega arith) (more-players ns ts e))
+more-seen (some ns) ts e = more-mark seen-word refl (more-mark by-word refl (more-players ns ts e))
 
 abbrev pub SpeltReaction : Reaction → Type 0
 SpeltReaction (on s φ e) = Spelt (name 0 s) × SpeltNames e
@@ -219,22 +219,22 @@ more-reactions : (hs : List Reaction) → All ProperReaction hs → All SpeltRea
 unfolding reactionTokens
 more-reactions [] h s ts e = e
 more-reactions (on n immediate x ∷ hs) h s ts e =
-    more-mark 28 (omega arith) (omega arith) (more-name n (s .0 .0) (more-mark 18 (omega arith) (omega arith)
+    more-mark on-word refl (more-name n (s .0 .0) (more-mark colon refl
     (more-phrase x (h .0) (s .0 .1) 6 _ (more-reactions hs (h .1) (s .1) ts e))))
 more-reactions (on n later x ∷ hs) h s ts e =
-    more-mark 28 (omega arith) (omega arith) (more-name n (s .0 .0) (more-mark 26 (omega arith) (omega arith)
-    (more-mark 18 (omega arith) (omega arith) (more-phrase x (h .0) (s .0 .1) 6 _ (more-reactions hs (h .1) (s .1) ts e)))))
+    more-mark on-word refl (more-name n (s .0 .0) (more-mark later-word refl
+    (more-mark colon refl (more-phrase x (h .0) (s .0 .1) 6 _ (more-reactions hs (h .1) (s .1) ts e)))))
 
 more-behaviour : (b : TextBehaviour) → ProperBehaviour b → SpeltBehaviour b → (ts : List SheetToken) → Ended ts → Ended (behaviourToken b ts)
 more-behaviour (behaviour n (passive x) m) h s ts e =
-    more-mark 31 (omega arith) (omega arith) (more-name n (s .0) (more-mark 19 (omega arith) (omega arith)
+    more-mark passive-word refl (more-name n (s .0) (more-mark equals refl
     (more-phrase x h (s .1) 6 _ (more-seen m ts e))))
 more-behaviour (behaviour n (active c hs) m) h s ts e =
-    more-mark 32 (omega arith) (omega arith) (more-name n (s .0) (more-mark 19 (omega arith) (omega arith)
+    more-mark active-word refl (more-name n (s .0) (more-mark equals refl
     (more-value c _ (more-seen m _ (more-reactions hs h (s .1) ts e)))))
 more-behaviour (behaviour n (row k c hs) m) h s ts e =
-    more-mark 33 (omega arith) (omega arith) (more-name n (s .0) (more-mark 20 (omega arith) (omega arith)
-    (more-number k (more-mark 21 (omega arith) (omega arith) (more-mark 19 (omega arith) (omega arith)
+    more-mark row-word refl (more-name n (s .0) (more-mark bracket refl
+    (more-number k (more-mark unbracket refl (more-mark equals refl
     (more-value c _ (more-seen m _ (more-reactions hs h (s .1) ts e))))))))
 
 more-behaviours : (bs : List TextBehaviour) → All ProperBehaviour bs → All SpeltBehaviour bs → (ts : List SheetToken) → Ended ts → Ended (behaviourTokens bs ts)
@@ -246,16 +246,16 @@ more-events : (es : List TextEvent) → All SpeltEvent es → (ts : List SheetTo
 unfolding eventTokens
 more-events [] s ts e = e
 more-events (event n k m ∷ es) s ts e =
-    more-mark 30 (omega arith) (omega arith) (more-name n (s .0) (more-mark 22 (omega arith) (omega arith)
+    more-mark event-word refl (more-name n (s .0) (more-mark rank-word refl
     (more-number k (more-from m _ (more-events es (s .1) ts e)))))
 
 more-parameters : (ps : List Parameter) → All SpeltParameter ps → (ts : List SheetToken) → Ended ts → Ended (parameterTokens ps ts)
 unfolding parameterTokens
 more-parameters [] s ts e = e
 more-parameters (parameter n none ∷ ps) s ts e =
-    more-mark 29 (omega arith) (omega arith) (more-name n (s .0) (more-parameters ps (s .1) ts e))
+    more-mark param-word refl (more-name n (s .0) (more-parameters ps (s .1) ts e))
 more-parameters (parameter n (some c) ∷ ps) s ts e =
-    more-mark 29 (omega arith) (omega arith) (more-name n (s .0) (more-mark 19 (omega arith) (omega arith)
+    more-mark param-word refl (more-name n (s .0) (more-mark equals refl
     (more-value c _ (more-parameters ps (s .1) ts e))))
 
 pub text-ended : (ps : List Parameter) (es : List TextEvent) (bs : List TextBehaviour) → All SpeltParameter ps → All SpeltEvent es → All ProperBehaviour bs → All SpeltBehaviour bs

@@ -18,16 +18,29 @@ ghost use Prim.Native.Nat.{_<_, _≤_};
 ghost use lib.Dec.{leb};
 ghost use lib.ListN.{length, drop};
 ghost use Rattle.text_formula.specs.Reader.{level as tightness};
-ghost use Rattle.source_language.specs.Tokens.{number, name, sign};
+ghost use Rattle.source_language.specs.Tokens.{number, name, sign, opening, endSign};
 ghost use Rattle.source_rendering.specs.Describe.{digits, describedConstant, unless, valueTokens};
 ghost use Rattle.source_walk.specs.Heads.{HeadsOf};
 ghost use Rattle.source_terms.specs.Terms.{cellTokens, headTokens, betweenTokens, firstLevel, secondLevel, leafTokens, termTokens};
 ghost use Rattle.source_terms.specs.Put.{TokensPut};
 
-// A sign; nothing where the text is over its length, as no accepted sheet's is.
+// A function's sign; nothing where the text is over its length, as no accepted sheet's is.
+fn put_function(out: &mut [u8], pen: Pen, f: u8) -> Pen
+    requires { ⌜ pen .at ≤ 65548 ⌝ }
+    requires { ⌜ (0 < f) × (f ≤ 14) ⌝ }
+    ensures { λ r. ⌜ TokensPut (now (out .entry)) (now (out .exit)) pen r (sign 0 f ∷ []) ⌝ }
+{
+    let n = pen.at;
+    if texts::TEXT_BYTES < n {
+        return pen;
+    }
+    source_pen::put_function(out, pen, f)
+}
+
+// A sign of the text's own, likewise.
 pub fn put_sign(out: &mut [u8], pen: Pen, c: u8) -> Pen
     requires { ⌜ pen .at ≤ 65548 ⌝ }
-    requires { ⌜ (0 < c) × (c ≤ 34) ⌝ }
+    requires { ⌜ (opening ≤ c) × (c ≤ endSign) ⌝ }
     ensures { λ r. ⌜ TokensPut (now (out .entry)) (now (out .exit)) pen r (sign 0 c ∷ []) ⌝ }
 {
     let n = pen.at;
@@ -77,7 +90,7 @@ pub fn put_value(out: &mut [u8], pen: Pen, w: u64) -> Pen
     if w < NEGATIVE {
         return put_number(out, pen, w);
     }
-    let after = put_sign(out, pen, functions::SUBTRACT);
+    let after = put_function(out, pen, functions::SUBTRACT);
     put_number(out, after, WORDS - w)
 }
 
@@ -174,7 +187,7 @@ fn second_level(f: u8) -> u64
 // A bracket, unless the operator is tight enough to do without.
 fn put_unless(out: &mut [u8], pen: Pen, f: u8, level: u64, c: u8) -> Pen
     requires { ⌜ pen .at ≤ 65548 ⌝ }
-    requires { ⌜ (0 < c) × (c ≤ 34) ⌝ }
+    requires { ⌜ (opening ≤ c) × (c ≤ endSign) ⌝ }
     ensures { λ r. ⌜ TokensPut (now (out .entry)) (now (out .exit)) pen r (unless (leb (tightness f) level) c []) ⌝ }
 {
     if level_of(f) <= level {
@@ -189,10 +202,10 @@ fn put_head(out: &mut [u8], pen: Pen, f: u8, level: u64) -> Pen
     ensures { λ r. ⌜ TokensPut (now (out .entry)) (now (out .exit)) pen r (headTokens f level) ⌝ }
 {
     if f == functions::NOT {
-        return put_sign(out, pen, f);
+        return put_function(out, pen, f);
     }
     if f == functions::IF {
-        let after = put_sign(out, pen, f);
+        let after = put_function(out, pen, f);
         return put_sign(out, after, signs::OPENING);
     }
     put_unless(out, pen, f, level, signs::OPENING)
@@ -212,7 +225,7 @@ fn put_between(out: &mut [u8], pen: Pen, f: u8) -> Pen
     if functions::IF < f {
         return pen;
     }
-    put_sign(out, pen, f)
+    put_function(out, pen, f)
 }
 
 // The level of the loosest operators: where it is due, nothing is in brackets.

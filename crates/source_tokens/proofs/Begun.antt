@@ -12,7 +12,7 @@ use borrow.Author.Tests.{ltb-true, ltb-false, le-ltb, le-leb, lt-leb, eqb-true, 
 use Rattle.lib_base.specs.Basics.{pick}
 use Rattle.lib_base.proofs.Tools.{by-test, split}
 use Rattle.text_formula.specs.Tokens.{decimalValue}
-use Rattle.source_language.specs.Tokens.{SheetToken, number, name, sign, marks, reserved, signOf, isDigit, inWord, isBlank, inComment}
+use Rattle.source_language.specs.Tokens.{SheetToken, number, name, sign, row-word, endSign, straySign, marks, reserved, signOf, isDigit, inWord, isBlank, inComment}
 use Rattle.source_language.specs.Scanner.{runOfKind, FirstInText, nothing, begins, shortMark, markAt, longWord, firstInText, scanOn}
 use Rattle.source_coding.specs.Places.{tokensFrom, nameAt}
 use Rattle.source_tokens.specs.Token.{cappedAt, TokenAt, TokenWithin, TokenBegins, PassedOver}
@@ -83,8 +83,8 @@ module _ (text : List ℕ) where
     digits-end u e h = number-ends u e (run-out isDigit text i h) (run-end isDigit text (s .run) h)
 
 -- a sign of a token is none that ends a text
-sign-goes : (c : ℕ) (us vs : List SheetToken) → c ≤ 33 → us ≡ vs → us ≡ pick (leb 34 c) [] vs
-sign-goes c us vs h e = rw (lt-leb 34 c (omega arith)) e
+sign-goes : (c : ℕ) (us vs : List SheetToken) → c ≤ row-word → us ≡ vs → us ≡ pick (leb endSign c) [] vs
+sign-goes c us vs h e = rw (lt-leb endSign c (omega arith)) e
 
 -- ---- a word
 
@@ -107,7 +107,7 @@ module _ (text : List ℕ) (at next : ℕ) (u : TokenBegins text at) (e : inWord
       let l = run-within inWord text at next (omega (arith, u .inside)) q in
       (omega (arith, ap length h), l .1)
 
-  pub word-stray : (n : ℕ) → n ≡ next - at → 32 < n → TokenAt text at (Sign at 35 at) × TokenWithin (length text) at (Sign at 35 at)
+  pub word-stray : (n : ℕ) → n ≡ next - at → 32 < n → TokenAt text at (Sign at straySign at) × TokenWithin (length text) at (Sign at straySign at)
   word-stray n p h =
       let l : 32 < length (nameAt text at) = rw word-length (omega arith) in (
         tokens-stray text at u (word-first ∙ rw (lt-leb (length (nameAt text at)) 32 l)),
@@ -135,7 +135,7 @@ module _ (text : List ℕ) (at next : ℕ) (u : TokenBegins text at) (e : inWord
       → TokenAt text at (Sign at c next) × TokenWithin (length text) at (Sign at c next)
   word-sign n c p h z o =
       let k : signOf (nameAt text at) reserved ≡ c = rw (word-spelled n p) (sym z) in
-      let m : c ≤ 33 = rw z (word-below (take n (drop at text))) in (
+      let m : c ≤ row-word = rw z (word-below (take n (drop at text))) in (
         word-begins n p h (sign at c) (rw (k, ne-eqb c 0 o)) ∙ ap (λ (l : List SheetToken). sign at c ∷ l) (sign-goes c (tokensFrom text next) (tokensFrom text next) m refl),
         (omega arith, omega (arith, word-bounds .0), word-bounds .1, λ t. word-bounds .0, omega arith, omega arith),
       )
@@ -162,7 +162,7 @@ module _ (text : List ℕ) (at l k : ℕ) (u : TokenBegins text at) (e : inWord 
   pub mark-long : (l ≡ 0 → ⊥) → TokenAt text at (Sign at l (at + 2)) × TokenWithin (length text) at (Sign at l (at + 2))
   mark-long h =
       let r = long-begins at (getD text at 0) l (drop (suc at) text) behind h in
-      let m : l ≤ 33 = rw q (mark-below (getD text at 0 ∷ k ∷ [])) in
+      let m : l ≤ row-word = rw q (mark-below (getD text at 0 ∷ k ∷ [])) in
       let z : suc at + 1 ≡ at + 2 = omega arith in (
         tokens-begin text at u (sign at l) (at + 2) (mark-first ∙ r .0 ∙ rw (drop-drop 1 (suc at) text, z))
             ∙ ap (λ (ts : List SheetToken). sign at l ∷ ts) (sign-goes l (tokensFrom text (at + 2)) (tokensFrom text (at + 2)) m refl),
@@ -171,13 +171,13 @@ module _ (text : List ℕ) (at l k : ℕ) (u : TokenBegins text at) (e : inWord 
 
   pub mark-short : (s : ℕ) → l ≡ 0 → s ≡ signOf (getD text at 0 ∷ []) marks → (s ≡ 0 → ⊥) → TokenAt text at (Sign at s (at + 1)) × TokenWithin (length text) at (Sign at s (at + 1))
   mark-short s o p h =
-      let m : s ≤ 33 = rw p (mark-below (getD text at 0 ∷ [])) in (
+      let m : s ≤ row-word = rw p (mark-below (getD text at 0 ∷ [])) in (
         tokens-begin text at u (sign at s) (at + 1) (mark-first ∙ short-begins at (getD text at 0) (drop (suc at) text) (sym behind ∙ o) ∙ rw (← p, ne-eqb s 0 h, add-one at))
             ∙ ap (λ (ts : List SheetToken). sign at s ∷ ts) (sign-goes s (tokensFrom text (at + 1)) (tokensFrom text (at + 1)) m refl),
         (omega arith, omega arith, omega (arith, u .inside), λ t. omega arith, omega arith, omega arith),
       )
 
-  pub mark-stray : (s : ℕ) → l ≡ 0 → s ≡ signOf (getD text at 0 ∷ []) marks → s ≡ 0 → TokenAt text at (Sign at 35 at) × TokenWithin (length text) at (Sign at 35 at)
+  pub mark-stray : (s : ℕ) → l ≡ 0 → s ≡ signOf (getD text at 0 ∷ []) marks → s ≡ 0 → TokenAt text at (Sign at straySign at) × TokenWithin (length text) at (Sign at straySign at)
   mark-stray s o p h = (
     tokens-stray text at u (mark-first ∙ short-begins at (getD text at 0) (drop (suc at) text) (sym behind ∙ o) ∙ rw (← p, eq-eqb s 0 h)),
     (omega arith, omega arith, omega (arith, u .inside), λ t. absurd (omega arith), omega arith, omega arith),
@@ -230,7 +230,7 @@ module _ (text : List ℕ) where
   moved-within at p (Name q next) s (a, b, c) = (omega (arith, s .onward), b, c)
   moved-within at p (Sign q c next) s (a, b, d, f, g, h) = (omega (arith, s .onward), b, d, f, g, h)
 
-  pub moved-end : (at p : ℕ) → PassedOver text at p → length text ≤ p → TokenAt text at (Sign p 34 p) × TokenWithin (length text) at (Sign p 34 p)
+  pub moved-end : (at p : ℕ) → PassedOver text at p → length text ≤ p → TokenAt text at (Sign p endSign p) × TokenWithin (length text) at (Sign p endSign p)
   moved-end at p s h = (
     s .all ∙ tokens-end text p (omega (arith, s .within)),
     (s .onward, omega arith, s .within, λ t. absurd (omega arith), omega arith, omega arith),

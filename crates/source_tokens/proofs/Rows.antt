@@ -10,7 +10,7 @@ use lib.Dec.{leb, eqb}
 use borrow.Author.Tests.{leb-true, eq-eqb, ne-eqb}
 use Rattle.lib_base.specs.Basics.{pick}
 use Rattle.lib_base.proofs.Tools.{by-test, split, through}
-use Rattle.source_language.specs.Tokens.{Spelling, spelled, marks, reserved, same, signOf}
+use Rattle.source_language.specs.Tokens.{Spelling, spelled, row-word, marks, reserved, same, signOf}
 use Rattle.source_language.proofs.Scans.{same-is}
 
 unfoldable pub keptRows : (List ℕ → Bool) → List Spelling → List Spelling
@@ -96,7 +96,7 @@ module _ (text : List ℕ) (at n b : ℕ) (h : 0 < n) (e : getD text at 0 ≡ b)
   pub first-none : NoneBegins b reserved → 0 ≡ signOf (take n (drop at text)) reserved
   first-none k = sym (reserved-none (take n (drop at text)) b (first-of text at n h ∙ e) k)
 
--- ---- no sign is above 33
+-- ---- `row` is the last sign that has a spelling
 
 unfoldable allBelow : ℕ → List Spelling → Bool
 allBelow top [] = true
@@ -109,10 +109,10 @@ sign-below top w (spelled s n ∷ rows) h =
     let r = through (leb n top) (allBelow top rows) h in
     by-test (λ x. x ≤ top) (same w s) (λ e. leb-true n top (r .0)) (λ e. sign-below top w rows (r .1))
 
-pub mark-below : (w : List ℕ) → signOf w marks ≤ 33
+pub mark-below : (w : List ℕ) → signOf w marks ≤ row-word
 unfolding marks allBelow
-mark-below w = sign-below 33 w marks refl
+mark-below w = sign-below row-word w marks refl
 
-pub word-below : (w : List ℕ) → signOf w reserved ≤ 33
+pub word-below : (w : List ℕ) → signOf w reserved ≤ row-word
 unfolding reserved allBelow
-word-below w = sign-below 33 w reserved refl
+word-below w = sign-below row-word w reserved refl

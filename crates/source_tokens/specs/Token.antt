@@ -7,7 +7,7 @@ use mathlib.Core.List.{List, [], _∷_}
 use lib.ListN.{length, getD}
 use lib.Dec.{ltb, leb, eqb}
 use Rattle.lib_base.specs.Basics.{pick}
-use Rattle.source_language.specs.Tokens.{number, name, sign, opening, isBlank, endSign}
+use Rattle.source_language.specs.Tokens.{number, name, sign, opening, isBlank, endSign, straySign}
 use Rattle.source_language.specs.Reader.{signAt}
 use Rattle.source_coding.specs.Places.{tokensFrom, nameAt}
 use Rattle.source_tokens.specs.declared.Token.{Token}
@@ -33,7 +33,7 @@ TokenAt text at (Sign p c next) = tokensFrom text at ≡ sign p c ∷ pick (leb 
 abbrev pub TokenWithin : ℕ → ℕ → Token → Type 0
 TokenWithin long at (Number p v next) = (at ≤ p) × (p < next) × (next ≤ long) × (v ≤ 2147483649)
 TokenWithin long at (Name p next) = (at ≤ p) × (p < next) × (next ≤ long)
-TokenWithin long at (Sign p c next) = (at ≤ p) × (p ≤ next) × (next ≤ long) × (c < endSign → p < next) × (1 ≤ c) × (c ≤ 35)
+TokenWithin long at (Sign p c next) = (at ≤ p) × (p ≤ next) × (next ≤ long) × (c < endSign → p < next) × (1 ≤ c) × (c ≤ straySign)
 
 -- what is not passed over begins here
 pub record TokenBegins (text : List ℕ) (at : ℕ) : Type 0 where

@@ -28,19 +28,19 @@ returns-3 c =
     let f = at-if1 .before .before .args .f in
     rw (ne-eqb f 14 (at-if1 .if1 .left), ne-eqb f 0 (c .before .if2 .left), lt-ltb 14 f (c .if3 .taken)) (wrote-none _ _ (at-if1 .before .before .pre))
 
-put-sign-requires-2 : tie.Need-put-sign-requires-2
-put-sign-requires-2 c κs = search needs
+put-function-requires : tie.Need-put-function-requires
+put-function-requires c κs = search needs
 
 same-length-2 : tie.Need-same-length-2
 same-length-2 c = search needs
 
 returns-4 : tie.Need-returns-4
 returns-4 c =
-    let at-put-sign2 = c .before .before in
-    let at-if3 = at-put-sign2 .before .before in
+    let at-put-function = c .before .before in
+    let at-if3 = at-put-function .before .before in
     let at-if1 = at-if3 .before .before in
     let f = at-if1 .before .before .args .f in
-    rw (ne-eqb f 14 (at-if1 .if1 .left), ne-eqb f 0 (at-if3 .before .if2 .left), le-ltb 14 f (at-if3 .if3 .left)) (at-put-sign2 .put-sign2 .ensures)
+    rw (ne-eqb f 14 (at-if1 .if1 .left), ne-eqb f 0 (at-if3 .before .if2 .left), le-ltb 14 f (at-if3 .if3 .left)) (at-put-function .put-function .ensures)
 
 pub put-between-spec : {M : Type 1} → statement M
 put-between-spec =
@@ -51,6 +51,6 @@ put-between-spec =
     returns
     returns-2
     returns-3
-    put-sign-requires-2
+    put-function-requires
     same-length-2
     returns-4)

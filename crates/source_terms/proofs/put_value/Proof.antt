@@ -23,7 +23,7 @@ put-value-spec =
     (λ c. search needs)
     (λ c.
     let at-put-number2 = c .before .before in
-    let at-put-sign = at-put-number2 .before .before .before .before in
-    let at-if1 = at-put-sign .before .before in
+    let at-put-function = at-put-number2 .before .before .before .before in
+    let at-if1 = at-put-function .before .before in
     let w = at-if1 .before .before .args .w in
-    rw (le-ltb w 2147483648 (at-if1 .if1 .left)) (wrote-on (at-put-sign .put-sign .ensures) (at-put-number2 .put-number2 .ensures))))
+    rw (le-ltb w 2147483648 (at-if1 .if1 .left)) (wrote-on (at-put-function .put-function .ensures) (at-put-number2 .put-number2 .ensures))))
