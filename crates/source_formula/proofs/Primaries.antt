@@ -1,7 +1,7 @@
 -- Operands without brackets around them: `!`, `if` and the rest, each as `readPrimary` has it.
 use Prim.Native.Nat.{ℕ, suc, _+_, _*_, _-_, _≤_, _<_}
 use mathlib.Core.Bool.{false}
-use mathlib.Core.Path.{_≡_, refl, sym, ap, _∙_}
+use mathlib.Core.Path.{_≡_, refl, ap, _∙_}
 use mathlib.Core.List.{List, [], _∷_}
 use native.Mathlib.Omega.{arith}
 use lib.ListN.{length}
@@ -20,7 +20,7 @@ use Rattle.source_field.specs.declared.Read.{Read}
 use Rattle.source_field.specs.declared.Read.the-variants.{Done, Fault}
 use Rattle.source_field.proofs.Parts.{negation-written}
 use Rattle.source_operand.specs.Operand.{plainOf}
-use Rattle.source_onward.specs.Onward.{SignStands}
+use Rattle.source_onward.specs.Onward.{SignBefore}
 
 -- ---- by the sign there
 
@@ -62,11 +62,11 @@ pub not-headable : (long room at next n : ℕ) (q : Read) → FormulaWithin long
 not-headable long room at next n (Fault w) b z h k l = tt
 not-headable long room at next n (Done to depth end w) b z h k l = omega arith
 
-module _ (text : List ℕ) (find : List ℕ → NameMeaning) (c room at n p s next : ℕ) (o : List ℕ) (st : SignStands text at p s next) where
+module _ (text : List ℕ) (find : List ℕ → NameMeaning) (c room at n p s next : ℕ) (o : List ℕ) (st : SignBefore text at p s next) where
   pub plain-read : (o₂ : List ℕ) (r : Read) → (s ≡ 3 → ⊥) → (s ≡ 14 → ⊥) → 0 < room → PartRead text find c 1 at n o o₂ r (plainOf (tokensFrom text at))
       → PartRead text find c room at n o o₂ r (readPrimary (phraseWithin (room - 1)) room (tokensFrom text at))
   plain-read o₂ r h g k x =
-      let e = plain-as (phraseWithin (room - 1)) room (tokensFrom text at) (λ q. h (sym (st .sign-is) ∙ q)) (λ q. g (sym (st .sign-is) ∙ q)) in
+      let e = plain-as (phraseWithin (room - 1)) room (tokensFrom text at) (λ q. h (st .not-is q)) (λ q. g (st .if-is q)) in
       record { reads = rw (← e) (x .reads); within = roomier r (x .within); fewer = x .fewer; kept = x .kept }
     where
       roomier : (q : Read) → FormulaWithin (length text) 1 at n q → FormulaWithin (length text) room at n q

@@ -22,6 +22,7 @@ ghost use Rattle.lib_base.specs.Basics.{All};
 ghost use Rattle.source_language.specs.Tokens.{endSign};
 ghost use Rattle.source_language.specs.Reader.{readPrimary, readChoice, phraseWithin, formulaOf};
 ghost use Rattle.source_coding.specs.Places.{tokensFrom};
+ghost use Rattle.source_tokens.specs.Token.{PassedOver};
 ghost use Rattle.source_names.specs.Known.{meaningBy};
 ghost use Rattle.source_field.specs.Formula.{FormulaRead, FormulaWithin, FewerLeft, PartRead};
 ghost use Rattle.source_formula.specs.Arguments.{Readable, ArgumentRoom, ArgumentAfter};
@@ -129,10 +130,10 @@ fn primary(
     n: usize,
 ) -> Read
     requires { ⌜ Readable (now text) at n (now places) sorted (now meanings) (now out) ⌝ }
-    requires { ⌜ (0 < room) × (room ≤ 16) ⌝ }
+    requires { ⌜ (0 < room) × (room ≤ 16) × PassedOver (now text) at at ⌝ }
     ensures { λ r. ⌜ PartRead (now (text .entry)) (meaningBy (now (text .entry)) (now (places .entry)) sorted (now (meanings .entry))) cells room at n (now (out .entry)) (now (out .exit)) r (readPrimary (phraseWithin (room - 1)) room (tokensFrom (now (text .entry)) at)) ⌝ }
 {
-    let standing = source_onward::standing_at(text, at);
+    let standing = source_onward::sign_before(text, at);
     let next = standing.next;
     if standing.sign == functions::NOT {
         if room < 2 {

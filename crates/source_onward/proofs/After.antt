@@ -19,6 +19,8 @@ use Rattle.source_coding.specs.Faults.{faultWord}
 use Rattle.source_coding.specs.Places.{tokensFrom}
 use Rattle.source_tokens.specs.Token.{PassedOver}
 use Rattle.source_tokens.proofs.Begun.{tokens-some}
+use Rattle.source_tokens.proofs.Scanned.{tokens-end}
+use Rattle.source_tokens.proofs.Opened.{not-by-byte, if-by-byte}
 use Rattle.source_tokens.proofs.Words.{NoOperator, word-no-operator}
 use Rattle.source_due.specs.Due.{SignTold}
 use Rattle.source_due.specs.declared.Due.{Due}
@@ -26,9 +28,10 @@ use Rattle.source_due.specs.declared.Due.the-variants as D
 use Rattle.source_due.proofs.Passes.{sign-passes, sign-fails}
 use Rattle.source_field.specs.declared.Read.{Read}
 use Rattle.source_field.specs.declared.Read.the-variants as R
-use Rattle.source_onward.specs.Onward.{SignStands, SignAhead, TokenPassed, joinsIn, onwardOf, OnwardRead, EndedRead}
+use Rattle.source_onward.specs.Onward.{SignBefore, SignAhead, TokenPassed, joinsIn, onwardOf, OnwardRead, EndedRead}
 use Rattle.source_onward.specs.declared.Onward.{Onward}
 use Rattle.source_onward.specs.declared.Onward.the-variants.{Ended, Closed, Operator, Fault}
+use Rattle.source_onward.proofs.Stands.{SignStands}
 
 -- ---- operators
 
@@ -98,16 +101,9 @@ no-level : (c : ℕ) → NoOperator c → level c ≡ 0
 no-level c n = split (ltb 0 (level c)) (λ t. let b = level-range c (ltb-true 0 (level c) t) in let h = n .0 (b .0) in absurd (omega arith)) (λ f. omega (arith, ltb-false 0 (level c) f))
 
 module _ (text : List ℕ) (at p : ℕ) (o : PassedOver text at p) where
-  begins-word : inWord (getD text p 0) ≡ true → p < length text
-  unfolding inWord isLetter isDigit
-  begins-word e =
-      split (ltb p (length text)) (λ t. ltb-true p (length text) t)
-      (λ f. absurd (true≢false (sym e ∙ ap inWord (List·getD-eq-default text 0 (ltb-false p (length text) f)))))
-
-  pub ahead-word : at ≤ length text → inWord (getD text p 0) ≡ true → SignAhead text at p 0 p
+  ahead-none : at ≤ length text → NoOperator (signAt (tokensFrom text p)) × (placeAt (tokensFrom text p) ≡ p) → SignAhead text at p 0 p
   unfolding level
-  ahead-word h e =
-      let n = word-no-operator text p (o .begun (begins-word e)) e in
+  ahead-none h n =
       record {
         level-is = ap (λ (ts : List SheetToken). level (signAt ts)) (o .all) ∙ no-level (signAt (tokensFrom text p)) (n .0);
         closing-is = λ q. absurd (n .0 .1 (ap signAt (sym (o .all)) ∙ q));
@@ -117,6 +113,13 @@ module _ (text : List ℕ) (at p : ℕ) (o : PassedOver text at p) where
         onward = λ x y. absurd (omega arith);
         further = λ x y. absurd (omega arith);
       }
+
+  pub ahead-end : at ≤ length text → length text ≤ p → SignAhead text at p 0 p
+  ahead-end h e =
+      ahead-none h (rw (tokens-end text p (omega (arith, o .within))) ((λ z. omega arith, λ z. absurd (omega arith)), refl))
+
+  pub ahead-word : at ≤ length text → p < length text → inWord (getD text p 0) ≡ true → SignAhead text at p 0 p
+  ahead-word h l e = ahead-none h (word-no-operator text p (o .begun l) e)
 
   pub ahead-sign : (q c next to : ℕ) → SignStands text p q c next → PassedOver text next to → SignAhead text at q c to
   ahead-sign q c next to s n =
@@ -128,6 +131,29 @@ module _ (text : List ℕ) (at p : ℕ) (o : PassedOver text at p) where
         within = s .within;
         onward = λ x y. o .all ∙ s .onward x y ∙ ap (λ (ts : List SheetToken). sign q c ∷ ts) (n .all);
         further = λ x y. let b = s .further x y in (omega (arith, o .onward, n .onward), n .within);
+      }
+
+-- ---- the sign that an operand begins by
+
+module _ (text : List ℕ) (at : ℕ) where
+  pub before-other : PassedOver text at at → (getD text at 0 ≡ 33 → ⊥) → (getD text at 0 ≡ 105 → ⊥) → SignBefore text at at 0 at
+  before-other o h g =
+      record {
+        not-is = λ e. absurd (not-by-byte text at at o h e);
+        if-is = λ e. absurd (if-by-byte text at at o g e);
+        within = o .within;
+        onward = λ x y. absurd (omega arith);
+        further = λ x y. absurd (omega arith);
+      }
+
+  pub before-sign : (p c next : ℕ) → SignStands text at p c next → SignBefore text at p c next
+  before-sign p c next s =
+      record {
+        not-is = λ e. sym (s .sign-is) ∙ e;
+        if-is = λ e. sym (s .sign-is) ∙ e;
+        within = s .within;
+        onward = s .onward;
+        further = s .further;
       }
 
 -- ---- all that can follow

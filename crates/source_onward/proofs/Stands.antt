@@ -1,7 +1,7 @@
 -- The sign at a place by its token, and the brackets that open from a place on: each turn of the loop is one turn of
 -- `fromOperand` (`Opening`).
-use Prim.Native.Nat.{ℕ, suc, _+_, _≤_}
-use mathlib.Core.Path.{_≡_, ap, _∙_}
+use Prim.Native.Nat.{ℕ, suc, _+_, _≤_, _<_}
+use mathlib.Core.Path.{_≡_, refl, ap, _∙_}
 use mathlib.Core.List.{List, _∷_}
 use native.Mathlib.Omega.{arith}
 use native.Mathlib.Numerals.{add-one}
@@ -14,50 +14,51 @@ use Rattle.source_coding.specs.Places.{tokensFrom}
 use Rattle.source_tokens.specs.Token.{TokenAt, TokenWithin, PassedOver, OpeningAt}
 use Rattle.source_tokens.specs.declared.Token.{Token}
 use Rattle.source_tokens.specs.declared.Token.the-variants.{Number, Name, Sign}
-use Rattle.source_onward.specs.Onward.{SignStands, BracketsOpened}
+use Rattle.source_onward.specs.Onward.{StandsFor, BracketsOpened}
 
-module _ (text : List ℕ) (at : ℕ) (t : Token) (is : TokenAt text at t) (in-text : TokenWithin (length text) at t) where
-  pub number-stands : (p v next : ℕ) → t ≡ Number p v next → SignStands text at p 0 next
-  number-stands p v next e =
-      let h = rw e at is in
-      let b = rw e at in-text in
-      record {
-        sign-is = ap signAt (h .1);
-        place-is = ap placeAt (h .1);
-        some = rw (h .1) (omega arith);
-        within = omega arith;
-        behind = omega arith;
-        onward = λ x y. absurd (omega arith);
-        further = λ x y. absurd (omega arith);
-      }
+-- ---- the sign at a place by its token
 
-  pub name-stands : (p next : ℕ) → t ≡ Name p next → SignStands text at p 0 next
-  name-stands p next e =
-      let h = rw e at is in
-      let b = rw e at in-text in
-      record {
-        sign-is = ap signAt h;
-        place-is = ap placeAt h;
-        some = rw h (omega arith);
-        within = omega arith;
-        behind = omega arith;
-        onward = λ x y. absurd (omega arith);
-        further = λ x y. absurd (omega arith);
-      }
+pub record SignStands (text : List ℕ) (at p c next : ℕ) : Type 0 where
+  pub sign-is : signAt (tokensFrom text at) ≡ c
+  pub place-is : placeAt (tokensFrom text at) ≡ p
+  pub some : 0 < length (tokensFrom text at)
+  pub within : p ≤ length text
+  pub behind : next ≤ length text
+  pub onward : 0 < c → c < endSign → tokensFrom text at ≡ sign p c ∷ tokensFrom text next
+  pub further : 0 < c → c < endSign → (at < next) × (next ≤ length text)
 
-  pub sign-stands : (p c next : ℕ) → t ≡ Sign p c next → SignStands text at p c next
-  sign-stands p c next e =
-      let h = rw e at is in
-      let b = rw e at in-text in
-      record {
-        sign-is = ap signAt h;
-        place-is = ap placeAt h;
-        some = rw h (omega arith);
-        within = omega arith;
-        behind = omega arith;
-        onward = λ x y. h ∙ rw (lt-leb endSign c y);
-        further = λ x y. let z = b .3 y in omega arith;
-      }
+pub stands : (text : List ℕ) (at : ℕ) (t : Token) (q d to : ℕ) → TokenAt text at t → TokenWithin (length text) at t → StandsFor t q d to → SignStands text at q d to
+stands text at (Number p v next) q d to h b s =
+    record {
+      sign-is = ap signAt (h .1) ∙ omega arith;
+      place-is = ap placeAt (h .1) ∙ omega arith;
+      some = rw (h .1) (omega arith);
+      within = omega arith;
+      behind = omega arith;
+      onward = λ x y. absurd (omega arith);
+      further = λ x y. absurd (omega arith);
+    }
+stands text at (Name p next) q d to h b s =
+    record {
+      sign-is = ap signAt h ∙ omega arith;
+      place-is = ap placeAt h ∙ omega arith;
+      some = rw h (omega arith);
+      within = omega arith;
+      behind = omega arith;
+      onward = λ x y. absurd (omega arith);
+      further = λ x y. absurd (omega arith);
+    }
+stands text at (Sign p c next) q d to h b s =
+    let few : d < endSign → c < endSign = omega arith in
+    record {
+      sign-is = ap signAt h ∙ omega arith;
+      place-is = ap placeAt h ∙ omega arith;
+      some = rw h (omega arith);
+      within = omega arith;
+      behind = omega arith;
+      onward = λ x y. h ∙ rw (lt-leb endSign c (few y), s .0, s .1, s .2);
+      further = λ x y. let z = b .3 (few y) in omega arith;
+    }
 
 -- ---- brackets
 
@@ -109,5 +110,6 @@ module _ {text : List ℕ} {at first opened : ℕ} (o : Opening text at first op
         counted = rw (← b .all) (o .counted);
         some = rw (← b .all) (s .some);
         other = rw (← b .all) (s .other e);
+        begun = record { onward = omega arith; within = b .within; all = refl; begun = b .begun };
         whole = λ go room l m. rw (← b .all) (o .whole go room l m);
       }

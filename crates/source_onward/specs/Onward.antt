@@ -16,6 +16,9 @@ use Rattle.source_language.specs.Limits.{phraseNesting}
 use Rattle.source_language.specs.Reader.{Phrased, got, thenPhrase, placeAt, signAt, pastSign, afterOperand, fromOperand}
 use Rattle.source_coding.specs.Faults.{faultWord}
 use Rattle.source_coding.specs.Places.{tokensFrom}
+use Rattle.source_tokens.specs.Token.{PassedOver}
+use Rattle.source_tokens.specs.declared.Token.{Token}
+use Rattle.source_tokens.specs.declared.Token.the-variants.{Number, Name, Sign}
 use Rattle.source_due.specs.Due.{FaultTold}
 use Rattle.source_field.specs.declared.Read.{Read}
 use Rattle.source_field.specs.declared.Read.the-variants as R
@@ -24,12 +27,17 @@ use Rattle.source_onward.specs.declared.Onward.the-variants.{Ended, Clos
 
 -- ---- the sign at a place, 0 for another token
 
-pub record SignStands (text : List ℕ) (at p c next : ℕ) : Type 0 where
-  pub sign-is : signAt (tokensFrom text at) ≡ c
-  pub place-is : placeAt (tokensFrom text at) ≡ p
-  pub some : 0 < length (tokensFrom text at)
+-- a token's place, its sign, and the place behind it
+abbrev pub StandsFor : Token → ℕ → ℕ → ℕ → Type 0
+StandsFor (Number p v next) q c to = (q ≡ p) × (c ≡ 0) × (to ≡ next)
+StandsFor (Name p next) q c to = (q ≡ p) × (c ≡ 0) × (to ≡ next)
+StandsFor (Sign p d next) q c to = (q ≡ p) × (c ≡ d) × (to ≡ next)
+
+-- the sign at a place as far as an operand begins by it, with `!` or `if`: 0 stands for any other
+pub record SignBefore (text : List ℕ) (at p c next : ℕ) : Type 0 where
+  pub not-is : signAt (tokensFrom text at) ≡ 3 → c ≡ 3
+  pub if-is : signAt (tokensFrom text at) ≡ 14 → c ≡ 14
   pub within : p ≤ length text
-  pub behind : next ≤ length text
   pub onward : 0 < c → c < endSign → tokensFrom text at ≡ sign p c ∷ tokensFrom text next
   pub further : 0 < c → c < endSign → (at < next) × (next ≤ length text)
 
@@ -57,6 +65,7 @@ pub record BracketsOpened (text : List ℕ) (at first opened : ℕ) : Type 0 whe
   pub counted : length (tokensFrom text first) + opened ≡ length (tokensFrom text at)
   pub some : 0 < length (tokensFrom text first)
   pub other : signAt (tokensFrom text first) ≢ opening
+  pub begun : PassedOver text first first
   pub whole : (next : ℕ → List SheetToken → Phrased Phrase) (room l m : ℕ)
       → fromOperand next room l (m + opened) 0 (tokensFrom text at) ≡ fromOperand next room l m opened (tokensFrom text first)
 

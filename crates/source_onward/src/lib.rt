@@ -8,6 +8,7 @@ use source_field::Read;
 use source_tokens::Token;
 use source_tokens::byte_at;
 use source_tokens::in_word;
+use source_tokens::mark_at;
 use source_tokens::opening_at;
 use source_tokens::pass_over;
 use source_tokens::token_at;
@@ -18,7 +19,8 @@ ghost use Prim.Native.Nat.{_≤_, _<_};
 ghost use lib.ListN.{length};
 ghost use Rattle.text_formula.specs.Reader.{level as levelOf};
 ghost use Rattle.source_coding.specs.Places.{tokensFrom};
-ghost use Rattle.source_onward.specs.Onward.{SignStands, SignAhead, BracketsOpened, joinsIn, onwardOf, OnwardRead, ReadInside, EndedRead};
+ghost use Rattle.source_tokens.specs.Token.{PassedOver};
+ghost use Rattle.source_onward.specs.Onward.{StandsFor, SignBefore, SignAhead, BracketsOpened, joinsIn, onwardOf, OnwardRead, ReadInside, EndedRead};
 
 // The place of a token, its sign's number, 0 for another token, and the place behind it.
 pub struct Standing {
@@ -42,13 +44,11 @@ pub enum Onward {
     Fault(u64),
 }
 
-// The sign at a place.
-pub fn standing_at(text: &[u8], at: usize) -> Standing
-    requires { ⌜ length (now text) ≤ 65536 ⌝ }
-    requires { ⌜ at ≤ length (now text) ⌝ }
-    ensures { λ r. ⌜ SignStands (now (text .entry)) at (r .place) (r .sign) (r .next) ⌝ }
+// A token's place, sign and place behind it.
+fn standing_of(token: Token) -> Standing
+    ensures { λ r. ⌜ StandsFor token (r .place) (r .sign) (r .next) ⌝ }
 {
-    match token_at(text, at) {
+    match token {
         Token::Number(p, v, next) => Standing {
             place: p,
             sign: 0,
@@ -67,6 +67,26 @@ pub fn standing_at(text: &[u8], at: usize) -> Standing
     }
 }
 
+// The sign at a token's place, as far as an operand begins by it: `!` and `if` do, and of a token with another first
+// byte no more is read.
+pub fn sign_before(text: &[u8], at: usize) -> Standing
+    requires { ⌜ length (now text) ≤ 65536 ⌝ }
+    requires { ⌜ PassedOver (now text) at at ⌝ }
+    ensures { λ r. ⌜ SignBefore (now (text .entry)) at (r .place) (r .sign) (r .next) ⌝ }
+{
+    let b = byte_at(text, at);
+    if b != b'!' {
+        if b != b'i' {
+            return Standing {
+                place: at,
+                sign: 0,
+                next: at,
+            };
+        }
+    }
+    standing_of(token_at(text, at))
+}
+
 // The sign ahead, as far as a formula goes on by it: it does by no word, of which only the first byte is read. Behind a
 // sign is the place of the next token, for all formulas that end there.
 fn sign_ahead(text: &[u8], at: usize) -> Standing
@@ -75,14 +95,18 @@ fn sign_ahead(text: &[u8], at: usize) -> Standing
     ensures { λ r. ⌜ SignAhead (now (text .entry)) at (r .place) (r .sign) (r .next) ⌝ }
 {
     let p = pass_over(text, at);
-    if in_word(byte_at(text, p)) {
-        return Standing {
-            place: p,
-            sign: 0,
-            next: p,
-        };
+    let none = Standing {
+        place: p,
+        sign: 0,
+        next: p,
+    };
+    if text.len() <= p {
+        return none;
     }
-    let standing = standing_at(text, p);
+    if in_word(text[p]) {
+        return none;
+    }
+    let standing = standing_of(mark_at(text, p));
     Standing {
         place: standing.place,
         sign: standing.sign,

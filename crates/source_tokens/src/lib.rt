@@ -231,7 +231,7 @@ fn short_mark(b: u8) -> u8
 }
 
 // The mark at a place, the longer one where there is one.
-fn mark_at(text: &[u8], at: usize) -> Token
+pub fn mark_at(text: &[u8], at: usize) -> Token
     requires { ⌜ TokenBegins (now text) at ⌝ }
     requires { ⌜ inWord (getD (now text) at 0) ≡ false ⌝ }
     ensures { λ r. ⌜ TokenAt (now (text .entry)) at r ⌝ }

@@ -29,7 +29,7 @@ use Rattle.source_field.proofs.under.Reads as under-reads
 use Rattle.source_onward.proofs.brackets_at.Reads as brackets-at-reads
 use Rattle.source_onward.proofs.ended.Reads as ended-reads
 use Rattle.source_onward.proofs.onward_at.Reads as onward-at-reads
-use Rattle.source_onward.proofs.standing_at.Reads as standing-at-reads
+use Rattle.source_onward.proofs.sign_before.Reads as sign-before-reads
 use Rattle.source_operand.proofs.plain_at.Reads as plain-at-reads
 use Rattle.source_formula.proofs.+argument+choice+phrase+primary.{statement}
 use Rattle.source_formula.proofs.+argument+choice+phrase+primary.Tie.{close}
@@ -72,7 +72,7 @@ abbrev primary-below : ℕ → In 4 primary-kinds.ps
 primary-below t = and 4 primary-kinds.ps (falls 4 primary-kinds.ps _<_ μ-primary t) primary.Pre
 
 abbrev claims-primary : ℕ → primary-lts.Claims
-claims-primary t = (standing-at-reads.Asked, standing-at-reads.Learnt, fault-word-reads.Asked, fault-word-reads.Learnt, phrase-below t, phrase.Post, close-reads.Asked, close-reads.Learnt, choice-below t, choice.Post, plain-at-reads.Asked, plain-at-reads.Learnt)
+claims-primary t = (sign-before-reads.Asked, sign-before-reads.Learnt, fault-word-reads.Asked, fault-word-reads.Learnt, phrase-below t, phrase.Post, close-reads.Asked, close-reads.Learnt, choice-below t, choice.Post, plain-at-reads.Asked, plain-at-reads.Learnt)
 
 abbrev claims-phrase : ℕ → phrase-lts.Claims
 claims-phrase t = (brackets-at-reads.Asked, brackets-at-reads.Learnt, primary-below t, primary.Post, onward-at-reads.Asked, onward-at-reads.Learnt, phrase-below t, phrase.Post, close-reads.Asked, close-reads.Learnt)
@@ -256,7 +256,7 @@ phrase-primary-requires t c κs =
     let at-entry = at-brackets .before .before .before .before .before in
     let P = at-entry .pre .1 in
     let b = at-brackets .brackets-at .ensures in
-    (omega (arith, at-entry .pre .0), ((P .0 .0, b .within, omega (arith, b .from, P .0 .2), P .0 .3, P .0 .4, P .0 .5), (P .1 .1, P .1 .2)))
+    (omega (arith, at-entry .pre .0), ((P .0 .0, b .within, omega (arith, b .from, P .0 .2), P .0 .3, P .0 .4, P .0 .5), (P .1 .1, P .1 .2, b .begun)))
 
 phrase-loop-holds : (t : ℕ) → phrase-lts.Need-loop-holds (claims-phrase t) (phrase-at t) phrase.Post phrase-Inv-loop phrase-μ-loop
 phrase-loop-holds t c = record { on = λ o u. u }
@@ -468,22 +468,22 @@ phrase-loop-again-2 t c =
           _ _ (at-close .close .ensures .0) (at-close .close .ensures .1) (at-close .close .kept .1 .1 .1 .1 .1 .0);
     }
 
-primary-standing-at-requires : (t : ℕ) → primary-lts.Need-standing-at-requires (claims-primary t) (primary-at t) primary.Post
-primary-standing-at-requires t c κs =
+primary-sign-before-requires : (t : ℕ) → primary-lts.Need-sign-before-requires (claims-primary t) (primary-at t) primary.Post
+primary-sign-before-requires t c κs =
     let at-entry = c .before .before .before .before in
     let P = at-entry .pre .1 in
-    (P .0 .0, P .0 .1)
+    (P .0 .0, P .1 .2)
 
 primary-fault-word-requires : (t : ℕ) → primary-lts.Need-fault-word-requires (claims-primary t) (primary-at t) primary.Post
 primary-fault-word-requires t c κs =
     let at-standing = c .before .before .before in
     let at-entry = at-standing .before .before .before .before .before in
-    omega (arith, at-standing .standing-at .ensures .within, at-entry .pre .1 .0 .0)
+    omega (arith, at-standing .sign-before .ensures .within, at-entry .pre .1 .0 .0)
 
 primary-returns : (t : ℕ) → primary-lts.Need-returns (claims-primary t) (primary-at t) primary.Post
 primary-returns t c =
     let at-standing = c .before .before .before .before in
-    not-too-deep _ _ _ _ _ _ _ _ _ _ (at-standing .standing-at .ensures) _ (c .before .before .if1 .taken) (c .before .if2 .taken) (c .fault-word .ensures)
+    not-too-deep _ _ _ _ _ _ _ _ _ _ (at-standing .sign-before .ensures) _ (c .before .before .if1 .taken) (c .before .if2 .taken) (c .fault-word .ensures)
 
 primary-sub-less : (t : ℕ) → primary-lts.Need-sub-less (claims-primary t) (primary-at t) primary.Post
 primary-sub-less t c =
@@ -496,7 +496,7 @@ primary-phrase-requires t c κs =
     let at-standing = c .before .before .before .before in
     let at-entry = at-standing .before .before .before .before .before in
     let P = at-entry .pre .1 in
-    let st = at-standing .standing-at .ensures in
+    let st = at-standing .sign-before .ensures in
     let sign-is = c .before .before .if1 .taken in
     let b = st .further (omega arith) (omega arith) in (
       omega (arith, at-entry .pre .0, c .before .if2 .left),
@@ -511,11 +511,11 @@ primary-close-requires t c κs =
     let at-entry = at-standing .before .before .before .before .before in
     let P = at-entry .pre .1 in
     let a = at-entry .args in
-    let st = at-standing .standing-at .ensures in
+    let st = at-standing .sign-before .ensures in
     let sign-is = at-if1 .if1 .taken in
     let b = st .further (omega arith) (omega arith) in
     let x = at-phrase .phrase .ensures in (
-      not-headable (length (a .text .now)) (a .room) (a .at) (at-standing .standing-at .result .next) (a .n) (at-phrase .phrase .result) (x .within) b (P .0 .2) (P .1 .1) (P .0 .0),
+      not-headable (length (a .text .now)) (a .room) (a .at) (at-standing .sign-before .result .next) (a .n) (at-phrase .phrase .result) (x .within) b (P .0 .2) (P .1 .1) (P .0 .0),
       omega (arith, x .kept, P .0 .5),
     )
 
@@ -530,7 +530,7 @@ primary-returns-2 t c =
     let at-if1 = at-if2 .before in
     let at-standing = at-if1 .before .before in
     let at-entry = at-standing .before .before .before .before .before in
-    let st = at-standing .standing-at .ensures in
+    let st = at-standing .sign-before .ensures in
     let sign-is = at-if1 .if1 .taken in
     not-read _ _ _ _ _ _ _ _ _ _ st (omega arith) _ _ (at-phrase .phrase .ensures) _ _ sign-is (omega (arith, at-if2 .if2 .left)) (at-close .close .ensures .0) (at-close .close .ensures .1) (at-close .close .kept .1 .1 .1 .1 .1 .0)
 
@@ -538,19 +538,19 @@ primary-fault-word-requires-2 : (t : ℕ) → primary-lts.Need-fault-word-requir
 primary-fault-word-requires-2 t c κs =
     let at-standing = c .before .before .before .before .before in
     let at-entry = at-standing .before .before .before .before .before in
-    omega (arith, at-standing .standing-at .ensures .within, at-entry .pre .1 .0 .0)
+    omega (arith, at-standing .sign-before .ensures .within, at-entry .pre .1 .0 .0)
 
 primary-returns-3 : (t : ℕ) → primary-lts.Need-returns-3 (claims-primary t) (primary-at t) primary.Post
 primary-returns-3 t c =
     let at-standing = c .before .before .before .before .before .before in
-    if-too-deep _ _ _ _ _ _ _ _ _ _ (at-standing .standing-at .ensures) _ (c .before .before .if3 .taken) (c .before .if4 .taken) (c .fault-word2 .ensures)
+    if-too-deep _ _ _ _ _ _ _ _ _ _ (at-standing .sign-before .ensures) _ (c .before .before .if3 .taken) (c .before .if4 .taken) (c .fault-word2 .ensures)
 
 primary-choice-requires : (t : ℕ) → primary-lts.Need-choice-requires (claims-primary t) (primary-at t) primary.Post
 primary-choice-requires t c κs =
     let at-standing = c .before .before .before .before .before .before in
     let at-entry = at-standing .before .before .before .before .before in
     let P = at-entry .pre .1 in
-    let st = at-standing .standing-at .ensures in
+    let st = at-standing .sign-before .ensures in
     let sign-is = c .before .before .if3 .taken in
     let b = st .further (omega arith) (omega arith) in (
       omega (arith, at-entry .pre .0),
@@ -566,7 +566,7 @@ primary-returns-4 t c =
     let at-if4 = at-choice .before .before in
     let at-if3 = at-if4 .before in
     let at-standing = at-if3 .before .before .before .before in
-    let st = at-standing .standing-at .ensures in
+    let st = at-standing .sign-before .ensures in
     let sign-is = at-if3 .if3 .taken in
     if-read _ _ _ _ _ _ _ _ _ _ st (omega arith) _ _ sign-is (omega (arith, at-if4 .if4 .left)) (at-choice .choice .ensures)
 
@@ -587,7 +587,7 @@ primary-returns-5 t c =
     let at-if1 = at-if3 .before .before in
     let at-standing = at-if1 .before .before in
     let at-entry = at-standing .before .before .before .before .before in
-    plain-read _ _ _ _ _ _ _ _ _ _ (at-standing .standing-at .ensures) _ _ (at-if1 .if1 .left) (at-if3 .if3 .left) (at-entry .pre .1 .1 .0) (at-plain .plain-at .ensures)
+    plain-read _ _ _ _ _ _ _ _ _ _ (at-standing .sign-before .ensures) _ _ (at-if1 .if1 .left) (at-if3 .if3 .left) (at-entry .pre .1 .1 .0) (at-plain .plain-at .ensures)
 
 pub +argument+choice+phrase+primary-spec : {M : Type 1} → statement M
 +argument+choice+phrase+primary-spec =
@@ -648,7 +648,7 @@ pub +argument+choice+phrase+primary-spec : {M : Type 1} → statement M
     λ t. primary-lts.spec (claims-primary t)
     (primary-at t)
     primary.Post
-    (primary-standing-at-requires t)
+    (primary-sign-before-requires t)
     (primary-fault-word-requires t)
     (primary-returns t)
     (primary-sub-less t)
