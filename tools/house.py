@@ -196,8 +196,8 @@ def bare_numbers():
 # the rooms that read or write sheets by the names of the room `sheet`; of them the crates whose writers have numbers of
 # their own still, and all that take tags from the language's definitions
 SHEET_ROOMS = {"front", "link", "text", "source", "desk"}
-SHEET_WRITERS = {"text_encode", "source_field", "source_declarations", "source_handlers", "source_body"}
-TAGS_BY_LANGUAGE = SHEET_WRITERS | {"draft_form", "text_formula", "source_operand"}
+SHEET_WRITERS = {"source_declarations", "source_handlers", "source_body"}
+TAGS_BY_LANGUAGE = SHEET_WRITERS | {"draft_form", "text_formula"}
 OWN_NUMBER = re.compile(r"^(?:pub )?const (\w+): (?:u8|usize) = (?:0x[0-9A-Fa-f]+|\d+);", re.M)
 INDEX = re.compile(r"\w\[([^\[\];]*)\]")
 PLACED = re.compile(r"\b(?:put_byte|byte_from|onward|put_half|get_half|get_at)\(([^;{]*)")

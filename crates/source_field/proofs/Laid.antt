@@ -7,17 +7,17 @@ use mathlib.Core.List.{List, _∷_, _++_, append-assoc}
 use native.Mathlib.Omega.{arith}
 use lib.ListN.{length, take, length-append}
 use lib.Dec.{ltb, eqb}
-use borrow.Author.Tests.{le-ltb, ne-eqb}
+use borrow.Author.Tests.{ne-eqb}
 use Rattle.lib_base.proofs.Tools.{by-test}
 use Rattle.spec_language.specs.Sheet.{Term, apply1, apply2, apply3}
 use Rattle.spec_language.specs.Grammar.{field, encodeExpr}
-use Rattle.text_parser.proofs.Places.{placed-front, closed-bytes}
+use Rattle.sheet_write.specs.Writes.{fitted, asApplication}
+use Rattle.sheet_write.proofs.Laws.{fitted-taken, applied-taken}
 use Rattle.source_language.specs.Text.{Phrase, constant, named, cell, negation, operation, choice}
 use Rattle.source_language.specs.Faults.{Kind, outside, tooLarge, offScale, tooMany, declaredTwice, secondHandler, tooDeep, unknownName, noSuchCell, longSheet, shortBuffer, longText, OrFault, fault, fine, andThen}
 use Rattle.source_language.specs.Meaning.{NameMeaning, nothing, aParameter, aBehaviour, aRow, nameTerm, cellTerm, termOf}
 use Rattle.source_coding.specs.Faults.{faultNumber, faultWord, faultIn, firstFault}
 use Rattle.source_coding.specs.Sizes.{phraseSize}
-use Rattle.source_field.specs.Fields.{placedIn, headPlaced}
 
 -- ---- faults
 
@@ -120,8 +120,7 @@ laid-then {n} {o} {p} {q} {end} {to} {w} {v} {s} {t} x y l a b =
     }
 
 pub laid-head : (f : ℕ) {n : ℕ} {o p : List ℕ} {end w s : ℕ} (x : OrBytes) → length p ≡ length o → Laid n o p end w s x
-    → Laid n o (headPlaced f n end p) (end + 4) w (4 + s) (headed f x)
-unfolding headPlaced
+    → Laid n o (asApplication f n end p) (end + 4) w (4 + s) (headed f x)
 laid-head f {n} {o} {p} {end} {w} {s} x l a =
     record {
       size = omega (arith, a .size);
@@ -130,19 +129,18 @@ laid-head f {n} {o} {p} {end} {w} {s} x l a =
       bytes = λ v e h.
           let i = in-head f x v e in
           let z : end ≡ n + length (i .inner) = rw (a .long (i .inner) (i .is)) (a .size) in
-          rw (le-ltb (length p) (end + 4) (omega arith), i .whole)
-          (closed-bytes n end f (i .inner) o p (a .bytes (i .inner) (i .is) (omega arith)) z (omega arith) (omega arith));
+          rw (i .whole)
+          (applied-taken n end f (i .inner) o p (a .bytes (i .inner) (i .is) (omega arith)) z (omega arith) (omega arith));
     }
 
 -- a field of no parts
-pub laid-leaf : (n : ℕ) (v o : List ℕ) → Laid n o (placedIn n v o) (n + length v) 0 (length v) (fine v)
-unfolding placedIn
+pub laid-leaf : (n : ℕ) (v o : List ℕ) → Laid n o (fitted o n v) (n + length v) 0 (length v) (fine v)
 laid-leaf n v o =
     record {
       size = refl;
       told = refl;
       long = λ u e. ap length (sym (fine-same e));
-      bytes = λ u e h. rw (le-ltb (length o) (n + length v) h, ← fine-same e) (placed-front n v o h);
+      bytes = λ u e h. rw (← fine-same e) (fitted-taken o n v h);
     }
 
 pub laid-fault : (n s : ℕ) (o : List ℕ) (k : Kind) (p : ℕ) → Laid n o o (n + s) (faultWord k p) s (fault k p)

@@ -19,7 +19,7 @@ use Rattle.source_coding.specs.Faults.{faultIn, firstFault}
 use Rattle.source_coding.specs.Places.{tokensFrom}
 use Rattle.source_coding.specs.Sizes.{phraseSize}
 use Rattle.source_field.specs.Formula.{FormulaWritten}
-use Rattle.source_field.specs.Fields.{headPlaced}
+use Rattle.sheet_write.specs.Writes.{asApplication}
 use Rattle.source_field.proofs.Laid.{OrBytes, both, headed, Laid, laid-then, laid-head, encodedOf, encoded-negation, encoded-operation, encoded-choice, sized-encoded, fault≢fine, fine-same}
 
 fault-encoded : (x : OrFault Term) → faultIn x ≡ faultIn (andThen x (λ t. fine (encodeExpr t)))
@@ -61,7 +61,7 @@ module _ {text : List ℕ} {find : List ℕ → NameMeaning} {c : ℕ} where
 
   pub negation-written : {n : ℕ} {o p : List ℕ} {to depth end w : ℕ} {a : Phrase} {us : List SheetToken} → length p ≡ length o
       → FormulaWritten text find c n o p to depth end w a us
-      → FormulaWritten text find c n o (headPlaced 3 n end p) to (deeper 0 depth + 1) (end + 4) (firstFault 0 w) (negation a) us
+      → FormulaWritten text find c n o (asApplication 3 n end p) to (deeper 0 depth + 1) (end + 4) (firstFault 0 w) (negation a) us
   unfolding phraseNesting phraseSize
   negation-written {n} {o} {p} {to} {depth} {end} {w} {a} {us} l f =
       laid-written (headed 3 (encodedOf find c a)) (f .onward) (rw (add-one (deeper 0 depth), deeper-none depth, f .nests)) refl (encoded-negation find c a)
@@ -69,7 +69,7 @@ module _ {text : List ℕ} {find : List ℕ → NameMeaning} {c : ℕ} where
 
   pub operation-written : (f : ℕ) {n : ℕ} {o p q : List ℕ} {to to₂ depth depth₂ end end₂ w w₂ : ℕ} {a b : Phrase} {us vs : List SheetToken} → length p ≡ length o → length q ≡ length p
       → FormulaWritten text find c n o p to depth end w a us → FormulaWritten text find c end p q to₂ depth₂ end₂ w₂ b vs
-      → FormulaWritten text find c n o (headPlaced f n end₂ q) to₂ (deeper depth depth₂ + 1) (end₂ + 4) (firstFault w w₂) (operation f a b) vs
+      → FormulaWritten text find c n o (asApplication f n end₂ q) to₂ (deeper depth depth₂ + 1) (end₂ + 4) (firstFault w w₂) (operation f a b) vs
   unfolding phraseNesting phraseSize
   operation-written f {n} {o} {p} {q} {to} {to₂} {depth} {depth₂} {end} {end₂} {w} {w₂} {a} {b} {us} {vs} l m g h =
       let x : OrBytes = both (encodedOf find c a) (encodedOf find c b) in
@@ -81,7 +81,7 @@ module _ {text : List ℕ} {find : List ℕ → NameMeaning} {c : ℕ} where
       → length p ≡ length o → length q ≡ length p → length r ≡ length q
       → FormulaWritten text find c n o p to depth end w a us → FormulaWritten text find c end p q to₂ depth₂ end₂ w₂ b vs → FormulaWritten text find c end₂ q r to₃ depth₃ end₃ w₃ d ws
       → xs ≡ tokensFrom text to₄
-      → FormulaWritten text find c n o (headPlaced 14 n end₃ r) to₄ (deeper 0 (deeper (deeper (deeper 0 depth) depth₂) depth₃) + 1) (end₃ + 4)
+      → FormulaWritten text find c n o (asApplication 14 n end₃ r) to₄ (deeper 0 (deeper (deeper (deeper 0 depth) depth₂) depth₃) + 1) (end₃ + 4)
       (firstFault 0 (firstFault (firstFault (firstFault 0 w) w₂) w₃)) (choice a b d) xs
   unfolding phraseNesting phraseSize
   choice-written {n} {o} {p} {q} {r} {to} {to₂} {to₃} {to₄} {depth} {depth₂} {depth₃} {end} {end₂} {end₃} {w} {w₂} {w₃} {a} {b} {d} {us} {vs} {ws} {xs} l m k f g h u =

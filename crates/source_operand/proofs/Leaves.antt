@@ -1,6 +1,6 @@
 -- Constants, names and cells: what is due there makes up what the definition reads (`readConstant`, `cellOf`), and a
 -- field of no parts is `FormulaWritten`.
-use Prim.Native.Nat.{ℕ, suc, _+_, _/_, _%_, _≤_, _<_}
+use Prim.Native.Nat.{ℕ, suc, _+_, _≤_, _<_}
 use mathlib.Core.Logic.{_≢_}
 use mathlib.Core.Path.{_≡_, refl, sym, ap, _∙_}
 use mathlib.Core.List.{List, [], _∷_}
@@ -10,7 +10,8 @@ use lib.Dec.{ltb, eqb}
 use borrow.Author.Tests.{ne-eqb}
 use Rattle.lib_base.proofs.Tools.{by-test, by-two}
 use Rattle.spec_language.specs.Sheet.{Term}
-use Rattle.spec_language.specs.Grammar.{encodeExpr}
+use Rattle.spec_language.specs.Grammar.{field, word, encodeExpr}
+use Rattle.sheet_write.specs.Writes.{fitted}
 use Rattle.source_language.specs.Tokens.{SheetToken, number, name, sign, bracket, unbracket}
 use Rattle.source_language.specs.Text.{TextConstant, plus, minus, Phrase, constant, named, cell}
 use Rattle.source_language.specs.Faults.{Kind, outside, OrFault, fault, fine}
@@ -27,7 +28,6 @@ use Rattle.source_due.proofs.Passes.{sign-passes, sign-fails, number-passes, nu
 use Rattle.source_due.specs.declared.Due.{Due}
 use Rattle.source_due.specs.declared.Due.the-variants as D
 use Rattle.source_field.specs.Formula.{FormulaRead, FormulaWithin, FewerLeft, PartRead}
-use Rattle.source_field.specs.Fields.{placedIn}
 use Rattle.source_field.specs.declared.Read.{Read}
 use Rattle.source_field.specs.declared.Read.the-variants.{Done, Fault}
 use Rattle.source_field.proofs.Laid.{laid-leaf, laid-fault, encodedOf}
@@ -89,7 +89,7 @@ leaf-read : (text : List ℕ) (find : List ℕ → NameMeaning) (c n : ℕ) (o :
     → phraseSize e ≡ 4 → phraseNesting e ≡ 1 → us ≡ tokensFrom text to → FormulaRead text find c n o (leafPlaced n leaf o) (leafDone to n leaf) (got e us)
 leaf-read text find c n o to e us (Known tag i) (fault k p) t h s d u = absurd h
 leaf-read text find c n o to e us (Known tag i) (fine x) t h s d u =
-    laid-written (fine (tag ∷ 0 ∷ 1 ∷ i ∷ [])) u (sym d) (sym s) (rw t (ap fine (h .0))) (laid-leaf n (tag ∷ 0 ∷ 1 ∷ i ∷ []) o)
+    laid-written (fine (field tag (i ∷ []))) u (sym d) (sym s) (rw t (ap fine (h .0))) (laid-leaf n (field tag (i ∷ [])) o)
 leaf-read text find c n o to e us (Unknown w) (fault k p) t h s d u =
     laid-written (fault k p) u (sym d) (sym s) (rw t) (rw h (laid-fault n 4 o k p))
 leaf-read text find c n o to e us (Unknown w) (fine x) t h s d u = absurd h
@@ -170,23 +170,20 @@ ConstantRead text at n o o₂ r =
     ((find : List ℕ → NameMeaning) (c : ℕ) → FormulaRead text find c n o o₂ r (readConstant (tokensFrom text at)))
     × (FormulaWithin (length text) 1 at n r × FewerLeft text at r)
 
-word-first : (w : ℕ) → w < 4294967296 → w / 16777216 % 256 ≡ w / 16777216
-word-first w h = omega arith
-
 pub constant-misread : (text : List ℕ) (at n w : ℕ) (o : List ℕ) (x : Due) → ValueTold text at x → x ≡ D.Fault w → ConstantRead text at n o o (Fault w)
 constant-misread text at n w o x h e =
     let f = rw e at h in
     (λ find c. rw (constant-none (tokensFrom text at) (f .kind) (f .place) (f .turned)) (f .word), (tt, tt))
 
-pub constant-read : (text : List ℕ) (at n p word next : ℕ) (o o₂ : List ℕ) (x : Due) → ValueTold text at x → x ≡ D.Found p word next → DueWithin (length text) at x
-    → o₂ ≡ placedIn n (16 ∷ 0 ∷ 4 ∷ (word / 16777216 % 256) ∷ (word / 65536 % 256) ∷ (word / 256 % 256) ∷ (word % 256) ∷ []) o → ConstantRead text at n o o₂ (Done next 1 (n + 7) 0)
+pub constant-read : (text : List ℕ) (at n p w next : ℕ) (o o₂ : List ℕ) (x : Due) → ValueTold text at x → x ≡ D.Found p w next → DueWithin (length text) at x
+    → o₂ ≡ fitted o n (field 16 (word w)) → ConstantRead text at n o o₂ (Done next 1 (n + 7) 0)
 unfolding termOf phraseSize phraseNesting encodeExpr
-constant-read text at n p word next o o₂ x h e b g =
+constant-read text at n p w next o o₂ x h e b g =
     let f = rw e at h in
     let d = rw e at b in
-    let v : List ℕ = 16 ∷ 0 ∷ 4 ∷ (word / 16777216 % 256) ∷ (word / 65536 % 256) ∷ (word / 256 % 256) ∷ (word % 256) ∷ [] in (
+    let v : List ℕ = field 16 (word w) in (
       λ find c.
-          let z : encodedOf find c (constant (f .constant)) ≡ fine v = rw (word-first word (d .3), f .written) refl in
+          let z : encodedOf find c (constant (f .constant)) ≡ fine v = rw (f .written) refl in
           rw (constant-as (tokensFrom text at) (tokensFrom text next) (f .constant) (f .read), g)
           (laid-written (fine v) refl refl refl z (laid-leaf n v o)),
       (omega arith, value-falls (f .constant) (tokensFrom text at) (tokensFrom text next) (f .read)),

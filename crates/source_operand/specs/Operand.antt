@@ -4,7 +4,8 @@ use mathlib.Core.Path.{_≡_}
 use mathlib.Core.List.{List, [], _∷_}
 use lib.ListN.{length}
 use Rattle.spec_language.specs.Sheet.{Term}
-use Rattle.spec_language.specs.Grammar.{encodeExpr}
+use Rattle.spec_language.specs.Grammar.{field, encodeExpr}
+use Rattle.sheet_write.specs.Writes.{fitted}
 use Rattle.source_language.specs.Tokens.{SheetToken, number, name, sign, unbracket}
 use Rattle.source_language.specs.Text.{Phrase}
 use Rattle.source_language.specs.Faults.{outside, OrFault, fault, fine}
@@ -14,7 +15,6 @@ use Rattle.source_language.specs.Reader.{Phrased, bad, got, pastSign, numberDue
 use Rattle.source_coding.specs.Faults.{faultWord}
 use Rattle.source_coding.specs.Places.{tokensFrom}
 use Rattle.source_tokens.specs.Token.{PassedOver}
-use Rattle.source_field.specs.Fields.{placedIn}
 use Rattle.source_field.specs.declared.Read.{Read}
 use Rattle.source_field.specs.declared.Read.the-variants.{Done, Fault}
 use Rattle.source_due.specs.Due.{FaultTold}
@@ -41,7 +41,7 @@ MeaningWithin (Row i n) = (i < 128) × (n ≤ 64)
 -- a name's field by its tag and number, or its fault, is that of the expression x
 abbrev pub LeafAs : Leaf → OrFault Term → Type 0
 LeafAs (Known tag i) (fault k p) = ⊥
-LeafAs (Known tag i) (fine x) = (encodeExpr x ≡ tag ∷ 0 ∷ 1 ∷ i ∷ []) × (i < 256)
+LeafAs (Known tag i) (fine x) = (encodeExpr x ≡ field tag (i ∷ [])) × (i < 256)
 LeafAs (Unknown w) (fault k p) = w ≡ faultWord k p
 LeafAs (Unknown w) (fine x) = ⊥
 
@@ -55,7 +55,7 @@ leafDone to n (Known tag i) = Done to 1 (n + 4) 0
 leafDone to n (Unknown w) = Done to 1 (n + 4) w
 
 abbrev pub leafPlaced : ℕ → Leaf → List ℕ → List ℕ
-leafPlaced n (Known tag i) o = placedIn n (tag ∷ 0 ∷ 1 ∷ i ∷ []) o
+leafPlaced n (Known tag i) o = fitted o n (field tag (i ∷ []))
 leafPlaced n (Unknown w) o = o
 
 -- a cell's number and the `]` after it

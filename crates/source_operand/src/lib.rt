@@ -1,5 +1,7 @@
 // The operands of a formula that have no parts: constants, names and cells of rows. Each is read, a name looked up, and
 // its field written where it fits.
+use sheet_field::sizes;
+use sheet_field::tags;
 use source_coding::faults;
 use source_coding::limits;
 use source_coding::signs;
@@ -9,16 +11,11 @@ use source_due::number_due;
 use source_due::sign_due;
 use source_due::value_at;
 use source_field::Read;
-use source_field::put_constant;
-use source_field::put_named;
 use source_names::CELL;
 use source_names::found_in;
 use source_tokens::Token;
 use source_tokens::pass_over;
 use source_tokens::token_at;
-use spec_language::tags;
-use text_encode::CONSTANT_BYTES;
-use text_encode::NAME_BYTES;
 ghost use mathlib.Core.Path.{_≡_};
 ghost use Prim.Native.Nat.{ℕ, _≤_, _<_};
 ghost use mathlib.Core.List.{List};
@@ -158,10 +155,10 @@ fn put_leaf(to: usize, leaf: Leaf, out: &mut [u8], n: usize) -> Read
 {
     match leaf {
         Leaf::Known(tag, i) => {
-            put_named(out, n, tag, i);
-            Read::Done(to, 1, n + NAME_BYTES, 0)
+            sheet_write::put_byte_field(out, n, tag, i as u8);
+            Read::Done(to, 1, n + sizes::BYTE_FIELD, 0)
         }
-        Leaf::Unknown(w) => Read::Done(to, 1, n + NAME_BYTES, w),
+        Leaf::Unknown(w) => Read::Done(to, 1, n + sizes::BYTE_FIELD, w),
     }
 }
 
@@ -229,8 +226,8 @@ fn constant_at(text: &[u8], at: usize, out: &mut [u8], n: usize) -> Read
 {
     match value_at(text, at) {
         Due::Found(p, word, next) => {
-            put_constant(out, n, word);
-            Read::Done(next, 1, n + CONSTANT_BYTES, 0)
+            sheet_write::put_word_field(out, n, tags::CONSTANT, word as u32);
+            Read::Done(next, 1, n + sizes::WORD_FIELD, 0)
         }
         Due::Fault(w) => Read::Fault(w),
     }

@@ -22,7 +22,8 @@ use Rattle.text_phrase.specs.Phrase.{levelIn, closedOf, wrappedIn, Closable}
 use Rattle.text_phrase.specs.declared.Read.{Read}
 use Rattle.text_phrase.specs.declared.Read.the-variants.{Done, Fault}
 use Rattle.text_parser.specs.Parser.{bounded, expressionBytes, Agrees, Reading, ReadWithin}
-use Rattle.text_parser.proofs.Places.{Here, here, nowhere, closed-bytes}
+use Rattle.sheet_write.proofs.Laws.{applied-taken}
+use Rattle.text_parser.proofs.Places.{Here, here, nowhere}
 
 -- ---- the level's state
 
@@ -168,7 +169,7 @@ module _ (m : ℕ) (ts : List Token) (cs : List ℕ) (k n : ℕ) (o p : List ℕ
         enough = omega (arith, w .enough);
         is = goes ∙ rw (e, a .onward);
         size = rw (bytes-two (operatorOf (h .token)) (w .expr) x) (omega arith);
-        written = rw (bytes-two (operatorOf (h .token)) (w .expr) x, ← fe) (closed-bytes n end₂ f v o p₁ y s fits (c .1));
+        written = rw (bytes-two (operatorOf (h .token)) (w .expr) x, ← fe) (applied-taken n end₂ f v o p₁ y s fits (c .1));
         nests = rw (nesting-two (operatorOf (h .token)) (w .expr) x, add-one, w .nests, z);
       }
 

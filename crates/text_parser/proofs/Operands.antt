@@ -18,12 +18,13 @@ use Rattle.text_formula.specs.Answer.{deeper, nesting}
 use Rattle.text_formula.proofs.Deeper.{deeper-sum, deeper-none}
 use Rattle.text_lexer.specs.Codes.{capped, tokenCode}
 use Rattle.text_lexer.proofs.CodeLaws.{capped-most}
-use Rattle.text_encode.specs.Fields.{overwritten}
+use Rattle.sheet_write.specs.Writes.{fitted}
+use Rattle.sheet_write.proofs.Laws.{fitted-taken, applied-taken}
 use Rattle.text_phrase.specs.Phrase.{bracketAt, underOf, closedOf, wrappedIn, endedIn, leafRead, leafOut, Closable}
 use Rattle.text_phrase.specs.declared.Read.{Read}
 use Rattle.text_phrase.specs.declared.Read.the-variants.{Done, Fault}
 use Rattle.text_parser.specs.Parser.{bounded, expressionBytes, ExpressionWritten, Agrees, Reading, ChoiceRead, ReadWithin, ArgumentIn, Argued}
-use Rattle.text_parser.proofs.Places.{here, nowhere, no-mark, placed-front, closed-bytes}
+use Rattle.text_parser.proofs.Places.{here, nowhere, no-mark}
 use Rattle.text_parser.proofs.Levels.{left}
 
 -- ---- a bracket or comma that is due
@@ -149,7 +150,7 @@ module _ (ts : List Token) (cs : List ℕ) (fine : All InRange ts) (x : cs ≡ m
       (λ t. record {
         onward = refl;
         size = rw (bytes-three 14 a b c) (omega (arith, y .size));
-        written = rw (bytes-three 14 a b c) (closed-bytes n end₃ 14 v o p₃ (y .written) (y .size) fits m);
+        written = rw (bytes-three 14 a b c) (applied-taken n end₃ 14 v o p₃ (y .written) (y .size) fits m);
         nests = rw (deeper-none (nesting (app3 14 a b c)), nesting-three 14 a b c, add-one) (ap suc z);
       }) (λ t. tt))
 
@@ -265,7 +266,7 @@ not-agrees ts n o p (Done at end depth) (parsed e rest) a c h =
     record {
       onward = a .onward;
       size = rw (bytes-one 3 e) (omega (arith, a .size));
-      written = rw (bytes-one 3 e) (closed-bytes n end 3 (expressionBytes e) o p (a .written) (a .size) h (c .1));
+      written = rw (bytes-one 3 e) (applied-taken n end 3 (expressionBytes e) o p (a .written) (a .size) h (c .1));
       nests = rw (deeper-none (nesting (app1 3 e)), nesting-one 3 e, deeper-none depth, add-one, a .nests ∙ deeper-none (nesting e));
     }
 
@@ -302,20 +303,11 @@ module _ (cs : List ℕ) (at n : ℕ) (o : List ℕ) (lt : at < length cs) (room
 
 -- ---- numbers and names
 
-number-bytes : (w : ℕ) → w ≤ 2147483648
-    → 16 ∷ 0 ∷ 4 ∷ ((68719476736 + w) / 16777216 % 256) ∷ ((68719476736 + w) / 65536 % 256) ∷ ((68719476736 + w) / 256 % 256) ∷ ((68719476736 + w) % 256) ∷ [] ≡ field 16 (word w)
-number-bytes w h =
-    let a : (68719476736 + w) / 16777216 % 256 ≡ w / 16777216 = omega arith in
-    let b : (68719476736 + w) / 65536 % 256 ≡ w / 65536 % 256 = omega arith in
-    let c : (68719476736 + w) / 256 % 256 ≡ w / 256 % 256 = omega arith in
-    let d : (68719476736 + w) % 256 ≡ w % 256 = omega arith in
-    rw (a, b, c, d)
-
 bytes-number : (m : ℕ) → expressionBytes (con m) ≡ field 16 (word (capped m))
 unfolding expressionBytes bounded encodeExpr asSent
 bytes-number m = refl
 
-bytes-name : (i : ℕ) → expressionBytes (name i) ≡ 17 ∷ 0 ∷ 1 ∷ i ∷ []
+bytes-name : (i : ℕ) → expressionBytes (name i) ≡ field 17 (i ∷ [])
 unfolding expressionBytes bounded encodeExpr asSent
 bytes-name i = refl
 
@@ -325,12 +317,12 @@ leaf-nesting n i = (refl, refl)
 
 -- bytes placed from n on
 placed-wrote : (ts : List Token) (n : ℕ) (o v : List ℕ) (at end : ℕ) (e : Expr) → end ≡ n + length v → v ≡ expressionBytes e → n + length v ≤ length o → nesting e ≡ 1
-    → ExpressionWritten ts 0 n o (overwritten n v o) at end 1 e (drop at ts)
+    → ExpressionWritten ts 0 n o (fitted o n v) at end 1 e (drop at ts)
 placed-wrote ts n o v at end e s q h d =
     record {
       onward = refl;
       size = s ∙ ap (λ (l : List ℕ). n + length l) q;
-      written = rw s (placed-front n v o h ∙ rw q);
+      written = rw s (fitted-taken o n v h ∙ rw q);
       nests = rw (d, deeper-none 1);
     }
 
@@ -340,11 +332,12 @@ leaf-agrees : (ts : List Token) (at n : ℕ) (o : List ℕ) (operand all : List 
 unfolding leafOut leafRead
 leaf-agrees ts at n o operand all (number m) h l a b c =
     let q : (68719476736 + capped m) / 4294967296 ≡ 16 = omega (arith, capped-most m) in
-    rw q (placed-wrote ts n o _ (at + 1) (n + 7) (con m) refl (number-bytes (capped m) (capped-most m) ∙ sym (bytes-number m)) l (leaf-nesting m 0 .0))
+    let r : (68719476736 + capped m) % 4294967296 ≡ capped m = omega (arith, capped-most m) in
+    rw (q, r) (placed-wrote ts n o (field 16 (word (capped m))) (at + 1) (n + 7) (con m) refl (sym (bytes-number m)) l (leaf-nesting m 0 .0))
 leaf-agrees ts at n o operand all (behaviour i) h l a b c =
     let q : (73014444032 + i) / 4294967296 ≡ 17 = omega arith in
     let r : (73014444032 + i) % 256 ≡ i = omega arith in
-    rw (q, r) (placed-wrote ts n o (17 ∷ 0 ∷ 1 ∷ i ∷ []) (at + 1) (n + 4) (name i) refl (sym (bytes-name i)) (omega arith) (leaf-nesting 0 i .1))
+    rw (q, r) (placed-wrote ts n o (field 17 (i ∷ [])) (at + 1) (n + 4) (name i) refl (sym (bytes-name i)) (omega arith) (leaf-nesting 0 i .1))
 leaf-agrees ts at n o operand all (function f) h l a b c =
     let q : (77309411328 + f) / 4294967296 ≡ 18 = omega arith in
     rw (q, ne-eqb f 3 (λ e. a (omega arith)), ne-eqb f 14 (λ e. b (omega arith))) tt

@@ -1,21 +1,18 @@
--- A place of the tokens' numbers is one of the tokens; and the bytes after a write, in terms of what stood before.
+-- A place of the tokens' numbers is one of the tokens.
 use Prim.Native.Nat.{ℕ, zero, suc, _+_, _/_, _%_, _≤_, _<_}
 use mathlib.Core.Bool.{true}
 use mathlib.Core.Path.{_≡_, refl, sym, ap, _∙_}
-use mathlib.Core.List.{List, [], _∷_, _++_, map, append-assoc}
+use mathlib.Core.List.{List, [], _∷_, _++_, map}
 use native.Mathlib.Omega.{arith}
 use native.Mathlib.Numerals.{add-one}
-use lib.ListN.{length, getD, take, drop, length-append, length-map, drop-of-length-le}
-use lib.Seq.{slice, length-take-le, take-at, drop-at, take-take}
+use lib.ListN.{length, getD, take, drop, length-map, drop-of-length-le}
 use lib.Dec.{ltb}
 use borrow.Author.Tests.{lt-ltb, le-ltb}
 use Rattle.lib_base.specs.Basics.{All}
-use Rattle.spec_language.specs.Grammar.{field}
 use Rattle.text_formula.specs.Tokens.{Token, number, behaviour, function, opening, closing, comma, InRange}
 use Rattle.text_formula.specs.Reader.{levelOf, operatorOf, bracketOf}
 use Rattle.text_lexer.specs.Codes.{capped, tokenCode}
 use Rattle.text_lexer.proofs.CodeLaws.{capped-most}
-use Rattle.text_encode.specs.Fields.{overwritten}
 use Rattle.text_phrase.specs.Phrase.{levelCode, levelIn, markCode, bracketAt}
 
 -- ---- tokens and their numbers
@@ -94,21 +91,3 @@ nowhere ts cs e at g = let l : length cs ≡ length ts = ap length e ∙ length-
 pub no-mark : (cs : List ℕ) (at : ℕ) → length cs ≤ at → bracketAt cs at ≡ 0
 unfolding bracketAt
 no-mark cs at h = rw (le-ltb at (length cs) h)
-
--- ---- bytes
-
-pub placed-front : (n : ℕ) (v o : List ℕ) → n + length v ≤ length o → take (n + length v) (overwritten n v o) ≡ take n o ++ v
-unfolding overwritten
-placed-front n v o h =
-    let l : length (take n o ++ v) ≡ n + length v = length-append (take n o) v ∙ rw (length-take-le n o (omega arith)) in
-    rw (sym (append-assoc (take n o) v (drop (n + length v) o))) (take-at (take n o ++ v) (drop (n + length v) o) (n + length v) l)
-
--- an application around the bytes v, which stand from n to the end
-pub closed-bytes : (n end f : ℕ) (v o p : List ℕ) → take end p ≡ take n o ++ v → end ≡ n + length v → n ≤ length o → end + 4 ≤ length p
-    → take (end + 4) (overwritten n (field 18 (f ∷ slice n end p)) p) ≡ take n o ++ field 18 (f ∷ v)
-closed-bytes n end f v o p e s h g =
-    let l : length (take n o) ≡ n = length-take-le n o h in
-    let q : slice n end p ≡ v = ap (drop n) e ∙ drop-at (take n o) v n l in
-    let t : take n p ≡ take n o = sym (take-take n end p (omega arith)) ∙ ap (take n) e ∙ take-at (take n o) v n l in
-    let m : end + 4 ≡ n + length (field 18 (f ∷ v)) = omega arith in
-    rw (q, m) (placed-front n (field 18 (f ∷ v)) p (omega arith) ∙ rw t)

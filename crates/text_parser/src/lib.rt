@@ -13,7 +13,7 @@ ghost use lib.ListN.{length};
 ghost use Rattle.text_parser.specs.Parser.{Reading, ReadWithin, ChoiceRead, Argued, ArgumentIn};
 
 // The most bytes of a formula's field: a token has a byte or more, and gives at most a constant's seven.
-pub const FIELD_BYTES: usize = limits::FORMULA_BYTES * text_encode::CONSTANT_BYTES;
+pub const FIELD_BYTES: usize = limits::FORMULA_BYTES * sheet_field::sizes::WORD_FIELD;
 
 // A function token's last byte is its function.
 const BYTE: u64 = lib_word::BYTE_VALUES as u64;

@@ -3,13 +3,12 @@
 use Prim.Native.Nat.{ℕ, _+_, _/_, _%_, _≤_, _<_}
 use mathlib.Core.List.{List, [], _∷_}
 use lib.ListN.{length, getD}
-use lib.Seq.{slice}
 use lib.Dec.{ltb, eqb}
 use Rattle.lib_base.specs.Basics.{pick}
-use Rattle.spec_language.specs.Grammar.{field}
+use Rattle.spec_language.specs.Grammar.{field, word}
 use Rattle.text_formula.specs.Reader.{level}
 use Rattle.text_formula.specs.Answer.{deeper}
-use Rattle.text_encode.specs.Fields.{overwritten}
+use Rattle.sheet_write.specs.Writes.{fitted, asApplication}
 use Rattle.text_phrase.specs.declared.Read.{Read}
 use Rattle.text_phrase.specs.declared.Read.the-variants.{Done, Fault}
 
@@ -36,7 +35,7 @@ closedOf d (Done at end e) = Done at (end + 4) (deeper d e + 1)
 
 abbrev pub wrappedIn : ℕ → ℕ → Read → List ℕ → List ℕ
 wrappedIn f start Fault o = o
-wrappedIn f start (Done at end e) o = overwritten start (field 18 (f ∷ slice start end o)) o
+wrappedIn f start (Done at end e) o = asApplication f start end o
 
 abbrev pub Closable : ℕ → ℕ → ℕ → Read → Type 0
 Closable start d room Fault = Unit {0}
@@ -54,6 +53,5 @@ leafRead t at n =
 
 unfoldable pub leafOut : ℕ → ℕ → List ℕ → List ℕ
 leafOut t n o =
-    pick (eqb (t / 4294967296) 16)
-    (overwritten n (16 ∷ 0 ∷ 4 ∷ (t / 16777216 % 256) ∷ (t / 65536 % 256) ∷ (t / 256 % 256) ∷ (t % 256) ∷ []) o)
-    (pick (eqb (t / 4294967296) 17) (overwritten n (17 ∷ 0 ∷ 1 ∷ (t % 256) ∷ []) o) o)
+    pick (eqb (t / 4294967296) 16) (fitted o n (field 16 (word (t % 4294967296))))
+    (pick (eqb (t / 4294967296) 17) (fitted o n (field 17 ((t % 256) ∷ []))) o)

@@ -1,5 +1,7 @@
 // What stands at a place of a formula's tokens, and what a reading has come to: the parts of the level functions that
 // do not call them.
+use sheet_field::sizes;
+use sheet_field::tags;
 use spec_language::functions;
 use text_formula::levels;
 use text_formula::tokens;
@@ -22,6 +24,9 @@ const UNEQUAL: u64 = functions::UNEQUAL as u64;
 const AND: u64 = functions::AND as u64;
 
 const OR: u64 = functions::OR as u64;
+
+// What a byte holds: a name's number is its token's low byte.
+const BYTE: u64 = lib_word::BYTE_VALUES as u64;
 
 // A reading: the place of the next token, the end of the bytes written and the nesting; or no expression.
 pub enum Read {
@@ -111,12 +116,8 @@ pub fn close(f: u8, start: usize, d: usize, r: Read, out: &mut [u8]) -> Read
     let Read::Done(at, end, e) = r else {
         return r;
     };
-    text_encode::wrap(out, start, end, f);
-    Read::Done(
-        at,
-        end + text_encode::HEAD_BYTES,
-        lib_order::larger_size(d, e) + 1,
-    )
+    sheet_write::wrap_application(out, start, end, f);
+    Read::Done(at, end + sizes::BYTE_HEAD, lib_order::larger_size(d, e) + 1)
 }
 
 // A closing bracket is due.
@@ -134,19 +135,19 @@ pub fn ended(ts: &[u64], r: Read) -> Read
 
 // A number or a name, or no expression.
 pub fn leaf(t: u64, at: usize, out: &mut [u8], n: usize) -> Read
-    requires { ⌜ n + 7 ≤ length (now out) ⌝ }
+    requires { ⌜ n ≤ 65535 ⌝ }
     requires { ⌜ at < 1024 ⌝ }
     ensures { λ q. ⌜ q ≡ leafRead t at n ⌝ }
     ensures { λ _. ⌜ now (out .exit) ≡ leafOut t n (now (out .entry)) ⌝ }
 {
     let kind = t / tokens::WORDS;
     if kind == tokens::NUMBER_KIND {
-        text_encode::put_number(out, n, t);
-        return Read::Done(at + 1, n + text_encode::CONSTANT_BYTES, 1);
+        sheet_write::put_word_field(out, n, tags::CONSTANT, (t % tokens::WORDS) as u32);
+        return Read::Done(at + 1, n + sizes::WORD_FIELD, 1);
     }
     if kind == tokens::NAME_KIND {
-        text_encode::put_name(out, n, t);
-        return Read::Done(at + 1, n + text_encode::NAME_BYTES, 1);
+        sheet_write::put_byte_field(out, n, tags::NAME, (t % BYTE) as u8);
+        return Read::Done(at + 1, n + sizes::BYTE_FIELD, 1);
     }
     Read::Fault
 }

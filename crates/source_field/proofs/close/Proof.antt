@@ -1,4 +1,4 @@
--- By the two cases of a reading; the bytes are those of `head`.
+-- By the two cases of a reading; the bytes are those of `wrap_application`.
 use native.Mathlib.Omega.{arith}
 use borrow.Author.Needs.{needs}
 use Rattle.source_field.proofs.close.Statement.{statement}
@@ -32,4 +32,4 @@ close-spec =
     (λ c.
     let at-head = c .before .before .before .before in
     let at-r = at-head .before .before .before in
-    (rw (at-r .r .given .1, c .before .larger-size .ensures, c .first-fault .ensures), rw (at-r .r .given .1) (at-head .head .ensures))))
+    (rw (at-r .r .given .1, c .before .larger-size .ensures, c .first-fault .ensures), rw (at-r .r .given .1) (at-head .wrap-application .ensures))))

@@ -1,5 +1,6 @@
 -- By the two cases of a leaf; the bytes are those of the write.
 use mathlib.Core.Path.{refl}
+use native.Mathlib.Omega.{arith}
 use borrow.Author.Needs.{needs}
 use Rattle.source_operand.proofs.put_leaf.Statement.{statement}
 use Rattle.source_operand.proofs.put_leaf.Tie as tie
@@ -9,11 +10,11 @@ put-leaf-spec =
     tie.close
     (tie.spec
     (λ c. search needs)
-    (λ c κs.
+    (λ c.
     let at-leaf = c .before .before in
-    let at-entry = at-leaf .before .before .before in
-    let h = rw (at-leaf .leaf .given .1) at (at-entry .pre .1) in
-    (at-entry .pre .0, h))
+    let small = rw (at-leaf .leaf .given .1) at (at-leaf .before .before .before .pre .1) in
+    omega arith)
+    (λ c κs. search needs)
     (λ c. search needs)
     (λ c. search needs)
     (λ c. search needs)
@@ -21,5 +22,5 @@ put-leaf-spec =
     (λ c.
     let at-put = c .before .before in
     let at-leaf = at-put .before .before .before in
-    rw (at-leaf .leaf .given .1) (refl, at-put .put-named .ensures))
+    rw (at-leaf .leaf .given .1) (refl, at-put .put-byte-field .ensures))
     (λ c. rw (c .before .leaf2 .given .1) (refl, refl)))

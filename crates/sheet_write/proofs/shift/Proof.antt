@@ -2,10 +2,10 @@
 use Prim.Native.Nat.{ℕ}
 use mathlib.Core.Path.{_≡_, ap, _∙_}
 use native.Mathlib.Omega.{arith}
-use Rattle.text_encode.specs.Fields.{shifted}
-use Rattle.text_encode.proofs.Laws.{Moved, moved-start, moved-turn}
-use Rattle.text_encode.proofs.shift.Statement.{statement}
-use Rattle.text_encode.proofs.shift.Tie as tie
+use Rattle.sheet_write.specs.Writes.{shifted}
+use Rattle.sheet_write.proofs.Laws.{Moved, moved-start, moved-turn}
+use Rattle.sheet_write.proofs.shift.Statement.{statement}
+use Rattle.sheet_write.proofs.shift.Tie as tie
 
 abbrev Inv-loop : tie.InvT-loop
 Inv-loop out₀ start end i₀ out i = Moved start end out₀ out i

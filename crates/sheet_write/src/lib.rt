@@ -1,0 +1,92 @@
+// Writing a sheet's fields into a buffer (01, "The sheet"). Each is written from place n on where it fits, and not at
+// all where it does not: the caller counts its bytes.
+use sheet_field::places;
+use sheet_field::sizes;
+use sheet_field::tags;
+ghost use mathlib.Core.Path.{_≡_};
+ghost use mathlib.Core.List.{[], _∷_};
+ghost use Prim.Native.Nat.{_≤_, _<_, _+_};
+ghost use lib.ListN.{length};
+ghost use lib.Seq.{sets};
+ghost use Rattle.spec_language.specs.Grammar.{field, word};
+ghost use Rattle.sheet_write.specs.Writes.{header, fitted, shifted, asApplication};
+
+// What a word's bytes count, from the last but one on.
+const BYTE: u32 = lib_word::BYTE_VALUES;
+
+const HALF: u32 = lib_word::HALF_VALUES;
+
+const THREE_BYTES: u32 = lib_word::THREE_BYTE_VALUES;
+
+// The header of a field: its tag, and how many bytes its value has.
+fn put_header(out: &mut [u8], n: usize, tag: u8, bytes: usize)
+    requires { ⌜ n + 3 ≤ length (now out) ⌝ }
+    requires { ⌜ bytes < 65536 ⌝ }
+    ensures { λ _. ⌜ now (out .exit) ≡ sets (now (out .entry)) n (header tag bytes) ⌝ }
+{
+    out[n] = tag;
+    lib_word::put_half(out, n + places::LENGTH, bytes as u16);
+}
+
+// A word, the high byte first.
+fn put_word(out: &mut [u8], n: usize, w: u32)
+    requires { ⌜ n + 4 ≤ length (now out) ⌝ }
+    ensures { λ _. ⌜ now (out .exit) ≡ sets (now (out .entry)) n (word w) ⌝ }
+{
+    out[n] = (w / THREE_BYTES) as u8;
+    out[n + 1] = (w / HALF % BYTE) as u8;
+    out[n + 2] = (w / BYTE % BYTE) as u8;
+    out[n + 3] = (w % BYTE) as u8;
+}
+
+// A field of one byte: a name, a parameter, or who may see a behaviour.
+pub fn put_byte_field(out: &mut [u8], n: usize, tag: u8, b: u8)
+    requires { ⌜ n ≤ 2147483648 ⌝ }
+    ensures { λ _. ⌜ now (out .exit) ≡ fitted (now (out .entry)) n (field tag (b ∷ [])) ⌝ }
+{
+    if out.len() < n + sizes::BYTE_FIELD {
+        return;
+    }
+    put_header(out, n, tag, sizes::BYTE);
+    out[n + sizes::HEADER] = b;
+}
+
+// A field of a word: a constant or a start value.
+pub fn put_word_field(out: &mut [u8], n: usize, tag: u8, w: u32)
+    requires { ⌜ n ≤ 2147483648 ⌝ }
+    ensures { λ _. ⌜ now (out .exit) ≡ fitted (now (out .entry)) n (field tag (word w)) ⌝ }
+{
+    if out.len() < n + sizes::WORD_FIELD {
+        return;
+    }
+    put_header(out, n, tag, sizes::WORD);
+    put_word(out, n + sizes::HEADER, w);
+}
+
+// The bytes from `start` to `end` go on by an application's head, the last first.
+fn shift(out: &mut [u8], start: usize, end: usize)
+    requires { ⌜ start ≤ end ⌝ }
+    requires { ⌜ end + 4 ≤ length (now out) ⌝ }
+    ensures { λ _. ⌜ now (out .exit) ≡ shifted start end (now (out .entry)) ⌝ }
+{
+    let mut i = end;
+    while start < i {
+        i = i - 1;
+        out[i + sizes::BYTE_HEAD] = out[i];
+    }
+}
+
+// The arguments from `start` to `end` become an application of function f.
+pub fn wrap_application(out: &mut [u8], start: usize, end: usize, f: u8)
+    requires { ⌜ start ≤ end ⌝ }
+    requires { ⌜ end ≤ 2147483648 ⌝ }
+    requires { ⌜ length (now out) ≤ 65535 ⌝ }
+    ensures { λ _. ⌜ now (out .exit) ≡ asApplication f start end (now (out .entry)) ⌝ }
+{
+    if out.len() < end + sizes::BYTE_HEAD {
+        return;
+    }
+    shift(out, start, end);
+    put_header(out, start, tags::APPLICATION, end - start + 1);
+    out[start + sizes::HEADER] = f;
+}
