@@ -1,2 +1,3 @@
 pub mod EncounterLaws
 pub mod Decides
+pub mod Examples

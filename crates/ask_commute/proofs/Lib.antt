@@ -3,3 +3,4 @@ pub mod OnSet
 pub mod CommuteOn
 pub mod Cones
 pub mod TwoLists
+pub mod Examples

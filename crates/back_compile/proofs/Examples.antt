@@ -1,18 +1,21 @@
--- Worked examples, by computation: 1 before 3, with the limits of table and sheet; and rows in a sheet with a fault
--- (02, M-110): where the sheet written out is answered alike, and where 7 or 8 come first.
+-- Worked examples, by computation: 1 before 3, with the limits of table and sheet; 11, 20, 12, 13; and rows in a sheet
+-- with a fault (02, M-110): where the sheet written out is answered alike, and where 7 or 8 come first.
 use Prim.Native.Nat.{ℕ, _≤_}
+use mathlib.Core.Bool.{true, false}
 use mathlib.Core.Path.{_≡_, refl, ap, _∙_}
 use mathlib.Core.List.{List, [], _∷_, _++_, flatMap}
 use native.Mathlib.Omega.{arith}
 use lib.ListN.{length, replicate}
 use Rattle.lib_word.specs.Word.{getAt}
-use Rattle.spec_language.specs.Syntax.{immediate, later}
+use Rattle.spec_language.specs.Syntax.{immediate, later, Program}
 use Rattle.spec_language.specs.Order.{upTo}
-use Rattle.spec_language.specs.Sheet.{literal, clause, formula, row, Sheet, cellCount, heads, renameTerm, entriesOut, rowsOut, changeClauses}
+use Rattle.spec_language.specs.Sheet.{literal, clause, formula, row, Sheet, cellCount, heads, renameTerm, entriesOut, rowsOut, changeClauses, uses}
 use Rattle.spec_language.specs.Grammar.{encodeExpr, encodeHandlers, encodeBehaviours, encodeEvents, encode}
 use Rattle.spec_language.specs.Reading.{Got, bad, got, fieldAt, readAll, exprAt, handles, sheet, readSheet}
+use Rattle.spec_language.specs.Code.{allInstructions}
+use Rattle.check_faults.specs.Faults.{known, cyclic}
 use Rattle.spec_grammar.proofs.Examples.{plain, bare, nots}
-use Rattle.back_compile.specs.Verdict.{compiled, judgeRead, compileOn}
+use Rattle.back_compile.specs.Verdict.{compiled, judge, lacksParameters, judgeRead, compileOn}
 use Rattle.back_compile.specs.Statements.{RowsFit}
 use Rattle.back_compile.proofs.JudgeLaws.{compile-opens}
 use Rattle.back_compile.proofs.RowsOut.{as-rows}
@@ -74,3 +77,16 @@ wide = sheet [] (bare (row 17 1 []) ∷ [])
 pub needed : (readSheet (encode past) ≡ bad 7) × (readSheet (encode (rowsOut past)) ≡ bad 10) × (readSheet (encode wide) ≡ bad 8) × (readSheet (encode (rowsOut wide)) ≡ got (rowsOut wide) [])
 unfolding entriesOut flatMap heads renameTerm changeClauses upTo encode encodeEvents encodeBehaviours encodeHandlers encodeExpr readSheet readAll handles exprAt fieldAt getAt cellCount
 needed = (refl, refl, refl, refl)
+
+-- ---- "then 11, 12, 13", 20 after 11; 4,096 instructions; 32 bytes of parameters
+
+pub verdicts : (p : Program) (t : List ℕ)
+    → ((known p ≡ false → judge p true t ≡ compiled 11 t) × (known p ≡ true → judge p true t ≡ compiled 20 t)
+    × (known p ≡ true → cyclic p ≡ true → judge p false t ≡ compiled 12 t)
+    × (known p ≡ true → cyclic p ≡ false → allInstructions p ≡ 4097 → judge p false t ≡ compiled 13 t)
+    × (known p ≡ true → cyclic p ≡ false → allInstructions p ≡ 4096 → judge p false t .0 ≡ 0))
+unfolding judge
+verdicts p t = (λ k. rw k, λ k. rw k, λ k c. rw (k, c), λ k c n. rw (k, c, n), λ k c n. rw (k, c, n))
+
+pub lacking : (s : Sheet) (ps : List ℕ) → uses s ≡ true → ((length ps ≡ 31 → lacksParameters s ps ≡ true) × (length ps ≡ 32 → lacksParameters s ps ≡ false))
+lacking s ps u = (λ n. rw (u, n), λ n. rw (u, n))

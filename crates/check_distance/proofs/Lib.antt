@@ -2,3 +2,4 @@ pub mod Shorter
 pub mod Walks
 pub mod LayerLaws
 pub mod WalkLaws
+pub mod Examples

@@ -6,3 +6,4 @@ pub mod Passing
 pub mod Agrees
 pub mod Decides
 pub mod FirstLaws
+pub mod Examples

@@ -7,7 +7,7 @@ use mathlib.Core.List.{List, [], _∷_, _++_, flatten, flatMap}
 use lib.ListN.{replicate}
 use Rattle.lib_arith.specs.Exact.{beyond}
 use Rattle.lib_arith.specs.Functions.{arity, exact, result, over}
-use Rattle.spec_language.specs.Syntax.{con, name, app2, app3, immediate, handler, active, Program}
+use Rattle.spec_language.specs.Syntax.{con, name, app2, app3, immediate, later, handler, active, Program}
 use Rattle.spec_language.specs.Dependence.{handled, mentions}
 use Rattle.spec_language.specs.Order.{met, find, order, upTo, metAtOnce, phaseOne}
 use Rattle.spec_language.specs.Code.{postfix, inOrder, copyPart, firstPart, secondPart, restorePart, code}
@@ -44,13 +44,30 @@ bonus = record {
   viewers = 255 ∷ 255 ∷ [];
 }
 
-bonus-shared : clashIn bonus ≡ packedDifference 0 1 1
+-- 29 + 65,536 + 16,777,216
+bonus-shared : clashIn bonus ≡ 16842781
 unfolding handled mentions upTo anyBelow matrixOf closed closeBy closeRows closeThrough closeRow closeCell firstFrom namedDirectly throughPassives namedBy packedDifference clashes clashOf clashFrom clashIn
 bonus-shared = refl
 
 bonus-agrees : agreeForIn bonus 1 ≡ 0
 unfolding handled mentions upTo anyBelow matrixOf closed closeBy closeRows closeThrough closeRow closeCell closedBy firstFrom throughPassives behaviourNames nameMark twoMark ifMark markOf addsOf inCone refersAt strictAt strictIn meeting meets encounterAt encounterWith encounterFrom encounterBy encounterIn agreeForIn
 bonus-agrees = refl
+
+-- 01's sheet S: events 0 and 1, of ranks 1 and 2, meet at b1, on which b0 depends; b2 is none
+abbrev S : Program
+S = record {
+  priorities = 1 ∷ 2 ∷ [];
+  senders = 255 ∷ 255 ∷ [];
+  behaviours =
+      active 1 (handler 0 immediate (app2 4 (name 0) (name 1)) ∷ [])
+      ∷ active 1 (handler 0 later (app2 5 (name 0) (name 1)) ∷ handler 1 immediate (con 1) ∷ [])
+      ∷ [];
+  viewers = 255 ∷ 255 ∷ [];
+}
+
+S-meets : (agreeForIn S 0 ≡ 16842781) × (agreeForIn S 1 ≡ 16842781) × (agreeForIn S 2 ≡ 18)
+unfolding handled mentions upTo anyBelow matrixOf closed closeBy closeRows closeThrough closeRow closeCell closedBy firstFrom throughPassives behaviourNames packedDifference nameMark twoMark ifMark markOf addsOf inCone refersAt strictAt strictIn meeting meets encounterAt encounterWith encounterFrom encounterBy encounterIn agreeForIn
+S-meets = (refl, refl, refl)
 
 -- ---- 0 in each sheet is not enough: event 0 of rank 1, event 1 of rank 2; first they set b1 and b0 stands alone, then
 -- event 0 copies b1 to b0

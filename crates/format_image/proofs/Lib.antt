@@ -1,2 +1,3 @@
 pub mod PutWords
 pub mod ImageLaws
+pub mod Examples

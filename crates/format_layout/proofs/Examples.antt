@@ -5,10 +5,11 @@
 use Prim.Native.Nat.{ℕ}
 use mathlib.Core.Bool.{Bool, true, false}
 use mathlib.Core.Path.{_≡_, refl}
-use mathlib.Core.List.{List, []}
+use mathlib.Core.List.{List, [], _∷_}
 use lib.ListN.{length}
 use Rattle.lib_word.specs.Word.{get, getAt}
 use Rattle.format_layout.specs.Layout.{eventCount, behaviourCount, eventWord, codeFits, codesFit, tableWith, tableFits, handWord, handFits, slotsFit, runningFits, roundWith, roundIn, roundFits}
+use Rattle.format_layout.specs.Round.{freshOf}
 
 -- "table or round shorter than stated"
 pub table-length : (t : List ℕ) → ((length t ≡ 34815 → tableFits t ≡ false) × (length t ≡ 34816 → tableFits t ≡ tableWith t (eventCount t) (behaviourCount t)))
@@ -48,3 +49,12 @@ positions = (refl, refl)
 pub stack-depth : (roundWith [] 0 1 64 true ≡ true) × (roundWith [] 0 1 65 true ≡ false)
 unfolding roundWith slotsFit
 stack-depth = (refl, refl)
+
+-- an event's record begins at word 8 and has four; there are 32
+pub event-records : (t : List ℕ) → (eventWord t 0 3 ≡ get t 11) × (eventWord t 31 2 ≡ get t 134) × (eventWord t 32 0 ≡ 0)
+unfolding eventWord
+event-records t = (refl, refl, refl)
+
+-- a round that start has just made: none taken in, none waiting, none running
+pub fresh-round : (freshOf (5 ∷ []) .taken ≡ 0) × (freshOf (5 ∷ []) .waiting ≡ 0) × (freshOf (5 ∷ []) .running ≡ 0) × (freshOf (5 ∷ []) .store ≡ 5 ∷ [])
+fresh-round = (refl, refl, refl, refl)

@@ -1,3 +1,4 @@
 pub mod JoinLaws
 pub mod Limits
 pub mod Says
+pub mod Examples

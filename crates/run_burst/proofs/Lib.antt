@@ -1,3 +1,4 @@
 pub mod Rests
 pub mod Rows
 pub mod Glue
+pub mod Examples

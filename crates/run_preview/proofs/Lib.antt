@@ -1,2 +1,3 @@
 pub mod Arrived
 pub mod ToIdle
+pub mod Examples

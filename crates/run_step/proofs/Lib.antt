@@ -4,3 +4,4 @@ pub mod Choice
 pub mod Moves
 pub mod Still
 pub mod Steps
+pub mod Examples

@@ -1,13 +1,16 @@
 -- Texts and what they are assembled to, each by computing: the sheet of docs/SHEETS.md and sheet S of 01 to the very
 -- bytes, precedence and signs, and faults of each kind with their places.
-use Prim.Native.Nat.{ℕ}
+use Prim.Native.Nat.{ℕ, _+_}
 use mathlib.Core.Path.{_≡_, refl}
 use mathlib.Core.List.{List, [], _∷_}
 use lib.ListN.{replicate}
+use Rattle.spec_language.specs.Syntax.{later}
 use Rattle.spec_language.specs.Grammar.{encode, encodeEvents, encodeBehaviours, encodeHandlers, encodeExpr}
 use Rattle.text_formula.specs.Tokens.{decimalValue}
 use Rattle.text_formula.specs.Reader.{level}
 use Rattle.source_language.specs.Tokens.{marks, reserved, same, signOf, isDigit, isLetter, inWord, isBlank, inComment}
+use Rattle.source_language.specs.Text.{named, cell, on}
+use Rattle.source_language.specs.Renaming.{phraseAs, reactionsAs}
 use Rattle.source_language.specs.Faults.{fine, fault, outside, tooLarge, offScale, tooMany, declaredTwice, secondHandler, tooDeep, unknownName, noSuchCell, shortBuffer, longText}
 use Rattle.source_language.specs.Limits.{among, phraseNesting, afterAll}
 use Rattle.source_language.specs.Meaning.{amongPlayers, bitsBelow, behaviourNamed, meaningOfName, eventNamed, termOf, clausesOf, entriesOf, sheetOf}
@@ -365,3 +368,10 @@ pub place-told : assembleOn (112 ∷ 97 ∷ 114 ∷ 97 ∷ 109 ∷ 32 ∷ 97 ∷
     ≡ (turnedDown declaredTwice 4 8, 9 ∷ [])
 unfolding lineFrom columnFrom assembleOn marks reserved same signOf isDigit isLetter inWord isBlank inComment decimalValue level runOfKind beyondRun firstInText scannedTokens among phraseNesting afterAll amongPlayers bitsBelow behaviourNamed meaningOfName eventNamed termOf clausesOf entriesOf sheetOf pastSign valueOf afterOperand cellOf readConstant readNegation readChoice signedOf fromOperand phraseWithin morePlayers fromOf seenOf manyOf defaultOf parameterOf eventDeclared reactionOf passiveDeclared stateOf rowDeclared behaviourDeclared behaviourBegins declarationsOf readText assembled encode encodeEvents encodeBehaviours encodeHandlers encodeExpr
 place-told = refl
+
+-- a text with other names: f gives one letter more, and each place moves by itself; a[2] with its name at 3 and its `[`
+-- at 7, and the event's name in a handler
+pub renamed : (phraseAs (λ s. 98 ∷ s) (λ s. 99 ∷ s) (λ p. p + 1) (cell 3 (97 ∷ []) 7 2) ≡ cell 4 (98 ∷ 97 ∷ []) 8 2)
+    × (reactionsAs (λ s. 98 ∷ s) (λ s. 99 ∷ s) (λ p. p + 1) (on (101 ∷ []) later (named 5 (97 ∷ [])) ∷ []) ≡ on (99 ∷ 101 ∷ []) later (named 6 (98 ∷ 97 ∷ [])) ∷ [])
+unfolding phraseAs reactionsAs
+renamed = (refl, refl)

@@ -6,10 +6,11 @@ use mathlib.Core.Path.{_≡_, refl}
 use mathlib.Core.Option.{Option, none, some}
 use mathlib.Core.List.{List, [], _∷_, flatten, flatMap}
 use lib.ListN.{take}
+use Rattle.lib_arith.specs.Exact.{beyond}
 use Rattle.lib_arith.specs.Functions.{exact, result, over, arity}
 use Rattle.spec_language.specs.Dependence.{handled, mentions}
 use Rattle.spec_language.specs.Order.{met, find, order, upTo, metAtOnce, phaseOne}
-use Rattle.spec_language.specs.Code.{Instr, postfix, inOrder, copyPart, firstPart, secondPart, restorePart, code}
+use Rattle.spec_language.specs.Code.{Instr, apply, postfix, inOrder, copyPart, firstPart, secondPart, restorePart, code}
 use Rattle.spec_language.proofs.Examples.{W}
 use Rattle.spec_execution.specs.Execution.{Values, execute, executeAll, emptied, times, maskedAfter, copyingBackAfter}
 
@@ -71,3 +72,21 @@ pub record InTheMiddle : Type 0 where
 pub in-the-middle : InTheMiddle
 unfolding exact result over arity handled mentions met find order upTo metAtOnce phaseOne postfix inOrder flatten flatMap copyPart firstPart secondPart restorePart code execute executeAll emptied
 in-the-middle = record { copied = refl; three = refl; chosen = refl; places = refl; first-values = refl; moved = refl; second-values = refl; board-before = refl; board-within = refl; board-after = refl }
+
+-- ---- "the last on top of the stack": the third argument of an `if` whose first is false, and of one whose first is
+-- true the second; a difference; and where one runs over
+
+abbrev stacked : List ℕ → Values
+stacked st = record { store = []; scratch = []; stack = st; deferred = []; mark = false }
+
+pub record Applied : Type 0 where
+  pub third : execute (apply 14) (stacked (9 ∷ 2 ∷ 0 ∷ 7 ∷ [])) .stack ≡ 9 ∷ 7 ∷ []
+  pub second : execute (apply 14) (stacked (0 ∷ 2 ∷ 9 ∷ 7 ∷ [])) .stack ≡ 2 ∷ 7 ∷ []
+  pub difference : execute (apply 5) (stacked (3 ∷ 10 ∷ 7 ∷ [])) .stack ≡ 7 ∷ 7 ∷ []
+  pub negated : execute (apply 3) (stacked (0 ∷ 7 ∷ [])) .stack ≡ 1 ∷ 7 ∷ []
+  pub by-zero : execute (apply 7) (stacked (0 ∷ 5 ∷ [])) .mark ≡ true
+  pub of-zero : execute (apply 7) (stacked (5 ∷ 0 ∷ [])) .mark ≡ false
+
+pub applied-once : Applied
+unfolding exact result over beyond arity execute
+applied-once = record { third = refl; second = refl; difference = refl; negated = refl; by-zero = refl; of-zero = refl }

@@ -1,20 +1,26 @@
 -- Worked examples in the papers' own numbers, by computation: the code of S's two events written out, 17 and 8
 -- instructions, and of one with both phases and two ready behaviours; players' bits; the numbers of refusals; events
--- that are independent, and that are not: by what both write, by what one reads, and only through a passive.
+-- that are independent, and that are not: by what both write, by what one reads, and only through a passive; circles
+-- under an event and under none; rows written out; and each limit of a sheet, reached and passed by one.
 use Prim.Native.Nat.{ℕ, zero, suc, _-_, _^_, _<_, _≤_}
 use mathlib.Core.Bool.{Bool, true, false, _||_, false≢true, true≢false}
 use mathlib.Core.Path.{_≡_, refl, sym, ap, _∙_, subst}
+use mathlib.Core.Logic.{_≢_}
+use mathlib.Core.Option.{Option, none, some}
 use mathlib.Core.List.{List, [], _∷_, _++_, flatten, flatMap, sum}
 use native.Mathlib.Omega.{arith}
 use lib.Dec.{eqb}
 use lib.ListN.{length}
 use borrow.Author.Tests.{eqb-true}
-use Rattle.lib_base.specs.Basics.{pick}
+use Rattle.lib_base.specs.Basics.{pick, All}
 use Rattle.spec_language.specs.Syntax.{Expr, con, name, app2, app3, Phase, immediate, later, Handler, handler, Behaviour, passive, active, Program}
-use Rattle.spec_language.specs.Dependence.{Response, follows, takes, defers, keeps, handled, response, behaviourAt, mentions, isActive, writes, Named, in-immediate, in-later, through, Reads, Apart, Independent}
+use Rattle.spec_language.specs.Dependence.{Response, follows, takes, defers, keeps, handled, response, behaviourAt, mentions, isActive, writes, Named, in-immediate, in-later, through, Reads, Apart, Independent, dependsOn, one, more, Acyclic, NoCycle}
 use Rattle.spec_language.specs.Order.{met, find, order, upTo, metAtOnce, phaseOne}
-use Rattle.spec_language.specs.Code.{Instr, off, on, copy, restore, push, load, fetch, apply, save, defer, move, postfix, inOrder, copyPart, firstPart, secondPart, restorePart, code, instructions, sizeOf}
+use Rattle.spec_language.specs.Code.{Instr, off, on, copy, restore, push, load, fetch, apply, save, defer, move, postfix, inOrder, copyPart, firstPart, secondPart, restorePart, code, instructions, allInstructions, sizeOf}
 use Rattle.spec_language.specs.Rights.{may}
+use Rattle.spec_language.specs.Sheet.{Term, literal, variable, param, apply1, apply3, clause, formula, state, row, Entry, Sheet, allowed, cellCount, heads, changeClauses, renameTerm, entriesOut, fill, uses}
+use Rattle.spec_language.specs.Grammar.{Arity, unary, binary, TermFits, t-literal, t-variable, t-param, t-apply1, ClausesFit, ItemFits, SignalFits, EntryFits, SheetFits, encode}
+use Rattle.spec_language.specs.Accepted.{NamesIn, Known, SheetAccepted}
 use Rattle.spec_language.specs.Refusals as refusals
 use Rattle.spec_language.specs.Answers as answers
 
@@ -271,3 +277,126 @@ apart-2 (suc (suc (suc (suc i)))) w = absurd (false≢true w)
 
 pub independent : Independent I 0 2
 independent = (apart-0, apart-2)
+
+-- ---- circles: "A behaviour reached from itself is a circle. The case of no event counts too."
+
+-- no event is declared, and b0 is passive b0
+abbrev alone : Program
+alone = record { priorities = []; senders = []; behaviours = passive (name 0) ∷ []; viewers = 255 ∷ [] }
+
+pub circle-under-none : NoCycle alone → ⊥
+unfolding mentions
+circle-under-none h = h 0 (omega arith) 0 (one refl)
+
+-- b0 and b1 name each other in immediate handlers for event 1 of two; in later ones there is no circle
+abbrev crossed : Phase → Program
+crossed φ = record {
+  priorities = 1 ∷ 2 ∷ [];
+  senders = 255 ∷ 255 ∷ [];
+  behaviours = active 0 (handler 1 φ (name 1) ∷ []) ∷ active 0 (handler 1 φ (name 0) ∷ []) ∷ [];
+  viewers = 255 ∷ 255 ∷ [];
+}
+
+pub circle-under-event-1 : (Acyclic (crossed immediate) 1 → ⊥) × (dependsOn (crossed immediate) 0 0 1 ≡ false) × (dependsOn (crossed later) 1 0 1 ≡ false)
+unfolding handled mentions
+circle-under-event-1 = (λ h. h 0 (more (one {b = 1} refl) refl), refl, refl)
+
+-- an active's own name is none: b0 {0 ⇒ b0 + 1}
+pub own-name : dependsOn S 0 0 0 ≡ false
+unfolding handled mentions
+own-name = refl
+
+-- ---- names: of two behaviours, b0 and b1 exist
+pub names : NamesIn 2 (name 1) × (NamesIn 2 (name 2) → ⊥)
+names = (omega arith, λ h. absurd (omega arith))
+
+-- ---- M-110: "In a row's handler, the number of the first cell of a row with the same count means the cell at the same
+-- place; other names mean what they did." A row of 3 from b0 on, b3 active, a row of 3 from b4 on, a row of 2 from b7
+-- on: b0, b3 and b7 in the second row's handler
+
+abbrev threes : List Entry
+threes =
+    record { item = row 3 0 []; viewer = some 2 }
+    ∷ record { item = state 5 []; viewer = none }
+    ∷ record { item = row 3 1 (clause 0 later (apply3 14 (variable 0) (variable 3) (variable 7)) ∷ []); viewer = none }
+    ∷ record { item = row 2 0 []; viewer = none }
+    ∷ []
+
+abbrev cell-of : ℕ → Entry
+cell-of j = record { item = state 1 (clause 0 later (apply3 14 (variable j) (variable 3) (variable 7)) ∷ []); viewer = none }
+
+abbrev still : ℕ → Option ℕ → Entry
+still s o = record { item = state s []; viewer = o }
+
+pub cells-written-out : entriesOut threes threes
+    ≡ still 0 (some 2) ∷ still 0 (some 2) ∷ still 0 (some 2) ∷ still 5 none ∷ cell-of 0 ∷ cell-of 1 ∷ cell-of 2 ∷ still 0 none ∷ still 0 none ∷ []
+unfolding entriesOut flatMap upTo heads changeClauses renameTerm
+cells-written-out = refl
+
+-- "Where either is missing, everybody may."
+pub everybody : (allowed none ≡ 255) × (allowed (some 6) ≡ 6)
+everybody = (refl, refl)
+
+-- ---- limits of a sheet
+
+-- "A constant or name has nesting 1, an application one more than its deepest argument", of at most 16: `!` so many
+-- times round a constant
+abbrev nots : ℕ → Term
+nots zero = literal 1
+nots (suc n) = apply1 3 (nots n)
+
+nots-fit : (n : ℕ) → TermFits (suc n) (nots n)
+nots-fit zero = t-literal {w = 1} (omega arith)
+nots-fit (suc n) = t-apply1 unary (nots-fit n)
+
+too-deep : (n : ℕ) → TermFits n (nots n) → ⊥
+too-deep (suc n) (t-apply1 a h) = too-deep n h
+
+pub nesting : ItemFits 0 (formula (nots 15)) × (ItemFits 0 (formula (nots 16)) → ⊥)
+    × ClausesFit 1 (clause 0 immediate (nots 15) ∷ []) × (ClausesFit 1 (clause 0 immediate (nots 16) ∷ []) → ⊥)
+nesting = (nots-fit 15, too-deep 16, (omega arith, nots-fit 15, tt, tt), λ h. too-deep 16 (h .1))
+
+-- M-110: "a one-byte cell count of 2 to 16 (else 8)"
+pub cells-of-a-row : ItemFits 0 (row 2 0 []) × ItemFits 0 (row 16 0 []) × (ItemFits 0 (row 1 0 []) → ⊥) × (ItemFits 0 (row 17 0 []) → ⊥)
+cells-of-a-row = ((omega arith, omega arith, omega arith, tt), (omega arith, omega arith, omega arith, tt), λ h. absurd (omega (arith, h .0)), λ h. absurd (omega (arith, h .1)))
+
+-- a handler's event is declared, and none has two
+pub one-handler-each : ClausesFit 1 (clause 0 later (literal 1) ∷ []) × (ClausesFit 1 (clause 1 later (literal 1) ∷ []) → ⊥)
+    × (ClausesFit 1 (clause 0 later (literal 1) ∷ clause 0 immediate (literal 1) ∷ []) → ⊥)
+one-handler-each = ((omega arith, t-literal {w = 1} (omega arith), tt, tt), λ h. absurd (omega (arith, h .0)), λ h. h .2 .0 refl)
+
+-- a constant is a word, a name a byte, a parameter one of 0 to 7; a rank is 0 to 15
+of-literal : {k w : ℕ} → TermFits k (literal w) → w < 2 ^ 32
+of-literal (t-literal h) = h
+
+of-variable : {k i : ℕ} → TermFits k (variable i) → i < 256
+of-variable (t-variable h) = h
+
+of-param : {k n : ℕ} → TermFits k (param n) → n < 8
+of-param (t-param h) = h
+
+pub operands : TermFits 1 (literal 4294967295) × (TermFits 1 (literal 4294967296) → ⊥) × TermFits 1 (variable 255) × (TermFits 1 (variable 256) → ⊥)
+    × TermFits 1 (param 7) × (TermFits 1 (param 8) → ⊥)
+operands = (t-literal {w = 4294967295} (omega arith), λ h. absurd (omega (arith, of-literal h)), t-variable {i = 255} (omega arith), λ h. absurd (omega (arith, of-variable h)), t-param {n = 7} (omega arith), λ h. absurd (omega (arith, of-param h)))
+
+pub scale : SignalFits (record { priority = 15; sender = some 255 }) × (SignalFits (record { priority = 16; sender = none }) → ⊥)
+    × (SignalFits (record { priority = 0; sender = some 256 }) → ⊥)
+scale = ((omega arith, omega arith), λ h. absurd (omega (arith, h .0)), λ h. absurd (omega (arith, h .1)))
+
+-- functions 1 to 14: `!`, 3, takes one, `if`, 14, three and the others two
+of-two : {f : ℕ} → Arity f 2 → (0 < f) × (f < 14) × (f ≢ 3)
+of-two (binary a b c) = (a, b, c)
+
+pub arities : Arity 1 2 × Arity 13 2 × (Arity 0 2 → ⊥) × (Arity 14 2 → ⊥) × (Arity 3 2 → ⊥)
+arities = (binary {f = 1} (omega arith) (omega arith) (omega arith), binary {f = 13} (omega arith) (omega arith) (omega arith), λ h. absurd (omega (arith, of-two h .0)), λ h. absurd (omega (arith, of-two h .1)), λ h. of-two h .2 refl)
+
+-- 32 events, 64 behaviours, 8,192 bytes, 4,096 instructions, and 32 bytes lent where the sheet uses a parameter
+pub one-too-many : (v : ℕ → ℕ) (lent : ℕ) (s : Sheet) → SheetAccepted v lent s
+    → (length (s .signals) ≢ 33) × (cellCount (s .entries) ≢ 65) × (length (encode s) ≢ 8193) × (allInstructions (fill v s) ≢ 4097) × (uses s ≡ true → lent ≢ 31)
+one-too-many v lent s h = (omega (arith, h .fits .few-events), omega (arith, h .fits .few-behaviours), omega (arith, h .fits .few-bytes), omega (arith, h .short), λ u. omega (arith, h .given u))
+
+pub as-many : (v : ℕ → ℕ) (s : Sheet) → SheetFits s → Known (fill v s) → NoCycle (fill v s) → allInstructions (fill v s) ≡ 4096 → SheetAccepted v 32 s
+as-many v s f k n a = record { fits = f; known = k; given = λ u. omega arith; acyclic = n; short = omega arith }
+
+pub as-many-fit : (s : Sheet) → length (s .signals) ≡ 32 → cellCount (s .entries) ≡ 64 → All SignalFits (s .signals) → All (EntryFits 32) (s .entries) → length (encode s) ≡ 8192 → SheetFits s
+as-many-fit s e b f g l = record { few-events = omega arith; few-behaviours = omega arith; scale = f; each = rw e g; few-bytes = omega arith }

@@ -16,8 +16,8 @@ use Rattle.spec_semantics.specs.Meaning.{value, inTurn, firstPhase, laterPhase,
 use Rattle.spec_execution.specs.Execution.{Values, execute, executeAll, emptied, times}
 use Rattle.spec_language.proofs.Examples.{W}
 use Rattle.spec_model.specs.Carried.{carriedActives, carried}
-use Rattle.spec_model.specs.Model.{arrival, Engine, engine, arrive, step, board, refused, shows, ran, preempted, committed, act, Turn, call, change, Reply, says, carriedOver, turn, runTurns, replies}
-use Rattle.spec_model.specs.Claims.{commits, changes, longest, countIn, stepsOf, forecast, moments, after, engineAfter, historyOf}
+use Rattle.spec_model.specs.Model.{arrival, rest, Engine, engine, arrive, step, board, refused, takenIn, shows, ran, started, preempted, committed, act, run, State, state, Turn, call, change, Reply, says, carriedOver, turn, runTurns, replies}
+use Rattle.spec_model.specs.Claims.{commits, changes, longest, countIn, stepsOf, forecast, foreseen, moments, after, engineAfter, historyOf}
 use Rattle.spec_model.proofs.States.{storeIn}
 
 -- a bonus of 5, and b1 twice the score
@@ -159,3 +159,36 @@ pub record Steps : Type 0 where
 pub steps-W : Steps
 unfolding beyond exact result over arity handled mentions met find order upTo metAtOnce phaseOne postfix inOrder flatten flatMap copyPart firstPart secondPart restorePart code value inTurn firstPhase starts fresh execute emptied times act turn runTurns longest stepsOf sum
 steps-W = record { bound-of-one = refl; bound-of-two = refl; forecast-running = refl; forecast-at-rest = refl; forecast-of-none = refl }
+
+-- ---- arrivals: who is taken in, and who comes next
+
+abbrev arrivals : ℕ → List Turn
+arrivals n = replicate n (call (arrive 0 0))
+
+-- a round in which so many were taken in, and nothing is in hand
+abbrev worn : ℕ → State
+worn t = state W (engine t [] rest (emptied (fresh W)))
+
+pub record Arrivals : Type 0 where
+  -- "at most 64 together", the running one with them
+  pub sixty-fourth : turn (call (arrive 0 0)) (after W (arrivals 63)) .reply ≡ says takenIn
+  pub sixty-fifth : turn (call (arrive 0 0)) (after W (arrivals 64)) .reply ≡ says (refused 16)
+  pub one-runs : turn (call (arrive 0 0)) (after W (call (arrive 0 0) ∷ call step ∷ arrivals 63)) .reply ≡ says (refused 16)
+  -- "numbered from 0, at most 1,000,000 a round"
+  pub last-of-a-round : turn (call (arrive 0 0)) (worn 999999) .reply ≡ says takenIn
+  pub spent : turn (call (arrive 0 0)) (worn 1000000) .reply ≡ says (refused 17)
+  -- 24 before 15; 18 for a reading
+  pub no-player : turn (call (arrive 2 8)) (after W []) .reply ≡ says (refused 24)
+  pub no-event : turn (call (arrive 2 7)) (after W []) .reply ≡ says (refused 15)
+  pub no-behaviour : turn (call (board 7 0)) (after W []) .reply ≡ says (refused 18)
+  -- "Next means highest rank, then lowest arrival number."
+  pub higher-first : turn (call step) (after W (call (arrive 0 0) ∷ call (arrive 1 0) ∷ [])) .reply ≡ says (started (arrival 1 1 0))
+  pub earlier-first : turn (call step) (after W (call (arrive 0 0) ∷ call (arrive 0 1) ∷ [])) .reply ≡ says (started (arrival 0 0 0))
+  -- an equal rank does not break in
+  pub equal-waits : turn (call step) (after W (call (arrive 0 0) ∷ call step ∷ call (arrive 0 1) ∷ [])) .reply ≡ says ran
+  -- M-101: event 0 waits, and one more is foreseen: 45 - (3 + 20 + 1)
+  pub foreseen-twice : foreseen W (engineAfter W (arrivals 1)) 0 1 0 ≡ shows 21
+
+pub arrivals-W : Arrivals
+unfolding beyond exact result over arity handled mentions met find order upTo metAtOnce phaseOne postfix inOrder flatten flatMap copyPart firstPart secondPart restorePart code value inTurn firstPhase starts fresh execute emptied times act run turn runTurns longest
+arrivals-W = record { sixty-fourth = refl; sixty-fifth = refl; one-runs = refl; last-of-a-round = refl; spent = refl; no-player = refl; no-event = refl; no-behaviour = refl; higher-first = refl; earlier-first = refl; equal-waits = refl; foreseen-twice = refl }

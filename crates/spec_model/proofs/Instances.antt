@@ -1,11 +1,12 @@
 -- Instances of the claims' hypotheses that are no trivial ones, on W (crate spec_language, Examples): each is the claim
 -- applied, so that one whose hypothesis was narrowed does not fit. M-100: two in hand while nothing runs. M-113: one of
--- equal rank is taken in meanwhile. M-112: an event is in hand at a change of sheets.
+-- equal rank is taken in meanwhile. M-112: an event is in hand at a change of sheets. Demand 3: equals in
+-- order, committed and in hand.
 use Prim.Native.Nat.{ℕ, _+_, _≤_, _<_}
 use mathlib.Core.Bool.{Bool, true, false, false≢true}
 use mathlib.Core.Path.{_≡_, refl, sym, ap}
 use mathlib.Core.Logic.{_≢_}
-use mathlib.Core.List.{List, [], _∷_, _++_, map, flatten, flatMap, sum, List·Memᴰ, List·Memᴰ·head, Permᴰ·refl}
+use mathlib.Core.List.{List, [], _∷_, _++_, map, flatten, flatMap, sum, List·Memᴰ, List·Memᴰ·head, Permᴰ·refl, mem-cons-self, rel-of-pairwise-cons}
 use native.Mathlib.Omega.{arith}
 use lib.ListN.{replicate}
 use Rattle.lib_arith.specs.Exact.{beyond}
@@ -18,7 +19,7 @@ use Rattle.spec_semantics.specs.Meaning.{value, inTurn, firstPhase, starts, fre
 use Rattle.spec_execution.specs.Execution.{execute, emptied, times}
 use Rattle.spec_model.specs.Model.{arrival, Engine, Call, arrive, step, Answer, act, Turn, call, change, State, state, Reply, says, carriedOver, turn, runTurns, replies}
 use Rattle.spec_model.specs.Carried.{carriedActives, carried}
-use Rattle.spec_model.specs.Claims.{storeOf, engineAfter, courseOf, longest, countIn, stepsOf, moments, commitsUnder, committedBy, takenTurns, IdleIn, after, Unchanged, stepsAmong, QuietExactly, NobodyWaits}
+use Rattle.spec_model.specs.Claims.{storeOf, engineAfter, courseOf, longest, countIn, stepsOf, moments, commitsUnder, committedBy, takenTurns, IdleIn, after, Unchanged, stepsAmong, EqualsInOrder, QuietExactly, NobodyWaits}
 use Rattle.spec_model.specs.Evaluated.{SameBoard}
 use Rattle.spec_model.proofs.Examples.{wrong, right, stepping, mending}
 
@@ -75,3 +76,17 @@ in-hand-at-a-change : SameBoard wrong mending waiting → storeOf (engineAfter w
 unfolding beyond exact result over arity handled mentions met find order upTo metAtOnce phaseOne postfix inOrder flatten flatMap copyPart firstPart secondPart restorePart code value inTurn firstPhase starts fresh execute emptied times carriedActives carried act turn runTurns replies moments takenTurns courseOf
 in-hand-at-a-change s =
     s refl (Permᴰ·refl _, refl, tt) (((λ h. absurd (h refl), tt), tt), ((λ h. absurd (h refl), tt), tt)) refl refl
+
+-- ---- "and after every earlier one of equal rank": two events 0 are committed, and two more are in hand
+
+abbrev four : List Turn
+four = call (arrive 0 0) ∷ call (arrive 0 0) ∷ call (arrive 0 0) ∷ call (arrive 0 0) ∷ steps 110
+
+-- the first of the two commits, and the second and what is still in hand: lower numbers, and not just no higher ones
+first-of-equals : EqualsInOrder W four → 0 < 1
+unfolding beyond exact result over arity handled mentions met find order upTo metAtOnce phaseOne postfix inOrder flatten flatMap copyPart firstPart secondPart restorePart code value inTurn firstPhase starts fresh execute emptied times act turn runTurns replies moments commitsUnder
+first-of-equals q = rel-of-pairwise-cons (q .0) mem-cons-self refl
+
+before-the-hand : EqualsInOrder W four → 1 < 2
+unfolding beyond exact result over arity handled mentions met find order upTo metAtOnce phaseOne postfix inOrder flatten flatMap copyPart firstPart secondPart restorePart code value inTurn firstPhase starts fresh execute emptied times act turn runTurns replies moments commitsUnder
+before-the-hand q = q .1 .1 .0 .0 refl

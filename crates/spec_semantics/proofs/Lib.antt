@@ -10,3 +10,4 @@ pub mod RoundsHold
 pub mod PlaysLaws
 pub mod OverTurns
 pub mod OverAgrees
+pub mod Examples
