@@ -4,22 +4,43 @@ use format_layout::table;
 use spec_language::limits;
 ghost use mathlib.Core.Path.{_≡_};
 ghost use mathlib.Core.Bool.{true};
-ghost use Prim.Native.Nat.{_≤_};
+ghost use Prim.Native.Nat.{_+_, _≤_};
 ghost use lib.ListN.{length};
+ghost use Rattle.lib_word.specs.Word.{getAt, swapBytes};
 ghost use Rattle.format_layout.specs.Layout.{eventWord, runningFlag, runningWord, runningEvent, position, handFits, slotsFit, runningFits, ours};
 ghost use Rattle.format_layout.specs.Bounds.{Bounds};
 
 const STACK: u32 = limits::STACK as u32;
 
-// Whether a word of event and player is that of one of `known` events and one of eight players.
-fn hand_fits(known: u32, word: u32) -> bool
-    ensures { λ r. ⌜ r ≡ handFits known word ⌝ }
+// The byte of the first waiting one's word of event and player, and the bytes of a slot of the queue.
+const FIRST_SLOT: usize = Round::WORDS * lib_word::WORD_BYTES;
+
+const SLOT_BYTES: usize = 2 * lib_word::WORD_BYTES;
+
+// The word at byte i with its bytes swapped, as it lies in the memory of the usual processors: so several are judged at
+// once, of which each would have to be turned.
+fn get_swapped(round: &[u8], i: usize) -> u32
+    requires { ⌜ i + 4 ≤ length (now round) ⌝ }
+    ensures { λ r. ⌜ swapBytes r ≡ getAt (now (round .entry)) i ⌝ }
 {
-    (format_layout::event_of(word) < known) & (format_layout::player_of(word) < limits::PLAYERS)
+    (round[i] as u32)
+        + (round[i + 1] as u32) * lib_word::BYTE_VALUES
+        + (round[i + 2] as u32) * lib_word::HALF_VALUES
+        + (round[i + 3] as u32) * lib_word::THREE_BYTE_VALUES
+}
+
+// Whether a word of event and player, its bytes swapped, is that of one of `known` events and one of eight players: the
+// event is its highest byte, the player the next, and the others are 0.
+fn hand_fits(known: u32, swapped: u32) -> bool
+    ensures { λ r. ⌜ r ≡ handFits known (swapBytes swapped) ⌝ }
+{
+    (swapped / lib_word::THREE_BYTE_VALUES < known)
+        & (swapped % lib_word::HALF_VALUES == 0)
+        & (swapped / lib_word::HALF_VALUES % lib_word::BYTE_VALUES < limits::PLAYERS)
 }
 
 // Whether the words of the first n waiting are. All are judged, with no way out between them, so that the compiler
-// takes several at a time.
+// takes several at a time: as they lie in memory, and by steps of a whole slot, which are one load of several.
 fn slots_fit(round: &[u8], known: u32, n: usize) -> bool
     requires { ⌜ (2048 ≤ length (now round)) × (n ≤ 64) ⌝ }
     ensures { λ r. ⌜ r ≡ slotsFit (now (round .entry)) known n ⌝ }
@@ -27,7 +48,8 @@ fn slots_fit(round: &[u8], known: u32, n: usize) -> bool
     let mut fit = true;
     let mut i = 0;
     while i < n {
-        fit = fit & hand_fits(known, lib_word::get_word(round, Round::WORDS + i * 2));
+        let swapped = get_swapped(round, FIRST_SLOT + i * SLOT_BYTES);
+        fit = fit & hand_fits(known, swapped);
         i += 1;
     }
     fit
@@ -44,15 +66,12 @@ fn running_fits(table: &[u8], round: &[u8], known: u32, waiting: u32) -> bool
     if waiting >= Round::QUEUE {
         return false;
     }
-    let word = lib_word::get_word(round, Round::RUNNING_WORD);
-    if !hand_fits(known, word) {
+    let swapped = get_swapped(round, Round::RUNNING_WORD * lib_word::WORD_BYTES);
+    if !hand_fits(known, swapped) {
         return false;
     }
-    let length = format_layout::event_word(
-        table,
-        format_layout::event_of(word),
-        table::CODE_LENGTH,
-    );
+    let event = format_layout::event_at(round, Round::RUNNING_WORD);
+    let length = format_layout::event_word(table, event, table::CODE_LENGTH);
     lib_word::get_word(round, Round::POSITION) < length
 }
 

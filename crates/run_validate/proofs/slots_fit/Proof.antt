@@ -1,11 +1,12 @@
 -- `slots_fit` is `slotsFit`: the loop keeps that `fit` is so of the first i.
-use Prim.Native.Nat.{ℕ, _+_, _-_, _≤_, _<_}
+use Prim.Native.Nat.{ℕ, _+_, _*_, _-_, _≤_, _<_}
 use mathlib.Core.Bool.{Bool, true, false, _&&_}
 use mathlib.Core.Path.{_≡_, refl}
 use mathlib.Core.List.{List}
 use native.Mathlib.Omega.{arith}
 use native.Mathlib.Numerals.{add-one}
 use Rattle.lib_base.specs.Basics.{pick}
+use Rattle.lib_word.specs.Word.{getAt, get}
 use Rattle.format_layout.specs.Layout.{wordAt, handFits, slotsFit}
 use borrow.Author.Needs.{needs}
 use Rattle.run_validate.proofs.slots_fit.Statement.{statement}
@@ -21,11 +22,16 @@ both true false = refl
 both false true = refl
 both false false = refl
 
-turn : {l : List ℕ} {known n i w : ℕ} {fit x : Bool} → Turn l known n fit i → i < n → w ≡ wordAt l i
+-- the word of slot i, read by its byte
+slot-word : (l : List ℕ) (i : ℕ) → getAt l (36 + i * 8) ≡ wordAt l i
+unfolding get
+slot-word l i = let e : (9 + i * 2) * 4 ≡ 36 + i * 8 = omega arith in rw e
+
+turn : {l : List ℕ} {known n i w : ℕ} {fit x : Bool} → Turn l known n fit i → i < n → w ≡ getAt l (36 + i * 8)
     → x ≡ handFits known w → Turn l known n (fit && x) (i + 1)
 unfolding slotsFit
 turn {l} {known} {n} {i} {w} {fit} {x} k h d e = record {
-  same = rw (add-one i, ← d, ← e, ← k .same) (both fit x);
+  same = rw (add-one i, ← slot-word l i, ← d, ← e, ← k .same) (both fit x);
   within = omega arith;
 }
 
@@ -49,7 +55,7 @@ slots-fit-spec =
     (λ c κs. search needs)
     (λ c. omega arith)
     (λ c. omega arith)
-    (λ c. turn (c .before .before .before .loop .inv) (omega arith) (c .before .get-word .ensures) (c .hand-fits .ensures))
+    (λ c. turn (c .before .before .before .loop .inv) (omega arith) (c .before .get-swapped .ensures) (c .hand-fits .ensures))
     (λ c.
     let e : c .before .loop .i ≡ c .before .before .before .args .n = omega arith in
     rw e at (c .before .loop .inv .same)))
