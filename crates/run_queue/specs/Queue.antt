@@ -1,12 +1,16 @@
 -- The queue in the round's bytes: the choice of the next, and writing a waiting arrival. 01 "Next means highest rank,
 -- then lowest arrival number."
-use Prim.Native.Nat.{ℕ, zero, suc, _+_, _*_}
+use Prim.Native.Nat.{ℕ, zero, suc, _+_, _*_, _<_}
 use mathlib.Core.Bool.{Bool, true, false}
 use mathlib.Core.List.{List}
 use lib.Dec.{ltb}
 use Rattle.lib_base.specs.Basics.{pick}
 use Rattle.lib_word.specs.Word.{put}
 use Rattle.format_layout.specs.Layout.{eventWord, numberAt, eventAt}
+
+-- the events of the first n waiting have a record in the table, as those of a judged round do
+abbrev pub EventsKnown : List ℕ → ℕ → Type 0
+EventsKnown l n = (i : ℕ) → i < n → eventAt l i < 32
 
 -- priority p, number n goes before priority q, number m
 unfoldable pub ahead : ℕ → ℕ → ℕ → ℕ → Bool

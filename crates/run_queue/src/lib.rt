@@ -5,7 +5,7 @@ ghost use mathlib.Core.Path.{_≡_};
 ghost use Prim.Native.Nat.{_+_, _*_, _≤_, _<_};
 ghost use lib.ListN.{length};
 ghost use Rattle.format_layout.specs.Layout.{eventWord, eventAt};
-ghost use Rattle.run_queue.specs.Queue.{ahead, best, anyAbove, putSlot};
+ghost use Rattle.run_queue.specs.Queue.{EventsKnown, ahead, best, anyAbove, putSlot};
 
 // Priority p, number n goes before priority q, number m.
 fn is_ahead(p: u32, n: u32, q: u32, m: u32) -> bool
@@ -20,18 +20,21 @@ fn is_ahead(p: u32, n: u32, q: u32, m: u32) -> bool
     n < m
 }
 
-// The priority of what waits in slot i.
+// The priority of what waits in slot i, its event being known: no test for that is made slot by slot.
 fn priority_at(table: &[u8], round: &[u8], i: usize) -> u32
-    requires { ⌜ (34816 ≤ length (now table)) × (2048 ≤ length (now round)) × (i < 64) ⌝ }
+    requires { ⌜ (34816 ≤ length (now table)) × (2048 ≤ length (now round)) × (i < 64) × (eventAt (now round) i < 32) ⌝ }
     ensures { λ r. ⌜ r ≡ eventWord (now (table .entry)) (eventAt (now (round .entry)) i) 0 ⌝ }
 {
     let event = format_layout::event_at(round, Round::WORDS + i * 2);
-    format_layout::event_word(table, event, table::PRIORITY)
+    lib_word::get_word(
+        table,
+        table::EVENTS + (event as usize) * table::EVENT_WORDS + table::PRIORITY,
+    )
 }
 
 // The slot that goes before all others of the first n.
 pub fn best_of(table: &[u8], round: &[u8], n: usize) -> usize
-    requires { ⌜ (34816 ≤ length (now table)) × (2048 ≤ length (now round)) × (n ≤ 64) ⌝ }
+    requires { ⌜ (34816 ≤ length (now table)) × (2048 ≤ length (now round)) × (0 < n) × (n ≤ 64) × EventsKnown (now round) n ⌝ }
     ensures { λ r. ⌜ r ≡ best (now (table .entry)) (now (round .entry)) n ⌝ }
     ensures { λ r. ⌜ r < 64 ⌝ }
 {
@@ -54,7 +57,7 @@ pub fn best_of(table: &[u8], round: &[u8], n: usize) -> usize
 
 // Whether one of the first n waiting has a priority above p.
 pub fn is_any_above(table: &[u8], round: &[u8], p: u32, n: usize) -> bool
-    requires { ⌜ (34816 ≤ length (now table)) × (2048 ≤ length (now round)) × (n ≤ 64) ⌝ }
+    requires { ⌜ (34816 ≤ length (now table)) × (2048 ≤ length (now round)) × (n ≤ 64) × EventsKnown (now round) n ⌝ }
     ensures { λ r. ⌜ r ≡ anyAbove (now (table .entry)) (now (round .entry)) p n ⌝ }
 {
     let mut i = n;

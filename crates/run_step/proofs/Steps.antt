@@ -12,11 +12,11 @@ use Rattle.lib_base.specs.Basics.{pick}
 use Rattle.lib_base.proofs.Tools.{by-test, split}
 use Rattle.lib_word.specs.Word.{get, put}
 use Rattle.spec_language.specs.Refusals.{foreign}
-use Rattle.format_layout.specs.Layout.{eventCount, eventWord, eventOf, waitingCount, runningFlag, runningWord, runningEvent, runningNumber, position, depth, markWord, eventAt, ours}
+use Rattle.format_layout.specs.Layout.{eventCount, eventWord, eventOf, waitingCount, runningFlag, runningWord, runningEvent, runningNumber, position, depth, markWord, wordAt, eventAt, ours}
 use Rattle.format_layout.specs.Bounds.{TableBounds}
 use Rattle.format_layout.proofs.BoundsLaws.{table-bounds, hand-bound}
 use Rattle.format_layout.specs.Round.{CallResult, callResult}
-use Rattle.run_queue.specs.Queue.{best}
+use Rattle.run_queue.specs.Queue.{EventsKnown, best}
 use Rattle.run_board.specs.Board.{isCopyingBack, isMasked}
 use Rattle.run_instruction.specs.Allowed.{mayRun}
 use Rattle.run_instruction.specs.Instruction.{perform}
@@ -51,6 +51,10 @@ module _ (t l : List ℕ) (s : RoundSound t l) where
   pub table-fine : TableBounds t
   table-fine = table-bounds t (s .table)
 
+  -- so is what waits, and the table has a record of each
+  pub waiting-known : {n : ℕ} → n ≡ waitingCount l → EventsKnown l n
+  waiting-known e i h = omega (arith, hand-bound _ (wordAt l i) (s .waiting-fit i (omega arith)) .0, table-fine .few-events)
+
   pub step-rest : runningFlag l ≡ 0 → stepOn t l ≡ whileResting t l (waitingCount l)
   unfolding stepOn stepIn stepWith
   step-rest f = rw (sound-ours t l s (λ g. absurd (g f)), eq-eqb (runningFlag l) 0 f)
@@ -78,6 +82,10 @@ module _ (t l : List ℕ) (s : RoundSound t l) where
     way-outranked : isPreempted t l o ≡ true → o ≡ true
     unfolding isPreempted
     way-outranked g = split o (λ e. e) (λ e. absurd (false≢true (rw e at g)))
+
+    -- something waits
+    pub way-waits : isPreempted t l o ≡ true → waitingCount l ≢ 0
+    way-waits g = let q : isOutranked t l ≡ true = is ∙ way-outranked g in some-wait t l (outranked-runs t l q) q
 
     way-left : isPreempted t l o ≡ true → position l < len
     unfolding isPreempted maskedNow

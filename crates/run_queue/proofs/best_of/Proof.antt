@@ -1,5 +1,6 @@
 -- `best_of` is `best`, below 64: the loop keeps that b is the best of the first i, with its priority and number. The
--- best of the first one is slot 0, whatever it holds.
+-- best of the first one is slot 0, whatever it holds. Each slot that is looked at is one of the first n, whose events
+-- are known.
 use Prim.Native.Nat.{ℕ, zero, suc, _+_, _-_, _≤_, _<_}
 use mathlib.Core.Bool.{Bool, true, false}
 use mathlib.Core.Path.{_≡_, refl, sym, _∙_}
@@ -20,7 +21,7 @@ record Turn (t l : List ℕ) (n b q m i : ℕ) : Type 0 where
   number : m ≡ numberAt l b
   small : b < 64
   begun : 1 ≤ i
-  within : i ≤ 1 + (n - 1)
+  within : i ≤ n
 
 first-best : (t l : List ℕ) → 0 ≡ best t l 1
 unfolding best better eitherSlot
@@ -57,10 +58,8 @@ module _ {t l : List ℕ} {n b q m i p k : ℕ} {x : Bool} (u : Turn t l n b q m
     within = omega arith;
   }
 
-end : {t l : List ℕ} (n : ℕ) {b q m i : ℕ} → Turn t l n b q m i → n ≤ i → b ≡ best t l n
-unfolding best
-end {t} {l} zero {b} {q} {m} {i} u h = let e : i ≡ 1 = omega arith in (rw e at (u .same)) ∙ sym (first-best t l)
-end (suc n) {b} {q} {m} {i} u h = let e : i ≡ suc n = omega arith in rw e at (u .same)
+end : {t l : List ℕ} {n b q m i : ℕ} → Turn t l n b q m i → n ≤ i → b ≡ best t l n
+end {t} {l} {n} {b} {q} {m} {i} u h = let e : i ≡ n = omega arith in rw e at (u .same)
 
 abbrev Inv-loop : tie.InvT-loop
 Inv-loop t l n b₀ q₀ m₀ i₀ b q m i = Turn t l n b q m i
@@ -85,7 +84,7 @@ best-of-spec =
     (tie.spec
     Inv-loop
     μ-loop
-    (λ c κs. omega arith)
+    (λ c κs. let p = c .before .before .pre in (p .0, p .1, omega arith, p .4 0 (p .2)))
     (λ c κs. omega arith)
     (λ c. record {
       same = first-best _ _;
@@ -95,7 +94,9 @@ best-of-spec =
       begun = omega arith;
       within = omega arith;
     })
-    (λ c κs. omega arith)
+    (λ c κs.
+    let p = c .before .before .before .before .before .before .pre in
+    (p .0, p .1, omega arith, p .4 _ (c .loop-test .taken)))
     (λ c. omega arith)
     (λ c. omega arith)
     (λ c κs. omega arith)
@@ -103,4 +104,4 @@ best-of-spec =
     (λ c. omega arith)
     (λ c. omega arith)
     again
-    (λ c. (end _ (c .before .loop .inv) (c .loop-test .left), c .before .loop .inv .small)))
+    (λ c. (end (c .before .loop .inv) (c .loop-test .left), c .before .loop .inv .small)))

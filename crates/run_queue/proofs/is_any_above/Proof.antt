@@ -51,7 +51,9 @@ is-any-above-spec =
     μ-loop
     (λ c. record { whole = refl; within = omega arith })
     (λ c. omega arith)
-    (λ c κs. omega arith)
+    (λ c κs.
+    let p = c .before .before .before .before .pre in
+    (p .0, p .1, omega arith, p .3 _ (omega arith)))
     (λ c. found (c .before .before .before .loop .inv) (omega arith) (c .before .priority-at .ensures) (c .if1 .taken))
     (λ c. omega arith)
     (λ c. turn (c .before .before .before .loop .inv) (omega arith) (c .before .priority-at .ensures) (c .if1 .left))

@@ -1,9 +1,19 @@
 -- Each return is the first case that fits, by the laws of Steps.antt.
-use Rattle.run_step.proofs.Steps.{known, table-fine, preempts, advances, starts, idles}
-use mathlib.Core.Path.{_∙_}
+use native.Mathlib.Omega.{arith}
+use Rattle.run_step.proofs.Steps.{known, table-fine, waiting-known, way-waits, preempts, advances, starts, idles}
+use mathlib.Core.Path.{sym, _∙_}
 use borrow.Author.Needs.{needs}
 use Rattle.run_step.proofs.step_on.Statement.{statement}
 use Rattle.run_step.proofs.step_on.Tie as tie
+
+best-of-requires : tie.Need-best-of-requires
+best-of-requires c κs =
+    let count = c .before .before .before .before in
+    let entry = count .before .before .before .before in
+    let s = entry .pre .0 in
+    let n = count .get-word .ensures in
+    let w = way-waits _ _ s _ (entry .pre .1) (sym (c .before .before .is-preempted .ensures) ∙ c .before .if1 .taken) in
+    (s .whole, s .long, omega (arith, n, w), omega (arith, n, s .few-waiting), waiting-known _ _ s n)
 
 returns : tie.Need-returns
 returns c =
@@ -28,6 +38,13 @@ returns-2 c =
     advances _ _ _ (entry .pre .0) (entry .pre .1) (way .before .is-preempted .ensures) (way .if1 .left) (flag .get-word2 .ensures)
     (c .before .before .before .before .if2 .taken) (c .before .before .advance-on .ensures)
 
+best-of-requires-2 : tie.Need-best-of-requires-2
+best-of-requires-2 c κs =
+    let count = c .before .before .before .before .before .before .before .before in
+    let s = count .before .before .before .before .pre .0 in
+    let n = count .get-word .ensures in
+    (s .whole, s .long, omega (arith, c .before .if3 .taken), omega (arith, n, s .few-waiting), waiting-known _ _ s n)
+
 returns-3 : tie.Need-returns-3
 returns-3 c =
     let flag = c .before .before .before .before .before .before .before .before in
@@ -48,6 +65,6 @@ step-on-spec =
     tie.close
     (tie.spec (search needs) (search needs)
     (λ c κs. search needs)
-    (search needs) (search needs) (search needs) returns
-    (search needs) advance-on-requires (search needs) returns-2 (search needs) (search needs) (search needs)
+    best-of-requires (search needs) (search needs) returns
+    (search needs) advance-on-requires (search needs) returns-2 best-of-requires-2 (search needs) (search needs)
     (search needs) returns-3 (search needs) returns-4)
