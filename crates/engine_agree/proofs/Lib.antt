@@ -1,3 +1,4 @@
 pub mod AgreementHolds
 pub mod Computed
 pub mod FinalHolds
+pub mod Instances

@@ -3,3 +3,4 @@ pub mod Answers
 pub mod ValuesHold
 pub mod Examples
 pub mod InOrderHolds
+pub mod Instances

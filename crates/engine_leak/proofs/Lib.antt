@@ -1,3 +1,4 @@
 pub mod ByNames
 pub mod Decides
 pub mod LeaklessHolds
+pub mod Instances

@@ -5,3 +5,4 @@ pub mod RemediesHold
 pub mod ChangesHold
 pub mod TakenHolds
 pub mod PatientHolds
+pub mod Instances

@@ -1,3 +1,4 @@
 pub mod DeliveriesHold
 pub mod Bound
 pub mod Takes
+pub mod Instances

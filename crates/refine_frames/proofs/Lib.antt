@@ -1,1 +1,2 @@
 pub mod FramesHold
+pub mod Instances

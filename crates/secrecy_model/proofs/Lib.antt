@@ -1,3 +1,4 @@
+pub mod Needed
 pub mod Programs
 pub mod Stores
 pub mod Control
@@ -5,4 +6,3 @@ pub mod Answered
 pub mod Twins
 pub mod Changed
 pub mod RuleHolds
-pub mod Needed

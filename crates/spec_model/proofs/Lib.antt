@@ -1,3 +1,5 @@
+pub mod Examples
+pub mod Instances
 pub mod States
 pub mod Choice
 pub mod Moves
@@ -24,5 +26,3 @@ pub mod SameBoard
 pub mod OneEvent
 pub mod Alone
 pub mod ModelHolds
-pub mod Examples
-pub mod Instances
