@@ -29,8 +29,10 @@ use Rattle.source_names.specs.Known.{meaningBy}
 use Rattle.source_index.specs.Index.{MeaningsPut, AllFound}
 use Rattle.source_index.proofs.Laws.{known-sorted, known-plain}
 use Rattle.source_behaviours.specs.Whole.{NamesUsable, LookupUsable, TextWritten, TextRead}
+use Rattle.source_behaviours.specs.declared.Reading.{Reading}
 use Rattle.source_behaviours.specs.declared.Reading.the-variants.{Read, Fault}
-use Rattle.source_assemble.specs.Assemble.{assembleNumber, placeTold, faultNumbered, TellsFault, NamesResolved, sheetAnswer}
+use Rattle.source_hint.specs.Hint.{HintUsable, HintRight}
+use Rattle.source_assemble.specs.Assemble.{assembleNumber, placeTold, faultNumbered, TellsFault, NamesResolved, sheetAnswer, ReadRight}
 use Rattle.source_assemble.proofs.Within.{first-pass-within, names-within}
 use Rattle.source_assemble.proofs.Numbers.{kind-some}
 
@@ -97,14 +99,6 @@ pub zeros-mean : (n : ℕ) → All (λ m. m < 8320) (replicate n 0)
 zeros-mean zero = tt
 zeros-mean (suc n) = (omega arith, zeros-mean n)
 
-pub none-known : LookupUsable [] 0 (replicate 65 0)
-none-known = record { some-sorted = omega arith; low = zeros-mean 65 }
-
--- what names mean in one way they mean in another
-pub resolved-so : (bytes : List ℕ) (find other : List ℕ → NameMeaning) (x : OrFault Text) → ((s : List ℕ) → other s ≡ find s) → NamesResolved bytes find x → NamesResolved bytes other x
-resolved-so bytes find other (fault k p) e h = h
-resolved-so bytes find other (fine (text ps es bs)) e h = λ s. e s ∙ h s
-
 -- ---- names in order, and as they are declared
 
 part-long : (n : ℕ) (l : List ℕ) → n ≤ length l → length (take (n - 0) l) ≡ n
@@ -113,30 +107,31 @@ part-long n l h = let z : n - 0 ≡ n = omega arith in rw z (length-take-le n l 
 pub part-few : (n : ℕ) (l : List ℕ) → n ≤ 72 → length l ≡ 72 → length (take (n - 0) l) ≤ 72
 part-few n l h e = omega (arith, part-long n l (omega arith))
 
-module _ (bytes names : List ℕ) (params : ℕ) (firsts : List ℕ) (usable : NamesUsable names params firsts) (x : OrFault Text)
-    (resolved : NamesResolved bytes (meaningIn bytes names params firsts) x) where
+alike : {find other : List ℕ → NameMeaning} → ((s : List ℕ) → find s ≡ other s) → find ≡ other
+alike e = λ i s. e s i
+
+module _ (bytes names : List ℕ) (params : ℕ) (firsts : List ℕ) (usable : NamesUsable names params firsts) where
   pub few-names : length names ≤ 72
   few-names = omega (arith, usable .few-parameters, usable .few-names)
 
   pub known-in-order : (places before meanings : List ℕ) → length places ≡ 72
       → MeaningsPut bytes names params firsts (take (length names - 0) places) (length (take (length names - 0) places)) before meanings
       → AllFound bytes names (take (length names - 0) places) (length names)
-      → LookupUsable (take (length names - 0) places) (length names) meanings × NamesResolved bytes (meaningBy bytes (take (length names - 0) places) (length names) meanings) x
+      → LookupUsable (take (length names - 0) places) (length names) meanings
+      × (meaningBy bytes (take (length names - 0) places) (length names) meanings ≡ meaningIn bytes names params firsts)
   known-in-order places before meanings long put found =
       let l : length (take (length names - 0) places) ≡ length names = part-long (length names) places (omega (arith, few-names)) in (
         record { some-sorted = omega arith; low = put .low },
-        resolved-so bytes (meaningIn bytes names params firsts) (meaningBy bytes (take (length names - 0) places) (length names) meanings) x
-            (λ s.
+        alike (λ s.
             ap (λ (n : ℕ). meaningBy bytes (take (length names - 0) places) n meanings s) (sym l)
-            ∙ known-sorted bytes names params firsts (usable .few-parameters) (usable .low) (take (length names - 0) places) before meanings l put found s) resolved,
+            ∙ known-sorted bytes names params firsts (usable .few-parameters) (usable .low) (take (length names - 0) places) before meanings l put found s),
       )
 
   pub known-as-declared : (before meanings : List ℕ) → MeaningsPut bytes names params firsts names (length names) before meanings
-      → LookupUsable names 0 meanings × NamesResolved bytes (meaningBy bytes names 0 meanings) x
+      → LookupUsable names 0 meanings × (meaningBy bytes names 0 meanings ≡ meaningIn bytes names params firsts)
   known-as-declared before meanings put = (
     record { some-sorted = omega arith; low = put .low },
-    resolved-so bytes (meaningIn bytes names params firsts) (meaningBy bytes names 0 meanings) x
-        (λ s. known-plain bytes names params firsts (usable .few-parameters) (usable .low) before meanings put s) resolved,
+    alike (λ s. known-plain bytes names params firsts (usable .few-parameters) (usable .low) before meanings put s),
   )
 
 -- ---- the first run
@@ -202,9 +197,7 @@ module _ (bytes buffer : List ℕ) (few : length bytes ≤ 65536) where
   -- names are found as the text declares them
   same-entries : (find : List ℕ → NameMeaning) (ps : List Parameter) (es : List TextEvent) (bs : List TextBehaviour) → ((s : List ℕ) → find s ≡ meaningOfName 0 ps bs s)
       → entriesOf es find bs ≡ entriesOf es (meaningOfName 0 ps bs) bs
-  same-entries find ps es bs known =
-      let all : find ≡ meaningOfName 0 ps bs = λ i s. known s i in
-      ap (λ (f : List ℕ → NameMeaning). entriesOf es f bs) all
+  same-entries find ps es bs known = ap (λ (f : List ℕ → NameMeaning). entriesOf es f bs) (alike known)
 
   module _ (find : List ℕ → NameMeaning) (o p names starts : List ℕ) (end params' count w : ℕ) where
     abbrev SecondRun : OrFault Text → Type 0
@@ -240,3 +233,24 @@ module _ (bytes buffer : List ℕ) (few : length bytes ≤ 65536) where
     pub sheet-written : NamesResolved bytes find (readText bytes) → SecondRun (readText bytes) → length o ≡ 8192 → w ≡ 0
         → sheetAnswer bytes end p buffer ≡ assembleNumber bytes buffer
     sheet-written = sheet-of (readText bytes) refl
+
+    -- with the right names
+    pub read-right : length o ≡ 8192 → NamesResolved bytes find (readText bytes) → SecondRun (readText bytes) → ReadRight bytes buffer p end w
+    read-right long known t =
+        record { tells = λ h. name-found known t h .0; at-fault = λ h. name-found known t h .1; sheet = sheet-written known t long }
+
+-- the names of a hint that the text turns out to declare
+pub right-names : (bytes names : List ℕ) (params : ℕ) (firsts declared : List ℕ) (parameters : ℕ) (starts : List ℕ) → HintRight names params firsts declared parameters starts
+    → NamesResolved bytes (meaningIn bytes declared parameters starts) (readText bytes) → NamesResolved bytes (meaningIn bytes names params firsts) (readText bytes)
+right-names bytes names params firsts declared parameters starts h known = rw (h .same-names, h .same-parameters, h .same-firsts) known
+
+-- ---- the hint
+
+pub hint-usable : (params count : ℕ) (names starts : List ℕ) → length names ≡ 72 → HintUsable (record { params = params; count = count }) starts → NamesUsable (take (count - 0) names) params starts
+hint-usable params count names starts long h =
+    record {
+      few-parameters = h .few-parameters;
+      few-names = omega (arith, part-long count names (omega (arith, h .few-names, h .few-parameters)), h .few-names);
+      all-firsts = h .all-firsts;
+      low = h .low;
+    }

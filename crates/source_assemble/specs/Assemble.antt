@@ -1,4 +1,4 @@
--- assemble's answer as a number, and what the two runs of the reading hand to each other.
+-- assemble's answer as a number, and what the runs of the reading hand to each other.
 use Prim.Native.Nat.{ℕ, _+_, _*_, _/_, _%_, _≤_}
 use mathlib.Core.Path.{_≡_}
 use mathlib.Core.List.{List, _++_}
@@ -49,3 +49,9 @@ sheetAnswer bytes n out buffer =
     pick (ltb 8192 n) (answered (faultNumbered bytes (faultWord longSheet (length bytes))) buffer)
     (pick (ltb (length buffer) n) (answered (faultNumbered bytes (faultWord shortBuffer (length bytes))) buffer)
     (answered (4294967296 + n) (take n out ++ drop n buffer)))
+
+-- what a reading found that had the right names is the answer: the end of the sheet's bytes, and a name's first fault
+pub record ReadRight (bytes buffer out : List ℕ) (end w : ℕ) : Type 0 where
+  pub tells : (w ≡ 0 → ⊥) → TellsFault (length bytes) w
+  pub at-fault : (w ≡ 0 → ⊥) → answered (faultNumbered bytes w) buffer ≡ assembleNumber bytes buffer
+  pub sheet : w ≡ 0 → sheetAnswer bytes end out buffer ≡ assembleNumber bytes buffer

@@ -1,19 +1,22 @@
 // A sheet's text becomes its bytes at the start of a lent buffer: 2 ^ 32 and their number, or the first fault by kind,
-// line and column. The text is read twice, first for the names that it declares, then with these known.
+// line and column. A formula may name what is declared behind it: a look over the text tells the names that it seems to
+// declare, and then it is read with these known. Where it turns out to declare others, it is read again with those.
 use source_behaviours::Reading;
 use source_coding::faults;
 use source_coding::limits;
+use source_hint::hint_of;
+use source_hint::is_right;
 use spec_language::answers;
 use spec_language::limits as sheet;
 ghost use mathlib.Core.Path.{_≡_};
 ghost use Prim.Native.Nat.{_<_, _≤_, _+_};
 ghost use lib.ListN.{length};
+ghost use Rattle.lib_base.specs.Basics.{All};
 ghost use Rattle.text_formula.specs.Answer.{answered};
 ghost use Rattle.source_language.specs.Reader.{readText};
 ghost use Rattle.source_coding.specs.Places.{meaningIn};
-ghost use Rattle.source_names.specs.Known.{meaningBy};
-ghost use Rattle.source_behaviours.specs.Whole.{NamesUsable, LookupUsable};
-ghost use Rattle.source_assemble.specs.Assemble.{assembleNumber, lineAfter, columnAfter, placeTold, faultNumbered, TellsFault, NamesResolved, sheetAnswer};
+ghost use Rattle.source_behaviours.specs.Whole.{NamesUsable, TextRead};
+ghost use Rattle.source_assemble.specs.Assemble.{assembleNumber, lineAfter, columnAfter, placeTold, faultNumbered, TellsFault, NamesResolved, sheetAnswer, ReadRight};
 
 // What ends a line.
 const LINE_FEED: u8 = 10;
@@ -93,45 +96,78 @@ fn put_result(text: &[u8], n: usize, out: &[u8], buffer: &mut [u8]) -> u64
     answers::VALUE + (n as u64)
 }
 
-// The second run: names mean what the first one found, and the sheet is written.
+// What a reading found that had the right names: the first fault of a name, or the sheet.
+fn put_read(text: &[u8], end: usize, w: u64, out: &[u8], buffer: &mut [u8]) -> u64
+    requires { ⌜ length (now text) ≤ 65536 ⌝ }
+    requires { ⌜ length (now out) ≡ 8192 ⌝ }
+    requires { ⌜ ReadRight (now text) (now buffer) (now out) end w ⌝ }
+    ensures { λ r. ⌜ answered r (now (buffer .exit)) ≡ assembleNumber (now (text .entry)) (now (buffer .entry)) ⌝ }
+{
+    if w != 0 {
+        return fault_told(text, w);
+    }
+    put_result(text, end, out, buffer)
+}
+
+// The text is read where names mean what these say. They are brought into order; where a trial does not find each of
+// them so, they are looked up one after another.
+fn read_with(
+    text: &[u8],
+    names: &[usize],
+    params: usize,
+    firsts: &[usize],
+    declared: &mut [usize],
+    starts: &mut [usize],
+    out: &mut [u8],
+) -> Reading
+    requires { ⌜ length (now text) ≤ 65536 ⌝ }
+    requires { ⌜ NamesUsable (now names) params (now firsts) ⌝ }
+    requires { ⌜ length (now declared) ≡ 72 ⌝ }
+    requires { ⌜ (length (now starts) ≡ 65) × All (λ i. i ≤ 64) (now starts) ⌝ }
+    requires { ⌜ length (now out) ≡ 8192 ⌝ }
+    ensures { λ r. ⌜ TextRead (now (text .entry)) (meaningIn (now (text .entry)) (now (names .entry)) params (now (firsts .entry))) (now (out .entry)) (now (out .exit)) (now (declared .exit)) (now (starts .exit)) r (readText (now (text .entry))) ⌝ }
+    ensures { λ _. ⌜ length (now (declared .exit)) ≡ 72 ⌝ }
+    ensures { λ _. ⌜ length (now (out .exit)) ≡ 8192 ⌝ }
+{
+    let mut places = [0usize; limits::NAMES];
+    let mut meanings = [0usize; limits::NAMES];
+    let n = names.len();
+    source_index::put_in_order(text, names, &mut places);
+    source_index::put_meanings(text, names, params, firsts, &places[0..n], &mut meanings);
+    if source_index::all_found(text, names, &places[0..n]) {
+        return source_behaviours::read_at(text, &places[0..n], n, &meanings, declared, starts, out);
+    }
+    source_index::put_meanings(text, names, params, firsts, names, &mut meanings);
+    source_behaviours::read_at(text, names, 0, &meanings, declared, starts, out)
+}
+
+// The second run, where the hint was wrong: names mean what the first one found.
 fn second_run(
     text: &[u8],
-    places: &[usize],
-    sorted: usize,
-    meanings: &[usize],
+    names: &[usize],
+    params: usize,
+    firsts: &[usize],
+    out: &mut [u8],
     buffer: &mut [u8],
 ) -> u64
     requires { ⌜ length (now text) ≤ 65536 ⌝ }
-    requires { ⌜ LookupUsable (now places) sorted (now meanings) ⌝ }
-    requires { ⌜ NamesResolved (now text) (meaningBy (now text) (now places) sorted (now meanings)) (readText (now text)) ⌝ }
+    requires { ⌜ NamesUsable (now names) params (now firsts) ⌝ }
+    requires { ⌜ NamesResolved (now text) (meaningIn (now text) (now names) params (now firsts)) (readText (now text)) ⌝ }
+    requires { ⌜ length (now out) ≡ 8192 ⌝ }
     ensures { λ r. ⌜ answered r (now (buffer .exit)) ≡ assembleNumber (now (text .entry)) (now (buffer .entry)) ⌝ }
 {
-    let mut names = [0usize; limits::NAMES];
+    let mut declared = [0usize; limits::NAMES];
     let mut starts = [0usize; limits::FIRST_CELLS];
-    let mut out = [0u8; sheet::SHEET_BYTES];
-    let r = source_behaviours::read_at(
-        text,
-        places,
-        sorted,
-        meanings,
-        &mut names,
-        &mut starts,
-        &mut out,
-    );
+    let r = read_with(text, names, params, firsts, &mut declared, &mut starts, out);
     match r {
         Reading::Fault(w) => fault_told(text, w),
-        Reading::Read(end, _, _, w) => {
-            if w != 0 {
-                return fault_told(text, w);
-            }
-            put_result(text, end, &out, buffer)
-        }
+        Reading::Read(end, _, _, w) => put_read(text, end, w, out, buffer),
     }
 }
 
-// The names that the first run found are brought into order for the second one; where a trial does not find each of
-// them so, they are looked up one after another.
-fn with_names(
+// The first run, with the names of a hint. What it finds is the answer where the text declares these names; and a fault
+// of the first pass is, whatever names mean.
+fn first_run(
     text: &[u8],
     names: &[usize],
     params: usize,
@@ -140,19 +176,43 @@ fn with_names(
 ) -> u64
     requires { ⌜ length (now text) ≤ 65536 ⌝ }
     requires { ⌜ NamesUsable (now names) params (now firsts) ⌝ }
-    requires { ⌜ NamesResolved (now text) (meaningIn (now text) (now names) params (now firsts)) (readText (now text)) ⌝ }
     ensures { λ r. ⌜ answered r (now (buffer .exit)) ≡ assembleNumber (now (text .entry)) (now (buffer .entry)) ⌝ }
 {
-    let mut places = [0usize; limits::NAMES];
-    let mut meanings = [0usize; limits::NAMES];
-    let n = names.len();
-    source_index::put_in_order(text, names, &mut places);
-    source_index::put_meanings(text, names, params, firsts, &places[0..n], &mut meanings);
-    if source_index::all_found(text, names, &places[0..n]) {
-        return second_run(text, &places[0..n], n, &meanings, buffer);
+    let mut declared = [0usize; limits::NAMES];
+    let mut starts = [0usize; limits::FIRST_CELLS];
+    let mut out = [0u8; sheet::SHEET_BYTES];
+    let r = read_with(
+        text,
+        names,
+        params,
+        firsts,
+        &mut declared,
+        &mut starts,
+        &mut out,
+    );
+    match r {
+        Reading::Fault(w) => fault_told(text, w),
+        Reading::Read(end, parameters, count, w) => {
+            if is_right(
+                names,
+                params,
+                firsts,
+                &declared[0..count],
+                parameters,
+                &starts,
+            ) {
+                return put_read(text, end, w, &out, buffer);
+            }
+            second_run(
+                text,
+                &declared[0..count],
+                parameters,
+                &starts,
+                &mut out,
+                buffer,
+            )
+        }
     }
-    source_index::put_meanings(text, names, params, firsts, names, &mut meanings);
-    second_run(text, names, 0, &meanings, buffer)
 }
 
 // The sheet's bytes at the start of the buffer: 2 ^ 32 and their number; or the fault's kind, line and column.
@@ -162,28 +222,9 @@ pub fn assemble_at(text: &[u8], buffer: &mut [u8]) -> u64
     if limits::TEXT_BYTES < text.len() {
         return fault_told(text, LONG_TEXT);
     }
-    let nowhere = [0usize; 1];
-    let unknown = [0usize; limits::FIRST_CELLS];
     let mut names = [0usize; limits::NAMES];
-    let mut starts = [0usize; limits::FIRST_CELLS];
-    let mut nothing = [0u8; 1];
-    let r = source_behaviours::read_at(
-        text,
-        &nowhere[0..0],
-        0,
-        &unknown,
-        &mut names,
-        &mut starts,
-        &mut nothing[0..0],
-    );
-    match r {
-        Reading::Fault(w) => fault_told(text, w),
-        Reading::Read(_, params, count, _) => with_names(
-            text,
-            &names[0..count],
-            params,
-            &starts,
-            buffer,
-        ),
-    }
+    let mut firsts = [0usize; limits::FIRST_CELLS];
+    let hint = hint_of(text, &mut names, &mut firsts);
+    let count = hint.count;
+    first_run(text, &names[0..count], hint.params, &firsts, buffer)
 }

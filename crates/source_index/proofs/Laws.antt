@@ -21,7 +21,7 @@ use Rattle.source_index.specs.Index.{MeaningsPut, AllFound}
 
 -- ---- the loops
 
-all-set : (P : ℕ → Type 0) (l : List ℕ) (i v : ℕ) → All P l → P v → All P (set l i v)
+pub all-set : (P : ℕ → Type 0) (l : List ℕ) (i v : ℕ) → All P l → P v → All P (set l i v)
 all-set P [] i v h k = tt
 all-set P (x ∷ l) zero v h k = (k, h .1)
 all-set P (x ∷ l) (suc i) v h k = (h .0, all-set P l i v (h .1) k)
