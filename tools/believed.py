@@ -3,12 +3,18 @@
 
     tools/believed.py            how many lines must be believed for each part of the claim, and in which files
     tools/believed.py --check    fails where one stands in a file that docs/REVIEW.md does not list, or in a lemma's file,
-                                 or where the page's table of lines is not up to date
+                                 where a file of them holds one that nothing reaches or a line of over 160 columns,
+                                 where they are more lines than they were, where a page lists a file that has none or
+                                 names as a part of the claim what is none, or where the table is not up to date
     tools/believed.py --write    brings that table up to date
     tools/believed.py --planted  fails where --check does not find a planted fault
 
 The functions that the contracts cite (compileOn, stepOn ..) count as names: what they mean is proved. So does tableOf,
 the table that compile leaves: 01 leaves its layout free, and the claim says what stands in it. `--all` follows them too.
+A file holds definitions to believe, each of them reached, or it holds such functions, whose bodies need not be read.
+
+There is one count, of the claim and the contracts. Of the claim it is told apart what the parts reach that were there
+when 2,776 lines were counted, with these parts' own lines in the record, and what only the parts added since reach.
 
 Definitions of the toolchain's library that these reach (lists, permutations, pairwise ..) are read but not ours: they
 are followed inside the library too, and counted apart. Where the toolchain has no text of a module, its names are built
@@ -26,13 +32,28 @@ from sources import NAME, module_path, read_source, read_theories, without_comme
 
 TOP = "crates/claims/specs/Claims.antt"
 CONTRACTS = "crates/engine/src/lib.rt"
+ENGINE_CALL = re.compile(r"^pub (?:extern \S+ )?fn (\w+)", re.M)
 REVIEW = "docs/REVIEW.md"
+CLAIMS = "docs/CLAIMS.md"
+NO_CLAIM = "desk_format/specs/Script.antt"  # listed, and said there to be no part of the claim
 CALLS = (
     "compile start arrive step board forecast preview mend formula join frame agree agreeFor pair leak assemble"
     " describe"
     " eventCount behaviourCount eventRank deliver taken"
 )
 NAMES_ONLY = {f"{call}On" for call in CALLS.split()} | {"tableOf"}
+COLUMNS = 160
+
+# the parts of the record for the demands of document 01 and the requests of 02, and those added after the count of 2,776
+PAPERS = (
+    "refusals sheets lists p-rounds"
+    " quotients parameters formulas rest-day rights players circles paper-order rows pooling halves"
+).split()
+ADDED = (
+    "deliveries in-order in-order-changed remedies same-tables agreement-for one-value each-agrees each-round-agrees"
+    " one-value-in-order each-in-order pairs"
+).split()
+MOST_OF_PAPERS, MOST_OF_FORMER = 1989, 2776
 
 
 class Theory:
@@ -196,10 +217,36 @@ def sums(believed):
     return [("the whole claim", whole), ("the contracts", contracts), ("both", {**whole, **contracts})]
 
 
+def joined(parts, names):
+    return {place: d for name in names for place, d in parts[name].items()}
+
+
+def former_count(believed):
+    """The lines for documents 01 and 02, and for all parts that are not added, the record's own lines with these."""
+    parts = dict(parts_of_claim(believed))
+    former = [name for name in parts if name not in ADDED]
+    return believed.lines_in(joined(parts, PAPERS)), believed.lines_in(joined(parts, former)) + 1 + len(former)
+
+
+def counts(believed):
+    """The one count, line by line."""
+    (_, whole), (_, contracts), (_, both) = sums(believed)
+    papers, former = former_count(believed)
+    claim, all_lines = believed.lines_in(whole), believed.lines_in(both)
+    return [
+        ("**all that must be believed**", all_lines),
+        ("the claim", claim),
+        ("of it the parts that were there when 2,776 lines were counted", former),
+        ("of these documents 01 and 02, then 1,989", papers),
+        ("of the claim only the parts added since", claim - former),
+        ("only the contracts, which reach " + str(believed.lines_in(contracts)), all_lines - claim),
+    ]
+
+
 def table(believed):
     """The page's table: how many lines each part of the claim reaches."""
-    rows = sums(believed) + [(f"`Claims.{name}`", seen) for name, seen in parts_of_claim(believed)]
-    lines = [f"| {title} | {believed.lines_in(seen)} |" for title, seen in rows]
+    rows = [(f"`Claims.{name}`", believed.lines_in(seen)) for name, seen in parts_of_claim(believed)]
+    lines = [f"| {title} | {count} |" for title, count in counts(believed) + rows]
     return "\n".join(["| reached by | lines |", "|---|---|", *lines]) + "\n"
 
 
@@ -236,19 +283,76 @@ def write(believed):
 
 
 def report(believed):
-    (_, whole), (_, contracts), (_, both) = sums(believed)
-    for title, seen in sums(believed) + list(parts_of_claim(believed)):
+    both = sums(believed)[-1][1]
+    for title, count in counts(believed):
+        print(f"{title.strip('*')}: {count} lines")
+    for title, seen in parts_of_claim(believed):
         print(f"{title}: {believed.lines_in(seen)} lines, {len(seen)} definitions")
     files = {}
-    for d in {**whole, **contracts}.values():
+    for d in both.values():
         files[d.file] = files.get(d.file, 0) + believed.lines_of(d)
     for path, count in sorted(files.items()):
         print(f"  {path.removeprefix('crates/')}: {count}")
     print(library_list(believed, both), end="")
 
 
+def faults_in_files(believed, seen):
+    """What stands in a file of believed definitions and is none of them, and lines that are too wide to read."""
+    for path in sorted({d.file for d in seen.values()}):
+        source = believed.theories[path].source
+        reached = [d for d in source.declarations if (d.file, d.line) in seen]
+        if any(d.name not in NAMES_ONLY for d in reached):
+            beside = [d for d in source.declarations if d not in reached or d.name in NAMES_ONLY]
+            yield from (f"{path}: {d.name} stands in a believed file, and nothing reaches it but as a name" for d in beside)
+        for number, line in enumerate(source.lines, 1):
+            if len(line) > COLUMNS:
+                yield f"{path}:{number}: a believed file with a line of {len(line)} columns"
+
+
+def parts_on_page():
+    """What the page of claims names as parts: the line's number, and the names between backticks that are no paths."""
+    number, text = 0, ""
+    for at, line in enumerate(text_of(CLAIMS).split("\n"), 1):
+        if re.match(r"\s*- |#|$", line):
+            yield from ((number, cited) for cited in re.findall(r"`([^`]+)`", text) if "/" not in cited)
+            found = re.match(r"\s*- part: (.*)", line)
+            number, text = at, found.group(1) if found else ""
+        elif text:
+            text += " " + line
+
+
+def no_parts(seen):
+    """What is named there and neither reached nor an exported call: a lemma, for instance."""
+    names = set(ENGINE_CALL.findall(text_of(CONTRACTS)))
+    for d in seen.values():
+        fields = (re.match(rf"\s+(?:pub )?((?:{NAME} )+):(?: |$)", line) for line in d.text[1:])
+        names |= {d.name} | {name for field in fields if field for name in field.group(1).split()}
+    for number, cited in parts_on_page():
+        if not names.issuperset(re.split(r"[. ]", cited)):
+            yield f"{CLAIMS}:{number}: named as a part of the claim, which does not reach it: {cited}"
+
+
+def listed_in_vain(page, seen):
+    """Files on the page's list that hold nothing that must be believed."""
+    files = {d.file.removeprefix("crates/") for d in seen.values()} | {NO_CLAIM}
+    listed = re.findall(r"`(\w+/specs/\w+\.antt)`", page.partition("Everything else is proof")[0])
+    yield from (f"{REVIEW} lists {path}, where nothing must be believed" for path in sorted(set(listed) - files))
+
+
+def more_than_before(believed):
+    papers, former = former_count(believed)
+    if papers > MOST_OF_PAPERS:
+        yield f"documents 01 and 02: {papers} lines must be believed, more than the {MOST_OF_PAPERS} that it was"
+    if former > MOST_OF_FORMER:
+        yield f"the claim without {', '.join(ADDED)}: {former} lines, more than the {MOST_OF_FORMER} that it was"
+
+
 def faults_of(believed):
     page, seen = text_of(REVIEW), sums(believed)[-1][1]
+    yield from faults_in_files(believed, seen)
+    yield from more_than_before(believed)
+    yield from listed_in_vain(page, seen)
+    yield from no_parts(seen)
     beside = [d for d in seen.values() if "/proofs/" in d.file and not d.is_lemma]
     yield from sorted(f"{d.file}: {d.name} must be believed, and stands beside lemmas" for d in beside)
     unlisted = {d.file for d in seen.values() if f"`{d.file.removeprefix('crates/')}`" not in page}
@@ -265,7 +369,9 @@ def check(believed):
         print(fault)
     both = sums(believed)[-1][1]
     outside = believed.library_reached(both)
-    print(f"believed: {len(both)} definitions, {believed.lines_in(both)} lines; of the toolchain's library, read but not", end=" ")
+    papers, former = former_count(believed)
+    print(f"believed: {len(both)} definitions, {believed.lines_in(both)} lines, {former} of them in the claim as it was at", end=" ")
+    print(f"{MOST_OF_FORMER}, 01 and 02 {papers} of these; of the toolchain's library, read but not", end=" ")
     print(f"ours, {len(outside)} definitions, {believed.lines_in(outside)} lines; {len(faults)} faults")
     return 1 if faults else 0
 
@@ -288,6 +394,9 @@ def import_of(names, kind="specs"):
 
 
 UNLISTED = f"{ELSEWHERE} must be believed"
+MODEL = "crates/spec_model/specs/Model.antt"
+RANK = "  priority e = getD (p .priorities) e 0\n"
+LONG = PLANTED_NAME + "".join(f"planted {n} = {n}\n" for n in range(12))
 PROOFS = "crates/lib_base/proofs/Planted.antt"
 RENAMED = [(ELSEWHERE, None, PLANTED_NAME), ("crates/lib_base/specs/Between.antt", None, "pub " + import_of(".{planted}"))]
 PLANTED = [
@@ -299,7 +408,15 @@ PLANTED = [
     (UNLISTED, reached_by(import_of(".{one-case}"), "one-case", "pub data Cases : Type 0 where\n  one-case : Cases\n")),
     (UNLISTED, RENAMED + reached_by("use Rattle.lib_base.specs.Between.{planted}\n", "planted 1", "")),
     ("planted must be believed, and stands beside lemmas", reached_by(import_of(".{planted}", "proofs"), "planted 1", elsewhere=PROOFS)),
-    ("table of lines is not up to date", [(REVIEW, "| the whole claim | ", "| the whole claim | 1")]),
+    ("planted stands in a believed file", [(MODEL, None, f"\n{PLANTED_NAME}")]),
+    ("stepOn stands in a believed file", [(MODEL, None, "\nabbrev pub stepOn : ℕ → ℕ\nstepOn n = n\n")]),
+    ("a believed file with a line of 161 columns", [(MODEL, None, "-- " + "o" * 158 + "\n")]),
+    ("documents 01 and 02", [(MODEL, RANK, RANK + "".join(f"  priority {n} = {n}\n" for n in range(12)))]),
+    ("the claim without deliveries", reached_by(import_of(".{planted}"), "planted 1", LONG)),
+    ("lists spec_model/specs/Told.antt", [(REVIEW, PAGE_FILE, f"{PAGE_FILE}, `spec_model/specs/Told.antt`")]),
+    ("does not reach it: same-board", [(CLAIMS, "  - part: `Claims.p-rounds`", "  - part: `Claims.p-rounds`, `same-board`")]),
+    ("does not reach it: Claims.q-rounds", [(CLAIMS, "  - part: `Claims.p-rounds`", "  - part: `Claims.q-rounds`")]),
+    ("table of lines is not up to date", [(REVIEW, "| the claim | ", "| the claim | 1")]),
     ("table of lines is not up to date", [(TOP, PART, f"{PART}  pub planted-part : Texts\n")]),
     ("list of the library's definitions", [(REVIEW, "List·Permᴰ, ", "")]),
     ("list of the library's definitions", [(REVIEW, "Together ", "Together 1")]),
@@ -309,7 +426,7 @@ PLANTED = [
 
 
 def planted_faults():
-    return planted("believed", lambda: list(faults_of(Believed(False))), ["crates", REVIEW], PLANTED)
+    return planted("believed", lambda: list(faults_of(Believed(False))), ["crates", REVIEW, CLAIMS], PLANTED)
 
 
 if __name__ == "__main__":

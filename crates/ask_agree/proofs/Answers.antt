@@ -12,11 +12,14 @@ use Rattle.lib_word.specs.Word.{get}
 use Rattle.spec_language.specs.Sheet.{Sheet}
 use Rattle.spec_language.specs.Reading.{got, readSheet}
 use Rattle.spec_language.specs.Grammar.{encode}
-use Rattle.spec_language.specs.Accepted.{Accepted, SheetAccepted}
+use Rattle.spec_language.specs.Accepted.{SheetAccepted}
+use Rattle.spec_language.specs.Valid.{Accepted}
 use Rattle.spec_language.proofs.SheetLaws.{filling-accepted}
 use Rattle.spec_grammar.proofs.Programs.{reads-back}
 use Rattle.draft_params.proofs.Fills.{get-small}
-use Rattle.back_compile.specs.Verdict.{Compiled, programOf, compileOn, numberOn}
+use Rattle.back_compile.specs.Verdict.{compileOn}
+use Rattle.back_compile.specs.Number.{numberOn}
+use Rattle.back_compile.specs.Compiled.{Compiled, programOf}
 use Rattle.back_compile.proofs.AcceptedExactly.{accepted-exactly}
 use Rattle.ask_agree.specs.Agree.{clashIn, clashRead, agreeOn}
 use Rattle.ask_agree.specs.Claims.{AgreeAnswer, AgreeAnswers}

@@ -18,13 +18,14 @@ use Rattle.spec_language.specs.Reading.{Got, got, readSheet}
 use Rattle.spec_language.specs.Dependence.{size, events, writes}
 use Rattle.draft_form.specs.Draft.{DraftOf, Drafted}
 use Rattle.draft_form.proofs.DraftLaws.{draft-events, draft-behaviours}
-use Rattle.spec_language.specs.Grammar.{Fits}
+use Rattle.spec_language.specs.Fits.{Fits}
 use Rattle.check_reads.specs.First.{firstFrom}
 use Rattle.check_reads.specs.Sets.{writesOn, namedOn, WritesIn, NamedIn}
 use Rattle.check_reads.specs.Named.{namedBy}
 use Rattle.check_reads.proofs.FirstLaws.{first-same, first-none}
 use Rattle.check_reads.proofs.Agrees.{writes-are, named-are}
-use Rattle.back_compile.specs.Verdict.{programOf, numberOn}
+use Rattle.back_compile.specs.Number.{numberOn}
+use Rattle.back_compile.specs.Compiled.{programOf}
 use Rattle.back_compile.specs.Judged.{Passes}
 use Rattle.back_compile.proofs.Judging.{passes-number}
 use Rattle.ask_agree.specs.Answer.{packedDifference}

@@ -17,13 +17,16 @@ use Rattle.spec_language.specs.Syntax.{Behaviour, passive, active, Program}
 use Rattle.spec_language.specs.Sheet.{Sheet}
 use Rattle.spec_language.specs.Reading.{Got, got, readSheet}
 use Rattle.spec_language.specs.Dependence.{size, events, handled, respond, response, behaviourAt, isActive, written, writes, Reads, Independent}
-use Rattle.spec_language.specs.Grammar.{BehaviourFits, encode}
+use Rattle.spec_language.specs.Grammar.{encode}
+use Rattle.spec_language.specs.Fits.{BehaviourFits}
 use Rattle.spec_language.specs.Accepted.{Known, SheetAccepted}
 use Rattle.check_reads.specs.First.{firstFrom}
 use Rattle.check_reads.specs.Named.{namedBy}
 use Rattle.check_reads.proofs.FirstLaws.{Found, first-found, first-all, first-none}
 use Rattle.check_reads.proofs.Decides.{named-says, named-is}
-use Rattle.back_compile.specs.Verdict.{programOf, compileOn, numberOn}
+use Rattle.back_compile.specs.Verdict.{compileOn}
+use Rattle.back_compile.specs.Number.{numberOn}
+use Rattle.back_compile.specs.Compiled.{programOf}
 use Rattle.ask_agree.specs.Answer.{packedDifference}
 use Rattle.ask_agree.specs.Agree.{clashes, clashOf, clashFrom, clashIn, clashRead, agreeOn}
 use Rattle.ask_agree.specs.Claims.{Unequal, AllIndependent, SharedBehaviour, both-write, first-writes, second-writes, DifferenceNamed, AgreeAnswer, AgreeAnswers}

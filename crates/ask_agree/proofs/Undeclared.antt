@@ -12,7 +12,7 @@ use Rattle.lib_base.specs.Basics.{All}
 use Rattle.lib_base.proofs.Tools.{all-at-or}
 use Rattle.spec_language.specs.Syntax.{Expr, Handler, handler, Behaviour, passive, active, Program}
 use Rattle.spec_language.specs.Dependence.{Response, follows, takes, defers, keeps, events, handled, respond, response, behaviourAt, written, writes, Named, in-immediate, in-later, through, Independent}
-use Rattle.spec_language.specs.Grammar.{HandlersFit, BehaviourFits}
+use Rattle.spec_language.specs.Fits.{HandlersFit, BehaviourFits}
 use Rattle.spec_language.proofs.Laws.{handled-there}
 use Rattle.ask_agree.specs.Claims.{Unequal, AllIndependent}
 

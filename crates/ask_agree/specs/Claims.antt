@@ -14,7 +14,8 @@ use Rattle.spec_language.specs.Sheet.{Sheet}
 use Rattle.spec_language.specs.Grammar.{encode}
 use Rattle.spec_language.specs.Accepted.{SheetAccepted}
 use Rattle.spec_language.specs.Dependence.{size, events, writes, Reads, Independent}
-use Rattle.back_compile.specs.Verdict.{programOf, numberOn}
+use Rattle.back_compile.specs.Number.{numberOn}
+use Rattle.back_compile.specs.Compiled.{programOf}
 use Rattle.ask_agree.specs.Answer.{packedDifference}
 use Rattle.ask_agree.specs.Agree.{agreeOn}
 

@@ -14,7 +14,7 @@ use Rattle.lib_base.specs.Basics.{pick, All}
 use Rattle.lib_base.proofs.Tools.{by-test, split}
 use Rattle.spec_language.specs.Syntax.{Program}
 use Rattle.spec_language.specs.Dependence.{size, events, writes}
-use Rattle.spec_language.specs.Grammar.{BehaviourFits}
+use Rattle.spec_language.specs.Fits.{BehaviourFits}
 use Rattle.spec_language.specs.Accepted.{Known}
 use Rattle.check_reads.specs.First.{firstFrom}
 use Rattle.check_reads.proofs.FirstLaws.{Found, first-found, first-all, first-none}

@@ -21,7 +21,8 @@ use Rattle.check_reads.specs.First.{firstFrom}
 use Rattle.check_reads.specs.Sets.{writesOn, passiveOn, closedBy, RowsBy, WritesIn}
 use Rattle.check_reads.proofs.FirstLaws.{first-same}
 use Rattle.check_reads.proofs.Agrees.{writes-are}
-use Rattle.back_compile.specs.Verdict.{programOf, numberOn}
+use Rattle.back_compile.specs.Number.{numberOn}
+use Rattle.back_compile.specs.Compiled.{programOf}
 use Rattle.back_compile.specs.Judged.{Passes}
 use Rattle.back_compile.proofs.Judging.{passes-number}
 use Rattle.ask_agree.specs.Answer.{packedDifference}

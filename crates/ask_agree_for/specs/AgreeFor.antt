@@ -14,7 +14,8 @@ use Rattle.spec_language.specs.Sheet.{Sheet}
 use Rattle.spec_language.specs.Reading.{Got, bad, got, readSheet}
 use Rattle.spec_language.specs.Refusals.{noBehaviour}
 use Rattle.spec_language.specs.Dependence.{size, events}
-use Rattle.back_compile.specs.Verdict.{programOf, numberOn}
+use Rattle.back_compile.specs.Number.{numberOn}
+use Rattle.back_compile.specs.Compiled.{programOf}
 use Rattle.ask_meets.specs.Meeting.{inCone, meets}
 use Rattle.ask_agree_for.specs.Encounter.{encounterBy}
 

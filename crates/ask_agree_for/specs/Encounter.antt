@@ -10,7 +10,7 @@ use Rattle.lib_base.specs.Basics.{pick}
 use Rattle.lib_bits.specs.Bits.{bit}
 use Rattle.spec_language.specs.Syntax.{Program}
 use Rattle.spec_language.specs.Dependence.{size, events}
-use Rattle.spec_language.specs.Grammar.{Fits}
+use Rattle.spec_language.specs.Fits.{Fits}
 use Rattle.spec_language.specs.Accepted.{Known}
 use Rattle.draft_form.specs.Draft.{Drafted}
 use Rattle.check_reads.specs.First.{firstFrom}

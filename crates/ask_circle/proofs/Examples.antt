@@ -6,7 +6,7 @@ use mathlib.Core.Path.{_≡_}
 use mathlib.Core.List.{List}
 use lib.ListN.{length}
 use Rattle.spec_language.specs.Syntax.{Program}
-use Rattle.check_shortest.specs.Search.{eventNumber}
+use Rattle.check_shortest.specs.EventNumber.{eventNumber}
 use Rattle.ask_circle.specs.Witness.{CircleListed}
 
 module _ (p : Program) (two : length (p .priorities) ≡ 2) (list list′ : List ℕ) (r : ℕ) (c : CircleListed p list r list′) (three : length (c .members) ≡ 3) where

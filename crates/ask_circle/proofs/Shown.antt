@@ -9,7 +9,8 @@ use Rattle.lib_base.specs.Basics.{All}
 use Rattle.spec_language.specs.Sheet.{Sheet}
 use Rattle.spec_language.specs.Grammar.{encode, SheetFits}
 use Rattle.spec_language.specs.Accepted.{Known}
-use Rattle.back_compile.specs.Verdict.{programOf, numberOn}
+use Rattle.back_compile.specs.Number.{numberOn}
+use Rattle.back_compile.specs.Compiled.{programOf}
 use Rattle.back_compile.proofs.AcceptedExactly.{twelve}
 use Rattle.back_compile.specs.Statements.{Given}
 use Rattle.ask_circle.specs.Witness.{CircleListed, Witnessed}

@@ -12,7 +12,7 @@ use denote.Enum.Declared.{tagOf}
 use Rattle.lib_base.specs.Basics.{All}
 use Rattle.spec_language.specs.Syntax.{Program}
 use Rattle.spec_language.specs.Dependence.{size, events, noEvent, dependsOn}
-use Rattle.spec_language.specs.Grammar.{Fits}
+use Rattle.spec_language.specs.Fits.{Fits}
 use Rattle.spec_language.specs.Accepted.{Known}
 use Rattle.spec_language.specs.Reading.{got}
 use Rattle.spec_language.proofs.Laws.{depends-within}
@@ -30,7 +30,8 @@ use Rattle.check_distance.specs.Circle.{Chain, Circle}
 use Rattle.check_distance.proofs.Shorter.{shorter, distinct-few}
 use Rattle.check_distance.proofs.Walks.{circle-same}
 use Rattle.check_shortest.specs.Search.{Wide, ShortestFound}
-use Rattle.back_compile.specs.Verdict.{programOf, numberOn}
+use Rattle.back_compile.specs.Number.{numberOn}
+use Rattle.back_compile.specs.Compiled.{programOf}
 use Rattle.back_compile.specs.Judged.{CircleDraft, JudgedAs, answerOf}
 use Rattle.back_compile.specs.declared.Judgement.{Judgement}
 use Rattle.back_compile.specs.declared.Judgement.the-variants.{Accepted, Circular, Refused}

@@ -12,8 +12,9 @@ use Rattle.spec_language.specs.Sheet.{Sheet}
 use Rattle.spec_language.specs.Dependence.{noEvent, dependsOn}
 use Rattle.spec_language.specs.Grammar.{encode, SheetFits}
 use Rattle.check_distance.specs.Circle.{Circle}
-use Rattle.check_shortest.specs.Search.{eventNumber}
-use Rattle.back_compile.specs.Verdict.{programOf, numberOn}
+use Rattle.check_shortest.specs.EventNumber.{eventNumber}
+use Rattle.back_compile.specs.Number.{numberOn}
+use Rattle.back_compile.specs.Compiled.{programOf}
 
 -- an answer, and the list's bytes after the call
 abbrev pub ListAnswer : Type 0

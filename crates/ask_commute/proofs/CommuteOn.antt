@@ -14,13 +14,14 @@ use Rattle.lib_base.specs.Basics.{pick}
 use Rattle.lib_base.proofs.Tools.{split, by-test}
 use Rattle.spec_language.specs.Syntax.{Expr, Handler, Behaviour, passive, active, Program}
 use Rattle.spec_language.specs.Dependence.{Response, follows, takes, defers, keeps, handled, respond, size, noEvent, behaviourAt, response, mentions, needs, dependsOn, isActive, written, writes}
-use Rattle.spec_language.specs.Accepted.{Valid}
-use Rattle.spec_semantics.specs.Meaning.{at, value, firstPhase, event}
+use Rattle.spec_language.specs.Valid.{Valid}
+use Rattle.spec_semantics.specs.Meaning.{at, value, firstPhase}
+use Rattle.spec_semantics.specs.Event.{event}
 use Rattle.spec_semantics.proofs.Solution.{own, firstOf, secondOf, value-same, first-solves, event-length, event-solves}
 use Rattle.spec_semantics.proofs.Agreement.{event-consistent}
 use Rattle.spec_semantics.proofs.Commute.{kept}
 use Rattle.spec_semantics.proofs.Handlers.{Says, handled-says}
-use Rattle.check_reads.specs.Named.{inResponse}
+use Rattle.check_reads.specs.InResponse.{inResponse}
 use Rattle.ask_commute.specs.Meets.{Via, itself, passing, ReadsAt, Adds, AddsIn, AddsTo}
 use Rattle.ask_commute.proofs.Adding.{SameBut, Shift, shift-over, adds-shift, shifts-commute}
 use Rattle.ask_commute.proofs.OnSet.{needs-named, named-below, first-on, Closed, Agree, needed-in, passives-on}

@@ -12,11 +12,11 @@ use lib.Seq.{ext-getD}
 use Rattle.lib_base.proofs.Tools.{by-elim}
 use Rattle.spec_language.specs.Syntax.{Expr, Phase, immediate, later, Handler, handler, Behaviour, passive, active, Program}
 use Rattle.spec_language.specs.Dependence.{Response, inPhase, handled, respond, response, size, events, noEvent, behaviourAt, mentions, Reach, one, more}
-use Rattle.spec_language.specs.Accepted.{Valid}
-use Rattle.spec_semantics.specs.Meaning.{event}
+use Rattle.spec_language.specs.Valid.{Valid}
+use Rattle.spec_semantics.specs.Event.{event}
 use Rattle.spec_semantics.proofs.Solution.{or-first, or-second, event-length}
 use Rattle.secrecy_model.specs.Sight.{inHandlers, inBehaviour, names}
-use Rattle.check_reads.specs.Named.{inResponse}
+use Rattle.check_reads.specs.InResponse.{inResponse}
 use Rattle.ask_commute.specs.Meets.{Cone}
 use Rattle.ask_commute.proofs.OnSet.{Closed}
 use Rattle.ask_commute.proofs.CommuteOn.{Clear, commute-on}

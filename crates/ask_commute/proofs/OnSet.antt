@@ -9,12 +9,14 @@ use lib.Dec.{eqb}
 use lib.ListN.{length}
 use Rattle.spec_language.specs.Syntax.{Expr, Handler, Behaviour, passive, active, Program}
 use Rattle.spec_language.specs.Dependence.{Response, follows, takes, defers, keeps, handled, respond, size, noEvent, behaviourAt, response, mentions, needs, dependsOn, isActive}
-use Rattle.spec_language.specs.Accepted.{NamesIn, Valid}
+use Rattle.spec_language.specs.Accepted.{NamesIn}
+use Rattle.spec_language.specs.Valid.{Valid}
 use Rattle.spec_language.proofs.Laws.{named-in, ResponseNamesIn, response-names}
-use Rattle.spec_semantics.specs.Meaning.{at, firstPhase, event}
+use Rattle.spec_semantics.specs.Meaning.{at, firstPhase}
+use Rattle.spec_semantics.specs.Event.{event}
 use Rattle.spec_semantics.proofs.OrderLaws.{by-needs}
 use Rattle.spec_semantics.proofs.Solution.{firstOf, secondOf, Follows, value-same, first-local, first-solves, event-solves}
-use Rattle.check_reads.specs.Named.{inResponse}
+use Rattle.check_reads.specs.InResponse.{inResponse}
 
 -- ---- what is needed is named, and what is named exists
 

@@ -9,10 +9,11 @@ use native.Mathlib.Omega.{arith}
 use lib.ListN.{length}
 use Rattle.lib_base.specs.Basics.{All}
 use Rattle.spec_language.specs.Syntax.{Program}
-use Rattle.spec_language.specs.Accepted.{Valid}
+use Rattle.spec_language.specs.Valid.{Valid}
 use Rattle.spec_language.specs.Dependence.{size, events, noEvent}
 use Rattle.spec_model.specs.Model.{Arrival, Turn, rank}
-use Rattle.spec_model.specs.Claims.{eventsOf, takenInBy, historyOf, after, IdleIn, Sound, Course, last, thenChange, courseOf}
+use Rattle.spec_model.specs.Claims.{eventsOf, takenInBy, historyOf, after, IdleIn, Course, last, thenChange, courseOf}
+use Rattle.spec_model.specs.Sound.{Sound}
 use Rattle.spec_model.proofs.States.{storeIn}
 use Rattle.spec_model.proofs.Confluence.{Declared, Likeness, CommuteBy}
 use Rattle.spec_model.proofs.Courses.{allOf, Known, known, OneSheet, CommuteEach}

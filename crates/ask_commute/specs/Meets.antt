@@ -9,7 +9,7 @@ use lib.ListN.{getD}
 use Rattle.spec_language.specs.Syntax.{Expr, name, app2, app3, passive, Program}
 use Rattle.spec_language.specs.Dependence.{Response, follows, takes, defers, keeps, events, behaviourAt, response, mentions, Reach, writes}
 use Rattle.secrecy_model.specs.Sight.{names}
-use Rattle.check_reads.specs.Named.{inResponse}
+use Rattle.check_reads.specs.InResponse.{inResponse}
 
 -- the cone of influence of behaviour b (D): what it depends on, itself included
 abbrev pub Cone : Program → ℕ → ℕ → Type 0

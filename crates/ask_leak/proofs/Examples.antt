@@ -7,10 +7,11 @@ use mathlib.Core.List.{List, [], _∷_}
 use Rattle.spec_language.specs.Syntax.{name, passive, active, Program}
 use Rattle.spec_language.specs.Dependence.{handled, mentions}
 use Rattle.spec_language.specs.Reading.{readSheet}
-use Rattle.back_compile.specs.Verdict.{numberOn}
+use Rattle.back_compile.specs.Number.{numberOn}
 use Rattle.check_graph.specs.Any.{anyBelow}
 use Rattle.check_reads.specs.First.{firstFrom}
-use Rattle.ask_leak.specs.Leaking.{packedLeak, leakAt, leakFrom, leakBy}
+use Rattle.ask_leak.specs.Answer.{packedLeak}
+use Rattle.ask_leak.specs.Leaking.{leakAt, leakFrom, leakBy}
 use Rattle.ask_leak.specs.Leak.{behaviourNames, leakIn, leakRead, leakOn}
 
 pub behaviour-1-names-2 : packedLeak 1 2 ≡ 131358

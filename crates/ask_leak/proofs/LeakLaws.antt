@@ -15,19 +15,20 @@ use Rattle.spec_language.specs.Syntax.{Program}
 use Rattle.spec_language.specs.Reading.{got, readSheet}
 use Rattle.spec_language.specs.Rights.{may, maySee}
 use Rattle.spec_language.specs.Dependence.{size, events, response}
-use Rattle.spec_language.specs.Grammar.{Fits}
+use Rattle.spec_language.specs.Fits.{Fits}
 use Rattle.draft_form.specs.Draft.{DraftOf, Drafted}
 use Rattle.check_graph.specs.Any.{anyBelow}
 use Rattle.check_graph.proofs.Any.{any-same}
 use Rattle.check_reads.specs.First.{firstFrom}
 use Rattle.check_reads.specs.Sets.{namesOn}
-use Rattle.check_reads.specs.Named.{inResponse}
+use Rattle.check_reads.specs.InResponse.{inResponse}
 use Rattle.check_reads.proofs.FirstLaws.{first-same, first-none}
 use Rattle.check_reads.proofs.Agrees.{names-are}
-use Rattle.back_compile.specs.Verdict.{numberOn}
+use Rattle.back_compile.specs.Number.{numberOn}
 use Rattle.back_compile.specs.Judged.{Passes}
 use Rattle.back_compile.proofs.Judging.{passes-number}
-use Rattle.ask_leak.specs.Leaking.{packedLeak, leakAt, leakFrom, leakBy, namesAny, hiddenOn, leakingOn, leakFor}
+use Rattle.ask_leak.specs.Leaking.{leakAt, leakFrom, leakBy, namesAny, hiddenOn, leakingOn, leakFor}
+use Rattle.ask_leak.specs.Answer.{packedLeak}
 use Rattle.ask_leak.specs.Leak.{behaviourNames, hiddenIn, leakIn, leakOn}
 
 -- ---- who may see

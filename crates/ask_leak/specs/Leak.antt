@@ -14,9 +14,10 @@ use Rattle.spec_language.specs.Reading.{Got, bad, got, readSheet}
 use Rattle.spec_language.specs.Refusals.{noPlayer}
 use Rattle.spec_language.specs.Rights.{maySee}
 use Rattle.spec_language.specs.Dependence.{size, events, response}
-use Rattle.back_compile.specs.Verdict.{programOf, numberOn}
+use Rattle.back_compile.specs.Number.{numberOn}
+use Rattle.back_compile.specs.Compiled.{programOf}
 use Rattle.check_graph.specs.Any.{anyBelow}
-use Rattle.check_reads.specs.Named.{inResponse}
+use Rattle.check_reads.specs.InResponse.{inResponse}
 use Rattle.ask_leak.specs.Leaking.{leakBy}
 
 -- behaviour i names j: a passive in its expression, which it follows under every event and under none; an active in its

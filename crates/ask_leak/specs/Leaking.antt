@@ -1,5 +1,5 @@
 -- The first name of a hidden behaviour in one that a player sees, in the code's tests and order.
-use Prim.Native.Nat.{ℕ, _+_, _-_, _*_}
+use Prim.Native.Nat.{ℕ, _+_, _-_}
 use mathlib.Core.Bool.{Bool, not, _&&_}
 use mathlib.Core.List.{List}
 use lib.ListN.{getD}
@@ -10,13 +10,7 @@ use Rattle.spec_language.specs.Rights.{may}
 use Rattle.check_graph.specs.Any.{anyBelow}
 use Rattle.check_reads.specs.First.{firstFrom}
 use Rattle.check_reads.specs.Sets.{namesOn}
-
-abbrev pub mayLeak : ℕ  -- a behaviour that the player sees names one that is hidden from it: M-107's condition fails
-mayLeak = 30
-
--- the behaviour that is seen and the hidden one that it names
-unfoldable pub packedLeak : ℕ → ℕ → ℕ
-packedLeak i j = mayLeak + 256 * i + 65536 * j
+use Rattle.ask_leak.specs.Answer.{packedLeak}
 
 -- among n behaviours, by which are hidden and which each names
 module _ (n : ℕ) (hidden : ℕ → Bool) (names : ℕ → ℕ → Bool) where

@@ -12,7 +12,7 @@ use Rattle.lib_base.proofs.Tools.{split, by-test}
 use Rattle.lib_bits.specs.Bits.{bit}
 use Rattle.spec_language.specs.Syntax.{Expr, Program}
 use Rattle.spec_language.specs.Dependence.{Response, follows, takes, defers, keeps, size, events, response, written, writes}
-use Rattle.spec_language.specs.Grammar.{Fits, Nested}
+use Rattle.spec_language.specs.Fits.{Fits, Nested}
 use Rattle.spec_language.specs.Accepted.{NamesIn, Known}
 use Rattle.spec_language.proofs.Laws.{ResponseNested, response-nested, ResponseNamesIn, response-names}
 use Rattle.draft_form.specs.Draft.{draftLength, nodes, entryOf, usedBy, Drafted}
@@ -21,7 +21,8 @@ use Rattle.draft_form.proofs.DraftLaws.{Holds, Entry, entry-of, length-used}
 use Rattle.check_graph.specs.Any.{anyBelow}
 use Rattle.check_graph.proofs.Any.{any-same}
 use Rattle.check_reads.specs.Sets.{namesOn, writesOn, passiveOn, closedBy, RowsBy}
-use Rattle.check_reads.specs.Named.{inResponse, throughPassives}
+use Rattle.check_reads.specs.Named.{throughPassives}
+use Rattle.check_reads.specs.InResponse.{inResponse}
 use Rattle.check_reads.proofs.Agrees.{names-are, writes-are, chains-are, closed-same}
 use Rattle.ask_leak.specs.Leaking.{namesAny}
 use Rattle.ask_leak.specs.Leak.{behaviourNames}

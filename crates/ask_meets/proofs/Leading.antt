@@ -13,7 +13,7 @@ use Rattle.lib_base.specs.Basics.{All}
 use Rattle.lib_base.proofs.Tools.{or-either, all-at-or}
 use Rattle.spec_language.specs.Syntax.{Expr, Behaviour, passive, active, Program}
 use Rattle.spec_language.specs.Dependence.{Response, size, events, noEvent, respond, behaviourAt, response, mentions, needs, dependsOn, Reach, one, more}
-use Rattle.spec_language.specs.Grammar.{BehaviourFits}
+use Rattle.spec_language.specs.Fits.{BehaviourFits}
 use Rattle.spec_language.specs.Accepted.{Known}
 use Rattle.spec_language.proofs.Laws.{depends-within}
 use Rattle.check_graph.proofs.Closure.{reach-then}

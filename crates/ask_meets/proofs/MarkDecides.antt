@@ -11,7 +11,8 @@ use Rattle.lib_base.specs.Basics.{pick, All}
 use Rattle.lib_base.proofs.Tools.{by-test, split, or-either}
 use Rattle.spec_language.specs.Syntax.{Expr, con, name, app1, app2, app3, Program}
 use Rattle.spec_language.specs.Dependence.{Response, follows, takes, defers, keeps, size, events, response, mentions, written}
-use Rattle.spec_language.specs.Grammar.{Arity, unary, ternary, binary, Nested, n-con, n-name, n-app1, n-app2, n-app3, BehaviourFits}
+use Rattle.spec_language.specs.Grammar.{Arity, unary, ternary, binary}
+use Rattle.spec_language.specs.Fits.{Nested, n-con, n-name, n-app1, n-app2, n-app3, BehaviourFits}
 use Rattle.spec_language.specs.Accepted.{NamesIn, Known}
 use Rattle.spec_language.proofs.Laws.{ResponseNested, response-nested, ResponseNamesIn, response-names}
 use Rattle.spec_semantics.proofs.Solution.{or-first, or-second}

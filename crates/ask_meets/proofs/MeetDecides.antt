@@ -14,12 +14,13 @@ use Rattle.lib_base.specs.Basics.{pick, All}
 use Rattle.lib_base.proofs.Tools.{split, or-either}
 use Rattle.spec_language.specs.Syntax.{Behaviour, active, Program}
 use Rattle.spec_language.specs.Dependence.{Response, follows, takes, defers, keeps, handled, size, events, respond, response, written, writes}
-use Rattle.spec_language.specs.Grammar.{BehaviourFits}
+use Rattle.spec_language.specs.Fits.{BehaviourFits}
 use Rattle.spec_language.specs.Accepted.{Known}
 use Rattle.spec_language.proofs.Laws.{named-in, ResponseNamesIn, response-names}
 use Rattle.check_graph.specs.Any.{anyBelow}
 use Rattle.check_graph.proofs.Any.{any-some}
-use Rattle.check_reads.specs.Named.{inResponse, throughPassives}
+use Rattle.check_reads.specs.Named.{throughPassives}
+use Rattle.check_reads.specs.InResponse.{inResponse}
 use Rattle.check_reads.proofs.Decides.{any-found}
 use Rattle.ask_commute.specs.Meets.{Via, itself, ReadsAt, AddsTo, ReadsIn, ReadsElsewhere, SharedIn, two-write, one-writes, other-writes, OnlyAdd, MeetAt}
 use Rattle.ask_commute.proofs.CommuteOn.{Clear}

@@ -13,7 +13,8 @@ use borrow.Author.Tests.{eq-eqb, ne-eqb}
 use Rattle.lib_base.specs.Basics.{pick}
 use Rattle.lib_base.proofs.Tools.{by-test}
 use Rattle.spec_language.specs.Syntax.{Expr, con, name, app1, app2, app3, Program}
-use Rattle.spec_language.specs.Grammar.{Arity, unary, ternary, binary, Nested, n-con, n-name, n-app1, n-app2, n-app3}
+use Rattle.spec_language.specs.Grammar.{Arity, unary, ternary, binary}
+use Rattle.spec_language.specs.Fits.{Nested, n-con, n-name, n-app1, n-app2, n-app3}
 use Rattle.spec_language.specs.Accepted.{NamesIn}
 use Rattle.draft_form.specs.Draft.{nodes}
 use Rattle.draft_form.specs.Entry.{nodeTag, nodeWord}

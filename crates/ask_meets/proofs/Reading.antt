@@ -5,7 +5,7 @@ use mathlib.Core.Bool.{true, true≢false}
 use mathlib.Core.Path.{_≡_, refl, sym, ap, _∙_}
 use Rattle.spec_language.specs.Syntax.{Expr, passive, Program}
 use Rattle.spec_language.specs.Dependence.{Response, follows, takes, defers, keeps, behaviourAt, response, mentions, written, Named, in-immediate, in-later, through}
-use Rattle.check_reads.specs.Named.{inResponse}
+use Rattle.check_reads.specs.InResponse.{inResponse}
 use Rattle.ask_commute.specs.Meets.{Via, itself, passing, ReadsAt}
 
 -- ---- from a handler

@@ -9,7 +9,8 @@ use Rattle.lib_base.specs.Basics.{pick}
 use Rattle.spec_language.specs.Syntax.{Program}
 use Rattle.spec_language.specs.Dependence.{size, response, writes}
 use Rattle.check_graph.specs.Any.{anyBelow}
-use Rattle.check_reads.specs.Named.{inResponse, throughPassives}
+use Rattle.check_reads.specs.Named.{throughPassives}
+use Rattle.check_reads.specs.InResponse.{inResponse}
 use Rattle.check_reads.specs.Sets.{closedBy}
 use Rattle.ask_leak.specs.Leak.{behaviourNames}
 use Rattle.ask_meets.specs.Marks.{addsOf}

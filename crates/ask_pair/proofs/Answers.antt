@@ -14,11 +14,13 @@ use Rattle.spec_language.specs.Syntax.{Program}
 use Rattle.spec_language.specs.Sheet.{Sheet}
 use Rattle.spec_language.specs.Reading.{got, readSheet}
 use Rattle.spec_language.specs.Grammar.{encode}
-use Rattle.spec_language.specs.Accepted.{Accepted, SheetAccepted}
+use Rattle.spec_language.specs.Accepted.{SheetAccepted}
+use Rattle.spec_language.specs.Valid.{Accepted}
 use Rattle.spec_language.specs.Refusals.{undeclaredEvent}
 use Rattle.spec_language.specs.Dependence.{events, Independent}
 use Rattle.spec_grammar.proofs.Programs.{reads-back}
-use Rattle.back_compile.specs.Verdict.{programOf, numberOn}
+use Rattle.back_compile.specs.Number.{numberOn}
+use Rattle.back_compile.specs.Compiled.{programOf}
 use Rattle.ask_agree.proofs.Answers.{number-zero, accepted}
 use Rattle.ask_pair.specs.Pair.{pairOf, pairIn, pairOn}
 use Rattle.ask_pair.specs.Claims.{PairNamed, PairAnswer, PairAnswers}

@@ -13,7 +13,7 @@ use borrow.Author.Tests.{eq-eqb, ne-eqb, eqb-true, eqb-false}
 use Rattle.lib_base.specs.Basics.{pick, All}
 use Rattle.lib_base.proofs.Tools.{split}
 use Rattle.spec_language.specs.Syntax.{Program}
-use Rattle.spec_language.specs.Grammar.{BehaviourFits}
+use Rattle.spec_language.specs.Fits.{BehaviourFits}
 use Rattle.spec_language.specs.Accepted.{Known}
 use Rattle.spec_language.specs.Dependence.{size, events, behaviourAt, isActive, writes, Reads, Independent}
 use Rattle.ask_commute.specs.Meets.{ReadsIn, SharedIn, two-write, one-writes, other-writes, OnlyAdd, MeetAt}

@@ -20,7 +20,8 @@ use Rattle.check_reads.specs.Sets.{passiveOn, closedBy, RowsBy, WritesIn, Named
 use Rattle.check_reads.specs.Named.{namedBy}
 use Rattle.check_reads.proofs.FirstLaws.{Seeking, seek-on, seek-stop, first-found, first-same}
 use Rattle.check_reads.proofs.Agrees.{named-are}
-use Rattle.back_compile.specs.Verdict.{programOf, numberOn}
+use Rattle.back_compile.specs.Number.{numberOn}
+use Rattle.back_compile.specs.Compiled.{programOf}
 use Rattle.back_compile.specs.Judged.{Passes}
 use Rattle.back_compile.proofs.Judging.{passes-number}
 use Rattle.ask_agree.specs.Agree.{clashes}

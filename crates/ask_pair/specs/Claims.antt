@@ -14,10 +14,11 @@ use Rattle.spec_language.specs.Syntax.{Program}
 use Rattle.spec_language.specs.Sheet.{Sheet}
 use Rattle.spec_language.specs.Grammar.{encode}
 use Rattle.spec_language.specs.Accepted.{SheetAccepted}
-use Rattle.spec_language.specs.Refusals.{undeclaredEvent}
 use Rattle.spec_language.specs.Dependence.{size, events, writes, Reads, Independent}
+use Rattle.spec_language.specs.Answers.{told}
 use Rattle.ask_commute.specs.Meets.{OnlyAdd, MeetAt}
-use Rattle.back_compile.specs.Verdict.{programOf, numberOn}
+use Rattle.back_compile.specs.Number.{numberOn}
+use Rattle.back_compile.specs.Compiled.{programOf}
 use Rattle.ask_agree.specs.Claims.{SharedBehaviour}
 use Rattle.ask_pair.specs.Pair.{pairOn}
 
@@ -32,7 +33,7 @@ FlagOf t P = (t ≡ true → P) × (P → t ≡ true)
 -- 2 ^ 32, the behaviour, and 256 times the flags: 1, 2, 4, 8, 16 and 32
 unfoldable pub packedTold : ℕ → Bool → Bool → Bool → Bool → Bool → Bool → ℕ
 packedTold i we wf re rf add meet =
-    4294967296 + (i + 256 * (pick we 1 0 + (pick wf 2 0 + (pick re 4 0 + (pick rf 8 0 + (pick add 16 0 + pick meet 32 0))))))
+    told (i + 256 * (pick we 1 0 + (pick wf 2 0 + (pick re 4 0 + (pick rf 8 0 + (pick add 16 0 + pick meet 32 0))))))
 
 -- the answer names a behaviour that the events e and f share, and each flag is true of it
 pub record PairNamed (p : Program) (e f answer : ℕ) : Type 0 where
@@ -63,8 +64,8 @@ pub record PairNamed (p : Program) (e f answer : ℕ) : Type 0 where
 -- of a sheet that compile accepts, with the bytes ps lent for its parameters, and the numbers e and f
 pub record PairAnswer (s ps : List ℕ) (e f : ℕ) (x : Sheet) : Type 0 where
   -- 15 exactly if one of the two is not declared
-  pub undeclared-if : (events (programOf ps x) ≤ e) ⊎ (events (programOf ps x) ≤ f) → pairOn s ps e f ≡ undeclaredEvent
-  pub undeclared-only : pairOn s ps e f ≡ undeclaredEvent → (events (programOf ps x) ≤ e) ⊎ (events (programOf ps x) ≤ f)
+  pub undeclared-if : (events (programOf ps x) ≤ e) ⊎ (events (programOf ps x) ≤ f) → pairOn s ps e f ≡ 15
+  pub undeclared-only : pairOn s ps e f ≡ 15 → (events (programOf ps x) ≤ e) ⊎ (events (programOf ps x) ≤ f)
   -- of two that are: 0 exactly if they are independent, and what is named is true
   pub zero-if : e < events (programOf ps x) → f < events (programOf ps x) → Independent (programOf ps x) e f → pairOn s ps e f ≡ 0
   pub only-if : e < events (programOf ps x) → f < events (programOf ps x) → pairOn s ps e f ≡ 0 → Independent (programOf ps x) e f

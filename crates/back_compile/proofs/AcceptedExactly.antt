@@ -23,8 +23,10 @@ use Rattle.spec_language.proofs.SheetLaws.{length-fill}
 use Rattle.spec_grammar.proofs.Programs.{reads-back, reads-only, fault-numbers}
 use Rattle.check_faults.specs.Faults.{known, cyclic}
 use Rattle.check_faults.proofs.CycleDecides.{known-decides, cyclic-decides}
-use Rattle.format_image.specs.Image.{tableOf}
-use Rattle.back_compile.specs.Verdict.{Compiled, compiled, judge, lacksParameters, programOf, judgeRead, compileOn, numberOn}
+use Rattle.format_image.specs.Table.{tableOf}
+use Rattle.back_compile.specs.Verdict.{judge, lacksParameters, judgeRead, compileOn}
+use Rattle.back_compile.specs.Number.{numberOn}
+use Rattle.back_compile.specs.Compiled.{Compiled, compiled, programOf}
 use Rattle.back_compile.proofs.JudgeLaws.{judge-passes, Verdict, unknown, lacking, circular, long, passed, judge-says, compile-opens, compile-short, compile-long}
 use Rattle.back_compile.specs.Statements.{Given}
 

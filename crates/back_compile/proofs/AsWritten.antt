@@ -19,7 +19,8 @@ use Rattle.spec_language.specs.Reading.{Got, bad, got, readSheet}
 use Rattle.spec_language.proofs.SheetLaws.{fill-same, written-unused, fill-written}
 use Rattle.spec_grammar.proofs.Programs.{reads-only}
 use Rattle.spec_grammar.proofs.Faults.{result, sheetFault, sheet-result, fault-written}
-use Rattle.back_compile.specs.Verdict.{judge, lacksParameters, programOf, judgeRead, compileOn}
+use Rattle.back_compile.specs.Verdict.{judge, lacksParameters, judgeRead, compileOn}
+use Rattle.back_compile.specs.Compiled.{programOf}
 use Rattle.back_compile.proofs.JudgeLaws.{compile-opens, compile-short, compile-long}
 
 module _ (x : Sheet) (ps : List ℕ) (enough : 32 ≤ length ps) where

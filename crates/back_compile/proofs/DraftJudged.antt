@@ -5,13 +5,14 @@ use mathlib.Core.Bool.{Bool, true, false}
 use mathlib.Core.Path.{_≡_, sym, ap, _∙_}
 use mathlib.Core.List.{List}
 use native.Mathlib.Omega.{arith}
-use Rattle.format_image.specs.Image.{tableOf, putWords}
+use Rattle.format_image.specs.Table.{tableOf, putWords}
 use Rattle.draft_form.specs.Draft.{DraftOf}
 use Rattle.check_faults.specs.Checks.{namesKnown, cyclicOn}
 use Rattle.check_faults.proofs.DraftChecks.{draft-names, draft-cyclic}
 use Rattle.back_table.specs.TableWords.{countBefore, tableWords}
 use Rattle.back_table.proofs.TableIs.{count-all-is, draft-table}
-use Rattle.back_compile.specs.Verdict.{compiled, judge}
+use Rattle.back_compile.specs.Verdict.{judge}
+use Rattle.back_compile.specs.Compiled.{compiled}
 use Rattle.back_compile.proofs.JudgeLaws.{judge-unknown, judge-lacking, judge-cycle, judge-long, judge-passes}
 
 module _ {ev bs n : ℕ} {d : List ℕ} (c : DraftOf ev bs n d) (t : List ℕ) where

@@ -15,7 +15,8 @@ use Rattle.spec_language.specs.Reading.{Got, bad, got, fieldAt, readAll, exprAt
 use Rattle.spec_language.specs.Code.{allInstructions}
 use Rattle.check_faults.specs.Faults.{known, cyclic}
 use Rattle.spec_grammar.proofs.Examples.{plain, bare, nots}
-use Rattle.back_compile.specs.Verdict.{compiled, judge, lacksParameters, judgeRead, compileOn}
+use Rattle.back_compile.specs.Compiled.{compiled}
+use Rattle.back_compile.specs.Verdict.{judge, lacksParameters, judgeRead, compileOn}
 use Rattle.back_compile.specs.Statements.{RowsFit}
 use Rattle.back_compile.proofs.JudgeLaws.{compile-opens}
 use Rattle.back_compile.proofs.RowsOut.{as-rows}

@@ -12,8 +12,10 @@ use Rattle.spec_language.specs.Sheet.{Sheet}
 use Rattle.spec_language.specs.Reading.{Got, bad, got, readSheet}
 use Rattle.spec_language.specs.Code.{allInstructions}
 use Rattle.check_faults.specs.Faults.{known, cyclic}
-use Rattle.format_image.specs.Image.{tableOf}
-use Rattle.back_compile.specs.Verdict.{Compiled, compiled, judge, lacksParameters, programOf, judgeRead, compileOn, numberOn}
+use Rattle.format_image.specs.Table.{tableOf}
+use Rattle.back_compile.specs.Verdict.{judge, lacksParameters, judgeRead, compileOn}
+use Rattle.back_compile.specs.Number.{numberOn}
+use Rattle.back_compile.specs.Compiled.{Compiled, compiled, programOf}
 
 module _ (p : Program) (t : List ℕ) where
   pub judge-unknown : (l : Bool) → known p ≡ false → judge p l t ≡ compiled 11 t

@@ -16,7 +16,7 @@ use Rattle.spec_language.specs.Sheet.{Sheet, fill, uses}
 use Rattle.spec_language.specs.Reading.{bad, readSheet}
 use Rattle.spec_language.proofs.SheetLaws.{fill-unused}
 use Rattle.spec_grammar.proofs.Programs.{fault-numbers}
-use Rattle.format_image.specs.Image.{putWords}
+use Rattle.format_image.specs.Table.{putWords}
 use Rattle.draft_form.specs.Draft.{draftLength, DraftOf}
 use Rattle.front_sheet.specs.declared.Draft.{Draft}
 use Rattle.front_sheet.specs.declared.Draft.the-variants.{Ready, Broken}
@@ -28,7 +28,9 @@ use Rattle.check_faults.specs.Checks.{namesKnown, cyclicOn}
 use Rattle.check_faults.proofs.DraftChecks.{draft-names}
 use Rattle.back_table.specs.TableWords.{countBefore, tableWords}
 use Rattle.back_table.proofs.TableIs.{draft-planned}
-use Rattle.back_compile.specs.Verdict.{Compiled, compiled, judge, lacksParameters, programOf, compileOn, numberOn}
+use Rattle.back_compile.specs.Verdict.{judge, lacksParameters, compileOn}
+use Rattle.back_compile.specs.Number.{numberOn}
+use Rattle.back_compile.specs.Compiled.{Compiled, compiled, programOf}
 use Rattle.back_compile.specs.Judged.{Drafts, Passes, CircleDraft, Falls, Finding, JudgedAs, answerOf, draftRefusal}
 use Rattle.back_compile.specs.declared.Judgement.{Judgement}
 use Rattle.back_compile.specs.declared.Judgement.the-variants.{Accepted, Circular, Refused}

@@ -20,7 +20,8 @@ use Rattle.spec_language.proofs.RowLaws.{length-out}
 use Rattle.spec_language.proofs.SheetLaws.{length-fill}
 use Rattle.check_faults.specs.Faults.{known, cyclic}
 use Rattle.check_faults.proofs.CycleDecides.{known-decides, cyclic-decides}
-use Rattle.back_compile.specs.Verdict.{judge, lacksParameters, programOf, judgeRead, compileOn}
+use Rattle.back_compile.specs.Verdict.{judge, lacksParameters, judgeRead, compileOn}
+use Rattle.back_compile.specs.Compiled.{programOf}
 use Rattle.back_compile.specs.Statements.{FirstUnmet, AfterReading}
 use Rattle.back_compile.proofs.AcceptedExactly.{given-says, given-is}
 use Rattle.back_compile.proofs.Counted.{Counted, read-counted}

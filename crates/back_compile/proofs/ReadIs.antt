@@ -12,7 +12,8 @@ use Rattle.front_sheet.specs.declared.Draft.{Draft}
 use Rattle.front_sheet.specs.declared.Draft.the-variants.{Ready, Broken}
 use Rattle.front_sheet.specs.Whole.{finished, readOn}
 use Rattle.front_correct.proofs.Drafts.{empty, drafted-as}
-use Rattle.back_compile.specs.Verdict.{compiled, judgeRead}
+use Rattle.back_compile.specs.Verdict.{judgeRead}
+use Rattle.back_compile.specs.Compiled.{compiled}
 use Rattle.back_compile.specs.Judged.{SheetJudged, draftRefusal}
 
 -- the bytes of a slice

@@ -19,7 +19,8 @@ use Rattle.spec_language.specs.Reading.{Got, got, entry, readSheet}
 use Rattle.spec_language.proofs.RowLaws.{count-append, uses-out, means-rows-out}
 use Rattle.spec_grammar.proofs.Faults.{result, sheetFault, sheet-result}
 use Rattle.spec_grammar.proofs.Rows.{RowsSound, faultBefore, fits-faultless, fault-rows, faultless-some}
-use Rattle.back_compile.specs.Verdict.{judge, lacksParameters, programOf, judgeRead}
+use Rattle.back_compile.specs.Verdict.{judge, lacksParameters, judgeRead}
+use Rattle.back_compile.specs.Compiled.{programOf}
 use Rattle.back_compile.proofs.JudgeLaws.{compile-opens, compile-short}
 use Rattle.back_compile.proofs.Orders.{after-reading}
 use Rattle.back_compile.specs.Statements.{CountFits, RowsFit, AsRows}

@@ -8,14 +8,15 @@ use mathlib.Core.List.{List, []}
 use lib.ListN.{length}
 use Rattle.spec_language.specs.Sheet.{Sheet}
 use Rattle.spec_language.specs.Reading.{got, readSheet}
-use Rattle.format_image.specs.Image.{putWords}
+use Rattle.format_image.specs.Table.{putWords}
 use Rattle.draft_form.specs.Draft.{DraftOf, SheetDraft}
 use Rattle.front_sheet.specs.declared.Draft.{Draft}
 use Rattle.front_sheet.specs.declared.Draft.the-variants.{Ready, Broken}
 use Rattle.check_faults.specs.Faults.{known}
 use Rattle.check_faults.specs.Checks.{cyclicOn}
 use Rattle.back_table.specs.TableWords.{tableWords, Planned}
-use Rattle.back_compile.specs.Verdict.{compiled, judge, programOf, judgeRead, compileOn}
+use Rattle.back_compile.specs.Verdict.{judge, judgeRead, compileOn}
+use Rattle.back_compile.specs.Compiled.{compiled, programOf}
 use Rattle.back_compile.specs.declared.Judgement.{Judgement}
 use Rattle.back_compile.specs.declared.Judgement.the-variants.{Accepted, Circular, Refused}
 

@@ -7,14 +7,14 @@ use mathlib.Core.Option.{Option}
 use mathlib.Core.List.{List, [], _∷_, _++_}
 use lib.ListN.{length}
 use Rattle.lib_base.specs.Basics.{All}
-use Rattle.spec_language.specs.Refusals.{unknownName, noParameters, cycle, overlong}
 use Rattle.spec_language.specs.Sheet.{Sheet, uses, Clause, Item, formula, state, row, Entry, cellCount, rowsOut}
 use Rattle.spec_language.specs.Dependence.{NoCycle}
 use Rattle.spec_language.specs.Grammar.{ClausesFit, encode}
 use Rattle.spec_language.specs.Reading.{Got, bad, got, entry, sheet, readSheet}
 use Rattle.spec_language.specs.Accepted.{Known}
 use Rattle.spec_language.specs.Code.{allInstructions}
-use Rattle.back_compile.specs.Verdict.{programOf, compileOn}
+use Rattle.back_compile.specs.Verdict.{compileOn}
+use Rattle.back_compile.specs.Compiled.{programOf}
 
 -- a parameter is used only if 32 bytes are lent
 abbrev pub Given : List ℕ → Sheet → Type 0
@@ -33,10 +33,10 @@ abbrev pub AfterReading : Got Sheet → List ℕ → ℕ → Type 0
 AfterReading (bad k) ps r = r ≡ k
 AfterReading (got x rest) ps r =
     FirstUnmet
-    ((Known (programOf ps x), unknownName)
-    ∷ (Given ps x, noParameters)
-    ∷ (NoCycle (programOf ps x), cycle)
-    ∷ (allInstructions (programOf ps x) ≤ 4096, overlong) ∷ [])
+    ((Known (programOf ps x), 11)
+    ∷ (Given ps x, 20)
+    ∷ (NoCycle (programOf ps x), 12)
+    ∷ (allInstructions (programOf ps x) ≤ 4096, 13) ∷ [])
     (λ r. r ≡ 0) r
 
 -- ---- rows. M-110: "It means the sheet in which each cell is written out as an active, only that 3 counts the bytes as
@@ -73,7 +73,8 @@ pub record AsRows (x : Sheet) : Type 0 where
       → (ps t : List ℕ) → compileOn (encode x) ps t ≡ compileOn (encode (rowsOut x)) ps t
   -- 3 counts the bytes as sent: where they are not over 8,192 the sheet written out is read and judged, however many
   -- bytes it would have
-  pub sent : RowsFit x → length (encode x) ≤ 8192 → (ps t : List ℕ) → 34816 ≤ length t → AfterReading (readSheet (encode (rowsOut x))) ps (compileOn (encode x) ps t .0)
+  pub sent : RowsFit x → length (encode x) ≤ 8192 → (ps t : List ℕ) → 34816 ≤ length t
+      → AfterReading (readSheet (encode (rowsOut x))) ps (compileOn (encode x) ps t .0)
   -- each row is as above where they have 2 to 16 cells and all behaviours are 64 at most
   pub fits : All (λ (b : Entry). CountFits (b .item)) (x .entries) → cellCount (x .entries) ≤ 64 → RowsFit x
   -- its program, so its circles, rights, instruction counts and commits, is that of the sheet written out

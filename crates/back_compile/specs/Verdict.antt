@@ -4,24 +4,17 @@
 use Prim.Native.Nat.{ℕ}
 use mathlib.Core.Bool.{Bool, _&&_}
 use mathlib.Core.List.{List}
-use lib.ListN.{length, replicate}
+use lib.ListN.{length}
 use lib.Dec.{ltb}
 use Rattle.lib_base.specs.Basics.{pick}
-use Rattle.lib_word.specs.Word.{get}
 use Rattle.spec_language.specs.Syntax.{Program}
-use Rattle.spec_language.specs.Sheet.{Sheet, fill, uses}
+use Rattle.spec_language.specs.Sheet.{Sheet, uses}
 use Rattle.spec_language.specs.Refusals.{shortTable, longProgram, unknownName, cycle, overlong, noParameters}
 use Rattle.spec_language.specs.Reading.{Got, bad, got, readSheet}
 use Rattle.spec_language.specs.Code.{allInstructions}
 use Rattle.check_faults.specs.Faults.{known, cyclic}
-use Rattle.format_image.specs.Image.{tableOf}
-
--- an answer, and the table's bytes after the call
-abbrev pub Compiled : Type 0
-Compiled = ℕ × List ℕ
-
-abbrev pub compiled : ℕ → List ℕ → Compiled
-compiled r t = (r, t)
+use Rattle.format_image.specs.Table.{tableOf}
+use Rattle.back_compile.specs.Compiled.{Compiled, programOf}
 
 -- a sheet's program; `lacking` says that the sheet uses a parameter and fewer than 32 bytes are lent
 unfoldable pub judge : Program → Bool → List ℕ → Compiled
@@ -36,10 +29,6 @@ judge p lacking t =
 abbrev pub lacksParameters : Sheet → List ℕ → Bool
 lacksParameters s ps = uses s && ltb (length ps) 32
 
--- the program that a sheet means with the bytes ps lent for its parameters: parameter n has the value of their word n
-abbrev pub programOf : List ℕ → Sheet → Program
-programOf ps s = fill (get ps) s
-
 abbrev pub judgeRead : Got Sheet → List ℕ → List ℕ → Compiled
 judgeRead (bad k) ps t = (k, t)
 judgeRead (got s rest) ps t = judge (programOf ps s) (lacksParameters s ps) t
@@ -49,7 +38,3 @@ compileOn s ps t =
     pick (ltb (length t) 34816) (shortTable, t)
     (pick (ltb 8192 (length s)) (longProgram, t)
     (judgeRead (readSheet s) ps t))
-
--- compile's number for a sheet and the bytes lent for its parameters, with a full table
-unfoldable pub numberOn : List ℕ → List ℕ → ℕ
-numberOn s ps = compileOn s ps (replicate 34816 0) .0

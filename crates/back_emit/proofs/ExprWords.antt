@@ -9,10 +9,12 @@ use lib.Seq.{getD-drop}
 use Rattle.lib_base.specs.Basics.{pick}
 use Rattle.spec_language.specs.Syntax.{Expr, Program}
 use Rattle.spec_language.specs.Dependence.{size, response}
-use Rattle.spec_language.specs.Grammar.{Arity, unary, ternary, binary, Nested, n-con, n-name, n-app1, n-app2, n-app3}
+use Rattle.spec_language.specs.Grammar.{Arity, unary, ternary, binary}
+use Rattle.spec_language.specs.Fits.{Nested, n-con, n-name, n-app1, n-app2, n-app3}
 use Rattle.spec_language.specs.Accepted.{NamesIn}
 use Rattle.spec_language.specs.Code.{Instr, load, fetch, apply, inC, postfix}
-use Rattle.format_image.specs.Image.{operation, constant, codeWords}
+use Rattle.format_image.specs.Image.{operation, constant}
+use Rattle.format_image.specs.Table.{codeWords}
 use Rattle.draft_form.specs.Draft.{nodes, entryOf, moved, usedBy, Drafted}
 use Rattle.draft_form.specs.Entry.{entryStart, entryCount, nodeTag, nodeWord}
 use Rattle.draft_form.proofs.DraftLaws.{Holds, entry-of, length-used, used-at}

@@ -10,7 +10,7 @@ use native.Mathlib.Numerals.{add-one}
 use lib.ListN.{length, getD, take, length-append}
 use lib.Seq.{take-suc}
 use Rattle.lib_word.specs.Word.{put}
-use Rattle.format_image.specs.Image.{putWords}
+use Rattle.format_image.specs.Table.{putWords}
 use Rattle.format_image.proofs.PutWords.{length-putWords, putWords-append}
 use Rattle.back_emit.specs.Words.{each}
 use Rattle.back_emit.specs.Writing.{Room, Wrote}

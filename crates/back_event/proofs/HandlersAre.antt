@@ -7,10 +7,10 @@ use mathlib.Core.List.{List, [], _∷_, _++_}
 use Rattle.spec_language.specs.Syntax.{Program}
 use Rattle.spec_language.specs.Dependence.{Response, follows, takes, defers, keeps, size, response, Acyclic}
 use Rattle.spec_language.specs.Order.{phaseOne}
-use Rattle.spec_language.specs.Grammar.{Fits}
+use Rattle.spec_language.specs.Fits.{Fits}
 use Rattle.spec_language.specs.Accepted.{Known}
 use Rattle.spec_language.specs.Code.{on, copy, restore, ofC, byNumber, copyPart, firstPart, secondPart, restorePart, code}
-use Rattle.format_image.specs.Image.{codeWords}
+use Rattle.format_image.specs.Table.{codeWords}
 use Rattle.draft_form.specs.Draft.{entryOf, usedBy, Drafted}
 use Rattle.draft_form.proofs.DraftLaws.{Entry, entry-of}
 use Rattle.back_counts.proofs.CountIs.{copied-is}

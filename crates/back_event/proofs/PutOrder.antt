@@ -7,7 +7,7 @@ use native.Mathlib.Omega.{arith}
 use lib.ListN.{length, set, length-append}
 use lib.Seq.{set-comm}
 use Rattle.lib_word.specs.Word.{put}
-use Rattle.format_image.specs.Image.{putWords}
+use Rattle.format_image.specs.Table.{putWords}
 use Rattle.format_image.proofs.PutWords.{putWords-append}
 use Rattle.back_emit.specs.Writing.{Wrote}
 

@@ -6,7 +6,7 @@ use mathlib.Core.List.{List, _++_}
 use Rattle.spec_language.specs.Syntax.{Program}
 use Rattle.spec_language.specs.Dependence.{size, Acyclic}
 use Rattle.spec_language.specs.Code.{copyPart, firstPart, secondPart, restorePart}
-use Rattle.format_image.specs.Image.{codeWords}
+use Rattle.format_image.specs.Table.{codeWords}
 use Rattle.back_schedule.specs.Ordering.{orderUnder, isOrdered}
 use Rattle.back_phases.specs.Phases.{firstWords, secondWords}
 use Rattle.back_event.specs.Handlers.{maskedWords, eventWords}

@@ -15,13 +15,15 @@ use Rattle.lib_base.proofs.Tools.{split}
 use Rattle.spec_language.specs.Syntax.{Program}
 use Rattle.spec_language.specs.Dependence.{Response, defers, keeps, size, events, response, needs, dependsOn, Reach, one, more, Acyclic}
 use Rattle.spec_language.specs.Order.{upTo, early, metAtOnce, phaseOne}
-use Rattle.spec_language.specs.Accepted.{Known, Accepted}
+use Rattle.spec_language.specs.Accepted.{Known}
+use Rattle.spec_language.specs.Valid.{Accepted}
 use Rattle.spec_language.specs.Code.{one?, copy, members, copyPart, code}
 use Rattle.spec_language.proofs.Laws.{none-past, depends-within}
 use Rattle.spec_semantics.proofs.Graph.{Marked, free, free-set, free-le}
 use Rattle.spec_execution.proofs.Lengths.{length-C}
 use Rattle.spec_semantics.proofs.OrderLaws.{markAll, Ordered, length-met, late-needs, phaseOne-ordered, order-complete}
-use Rattle.back_figure3.specs.Figure3.{Assign, assigned, everyBehaviour, without, FirstPhaseRule, none₁, passive₁, immediate₁, later₁, unhandled₁, turnsIn, HandlerCode}
+use Rattle.back_figure3.specs.Figure3.{Assign, assigned, everyBehaviour, without, FirstPhaseRule, none₁, passive₁, immediate₁, later₁, unhandled₁, HandlerCode}
+use Rattle.back_figure3.specs.Turns.{turnsIn}
 use Rattle.back_figure3.proofs.Parts.{firstOf, secondOf, first-code, second-code}
 use Rattle.back_figure3.proofs.Derived.{without-is, first-derived, second-derived}
 

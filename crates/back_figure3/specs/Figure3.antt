@@ -6,14 +6,13 @@
 use Prim.Native.Nat.{ℕ, _+_}
 use mathlib.Core.Bool.{Bool, true, false, not, _&&_}
 use mathlib.Core.Path.{_≡_}
-use mathlib.Core.List.{List, [], _∷_, _++_, flatMap, sum}
+use mathlib.Core.List.{List, [], _∷_, _++_, flatMap}
 use lib.Dec.{eqb, ltb}
 use lib.ListN.{length}
 use Rattle.lib_base.specs.Basics.{pick, All}
 use Rattle.spec_language.specs.Syntax.{Expr, Program}
 use Rattle.spec_language.specs.Dependence.{Response, follows, takes, defers, keeps, size, response, mentions, Reach}
-use Rattle.spec_language.specs.Order.{upTo, early}
-use Rattle.spec_language.specs.Code.{Instr, save, defer, move, postfix, inC, one?, members, copyPart, firstPart, secondPart, restorePart, code}
+use Rattle.spec_language.specs.Code.{Instr, save, defer, move, postfix, inC, members, copyPart, firstPart, secondPart, restorePart, code}
 
 -- an assignment of a phase: xt := d of a passive; xt := d of an immediate handler; _xt := d of a later one; xt := _xt
 pub data Assign : Type 0 where
@@ -61,7 +60,8 @@ pub data SecondPhaseRule (p : Program) (e : ℕ) : (ℕ → Bool) → List Assig
   none₂ : {P : ℕ → Bool} → ((j : ℕ) → P j ≡ false) → SecondPhaseRule p e P []
   passive₂ : {P : ℕ → Bool} (i : ℕ) {d : Expr} {A : List Assign} → P i ≡ true → response p e i ≡ follows d → SecondPhaseRule p e (without i P) A
       → DependsNot (follow i d) A → SecondPhaseRule p e P (follow i d ∷ A)
-  immediate₂ : {P : ℕ → Bool} (i : ℕ) {d : Expr} {A : List Assign} → P i ≡ true → response p e i ≡ takes d → SecondPhaseRule p e (without i P) A → SecondPhaseRule p e P A
+  immediate₂ : {P : ℕ → Bool} (i : ℕ) {d : Expr} {A : List Assign} → P i ≡ true → response p e i ≡ takes d → SecondPhaseRule p e (without i P) A
+      → SecondPhaseRule p e P A
   later₂ : {P : ℕ → Bool} (i : ℕ) {d : Expr} {A : List Assign} → P i ≡ true → response p e i ≡ defers d → SecondPhaseRule p e (without i P) A
       → SecondPhaseRule p e P (bring i ∷ A)
   unhandled₂ : {P : ℕ → Bool} (i : ℕ) {A : List Assign} → P i ≡ true → response p e i ≡ keeps → SecondPhaseRule p e (without i P) A → SecondPhaseRule p e P A
@@ -76,11 +76,6 @@ followNeeds j keeps = false
 -- no passive is reached from itself through passives
 abbrev pub PassivesAcyclic : Program → ℕ → Type 0
 PassivesAcyclic p e = (i : ℕ) → Reach (λ a b. followNeeds b (response p e a)) i i → ⊥
-
--- how many behaviours have a turn in phase one, before the later handlers: the check on dependence asks whether an
--- order holds them all
-unfoldable pub turnsIn : Program → ℕ → ℕ
-turnsIn p e = sum _+_ 0 (upTo (size p) (λ i. one? (early (response p e i))))
 
 -- the instructions of an assignment, c saying which names mean scratch
 abbrev pub assignCode : (ℕ → Bool) → Assign → List Instr
@@ -101,5 +96,6 @@ pub record HandlerCode (p : Program) (e : ℕ) : Type 0 where
   pub phase-two : SecondPhaseRule p e (everyBehaviour p) second
   pub first-gives : firstPart p e ≡ instructionsOf (inC p e) first
   pub second-gives : secondPart p e ≡ instructionsOf (inC p e) second
+  -- by definition of `code`
   pub in-a-row : code p e ≡ copyPart p e ++ (firstPart p e ++ (secondPart p e ++ restorePart p e))
   pub begins : length (copyPart p e) ≡ 2 + members p e

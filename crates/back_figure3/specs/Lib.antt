@@ -1,1 +1,2 @@
 pub mod Figure3
+pub mod Turns

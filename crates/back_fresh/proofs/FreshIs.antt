@@ -17,8 +17,9 @@ use Rattle.lib_base.proofs.Tools.{all-at}
 use Rattle.spec_language.specs.Syntax.{Expr, Behaviour, passive, active, Program}
 use Rattle.spec_language.specs.Dependence.{Response, follows, takes, defers, keeps, size, noEvent, response, behaviourAt}
 use Rattle.spec_language.specs.Order.{early, phaseOne}
-use Rattle.spec_language.specs.Grammar.{Nested, BehaviourFits, Fits}
-use Rattle.spec_language.specs.Accepted.{NamesIn, Valid}
+use Rattle.spec_language.specs.Fits.{Nested, BehaviourFits, Fits}
+use Rattle.spec_language.specs.Accepted.{NamesIn}
+use Rattle.spec_language.specs.Valid.{Valid}
 use Rattle.spec_language.proofs.Laws.{getD-upTo}
 use Rattle.spec_semantics.specs.Meaning.{value, at, firstStep, inTurn, firstPhase, startOf, starts, fresh}
 use Rattle.spec_semantics.proofs.OrderLaws.{phaseOne-early}

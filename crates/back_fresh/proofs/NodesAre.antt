@@ -13,7 +13,7 @@ use lib.Seq.{getD-set-same, getD-set-other}
 use borrow.Author.Tests.{lt-ltb, le-ltb}
 use Rattle.lib_arith.specs.Functions.{result, arity}
 use Rattle.spec_language.specs.Syntax.{Expr}
-use Rattle.spec_language.specs.Grammar.{Nested, n-con, n-name, n-app1, n-app2, n-app3}
+use Rattle.spec_language.specs.Fits.{Nested, n-con, n-name, n-app1, n-app2, n-app3}
 use Rattle.spec_language.specs.Accepted.{NamesIn}
 use Rattle.spec_language.specs.Code.{sizeOf}
 use Rattle.spec_semantics.specs.Meaning.{value, at}

@@ -7,7 +7,7 @@ use native.Mathlib.Numerals.{add-one}
 use lib.ListN.{length, getD, take, replicate, length-append, replicate-append-replicate}
 use lib.Seq.{take-suc, take-all}
 use Rattle.lib_word.specs.Word.{put}
-use Rattle.format_image.specs.Image.{putWords, padded}
+use Rattle.format_image.specs.Table.{putWords, padded}
 use Rattle.format_image.proofs.ImageLaws.{length-padded}
 use Rattle.back_emit.specs.Words.{each}
 use Rattle.back_emit.specs.Writing.{Room, Wrote}

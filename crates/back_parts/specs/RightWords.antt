@@ -3,7 +3,7 @@
 use Prim.Native.Nat.{ℕ, _+_, _%_}
 use mathlib.Core.List.{List, [], _∷_, _++_}
 use lib.ListN.{getD}
-use Rattle.format_image.specs.Image.{padded}
+use Rattle.format_image.specs.Table.{padded}
 use Rattle.back_emit.specs.Words.{each}
 
 -- the number at place from + j of the draft, as a word

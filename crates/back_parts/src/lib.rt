@@ -4,7 +4,7 @@ ghost use mathlib.Core.Path.{_≡_};
 ghost use mathlib.Core.List.{[], _∷_};
 ghost use Prim.Native.Nat.{_+_, _-_, _%_, _<_, _≤_};
 ghost use lib.ListN.{length, getD, replicate};
-ghost use Rattle.format_image.specs.Image.{padded};
+ghost use Rattle.format_image.specs.Table.{padded};
 ghost use Rattle.back_counts.specs.Counts.{countMembers};
 ghost use Rattle.back_emit.specs.Words.{each};
 ghost use Rattle.back_emit.specs.Writing.{Room, Wrote};

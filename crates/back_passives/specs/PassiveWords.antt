@@ -6,7 +6,7 @@ use Prim.Native.Nat.{ℕ, _+_, _-_}
 use mathlib.Core.List.{List, [], _∷_, _++_}
 use lib.Dec.{eqb}
 use Rattle.lib_base.specs.Basics.{pick}
-use Rattle.format_image.specs.Image.{padded}
+use Rattle.format_image.specs.Table.{padded}
 use Rattle.draft_form.specs.Draft.{entryOf}
 use Rattle.draft_form.specs.Entry.{entryKind, entryCount}
 use Rattle.back_counts.specs.Counts.{total, countEvent, countMembers}

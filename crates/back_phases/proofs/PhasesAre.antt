@@ -11,12 +11,13 @@ use Rattle.lib_base.proofs.Tools.{all-imp}
 use Rattle.spec_language.specs.Syntax.{Expr, Program}
 use Rattle.spec_language.specs.Dependence.{Response, follows, takes, defers, keeps, size, response}
 use Rattle.spec_language.specs.Order.{upTo, early, phaseOne}
-use Rattle.spec_language.specs.Grammar.{Fits}
+use Rattle.spec_language.specs.Fits.{Fits}
 use Rattle.spec_language.specs.Accepted.{NamesIn, Known}
 use Rattle.spec_language.specs.Code.{Instr, save, defer, inC, postfix, firstCode, laterCode, moveCode, againCode, byNumber, inOrder, firstPart, secondPart}
 use Rattle.spec_language.proofs.Laws.{ResponseNamesIn, response-names, ResponseNested, response-nested}
 use Rattle.spec_semantics.proofs.OrderLaws.{phaseOne-early}
-use Rattle.format_image.specs.Image.{operation, constant, codeWords}
+use Rattle.format_image.specs.Image.{operation, constant}
+use Rattle.format_image.specs.Table.{codeWords}
 use Rattle.draft_form.specs.Draft.{entryOf, usedBy, Drafted}
 use Rattle.draft_form.specs.Entry.{entryKind}
 use Rattle.draft_form.proofs.DraftLaws.{Holds, Entry, entry-of}

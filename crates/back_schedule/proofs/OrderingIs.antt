@@ -11,7 +11,7 @@ use borrow.Author.Tests.{le-ltb, ltb-false, not-true}
 use Rattle.spec_language.specs.Syntax.{Program}
 use Rattle.spec_language.specs.Dependence.{Response, follows, takes, defers, keeps, size, response, dependsOn, Acyclic}
 use Rattle.spec_language.specs.Order.{upTo, early, order, metAtOnce, phaseOne}
-use Rattle.spec_language.specs.Grammar.{Fits}
+use Rattle.spec_language.specs.Fits.{Fits}
 use Rattle.spec_language.specs.Accepted.{Known}
 use Rattle.spec_language.specs.Code.{one?}
 use Rattle.spec_language.proofs.Laws.{upTo-same}
@@ -22,7 +22,7 @@ use Rattle.check_graph.proofs.OrderIs.{order-same}
 use Rattle.check_faults.specs.Checks.{matrixOn}
 use Rattle.check_faults.proofs.MatrixAgrees.{matrix-is}
 use Rattle.check_faults.proofs.CycleDecides.{cell-is}
-use Rattle.back_figure3.specs.Figure3.{turnsIn}
+use Rattle.back_figure3.specs.Turns.{turnsIn}
 use Rattle.back_figure3.proofs.Compiles.{check-exactly}
 use Rattle.back_counts.proofs.CountIs.{total-sum}
 use Rattle.back_schedule.specs.Ordering.{metMark, orderUnder, countTurns, isOrdered}

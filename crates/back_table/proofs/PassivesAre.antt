@@ -11,14 +11,15 @@ use Rattle.lib_base.proofs.Tools.{by-two}
 use Rattle.spec_language.specs.Syntax.{Handler, Behaviour, passive, active, Program}
 use Rattle.spec_language.specs.Dependence.{Response, follows, takes, defers, keeps, handled, respond, size, events, response, behaviourAt}
 use Rattle.spec_language.specs.Order.{upTo}
-use Rattle.spec_language.specs.Grammar.{Fits}
-use Rattle.spec_language.specs.Accepted.{Known, Valid}
+use Rattle.spec_language.specs.Fits.{Fits}
+use Rattle.spec_language.specs.Accepted.{Known}
+use Rattle.spec_language.specs.Valid.{Valid}
 use Rattle.spec_language.specs.Code.{restore, inC, againCode, sizeOf, secondPart, restorePart, code, members}
 use Rattle.spec_language.proofs.Laws.{upTo-same}
 use Rattle.spec_semantics.proofs.Handlers.{Says, handled-says}
 use Rattle.spec_execution.proofs.Lengths.{length-postfix, late-again, length-C, length-turns, length-counted}
-use Rattle.format_image.specs.Image as image
-use Rattle.format_image.specs.Image.{codeWords, passivesCode, beforePassives, passivesAt, passiveWords}
+use Rattle.format_image.specs.Table as image
+use Rattle.format_image.specs.Table.{codeWords, passivesCode, beforePassives, passivesAt, passiveWords}
 use Rattle.draft_form.specs.Draft.{entryOf, usedBy, passiveNodes, Drafted}
 use Rattle.draft_form.specs.Entry.{entryKind}
 use Rattle.draft_form.proofs.DraftLaws.{Entry, entry-of}

@@ -13,13 +13,15 @@ use Rattle.lib_base.proofs.Tools.{all-at, by-test, split}
 use Rattle.spec_language.specs.Syntax.{Program}
 use Rattle.spec_language.specs.Dependence.{size, events, NoCycle}
 use Rattle.spec_language.specs.Order.{upTo}
-use Rattle.spec_language.specs.Grammar.{Fits}
-use Rattle.spec_language.specs.Accepted.{Known, Valid}
+use Rattle.spec_language.specs.Fits.{Fits}
+use Rattle.spec_language.specs.Accepted.{Known}
+use Rattle.spec_language.specs.Valid.{Valid}
 use Rattle.spec_language.specs.Code.{Instr, code, members, instructions, allInstructions}
 use Rattle.spec_language.proofs.Laws.{upTo-same}
 use Rattle.spec_execution.proofs.Sums.{length-flatten}
 use Rattle.spec_execution.proofs.Lengths.{length-counted}
-use Rattle.format_image.specs.Image.{codeWords, allCode, codeStart, eventRecord, padded, passivesCode, tableCode, boardWords, imageWords}
+use Rattle.format_image.specs.Image.{codeStart}
+use Rattle.format_image.specs.Table.{codeWords, allCode, eventRecord, padded, passivesCode, tableCode, boardWords, imageWords}
 use Rattle.format_image.proofs.ImageLaws.{length-codeWords}
 use Rattle.draft_form.specs.Draft.{passiveNodes, Drafted, DraftOf}
 use Rattle.draft_form.proofs.DraftLaws.{draft-long, draft-events, draft-behaviours}

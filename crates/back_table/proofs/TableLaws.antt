@@ -10,7 +10,7 @@ use native.Mathlib.Numerals.{add-one}
 use borrow.Author.Tests.{ne-eqb}
 use lib.ListN.{length, getD, take, replicate, length-append}
 use Rattle.format_image.proofs.ImageLaws.{length-padded}
-use Rattle.format_image.specs.Image.{putWords, padded}
+use Rattle.format_image.specs.Table.{putWords, padded}
 use Rattle.draft_form.specs.Draft.{entryOf}
 use Rattle.check_faults.specs.Checks.{Inside, RowsInside, AllInside}
 use Rattle.back_fresh.specs.Evaluate.{freshOn}

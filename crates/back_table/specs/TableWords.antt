@@ -6,7 +6,7 @@ use mathlib.Core.List.{List, [], _∷_, _++_, flatMap}
 use lib.ListN.{length, getD}
 use lib.Dec.{eqb}
 use Rattle.lib_base.specs.Basics.{pick}
-use Rattle.format_image.specs.Image.{padded}
+use Rattle.format_image.specs.Table.{padded}
 use Rattle.check_faults.specs.Checks.{AllInside}
 use Rattle.back_fresh.specs.Evaluate.{freshOn}
 use Rattle.back_counts.specs.Counts.{total, countEvent, countMembers}

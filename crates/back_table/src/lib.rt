@@ -2,7 +2,7 @@
 ghost use mathlib.Core.Path.{_≡_};
 ghost use Prim.Native.Nat.{_≤_};
 ghost use lib.ListN.{length};
-ghost use Rattle.format_image.specs.Image.{putWords};
+ghost use Rattle.format_image.specs.Table.{putWords};
 ghost use Rattle.check_faults.specs.Checks.{AllInside};
 ghost use Rattle.back_emit.specs.Words.{each};
 ghost use Rattle.back_emit.specs.Writing.{Room, Wrote};

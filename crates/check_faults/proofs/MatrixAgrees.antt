@@ -14,7 +14,8 @@ use borrow.Author.Tests.{eq-eqb, ne-eqb, eqb-true, eqb-false, ltb-true, ltb-fals
 use Rattle.lib_base.proofs.Tools.{by-test, split}
 use Rattle.spec_language.specs.Syntax.{Expr, Program}
 use Rattle.spec_language.specs.Dependence.{Response, follows, takes, defers, keeps, mentions, needs, size, events, response, dependsOn}
-use Rattle.spec_language.specs.Grammar.{Arity, unary, ternary, binary, Nested, n-con, n-name, n-app1, n-app2, n-app3, Fits}
+use Rattle.spec_language.specs.Grammar.{Arity, unary, ternary, binary}
+use Rattle.spec_language.specs.Fits.{Nested, n-con, n-name, n-app1, n-app2, n-app3, Fits}
 use Rattle.spec_language.specs.Code.{one?}
 use Rattle.spec_language.proofs.Laws.{length-upTo, getD-upTo, none-past, ResponseNested, response-nested}
 use Rattle.draft_form.specs.Draft.{draftLength, nodes, entryOf, usedBy, Drafted}

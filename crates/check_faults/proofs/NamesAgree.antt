@@ -12,7 +12,8 @@ use borrow.Author.Tests.{ne-eqb, ltb-true, ltb-false, lt-leb, le-leb}
 use Rattle.lib_base.specs.Basics.{All}
 use Rattle.lib_base.proofs.Tools.{split}
 use Rattle.spec_language.specs.Syntax.{Expr, Handler, handler, Behaviour, passive, active}
-use Rattle.spec_language.specs.Grammar.{Arity, unary, ternary, binary, Nested, n-con, n-name, n-app1, n-app2, n-app3, HandlersFit, BehaviourFits}
+use Rattle.spec_language.specs.Grammar.{Arity, unary, ternary, binary}
+use Rattle.spec_language.specs.Fits.{Nested, n-con, n-name, n-app1, n-app2, n-app3, HandlersFit, BehaviourFits}
 use Rattle.draft_form.specs.Draft.{nodes, handlerNodes, behaviourNodes, programNodes}
 use Rattle.draft_form.specs.Entry.{nodeTag, nodeWord}
 use Rattle.check_faults.specs.Faults.{knownIn, knownHandlers, knownBehaviour, knownBehaviours}

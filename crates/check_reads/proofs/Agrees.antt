@@ -12,7 +12,8 @@ use borrow.Author.Tests.{ne-eqb}
 use Rattle.lib_base.proofs.Tools.{all-at-or}
 use Rattle.spec_language.specs.Syntax.{Expr, Behaviour, passive, active, Program}
 use Rattle.spec_language.specs.Dependence.{Response, follows, takes, defers, keeps, size, events, noEvent, respond, response, behaviourAt, mentions, needs, dependsOn, written, writes}
-use Rattle.spec_language.specs.Grammar.{Arity, unary, ternary, binary, Nested, n-con, n-name, n-app1, n-app2, n-app3, BehaviourFits, Fits}
+use Rattle.spec_language.specs.Grammar.{Arity, unary, ternary, binary}
+use Rattle.spec_language.specs.Fits.{Nested, n-con, n-name, n-app1, n-app2, n-app3, BehaviourFits, Fits}
 use Rattle.spec_language.proofs.Laws.{ResponseNested, response-nested}
 use Rattle.draft_form.specs.Draft.{draftLength, nodes, entryOf, usedBy, Drafted}
 use Rattle.draft_form.specs.Entry.{entryKind, entryStart, entryCount, nodeTag, nodeWord}
@@ -25,7 +26,8 @@ use Rattle.check_graph.proofs.Any.{any-same}
 use Rattle.check_faults.proofs.MatrixAgrees.{length-matrixOf}
 use Rattle.check_faults.proofs.CycleDecides.{cell-is}
 use Rattle.check_reads.specs.Sets.{isName, namedAmong, namesOn, writesOn, handlersName, passiveOn, closedBy, namedOn}
-use Rattle.check_reads.specs.Named.{inResponse, namedDirectly, throughPassives, namedBy}
+use Rattle.check_reads.specs.Named.{namedDirectly, throughPassives, namedBy}
+use Rattle.check_reads.specs.InResponse.{inResponse}
 use Rattle.check_reads.proofs.Gathering.{any-more}
 use Rattle.check_reads.proofs.Decides.{none-handled}
 

@@ -13,7 +13,7 @@ use Rattle.lib_base.specs.Basics.{All}
 use Rattle.lib_base.proofs.Tools.{split, or-either, all-at-or}
 use Rattle.spec_language.specs.Syntax.{Expr, Handler, handler, Behaviour, passive, active, Program}
 use Rattle.spec_language.specs.Dependence.{Response, follows, takes, defers, keeps, size, events, noEvent, handled, respond, response, behaviourAt, mentions, needs, dependsOn, Reach, one, more, written, writes, Named, in-immediate, in-later, through}
-use Rattle.spec_language.specs.Grammar.{HandlersFit, BehaviourFits}
+use Rattle.spec_language.specs.Fits.{HandlersFit, BehaviourFits}
 use Rattle.spec_language.specs.Accepted.{Known}
 use Rattle.spec_language.proofs.Laws.{depends-within, handled-there}
 use Rattle.check_graph.specs.Matrix.{cellBelow}
@@ -23,7 +23,8 @@ use Rattle.check_faults.specs.Faults.{matrixOf}
 use Rattle.check_graph.proofs.Any.{any-some}
 use Rattle.check_faults.proofs.MatrixAgrees.{length-matrixOf}
 use Rattle.check_faults.proofs.CycleDecides.{cell-is}
-use Rattle.check_reads.specs.Named.{inResponse, namedDirectly, throughPassives, namedBy}
+use Rattle.check_reads.specs.Named.{namedDirectly, throughPassives, namedBy}
+use Rattle.check_reads.specs.InResponse.{inResponse}
 
 -- ---- what a test among the first n finds
 

@@ -1,3 +1,4 @@
 pub mod First
 pub mod Sets
+pub mod InResponse
 pub mod Named

@@ -2,19 +2,13 @@
 -- "An event writes the actives with a handler for it. It reads the actives named in those handlers, directly or through
 -- passives."
 use Prim.Native.Nat.{ℕ}
-use mathlib.Core.Bool.{Bool, false, _&&_, _||_}
+use mathlib.Core.Bool.{Bool, _&&_, _||_}
 use Rattle.spec_language.specs.Syntax.{Program}
-use Rattle.spec_language.specs.Dependence.{Response, follows, takes, defers, keeps, size, noEvent, response, mentions, writes}
+use Rattle.spec_language.specs.Dependence.{size, noEvent, response, writes}
 use Rattle.check_graph.specs.Matrix.{cell, closed}
 use Rattle.check_graph.specs.Any.{anyBelow}
 use Rattle.check_faults.specs.Faults.{matrixOf}
-
--- name j stands in a passive's expression or in the handler for the event
-abbrev pub inResponse : ℕ → Response → Bool
-inResponse j (follows x) = mentions j x
-inResponse j (takes x) = mentions j x
-inResponse j (defers x) = mentions j x
-inResponse j keeps = false
+use Rattle.check_reads.specs.InResponse.{inResponse}
 
 -- "named in those handlers, directly"
 unfoldable pub namedDirectly : Program → ℕ → ℕ → Bool

@@ -2,7 +2,8 @@
 -- and whose turn it is.
 use mathlib.Core.Path.{_≡_, refl}
 use mathlib.Core.List.{[], _∷_, map}
-use Rattle.check_shortest.specs.Search.{eventOfTurn, eventNumber}
+use Rattle.check_shortest.specs.Search.{eventOfTurn}
+use Rattle.check_shortest.specs.EventNumber.{eventNumber}
 
 pub of-two-events : (eventNumber 0 2 ≡ 0) × (eventNumber 1 2 ≡ 1) × (eventNumber 2 2 ≡ 255)
 unfolding eventNumber

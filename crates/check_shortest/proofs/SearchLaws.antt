@@ -21,7 +21,8 @@ use Rattle.check_faults.specs.Checks.{matrixOn, closedOn, cyclicOn}
 use Rattle.check_distance.specs.Circle.{Circle}
 use Rattle.check_distance.specs.Layers.{layer, stepsBack, Layered, Back, Walked}
 use Rattle.check_distance.proofs.Walks.{least-most, least-from, least-holds, circle-back, back-decides, layer-same, back-same, walked-same}
-use Rattle.check_shortest.specs.Search.{backOn, eventOfTurn, packedCircle, bestOf, bestAll, shortestOn, eventNumber, Wide, CircleMembers, handed, ShortestFound}
+use Rattle.check_shortest.specs.Search.{backOn, eventOfTurn, packedCircle, bestOf, bestAll, shortestOn, Wide, CircleMembers, handed, ShortestFound}
+use Rattle.check_shortest.specs.EventNumber.{eventNumber}
 
 -- ---- the lower of two
 

@@ -11,6 +11,7 @@ use Rattle.check_graph.specs.Matrix.{cell, cellBelow}
 use Rattle.check_faults.specs.Checks.{matrixOn}
 use Rattle.check_distance.specs.Circle.{Circle}
 use Rattle.check_distance.specs.Layers.{stepsBack, Walked}
+use Rattle.check_shortest.specs.EventNumber.{eventNumber}
 
 -- the steps from i back to i on event e
 unfoldable pub backOn : List ℕ → ℕ → ℕ → ℕ → ℕ
@@ -35,10 +36,6 @@ bestAll d ev n (suc t) b = bestOf d (eventOfTurn ev t) t n n (bestAll d ev n t b
 
 unfoldable pub shortestOn : List ℕ → ℕ → ℕ → ℕ
 shortestOn d ev n = bestAll d ev n (ev + 1) 300000
-
--- an event's number in an answer; 255 for none
-unfoldable pub eventNumber : ℕ → ℕ → ℕ
-eventNumber e ev = pick (ltb e ev) e 255
 
 -- what the search asks of a draft: its matrices are whole
 abbrev pub Wide : List ℕ → ℕ → ℕ → Type 0

@@ -6,7 +6,8 @@ ghost use Prim.Native.Nat.{_≤_, _<_};
 ghost use lib.ListN.{length};
 ghost use Rattle.check_faults.specs.Checks.{cyclicOn, RowsInside, AllInside};
 ghost use Rattle.draft_form.specs.Draft.{draftLength};
-ghost use Rattle.check_shortest.specs.Search.{backOn, eventOfTurn, bestOf, shortestOn, eventNumber, Wide, CircleMembers, handed, ShortestFound};
+ghost use Rattle.check_shortest.specs.Search.{backOn, eventOfTurn, bestOf, shortestOn, Wide, CircleMembers, handed, ShortestFound};
+ghost use Rattle.check_shortest.specs.EventNumber.{eventNumber};
 
 // How the steps from a behaviour back to itself are packed with the event's turn and the behaviour: both are below 64.
 const TURNS: usize = 64;

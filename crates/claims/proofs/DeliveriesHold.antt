@@ -13,9 +13,11 @@ use Rattle.spec_language.specs.Refusals.{foreign}
 use Rattle.spec_language.specs.Rights.{may}
 use Rattle.format_layout.specs.Layout.{eventCount, sendersAt, taken, waitingCount, runningFlag}
 use Rattle.run_arrive.specs.Arrivals.{queueFull}
-use Rattle.run_burst.specs.Burst.{isCommit, burstOn}
+use Rattle.run_burst.specs.Burst.{burstOn}
+use Rattle.run_burst.specs.Commit.{isCommit}
 use Rattle.run_preview.specs.Preview.{inHand}
-use Rattle.run_deliver.specs.Deliver.{Delivery, takenSaid, deliveryRefusal, deliverAfter, deliverFull, deliverKnown, deliverWith, deliverOn, takenOn}
+use Rattle.run_deliver.specs.Deliver.{deliveryRefusal, deliverAfter, deliverFull, deliverKnown, deliverWith, deliverOn, takenOn}
+use Rattle.run_deliver.specs.Delivery.{Delivery, takenSaid}
 use Rattle.refine_deliver.proofs.DeliveriesHold.{every-delivery, deliver-in-list}
 use Rattle.refine_deliver.proofs.Takes.{always-taken-in}
 use Rattle.engine_order.proofs.TakenHolds.{taken-tells}

@@ -14,12 +14,14 @@ use Rattle.lib_base.proofs.Tools.{by-test, past, through, neither, split}
 use Rattle.lib_word.specs.Word.{get}
 use Rattle.spec_language.specs.Refusals.{foreign}
 use Rattle.spec_language.specs.Rights.{may}
-use Rattle.format_layout.specs.Layout.{eventWord, eventCount, behaviourCount, sendersAt, viewersAt, taken, waitingCount, runningFlag, runningNumber, runningWord, runningEvent, position, numberAt, eventAt, tableFits, ours}
+use Rattle.format_layout.specs.Layout.{eventWord, eventCount, behaviourCount, sendersAt, viewersAt, taken, waitingCount, runningFlag, runningNumber, runningWord, runningEvent, position, numberAt, eventAt}
+use Rattle.format_layout.specs.Foreign.{tableFits, ours}
 use Rattle.run_queue.specs.Queue.{ahead, eitherSlot, better, best, anyAbove}
 use Rattle.format_layout.specs.Round.{CallResult}
 use Rattle.run_start.specs.Start.{startOn}
 use Rattle.run_arrive.specs.Arrivals.{queueFull, arriveWith, arriveKnown, arriveIn, arriveOn}
-use Rattle.run_board.specs.Board.{isMasked, copyBackUnderWay, copyBackOn, boardWith, boardKnown, boardIn, boardOn}
+use Rattle.run_board.specs.Board.{copyBackOn, boardWith, boardKnown, boardIn, boardOn}
+use Rattle.run_board.specs.Masking.{isMasked, copyBackUnderWay}
 use Rattle.run_dispatch.specs.Dispatch.{startAt, preemptAt}
 use Rattle.run_advance.specs.Advance.{commitSaid, countInstruction, executeOn, executeAt, advanceOn}
 use Rattle.run_step.specs.Machine.{whileResting, stepWith, stepIn, stepOn}

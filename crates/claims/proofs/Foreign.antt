@@ -10,7 +10,8 @@ use lib.Dec.{ltb, eqb}
 use borrow.Author.Tests.{ltb-true, lt-ltb, leb-false, lt-leb, ne-eqb, eqb-true, eqb-false}
 use Rattle.lib_base.specs.Basics.{pick}
 use Rattle.lib_base.proofs.Tools.{by-test, through, split}
-use Rattle.format_layout.specs.Layout.{eventCount, tableFits, eventOf, playerOf, waitingCount, runningFlag, runningWord, runningEvent, eventAt, wordAt, handFits, ours}
+use Rattle.format_layout.specs.Layout.{eventCount, eventOf, playerOf, waitingCount, runningFlag, runningWord, runningEvent, eventAt, wordAt}
+use Rattle.format_layout.specs.Foreign.{tableFits, handFits, ours}
 use Rattle.format_layout.specs.Bounds.{TableBounds}
 use Rattle.format_layout.proofs.BoundsLaws.{table-bounds, fit-table, hand-bound, bounds}
 use Rattle.run_arrive.specs.Arrivals.{queueFull}

@@ -26,22 +26,27 @@ use Rattle.spec_semantics.specs.Meaning.{value, inTurn, firstPhase, starts, fre
 use Rattle.spec_execution.specs.Execution.{execute, emptied, times}
 use Rattle.spec_model.specs.Model.{Call, arrive, step, call, act, turn, runTurns, replies}
 use Rattle.spec_model.specs.Claims.{after, IdleIn, takenTurns, takenInBy, eventsOf, ApartIn}
-use Rattle.format_image.specs.Image.{tableOf}
+use Rattle.format_image.specs.Table.{tableOf}
 use Rattle.run_start.specs.Start.{startOn}
 use Rattle.run_arrive.specs.Arrivals.{arriveOn}
-use Rattle.run_dispatch.specs.Dispatch.{said}
+use Rattle.run_dispatch.specs.Said.{said}
 use Rattle.text_formula.specs.Grammar.{Formula}
-use Rattle.text_formula.specs.Answer.{answered, fieldAnswer, formulaOn}
-use Rattle.back_compile.specs.Verdict.{compiled, compileOn, numberOn}
+use Rattle.text_formula.specs.Answer.{answered, fieldAnswer}
+use Rattle.text_formula.specs.Formula.{formulaOn}
+use Rattle.back_compile.specs.Compiled.{compiled}
+use Rattle.back_compile.specs.Verdict.{compileOn}
+use Rattle.back_compile.specs.Number.{numberOn}
 use Rattle.refine_calls.specs.Refinement.{calls, roundAfter, bytesAfter}
 use Rattle.refine_lists.specs.Lists.{boardOf, freshRoundOn, Prepared, TwoRounds}
 use Rattle.engine.specs.Demand.{EveryList}
 use Rattle.engine_agree.specs.Final.{final, finalBytes, finalProgram}
 use Rattle.engine_agree.proofs.Computed.{bytes}
 use Rattle.source_language.specs.Faults.{longSheet, shortBuffer, longText}
-use Rattle.source_language.specs.Answer.{written, TextMeans, refusedAt, assembleOn}
+use Rattle.source_language.specs.Answer.{written, TextMeans, refusedAt}
+use Rattle.source_language.specs.Assembled.{assembleOn}
 use Rattle.claims.specs.Demand1.{StepGives, is-idle, has-run, has-committed, has-committed-over, has-started, has-broken-in}
-use Rattle.claims.specs.Requests.{AreBytes, sentSender, Rows}
+use Rattle.claims.specs.Demand2.{AreBytes}
+use Rattle.claims.specs.Requests.{sentSender, Rows}
 use Rattle.claims.specs.Claims.{Claims}
 
 -- two cells, which count an event

@@ -8,3 +8,4 @@ pub mod TextsHold
 pub mod ClaimsHold
 pub mod DeliveriesHold
 pub mod Instances
+pub mod Consequences

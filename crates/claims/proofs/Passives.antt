@@ -15,7 +15,8 @@ use Rattle.lib_word.specs.Word.{getAt, get, put}
 use Rattle.lib_word.proofs.Laws.{length-put, get-same, get-other}
 use Rattle.lib_arith.specs.Functions.{arity, result, over}
 use Rattle.spec_language.specs.Refusals.{foreign}
-use Rattle.format_layout.specs.Layout.{passivesStart, passivesLength, codeFits}
+use Rattle.format_layout.specs.Layout.{passivesStart, passivesLength}
+use Rattle.format_layout.specs.Foreign.{codeFits}
 use Rattle.format_layout.proofs.BoundsLaws.{code-bound, fit-code}
 use Rattle.run_instruction.specs.Stack.{pushOn, popTo, noted, applyOne, applyTwo, applyThree, applyOn}
 use Rattle.run_instruction.specs.Instruction.{transfer, perform}

@@ -16,7 +16,8 @@ use Rattle.lib_word.specs.Word.{get}
 use Rattle.spec_language.specs.Refusals.{foreign, noRight, noBehaviour}
 use Rattle.spec_language.specs.Rights.{may}
 use Rattle.spec_model.specs.Model.{step}
-use Rattle.format_layout.specs.Layout.{eventCount, behaviourCount, sendersAt, viewersAt, taken, waitingCount, runningFlag, tableFits, slotsFit, roundWith, roundIn, roundFits, ours}
+use Rattle.format_layout.specs.Layout.{eventCount, behaviourCount, sendersAt, viewersAt, taken, waitingCount, runningFlag}
+use Rattle.format_layout.specs.Foreign.{tableFits, slotsFit, roundWith, roundIn, roundFits, ours}
 use Rattle.run_arrive.specs.Arrivals.{queueFull, arriveWith, arriveKnown, arriveIn, arriveOn}
 use Rattle.run_step.specs.Machine.{stepOn}
 use Rattle.run_step.proofs.Still.{idle-stays, refused-stays}

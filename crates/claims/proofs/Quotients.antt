@@ -1,31 +1,37 @@
 -- M-102 on words: the quotient of two words that does not run over stands for the whole number below, by the laws of
 -- whole numbers; which runs over is known (crate lib_overflow).
 use Prim.Native.Nat.{ℕ, _-_, _^_, _≤_, _<_}
-use mathlib.Core.Bool.{Bool, true, false, not, true≢false}
+use mathlib.Core.Bool.{Bool, true, false, _||_, true≢false}
 use mathlib.Core.Path.{_≡_, refl, sym, ap, _∙_, subst}
 use mathlib.Core.Logic.{_≢_, _⊎_, inr, ⊎-elim}
 use native.Mathlib.Omega.{arith}
 use lib.Dec.{ltb, eqb}
 use lib.IntN.{ℤ, pos, negsuc, _+ℤ_, _*ℤ_}
-use lib.Signed.{_≤ℤ_, _<ℤ_}
-use borrow.Author.Tests.{lt-ltb, le-ltb, eqb-true, eqb-false, ne-eqb}
+use lib.Signed.{ltZ, _≤ℤ_, _<ℤ_}
+use borrow.Author.Tests.{lt-ltb, le-ltb, ltb-false, eqb-true, eqb-false, ne-eqb}
 use Rattle.lib_base.specs.Basics.{pick}
 use Rattle.lib_base.proofs.Tools.{split}
-use Rattle.lib_arith.specs.Exact.{signed, wrapped, differZ, beyond}
+use Rattle.lib_arith.specs.Exact.{signed, wrapped, beyond}
 use Rattle.lib_arith.specs.Functions.{floorZ, exact, result}
 use Rattle.lib_arith.proofs.Laws.{view}
 use Rattle.lib_arith.proofs.FloorLaws.{floor-at-most, floor-next-above, floor-at-least, floor-next-below, floor-by-zero}
 use Rattle.lib_overflow.proofs.Laws.{quotient-within, quotient-by-minus-one}
 
-not-not : (b : Bool) → not b ≡ false → b ≡ true
-not-not true h = refl
-not-not false h = sym h
+neither : (x y : Bool) → (x || y) ≡ false → (x ≡ false) × (y ≡ false)
+neither true y h = absurd (true≢false h)
+neither false y h = (refl, h)
 
-same-number : (z w : ℤ) → differZ z w ≡ false → w ≡ z
-same-number (pos a) (pos b) h = ap pos (sym (eqb-true a b (not-not (eqb a b) h)))
+-- two numbers of which neither is below the other
+same : (a b : ℕ) → (ltb a b || ltb b a) ≡ false → b ≡ a
+same a b h =
+    let n = neither (ltb a b) (ltb b a) h in
+    omega (arith, ltb-false a b (n .0), ltb-false b a (n .1))
+
+same-number : (z w : ℤ) → (ltZ z w || ltZ w z) ≡ false → w ≡ z
+same-number (pos a) (pos b) h = ap pos (same a b h)
 same-number (pos a) (negsuc b) h = absurd (true≢false h)
 same-number (negsuc a) (pos b) h = absurd (true≢false h)
-same-number (negsuc a) (negsuc b) h = ap negsuc (sym (eqb-true a b (not-not (eqb a b) h)))
+same-number (negsuc a) (negsuc b) h = ap negsuc (sym (same b a h))
 
 exact-stays : (z : ℤ) → beyond z ≡ false → signed (wrapped z) ≡ z
 unfolding beyond

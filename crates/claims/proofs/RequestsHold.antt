@@ -16,7 +16,9 @@ use Rattle.text_formula.proofs.Readings.{one-reading}
 use Rattle.text_formula.proofs.Answers as answers
 use Rattle.text_formula.proofs.Sheets.{field-written}
 use Rattle.run_rights.proofs.Permits.{everybody, host-sends, host-sees, said, unsaid}
-use Rattle.back_compile.specs.Verdict.{Compiled, programOf, compileOn, numberOn}
+use Rattle.back_compile.specs.Verdict.{compileOn}
+use Rattle.back_compile.specs.Number.{numberOn}
+use Rattle.back_compile.specs.Compiled.{Compiled, programOf}
 use Rattle.back_compile.proofs.AcceptedExactly.{accepted-exactly, accepted-taken}
 use Rattle.back_compile.proofs.JudgeLaws.{any-table}
 use Rattle.back_compile.proofs.AsWritten.{as-written, more-unread}
@@ -39,7 +41,8 @@ use Rattle.link_join.proofs.JoinLaws as joins
 use Rattle.link_join.proofs.Says.{join-says, join-kept}
 use Rattle.link_join.proofs.Limits.{pooled-number}
 use Rattle.claims.proofs.Quotients as quotients
-use Rattle.claims.specs.Requests.{sentViewer, AcceptedExactly, HalvesGoDown, Parameters, Formulas, Rights, Circles, PaperOrder, Rows, Pooling}
+use Rattle.claims.specs.Requests.{sentViewer, HalvesGoDown, Parameters, Formulas, Rights, Circles, PaperOrder, Rows, Pooling}
+use Rattle.claims.specs.Demand2.{AcceptedExactly}
 
 pub exactly : AcceptedExactly
 exactly = record {

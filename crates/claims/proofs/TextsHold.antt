@@ -11,10 +11,11 @@ use Rattle.spec_language.specs.Grammar.{encode, SheetFits}
 use Rattle.spec_language.specs.Reading.{got, readSheet}
 use Rattle.text_formula.specs.Answer.{answered}
 use Rattle.spec_grammar.proofs.Programs.{reads-back}
-use Rattle.back_compile.specs.Verdict.{numberOn}
+use Rattle.back_compile.specs.Number.{numberOn}
 use Rattle.back_compile.proofs.AcceptedExactly.{accepted-exactly}
 use Rattle.lib_word.specs.Word.{get}
-use Rattle.source_language.specs.Answer.{written, assembleOn, TextMeans}
+use Rattle.source_language.specs.Answer.{written, TextMeans}
+use Rattle.source_language.specs.Assembled.{assembleOn}
 use Rattle.source_language.specs.Faults.{shortBuffer}
 use Rattle.source_coding.specs.Faults.{faultNumber}
 use Rattle.source_rendering.specs.Describe.{described}
@@ -25,7 +26,7 @@ use Rattle.source_language.proofs.Scans.{scanned, scan-is}
 use Rattle.source_language.proofs.Unique.{says-one}
 use Rattle.source_language.proofs.Answers as answers
 use Rattle.source_rendering.proofs.RoundTrip.{round-trip}
-use Rattle.claims.specs.Requests.{AreBytes}
+use Rattle.claims.specs.Demand2.{AreBytes}
 use Rattle.claims.specs.Texts.{SheetDescribed, Texts}
 
 -- ---- sheets back to text

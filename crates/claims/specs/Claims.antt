@@ -26,7 +26,8 @@ use Rattle.engine_order.specs.SameTables.{SameTables}
 use Rattle.claims.specs.Deliveries.{Deliveries}
 use Rattle.claims.specs.Demand1.{Demand1}
 use Rattle.claims.specs.Texts.{Texts}
-use Rattle.claims.specs.Requests.{AcceptedExactly, HalvesGoDown, Parameters, Formulas, Rights, Circles, PaperOrder, Rows, Pooling}
+use Rattle.claims.specs.Requests.{HalvesGoDown, Parameters, Formulas, Rights, Circles, PaperOrder, Rows, Pooling}
+use Rattle.claims.specs.Demand2.{AcceptedExactly}
 
 pub record Claims : Type 0 where
   -- 1. "A call is refused by the conditions and order of document 01, and then the handler table, the round and the

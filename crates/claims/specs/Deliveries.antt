@@ -5,10 +5,11 @@ use Prim.Native.Nat.{ℕ, _+_, _*_, _≤_, _<_}
 use mathlib.Core.Bool.{true}
 use mathlib.Core.Path.{_≡_}
 use mathlib.Core.List.{List, [], _∷_}
-use Rattle.spec_language.specs.Refusals.{foreign, missingEntries, takenBefore, noPlayer, undeclaredEvent, noRight, spent}
 use Rattle.spec_language.specs.Rights.{may}
 use Rattle.format_layout.specs.Layout.{eventCount, sendersAt, taken}
-use Rattle.run_deliver.specs.Deliver.{takenSaid, deliverOn, takenOn}
+use Rattle.run_deliver.specs.Deliver.{deliverOn, takenOn}
+use Rattle.run_deliver.specs.Delivery.{takenSaid}
+use Rattle.run_frame.specs.Framed.{endUnit}
 use Rattle.back_compile.specs.Statements.{FirstUnmet}
 use Rattle.refine_deliver.specs.Deliveries.{EveryDelivery, DeliverInList, AlwaysTakenIn}
 use Rattle.engine_order.specs.Orders.{TakenTells}
@@ -18,17 +19,17 @@ use Rattle.claims.specs.Demand1.{OurRound, handCount}
 -- 17 .. Never by 16."
 abbrev pub deliverOrder : List ℕ → List ℕ → ℕ → ℕ → ℕ → List (Type 0 × ℕ)
 deliverOrder t l n e who =
-    (OurRound t l, foreign)
-    ∷ (n ≤ taken l, missingEntries)
-    ∷ (taken l ≤ n, takenBefore)
-    ∷ (who < 8, noPlayer)
-    ∷ (e < eventCount t, undeclaredEvent) ∷ (may (sendersAt t e) who ≡ true, noRight) ∷ (n < 1000000, spent) ∷ []
+    (OurRound t l, 14)
+    ∷ (n ≤ taken l, 43)
+    ∷ (taken l ≤ n, 44)
+    ∷ (who < 8, 24)
+    ∷ (e < eventCount t, 15) ∷ (may (sendersAt t e) who ≡ true, 25) ∷ (n < 1000000, 17) ∷ []
 
 pub record Deliveries : Type 0 where
   -- any other is at least 2 ^ 56: no refusal's number
-  pub order : (t l : List ℕ) (n e who : ℕ) (b : List ℕ) → FirstUnmet (deliverOrder t l n e who) (λ r. 72057594037927936 ≤ r) (deliverOn t l n e who b .0)
+  pub order : (t l : List ℕ) (n e who : ℕ) (b : List ℕ) → FirstUnmet (deliverOrder t l n e who) (λ r. endUnit ≤ r) (deliverOn t l n e who b .0)
   -- "`taken(table, round)`: 2^32 and the number taken in, or 14; and how many are in hand"
-  pub taken-order : (t l : List ℕ) → FirstUnmet ((OurRound t l, foreign) ∷ []) (λ r. r ≡ takenSaid (taken l) (handCount l)) (takenOn t l)
+  pub taken-order : (t l : List ℕ) → FirstUnmet ((OurRound t l, 14) ∷ []) (λ r. r ≡ takenSaid (taken l) (handCount l)) (takenOn t l)
   -- of all bytes: the steps that it makes and the one arrival; "demand 3's lists may hold it" as these
   pub each : EveryDelivery
   pub in-lists : DeliverInList

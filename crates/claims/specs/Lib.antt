@@ -1,4 +1,5 @@
 pub mod Demand1
+pub mod Demand2
 pub mod Requests
 pub mod Texts
 pub mod Claims

@@ -4,54 +4,38 @@ use Prim.Native.Nat.{ℕ, _-_, _≤_, _<_, _^_}
 use mathlib.Core.Bool.{true}
 use mathlib.Core.Path.{_≡_}
 use mathlib.Core.Logic.{_≢_, _⊎_}
-use mathlib.Core.List.{List, [], _++_, map}
+use mathlib.Core.List.{List, _++_, map}
 use mathlib.Core.Option.{Option, none, some}
 use lib.IntN.{pos, _+ℤ_, _*ℤ_}
 use lib.Signed.{_≤ℤ_, _<ℤ_}
 use lib.ListN.{length, getD, drop}
-use Rattle.lib_base.specs.Basics.{All}
 use Rattle.lib_word.specs.Word.{get}
 use Rattle.lib_arith.specs.Exact.{signed}
 use Rattle.lib_arith.specs.Functions.{result}
 use Rattle.spec_language.specs.Syntax.{Expr, Program}
 use Rattle.spec_language.specs.Dependence.{events, Acyclic}
 use Rattle.spec_language.specs.Sheet.{Sheet, Entry, param, fillTerm, fill, writtenOut, rowsOut, paramsOfEntries}
-use Rattle.spec_language.specs.Reading.{got, signal, readSheet}
+use Rattle.spec_language.specs.Reading.{signal}
 use Rattle.spec_language.specs.Grammar.{encode, SheetFits}
 use Rattle.spec_language.specs.Accepted.{Known, SheetAccepted}
 use Rattle.spec_language.specs.Code.{code, sizeOf, instructions}
 use Rattle.spec_language.specs.Rights.{may, maySend, maySee}
-use Rattle.format_image.specs.Image.{tableOf}
 use Rattle.text_formula.specs.Grammar.{Formula}
-use Rattle.text_formula.specs.Answer.{answered, fieldAnswer, formulaOn}
+use Rattle.text_formula.specs.Answer.{answered, fieldAnswer}
+use Rattle.text_formula.specs.Formula.{formulaOn}
 use Rattle.text_formula.specs.Statements.{BufferKept, Fields}
-use Rattle.spec_language.specs.Refusals.{noFormula}
-use Rattle.back_compile.specs.Verdict.{compiled, programOf, compileOn, numberOn}
+use Rattle.back_compile.specs.Verdict.{compileOn}
+use Rattle.back_compile.specs.Number.{numberOn}
+use Rattle.back_compile.specs.Compiled.{programOf}
 use Rattle.back_compile.specs.Statements.{FirstUnmet, Given, AsRows}
 use Rattle.back_figure3.specs.Figure3.{Assign, FirstPhaseRule, SecondPhaseRule, everyBehaviour, PassivesAcyclic, HandlerCode}
 use Rattle.engine.specs.Demand.{CodeIn}
 use Rattle.ask_circle.specs.Witness.{CircleListed, Witnessed}
 use Rattle.link_pooled.specs.Pooled.{pooled, sameRanks}
-use Rattle.link_join.specs.Join.{joined, joinOn}
+use Rattle.link_join.specs.Join.{joinOn}
+use Rattle.link_join.specs.Joined.{joined}
 use Rattle.link_join.specs.Statements.{limits, JoinOrder}
-
--- bytes are below 256
-abbrev pub AreBytes : List ℕ → Type 0
-AreBytes = All (λ b. b < 256)
-
--- ---- demand 2: "With a table of 01's size, a sheet is accepted exactly if it meets 01's grammar and limits and has no
--- circle, under an event or under none." 02, M-103: and a parameter only where 32 bytes are lent
-
-pub record AcceptedExactly : Type 0 where
-  pub accepted : (s ps t : List ℕ) → AreBytes s → 34816 ≤ length t → compileOn s ps t .0 ≡ 0 → (x : Sheet) × (encode x ≡ s) × SheetAccepted (get ps) (length ps) x
-  pub exactly : (s ps t : List ℕ) → AreBytes s → 34816 ≤ length t → (x : Sheet) → encode x ≡ s → SheetAccepted (get ps) (length ps) x
-      → compileOn s ps t ≡ compiled 0 (tableOf (programOf ps x) t)
-  -- what is read: a sheet within the grammar from its bytes, and no other; so compile's order (`Demand1`) says of
-  -- sheets what 11, 20, 12 and 13 stand for
-  pub reads : (x : Sheet) → SheetFits x → readSheet (encode x) ≡ got x []
-  pub reads-only : (s : List ℕ) → AreBytes s → length s ≤ 8192 → (x : Sheet) (rest : List ℕ) → readSheet s ≡ got x rest → (encode x ≡ s) × SheetFits x
-  -- the sheet is determined by its bytes
-  pub one-sheet : (x y : Sheet) → SheetFits x → SheetFits y → encode x ≡ encode y → x ≡ y
+use Rattle.claims.specs.Demand2.{AreBytes}
 
 -- ---- M-102: halves go down
 
@@ -62,7 +46,8 @@ pub record HalvesGoDown : Type 0 where
   pub next-above : (a b c : ℕ) → a < 2 ^ 32 → 0 < b → b < 2 ^ 31 → signed a <ℤ ((signed (result 7 a b c) +ℤ pos 1) *ℤ signed b)
   -- the other way round for b below zero, unless the quotient is 2,147,483,648
   pub at-least : (a b c : ℕ) → a < 2 ^ 32 → 2 ^ 31 ≤ b → b < 2 ^ 32 → (a ≢ 2 ^ 31) ⊎ (b ≢ 2 ^ 32 - 1) → signed a ≤ℤ (signed (result 7 a b c) *ℤ signed b)
-  pub next-below : (a b c : ℕ) → a < 2 ^ 32 → 2 ^ 31 ≤ b → b < 2 ^ 32 → (a ≢ 2 ^ 31) ⊎ (b ≢ 2 ^ 32 - 1) → ((signed (result 7 a b c) +ℤ pos 1) *ℤ signed b) <ℤ signed a
+  pub next-below : (a b c : ℕ) → a < 2 ^ 32 → 2 ^ 31 ≤ b → b < 2 ^ 32 → (a ≢ 2 ^ 31) ⊎ (b ≢ 2 ^ 32 - 1)
+      → ((signed (result 7 a b c) +ℤ pos 1) *ℤ signed b) <ℤ signed a
   -- "By zero still gives 0"
   pub by-zero : (a c : ℕ) → result 7 a 0 c ≡ 0
   -- "so −7 / 2 is −4 and 7 / −2 is −4; 7 / 2 stays 3", "and −2,147,483,648 / −1 still wraps to itself", as words
@@ -74,13 +59,14 @@ pub record HalvesGoDown : Type 0 where
 -- ---- M-103: easy and hard from one sheet
 
 pub record Parameters : Type 0 where
-  -- "It counts as one in an expression's size"
+  -- "It counts as one in an expression's size": by definition
   pub counts-one : (v : ℕ → ℕ) (n : ℕ) → sizeOf (fillTerm v (param n)) ≡ 1
   -- ".. and means the same as the constant written there. So everything known of a sheet without parameters is known of
   -- each filling, except that 3 counts the bytes as sent and not those of the filling.": compile's answer, a refusal
   -- too, and the table's bytes are the same for the sheet and for that in which each parameter is written out as its
   -- constant, with whatever the second is lent, where neither has over 8,192 bytes and no parameter is above 7
-  pub written : (x : Sheet) (ps : List ℕ) → 32 ≤ length ps → paramsOfEntries (x .entries) ≤ 8 → length (encode x) ≤ 8192 → length (encode (writtenOut (get ps) x)) ≤ 8192
+  pub written : (x : Sheet) (ps : List ℕ) → 32 ≤ length ps → paramsOfEntries (x .entries) ≤ 8 → length (encode x) ≤ 8192
+      → length (encode (writtenOut (get ps) x)) ≤ 8192
       → (qs t : List ℕ) → compileOn (encode x) ps t ≡ compileOn (encode (writtenOut (get ps) x)) qs t
   -- "Compile is lent eight signed 32-bit values, 32 bytes": what is lent beyond them is not read
   pub more-unread : (s ps qs t : List ℕ) → AreBytes s → 32 ≤ length ps → compileOn s (ps ++ qs) t ≡ compileOn s ps t
@@ -94,8 +80,8 @@ pub record Formulas : Type 0 where
   -- stay; its length is returned." "22, checked next", "9 comes after 22", "23, checked last"
   pub within : {text : List ℕ} {e : Expr} (buffer : List ℕ) → length text ≤ 1024 → Formula text e → formulaOn text buffer ≡ fieldAnswer e buffer
   -- ".. and all texts outside it are turned down": "21 when the text is outside this grammar or over 1,024 bytes"
-  pub outside : (text buffer : List ℕ) → (1024 < length text) ⊎ ((e : Expr) → Formula text e → ⊥) → formulaOn text buffer ≡ answered noFormula buffer
-  pub only-outside : (text buffer : List ℕ) → formulaOn text buffer .0 ≡ noFormula → (1024 < length text) ⊎ ((e : Expr) → Formula text e → ⊥)
+  pub outside : (text buffer : List ℕ) → (1024 < length text) ⊎ ((e : Expr) → Formula text e → ⊥) → formulaOn text buffer ≡ answered 21 buffer
+  pub only-outside : (text buffer : List ℕ) → formulaOn text buffer .0 ≡ 21 → (1024 < length text) ⊎ ((e : Expr) → Formula text e → ⊥)
   pub unchanged : (text buffer : List ℕ) → BufferKept buffer (formulaOn text buffer)
   -- the field is one that compile reads, and means the formula
   pub field : (text buffer : List ℕ) → Fields text buffer (formulaOn text buffer)
@@ -116,7 +102,8 @@ pub record Rights : Type 0 where
   -- "An event field may have length 2, its second byte saying who may send it (bit n for player n)."
   pub sends : (v : ℕ → ℕ) (s : Sheet) (e : ℕ) → e < length (s .signals) → (m : ℕ) → sentSender s e ≡ some m → (who : ℕ) → maySend (fill v s) who e ≡ may m who
   -- "A behaviour may end with a field 08 of length 1, saying likewise who may see it."
-  pub sees : (v : ℕ → ℕ) (s : Sheet) (i : ℕ) → i < length (rowsOut s .entries) → (m : ℕ) → sentViewer s i ≡ some m → (who : ℕ) → maySee (fill v s) who i ≡ may m who
+  pub sees : (v : ℕ → ℕ) (s : Sheet) (i : ℕ) → i < length (rowsOut s .entries) → (m : ℕ) → sentViewer s i ≡ some m
+      → (who : ℕ) → maySee (fill v s) who i ≡ may m who
   -- "Where either is missing, everybody may."
   pub all-send : (v : ℕ → ℕ) (s : Sheet) (e : ℕ) → e < length (s .signals) → sentSender s e ≡ none → (who : ℕ) → who < 8 → maySend (fill v s) who e ≡ true
   pub all-see : (v : ℕ → ℕ) (s : Sheet) (i : ℕ) → i < length (rowsOut s .entries) → sentViewer s i ≡ none → (who : ℕ) → who < 8 → maySee (fill v s) who i ≡ true
@@ -139,7 +126,8 @@ pub record Circles : Type 0 where
 pub record PaperOrder : Type 0 where
   -- "it is shown which instructions each step gives, an event's code being the copy's, phase one's, phase two's and the
   -- copy-back's in a row": of the table that compile leaves, for every accepted sheet and each event
-  pub in-the-table : (s ps t : List ℕ) → AreBytes s → AreBytes ps → (x : Sheet) → encode x ≡ s → SheetAccepted (get ps) (length ps) x → 34816 ≤ length t → (e : ℕ) → e < events (programOf ps x)
+  pub in-the-table : (s ps t : List ℕ) → AreBytes s → AreBytes ps → (x : Sheet) → encode x ≡ s → SheetAccepted (get ps) (length ps) x
+      → 34816 ≤ length t → (e : ℕ) → e < events (programOf ps x)
       → HandlerCode (programOf ps x) e × CodeIn (programOf ps x) (compileOn s ps t .1) e
   -- "So an event has 4 + 2 × (members of C) + .." instructions: of every such sheet and each event
   pub counted : (ps : List ℕ) → AreBytes ps → (x : Sheet) → SheetAccepted (get ps) (length ps) x → (e : ℕ) → e < events (programOf ps x)
@@ -175,8 +163,9 @@ pub record Pooling : Type 0 where
   -- "A join writes one sheet from two accepted ones to the start of a lent buffer, whose other bytes stay, and returns
   -- its length"; what is refused leaves all of it
   pub written : (ps buffer : List ℕ) → AreBytes ps → (x y : Sheet) → SheetAccepted (get ps) (length ps) x → SheetAccepted (get ps) (length ps) y
-      → 2 ^ 32 ≤ joinOn (encode x) (encode y) ps buffer .0 → joinOn (encode x) (encode y) ps buffer .1 ≡ encode (pooled x y) ++ drop (length (encode (pooled x y))) buffer
+      → 2 ^ 32 ≤ joinOn (encode x) (encode y) ps buffer .0
+      → joinOn (encode x) (encode y) ps buffer .1 ≡ encode (pooled x y) ++ drop (length (encode (pooled x y))) buffer
   pub unchanged : (s z ps buffer : List ℕ) → joinOn s z ps buffer .0 < 2 ^ 32 → joinOn s z ps buffer .1 ≡ buffer
   -- "The result must pass compile's 3, 7 and 13, checked in that order": compile has no other number for it
-  pub number : (ps : List ℕ) → ((n : ℕ) → n < 8 → get ps n < 2 ^ 32) → (a b : Sheet) → SheetAccepted (get ps) (length ps) a → SheetAccepted (get ps) (length ps) b
-      → FirstUnmet (limits ps (pooled a b)) (λ r. r ≡ 0) (numberOn (encode (pooled a b)) ps)
+  pub number : (ps : List ℕ) → ((n : ℕ) → n < 8 → get ps n < 2 ^ 32) → (a b : Sheet) → SheetAccepted (get ps) (length ps) a
+      → SheetAccepted (get ps) (length ps) b → FirstUnmet (limits ps (pooled a b)) (λ r. r ≡ 0) (numberOn (encode (pooled a b)) ps)

@@ -9,7 +9,9 @@ use Rattle.lib_word.specs.Word.{get}
 use Rattle.spec_language.specs.Sheet.{Sheet}
 use Rattle.spec_language.specs.Grammar.{encode, SheetFits}
 use Rattle.spec_language.specs.Accepted.{Known, SheetAccepted}
-use Rattle.back_compile.specs.Verdict.{programOf, numberOn}
+use Rattle.spec_language.specs.Answers.{told}
+use Rattle.back_compile.specs.Number.{numberOn}
+use Rattle.back_compile.specs.Compiled.{programOf}
 use Rattle.text_formula.specs.Answer.{answered}
 use Rattle.source_language.specs.Tokens.{SheetToken, TokensOfText}
 use Rattle.source_language.specs.Text.{Text}
@@ -18,10 +20,11 @@ use Rattle.source_language.specs.Grammar.{TextSays}
 use Rattle.source_language.specs.Renaming.{KeepsApart, textAs}
 use Rattle.source_coding.specs.Faults.{faultNumber}
 use Rattle.source_rendering.specs.Describe.{described}
-use Rattle.source_assemble.specs.Assemble.{assembleNumber}
+use Rattle.source_assemble.specs.AssembleNumber.{assembleNumber}
 use Rattle.source_describe.specs.Describing.{describeOn}
-use Rattle.source_language.specs.Answer.{written, turnedDown, assembleOn, TextMeans, refusedAt, SheetWritten}
-use Rattle.claims.specs.Requests.{AreBytes}
+use Rattle.source_language.specs.Answer.{written, turnedDown, TextMeans, refusedAt, SheetWritten}
+use Rattle.source_language.specs.Assembled.{assembleOn}
+use Rattle.claims.specs.Demand2.{AreBytes}
 
 -- a sheet's bytes that compile accepts with 32 zero bytes lent: `describe` writes the sheet's text at the start of a
 -- lent buffer, whose other bytes stay, or nothing where it is too short; read by `assemble` it gives the very bytes
@@ -30,10 +33,11 @@ pub record SheetDescribed (bytes : List ℕ) : Type 0 where
   pub of-bytes : encode sheet ≡ bytes
   pub accepted : SheetAccepted (get (replicate 32 0)) 32 sheet
   pub text-written : (buffer : List ℕ) → length (described sheet) ≤ length buffer
-      → describeOn bytes buffer ≡ answered (4294967296 + length (described sheet)) (described sheet ++ drop (length (described sheet)) buffer)
+      → describeOn bytes buffer ≡ answered (told (length (described sheet))) (described sheet ++ drop (length (described sheet)) buffer)
   pub too-short : (buffer : List ℕ) → length buffer < length (described sheet) → describeOn bytes buffer ≡ answered (faultNumber shortBuffer) buffer
   pub text-within : length (described sheet) ≤ 65536
-  pub back : (buffer : List ℕ) → length bytes ≤ length buffer → assembleOn (described sheet) buffer ≡ (written (length bytes), bytes ++ drop (length bytes) buffer)
+  pub back : (buffer : List ℕ) → length bytes ≤ length buffer
+      → assembleOn (described sheet) buffer ≡ (written (length bytes), bytes ++ drop (length bytes) buffer)
 
 pub record Texts : Type 0 where
   -- "A token is as long as it can be": each text is made of one list of tokens, each with its place
@@ -52,7 +56,8 @@ pub record Texts : Type 0 where
   -- "A text has at most 65,536 bytes; a longer one is turned down before anything else", at the first byte that is too
   -- many. "Then a sheet over 8,192 bytes; last a buffer that is too short", at the end of the text
   pub long-text : (bytes buffer : List ℕ) → 65536 < length bytes → assembleOn bytes buffer ≡ refusedAt longText 65536 bytes buffer
-  pub long-sheet : (bytes buffer : List ℕ) (s : Sheet) → TextMeans bytes s → 8192 < length (encode s) → assembleOn bytes buffer ≡ refusedAt longSheet (length bytes) bytes buffer
+  pub long-sheet : (bytes buffer : List ℕ) (s : Sheet) → TextMeans bytes s → 8192 < length (encode s)
+      → assembleOn bytes buffer ≡ refusedAt longSheet (length bytes) bytes buffer
   pub short-buffer : (bytes buffer : List ℕ) (s : Sheet) → TextMeans bytes s → length (encode s) ≤ 8192 → length buffer < length (encode s)
       → assembleOn bytes buffer ≡ refusedAt shortBuffer (length bytes) bytes buffer
   -- the call's number tells all of this, whatever was lent: how many bytes, or kind, line and column
@@ -74,4 +79,5 @@ pub record Texts : Type 0 where
   -- "sheets back to text": an accepted sheet's text, read again to the very bytes; "or a refusal .., nothing changed":
   -- compile's number for every other
   pub describes : (bytes : List ℕ) → AreBytes bytes → numberOn bytes (replicate 32 0) ≡ 0 → SheetDescribed bytes
-  pub describes-no-other : (bytes buffer : List ℕ) → numberOn bytes (replicate 32 0) ≢ 0 → describeOn bytes buffer ≡ answered (numberOn bytes (replicate 32 0)) buffer
+  pub describes-no-other : (bytes buffer : List ℕ) → numberOn bytes (replicate 32 0) ≢ 0
+      → describeOn bytes buffer ≡ answered (numberOn bytes (replicate 32 0)) buffer

@@ -6,7 +6,7 @@ use mathlib.Core.List.{List, [], _∷_, _++_}
 use lib.Dec.{ltb, eqb}
 use lib.ListN.{length, getD}
 use Rattle.lib_base.specs.Basics.{pick}
-use Rattle.lib_word.specs.Word.{getHalf}
+use Rattle.lib_word.specs.Halves.{getHalf}
 
 -- the length of a 21, 22 or 23
 unfoldable pub due : ℕ → ℕ

@@ -17,7 +17,8 @@ use Rattle.lib_base.specs.Basics.{pick, All}
 use Rattle.spec_language.specs.Syntax.{Expr, con, name, app1, app2, app3, Handler, handler, Behaviour, passive, active, Program}
 use Rattle.spec_language.specs.Sheet.{Sheet, cellCount, fillEntries, fill}
 use Rattle.spec_language.specs.Dependence.{Response, follows, takes, defers, keeps, size, events, response, behaviourAt}
-use Rattle.spec_language.specs.Grammar.{SheetFits, BehaviourFits, Fits}
+use Rattle.spec_language.specs.Grammar.{SheetFits}
+use Rattle.spec_language.specs.Fits.{BehaviourFits, Fits}
 use Rattle.spec_language.specs.Accepted.{BehaviourNamesIn, Known}
 use Rattle.spec_language.specs.Code.{sizeOf}
 use Rattle.draft_form.specs.Entry.{nodeTag, nodeWord}

@@ -17,11 +17,13 @@ use Rattle.lib_word.proofs.Laws.{long}
 use Rattle.spec_language.specs.Rights.{may}
 use Rattle.spec_semantics.proofs.Lengths.{length-fresh}
 use Rattle.spec_model.specs.Model.{Call, arrive, step, board}
-use Rattle.format_layout.specs.Layout.{eventCount, eventWord, sendersAt, taken, waitingCount, runningFlag, runningWord, runningEvent, runningNumber, position, depth, numberAt, wordAt, eventAt, tableFits, ours}
+use Rattle.format_layout.specs.Layout.{eventCount, eventWord, sendersAt, taken, waitingCount, runningFlag, runningWord, runningEvent, runningNumber, position, depth, numberAt, wordAt, eventAt}
+use Rattle.format_layout.specs.Foreign.{tableFits, ours}
 use Rattle.format_layout.proofs.BoundsLaws.{bounds}
-use Rattle.format_image.specs.Image.{tableOf}
+use Rattle.format_image.specs.Table.{tableOf}
 use Rattle.format_image.proofs.ImageLaws.{length-table, beyond-table}
-use Rattle.back_compile.specs.Verdict.{Compiled, programOf, compileOn}
+use Rattle.back_compile.specs.Verdict.{compileOn}
+use Rattle.back_compile.specs.Compiled.{Compiled, programOf}
 use Rattle.back_compile.proofs.AcceptedExactly.{accepted-exactly, refused-unchanged}
 use Rattle.run_queue.specs.Queue.{best, better, eitherSlot, ahead}
 use Rattle.format_layout.specs.Round.{CallResult}
@@ -32,7 +34,8 @@ use Rattle.run_instruction.proofs.AllowedLaws.{slot-small}
 use Rattle.run_instruction.specs.Instruction.{transfer, perform}
 use Rattle.run_carry.specs.Carry.{carryOn, shownFor, storeShown}
 use Rattle.run_arrive.specs.Arrivals.{queueFull, arriveWith, arriveKnown, arriveIn, arriveOn}
-use Rattle.run_board.specs.Board.{isMasked, copyBackOn}
+use Rattle.run_board.specs.Board.{copyBackOn}
+use Rattle.run_board.specs.Masking.{isMasked}
 use Rattle.run_mend.specs.Mending.{handKnown, backInHand, rested, verdict, mended, mendWith, mendAfter, mendIn, mendOn}
 use Rattle.run_dispatch.specs.Dispatch.{startAt, preemptAt}
 use Rattle.run_advance.specs.Advance.{countInstruction, executeOn, executeAt, advanceOn}

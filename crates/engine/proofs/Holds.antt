@@ -19,9 +19,11 @@ use Rattle.spec_semantics.proofs.Agreement.{fresh-shows, fresh-alone}
 use Rattle.spec_model.specs.Model.{runTurns}
 use Rattle.spec_model.specs.Claims.{moments, commitsUnder}
 use Rattle.format_layout.specs.Layout.{eventWord}
-use Rattle.format_image.specs.Image.{codeStart, tableOf}
+use Rattle.format_image.specs.Image.{codeStart}
+use Rattle.format_image.specs.Table.{tableOf}
 use Rattle.format_image.proofs.ImageLaws.{Says}
-use Rattle.back_compile.specs.Verdict.{Compiled, programOf, compileOn}
+use Rattle.back_compile.specs.Verdict.{compileOn}
+use Rattle.back_compile.specs.Compiled.{Compiled, programOf}
 use Rattle.back_compile.proofs.AcceptedExactly.{accepted-exactly}
 use Rattle.format_layout.specs.Round.{CallResult}
 use Rattle.refine_calls.specs.Refinement.{bytesAfter}
@@ -31,26 +33,17 @@ use Rattle.refine_lists.proofs.Sheets.{table-room, begun}
 use Rattle.refine_lists.proofs.FromSheets.{some-turns, prepared-accepted, list-of, calls-of, two-lists-hold, two-only-calls-hold}
 use Rattle.engine.specs.Demand.{CodeIn, EverySheet, WholeDemand}
 
--- what a table says of a program, read by `get`
+-- what a table says of a program
 code-in : (p : Program) (t : List ℕ) → Says p t → (e : ℕ) → e < events p → CodeIn p t e
-unfolding eventWord
-code-in p t says e h =
-    let few : ltb e 32 ≡ true = lt-ltb e 32 (omega (arith, says .few-events)) in
-    let z₀ : 8 + e * 4 + 0 ≡ 8 + e * 4 = omega arith in
-    let z₁ : 8 + e * 4 + 1 ≡ 9 + e * 4 = omega arith in
-    let z₂ : 8 + e * 4 + 2 ≡ 10 + e * 4 = omega arith in
-    let z₃ : 8 + e * 4 + 3 ≡ 11 + e * 4 = omega arith in
-    let start : get t (9 + e * 4) ≡ codeStart p e = rw (few, z₁) at (says .starts e h) in
-    let count : get t (10 + e * 4) ≡ length (code p e) = rw (few, z₂) at (says .lengths e h) in
-    record {
-      priority = rw (few, z₀) at (says .priorities e h);
-      start = start;
-      count = count;
-      in-C = rw (few, z₃) at (says .in-C e h);
-      within = rw (start, count) (says .within e h);
-      operations = λ c b. rw start (says .operations e c h b);
-      constants = λ c b. rw start (says .constants e c h b);
-    }
+code-in p t says e h = record {
+  priority = says .priorities e h;
+  start = says .starts e h;
+  count = says .lengths e h;
+  in-C = says .in-C e h;
+  within = rw (says .starts e h, says .lengths e h) (says .within e h);
+  operations = λ c b. rw (says .starts e h) (says .operations e c h b);
+  constants = λ c b. rw (says .starts e h) (says .constants e c h b);
+}
 
 -- the empty list has the fresh board
 fresh-board : (p : Program) (s ps t₀ l₀ : List ℕ) → OnlyCalls p l₀ (freshRoundOn s ps t₀ l₀) [] → boardOf p (freshRoundOn s ps t₀ l₀ .round) ≡ fresh p

@@ -17,7 +17,8 @@ use Rattle.run_step.specs.Machine.{stepOn}
 use Rattle.run_answers.specs.Answers.{putAnswer}
 use Rattle.run_step.specs.Sound.{RoundSound, isOutranked, outrankedAfter}
 use Rattle.refine_calls.specs.Refinement.{callOn, turnOnBytes, numbersOn, bytesAfter, answersOn, roundAfter}
-use Rattle.engine.specs.Replay.{callOf, callsFrom, putAnswers, RowOfSteps}
+use Rattle.engine.specs.Replay.{callOf, callsFrom, putAnswers}
+use Rattle.engine.specs.RowOfSteps.{RowOfSteps}
 
 pub call-arrive : (t l : List ℕ) (kind n who : ℕ) → kind ≡ 0 → arriveOn t l n who ≡ callOn t (callOf kind n who) l
 unfolding callOn callOf

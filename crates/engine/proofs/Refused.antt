@@ -11,16 +11,19 @@ use lib.ListN.{length, replicate}
 use Rattle.lib_base.proofs.Tools.{by-test}
 use Rattle.spec_language.specs.Refusals.{foreign}
 use Rattle.spec_language.specs.Rights.{may}
-use Rattle.format_layout.specs.Layout.{eventCount, eventWord, sendersAt, taken, waitingCount, runningFlag, runningWord, runningEvent, runningNumber, position, depth, eventAt, tableFits, ours}
+use Rattle.format_layout.specs.Layout.{eventCount, eventWord, sendersAt, taken, waitingCount, runningFlag, runningWord, runningEvent, runningNumber, position, depth, eventAt}
+use Rattle.format_layout.specs.Foreign.{tableFits, ours}
 use Rattle.run_queue.specs.Queue.{best}
 use Rattle.format_layout.specs.Round.{CallResult}
 use Rattle.run_start.specs.Start.{startOn}
 use Rattle.run_instruction.specs.Allowed.{mayRun}
 use Rattle.run_carry.specs.Carry.{carryOn}
 use Rattle.run_arrive.specs.Arrivals.{queueFull, arriveWith, arriveKnown, arriveIn, arriveOn}
-use Rattle.run_board.specs.Board.{isMasked, copyBackOn}
+use Rattle.run_board.specs.Board.{copyBackOn}
+use Rattle.run_board.specs.Masking.{isMasked}
 use Rattle.run_mend.specs.Mending.{handKnown, verdict, mendWith, mendAfter, mendIn, mendOn}
-use Rattle.run_dispatch.specs.Dispatch.{said, startAt, preemptAt}
+use Rattle.run_dispatch.specs.Dispatch.{startAt, preemptAt}
+use Rattle.run_dispatch.specs.Said.{said}
 use Rattle.run_advance.specs.Advance.{commitSaid, countInstruction, executeOn, executeAt, advanceOn}
 use Rattle.run_step.specs.Machine.{meet, contestOn, whileRunning, whileResting, stepWith, stepIn, stepOn}
 

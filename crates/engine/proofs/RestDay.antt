@@ -16,11 +16,13 @@ use Rattle.spec_language.specs.Dependence.{handled, dependsOn, Reach, one, more
 use Rattle.spec_language.specs.Grammar.{encodeBehaviours, encodeEvents, encode}
 use Rattle.spec_language.specs.Order.{upTo}
 use Rattle.spec_language.specs.Code.{allInstructions}
-use Rattle.spec_language.specs.Accepted.{Accepted, SheetAccepted}
+use Rattle.spec_language.specs.Accepted.{SheetAccepted}
+use Rattle.spec_language.specs.Valid.{Accepted}
 use Rattle.spec_model.specs.Model.{Engine, initial, Call, arrive, step, board, Outcome, act, call, state, turn, runTurns, begun}
 use Rattle.spec_model.specs.Claims.{after}
-use Rattle.format_image.specs.Image.{tableOf}
-use Rattle.back_compile.specs.Verdict.{Compiled, compiled, programOf, compileOn}
+use Rattle.format_image.specs.Table.{tableOf}
+use Rattle.back_compile.specs.Verdict.{compileOn}
+use Rattle.back_compile.specs.Compiled.{Compiled, compiled, programOf}
 use Rattle.back_compile.proofs.AcceptedExactly.{accepted-exactly, never-two}
 use Rattle.format_layout.specs.Round.{CallResult}
 use Rattle.run_start.specs.Start.{startOn}

@@ -19,8 +19,11 @@ use Rattle.spec_language.specs.Code.{off, code, members}
 use Rattle.spec_semantics.specs.Rules.{Shows}
 use Rattle.spec_semantics.specs.Meaning.{at, fresh}
 use Rattle.spec_model.specs.Model.{Call, Turn}
-use Rattle.format_image.specs.Image.{operation, constant, codeStart, tableOf}
-use Rattle.back_compile.specs.Verdict.{programOf, compileOn}
+use Rattle.format_layout.specs.Layout.{operationAt, constantAt, eventWord}
+use Rattle.format_image.specs.Image.{operation, constant, codeStart}
+use Rattle.format_image.specs.Table.{tableOf}
+use Rattle.back_compile.specs.Verdict.{compileOn}
+use Rattle.back_compile.specs.Compiled.{programOf}
 use Rattle.run_start.specs.Start.{startOn}
 use Rattle.refine_lists.specs.Lists.{boardOf, OneList, OnlyCalls, SheetTurn, Compiles, onBytes, AllMean, freshRoundOn, TwoLists, TwoOnlyCalls}
 
@@ -28,14 +31,14 @@ use Rattle.refine_lists.specs.Lists.{boardOf, OneList, OnlyCalls, SheetTurn, Co
 
 pub record CodeIn (p : Program) (t : List ℕ) (e : ℕ) : Type 0 where
   -- its record
-  pub priority : get t (8 + e * 4) ≡ getD (p .priorities) e 0
-  pub start : get t (9 + e * 4) ≡ codeStart p e
-  pub count : get t (10 + e * 4) ≡ length (code p e)
-  pub in-C : get t (11 + e * 4) ≡ members p e
+  pub priority : eventWord t e 0 ≡ getD (p .priorities) e 0
+  pub start : eventWord t e 1 ≡ codeStart p e
+  pub count : eventWord t e 2 ≡ length (code p e)
+  pub in-C : eventWord t e 3 ≡ members p e
   -- and from where the record says that it begins, two words for each instruction
-  pub within : get t (9 + e * 4) + get t (10 + e * 4) ≤ 4096
-  pub operations : (c : ℕ) → c < length (code p e) → get t (512 + (get t (9 + e * 4) + c) * 2) ≡ operation (getD (code p e) c off)
-  pub constants : (c : ℕ) → c < length (code p e) → get t (513 + (get t (9 + e * 4) + c) * 2) ≡ constant (getD (code p e) c off)
+  pub within : eventWord t e 1 + eventWord t e 2 ≤ 4096
+  pub operations : (c : ℕ) → c < length (code p e) → operationAt t (eventWord t e 1 + c) ≡ operation (getD (code p e) c off)
+  pub constants : (c : ℕ) → c < length (code p e) → constantAt t (eventWord t e 1 + c) ≡ constant (getD (code p e) c off)
 
 -- ---- demand 3, every list: for a sheet s that compile accepts with the bytes ps lent for its parameters, its table in
 -- t₀, and a round that start makes in l₀
@@ -46,7 +49,8 @@ pub record EveryList (s ps t₀ l₀ : List ℕ) : Type 0 where
   pub bytes : encode sheet ≡ s
   pub taken : SheetAccepted (get ps) (length ps) sheet
   -- "each event's code is the one 01 lists": the table is that of the program, each parameter being the constant lent
-  -- (02, M-103), and its words are those of `code` for each event e
+  -- (02, M-103), a consequence of `AcceptedExactly.exactly`; and its words are those of `code` for each event e, of
+  -- which `PaperOrder.in-the-table` tells besides how Figure 3 gives them
   pub table : compileOn s ps t₀ .1 ≡ tableOf (programOf ps sheet) t₀
   pub code : (e : ℕ) → e < events (programOf ps sheet) → CodeIn (programOf ps sheet) (compileOn s ps t₀ .1) e
   -- a fresh round: start answers 0, and the board has the start values with the passives worked out, which is what the

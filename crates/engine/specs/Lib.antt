@@ -1,4 +1,5 @@
 pub mod Demand
 pub mod Replay
+pub mod RowOfSteps
 pub mod RestDay
 pub mod Beyond

@@ -1,15 +1,13 @@
 -- A recorded list of calls: six bytes for each, its kind (0 arrival, 1 step, else board reading), a number of 32 bits
 -- and the player; eight bytes for each answer.
-use Prim.Native.Nat.{ℕ, zero, suc, _+_, _*_, _-_, _/_, _≤_}
-use mathlib.Core.Path.{_≡_}
+use Prim.Native.Nat.{ℕ, zero, suc, _+_, _*_, _/_}
 use mathlib.Core.List.{List, [], _∷_}
-use lib.ListN.{length, getD}
+use lib.ListN.{getD}
 use lib.Dec.{ltb, eqb}
 use Rattle.lib_base.specs.Basics.{pick}
 use Rattle.lib_word.specs.Word.{getAt}
 use Rattle.spec_model.specs.Model.{Call, arrive, step, board}
 use Rattle.run_answers.specs.Answers.{putAnswer}
-use Rattle.refine_calls.specs.Refinement.{answersOn, roundAfter}
 
 unfoldable pub callOf : ℕ → ℕ → ℕ → Call
 callOf kind n who = pick (eqb kind 0) (arrive n who) (pick (eqb kind 1) step (board n who))
@@ -27,13 +25,3 @@ putAnswers a i (r ∷ rs) = putAnswers (putAnswer a i r) (i + 1) rs
 -- how many calls are made: those that are whole, and whose answer has room
 unfoldable pub callCount : ℕ → ℕ → ℕ
 callCount calls answers = pick (ltb (calls / 6) (answers / 8)) (calls / 6) (answers / 8)
-
--- of n recorded calls those from i on, made on the round l and answered in a, come to the same as those from j on, made
--- on l′ and answered in a′: the calls between have been made
-pub record RowOfSteps (t calls : List ℕ) (n i : ℕ) (l a : List ℕ) (j : ℕ) (l′ a′ : List ℕ) : Type 0 where
-  pub rounds : roundAfter t (callsFrom calls j (n - j)) l′ ≡ roundAfter t (callsFrom calls i (n - i)) l
-  pub answers : putAnswers a′ j (answersOn t (callsFrom calls j (n - j)) l′) ≡ putAnswers a i (answersOn t (callsFrom calls i (n - i)) l)
-  pub onward : i ≤ j
-  pub within : j ≤ n
-  pub as-long : length a′ ≡ length a
-  pub round-long : length l′ ≡ length l

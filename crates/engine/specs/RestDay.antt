@@ -11,8 +11,9 @@ use Rattle.spec_language.specs.Grammar.{encode}
 use Rattle.spec_language.specs.Accepted.{SheetAccepted}
 use Rattle.spec_language.specs.Reading.{sheet}
 use Rattle.spec_model.specs.Model.{Call, begun}
-use Rattle.format_image.specs.Image.{tableOf}
-use Rattle.back_compile.specs.Verdict.{programOf, compileOn}
+use Rattle.format_image.specs.Table.{tableOf}
+use Rattle.back_compile.specs.Verdict.{compileOn}
+use Rattle.back_compile.specs.Compiled.{programOf}
 use Rattle.run_start.specs.Start.{startOn}
 use Rattle.run_arrive.specs.Arrivals.{arriveOn}
 use Rattle.run_board.specs.Board.{boardOn}

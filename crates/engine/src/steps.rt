@@ -3,7 +3,7 @@ ghost use mathlib.Core.Path.{_≡_};
 ghost use Prim.Native.Nat.{_+_, _*_, _≤_, _<_};
 ghost use lib.ListN.{length};
 ghost use Rattle.run_step.specs.Sound.{RoundSound};
-ghost use Rattle.engine.specs.Replay.{RowOfSteps};
+ghost use Rattle.engine.specs.RowOfSteps.{RowOfSteps};
 
 // The bytes of a recorded call, of which the first is its kind; the kind of a step.
 pub const CALL_BYTES: usize = 6;

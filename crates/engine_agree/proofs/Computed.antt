@@ -16,7 +16,8 @@ use Rattle.spec_language.specs.Sheet.{Sheet, cellCount, entriesOut, fillTerm, f
 use Rattle.spec_language.specs.Dependence.{takes, keeps, handled, mentions, needs, dependsOn, Reach, one, more, NoCycle}
 use Rattle.spec_language.specs.Syntax.{Expr, con, name, app2, app3}
 use Rattle.spec_language.specs.Grammar.{encode, encodeEvents, encodeBehaviours, encodeHandlers, encodeExpr, SheetFits, ternary, binary, t-literal, t-variable, t-apply2, t-apply3}
-use Rattle.spec_language.specs.Accepted.{Accepted, SheetAccepted}
+use Rattle.spec_language.specs.Accepted.{SheetAccepted}
+use Rattle.spec_language.specs.Valid.{Accepted}
 use Rattle.spec_language.specs.Order.{met, find, order, upTo, metAtOnce, phaseOne}
 use Rattle.spec_language.specs.Code.{sizeOf, postfix, inOrder, copyPart, firstPart, secondPart, restorePart, code, instructions, allInstructions, one?}
 use Rattle.spec_semantics.specs.Meaning.{value, inTurn, firstPhase, starts, fresh}

@@ -7,7 +7,8 @@ use Rattle.spec_language.specs.Syntax.{Program}
 use Rattle.spec_model.specs.Model.{engine, Call, call, State, state}
 use Rattle.spec_model.specs.Claims.{inForce, after}
 use Rattle.spec_model.proofs.States.{storeIn}
-use Rattle.back_compile.specs.Verdict.{Compiled, compileOn}
+use Rattle.back_compile.specs.Verdict.{compileOn}
+use Rattle.back_compile.specs.Compiled.{Compiled}
 use Rattle.back_compile.proofs.AcceptedExactly.{accepted-exactly}
 use Rattle.refine_calls.specs.Refinement.{ViewIn}
 use Rattle.refine_lists.specs.Lists.{boardOf, freshRoundOn, OnlyCalls}

@@ -15,7 +15,7 @@ use Rattle.spec_language.specs.Grammar.{encode}
 use Rattle.spec_language.specs.Accepted.{SheetAccepted}
 use Rattle.spec_model.specs.Model.{Call, arrive, step, call}
 use Rattle.spec_model.specs.Claims.{takenInBy, eventsOf}
-use Rattle.back_compile.specs.Verdict.{programOf}
+use Rattle.back_compile.specs.Compiled.{programOf}
 use Rattle.refine_calls.specs.Refinement.{calls, Bytes, bytesAfter}
 use Rattle.refine_lists.specs.Lists.{boardOf, IdleNow, freshRoundOn}
 use Rattle.ask_agree.specs.Agree.{agreeOn}

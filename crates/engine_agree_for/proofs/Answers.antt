@@ -15,11 +15,13 @@ use Rattle.spec_language.specs.Reading.{got, readSheet}
 use Rattle.spec_language.specs.Refusals.{noBehaviour}
 use Rattle.spec_language.specs.Dependence.{size}
 use Rattle.spec_language.specs.Grammar.{encode}
-use Rattle.spec_language.specs.Accepted.{Accepted, SheetAccepted}
+use Rattle.spec_language.specs.Accepted.{SheetAccepted}
+use Rattle.spec_language.specs.Valid.{Accepted}
 use Rattle.spec_grammar.proofs.Programs.{reads-back}
 use Rattle.ask_commute.specs.Meets.{Cone}
 use Rattle.ask_commute.proofs.Cones.{Settled}
-use Rattle.back_compile.specs.Verdict.{programOf, numberOn}
+use Rattle.back_compile.specs.Number.{numberOn}
+use Rattle.back_compile.specs.Compiled.{programOf}
 use Rattle.refine_lists.proofs.Sheets.{program-accepted}
 use Rattle.ask_agree.specs.Answer.{packedDifference}
 use Rattle.ask_agree.proofs.Answers.{number-zero, answers}

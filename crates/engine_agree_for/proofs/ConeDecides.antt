@@ -10,7 +10,7 @@ use Rattle.lib_base.specs.Basics.{All}
 use Rattle.lib_base.proofs.Tools.{or-either}
 use Rattle.spec_language.specs.Syntax.{Program}
 use Rattle.spec_language.specs.Dependence.{size, events, behaviourAt, writes, Reads, Independent}
-use Rattle.spec_language.specs.Grammar.{BehaviourFits}
+use Rattle.spec_language.specs.Fits.{BehaviourFits}
 use Rattle.spec_language.specs.Accepted.{Known}
 use Rattle.check_graph.proofs.Closure.{reach-map}
 use Rattle.check_reads.specs.Sets.{closedBy}

@@ -9,7 +9,7 @@ use Rattle.spec_language.specs.Syntax.{Program}
 use Rattle.spec_semantics.specs.Meaning.{at}
 use Rattle.spec_model.specs.Model.{call}
 use Rattle.spec_model.specs.Claims.{takenInBy, eventsOf}
-use Rattle.back_compile.specs.Verdict.{programOf}
+use Rattle.back_compile.specs.Compiled.{programOf}
 use Rattle.refine_calls.specs.Refinement.{Bytes}
 use Rattle.refine_lists.specs.Lists.{boardOf, IdleNow, SheetTurn, calling, mending, freshRoundOn}
 use Rattle.engine_order.specs.Orders.{firstEntries, appAfter, takenNow}

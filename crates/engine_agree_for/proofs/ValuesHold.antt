@@ -9,11 +9,12 @@ use lib.ListN.{length}
 use Rattle.lib_base.specs.Basics.{All}
 use Rattle.spec_language.specs.Syntax.{Program}
 use Rattle.spec_language.specs.Sheet.{Sheet}
-use Rattle.spec_language.specs.Accepted.{Accepted, Valid}
+use Rattle.spec_language.specs.Valid.{Accepted, Valid}
 use Rattle.spec_language.specs.Dependence.{size}
 use Rattle.spec_semantics.specs.Meaning.{at}
 use Rattle.spec_model.specs.Model.{Arrival, Answer, refused, takenIn, shows, idle, ran, started, preempted, committed, Call, Turn, call, change, Reply, says, carriedOver, replies, begun, State, state, engine}
-use Rattle.spec_model.specs.Claims.{takenInBy, eventsOf, Moment, commits, changes, ifCommits, momentOf, moments, historyOf, Course, last, thenChange, onward, courseOf, inForce, after, Sound, IdleIn, committedIn, SameChanges}
+use Rattle.spec_model.specs.Claims.{takenInBy, eventsOf, Moment, commits, changes, ifCommits, momentOf, moments, historyOf, Course, last, thenChange, onward, courseOf, inForce, after, IdleIn, committedIn, SameChanges}
+use Rattle.spec_model.specs.Sound.{Sound}
 use Rattle.spec_model.proofs.States.{storeIn}
 use Rattle.spec_model.proofs.Courses.{OneSheet, known}
 use Rattle.spec_model.proofs.Replaying.{proper}
@@ -21,7 +22,7 @@ use Rattle.spec_model.proofs.SameBoard.{same-store}
 use Rattle.ask_commute.specs.Meets.{Cone}
 use Rattle.ask_commute.proofs.Cones.{cone-closed}
 use Rattle.ask_commute.proofs.TwoLists.{same-values, SettledAll, SettledEach, settled-commute}
-use Rattle.back_compile.specs.Verdict.{programOf}
+use Rattle.back_compile.specs.Compiled.{programOf}
 use Rattle.refine_calls.specs.Refinement.{calls, ViewIn, Bytes, bytesAfter}
 use Rattle.refine_calls.proofs.Refines.{valid}
 use Rattle.refine_lists.specs.Lists.{boardOf, IdleNow, SheetTurn, calling, mending, Compiles, onBytes, Means, AllMean, freshRoundOn, Prepared, TwoRounds, OneList, OnlyCalls}

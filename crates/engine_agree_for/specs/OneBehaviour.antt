@@ -14,12 +14,12 @@ use Rattle.spec_language.specs.Sheet.{Sheet}
 use Rattle.spec_language.specs.Grammar.{encode}
 use Rattle.spec_language.specs.Accepted.{SheetAccepted}
 use Rattle.spec_language.specs.Dependence.{size}
-use Rattle.spec_language.specs.Refusals.{noBehaviour}
 use Rattle.spec_semantics.specs.Meaning.{at}
 use Rattle.spec_model.specs.Model.{Call, call}
 use Rattle.spec_model.specs.Claims.{takenInBy, eventsOf}
 use Rattle.ask_commute.specs.Meets.{Cone, NoneMeet}
-use Rattle.back_compile.specs.Verdict.{programOf, numberOn}
+use Rattle.back_compile.specs.Number.{numberOn}
+use Rattle.back_compile.specs.Compiled.{programOf}
 use Rattle.refine_calls.specs.Refinement.{calls, bytesAfter}
 use Rattle.refine_lists.specs.Lists.{boardOf, IdleNow, SheetTurn, calling, mending, freshRoundOn, TwoRounds, TwoListsWhere, TwoCallsWhere}
 use Rattle.ask_agree.specs.Agree.{agreeOn}
@@ -29,7 +29,7 @@ use Rattle.ask_agree_for.specs.Claims.{EncounterNamed}
 -- of a sheet that compile accepts, with the bytes ps lent for its parameters, and the number b
 pub record AgreeForAnswer (s ps : List ℕ) (b : ℕ) (x : Sheet) : Type 0 where
   -- 18 for a number that is no behaviour's
-  pub none-such : size (programOf ps x) ≤ b → agreeForOn s ps b ≡ noBehaviour
+  pub none-such : size (programOf ps x) ≤ b → agreeForOn s ps b ≡ 18
   -- "0 exactly if no two events of unequal rank meet in D"
   pub zero-if : b < size (programOf ps x) → NoneMeet (programOf ps x) (Cone (programOf ps x) b) → agreeForOn s ps b ≡ 0
   pub only-if : b < size (programOf ps x) → agreeForOn s ps b ≡ 0 → NoneMeet (programOf ps x) (Cone (programOf ps x) b)
@@ -60,7 +60,7 @@ OneValue =
 -- ---- the whole board, where the answer is 0 for every behaviour
 
 abbrev pub ZeroForEach : List ℕ → List ℕ → Type 0
-ZeroForEach s ps = (b : ℕ) → agreeForOn s ps b ≢ noBehaviour → agreeForOn s ps b ≡ 0
+ZeroForEach s ps = (b : ℕ) → agreeForOn s ps b ≢ 18 → agreeForOn s ps b ≡ 0
 
 abbrev pub EachAgrees : Type 0
 EachAgrees = TwoCallsWhere (λ s ps p cs. ZeroForEach s ps)

@@ -14,12 +14,12 @@ use Rattle.lib_base.specs.Basics.{All}
 use Rattle.lib_base.proofs.Tools.{split, or-either, all-at-or}
 use Rattle.spec_language.specs.Syntax.{Expr, Phase, immediate, later, Handler, handler, Behaviour, passive, active, Program}
 use Rattle.spec_language.specs.Dependence.{Response, follows, takes, defers, keeps, size, events, inPhase, handled, respond, response, behaviourAt, mentions}
-use Rattle.spec_language.specs.Grammar.{NoneFor, HandlersFit, BehaviourFits}
+use Rattle.spec_language.specs.Fits.{NoneFor, HandlersFit, BehaviourFits}
 use Rattle.spec_language.specs.Accepted.{HandlerNamesIn, BehaviourNamesIn, Known}
 use Rattle.spec_language.proofs.Laws.{handled-here, handled-there, named-in}
 use Rattle.check_graph.specs.Any.{anyBelow}
 use Rattle.check_graph.proofs.Any.{any-none, any-some}
-use Rattle.check_reads.specs.Named.{inResponse}
+use Rattle.check_reads.specs.InResponse.{inResponse}
 use Rattle.check_reads.proofs.Decides.{any-found}
 use Rattle.ask_leak.specs.Leak.{behaviourNames}
 use Rattle.secrecy_model.specs.Sight.{inHandlers, inBehaviour, names}

@@ -12,11 +12,12 @@ use Rattle.lib_base.proofs.Tools.{split, by-test}
 use Rattle.spec_language.specs.Syntax.{Program}
 use Rattle.spec_language.specs.Rights.{maySee}
 use Rattle.spec_language.specs.Dependence.{size, events}
-use Rattle.spec_language.specs.Grammar.{BehaviourFits}
+use Rattle.spec_language.specs.Fits.{BehaviourFits}
 use Rattle.spec_language.specs.Accepted.{Known}
 use Rattle.check_reads.specs.First.{firstFrom}
 use Rattle.check_reads.proofs.FirstLaws.{Found, first-found, first-all, first-none}
-use Rattle.ask_leak.specs.Leaking.{packedLeak, leakAt, leakFrom, leakBy}
+use Rattle.ask_leak.specs.Leaking.{leakAt, leakFrom, leakBy}
+use Rattle.ask_leak.specs.Answer.{packedLeak}
 use Rattle.ask_leak.specs.Leak.{behaviourNames, hiddenIn, leakIn}
 use Rattle.ask_leak.proofs.LeakLaws.{packed-some, by-same}
 use Rattle.secrecy_model.specs.Sight.{names, Sealed}

@@ -18,7 +18,7 @@ use Rattle.spec_language.specs.Dependence.{mentions}
 use Rattle.spec_language.specs.Rights.{maySee}
 use Rattle.secrecy_model.specs.Sight.{inHandlers, names, Sealed}
 use Rattle.secrecy_model.proofs.Stores.{direct-sealed}
-use Rattle.back_compile.specs.Verdict.{numberOn}
+use Rattle.back_compile.specs.Number.{numberOn}
 use Rattle.ask_leak.specs.Leak.{leakOn}
 use Rattle.engine_leak.specs.Leakless.{LeakAnswer, LeakAnswers}
 

@@ -18,7 +18,8 @@ use Rattle.spec_language.specs.Grammar.{encode}
 use Rattle.spec_language.specs.Accepted.{SheetAccepted}
 use Rattle.spec_language.specs.Refusals.{noPlayer}
 use Rattle.spec_grammar.proofs.Programs.{reads-back}
-use Rattle.back_compile.specs.Verdict.{Compiled, programOf, numberOn}
+use Rattle.back_compile.specs.Number.{numberOn}
+use Rattle.back_compile.specs.Compiled.{Compiled, programOf}
 use Rattle.back_compile.proofs.AcceptedExactly.{accepted-exactly}
 use Rattle.refine_lists.proofs.Sheets.{program-accepted}
 use Rattle.refine_lists.proofs.FromSheets.{prepared-bytes}

@@ -18,13 +18,13 @@ use Rattle.spec_language.specs.Grammar.{encode}
 use Rattle.spec_language.specs.Accepted.{SheetAccepted}
 use Rattle.spec_language.specs.Dependence.{size}
 use Rattle.spec_language.specs.Rights.{maySee}
-use Rattle.spec_language.specs.Refusals.{noPlayer}
 use Rattle.spec_model.specs.Model.{begun}
 use Rattle.secrecy_model.specs.Sight.{names, Sealed, Pair, inOne, inOther, AtChanges}
-use Rattle.back_compile.specs.Verdict.{programOf, numberOn}
+use Rattle.back_compile.specs.Number.{numberOn}
+use Rattle.back_compile.specs.Compiled.{programOf}
 use Rattle.refine_lists.specs.Lists.{SheetTurn, calling, mending, Compiles, AllMean, freshRoundOn}
 use Rattle.secrecy_engine.specs.Heard.{TwoSheets, HeardAlike, AlikeAt}
-use Rattle.ask_leak.specs.Leaking.{packedLeak}
+use Rattle.ask_leak.specs.Answer.{packedLeak}
 use Rattle.ask_leak.specs.Leak.{leakOn}
 
 -- ---- 0 exactly under M-107's condition, and what is named is true: of a sheet that compile accepts
@@ -51,7 +51,7 @@ abbrev pub LeakAnswers : Type 0
 LeakAnswers =
     (s ps : List ℕ) (player : ℕ) → All (λ b. b < 256) s → All (λ b. b < 256) ps
     → ((x : Sheet) → encode x ≡ s → SheetAccepted (get ps) (length ps) x → player < 8 → LeakAnswer s ps player x)
-    × (numberOn s ps ≡ 0 → 7 < player → leakOn s ps player ≡ noPlayer)
+    × (numberOn s ps ≡ 0 → 7 < player → leakOn s ps player ≡ 24)
     × (numberOn s ps ≢ 0 → leakOn s ps player ≡ numberOn s ps)
 
 -- ---- the rule for a player of whom `leak` answers 0: two sheets that differ only in start values of hidden

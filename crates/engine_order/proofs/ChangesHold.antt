@@ -14,27 +14,33 @@ use borrow.Author.Tests.{lt-leb, le-leb, eqb-true, eqb-false}
 use Rattle.lib_base.specs.Basics.{All, pick}
 use Rattle.lib_base.proofs.Tools.{split, all-imp, all-join}
 use Rattle.lib_word.specs.Word.{get, words}
-use Rattle.spec_language.specs.Accepted.{SheetAccepted, Valid}
+use Rattle.spec_language.specs.Accepted.{SheetAccepted}
+use Rattle.spec_language.specs.Valid.{Valid}
 use Rattle.spec_language.specs.Dependence.{events, size}
 use Rattle.spec_language.specs.Grammar.{encode}
 use Rattle.spec_language.specs.Rights.{may, maySend}
 use Rattle.spec_language.specs.Sheet.{Sheet}
 use Rattle.spec_language.specs.Syntax.{Program}
 use Rattle.spec_model.specs.Model.{Arrival, arrival, rest, busy, Engine, engine, Call, Turn, call, change, State, state, carriedOver, TurnOutcome, turnOutcome, carriedTo, turn, runTurns, replies, begun}
-use Rattle.spec_model.specs.Claims.{longest, inQueue, Moment, commits, changes, moments, takenTurns, inForce, engineIn, IdleIn, after, programAfter, historyOf, takenInBy, committedIn, eventsOf, Sound, Course, last, thenChange, onward, courseOf, SameChanges, unsigned}
+use Rattle.spec_model.specs.Claims.{longest, inQueue, Moment, commits, changes, moments, takenTurns, inForce, engineIn, IdleIn, after, programAfter, historyOf, takenInBy, committedIn, eventsOf, Course, last, thenChange, onward, courseOf, SameChanges, unsigned}
+use Rattle.spec_model.specs.Sound.{Sound}
 use Rattle.spec_model.proofs.States.{numberIn, arrivalsCommitted, committed-arrivals}
 use Rattle.spec_model.proofs.Alone.{moments-append, only-commits}
 use Rattle.spec_model.proofs.Choice.{numbers, distinct-numbers, new-number}
 use Rattle.spec_model.proofs.Courses.{rest-same}
 use Rattle.spec_model.proofs.History.{runs-append}
 use Rattle.spec_model.proofs.Once.{idle-empty, once-each}
-use Rattle.format_layout.specs.Layout.{eventCount, sendersAt, taken, ours, behaviourCount}
-use Rattle.back_compile.specs.Verdict.{Compiled, programOf, compileOn}
+use Rattle.format_layout.specs.Layout.{eventCount, sendersAt, taken, behaviourCount}
+use Rattle.format_layout.specs.Foreign.{ours}
+use Rattle.back_compile.specs.Verdict.{compileOn}
+use Rattle.back_compile.specs.Compiled.{Compiled, programOf}
 use Rattle.back_compile.proofs.AcceptedExactly.{accepted-exactly}
 use Rattle.ask_agree.specs.Agree.{agreeOn}
 use Rattle.run_mend.specs.Mending.{mendOn}
-use Rattle.run_deliver.specs.Deliver.{Delivery, deliveryRefusal, deliverWith, deliverOn}
-use Rattle.refine_calls.specs.Refinement.{codedReply, TableFor, calls, mends, Bytes, bytes, turnOnBytes, bytesAfter, roundAfter}
+use Rattle.run_deliver.specs.Deliver.{deliveryRefusal, deliverWith, deliverOn}
+use Rattle.run_deliver.specs.Delivery.{Delivery}
+use Rattle.refine_calls.specs.Refinement.{codedReply, calls, mends, Bytes, bytes, turnOnBytes, bytesAfter, roundAfter}
+use Rattle.refine_calls.specs.Turns.{TableFor}
 use Rattle.refine_calls.proofs.Agrees.{ours-is}
 use Rattle.refine_calls.proofs.Refines.{valid}
 use Rattle.refine_calls.proofs.TurnsRefine.{Stand, Turned, turned}

@@ -10,7 +10,8 @@ use Rattle.lib_base.specs.Basics.{All}
 use Rattle.spec_language.specs.Sheet.{Sheet}
 use Rattle.spec_language.specs.Syntax.{Program}
 use Rattle.spec_model.specs.Model.{Arrival}
-use Rattle.back_compile.specs.Verdict.{programOf, compileOn}
+use Rattle.back_compile.specs.Compiled.{programOf}
+use Rattle.back_compile.specs.Verdict.{compileOn}
 use Rattle.refine_calls.specs.Refinement.{Bytes}
 use Rattle.refine_lists.specs.Lists.{boardOf, IdleNow, freshRoundOn, Prepared, TwoRounds}
 use Rattle.engine_order.specs.Orders.{EventOrder, firstEntries, AppCall, delivers, frames, steps, reads, Offered, appAfter, takenNow, OnePhone, EveryPhone, TwoPhonesWhere}

@@ -12,7 +12,7 @@ use Rattle.spec_language.specs.Sheet.{Sheet}
 use Rattle.spec_language.specs.Syntax.{Program}
 use Rattle.spec_model.specs.Model.{Call, arrive, step, board, call}
 use Rattle.spec_model.specs.Claims.{takenInBy, eventsOf}
-use Rattle.back_compile.specs.Verdict.{programOf}
+use Rattle.back_compile.specs.Compiled.{programOf}
 use Rattle.run_frame.specs.Frame.{frameOn}
 use Rattle.run_step.proofs.Still.{idle-stays}
 use Rattle.run_deliver.specs.Deliver.{deliverOn}

@@ -20,11 +20,13 @@ use Rattle.spec_model.specs.Model.{Arrival, arrival, engine, Call, arrive, step
 use Rattle.spec_model.specs.Claims.{longest, inForce, engineIn, takenTurns, after, takenInBy, eventsOf, ApartIn}
 use Rattle.spec_model.proofs.States.{numberIn}
 use Rattle.spec_model.proofs.History.{runs-append}
-use Rattle.back_compile.specs.Verdict.{programOf}
+use Rattle.back_compile.specs.Compiled.{programOf}
 use Rattle.ask_agree.specs.Agree.{agreeOn}
-use Rattle.format_layout.specs.Layout.{taken, ours}
+use Rattle.format_layout.specs.Layout.{taken}
+use Rattle.format_layout.specs.Foreign.{ours}
 use Rattle.run_frame.specs.Frame.{frameOn}
-use Rattle.run_deliver.specs.Deliver.{deliverOn, takenOn, takenSaid}
+use Rattle.run_deliver.specs.Deliver.{deliverOn, takenOn}
+use Rattle.run_deliver.specs.Delivery.{takenSaid}
 use Rattle.refine_calls.specs.Refinement.{coded, callOn, calls, Bytes, bytes, turnOnBytes, bytesAfter, roundAfter}
 use Rattle.refine_calls.proofs.Agrees.{ours-is}
 use Rattle.refine_calls.proofs.Coded.{answer-to, coded-injective}

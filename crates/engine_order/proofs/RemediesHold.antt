@@ -17,7 +17,7 @@ use Rattle.spec_model.proofs.States.{arrivalsCommitted, committed-arrivals}
 use Rattle.spec_model.proofs.Moves.{Effect, nothing, took, commit, effect, Cases, act-by}
 use Rattle.spec_model.proofs.Calls.{logged, gathered}
 use Rattle.spec_model.proofs.Once.{idle-empty}
-use Rattle.back_compile.specs.Verdict.{programOf}
+use Rattle.back_compile.specs.Compiled.{programOf}
 use Rattle.refine_calls.specs.Refinement.{callOn, calls, Bytes, bytes, turnOnBytes, bytesAfter}
 use Rattle.refine_calls.proofs.TurnsRefine.{Stand, turned}
 use Rattle.refine_lists.specs.Lists.{boardOf, IdleNow, freshRoundOn, Prepared, TwoRounds, OnlyCalls}

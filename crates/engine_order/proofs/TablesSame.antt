@@ -8,12 +8,12 @@ use native.Mathlib.Omega.{arith}
 use lib.ListN.{length, getD, set, length-set}
 use lib.Seq.{getD-set-same, getD-set-other}
 use Rattle.lib_word.specs.Word.{put}
-use Rattle.spec_language.specs.Accepted.{Accepted}
+use Rattle.spec_language.specs.Valid.{Accepted}
 use Rattle.spec_language.specs.Syntax.{Program}
 use Rattle.spec_semantics.proofs.Lengths.{length-fresh}
-use Rattle.format_image.specs.Image.{imageWords, putWords, tableOf}
+use Rattle.format_image.specs.Table.{imageWords, putWords, tableOf}
 use Rattle.format_image.proofs.ImageLaws.{length-image}
-use Rattle.back_compile.specs.Verdict.{programOf}
+use Rattle.back_compile.specs.Compiled.{programOf}
 use Rattle.back_compile.proofs.AcceptedExactly.{accepted-exactly}
 use Rattle.refine_calls.proofs.Refines.{short-code}
 use Rattle.refine_lists.proofs.Sheets.{table-room, program-accepted}

@@ -12,9 +12,10 @@ use Rattle.spec_execution.specs.Execution.{Values}
 use Rattle.spec_model.specs.Model.{Arrival, Running, rest, busy, engine, queue, State, state, begun}
 use Rattle.spec_model.specs.Claims.{number, inQueue, engineIn, after, engineAfter, committedIn, takenInBy}
 use Rattle.spec_model.proofs.Choice.{perm-length}
-use Rattle.back_compile.specs.Verdict.{programOf}
+use Rattle.back_compile.specs.Compiled.{programOf}
 use Rattle.run_preview.specs.Preview.{inHand}
-use Rattle.run_deliver.specs.Deliver.{takenSaid, takenOn}
+use Rattle.run_deliver.specs.Deliver.{takenOn}
+use Rattle.run_deliver.specs.Delivery.{takenSaid}
 use Rattle.refine_calls.specs.Refinement.{Bytes, bytesAfter}
 use Rattle.refine_calls.proofs.Agrees.{ours-is}
 use Rattle.refine_calls.proofs.Relation.{Rel, count-is}

@@ -17,8 +17,9 @@ use Rattle.spec_language.specs.Sheet.{Sheet}
 use Rattle.spec_language.specs.Syntax.{Program}
 use Rattle.spec_model.specs.Model.{Turn}
 use Rattle.spec_model.specs.Claims.{longest, takenInBy, programAfter}
-use Rattle.format_layout.specs.Layout.{behaviourCount}
-use Rattle.back_compile.specs.Verdict.{programOf, compileOn}
+use Rattle.format_layout.specs.Layout.{behaviourCount, storeStart}
+use Rattle.back_compile.specs.Verdict.{compileOn}
+use Rattle.back_compile.specs.Compiled.{programOf}
 use Rattle.ask_agree.specs.Agree.{agreeOn}
 use Rattle.run_mend.specs.Mending.{mendOn}
 use Rattle.run_deliver.specs.Deliver.{deliverOn}
@@ -93,7 +94,7 @@ outcomeOf v = (endedBy v, pick (eqb (endedBy v) 0) v 0)
 
 -- the board as the table in force has it
 abbrev pub boardShown : Bytes → List ℕ
-boardShown b = words (b .round) 136 (behaviourCount (b .table))
+boardShown b = words (b .round) storeStart (behaviourCount (b .table))
 
 pub record ChangedAlike (a b : Bytes) : Type 0 where
   -- "deliveries after it are taken in or refused alike"

@@ -14,11 +14,12 @@ use Rattle.spec_language.specs.Sheet.{Sheet}
 use Rattle.spec_language.specs.Syntax.{Program}
 use Rattle.spec_model.specs.Model.{Arrival, arrival, Call, Turn, call}
 use Rattle.spec_model.specs.Claims.{longest, number, inQueue, engineAfter, committedIn, takenInBy, ApartIn}
-use Rattle.back_compile.specs.Verdict.{programOf}
+use Rattle.back_compile.specs.Compiled.{programOf}
 use Rattle.ask_agree.specs.Agree.{agreeOn}
 use Rattle.run_step.specs.Machine.{stepOn}
 use Rattle.run_frame.specs.Frame.{frameOn}
-use Rattle.run_deliver.specs.Deliver.{deliverOn, takenSaid, takenOn}
+use Rattle.run_deliver.specs.Deliver.{deliverOn, takenOn}
+use Rattle.run_deliver.specs.Delivery.{takenSaid}
 use Rattle.refine_calls.specs.Refinement.{Bytes, bytes, calls, bytesAfter}
 use Rattle.refine_lists.specs.Lists.{boardOf, IdleNow, SheetTurn, Compiles, onBytes, AllMean, freshRoundOn, Prepared, TwoRounds}
 use Rattle.refine_deliver.specs.Deliveries.{TakesIn}

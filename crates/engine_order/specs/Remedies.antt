@@ -10,7 +10,7 @@ use Rattle.lib_base.specs.Basics.{All}
 use Rattle.spec_language.specs.Sheet.{Sheet}
 use Rattle.spec_model.specs.Model.{Call, arrive, step, board, call}
 use Rattle.spec_model.specs.Claims.{engineAfter, copyBackIn, committedIn, takenInBy, eventsOf}
-use Rattle.back_compile.specs.Verdict.{programOf}
+use Rattle.back_compile.specs.Compiled.{programOf}
 use Rattle.refine_calls.specs.Refinement.{callOn, calls, Bytes, bytes, bytesAfter}
 use Rattle.refine_lists.specs.Lists.{boardOf, IdleNow, freshRoundOn, Prepared, TwoRounds}
 use Rattle.engine_order.specs.Orders.{EventOrder, AppCall, delivers, frames, steps, reads, Offered, appRound, appAfter, takenNow}

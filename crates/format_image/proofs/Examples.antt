@@ -7,7 +7,8 @@ use Rattle.spec_language.specs.Dependence.{handled, mentions}
 use Rattle.spec_language.specs.Order.{met, find, order, upTo, metAtOnce, phaseOne}
 use Rattle.spec_language.specs.Code.{off, on, copy, restore, load, fetch, save, defer, move, push, apply, postfix, inOrder, copyPart, firstPart, secondPart, restorePart, code}
 use Rattle.spec_language.proofs.Examples.{W}
-use Rattle.format_image.specs.Image.{codeWords, codeStart}
+use Rattle.format_image.specs.Table.{codeWords}
+use Rattle.format_image.specs.Image.{codeStart}
 
 pub two-words-each :
     codeWords (off ∷ on ∷ copy 5 ∷ restore 6 ∷ push 7 ∷ load 8 ∷ fetch 9 ∷ apply 14 ∷ save 63 ∷ defer 1 ∷ move 2 ∷ [])

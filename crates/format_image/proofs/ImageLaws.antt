@@ -19,9 +19,11 @@ use Rattle.spec_language.specs.Order.{upTo}
 use Rattle.spec_language.specs.Code.{Instr, off, secondPart, restorePart, code, members}
 use Rattle.spec_language.proofs.Laws.{length-upTo, getD-upTo}
 use Rattle.spec_semantics.specs.Meaning.{at, fresh}
-use Rattle.format_layout.specs.Layout.{eventWord, tableFits}
+use Rattle.format_layout.specs.Layout.{eventWord}
+use Rattle.format_layout.specs.Foreign.{tableFits}
 use Rattle.format_layout.proofs.BoundsLaws.{fit-table}
-use Rattle.format_image.specs.Image.{operation, constant, codeWords, allCode, codeStart, eventRecord, padded, kindNumber, passivesCode, beforePassives, tableCode, passivesAt, kindWords, passiveWords, boardWords, imageWords, putWords, tableOf}
+use Rattle.format_image.specs.Image.{operation, constant, codeStart}
+use Rattle.format_image.specs.Table.{codeWords, allCode, eventRecord, padded, kindNumber, passivesCode, beforePassives, tableCode, passivesAt, kindWords, passiveWords, boardWords, imageWords, putWords, tableOf}
 use Rattle.format_image.proofs.PutWords.{length-putWords}
 
 -- ---- lists

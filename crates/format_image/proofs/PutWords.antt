@@ -6,7 +6,7 @@ use native.Mathlib.Omega.{arith}
 use lib.ListN.{length}
 use Rattle.lib_word.specs.Word.{put}
 use Rattle.lib_word.proofs.Laws.{length-put}
-use Rattle.format_image.specs.Image.{putWords}
+use Rattle.format_image.specs.Table.{putWords}
 
 pub length-putWords : (l : List ℕ) (k : ℕ) (ws : List ℕ) → length (putWords l k ws) ≡ length l
 unfolding putWords

@@ -11,9 +11,10 @@ use lib.Dec.{ltb, leb, eqb}
 use borrow.Author.Tests.{ltb-true, ltb-false, le-ltb, leb-true, leb-false, le-leb, ne-eqb, eqb-true, eqb-false}
 use Rattle.lib_base.specs.Basics.{pick}
 use Rattle.lib_base.proofs.Tools.{past, through, split}
-use Rattle.format_layout.specs.Layout.{eventCount, behaviourCount, eventWord, codeFits, codesFit, tableWith, tableFits}
+use Rattle.format_layout.specs.Layout.{eventCount, behaviourCount, eventWord}
+use Rattle.format_layout.specs.Foreign.{codeFits, codesFit, tableWith, tableFits}
 use Rattle.format_layout.specs.Layout.{eventOf, playerOf, waitingCount, runningFlag, runningWord, runningEvent, position, depth, wordAt, eventAt}
-use Rattle.format_layout.specs.Layout.{handFits, slotsFit, runningFits, roundWith, roundIn, roundFits, ours}
+use Rattle.format_layout.specs.Foreign.{handFits, slotsFit, runningFits, roundWith, roundIn, roundFits, ours}
 use Rattle.format_layout.specs.Bounds.{TableBounds, RoundBounds, Bounds}
 
 -- ---- the table

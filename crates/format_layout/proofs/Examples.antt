@@ -8,8 +8,9 @@ use mathlib.Core.Path.{_≡_, refl}
 use mathlib.Core.List.{List, [], _∷_}
 use lib.ListN.{length}
 use Rattle.lib_word.specs.Word.{get, getAt}
-use Rattle.format_layout.specs.Layout.{eventCount, behaviourCount, eventWord, codeFits, codesFit, tableWith, tableFits, handWord, handFits, slotsFit, runningFits, roundWith, roundIn, roundFits}
-use Rattle.format_layout.specs.Round.{freshOf}
+use Rattle.format_layout.specs.Layout.{eventCount, behaviourCount, eventWord}
+use Rattle.format_layout.specs.Foreign.{codeFits, codesFit, tableWith, tableFits, handWord, handFits, slotsFit, runningFits, roundWith, roundIn, roundFits}
+use Rattle.format_layout.specs.Fresh.{freshOf}
 
 -- "table or round shorter than stated"
 pub table-length : (t : List ℕ) → ((length t ≡ 34815 → tableFits t ≡ false) × (length t ≡ 34816 → tableFits t ≡ tableWith t (eventCount t) (behaviourCount t)))

@@ -12,11 +12,9 @@
 -- applications ran over (02, M-104); from 8 on the queue, of each of 64 waiting its number, and its event and player;
 -- from 136 the store (01: board), 200 scratch, 264 deferred values (01: places), 328 the evaluation stack, 64 words
 -- each. Event and player are one word, player * 256 + event (02, M-107: "the hand .. keep[s] it").
-use Prim.Native.Nat.{ℕ, zero, suc, _+_, _*_, _-_, _/_, _%_}
-use mathlib.Core.Bool.{Bool, true, false}
+use Prim.Native.Nat.{ℕ, _+_, _*_, _/_, _%_}
 use mathlib.Core.List.{List}
-use lib.ListN.{length}
-use lib.Dec.{ltb, leb, eqb}
+use lib.Dec.{ltb}
 use Rattle.lib_base.specs.Basics.{pick}
 use Rattle.lib_word.specs.Word.{get}
 
@@ -32,6 +30,13 @@ behaviourCount t = get t 1
 unfoldable pub eventWord : List ℕ → ℕ → ℕ → ℕ
 eventWord t e k = pick (ltb e 32) (get t (8 + e * 4 + k)) 0
 
+-- of instruction k operation and slot, and its constant
+abbrev pub operationAt : List ℕ → ℕ → ℕ
+operationAt t k = get t (512 + k * 2)
+
+abbrev pub constantAt : List ℕ → ℕ → ℕ
+constantAt t k = get t (513 + k * 2)
+
 -- who may see behaviour i, and who may send event e
 abbrev pub viewersAt : List ℕ → ℕ → ℕ
 viewersAt t i = get t (200 + i)
@@ -39,36 +44,13 @@ viewersAt t i = get t (200 + i)
 abbrev pub sendersAt : List ℕ → ℕ → ℕ
 sendersAt t e = get t (264 + e)
 
--- not 0 where behaviour i is a passive; where the stretch of instructions that works the passives out begins, and its
--- length
-abbrev pub kindAt : List ℕ → ℕ → ℕ
-kindAt t i = get t (296 + i)
-
 abbrev pub passivesStart : List ℕ → ℕ
 passivesStart t = get t 360
 
 abbrev pub passivesLength : List ℕ → ℕ
 passivesLength t = get t 361
 
--- code from `start` on, of len instructions, lies within 4,096
-unfoldable pub codeFits : ℕ → ℕ → Bool
-codeFits start len = pick (ltb 4096 start) false (leb len (4096 - start))
-
-unfoldable pub codesFit : List ℕ → ℕ → Bool
-codesFit t zero = true
-codesFit t (suc n) = pick (codeFits (eventWord t n 1) (eventWord t n 2)) (codesFit t n) false
-
--- n events and b behaviours
-unfoldable pub tableWith : List ℕ → ℕ → ℕ → Bool
-tableWith t n b = pick (ltb 32 n) false (pick (ltb 64 b) false (codesFit t n))
-
-unfoldable pub tableFits : List ℕ → Bool
-tableFits t = pick (ltb (length t) 34816) false (tableWith t (eventCount t) (behaviourCount t))
-
 -- ---- an arrival's event and player in one word
-
-abbrev pub handWord : ℕ → ℕ → ℕ
-handWord e who = who * 256 + e
 
 abbrev pub eventOf : ℕ → ℕ
 eventOf w = w % 256
@@ -76,7 +58,19 @@ eventOf w = w % 256
 abbrev pub playerOf : ℕ → ℕ
 playerOf w = w / 256
 
--- ---- the round
+-- ---- the round: where board, scratch, places and stack begin
+
+abbrev pub storeStart : ℕ
+storeStart = 136
+
+abbrev pub scratchStart : ℕ
+scratchStart = 200
+
+abbrev pub deferredStart : ℕ
+deferredStart = 264
+
+abbrev pub stackStart : ℕ
+stackStart = 328
 
 abbrev pub taken : List ℕ → ℕ
 taken l = get l 0
@@ -113,32 +107,3 @@ wordAt l i = get l (9 + i * 2)
 
 abbrev pub eventAt : List ℕ → ℕ → ℕ
 eventAt l i = eventOf (wordAt l i)
-
--- w is the word of one of `known` events and one of eight players: 02, M-107: "14, which also covers such a player in
--- hand"
-unfoldable pub handFits : ℕ → ℕ → Bool
-handFits known w = pick (leb known (eventOf w)) false (ltb (playerOf w) 8)
-
--- so are those of the first n waiting
-unfoldable pub slotsFit : List ℕ → ℕ → ℕ → Bool
-slotsFit l known zero = true
-slotsFit l known (suc n) = pick (handFits known (wordAt l n)) (slotsFit l known n) false
-
--- n wait; f: one runs, whose word fits or not, c of its len instructions done
-unfoldable pub runningFits : ℕ → ℕ → Bool → ℕ → ℕ → Bool
-runningFits n f fits c len = pick (eqb f 0) true (pick (ltb 63 n) false (pick fits (ltb c len) false))
-
-unfoldable pub roundWith : List ℕ → ℕ → ℕ → ℕ → Bool → Bool
-roundWith l n known d running = pick (ltb 64 n) false (pick (ltb 64 d) false (pick running (slotsFit l known n) false))
-
-unfoldable pub roundIn : List ℕ → List ℕ → Bool
-roundIn t l =
-    roundWith l (waitingCount l) (eventCount t) (depth l)
-    (runningFits (waitingCount l) (runningFlag l) (handFits (eventCount t) (runningWord l)) (position l) (eventWord t (runningEvent l) 2))
-
-unfoldable pub roundFits : List ℕ → List ℕ → Bool
-roundFits t l = pick (ltb (length l) 2048) false (roundIn t l)
-
--- neither is foreign
-unfoldable pub ours : List ℕ → List ℕ → Bool
-ours t l = pick (tableFits t) (roundFits t l) false

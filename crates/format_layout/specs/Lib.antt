@@ -1,3 +1,5 @@
 pub mod Layout
+pub mod Foreign
 pub mod Bounds
 pub mod Round
+pub mod Fresh

@@ -2,10 +2,6 @@
 -- values, .., an empty hand."
 use Prim.Native.Nat.{ℕ}
 use mathlib.Core.List.{List}
-use Rattle.format_layout.specs.declared.round.Round.{Round}
-
-abbrev pub freshOf : List ℕ → Round
-freshOf store = record { taken = 0; waiting = 0; running = 0; store = store }
 
 -- a call's answer, and the round's bytes after it
 abbrev pub CallResult : Type 0

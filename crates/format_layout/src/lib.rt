@@ -6,7 +6,8 @@ ghost use mathlib.Core.Bool.{true};
 ghost use Prim.Native.Nat.{_+_, _*_, _≤_, _<_};
 ghost use lib.ListN.{length};
 ghost use Rattle.lib_word.specs.Word.{get};
-ghost use Rattle.format_layout.specs.Layout.{eventWord, eventOf, playerOf, codeFits, codesFit, tableFits};
+ghost use Rattle.format_layout.specs.Layout.{eventWord, eventOf, playerOf};
+ghost use Rattle.format_layout.specs.Foreign.{codeFits, codesFit, tableFits};
 ghost use Rattle.format_layout.specs.Bounds.{TableBounds};
 
 pub mod operations;

@@ -1,7 +1,7 @@
 // The round's own type: what a fresh one is, its limits, and where its words stand in its bytes (specs/Layout.antt).
 use spec_language::limits;
 ghost use mathlib.Core.Path.{_≡_};
-ghost use Rattle.format_layout.specs.Round.{freshOf};
+ghost use Rattle.format_layout.specs.Fresh.{freshOf};
 
 // A round (01's word) as it begins: number taken in, waiting count, whether one runs, the store. Its other words are 0.
 pub struct Round {

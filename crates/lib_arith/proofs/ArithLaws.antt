@@ -1,16 +1,19 @@
 -- Words and the numbers that they stand for: a word comes back, and it is true unless it is 0; which numbers differ
 -- from their word's reading, and what an answer with a mark says. By the two cases of `signed`.
 use Prim.Native.Nat.{ℕ, _-_, _%_, _^_, _≤_, _<_}
-use mathlib.Core.Bool.{Bool, true, false, not}
+use mathlib.Core.Bool.{Bool, true, false, not, _||_}
 use mathlib.Core.Path.{_≡_, refl, sym, _∙_}
 use mathlib.Core.Logic.{_≢_}
 use native.Mathlib.Omega.{arith}
 use lib.Dec.{ltb, eqb}
 use lib.IntN.{ℤ, pos, negsuc}
+use lib.Signed.{ltZ}
 use borrow.Author.Tests.{ltb-true, ltb-false, lt-ltb, le-ltb, eq-eqb, ne-eqb}
 use Rattle.lib_base.proofs.Tools.{by-test, split}
-use Rattle.lib_arith.specs.Exact.{signed, wrapped, differZ, beyond, packed}
-use Rattle.lib_arith.specs.Functions.{isTrue, truth, exact, result, over, markedResult}
+use Rattle.lib_arith.specs.Exact.{signed, wrapped, beyond}
+use Rattle.lib_arith.specs.Marked.{packed}
+use Rattle.lib_arith.specs.Functions.{isTrue, truth, exact, result, over}
+use Rattle.lib_arith.specs.Marked.{markedResult}
 
 -- a word stands for a number whose word it is
 pub wrapped-signed : (a : ℕ) → a < 2 ^ 32 → wrapped (signed a) ≡ a
@@ -31,21 +34,21 @@ isTrue-signed a =
 pub beyond-pos : (n : ℕ) → beyond (pos n) ≡ ltb 2147483647 n
 unfolding beyond
 beyond-pos n =
-    by-test (λ z. differZ (pos n) z ≡ ltb 2147483647 n) (ltb (n % 2 ^ 32) (2 ^ 31))
+    by-test (λ z. (ltZ (pos n) z || ltZ z (pos n)) ≡ ltb 2147483647 n) (ltb (n % 2 ^ 32) (2 ^ 31))
     (λ e. split (ltb 2147483647 n)
-    (λ t. rw (t, ne-eqb n (n % 2 ^ 32) (omega (arith, ltb-true (n % 2 ^ 32) (2 ^ 31) e, ltb-true 2147483647 n t))))
-    (λ t. rw (t, eq-eqb n (n % 2 ^ 32) (omega (arith, ltb-false 2147483647 n t)))))
+    (λ t. rw (t, le-ltb n (n % 2 ^ 32) (omega arith), lt-ltb (n % 2 ^ 32) n (omega (arith, ltb-true (n % 2 ^ 32) (2 ^ 31) e, ltb-true 2147483647 n t))))
+    (λ t. rw (t, le-ltb n (n % 2 ^ 32) (omega arith), le-ltb (n % 2 ^ 32) n (omega (arith, ltb-false 2147483647 n t)))))
     (λ e. sym (lt-ltb 2147483647 n (omega (arith, ltb-false (n % 2 ^ 32) (2 ^ 31) e))))
 
 pub beyond-neg : (n : ℕ) → beyond (negsuc n) ≡ ltb 2147483647 n
 unfolding beyond
 beyond-neg n =
     let w : ℕ = 2 ^ 32 - 1 - n % 2 ^ 32 in
-    by-test (λ z. differZ (negsuc n) z ≡ ltb 2147483647 n) (ltb w (2 ^ 31))
+    by-test (λ z. (ltZ (negsuc n) z || ltZ z (negsuc n)) ≡ ltb 2147483647 n) (ltb w (2 ^ 31))
     (λ e. sym (lt-ltb 2147483647 n (omega (arith, ltb-true w (2 ^ 31) e))))
     (λ e. split (ltb 2147483647 n)
-    (λ t. rw (t, ne-eqb n (2 ^ 32 - 1 - w) (omega (arith, ltb-false w (2 ^ 31) e, ltb-true 2147483647 n t))))
-    (λ t. rw (t, eq-eqb n (2 ^ 32 - 1 - w) (omega (arith, ltb-false 2147483647 n t)))))
+    (λ t. rw (t, lt-ltb (2 ^ 32 - 1 - w) n (omega (arith, ltb-false w (2 ^ 31) e, ltb-true 2147483647 n t))))
+    (λ t. rw (t, le-ltb n (2 ^ 32 - 1 - w) (omega arith), le-ltb (2 ^ 32 - 1 - w) n (omega (arith, ltb-false 2147483647 n t)))))
 
 -- what a word stands for is not one of them, nor is what a test gives
 pub word-within : (a : ℕ) → a < 2 ^ 32 → beyond (signed a) ≡ false

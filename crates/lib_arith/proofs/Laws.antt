@@ -10,7 +10,8 @@ use lib.IntN.{ℤ, pos, negsuc, negℤ, subℕ, _+ℤ_, _-ℤ_, _*ℤ_}
 use lib.Signed.{ltZ}
 use borrow.Author.Tests.{ltb-true, ltb-false, lt-ltb, le-ltb, eq-eqb, ne-eqb}
 use Rattle.lib_base.specs.Basics.{pick}
-use Rattle.lib_arith.specs.Exact.{signed, wrapped, beyond, reported}
+use Rattle.lib_arith.specs.Exact.{signed, wrapped, beyond}
+use Rattle.lib_arith.specs.Marked.{reported}
 use Rattle.lib_arith.specs.Functions.{ceiling, floorZ, isTrue, truth}
 use Rattle.lib_arith.proofs.ArithLaws.{wrapped-signed, isTrue-signed, word-within}
 

@@ -6,7 +6,7 @@ use lib.Dec.{eqb}
 use lib.IntN.{ℤ, pos, negsuc, negℤ, _+ℤ_, _-ℤ_, _*ℤ_}
 use lib.Signed.{ltZ}
 use Rattle.lib_base.specs.Basics.{pick}
-use Rattle.lib_arith.specs.Exact.{signed, wrapped, beyond, packed}
+use Rattle.lib_arith.specs.Exact.{signed, wrapped, beyond}
 
 -- "Zero is false, all else true; tests give 1 or 0."
 abbrev pub isTrue : ℤ → Bool
@@ -57,10 +57,6 @@ result f a b c = wrapped (exact f (signed a) (signed b) (signed c))
 -- M-104: "whether its exact whole-number result differed from the 32-bit one, or the divisor was zero"
 unfoldable pub over : ℕ → ℕ → ℕ → ℕ → Bool
 over f a b c = (eqb f 7 && eqb b 0) || beyond (exact f (signed a) (signed b) (signed c))
-
--- "Each function's answer shall also say": the 32-bit result, and 2^32 more where it ran over
-unfoldable pub markedResult : ℕ → ℕ → ℕ → ℕ → ℕ
-markedResult f a b c = packed (result f a b c) (over f a b c)
 
 -- "`!` needs one, `if` three, the others two."
 unfoldable pub arity : ℕ → ℕ

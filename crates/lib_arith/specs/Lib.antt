@@ -1,2 +1,3 @@
 pub mod Exact
 pub mod Functions
+pub mod Marked

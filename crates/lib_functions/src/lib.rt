@@ -6,8 +6,10 @@ ghost use mathlib.Core.Path.{_≡_};
 ghost use Prim.Native.Nat.{_≤_};
 ghost use lib.Signed.{ltZ};
 ghost use Rattle.lib_base.specs.Basics.{pick};
-ghost use Rattle.lib_arith.specs.Exact.{signed, reported};
-ghost use Rattle.lib_arith.specs.Functions.{isTrue, truth, result, markedResult, arity};
+ghost use Rattle.lib_arith.specs.Exact.{signed};
+ghost use Rattle.lib_arith.specs.Marked.{reported};
+ghost use Rattle.lib_arith.specs.Functions.{isTrue, truth, result, arity};
+ghost use Rattle.lib_arith.specs.Marked.{markedResult};
 
 // What a test gives: 1 or 0.
 fn bit(t: bool) -> u64

@@ -1,7 +1,8 @@
 -- Worked examples, by computation: words and halves in bytes. 01: "Numbers of several bytes are big-endian."
 use mathlib.Core.Path.{_≡_, refl}
 use mathlib.Core.List.{[], _∷_}
-use Rattle.lib_word.specs.Word.{getAt, get, put, swapBytes, words, pile, getHalf, putHalf}
+use Rattle.lib_word.specs.Word.{getAt, get, put, words, pile}
+use Rattle.lib_word.specs.Halves.{swapBytes, getHalf, putHalf}
 
 -- 16,909,060 is 1, 2, 3, 4 by 256, and 84,281,096 is 5, 6, 7, 8
 pub two-words : words (1 ∷ 2 ∷ 3 ∷ 4 ∷ 5 ∷ 6 ∷ 7 ∷ 8 ∷ []) 0 2 ≡ 16909060 ∷ 84281096 ∷ []

@@ -12,7 +12,8 @@ use lib.Dec.{ltb, leb, eqb}
 use borrow.Author.Tests.{ltb-true, leb-true, eqb-true, eqb-false}
 use Rattle.lib_base.specs.Basics.{pick}
 use Rattle.lib_base.proofs.Tools.{by-test}
-use Rattle.lib_word.specs.Word.{getAt, get, put, words, pile, getHalf, putHalf}
+use Rattle.lib_word.specs.Word.{getAt, get, put, words, pile}
+use Rattle.lib_word.specs.Halves.{getHalf, putHalf}
 
 -- the round's bytes are all there
 unfoldable pub long : List ℕ → Bool

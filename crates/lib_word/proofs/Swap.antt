@@ -2,7 +2,7 @@
 use Prim.Native.Nat.{ℕ, _+_, _*_, _/_, _%_, _<_}
 use mathlib.Core.Path.{_≡_}
 use native.Mathlib.Omega.{arith}
-use Rattle.lib_word.specs.Word.{swapBytes}
+use Rattle.lib_word.specs.Halves.{swapBytes}
 
 -- the word of four bytes, the first the lowest
 unfoldable pub little : ℕ → ℕ → ℕ → ℕ → ℕ

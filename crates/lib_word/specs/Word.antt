@@ -16,10 +16,6 @@ unfoldable pub put : List ℕ → ℕ → ℕ → List ℕ
 put l k w =
     set (set (set (set l (k * 4) (w / 16777216)) (k * 4 + 1) (w / 65536 % 256)) (k * 4 + 2) (w / 256 % 256)) (k * 4 + 3) (w % 256)
 
--- a word with its four bytes in the other order
-unfoldable pub swapBytes : ℕ → ℕ
-swapBytes w = ((w % 256 * 256 + w / 256 % 256) * 256 + w / 65536 % 256) * 256 + w / 16777216
-
 -- n words from word a on
 unfoldable pub words : List ℕ → ℕ → ℕ → List ℕ
 words l a zero = []
@@ -29,11 +25,3 @@ words l a (suc n) = get l a ∷ words l (suc a) n
 unfoldable pub pile : List ℕ → ℕ → ℕ → List ℕ
 pile l a zero = []
 pile l a (suc n) = get l (a + n) ∷ pile l a n
-
--- the half of two bytes from byte i on
-unfoldable pub getHalf : List ℕ → ℕ → ℕ
-getHalf l i = getD l i 0 * 256 + getD l (i + 1) 0
-
--- h put at byte i
-unfoldable pub putHalf : List ℕ → ℕ → ℕ → List ℕ
-putHalf l i h = set (set l i (h / 256)) (i + 1) (h % 256)

@@ -2,7 +2,8 @@
 ghost use mathlib.Core.Path.{_≡_};
 ghost use Prim.Native.Nat.{_+_, _*_, _≤_, _<_};
 ghost use lib.ListN.{length};
-ghost use Rattle.lib_word.specs.Word.{getAt, get, put, swapBytes, getHalf, putHalf};
+ghost use Rattle.lib_word.specs.Word.{getAt, get, put};
+ghost use Rattle.lib_word.specs.Halves.{swapBytes, getHalf, putHalf};
 
 // The bytes of a word.
 pub const WORD_BYTES: usize = 4;

@@ -21,8 +21,9 @@ use Rattle.link_events.specs.Written.{BytesWritten}
 use Rattle.link_bytes.specs.Splice.{spliced}
 use Rattle.link_bytes.proofs.Spliced.{spliced-are, ranks-agree}
 use Rattle.back_compile.proofs.AcceptedExactly.{accepted-exactly}
-use Rattle.back_compile.specs.Verdict.{numberOn}
-use Rattle.link_join.specs.Join.{Joined, joined, deliveredIn, resultOn, poolOn, poolRead, joinOn}
+use Rattle.back_compile.specs.Number.{numberOn}
+use Rattle.link_join.specs.Join.{deliveredIn, resultOn, poolOn, poolRead, joinOn}
+use Rattle.link_join.specs.Joined.{Joined, joined}
 
 -- a sheet that compile takes
 pub record AcceptedSheet (s ps : List ℕ) : Type 0 where

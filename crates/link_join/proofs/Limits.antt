@@ -24,7 +24,9 @@ use Rattle.link_pooled.specs.Pooled.{count, pooled}
 use Rattle.link_pooled.proofs.PooledAccepted.{Nearly, pooled-nearly}
 use Rattle.check_faults.specs.Faults.{known, cyclic}
 use Rattle.check_faults.proofs.CycleDecides.{known-decides, cyclic-decides}
-use Rattle.back_compile.specs.Verdict.{Compiled, judge, programOf, judgeRead, numberOn}
+use Rattle.back_compile.specs.Verdict.{judge, judgeRead}
+use Rattle.back_compile.specs.Number.{numberOn}
+use Rattle.back_compile.specs.Compiled.{Compiled, programOf}
 use Rattle.back_compile.proofs.JudgeLaws.{judge-long, judge-passes, compile-opens, compile-long}
 use Rattle.back_compile.specs.Statements.{FirstUnmet}
 use Rattle.back_compile.proofs.AcceptedExactly.{given-is}

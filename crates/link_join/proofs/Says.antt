@@ -17,22 +17,27 @@ use Rattle.spec_language.specs.Syntax.{Program}
 use Rattle.spec_language.specs.Sheet.{Sheet}
 use Rattle.spec_language.specs.Grammar.{encode}
 use Rattle.spec_language.specs.Dependence.{events}
-use Rattle.spec_language.specs.Accepted.{Valid, SheetAccepted}
+use Rattle.spec_language.specs.Accepted.{SheetAccepted}
+use Rattle.spec_language.specs.Valid.{Valid}
 use Rattle.spec_language.specs.Reading.{Got, bad, got, readSheet}
 use Rattle.spec_language.specs.Code.{allInstructions}
 use Rattle.spec_grammar.proofs.Programs.{reads-back}
-use Rattle.spec_semantics.specs.Meaning.{fresh, play}
+use Rattle.spec_semantics.specs.Meaning.{fresh}
+use Rattle.spec_semantics.specs.Event.{play}
 use Rattle.spec_semantics.specs.Plays.{Plays}
 use Rattle.link_pooled.specs.Pooled.{pooled, sameRanks, count}
-use Rattle.link_pooled.specs.Together.{together, declared}
+use Rattle.link_pooled.specs.Together.{together}
+use Rattle.link_pooled.specs.Declared.{declared}
 use Rattle.link_pooled.proofs.Halves.{halves, rules-halves}
 use Rattle.link_pooled.proofs.Filled.{fill-pooled}
 use Rattle.link_pooled.proofs.PooledAccepted.{valid-filling, pooled-valid, pooled-accepted}
 use Rattle.draft_params.proofs.Fills.{get-small}
-use Rattle.back_compile.specs.Verdict.{programOf, numberOn}
+use Rattle.back_compile.specs.Number.{numberOn}
+use Rattle.back_compile.specs.Compiled.{programOf}
 use Rattle.back_compile.specs.Statements.{FirstUnmet}
 use Rattle.back_compile.proofs.AcceptedExactly.{accepted-number}
-use Rattle.link_join.specs.Join.{Joined, deliveredIn, resultOn, poolOn, poolRead, joinOn}
+use Rattle.link_join.specs.Join.{deliveredIn, resultOn, poolOn, poolRead, joinOn}
+use Rattle.link_join.specs.Joined.{Joined}
 use Rattle.link_join.specs.Statements.{limits, JoinOrder}
 use Rattle.link_join.proofs.JoinLaws.{AcceptedSheet}
 use Rattle.link_join.proofs.Limits.{pooled-number}

@@ -14,14 +14,8 @@ use Rattle.spec_language.specs.Sheet.{Sheet}
 use Rattle.spec_language.specs.Grammar.{encode}
 use Rattle.spec_language.specs.Reading.{Got, bad, got, readSheet}
 use Rattle.link_pooled.specs.Pooled.{pooled, sameRanks}
-use Rattle.back_compile.specs.Verdict.{numberOn}
-
--- an answer, and the buffer's bytes after the call
-abbrev pub Joined : Type 0
-Joined = ℕ × List ℕ
-
-abbrev pub joined : ℕ → List ℕ → Joined
-joined r l = (r, l)
+use Rattle.back_compile.specs.Number.{numberOn}
+use Rattle.link_join.specs.Joined.{Joined, joined}
 
 -- the bytes v at the start of the buffer: 2^32 and their number, as `formula` answers
 unfoldable pub deliveredIn : List ℕ → List ℕ → Joined

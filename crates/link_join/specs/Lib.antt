@@ -1,2 +1,3 @@
+pub mod Joined
 pub mod Join
 pub mod Statements

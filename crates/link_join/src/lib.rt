@@ -6,8 +6,9 @@ ghost use mathlib.Core.Path.{_≡_};
 ghost use Prim.Native.Nat.{_≤_};
 ghost use lib.ListN.{length};
 ghost use Rattle.spec_language.specs.Reading.{readSheet};
-ghost use Rattle.back_compile.specs.Verdict.{numberOn};
-ghost use Rattle.link_join.specs.Join.{joined, deliveredIn, resultOn, poolRead, joinOn};
+ghost use Rattle.back_compile.specs.Number.{numberOn};
+ghost use Rattle.link_join.specs.Join.{deliveredIn, resultOn, poolRead, joinOn};
+ghost use Rattle.link_join.specs.Joined.{joined};
 
 // The most bytes of a joined sheet: those of both, and five for each event.
 const JOINED_BYTES: usize = limits::SHEET_BYTES * 2

@@ -11,7 +11,7 @@ use Rattle.spec_language.specs.Sheet.{variable, apply2, formula, state, row, Si
 use Rattle.spec_language.specs.Grammar.{encodeEvents}
 use Rattle.spec_language.specs.Reading.{entry, signal, sheet}
 use Rattle.link_pooled.specs.Pooled.{mergedByNumber, poolSignals, sameRanks, pooled}
-use Rattle.link_pooled.specs.Together.{declared}
+use Rattle.link_pooled.specs.Declared.{declared}
 
 -- no byte in either; 134, player 7 too, in the second alone; in the first alone; in both, 6 and 3
 abbrev ones : List Signal

@@ -16,10 +16,11 @@ use Rattle.lib_base.specs.Basics.{All}
 use Rattle.lib_base.proofs.Tools.{split, by-elim, all-at}
 use Rattle.spec_language.specs.Syntax.{Expr, Behaviour, passive, active, Program}
 use Rattle.spec_language.specs.Dependence.{Response, follows, takes, defers, keeps, respond, size, events, noEvent, behaviourAt, response, needs, isActive}
-use Rattle.spec_language.specs.Grammar.{BehaviourFits}
-use Rattle.spec_language.specs.Accepted.{Valid}
+use Rattle.spec_language.specs.Fits.{BehaviourFits}
+use Rattle.spec_language.specs.Valid.{Valid}
 use Rattle.spec_language.proofs.Laws.{getD-upTo, named-in, ResponseNamesIn, response-names}
-use Rattle.spec_semantics.specs.Meaning.{value, at, firstPhase, event, startOf, starts, fresh, play, Consistent}
+use Rattle.spec_semantics.specs.Meaning.{value, at, firstPhase, startOf, starts, fresh}
+use Rattle.spec_semantics.specs.Event.{event, play, Consistent}
 use Rattle.spec_semantics.proofs.OrderLaws.{by-needs}
 use Rattle.spec_semantics.proofs.Solution.{firstOf, secondOf, value-same, first-local, first-solves, event-length, event-solves, passives-unique}
 use Rattle.spec_semantics.proofs.Handlers.{undeclared-keeps}
@@ -27,7 +28,8 @@ use Rattle.spec_semantics.proofs.Lengths.{length-starts, length-fresh}
 use Rattle.spec_semantics.proofs.Agreement.{event-consistent, fresh-consistent}
 use Rattle.spec_semantics.specs.Plays.{Plays}
 use Rattle.spec_semantics.proofs.PlaysLaws.{plays, plays-alone}
-use Rattle.link_pooled.specs.Together.{moveExpr, moveBehaviour, together, declared}
+use Rattle.link_pooled.specs.Together.{moveExpr, moveBehaviour, together}
+use Rattle.link_pooled.specs.Declared.{declared}
 use Rattle.link_pooled.proofs.Moving.{Part, moveResponse, value-moved, first-moved, second-moved, response-moved, size-together, first-part, second-part}
 
 -- ---- one part p of r, its behaviours from number n on

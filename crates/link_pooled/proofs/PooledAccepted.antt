@@ -15,7 +15,8 @@ use Rattle.spec_language.specs.Sheet.{Term, Clause, clause, Item, formula, stat
 use Rattle.spec_language.specs.Dependence.{size, NoCycle}
 use Rattle.spec_language.specs.Grammar.{TermFits, t-literal, t-variable, t-param, t-apply1, t-apply2, t-apply3, NoClauseFor, ClausesFit, ItemFits, ByteFits, SignalFits, EntryFits, encode}
 use Rattle.spec_language.specs.Code.{allInstructions}
-use Rattle.spec_language.specs.Accepted.{NamesIn, HandlerNamesIn, BehaviourNamesIn, Known, SheetAccepted, Valid}
+use Rattle.spec_language.specs.Accepted.{NamesIn, HandlerNamesIn, BehaviourNamesIn, Known, SheetAccepted}
+use Rattle.spec_language.specs.Valid.{Valid}
 use Rattle.spec_language.proofs.RowLaws.{count-append}
 use Rattle.spec_language.proofs.SheetLaws.{filling-accepted}
 use Rattle.link_pooled.specs.Pooled.{mergedByNumber, bothSend, poolSignal, poolSignals, moveTerm, moveEntries, count, pooled}

@@ -12,8 +12,9 @@ use Rattle.lib_base.specs.Basics.{All}
 use Rattle.lib_base.proofs.Tools.{all-imp, all-join, all-at-or}
 use Rattle.spec_language.specs.Syntax.{Expr, con, name, app1, app2, app3, Handler, handler, Behaviour, passive, active, Program}
 use Rattle.spec_language.specs.Dependence.{respond, size, events, noEvent, behaviourAt, needs, dependsOn, Reach, one, more, Acyclic}
-use Rattle.spec_language.specs.Grammar.{Nested, n-con, n-name, n-app1, n-app2, n-app3, NoneFor, HandlersFit, BehaviourFits}
-use Rattle.spec_language.specs.Accepted.{NamesIn, HandlerNamesIn, BehaviourNamesIn, Known, Valid}
+use Rattle.spec_language.specs.Fits.{Nested, n-con, n-name, n-app1, n-app2, n-app3, NoneFor, HandlersFit, BehaviourFits}
+use Rattle.spec_language.specs.Accepted.{NamesIn, HandlerNamesIn, BehaviourNamesIn, Known}
+use Rattle.spec_language.specs.Valid.{Valid}
 use Rattle.spec_language.proofs.Laws.{depends-within}
 use Rattle.spec_semantics.proofs.Handlers.{undeclared-keeps}
 use Rattle.link_pooled.specs.Pooled.{mergedByNumber}

@@ -1,2 +1,3 @@
 pub mod Pooled
+pub mod Declared
 pub mod Together

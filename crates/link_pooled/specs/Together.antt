@@ -2,12 +2,10 @@
 -- commits, each half of the joined board equals that sheet's own board, events that it doesn't declare being passed
 -- over."
 use Prim.Native.Nat.{ℕ, _+_}
-use mathlib.Core.Bool.{true, false}
-use mathlib.Core.List.{List, [], _∷_, _++_, map}
-use lib.Dec.{ltb}
+use mathlib.Core.List.{List, _++_, map}
 use lib.Bits.{bitAnd}
 use Rattle.spec_language.specs.Syntax.{Expr, con, name, app1, app2, app3, Handler, handler, Behaviour, passive, active, Program}
-use Rattle.spec_language.specs.Dependence.{size, events}
+use Rattle.spec_language.specs.Dependence.{size}
 use Rattle.link_pooled.specs.Pooled.{mergedByNumber}
 
 -- names moved up by n
@@ -36,8 +34,3 @@ together p q = record {
   behaviours = p .behaviours ++ map (moveBehaviour (size p)) (q .behaviours);
   viewers = p .viewers ++ q .viewers;
 }
-
--- the events of a list that a program declares, in their order
-unfoldable pub declared : Program → List ℕ → List ℕ
-declared p [] = []
-declared p (e ∷ es) = elim (ltb e (events p)) [ true ↦ e ∷ declared p es | false ↦ declared p es ]

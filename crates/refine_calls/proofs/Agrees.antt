@@ -15,7 +15,7 @@ use Rattle.lib_word.proofs.Laws.{long}
 use Rattle.spec_language.specs.Syntax.{Program}
 use Rattle.spec_language.specs.Dependence.{size, events}
 use Rattle.spec_language.specs.Code.{off, code, members}
-use Rattle.spec_language.specs.Accepted.{Valid}
+use Rattle.spec_language.specs.Valid.{Valid}
 use Rattle.spec_language.specs.Rights.{maySend, maySee}
 use Rattle.spec_execution.specs.Execution.{Values, execute}
 use Rattle.spec_execution.specs.CodeFacts.{CodeFacts, maskedAt, copyingBackAt}
@@ -26,15 +26,19 @@ use Rattle.spec_model.specs.Model.{Arrival, Running, rest, busy, Engine, engine
 use Rattle.spec_model.specs.Model as model
 use Rattle.spec_model.proofs.Choice.{numbers, distinct-numbers, perm-rest, Leads, leads-trans, before-says, choose-perm, choose-first, one-next}
 use Rattle.spec_model.proofs.Reached.{Fine, Reached, back-perm}
-use Rattle.format_layout.specs.Layout.{eventWord, eventOf, playerOf, numberAt, wordAt, eventAt, handFits, slotsFit, runningFits, roundWith, roundIn, roundFits, ours}
+use Rattle.format_layout.specs.Layout.{eventWord, eventOf, playerOf, numberAt, wordAt, eventAt}
+use Rattle.format_layout.specs.Foreign.{handFits, slotsFit, runningFits, roundWith, roundIn, roundFits, ours}
 use Rattle.format_image.specs.Image.{operation, constant}
 use Rattle.format_image.proofs.ImageLaws.{Says}
 use Rattle.run_queue.specs.Queue.{ahead, eitherSlot, better, best, putSlot}
 use Rattle.run_instruction.specs.Instruction.{perform}
 use Rattle.run_arrive.specs.Arrivals.{queueFull, arriveWith, arriveKnown, arriveIn, arriveOn}
-use Rattle.run_board.specs.Board.{isCopyingBack, isMasked, copyBackWith, copyBackUnderWay, boardWith, boardKnown, boardIn, boardOn}
-use Rattle.run_dispatch.specs.Dispatch.{said, startAt, preemptAt}
-use Rattle.run_advance.specs.Advance.{overMark, commitSaid, countInstruction, executeOn, executeAt}
+use Rattle.run_board.specs.Board.{boardWith, boardKnown, boardIn, boardOn}
+use Rattle.run_board.specs.Masking.{isCopyingBack, isMasked, copyBackWith, copyBackUnderWay}
+use Rattle.run_dispatch.specs.Dispatch.{startAt, preemptAt}
+use Rattle.run_dispatch.specs.Said.{said}
+use Rattle.run_advance.specs.Advance.{commitSaid, countInstruction, executeOn, executeAt}
+use Rattle.run_advance.specs.Mark.{overMark}
 use Rattle.run_advance.specs.Advance as advancing
 use Rattle.run_step.specs.Machine.{meet, contestOn, whileRunning, whileResting, stepWith, stepIn, stepOn}
 use Rattle.refine_calls.specs.Refinement.{coded, arrivalOf, slots, callOn}

@@ -15,22 +15,23 @@ use Rattle.lib_base.proofs.Tools.{split}
 use Rattle.lib_word.specs.Word.{getAt, get, words}
 use Rattle.lib_word.proofs.Laws.{words-get}
 use Rattle.spec_language.specs.Syntax.{Expr, Handler, Behaviour, passive, active, Program}
-use Rattle.spec_language.specs.Accepted.{Valid}
+use Rattle.spec_language.specs.Valid.{Valid}
 use Rattle.spec_language.specs.Dependence.{size, behaviourAt, isActive}
 use Rattle.spec_language.specs.Order.{upTo}
 use Rattle.spec_language.specs.Code.{Instr}
 use Rattle.spec_language.proofs.Laws.{length-upTo, getD-upTo}
 use Rattle.spec_semantics.specs.Meaning.{at}
-use Rattle.spec_execution.specs.Execution.{Values, held, executeAll}
+use Rattle.spec_execution.specs.Execution.{Values, held}
+use Rattle.spec_execution.specs.Runs.{executeAll}
 use Rattle.spec_execution.specs.Safe.{isFilled, Safe, Matches, filledAfter as checked}
 use Rattle.spec_execution.proofs.SafeLaws.{full-some, after-matches}
 use Rattle.spec_model.specs.Carried.{carriedStart, carried}
 use Rattle.spec_model.specs.Carried as meant
 use Rattle.spec_model.proofs.Carries.{active-below, fresh-active, carried-active}
 use Rattle.spec_model.proofs.Passives.{passivesCode, passives-store, passives-right, passives-safe, passives-held}
-use Rattle.format_layout.specs.Layout.{codeFits}
-use Rattle.format_image.specs.Image.{kindNumber, passivesAt}
-use Rattle.format_image.specs.Image as image
+use Rattle.format_layout.specs.Foreign.{codeFits}
+use Rattle.format_image.specs.Table.{kindNumber, passivesAt}
+use Rattle.format_image.specs.Table as image
 use Rattle.format_image.proofs.ImageLaws.{Says}
 use Rattle.format_layout.specs.Round.{CallResult}
 use Rattle.run_stretch.specs.Stretch.{stretchFrom}

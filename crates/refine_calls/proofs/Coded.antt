@@ -19,8 +19,8 @@ use Rattle.spec_execution.specs.Execution.{Values}
 use Rattle.spec_model.specs.Model.{Arrival, rest, busy, Engine, engine, queue, Call, arrive, step, board, Answer, refused, takenIn, shows, idle, ran, started, preempted, committed, Outcome, rank, masked, inCopyBack, choose, advance, act}
 use Rattle.spec_model.proofs.Choice.{choose-perm}
 use Rattle.spec_model.proofs.Reached.{Fine, Reached}
-use Rattle.run_dispatch.specs.Dispatch.{said}
-use Rattle.run_advance.specs.Advance.{overMark}
+use Rattle.run_dispatch.specs.Said.{said}
+use Rattle.run_advance.specs.Mark.{overMark}
 use Rattle.refine_calls.specs.Refinement.{coded, stepAnswer, decoded, toldOn}
 
 -- ---- the answers to an arrival, to a step and to a board reading, events being below 256, arrivals below 2^40 and

@@ -4,7 +4,7 @@ use Prim.Native.Nat.{ℕ, _^_}
 use mathlib.Core.Bool.{true, false}
 use mathlib.Core.Path.{_≡_, refl}
 use mathlib.Core.List.{List, [], _∷_, map}
-use Rattle.run_dispatch.specs.Dispatch.{said}
+use Rattle.run_dispatch.specs.Said.{said}
 use Rattle.spec_model.specs.Model.{arrival, arrive, step, board, Answer, refused, takenIn, shows, idle, ran, started, preempted, committed}
 use Rattle.refine_calls.specs.Refinement.{coded, decoded, toldOn}
 

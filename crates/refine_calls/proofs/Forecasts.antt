@@ -11,14 +11,15 @@ use Rattle.spec_language.specs.Syntax.{Program}
 use Rattle.spec_language.specs.Dependence.{size, events}
 use Rattle.spec_language.specs.Order.{upTo}
 use Rattle.spec_language.specs.Code.{code}
-use Rattle.spec_language.specs.Accepted.{Valid}
+use Rattle.spec_language.specs.Valid.{Valid}
 use Rattle.spec_model.specs.Model.{Arrival, rest, busy, Engine, engine}
 use Rattle.spec_model.specs.Claims.{longest, stepsOf, forecast}
 use Rattle.spec_model.proofs.Reached.{Reached}
 use Rattle.spec_model.proofs.Quiet.{steps-perm}
 use Rattle.format_layout.specs.Layout.{eventAt}
 use Rattle.format_image.proofs.ImageLaws.{Says}
-use Rattle.run_forecast.specs.Forecast.{stepsIn, longestIn, bound, forecastWith, forecastIn, forecastOn}
+use Rattle.run_forecast.specs.Forecast.{bound, forecastWith, forecastIn, forecastOn}
+use Rattle.run_forecast.specs.Steps.{stepsIn, longestIn}
 use Rattle.refine_calls.specs.Refinement.{slots}
 use Rattle.refine_calls.proofs.Relation.{Alike, count-is}
 use Rattle.refine_calls.proofs.Agrees.{known-slots, ours-is}

@@ -16,7 +16,7 @@ use Rattle.lib_base.specs.Basics.{pick}
 use Rattle.lib_word.specs.Word.{get, words, pile}
 use Rattle.lib_word.proofs.Laws.{long, long-put, get-other, get-same, words-get}
 use Rattle.spec_language.specs.Syntax.{Program}
-use Rattle.spec_language.specs.Accepted.{Valid}
+use Rattle.spec_language.specs.Valid.{Valid}
 use Rattle.spec_language.specs.Dependence.{size}
 use Rattle.spec_language.specs.Refusals as refusals
 use Rattle.spec_execution.specs.Execution.{Values, emptied}
@@ -26,7 +26,7 @@ use Rattle.spec_model.specs.Claims.{inForce}
 use Rattle.spec_model.specs.Model as model
 use Rattle.spec_model.proofs.Carries.{length-carried}
 use Rattle.spec_model.proofs.Reached.{Reached}
-use Rattle.format_image.specs.Image.{passivesCode}
+use Rattle.format_image.specs.Table.{passivesCode}
 use Rattle.format_image.proofs.ImageLaws.{Says}
 use Rattle.format_layout.specs.Round.{CallResult}
 use Rattle.run_carry.specs.Carry.{carryOn, shownFor, storeShown}

@@ -17,7 +17,7 @@ use Rattle.lib_word.specs.Word.{getAt, get, words, pile}
 use Rattle.lib_word.proofs.Laws.{long}
 use Rattle.spec_language.specs.Syntax.{Program}
 use Rattle.spec_language.specs.Dependence.{size, events}
-use Rattle.spec_language.specs.Accepted.{Valid}
+use Rattle.spec_language.specs.Valid.{Valid}
 use Rattle.spec_language.specs.Rights.{maySee}
 use Rattle.spec_language.specs.Refusals as refusals
 use Rattle.spec_semantics.specs.Meaning.{at}
@@ -33,8 +33,8 @@ use Rattle.format_layout.specs.Layout.{eventOf, playerOf}
 use Rattle.format_image.proofs.ImageLaws.{Says}
 use Rattle.format_layout.specs.Round.{CallResult}
 use Rattle.run_arrive.specs.Arrivals.{arriveOn}
-use Rattle.run_dispatch.specs.Dispatch.{said}
-use Rattle.run_advance.specs.Advance.{overMark}
+use Rattle.run_dispatch.specs.Said.{said}
+use Rattle.run_advance.specs.Mark.{overMark}
 use Rattle.run_step.specs.Machine.{stepOn}
 use Rattle.run_preview.specs.Preview.{lastStep, toIdle, inHand, previewSteps, previewAnswer, shownIn, previewSeen, previewTaken, previewAfter, previewCopy, previewOn}
 use Rattle.refine_calls.specs.Refinement.{coded, callOn}

@@ -9,13 +9,13 @@ use borrow.Author.Tests.{le-ltb}
 use Rattle.spec_language.specs.Syntax.{Program}
 use Rattle.spec_language.specs.Dependence.{size, events}
 use Rattle.spec_language.specs.Code.{code, instructions, allInstructions}
-use Rattle.spec_language.specs.Accepted.{Accepted, Valid}
+use Rattle.spec_language.specs.Valid.{Accepted, Valid}
 use Rattle.spec_language.proofs.Laws.{upTo-same}
 use Rattle.spec_semantics.proofs.Lengths.{length-fresh}
 use Rattle.spec_execution.proofs.Sums.{length-flatten}
 use Rattle.spec_execution.proofs.CodeRight.{code-facts}
 use Rattle.spec_model.specs.Model.{Running, rest, busy, Engine, engine, state}
-use Rattle.format_image.specs.Image.{allCode, tableOf}
+use Rattle.format_image.specs.Table.{allCode, tableOf}
 use Rattle.format_image.proofs.ImageLaws.{Says, table-says}
 use Rattle.run_start.specs.Start.{startOn, freshBytes}
 use Rattle.refine_calls.specs.Refinement.{runningIn, ViewIn}

@@ -14,7 +14,8 @@ use Rattle.lib_word.proofs.Laws.{long}
 use Rattle.spec_execution.specs.Execution.{Values, emptied}
 use Rattle.spec_model.specs.Model.{Arrival, arrival, Running, rest, busy, Engine, engine, queue, Outcome}
 use Rattle.spec_model.proofs.Choice.{perm-length}
-use Rattle.format_layout.specs.Layout.{handWord, eventOf, playerOf}
+use Rattle.format_layout.specs.Layout.{eventOf, playerOf}
+use Rattle.format_layout.specs.Foreign.{handWord}
 use Rattle.run_queue.specs.Queue.{putSlot}
 use Rattle.format_layout.specs.Round.{CallResult}
 use Rattle.run_arrive.specs.Arrivals.{admit}

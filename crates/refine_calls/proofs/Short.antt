@@ -10,13 +10,13 @@ use lib.ListN.{length, getD, length-append}
 use Rattle.spec_language.specs.Syntax.{Handler, Behaviour, active}
 use Rattle.spec_language.specs.Sheet.{Term, literal, variable, param, apply1, apply2, apply3, Clause, Item, formula, state, row, Entry, Sheet, meant, renameClauses, cellsOut, entryOut, entriesOut, fillTerm, fillClauses, fillItem, fillEntries, fill}
 use Rattle.spec_language.specs.Grammar.{encodeExpr, encodeItem, encodeBehaviours, encode, SheetFits}
-use Rattle.spec_language.specs.Accepted.{Valid}
+use Rattle.spec_language.specs.Valid.{Valid}
 use Rattle.spec_language.specs.Dependence.{Response, follows, takes, defers, keeps, handled, respond}
 use Rattle.spec_language.specs.Order.{upTo}
 use Rattle.spec_language.specs.Code.{sizeOf}
 use Rattle.spec_semantics.proofs.Handlers.{Says, handled-says}
 use Rattle.spec_model.proofs.Passives.{passiveShare, passives-length}
-use Rattle.format_image.specs.Image.{passivesCode}
+use Rattle.format_image.specs.Table.{passivesCode}
 
 -- an active has no part in the passives' code
 no-share : (hs : List Handler) (r : Response) → Says 0 hs r → passiveShare r ≡ 0

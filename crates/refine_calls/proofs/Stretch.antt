@@ -10,7 +10,8 @@ use lib.ListN.{length, getD}
 use Rattle.lib_word.specs.Word.{get}
 use Rattle.lib_word.proofs.Laws.{long}
 use Rattle.spec_language.specs.Code.{Instr, off}
-use Rattle.spec_execution.specs.Execution.{Values, execute, executeAll}
+use Rattle.spec_execution.specs.Execution.{Values, execute}
+use Rattle.spec_execution.specs.Runs.{executeAll}
 use Rattle.spec_execution.specs.Safe.{Filled, Ok, filledNext, Safe, Matches}
 use Rattle.spec_execution.proofs.SafeLaws.{next-matches}
 use Rattle.format_image.specs.Image.{operation, constant}

@@ -10,15 +10,17 @@ use borrow.Author.Tests.{le-leb}
 use Rattle.lib_base.specs.Basics.{All}
 use Rattle.lib_word.proofs.Laws.{long}
 use Rattle.spec_language.specs.Syntax.{Program}
-use Rattle.spec_language.specs.Accepted.{Accepted}
+use Rattle.spec_language.specs.Valid.{Accepted}
 use Rattle.spec_semantics.proofs.Lengths.{length-fresh}
 use Rattle.spec_model.specs.Model.{engine, Call, Turn, call, change, State, state, turn, runTurns, replies, begun}
-use Rattle.spec_model.specs.Claims.{inForce, Sound}
+use Rattle.spec_model.specs.Claims.{inForce}
+use Rattle.spec_model.specs.Sound.{Sound}
 use Rattle.spec_model.proofs.History.{Fit, turn-fits, begun-fits}
-use Rattle.format_image.specs.Image.{tableOf}
+use Rattle.format_image.specs.Table.{tableOf}
 use Rattle.format_image.proofs.ImageLaws.{Says}
 use Rattle.run_start.specs.Start.{freshBytes}
-use Rattle.refine_calls.specs.Refinement.{Kept, codedReply, ByteTurn, calls, mends, Bytes, bytes, turnOnBytes, numbersOn, bytesAfter, TableFor, IsTurn, AreTurns, ViewIn, Agreement}
+use Rattle.refine_calls.specs.Refinement.{Kept, codedReply, ByteTurn, calls, mends, Bytes, bytes, turnOnBytes, numbersOn, bytesAfter, ViewIn}
+use Rattle.refine_calls.specs.Turns.{TableFor, IsTurn, AreTurns, Agreement}
 use Rattle.refine_calls.proofs.Slots.{kept-trans}
 use Rattle.refine_calls.proofs.Agrees.{call-agrees}
 use Rattle.refine_calls.proofs.FreshRound.{fresh-kept, fresh-rel}

@@ -10,27 +10,28 @@ use lib.Dec.{ltb, leb, eqb}
 use Rattle.lib_base.specs.Basics.{pick}
 use Rattle.lib_word.specs.Word.{get, words, pile}
 use Rattle.spec_language.specs.Syntax.{Program}
-use Rattle.spec_language.specs.Accepted.{Accepted}
 use Rattle.spec_language.specs.Dependence.{size}
-use Rattle.spec_language.specs.Refusals as refusals
 use Rattle.spec_language.specs.Answers as kinds
 use Rattle.spec_execution.specs.Execution.{Values}
-use Rattle.spec_model.specs.Model.{Arrival, arrival, Running, rest, busy, engine, Call, arrive, step, board, Answer, refused, takenIn, shows, idle, ran, started, preempted, committed, Turn, call, change, State, state, Reply, says, carriedOver, runTurns, replies}
-use Rattle.format_layout.specs.Layout.{eventOf, playerOf, taken, waitingCount, runningFlag, runningWord, runningNumber, position, depth, markWord, numberAt, wordAt}
-use Rattle.format_image.specs.Image.{passivesCode, tableOf}
+use Rattle.spec_model.specs.Model.{Arrival, arrival, Running, rest, busy, engine, Call, arrive, step, board, Answer}
+use Rattle.spec_model.specs.Model.{refused, takenIn, shows, idle, ran, started, preempted, committed, State, state}
+use Rattle.spec_model.specs.Model.{Reply, says, carriedOver}
+use Rattle.format_layout.specs.Layout.{eventOf, playerOf, taken, waitingCount, runningFlag, runningWord, runningNumber}
+use Rattle.format_layout.specs.Layout.{storeStart, scratchStart, deferredStart, stackStart}
+use Rattle.format_layout.specs.Layout.{position, depth, markWord, numberAt, wordAt}
 use Rattle.format_layout.specs.Round.{CallResult}
 use Rattle.run_arrive.specs.Arrivals.{arriveOn}
 use Rattle.run_board.specs.Board.{boardOn}
 use Rattle.run_mend.specs.Mending.{mendOn}
-use Rattle.run_dispatch.specs.Dispatch.{said}
-use Rattle.run_advance.specs.Advance.{overMark}
+use Rattle.run_dispatch.specs.Said.{said, numberUnit, eventUnit, playerUnit}
+use Rattle.run_advance.specs.Mark.{overMark}
 use Rattle.run_step.specs.Machine.{stepOn}
 
 -- an answer as the number that the call gives
 abbrev pub coded : Answer → ℕ
 coded (refused n) = n
 coded takenIn = 0
-coded (shows v) = 4294967296 + v
+coded (shows v) = kinds.told v
 coded idle = kinds.idle
 coded ran = kinds.ran
 coded (started a) = said kinds.started (a .number) (a .event) (a .player)
@@ -47,11 +48,11 @@ codedReply carriedOver = 0
 
 -- the mark at 2^56 is no part of the arrival's number
 abbrev pub arrivalIn : ℕ → Arrival
-arrivalIn v = arrival (v / 65536 % 1099511627776) (v / 256 % 256) (v / 16 % 16)
+arrivalIn v = arrival (v / numberUnit % 1099511627776) (v / eventUnit % 256) (v / playerUnit % 16)
 
 abbrev pub stepAnswer : ℕ → Answer
 stepAnswer v =
-    pick (eqb v refusals.foreign) (refused refusals.foreign)
+    pick (eqb v 14) (refused 14)
     (pick (eqb v kinds.idle) idle
     (pick (eqb v kinds.ran) ran
     (pick (eqb (v % 16) kinds.started) (started (arrivalIn v))
@@ -138,10 +139,10 @@ pub record ViewOf (p : Program) (l : List ℕ) (n : ℕ) (waiting : List Arrival
   pub number : taken l ≡ n
   pub queue : List·Permᴰ (slots l (waitingCount l)) waiting
   pub running : runningIn l ≡ r
-  pub store : words l 136 (size p) ≡ d .store
-  pub stack : pile l 328 (depth l) ≡ d .stack
-  pub scratch : (i v : ℕ) → getD (d .scratch) i none ≡ some v → get l (200 + i) ≡ v
-  pub deferred : (i v : ℕ) → getD (d .deferred) i none ≡ some v → get l (264 + i) ≡ v
+  pub store : words l storeStart (size p) ≡ d .store
+  pub stack : pile l stackStart (depth l) ≡ d .stack
+  pub scratch : (i v : ℕ) → getD (d .scratch) i none ≡ some v → get l (scratchStart + i) ≡ v
+  pub deferred : (i v : ℕ) → getD (d .deferred) i none ≡ some v → get l (deferredStart + i) ≡ v
   pub mark : not (eqb (markWord l) 0) ≡ d .mark
 
 -- only the round's 2,048 bytes may change
@@ -152,32 +153,6 @@ pub record Kept (l m : List ℕ) : Type 0 where
 -- ---- the turns of the model engine that they are: a change is to the table that compile leaves for an accepted
 -- program, whose passives' code fits into 4,096 instructions
 
-pub record TableFor (q : Program) (u : List ℕ) : Type 0 where
-  pub accepted : Accepted q
-  pub short : length (passivesCode q) ≤ 4096
-  pub lent : List ℕ
-  pub room : 34816 ≤ length lent
-  pub left : u ≡ tableOf q lent
-
-abbrev pub IsTurn : ByteTurn → Turn → Type 0
-IsTurn (calls c) (call d) = c ≡ d
-IsTurn (calls c) (change q) = ⊥
-IsTurn (mends u) (call d) = ⊥
-IsTurn (mends u) (change q) = TableFor q u
-
-abbrev pub AreTurns : List ByteTurn → List Turn → Type 0
-AreTurns [] [] = Unit {0}
-AreTurns [] (t ∷ ts) = ⊥
-AreTurns (x ∷ xs) [] = ⊥
-AreTurns (x ∷ xs) (t ∷ ts) = IsTurn x t × AreTurns xs ts
-
 -- the round agrees with the engine, under the program in force
 abbrev pub ViewIn : List ℕ → State → Type 0
 ViewIn l (state p (engine n waiting r d)) = ViewOf p l n waiting r d
-
--- turns from the bytes b and a state s: the numbers are the model engine's replies, the round then agrees with it, and
--- of the round's bytes lent, l₀, only the round's have changed
-pub record Agreement (l₀ : List ℕ) (b : Bytes) (xs : List ByteTurn) (s : State) (ts : List Turn) : Type 0 where
-  pub answered : numbersOn xs b ≡ map codedReply (replies ts s)
-  pub viewed : ViewIn (bytesAfter xs b .round) (runTurns ts s)
-  pub kept : Kept l₀ (bytesAfter xs b .round)

@@ -1,10 +1,10 @@
 -- What compile leaves is the table of the sheet's program, and that tells its counts and ranks.
 use mathlib.Core.Path.{sym, subst}
-use Rattle.format_image.specs.Image.{tableOf}
+use Rattle.format_image.specs.Table.{tableOf}
 use Rattle.refine_calls.proofs.Refines.{accepted-says}
 use Rattle.refine_lists.proofs.FromSheets.{table-is, prepared-bytes, prepared-accepted, prepared-room}
-use Rattle.back_compile.specs.Verdict.{programOf}
-use Rattle.run_counts.specs.Counts.{Tells}
+use Rattle.back_compile.specs.Compiled.{programOf}
+use Rattle.run_counts.specs.Tells.{Tells}
 use Rattle.run_counts.proofs.Tell.{says-tells}
 use Rattle.refine_counts.specs.Compiled.{EveryTable}
 

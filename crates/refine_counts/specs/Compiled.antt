@@ -3,8 +3,9 @@
 use Prim.Native.Nat.{ℕ}
 use mathlib.Core.List.{List}
 use Rattle.spec_language.specs.Sheet.{Sheet}
-use Rattle.back_compile.specs.Verdict.{programOf, compileOn}
-use Rattle.run_counts.specs.Counts.{Tells}
+use Rattle.back_compile.specs.Verdict.{compileOn}
+use Rattle.back_compile.specs.Compiled.{programOf}
+use Rattle.run_counts.specs.Tells.{Tells}
 use Rattle.refine_lists.specs.Lists.{Prepared}
 
 -- x is the sheet of the bytes s, with the bytes ps lent for its parameters; l, any with room for a round, is not asked

@@ -12,18 +12,20 @@ use lib.Dec.{leb, eqb}
 use borrow.Author.Tests.{le-leb, leb-true, leb-false, eqb-true, eqb-false}
 use Rattle.lib_base.specs.Basics.{pick}
 use Rattle.lib_base.proofs.Tools.{by-test, split}
-use Rattle.format_layout.specs.Layout.{eventCount, eventWord, waitingCount, runningFlag, runningWord, runningEvent, position, ours}
+use Rattle.format_layout.specs.Layout.{eventCount, eventWord, waitingCount, runningFlag, runningWord, runningEvent, position}
+use Rattle.format_layout.specs.Foreign.{ours}
 use Rattle.format_layout.specs.Bounds.{Bounds}
 use Rattle.format_layout.proofs.BoundsLaws.{bounds, hand-bound}
 use Rattle.format_layout.specs.Round.{CallResult}
 use Rattle.run_arrive.specs.Arrivals.{queueFull}
 use Rattle.run_queue.specs.Queue.{best}
-use Rattle.run_board.specs.Board.{isCopyingBack, isMasked}
+use Rattle.run_board.specs.Masking.{isCopyingBack, isMasked}
 use Rattle.run_dispatch.specs.Dispatch.{preemptAt}
 use Rattle.run_advance.specs.Advance.{advanceOn}
 use Rattle.run_step.specs.Machine.{stepOn}
 use Rattle.run_step.specs.Sound.{RoundSound, isOutranked}
-use Rattle.run_burst.specs.Burst.{isCommit, unmade, Burst, burstOn}
+use Rattle.run_burst.specs.Burst.{unmade, Burst, burstOn}
+use Rattle.run_burst.specs.Commit.{isCommit}
 use Rattle.run_step.proofs.Fits.{ours-sound}
 use Rattle.run_burst.proofs.Glue.{left-at-most}
 use Rattle.run_step.proofs.Steps.{step-calm, step-outranked}

@@ -14,20 +14,23 @@ use Rattle.lib_base.specs.Basics.{pick, All}
 use Rattle.lib_base.proofs.Tools.{by-test, split}
 use Rattle.spec_language.specs.Rights.{may}
 use Rattle.spec_model.specs.Model.{Call, arrive, step}
-use Rattle.format_layout.specs.Layout.{eventCount, sendersAt, taken, waitingCount, runningFlag, ours}
+use Rattle.format_layout.specs.Layout.{eventCount, sendersAt, taken, waitingCount, runningFlag}
+use Rattle.format_layout.specs.Foreign.{ours}
 use Rattle.format_layout.specs.Round.{CallResult}
 use Rattle.run_arrive.specs.Arrivals.{queueFull, arriveWith, arriveKnown, arriveIn, arriveOn}
 use Rattle.run_answers.specs.Answers.{putAnswer}
 use Rattle.run_step.specs.Machine.{stepOn}
 use Rattle.run_step.specs.Sound.{RoundSound}
-use Rattle.run_burst.specs.Burst.{isCommit, unmade, Burst, burstOn}
+use Rattle.run_burst.specs.Burst.{unmade, Burst, burstOn}
+use Rattle.run_burst.specs.Commit.{isCommit}
 use Rattle.run_step.proofs.Fits.{ours-sound, sound-ours}
 use Rattle.run_frame.specs.Frame.{frameSaid}
-use Rattle.run_deliver.specs.Deliver.{Delivery, deliveryRefusal, admitted, deliverAfter, deliverFull, deliverKnown, deliverWith, deliverOn}
+use Rattle.run_deliver.specs.Deliver.{deliveryRefusal, admitted, deliverAfter, deliverFull, deliverKnown, deliverWith, deliverOn}
+use Rattle.run_deliver.specs.Delivery.{Delivery}
 use Rattle.run_deliver.proofs.Room.{Ends, BurstKept, burst-keeps, full-ends}
 use Rattle.refine_calls.specs.Refinement.{callOn, answersOn, roundAfter, numbersOn, bytesAfter, turnOnBytes}
 use Rattle.refine_frames.specs.Frames.{stepsMade, commitsWritten, endedBy, stepCalls, committing, putAll}
-use Rattle.refine_frames.proofs.FramesHold.{round-append, answers-append}
+use Rattle.refine_frames.proofs.FramesHold.{round-append}
 use Rattle.refine_deliver.specs.Deliveries.{deliverySteps, deliveryCalls, DeliveryIs, EveryDelivery, DeliverInList}
 
 -- ---- a burst of k steps is the r that it makes
@@ -362,4 +365,4 @@ every-delivery t l number e who b =
 pub deliver-in-list : DeliverInList
 deliver-in-list t l cs n e who b =
     let m = deliveryCalls (deliverOn t (roundAfter t cs l) n e who b .0) e who in
-    (every-delivery t (roundAfter t cs l) n e who b .round ∙ sym (round-append t cs m l), answers-append t cs m l)
+    every-delivery t (roundAfter t cs l) n e who b .round ∙ sym (round-append t cs m l)

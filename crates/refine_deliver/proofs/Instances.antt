@@ -12,7 +12,7 @@ use Rattle.spec_language.specs.Dependence.{events}
 use Rattle.spec_language.specs.Rights.{maySend}
 use Rattle.spec_model.specs.Model.{Turn}
 use Rattle.spec_model.specs.Claims.{number, longest, programAfter, engineAfter}
-use Rattle.back_compile.specs.Verdict.{programOf}
+use Rattle.back_compile.specs.Compiled.{programOf}
 use Rattle.refine_calls.specs.Refinement.{bytesAfter}
 use Rattle.refine_lists.specs.Lists.{SheetTurn, Compiles, onBytes, AllMean, freshRoundOn, Prepared}
 use Rattle.refine_deliver.specs.Deliveries.{TakesIn, AlwaysTakenIn}

@@ -21,12 +21,15 @@ use Rattle.spec_execution.proofs.CodeRight.{code-facts}
 use Rattle.spec_model.specs.Model.{engine, step, Turn, call, State, state, act}
 use Rattle.spec_model.specs.Claims.{longest, number, inForce, engineIn, after}
 use Rattle.spec_model.proofs.IdleWithin.{longest-most}
-use Rattle.format_layout.specs.Layout.{eventCount, sendersAt, taken, waitingCount, runningFlag, eventWord, ours}
-use Rattle.back_compile.specs.Verdict.{programOf}
+use Rattle.format_layout.specs.Layout.{eventCount, sendersAt, taken, waitingCount, runningFlag, eventWord}
+use Rattle.format_layout.specs.Foreign.{ours}
+use Rattle.back_compile.specs.Compiled.{programOf}
 use Rattle.run_arrive.specs.Arrivals.{queueFull}
 use Rattle.run_step.specs.Machine.{stepOn}
-use Rattle.run_burst.specs.Burst.{isCommit, unmade, Burst, burstOn}
-use Rattle.run_deliver.specs.Deliver.{Delivery, deliveryRefusal, deliverAfter, deliverFull, deliverKnown, deliverWith, deliverOn}
+use Rattle.run_burst.specs.Burst.{unmade, Burst, burstOn}
+use Rattle.run_burst.specs.Commit.{isCommit}
+use Rattle.run_deliver.specs.Deliver.{deliveryRefusal, deliverAfter, deliverFull, deliverKnown, deliverWith, deliverOn}
+use Rattle.run_deliver.specs.Delivery.{Delivery}
 use Rattle.run_deliver.proofs.Laws.{no-refusal}
 use Rattle.run_deliver.proofs.Room.{Ends, full-ends}
 use Rattle.refine_calls.specs.Refinement.{coded, callOn, calls, Bytes, bytes, turnOnBytes, bytesAfter}

@@ -11,15 +11,15 @@ use lib.ListN.{length}
 use lib.Dec.{eqb}
 use Rattle.lib_base.specs.Basics.{pick, All}
 use Rattle.spec_language.specs.Dependence.{events}
-use Rattle.spec_language.specs.Refusals.{foreign}
 use Rattle.spec_language.specs.Rights.{maySend}
 use Rattle.spec_language.specs.Sheet.{Sheet}
 use Rattle.spec_language.specs.Answers as kinds
 use Rattle.spec_model.specs.Model.{Call, arrive, step, Turn}
 use Rattle.spec_model.specs.Claims.{longest, number, programAfter, engineAfter}
 use Rattle.format_layout.specs.Layout.{taken}
-use Rattle.back_compile.specs.Verdict.{programOf}
-use Rattle.run_deliver.specs.Deliver.{deliveredNow, noCommitRoom, brokenOff, deliverOn}
+use Rattle.back_compile.specs.Compiled.{programOf}
+use Rattle.run_deliver.specs.Deliver.{deliverOn}
+use Rattle.run_deliver.specs.Delivery.{deliveredNow, noCommitRoom, brokenOff}
 use Rattle.refine_calls.specs.Refinement.{callOn, answersOn, roundAfter, Bytes, bytesAfter}
 use Rattle.refine_frames.specs.Frames.{stepsMade, commitsWritten, endedBy, stepCalls, committing, putAll}
 use Rattle.refine_lists.specs.Lists.{SheetTurn, Compiles, onBytes, AllMean, freshRoundOn, Prepared}
@@ -41,14 +41,14 @@ pub record DeliveryIs (t l : List ℕ) (number e who : ℕ) (b : List ℕ) (v : 
   -- "With a full hand and under eight bytes for commits it makes no step, takes nothing in and says so."
   pub no-room : endedBy v ≡ noCommitRoom → (length b < 8) × (l′ ≡ l) × (b′ ≡ b)
   -- "On bytes that no list of demand 3 leaves, a step on the way may be refused by 14: it ends there and says so"
-  pub broken : endedBy v ≡ brokenOff → callOn t step l′ .0 ≡ foreign
+  pub broken : endedBy v ≡ brokenOff → callOn t step l′ .0 ≡ 14
   -- "then it takes the event in, under this number": the arrival is not refused, and that many were taken in before it
   pub taken-in : endedBy v ≡ deliveredNow
       → (callOn t (arrive e who) (roundAfter t (stepCalls (deliverySteps v)) l) .0 ≡ 0)
       × (taken (roundAfter t (stepCalls (deliverySteps v)) l) ≡ number)
   pub round : l′ ≡ roundAfter t (deliveryCalls v e who) l
   -- each of these steps is made, and "at most one [commit] is written, eight bytes, as by `frame`"
-  pub made : All (λ a. (a ≢ kinds.idle) × (a ≢ foreign)) (answersOn t (stepCalls (deliverySteps v)) l)
+  pub made : All (λ a. (a ≢ kinds.idle) × (a ≢ 14)) (answersOn t (stepCalls (deliverySteps v)) l)
   pub written : b′ ≡ putAll b 0 (committing (answersOn t (stepCalls (deliverySteps v)) l))
   pub count : endedBy v ≢ 0 → commitsWritten v ≡ length (committing (answersOn t (stepCalls (deliverySteps v)) l))
   pub one : length (committing (answersOn t (stepCalls (deliverySteps v)) l)) ≤ 1
@@ -57,12 +57,11 @@ abbrev pub EveryDelivery : Type 0
 EveryDelivery = (t l : List ℕ) (number e who : ℕ) (b : List ℕ)
     → DeliveryIs t l number e who b (deliverOn t l number e who b .0) (deliverOn t l number e who b .1) (deliverOn t l number e who b .2)
 
--- a delivery after a list of calls leaves the round that the list with its calls leaves
+-- a delivery after a list of calls leaves the round that the list with its calls leaves: a consequence, since a list's
+-- calls are made one after the other
 abbrev pub DeliverInList : Type 0
 DeliverInList = (t l : List ℕ) (cs : List Call) (n e who : ℕ) (b : List ℕ)
-    → (deliverOn t (roundAfter t cs l) n e who b .1 ≡ roundAfter t (cs ++ deliveryCalls (deliverOn t (roundAfter t cs l) n e who b .0) e who) l)
-    × (answersOn t (cs ++ deliveryCalls (deliverOn t (roundAfter t cs l) n e who b .0) e who) l
-    ≡ answersOn t cs l ++ answersOn t (deliveryCalls (deliverOn t (roundAfter t cs l) n e who b .0) e who) (roundAfter t cs l))
+    → deliverOn t (roundAfter t cs l) n e who b .1 ≡ roundAfter t (cs ++ deliveryCalls (deliverOn t (roundAfter t cs l) n e who b .0) e who) l
 
 -- ---- on demand 3's lists, changes of sheets included
 

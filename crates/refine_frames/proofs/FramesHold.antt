@@ -13,8 +13,9 @@ use Rattle.lib_base.specs.Basics.{pick, All}
 use Rattle.lib_base.proofs.Tools.{by-test, split}
 use Rattle.spec_model.specs.Model.{Call, step}
 use Rattle.run_step.specs.Machine.{stepOn}
-use Rattle.run_burst.specs.Burst.{isCommit}
-use Rattle.run_frame.specs.Frame.{Framed, frameSaid, roomFor, countAfter, commitsAfter, idleOr, frameFrom, frameOn}
+use Rattle.run_burst.specs.Commit.{isCommit}
+use Rattle.run_frame.specs.Frame.{frameSaid, countAfter, commitsAfter, idleOr, frameFrom, frameOn}
+use Rattle.run_frame.specs.Framed.{Framed, roomFor}
 use Rattle.refine_calls.specs.Refinement.{callOn, answersOn, roundAfter, numbersOn, bytesAfter, turnOnBytes}
 use Rattle.refine_frames.specs.Frames.{stepsMade, commitsWritten, endedBy, stepCalls, committing, putAll, Ended, FrameSteps, EveryFrame, FrameInList}
 
@@ -226,4 +227,4 @@ answers-append t (c ∷ cs) ds l = ap (λ (x : List ℕ). callOn t c l .0 ∷ x)
 pub frame-in-list : FrameInList
 frame-in-list t l cs asked b h =
     let r : ℕ = stepsMade (frameOn t (roundAfter t cs l) asked b .0) in
-    (every-frame t (roundAfter t cs l) asked b h .round ∙ sym (round-append t cs (stepCalls r) l), answers-append t cs (stepCalls r) l)
+    every-frame t (roundAfter t cs l) asked b h .round ∙ sym (round-append t cs (stepCalls r) l)

@@ -14,7 +14,8 @@ use Rattle.spec_language.specs.Syntax.{Program}
 use Rattle.spec_language.specs.Sheet.{Sheet}
 use Rattle.spec_language.specs.Grammar.{encode}
 use Rattle.spec_language.specs.Dependence.{size}
-use Rattle.spec_language.specs.Accepted.{Accepted, SheetAccepted}
+use Rattle.spec_language.specs.Accepted.{SheetAccepted}
+use Rattle.spec_language.specs.Valid.{Accepted}
 use Rattle.spec_language.specs.Rights.{maySend, maySee}
 use Rattle.spec_grammar.proofs.Programs.{reads-back}
 use Rattle.spec_semantics.specs.Meaning.{fresh}
@@ -22,13 +23,16 @@ use Rattle.spec_semantics.specs.Plays.{Plays, done as played, next as plays}
 use Rattle.spec_semantics.proofs.Lengths.{length-fresh}
 use Rattle.spec_model.specs.Model.{Call, call}
 use Rattle.spec_model.specs.Claims.{committedIn, eventsOf}
-use Rattle.back_compile.specs.Verdict.{Compiled, programOf, compileOn}
+use Rattle.back_compile.specs.Verdict.{compileOn}
+use Rattle.back_compile.specs.Compiled.{Compiled, programOf}
 use Rattle.back_compile.proofs.AcceptedExactly.{accepted-taken}
 use Rattle.link_pooled.specs.Pooled.{pooled, sameRanks}
-use Rattle.link_pooled.specs.Together.{together, declared}
+use Rattle.link_pooled.specs.Together.{together}
+use Rattle.link_pooled.specs.Declared.{declared}
 use Rattle.link_pooled.proofs.Filled.{fill-pooled}
 use Rattle.link_pooled.proofs.Rights.{send-both, send-first, send-second, see-first, see-second, rank-first, rank-second}
-use Rattle.link_join.specs.Join.{Joined, joined, joinOn}
+use Rattle.link_join.specs.Join.{joinOn}
+use Rattle.link_join.specs.Joined.{Joined, joined}
 use Rattle.link_join.specs.Statements.{JoinOrder}
 use Rattle.link_join.proofs.JoinLaws.{AcceptedSheet}
 use Rattle.link_join.proofs.Says.{Answered, join-says, rules-board}

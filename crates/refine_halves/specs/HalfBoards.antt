@@ -12,12 +12,15 @@ use Rattle.spec_language.specs.Syntax.{Program}
 use Rattle.spec_language.specs.Sheet.{Sheet}
 use Rattle.spec_language.specs.Dependence.{size, events}
 use Rattle.spec_language.specs.Rights.{maySend, maySee}
+use Rattle.spec_language.specs.Answers.{told}
 use Rattle.spec_model.specs.Model.{Call, call}
 use Rattle.spec_model.specs.Claims.{engineAfter, committedIn, eventsOf, copyBackIn}
-use Rattle.back_compile.specs.Verdict.{programOf, compileOn}
+use Rattle.back_compile.specs.Verdict.{compileOn}
+use Rattle.back_compile.specs.Compiled.{programOf}
 use Rattle.link_pooled.specs.Pooled.{pooled}
-use Rattle.link_pooled.specs.Together.{declared}
-use Rattle.link_join.specs.Join.{joined, joinOn}
+use Rattle.link_pooled.specs.Declared.{declared}
+use Rattle.link_join.specs.Join.{joinOn}
+use Rattle.link_join.specs.Joined.{joined}
 use Rattle.run_start.specs.Start.{startOn}
 use Rattle.refine_calls.specs.Refinement.{calls, bytes, bytesAfter}
 use Rattle.refine_lists.specs.Lists.{boardOf, Prepared}
@@ -39,8 +42,10 @@ NoCopyBack p cs = copyBackIn p (engineAfter p (map call cs)) ≡ false
 pub record Halves (p q j : Program) (t₀ l₀ t₁ l₁ t₂ l₂ : List ℕ) : Type 0 where
   -- "each half of the joined board equals that sheet's own board", each by itself: as many values as the first sheet
   -- has behaviours, then those of the second
-  pub first-half : (cs ds : List Call) → NoCopyBack j cs → NoCopyBack p ds → SameCommits j cs p ds → take (size p) (boardAfter j t₀ l₀ cs) ≡ boardAfter p t₁ l₁ ds
-  pub second-half : (cs ds : List Call) → NoCopyBack j cs → NoCopyBack q ds → SameCommits j cs q ds → drop (size p) (boardAfter j t₀ l₀ cs) ≡ boardAfter q t₂ l₂ ds
+  pub first-half : (cs ds : List Call) → NoCopyBack j cs → NoCopyBack p ds → SameCommits j cs p ds
+      → take (size p) (boardAfter j t₀ l₀ cs) ≡ boardAfter p t₁ l₁ ds
+  pub second-half : (cs ds : List Call) → NoCopyBack j cs → NoCopyBack q ds → SameCommits j cs q ds
+      → drop (size p) (boardAfter j t₀ l₀ cs) ≡ boardAfter q t₂ l₂ ds
   -- "A player may send a shared event only where both sheets allow it", another where its sheet does
   pub send-shared : (player e : ℕ) → e < events p → e < events q → maySend j player e ≡ maySend p player e && maySend q player e
   pub send-first : (player e : ℕ) → events q ≤ e → maySend j player e ≡ maySend p player e
@@ -59,6 +64,6 @@ abbrev pub HalfBoards : Type 0
 HalfBoards =
     (s z ps buffer v t₀ l₀ t₁ l₁ t₂ l₂ : List ℕ) (x y : Sheet) → Prepared s ps t₁ l₁ x → Prepared z ps t₂ l₂ y
     → 34816 ≤ length t₀ → 2048 ≤ length l₀
-    → joinOn s z ps buffer ≡ joined (4294967296 + length v) (v ++ drop (length v) buffer)
+    → joinOn s z ps buffer ≡ joined (told (length v)) (v ++ drop (length v) buffer)
     → Prepared v ps t₀ l₀ (pooled x y)
     × Halves (programOf ps x) (programOf ps y) (programOf ps (pooled x y)) (compileOn v ps t₀ .1) l₀ (compileOn s ps t₁ .1) l₁ (compileOn z ps t₂ .1) l₂

@@ -9,14 +9,17 @@ use Rattle.lib_word.specs.Word.{get}
 use Rattle.spec_language.specs.Syntax.{Program}
 use Rattle.spec_language.specs.Sheet.{Sheet}
 use Rattle.spec_language.specs.Grammar.{encode}
-use Rattle.spec_language.specs.Accepted.{Accepted, SheetAccepted}
+use Rattle.spec_language.specs.Accepted.{SheetAccepted}
+use Rattle.spec_language.specs.Valid.{Accepted}
 use Rattle.spec_model.specs.Model.{Turn, call, change, Call, begun}
 use Rattle.spec_model.specs.Claims.{inForce, after}
-use Rattle.format_image.specs.Image.{tableOf}
-use Rattle.back_compile.specs.Verdict.{Compiled, programOf, compileOn}
+use Rattle.format_image.specs.Table.{tableOf}
+use Rattle.back_compile.specs.Verdict.{compileOn}
+use Rattle.back_compile.specs.Compiled.{Compiled, programOf}
 use Rattle.back_compile.proofs.AcceptedExactly.{accepted-exactly}
 use Rattle.format_layout.specs.Round.{CallResult}
-use Rattle.refine_calls.specs.Refinement.{IsTurn, AreTurns, calls, bytesAfter, TableFor, Bytes, bytes}
+use Rattle.refine_calls.specs.Refinement.{calls, bytesAfter, Bytes, bytes}
+use Rattle.refine_calls.specs.Turns.{IsTurn, AreTurns, TableFor}
 use Rattle.refine_calls.proofs.Refines.{valid}
 use Rattle.refine_calls.proofs.Short.{sheet-short}
 use Rattle.refine_calls.proofs.TurnsRefine as refine

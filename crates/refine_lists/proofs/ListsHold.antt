@@ -8,10 +8,11 @@ use native.Mathlib.Omega.{arith}
 use lib.ListN.{length}
 use Rattle.lib_base.specs.Basics.{All}
 use Rattle.spec_language.specs.Syntax.{Program}
-use Rattle.spec_language.specs.Accepted.{Accepted, Valid}
+use Rattle.spec_language.specs.Valid.{Accepted, Valid}
 use Rattle.spec_language.specs.Dependence.{size, events, noEvent}
 use Rattle.spec_language.specs.Rights.{maySend}
-use Rattle.spec_semantics.specs.Meaning.{fresh, event, play, withStore}
+use Rattle.spec_semantics.specs.Meaning.{fresh, withStore}
+use Rattle.spec_semantics.specs.Event.{event, play}
 use Rattle.spec_semantics.specs.Over.{EventOver}
 use Rattle.spec_semantics.specs.Plays.{Plays}
 use Rattle.spec_semantics.specs.OverMeaning.{eventOver}
@@ -19,7 +20,8 @@ use Rattle.spec_semantics.proofs.PlaysLaws.{plays}
 use Rattle.spec_semantics.proofs.Lengths.{length-fresh}
 use Rattle.spec_semantics.proofs.OverAgrees.{rules-find, rules-find-only}
 use Rattle.spec_model.specs.Model.{Arrival, arrival, Call, step, Answer, committed, act, Turn, call, State, state, says, turn, runTurns, begun}
-use Rattle.spec_model.specs.Claims.{copyBackIn, aloneCalls, eventsOf, takenInBy, courseOf, SameChanges, ApartEach, commits, inForce, engineIn, IdleIn, after, historyOf, Sound, Replays, Sentences}
+use Rattle.spec_model.specs.Claims.{copyBackIn, aloneCalls, eventsOf, takenInBy, courseOf, SameChanges, ApartEach, commits, inForce, engineIn, IdleIn, after, historyOf, Replays, Sentences}
+use Rattle.spec_model.specs.Sound.{Sound}
 use Rattle.spec_model.specs.Told.{previewed}
 use Rattle.spec_model.proofs.States.{numberIn, storeIn}
 use Rattle.spec_model.proofs.History.{runs-append, Fit}
@@ -30,14 +32,15 @@ use Rattle.spec_model.proofs.Alone.{calls-run, alone-right}
 use Rattle.spec_model.proofs.ModelHolds.{holds, same-board}
 use Rattle.run_step.specs.Machine.{stepOn}
 use Rattle.run_preview.specs.Preview.{previewOn}
-use Rattle.refine_calls.specs.Refinement.{coded, decoded, ByteTurn, calls, Bytes, bytesAfter, AreTurns}
+use Rattle.refine_calls.specs.Refinement.{coded, decoded, ByteTurn, calls, Bytes, bytesAfter}
+use Rattle.refine_calls.specs.Turns.{AreTurns}
 use Rattle.refine_calls.proofs.Relation.{words-length}
 use Rattle.refine_calls.proofs.Refines.{valid}
 use Rattle.refine_calls.proofs.TurnsRefine.{Stand, runs, turns-refine, turns-sound, fresh-stand}
 use Rattle.refine_calls.proofs.TurnsRefine as refine
 use Rattle.refine_lists.specs.Lists.{boardOf, IdleNow, CommitMark, OneList, decodedReply}
 use Rattle.refine_lists.proofs.Tables.{turns-left}
-use Rattle.refine_lists.proofs.Standing.{board-of, idle-both, next-read, commit-told-next, other-told-next, forecast-of, refused-as-arriving, foreseen-of, previewed-of, all-read}
+use Rattle.refine_lists.proofs.Standing.{board-of, idle-both, next-read, commit-told-next, other-told-next, forecast-of, foreseen-of, previewed-of, all-read}
 
 -- calls alone mean themselves
 pub turns-calls : (xs : List ByteTurn) (ts : List Turn) (cs : List Call) → AreTurns xs ts → AreTurns (xs ++ map calls cs) (ts ++ map call cs)
@@ -177,7 +180,6 @@ module _ (p : Program) (ok : Accepted p) (t₀ l₀ : List ℕ) (table-room : 34
         sentences = all xs ts mean;
         one-event = λ h e who d eight sends room. one-event xs ts mean e who h d eight sends room;
         forecast = forecast-of l₀ b (after p ts) st;
-        preview-refused = refused-as-arriving l₀ b (after p ts) st;
         preview = foreseen-of l₀ b (after p ts) st;
         mark = mark xs ts mean;
         told-commit = commit-told-next l₀ b (after p ts) st;

@@ -8,9 +8,10 @@ use mathlib.Core.List.{List, [], _∷_, map, List·Permᴰ}
 use lib.ListN.{length}
 use Rattle.lib_base.specs.Basics.{All}
 use Rattle.spec_language.specs.Syntax.{Program}
-use Rattle.spec_language.specs.Accepted.{Accepted}
+use Rattle.spec_language.specs.Valid.{Accepted}
 use Rattle.spec_language.specs.Dependence.{events}
-use Rattle.spec_semantics.specs.Meaning.{event, fresh, play}
+use Rattle.spec_semantics.specs.Meaning.{fresh}
+use Rattle.spec_semantics.specs.Event.{event, play}
 use Rattle.spec_semantics.specs.Plays.{Plays}
 use Rattle.spec_semantics.proofs.PlaysLaws.{plays, plays-alone}
 use Rattle.spec_semantics.proofs.Lengths.{length-fresh}
@@ -22,7 +23,8 @@ use Rattle.spec_model.proofs.Alone.{only-commits}
 use Rattle.spec_model.proofs.Boards.{board-of-commits}
 use Rattle.spec_model.proofs.Confluence.{each-perm}
 use Rattle.spec_model.proofs.Replaying.{Proper, proper}
-use Rattle.refine_calls.specs.Refinement.{calls, Bytes, bytesAfter, turnOnBytes, AreTurns}
+use Rattle.refine_calls.specs.Refinement.{calls, Bytes, bytesAfter, turnOnBytes}
+use Rattle.refine_calls.specs.Turns.{AreTurns}
 use Rattle.refine_calls.proofs.Refines.{valid}
 use Rattle.refine_calls.proofs.TurnsRefine.{turns-sound}
 use Rattle.refine_calls.proofs.TurnsRefine as refine

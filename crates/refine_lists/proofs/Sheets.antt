@@ -11,11 +11,13 @@ use Rattle.lib_base.specs.Basics.{All}
 use Rattle.lib_word.specs.Word.{get}
 use Rattle.spec_language.specs.Syntax.{Program}
 use Rattle.spec_language.specs.Sheet.{Sheet}
-use Rattle.spec_language.specs.Accepted.{Accepted, SheetAccepted}
+use Rattle.spec_language.specs.Accepted.{SheetAccepted}
+use Rattle.spec_language.specs.Valid.{Accepted}
 use Rattle.spec_language.proofs.SheetLaws.{filling-accepted}
-use Rattle.format_image.specs.Image.{tableOf}
+use Rattle.format_image.specs.Table.{tableOf}
 use Rattle.draft_params.proofs.Fills.{get-small}
-use Rattle.back_compile.specs.Verdict.{Compiled, programOf, compileOn}
+use Rattle.back_compile.specs.Verdict.{compileOn}
+use Rattle.back_compile.specs.Compiled.{Compiled, programOf}
 use Rattle.back_compile.proofs.JudgeLaws.{compile-short}
 use Rattle.run_start.specs.Start.{startOn, freshBytes}
 use Rattle.refine_calls.proofs.Refines.{starts}

@@ -17,11 +17,12 @@ use Rattle.run_arrive.specs.Arrivals.{arriveOn}
 use Rattle.run_step.specs.Machine.{stepOn}
 use Rattle.run_forecast.specs.Forecast.{forecastOn}
 use Rattle.run_preview.specs.Preview.{previewOn}
-use Rattle.refine_calls.specs.Refinement.{coded, decoded, toldOn, callOn, codedReply, ByteTurn, calls, mends, Bytes, turnOnBytes, IsTurn, AreTurns}
+use Rattle.refine_calls.specs.Refinement.{coded, decoded, toldOn, callOn, codedReply, ByteTurn, calls, mends, Bytes, turnOnBytes}
+use Rattle.refine_calls.specs.Turns.{IsTurn, AreTurns}
 use Rattle.refine_calls.proofs.Coded.{ToStep, answer-to, decoded-coded, coded-injective, commit-told, other-told}
 use Rattle.refine_calls.proofs.Agrees.{call-agrees}
 use Rattle.refine_calls.proofs.Forecasts.{forecast-agrees}
-use Rattle.refine_calls.proofs.Previews.{preview-refused, preview-taken, preview-agrees}
+use Rattle.refine_calls.proofs.Previews.{preview-taken, preview-agrees}
 use Rattle.refine_calls.proofs.TurnsRefine.{Stand, turned}
 use Rattle.refine_lists.specs.Lists.{boardOf, IdleNow, decodedReply}
 
@@ -68,10 +69,6 @@ other-told-next l₀ b (state p w) h c =
 
 pub forecast-of : (l₀ : List ℕ) (b : Bytes) (s : State) → Stand l₀ b s → forecastOn (b .table) (b .round) ≡ 4294967296 + forecast (inForce s) (engineIn s)
 forecast-of l₀ b (state p w) h = forecast-agrees p (h .fit .0) (b .table) (h .says) (b .round) w (h .alike) (h .fit .1)
-
-pub refused-as-arriving : (l₀ : List ℕ) (b : Bytes) (s : State) → Stand l₀ b s → (e i who : ℕ)
-    → arriveOn (b .table) (b .round) e who .0 ≢ 0 → previewOn (b .table) (b .round) e i who ≡ arriveOn (b .table) (b .round) e who .0
-refused-as-arriving l₀ b (state p w) h e i who = preview-refused p (h .fit .0) (b .table) (h .says) (b .round) w (h .alike) (h .fit .1) e who i
 
 pub foreseen-of : (l₀ : List ℕ) (b : Bytes) (s : State) → Stand l₀ b s → (e i who : ℕ)
     → arriveOn (b .table) (b .round) e who .0 ≡ 0 → previewOn (b .table) (b .round) e i who ≡ coded (foreseen (inForce s) (engineIn s) e i who)

@@ -8,8 +8,9 @@ use Rattle.lib_base.proofs.Tools.{by-test}
 use Rattle.spec_language.specs.Syntax.{Program}
 use Rattle.spec_model.specs.Model.{engine, queue, inCopyBack, Turn, call, change, State, state, TurnOutcome, declaredIn, turn, runTurns}
 use Rattle.spec_model.specs.Claims.{inForce}
-use Rattle.format_image.specs.Image.{tableOf}
-use Rattle.refine_calls.specs.Refinement.{codedReply, ByteTurn, calls, mends, Bytes, turnOnBytes, bytesAfter, IsTurn, AreTurns}
+use Rattle.format_image.specs.Table.{tableOf}
+use Rattle.refine_calls.specs.Refinement.{codedReply, ByteTurn, calls, mends, Bytes, turnOnBytes, bytesAfter}
+use Rattle.refine_calls.specs.Turns.{IsTurn, AreTurns}
 use Rattle.refine_calls.proofs.Mends.{inForceAfter}
 use Rattle.refine_calls.proofs.TurnsRefine.{Stand, turned}
 

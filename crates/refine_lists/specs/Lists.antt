@@ -16,13 +16,18 @@ use Rattle.spec_language.specs.Grammar.{encode}
 use Rattle.spec_language.specs.Rights.{maySend}
 use Rattle.spec_language.specs.Sheet.{Sheet}
 use Rattle.spec_language.specs.Syntax.{Program}
+use Rattle.spec_language.specs.Answers.{told}
 use Rattle.spec_semantics.specs.Meaning.{fresh, withStore}
 use Rattle.spec_semantics.specs.Over.{EventOver}
 use Rattle.spec_semantics.specs.Plays.{Plays}
-use Rattle.spec_model.specs.Claims.{programAfter, engineAfter, after, historyOf, takenInBy, courseOf, SameChanges, ApartEach, number, IdleIn, commits, Replays, Sentences, eventsOf, copyBackIn, aloneCalls, forecast, foreseen, committedIn, ApartIn, Unchanged}
+use Rattle.spec_model.specs.Claims.{programAfter, engineAfter, after, historyOf, takenInBy, courseOf, SameChanges}
+use Rattle.spec_model.specs.Claims.{ApartEach, number, IdleIn, commits, Replays, Sentences, eventsOf, copyBackIn}
+use Rattle.spec_model.specs.Claims.{aloneCalls, forecast, foreseen, committedIn, ApartIn, Unchanged}
 use Rattle.spec_model.specs.Model.{Turn, call, Reply, says, carriedOver, replies, begun, change, Arrival, arrival, step, refused, committed, Call}
-use Rattle.format_image.specs.Image.{tableOf}
-use Rattle.back_compile.specs.Verdict.{programOf, compileOn}
+use Rattle.format_image.specs.Table.{tableOf}
+use Rattle.format_layout.specs.Layout.{storeStart}
+use Rattle.back_compile.specs.Verdict.{compileOn}
+use Rattle.back_compile.specs.Compiled.{programOf}
 use Rattle.run_start.specs.Start.{startOn}
 use Rattle.run_arrive.specs.Arrivals.{arriveOn}
 use Rattle.run_step.specs.Machine.{stepOn}
@@ -32,7 +37,7 @@ use Rattle.refine_calls.specs.Refinement.{coded, decoded, toldOn, Kept, ByteTur
 
 -- the board of a round: the values of p's behaviours, as read from its bytes
 abbrev pub boardOf : Program → List ℕ → List ℕ
-boardOf p l = words l 136 (size p)
+boardOf p l = words l storeStart (size p)
 
 -- "Idle: a step called now would answer idle.", on the table in force
 abbrev pub IdleNow : Bytes → Type 0
@@ -66,7 +71,8 @@ pub record OneList (p : Program) (l₀ : List ℕ) (b : Bytes) (xs : List ByteTu
   -- ".. and the round after the list"
   pub round : ViewIn (bytesAfter xs b .round) (after p ts)
   pub beyond : Kept l₀ (bytesAfter xs b .round)
-  -- a step called now answers idle exactly if the model engine's does
+  -- a step called now answers idle exactly if the model engine's does: a consequence of `answers`, one step more being
+  -- a list too
   pub idle : (IdleNow (bytesAfter xs b) → IdleIn (after p ts)) × (IdleIn (after p ts) → IdleNow (bytesAfter xs b))
   -- "After the list, unless a copy-back is under way, the board equals what demand 2's rules give for the committed
   -- events, one by one, undivided, in order of commitment." 02, M-112: "Commits before the change follow the old sheet
@@ -90,13 +96,11 @@ pub record OneList (p : Program) (l₀ : List ℕ) (b : Bytes) (xs : List ByteTu
       (boardOf (programAfter p ts) (bytesAfter (xs ++ map calls (aloneCalls (programAfter p ts) e who)) b .round))
   -- 02, M-100: "The same number is offered as a call of its own on a round .. While something runs, that call gives
   -- 01's bound.": 2 ^ 32 and the number
-  pub forecast : forecastOn (bytesAfter xs b .table) (bytesAfter xs b .round) ≡ 4294967296 + forecast (programAfter p ts) (engineAfter p ts)
+  pub forecast : forecastOn (bytesAfter xs b .table) (bytesAfter xs b .round) ≡ told (forecast (programAfter p ts) (engineAfter p ts))
   -- 02, M-101: "A preview takes a round, an event and a behaviour, and tells the value that the board would show after
   -- this arrival and everything in hand had been run to idle. It equals doing so on a copy .. It is turned down as the
-  -- arrival would be, then by 18": of such a round a step never is, and 01's count is enough. M-107: "Each arrival,
-  -- board reading and preview now carries its player .. A preview needs both rights"
-  pub preview-refused : (e i who : ℕ) → arriveOn (bytesAfter xs b .table) (bytesAfter xs b .round) e who .0 ≢ 0
-      → previewOn (bytesAfter xs b .table) (bytesAfter xs b .round) e i who ≡ arriveOn (bytesAfter xs b .table) (bytesAfter xs b .round) e who .0
+  -- arrival would be (`Demand1.preview-order`), then by 18": of such a round a step never is, and 01's count is enough.
+  -- M-107: "Each arrival, board reading and preview now carries its player .. A preview needs both rights"
   pub preview : (e i who : ℕ) → arriveOn (bytesAfter xs b .table) (bytesAfter xs b .round) e who .0 ≡ 0
       → previewOn (bytesAfter xs b .table) (bytesAfter xs b .round) e i who ≡ coded (foreseen (programAfter p ts) (engineAfter p ts) e i who)
   -- 02, M-104: "the committing step's answer carries a mark: set exactly if some application in that event's meaning
@@ -114,7 +118,8 @@ pub record OneList (p : Program) (l₀ : List ℕ) (b : Bytes) (xs : List ByteTu
 
 pub record OnlyCalls (p : Program) (l₀ : List ℕ) (b : Bytes) (cs : List Call) : Type 0 where
   pub list : OneList p l₀ b (map calls cs) (map call cs)
-  -- the history is the commits, and further calls change no sheet either: so the sentences of what follows hold of them
+  -- the history is the commits, and further calls change no sheet either, a consequence of what a call's reply can be:
+  -- so the sentences of what follows hold of them
   pub history : historyOf p (map call cs) ≡ map commits (committedIn p (map call cs))
   pub unchanged : (ds : List Call) → Unchanged (map call ds) (after p (map call cs))
   -- the sheet stays in force, and "The table is still as compile left it"

@@ -3,7 +3,7 @@
 use mathlib.Core.Path.{_≡_, refl}
 use mathlib.Core.List.{[]}
 use Rattle.lib_word.specs.Word.{get, getAt, put}
-use Rattle.run_dispatch.specs.Dispatch.{said}
+use Rattle.run_dispatch.specs.Said.{said}
 use Rattle.run_advance.specs.Advance.{commitSaid, countInstruction}
 
 pub commits-of-arrival-7 : (commitSaid 7 259 0 ≡ 459539) × (commitSaid 7 259 1 ≡ 72057594038387475)

@@ -12,11 +12,8 @@ use Rattle.format_layout.specs.Layout.{eventWord, runningWord, runningEvent, ru
 use Rattle.format_layout.specs.Round.{CallResult}
 use Rattle.run_instruction.specs.Allowed.{mayRun}
 use Rattle.run_instruction.specs.Instruction.{perform}
-use Rattle.run_dispatch.specs.Dispatch.{saidOf}
-
--- M-104: "the committing step's answer carries a mark", 2^56 more: arrival numbers, whatever the bytes, end below
-abbrev pub overMark : ℕ
-overMark = 72057594037927936
+use Rattle.run_dispatch.specs.Said.{saidOf}
+use Rattle.run_advance.specs.Mark.{overMark}
 
 -- the answer of a commit: `hand` is the word of event and player, w the mark's
 unfoldable pub commitSaid : ℕ → ℕ → ℕ → ℕ

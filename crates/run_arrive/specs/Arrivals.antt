@@ -9,7 +9,8 @@ use Rattle.lib_base.specs.Basics.{pick}
 use Rattle.lib_word.specs.Word.{put}
 use Rattle.spec_language.specs.Refusals.{foreign, noPlayer, undeclaredEvent, noRight, fullQueue, spent}
 use Rattle.spec_language.specs.Rights.{may}
-use Rattle.format_layout.specs.Layout.{eventCount, sendersAt, handWord, taken, waitingCount, runningFlag, ours}
+use Rattle.format_layout.specs.Layout.{eventCount, sendersAt, taken, waitingCount, runningFlag}
+use Rattle.format_layout.specs.Foreign.{handWord, ours}
 use Rattle.run_queue.specs.Queue.{putSlot}
 use Rattle.format_layout.specs.Round.{CallResult}
 

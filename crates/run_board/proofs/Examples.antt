@@ -6,7 +6,8 @@ use mathlib.Core.Bool.{Bool, true, false}
 use mathlib.Core.Path.{_≡_, refl}
 use mathlib.Core.List.{List, [], _∷_, map}
 use Rattle.lib_word.specs.Word.{get, getAt}
-use Rattle.run_board.specs.Board.{isCopyingBack, isMasked, boardWith}
+use Rattle.run_board.specs.Masking.{isCopyingBack, isMasked}
+use Rattle.run_board.specs.Board.{boardWith}
 
 -- before the first off; from off to on; between; from the second off to its on
 pub masked-W : map (isMasked 51 6) (0 ∷ 1 ∷ 4 ∷ 7 ∷ 8 ∷ 30 ∷ 43 ∷ 44 ∷ 50 ∷ []) ≡ false ∷ true ∷ true ∷ true ∷ false ∷ false ∷ false ∷ true ∷ true ∷ []

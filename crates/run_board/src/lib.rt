@@ -7,7 +7,8 @@ use spec_language::limits;
 use spec_language::refusals;
 ghost use mathlib.Core.Path.{_≡_};
 ghost use Rattle.format_layout.specs.Bounds.{Bounds};
-ghost use Rattle.run_board.specs.Board.{isCopyingBack, isMasked, copyBackUnderWay, boardOn, copyBackOn};
+ghost use Rattle.run_board.specs.Board.{boardOn, copyBackOn};
+ghost use Rattle.run_board.specs.Masking.{isCopyingBack, isMasked, copyBackUnderWay};
 
 const FOREIGN: u64 = refusals::FOREIGN as u64;
 

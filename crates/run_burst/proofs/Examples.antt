@@ -3,7 +3,8 @@
 use mathlib.Core.Bool.{true, false}
 use mathlib.Core.Path.{_≡_, refl}
 use mathlib.Core.List.{[], _∷_, map}
-use Rattle.run_burst.specs.Burst.{isCommit, unmade, stops}
+use Rattle.run_burst.specs.Commit.{isCommit}
+use Rattle.run_burst.specs.Burst.{unmade, stops}
 
 pub commits : map isCommit (0 ∷ 1 ∷ 459538 ∷ 459539 ∷ 459540 ∷ []) ≡ false ∷ false ∷ false ∷ true ∷ false ∷ []
 commits = refl

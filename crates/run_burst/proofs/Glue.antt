@@ -14,7 +14,8 @@ use Rattle.format_layout.specs.Round.{CallResult, callResult}
 use Rattle.run_step.specs.Machine.{stepOn}
 use Rattle.run_step.specs.Sound.{RoundSound, isOutranked, outrankedAfter}
 use Rattle.run_step.proofs.Still.{idle-stays, refused-stays}
-use Rattle.run_burst.specs.Burst.{isCommit, unmade, stops, Burst, burst, burstOn}
+use Rattle.run_burst.specs.Burst.{unmade, stops, Burst, burst, burstOn}
+use Rattle.run_burst.specs.Commit.{isCommit}
 use Rattle.run_burst.specs.Progress.{InstructionsRun, Advanced}
 
 -- a step that is not made leaves the round

@@ -11,13 +11,15 @@ use borrow.Author.Tests.{eq-eqb, ne-eqb, eqb-true, eqb-false}
 use Rattle.lib_base.specs.Basics.{pick}
 use Rattle.lib_base.proofs.Tools.{by-test, split}
 use Rattle.lib_word.specs.Word.{get, put}
-use Rattle.format_layout.specs.Layout.{eventWord, waitingCount, runningFlag, runningWord, runningEvent, runningNumber, position, depth, markWord, eventAt, ours}
+use Rattle.format_layout.specs.Layout.{eventWord, waitingCount, runningFlag, runningWord, runningEvent, runningNumber, position, depth, markWord, eventAt}
+use Rattle.format_layout.specs.Foreign.{ours}
 use Rattle.format_layout.specs.Round.{CallResult}
 use Rattle.run_queue.specs.Queue.{best}
-use Rattle.run_board.specs.Board.{isMasked}
+use Rattle.run_board.specs.Masking.{isMasked}
 use Rattle.run_instruction.specs.Allowed.{mayRun}
 use Rattle.run_instruction.specs.Instruction.{perform}
-use Rattle.run_dispatch.specs.Dispatch.{said, startAt, preemptAt}
+use Rattle.run_dispatch.specs.Dispatch.{startAt, preemptAt}
+use Rattle.run_dispatch.specs.Said.{said}
 use Rattle.run_advance.specs.Advance.{commitSaid, countInstruction, executeOn, executeAt, advanceOn}
 use Rattle.run_step.specs.Machine.{meet, contestOn, whileRunning, whileResting, stepWith, stepIn, stepOn}
 use Rattle.run_step.specs.Sound.{RoundSound}

@@ -1,6 +1,6 @@
 -- A burst: the steps up to the next commit, for all bytes. It ends before a step that is idle or refused, and after one
 -- that commits.
-use Prim.Native.Nat.{ℕ, zero, suc, _%_}
+use Prim.Native.Nat.{ℕ, zero, suc}
 use mathlib.Core.Bool.{Bool, true}
 use mathlib.Core.List.{List}
 use lib.Dec.{eqb}
@@ -8,10 +8,7 @@ use Rattle.lib_base.specs.Basics.{pick}
 use Rattle.spec_language.specs.Refusals.{foreign}
 use Rattle.spec_language.specs.Answers as kinds
 use Rattle.run_step.specs.Machine.{stepOn}
-
--- a step that answers a commits: the kind is the remainder by 16
-abbrev pub isCommit : ℕ → Bool
-isCommit a = eqb (a % 16) kinds.committed
+use Rattle.run_burst.specs.Commit.{isCommit}
 
 -- a step that answers a is not made: idle, or refused
 unfoldable pub unmade : ℕ → Bool

@@ -1,2 +1,3 @@
+pub mod Commit
 pub mod Burst
 pub mod Progress

@@ -9,7 +9,8 @@ use lib.Dec.{ltb, eqb}
 use Rattle.lib_base.specs.Basics.{pick}
 use Rattle.lib_word.specs.Word.{get, put}
 use Rattle.spec_language.specs.Refusals.{foreign}
-use Rattle.format_layout.specs.Layout.{behaviourCount, kindAt, passivesStart, passivesLength, codeFits}
+use Rattle.format_layout.specs.Layout.{behaviourCount, passivesStart, passivesLength}
+use Rattle.format_layout.specs.Foreign.{kindAt, codeFits}
 use Rattle.format_layout.specs.Round.{CallResult}
 use Rattle.run_stretch.specs.Stretch.{stretchFrom}
 

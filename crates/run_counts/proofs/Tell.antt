@@ -7,7 +7,8 @@ use borrow.Author.Tests.{le-leb, lt-leb}
 use Rattle.spec_language.specs.Syntax.{Program}
 use Rattle.spec_language.specs.Dependence.{events}
 use Rattle.format_image.proofs.ImageLaws.{Says}
-use Rattle.run_counts.specs.Counts.{eventCountOn, behaviourCountOn, eventRankOn, Tells}
+use Rattle.run_counts.specs.Counts.{eventCountOn, behaviourCountOn, eventRankOn}
+use Rattle.run_counts.specs.Tells.{Tells}
 
 pub says-tells : (p : Program) (t : List ℕ) → Says p t → Tells p t
 unfolding eventCountOn behaviourCountOn eventRankOn

@@ -1,6 +1,7 @@
 // What a table tells of its program, and the version of this library: so that a host need not probe for them.
 ghost use mathlib.Core.Path.{_≡_};
-ghost use Rattle.run_counts.specs.Counts.{versionNumber, eventCountOn, behaviourCountOn, eventRankOn};
+ghost use Rattle.run_counts.specs.Counts.{eventCountOn, behaviourCountOn, eventRankOn};
+ghost use Rattle.run_counts.specs.Version.{versionNumber};
 
 // The version of the exported calls, and that of the layout of table and round.
 pub const INTERFACE: u32 = 1;

@@ -3,7 +3,8 @@
 use mathlib.Core.Path.{_≡_, refl}
 use mathlib.Core.List.{[], _∷_}
 use Rattle.run_frame.specs.Frame.{frameSaid}
-use Rattle.run_deliver.specs.Deliver.{deliveredNow, noCommitRoom, brokenOff, deliveryRefusal, takenSaid}
+use Rattle.run_deliver.specs.Deliver.{deliveryRefusal}
+use Rattle.run_deliver.specs.Delivery.{deliveredNow, noCommitRoom, brokenOff, takenSaid}
 
 -- taken in; no room for a commit; a step was refused
 pub outcomes : deliveredNow ∷ noCommitRoom ∷ brokenOff ∷ [] ≡ 1 ∷ 2 ∷ 3 ∷ []

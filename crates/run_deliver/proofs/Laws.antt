@@ -11,14 +11,16 @@ use borrow.Author.Tests.{lt-ltb, le-ltb, le-leb, lt-leb, eq-eqb, ne-eqb}
 use Rattle.lib_base.specs.Basics.{pick}
 use Rattle.lib_word.specs.Word.{get, put}
 use Rattle.spec_language.specs.Rights.{may}
-use Rattle.format_layout.specs.Layout.{eventCount, sendersAt, taken, waitingCount, runningFlag, ours}
+use Rattle.format_layout.specs.Layout.{eventCount, sendersAt, taken, waitingCount, runningFlag}
+use Rattle.format_layout.specs.Foreign.{ours}
 use Rattle.run_answers.specs.Answers.{putAnswer}
 use Rattle.run_queue.specs.Queue.{putSlot}
 use Rattle.run_arrive.specs.Arrivals.{admit, queueFull}
 use Rattle.run_burst.specs.Burst.{burst, burstOn}
 use Rattle.run_frame.specs.Frame.{frameSaid}
 use Rattle.run_preview.specs.Preview.{inHand}
-use Rattle.run_deliver.specs.Deliver.{Delivery, delivery, deliveryRefusal, admitted, deliverAfter, deliverFull, deliverKnown, deliverWith, deliverOn, takenSaid, takenOn}
+use Rattle.run_deliver.specs.Deliver.{deliveryRefusal, admitted, deliverAfter, deliverFull, deliverKnown, deliverWith, deliverOn, takenOn}
+use Rattle.run_deliver.specs.Delivery.{Delivery, delivery, takenSaid}
 
 -- ---- the refusal
 

@@ -15,19 +15,22 @@ use Rattle.lib_base.specs.Basics.{pick}
 use Rattle.lib_base.proofs.Tools.{by-test, split}
 use Rattle.lib_word.specs.Word.{get, put}
 use Rattle.lib_word.proofs.Laws.{long, long-put, length-put, get-put, get-same, get-other}
-use Rattle.format_layout.specs.Layout.{eventWord, taken, waitingCount, runningFlag, runningWord, runningEvent, runningNumber, position, depth, markWord, numberAt, wordAt, ours}
+use Rattle.format_layout.specs.Layout.{eventWord, taken, waitingCount, runningFlag, runningWord, runningEvent, runningNumber, position, depth, markWord, numberAt, wordAt}
+use Rattle.format_layout.specs.Foreign.{ours}
 use Rattle.format_layout.specs.Bounds.{TableBounds, Bounds}
 use Rattle.format_layout.proofs.BoundsLaws.{bounds, table-bounds, hand-bound}
 use Rattle.format_layout.specs.Round.{CallResult}
 use Rattle.run_queue.specs.Queue.{best, putSlot}
-use Rattle.run_board.specs.Board.{isMasked}
+use Rattle.run_board.specs.Masking.{isMasked}
 use Rattle.run_instruction.specs.Allowed.{mayRun}
 use Rattle.run_instruction.specs.Instruction.{perform}
-use Rattle.run_dispatch.specs.Dispatch.{said, runArrival, startAt, preemptAt}
+use Rattle.run_dispatch.specs.Dispatch.{runArrival, startAt, preemptAt}
+use Rattle.run_dispatch.specs.Said.{said}
 use Rattle.run_advance.specs.Advance.{commitSaid, countInstruction, executeOn, executeAt, advanceOn}
 use Rattle.run_step.specs.Machine.{whileResting, stepOn}
 use Rattle.run_step.specs.Sound.{RoundSound, isOutranked}
-use Rattle.run_burst.specs.Burst.{isCommit, unmade, Burst, burst, burstOn}
+use Rattle.run_burst.specs.Burst.{unmade, Burst, burst, burstOn}
+use Rattle.run_burst.specs.Commit.{isCommit}
 use Rattle.run_arrive.specs.Arrivals.{queueFull}
 use Rattle.run_step.proofs.Fits.{ours-sound}
 use Rattle.run_instruction.proofs.Performs.{Keeps, perform-keeps}

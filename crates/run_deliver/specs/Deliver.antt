@@ -1,38 +1,24 @@
 -- A delivery, for all bytes: entry `number` of the order that the phones of a match share, taken in once and in its
 -- place. With a full hand it makes steps until one commits, and then takes the entry in. And what is taken in and in
 -- hand. A function that branches takes plain numbers; one that reads calls it.
-use Prim.Native.Nat.{ℕ, _+_, _*_, _-_}
+use Prim.Native.Nat.{ℕ, _-_}
 use mathlib.Core.List.{List}
 use lib.ListN.{length}
 use lib.Dec.{ltb, leb, eqb}
 use Rattle.lib_base.specs.Basics.{pick}
 use Rattle.spec_language.specs.Refusals.{foreign, missingEntries, takenBefore, noPlayer, undeclaredEvent, noRight, spent}
 use Rattle.spec_language.specs.Rights.{may}
-use Rattle.format_layout.specs.Layout.{eventCount, sendersAt, taken, waitingCount, runningFlag, ours}
+use Rattle.format_layout.specs.Layout.{eventCount, sendersAt, taken, waitingCount, runningFlag}
+use Rattle.format_layout.specs.Foreign.{ours}
 use Rattle.run_answers.specs.Answers.{putAnswer}
 use Rattle.run_arrive.specs.Arrivals.{admit, queueFull}
-use Rattle.run_burst.specs.Burst.{isCommit, Burst, burstOn}
+use Rattle.run_burst.specs.Burst.{Burst, burstOn}
+use Rattle.run_burst.specs.Commit.{isCommit}
 use Rattle.run_frame.specs.Frame.{frameSaid}
 use Rattle.run_preview.specs.Preview.{inHand}
+use Rattle.run_deliver.specs.Delivery.{deliveredNow, noCommitRoom, brokenOff, Delivery, takenSaid}
 
 -- ---- the answer: a refusal's number, or an outcome, the commits written and the steps made, packed as a frame's
-
--- taken in; the hand is full and there is no room for a commit: no step made; a step on the way was refused by 14
-abbrev pub deliveredNow : ℕ
-deliveredNow = 1
-
-abbrev pub noCommitRoom : ℕ
-noCommitRoom = 2
-
-abbrev pub brokenOff : ℕ
-brokenOff = 3
-
--- the answer, the round's bytes and the commits' after it
-abbrev pub Delivery : Type 0
-Delivery = ℕ × List ℕ × List ℕ
-
-abbrev pub delivery : ℕ → List ℕ → List ℕ → Delivery
-delivery r l b = (r, l, b)
 
 -- ---- refusals, and nothing is changed
 
@@ -86,9 +72,6 @@ deliverOn t l number e who b =
     (foreign, l, b)
 
 -- ---- what is taken in, and how many of them are in hand: 2 ^ 32, the number taken in, and 2 ^ 40 for each in hand
-
-abbrev pub takenSaid : ℕ → ℕ → ℕ
-takenSaid k hand = 4294967296 + k + hand * 1099511627776
 
 unfoldable pub takenOn : List ℕ → List ℕ → ℕ
 takenOn t l = pick (ours t l) (takenSaid (taken l) (inHand (waitingCount l) (runningFlag l))) foreign

@@ -15,7 +15,8 @@ ghost use Rattle.run_arrive.specs.Arrivals.{queueFull};
 ghost use Rattle.run_step.specs.Sound.{RoundSound};
 ghost use Rattle.run_frame.specs.Frame.{frameSaid};
 ghost use Rattle.run_preview.specs.Preview.{inHand};
-ghost use Rattle.run_deliver.specs.Deliver.{delivery, deliveryRefusal, admitted, deliverFull, deliverKnown, deliverOn, takenOn};
+ghost use Rattle.run_deliver.specs.Deliver.{deliveryRefusal, admitted, deliverFull, deliverKnown, deliverOn, takenOn};
+ghost use Rattle.run_deliver.specs.Delivery.{delivery};
 
 // How a delivery ends that is not refused: taken in; no room for a commit; a step refused by 14.
 const DELIVERED: u64 = 1;

@@ -1,22 +1,13 @@
--- The next starts or preempts, on the round's bytes, for all bytes (layout: crate format_layout), and what a step
--- kinds. 01 "Handlers and steps".
-use Prim.Native.Nat.{ℕ, _+_, _*_}
+-- The next starts or preempts, on the round's bytes, for all bytes (layout: crate format_layout). 01 "Handlers and
+-- steps".
+use Prim.Native.Nat.{ℕ}
 use mathlib.Core.List.{List}
 use Rattle.lib_word.specs.Word.{put}
 use Rattle.spec_language.specs.Answers as kinds
-use Rattle.format_layout.specs.Layout.{eventOf, playerOf, runningWord, runningNumber, numberAt, wordAt}
+use Rattle.format_layout.specs.Layout.{runningWord, runningNumber, numberAt, wordAt}
 use Rattle.run_queue.specs.Queue.{putSlot}
 use Rattle.format_layout.specs.Round.{CallResult}
-
--- The answer of a step: one of the kinds of crate spec_language, Answers.antt, those of a start or a commit with
--- player, event number and arrival number; or foreign.
-
-unfoldable pub said : ℕ → ℕ → ℕ → ℕ → ℕ
-said k n e who = n * 65536 + e * 256 + who * 16 + k
-
--- of arrival n, w being the word of its event and player
-abbrev pub saidOf : ℕ → ℕ → ℕ → ℕ
-saidOf k n w = said k n (eventOf w) (playerOf w)
+use Rattle.run_dispatch.specs.Said.{saidOf}
 
 -- arrival n, of that word, runs, none of its instructions done, its stack empty, with no mark
 unfoldable pub runArrival : List ℕ → ℕ → ℕ → List ℕ

@@ -5,7 +5,8 @@ ghost use mathlib.Core.Path.{_≡_};
 ghost use Prim.Native.Nat.{_≤_, _<_};
 ghost use lib.ListN.{length};
 ghost use Rattle.format_layout.specs.Round.{callResult};
-ghost use Rattle.run_dispatch.specs.Dispatch.{saidOf, runArrival, startAt, preemptAt};
+ghost use Rattle.run_dispatch.specs.Dispatch.{runArrival, startAt, preemptAt};
+ghost use Rattle.run_dispatch.specs.Said.{saidOf};
 
 // The answer of a kind about an arrival, from its number and the word of its event and player.
 pub fn said_of(kind: u64, number: u32, word: u32) -> u64

@@ -5,7 +5,8 @@ use mathlib.Core.Path.{_≡_, refl}
 use mathlib.Core.List.{[]}
 use Rattle.lib_word.specs.Word.{get, getAt}
 use Rattle.format_layout.specs.Layout.{eventWord}
-use Rattle.run_forecast.specs.Forecast.{stepsIn, bound}
+use Rattle.run_forecast.specs.Steps.{stepsIn}
+use Rattle.run_forecast.specs.Forecast.{bound}
 
 pub three-in-hand : bound 2 51 ≡ 208
 unfolding bound

@@ -1,25 +1,18 @@
 -- What forecast reads from the table's and the round's bytes, for all bytes (layout: crate format_layout). 02, M-100:
 -- the steps to idle while nothing runs, else 01's bound. A function that branches takes plain numbers; one that reads
 -- calls it.
-use Prim.Native.Nat.{ℕ, zero, suc, _+_, _*_, max}
+use Prim.Native.Nat.{ℕ, _+_, _*_}
 use mathlib.Core.List.{List}
 use lib.Dec.{eqb}
 use Rattle.lib_base.specs.Basics.{pick}
 use Rattle.spec_language.specs.Refusals as refusals
-use Rattle.format_layout.specs.Layout.{eventCount, eventWord, waitingCount, runningFlag, eventAt, ours}
+use Rattle.format_layout.specs.Layout.{eventCount, waitingCount, runningFlag}
+use Rattle.format_layout.specs.Foreign.{ours}
+use Rattle.run_forecast.specs.Steps.{stepsIn, longestIn}
 
 -- ---- nothing runs: "the sum, over the hand, of each event's instruction count plus one", over the first n waiting
 
-unfoldable pub stepsIn : List ℕ → List ℕ → ℕ → ℕ
-stepsIn t l zero = 0
-stepsIn t l (suc n) = (eventWord t (eventAt l n) 2 + 1) + stepsIn t l n
-
 -- ---- something runs: "(k + 1) × (L + 1) steps .., k being the number in hand .., L the longest event's instructions"
-
--- the longest of the first n events
-unfoldable pub longestIn : List ℕ → ℕ → ℕ
-longestIn t zero = 0
-longestIn t (suc n) = max (eventWord t n 2) (longestIn t n)
 
 -- n wait beside the running one
 unfoldable pub bound : ℕ → ℕ → ℕ

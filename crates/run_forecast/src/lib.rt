@@ -8,7 +8,8 @@ ghost use mathlib.Core.Path.{_≡_};
 ghost use Prim.Native.Nat.{_≤_};
 ghost use Rattle.format_layout.specs.Layout.{eventCount, waitingCount};
 ghost use Rattle.format_layout.specs.Bounds.{TableBounds, Bounds};
-ghost use Rattle.run_forecast.specs.Forecast.{stepsIn, longestIn, bound, forecastOn};
+ghost use Rattle.run_forecast.specs.Forecast.{bound, forecastOn};
+ghost use Rattle.run_forecast.specs.Steps.{stepsIn, longestIn};
 
 const FOREIGN: u64 = refusals::FOREIGN as u64;
 

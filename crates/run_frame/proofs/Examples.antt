@@ -2,7 +2,8 @@
 -- why it ended.
 use mathlib.Core.Path.{_≡_, refl}
 use mathlib.Core.List.{[], _∷_}
-use Rattle.run_frame.specs.Frame.{allMade, metIdle, metRefusal, noRoom, frameSaid, roomFor}
+use Rattle.run_frame.specs.Frame.{frameSaid}
+use Rattle.run_frame.specs.Framed.{allMade, metIdle, metRefusal, noRoom, roomFor}
 
 pub two-commits-of-five-steps : (frameSaid 0 5 2 ≡ 8589934597) × (frameSaid 3 5 2 ≡ 216172790703718405)
 two-commits-of-five-steps = (refl, refl)

@@ -12,14 +12,17 @@ use borrow.Author.Tests.{le-leb, lt-leb, eq-eqb, ne-eqb, eqb-true, eqb-false}
 use Rattle.lib_base.specs.Basics.{pick}
 use Rattle.lib_base.proofs.Tools.{by-test, split}
 use Rattle.lib_word.proofs.Laws.{length-put}
-use Rattle.format_layout.specs.Layout.{ours, runningFlag, waitingCount}
+use Rattle.format_layout.specs.Layout.{runningFlag, waitingCount}
+use Rattle.format_layout.specs.Foreign.{ours}
 use Rattle.run_answers.specs.Answers.{putAnswer}
 use Rattle.run_step.specs.Machine.{stepOn}
 use Rattle.run_step.specs.Sound.{RoundSound}
-use Rattle.run_burst.specs.Burst.{isCommit, unmade, Burst, burst, burstOn}
+use Rattle.run_burst.specs.Burst.{unmade, Burst, burst, burstOn}
+use Rattle.run_burst.specs.Commit.{isCommit}
 use Rattle.run_burst.proofs.Glue.{left-at-most, left-fewer}
 use Rattle.run_burst.proofs.Rests.{one-runs, one-waits, none-in-hand}
-use Rattle.run_frame.specs.Frame.{Framed, framed, frameSaid, roomFor, countAfter, commitsAfter, idleOr, frameFrom, refusedFrame, frameOn}
+use Rattle.run_frame.specs.Frame.{frameSaid, countAfter, commitsAfter, idleOr, frameFrom, refusedFrame, frameOn}
+use Rattle.run_frame.specs.Framed.{Framed, framed, roomFor}
 
 length-putAnswer : (b : List ℕ) (n a : ℕ) → length (putAnswer b n a) ≡ length b
 unfolding putAnswer

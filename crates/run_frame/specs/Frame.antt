@@ -1,48 +1,24 @@
 -- A frame, for all bytes: the steps that it makes are those of `stepOn`, one after the other, and the answers of those
 -- that commit are written to the bytes lent for them, eight each.
-use Prim.Native.Nat.{ℕ, zero, suc, _+_, _*_, _/_}
+use Prim.Native.Nat.{ℕ, zero, suc, _+_, _*_}
 use mathlib.Core.List.{List}
 use lib.ListN.{length}
-use lib.Dec.{ltb, leb, eqb}
+use lib.Dec.{leb, eqb}
 use Rattle.lib_base.specs.Basics.{pick}
 use Rattle.spec_language.specs.Refusals.{foreign}
 use Rattle.spec_language.specs.Answers as kinds
 use Rattle.run_answers.specs.Answers.{putAnswer}
 use Rattle.run_step.specs.Machine.{stepOn}
-use Rattle.run_burst.specs.Burst.{isCommit}
+use Rattle.run_burst.specs.Commit.{isCommit}
+use Rattle.run_frame.specs.Framed.{allMade, metIdle, metRefusal, noRoom, Framed, roomFor, commitUnit, endUnit}
 
 -- ---- the answer
 
--- why a frame ended: all steps made; nothing is in hand, the next step would be idle; the next is refused; no room for
--- a further commit
-abbrev pub allMade : ℕ
-allMade = 0
-
-abbrev pub metIdle : ℕ
-metIdle = 1
-
-abbrev pub metRefusal : ℕ
-metRefusal = 2
-
-abbrev pub noRoom : ℕ
-noRoom = 3
-
 -- bits 0 to 31: the steps made; 32 to 55: the commits written; 56 to 63: why it ended
 abbrev pub frameSaid : ℕ → ℕ → ℕ → ℕ
-frameSaid why made written = why * 72057594037927936 + written * 4294967296 + made
-
--- the answer, the round's bytes and the commits' after it
-abbrev pub Framed : Type 0
-Framed = ℕ × List ℕ × List ℕ
-
-abbrev pub framed : ℕ → List ℕ → List ℕ → Framed
-framed r l b = (r, l, b)
+frameSaid why made written = why * endUnit + written * commitUnit + made
 
 -- ---- the commits
-
--- places of eight bytes, as many as 24 bits count
-unfoldable pub roomFor : ℕ → ℕ
-roomFor bytes = pick (ltb (bytes / 8) 16777215) (bytes / 8) 16777215
 
 -- after a step that answered a: how many are written, and the bytes
 unfoldable pub countAfter : ℕ → ℕ → ℕ

@@ -3,7 +3,8 @@ ghost use mathlib.Core.Path.{_≡_};
 ghost use mathlib.Core.Logic.{_≢_};
 ghost use Prim.Native.Nat.{_+_, _*_, _≤_, _<_};
 ghost use lib.ListN.{length};
-ghost use Rattle.run_frame.specs.Frame.{roomFor, frameSaid, countAfter, commitsAfter, framed, idleOr, frameFrom, refusedFrame, frameOn};
+ghost use Rattle.run_frame.specs.Frame.{frameSaid, countAfter, commitsAfter, idleOr, frameFrom, refusedFrame, frameOn};
+ghost use Rattle.run_frame.specs.Framed.{roomFor, framed};
 ghost use Rattle.run_step.specs.Sound.{RoundSound};
 
 // Why a frame ended: all steps made, nothing in hand, a step refused, no room for a further commit.

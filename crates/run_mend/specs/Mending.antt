@@ -9,7 +9,8 @@ use lib.Dec.{ltb, eqb}
 use Rattle.lib_base.specs.Basics.{pick}
 use Rattle.lib_word.specs.Word.{put}
 use Rattle.spec_language.specs.Refusals.{foreign, settling, undeclaredInHand}
-use Rattle.format_layout.specs.Layout.{eventCount, tableFits, waitingCount, runningFlag, runningEvent, runningWord, runningNumber, eventAt, ours}
+use Rattle.format_layout.specs.Layout.{eventCount, waitingCount, runningFlag, runningEvent, runningWord, runningNumber, eventAt}
+use Rattle.format_layout.specs.Foreign.{tableFits, ours}
 use Rattle.run_queue.specs.Queue.{putSlot}
 use Rattle.format_layout.specs.Round.{CallResult}
 use Rattle.run_carry.specs.Carry.{carryOn, storeShown}

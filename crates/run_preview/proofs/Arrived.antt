@@ -13,7 +13,8 @@ use Rattle.lib_base.proofs.Tools.{by-test, split}
 use Rattle.lib_word.specs.Word.{get, put}
 use Rattle.lib_word.proofs.Laws.{length-put, get-same, get-other}
 use Rattle.spec_language.specs.Rights.{may}
-use Rattle.format_layout.specs.Layout.{eventCount, sendersAt, handWord, eventOf, playerOf, taken, waitingCount, runningFlag, wordAt, handFits, ours}
+use Rattle.format_layout.specs.Layout.{eventCount, sendersAt, eventOf, playerOf, taken, waitingCount, runningFlag, wordAt}
+use Rattle.format_layout.specs.Foreign.{handWord, handFits, ours}
 use Rattle.format_layout.proofs.BoundsLaws.{table-bounds}
 use Rattle.format_layout.specs.Round.{CallResult, callResult}
 use Rattle.run_queue.specs.Queue.{putSlot}

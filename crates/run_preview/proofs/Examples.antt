@@ -3,7 +3,7 @@
 use mathlib.Core.Path.{_≡_, refl}
 use mathlib.Core.List.{[], _∷_}
 use Rattle.lib_word.specs.Word.{get, getAt}
-use Rattle.run_forecast.specs.Forecast.{longestIn}
+use Rattle.run_forecast.specs.Steps.{longestIn}
 use Rattle.run_preview.specs.Preview.{inHand, previewSteps, previewAnswer}
 
 pub three-in-hand : (inHand 2 0 ≡ 2) × (inHand 2 1 ≡ 3) × (previewSteps [] (0 ∷ 0 ∷ 0 ∷ 9 ∷ 0 ∷ 0 ∷ 0 ∷ 2 ∷ 0 ∷ 0 ∷ 0 ∷ 1 ∷ []) ≡ 4)

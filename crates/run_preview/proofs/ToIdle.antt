@@ -12,7 +12,8 @@ use Rattle.lib_base.proofs.Tools.{split}
 use Rattle.format_layout.specs.Round.{CallResult, callResult}
 use Rattle.run_step.specs.Machine.{stepOn}
 use Rattle.run_step.specs.Sound.{RoundSound}
-use Rattle.run_burst.specs.Burst.{isCommit, unmade, Burst, burst, burstOn}
+use Rattle.run_burst.specs.Burst.{unmade, Burst, burst, burstOn}
+use Rattle.run_burst.specs.Commit.{isCommit}
 use Rattle.run_burst.proofs.Glue.{stays, left-fewer}
 use Rattle.run_preview.specs.Preview.{lastStep, toIdle}
 

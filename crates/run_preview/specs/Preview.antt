@@ -14,7 +14,7 @@ use Rattle.format_layout.specs.Layout.{eventCount, behaviourCount, viewersAt, w
 use Rattle.format_layout.specs.Round.{CallResult}
 use Rattle.run_arrive.specs.Arrivals.{arriveOn}
 use Rattle.run_step.specs.Machine.{stepOn}
-use Rattle.run_forecast.specs.Forecast.{longestIn}
+use Rattle.run_forecast.specs.Steps.{longestIn}
 
 -- ---- to idle
 

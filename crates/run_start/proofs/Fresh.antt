@@ -13,7 +13,7 @@ use lib.Seq.{getD-set-same, getD-set-other, getD-drop, ext-getD}
 use borrow.Author.Tests.{ltb-true, ltb-false, eqb-true, eqb-false}
 use Rattle.lib_base.proofs.Tools.{split}
 use Rattle.lib_word.specs.Word.{put}
-use Rattle.format_layout.specs.Layout.{tableFits}
+use Rattle.format_layout.specs.Foreign.{tableFits}
 use Rattle.run_start.specs.Start.{cleared, stored, image, freshBytes, startOn}
 
 -- ---- a byte that is set to 0

@@ -8,8 +8,9 @@ use Rattle.lib_base.specs.Basics.{pick}
 use Rattle.lib_word.specs.Word.{get, put}
 use Rattle.spec_language.specs.Refusals.{foreign}
 use Rattle.format_layout.specs.declared.round.Round.{Round}
-use Rattle.format_layout.specs.Layout.{tableFits}
-use Rattle.format_layout.specs.Round.{CallResult, freshOf}
+use Rattle.format_layout.specs.Foreign.{tableFits}
+use Rattle.format_layout.specs.Round.{CallResult}
+use Rattle.format_layout.specs.Fresh.{freshOf}
 
 -- the first n words are 0
 unfoldable pub cleared : List ℕ → ℕ → List ℕ

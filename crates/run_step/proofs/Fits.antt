@@ -11,8 +11,9 @@ use lib.Dec.{ltb, eqb}
 use borrow.Author.Tests.{lt-ltb, le-ltb, ne-eqb, eqb-true, eqb-false}
 use Rattle.lib_base.specs.Basics.{pick}
 use Rattle.lib_base.proofs.Tools.{by-test, past, through, split}
-use Rattle.format_layout.specs.Layout.{eventCount, eventWord, tableFits, waitingCount, runningFlag, runningWord, runningEvent, position, depth, wordAt}
-use Rattle.format_layout.specs.Layout.{handFits, slotsFit, runningFits, roundWith, roundIn, roundFits, ours}
+use Rattle.format_layout.specs.Layout.{eventCount, eventWord, waitingCount, runningFlag, runningWord, runningEvent, position, depth, wordAt}
+use Rattle.format_layout.specs.Foreign.{tableFits}
+use Rattle.format_layout.specs.Foreign.{handFits, slotsFit, runningFits, roundWith, roundIn, roundFits, ours}
 use Rattle.format_layout.specs.Bounds.{Bounds}
 use Rattle.format_layout.proofs.BoundsLaws.{bounds}
 use Rattle.run_step.specs.Sound.{RoundSound}

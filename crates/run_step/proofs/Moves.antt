@@ -14,7 +14,8 @@ use Rattle.lib_base.specs.Basics.{pick}
 use Rattle.lib_base.proofs.Tools.{by-test, split}
 use Rattle.lib_word.specs.Word.{get, put}
 use Rattle.lib_word.proofs.Laws.{long, long-put, length-put, get-put, get-same, get-other}
-use Rattle.format_layout.specs.Layout.{eventCount, eventWord, eventOf, tableFits, waitingCount, runningFlag, runningWord, runningEvent, runningNumber, position, depth, numberAt, wordAt, eventAt, handFits}
+use Rattle.format_layout.specs.Layout.{eventCount, eventWord, eventOf, waitingCount, runningFlag, runningWord, runningEvent, runningNumber, position, depth, numberAt, wordAt, eventAt}
+use Rattle.format_layout.specs.Foreign.{tableFits, handFits}
 use Rattle.run_queue.specs.Queue.{best, putSlot}
 use Rattle.run_dispatch.specs.Dispatch.{runArrival, startAt, preemptAt}
 use Rattle.run_instruction.specs.Allowed.{mayRun}

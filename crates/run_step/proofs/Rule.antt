@@ -12,11 +12,12 @@ use Rattle.lib_base.specs.Basics.{pick}
 use Rattle.lib_base.proofs.Tools.{split}
 use Rattle.lib_word.specs.Word.{get}
 use Rattle.spec_language.specs.Refusals as refusals
-use Rattle.format_layout.specs.Layout.{eventWord, eventOf, waitingCount, runningFlag, runningEvent, position, eventAt, ours}
+use Rattle.format_layout.specs.Layout.{eventWord, eventOf, waitingCount, runningFlag, runningEvent, position, eventAt}
+use Rattle.format_layout.specs.Foreign.{ours}
 use Rattle.format_layout.specs.Round.{callResult}
 use Rattle.run_queue.specs.Queue.{best, anyAbove}
 use Rattle.run_queue.proofs.Choice.{any-above}
-use Rattle.run_board.specs.Board.{isMasked}
+use Rattle.run_board.specs.Masking.{isMasked}
 use Rattle.run_dispatch.specs.Dispatch.{preemptAt}
 use Rattle.run_advance.specs.Advance.{advanceOn}
 use Rattle.run_step.specs.Machine.{meet, contestOn, whileRunning, stepWith, stepIn, stepOn}

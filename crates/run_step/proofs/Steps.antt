@@ -12,15 +12,17 @@ use Rattle.lib_base.specs.Basics.{pick}
 use Rattle.lib_base.proofs.Tools.{by-test, split}
 use Rattle.lib_word.specs.Word.{get, put}
 use Rattle.spec_language.specs.Refusals.{foreign}
-use Rattle.format_layout.specs.Layout.{eventCount, eventWord, eventOf, waitingCount, runningFlag, runningWord, runningEvent, runningNumber, position, depth, markWord, wordAt, eventAt, ours}
+use Rattle.format_layout.specs.Layout.{eventCount, eventWord, eventOf, waitingCount, runningFlag, runningWord, runningEvent, runningNumber, position, depth, markWord, wordAt, eventAt}
+use Rattle.format_layout.specs.Foreign.{ours}
 use Rattle.format_layout.specs.Bounds.{TableBounds}
 use Rattle.format_layout.proofs.BoundsLaws.{table-bounds, hand-bound}
 use Rattle.format_layout.specs.Round.{CallResult, callResult}
 use Rattle.run_queue.specs.Queue.{EventsKnown, best}
-use Rattle.run_board.specs.Board.{isCopyingBack, isMasked}
+use Rattle.run_board.specs.Masking.{isCopyingBack, isMasked}
 use Rattle.run_instruction.specs.Allowed.{mayRun}
 use Rattle.run_instruction.specs.Instruction.{perform}
-use Rattle.run_dispatch.specs.Dispatch.{said, startAt, preemptAt}
+use Rattle.run_dispatch.specs.Dispatch.{startAt, preemptAt}
+use Rattle.run_dispatch.specs.Said.{said}
 use Rattle.run_advance.specs.Advance.{commitSaid, countInstruction, executeOn, executeAt, advanceOn, advanceLeft}
 use Rattle.run_step.specs.Machine.{whileResting, stepWith, stepIn, stepOn}
 use Rattle.run_step.specs.Sound.{RoundSound, maskedNow, isOutranked, isPreempted, outrankedAfter}

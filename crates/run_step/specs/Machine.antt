@@ -8,10 +8,11 @@ use lib.Dec.{ltb, eqb}
 use Rattle.lib_base.specs.Basics.{pick}
 use Rattle.spec_language.specs.Refusals.{foreign}
 use Rattle.spec_language.specs.Answers as kinds
-use Rattle.format_layout.specs.Layout.{eventWord, waitingCount, runningFlag, runningEvent, position, eventAt, ours}
+use Rattle.format_layout.specs.Layout.{eventWord, waitingCount, runningFlag, runningEvent, position, eventAt}
+use Rattle.format_layout.specs.Foreign.{ours}
 use Rattle.run_queue.specs.Queue.{best}
 use Rattle.format_layout.specs.Round.{CallResult}
-use Rattle.run_board.specs.Board.{isMasked}
+use Rattle.run_board.specs.Masking.{isMasked}
 use Rattle.run_dispatch.specs.Dispatch.{startAt, preemptAt}
 use Rattle.run_advance.specs.Advance.{advanceOn}
 

@@ -11,9 +11,10 @@ use lib.Dec.{eqb}
 use Rattle.lib_base.specs.Basics.{pick}
 use Rattle.spec_language.specs.Refusals.{foreign}
 use Rattle.spec_language.specs.Answers as kinds
-use Rattle.format_layout.specs.Layout.{eventCount, eventWord, tableFits, waitingCount, runningFlag, runningWord, runningEvent, position, depth, wordAt, handFits}
+use Rattle.format_layout.specs.Layout.{eventCount, eventWord, waitingCount, runningFlag, runningWord, runningEvent, position, depth, wordAt}
+use Rattle.format_layout.specs.Foreign.{tableFits, handFits}
 use Rattle.run_queue.specs.Queue.{anyAbove}
-use Rattle.run_board.specs.Board.{isMasked}
+use Rattle.run_board.specs.Masking.{isMasked}
 
 pub record RoundSound (t l : List ℕ) : Type 0 where
   pub table : tableFits t ≡ true

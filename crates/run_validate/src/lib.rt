@@ -6,8 +6,10 @@ ghost use mathlib.Core.Path.{_≡_};
 ghost use mathlib.Core.Bool.{true};
 ghost use Prim.Native.Nat.{_+_, _≤_};
 ghost use lib.ListN.{length};
-ghost use Rattle.lib_word.specs.Word.{getAt, swapBytes};
-ghost use Rattle.format_layout.specs.Layout.{eventWord, runningFlag, runningWord, runningEvent, position, handFits, slotsFit, runningFits, ours};
+ghost use Rattle.lib_word.specs.Word.{getAt};
+ghost use Rattle.lib_word.specs.Halves.{swapBytes};
+ghost use Rattle.format_layout.specs.Layout.{eventWord, runningFlag, runningWord, runningEvent, position};
+ghost use Rattle.format_layout.specs.Foreign.{handFits, slotsFit, runningFits, ours};
 ghost use Rattle.format_layout.specs.Bounds.{Bounds};
 
 const STACK: u32 = limits::STACK as u32;

@@ -7,15 +7,16 @@ use Rattle.lib_base.specs.Basics.{All}
 use Rattle.lib_word.specs.Word.{get}
 use Rattle.spec_language.specs.Syntax.{Program}
 use Rattle.spec_language.specs.Sheet.{Sheet, fill}
-use Rattle.spec_language.specs.Accepted.{Accepted}
+use Rattle.spec_language.specs.Valid.{Accepted}
 use Rattle.spec_model.specs.Model.{Call, call, change, State, turn, replies, begun}
 use Rattle.spec_model.specs.Claims.{inForce}
-use Rattle.back_compile.specs.Verdict.{programOf}
+use Rattle.back_compile.specs.Compiled.{programOf}
 use Rattle.refine_calls.specs.Refinement.{coded}
 use Rattle.refine_lists.specs.Lists.{SheetTurn, calling, mending, Compiles, Means, AllMean, freshRoundOn}
 use Rattle.refine_lists.proofs.Sheets.{program-accepted}
 use Rattle.refine_lists.proofs.FromSheets.{prepared-accepted, list-of, previewed-after}
-use Rattle.secrecy_model.specs.Sight.{Sealed, Condition, Pair, both, each, inOne, inOther, AtChanges, ConditionAt}
+use Rattle.secrecy_model.specs.Sight.{Sealed, Pair, both, each, inOne, inOther, AtChanges}
+use Rattle.secrecy_model.specs.ModelRule.{Condition, ConditionAt}
 use Rattle.secrecy_model.proofs.RuleHolds.{players-rule}
 use Rattle.secrecy_engine.specs.Heard.{TwoSheets, hearsIn, HeardAlike, AlikeAt, RuleOn}
 use Rattle.secrecy_engine.proofs.Told.{renumbered, turns-heard, same-kinds}

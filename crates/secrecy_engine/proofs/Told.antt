@@ -13,7 +13,8 @@ use Rattle.spec_model.specs.Model.{Call, arrive, step, board, Answer, refused, 
 use Rattle.spec_model.specs.Told.{toldTo, unmarked}
 use Rattle.refine_calls.specs.Refinement.{codedReply, coded, toldOn}
 use Rattle.refine_lists.specs.Lists.{SheetTurn, calling, mending, Means, AllMean}
-use Rattle.secrecy_model.specs.Sight.{hears, asReply, hearsOf, Pair, both, each, inOne, inOther}
+use Rattle.secrecy_model.specs.Sight.{Pair, both, each, inOne, inOther}
+use Rattle.secrecy_model.specs.ModelRule.{hears, asReply, hearsOf}
 use Rattle.secrecy_engine.specs.Heard.{hearsOn, hearsIn}
 
 told-coded : (a : Answer) → toldOn (coded a) ≡ toldOn (coded (unmarked a))

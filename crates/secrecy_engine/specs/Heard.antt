@@ -15,7 +15,7 @@ use Rattle.lib_base.specs.Basics.{pick, All}
 use Rattle.spec_language.specs.Syntax.{Program}
 use Rattle.spec_language.specs.Sheet.{Sheet, fill}
 use Rattle.spec_model.specs.Model.{Call, arrive, step, board, begun}
-use Rattle.back_compile.specs.Verdict.{programOf}
+use Rattle.back_compile.specs.Compiled.{programOf}
 use Rattle.run_forecast.specs.Forecast.{forecastOn}
 use Rattle.run_preview.specs.Preview.{previewOn}
 use Rattle.refine_calls.specs.Refinement.{toldOn, Bytes, numbersOn, bytesAfter}

@@ -14,7 +14,7 @@ use Rattle.lib_base.proofs.Tools.{by-two}
 use Rattle.spec_language.specs.Syntax.{Behaviour, passive, active, Program}
 use Rattle.spec_language.specs.Rights.{may, maySee}
 use Rattle.spec_language.specs.Dependence.{size, behaviourAt}
-use Rattle.spec_language.specs.Accepted.{Accepted, Valid}
+use Rattle.spec_language.specs.Valid.{Accepted, Valid}
 use Rattle.spec_language.specs.Refusals as refusals
 use Rattle.spec_semantics.specs.Meaning.{at}
 use Rattle.spec_model.specs.Model.{rest, busy, Engine, engine, board, Answer, refused, shows, inCopyBack, act}

@@ -12,7 +12,7 @@ use Rattle.lib_base.proofs.Tools.{by-two, split}
 use Rattle.spec_language.specs.Syntax.{Behaviour, passive, active, Program}
 use Rattle.spec_language.specs.Rights.{maySee}
 use Rattle.spec_language.specs.Dependence.{size, events, noEvent, behaviourAt, isActive}
-use Rattle.spec_language.specs.Accepted.{Valid}
+use Rattle.spec_language.specs.Valid.{Valid}
 use Rattle.spec_language.specs.Refusals as refusals
 use Rattle.spec_semantics.specs.Meaning.{firstPhase, at}
 use Rattle.spec_execution.specs.Execution.{emptied}

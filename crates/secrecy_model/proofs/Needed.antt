@@ -22,7 +22,8 @@ use Rattle.spec_semantics.specs.Meaning.{value, inTurn, firstPhase, starts, fre
 use Rattle.spec_execution.specs.Execution.{execute, emptied, times}
 use Rattle.spec_model.specs.Model.{arrive, step, board, refused, takenIn, shows, idle, ran, started, preempted, committed, act, Reply, says, carriedOver, turn, replies, begun, Turn, call}
 use Rattle.spec_model.specs.Carried.{carriedActives, carried}
-use Rattle.secrecy_model.specs.Sight.{two-formulas, two-states, two-rows, AlikeBut, Pair, both, each, inOne, inOther, heardOf, EqualReplies, SameHidden}
+use Rattle.secrecy_model.specs.Sight.{two-formulas, two-states, two-rows, AlikeBut, Pair, both, each, inOne, inOther, SameHidden}
+use Rattle.secrecy_model.specs.ModelRule.{heardOf, EqualReplies}
 
 -- no parameter is used
 abbrev none-lent : ℕ → ℕ

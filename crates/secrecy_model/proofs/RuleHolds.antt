@@ -11,7 +11,7 @@ use borrow.Author.Tests.{eqb-true}
 use Rattle.lib_base.proofs.Tools.{split}
 use Rattle.spec_language.specs.Syntax.{Program}
 use Rattle.spec_language.specs.Sheet.{Sheet, fill}
-use Rattle.spec_language.specs.Accepted.{Accepted}
+use Rattle.spec_language.specs.Valid.{Accepted}
 use Rattle.spec_semantics.specs.Meaning.{fresh}
 use Rattle.spec_semantics.proofs.Lengths.{length-fresh}
 use Rattle.spec_execution.specs.Execution.{emptied}
@@ -19,7 +19,8 @@ use Rattle.spec_model.specs.Model.{Engine, TurnOutcome, change, State, state, R
 use Rattle.spec_model.specs.Claims.{forecast, inForce, engineIn, after}
 use Rattle.spec_model.specs.Told.{previewed}
 use Rattle.spec_model.proofs.History.{begun-fits}
-use Rattle.secrecy_model.specs.Sight.{Sealed, AlikeBut, Condition, Pair, both, each, inOne, inOther, SameHidden, EitherMakes, AtChanges, ConditionAt, asReply, hearsOf, heardOf, EqualReplies, PlayersRule}
+use Rattle.secrecy_model.specs.Sight.{Sealed, AlikeBut, Pair, both, each, inOne, inOther, SameHidden, EitherMakes, AtChanges}
+use Rattle.secrecy_model.specs.ModelRule.{Condition, ConditionAt, asReply, hearsOf, heardOf, EqualReplies, PlayersRule}
 use Rattle.secrecy_model.proofs.Programs.{Alike, sheets-alike}
 use Rattle.secrecy_model.proofs.Stores.{sealed-direct, fresh-agree}
 use Rattle.secrecy_model.proofs.Answered.{host-same, valid}

@@ -11,9 +11,10 @@ use Rattle.lib_base.proofs.Tools.{by-elim}
 use Rattle.spec_language.specs.Syntax.{Expr, Phase, immediate, later, Handler, handler, Behaviour, passive, active, Program}
 use Rattle.spec_language.specs.Rights.{maySee}
 use Rattle.spec_language.specs.Dependence.{Response, follows, takes, defers, keeps, inPhase, handled, respond, size, noEvent, behaviourAt, response, mentions, needs, one, more}
-use Rattle.spec_language.specs.Accepted.{Valid}
+use Rattle.spec_language.specs.Valid.{Valid}
 use Rattle.spec_language.proofs.Laws.{getD-upTo, named-in, ResponseNamesIn, response-names}
-use Rattle.spec_semantics.specs.Meaning.{at, firstPhase, event, startOf, starts, fresh}
+use Rattle.spec_semantics.specs.Meaning.{at, firstPhase, startOf, starts, fresh}
+use Rattle.spec_semantics.specs.Event.{event}
 use Rattle.spec_semantics.proofs.OrderLaws.{by-needs}
 use Rattle.spec_semantics.proofs.Solution.{firstOf, secondOf, value-same, first-local, first-solves, event-solves, or-first, or-second}
 use Rattle.spec_semantics.proofs.Lengths.{length-starts}

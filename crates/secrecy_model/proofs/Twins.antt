@@ -16,7 +16,8 @@ use Rattle.spec_language.specs.Syntax.{Program}
 use Rattle.spec_language.specs.Rights.{may, maySee}
 use Rattle.spec_language.specs.Dependence.{size, events, noEvent}
 use Rattle.spec_language.specs.Refusals as refusals
-use Rattle.spec_semantics.specs.Meaning.{event, at}
+use Rattle.spec_semantics.specs.Meaning.{at}
+use Rattle.spec_semantics.specs.Event.{event}
 use Rattle.spec_execution.proofs.CodeRight.{code-facts}
 use Rattle.spec_model.specs.Model.{Engine, engine, Call, arrive, step, board, Answer, refused, takenIn, shows, idle, ran, started, preempted, committed, act, run, State, state}
 use Rattle.spec_model.specs.Claims.{number, storeOf, copyBackIn, forecast, countIn, shownAfter}
@@ -25,7 +26,8 @@ use Rattle.spec_model.proofs.Moves.{Effect, nothing, took, commit, effect, Case
 use Rattle.spec_model.proofs.Reached.{Reached, DoneIn, onto, still, Computes, computes, act-keeps}
 use Rattle.spec_model.proofs.Previews.{idle-within}
 use Rattle.spec_model.proofs.History.{Fit}
-use Rattle.secrecy_model.specs.Sight.{Sealed, hears}
+use Rattle.secrecy_model.specs.Sight.{Sealed}
+use Rattle.secrecy_model.specs.ModelRule.{hears}
 use Rattle.secrecy_model.proofs.Programs.{Alike}
 use Rattle.secrecy_model.proofs.Stores.{sealed-direct, event-agree}
 use Rattle.secrecy_model.proofs.Control.{control, blank, hushed, act-control, act-hushed, forecast-same, count-same, copy-back-both}

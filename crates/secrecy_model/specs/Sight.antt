@@ -8,18 +8,13 @@ use Prim.Native.Nat.{ℕ, _<_}
 use mathlib.Core.Bool.{Bool, true, false, _||_}
 use mathlib.Core.Path.{_≡_}
 use mathlib.Core.Logic.{_⊎_}
-use mathlib.Core.Option.{Option, none, some}
-use mathlib.Core.List.{List, [], _∷_, map, zipWith, Forall₂}
-use lib.Dec.{eqb}
-use Rattle.lib_base.specs.Basics.{pick}
+use mathlib.Core.List.{List, [], _∷_, Forall₂}
 use Rattle.spec_language.specs.Syntax.{Handler, handler, Behaviour, passive, active, Program}
 use Rattle.spec_language.specs.Sheet.{Term, Clause, Item, formula, state, row, Entry, Sheet, allowed, fill}
 use Rattle.spec_language.specs.Rights.{may, maySee}
 use Rattle.spec_language.specs.Dependence.{size, behaviourAt, mentions, Reach}
-use Rattle.spec_language.specs.Accepted.{Accepted}
-use Rattle.spec_model.specs.Model.{Call, arrive, step, board, Answer, Turn, call, change, State, Reply, says, carriedOver, turn, replies, begun}
-use Rattle.spec_model.specs.Claims.{forecast, inForce, programAfter, engineAfter}
-use Rattle.spec_model.specs.Told.{toldTo, previewed}
+use Rattle.spec_model.specs.Model.{Call, Turn, call, change, State, carriedOver, turn}
+use Rattle.spec_model.specs.Claims.{inForce}
 
 -- ---- dependence by names, whatever the event
 
@@ -61,13 +56,6 @@ AlikeBut player s t = (s .signals ≡ t .signals) × Forall₂ (EntryAlike playe
 -- ---- the condition, of two sheets with the parameters lent to each: "the same parameters", or others where the
 -- program filled in is the same
 
-pub record Condition (player : ℕ) (v w : ℕ → ℕ) (s t : Sheet) : Type 0 where
-  pub alike : AlikeBut player s t
-  pub sealed : Sealed (fill v s) player
-  pub filled : fill w t ≡ fill v t
-  pub one : Accepted (fill v s)
-  pub other : Accepted (fill v t)
-
 -- ---- "the same calls in the same order": a turn made in both rounds is the same call, or a change in each
 
 pub data Pair : Type 0 where
@@ -99,44 +87,4 @@ AtChanges P (each v w s t ∷ l) x y =
     (EitherMakes (change (fill v s)) x (change (fill w t)) y → P (inForce x) v w s t)
     × AtChanges P l (turn (change (fill v s)) x .after) (turn (change (fill w t)) y .after)
 
--- "M-107's rule for a player needs its condition of both sheets, with the same behaviours hidden"
-abbrev pub ConditionAt : ℕ → Program → (ℕ → ℕ) → (ℕ → ℕ) → Sheet → Sheet → Type 0
-ConditionAt player p v w s t = Condition player v w s t × SameHidden player p (fill v s)
-
 -- ---- "equal answers, refusals included"
-
--- what a player gets of a call's answer: that to its own arrival or board reading, a step's as it is told to this
--- player, and none of the others' calls
-abbrev pub hears : ℕ → Call → Answer → Option Answer
-hears player (arrive e who) a = pick (eqb who player) (some a) none
-hears player step a = some (toldTo player a)
-hears player (board i who) a = pick (eqb who player) (some a) none
-
-abbrev pub asReply : Option Answer → Option Reply
-asReply none = none
-asReply (some a) = some (says a)
-
--- what a player gets of a reply: of a call's as above, of a change's all
-abbrev pub hearsOf : ℕ → Turn → Reply → Option Reply
-hearsOf player (call c) (says a) = asReply (hears player c a)
-hearsOf player (call c) carriedOver = some carriedOver
-hearsOf player (change q) r = some r
-
-abbrev pub heardOf : ℕ → List Turn → State → List (Option Reply)
-heardOf player ts s = zipWith (hearsOf player) ts (replies ts s)
-
--- of the turns l, from fresh rounds of p and q; and of a preview of this player's and the count of steps to idle after
--- them
-pub record EqualReplies (player : ℕ) (p q : Program) (l : List Pair) : Type 0 where
-  pub turns : heardOf player (map inOne l) (begun p) ≡ heardOf player (map inOther l) (begun q)
-  pub preview : (e i : ℕ)
-      → previewed (programAfter p (map inOne l)) (engineAfter p (map inOne l)) e i player
-      ≡ previewed (programAfter q (map inOther l)) (engineAfter q (map inOther l)) e i player
-  pub forecast : forecast (programAfter p (map inOne l)) (engineAfter p (map inOne l))
-      ≡ forecast (programAfter q (map inOther l)) (engineAfter q (map inOther l))
-
--- every player, every two such sheets, and every list of calls and changes
-abbrev pub PlayersRule : Type 0
-PlayersRule =
-    (player : ℕ) (v w : ℕ → ℕ) (s t : Sheet) → Condition player v w s t
-    → (l : List Pair) → AtChanges (ConditionAt player) l (begun (fill v s)) (begun (fill w t)) → EqualReplies player (fill v s) (fill w t) l

@@ -8,7 +8,7 @@ use native.Mathlib.Numerals.{add-one, add-two, add-three}
 use lib.ListN.{length, getD, take, drop, set, length-set, length-append, length-drop, take-append-drop, List·getD-append}
 use borrow.Author.Tests.{lt-ltb, le-ltb}
 use lib.Seq.{slice, sets, sets-eq, slice-empty, slice-cons, length-slice, take-suc, length-take-le, set-at, getD-take, take-append-le, take-take, take-at, drop-at}
-use Rattle.lib_word.specs.Word.{putHalf}
+use Rattle.lib_word.specs.Halves.{putHalf}
 use Rattle.spec_language.specs.Grammar.{field}
 use Rattle.sheet_write.specs.Writes.{fitted, header, shifted, asApplication}
 

@@ -20,8 +20,10 @@ use Rattle.source_language.specs.Text.{Parameter, TextEvent, TextBehaviour, Tex
 use Rattle.source_language.specs.Faults.{Kind, outside, tooLarge, offScale, tooMany, declaredTwice, secondHandler, tooDeep, unknownName, noSuchCell, longSheet, shortBuffer, longText, OrFault, fault, fine, andThen}
 use Rattle.source_language.specs.Meaning.{NameMeaning, meaningOfName, entriesOf, signalOf, sheetOf}
 use Rattle.source_language.specs.Reader.{readText}
-use Rattle.source_language.specs.Answer.{lineFrom, columnFrom, turnedDown, lengthJudged, assembled, assembleOn}
-use Rattle.source_coding.specs.Faults.{faultNumber, faultWord, faultIn, outcomeNumber}
+use Rattle.source_language.specs.Answer.{lineFrom, columnFrom, turnedDown}
+use Rattle.source_language.specs.Assembled.{lengthJudged, assembled, assembleOn}
+use Rattle.source_coding.specs.Faults.{faultNumber, outcomeNumber}
+use Rattle.source_coding.specs.FaultWords.{faultWord, faultIn}
 use Rattle.source_coding.specs.Places.{meaningIn}
 use Rattle.source_coding.specs.Sizes.{textSize}
 use Rattle.source_coding.proofs.Lengths.{sheet-takes}
@@ -32,7 +34,8 @@ use Rattle.source_behaviours.specs.Whole.{NamesUsable, LookupUsable, TextWritte
 use Rattle.source_behaviours.specs.declared.Reading.{Reading}
 use Rattle.source_behaviours.specs.declared.Reading.the-variants.{Read, Fault}
 use Rattle.source_hint.specs.Hint.{HintUsable, HintRight}
-use Rattle.source_assemble.specs.Assemble.{assembleNumber, placeTold, faultNumbered, TellsFault, NamesResolved, sheetAnswer, ReadRight}
+use Rattle.source_assemble.specs.AssembleNumber.{assembleNumber}
+use Rattle.source_assemble.specs.Assemble.{placeTold, faultNumbered, TellsFault, NamesResolved, sheetAnswer, ReadRight}
 use Rattle.source_assemble.proofs.Within.{first-pass-within, names-within}
 use Rattle.source_assemble.proofs.Numbers.{kind-some}
 

@@ -16,9 +16,10 @@ use Rattle.source_language.specs.Text.{Parameter, TextEvent, TextBehaviour, Tex
 use Rattle.source_language.specs.Faults.{Kind, outside, tooLarge, offScale, tooMany, declaredTwice, secondHandler, tooDeep, unknownName, noSuchCell, longSheet, shortBuffer, longText, OrFault, fault, fine, andThen}
 use Rattle.source_language.specs.Meaning.{meaningOfName, entriesOf, signalOf, sheetOf}
 use Rattle.source_language.specs.Reader.{readText}
-use Rattle.source_language.specs.Answer.{lineFrom, columnFrom, TextOutcome, written, turnedDown, lengthJudged, assembled, sheetDelivered, assembleOn}
+use Rattle.source_language.specs.Answer.{lineFrom, columnFrom, TextOutcome, written, turnedDown}
+use Rattle.source_language.specs.Assembled.{lengthJudged, assembled, sheetDelivered, assembleOn}
 use Rattle.source_coding.specs.Faults.{faultNumber, outcomeNumber}
-use Rattle.source_assemble.specs.Assemble.{assembleNumber}
+use Rattle.source_assemble.specs.AssembleNumber.{assembleNumber}
 use Rattle.source_assemble.proofs.Within.{first-pass-within, names-within}
 
 -- ---- kinds

@@ -7,14 +7,10 @@ use lib.Dec.{ltb, eqb}
 use Rattle.lib_base.specs.Basics.{pick}
 use Rattle.text_formula.specs.Answer.{answered}
 use Rattle.source_language.specs.Text.{Text, text}
-use Rattle.source_language.specs.Faults.{Kind, longSheet, shortBuffer, OrFault, fault, fine}
+use Rattle.source_language.specs.Faults.{longSheet, shortBuffer, OrFault, fault, fine}
 use Rattle.source_language.specs.Meaning.{NameMeaning, meaningOfName}
-use Rattle.source_language.specs.Answer.{lineFrom, columnFrom, TextOutcome, assembleOn}
-use Rattle.source_coding.specs.Faults.{faultWord, outcomeNumber}
-
--- what the call answers, and the buffer
-unfoldable pub assembleNumber : List ℕ → List ℕ → ℕ × List ℕ
-assembleNumber bytes buffer = answered (outcomeNumber (assembleOn bytes buffer .0)) (assembleOn bytes buffer .1)
+use Rattle.source_language.specs.Answer.{lineFrom, columnFrom}
+use Rattle.source_coding.specs.FaultWords.{faultWord}
 
 -- line and column after a byte
 abbrev pub lineAfter : ℕ → ℕ → ℕ

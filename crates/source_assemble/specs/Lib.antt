@@ -1,1 +1,2 @@
+pub mod AssembleNumber
 pub mod Assemble

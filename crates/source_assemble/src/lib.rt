@@ -16,7 +16,8 @@ ghost use Rattle.text_formula.specs.Answer.{answered};
 ghost use Rattle.source_language.specs.Reader.{readText};
 ghost use Rattle.source_coding.specs.Places.{meaningIn};
 ghost use Rattle.source_behaviours.specs.Whole.{NamesUsable, TextRead};
-ghost use Rattle.source_assemble.specs.Assemble.{assembleNumber, lineAfter, columnAfter, placeTold, faultNumbered, TellsFault, NamesResolved, sheetAnswer, ReadRight};
+ghost use Rattle.source_assemble.specs.AssembleNumber.{assembleNumber};
+ghost use Rattle.source_assemble.specs.Assemble.{lineAfter, columnAfter, placeTold, faultNumbered, TellsFault, NamesResolved, sheetAnswer, ReadRight};
 
 // What ends a line.
 const LINE_FEED: u8 = 10;

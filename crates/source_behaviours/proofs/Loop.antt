@@ -17,7 +17,7 @@ use Rattle.source_language.specs.Faults.{Kind}
 use Rattle.source_language.specs.Limits.{afterAll, withEvent, NamesTaken, taken, withBehaviour}
 use Rattle.source_language.specs.Meaning.{NameMeaning}
 use Rattle.source_language.specs.Reader.{Phrased, bad, got, signAt, behaviourDeclared, behaviourBegins}
-use Rattle.source_coding.specs.Faults.{faultWord, firstFault}
+use Rattle.source_coding.specs.FaultWords.{faultWord, firstFault}
 use Rattle.source_coding.specs.Places.{tokensFrom, nameAt, namesHeld}
 use Rattle.source_declarations.specs.Declarations.{nameOfEvent}
 use Rattle.source_declarations.proofs.Many.{many-faults, many-over}

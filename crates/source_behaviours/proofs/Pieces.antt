@@ -14,7 +14,7 @@ use Rattle.source_language.specs.Text.{Text}
 use Rattle.source_language.specs.Faults.{outside, offScale, tooMany}
 use Rattle.source_language.specs.Limits.{among, largest}
 use Rattle.source_language.specs.Reader.{bad, got, placeAt, signAt, signIn, numberDue, behaviourBegins, textEnds}
-use Rattle.source_coding.specs.Faults.{faultWord, faultIn}
+use Rattle.source_coding.specs.FaultWords.{faultWord, faultIn}
 use Rattle.source_coding.specs.Places.{tokensFrom, nameAt, namesHeld}
 use Rattle.source_tokens.specs.declared.Token.{Token}
 use Rattle.source_tokens.specs.declared.Token.the-variants.{Number, Name, Sign}

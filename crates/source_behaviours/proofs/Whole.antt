@@ -17,7 +17,7 @@ use Rattle.source_language.specs.Faults.{Kind, OrFault, fault, fine}
 use Rattle.source_language.specs.Limits.{afterAll, withParameter, withEvent}
 use Rattle.source_language.specs.Meaning.{NameMeaning, entriesOf, signalOf}
 use Rattle.source_language.specs.Reader.{Phrased, bad, got, thenPhrase, signIn, ending, textEnds, declarationsOf, readText}
-use Rattle.source_coding.specs.Faults.{faultWord, faultIn}
+use Rattle.source_coding.specs.FaultWords.{faultWord, faultIn}
 use Rattle.source_coding.specs.Places.{tokensFrom, nameAt, namesHeld}
 use Rattle.source_coding.specs.Sizes.{eventsSize, behavioursSize, textSize}
 use Rattle.source_declarations.specs.declared.Declared.the-variants as E

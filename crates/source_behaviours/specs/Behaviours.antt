@@ -14,7 +14,7 @@ use Rattle.source_language.specs.Faults.{offScale, tooMany, declaredTwice}
 use Rattle.source_language.specs.Limits.{among, largest, bodyCells, afterAll, withEvent, taken, withBehaviour}
 use Rattle.source_language.specs.Meaning.{NameMeaning, entriesOf}
 use Rattle.source_language.specs.Reader.{Phrased, bad, got, signAt, pastSign, nameDue, numberDue, manyOf, behaviourDeclared, behaviourBegins, textEnds}
-use Rattle.source_coding.specs.Faults.{faultWord, faultIn}
+use Rattle.source_coding.specs.FaultWords.{faultWord, faultIn}
 use Rattle.source_coding.specs.Places.{tokensFrom, nameAt, namesHeld}
 use Rattle.source_coding.specs.Sizes.{behavioursSize}
 use Rattle.source_due.specs.declared.Due.{Due}

@@ -11,7 +11,7 @@ use Rattle.spec_language.specs.Grammar.{encode}
 use Rattle.source_language.specs.Text.{Parameter, TextEvent, TextBehaviour, Text, text}
 use Rattle.source_language.specs.Faults.{OrFault, fault, fine}
 use Rattle.source_language.specs.Meaning.{NameMeaning, meaningOfName, entriesOf, signalOf}
-use Rattle.source_coding.specs.Faults.{faultWord, faultIn}
+use Rattle.source_coding.specs.FaultWords.{faultWord, faultIn}
 use Rattle.source_coding.specs.Places.{meaningIn}
 use Rattle.source_coding.specs.Sizes.{textSize}
 use Rattle.source_behaviours.specs.declared.Reading.{Reading}

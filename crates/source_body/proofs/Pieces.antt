@@ -9,7 +9,7 @@ use lib.Seq.{sets}
 use Rattle.source_language.specs.Tokens.{sign, equals}
 use Rattle.source_language.specs.Faults.{outside}
 use Rattle.source_language.specs.Reader.{placeAt, signAt, valueOf}
-use Rattle.source_coding.specs.Faults.{faultWord}
+use Rattle.source_coding.specs.FaultWords.{faultWord}
 use Rattle.source_coding.specs.Places.{tokensFrom}
 use Rattle.source_due.specs.declared.Due.{Due}
 use Rattle.source_due.specs.declared.Due.the-variants.{Found, Fault}

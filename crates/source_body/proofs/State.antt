@@ -21,7 +21,7 @@ use Rattle.source_language.specs.Faults.{outside, OrFault, fine, andThen}
 use Rattle.source_language.specs.Limits.{afterAll, withEvent}
 use Rattle.source_language.specs.Meaning.{NameMeaning, constantWord, termOf, clausesOf, itemOf}
 use Rattle.source_language.specs.Reader.{Phrased, bad, got, thenPhrase, placeAt, signAt, tokensAfter, pastSign, formulaOf, seenOf, readReactions, passiveDeclared, stateOf}
-use Rattle.source_coding.specs.Faults.{faultWord}
+use Rattle.source_coding.specs.FaultWords.{faultWord}
 use Rattle.source_coding.specs.Places.{tokensFrom, nameAt}
 use Rattle.source_coding.specs.Sizes.{phraseSize, reactionsSize, bodySize}
 use Rattle.source_due.specs.declared.Due.the-variants as D

@@ -17,7 +17,7 @@ use Rattle.source_language.specs.Tokens.{SheetToken}
 use Rattle.source_language.specs.Text.{Body, TextEvent, behaviour}
 use Rattle.source_language.specs.Faults.{OrFault, fault, fine, andThen}
 use Rattle.source_language.specs.Meaning.{NameMeaning, bitsBelow, rightsOf, itemOf}
-use Rattle.source_coding.specs.Faults.{faultIn}
+use Rattle.source_coding.specs.FaultWords.{faultIn}
 use Rattle.source_coding.specs.Places.{tokensFrom}
 use Rattle.source_coding.specs.Sizes.{bodySize, viewerSize}
 use Rattle.source_declarations.specs.Players.{rightsNumber}

@@ -1,9 +1,9 @@
 -- Faults as numbers: a kind's own, and a fault's word, 0 for none. docs/SHEETS.md "Faults".
 use Prim.Native.Nat.{ℕ, _+_, _*_}
-use lib.Dec.{eqb}
-use Rattle.lib_base.specs.Basics.{pick}
-use Rattle.source_language.specs.Faults.{Kind, outside, tooLarge, offScale, tooMany, declaredTwice, secondHandler, tooDeep, unknownName, noSuchCell, longSheet, shortBuffer, longText, OrFault, fault, fine}
+use Rattle.source_language.specs.Faults.{Kind, outside, tooLarge, offScale, tooMany, declaredTwice, secondHandler}
+use Rattle.source_language.specs.Faults.{tooDeep, unknownName, noSuchCell, longSheet, shortBuffer, longText}
 use Rattle.source_language.specs.Answer.{TextOutcome, written, turnedDown}
+use Rattle.spec_language.specs.Answers.{told}
 
 abbrev pub faultNumber : Kind → ℕ
 faultNumber outside = 31
@@ -19,19 +19,13 @@ faultNumber longSheet = 40
 faultNumber shortBuffer = 41
 faultNumber longText = 42
 
--- kind * 2 ^ 32 + place
-abbrev pub faultWord : Kind → ℕ → ℕ
-faultWord k p = faultNumber k * 4294967296 + p
+abbrev pub kindUnit : ℕ
+kindUnit = 72057594037927936
 
--- the fault in what was worked out; 0 for none
-abbrev pub faultIn : {A : Type 0} → OrFault A → ℕ
-faultIn (fault k p) = faultWord k p
-faultIn (fine x) = 0
-
-abbrev pub firstFault : ℕ → ℕ → ℕ
-firstFault v w = pick (eqb v 0) w v
+abbrev pub lineUnit : ℕ
+lineUnit = 268435456
 
 -- assemble's answer: 2 ^ 32 and the length; or the kind times 2 ^ 56, the line times 2 ^ 28 and the column
 abbrev pub outcomeNumber : TextOutcome → ℕ
-outcomeNumber (written n) = 4294967296 + n
-outcomeNumber (turnedDown k l c) = faultNumber k * 72057594037927936 + (l * 268435456 + c)
+outcomeNumber (written n) = told n
+outcomeNumber (turnedDown k l c) = faultNumber k * kindUnit + (l * lineUnit + c)

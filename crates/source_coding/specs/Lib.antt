@@ -1,3 +1,4 @@
 pub mod Faults
+pub mod FaultWords
 pub mod Places
 pub mod Sizes

@@ -2,7 +2,8 @@
 use Prim.Native.Nat.{ℕ, _+_}
 use mathlib.Core.Option.{Option, none, some}
 use mathlib.Core.List.{List, [], _∷_}
-use Rattle.source_language.specs.Text.{Phrase, constant, named, cell, negation, operation, choice, Reaction, on, Body, passive, active, row, TextEvent, event, TextBehaviour, behaviour, Text, text}
+use Rattle.source_language.specs.Text.{Phrase, constant, named, cell, negation, operation, choice, Reaction, on, Body}
+use Rattle.source_language.specs.Text.{passive, active, row, TextEvent, event, TextBehaviour, behaviour, Text, text}
 
 unfoldable pub phraseSize : Phrase → ℕ
 phraseSize (constant c) = 7

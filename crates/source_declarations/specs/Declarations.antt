@@ -14,7 +14,7 @@ use Rattle.source_language.specs.Faults.{offScale}
 use Rattle.source_language.specs.Limits.{largest, withParameter, withEvent}
 use Rattle.source_language.specs.Meaning.{signalOf}
 use Rattle.source_language.specs.Reader.{Phrased, bad, got, thenPhrase, pastSign, numberDue, fromOf, parameterOf, eventDeclared, manyOf}
-use Rattle.source_coding.specs.Faults.{faultWord}
+use Rattle.source_coding.specs.FaultWords.{faultWord}
 use Rattle.source_coding.specs.Places.{tokensFrom, nameAt}
 use Rattle.source_coding.specs.Sizes.{eventsSize}
 use Rattle.source_due.specs.declared.Due.{Due}

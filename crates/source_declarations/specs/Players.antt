@@ -5,7 +5,7 @@ use mathlib.Core.Option.{Option, none, some}
 use mathlib.Core.List.{List}
 use Rattle.source_language.specs.Reader.{Phrased, bad, got, thenPhrase}
 use Rattle.source_language.specs.Meaning.{bitsBelow}
-use Rattle.source_coding.specs.Faults.{faultWord}
+use Rattle.source_coding.specs.FaultWords.{faultWord}
 use Rattle.source_coding.specs.Places.{tokensFrom}
 use Rattle.source_declarations.specs.declared.Rights.{Rights}
 use Rattle.source_declarations.specs.declared.Rights.the-variants.{Given, Fault}

@@ -29,7 +29,8 @@ use Rattle.source_rendering.proofs.Lengths.{described-short}
 use Rattle.source_pen.specs.declared.Pen.{Pen}
 use Rattle.source_pen.specs.Written.{writtenAfter, Penned}
 use Rattle.source_pen.proofs.Texts.{described-written}
-use Rattle.back_compile.specs.Verdict.{compileOn, numberOn}
+use Rattle.back_compile.specs.Verdict.{compileOn}
+use Rattle.back_compile.specs.Number.{numberOn}
 use Rattle.back_compile.proofs.AcceptedExactly.{accepted-exactly}
 use Rattle.sheet_walk.specs.Fields.{pastFields}
 use Rattle.source_walk.specs.Fields.{neededIn}

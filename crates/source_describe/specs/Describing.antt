@@ -10,7 +10,7 @@ use Rattle.text_formula.specs.Answer.{answered}
 use Rattle.source_language.specs.Faults.{shortBuffer}
 use Rattle.source_coding.specs.Faults.{faultNumber}
 use Rattle.source_rendering.specs.Describe.{described}
-use Rattle.back_compile.specs.Verdict.{numberOn}
+use Rattle.back_compile.specs.Number.{numberOn}
 
 -- a text "at the start of a lent buffer, whose other bytes stay", and 2 ^ 32 with its length; or the buffer is too
 -- short

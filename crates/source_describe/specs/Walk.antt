@@ -7,7 +7,9 @@ use lib.ListN.{length, getD, drop}
 use lib.Dec.{ltb, eqb}
 use Rattle.lib_base.specs.Basics.{pick}
 use Rattle.spec_language.specs.Reading.{phaseOf}
-use Rattle.source_language.specs.Tokens.{SheetToken, number, name, equals, bracket, unbracket, rank-word, from-word, by-word, nobody-word, seen-word, on-word, event-word, passive-word, active-word, row-word, endSign}
+use Rattle.source_language.specs.Tokens.{SheetToken, number, name, equals, bracket, unbracket, rank-word, from-word}
+use Rattle.source_language.specs.Tokens.{by-word, nobody-word, seen-word, on-word, event-word, passive-word}
+use Rattle.source_language.specs.Tokens.{active-word, row-word, endSign}
 use Rattle.source_rendering.specs.Describe.{eventName, behaviourName, describedConstant, parametersFrom, mark, valueTokens, phaseTokens, parameterTokens}
 use Rattle.sheet_walk.specs.Fields.{afterField, wordInFront, pastFields, cellsInFront}
 use Rattle.source_walk.specs.Fields.{neededIn}

@@ -34,7 +34,7 @@ ghost use Prim.Native.Nat.{_<_, _≤_, _%_};
 ghost use lib.Dec.{eqb};
 ghost use Rattle.lib_base.specs.Basics.{pick};
 ghost use lib.ListN.{length, drop, replicate};
-ghost use Rattle.back_compile.specs.Verdict.{numberOn};
+ghost use Rattle.back_compile.specs.Number.{numberOn};
 ghost use Rattle.text_formula.specs.Answer.{answered};
 ghost use Rattle.spec_language.specs.Reading.{phaseOf};
 ghost use Rattle.source_language.specs.Tokens.{number};

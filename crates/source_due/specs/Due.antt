@@ -9,7 +9,7 @@ use Rattle.source_language.specs.Faults.{Kind, outside}
 use Rattle.source_language.specs.Limits.{ConstantFits}
 use Rattle.source_language.specs.Meaning.{constantWord}
 use Rattle.source_language.specs.Reader.{Phrased, bad, got, placeAt, signAt, numberDue, valueOf}
-use Rattle.source_coding.specs.Faults.{faultWord}
+use Rattle.source_coding.specs.FaultWords.{faultWord}
 use Rattle.source_coding.specs.Places.{tokensFrom, nameAt}
 use Rattle.source_due.specs.declared.Due.{Due}
 use Rattle.source_due.specs.declared.Due.the-variants.{Found, Fault}

@@ -16,7 +16,8 @@ use Rattle.sheet_write.proofs.Laws.{fitted-taken, applied-taken}
 use Rattle.source_language.specs.Text.{Phrase, constant, named, cell, negation, operation, choice}
 use Rattle.source_language.specs.Faults.{Kind, outside, tooLarge, offScale, tooMany, declaredTwice, secondHandler, tooDeep, unknownName, noSuchCell, longSheet, shortBuffer, longText, OrFault, fault, fine, andThen}
 use Rattle.source_language.specs.Meaning.{NameMeaning, nothing, aParameter, aBehaviour, aRow, nameTerm, cellTerm, termOf}
-use Rattle.source_coding.specs.Faults.{faultNumber, faultWord, faultIn, firstFault}
+use Rattle.source_coding.specs.Faults.{faultNumber}
+use Rattle.source_coding.specs.FaultWords.{faultWord, faultIn, firstFault}
 use Rattle.source_coding.specs.Sizes.{phraseSize}
 
 -- ---- faults

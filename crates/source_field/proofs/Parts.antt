@@ -8,14 +8,14 @@ use native.Mathlib.Numerals.{add-one}
 use lib.ListN.{length, take}
 use Rattle.spec_language.specs.Sheet.{Term}
 use Rattle.spec_language.specs.Grammar.{encodeExpr}
-use Rattle.text_formula.specs.Answer.{deeper}
+use Rattle.text_formula.specs.Nesting.{deeper}
 use Rattle.text_formula.proofs.Deeper.{deeper-none}
 use Rattle.source_language.specs.Tokens.{SheetToken}
 use Rattle.source_language.specs.Text.{Phrase, negation, operation, choice}
 use Rattle.source_language.specs.Faults.{OrFault, fault, fine, andThen}
 use Rattle.source_language.specs.Limits.{phraseNesting}
 use Rattle.source_language.specs.Meaning.{NameMeaning, termOf}
-use Rattle.source_coding.specs.Faults.{faultIn, firstFault}
+use Rattle.source_coding.specs.FaultWords.{faultIn, firstFault}
 use Rattle.source_coding.specs.Places.{tokensFrom}
 use Rattle.source_coding.specs.Sizes.{phraseSize}
 use Rattle.source_field.specs.Formula.{FormulaWritten}

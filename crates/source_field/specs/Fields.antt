@@ -1,9 +1,9 @@
 -- What a reading comes to with those before it, and what then stands in the buffer.
 use Prim.Native.Nat.{ℕ, _+_, _≤_, _<_}
 use mathlib.Core.List.{List}
-use Rattle.text_formula.specs.Answer.{deeper}
+use Rattle.text_formula.specs.Nesting.{deeper}
 use Rattle.sheet_write.specs.Writes.{asApplication}
-use Rattle.source_coding.specs.Faults.{firstFault}
+use Rattle.source_coding.specs.FaultWords.{firstFault}
 use Rattle.source_field.specs.declared.Read.{Read}
 use Rattle.source_field.specs.declared.Read.the-variants.{Done, Fault}
 

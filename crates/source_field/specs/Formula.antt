@@ -12,7 +12,7 @@ use Rattle.source_language.specs.Faults.{fine}
 use Rattle.source_language.specs.Limits.{phraseNesting}
 use Rattle.source_language.specs.Meaning.{NameMeaning, termOf}
 use Rattle.source_language.specs.Reader.{Phrased, bad, got}
-use Rattle.source_coding.specs.Faults.{faultWord, faultIn}
+use Rattle.source_coding.specs.FaultWords.{faultWord, faultIn}
 use Rattle.source_coding.specs.Places.{tokensFrom}
 use Rattle.source_coding.specs.Sizes.{phraseSize}
 use Rattle.source_field.specs.declared.Read.{Read}

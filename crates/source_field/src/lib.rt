@@ -4,7 +4,7 @@ use sheet_field::sizes;
 ghost use mathlib.Core.Path.{_≡_};
 ghost use Prim.Native.Nat.{_≤_};
 ghost use lib.ListN.{length};
-ghost use Rattle.source_coding.specs.Faults.{firstFault};
+ghost use Rattle.source_coding.specs.FaultWords.{firstFault};
 ghost use Rattle.source_field.specs.Fields.{underBy, appliedBy, headedIn, Headable};
 
 // A formula read: the place behind it, how deep it nests, the end of its field, the first fault of its names (a word, 0

@@ -7,12 +7,12 @@ use native.Mathlib.Omega.{arith}
 use lib.ListN.{length}
 use lib.Dec.{eqb}
 use Rattle.lib_base.proofs.Tools.{by-two}
-use Rattle.text_formula.specs.Answer.{deeper}
+use Rattle.text_formula.specs.Nesting.{deeper}
 use Rattle.source_language.specs.Tokens.{SheetToken, opening, comma, closing}
 use Rattle.source_language.specs.Text.{Phrase, choice}
 use Rattle.source_language.specs.Meaning.{NameMeaning}
 use Rattle.source_language.specs.Reader.{Phrased, bad, got, thenPhrase, signAt, pastSign, readChoice, phraseWithin}
-use Rattle.source_coding.specs.Faults.{firstFault}
+use Rattle.source_coding.specs.FaultWords.{firstFault}
 use Rattle.source_coding.specs.Places.{tokensFrom}
 use Rattle.source_due.specs.Due.{SignTold, DueWithin}
 use Rattle.source_due.specs.declared.Due.{Due}

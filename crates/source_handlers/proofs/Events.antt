@@ -15,7 +15,7 @@ use Rattle.source_language.specs.Tokens.{SheetToken, number, name, sign, colon,
 use Rattle.source_language.specs.Faults.{outside}
 use Rattle.source_language.specs.Limits.{among}
 use Rattle.source_language.specs.Reader.{Phrased, bad, got, placeAt, signAt, tokensAfter, pastSign, nameDue}
-use Rattle.source_coding.specs.Faults.{faultWord}
+use Rattle.source_coding.specs.FaultWords.{faultWord}
 use Rattle.source_coding.specs.Places.{tokensFrom, nameAt, namesHeld, indexIn}
 use Rattle.source_due.specs.declared.Due.{Due}
 use Rattle.source_due.specs.declared.Due.the-variants.{Found, Fault}

@@ -12,7 +12,8 @@ use Rattle.spec_language.specs.Grammar.{encodeHandler, encodeHandlers}
 use Rattle.source_language.specs.Text.{Reaction, on, TextEvent}
 use Rattle.source_language.specs.Faults.{Kind, outside, tooLarge, offScale, tooMany, declaredTwice, secondHandler, tooDeep, unknownName, noSuchCell, longSheet, shortBuffer, longText, OrFault, fault, fine, andThen}
 use Rattle.source_language.specs.Meaning.{NameMeaning, eventNamed, termOf, clausesOf}
-use Rattle.source_coding.specs.Faults.{faultNumber, faultWord, faultIn, firstFault}
+use Rattle.source_coding.specs.Faults.{faultNumber}
+use Rattle.source_coding.specs.FaultWords.{faultWord, faultIn, firstFault}
 
 kind-above : (k : Kind) → 0 < faultNumber k
 kind-above outside = omega arith

@@ -10,7 +10,7 @@ use Rattle.source_language.specs.Tokens.{SheetToken}
 use Rattle.source_language.specs.Faults.{Kind, OrFault, fault, fine, andThen}
 use Rattle.source_language.specs.Limits.{afterAll}
 use Rattle.source_language.specs.Reader.{Phrased, bad, got, thenPhrase, signAt, manyOf}
-use Rattle.source_coding.specs.Faults.{faultWord, faultIn, firstFault}
+use Rattle.source_coding.specs.FaultWords.{faultWord, faultIn, firstFault}
 use Rattle.source_coding.specs.Places.{tokensFrom}
 use Rattle.source_declarations.proofs.Many.{Leaves, prepended, prepended-none, many-turn, many-faults, many-over}
 use Rattle.source_handlers.specs.declared.Part.{Part}

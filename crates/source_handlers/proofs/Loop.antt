@@ -17,7 +17,7 @@ use Rattle.source_language.specs.Faults.{Kind}
 use Rattle.source_language.specs.Limits.{afterAll, withEvent, withReaction}
 use Rattle.source_language.specs.Meaning.{NameMeaning, eventNamed}
 use Rattle.source_language.specs.Reader.{Phrased, bad, got, thenPhrase, signAt, tokensAfter, pastSign, formulaOf, bodyDeclared, reactionOf, readReactions}
-use Rattle.source_coding.specs.Faults.{faultWord, firstFault}
+use Rattle.source_coding.specs.FaultWords.{faultWord, firstFault}
 use Rattle.source_coding.specs.Places.{tokensFrom, nameAt, namesHeld, indexIn}
 use Rattle.source_due.specs.declared.Due.{Due}
 use Rattle.source_due.specs.declared.Due.the-variants as D

@@ -7,7 +7,7 @@ use Rattle.source_language.specs.Text.{Phrase}
 use Rattle.source_language.specs.Faults.{OrFault, fault, fine, andThen}
 use Rattle.source_language.specs.Meaning.{NameMeaning}
 use Rattle.source_language.specs.Reader.{Phrased, bad, got, thenPhrase}
-use Rattle.source_coding.specs.Faults.{faultIn}
+use Rattle.source_coding.specs.FaultWords.{faultIn}
 use Rattle.source_coding.specs.Places.{tokensFrom}
 use Rattle.source_due.specs.declared.Due.{Due}
 use Rattle.source_due.specs.declared.Due.the-variants as D

@@ -13,7 +13,7 @@ use Rattle.source_language.specs.Text.{Phrase, Reaction, on, TextEvent}
 use Rattle.source_language.specs.Faults.{Kind, OrFault, fault, fine, andThen}
 use Rattle.source_language.specs.Meaning.{NameMeaning, eventNamed, termOf, clausesOf}
 use Rattle.source_language.specs.Reader.{got}
-use Rattle.source_coding.specs.Faults.{faultIn}
+use Rattle.source_coding.specs.FaultWords.{faultIn}
 use Rattle.source_coding.specs.Places.{tokensFrom}
 use Rattle.source_coding.specs.Sizes.{phraseSize, reactionsSize}
 use Rattle.source_field.specs.Formula.{FormulaWritten}

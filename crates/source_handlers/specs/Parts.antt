@@ -7,7 +7,7 @@ use lib.ListN.{length, take, set}
 use Rattle.source_language.specs.Tokens.{SheetToken}
 use Rattle.source_language.specs.Faults.{OrFault, fine}
 use Rattle.source_language.specs.Reader.{Phrased, bad, got}
-use Rattle.source_coding.specs.Faults.{faultWord, faultIn}
+use Rattle.source_coding.specs.FaultWords.{faultWord, faultIn}
 use Rattle.source_coding.specs.Places.{tokensFrom}
 use Rattle.source_due.specs.declared.Due.{Due}
 use Rattle.source_due.specs.declared.Due.the-variants as D

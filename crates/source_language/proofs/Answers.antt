@@ -17,7 +17,8 @@ use Rattle.source_language.specs.Grammar.{TextSays}
 use Rattle.source_language.specs.Meaning.{sheetOf}
 use Rattle.source_language.specs.Renaming.{KeepsApart, textAs}
 use Rattle.source_language.specs.Reader.{readText}
-use Rattle.source_language.specs.Answer.{written, turnedDown, lengthJudged, assembled, sheetDelivered, assembleOn, TextMeans, SheetWritten, refusedAt}
+use Rattle.source_language.specs.Answer.{written, turnedDown, TextMeans, SheetWritten, refusedAt}
+use Rattle.source_language.specs.Assembled.{lengthJudged, assembled, sheetDelivered, assembleOn}
 use Rattle.source_language.proofs.Readings.{text-reads, text-only}
 use Rattle.source_language.proofs.Unique.{says-one}
 use Rattle.source_language.proofs.Fits.{sheet-of-text}

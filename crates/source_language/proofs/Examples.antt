@@ -7,7 +7,7 @@ use lib.ListN.{replicate}
 use Rattle.spec_language.specs.Syntax.{later}
 use Rattle.spec_language.specs.Grammar.{encode, encodeEvents, encodeBehaviours, encodeHandlers, encodeExpr}
 use Rattle.text_formula.specs.Tokens.{decimalValue}
-use Rattle.text_formula.specs.Reader.{level}
+use Rattle.text_formula.specs.Level.{level}
 use Rattle.source_language.specs.Tokens.{marks, reserved, same, signOf, isDigit, isLetter, inWord, isBlank, inComment}
 use Rattle.source_language.specs.Text.{named, cell, on}
 use Rattle.source_language.specs.Renaming.{phraseAs, reactionsAs}
@@ -16,7 +16,8 @@ use Rattle.source_language.specs.Limits.{among, phraseNesting, afterAll}
 use Rattle.source_language.specs.Meaning.{amongPlayers, bitsBelow, behaviourNamed, meaningOfName, eventNamed, termOf, clausesOf, entriesOf, sheetOf}
 use Rattle.source_language.specs.Scanner.{runOfKind, beyondRun, firstInText, scannedTokens}
 use Rattle.source_language.specs.Reader.{pastSign, valueOf, afterOperand, cellOf, readConstant, readNegation, readChoice, signedOf, fromOperand, phraseWithin, morePlayers, fromOf, seenOf, manyOf, defaultOf, parameterOf, eventDeclared, reactionOf, passiveDeclared, stateOf, rowDeclared, behaviourDeclared, behaviourBegins, declarationsOf, readText}
-use Rattle.source_language.specs.Answer.{lineFrom, columnFrom, assembled, turnedDown, assembleOn}
+use Rattle.source_language.specs.Answer.{lineFrom, columnFrom, turnedDown}
+use Rattle.source_language.specs.Assembled.{assembled, assembleOn}
 
 -- the sheet of docs/SHEETS.md
 --   # Twelve lamps. A comment runs to the end of its line.

@@ -11,7 +11,7 @@ use lib.Dec.{ltb, eqb}
 use borrow.Author.Tests.{ltb-true}
 use Rattle.lib_base.specs.Basics.{All}
 use Rattle.lib_base.proofs.Tools.{by-test}
-use Rattle.text_formula.specs.Answer.{deeper}
+use Rattle.text_formula.specs.Nesting.{deeper}
 use Rattle.text_formula.proofs.Deeper.{deeper-left, deeper-right}
 use Rattle.spec_language.specs.Dependence.{size}
 use Rattle.spec_language.specs.Sheet.{Term, variable, param, Clause, Item, Entry, Sheet, cells, cellCount, rowsOut, fillTerm, fillClauses, fillItem, fillEntries, fill}

@@ -11,8 +11,8 @@ use lib.ListN.{length}
 use lib.Dec.{ltb, leb, eqb}
 use borrow.Author.Tests.{ltb-true, ltb-false, lt-ltb, le-ltb, leb-true, leb-false, le-leb, lt-leb, eqb-true, ne-eqb}
 use Rattle.lib_base.proofs.Tools.{by-test, split}
-use Rattle.text_formula.specs.Answer.{deeper}
-use Rattle.text_formula.specs.Reader.{level}
+use Rattle.text_formula.specs.Nesting.{deeper}
+use Rattle.text_formula.specs.Level.{level}
 use Rattle.text_formula.proofs.Parses.{level-of, operator-of}
 use Rattle.source_language.specs.Tokens.{SheetToken, number, name, sign, opening, closing, comma, bracket, unbracket}
 use Rattle.source_language.specs.Text.{TextConstant, plus, minus, Phrase, constant, named, cell, negation, operation, choice}

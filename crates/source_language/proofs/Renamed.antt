@@ -12,7 +12,8 @@ use Rattle.source_language.specs.Text.{Phrase, constant, named, cell, ne
 use Rattle.source_language.specs.Faults.{OrFault, fault, fine, andThen}
 use Rattle.source_language.specs.Limits.{among, phraseNesting, NumbersFit, PhraseFits, FitInTurn, afterAll, ParameterFits, withParameter, EventFits, withEvent, ReactionFits, withReaction, bodyCells, BodyFits, taken, TextBehaviourFits, withBehaviour, TextFits}
 use Rattle.source_language.specs.Meaning.{NameMeaning, nothing, aParameter, aBehaviour, aRow, foundAs, behaviourNamed, meaningOfName, eventNamed, nameTerm, cellTerm, termOf, clausesOf, itemOf, entriesOf, signalOf, sheetOf}
-use Rattle.source_language.specs.Renaming.{KeepsApart, phraseAs, reactionsAs, bodyAs, parameterAs, eventAs, behaviourAs, textAs, movedBy}
+use Rattle.source_language.specs.Renaming.{KeepsApart, phraseAs, reactionsAs, bodyAs, parameterAs, eventAs, behaviourAs, textAs}
+use Rattle.source_language.specs.Moved.{movedBy}
 use Rattle.source_language.proofs.Scans.{same-is, same-self}
 
 same-as : (f : List ℕ → List ℕ) → KeepsApart f → (s t : List ℕ) → same (f s) (f t) ≡ same s t

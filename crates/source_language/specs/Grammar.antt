@@ -6,8 +6,13 @@ use mathlib.Core.List.{List, [], _∷_}
 use lib.ListN.{length}
 use Rattle.spec_language.specs.Syntax.{immediate, later}
 use Rattle.text_formula.specs.Grammar.{Operator}
-use Rattle.source_language.specs.Tokens.{SheetToken, number, name, sign, opening, closing, comma, colon, equals, bracket, unbracket, rank-word, from-word, by-word, nobody-word, later-word, seen-word, on-word, param-word, event-word, passive-word, active-word, row-word, endSign, TokensOfText}
-use Rattle.source_language.specs.Text.{TextConstant, plus, minus, Phrase, constant, named, cell, negation, operation, choice, Reaction, on, passive, active, row, Parameter, parameter, TextEvent, event, TextBehaviour, behaviour, Text, text}
+use Rattle.source_language.specs.Tokens.{SheetToken, number, name, sign, opening, closing, comma, colon, equals}
+use Rattle.source_language.specs.Tokens.{bracket, unbracket, rank-word, from-word, by-word, nobody-word}
+use Rattle.source_language.specs.Tokens.{later-word, seen-word, on-word, param-word, event-word, passive-word}
+use Rattle.source_language.specs.Tokens.{active-word, row-word, endSign, TokensOfText}
+use Rattle.source_language.specs.Text.{TextConstant, plus, minus, Phrase, constant, named, cell, negation}
+use Rattle.source_language.specs.Text.{operation, choice, Reaction, on, passive, active, row, Parameter}
+use Rattle.source_language.specs.Text.{parameter, TextEvent, event, TextBehaviour, behaviour, Text, text}
 
 -- value = NUMBER | "-" NUMBER
 pub data IsValue : List SheetToken → TextConstant → List SheetToken → Type 0 where
@@ -19,8 +24,8 @@ pub data IsValue : List SheetToken → TextConstant → List SheetToken → Type
 -- "]" ..; brackets; if(a,b,c)"
 pub data PhraseDerives : ℕ → List SheetToken → Phrase → List SheetToken → Type 0 where
   tighter : {l : ℕ} {ts us : List SheetToken} {e : Phrase} → PhraseDerives l ts e us → PhraseDerives (suc l) ts e us
-  two-sided : {l p f : ℕ} {ts us vs : List SheetToken} {a b : Phrase} → Operator (suc l) f → PhraseDerives (suc l) ts a (sign p f ∷ us) → PhraseDerives l us b vs
-      → PhraseDerives (suc l) ts (operation f a b) vs
+  two-sided : {l p f : ℕ} {ts us vs : List SheetToken} {a b : Phrase} → Operator (suc l) f → PhraseDerives (suc l) ts a (sign p f ∷ us)
+      → PhraseDerives l us b vs → PhraseDerives (suc l) ts (operation f a b) vs
   negated : {p : ℕ} {ts us : List SheetToken} {a : Phrase} → PhraseDerives 0 ts a us → PhraseDerives 0 (sign p 3 ∷ ts) (negation a) us
   a-value : {ts us : List SheetToken} {c : TextConstant} → IsValue ts c us → PhraseDerives 0 ts (constant c) us
   a-name : {p : ℕ} {s : List ℕ} {us : List SheetToken} → PhraseDerives 0 (name p s ∷ us) (named p s) us

@@ -7,4 +7,6 @@ pub mod Meaning
 pub mod Scanner
 pub mod Reader
 pub mod Renaming
+pub mod Moved
 pub mod Answer
+pub mod Assembled

@@ -1,15 +1,16 @@
 -- The limits that the first pass holds a text to, whatever its names mean: docs/SHEETS.md "Faults". Each declaration is
 -- judged after those before it.
-use Prim.Native.Nat.{ℕ, suc, _+_, _≤_, _<_}
+use Prim.Native.Nat.{ℕ, suc, _+_, _≤_, _<_, max}
 use mathlib.Core.Bool.{Bool, true, false}
 use mathlib.Core.Path.{_≡_}
 use mathlib.Core.Option.{Option, none, some}
 use mathlib.Core.List.{List, [], _∷_}
 use lib.ListN.{length}
 use Rattle.lib_base.specs.Basics.{pick, All}
-use Rattle.text_formula.specs.Answer.{deeper}
 use Rattle.source_language.specs.Tokens.{same}
-use Rattle.source_language.specs.Text.{TextConstant, plus, minus, Phrase, constant, named, cell, negation, operation, choice, Reaction, on, Body, passive, active, row, Parameter, parameter, TextEvent, event, TextBehaviour, behaviour, Text, text}
+use Rattle.source_language.specs.Text.{TextConstant, plus, minus, Phrase, constant, named, cell, negation}
+use Rattle.source_language.specs.Text.{operation, choice, Reaction, on, Body, passive, active, row, Parameter}
+use Rattle.source_language.specs.Text.{parameter, TextEvent, event, TextBehaviour, behaviour, Text, text}
 
 -- s is among these names
 unfoldable pub among : List ℕ → List (List ℕ) → Bool
@@ -30,8 +31,8 @@ phraseNesting (constant c) = 1
 phraseNesting (named p s) = 1
 phraseNesting (cell p s q n) = 1
 phraseNesting (negation a) = suc (phraseNesting a)
-phraseNesting (operation f a b) = suc (deeper (phraseNesting a) (phraseNesting b))
-phraseNesting (choice a b c) = suc (deeper (deeper (phraseNesting a) (phraseNesting b)) (phraseNesting c))
+phraseNesting (operation f a b) = suc (max (phraseNesting a) (phraseNesting b))
+phraseNesting (choice a b c) = suc (max (max (phraseNesting a) (phraseNesting b)) (phraseNesting c))
 
 unfoldable pub NumbersFit : Phrase → Type 0
 NumbersFit (constant c) = ConstantFits c

@@ -8,7 +8,9 @@ use Rattle.lib_base.specs.Basics.{pick}
 use Rattle.spec_language.specs.Sheet.{Term, literal, variable, param, apply1, apply2, apply3, Clause, clause, Item, formula, state, row, Signal, Entry, Sheet}
 use Rattle.spec_language.specs.Reading.{entry, signal, sheet}
 use Rattle.source_language.specs.Tokens.{same}
-use Rattle.source_language.specs.Text.{TextConstant, plus, minus, Phrase, constant, named, cell, negation, operation, choice, Reaction, on, Body, passive, active, Parameter, parameter, TextEvent, event, TextBehaviour, behaviour, Text, text}
+use Rattle.source_language.specs.Text.{TextConstant, plus, minus, Phrase, constant, named, cell, negation}
+use Rattle.source_language.specs.Text.{operation, choice, Reaction, on, Body, passive, active, Parameter}
+use Rattle.source_language.specs.Text.{parameter, TextEvent, event, TextBehaviour, behaviour, Text, text}
 use Rattle.source_language.specs.Text as T
 use Rattle.source_language.specs.Faults.{unknownName, noSuchCell, OrFault, fault, fine, andThen}
 use Rattle.source_language.specs.Limits.{bodyCells}

@@ -3,8 +3,9 @@
 use Prim.Native.Nat.{ℕ}
 use mathlib.Core.Path.{_≡_}
 use mathlib.Core.List.{List, [], _∷_, map}
-use Rattle.source_language.specs.Text.{Phrase, constant, named, cell, negation, operation, choice, Reaction, on, Body, passive, active, row, Parameter, parameter, TextEvent, event, TextBehaviour, behaviour, Text, text}
-use Rattle.source_language.specs.Faults.{OrFault, fault, fine}
+use Rattle.source_language.specs.Text.{Phrase, constant, named, cell, negation, operation, choice, Reaction, on}
+use Rattle.source_language.specs.Text.{Body, passive, active, row, Parameter, parameter, TextEvent, event}
+use Rattle.source_language.specs.Text.{TextBehaviour, behaviour, Text, text}
 
 -- different names stay different
 abbrev pub KeepsApart : (List ℕ → List ℕ) → Type 0
@@ -39,8 +40,3 @@ module _ (f h : List ℕ → List ℕ) (g : ℕ → ℕ) where
 
   abbrev pub textAs : Text → Text
   textAs (text ps es bs) = text (map parameterAs ps) (map eventAs es) (map behaviourAs bs)
-
--- a result whose fault has moved
-abbrev pub movedBy : {A : Type 0} → (ℕ → ℕ) → OrFault A → OrFault A
-movedBy g (fault k p) = fault k (g p)
-movedBy g (fine x) = fine x

@@ -6,7 +6,8 @@ use lib.ListN.{length}
 use lib.Dec.{leb, eqb}
 use Rattle.lib_base.specs.Basics.{pick}
 use Rattle.text_formula.specs.Tokens.{decimalValue}
-use Rattle.source_language.specs.Tokens.{SheetToken, number, sign, marks, signOf, isDigit, isLetter, inWord, isBlank, inComment, placeIn, wordAtPlace, endSign, straySign}
+use Rattle.source_language.specs.Tokens.{SheetToken, number, sign, marks, signOf, isDigit, isLetter, inWord}
+use Rattle.source_language.specs.Tokens.{isBlank, inComment, placeIn, wordAtPlace, endSign, straySign}
 
 -- the bytes of a kind at the front, and what is left past them
 unfoldable pub runOfKind : (ℕ → Bool) → List ℕ → List ℕ

@@ -195,7 +195,8 @@ pub data TextBegins (long : ℕ) : List ℕ → SheetToken → List ℕ → Type
 pub data TokensOfText (long : ℕ) : List ℕ → List SheetToken → Type 0 where
   t-end : TokensOfText long [] (sign (placeIn long []) endSign ∷ [])
   t-blank : (b : ℕ) {bs : List ℕ} {ts : List SheetToken} → isBlank b ≡ true → TokensOfText long bs ts → TokensOfText long (b ∷ bs) ts
-  t-comment : (c rest : List ℕ) {ts : List SheetToken} → Are inComment c → KindStops inComment rest → TokensOfText long rest ts → TokensOfText long (35 ∷ (c ++ rest)) ts
+  t-comment : (c rest : List ℕ) {ts : List SheetToken} → Are inComment c → KindStops inComment rest → TokensOfText long rest ts
+      → TokensOfText long (35 ∷ (c ++ rest)) ts
   t-token : {bs rest : List ℕ} {t : SheetToken} {ts : List SheetToken} → TextBegins long bs t rest → TokensOfText long rest ts → TokensOfText long bs (t ∷ ts)
   t-stray : (b : ℕ) (bs : List ℕ) → isBlank b ≡ false → b ≢ 35 → ((t : SheetToken) (rest : List ℕ) → TextBegins long (b ∷ bs) t rest → ⊥)
       → TokensOfText long (b ∷ bs) (sign (placeIn long (b ∷ bs)) straySign ∷ [])

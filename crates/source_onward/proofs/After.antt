@@ -9,13 +9,13 @@ use lib.Dec.{ltb, leb, eqb}
 use borrow.Author.Tests.{ltb-true, ltb-false, leb-true, eqb-true, eqb-false, lt-ltb, le-ltb, lt-leb, ne-eqb}
 use Rattle.lib_base.specs.Basics.{pick}
 use Rattle.lib_base.proofs.Tools.{by-test, past, split}
-use Rattle.text_formula.specs.Reader.{level}
+use Rattle.text_formula.specs.Level.{level}
 use Rattle.source_language.specs.Tokens.{SheetToken, sign, closing, endSign, isDigit, isLetter, inWord}
 use Rattle.source_language.specs.Text.{Phrase, operation}
 use Rattle.source_language.specs.Faults.{outside, tooDeep}
 use Rattle.source_language.specs.Limits.{phraseNesting}
 use Rattle.source_language.specs.Reader.{Phrased, bad, got, thenPhrase, placeAt, signAt, pastSign, withOperator, afterOperand}
-use Rattle.source_coding.specs.Faults.{faultWord}
+use Rattle.source_coding.specs.FaultWords.{faultWord}
 use Rattle.source_coding.specs.Places.{tokensFrom}
 use Rattle.source_tokens.specs.Token.{PassedOver}
 use Rattle.source_tokens.proofs.Begun.{tokens-some}

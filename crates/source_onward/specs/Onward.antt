@@ -8,13 +8,13 @@ use mathlib.Core.List.{List, _∷_}
 use lib.ListN.{length}
 use lib.Dec.{ltb, leb, eqb}
 use Rattle.lib_base.specs.Basics.{pick}
-use Rattle.text_formula.specs.Reader.{level}
+use Rattle.text_formula.specs.Level.{level}
 use Rattle.source_language.specs.Tokens.{SheetToken, sign, opening, closing, endSign}
 use Rattle.source_language.specs.Text.{Phrase, operation}
 use Rattle.source_language.specs.Faults.{outside, tooDeep}
 use Rattle.source_language.specs.Limits.{phraseNesting}
 use Rattle.source_language.specs.Reader.{Phrased, got, thenPhrase, placeAt, signAt, pastSign, afterOperand, fromOperand}
-use Rattle.source_coding.specs.Faults.{faultWord}
+use Rattle.source_coding.specs.FaultWords.{faultWord}
 use Rattle.source_coding.specs.Places.{tokensFrom}
 use Rattle.source_tokens.specs.Token.{PassedOver}
 use Rattle.source_tokens.specs.declared.Token.{Token}

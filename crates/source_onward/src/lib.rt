@@ -17,7 +17,7 @@ use text_formula::levels;
 ghost use mathlib.Core.Path.{_≡_};
 ghost use Prim.Native.Nat.{_≤_, _<_};
 ghost use lib.ListN.{length};
-ghost use Rattle.text_formula.specs.Reader.{level as levelOf};
+ghost use Rattle.text_formula.specs.Level.{level as levelOf};
 ghost use Rattle.source_coding.specs.Places.{tokensFrom};
 ghost use Rattle.source_tokens.specs.Token.{PassedOver};
 ghost use Rattle.source_onward.specs.Onward.{StandsFor, SignBefore, SignAhead, BracketsOpened, joinsIn, onwardOf, OnwardRead, ReadInside, EndedRead};

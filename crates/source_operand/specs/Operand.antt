@@ -12,7 +12,7 @@ use Rattle.source_language.specs.Faults.{outside, OrFault, fault, fine}
 use Rattle.source_language.specs.Limits.{largest}
 use Rattle.source_language.specs.Meaning.{NameMeaning, nothing, aParameter, aBehaviour, aRow}
 use Rattle.source_language.specs.Reader.{Phrased, bad, got, pastSign, numberDue, readConstant, cellOf}
-use Rattle.source_coding.specs.Faults.{faultWord}
+use Rattle.source_coding.specs.FaultWords.{faultWord}
 use Rattle.source_coding.specs.Places.{tokensFrom}
 use Rattle.source_tokens.specs.Token.{PassedOver}
 use Rattle.source_field.specs.declared.Read.{Read}

@@ -16,7 +16,7 @@ use Rattle.spec_language.specs.Syntax.{immediate, later}
 use Rattle.spec_language.specs.Sheet.{Term, Clause, clause, Item, formula, state, row, Signal, Entry, Sheet, cells, cellCount, fillTerm, fillClauses, fillItem, fillEntries}
 use Rattle.spec_language.specs.Grammar.{encode, encodeExpr, encodeHandlers, encodeItem, encodeViewer, encodeBehaviour, encodeBehaviours, encodeEvents, unary, ternary, binary, TermFits, t-literal, t-variable, t-param, t-apply1, t-apply2, t-apply3, ClausesFit, ItemFits, EntryFits, SignalFits, SheetFits}
 use Rattle.spec_language.specs.Accepted.{NamesIn, HandlerNamesIn, BehaviourNamesIn}
-use Rattle.text_formula.specs.Reader.{level}
+use Rattle.text_formula.specs.Level.{level}
 use Rattle.source_language.specs.Tokens.{SheetToken, number, name, sign, opening, closing, comma, on-word, param-word, endSign, marks, reserved}
 use Rattle.source_language.specs.Text.{TextConstant, Phrase, behaviour}
 use Rattle.source_rendering.specs.Describe.{behaviourName, describedConstant, cellNamed, phraseOf, describedReactions, describedBody, playersFrom, playersIn, describedBehaviours, describedEvents, parametersFrom, textOf, mark, unless, valueTokens, phraseTokens, numberTokens, playerTokens, fromTokens, seenTokens, parameterTokens, eventTokens, reactionTokens, behaviourToken, behaviourTokens, textTokens, spelledAs, spell, lastOf, firstByte, runTogether, spaceBetween, gap, rendered, render, described}

@@ -12,7 +12,7 @@ use Rattle.lib_base.specs.Basics.{pick, All}
 use Rattle.lib_base.proofs.Tools.{by-test, split, through}
 use Rattle.spec_language.specs.Syntax.{immediate, later}
 use Rattle.spec_language.specs.Grammar.{Arity, binary}
-use Rattle.text_formula.specs.Reader.{level}
+use Rattle.text_formula.specs.Level.{level}
 use Rattle.text_formula.proofs.Parses.{operator-of}
 use Rattle.source_language.specs.Tokens.{SheetToken, number, name, sign, opening, closing, comma, colon, equals, bracket, unbracket, rank-word, from-word, by-word, nobody-word, later-word, seen-word, on-word, param-word, event-word, passive-word, active-word, row-word, endSign}
 use Rattle.source_language.specs.Text.{TextConstant, plus, minus, Phrase, constant, named, cell, negation, operation, choice, Reaction, on, Body, passive, active, row, Parameter, parameter, TextEvent, event, TextBehaviour, behaviour, text}

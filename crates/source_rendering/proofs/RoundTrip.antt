@@ -19,7 +19,8 @@ use Rattle.source_language.specs.Faults.{OrFault, fault, fine}
 use Rattle.source_language.specs.Grammar.{says}
 use Rattle.source_language.specs.Limits.{NumbersFit, PhraseFits, FitInTurn, afterAll, withParameter, withEvent, ReactionFits, withReaction, bodyCells, BodyFits, taken, TextBehaviourFits, withBehaviour, TextFits}
 use Rattle.source_language.specs.Meaning.{sheetOf}
-use Rattle.source_language.specs.Renaming.{phraseAs, reactionsAs, bodyAs, parameterAs, eventAs, movedBy}
+use Rattle.source_language.specs.Renaming.{phraseAs, reactionsAs, bodyAs, parameterAs, eventAs}
+use Rattle.source_language.specs.Moved.{movedBy}
 use Rattle.source_rendering.specs.Describe.{parametersFrom, describedEvents, describedBehaviours, textOf, described}
 use Rattle.spec_language.specs.Sheet.{paramsOfEntries}
 use Rattle.source_language.specs.Answer.{TextMeans}

@@ -7,11 +7,17 @@ use mathlib.Core.List.{List, [], _∷_, _++_}
 use lib.Dec.{ltb, leb, eqb}
 use Rattle.lib_base.specs.Basics.{pick}
 use Rattle.spec_language.specs.Syntax.{Phase, immediate, later}
-use Rattle.spec_language.specs.Sheet.{Term, literal, variable, param, apply1, apply2, apply3, Clause, clause, Item, formula, state, Signal, Entry, Sheet, cells, paramsOfEntries}
+use Rattle.spec_language.specs.Sheet.{Term, literal, variable, param, apply1, apply2, apply3, Clause, clause, Item}
+use Rattle.spec_language.specs.Sheet.{formula, state, Signal, Entry, Sheet, cells, paramsOfEntries}
 use Rattle.spec_language.specs.Sheet as S
-use Rattle.text_formula.specs.Reader.{level}
-use Rattle.source_language.specs.Tokens.{SheetToken, number, name, sign, opening, closing, comma, colon, equals, bracket, unbracket, rank-word, from-word, by-word, nobody-word, later-word, seen-word, on-word, param-word, event-word, passive-word, active-word, row-word, endSign, Spelling, spelled, marks, reserved, signOf, inWord}
-use Rattle.source_language.specs.Text.{TextConstant, plus, minus, Phrase, constant, named, cell, negation, operation, choice, Reaction, on, Body, passive, active, row, Parameter, parameter, TextEvent, event, TextBehaviour, behaviour, Text, text}
+use Rattle.text_formula.specs.Level.{level}
+use Rattle.source_language.specs.Tokens.{SheetToken, number, name, sign, opening, closing, comma, colon, equals}
+use Rattle.source_language.specs.Tokens.{bracket, unbracket, rank-word, from-word, by-word, nobody-word, later-word}
+use Rattle.source_language.specs.Tokens.{seen-word, on-word, param-word, event-word, passive-word, active-word}
+use Rattle.source_language.specs.Tokens.{row-word, endSign, Spelling, spelled, marks, reserved, signOf, inWord}
+use Rattle.source_language.specs.Text.{TextConstant, plus, minus, Phrase, constant, named, cell, negation, operation}
+use Rattle.source_language.specs.Text.{choice, Reaction, on, Body, passive, active, row, Parameter, parameter}
+use Rattle.source_language.specs.Text.{TextEvent, event, TextBehaviour, behaviour, Text, text}
 
 -- ---- names and numbers
 
@@ -76,7 +82,8 @@ playersIn (some m) = some (playersFrom 8 0 m)
 -- among all entries, those left, of which the first has number j
 unfoldable pub describedBehaviours : List Entry → ℕ → List Entry → List TextBehaviour
 describedBehaviours all j [] = []
-describedBehaviours all j (x ∷ xs) = behaviour (behaviourName j) (describedBody all (x .item)) (playersIn (x .viewer)) ∷ describedBehaviours all (j + cells (x .item)) xs
+describedBehaviours all j (x ∷ xs) =
+    behaviour (behaviourName j) (describedBody all (x .item)) (playersIn (x .viewer)) ∷ describedBehaviours all (j + cells (x .item)) xs
 
 unfoldable pub describedEvents : ℕ → List Signal → List TextEvent
 describedEvents i [] = []

@@ -9,7 +9,7 @@ use lib.ListN.{getD, drop}
 use lib.Dec.{leb, eqb}
 use borrow.Author.Tests.{eq-eqb, ne-eqb}
 use Rattle.lib_base.specs.Basics.{pick}
-use Rattle.text_formula.specs.Reader.{level}
+use Rattle.text_formula.specs.Level.{level}
 use Rattle.source_language.specs.Tokens.{closing, comma}
 use Rattle.source_rendering.specs.Describe.{mark, unless}
 use Rattle.sheet_walk.specs.Fields.{afterField}

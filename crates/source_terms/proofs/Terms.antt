@@ -14,7 +14,7 @@ use Rattle.lib_base.proofs.Tools.{split}
 use Rattle.spec_language.specs.Sheet.{Term, Entry, cells}
 use Rattle.spec_language.specs.Grammar.{encodeExpr, encodeBehaviour, encodeBehaviours, unary, ternary, binary, TermFits, t-literal, t-variable, t-param, t-apply1, t-apply2, t-apply3, EntryFits}
 use Rattle.spec_grammar.proofs.Programs.{behaviour-bytes}
-use Rattle.text_formula.specs.Reader.{level}
+use Rattle.text_formula.specs.Level.{level}
 use Rattle.source_language.specs.Tokens.{SheetToken, opening, closing, comma}
 use Rattle.source_rendering.specs.Describe.{describedConstant, cellNamed, phraseOf, mark, unless, valueTokens, phraseTokens}
 use Rattle.source_rendering.proofs.Described.{some-cells}

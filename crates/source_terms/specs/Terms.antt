@@ -6,7 +6,7 @@ use mathlib.Core.List.{List, [], _∷_, _++_}
 use lib.ListN.{getD, drop}
 use lib.Dec.{ltb, leb, eqb}
 use Rattle.lib_base.specs.Basics.{pick}
-use Rattle.text_formula.specs.Reader.{level}
+use Rattle.text_formula.specs.Level.{level}
 use Rattle.source_language.specs.Tokens.{SheetToken, number, name, opening, closing, comma, bracket, unbracket}
 use Rattle.source_rendering.specs.Describe.{behaviourName, parameterName, describedConstant, mark, unless, valueTokens}
 use Rattle.sheet_walk.specs.Fields.{afterField, wordInFront}

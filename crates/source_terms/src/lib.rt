@@ -17,7 +17,7 @@ ghost use mathlib.Core.List.{[], _∷_};
 ghost use Prim.Native.Nat.{_<_, _≤_};
 ghost use lib.Dec.{leb};
 ghost use lib.ListN.{length, drop};
-ghost use Rattle.text_formula.specs.Reader.{level as tightness};
+ghost use Rattle.text_formula.specs.Level.{level as tightness};
 ghost use Rattle.source_language.specs.Tokens.{number, name, sign, opening, endSign};
 ghost use Rattle.source_rendering.specs.Describe.{digits, describedConstant, unless, valueTokens};
 ghost use Rattle.source_walk.specs.Heads.{HeadsOf};

@@ -12,7 +12,8 @@ use Rattle.spec_language.specs.Dependence.{Response, follows, takes, defers, ke
 use Rattle.spec_language.specs.Order.{upTo, phaseOne}
 use Rattle.spec_language.specs.Code.{Instr, off, on, copy, restore, load, fetch, save, defer, move, push, apply}
 use Rattle.spec_language.specs.Code.{postfix, ofC, firstCode, laterCode, moveCode, againCode, inC, byNumber, inOrder, firstPart, secondPart}
-use Rattle.spec_execution.specs.Execution.{Values, execute, executeAll, times}
+use Rattle.spec_execution.specs.Execution.{Values, execute, times}
+use Rattle.spec_execution.specs.Runs.{executeAll}
 use Rattle.spec_execution.proofs.Lengths.{mid}
 
 -- neither off nor on; leaves the store alone; both

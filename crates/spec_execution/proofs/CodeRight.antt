@@ -1,7 +1,7 @@
 -- What the engine relies on in an event's code holds of every valid program: the facts of the other files put together.
 use native.Mathlib.Omega.{arith}
 use Rattle.spec_language.specs.Syntax.{Program}
-use Rattle.spec_language.specs.Accepted.{Valid}
+use Rattle.spec_language.specs.Valid.{Valid}
 use Rattle.spec_semantics.proofs.Lengths.{length-event}
 use Rattle.spec_execution.specs.CodeFacts.{CodeFacts}
 use Rattle.spec_execution.proofs.Lengths.{length-code, length-counted}

@@ -12,7 +12,8 @@ use Rattle.spec_language.specs.Dependence.{handled, mentions}
 use Rattle.spec_language.specs.Order.{met, find, order, upTo, metAtOnce, phaseOne}
 use Rattle.spec_language.specs.Code.{Instr, apply, postfix, inOrder, copyPart, firstPart, secondPart, restorePart, code}
 use Rattle.spec_language.proofs.Examples.{W}
-use Rattle.spec_execution.specs.Execution.{Values, execute, executeAll, emptied, times, maskedAfter, copyingBackAfter}
+use Rattle.spec_execution.specs.Execution.{Values, execute, emptied, times, maskedAfter, copyingBackAfter}
+use Rattle.spec_execution.specs.Runs.{executeAll}
 
 -- the first c instructions of the event
 abbrev done : ℕ → List Instr

@@ -9,7 +9,7 @@ use lib.ListN.{length, length-append}
 use Rattle.spec_language.specs.Syntax.{Expr, con, name, app1, app2, app3, Program}
 use Rattle.spec_language.specs.Dependence.{Response, follows, takes, defers, keeps, size, noEvent, response, dependsOn}
 use Rattle.spec_language.specs.Order.{upTo, early, phaseOne, metAtOnce}
-use Rattle.spec_language.specs.Accepted.{Valid}
+use Rattle.spec_language.specs.Valid.{Valid}
 use Rattle.spec_language.specs.Code.{Instr, copy, restore}
 use Rattle.spec_language.specs.Code.{postfix, ofC, firstCode, laterCode, moveCode, againCode, inC, copied, byNumber, inOrder, copyPart}
 use Rattle.spec_language.specs.Code.{firstPart, secondPart, restorePart, code, sizeOf, share, instructions, one?, members}

@@ -10,12 +10,15 @@ use Rattle.lib_base.specs.Basics.{All}
 use Rattle.spec_language.specs.Syntax.{Expr, Program}
 use Rattle.spec_language.specs.Dependence.{Response, follows, takes, defers, keeps, size, response}
 use Rattle.spec_language.specs.Order.{upTo, phaseOne}
-use Rattle.spec_language.specs.Grammar.{Nested}
-use Rattle.spec_language.specs.Accepted.{NamesIn, Valid}
+use Rattle.spec_language.specs.Fits.{Nested}
+use Rattle.spec_language.specs.Accepted.{NamesIn}
+use Rattle.spec_language.specs.Valid.{Valid}
 use Rattle.spec_language.specs.Code.{Instr, off, on, copy, restore, save, defer, move, postfix, firstCode, laterCode, moveCode, againCode, inC, byNumber, inOrder, firstPart, secondPart, code}
-use Rattle.spec_semantics.specs.Meaning.{firstStep, againStep, firstPhase, laterPhase, at}
+use Rattle.spec_semantics.specs.Meaning.{firstStep, firstPhase, at}
+use Rattle.spec_semantics.specs.Event.{laterPhase, againStep}
 use Rattle.spec_semantics.specs.OverMeaning.{overIn, firstOver, laterOver, againOver, anyOf, turnsOver, eventOver}
-use Rattle.spec_execution.specs.Execution.{Values, execute, executeAll, emptied}
+use Rattle.spec_execution.specs.Execution.{Values, execute, emptied}
+use Rattle.spec_execution.specs.Runs.{executeAll}
 use Rattle.spec_execution.proofs.Responses.{ResponseFits, response-fits}
 use Rattle.spec_execution.proofs.Running.{looked, noted, execute-append, run-postfix, over-same}
 use Rattle.spec_execution.proofs.Lengths.{mid}

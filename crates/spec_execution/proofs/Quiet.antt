@@ -12,7 +12,8 @@ use Rattle.lib_base.specs.Basics.{All}
 use Rattle.lib_base.proofs.Tools.{all-imp, all-join}
 use Rattle.spec_language.specs.Syntax.{Program}
 use Rattle.spec_language.specs.Code.{Instr, off, on, copy, code, members}
-use Rattle.spec_execution.specs.Execution.{executeAll, emptied, copyingBackAfter}
+use Rattle.spec_execution.specs.Execution.{emptied, copyingBackAfter}
+use Rattle.spec_execution.specs.Runs.{executeAll}
 use Rattle.spec_execution.proofs.Lengths.{mid, length-C, length-code}
 use Rattle.spec_execution.proofs.Calm.{Calm, Still, all-take, calm-copies, calm-mid, still-off, still-on, still-runs}
 use Rattle.spec_execution.proofs.Masks.{copies, restores, code-shape, marks}

@@ -3,8 +3,9 @@
 use Prim.Native.Nat.{ℕ}
 use Rattle.spec_language.specs.Syntax.{Expr, Program}
 use Rattle.spec_language.specs.Dependence.{Response, follows, takes, defers, keeps, size, response}
-use Rattle.spec_language.specs.Grammar.{Nested}
-use Rattle.spec_language.specs.Accepted.{NamesIn, Valid}
+use Rattle.spec_language.specs.Fits.{Nested}
+use Rattle.spec_language.specs.Accepted.{NamesIn}
+use Rattle.spec_language.specs.Valid.{Valid}
 use Rattle.spec_language.proofs.Laws.{ResponseNamesIn, response-names, ResponseNested, response-nested}
 
 -- the expression of a response

@@ -14,12 +14,14 @@ use Rattle.lib_base.proofs.Tools.{all-imp}
 use Rattle.spec_language.specs.Syntax.{Program}
 use Rattle.spec_language.specs.Dependence.{Response, size, response}
 use Rattle.spec_language.specs.Order.{phaseOne}
-use Rattle.spec_language.specs.Accepted.{Valid}
+use Rattle.spec_language.specs.Valid.{Valid}
 use Rattle.spec_language.specs.Code.{Instr, off, on, firstCode, laterCode, moveCode, againCode, inC, byNumber, inOrder, firstPart, secondPart, code}
 use Rattle.spec_language.proofs.Laws.{upTo-of}
-use Rattle.spec_semantics.specs.Meaning.{firstStep, laterValue, againStep, inTurn, firstPhase, laterPhase, event, at}
+use Rattle.spec_semantics.specs.Meaning.{firstStep, inTurn, firstPhase, at}
+use Rattle.spec_semantics.specs.Event.{laterPhase, event, laterValue, againStep}
 use Rattle.spec_semantics.proofs.OrderLaws.{phaseOne-early}
-use Rattle.spec_execution.specs.Execution.{Values, heldAt, execute, executeAll, emptied}
+use Rattle.spec_execution.specs.Execution.{Values, heldAt, execute, emptied}
+use Rattle.spec_execution.specs.Runs.{executeAll}
 use Rattle.spec_execution.proofs.Responses.{response-fits}
 use Rattle.spec_execution.proofs.Running.{execute-append, parts}
 use Rattle.spec_execution.proofs.Lengths.{mid}

@@ -12,13 +12,15 @@ use Rattle.lib_base.specs.Basics.{pick}
 use Rattle.lib_base.proofs.Tools.{split}
 use Rattle.lib_arith.specs.Functions.{result, over, arity}
 use Rattle.spec_language.specs.Syntax.{Expr, con, name, app1, app2, app3}
-use Rattle.spec_language.specs.Grammar.{Arity, unary, ternary, binary, Nested, n-con, n-name, n-app1, n-app2, n-app3}
+use Rattle.spec_language.specs.Grammar.{Arity, unary, ternary, binary}
+use Rattle.spec_language.specs.Fits.{Nested, n-con, n-name, n-app1, n-app2, n-app3}
 use Rattle.spec_language.specs.Accepted.{NamesIn}
 use Rattle.spec_language.specs.Order.{upTo}
 use Rattle.spec_language.specs.Code.{Instr, load, fetch, apply, postfix}
 use Rattle.spec_semantics.specs.Meaning.{value, at}
 use Rattle.spec_semantics.specs.OverMeaning.{overIn}
-use Rattle.spec_execution.specs.Execution.{Values, heldAt, onArguments, applied, pushed, execute, executeAll}
+use Rattle.spec_execution.specs.Execution.{Values, heldAt, onArguments, applied, pushed, execute}
+use Rattle.spec_execution.specs.Runs.{executeAll}
 
 pub execute-append : (xs ys : List Instr) (d : Values) → executeAll (xs ++ ys) d ≡ executeAll ys (executeAll xs d)
 unfolding executeAll

@@ -14,10 +14,11 @@ use lib.Seq.{getD-set-same, getD-set-other, drop-cons}
 use Rattle.lib_base.proofs.Tools.{split}
 use Rattle.spec_language.specs.Syntax.{Program}
 use Rattle.spec_language.specs.Dependence.{size}
-use Rattle.spec_language.specs.Accepted.{Valid}
+use Rattle.spec_language.specs.Valid.{Valid}
 use Rattle.spec_language.specs.Code.{code, Instr, off, on, copy, restore, load, fetch, save, defer, move, push, apply}
 use Rattle.spec_semantics.specs.Meaning.{at}
-use Rattle.spec_execution.specs.Execution.{Values, heldAt, top, onArguments, applied, execute, executeAll, emptied}
+use Rattle.spec_execution.specs.Execution.{Values, heldAt, top, onArguments, applied, execute, emptied}
+use Rattle.spec_execution.specs.Runs.{executeAll}
 use Rattle.lib_arith.specs.Functions.{over, arity}
 use Rattle.spec_execution.specs.Safe.{Filled, start, Ok, withDepth, filledNext, filledAfter, Safe, isFilled, Matches}
 use Rattle.spec_execution.proofs.SafeParts.{passes}

@@ -14,8 +14,9 @@ use Rattle.lib_base.proofs.Tools.{all-imp}
 use Rattle.spec_language.specs.Syntax.{Expr, Program}
 use Rattle.spec_language.specs.Dependence.{Response, follows, takes, defers, keeps, size, response}
 use Rattle.spec_language.specs.Order.{upTo, phaseOne}
-use Rattle.spec_language.specs.Grammar.{Nested, n-con, n-name, n-app1, n-app2, n-app3}
-use Rattle.spec_language.specs.Accepted.{NamesIn, Valid}
+use Rattle.spec_language.specs.Fits.{Nested, n-con, n-name, n-app1, n-app2, n-app3}
+use Rattle.spec_language.specs.Accepted.{NamesIn}
+use Rattle.spec_language.specs.Valid.{Valid}
 use Rattle.spec_language.specs.Code.{Instr, off, on, copy, restore, load, fetch, save, defer, apply}
 use Rattle.spec_language.specs.Code.{postfix, ofC, firstCode, laterCode, moveCode, againCode}
 use Rattle.spec_language.specs.Code.{copied, inC, byNumber, inOrder, firstPart, secondPart, code}

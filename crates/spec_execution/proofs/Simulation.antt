@@ -13,12 +13,14 @@ use lib.Seq.{getD-set-same, getD-set-other}
 use Rattle.lib_base.specs.Basics.{pick}
 use Rattle.spec_language.specs.Syntax.{Expr}
 use Rattle.spec_language.specs.Dependence.{Response, follows, takes, defers, keeps}
-use Rattle.spec_language.specs.Grammar.{Nested}
+use Rattle.spec_language.specs.Fits.{Nested}
 use Rattle.spec_language.specs.Accepted.{NamesIn}
 use Rattle.spec_language.specs.Code.{copy, restore, save, defer, postfix, ofC, firstCode, laterCode, moveCode, againCode, copied}
-use Rattle.spec_semantics.specs.Meaning.{value, firstStep, laterValue, againStep, at}
+use Rattle.spec_semantics.specs.Meaning.{value, firstStep, at}
+use Rattle.spec_semantics.specs.Event.{laterValue, againStep}
 use Rattle.spec_semantics.specs.OverMeaning.{overIn}
-use Rattle.spec_execution.specs.Execution.{Values, held, heldAt, execute, executeAll}
+use Rattle.spec_execution.specs.Execution.{Values, held, heldAt, execute}
+use Rattle.spec_execution.specs.Runs.{executeAll}
 use Rattle.spec_execution.proofs.Responses.{ResponseFits}
 use Rattle.spec_execution.proofs.Running.{looked, noted, run-postfix, value-same}
 

@@ -10,9 +10,10 @@ use Rattle.lib_base.specs.Basics.{pick}
 use Rattle.spec_language.specs.Syntax.{Program}
 use Rattle.spec_language.specs.Dependence.{size, events}
 use Rattle.spec_language.specs.Code.{code, members, instructions}
-use Rattle.spec_semantics.specs.Meaning.{event}
+use Rattle.spec_semantics.specs.Event.{event}
 use Rattle.spec_semantics.specs.OverMeaning.{eventOver}
-use Rattle.spec_execution.specs.Execution.{executeAll, emptied, maskedAfter, copyingBackAfter}
+use Rattle.spec_execution.specs.Execution.{emptied, maskedAfter, copyingBackAfter}
+use Rattle.spec_execution.specs.Runs.{executeAll}
 
 -- of an event of len instructions and m members of C, with c instructions done: a copy-back is under way; interrupts
 -- are masked

@@ -21,6 +21,9 @@ pub record Values : Type 0 where
   pub deferred : List (Option ℕ)
   pub mark : Bool
 
+abbrev pub valuesOf : List ℕ → List (Option ℕ) → List ℕ → List (Option ℕ) → Bool → Values
+valuesOf s c st df m = record { store = s; scratch = c; stack = st; deferred = df; mark = m }
+
 -- a value of scratch or of the deferred ones; 0 where there is none
 abbrev pub held : Option ℕ → ℕ
 held none = 0
@@ -42,30 +45,26 @@ abbrev pub applied : ℕ → List ℕ → List ℕ
 applied f st = onArguments (result f) f st ∷ drop (arity f) st
 
 abbrev pub pushed : ℕ → Values → Values
-pushed w d = record { store = d .store; scratch = d .scratch; stack = w ∷ d .stack; deferred = d .deferred; mark = d .mark }
+pushed w d = valuesOf (d .store) (d .scratch) (w ∷ d .stack) (d .deferred) (d .mark)
 
 -- "No instruction changes any other value on board, scratch, stack or those places."
 unfoldable pub execute : Instr → Values → Values
 execute off d = d
 execute on d = d
-execute (copy i) d = record { store = d .store; scratch = set (d .scratch) i (some (at (d .store) i)); stack = d .stack; deferred = d .deferred; mark = d .mark }
-execute (restore i) d = record { store = set (d .store) i (heldAt (d .scratch) i); scratch = d .scratch; stack = d .stack; deferred = d .deferred; mark = d .mark }
+execute (copy i) d = valuesOf (d .store) (set (d .scratch) i (some (at (d .store) i))) (d .stack) (d .deferred) (d .mark)
+execute (restore i) d = valuesOf (set (d .store) i (heldAt (d .scratch) i)) (d .scratch) (d .stack) (d .deferred) (d .mark)
 execute (load i) d = pushed (at (d .store) i) d
 execute (fetch i) d = pushed (heldAt (d .scratch) i) d
 execute (push w) d = pushed w d
-execute (apply f) d = record { store = d .store; scratch = d .scratch; stack = applied f (d .stack); deferred = d .deferred; mark = onArguments (over f) f (d .stack) || d .mark }
-execute (save i) d = record { store = d .store; scratch = set (d .scratch) i (some (top (d .stack))); stack = drop 1 (d .stack); deferred = d .deferred; mark = d .mark }
-execute (defer i) d = record { store = d .store; scratch = d .scratch; stack = drop 1 (d .stack); deferred = set (d .deferred) i (some (top (d .stack))); mark = d .mark }
-execute (move i) d = record { store = d .store; scratch = set (d .scratch) i (some (heldAt (d .deferred) i)); stack = d .stack; deferred = d .deferred; mark = d .mark }
-
-unfoldable pub executeAll : List Instr → Values → Values
-executeAll [] d = d
-executeAll (i ∷ is) d = executeAll is (execute i d)
+execute (apply f) d = valuesOf (d .store) (d .scratch) (applied f (d .stack)) (d .deferred) (onArguments (over f) f (d .stack) || d .mark)
+execute (save i) d = valuesOf (d .store) (set (d .scratch) i (some (top (d .stack)))) (drop 1 (d .stack)) (d .deferred) (d .mark)
+execute (defer i) d = valuesOf (d .store) (d .scratch) (drop 1 (d .stack)) (set (d .deferred) i (some (top (d .stack)))) (d .mark)
+execute (move i) d = valuesOf (d .store) (set (d .scratch) i (some (heldAt (d .deferred) i))) (d .stack) (d .deferred) (d .mark)
 
 -- an event starts with scratch, stack and deferred values empty, and with no mark: "What a broken-in handler found is
 -- dropped with its scratch."
 unfoldable pub emptied : List ℕ → Values
-emptied s = record { store = s; scratch = replicate (length s) none; stack = []; deferred = replicate (length s) none; mark = false }
+emptied s = valuesOf s (replicate (length s) none) [] (replicate (length s) none) false
 
 -- ---- masking. "Interrupts are masked between off and on. Copy-back runs from after the second off to the end of the
 -- second on".

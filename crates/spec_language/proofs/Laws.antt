@@ -16,7 +16,7 @@ use Rattle.lib_base.proofs.Tools.{by-elim, or-either, all-at-or}
 use Rattle.spec_language.specs.Syntax.{Expr, con, name, app1, app2, app3, Phase, immediate, later, Handler, handler, Behaviour, passive, active, Program}
 use Rattle.spec_language.specs.Dependence.{Response, follows, takes, defers, keeps, inPhase, handled, respond, size, events, behaviourAt, response, mentions, needs, dependsOn}
 use Rattle.spec_language.specs.Order.{upTo}
-use Rattle.spec_language.specs.Grammar.{Nested, HandlersFit, BehaviourFits}
+use Rattle.spec_language.specs.Fits.{Nested, HandlersFit, BehaviourFits}
 use Rattle.spec_language.specs.Accepted.{NamesIn, HandlerNamesIn, BehaviourNamesIn, Known}
 
 -- ---- f of each number below n

@@ -14,9 +14,10 @@ use Rattle.spec_language.specs.Sheet.{Term, literal, variable, param, ap
 use Rattle.spec_language.specs.Sheet.{rowsOut, fillTerm, fillClauses, fillItem, fillEntries, fillCells, fill, writeTerm, writtenOut}
 use Rattle.spec_language.specs.Sheet.{paramsOf, paramsOfClauses, paramsOfItem, paramsOfEntries, uses}
 use Rattle.spec_language.specs.Grammar.{TermFits, t-literal, t-variable, t-param, t-apply1, t-apply2, t-apply3, NoClauseFor, ClausesFit, ItemFits, ByteFits, SignalFits, EntryFits, SheetFits}
-use Rattle.spec_language.specs.Grammar.{Nested, n-con, n-name, n-app1, n-app2, n-app3, NoneFor, HandlersFit, BehaviourFits, Fits}
+use Rattle.spec_language.specs.Fits.{Nested, n-con, n-name, n-app1, n-app2, n-app3, NoneFor, HandlersFit, BehaviourFits, Fits}
 use Rattle.spec_language.specs.Code.{sizeOf}
-use Rattle.spec_language.specs.Accepted.{Accepted, SheetAccepted}
+use Rattle.spec_language.specs.Accepted.{SheetAccepted}
+use Rattle.spec_language.specs.Valid.{Accepted}
 use Rattle.spec_language.proofs.RowLaws.{length-out, out-most, rows-fit, written-rows}
 
 -- ---- its shape

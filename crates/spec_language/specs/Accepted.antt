@@ -6,7 +6,7 @@ use lib.ListN.{length}
 use Rattle.lib_base.specs.Basics.{All}
 use Rattle.spec_language.specs.Syntax.{Expr, con, name, app1, app2, app3, Handler, handler, Behaviour, passive, active, Program}
 use Rattle.spec_language.specs.Sheet.{Sheet, fill, uses}
-use Rattle.spec_language.specs.Grammar.{SheetFits, BehaviourFits, Fits}
+use Rattle.spec_language.specs.Grammar.{SheetFits}
 use Rattle.spec_language.specs.Dependence.{NoCycle}
 use Rattle.spec_language.specs.Code.{allInstructions}
 
@@ -28,13 +28,6 @@ BehaviourNamesIn n (active s hs) = All (HandlerNamesIn n) hs
 abbrev pub Known : Program → Type 0
 Known p = All (BehaviourNamesIn (length (p .behaviours))) (p .behaviours)
 
--- a program within 01's limits, with no cycle under an event or under none
-pub record Accepted (p : Program) : Type 0 where
-  pub fits : Fits p
-  pub known : Known p
-  pub acyclic : NoCycle p
-  pub short : allInstructions p ≤ 4096
-
 -- a sheet that is accepted where so many bytes of parameters are lent and parameter n has the value v n: it is within
 -- 01's grammar and limits, uses a parameter only if 32 bytes are lent, and its filling names behaviours that exist, has
 -- no cycle and is not overlong
@@ -44,9 +37,3 @@ pub record SheetAccepted (v : ℕ → ℕ) (lent : ℕ) (s : Sheet) : Type 0 whe
   pub given : uses s ≡ true → 32 ≤ lent
   pub acyclic : NoCycle (fill v s)
   pub short : allInstructions (fill v s) ≤ 4096
-
--- what the meaning of a program needs of it: within the grammar's limits field by field, names that exist, no cycle
-pub record Valid (p : Program) : Type 0 where
-  pub each : All (BehaviourFits (length (p .priorities))) (p .behaviours)
-  pub known : Known p
-  pub acyclic : NoCycle p

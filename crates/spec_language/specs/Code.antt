@@ -37,10 +37,7 @@ postfix c (app3 f a b d) = postfix c a ++ (postfix c b ++ (postfix c d ++ (apply
 
 -- what each behaviour gives: its number first if it is in C
 abbrev pub ofC : (ℕ → Instr) → ℕ → Response → List Instr
-ofC f i (follows x) = f i ∷ []
-ofC f i (takes x) = f i ∷ []
-ofC f i (defers x) = f i ∷ []
-ofC f i keeps = []
+ofC f i r = pick (copied r) (f i ∷ []) []
 
 -- the first time: passives and immediate handlers
 abbrev pub firstCode : (ℕ → Bool) → ℕ → Response → List Instr

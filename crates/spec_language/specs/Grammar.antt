@@ -1,14 +1,14 @@
 -- The grammar as an encoding of sheets, and the limits that one field can show, of a sheet and of the program that it
 -- means. 01 "The sheet"; 02, M-103, M-107, M-110.
 use Prim.Native.Nat.{ℕ, suc, _/_, _%_, _≤_, _<_, _^_}
-use mathlib.Core.Path.{_≡_}
 use mathlib.Core.Logic.{_≢_}
 use mathlib.Core.Option.{Option, none, some}
 use mathlib.Core.List.{List, [], _∷_, _++_}
 use lib.ListN.{length}
 use Rattle.lib_base.specs.Basics.{All}
-use Rattle.spec_language.specs.Syntax.{Expr, con, name, app1, app2, app3, Phase, immediate, later, Handler, handler, Behaviour, passive, active, Program}
-use Rattle.spec_language.specs.Sheet.{Term, literal, variable, param, apply1, apply2, apply3, Clause, clause, Item, formula, state, row, Signal, Entry, Sheet, cellCount}
+use Rattle.spec_language.specs.Syntax.{Phase, immediate, later}
+use Rattle.spec_language.specs.Sheet.{Term, literal, variable, param, apply1, apply2, apply3, Clause, clause}
+use Rattle.spec_language.specs.Sheet.{Item, formula, state, row, Signal, Entry, Sheet, cellCount}
 
 -- ---- bytes
 
@@ -137,32 +137,3 @@ pub record SheetFits (s : Sheet) : Type 0 where
   pub few-bytes : length (encode s) ≤ 8192
 
 -- ---- the same limits of a program, which has no bytes: "3 counts the bytes as sent and not those of the filling"
-
-pub data Nested : ℕ → Expr → Type 0 where
-  n-con : {k w : ℕ} → w < 2 ^ 32 → Nested (suc k) (con w)
-  n-name : {k i : ℕ} → i < 256 → Nested (suc k) (name i)
-  n-app1 : {k f : ℕ} {a : Expr} → Arity f 1 → Nested k a → Nested (suc k) (app1 f a)
-  n-app2 : {k f : ℕ} {a b : Expr} → Arity f 2 → Nested k a → Nested k b → Nested (suc k) (app2 f a b)
-  n-app3 : {k f : ℕ} {a b c : Expr} → Arity f 3 → Nested k a → Nested k b → Nested k c → Nested (suc k) (app3 f a b c)
-
-abbrev pub NoneFor : ℕ → List Handler → Type 0
-NoneFor e [] = Unit {0}
-NoneFor e (handler f φ x ∷ hs) = (e ≢ f) × NoneFor e hs
-
-abbrev pub HandlersFit : ℕ → List Handler → Type 0
-HandlersFit n [] = Unit {0}
-HandlersFit n (handler e φ x ∷ hs) = (e < n) × Nested 16 x × NoneFor e hs × HandlersFit n hs
-
-abbrev pub BehaviourFits : ℕ → Behaviour → Type 0
-BehaviourFits n (passive x) = Nested 16 x
-BehaviourFits n (active s hs) = (s < 2 ^ 32) × HandlersFit n hs
-
-pub record Fits (p : Program) : Type 0 where
-  pub few-events : length (p .priorities) ≤ 32
-  pub few-behaviours : length (p .behaviours) ≤ 64
-  pub scale : All (λ r. r ≤ 15) (p .priorities)
-  pub each : All (BehaviourFits (length (p .priorities))) (p .behaviours)
-  pub all-senders : length (p .senders) ≡ length (p .priorities)
-  pub all-viewers : length (p .viewers) ≡ length (p .behaviours)
-  pub send-bytes : All (λ m. m < 256) (p .senders)
-  pub view-bytes : All (λ m. m < 256) (p .viewers)

@@ -4,8 +4,10 @@ pub mod Refusals
 pub mod Answers
 pub mod Rights
 pub mod Grammar
+pub mod Fits
 pub mod Reading
 pub mod Dependence
 pub mod Order
 pub mod Code
 pub mod Accepted
+pub mod Valid

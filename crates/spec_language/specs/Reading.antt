@@ -10,8 +10,8 @@ use lib.Dec.{ltb, leb, eqb}
 use Rattle.lib_base.specs.Basics.{pick}
 use Rattle.lib_word.specs.Word.{getAt}
 use Rattle.spec_language.specs.Syntax.{Phase, immediate, later}
-use Rattle.spec_language.specs.Sheet.{Term, literal, variable, param, apply1, apply2, apply3, Clause, clause, Item, formula, state, row, Signal, Entry, Sheet, cellCount}
-use Rattle.spec_language.specs.Refusals.{torn, wrongTag, wrongLength, crowded, offScale, tooDeep, doubled}
+use Rattle.spec_language.specs.Sheet.{Term, literal, variable, param, apply1, apply2, apply3, Clause, clause}
+use Rattle.spec_language.specs.Sheet.{Item, formula, state, row, Signal, Entry, Sheet, cellCount}
 
 -- something read, with the bytes after it, or the number of a fault
 pub data Got (A : Type 0) : Type 0 where
@@ -25,7 +25,7 @@ then (got x rest) f = f x rest
 
 -- "6 for a fixed length"
 abbrev pub sized : {A : Type 0} → ℕ → List ℕ → Got A → Got A
-sized n v x = pick (eqb (length v) n) x (bad wrongLength)
+sized n v x = pick (eqb (length v) n) x (bad 6)
 
 -- "6 for leftovers": what is read from a field's value leaves nothing of it over, and the bytes after the field follow
 abbrev pub filling : {A : Type 0} → Got A → List ℕ → Got A
@@ -36,21 +36,21 @@ filling g rest = then g (λ x left. sized 0 left (got x rest))
 unfoldable pub fieldAt : {A : Type 0} → (ℕ → Bool) → List ℕ → (ℕ → List ℕ → Got A) → Got A
 fieldAt due s f =
     let n : ℕ = getD s 1 0 * 256 + getD s 2 0 in
-    pick (ltb (length s) 3) (bad torn)
-    (pick (not (due (getD s 0 0))) (bad wrongTag)
-    (pick (ltb (length s) (n + 3)) (bad torn)
+    pick (ltb (length s) 3) (bad 4)
+    (pick (not (due (getD s 0 0))) (bad 5)
+    (pick (ltb (length s) (n + 3)) (bad 4)
     (filling (f (getD s 0 0) (take n (drop 3 s))) (drop (n + 3) s))))
 
 -- a byte is due in a value
 abbrev pub byteIn : {A : Type 0} → List ℕ → (ℕ → List ℕ → Got A) → Got A
-byteIn [] f = bad wrongLength
+byteIn [] f = bad 6
 byteIn (b ∷ v) f = f b v
 
 -- one after another, each read by `one` after those before it, until the bytes left end them. The number bounds their
 -- count; one more than the bytes is enough, since a field has three at least
 module _ {A : Type 0} (ended : List ℕ → Bool) (one : List A → List ℕ → Got A) where
   unfoldable pub readAll : ℕ → List A → List ℕ → Got (List A)
-  readAll zero xs s = bad torn
+  readAll zero xs s = bad 4
   readAll (suc k) xs s = pick (ended s) (got xs s) (then (one xs s) (λ x rest. readAll k (xs ++ (x ∷ [])) rest))
 
 -- ---- expressions
@@ -70,8 +70,8 @@ abbrev pub termIn : (List ℕ → Got Term) → ℕ → List ℕ → Got Term
 termIn arg t v =
     pick (eqb t 16) (sized 4 v (got (literal (getAt v 0)) []))
     (pick (eqb t 17) (sized 1 v (got (variable (getD v 0 0)) []))
-    (pick (eqb t 19) (sized 1 v (pick (ltb 7 (getD v 0 0)) (bad offScale) (got (param (getD v 0 0)) [])))
-    (byteIn v (λ f w. pick (eqb f 0 || ltb 14 f) (bad offScale) (argsOf arg f w)))))
+    (pick (eqb t 19) (sized 1 v (pick (ltb 7 (getD v 0 0)) (bad 8) (got (param (getD v 0 0)) [])))
+    (byteIn v (λ f w. pick (eqb f 0 || ltb 14 f) (bad 8) (argsOf arg f w)))))
 
 -- the tags of expressions
 abbrev pub isTerm : ℕ → Bool
@@ -79,7 +79,7 @@ isTerm t = leb 16 t && leb t 19
 
 -- an expression, with so many levels of nesting left: 9 comes after its length, before its contents
 unfoldable pub exprAt : ℕ → List ℕ → Got Term
-exprAt zero s = fieldAt isTerm s (λ t v. bad tooDeep)
+exprAt zero s = fieldAt isTerm s (λ t v. bad 9)
 exprAt (suc left) s = fieldAt isTerm s (termIn (exprAt left))
 
 -- ---- handlers
@@ -97,9 +97,9 @@ phaseOf (suc n) = later
 abbrev pub handlerIn : ℕ → List Clause → List ℕ → Got Clause
 handlerIn n hs s =
     fieldAt (eqb 5) s (λ t v.
-    byteIn v (λ e v₁. pick (leb n e) (bad offScale)
-    (byteIn v₁ (λ φ v₂. pick (ltb 1 φ) (bad offScale)
-    (pick (handles e hs) (bad doubled)
+    byteIn v (λ e v₁. pick (leb n e) (bad 8)
+    (byteIn v₁ (λ φ v₂. pick (ltb 1 φ) (bad 8)
+    (pick (handles e hs) (bad 10)
     (then (exprAt 16 v₂) (λ x left. got (clause e (phaseOf φ) x) left)))))))
 
 -- ---- behaviours
@@ -129,15 +129,15 @@ abbrev pub behaviourIn : ℕ → ℕ → ℕ → List ℕ → Got Entry
 behaviourIn n i t v =
     pick (eqb t 2) (then (exprAt 16 v) (λ x left. endingIn (formula x) left))
     (pick (eqb t 6)
-    (byteIn v (λ c w. pick (ltb c 2 || ltb 16 c) (bad offScale)
-    (pick (ltb 64 (i + c)) (bad crowded) (activeAs (row c) n w))))
+    (byteIn v (λ c w. pick (ltb c 2 || ltb 16 c) (bad 8)
+    (pick (ltb 64 (i + c)) (bad 7) (activeAs (row c) n w))))
     (activeAs state n v))
 
 -- where a behaviour is due after those of bs, with n events declared
 abbrev pub dueAt : ℕ → List Entry → List ℕ → Got Entry
 dueAt n bs s =
     fieldAt (λ t. eqb t 2 || eqb t 3 || eqb t 6) s (λ t v.
-    pick (leb 64 (cellCount bs)) (bad crowded) (behaviourIn n (cellCount bs) t v))
+    pick (leb 64 (cellCount bs)) (bad 7) (behaviourIn n (cellCount bs) t v))
 
 -- ---- the whole
 
@@ -148,9 +148,9 @@ signal r m = record { priority = r; sender = m }
 abbrev pub signalIn : List Signal → List ℕ → Got Signal
 signalIn rs s =
     fieldAt (eqb 1) s (λ t v.
-    pick (leb 32 (length rs)) (bad crowded)
-    (pick (eqb (length v) 0 || ltb 2 (length v)) (bad wrongLength)
-    (pick (ltb 15 (getD v 0 0)) (bad offScale)
+    pick (leb 32 (length rs)) (bad 7)
+    (pick (eqb (length v) 0 || ltb 2 (length v)) (bad 6)
+    (pick (ltb 15 (getD v 0 0)) (bad 8)
     (got (signal (getD v 0 0) (pick (eqb (length v) 1) none (some (getD v 1 0)))) []))))
 
 abbrev pub sheet : List Signal → List Entry → Sheet

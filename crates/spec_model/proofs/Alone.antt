@@ -9,15 +9,17 @@ use native.Mathlib.Omega.{arith}
 use lib.ListN.{length, replicate}
 use Rattle.lib_base.specs.Basics.{All}
 use Rattle.spec_language.specs.Syntax.{Program}
-use Rattle.spec_language.specs.Accepted.{Valid}
+use Rattle.spec_language.specs.Valid.{Valid}
 use Rattle.spec_language.specs.Dependence.{size, events}
 use Rattle.spec_language.specs.Rights.{maySend}
 use Rattle.spec_language.specs.Code.{code}
-use Rattle.spec_semantics.specs.Meaning.{event}
-use Rattle.spec_execution.specs.Execution.{Values, executeAll, emptied}
+use Rattle.spec_semantics.specs.Event.{event}
+use Rattle.spec_execution.specs.Execution.{Values, emptied}
+use Rattle.spec_execution.specs.Runs.{executeAll}
 use Rattle.spec_execution.proofs.CodeRight.{code-facts}
 use Rattle.spec_model.specs.Model.{Arrival, arrival, rest, busy, Engine, engine, Call, Answer, refused, takenIn, shows, idle, ran, started, preempted, committed, act, run, Turn, call, change, State, state, Reply, says, carriedOver, turn, runTurns, replies, begun}
-use Rattle.spec_model.specs.Claims.{storeOf, aloneCalls, Moment, commits, ifCommits, momentOf, moments, inForce, IdleIn, after, historyOf, Sound}
+use Rattle.spec_model.specs.Claims.{storeOf, aloneCalls, Moment, commits, ifCommits, momentOf, moments, inForce, IdleIn, after, historyOf}
+use Rattle.spec_model.specs.Sound.{Sound}
 use Rattle.spec_model.specs.Evaluated.{AloneRight}
 use Rattle.spec_model.proofs.States.{numberIn, storeIn, arrivalsCommitted}
 use Rattle.spec_model.proofs.Calls.{answers}

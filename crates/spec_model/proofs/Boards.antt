@@ -8,16 +8,18 @@ use mathlib.Core.List.{List, [], _∷_, _++_}
 use lib.ListN.{length}
 use Rattle.lib_base.specs.Basics.{All}
 use Rattle.spec_language.specs.Syntax.{Program}
-use Rattle.spec_language.specs.Accepted.{Valid}
+use Rattle.spec_language.specs.Valid.{Valid}
 use Rattle.spec_language.specs.Dependence.{size}
-use Rattle.spec_semantics.specs.Meaning.{event, fresh}
+use Rattle.spec_semantics.specs.Meaning.{fresh}
+use Rattle.spec_semantics.specs.Event.{event}
 use Rattle.spec_semantics.proofs.Lengths.{length-fresh}
 use Rattle.spec_execution.specs.Execution.{emptied}
 use Rattle.spec_execution.specs.CodeFacts.{CodeFacts}
 use Rattle.spec_execution.proofs.CodeRight.{code-facts}
 use Rattle.spec_model.specs.Carried.{carried}
 use Rattle.spec_model.specs.Model.{Arrival, Engine, engine, Call, Turn, State, state, carriedTo}
-use Rattle.spec_model.specs.Claims.{copyBackIn, storeOf, Moment, commits, changes, inForce, engineIn, after, historyOf, Sound}
+use Rattle.spec_model.specs.Claims.{copyBackIn, storeOf, Moment, commits, changes, inForce, engineIn, after, historyOf}
+use Rattle.spec_model.specs.Sound.{Sound}
 use Rattle.spec_model.specs.Evaluated.{replayed, BoardOfCommits}
 use Rattle.spec_model.proofs.States.{storeIn}
 use Rattle.spec_model.proofs.Carries.{length-carried}

@@ -13,10 +13,11 @@ use Rattle.lib_base.proofs.Tools.{all-at, split}
 use Rattle.spec_language.specs.Syntax.{Handler, Behaviour, passive, active, Program}
 use Rattle.spec_language.specs.Dependence.{respond, size, noEvent, behaviourAt, isActive}
 use Rattle.spec_language.specs.Order.{upTo, phaseOne}
-use Rattle.spec_language.specs.Grammar.{BehaviourFits}
-use Rattle.spec_language.specs.Accepted.{Valid}
+use Rattle.spec_language.specs.Fits.{BehaviourFits}
+use Rattle.spec_language.specs.Valid.{Valid}
 use Rattle.spec_language.proofs.Laws.{length-upTo, getD-upTo, upTo-same}
-use Rattle.spec_semantics.specs.Meaning.{at, firstStep, firstPhase, startOf, starts, fresh, Consistent, carry, withStore}
+use Rattle.spec_semantics.specs.Meaning.{at, firstStep, firstPhase, startOf, starts, fresh, carry, withStore}
+use Rattle.spec_semantics.specs.Event.{Consistent}
 use Rattle.spec_semantics.specs.Rules.{Shows}
 use Rattle.spec_semantics.proofs.Solution.{firstOf, Solves, first-solves, passives-unique}
 use Rattle.spec_semantics.proofs.Handlers.{undeclared-keeps}

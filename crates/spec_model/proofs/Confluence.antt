@@ -14,7 +14,7 @@ use Rattle.lib_base.specs.Basics.{All}
 use Rattle.lib_base.proofs.Tools.{by-elim, all-perm, all-imp, all-of-mem}
 use Rattle.spec_language.specs.Syntax.{Program}
 use Rattle.spec_language.specs.Dependence.{size, events}
-use Rattle.spec_semantics.specs.Meaning.{event, play}
+use Rattle.spec_semantics.specs.Event.{event, play}
 use Rattle.spec_execution.specs.CodeFacts.{CodeFacts}
 use Rattle.spec_model.specs.Model.{Arrival, rank}
 use Rattle.spec_model.proofs.Choice.{numbers, distinct-numbers}

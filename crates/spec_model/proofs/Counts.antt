@@ -8,14 +8,15 @@ use mathlib.Core.List.{List, [], _∷_, _++_, List·Memᴰ}
 use lib.ListN.{length}
 use Rattle.lib_base.specs.Basics.{All}
 use Rattle.spec_language.specs.Syntax.{Program}
-use Rattle.spec_language.specs.Accepted.{Valid}
+use Rattle.spec_language.specs.Valid.{Valid}
 use Rattle.spec_language.specs.Dependence.{size, events}
 use Rattle.spec_language.specs.Rights.{maySee}
 use Rattle.spec_semantics.specs.Meaning.{at}
 use Rattle.spec_semantics.specs.OverMeaning.{eventOver}
 use Rattle.spec_execution.proofs.CodeRight.{code-facts}
 use Rattle.spec_model.specs.Model.{Arrival, arrival, Engine, Call, arrive, step, board, Answer, refused, takenIn, shows, idle, ran, started, preempted, committed, rank, act, run, Turn, call, change, State, state, Reply, says, carriedOver, TurnOutcome, turn, runTurns, replies, begun}
-use Rattle.spec_model.specs.Claims.{number, stepsOf, AtRest, foreseen, Moment, ifCommits, momentOf, moments, ifTakenIn, takenTurns, inForce, engineIn, IdleIn, after, historyOf, Sound, Unchanged, stepsAmong, IdleWithin, QuietExactly, NobodyWaits, PreviewRight}
+use Rattle.spec_model.specs.Claims.{number, stepsOf, AtRest, foreseen, Moment, ifCommits, momentOf, moments, ifTakenIn, takenTurns, inForce, engineIn, IdleIn, after, historyOf, Unchanged, stepsAmong, IdleWithin, QuietExactly, NobodyWaits, PreviewRight}
+use Rattle.spec_model.specs.Sound.{Sound}
 use Rattle.spec_model.specs.Evaluated.{MarkRight}
 use Rattle.spec_model.proofs.States.{numberIn, handIn, storeIn, countNow, arrivalsCommitted, committed-arrivals}
 use Rattle.spec_model.proofs.Calls.{stepCount, answers, commitsOf, takenFrom}

@@ -11,9 +11,9 @@ use lib.ListN.{length}
 use Rattle.lib_base.specs.Basics.{All}
 use Rattle.lib_base.proofs.Tools.{all-mem, all-of-mem, all-imp}
 use Rattle.spec_language.specs.Syntax.{Program}
-use Rattle.spec_language.specs.Accepted.{Valid}
+use Rattle.spec_language.specs.Valid.{Valid}
 use Rattle.spec_language.specs.Dependence.{size, events, Independent}
-use Rattle.spec_semantics.specs.Meaning.{event, play}
+use Rattle.spec_semantics.specs.Event.{event, play}
 use Rattle.spec_semantics.proofs.Commute.{commute}
 use Rattle.spec_execution.proofs.CodeRight.{code-facts}
 use Rattle.spec_model.specs.Carried.{carried}

@@ -11,10 +11,11 @@ use native.Mathlib.Omega.{arith}
 use Rattle.lib_base.specs.Basics.{All}
 use Rattle.lib_base.proofs.Tools.{all-perm, all-imp, all-join, all-mem}
 use Rattle.spec_language.specs.Syntax.{Program}
-use Rattle.spec_language.specs.Accepted.{Valid}
+use Rattle.spec_language.specs.Valid.{Valid}
 use Rattle.spec_execution.specs.CodeFacts.{CodeFacts}
 use Rattle.spec_model.specs.Model.{Arrival, arrival, Running, Engine, engine, queue, Chosen, aside, choose, Turn, State, state, carriedTo, rest, busy, rank}
-use Rattle.spec_model.specs.Claims.{number, inQueue, Moment, commits, changes, Commit, commitsUnder, Sound, EqualsInOrder}
+use Rattle.spec_model.specs.Claims.{number, inQueue, Moment, commits, changes, Commit, commitsUnder, EqualsInOrder}
+use Rattle.spec_model.specs.Sound.{Sound}
 use Rattle.spec_model.proofs.States.{commitUnder, numberIn, handIn}
 use Rattle.spec_model.proofs.Choice.{numbers, distinct-numbers, no-other, choose-perm, choose-first, Leads}
 use Rattle.spec_model.proofs.Moves.{Cases}

@@ -12,8 +12,10 @@ use Rattle.spec_language.specs.Syntax.{con, name, app2, immediate, handler, pas
 use Rattle.spec_language.specs.Dependence.{handled, mentions}
 use Rattle.spec_language.specs.Order.{met, find, order, upTo, metAtOnce, phaseOne}
 use Rattle.spec_language.specs.Code.{postfix, inOrder, copyPart, firstPart, secondPart, restorePart, code}
-use Rattle.spec_semantics.specs.Meaning.{value, inTurn, firstPhase, laterPhase, event, starts, fresh}
-use Rattle.spec_execution.specs.Execution.{Values, execute, executeAll, emptied, times}
+use Rattle.spec_semantics.specs.Meaning.{value, inTurn, firstPhase, starts, fresh}
+use Rattle.spec_semantics.specs.Event.{laterPhase, event}
+use Rattle.spec_execution.specs.Execution.{Values, execute, emptied, times}
+use Rattle.spec_execution.specs.Runs.{executeAll}
 use Rattle.spec_language.proofs.Examples.{W}
 use Rattle.spec_model.specs.Carried.{carriedActives, carried}
 use Rattle.spec_model.specs.Model.{arrival, rest, Engine, engine, arrive, step, board, refused, takenIn, shows, ran, started, preempted, committed, act, run, State, state, Turn, call, change, Reply, says, carriedOver, turn, runTurns, replies}

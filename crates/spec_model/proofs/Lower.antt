@@ -15,13 +15,14 @@ use borrow.Author.Tests.{leb-true, leb-false, le-leb, lt-leb}
 use Rattle.lib_base.specs.Basics.{All}
 use Rattle.lib_base.proofs.Tools.{all-perm, all-imp, all-join, all-split, all-mem, split, by-test}
 use Rattle.spec_language.specs.Syntax.{Program}
-use Rattle.spec_language.specs.Accepted.{Valid}
+use Rattle.spec_language.specs.Valid.{Valid}
 use Rattle.spec_language.specs.Code.{code, members}
 use Rattle.spec_language.specs.Dependence.{events}
 use Rattle.spec_execution.specs.Execution.{Values, times, copyingBackAfter, maskedAfter}
 use Rattle.spec_execution.specs.CodeFacts.{CodeFacts, copyingBackAt, maskedAt}
 use Rattle.spec_model.specs.Model.{Arrival, arrival, Running, rest, busy, Engine, engine, queue, arrive, step, board, rank, Turn, call, change, State, state, carriedTo}
-use Rattle.spec_model.specs.Claims.{number, inQueue, CopyingBack, Moment, commits, Commit, commitsUnder, inForce, engineIn, after, historyOf, Sound, TakenInLater, LowerFirst}
+use Rattle.spec_model.specs.Claims.{number, inQueue, CopyingBack, Moment, commits, Commit, commitsUnder, inForce, engineIn, after, historyOf, TakenInLater, LowerFirst}
+use Rattle.spec_model.specs.Sound.{Sound}
 use Rattle.spec_model.proofs.States.{commitUnder, numberIn, handIn}
 use Rattle.spec_model.proofs.Choice.{choose-perm}
 use Rattle.spec_model.proofs.Moves.{Cases}

@@ -3,9 +3,10 @@
 use mathlib.Core.List.{List}
 use Rattle.lib_base.specs.Basics.{All}
 use Rattle.spec_language.specs.Syntax.{Program}
-use Rattle.spec_language.specs.Accepted.{Valid}
+use Rattle.spec_language.specs.Valid.{Valid}
 use Rattle.spec_model.specs.Model.{Turn}
-use Rattle.spec_model.specs.Claims.{Sound, Sentences}
+use Rattle.spec_model.specs.Claims.{Sentences}
+use Rattle.spec_model.specs.Sound.{Sound}
 use Rattle.spec_model.specs.Evaluated.{SameBoard}
 use Rattle.spec_model.proofs.Once as once
 use Rattle.spec_model.proofs.Equals as equals

@@ -11,12 +11,13 @@ use lib.ListN.{length}
 use Rattle.lib_base.specs.Basics.{All}
 use Rattle.lib_base.proofs.Tools.{all-perm, all-imp, by-test}
 use Rattle.spec_language.specs.Syntax.{Program}
-use Rattle.spec_language.specs.Accepted.{Valid}
+use Rattle.spec_language.specs.Valid.{Valid}
 use Rattle.spec_language.specs.Code.{code}
 use Rattle.spec_execution.specs.CodeFacts.{CodeFacts}
 use Rattle.spec_execution.specs.Execution.{Values}
 use Rattle.spec_model.specs.Model.{Arrival, arrival, Running, Engine, engine, queue, Turn, State, state, carriedTo, rest, busy, idle, Outcome, Chosen, rank, masked, advance, contest, choose, act}
-use Rattle.spec_model.specs.Claims.{number, inQueue, Moment, commits, changes, after, historyOf, takenInBy, IdleIn, Sound, OnceEach}
+use Rattle.spec_model.specs.Claims.{number, inQueue, Moment, commits, changes, after, historyOf, takenInBy, IdleIn, OnceEach}
+use Rattle.spec_model.specs.Sound.{Sound}
 use Rattle.spec_model.proofs.States.{numberIn, handIn, Idle, arrivalsCommitted, committed-arrivals}
 use Rattle.spec_model.proofs.Choice.{numbers, distinct-numbers, new-number, choose-perm}
 use Rattle.spec_model.proofs.Moves.{Cases}

@@ -14,8 +14,9 @@ use Rattle.spec_language.specs.Syntax.{Program}
 use Rattle.spec_language.specs.Dependence.{size, events}
 use Rattle.spec_language.specs.Rights.{maySend}
 use Rattle.spec_language.specs.Code.{Instr, off, code}
-use Rattle.spec_semantics.specs.Meaning.{event}
-use Rattle.spec_execution.specs.Execution.{Values, execute, executeAll, emptied}
+use Rattle.spec_semantics.specs.Event.{event}
+use Rattle.spec_execution.specs.Execution.{Values, execute, emptied}
+use Rattle.spec_execution.specs.Runs.{executeAll}
 use Rattle.spec_execution.specs.CodeFacts.{CodeFacts}
 use Rattle.spec_model.specs.Model.{Arrival, arrival, rest, busy, engine, arrive, step, Answer, takenIn, ran, started, committed, Outcome, outcome, act, run}
 use Rattle.spec_model.specs.Claims.{aloneCalls}

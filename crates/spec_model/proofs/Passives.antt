@@ -12,13 +12,15 @@ use Rattle.lib_base.proofs.Tools.{by-test}
 use Rattle.spec_language.specs.Syntax.{Expr, Handler, Behaviour, passive, active, Program}
 use Rattle.spec_language.specs.Dependence.{Response, follows, takes, defers, keeps, handled, respond, size, noEvent, behaviourAt, response, isActive}
 use Rattle.spec_language.specs.Order.{upTo, phaseOne}
-use Rattle.spec_language.specs.Accepted.{Valid}
+use Rattle.spec_language.specs.Valid.{Valid}
 use Rattle.spec_language.specs.Code.{Instr, againCode, inC, inOrder, sizeOf}
 use Rattle.spec_language.proofs.Laws.{length-upTo, getD-upTo, upTo-same}
-use Rattle.spec_semantics.specs.Meaning.{at, againStep, inTurn}
+use Rattle.spec_semantics.specs.Meaning.{at, inTurn}
+use Rattle.spec_semantics.specs.Event.{againStep}
 use Rattle.spec_semantics.proofs.Solution.{againOf, again-solved, Follows, passives-unique}
 use Rattle.spec_semantics.proofs.Handlers.{Says, handled-says}
-use Rattle.spec_execution.specs.Execution.{Values, heldAt, executeAll}
+use Rattle.spec_execution.specs.Execution.{Values, heldAt}
+use Rattle.spec_execution.specs.Runs.{executeAll}
 use Rattle.spec_execution.specs.Safe.{Filled, Safe, filledAfter as checked}
 use Rattle.spec_execution.proofs.Right.{Seen, after-again}
 use Rattle.spec_execution.proofs.SafeParts.{again-passes, again-held}

@@ -14,9 +14,11 @@ use Rattle.lib_base.proofs.Tools.{by-test, all-perm, all-imp}
 use Rattle.spec_language.specs.Syntax.{Program}
 use Rattle.spec_language.specs.Dependence.{size, events}
 use Rattle.spec_language.specs.Code.{Instr, off, code}
-use Rattle.spec_semantics.specs.Meaning.{event, fresh}
+use Rattle.spec_semantics.specs.Meaning.{fresh}
+use Rattle.spec_semantics.specs.Event.{event}
 use Rattle.spec_semantics.proofs.Lengths.{length-fresh}
-use Rattle.spec_execution.specs.Execution.{Values, execute, executeAll, emptied, times, maskedAfter, copyingBackAfter}
+use Rattle.spec_execution.specs.Execution.{Values, execute, emptied, times, maskedAfter, copyingBackAfter}
+use Rattle.spec_execution.specs.Runs.{executeAll}
 use Rattle.spec_execution.specs.CodeFacts.{CodeFacts}
 use Rattle.spec_execution.proofs.Running.{execute-append}
 use Rattle.spec_model.specs.Model.{Arrival, arrival, Running, rest, busy, Engine, engine, initial, queue, Call, choose, act, run}

@@ -8,16 +8,18 @@ use native.Mathlib.Omega.{arith}
 use lib.ListN.{length}
 use Rattle.lib_base.specs.Basics.{All}
 use Rattle.spec_language.specs.Syntax.{Program}
-use Rattle.spec_language.specs.Accepted.{Valid}
+use Rattle.spec_language.specs.Valid.{Valid}
 use Rattle.spec_language.specs.Dependence.{size, events}
-use Rattle.spec_semantics.specs.Meaning.{event, fresh, play}
+use Rattle.spec_semantics.specs.Meaning.{fresh}
+use Rattle.spec_semantics.specs.Event.{event, play}
 use Rattle.spec_semantics.proofs.Lengths.{length-fresh}
 use Rattle.spec_semantics.proofs.Solution.{event-length}
 use Rattle.spec_semantics.proofs.PlaysLaws.{plays, plays-alone}
 use Rattle.spec_execution.specs.CodeFacts.{CodeFacts}
 use Rattle.spec_model.specs.Carried.{carried}
 use Rattle.spec_model.specs.Model.{Arrival, Turn, State}
-use Rattle.spec_model.specs.Claims.{Moment, commits, changes, after, historyOf, Sound, Replays, done, next, turns}
+use Rattle.spec_model.specs.Claims.{Moment, commits, changes, after, historyOf, Replays, done, next, turns}
+use Rattle.spec_model.specs.Sound.{Sound}
 use Rattle.spec_model.specs.Evaluated.{replayed, BoardByRules}
 use Rattle.spec_model.proofs.States.{storeIn}
 use Rattle.spec_model.proofs.Carries.{length-carried, carries, carries-alone}

@@ -7,11 +7,12 @@ use mathlib.Core.Path.{_≡_, refl, sym, ap, _∙_, subst}
 use mathlib.Core.List.{List, [], _∷_, List·Nodup, List·Permᴰ, List·Permᴰ·trans, Permᴰ·symm, Permᴰ·map}
 use Rattle.lib_base.specs.Basics.{All}
 use Rattle.spec_language.specs.Syntax.{Program}
-use Rattle.spec_language.specs.Accepted.{Valid}
+use Rattle.spec_language.specs.Valid.{Valid}
 use Rattle.spec_semantics.specs.Meaning.{fresh}
 use Rattle.spec_semantics.proofs.Lengths.{length-fresh}
 use Rattle.spec_model.specs.Model.{Arrival, arrival, arrive, step, board, refused, takenIn, shows, idle, ran, started, preempted, committed, Turn, call, change, State, state, Reply, says, carriedOver, replies, begun, rest, busy, engine}
-use Rattle.spec_model.specs.Claims.{copyBackIn, eventsOf, Moment, takenTurns, inForce, engineIn, IdleIn, after, historyOf, takenInBy, Sound, Course, SameChanges, courseOf, unsigned}
+use Rattle.spec_model.specs.Claims.{copyBackIn, eventsOf, Moment, takenTurns, inForce, engineIn, IdleIn, after, historyOf, takenInBy, Course, SameChanges, courseOf, unsigned}
+use Rattle.spec_model.specs.Sound.{Sound}
 use Rattle.spec_model.specs.Evaluated.{replayed, SameBoard}
 use Rattle.spec_model.proofs.States.{handIn, storeIn, committed-arrivals}
 use Rattle.spec_model.proofs.Choice.{numbers, distinct-numbers}

@@ -11,15 +11,16 @@ use Rattle.lib_base.specs.Basics.{pick, All}
 use Rattle.spec_language.specs.Syntax.{Program}
 use Rattle.spec_language.specs.Dependence.{size, events, Independent}
 use Rattle.spec_language.specs.Rights.{maySee}
-use Rattle.spec_language.specs.Accepted.{Valid}
 use Rattle.spec_language.specs.Code.{code}
 use Rattle.spec_language.specs.Order.{upTo}
-use Rattle.spec_language.specs.Refusals as refusals
 use Rattle.spec_semantics.specs.Meaning.{at}
 use Rattle.spec_semantics.specs.Plays.{Plays}
 use Rattle.spec_execution.specs.Execution.{copyingBackAfter}
 use Rattle.spec_model.specs.Carried.{Carries}
-use Rattle.spec_model.specs.Model.{Arrival, arrival, rest, busy, Engine, engine, queue, Call, arrive, step, board, Answer, refused, takenIn, shows, idle, ran, started, preempted, committed, rank, inCopyBack, act, run, Turn, call, change, State, state, Reply, says, carriedOver, turn, runTurns, replies, begun}
+use Rattle.spec_model.specs.Model.{Arrival, arrival, rest, busy, Engine, engine, queue, Call, arrive, step, board}
+use Rattle.spec_model.specs.Model.{Answer, refused, takenIn, shows, idle, ran, started, preempted, committed}
+use Rattle.spec_model.specs.Model.{rank, inCopyBack, act, run, Turn, call, change, State, state, Reply, says}
+use Rattle.spec_model.specs.Model.{carriedOver, turn, runTurns, replies, begun}
 
 -- ---- what an engine says: the number taken in, the hand, the board, and whether a copy-back is under way
 
@@ -54,9 +55,12 @@ aloneCalls p e who = arrive e who ∷ step ∷ replicate (length (code p e)) ste
 unfoldable pub longest : Program → ℕ
 longest p = foldr max 0 (upTo (events p) (λ e. length (code p e)))
 
--- 01's count of steps, (k + 1) × (L + 1), k being the number in hand and L the longest event's instructions
+-- 01's count: "(k + 1) × (L + 1) steps .., k being the number in hand .., L the longest event's instructions"
+abbrev pub countOf : ℕ → ℕ → ℕ
+countOf k longest-event = (k + 1) * (longest-event + 1)
+
 abbrev pub countIn : Program → Engine → ℕ
-countIn p w = (length (inQueue w) + 1) * (longest p + 1)
+countIn p w = countOf (length (inQueue w)) (longest p)
 
 -- the sum, over arrivals, of each event's instruction count plus one
 unfoldable pub stepsOf : Program → List Arrival → ℕ
@@ -83,8 +87,8 @@ shownAfter p w i = shows (at (storeOf (run p (replicate (countIn p w) step) w)) 
 -- missing, .. after 18 for a behaviour"
 abbrev pub foreseen : Program → Engine → ℕ → ℕ → ℕ → Answer
 foreseen p w e i who =
-    pick (leb (size p) i) (refused refusals.noBehaviour)
-    (pick (maySee p who i) (shownAfter p (act p (arrive e who) w .after) i) (refused refusals.noRight))
+    pick (leb (size p) i) (refused 18)
+    (pick (maySee p who i) (shownAfter p (act p (arrive e who) w .after) i) (refused 25))
 
 -- ---- what the replies say
 
@@ -185,17 +189,13 @@ committedIn p ts = committedBy p (historyOf p ts)
 abbrev pub takenInBy : Program → List Turn → List Arrival
 takenInBy p ts = takenTurns ts (replies ts (begun p)) 0
 
--- the changes are to programs as compile accepts them
-abbrev pub Sound : Turn → Type 0
-Sound (call c) = Unit {0}
-Sound (change q) = Valid q
-
 -- ---- the board. "Commits before the change follow the old sheet and later ones the new"
 
 -- by Figure 1's rules, p being in force, the history leads from the store s to the last store
 pub data Replays : Program → List Moment → List ℕ → List ℕ → Type 0 where
   done : {p : Program} {s : List ℕ} → Replays p [] s s
-  next : {p : Program} {a : Arrival} {h : List Moment} {s s′ last : List ℕ} → Plays p (a .event ∷ []) s s′ → Replays p h s′ last → Replays p (commits a ∷ h) s last
+  next : {p : Program} {a : Arrival} {h : List Moment} {s s′ last : List ℕ} → Plays p (a .event ∷ []) s s′ → Replays p h s′ last
+      → Replays p (commits a ∷ h) s last
   turns : {p q : Program} {h : List Moment} {s s′ last : List ℕ} → Carries p q s s′ → Replays q h s′ last → Replays p (changes q ∷ h) s last
 
 -- ---- order
@@ -212,7 +212,8 @@ OnceEach p ts =
 abbrev pub EqualsInOrder : Program → List Turn → Type 0
 EqualsInOrder p ts =
     Pairwise (λ (x y : Commit). rank (x .under) (x .what) ≡ rank (x .under) (y .what) → x .what .number < y .what .number) (commitsUnder p (historyOf p ts))
-    × All (λ (x : Commit). All (λ b. rank (x .under) (x .what) ≡ rank (x .under) b → x .what .number < b .number) (inQueue (engineAfter p ts))) (commitsUnder p (historyOf p ts))
+    × All (λ (x : Commit). All (λ b. rank (x .under) (x .what) ≡ rank (x .under) b → x .what .number < b .number) (inQueue (engineAfter p ts)))
+    (commitsUnder p (historyOf p ts))
 
 -- b was taken in after the copy-back of a began: at some moment it is under way, and b's number is not yet given
 pub record TakenInLater (p : Program) (ts : List Turn) (a b : Arrival) : Type 0 where
@@ -226,7 +227,8 @@ pub record TakenInLater (p : Program) (ts : List Turn) (a b : Arrival) : Type 0 
 abbrev pub LowerFirst : Program → List Turn → Type 0
 LowerFirst p ts =
     Pairwise (λ (x y : Commit). rank (x .under) (x .what) < rank (x .under) (y .what) → TakenInLater p ts (x .what) (y .what)) (commitsUnder p (historyOf p ts))
-    × All (λ (x : Commit). All (λ b. rank (x .under) (x .what) < rank (x .under) b → TakenInLater p ts (x .what) b) (inQueue (engineAfter p ts))) (commitsUnder p (historyOf p ts))
+    × All (λ (x : Commit). All (λ b. rank (x .under) (x .what) < rank (x .under) b → TakenInLater p ts (x .what) b) (inQueue (engineAfter p ts)))
+    (commitsUnder p (historyOf p ts))
 
 -- ---- counts of steps. "counts of steps, M-100's too, run from the last" change: the turns us after ts change no
 -- sheet, L and the instruction counts being those of the program in force

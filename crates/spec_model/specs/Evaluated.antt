@@ -8,11 +8,14 @@ use mathlib.Core.List.{List, [], _∷_, _++_, map}
 use Rattle.spec_language.specs.Syntax.{Program}
 use Rattle.spec_language.specs.Dependence.{events}
 use Rattle.spec_language.specs.Rights.{maySend}
-use Rattle.spec_semantics.specs.Meaning.{event, fresh}
+use Rattle.spec_semantics.specs.Meaning.{fresh}
+use Rattle.spec_semantics.specs.Event.{event}
 use Rattle.spec_semantics.specs.OverMeaning.{eventOver}
 use Rattle.spec_model.specs.Carried.{carried}
 use Rattle.spec_model.specs.Model.{Arrival, arrival, step, committed, Turn, call, says, turn}
-use Rattle.spec_model.specs.Claims.{number, storeOf, copyBackIn, eventsOf, aloneCalls, Moment, commits, changes, IdleIn, after, programAfter, engineAfter, historyOf, takenInBy, Replays, courseOf, SameChanges, ApartEach}
+use Rattle.spec_model.specs.Claims.{number, storeOf, copyBackIn, eventsOf, aloneCalls, Moment, commits, changes}
+use Rattle.spec_model.specs.Claims.{IdleIn, after, programAfter, engineAfter, historyOf, takenInBy, Replays}
+use Rattle.spec_model.specs.Claims.{courseOf, SameChanges, ApartEach}
 
 -- what a history does to a store, p being in force
 unfoldable pub replayed : Program → List Moment → List ℕ → List ℕ

@@ -11,7 +11,6 @@ use Rattle.spec_language.specs.Syntax.{Program}
 use Rattle.spec_language.specs.Dependence.{size, events}
 use Rattle.spec_language.specs.Rights.{maySend, maySee}
 use Rattle.spec_language.specs.Code.{off, code}
-use Rattle.spec_language.specs.Refusals as refusals
 use Rattle.spec_semantics.specs.Meaning.{fresh, at}
 use Rattle.spec_execution.specs.Execution.{Values, execute, emptied, maskedAfter, copyingBackAfter}
 use Rattle.spec_model.specs.Carried.{carried}
@@ -142,22 +141,22 @@ module _ (p : Program) where
   -- after 18 for a behaviour"
   abbrev pub arrived : ℕ → ℕ → ℕ → List Arrival → Running → Values → Outcome
   arrived e who t waiting r d =
-      pick (leb 8 who) (outcome (refused refusals.noPlayer) (engine t waiting r d))
-      (pick (leb (events p) e) (outcome (refused refusals.undeclaredEvent) (engine t waiting r d))
+      pick (leb 8 who) (outcome (refused 24) (engine t waiting r d))
+      (pick (leb (events p) e) (outcome (refused 15) (engine t waiting r d))
       (pick (maySend p who e)
-      (pick (leb 64 (length (queue waiting r))) (outcome (refused refusals.fullQueue) (engine t waiting r d))
-      (pick (leb 1000000 t) (outcome (refused refusals.spent) (engine t waiting r d))
+      (pick (leb 64 (length (queue waiting r))) (outcome (refused 16) (engine t waiting r d))
+      (pick (leb 1000000 t) (outcome (refused 17) (engine t waiting r d))
       (outcome takenIn (engine (t + 1) (arrival t e who ∷ waiting) r d))))
-      (outcome (refused refusals.noRight) (engine t waiting r d))))
+      (outcome (refused 25) (engine t waiting r d))))
 
   abbrev pub read : ℕ → ℕ → Running → Values → Answer
   read i who r d =
-      pick (leb 8 who) (refused refusals.noPlayer)
-      (pick (leb (size p) i) (refused refusals.noBehaviour)
+      pick (leb 8 who) (refused 24)
+      (pick (leb (size p) i) (refused 18)
       (pick (maySee p who i)
-      (pick (inCopyBack r) (refused refusals.settling)
+      (pick (inCopyBack r) (refused 19)
       (shows (at (d .store) i)))
-      (refused refusals.noRight)))
+      (refused 25)))
 
   -- ---- one call
 
@@ -209,9 +208,9 @@ carriedTo p q (engine t waiting r d) = engine t (queue waiting r) rest (emptied 
 -- after 19": a refusal changes nothing
 abbrev pub changed : Program → Program → Engine → TurnOutcome
 changed p q (engine t waiting r d) =
-    pick (inCopyBack p r) (turnOutcome (says (refused refusals.settling)) (state p (engine t waiting r d)))
+    pick (inCopyBack p r) (turnOutcome (says (refused 19)) (state p (engine t waiting r d)))
     (pick (declaredIn q (queue waiting r)) (turnOutcome carriedOver (state q (carriedTo p q (engine t waiting r d))))
-    (turnOutcome (says (refused refusals.undeclaredInHand)) (state p (engine t waiting r d))))
+    (turnOutcome (says (refused 28)) (state p (engine t waiting r d))))
 
 -- ---- one turn, and a list of turns
 

@@ -11,11 +11,12 @@ use Rattle.lib_base.proofs.Tools.{all-at}
 use Rattle.spec_language.specs.Syntax.{Expr, Handler, Behaviour, passive, active, Program}
 use Rattle.spec_language.specs.Dependence.{Response, follows, takes, defers, keeps, handled, respond, size, noEvent, behaviourAt}
 use Rattle.spec_language.specs.Order.{upTo}
-use Rattle.spec_language.specs.Grammar.{BehaviourFits}
-use Rattle.spec_language.specs.Accepted.{Valid}
+use Rattle.spec_language.specs.Fits.{BehaviourFits}
+use Rattle.spec_language.specs.Valid.{Valid}
 use Rattle.spec_language.proofs.Laws.{getD-upTo, upTo-of}
 use Rattle.spec_semantics.specs.Rules.{behaviour, Yields, Updates, Steps, both, Runs, Shows}
-use Rattle.spec_semantics.specs.Meaning.{value, at, firstPhase, event, startOf, starts, fresh, Consistent, carry, withStore}
+use Rattle.spec_semantics.specs.Meaning.{value, at, firstPhase, startOf, starts, fresh, carry, withStore}
+use Rattle.spec_semantics.specs.Event.{event, Consistent}
 use Rattle.spec_semantics.proofs.Solution.{firstOf, secondOf, Solves, value-same, own, own-same, first-length, first-solves, event-length, event-solves}
 use Rattle.spec_semantics.proofs.Handlers.{Says, handled-says, undeclared-keeps}
 use Rattle.spec_semantics.proofs.Derivations.{state-size, state-at, nextOf, next, yields-alone, updates-alone, yields, updates}

@@ -12,9 +12,11 @@ use borrow.Author.Tests.{eqb-true}
 use Rattle.lib_base.proofs.Tools.{split}
 use Rattle.spec_language.specs.Syntax.{Expr, Handler, Behaviour, passive, active, Program}
 use Rattle.spec_language.specs.Dependence.{Response, follows, takes, defers, keeps, handled, respond, size, noEvent, behaviourAt, response, mentions, needs, isActive, written, writes, Named, in-immediate, in-later, through, Reads, Apart, Independent}
-use Rattle.spec_language.specs.Accepted.{NamesIn, Valid}
+use Rattle.spec_language.specs.Accepted.{NamesIn}
+use Rattle.spec_language.specs.Valid.{Valid}
 use Rattle.spec_language.proofs.Laws.{named-in, ResponseNamesIn, response-names}
-use Rattle.spec_semantics.specs.Meaning.{at, firstPhase, event, Consistent}
+use Rattle.spec_semantics.specs.Meaning.{at, firstPhase}
+use Rattle.spec_semantics.specs.Event.{event, Consistent}
 use Rattle.spec_semantics.proofs.OrderLaws.{by-needs}
 use Rattle.spec_semantics.proofs.Solution.{own, firstOf, secondOf, value-same, pick-same, first-local, first-solves, event-length, event-solves, passives-unique}
 use Rattle.spec_semantics.proofs.Handlers.{Says, handled-says}

@@ -13,8 +13,8 @@ use Rattle.lib_arith.specs.Functions.{result}
 use Rattle.spec_language.specs.Syntax.{Expr, con, name, app1, app2, app3, Phase, immediate, later, Handler, Behaviour, passive, active, Program}
 use Rattle.spec_language.specs.Dependence.{Response, follows, takes, defers, keeps, inPhase, handled, respond, size, noEvent, behaviourAt, mentions, needs}
 use Rattle.spec_language.specs.Order.{early}
-use Rattle.spec_language.specs.Grammar.{BehaviourFits, HandlersFit}
-use Rattle.spec_language.specs.Accepted.{Valid}
+use Rattle.spec_language.specs.Fits.{BehaviourFits, HandlersFit}
+use Rattle.spec_language.specs.Valid.{Valid}
 use Rattle.spec_language.proofs.Laws.{length-upTo, getD-upTo, named-in, ResponseNamesIn, response-names, depends-within}
 use Rattle.spec_semantics.specs.Rules.{substitute, Handles, Subject, expression, behaviour, Yields, y-name, y-con, y-app1, y-app2, y-app3, y-passive, y-immediate, y-still, Updates, u-passive, u-handled, u-still}
 use Rattle.spec_semantics.specs.Meaning.{value, at, carry, withStore}

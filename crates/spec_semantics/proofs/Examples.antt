@@ -14,7 +14,8 @@ use Rattle.spec_language.proofs.Examples.{W}
 use Rattle.spec_semantics.specs.Rules.{substitute, here, y-con, Steps, Runs, Shows}
 use Rattle.spec_semantics.specs.Over.{o-app2, o-update, EventOver}
 use Rattle.spec_semantics.specs.Plays.{Plays, next, done}
-use Rattle.spec_semantics.specs.Meaning.{at, value, inTurn, firstPhase, laterPhase, event, starts, fresh, withStore}
+use Rattle.spec_semantics.specs.Meaning.{at, value, inTurn, firstPhase, starts, fresh, withStore}
+use Rattle.spec_semantics.specs.Event.{laterPhase, event}
 
 -- "A fresh round has start values, passives worked out from them": b2 = 1 + 2 and b0 = 3 + 1
 pub fresh-W : fresh W ≡ 4 ∷ 50 ∷ 3 ∷ 1 ∷ 0 ∷ 2 ∷ 3 ∷ []

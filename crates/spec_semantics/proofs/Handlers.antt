@@ -10,7 +10,7 @@ use borrow.Author.Tests.{eqb-true, eqb-false, eq-eqb, ne-eqb}
 use Rattle.lib_base.proofs.Tools.{by-elim, split}
 use Rattle.spec_language.specs.Syntax.{Expr, Phase, immediate, later, Handler, handler}
 use Rattle.spec_language.specs.Dependence.{Response, follows, takes, defers, keeps, inPhase, handled}
-use Rattle.spec_language.specs.Grammar.{NoneFor, HandlersFit}
+use Rattle.spec_language.specs.Fits.{NoneFor, HandlersFit}
 use Rattle.spec_language.proofs.Laws.{handled-here, handled-there}
 use Rattle.spec_semantics.specs.Rules.{Handles, here, there}
 

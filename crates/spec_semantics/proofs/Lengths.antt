@@ -8,7 +8,8 @@ use Rattle.spec_language.specs.Syntax.{Program}
 use Rattle.spec_language.specs.Dependence.{Response, follows, takes, defers, keeps, size, noEvent, response}
 use Rattle.spec_language.specs.Order.{phaseOne}
 use Rattle.spec_language.proofs.Laws.{length-upTo}
-use Rattle.spec_semantics.specs.Meaning.{firstStep, againStep, inTurn, firstPhase, laterPhase, event, starts, fresh}
+use Rattle.spec_semantics.specs.Meaning.{firstStep, inTurn, firstPhase, starts, fresh}
+use Rattle.spec_semantics.specs.Event.{laterPhase, event, againStep}
 
 pub length-first : (i : ℕ) (r : Response) (s : List ℕ) → length (firstStep i r s) ≡ length s
 length-first i (follows x) s = length-set s i _

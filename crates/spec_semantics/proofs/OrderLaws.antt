@@ -17,7 +17,8 @@ use Rattle.lib_base.proofs.Tools.{by-elim, split, all-imp, by-option}
 use Rattle.spec_language.specs.Syntax.{Program}
 use Rattle.spec_language.specs.Dependence.{Response, follows, takes, defers, keeps, size, noEvent, response, needs, dependsOn, Reach}
 use Rattle.spec_language.specs.Order.{met, find, order, early, metAtOnce, phaseOne}
-use Rattle.spec_language.specs.Accepted.{Valid, Known}
+use Rattle.spec_language.specs.Accepted.{Known}
+use Rattle.spec_language.specs.Valid.{Valid}
 use Rattle.spec_language.proofs.Laws.{length-upTo, getD-upTo, depends-within}
 use Rattle.spec_semantics.proofs.Graph.{Marked, Unmarked, free, free-set, free-le, marked-set, cycle}
 

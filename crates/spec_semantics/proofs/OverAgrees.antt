@@ -13,11 +13,12 @@ use Rattle.lib_base.proofs.Tools.{or-either, all-at}
 use Rattle.lib_arith.specs.Functions.{over}
 use Rattle.spec_language.specs.Syntax.{Expr, con, name, app1, app2, app3, Phase, immediate, later, Handler, Behaviour, passive, active, Program}
 use Rattle.spec_language.specs.Dependence.{Response, follows, takes, defers, keeps, inPhase, handled, respond, size, noEvent, response, behaviourAt, isActive, mentions}
-use Rattle.spec_language.specs.Grammar.{BehaviourFits}
-use Rattle.spec_language.specs.Accepted.{Valid}
+use Rattle.spec_language.specs.Fits.{BehaviourFits}
+use Rattle.spec_language.specs.Valid.{Valid}
 use Rattle.spec_language.proofs.Laws.{named-in, ResponseNamesIn, response-names}
 use Rattle.spec_semantics.specs.Rules.{substitute, Handles, Subject, expression, behaviour, Yields}
-use Rattle.spec_semantics.specs.Meaning.{value, at, firstPhase, event, carry, withStore}
+use Rattle.spec_semantics.specs.Meaning.{value, at, firstPhase, carry, withStore}
+use Rattle.spec_semantics.specs.Event.{event}
 use Rattle.spec_semantics.proofs.Solution.{own, firstOf, Solves, or-first, or-second, own-same, first-solves}
 use Rattle.spec_semantics.proofs.Handlers.{Says, handles-handled, handled-says, undeclared-keeps}
 use Rattle.spec_semantics.proofs.Derivations.{value-substitute, mentions-substitute, state-size, state-at, worth, once-at, Fine, derived, Has, expression-yields, has}

@@ -14,8 +14,9 @@ use Rattle.lib_base.proofs.Tools.{or-either, all-imp}
 use Rattle.spec_language.specs.Syntax.{Expr, con, name, app1, app2, app3, Program}
 use Rattle.spec_language.specs.Dependence.{Response, follows, takes, defers, keeps, size, noEvent, response, mentions, needs, dependsOn}
 use Rattle.spec_language.specs.Order.{upTo, early, metAtOnce, phaseOne}
-use Rattle.spec_language.specs.Accepted.{Valid}
-use Rattle.spec_semantics.specs.Meaning.{at, firstStep, againStep, inTurn, firstPhase, laterPhase, event}
+use Rattle.spec_language.specs.Valid.{Valid}
+use Rattle.spec_semantics.specs.Meaning.{at, firstStep, inTurn, firstPhase}
+use Rattle.spec_semantics.specs.Event.{laterPhase, event, againStep}
 use Rattle.spec_semantics.proofs.Graph.{Marked, Unmarked, marked-set}
 use Rattle.spec_semantics.proofs.OrderLaws.{Ordered, markAll, unmarked-set, length-met, met-late, phaseOne-ordered, phaseOne-early, phaseOne-marks}
 use Rattle.spec_semantics.proofs.Solution.{own, value-same, or-first, or-second, pick-same, own-same, needed}

@@ -8,10 +8,11 @@ use lib.ListN.{length}
 use lib.Seq.{ext-getD}
 use Rattle.lib_base.specs.Basics.{All}
 use Rattle.spec_language.specs.Syntax.{Program}
-use Rattle.spec_language.specs.Accepted.{Valid}
+use Rattle.spec_language.specs.Valid.{Valid}
 use Rattle.spec_language.specs.Dependence.{size, events, noEvent}
 use Rattle.spec_semantics.specs.Rules.{Shows}
-use Rattle.spec_semantics.specs.Meaning.{at, withStore, event, play}
+use Rattle.spec_semantics.specs.Meaning.{at, withStore}
+use Rattle.spec_semantics.specs.Event.{event, play}
 use Rattle.spec_semantics.proofs.Solution.{event-length}
 use Rattle.spec_semantics.proofs.Agreement.{rules-give, rules-show, rules-alone, shows-alone}
 use Rattle.spec_semantics.specs.Plays.{Plays, done, next}

@@ -17,13 +17,16 @@ use Rattle.lib_arith.specs.Exact.{signed, wrapped}
 use Rattle.lib_arith.specs.Functions.{exact, result}
 use Rattle.spec_language.specs.Syntax.{Expr, con, name, app2, immediate, later, handler, Behaviour, passive, active, Program}
 use Rattle.spec_language.specs.Sheet.{Term, literal, variable, apply2, clause, state, Sheet, cellCount, entriesOut, fillTerm, fillClauses, fillEntries, fill, paramsOf, paramsOfClauses, paramsOfEntries, uses}
-use Rattle.spec_language.specs.Grammar.{binary, TermFits, t-literal, t-variable, t-apply2, SheetFits, Nested, n-con, n-name, n-app2, encodeExpr, encodeHandlers, encodeBehaviours, encodeEvents, encode}
+use Rattle.spec_language.specs.Grammar.{binary, TermFits, t-literal, t-variable, t-apply2, SheetFits, encodeExpr, encodeHandlers, encodeBehaviours, encodeEvents, encode}
+use Rattle.spec_language.specs.Fits.{Nested, n-con, n-name, n-app2}
 use Rattle.spec_language.specs.Reading.{entry, signal, sheet}
 use Rattle.spec_language.specs.Dependence.{handled, mentions, events, dependsOn, Reach, one, more, NoCycle}
 use Rattle.spec_language.specs.Order.{met, find, order, upTo, metAtOnce, phaseOne}
 use Rattle.spec_language.specs.Code.{sizeOf, instructions, allInstructions}
-use Rattle.spec_language.specs.Accepted.{Known, SheetAccepted, Valid}
-use Rattle.spec_semantics.specs.Meaning.{value, inTurn, firstPhase, laterPhase, event, starts, fresh, play}
+use Rattle.spec_language.specs.Accepted.{Known, SheetAccepted}
+use Rattle.spec_language.specs.Valid.{Valid}
+use Rattle.spec_semantics.specs.Meaning.{value, inTurn, firstPhase, starts, fresh}
+use Rattle.spec_semantics.specs.Event.{laterPhase, event, play}
 use Rattle.spec_semantics.specs.Rounds.{Round, ByRules, Holds, num, plus, dividedBy, S, halfLater, bothLater, throughPassive, taking, rounds}
 use Rattle.spec_semantics.proofs.Agreement.{fresh-consistent, fresh-shows, fresh-alone}
 use Rattle.spec_semantics.proofs.PlaysLaws.{plays, plays-alone}

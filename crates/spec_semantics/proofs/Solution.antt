@@ -17,9 +17,10 @@ use Rattle.lib_arith.specs.Functions.{result}
 use Rattle.spec_language.specs.Syntax.{Expr, con, name, app1, app2, app3, Behaviour, passive, active, Program}
 use Rattle.spec_language.specs.Dependence.{Response, follows, takes, defers, keeps, size, noEvent, response, respond, behaviourAt, isActive, mentions, needs, dependsOn}
 use Rattle.spec_language.specs.Order.{early, metAtOnce, phaseOne}
-use Rattle.spec_language.specs.Accepted.{Valid}
+use Rattle.spec_language.specs.Valid.{Valid}
 use Rattle.spec_language.proofs.Laws.{length-upTo, getD-upTo, depends-within}
-use Rattle.spec_semantics.specs.Meaning.{value, at, firstStep, laterValue, againStep, inTurn, firstPhase, laterPhase, event}
+use Rattle.spec_semantics.specs.Meaning.{value, at, firstStep, inTurn, firstPhase}
+use Rattle.spec_semantics.specs.Event.{laterPhase, event, laterValue, againStep}
 use Rattle.spec_semantics.proofs.Graph.{Marked, Unmarked, marked-set, stays}
 use Rattle.spec_semantics.proofs.OrderLaws.{Ordered, markAll, unmarked-set, late-needs, length-met, met-late, phaseOne-ordered, phaseOne-marks, by-needs}
 

@@ -1,5 +1,6 @@
 pub mod Rules
 pub mod Meaning
+pub mod Event
 pub mod Rounds
 pub mod Plays
 pub mod Over

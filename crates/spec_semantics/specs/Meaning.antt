@@ -1,8 +1,8 @@
--- The meaning of one event as an evaluator. 01 "The meaning of one event".
-use Prim.Native.Nat.{ℕ, _<_}
-use mathlib.Core.Path.{_≡_}
+-- A fresh board, the first phase, which works its passives out, and a program that carries a board. 01 "The meaning of
+-- one event", "Handlers and steps": "A fresh round has start values, passives worked out from them".
+use Prim.Native.Nat.{ℕ}
 use mathlib.Core.List.{List, [], _∷_}
-use lib.ListN.{length, getD, set}
+use lib.ListN.{getD, set}
 use Rattle.lib_arith.specs.Functions.{result}
 use Rattle.spec_language.specs.Syntax.{Expr, con, name, app1, app2, app3, Behaviour, passive, active, Program}
 use Rattle.spec_language.specs.Dependence.{Response, follows, takes, defers, keeps, size, noEvent, response, behaviourAt}
@@ -29,21 +29,6 @@ firstStep i (takes x) s = set s i (value (at s) x)
 firstStep i (defers x) s = s
 firstStep i keeps s = s
 
--- ---- phase two. "Later handlers are then all evaluated over first-phase values, and take effect together. Passives
--- follow their expression in each phase."
-
-abbrev pub laterValue : List ℕ → ℕ → Response → ℕ
-laterValue s i (follows x) = at s i
-laterValue s i (takes x) = at s i
-laterValue s i (defers x) = value (at s) x
-laterValue s i keeps = at s i
-
-abbrev pub againStep : ℕ → Response → List ℕ → List ℕ
-againStep i (follows x) s = set s i (value (at s) x)
-againStep i (takes x) s = s
-againStep i (defers x) s = s
-againStep i keeps s = s
-
 module _ (p : Program) (e : ℕ) where
   unfoldable pub inTurn : (ℕ → Response → List ℕ → List ℕ) → List ℕ → List ℕ → List ℕ
   inTurn f [] s = s
@@ -52,14 +37,6 @@ module _ (p : Program) (e : ℕ) where
   -- first-phase values
   unfoldable pub firstPhase : List ℕ → List ℕ
   firstPhase s = inTurn firstStep (phaseOne p e) s
-
-  -- later handlers take effect together
-  unfoldable pub laterPhase : List ℕ → List ℕ
-  laterPhase s = upTo (size p) (λ i. laterValue s i (response p e i))
-
-  -- the store after the event: second-phase values
-  unfoldable pub event : List ℕ → List ℕ
-  event s = inTurn againStep (phaseOne p e) (laterPhase (firstPhase s))
 
 -- the start values, the passives' places 0
 abbrev pub startOf : Behaviour → ℕ
@@ -72,15 +49,6 @@ starts p = upTo (size p) (λ i. startOf (behaviourAt p i))
 -- "A fresh round has start values, passives worked out from them"
 unfoldable pub fresh : Program → List ℕ
 fresh p = firstPhase p (noEvent p) (starts p)
-
--- events, one by one, undivided
-unfoldable pub play : Program → List ℕ → List ℕ → List ℕ
-play p [] s = s
-play p (e ∷ es) s = play p es (event p e s)
-
--- a store in which every passive has its expression's value
-abbrev pub Consistent : Program → List ℕ → Type 0
-Consistent p s = (length s ≡ size p) × ((i : ℕ) (x : Expr) → i < size p → behaviourAt p i ≡ passive x → at s i ≡ value (at s) x)
 
 -- the program whose actives have the values of a store: 003's state
 abbrev pub carry : ℕ → Behaviour → Behaviour

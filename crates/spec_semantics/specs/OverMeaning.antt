@@ -7,7 +7,8 @@ use Rattle.lib_arith.specs.Functions.{over}
 use Rattle.spec_language.specs.Syntax.{Expr, con, name, app1, app2, app3, Program}
 use Rattle.spec_language.specs.Dependence.{Response, follows, takes, defers, keeps, size, response}
 use Rattle.spec_language.specs.Order.{upTo, phaseOne}
-use Rattle.spec_semantics.specs.Meaning.{value, at, firstStep, againStep, firstPhase, laterPhase}
+use Rattle.spec_semantics.specs.Meaning.{value, at, firstStep, firstPhase}
+use Rattle.spec_semantics.specs.Event.{laterPhase, againStep}
 
 -- some application in an expression, each name's value looked up
 unfoldable pub overIn : (ℕ → ℕ) → Expr → Bool

@@ -14,7 +14,8 @@ use Rattle.spec_language.specs.Syntax.{Expr}
 use Rattle.text_formula.specs.Grammar.{Formula}
 use Rattle.text_formula.specs.Reader.{readFormula}
 use Rattle.spec_language.specs.Refusals.{noFormula}
-use Rattle.text_formula.specs.Answer.{large, nesting, formulaField, answered, fieldAnswer, answerTo, formulaOn}
+use Rattle.text_formula.specs.Answer.{large, nesting, formulaField, answered, fieldAnswer}
+use Rattle.text_formula.specs.Formula.{answerTo, formulaOn}
 use Rattle.text_formula.proofs.Readings.{reading-is, outside-none, none-outside}
 use Rattle.text_formula.specs.Statements.{BufferKept}
 

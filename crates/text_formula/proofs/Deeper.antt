@@ -2,7 +2,7 @@
 use Prim.Native.Nat.{ℕ, _+_, _≤_}
 use mathlib.Core.Path.{_≡_}
 use native.Mathlib.Omega.{arith}
-use Rattle.text_formula.specs.Answer.{deeper}
+use Rattle.text_formula.specs.Nesting.{deeper}
 
 pub deeper-left : (a b : ℕ) → a ≤ deeper a b
 deeper-left a b = omega arith

@@ -8,8 +8,10 @@ use lib.ListN.{replicate}
 use Rattle.spec_language.specs.Sheet.{asSent}
 use Rattle.spec_language.specs.Syntax.{con, name, app1, app2, app3}
 use Rattle.spec_language.specs.Grammar.{encodeExpr}
-use Rattle.text_formula.specs.Reader.{digitOf, nameOf, singleOf, doubleOf, markedOf, wordToken, numberToken, firstOf, tokensOf, level, operatorChain, tower, bracketedOf, choiceOf, operandAt, readFormula}
-use Rattle.text_formula.specs.Answer.{large, nesting, answered, fieldAnswer, formulaOn}
+use Rattle.text_formula.specs.Reader.{digitOf, nameOf, singleOf, doubleOf, markedOf, wordToken, numberToken, firstOf, tokensOf, operatorChain, tower, bracketedOf, choiceOf, operandAt, readFormula}
+use Rattle.text_formula.specs.Level.{level}
+use Rattle.text_formula.specs.Answer.{large, nesting, answered, fieldAnswer}
+use Rattle.text_formula.specs.Formula.{formulaOn}
 
 -- 1+2*3 and (1+2)*3
 pub products-first : (readFormula (49 ∷ 43 ∷ 50 ∷ 42 ∷ 51 ∷ []) ≡ some (app2 4 (con 1) (app2 6 (con 2) (con 3))))

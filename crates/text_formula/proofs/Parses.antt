@@ -12,7 +12,8 @@ use Rattle.lib_base.proofs.Tools.{by-test, split}
 use Rattle.spec_language.specs.Syntax.{Expr, app2}
 use Rattle.text_formula.specs.Tokens.{Token, number, behaviour, function, opening, closing, comma}
 use Rattle.text_formula.specs.Grammar.{Operator, times, divided, plus, minus, above, at-least, below, at-most, equal, different, both, either, Derives, tighter, two-sided, negated, a-number, a-name, bracketed, choice}
-use Rattle.text_formula.specs.Reader.{level, levelOf, operatorOf, bracketOf, Parsed, unparsed, parsed, thenParse, past, operatorChain, tower, bracketedOf, choiceOf, operandOf, operandAt, readAt}
+use Rattle.text_formula.specs.Reader.{levelOf, operatorOf, bracketOf, Parsed, unparsed, parsed, thenParse, past, operatorChain, tower, bracketedOf, choiceOf, operandOf, operandAt, readAt}
+use Rattle.text_formula.specs.Level.{level}
 
 -- ---- the levels of operators
 

@@ -11,7 +11,8 @@ use lib.Dec.{ltb, eqb}
 use borrow.Author.Tests.{ltb-true, ltb-false, lt-ltb, le-ltb, eqb-true, eqb-false, ne-eqb}
 use Rattle.lib_base.specs.Basics.{All}
 use Rattle.lib_base.proofs.Tools.{by-test, by-elim}
-use Rattle.text_formula.specs.Tokens.{Token, number, behaviour, function, opening, closing, comma, Digit, decimalValue, NotFirst, Begins, b-number, b-digit, b-digits, b-or, b-and, b-not, b-plus, b-minus, b-times, b-divided, b-above, b-at-least, b-below, b-at-most, b-equal, b-different, b-if, b-opening, b-closing, b-comma, Tokens, t-end, t-space, t-token, InRange}
+use Rattle.text_formula.specs.Tokens.{Token, number, behaviour, function, opening, closing, comma, Digit, decimalValue, NotFirst, Begins, b-number, b-digit, b-digits, b-or, b-and, b-not, b-plus, b-minus, b-times, b-divided, b-above, b-at-least, b-below, b-at-most, b-equal, b-different, b-if, b-opening, b-closing, b-comma, Tokens, t-end, t-space, t-token}
+use Rattle.text_formula.specs.InRange.{InRange}
 use Rattle.text_formula.specs.Reader.{FirstToken, noToken, begins, digitOf, nameOf, singleOf, doubleOf, markedOf, wordToken, numberToken, firstOf, putFirst, andOn, tokensIn, tokensOf}
 
 -- ---- digits

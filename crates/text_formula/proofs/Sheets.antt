@@ -16,10 +16,13 @@ use Rattle.spec_language.specs.Syntax.{Expr, con, name, app1, app2, app3}
 use Rattle.spec_language.specs.Sheet.{fillTerm, asSent}
 use Rattle.spec_language.specs.Grammar.{Arity, unary, ternary, binary, TermFits, t-literal, t-variable, t-apply1, t-apply2, t-apply3}
 use Rattle.spec_grammar.proofs.Expressions.{expr-reads}
-use Rattle.text_formula.specs.Tokens.{Token, function, closing, comma, InRange}
+use Rattle.text_formula.specs.Tokens.{Token, function, closing, comma}
+use Rattle.text_formula.specs.InRange.{InRange}
 use Rattle.text_formula.specs.Grammar.{Operator, times, divided, plus, minus, above, at-least, below, at-most, equal, different, both, either, Derives, tighter, two-sided, negated, a-number, a-name, bracketed, choice, Formula, formula}
 use Rattle.text_formula.specs.Reader.{readFormula}
-use Rattle.text_formula.specs.Answer.{large, nesting, deeper, formulaField, fieldAnswer, answerTo, formulaOn}
+use Rattle.text_formula.specs.Answer.{large, nesting, formulaField, fieldAnswer}
+use Rattle.text_formula.specs.Nesting.{deeper}
+use Rattle.text_formula.specs.Formula.{answerTo, formulaOn}
 use Rattle.text_formula.proofs.Deeper.{deeper-left, deeper-right, deeper-most}
 use Rattle.text_formula.proofs.Scans.{tokens-fine}
 use Rattle.text_formula.proofs.Readings.{reading-only}

@@ -1,5 +1,9 @@
 pub mod Tokens
+pub mod InRange
 pub mod Grammar
+pub mod Level
 pub mod Reader
+pub mod Nesting
 pub mod Answer
+pub mod Formula
 pub mod Statements

@@ -8,6 +8,7 @@ use lib.Dec.{ltb, eqb}
 use Rattle.lib_base.specs.Basics.{pick}
 use Rattle.spec_language.specs.Syntax.{Expr, con, name, app1, app2, app3}
 use Rattle.text_formula.specs.Tokens.{Token, number, behaviour, function, opening, closing, comma}
+use Rattle.text_formula.specs.Level.{level}
 
 -- ---- tokens
 
@@ -92,17 +93,6 @@ tokensOf zero bs = tokensIn (λ rest. none) bs
 tokensOf (suc k) bs = tokensIn (tokensOf k) bs
 
 -- ---- expressions
-
--- the level of a two-sided operator, by its function number; 0 for another
-unfoldable pub level : ℕ → ℕ
-level f =
-    pick (ltb 13 f) 0
-    (pick (ltb 11 f) 4
-    (pick (ltb 7 f) 3
-    (pick (ltb 5 f) 1
-    (pick (ltb 3 f) 2
-    (pick (eqb f 2) 5
-    (pick (eqb f 1) 6 0))))))
 
 abbrev pub levelOf : Token → ℕ
 levelOf (number n) = 0

@@ -7,6 +7,7 @@ use Rattle.spec_language.specs.Syntax.{Expr}
 use Rattle.spec_language.specs.Sheet.{fillTerm, asSent}
 use Rattle.spec_language.specs.Grammar.{TermFits}
 use Rattle.spec_language.specs.Reading.{got, exprAt}
+use Rattle.spec_language.specs.Answers.{told}
 use Rattle.text_formula.specs.Grammar.{Formula}
 use Rattle.text_formula.specs.Answer.{formulaField}
 
@@ -27,4 +28,4 @@ pub record FieldWritten (text buffer : List ℕ) (n : ℕ) (after : List ℕ) : 
 
 -- of an answer beyond the refusals
 abbrev pub Fields : List ℕ → List ℕ → ℕ × List ℕ → Type 0
-Fields text buffer a = (n : ℕ) → a .0 ≡ 4294967296 + n → FieldWritten text buffer n (a .1)
+Fields text buffer a = (n : ℕ) → a .0 ≡ told n → FieldWritten text buffer n (a .1)

@@ -56,12 +56,3 @@ pub data Tokens : List ℕ → List Token → Type 0 where
   t-end : Tokens [] []
   t-space : {bs : List ℕ} {ts : List Token} → Tokens bs ts → Tokens (32 ∷ bs) ts
   t-token : {bs rest : List ℕ} {t : Token} {ts : List Token} → Begins bs t rest → Tokens rest ts → Tokens bs (t ∷ ts)
-
--- what the tokens of a text can be: names of behaviours 0 to 63, functions 1 to 14
-abbrev pub InRange : Token → Type 0
-InRange (number n) = Unit {0}
-InRange (behaviour i) = i < 64
-InRange (function f) = (0 < f) × (f ≤ 14)
-InRange opening = Unit {0}
-InRange closing = Unit {0}
-InRange comma = Unit {0}

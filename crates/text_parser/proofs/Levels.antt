@@ -13,9 +13,11 @@ use Rattle.lib_base.specs.Basics.{All}
 use Rattle.lib_base.proofs.Tools.{split}
 use Rattle.spec_language.specs.Syntax.{Expr, app2}
 use Rattle.spec_language.specs.Grammar.{field, encodeExpr}
-use Rattle.text_formula.specs.Tokens.{Token, InRange}
+use Rattle.text_formula.specs.Tokens.{Token}
+use Rattle.text_formula.specs.InRange.{InRange}
 use Rattle.text_formula.specs.Reader.{levelOf, operatorOf, Parsed, unparsed, parsed, thenParse, operatorChain, tower, readAt}
-use Rattle.text_formula.specs.Answer.{deeper, nesting}
+use Rattle.text_formula.specs.Answer.{nesting}
+use Rattle.text_formula.specs.Nesting.{deeper}
 use Rattle.text_formula.proofs.Deeper.{deeper-sum, deeper-none}
 use Rattle.text_lexer.specs.Codes.{tokenCode}
 use Rattle.text_phrase.specs.Phrase.{levelIn, closedOf, wrappedIn, Closable}

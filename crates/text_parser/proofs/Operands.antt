@@ -12,9 +12,11 @@ use Rattle.lib_base.specs.Basics.{pick, All}
 use Rattle.lib_base.proofs.Tools.{by-test, by-two, split}
 use Rattle.spec_language.specs.Syntax.{Expr, con, name, app1, app3}
 use Rattle.spec_language.specs.Grammar.{field, word, encodeExpr}
-use Rattle.text_formula.specs.Tokens.{Token, number, behaviour, function, opening, closing, comma, InRange}
+use Rattle.text_formula.specs.Tokens.{Token, number, behaviour, function, opening, closing, comma}
+use Rattle.text_formula.specs.InRange.{InRange}
 use Rattle.text_formula.specs.Reader.{bracketOf, Parsed, unparsed, parsed, thenParse, past, bracketedOf, choiceOf, operandOf, operandAt, tower, readAt}
-use Rattle.text_formula.specs.Answer.{deeper, nesting}
+use Rattle.text_formula.specs.Answer.{nesting}
+use Rattle.text_formula.specs.Nesting.{deeper}
 use Rattle.text_formula.proofs.Deeper.{deeper-sum, deeper-none}
 use Rattle.text_lexer.specs.Codes.{capped, tokenCode}
 use Rattle.text_lexer.proofs.CodeLaws.{capped-most}

@@ -9,7 +9,8 @@ use lib.ListN.{length, getD, take, drop, length-map, drop-of-length-le}
 use lib.Dec.{ltb}
 use borrow.Author.Tests.{lt-ltb, le-ltb}
 use Rattle.lib_base.specs.Basics.{All}
-use Rattle.text_formula.specs.Tokens.{Token, number, behaviour, function, opening, closing, comma, InRange}
+use Rattle.text_formula.specs.Tokens.{Token, number, behaviour, function, opening, closing, comma}
+use Rattle.text_formula.specs.InRange.{InRange}
 use Rattle.text_formula.specs.Reader.{levelOf, operatorOf, bracketOf}
 use Rattle.text_lexer.specs.Codes.{capped, tokenCode}
 use Rattle.text_lexer.proofs.CodeLaws.{capped-most}

@@ -6,9 +6,11 @@ use mathlib.Core.List.{List, _++_, map}
 use lib.ListN.{length, take, drop}
 use Rattle.lib_base.specs.Basics.{All}
 use Rattle.spec_language.specs.Syntax.{Expr, con, name, app1, app2, app3}
-use Rattle.text_formula.specs.Tokens.{Token, InRange}
+use Rattle.text_formula.specs.Tokens.{Token}
+use Rattle.text_formula.specs.InRange.{InRange}
 use Rattle.text_formula.specs.Reader.{Parsed, unparsed, parsed, past, choiceOf, readAt}
-use Rattle.text_formula.specs.Answer.{deeper, nesting, formulaField}
+use Rattle.text_formula.specs.Answer.{nesting, formulaField}
+use Rattle.text_formula.specs.Nesting.{deeper}
 use Rattle.text_lexer.specs.Codes.{capped, tokenCode}
 use Rattle.text_phrase.specs.declared.Read.{Read}
 use Rattle.text_phrase.specs.declared.Read.the-variants.{Done, Fault}

@@ -6,8 +6,8 @@ use lib.ListN.{length, getD}
 use lib.Dec.{ltb, eqb}
 use Rattle.lib_base.specs.Basics.{pick}
 use Rattle.spec_language.specs.Grammar.{field, word}
-use Rattle.text_formula.specs.Reader.{level}
-use Rattle.text_formula.specs.Answer.{deeper}
+use Rattle.text_formula.specs.Level.{level}
+use Rattle.text_formula.specs.Nesting.{deeper}
 use Rattle.sheet_write.specs.Writes.{fitted, asApplication}
 use Rattle.text_phrase.specs.declared.Read.{Read}
 use Rattle.text_phrase.specs.declared.Read.the-variants.{Done, Fault}

@@ -13,10 +13,12 @@ use borrow.Author.Tests.{ne-eqb}
 use Rattle.lib_base.specs.Basics.{pick, All}
 use Rattle.spec_language.specs.Syntax.{Expr}
 use Rattle.spec_language.specs.Refusals.{noFormula}
-use Rattle.text_formula.specs.Tokens.{Token, number, behaviour, function, opening, closing, comma, InRange}
+use Rattle.text_formula.specs.Tokens.{Token, number, behaviour, function, opening, closing, comma}
+use Rattle.text_formula.specs.InRange.{InRange}
 use Rattle.text_formula.specs.Grammar.{Derives, tighter, two-sided, negated, a-number, a-name, bracketed, choice}
 use Rattle.text_formula.specs.Reader.{Parsed, unparsed, parsed, wholly, readAt}
-use Rattle.text_formula.specs.Answer.{answered, answerTo}
+use Rattle.text_formula.specs.Answer.{answered}
+use Rattle.text_formula.specs.Formula.{answerTo}
 use Rattle.text_formula.proofs.Parses.{Sound, reads-only}
 use Rattle.text_lexer.specs.Codes.{capped, tokenCode}
 use Rattle.text_lexer.proofs.CodeLaws.{capped-most}

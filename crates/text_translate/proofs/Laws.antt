@@ -15,11 +15,13 @@ use borrow.Author.Tests.{ltb-false, lt-ltb, le-ltb}
 use Rattle.lib_base.specs.Basics.{pick, All}
 use Rattle.lib_base.proofs.Tools.{by-test, neither}
 use Rattle.spec_language.specs.Syntax.{Expr, con, name, app1, app2, app3}
-use Rattle.text_formula.specs.Tokens.{Token, number, behaviour, function, opening, closing, comma, InRange}
+use Rattle.text_formula.specs.Tokens.{Token, number, behaviour, function, opening, closing, comma}
+use Rattle.text_formula.specs.InRange.{InRange}
 use Rattle.text_formula.specs.Grammar.{Derives, tighter, two-sided, negated, a-number, a-name, bracketed, choice}
 use Rattle.text_formula.specs.Reader.{Parsed, unparsed, parsed, wholly, readAt, tokensOf, readFormula}
 use Rattle.spec_language.specs.Refusals.{noFormula}
-use Rattle.text_formula.specs.Answer.{large, nesting, formulaField, answered, fieldAnswer, answerTo, formulaOn}
+use Rattle.text_formula.specs.Answer.{large, nesting, formulaField, answered, fieldAnswer}
+use Rattle.text_formula.specs.Formula.{answerTo, formulaOn}
 use Rattle.text_formula.proofs.Deeper.{deeper-none}
 use Rattle.text_formula.proofs.Scans.{Made, scans-only, tokens-fine}
 use Rattle.text_formula.proofs.Parses.{Sound, reads-only}

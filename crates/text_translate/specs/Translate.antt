@@ -7,9 +7,11 @@ use lib.ListN.{length, drop}
 use lib.Dec.{ltb, eqb}
 use Rattle.lib_base.specs.Basics.{pick, All}
 use Rattle.spec_language.specs.Refusals.{tooDeep, largeNumber, shortField}
-use Rattle.text_formula.specs.Tokens.{Token, InRange}
+use Rattle.text_formula.specs.Tokens.{Token}
+use Rattle.text_formula.specs.InRange.{InRange}
 use Rattle.text_formula.specs.Reader.{wholly, readAt}
-use Rattle.text_formula.specs.Answer.{answered, answerTo}
+use Rattle.text_formula.specs.Answer.{answered}
+use Rattle.text_formula.specs.Formula.{answerTo}
 use Rattle.text_lexer.specs.Codes.{tokenCode}
 
 unfoldable pub largeCode : ℕ → Bool

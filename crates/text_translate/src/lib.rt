@@ -8,7 +8,8 @@ use text_phrase::Read;
 ghost use mathlib.Core.Path.{_≡_};
 ghost use Prim.Native.Nat.{_<_, _≤_, _+_};
 ghost use lib.ListN.{length};
-ghost use Rattle.text_formula.specs.Answer.{answered, formulaOn};
+ghost use Rattle.text_formula.specs.Answer.{answered};
+ghost use Rattle.text_formula.specs.Formula.{formulaOn};
 ghost use Rattle.text_translate.specs.Translate.{largeCode, anyLarge, openAfter, balancedFrom, delivered, Translated};
 
 // What is added to a field's length, so that it is told from a refusal.

@@ -8,7 +8,7 @@ use Rattle.lib_base.specs.Basics.{pick}
 use Rattle.lib_bits.specs.Bits.{bit}
 use Rattle.check_reads.specs.First.{firstFrom}
 use Rattle.check_reads.proofs.FirstLaws.{Seeking, seek, seek-on, seek-stop, seek-end}
-use Rattle.ask_leak.specs.Leaking.{packedLeak}
+use Rattle.ask_leak.specs.Answer.{packedLeak}
 use Rattle.ask_leak.proofs.LeakLaws.{least-none, packed-some}
 use Rattle.ask_leak.proofs.least_in.Statement.{statement}
 use Rattle.ask_leak.proofs.least_in.Tie as tie

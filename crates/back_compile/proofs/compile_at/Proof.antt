@@ -2,7 +2,7 @@
 use mathlib.Core.Path.{sym, ap, _∙_}
 use native.Mathlib.Omega.{arith}
 use borrow.Author.Needs.{needs}
-use Rattle.back_compile.specs.Verdict.{compiled}
+use Rattle.back_compile.specs.Compiled.{compiled}
 use Rattle.back_compile.proofs.JudgeLaws.{compile-short}
 use Rattle.back_compile.proofs.Judging.{judged-passes, not-passed}
 use Rattle.back_compile.proofs.compile_at.Statement.{statement}

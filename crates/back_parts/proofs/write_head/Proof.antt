@@ -1,6 +1,6 @@
 -- `parts::write_head` meets its contract: two words, and zeros up to the eighth. Assumes nothing.
 use borrow.Author.Needs.{needs}
-use Rattle.format_image.specs.Image.{padded}
+use Rattle.format_image.specs.Table.{padded}
 use Rattle.back_emit.proofs.WritingLaws.{wrote-two, wrote-then}
 use Rattle.back_parts.proofs.write_head.Statement.{statement}
 use Rattle.back_parts.proofs.write_head.Tie as tie

@@ -1,6 +1,6 @@
 -- `circle::event_number` meets its contract: each return is its branch of `eventNumber`. Assumes nothing.
 use Rattle.lib_base.proofs.Pick.{code}
-use Rattle.check_shortest.specs.Search.{eventNumber}
+use Rattle.check_shortest.specs.EventNumber.{eventNumber}
 use Rattle.check_shortest.proofs.event_number.Statement.{statement}
 use Rattle.check_shortest.proofs.event_number.Tie as tie
 

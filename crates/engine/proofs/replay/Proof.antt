@@ -4,7 +4,7 @@ use Prim.Native.Nat.{_+_, _*_, _-_, _<_}
 use mathlib.Core.Path.{refl}
 use native.Mathlib.Omega.{arith}
 use borrow.Author.Needs.{needs}
-use Rattle.engine.specs.Replay.{RowOfSteps}
+use Rattle.engine.specs.RowOfSteps.{RowOfSteps}
 use Rattle.engine.proofs.Laws.{none-made, and-then, one-call, end-round, end-answers}
 use Rattle.engine.proofs.replay.Statement.{statement}
 use Rattle.engine.proofs.replay.Tie as tie

@@ -1,6 +1,6 @@
 -- `code_fits` is `codeFits`: each branch follows the definition's test.
 use Rattle.lib_base.proofs.Pick.{code}
-use Rattle.format_layout.specs.Layout.{codeFits}
+use Rattle.format_layout.specs.Foreign.{codeFits}
 use Rattle.format_layout.proofs.code_fits.Statement.{statement}
 use Rattle.format_layout.proofs.code_fits.Tie as tie
 

@@ -5,7 +5,8 @@ use mathlib.Core.Path.{_≡_, refl, sym, _∙_}
 use mathlib.Core.List.{List}
 use native.Mathlib.Omega.{arith}
 use Rattle.lib_base.specs.Basics.{pick}
-use Rattle.format_layout.specs.Layout.{eventWord, codeFits, codesFit}
+use Rattle.format_layout.specs.Layout.{eventWord}
+use Rattle.format_layout.specs.Foreign.{codeFits, codesFit}
 use borrow.Author.Tests.{not-true, not-false}
 use Rattle.format_layout.proofs.codes_fit.Statement.{statement}
 use Rattle.format_layout.proofs.codes_fit.Tie as tie

@@ -7,7 +7,7 @@ use native.Mathlib.Omega.{arith}
 use lib.ListN.{length}
 use Rattle.lib_base.proofs.Pick.{code}
 use Rattle.lib_word.specs.Word.{get}
-use Rattle.format_layout.specs.Layout.{codesFit, tableWith, tableFits}
+use Rattle.format_layout.specs.Foreign.{codesFit, tableWith, tableFits}
 use Rattle.format_layout.specs.Bounds.{TableBounds}
 use Rattle.format_layout.proofs.BoundsLaws.{table-bounds}
 use borrow.Author.Needs.{needs}

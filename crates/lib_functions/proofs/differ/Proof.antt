@@ -2,7 +2,7 @@
 use mathlib.Core.Bool.{Bool}
 use mathlib.Core.Path.{ap, _∙_}
 use native.Mathlib.Omega.{arith}
-use Rattle.lib_arith.specs.Exact.{reported}
+use Rattle.lib_arith.specs.Marked.{reported}
 use Rattle.lib_arith.specs.Functions.{truth}
 use Rattle.lib_arith.proofs.Laws.{view, other-words}
 use borrow.Author.Needs.{needs}

@@ -1,6 +1,6 @@
 -- The half at byte i is its two bytes put together: each is below 256, so no step leaves 16 bits, and the result is the
 -- definition's text.
-use Rattle.lib_word.specs.Word.{getHalf}
+use Rattle.lib_word.specs.Halves.{getHalf}
 use borrow.Author.Needs.{needs}
 use Rattle.lib_word.proofs.get_half.Statement.{statement}
 use Rattle.lib_word.proofs.get_half.Tie as tie

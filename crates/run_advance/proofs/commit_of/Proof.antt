@@ -1,7 +1,7 @@
 -- Each return is one branch of the definition; what is said fits 49 bits.
 use native.Mathlib.Omega.{arith}
 use Rattle.lib_base.proofs.Pick.{code}
-use Rattle.run_dispatch.specs.Dispatch.{said}
+use Rattle.run_dispatch.specs.Said.{said}
 use Rattle.run_advance.specs.Advance.{commitSaid}
 use borrow.Author.Needs.{needs}
 use Rattle.run_advance.proofs.commit_of.Statement.{statement}

@@ -11,7 +11,8 @@ use Rattle.lib_base.proofs.Tools.{by-test}
 use Rattle.lib_word.specs.Word.{put}
 use Rattle.spec_language.specs.Refusals as refusals
 use Rattle.spec_language.specs.Rights.{may}
-use Rattle.format_layout.specs.Layout.{eventCount, sendersAt, taken, waitingCount, runningFlag, ours}
+use Rattle.format_layout.specs.Layout.{eventCount, sendersAt, taken, waitingCount, runningFlag}
+use Rattle.format_layout.specs.Foreign.{ours}
 use Rattle.format_layout.specs.Bounds.{Bounds}
 use Rattle.run_queue.specs.Queue.{putSlot}
 use Rattle.format_layout.specs.Round.{CallResult, callResult}

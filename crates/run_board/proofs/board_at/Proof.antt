@@ -7,9 +7,11 @@ use borrow.Author.Tests.{le-leb, lt-leb, not-true, not-false}
 use Rattle.lib_word.specs.Word.{get}
 use Rattle.spec_language.specs.Refusals as refusals
 use Rattle.spec_language.specs.Rights.{may}
-use Rattle.format_layout.specs.Layout.{behaviourCount, viewersAt, ours}
+use Rattle.format_layout.specs.Layout.{behaviourCount, viewersAt}
+use Rattle.format_layout.specs.Foreign.{ours}
 use Rattle.format_layout.specs.Bounds.{Bounds}
-use Rattle.run_board.specs.Board.{copyBackUnderWay, boardWith, boardKnown, boardIn, boardOn}
+use Rattle.run_board.specs.Board.{boardWith, boardKnown, boardIn, boardOn}
+use Rattle.run_board.specs.Masking.{copyBackUnderWay}
 use borrow.Author.Needs.{needs}
 use Rattle.run_board.proofs.board_at.Statement.{statement}
 use Rattle.run_board.proofs.board_at.Tie as tie

@@ -6,7 +6,7 @@ use mathlib.Core.Logic.{_≢_}
 use mathlib.Core.List.{List}
 use borrow.Author.Tests.{ne-eqb}
 use Rattle.format_layout.specs.Layout.{eventWord, runningFlag, runningEvent, position}
-use Rattle.run_board.specs.Board.{isCopyingBack, copyBackWith, copyBackUnderWay}
+use Rattle.run_board.specs.Masking.{isCopyingBack, copyBackWith, copyBackUnderWay}
 use borrow.Author.Needs.{needs}
 use Rattle.run_board.proofs.copy_back_under_way.Statement.{statement}
 use Rattle.run_board.proofs.copy_back_under_way.Tie as tie

@@ -1,6 +1,6 @@
 -- Each return is one branch of the definition.
 use Rattle.lib_base.proofs.Pick.{code}
-use Rattle.run_board.specs.Board.{isCopyingBack}
+use Rattle.run_board.specs.Masking.{isCopyingBack}
 use borrow.Author.Needs.{needs}
 use Rattle.run_board.proofs.is_copying_back.Statement.{statement}
 use Rattle.run_board.proofs.is_copying_back.Tie as tie

@@ -8,7 +8,8 @@ use native.Mathlib.Omega.{arith}
 use borrow.Author.Tests.{not-true, not-false}
 use Rattle.lib_word.specs.Word.{get}
 use Rattle.spec_language.specs.Refusals as refusals
-use Rattle.format_layout.specs.Layout.{passivesStart, passivesLength, codeFits}
+use Rattle.format_layout.specs.Layout.{passivesStart, passivesLength}
+use Rattle.format_layout.specs.Foreign.{codeFits}
 use Rattle.format_layout.proofs.BoundsLaws.{code-bound}
 use Rattle.format_layout.specs.Round.{CallResult, callResult}
 use Rattle.run_stretch.specs.Stretch.{stretchFrom}

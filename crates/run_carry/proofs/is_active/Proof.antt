@@ -5,7 +5,8 @@ use mathlib.Core.Path.{_≡_}
 use mathlib.Core.List.{List}
 use lib.Dec.{eqb}
 use borrow.Author.Tests.{lt-ltb, le-ltb}
-use Rattle.format_layout.specs.Layout.{behaviourCount, kindAt}
+use Rattle.format_layout.specs.Layout.{behaviourCount}
+use Rattle.format_layout.specs.Foreign.{kindAt}
 use Rattle.run_carry.specs.Carry.{activeKind, activeInTable}
 use borrow.Author.Needs.{needs}
 use Rattle.run_carry.proofs.is_active.Statement.{statement}

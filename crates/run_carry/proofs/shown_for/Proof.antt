@@ -5,7 +5,7 @@ use mathlib.Core.Logic.{_≢_}
 use mathlib.Core.List.{List}
 use borrow.Author.Tests.{ne-eqb}
 use Rattle.lib_word.specs.Word.{get}
-use Rattle.format_layout.specs.Layout.{kindAt}
+use Rattle.format_layout.specs.Foreign.{kindAt}
 use Rattle.run_carry.specs.Carry.{shownOf, shownFor}
 use borrow.Author.Needs.{needs}
 use Rattle.run_carry.proofs.shown_for.Statement.{statement}

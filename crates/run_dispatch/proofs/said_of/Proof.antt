@@ -1,5 +1,5 @@
 -- The sum is the definition's.
-use Rattle.run_dispatch.specs.Dispatch.{said}
+use Rattle.run_dispatch.specs.Said.{said}
 use Rattle.lib_base.proofs.Pick.{code}
 use borrow.Author.Needs.{needs}
 use Rattle.run_dispatch.proofs.said_of.Statement.{statement}

@@ -6,9 +6,11 @@ use mathlib.Core.Logic.{_≢_}
 use mathlib.Core.List.{List}
 use borrow.Author.Tests.{ne-eqb, not-true, not-false}
 use Rattle.spec_language.specs.Refusals as refusals
-use Rattle.format_layout.specs.Layout.{eventCount, waitingCount, runningFlag, ours}
+use Rattle.format_layout.specs.Layout.{eventCount, waitingCount, runningFlag}
+use Rattle.format_layout.specs.Foreign.{ours}
 use Rattle.format_layout.specs.Bounds.{Bounds}
-use Rattle.run_forecast.specs.Forecast.{stepsIn, longestIn, bound, forecastWith, forecastIn, forecastOn}
+use Rattle.run_forecast.specs.Forecast.{bound, forecastWith, forecastIn, forecastOn}
+use Rattle.run_forecast.specs.Steps.{stepsIn, longestIn}
 use borrow.Author.Needs.{needs}
 use Rattle.run_forecast.proofs.forecast_at.Statement.{statement}
 use Rattle.run_forecast.proofs.forecast_at.Tie as tie

@@ -6,7 +6,7 @@ use native.Mathlib.Omega.{arith}
 use native.Mathlib.Numerals.{add-one}
 use Rattle.format_layout.specs.Layout.{eventCount, eventWord}
 use Rattle.format_layout.specs.Bounds.{TableBounds}
-use Rattle.run_forecast.specs.Forecast.{longestIn}
+use Rattle.run_forecast.specs.Steps.{longestIn}
 use Rattle.run_forecast.proofs.longest_of.Statement.{statement}
 use Rattle.run_forecast.proofs.longest_of.Tie as tie
 

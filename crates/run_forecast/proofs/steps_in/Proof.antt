@@ -6,7 +6,7 @@ use native.Mathlib.Omega.{arith}
 use native.Mathlib.Numerals.{add-one}
 use Rattle.format_layout.specs.Layout.{eventWord, waitingCount, eventAt}
 use Rattle.format_layout.specs.Bounds.{Bounds}
-use Rattle.run_forecast.specs.Forecast.{stepsIn}
+use Rattle.run_forecast.specs.Steps.{stepsIn}
 use Rattle.run_forecast.proofs.steps_in.Statement.{statement}
 use Rattle.run_forecast.proofs.steps_in.Tie as tie
 

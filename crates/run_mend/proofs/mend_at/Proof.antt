@@ -10,7 +10,8 @@ use lib.ListN.{length, replicate, length-replicate}
 use borrow.Author.Tests.{ne-eqb, not-true, not-false}
 use Rattle.lib_word.specs.Word.{get, getAt}
 use Rattle.spec_language.specs.Refusals as refusals
-use Rattle.format_layout.specs.Layout.{tableFits, waitingCount, runningFlag, runningNumber, runningWord, ours}
+use Rattle.format_layout.specs.Layout.{waitingCount, runningFlag, runningNumber, runningWord}
+use Rattle.format_layout.specs.Foreign.{tableFits, ours}
 use Rattle.format_layout.specs.Bounds.{TableBounds, Bounds}
 use Rattle.format_layout.specs.Round.{CallResult, callResult}
 use Rattle.run_carry.specs.Carry.{carryOn, storeShown}

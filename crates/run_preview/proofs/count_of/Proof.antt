@@ -5,7 +5,7 @@ use mathlib.Core.List.{List}
 use native.Mathlib.Nat.{mul-le-mul-left}
 use native.Mathlib.Omega.{arith}
 use Rattle.format_layout.specs.Layout.{eventCount, waitingCount, runningFlag}
-use Rattle.run_forecast.specs.Forecast.{longestIn}
+use Rattle.run_forecast.specs.Steps.{longestIn}
 use Rattle.run_preview.specs.Preview.{inHand, previewSteps}
 use borrow.Author.Needs.{needs}
 use Rattle.run_preview.proofs.count_of.Statement.{statement}

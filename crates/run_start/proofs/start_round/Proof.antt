@@ -3,7 +3,7 @@
 use mathlib.Core.Path.{ap, _∙_}
 use Rattle.lib_base.proofs.Pick.{code}
 use Rattle.format_layout.specs.declared.round.Round.{Round}
-use Rattle.format_layout.specs.Round.{freshOf}
+use Rattle.format_layout.specs.Fresh.{freshOf}
 use Rattle.run_start.specs.Start.{image, freshBytes, startOn}
 use borrow.Author.Needs.{needs}
 use borrow.Author.Tests.{not-true, not-false}

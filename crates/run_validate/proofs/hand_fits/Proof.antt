@@ -9,9 +9,9 @@ use lib.Dec.{ltb, leb, eqb}
 use borrow.Author.Tests.{le-leb, lt-leb, ltb-true, ltb-false, lt-ltb, le-ltb, eqb-true, eqb-false}
 use borrow.Author.Needs.{needs}
 use Rattle.lib_base.proofs.Tools.{split}
-use Rattle.lib_word.specs.Word.{swapBytes}
+use Rattle.lib_word.specs.Halves.{swapBytes}
 use Rattle.lib_word.proofs.Swap.{swap-0}
-use Rattle.format_layout.specs.Layout.{handFits}
+use Rattle.format_layout.specs.Foreign.{handFits}
 use Rattle.run_validate.proofs.hand_fits.Statement.{statement}
 use Rattle.run_validate.proofs.hand_fits.Tie as tie
 

@@ -8,7 +8,7 @@ use lib.ListN.{length}
 use borrow.Author.Tests.{lt-ltb, le-ltb, not-true, not-false}
 use Rattle.format_layout.specs.Layout.{eventCount, eventWord, waitingCount, runningFlag, runningWord}
 use Rattle.format_layout.specs.Layout.{runningEvent, position, depth}
-use Rattle.format_layout.specs.Layout.{tableFits, handFits, slotsFit, runningFits, roundWith, roundIn, roundFits, ours}
+use Rattle.format_layout.specs.Foreign.{tableFits, handFits, slotsFit, runningFits, roundWith, roundIn, roundFits, ours}
 use Rattle.format_layout.specs.Bounds.{TableBounds, Bounds}
 use Rattle.format_layout.proofs.BoundsLaws.{bounds}
 use borrow.Author.Needs.{needs}

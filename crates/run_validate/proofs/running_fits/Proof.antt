@@ -8,7 +8,8 @@ use native.Mathlib.Omega.{arith}
 use lib.Dec.{ltb}
 use borrow.Author.Tests.{ne-eqb, le-ltb, lt-ltb, not-true, not-false}
 use Rattle.lib_word.specs.Word.{getAt, get}
-use Rattle.format_layout.specs.Layout.{eventOf, eventWord, handFits, runningFits}
+use Rattle.format_layout.specs.Layout.{eventOf, eventWord}
+use Rattle.format_layout.specs.Foreign.{handFits, runningFits}
 use borrow.Author.Needs.{needs}
 use Rattle.run_validate.proofs.running_fits.Statement.{statement}
 use Rattle.run_validate.proofs.running_fits.Tie as tie

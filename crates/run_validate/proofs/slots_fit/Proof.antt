@@ -7,7 +7,8 @@ use native.Mathlib.Omega.{arith}
 use native.Mathlib.Numerals.{add-one}
 use Rattle.lib_base.specs.Basics.{pick}
 use Rattle.lib_word.specs.Word.{getAt, get}
-use Rattle.format_layout.specs.Layout.{wordAt, handFits, slotsFit}
+use Rattle.format_layout.specs.Layout.{wordAt}
+use Rattle.format_layout.specs.Foreign.{handFits, slotsFit}
 use borrow.Author.Needs.{needs}
 use Rattle.run_validate.proofs.slots_fit.Statement.{statement}
 use Rattle.run_validate.proofs.slots_fit.Tie as tie

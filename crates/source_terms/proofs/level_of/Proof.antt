@@ -1,7 +1,7 @@
 -- The tests are the definition's.
 use borrow.Author.Needs.{needs}
 use Rattle.lib_base.proofs.Pick.{code}
-use Rattle.text_formula.specs.Reader.{level}
+use Rattle.text_formula.specs.Level.{level}
 use Rattle.source_terms.proofs.level_of.Statement.{statement}
 use Rattle.source_terms.proofs.level_of.Tie as tie
 

@@ -1,6 +1,6 @@
 -- The branches are those of `level`.
 use Rattle.text_phrase.specs.Phrase.{levelCode}
-use Rattle.text_formula.specs.Reader.{level}
+use Rattle.text_formula.specs.Level.{level}
 use Rattle.lib_base.proofs.Pick.{code}
 use Rattle.text_phrase.proofs.level_of.Statement.{statement}
 use Rattle.text_phrase.proofs.level_of.Tie as tie
