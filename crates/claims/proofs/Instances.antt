@@ -3,7 +3,7 @@
 -- in a table and a round of just 01's lengths. Each other bound, reached. And an answer that no step may give.
 use Prim.Native.Nat.{ℕ, _-_, _<_, _^_}
 use mathlib.Core.Bool.{true}
-use mathlib.Core.Path.{_≡_, refl, ap}
+use mathlib.Core.Path.{_≡_, refl, sym, ap, subst}
 use mathlib.Core.Logic.{_≢_, _⊎_, inl, inr}
 use mathlib.Core.Option.{none}
 use mathlib.Core.List.{List, [], _∷_, _++_, map, flatten, flatMap}
@@ -33,7 +33,7 @@ use Rattle.run_dispatch.specs.Said.{said}
 use Rattle.text_formula.specs.Grammar.{Formula}
 use Rattle.text_formula.specs.Answer.{answered, fieldAnswer}
 use Rattle.text_formula.specs.Formula.{formulaOn}
-use Rattle.back_compile.specs.Compiled.{compiled}
+use Rattle.back_compile.specs.Compiled.{compiled, programOf}
 use Rattle.back_compile.specs.Verdict.{compileOn}
 use Rattle.back_compile.specs.Number.{numberOn}
 use Rattle.refine_calls.specs.Refinement.{calls, roundAfter, bytesAfter}
@@ -107,12 +107,19 @@ module _ (c : Claims) (t l : List ℕ) (room : length t ≡ 34816) (space : leng
   of-final : EveryList finalBytes [] t l
   of-final = c .lists .every-list finalBytes [] t l bytes tt (omega arith) takes-final
 
+  -- its sheet is the one that the bytes encode
+  of-its-sheet : (cs : List Call) → IdleIn (after finalProgram (map call cs)) → IdleIn (after (programOf [] (of-final .sheet)) (map call cs))
+  of-its-sheet cs h =
+      subst (λ (x : Sheet). IdleIn (after (programOf [] x) (map call cs)))
+      (sym (c .sheets .one-sheet (of-final .sheet) final (of-final .taken .fits) (c .condition-needed .taken .fits) (of-final .bytes))) h
+
   -- "every two such lists": two hits, of one rank, at once and one by one
   two-hits : boardOf finalProgram (bytesAfter (map calls hits-at-once) (freshRoundOn finalBytes [] t l) .round)
       ≡ boardOf finalProgram (bytesAfter (map calls hits-one-by-one) (freshRoundOn finalBytes [] t l) .round)
   two-hits =
       c .lists .two-only-calls finalBytes [] [] t l t l final (record { one = prepared; other = prepared; filled = refl }) hits-at-once hits-one-by-one
-      same-hits one-rank (of-final .calls hits-at-once .list .idle .1 idle-at-once) (of-final .calls hits-one-by-one .list .idle .1 idle-one-by-one)
+      same-hits one-rank (of-final .calls hits-at-once .list .idle .1 (of-its-sheet hits-at-once idle-at-once))
+      (of-final .calls hits-one-by-one .list .idle .1 (of-its-sheet hits-one-by-one idle-one-by-one))
 
 -- ---- each other bound, reached
 
