@@ -3,7 +3,7 @@
 -- follow those of the calls before it, from how lists of calls are answered.
 use Prim.Native.Nat.{ℕ}
 use mathlib.Core.Path.{_≡_}
-use mathlib.Core.Logic.{_≢_, ⊎-elim}
+use mathlib.Core.Logic.{_≢_, _⊎_, inl, inr}
 use mathlib.Core.List.{List, _++_}
 use Rattle.spec_model.specs.Model.{Call}
 use Rattle.run_arrive.specs.Arrivals.{arriveOn}
@@ -16,8 +16,14 @@ use Rattle.run_deliver.specs.Deliver.{deliverOn}
 use Rattle.refine_deliver.specs.Deliveries.{deliveryCalls}
 use Rattle.claims.specs.Demand1.{Demand1}
 
+-- the first of a list of needs fails
+first-fails : (C : Type 0) (k r : ℕ) (X : Type 0) → ((C → ⊥) × (r ≡ k)) ⊎ (C × X) → (C → ⊥) → r ≡ k
+first-fails C k r X (inl w) h = w .1
+first-fails C k r X (inr w) h = absurd (h (w .0))
+
 preview-refused : Demand1 → (t l : List ℕ) (e i who : ℕ) → arriveOn t l e who .0 ≢ 0 → previewOn t l e i who ≡ arriveOn t l e who .0
-preview-refused d t l e i who h = ⊎-elim (λ w. w .1) (λ w. absurd (h (w .0))) (d .preview-order t l e i who)
+preview-refused d t l e i who h =
+    first-fails (arriveOn t l e who .0 ≡ 0) (arriveOn t l e who .0) (previewOn t l e i who) _ (d .preview-order t l e i who) h
 
 frame-answers : (t l : List ℕ) (cs : List Call) (asked : ℕ) (b : List ℕ)
     → answersOn t (cs ++ stepCalls (stepsMade (frameOn t (roundAfter t cs l) asked b .0))) l
