@@ -193,11 +193,10 @@ def bare_numbers():
 
 # ---- one owner of a sheet's bytes
 
-# the rooms that read or write sheets by the names of the room `sheet`; of them the crates whose writers have numbers of
-# their own still, and all that take tags from the language's definitions
+# the rooms that read or write sheets by the names of the room `sheet`; the crates that take tags from the language's
+# definitions, as numbers of their own kinds
 SHEET_ROOMS = {"front", "link", "text", "source", "desk"}
-SHEET_WRITERS = {"source_declarations", "source_handlers", "source_body"}
-TAGS_BY_LANGUAGE = SHEET_WRITERS | {"draft_form", "text_formula"}
+TAGS_BY_LANGUAGE = {"draft_form", "text_formula"}
 OWN_NUMBER = re.compile(r"^(?:pub )?const (\w+): (?:u8|usize) = (?:0x[0-9A-Fa-f]+|\d+);", re.M)
 INDEX = re.compile(r"\w\[([^\[\];]*)\]")
 PLACED = re.compile(r"\b(?:put_byte|byte_from|onward|put_half|get_half|get_at)\(([^;{]*)")
@@ -220,7 +219,7 @@ def numbers_of_sheets():
         text = text_of(path)
         if "spec_language::tags" in text and crate not in TAGS_BY_LANGUAGE:
             yield f"{path}: tags of a sheet's fields that are not those of sheet_field"
-        if crate.split("_")[0] not in SHEET_ROOMS or crate in SHEET_WRITERS:
+        if crate.split("_")[0] not in SHEET_ROOMS:
             continue
         own = {m.group(1) for m in OWN_NUMBER.finditer(text)}
         for number, line in enumerate(text.split("\n"), 1):

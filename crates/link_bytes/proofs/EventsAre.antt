@@ -18,7 +18,8 @@ use Rattle.spec_language.specs.Grammar.{field, tagOf, encodeItem, encodeViewer,
 use Rattle.link_pooled.specs.Pooled.{mergedByNumber, bothSend, poolSignal, poolSignals, sameRanks}
 use Rattle.link_pooled.proofs.Bits.{both-missing}
 use Rattle.sheet_field.specs.Field.{fieldOf}
-use Rattle.link_events.specs.Merging.{widthAt, rankAt, senderAt, merged, eventBytes, pairBytes, eventsFrom, endFrom, agreeFrom}
+use Rattle.sheet_write.specs.Writes.{eventBytes}
+use Rattle.link_events.specs.Merging.{widthAt, rankAt, senderAt, merged, pairBytes, eventsFrom, endFrom, agreeFrom}
 
 -- ---- at a place as at the front of what follows it
 

@@ -1,17 +1,20 @@
--- Laws of the turns over events: what is written in a row, and one turn of each loop.
-use Prim.Native.Nat.{ℕ, suc, _+_, _-_, _*_, _%_, _≤_, _<_}
+-- Laws of the turns over events: what an event's field writes, and one turn of each loop.
+use Prim.Native.Nat.{ℕ, suc, _+_, _-_, _*_, _≤_, _<_}
 use mathlib.Core.Bool.{true, false}
 use mathlib.Core.Path.{_≡_, refl, sym, ap, _∙_}
 use mathlib.Core.List.{List, [], _∷_, _++_, append-assoc, append-nil}
 use native.Mathlib.Omega.{arith}
-use native.Mathlib.Numerals.{add-one, add-two, add-three, add-four}
-use lib.ListN.{length, take, drop, set, length-append, length-take, length-drop}
-use lib.Seq.{sets, sets-eq, take-at, length-take-le, take-length}
+use lib.ListN.{length, take, drop, length-append, length-take, length-drop}
+use lib.Seq.{length-take-le, take-length}
+use lib.Dec.{eqb}
 use borrow.Author.Tests.{eq-eqb, ne-eqb}
+use Rattle.lib_base.proofs.Tools.{split}
 use Rattle.sheet_field.specs.Field.{fieldOf, FieldWithin}
 use Rattle.sheet_field.specs.declared.Field.{Field}
 use Rattle.sheet_field.specs.declared.Field.the-variants.{Value, Refused}
-use Rattle.link_events.specs.Merging.{fieldWidth, widthAt, rankAt, senderAt, merged, eventBytes, pairBytes, eventsFrom, endFrom, agreeFrom}
+use Rattle.sheet_write.specs.Writes.{fitted, eventBytes}
+use Rattle.sheet_write.proofs.Laws.{fitted-taken}
+use Rattle.link_events.specs.Merging.{fieldWidth, widthAt, rankAt, senderAt, merged, pairBytes, eventsFrom, endFrom, agreeFrom}
 use Rattle.link_events.specs.Written.{BytesWritten}
 
 -- ---- the field at a place, by the field reader
@@ -34,25 +37,18 @@ width-fits s i {a} {t} {n} h w q =
     let v : n + 3 ≤ length (take (length s - i) (drop i s)) = rw q at w in
     omega (arith, simp (length-take, length-drop) at v)
 
--- ---- writing in a row
+-- ---- an event's field
 
-in-a-row : (o : List ℕ) (k : ℕ) (vs : List ℕ) (r : ℕ) → k + length vs ≤ length o → r ≡ k + length vs → BytesWritten o k vs (sets o k vs) r
-in-a-row o k vs r h q =
-    let l : length (take k o ++ vs) ≡ r = length-append (take k o) vs ∙ ap (λ (n : ℕ). n + length vs) (length-take-le k o (omega arith)) ∙ sym q in
-    record {
-      up-to = q;
-      bytes = rw (sets-eq vs o k h) (take-at (take k o ++ vs) (drop (k + length vs) o) r l);
-    }
-
-pub four : (o : List ℕ) (k r m : ℕ) → k + 5 ≤ length o → m ≡ 256
-    → BytesWritten o k (eventBytes r m) (set (set (set (set o k 1) (k + 1) 0) (k + 2) 1) (k + 3) r) (k + 4)
+event-few : (r m : ℕ) → length (eventBytes r m) ≤ 5
 unfolding eventBytes
-four o k r m h q = rw (eq-eqb m 256 q) (simp (add-one, add-two, add-three) (in-a-row o k (1 ∷ 0 ∷ 1 ∷ r ∷ []) (k + 4) (omega arith) (omega arith)))
+event-few r m = split (eqb m 256) (λ e. rw e (omega arith)) (λ e. rw e (omega arith))
 
-pub five : (o : List ℕ) (k r m : ℕ) → k + 5 ≤ length o → (m ≡ 256 → ⊥)
-    → BytesWritten o k (eventBytes r m) (set (set (set (set (set o k 1) (k + 1) 0) (k + 2) 2) (k + 3) r) (k + 4) (m % 256)) (k + 5)
-unfolding eventBytes
-five o k r m h q = rw (ne-eqb m 256 q) (simp (add-one, add-two, add-three, add-four) (in-a-row o k (1 ∷ 0 ∷ 2 ∷ r ∷ (m % 256) ∷ []) (k + 5) (omega arith) (omega arith)))
+pub event-within : (r m k n : ℕ) → n ≡ k + length (eventBytes r m) → n ≤ k + 5
+event-within r m k n e = omega (arith, event-few r m)
+
+pub event-written : (o o′ : List ℕ) (k r m n : ℕ) → k + 5 ≤ length o → n ≡ k + length (eventBytes r m) → o′ ≡ fitted o k (eventBytes r m) → BytesWritten o k (eventBytes r m) o′ n
+event-written o o′ k r m n h e f =
+    record { up-to = e; bytes = rw (f, e) (fitted-taken o k (eventBytes r m) (omega (arith, event-few r m))) }
 
 -- ---- the field of one number
 

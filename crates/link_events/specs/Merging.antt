@@ -1,8 +1,8 @@
 -- The events of two sheets by number, worked out from the sheets' bytes alone, as the code does. 02, M-111. That these
 -- are the pooled sheet's is shown in crate link_bytes.
-use Prim.Native.Nat.{ℕ, zero, suc, _+_, _%_}
+use Prim.Native.Nat.{ℕ, zero, suc, _+_}
 use mathlib.Core.Bool.{Bool, true, false}
-use mathlib.Core.List.{List, [], _∷_, _++_}
+use mathlib.Core.List.{List, [], _++_}
 use lib.ListN.{getD, drop}
 use lib.Dec.{ltb, eqb}
 use lib.Bits.{bitAnd}
@@ -10,6 +10,7 @@ use Rattle.lib_base.specs.Basics.{pick}
 use Rattle.sheet_field.specs.Field.{fieldOf}
 use Rattle.sheet_field.specs.declared.Field.{Field}
 use Rattle.sheet_field.specs.declared.Field.the-variants.{Value, Refused}
+use Rattle.sheet_write.specs.Writes.{eventBytes}
 
 -- how many bytes the event's field at place i has, by the field reader: 4, or 5 with a byte that says who may send it;
 -- 0 where no event stands
@@ -29,9 +30,6 @@ senderAt s i w = pick (eqb w 5) (getD s (i + 4) 0) 256
 
 unfoldable pub merged : ℕ → ℕ → ℕ
 merged x y = pick (eqb x 256) y (pick (eqb y 256) x (bitAnd x y))
-
-unfoldable pub eventBytes : ℕ → ℕ → List ℕ
-eventBytes r m = pick (eqb m 256) (1 ∷ 0 ∷ 1 ∷ r ∷ []) (1 ∷ 0 ∷ 2 ∷ r ∷ (m % 256) ∷ [])
 
 -- the field of the events at place i of s and at place j of t, which have a and b bytes
 unfoldable pub pairBytes : List ℕ → ℕ → ℕ → List ℕ → ℕ → ℕ → List ℕ

@@ -8,22 +8,16 @@ use spec_language::limits;
 ghost use mathlib.Core.Path.{_≡_};
 ghost use Prim.Native.Nat.{_≤_, _+_, _-_};
 ghost use lib.ListN.{length};
-ghost use Rattle.link_events.specs.Merging.{widthAt, rankAt, senderAt, merged, eventBytes, pairBytes, eventsFrom, endFrom, agreeFrom};
+ghost use Rattle.link_events.specs.Merging.{widthAt, rankAt, senderAt, merged, pairBytes, eventsFrom, endFrom, agreeFrom};
 ghost use Rattle.link_events.specs.Written.{BytesWritten};
 
-// Where an event's field has its priority and who may send it, and the two lengths.
+// Where an event's field has its priority and who may send it.
 const RANK: usize = sizes::HEADER + places::RANK;
 
 const SENDER: usize = sizes::HEADER + places::SENDERS;
 
-const ALONE: u8 = sizes::BYTE as u8;
-
-const BOTH: u8 = sizes::PAIR as u8;
-
 // What stands for that byte where it is missing: no byte's value.
-const ANYONE: usize = lib_word::BYTE_VALUES as usize;
-
-const BYTE: usize = lib_word::BYTE_VALUES as usize;
+const ANYONE: usize = sheet_write::UNSAID as usize;
 
 // How many bytes the event's field at place i has, by the field reader; 0 where none stands.
 fn width(s: &[u8], i: usize) -> usize
@@ -73,27 +67,6 @@ fn merge(x: usize, y: usize) -> usize
     x & y
 }
 
-// An event's field from place k on.
-fn put_event(out: &mut [u8], k: usize, r: u8, m: usize) -> usize
-    requires { ⌜ k + 5 ≤ length (now out) ⌝ }
-    ensures { λ n. ⌜ BytesWritten (now (out .entry)) k (eventBytes r m) (now (out .exit)) n ⌝ }
-    ensures { λ n. ⌜ n ≤ k + 5 ⌝ }
-{
-    if m == ANYONE {
-        out[k] = tags::EVENT;
-        out[k + places::LENGTH] = 0;
-        out[k + places::LOW_LENGTH] = ALONE;
-        out[k + RANK] = r;
-        return k + sizes::BYTE_FIELD;
-    }
-    out[k] = tags::EVENT;
-    out[k + places::LENGTH] = 0;
-    out[k + places::LOW_LENGTH] = BOTH;
-    out[k + RANK] = r;
-    out[k + SENDER] = (m % BYTE) as u8;
-    k + sizes::PAIR_FIELD
-}
-
 // The field of the events at place i of s and at place j of t, which have a and b bytes.
 fn put_pair(
     s: &[u8],
@@ -105,16 +78,16 @@ fn put_pair(
     out: &mut [u8],
     k: usize,
 ) -> usize
-    requires { ⌜ (i + a ≤ length (now s)) × (j + b ≤ length (now t)) × (k + 5 ≤ length (now out)) ⌝ }
+    requires { ⌜ (i + a ≤ length (now s)) × (j + b ≤ length (now t)) × (k + 5 ≤ length (now out)) × (k ≤ 160) ⌝ }
     ensures { λ n. ⌜ BytesWritten (now (out .entry)) k (pairBytes (now (s .entry)) i a (now (t .entry)) j b) (now (out .exit)) n ⌝ }
     ensures { λ n. ⌜ n ≤ k + 5 ⌝ }
 {
     let m = merge(sender(s, i, a), sender(t, j, b));
     if a != 0 {
-        return put_event(out, k, rank(s, i, a), m);
+        return sheet_write::put_event(out, k, rank(s, i, a), m as u64);
     }
     if b != 0 {
-        return put_event(out, k, rank(t, j, b), m);
+        return sheet_write::put_event(out, k, rank(t, j, b), m as u64);
     }
     k
 }

@@ -4,13 +4,15 @@ use Prim.Native.Nat.{ℕ, suc, _+_, _-_, _/_, _%_, _≤_, _<_}
 use mathlib.Core.Path.{_≡_, refl, sym, ap, _∙_}
 use mathlib.Core.List.{List, [], _∷_, _++_, append-assoc}
 use native.Mathlib.Omega.{arith}
-use native.Mathlib.Numerals.{add-one, add-two, add-three}
+use native.Mathlib.Numerals.{add-one, add-two, add-three, add-four}
 use lib.ListN.{length, getD, take, drop, set, length-set, length-append, length-drop, take-append-drop, List·getD-append}
 use borrow.Author.Tests.{lt-ltb, le-ltb}
-use lib.Seq.{slice, sets, sets-eq, slice-empty, slice-cons, length-slice, take-suc, length-take-le, set-at, getD-take, take-append-le, take-take, take-at, drop-at}
+use lib.Seq.{slice, sets, sets-eq, length-sets, drop-append-le, slice-empty, slice-cons, length-slice, take-suc, length-take-le, set-at, getD-take, take-append-le, take-take, take-at, drop-at}
+use lib.Dec.{ltb}
+use Rattle.lib_base.proofs.Tools.{by-test}
 use Rattle.lib_word.specs.Halves.{putHalf}
 use Rattle.spec_language.specs.Grammar.{field}
-use Rattle.sheet_write.specs.Writes.{fitted, header, shifted, asApplication}
+use Rattle.sheet_write.specs.Writes.{fitted, header, shifted, asApplication, asField}
 
 -- ---- writes in a row
 
@@ -50,6 +52,67 @@ left-out o n v h = rw (lt-ltb (length o) (n + length v) h)
 
 pub fitted-taken : (o : List ℕ) (n : ℕ) (v : List ℕ) → n + length v ≤ length o → take (n + length v) (fitted o n v) ≡ take n o ++ v
 fitted-taken o n v h = rw (fits o n v h) (sets-taken o n v h)
+
+pub fitted-long : (o : List ℕ) (n : ℕ) (v : List ℕ) → length (fitted o n v) ≡ length o
+unfolding fitted
+fitted-long o n v = by-test (λ (l : List ℕ). length l ≡ length o) (ltb (length o) (n + length v)) (λ e. refl) (λ e. length-sets o n v)
+
+pub none-fitted : (o : List ℕ) (n : ℕ) → fitted o n [] ≡ o
+unfolding fitted
+none-fitted o n = by-test (λ (l : List ℕ). l ≡ o) (ltb (length o) (n + 0)) (λ e. refl) (λ e. refl)
+
+-- ---- the fields of numbers
+
+-- a pair's header and its two bytes
+pub pair-written : (o : List ℕ) (n t a b : ℕ) → set (set (sets o n (header t 2)) (n + 3) a) (n + 4) b ≡ sets o n (field t (a ∷ b ∷ []))
+pair-written o n t a b = simp (add-three, add-four)
+
+-- a handler's event and phase
+pub handler-written : (o : List ℕ) (n a b : ℕ) → set (set o (n + 3) a) (n + 4) b ≡ sets o (n + 3) (a ∷ b ∷ [])
+handler-written o n a b = simp (add-three, add-four)
+
+-- a row's count and the field behind it
+pub count-written : (o : List ℕ) (n c : ℕ) (v : List ℕ) → n + suc (length v) ≤ length o → fitted (set o n c) (n + 1) v ≡ fitted o n (c ∷ v)
+count-written o n c v h =
+    fits (set o n c) (n + 1) v (simp length-set (omega arith)) ∙ rw (add-one n) (sym (fits o n (c ∷ v) h))
+
+-- ---- a header in front of its value
+
+pub enclosed : (t n end : ℕ) (o : List ℕ) → n + 3 ≤ end → end ≤ length o → sets o n (header t (end - n - 3)) ≡ asField t n end o
+unfolding asField
+enclosed t n end o h g =
+    let v : List ℕ = slice (n + 3) end o in
+    let l : length v ≡ end - n - 3 = length-slice (n + 3) end o g ∙ omega arith in
+    let d : drop (n + 3) o ≡ v ++ drop end o =
+    ap (drop (n + 3)) (sym (take-append-drop end o)) ∙ drop-append-le (n + 3) (take end o) (drop end o) (rw (length-take-le end o g) h) in
+    let e : n + length (field t v) ≡ end = omega arith in
+    rw (le-ltb (length o) end g)
+    (sets-eq (header t (end - n - 3)) o n (omega arith)
+    ∙ rw (d, ← l) (simp append-assoc)
+    ∙ sym (rw e at (sets-eq (field t v) o n (omega arith))))
+
+pub enclosed-long : (t n end : ℕ) (o : List ℕ) → length (asField t n end o) ≡ length o
+unfolding asField
+enclosed-long t n end o =
+    by-test (λ (l : List ℕ). length l ≡ length o) (ltb (length o) end) (λ e. refl) (λ e. length-sets o n (field t (slice (n + 3) end o)))
+
+-- a value that was written behind three bytes is in a field
+pub enclosed-taken : (t n end : ℕ) (o p v : List ℕ) → n + 3 ≤ end → end ≤ length o → length p ≡ length o → take end p ≡ take (n + 3) o ++ v
+    → take end (asField t n end p) ≡ take n o ++ field t v
+unfolding asField
+enclosed-taken t n end o p v h g l e =
+    let k : length (take (n + 3) o) ≡ n + 3 = length-take-le (n + 3) o (omega arith) in
+    let q : slice (n + 3) end p ≡ v = ap (drop (n + 3)) e ∙ drop-at (take (n + 3) o) v (n + 3) k in
+    let m : end ≡ n + length (field t v) =
+    (let a : length (take (n + 3) o ++ v) ≡ end = ap length (sym e) ∙ length-take-le end p (omega arith) in
+    let b : length (take (n + 3) o ++ v) ≡ n + 3 + length v = simp (length-append, k) in
+    omega arith) in
+    let b : take n p ≡ take n o =
+    sym (take-take n end p (omega arith))
+    ∙ ap (take n) e
+    ∙ take-append-le n (take (n + 3) o) v (rw k (omega arith))
+    ∙ take-take n (n + 3) o (omega arith) in
+    rw (le-ltb (length p) end (omega arith), q, m) (sets-taken p n (field t v) (omega arith) ∙ rw b)
 
 -- ---- the shift
 

@@ -9,7 +9,17 @@ ghost use Prim.Native.Nat.{_≤_, _<_, _+_};
 ghost use lib.ListN.{length};
 ghost use lib.Seq.{sets};
 ghost use Rattle.spec_language.specs.Grammar.{field, word};
-ghost use Rattle.sheet_write.specs.Writes.{header, fitted, shifted, asApplication};
+ghost use Rattle.sheet_write.specs.Writes.{header, fitted, shifted, asApplication, asField, eventBytes, viewerBytes, startBytes};
+
+// In place of the byte that says who may send or see, where there is none.
+pub const UNSAID: u64 = lib_word::BYTE_VALUES as u64;
+
+// Where a handler's event and phase stand in its field, and where a row's field 04 ends in its value.
+const EVENT: usize = sizes::HEADER + places::EVENT;
+
+const PHASE: usize = sizes::HEADER + places::PHASE;
+
+const ROW_START: usize = places::START + sizes::WORD_FIELD;
 
 // What a word's bytes count, from the last but one on.
 const BYTE: u32 = lib_word::BYTE_VALUES;
@@ -61,6 +71,90 @@ pub fn put_word_field(out: &mut [u8], n: usize, tag: u8, w: u32)
     }
     put_header(out, n, tag, sizes::WORD);
     put_word(out, n + sizes::HEADER, w);
+}
+
+// A field of two bytes: an event's, where it says who may send it.
+fn put_pair_field(out: &mut [u8], n: usize, tag: u8, a: u8, b: u8)
+    requires { ⌜ n ≤ 2147483648 ⌝ }
+    ensures { λ _. ⌜ now (out .exit) ≡ fitted (now (out .entry)) n (field tag (a ∷ b ∷ [])) ⌝ }
+{
+    if out.len() < n + sizes::PAIR_FIELD {
+        return;
+    }
+    put_header(out, n, tag, sizes::PAIR);
+    out[n + sizes::HEADER] = a;
+    out[n + sizes::BYTE_FIELD] = b;
+}
+
+// An event's field, by its rank and who may send it; the place behind it.
+pub fn put_event(out: &mut [u8], n: usize, rank: u8, senders: u64) -> usize
+    requires { ⌜ n ≤ 2147483648 ⌝ }
+    ensures { λ r. ⌜ r ≡ n + length (eventBytes rank senders) ⌝ }
+    ensures { λ _. ⌜ now (out .exit) ≡ fitted (now (out .entry)) n (eventBytes rank senders) ⌝ }
+{
+    if senders == UNSAID {
+        put_byte_field(out, n, tags::EVENT, rank);
+        return n + sizes::BYTE_FIELD;
+    }
+    put_pair_field(out, n, tags::EVENT, rank, (senders % UNSAID) as u8);
+    n + sizes::PAIR_FIELD
+}
+
+// Who may see a behaviour, where it is said; the place behind it.
+pub fn put_viewers(out: &mut [u8], n: usize, viewers: u64) -> usize
+    requires { ⌜ n ≤ 2147483648 ⌝ }
+    requires { ⌜ viewers ≤ 256 ⌝ }
+    ensures { λ r. ⌜ r ≡ n + length (viewerBytes viewers) ⌝ }
+    ensures { λ _. ⌜ now (out .exit) ≡ fitted (now (out .entry)) n (viewerBytes viewers) ⌝ }
+{
+    if viewers == UNSAID {
+        return n;
+    }
+    put_byte_field(out, n, tags::VIEWERS, viewers as u8);
+    n + sizes::BYTE_FIELD
+}
+
+// A row's count of cells, where there are any, and the value that it or an active starts with; the place behind them.
+pub fn put_start(out: &mut [u8], n: usize, w: u32, cells: usize) -> usize
+    requires { ⌜ n ≤ 1073741824 ⌝ }
+    requires { ⌜ cells < 256 ⌝ }
+    ensures { λ r. ⌜ r ≡ n + length (startBytes cells w) ⌝ }
+    ensures { λ _. ⌜ now (out .exit) ≡ fitted (now (out .entry)) n (startBytes cells w) ⌝ }
+{
+    if cells == 0 {
+        put_word_field(out, n, tags::START, w);
+        return n + sizes::WORD_FIELD;
+    }
+    if out.len() < n + ROW_START {
+        return n + ROW_START;
+    }
+    out[n] = cells as u8;
+    put_word_field(out, n + places::START, tags::START, w);
+    n + ROW_START
+}
+
+// The event and the phase of the handler whose field begins at place n.
+pub fn put_handler(out: &mut [u8], n: usize, event: u8, phase: u8)
+    requires { ⌜ n ≤ 2147483648 ⌝ }
+    ensures { λ _. ⌜ now (out .exit) ≡ fitted (now (out .entry)) (n + 3) (event ∷ phase ∷ []) ⌝ }
+{
+    if out.len() < n + sizes::HANDLER_HEAD {
+        return;
+    }
+    out[n + EVENT] = event;
+    out[n + PHASE] = phase;
+}
+
+// The header of the field from place n to `end`, in front of its value.
+pub fn enclose(out: &mut [u8], n: usize, end: usize, tag: u8)
+    requires { ⌜ n + 3 ≤ end ⌝ }
+    requires { ⌜ length (now out) ≤ 65535 ⌝ }
+    ensures { λ _. ⌜ now (out .exit) ≡ asField tag n end (now (out .entry)) ⌝ }
+{
+    if out.len() < end {
+        return;
+    }
+    put_header(out, n, tag, end - n - sizes::HEADER);
 }
 
 // The bytes from `start` to `end` go on by an application's head, the last first.

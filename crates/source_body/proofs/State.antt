@@ -7,7 +7,6 @@ use mathlib.Core.Option.{Option}
 use mathlib.Core.List.{List, [], _∷_, _++_, map}
 use native.Mathlib.Omega.{arith}
 use lib.ListN.{length, take}
-use lib.Seq.{sets}
 use lib.Dec.{eqb}
 use borrow.Author.Tests.{eqb-true, eq-eqb, ne-eqb}
 use Rattle.lib_base.specs.Basics.{pick}
@@ -30,13 +29,15 @@ use Rattle.source_field.specs.Formula.{FormulaWritten, FormulaRead}
 use Rattle.source_declarations.specs.declared.Rights.the-variants as G
 use Rattle.source_declarations.specs.Declarations.{nameOfEvent}
 use Rattle.source_declarations.specs.Players.{rightsNumber, RightsRead}
+use Rattle.sheet_write.specs.Writes.{fitted, asField, viewerBytes, startBytes}
+use Rattle.sheet_write.proofs.Laws.{none-fitted}
 use Rattle.source_handlers.specs.declared.Part.{Part}
 use Rattle.source_handlers.specs.declared.Part.the-variants.{Done, Fault}
-use Rattle.source_handlers.specs.Parts.{Coding, PartWritten, PartAgrees, PartWithin, DueRead, headed}
+use Rattle.source_handlers.specs.Parts.{Coding, PartWritten, PartAgrees, PartWithin, DueRead}
 use Rattle.source_handlers.specs.Handlers.{handlersCoding, HandlersRead}
 use Rattle.source_handlers.proofs.Events.{past-there}
 use Rattle.source_handlers.proofs.Stages.{due-fails, due-goes, formula-fails, formula-goes}
-use Rattle.source_body.specs.Body.{behaviourCoding, startBytes, bodyTag, viewerBytes, bodyMade, kindRead, startDeclared, StartWordIs, StateRead, PassiveRead, StateDeclared, KindRead, StateWithin}
+use Rattle.source_body.specs.Body.{behaviourCoding, bodyTag, bodyMade, kindRead, startDeclared, StartWordIs, StateRead, PassiveRead, StateDeclared, KindRead, StateWithin}
 use Rattle.source_body.proofs.Steps.{withHandlers, state-steps}
 use Rattle.source_body.proofs.Stages.{rights-fail, rights-go, list-fails, list-goes}
 use Rattle.source_body.proofs.Written.{entry-written}
@@ -63,18 +64,18 @@ module _ (es : List TextEvent) (find : List ℕ → NameMeaning) (c : ℕ) (v : 
   made-code start h cs = rw h (split (eqb c 0) (λ e. rw e refl) (λ e. rw e refl))
 
 module _ (text : List ℕ) (find : List ℕ → NameMeaning) (events : List ℕ) (c start bits at n m : ℕ) (o : List ℕ) where
-  pub state-fails : (q p : List ℕ) (w : ℕ) → HandlersRead text find c events at m (sets o (n + 3) (startBytes c start)) q (Fault w)
+  pub state-fails : (q p : List ℕ) (w : ℕ) → HandlersRead text find c events at m (fitted o (n + 3) (startBytes c start)) q (Fault w)
       → StateRead text find events c start bits at n o p (Fault w)
   state-fails q p w h es held s v r hv hb =
-      list-fails (handlersCoding es find c) (behaviourCoding es find) text m n (sets o (n + 3) (startBytes c start)) q o p (λ hs us. got (behaviour s (bodyMade c v hs) r) us) w
+      list-fails (handlersCoding es find c) (behaviourCoding es find) text m n (fitted o (n + 3) (startBytes c start)) q o p (λ hs us. got (behaviour s (bodyMade c v hs) r) us) w
       (readReactions (afterAll withEvent [] es) (tokensFrom text at)) (h es held)
 
-  pub state-done : (p : List ℕ) (to end stop w : ℕ) → HandlersRead text find c events at m (sets o (n + 3) (startBytes c start)) p (Done to end w)
+  pub state-done : (p : List ℕ) (to end stop w : ℕ) → HandlersRead text find c events at m (fitted o (n + 3) (startBytes c start)) p (Done to end w)
       → m ≡ n + 3 + length (startBytes c start) → length p ≡ length o → length o ≤ 8192 → stop ≡ end + length (viewerBytes bits)
-      → StateRead text find events c start bits at n o (headed (bodyTag c) n stop (sets p end (viewerBytes bits))) (Done to stop w)
+      → StateRead text find events c start bits at n o (asField (bodyTag c) n stop (fitted p end (viewerBytes bits))) (Done to stop w)
   state-done p to end stop w h hm l few hs es held s v r hv hb =
-      list-goes (handlersCoding es find c) (behaviourCoding es find) text m n (sets o (n + 3) (startBytes c start)) p o
-      (headed (bodyTag c) n stop (sets p end (viewerBytes bits))) (λ hs us. got (behaviour s (bodyMade c v hs) r) us) to end w (Done to stop w)
+      list-goes (handlersCoding es find c) (behaviourCoding es find) text m n (fitted o (n + 3) (startBytes c start)) p o
+      (asField (bodyTag c) n stop (fitted p end (viewerBytes bits))) (λ hs us. got (behaviour s (bodyMade c v hs) r) us) to end w (Done to stop w)
       (readReactions (afterAll withEvent [] es) (tokensFrom text at)) (h es held) (λ rs us g.
       entry-written encodeHandlers (madeItem es find c v) (bodyTag c) (startBytes c start) (made-tag es find c v) (made-code es find c v start hv) es find text s (bodyMade c v rs) r
       (clausesOf es find c rs) (reactionsSize rs) n m to end stop w bits o p us (made-item es find c v rs) (made-size es find c v start rs) hb hm (g .size) (g .names) (g .onward)
@@ -134,16 +135,16 @@ module _ (text : List ℕ) (find : List ℕ → NameMeaning) (at n : ℕ) (o : L
           rw (g .onward) (rights-fail (behaviourCoding es find) text n o p (λ m ws. got (behaviour s (passive e) m) ws) u (seenOf (tokensFrom text to)) h)))
 
       pub passive-done : (after bits stop : ℕ) → RightsRead text (G.Given after bits) (seenOf (tokensFrom text to)) → length t ≡ length o → length o ≤ 8192
-          → stop ≡ end + length (viewerBytes bits) → PassiveRead text find at n o (headed 2 n stop (sets t end (viewerBytes bits))) (Done after stop w)
+          → stop ≡ end + length (viewerBytes bits) → PassiveRead text find at n o (asField 2 n stop (fitted t end (viewerBytes bits))) (Done after stop w)
       passive-done after bits stop h l few hs es s =
           rw (passive-steps s)
-          (formula-goes (behaviourCoding es find) text find 0 n (n + 3) o (headed 2 n stop (sets t end (viewerBytes bits))) o t (seenPassive s) to depth end w (Done after stop w)
+          (formula-goes (behaviourCoding es find) text find 0 n (n + 3) o (asField 2 n stop (fitted t end (viewerBytes bits))) o t (seenPassive s) to depth end w (Done after stop w)
           (formulaOf (tokensFrom text next)) read (λ e us g.
           rw (g .onward)
-          (rights-go (behaviourCoding es find) text n o (headed 2 n stop (sets t end (viewerBytes bits))) (λ m ws. got (behaviour s (passive e) m) ws) after bits (Done after stop w)
+          (rights-go (behaviourCoding es find) text n o (asField 2 n stop (fitted t end (viewerBytes bits))) (λ m ws. got (behaviour s (passive e) m) ws) after bits (Done after stop w)
           (seenOf (tokensFrom text to)) h (λ m y.
           entry-written encodeExpr formula 2 [] (λ x. refl) (λ x. refl) es find text s (passive e) m (termOf find 0 e) (phraseSize e) n (n + 3) after end stop w bits o t
-          (tokensFrom text after) refl (omega arith) y (omega arith) (g .size) (g .names) refl (g .bytes) l few hs))))
+          (tokensFrom text after) refl (omega arith) y (omega arith) (g .size) (g .names) refl (rw (none-fitted o (n + 3)) (g .bytes)) l few hs))))
 
 -- ---- by the first word
 

@@ -6,7 +6,6 @@ use mathlib.Core.Option.{Option, none, some}
 use mathlib.Core.List.{List, _++_, append-assoc}
 use native.Mathlib.Omega.{arith}
 use lib.ListN.{length, take}
-use lib.Seq.{sets, length-sets}
 use lib.Dec.{eqb}
 use borrow.Author.Tests.{ne-eqb}
 use Rattle.lib_base.proofs.Tools.{split}
@@ -22,11 +21,11 @@ use Rattle.source_coding.specs.Places.{tokensFrom}
 use Rattle.source_coding.specs.Sizes.{bodySize, viewerSize}
 use Rattle.source_declarations.specs.Players.{rightsNumber}
 use Rattle.source_declarations.proofs.Bits.{bits-below}
-use Rattle.source_declarations.proofs.Writes.{sets-taken}
-use Rattle.source_handlers.specs.Parts.{PartWritten, headed}
-use Rattle.source_handlers.proofs.Bytes.{field-framed}
+use Rattle.sheet_write.specs.Writes.{fitted, asField, viewerBytes, startBytes}
+use Rattle.sheet_write.proofs.Laws.{fitted-taken, fitted-long, enclosed-taken}
+use Rattle.source_handlers.specs.Parts.{PartWritten}
 use Rattle.source_handlers.proofs.Gather.{no-fault}
-use Rattle.source_body.specs.Body.{behaviourCoding, startBytes, viewerBytes}
+use Rattle.source_body.specs.Body.{behaviourCoding}
 
 -- ---- who may see it
 
@@ -54,28 +53,28 @@ twice-made (fine x) wrap v = refl
 
 module _ {X : Type 0} (enc : X → List ℕ) (wrap : X → Item) (t : ℕ) (before : List ℕ) (tagged : (x : X) → tagOf (wrap x) ≡ t) (coded : (x : X) → encodeItem (wrap x) ≡ before ++ enc x) where
   entry-bytes : (v : Option ℕ) (seen : List ℕ) (n m end stop : ℕ) (o p : List ℕ) (a : OrFault X) → seen ≡ encodeViewer v → m ≡ n + 3 + length before
-      → ((x : X) → a ≡ fine x → end ≤ length (sets o (n + 3) before) → take end p ≡ take m (sets o (n + 3) before) ++ enc x) → m ≤ end
+      → ((x : X) → a ≡ fine x → end ≤ length (fitted o (n + 3) before) → take end p ≡ take m (fitted o (n + 3) before) ++ enc x) → m ≤ end
       → length p ≡ length o → length o ≤ 8192 → stop ≡ end + length seen
       → (y : Entry) → andThen (andThen a (λ x. fine (wrap x))) (λ x. fine (entry x v)) ≡ fine y → stop ≤ length o
-      → take stop (headed t n stop (sets p end seen)) ≡ take n o ++ encodeBehaviour y
+      → take stop (asField t n stop (fitted p end seen)) ≡ take n o ++ encodeBehaviour y
   entry-bytes v seen n m end stop o p (fault k i) hv hm f h l b st y e g = absurd (no-fault e)
   entry-bytes v seen n m end stop o p (fine x) hv hm f h l b st y e g =
       let z : y ≡ entry (wrap x) v = cc in
-      let l₁ : length (sets o (n + 3) before) ≡ length o = length-sets o (n + 3) before in
-      let l₂ : length (sets p end seen) ≡ length o = length-sets p end seen ∙ l in
-      let q₁ : take m (sets o (n + 3) before) ≡ take (n + 3) o ++ before = rw hm (sets-taken o (n + 3) before (omega arith)) in
-      let q₂ : take stop (sets p end seen) ≡ take end p ++ seen = rw st (sets-taken p end seen (omega arith)) in
-      let q₃ : take end p ≡ take m (sets o (n + 3) before) ++ enc x = f x refl (omega arith) in
-      let q₄ : take stop (sets p end seen) ≡ take (n + 3) o ++ ((before ++ enc x) ++ seen) = rw (q₂, q₃, q₁) (simp append-assoc) in
+      let l₁ : length (fitted o (n + 3) before) ≡ length o = fitted-long o (n + 3) before in
+      let l₂ : length (fitted p end seen) ≡ length o = fitted-long p end seen ∙ l in
+      let q₁ : take m (fitted o (n + 3) before) ≡ take (n + 3) o ++ before = rw hm (fitted-taken o (n + 3) before (omega arith)) in
+      let q₂ : take stop (fitted p end seen) ≡ take end p ++ seen = rw st (fitted-taken p end seen (omega arith)) in
+      let q₃ : take end p ≡ take m (fitted o (n + 3) before) ++ enc x = f x refl (omega arith) in
+      let q₄ : take stop (fitted p end seen) ≡ take (n + 3) o ++ ((before ++ enc x) ++ seen) = rw (q₂, q₃, q₁) (simp append-assoc) in
       let r : field (tagOf (wrap x)) (encodeItem (wrap x) ++ encodeViewer v) ≡ field t ((before ++ enc x) ++ seen) = rw (tagged x, coded x, hv) in
-      rw (z, r) (field-framed t n stop o (sets p end seen) ((before ++ enc x) ++ seen) (omega arith) g (omega arith) l₂ q₄)
+      rw (z, r) (enclosed-taken t n stop o (fitted p end seen) ((before ++ enc x) ++ seen) (omega arith) g l₂ q₄)
 
   pub entry-written : (es : List TextEvent) (find : List ℕ → NameMeaning) (text s : List ℕ) (body : Body) (v : Option (List ℕ)) (a : OrFault X) (size n m to end stop w bits : ℕ) (o p : List ℕ)
       (us : List SheetToken) → itemOf es find body ≡ andThen a (λ x. fine (wrap x)) → bodySize body ≡ length before + size → bits ≡ rightsNumber v → m ≡ n + 3 + length before
       → end ≡ m + size → w ≡ faultIn a → us ≡ tokensFrom text to
-      → ((x : X) → a ≡ fine x → end ≤ length (sets o (n + 3) before) → take end p ≡ take m (sets o (n + 3) before) ++ enc x)
+      → ((x : X) → a ≡ fine x → end ≤ length (fitted o (n + 3) before) → take end p ≡ take m (fitted o (n + 3) before) ++ enc x)
       → length p ≡ length o → length o ≤ 8192 → stop ≡ end + length (viewerBytes bits)
-      → PartWritten (behaviourCoding es find) text n o (headed t n stop (sets p end (viewerBytes bits))) to stop w (behaviour s body v) us
+      → PartWritten (behaviourCoding es find) text n o (asField t n stop (fitted p end (viewerBytes bits))) to stop w (behaviour s body v) us
   entry-written es find text s body v a size n m to end stop w bits o p us ie bs hb hm he hw ho f l few hs =
       let vb : viewerBytes bits ≡ encodeViewer (rightsOf v) = ap viewerBytes hb ∙ viewer-bytes v in
       let vs : length (viewerBytes bits) ≡ viewerSize v = ap length vb ∙ viewer-size v in

@@ -3,12 +3,12 @@
 use Prim.Native.Nat.{ℕ, _+_, _*_, _≤_, _<_}
 use mathlib.Core.Path.{_≡_}
 use mathlib.Core.Option.{Option}
-use mathlib.Core.List.{List, [], _∷_, map}
+use mathlib.Core.List.{List, [], map}
 use lib.Dec.{eqb}
 use Rattle.lib_base.specs.Basics.{pick}
 use Rattle.spec_language.specs.Sheet.{Entry}
 use Rattle.spec_language.specs.Reading.{entry}
-use Rattle.spec_language.specs.Grammar.{field, word, encodeBehaviour}
+use Rattle.spec_language.specs.Grammar.{encodeBehaviour}
 use Rattle.source_language.specs.Tokens.{SheetToken, equals, passive-word}
 use Rattle.source_language.specs.Text.{TextConstant, Reaction, Body, active, row, TextEvent, TextBehaviour, behaviour}
 use Rattle.source_language.specs.Faults.{OrFault, fine, andThen}
@@ -39,16 +39,9 @@ module _ (es : List TextEvent) (find : List ℕ → NameMeaning) where
   abbrev pub behaviourCoding : Coding TextBehaviour Entry
   behaviourCoding = record { resolved = entryMeant; encoded = encodeBehaviour; sized = behaviourSize }
 
--- a row's count, where there is one, and the value at the start
-abbrev pub startBytes : ℕ → ℕ → List ℕ
-startBytes c w = pick (eqb c 0) (field 4 (word w)) (c ∷ field 4 (word w))
-
+-- an active's tag, or a row's
 abbrev pub bodyTag : ℕ → ℕ
 bodyTag c = pick (eqb c 0) 3 6
-
--- who may see it, by the players' bits, 256 where nothing is said
-abbrev pub viewerBytes : ℕ → List ℕ
-viewerBytes m = pick (eqb m 256) [] (8 ∷ 0 ∷ 1 ∷ m ∷ [])
 
 -- ---- the reader's functions for what stands behind a name and count, a step at a time
 

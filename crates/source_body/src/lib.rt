@@ -1,85 +1,26 @@
 // A behaviour's body, which is what stands behind its name and count, read from left to right, and its field written.
 // Time: one pass over the text, and each name is compared with those declared.
+use sheet_field::sizes;
+use sheet_field::tags;
 use source_coding::signs;
 use source_declarations::Rights;
-use source_declarations::UNSAID;
 use source_declarations::fault_of;
-use source_declarations::put_byte;
 use source_due::Due;
 use source_due::sign_due;
 use source_field::Read;
-use source_handlers::HEAD_BYTES;
 use source_handlers::Part;
-use source_handlers::put_head;
 use source_handlers::refused_formula;
-use spec_language::tags;
 ghost use mathlib.Core.Path.{_≡_};
 ghost use Prim.Native.Nat.{_≤_, _<_, _+_, _*_};
 ghost use lib.ListN.{length};
-ghost use lib.Seq.{sets};
 ghost use Rattle.lib_base.specs.Basics.{All};
-ghost use Rattle.spec_language.specs.Grammar.{field, word};
 ghost use Rattle.source_coding.specs.Places.{tokensFrom};
 ghost use Rattle.source_names.specs.Known.{meaningBy};
 ghost use Rattle.source_handlers.specs.Parts.{DueRead, PartWithin};
-ghost use Rattle.source_body.specs.Body.{startBytes, bodyTag, viewerBytes, startDeclared, StartWordIs, StartWithin, StateRead, StateWithin, PassiveRead, StateDeclared, KindRead, refusedRights};
-
-// What a start value's bytes count, from the last but one on, and where they stand in its field.
-const BYTE: u64 = 256;
-
-const HALF: u64 = 65536;
-
-const THREE_BYTES: u64 = 16777216;
-
-const WORD_BYTES: u8 = 4;
-
-const SECOND: usize = 4;
-
-const THIRD: usize = 5;
-
-const LAST: usize = 6;
-
-// How many bytes a start value's field has, a row's with its count, and a viewers' field.
-const START_BYTES: usize = 7;
-
-const ROW_START_BYTES: usize = 8;
-
-const VIEWER_BYTES: usize = 4;
+ghost use Rattle.source_body.specs.Body.{bodyTag, startDeclared, StartWordIs, StartWithin, StateRead, StateWithin, PassiveRead, StateDeclared, KindRead, refusedRights};
 
 // The word that begins a passive, as what is due tells it.
 const PASSIVE: u64 = signs::PASSIVE as u64;
-
-// The value that an active or a row starts with, from place n on.
-fn put_value(out: &mut [u8], n: usize, w: u64)
-    requires { ⌜ n ≤ 2097152 ⌝ }
-    requires { ⌜ w < 4294967296 ⌝ }
-    ensures { λ _. ⌜ now (out .exit) ≡ sets (now (out .entry)) n (field 4 (word w)) ⌝ }
-{
-    put_byte(out, n, tags::START);
-    put_byte(out, n + 1, 0);
-    put_byte(out, n + 2, WORD_BYTES);
-    put_byte(out, n + 3, (w / THREE_BYTES) as u8);
-    put_byte(out, n + SECOND, (w / HALF % BYTE) as u8);
-    put_byte(out, n + THIRD, (w / BYTE % BYTE) as u8);
-    put_byte(out, n + LAST, (w % BYTE) as u8);
-}
-
-// The same after a row's count, where there is one; the place behind it.
-fn put_start(out: &mut [u8], n: usize, w: u64, cells: usize) -> usize
-    requires { ⌜ n ≤ 1048576 ⌝ }
-    requires { ⌜ w < 4294967296 ⌝ }
-    requires { ⌜ cells ≤ 16 ⌝ }
-    ensures { λ r. ⌜ r ≡ n + length (startBytes cells w) ⌝ }
-    ensures { λ _. ⌜ now (out .exit) ≡ sets (now (out .entry)) n (startBytes cells w) ⌝ }
-{
-    if cells == 0 {
-        put_value(out, n, w);
-        return n + START_BYTES;
-    }
-    put_byte(out, n, cells as u8);
-    put_value(out, n + 1, w);
-    n + ROW_START_BYTES
-}
 
 // The tag of an active's field, or of a row's.
 fn tag_of(cells: usize) -> u8
@@ -89,23 +30,6 @@ fn tag_of(cells: usize) -> u8
         return tags::ACTIVE;
     }
     tags::ROW
-}
-
-// Who may see a behaviour, where it is said; the place behind it.
-fn put_viewer(out: &mut [u8], n: usize, bits: u64) -> usize
-    requires { ⌜ n ≤ 2097152 ⌝ }
-    requires { ⌜ bits ≤ 256 ⌝ }
-    ensures { λ r. ⌜ r ≡ n + length (viewerBytes bits) ⌝ }
-    ensures { λ _. ⌜ now (out .exit) ≡ sets (now (out .entry)) n (viewerBytes bits) ⌝ }
-{
-    if bits == UNSAID {
-        return n;
-    }
-    put_byte(out, n, tags::VIEWERS);
-    put_byte(out, n + 1, 0);
-    put_byte(out, n + 2, 1);
-    put_byte(out, n + 3, bits as u8);
-    n + VIEWER_BYTES
 }
 
 // What may be seen is at fault, and so the part.
@@ -150,7 +74,7 @@ fn passive_at(
         meanings,
         0,
         out,
-        n + HEAD_BYTES,
+        n + sizes::HEADER,
     );
     let Read::Done(f, _, end, w) = r else {
         return refused_formula(r);
@@ -159,8 +83,8 @@ fn passive_at(
     let Rights::Given(to, bits) = s else {
         return refused_rights(s);
     };
-    let stop = put_viewer(out, end, bits);
-    put_head(out, n, stop, tags::PASSIVE);
+    let stop = sheet_write::put_viewers(out, end, bits);
+    sheet_write::enclose(out, n, stop, tags::PASSIVE);
     Part::Done(to, stop, w)
 }
 
@@ -192,13 +116,13 @@ fn state_with(
     ensures { λ r. ⌜ StateWithin (length (now (text .entry))) at n r ⌝ }
     ensures { λ _. ⌜ length (now (out .exit)) ≡ length (now (out .entry)) ⌝ }
 {
-    let m = put_start(out, n + HEAD_BYTES, start, cells);
+    let m = sheet_write::put_start(out, n + sizes::HEADER, start as u32, cells);
     let r = source_handlers::handlers_at(text, at, places, sorted, meanings, cells, events, out, m);
     let Part::Done(to, end, w) = r else {
         return r;
     };
-    let last = put_viewer(out, end, bits);
-    put_head(out, n, last, tag_of(cells));
+    let last = sheet_write::put_viewers(out, end, bits);
+    sheet_write::enclose(out, n, last, tag_of(cells));
     Part::Done(to, last, w)
 }
 

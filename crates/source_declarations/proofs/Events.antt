@@ -7,7 +7,6 @@ use mathlib.Core.Option.{Option, none, some}
 use mathlib.Core.List.{List, [], _∷_, _++_, append-assoc, append-nil, map, map-append}
 use native.Mathlib.Omega.{arith}
 use lib.ListN.{length, take, set, length-set, length-append}
-use lib.Seq.{sets, length-sets}
 use lib.Dec.{leb, eqb}
 use borrow.Author.Tests.{leb-false, ne-eqb, lt-ltb, le-ltb}
 use Rattle.lib_base.proofs.Tools.{split}
@@ -25,7 +24,7 @@ use Rattle.source_due.specs.declared.Due.the-variants as D
 use Rattle.source_due.proofs.Passes.{number-fails}
 use Rattle.source_declarations.specs.Players.{rightsNumber, RightsRead, RightsWithin}
 use Rattle.source_declarations.specs.Declarations.{TextEventRead, EventWithin, sentOf, rankedOf, eventsDeclared, nameOfEvent, EventsRead}
-use Rattle.source_declarations.specs.Written.{eventFieldBytes, dueFault}
+use Rattle.source_declarations.specs.Written.{dueFault}
 use Rattle.source_declarations.specs.declared.Rights.{Rights}
 use Rattle.source_declarations.specs.declared.Rights.the-variants as R
 use Rattle.source_declarations.specs.declared.Event.{Event}
@@ -35,7 +34,9 @@ use Rattle.source_declarations.proofs.Many.{prepended, prepended-none, 
 use Rattle.source_declarations.proofs.Shorter.{leaves-event}
 use Rattle.source_declarations.proofs.Held.{held-count, held-more, named-more}
 use Rattle.source_declarations.proofs.Named.{new-crowded, new-unnamed, new-twice, new-named}
-use Rattle.source_declarations.proofs.Writes.{sets-taken, events-more, sizes-more, event-bytes, event-size}
+use Rattle.sheet_write.specs.Writes.{fitted, eventBytes}
+use Rattle.sheet_write.proofs.Laws.{fitted-taken, fitted-long}
+use Rattle.source_declarations.proofs.Writes.{events-more, sizes-more, event-bytes, event-size}
 
 -- ---- rank and players
 
@@ -235,14 +236,14 @@ events-room {text} {at} {n} {o} {names} {out} {here} {count} {end} d r p v after
 
 -- the bytes of one more event
 one-more : (n : ℕ) (o out out′ : List ℕ) (end end′ : ℕ) (es : List TextEvent) (s : List ℕ) (rank bits : ℕ) (m : Option (List ℕ)) → bits ≡ rightsNumber m → length out ≡ length o
-    → (end ≤ length o → take end out ≡ take n o ++ encodeEvents (map signalOf es)) → out′ ≡ sets out end (eventFieldBytes rank bits) → end′ ≡ end + length (eventFieldBytes rank bits)
+    → (end ≤ length o → take end out ≡ take n o ++ encodeEvents (map signalOf es)) → out′ ≡ fitted out end (eventBytes rank bits) → end′ ≡ end + length (eventBytes rank bits)
     → end′ ≤ length o → take end′ out′ ≡ take n o ++ encodeEvents (map signalOf (es ++ (event s rank m ∷ [])))
 one-more n o out out′ end end′ es s rank bits m b k w f g l =
-    let c : eventFieldBytes rank bits ≡ encodeEvent (signalOf (event s rank m)) = rw b (event-bytes s rank m) in
-    let h : end + length (eventFieldBytes rank bits) ≤ length out = omega arith in
+    let c : eventBytes rank bits ≡ encodeEvent (signalOf (event s rank m)) = rw b (event-bytes s rank m) in
+    let h : end + length (eventBytes rank bits) ≤ length out = omega arith in
     let j : end ≤ length o = omega arith in
-    let first : take end′ out′ ≡ take end out ++ eventFieldBytes rank bits = rw (f, g) (sets-taken out end (eventFieldBytes rank bits) h) in
-    let then : take end out ++ eventFieldBytes rank bits ≡ take n o ++ encodeEvents (map signalOf es) ++ encodeEvent (signalOf (event s rank m)) = rw (w j, c) in
+    let first : take end′ out′ ≡ take end out ++ eventBytes rank bits = rw (f, g) (fitted-taken out end (eventBytes rank bits) h) in
+    let then : take end out ++ eventBytes rank bits ≡ take n o ++ encodeEvents (map signalOf es) ++ encodeEvent (signalOf (event s rank m)) = rw (w j, c) in
     first
     ∙ then
     ∙ append-assoc (take n o) (encodeEvents (map signalOf es)) (encodeEvent (signalOf (event s rank m)))
@@ -264,15 +265,15 @@ sender-small (some ns) = omega arith
 pub events-turn : {text : List ℕ} {at n : ℕ} {o names out : List ℕ} {here count end : ℕ} (d : Due) (r : Event) (p v after q rank bits to : ℕ) (out′ : List ℕ) (end′ : ℕ)
     → EventTurn text at n o names out here count end → SignTold text here event-word d → d ≡ D.Found p v after
     → TextEventRead text r (eventDeclared (namesHeld text names count) (sign p event-word ∷ tokensFrom text after)) → r ≡ E.Named q rank bits to → (here < to) × (to ≤ length text) × (rank ≤ 15) × (bits ≤ 256)
-    → out′ ≡ sets out end (eventFieldBytes rank bits) → end′ ≡ end + length (eventFieldBytes rank bits)
+    → out′ ≡ fitted out end (eventBytes rank bits) → end′ ≡ end + length (eventBytes rank bits)
     → EventTurn text at n o (set names count q) out′ to (count + 1) end′
 events-turn {text} {at} {n} {o} {names} {out} {here} {count} {end} d r p v after q rank bits to out′ end′ t h e g f b j k =
     let x = rw e at h in
     let y = got-in text q rank bits to (eventDeclared (namesHeld text names count) (sign p event-word ∷ tokensFrom text after)) (rw f at g) in
     let l : count < 32 = events-room d r p v after q rank bits to t e g f in
     let c : count < length names = omega (arith, t .kept) in
-    let m : length (eventFieldBytes rank bits) ≡ 4 + senderSize (y .players) =
-    ap (λ z. length (eventFieldBytes rank z)) (y .sent) ∙ ap length (event-bytes (nameAt text q) rank (y .players)) ∙ event-size (nameAt text q) rank (y .players) in
+    let m : length (eventBytes rank bits) ≡ 4 + senderSize (y .players) =
+    ap (λ z. length (eventBytes rank z)) (y .sent) ∙ ap length (event-bytes (nameAt text q) rank (y .players)) ∙ event-size (nameAt text q) rank (y .players) in
     record {
       found = t .found ++ (event (nameAt text q) rank (y .players) ∷ []);
       whole =
@@ -288,6 +289,6 @@ events-turn {text} {at} {n} {o} {names} {out} {here} {count} {end} d r p v after
       kept = rw length-set (t .kept);
       size = rw (sizes-more (t .found) (nameAt text q) rank (y .players)) (omega (arith, t .size));
       written = one-more n o out out′ end end′ (t .found) (nameAt text q) rank bits (y .players) (y .sent) (t .same) (t .written) j k;
-      same = rw j (length-sets out end (eventFieldBytes rank bits) ∙ t .same);
+      same = rw j (fitted-long out end (eventBytes rank bits) ∙ t .same);
       low = omega (arith, t .low, sender-small (y .players));
     }

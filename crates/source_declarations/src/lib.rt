@@ -1,6 +1,7 @@
 // Declarations of a sheet's text before its behaviours: parameters and events, and who may send or see. The places of
 // the names go to lent arrays, the events' fields to the sheet's bytes. Time: one pass over the text, and each name is
 // compared with those before it.
+use sheet_write::UNSAID;
 use source_coding::faults;
 use source_coding::limits;
 use source_coding::signs;
@@ -8,7 +9,6 @@ use source_due::Due;
 use source_due::fault_word;
 use source_tokens::Token;
 use spec_language::limits as sheet;
-use spec_language::tags;
 ghost use mathlib.Core.Path.{_≡_};
 ghost use mathlib.Core.List.{[], _∷_};
 ghost use mathlib.Core.Bool.{_||_};
@@ -22,17 +22,7 @@ ghost use Rattle.source_language.specs.Reader.{morePlayers, playersOf, fromOf, 
 ghost use Rattle.source_coding.specs.Places.{tokensFrom, nameAt, namesHeld};
 ghost use Rattle.source_declarations.specs.Players.{playersSaid, RightsRead, RightsWithin};
 ghost use Rattle.source_declarations.specs.Declarations.{rankedOf, ParameterRead, ParameterWithin, TextEventRead, EventWithin, parametersDeclared, eventsDeclared, ParametersRead, EventsRead, DeclaredWithin};
-ghost use Rattle.source_declarations.specs.Written.{dueFault, eventFieldBytes};
-
-// In place of players' bits, where nothing is said.
-pub const UNSAID: u64 = 256;
-
-const BYTE: usize = 256;
-
-// An event's field where players are said, and where not: how many bytes it has.
-const LONG_EVENT: usize = 5;
-
-const SHORT_EVENT: usize = 4;
+ghost use Rattle.source_declarations.specs.Written.{dueFault};
 
 // Who may send or see: the place behind it, and the players' bits, 256 where nothing is said; or a fault's word.
 pub enum Rights {
@@ -61,25 +51,6 @@ pub fn fault_of(due: Due) -> u64
         return 0;
     };
     w
-}
-
-// A byte of the sheet, where there is room for it: past the end bytes are counted and not written.
-pub fn put_byte(out: &mut [u8], n: usize, b: u8)
-    ensures { λ _. ⌜ now (out .exit) ≡ set (now (out .entry)) n b ⌝ }
-{
-    if n < out.len() {
-        out[n] = b;
-    }
-}
-
-// The head of a field from place n on: its tag, and how many bytes its value has.
-fn put_head(out: &mut [u8], n: usize, tag: u8, bytes: usize)
-    requires { ⌜ n ≤ 4294967296 ⌝ }
-    ensures { λ _. ⌜ now (out .exit) ≡ sets (now (out .entry)) n (tag ∷ (bytes / 256 % 256) ∷ (bytes % 256) ∷ []) ⌝ }
-{
-    put_byte(out, n, tag);
-    put_byte(out, n + 1, (bytes / BYTE % BYTE) as u8);
-    put_byte(out, n + 2, (bytes % BYTE) as u8);
 }
 
 // The bits of players, with the one of this player.
@@ -287,25 +258,6 @@ fn event_at(text: &[u8], p: usize, at: usize, events: &[usize], count: usize) ->
     ranked_at(text, q, next)
 }
 
-// An event's field from place n on, and its end.
-fn put_event(out: &mut [u8], n: usize, rank: u64, bits: u64) -> usize
-    requires { ⌜ n ≤ 1048576 ⌝ }
-    requires { ⌜ rank ≤ 15 ⌝ }
-    requires { ⌜ bits ≤ 256 ⌝ }
-    ensures { λ r. ⌜ r ≡ n + length (eventFieldBytes rank bits) ⌝ }
-    ensures { λ _. ⌜ now (out .exit) ≡ sets (now (out .entry)) n (eventFieldBytes rank bits) ⌝ }
-{
-    if bits == UNSAID {
-        put_head(out, n, tags::EVENT, 1);
-        put_byte(out, n + 3, rank as u8);
-        return n + SHORT_EVENT;
-    }
-    put_head(out, n, tags::EVENT, 2);
-    put_byte(out, n + 3, rank as u8);
-    put_byte(out, n + SHORT_EVENT, bits as u8);
-    n + LONG_EVENT
-}
-
 // The events from place `at` on. The places of their names are the first of `events`; their fields are written from
 // place n on, as far as there is room for each.
 pub fn events_at(text: &[u8], at: usize, events: &mut [usize], out: &mut [u8], n: usize) -> Declared
@@ -333,7 +285,7 @@ pub fn events_at(text: &[u8], at: usize, events: &mut [usize], out: &mut [u8], n
             }
             Event::Named(q, rank, bits, next) => {
                 events[count] = q;
-                end = put_event(out, end, rank, bits);
+                end = sheet_write::put_event(out, end, rank as u8, bits);
                 count = count + 1;
                 here = next;
             }

@@ -2,7 +2,6 @@ pub mod Phrases
 pub mod Steps
 pub mod Faults
 pub mod Names
-pub mod Bytes
 pub mod Gather
 pub mod Events
 pub mod Stages

@@ -3,8 +3,7 @@ use Prim.Native.Nat.{ℕ, suc, _+_, _≤_, _<_}
 use mathlib.Core.Path.{_≡_, refl, sym, ap, _∙_}
 use mathlib.Core.List.{List, [], _∷_, _++_, append-assoc, append-nil}
 use native.Mathlib.Omega.{arith}
-use native.Mathlib.Numerals.{add-one}
-use lib.ListN.{length, take, set, length-set}
+use lib.ListN.{length, take}
 use Rattle.spec_language.specs.Syntax.{Phase}
 use Rattle.spec_language.specs.Sheet.{Term, Clause, clause}
 use Rattle.spec_language.specs.Grammar.{field, encodeExpr, encodePhase, encodeHandler, encodeHandlers}
@@ -17,49 +16,40 @@ use Rattle.source_coding.specs.FaultWords.{faultIn}
 use Rattle.source_coding.specs.Places.{tokensFrom}
 use Rattle.source_coding.specs.Sizes.{phraseSize, reactionsSize}
 use Rattle.source_field.specs.Formula.{FormulaWritten}
-use Rattle.source_declarations.proofs.Writes.{sets-taken}
-use Rattle.source_handlers.specs.Parts.{PartWritten, headed}
+use Rattle.sheet_write.specs.Writes.{fitted, asField}
+use Rattle.sheet_write.proofs.Laws.{fitted-taken, fitted-long, enclosed-taken}
+use Rattle.source_handlers.specs.Parts.{PartWritten}
 use Rattle.source_handlers.specs.Handlers.{clauseOf, handlerCoding, handlersCoding, reactionSize}
 use Rattle.source_handlers.proofs.Faults.{last-behind}
-use Rattle.source_handlers.proofs.Bytes.{field-framed}
 use Rattle.source_handlers.proofs.Gather.{Grows, no-fault}
 use Rattle.source_handlers.proofs.Stages.{made-fault}
 
 -- a handler's event and phase, three bytes behind n
 abbrev pub opened : List ℕ → ℕ → ℕ → ℕ → List ℕ
-opened o n e φ = set (set o (n + 3) e) (n + 4) φ
-
-pub opened-as : (o p q : List ℕ) (n e φ : ℕ) → p ≡ set o (n + 3) e → q ≡ set p (n + 4) φ → q ≡ opened o n e φ
-opened-as o p q n e φ h g = g ∙ ap (λ l. set l (n + 4) φ) h
-
-pub opened-long : (o : List ℕ) (n e φ : ℕ) → length (opened o n e φ) ≡ length o
-opened-long o n e φ = simp length-set
+opened o n e φ = fitted o (n + 3) (e ∷ φ ∷ [])
 
 opened-taken : (o : List ℕ) (n e φ : ℕ) → n + 5 ≤ length o → take (n + 5) (opened o n e φ) ≡ take (n + 3) o ++ (e ∷ φ ∷ [])
-opened-taken o n e φ h =
-    let a : n + 4 ≡ suc (n + 3) = omega arith in
-    let b : n + 5 ≡ n + 3 + 2 = omega arith in
-    rw (a, b) (sets-taken o (n + 3) (e ∷ φ ∷ []) (omega arith))
+opened-taken o n e φ h = let b : n + 5 ≡ n + 3 + 2 = omega arith in rw b (fitted-taken o (n + 3) (e ∷ φ ∷ []) (omega arith))
 
 module _ (es : List TextEvent) (find : List ℕ → NameMeaning) (c : ℕ) where
   handler-bytes : (s : List ℕ) (φ : Phase) (n end : ℕ) (o q : List ℕ) (a : OrFault Term)
       → ((t : Term) → a ≡ fine t → end ≤ length (opened o n (eventNamed es s) (encodePhase φ)) → take end q ≡ take (n + 5) (opened o n (eventNamed es s) (encodePhase φ)) ++ encodeExpr t)
       → n + 5 ≤ end → length o ≤ 8192 → length q ≡ length o
-      → (y : Clause) → andThen a (λ t. fine (clause (eventNamed es s) φ t)) ≡ fine y → end ≤ length o → take end (headed 5 n end q) ≡ take n o ++ encodeHandler y
+      → (y : Clause) → andThen a (λ t. fine (clause (eventNamed es s) φ t)) ≡ fine y → end ≤ length o → take end (asField 5 n end q) ≡ take n o ++ encodeHandler y
   handler-bytes s φ n end o q (fault k i) f h b l y e g = absurd (no-fault e)
   handler-bytes s φ n end o q (fine t) f h b l y e g =
       let z : y ≡ clause (eventNamed es s) φ t = cc in
-      let m : length (opened o n (eventNamed es s) (encodePhase φ)) ≡ length o = simp length-set in
+      let m : length (opened o n (eventNamed es s) (encodePhase φ)) ≡ length o = fitted-long o (n + 3) (eventNamed es s ∷ encodePhase φ ∷ []) in
       let i : take end q ≡ take (n + 3) o ++ (eventNamed es s ∷ encodePhase φ ∷ encodeExpr t) =
       f t refl (omega arith)
       ∙ ap (λ l. l ++ encodeExpr t) (opened-taken o n (eventNamed es s) (encodePhase φ) (omega arith))
       ∙ append-assoc (take (n + 3) o) (eventNamed es s ∷ encodePhase φ ∷ []) (encodeExpr t) in
-      rw z (field-framed 5 n end o q (eventNamed es s ∷ encodePhase φ ∷ encodeExpr t) (omega arith) g (omega arith) l i)
+      rw z (enclosed-taken 5 n end o q (eventNamed es s ∷ encodePhase φ ∷ encodeExpr t) (omega arith) g l i)
 
   pub handler-written : (text : List ℕ) (s : List ℕ) (φ : Phase) (n to depth end w : ℕ) (o q : List ℕ) (e : Phrase) (us : List SheetToken)
       → FormulaWritten text find c (n + 5) (opened o n (eventNamed es s) (encodePhase φ)) q to depth end w e us
       → n + 5 ≤ end → length o ≤ 8192 → length q ≡ length o
-      → PartWritten (handlerCoding es find c) text n o (headed 5 n end q) to end w (on s φ e) us
+      → PartWritten (handlerCoding es find c) text n o (asField 5 n end q) to end w (on s φ e) us
   handler-written text s φ n to depth end w o q e us f h b l =
       record {
         onward = f .onward;

@@ -1,9 +1,9 @@
 -- What the reading of a part of a text promises, whatever the part is: the fault that the reader finds, or the place
 -- behind it, its size, the first fault of its names, and its bytes where there is none and they fit.
-use Prim.Native.Nat.{ℕ, _+_, _-_, _*_, _/_, _%_, _≤_}
+use Prim.Native.Nat.{ℕ, _+_, _*_, _≤_}
 use mathlib.Core.Path.{_≡_}
 use mathlib.Core.List.{List, _++_}
-use lib.ListN.{length, take, set}
+use lib.ListN.{length, take}
 use Rattle.source_language.specs.Tokens.{SheetToken}
 use Rattle.source_language.specs.Faults.{OrFault, fine}
 use Rattle.source_language.specs.Reader.{Phrased, bad, got}
@@ -52,7 +52,3 @@ DueRead P text (D.Found p v next) (got x us) = (us ≡ tokensFrom text next) × 
 abbrev pub refusedRead : Read → Part
 refusedRead (R.Fault w) = Fault w
 refusedRead (R.Done to depth end w) = Fault 0
-
--- the tag of a field from place n to `end`, and its length
-unfoldable pub headed : ℕ → ℕ → ℕ → List ℕ → List ℕ
-headed t n end o = set (set (set o n t) (n + 1) ((end - n - 3) / 256 % 256)) (n + 2) ((end - n - 3) % 256)

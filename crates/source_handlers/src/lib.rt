@@ -1,9 +1,10 @@
 // The handlers of one behaviour, read from left to right, and their fields written. Time: one pass over the text, and
 // each event's name is compared with those declared.
+use sheet_field::sizes;
+use sheet_field::tags;
 use source_coding::faults;
 use source_coding::signs;
 use source_declarations::fault_of;
-use source_declarations::put_byte;
 use source_due::Due;
 use source_due::fault_word;
 use source_due::name_due;
@@ -11,7 +12,6 @@ use source_due::sign_due;
 use source_field::Read;
 use source_field::first_fault;
 use spec_language::limits;
-use spec_language::tags;
 ghost use mathlib.Core.Path.{_≡_};
 ghost use Prim.Native.Nat.{_≤_, _<_, _+_, _*_};
 ghost use lib.ListN.{length};
@@ -19,19 +19,8 @@ ghost use Rattle.lib_base.specs.Basics.{All};
 ghost use Rattle.source_coding.specs.Places.{tokensFrom};
 ghost use Rattle.source_names.specs.Known.{meaningBy};
 ghost use Rattle.source_due.specs.Due.{DueWithin};
-ghost use Rattle.source_handlers.specs.Parts.{PartWithin, DueRead, refusedRead, headed};
+ghost use Rattle.source_handlers.specs.Parts.{PartWithin, DueRead, refusedRead};
 ghost use Rattle.source_handlers.specs.Handlers.{HandledEventRead, HandledEventWithin, PhaseNumbered, PhaseWithin, ColonRead, phaseDeclared, HandlerRead, HandlersRead};
-
-// The bytes of a field before its value, and before an expression in a handler's.
-pub const HEAD_BYTES: usize = 3;
-
-const EVENT_PLACE: usize = 3;
-
-const PHASE_PLACE: usize = 4;
-
-const HANDLER_BYTES: usize = 5;
-
-const BYTE: usize = 256;
 
 const MARKS: usize = limits::EVENTS + 1;
 
@@ -55,17 +44,6 @@ pub fn refused_formula(read: Read) -> Part
         Read::Fault(w) => Part::Fault(w),
         Read::Done(_, _, _, _) => Part::Fault(0),
     }
-}
-
-// A field's tag and length in front of its value, which ends at `end`.
-pub fn put_head(out: &mut [u8], n: usize, end: usize, tag: u8)
-    requires { ⌜ n + 3 ≤ end ⌝ }
-    ensures { λ _. ⌜ now (out .exit) ≡ headed tag n end (now (out .entry)) ⌝ }
-{
-    let long = end - n - HEAD_BYTES;
-    put_byte(out, n, tag);
-    put_byte(out, n + 1, (long / BYTE % BYTE) as u8);
-    put_byte(out, n + 2, (long % BYTE) as u8);
 }
 
 // The event that a handler is for: declared, and `handled` has no mark for its number yet.
@@ -148,8 +126,7 @@ fn body_at(
     let Due::Found(_, phase, next) = d else {
         return Part::Fault(fault_of(d));
     };
-    put_byte(out, n + EVENT_PLACE, e as u8);
-    put_byte(out, n + PHASE_PLACE, phase as u8);
+    sheet_write::put_handler(out, n, e as u8, phase as u8);
     let r = source_formula::formula_at(
         text,
         next,
@@ -158,12 +135,12 @@ fn body_at(
         meanings,
         cells,
         out,
-        n + HANDLER_BYTES,
+        n + sizes::HANDLER_HEAD,
     );
     let Read::Done(to, _, end, w) = r else {
         return refused_formula(r);
     };
-    put_head(out, n, end, tags::HANDLER);
+    sheet_write::enclose(out, n, end, tags::HANDLER);
     Part::Done(to, end, w)
 }
 

@@ -26,7 +26,7 @@ put-pair-requires c κs =
     let at-width = c .before .before in
     let at-loop = at-width .before .before in
     let u = at-loop .loop .inv in
-    ((at-width .width .ensures .1, c .before .width2 .ensures .1, omega (arith, u .few, u .room, u .kept)))
+    (at-width .width .ensures .1, c .before .width2 .ensures .1, omega (arith, u .few, u .room, u .kept), omega (arith, u .few))
 
 add-i : tie.Need-add-i Inv-loop μ-loop
 add-i c =

@@ -1,7 +1,7 @@
 -- Each return is one branch of `pairBytes`.
 use native.Mathlib.Omega.{arith}
 use borrow.Author.Needs.{needs}
-use Rattle.link_events.proofs.Laws.{pair-first, pair-second, pair-none}
+use Rattle.link_events.proofs.Laws.{event-within, event-written, pair-first, pair-second, pair-none}
 use Rattle.link_events.proofs.put_pair.Statement.{statement}
 use Rattle.link_events.proofs.put_pair.Tie as tie
 
@@ -34,8 +34,9 @@ returns c =
     let at-entry = at-sender .before .before .before .before in (
       pair-first (at-entry .args .s .now) (at-entry .args .t .now) (at-entry .args .i) (at-entry .args .a)
           (at-entry .args .j) (at-entry .args .b) (at-sender .sender .ensures) (at-sender2 .sender2 .ensures)
-          (at-merge .merge .ensures) (at-if1 .if1 .taken) (at-rank .rank .ensures) (at-put-event .put-event .ensures .0),
-      at-put-event .put-event .ensures .1,
+          (at-merge .merge .ensures) (at-if1 .if1 .taken) (at-rank .rank .ensures)
+          (event-written (at-entry .args .out .now) _ _ _ _ _ (at-entry .pre .2) (at-put-event .put-event .ensures .0) (at-put-event .put-event .ensures .1)),
+      event-within _ _ _ _ (at-put-event .put-event .ensures .0),
     )
 
 rank-requires-2 : tie.Need-rank-requires-2
@@ -60,8 +61,8 @@ returns-2 c =
       pair-second (at-entry .args .s .now) (at-entry .args .t .now) (at-entry .args .i) (at-entry .args .a)
           (at-entry .args .j) (at-entry .args .b) (at-sender .sender .ensures) (at-sender2 .sender2 .ensures)
           (at-merge .merge .ensures) (at-if1 .if1 .left) (at-if2 .if2 .taken) (at-rank2 .rank2 .ensures)
-          (at-put-event2 .put-event2 .ensures .0),
-      at-put-event2 .put-event2 .ensures .1,
+          (event-written (at-entry .args .out .now) _ _ _ _ _ (at-entry .pre .2) (at-put-event2 .put-event2 .ensures .0) (at-put-event2 .put-event2 .ensures .1)),
+      event-within _ _ _ _ (at-put-event2 .put-event2 .ensures .0),
     )
 
 returns-3 : tie.Need-returns-3

@@ -1,11 +1,11 @@
 -- Stage by stage: `=`, the formula, who may see it, and the head in front.
 use Rattle.source_body.proofs.State.{passive-unsigned, passive-formula, passive-unseen, passive-done}
 use Rattle.source_body.proofs.Written.{viewer-few}
-use Rattle.source_body.specs.Body.{refusedRights, viewerBytes}
-use Rattle.source_handlers.proofs.Bytes.{headed-long}
+use Rattle.source_body.specs.Body.{refusedRights}
+use Rattle.sheet_write.specs.Writes.{viewerBytes}
+use Rattle.sheet_write.proofs.Laws.{fitted-long, enclosed-long}
 use Rattle.source_handlers.specs.Parts.{refusedRead}
 use Rattle.source_declarations.specs.Written.{dueFault}
-use lib.Seq.{length-sets}
 use lib.ListN.{length}
 use mathlib.Core.Path.{ap, _∙_}
 use native.Mathlib.Omega.{arith}
@@ -111,8 +111,8 @@ returns-3 c =
     let g = rw e at (x3 .seen-at .ensures .0) in
     rw (c .refused-rights .ensures ∙ ap refusedRights e) (passive-unseen (a .text .now) (meaningBy (a .text .now) (a .places .now) (a .sorted) (a .meanings .now)) (a .at) (a .n) (a .out .now) _ _ h _ _ _ _ _ f _ _ g, (tt, x9 .formula-at .ensures .1 .1 .1))
 
-put-viewer-requires : tie.Need-put-viewer-requires
-put-viewer-requires c κs =
+put-viewers-requires : tie.Need-put-viewers-requires
+put-viewers-requires c κs =
     let x2 = c .before .before in
     let x4 = x2 .before .before in
     let x6 = x4 .before .before in
@@ -127,13 +127,20 @@ put-viewer-requires c κs =
     let l = p .1 .1 .0 in
     (omega (arith, p .0, p .1 .0), h .2)
 
-put-head-requires : tie.Need-put-head-requires
-put-head-requires c κs =
+enclose-requires : tie.Need-enclose-requires
+enclose-requires c κs =
     let x3 = c .before .before .before in
-    let x10 = x3 .before .before .before .before .before .before .before in
+    let x6 = x3 .before .before .before in
+    let x10 = x6 .before .before .before .before in
     let x14 = x10 .before .before .before .before in
+    let x19 = x14 .before .before .before .before .before in
+    let x24 = x19 .before .before .before .before .before in
     let g = rw (x10 .r .given .1) at (x14 .formula-at .ensures .1 .0) in
-    omega (arith, x3 .put-viewer .ensures .0)
+    let l =
+    ap length (x3 .put-viewers .ensures .1)
+    ∙ fitted-long _ _ (viewerBytes (x6 .s .given .0 .1 .0))
+    ∙ x14 .formula-at .ensures .1 .1 .1 in
+    (omega (arith, x3 .put-viewers .ensures .0), omega (arith, l, x24 .pre .1 .1 .1 .1 .1))
 
 same-length-3 : tie.Need-same-length-3
 same-length-3 c = search needs
@@ -157,9 +164,9 @@ returns-4 c =
     let h = rw (x9 .s .given .1) at (x11 .seen-at .ensures .0) in
     let i = rw (x9 .s .given .1) at (x11 .seen-at .ensures .1) in
     let l = x17 .formula-at .ensures .1 .1 .1 in
-    rw (x2 .put-head .ensures, x6 .put-viewer .ensures .1) (
-      passive-done (a .text .now) (meaningBy (a .text .now) (a .places .now) (a .sorted) (a .meanings .now)) (a .at) (a .n) (a .out .now) _ _ d _ _ _ _ _ f _ _ _ h l (x27 .pre .1 .1 .1 .1 .1) (x6 .put-viewer .ensures .0),
-      (omega (arith, viewer-few (x9 .s .given .0 .1 .0), x6 .put-viewer .ensures .0), headed-long 2 _ _ _ ∙ length-sets _ _ (viewerBytes (x9 .s .given .0 .1 .0)) ∙ l),
+    rw (x2 .enclose .ensures, x6 .put-viewers .ensures .1) (
+      passive-done (a .text .now) (meaningBy (a .text .now) (a .places .now) (a .sorted) (a .meanings .now)) (a .at) (a .n) (a .out .now) _ _ d _ _ _ _ _ f _ _ _ h l (x27 .pre .1 .1 .1 .1 .1) (x6 .put-viewers .ensures .0),
+      (omega (arith, viewer-few (x9 .s .given .0 .1 .0), x6 .put-viewers .ensures .0), enclosed-long 2 _ _ _ ∙ fitted-long _ _ (viewerBytes (x9 .s .given .0 .1 .0)) ∙ l),
     )
 
 pub passive-at-spec : {M : Type 1} → statement M
@@ -184,7 +191,7 @@ passive-at-spec =
     refused-rights-requires
     same-length-2
     returns-3
-    put-viewer-requires
-    put-head-requires
+    put-viewers-requires
+    enclose-requires
     same-length-3
     returns-4)

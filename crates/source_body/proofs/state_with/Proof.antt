@@ -1,9 +1,9 @@
 -- What stands before the handlers, these, who may see it, and the head in front.
 use Rattle.source_body.proofs.State.{state-fails, state-done}
 use Rattle.source_body.proofs.Written.{viewer-few, start-few}
-use Rattle.source_body.specs.Body.{startBytes, viewerBytes, bodyTag}
-use Rattle.source_handlers.proofs.Bytes.{headed-long}
-use lib.Seq.{length-sets}
+use Rattle.source_body.specs.Body.{bodyTag}
+use Rattle.sheet_write.specs.Writes.{startBytes, viewerBytes}
+use Rattle.sheet_write.proofs.Laws.{fitted-long, enclosed-long}
 use lib.ListN.{length}
 use mathlib.Core.Path.{ap, _∙_}
 use native.Mathlib.Omega.{arith}
@@ -15,6 +15,9 @@ use Rattle.source_body.proofs.state_with.Tie as tie
 add-put-start : tie.Need-add-put-start
 add-put-start c = search needs
 
+cast-put-start : tie.Need-cast-put-start
+cast-put-start c = search needs
+
 put-start-requires : tie.Need-put-start-requires
 put-start-requires c κs = search needs
 
@@ -25,7 +28,7 @@ handlers-at-requires c κs =
     let a = x10 .args in
     let p = x10 .pre in
     let z = x3 .put-start .ensures .0 in
-    let l = ap length (x3 .put-start .ensures .1) ∙ length-sets (a .out .now) _ (startBytes (a .cells) (a .start)) in
+    let l = ap length (x3 .put-start .ensures .1) ∙ fitted-long (a .out .now) _ (startBytes (a .cells) (a .start)) in
     let k = p .1 .1 .0 in
     (p .0, (p .1 .0, (omega (arith, start-few (a .cells) (a .start)), (p .1 .1 .1 .0, (p .1 .1 .1 .1 .0, (p .1 .1 .1 .1 .1 .0, omega (arith, l, p .1 .1 .1 .1 .1 .1 .1 .1 .1)))))))
 
@@ -46,11 +49,11 @@ returns c =
     let a = x15 .args in
     let e = c .enum-told .given .1 in
     let h = rw (e, x8 .put-start .ensures .1) at (x4 .handlers-at .ensures .0) in
-    let l = x4 .handlers-at .ensures .1 .1 ∙ ap length (x8 .put-start .ensures .1) ∙ length-sets (a .out .now) _ (startBytes (a .cells) (a .start)) in
+    let l = x4 .handlers-at .ensures .1 .1 ∙ ap length (x8 .put-start .ensures .1) ∙ fitted-long (a .out .now) _ (startBytes (a .cells) (a .start)) in
     rw e (state-fails (a .text .now) (meaningBy (a .text .now) (a .places .now) (a .sorted) (a .meanings .now)) (a .events .now) (a .cells) (a .start) (a .bits) (a .at) (a .n) _ (a .out .now) _ _ _ h, (tt, l))
 
-put-viewer-requires : tie.Need-put-viewer-requires
-put-viewer-requires c κs =
+put-viewers-requires : tie.Need-put-viewers-requires
+put-viewers-requires c κs =
     let x2 = c .before .before in
     let x6 = x2 .before .before .before .before in
     let x10 = x6 .before .before .before .before in
@@ -65,14 +68,22 @@ put-viewer-requires c κs =
 tag-of-requires : tie.Need-tag-of-requires
 tag-of-requires c κs = search needs
 
-put-head-requires : tie.Need-put-head-requires
-put-head-requires c κs =
+enclose-requires : tie.Need-enclose-requires
+enclose-requires c κs =
     let x4 = c .before .before .before .before in
     let x7 = x4 .before .before .before in
     let x11 = x7 .before .before .before .before in
     let x15 = x11 .before .before .before .before in
+    let x22 = x15 .before .before .before .before .before .before .before in
+    let a = x22 .args in
     let g = rw (x7 .r .given .1) at (x11 .handlers-at .ensures .1 .0) in
-    omega (arith, x4 .put-viewer .ensures .0, x15 .put-start .ensures .0)
+    let l =
+    ap length (x4 .put-viewers .ensures .1)
+    ∙ fitted-long _ _ (viewerBytes (a .bits))
+    ∙ x11 .handlers-at .ensures .1 .1
+    ∙ ap length (x15 .put-start .ensures .1)
+    ∙ fitted-long (a .out .now) _ (startBytes (a .cells) (a .start)) in
+    (omega (arith, x4 .put-viewers .ensures .0, x15 .put-start .ensures .0), omega (arith, l, x22 .pre .1 .1 .1 .1 .1 .1 .1 .1 .1))
 
 same-length-2 : tie.Need-same-length-2
 same-length-2 c = search needs
@@ -91,10 +102,10 @@ returns-2 c =
     let z = x18 .put-start .ensures .0 in
     let h = rw (x10 .r .given .1, x18 .put-start .ensures .1) at (x14 .handlers-at .ensures .0) in
     let g = rw (x10 .r .given .1) at (x14 .handlers-at .ensures .1 .0) in
-    let l = x14 .handlers-at .ensures .1 .1 ∙ ap length (x18 .put-start .ensures .1) ∙ length-sets (a .out .now) _ (startBytes (a .cells) (a .start)) in
-    rw (x2 .put-head .ensures, x3 .tag-of .ensures, x7 .put-viewer .ensures .1) (
-      state-done (a .text .now) (meaningBy (a .text .now) (a .places .now) (a .sorted) (a .meanings .now)) (a .events .now) (a .cells) (a .start) (a .bits) (a .at) (a .n) _ (a .out .now) _ _ _ _ _ h z l (p .1 .1 .1 .1 .1 .1 .1 .1 .1) (x7 .put-viewer .ensures .0),
-      (omega (arith, viewer-few (a .bits), start-few (a .cells) (a .start), x7 .put-viewer .ensures .0), headed-long (bodyTag (a .cells)) _ _ _ ∙ length-sets _ _ (viewerBytes (a .bits)) ∙ l),
+    let l = x14 .handlers-at .ensures .1 .1 ∙ ap length (x18 .put-start .ensures .1) ∙ fitted-long (a .out .now) _ (startBytes (a .cells) (a .start)) in
+    rw (x2 .enclose .ensures, x3 .tag-of .ensures, x7 .put-viewers .ensures .1) (
+      state-done (a .text .now) (meaningBy (a .text .now) (a .places .now) (a .sorted) (a .meanings .now)) (a .events .now) (a .cells) (a .start) (a .bits) (a .at) (a .n) _ (a .out .now) _ _ _ _ _ h z l (p .1 .1 .1 .1 .1 .1 .1 .1 .1) (x7 .put-viewers .ensures .0),
+      (omega (arith, viewer-few (a .bits), start-few (a .cells) (a .start), x7 .put-viewers .ensures .0), enclosed-long (bodyTag (a .cells)) _ _ _ ∙ fitted-long _ _ (viewerBytes (a .bits)) ∙ l),
     )
 
 pub state-with-spec : {M : Type 1} → statement M
@@ -102,14 +113,15 @@ state-with-spec =
     tie.close
     (tie.spec
     add-put-start
+    cast-put-start
     put-start-requires
     handlers-at-requires
     enum-known-r
     enum-told
     same-length
     returns
-    put-viewer-requires
+    put-viewers-requires
     tag-of-requires
-    put-head-requires
+    enclose-requires
     same-length-2
     returns-2)

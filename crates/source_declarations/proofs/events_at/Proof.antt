@@ -79,6 +79,14 @@ slice-write-events c =
     let room = events-room _ _ _ _ _ _ _ _ _ turn (word-at call .word .given .1) (call .event-at .ensures .0) (c .before .one2 .given .1) in
     omega (arith, turn .kept)
 
+cast-put-event : tie.Need-cast-put-event Inv-loop μ-loop
+cast-put-event c =
+    let at-one = c .before .before in
+    let call = at-one .before .before in
+    let further = events-onward _ _ _ _ _ _ _ _ _ (turn-at call .loop .inv) (sign-at call .sign-due .ensures .1) (word-at call .word .given .1)
+    (call .event-at .ensures .1) (at-one .one2 .given .1) in
+    omega (arith, further .2)
+
 put-event-requires : tie.Need-put-event-requires Inv-loop μ-loop
 put-event-requires c κs =
     let at-one = c .before .before in
@@ -86,7 +94,7 @@ put-event-requires c κs =
     let turn = turn-at call .loop .inv in
     let further = events-onward _ _ _ _ _ _ _ _ _ turn (sign-at call .sign-due .ensures .1) (word-at call .word .given .1)
     (call .event-at .ensures .1) (at-one .one2 .given .1) in
-    (omega (arith, turn .low, turn .within, turn-at call .before .before .before .before .pre .0), (further .2, further .3))
+    omega (arith, turn .low, turn .within, turn-at call .before .before .before .before .pre .0)
 
 -- an event's field is written: where the event was taken apart, and where it was read
 module _ (c : tie.After-put-event Inv-loop μ-loop) where
@@ -122,4 +130,4 @@ events-at-spec =
     tie.close
     (tie.spec Inv-loop μ-loop loop-holds sign-due-requires (search needs) (search needs) same-length same-length-2 returns
     event-at-requires (search needs) same-length-3 same-length-4 returns-2 (search needs) (search needs) slice-write-events
-    put-event-requires add-count loop-less loop-again)
+    cast-put-event put-event-requires add-count loop-less loop-again)

@@ -1,10 +1,9 @@
 -- Stage by stage: the phase, the formula, and the head in front of them.
 use Rattle.source_names.specs.Known.{meaningBy}
 use lib.ListN.{length}
-use Rattle.source_handlers.proofs.Written.{opened-as, opened-long}
 use native.Mathlib.Omega.{arith}
 use mathlib.Core.Path.{ap, sym, _∙_}
-use Rattle.source_handlers.proofs.Bytes.{headed-long}
+use Rattle.sheet_write.proofs.Laws.{fitted-long, enclosed-long}
 use Rattle.source_handlers.proofs.Body.{phase-refused, formula-refused, handler-read}
 use Rattle.source_handlers.specs.Parts.{refusedRead}
 use Rattle.source_declarations.specs.Written.{dueFault}
@@ -33,26 +32,17 @@ returns c =
     rw (c .fault-of .ensures ∙ ap dueFault e)
     (phase-refused (a .text .now) (meaningBy (a .text .now) (a .places .now) (a .sorted) (a .meanings .now)) (a .cells) (a .e) (a .at) (a .n) (a .out .now) _ _ h, (tt, search needs))
 
-add-put-byte : tie.Need-add-put-byte
-add-put-byte c = search needs
+cast-put-handler : tie.Need-cast-put-handler
+cast-put-handler c = search needs
 
-cast-put-byte : tie.Need-cast-put-byte
-cast-put-byte c = search needs
-
-put-byte-requires : tie.Need-put-byte-requires
-put-byte-requires c κs = search needs
-
-add-put-byte-2 : tie.Need-add-put-byte-2
-add-put-byte-2 c = search needs
-
-cast-put-byte-2 : tie.Need-cast-put-byte-2
-cast-put-byte-2 c =
-    let d = c .before .before .before .before .before .before in
+cast-put-handler-2 : tie.Need-cast-put-handler-2
+cast-put-handler-2 c =
+    let d = c .before .before in
     let g = rw (d .d .given .1) at (d .before .before .phase-due .ensures .1) in
     omega arith
 
-put-byte-requires-2 : tie.Need-put-byte-requires-2
-put-byte-requires-2 c κs = search needs
+put-handler-requires : tie.Need-put-handler-requires
+put-handler-requires c κs = search needs
 
 add-formula-at : tie.Need-add-formula-at
 add-formula-at c = search needs
@@ -60,14 +50,13 @@ add-formula-at c = search needs
 formula-at-requires : tie.Need-formula-at-requires
 formula-at-requires c κs =
     let b = c .before .before .before in
-    let d = b .before .before .before .before .before .before .before in
+    let d = b .before .before .before in
     let q = d .before .before in
     let s = q .before .before .before .before .before in
     let a = s .args in
     let i = rw (d .d .given .1) at (q .phase-due .ensures .1) in
-    let z = opened-as (a .out .now) _ _ (a .n) (a .e) (d .d .given .0 .1 .0) (b .before .before .before .before .put-byte .ensures) (b .put-byte2 .ensures) in
-    let l = ap length z ∙ opened-long (a .out .now) (a .n) (a .e) (d .d .given .0 .1 .0) in
-    (s .pre .0, (i .1, (omega arith, (s .pre .1 .1 .1 .0, (s .pre .1 .1 .1 .1 .0, omega (arith, l))))))
+    let l = ap length (b .put-handler .ensures) ∙ fitted-long (a .out .now) _ _ in
+    (s .pre .0, (i .1, (omega arith, (s .pre .1 .1 .1 .0, (s .pre .1 .1 .1 .1 .0, omega (arith, l, s .pre .1 .1 .1 .1 .1 .1))))))
 
 enum-known-r : tie.Need-enum-known-r
 enum-known-r c = search needs
@@ -85,22 +74,25 @@ returns-2 : tie.Need-returns-2
 returns-2 c =
     let f = c .before .before .before .before .before in
     let b = f .before .before .before .before in
-    let d = b .before .before .before .before .before .before .before in
+    let d = b .before .before .before in
     let q = d .before .before in
     let a = q .before .before .before .before .before .args in
     let e = c .before .enum-told2 .given .1 in
     let h = rw (d .d .given .1) at (q .phase-due .ensures .0) in
     let g = rw e at (f .formula-at .ensures .0) in
     let l = f .formula-at .ensures .1 .1 .1 in
-    let z = opened-as (a .out .now) _ _ (a .n) (a .e) (d .d .given .0 .1 .0) (b .before .before .before .before .put-byte .ensures) (b .put-byte2 .ensures) in
     rw (c .refused-formula .ensures ∙ ap refusedRead e)
-    (formula-refused (a .text .now) (meaningBy (a .text .now) (a .places .now) (a .sorted) (a .meanings .now)) (a .cells) (a .e) (a .at) (a .n) (a .out .now) _ _ _ h _ _ _ _ _ g, (tt, l ∙ ap length z ∙ opened-long (a .out .now) (a .n) (a .e) (d .d .given .0 .1 .0)))
+    (formula-refused (a .text .now) (meaningBy (a .text .now) (a .places .now) (a .sorted) (a .meanings .now)) (a .cells) (a .e) (a .at) (a .n) (a .out .now) _ _ _ h _ _ _ _ _ g, (tt, l ∙ b .put-handler .kept .0))
 
-put-head-requires : tie.Need-put-head-requires
-put-head-requires c κs =
+enclose-requires : tie.Need-enclose-requires
+enclose-requires c κs =
     let f = c .before .before .before .before .before .before in
     let g = rw (c .before .before .r .given .1) at (f .formula-at .ensures .1 .0) in
-    omega arith
+    let b = f .before .before .before .before in
+    let q = b .before .before .before .before .before in
+    let s = q .before .before .before .before .before in
+    let l = f .formula-at .ensures .1 .1 .1 ∙ b .put-handler .kept .0 in
+    (omega arith, omega (arith, l, s .pre .1 .1 .1 .1 .1 .1))
 
 same-length-2 : tie.Need-same-length-2
 same-length-2 c = search needs
@@ -111,19 +103,18 @@ returns-3 c =
     let r = t .before .before .before in
     let f = r .before .before .before .before in
     let b = f .before .before .before .before in
-    let d = b .before .before .before .before .before .before .before in
+    let d = b .before .before .before in
     let q = d .before .before in
     let s = q .before .before .before .before .before in
     let a = s .args in
     let h = rw (d .d .given .1) at (q .phase-due .ensures .0) in
     let i = rw (d .d .given .1) at (q .phase-due .ensures .1) in
-    let z = opened-as (a .out .now) _ _ (a .n) (a .e) (d .d .given .0 .1 .0) (b .before .before .before .before .put-byte .ensures) (b .put-byte2 .ensures) in
-    let g = rw (r .r .given .1, z) at (f .formula-at .ensures .0) in
+    let g = rw (r .r .given .1, b .put-handler .ensures) at (f .formula-at .ensures .0) in
     let k = rw (r .r .given .1) at (f .formula-at .ensures .1 .0) in
-    let l = f .formula-at .ensures .1 .1 .1 ∙ ap length z ∙ opened-long (a .out .now) (a .n) (a .e) (d .d .given .0 .1 .0) in
-    rw (t .put-head .ensures) (
+    let l = f .formula-at .ensures .1 .1 .1 ∙ b .put-handler .kept .0 in
+    rw (t .enclose .ensures) (
       handler-read (a .text .now) (meaningBy (a .text .now) (a .places .now) (a .sorted) (a .meanings .now)) (a .cells) (a .e) (a .at) (a .n) (a .out .now) _ _ _ h _ _ _ _ _ g (omega arith) (s .pre .1 .1 .1 .1 .1 .1) l,
-      (omega arith, headed-long 5 _ _ _ ∙ l),
+      (omega arith, enclosed-long 5 _ _ _ ∙ l),
     )
 
 pub body-at-spec : {M : Type 1} → statement M
@@ -135,12 +126,9 @@ body-at-spec =
     enum-told
     fault-of-requires
     returns
-    add-put-byte
-    cast-put-byte
-    put-byte-requires
-    add-put-byte-2
-    cast-put-byte-2
-    put-byte-requires-2
+    cast-put-handler
+    cast-put-handler-2
+    put-handler-requires
     add-formula-at
     formula-at-requires
     enum-known-r
@@ -148,6 +136,6 @@ body-at-spec =
     refused-formula-requires
     same-length
     returns-2
-    put-head-requires
+    enclose-requires
     same-length-2
     returns-3)
