@@ -36,21 +36,30 @@ pub struct Hint {
     pub count: usize,
 }
 
-// `param`, `passive`, `active` or `row` may begin with these bytes.
-fn may_declare(b: u8, c: u8) -> bool {
-    ((b == b'p') & (c == b'a')) | (((b == b'a') & (c == b'c')) | ((b == b'r') & (c == b'o')))
+// A comment, or one of `param`, `passive`, `active` and `row`, may begin with this byte.
+fn is_sought(b: u8) -> bool {
+    ((b == COMMENT) | (b == b'p')) | ((b == b'a') | (b == b'r'))
 }
 
-// Neither a comment nor such a word begins in a block. All bytes are looked at, so that they can be at once.
+// One of these words may begin with these bytes.
+fn may_declare(b: u8, c: u8) -> bool {
+    match b {
+        b'p' => c == b'a',
+        b'a' => c == b'c',
+        b'r' => c == b'o',
+        _ => false,
+    }
+}
+
+// Nothing is sought in a block. All bytes are looked at, so that they can be at once.
 fn is_idle(text: &[u8], at: usize) -> bool
     requires { ⌜ at + 16 < length (now text) ⌝ }
 {
     let mut sought = false;
     let mut k = 0;
     while k < BLOCK {
-        let b = text[at + k];
+        sought = sought | is_sought(text[at + k]);
         k = k + 1;
-        sought = sought | ((b == COMMENT) | may_declare(b, text[at + k]));
     }
     !sought
 }

@@ -15,6 +15,5 @@ pub is-idle-spec : {M : Type 1} → statement M
 is-idle-spec =
     tie.close
     (tie.spec Inv-loop μ-loop (λ c. omega arith) (λ c. search needs)
-    (λ c. omega (arith, c .before .loop-test .taken, c .before .before .before .before .pre)) (λ c. search needs) (λ c. search needs)
-    (λ c. omega (arith, c .before .before .loop-test .taken, c .before .before .before .before .before .pre)) (λ c κs. search needs)
-    (λ c. omega arith) (λ c. omega arith) (λ c. search needs))
+    (λ c. omega (arith, c .before .loop-test .taken, c .before .before .before .before .pre)) (λ c κs. search needs)
+    (λ c. search needs) (λ c. omega arith) (λ c. omega arith) (λ c. search needs))
