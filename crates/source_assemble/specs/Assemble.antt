@@ -1,4 +1,4 @@
--- assemble's answer as a number, and what the runs of the reading hand to each other.
+-- What the runs of the reading hand to each other, and what assemble answers by it.
 use Prim.Native.Nat.{ℕ, _+_, _*_, _/_, _%_, _≤_}
 use mathlib.Core.Path.{_≡_}
 use mathlib.Core.List.{List, _++_}
@@ -11,6 +11,7 @@ use Rattle.source_language.specs.Faults.{longSheet, shortBuffer, OrFault, fault
 use Rattle.source_language.specs.Meaning.{NameMeaning, meaningOfName}
 use Rattle.source_language.specs.Answer.{lineFrom, columnFrom}
 use Rattle.source_coding.specs.FaultWords.{faultWord}
+use Rattle.source_assemble.specs.AssembleNumber.{assembleNumber}
 
 -- line and column after a byte
 abbrev pub lineAfter : ℕ → ℕ → ℕ
