@@ -199,7 +199,8 @@ SHEET_ROOMS = {"front", "link", "text", "source", "desk"}
 TAGS_BY_LANGUAGE = {"draft_form", "text_formula"}
 OWN_NUMBER = re.compile(r"^(?:pub )?const (\w+): (?:u8|usize) = (?:0x[0-9A-Fa-f]+|\d+);", re.M)
 INDEX = re.compile(r"\w\[([^\[\];]*)\]")
-PLACED = re.compile(r"\b(?:put_byte|byte_from|onward|put_half|get_half|get_at)\(([^;{]*)")
+WRITERS = "put_(?:byte|half|byte_field|word_field|event|viewers|start|handler)|enclose|wrap_application"
+PLACED = re.compile(rf"\b(?:{WRITERS}|byte_from|onward|get_half|get_at)\(([^;{{]*)")
 LENGTH = re.compile(r"\.len\(\)\s*(?:[<>=!]=?|-)\s*([^;{]*)")
 TAG = re.compile(r"(?:\btag\b|\w\[[^\[\];]*\])\s*[<>=!]=?\s*(\w+)\b(?!::)")
 
@@ -462,6 +463,8 @@ PLANTED = [
     ("an offset", "crates/front_rows/src/planted.rt", "fn planted(s: &[u8]) -> u8 {\n    s[3]\n}\n"),
     ("an offset", "crates/link_bytes/src/planted.rt", "const AT: usize = 4;\n\nfn planted(s: &[u8]) {\n    s[0 + AT]\n}\n"),
     ("an offset", "crates/source_walk/src/planted.rt", "fn planted(s: &[u8]) -> u8 {\n    byte_from(s, 0, 3)\n}\n"),
+    ("an offset", "crates/source_body/src/planted.rt", "fn planted(out: &mut [u8], n: usize) {\n    put_viewers(out, n + 3, 0);\n}\n"),
+    ("a width", "crates/source_handlers/src/planted.rt", "const HEAD: usize = 5;\n\nfn planted(s: &[u8]) -> bool {\n    s.len() < HEAD\n}\n"),
     ("a width", "crates/front_viewers/src/planted.rt", "fn planted(s: &[u8]) -> bool {\n    s.len() < 3\n}\n"),
     ("a tag", "crates/source_terms/src/planted.rt", "const ROW: u8 = 6;\n\nfn planted(tag: u8) {\n    tag == ROW\n}\n"),
     ("tags of a sheet's fields", "crates/desk_format/src/planted.rt", "use spec_language::tags;\n"),
