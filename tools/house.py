@@ -8,8 +8,8 @@ Believed and proved are told apart by place: a file under specs/ holds definitio
 checks: no public name that two definitions' files declare, no public name and no dependency that nothing uses, no edit
 that changes nothing and none in two places, no number in the code without a name, no tag, width or offset of a sheet's
 field outside the room sheet, no two rooms that stand on each other, lines of pages and comments at most 120 columns,
-every path and name on the pages there, every edit cited by its crate and label and there, and proof files whose answers
-and places have names.
+every path and name on the pages there, every edit cited by its crate and label and there, functions of at most 7
+parameters with contracts of at most 6 clauses, and proof files whose answers and places have names.
 """
 import collections
 import glob
@@ -177,14 +177,22 @@ LARGEST_BARE = 3
 TABLE_ROW = re.compile(r"\s*(\d+|_) => \d+,$")
 
 
+CLAUSE = re.compile(r"^ *(?:requires|ensures|invariant|decreases)\b.*?[⌝}] *}?$", re.M | re.S)
+
+
+def code_alone(path):
+    """The text of a file with its contracts blanked, line by line."""
+    return CLAUSE.sub(lambda clause: "\n" * clause.group(0).count("\n"), text_of(path))
+
+
 def bare_numbers():
     for path in files_under("crates", ".rt"):
         above = ""
-        for number, line in enumerate(text_of(path).split("\n"), 1):
+        for number, line in enumerate(code_alone(path).split("\n"), 1):
             code = re.sub(r"b'.'", "", line.split("//")[0])
             told = "//" in line or above.strip().startswith("//")
             above = line
-            if re.match(r"\s*((pub )?const|requires|ensures|invariant|decreases|ghost)\b", code) or told or TABLE_ROW.match(code):
+            if re.match(r"\s*((pub )?const|ghost)\b", code) or told or TABLE_ROW.match(code):
                 continue
             for found in LITERAL.finditer(code):
                 if int(found.group(1).replace("_", ""), 0) > LARGEST_BARE:
@@ -223,9 +231,9 @@ def numbers_of_sheets():
         if crate.split("_")[0] not in SHEET_ROOMS:
             continue
         own = {m.group(1) for m in OWN_NUMBER.finditer(text)}
-        for number, line in enumerate(text.split("\n"), 1):
+        for number, line in enumerate(code_alone(path).split("\n"), 1):
             code = re.sub(r"b'.'", "", line.split("//")[0])
-            if re.match(r"\s*((pub )?const|requires|ensures|ghost|use)\b", code):
+            if re.match(r"\s*((pub )?const|ghost|use)\b", code):
                 continue
             places = [m.group(1) for pattern in (INDEX, PLACED) for m in pattern.finditer(code)]
             lengths = [] if crate == "desk_format" else [m.group(1) for m in LENGTH.finditer(code)]
@@ -244,6 +252,41 @@ def wide_lines():
         for number, line in enumerate(text_of(path).split("\n"), 1):
             if len(line) > WIDTH and re.match(r"\s*(--|//)", line):
                 yield f"{path}:{number}: a comment of {len(line)} columns"
+
+
+# ---- the shape of functions and contracts
+
+MOST_PARAMETERS = 7
+MOST_CLAUSES = 6
+CONTRACT_WIDTH = 160
+# functions that have more parameters still
+WITH_MORE = {"put_pair", "put_term", "behaviour_at", "behaviours_at"}
+# crates whose contracts have more clauses or columns still
+CRATES_WITH_MORE = {
+    *("ask_meets", "back_parts", "back_phases", "check_faults", "check_reads", "desk_format", "engine", "link_join"),
+    *("run_deliver", "run_frame", "run_mend", "run_step", "run_validate", "front_behaviours", "text_encode"),
+    *("text_parser", "source_index", "source_assemble", "source_describe", "source_terms", "source_declarations"),
+}
+# its parameters, and its contract as far as the body
+FUNCTION = re.compile(r'^(?:pub )?(?:extern "C" )?fn (\w+)(?:<[^>(]*>)?\(([^()]*)\)(?: -> [^\n]*)?\n(.*?)^{', re.M | re.S)
+
+
+def large_contracts():
+    for path in files_under("crates", ".rt"):
+        if path.split("/")[1] in CRATES_WITH_MORE:
+            continue
+        text = text_of(path)
+        for found in FUNCTION.finditer(text):
+            name, parameters, contract = found.groups()
+            count = len(re.findall(r"\w+: ", parameters))
+            clauses = len(re.findall(r"^ *(?:requires|ensures|decreases)\b", contract, re.M))
+            if count > MOST_PARAMETERS and name not in WITH_MORE:
+                yield f"{path}: {name} has {count} parameters"
+            if clauses > MOST_CLAUSES:
+                yield f"{path}: {name} has a contract of {clauses} clauses"
+        for number, line in enumerate(text.split("\n"), 1):
+            if len(line) > CONTRACT_WIDTH:
+                yield f"{path}:{number}: {len(line)} columns in a contract"
 
 
 def declared_names(theories):
@@ -432,6 +475,7 @@ def all_faults():
     yield from bare_numbers()
     yield from numbers_of_sheets()
     yield from wide_lines()
+    yield from large_contracts()
     yield from unresolved_names(theories)
     yield from unresolved_in_headers(theories)
     yield from crates_without_a_line()
@@ -460,6 +504,9 @@ PLANTED = [
     ("it changes nothing", "crates/lib_word/must-fail/planted.edit", None),
     ("the same label as", "crates/lib_word/must-fail/get_word_by_two.edit", None),
     ("a number without a name", "crates/lib_word/src/planted.rt", "fn planted() -> u32 {\n    17\n}\n"),
+    ("8 parameters", "crates/lib_word/src/planted.rt", "fn planted(\n" + "".join(f"    {a}: u32,\n" for a in "abcdefgh") + ") -> u32\n{\n    a\n}\n"),
+    ("7 clauses", "crates/lib_word/src/planted.rt", "fn planted() -> u32\n" + "    ensures { λ r. ⌜ r ≡ 0 ⌝ }\n" * 7 + "{\n    0\n}\n"),
+    ("columns in a contract", "crates/lib_word/src/planted.rt", "fn planted() -> u32\n    ensures { λ r. ⌜ " + "0 + " * 40 + "0 ≡ r ⌝ }\n{\n    0\n}\n"),
     ("an offset", "crates/front_rows/src/planted.rt", "fn planted(s: &[u8]) -> u8 {\n    s[3]\n}\n"),
     ("an offset", "crates/link_bytes/src/planted.rt", "const AT: usize = 4;\n\nfn planted(s: &[u8]) {\n    s[0 + AT]\n}\n"),
     ("an offset", "crates/source_walk/src/planted.rt", "fn planted(s: &[u8]) -> u8 {\n    byte_from(s, 0, 3)\n}\n"),

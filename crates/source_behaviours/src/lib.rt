@@ -9,6 +9,7 @@ use source_declarations::fault_of;
 use source_due::Due;
 use source_due::fault_word;
 use source_due::sign_due;
+use source_field::Cursor;
 use source_field::first_fault;
 use source_handlers::Part;
 use source_tokens::Token;
@@ -22,7 +23,10 @@ ghost use Rattle.source_coding.specs.Places.{tokensFrom, namesHeld};
 ghost use Rattle.source_names.specs.Known.{meaningBy};
 ghost use Rattle.source_due.specs.Due.{DueWithin};
 ghost use Rattle.source_handlers.specs.Parts.{DueRead};
-ghost use Rattle.source_behaviours.specs.Behaviours.{newName, closedCells, countedCells, cellsSaid, numbersTaken, NamedAt, CountIs, CellsWithin, ClosedWithin, WordRead, WordWithin, BehaviourRead, BehaviourWithin, BehavioursRead, BehavioursWithin, EndFault, refusedPart, refusedBehaviour, refusedBehaviours, refusedDeclared};
+ghost use Rattle.source_behaviours.specs.Behaviours.{newName, closedCells, countedCells, cellsSaid, numbersTaken};
+ghost use Rattle.source_behaviours.specs.Behaviours.{NamedAt, CountIs, CellsWithin, ClosedWithin, WordRead};
+ghost use Rattle.source_behaviours.specs.Behaviours.{WordWithin, BehaviourRead, BehaviourWithin, BehavioursRead, BehavioursWithin};
+ghost use Rattle.source_behaviours.specs.Behaviours.{EndFault, refusedPart, refusedBehaviour, refusedBehaviours, refusedDeclared};
 ghost use Rattle.source_behaviours.specs.Whole.{LookupUsable, TextRead, EndWithin};
 
 // The word that begins a row, as what is due tells it, and how many cells one has.
@@ -58,7 +62,8 @@ fn name_at(text: &[u8], at: usize, names: &[usize], count: usize) -> Due
     requires { ⌜ length (now text) ≤ 65536 ⌝ }
     requires { ⌜ at ≤ length (now text) ⌝ }
     requires { ⌜ count ≤ length (now names) ⌝ }
-    ensures { λ r. ⌜ DueRead (NamedAt (now (text .entry))) (now (text .entry)) r (newName (namesHeld (now (text .entry)) (now (names .entry)) count) (tokensFrom (now (text .entry)) at)) ⌝ }
+    ensures { λ r. ⌜ DueRead (NamedAt (now (text .entry))) (now (text .entry)) r
+        (newName (namesHeld (now (text .entry)) (now (names .entry)) count) (tokensFrom (now (text .entry)) at)) ⌝ }
     ensures { λ r. ⌜ DueWithin (length (now (text .entry))) at r ⌝ }
 {
     let d = source_due::name_due(text, at);
@@ -166,15 +171,13 @@ fn behaviour_at(
 ) -> Behaviour
     requires { ⌜ length (now text) ≤ 65536 ⌝ }
     requires { ⌜ at ≤ length (now text) ⌝ }
-    requires { ⌜ q ≤ at ⌝ }
-    requires { ⌜ i ≤ 64 ⌝ }
-    requires { ⌜ count ≤ length (now names) ⌝ }
-    requires { ⌜ n ≤ at * 16 ⌝ }
-    requires { ⌜ sorted ≤ length (now places) ⌝ }
-    requires { ⌜ All (λ m. m < 8320) (now meanings) ⌝ }
-    requires { ⌜ length (now events) ≤ 32 ⌝ }
-    requires { ⌜ length (now out) ≤ 8192 ⌝ }
-    ensures { λ r. ⌜ BehaviourRead (now (text .entry)) (meaningBy (now (text .entry)) (now (places .entry)) sorted (now (meanings .entry))) (now (events .entry)) (now (names .entry)) count i q word at n (now (out .entry)) (now (out .exit)) r ⌝ }
+    requires { ⌜ (q ≤ at) × ((i ≤ 64)
+        × ((count ≤ length (now names))
+        × ((n ≤ at * 16) × ((sorted ≤ length (now places))
+        × ((All (λ m. m < 8320) (now meanings)) × ((length (now events) ≤ 32) × (length (now out) ≤ 8192))))))) ⌝ }
+    ensures { λ r. ⌜ BehaviourRead (now (text .entry))
+        (meaningBy (now (text .entry)) (now (places .entry)) sorted (now (meanings .entry))) (now (events .entry))
+        (now (names .entry)) count i q word at n (now (out .entry)) (now (out .exit)) r ⌝ }
     ensures { λ r. ⌜ BehaviourWithin (length (now (text .entry))) at n i r ⌝ }
     ensures { λ _. ⌜ length (now (out .exit)) ≡ length (now (out .entry)) ⌝ }
 {
@@ -189,22 +192,19 @@ fn behaviour_at(
     let Due::Found(_, cells, after) = counted else {
         return Behaviour::Fault(fault_of(counted));
     };
-    let r = kind_at(
-        text,
-        after,
-        places,
-        sorted,
-        meanings,
-        events,
-        word,
-        cells as usize,
-        out,
-        n,
-    );
+    let many = cells as usize;
+    let cursor = Cursor {
+        at: after,
+        end: n,
+        sorted: sorted,
+        cells: many,
+        room: limits::NESTING,
+    };
+    let r = kind_at(text, cursor, places, meanings, events, word, out);
     let Part::Done(to, end, w) = r else {
         return refused_part(r);
     };
-    Behaviour::Done(p, numbers_of(cells as usize), to, end, w)
+    Behaviour::Done(p, numbers_of(many), to, end, w)
 }
 
 // A word that begins a behaviour: its place, its sign's number, and the place behind it; else no more than a fault.
@@ -254,19 +254,19 @@ fn behaviours_at(
 ) -> Behaviours
     requires { ⌜ length (now text) ≤ 65536 ⌝ }
     requires { ⌜ at ≤ length (now text) ⌝ }
-    requires { ⌜ n ≤ at * 16 ⌝ }
-    requires { ⌜ sorted ≤ length (now places) ⌝ }
-    requires { ⌜ All (λ m. m < 8320) (now meanings) ⌝ }
-    requires { ⌜ length (now events) ≤ 32 ⌝ }
-    requires { ⌜ length (now names) ≡ 72 ⌝ }
-    requires { ⌜ taken ≤ 8 ⌝ }
-    requires { ⌜ (length (now starts) ≡ 65) × All (λ i. i ≤ 64) (now starts) ⌝ }
-    requires { ⌜ length (now out) ≤ 8192 ⌝ }
-    ensures { λ r. ⌜ BehavioursRead (now (text .entry)) (meaningBy (now (text .entry)) (now (places .entry)) sorted (now (meanings .entry))) (now (events .entry)) at n (now (out .entry)) (now (out .exit)) (now (names .entry)) taken (now (names .exit)) (now (starts .exit)) r ⌝ }
+    requires { ⌜ (n ≤ at * 16) × ((sorted ≤ length (now places))
+        × ((All (λ m. m < 8320) (now meanings))
+        × ((length (now events) ≤ 32)
+        × ((length (now names) ≡ 72)
+        × ((taken ≤ 8) × (((length (now starts) ≡ 65) × All (λ i. i ≤ 64) (now starts))
+        × (length (now out) ≤ 8192))))))) ⌝ }
+    ensures { λ r. ⌜ BehavioursRead (now (text .entry))
+        (meaningBy (now (text .entry)) (now (places .entry)) sorted (now (meanings .entry))) (now (events .entry)) at
+        n (now (out .entry)) (now (out .exit)) (now (names .entry)) taken (now (names .exit)) (now (starts .exit)) r ⌝ }
     ensures { λ r. ⌜ BehavioursWithin (length (now (text .entry))) n taken r ⌝ }
-    ensures { λ _. ⌜ length (now (names .exit)) ≡ 72 ⌝ }
-    ensures { λ _. ⌜ (length (now (starts .exit)) ≡ 65) × All (λ i. i ≤ 64) (now (starts .exit)) ⌝ }
-    ensures { λ _. ⌜ length (now (out .exit)) ≡ length (now (out .entry)) ⌝ }
+    ensures { λ _. ⌜ (length (now (names .exit)) ≡ 72)
+        × (((length (now (starts .exit)) ≡ 65) × All (λ i. i ≤ 64) (now (starts .exit)))
+        × (length (now (out .exit)) ≡ length (now (out .entry)))) ⌝ }
 {
     starts[0] = 0;
     let mut f = at;
@@ -357,14 +357,12 @@ pub fn read_at(
 ) -> Reading
     requires { ⌜ length (now text) ≤ 65536 ⌝ }
     requires { ⌜ LookupUsable (now places) sorted (now meanings) ⌝ }
-    requires { ⌜ length (now names) ≡ 72 ⌝ }
-    requires { ⌜ (length (now starts) ≡ 65) × All (λ i. i ≤ 64) (now starts) ⌝ }
-    requires { ⌜ length (now out) ≤ 8192 ⌝ }
-    ensures { λ r. ⌜ TextRead (now (text .entry)) (meaningBy (now (text .entry)) (now (places .entry)) sorted (now (meanings .entry))) (now (out .entry)) (now (out .exit)) (now (names .exit)) (now (starts .exit)) r (readText (now (text .entry))) ⌝ }
+    requires { ⌜ (length (now names) ≡ 72) × (((length (now starts) ≡ 65) × All (λ i. i ≤ 64) (now starts)) × (length (now out) ≤ 8192)) ⌝ }
+    ensures { λ r. ⌜ TextRead (now (text .entry))
+        (meaningBy (now (text .entry)) (now (places .entry)) sorted (now (meanings .entry))) (now (out .entry))
+        (now (out .exit)) (now (names .exit)) (now (starts .exit)) r (readText (now (text .entry))) ⌝ }
     ensures { λ r. ⌜ EndWithin (length (now (text .entry))) r ⌝ }
-    ensures { λ _. ⌜ length (now (names .exit)) ≡ 72 ⌝ }
-    ensures { λ _. ⌜ length (now (starts .exit)) ≡ 65 ⌝ }
-    ensures { λ _. ⌜ length (now (out .exit)) ≡ length (now (out .entry)) ⌝ }
+    ensures { λ _. ⌜ (length (now (names .exit)) ≡ 72) × ((length (now (starts .exit)) ≡ 65) × (length (now (out .exit)) ≡ length (now (out .entry)))) ⌝ }
 {
     let first = source_declarations::parameters_at(text, 0, names);
     let Declared::Done(a, taken, _) = first else {

@@ -7,17 +7,19 @@ use source_declarations::Rights;
 use source_declarations::fault_of;
 use source_due::Due;
 use source_due::sign_due;
+use source_field::Cursor;
 use source_field::Read;
 use source_handlers::Part;
 use source_handlers::refused_formula;
 ghost use mathlib.Core.Path.{_≡_};
 ghost use Prim.Native.Nat.{_≤_, _<_, _+_, _*_};
 ghost use lib.ListN.{length};
-ghost use Rattle.lib_base.specs.Basics.{All};
 ghost use Rattle.source_coding.specs.Places.{tokensFrom};
 ghost use Rattle.source_names.specs.Known.{meaningBy};
+ghost use Rattle.source_field.specs.Formula.{Readable};
 ghost use Rattle.source_handlers.specs.Parts.{DueRead, PartWithin};
-ghost use Rattle.source_body.specs.Body.{bodyTag, startDeclared, StartWordIs, StartWithin, StateRead, StateWithin, PassiveRead, StateDeclared, KindRead, refusedRights};
+ghost use Rattle.source_body.specs.Body.{bodyTag, startDeclared, StartWordIs, StartWithin, StateRead};
+ghost use Rattle.source_body.specs.Body.{StateWithin, PassiveRead, StateDeclared, KindRead, refusedRights};
 
 // The word that begins a passive, as what is due tells it.
 const PASSIVE: u64 = signs::PASSIVE as u64;
@@ -30,6 +32,12 @@ fn tag_of(cells: usize) -> u8
         return tags::ACTIVE;
     }
     tags::ROW
+}
+
+// The value that an active or a row starts with, and who may see it.
+struct Setting {
+    start: u64,
+    bits: u64,
 }
 
 // What may be seen is at fault, and so the part.
@@ -45,37 +53,29 @@ fn refused_rights(rights: Rights) -> Part
 // A passive from behind its name on.
 fn passive_at(
     text: &[u8],
-    at: usize,
+    cursor: Cursor,
     places: &[usize],
-    sorted: usize,
     meanings: &[usize],
     out: &mut [u8],
-    n: usize,
 ) -> Part
-    requires { ⌜ length (now text) ≤ 65536 ⌝ }
-    requires { ⌜ at ≤ length (now text) ⌝ }
-    requires { ⌜ n ≤ at * 16 ⌝ }
-    requires { ⌜ sorted ≤ length (now places) ⌝ }
-    requires { ⌜ All (λ m. m < 8320) (now meanings) ⌝ }
+    requires { ⌜ Readable (now text) cursor (now places) (now meanings) ⌝ }
     requires { ⌜ length (now out) ≤ 8192 ⌝ }
-    ensures { λ r. ⌜ PassiveRead (now (text .entry)) (meaningBy (now (text .entry)) (now (places .entry)) sorted (now (meanings .entry))) at n (now (out .entry)) (now (out .exit)) r ⌝ }
-    ensures { λ r. ⌜ PartWithin (length (now (text .entry))) at n r ⌝ }
+    ensures { λ r. ⌜ PassiveRead (now (text .entry))
+        (meaningBy (now (text .entry)) (now (places .entry)) (cursor .sorted) (now (meanings .entry)))
+        (cursor .at) (cursor .end) (now (out .entry)) (now (out .exit)) r ⌝ }
+    ensures { λ r. ⌜ PartWithin (length (now (text .entry))) (cursor .at) (cursor .end) r ⌝ }
     ensures { λ _. ⌜ length (now (out .exit)) ≡ length (now (out .entry)) ⌝ }
 {
-    let d = sign_due(text, at, signs::EQUALS);
+    let n = cursor.end;
+    let d = sign_due(text, cursor.at, signs::EQUALS);
     let Due::Found(_, _, next) = d else {
         return Part::Fault(fault_of(d));
     };
-    let r = source_formula::formula_at(
-        text,
-        next,
-        places,
-        sorted,
-        meanings,
-        0,
-        out,
-        n + sizes::HEADER,
-    );
+    let mut formula = cursor;
+    formula.at = next;
+    formula.end = n + sizes::HEADER;
+    formula.cells = 0;
+    let r = source_formula::formula_at(text, formula, places, meanings, out);
     let Read::Done(f, _, end, w) = r else {
         return refused_formula(r);
     };
@@ -91,38 +91,34 @@ fn passive_at(
 // An active, or a row of so many cells, from its handlers on.
 fn state_with(
     text: &[u8],
-    at: usize,
+    cursor: Cursor,
     places: &[usize],
-    sorted: usize,
     meanings: &[usize],
     events: &[usize],
-    cells: usize,
-    start: u64,
-    bits: u64,
+    setting: Setting,
     out: &mut [u8],
-    n: usize,
 ) -> Part
-    requires { ⌜ length (now text) ≤ 65536 ⌝ }
-    requires { ⌜ at ≤ length (now text) ⌝ }
-    requires { ⌜ n + 16 ≤ at * 16 ⌝ }
-    requires { ⌜ sorted ≤ length (now places) ⌝ }
-    requires { ⌜ All (λ m. m < 8320) (now meanings) ⌝ }
-    requires { ⌜ length (now events) ≤ 32 ⌝ }
-    requires { ⌜ cells ≤ 16 ⌝ }
-    requires { ⌜ start < 4294967296 ⌝ }
-    requires { ⌜ bits ≤ 256 ⌝ }
-    requires { ⌜ length (now out) ≤ 8192 ⌝ }
-    ensures { λ r. ⌜ StateRead (now (text .entry)) (meaningBy (now (text .entry)) (now (places .entry)) sorted (now (meanings .entry))) (now (events .entry)) cells start bits at n (now (out .entry)) (now (out .exit)) r ⌝ }
-    ensures { λ r. ⌜ StateWithin (length (now (text .entry))) at n r ⌝ }
+    requires { ⌜ Readable (now text) cursor (now places) (now meanings) ⌝ }
+    requires { ⌜ (cursor .end + 16 ≤ cursor .at * 16) × ((length (now events) ≤ 32) × ((cursor .cells ≤ 16)
+        × ((setting .start < 4294967296) × ((setting .bits ≤ 256) × (length (now out) ≤ 8192))))) ⌝ }
+    ensures { λ r. ⌜ StateRead (now (text .entry))
+        (meaningBy (now (text .entry)) (now (places .entry)) (cursor .sorted) (now (meanings .entry)))
+        (now (events .entry)) (cursor .cells) (setting .start) (setting .bits) (cursor .at) (cursor .end)
+        (now (out .entry)) (now (out .exit)) r ⌝ }
+    ensures { λ r. ⌜ StateWithin (length (now (text .entry))) (cursor .at) (cursor .end) r ⌝ }
     ensures { λ _. ⌜ length (now (out .exit)) ≡ length (now (out .entry)) ⌝ }
 {
-    let m = sheet_write::put_start(out, n + sizes::HEADER, start as u32, cells);
-    let r = source_handlers::handlers_at(text, at, places, sorted, meanings, cells, events, out, m);
+    let n = cursor.end;
+    let mut handlers = cursor;
+    let start = setting.start;
+    let m = sheet_write::put_start(out, n + sizes::HEADER, start as u32, cursor.cells);
+    handlers.end = m;
+    let r = source_handlers::handlers_at(text, handlers, places, meanings, events, out);
     let Part::Done(to, end, w) = r else {
         return r;
     };
-    let last = sheet_write::put_viewers(out, end, bits);
-    sheet_write::enclose(out, n, last, tag_of(cells));
+    let last = sheet_write::put_viewers(out, end, setting.bits);
+    sheet_write::enclose(out, n, last, tag_of(cursor.cells));
     Part::Done(to, last, w)
 }
 
@@ -143,28 +139,21 @@ fn start_due(text: &[u8], at: usize) -> Due
 // An active, or a row of so many cells, from behind its name and count on.
 fn state_at(
     text: &[u8],
-    at: usize,
+    cursor: Cursor,
     places: &[usize],
-    sorted: usize,
     meanings: &[usize],
     events: &[usize],
-    cells: usize,
     out: &mut [u8],
-    n: usize,
 ) -> Part
-    requires { ⌜ length (now text) ≤ 65536 ⌝ }
-    requires { ⌜ at ≤ length (now text) ⌝ }
-    requires { ⌜ n ≤ at * 16 ⌝ }
-    requires { ⌜ sorted ≤ length (now places) ⌝ }
-    requires { ⌜ All (λ m. m < 8320) (now meanings) ⌝ }
-    requires { ⌜ length (now events) ≤ 32 ⌝ }
-    requires { ⌜ cells ≤ 16 ⌝ }
-    requires { ⌜ length (now out) ≤ 8192 ⌝ }
-    ensures { λ r. ⌜ StateDeclared (now (text .entry)) (meaningBy (now (text .entry)) (now (places .entry)) sorted (now (meanings .entry))) (now (events .entry)) cells at n (now (out .entry)) (now (out .exit)) r ⌝ }
-    ensures { λ r. ⌜ PartWithin (length (now (text .entry))) at n r ⌝ }
+    requires { ⌜ Readable (now text) cursor (now places) (now meanings) ⌝ }
+    requires { ⌜ (length (now events) ≤ 32) × ((cursor .cells ≤ 16) × (length (now out) ≤ 8192)) ⌝ }
+    ensures { λ r. ⌜ StateDeclared (now (text .entry))
+        (meaningBy (now (text .entry)) (now (places .entry)) (cursor .sorted) (now (meanings .entry)))
+        (now (events .entry)) (cursor .cells) (cursor .at) (cursor .end) (now (out .entry)) (now (out .exit)) r ⌝ }
+    ensures { λ r. ⌜ PartWithin (length (now (text .entry))) (cursor .at) (cursor .end) r ⌝ }
     ensures { λ _. ⌜ length (now (out .exit)) ≡ length (now (out .entry)) ⌝ }
 {
-    let d = start_due(text, at);
+    let d = start_due(text, cursor.at);
     let Due::Found(_, start, next) = d else {
         return Part::Fault(fault_of(d));
     };
@@ -172,48 +161,35 @@ fn state_at(
     let Rights::Given(to, bits) = s else {
         return refused_rights(s);
     };
-    state_with(
-        text,
-        to,
-        places,
-        sorted,
-        meanings,
-        events,
-        cells,
-        start,
-        bits,
-        out,
-        n,
-    )
+    let mut handlers = cursor;
+    handlers.at = to;
+    let setting = Setting {
+        start: start,
+        bits: bits,
+    };
+    state_with(text, handlers, places, meanings, events, setting, out)
 }
 
 // A behaviour by its first word, from behind its name and count on.
 pub fn kind_at(
     text: &[u8],
-    at: usize,
+    cursor: Cursor,
     places: &[usize],
-    sorted: usize,
     meanings: &[usize],
     events: &[usize],
     word: u64,
-    cells: usize,
     out: &mut [u8],
-    n: usize,
 ) -> Part
-    requires { ⌜ length (now text) ≤ 65536 ⌝ }
-    requires { ⌜ at ≤ length (now text) ⌝ }
-    requires { ⌜ n ≤ at * 16 ⌝ }
-    requires { ⌜ sorted ≤ length (now places) ⌝ }
-    requires { ⌜ All (λ m. m < 8320) (now meanings) ⌝ }
-    requires { ⌜ length (now events) ≤ 32 ⌝ }
-    requires { ⌜ cells ≤ 16 ⌝ }
-    requires { ⌜ length (now out) ≤ 8192 ⌝ }
-    ensures { λ r. ⌜ KindRead (now (text .entry)) (meaningBy (now (text .entry)) (now (places .entry)) sorted (now (meanings .entry))) (now (events .entry)) word cells at n (now (out .entry)) (now (out .exit)) r ⌝ }
-    ensures { λ r. ⌜ PartWithin (length (now (text .entry))) at n r ⌝ }
+    requires { ⌜ Readable (now text) cursor (now places) (now meanings) ⌝ }
+    requires { ⌜ (length (now events) ≤ 32) × ((cursor .cells ≤ 16) × (length (now out) ≤ 8192)) ⌝ }
+    ensures { λ r. ⌜ KindRead (now (text .entry))
+        (meaningBy (now (text .entry)) (now (places .entry)) (cursor .sorted) (now (meanings .entry)))
+        (now (events .entry)) word (cursor .cells) (cursor .at) (cursor .end) (now (out .entry)) (now (out .exit)) r ⌝ }
+    ensures { λ r. ⌜ PartWithin (length (now (text .entry))) (cursor .at) (cursor .end) r ⌝ }
     ensures { λ _. ⌜ length (now (out .exit)) ≡ length (now (out .entry)) ⌝ }
 {
     if word == PASSIVE {
-        return passive_at(text, at, places, sorted, meanings, out, n);
+        return passive_at(text, cursor, places, meanings, out);
     }
-    state_at(text, at, places, sorted, meanings, events, cells, out, n)
+    state_at(text, cursor, places, meanings, events, out)
 }

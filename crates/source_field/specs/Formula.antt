@@ -4,6 +4,7 @@ use Prim.Native.Nat.{ℕ, _+_, _*_, _≤_, _<_}
 use mathlib.Core.Path.{_≡_}
 use mathlib.Core.List.{List, _++_}
 use lib.ListN.{length, take}
+use Rattle.lib_base.specs.Basics.{All}
 use Rattle.spec_language.specs.Sheet.{Term}
 use Rattle.spec_language.specs.Grammar.{encodeExpr}
 use Rattle.source_language.specs.Tokens.{SheetToken}
@@ -15,8 +16,14 @@ use Rattle.source_language.specs.Reader.{Phrased, bad, got}
 use Rattle.source_coding.specs.FaultWords.{faultWord, faultIn}
 use Rattle.source_coding.specs.Places.{tokensFrom}
 use Rattle.source_coding.specs.Sizes.{phraseSize}
+use Rattle.source_field.specs.declared.Cursor.{Cursor}
 use Rattle.source_field.specs.declared.Read.{Read}
 use Rattle.source_field.specs.declared.Read.the-variants.{Done, Fault}
+
+-- a place of a text, and one of the buffer for what follows; names in order and meanings that numbers can say
+abbrev pub Readable : List ℕ → Cursor → List ℕ → List ℕ → Type 0
+Readable text c places meanings =
+    (length text ≤ 65536) × ((c .at ≤ length text) × ((c .end ≤ c .at * 16) × ((c .sorted ≤ length places) × All (λ m. m < 8320) meanings)))
 
 -- the formula e is read up to a place, where names mean what `find` says, in a handler of a row of c cells: its size,
 -- from n on, is counted whatever its names mean; w is their first fault, and without one its bytes stand in p where o

@@ -14,6 +14,16 @@ pub enum Read {
     Fault(u64),
 }
 
+// Where a reading stands: the place in the text, the end of the bytes that are written; how many of the names' places
+// are in order; the cells of the row whose handler this is, else 0; and how many formulas may still nest here.
+pub struct Cursor {
+    pub at: usize,
+    pub end: usize,
+    pub sorted: usize,
+    pub cells: usize,
+    pub room: usize,
+}
+
 // The earlier of two faults' words, where 0 is none.
 pub fn first_fault(v: u64, w: u64) -> u64
     ensures { λ r. ⌜ r ≡ firstFault v w ⌝ }

@@ -9,14 +9,14 @@ use Rattle.source_language.specs.Reader.{pastSign, phraseWithin}
 use Rattle.source_coding.specs.Places.{tokensFrom}
 use Rattle.source_field.specs.Formula.{PartRead}
 use Rattle.source_field.specs.Fields.{underBy}
+use Rattle.source_field.specs.declared.Cursor.{Cursor}
 use Rattle.source_field.specs.declared.Read.{Read}
 use Rattle.source_field.specs.declared.Read.the-variants.{Done, Fault}
 
--- a place of a text, and one of the buffer for what follows; names and numbers that bytes can say; a buffer whose
--- places two bytes can say
-abbrev pub Readable : List ℕ → ℕ → ℕ → List ℕ → ℕ → List ℕ → List ℕ → Type 0
-Readable text at n places sorted meanings out =
-    (length text ≤ 65536) × (at ≤ length text) × (n ≤ at * 16) × (sorted ≤ length places) × All (λ m. m < 8320) meanings × (length out ≤ 65535)
+-- the same, and a buffer whose places two bytes can say
+abbrev pub FormulaReadable : List ℕ → Cursor → List ℕ → List ℕ → List ℕ → Type 0
+FormulaReadable text c places meanings out =
+    (length text ≤ 65536) × (c .at ≤ length text) × (c .end ≤ c .at * 16) × (c .sorted ≤ length places) × All (λ m. m < 8320) meanings × (length out ≤ 65535)
 
 -- a further argument can be read after r
 abbrev pub ArgumentRoom : ℕ → Read → Type 0

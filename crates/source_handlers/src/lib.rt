@@ -9,18 +9,20 @@ use source_due::Due;
 use source_due::fault_word;
 use source_due::name_due;
 use source_due::sign_due;
+use source_field::Cursor;
 use source_field::Read;
 use source_field::first_fault;
 use spec_language::limits;
 ghost use mathlib.Core.Path.{_≡_};
 ghost use Prim.Native.Nat.{_≤_, _<_, _+_, _*_};
 ghost use lib.ListN.{length};
-ghost use Rattle.lib_base.specs.Basics.{All};
 ghost use Rattle.source_coding.specs.Places.{tokensFrom};
 ghost use Rattle.source_names.specs.Known.{meaningBy};
 ghost use Rattle.source_due.specs.Due.{DueWithin};
+ghost use Rattle.source_field.specs.Formula.{Readable};
 ghost use Rattle.source_handlers.specs.Parts.{PartWithin, DueRead, refusedRead};
-ghost use Rattle.source_handlers.specs.Handlers.{HandledEventRead, HandledEventWithin, PhaseNumbered, PhaseWithin, ColonRead, phaseDeclared, HandlerRead, HandlersRead};
+ghost use Rattle.source_handlers.specs.Handlers.{HandledEventRead, HandledEventWithin, PhaseNumbered, PhaseWithin};
+ghost use Rattle.source_handlers.specs.Handlers.{ColonRead, phaseDeclared, HandlerRead, HandlersRead};
 
 const MARKS: usize = limits::EVENTS + 1;
 
@@ -50,8 +52,7 @@ pub fn refused_formula(read: Read) -> Part
 fn event_due(text: &[u8], at: usize, events: &[usize], handled: &[u8]) -> Due
     requires { ⌜ length (now text) ≤ 65536 ⌝ }
     requires { ⌜ at ≤ length (now text) ⌝ }
-    requires { ⌜ length (now events) ≤ 32 ⌝ }
-    requires { ⌜ length (now handled) ≡ 33 ⌝ }
+    requires { ⌜ (length (now events) ≤ 32) × (length (now handled) ≡ 33) ⌝ }
     ensures { λ r. ⌜ HandledEventRead (now (text .entry)) (now (events .entry)) (now (handled .entry)) at r ⌝ }
     ensures { λ r. ⌜ DueWithin (length (now (text .entry))) at r ⌝ }
     ensures { λ r. ⌜ HandledEventWithin (length (now (events .entry))) r ⌝ }
@@ -102,41 +103,30 @@ fn phase_due(text: &[u8], at: usize) -> Due
 // A handler for event e, from its phase on.
 fn body_at(
     text: &[u8],
-    at: usize,
+    cursor: Cursor,
     places: &[usize],
-    sorted: usize,
     meanings: &[usize],
-    cells: usize,
     e: u64,
     out: &mut [u8],
-    n: usize,
 ) -> Part
-    requires { ⌜ length (now text) ≤ 65536 ⌝ }
-    requires { ⌜ at ≤ length (now text) ⌝ }
-    requires { ⌜ n ≤ at * 16 ⌝ }
-    requires { ⌜ sorted ≤ length (now places) ⌝ }
-    requires { ⌜ All (λ m. m < 8320) (now meanings) ⌝ }
-    requires { ⌜ e < 32 ⌝ }
-    requires { ⌜ length (now out) ≤ 8192 ⌝ }
-    ensures { λ r. ⌜ HandlerRead (now (text .entry)) (meaningBy (now (text .entry)) (now (places .entry)) sorted (now (meanings .entry))) cells e at n (now (out .entry)) (now (out .exit)) r ⌝ }
-    ensures { λ r. ⌜ PartWithin (length (now (text .entry))) at n r ⌝ }
+    requires { ⌜ Readable (now text) cursor (now places) (now meanings) ⌝ }
+    requires { ⌜ (e < 32) × (length (now out) ≤ 8192) ⌝ }
+    ensures { λ r. ⌜ HandlerRead (now (text .entry))
+        (meaningBy (now (text .entry)) (now (places .entry)) (cursor .sorted) (now (meanings .entry))) (cursor .cells) e
+        (cursor .at) (cursor .end) (now (out .entry)) (now (out .exit)) r ⌝ }
+    ensures { λ r. ⌜ PartWithin (length (now (text .entry))) (cursor .at) (cursor .end) r ⌝ }
     ensures { λ _. ⌜ length (now (out .exit)) ≡ length (now (out .entry)) ⌝ }
 {
-    let d = phase_due(text, at);
+    let n = cursor.end;
+    let d = phase_due(text, cursor.at);
     let Due::Found(_, phase, next) = d else {
         return Part::Fault(fault_of(d));
     };
     sheet_write::put_handler(out, n, e as u8, phase as u8);
-    let r = source_formula::formula_at(
-        text,
-        next,
-        places,
-        sorted,
-        meanings,
-        cells,
-        out,
-        n + sizes::HANDLER_HEAD,
-    );
+    let mut formula = cursor;
+    formula.at = next;
+    formula.end = n + sizes::HANDLER_HEAD;
+    let r = source_formula::formula_at(text, formula, places, meanings, out);
     let Read::Done(to, _, end, w) = r else {
         return refused_formula(r);
     };
@@ -144,32 +134,26 @@ fn body_at(
     Part::Done(to, end, w)
 }
 
-// All handlers from a place on.
+// All handlers from the cursor on.
 pub fn handlers_at(
     text: &[u8],
-    at: usize,
+    cursor: Cursor,
     places: &[usize],
-    sorted: usize,
     meanings: &[usize],
-    cells: usize,
     events: &[usize],
     out: &mut [u8],
-    n: usize,
 ) -> Part
-    requires { ⌜ length (now text) ≤ 65536 ⌝ }
-    requires { ⌜ at ≤ length (now text) ⌝ }
-    requires { ⌜ n ≤ at * 16 ⌝ }
-    requires { ⌜ sorted ≤ length (now places) ⌝ }
-    requires { ⌜ All (λ m. m < 8320) (now meanings) ⌝ }
-    requires { ⌜ length (now events) ≤ 32 ⌝ }
-    requires { ⌜ length (now out) ≤ 8192 ⌝ }
-    ensures { λ r. ⌜ HandlersRead (now (text .entry)) (meaningBy (now (text .entry)) (now (places .entry)) sorted (now (meanings .entry))) cells (now (events .entry)) at n (now (out .entry)) (now (out .exit)) r ⌝ }
-    ensures { λ r. ⌜ PartWithin (length (now (text .entry))) at n r ⌝ }
+    requires { ⌜ Readable (now text) cursor (now places) (now meanings) ⌝ }
+    requires { ⌜ (length (now events) ≤ 32) × (length (now out) ≤ 8192) ⌝ }
+    ensures { λ r. ⌜ HandlersRead (now (text .entry))
+        (meaningBy (now (text .entry)) (now (places .entry)) (cursor .sorted) (now (meanings .entry))) (cursor .cells)
+        (now (events .entry)) (cursor .at) (cursor .end) (now (out .entry)) (now (out .exit)) r ⌝ }
+    ensures { λ r. ⌜ PartWithin (length (now (text .entry))) (cursor .at) (cursor .end) r ⌝ }
     ensures { λ _. ⌜ length (now (out .exit)) ≡ length (now (out .entry)) ⌝ }
 {
     let mut handled = [0u8; MARKS];
-    let mut f = at;
-    let mut end = n;
+    let mut f = cursor.at;
+    let mut end = cursor.end;
     let mut w = 0u64;
     loop {
         let on = sign_due(text, f, signs::ON);
@@ -180,7 +164,10 @@ pub fn handlers_at(
         let Due::Found(_, e, after) = event else {
             return Part::Fault(fault_of(event));
         };
-        let r = body_at(text, after, places, sorted, meanings, cells, e, out, end);
+        let mut body = cursor;
+        body.at = after;
+        body.end = end;
+        let r = body_at(text, body, places, meanings, e, out);
         let Part::Done(to, stop, v) = r else {
             return r;
         };

@@ -10,6 +10,7 @@ use source_due::fault_word;
 use source_due::number_due;
 use source_due::sign_due;
 use source_due::value_at;
+use source_field::Cursor;
 use source_field::Read;
 use source_names::CELL;
 use source_names::found_in;
@@ -26,8 +27,9 @@ ghost use Rattle.source_language.specs.Reader.{readConstant, cellOf};
 ghost use Rattle.source_coding.specs.Places.{tokensFrom, nameAt, behaviourOrRow};
 ghost use Rattle.source_names.specs.Known.{numberMeans, meaningBy};
 ghost use Rattle.source_due.specs.Due.{DueWithin};
-ghost use Rattle.source_field.specs.Formula.{FormulaRead, FormulaWithin, FewerLeft, PartRead};
-ghost use Rattle.source_operand.specs.Operand.{meantBy, MeaningWithin, LeafAs, LeafWithin, leafDone, leafPlaced, CellDue, NoMoreLeft, plainOf, PlaceWithin, SettledRead};
+ghost use Rattle.source_field.specs.Formula.{Readable, FormulaRead, FormulaWithin, FewerLeft, PartRead};
+ghost use Rattle.source_operand.specs.Operand.{meantBy, MeaningWithin, LeafAs, LeafWithin, leafDone, leafPlaced};
+ghost use Rattle.source_operand.specs.Operand.{CellDue, NoMoreLeft, plainOf, PlaceWithin, SettledRead};
 
 // What a name means: nothing, a parameter, a behaviour, or a row by its first cell and its count.
 pub enum Meaning {
@@ -180,36 +182,39 @@ fn cell_number(text: &[u8], at: usize) -> Due
     Due::Found(p, k, to)
 }
 
-// What stands after the name at p: a cell of it, or nothing of it.
+// What stands after the name at the cursor: a cell of it, or nothing of it.
 fn named_at(
     text: &[u8],
-    p: usize,
+    cursor: Cursor,
     next: usize,
     places: &[usize],
-    sorted: usize,
     meanings: &[usize],
-    cells: usize,
     out: &mut [u8],
-    n: usize,
 ) -> Read
-    requires { ⌜ length (now text) ≤ 65536 ⌝ }
-    requires { ⌜ p < next ⌝ }
-    requires { ⌜ next ≤ length (now text) ⌝ }
-    requires { ⌜ n ≤ 2097152 ⌝ }
-    requires { ⌜ sorted ≤ length (now places) ⌝ }
-    requires { ⌜ All (λ m. m < 8320) (now meanings) ⌝ }
-    ensures { λ r. ⌜ FormulaRead (now (text .entry)) (meaningBy (now (text .entry)) (now (places .entry)) sorted (now (meanings .entry))) cells n (now (out .entry)) (now (out .exit)) r (cellOf p (nameAt (now (text .entry)) p) (tokensFrom (now (text .entry)) next)) ⌝ }
-    ensures { λ r. ⌜ FormulaWithin (length (now (text .entry))) 1 p n r ⌝ }
+    requires { ⌜ Readable (now text) cursor (now places) (now meanings) ⌝ }
+    requires { ⌜ (cursor .at < next) × (next ≤ length (now text)) ⌝ }
+    ensures { λ r. ⌜ FormulaRead (now (text .entry))
+        (meaningBy (now (text .entry)) (now (places .entry)) (cursor .sorted) (now (meanings .entry))) (cursor .cells)
+        (cursor .end) (now (out .entry)) (now (out .exit)) r
+        (cellOf (cursor .at) (nameAt (now (text .entry)) (cursor .at)) (tokensFrom (now (text .entry)) next)) ⌝ }
+    ensures { λ r. ⌜ FormulaWithin (length (now (text .entry))) 1 (cursor .at) (cursor .end) r ⌝ }
     ensures { λ r. ⌜ NoMoreLeft (now (text .entry)) next r ⌝ }
     ensures { λ _. ⌜ length (now (out .exit)) ≡ length (now (out .entry)) ⌝ }
 {
-    let meaning = meaning_of(text, p, places, sorted, meanings);
+    let p = cursor.at;
+    let n = cursor.end;
+    let meaning = meaning_of(text, p, places, cursor.sorted, meanings);
     let bracket = sign_due(text, next, signs::BRACKET);
     let Due::Found(q, c, inside) = bracket else {
         return put_leaf(next, name_leaf(meaning, p), out, n);
     };
     match cell_number(text, inside) {
-        Due::Found(r, k, to) => put_leaf(to, cell_leaf(meaning, p, q, k as usize, cells), out, n),
+        Due::Found(r, k, to) => put_leaf(
+            to,
+            cell_leaf(meaning, p, q, k as usize, cursor.cells),
+            out,
+            n,
+        ),
         Due::Fault(w) => Read::Fault(w),
     }
 }
@@ -219,10 +224,10 @@ fn constant_at(text: &[u8], at: usize, out: &mut [u8], n: usize) -> Read
     requires { ⌜ length (now text) ≤ 65536 ⌝ }
     requires { ⌜ at ≤ length (now text) ⌝ }
     requires { ⌜ n ≤ 2097152 ⌝ }
-    ensures { λ r. ⌜ ((find : List ℕ → NameMeaning) (c : ℕ) → FormulaRead (now (text .entry)) find c n (now (out .entry)) (now (out .exit)) r (readConstant (tokensFrom (now (text .entry)) at))) ⌝ }
+    ensures { λ r. ⌜ ((find : List ℕ → NameMeaning) (c : ℕ) → FormulaRead (now (text .entry)) find c n
+        (now (out .entry)) (now (out .exit)) r (readConstant (tokensFrom (now (text .entry)) at))) ⌝ }
     ensures { λ r. ⌜ FormulaWithin (length (now (text .entry))) 1 at n r ⌝ }
-    ensures { λ r. ⌜ FewerLeft (now (text .entry)) at r ⌝ }
-    ensures { λ _. ⌜ length (now (out .exit)) ≡ length (now (out .entry)) ⌝ }
+    ensures { λ r. ⌜ (FewerLeft (now (text .entry)) at r) × (length (now (out .exit)) ≡ length (now (out .entry))) ⌝ }
 {
     match value_at(text, at) {
         Due::Found(p, word, next) => {
@@ -236,25 +241,26 @@ fn constant_at(text: &[u8], at: usize, out: &mut [u8], n: usize) -> Read
 // A constant, a name or a cell, by its first token.
 fn leaf_at(
     text: &[u8],
-    at: usize,
+    cursor: Cursor,
     places: &[usize],
-    sorted: usize,
     meanings: &[usize],
-    cells: usize,
     out: &mut [u8],
-    n: usize,
 ) -> Read
-    requires { ⌜ length (now text) ≤ 65536 ⌝ }
-    requires { ⌜ at ≤ length (now text) ⌝ }
-    requires { ⌜ n ≤ 2097152 ⌝ }
-    requires { ⌜ sorted ≤ length (now places) ⌝ }
-    requires { ⌜ All (λ m. m < 8320) (now meanings) ⌝ }
-    ensures { λ r. ⌜ PartRead (now (text .entry)) (meaningBy (now (text .entry)) (now (places .entry)) sorted (now (meanings .entry))) cells 1 at n (now (out .entry)) (now (out .exit)) r (plainOf (tokensFrom (now (text .entry)) at)) ⌝ }
+    requires { ⌜ Readable (now text) cursor (now places) (now meanings) ⌝ }
+    ensures { λ r. ⌜ PartRead (now (text .entry))
+        (meaningBy (now (text .entry)) (now (places .entry)) (cursor .sorted) (now (meanings .entry))) (cursor .cells)
+        1 (cursor .at) (cursor .end) (now (out .entry)) (now (out .exit)) r
+        (plainOf (tokensFrom (now (text .entry)) (cursor .at))) ⌝ }
 {
-    match token_at(text, at) {
-        Token::Number(p, v, next) => constant_at(text, at, out, n),
-        Token::Name(p, next) => named_at(text, p, next, places, sorted, meanings, cells, out, n),
-        Token::Sign(p, c, next) => constant_at(text, at, out, n),
+    let n = cursor.end;
+    match token_at(text, cursor.at) {
+        Token::Number(p, v, next) => constant_at(text, cursor.at, out, n),
+        Token::Name(p, next) => {
+            let mut named = cursor;
+            named.at = p;
+            named_at(text, named, next, places, meanings, out)
+        }
+        Token::Sign(p, c, next) => constant_at(text, cursor.at, out, n),
     }
 }
 
@@ -273,21 +279,17 @@ fn settled(text: &[u8], r: Read) -> Read
 // An operand that has no parts: a constant, a name or a cell, up to the token behind it.
 pub fn plain_at(
     text: &[u8],
-    at: usize,
+    cursor: Cursor,
     places: &[usize],
-    sorted: usize,
     meanings: &[usize],
-    cells: usize,
     out: &mut [u8],
-    n: usize,
 ) -> Read
-    requires { ⌜ length (now text) ≤ 65536 ⌝ }
-    requires { ⌜ at ≤ length (now text) ⌝ }
-    requires { ⌜ n ≤ 2097152 ⌝ }
-    requires { ⌜ sorted ≤ length (now places) ⌝ }
-    requires { ⌜ All (λ m. m < 8320) (now meanings) ⌝ }
-    ensures { λ r. ⌜ PartRead (now (text .entry)) (meaningBy (now (text .entry)) (now (places .entry)) sorted (now (meanings .entry))) cells 1 at n (now (out .entry)) (now (out .exit)) r (plainOf (tokensFrom (now (text .entry)) at)) ⌝ }
+    requires { ⌜ Readable (now text) cursor (now places) (now meanings) ⌝ }
+    ensures { λ r. ⌜ PartRead (now (text .entry))
+        (meaningBy (now (text .entry)) (now (places .entry)) (cursor .sorted) (now (meanings .entry))) (cursor .cells)
+        1 (cursor .at) (cursor .end) (now (out .entry)) (now (out .exit)) r
+        (plainOf (tokensFrom (now (text .entry)) (cursor .at))) ⌝ }
 {
-    let r = leaf_at(text, at, places, sorted, meanings, cells, out, n);
+    let r = leaf_at(text, cursor, places, meanings, out);
     settled(text, r)
 }

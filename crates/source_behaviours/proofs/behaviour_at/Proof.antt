@@ -85,7 +85,7 @@ kind-at-requires c κs =
     let g = rw (x6 .name .given .1) at (x8 .name-at .ensures .1) in
     let h = rw (x2 .counted .given .1) at (x4 .cells-at .ensures .1) in
     let l = p .1 .1 .1 .1 .1 .0 in
-    (p .0, (h .1, (omega arith, (p .1 .1 .1 .1 .1 .1 .0, (p .1 .1 .1 .1 .1 .1 .1 .0, (p .1 .1 .1 .1 .1 .1 .1 .1 .0, (h .2, p .1 .1 .1 .1 .1 .1 .1 .1 .1)))))))
+    ((p .0, (h .1, (omega arith, (p .1 .1 .1 .1 .1 .1 .0, p .1 .1 .1 .1 .1 .1 .1 .0)))), (p .1 .1 .1 .1 .1 .1 .1 .1 .0, (h .2, p .1 .1 .1 .1 .1 .1 .1 .1 .1)))
 
 enum-known-r : tie.Need-enum-known-r
 enum-known-r c = search needs

@@ -9,7 +9,7 @@ passive-at-requires : tie.Need-passive-at-requires
 passive-at-requires c κs =
     let x7 = c .before .before .before .before .before .before .before in
     let p = x7 .pre in
-    (p .0, (p .1 .0, (p .1 .1 .0, (p .1 .1 .1 .0, (p .1 .1 .1 .1 .0, p .1 .1 .1 .1 .1 .1 .1)))))
+    (p .0, p .1 .1 .1)
 
 same-length : tie.Need-same-length
 same-length c = search needs
@@ -20,7 +20,7 @@ returns c =
     let x4 = x2 .before .before in
     let x10 = x4 .before .before .before .before .before .before in
     let a = x10 .args in
-    (kind-passive (a .text .now) (meaningBy (a .text .now) (a .places .now) (a .sorted) (a .meanings .now)) (a .events .now) (a .word) (a .cells) (a .at) (a .n) (a .out .now) _ (x2 .passive-at .result) (x4 .if1 .taken) (x2 .passive-at .ensures .0), x2 .passive-at .ensures .1)
+    (kind-passive (a .text .now) (meaningBy (a .text .now) (a .places .now) (a .cursor .sorted) (a .meanings .now)) (a .events .now) (a .word) (a .cursor .cells) (a .cursor .at) (a .cursor .end) (a .out .now) _ (x2 .passive-at .result) (x4 .if1 .taken) (x2 .passive-at .ensures .0), x2 .passive-at .ensures .1)
 
 state-at-requires : tie.Need-state-at-requires
 state-at-requires c κs = search needs
@@ -34,7 +34,7 @@ returns-2 c =
     let x4 = x2 .before .before in
     let x10 = x4 .before .before .before .before .before .before in
     let a = x10 .args in
-    (kind-state (a .text .now) (meaningBy (a .text .now) (a .places .now) (a .sorted) (a .meanings .now)) (a .events .now) (a .word) (a .cells) (a .at) (a .n) (a .out .now) _ (x2 .state-at .result) (x4 .if1 .left) (x2 .state-at .ensures .0), x2 .state-at .ensures .1)
+    (kind-state (a .text .now) (meaningBy (a .text .now) (a .places .now) (a .cursor .sorted) (a .meanings .now)) (a .events .now) (a .word) (a .cursor .cells) (a .cursor .at) (a .cursor .end) (a .out .now) _ (x2 .state-at .result) (x4 .if1 .left) (x2 .state-at .ensures .0), x2 .state-at .ensures .1)
 
 pub kind-at-spec : {M : Type 1} → statement M
 kind-at-spec =

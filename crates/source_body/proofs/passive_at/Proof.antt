@@ -34,10 +34,10 @@ returns c =
     let a = x8 .args in
     let e = x1 .enum-told .given .1 in
     let h = rw e at (x3 .sign-due .ensures .0) in
-    rw (c .fault-of .ensures ∙ ap dueFault e) (passive-unsigned (a .text .now) (meaningBy (a .text .now) (a .places .now) (a .sorted) (a .meanings .now)) (a .at) (a .n) (a .out .now) _ _ h, (tt, search needs))
+    rw (c .fault-of .ensures ∙ ap dueFault e) (passive-unsigned (a .text .now) (meaningBy (a .text .now) (a .places .now) (a .cursor .sorted) (a .meanings .now)) (a .cursor .at) (a .cursor .end) (a .out .now) _ _ h, (tt, search needs))
 
-add-formula-at : tie.Need-add-formula-at
-add-formula-at c = search needs
+add-formula : tie.Need-add-formula
+add-formula c = search needs
 
 formula-at-requires : tie.Need-formula-at-requires
 formula-at-requires c κs =
@@ -46,8 +46,8 @@ formula-at-requires c κs =
     let x9 = x4 .before .before .before .before .before in
     let p = x9 .pre in
     let g = rw (x2 .d .given .1) at (x4 .sign-due .ensures .1) in
-    let l = p .1 .1 .0 in
-    (p .0, (g .2, (omega arith, (p .1 .1 .1 .0, (p .1 .1 .1 .1 .0, omega (arith, p .1 .1 .1 .1 .1))))))
+    let l = p .0 .1 .1 .0 in
+    ((p .0 .0, (g .2, (omega arith, (p .0 .1 .1 .1 .0, p .0 .1 .1 .1 .1)))), omega (arith, p .1))
 
 enum-known-r : tie.Need-enum-known-r
 enum-known-r c = search needs
@@ -72,7 +72,7 @@ returns-2 c =
     let e = x1 .enum-told2 .given .1 in
     let h = rw (x8 .d .given .1) at (x10 .sign-due .ensures .0) in
     let f = rw e at (x5 .formula-at .ensures .0) in
-    rw (c .refused-formula .ensures ∙ ap refusedRead e) (passive-formula (a .text .now) (meaningBy (a .text .now) (a .places .now) (a .sorted) (a .meanings .now)) (a .at) (a .n) (a .out .now) _ _ h _ _ _ _ _ f, (tt, x5 .formula-at .ensures .1 .1 .1))
+    rw (c .refused-formula .ensures ∙ ap refusedRead e) (passive-formula (a .text .now) (meaningBy (a .text .now) (a .places .now) (a .cursor .sorted) (a .meanings .now)) (a .cursor .at) (a .cursor .end) (a .out .now) _ _ h _ _ _ _ _ f, (tt, x5 .formula-at .ensures .1 .1 .1))
 
 seen-at-requires : tie.Need-seen-at-requires
 seen-at-requires c κs =
@@ -81,7 +81,7 @@ seen-at-requires c κs =
     let y14 = x5 .before .before .before .before .before .before .before .before .before in
     let x15 = y14 .before in
     let g = rw (x1 .r .given .1) at (x5 .formula-at .ensures .1 .0) in
-    (x15 .pre .0, g .1)
+    (x15 .pre .0 .0, g .1)
 
 enum-known-s : tie.Need-enum-known-s
 enum-known-s c = search needs
@@ -109,7 +109,7 @@ returns-3 c =
     let h = rw (x12 .d .given .1) at (x14 .sign-due .ensures .0) in
     let f = rw (x5 .r .given .1) at (x9 .formula-at .ensures .0) in
     let g = rw e at (x3 .seen-at .ensures .0) in
-    rw (c .refused-rights .ensures ∙ ap refusedRights e) (passive-unseen (a .text .now) (meaningBy (a .text .now) (a .places .now) (a .sorted) (a .meanings .now)) (a .at) (a .n) (a .out .now) _ _ h _ _ _ _ _ f _ _ g, (tt, x9 .formula-at .ensures .1 .1 .1))
+    rw (c .refused-rights .ensures ∙ ap refusedRights e) (passive-unseen (a .text .now) (meaningBy (a .text .now) (a .places .now) (a .cursor .sorted) (a .meanings .now)) (a .cursor .at) (a .cursor .end) (a .out .now) _ _ h _ _ _ _ _ f _ _ g, (tt, x9 .formula-at .ensures .1 .1 .1))
 
 put-viewers-requires : tie.Need-put-viewers-requires
 put-viewers-requires c κs =
@@ -124,8 +124,8 @@ put-viewers-requires c κs =
     let d = rw (x13 .d .given .1) at (x15 .sign-due .ensures .1) in
     let g = rw (x6 .r .given .1) at (x10 .formula-at .ensures .1 .0) in
     let h = rw (x2 .s .given .1) at (x4 .seen-at .ensures .1) in
-    let l = p .1 .1 .0 in
-    (omega (arith, p .0, p .1 .0), h .2)
+    let l = p .0 .1 .1 .0 in
+    (omega (arith, p .0 .0, p .0 .1 .0), h .2)
 
 enclose-requires : tie.Need-enclose-requires
 enclose-requires c κs =
@@ -140,7 +140,7 @@ enclose-requires c κs =
     ap length (x3 .put-viewers .ensures .1)
     ∙ fitted-long _ _ (viewerBytes (x6 .s .given .0 .1 .0))
     ∙ x14 .formula-at .ensures .1 .1 .1 in
-    (omega (arith, x3 .put-viewers .ensures .0), omega (arith, l, x24 .pre .1 .1 .1 .1 .1))
+    (omega (arith, x3 .put-viewers .ensures .0), omega (arith, l, x24 .pre .1))
 
 same-length-3 : tie.Need-same-length-3
 same-length-3 c = search needs
@@ -165,7 +165,7 @@ returns-4 c =
     let i = rw (x9 .s .given .1) at (x11 .seen-at .ensures .1) in
     let l = x17 .formula-at .ensures .1 .1 .1 in
     rw (x2 .enclose .ensures, x6 .put-viewers .ensures .1) (
-      passive-done (a .text .now) (meaningBy (a .text .now) (a .places .now) (a .sorted) (a .meanings .now)) (a .at) (a .n) (a .out .now) _ _ d _ _ _ _ _ f _ _ _ h l (x27 .pre .1 .1 .1 .1 .1) (x6 .put-viewers .ensures .0),
+      passive-done (a .text .now) (meaningBy (a .text .now) (a .places .now) (a .cursor .sorted) (a .meanings .now)) (a .cursor .at) (a .cursor .end) (a .out .now) _ _ d _ _ _ _ _ f _ _ _ h l (x27 .pre .1) (x6 .put-viewers .ensures .0),
       (omega (arith, viewer-few (x9 .s .given .0 .1 .0), x6 .put-viewers .ensures .0), enclosed-long 2 _ _ _ ∙ fitted-long _ _ (viewerBytes (x9 .s .given .0 .1 .0)) ∙ l),
     )
 
@@ -178,7 +178,7 @@ passive-at-spec =
     enum-told
     fault-of-requires
     returns
-    add-formula-at
+    add-formula
     formula-at-requires
     enum-known-r
     enum-told-2

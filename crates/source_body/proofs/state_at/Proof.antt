@@ -29,7 +29,7 @@ returns c =
     let a = x9 .args in
     let e = x1 .enum-told .given .1 in
     let h = rw e at (x3 .start-due .ensures .0) in
-    rw (c .fault-of .ensures ∙ ap dueFault e) (start-refused (a .text .now) (meaningBy (a .text .now) (a .places .now) (a .sorted) (a .meanings .now)) (a .events .now) (a .cells) (a .at) (a .n) (a .out .now) _ _ h, (tt, search needs))
+    rw (c .fault-of .ensures ∙ ap dueFault e) (start-refused (a .text .now) (meaningBy (a .text .now) (a .places .now) (a .cursor .sorted) (a .meanings .now)) (a .events .now) (a .cursor .cells) (a .cursor .at) (a .cursor .end) (a .out .now) _ _ h, (tt, search needs))
 
 seen-at-requires : tie.Need-seen-at-requires
 seen-at-requires c κs =
@@ -37,7 +37,7 @@ seen-at-requires c κs =
     let x3 = x1 .before .before in
     let x9 = x3 .before .before .before .before .before .before in
     let g = rw (x1 .d .given .1) at (x3 .start-due .ensures .1) in
-    (x9 .pre .0, g .1)
+    (x9 .pre .0 .0, g .1)
 
 enum-known-s : tie.Need-enum-known-s
 enum-known-s c = search needs
@@ -59,7 +59,7 @@ returns-2 c =
     let e = x1 .enum-told2 .given .1 in
     let d = rw (x5 .d .given .1) at (x7 .start-due .ensures .0) in
     let h = rw e at (x3 .seen-at .ensures .0) in
-    rw (c .refused-rights .ensures ∙ ap refusedRights e) (seen-refused (a .text .now) (meaningBy (a .text .now) (a .places .now) (a .sorted) (a .meanings .now)) (a .events .now) (a .cells) (a .at) (a .n) (a .out .now) _ _ _ d _ _ h, (tt, search needs))
+    rw (c .refused-rights .ensures ∙ ap refusedRights e) (seen-refused (a .text .now) (meaningBy (a .text .now) (a .places .now) (a .cursor .sorted) (a .meanings .now)) (a .events .now) (a .cursor .cells) (a .cursor .at) (a .cursor .end) (a .out .now) _ _ _ d _ _ h, (tt, search needs))
 
 state-with-requires : tie.Need-state-with-requires
 state-with-requires c κs =
@@ -71,8 +71,8 @@ state-with-requires c κs =
     let p = x14 .pre in
     let g = rw (x6 .d .given .1) at (x8 .start-due .ensures .1) in
     let h = rw (x2 .s .given .1) at (x4 .seen-at .ensures .1) in
-    let l = p .1 .1 .0 in
-    (p .0, (h .1, (omega arith, (p .1 .1 .1 .0, (p .1 .1 .1 .1 .0, (p .1 .1 .1 .1 .1 .0, (p .1 .1 .1 .1 .1 .1 .0, (g .2, (h .2, p .1 .1 .1 .1 .1 .1 .1)))))))))
+    let l = p .0 .1 .1 .0 in
+    ((p .0 .0, (h .1, (omega arith, (p .0 .1 .1 .1 .0, p .0 .1 .1 .1 .1)))), (omega arith, (p .1 .0, (p .1 .1 .0, (g .2, (h .2, p .1 .1 .1))))))
 
 same-length : tie.Need-same-length
 same-length c = search needs
@@ -90,7 +90,7 @@ returns-3 c =
     let g = rw (x9 .d .given .1) at (x11 .start-due .ensures .1) in
     let h = rw (x5 .s .given .1) at (x7 .seen-at .ensures .0) in
     let i = rw (x5 .s .given .1) at (x7 .seen-at .ensures .1) in
-    (state-read (a .text .now) (meaningBy (a .text .now) (a .places .now) (a .sorted) (a .meanings .now)) (a .events .now) (a .cells) (a .at) (a .n) (a .out .now) _ _ _ d _ _ _ (x2 .state-with .result) h (x2 .state-with .ensures .0), (state-within _ _ _ _ _ (x2 .state-with .result) (g .0) (i .0) (x2 .state-with .ensures .1 .0), x2 .state-with .ensures .1 .1))
+    (state-read (a .text .now) (meaningBy (a .text .now) (a .places .now) (a .cursor .sorted) (a .meanings .now)) (a .events .now) (a .cursor .cells) (a .cursor .at) (a .cursor .end) (a .out .now) _ _ _ d _ _ _ (x2 .state-with .result) h (x2 .state-with .ensures .0), (state-within _ _ _ _ _ (x2 .state-with .result) (g .0) (i .0) (x2 .state-with .ensures .1 .0), x2 .state-with .ensures .1 .1))
 
 pub state-at-spec : {M : Type 1} → statement M
 state-at-spec =

@@ -28,9 +28,9 @@ handlers-at-requires c κs =
     let a = x10 .args in
     let p = x10 .pre in
     let z = x3 .put-start .ensures .0 in
-    let l = ap length (x3 .put-start .ensures .1) ∙ fitted-long (a .out .now) _ (startBytes (a .cells) (a .start)) in
-    let k = p .1 .1 .0 in
-    (p .0, (p .1 .0, (omega (arith, start-few (a .cells) (a .start)), (p .1 .1 .1 .0, (p .1 .1 .1 .1 .0, (p .1 .1 .1 .1 .1 .0, omega (arith, l, p .1 .1 .1 .1 .1 .1 .1 .1 .1)))))))
+    let l = ap length (x3 .put-start .ensures .1) ∙ fitted-long (a .out .now) _ (startBytes (a .cursor .cells) (a .setting .start)) in
+    let k = p .1 .0 in
+    ((p .0 .0, (p .0 .1 .0, (omega (arith, start-few (a .cursor .cells) (a .setting .start)), (p .0 .1 .1 .1 .0, p .0 .1 .1 .1 .1)))), (p .1 .1 .0, omega (arith, l, p .1 .1 .1 .1 .1 .1)))
 
 enum-known-r : tie.Need-enum-known-r
 enum-known-r c = search needs
@@ -49,8 +49,8 @@ returns c =
     let a = x15 .args in
     let e = c .enum-told .given .1 in
     let h = rw (e, x8 .put-start .ensures .1) at (x4 .handlers-at .ensures .0) in
-    let l = x4 .handlers-at .ensures .1 .1 ∙ ap length (x8 .put-start .ensures .1) ∙ fitted-long (a .out .now) _ (startBytes (a .cells) (a .start)) in
-    rw e (state-fails (a .text .now) (meaningBy (a .text .now) (a .places .now) (a .sorted) (a .meanings .now)) (a .events .now) (a .cells) (a .start) (a .bits) (a .at) (a .n) _ (a .out .now) _ _ _ h, (tt, l))
+    let l = x4 .handlers-at .ensures .1 .1 ∙ ap length (x8 .put-start .ensures .1) ∙ fitted-long (a .out .now) _ (startBytes (a .cursor .cells) (a .setting .start)) in
+    rw e (state-fails (a .text .now) (meaningBy (a .text .now) (a .places .now) (a .cursor .sorted) (a .meanings .now)) (a .events .now) (a .cursor .cells) (a .setting .start) (a .setting .bits) (a .cursor .at) (a .cursor .end) _ (a .out .now) _ _ _ h, (tt, l))
 
 put-viewers-requires : tie.Need-put-viewers-requires
 put-viewers-requires c κs =
@@ -62,8 +62,8 @@ put-viewers-requires c κs =
     let p = x17 .pre in
     let z = x10 .put-start .ensures .0 in
     let g = rw (x2 .r .given .1) at (x6 .handlers-at .ensures .1 .0) in
-    let k = p .1 .1 .0 in
-    (omega (arith, start-few (a .cells) (a .start), p .0, p .1 .0), p .1 .1 .1 .1 .1 .1 .1 .1 .0)
+    let k = p .1 .0 in
+    (omega (arith, start-few (a .cursor .cells) (a .setting .start), p .0 .0, p .0 .1 .0), p .1 .1 .1 .1 .1 .0)
 
 tag-of-requires : tie.Need-tag-of-requires
 tag-of-requires c κs = search needs
@@ -79,11 +79,11 @@ enclose-requires c κs =
     let g = rw (x7 .r .given .1) at (x11 .handlers-at .ensures .1 .0) in
     let l =
     ap length (x4 .put-viewers .ensures .1)
-    ∙ fitted-long _ _ (viewerBytes (a .bits))
+    ∙ fitted-long _ _ (viewerBytes (a .setting .bits))
     ∙ x11 .handlers-at .ensures .1 .1
     ∙ ap length (x15 .put-start .ensures .1)
-    ∙ fitted-long (a .out .now) _ (startBytes (a .cells) (a .start)) in
-    (omega (arith, x4 .put-viewers .ensures .0, x15 .put-start .ensures .0), omega (arith, l, x22 .pre .1 .1 .1 .1 .1 .1 .1 .1 .1))
+    ∙ fitted-long (a .out .now) _ (startBytes (a .cursor .cells) (a .setting .start)) in
+    (omega (arith, x4 .put-viewers .ensures .0, x15 .put-start .ensures .0), omega (arith, l, x22 .pre .1 .1 .1 .1 .1 .1))
 
 same-length-2 : tie.Need-same-length-2
 same-length-2 c = search needs
@@ -102,10 +102,10 @@ returns-2 c =
     let z = x18 .put-start .ensures .0 in
     let h = rw (x10 .r .given .1, x18 .put-start .ensures .1) at (x14 .handlers-at .ensures .0) in
     let g = rw (x10 .r .given .1) at (x14 .handlers-at .ensures .1 .0) in
-    let l = x14 .handlers-at .ensures .1 .1 ∙ ap length (x18 .put-start .ensures .1) ∙ fitted-long (a .out .now) _ (startBytes (a .cells) (a .start)) in
+    let l = x14 .handlers-at .ensures .1 .1 ∙ ap length (x18 .put-start .ensures .1) ∙ fitted-long (a .out .now) _ (startBytes (a .cursor .cells) (a .setting .start)) in
     rw (x2 .enclose .ensures, x3 .tag-of .ensures, x7 .put-viewers .ensures .1) (
-      state-done (a .text .now) (meaningBy (a .text .now) (a .places .now) (a .sorted) (a .meanings .now)) (a .events .now) (a .cells) (a .start) (a .bits) (a .at) (a .n) _ (a .out .now) _ _ _ _ _ h z l (p .1 .1 .1 .1 .1 .1 .1 .1 .1) (x7 .put-viewers .ensures .0),
-      (omega (arith, viewer-few (a .bits), start-few (a .cells) (a .start), x7 .put-viewers .ensures .0), enclosed-long (bodyTag (a .cells)) _ _ _ ∙ fitted-long _ _ (viewerBytes (a .bits)) ∙ l),
+      state-done (a .text .now) (meaningBy (a .text .now) (a .places .now) (a .cursor .sorted) (a .meanings .now)) (a .events .now) (a .cursor .cells) (a .setting .start) (a .setting .bits) (a .cursor .at) (a .cursor .end) _ (a .out .now) _ _ _ _ _ h z l (p .1 .1 .1 .1 .1 .1) (x7 .put-viewers .ensures .0),
+      (omega (arith, viewer-few (a .setting .bits), start-few (a .cursor .cells) (a .setting .start), x7 .put-viewers .ensures .0), enclosed-long (bodyTag (a .cursor .cells)) _ _ _ ∙ fitted-long _ _ (viewerBytes (a .setting .bits)) ∙ l),
     )
 
 pub state-with-spec : {M : Type 1} → statement M

@@ -35,16 +35,16 @@ use Rattle.source_formula.proofs.+argument+choice+phrase+primary.{state
 use Rattle.source_formula.proofs.+argument+choice+phrase+primary.Tie.{close}
 
 abbrev μ-argument : Measures 4 argument-kinds.ps ℕ
-μ-argument κs a = a .1 .1 .0 * 4
+μ-argument κs a = a .1 .1 .0 .room * 4
 
 abbrev μ-choice : Measures 4 choice-kinds.ps ℕ
-μ-choice κs a = a .1 .1 .0 * 4 + 1
+μ-choice κs a = a .1 .0 .room * 4 + 1
 
 abbrev μ-phrase : Measures 4 phrase-kinds.ps ℕ
-μ-phrase κs a = a .1 .1 .1 .0 * 4 + 3
+μ-phrase κs a = a .1 .0 .room * 4 + 3
 
 abbrev μ-primary : Measures 4 primary-kinds.ps ℕ
-μ-primary κs a = a .1 .1 .0 * 4 + 2
+μ-primary κs a = a .1 .0 .room * 4 + 2
 
 abbrev argument-at : ℕ → In 4 argument-kinds.ps
 argument-at t = and 4 argument-kinds.ps (is 4 argument-kinds.ps μ-argument t) argument.Pre
@@ -106,15 +106,15 @@ argument-enum-known-v t c = search needs
 argument-enum-known-p : (t : ℕ) → argument-lts.Need-enum-known-p (claims-argument t) (argument-at t) argument.Post
 argument-enum-known-p t c = search needs
 
-argument-sub-phrase : (t : ℕ) → argument-lts.Need-sub-phrase (claims-argument t) (argument-at t) argument.Post
-argument-sub-phrase t c =
-    let at-r = c .before .before .before .before .before in
+argument-sub-inner : (t : ℕ) → argument-lts.Need-sub-inner (claims-argument t) (argument-at t) argument.Post
+argument-sub-inner t c =
+    let at-r = c .before .before .before .before .before .before in
     let at-entry = at-r .before .before .before .before .before .before in
     omega (arith, at-entry .pre .1 .1 .1 .1 .0)
 
 argument-phrase-requires : (t : ℕ) → argument-lts.Need-phrase-requires (claims-argument t) (argument-at t) argument.Post
 argument-phrase-requires t c κs =
-    let at-p = c .before .before in
+    let at-p = c .before .before .before in
     let at-sign = at-p .before .before in
     let at-r = at-sign .before .before in
     let at-entry = at-r .before .before .before .before .before .before in
@@ -139,7 +139,7 @@ argument-same-length t c = search needs
 argument-returns-3 : (t : ℕ) → argument-lts.Need-returns-3 (claims-argument t) (argument-at t) argument.Post
 argument-returns-3 t c =
     let at-phrase = c .before .before .before in
-    let at-p = at-phrase .before .before .before in
+    let at-p = at-phrase .before .before .before .before in
     let at-sign = at-p .before .before in
     let at-r = at-sign .before .before in
     argument-read _ _ _ _ _ _ _ _ _ _ _ (at-r .r .given .1) _ (at-sign .sign-due .ensures .0) _ _ _ (at-p .p .given .1) (at-sign .sign-due .ensures .1) _ _ _
@@ -157,7 +157,7 @@ choice-argument-requires-2 t c κs =
     let at-entry = at-one .before .before .before .before .before .before in
     let P = at-entry .pre .1 in
     let one = at-one .argument .ensures in
-    let g₁ = gone-further _ _ _ _ _ (at-entry .args .at) (at-entry .args .n) _ _ _ _ one (gone-start _ _ _ _ (P .0 .1)) in
+    let g₁ = gone-further _ _ _ _ _ (at-entry .args .cursor .at) (at-entry .args .cursor .end) _ _ _ _ one (gone-start _ _ _ _ (P .0 .1)) in
     let k₁ = kept-after _ _ _ _ _ _ _ _ _ one in
     (omega (arith, at-entry .pre .0), ((P .0 .0, gone-room _ _ _ _ _ g₁ (P .0 .2)), ((P .0 .3, P .0 .4, omega (arith, k₁, P .0 .5)), ((omega arith, omega arith), P .1))))
 
@@ -168,10 +168,10 @@ choice-argument-requires-3 t c κs =
     let at-entry = at-one .before .before .before .before .before .before in
     let P = at-entry .pre .1 in
     let one = at-one .argument .ensures in
-    let g₁ = gone-further _ _ _ _ _ (at-entry .args .at) (at-entry .args .n) _ _ _ _ one (gone-start _ _ _ _ (P .0 .1)) in
+    let g₁ = gone-further _ _ _ _ _ (at-entry .args .cursor .at) (at-entry .args .cursor .end) _ _ _ _ one (gone-start _ _ _ _ (P .0 .1)) in
     let k₁ = kept-after _ _ _ _ _ _ _ _ _ one in
     let two = at-two .argument2 .ensures in
-    let g₂ = gone-further _ _ _ _ _ (at-entry .args .at) (at-entry .args .n) _ _ _ _ two g₁ in
+    let g₂ = gone-further _ _ _ _ _ (at-entry .args .cursor .at) (at-entry .args .cursor .end) _ _ _ _ two g₁ in
     let k₂ = kept-after _ _ _ _ _ _ _ _ _ two in
     (omega (arith, at-entry .pre .0), ((P .0 .0, gone-room _ _ _ _ _ g₂ (P .0 .2)), ((P .0 .3, P .0 .4, omega (arith, k₁, k₂, P .0 .5)), ((omega arith, omega arith), P .1))))
 
@@ -183,13 +183,13 @@ choice-ended-requires t c κs =
     let at-entry = at-one .before .before .before .before .before .before in
     let P = at-entry .pre .1 in
     let one = at-one .argument .ensures in
-    let g₁ = gone-further _ _ _ _ _ (at-entry .args .at) (at-entry .args .n) _ _ _ _ one (gone-start _ _ _ _ (P .0 .1)) in
+    let g₁ = gone-further _ _ _ _ _ (at-entry .args .cursor .at) (at-entry .args .cursor .end) _ _ _ _ one (gone-start _ _ _ _ (P .0 .1)) in
     let k₁ = kept-after _ _ _ _ _ _ _ _ _ one in
     let two = at-two .argument2 .ensures in
-    let g₂ = gone-further _ _ _ _ _ (at-entry .args .at) (at-entry .args .n) _ _ _ _ two g₁ in
+    let g₂ = gone-further _ _ _ _ _ (at-entry .args .cursor .at) (at-entry .args .cursor .end) _ _ _ _ two g₁ in
     let k₂ = kept-after _ _ _ _ _ _ _ _ _ two in
     let three = at-three .argument3 .ensures in
-    let g₃ = gone-further _ _ _ _ _ (at-entry .args .at) (at-entry .args .n) _ _ _ _ three g₂ in
+    let g₃ = gone-further _ _ _ _ _ (at-entry .args .cursor .at) (at-entry .args .cursor .end) _ _ _ _ three g₂ in
     let k₃ = kept-after _ _ _ _ _ _ _ _ _ three in
     (P .0 .0, gone-inside _ _ _ _ _ g₃)
 
@@ -202,13 +202,13 @@ choice-close-requires t c κs =
     let at-entry = at-one .before .before .before .before .before .before in
     let P = at-entry .pre .1 in
     let one = at-one .argument .ensures in
-    let g₁ = gone-further _ _ _ _ _ (at-entry .args .at) (at-entry .args .n) _ _ _ _ one (gone-start _ _ _ _ (P .0 .1)) in
+    let g₁ = gone-further _ _ _ _ _ (at-entry .args .cursor .at) (at-entry .args .cursor .end) _ _ _ _ one (gone-start _ _ _ _ (P .0 .1)) in
     let k₁ = kept-after _ _ _ _ _ _ _ _ _ one in
     let two = at-two .argument2 .ensures in
-    let g₂ = gone-further _ _ _ _ _ (at-entry .args .at) (at-entry .args .n) _ _ _ _ two g₁ in
+    let g₂ = gone-further _ _ _ _ _ (at-entry .args .cursor .at) (at-entry .args .cursor .end) _ _ _ _ two g₁ in
     let k₂ = kept-after _ _ _ _ _ _ _ _ _ two in
     let three = at-three .argument3 .ensures in
-    let g₃ = gone-further _ _ _ _ _ (at-entry .args .at) (at-entry .args .n) _ _ _ _ three g₂ in
+    let g₃ = gone-further _ _ _ _ _ (at-entry .args .cursor .at) (at-entry .args .cursor .end) _ _ _ _ three g₂ in
     let k₃ = kept-after _ _ _ _ _ _ _ _ _ three in
     let h = ended-headable _ _ _ _ (at-three .argument3 .result) (at-ended .ended .result) g₃ (at-ended .ended .ensures) (P .0 .2) (omega (arith, P .1 .1)) (P .0 .0) in
     (h, omega (arith, k₁, k₂, k₃, P .0 .5))
@@ -226,23 +226,23 @@ choice-returns t c =
     let at-entry = at-one .before .before .before .before .before .before in
     let P = at-entry .pre .1 in
     let one = at-one .argument .ensures in
-    let g₁ = gone-further _ _ _ _ _ (at-entry .args .at) (at-entry .args .n) _ _ _ _ one (gone-start _ _ _ _ (P .0 .1)) in
+    let g₁ = gone-further _ _ _ _ _ (at-entry .args .cursor .at) (at-entry .args .cursor .end) _ _ _ _ one (gone-start _ _ _ _ (P .0 .1)) in
     let k₁ = kept-after _ _ _ _ _ _ _ _ _ one in
     let two = at-two .argument2 .ensures in
-    let g₂ = gone-further _ _ _ _ _ (at-entry .args .at) (at-entry .args .n) _ _ _ _ two g₁ in
+    let g₂ = gone-further _ _ _ _ _ (at-entry .args .cursor .at) (at-entry .args .cursor .end) _ _ _ _ two g₁ in
     let k₂ = kept-after _ _ _ _ _ _ _ _ _ two in
     let three = at-three .argument3 .ensures in
-    let g₃ = gone-further _ _ _ _ _ (at-entry .args .at) (at-entry .args .n) _ _ _ _ three g₂ in
+    let g₃ = gone-further _ _ _ _ _ (at-entry .args .cursor .at) (at-entry .args .cursor .end) _ _ _ _ three g₂ in
     let k₃ = kept-after _ _ _ _ _ _ _ _ _ three in
     choice-read _ _ _ _ _ _ _ _ _ (at-three .argument3 .result) (at-ended .ended .result) (at-ended .ended .ensures) _ three _ two _ _ _ one g₃ (P .1 .0)
     (at-close .close .ensures .0) (at-close .close .ensures .1) (at-close .close .kept .1 .1 .1 .1 .1 .0)
 
 abbrev phrase-Inv-loop : phrase-lts.InvT-loop
-phrase-Inv-loop text at level room places sorted meanings cells out₀ n first opened₀ r₀ out opened r =
-    Keeps text (meaningBy text places sorted meanings) cells room level at n out₀ opened₀ r₀ out opened r
+phrase-Inv-loop text cursor level places meanings out₀ opened₀ r₀ out opened r =
+    Keeps text (meaningBy text places (cursor .sorted) meanings) (cursor .cells) (cursor .room) level (cursor .at) (cursor .end) out₀ opened₀ r₀ out opened r
 
 abbrev phrase-μ-loop : phrase-lts.MeasureT-loop
-phrase-μ-loop text at level room places sorted meanings cells out₀ n first opened₀ r₀ out opened r = bytesLeft (length text) r
+phrase-μ-loop text cursor level places meanings out₀ opened₀ r₀ out opened r = bytesLeft (length text) r
 
 phrase-brackets-at-requires : (t : ℕ) → phrase-lts.Need-brackets-at-requires (claims-phrase t) (phrase-at t) phrase.Post phrase-Inv-loop phrase-μ-loop
 phrase-brackets-at-requires t c κs =
@@ -399,9 +399,9 @@ phrase-loop-again t c =
 phrase-enum-known-f : (t : ℕ) → phrase-lts.Need-enum-known-f (claims-phrase t) (phrase-at t) phrase.Post phrase-Inv-loop phrase-μ-loop
 phrase-enum-known-f t c = search needs
 
-phrase-sub-less : (t : ℕ) → phrase-lts.Need-sub-less (claims-phrase t) (phrase-at t) phrase.Post phrase-Inv-loop phrase-μ-loop
-phrase-sub-less t c =
-    let at-f = c .before in
+phrase-sub-second : (t : ℕ) → phrase-lts.Need-sub-second (claims-phrase t) (phrase-at t) phrase.Post phrase-Inv-loop phrase-μ-loop
+phrase-sub-second t c =
+    let at-f = c .before .before in
     let at-onward = at-f .before .before in
     let at-r = at-onward .before .before in
     let at-loop = at-r .before .before in
@@ -412,7 +412,7 @@ phrase-sub-less t c =
 
 phrase-phrase-requires : (t : ℕ) → phrase-lts.Need-phrase-requires (claims-phrase t) (phrase-at t) phrase.Post phrase-Inv-loop phrase-μ-loop
 phrase-phrase-requires t c κs =
-    let at-f = c .before .before in
+    let at-f = c .before .before .before in
     let at-onward = at-f .before .before in
     let at-r = at-onward .before .before in
     let at-loop = at-r .before .before in
@@ -427,7 +427,7 @@ phrase-phrase-requires t c κs =
 phrase-close-requires : (t : ℕ) → phrase-lts.Need-close-requires (claims-phrase t) (phrase-at t) phrase.Post phrase-Inv-loop phrase-μ-loop
 phrase-close-requires t c κs =
     let at-phrase = c .before .before .before in
-    let at-f = at-phrase .before .before .before in
+    let at-f = at-phrase .before .before .before .before in
     let at-onward = at-f .before .before in
     let at-r = at-onward .before .before in
     let at-loop = at-r .before .before in
@@ -443,7 +443,7 @@ phrase-loop-less-2 : (t : ℕ) → phrase-lts.Need-loop-less-2 (claims-phrase t)
 phrase-loop-less-2 t c =
     let at-close = c .before .before in
     let at-phrase = at-close .before .before .before .before in
-    let at-f = at-phrase .before .before .before in
+    let at-f = at-phrase .before .before .before .before in
     let at-onward = at-f .before .before in
     let at-r = at-onward .before .before in
     let at-loop = at-r .before .before in
@@ -458,7 +458,7 @@ phrase-loop-again-2 : (t : ℕ) → phrase-lts.Need-loop-again-2 (claims-phrase 
 phrase-loop-again-2 t c =
     let at-close = c .before .before in
     let at-phrase = at-close .before .before .before .before in
-    let at-f = at-phrase .before .before .before in
+    let at-f = at-phrase .before .before .before .before in
     let at-onward = at-f .before .before in
     let at-r = at-onward .before .before in
     let at-loop = at-r .before .before in
@@ -476,37 +476,37 @@ primary-sign-before-requires t c κs =
 
 primary-fault-word-requires : (t : ℕ) → primary-lts.Need-fault-word-requires (claims-primary t) (primary-at t) primary.Post
 primary-fault-word-requires t c κs =
-    let at-standing = c .before .before .before in
+    let at-standing = c .before .before .before .before in
     let at-entry = at-standing .before .before .before .before .before in
     omega (arith, at-standing .sign-before .ensures .within, at-entry .pre .1 .0 .0)
 
 primary-returns : (t : ℕ) → primary-lts.Need-returns (claims-primary t) (primary-at t) primary.Post
 primary-returns t c =
-    let at-standing = c .before .before .before .before in
-    not-too-deep _ _ _ _ _ _ _ _ _ _ (at-standing .sign-before .ensures) _ (c .before .before .if1 .taken) (c .before .if2 .taken) (c .fault-word .ensures)
+    let at-standing = c .before .before .before .before .before in
+    not-too-deep _ _ _ _ _ _ _ _ _ _ (at-standing .sign-before .ensures) _ (c .before .before .before .if1 .taken) (c .before .if2 .taken) (c .fault-word .ensures)
 
-primary-sub-less : (t : ℕ) → primary-lts.Need-sub-less (claims-primary t) (primary-at t) primary.Post
-primary-sub-less t c =
-    let at-standing = c .before .before .before in
+primary-sub-behind : (t : ℕ) → primary-lts.Need-sub-behind (claims-primary t) (primary-at t) primary.Post
+primary-sub-behind t c =
+    let at-standing = c .before .before .before .before .before in
     let at-entry = at-standing .before .before .before .before .before in
-    omega (arith, c .if2 .left)
+    omega (arith, c .before .if2 .left)
 
 primary-phrase-requires : (t : ℕ) → primary-lts.Need-phrase-requires (claims-primary t) (primary-at t) primary.Post
 primary-phrase-requires t c κs =
-    let at-standing = c .before .before .before .before in
+    let at-standing = c .before .before .before .before .before .before in
     let at-entry = at-standing .before .before .before .before .before in
     let P = at-entry .pre .1 in
     let st = at-standing .sign-before .ensures in
-    let sign-is = c .before .before .if1 .taken in
+    let sign-is = c .before .before .before .before .if1 .taken in
     let b = st .further (omega arith) (omega arith) in (
-      omega (arith, at-entry .pre .0, c .before .if2 .left),
-      ((P .0 .0, b .1, omega (arith, P .0 .2), P .0 .3, P .0 .4, P .0 .5), (omega arith, omega (arith, c .before .if2 .left), omega (arith, P .1 .1))),
+      omega (arith, at-entry .pre .0, c .before .before .if2 .left),
+      ((P .0 .0, b .1, omega (arith, P .0 .2), P .0 .3, P .0 .4, P .0 .5), (omega arith, omega (arith, c .before .before .if2 .left), omega (arith, P .1 .1))),
     )
 
 primary-close-requires : (t : ℕ) → primary-lts.Need-close-requires (claims-primary t) (primary-at t) primary.Post
 primary-close-requires t c κs =
     let at-phrase = c .before .before .before in
-    let at-if1 = at-phrase .before .before .before in
+    let at-if1 = at-phrase .before .before .before .before .before in
     let at-standing = at-if1 .before .before in
     let at-entry = at-standing .before .before .before .before .before in
     let P = at-entry .pre .1 in
@@ -515,7 +515,7 @@ primary-close-requires t c κs =
     let sign-is = at-if1 .if1 .taken in
     let b = st .further (omega arith) (omega arith) in
     let x = at-phrase .phrase .ensures in (
-      not-headable (length (a .text .now)) (a .room) (a .at) (at-standing .sign-before .result .next) (a .n) (at-phrase .phrase .result) (x .within) b (P .0 .2) (P .1 .1) (P .0 .0),
+      not-headable (length (a .text .now)) (a .cursor .room) (a .cursor .at) (at-standing .sign-before .result .next) (a .cursor .end) (at-phrase .phrase .result) (x .within) b (P .0 .2) (P .1 .1) (P .0 .0),
       omega (arith, x .kept, P .0 .5),
     )
 
@@ -526,8 +526,8 @@ primary-returns-2 : (t : ℕ) → primary-lts.Need-returns-2 (claims-primary t) 
 primary-returns-2 t c =
     let at-close = c .before .before in
     let at-phrase = at-close .before .before .before .before in
-    let at-if2 = at-phrase .before .before in
-    let at-if1 = at-if2 .before in
+    let at-if2 = at-phrase .before .before .before in
+    let at-if1 = at-if2 .before .before in
     let at-standing = at-if1 .before .before in
     let at-entry = at-standing .before .before .before .before .before in
     let st = at-standing .sign-before .ensures in
@@ -536,22 +536,22 @@ primary-returns-2 t c =
 
 primary-fault-word-requires-2 : (t : ℕ) → primary-lts.Need-fault-word-requires-2 (claims-primary t) (primary-at t) primary.Post
 primary-fault-word-requires-2 t c κs =
-    let at-standing = c .before .before .before .before .before in
+    let at-standing = c .before .before .before .before .before .before in
     let at-entry = at-standing .before .before .before .before .before in
     omega (arith, at-standing .sign-before .ensures .within, at-entry .pre .1 .0 .0)
 
 primary-returns-3 : (t : ℕ) → primary-lts.Need-returns-3 (claims-primary t) (primary-at t) primary.Post
 primary-returns-3 t c =
-    let at-standing = c .before .before .before .before .before .before in
-    if-too-deep _ _ _ _ _ _ _ _ _ _ (at-standing .sign-before .ensures) _ (c .before .before .if3 .taken) (c .before .if4 .taken) (c .fault-word2 .ensures)
+    let at-standing = c .before .before .before .before .before .before .before in
+    if-too-deep _ _ _ _ _ _ _ _ _ _ (at-standing .sign-before .ensures) _ (c .before .before .before .if3 .taken) (c .before .if4 .taken) (c .fault-word2 .ensures)
 
 primary-choice-requires : (t : ℕ) → primary-lts.Need-choice-requires (claims-primary t) (primary-at t) primary.Post
 primary-choice-requires t c κs =
-    let at-standing = c .before .before .before .before .before .before in
+    let at-standing = c .before .before .before .before .before .before .before in
     let at-entry = at-standing .before .before .before .before .before in
     let P = at-entry .pre .1 in
     let st = at-standing .sign-before .ensures in
-    let sign-is = c .before .before .if3 .taken in
+    let sign-is = c .before .before .before .if3 .taken in
     let b = st .further (omega arith) (omega arith) in (
       omega (arith, at-entry .pre .0),
       ((P .0 .0, b .1, omega (arith, P .0 .2), P .0 .3, P .0 .4, P .0 .5), (omega (arith, c .before .if4 .left), P .1 .1)),
@@ -564,7 +564,7 @@ primary-returns-4 : (t : ℕ) → primary-lts.Need-returns-4 (claims-primary t) 
 primary-returns-4 t c =
     let at-choice = c .before .before in
     let at-if4 = at-choice .before .before in
-    let at-if3 = at-if4 .before in
+    let at-if3 = at-if4 .before .before in
     let at-standing = at-if3 .before .before .before .before in
     let st = at-standing .sign-before .ensures in
     let sign-is = at-if3 .if3 .taken in
@@ -575,7 +575,7 @@ primary-plain-at-requires t c κs =
     let at-standing = c .before .before .before .before .before in
     let at-entry = at-standing .before .before .before .before .before in
     let P = at-entry .pre .1 in
-    (P .0 .0, (P .0 .1, (omega (arith, P .0 .0, P .0 .1, P .0 .2), (P .0 .3, P .0 .4))))
+    (P .0 .0, (P .0 .1, (P .0 .2, (P .0 .3, P .0 .4))))
 
 primary-same-length-3 : (t : ℕ) → primary-lts.Need-same-length-3 (claims-primary t) (primary-at t) primary.Post
 primary-same-length-3 t c = search needs
@@ -600,7 +600,7 @@ pub +argument+choice+phrase+primary-spec : {M : Type 1} → statement M
     (argument-sign-due-requires t)
     (argument-enum-known-v t)
     (argument-enum-known-p t)
-    (argument-sub-phrase t)
+    (argument-sub-inner t)
     (argument-phrase-requires t)
     (argument-under-requires t)
     (argument-returns-2 t)
@@ -640,7 +640,7 @@ pub +argument+choice+phrase+primary-spec : {M : Type 1} → statement M
     (phrase-loop-less t)
     (phrase-loop-again t)
     (phrase-enum-known-f t)
-    (phrase-sub-less t)
+    (phrase-sub-second t)
     (phrase-phrase-requires t)
     (phrase-close-requires t)
     (phrase-loop-less-2 t)
@@ -651,7 +651,7 @@ pub +argument+choice+phrase+primary-spec : {M : Type 1} → statement M
     (primary-sign-before-requires t)
     (primary-fault-word-requires t)
     (primary-returns t)
-    (primary-sub-less t)
+    (primary-sub-behind t)
     (primary-phrase-requires t)
     (primary-close-requires t)
     (primary-same-length t)

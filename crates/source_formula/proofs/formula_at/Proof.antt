@@ -10,7 +10,7 @@ formula-at-spec =
     (tie.spec
     (λ c κs.
     let P = c .before .before .before .before .before .pre in
-    let far = P .1 .1 .1 in
-    ((P .0, P .1 .0, P .1 .1 .0, far .0, far .1 .0, far .1 .1), (omega arith, omega arith, omega arith)))
+    let R = P .0 in
+    ((R .0, R .1 .0, R .1 .1 .0, R .1 .1 .1 .0, R .1 .1 .1 .1, P .1), (omega arith, omega arith, omega arith)))
     (λ c. search needs)
     (λ c. let x = c .before .before .phrase .ensures in (x .reads, (x .within, (x .fewer, x .kept)))))

@@ -30,7 +30,7 @@ returns c =
     let a = f .before .before .before .before .before .args in
     let h = rw e at (f .phase-due .ensures .0) in
     rw (c .fault-of .ensures ∙ ap dueFault e)
-    (phase-refused (a .text .now) (meaningBy (a .text .now) (a .places .now) (a .sorted) (a .meanings .now)) (a .cells) (a .e) (a .at) (a .n) (a .out .now) _ _ h, (tt, search needs))
+    (phase-refused (a .text .now) (meaningBy (a .text .now) (a .places .now) (a .cursor .sorted) (a .meanings .now)) (a .cursor .cells) (a .e) (a .cursor .at) (a .cursor .end) (a .out .now) _ _ h, (tt, search needs))
 
 cast-put-handler : tie.Need-cast-put-handler
 cast-put-handler c = search needs
@@ -44,8 +44,8 @@ cast-put-handler-2 c =
 put-handler-requires : tie.Need-put-handler-requires
 put-handler-requires c κs = search needs
 
-add-formula-at : tie.Need-add-formula-at
-add-formula-at c = search needs
+add-formula : tie.Need-add-formula
+add-formula c = search needs
 
 formula-at-requires : tie.Need-formula-at-requires
 formula-at-requires c κs =
@@ -56,7 +56,7 @@ formula-at-requires c κs =
     let a = s .args in
     let i = rw (d .d .given .1) at (q .phase-due .ensures .1) in
     let l = ap length (b .put-handler .ensures) ∙ fitted-long (a .out .now) _ _ in
-    (s .pre .0, (i .1, (omega arith, (s .pre .1 .1 .1 .0, (s .pre .1 .1 .1 .1 .0, omega (arith, l, s .pre .1 .1 .1 .1 .1 .1))))))
+    ((s .pre .0 .0, (i .1, (omega (arith, s .pre .0 .1 .1 .0), (s .pre .0 .1 .1 .1 .0, s .pre .0 .1 .1 .1 .1)))), omega (arith, l, s .pre .1 .1))
 
 enum-known-r : tie.Need-enum-known-r
 enum-known-r c = search needs
@@ -82,7 +82,7 @@ returns-2 c =
     let g = rw e at (f .formula-at .ensures .0) in
     let l = f .formula-at .ensures .1 .1 .1 in
     rw (c .refused-formula .ensures ∙ ap refusedRead e)
-    (formula-refused (a .text .now) (meaningBy (a .text .now) (a .places .now) (a .sorted) (a .meanings .now)) (a .cells) (a .e) (a .at) (a .n) (a .out .now) _ _ _ h _ _ _ _ _ g, (tt, l ∙ b .put-handler .kept .0))
+    (formula-refused (a .text .now) (meaningBy (a .text .now) (a .places .now) (a .cursor .sorted) (a .meanings .now)) (a .cursor .cells) (a .e) (a .cursor .at) (a .cursor .end) (a .out .now) _ _ _ h _ _ _ _ _ g, (tt, l ∙ b .put-handler .kept .0))
 
 enclose-requires : tie.Need-enclose-requires
 enclose-requires c κs =
@@ -92,7 +92,7 @@ enclose-requires c κs =
     let q = b .before .before .before .before .before in
     let s = q .before .before .before .before .before in
     let l = f .formula-at .ensures .1 .1 .1 ∙ b .put-handler .kept .0 in
-    (omega arith, omega (arith, l, s .pre .1 .1 .1 .1 .1 .1))
+    (omega arith, omega (arith, l, s .pre .1 .1))
 
 same-length-2 : tie.Need-same-length-2
 same-length-2 c = search needs
@@ -113,7 +113,7 @@ returns-3 c =
     let k = rw (r .r .given .1) at (f .formula-at .ensures .1 .0) in
     let l = f .formula-at .ensures .1 .1 .1 ∙ b .put-handler .kept .0 in
     rw (t .enclose .ensures) (
-      handler-read (a .text .now) (meaningBy (a .text .now) (a .places .now) (a .sorted) (a .meanings .now)) (a .cells) (a .e) (a .at) (a .n) (a .out .now) _ _ _ h _ _ _ _ _ g (omega arith) (s .pre .1 .1 .1 .1 .1 .1) l,
+      handler-read (a .text .now) (meaningBy (a .text .now) (a .places .now) (a .cursor .sorted) (a .meanings .now)) (a .cursor .cells) (a .e) (a .cursor .at) (a .cursor .end) (a .out .now) _ _ _ h _ _ _ _ _ g (omega arith) (s .pre .1 .1) l,
       (omega arith, enclosed-long 5 _ _ _ ∙ l),
     )
 
@@ -129,7 +129,7 @@ body-at-spec =
     cast-put-handler
     cast-put-handler-2
     put-handler-requires
-    add-formula-at
+    add-formula
     formula-at-requires
     enum-known-r
     enum-told-2

@@ -11,17 +11,17 @@ use Rattle.source_handlers.proofs.handlers_at.Statement.{statement}
 use Rattle.source_handlers.proofs.handlers_at.Tie as tie
 
 abbrev Inv-loop : tie.InvT-loop
-Inv-loop text at places sorted meanings cells events out₀ n handled₀ f₀ end₀ w₀ out handled f end w =
-    Turn text (meaningBy text places sorted meanings) cells events at n out₀ handled out f end w
+Inv-loop text cursor places meanings events out₀ handled₀ f₀ end₀ w₀ out handled f end w =
+    Turn text (meaningBy text places (cursor .sorted) meanings) (cursor .cells) events (cursor .at) (cursor .end) out₀ handled out f end w
 
 abbrev μ-loop : tie.MeasureT-loop
-μ-loop text at places sorted meanings cells events out₀ n handled₀ f₀ end₀ w₀ out handled f end w = length text - f
+μ-loop text cursor places meanings events out₀ handled₀ f₀ end₀ w₀ out handled f end w = length text - f
 
 loop-holds : tie.Need-loop-holds Inv-loop μ-loop
 loop-holds c =
     let s = c .before .before .before .before .before in
     let a = s .args in
-    turn-start (a .text .now) (meaningBy (a .text .now) (a .places .now) (a .sorted) (a .meanings .now)) (a .cells) (a .events .now) (a .at) (a .n) (a .out .now) (s .pre .1 .0)
+    turn-start (a .text .now) (meaningBy (a .text .now) (a .places .now) (a .cursor .sorted) (a .meanings .now)) (a .cursor .cells) (a .events .now) (a .cursor .at) (a .cursor .end) (a .out .now) (s .pre .0 .1 .0)
 
 sign-due-requires : tie.Need-sign-due-requires Inv-loop μ-loop
 sign-due-requires c κs = search needs
@@ -43,7 +43,7 @@ returns c =
     let a = s .args in
     let t = l .loop .inv in
     let h = rw (c .enum-told .given .1) at (b .sign-due .ensures .0) in
-    (turn-over (a .text .now) (meaningBy (a .text .now) (a .places .now) (a .sorted) (a .meanings .now)) (a .cells) (a .events .now) (a .at) (a .n) (a .out .now) t (h .0), (omega (arith, t .from, t .inside, t .rising, t .bounded), t .kept))
+    (turn-over (a .text .now) (meaningBy (a .text .now) (a .places .now) (a .cursor .sorted) (a .meanings .now)) (a .cursor .cells) (a .events .now) (a .cursor .at) (a .cursor .end) (a .out .now) t (h .0), (omega (arith, t .from, t .inside, t .rising, t .bounded), t .kept))
 
 slice-aggregate-event-due : tie.Need-slice-aggregate-event-due Inv-loop μ-loop
 slice-aggregate-event-due c = search needs
@@ -54,7 +54,7 @@ event-due-requires c κs =
     let l = o .before .before .before in
     let s = l .before .before .before .before .before .before in
     let g = rw (o .on .given .1) at (o .before .before .sign-due .ensures .1) in
-    (s .pre .0, (g .2, (s .pre .1 .1 .1 .1 .1 .0, l .loop .inv .marks-all)))
+    (s .pre .0 .0, (g .2, (s .pre .1 .0, l .loop .inv .marks-all)))
 
 enum-known-event : tie.Need-enum-known-event Inv-loop μ-loop
 enum-known-event c = search needs
@@ -80,7 +80,7 @@ returns-2 c =
     let h = rw (o .on .given .1) at (o .before .before .sign-due .ensures .0) in
     let d = rw e at (v .event-due .ensures .0) in
     rw (c .fault-of .ensures ∙ ap dueFault e)
-    (turn-event-fault (a .text .now) (meaningBy (a .text .now) (a .places .now) (a .sorted) (a .meanings .now)) (a .cells) (a .events .now) (a .at) (a .n) (a .out .now) t _ _ h _ _ d, (tt, t .kept))
+    (turn-event-fault (a .text .now) (meaningBy (a .text .now) (a .places .now) (a .cursor .sorted) (a .meanings .now)) (a .cursor .cells) (a .events .now) (a .cursor .at) (a .cursor .end) (a .out .now) t _ _ h _ _ d, (tt, t .kept))
 
 body-at-requires : tie.Need-body-at-requires Inv-loop μ-loop
 body-at-requires c κs =
@@ -93,8 +93,8 @@ body-at-requires c κs =
     let g = rw (o .on .given .1) at (o .before .before .sign-due .ensures .1) in
     let h = rw (v .event .given .1) at (d .event-due .ensures .1 .0) in
     let k = rw (v .event .given .1) at (d .event-due .ensures .1 .1) in
-    let i = s .pre .1 .1 .0 in
-    (s .pre .0, (h .2, (omega (arith, t .bounded), (s .pre .1 .1 .1 .0, (s .pre .1 .1 .1 .1 .0, (omega (arith, s .pre .1 .1 .1 .1 .1 .0), omega (arith, t .kept, s .pre .1 .1 .1 .1 .1 .1)))))))
+    let i = s .pre .0 .1 .1 .0 in
+    ((s .pre .0 .0, (h .2, (omega (arith, t .bounded), (s .pre .0 .1 .1 .1 .0, s .pre .0 .1 .1 .1 .1)))), (omega (arith, s .pre .1 .0), omega (arith, t .kept, s .pre .1 .1)))
 
 enum-known-r : tie.Need-enum-known-r Inv-loop μ-loop
 enum-known-r c = search needs
@@ -118,7 +118,7 @@ returns-3 c =
     let h = rw (o .on .given .1) at (o .before .before .sign-due .ensures .0) in
     let k = rw (v .event .given .1) at (d .event-due .ensures .0) in
     let r = rw e at (b .body-at .ensures .0) in
-    rw e (turn-body-fault (a .text .now) (meaningBy (a .text .now) (a .places .now) (a .sorted) (a .meanings .now)) (a .cells) (a .events .now) (a .at) (a .n) (a .out .now) t _ _ h _ _ _ _ _ _ k r, (tt, b .body-at .ensures .1 .1 ∙ t .kept))
+    rw e (turn-body-fault (a .text .now) (meaningBy (a .text .now) (a .places .now) (a .cursor .sorted) (a .meanings .now)) (a .cursor .cells) (a .events .now) (a .cursor .at) (a .cursor .end) (a .out .now) t _ _ h _ _ _ _ _ _ k r, (tt, b .body-at .ensures .1 .1 ∙ t .kept))
 
 array-write-handled : tie.Need-array-write-handled Inv-loop μ-loop
 array-write-handled c =
@@ -126,7 +126,7 @@ array-write-handled c =
     let d = v .before .before in
     let s = d .before .before .before .before .before .before in
     let k = rw (v .event .given .1) at (d .event-due .ensures .1 .1) in
-    omega (arith, s .before .before .before .before .before .before .pre .1 .1 .1 .1 .1 .0)
+    omega (arith, s .before .before .before .before .before .before .pre .1 .0)
 
 first-fault-requires : tie.Need-first-fault-requires Inv-loop μ-loop
 first-fault-requires c κs = search needs
@@ -162,7 +162,7 @@ loop-again c =
     let k = rw (v .event .given .1) at (d .event-due .ensures .0) in
     let q = rw (r .r .given .1) at (b .body-at .ensures .0) in
     rw (c .first-fault .ensures)
-    (turn-on (a .text .now) (meaningBy (a .text .now) (a .places .now) (a .sorted) (a .meanings .now)) (a .cells) (a .events .now) (a .at) (a .n) (a .out .now) t _ _ h _ _ _ _ _ _ _ k q m (s .pre .1 .1 .1 .1 .1 .0) (omega arith) (j .1) (j .2) (omega arith) (b .body-at .ensures .1 .1))
+    (turn-on (a .text .now) (meaningBy (a .text .now) (a .places .now) (a .cursor .sorted) (a .meanings .now)) (a .cursor .cells) (a .events .now) (a .cursor .at) (a .cursor .end) (a .out .now) t _ _ h _ _ _ _ _ _ _ k q m (s .pre .1 .0) (omega arith) (j .1) (j .2) (omega arith) (b .body-at .ensures .1 .1))
 
 pub handlers-at-spec : {M : Type 1} → statement M
 handlers-at-spec =

@@ -10,8 +10,9 @@ named-at-requires c κs =
     let at-p = c .before .before in
     let at-token = at-p .before .before in
     let at-entry = at-token .before .before .before .before .before in
+    let P = at-entry .pre in
     let h = rw (at-p .p2 .given .1) at (at-token .token-at .ensures .1) in
-    (at-entry .pre .0, (omega arith, (omega arith, at-entry .pre .1 .1)))
+    ((P .0, (omega arith, (omega (arith, P .1 .1 .0), P .1 .1 .1))), (omega arith, omega arith))
 
 returns : tie.Need-returns
 returns c =
