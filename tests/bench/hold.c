@@ -19,7 +19,7 @@ enum { TABLE_HEAD = 2, EVENTS = 8, EVENTS_END = 136, EVENT_WORDS = 4, RANK = 0, 
 
 /* Tags of a sheet, of its expressions, and the numbers of functions and operations. */
 enum { EVENT = 1, PASSIVE, ACTIVE, INITIAL, HANDLER, VIEWERS = 8, CONSTANT = 16, NAME, APPLICATION };
-enum { FUNCTIONS = 14, NOT = 3, IF = 14, RANKS = 16 };
+enum { NOT = 3, IF = 14, FUNCTIONS = IF, RANKS = 16 };
 enum { OFF = 1, ON, COPY, RESTORE, PUSH, LOAD, FETCH, APPLY, SAVE, DEFER, MOVE, OPERATIONS = MOVE };
 
 static uint8_t table[ENGINE_TABLE + BEYOND], clean[ENGINE_TABLE], kept[ENGINE_TABLE + BEYOND];

@@ -11,6 +11,7 @@ use lib.IntN.{ℤ, pos, negsuc}
 use borrow.Author.Tests.{ltb-true, ltb-false, lt-ltb, le-ltb, eq-eqb}
 use Rattle.lib_base.specs.Basics.{pick}
 use Rattle.lib_base.proofs.Tools.{by-test, split}
+use Rattle.lib_signature.specs.Signature.{addFn, subtractFn, ifFn}
 use Rattle.lib_arith.specs.Exact.{signed, wrapped}
 use Rattle.lib_arith.specs.Functions.{isTrue, exact, result}
 use Rattle.lib_arith.proofs.ArithLaws.{wrapped-signed}
@@ -44,12 +45,12 @@ signed-word a =
     by-cases (decLt a (2 ^ 32)) (λ h. ap signed (wrapped-signed a h))
     (λ h. let k : 2 ^ 32 - 1 - a ≡ 0 = omega arith in rw (le-ltb a (2 ^ 31) (omega arith), k))
 
-plus-is : (a b : ℕ) → result 4 a b 0 ≡ (word a + word b) % 2 ^ 32
+plus-is : (a b : ℕ) → result addFn a b 0 ≡ (word a + word b) % 2 ^ 32
 unfolding result exact
 plus-is a b =
     rw (← signed-word a, ← signed-word b) (sym (sum (view (word a) (word-low a)) (view (word b) (word-low b)) ((word a + word b) % 2 ^ 32) refl))
 
-minus-is : (a b : ℕ) → result 5 a b 0 ≡ (word a + (2 ^ 32 - word b)) % 2 ^ 32
+minus-is : (a b : ℕ) → result subtractFn a b 0 ≡ (word a + (2 ^ 32 - word b)) % 2 ^ 32
 unfolding result exact
 minus-is a b =
     rw (← signed-word a, ← signed-word b)
@@ -59,7 +60,7 @@ minus-is a b =
 turned : (m n : ℕ) → (m + n) % 2 ^ 32 ≡ (n + m) % 2 ^ 32
 turned m n = omega arith
 
-if-is : (c a b : ℕ) → result 14 c a b ≡ pick (isTrue (signed c)) (word a) (word b)
+if-is : (c a b : ℕ) → result ifFn c a b ≡ pick (isTrue (signed c)) (word a) (word b)
 unfolding result exact word
 if-is c a b = by-test (λ z. wrapped z ≡ pick (isTrue (signed c)) (wrapped (signed a)) (wrapped (signed b))) (isTrue (signed c)) (λ t. rw t) (λ t. rw t)
 

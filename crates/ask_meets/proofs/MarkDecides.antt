@@ -9,6 +9,7 @@ use lib.Dec.{eqb}
 use borrow.Author.Tests.{eq-eqb, eqb-true, eqb-false}
 use Rattle.lib_base.specs.Basics.{pick, All}
 use Rattle.lib_base.proofs.Tools.{by-test, split, or-either}
+use Rattle.lib_signature.specs.Signature.{ifFn, addFn, subtractFn}
 use Rattle.spec_language.specs.Syntax.{Expr, con, name, app1, app2, app3, Program}
 use Rattle.spec_language.specs.Dependence.{Response, follows, takes, defers, keeps, size, events, response, mentions, written}
 use Rattle.spec_language.specs.Grammar.{Arity, unary, ternary, binary}
@@ -28,7 +29,7 @@ module _ (p : Program) (b : ℕ) where
   Parts (name i) = i ≡ b
   Parts (app1 f x) = ⊥
   Parts (app2 f x y) =
-      ((f ≡ 4) × Adds p b x × (Refers p y b → ⊥)) ⊎ (((f ≡ 5) × Adds p b x × (Refers p y b → ⊥)) ⊎ ((f ≡ 4) × (Refers p x b → ⊥) × Adds p b y))
+      ((f ≡ addFn) × Adds p b x × (Refers p y b → ⊥)) ⊎ (((f ≡ subtractFn) × Adds p b x × (Refers p y b → ⊥)) ⊎ ((f ≡ addFn) × (Refers p x b → ⊥) × Adds p b y))
   Parts (app3 f c x y) = (Refers p c b → ⊥) × Adds p b x × Adds p b y
 
   parts : {x : Expr} → Adds p b x → Parts x
@@ -98,8 +99,8 @@ module _ (p : Program) (b : ℕ) where
     Mine = Stands (app2 f x y)
 
     -- no way to add
-    never : Refers p (app2 f x y) b → (Adds p b (app2 f x y) → ⊥) → Mine (pick (eqb f 4) 2 (pick (eqb f 5) 2 2))
-    never r h = by-test Mine (eqb f 4) (λ _. naming r h) (λ _. by-test Mine (eqb f 5) (λ _. naming r h) (λ _. naming r h))
+    never : Refers p (app2 f x y) b → (Adds p b (app2 f x y) → ⊥) → Mine (pick (eqb f addFn) 2 (pick (eqb f subtractFn) 2 2))
+    never r h = by-test Mine (eqb f addFn) (λ _. naming r h) (λ _. by-test Mine (eqb f subtractFn) (λ _. naming r h) (λ _. naming r h))
 
     -- both name b
     both-name : Refers p x b → Refers p y b → Adds p b (app2 f x y) → ⊥
@@ -109,10 +110,10 @@ module _ (p : Program) (b : ℕ) where
     none-adds : (Adds p b x → ⊥) → (Adds p b y → ⊥) → Adds p b (app2 f x y) → ⊥
     none-adds h k a = ⊎-elim (λ t. h (t .1)) (λ t. ⊎-elim (λ u. h (u .1)) (λ u. k (u .2)) t) (parts a)
 
-    sum-of : f ≡ 4 → Adds p b (app2 4 x y) → Adds p b (app2 f x y)
+    sum-of : f ≡ addFn → Adds p b (app2 addFn x y) → Adds p b (app2 f x y)
     sum-of q a = subst (λ (g : ℕ). Adds p b (app2 g x y)) (sym q) a
 
-    difference-of : f ≡ 5 → Adds p b (app2 5 x y) → Adds p b (app2 f x y)
+    difference-of : f ≡ subtractFn → Adds p b (app2 subtractFn x y) → Adds p b (app2 f x y)
     difference-of q a = subst (λ (g : ℕ). Adds p b (app2 g x y)) (sym q) a
 
   -- an expression that adds names b
@@ -122,7 +123,7 @@ module _ (p : Program) (b : ℕ) where
   adds-names (plus {x = x} {y = y} a n) = in-left 4 x y (adds-names a)
   adds-names (minus {x = x} {y = y} a n) = in-left 5 x y (adds-names a)
   adds-names (added-to {x = x} {y = y} n a) = in-right 4 x y (adds-names a)
-  adds-names (either-way {c = c} {x = x} {y = y} n a d) = in-second 14 c x y (adds-names a)
+  adds-names (either-way {c = c} {x = x} {y = y} n a d) = in-second ifFn c x y (adds-names a)
 
   two : (f : ℕ) (x y : Expr) {m n : ℕ} → Stands x m → Stands y n → Stands (app2 f x y) (twoMark f m n)
   unfolding twoMark
@@ -130,51 +131,51 @@ module _ (p : Program) (b : ℕ) where
   two f x y (apart h) (naming s k) = never f x y (in-right f x y s) (none-adds f x y (λ a. h (adds-names a)) k)
   two f x y (apart h) (adding s k) =
       let r : Refers p (app2 f x y) b = in-right f x y s in
-      let other : f ≢ 4 → Adds p b (app2 f x y) → ⊥ = λ n a. ⊎-elim (λ t. n (t .0)) (λ t. ⊎-elim (λ u. h (adds-names (u .1))) (λ u. n (u .0)) t) (parts a) in
-      by-test (Stands (app2 f x y)) (eqb f 4) (λ e. adding r (sum-of f x y (eqb-true f 4 e) (added-to h k)))
-      (λ e. by-test (Stands (app2 f x y)) (eqb f 5) (λ _. naming r (other (eqb-false f 4 e))) (λ _. naming r (other (eqb-false f 4 e))))
+      let other : f ≢ addFn → Adds p b (app2 f x y) → ⊥ = λ n a. ⊎-elim (λ t. n (t .0)) (λ t. ⊎-elim (λ u. h (adds-names (u .1))) (λ u. n (u .0)) t) (parts a) in
+      by-test (Stands (app2 f x y)) (eqb f addFn) (λ e. adding r (sum-of f x y (eqb-true f addFn e) (added-to h k)))
+      (λ e. by-test (Stands (app2 f x y)) (eqb f subtractFn) (λ _. naming r (other (eqb-false f addFn e))) (λ _. naming r (other (eqb-false f addFn e))))
   two f x y (naming r h) (apart k) = never f x y (in-left f x y r) (none-adds f x y h (λ a. k (adds-names a)))
   two f x y (naming r h) (naming s k) = never f x y (in-left f x y r) (both-name f x y r s)
   two f x y (naming r h) (adding s k) = never f x y (in-left f x y r) (both-name f x y r s)
   two f x y (adding r h) (apart k) =
       let q : Refers p (app2 f x y) b = in-left f x y r in
-      by-test (Stands (app2 f x y)) (eqb f 4) (λ e. adding q (sum-of f x y (eqb-true f 4 e) (plus h k)))
-      (λ e. by-test (Stands (app2 f x y)) (eqb f 5) (λ g. adding q (difference-of f x y (eqb-true f 5 g) (minus h k)))
-      (λ g. naming q (λ a. ⊎-elim (λ t. eqb-false f 4 e (t .0)) (λ t. ⊎-elim (λ u. eqb-false f 5 g (u .0)) (λ u. eqb-false f 4 e (u .0)) t) (parts a))))
+      by-test (Stands (app2 f x y)) (eqb f addFn) (λ e. adding q (sum-of f x y (eqb-true f addFn e) (plus h k)))
+      (λ e. by-test (Stands (app2 f x y)) (eqb f subtractFn) (λ g. adding q (difference-of f x y (eqb-true f subtractFn g) (minus h k)))
+      (λ g. naming q (λ a. ⊎-elim (λ t. eqb-false f addFn e (t .0)) (λ t. ⊎-elim (λ u. eqb-false f subtractFn g (u .0)) (λ u. eqb-false f addFn e (u .0)) t) (parts a))))
   two f x y (adding r h) (naming s k) = never f x y (in-left f x y r) (both-name f x y r s)
   two f x y (adding r h) (adding s k) = never f x y (in-left f x y r) (both-name f x y r s)
 
   -- ---- `if`
 
-  three : (c x y : Expr) {l m n : ℕ} → Stands c l → Stands x m → Stands y n → Stands (app3 14 c x y) (ifMark l m n)
+  three : (c x y : Expr) {l m n : ℕ} → Stands c l → Stands x m → Stands y n → Stands (app3 ifFn c x y) (ifMark l m n)
   unfolding ifMark
-  three c x y (apart g) (apart h) (apart k) = apart (λ r. ⊎-elim g (λ t. ⊎-elim h k t) (of-three 14 c x y r))
-  three c x y (apart g) (apart h) (naming s k) = naming (in-third 14 c x y s) (λ a. k (parts a .2))
-  three c x y (apart g) (apart h) (adding s k) = naming (in-third 14 c x y s) (λ a. h (adds-names (parts a .1)))
-  three c x y (apart g) (naming r h) (apart k) = naming (in-second 14 c x y r) (λ a. h (parts a .1))
-  three c x y (apart g) (naming r h) (naming s k) = naming (in-second 14 c x y r) (λ a. h (parts a .1))
-  three c x y (apart g) (naming r h) (adding s k) = naming (in-second 14 c x y r) (λ a. h (parts a .1))
-  three c x y (apart g) (adding r h) (apart k) = naming (in-second 14 c x y r) (λ a. k (adds-names (parts a .2)))
-  three c x y (apart g) (adding r h) (naming s k) = naming (in-second 14 c x y r) (λ a. k (parts a .2))
-  three c x y (apart g) (adding r h) (adding s k) = adding (in-second 14 c x y r) (either-way g h k)
-  three c x y (naming q g) (apart h) (apart k) = naming (in-first 14 c x y q) (λ a. parts a .0 q)
-  three c x y (naming q g) (apart h) (naming s k) = naming (in-first 14 c x y q) (λ a. parts a .0 q)
-  three c x y (naming q g) (apart h) (adding s k) = naming (in-first 14 c x y q) (λ a. parts a .0 q)
-  three c x y (naming q g) (naming r h) (apart k) = naming (in-first 14 c x y q) (λ a. parts a .0 q)
-  three c x y (naming q g) (naming r h) (naming s k) = naming (in-first 14 c x y q) (λ a. parts a .0 q)
-  three c x y (naming q g) (naming r h) (adding s k) = naming (in-first 14 c x y q) (λ a. parts a .0 q)
-  three c x y (naming q g) (adding r h) (apart k) = naming (in-first 14 c x y q) (λ a. parts a .0 q)
-  three c x y (naming q g) (adding r h) (naming s k) = naming (in-first 14 c x y q) (λ a. parts a .0 q)
-  three c x y (naming q g) (adding r h) (adding s k) = naming (in-first 14 c x y q) (λ a. parts a .0 q)
-  three c x y (adding q g) (apart h) (apart k) = naming (in-first 14 c x y q) (λ a. parts a .0 q)
-  three c x y (adding q g) (apart h) (naming s k) = naming (in-first 14 c x y q) (λ a. parts a .0 q)
-  three c x y (adding q g) (apart h) (adding s k) = naming (in-first 14 c x y q) (λ a. parts a .0 q)
-  three c x y (adding q g) (naming r h) (apart k) = naming (in-first 14 c x y q) (λ a. parts a .0 q)
-  three c x y (adding q g) (naming r h) (naming s k) = naming (in-first 14 c x y q) (λ a. parts a .0 q)
-  three c x y (adding q g) (naming r h) (adding s k) = naming (in-first 14 c x y q) (λ a. parts a .0 q)
-  three c x y (adding q g) (adding r h) (apart k) = naming (in-first 14 c x y q) (λ a. parts a .0 q)
-  three c x y (adding q g) (adding r h) (naming s k) = naming (in-first 14 c x y q) (λ a. parts a .0 q)
-  three c x y (adding q g) (adding r h) (adding s k) = naming (in-first 14 c x y q) (λ a. parts a .0 q)
+  three c x y (apart g) (apart h) (apart k) = apart (λ r. ⊎-elim g (λ t. ⊎-elim h k t) (of-three ifFn c x y r))
+  three c x y (apart g) (apart h) (naming s k) = naming (in-third ifFn c x y s) (λ a. k (parts a .2))
+  three c x y (apart g) (apart h) (adding s k) = naming (in-third ifFn c x y s) (λ a. h (adds-names (parts a .1)))
+  three c x y (apart g) (naming r h) (apart k) = naming (in-second ifFn c x y r) (λ a. h (parts a .1))
+  three c x y (apart g) (naming r h) (naming s k) = naming (in-second ifFn c x y r) (λ a. h (parts a .1))
+  three c x y (apart g) (naming r h) (adding s k) = naming (in-second ifFn c x y r) (λ a. h (parts a .1))
+  three c x y (apart g) (adding r h) (apart k) = naming (in-second ifFn c x y r) (λ a. k (adds-names (parts a .2)))
+  three c x y (apart g) (adding r h) (naming s k) = naming (in-second ifFn c x y r) (λ a. k (parts a .2))
+  three c x y (apart g) (adding r h) (adding s k) = adding (in-second ifFn c x y r) (either-way g h k)
+  three c x y (naming q g) (apart h) (apart k) = naming (in-first ifFn c x y q) (λ a. parts a .0 q)
+  three c x y (naming q g) (apart h) (naming s k) = naming (in-first ifFn c x y q) (λ a. parts a .0 q)
+  three c x y (naming q g) (apart h) (adding s k) = naming (in-first ifFn c x y q) (λ a. parts a .0 q)
+  three c x y (naming q g) (naming r h) (apart k) = naming (in-first ifFn c x y q) (λ a. parts a .0 q)
+  three c x y (naming q g) (naming r h) (naming s k) = naming (in-first ifFn c x y q) (λ a. parts a .0 q)
+  three c x y (naming q g) (naming r h) (adding s k) = naming (in-first ifFn c x y q) (λ a. parts a .0 q)
+  three c x y (naming q g) (adding r h) (apart k) = naming (in-first ifFn c x y q) (λ a. parts a .0 q)
+  three c x y (naming q g) (adding r h) (naming s k) = naming (in-first ifFn c x y q) (λ a. parts a .0 q)
+  three c x y (naming q g) (adding r h) (adding s k) = naming (in-first ifFn c x y q) (λ a. parts a .0 q)
+  three c x y (adding q g) (apart h) (apart k) = naming (in-first ifFn c x y q) (λ a. parts a .0 q)
+  three c x y (adding q g) (apart h) (naming s k) = naming (in-first ifFn c x y q) (λ a. parts a .0 q)
+  three c x y (adding q g) (apart h) (adding s k) = naming (in-first ifFn c x y q) (λ a. parts a .0 q)
+  three c x y (adding q g) (naming r h) (apart k) = naming (in-first ifFn c x y q) (λ a. parts a .0 q)
+  three c x y (adding q g) (naming r h) (naming s k) = naming (in-first ifFn c x y q) (λ a. parts a .0 q)
+  three c x y (adding q g) (naming r h) (adding s k) = naming (in-first ifFn c x y q) (λ a. parts a .0 q)
+  three c x y (adding q g) (adding r h) (apart k) = naming (in-first ifFn c x y q) (λ a. parts a .0 q)
+  three c x y (adding q g) (adding r h) (naming s k) = naming (in-first ifFn c x y q) (λ a. parts a .0 q)
+  three c x y (adding q g) (adding r h) (adding s k) = naming (in-first ifFn c x y q) (λ a. parts a .0 q)
 
   -- ---- an expression of a program
 

@@ -13,6 +13,7 @@ use lib.ListN.{length, getD, List·getD-eq-default}
 use borrow.Author.Tests.{eq-eqb, ne-eqb, eqb-true, eqb-false}
 use Rattle.lib_base.specs.Basics.{pick}
 use Rattle.lib_base.proofs.Tools.{split, by-test}
+use Rattle.lib_signature.specs.Signature.{notFn, ifFn}
 use Rattle.lib_bits.specs.Bits.{bit}
 use Rattle.lib_bits.proofs.BitLaws.{bit-none, bit-one}
 use Rattle.ask_meets.specs.Marks.{nameMark, oneMark, twoMark, ifMark, pushMark, appliedMark}
@@ -29,17 +30,17 @@ name-past rows b j l n h = let k : length rows ≤ j = omega arith in rw (ne-eqb
 
 -- ---- functions
 
-pub applied-one : (f s m r : ℕ) → f ≡ 3 → m ≡ oneMark (s % 4) → r ≡ pushMark (s / 4) m → r ≡ appliedMark f s
+pub applied-one : (f s m r : ℕ) → f ≡ notFn → m ≡ oneMark (s % 4) → r ≡ pushMark (s / 4) m → r ≡ appliedMark f s
 unfolding appliedMark
-applied-one f s m r h q e = rw (eq-eqb f 3 h, ← q) e
+applied-one f s m r h q e = rw (eq-eqb f notFn h, ← q) e
 
-pub applied-if : (f s m r : ℕ) → (f ≡ 3 → ⊥) → f ≡ 14 → m ≡ ifMark (s / 16 % 4) (s / 4 % 4) (s % 4) → r ≡ pushMark (s / 64) m → r ≡ appliedMark f s
+pub applied-if : (f s m r : ℕ) → (f ≡ notFn → ⊥) → f ≡ ifFn → m ≡ ifMark (s / 16 % 4) (s / 4 % 4) (s % 4) → r ≡ pushMark (s / 64) m → r ≡ appliedMark f s
 unfolding appliedMark
-applied-if f s m r n h q e = rw (ne-eqb f 3 n, eq-eqb f 14 h, ← q) e
+applied-if f s m r n h q e = rw (ne-eqb f notFn n, eq-eqb f ifFn h, ← q) e
 
-pub applied-two : (f s m r : ℕ) → (f ≡ 3 → ⊥) → (f ≡ 14 → ⊥) → m ≡ twoMark f (s / 4 % 4) (s % 4) → r ≡ pushMark (s / 16) m → r ≡ appliedMark f s
+pub applied-two : (f s m r : ℕ) → (f ≡ notFn → ⊥) → (f ≡ ifFn → ⊥) → m ≡ twoMark f (s / 4 % 4) (s % 4) → r ≡ pushMark (s / 16) m → r ≡ appliedMark f s
 unfolding appliedMark
-applied-two f s m r n h q e = rw (ne-eqb f 3 n, ne-eqb f 14 h, ← q) e
+applied-two f s m r n h q e = rw (ne-eqb f notFn n, ne-eqb f ifFn h, ← q) e
 
 -- ---- a set without a number
 

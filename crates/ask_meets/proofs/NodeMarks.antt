@@ -12,6 +12,8 @@ use lib.Seq.{getD-drop, take-suc}
 use borrow.Author.Tests.{eq-eqb, ne-eqb}
 use Rattle.lib_base.specs.Basics.{pick}
 use Rattle.lib_base.proofs.Tools.{by-test}
+use Rattle.lib_signature.specs.Signature.{notFn, ifFn, last, addFn, subtractFn}
+use Rattle.lib_signature.proofs.Laws.{two-is}
 use Rattle.spec_language.specs.Syntax.{Expr, con, name, app1, app2, app3, Program}
 use Rattle.spec_language.specs.Grammar.{Arity, unary, ternary, binary}
 use Rattle.spec_language.specs.Fits.{Nested, n-con, n-name, n-app1, n-app2, n-app3}
@@ -51,8 +53,8 @@ two-small : (f a b : ℕ) → twoMark f a b < 4
 unfolding twoMark
 two-small f a b =
     by-test (λ x. x < 4) (eqb (a + b) 0) (λ _. omega arith)
-    (λ _. by-test (λ x. x < 4) (eqb f 4) (λ _. by-test (λ x. x < 4) (eqb (a + b) 3) (λ _. omega arith) (λ _. omega arith))
-    (λ _. by-test (λ x. x < 4) (eqb f 5)
+    (λ _. by-test (λ x. x < 4) (eqb f addFn) (λ _. by-test (λ x. x < 4) (eqb (a + b) 3) (λ _. omega arith) (λ _. omega arith))
+    (λ _. by-test (λ x. x < 4) (eqb f subtractFn)
     (λ _. by-test (λ x. x < 4) (eqb a 3) (λ _. by-test (λ x. x < 4) (eqb b 0) (λ _. omega arith) (λ _. omega arith)) (λ _. omega arith)) (λ _. omega arith)))
 
 if-small : (c a b : ℕ) → ifMark c a b < 4
@@ -117,29 +119,29 @@ module _ (leads : ℕ → Bool) (b : ℕ) where
       let c : nodeWord (73014444032 + i) ≡ i = omega arith in
       rw (a, c) (pushes k s (nameMark leads b i) r)
 
-  app-step : (s f : ℕ) → f < 15 → markStep leads b s (77309411328 + f) ≡ appliedMark f s
+  app-step : (s f : ℕ) → f ≤ last → markStep leads b s (77309411328 + f) ≡ appliedMark f s
   unfolding markStep
   app-step s f h =
       let a : nodeTag (77309411328 + f) ≡ 18 = omega arith in
       let c : nodeWord (77309411328 + f) ≡ f = omega arith in
       rw (a, c)
 
-applied-not : (k s x : ℕ) → s < room (suc k) → x < 4 → appliedMark 3 (s * 4 + x) ≡ s * 4 + oneMark x
+applied-not : (k s x : ℕ) → s < room (suc k) → x < 4 → appliedMark notFn (s * 4 + x) ≡ s * 4 + oneMark x
 unfolding appliedMark
 applied-not k s x r a =
     let t : (s * 4 + x) / 4 ≡ s = omega arith in
     let u : (s * 4 + x) % 4 ≡ x = omega arith in
     rw (t, u) (pushes k s (oneMark x) r)
 
-applied-two : (k f s x y : ℕ) → (f ≡ 3 → ⊥) → (f ≡ 14 → ⊥) → s < room (suc k) → x < 4 → y < 4 → appliedMark f ((s * 4 + x) * 4 + y) ≡ s * 4 + twoMark f x y
+applied-two : (k f s x y : ℕ) → (f ≡ notFn → ⊥) → (f ≡ ifFn → ⊥) → s < room (suc k) → x < 4 → y < 4 → appliedMark f ((s * 4 + x) * 4 + y) ≡ s * 4 + twoMark f x y
 unfolding appliedMark
 applied-two k f s x y n m r a c =
     let t : ((s * 4 + x) * 4 + y) / 16 ≡ s = omega arith in
     let u : ((s * 4 + x) * 4 + y) / 4 % 4 ≡ x = omega arith in
     let v : ((s * 4 + x) * 4 + y) % 4 ≡ y = omega arith in
-    rw (ne-eqb f 3 n, ne-eqb f 14 m, t, u, v) (pushes k s (twoMark f x y) r)
+    rw (ne-eqb f notFn n, ne-eqb f ifFn m, t, u, v) (pushes k s (twoMark f x y) r)
 
-applied-if : (k s x y z : ℕ) → s < room (suc k) → x < 4 → y < 4 → z < 4 → appliedMark 14 (((s * 4 + x) * 4 + y) * 4 + z) ≡ s * 4 + ifMark x y z
+applied-if : (k s x y z : ℕ) → s < room (suc k) → x < 4 → y < 4 → z < 4 → appliedMark ifFn (((s * 4 + x) * 4 + y) * 4 + z) ≡ s * 4 + ifMark x y z
 unfolding appliedMark
 applied-if k s x y z r a c d =
     let t : (((s * 4 + x) * 4 + y) * 4 + z) / 64 ≡ s = omega arith in
@@ -160,28 +162,29 @@ module _ (p : Program) (n : ℕ) (leads : ℕ → Bool) (b : ℕ) (same : (j : �
   over-expr (n-con {k = k} {w = w} h) m s r = con-step leads b k s w h r
   over-expr (n-name {k = k} {i = i} h) m s r = name-step leads b k s i h r ∙ ap (λ (z : ℕ). s * 4 + z) (name-same i m)
   over-expr (n-app1 {k = k} {f = f} {a = x} unary hx) m s r =
-      over-join leads b s (nodes x) ((77309411328 + 3) ∷ [])
-      ∙ rw (over-expr hx m s (none-more k s r), marksOver) (app-step leads b (s * 4 + markOf p b x) 3 (omega arith) ∙ applied-not k s (markOf p b x) r (mark-small p b x))
+      over-join leads b s (nodes x) ((77309411328 + notFn) ∷ [])
+      ∙ rw (over-expr hx m s (none-more k s r), marksOver) (app-step leads b (s * 4 + markOf p b x) notFn (omega arith) ∙ applied-not k s (markOf p b x) r (mark-small p b x))
   over-expr (n-app2 {k = k} {f = f} {a = x} {b = y} (binary h1 h2 h3) hx hy) m s r =
       let mx = mark-small p b x in
       let my = mark-small p b y in
+      let two = two-is f h3 in
       over-join leads b s (nodes x) (nodes y ++ ((77309411328 + f) ∷ []))
       ∙ ap (λ (t : ℕ). marksOver leads b t (nodes y ++ ((77309411328 + f) ∷ []))) (over-expr hx (m .0) s (none-more k s r))
       ∙ over-join leads b (s * 4 + markOf p b x) (nodes y) ((77309411328 + f) ∷ [])
       ∙ ap (λ (t : ℕ). marksOver leads b t ((77309411328 + f) ∷ [])) (over-expr hy (m .1) (s * 4 + markOf p b x) (one-more k s (markOf p b x) r mx))
       ∙ app-step leads b ((s * 4 + markOf p b x) * 4 + markOf p b y) f (omega arith)
-      ∙ applied-two k f s (markOf p b x) (markOf p b y) h3 (omega arith) r mx my
+      ∙ applied-two k f s (markOf p b x) (markOf p b y) (two .0) (two .1) r mx my
   over-expr (n-app3 {k = k} {f = f} {a = x} {b = y} {c = z} ternary hx hy hz) m s r =
       let mx = mark-small p b x in
       let my = mark-small p b y in
       let mz = mark-small p b z in
-      over-join leads b s (nodes x) (nodes y ++ (nodes z ++ ((77309411328 + 14) ∷ [])))
-      ∙ ap (λ (t : ℕ). marksOver leads b t (nodes y ++ (nodes z ++ ((77309411328 + 14) ∷ [])))) (over-expr hx (m .0) s (none-more k s r))
-      ∙ over-join leads b (s * 4 + markOf p b x) (nodes y) (nodes z ++ ((77309411328 + 14) ∷ []))
-      ∙ ap (λ (t : ℕ). marksOver leads b t (nodes z ++ ((77309411328 + 14) ∷ []))) (over-expr hy (m .1) (s * 4 + markOf p b x) (one-more k s (markOf p b x) r mx))
-      ∙ over-join leads b ((s * 4 + markOf p b x) * 4 + markOf p b y) (nodes z) ((77309411328 + 14) ∷ [])
-      ∙ ap (λ (t : ℕ). marksOver leads b t ((77309411328 + 14) ∷ [])) (over-expr hz (m .2) ((s * 4 + markOf p b x) * 4 + markOf p b y) (two-more k s (markOf p b x) (markOf p b y) r mx my))
-      ∙ app-step leads b (((s * 4 + markOf p b x) * 4 + markOf p b y) * 4 + markOf p b z) 14 (omega arith)
+      over-join leads b s (nodes x) (nodes y ++ (nodes z ++ ((77309411328 + ifFn) ∷ [])))
+      ∙ ap (λ (t : ℕ). marksOver leads b t (nodes y ++ (nodes z ++ ((77309411328 + ifFn) ∷ [])))) (over-expr hx (m .0) s (none-more k s r))
+      ∙ over-join leads b (s * 4 + markOf p b x) (nodes y) (nodes z ++ ((77309411328 + ifFn) ∷ []))
+      ∙ ap (λ (t : ℕ). marksOver leads b t (nodes z ++ ((77309411328 + ifFn) ∷ []))) (over-expr hy (m .1) (s * 4 + markOf p b x) (one-more k s (markOf p b x) r mx))
+      ∙ over-join leads b ((s * 4 + markOf p b x) * 4 + markOf p b y) (nodes z) ((77309411328 + ifFn) ∷ [])
+      ∙ ap (λ (t : ℕ). marksOver leads b t ((77309411328 + ifFn) ∷ [])) (over-expr hz (m .2) ((s * 4 + markOf p b x) * 4 + markOf p b y) (two-more k s (markOf p b x) (markOf p b y) r mx my))
+      ∙ app-step leads b (((s * 4 + markOf p b x) * 4 + markOf p b y) * 4 + markOf p b z) ifFn (omega arith)
       ∙ applied-if k s (markOf p b x) (markOf p b y) (markOf p b z) r mx my mz
 
   -- from an empty stack

@@ -7,6 +7,7 @@ use mathlib.Core.List.{List}
 use lib.ListN.{getD}
 use lib.Dec.{eqb}
 use Rattle.lib_base.specs.Basics.{pick}
+use Rattle.lib_signature.specs.Signature.{notFn, ifFn, addFn, subtractFn}
 use Rattle.spec_language.specs.Syntax.{Expr, con, name, app1, app2, app3, Program}
 use Rattle.spec_language.specs.Dependence.{Response, follows, takes, defers, keeps, response}
 use Rattle.draft_form.specs.Entry.{nodeTag, nodeWord}
@@ -27,7 +28,7 @@ oneMark a = pick (eqb a 0) 0 2
 unfoldable pub twoMark : ℕ → ℕ → ℕ → ℕ
 twoMark f a b =
     pick (eqb (a + b) 0) 0
-    (pick (eqb f 4) (pick (eqb (a + b) 3) 3 2) (pick (eqb f 5) (pick (eqb a 3) (pick (eqb b 0) 3 2) 2) 2))
+    (pick (eqb f addFn) (pick (eqb (a + b) 3) 3 2) (pick (eqb f subtractFn) (pick (eqb a 3) (pick (eqb b 0) 3 2) 2) 2))
 
 -- of `if`: it adds where its condition does not name b and both others add
 unfoldable pub ifMark : ℕ → ℕ → ℕ → ℕ
@@ -62,8 +63,8 @@ pushMark s m = s % 4611686018427387904 * 4 + m
 -- a function takes its arguments' marks from the stack
 unfoldable pub appliedMark : ℕ → ℕ → ℕ
 appliedMark f s =
-    pick (eqb f 3) (pushMark (s / 4) (oneMark (s % 4)))
-    (pick (eqb f 14) (pushMark (s / 64) (ifMark (s / 16 % 4) (s / 4 % 4) (s % 4)))
+    pick (eqb f notFn) (pushMark (s / 4) (oneMark (s % 4)))
+    (pick (eqb f ifFn) (pushMark (s / 64) (ifMark (s / 16 % 4) (s / 4 % 4) (s % 4)))
     (pushMark (s / 16) (twoMark f (s / 4 % 4) (s % 4))))
 
 unfoldable pub markStep : (ℕ → Bool) → ℕ → ℕ → ℕ → ℕ

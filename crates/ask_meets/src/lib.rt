@@ -16,7 +16,7 @@ ghost use Rattle.ask_leak.specs.Leaking.{namesAny};
 ghost use Rattle.ask_meets.specs.Marks.{nameMark, oneMark, twoMark, ifMark, pushMark, appliedMark, markStep};
 ghost use Rattle.ask_meets.specs.Strict.{coneOn, markIn, strictAtOn, strictOn, StrictSets};
 use draft_form::layout;
-use spec_language::functions;
+use lib_signature::functions;
 use spec_language::limits;
 
 // The marks: an expression does not name the behaviour, names it, adds to it.

@@ -11,7 +11,8 @@ use lib.Dec.{ltb}
 use lib.ListN.{length, set, replicate, length-set}
 use lib.Seq.{getD-set-same, getD-set-other}
 use borrow.Author.Tests.{lt-ltb, le-ltb}
-use Rattle.lib_arith.specs.Functions.{result, arity}
+use Rattle.lib_signature.specs.Signature.{arity, last}
+use Rattle.lib_arith.specs.Functions.{result}
 use Rattle.spec_language.specs.Syntax.{Expr}
 use Rattle.spec_language.specs.Fits.{Nested, n-con, n-name, n-app1, n-app2, n-app3}
 use Rattle.spec_language.specs.Accepted.{NamesIn}
@@ -66,7 +67,7 @@ module _ (v : List ℕ) where
 
   -- ---- applications
 
-  apply-node : (f n : ℕ) (s rest : List ℕ) (k w : ℕ) → f ≤ 14 → arity f ≡ n → appliedAt f n s k ≡ w
+  apply-node : (f n : ℕ) (s rest : List ℕ) (k w : ℕ) → f ≤ last → arity f ≡ n → appliedAt f n s k ≡ w
       → nodesOn v ((77309411328 + f) ∷ rest) s (k + n) ≡ nodesOn v rest (set s k w) (k + 1)
   unfolding nodeStack nodeDepth
   apply-node f n s rest k w b a e =
@@ -77,7 +78,7 @@ module _ (v : List ℕ) where
       next (77309411328 + f) rest s (set s k w) (k + n) (k + 1) (rw (t, u, a, q, r, e)) (rw (t, u, a, q, r))
 
   -- the arguments stand on the stack t, from place k on; what is below is as in s
-  calls : (xs : List ℕ) (f n : ℕ) (s t : List ℕ) (k m w : ℕ) → m ≡ k + n → f ≤ 14 → arity f ≡ n → appliedAt f n t k ≡ w → length t ≡ 64 → k < 64
+  calls : (xs : List ℕ) (f n : ℕ) (s t : List ℕ) (k m w : ℕ) → m ≡ k + n → f ≤ last → arity f ≡ n → appliedAt f n t k ≡ w → length t ≡ 64 → k < 64
       → ((j : ℕ) → j < k → at t j ≡ at s j) → ((rest : List ℕ) → nodesOn v (xs ++ rest) s k ≡ nodesOn v rest t m)
       → Pushes (xs ++ ((77309411328 + f) ∷ [])) s k w
   calls xs f n s t k m w d b a e l h under on = record {
@@ -95,11 +96,11 @@ module _ (v : List ℕ) where
       → ((rest : List ℕ) → nodesOn v (ys ++ rest) t m ≡ nodesOn v rest u n) → (rest : List ℕ) → nodesOn v ((xs ++ ys) ++ rest) s k ≡ nodesOn v rest u n
   joined xs ys s t u k m n g h rest = ap (λ zs. nodesOn v zs s k) (append-assoc xs ys rest) ∙ g (ys ++ rest) ∙ h rest
 
-  call-one : (f : ℕ) (xs s : List ℕ) (k a : ℕ) → f ≤ 14 → arity f ≡ 1 → k < 64 → Pushes xs s k a → Pushes (xs ++ ((77309411328 + f) ∷ [])) s k (result f a 0 0)
+  call-one : (f : ℕ) (xs s : List ℕ) (k a : ℕ) → f ≤ last → arity f ≡ 1 → k < 64 → Pushes xs s k a → Pushes (xs ++ ((77309411328 + f) ∷ [])) s k (result f a 0 0)
   call-one f xs s k a b r h p =
       calls xs f 1 s (p .stack) k (k + 1) (result f a 0 0) refl b r (rw (add-zero, p .top)) (p .long) h (p .below) (p .on)
 
-  call-two : (f : ℕ) (xs ys s : List ℕ) (k a c : ℕ) → f ≤ 14 → arity f ≡ 2 → k < 64 → (p : Pushes xs s k a) → Pushes ys (p .stack) (k + 1) c
+  call-two : (f : ℕ) (xs ys s : List ℕ) (k a c : ℕ) → f ≤ last → arity f ≡ 2 → k < 64 → (p : Pushes xs s k a) → Pushes ys (p .stack) (k + 1) c
       → Pushes ((xs ++ ys) ++ ((77309411328 + f) ∷ [])) s k (result f a c 0)
   call-two f xs ys s k a c b r h p q =
       let z : at (q .stack) k ≡ a = q .below k (omega arith) ∙ p .top in
@@ -107,7 +108,7 @@ module _ (v : List ℕ) where
       (λ j l. q .below j (omega arith) ∙ p .below j l)
       (joined xs ys s (p .stack) (q .stack) k (k + 1) (k + 1 + 1) (p .on) (q .on))
 
-  call-three : (f : ℕ) (xs ys zs s : List ℕ) (k a c g : ℕ) → f ≤ 14 → arity f ≡ 3 → k < 64 → (p : Pushes xs s k a) → (q : Pushes ys (p .stack) (k + 1) c)
+  call-three : (f : ℕ) (xs ys zs s : List ℕ) (k a c g : ℕ) → f ≤ last → arity f ≡ 3 → k < 64 → (p : Pushes xs s k a) → (q : Pushes ys (p .stack) (k + 1) c)
       → Pushes zs (q .stack) (k + 1 + 1) g → Pushes ((xs ++ (ys ++ zs)) ++ ((77309411328 + f) ∷ [])) s k (result f a c g)
   call-three f xs ys zs s k a c g b r h p q t =
       let y : at (t .stack) k ≡ a = t .below k (omega arith) ∙ q .below k (omega arith) ∙ p .top in

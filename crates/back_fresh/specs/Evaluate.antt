@@ -6,7 +6,8 @@ use mathlib.Core.List.{List, [], _∷_}
 use lib.ListN.{getD, set, take, drop, replicate}
 use lib.Dec.{eqb, ltb}
 use Rattle.lib_base.specs.Basics.{pick}
-use Rattle.lib_arith.specs.Functions.{result, arity}
+use Rattle.lib_signature.specs.Signature.{arity}
+use Rattle.lib_arith.specs.Functions.{result}
 use Rattle.draft_form.specs.Draft.{entryOf, usedBy}
 use Rattle.draft_form.specs.Entry.{entryStart, entryCount, nodeTag, nodeWord}
 

@@ -91,7 +91,7 @@ fn eval_node(node: u64, values: &[u32], stack: &mut [u32], k: usize) -> usize
         return push(stack, k, u);
     }
     let f = (w % BYTE) as u8;
-    let n = lib_functions::arity_of(f);
+    let n = lib_signature::arity_of(f);
     apply_top(f, n, stack, k)
 }
 

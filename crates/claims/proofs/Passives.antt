@@ -13,7 +13,8 @@ use Rattle.lib_base.specs.Basics.{pick}
 use Rattle.lib_base.proofs.Tools.{by-test, split}
 use Rattle.lib_word.specs.Word.{getAt, get, put}
 use Rattle.lib_word.proofs.Laws.{length-put, get-same, get-other}
-use Rattle.lib_arith.specs.Functions.{arity, result, over}
+use Rattle.lib_signature.specs.Signature.{arity, notFn, ifFn}
+use Rattle.lib_arith.specs.Functions.{result, over}
 use Rattle.spec_language.specs.Refusals.{foreign}
 use Rattle.format_layout.specs.Layout.{passivesStart, passivesLength}
 use Rattle.format_layout.specs.Foreign.{codeFits}
@@ -63,9 +64,9 @@ module _ (l : List ℕ) (long : 2048 ≤ length l) where
       let x = get l (327 + d) in
       let y = get l (326 + d) in
       let z = get l (325 + d) in
-      split (eqb f 3)
+      split (eqb f notFn)
       (λ e. let z : d ≡ d - 0 = omega arith in rw e (get-other (noted l (over f x 0 0)) (327 + d) (result f x 0 0) 6 (omega arith) ∙ noted-deep (over f x 0 0) ∙ z))
-      (λ e. split (eqb f 14)
+      (λ e. split (eqb f ifFn)
       (λ g. rw (e, g) (put-deep (put (noted l (over f z y x)) (325 + d) (result f z y x)) (d - 2) (length-put (noted l (over f z y x)) (325 + d) (result f z y x) ∙ noted-length (over f z y x))))
       (λ g. rw (e, g) (put-deep (put (noted l (over f y x 0)) (326 + d) (result f y x 0)) (d - 1) (length-put (noted l (over f y x 0)) (326 + d) (result f y x 0) ∙ noted-length (over f y x 0)))))
 

@@ -11,7 +11,7 @@ use lib.Dec.{ltb, eqb}
 use lib.ListN.{length, take, drop, replicate}
 use Rattle.lib_base.specs.Basics.{pick, All}
 use Rattle.lib_word.specs.Word.{get}
-use Rattle.lib_arith.specs.Functions.{arity}
+use Rattle.lib_signature.specs.Signature.{arity}
 use Rattle.spec_language.specs.Reading.{readSheet}
 use Rattle.spec_language.specs.Rights.{may}
 use Rattle.spec_language.specs.Answers.{told}

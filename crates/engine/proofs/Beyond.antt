@@ -14,6 +14,7 @@ use borrow.Author.Tests.{ltb-false, leb-false, le-leb, eqb-false}
 use Rattle.lib_base.specs.Basics.{All}
 use Rattle.lib_base.proofs.Tools.{by-test}
 use Rattle.lib_word.proofs.Laws.{long}
+use Rattle.lib_signature.specs.Signature.{notFn, ifFn}
 use Rattle.spec_language.specs.Rights.{may}
 use Rattle.spec_semantics.proofs.Lengths.{length-fresh}
 use Rattle.spec_model.specs.Model.{Call, arrive, step, board}
@@ -108,8 +109,8 @@ module _ (l : List ℕ) (d : ℕ) (shallow : d ≤ 64) where
   apply-kept : (f : ℕ) → Kept l (applyOn l d f)
   unfolding applyOn applyOne applyTwo applyThree
   apply-kept f =
-      by-test (Kept l) (eqb f 3) (λ _. kept-put _ (327 + d) _ (omega arith) (noted-kept _))
-      (λ _. by-test (Kept l) (eqb f 14) (λ _. kept-put _ 6 (d - 2) (omega arith) (kept-put _ (325 + d) _ (omega arith) (noted-kept _)))
+      by-test (Kept l) (eqb f notFn) (λ _. kept-put _ (327 + d) _ (omega arith) (noted-kept _))
+      (λ _. by-test (Kept l) (eqb f ifFn) (λ _. kept-put _ 6 (d - 2) (omega arith) (kept-put _ (325 + d) _ (omega arith) (noted-kept _)))
       (λ _. kept-put _ 6 (d - 1) (omega arith) (kept-put _ (326 + d) _ (omega arith) (noted-kept _))))
 
   transfer-kept : (k j : ℕ) → j < 512 → Kept l (transfer l k j)

@@ -10,8 +10,9 @@ use borrow.Author.Tests.{ltb-true, ne-eqb}
 use Rattle.lib_base.specs.Basics.{pick, All}
 use Rattle.lib_base.proofs.Tools.{through}
 use Rattle.lib_word.specs.Word.{get}
+use Rattle.lib_signature.specs.Signature.{arity, ifFn}
 use Rattle.lib_arith.specs.Exact.{beyond}
-use Rattle.lib_arith.specs.Functions.{arity, exact, result, over}
+use Rattle.lib_arith.specs.Functions.{exact, result, over}
 use Rattle.spec_language.specs.Sheet.{Sheet, cellCount, entriesOut, fillTerm, fillClauses, fillEntries, fill, paramsOf, paramsOfClauses, paramsOfEntries}
 use Rattle.spec_language.specs.Dependence.{takes, keeps, handled, mentions, needs, dependsOn, Reach, one, more, NoCycle}
 use Rattle.spec_language.specs.Syntax.{Expr, con, name, app2, app3}
@@ -82,7 +83,7 @@ names-known = refl
 
 -- the hit's points need b0, and nothing else needs anything
 abbrev points : Expr
-points = app3 14 (name 0) (name 1) (app2 4 (name 1) (con 10))
+points = app3 ifFn (name 0) (name 1) (app2 4 (name 1) (con 10))
 
 over-needs : (b : Bool) (j : ℕ) → needs 0 j (elim b [ true ↦ takes (con 1) | false ↦ keeps ]) ≡ true → ⊥
 unfolding mentions

@@ -5,8 +5,9 @@ use Prim.Native.Nat.{ℕ}
 use mathlib.Core.Path.{_≡_, refl}
 use mathlib.Core.List.{List, [], _∷_, _++_, flatten, flatMap}
 use lib.ListN.{replicate}
+use Rattle.lib_signature.specs.Signature.{arity}
 use Rattle.lib_arith.specs.Exact.{beyond}
-use Rattle.lib_arith.specs.Functions.{arity, exact, result, over}
+use Rattle.lib_arith.specs.Functions.{exact, result, over}
 use Rattle.spec_language.specs.Syntax.{con, name, app2, app3, immediate, later, handler, active, Program}
 use Rattle.spec_language.specs.Dependence.{handled, mentions}
 use Rattle.spec_language.specs.Order.{met, find, order, upTo, metAtOnce, phaseOne}

@@ -12,7 +12,7 @@ use borrow.Author.Tests.{eqb-true}
 use Rattle.lib_base.specs.Basics.{pick}
 use Rattle.lib_base.proofs.Tools.{split, by-two}
 use Rattle.lib_word.specs.Word.{getAt}
-use Rattle.lib_arith.specs.Functions.{arity}
+use Rattle.lib_signature.specs.Signature.{arity, notFn, ifFn, last}
 use Rattle.spec_language.specs.Syntax.{Expr}
 use Rattle.spec_language.specs.Sheet.{Term, literal, variable, param, apply1, apply2, apply3, fillTerm}
 use Rattle.spec_language.specs.Code.{sizeOf}
@@ -82,7 +82,7 @@ module _ (arg : List ℕ → Got Term) (rd : List ℕ → List ℕ → ℕ → O
         whole-at Same (got x r) v at _ _ h (λ e. (after, fits, omega arith, (let q : at + 3 ≡ size = omega arith in rw (q, count, same)))) refl
 
   module _ (f : ℕ) (w : List ℕ) (full : length (f ∷ w) + 3 ≡ size) where
-    one-arg : eqb f 3 ≡ true → Same (filling (argsOf arg f w) r) (readBody rd (Apply f) (f ∷ w) d₀ n₀)
+    one-arg : eqb f notFn ≡ true → Same (filling (argsOf arg f w) r) (readBody rd (Apply f) (f ∷ w) d₀ n₀)
     unfolding arity fillTerm nodes sizeOf
     one-arg e =
         let q : arity f ≡ 1 = rw e in
@@ -91,7 +91,7 @@ module _ (arg : List ℕ → Got Term) (rd : List ℕ → List ℕ → ℕ → O
         (λ a i h k. rw e (end f (f ∷ w) full i (sets d₀ n₀ (nodes (raw a))) (n₀ + sizeOf (raw a)) (apply1 f a) h (omega arith) (omega arith)
         (sym (sets-nodes (raw a) d₀ n₀ ((77309411328 + f) ∷ []))))))
 
-    two-args : eqb f 3 ≡ false → eqb f 14 ≡ false → Same (filling (argsOf arg f w) r) (readBody rd (Apply f) (f ∷ w) d₀ n₀)
+    two-args : eqb f notFn ≡ false → eqb f ifFn ≡ false → Same (filling (argsOf arg f w) r) (readBody rd (Apply f) (f ∷ w) d₀ n₀)
     unfolding arity fillTerm nodes sizeOf
     two-args e c =
         let q : arity f ≡ 2 = rw (e, c) in
@@ -101,7 +101,7 @@ module _ (arg : List ℕ → Got Term) (rd : List ℕ → List ℕ → ℕ → O
         (λ b j h₁ k₁. rw c (end f (f ∷ w) full j (sets (sets d₀ n₀ (nodes (raw a))) (n₀ + sizeOf (raw a)) (nodes (raw b))) (n₀ + sizeOf (raw a) + sizeOf (raw b)) (apply2 f a b) h₁ (omega arith) (omega arith)
         (sym (sets-nodes (raw a) d₀ n₀ (nodes (raw b) ++ ((77309411328 + f) ∷ [])) ∙ sets-nodes (raw b) (sets d₀ n₀ (nodes (raw a))) (n₀ + sizeOf (raw a)) ((77309411328 + f) ∷ []))))))))
 
-    three-args : eqb f 3 ≡ false → eqb f 14 ≡ true → Same (filling (argsOf arg f w) r) (readBody rd (Apply f) (f ∷ w) d₀ n₀)
+    three-args : eqb f notFn ≡ false → eqb f ifFn ≡ true → Same (filling (argsOf arg f w) r) (readBody rd (Apply f) (f ∷ w) d₀ n₀)
     unfolding arity fillTerm nodes sizeOf
     three-args e c =
         let q : arity f ≡ 3 = rw (e, c) in
@@ -116,7 +116,7 @@ module _ (arg : List ℕ → Got Term) (rd : List ℕ → List ℕ → ℕ → O
         ∙ sets-nodes (raw x) (sets (sets d₀ n₀ (nodes (raw a))) (n₀ + sizeOf (raw a)) (nodes (raw b))) (n₀ + sizeOf (raw a) + sizeOf (raw b)) ((77309411328 + f) ∷ [])))))))))
 
     args : Same (filling (argsOf arg f w) r) (readBody rd (Apply f) (f ∷ w) d₀ n₀)
-    args = split (eqb f 3) one-arg (λ e. split (eqb f 14) (three-args e) (two-args e))
+    args = split (eqb f notFn) one-arg (λ e. split (eqb f ifFn) (three-args e) (two-args e))
 
   -- by the tag, with the value w
   abbrev Begins : List ℕ → Got Term → Head → Type 0
@@ -132,11 +132,11 @@ module _ (arg : List ℕ → Got Term) (rd : List ℕ → List ℕ → ℕ → O
       rw (one, is, q) (after, fits, omega arith, refl)
 
   app-begins : (w : List ℕ) → length w + 3 ≡ size
-      → Begins w (byteIn w (λ f u. pick (eqb f 0 || ltb 14 f) (bad offScale) (argsOf arg f u)))
-      (pick (eqb (length w) 0) (NoHead 6) (pick (eqb (getD w 0 0) 0) (NoHead 8) (pick (ltb 14 (getD w 0 0)) (NoHead 8) (Apply (getD w 0 0)))))
+      → Begins w (byteIn w (λ f u. pick (eqb f 0 || ltb last f) (bad offScale) (argsOf arg f u)))
+      (pick (eqb (length w) 0) (NoHead 6) (pick (eqb (getD w 0 0) 0) (NoHead 8) (pick (ltb last (getD w 0 0)) (NoHead 8) (Apply (getD w 0 0)))))
   app-begins [] full = refl
   app-begins (f ∷ w) full =
-      rw (eqb·suc-zero (length w)) (by-either (Begins (f ∷ w)) (eqb f 0) (ltb 14 f) refl (λ e c. args f w full))
+      rw (eqb·suc-zero (length w)) (by-either (Begins (f ∷ w)) (eqb f 0) (ltb last f) refl (λ e c. args f w full))
 
   begins : (left t : ℕ) (w : List ℕ) → length w + 3 ≡ size → Begins w (termIn arg t w) (headAt (suc left) t w)
   unfolding headAt fillTerm nodes sizeOf

@@ -8,7 +8,7 @@ use lib.ListN.{length, getD, take, drop, set}
 use lib.Dec.{ltb, eqb}
 use Rattle.lib_base.specs.Basics.{pick}
 use Rattle.lib_word.specs.Word.{getAt}
-use Rattle.lib_arith.specs.Functions.{arity}
+use Rattle.lib_signature.specs.Signature.{arity, last}
 use Rattle.spec_language.specs.Refusals.{wrongLength, offScale, tooDeep}
 use Rattle.sheet_field.specs.Field.{fieldOf, partOf}
 use Rattle.sheet_field.specs.declared.Field.{Field}
@@ -31,7 +31,7 @@ headAt left t v =
     (pick (eqb (length v) 1) (pick (ltb 7 (getD v 0 0)) (NoHead offScale) (Leaf (81604378624 + getD v 0 0) 4)) (NoHead wrongLength))
     (pick (eqb (length v) 0) (NoHead wrongLength)
     (pick (eqb (getD v 0 0) 0) (NoHead offScale)
-    (pick (ltb 14 (getD v 0 0)) (NoHead offScale)
+    (pick (ltb last (getD v 0 0)) (NoHead offScale)
     (Apply (getD v 0 0))))))))
 
 abbrev pub headFrom : ℕ → Field → List ℕ → Head

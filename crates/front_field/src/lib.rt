@@ -5,11 +5,11 @@ ghost use lib.ListN.{length};
 ghost use Rattle.draft_form.specs.Draft.{draftLength};
 ghost use Rattle.front_field.specs.Expression.{headAt, headOf, expressionValue, HeadIn, out, closeAt, exprOf, ReadIn, CloseIn};
 use draft_form::layout;
+use lib_signature::functions;
 use sheet_field::Field;
 use sheet_field::places;
 use sheet_field::sizes;
 use sheet_field::tags;
-use spec_language::functions;
 
 pub mod faults;
 
@@ -72,7 +72,7 @@ fn head_of(left: usize, t: u8, v: &[u8]) -> Head
     if v[places::FUNCTION] == 0 {
         return Head::NoHead(faults::OFF_SCALE);
     }
-    if functions::IF < v[places::FUNCTION] {
+    if functions::LAST < v[places::FUNCTION] {
         return Head::NoHead(faults::OFF_SCALE);
     }
     Head::Apply(v[places::FUNCTION])
@@ -128,7 +128,7 @@ pub fn read_expr(left: usize, s: &[u8], draft: &mut [u64], n: usize) -> Read
             let v = sheet_field::field_value(s, tags::CONSTANT, tags::PARAMETER);
             let mut at = places::ARGUMENTS;
             let mut m = n;
-            let mut k = lib_functions::arity_of(f);
+            let mut k = lib_signature::arity_of(f);
             while k != 0 {
                 let r = read_expr(left - 1, &v[at..], draft, m);
                 let Read::Done(size, next) = r else {

@@ -10,6 +10,7 @@ use lib.IntN.{ℤ, pos, negsuc}
 use lib.Signed.{ltZ}
 use borrow.Author.Tests.{ltb-true, ltb-false, lt-ltb, le-ltb, eq-eqb, ne-eqb}
 use Rattle.lib_base.proofs.Tools.{by-test, split}
+use Rattle.lib_signature.specs.Signature.{notFn, ifFn, orFn, andFn, addFn, subtractFn, multiplyFn, divideFn, aboveFn, atLeastFn, belowFn, atMostFn, equalFn, unequalFn}
 use Rattle.lib_arith.specs.Exact.{signed, wrapped, beyond}
 use Rattle.lib_arith.specs.Marked.{packed}
 use Rattle.lib_arith.specs.Functions.{isTrue, truth, exact, result, over}
@@ -62,21 +63,21 @@ truth-within true = beyond-pos 1
 truth-within false = beyond-pos 0
 
 -- so no function but `+`, `-`, `*` and `/` runs over
-pub within-others : (f a b c : ℕ) → b < 2 ^ 32 → c < 2 ^ 32 → f ≢ 4 → f ≢ 5 → f ≢ 6 → f ≢ 7 → over f a b c ≡ false
+pub within-others : (f a b c : ℕ) → b < 2 ^ 32 → c < 2 ^ 32 → f ≢ addFn → f ≢ subtractFn → f ≢ multiplyFn → f ≢ divideFn → over f a b c ≡ false
 unfolding over exact
 within-others f a b c hb hc n4 n5 n6 n7 =
     let P : ℤ → Type 0 = λ z. beyond z ≡ false in
-    rw (ne-eqb f 4 n4, ne-eqb f 5 n5, ne-eqb f 6 n6, ne-eqb f 7 n7)
-    (by-test P (eqb f 1) (λ _. simp truth-within)
-    (λ _. by-test P (eqb f 2) (λ _. simp truth-within)
-    (λ _. by-test P (eqb f 3) (λ _. simp truth-within)
-    (λ _. by-test P (eqb f 8) (λ _. simp truth-within)
-    (λ _. by-test P (eqb f 9) (λ _. simp truth-within)
-    (λ _. by-test P (eqb f 10) (λ _. simp truth-within)
-    (λ _. by-test P (eqb f 11) (λ _. simp truth-within)
-    (λ _. by-test P (eqb f 12) (λ _. simp truth-within)
-    (λ _. by-test P (eqb f 13) (λ _. simp truth-within)
-    (λ _. by-test P (eqb f 14)
+    rw (ne-eqb f addFn n4, ne-eqb f subtractFn n5, ne-eqb f multiplyFn n6, ne-eqb f divideFn n7)
+    (by-test P (eqb f orFn) (λ _. simp truth-within)
+    (λ _. by-test P (eqb f andFn) (λ _. simp truth-within)
+    (λ _. by-test P (eqb f notFn) (λ _. simp truth-within)
+    (λ _. by-test P (eqb f aboveFn) (λ _. simp truth-within)
+    (λ _. by-test P (eqb f atLeastFn) (λ _. simp truth-within)
+    (λ _. by-test P (eqb f belowFn) (λ _. simp truth-within)
+    (λ _. by-test P (eqb f atMostFn) (λ _. simp truth-within)
+    (λ _. by-test P (eqb f equalFn) (λ _. simp truth-within)
+    (λ _. by-test P (eqb f unequalFn) (λ _. simp truth-within)
+    (λ _. by-test P (eqb f ifFn)
     (λ _. by-test P (isTrue (signed a)) (λ _. word-within b hb) (λ _. word-within c hc))
     (λ _. beyond-pos 0)))))))))))
 

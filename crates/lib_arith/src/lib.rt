@@ -5,8 +5,6 @@ ghost use lib.Signed.{ltZ};
 ghost use Rattle.lib_arith.specs.Exact.{signed, wrapped};
 ghost use Rattle.lib_arith.specs.Functions.{floorZ};
 
-pub mod functions;
-
 // 2^31: this word and those above stand for negative numbers.
 pub const NEGATIVE: u32 = 2147483648;
 

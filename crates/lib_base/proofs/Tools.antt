@@ -6,6 +6,8 @@ use mathlib.Core.Logic.{_⊎_, inl, inr, ⊎-elim, ∥∥₁-elim}
 use mathlib.Core.Option.{Option, none, some}
 use native.Mathlib.Omega.{arith}
 use lib.ListN.{length, getD}
+use lib.Dec.{eqb}
+use borrow.Author.Tests.{eqb-true, eqb-false}
 use Rattle.lib_base.specs.Basics.{pick, All}
 use mathlib.Core.List.{List, [], _∷_, _++_}
 use mathlib.Core.List.{List·Permᴰ, List·Permᴰ·nil, List·Permᴰ·cons, List·Permᴰ·swap, List·Permᴰ·trans}
@@ -54,6 +56,19 @@ by-two P false t f = f refl
 pub by-elim {ℓ} : {A : Type ℓ} (P : A → Type 0) (b : Bool) {x y : A} → (b ≡ true → P x) → (b ≡ false → P y) → P (elim b [ true ↦ x | false ↦ y ])
 by-elim P true t f = t refl
 by-elim P false t f = f refl
+
+-- ---- a check of all numbers below a bound
+
+unfoldable pub allBelow : ℕ → (ℕ → Bool) → Bool
+allBelow zero f = true
+allBelow (suc n) f = pick (f n) (allBelow n f) false
+
+pub each-below : (n : ℕ) (f : ℕ → Bool) → allBelow n f ≡ true → (i : ℕ) → i < n → f i ≡ true
+unfolding allBelow
+each-below zero f h i l = absurd (omega arith)
+each-below (suc n) f h i l =
+    let r = through (f n) (allBelow n f) h in
+    split (eqb i n) (λ e. let q : i ≡ n = eqb-true i n e in rw q (r .0)) (λ e. each-below n f (r .1) i (omega (arith, eqb-false i n e)))
 
 -- to prove P of a match on an option
 pub by-option : {A B : Type 0} (P : B → Type 0) (o : Option A) {x : B} {f : A → B} → (o ≡ none → P x) → ((a : A) → o ≡ some a → P (f a))

@@ -1,15 +1,17 @@
-// The fourteen functions by their numbers, on 32-bit words that stand for signed numbers. 01 "Arithmetic". Each answers
+// The functions by their numbers, on 32-bit words that stand for signed numbers. 01 "Arithmetic". Each answers
 // its word, and 2^32 more where it ran over (02, M-104).
-use lib_arith::functions;
+use lib_signature::functions;
 ghost use mathlib.Core.Bool.{not, _&&_, _||_};
 ghost use mathlib.Core.Path.{_≡_};
-ghost use Prim.Native.Nat.{_≤_};
 ghost use lib.Signed.{ltZ};
 ghost use Rattle.lib_base.specs.Basics.{pick};
 ghost use Rattle.lib_arith.specs.Exact.{signed};
 ghost use Rattle.lib_arith.specs.Marked.{reported};
-ghost use Rattle.lib_arith.specs.Functions.{isTrue, truth, result, arity};
+ghost use Rattle.lib_arith.specs.Functions.{isTrue, truth, result};
 ghost use Rattle.lib_arith.specs.Marked.{markedResult};
+
+// How much more than its word an application answers that ran over: 2 ^ 32.
+pub const OVER: u64 = 4294967296;
 
 // What a test gives: 1 or 0.
 fn bit(t: bool) -> u64
@@ -89,18 +91,4 @@ pub fn word_of(f: u8, a: u32, b: u32, c: u32) -> u32
     ensures { λ r. ⌜ r ≡ result f a b c ⌝ }
 {
     (apply(f, a, b, c) % lib_arith::WORDS) as u32
-}
-
-// How many arguments the function with the number f needs.
-pub fn arity_of(f: u8) -> usize
-    ensures { λ r. ⌜ r ≡ arity f ⌝ }
-    ensures { λ r. ⌜ r ≤ 3 ⌝ }
-{
-    if f == functions::NOT {
-        return 1;
-    }
-    if f == functions::IF {
-        return 3;
-    }
-    2
 }

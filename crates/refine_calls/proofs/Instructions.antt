@@ -14,7 +14,8 @@ use borrow.Author.Tests.{lt-ltb, le-ltb, le-leb, ne-eqb}
 use Rattle.lib_base.proofs.Tools.{split}
 use Rattle.lib_word.specs.Word.{get, put, pile}
 use Rattle.lib_word.proofs.Laws.{long, long-put, get-other, pile-out, pile-push}
-use Rattle.lib_arith.specs.Functions.{result, over, arity}
+use Rattle.lib_signature.specs.Signature.{arity, notFn, ifFn, last}
+use Rattle.lib_arith.specs.Functions.{result, over}
 use Rattle.spec_language.specs.Code.{Instr, off, on, copy, restore, load, fetch, save, defer, move, push, apply}
 use Rattle.spec_semantics.specs.Meaning.{at}
 use Rattle.spec_execution.specs.Execution.{Values, held, heldAt, top, onArguments, applied, execute}
@@ -227,9 +228,9 @@ module _ (n : ℕ) (few : n ≤ 64) (l : List ℕ) (d : Values) (g : long l ≡ 
       → Holds n (applyOn l (get l 6) f) (leaves (applied f (d .stack)) (onArguments (over f) f (d .stack))) × Framed l (applyOn l (get l 6) f)
   unfolding applyOn arity
   apply-does f b =
-      split (eqb f 3)
+      split (eqb f notFn)
       (λ t. let c : 1 ≤ get l 6 = rw t at b in rw t (one-does f (get l 6 - 1) (omega arith)))
-      (λ t. split (eqb f 14)
+      (λ t. split (eqb f ifFn)
       (λ u. let c : 3 ≤ get l 6 = rw (t, u) at b in rw (t, u) (three-does f (get l 6 - 3) (omega arith)))
       (λ u. let c : 2 ≤ get l 6 = rw (t, u) at b in rw (t, u) (two-does f (get l 6 - 2) (omega arith))))
 
@@ -335,7 +336,7 @@ module _ (n : ℕ) (few : n ≤ 64) (l : List ℕ) (d : Values) (g : long l ≡ 
         let z : f ≢ 0 = omega (arith, k .0) in
         let x = apply-does f c in
         record {
-          may = rw (le-ltb 63 f (omega (arith, k .1)), ne-eqb f 0 z, le-ltb 14 f (k .1)) (le-leb (arity f) (get l 6) c);
+          may = rw (le-ltb 63 f (omega (arith, k .1)), ne-eqb f 0 z, le-ltb last f (k .1)) (le-leb (arity f) (get l 6) c);
           holds = x .0;
           framed = x .1;
         }

@@ -8,15 +8,15 @@ use lib.Dec.{ltb, leb, eqb}
 use borrow.Author.Tests.{ltb-true, ltb-false, leb-true, le-ltb, lt-ltb, ne-eqb}
 use Rattle.lib_base.specs.Basics.{pick}
 use Rattle.lib_base.proofs.Tools.{past, split}
-use Rattle.lib_arith.specs.Functions.{arity}
+use Rattle.lib_signature.specs.Signature.{arity, last}
 use Rattle.run_instruction.specs.Allowed.{applies, mayRun}
 
-applies-fits : (f d : ℕ) → applies f d ≡ true → (f ≤ 14) × (arity f ≤ d)
+applies-fits : (f d : ℕ) → applies f d ≡ true → (f ≤ last) × (arity f ≤ d)
 unfolding applies
 applies-fits f d e =
-    let p = past (eqb f 0) (pick (ltb 14 f) false (leb (arity f) d)) e in
-    let q = past (ltb 14 f) (leb (arity f) d) (p .1) in
-    (ltb-false 14 f (q .0), leb-true (arity f) d (q .1))
+    let p = past (eqb f 0) (pick (ltb last f) false (leb (arity f) d)) e in
+    let q = past (ltb last f) (leb (arity f) d) (p .1) in
+    (ltb-false last f (q .0), leb-true (arity f) d (q .1))
 
 -- what remains of `mayRun` once the slot has passed
 abbrev rest : ℕ → ℕ → ℕ → Bool
@@ -50,7 +50,7 @@ push-room op s d e a b =
     ltb-true d 64 (rw (z, l, h) at (past (ltb 63 s) (rest op s d) e .1))
 
 -- a function is one of the fourteen, and finds its arguments
-pub apply-fits : (s d : ℕ) → mayRun 8 s d ≡ true → (s ≤ 14) × (arity s ≤ d)
+pub apply-fits : (s d : ℕ) → mayRun 8 s d ≡ true → (s ≤ last) × (arity s ≤ d)
 unfolding mayRun
 apply-fits s d e = applies-fits s d (past (ltb 63 s) (rest 8 s d) e .1)
 

@@ -11,7 +11,8 @@ use borrow.Author.Tests.{ltb-true, ltb-false, lt-leb, le-leb, lt-ltb, le-ltb, ne
 use Rattle.lib_base.specs.Basics.{pick}
 use Rattle.lib_base.proofs.Tools.{split}
 use Rattle.lib_word.specs.Word.{get, put}
-use Rattle.lib_arith.specs.Functions.{result, over, arity}
+use Rattle.lib_signature.specs.Signature.{arity, notFn, ifFn, last}
+use Rattle.lib_arith.specs.Functions.{result, over}
 use Rattle.run_instruction.specs.Stack.{noted}
 use Rattle.run_instruction.specs.Allowed.{applies, mayRun}
 use Rattle.run_instruction.specs.Execution.{Left, left, none, pushedOn, poppedTo, called, appliedOne, appliedTwo, appliedThree, appliedOn, movedWord, movedIn, operated, executed}
@@ -89,10 +90,10 @@ module _ (l : List ℕ) (s w d : ℕ) where
 
 -- ---- the code's arms
 
--- no function has a number outside 1 to 14
-no-function : (s d : ℕ) → (s ≡ 0) ⊎ (14 < s) → applies s d ≡ false
+-- no function has another number
+no-function : (s d : ℕ) → (s ≡ 0) ⊎ (last < s) → applies s d ≡ false
 unfolding applies
-no-function s d h = ⊎-elim (λ e. rw e) (λ b. rw (ne-eqb s 0 (omega arith), lt-ltb 14 s b)) h
+no-function s d h = ⊎-elim (λ e. rw e) (λ b. rw (ne-eqb s 0 (omega arith), lt-ltb last s b)) h
 
 abbrev Outside : ℕ → ℕ → Type 0
 Outside a k = (a ≤ 2048) ⊎ (k ≤ a)
@@ -103,7 +104,7 @@ next a k n h = ⊎-elim (λ p. inl p) (λ p. inr (omega arith)) h
 first : (a : ℕ) → Outside a 2049
 first a = split (ltb 2048 a) (λ e. inr (omega (arith, ltb-true 2048 a e))) (λ e. inl (ltb-false 2048 a e))
 
-outside : (a : ℕ) → Outside a 2063 → a / 256 ≡ 8 → (a % 256 ≡ 0) ⊎ (14 < a % 256)
+outside : (a : ℕ) → Outside a 2063 → a / 256 ≡ 8 → (a % 256 ≡ 0) ⊎ (last < a % 256)
 outside a h e = ⊎-elim (λ p. inl (omega arith)) (λ p. inr (omega arith)) h
 
 -- a word that is no function's
@@ -200,25 +201,25 @@ module _ (l : List ℕ) (a w d f : ℕ) (is : a ≡ 2048 + f) where
   slot : f < 256 → a % 256 ≡ f
   slot h = omega arith
 
-  pub two-arguments : 0 < f → f < 14 → f ≢ 3 → {x : Left} → x ≡ appliedTwo l d f → x ≡ executed l a w d
+  pub two-arguments : 0 < f → f ≤ last → f ≢ notFn → f ≢ ifFn → {x : Left} → x ≡ appliedTwo l d f → x ≡ executed l a w d
   unfolding executed mayRun applies arity operated appliedOn appliedTwo
-  two-arguments p q n e =
+  two-arguments p q n m e =
       e
       ∙ rw (
         operation (omega arith),
         slot (omega arith),
         le-ltb 63 f (omega arith),
         ne-eqb f 0 (omega arith),
-        le-ltb 14 f (omega arith),
-        ne-eqb f 3 n,
-        ne-eqb f 14 (omega arith),
+        le-ltb last f (omega arith),
+        ne-eqb f notFn n,
+        ne-eqb f ifFn m,
       ) (asks 2 d (d - 1, called l (326 + d) f (get l (326 + d)) (get l (327 + d)) 0) (none, l))
 
-pub one-argument : (l : List ℕ) (a w d : ℕ) → a ≡ 2051 → {x : Left} → x ≡ appliedOne l d 3 → x ≡ executed l a w d
+pub one-argument : (l : List ℕ) (a w d : ℕ) → a ≡ 2051 → {x : Left} → x ≡ appliedOne l d notFn → x ≡ executed l a w d
 unfolding executed mayRun applies arity operated appliedOn appliedOne
-one-argument l a w d is e = e ∙ rw is (asks 1 d (d, called l (327 + d) 3 (get l (327 + d)) 0 0) (none, l))
+one-argument l a w d is e = e ∙ rw is (asks 1 d (d, called l (327 + d) notFn (get l (327 + d)) 0 0) (none, l))
 
-pub three-arguments : (l : List ℕ) (a w d : ℕ) → a ≡ 2062 → {x : Left} → x ≡ appliedThree l d 14 → x ≡ executed l a w d
+pub three-arguments : (l : List ℕ) (a w d : ℕ) → a ≡ 2062 → {x : Left} → x ≡ appliedThree l d ifFn → x ≡ executed l a w d
 unfolding executed mayRun applies arity operated appliedOn appliedThree
 three-arguments l a w d is e =
-    e ∙ rw is (asks 3 d (d - 2, called l (325 + d) 14 (get l (325 + d)) (get l (326 + d)) (get l (327 + d))) (none, l))
+    e ∙ rw is (asks 3 d (d - 2, called l (325 + d) ifFn (get l (325 + d)) (get l (326 + d)) (get l (327 + d))) (none, l))

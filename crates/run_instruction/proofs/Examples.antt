@@ -5,7 +5,7 @@ use Prim.Native.Nat.{ℕ}
 use mathlib.Core.Bool.{Bool, true, false}
 use mathlib.Core.Path.{_≡_, refl}
 use mathlib.Core.List.{List, [], _∷_, map}
-use Rattle.lib_arith.specs.Functions.{arity}
+use Rattle.lib_signature.specs.Signature.{arity}
 use Rattle.run_instruction.specs.Allowed.{applies, mayRun}
 
 -- an operation, its slot or function, and how many are on the stack

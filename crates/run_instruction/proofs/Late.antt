@@ -13,7 +13,8 @@ use Rattle.lib_base.specs.Basics.{pick}
 use Rattle.lib_base.proofs.Tools.{by-test, by-two, split}
 use Rattle.lib_word.specs.Word.{get, put}
 use Rattle.lib_word.proofs.Laws.{get-other}
-use Rattle.lib_arith.specs.Functions.{result, over, arity}
+use Rattle.lib_signature.specs.Signature.{arity, notFn, ifFn}
+use Rattle.lib_arith.specs.Functions.{result, over}
 use Rattle.run_instruction.specs.Stack.{pushOn, popTo, noted, applyOne, applyTwo, applyThree, applyOn}
 use Rattle.run_instruction.specs.Allowed.{mayRun}
 use Rattle.run_instruction.specs.Instruction.{transfer, perform}
@@ -92,10 +93,10 @@ module _ (l : List ℕ) (d : ℕ) (shallow : d ≤ 64) where
   late-apply : (f : ℕ) → arity f ≤ d → Is (applyOn deep d f) (appliedOn l d f)
   unfolding applyOn appliedOn
   late-apply f h =
-      split (eqb f 3) (λ e. rw e (late-one f (arity-one f d h)))
-      (λ e. split (eqb f 14)
-      (λ g. let q = eqb-true f 14 g in rw (e, g) (late-three f (arity-three d (rw q at h))))
-      (λ g. rw (e, g) (late-two f (arity-two f d h (eqb-false f 3 e)))))
+      split (eqb f notFn) (λ e. rw e (late-one f (arity-one f d h)))
+      (λ e. split (eqb f ifFn)
+      (λ g. let q = eqb-true f ifFn g in rw (e, g) (late-three f (arity-three d (rw q at h))))
+      (λ g. rw (e, g) (late-two f (arity-two f d h (eqb-false f notFn e)))))
 
   module _ (s w : ℕ) where
     abbrev Late : ℕ → Type 0
@@ -196,8 +197,8 @@ module _ (l : List ℕ) (c : ℕ) where
       let y = get l (326 + d) in
       let z = get l (325 + d) in
       rw (sees (327 + d) (omega arith), sees (326 + d) (omega arith), sees (325 + d) (omega arith))
-      (by-two Frame (eqb f 3) (λ _. frame-called (327 + d) (result f x 0 0) (over f x 0 0) (omega arith))
-      (λ _. by-two Frame (eqb f 14) (λ _. frame-deep (325 + d) (result f z y x) (d - 2) (over f z y x) (omega arith))
+      (by-two Frame (eqb f notFn) (λ _. frame-called (327 + d) (result f x 0 0) (over f x 0 0) (omega arith))
+      (λ _. by-two Frame (eqb f ifFn) (λ _. frame-deep (325 + d) (result f z y x) (d - 2) (over f z y x) (omega arith))
       (λ _. frame-deep (326 + d) (result f y x 0) (d - 1) (over f y x 0) (omega arith))))
 
   pub frame : (op s w d : ℕ) → perform at op s w d ≡ put (perform l op s w d) 5 c

@@ -11,6 +11,7 @@ use lib.Dec.{eqb}
 use Rattle.lib_base.proofs.Tools.{by-test}
 use Rattle.lib_word.specs.Word.{get, put}
 use Rattle.lib_word.proofs.Laws.{length-put, get-other}
+use Rattle.lib_signature.specs.Signature.{notFn, ifFn}
 use Rattle.lib_arith.specs.Functions.{result, over}
 use Rattle.run_instruction.specs.Stack.{pushOn, popTo, noted, applyOne, applyTwo, applyThree, applyOn}
 use Rattle.run_instruction.specs.Instruction.{transfer, perform}
@@ -54,10 +55,10 @@ module _ (l : List ℕ) where
       let x = get l (327 + d) in
       let y = get l (326 + d) in
       let z = get l (325 + d) in
-      by-test (Keeps l) (eqb f 3)
+      by-test (Keeps l) (eqb f notFn)
       (λ _. put-keeps l (noted l (over f x 0 0)) (327 + d) (result f x 0 0) (noted-keeps (over f x 0 0)) (λ i a b c. omega arith))
       (λ _.
-      by-test (Keeps l) (eqb f 14)
+      by-test (Keeps l) (eqb f ifFn)
       (λ _.
       put-keeps l (put (noted l (over f z y x)) (325 + d) (result f z y x)) 6 (d - 2)
       (put-keeps l (noted l (over f z y x)) (325 + d) (result f z y x) (noted-keeps (over f z y x)) (λ i a b c. omega arith)) (λ i a b c. b))

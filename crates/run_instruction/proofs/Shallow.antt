@@ -10,6 +10,7 @@ use borrow.Author.Tests.{eqb-true}
 use Rattle.lib_base.proofs.Tools.{by-test}
 use Rattle.lib_word.specs.Word.{get, put}
 use Rattle.lib_word.proofs.Laws.{length-put, get-same, get-other}
+use Rattle.lib_signature.specs.Signature.{notFn, ifFn}
 use Rattle.lib_arith.specs.Functions.{result, over}
 use Rattle.run_instruction.specs.Stack.{pushOn, popTo, noted, applyOne, applyTwo, applyThree, applyOn}
 use Rattle.run_instruction.specs.Allowed.{mayRun}
@@ -51,10 +52,10 @@ module _ (l : List ℕ) (long : 2048 ≤ length l) where
       let x = get l (327 + d) in
       let y = get l (326 + d) in
       let z = get l (325 + d) in
-      by-test Shallow (eqb f 3)
+      by-test Shallow (eqb f notFn)
       (λ e. rw (get-other (noted l (over f x 0 0)) (327 + d) (result f x 0 0) 6 (omega arith), noted-depth (over f x 0 0)) h)
       (λ e.
-      by-test Shallow (eqb f 14)
+      by-test Shallow (eqb f ifFn)
       (λ g.
       put-shallow (put (noted l (over f z y x)) (325 + d) (result f z y x)) (d - 2)
       (length-put (noted l (over f z y x)) (325 + d) (result f z y x) ∙ noted-length (over f z y x)) (omega arith))

@@ -10,7 +10,8 @@ use lib.Dec.{eqb}
 use borrow.Author.Tests.{ne-eqb}
 use Rattle.lib_base.proofs.Tools.{split}
 use Rattle.lib_word.specs.Word.{put}
-use Rattle.lib_arith.specs.Functions.{result, over, arity}
+use Rattle.lib_signature.specs.Signature.{arity, notFn, ifFn}
+use Rattle.lib_arith.specs.Functions.{result, over}
 use Rattle.lib_arith.specs.Marked.{markedResult}
 use Rattle.lib_arith.proofs.ArithLaws.{result-word, answer-low, answer-high}
 use Rattle.run_instruction.specs.Stack.{noted}
@@ -18,16 +19,16 @@ use Rattle.run_instruction.specs.Stack.{noted}
 pub arity-one : (f d : ℕ) → arity f ≤ d → 0 < d
 unfolding arity
 arity-one f d h =
-    split (eqb f 3) (λ e. let k : 1 ≤ d = rw e at h in omega arith)
-    (λ e. split (eqb f 14) (λ g. let k : 3 ≤ d = rw (e, g) at h in omega arith) (λ g. let k : 2 ≤ d = rw (e, g) at h in omega arith))
+    split (eqb f notFn) (λ e. let k : 1 ≤ d = rw e at h in omega arith)
+    (λ e. split (eqb f ifFn) (λ g. let k : 3 ≤ d = rw (e, g) at h in omega arith) (λ g. let k : 2 ≤ d = rw (e, g) at h in omega arith))
 
-pub arity-two : (f d : ℕ) → arity f ≤ d → f ≢ 3 → 1 < d
+pub arity-two : (f d : ℕ) → arity f ≤ d → f ≢ notFn → 1 < d
 unfolding arity
 arity-two f d h n =
-    let e : eqb f 3 ≡ false = ne-eqb f 3 n in
-    split (eqb f 14) (λ g. let k : 3 ≤ d = rw (e, g) at h in omega arith) (λ g. let k : 2 ≤ d = rw (e, g) at h in omega arith)
+    let e : eqb f notFn ≡ false = ne-eqb f notFn n in
+    split (eqb f ifFn) (λ g. let k : 3 ≤ d = rw (e, g) at h in omega arith) (λ g. let k : 2 ≤ d = rw (e, g) at h in omega arith)
 
-pub arity-three : (d : ℕ) → arity 14 ≤ d → 2 < d
+pub arity-three : (d : ℕ) → arity ifFn ≤ d → 2 < d
 unfolding arity
 arity-three d h = omega arith
 

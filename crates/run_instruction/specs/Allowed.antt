@@ -3,11 +3,11 @@ use Prim.Native.Nat.{ℕ}
 use mathlib.Core.Bool.{Bool, true, false}
 use lib.Dec.{ltb, leb, eqb}
 use Rattle.lib_base.specs.Basics.{pick}
-use Rattle.lib_arith.specs.Functions.{arity}
+use Rattle.lib_signature.specs.Signature.{arity, last}
 
 -- function f finds its arguments on a stack of depth d
 unfoldable pub applies : ℕ → ℕ → Bool
-applies f d = pick (eqb f 0) false (pick (ltb 14 f) false (leb (arity f) d))
+applies f d = pick (eqb f 0) false (pick (ltb last f) false (leb (arity f) d))
 
 -- not foreign: "an instruction not of this paper, with a slot above 63, or taking from an empty or adding to a full
 -- stack"

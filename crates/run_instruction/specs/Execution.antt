@@ -5,6 +5,7 @@ use mathlib.Core.List.{List}
 use lib.Dec.{ltb, eqb}
 use Rattle.lib_base.specs.Basics.{pick}
 use Rattle.lib_word.specs.Word.{get, put}
+use Rattle.lib_signature.specs.Signature.{notFn, ifFn}
 use Rattle.lib_arith.specs.Functions.{result, over}
 use Rattle.run_instruction.specs.Stack.{noted}
 use Rattle.run_instruction.specs.Allowed.{mayRun}
@@ -44,7 +45,7 @@ appliedThree l d f =
     pick (ltb d 3) (none, l) (d - 2, called l (325 + d) f (get l (325 + d)) (get l (326 + d)) (get l (327 + d)))
 
 unfoldable pub appliedOn : List ℕ → ℕ → ℕ → Left
-appliedOn l d f = pick (eqb f 3) (appliedOne l d f) (pick (eqb f 14) (appliedThree l d f) (appliedTwo l d f))
+appliedOn l d f = pick (eqb f notFn) (appliedOne l d f) (pick (eqb f ifFn) (appliedThree l d f) (appliedTwo l d f))
 
 -- operation op that applies no function, with slot s and constant w
 unfoldable pub movedWord : List ℕ → ℕ → ℕ → ℕ → ℕ → Left

@@ -6,6 +6,7 @@ use mathlib.Core.List.{List}
 use lib.Dec.{eqb}
 use Rattle.lib_base.specs.Basics.{pick}
 use Rattle.lib_word.specs.Word.{get, put}
+use Rattle.lib_signature.specs.Signature.{notFn, ifFn}
 use Rattle.lib_arith.specs.Functions.{result, over}
 
 -- v on top of a stack of depth d
@@ -34,4 +35,4 @@ applyThree l d f =
     (d - 2)
 
 unfoldable pub applyOn : List ℕ → ℕ → ℕ → List ℕ
-applyOn l d f = pick (eqb f 3) (applyOne l d f) (pick (eqb f 14) (applyThree l d f) (applyTwo l d f))
+applyOn l d f = pick (eqb f notFn) (applyOne l d f) (pick (eqb f ifFn) (applyThree l d f) (applyTwo l d f))

@@ -1,6 +1,6 @@
 // The words of the functions' applications: operation * SLOTS + function.
 use format_layout::operations;
-use spec_language::functions;
+use lib_signature::functions;
 
 const APPLY: u32 = operations::APPLY * operations::SLOTS;
 

@@ -2,7 +2,7 @@
 // evaluation stack is handed in and answered by value: its word in the round is the caller's to write.
 use format_layout::operations;
 use format_layout::round;
-use spec_language::functions;
+use lib_signature::functions;
 use spec_language::limits;
 ghost use mathlib.Core.Path.{_≡_};
 ghost use Prim.Native.Nat.{_+_, _≤_, _<_};
@@ -78,11 +78,11 @@ fn call_on(round: &mut [u8], f: u8, a: u32, b: u32, c: u32) -> u32
     ensures { λ _. ⌜ now (round .exit) ≡ noted (now (round .entry)) (over f a b c) ⌝ }
 {
     let answer = lib_functions::apply(f, a, b, c);
-    if answer < functions::OVER {
+    if answer < lib_functions::OVER {
         return answer as u32;
     }
     lib_word::put_word(round, round::MARK, 1);
-    (answer - functions::OVER) as u32
+    (answer - lib_functions::OVER) as u32
 }
 
 // Function f takes its arguments, one, two or three, from the stack, and puts its result.

@@ -10,9 +10,9 @@ use lib.ListN.{length}
 use lib.Dec.{ltb, leb, eqb}
 use Rattle.lib_base.specs.Basics.{pick, All}
 use Rattle.lib_base.proofs.Tools.{by-test, by-elim}
+use Rattle.lib_signature.specs.Signature.{level, notFn, ifFn, subtractFn}
 use Rattle.spec_language.specs.Syntax.{Phase, immediate, later}
 use Rattle.spec_language.specs.Sheet.{Term, Clause, Item, Entry}
-use Rattle.text_formula.specs.Level.{level}
 use Rattle.source_language.specs.Tokens.{SheetToken, number, name, sign, reserved, marks, signOf, isDigit, isLetter, inWord, isBlank, inComment, closing, opening, comma, colon, equals, bracket, unbracket, rank-word, from-word, by-word, nobody-word, later-word, seen-word, on-word, param-word, event-word, passive-word, row-word, endSign, wordAtPlace}
 use Rattle.source_language.specs.Text.{TextConstant, plus, minus, Phrase, constant, named, cell, negation, operation, choice, Reaction, on, Body, passive, active, row, Parameter, parameter, TextEvent, event, TextBehaviour, behaviour, Text, text}
 use Rattle.source_language.specs.Faults.{Kind, OrFault, fault, fine, andThen}
@@ -136,10 +136,10 @@ module _ (long : ℕ) where
     signed-reads : (p c : ℕ) (ts : List SheetToken) → p ≤ long → Placed ts → Reads PhrasePlaced (signedOf next room p c ts)
     unfolding signedOf readNegation PhrasePlaced
     signed-reads p c ts f h =
-        by-test (Reads PhrasePlaced) (eqb c 3)
+        by-test (Reads PhrasePlaced) (eqb c notFn)
         (λ e. by-test (Reads PhrasePlaced) (ltb 1 room) (λ d. then-reads PhrasePlaced PhrasePlaced _ (λ a us g i. (g, i)) (next 0 ts) (reads 0 ts h)) (λ d. f))
-        (λ e. by-test (Reads PhrasePlaced) (eqb c 5) (λ d. constant-reads (sign p c ∷ ts) (f, h))
-        (λ d. by-test (Reads PhrasePlaced) (eqb c 14) (λ b. by-test (Reads PhrasePlaced) (ltb 1 room) (λ a. choice-reads ts h) (λ a. f)) (λ b. f)))
+        (λ e. by-test (Reads PhrasePlaced) (eqb c subtractFn) (λ d. constant-reads (sign p c ∷ ts) (f, h))
+        (λ d. by-test (Reads PhrasePlaced) (eqb c ifFn) (λ b. by-test (Reads PhrasePlaced) (ltb 1 room) (λ a. choice-reads ts h) (λ a. f)) (λ b. f)))
 
     primary-reads : (ts : List SheetToken) → Placed ts → Reads PhrasePlaced (readPrimary next room ts)
     primary-reads [] h = omega arith

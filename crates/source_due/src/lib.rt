@@ -1,10 +1,10 @@
 // What is due at a place of a text: a sign, a name, a number up to a bound, a constant.
+use lib_signature::functions;
 use source_coding::faults;
 use source_coding::limits;
 use source_tokens::Token;
 use source_tokens::place_of;
 use source_tokens::token_at;
-use spec_language::functions;
 use text_formula::tokens;
 ghost use mathlib.Core.Path.{_≡_};
 ghost use Prim.Native.Nat.{_≤_, _<_, _+_, _*_, _-_, _%_};

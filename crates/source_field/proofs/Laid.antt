@@ -9,6 +9,7 @@ use lib.ListN.{length, take, length-append}
 use lib.Dec.{ltb, eqb}
 use borrow.Author.Tests.{ne-eqb}
 use Rattle.lib_base.proofs.Tools.{by-test}
+use Rattle.lib_signature.specs.Signature.{notFn, ifFn}
 use Rattle.spec_language.specs.Sheet.{Term, apply1, apply2, apply3}
 use Rattle.spec_language.specs.Grammar.{field, encodeExpr}
 use Rattle.sheet_write.specs.Writes.{fitted, asApplication}
@@ -154,11 +155,11 @@ abbrev pub encodedOf : (List ℕ → NameMeaning) → ℕ → Phrase → OrBytes
 encodedOf find c e = andThen (termOf find c e) (λ t. fine (encodeExpr t))
 
 module _ (find : List ℕ → NameMeaning) (c : ℕ) where
-  pub encoded-negation : (a : Phrase) → encodedOf find c (negation a) ≡ headed 3 (encodedOf find c a)
+  pub encoded-negation : (a : Phrase) → encodedOf find c (negation a) ≡ headed notFn (encodedOf find c a)
   unfolding termOf encodeExpr
   encoded-negation a = one (termOf find c a)
     where
-      one : (x : OrFault Term) → andThen (andThen x (λ t. fine (apply1 3 t))) (λ t. fine (encodeExpr t)) ≡ headed 3 (andThen x (λ t. fine (encodeExpr t)))
+      one : (x : OrFault Term) → andThen (andThen x (λ t. fine (apply1 notFn t))) (λ t. fine (encodeExpr t)) ≡ headed notFn (andThen x (λ t. fine (encodeExpr t)))
       one (fault k p) = refl
       one (fine t) = refl
 
@@ -172,12 +173,12 @@ module _ (find : List ℕ → NameMeaning) (c : ℕ) where
       two (fine t) (fault k p) = refl
       two (fine t) (fine u) = refl
 
-  pub encoded-choice : (a b d : Phrase) → encodedOf find c (choice a b d) ≡ headed 14 (both (both (encodedOf find c a) (encodedOf find c b)) (encodedOf find c d))
+  pub encoded-choice : (a b d : Phrase) → encodedOf find c (choice a b d) ≡ headed ifFn (both (both (encodedOf find c a) (encodedOf find c b)) (encodedOf find c d))
   unfolding termOf encodeExpr
   encoded-choice a b d = three (termOf find c a) (termOf find c b) (termOf find c d)
     where
-      three : (x y z : OrFault Term) → andThen (andThen x (λ t. andThen y (λ u. andThen z (λ v. fine (apply3 14 t u v))))) (λ t. fine (encodeExpr t))
-          ≡ headed 14 (both (both (andThen x (λ t. fine (encodeExpr t))) (andThen y (λ t. fine (encodeExpr t)))) (andThen z (λ t. fine (encodeExpr t))))
+      three : (x y z : OrFault Term) → andThen (andThen x (λ t. andThen y (λ u. andThen z (λ v. fine (apply3 ifFn t u v))))) (λ t. fine (encodeExpr t))
+          ≡ headed ifFn (both (both (andThen x (λ t. fine (encodeExpr t))) (andThen y (λ t. fine (encodeExpr t)))) (andThen z (λ t. fine (encodeExpr t))))
       three (fault k p) y z = refl
       three (fine t) (fault k p) z = refl
       three (fine t) (fine u) (fault k p) = refl
@@ -207,11 +208,11 @@ module _ (find : List ℕ → NameMeaning) (c : ℕ) where
   sized-encoded (constant x) v e = ap length (sym (fine-same e))
   sized-encoded (named p s) v e = sized-name p (find s) v e
   sized-encoded (cell p s q k) v e = sized-cell p q k (find s) v e
-  sized-encoded (negation a) v e = sized-headed 3 (encodedOf find c a) (sized-encoded a) v (sym (encoded-negation a) ∙ e)
+  sized-encoded (negation a) v e = sized-headed notFn (encodedOf find c a) (sized-encoded a) v (sym (encoded-negation a) ∙ e)
   sized-encoded (operation f a b) v e =
       sized-headed f (both (encodedOf find c a) (encodedOf find c b)) (sized-both (encodedOf find c a) (encodedOf find c b) (sized-encoded a) (sized-encoded b)) v (sym (encoded-operation f a b) ∙ e)
   sized-encoded (choice a b d) v e =
-      sized-headed 14 (both (both (encodedOf find c a) (encodedOf find c b)) (encodedOf find c d))
+      sized-headed ifFn (both (both (encodedOf find c a) (encodedOf find c b)) (encodedOf find c d))
       (sized-both (both (encodedOf find c a) (encodedOf find c b)) (encodedOf find c d)
       (sized-both (encodedOf find c a) (encodedOf find c b) (sized-encoded a) (sized-encoded b)) (sized-encoded d)) v (sym (encoded-choice a b d) ∙ e)
       ∙ omega arith

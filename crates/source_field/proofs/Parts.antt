@@ -6,6 +6,7 @@ use mathlib.Core.List.{List, _++_}
 use native.Mathlib.Omega.{arith}
 use native.Mathlib.Numerals.{add-one}
 use lib.ListN.{length, take}
+use Rattle.lib_signature.specs.Signature.{notFn, ifFn}
 use Rattle.spec_language.specs.Sheet.{Term}
 use Rattle.spec_language.specs.Grammar.{encodeExpr}
 use Rattle.text_formula.specs.Nesting.{deeper}
@@ -61,11 +62,11 @@ module _ {text : List ℕ} {find : List ℕ → NameMeaning} {c : ℕ} where
 
   pub negation-written : {n : ℕ} {o p : List ℕ} {to depth end w : ℕ} {a : Phrase} {us : List SheetToken} → length p ≡ length o
       → FormulaWritten text find c n o p to depth end w a us
-      → FormulaWritten text find c n o (asApplication 3 n end p) to (deeper 0 depth + 1) (end + 4) (firstFault 0 w) (negation a) us
+      → FormulaWritten text find c n o (asApplication notFn n end p) to (deeper 0 depth + 1) (end + 4) (firstFault 0 w) (negation a) us
   unfolding phraseNesting phraseSize
   negation-written {n} {o} {p} {to} {depth} {end} {w} {a} {us} l f =
-      laid-written (headed 3 (encodedOf find c a)) (f .onward) (rw (add-one (deeper 0 depth), deeper-none depth, f .nests)) refl (encoded-negation find c a)
-      (laid-head 3 (encodedOf find c a) l (written-laid f))
+      laid-written (headed notFn (encodedOf find c a)) (f .onward) (rw (add-one (deeper 0 depth), deeper-none depth, f .nests)) refl (encoded-negation find c a)
+      (laid-head notFn (encodedOf find c a) l (written-laid f))
 
   pub operation-written : (f : ℕ) {n : ℕ} {o p q : List ℕ} {to to₂ depth depth₂ end end₂ w w₂ : ℕ} {a b : Phrase} {us vs : List SheetToken} → length p ≡ length o → length q ≡ length p
       → FormulaWritten text find c n o p to depth end w a us → FormulaWritten text find c end p q to₂ depth₂ end₂ w₂ b vs
@@ -81,13 +82,13 @@ module _ {text : List ℕ} {find : List ℕ → NameMeaning} {c : ℕ} where
       → length p ≡ length o → length q ≡ length p → length r ≡ length q
       → FormulaWritten text find c n o p to depth end w a us → FormulaWritten text find c end p q to₂ depth₂ end₂ w₂ b vs → FormulaWritten text find c end₂ q r to₃ depth₃ end₃ w₃ d ws
       → xs ≡ tokensFrom text to₄
-      → FormulaWritten text find c n o (asApplication 14 n end₃ r) to₄ (deeper 0 (deeper (deeper (deeper 0 depth) depth₂) depth₃) + 1) (end₃ + 4)
+      → FormulaWritten text find c n o (asApplication ifFn n end₃ r) to₄ (deeper 0 (deeper (deeper (deeper 0 depth) depth₂) depth₃) + 1) (end₃ + 4)
       (firstFault 0 (firstFault (firstFault (firstFault 0 w) w₂) w₃)) (choice a b d) xs
   unfolding phraseNesting phraseSize
   choice-written {n} {o} {p} {q} {r} {to} {to₂} {to₃} {to₄} {depth} {depth₂} {depth₃} {end} {end₂} {end₃} {w} {w₂} {w₃} {a} {b} {d} {us} {vs} {ws} {xs} l m k f g h u =
       let x : OrBytes = both (encodedOf find c a) (encodedOf find c b) in
       let two = laid-then (encodedOf find c a) (encodedOf find c b) l (written-laid f) (written-laid g) in
-      laid-written (headed 14 (both x (encodedOf find c d))) u
+      laid-written (headed ifFn (both x (encodedOf find c d))) u
       (rw (add-one (deeper 0 (deeper (deeper (deeper 0 depth) depth₂) depth₃)), deeper-none depth, deeper-none (deeper (deeper depth depth₂) depth₃), f .nests, g .nests, h .nests))
       (omega arith) (encoded-choice find c a b d)
-      (laid-head 14 (both x (encodedOf find c d)) (k ∙ m ∙ l) (laid-then x (encodedOf find c d) (m ∙ l) two (written-laid h)))
+      (laid-head ifFn (both x (encodedOf find c d)) (k ∙ m ∙ l) (laid-then x (encodedOf find c d) (m ∙ l) two (written-laid h)))

@@ -7,6 +7,7 @@ use native.Mathlib.Omega.{arith}
 use lib.ListN.{length}
 use lib.Dec.{eqb}
 use Rattle.lib_base.proofs.Tools.{by-two}
+use Rattle.lib_signature.specs.Signature.{ifFn}
 use Rattle.text_formula.specs.Nesting.{deeper}
 use Rattle.source_language.specs.Tokens.{SheetToken, opening, comma, closing}
 use Rattle.source_language.specs.Text.{Phrase, choice}
@@ -128,13 +129,13 @@ module _ (text : List ℕ) (find : List ℕ → NameMeaning) (c room n : ℕ) (o
       (A : FormulaWritten text find c n o p₁ to₁ d₁ e₁ w₁ a us) (B : FormulaWritten text find c e₁ p₁ p₂ to₂ d₂ e₂ w₂ b vs) where
     fourth : (d : Phrase) (to₃ d₃ e₃ w₃ : ℕ) (ws : List SheetToken) → FormulaWritten text find c e₂ p₂ p₃ to₃ d₃ e₃ w₃ d ws → (q : Read)
         → ClosedBehind text to₃ (deeper (deeper (deeper 0 d₁) d₂) d₃) e₃ (firstFault (firstFault (firstFault 0 w₁) w₂) w₃) q
-        → FormulaRead text find c n o (headedIn 14 n q p₃) (appliedBy 0 0 q) (pastSign closing (λ end. got (choice a b d) end) (tokensFrom text to₃))
+        → FormulaRead text find c n o (headedIn ifFn n q p₃) (appliedBy 0 0 q) (pastSign closing (λ end. got (choice a b d) end) (tokensFrom text to₃))
     fourth d to₃ d₃ e₃ w₃ ws D (Fault v) h = let f = h (choice a b d) in rw (f .turned) (f .word)
     fourth d to₃ d₃ e₃ w₃ ws D (Done to depth end w) h =
         rw (h .0 (choice a b d), h .1, h .2, h .3) (choice-written l₁ l₂ l₃ A B D refl)
 
     third : (x : Read) (g : Phrased Phrase) → FormulaRead text find c e₂ p₂ p₃ x g → rc ≡ underBy (deeper (deeper 0 d₁) d₂) (firstFault (firstFault 0 w₁) w₂) x
-        → FormulaRead text find c n o (headedIn 14 n re p₃) (appliedBy 0 0 re) (thenPhrase g (λ d zs. pastSign closing (λ end. got (choice a b d) end) zs))
+        → FormulaRead text find c n o (headedIn ifFn n re p₃) (appliedBy 0 0 re) (thenPhrase g (λ d zs. pastSign closing (λ end. got (choice a b d) end) zs))
     third (Fault v) (bad k z) h e = rw (stopped v e) h
     third (Fault v) (got d zs) h e = absurd h
     third (Done to₃ d₃ e₃ w₃) (bad k z) h e = absurd h
@@ -143,7 +144,7 @@ module _ (text : List ℕ) (find : List ℕ → NameMeaning) (c room n : ℕ) (o
   module _ (rb : Read) (C : ArgumentAfter text find c comma room p₂ p₃ rb rc) where
     second : (a : Phrase) (to₁ d₁ e₁ w₁ : ℕ) (us : List SheetToken) → length p₁ ≡ length o → length p₂ ≡ length p₁ → FormulaWritten text find c n o p₁ to₁ d₁ e₁ w₁ a us → (x : Read) (g : Phrased Phrase)
         → FormulaRead text find c e₁ p₁ p₂ x g → rb ≡ underBy (deeper 0 d₁) (firstFault 0 w₁) x
-        → FormulaRead text find c n o (headedIn 14 n re p₃) (appliedBy 0 0 re)
+        → FormulaRead text find c n o (headedIn ifFn n re p₃) (appliedBy 0 0 re)
         (thenPhrase g (λ b xs. thenPhrase (pastSign comma (phraseWithin (room - 1) 6) xs) (λ d zs. pastSign closing (λ end. got (choice a b d) end) zs)))
     second a to₁ d₁ e₁ w₁ us l₁ l₂ A (Fault v) (bad k z) h e = let y : NoArgument p₂ p₃ v rc = rw e at (C .told) in rw (stopped v (y .is)) h
     second a to₁ d₁ e₁ w₁ us l₁ l₂ A (Fault v) (got b xs) h e = absurd h
@@ -155,7 +156,7 @@ module _ (text : List ℕ) (find : List ℕ → NameMeaning) (c room n : ℕ) (o
 
     module _ (ra : Read) (B : ArgumentAfter text find c comma room p₁ p₂ ra rb) where
       first : (x : Read) (g : Phrased Phrase) → length p₁ ≡ length o → FormulaRead text find c n o p₁ x g → ra ≡ underBy 0 0 x
-          → FormulaRead text find c n o (headedIn 14 n re p₃) (appliedBy 0 0 re)
+          → FormulaRead text find c n o (headedIn ifFn n re p₃) (appliedBy 0 0 re)
           (thenPhrase g (λ a vs. thenPhrase (pastSign comma (phraseWithin (room - 1) 6) vs) (λ b xs. thenPhrase (pastSign comma (phraseWithin (room - 1) 6) xs) (λ d zs. pastSign closing (λ end. got (choice a b d) end) zs))))
       first (Fault v) (bad k z) l h e =
           let y : NoArgument p₁ p₂ v rb = rw e at (B .told) in
@@ -169,7 +170,7 @@ module _ (text : List ℕ) (find : List ℕ → NameMeaning) (c room n : ℕ) (o
           (second a to₁ d₁ e₁ w₁ vs l (y .reads .kept) h (y .part) (pastSign comma (phraseWithin (room - 1) 6) (tokensFrom text to₁)) (y .reads .reads) (y .is))
 
       pub choice-read : (at : ℕ) (q : Read) (p₄ : List ℕ) → ArgumentAfter text find c opening room o p₁ (Done at 0 n 0) ra → GoneOn text (room - 1) at n rc → 1 < room
-          → q ≡ appliedBy 0 0 re → p₄ ≡ headedIn 14 n re p₃ → length p₄ ≡ length p₃ → PartRead text find c room at n o p₄ q (readChoice (phraseWithin (room - 1) 6) (tokensFrom text at))
+          → q ≡ appliedBy 0 0 re → p₄ ≡ headedIn ifFn n re p₃ → length p₄ ≡ length p₃ → PartRead text find c room at n o p₄ q (readChoice (phraseWithin (room - 1) 6) (tokensFrom text at))
       choice-read at q p₄ A G h e d k =
           record {
             reads = rw (choice-as (phraseWithin (room - 1) 6) (tokensFrom text at), e, d)

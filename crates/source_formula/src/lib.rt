@@ -1,6 +1,8 @@
 // A formula of a sheet's text: read, its names looked up, and written as an expression field, in one walk. Each call
 // among these functions has less room to nest in, or the same and a lower place in the list: at most 16 formulas are
 // one inside another. Brackets are counted and cost no call.
+use lib_signature::functions;
+use lib_signature::levels;
 use source_coding::faults;
 use source_coding::signs::COMMA;
 use source_coding::signs::OPENING;
@@ -13,9 +15,7 @@ use source_field::close;
 use source_onward::Onward;
 use source_onward::onward_at;
 use source_operand::plain_at;
-use spec_language::functions;
 use spec_language::limits;
-use text_formula::levels;
 ghost use mathlib.Core.Path.{_≡_};
 ghost use Prim.Native.Nat.{_≤_, _<_, _-_};
 ghost use lib.ListN.{length};

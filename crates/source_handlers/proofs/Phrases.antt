@@ -7,7 +7,7 @@ use lib.ListN.{length}
 use lib.Dec.{ltb, eqb}
 use Rattle.lib_base.specs.Basics.{pick}
 use Rattle.lib_base.proofs.Tools.{by-test}
-use Rattle.text_formula.specs.Level.{level}
+use Rattle.lib_signature.specs.Signature.{level, notFn, ifFn, subtractFn}
 use Rattle.source_language.specs.Tokens.{SheetToken, number, name, sign, opening, closing, comma, bracket, unbracket}
 use Rattle.source_language.specs.Text.{Phrase, constant, named, cell, negation, operation, choice}
 use Rattle.source_language.specs.Limits.{largest, phraseNesting}
@@ -47,10 +47,10 @@ module _ (next : ℕ → List SheetToken → Phrased Phrase) (room : ℕ) (less 
   leaves-signed : (p c : ℕ) (ts : List SheetToken) → Leaves (suc (length ts)) (signedOf next room p c ts)
   unfolding signedOf
   leaves-signed p c ts =
-      by-test (Leaves (suc (length ts))) (eqb c 3)
+      by-test (Leaves (suc (length ts))) (eqb c notFn)
       (λ e. by-test (Leaves (suc (length ts))) (ltb 1 room) (λ d. leaves-negation (suc (length ts)) ts (omega arith)) (λ d. tt))
-      (λ e. by-test (Leaves (suc (length ts))) (eqb c 5) (λ d. leaves-constant (sign p c ∷ ts)) (λ d.
-      by-test (Leaves (suc (length ts))) (eqb c 14)
+      (λ e. by-test (Leaves (suc (length ts))) (eqb c subtractFn) (λ d. leaves-constant (sign p c ∷ ts)) (λ d.
+      by-test (Leaves (suc (length ts))) (eqb c ifFn)
       (λ b. by-test (Leaves (suc (length ts))) (ltb 1 room) (λ a. leaves-choice (suc (length ts)) ts (omega arith)) (λ a. tt))
       (λ b. tt)))
 

@@ -4,10 +4,10 @@ use Prim.Native.Nat.{ℕ, _+_}
 use mathlib.Core.Path.{_≡_, refl}
 use mathlib.Core.List.{List, [], _∷_}
 use lib.ListN.{replicate}
+use Rattle.lib_signature.specs.Signature.{level}
 use Rattle.spec_language.specs.Syntax.{later}
 use Rattle.spec_language.specs.Grammar.{encode, encodeEvents, encodeBehaviours, encodeHandlers, encodeExpr}
 use Rattle.text_formula.specs.Tokens.{decimalValue}
-use Rattle.text_formula.specs.Level.{level}
 use Rattle.source_language.specs.Tokens.{marks, reserved, same, signOf, isDigit, isLetter, inWord, isBlank, inComment}
 use Rattle.source_language.specs.Text.{named, cell, on}
 use Rattle.source_language.specs.Renaming.{phraseAs, reactionsAs}

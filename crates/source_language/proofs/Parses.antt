@@ -11,8 +11,9 @@ use lib.ListN.{length}
 use lib.Dec.{ltb, leb, eqb}
 use borrow.Author.Tests.{ltb-true, ltb-false, lt-ltb, le-ltb, leb-true, leb-false, le-leb, lt-leb, eqb-true, ne-eqb}
 use Rattle.lib_base.proofs.Tools.{by-test, split}
+use Rattle.lib_signature.specs.Signature.{level, notFn, ifFn, subtractFn}
+use Rattle.lib_signature.proofs.Laws.{level-beyond, level-most}
 use Rattle.text_formula.specs.Nesting.{deeper}
-use Rattle.text_formula.specs.Level.{level}
 use Rattle.text_formula.proofs.Parses.{level-of, operator-of}
 use Rattle.source_language.specs.Tokens.{SheetToken, number, name, sign, opening, closing, comma, bracket, unbracket}
 use Rattle.source_language.specs.Text.{TextConstant, plus, minus, Phrase, constant, named, cell, negation, operation, choice}
@@ -116,17 +117,6 @@ unfolding level
 no-operator [] h = refl
 no-operator (t ∷ ts) h = absurd (omega arith)
 
-level-most : (c : ℕ) → level c ≤ 6
-unfolding level
-level-most c =
-    by-test (λ (n : ℕ). n ≤ 6) (ltb 13 c) (λ e. omega arith)
-    (λ e. by-test (λ (n : ℕ). n ≤ 6) (ltb 11 c) (λ d. omega arith)
-    (λ d. by-test (λ (n : ℕ). n ≤ 6) (ltb 7 c) (λ b. omega arith)
-    (λ b. by-test (λ (n : ℕ). n ≤ 6) (ltb 5 c) (λ a. omega arith)
-    (λ a. by-test (λ (n : ℕ). n ≤ 6) (ltb 3 c) (λ z. omega arith)
-    (λ z. by-test (λ (n : ℕ). n ≤ 6) (eqb c 2) (λ y. omega arith)
-    (λ y. by-test (λ (n : ℕ). n ≤ 6) (eqb c 1) (λ x. omega arith) (λ x. omega arith)))))))
-
 -- a closing bracket closes one
 closes : (next : ℕ → List SheetToken → Phrased Phrase) (room l m k p : ℕ) (e : Phrase) (us : List SheetToken)
     → afterOperand next room l (suc m) (suc k) e (sign p closing ∷ us) ≡ afterOperand next room l m k e us
@@ -211,17 +201,17 @@ constant-sound room ts =
     then-of (Held (suc room) 0 ts) (Valued ts) _ (λ c us h. record { derived = a-value (h .0); numbers = h .1; nests = omega arith }) (valueOf ts) (value-sound ts)
 
 module _ (room : ℕ) (next : ℕ → List SheetToken → Phrased Phrase) (ih : (l : ℕ) (ts : List SheetToken) → Of (Ended room l ts) (next l ts)) where
-  negation-sound : (p : ℕ) (ts : List SheetToken) → Of (Held (suc room) 0 (sign p 3 ∷ ts)) (readNegation (next 0) ts)
+  negation-sound : (p : ℕ) (ts : List SheetToken) → Of (Held (suc room) 0 (sign p notFn ∷ ts)) (readNegation (next 0) ts)
   unfolding readNegation Ended NumbersFit phraseNesting
   negation-sound p ts =
-      then-of (Held (suc room) 0 (sign p 3 ∷ ts)) (Ended room 0 ts) _
+      then-of (Held (suc room) 0 (sign p notFn ∷ ts)) (Ended room 0 ts) _
       (λ a us h. record { derived = negated (h .0 .derived); numbers = h .0 .numbers; nests = omega (arith, h .0 .nests) }) (next 0 ts) (ih 0 ts)
 
   choice-nests : (a b c : Phrase) → phraseNesting a ≤ room → phraseNesting b ≤ room → phraseNesting c ≤ room → phraseNesting (choice a b c) ≤ suc room
   unfolding phraseNesting
   choice-nests a b c x y z = omega arith
 
-  choice-sound : (p : ℕ) (ts : List SheetToken) → Of (Held (suc room) 0 (sign p 14 ∷ ts)) (readChoice (next 6) ts)
+  choice-sound : (p : ℕ) (ts : List SheetToken) → Of (Held (suc room) 0 (sign p ifFn ∷ ts)) (readChoice (next 6) ts)
   unfolding readChoice Ended NumbersFit
   choice-sound p ts =
       past-of F opening (omega arith) _ ts (λ q us x.
@@ -238,7 +228,7 @@ module _ (room : ℕ) (next : ℕ → List SheetToken → Phrased Phrase) (ih : 
       (next 6 ys) (ih 6 ys))) (next 6 ws) (ih 6 ws))) (next 6 us) (ih 6 us))
     where
       F : Phrase → List SheetToken → Type 0
-      F = Held (suc room) 0 (sign p 14 ∷ ts)
+      F = Held (suc room) 0 (sign p ifFn ∷ ts)
 
   argued : (P : Phrase → List SheetToken → Type 0) (p : ℕ) (x : Phrased Phrase) → Of P x → Of P (withArguments (suc room) p x)
   argued P p x h = by-test (Of P) (ltb 1 (suc room)) (λ e. h) (λ e. tt)
@@ -246,11 +236,11 @@ module _ (room : ℕ) (next : ℕ → List SheetToken → Phrased Phrase) (ih : 
   signed-sound : (p c : ℕ) (ts : List SheetToken) → Of (Held (suc room) 0 (sign p c ∷ ts)) (signedOf next (suc room) p c ts)
   unfolding signedOf
   signed-sound p c ts =
-      by-test (Of F) (eqb c 3)
-      (λ e. let q : c ≡ 3 = eqb-true c 3 e in argued F p (readNegation (next 0) ts) (rw q (negation-sound p ts)))
-      (λ e. by-test (Of F) (eqb c 5) (λ d. constant-sound room (sign p c ∷ ts))
-      (λ d. by-test (Of F) (eqb c 14)
-      (λ a. let q : c ≡ 14 = eqb-true c 14 a in argued F p (readChoice (next 6) ts) (rw q (choice-sound p ts))) (λ a. tt)))
+      by-test (Of F) (eqb c notFn)
+      (λ e. let q : c ≡ notFn = eqb-true c notFn e in argued F p (readNegation (next 0) ts) (rw q (negation-sound p ts)))
+      (λ e. by-test (Of F) (eqb c subtractFn) (λ d. constant-sound room (sign p c ∷ ts))
+      (λ d. by-test (Of F) (eqb c ifFn)
+      (λ a. let q : c ≡ ifFn = eqb-true c ifFn a in argued F p (readChoice (next 6) ts) (rw q (choice-sound p ts))) (λ a. tt)))
     where
       F : Phrase → List SheetToken → Type 0
       F = Held (suc room) 0 (sign p c ∷ ts)
@@ -343,12 +333,11 @@ Calm l ts = (eqb (signAt ts) bracket ≡ false) × Loose l ts
 pub calm-less : (l : ℕ) (ts : List SheetToken) → Calm (suc l) ts → Calm l ts
 calm-less l ts h = (h .0, λ g. omega (arith, h .1 g))
 
--- a sign above 13 that is not `[` is calm at every level
-high-level : (c : ℕ) → 13 < c → level c ≡ 0
-unfolding level
-high-level c h = rw (lt-ltb 13 c h)
+-- a sign of the text's own that is not `[` is calm at every level
+high-level : (c : ℕ) → opening ≤ c → level c ≡ 0
+high-level c h = level-beyond c (omega arith)
 
-pub calm-high : (l p c : ℕ) (ts : List SheetToken) → 13 < c → eqb c bracket ≡ false → Calm l (sign p c ∷ ts)
+pub calm-high : (l p c : ℕ) (ts : List SheetToken) → opening ≤ c → eqb c bracket ≡ false → Calm l (sign p c ∷ ts)
 calm-high l p c ts h e = (e, λ g. absurd (omega (arith, high-level c h)))
 
 pub no-bracket : (l f : ℕ) → level f ≡ suc l → eqb f bracket ≡ false
@@ -493,7 +482,7 @@ reach (two-sided {l = j} {p} {f} {ts} {us} {vs} {a} {b} o d e) room l m k h t c 
 reach (negated {p} {ts} {us} {a} d) room l m k h t c w =
     let s = negation-parts room a t in
     let y = part-reads room 0 ts a us s (λ g. g) (λ r z. reach d r 0 (length ts) zero (omega arith) z c (omega arith)) in
-    primary-step room l m k (sign p 3 ∷ ts) us (negation a) refl (omega (arith, derives-less d)) (rw (room-for room a s, y))
+    primary-step room l m k (sign p notFn ∷ ts) us (negation a) refl (omega (arith, derives-less d)) (rw (room-for room a s, y))
 reach {ts = ts} {us} (a-value {c = n} v) room l m k h t c w =
     let x = value-at (phraseWithin room) (suc room) v (t .numbers) in
     primary-step room l m k ts us (constant n) (x .0) (omega (arith, value-less v)) (x .1)
@@ -510,7 +499,7 @@ reach (chosen {p} {q} {r} {s} {t = o} {ts} {us} {vs} {ws} {a} {b} {c} d e f) roo
     (λ n x. reach e n 6 (length us) zero (omega arith) x (calm-high 6 s comma vs (omega arith) refl) (omega arith)) in
     let g = part-reads room 6 vs c (sign o closing ∷ ws) (y .2) (calm-high 7 o closing ws (omega arith) refl .1)
     (λ n x. reach f n 6 (length vs) zero (omega arith) x (calm-high 6 o closing ws (omega arith) refl) (omega arith)) in
-    primary-step room l m k (sign p 14 ∷ sign q opening ∷ ts) ws (choice a b c) refl (omega (arith, derives-less d, derives-less e, derives-less f)) (rw (room-for room a (y .0), i, j, g))
+    primary-step room l m k (sign p ifFn ∷ sign q opening ∷ ts) ws (choice a b c) refl (omega (arith, derives-less d, derives-less e, derives-less f)) (rw (room-for room a (y .0), i, j, g))
 
 -- a formula before a sign that can follow one, which is a reserved word or the end
 pub follows : (l : ℕ) (us : List SheetToken) → unbracket < signAt us → Calm l us

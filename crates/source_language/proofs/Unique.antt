@@ -8,9 +8,9 @@ use mathlib.Core.Option.{Option, some}
 use mathlib.Core.List.{List, [], _∷_}
 use native.Mathlib.Omega.{arith}
 use lib.ListN.{length}
+use Rattle.lib_signature.specs.Signature.{level}
 use Rattle.spec_language.specs.Syntax.{immediate, later}
 use Rattle.text_formula.specs.Grammar.{Operator}
-use Rattle.text_formula.specs.Level.{level}
 use Rattle.text_formula.proofs.Parses.{level-of}
 use Rattle.source_language.specs.Tokens.{SheetToken, sign, closing, comma, unbracket, from-word, seen-word, on-word, param-word, event-word, passive-word, endSign}
 use Rattle.source_language.specs.Text.{TextConstant, Phrase, constant, negation, operation, choice, Reaction, on, Body, active, row, Parameter, parameter, TextEvent, event, TextBehaviour, behaviour, Text}

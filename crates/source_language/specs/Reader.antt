@@ -7,8 +7,8 @@ use mathlib.Core.List.{List, [], _∷_}
 use lib.ListN.{length}
 use lib.Dec.{ltb, leb, eqb}
 use Rattle.lib_base.specs.Basics.{pick}
+use Rattle.lib_signature.specs.Signature.{level, notFn, ifFn, subtractFn}
 use Rattle.spec_language.specs.Syntax.{Phase, immediate, later}
-use Rattle.text_formula.specs.Level.{level}
 use Rattle.source_language.specs.Tokens.{SheetToken, number, name, sign, opening, closing, comma, colon, equals}
 use Rattle.source_language.specs.Tokens.{bracket, unbracket, rank-word, from-word, by-word, nobody-word}
 use Rattle.source_language.specs.Tokens.{later-word, seen-word, on-word, param-word, event-word, passive-word}
@@ -130,9 +130,9 @@ withArguments room p x = pick (ltb 1 room) x (bad tooDeep p)
 -- what an operand is but for brackets around it: `!`, a negative constant, `if`, a number, a name, a cell
 unfoldable pub signedOf : (ℕ → List SheetToken → Phrased Phrase) → ℕ → ℕ → ℕ → List SheetToken → Phrased Phrase
 signedOf next room p c ts =
-    pick (eqb c 3) (withArguments room p (readNegation (next 0) ts))
-    (pick (eqb c 5) (readConstant (sign p c ∷ ts))
-    (pick (eqb c 14) (withArguments room p (readChoice (next 6) ts))
+    pick (eqb c notFn) (withArguments room p (readNegation (next 0) ts))
+    (pick (eqb c subtractFn) (readConstant (sign p c ∷ ts))
+    (pick (eqb c ifFn) (withArguments room p (readChoice (next 6) ts))
     (bad outside p)))
 
 abbrev pub readPrimary : (ℕ → List SheetToken → Phrased Phrase) → ℕ → List SheetToken → Phrased Phrase

@@ -1,12 +1,13 @@
 -- The tokens of a sheet's text, and how a text is made of them: docs/SHEETS.md "Tokens". Bytes are those of ASCII.
-use Prim.Native.Nat.{ℕ, _-_, _≤_}
+use Prim.Native.Nat.{ℕ, suc, _-_, _≤_}
 use mathlib.Core.Bool.{Bool, true, false, not, _&&_, _||_}
 use mathlib.Core.Path.{_≡_}
 use mathlib.Core.Logic.{_≢_}
 use mathlib.Core.List.{List, [], _∷_, _++_}
-use lib.ListN.{length}
+use lib.ListN.{length, getD}
 use lib.Dec.{leb, eqb}
 use Rattle.lib_base.specs.Basics.{pick, All}
+use Rattle.lib_signature.specs.Signature.{Function, itsSpelling, functions}
 use Rattle.text_formula.specs.Tokens.{decimalValue, NotFirst}
 
 -- each token has its place, the number of bytes before it. A number; a name; or a sign: an operator or `if` by 01's
@@ -88,30 +89,30 @@ straySign = 84
 pub data Spelling : Type 0 where
   spelled : List ℕ → ℕ → Spelling
 
+-- the functions' spellings, from number n on: those that a small letter begins are words, the others marks
+abbrev pub isWord : List ℕ → Bool
+isWord s = leb 97 (getD s 0 0) && leb (getD s 0 0) 122
+
+abbrev pub functionMarks : ℕ → List Function → List Spelling
+functionMarks n [] = []
+functionMarks n (f ∷ rows) = pick (isWord (itsSpelling f)) [] (spelled (itsSpelling f) n ∷ []) ++ functionMarks (suc n) rows
+
+abbrev pub functionWords : ℕ → List Function → List Spelling
+functionWords n [] = []
+functionWords n (f ∷ rows) = pick (isWord (itsSpelling f)) (spelled (itsSpelling f) n ∷ []) [] ++ functionWords (suc n) rows
+
 -- "Operators, brackets and their precedence are those of 02, M-105; further tokens: `:` `=` `[` `]`."
 unfoldable pub marks : List Spelling
 marks =
-    spelled (124 ∷ 124 ∷ []) 1  -- ||
-    ∷ spelled (38 ∷ 38 ∷ []) 2  -- &&
-    ∷ spelled (33 ∷ []) 3  -- !
-    ∷ spelled (43 ∷ []) 4  -- +
-    ∷ spelled (45 ∷ []) 5  -- -
-    ∷ spelled (42 ∷ []) 6  -- *
-    ∷ spelled (47 ∷ []) 7  -- /
-    ∷ spelled (62 ∷ []) 8  -- >
-    ∷ spelled (62 ∷ 61 ∷ []) 9  -- >=
-    ∷ spelled (60 ∷ []) 10  -- <
-    ∷ spelled (60 ∷ 61 ∷ []) 11  -- <=
-    ∷ spelled (61 ∷ 61 ∷ []) 12  -- ==
-    ∷ spelled (33 ∷ 61 ∷ []) 13  -- !=
-    ∷ spelled (40 ∷ []) opening
+    functionMarks 1 functions
+    ++ (spelled (40 ∷ []) opening
     ∷ spelled (41 ∷ []) closing
     ∷ spelled (44 ∷ []) comma
     ∷ spelled (58 ∷ []) colon
     ∷ spelled (61 ∷ []) equals
     ∷ spelled (91 ∷ []) bracket
     ∷ spelled (93 ∷ []) unbracket
-    ∷ []
+    ∷ [])
 
 -- "reserved: `param event rank from passive active row seen by nobody on later if`"
 unfoldable pub reserved : List Spelling
@@ -128,8 +129,7 @@ reserved =
     ∷ spelled (110 ∷ 111 ∷ 98 ∷ 111 ∷ 100 ∷ 121 ∷ []) nobody-word
     ∷ spelled (111 ∷ 110 ∷ []) on-word
     ∷ spelled (108 ∷ 97 ∷ 116 ∷ 101 ∷ 114 ∷ []) later-word
-    ∷ spelled (105 ∷ 102 ∷ []) 14
-    ∷ []
+    ∷ functionWords 1 functions
 
 -- the same bytes: "upper and lower case differ"
 unfoldable pub same : List ℕ → List ℕ → Bool

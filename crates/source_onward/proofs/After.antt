@@ -9,7 +9,8 @@ use lib.Dec.{ltb, leb, eqb}
 use borrow.Author.Tests.{ltb-true, ltb-false, leb-true, eqb-true, eqb-false, lt-ltb, le-ltb, lt-leb, ne-eqb}
 use Rattle.lib_base.specs.Basics.{pick}
 use Rattle.lib_base.proofs.Tools.{by-test, past, split}
-use Rattle.text_formula.specs.Level.{level}
+use Rattle.lib_signature.specs.Signature.{level}
+use Rattle.lib_signature.proofs.Laws.{level-two}
 use Rattle.source_language.specs.Tokens.{SheetToken, sign, closing, endSign, isDigit, isLetter, inWord}
 use Rattle.source_language.specs.Text.{Phrase, operation}
 use Rattle.source_language.specs.Faults.{outside, tooDeep}
@@ -34,13 +35,6 @@ use Rattle.source_onward.specs.declared.Onward.the-variants.{Ended, Clos
 use Rattle.source_onward.proofs.Stands.{SignStands}
 
 -- ---- operators
-
--- a sign that has a level is one of 01's functions
-level-range : (c : ℕ) → 0 < level c → (0 < c) × (c < 14)
-unfolding level
-level-range zero h = absurd (omega arith)
-level-range (suc c) h =
-    split (ltb 13 (suc c)) (λ e. let z = rw e at h in absurd (omega arith)) (λ e. let g = ltb-false 13 (suc c) e in omega arith)
 
 joins-outside : (t l : ℕ) → ltb 0 t && leb t l ≡ joinsIn t l 0
 unfolding joinsIn
@@ -97,15 +91,12 @@ module _ (next : ℕ → List SheetToken → Phrased Phrase) (room l m : ℕ) (a
 
 -- ---- the sign ahead
 
-no-level : (c : ℕ) → NoOperator c → level c ≡ 0
-no-level c n = split (ltb 0 (level c)) (λ t. let b = level-range c (ltb-true 0 (level c) t) in let h = n .0 (b .0) in absurd (omega arith)) (λ f. omega (arith, ltb-false 0 (level c) f))
-
 module _ (text : List ℕ) (at p : ℕ) (o : PassedOver text at p) where
   ahead-none : at ≤ length text → NoOperator (signAt (tokensFrom text p)) × (placeAt (tokensFrom text p) ≡ p) → SignAhead text at p 0 p
   unfolding level
   ahead-none h n =
       record {
-        level-is = ap (λ (ts : List SheetToken). level (signAt ts)) (o .all) ∙ no-level (signAt (tokensFrom text p)) (n .0);
+        level-is = ap (λ (ts : List SheetToken). level (signAt ts)) (o .all) ∙ n .0 .0;
         closing-is = λ q. absurd (n .0 .1 (ap signAt (sym (o .all)) ∙ q));
         place-is = ap placeAt (o .all) ∙ n .1;
         some = tokens-some text at h;
@@ -168,7 +159,7 @@ module _ (text : List ℕ) (at l depth room p c next : ℕ) (few : l ≤ 6) (s :
   operator-on : (k : ℕ) → joinsIn (level c) l k ≡ true → OnwardRead text at l k depth room (pick (ltb depth room) (Operator c (level c - 1) next) (Fault (faultWord tooDeep p)))
   operator-on k j =
       let r = joins-range (level c) l k few j in
-      let b = level-range c (r .0) in
+      let b = level-two c (r .0) in
       by-test (OnwardRead text at l k depth room) (ltb depth room)
       (λ e. (
         λ go m a d.

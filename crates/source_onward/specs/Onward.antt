@@ -8,7 +8,7 @@ use mathlib.Core.List.{List, _∷_}
 use lib.ListN.{length}
 use lib.Dec.{ltb, leb, eqb}
 use Rattle.lib_base.specs.Basics.{pick}
-use Rattle.text_formula.specs.Level.{level}
+use Rattle.lib_signature.specs.Signature.{level, notFn, ifFn}
 use Rattle.source_language.specs.Tokens.{SheetToken, sign, opening, closing, endSign}
 use Rattle.source_language.specs.Text.{Phrase, operation}
 use Rattle.source_language.specs.Faults.{outside, tooDeep}
@@ -35,8 +35,8 @@ StandsFor (Sign p d next) q c to = (q ≡ p) × (c ≡ d) × (to ≡ next)
 
 -- the sign at a place as far as an operand begins by it, with `!` or `if`: 0 stands for any other
 pub record SignBefore (text : List ℕ) (at p c next : ℕ) : Type 0 where
-  pub not-is : signAt (tokensFrom text at) ≡ 3 → c ≡ 3
-  pub if-is : signAt (tokensFrom text at) ≡ 14 → c ≡ 14
+  pub not-is : signAt (tokensFrom text at) ≡ notFn → c ≡ notFn
+  pub if-is : signAt (tokensFrom text at) ≡ ifFn → c ≡ ifFn
   pub within : p ≤ length text
   pub onward : 0 < c → c < endSign → tokensFrom text at ≡ sign p c ∷ tokensFrom text next
   pub further : 0 < c → c < endSign → (at < next) × (next ≤ length text)

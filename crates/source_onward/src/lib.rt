@@ -1,4 +1,5 @@
 // How a formula of a sheet's text goes on: the brackets before its first operand, and what follows an operand.
+use lib_signature::levels;
 use source_coding::faults;
 use source_coding::signs;
 use source_due::Due;
@@ -12,12 +13,9 @@ use source_tokens::mark_at;
 use source_tokens::opening_at;
 use source_tokens::pass_over;
 use source_tokens::token_at;
-use spec_language::functions;
-use text_formula::levels;
 ghost use mathlib.Core.Path.{_≡_};
 ghost use Prim.Native.Nat.{_≤_, _<_};
 ghost use lib.ListN.{length};
-ghost use Rattle.text_formula.specs.Level.{level as levelOf};
 ghost use Rattle.source_coding.specs.Places.{tokensFrom};
 ghost use Rattle.source_tokens.specs.Token.{PassedOver};
 ghost use Rattle.source_onward.specs.Onward.{StandsFor, SignBefore, SignAhead, BracketsOpened, joinsIn, onwardOf, OnwardRead, ReadInside, EndedRead};
@@ -135,34 +133,6 @@ pub fn brackets_at(text: &[u8], at: usize) -> Brackets
     }
 }
 
-// The level of a two-sided operator; 0 for another sign. Functions of one level have numbers in a row.
-fn level_of(sign: u8) -> u64
-    ensures { λ r. ⌜ r ≡ levelOf sign ⌝ }
-{
-    if functions::UNEQUAL < sign {
-        return 0;
-    }
-    if functions::AT_MOST < sign {
-        return levels::EQUALITY;
-    }
-    if functions::DIVIDE < sign {
-        return levels::ORDERING;
-    }
-    if functions::SUBTRACT < sign {
-        return levels::PRODUCT;
-    }
-    if functions::NOT < sign {
-        return levels::SUM;
-    }
-    if sign == functions::AND {
-        return levels::CONJUNCTION;
-    }
-    if sign == functions::OR {
-        return levels::DISJUNCTION;
-    }
-    0
-}
-
 // An operator of level t goes on with a formula of a level, inside so many brackets of its own.
 fn joins(t: u64, level: u64, opened: usize) -> bool
     ensures { λ r. ⌜ r ≡ joinsIn t level opened ⌝ }
@@ -189,7 +159,7 @@ fn onward_of(
     requires { ⌜ place ≤ 65536 ⌝ }
     ensures { λ r. ⌜ r ≡ onwardOf place sign next level opened depth room ⌝ }
 {
-    let t = level_of(sign);
+    let t = lib_signature::level_of(sign);
     if joins(t, level, opened) {
         if depth < room {
             return Onward::Operator(sign, t - 1, next);

@@ -9,11 +9,11 @@ use lib.ListN.{length, getD, take, drop, length-append}
 use lib.Dec.{ltb, leb, eqb}
 use borrow.Author.Tests.{ltb-true, leb-true, eqb-true, eq-eqb, ne-eqb, le-leb, lt-leb}
 use Rattle.lib_base.specs.Basics.{pick}
-use Rattle.lib_base.proofs.Tools.{by-test, through}
+use Rattle.lib_base.proofs.Tools.{by-test, through, allBelow, each-below}
+use Rattle.lib_signature.specs.Signature.{last}
 use Rattle.source_language.specs.Tokens.{number, name, sign, opening, on-word, param-word, endSign, marks, reserved, same}
 use Rattle.source_language.proofs.Scans.{same-is}
 use Rattle.source_rendering.specs.Describe.{digits, spelledAs, spell, firstByte, runTogether}
-use Rattle.source_rendering.proofs.Lexes.{allBelow, each-below}
 use Rattle.source_pen.specs.declared.Pen.{Pen}
 use Rattle.source_pen.specs.Written.{spaceAfter, gapAfter, tokenAfter, spellingsFrom, Penned, TokensPenned}
 use Rattle.source_pen.proofs.Bytes.{none-together}
@@ -58,19 +58,19 @@ module _ (first : ℕ) (starts : List ℕ) (top n : ℕ) (fine : allBelow n (sta
   start-told : (getD starts i 0 ≤ top) × (getD starts i 0 ≡ length (spellingsFrom first i))
   start-told = (leb-true (getD starts i 0) top (start-both .0), eqb-true (getD starts i 0) (length (spellingsFrom first i)) (start-both .1))
 
-function-starts : allBelow 16 (startIs 0 functionStarts 21) ≡ true
-unfolding allBelow startIs functionStarts spellingsFrom spelledAs marks reserved
+function-starts : allBelow (last + 2) (startIs 0 functionStarts (length functionBytes)) ≡ true
+unfolding allBelow startIs functionStarts functionBytes spellingsFrom spelledAs marks reserved
 function-starts = refl
 
-pub function-start : (f : ℕ) → f < 16 → (getD functionStarts f 0 ≤ 21) × (getD functionStarts f 0 ≡ length (spellingsFrom 0 f))
-function-start = start-told 0 functionStarts 21 16 function-starts
+pub function-start : (f : ℕ) → f < last + 2 → (getD functionStarts f 0 ≤ length functionBytes) × (getD functionStarts f 0 ≡ length (spellingsFrom 0 f))
+function-start = start-told 0 functionStarts (length functionBytes) (last + 2) function-starts
 
-sign-starts : allBelow 21 (startIs opening signStarts 60) ≡ true
-unfolding allBelow startIs signStarts spellingsFrom spelledAs marks reserved
+sign-starts : allBelow 21 (startIs opening signStarts (length signBytes)) ≡ true
+unfolding allBelow startIs signStarts signBytes spellingsFrom spelledAs marks reserved
 sign-starts = refl
 
-pub sign-start : (i : ℕ) → i < 21 → (getD signStarts i 0 ≤ 60) × (getD signStarts i 0 ≡ length (spellingsFrom opening i))
-sign-start = start-told opening signStarts 60 21 sign-starts
+pub sign-start : (i : ℕ) → i < 21 → (getD signStarts i 0 ≤ length signBytes) × (getD signStarts i 0 ≡ length (spellingsFrom opening i))
+sign-start = start-told opening signStarts (length signBytes) 21 sign-starts
 
 -- the part of all spellings that is a sign's, by its two ends
 abbrev part : List ℕ → ℕ → ℕ → List ℕ
@@ -115,12 +115,12 @@ module _ (first : ℕ) (all : List ℕ) (n : ℕ) (fine : allBelow n (rowIs firs
         some = λ p q. ltb-true 0 (length (spell (sign 0 (first + i)))) (rw (ne-eqb (first + i) 0 (omega arith), ne-eqb (first + i) endSign (omega arith)) at (m .1));
       }
 
-function-rows : allBelow 15 (rowIs 0 functionBytes) ≡ true
+function-rows : allBelow (last + 1) (rowIs 0 functionBytes) ≡ true
 unfolding allBelow rowIs functionBytes spellingsFrom spelledAs marks reserved same
 function-rows = refl
 
-pub function-row : (f a b : ℕ) → f < 15 → a ≡ length (spellingsFrom 0 f) → b ≡ length (spellingsFrom 0 (f + 1)) → RowOf functionBytes f a b
-function-row f a b h d e = let q : 0 + f ≡ f = omega arith in rw q at (row-of 0 functionBytes 15 function-rows f a b h d e)
+pub function-row : (f a b : ℕ) → f ≤ last → a ≡ length (spellingsFrom 0 f) → b ≡ length (spellingsFrom 0 (f + 1)) → RowOf functionBytes f a b
+function-row f a b h d e = let q : 0 + f ≡ f = omega arith in rw q at (row-of 0 functionBytes (last + 1) function-rows f a b (omega arith) d e)
 
 sign-rows : allBelow 20 (rowIs opening signBytes) ≡ true
 unfolding allBelow rowIs signBytes spellingsFrom spelledAs marks reserved same

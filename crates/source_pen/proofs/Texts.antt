@@ -9,7 +9,7 @@ use lib.ListN.{length}
 use lib.Dec.{ltb, eqb}
 use borrow.Author.Tests.{ltb-true, ne-eqb}
 use Rattle.lib_base.specs.Basics.{pick, All}
-use Rattle.lib_base.proofs.Tools.{by-test}
+use Rattle.lib_base.proofs.Tools.{by-test, allBelow, each-below}
 use Rattle.spec_language.specs.Sheet.{Sheet, cellCount, fillEntries}
 use Rattle.spec_language.specs.Grammar.{SheetFits}
 use Rattle.spec_language.specs.Accepted.{BehaviourNamesIn}
@@ -17,7 +17,7 @@ use Rattle.source_language.specs.Tokens.{SheetToken, number, name, sign, marks,
 use Rattle.source_rendering.specs.Describe.{digitsOf, digits, spelledAs, spell, lastOf, gap, rendered, render, parametersFrom, describedEvents, describedBehaviours, textOf, textTokens, described}
 use Rattle.spec_language.specs.Sheet.{paramsOfEntries}
 use Rattle.source_rendering.proofs.Digits.{some-digits}
-use Rattle.source_rendering.proofs.Lexes.{allBelow, each-below, isSpelled, spelled-low, Spelt, Ended, at-end, before-end}
+use Rattle.source_rendering.proofs.Lexes.{isSpelled, spelled-low, Spelt, Ended, at-end, before-end}
 use Rattle.source_rendering.proofs.DescribedFits.{described-parameters, described-events, described-behaviours}
 use Rattle.source_rendering.proofs.Prints.{text-ended}
 use Rattle.source_pen.specs.Written.{spaceAfter, spacingAfter, gapAfter, tokenAfter, lastAfter, writtenAfter}

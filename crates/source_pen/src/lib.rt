@@ -5,6 +5,7 @@ ghost use mathlib.Core.Path.{_≡_};
 ghost use mathlib.Core.List.{[], _∷_, _++_};
 ghost use Prim.Native.Nat.{_<_, _≤_, _+_};
 ghost use lib.ListN.{length, drop};
+ghost use Rattle.lib_signature.specs.Signature.{last};
 ghost use Rattle.source_language.specs.Tokens.{inWord, number, name, sign, opening, endSign};
 ghost use Rattle.source_rendering.specs.Describe.{digits, spell, firstByte, runTogether};
 ghost use Rattle.source_pen.specs.Written.{takesEquals, spaceAfter, tokenAfter, spellingsFrom, Penned, TokensPenned};
@@ -132,7 +133,7 @@ fn put_apart(out: &mut [u8], pen: Pen, text: &[u8]) -> Pen
 
 // Where the spelling of a function begins among all of them.
 fn function_start(f: usize) -> usize
-    requires { ⌜ f < 16 ⌝ }
+    requires { ⌜ f < last + 2 ⌝ }
     ensures { λ r. ⌜ r ≡ length (spellingsFrom 0 f) ⌝ }
 {
     FUNCTION_STARTS[f] as usize
@@ -171,7 +172,7 @@ fn put_spelling(out: &mut [u8], pen: Pen, c: u8, text: &[u8]) -> Pen
 // A function's sign: an operator, or `if`.
 pub fn put_function(out: &mut [u8], pen: Pen, f: u8) -> Pen
     requires { ⌜ pen .at ≤ 4294967296 ⌝ }
-    requires { ⌜ (0 < f) × (f ≤ 14) ⌝ }
+    requires { ⌜ (0 < f) × (f ≤ last) ⌝ }
     ensures { λ r. ⌜ TokensPenned (now (out .entry)) (now (out .exit)) pen r (sign 0 f ∷ []) ⌝ }
     ensures { λ r. ⌜ r .at ≤ pen .at + 12 ⌝ }
 {

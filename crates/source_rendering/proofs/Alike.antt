@@ -4,6 +4,7 @@ use Prim.Native.Nat.{ℕ, suc}
 use mathlib.Core.Path.{_≡_, refl, subst}
 use mathlib.Core.Option.{Option, some}
 use mathlib.Core.List.{List, [], _∷_, map}
+use Rattle.lib_signature.specs.Signature.{ifFn, notFn}
 use Rattle.spec_language.specs.Syntax.{immediate, later}
 use Rattle.text_formula.specs.Grammar.{Operator}
 use Rattle.source_language.specs.Tokens.{SheetToken, number, name, sign, opening, closing, comma}
@@ -88,7 +89,7 @@ bracketed-again : {p : ℕ} {e : Phrase} {ts us : List SheetToken} → Behind cl
 bracketed-again r = record { read = r .read; over = r .over; is = bracketed (r .is); same = r .same; alike = r .alike }
 
 chosen-again : {p q : ℕ} {a b c : Phrase} {ts us vs ws : List SheetToken} → Behind comma a ts us → ((xs : List SheetToken) → Alike us xs → Behind comma b xs vs)
-    → ((xs : List SheetToken) → Alike vs xs → Behind closing c xs ws) → Again (PhraseDerives 0) bare (choice a b c) (sign p 14 ∷ sign q opening ∷ ts) ws
+    → ((xs : List SheetToken) → Alike vs xs → Behind closing c xs ws) → Again (PhraseDerives 0) bare (choice a b c) (sign p ifFn ∷ sign q opening ∷ ts) ws
 unfolding phraseAs
 chosen-again r k l =
     let s = k (r .over) (r .alike) in
@@ -98,7 +99,7 @@ chosen-again r k l =
 tighter-again : {l : ℕ} {e : Phrase} {ts us : List SheetToken} → Again (PhraseDerives l) bare e ts us → Again (PhraseDerives (suc l)) bare e ts us
 tighter-again r = record { read = r .read; over = r .over; is = tighter (r .is); same = r .same; alike = r .alike }
 
-negated-again : {p : ℕ} {a : Phrase} {ts us : List SheetToken} → Again (PhraseDerives 0) bare a ts us → Again (PhraseDerives 0) bare (negation a) (sign p 3 ∷ ts) us
+negated-again : {p : ℕ} {a : Phrase} {ts us : List SheetToken} → Again (PhraseDerives 0) bare a ts us → Again (PhraseDerives 0) bare (negation a) (sign p notFn ∷ ts) us
 unfolding phraseAs
 negated-again r = record { read = negation (r .read); over = r .over; is = negated (r .is); same = rw (r .same); alike = r .alike }
 

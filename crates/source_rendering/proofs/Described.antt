@@ -11,7 +11,7 @@ use lib.ListN.{length}
 use lib.Dec.{ltb, eqb}
 use borrow.Author.Tests.{ltb-true, ltb-false, lt-ltb, eqb-true, eqb-false, eq-eqb, ne-eqb}
 use Rattle.lib_base.specs.Basics.{All}
-use Rattle.lib_base.proofs.Tools.{split}
+use Rattle.lib_base.proofs.Tools.{split, allBelow, each-below}
 use Rattle.spec_language.specs.Sheet.{Term, variable, Clause, clause, Item, formula, state, row, Signal, Entry, Sheet, cells, cellCount, fillTerm, fillClauses, fillItem, fillEntries}
 use Rattle.spec_language.specs.Grammar.{unary, ternary, binary, TermFits, t-literal, t-variable, t-param, t-apply1, t-apply2, t-apply3, ClausesFit, ItemFits, ByteFits, EntryFits, SignalFits}
 use Rattle.spec_language.specs.Accepted.{NamesIn, HandlerNamesIn, BehaviourNamesIn}
@@ -24,7 +24,6 @@ use Rattle.source_rendering.specs.Describe.{digits, eventName, behaviour
 use Rattle.spec_language.specs.Sheet.{paramsOf, paramsOfClauses, paramsOfItem, paramsOfEntries}
 use Rattle.source_language.proofs.Scans.{same-is, same-self}
 use Rattle.source_rendering.proofs.Digits.{digits-own}
-use Rattle.source_rendering.proofs.Lexes.{allBelow, each-below}
 
 -- ---- words, bytes, names
 

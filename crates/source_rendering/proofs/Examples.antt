@@ -3,8 +3,8 @@
 use Prim.Native.Nat.{ℕ}
 use mathlib.Core.Path.{_≡_, refl}
 use mathlib.Core.List.{List, [], _∷_}
+use Rattle.lib_signature.specs.Signature.{level}
 use Rattle.text_formula.specs.Tokens.{decimalValue}
-use Rattle.text_formula.specs.Level.{level}
 use Rattle.source_language.specs.Tokens.{marks, reserved, same, signOf, isDigit, isLetter, inWord, isBlank, inComment}
 use Rattle.source_language.specs.Faults.{OrFault, fine, andThen}
 use Rattle.source_language.specs.Limits.{among, phraseNesting, afterAll}

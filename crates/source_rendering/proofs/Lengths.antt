@@ -11,18 +11,17 @@ use lib.ListN.{length, length-append}
 use lib.Dec.{ltb, leb, eqb}
 use borrow.Author.Tests.{ltb-true, ltb-false, leb-true, eqb-true}
 use Rattle.lib_base.specs.Basics.{pick, All}
-use Rattle.lib_base.proofs.Tools.{by-test}
+use Rattle.lib_base.proofs.Tools.{by-test, allBelow, each-below}
+use Rattle.lib_signature.specs.Signature.{level, last}
 use Rattle.spec_language.specs.Syntax.{immediate, later}
 use Rattle.spec_language.specs.Sheet.{Term, Clause, clause, Item, formula, state, row, Signal, Entry, Sheet, cells, cellCount, fillTerm, fillClauses, fillItem, fillEntries}
 use Rattle.spec_language.specs.Grammar.{encode, encodeExpr, encodeHandlers, encodeItem, encodeViewer, encodeBehaviour, encodeBehaviours, encodeEvents, unary, ternary, binary, TermFits, t-literal, t-variable, t-param, t-apply1, t-apply2, t-apply3, ClausesFit, ItemFits, EntryFits, SignalFits, SheetFits}
 use Rattle.spec_language.specs.Accepted.{NamesIn, HandlerNamesIn, BehaviourNamesIn}
-use Rattle.text_formula.specs.Level.{level}
 use Rattle.source_language.specs.Tokens.{SheetToken, number, name, sign, opening, closing, comma, on-word, param-word, endSign, marks, reserved}
 use Rattle.source_language.specs.Text.{TextConstant, Phrase, behaviour}
 use Rattle.source_rendering.specs.Describe.{behaviourName, describedConstant, cellNamed, phraseOf, describedReactions, describedBody, playersFrom, playersIn, describedBehaviours, describedEvents, parametersFrom, textOf, mark, unless, valueTokens, phraseTokens, numberTokens, playerTokens, fromTokens, seenTokens, parameterTokens, eventTokens, reactionTokens, behaviourToken, behaviourTokens, textTokens, spelledAs, spell, lastOf, firstByte, runTogether, spaceBetween, gap, rendered, render, described}
 use Rattle.spec_language.specs.Sheet.{paramsOfEntries}
 use Rattle.source_rendering.proofs.Digits.{one-digit, few-digits, ten-digits}
-use Rattle.source_rendering.proofs.Lexes.{allBelow, each-below}
 use Rattle.source_rendering.proofs.Described.{some-cells}
 use Rattle.source_rendering.proofs.DescribedFits.{entries-few}
 
@@ -68,16 +67,16 @@ render-short (t ∷ ts) = omega (arith, length-append (spell t) (rendered t ts),
 shortSign : ℕ → Bool
 shortSign c = leb (length (spell (sign 0 c))) 2
 
-signs-short : allBelow 14 shortSign ≡ true
+signs-short : allBelow (suc last) shortSign ≡ true
 unfolding allBelow shortSign spelledAs marks reserved
 signs-short = refl
 
-few-bytes : (f : ℕ) → f < 14 → length (spell (sign 0 f)) ≤ 2
+few-bytes : (f : ℕ) → f ≤ last → length (spell (sign 0 f)) ≤ 2
 unfolding shortSign
-few-bytes f h = leb-true (length (spell (sign 0 f))) 2 (each-below 14 shortSign signs-short f h)
+few-bytes f h = leb-true (length (spell (sign 0 f))) 2 (each-below (suc last) shortSign signs-short f (omega arith))
 
 -- an operator and its bracket
-operator-share : (f : ℕ) → f < 14 → (ts : List SheetToken) → share (mark f ts) ≤ 3 + share ts
+operator-share : (f : ℕ) → f ≤ last → (ts : List SheetToken) → share (mark f ts) ≤ 3 + share ts
 unfolding share
 operator-share f h ts = by-test (λ n. length (spell (sign 0 f)) + n + share ts ≤ 3 + share ts) (eqb f on-word)
     (λ e. absurd (omega (arith, eqb-true f on-word e))) (λ e. omega (arith, few-bytes f h))

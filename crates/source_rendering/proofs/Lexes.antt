@@ -10,26 +10,14 @@ use lib.ListN.{length, getD}
 use lib.Dec.{ltb, leb, eqb}
 use borrow.Author.Tests.{ltb-true, ltb-false, leb-true, eqb-true, eqb-false, ne-eqb}
 use Rattle.lib_base.specs.Basics.{pick}
-use Rattle.lib_base.proofs.Tools.{by-test, split, past, through, none-of, all-imp}
+use Rattle.lib_base.proofs.Tools.{by-test, split, past, through, none-of, allBelow, each-below, all-imp}
+use Rattle.lib_signature.specs.Signature.{last}
 use Rattle.text_formula.specs.Tokens.{decimalValue, NotFirst}
 use Rattle.source_language.specs.Tokens.{SheetToken, number, name, sign, opening, on-word, param-word, endSign, Spelling, spelled, marks, reserved, same, signOf, isDigit, isLetter, inWord, isBlank, Are, KindStops, placeIn, wordAtPlace, TextBegins, a-number, a-word, a-long-mark, a-mark, TokensOfText, t-end, t-blank, t-token}
 use Rattle.source_rendering.specs.Describe.{digits, spelledAs, spell, lastOf, firstByte, runTogether, spaceBetween, gap, rendered, render}
 use Rattle.source_language.proofs.Scans.{same-is}
 use Rattle.source_rendering.proofs.Alike.{Alike, alike-end, alike-number, alike-name, alike-sign}
 use Rattle.source_rendering.proofs.Digits.{are-digits, say-number, some-digits, few-digits}
-
--- ---- a check of all numbers below a bound
-
-unfoldable pub allBelow : ℕ → (ℕ → Bool) → Bool
-allBelow zero f = true
-allBelow (suc n) f = pick (f n) (allBelow n f) false
-
-pub each-below : (n : ℕ) (f : ℕ → Bool) → allBelow n f ≡ true → (i : ℕ) → i < n → f i ≡ true
-unfolding allBelow
-each-below zero f h i l = absurd (omega arith)
-each-below (suc n) f h i l =
-    let r = through (f n) (allBelow n f) h in
-    split (eqb i n) (λ e. let q : i ≡ n = eqb-true i n e in rw q (r .0)) (λ e. each-below n f (r .1) i (omega (arith, eqb-false i n e)))
 
 -- ---- words
 
@@ -70,12 +58,12 @@ wordFine c =
 
 -- a sign has a spelling: a function's, or one of the text's own but for the end
 abbrev pub isSpelled : ℕ → Bool
-isSpelled c = pick (ltb c opening) (pick (eqb c 0) false (leb c 14)) (ltb c endSign)
+isSpelled c = pick (ltb c opening) (pick (eqb c 0) false (leb c last)) (ltb c endSign)
 
 pub spelled-low : (c : ℕ) → isSpelled c ≡ true → (0 < c) × (c < endSign)
 spelled-low c h =
     split (ltb c opening)
-    (λ e. let k = past (eqb c 0) (leb c 14) (rw e at h) in omega (arith, ltb-true c opening e, eqb-false c 0 (k .0)))
+    (λ e. let k = past (eqb c 0) (leb c last) (rw e at h) in omega (arith, ltb-true c opening e, eqb-false c 0 (k .0)))
     (λ e. omega (arith, ltb-false c opening e, ltb-true c endSign (rw e at h)))
 
 signFine : ℕ → Bool

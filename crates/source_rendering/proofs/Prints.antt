@@ -9,10 +9,11 @@ use native.Mathlib.Omega.{arith}
 use lib.Dec.{leb, eqb}
 use borrow.Author.Tests.{leb-true, eqb-true, eqb-false, lt-ltb, le-leb, ne-eqb}
 use Rattle.lib_base.specs.Basics.{pick, All}
-use Rattle.lib_base.proofs.Tools.{by-test, split, through}
+use Rattle.lib_base.proofs.Tools.{by-test, split}
+use Rattle.lib_signature.specs.Signature.{level, last, notFn, subtractFn, ifFn}
+use Rattle.lib_signature.proofs.Laws.{level-most, two-level}
 use Rattle.spec_language.specs.Syntax.{immediate, later}
 use Rattle.spec_language.specs.Grammar.{Arity, binary}
-use Rattle.text_formula.specs.Level.{level}
 use Rattle.text_formula.proofs.Parses.{operator-of}
 use Rattle.source_language.specs.Tokens.{SheetToken, number, name, sign, opening, closing, comma, colon, equals, bracket, unbracket, rank-word, from-word, by-word, nobody-word, later-word, seen-word, on-word, param-word, event-word, passive-word, active-word, row-word, endSign}
 use Rattle.source_language.specs.Text.{TextConstant, plus, minus, Phrase, constant, named, cell, negation, operation, choice, Reaction, on, Body, passive, active, row, Parameter, parameter, TextEvent, event, TextBehaviour, behaviour, text}
@@ -21,26 +22,15 @@ use Rattle.source_language.specs.Renaming.{phraseAs, reactionsAs, parameterAs, 
 use Rattle.source_rendering.specs.Describe.{mark, unless, valueTokens, phraseTokens, numberTokens, playerTokens, fromTokens, seenTokens, parameterTokens, eventTokens, reactionTokens, behaviourToken, behaviourTokens, textTokens}
 use Rattle.source_language.proofs.Proper.{Proper, ProperReaction, ProperBehaviour}
 use Rattle.source_rendering.proofs.Alike.{same-name, no-place, bare, bareReactions, bareBehaviour, bareText}
-use Rattle.source_rendering.proofs.Lexes.{allBelow, each-below, isSpelled, Spelt, Ended, at-end, before-end}
+use Rattle.source_rendering.proofs.Lexes.{isSpelled, Spelt, Ended, at-end, before-end}
 
 -- ---- levels
 
-levelFine : ℕ → Bool
-levelFine f = pick (eqb f 0) true (pick (eqb f 3) true (pick (leb 1 (level f)) (leb (level f) 6) false))
-
-levels-fine : allBelow 14 levelFine ≡ true
-unfolding allBelow levelFine level
-levels-fine = refl
-
 -- a two-sided operator has a level from 1 to 6
 pub level-within : (f : ℕ) → Arity f 2 → (m : ℕ) × ((level f ≡ suc m) × (m ≤ 5))
-unfolding levelFine
 level-within f (binary a b c) =
-    let t : levelFine f ≡ true = each-below 14 levelFine levels-fine f b in
-    let u : pick (leb 1 (level f)) (leb (level f) 6) false ≡ true = rw (ne-eqb f 0 (omega arith), ne-eqb f 3 c) at t in
-    let r = through (leb 1 (level f)) (leb (level f) 6) u in
-    let lo = leb-true 1 (level f) (r .0) in
-    let hi = leb-true (level f) 6 (r .1) in
+    let lo = two-level f a b c in
+    let hi = level-most f in
     (level f - 1, (omega arith, omega arith))
 
 loosen : {m : ℕ} {ts us : List SheetToken} {e : Phrase} (l : ℕ) → m ≤ l → PhraseDerives m ts e us → PhraseDerives l ts e us
@@ -146,7 +136,7 @@ more-name n h e = before-end {t = name 0 n} h e
 
 more-value : (c : TextConstant) (ts : List SheetToken) → Ended ts → Ended (valueTokens c ts)
 more-value (plus n) ts e = more-number n e
-more-value (minus n) ts e = more-mark 5 refl (more-number n e)
+more-value (minus n) ts e = more-mark subtractFn refl (more-number n e)
 
 -- each name has a spelling
 unfoldable pub SpeltNames : Phrase → Type 0
@@ -161,7 +151,7 @@ more-unless : (b : Bool) (c : ℕ) (ts : List SheetToken) → isSpelled c ≡ tr
 more-unless b c ts h e = by-test Ended b (λ x. e) (λ x. more-mark c h e)
 
 operator-spelled : (f : ℕ) → Arity f 2 → isSpelled f ≡ true
-operator-spelled f (binary a b c) = rw (lt-ltb f opening (omega arith), ne-eqb f 0 (omega arith), le-leb f 14 (omega arith))
+operator-spelled f (binary a b c) = rw (lt-ltb f opening (omega arith), ne-eqb f 0 (omega arith), le-leb f last b)
 
 more-phrase : (e : Phrase) → Proper e → SpeltNames e → (l : ℕ) (ts : List SheetToken) → Ended ts → Ended (phraseTokens l e ts)
 unfolding phraseTokens Proper SpeltNames
@@ -169,14 +159,14 @@ more-phrase (constant c) h s l ts e = more-value c ts e
 more-phrase (named p n) h s l ts e = more-name n s e
 more-phrase (cell p n q k) h s l ts e =
     more-name n s (more-mark bracket refl (more-number k (more-mark unbracket refl e)))
-more-phrase (negation a) h s l ts e = more-mark 3 refl (more-phrase a h s 0 ts e)
+more-phrase (negation a) h s l ts e = more-mark notFn refl (more-phrase a h s 0 ts e)
 more-phrase (operation f a b) h s l ts e =
     let r = operator-spelled f (h .0) in
     more-unless (leb (level f) l) opening _ refl
     (more-phrase a (h .1) (s .0) (level f) _ (more-mark f r
     (more-phrase b (h .2) (s .1) (level f - 1) _ (more-unless (leb (level f) l) closing ts refl e))))
 more-phrase (choice a b c) h s l ts e =
-    more-mark 14 refl (more-mark opening refl
+    more-mark ifFn refl (more-mark opening refl
     (more-phrase a (h .0) (s .0) 6 _ (more-mark comma refl
     (more-phrase b (h .1) (s .1) 6 _ (more-mark comma refl
     (more-phrase c (h .2) (s .2) 6 _ (more-mark closing refl e)))))))

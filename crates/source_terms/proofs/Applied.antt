@@ -9,7 +9,7 @@ use lib.ListN.{getD, drop}
 use lib.Dec.{leb, eqb}
 use borrow.Author.Tests.{eq-eqb, ne-eqb}
 use Rattle.lib_base.specs.Basics.{pick}
-use Rattle.text_formula.specs.Level.{level}
+use Rattle.lib_signature.specs.Signature.{level, notFn, ifFn}
 use Rattle.source_language.specs.Tokens.{closing, comma}
 use Rattle.source_rendering.specs.Describe.{mark, unless}
 use Rattle.sheet_walk.specs.Fields.{afterField}
@@ -39,18 +39,18 @@ module _ (n : ℕ) (bs : List ℕ) (room l : ℕ) (b v : List ℕ) {x f l₁ : �
   applied : applicationTokens (termTokens n bs (room - 1)) f l v ≡ termTokens n bs room l b
   applied = sym (term-opens n bs room l b h ∙ rw (eq-eqb (getD b 0 0) 18 (sym e ∙ t), ← g, ← d))
 
-  pub one-argument : f ≡ 3 → headTokens f l ++ termTokens n bs (room - 1) l₁ v ≡ termTokens n bs room l b
-  one-argument q = sym (rw (eq-eqb f 3 q, ← p, append-nil (termTokens n bs (room - 1) l₁ v))) ∙ applied
+  pub one-argument : f ≡ notFn → headTokens f l ++ termTokens n bs (room - 1) l₁ v ≡ termTokens n bs room l b
+  one-argument q = sym (rw (eq-eqb f notFn q, ← p, append-nil (termTokens n bs (room - 1) l₁ v))) ∙ applied
 
   module _ {w : List ℕ} {l₂ : ℕ} (r : l₂ ≡ secondLevel f) (s : w ≡ afterField v) where
-    pub two-arguments : f ≢ 3 → f ≢ 14
+    pub two-arguments : f ≢ notFn → f ≢ ifFn
         → headTokens f l ++ (termTokens n bs (room - 1) l₁ v ++ (betweenTokens f ++ (termTokens n bs (room - 1) l₂ w ++ unless (leb (level f) l) closing [])))
         ≡ termTokens n bs room l b
-    two-arguments q z = sym (rw (ne-eqb f 3 q, ← p, ← r, ← s, ne-eqb f 14 z)) ∙ applied
+    two-arguments q z = sym (rw (ne-eqb f notFn q, ← p, ← r, ← s, ne-eqb f ifFn z)) ∙ applied
 
-    pub three-arguments : {y : List ℕ} → y ≡ afterField w → f ≢ 3 → f ≡ 14
+    pub three-arguments : {y : List ℕ} → y ≡ afterField w → f ≢ notFn → f ≡ ifFn
         → headTokens f l
         ++ (termTokens n bs (room - 1) l₁ v
         ++ (betweenTokens f ++ (termTokens n bs (room - 1) l₂ w ++ mark comma (termTokens n bs (room - 1) 6 y ++ mark closing []))))
         ≡ termTokens n bs room l b
-    three-arguments u q z = sym (rw (ne-eqb f 3 q, ← p, ← r, ← s, ← u, eq-eqb f 14 z)) ∙ applied
+    three-arguments u q z = sym (rw (ne-eqb f notFn q, ← p, ← r, ← s, ← u, eq-eqb f ifFn z)) ∙ applied

@@ -11,10 +11,10 @@ use lib.Dec.{ltb, leb, eqb}
 use borrow.Author.Tests.{eqb-true, eqb-false, eq-eqb, ne-eqb, lt-ltb, le-ltb, ltb-false}
 use Rattle.lib_base.specs.Basics.{All}
 use Rattle.lib_base.proofs.Tools.{split}
+use Rattle.lib_signature.specs.Signature.{level, notFn, ifFn, last}
 use Rattle.spec_language.specs.Sheet.{Term, Entry, cells}
 use Rattle.spec_language.specs.Grammar.{encodeExpr, encodeBehaviour, encodeBehaviours, unary, ternary, binary, TermFits, t-literal, t-variable, t-param, t-apply1, t-apply2, t-apply3, EntryFits}
 use Rattle.spec_grammar.proofs.Programs.{behaviour-bytes}
-use Rattle.text_formula.specs.Level.{level}
 use Rattle.source_language.specs.Tokens.{SheetToken, opening, closing, comma}
 use Rattle.source_rendering.specs.Describe.{describedConstant, cellNamed, phraseOf, mark, unless, valueTokens, phraseTokens}
 use Rattle.source_rendering.proofs.Described.{some-cells}
@@ -74,9 +74,9 @@ module _ (m : ℕ) (xs : List Entry) (f : All (EntryFits m) xs) (n : ℕ) (long 
   term-walks (t-variable {i = i} h) l rest ts = first-cell m n 0 xs i long (omega arith) f l ts
   term-walks (t-param h) l rest ts = refl
   term-walks (t-apply1 {k = k} {a = a} unary p) l rest ts =
-      rw (append-nil (tokens k 0 (encodeExpr a ++ rest))) (ap (λ (us : Tokens). mark 3 us) (term-walks p 0 rest ts))
+      rw (append-nil (tokens k 0 (encodeExpr a ++ rest))) (ap (λ (us : Tokens). mark notFn us) (term-walks p 0 rest ts))
   term-walks (t-apply2 {k = k} {f = g} {a = a} {b = b} (binary lo hi other) p q) l rest ts =
-      rw (ne-eqb g 3 other, ne-eqb g 14 (omega arith), ne-eqb g 0 (omega arith), le-ltb 14 g (omega arith), append-assoc (encodeExpr a) (encodeExpr b) rest, after-term a (encodeExpr b ++ rest))
+      rw (ne-eqb g notFn other, ne-eqb g ifFn (omega arith), ne-eqb g 0 (omega arith), le-ltb last g (omega arith), append-assoc (encodeExpr a) (encodeExpr b) rest, after-term a (encodeExpr b ++ rest))
       (two-on g l (tokens k (level g) (encodeExpr a ++ (encodeExpr b ++ rest))) (tokens k (level g - 1) (encodeExpr b ++ rest)) ts
       ∙ rw (
         term-walks q (level g - 1) rest (unless (leb (level g) l) closing ts),
@@ -91,7 +91,7 @@ module _ (m : ℕ) (xs : List Entry) (f : All (EntryFits m) xs) (n : ℕ) (long 
         append-assoc (encodeExpr b) (encodeExpr c) rest,
         after-term a (encodeExpr b ++ (encodeExpr c ++ rest)),
         after-term b (encodeExpr c ++ rest),
-      ) (ap (λ (us : Tokens). mark 14 (mark opening us))
+      ) (ap (λ (us : Tokens). mark ifFn (mark opening us))
       (three-on (tokens k 6 (encodeExpr a ++ (encodeExpr b ++ (encodeExpr c ++ rest)))) (tokens k 6 (encodeExpr b ++ (encodeExpr c ++ rest)))
       (tokens k 6 (encodeExpr c ++ rest)) ts
       ∙ rw (term-walks r 6 rest us, term-walks q 6 (encodeExpr c ++ rest) ws, term-walks p 6 (encodeExpr b ++ (encodeExpr c ++ rest)) vs)))

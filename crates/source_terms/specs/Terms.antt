@@ -6,7 +6,7 @@ use mathlib.Core.List.{List, [], _∷_, _++_}
 use lib.ListN.{getD, drop}
 use lib.Dec.{ltb, leb, eqb}
 use Rattle.lib_base.specs.Basics.{pick}
-use Rattle.text_formula.specs.Level.{level}
+use Rattle.lib_signature.specs.Signature.{level, notFn, ifFn, last}
 use Rattle.source_language.specs.Tokens.{SheetToken, number, name, opening, closing, comma, bracket, unbracket}
 use Rattle.source_rendering.specs.Describe.{behaviourName, parameterName, describedConstant, mark, unless, valueTokens}
 use Rattle.sheet_walk.specs.Fields.{afterField, wordInFront}
@@ -22,30 +22,30 @@ cellTokens h i = name 0 (behaviourName h) ∷ pick (eqb h i) [] (mark bracket (n
 
 -- before the first argument of function f, where level l is due
 abbrev pub headTokens : ℕ → ℕ → List SheetToken
-headTokens f l = pick (eqb f 3) (mark f []) (pick (eqb f 14) (mark f (mark opening [])) (unless (leb (level f) l) opening []))
+headTokens f l = pick (eqb f notFn) (mark f []) (pick (eqb f ifFn) (mark f (mark opening [])) (unless (leb (level f) l) opening []))
 
 -- between its first two; a number that is no function's has no sign
 abbrev pub betweenTokens : ℕ → List SheetToken
-betweenTokens f = pick (eqb f 14) (mark comma []) (pick (eqb f 0) [] (pick (ltb 14 f) [] (mark f [])))
+betweenTokens f = pick (eqb f ifFn) (mark comma []) (pick (eqb f 0) [] (pick (ltb last f) [] (mark f [])))
 
 -- the level that is due for the first argument
 abbrev pub firstLevel : ℕ → ℕ
-firstLevel f = pick (eqb f 14) 6 (level f)
+firstLevel f = pick (eqb f ifFn) 6 (level f)
 
 -- and for the second: one tighter, for operators group to the left
 abbrev pub secondLevel : ℕ → ℕ
-secondLevel f = pick (eqb f 14) 6 (level f - 1)
+secondLevel f = pick (eqb f ifFn) 6 (level f - 1)
 
 -- after its second argument, where what is left of them stands in v, each written by `arg`
 abbrev pub tailTokens : (ℕ → List ℕ → List SheetToken) → ℕ → ℕ → List ℕ → List SheetToken
-tailTokens arg f l v = pick (eqb f 14) (mark comma (arg 6 v ++ mark closing [])) (unless (leb (level f) l) closing [])
+tailTokens arg f l v = pick (eqb f ifFn) (mark comma (arg 6 v ++ mark closing [])) (unless (leb (level f) l) closing [])
 
 -- an application, whose arguments stand in v
 abbrev pub applicationTokens : (ℕ → List ℕ → List SheetToken) → ℕ → ℕ → List ℕ → List SheetToken
 applicationTokens arg f l v =
     headTokens f l
     ++ (arg (firstLevel f) v
-    ++ pick (eqb f 3) []
+    ++ pick (eqb f notFn) []
     (betweenTokens f ++ (arg (secondLevel f) (afterField v) ++ tailTokens arg f l (afterField (afterField v)))))
 
 module _ (n : ℕ) (bs : List ℕ) where

@@ -1,5 +1,7 @@
 // An expression's bytes written as text: each token is handed to the pen, unless the text is over its length; which
 // first cell a name has is looked up. Time: one pass over the expression's bytes.
+use lib_signature::functions;
+use lib_signature::levels;
 use sheet_field::sizes;
 use sheet_field::tags;
 use sheet_walk::after_field;
@@ -10,14 +12,12 @@ use source_coding::limits as texts;
 use source_coding::signs;
 use source_pen::Pen;
 use source_walk::BYTE;
-use spec_language::functions;
-use text_formula::levels;
 ghost use mathlib.Core.Path.{_≡_};
 ghost use mathlib.Core.List.{[], _∷_};
 ghost use Prim.Native.Nat.{_<_, _≤_};
 ghost use lib.Dec.{leb};
 ghost use lib.ListN.{length, drop};
-ghost use Rattle.text_formula.specs.Level.{level as tightness};
+ghost use Rattle.lib_signature.specs.Signature.{level as tightness, last};
 ghost use Rattle.source_language.specs.Tokens.{number, name, sign, opening, endSign};
 ghost use Rattle.source_rendering.specs.Describe.{digits, describedConstant, unless, valueTokens};
 ghost use Rattle.source_walk.specs.Heads.{HeadsOf};
@@ -27,7 +27,7 @@ ghost use Rattle.source_terms.specs.Put.{TokensPut};
 // A function's sign; nothing where the text is over its length, as no accepted sheet's is.
 fn put_function(out: &mut [u8], pen: Pen, f: u8) -> Pen
     requires { ⌜ pen .at ≤ 65548 ⌝ }
-    requires { ⌜ (0 < f) × (f ≤ 14) ⌝ }
+    requires { ⌜ (0 < f) × (f ≤ last) ⌝ }
     ensures { λ r. ⌜ TokensPut (now (out .entry)) (now (out .exit)) pen r (sign 0 f ∷ []) ⌝ }
 {
     let n = pen.at;
@@ -132,34 +132,6 @@ fn put_leaf(s: &[u8], first: usize, heads: &[u8; BYTE], at: usize, out: &mut [u8
     put_name(out, pen, PARAMETER, i)
 }
 
-// The level of a two-sided operator by its function, 1 for the tightest; 0 for another.
-fn level_of(f: u8) -> u64
-    ensures { λ r. ⌜ r ≡ tightness f ⌝ }
-{
-    if functions::UNEQUAL < f {
-        return 0;
-    }
-    if functions::AT_MOST < f {
-        return levels::EQUALITY;
-    }
-    if functions::DIVIDE < f {
-        return levels::ORDERING;
-    }
-    if functions::SUBTRACT < f {
-        return levels::PRODUCT;
-    }
-    if functions::NOT < f {
-        return levels::SUM;
-    }
-    if f == functions::AND {
-        return levels::CONJUNCTION;
-    }
-    if f == functions::OR {
-        return levels::DISJUNCTION;
-    }
-    0
-}
-
 // The level that is due for the first argument of a function.
 fn first_level(f: u8) -> u64
     ensures { λ r. ⌜ r ≡ firstLevel f ⌝ }
@@ -167,7 +139,7 @@ fn first_level(f: u8) -> u64
     if f == functions::IF {
         return levels::DISJUNCTION;
     }
-    level_of(f)
+    lib_signature::level_of(f)
 }
 
 // And for the second: one tighter, for operators group to the left.
@@ -177,7 +149,7 @@ fn second_level(f: u8) -> u64
     if f == functions::IF {
         return levels::DISJUNCTION;
     }
-    let n = level_of(f);
+    let n = lib_signature::level_of(f);
     if n == 0 {
         return 0;
     }
@@ -190,7 +162,7 @@ fn put_unless(out: &mut [u8], pen: Pen, f: u8, level: u64, c: u8) -> Pen
     requires { ⌜ (opening ≤ c) × (c ≤ endSign) ⌝ }
     ensures { λ r. ⌜ TokensPut (now (out .entry)) (now (out .exit)) pen r (unless (leb (tightness f) level) c []) ⌝ }
 {
-    if level_of(f) <= level {
+    if lib_signature::level_of(f) <= level {
         return pen;
     }
     put_sign(out, pen, c)
@@ -222,7 +194,7 @@ fn put_between(out: &mut [u8], pen: Pen, f: u8) -> Pen
     if f == 0 {
         return pen;
     }
-    if functions::IF < f {
+    if functions::LAST < f {
         return pen;
     }
     put_function(out, pen, f)

@@ -10,6 +10,7 @@ use lib.Dec.{ltb, leb, eqb}
 use borrow.Author.Tests.{ltb-true, ltb-false, eqb-true, eq-eqb}
 use Rattle.lib_base.specs.Basics.{pick}
 use Rattle.lib_base.proofs.Tools.{by-test, split}
+use Rattle.lib_signature.specs.Signature.{notFn, ifFn}
 use Rattle.source_language.specs.Tokens.{SheetToken, name, sign, Spelling, spelled, marks, reserved, same, signOf, opening, isDigit, isLetter, inWord, endSign}
 use Rattle.source_language.specs.Scanner.{runOfKind, FirstInText, nothing, begins, shortMark, markAt, firstInText, scanOn}
 use Rattle.source_language.specs.Reader.{signIn, signAt}
@@ -83,13 +84,13 @@ module _ (k n : ℕ) (some : (0 < n) × (n < endSign)) (in-marks : begunBy k n m
       rw (tokens-end text p (omega (arith, s .within, ltb-false p (length text) f))) (λ z. absurd (omega arith))))
 
 module _ (text : List ℕ) (at p : ℕ) (s : PassedOver text at p) where
-  pub not-by-byte : (getD text p 0 ≡ 33 → ⊥) → signAt (tokensFrom text at) ≡ 3 → ⊥
+  pub not-by-byte : (getD text p 0 ≡ 33 → ⊥) → signAt (tokensFrom text at) ≡ notFn → ⊥
   unfolding begunBy marks reserved
-  not-by-byte = other-token 33 3 (omega arith) refl refl text at p s
+  not-by-byte = other-token 33 notFn (omega arith) refl refl text at p s
 
-  pub if-by-byte : (getD text p 0 ≡ 105 → ⊥) → signAt (tokensFrom text at) ≡ 14 → ⊥
+  pub if-by-byte : (getD text p 0 ≡ 105 → ⊥) → signAt (tokensFrom text at) ≡ ifFn → ⊥
   unfolding begunBy marks reserved
-  if-by-byte = other-token 105 14 (omega arith) refl refl text at p s
+  if-by-byte = other-token 105 ifFn (omega arith) refl refl text at p s
 
   opening-by-byte : (getD text p 0 ≡ 40 → ⊥) → signAt (tokensFrom text at) ≡ opening → ⊥
   unfolding begunBy marks reserved

@@ -1,15 +1,16 @@
 -- A byte of a word begins a number, a name or a reserved word, none of which is an operator or `)`: the table of
 -- reserved words has no such number.
-use Prim.Native.Nat.{ℕ, suc, _<_}
+use Prim.Native.Nat.{ℕ, suc}
 use mathlib.Core.Bool.{Bool, true, false}
 use mathlib.Core.Path.{_≡_, refl}
 use mathlib.Core.List.{List, [], _∷_}
 use native.Mathlib.Omega.{arith}
 use lib.ListN.{length, getD, drop}
 use lib.Dec.{leb, eqb}
-use borrow.Author.Tests.{leb-false, eqb-false}
+use borrow.Author.Tests.{eqb-true, eqb-false}
 use Rattle.lib_base.specs.Basics.{pick}
-use Rattle.lib_base.proofs.Tools.{by-test, past}
+use Rattle.lib_base.proofs.Tools.{by-test, past, through}
+use Rattle.lib_signature.specs.Signature.{level}
 use Rattle.source_language.specs.Tokens.{SheetToken, name, sign, Spelling, spelled, reserved, same, signOf, closing, isDigit, isLetter, inWord}
 use Rattle.source_language.specs.Scanner.{runOfKind, FirstInText, nothing, begins, firstInText, scanOn}
 use Rattle.source_language.specs.Reader.{tokenPlace, signIn, placeAt, signAt}
@@ -18,24 +19,24 @@ use Rattle.source_tokens.specs.Token.{TokenBegins}
 use Rattle.source_tokens.proofs.Bytes.{word-letter}
 use Rattle.source_tokens.proofs.Scanned.{tokens-first}
 
--- no sign, or one behind 01's two-sided operators that is no `)`
+-- no two-sided operator, and no `)`
 abbrev pub NoOperator : ℕ → Type 0
-NoOperator c = (0 < c → 13 < c) × (c ≡ closing → ⊥)
+NoOperator c = (level c ≡ 0) × (c ≡ closing → ⊥)
 
 unfoldable noOperators : List Spelling → Bool
 noOperators [] = true
-noOperators (spelled s n ∷ rows) = pick (leb n 13) false (pick (eqb n closing) false (noOperators rows))
+noOperators (spelled s n ∷ rows) = pick (eqb (level n) 0) (pick (eqb n closing) false (noOperators rows)) false
 
 none-spelled : (w : List ℕ) (rows : List Spelling) → noOperators rows ≡ true → NoOperator (signOf w rows)
-unfolding noOperators signOf
-none-spelled w [] h = (λ z. absurd (omega arith), λ z. absurd (omega arith))
+unfolding noOperators signOf level
+none-spelled w [] h = (refl, λ z. absurd (omega arith))
 none-spelled w (spelled s n ∷ rows) h =
-    let a = past (leb n 13) (pick (eqb n closing) false (noOperators rows)) h in
+    let a = through (eqb (level n) 0) (pick (eqb n closing) false (noOperators rows)) h in
     let b = past (eqb n closing) (noOperators rows) (a .1) in
-    by-test NoOperator (same w s) (λ e. (λ z. leb-false n 13 (a .0), eqb-false n closing (b .0))) (λ e. none-spelled w rows (b .1))
+    by-test NoOperator (same w s) (λ e. (eqb-true (level n) 0 (a .0), eqb-false n closing (b .0))) (λ e. none-spelled w rows (b .1))
 
 word-none : (w : List ℕ) → NoOperator (signOf w reserved)
-unfolding noOperators reserved
+unfolding noOperators reserved level
 word-none w = none-spelled w reserved refl
 
 -- a token at p that is none
@@ -47,7 +48,8 @@ BeginsNone p nothing = Unit {0}
 BeginsNone p (begins t rest) = TokenNone p t
 
 zero-none : NoOperator 0
-zero-none = (λ z. absurd (omega arith), λ z. absurd (omega arith))
+unfolding level
+zero-none = (refl, λ z. absurd (omega arith))
 
 module _ (p b : ℕ) where
   word-token : (w : List ℕ) → TokenNone p (pick (eqb (signOf (b ∷ w) reserved) 0) (name p (b ∷ w)) (sign p (signOf (b ∷ w) reserved)))
@@ -61,7 +63,8 @@ module _ (p b : ℕ) where
       (by-test (BeginsNone p) (leb (length (b ∷ runOfKind inWord bs)) 32) (λ c. word-token (runOfKind inWord bs)) (λ c. tt)))
 
 scan-none : (p : ℕ) (go : List ℕ → List SheetToken) (f : FirstInText) → BeginsNone p f → NoOperator (signAt (scanOn p go f)) × (placeAt (scanOn p go f) ≡ p)
-scan-none p go nothing h = ((λ z. omega arith, λ z. absurd (omega arith)), refl)
+unfolding level
+scan-none p go nothing h = ((refl, λ z. absurd (omega arith)), refl)
 scan-none p go (begins t rest) h = h
 
 pub word-no-operator : (text : List ℕ) (p : ℕ) → TokenBegins text p → inWord (getD text p 0) ≡ true

@@ -1,7 +1,7 @@
 // The token at a place of a text: docs/SHEETS.md "Tokens".
+use lib_signature::functions;
 use source_coding::limits;
 use source_coding::signs;
-use spec_language::functions;
 ghost use mathlib.Core.Bool.{true, false};
 ghost use mathlib.Core.Path.{_≡_};
 ghost use mathlib.Core.List.{[], _∷_};

@@ -6,8 +6,9 @@ use mathlib.Core.Path.{_≡_, refl}
 use mathlib.Core.Option.{Option, none, some}
 use mathlib.Core.List.{List, [], _∷_, flatten, flatMap}
 use lib.ListN.{take}
+use Rattle.lib_signature.specs.Signature.{arity}
 use Rattle.lib_arith.specs.Exact.{beyond}
-use Rattle.lib_arith.specs.Functions.{exact, result, over, arity}
+use Rattle.lib_arith.specs.Functions.{exact, result, over}
 use Rattle.spec_language.specs.Dependence.{handled, mentions}
 use Rattle.spec_language.specs.Order.{met, find, order, upTo, metAtOnce, phaseOne}
 use Rattle.spec_language.specs.Code.{Instr, apply, postfix, inOrder, copyPart, firstPart, secondPart, restorePart, code}

@@ -10,7 +10,8 @@ use lib.Dec.{eqb}
 use borrow.Author.Tests.{ne-eqb}
 use Rattle.lib_base.specs.Basics.{pick}
 use Rattle.lib_base.proofs.Tools.{split}
-use Rattle.lib_arith.specs.Functions.{result, over, arity}
+use Rattle.lib_signature.specs.Signature.{arity, notFn, ifFn, last}
+use Rattle.lib_arith.specs.Functions.{result, over}
 use Rattle.spec_language.specs.Syntax.{Expr, con, name, app1, app2, app3}
 use Rattle.spec_language.specs.Grammar.{Arity, unary, ternary, binary}
 use Rattle.spec_language.specs.Fits.{Nested, n-con, n-name, n-app1, n-app2, n-app3}
@@ -42,39 +43,36 @@ looked c d i = pick (c i) (heldAt (d .scratch) i) (at (d .store) i)
 
 -- ---- functions with the arguments that they need
 
-pub arity-is : {f k : ℕ} → Arity f k → (arity f ≡ k) × (0 < f) × (f ≤ 14)
+pub arity-is : {f k : ℕ} → Arity f k → (arity f ≡ k) × (0 < f) × (f ≤ last)
 unfolding arity
 arity-is unary = (refl, omega arith, omega arith)
 arity-is ternary = (refl, omega arith, omega arith)
-arity-is (binary {f = f} h g n) =
-    let a : eqb f 3 ≡ false = ne-eqb f 3 n in
-    let b : eqb f 14 ≡ false = ne-eqb f 14 (omega arith) in
-    (rw (a, b), h, omega arith)
+arity-is (binary h g n) = (n, h, g)
 
 module _ (f : ℕ) where
   one-argument : (a : ℕ) (st : List ℕ) → arity f ≡ 1 → applied f (a ∷ st) ≡ result f a 0 0 ∷ st
   unfolding arity
-  one-argument a st h = split (eqb f 3) (λ t. rw t) (λ t. split (eqb f 14) (λ u. absurd (omega (arith, (rw (t, u) at h)))) (λ u. absurd (omega (arith, (rw (t, u) at h)))))
+  one-argument a st h = split (eqb f notFn) (λ t. rw t) (λ t. split (eqb f ifFn) (λ u. absurd (omega (arith, (rw (t, u) at h)))) (λ u. absurd (omega (arith, (rw (t, u) at h)))))
 
   two-arguments : (a b : ℕ) (st : List ℕ) → arity f ≡ 2 → applied f (b ∷ (a ∷ st)) ≡ result f a b 0 ∷ st
   unfolding arity
-  two-arguments a b st h = split (eqb f 3) (λ t. absurd (omega (arith, (rw t at h)))) (λ t. split (eqb f 14) (λ u. absurd (omega (arith, (rw (t, u) at h)))) (λ u. rw (t, u)))
+  two-arguments a b st h = split (eqb f notFn) (λ t. absurd (omega (arith, (rw t at h)))) (λ t. split (eqb f ifFn) (λ u. absurd (omega (arith, (rw (t, u) at h)))) (λ u. rw (t, u)))
 
   three-arguments : (a b c : ℕ) (st : List ℕ) → arity f ≡ 3 → applied f (c ∷ (b ∷ (a ∷ st))) ≡ result f a b c ∷ st
   unfolding arity
-  three-arguments a b c st h = split (eqb f 3) (λ t. absurd (omega (arith, (rw t at h)))) (λ t. split (eqb f 14) (λ u. rw (t, u)) (λ u. absurd (omega (arith, (rw (t, u) at h)))))
+  three-arguments a b c st h = split (eqb f notFn) (λ t. absurd (omega (arith, (rw t at h)))) (λ t. split (eqb f ifFn) (λ u. rw (t, u)) (λ u. absurd (omega (arith, (rw (t, u) at h)))))
 
   one-over : (a : ℕ) (st : List ℕ) → arity f ≡ 1 → onArguments (over f) f (a ∷ st) ≡ over f a 0 0
   unfolding arity
-  one-over a st h = split (eqb f 3) (λ t. rw t) (λ t. split (eqb f 14) (λ u. absurd (omega (arith, (rw (t, u) at h)))) (λ u. absurd (omega (arith, (rw (t, u) at h)))))
+  one-over a st h = split (eqb f notFn) (λ t. rw t) (λ t. split (eqb f ifFn) (λ u. absurd (omega (arith, (rw (t, u) at h)))) (λ u. absurd (omega (arith, (rw (t, u) at h)))))
 
   two-over : (a b : ℕ) (st : List ℕ) → arity f ≡ 2 → onArguments (over f) f (b ∷ (a ∷ st)) ≡ over f a b 0
   unfolding arity
-  two-over a b st h = split (eqb f 3) (λ t. absurd (omega (arith, (rw t at h)))) (λ t. split (eqb f 14) (λ u. absurd (omega (arith, (rw (t, u) at h)))) (λ u. rw (t, u)))
+  two-over a b st h = split (eqb f notFn) (λ t. absurd (omega (arith, (rw t at h)))) (λ t. split (eqb f ifFn) (λ u. absurd (omega (arith, (rw (t, u) at h)))) (λ u. rw (t, u)))
 
   three-over : (a b c : ℕ) (st : List ℕ) → arity f ≡ 3 → onArguments (over f) f (c ∷ (b ∷ (a ∷ st))) ≡ over f a b c
   unfolding arity
-  three-over a b c st h = split (eqb f 3) (λ t. absurd (omega (arith, (rw t at h)))) (λ t. split (eqb f 14) (λ u. rw (t, u)) (λ u. absurd (omega (arith, (rw (t, u) at h)))))
+  three-over a b c st h = split (eqb f notFn) (λ t. absurd (omega (arith, (rw t at h)))) (λ t. split (eqb f ifFn) (λ u. rw (t, u)) (λ u. absurd (omega (arith, (rw (t, u) at h)))))
 
 -- ---- marks one after the other
 

@@ -12,6 +12,7 @@ use lib.Dec.{eqb}
 use lib.ListN.{length, getD, set, drop, take, replicate, length-set, length-replicate, length-drop, take-append-drop}
 use lib.Seq.{getD-set-same, getD-set-other, drop-cons}
 use Rattle.lib_base.proofs.Tools.{split}
+use Rattle.lib_signature.specs.Signature.{arity}
 use Rattle.spec_language.specs.Syntax.{Program}
 use Rattle.spec_language.specs.Dependence.{size}
 use Rattle.spec_language.specs.Valid.{Valid}
@@ -19,7 +20,7 @@ use Rattle.spec_language.specs.Code.{code, Instr, off, on, copy, restore, load,
 use Rattle.spec_semantics.specs.Meaning.{at}
 use Rattle.spec_execution.specs.Execution.{Values, heldAt, top, onArguments, applied, execute, emptied}
 use Rattle.spec_execution.specs.Runs.{executeAll}
-use Rattle.lib_arith.specs.Functions.{over, arity}
+use Rattle.lib_arith.specs.Functions.{over}
 use Rattle.spec_execution.specs.Safe.{Filled, start, Ok, withDepth, filledNext, filledAfter, Safe, isFilled, Matches}
 use Rattle.spec_execution.proofs.SafeParts.{passes}
 

@@ -11,6 +11,7 @@ use lib.ListN.{length, getD, set, length-set, length-replicate}
 use lib.Seq.{getD-set-same, getD-set-other}
 use Rattle.lib_base.specs.Basics.{pick, All}
 use Rattle.lib_base.proofs.Tools.{all-imp}
+use Rattle.lib_signature.specs.Signature.{arity, last}
 use Rattle.spec_language.specs.Syntax.{Expr, Program}
 use Rattle.spec_language.specs.Dependence.{Response, follows, takes, defers, keeps, size, response}
 use Rattle.spec_language.specs.Order.{upTo, phaseOne}
@@ -21,7 +22,6 @@ use Rattle.spec_language.specs.Code.{Instr, off, on, copy, restore, load, fetch
 use Rattle.spec_language.specs.Code.{postfix, ofC, firstCode, laterCode, moveCode, againCode}
 use Rattle.spec_language.specs.Code.{copied, inC, byNumber, inOrder, firstPart, secondPart, code}
 use Rattle.spec_semantics.proofs.OrderLaws.{phaseOne-early}
-use Rattle.lib_arith.specs.Functions.{arity}
 use Rattle.spec_execution.specs.Safe.{Filled, start, Ok, withDepth, filledNext, filledAfter, Safe}
 use Rattle.spec_execution.proofs.Responses.{ResponseFits, response-fits}
 use Rattle.spec_execution.proofs.Running.{arity-is}
@@ -89,7 +89,7 @@ deeper a = withDepth (a .depth + 1) a
 same-depth : (a : Filled) (m n : ℕ) → m ≡ n → withDepth m a ≡ withDepth n a
 same-depth a m n e = ap (λ k. withDepth k a) e
 
-goes-apply : (a : Filled) (f k m : ℕ) → (arity f ≡ k) × (0 < f) × (f ≤ 14) → m ≡ a .depth + k → Leads (withDepth m a) (apply f ∷ []) (deeper a)
+goes-apply : (a : Filled) (f k m : ℕ) → (arity f ≡ k) × (0 < f) × (f ≤ last) → m ≡ a .depth + k → Leads (withDepth m a) (apply f ∷ []) (deeper a)
 unfolding filledNext filledAfter
 goes-apply a f k m h e =
     (((h .1, h .2, omega (arith, h .0)), tt), same-depth a (m - arity f + 1) (a .depth + 1) (rw (h .0) (omega arith)))

@@ -6,7 +6,7 @@ use mathlib.Core.Path.{_≡_}
 use mathlib.Core.Option.{Option, none, some}
 use mathlib.Core.List.{List, [], _∷_}
 use lib.ListN.{length, getD, set, replicate}
-use Rattle.lib_arith.specs.Functions.{arity}
+use Rattle.lib_signature.specs.Signature.{arity, last}
 use Rattle.spec_language.specs.Code.{Instr, off, on, copy, restore, load, fetch, save, defer, move, push, apply}
 use Rattle.spec_execution.specs.Execution.{Values}
 
@@ -32,7 +32,7 @@ Ok a (save i) = (i < length (a .scratch)) × (1 ≤ a .depth)
 Ok a (defer i) = (i < length (a .deferred)) × (1 ≤ a .depth)
 Ok a (move i) = (i < length (a .scratch)) × (i < length (a .deferred)) × (getD (a .deferred) i false ≡ true)
 Ok a (push w) = (w < 2 ^ 32) × (a .depth < 64)
-Ok a (apply f) = (1 ≤ f) × (f ≤ 14) × (arity f ≤ a .depth)
+Ok a (apply f) = (1 ≤ f) × (f ≤ last) × (arity f ≤ a .depth)
 
 -- what it leaves
 abbrev pub withDepth : ℕ → Filled → Filled

@@ -13,6 +13,7 @@ use borrow.Author.Tests.{ne-eqb, le-ltb}
 use Rattle.lib_base.specs.Basics.{pick}
 use Rattle.lib_base.proofs.Tools.{split}
 use Rattle.lib_word.specs.Word.{getAt}
+use Rattle.lib_signature.specs.Signature.{notFn, ifFn, last}
 use Rattle.spec_language.specs.Syntax.{Phase, immediate, later}
 use Rattle.spec_language.specs.Sheet.{Term, literal, variable, param, apply1, apply2, apply3, Clause, clause, Item, formula, state, row, Signal, Entry, Sheet, cells, cellCount, changeClauses, changeItem, changeEntries, asSent, fillTerm}
 use Rattle.spec_language.proofs.RowLaws.{count-append, written-cells-count}
@@ -65,7 +66,7 @@ many-result {A} enc encs nil cons ended one on fault each faults none next (suc 
 
 -- a function's byte is judged before its arguments
 abbrev judged : ℕ → ℕ → ℕ
-judged f m = pick (eqb f 0) 8 (pick (ltb 14 f) 8 m)
+judged f m = pick (eqb f 0) 8 (pick (ltb last f) 8 m)
 
 -- with k levels of nesting left
 unfoldable pub exprFault : ℕ → Term → ℕ
@@ -73,10 +74,10 @@ exprFault zero x = 9
 exprFault (suc k) (literal w) = 0
 exprFault (suc k) (variable i) = 0
 exprFault (suc k) (param n) = pick (ltb 7 n) 8 0
-exprFault (suc k) (apply1 f a) = judged f (first (exprFault k a) (pick (eqb f 3) 0 4))
-exprFault (suc k) (apply2 f a b) = judged f (first (exprFault k a) (pick (eqb f 3) 6 (first (exprFault k b) (pick (eqb f 14) 4 0))))
+exprFault (suc k) (apply1 f a) = judged f (first (exprFault k a) (pick (eqb f notFn) 0 4))
+exprFault (suc k) (apply2 f a b) = judged f (first (exprFault k a) (pick (eqb f notFn) 6 (first (exprFault k b) (pick (eqb f ifFn) 4 0))))
 exprFault (suc k) (apply3 f a b c) =
-    judged f (first (exprFault k a) (pick (eqb f 3) 6 (first (exprFault k b) (pick (eqb f 14) (first (exprFault k c) 0) 6))))
+    judged f (first (exprFault k a) (pick (eqb f notFn) 6 (first (exprFault k b) (pick (eqb f ifFn) (first (exprFault k c) 0) 6))))
 
 -- nothing is left where an argument is due
 none-due : (k : ℕ) → exprAt k [] ≡ bad 4
@@ -109,35 +110,35 @@ app-judged : (k f m : ℕ) (v rest : List ℕ) (x : Term) → filling (argsOf (e
 unfolding exprAt
 app-judged k f m v rest x h =
     field-reads isTerm 18 (f ∷ v) rest (termIn (exprAt k)) refl
-    ∙ split (eqb f 0) (λ e. rw e) (λ e. split (ltb 14 f) (λ d. rw (e, d)) (λ d. rw (e, d) h))
+    ∙ split (eqb f 0) (λ e. rw e) (λ e. split (ltb last f) (λ d. rw (e, d)) (λ d. rw (e, d) h))
 
 module _ (k f : ℕ) (rest : List ℕ) where
   one-arg : (a : Term) (n : ℕ) → exprAt k (encodeExpr a) ≡ result n a []
-      → filling (argsOf (exprAt k) f (encodeExpr a)) rest ≡ result (first n (pick (eqb f 3) 0 4)) (apply1 f a) rest
-  one-arg a zero h = rw h (split (eqb f 3) (λ e. rw e) (λ e. rw (e, none-due k)))
+      → filling (argsOf (exprAt k) f (encodeExpr a)) rest ≡ result (first n (pick (eqb f notFn) 0 4)) (apply1 f a) rest
+  one-arg a zero h = rw h (split (eqb f notFn) (λ e. rw e) (λ e. rw (e, none-due k)))
   one-arg a (suc n) h = rw h
 
   two-args : (a b : Term) (n m : ℕ) → exprAt k (encodeExpr a ++ encodeExpr b) ≡ result n a (encodeExpr b) → exprAt k (encodeExpr b) ≡ result m b []
-      → filling (argsOf (exprAt k) f (encodeExpr a ++ encodeExpr b)) rest ≡ result (first n (pick (eqb f 3) 6 (first m (pick (eqb f 14) 4 0)))) (apply2 f a b) rest
+      → filling (argsOf (exprAt k) f (encodeExpr a ++ encodeExpr b)) rest ≡ result (first n (pick (eqb f notFn) 6 (first m (pick (eqb f ifFn) 4 0)))) (apply2 f a b) rest
   two-args a b (suc n) m h i = rw h
-  two-args a b zero (suc m) h i = rw h (split (eqb f 3) (λ e. rw e (left-over b (got (apply1 f a) rest))) (λ e. rw (e, i)))
+  two-args a b zero (suc m) h i = rw h (split (eqb f notFn) (λ e. rw e (left-over b (got (apply1 f a) rest))) (λ e. rw (e, i)))
   two-args a b zero zero h i =
-      rw h (split (eqb f 3) (λ e. rw e (left-over b (got (apply1 f a) rest))) (λ e. rw (e, i) (split (eqb f 14) (λ d. rw (d, none-due k)) (λ d. rw d))))
+      rw h (split (eqb f notFn) (λ e. rw e (left-over b (got (apply1 f a) rest))) (λ e. rw (e, i) (split (eqb f ifFn) (λ d. rw (d, none-due k)) (λ d. rw d))))
 
   three-args : (a b c : Term) (n m o : ℕ) → exprAt k (encodeExpr a ++ (encodeExpr b ++ encodeExpr c)) ≡ result n a (encodeExpr b ++ encodeExpr c)
       → exprAt k (encodeExpr b ++ encodeExpr c) ≡ result m b (encodeExpr c) → exprAt k (encodeExpr c) ≡ result o c []
       → filling (argsOf (exprAt k) f (encodeExpr a ++ (encodeExpr b ++ encodeExpr c))) rest
-      ≡ result (first n (pick (eqb f 3) 6 (first m (pick (eqb f 14) (first o 0) 6)))) (apply3 f a b c) rest
+      ≡ result (first n (pick (eqb f notFn) 6 (first m (pick (eqb f ifFn) (first o 0) 6)))) (apply3 f a b c) rest
   three-args a b c (suc n) m o h i j = rw h
-  three-args a b c zero (suc m) o h i j = rw h (split (eqb f 3) (λ e. rw e (two-over b c (got (apply1 f a) rest))) (λ e. rw (e, i)))
+  three-args a b c zero (suc m) o h i j = rw h (split (eqb f notFn) (λ e. rw e (two-over b c (got (apply1 f a) rest))) (λ e. rw (e, i)))
   three-args a b c zero zero (suc o) h i j =
       rw h
-      (split (eqb f 3) (λ e. rw e (two-over b c (got (apply1 f a) rest)))
-      (λ e. rw (e, i) (split (eqb f 14) (λ d. rw (d, j)) (λ d. rw d (left-over c (got (apply2 f a b) rest))))))
+      (split (eqb f notFn) (λ e. rw e (two-over b c (got (apply1 f a) rest)))
+      (λ e. rw (e, i) (split (eqb f ifFn) (λ d. rw (d, j)) (λ d. rw d (left-over c (got (apply2 f a b) rest))))))
   three-args a b c zero zero zero h i j =
       rw h
-      (split (eqb f 3) (λ e. rw e (two-over b c (got (apply1 f a) rest)))
-      (λ e. rw (e, i) (split (eqb f 14) (λ d. rw (d, j)) (λ d. rw d (left-over c (got (apply2 f a b) rest))))))
+      (split (eqb f notFn) (λ e. rw e (two-over b c (got (apply1 f a) rest)))
+      (λ e. rw (e, i) (split (eqb f ifFn) (λ d. rw (d, j)) (λ d. rw d (left-over c (got (apply2 f a b) rest))))))
 
 pub expr-result : (k : ℕ) (x : Term) (rest : List ℕ) → exprAt k (encodeExpr x ++ rest) ≡ result (exprFault k x) x rest
 unfolding encodeExpr exprFault exprAt
@@ -151,13 +152,13 @@ expr-result (suc k) (literal w) rest = field-reads isTerm 16 (word w) rest (term
 expr-result (suc k) (variable i) rest = field-reads isTerm 17 (i ∷ []) rest (termIn (exprAt k)) refl
 expr-result (suc k) (param n) rest = field-reads isTerm 19 (n ∷ []) rest (termIn (exprAt k)) refl ∙ split (ltb 7 n) (λ e. rw e) (λ e. rw e)
 expr-result (suc k) (apply1 f a) rest =
-    app-judged k f (first (exprFault k a) (pick (eqb f 3) 0 4)) (encodeExpr a) rest (apply1 f a)
+    app-judged k f (first (exprFault k a) (pick (eqb f notFn) 0 4)) (encodeExpr a) rest (apply1 f a)
     (one-arg k f rest a (exprFault k a) (rw (append-nil (encodeExpr a)) at (expr-result k a [])))
 expr-result (suc k) (apply2 f a b) rest =
-    app-judged k f (first (exprFault k a) (pick (eqb f 3) 6 (first (exprFault k b) (pick (eqb f 14) 4 0)))) (encodeExpr a ++ encodeExpr b) rest (apply2 f a b)
+    app-judged k f (first (exprFault k a) (pick (eqb f notFn) 6 (first (exprFault k b) (pick (eqb f ifFn) 4 0)))) (encodeExpr a ++ encodeExpr b) rest (apply2 f a b)
     (two-args k f rest a b (exprFault k a) (exprFault k b) (expr-result k a (encodeExpr b)) (rw (append-nil (encodeExpr b)) at (expr-result k b [])))
 expr-result (suc k) (apply3 f a b c) rest =
-    app-judged k f (first (exprFault k a) (pick (eqb f 3) 6 (first (exprFault k b) (pick (eqb f 14) (first (exprFault k c) 0) 6))))
+    app-judged k f (first (exprFault k a) (pick (eqb f notFn) 6 (first (exprFault k b) (pick (eqb f ifFn) (first (exprFault k c) 0) 6))))
     (encodeExpr a ++ (encodeExpr b ++ encodeExpr c)) rest (apply3 f a b c)
     (three-args k f rest a b c (exprFault k a) (exprFault k b) (exprFault k c) (expr-result k a (encodeExpr b ++ encodeExpr c)) (expr-result k b (encodeExpr c))
     (rw (append-nil (encodeExpr c)) at (expr-result k c [])))

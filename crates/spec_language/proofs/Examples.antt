@@ -13,6 +13,7 @@ use lib.Dec.{eqb}
 use lib.ListN.{length}
 use borrow.Author.Tests.{eqb-true}
 use Rattle.lib_base.specs.Basics.{pick, All}
+use Rattle.lib_signature.proofs.Laws.{two-is, is-two}
 use Rattle.spec_language.specs.Syntax.{Expr, con, name, app2, app3, Phase, immediate, later, Handler, handler, Behaviour, passive, active, Program}
 use Rattle.spec_language.specs.Dependence.{Response, follows, takes, defers, keeps, handled, response, behaviourAt, mentions, isActive, writes, Named, in-immediate, in-later, through, Reads, Apart, Independent, dependsOn, one, more, Acyclic, NoCycle}
 use Rattle.spec_language.specs.Order.{met, find, order, upTo, metAtOnce, phaseOne}
@@ -384,11 +385,14 @@ pub scale : SignalFits (record { priority = 15; sender = some 255 }) × (SignalF
 scale = ((omega arith, omega arith), λ h. absurd (omega (arith, h .0)), λ h. absurd (omega (arith, h .1)))
 
 -- functions 1 to 14: `!`, 3, takes one, `if`, 14, three and the others two
-of-two : {f : ℕ} → Arity f 2 → (0 < f) × (f < 14) × (f ≢ 3)
-of-two (binary a b c) = (a, b, c)
+of-two : {f : ℕ} → Arity f 2 → (0 < f) × (f ≤ 14) × (f ≢ 3) × (f ≢ 14)
+of-two (binary {f = f} a b c) = let k = two-is f c in (a, b, k .0, k .1)
 
-pub arities : Arity 1 2 × Arity 13 2 × (Arity 0 2 → ⊥) × (Arity 14 2 → ⊥) × (Arity 3 2 → ⊥)
-arities = (binary {f = 1} (omega arith) (omega arith) (omega arith), binary {f = 13} (omega arith) (omega arith) (omega arith), λ h. absurd (omega (arith, of-two h .0)), λ h. absurd (omega (arith, of-two h .1)), λ h. of-two h .2 refl)
+is-one : (f : ℕ) → 0 < f → f ≤ 14 → f ≢ 3 → f ≢ 14 → Arity f 2
+is-one f a b c d = binary a b (is-two f c d)
+
+pub arities : Arity 1 2 × Arity 13 2 × (Arity 0 2 → ⊥) × (Arity 15 2 → ⊥) × (Arity 14 2 → ⊥) × (Arity 3 2 → ⊥)
+arities = (is-one 1 (omega arith) (omega arith) (omega arith) (omega arith), is-one 13 (omega arith) (omega arith) (omega arith) (omega arith), λ h. absurd (omega (arith, of-two h .0)), λ h. absurd (omega (arith, of-two h .1)), λ h. of-two h .3 refl, λ h. of-two h .2 refl)
 
 -- 32 events, 64 behaviours, 8,192 bytes, 4,096 instructions, and 32 bytes lent where the sheet uses a parameter
 pub one-too-many : (v : ℕ → ℕ) (lent : ℕ) (s : Sheet) → SheetAccepted v lent s

@@ -3,7 +3,7 @@ use Prim.Native.Nat.{ℕ}
 use mathlib.Core.List.{List}
 
 -- 01 "Expressions": a constant is a 32-bit word, a name is a behaviour's number, an application has its function's
--- number. `!` (3) needs one argument, `if` (14) three, the others two.
+-- number. `!` needs one argument, `if` three, the others two.
 pub data Expr : Type 0 where
   con : ℕ → Expr
   name : ℕ → Expr

@@ -6,8 +6,9 @@ use mathlib.Core.Path.{_≡_, refl}
 use mathlib.Core.Option.{none, some}
 use mathlib.Core.List.{List, [], _∷_, _++_, map, flatten, flatMap, sum}
 use lib.ListN.{replicate}
+use Rattle.lib_signature.specs.Signature.{arity}
 use Rattle.lib_arith.specs.Exact.{beyond}
-use Rattle.lib_arith.specs.Functions.{exact, result, over, arity}
+use Rattle.lib_arith.specs.Functions.{exact, result, over}
 use Rattle.spec_language.specs.Syntax.{con, name, app2, immediate, handler, passive, active, Program}
 use Rattle.spec_language.specs.Dependence.{handled, mentions}
 use Rattle.spec_language.specs.Order.{met, find, order, upTo, metAtOnce, phaseOne}

@@ -9,8 +9,9 @@ use mathlib.Core.Logic.{_≢_}
 use mathlib.Core.List.{List, [], _∷_, _++_, map, flatten, flatMap, sum, List·Memᴰ, List·Memᴰ·head, Permᴰ·refl, mem-cons-self, rel-of-pairwise-cons}
 use native.Mathlib.Omega.{arith}
 use lib.ListN.{replicate}
+use Rattle.lib_signature.specs.Signature.{arity}
 use Rattle.lib_arith.specs.Exact.{beyond}
-use Rattle.lib_arith.specs.Functions.{exact, result, over, arity}
+use Rattle.lib_arith.specs.Functions.{exact, result, over}
 use Rattle.spec_language.specs.Dependence.{handled, mentions}
 use Rattle.spec_language.specs.Order.{met, find, order, upTo, metAtOnce, phaseOne}
 use Rattle.spec_language.specs.Code.{postfix, inOrder, copyPart, firstPart, secondPart, restorePart, code}

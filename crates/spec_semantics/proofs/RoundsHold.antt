@@ -13,6 +13,8 @@ use lib.ListN.{length}
 use borrow.Author.Tests.{eqb-true}
 use Rattle.lib_base.specs.Basics.{All}
 use Rattle.lib_base.proofs.Tools.{split}
+use Rattle.lib_signature.specs.Signature.{addFn, subtractFn, last, arity}
+use Rattle.lib_signature.proofs.Laws.{is-two}
 use Rattle.lib_arith.specs.Exact.{signed, wrapped}
 use Rattle.lib_arith.specs.Functions.{exact, result}
 use Rattle.spec_language.specs.Syntax.{Expr, con, name, app2, immediate, later, handler, Behaviour, passive, active, Program}
@@ -69,11 +71,11 @@ t1 = t-variable {i = 1} (omega arith)
 l1 : {k : ℕ} → TermFits (suc k) (literal 1)
 l1 = t-literal {w = 1} (omega arith)
 
-plus-fits : {k : ℕ} {a b : Term} → TermFits k a → TermFits k b → TermFits (suc k) (apply2 4 a b)
-plus-fits = t-apply2 (binary {f = 4} (omega arith) (omega arith) (omega arith))
+plus-fits : {k : ℕ} {a b : Term} → TermFits k a → TermFits k b → TermFits (suc k) (apply2 addFn a b)
+plus-fits = t-apply2 (binary {f = addFn} (omega arith) (omega arith) (is-two addFn (omega arith) (omega arith)))
 
-minus-fits : {k : ℕ} {a b : Term} → TermFits k a → TermFits k b → TermFits (suc k) (apply2 5 a b)
-minus-fits = t-apply2 (binary {f = 5} (omega arith) (omega arith) (omega arith))
+minus-fits : {k : ℕ} {a b : Term} → TermFits k a → TermFits k b → TermFits (suc k) (apply2 subtractFn a b)
+minus-fits = t-apply2 (binary {f = subtractFn} (omega arith) (omega arith) (is-two subtractFn (omega arith) (omega arith)))
 
 -- ---- no circle: a height falls along each dependence
 
@@ -106,11 +108,11 @@ b1 = n-name {i = 1} (omega arith)
 c1 : {k : ℕ} → Nested (suc k) (con 1)
 c1 = n-con {w = 1} (omega arith)
 
-plus-nested : {k : ℕ} {a b : Expr} → Nested k a → Nested k b → Nested (suc k) (app2 4 a b)
-plus-nested = n-app2 (binary {f = 4} (omega arith) (omega arith) (omega arith))
+plus-nested : {k : ℕ} {a b : Expr} → Nested k a → Nested k b → Nested (suc k) (app2 addFn a b)
+plus-nested = n-app2 (binary {f = addFn} (omega arith) (omega arith) (is-two addFn (omega arith) (omega arith)))
 
-difference : {k : ℕ} {a b : Expr} → Nested k a → Nested k b → Nested (suc k) (app2 5 a b)
-difference = n-app2 (binary {f = 5} (omega arith) (omega arith) (omega arith))
+difference : {k : ℕ} {a b : Expr} → Nested k a → Nested k b → Nested (suc k) (app2 subtractFn a b)
+difference = n-app2 (binary {f = subtractFn} (omega arith) (omega arith) (is-two subtractFn (omega arith) (omega arith)))
 
 -- behaviour 0, and behaviour 1, above the others
 abbrev zeroHigh : ℕ → ℕ
@@ -308,14 +310,14 @@ module _ (f a c : ℕ) where
   app-falls (suc zero) b (suc i) j d = absurd (false≢true d)
   app-falls (suc (suc e)) b i j d = absurd (omega arith)
 
-  app-valid : 0 < f → f < 14 → f ≢ 3 → a < 2 ^ 32 → c < 2 ^ 32 → Valid (takes-app f a c)
+  app-valid : 0 < f → f ≤ last → arity f ≡ 2 → a < 2 ^ 32 → c < 2 ^ 32 → Valid (takes-app f a c)
   app-valid g h k l m = record {
     each = ((omega arith, (omega arith, n-app2 (binary g h k) (n-con l) (n-con m), tt, tt)), tt);
     known = (((tt, tt), tt), tt);
     acyclic = λ e b. uncircled (dependsOn (takes-app f a c) e) zeroHigh (app-falls e b);
   }
 
-  app-fits : 0 < f → f < 14 → f ≢ 3 → a < 2 ^ 32 → c < 2 ^ 32 → SheetFits (taking (apply2 f (literal a) (literal c)))
+  app-fits : 0 < f → f ≤ last → arity f ≡ 2 → a < 2 ^ 32 → c < 2 ^ 32 → SheetFits (taking (apply2 f (literal a) (literal c)))
   unfolding cellCount encode encodeEvents encodeBehaviours encodeHandlers encodeExpr
   app-fits g h k l m = record {
     few-events = omega arith;
@@ -348,7 +350,7 @@ one-holds : (x : Sheet) (p : Program) → ((v : ℕ → ℕ) → p ≡ fill v x)
 one-holds x p f s u k short d board q =
     (x, refl, λ v lent. (accepted x p f s u k short v lent, subst (λ (o : Program). ByRules o (0 ∷ []) board) (f v) (by-rules p k (0 ∷ []) (d, tt) board q)))
 
-app-holds : (f a c : ℕ) → 0 < f → f < 14 → f ≢ 3 → a < 2 ^ 32 → c < 2 ^ 32 → (board : List ℤ)
+app-holds : (f a c : ℕ) → 0 < f → f ≤ last → arity f ≡ 2 → a < 2 ^ 32 → c < 2 ^ 32 → (board : List ℤ)
     → map signed (play (takes-app f a c) (0 ∷ []) (fresh (takes-app f a c))) ≡ board
     → Holds (record { bytes = encode (taking (apply2 f (literal a) (literal c))); given = 0 ∷ []; board = board })
 unfolding entriesOut flatMap fillTerm fillClauses fillEntries paramsOf paramsOfClauses paramsOfEntries
@@ -376,11 +378,11 @@ rounds-hold = (
               (
                 one-holds throughPassive passed (λ v. refl) passed-fits refl passed-valid (omega (arith, passed-count)) (omega arith) _ refl,
                 (
-                  app-holds 4 2147483647 1 (omega arith) (omega arith) (omega arith) (omega arith) (omega arith) _ refl,
+                  app-holds 4 2147483647 1 (omega arith) (omega arith) (is-two 4 (omega arith) (omega arith)) (omega arith) (omega arith) _ refl,
                   (
-                    app-holds 7 4294967289 2 (omega arith) (omega arith) (omega arith) (omega arith) (omega arith) _ refl,
+                    app-holds 7 4294967289 2 (omega arith) (omega arith) (is-two 7 (omega arith) (omega arith)) (omega arith) (omega arith) _ refl,
                     (
-                      app-holds 7 5 0 (omega arith) (omega arith) (omega arith) (omega arith) (omega arith) _ refl,
+                      app-holds 7 5 0 (omega arith) (omega arith) (is-two 7 (omega arith) (omega arith)) (omega arith) (omega arith) _ refl,
                       tt,
                     ),
                   ),

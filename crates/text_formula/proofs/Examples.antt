@@ -5,11 +5,11 @@ use mathlib.Core.Path.{_≡_, refl}
 use mathlib.Core.List.{[], _∷_, _++_}
 use mathlib.Core.Option.{none, some}
 use lib.ListN.{replicate}
+use Rattle.lib_signature.specs.Signature.{level}
 use Rattle.spec_language.specs.Sheet.{asSent}
 use Rattle.spec_language.specs.Syntax.{con, name, app1, app2, app3}
 use Rattle.spec_language.specs.Grammar.{encodeExpr}
 use Rattle.text_formula.specs.Reader.{digitOf, nameOf, singleOf, doubleOf, markedOf, wordToken, numberToken, firstOf, tokensOf, operatorChain, tower, bracketedOf, choiceOf, operandAt, readFormula}
-use Rattle.text_formula.specs.Level.{level}
 use Rattle.text_formula.specs.Answer.{large, nesting, answered, fieldAnswer}
 use Rattle.text_formula.specs.Formula.{formulaOn}
 

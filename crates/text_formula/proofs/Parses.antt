@@ -9,54 +9,19 @@ use lib.ListN.{length, length-append}
 use lib.Dec.{ltb, eqb}
 use borrow.Author.Tests.{ltb-true, ltb-false, eqb-true, eqb-false, eq-eqb, ne-eqb}
 use Rattle.lib_base.proofs.Tools.{by-test, split}
+use Rattle.lib_signature.specs.Signature.{level, notFn, ifFn}
 use Rattle.spec_language.specs.Syntax.{Expr, app2}
 use Rattle.text_formula.specs.Tokens.{Token, number, behaviour, function, opening, closing, comma}
 use Rattle.text_formula.specs.Grammar.{Operator, times, divided, plus, minus, above, at-least, below, at-most, equal, different, both, either, Derives, tighter, two-sided, negated, a-number, a-name, bracketed, choice}
 use Rattle.text_formula.specs.Reader.{levelOf, operatorOf, bracketOf, Parsed, unparsed, parsed, thenParse, past, operatorChain, tower, bracketedOf, choiceOf, operandOf, operandAt, readAt}
-use Rattle.text_formula.specs.Level.{level}
 
 -- ---- the levels of operators
 
 pub level-of : {l f : ℕ} → Operator l f → level f ≡ l
-unfolding level
-level-of times = refl
-level-of divided = refl
-level-of plus = refl
-level-of minus = refl
-level-of above = refl
-level-of at-least = refl
-level-of below = refl
-level-of at-most = refl
-level-of equal = refl
-level-of different = refl
-level-of both = refl
-level-of either = refl
-
--- an operator from its number: one of two
-of-two : {l : ℕ} (f a : ℕ) → Operator l a → Operator l (suc a) → a ≤ f → f ≤ suc a → Operator l f
-of-two f a p q lo hi =
-    split (eqb f a) (λ e. let d : f ≡ a = eqb-true f a e in rw d p)
-    (λ e. let d : f ≡ suc a = omega (arith, eqb-false f a e) in rw d q)
-
-of-four : (f : ℕ) → 8 ≤ f → f ≤ 11 → Operator 3 f
-of-four f lo hi =
-    split (ltb f 10) (λ e. of-two f 8 above at-least lo (omega (arith, ltb-true f 10 e)))
-    (λ e. of-two f 10 below at-most (ltb-false f 10 e) hi)
+level-of (operator h) = h
 
 pub operator-of : (l f : ℕ) → level f ≡ suc l → Operator (suc l) f
-unfolding level
-operator-of l f =
-    by-test Q (ltb 13 f) (λ e h. absurd (omega arith))
-    (λ e. by-test Q (ltb 11 f) (λ d h. subst (λ x. Operator x f) h (of-two f 12 equal different (omega (arith, ltb-true)) (ltb-false 13 f e)))
-    (λ d. by-test Q (ltb 7 f) (λ c h. subst (λ x. Operator x f) h (of-four f (omega (arith, ltb-true)) (ltb-false 11 f d)))
-    (λ c. by-test Q (ltb 5 f) (λ b h. subst (λ x. Operator x f) h (of-two f 6 times divided (omega (arith, ltb-true)) (ltb-false 7 f c)))
-    (λ b. by-test Q (ltb 3 f) (λ a h. subst (λ x. Operator x f) h (of-two f 4 plus minus (omega (arith, ltb-true)) (ltb-false 5 f b)))
-    (λ a. by-test Q (eqb f 2) (λ z h. subst (λ x. Operator x f) h (let p : f ≡ 2 = eqb-true f 2 z in rw p both))
-    (λ z. by-test Q (eqb f 1) (λ y h. subst (λ x. Operator x f) h (let p : f ≡ 1 = eqb-true f 1 y in rw p either))
-    (λ y h. absurd (omega arith))))))))
-  where
-    Q : ℕ → Type 0
-    Q x = x ≡ suc l → Operator (suc l) f
+operator-of l f h = operator h
 
 -- ---- what is read is derived
 
@@ -149,7 +114,7 @@ module _ (all : List Token → Parsed) (ih : (ts : List Token) → Sound 6 ts (a
         derived = bracketed (h .derived);
       })) (all ts) (ih ts)
 
-  choice-sound : (ts : List Token) → Sound 0 (function 14 ∷ ts) (choiceOf all ts)
+  choice-sound : (ts : List Token) → Sound 0 (function ifFn ∷ ts) (choiceOf all ts)
   unfolding choiceOf
   choice-sound ts =
       past-of S 1 _ tt ts (λ t us q m.
@@ -160,13 +125,13 @@ module _ (all : List Token → Parsed) (ih : (ts : List Token) → Sound 6 ts (a
       then-of S (Sound 6 ys) _ tt (λ c zs j.
       past-of S 2 _ tt zs (λ w rest x p.
       record {
-        taken = function 14 ∷ opening ∷ (h .taken ++ (comma ∷ (i .taken ++ (comma ∷ (j .taken ++ (closing ∷ []))))));
+        taken = function ifFn ∷ opening ∷ (h .taken ++ (comma ∷ (i .taken ++ (comma ∷ (j .taken ++ (closing ∷ []))))));
         joined = rw (q, is-opening t m, h .joined, r, is-comma u n, i .joined, s, is-comma v o, j .joined, x, is-closing w p) (simp append-assoc);
         derived = choice (h .derived) (i .derived) (j .derived);
       })) (all ys) (ih ys))) (all ws) (ih ws))) (all us) (ih us))
     where
       S : Parsed → Type 0
-      S = Sound 0 (function 14 ∷ ts)
+      S = Sound 0 (function ifFn ∷ ts)
 
   module _ (operand : List Token → Parsed) (jh : (ts : List Token) → Sound 0 ts (operand ts)) where
     operand-sound : (ts : List Token) → Sound 0 ts (operandOf operand all ts)
@@ -174,12 +139,12 @@ module _ (all : List Token → Parsed) (ih : (ts : List Token) → Sound 6 ts (a
     operand-sound (number n ∷ ts) = record { taken = number n ∷ []; joined = refl; derived = a-number }
     operand-sound (behaviour i ∷ ts) = record { taken = behaviour i ∷ []; joined = refl; derived = a-name }
     operand-sound (function f ∷ ts) =
-        by-test (Sound 0 (function f ∷ ts)) (eqb f 3)
-        (λ e. let q : f ≡ 3 = eqb-true f 3 e in
+        by-test (Sound 0 (function f ∷ ts)) (eqb f notFn)
+        (λ e. let q : f ≡ notFn = eqb-true f notFn e in
         then-of (Sound 0 (function f ∷ ts)) (Sound 0 ts) _ tt
-        (λ a us h. record { taken = function 3 ∷ h .taken; joined = rw (q, h .joined); derived = negated (h .derived) }) (operand ts) (jh ts))
-        (λ e. by-test (Sound 0 (function f ∷ ts)) (eqb f 14)
-        (λ d. let q : f ≡ 14 = eqb-true f 14 d in rw q (choice-sound ts))
+        (λ a us h. record { taken = function notFn ∷ h .taken; joined = rw (q, h .joined); derived = negated (h .derived) }) (operand ts) (jh ts))
+        (λ e. by-test (Sound 0 (function f ∷ ts)) (eqb f ifFn)
+        (λ d. let q : f ≡ ifFn = eqb-true f ifFn d in rw q (choice-sound ts))
         (λ d. tt))
     operand-sound (opening ∷ ts) = brackets-sound ts
     operand-sound (closing ∷ ts) = tt

@@ -12,6 +12,7 @@ use lib.Dec.{ltb}
 use borrow.Author.Tests.{ltb-false}
 use Rattle.lib_base.specs.Basics.{pick, All}
 use Rattle.lib_base.proofs.Tools.{by-test, all-split, neither}
+use Rattle.lib_signature.proofs.Laws.{level-two}
 use Rattle.spec_language.specs.Syntax.{Expr, con, name, app1, app2, app3}
 use Rattle.spec_language.specs.Sheet.{fillTerm, asSent}
 use Rattle.spec_language.specs.Grammar.{Arity, unary, ternary, binary, TermFits, t-literal, t-variable, t-apply1, t-apply2, t-apply3}
@@ -37,18 +38,7 @@ Proper (app2 f a b) = Arity f 2 × Proper a × Proper b
 Proper (app3 f a b c) = Arity f 3 × Proper a × Proper b × Proper c
 
 pub operator-binary : {l f : ℕ} → Operator l f → Arity f 2
-operator-binary times = binary {f = 6} (omega arith) (omega arith) (omega arith)
-operator-binary divided = binary {f = 7} (omega arith) (omega arith) (omega arith)
-operator-binary plus = binary {f = 4} (omega arith) (omega arith) (omega arith)
-operator-binary minus = binary {f = 5} (omega arith) (omega arith) (omega arith)
-operator-binary above = binary {f = 8} (omega arith) (omega arith) (omega arith)
-operator-binary at-least = binary {f = 9} (omega arith) (omega arith) (omega arith)
-operator-binary below = binary {f = 10} (omega arith) (omega arith) (omega arith)
-operator-binary at-most = binary {f = 11} (omega arith) (omega arith) (omega arith)
-operator-binary equal = binary {f = 12} (omega arith) (omega arith) (omega arith)
-operator-binary different = binary {f = 13} (omega arith) (omega arith) (omega arith)
-operator-binary both = binary {f = 2} (omega arith) (omega arith) (omega arith)
-operator-binary either = binary {f = 1} (omega arith) (omega arith) (omega arith)
+operator-binary {f = f} (operator h) = let k = level-two f (omega arith) in binary (k .0) (k .1) (k .2)
 
 derives-proper : {l : ℕ} {ts : List Token} {e : Expr} → Derives l ts e → All InRange ts → Proper e
 unfolding Proper

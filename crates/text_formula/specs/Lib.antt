@@ -1,7 +1,6 @@
 pub mod Tokens
 pub mod InRange
 pub mod Grammar
-pub mod Level
 pub mod Reader
 pub mod Nesting
 pub mod Answer

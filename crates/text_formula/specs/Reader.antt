@@ -6,9 +6,9 @@ use mathlib.Core.Option.{Option, none, some}
 use lib.ListN.{length, getD, drop}
 use lib.Dec.{ltb, eqb}
 use Rattle.lib_base.specs.Basics.{pick}
+use Rattle.lib_signature.specs.Signature.{orFn, andFn, notFn, addFn, subtractFn, multiplyFn, divideFn, aboveFn, atLeastFn, belowFn, atMostFn, equalFn, unequalFn, ifFn, level}
 use Rattle.spec_language.specs.Syntax.{Expr, con, name, app1, app2, app3}
 use Rattle.text_formula.specs.Tokens.{Token, number, behaviour, function, opening, closing, comma}
-use Rattle.text_formula.specs.Level.{level}
 
 -- ---- tokens
 
@@ -37,26 +37,26 @@ singleOf miss hit b =
     pick (eqb b 40) (hit opening 1)
     (pick (eqb b 41) (hit closing 1)
     (pick (eqb b 44) (hit comma 1)
-    (pick (eqb b 43) (hit (function 4) 1)
-    (pick (eqb b 45) (hit (function 5) 1)
-    (pick (eqb b 42) (hit (function 6) 1)
-    (pick (eqb b 47) (hit (function 7) 1) miss))))))
+    (pick (eqb b 43) (hit (function addFn) 1)
+    (pick (eqb b 45) (hit (function subtractFn) 1)
+    (pick (eqb b 42) (hit (function multiplyFn) 1)
+    (pick (eqb b 47) (hit (function divideFn) 1) miss))))))
 
 -- `||`, `&&` and `if`, which need their second byte
 unfoldable pub doubleOf : {A : Type 0} → A → (Token → ℕ → A) → ℕ → ℕ → A
 doubleOf miss hit b c =
-    pick (eqb b 124) (pick (eqb c 124) (hit (function 1) 2) miss)
-    (pick (eqb b 38) (pick (eqb c 38) (hit (function 2) 2) miss)
-    (pick (eqb b 105) (pick (eqb c 102) (hit (function 14) 2) miss)
+    pick (eqb b 124) (pick (eqb c 124) (hit (function orFn) 2) miss)
+    (pick (eqb b 38) (pick (eqb c 38) (hit (function andFn) 2) miss)
+    (pick (eqb b 105) (pick (eqb c 102) (hit (function ifFn) 2) miss)
     (singleOf miss hit b)))
 
 -- those that `=` lengthens, and `==`
 unfoldable pub markedOf : {A : Type 0} → A → (Token → ℕ → A) → ℕ → ℕ → A
 markedOf miss hit b c =
-    pick (eqb b 33) (pick (eqb c 61) (hit (function 13) 2) (hit (function 3) 1))
-    (pick (eqb b 62) (pick (eqb c 61) (hit (function 9) 2) (hit (function 8) 1))
-    (pick (eqb b 60) (pick (eqb c 61) (hit (function 11) 2) (hit (function 10) 1))
-    (pick (eqb b 61) (pick (eqb c 61) (hit (function 12) 2) miss)
+    pick (eqb b 33) (pick (eqb c 61) (hit (function unequalFn) 2) (hit (function notFn) 1))
+    (pick (eqb b 62) (pick (eqb c 61) (hit (function atLeastFn) 2) (hit (function aboveFn) 1))
+    (pick (eqb b 60) (pick (eqb c 61) (hit (function atMostFn) 2) (hit (function belowFn) 1))
+    (pick (eqb b 61) (pick (eqb c 61) (hit (function equalFn) 2) miss)
     (doubleOf miss hit b c))))
 
 -- a token that is no number
@@ -94,6 +94,7 @@ tokensOf (suc k) bs = tokensIn (tokensOf k) bs
 
 -- ---- expressions
 
+-- the level of a two-sided operator; 0 for another token
 abbrev pub levelOf : Token → ℕ
 levelOf (number n) = 0
 levelOf (behaviour i) = 0
@@ -154,7 +155,7 @@ choiceOf all ts =
     past 1 (λ us. thenParse (all us) (λ a vs.
     past 3 (λ ws. thenParse (all ws) (λ b xs.
     past 3 (λ ys. thenParse (all ys) (λ c zs.
-    past 2 (λ rest. parsed (app3 14 a b c) rest) zs)) xs)) vs)) ts
+    past 2 (λ rest. parsed (app3 ifFn a b c) rest) zs)) xs)) vs)) ts
 
 -- `!` and the primaries, where `operand` reads level 0 and `all` a formula
 abbrev pub operandOf : (List Token → Parsed) → (List Token → Parsed) → List Token → Parsed
@@ -162,7 +163,7 @@ operandOf operand all [] = unparsed
 operandOf operand all (number n ∷ ts) = parsed (con n) ts
 operandOf operand all (behaviour i ∷ ts) = parsed (name i) ts
 operandOf operand all (function f ∷ ts) =
-    pick (eqb f 3) (thenParse (operand ts) (λ a us. parsed (app1 3 a) us)) (pick (eqb f 14) (choiceOf all ts) unparsed)
+    pick (eqb f notFn) (thenParse (operand ts) (λ a us. parsed (app1 notFn a) us)) (pick (eqb f ifFn) (choiceOf all ts) unparsed)
 operandOf operand all (opening ∷ ts) = bracketedOf all (opening ∷ ts)
 operandOf operand all (closing ∷ ts) = unparsed
 operandOf operand all (comma ∷ ts) = unparsed

@@ -1,6 +1,6 @@
 // The number that stands for a token in the code: kind * WORDS + word (text_lexer, specs/Codes.antt). The kinds of
 // numbers, names and functions are the tags of their fields; brackets and comma have the next.
-use spec_language::functions;
+use lib_signature::functions;
 use spec_language::limits;
 use spec_language::tags;
 

@@ -7,6 +7,7 @@ use native.Mathlib.Numerals.{add-one, sub-one}
 use lib.ListN.{length, getD, take, drop, length-append}
 use lib.Dec.{ltb, eqb}
 use borrow.Author.Tests.{ltb-true, ltb-false, eqb-true, eq-eqb, ne-eqb}
+use Rattle.lib_signature.specs.Signature.{notFn, ifFn}
 use Rattle.spec_language.specs.Sheet.{asSent}
 use Rattle.lib_base.specs.Basics.{pick, All}
 use Rattle.lib_base.proofs.Tools.{by-test, by-two, split}
@@ -109,7 +110,7 @@ brackets-as all ts = past-then 1 all (λ e vs. past 2 (λ ws. parsed e ws) vs) t
 -- ---- `if`
 
 choice-as : (all : List Token → Parsed) (ts : List Token)
-    → choiceOf all ts ≡ thenParse (past 1 all ts) (λ a vs. thenParse (past 3 all vs) (λ b xs. thenParse (past 3 all xs) (λ c zs. past 2 (λ rest. parsed (app3 14 a b c) rest) zs)))
+    → choiceOf all ts ≡ thenParse (past 1 all ts) (λ a vs. thenParse (past 3 all vs) (λ b xs. thenParse (past 3 all xs) (λ c zs. past 2 (λ rest. parsed (app3 ifFn a b c) rest) zs)))
 unfolding choiceOf
 choice-as all ts =
     past-then 1 all _ ts ∙ simp (past-then 3 all)
@@ -137,7 +138,7 @@ further {n} {o} {p} {q} {v} {end} {to} w s h e =
 
 module _ (ts : List Token) (cs : List ℕ) (fine : All InRange ts) (x : cs ≡ map tokenCode ts) (k n : ℕ) (o p₃ : List ℕ) (fits : n ≤ length o) where
   third : (a b : Expr) (p₂ : List ℕ) (end₂ d₂ : ℕ) → SoFar n o p₂ (expressionBytes a ++ expressionBytes b) end₂ → d₂ ≡ deeper (nesting a) (nesting b) → (r : Read) (g : Parsed) → Agrees ts d₂ end₂ p₂ p₃ r g
-      → Roomy (length p₃) r → Agrees ts 0 n o (wrappedIn 14 n (endedIn cs r) p₃) (closedOf 0 (endedIn cs r)) (thenParse g (λ c zs. past 2 (λ rest. parsed (app3 14 a b c) rest) zs))
+      → Roomy (length p₃) r → Agrees ts 0 n o (wrappedIn ifFn n (endedIn cs r) p₃) (closedOf 0 (endedIn cs r)) (thenParse g (λ c zs. past 2 (λ rest. parsed (app3 ifFn a b c) rest) zs))
   third a b p₂ end₂ d₂ s d Fault unparsed h m = tt
   third a b p₂ end₂ d₂ s d Fault (parsed c zs) h m = absurd h
   third a b p₂ end₂ d₂ s d (Done at₃ end₃ d₃) unparsed h m = absurd h
@@ -147,19 +148,19 @@ module _ (ts : List Token) (cs : List ℕ) (fine : All InRange ts) (x : cs ≡ m
       let q : (expressionBytes a ++ expressionBytes b) ++ expressionBytes c ≡ v = append-assoc (expressionBytes a) (expressionBytes b) (expressionBytes c) in
       let y : SoFar n o p₃ v end₃ = rw q at u in
       let z : deeper 0 d₃ ≡ deeper (deeper (nesting a) (nesting b)) (nesting c) = deeper-none d₃ ∙ h .nests ∙ rw d in
-      rw (h .onward, past-mark 2 (λ rest. parsed (app3 14 a b c) rest) ts cs at₃ (omega arith) fine x)
-      (by-two (λ (r : Read) (g : Parsed). Agrees ts 0 n o (wrappedIn 14 n r p₃) (closedOf 0 r) g) (eqb (bracketAt cs at₃) 2)
+      rw (h .onward, past-mark 2 (λ rest. parsed (app3 ifFn a b c) rest) ts cs at₃ (omega arith) fine x)
+      (by-two (λ (r : Read) (g : Parsed). Agrees ts 0 n o (wrappedIn ifFn n r p₃) (closedOf 0 r) g) (eqb (bracketAt cs at₃) 2)
       (λ t. record {
         onward = refl;
-        size = rw (bytes-three 14 a b c) (omega (arith, y .size));
-        written = rw (bytes-three 14 a b c) (applied-taken n end₃ 14 v o p₃ (y .written) (y .size) fits m);
-        nests = rw (deeper-none (nesting (app3 14 a b c)), nesting-three 14 a b c, add-one) (ap suc z);
+        size = rw (bytes-three ifFn a b c) (omega (arith, y .size));
+        written = rw (bytes-three ifFn a b c) (applied-taken n end₃ ifFn v o p₃ (y .written) (y .size) fits m);
+        nests = rw (deeper-none (nesting (app3 ifFn a b c)), nesting-three ifFn a b c, add-one) (ap suc z);
       }) (λ t. tt))
 
   second : (a : Expr) (p₁ p₂ : List ℕ) (at₁ end₁ d₁ : ℕ) → SoFar n o p₁ (expressionBytes a) end₁ → d₁ ≡ nesting a → length cs - at₁ ≤ suc k → (r r₃ : Read) (g : Parsed) → Agrees ts d₁ end₁ p₁ p₂ r g
       → ReadWithin (length cs) at₁ end₁ d₁ r → Argued 3 cs p₂ p₃ r r₃ → Roomy (length p₃) r₃
-      → Agrees ts 0 n o (wrappedIn 14 n (endedIn cs r₃) p₃) (closedOf 0 (endedIn cs r₃))
-      (thenParse g (λ b xs. thenParse (past 3 (readAt 6 k) xs) (λ c zs. past 2 (λ rest. parsed (app3 14 a b c) rest) zs)))
+      → Agrees ts 0 n o (wrappedIn ifFn n (endedIn cs r₃) p₃) (closedOf 0 (endedIn cs r₃))
+      (thenParse g (λ b xs. thenParse (past 3 (readAt 6 k) xs) (λ c zs. past 2 (λ rest. parsed (app3 ifFn a b c) rest) zs)))
   second a p₁ p₂ at₁ end₁ d₁ s d l Fault r₃ unparsed h w y m = rw y tt
   second a p₁ p₂ at₁ end₁ d₁ s d l Fault r₃ (parsed b xs) h w y m = absurd h
   second a p₁ p₂ at₁ end₁ d₁ s d l (Done at₂ end₂ d₂) r₃ unparsed h w y m = absurd h
@@ -169,8 +170,8 @@ module _ (ts : List Token) (cs : List ℕ) (fine : All InRange ts) (x : cs ≡ m
 
   first : (p₁ p₂ : List ℕ) (at : ℕ) → length cs - at ≤ suc k → (r r₂ r₃ : Read) (g : Parsed) → Agrees ts 0 n o p₁ r g → ReadWithin (length cs) at n 0 r
       → Argued 3 cs p₁ p₂ r r₂ → Argued 3 cs p₂ p₃ r₂ r₃ → Roomy (length p₃) r₃
-      → Agrees ts 0 n o (wrappedIn 14 n (endedIn cs r₃) p₃) (closedOf 0 (endedIn cs r₃))
-      (thenParse g (λ a vs. thenParse (past 3 (readAt 6 k) vs) (λ b xs. thenParse (past 3 (readAt 6 k) xs) (λ c zs. past 2 (λ rest. parsed (app3 14 a b c) rest) zs))))
+      → Agrees ts 0 n o (wrappedIn ifFn n (endedIn cs r₃) p₃) (closedOf 0 (endedIn cs r₃))
+      (thenParse g (λ a vs. thenParse (past 3 (readAt 6 k) vs) (λ b xs. thenParse (past 3 (readAt 6 k) xs) (λ c zs. past 2 (λ rest. parsed (app3 ifFn a b c) rest) zs))))
   first p₁ p₂ at l Fault r₂ r₃ unparsed h w y z m = let e : r₃ ≡ Fault = rw y at z in rw e tt
   first p₁ p₂ at l Fault r₂ r₃ (parsed a vs) h w y z m = absurd h
   first p₁ p₂ at l (Done at₁ end₁ d₁) r₂ r₃ unparsed h w y z m = absurd h
@@ -207,7 +208,7 @@ module _ (cs : List ℕ) (at n : ℕ) (o p₁ p₂ p₃ : List ℕ) (ra rb rc : 
   pub choice-closable : (re : Read) → re ≡ endedIn cs rc → length p₃ ≡ 7168 → Closable n 0 (length p₃) re
   choice-closable re e l = rw e (one-closable cs at n p₃ (endedIn cs rc) (within-ended cs (at + 1) n rc three-within) room few l)
 
-  pub chosen : (re rf : Read) (p₄ : List ℕ) → re ≡ endedIn cs rc → rf ≡ closedOf 0 re → p₄ ≡ wrappedIn 14 n re p₃ → at < length cs → length o ≡ 7168 → length p₃ ≡ 7168
+  pub chosen : (re rf : Read) (p₄ : List ℕ) → re ≡ endedIn cs rc → rf ≡ closedOf 0 re → p₄ ≡ wrappedIn ifFn n re p₃ → at < length cs → length o ≡ 7168 → length p₃ ≡ 7168
       → ChoiceRead cs at n o p₄ rf × ReadWithin (length cs) at n 0 rf
   chosen re rf p₄ e f w g l l₃ =
       rw (f, w, e) (
@@ -260,16 +261,16 @@ unfolding nesting
 nesting-one f a = refl
 
 not-agrees : (ts : List Token) (n : ℕ) (o p : List ℕ) (r : Read) (g : Parsed) → Agrees ts 0 n o p r g → Closable n 0 (length p) r → n ≤ length o
-    → Agrees ts 0 n o (wrappedIn 3 n r p) (closedOf 0 r) (thenParse g (λ a us. parsed (app1 3 a) us))
+    → Agrees ts 0 n o (wrappedIn notFn n r p) (closedOf 0 r) (thenParse g (λ a us. parsed (app1 notFn a) us))
 not-agrees ts n o p Fault unparsed a c h = tt
 not-agrees ts n o p Fault (parsed e rest) a c h = absurd a
 not-agrees ts n o p (Done at end depth) unparsed a c h = absurd a
 not-agrees ts n o p (Done at end depth) (parsed e rest) a c h =
     record {
       onward = a .onward;
-      size = rw (bytes-one 3 e) (omega (arith, a .size));
-      written = rw (bytes-one 3 e) (applied-taken n end 3 (expressionBytes e) o p (a .written) (a .size) h (c .1));
-      nests = rw (deeper-none (nesting (app1 3 e)), nesting-one 3 e, deeper-none depth, add-one, a .nests ∙ deeper-none (nesting e));
+      size = rw (bytes-one notFn e) (omega (arith, a .size));
+      written = rw (bytes-one notFn e) (applied-taken n end notFn (expressionBytes e) o p (a .written) (a .size) h (c .1));
+      nests = rw (deeper-none (nesting (app1 notFn e)), nesting-one notFn e, deeper-none depth, add-one, a .nests ∙ deeper-none (nesting e));
     }
 
 module _ (cs : List ℕ) (at n : ℕ) (o : List ℕ) (lt : at < length cs) (room : n ≤ at * 7) (few : length cs ≤ 1024) (long : length o ≡ 7168) where
@@ -279,7 +280,7 @@ module _ (cs : List ℕ) (at n : ℕ) (o : List ℕ) (lt : at < length cs) (room
       rw (f, g) (
         λ ts fine x k h.
             let t = here ts cs fine x at lt in
-            let u : t .token ≡ function 3 = is-function (t .token) 3 (t .fine) (omega arith) (sym (t .number-is) ∙ e) in
+            let u : t .token ≡ function notFn = is-function (t .token) 3 (t .fine) (omega arith) (sym (t .number-is) ∙ e) in
             rw (taken ts at k (t .token) (omega arith) (t .onward), u)
             (not-agrees ts n o p r (readAt 0 (k - 1) (drop (at + 1) ts)) (rd ts fine x (k - 1) (omega arith)) (one-closable cs at n p r w room few l) (omega arith)),
         within-closed (length cs) at n r w,
@@ -288,7 +289,7 @@ module _ (cs : List ℕ) (at n : ℕ) (o : List ℕ) (lt : at < length cs) (room
   pub operand-if : getD cs at 0 ≡ 77309411342 → (p : List ℕ) (r : Read) → ChoiceRead cs at n o p r → Reading 0 cs at n o p r
   operand-if e p r c ts fine x k h =
       let t = here ts cs fine x at lt in
-      let u : t .token ≡ function 14 = is-function (t .token) 14 (t .fine) (omega arith) (sym (t .number-is) ∙ e) in
+      let u : t .token ≡ function ifFn = is-function (t .token) ifFn (t .fine) (omega arith) (sym (t .number-is) ∙ e) in
       rw (taken ts at k (t .token) (omega arith) (t .onward), u) (c ts fine x (k - 1) (omega arith))
 
   pub operand-brackets : getD cs at 0 ≡ 81604378625 → (p : List ℕ) (r q : Read) → Argued 1 cs o p (Done at n 0) r → q ≡ endedIn cs r → Reading 0 cs at n o p q × ReadWithin (length cs) at n 0 q
@@ -342,7 +343,7 @@ leaf-agrees ts at n o operand all (behaviour i) h l a b c =
     rw (q, r) (placed-wrote ts n o (field 17 (i ∷ [])) (at + 1) (n + 4) (name i) refl (sym (bytes-name i)) (omega arith) (leaf-nesting 0 i .1))
 leaf-agrees ts at n o operand all (function f) h l a b c =
     let q : (77309411328 + f) / 4294967296 ≡ 18 = omega arith in
-    rw (q, ne-eqb f 3 (λ e. a (omega arith)), ne-eqb f 14 (λ e. b (omega arith))) tt
+    rw (q, ne-eqb f notFn (λ e. a (omega arith)), ne-eqb f ifFn (λ e. b (omega arith))) tt
 leaf-agrees ts at n o operand all opening h l a b c = absurd (c refl)
 leaf-agrees ts at n o operand all closing h l a b c = tt
 leaf-agrees ts at n o operand all comma h l a b c = tt

@@ -2,9 +2,9 @@
 // call back to the first. Each call has fewer tokens left, or as many and a lower level. What is read is written to
 // `out` from place n on, as an expression field. The frames of these functions are what a nested bracket costs in
 // stack: `out` is lent as an array, one pointer, and one reading `r` is kept in each.
-use spec_language::functions;
+use lib_signature::functions;
+use lib_signature::levels;
 use spec_language::limits;
-use text_formula::levels;
 use text_formula::tokens;
 use text_phrase::Read;
 ghost use mathlib.Core.Path.{_≡_};

@@ -5,8 +5,8 @@ use mathlib.Core.List.{List, [], _∷_}
 use lib.ListN.{length, getD}
 use lib.Dec.{ltb, eqb}
 use Rattle.lib_base.specs.Basics.{pick}
+use Rattle.lib_signature.specs.Signature.{level}
 use Rattle.spec_language.specs.Grammar.{field, word}
-use Rattle.text_formula.specs.Level.{level}
 use Rattle.text_formula.specs.Nesting.{deeper}
 use Rattle.sheet_write.specs.Writes.{fitted, asApplication}
 use Rattle.text_phrase.specs.declared.Read.{Read}

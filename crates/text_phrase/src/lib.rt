@@ -1,29 +1,15 @@
 // What stands at a place of a formula's tokens, and what a reading has come to: the parts of the level functions that
 // do not call them.
+use lib_signature::functions;
 use sheet_field::sizes;
 use sheet_field::tags;
-use spec_language::functions;
-use text_formula::levels;
 use text_formula::tokens;
 ghost use mathlib.Core.Path.{_≡_};
 ghost use Prim.Native.Nat.{_<_, _≤_, _+_};
 ghost use lib.ListN.{length};
 ghost use Rattle.text_phrase.specs.Phrase.{levelCode, levelIn, markCode, bracketAt, underOf, closedOf, wrappedIn, endedIn, leafRead, leafOut, Closable};
 
-// The last functions of the levels, of which 01 counts those of one level in a row.
-const NOT: u64 = functions::NOT as u64;
-
-const SUBTRACT: u64 = functions::SUBTRACT as u64;
-
-const DIVIDE: u64 = functions::DIVIDE as u64;
-
-const AT_MOST: u64 = functions::AT_MOST as u64;
-
-const UNEQUAL: u64 = functions::UNEQUAL as u64;
-
-const AND: u64 = functions::AND as u64;
-
-const OR: u64 = functions::OR as u64;
+const LAST: u64 = functions::LAST as u64;
 
 // What a byte holds: a name's number is its token's low byte.
 const BYTE: u64 = lib_word::BYTE_VALUES as u64;
@@ -42,28 +28,10 @@ fn level_of(t: u64) -> u64
         return 0;
     }
     let f = t % tokens::WORDS;
-    if UNEQUAL < f {
+    if LAST < f {
         return 0;
     }
-    if AT_MOST < f {
-        return levels::EQUALITY;
-    }
-    if DIVIDE < f {
-        return levels::ORDERING;
-    }
-    if SUBTRACT < f {
-        return levels::PRODUCT;
-    }
-    if NOT < f {
-        return levels::SUM;
-    }
-    if f == AND {
-        return levels::CONJUNCTION;
-    }
-    if f == OR {
-        return levels::DISJUNCTION;
-    }
-    0
+    lib_signature::level_of(f as u8)
 }
 
 pub fn level_at(ts: &[u64], at: usize) -> u64

@@ -11,6 +11,7 @@ use lib.Seq.{drop-cons}
 use lib.Dec.{eqb}
 use borrow.Author.Tests.{ne-eqb}
 use Rattle.lib_base.specs.Basics.{pick, All}
+use Rattle.lib_signature.specs.Signature.{notFn, ifFn}
 use Rattle.spec_language.specs.Syntax.{Expr}
 use Rattle.spec_language.specs.Refusals.{noFormula}
 use Rattle.text_formula.specs.Tokens.{Token, number, behaviour, function, opening, closing, comma}
@@ -86,7 +87,7 @@ even-derived (tighter d) n rest h = even-derived d n rest h
 even-derived (two-sided {l} {f} {ts} {us} o p q) n rest h =
     ap (evenFrom n) (append-assoc ts (function f ∷ us) rest)
     ∙ even-derived p n (function f ∷ (us ++ rest)) h ∙ step n (function f) (us ++ rest) h ∙ even-derived q n rest h
-even-derived (negated {ts} d) n rest h = step n (function 3) (ts ++ rest) h ∙ even-derived d n rest h
+even-derived (negated {ts} d) n rest h = step n (function notFn) (ts ++ rest) h ∙ even-derived d n rest h
 even-derived (a-number {n}) b rest h = step b (number n) rest h
 even-derived (a-name {i}) n rest h = step n (behaviour i) rest h
 even-derived (bracketed {ts} d) n rest h =
@@ -95,7 +96,7 @@ even-derived (bracketed {ts} d) n rest h =
 even-derived (choice {ts} {us} {vs} p q r) n rest h =
     let k : List Token = vs ++ (closing ∷ []) in
     let j : List Token = us ++ (comma ∷ k) in
-    step n (function 14) (opening ∷ ((ts ++ (comma ∷ j)) ++ rest)) h ∙ step n opening ((ts ++ (comma ∷ j)) ++ rest) h
+    step n (function ifFn) (opening ∷ ((ts ++ (comma ∷ j)) ++ rest)) h ∙ step n opening ((ts ++ (comma ∷ j)) ++ rest) h
     ∙ ap (evenFrom (n + 1)) (append-assoc ts (comma ∷ j) rest)
     ∙ even-derived p (n + 1) (comma ∷ (j ++ rest)) (omega arith) ∙ step (n + 1) comma (j ++ rest) (omega arith)
     ∙ ap (evenFrom (n + 1)) (append-assoc us (comma ∷ k) rest)

@@ -7,6 +7,7 @@ use crate::engine::{self, Answer, Arrival, Behaviour, Call, Expr, Instr, Model, 
 use crate::limits::{active, app, con, event, field, handler, name, param, passive};
 use crate::make::{self, Rng};
 use crate::pool;
+use crate::signature::{arity, LAST};
 
 /// The right-hand side of a lemma.
 #[derive(Clone)]
@@ -227,7 +228,7 @@ impl Page {
 
     /// A function on words that are often equal, neighbours or at an end of the range.
     fn functions(&mut self, r: &mut Rng) {
-        let f = 1 + r.below(14) as u8;
+        let f = 1 + r.below(LAST as usize) as u8;
         let first = make::constant(r);
         let near = |r: &mut Rng| match r.below(4) {
             0 => first,
@@ -236,7 +237,7 @@ impl Page {
             _ => make::constant(r),
         };
         let mut a = [first, near(r), near(r)];
-        a[engine::arity(f)..].fill(0);
+        a[arity(f)..].fill(0);
         let on = format!("{f} {} {} {}", word(a[0]), word(a[1]), word(a[2]));
         self.number("functions", format!("result {on}"), word(engine::apply(f, &a)));
         self.truth("marks", format!("over {on}"), engine::over(f, &a));

@@ -2,6 +2,7 @@
 //! and the model engine. It shares nothing with the proved engine and is as simple as possible; speed does not matter
 //! here.
 
+use crate::signature::*;
 use std::cell::{Cell, RefCell};
 
 #[derive(Clone, Debug, PartialEq)]
@@ -37,14 +38,6 @@ pub struct Sheet {
 
 // ---- arithmetic
 
-pub fn arity(f: u8) -> usize {
-    match f {
-        3 => 1,
-        14 => 3,
-        _ => 2,
-    }
-}
-
 /// The quotient, one less where a fraction was dropped from a negative one; 0 by zero.
 fn floor(n: i64, d: i64) -> i64 {
     if d == 0 {
@@ -60,20 +53,20 @@ fn floor(n: i64, d: i64) -> i64 {
 pub fn apply(f: u8, a: &[i32]) -> i32 {
     let t = |b: bool| if b { 1 } else { 0 };
     match f {
-        1 => t(a[0] != 0 || a[1] != 0),
-        2 => t(a[0] != 0 && a[1] != 0),
-        3 => t(a[0] == 0),
-        4 => (a[0] as i64 + a[1] as i64) as i32,
-        5 => (a[0] as i64 - a[1] as i64) as i32,
-        6 => (a[0] as i64 * a[1] as i64) as i32,
-        7 => floor(a[0] as i64, a[1] as i64) as i32,
-        8 => t(a[0] > a[1]),
-        9 => t(a[0] >= a[1]),
-        10 => t(a[0] < a[1]),
-        11 => t(a[0] <= a[1]),
-        12 => t(a[0] == a[1]),
-        13 => t(a[0] != a[1]),
-        14 => {
+        OR => t(a[0] != 0 || a[1] != 0),
+        AND => t(a[0] != 0 && a[1] != 0),
+        NOT => t(a[0] == 0),
+        ADD => (a[0] as i64 + a[1] as i64) as i32,
+        SUBTRACT => (a[0] as i64 - a[1] as i64) as i32,
+        MULTIPLY => (a[0] as i64 * a[1] as i64) as i32,
+        DIVIDE => floor(a[0] as i64, a[1] as i64) as i32,
+        ABOVE => t(a[0] > a[1]),
+        AT_LEAST => t(a[0] >= a[1]),
+        BELOW => t(a[0] < a[1]),
+        AT_MOST => t(a[0] <= a[1]),
+        EQUAL => t(a[0] == a[1]),
+        UNEQUAL => t(a[0] != a[1]),
+        IF => {
             if a[0] != 0 {
                 a[1]
             } else {
@@ -87,11 +80,11 @@ pub fn apply(f: u8, a: &[i32]) -> i32 {
 /// Document 02, M-104: the exact whole-number result is not the 32-bit one, or the divisor is zero.
 pub fn over(f: u8, a: &[i32]) -> bool {
     let exact = match f {
-        4 => a[0] as i64 + a[1] as i64,
-        5 => a[0] as i64 - a[1] as i64,
-        6 => a[0] as i64 * a[1] as i64,
-        7 if a[1] == 0 => return true,
-        7 => floor(a[0] as i64, a[1] as i64),
+        ADD => a[0] as i64 + a[1] as i64,
+        SUBTRACT => a[0] as i64 - a[1] as i64,
+        MULTIPLY => a[0] as i64 * a[1] as i64,
+        DIVIDE if a[1] == 0 => return true,
+        DIVIDE => floor(a[0] as i64, a[1] as i64),
         _ => return false,
     };
     i32::try_from(exact).is_err()
@@ -135,7 +128,7 @@ fn expr(s: &[u8], nesting: usize) -> Result<(Expr, &[u8]), u32> {
             if v.is_empty() {
                 return Err(6);
             }
-            if v[0] < 1 || v[0] > 14 {
+            if v[0] < 1 || v[0] > LAST {
                 return Err(8);
             }
             let mut args = Vec::new();
@@ -713,9 +706,9 @@ impl Sheet {
         let without = |e: &Expr| !self.names_it(e, b);
         match e {
             Expr::Name(i) => *i == b,
-            Expr::App(4, x) => self.adds(b, &x[0]) && without(&x[1]) || self.adds(b, &x[1]) && without(&x[0]),
-            Expr::App(5, x) => self.adds(b, &x[0]) && without(&x[1]),
-            Expr::App(14, x) => without(&x[0]) && self.adds(b, &x[1]) && self.adds(b, &x[2]),
+            Expr::App(ADD, x) => self.adds(b, &x[0]) && without(&x[1]) || self.adds(b, &x[1]) && without(&x[0]),
+            Expr::App(SUBTRACT, x) => self.adds(b, &x[0]) && without(&x[1]),
+            Expr::App(IF, x) => without(&x[0]) && self.adds(b, &x[1]) && self.adds(b, &x[2]),
             _ => false,
         }
     }

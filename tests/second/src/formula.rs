@@ -1,10 +1,10 @@
 //! Formulas: a plain reader written from the request, held against the proved one on texts made at random, whole and
 //! damaged, and on both sides of each limit.
 use crate::compare::Guarded;
-use crate::engine::arity;
 use crate::limits::{app, con, name};
 use crate::make::Rng;
 use crate::proved;
+use crate::signature::{arity, of, operators, FUNCTIONS, IF, LAST, LOOSEST, NOT};
 
 const TEXT: usize = 1024;
 
@@ -39,16 +39,6 @@ impl Tree {
         }
     }
 }
-
-/// The levels from `||` to `* /`, each operator with its function number; those of two bytes first.
-const LEVELS: [&[(&str, u8)]; 6] = [
-    &[("||", 1)],
-    &[("&&", 2)],
-    &[("==", 12), ("!=", 13)],
-    &[(">=", 9), ("<=", 11), (">", 8), ("<", 10)],
-    &[("+", 4), ("-", 5)],
-    &[("*", 6), ("/", 7)],
-];
 
 struct Reader<'a> {
     text: &'a [u8],
@@ -87,22 +77,22 @@ impl Reader<'_> {
         // `!=` is one token, so it is no `!` and a stray `=`
         self.spaces();
         if !self.text[self.at..].starts_with(b"!=") && self.take("!") {
-            return Some(Tree::App(3, vec![self.primary()?]));
+            return Some(Tree::App(NOT, vec![self.primary()?]));
         }
         if self.take("(") {
-            let e = self.level(0)?;
+            let e = self.level(LOOSEST)?;
             self.due(")")?;
             return Some(e);
         }
         if self.take("if") {
             self.due("(")?;
-            let a = self.level(0)?;
+            let a = self.level(LOOSEST)?;
             self.due(",")?;
-            let b = self.level(0)?;
+            let b = self.level(LOOSEST)?;
             self.due(",")?;
-            let c = self.level(0)?;
+            let c = self.level(LOOSEST)?;
             self.due(")")?;
-            return Some(Tree::App(14, vec![a, b, c]));
+            return Some(Tree::App(IF, vec![a, b, c]));
         }
         if self.take("b") {
             let d = self.digits();
@@ -116,12 +106,12 @@ impl Reader<'_> {
     }
 
     fn level(&mut self, l: usize) -> Option<Tree> {
-        if l == LEVELS.len() {
+        if l == 0 {
             return self.primary();
         }
-        let mut e = self.level(l + 1)?;
-        while let Some((_, f)) = LEVELS[l].iter().find(|(word, _)| self.take(word)) {
-            e = Tree::App(*f, vec![e, self.level(l + 1)?]);
+        let mut e = self.level(l - 1)?;
+        while let Some(f) = operators(l).find(|f| self.take(f.text)) {
+            e = Tree::App(f.number, vec![e, self.level(l - 1)?]);
         }
         Some(e)
     }
@@ -133,7 +123,7 @@ pub fn plain(text: &[u8], room: usize) -> Result<Vec<u8>, u64> {
         return Err(21);
     }
     let mut r = Reader { text, at: 0 };
-    let tree = r.level(0).ok_or(21u64)?;
+    let tree = r.level(LOOSEST).ok_or(21u64)?;
     r.spaces();
     if r.at < text.len() {
         return Err(21);
@@ -195,7 +185,7 @@ pub fn text(r: &mut Rng, depth: usize, out: &mut String) {
             _ => *out += &format!("b{}", r.below(64)),
         }
     } else {
-        let f = 1 + r.below(14) as u8;
+        let f = 1 + r.below(LAST as usize) as u8;
         match arity(f) {
             1 => {
                 out.push('!');
@@ -212,7 +202,7 @@ pub fn text(r: &mut Rng, depth: usize, out: &mut String) {
             }
             _ => {
                 text(r, depth - 1, out);
-                *out += LEVELS.concat().iter().find(|(_, g)| *g == f).unwrap().0;
+                *out += of(f).text;
                 text(r, depth - 1, out);
             }
         }
@@ -253,10 +243,9 @@ pub fn one(seed: u64, tally: &mut [usize; 32]) {
             3 | 4 => damaged(r, whole.into_bytes()),
             _ => (0..1 + r.below(12))
                 .map(|_| {
-                    [
-                        "||", "&&", "!", "+", "-", "*", "/", ">", ">=", "<", "<=", "==", "!=", "if", "(", ")", ",",
-                        "b7", "12", " ", "=",
-                    ][r.below(21)]
+                    let other = ["(", ")", ",", "b7", "12", " ", "="];
+                    let i = r.below(FUNCTIONS.len() + other.len());
+                    FUNCTIONS.get(i).map_or_else(|| other[i - FUNCTIONS.len()], |f| f.text)
                 })
                 .collect::<String>()
                 .into_bytes(),

@@ -37,6 +37,7 @@ mod pool;
 mod proved;
 mod record;
 mod rounds;
+mod signature;
 mod text;
 mod types;
 mod waits;

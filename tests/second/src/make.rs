@@ -1,5 +1,6 @@
 //! Sheets and lists of calls, made at random from a seed.
-use crate::engine::{arity, Behaviour, Call, Expr, Handler, Sheet};
+use crate::engine::{Behaviour, Call, Expr, Handler, Sheet};
+use crate::signature::{arity, LAST};
 
 /// xorshift64*: the same numbers on every machine.
 pub struct Rng(u64);
@@ -55,7 +56,7 @@ fn expr(r: &mut Rng, w: &Within) -> Expr {
             Expr::Name(w.names[r.below(w.names.len())])
         }
     } else {
-        let f = 1 + r.below(14) as u8;
+        let f = 1 + r.below(LAST as usize) as u8;
         let inner = Within { depth: w.depth - 1, ..*w };
         Expr::App(f, (0..arity(f)).map(|_| expr(r, &inner)).collect())
     }

@@ -9,6 +9,7 @@ use crate::edges;
 use crate::formula;
 use crate::make::{self, Rng};
 use crate::proved::{self, TABLE};
+use crate::signature::FUNCTIONS;
 
 #[derive(Default)]
 pub struct Tally {
@@ -218,8 +219,8 @@ fn any(text: &[u8], tally: &mut Tally) {
     }
 }
 
-/// What texts are made of, and a little more.
-const PIECES: [&str; 48] = [
+/// What texts are made of beside the functions, and a little more.
+const PIECES: [&str; 34] = [
     "param ",
     "event ",
     "rank ",
@@ -232,20 +233,6 @@ const PIECES: [&str; 48] = [
     "nobody ",
     "on ",
     "later ",
-    "if",
-    "||",
-    "&&",
-    "!",
-    "+",
-    "-",
-    "*",
-    "/",
-    ">",
-    ">=",
-    "<",
-    "<=",
-    "==",
-    "!=",
     "(",
     ")",
     ",",
@@ -270,6 +257,11 @@ const PIECES: [&str; 48] = [
     "!!!!!!!!",
 ];
 
+fn piece(r: &mut Rng) -> &'static str {
+    let i = r.below(PIECES.len() + FUNCTIONS.len());
+    PIECES.get(i).copied().unwrap_or_else(|| FUNCTIONS[i - PIECES.len()].text)
+}
+
 /// A byte changed, left out or doubled.
 fn scratched(r: &mut Rng, text: &str) -> Vec<u8> {
     let mut bytes = text.as_bytes().to_vec();
@@ -291,7 +283,7 @@ fn damaged(r: &mut Rng, text: &str) -> Vec<u8> {
     let mut pieces: Vec<&str> = pieces_of(text);
     for _ in 0..1 + r.below(3) {
         let at = r.below(pieces.len() + 1);
-        let new = PIECES[r.below(PIECES.len())];
+        let new = piece(r);
         match r.below(5) {
             0 if at < pieces.len() => pieces[at] = new,
             1 if at < pieces.len() => drop(pieces.remove(at)),
@@ -456,7 +448,7 @@ fn one(seed: u64, tally: &mut Tally) {
         }
     }
     let pieces = 1 + r.below(30);
-    let text: String = (0..pieces).map(|_| PIECES[r.below(PIECES.len())]).collect();
+    let text: String = (0..pieces).map(|_| piece(r)).collect();
     any(text.as_bytes(), tally);
     formulas(r, tally);
 }

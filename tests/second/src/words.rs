@@ -1,6 +1,7 @@
 //! The calls on any bytes, as plain as can be: the layout of docs and the scope's list of what is foreign. What a call
 //! on damaged bytes must answer and leave.
-use crate::engine::{apply, arity, over, Call};
+use crate::engine::{apply, over, Call};
+use crate::signature::{arity, LAST};
 
 pub fn get(b: &[u8], k: usize) -> u32 {
     u32::from_be_bytes([b[4 * k], b[4 * k + 1], b[4 * k + 2], b[4 * k + 3]])
@@ -102,7 +103,7 @@ fn execute(l: &mut [u8], op: u32, slot: usize, w: u32) -> Option<()> {
         5 => push(l, w),
         6 => push(l, get(l, 136 + slot)),
         7 => push(l, get(l, 200 + slot)),
-        8 if (1..=14).contains(&slot) && arity(slot as u8) <= d => {
+        8 if (1..=LAST as usize).contains(&slot) && arity(slot as u8) <= d => {
             let n = arity(slot as u8);
             let args: Vec<i32> = (0..n).map(|k| get(l, 328 + d - n + k) as i32).collect();
             if over(slot as u8, &args) {

@@ -1,5 +1,5 @@
 //! A sheet's bytes to its declarations, with 01's and 02's numbers for what is turned down on the way, and back.
-use crate::tree::{arity, Active, Behaviour, Body, Event, Expr, Handler, Sheet, IF};
+use crate::tree::{arity, Active, Behaviour, Body, Event, Expr, Handler, Sheet, LAST};
 use crate::{BEHAVIOURS, CELLS, EVENTS, NESTING, PARAMS, RANK, SHEET};
 
 // tags
@@ -76,7 +76,7 @@ fn expr(bytes: &[u8], nesting: usize) -> Result<(Expr, &[u8]), u32> {
 
 fn application(value: &[u8], nesting: usize) -> Result<Expr, u32> {
     let [function, rest @ ..] = value else { return Err(WRONG_LENGTH) };
-    if !(1..=IF).contains(function) {
+    if !(1..=LAST).contains(function) {
         return Err(OFF_THE_SCALE);
     }
     let mut rest = rest;

@@ -1,6 +1,6 @@
 //! Tokens, one after the other. A token is as long as it can be.
 use crate::fault::Place;
-use crate::tree::TWO_SIDED;
+use crate::tree::every_two_sided;
 use crate::NAME;
 
 /// The reserved words.
@@ -121,8 +121,9 @@ impl<'a> Scanner<'a> {
     fn symbol(&mut self) -> Token<'a> {
         let rest = &self.text[self.at..];
         let fits = |length: usize| {
-            let found = TWO_SIDED.iter().find(|(_, text, _)| text.len() == length && rest.starts_with(text.as_bytes()));
-            found.map(|(function, ..)| (Token::TwoSided(*function), length))
+            let mut all = every_two_sided();
+            let found = all.find(|(_, text, _)| text.len() == length && rest.starts_with(text.as_bytes()));
+            found.map(|(function, ..)| (Token::TwoSided(function), length))
         };
         let one = || match rest[0] {
             b'!' => (Token::Not, 1),

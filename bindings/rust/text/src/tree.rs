@@ -67,7 +67,7 @@ pub enum Expr {
     Name(usize),
     /// A parameter, by its number.
     Param(usize),
-    /// A function, 1 to 14, and its arguments.
+    /// A function, 1 to the last, and its arguments.
     Apply(u8, Vec<Expr>),
 }
 
@@ -76,34 +76,41 @@ pub(crate) const NOT: u8 = 3;
 pub(crate) const MINUS: u8 = 5;
 pub(crate) const IF: u8 = 14;
 
-/// The two-sided functions: number, text and level, 1 the tightest.
-pub(crate) const TWO_SIDED: [(u8, &str, u8); 12] = [
-    (1, "||", 6),
-    (2, "&&", 5),
-    (4, "+", 2),
-    (5, "-", 2),
-    (6, "*", 1),
-    (7, "/", 1),
-    (8, ">", 3),
-    (9, ">=", 3),
-    (10, "<", 3),
-    (11, "<=", 3),
-    (12, "==", 4),
-    (13, "!=", 4),
+/// The functions in the order of their numbers: number, text, how many arguments it takes, and the level of a two-sided
+/// one, 1 the tightest; 0 for another.
+const FUNCTIONS: [(u8, &str, usize, u8); 14] = [
+    (1, "||", 2, 6),
+    (2, "&&", 2, 5),
+    (NOT, "!", 1, 0),
+    (4, "+", 2, 2),
+    (MINUS, "-", 2, 2),
+    (6, "*", 2, 1),
+    (7, "/", 2, 1),
+    (8, ">", 2, 3),
+    (9, ">=", 2, 3),
+    (10, "<", 2, 3),
+    (11, "<=", 2, 3),
+    (12, "==", 2, 4),
+    (13, "!=", 2, 4),
+    (IF, "if", 3, 0),
 ];
+
+/// The last function.
+pub(crate) const LAST: u8 = FUNCTIONS.len() as u8;
+
+/// The two-sided functions: number, text and level.
+pub(crate) fn every_two_sided() -> impl Iterator<Item = (u8, &'static str, u8)> {
+    FUNCTIONS.into_iter().filter(|(.., level)| *level > 0).map(|(f, text, _, level)| (f, text, level))
+}
 
 /// A two-sided function's text and level.
 pub(crate) fn two_sided(function: u8) -> Option<(&'static str, u8)> {
-    TWO_SIDED.iter().find(|(f, ..)| *f == function).map(|(_, text, level)| (*text, *level))
+    every_two_sided().find(|(f, ..)| *f == function).map(|(_, text, level)| (text, level))
 }
 
 /// How many arguments a function takes.
 pub(crate) fn arity(function: u8) -> usize {
-    match function {
-        NOT => 1,
-        IF => 3,
-        _ => 2,
-    }
+    FUNCTIONS.iter().find(|(f, ..)| *f == function).map_or(0, |(_, _, arity, _)| *arity)
 }
 
 impl Behaviour {

@@ -11,7 +11,7 @@ use borrow.Fn.PlainCycle.{Measures, is, falls, and}
 use Rattle.front_field.proofs.read_expr.Reads as read-expr
 use Rattle.front_field.proofs.read_expr.Kinds as read-expr-kinds
 use Rattle.front_field.proofs.+read_expr.Lts-read_expr as read-expr-lts
-use Rattle.lib_functions.proofs.arity_of.Reads as arity-of-reads
+use Rattle.lib_signature.proofs.arity_of.Reads as arity-of-reads
 use Rattle.front_field.proofs.close_at.Reads as close-at-reads
 use Rattle.front_field.proofs.read_head.Reads as read-head-reads
 use Rattle.sheet_field.proofs.field_value.Reads as field-value-reads

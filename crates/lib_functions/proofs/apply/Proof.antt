@@ -6,6 +6,7 @@ use lib.Dec.{eqb}
 use lib.IntN.{pos}
 use borrow.Author.Tests.{ne-eqb}
 use Rattle.lib_base.proofs.Pick.{code}
+use Rattle.lib_signature.specs.Signature.{divideFn}
 use Rattle.lib_arith.specs.Exact.{signed}
 use Rattle.lib_arith.specs.Marked.{reported}
 use Rattle.lib_arith.specs.Functions.{truth, exact, result, over}
@@ -138,7 +139,7 @@ unfolding markedResult over result exact
 returns-15 c =
     let none : pos 0 ≡ exact (c .before .args .f) (signed (c .before .args .a)) (signed (c .before .args .b))
     (signed (c .before .args .c)) = search code depth 20 in
-    let no-quotient : eqb (c .before .args .f) 7 ≡ false = ne-eqb (c .before .args .f) 7 (search needs) in
+    let no-quotient : eqb (c .before .args .f) divideFn ≡ false = ne-eqb (c .before .args .f) divideFn (search needs) in
     rw (← none, no-quotient, beyond-pos 0)
 
 pub apply-spec : {M : Type 1} → statement M

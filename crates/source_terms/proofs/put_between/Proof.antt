@@ -1,4 +1,5 @@
 -- The tests are the definition's.
+use Rattle.lib_signature.specs.Signature.{ifFn, last}
 use Rattle.source_terms.proofs.Writing.{wrote-none}
 use borrow.Author.Tests.{eq-eqb, ne-eqb, lt-ltb, le-ltb}
 use borrow.Author.Needs.{needs}
@@ -14,19 +15,19 @@ same-length c = search needs
 returns : tie.Need-returns
 returns c =
     let at-put-sign = c .before .before in
-    rw (eq-eqb _ 14 (at-put-sign .before .before .if1 .taken)) (at-put-sign .put-sign .ensures)
+    rw (eq-eqb _ ifFn (at-put-sign .before .before .if1 .taken)) (at-put-sign .put-sign .ensures)
 
 returns-2 : tie.Need-returns-2
 returns-2 c =
     let at-if1 = c .before in
     let f = at-if1 .before .before .args .f in
-    rw (ne-eqb f 14 (at-if1 .if1 .left), eq-eqb f 0 (c .if2 .taken)) (wrote-none _ _ (at-if1 .before .before .pre))
+    rw (ne-eqb f ifFn (at-if1 .if1 .left), eq-eqb f 0 (c .if2 .taken)) (wrote-none _ _ (at-if1 .before .before .pre))
 
 returns-3 : tie.Need-returns-3
 returns-3 c =
     let at-if1 = c .before .before in
     let f = at-if1 .before .before .args .f in
-    rw (ne-eqb f 14 (at-if1 .if1 .left), ne-eqb f 0 (c .before .if2 .left), lt-ltb 14 f (c .if3 .taken)) (wrote-none _ _ (at-if1 .before .before .pre))
+    rw (ne-eqb f ifFn (at-if1 .if1 .left), ne-eqb f 0 (c .before .if2 .left), lt-ltb last f (c .if3 .taken)) (wrote-none _ _ (at-if1 .before .before .pre))
 
 put-function-requires : tie.Need-put-function-requires
 put-function-requires c κs = search needs
@@ -40,7 +41,7 @@ returns-4 c =
     let at-if3 = at-put-function .before .before in
     let at-if1 = at-if3 .before .before in
     let f = at-if1 .before .before .args .f in
-    rw (ne-eqb f 14 (at-if1 .if1 .left), ne-eqb f 0 (at-if3 .before .if2 .left), le-ltb 14 f (at-if3 .if3 .left)) (at-put-function .put-function .ensures)
+    rw (ne-eqb f ifFn (at-if1 .if1 .left), ne-eqb f 0 (at-if3 .before .if2 .left), le-ltb last f (at-if3 .if3 .left)) (at-put-function .put-function .ensures)
 
 pub put-between-spec : {M : Type 1} → statement M
 put-between-spec =

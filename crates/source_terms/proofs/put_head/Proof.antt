@@ -1,4 +1,5 @@
 -- The tests are the definition's.
+use Rattle.lib_signature.specs.Signature.{notFn, ifFn}
 use Rattle.source_terms.proofs.Writing.{wrote-on}
 use borrow.Author.Tests.{eq-eqb, ne-eqb}
 use borrow.Author.Needs.{needs}
@@ -15,7 +16,7 @@ returns : tie.Need-returns
 returns c =
     let at-put-function = c .before .before in
     let at-if1 = at-put-function .before .before in
-    rw (eq-eqb _ 3 (at-if1 .if1 .taken)) (at-put-function .put-function .ensures)
+    rw (eq-eqb _ notFn (at-if1 .if1 .taken)) (at-put-function .put-function .ensures)
 
 put-function-requires-2 : tie.Need-put-function-requires-2
 put-function-requires-2 c κs = search needs
@@ -33,7 +34,7 @@ returns-2 c =
     let at-if2 = at-put-function2 .before .before in
     let at-if1 = at-if2 .before in
     let f = at-if1 .before .before .args .f in
-    rw (ne-eqb f 3 (at-if1 .if1 .left), eq-eqb f 14 (at-if2 .if2 .taken)) (wrote-on (at-put-function2 .put-function2 .ensures) (at-put-sign .put-sign .ensures))
+    rw (ne-eqb f notFn (at-if1 .if1 .left), eq-eqb f ifFn (at-if2 .if2 .taken)) (wrote-on (at-put-function2 .put-function2 .ensures) (at-put-sign .put-sign .ensures))
 
 put-unless-requires : tie.Need-put-unless-requires
 put-unless-requires c κs = search needs
@@ -47,7 +48,7 @@ returns-3 c =
     let at-if2 = at-put-unless .before .before in
     let at-if1 = at-if2 .before in
     let f = at-if1 .before .before .args .f in
-    rw (ne-eqb f 3 (at-if1 .if1 .left), ne-eqb f 14 (at-if2 .if2 .left)) (at-put-unless .put-unless .ensures)
+    rw (ne-eqb f notFn (at-if1 .if1 .left), ne-eqb f ifFn (at-if2 .if2 .left)) (at-put-unless .put-unless .ensures)
 
 pub put-head-spec : {M : Type 1} → statement M
 put-head-spec =

@@ -3,6 +3,7 @@ use native.Mathlib.Omega.{arith}
 use borrow.Author.Needs.{needs}
 use borrow.Author.Tests.{ne-eqb}
 use Rattle.lib_base.proofs.Pick.{code}
+use Rattle.lib_signature.specs.Signature.{ifFn}
 use Rattle.source_terms.proofs.second_level.Statement.{statement}
 use Rattle.source_terms.proofs.second_level.Tie as tie
 
@@ -12,6 +13,6 @@ second-level-spec =
     (tie.spec
     (λ c. search code depth 12)
     (λ c κs. search needs)
-    (λ c. let at-if1 = c .before .before in rw (ne-eqb _ 14 (at-if1 .if1 .left), ← c .before .level-of .ensures) (omega arith))
+    (λ c. let at-if1 = c .before .before in rw (ne-eqb _ ifFn (at-if1 .if1 .left), ← c .before .level-of .ensures) (omega arith))
     (λ c. search needs)
     (λ c. rw (← c .before .level-of .ensures) (search code depth 12)))

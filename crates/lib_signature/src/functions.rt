@@ -1,4 +1,4 @@
-// The numbers of the functions, for the code. 01 "Functions 1 to 14".
+// The functions' numbers, and the last of them. 01 "Functions 1 to 14".
 pub const OR: u8 = 1;
 
 pub const AND: u8 = 2;
@@ -26,5 +26,5 @@ pub const EQUAL: u8 = 12;
 pub const UNEQUAL: u8 = 13;
 
 pub const IF: u8 = 14;
-// How much more than its word an application answers that ran over (02, M-104): 2 ^ 32.
-pub const OVER: u64 = 4294967296;
+
+pub const LAST: u8 = IF;

@@ -1,5 +1,5 @@
-// The precedence levels of two-sided operators, the tightest first, for the code (specs/Grammar.antt). Level 0 is `!`
-// and the primaries.
+// The precedence levels of two-sided operators, the tightest first, for the code. Level 0 is `!` and the
+// primaries.
 pub const PRODUCT: u64 = 1;
 
 pub const SUM: u64 = 2;
