@@ -1,6 +1,7 @@
 -- The grammar as an encoding of sheets, and the limits that one field can show, of a sheet and of the program that it
 -- means. 01 "The sheet"; 02, M-103, M-107, M-110.
 use Prim.Native.Nat.{ℕ, suc, _/_, _%_, _≤_, _<_, _^_}
+use mathlib.Core.Path.{_≡_}
 use mathlib.Core.Logic.{_≢_}
 use mathlib.Core.Option.{Option, none, some}
 use mathlib.Core.List.{List, [], _∷_, _++_}
