@@ -11,7 +11,7 @@ use lib.IntN.{ℤ, pos, negsuc}
 use borrow.Author.Tests.{ltb-true, ltb-false, lt-ltb, le-ltb, eq-eqb}
 use Rattle.lib_base.specs.Basics.{pick}
 use Rattle.lib_base.proofs.Tools.{by-test, split}
-use Rattle.lib_signature.specs.Signature.{addFn, subtractFn, ifFn}
+use Rattle.lib_signature.specs.Numbers.{addFn, subtractFn, ifFn}
 use Rattle.lib_arith.specs.Exact.{signed, wrapped}
 use Rattle.lib_arith.specs.Functions.{isTrue, exact, result}
 use Rattle.lib_arith.proofs.ArithLaws.{wrapped-signed}

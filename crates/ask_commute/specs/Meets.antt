@@ -6,7 +6,6 @@ use mathlib.Core.Bool.{true}
 use mathlib.Core.Path.{_≡_}
 use mathlib.Core.Logic.{_≢_, _⊎_}
 use lib.ListN.{getD}
-use Rattle.lib_signature.specs.Signature.{ifFn, addFn, subtractFn}
 use Rattle.spec_language.specs.Syntax.{Expr, name, app2, app3, passive, Program}
 use Rattle.spec_language.specs.Dependence.{Response, follows, takes, defers, keeps, events, behaviourAt, response, mentions, Reach, writes}
 use Rattle.secrecy_model.specs.Sight.{names}
@@ -34,10 +33,10 @@ ReadsAt p e i j = (writes p e i ≡ true) × ((k : ℕ) × (inResponse k (respon
 -- through passives."
 pub data Adds (p : Program) (b : ℕ) : Expr → Type 0 where
   bare : Adds p b (name b)
-  plus : {x y : Expr} → Adds p b x → (Refers p y b → ⊥) → Adds p b (app2 addFn x y)
-  minus : {x y : Expr} → Adds p b x → (Refers p y b → ⊥) → Adds p b (app2 subtractFn x y)
-  added-to : {x y : Expr} → (Refers p x b → ⊥) → Adds p b y → Adds p b (app2 addFn x y)
-  either-way : {c x y : Expr} → (Refers p c b → ⊥) → Adds p b x → Adds p b y → Adds p b (app3 ifFn c x y)
+  plus : {x y : Expr} → Adds p b x → (Refers p y b → ⊥) → Adds p b (app2 4 x y)
+  minus : {x y : Expr} → Adds p b x → (Refers p y b → ⊥) → Adds p b (app2 5 x y)
+  added-to : {x y : Expr} → (Refers p x b → ⊥) → Adds p b y → Adds p b (app2 4 x y)
+  either-way : {c x y : Expr} → (Refers p c b → ⊥) → Adds p b x → Adds p b y → Adds p b (app3 14 c x y)
 
 abbrev pub AddsIn : Program → ℕ → Response → Type 0
 AddsIn p b (follows x) = ⊥

@@ -9,7 +9,7 @@ use lib.Dec.{eqb}
 use borrow.Author.Tests.{eq-eqb, eqb-true, eqb-false}
 use Rattle.lib_base.specs.Basics.{pick, All}
 use Rattle.lib_base.proofs.Tools.{by-test, split, or-either}
-use Rattle.lib_signature.specs.Signature.{ifFn, addFn, subtractFn}
+use Rattle.lib_signature.specs.Numbers.{ifFn, addFn, subtractFn}
 use Rattle.spec_language.specs.Syntax.{Expr, con, name, app1, app2, app3, Program}
 use Rattle.spec_language.specs.Dependence.{Response, follows, takes, defers, keeps, size, events, response, mentions, written}
 use Rattle.spec_language.specs.Grammar.{Arity, unary, ternary, binary}

@@ -12,7 +12,8 @@ use lib.Seq.{getD-drop, take-suc}
 use borrow.Author.Tests.{eq-eqb, ne-eqb}
 use Rattle.lib_base.specs.Basics.{pick}
 use Rattle.lib_base.proofs.Tools.{by-test}
-use Rattle.lib_signature.specs.Signature.{notFn, ifFn, last, addFn, subtractFn}
+use Rattle.lib_signature.specs.Numbers.{notFn, ifFn, addFn, subtractFn}
+use Rattle.lib_signature.specs.Signature.{last}
 use Rattle.lib_signature.proofs.Laws.{two-is}
 use Rattle.spec_language.specs.Syntax.{Expr, con, name, app1, app2, app3, Program}
 use Rattle.spec_language.specs.Grammar.{Arity, unary, ternary, binary}

@@ -7,7 +7,7 @@ use mathlib.Core.List.{List}
 use lib.ListN.{getD}
 use lib.Dec.{eqb}
 use Rattle.lib_base.specs.Basics.{pick}
-use Rattle.lib_signature.specs.Signature.{notFn, ifFn, addFn, subtractFn}
+use Rattle.lib_signature.specs.Numbers.{notFn, ifFn, addFn, subtractFn}
 use Rattle.spec_language.specs.Syntax.{Expr, con, name, app1, app2, app3, Program}
 use Rattle.spec_language.specs.Dependence.{Response, follows, takes, defers, keeps, response}
 use Rattle.draft_form.specs.Entry.{nodeTag, nodeWord}

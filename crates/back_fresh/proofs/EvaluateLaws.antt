@@ -3,7 +3,8 @@ use Prim.Native.Nat.{ℕ, _<_}
 use native.Mathlib.Omega.{arith}
 use lib.Dec.{eqb}
 use Rattle.lib_base.proofs.Tools.{by-test}
-use Rattle.lib_signature.specs.Signature.{arity, notFn, ifFn}
+use Rattle.lib_signature.specs.Signature.{arity}
+use Rattle.lib_signature.specs.Numbers.{notFn, ifFn}
 
 pub arity-some : (f : ℕ) → 0 < arity f
 unfolding arity

@@ -13,7 +13,8 @@ use Rattle.lib_base.specs.Basics.{pick}
 use Rattle.lib_base.proofs.Tools.{by-test, split}
 use Rattle.lib_word.specs.Word.{getAt, get, put}
 use Rattle.lib_word.proofs.Laws.{length-put, get-same, get-other}
-use Rattle.lib_signature.specs.Signature.{arity, notFn, ifFn}
+use Rattle.lib_signature.specs.Signature.{arity}
+use Rattle.lib_signature.specs.Numbers.{notFn, ifFn}
 use Rattle.lib_arith.specs.Functions.{result, over}
 use Rattle.spec_language.specs.Refusals.{foreign}
 use Rattle.format_layout.specs.Layout.{passivesStart, passivesLength}

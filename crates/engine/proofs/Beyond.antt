@@ -14,7 +14,7 @@ use borrow.Author.Tests.{ltb-false, leb-false, le-leb, eqb-false}
 use Rattle.lib_base.specs.Basics.{All}
 use Rattle.lib_base.proofs.Tools.{by-test}
 use Rattle.lib_word.proofs.Laws.{long}
-use Rattle.lib_signature.specs.Signature.{notFn, ifFn}
+use Rattle.lib_signature.specs.Numbers.{notFn, ifFn}
 use Rattle.spec_language.specs.Rights.{may}
 use Rattle.spec_semantics.proofs.Lengths.{length-fresh}
 use Rattle.spec_model.specs.Model.{Call, arrive, step, board}

@@ -10,7 +10,9 @@ use borrow.Author.Tests.{ltb-true, ne-eqb}
 use Rattle.lib_base.specs.Basics.{pick, All}
 use Rattle.lib_base.proofs.Tools.{through}
 use Rattle.lib_word.specs.Word.{get}
-use Rattle.lib_signature.specs.Signature.{arity, ifFn}
+use Rattle.lib_signature.specs.Signature.{arity}
+use Rattle.lib_signature.specs.Numbers.{ifFn, addFn}
+use Rattle.lib_signature.proofs.Laws.{is-two}
 use Rattle.lib_arith.specs.Exact.{beyond}
 use Rattle.lib_arith.specs.Functions.{exact, result, over}
 use Rattle.spec_language.specs.Sheet.{Sheet, cellCount, entriesOut, fillTerm, fillClauses, fillEntries, fill, paramsOf, paramsOfClauses, paramsOfEntries}
@@ -72,7 +74,7 @@ fits = record {
   scale = ((omega arith, tt), ((omega arith, tt), tt));
   each = (
     ((omega arith, (omega arith, t-literal {w = 1} (omega arith), tt, tt)), tt),
-    (((omega arith, (omega arith, t-apply3 ternary (t-variable {i = 0} (omega arith)) (t-variable {i = 1} (omega arith)) (t-apply2 (binary {f = 4} (omega arith) (omega arith) (omega arith)) (t-variable {i = 1} (omega arith)) (t-literal {w = 10} (omega arith))), tt, tt)), tt), tt),
+    (((omega arith, (omega arith, t-apply3 ternary (t-variable {i = 0} (omega arith)) (t-variable {i = 1} (omega arith)) (t-apply2 (binary {f = addFn} (omega arith) (omega arith) (is-two addFn (omega arith) (omega arith))) (t-variable {i = 1} (omega arith)) (t-literal {w = 10} (omega arith))), tt, tt)), tt), tt),
   );
   few-bytes = omega (arith, bytes-are);
 }
@@ -83,7 +85,7 @@ names-known = refl
 
 -- the hit's points need b0, and nothing else needs anything
 abbrev points : Expr
-points = app3 ifFn (name 0) (name 1) (app2 4 (name 1) (con 10))
+points = app3 ifFn (name 0) (name 1) (app2 addFn (name 1) (con 10))
 
 over-needs : (b : Bool) (j : ℕ) → needs 0 j (elim b [ true ↦ takes (con 1) | false ↦ keeps ]) ≡ true → ⊥
 unfolding mentions

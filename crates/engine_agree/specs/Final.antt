@@ -8,7 +8,6 @@ use mathlib.Core.Path.{_≡_}
 use mathlib.Core.List.{List, [], _∷_, _++_, map}
 use lib.ListN.{length, replicate}
 use Rattle.lib_word.specs.Word.{get}
-use Rattle.lib_signature.specs.Signature.{ifFn}
 use Rattle.spec_language.specs.Syntax.{Program, immediate}
 use Rattle.spec_language.specs.Sheet.{literal, variable, apply2, apply3, clause, state, Sheet}
 use Rattle.spec_language.specs.Reading.{entry, signal, sheet}
@@ -26,7 +25,7 @@ abbrev pub final : Sheet
 final = sheet
     (signal 2 none ∷ signal 9 none ∷ [])
     (entry (state 0 (clause 1 immediate (literal 1) ∷ [])) none
-    ∷ entry (state 0 (clause 0 immediate (apply3 ifFn (variable 0) (variable 1) (apply2 4 (variable 1) (literal 10))) ∷ [])) none
+    ∷ entry (state 0 (clause 0 immediate (apply3 14 (variable 0) (variable 1) (apply2 4 (variable 1) (literal 10))) ∷ [])) none
     ∷ [])
 
 abbrev pub finalBytes : List ℕ

@@ -12,7 +12,8 @@ use borrow.Author.Tests.{eqb-true}
 use Rattle.lib_base.specs.Basics.{pick}
 use Rattle.lib_base.proofs.Tools.{split, by-two}
 use Rattle.lib_word.specs.Word.{getAt}
-use Rattle.lib_signature.specs.Signature.{arity, notFn, ifFn, last}
+use Rattle.lib_signature.specs.Signature.{arity, last}
+use Rattle.lib_signature.specs.Numbers.{notFn, ifFn}
 use Rattle.spec_language.specs.Syntax.{Expr}
 use Rattle.spec_language.specs.Sheet.{Term, literal, variable, param, apply1, apply2, apply3, fillTerm}
 use Rattle.spec_language.specs.Code.{sizeOf}

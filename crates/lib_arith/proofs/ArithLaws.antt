@@ -10,11 +10,10 @@ use lib.IntN.{ℤ, pos, negsuc}
 use lib.Signed.{ltZ}
 use borrow.Author.Tests.{ltb-true, ltb-false, lt-ltb, le-ltb, eq-eqb, ne-eqb}
 use Rattle.lib_base.proofs.Tools.{by-test, split}
-use Rattle.lib_signature.specs.Signature.{notFn, ifFn, orFn, andFn, addFn, subtractFn, multiplyFn, divideFn, aboveFn, atLeastFn, belowFn, atMostFn, equalFn, unequalFn}
+use Rattle.lib_signature.specs.Numbers.{notFn, ifFn, orFn, andFn, addFn, subtractFn, multiplyFn, divideFn, aboveFn, atLeastFn, belowFn, atMostFn, equalFn, unequalFn}
 use Rattle.lib_arith.specs.Exact.{signed, wrapped, beyond}
-use Rattle.lib_arith.specs.Marked.{packed}
+use Rattle.lib_arith.specs.Marked.{packed, markedResult}
 use Rattle.lib_arith.specs.Functions.{isTrue, truth, exact, result, over}
-use Rattle.lib_arith.specs.Marked.{markedResult}
 
 -- a word stands for a number whose word it is
 pub wrapped-signed : (a : ℕ) → a < 2 ^ 32 → wrapped (signed a) ≡ a

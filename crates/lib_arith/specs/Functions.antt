@@ -6,7 +6,6 @@ use lib.Dec.{eqb}
 use lib.IntN.{ℤ, pos, negsuc, negℤ, _+ℤ_, _-ℤ_, _*ℤ_}
 use lib.Signed.{ltZ}
 use Rattle.lib_base.specs.Basics.{pick}
-use Rattle.lib_signature.specs.Signature.{orFn, andFn, notFn, addFn, subtractFn, multiplyFn, divideFn, aboveFn, atLeastFn, belowFn, atMostFn, equalFn, unequalFn, ifFn}
 use Rattle.lib_arith.specs.Exact.{signed, wrapped, beyond}
 
 -- "Zero is false, all else true; tests give 1 or 0."
@@ -35,20 +34,20 @@ floorZ (negsuc a) (negsuc b) = pos (suc a / suc b)
 -- not need is not looked at.
 unfoldable pub exact : ℕ → ℤ → ℤ → ℤ → ℤ
 exact f x y z =
-    pick (eqb f orFn) (truth (isTrue x || isTrue y))
-    (pick (eqb f andFn) (truth (isTrue x && isTrue y))
-    (pick (eqb f notFn) (truth (not (isTrue x)))
-    (pick (eqb f addFn) (x +ℤ y)
-    (pick (eqb f subtractFn) (x -ℤ y)
-    (pick (eqb f multiplyFn) (x *ℤ y)
-    (pick (eqb f divideFn) (floorZ x y)
-    (pick (eqb f aboveFn) (truth (ltZ y x))
-    (pick (eqb f atLeastFn) (truth (not (ltZ x y)))
-    (pick (eqb f belowFn) (truth (ltZ x y))
-    (pick (eqb f atMostFn) (truth (not (ltZ y x)))
-    (pick (eqb f equalFn) (truth (not (ltZ x y) && not (ltZ y x)))
-    (pick (eqb f unequalFn) (truth (ltZ x y || ltZ y x))
-    (pick (eqb f ifFn) (pick (isTrue x) y z)
+    pick (eqb f 1) (truth (isTrue x || isTrue y))
+    (pick (eqb f 2) (truth (isTrue x && isTrue y))
+    (pick (eqb f 3) (truth (not (isTrue x)))
+    (pick (eqb f 4) (x +ℤ y)
+    (pick (eqb f 5) (x -ℤ y)
+    (pick (eqb f 6) (x *ℤ y)
+    (pick (eqb f 7) (floorZ x y)
+    (pick (eqb f 8) (truth (ltZ y x))
+    (pick (eqb f 9) (truth (not (ltZ x y)))
+    (pick (eqb f 10) (truth (ltZ x y))
+    (pick (eqb f 11) (truth (not (ltZ y x)))
+    (pick (eqb f 12) (truth (not (ltZ x y) && not (ltZ y x)))
+    (pick (eqb f 13) (truth (ltZ x y || ltZ y x))
+    (pick (eqb f 14) (pick (isTrue x) y z)
     (pos 0))))))))))))))
 
 -- the result on 32-bit words: the exact one of the numbers that they stand for, brought to 32 bits
@@ -57,4 +56,4 @@ result f a b c = wrapped (exact f (signed a) (signed b) (signed c))
 
 -- M-104: "whether its exact whole-number result differed from the 32-bit one, or the divisor was zero"
 unfoldable pub over : ℕ → ℕ → ℕ → ℕ → Bool
-over f a b c = (eqb f divideFn && eqb b 0) || beyond (exact f (signed a) (signed b) (signed c))
+over f a b c = (eqb f 7 && eqb b 0) || beyond (exact f (signed a) (signed b) (signed c))

@@ -10,7 +10,8 @@ use lib.Dec.{ltb, leb, eqb}
 use borrow.Author.Tests.{ltb-true, lt-ltb, leb-true, leb-false, eqb-true, eqb-false, ne-eqb}
 use Rattle.lib_base.specs.Basics.{pick}
 use Rattle.lib_base.proofs.Tools.{split, past, through, allBelow, each-below}
-use Rattle.lib_signature.specs.Signature.{Function, function, functions, itsLevel, itsArity, functionAt, level, arity, last, notFn, ifFn}
+use Rattle.lib_signature.specs.Signature.{Function, function, functions, itsLevel, functionAt, level, arity, last}
+use Rattle.lib_signature.specs.Numbers.{itsArity, notFn, ifFn}
 
 -- ---- arities
 

@@ -1,1 +1,2 @@
 pub mod Signature
+pub mod Numbers

@@ -14,9 +14,6 @@ pub data Function : Type 0 where
 abbrev pub itsSpelling : Function → List ℕ
 itsSpelling (function s n l) = s
 
-abbrev pub itsArity : Function → ℕ
-itsArity (function s n l) = n
-
 abbrev pub itsLevel : Function → ℕ
 itsLevel (function s n l) = l
 
@@ -24,65 +21,14 @@ itsLevel (function s n l) = l
 -- two equalities and then `&&` to `||`": the two-sided operators have levels 1 to 6, the tightest first, others level 0
 abbrev pub functions : List Function
 functions =
-    function (124 ∷ 124 ∷ []) 2 6  -- ||
-    ∷ function (38 ∷ 38 ∷ []) 2 5  -- &&
-    ∷ function (33 ∷ []) 1 0  -- !
-    ∷ function (43 ∷ []) 2 2  -- +
-    ∷ function (45 ∷ []) 2 2  -- -
-    ∷ function (42 ∷ []) 2 1  -- *
-    ∷ function (47 ∷ []) 2 1  -- /
-    ∷ function (62 ∷ []) 2 3  -- >
-    ∷ function (62 ∷ 61 ∷ []) 2 3  -- >=
-    ∷ function (60 ∷ []) 2 3  -- <
-    ∷ function (60 ∷ 61 ∷ []) 2 3  -- <=
-    ∷ function (61 ∷ 61 ∷ []) 2 4  -- ==
-    ∷ function (33 ∷ 61 ∷ []) 2 4  -- !=
-    ∷ function (105 ∷ 102 ∷ []) 3 0  -- if
-    ∷ []
-
--- ---- their numbers
-
-abbrev pub orFn : ℕ
-orFn = 1
-
-abbrev pub andFn : ℕ
-andFn = 2
-
-abbrev pub notFn : ℕ
-notFn = 3
-
-abbrev pub addFn : ℕ
-addFn = 4
-
-abbrev pub subtractFn : ℕ
-subtractFn = 5
-
-abbrev pub multiplyFn : ℕ
-multiplyFn = 6
-
-abbrev pub divideFn : ℕ
-divideFn = 7
-
-abbrev pub aboveFn : ℕ
-aboveFn = 8
-
-abbrev pub atLeastFn : ℕ
-atLeastFn = 9
-
-abbrev pub belowFn : ℕ
-belowFn = 10
-
-abbrev pub atMostFn : ℕ
-atMostFn = 11
-
-abbrev pub equalFn : ℕ
-equalFn = 12
-
-abbrev pub unequalFn : ℕ
-unequalFn = 13
-
-abbrev pub ifFn : ℕ
-ifFn = 14
+    -- 1 `||`, 2 `&&`, 3 `!`
+    function (124 ∷ 124 ∷ []) 2 6 ∷ function (38 ∷ 38 ∷ []) 2 5 ∷ function (33 ∷ []) 1 0
+    -- 4 `+`, 5 `-`, 6 `*`, 7 `/`
+    ∷ function (43 ∷ []) 2 2 ∷ function (45 ∷ []) 2 2 ∷ function (42 ∷ []) 2 1 ∷ function (47 ∷ []) 2 1
+    -- 8 `>`, 9 `>=`, 10 `<`, 11 `<=`
+    ∷ function (62 ∷ []) 2 3 ∷ function (62 ∷ 61 ∷ []) 2 3 ∷ function (60 ∷ []) 2 3 ∷ function (60 ∷ 61 ∷ []) 2 3
+    -- 12 `==`, 13 `!=`, 14 `if`
+    ∷ function (61 ∷ 61 ∷ []) 2 4 ∷ function (33 ∷ 61 ∷ []) 2 4 ∷ function (105 ∷ 102 ∷ []) 3 0 ∷ []
 
 -- the last number that is a function's
 abbrev pub last : ℕ
@@ -93,12 +39,9 @@ last = length functions
 abbrev pub functionAt : ℕ → Function
 functionAt f = getD (function [] 0 0 ∷ functions) f (function [] 0 0)
 
-abbrev pub functionSpelling : ℕ → List ℕ
-functionSpelling f = itsSpelling (functionAt f)
-
 unfoldable pub level : ℕ → ℕ
 level f = itsLevel (functionAt f)
 
 -- branching as the code does; proofs/Laws.antt shows that it is the rows'
 unfoldable pub arity : ℕ → ℕ
-arity f = pick (eqb f notFn) 1 (pick (eqb f ifFn) 3 2)
+arity f = pick (eqb f 3) 1 (pick (eqb f 14) 3 2)

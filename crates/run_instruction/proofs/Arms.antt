@@ -11,7 +11,8 @@ use borrow.Author.Tests.{ltb-true, ltb-false, lt-leb, le-leb, lt-ltb, le-ltb, ne
 use Rattle.lib_base.specs.Basics.{pick}
 use Rattle.lib_base.proofs.Tools.{split}
 use Rattle.lib_word.specs.Word.{get, put}
-use Rattle.lib_signature.specs.Signature.{arity, notFn, ifFn, last}
+use Rattle.lib_signature.specs.Signature.{arity, last}
+use Rattle.lib_signature.specs.Numbers.{notFn, ifFn}
 use Rattle.lib_arith.specs.Functions.{result, over}
 use Rattle.run_instruction.specs.Stack.{noted}
 use Rattle.run_instruction.specs.Allowed.{applies, mayRun}

@@ -13,7 +13,8 @@ use Rattle.lib_base.specs.Basics.{pick}
 use Rattle.lib_base.proofs.Tools.{by-test, by-two, split}
 use Rattle.lib_word.specs.Word.{get, put}
 use Rattle.lib_word.proofs.Laws.{get-other}
-use Rattle.lib_signature.specs.Signature.{arity, notFn, ifFn}
+use Rattle.lib_signature.specs.Signature.{arity}
+use Rattle.lib_signature.specs.Numbers.{notFn, ifFn}
 use Rattle.lib_arith.specs.Functions.{result, over}
 use Rattle.run_instruction.specs.Stack.{pushOn, popTo, noted, applyOne, applyTwo, applyThree, applyOn}
 use Rattle.run_instruction.specs.Allowed.{mayRun}

@@ -11,7 +11,7 @@ use lib.Dec.{eqb}
 use Rattle.lib_base.proofs.Tools.{by-test}
 use Rattle.lib_word.specs.Word.{get, put}
 use Rattle.lib_word.proofs.Laws.{length-put, get-other}
-use Rattle.lib_signature.specs.Signature.{notFn, ifFn}
+use Rattle.lib_signature.specs.Numbers.{notFn, ifFn}
 use Rattle.lib_arith.specs.Functions.{result, over}
 use Rattle.run_instruction.specs.Stack.{pushOn, popTo, noted, applyOne, applyTwo, applyThree, applyOn}
 use Rattle.run_instruction.specs.Instruction.{transfer, perform}

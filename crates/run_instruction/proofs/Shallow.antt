@@ -10,7 +10,7 @@ use borrow.Author.Tests.{eqb-true}
 use Rattle.lib_base.proofs.Tools.{by-test}
 use Rattle.lib_word.specs.Word.{get, put}
 use Rattle.lib_word.proofs.Laws.{length-put, get-same, get-other}
-use Rattle.lib_signature.specs.Signature.{notFn, ifFn}
+use Rattle.lib_signature.specs.Numbers.{notFn, ifFn}
 use Rattle.lib_arith.specs.Functions.{result, over}
 use Rattle.run_instruction.specs.Stack.{pushOn, popTo, noted, applyOne, applyTwo, applyThree, applyOn}
 use Rattle.run_instruction.specs.Allowed.{mayRun}

@@ -10,7 +10,8 @@ use lib.Dec.{eqb}
 use borrow.Author.Tests.{ne-eqb}
 use Rattle.lib_base.proofs.Tools.{split}
 use Rattle.lib_word.specs.Word.{put}
-use Rattle.lib_signature.specs.Signature.{arity, notFn, ifFn}
+use Rattle.lib_signature.specs.Signature.{arity}
+use Rattle.lib_signature.specs.Numbers.{notFn, ifFn}
 use Rattle.lib_arith.specs.Functions.{result, over}
 use Rattle.lib_arith.specs.Marked.{markedResult}
 use Rattle.lib_arith.proofs.ArithLaws.{result-word, answer-low, answer-high}

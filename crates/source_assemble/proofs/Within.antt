@@ -10,7 +10,8 @@ use lib.ListN.{length}
 use lib.Dec.{ltb, leb, eqb}
 use Rattle.lib_base.specs.Basics.{pick, All}
 use Rattle.lib_base.proofs.Tools.{by-test, by-elim}
-use Rattle.lib_signature.specs.Signature.{level, notFn, ifFn, subtractFn}
+use Rattle.lib_signature.specs.Signature.{level}
+use Rattle.lib_signature.specs.Numbers.{notFn, ifFn, subtractFn}
 use Rattle.spec_language.specs.Syntax.{Phase, immediate, later}
 use Rattle.spec_language.specs.Sheet.{Term, Clause, Item, Entry}
 use Rattle.source_language.specs.Tokens.{SheetToken, number, name, sign, reserved, marks, signOf, isDigit, isLetter, inWord, isBlank, inComment, closing, opening, comma, colon, equals, bracket, unbracket, rank-word, from-word, by-word, nobody-word, later-word, seen-word, on-word, param-word, event-word, passive-word, row-word, endSign, wordAtPlace}

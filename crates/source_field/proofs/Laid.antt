@@ -9,7 +9,7 @@ use lib.ListN.{length, take, length-append}
 use lib.Dec.{ltb, eqb}
 use borrow.Author.Tests.{ne-eqb}
 use Rattle.lib_base.proofs.Tools.{by-test}
-use Rattle.lib_signature.specs.Signature.{notFn, ifFn}
+use Rattle.lib_signature.specs.Numbers.{notFn, ifFn}
 use Rattle.spec_language.specs.Sheet.{Term, apply1, apply2, apply3}
 use Rattle.spec_language.specs.Grammar.{field, encodeExpr}
 use Rattle.sheet_write.specs.Writes.{fitted, asApplication}

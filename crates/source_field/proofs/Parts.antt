@@ -6,7 +6,7 @@ use mathlib.Core.List.{List, _++_}
 use native.Mathlib.Omega.{arith}
 use native.Mathlib.Numerals.{add-one}
 use lib.ListN.{length, take}
-use Rattle.lib_signature.specs.Signature.{notFn, ifFn}
+use Rattle.lib_signature.specs.Numbers.{notFn, ifFn}
 use Rattle.spec_language.specs.Sheet.{Term}
 use Rattle.spec_language.specs.Grammar.{encodeExpr}
 use Rattle.text_formula.specs.Nesting.{deeper}

@@ -7,7 +7,7 @@ use native.Mathlib.Omega.{arith}
 use lib.ListN.{length}
 use lib.Dec.{eqb}
 use Rattle.lib_base.proofs.Tools.{by-two}
-use Rattle.lib_signature.specs.Signature.{ifFn}
+use Rattle.lib_signature.specs.Numbers.{ifFn}
 use Rattle.text_formula.specs.Nesting.{deeper}
 use Rattle.source_language.specs.Tokens.{SheetToken, opening, comma, closing}
 use Rattle.source_language.specs.Text.{Phrase, choice}

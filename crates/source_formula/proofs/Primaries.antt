@@ -8,7 +8,7 @@ use lib.ListN.{length}
 use lib.Dec.{eqb}
 use borrow.Author.Tests.{lt-ltb, le-ltb, ne-eqb}
 use Rattle.lib_base.proofs.Tools.{by-test}
-use Rattle.lib_signature.specs.Signature.{notFn, ifFn, subtractFn}
+use Rattle.lib_signature.specs.Numbers.{notFn, ifFn, subtractFn}
 use Rattle.source_language.specs.Tokens.{SheetToken, number, name, sign, endSign}
 use Rattle.source_language.specs.Text.{Phrase, negation}
 use Rattle.source_language.specs.Faults.{outside, tooDeep}

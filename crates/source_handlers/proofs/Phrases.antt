@@ -7,7 +7,8 @@ use lib.ListN.{length}
 use lib.Dec.{ltb, eqb}
 use Rattle.lib_base.specs.Basics.{pick}
 use Rattle.lib_base.proofs.Tools.{by-test}
-use Rattle.lib_signature.specs.Signature.{level, notFn, ifFn, subtractFn}
+use Rattle.lib_signature.specs.Signature.{level}
+use Rattle.lib_signature.specs.Numbers.{notFn, ifFn, subtractFn}
 use Rattle.source_language.specs.Tokens.{SheetToken, number, name, sign, opening, closing, comma, bracket, unbracket}
 use Rattle.source_language.specs.Text.{Phrase, constant, named, cell, negation, operation, choice}
 use Rattle.source_language.specs.Limits.{largest, phraseNesting}

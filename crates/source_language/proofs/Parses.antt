@@ -11,7 +11,8 @@ use lib.ListN.{length}
 use lib.Dec.{ltb, leb, eqb}
 use borrow.Author.Tests.{ltb-true, ltb-false, lt-ltb, le-ltb, leb-true, leb-false, le-leb, lt-leb, eqb-true, ne-eqb}
 use Rattle.lib_base.proofs.Tools.{by-test, split}
-use Rattle.lib_signature.specs.Signature.{level, notFn, ifFn, subtractFn}
+use Rattle.lib_signature.specs.Signature.{level}
+use Rattle.lib_signature.specs.Numbers.{notFn, ifFn, subtractFn}
 use Rattle.lib_signature.proofs.Laws.{level-beyond, level-most}
 use Rattle.text_formula.specs.Nesting.{deeper}
 use Rattle.text_formula.proofs.Parses.{level-of, operator-of}

@@ -4,7 +4,6 @@ use Prim.Native.Nat.{ℕ, suc}
 use mathlib.Core.Option.{Option, none, some}
 use mathlib.Core.List.{List, [], _∷_}
 use lib.ListN.{length}
-use Rattle.lib_signature.specs.Signature.{ifFn, notFn, subtractFn}
 use Rattle.spec_language.specs.Syntax.{immediate, later}
 use Rattle.text_formula.specs.Grammar.{Operator}
 use Rattle.source_language.specs.Tokens.{SheetToken, number, name, sign, opening, closing, comma, colon, equals}
@@ -18,7 +17,7 @@ use Rattle.source_language.specs.Text.{parameter, TextEvent, event, Text
 -- value = NUMBER | "-" NUMBER
 pub data IsValue : List SheetToken → TextConstant → List SheetToken → Type 0 where
   v-plus : {p n : ℕ} {us : List SheetToken} → IsValue (number p n ∷ us) (plus n) us
-  v-minus : {p q n : ℕ} {us : List SheetToken} → IsValue (sign p subtractFn ∷ number q n ∷ us) (minus n) us
+  v-minus : {p q n : ℕ} {us : List SheetToken} → IsValue (sign p 5 ∷ number q n ∷ us) (minus n) us
 
 -- "A formula is 02's" (M-105: levels 0 to 6, two-sided operators grouping to the left), "with these primaries in place
 -- of numbers and b0 to b63: NUMBER; "-" NUMBER, a negative constant, where an operand is due; NAME ..; NAME "[" NUMBER
@@ -27,7 +26,7 @@ pub data PhraseDerives : ℕ → List SheetToken → Phrase → List SheetToken 
   tighter : {l : ℕ} {ts us : List SheetToken} {e : Phrase} → PhraseDerives l ts e us → PhraseDerives (suc l) ts e us
   two-sided : {l p f : ℕ} {ts us vs : List SheetToken} {a b : Phrase} → Operator (suc l) f → PhraseDerives (suc l) ts a (sign p f ∷ us)
       → PhraseDerives l us b vs → PhraseDerives (suc l) ts (operation f a b) vs
-  negated : {p : ℕ} {ts us : List SheetToken} {a : Phrase} → PhraseDerives 0 ts a us → PhraseDerives 0 (sign p notFn ∷ ts) (negation a) us
+  negated : {p : ℕ} {ts us : List SheetToken} {a : Phrase} → PhraseDerives 0 ts a us → PhraseDerives 0 (sign p 3 ∷ ts) (negation a) us
   a-value : {ts us : List SheetToken} {c : TextConstant} → IsValue ts c us → PhraseDerives 0 ts (constant c) us
   a-name : {p : ℕ} {s : List ℕ} {us : List SheetToken} → PhraseDerives 0 (name p s ∷ us) (named p s) us
   a-cell : {p q r t n : ℕ} {s : List ℕ} {us : List SheetToken}
@@ -35,7 +34,7 @@ pub data PhraseDerives : ℕ → List SheetToken → Phrase → List SheetToken 
   bracketed : {p q : ℕ} {ts us : List SheetToken} {e : Phrase} → PhraseDerives 6 ts e (sign q closing ∷ us) → PhraseDerives 0 (sign p opening ∷ ts) e us
   chosen : {p q r s t : ℕ} {ts us vs ws : List SheetToken} {a b c : Phrase}
       → PhraseDerives 6 ts a (sign r comma ∷ us) → PhraseDerives 6 us b (sign s comma ∷ vs) → PhraseDerives 6 vs c (sign t closing ∷ ws)
-      → PhraseDerives 0 (sign p ifFn ∷ sign q opening ∷ ts) (choice a b c) ws
+      → PhraseDerives 0 (sign p 14 ∷ sign q opening ∷ ts) (choice a b c) ws
 
 -- players = "nobody" | NUMBER { NUMBER }
 pub data IsPlayers : List SheetToken → List ℕ → List SheetToken → Type 0 where

@@ -5,7 +5,6 @@ use mathlib.Core.Option.{Option, none, some}
 use mathlib.Core.List.{List, [], _∷_, map}
 use lib.Dec.{eqb, ltb}
 use Rattle.lib_base.specs.Basics.{pick}
-use Rattle.lib_signature.specs.Signature.{notFn, ifFn}
 use Rattle.spec_language.specs.Sheet.{Term, literal, variable, param, apply1, apply2, apply3, Clause, clause, Item, formula, state, row, Signal, Entry, Sheet}
 use Rattle.spec_language.specs.Reading.{entry, signal, sheet}
 use Rattle.source_language.specs.Tokens.{same}
@@ -85,9 +84,9 @@ module _ (find : List ℕ → NameMeaning) (c : ℕ) where
   termOf (constant x) = fine (literal (constantWord x))
   termOf (named p s) = nameTerm p (find s)
   termOf (cell p s q k) = cellTerm c p q k (find s)
-  termOf (negation a) = andThen (termOf a) (λ x. fine (apply1 notFn x))
+  termOf (negation a) = andThen (termOf a) (λ x. fine (apply1 3 x))
   termOf (operation f a b) = andThen (termOf a) (λ x. andThen (termOf b) (λ y. fine (apply2 f x y)))
-  termOf (choice a b d) = andThen (termOf a) (λ x. andThen (termOf b) (λ y. andThen (termOf d) (λ z. fine (apply3 ifFn x y z))))
+  termOf (choice a b d) = andThen (termOf a) (λ x. andThen (termOf b) (λ y. andThen (termOf d) (λ z. fine (apply3 14 x y z))))
 
 -- ---- behaviours, from left to right
 

@@ -7,19 +7,13 @@ use mathlib.Core.List.{List, [], _∷_}
 use lib.ListN.{length}
 use lib.Dec.{ltb, leb, eqb}
 use Rattle.lib_base.specs.Basics.{pick}
-use Rattle.lib_signature.specs.Signature.{level, notFn, ifFn, subtractFn}
+use Rattle.lib_signature.specs.Signature.{level}
+use Rattle.lib_signature.specs.Numbers.{notFn, ifFn, subtractFn}
 use Rattle.spec_language.specs.Syntax.{Phase, immediate, later}
-use Rattle.source_language.specs.Tokens.{SheetToken, number, name, sign, opening, closing, comma, colon, equals}
-use Rattle.source_language.specs.Tokens.{bracket, unbracket, rank-word, from-word, by-word, nobody-word}
-use Rattle.source_language.specs.Tokens.{later-word, seen-word, on-word, param-word, event-word, passive-word}
-use Rattle.source_language.specs.Tokens.{row-word, endSign}
-use Rattle.source_language.specs.Text.{TextConstant, plus, minus, Phrase, constant, named, cell, negation}
-use Rattle.source_language.specs.Text.{operation, choice, Reaction, on, Body, passive, active, row, Parameter}
-use Rattle.source_language.specs.Text.{parameter, TextEvent, event, TextBehaviour, behaviour, Text, text}
-use Rattle.source_language.specs.Faults.{Kind, outside, tooLarge, offScale, tooMany, declaredTwice, secondHandler}
-use Rattle.source_language.specs.Faults.{tooDeep, unknownName, OrFault, fault, fine}
-use Rattle.source_language.specs.Limits.{among, largest, phraseNesting, afterAll, withParameter, withEvent}
-use Rattle.source_language.specs.Limits.{withReaction, NamesTaken, taken, withBehaviour}
+use Rattle.source_language.specs.Tokens.{SheetToken, number, name, sign, opening, closing, comma, colon, equals, bracket, unbracket, rank-word, from-word, by-word, nobody-word, later-word, seen-word, on-word, param-word, event-word, passive-word, row-word, endSign}
+use Rattle.source_language.specs.Text.{TextConstant, plus, minus, Phrase, constant, named, cell, negation, operation, choice, Reaction, on, Body, passive, active, row, Parameter, parameter, TextEvent, event, TextBehaviour, behaviour, Text, text}
+use Rattle.source_language.specs.Faults.{Kind, outside, tooLarge, offScale, tooMany, declaredTwice, secondHandler, tooDeep, unknownName, OrFault, fault, fine}
+use Rattle.source_language.specs.Limits.{among, largest, phraseNesting, afterAll, withParameter, withEvent, withReaction, NamesTaken, taken, withBehaviour}
 use Rattle.source_language.specs.Scanner.{scanText}
 
 pub data Phrased (A : Type 0) : Type 0 where

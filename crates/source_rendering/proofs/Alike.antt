@@ -4,7 +4,7 @@ use Prim.Native.Nat.{ℕ, suc}
 use mathlib.Core.Path.{_≡_, refl, subst}
 use mathlib.Core.Option.{Option, some}
 use mathlib.Core.List.{List, [], _∷_, map}
-use Rattle.lib_signature.specs.Signature.{ifFn, notFn}
+use Rattle.lib_signature.specs.Numbers.{ifFn, notFn}
 use Rattle.spec_language.specs.Syntax.{immediate, later}
 use Rattle.text_formula.specs.Grammar.{Operator}
 use Rattle.source_language.specs.Tokens.{SheetToken, number, name, sign, opening, closing, comma}

@@ -10,7 +10,8 @@ use lib.Dec.{leb, eqb}
 use borrow.Author.Tests.{leb-true, eqb-true, eqb-false, lt-ltb, le-leb, ne-eqb}
 use Rattle.lib_base.specs.Basics.{pick, All}
 use Rattle.lib_base.proofs.Tools.{by-test, split}
-use Rattle.lib_signature.specs.Signature.{level, last, notFn, subtractFn, ifFn}
+use Rattle.lib_signature.specs.Signature.{level, last}
+use Rattle.lib_signature.specs.Numbers.{notFn, subtractFn, ifFn}
 use Rattle.lib_signature.proofs.Laws.{level-most, two-level}
 use Rattle.spec_language.specs.Syntax.{immediate, later}
 use Rattle.spec_language.specs.Grammar.{Arity, binary}

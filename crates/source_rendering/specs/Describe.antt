@@ -6,7 +6,7 @@ use mathlib.Core.Option.{Option, none, some}
 use mathlib.Core.List.{List, [], _∷_, _++_}
 use lib.Dec.{ltb, leb, eqb}
 use Rattle.lib_base.specs.Basics.{pick}
-use Rattle.lib_signature.specs.Signature.{level, notFn, ifFn, subtractFn}
+use Rattle.lib_signature.specs.Signature.{level}
 use Rattle.spec_language.specs.Syntax.{Phase, immediate, later}
 use Rattle.spec_language.specs.Sheet.{Term, literal, variable, param, apply1, apply2, apply3, Clause, clause, Item}
 use Rattle.spec_language.specs.Sheet.{formula, state, Signal, Entry, Sheet, cells, paramsOfEntries}
@@ -108,19 +108,19 @@ unless b c ts = pick b ts (mark c ts)
 
 abbrev pub valueTokens : TextConstant → List SheetToken → List SheetToken
 valueTokens (plus n) ts = number 0 n ∷ ts
-valueTokens (minus n) ts = mark subtractFn (number 0 n ∷ ts)
+valueTokens (minus n) ts = mark 5 (number 0 n ∷ ts)
 
 -- a formula where level l is due
 unfoldable pub phraseTokens : ℕ → Phrase → List SheetToken → List SheetToken
 phraseTokens l (constant c) ts = valueTokens c ts
 phraseTokens l (named p s) ts = name 0 s ∷ ts
 phraseTokens l (cell p s q n) ts = name 0 s ∷ mark bracket (number 0 n ∷ mark unbracket ts)
-phraseTokens l (negation a) ts = mark notFn (phraseTokens 0 a ts)
+phraseTokens l (negation a) ts = mark 3 (phraseTokens 0 a ts)
 phraseTokens l (operation f a b) ts =
     unless (leb (level f) l) opening
     (phraseTokens (level f) a (mark f (phraseTokens (level f - 1) b (unless (leb (level f) l) closing ts))))
 phraseTokens l (choice a b c) ts =
-    mark ifFn (mark opening (phraseTokens 6 a (mark comma (phraseTokens 6 b (mark comma (phraseTokens 6 c (mark closing ts)))))))
+    mark 14 (mark opening (phraseTokens 6 a (mark comma (phraseTokens 6 b (mark comma (phraseTokens 6 c (mark closing ts)))))))
 
 unfoldable pub numberTokens : List ℕ → List SheetToken → List SheetToken
 numberTokens [] ts = ts

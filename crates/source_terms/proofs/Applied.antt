@@ -9,7 +9,8 @@ use lib.ListN.{getD, drop}
 use lib.Dec.{leb, eqb}
 use borrow.Author.Tests.{eq-eqb, ne-eqb}
 use Rattle.lib_base.specs.Basics.{pick}
-use Rattle.lib_signature.specs.Signature.{level, notFn, ifFn}
+use Rattle.lib_signature.specs.Signature.{level}
+use Rattle.lib_signature.specs.Numbers.{notFn, ifFn}
 use Rattle.source_language.specs.Tokens.{closing, comma}
 use Rattle.source_rendering.specs.Describe.{mark, unless}
 use Rattle.sheet_walk.specs.Fields.{afterField}

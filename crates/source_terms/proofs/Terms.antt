@@ -11,7 +11,9 @@ use lib.Dec.{ltb, leb, eqb}
 use borrow.Author.Tests.{eqb-true, eqb-false, eq-eqb, ne-eqb, lt-ltb, le-ltb, ltb-false}
 use Rattle.lib_base.specs.Basics.{All}
 use Rattle.lib_base.proofs.Tools.{split}
-use Rattle.lib_signature.specs.Signature.{level, notFn, ifFn, last}
+use Rattle.lib_signature.specs.Signature.{level, last}
+use Rattle.lib_signature.specs.Numbers.{notFn, ifFn}
+use Rattle.lib_signature.proofs.Laws.{two-is}
 use Rattle.spec_language.specs.Sheet.{Term, Entry, cells}
 use Rattle.spec_language.specs.Grammar.{encodeExpr, encodeBehaviour, encodeBehaviours, unary, ternary, binary, TermFits, t-literal, t-variable, t-param, t-apply1, t-apply2, t-apply3, EntryFits}
 use Rattle.spec_grammar.proofs.Programs.{behaviour-bytes}
@@ -76,7 +78,8 @@ module _ (m : ℕ) (xs : List Entry) (f : All (EntryFits m) xs) (n : ℕ) (long 
   term-walks (t-apply1 {k = k} {a = a} unary p) l rest ts =
       rw (append-nil (tokens k 0 (encodeExpr a ++ rest))) (ap (λ (us : Tokens). mark notFn us) (term-walks p 0 rest ts))
   term-walks (t-apply2 {k = k} {f = g} {a = a} {b = b} (binary lo hi other) p q) l rest ts =
-      rw (ne-eqb g notFn other, ne-eqb g ifFn (omega arith), ne-eqb g 0 (omega arith), le-ltb last g (omega arith), append-assoc (encodeExpr a) (encodeExpr b) rest, after-term a (encodeExpr b ++ rest))
+      let two = two-is g other in
+      rw (ne-eqb g notFn (two .0), ne-eqb g ifFn (two .1), ne-eqb g 0 (omega arith), le-ltb last g (omega arith), append-assoc (encodeExpr a) (encodeExpr b) rest, after-term a (encodeExpr b ++ rest))
       (two-on g l (tokens k (level g) (encodeExpr a ++ (encodeExpr b ++ rest))) (tokens k (level g - 1) (encodeExpr b ++ rest)) ts
       ∙ rw (
         term-walks q (level g - 1) rest (unless (leb (level g) l) closing ts),

@@ -6,7 +6,8 @@ use mathlib.Core.List.{List, [], _∷_, _++_}
 use lib.ListN.{getD, drop}
 use lib.Dec.{ltb, leb, eqb}
 use Rattle.lib_base.specs.Basics.{pick}
-use Rattle.lib_signature.specs.Signature.{level, notFn, ifFn, last}
+use Rattle.lib_signature.specs.Signature.{level, last}
+use Rattle.lib_signature.specs.Numbers.{notFn, ifFn}
 use Rattle.source_language.specs.Tokens.{SheetToken, number, name, opening, closing, comma, bracket, unbracket}
 use Rattle.source_rendering.specs.Describe.{behaviourName, parameterName, describedConstant, mark, unless, valueTokens}
 use Rattle.sheet_walk.specs.Fields.{afterField, wordInFront}

@@ -10,7 +10,7 @@ use lib.Dec.{ltb, leb, eqb}
 use borrow.Author.Tests.{ltb-true, ltb-false, eqb-true, eq-eqb}
 use Rattle.lib_base.specs.Basics.{pick}
 use Rattle.lib_base.proofs.Tools.{by-test, split}
-use Rattle.lib_signature.specs.Signature.{notFn, ifFn}
+use Rattle.lib_signature.specs.Numbers.{notFn, ifFn}
 use Rattle.source_language.specs.Tokens.{SheetToken, name, sign, Spelling, spelled, marks, reserved, same, signOf, opening, isDigit, isLetter, inWord, endSign}
 use Rattle.source_language.specs.Scanner.{runOfKind, FirstInText, nothing, begins, shortMark, markAt, firstInText, scanOn}
 use Rattle.source_language.specs.Reader.{signIn, signAt}

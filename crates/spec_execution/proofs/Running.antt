@@ -10,7 +10,8 @@ use lib.Dec.{eqb}
 use borrow.Author.Tests.{ne-eqb}
 use Rattle.lib_base.specs.Basics.{pick}
 use Rattle.lib_base.proofs.Tools.{split}
-use Rattle.lib_signature.specs.Signature.{arity, notFn, ifFn, last}
+use Rattle.lib_signature.specs.Signature.{arity, last}
+use Rattle.lib_signature.specs.Numbers.{notFn, ifFn}
 use Rattle.lib_arith.specs.Functions.{result, over}
 use Rattle.spec_language.specs.Syntax.{Expr, con, name, app1, app2, app3}
 use Rattle.spec_language.specs.Grammar.{Arity, unary, ternary, binary}

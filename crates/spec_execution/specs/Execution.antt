@@ -7,7 +7,7 @@ use lib.ListN.{length, getD, set, drop, replicate}
 use lib.Dec.{eqb, ltb}
 use native.Mathlib.Decide.{ℕ-discrete}
 use Rattle.lib_base.specs.Basics.{pick}
-use Rattle.lib_signature.specs.Signature.{arity, notFn, ifFn}
+use Rattle.lib_signature.specs.Signature.{arity}
 use Rattle.lib_arith.specs.Functions.{result, over}
 use Rattle.spec_language.specs.Code.{Instr, Instr-discrete, off, on, copy, restore, load, fetch, save, defer, move, push, apply}
 use Rattle.spec_semantics.specs.Meaning.{at}
@@ -39,7 +39,7 @@ top st = at st 0
 
 -- "`!` needs one, `if` three, the others two": what g gives for the arguments of f, the last on top of the stack
 abbrev pub onArguments : {A : Type 0} → (ℕ → ℕ → ℕ → A) → ℕ → List ℕ → A
-onArguments g f st = pick (eqb f notFn) (g (at st 0) 0 0) (pick (eqb f ifFn) (g (at st 2) (at st 1) (at st 0)) (g (at st 1) (at st 0) 0))
+onArguments g f st = pick (eqb f 3) (g (at st 0) 0 0) (pick (eqb f 14) (g (at st 2) (at st 1) (at st 0)) (g (at st 1) (at st 0) 0))
 
 -- the result stands in place of the arguments
 abbrev pub applied : ℕ → List ℕ → List ℕ

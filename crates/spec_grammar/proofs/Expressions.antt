@@ -11,7 +11,8 @@ use lib.Dec.{ltb, leb, eqb}
 use borrow.Author.Tests.{ltb-false, le-ltb, leb-true, eqb-true, eqb-false, eq-eqb, ne-eqb}
 use Rattle.lib_base.specs.Basics.{pick}
 use Rattle.lib_base.proofs.Tools.{by-test, none-of, all-split}
-use Rattle.lib_signature.specs.Signature.{notFn, ifFn, last}
+use Rattle.lib_signature.specs.Numbers.{notFn, ifFn}
+use Rattle.lib_signature.specs.Signature.{last}
 use Rattle.lib_signature.proofs.Laws.{two-is, is-two}
 use Rattle.spec_language.specs.Refusals.{offScale}
 use Rattle.spec_language.specs.Sheet.{Term, apply1, apply2, apply3}

@@ -13,13 +13,12 @@ use borrow.Author.Tests.{ne-eqb, le-ltb}
 use Rattle.lib_base.specs.Basics.{pick}
 use Rattle.lib_base.proofs.Tools.{split}
 use Rattle.lib_word.specs.Word.{getAt}
-use Rattle.lib_signature.specs.Signature.{notFn, ifFn, last}
+use Rattle.lib_signature.specs.Numbers.{notFn, ifFn}
+use Rattle.lib_signature.specs.Signature.{last}
 use Rattle.spec_language.specs.Syntax.{Phase, immediate, later}
-use Rattle.spec_language.specs.Sheet.{Term, literal, variable, param, apply1, apply2, apply3, Clause, clause, Item, formula, state, row, Signal, Entry, Sheet, cells, cellCount, changeClauses, changeItem, changeEntries, asSent, fillTerm}
+use Rattle.spec_language.specs.Sheet.{Term, literal, variable, param, apply1, apply2, apply3, Clause, clause, Item, formula, state, row, Signal, Entry, Sheet, cells, cellCount, changeClauses, changeItem, changeEntries, asSent, fillTerm, writeTerm, writtenOut, paramsOf, paramsOfClauses, paramsOfItem, paramsOfEntries}
 use Rattle.spec_language.proofs.RowLaws.{count-append, written-cells-count}
-use Rattle.spec_language.specs.Sheet.{writeTerm, writtenOut}
 use Rattle.spec_language.specs.Grammar.{field, word, encodeExpr, encodeHandler, encodeHandlers, tagOf, encodeViewer, encodeBehaviour, encodeBehaviours, encodeEvent, encodeEvents, encode}
-use Rattle.spec_language.specs.Sheet.{paramsOf, paramsOfClauses, paramsOfItem, paramsOfEntries}
 use Rattle.spec_language.specs.Reading.{Got, bad, got, then, sized, filling, fieldAt, readAll, argsOf, termIn, isTerm, exprAt, handles, handlerIn, entry, endingIn, activeAs, behaviourIn, dueAt, signalIn, sheet, readSheet}
 use Rattle.spec_grammar.proofs.Fields.{field-reads}
 use Rattle.spec_grammar.proofs.Results.{word-back}

@@ -7,7 +7,7 @@ use mathlib.Core.Option.{Option, none, some}
 use mathlib.Core.List.{List, [], _∷_, _++_}
 use lib.ListN.{length}
 use Rattle.lib_base.specs.Basics.{All}
-use Rattle.lib_signature.specs.Signature.{notFn, ifFn, last, arity}
+use Rattle.lib_signature.specs.Signature.{last, arity}
 use Rattle.spec_language.specs.Syntax.{Phase, immediate, later}
 use Rattle.spec_language.specs.Sheet.{Term, literal, variable, param, apply1, apply2, apply3, Clause, clause}
 use Rattle.spec_language.specs.Sheet.{Item, formula, state, row, Signal, Entry, Sheet, cellCount}
@@ -87,8 +87,8 @@ encode s = encodeEvents (s .signals) ++ encodeBehaviours (s .entries)
 
 -- a function and how many arguments it needs: `!` one, `if` three, the others two
 pub data Arity : ℕ → ℕ → Type 0 where
-  unary : Arity notFn 1
-  ternary : Arity ifFn 3
+  unary : Arity 3 1
+  ternary : Arity 14 3
   binary : {f : ℕ} → 0 < f → f ≤ last → arity f ≡ 2 → Arity f 2
 
 -- "A constant or name has nesting 1, an application one more than its deepest argument", a parameter being a constant:

@@ -9,7 +9,7 @@ use lib.ListN.{length, getD, take, drop}
 use lib.Dec.{ltb, leb, eqb}
 use Rattle.lib_base.specs.Basics.{pick}
 use Rattle.lib_word.specs.Word.{getAt}
-use Rattle.lib_signature.specs.Signature.{notFn, ifFn, last}
+use Rattle.lib_signature.specs.Signature.{last}
 use Rattle.spec_language.specs.Syntax.{Phase, immediate, later}
 use Rattle.spec_language.specs.Sheet.{Term, literal, variable, param, apply1, apply2, apply3, Clause, clause}
 use Rattle.spec_language.specs.Sheet.{Item, formula, state, row, Signal, Entry, Sheet, cellCount}
@@ -60,9 +60,9 @@ module _ {A : Type 0} (ended : List ℕ → Bool) (one : List A → List ℕ →
 abbrev pub argsOf : (List ℕ → Got Term) → ℕ → List ℕ → Got Term
 argsOf arg f v =
     then (arg v) (λ a v₁.
-    pick (eqb f notFn) (got (apply1 f a) v₁)
+    pick (eqb f 3) (got (apply1 f a) v₁)
     (then (arg v₁) (λ b v₂.
-    pick (eqb f ifFn) (then (arg v₂) (λ c v₃. got (apply3 f a b c) v₃))
+    pick (eqb f 14) (then (arg v₂) (λ c v₃. got (apply3 f a b c) v₃))
     (got (apply2 f a b) v₂))))
 
 -- 10 a constant, 11 a name, 12 an application, 13 a parameter, hexadecimal. M-103: "tag 13 hexadecimal, length 1, names

@@ -13,7 +13,8 @@ use lib.ListN.{length}
 use borrow.Author.Tests.{eqb-true}
 use Rattle.lib_base.specs.Basics.{All}
 use Rattle.lib_base.proofs.Tools.{split}
-use Rattle.lib_signature.specs.Signature.{addFn, subtractFn, last, arity}
+use Rattle.lib_signature.specs.Numbers.{addFn, subtractFn}
+use Rattle.lib_signature.specs.Signature.{last, arity}
 use Rattle.lib_signature.proofs.Laws.{is-two}
 use Rattle.lib_arith.specs.Exact.{signed, wrapped}
 use Rattle.lib_arith.specs.Functions.{exact, result}

@@ -9,10 +9,11 @@ use lib.ListN.{length, length-append}
 use lib.Dec.{ltb, eqb}
 use borrow.Author.Tests.{ltb-true, ltb-false, eqb-true, eqb-false, eq-eqb, ne-eqb}
 use Rattle.lib_base.proofs.Tools.{by-test, split}
-use Rattle.lib_signature.specs.Signature.{level, notFn, ifFn}
+use Rattle.lib_signature.specs.Signature.{level}
+use Rattle.lib_signature.specs.Numbers.{notFn, ifFn}
 use Rattle.spec_language.specs.Syntax.{Expr, app2}
 use Rattle.text_formula.specs.Tokens.{Token, number, behaviour, function, opening, closing, comma}
-use Rattle.text_formula.specs.Grammar.{Operator, times, divided, plus, minus, above, at-least, below, at-most, equal, different, both, either, Derives, tighter, two-sided, negated, a-number, a-name, bracketed, choice}
+use Rattle.text_formula.specs.Grammar.{Operator, operator, Derives, tighter, two-sided, negated, a-number, a-name, bracketed, choice}
 use Rattle.text_formula.specs.Reader.{levelOf, operatorOf, bracketOf, Parsed, unparsed, parsed, thenParse, past, operatorChain, tower, bracketedOf, choiceOf, operandOf, operandAt, readAt}
 
 -- ---- the levels of operators

@@ -19,7 +19,7 @@ use Rattle.spec_language.specs.Grammar.{Arity, unary, ternary, binary, TermFits
 use Rattle.spec_grammar.proofs.Expressions.{expr-reads}
 use Rattle.text_formula.specs.Tokens.{Token, function, closing, comma}
 use Rattle.text_formula.specs.InRange.{InRange}
-use Rattle.text_formula.specs.Grammar.{Operator, times, divided, plus, minus, above, at-least, below, at-most, equal, different, both, either, Derives, tighter, two-sided, negated, a-number, a-name, bracketed, choice, Formula, formula}
+use Rattle.text_formula.specs.Grammar.{Operator, operator, Derives, tighter, two-sided, negated, a-number, a-name, bracketed, choice, Formula, formula}
 use Rattle.text_formula.specs.Reader.{readFormula}
 use Rattle.text_formula.specs.Answer.{large, nesting, formulaField, fieldAnswer}
 use Rattle.text_formula.specs.Nesting.{deeper}

@@ -6,7 +6,8 @@ use mathlib.Core.Option.{Option, none, some}
 use lib.ListN.{length, getD, drop}
 use lib.Dec.{ltb, eqb}
 use Rattle.lib_base.specs.Basics.{pick}
-use Rattle.lib_signature.specs.Signature.{orFn, andFn, notFn, addFn, subtractFn, multiplyFn, divideFn, aboveFn, atLeastFn, belowFn, atMostFn, equalFn, unequalFn, ifFn, level}
+use Rattle.lib_signature.specs.Numbers.{orFn, andFn, notFn, addFn, subtractFn, multiplyFn, divideFn, aboveFn, atLeastFn, belowFn, atMostFn, equalFn, unequalFn, ifFn}
+use Rattle.lib_signature.specs.Signature.{level}
 use Rattle.spec_language.specs.Syntax.{Expr, con, name, app1, app2, app3}
 use Rattle.text_formula.specs.Tokens.{Token, number, behaviour, function, opening, closing, comma}
 

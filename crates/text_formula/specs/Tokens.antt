@@ -4,7 +4,7 @@ use Prim.Native.Nat.{ℕ, _+_, _*_, _-_, _≤_, _<_}
 use mathlib.Core.Path.{_≡_}
 use mathlib.Core.List.{List, [], _∷_, _++_}
 use Rattle.lib_base.specs.Basics.{All}
-use Rattle.lib_signature.specs.Signature.{orFn, andFn, notFn, addFn, subtractFn, multiplyFn, divideFn, aboveFn, atLeastFn, belowFn, atMostFn, equalFn, unequalFn, ifFn, functionSpelling}
+use Rattle.lib_signature.specs.Signature.{itsSpelling, functionAt}
 
 -- "decimal numbers", "names b0 to b63", operators and `if` by 01's function number, brackets and the comma between
 -- `if`'s arguments
@@ -34,20 +34,20 @@ pub data Begins : List ℕ → Token → List ℕ → Type 0 where
   b-digit : (d : ℕ) (rest : List ℕ) → d < 10 → NotFirst Digit rest → Begins (98 ∷ (48 + d) ∷ rest) (behaviour d) rest
   b-digits : (d e : ℕ) (rest : List ℕ) → 0 < d → e < 10 → d * 10 + e < 64 → NotFirst Digit rest
       → Begins (98 ∷ (48 + d) ∷ (48 + e) ∷ rest) (behaviour (d * 10 + e)) rest
-  b-or : (rest : List ℕ) → Begins (functionSpelling orFn ++ rest) (function orFn) rest
-  b-and : (rest : List ℕ) → Begins (functionSpelling andFn ++ rest) (function andFn) rest
-  b-not : (rest : List ℕ) → NotFirst (λ b. b ≡ 61) rest → Begins (functionSpelling notFn ++ rest) (function notFn) rest
-  b-plus : (rest : List ℕ) → Begins (functionSpelling addFn ++ rest) (function addFn) rest
-  b-minus : (rest : List ℕ) → Begins (functionSpelling subtractFn ++ rest) (function subtractFn) rest
-  b-times : (rest : List ℕ) → Begins (functionSpelling multiplyFn ++ rest) (function multiplyFn) rest
-  b-divided : (rest : List ℕ) → Begins (functionSpelling divideFn ++ rest) (function divideFn) rest
-  b-above : (rest : List ℕ) → NotFirst (λ b. b ≡ 61) rest → Begins (functionSpelling aboveFn ++ rest) (function aboveFn) rest
-  b-at-least : (rest : List ℕ) → Begins (functionSpelling atLeastFn ++ rest) (function atLeastFn) rest
-  b-below : (rest : List ℕ) → NotFirst (λ b. b ≡ 61) rest → Begins (functionSpelling belowFn ++ rest) (function belowFn) rest
-  b-at-most : (rest : List ℕ) → Begins (functionSpelling atMostFn ++ rest) (function atMostFn) rest
-  b-equal : (rest : List ℕ) → Begins (functionSpelling equalFn ++ rest) (function equalFn) rest
-  b-different : (rest : List ℕ) → Begins (functionSpelling unequalFn ++ rest) (function unequalFn) rest
-  b-if : (rest : List ℕ) → Begins (functionSpelling ifFn ++ rest) (function ifFn) rest
+  b-or : (rest : List ℕ) → Begins (itsSpelling (functionAt 1) ++ rest) (function 1) rest
+  b-and : (rest : List ℕ) → Begins (itsSpelling (functionAt 2) ++ rest) (function 2) rest
+  b-not : (rest : List ℕ) → NotFirst (λ b. b ≡ 61) rest → Begins (itsSpelling (functionAt 3) ++ rest) (function 3) rest
+  b-plus : (rest : List ℕ) → Begins (itsSpelling (functionAt 4) ++ rest) (function 4) rest
+  b-minus : (rest : List ℕ) → Begins (itsSpelling (functionAt 5) ++ rest) (function 5) rest
+  b-times : (rest : List ℕ) → Begins (itsSpelling (functionAt 6) ++ rest) (function 6) rest
+  b-divided : (rest : List ℕ) → Begins (itsSpelling (functionAt 7) ++ rest) (function 7) rest
+  b-above : (rest : List ℕ) → NotFirst (λ b. b ≡ 61) rest → Begins (itsSpelling (functionAt 8) ++ rest) (function 8) rest
+  b-at-least : (rest : List ℕ) → Begins (itsSpelling (functionAt 9) ++ rest) (function 9) rest
+  b-below : (rest : List ℕ) → NotFirst (λ b. b ≡ 61) rest → Begins (itsSpelling (functionAt 10) ++ rest) (function 10) rest
+  b-at-most : (rest : List ℕ) → Begins (itsSpelling (functionAt 11) ++ rest) (function 11) rest
+  b-equal : (rest : List ℕ) → Begins (itsSpelling (functionAt 12) ++ rest) (function 12) rest
+  b-different : (rest : List ℕ) → Begins (itsSpelling (functionAt 13) ++ rest) (function 13) rest
+  b-if : (rest : List ℕ) → Begins (itsSpelling (functionAt 14) ++ rest) (function 14) rest
   b-opening : (rest : List ℕ) → Begins (40 ∷ rest) opening rest
   b-closing : (rest : List ℕ) → Begins (41 ∷ rest) closing rest
   b-comma : (rest : List ℕ) → Begins (44 ∷ rest) comma rest

@@ -7,7 +7,7 @@ use native.Mathlib.Numerals.{add-one, sub-one}
 use lib.ListN.{length, getD, take, drop, length-append}
 use lib.Dec.{ltb, eqb}
 use borrow.Author.Tests.{ltb-true, ltb-false, eqb-true, eq-eqb, ne-eqb}
-use Rattle.lib_signature.specs.Signature.{notFn, ifFn}
+use Rattle.lib_signature.specs.Numbers.{notFn, ifFn}
 use Rattle.spec_language.specs.Sheet.{asSent}
 use Rattle.lib_base.specs.Basics.{pick, All}
 use Rattle.lib_base.proofs.Tools.{by-test, by-two, split}

@@ -11,7 +11,7 @@ use lib.Seq.{drop-cons}
 use lib.Dec.{eqb}
 use borrow.Author.Tests.{ne-eqb}
 use Rattle.lib_base.specs.Basics.{pick, All}
-use Rattle.lib_signature.specs.Signature.{notFn, ifFn}
+use Rattle.lib_signature.specs.Numbers.{notFn, ifFn}
 use Rattle.spec_language.specs.Syntax.{Expr}
 use Rattle.spec_language.specs.Refusals.{noFormula}
 use Rattle.text_formula.specs.Tokens.{Token, number, behaviour, function, opening, closing, comma}

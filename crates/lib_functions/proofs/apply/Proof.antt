@@ -6,11 +6,10 @@ use lib.Dec.{eqb}
 use lib.IntN.{pos}
 use borrow.Author.Tests.{ne-eqb}
 use Rattle.lib_base.proofs.Pick.{code}
-use Rattle.lib_signature.specs.Signature.{divideFn}
+use Rattle.lib_signature.specs.Numbers.{divideFn}
 use Rattle.lib_arith.specs.Exact.{signed}
-use Rattle.lib_arith.specs.Marked.{reported}
+use Rattle.lib_arith.specs.Marked.{reported, markedResult}
 use Rattle.lib_arith.specs.Functions.{truth, exact, result, over}
-use Rattle.lib_arith.specs.Marked.{markedResult}
 use Rattle.lib_arith.proofs.ArithLaws.{beyond-pos}
 use borrow.Author.Needs.{needs}
 use Rattle.lib_functions.proofs.apply.Statement.{statement}

@@ -1,5 +1,6 @@
 -- The tests are the definition's.
-use Rattle.lib_signature.specs.Signature.{ifFn, last}
+use Rattle.lib_signature.specs.Numbers.{ifFn}
+use Rattle.lib_signature.specs.Signature.{last}
 use Rattle.source_terms.proofs.Writing.{wrote-none}
 use borrow.Author.Tests.{eq-eqb, ne-eqb, lt-ltb, le-ltb}
 use borrow.Author.Needs.{needs}

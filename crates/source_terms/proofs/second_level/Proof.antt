@@ -3,7 +3,7 @@ use native.Mathlib.Omega.{arith}
 use borrow.Author.Needs.{needs}
 use borrow.Author.Tests.{ne-eqb}
 use Rattle.lib_base.proofs.Pick.{code}
-use Rattle.lib_signature.specs.Signature.{ifFn}
+use Rattle.lib_signature.specs.Numbers.{ifFn}
 use Rattle.source_terms.proofs.second_level.Statement.{statement}
 use Rattle.source_terms.proofs.second_level.Tie as tie
 
