@@ -106,8 +106,9 @@ module _ (text : List ℕ) (at p : ℕ) (o : PassedOver text at p) where
       }
 
   pub ahead-end : at ≤ length text → length text ≤ p → SignAhead text at p 0 p
+  unfolding level
   ahead-end h e =
-      ahead-none h (rw (tokens-end text p (omega (arith, o .within))) ((λ z. omega arith, λ z. absurd (omega arith)), refl))
+      ahead-none h (rw (tokens-end text p (omega (arith, o .within))) ((refl, λ z. absurd (omega arith)), refl))
 
   pub ahead-word : at ≤ length text → p < length text → inWord (getD text p 0) ≡ true → SignAhead text at p 0 p
   ahead-word h l e = ahead-none h (word-no-operator text p (o .begun l) e)
