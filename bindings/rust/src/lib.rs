@@ -84,7 +84,7 @@
 //!
 //! The engine keeps no state and no pointer: tables are shared freely, rounds move between threads, and calls on
 //! different rounds may run at the same time. `docs/HOST.md` has the stack that each call takes: [`formula`] at most
-//! 400 KB, [`Sheet::join`] 60 KB, the others less. No call of the engine allocates; these types put table and round in
+//! 436 KB, [`Sheet::join`] 60 KB, the others less. No call of the engine allocates; these types put table and round in
 //! the heap.
 #![warn(missing_docs)]
 
