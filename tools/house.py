@@ -262,11 +262,7 @@ CONTRACT_WIDTH = 160
 # functions that have more parameters still
 WITH_MORE = {"put_pair", "put_term", "behaviour_at", "behaviours_at"}
 # crates whose contracts have more clauses or columns still
-CRATES_WITH_MORE = {
-    *("ask_meets", "back_parts", "back_phases", "check_faults", "check_reads", "desk_format", "engine", "link_join"),
-    *("run_deliver", "run_frame", "run_mend", "run_step", "run_validate", "front_behaviours", "text_encode"),
-    *("text_parser", "source_index", "source_assemble", "source_describe", "source_terms", "source_declarations"),
-}
+CRATES_WITH_MORE = {"front_behaviours", "source_assemble", "source_declarations", "source_index", "text_parser"}
 # its parameters, and its contract as far as the body
 FUNCTION = re.compile(r'^(?:pub )?(?:extern "C" )?fn (\w+)(?:<[^>(]*>)?\(([^()]*)\)(?: -> [^\n]*)?\n(.*?)^{', re.M | re.S)
 

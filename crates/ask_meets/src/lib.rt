@@ -196,7 +196,9 @@ fn strict_at(d: &[u64], rows: &[u64], n: usize, i: usize, v: u64) -> u64
 // The set with that, where the entry is a handler of one of the others.
 fn add_strict(d: &[u64], rows: &[u64], n: usize, set: u64, cone: u64, i: usize, v: u64) -> u64
     requires { ⌜ (length (now d) ≡ draftLength) × (length (now rows) ≡ 64) × (n ≤ 64) × (i < 64) × (entryStart v + entryCount v ≤ 2048) ⌝ }
-    ensures { λ r. ⌜ ((e : ℕ) → v ≡ entryOf (now (d .entry)) e i → Gathers 64 r (λ j. bit set j || ((bit cone i && leb 2 (entryKind v)) && strictAtOn (now (d .entry)) (now (rows .entry)) n e i j))) ⌝ }
+    ensures { λ r. ⌜ ((e : ℕ) → v ≡ entryOf (now (d .entry)) e i
+        → Gathers 64 r (λ j. bit set j
+        || ((bit cone i && leb 2 (entryKind v)) && strictAtOn (now (d .entry)) (now (rows .entry)) n e i j))) ⌝ }
 {
     if lib_bits::contains(cone, i) {
         if v % layout::KINDS >= layout::IMMEDIATE {

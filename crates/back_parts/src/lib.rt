@@ -50,7 +50,9 @@ pub fn write_record(
 ) -> usize
     requires { ⌜ (length (now draft) ≡ draftLength) × (event < 32) × (behaviours ≤ 64) × (start ≤ 4096) × (count ≤ 4096) ⌝ }
     requires { ⌜ (34816 ≤ length (now table)) × (place ≤ 8700) ⌝ }
-    ensures { λ r. ⌜ Wrote (now (table .entry)) place ((getD (now (draft .entry)) (4224 + event) 0 % 4294967296) ∷ start ∷ count ∷ countMembers (now (draft .entry)) event behaviours ∷ []) (now (table .exit)) r ⌝ }
+    ensures { λ r. ⌜ Wrote (now (table .entry)) place
+        ((getD (now (draft .entry)) (4224 + event) 0 % 4294967296) ∷ start ∷ count
+        ∷ countMembers (now (draft .entry)) event behaviours ∷ []) (now (table .exit)) r ⌝ }
 {
     put_word(
         table,

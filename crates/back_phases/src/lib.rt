@@ -28,7 +28,8 @@ fn emit_turns(
 ) -> usize
     requires { ⌜ EntriesInside (now draft) event behaviours × OrderListed (now order) count behaviours ⌝ }
     requires { ⌜ Room (now table) place (flatMap (turnWords (now draft) event 2304) (take count (now order))) ⌝ }
-    ensures { λ r. ⌜ Wrote (now (table .entry)) place (flatMap (turnWords (now (draft .entry)) event 2304) (take count (now (order .entry)))) (now (table .exit)) r ⌝ }
+    ensures { λ r. ⌜ Wrote (now (table .entry)) place
+        (flatMap (turnWords (now (draft .entry)) event 2304) (take count (now (order .entry)))) (now (table .exit)) r ⌝ }
 {
     let mut next = place;
     let mut j = 0;
@@ -72,7 +73,8 @@ pub fn phase_one(
 ) -> usize
     requires { ⌜ EntriesInside (now draft) event behaviours × OrderListed (now order) count behaviours ⌝ }
     requires { ⌜ Room (now table) place (firstWords (now draft) event behaviours (take count (now order))) ⌝ }
-    ensures { λ r. ⌜ Wrote (now (table .entry)) place (firstWords (now (draft .entry)) event behaviours (take count (now (order .entry)))) (now (table .exit)) r ⌝ }
+    ensures { λ r. ⌜ Wrote (now (table .entry)) place
+        (firstWords (now (draft .entry)) event behaviours (take count (now (order .entry)))) (now (table .exit)) r ⌝ }
 {
     let next = emit_turns(draft, event, behaviours, order, count, table, place);
     emit_laters(draft, event, behaviours, table, next)
@@ -111,7 +113,8 @@ pub fn emit_again(
 ) -> usize
     requires { ⌜ EntriesInside (now draft) event behaviours × OrderListed (now order) count behaviours ⌝ }
     requires { ⌜ Room (now table) place (flatMap (turnWordsOfKind (now draft) event 1 2304) (take count (now order))) ⌝ }
-    ensures { λ r. ⌜ Wrote (now (table .entry)) place (flatMap (turnWordsOfKind (now (draft .entry)) event 1 2304) (take count (now (order .entry)))) (now (table .exit)) r ⌝ }
+    ensures { λ r. ⌜ Wrote (now (table .entry)) place
+        (flatMap (turnWordsOfKind (now (draft .entry)) event 1 2304) (take count (now (order .entry)))) (now (table .exit)) r ⌝ }
 {
     let mut next = place;
     let mut j = 0;
@@ -142,7 +145,8 @@ pub fn phase_two(
 ) -> usize
     requires { ⌜ EntriesInside (now draft) event behaviours × OrderListed (now order) count behaviours ⌝ }
     requires { ⌜ Room (now table) place (secondWords (now draft) event behaviours (take count (now order))) ⌝ }
-    ensures { λ r. ⌜ Wrote (now (table .entry)) place (secondWords (now (draft .entry)) event behaviours (take count (now (order .entry)))) (now (table .exit)) r ⌝ }
+    ensures { λ r. ⌜ Wrote (now (table .entry)) place
+        (secondWords (now (draft .entry)) event behaviours (take count (now (order .entry)))) (now (table .exit)) r ⌝ }
 {
     let next = emit_moves(draft, event, behaviours, table, place);
     emit_again(draft, event, behaviours, order, count, table, next)

@@ -11,7 +11,8 @@ ghost use Rattle.lib_bits.specs.Bits.{bit};
 ghost use Rattle.draft_form.specs.Entry.{entryStart, entryCount};
 ghost use Rattle.draft_form.specs.Draft.{draftLength, usedBy};
 ghost use Rattle.check_graph.specs.Sets.{RowsBelow};
-ghost use Rattle.check_faults.specs.Checks.{stray, namesKnown, nodeNames, someNodeNames, needsOn, RowsAre, PlacedOn, LowestLeft, LeftClosed, leftRound, RoundOn, cyclicOn, RowsInside, AllInside};
+ghost use Rattle.check_faults.specs.Checks.{stray, namesKnown, nodeNames, someNodeNames, needsOn, RowsAre, PlacedOn};
+ghost use Rattle.check_faults.specs.Checks.{LowestLeft, LeftClosed, leftRound, RoundOn, cyclicOn, RowsInside, AllInside};
 use draft_form::layout;
 use spec_language::limits;
 

@@ -189,7 +189,8 @@ pub fn fill_writes(d: &[u64], ev: usize, n: usize, writes: &mut [u64])
 
 // Which its handlers name, where the rows say what is named through passives.
 fn fill_names(d: &[u64], ev: usize, n: usize, rows: &[u64], named: &mut [u64])
-    requires { ⌜ (length (now d) ≡ draftLength) × (length (now rows) ≡ 64) × (length (now named) ≡ 32) × (ev ≤ 32) × (n ≤ 64) × AllInside (now d) ev n × RowsBy (closedBy n (passiveOn (now d) ev)) n (now rows) ⌝ }
+    requires { ⌜ (length (now d) ≡ draftLength) × (length (now rows) ≡ 64) × (length (now named) ≡ 32) × (ev ≤ 32)
+        × (n ≤ 64) × AllInside (now d) ev n × RowsBy (closedBy n (passiveOn (now d) ev)) n (now rows) ⌝ }
     ensures { λ _. ⌜ NamedIn (now (d .entry)) ev n (now (named .exit)) ⌝ }
 {
     let mut e = 0;

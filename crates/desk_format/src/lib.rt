@@ -9,7 +9,8 @@ ghost use Prim.Native.Nat.{_+_, _*_, _≤_};
 ghost use lib.ListN.{length, take};
 ghost use Rattle.io.specs.Counts.{Counts};
 ghost use Rattle.sheet_field.specs.Header.{headerOf, HeaderWithin};
-ghost use Rattle.desk_format.specs.Script.{due, playVerdict, valueVerdict, endsAfter, argumentNumber, decimalText, signedText, refusalLine, commitLine, stepLine, boardLine};
+ghost use Rattle.desk_format.specs.Script.{due, playVerdict, valueVerdict, endsAfter, argumentNumber, decimalText};
+ghost use Rattle.desk_format.specs.Script.{signedText, refusalLine, commitLine, stepLine, boardLine};
 
 pub mod tags;
 

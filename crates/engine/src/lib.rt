@@ -202,7 +202,8 @@ fn call_count(calls: usize, answers: usize) -> usize
 pub extern "C" fn replay(table: &[u8], round: &mut [u8], calls: &[u8], answers: &mut [u8]) -> usize
     ensures { λ r. ⌜ r ≡ callCount (length (now (calls .entry))) (length (now (answers .entry))) ⌝ }
     ensures { λ r. ⌜ now (round .exit) ≡ roundAfter (now (table .entry)) (callsFrom (now (calls .entry)) 0 r) (now (round .entry)) ⌝ }
-    ensures { λ r. ⌜ now (answers .exit) ≡ putAnswers (now (answers .entry)) 0 (answersOn (now (table .entry)) (callsFrom (now (calls .entry)) 0 r) (now (round .entry))) ⌝ }
+    ensures { λ r. ⌜ now (answers .exit) ≡ putAnswers (now (answers .entry)) 0
+        (answersOn (now (table .entry)) (callsFrom (now (calls .entry)) 0 r) (now (round .entry))) ⌝ }
     ensures { λ _. ⌜ now (table .exit) ≡ now (table .entry) ⌝ }
     ensures { λ _. ⌜ now (calls .exit) ≡ now (calls .entry) ⌝ }
 {
@@ -293,7 +294,8 @@ pub extern "C" fn deliver(
     player: u32,
     commits: &mut [u8],
 ) -> u64
-    ensures { λ r. ⌜ delivery r (now (round .exit)) (now (commits .exit)) ≡ deliverOn (now (table .entry)) (now (round .entry)) number event player (now (commits .entry)) ⌝ }
+    ensures { λ r. ⌜ delivery r (now (round .exit)) (now (commits .exit))
+        ≡ deliverOn (now (table .entry)) (now (round .entry)) number event player (now (commits .entry)) ⌝ }
     ensures { λ _. ⌜ now (table .exit) ≡ now (table .entry) ⌝ }
 {
     run_deliver::deliver_at(&*table, round, number, event, player, commits)

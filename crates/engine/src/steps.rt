@@ -20,7 +20,8 @@ fn steps_from(
     answers: &mut [u8],
 ) -> usize
     requires { ⌜ RoundSound (now table) (now round) × (i ≤ n) × (n * 6 ≤ length (now calls)) × (n * 8 ≤ length (now answers)) ⌝ }
-    ensures { λ r. ⌜ RowOfSteps (now (table .entry)) (now (calls .entry)) n i (now (round .entry)) (now (answers .entry)) r (now (round .exit)) (now (answers .exit)) ⌝ }
+    ensures { λ r. ⌜ RowOfSteps (now (table .entry)) (now (calls .entry)) n i (now (round .entry))
+        (now (answers .entry)) r (now (round .exit)) (now (answers .exit)) ⌝ }
 {
     let mut at = i;
     let mut outranked = run_step::is_outranked(&*table, round);
@@ -47,7 +48,8 @@ pub fn past_steps(
     answers: &mut [u8],
 ) -> usize
     requires { ⌜ (i < n) × (n * 6 ≤ length (now calls)) × (n * 8 ≤ length (now answers)) ⌝ }
-    ensures { λ r. ⌜ RowOfSteps (now (table .entry)) (now (calls .entry)) n i (now (round .entry)) (now (answers .entry)) r (now (round .exit)) (now (answers .exit)) ⌝ }
+    ensures { λ r. ⌜ RowOfSteps (now (table .entry)) (now (calls .entry)) n i (now (round .entry))
+        (now (answers .entry)) r (now (round .exit)) (now (answers .exit)) ⌝ }
 {
     if calls[i * CALL_BYTES] != STEP {
         return i;

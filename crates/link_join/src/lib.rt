@@ -48,7 +48,8 @@ fn result_at(v: &[u8], params: &[u8], buffer: &mut [u8]) -> u64
 // Two sheets that compile takes.
 fn pool_at(first: &[u8], second: &[u8], params: &[u8], buffer: &mut [u8]) -> u64
     requires { ⌜ (numberOn (now first) (now params) ≡ 0) × (numberOn (now second) (now params) ≡ 0) ⌝ }
-    ensures { λ r. ⌜ joined r (now (buffer .exit)) ≡ poolRead (readSheet (now (first .entry))) (readSheet (now (second .entry))) (now (params .entry)) (now (buffer .entry)) ⌝ }
+    ensures { λ r. ⌜ joined r (now (buffer .exit))
+        ≡ poolRead (readSheet (now (first .entry))) (readSheet (now (second .entry))) (now (params .entry)) (now (buffer .entry)) ⌝ }
 {
     if !link_events::ranks_agree(first, second) {
         return UNLIKE_RANKS;

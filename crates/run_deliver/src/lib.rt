@@ -61,7 +61,8 @@ fn is_full(waiting: u32, running: u32) -> bool
 // Why a delivery is refused whose table and round are judged: the first of 43, 44, 24, 15, 25 and 17 that fits, or 0.
 fn refusal_of(table: &[u8], round: &[u8], number: u32, event: u32, player: u32) -> u32
     requires { ⌜ Bounds (now table) (now round) ⌝ }
-    ensures { λ r. ⌜ r ≡ deliveryRefusal (taken (now (round .entry))) (eventCount (now (table .entry))) (sendersAt (now (table .entry)) event) number event player ⌝ }
+    ensures { λ r. ⌜ r ≡ deliveryRefusal (taken (now (round .entry))) (eventCount (now (table .entry)))
+        (sendersAt (now (table .entry)) event) number event player ⌝ }
     ensures { λ r. ⌜ (r ≡ 0 → (player < 8) × (event < 32) × (number < 1000000)) ⌝ }
 {
     let before = lib_word::get_word(round, round::TAKEN);
@@ -112,7 +113,8 @@ fn deliver_full(
     commits: &mut [u8],
 ) -> u64
     requires { ⌜ RoundSound (now table) (now round) × (number < 1000000) × (event < 32) × (player < 8) ⌝ }
-    ensures { λ r. ⌜ delivery r (now (round .exit)) (now (commits .exit)) ≡ deliverFull (now (table .entry)) (now (round .entry)) number event player (now (commits .entry)) ⌝ }
+    ensures { λ r. ⌜ delivery r (now (round .exit)) (now (commits .exit))
+        ≡ deliverFull (now (table .entry)) (now (round .entry)) number event player (now (commits .entry)) ⌝ }
 {
     if commits.len() < COMMIT_BYTES {
         return said_of(NO_COMMIT_ROOM, 0, 0);
@@ -138,7 +140,8 @@ fn deliver_known(
     commits: &mut [u8],
 ) -> u64
     requires { ⌜ RoundSound (now table) (now round) × (number < 1000000) × (event < 32) × (player < 8) ⌝ }
-    ensures { λ r. ⌜ delivery r (now (round .exit)) (now (commits .exit)) ≡ deliverKnown (now (table .entry)) (now (round .entry)) number event player (now (commits .entry)) ⌝ }
+    ensures { λ r. ⌜ delivery r (now (round .exit)) (now (commits .exit))
+        ≡ deliverKnown (now (table .entry)) (now (round .entry)) number event player (now (commits .entry)) ⌝ }
 {
     let waiting = lib_word::get_word(round, round::WAITING);
     if is_full(waiting, lib_word::get_word(round, round::RUNNING)) {
@@ -158,7 +161,8 @@ pub fn deliver_at(
     player: u32,
     commits: &mut [u8],
 ) -> u64
-    ensures { λ r. ⌜ delivery r (now (round .exit)) (now (commits .exit)) ≡ deliverOn (now (table .entry)) (now (round .entry)) number event player (now (commits .entry)) ⌝ }
+    ensures { λ r. ⌜ delivery r (now (round .exit)) (now (commits .exit))
+        ≡ deliverOn (now (table .entry)) (now (round .entry)) number event player (now (commits .entry)) ⌝ }
 {
     if !run_validate::is_ours(&*table, round) {
         return refusals::FOREIGN as u64;

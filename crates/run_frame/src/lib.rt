@@ -88,7 +88,8 @@ fn idle_or(table: &[u8], round: &[u8], why: u64) -> u64
 // Table and round are judged, steps are asked for, and there is room for so many commits.
 fn frame_in(table: &[u8], round: &mut [u8], steps: u32, room: u32, commits: &mut [u8]) -> u64
     requires { ⌜ RoundSound (now table) (now round) × (room < 16777216) × (room * 8 ≤ length (now commits)) × (steps ≢ 0) ⌝ }
-    ensures { λ r. ⌜ framed r (now (round .exit)) (now (commits .exit)) ≡ frameFrom (now (table .entry)) room steps 0 0 (now (round .entry)) (now (commits .entry)) ⌝ }
+    ensures { λ r. ⌜ framed r (now (round .exit)) (now (commits .exit))
+        ≡ frameFrom (now (table .entry)) room steps 0 0 (now (round .entry)) (now (commits .entry)) ⌝ }
 {
     let mut left = steps;
     let mut written = 0;

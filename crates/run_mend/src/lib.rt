@@ -48,7 +48,9 @@ fn hand_known(table: &[u8], round: &[u8]) -> bool
 fn back_in_hand(round: &mut [u8])
     requires { ⌜ 2048 ≤ length (now round) ⌝ }
     requires { ⌜ (runningFlag (now round) ≢ 0 → waitingCount (now round) ≤ 63) ⌝ }
-    ensures { λ _. ⌜ now (round .exit) ≡ backInHand (now (round .entry)) (waitingCount (now (round .entry))) (runningFlag (now (round .entry))) (runningNumber (now (round .entry))) (runningWord (now (round .entry))) ⌝ }
+    ensures { λ _. ⌜ now (round .exit)
+        ≡ backInHand (now (round .entry)) (waitingCount (now (round .entry)))
+        (runningFlag (now (round .entry))) (runningNumber (now (round .entry))) (runningWord (now (round .entry))) ⌝ }
 {
     if lib_word::get_word(round, round::RUNNING) == 0 {
         return;

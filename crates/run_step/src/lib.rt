@@ -58,7 +58,8 @@ fn is_preempted(table: &[u8], round: &[u8], outranked: bool) -> bool
 pub fn step_on(table: &[u8], round: &mut [u8], outranked: bool) -> u64
     requires { ⌜ RoundSound (now table) (now round) × (isOutranked (now table) (now round) ≡ outranked) ⌝ }
     ensures { λ r. ⌜ callResult r (now (round .exit)) ≡ stepOn (now (table .entry)) (now (round .entry)) ⌝ }
-    ensures { λ r. ⌜ RoundSound (now (table .entry)) (now (round .exit)) × (isOutranked (now (table .entry)) (now (round .exit)) ≡ outrankedAfter outranked r) ⌝ }
+    ensures { λ r. ⌜ RoundSound (now (table .entry)) (now (round .exit))
+        × (isOutranked (now (table .entry)) (now (round .exit)) ≡ outrankedAfter outranked r) ⌝ }
 {
     let waiting = lib_word::get_word(round, round::WAITING) as usize;
     // Unmasked, and something in the hand outranks the running event: that goes back to the hand, its scratch is

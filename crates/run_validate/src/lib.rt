@@ -60,7 +60,9 @@ fn slots_fit(round: &[u8], known: u32, n: usize) -> bool
 // Whether nothing runs, or there is room in the hand for what runs, its word fits, and its position is in its code.
 fn running_fits(table: &[u8], round: &[u8], known: u32, waiting: u32) -> bool
     requires { ⌜ (34816 ≤ length (now table)) × (2048 ≤ length (now round)) ⌝ }
-    ensures { λ r. ⌜ r ≡ runningFits waiting (runningFlag (now (round .entry))) (handFits known (runningWord (now (round .entry)))) (position (now (round .entry))) (eventWord (now (table .entry)) (runningEvent (now (round .entry))) 2) ⌝ }
+    ensures { λ r. ⌜ r ≡ runningFits waiting (runningFlag (now (round .entry)))
+        (handFits known (runningWord (now (round .entry)))) (position (now (round .entry)))
+        (eventWord (now (table .entry)) (runningEvent (now (round .entry))) 2) ⌝ }
 {
     if lib_word::get_word(round, Round::RUNNING) == 0 {
         return true;

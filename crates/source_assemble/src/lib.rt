@@ -126,7 +126,9 @@ fn read_with(
     requires { ⌜ length (now declared) ≡ 72 ⌝ }
     requires { ⌜ (length (now starts) ≡ 65) × All (λ i. i ≤ 64) (now starts) ⌝ }
     requires { ⌜ length (now out) ≡ 8192 ⌝ }
-    ensures { λ r. ⌜ TextRead (now (text .entry)) (meaningIn (now (text .entry)) (now (names .entry)) params (now (firsts .entry))) (now (out .entry)) (now (out .exit)) (now (declared .exit)) (now (starts .exit)) r (readText (now (text .entry))) ⌝ }
+    ensures { λ r. ⌜ TextRead (now (text .entry))
+        (meaningIn (now (text .entry)) (now (names .entry)) params (now (firsts .entry))) (now (out .entry))
+        (now (out .exit)) (now (declared .exit)) (now (starts .exit)) r (readText (now (text .entry))) ⌝ }
     ensures { λ _. ⌜ length (now (declared .exit)) ≡ 72 ⌝ }
     ensures { λ _. ⌜ length (now (out .exit)) ≡ 8192 ⌝ }
 {

@@ -21,7 +21,8 @@ ghost use Rattle.source_language.specs.Tokens.{sign, param-word, event-word};
 ghost use Rattle.source_language.specs.Reader.{morePlayers, playersOf, fromOf, seenOf, defaultOf, parameterOf, eventDeclared};
 ghost use Rattle.source_coding.specs.Places.{tokensFrom, nameAt, namesHeld};
 ghost use Rattle.source_declarations.specs.Players.{playersSaid, RightsRead, RightsWithin};
-ghost use Rattle.source_declarations.specs.Declarations.{rankedOf, ParameterRead, ParameterWithin, TextEventRead, EventWithin, parametersDeclared, eventsDeclared, ParametersRead, EventsRead, DeclaredWithin};
+ghost use Rattle.source_declarations.specs.Declarations.{rankedOf, ParameterRead, ParameterWithin, TextEventRead, EventWithin};
+ghost use Rattle.source_declarations.specs.Declarations.{parametersDeclared, eventsDeclared, ParametersRead, EventsRead, DeclaredWithin};
 ghost use Rattle.source_declarations.specs.Written.{dueFault};
 
 // Who may send or see: the place behind it, and the players' bits, 256 where nothing is said; or a fault's word.
@@ -169,7 +170,9 @@ fn parameter_at(text: &[u8], p: usize, at: usize, names: &[usize], count: usize)
     requires { ⌜ at ≤ length (now text) ⌝ }
     requires { ⌜ p ≤ at ⌝ }
     requires { ⌜ count ≤ length (now names) ⌝ }
-    ensures { λ r. ⌜ ParameterRead (now (text .entry)) r (parameterOf (namesHeld (now (text .entry)) (now (names .entry)) count) (sign p param-word ∷ tokensFrom (now (text .entry)) at)) ⌝ }
+    ensures { λ r. ⌜ ParameterRead (now (text .entry)) r
+        (parameterOf (namesHeld (now (text .entry)) (now (names .entry)) count)
+        (sign p param-word ∷ tokensFrom (now (text .entry)) at)) ⌝ }
     ensures { λ r. ⌜ ParameterWithin (length (now (text .entry))) at r ⌝ }
 {
     if sheet::PARAMETERS <= count {
@@ -242,7 +245,9 @@ fn event_at(text: &[u8], p: usize, at: usize, events: &[usize], count: usize) ->
     requires { ⌜ at ≤ length (now text) ⌝ }
     requires { ⌜ p ≤ at ⌝ }
     requires { ⌜ count ≤ length (now events) ⌝ }
-    ensures { λ r. ⌜ TextEventRead (now (text .entry)) r (eventDeclared (namesHeld (now (text .entry)) (now (events .entry)) count) (sign p event-word ∷ tokensFrom (now (text .entry)) at)) ⌝ }
+    ensures { λ r. ⌜ TextEventRead (now (text .entry)) r
+        (eventDeclared (namesHeld (now (text .entry)) (now (events .entry)) count)
+        (sign p event-word ∷ tokensFrom (now (text .entry)) at)) ⌝ }
     ensures { λ r. ⌜ EventWithin (length (now (text .entry))) at r ⌝ }
 {
     if sheet::EVENTS <= count {
@@ -265,7 +270,8 @@ pub fn events_at(text: &[u8], at: usize, events: &mut [usize], out: &mut [u8], n
     requires { ⌜ at ≤ length (now text) ⌝ }
     requires { ⌜ length (now events) ≡ 32 ⌝ }
     requires { ⌜ n ≤ at * 16 ⌝ }
-    ensures { λ r. ⌜ EventsRead (now (text .entry)) (now (events .exit)) n (now (out .entry)) (now (out .exit)) r (eventsDeclared (tokensFrom (now (text .entry)) at)) ⌝ }
+    ensures { λ r. ⌜ EventsRead (now (text .entry)) (now (events .exit)) n (now (out .entry)) (now (out .exit)) r
+        (eventsDeclared (tokensFrom (now (text .entry)) at)) ⌝ }
     ensures { λ r. ⌜ DeclaredWithin (length (now (text .entry))) at r ⌝ }
     ensures { λ _. ⌜ length (now (events .exit)) ≡ 32 ⌝ }
     ensures { λ _. ⌜ length (now (out .exit)) ≡ length (now (out .entry)) ⌝ }

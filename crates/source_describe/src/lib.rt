@@ -42,7 +42,9 @@ ghost use Rattle.source_rendering.specs.Describe.{parametersFrom, phaseTokens, 
 ghost use Rattle.source_walk.specs.Fields.{neededIn};
 ghost use Rattle.source_walk.specs.Heads.{HeadsOf};
 ghost use Rattle.source_terms.specs.Put.{TokensPut, startPen};
-ghost use Rattle.source_describe.specs.Walk.{handlerTokens, handlersTokens, bitTokens, rightTokens, viewerTokens, activeTokens, passiveTokens, rowTokens, stateTokens, entryTokens, entriesTokens, senderTokens, signalTokens, signalsTokens, behavioursIn, sheetTokens};
+ghost use Rattle.source_describe.specs.Walk.{handlerTokens, handlersTokens, bitTokens, rightTokens, viewerTokens, activeTokens};
+ghost use Rattle.source_describe.specs.Walk.{passiveTokens, rowTokens, stateTokens, entryTokens, entriesTokens, senderTokens};
+ghost use Rattle.source_describe.specs.Walk.{signalTokens, signalsTokens, behavioursIn, sheetTokens};
 ghost use Rattle.source_describe.specs.Describing.{describeOn};
 
 // When a handler runs: at once, or later.
@@ -74,7 +76,8 @@ fn put_handler(
 ) -> Pen
     requires { ⌜ (first ≤ length (now s)) × (at ≤ length (now s)) × HeadsOf (now s) first (now heads) ⌝ }
     requires { ⌜ pen .at ≤ 65548 ⌝ }
-    ensures { λ r. ⌜ TokensPut (now (out .entry)) (now (out .exit)) pen r (handlerTokens (length (now (s .entry))) (drop first (now (s .entry))) (drop at (now (s .entry)))) ⌝ }
+    ensures { λ r. ⌜ TokensPut (now (out .entry)) (now (out .exit)) pen r
+        (handlerTokens (length (now (s .entry))) (drop first (now (s .entry))) (drop at (now (s .entry)))) ⌝ }
 {
     let event = byte_from(s, at, sizes::HEADER) as usize;
     let phase = byte_from(s, at, PHASE);
@@ -96,7 +99,9 @@ fn put_handlers(
 ) -> Pen
     requires { ⌜ (first ≤ length (now s)) × (from ≤ length (now s)) × HeadsOf (now s) first (now heads) ⌝ }
     requires { ⌜ pen .at ≤ 65548 ⌝ }
-    ensures { λ r. ⌜ TokensPut (now (out .entry)) (now (out .exit)) pen r (handlersTokens (length (now (s .entry))) (drop first (now (s .entry))) (length (now (s .entry))) (drop from (now (s .entry)))) ⌝ }
+    ensures { λ r. ⌜ TokensPut (now (out .entry)) (now (out .exit)) pen r
+        (handlersTokens (length (now (s .entry))) (drop first (now (s .entry))) (length (now (s .entry)))
+        (drop from (now (s .entry)))) ⌝ }
 {
     let mut at = from;
     let mut left = s.len();
@@ -177,7 +182,8 @@ fn put_active(
 ) -> Pen
     requires { ⌜ (first ≤ length (now s)) × (at ≤ length (now s)) × HeadsOf (now s) first (now heads) ⌝ }
     requires { ⌜ pen .at ≤ 65548 ⌝ }
-    ensures { λ r. ⌜ TokensPut (now (out .entry)) (now (out .exit)) pen r (activeTokens (length (now (s .entry))) (drop first (now (s .entry))) (drop at (now (s .entry)))) ⌝ }
+    ensures { λ r. ⌜ TokensPut (now (out .entry)) (now (out .exit)) pen r
+        (activeTokens (length (now (s .entry))) (drop first (now (s .entry))) (drop at (now (s .entry)))) ⌝ }
 {
     let start = word_from(s, onward(s, at, sizes::HEADER));
     let handlers = onward(s, at, sizes::WORD_FIELD);
@@ -199,7 +205,8 @@ fn put_passive(
 ) -> Pen
     requires { ⌜ (first ≤ length (now s)) × (at ≤ length (now s)) × (j < 256) × HeadsOf (now s) first (now heads) ⌝ }
     requires { ⌜ pen .at ≤ 65548 ⌝ }
-    ensures { λ r. ⌜ TokensPut (now (out .entry)) (now (out .exit)) pen r (passiveTokens (length (now (s .entry))) (drop first (now (s .entry))) j (drop at (now (s .entry)))) ⌝ }
+    ensures { λ r. ⌜ TokensPut (now (out .entry)) (now (out .exit)) pen r
+        (passiveTokens (length (now (s .entry))) (drop first (now (s .entry))) j (drop at (now (s .entry)))) ⌝ }
 {
     let viewers = after_field(s, at);
     let word = put_sign(out, pen, signs::PASSIVE);
@@ -221,7 +228,8 @@ fn put_state(
 ) -> Pen
     requires { ⌜ (first ≤ length (now s)) × (at ≤ length (now s)) × (j < 256) × HeadsOf (now s) first (now heads) ⌝ }
     requires { ⌜ pen .at ≤ 65548 ⌝ }
-    ensures { λ r. ⌜ TokensPut (now (out .entry)) (now (out .exit)) pen r (stateTokens (length (now (s .entry))) (drop first (now (s .entry))) j (drop at (now (s .entry)))) ⌝ }
+    ensures { λ r. ⌜ TokensPut (now (out .entry)) (now (out .exit)) pen r
+        (stateTokens (length (now (s .entry))) (drop first (now (s .entry))) j (drop at (now (s .entry)))) ⌝ }
 {
     let word = put_sign(out, pen, signs::ACTIVE);
     let named = put_name(out, word, BEHAVIOUR, j);
@@ -241,7 +249,8 @@ fn put_row(
 ) -> Pen
     requires { ⌜ (first ≤ length (now s)) × (at ≤ length (now s)) × (j < 256) × HeadsOf (now s) first (now heads) ⌝ }
     requires { ⌜ pen .at ≤ 65548 ⌝ }
-    ensures { λ r. ⌜ TokensPut (now (out .entry)) (now (out .exit)) pen r (rowTokens (length (now (s .entry))) (drop first (now (s .entry))) j (drop at (now (s .entry)))) ⌝ }
+    ensures { λ r. ⌜ TokensPut (now (out .entry)) (now (out .exit)) pen r
+        (rowTokens (length (now (s .entry))) (drop first (now (s .entry))) j (drop at (now (s .entry)))) ⌝ }
 {
     let cells = byte_from(s, at, places::CELLS) as u64;
     let rest = onward(s, at, places::START);
@@ -266,7 +275,8 @@ fn put_entry(
 ) -> Pen
     requires { ⌜ (first ≤ length (now s)) × (at ≤ length (now s)) × (j < 256) × HeadsOf (now s) first (now heads) ⌝ }
     requires { ⌜ pen .at ≤ 65548 ⌝ }
-    ensures { λ r. ⌜ TokensPut (now (out .entry)) (now (out .exit)) pen r (entryTokens (length (now (s .entry))) (drop first (now (s .entry))) j (drop at (now (s .entry)))) ⌝ }
+    ensures { λ r. ⌜ TokensPut (now (out .entry)) (now (out .exit)) pen r
+        (entryTokens (length (now (s .entry))) (drop first (now (s .entry))) j (drop at (now (s .entry)))) ⌝ }
 {
     let tag = byte_from(s, at, 0);
     let value = onward(s, at, sizes::HEADER);
@@ -286,7 +296,9 @@ const LAST_BEHAVIOUR: usize = limits::BEHAVIOURS - 1;
 fn put_entries(s: &[u8], first: usize, heads: &[u8; BYTE], out: &mut [u8], pen: Pen) -> Pen
     requires { ⌜ (first ≤ length (now s)) × HeadsOf (now s) first (now heads) ⌝ }
     requires { ⌜ pen .at ≤ 65548 ⌝ }
-    ensures { λ r. ⌜ TokensPut (now (out .entry)) (now (out .exit)) pen r (entriesTokens (length (now (s .entry))) (drop first (now (s .entry))) (length (now (s .entry))) 0 (drop first (now (s .entry)))) ⌝ }
+    ensures { λ r. ⌜ TokensPut (now (out .entry)) (now (out .exit)) pen r
+        (entriesTokens (length (now (s .entry))) (drop first (now (s .entry))) (length (now (s .entry))) 0
+        (drop first (now (s .entry)))) ⌝ }
 {
     let mut at = first;
     let mut j = 0usize;

@@ -119,7 +119,8 @@ fn put_cell(out: &mut [u8], pen: Pen, h: usize, i: usize) -> Pen
 fn put_leaf(s: &[u8], first: usize, heads: &[u8; BYTE], at: usize, out: &mut [u8], pen: Pen) -> Pen
     requires { ⌜ (first ≤ length (now s)) × (at ≤ length (now s)) × HeadsOf (now s) first (now heads) ⌝ }
     requires { ⌜ pen .at ≤ 65548 ⌝ }
-    ensures { λ r. ⌜ TokensPut (now (out .entry)) (now (out .exit)) pen r (leafTokens (length (now (s .entry))) (drop first (now (s .entry))) (drop at (now (s .entry)))) ⌝ }
+    ensures { λ r. ⌜ TokensPut (now (out .entry)) (now (out .exit)) pen r
+        (leafTokens (length (now (s .entry))) (drop first (now (s .entry))) (drop at (now (s .entry)))) ⌝ }
 {
     let tag = byte_from(s, at, 0);
     if tag == tags::CONSTANT {
@@ -216,7 +217,8 @@ pub fn put_term(
 ) -> Pen
     requires { ⌜ (first ≤ length (now s)) × (at ≤ length (now s)) × HeadsOf (now s) first (now heads) ⌝ }
     requires { ⌜ pen .at ≤ 65548 ⌝ }
-    ensures { λ r. ⌜ TokensPut (now (out .entry)) (now (out .exit)) pen r (termTokens (length (now (s .entry))) (drop first (now (s .entry))) room level (drop at (now (s .entry)))) ⌝ }
+    ensures { λ r. ⌜ TokensPut (now (out .entry)) (now (out .exit)) pen r
+        (termTokens (length (now (s .entry))) (drop first (now (s .entry))) room level (drop at (now (s .entry)))) ⌝ }
 {
     if room == 0 {
         return pen;
