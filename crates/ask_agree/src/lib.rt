@@ -10,6 +10,7 @@ ghost use Rattle.draft_form.specs.Draft.{draftLength};
 ghost use Rattle.check_faults.specs.Checks.{AllInside};
 ghost use Rattle.ask_agree.specs.Conflict.{clash, leastIn, conflictWith, conflictFrom, conflictBy, conflictOn, member};
 ghost use Rattle.ask_agree.specs.Agree.{agreeOn};
+ghost use Rattle.spec_language.specs.Limits.{behaviourLimit, eventLimit};
 use back_compile::Judgement;
 use draft_form::layout;
 
@@ -38,7 +39,7 @@ fn clash_of(we: u64, ne: u64, wf: u64, nf: u64) -> u64
 
 // The least behaviour in the set, with the events; 0 for an empty set.
 pub fn least_in(set: u64, n: usize, e: usize, f: usize) -> u64
-    requires { ⌜ (n ≤ 64) × (e < 32) × (f < 32) ⌝ }
+    requires { ⌜ (n ≤ behaviourLimit) × (e < eventLimit) × (f < eventLimit) ⌝ }
     ensures { λ r. ⌜ r ≡ leastIn set n e f ⌝ }
 {
     if set == 0 {
@@ -56,7 +57,8 @@ pub fn least_in(set: u64, n: usize, e: usize, f: usize) -> u64
 
 // Whether the events e and f clash, of unequal priority.
 fn clash_with(d: &[u64], writes: &[u64], named: &[u64], n: usize, e: usize, f: usize) -> u64
-    requires { ⌜ (length (now d) ≡ draftLength) × (length (now writes) ≡ 32) × (length (now named) ≡ 32) × (n ≤ 64) × (e < 32) × (f < 32) ⌝ }
+    requires { ⌜ (length (now d) ≡ draftLength) × (length (now writes) ≡ eventLimit) × (length (now named) ≡ eventLimit) × (n ≤ behaviourLimit)
+        × (e < eventLimit) × (f < eventLimit) ⌝ }
     ensures { λ r. ⌜ r ≡ conflictWith (now (d .entry)) n (member (now (writes .entry))) (member (now (named .entry))) e f ⌝ }
 {
     if d[PRIORITIES + e] == d[PRIORITIES + f] {
@@ -67,7 +69,8 @@ fn clash_with(d: &[u64], writes: &[u64], named: &[u64], n: usize, e: usize, f: u
 
 // The first event after e with which it clashes.
 fn clash_from(d: &[u64], writes: &[u64], named: &[u64], n: usize, ev: usize, e: usize) -> u64
-    requires { ⌜ (length (now d) ≡ draftLength) × (length (now writes) ≡ 32) × (length (now named) ≡ 32) × (n ≤ 64) × (ev ≤ 32) × (e < ev) ⌝ }
+    requires { ⌜ (length (now d) ≡ draftLength) × (length (now writes) ≡ eventLimit) × (length (now named) ≡ eventLimit) × (n ≤ behaviourLimit)
+        × (ev ≤ eventLimit) × (e < ev) ⌝ }
     ensures { λ r. ⌜ r ≡ conflictFrom (now (d .entry)) n (member (now (writes .entry))) (member (now (named .entry))) ev e ⌝ }
 {
     let mut f = e + 1;
@@ -83,7 +86,8 @@ fn clash_from(d: &[u64], writes: &[u64], named: &[u64], n: usize, ev: usize, e: 
 
 // The first event that clashes with a later one.
 fn clash_by(d: &[u64], writes: &[u64], named: &[u64], n: usize, ev: usize) -> u64
-    requires { ⌜ (length (now d) ≡ draftLength) × (length (now writes) ≡ 32) × (length (now named) ≡ 32) × (n ≤ 64) × (ev ≤ 32) ⌝ }
+    requires { ⌜ (length (now d) ≡ draftLength) × (length (now writes) ≡ eventLimit) × (length (now named) ≡ eventLimit) × (n ≤ behaviourLimit)
+        × (ev ≤ eventLimit) ⌝ }
     ensures { λ r. ⌜ r ≡ conflictBy (now (d .entry)) n (member (now (writes .entry))) (member (now (named .entry))) ev ⌝ }
 {
     let mut e = 0;
@@ -99,7 +103,7 @@ fn clash_by(d: &[u64], writes: &[u64], named: &[u64], n: usize, ev: usize) -> u6
 
 // The same on a draft of ev events and n behaviours.
 fn clash_in(d: &[u64], ev: usize, n: usize) -> u64
-    requires { ⌜ (length (now d) ≡ draftLength) × (ev ≤ 32) × (n ≤ 64) × AllInside (now d) ev n ⌝ }
+    requires { ⌜ (length (now d) ≡ draftLength) × (ev ≤ eventLimit) × (n ≤ behaviourLimit) × AllInside (now d) ev n ⌝ }
     ensures { λ r. ⌜ r ≡ conflictOn (now (d .entry)) ev n ⌝ }
 {
     let mut writes = [0u64; EVENTS];

@@ -12,6 +12,7 @@ ghost use Rattle.check_faults.specs.Checks.{AllInside};
 ghost use Rattle.ask_meets.specs.Meeting.{meeting, inCone};
 ghost use Rattle.ask_agree_for.specs.Encounter.{encounterWith, encounterFrom, encounterBy, priorityOn, metBy, DraftFor};
 ghost use Rattle.ask_agree_for.specs.AgreeFor.{encounterIn, agreeForIn, agreeForOn};
+ghost use Rattle.spec_language.specs.Limits.{behaviourLimit, eventLimit};
 use back_compile::Judgement;
 use draft_form::layout;
 use spec_language::limits;
@@ -41,7 +42,8 @@ fn meet_with(
     e: usize,
     f: usize,
 ) -> u64
-    requires { ⌜ (length (now d) ≡ draftLength) × (length (now writes) ≡ 32) × (length (now strict) ≡ 32) × (n ≤ 64) × (e < 32) × (f < 32) ⌝ }
+    requires { ⌜ (length (now d) ≡ draftLength) × (length (now writes) ≡ eventLimit) × (length (now strict) ≡ eventLimit) × (n ≤ behaviourLimit)
+        × (e < eventLimit) × (f < eventLimit) ⌝ }
     ensures { λ r. ⌜ r ≡ encounterWith (priorityOn (now (d .entry))) n (metBy cone (now (writes .entry)) (now (strict .entry))) e f ⌝ }
 {
     if d[PRIORITIES + e] == d[PRIORITIES + f] {
@@ -65,7 +67,8 @@ fn meet_from(
     ev: usize,
     e: usize,
 ) -> u64
-    requires { ⌜ (length (now d) ≡ draftLength) × (length (now writes) ≡ 32) × (length (now strict) ≡ 32) × (n ≤ 64) × (ev ≤ 32) × (e < ev) ⌝ }
+    requires { ⌜ (length (now d) ≡ draftLength) × (length (now writes) ≡ eventLimit) × (length (now strict) ≡ eventLimit) × (n ≤ behaviourLimit)
+        × (ev ≤ eventLimit) × (e < ev) ⌝ }
     ensures { λ r. ⌜ r ≡ encounterFrom (priorityOn (now (d .entry))) n (metBy cone (now (writes .entry)) (now (strict .entry))) ev e ⌝ }
 {
     let mut f = e + 1;
@@ -81,7 +84,8 @@ fn meet_from(
 
 // The first event that meets a later one.
 fn meet_by(d: &[u64], writes: &[u64], strict: &[u64], cone: u64, n: usize, ev: usize) -> u64
-    requires { ⌜ (length (now d) ≡ draftLength) × (length (now writes) ≡ 32) × (length (now strict) ≡ 32) × (n ≤ 64) × (ev ≤ 32) ⌝ }
+    requires { ⌜ (length (now d) ≡ draftLength) × (length (now writes) ≡ eventLimit) × (length (now strict) ≡ eventLimit) × (n ≤ behaviourLimit)
+        × (ev ≤ eventLimit) ⌝ }
     ensures { λ r. ⌜ r ≡ encounterBy (priorityOn (now (d .entry))) n (metBy cone (now (writes .entry)) (now (strict .entry))) ev ⌝ }
 {
     let mut e = 0;
@@ -97,7 +101,7 @@ fn meet_by(d: &[u64], writes: &[u64], strict: &[u64], cone: u64, n: usize, ev: u
 
 // The same on a draft of ev events and n behaviours, in what behaviour b depends on.
 fn meet_in(d: &[u64], ev: usize, n: usize, b: usize) -> u64
-    requires { ⌜ (length (now d) ≡ draftLength) × (ev ≤ 32) × (n ≤ 64) × (b < n) × AllInside (now d) ev n ⌝ }
+    requires { ⌜ (length (now d) ≡ draftLength) × (ev ≤ eventLimit) × (n ≤ behaviourLimit) × (b < n) × AllInside (now d) ev n ⌝ }
     ensures { λ r. ⌜ ((p : Program) → DraftFor p (now (d .entry)) ev n → r ≡ encounterIn p (inCone p b)) ⌝ }
 {
     let mut rows = [0u64; limits::BEHAVIOURS];
@@ -112,7 +116,7 @@ fn meet_in(d: &[u64], ev: usize, n: usize, b: usize) -> u64
 
 // The answer for a sheet that compile accepts.
 fn agree_for_of(d: &[u64], ev: usize, n: usize, behaviour: u32) -> u64
-    requires { ⌜ (length (now d) ≡ draftLength) × (ev ≤ 32) × (n ≤ 64) × AllInside (now d) ev n ⌝ }
+    requires { ⌜ (length (now d) ≡ draftLength) × (ev ≤ eventLimit) × (n ≤ behaviourLimit) × AllInside (now d) ev n ⌝ }
     ensures { λ r. ⌜ ((p : Program) → DraftFor p (now (d .entry)) ev n → r ≡ agreeForIn p behaviour) ⌝ }
 {
     if n <= behaviour as usize {

@@ -14,6 +14,7 @@ ghost use Rattle.check_reads.specs.First.{firstFrom};
 ghost use Rattle.ask_leak.specs.Leaking.{leakAt, leakFrom, leakBy, namesAny, hiddenOn, leakingOn, leakFor};
 ghost use Rattle.ask_leak.specs.Answer.{packedLeak};
 ghost use Rattle.ask_leak.specs.Leak.{leakOn};
+ghost use Rattle.spec_language.specs.Limits.{behaviourLimit, eventLimit, playerLimit};
 use back_compile::Judgement;
 use draft_form::layout;
 
@@ -32,8 +33,8 @@ const VIEWERS: usize = layout::VIEWERS;
 
 // The names in behaviour i, its expression or its handlers for ev events.
 pub fn names_of(d: &[u64], ev: usize, i: usize, n: usize) -> u64
-    requires { ⌜ (length (now d) ≡ draftLength) × (ev ≤ 32) × (n ≤ 64) × (i < n) × AllInside (now d) ev n ⌝ }
-    ensures { λ r. ⌜ Gathers 64 r (namesAny (now (d .entry)) ev i) ⌝ }
+    requires { ⌜ (length (now d) ≡ draftLength) × (ev ≤ eventLimit) × (n ≤ behaviourLimit) × (i < n) × AllInside (now d) ev n ⌝ }
+    ensures { λ r. ⌜ Gathers behaviourLimit r (namesAny (now (d .entry)) ev i) ⌝ }
 {
     let mut set = 0;
     let mut e = 0;
@@ -47,7 +48,7 @@ pub fn names_of(d: &[u64], ev: usize, i: usize, n: usize) -> u64
 
 // The set with j, hidden from the player by the byte of who may see it.
 fn add_hidden(set: u64, j: usize, byte: u64, player: usize) -> u64
-    requires { ⌜ (j < 64) × (player < 8) ⌝ }
+    requires { ⌜ (j < behaviourLimit) × (player < playerLimit) ⌝ }
     ensures { λ r. ⌜ ((h : ℕ) → bit r h ≡ bit set h || (not (may byte player) && eqb h j)) ⌝ }
 {
     if player == 0 {
@@ -61,7 +62,7 @@ fn add_hidden(set: u64, j: usize, byte: u64, player: usize) -> u64
 
 // Which of the first n behaviours are hidden from the player.
 fn hidden_of(d: &[u64], n: usize, player: usize) -> u64
-    requires { ⌜ (length (now d) ≡ draftLength) × (n ≤ 64) × (player < 8) ⌝ }
+    requires { ⌜ (length (now d) ≡ draftLength) × (n ≤ behaviourLimit) × (player < playerLimit) ⌝ }
     ensures { λ r. ⌜ Gathers n r (hiddenOn (now (d .entry)) player) ⌝ }
 {
     let mut set = 0;
@@ -75,7 +76,7 @@ fn hidden_of(d: &[u64], n: usize, player: usize) -> u64
 
 // The least behaviour in the set, with the one that names it; 0 for an empty set.
 fn least_in(set: u64, n: usize, i: usize) -> u64
-    requires { ⌜ (n ≤ 64) × (i < 64) ⌝ }
+    requires { ⌜ (n ≤ behaviourLimit) × (i < behaviourLimit) ⌝ }
     ensures { λ r. ⌜ r ≡ firstFrom n 0 (λ j. pick (bit set j) (packedLeak i j) 0) ⌝ }
 {
     if set == 0 {
@@ -93,7 +94,7 @@ fn least_in(set: u64, n: usize, i: usize) -> u64
 
 // The hidden behaviour that i names, where i is not hidden.
 fn leak_from(d: &[u64], ev: usize, n: usize, hidden: u64, i: usize) -> u64
-    requires { ⌜ (length (now d) ≡ draftLength) × (ev ≤ 32) × (n ≤ 64) × (i < n) × AllInside (now d) ev n ⌝ }
+    requires { ⌜ (length (now d) ≡ draftLength) × (ev ≤ eventLimit) × (n ≤ behaviourLimit) × (i < n) × AllInside (now d) ev n ⌝ }
     ensures { λ r. ⌜ r ≡ leakFrom n (bit hidden) (namesAny (now (d .entry)) ev) i ⌝ }
 {
     if lib_bits::contains(hidden, i) {
@@ -104,7 +105,7 @@ fn leak_from(d: &[u64], ev: usize, n: usize, hidden: u64, i: usize) -> u64
 
 // The first behaviour that is seen and names a hidden one.
 fn leak_by(d: &[u64], ev: usize, n: usize, hidden: u64) -> u64
-    requires { ⌜ (length (now d) ≡ draftLength) × (ev ≤ 32) × (n ≤ 64) × AllInside (now d) ev n ⌝ }
+    requires { ⌜ (length (now d) ≡ draftLength) × (ev ≤ eventLimit) × (n ≤ behaviourLimit) × AllInside (now d) ev n ⌝ }
     ensures { λ r. ⌜ r ≡ leakBy n (bit hidden) (namesAny (now (d .entry)) ev) ⌝ }
 {
     let mut i = 0;
@@ -120,7 +121,7 @@ fn leak_by(d: &[u64], ev: usize, n: usize, hidden: u64) -> u64
 
 // The same on a draft of ev events and n behaviours, for a player.
 fn leak_in(d: &[u64], ev: usize, n: usize, player: usize) -> u64
-    requires { ⌜ (length (now d) ≡ draftLength) × (ev ≤ 32) × (n ≤ 64) × (player < 8) × AllInside (now d) ev n ⌝ }
+    requires { ⌜ (length (now d) ≡ draftLength) × (ev ≤ eventLimit) × (n ≤ behaviourLimit) × (player < playerLimit) × AllInside (now d) ev n ⌝ }
     ensures { λ r. ⌜ r ≡ leakingOn (now (d .entry)) ev n player ⌝ }
 {
     leak_by(d, ev, n, hidden_of(d, n, player))
@@ -128,7 +129,7 @@ fn leak_in(d: &[u64], ev: usize, n: usize, player: usize) -> u64
 
 // The answer for a sheet that compile accepts.
 fn leak_of(d: &[u64], ev: usize, n: usize, player: u32) -> u64
-    requires { ⌜ (length (now d) ≡ draftLength) × (ev ≤ 32) × (n ≤ 64) × AllInside (now d) ev n ⌝ }
+    requires { ⌜ (length (now d) ≡ draftLength) × (ev ≤ eventLimit) × (n ≤ behaviourLimit) × AllInside (now d) ev n ⌝ }
     ensures { λ r. ⌜ r ≡ leakFor (now (d .entry)) ev n player ⌝ }
 {
     if player > LAST_PLAYER {

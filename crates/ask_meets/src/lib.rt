@@ -15,6 +15,9 @@ ghost use Rattle.check_reads.specs.Sets.{RowsBy};
 ghost use Rattle.ask_leak.specs.Leaking.{namesAny};
 ghost use Rattle.ask_meets.specs.Marks.{nameMark, oneMark, twoMark, ifMark, pushMark, appliedMark, markStep};
 ghost use Rattle.ask_meets.specs.Strict.{coneOn, markIn, strictAtOn, strictOn, StrictSets};
+ghost use Rattle.ask_meets.specs.MarkCount.{markCount};
+ghost use Rattle.draft_form.specs.Sizes.{draftNodes};
+ghost use Rattle.spec_language.specs.Limits.{behaviourLimit, eventLimit};
 use draft_form::layout;
 use lib_signature::functions;
 use spec_language::limits;
@@ -40,9 +43,9 @@ const ROOM: u64 = 4611686018427387904;
 
 // Of name j, toward behaviour b.
 fn name_mark(rows: &[u64], b: usize, j: u64) -> u64
-    requires { ⌜ (length (now rows) ≡ 64) × (b < 64) ⌝ }
+    requires { ⌜ (length (now rows) ≡ behaviourLimit) × (b < behaviourLimit) ⌝ }
     ensures { λ r. ⌜ r ≡ nameMark (λ k. bit (getD (now (rows .entry)) k 0) b) b j ⌝ }
-    ensures { λ r. ⌜ r < 4 ⌝ }
+    ensures { λ r. ⌜ r < markCount ⌝ }
 {
     if j == b as u64 {
         return ADDS;
@@ -58,7 +61,7 @@ fn name_mark(rows: &[u64], b: usize, j: u64) -> u64
 // Of `!`.
 fn one_mark(a: u64) -> u64
     ensures { λ r. ⌜ r ≡ oneMark a ⌝ }
-    ensures { λ r. ⌜ r < 4 ⌝ }
+    ensures { λ r. ⌜ r < markCount ⌝ }
 {
     if a == 0 {
         return APART;
@@ -68,9 +71,9 @@ fn one_mark(a: u64) -> u64
 
 // Of a function of two arguments.
 fn two_mark(f: u64, a: u64, b: u64) -> u64
-    requires { ⌜ (a < 4) × (b < 4) ⌝ }
+    requires { ⌜ (a < markCount) × (b < markCount) ⌝ }
     ensures { λ r. ⌜ r ≡ twoMark f a b ⌝ }
-    ensures { λ r. ⌜ r < 4 ⌝ }
+    ensures { λ r. ⌜ r < markCount ⌝ }
 {
     if a + b == APART {
         return APART;
@@ -93,9 +96,9 @@ fn two_mark(f: u64, a: u64, b: u64) -> u64
 
 // Of `if`.
 fn if_mark(c: u64, a: u64, b: u64) -> u64
-    requires { ⌜ (c < 4) × (a < 4) × (b < 4) ⌝ }
+    requires { ⌜ (c < markCount) × (a < markCount) × (b < markCount) ⌝ }
     ensures { λ r. ⌜ r ≡ ifMark c a b ⌝ }
-    ensures { λ r. ⌜ r < 4 ⌝ }
+    ensures { λ r. ⌜ r < markCount ⌝ }
 {
     if c + (a + b) == APART {
         return APART;
@@ -110,7 +113,7 @@ fn if_mark(c: u64, a: u64, b: u64) -> u64
 
 // The mark m on the stack.
 fn push_mark(s: u64, m: u64) -> u64
-    requires { ⌜ m < 4 ⌝ }
+    requires { ⌜ m < markCount ⌝ }
     ensures { λ r. ⌜ r ≡ pushMark s m ⌝ }
 {
     s % ROOM * MARKS + m
@@ -134,7 +137,7 @@ fn apply_mark(f: u64, s: u64) -> u64
 
 // Node x, toward behaviour b.
 fn mark_node(rows: &[u64], b: usize, s: u64, x: u64) -> u64
-    requires { ⌜ (length (now rows) ≡ 64) × (b < 64) ⌝ }
+    requires { ⌜ (length (now rows) ≡ behaviourLimit) × (b < behaviourLimit) ⌝ }
     ensures { λ r. ⌜ r ≡ markStep (λ k. bit (getD (now (rows .entry)) k 0) b) b s x ⌝ }
 {
     if x / layout::WORD == layout::NAME {
@@ -148,7 +151,7 @@ fn mark_node(rows: &[u64], b: usize, s: u64, x: u64) -> u64
 
 // The mark of the expression of entry v of behaviour i, toward i.
 fn mark_in(d: &[u64], rows: &[u64], i: usize, v: u64) -> u64
-    requires { ⌜ (length (now d) ≡ draftLength) × (length (now rows) ≡ 64) × (i < 64) × (entryStart v + entryCount v ≤ 2048) ⌝ }
+    requires { ⌜ (length (now d) ≡ draftLength) × (length (now rows) ≡ behaviourLimit) × (i < behaviourLimit) × (entryStart v + entryCount v ≤ draftNodes) ⌝ }
     ensures { λ r. ⌜ r ≡ markIn (now (d .entry)) (now (rows .entry)) i v ⌝ }
 {
     let start = (v / layout::KINDS % layout::FIRSTS) as usize;
@@ -164,7 +167,7 @@ fn mark_in(d: &[u64], rows: &[u64], i: usize, v: u64) -> u64
 
 // The set without j.
 fn remove(set: u64, j: usize) -> u64
-    requires { ⌜ j < 64 ⌝ }
+    requires { ⌜ j < behaviourLimit ⌝ }
     ensures { λ r. ⌜ ((i : ℕ) → bit r i ≡ bit set i && not (eqb i j)) ⌝ }
 {
     if lib_bits::contains(set, j) {
@@ -175,7 +178,7 @@ fn remove(set: u64, j: usize) -> u64
 
 // The set with i or without it.
 fn put(set: u64, i: usize, there: bool) -> u64
-    requires { ⌜ i < 64 ⌝ }
+    requires { ⌜ i < behaviourLimit ⌝ }
     ensures { λ r. ⌜ ((j : ℕ) → bit r j ≡ pick (eqb i j) there (bit set j)) ⌝ }
 {
     if there {
@@ -186,8 +189,9 @@ fn put(set: u64, i: usize, there: bool) -> u64
 
 // What an event is strict about by its handler of i, whose entry is v.
 fn strict_at(d: &[u64], rows: &[u64], n: usize, i: usize, v: u64) -> u64
-    requires { ⌜ (length (now d) ≡ draftLength) × (length (now rows) ≡ 64) × (n ≤ 64) × (i < 64) × (entryStart v + entryCount v ≤ 2048) ⌝ }
-    ensures { λ r. ⌜ ((e : ℕ) → v ≡ entryOf (now (d .entry)) e i → Gathers 64 r (strictAtOn (now (d .entry)) (now (rows .entry)) n e i)) ⌝ }
+    requires { ⌜ (length (now d) ≡ draftLength) × (length (now rows) ≡ behaviourLimit) × (n ≤ behaviourLimit) × (i < behaviourLimit)
+        × (entryStart v + entryCount v ≤ draftNodes) ⌝ }
+    ensures { λ r. ⌜ ((e : ℕ) → v ≡ entryOf (now (d .entry)) e i → Gathers behaviourLimit r (strictAtOn (now (d .entry)) (now (rows .entry)) n e i)) ⌝ }
 {
     let names = check_reads::add_rows(rows, check_reads::names_in(d, i, v), n);
     put(names, i, mark_in(d, rows, i, v) != ADDS)
@@ -195,9 +199,10 @@ fn strict_at(d: &[u64], rows: &[u64], n: usize, i: usize, v: u64) -> u64
 
 // The set with that, where the entry is a handler of one of the others.
 fn add_strict(d: &[u64], rows: &[u64], n: usize, set: u64, cone: u64, i: usize, v: u64) -> u64
-    requires { ⌜ (length (now d) ≡ draftLength) × (length (now rows) ≡ 64) × (n ≤ 64) × (i < 64) × (entryStart v + entryCount v ≤ 2048) ⌝ }
+    requires { ⌜ (length (now d) ≡ draftLength) × (length (now rows) ≡ behaviourLimit) × (n ≤ behaviourLimit) × (i < behaviourLimit)
+        × (entryStart v + entryCount v ≤ draftNodes) ⌝ }
     ensures { λ r. ⌜ ((e : ℕ) → v ≡ entryOf (now (d .entry)) e i
-        → Gathers 64 r (λ j. bit set j
+        → Gathers behaviourLimit r (λ j. bit set j
         || ((bit cone i && leb 2 (entryKind v)) && strictAtOn (now (d .entry)) (now (rows .entry)) n e i j))) ⌝ }
 {
     if lib_bits::contains(cone, i) {
@@ -210,8 +215,8 @@ fn add_strict(d: &[u64], rows: &[u64], n: usize, set: u64, cone: u64, i: usize, 
 
 // What event e is strict about, by its handlers of n behaviours that are in the cone.
 fn strict_of(d: &[u64], rows: &[u64], n: usize, cone: u64, e: usize) -> u64
-    requires { ⌜ (length (now d) ≡ draftLength) × (length (now rows) ≡ 64) × (n ≤ 64) × (e ≤ 32) × RowsInside (now d) e n ⌝ }
-    ensures { λ r. ⌜ Gathers 64 r (strictOn (now (d .entry)) (now (rows .entry)) n cone e) ⌝ }
+    requires { ⌜ (length (now d) ≡ draftLength) × (length (now rows) ≡ behaviourLimit) × (n ≤ behaviourLimit) × (e ≤ eventLimit) × RowsInside (now d) e n ⌝ }
+    ensures { λ r. ⌜ Gathers behaviourLimit r (strictOn (now (d .entry)) (now (rows .entry)) n cone e) ⌝ }
 {
     let mut set = 0;
     let mut i = 0;
@@ -224,7 +229,8 @@ fn strict_of(d: &[u64], rows: &[u64], n: usize, cone: u64, e: usize) -> u64
 
 // What each of ev events is strict about, where the rows say what is named through passives.
 pub fn fill_strict(d: &[u64], rows: &[u64], n: usize, cone: u64, ev: usize, strict: &mut [u64])
-    requires { ⌜ (length (now d) ≡ draftLength) × (length (now rows) ≡ 64) × (n ≤ 64) × (ev ≤ 32) × (length (now strict) ≡ 32) × AllInside (now d) ev n ⌝ }
+    requires { ⌜ (length (now d) ≡ draftLength) × (length (now rows) ≡ behaviourLimit) × (n ≤ behaviourLimit) × (ev ≤ eventLimit)
+        × (length (now strict) ≡ eventLimit) × AllInside (now d) ev n ⌝ }
     ensures { λ _. ⌜ StrictSets (now (d .entry)) (now (rows .entry)) n cone ev (now (strict .exit)) ⌝ }
 {
     let mut e = 0;
@@ -236,7 +242,7 @@ pub fn fill_strict(d: &[u64], rows: &[u64], n: usize, cone: u64, ev: usize, stri
 
 // The names in each of n behaviours.
 fn fill_all_names(d: &[u64], ev: usize, n: usize, rows: &mut [u64])
-    requires { ⌜ (length (now d) ≡ draftLength) × (length (now rows) ≡ 64) × (ev ≤ 32) × (n ≤ 64) × AllInside (now d) ev n ⌝ }
+    requires { ⌜ (length (now d) ≡ draftLength) × (length (now rows) ≡ behaviourLimit) × (ev ≤ eventLimit) × (n ≤ behaviourLimit) × AllInside (now d) ev n ⌝ }
     ensures { λ _. ⌜ RowsBy (namesAny (now (d .entry)) ev) n (now (rows .exit)) ⌝ }
 {
     let mut i = 0;
@@ -248,7 +254,7 @@ fn fill_all_names(d: &[u64], ev: usize, n: usize, rows: &mut [u64])
 
 // What behaviour b depends on, itself included.
 pub fn cone_of(d: &[u64], ev: usize, n: usize, b: usize) -> u64
-    requires { ⌜ (length (now d) ≡ draftLength) × (ev ≤ 32) × (n ≤ 64) × (b < n) × AllInside (now d) ev n ⌝ }
+    requires { ⌜ (length (now d) ≡ draftLength) × (ev ≤ eventLimit) × (n ≤ behaviourLimit) × (b < n) × AllInside (now d) ev n ⌝ }
     ensures { λ r. ⌜ Gathers n r (coneOn (now (d .entry)) ev n b) ⌝ }
 {
     let mut rows = [0u64; limits::BEHAVIOURS];

@@ -12,6 +12,8 @@ ghost use Rattle.draft_form.specs.Draft.{draftLength};
 ghost use Rattle.check_faults.specs.Checks.{AllInside};
 ghost use Rattle.ask_agree_for.specs.Encounter.{DraftFor};
 ghost use Rattle.ask_pair.specs.Pair.{everyone, weight, leastTold, flagsAt, packedPair, pairBy, pairBySets, pairOf, pairIn, pairOn};
+ghost use Rattle.ask_pair.specs.Flags.{allFlags};
+ghost use Rattle.spec_language.specs.Limits.{behaviourLimit, eventLimit};
 use back_compile::Judgement;
 use draft_form::layout;
 use spec_language::limits;
@@ -36,7 +38,7 @@ const BOTH_ADD: u64 = 16;
 const MEET: u64 = 32;
 // The first n behaviours.
 fn all_of(n: usize) -> u64
-    requires { ⌜ n ≤ 64 ⌝ }
+    requires { ⌜ n ≤ behaviourLimit ⌝ }
     ensures { λ r. ⌜ Gathers n r everyone ⌝ }
 {
     let mut set = 0;
@@ -57,9 +59,9 @@ fn cross(a: u64, b: u64, c: u64, d: u64) -> u64
 
 // One more than the least of the set, of n; 0 for none.
 fn least_of(set: u64, n: usize) -> usize
-    requires { ⌜ n ≤ 64 ⌝ }
+    requires { ⌜ n ≤ behaviourLimit ⌝ }
     ensures { λ r. ⌜ r ≡ leastTold n (bit set) ⌝ }
-    ensures { λ r. ⌜ r ≤ 64 ⌝ }
+    ensures { λ r. ⌜ r ≤ behaviourLimit ⌝ }
 {
     let mut i = 0;
     while i < n {
@@ -73,7 +75,7 @@ fn least_of(set: u64, n: usize) -> usize
 
 // The flag's weight where i is in the set.
 fn weight_of(set: u64, i: usize, k: u64) -> u64
-    requires { ⌜ i < 64 ⌝ }
+    requires { ⌜ i < behaviourLimit ⌝ }
     ensures { λ r. ⌜ r ≡ weight (bit set i) k ⌝ }
     ensures { λ r. ⌜ r ≤ k ⌝ }
 {
@@ -85,9 +87,9 @@ fn weight_of(set: u64, i: usize, k: u64) -> u64
 
 // Who writes behaviour i and who reads it.
 fn flags_at(we: u64, wf: u64, re: u64, rf: u64, i: usize) -> u64
-    requires { ⌜ i < 64 ⌝ }
+    requires { ⌜ i < behaviourLimit ⌝ }
     ensures { λ r. ⌜ r ≡ flagsAt (bit we) (bit wf) (bit re) (bit rf) i ⌝ }
-    ensures { λ r. ⌜ r ≤ 15 ⌝ }
+    ensures { λ r. ⌜ r ≤ allFlags ⌝ }
 {
     let a = weight_of(we, i, FIRST_WRITES);
     let b = weight_of(wf, i, SECOND_WRITES);
@@ -98,7 +100,7 @@ fn flags_at(we: u64, wf: u64, re: u64, rf: u64, i: usize) -> u64
 
 // The answer for behaviour i.
 fn pack(we: u64, wf: u64, re: u64, rf: u64, kind: u64, i: usize) -> u64
-    requires { ⌜ (i < 64) × (kind ≤ 32) ⌝ }
+    requires { ⌜ (i < behaviourLimit) × (kind ≤ eventLimit) ⌝ }
     ensures { λ r. ⌜ r ≡ packedPair (bit we) (bit wf) (bit re) (bit rf) kind i ⌝ }
 {
     ANSWER + (i as u64 + FLAGS * (flags_at(we, wf, re, rf, i) + kind))
@@ -106,7 +108,7 @@ fn pack(we: u64, wf: u64, re: u64, rf: u64, kind: u64, i: usize) -> u64
 
 // The answer, by what each of the two writes and reads, where they meet and what they share.
 fn pair_by(we: u64, wf: u64, re: u64, rf: u64, met: u64, shared: u64, n: usize) -> u64
-    requires { ⌜ n ≤ 64 ⌝ }
+    requires { ⌜ n ≤ behaviourLimit ⌝ }
     ensures { λ r. ⌜ r ≡ pairBy (bit we) (bit wf) (bit re) (bit rf) n (bit met) (bit shared) ⌝ }
 {
     let m = least_of(met, n);
@@ -122,7 +124,8 @@ fn pair_by(we: u64, wf: u64, re: u64, rf: u64, met: u64, shared: u64, n: usize) 
 
 // The same of events e and f, by what each event writes, names and is strict about.
 fn pair_of(writes: &[u64], named: &[u64], strict: &[u64], n: usize, e: usize, f: usize) -> u64
-    requires { ⌜ (length (now writes) ≡ 32) × (length (now named) ≡ 32) × (length (now strict) ≡ 32) × (n ≤ 64) × (e < 32) × (f < 32) ⌝ }
+    requires { ⌜ (length (now writes) ≡ eventLimit) × (length (now named) ≡ eventLimit) × (length (now strict) ≡ eventLimit) × (n ≤ behaviourLimit)
+        × (e < eventLimit) × (f < eventLimit) ⌝ }
     ensures { λ r. ⌜ r ≡ pairBySets (now (writes .entry)) (now (named .entry)) (now (strict .entry)) n e f ⌝ }
 {
     let we = writes[e];
@@ -136,7 +139,7 @@ fn pair_of(writes: &[u64], named: &[u64], strict: &[u64], n: usize, e: usize, f:
 
 // The same on a draft of ev events and n behaviours.
 fn pair_in(d: &[u64], ev: usize, n: usize, e: usize, f: usize) -> u64
-    requires { ⌜ (length (now d) ≡ draftLength) × (ev ≤ 32) × (n ≤ 64) × (e < ev) × (f < ev) × AllInside (now d) ev n ⌝ }
+    requires { ⌜ (length (now d) ≡ draftLength) × (ev ≤ eventLimit) × (n ≤ behaviourLimit) × (e < ev) × (f < ev) × AllInside (now d) ev n ⌝ }
     ensures { λ r. ⌜ ((p : Program) → DraftFor p (now (d .entry)) ev n → r ≡ pairOf p e f) ⌝ }
 {
     let mut rows = [0u64; limits::BEHAVIOURS];
@@ -153,7 +156,7 @@ fn pair_in(d: &[u64], ev: usize, n: usize, e: usize, f: usize) -> u64
 
 // The answer for a sheet that compile accepts.
 fn pair_for(d: &[u64], ev: usize, n: usize, first: u32, second: u32) -> u64
-    requires { ⌜ (length (now d) ≡ draftLength) × (ev ≤ 32) × (n ≤ 64) × AllInside (now d) ev n ⌝ }
+    requires { ⌜ (length (now d) ≡ draftLength) × (ev ≤ eventLimit) × (n ≤ behaviourLimit) × AllInside (now d) ev n ⌝ }
     ensures { λ r. ⌜ ((p : Program) → DraftFor p (now (d .entry)) ev n → r ≡ pairIn p first second) ⌝ }
 {
     if (first as usize) < ev {

@@ -5,6 +5,8 @@ ghost use lib.ListN.{length};
 ghost use Rattle.draft_form.specs.Entry.{entryCount};
 ghost use Rattle.draft_form.specs.Draft.{draftLength};
 ghost use Rattle.back_counts.specs.Counts.{EntriesInside, shareOf, countEvent, isMember, countMembers};
+ghost use Rattle.draft_form.specs.Sizes.{draftNodes};
+ghost use Rattle.spec_language.specs.Limits.{behaviourLimit};
 use draft_form::entry_of;
 use draft_form::layout;
 
@@ -13,7 +15,7 @@ const MASKS: usize = 4;
 
 // What an entry adds to the count of instructions.
 fn share_of(entry: u64) -> usize
-    requires { ⌜ entryCount entry ≤ 2048 ⌝ }
+    requires { ⌜ entryCount entry ≤ draftNodes ⌝ }
     ensures { λ r. ⌜ r ≡ shareOf entry ⌝ }
 {
     if entry % layout::KINDS == layout::PASSIVE {
@@ -53,7 +55,7 @@ fn is_member(entry: u64) -> usize
 
 // How many behaviours the event copies.
 pub fn count_members(draft: &[u64], event: usize, behaviours: usize) -> usize
-    requires { ⌜ (length (now draft) ≡ draftLength) × (behaviours ≤ 64) ⌝ }
+    requires { ⌜ (length (now draft) ≡ draftLength) × (behaviours ≤ behaviourLimit) ⌝ }
     ensures { λ r. ⌜ r ≡ countMembers (now (draft .entry)) event behaviours ⌝ }
 {
     let mut sum = 0;

@@ -9,6 +9,9 @@ ghost use Rattle.back_counts.specs.Counts.{EntriesInside};
 ghost use Rattle.draft_form.specs.Draft.{draftLength};
 ghost use Rattle.back_emit.specs.Words.{nameWords, nodeWords, exprWords, turnWords, turnWordsOfKind, moveWords, memberWords};
 ghost use Rattle.back_emit.specs.Writing.{Room, Wrote};
+ghost use Rattle.back_emit.specs.Opcodes.{deferCode, restoreCode};
+ghost use Rattle.draft_form.specs.Sizes.{draftNodes};
+ghost use Rattle.spec_language.specs.Limits.{behaviourLimit};
 use draft_form::entry_of;
 use draft_form::layout;
 use draft_form::moved_node;
@@ -32,7 +35,7 @@ pub fn emit_instr(table: &mut [u8], place: usize, operation: u32, constant: u32)
 
 // A name: fetched from scratch if the event copies it, else loaded from the store.
 fn emit_name(draft: &[u64], event: usize, j: usize, table: &mut [u8], place: usize) -> usize
-    requires { ⌜ (length (now draft) ≡ draftLength) × (j < 64) ⌝ }
+    requires { ⌜ (length (now draft) ≡ draftLength) × (j < behaviourLimit) ⌝ }
     requires { ⌜ Room (now table) place (nameWords (now draft) event j) ⌝ }
     ensures { λ r. ⌜ Wrote (now (table .entry)) place (nameWords (now (draft .entry)) event j) (now (table .exit)) r ⌝ }
 {
@@ -78,7 +81,7 @@ fn emit_expr(
     table: &mut [u8],
     place: usize,
 ) -> usize
-    requires { ⌜ (length (now draft) ≡ draftLength) × (i < 64) × (start + count ≤ 2048) ⌝ }
+    requires { ⌜ (length (now draft) ≡ draftLength) × (i < behaviourLimit) × (start + count ≤ draftNodes) ⌝ }
     requires { ⌜ Room (now table) place (exprWords (now draft) event i start count) ⌝ }
     ensures { λ r. ⌜ Wrote (now (table .entry)) place (exprWords (now (draft .entry)) event i start count) (now (table .exit)) r ⌝ }
 {
@@ -106,7 +109,7 @@ pub fn emit_turn(
     table: &mut [u8],
     place: usize,
 ) -> usize
-    requires { ⌜ EntriesInside (now draft) event (i + 1) × (operation ≤ 2560) ⌝ }
+    requires { ⌜ EntriesInside (now draft) event (i + 1) × (operation ≤ deferCode) ⌝ }
     requires { ⌜ Room (now table) place (turnWords (now draft) event operation i) ⌝ }
     ensures { λ r. ⌜ Wrote (now (table .entry)) place (turnWords (now (draft .entry)) event operation i) (now (table .exit)) r ⌝ }
 {
@@ -133,7 +136,7 @@ pub fn emit_kind(
     table: &mut [u8],
     place: usize,
 ) -> usize
-    requires { ⌜ EntriesInside (now draft) event (i + 1) × (operation ≤ 2560) ⌝ }
+    requires { ⌜ EntriesInside (now draft) event (i + 1) × (operation ≤ deferCode) ⌝ }
     requires { ⌜ Room (now table) place (turnWordsOfKind (now draft) event kind operation i) ⌝ }
     ensures { λ r. ⌜ Wrote (now (table .entry)) place (turnWordsOfKind (now (draft .entry)) event kind operation i) (now (table .exit)) r ⌝ }
 {
@@ -145,7 +148,7 @@ pub fn emit_kind(
 
 // The move of a later handler's value.
 pub fn emit_move(draft: &[u64], event: usize, i: usize, table: &mut [u8], place: usize) -> usize
-    requires { ⌜ (length (now draft) ≡ draftLength) × (i < 64) ⌝ }
+    requires { ⌜ (length (now draft) ≡ draftLength) × (i < behaviourLimit) ⌝ }
     requires { ⌜ Room (now table) place (moveWords (now draft) event i) ⌝ }
     ensures { λ r. ⌜ Wrote (now (table .entry)) place (moveWords (now (draft .entry)) event i) (now (table .exit)) r ⌝ }
 {
@@ -164,7 +167,7 @@ pub fn emit_member(
     table: &mut [u8],
     place: usize,
 ) -> usize
-    requires { ⌜ (length (now draft) ≡ draftLength) × (i < 64) × (operation ≤ 1024) ⌝ }
+    requires { ⌜ (length (now draft) ≡ draftLength) × (i < behaviourLimit) × (operation ≤ restoreCode) ⌝ }
     requires { ⌜ Room (now table) place (memberWords (now draft) event operation i) ⌝ }
     ensures { λ r. ⌜ Wrote (now (table .entry)) place (memberWords (now (draft .entry)) event operation i) (now (table .exit)) r ⌝ }
 {

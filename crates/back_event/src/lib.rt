@@ -9,6 +9,8 @@ ghost use Rattle.back_emit.specs.Words.{each, memberWords};
 ghost use Rattle.back_emit.specs.Writing.{Room, Wrote};
 ghost use Rattle.draft_form.specs.Draft.{draftLength};
 ghost use Rattle.back_event.specs.Handlers.{maskedWords, codeOf};
+ghost use Rattle.back_emit.specs.Opcodes.{restoreCode};
+ghost use Rattle.spec_language.specs.Limits.{behaviourLimit, eventLimit};
 use back_emit::emit_instr;
 use back_emit::emit_member;
 use back_emit::opcodes;
@@ -24,7 +26,7 @@ fn emit_members(
     table: &mut [u8],
     place: usize,
 ) -> usize
-    requires { ⌜ (length (now draft) ≡ draftLength) × (behaviours ≤ 64) × (operation ≤ 1024) ⌝ }
+    requires { ⌜ (length (now draft) ≡ draftLength) × (behaviours ≤ behaviourLimit) × (operation ≤ restoreCode) ⌝ }
     requires { ⌜ Room (now table) place (each behaviours (memberWords (now draft) event operation)) ⌝ }
     ensures { λ r. ⌜ Wrote (now (table .entry)) place (each behaviours (memberWords (now (draft .entry)) event operation)) (now (table .exit)) r ⌝ }
 {
@@ -46,7 +48,7 @@ fn emit_masked(
     table: &mut [u8],
     place: usize,
 ) -> usize
-    requires { ⌜ (length (now draft) ≡ draftLength) × (behaviours ≤ 64) × (operation ≤ 1024) ⌝ }
+    requires { ⌜ (length (now draft) ≡ draftLength) × (behaviours ≤ behaviourLimit) × (operation ≤ restoreCode) ⌝ }
     requires { ⌜ Room (now table) place (maskedWords (now draft) event operation behaviours) ⌝ }
     ensures { λ r. ⌜ Wrote (now (table .entry)) place (maskedWords (now (draft .entry)) event operation behaviours) (now (table .exit)) r ⌝ }
 {
@@ -63,7 +65,7 @@ pub fn compile_event(
     table: &mut [u8],
     place: usize,
 ) -> usize
-    requires { ⌜ EntriesInside (now draft) event behaviours × (event ≤ 32) ⌝ }
+    requires { ⌜ EntriesInside (now draft) event behaviours × (event ≤ eventLimit) ⌝ }
     requires { ⌜ Room (now table) place (codeOf (now draft) behaviours event) ⌝ }
     ensures { λ r. ⌜ Wrote (now (table .entry)) place (codeOf (now (draft .entry)) behaviours event) (now (table .exit)) r ⌝ }
 {

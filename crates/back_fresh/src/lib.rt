@@ -5,6 +5,8 @@ ghost use lib.ListN.{length, take, drop};
 ghost use Rattle.draft_form.specs.Draft.{draftLength, usedBy};
 ghost use Rattle.back_fresh.specs.Evaluate.{pushDepth, pushStack, look, argument, appliedAt, applyDepth, applyStack, nodeDepth, nodeStack, evaluated};
 ghost use Rattle.back_fresh.specs.Evaluate.{entryValue, startsOn, turnOn, freshOn};
+ghost use Rattle.draft_form.specs.Sizes.{draftNodes};
+ghost use Rattle.spec_language.specs.Limits.{behaviourLimit, stackDepth};
 use draft_form::layout;
 use spec_language::limits;
 
@@ -14,10 +16,10 @@ const BYTE: u32 = lib_word::BYTE_VALUES;
 
 // The word w on the stack, of depth k; a full stack stays as it is. Its new depth.
 fn push(stack: &mut [u32], k: usize, w: u32) -> usize
-    requires { ⌜ (length (now stack) ≡ 64) × (k ≤ 64) ⌝ }
+    requires { ⌜ (length (now stack) ≡ stackDepth) × (k ≤ stackDepth) ⌝ }
     ensures { λ r. ⌜ r ≡ pushDepth k ⌝ }
     ensures { λ r. ⌜ now (stack .exit) ≡ pushStack (now (stack .entry)) k w ⌝ }
-    ensures { λ r. ⌜ r ≤ 64 ⌝ }
+    ensures { λ r. ⌜ r ≤ stackDepth ⌝ }
 {
     if k < limits::STACK {
         stack[k] = w;
@@ -28,7 +30,7 @@ fn push(stack: &mut [u32], k: usize, w: u32) -> usize
 
 // The value of name j; 0 past the last.
 fn value_of(values: &[u32], j: u32) -> u32
-    requires { ⌜ length (now values) ≡ 64 ⌝ }
+    requires { ⌜ length (now values) ≡ behaviourLimit ⌝ }
     ensures { λ r. ⌜ r ≡ look (now (values .entry)) j ⌝ }
 {
     if j < BEHAVIOURS {
@@ -39,7 +41,7 @@ fn value_of(values: &[u32], j: u32) -> u32
 
 // Argument j of the n at place i of the stack; 0 for one that is not needed.
 fn argument_at(stack: &[u32], i: usize, n: usize, j: usize) -> u32
-    requires { ⌜ (length (now stack) ≡ 64) × (i + n ≤ 64) × (j < 64) ⌝ }
+    requires { ⌜ (length (now stack) ≡ stackDepth) × (i + n ≤ stackDepth) × (j < stackDepth) ⌝ }
     ensures { λ r. ⌜ r ≡ argument (now (stack .entry)) i n j ⌝ }
 {
     if j < n {
@@ -50,7 +52,7 @@ fn argument_at(stack: &[u32], i: usize, n: usize, j: usize) -> u32
 
 // Function f on its n arguments at place i of the stack.
 fn apply_at(f: u8, n: usize, stack: &[u32], i: usize) -> u32
-    requires { ⌜ (length (now stack) ≡ 64) × (i + n ≤ 64) ⌝ }
+    requires { ⌜ (length (now stack) ≡ stackDepth) × (i + n ≤ stackDepth) ⌝ }
     ensures { λ r. ⌜ r ≡ appliedAt f n (now (stack .entry)) i ⌝ }
 {
     let a = argument_at(stack, i, n, 0);
@@ -62,10 +64,10 @@ fn apply_at(f: u8, n: usize, stack: &[u32], i: usize) -> u32
 // Function f takes its n arguments from the stack and puts its result; without them the stack stays as it is. Its new
 // depth.
 fn apply_top(f: u8, n: usize, stack: &mut [u32], k: usize) -> usize
-    requires { ⌜ (length (now stack) ≡ 64) × (0 < n) × (k ≤ 64) ⌝ }
+    requires { ⌜ (length (now stack) ≡ stackDepth) × (0 < n) × (k ≤ stackDepth) ⌝ }
     ensures { λ r. ⌜ r ≡ applyDepth n k ⌝ }
     ensures { λ r. ⌜ now (stack .exit) ≡ applyStack f n (now (stack .entry)) k ⌝ }
-    ensures { λ r. ⌜ r ≤ 64 ⌝ }
+    ensures { λ r. ⌜ r ≤ stackDepth ⌝ }
 {
     if k < n {
         return k;
@@ -77,10 +79,10 @@ fn apply_top(f: u8, n: usize, stack: &mut [u32], k: usize) -> usize
 
 // A node: a constant or a name's value is put on the stack, a function applied. The new depth.
 fn eval_node(node: u64, values: &[u32], stack: &mut [u32], k: usize) -> usize
-    requires { ⌜ (length (now values) ≡ 64) × (length (now stack) ≡ 64) × (k ≤ 64) ⌝ }
+    requires { ⌜ (length (now values) ≡ behaviourLimit) × (length (now stack) ≡ stackDepth) × (k ≤ stackDepth) ⌝ }
     ensures { λ r. ⌜ r ≡ nodeDepth node k ⌝ }
     ensures { λ r. ⌜ now (stack .exit) ≡ nodeStack (now (values .entry)) node (now (stack .entry)) k ⌝ }
-    ensures { λ r. ⌜ r ≤ 64 ⌝ }
+    ensures { λ r. ⌜ r ≤ stackDepth ⌝ }
 {
     let w = (node % layout::WORD) as u32;
     if node / layout::WORD == layout::CONSTANT {
@@ -98,7 +100,7 @@ fn eval_node(node: u64, values: &[u32], stack: &mut [u32], k: usize) -> usize
 // The value of the expression whose nodes are count of the draft from start on, as behaviour b uses them; `values`
 // those of names.
 fn eval_nodes(draft: &[u64], b: usize, start: usize, count: usize, values: &[u32]) -> u32
-    requires { ⌜ (length (now draft) ≡ draftLength) × (b < 64) × (start + count ≤ 2048) × (length (now values) ≡ 64) ⌝ }
+    requires { ⌜ (length (now draft) ≡ draftLength) × (b < behaviourLimit) × (start + count ≤ draftNodes) × (length (now values) ≡ behaviourLimit) ⌝ }
     ensures { λ r. ⌜ r ≡ evaluated (now (values .entry)) (take count (drop start (usedBy (now (draft .entry)) b))) ⌝ }
 {
     let mut st = [0u32; limits::STACK];
@@ -118,7 +120,7 @@ fn eval_nodes(draft: &[u64], b: usize, start: usize, count: usize, values: &[u32
 
 // The value of the expression of behaviour i with the entry.
 fn eval_entry(draft: &[u64], i: usize, values: &[u32], entry: u64) -> u32
-    requires { ⌜ (length (now draft) ≡ draftLength) × (i < 64) × (length (now values) ≡ 64) ⌝ }
+    requires { ⌜ (length (now draft) ≡ draftLength) × (i < behaviourLimit) × (length (now values) ≡ behaviourLimit) ⌝ }
     ensures { λ r. ⌜ r ≡ entryValue (usedBy (now (draft .entry)) i) (now (values .entry)) entry ⌝ }
 {
     let start = (entry / layout::KINDS % layout::FIRSTS) as usize;
@@ -131,7 +133,7 @@ fn eval_entry(draft: &[u64], i: usize, values: &[u32], entry: u64) -> u32
 
 // The start values of n behaviours.
 fn start_values(draft: &[u64], n: usize) -> [u32; limits::BEHAVIOURS]
-    requires { ⌜ (length (now draft) ≡ draftLength) × (n ≤ 64) ⌝ }
+    requires { ⌜ (length (now draft) ≡ draftLength) × (n ≤ behaviourLimit) ⌝ }
     ensures { λ r. ⌜ r ≡ startsOn (now (draft .entry)) n ⌝ }
 {
     let mut v = [0u32; limits::BEHAVIOURS];
@@ -145,7 +147,7 @@ fn start_values(draft: &[u64], n: usize) -> [u32; limits::BEHAVIOURS]
 
 // Behaviour i takes the value of its expression on the event.
 fn take_turn(draft: &[u64], event: usize, i: usize, values: &mut [u32])
-    requires { ⌜ (length (now draft) ≡ draftLength) × (length (now values) ≡ 64) ⌝ }
+    requires { ⌜ (length (now draft) ≡ draftLength) × (length (now values) ≡ behaviourLimit) ⌝ }
     ensures { λ _. ⌜ now (values .exit) ≡ turnOn (now (draft .entry)) event i (now (values .entry)) ⌝ }
 {
     if i < limits::BEHAVIOURS {
@@ -164,7 +166,7 @@ pub fn fresh_values(
     order: &[u8],
     count: usize,
 ) -> [u32; limits::BEHAVIOURS]
-    requires { ⌜ (length (now draft) ≡ draftLength) × (n ≤ 64) × (count ≤ length (now order)) ⌝ }
+    requires { ⌜ (length (now draft) ≡ draftLength) × (n ≤ behaviourLimit) × (count ≤ length (now order)) ⌝ }
     ensures { λ r. ⌜ r ≡ freshOn (now (draft .entry)) n event (take count (now (order .entry))) ⌝ }
 {
     let mut v = start_values(draft, n);

@@ -10,6 +10,10 @@ ghost use Rattle.back_emit.specs.Words.{each};
 ghost use Rattle.back_emit.specs.Writing.{Room, Wrote};
 ghost use Rattle.draft_form.specs.Draft.{draftLength};
 ghost use Rattle.back_parts.specs.RightWords.{draftNumber, rightWords};
+ghost use Rattle.draft_form.specs.Sizes.{draftPriorities};
+ghost use Rattle.format_layout.specs.Sizes.{eventRecords, lastColumn, lastRecord, tableBytes, tableKinds, tableLength, tableViewers};
+ghost use Rattle.lib_base.specs.Words.{wordValues};
+ghost use Rattle.spec_language.specs.Limits.{behaviourLimit, eventLimit, instructionLimit};
 use draft_form::layout;
 use format_layout::table;
 use lib_word::put_word;
@@ -17,7 +21,7 @@ use spec_language::limits;
 
 // Zeros from word `place` up to word end.
 pub fn write_zeros(table: &mut [u8], place: usize, end: usize) -> usize
-    requires { ⌜ (34816 ≤ length (now table)) × (place ≤ end) × (end ≤ 8704) ⌝ }
+    requires { ⌜ (tableBytes ≤ length (now table)) × (place ≤ end) × (end ≤ tableLength) ⌝ }
     ensures { λ r. ⌜ Wrote (now (table .entry)) place (replicate (end - place) 0) (now (table .exit)) r ⌝ }
 {
     let mut next = place;
@@ -30,8 +34,8 @@ pub fn write_zeros(table: &mut [u8], place: usize, end: usize) -> usize
 
 // The head: the numbers of events and behaviours.
 pub fn write_head(table: &mut [u8], events: usize, behaviours: usize) -> usize
-    requires { ⌜ (34816 ≤ length (now table)) × (events ≤ 32) × (behaviours ≤ 64) ⌝ }
-    ensures { λ r. ⌜ Wrote (now (table .entry)) 0 (padded 8 (events ∷ behaviours ∷ [])) (now (table .exit)) r ⌝ }
+    requires { ⌜ (tableBytes ≤ length (now table)) × (events ≤ eventLimit) × (behaviours ≤ behaviourLimit) ⌝ }
+    ensures { λ r. ⌜ Wrote (now (table .entry)) 0 (padded eventRecords (events ∷ behaviours ∷ [])) (now (table .exit)) r ⌝ }
 {
     put_word(table, table::EVENT_COUNT, events as u32);
     put_word(table, table::BEHAVIOUR_COUNT, behaviours as u32);
@@ -48,10 +52,11 @@ pub fn write_record(
     table: &mut [u8],
     place: usize,
 ) -> usize
-    requires { ⌜ (length (now draft) ≡ draftLength) × (event < 32) × (behaviours ≤ 64) × (start ≤ 4096) × (count ≤ 4096) ⌝ }
-    requires { ⌜ (34816 ≤ length (now table)) × (place ≤ 8700) ⌝ }
+    requires { ⌜ (length (now draft) ≡ draftLength) × (event < eventLimit) × (behaviours ≤ behaviourLimit) × (start ≤ instructionLimit)
+        × (count ≤ instructionLimit) ⌝ }
+    requires { ⌜ (tableBytes ≤ length (now table)) × (place ≤ lastRecord) ⌝ }
     ensures { λ r. ⌜ Wrote (now (table .entry)) place
-        ((getD (now (draft .entry)) (4224 + event) 0 % 4294967296) ∷ start ∷ count
+        ((getD (now (draft .entry)) (draftPriorities + event) 0 % wordValues) ∷ start ∷ count
         ∷ countMembers (now (draft .entry)) event behaviours ∷ []) (now (table .exit)) r ⌝ }
 {
     put_word(
@@ -71,7 +76,7 @@ pub fn write_record(
 
 // The 64 values.
 pub fn write_values(values: &[u32], table: &mut [u8], place: usize) -> usize
-    requires { ⌜ (length (now values) ≡ 64) × (34816 ≤ length (now table)) × (place ≤ 8640) ⌝ }
+    requires { ⌜ (length (now values) ≡ behaviourLimit) × (tableBytes ≤ length (now table)) × (place ≤ lastColumn) ⌝ }
     ensures { λ r. ⌜ Wrote (now (table .entry)) place (now (values .entry)) (now (table .exit)) r ⌝ }
 {
     let mut next = place;
@@ -102,9 +107,9 @@ fn write_numbers(draft: &[u64], from: usize, count: usize, table: &mut [u8], pla
 
 // Who may see each behaviour, from word 200 on, and who may send each event, from word 264 on; zeros up to word 296.
 pub fn write_rights(draft: &[u64], events: usize, behaviours: usize, table: &mut [u8]) -> usize
-    requires { ⌜ (length (now draft) ≡ draftLength) × (events ≤ 32) × (behaviours ≤ 64) × (34816 ≤ length (now table)) ⌝ }
-    ensures { λ r. ⌜ Wrote (now (table .entry)) 200 (rightWords (now (draft .entry)) events behaviours) (now (table .exit)) r ⌝ }
-    ensures { λ r. ⌜ r ≡ 296 ⌝ }
+    requires { ⌜ (length (now draft) ≡ draftLength) × (events ≤ eventLimit) × (behaviours ≤ behaviourLimit) × (tableBytes ≤ length (now table)) ⌝ }
+    ensures { λ r. ⌜ Wrote (now (table .entry)) tableViewers (rightWords (now (draft .entry)) events behaviours) (now (table .exit)) r ⌝ }
+    ensures { λ r. ⌜ r ≡ tableKinds ⌝ }
 {
     let seen = write_numbers(draft, layout::VIEWERS, behaviours, table, table::VIEWERS);
     write_zeros(table, seen, table::SENDERS);

@@ -1,1 +1,2 @@
 pub mod PassiveWords
+pub mod Sizes

@@ -10,6 +10,10 @@ ghost use Rattle.back_counts.specs.Counts.{EntriesInside};
 ghost use Rattle.back_emit.specs.Words.{each};
 ghost use Rattle.back_emit.specs.Writing.{Room, Wrote};
 ghost use Rattle.back_passives.specs.PassiveWords.{kindWord, againShare, countAgain, againStart, draftPassiveWords};
+ghost use Rattle.back_passives.specs.Sizes.{mostPassiveCode};
+ghost use Rattle.draft_form.specs.Sizes.{draftNodes};
+ghost use Rattle.format_layout.specs.Sizes.{codeBegin, tableBytes, tableKinds};
+ghost use Rattle.spec_language.specs.Limits.{behaviourLimit};
 use draft_form::entry_of;
 use draft_form::layout;
 use format_layout::table;
@@ -46,7 +50,7 @@ fn write_kinds(draft: &[u64], behaviours: usize, table: &mut [u8], place: usize)
 
 // What an entry adds to the instructions that work the passives out.
 fn share_again(entry: u64) -> usize
-    requires { ⌜ entryCount entry ≤ 2048 ⌝ }
+    requires { ⌜ entryCount entry ≤ draftNodes ⌝ }
     ensures { λ r. ⌜ r ≡ againShare entry ⌝ }
 {
     if entry % layout::KINDS == layout::PASSIVE {
@@ -70,7 +74,7 @@ fn count_again(draft: &[u64], behaviours: usize) -> usize
 
 // Where they begin: event 0 has `all` instructions, `count` of them these, and copies m behaviours back.
 fn start_again(events: usize, all: usize, m: usize, count: usize) -> usize
-    requires { ⌜ (m ≤ 64) × (count ≤ 262400) ⌝ }
+    requires { ⌜ (m ≤ behaviourLimit) × (count ≤ mostPassiveCode) ⌝ }
     ensures { λ r. ⌜ r ≡ againStart events all m count ⌝ }
 {
     if events == 0 {
@@ -85,9 +89,9 @@ fn start_again(events: usize, all: usize, m: usize, count: usize) -> usize
 // Which behaviours are passives, from word 296 on, and the start and length of their instructions, in words 360 and
 // 361; zeros up to word 512.
 pub fn write_passives(draft: &[u64], events: usize, behaviours: usize, table: &mut [u8]) -> usize
-    requires { ⌜ EntriesInside (now draft) 0 behaviours × (34816 ≤ length (now table)) ⌝ }
-    ensures { λ r. ⌜ Wrote (now (table .entry)) 296 (draftPassiveWords (now (draft .entry)) events behaviours) (now (table .exit)) r ⌝ }
-    ensures { λ r. ⌜ r ≡ 512 ⌝ }
+    requires { ⌜ EntriesInside (now draft) 0 behaviours × (tableBytes ≤ length (now table)) ⌝ }
+    ensures { λ r. ⌜ Wrote (now (table .entry)) tableKinds (draftPassiveWords (now (draft .entry)) events behaviours) (now (table .exit)) r ⌝ }
+    ensures { λ r. ⌜ r ≡ codeBegin ⌝ }
 {
     let kinds = write_kinds(draft, behaviours, table, table::KINDS);
     back_parts::write_zeros(table, kinds, table::PASSIVES_START);

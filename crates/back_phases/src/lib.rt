@@ -10,6 +10,8 @@ ghost use Rattle.back_emit.specs.Words.{each, turnWords, turnWordsOfKind, moveW
 ghost use Rattle.back_emit.specs.Writing.{Room, Wrote};
 ghost use Rattle.draft_form.specs.Draft.{draftLength};
 ghost use Rattle.back_phases.specs.Phases.{firstWords, secondWords};
+ghost use Rattle.back_emit.specs.Opcodes.{deferCode, saveCode};
+ghost use Rattle.spec_language.specs.Limits.{behaviourLimit};
 use back_emit::emit_kind;
 use back_emit::emit_move;
 use back_emit::emit_turn;
@@ -27,9 +29,9 @@ fn emit_turns(
     place: usize,
 ) -> usize
     requires { ⌜ EntriesInside (now draft) event behaviours × OrderListed (now order) count behaviours ⌝ }
-    requires { ⌜ Room (now table) place (flatMap (turnWords (now draft) event 2304) (take count (now order))) ⌝ }
+    requires { ⌜ Room (now table) place (flatMap (turnWords (now draft) event saveCode) (take count (now order))) ⌝ }
     ensures { λ r. ⌜ Wrote (now (table .entry)) place
-        (flatMap (turnWords (now (draft .entry)) event 2304) (take count (now (order .entry)))) (now (table .exit)) r ⌝ }
+        (flatMap (turnWords (now (draft .entry)) event saveCode) (take count (now (order .entry)))) (now (table .exit)) r ⌝ }
 {
     let mut next = place;
     let mut j = 0;
@@ -49,8 +51,8 @@ fn emit_laters(
     place: usize,
 ) -> usize
     requires { ⌜ EntriesInside (now draft) event behaviours ⌝ }
-    requires { ⌜ Room (now table) place (each behaviours (turnWordsOfKind (now draft) event 3 2560)) ⌝ }
-    ensures { λ r. ⌜ Wrote (now (table .entry)) place (each behaviours (turnWordsOfKind (now (draft .entry)) event 3 2560)) (now (table .exit)) r ⌝ }
+    requires { ⌜ Room (now table) place (each behaviours (turnWordsOfKind (now draft) event 3 deferCode)) ⌝ }
+    ensures { λ r. ⌜ Wrote (now (table .entry)) place (each behaviours (turnWordsOfKind (now (draft .entry)) event 3 deferCode)) (now (table .exit)) r ⌝ }
 {
     let mut next = place;
     let mut i = 0;
@@ -88,7 +90,7 @@ fn emit_moves(
     table: &mut [u8],
     place: usize,
 ) -> usize
-    requires { ⌜ (length (now draft) ≡ draftLength) × (behaviours ≤ 64) ⌝ }
+    requires { ⌜ (length (now draft) ≡ draftLength) × (behaviours ≤ behaviourLimit) ⌝ }
     requires { ⌜ Room (now table) place (each behaviours (moveWords (now draft) event)) ⌝ }
     ensures { λ r. ⌜ Wrote (now (table .entry)) place (each behaviours (moveWords (now (draft .entry)) event)) (now (table .exit)) r ⌝ }
 {
@@ -112,9 +114,9 @@ pub fn emit_again(
     place: usize,
 ) -> usize
     requires { ⌜ EntriesInside (now draft) event behaviours × OrderListed (now order) count behaviours ⌝ }
-    requires { ⌜ Room (now table) place (flatMap (turnWordsOfKind (now draft) event 1 2304) (take count (now order))) ⌝ }
+    requires { ⌜ Room (now table) place (flatMap (turnWordsOfKind (now draft) event 1 saveCode) (take count (now order))) ⌝ }
     ensures { λ r. ⌜ Wrote (now (table .entry)) place
-        (flatMap (turnWordsOfKind (now (draft .entry)) event 1 2304) (take count (now (order .entry)))) (now (table .exit)) r ⌝ }
+        (flatMap (turnWordsOfKind (now (draft .entry)) event 1 saveCode) (take count (now (order .entry)))) (now (table .exit)) r ⌝ }
 {
     let mut next = place;
     let mut j = 0;

@@ -9,6 +9,7 @@ ghost use Rattle.lib_bits.specs.Bits.{bit};
 ghost use Rattle.check_faults.specs.Checks.{RowsInside};
 ghost use Rattle.draft_form.specs.Draft.{draftLength};
 ghost use Rattle.back_schedule.specs.Ordering.{metMark, MetAre, orderUnder, OrderHolds, countTurns, Checked};
+ghost use Rattle.spec_language.specs.Limits.{behaviourLimit, eventLimit};
 use draft_form::layout;
 
 // How many behaviours have their turn in phase one, in an order that is complete; or a circle.
@@ -31,7 +32,7 @@ fn mark_of(entry: u64) -> u8
 
 // The set with i, if behaviour i with the entry is met at once.
 fn add_met(set: u64, i: usize, entry: u64) -> u64
-    requires { ⌜ i < 64 ⌝ }
+    requires { ⌜ i < behaviourLimit ⌝ }
     ensures { λ r. ⌜ ((j : ℕ) → bit r j ≡ bit set j || (not (eqb (metMark entry) 0) && eqb j i)) ⌝ }
 {
     if mark_of(entry) == 0 {
@@ -42,7 +43,7 @@ fn add_met(set: u64, i: usize, entry: u64) -> u64
 
 // Those of the behaviours that are met at once on the event.
 fn met_set(draft: &[u64], event: usize, behaviours: usize) -> u64
-    requires { ⌜ (length (now draft) ≡ draftLength) × (behaviours ≤ 64) ⌝ }
+    requires { ⌜ (length (now draft) ≡ draftLength) × (behaviours ≤ behaviourLimit) ⌝ }
     ensures { λ r. ⌜ MetAre (now (draft .entry)) event behaviours r ⌝ }
 {
     let mut set = 0;
@@ -57,7 +58,8 @@ fn met_set(draft: &[u64], event: usize, behaviours: usize) -> u64
 // Phase one's order of the behaviours on the event, in the first bytes of `order`. Returns how many: those in a circle,
 // and whoever needs them, are left out.
 pub fn order_under(draft: &[u64], event: usize, behaviours: usize, order: &mut [u8]) -> usize
-    requires { ⌜ (length (now draft) ≡ draftLength) × (length (now order) ≡ 64) × (event ≤ 32) × (behaviours ≤ 64) × RowsInside (now draft) event behaviours ⌝ }
+    requires { ⌜ (length (now draft) ≡ draftLength) × (length (now order) ≡ behaviourLimit) × (event ≤ eventLimit) × (behaviours ≤ behaviourLimit)
+        × RowsInside (now draft) event behaviours ⌝ }
     ensures { λ r. ⌜ OrderHolds (now (order .exit)) r behaviours (orderUnder (now (draft .entry)) event behaviours) ⌝ }
 {
     let mut rows = [0u64; check_graph::ROW];
@@ -69,7 +71,7 @@ pub fn order_under(draft: &[u64], event: usize, behaviours: usize, order: &mut [
 
 // How many of the behaviours have their turn in phase one: the passives and the immediate handlers.
 fn count_turns(draft: &[u64], event: usize, behaviours: usize) -> usize
-    requires { ⌜ (length (now draft) ≡ draftLength) × (behaviours ≤ 64) ⌝ }
+    requires { ⌜ (length (now draft) ≡ draftLength) × (behaviours ≤ behaviourLimit) ⌝ }
     ensures { λ r. ⌜ r ≡ countTurns (now (draft .entry)) event behaviours ⌝ }
 {
     let mut sum = 0;
@@ -83,7 +85,8 @@ fn count_turns(draft: &[u64], event: usize, behaviours: usize) -> usize
 
 // The check: whether all of them stand in the order.
 pub fn check_dependence(draft: &[u64], event: usize, behaviours: usize, order: &mut [u8]) -> Order
-    requires { ⌜ (length (now draft) ≡ draftLength) × (length (now order) ≡ 64) × (event ≤ 32) × (behaviours ≤ 64) × RowsInside (now draft) event behaviours ⌝ }
+    requires { ⌜ (length (now draft) ≡ draftLength) × (length (now order) ≡ behaviourLimit) × (event ≤ eventLimit) × (behaviours ≤ behaviourLimit)
+        × RowsInside (now draft) event behaviours ⌝ }
     ensures { λ r. ⌜ Checked (now (draft .entry)) event behaviours r (now (order .exit)) ⌝ }
 {
     let count = order_under(draft, event, behaviours, order);

@@ -9,6 +9,8 @@ ghost use Rattle.back_emit.specs.Writing.{Room, Wrote};
 ghost use Rattle.back_event.specs.Handlers.{codeOf};
 ghost use Rattle.draft_form.specs.Draft.{draftLength};
 ghost use Rattle.back_table.specs.TableWords.{countBefore, recordWords, freshWords, aloneWords, codesOf, tableWords, Planned};
+ghost use Rattle.format_layout.specs.Sizes.{codeBegin, tableBytes, tableValues};
+ghost use Rattle.spec_language.specs.Limits.{behaviourLimit, eventLimit};
 use format_layout::table;
 use spec_language::limits;
 
@@ -41,9 +43,9 @@ fn write_records(
 // The values of a fresh round, phase one under no event; who may see and send; how passives are worked out.
 fn write_fresh(draft: &[u64], events: usize, behaviours: usize, table: &mut [u8]) -> usize
     requires { ⌜ Planned (now draft) events behaviours ⌝ }
-    requires { ⌜ 34816 ≤ length (now table) ⌝ }
-    ensures { λ r. ⌜ Wrote (now (table .entry)) 136 (freshWords (now (draft .entry)) events behaviours) (now (table .exit)) r ⌝ }
-    ensures { λ r. ⌜ r ≡ 512 ⌝ }
+    requires { ⌜ tableBytes ≤ length (now table) ⌝ }
+    ensures { λ r. ⌜ Wrote (now (table .entry)) tableValues (freshWords (now (draft .entry)) events behaviours) (now (table .exit)) r ⌝ }
+    ensures { λ r. ⌜ r ≡ codeBegin ⌝ }
 {
     let mut o = [0u8; limits::BEHAVIOURS];
     let count = back_schedule::order_under(draft, events, behaviours, &mut o);
@@ -112,7 +114,7 @@ fn write_codes(
 // The table.
 pub fn write_table(draft: &[u64], events: usize, behaviours: usize, table: &mut [u8])
     requires { ⌜ Planned (now draft) events behaviours ⌝ }
-    requires { ⌜ 34816 ≤ length (now table) ⌝ }
+    requires { ⌜ tableBytes ≤ length (now table) ⌝ }
     ensures { λ _. ⌜ now (table .exit) ≡ putWords (now (table .entry)) 0 (tableWords (now (draft .entry)) events behaviours) ⌝ }
 {
     back_parts::write_head(table, events, behaviours);
@@ -125,7 +127,7 @@ pub fn write_table(draft: &[u64], events: usize, behaviours: usize, table: &mut 
 
 // How many instructions the events have together.
 pub fn count_all(draft: &[u64], events: usize, behaviours: usize) -> usize
-    requires { ⌜ (length (now draft) ≡ draftLength) × (events ≤ 32) × (behaviours ≤ 64) × AllInside (now draft) events behaviours ⌝ }
+    requires { ⌜ (length (now draft) ≡ draftLength) × (events ≤ eventLimit) × (behaviours ≤ behaviourLimit) × AllInside (now draft) events behaviours ⌝ }
     ensures { λ r. ⌜ r ≡ countBefore (now (draft .entry)) behaviours events ⌝ }
 {
     let mut sum = 0;

@@ -11,20 +11,22 @@ ghost use Rattle.check_graph.specs.Any.{anyBelow};
 ghost use Rattle.check_graph.specs.Matrix.{cell};
 ghost use Rattle.check_graph.specs.Sets.{RowsBelow, bytesOf};
 ghost use Rattle.check_distance.specs.Layers.{layer, Lowest, Leading, Layered, Back, Walked};
+ghost use Rattle.check_distance.specs.Levels.{levelCount};
+ghost use Rattle.spec_language.specs.Limits.{behaviourLimit};
 
 // A level for each number of steps from 0 to 64.
 pub const LEVELS: usize = check_graph::ROW + 1;
 
 // Whether two sets have a number in common.
 fn share(a: u64, b: u64) -> bool
-    ensures { λ r. ⌜ r ≡ anyBelow 64 (λ h. bit a h && bit b h) ⌝ }
+    ensures { λ r. ⌜ r ≡ anyBelow behaviourLimit (λ h. bit a h && bit b h) ⌝ }
 {
     a & b != 0
 }
 
 // The lowest of the first n that is in both; n if there is none.
 fn first_shared(a: u64, b: u64, n: usize) -> usize
-    requires { ⌜ n ≤ 64 ⌝ }
+    requires { ⌜ n ≤ behaviourLimit ⌝ }
     ensures { λ r. ⌜ Lowest (λ h. bit a h && bit b h) n r ⌝ }
 {
     let both = lib_bits::common(a, b);
@@ -40,8 +42,8 @@ fn first_shared(a: u64, b: u64, n: usize) -> usize
 
 // The set with j, where j needs one of the others.
 fn add_leading(set: u64, j: usize, needs: u64, others: u64) -> u64
-    requires { ⌜ j < 64 ⌝ }
-    ensures { λ r. ⌜ ((x : ℕ) → bit r x ≡ bit set x || (anyBelow 64 (λ h. bit needs h && bit others h) && eqb x j)) ⌝ }
+    requires { ⌜ j < behaviourLimit ⌝ }
+    ensures { λ r. ⌜ ((x : ℕ) → bit r x ≡ bit set x || (anyBelow behaviourLimit (λ h. bit needs h && bit others h) && eqb x j)) ⌝ }
 {
     if share(needs, others) {
         return lib_bits::insert(set, j);
@@ -51,7 +53,7 @@ fn add_leading(set: u64, j: usize, needs: u64, others: u64) -> u64
 
 // Those of the first n that need one of the set.
 fn leading_to(rows: &[u64], set: u64, n: usize) -> u64
-    requires { ⌜ (length (now rows) ≡ 64) × (n ≤ 64) × RowsBelow (now rows) n ⌝ }
+    requires { ⌜ (length (now rows) ≡ behaviourLimit) × (n ≤ behaviourLimit) × RowsBelow (now rows) n ⌝ }
     ensures { λ r. ⌜ Leading (bytesOf (now (rows .entry))) n set r ⌝ }
 {
     let mut found = 0;
@@ -66,7 +68,7 @@ fn leading_to(rows: &[u64], set: u64, n: usize) -> u64
 // How many steps lead from i back to i, at most n; n + 1 if there is no such walk. Level k is the set of those with a
 // walk of k steps to i.
 pub fn steps_back(rows: &[u64], levels: &mut [u64], i: usize, n: usize) -> usize
-    requires { ⌜ (length (now rows) ≡ 64) × (length (now levels) ≡ 65) × (i < n) × (n ≤ 64) × RowsBelow (now rows) n ⌝ }
+    requires { ⌜ (length (now rows) ≡ behaviourLimit) × (length (now levels) ≡ levelCount) × (i < n) × (n ≤ behaviourLimit) × RowsBelow (now rows) n ⌝ }
     ensures { λ r. ⌜ Back (bytesOf (now (rows .entry))) n i r (now (levels .exit)) ⌝ }
 {
     levels[0] = lib_bits::insert(0, i);
@@ -87,7 +89,8 @@ pub fn steps_back(rows: &[u64], levels: &mut [u64], i: usize, n: usize) -> usize
 
 // The members of such a walk of r steps, in the first r bytes of the list.
 pub fn walk(rows: &[u64], levels: &[u64], i: usize, r: usize, n: usize, list: &mut [u8])
-    requires { ⌜ (length (now rows) ≡ 64) × (length (now levels) ≡ 65) × (i < n) × (n ≤ 64) × (r ≤ n) × (64 ≤ length (now list)) ⌝ }
+    requires { ⌜ (length (now rows) ≡ behaviourLimit) × (length (now levels) ≡ levelCount) × (i < n) × (n ≤ behaviourLimit) × (r ≤ n)
+        × (behaviourLimit ≤ length (now list)) ⌝ }
     requires { ⌜ (0 < r) × Layered (bytesOf (now rows)) n i (now levels) (r - 1) × (layer (λ a b. cell (bytesOf (now rows)) a b) n r i i ≡ true) ⌝ }
     ensures { λ _. ⌜ Walked (bytesOf (now (rows .entry))) n r (now (list .entry)) (now (list .exit)) ⌝ }
 {

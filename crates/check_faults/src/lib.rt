@@ -13,6 +13,8 @@ ghost use Rattle.draft_form.specs.Draft.{draftLength, usedBy};
 ghost use Rattle.check_graph.specs.Sets.{RowsBelow};
 ghost use Rattle.check_faults.specs.Checks.{stray, namesKnown, nodeNames, someNodeNames, needsOn, RowsAre, PlacedOn};
 ghost use Rattle.check_faults.specs.Checks.{LowestLeft, LeftClosed, leftRound, RoundOn, cyclicOn, RowsInside, AllInside};
+ghost use Rattle.draft_form.specs.Sizes.{draftNodes};
+ghost use Rattle.spec_language.specs.Limits.{behaviourLimit, eventLimit};
 use draft_form::layout;
 use spec_language::limits;
 
@@ -27,7 +29,7 @@ fn is_stray(x: u64, b: usize) -> bool
 
 // Whether every name among the first n nodes is that of one of b behaviours.
 pub fn names_known(d: &[u64], n: usize, b: usize) -> bool
-    requires { ⌜ (length (now d) ≡ draftLength) × (n ≤ 2048) ⌝ }
+    requires { ⌜ (length (now d) ≡ draftLength) × (n ≤ draftNodes) ⌝ }
     ensures { λ r. ⌜ r ≡ namesKnown (now (d .entry)) b n ⌝ }
 {
     let mut k = n;
@@ -42,7 +44,7 @@ pub fn names_known(d: &[u64], n: usize, b: usize) -> bool
 
 // The set with the name that node x is, if it is one of the first n, but not that of number `but`.
 fn add_need(set: u64, but: usize, n: usize, x: u64) -> u64
-    requires { ⌜ n ≤ 64 ⌝ }
+    requires { ⌜ n ≤ behaviourLimit ⌝ }
     ensures { λ r. ⌜ ((b : ℕ) → bit r b ≡ bit set b || (ltb b n && nodeNames but b x)) ⌝ }
 {
     if x / layout::WORD == layout::NAME {
@@ -58,7 +60,7 @@ fn add_need(set: u64, but: usize, n: usize, x: u64) -> u64
 
 // The names of the first n among count nodes from start on, as behaviour i means them, as a set.
 fn need_set(d: &[u64], i: usize, but: usize, n: usize, start: usize, count: usize) -> u64
-    requires { ⌜ (length (now d) ≡ draftLength) × (i < 64) × (n ≤ 64) × (start + count ≤ 2048) ⌝ }
+    requires { ⌜ (length (now d) ≡ draftLength) × (i < behaviourLimit) × (n ≤ behaviourLimit) × (start + count ≤ draftNodes) ⌝ }
     ensures { λ r. ⌜ ((b : ℕ) → bit r b ≡ ltb b n && someNodeNames but b (take count (drop start (usedBy (now (d .entry)) i)))) ⌝ }
 {
     let mut set = 0;
@@ -72,7 +74,7 @@ fn need_set(d: &[u64], i: usize, but: usize, n: usize, start: usize, count: usiz
 
 // The needs of behaviour i with this entry among the first n, as a set.
 fn row_of(d: &[u64], i: usize, n: usize, entry: u64) -> u64
-    requires { ⌜ (length (now d) ≡ draftLength) × (i < 64) × (n ≤ 64) × (entryStart entry + entryCount entry ≤ 2048) ⌝ }
+    requires { ⌜ (length (now d) ≡ draftLength) × (i < behaviourLimit) × (n ≤ behaviourLimit) × (entryStart entry + entryCount entry ≤ draftNodes) ⌝ }
     ensures { λ r. ⌜ ((b : ℕ) → bit r b ≡ ltb b n && needsOn (now (d .entry)) i entry b) ⌝ }
 {
     let start = (entry / layout::KINDS % layout::FIRSTS) as usize;
@@ -88,7 +90,7 @@ fn row_of(d: &[u64], i: usize, n: usize, entry: u64) -> u64
 
 // The needs of the first n behaviours on event e, a set for each.
 pub fn fill_rows(d: &[u64], e: usize, n: usize, rows: &mut [u64])
-    requires { ⌜ (length (now d) ≡ draftLength) × (length (now rows) ≡ 64) × (e ≤ 32) × (n ≤ 64) × RowsInside (now d) e n ⌝ }
+    requires { ⌜ (length (now d) ≡ draftLength) × (length (now rows) ≡ behaviourLimit) × (e ≤ eventLimit) × (n ≤ behaviourLimit) × RowsInside (now d) e n ⌝ }
     ensures { λ _. ⌜ RowsAre (now (d .entry)) e n (now (rows .exit)) ⌝ }
 {
     let mut i = 0;
@@ -100,7 +102,7 @@ pub fn fill_rows(d: &[u64], e: usize, n: usize, rows: &mut [u64])
 
 // Those of the first n behaviours that can be placed, each after its needs: none of them reaches itself.
 fn place_all(rows: &[u64], n: usize) -> u64
-    requires { ⌜ (length (now rows) ≡ 64) × (n ≤ 64) × RowsBelow (now rows) n ⌝ }
+    requires { ⌜ (length (now rows) ≡ behaviourLimit) × (n ≤ behaviourLimit) × RowsBelow (now rows) n ⌝ }
     ensures { λ r. ⌜ PlacedOn (now (rows .entry)) n r ⌝ }
 {
     let mut order = [0u8; check_graph::ROW];
@@ -110,7 +112,7 @@ fn place_all(rows: &[u64], n: usize) -> u64
 
 // The lowest of the first n that is not in the set; n if there is none.
 fn first_left(placed: u64, n: usize) -> usize
-    requires { ⌜ n ≤ 64 ⌝ }
+    requires { ⌜ n ≤ behaviourLimit ⌝ }
     ensures { λ r. ⌜ LowestLeft placed n r ⌝ }
 {
     let mut i = 0;
@@ -125,7 +127,7 @@ fn first_left(placed: u64, n: usize) -> usize
 
 // Where one is not placed, each takes in what is reached from it: else none is asked for it.
 fn close_left(rows: &mut [u64], placed: u64, n: usize)
-    requires { ⌜ (length (now rows) ≡ 64) × (n ≤ 64) ⌝ }
+    requires { ⌜ (length (now rows) ≡ behaviourLimit) × (n ≤ behaviourLimit) ⌝ }
     ensures { λ _. ⌜ LeftClosed (now (rows .entry)) placed n (now (rows .exit)) ⌝ }
 {
     if first_left(placed, n) < n {
@@ -135,7 +137,7 @@ fn close_left(rows: &mut [u64], placed: u64, n: usize)
 
 // The rows on event e, of which those that are not placed have what is reached from them; and who is placed.
 fn reach_all(d: &[u64], e: usize, n: usize, rows: &mut [u64]) -> u64
-    requires { ⌜ (length (now d) ≡ draftLength) × (length (now rows) ≡ 64) × (e ≤ 32) × (n ≤ 64) × RowsInside (now d) e n ⌝ }
+    requires { ⌜ (length (now d) ≡ draftLength) × (length (now rows) ≡ behaviourLimit) × (e ≤ eventLimit) × (n ≤ behaviourLimit) × RowsInside (now d) e n ⌝ }
     ensures { λ r. ⌜ RoundOn (now (d .entry)) e n r (now (rows .exit)) ⌝ }
 {
     fill_rows(d, e, n, rows);
@@ -146,7 +148,7 @@ fn reach_all(d: &[u64], e: usize, n: usize, rows: &mut [u64]) -> u64
 
 // Whether b is reached from itself (01: a circle): who is placed is not; of another, its row tells it.
 fn reaches_itself(rows: &[u64], placed: u64, b: usize) -> bool
-    requires { ⌜ (length (now rows) ≡ 64) × (b < 64) ⌝ }
+    requires { ⌜ (length (now rows) ≡ behaviourLimit) × (b < behaviourLimit) ⌝ }
     ensures { λ r. ⌜ r ≡ leftRound placed (now (rows .entry)) b ⌝ }
 {
     if lib_bits::contains(placed, b) {
@@ -158,7 +160,7 @@ fn reaches_itself(rows: &[u64], placed: u64, b: usize) -> bool
 // Whether, on one of ev events or on none, one of bs behaviours reaches itself: a search over events and behaviours,
 // left where one does.
 pub fn has_cycle(d: &[u64], ev: usize, bs: usize) -> bool
-    requires { ⌜ (length (now d) ≡ draftLength) × (ev ≤ 32) × (bs ≤ 64) × AllInside (now d) ev bs ⌝ }
+    requires { ⌜ (length (now d) ≡ draftLength) × (ev ≤ eventLimit) × (bs ≤ behaviourLimit) × AllInside (now d) ev bs ⌝ }
     ensures { λ r. ⌜ r ≡ cyclicOn (now (d .entry)) ev bs ⌝ }
 {
     let mut rows = [0u64; check_graph::ROW];

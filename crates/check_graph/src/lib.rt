@@ -6,6 +6,7 @@ ghost use Prim.Native.Nat.{_+_, _*_, _≤_, _<_};
 ghost use lib.ListN.{length};
 ghost use Rattle.check_graph.specs.Placing.{findOn, placed, orderOn};
 ghost use Rattle.check_graph.specs.Sets.{readySet, RowsBelow, bytesOf, marksOf, TakenIn, PassedThrough, ClosedRows};
+ghost use Rattle.spec_language.specs.Limits.{behaviourLimit};
 
 // How many rows there are, and numbers in a row.
 pub const ROW: usize = spec_language::limits::BEHAVIOURS;
@@ -18,7 +19,7 @@ pub struct Arranged {
 
 // Whether i is not in the set and its needs are.
 fn is_ready(needs: u64, set: u64, i: usize) -> bool
-    requires { ⌜ i < 64 ⌝ }
+    requires { ⌜ i < behaviourLimit ⌝ }
     ensures { λ r. ⌜ r ≡ readySet needs set i ⌝ }
 {
     if lib_bits::contains(set, i) {
@@ -29,7 +30,7 @@ fn is_ready(needs: u64, set: u64, i: usize) -> bool
 
 // The lowest of the first n that is ready; n if there is none.
 fn find_next(rows: &[u64], set: u64, n: usize) -> usize
-    requires { ⌜ (length (now rows) ≡ 64) × (n ≤ 64) × RowsBelow (now rows) n ⌝ }
+    requires { ⌜ (length (now rows) ≡ behaviourLimit) × (n ≤ behaviourLimit) × RowsBelow (now rows) n ⌝ }
     ensures { λ r. ⌜ r ≡ findOn (bytesOf (now (rows .entry))) (marksOf set) n n 0 ⌝ }
 {
     let mut i = 0;
@@ -45,7 +46,7 @@ fn find_next(rows: &[u64], set: u64, n: usize) -> usize
 // Places each of the first n that is not in the set and whose needs are, the lowest number first, chosen anew after
 // each. Returns who is in the set then, and how many were placed.
 pub fn order_of(rows: &[u64], met: u64, n: usize, out: &mut [u8]) -> Arranged
-    requires { ⌜ (length (now rows) ≡ 64) × (length (now out) ≡ 64) × (n ≤ 64) × RowsBelow (now rows) n ⌝ }
+    requires { ⌜ (length (now rows) ≡ behaviourLimit) × (length (now out) ≡ behaviourLimit) × (n ≤ behaviourLimit) × RowsBelow (now rows) n ⌝ }
     ensures { λ r. ⌜ placed (r .count) (marksOf (r .set)) (now (out .exit)) ≡ orderOn (bytesOf (now (rows .entry))) n n (marksOf met) 0 (now (out .entry)) ⌝ }
 {
     let mut set = met;
@@ -70,7 +71,7 @@ pub fn order_of(rows: &[u64], met: u64, n: usize, out: &mut [u8]) -> Arranged
 
 // What a row needs, and where it needs k what k needs.
 fn taken_in(row: u64, through: u64, k: usize) -> u64
-    requires { ⌜ k < 64 ⌝ }
+    requires { ⌜ k < behaviourLimit ⌝ }
     ensures { λ r. ⌜ TakenIn row through k r ⌝ }
 {
     if lib_bits::contains(row, k) {
@@ -81,7 +82,7 @@ fn taken_in(row: u64, through: u64, k: usize) -> u64
 
 // Each of the first n takes in what k needs, if it needs k.
 fn pass(rows: &mut [u64], k: usize, n: usize)
-    requires { ⌜ (length (now rows) ≡ 64) × (k < n) × (n ≤ 64) ⌝ }
+    requires { ⌜ (length (now rows) ≡ behaviourLimit) × (k < n) × (n ≤ behaviourLimit) ⌝ }
     ensures { λ _. ⌜ PassedThrough (now (rows .entry)) k n (now (rows .exit)) ⌝ }
 {
     let through = rows[k];
@@ -94,7 +95,7 @@ fn pass(rows: &mut [u64], k: usize, n: usize)
 
 // Each of the first n takes in what is reached from it: through each of them in turn (Warshall). Time: n * n.
 pub fn close(rows: &mut [u64], n: usize)
-    requires { ⌜ (length (now rows) ≡ 64) × (n ≤ 64) ⌝ }
+    requires { ⌜ (length (now rows) ≡ behaviourLimit) × (n ≤ behaviourLimit) ⌝ }
     ensures { λ _. ⌜ ClosedRows (now (rows .entry)) n (now (rows .exit)) ⌝ }
 {
     let mut k = 0;

@@ -12,12 +12,14 @@ ghost use Rattle.draft_form.specs.Entry.{entryKind, entryStart, entryCount};
 ghost use Rattle.check_graph.specs.Any.{anyBelow};
 ghost use Rattle.check_faults.specs.Checks.{RowsInside, AllInside};
 ghost use Rattle.check_reads.specs.Sets.{isName, namedAmong, writesOn, handlersName, passiveOn, closedBy, RowsBy, Passed, WritesIn, NamedIn};
+ghost use Rattle.draft_form.specs.Sizes.{draftNodes};
+ghost use Rattle.spec_language.specs.Limits.{behaviourLimit, eventLimit};
 use draft_form::layout;
 use spec_language::limits;
 
 // The set with the name that node x is.
 fn add_name(set: u64, x: u64) -> u64
-    ensures { λ r. ⌜ ((j : ℕ) → j < 64 → bit r j ≡ bit set j || isName j x) ⌝ }
+    ensures { λ r. ⌜ ((j : ℕ) → j < behaviourLimit → bit r j ≡ bit set j || isName j x) ⌝ }
 {
     if x / layout::WORD == layout::NAME {
         let j = (x % layout::WORD) as usize;
@@ -30,8 +32,8 @@ fn add_name(set: u64, x: u64) -> u64
 
 // The names in entry v of behaviour i, as i means them.
 pub fn names_in(d: &[u64], i: usize, v: u64) -> u64
-    requires { ⌜ (length (now d) ≡ draftLength) × (i < 64) × (entryStart v + entryCount v ≤ 2048) ⌝ }
-    ensures { λ r. ⌜ Gathers 64 r (λ j. namedAmong (usedBy (now (d .entry)) i) j (entryStart v) (entryCount v)) ⌝ }
+    requires { ⌜ (length (now d) ≡ draftLength) × (i < behaviourLimit) × (entryStart v + entryCount v ≤ draftNodes) ⌝ }
+    ensures { λ r. ⌜ Gathers behaviourLimit r (λ j. namedAmong (usedBy (now (d .entry)) i) j (entryStart v) (entryCount v)) ⌝ }
 {
     let start = (v / layout::KINDS % layout::FIRSTS) as usize;
     let count = (v / layout::COUNTS) as usize;
@@ -46,7 +48,7 @@ pub fn names_in(d: &[u64], i: usize, v: u64) -> u64
 
 // The set with i where its entry v is a handler.
 fn add_writer(set: u64, i: usize, v: u64) -> u64
-    requires { ⌜ i < 64 ⌝ }
+    requires { ⌜ i < behaviourLimit ⌝ }
     ensures { λ r. ⌜ ((j : ℕ) → bit r j ≡ bit set j || (leb 2 (entryKind v) && eqb j i)) ⌝ }
 {
     if layout::IMMEDIATE <= v % layout::KINDS {
@@ -57,7 +59,7 @@ fn add_writer(set: u64, i: usize, v: u64) -> u64
 
 // Which of the first n behaviours have a handler for event e.
 fn writes_of(d: &[u64], e: usize, n: usize) -> u64
-    requires { ⌜ (length (now d) ≡ draftLength) × (n ≤ 64) ⌝ }
+    requires { ⌜ (length (now d) ≡ draftLength) × (n ≤ behaviourLimit) ⌝ }
     ensures { λ r. ⌜ Gathers n r (writesOn (now (d .entry)) e) ⌝ }
 {
     let mut set = 0;
@@ -71,8 +73,9 @@ fn writes_of(d: &[u64], e: usize, n: usize) -> u64
 
 // The set with the names in entry v of behaviour i where it is a handler.
 fn add_names(d: &[u64], set: u64, i: usize, v: u64) -> u64
-    requires { ⌜ (length (now d) ≡ draftLength) × (i < 64) × (entryStart v + entryCount v ≤ 2048) ⌝ }
-    ensures { λ r. ⌜ Gathers 64 r (λ j. bit set j || (leb 2 (entryKind v) && namedAmong (usedBy (now (d .entry)) i) j (entryStart v) (entryCount v))) ⌝ }
+    requires { ⌜ (length (now d) ≡ draftLength) × (i < behaviourLimit) × (entryStart v + entryCount v ≤ draftNodes) ⌝ }
+    ensures { λ r. ⌜ Gathers behaviourLimit r (λ j. bit set j
+        || (leb 2 (entryKind v) && namedAmong (usedBy (now (d .entry)) i) j (entryStart v) (entryCount v))) ⌝ }
 {
     if v % layout::KINDS >= layout::IMMEDIATE {
         return lib_bits::union_of(set, names_in(d, i, v));
@@ -82,8 +85,8 @@ fn add_names(d: &[u64], set: u64, i: usize, v: u64) -> u64
 
 // The names in the handlers of the first n behaviours for event e.
 fn handler_names(d: &[u64], e: usize, n: usize) -> u64
-    requires { ⌜ (length (now d) ≡ draftLength) × (e ≤ 32) × (n ≤ 64) × RowsInside (now d) e n ⌝ }
-    ensures { λ r. ⌜ Gathers 64 r (handlersName (now (d .entry)) e n) ⌝ }
+    requires { ⌜ (length (now d) ≡ draftLength) × (e ≤ eventLimit) × (n ≤ behaviourLimit) × RowsInside (now d) e n ⌝ }
+    ensures { λ r. ⌜ Gathers behaviourLimit r (handlersName (now (d .entry)) e n) ⌝ }
 {
     let mut set = 0;
     let mut i = 0;
@@ -96,8 +99,8 @@ fn handler_names(d: &[u64], e: usize, n: usize) -> u64
 
 // The names in entry v of behaviour i where it is a passive's.
 fn passive_names(d: &[u64], i: usize, v: u64) -> u64
-    requires { ⌜ (length (now d) ≡ draftLength) × (i < 64) × (entryStart v + entryCount v ≤ 2048) ⌝ }
-    ensures { λ r. ⌜ Gathers 64 r (λ j. eqb (entryKind v) 1 && namedAmong (usedBy (now (d .entry)) i) j (entryStart v) (entryCount v)) ⌝ }
+    requires { ⌜ (length (now d) ≡ draftLength) × (i < behaviourLimit) × (entryStart v + entryCount v ≤ draftNodes) ⌝ }
+    ensures { λ r. ⌜ Gathers behaviourLimit r (λ j. eqb (entryKind v) 1 && namedAmong (usedBy (now (d .entry)) i) j (entryStart v) (entryCount v)) ⌝ }
 {
     if v % layout::KINDS == layout::PASSIVE {
         return names_in(d, i, v);
@@ -107,7 +110,7 @@ fn passive_names(d: &[u64], i: usize, v: u64) -> u64
 
 // What each of n behaviours names as a passive: ev is the number of no event.
 fn fill_rows(d: &[u64], ev: usize, n: usize, rows: &mut [u64])
-    requires { ⌜ (length (now d) ≡ draftLength) × (length (now rows) ≡ 64) × (ev ≤ 32) × (n ≤ 64) × RowsInside (now d) ev n ⌝ }
+    requires { ⌜ (length (now d) ≡ draftLength) × (length (now rows) ≡ behaviourLimit) × (ev ≤ eventLimit) × (n ≤ behaviourLimit) × RowsInside (now d) ev n ⌝ }
     ensures { λ _. ⌜ RowsBy (passiveOn (now (d .entry)) ev) n (now (rows .exit)) ⌝ }
 {
     let mut i = 0;
@@ -119,7 +122,7 @@ fn fill_rows(d: &[u64], ev: usize, n: usize, rows: &mut [u64])
 
 // The set with i's row where i is among the names.
 fn add_row(set: u64, names: u64, i: usize, row: u64) -> u64
-    requires { ⌜ i < 64 ⌝ }
+    requires { ⌜ i < behaviourLimit ⌝ }
     ensures { λ r. ⌜ ((j : ℕ) → bit r j ≡ bit set j || (bit names i && bit row j)) ⌝ }
 {
     if lib_bits::contains(names, i) {
@@ -130,7 +133,7 @@ fn add_row(set: u64, names: u64, i: usize, row: u64) -> u64
 
 // Each row that has k takes in row k.
 fn pass_through(rows: &mut [u64], k: usize, n: usize)
-    requires { ⌜ (length (now rows) ≡ 64) × (k < n) × (n ≤ 64) ⌝ }
+    requires { ⌜ (length (now rows) ≡ behaviourLimit) × (k < n) × (n ≤ behaviourLimit) ⌝ }
     ensures { λ _. ⌜ Passed (now (rows .entry)) (now (rows .exit)) k n ⌝ }
 {
     let mut i = 0;
@@ -142,7 +145,7 @@ fn pass_through(rows: &mut [u64], k: usize, n: usize)
 
 // The rows with whatever is reached by a chain, in place.
 pub fn close_rows(rows: &mut [u64], n: usize)
-    requires { ⌜ (length (now rows) ≡ 64) × (n ≤ 64) ⌝ }
+    requires { ⌜ (length (now rows) ≡ behaviourLimit) × (n ≤ behaviourLimit) ⌝ }
     ensures { λ _. ⌜ ((dep : ℕ → ℕ → Bool) → RowsBy dep n (now (rows .entry)) → RowsBy (closedBy n dep) n (now (rows .exit))) ⌝ }
 {
     let mut k = 0;
@@ -154,7 +157,7 @@ pub fn close_rows(rows: &mut [u64], n: usize)
 
 // What each of n behaviours names through passives.
 pub fn passive_rows(d: &[u64], ev: usize, n: usize, rows: &mut [u64])
-    requires { ⌜ (length (now d) ≡ draftLength) × (length (now rows) ≡ 64) × (ev ≤ 32) × (n ≤ 64) × RowsInside (now d) ev n ⌝ }
+    requires { ⌜ (length (now d) ≡ draftLength) × (length (now rows) ≡ behaviourLimit) × (ev ≤ eventLimit) × (n ≤ behaviourLimit) × RowsInside (now d) ev n ⌝ }
     ensures { λ _. ⌜ RowsBy (closedBy n (passiveOn (now (d .entry)) ev)) n (now (rows .exit)) ⌝ }
 {
     fill_rows(d, ev, n, rows);
@@ -163,8 +166,8 @@ pub fn passive_rows(d: &[u64], ev: usize, n: usize, rows: &mut [u64])
 
 // The names, and whatever they lead to.
 pub fn add_rows(rows: &[u64], names: u64, n: usize) -> u64
-    requires { ⌜ (length (now rows) ≡ 64) × (n ≤ 64) ⌝ }
-    ensures { λ r. ⌜ Gathers 64 r (λ j. bit names j || anyBelow n (λ i. bit names i && bit (getD (now (rows .entry)) i 0) j)) ⌝ }
+    requires { ⌜ (length (now rows) ≡ behaviourLimit) × (n ≤ behaviourLimit) ⌝ }
+    ensures { λ r. ⌜ Gathers behaviourLimit r (λ j. bit names j || anyBelow n (λ i. bit names i && bit (getD (now (rows .entry)) i 0) j)) ⌝ }
 {
     let mut set = names;
     let mut i = 0;
@@ -177,7 +180,7 @@ pub fn add_rows(rows: &[u64], names: u64, n: usize) -> u64
 
 // Which of the first n behaviours each of ev events writes.
 pub fn fill_writes(d: &[u64], ev: usize, n: usize, writes: &mut [u64])
-    requires { ⌜ (length (now d) ≡ draftLength) × (length (now writes) ≡ 32) × (ev ≤ 32) × (n ≤ 64) ⌝ }
+    requires { ⌜ (length (now d) ≡ draftLength) × (length (now writes) ≡ eventLimit) × (ev ≤ eventLimit) × (n ≤ behaviourLimit) ⌝ }
     ensures { λ _. ⌜ WritesIn (now (d .entry)) ev n (now (writes .exit)) ⌝ }
 {
     let mut e = 0;
@@ -189,8 +192,8 @@ pub fn fill_writes(d: &[u64], ev: usize, n: usize, writes: &mut [u64])
 
 // Which its handlers name, where the rows say what is named through passives.
 fn fill_names(d: &[u64], ev: usize, n: usize, rows: &[u64], named: &mut [u64])
-    requires { ⌜ (length (now d) ≡ draftLength) × (length (now rows) ≡ 64) × (length (now named) ≡ 32) × (ev ≤ 32)
-        × (n ≤ 64) × AllInside (now d) ev n × RowsBy (closedBy n (passiveOn (now d) ev)) n (now rows) ⌝ }
+    requires { ⌜ (length (now d) ≡ draftLength) × (length (now rows) ≡ behaviourLimit) × (length (now named) ≡ eventLimit) × (ev ≤ eventLimit)
+        × (n ≤ behaviourLimit) × AllInside (now d) ev n × RowsBy (closedBy n (passiveOn (now d) ev)) n (now rows) ⌝ }
     ensures { λ _. ⌜ NamedIn (now (d .entry)) ev n (now (named .exit)) ⌝ }
 {
     let mut e = 0;
@@ -202,7 +205,7 @@ fn fill_names(d: &[u64], ev: usize, n: usize, rows: &[u64], named: &mut [u64])
 
 // Which of the first n behaviours the handlers of each of ev events name, directly or through passives.
 pub fn fill_named(d: &[u64], ev: usize, n: usize, named: &mut [u64])
-    requires { ⌜ (length (now d) ≡ draftLength) × (length (now named) ≡ 32) × (ev ≤ 32) × (n ≤ 64) × AllInside (now d) ev n ⌝ }
+    requires { ⌜ (length (now d) ≡ draftLength) × (length (now named) ≡ eventLimit) × (ev ≤ eventLimit) × (n ≤ behaviourLimit) × AllInside (now d) ev n ⌝ }
     ensures { λ _. ⌜ NamedIn (now (d .entry)) ev n (now (named .exit)) ⌝ }
 {
     let mut rows = [0u64; limits::BEHAVIOURS];

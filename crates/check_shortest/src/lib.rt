@@ -8,6 +8,8 @@ ghost use Rattle.check_faults.specs.Checks.{cyclicOn, RowsInside, AllInside};
 ghost use Rattle.draft_form.specs.Draft.{draftLength};
 ghost use Rattle.check_shortest.specs.Search.{backOn, eventOfTurn, bestOf, shortestOn, Wide, CircleMembers, handed, ShortestFound};
 ghost use Rattle.check_shortest.specs.EventNumber.{eventNumber};
+ghost use Rattle.check_distance.specs.Levels.{levelCount};
+ghost use Rattle.spec_language.specs.Limits.{behaviourLimit, eventLimit};
 
 // How the steps from a behaviour back to itself are packed with the event's turn and the behaviour: both are below 64.
 const TURNS: usize = 64;
@@ -45,8 +47,9 @@ fn best_under(
     levels: &mut [u64],
     best: usize,
 ) -> usize
-    requires { ⌜ (length (now d) ≡ draftLength) × (length (now rows) ≡ 64) × (length (now levels) ≡ 65) × (e ≤ 32) × (n ≤ 64) × RowsInside (now d) e n ⌝ }
-    requires { ⌜ t ≤ 32 ⌝ }
+    requires { ⌜ (length (now d) ≡ draftLength) × (length (now rows) ≡ behaviourLimit) × (length (now levels) ≡ levelCount) × (e ≤ eventLimit)
+        × (n ≤ behaviourLimit) × RowsInside (now d) e n ⌝ }
+    requires { ⌜ t ≤ eventLimit ⌝ }
     ensures { λ r. ⌜ r ≡ bestOf (now (d .entry)) e t n n best ⌝ }
 {
     check_faults::fill_rows(d, e, n, rows);
@@ -64,7 +67,7 @@ fn best_under(
 
 // The same over none and ev events.
 fn shortest(d: &[u64], ev: usize, n: usize) -> usize
-    requires { ⌜ (length (now d) ≡ draftLength) × (ev ≤ 32) × (n ≤ 64) × AllInside (now d) ev n ⌝ }
+    requires { ⌜ (length (now d) ≡ draftLength) × (ev ≤ eventLimit) × (n ≤ behaviourLimit) × AllInside (now d) ev n ⌝ }
     ensures { λ r. ⌜ r ≡ shortestOn (now (d .entry)) ev n ⌝ }
 {
     let mut rows = [0u64; check_graph::ROW];
@@ -90,8 +93,8 @@ fn event_number(e: usize, ev: usize) -> u64
 
 // The behaviours of a shortest walk from i back to i on event e, in the list's first bytes, and how many they are.
 fn list_members(d: &[u64], e: usize, i: usize, n: usize, list: &mut [u8]) -> usize
-    requires { ⌜ (length (now d) ≡ draftLength) × (e ≤ 32) × (n ≤ 64) × RowsInside (now d) e n ⌝ }
-    requires { ⌜ (64 ≤ length (now list)) × (i < n) × (backOn (now d) e n i ≤ n) ⌝ }
+    requires { ⌜ (length (now d) ≡ draftLength) × (e ≤ eventLimit) × (n ≤ behaviourLimit) × RowsInside (now d) e n ⌝ }
+    requires { ⌜ (behaviourLimit ≤ length (now list)) × (i < n) × (backOn (now d) e n i ≤ n) ⌝ }
     ensures { λ r. ⌜ CircleMembers (now (d .entry)) e n i r (now (list .entry)) (now (list .exit)) ⌝ }
 {
     let mut rows = [0u64; check_graph::ROW];
@@ -115,7 +118,7 @@ fn hand_over(members: &[u8], r: usize, list: &mut [u8])
 // A shortest circle, under none where none has one as short: its members in the list's first bytes, where it has room
 // for them. 12, its event times 256 and their number times 65,536.
 pub fn list_circle(d: &[u64], ev: usize, n: usize, list: &mut [u8]) -> u64
-    requires { ⌜ (length (now d) ≡ draftLength) × (ev ≤ 32) × (n ≤ 64) × AllInside (now d) ev n ⌝ }
+    requires { ⌜ (length (now d) ≡ draftLength) × (ev ≤ eventLimit) × (n ≤ behaviourLimit) × AllInside (now d) ev n ⌝ }
     requires { ⌜ Wide (now d) ev n × (cyclicOn (now d) ev n ≡ true) ⌝ }
     ensures { λ r. ⌜ ShortestFound (now (d .entry)) ev n (now (list .entry)) r (now (list .exit)) ⌝ }
 {

@@ -10,6 +10,8 @@ use sheet_field::sizes;
 ghost use Prim.Native.Nat.{_≤_, _<_};
 ghost use lib.ListN.{length};
 ghost use Rattle.io.specs.Counts.{Counts};
+ghost use Rattle.lib_base.specs.Words.{halfValues};
+ghost use Rattle.spec_language.specs.Limits.{behaviourLimit};
 
 // How long a line may be: one of a refusal or a step, and one of a show.
 const LINE_BYTES: usize = 64;
@@ -54,8 +56,8 @@ fn arrive(table: &[u8], round: &mut [u8], event: u32) {
 
 // The board's values, as many as the program has. How many.
 fn collect(table: &[u8], round: &[u8], values: &mut [u32]) -> usize
-    requires { ⌜ 64 ≤ length (now values) ⌝ }
-    ensures { λ r. ⌜ r ≤ 64 ⌝ }
+    requires { ⌜ behaviourLimit ≤ length (now values) ⌝ }
+    ensures { λ r. ⌜ r ≤ behaviourLimit ⌝ }
     ensures { λ r. ⌜ Counts r (now (values .exit)) ⌝ }
 {
     let mut i = 0;
@@ -120,7 +122,7 @@ fn pass_over(verdict: u8) -> u8 {
 
 // The field whose header is given: its value is read and acted on.
 fn field(tag: u8, size: usize, table: &mut [u8], round: &mut [u8], ready: bool) -> u8
-    requires { ⌜ size < 65536 ⌝ }
+    requires { ⌜ size < halfValues ⌝ }
 {
     let mut space = io::large_buffer();
     let got = io::read_full(STDIN_FILENO, &mut space[..size]);

@@ -11,6 +11,8 @@ ghost use Rattle.io.specs.Counts.{Counts};
 ghost use Rattle.sheet_field.specs.Header.{headerOf, HeaderWithin};
 ghost use Rattle.desk_format.specs.Script.{due, playVerdict, valueVerdict, endsAfter, argumentNumber, decimalText};
 ghost use Rattle.desk_format.specs.Script.{signedText, refusalLine, commitLine, stepLine, boardLine};
+ghost use Rattle.desk_format.specs.Sizes.{cellBytes, numberBytes, sharp, signedBytes, space};
+ghost use Rattle.spec_language.specs.Limits.{behaviourLimit};
 
 pub mod tags;
 
@@ -38,7 +40,7 @@ const DIGITS: usize = 20;
 
 // A field's header: 4 where fewer than 3 bytes were there, 5 for another tag; else its tag and the size that it states.
 pub fn header(head: &[u8]) -> Field
-    ensures { λ r. ⌜ r ≡ headerOf (now (head .entry)) 32 35 ⌝ }
+    ensures { λ r. ⌜ r ≡ headerOf (now (head .entry)) space sharp ⌝ }
     ensures { λ r. ⌜ HeaderWithin (now (head .entry)) r ⌝ }
 {
     sheet_field::header_answer(head, tags::SHEET, tags::SHOW)
@@ -123,8 +125,8 @@ fn put(out: &mut [u8], at: usize, text: &[u8]) -> usize
 
 // Puts n in decimal.
 fn put_decimal(out: &mut [u8], at: usize, n: u64) -> usize
-    requires { ⌜ at + 20 ≤ length (now out) ⌝ }
-    ensures { λ r. ⌜ r ≤ at + 20 ⌝ }
+    requires { ⌜ at + numberBytes ≤ length (now out) ⌝ }
+    ensures { λ r. ⌜ r ≤ at + numberBytes ⌝ }
     ensures { λ r. ⌜ take r (now (out .exit)) ≡ take at (now (out .entry)) ++ decimalText n ⌝ }
 {
     let mut digits = [0u8; DIGITS];
@@ -134,8 +136,8 @@ fn put_decimal(out: &mut [u8], at: usize, n: u64) -> usize
 
 // Puts the signed number that a 32-bit word stands for.
 fn put_signed(out: &mut [u8], at: usize, w: u32) -> usize
-    requires { ⌜ at + 21 ≤ length (now out) ⌝ }
-    ensures { λ r. ⌜ r ≤ at + 21 ⌝ }
+    requires { ⌜ at + signedBytes ≤ length (now out) ⌝ }
+    ensures { λ r. ⌜ r ≤ at + signedBytes ⌝ }
     ensures { λ r. ⌜ take r (now (out .exit)) ≡ take at (now (out .entry)) ++ signedText w ⌝ }
 {
     if w < lib_arith::NEGATIVE {
@@ -147,9 +149,9 @@ fn put_signed(out: &mut [u8], at: usize, w: u32) -> usize
 
 // Puts a space and a value.
 fn put_value(out: &mut [u8], at: usize, w: u32) -> usize
-    requires { ⌜ at + 22 ≤ length (now out) ⌝ }
-    ensures { λ r. ⌜ r ≤ at + 22 ⌝ }
-    ensures { λ r. ⌜ take r (now (out .exit)) ≡ take at (now (out .entry)) ++ (32 ∷ signedText w) ⌝ }
+    requires { ⌜ at + cellBytes ≤ length (now out) ⌝ }
+    ensures { λ r. ⌜ r ≤ at + cellBytes ⌝ }
+    ensures { λ r. ⌜ take r (now (out .exit)) ≡ take at (now (out .entry)) ++ (space ∷ signedText w) ⌝ }
 {
     let n = put(out, at, b" ");
     put_signed(out, n, w)
@@ -157,7 +159,7 @@ fn put_value(out: &mut [u8], at: usize, w: u32) -> usize
 
 // The line of a refusal: R and its number. How many bytes it has.
 pub fn refusal(n: u64, out: &mut [u8]) -> usize
-    requires { ⌜ 64 ≤ length (now out) ⌝ }
+    requires { ⌜ behaviourLimit ≤ length (now out) ⌝ }
     ensures { λ r. ⌜ Counts r (now (out .exit)) ⌝ }
     ensures { λ r. ⌜ take r (now (out .exit)) ≡ refusalLine n ⌝ }
 {
@@ -168,7 +170,7 @@ pub fn refusal(n: u64, out: &mut [u8]) -> usize
 
 // The line of a commit: C, the arrival's number and the event's.
 fn commit(n: u64, e: u64, out: &mut [u8]) -> usize
-    requires { ⌜ 64 ≤ length (now out) ⌝ }
+    requires { ⌜ behaviourLimit ≤ length (now out) ⌝ }
     ensures { λ r. ⌜ Counts r (now (out .exit)) ⌝ }
     ensures { λ r. ⌜ take r (now (out .exit)) ≡ commitLine n e ⌝ }
 {
@@ -181,7 +183,7 @@ fn commit(n: u64, e: u64, out: &mut [u8]) -> usize
 
 // What a step's answer prints; nothing where it is neither a refusal nor a commit.
 pub fn step_line(answer: u64, out: &mut [u8]) -> usize
-    requires { ⌜ 64 ≤ length (now out) ⌝ }
+    requires { ⌜ behaviourLimit ≤ length (now out) ⌝ }
     ensures { λ r. ⌜ Counts r (now (out .exit)) ⌝ }
     ensures { λ r. ⌜ take r (now (out .exit)) ≡ stepLine answer ⌝ }
 {
@@ -196,7 +198,7 @@ pub fn step_line(answer: u64, out: &mut [u8]) -> usize
 
 // The line of a show: B and the values in order.
 pub fn board_line(values: &[u32], out: &mut [u8]) -> usize
-    requires { ⌜ 2 + length (now values) * 22 ≤ length (now out) ⌝ }
+    requires { ⌜ 2 + length (now values) * cellBytes ≤ length (now out) ⌝ }
     ensures { λ r. ⌜ Counts r (now (out .exit)) ⌝ }
     ensures { λ r. ⌜ take r (now (out .exit)) ≡ boardLine (now (values .entry)) ⌝ }
 {

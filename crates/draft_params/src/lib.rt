@@ -5,6 +5,8 @@ ghost use Prim.Native.Nat.{_<_, _≤_, _^_};
 ghost use lib.ListN.{length};
 ghost use Rattle.draft_form.specs.Draft.{draftLength};
 ghost use Rattle.draft_params.specs.Filling.{parameterValue, filledNode, fillTo, anyParam, lacksParam};
+ghost use Rattle.draft_form.specs.Sizes.{draftNodes};
+ghost use Rattle.spec_language.specs.Limits.{parameterLimit};
 use draft_form::layout;
 use spec_language::limits;
 
@@ -12,7 +14,7 @@ const PARAMETERS: u64 = limits::PARAMETERS as u64;
 
 // The value of parameter k: a word of the bytes lent, 0 where fewer than 32 are.
 fn value_of(params: &[u8], k: usize) -> u64
-    requires { ⌜ k < 8 ⌝ }
+    requires { ⌜ k < parameterLimit ⌝ }
     ensures { λ r. ⌜ r ≡ parameterValue (now (params .entry)) k ⌝ }
     ensures { λ r. ⌜ r < 2 ^ 32 ⌝ }
 {
@@ -34,7 +36,7 @@ fn fill_node(params: &[u8], node: u64) -> u64
 
 // Fills in the first `nodes` nodes of a draft.
 pub fn fill_draft(draft: &mut [u64], nodes: usize, params: &[u8])
-    requires { ⌜ (length (now draft) ≡ draftLength) × (nodes ≤ 2048) ⌝ }
+    requires { ⌜ (length (now draft) ≡ draftLength) × (nodes ≤ draftNodes) ⌝ }
     ensures { λ _. ⌜ now (draft .exit) ≡ fillTo (now (params .entry)) (now (draft .entry)) nodes ⌝ }
 {
     let mut k = 0;
@@ -46,7 +48,7 @@ pub fn fill_draft(draft: &mut [u64], nodes: usize, params: &[u8])
 
 // Whether a parameter is among the first `nodes` nodes.
 fn has_param(draft: &[u64], nodes: usize) -> bool
-    requires { ⌜ (length (now draft) ≡ draftLength) × (nodes ≤ 2048) ⌝ }
+    requires { ⌜ (length (now draft) ≡ draftLength) × (nodes ≤ draftNodes) ⌝ }
     ensures { λ r. ⌜ r ≡ anyParam (now (draft .entry)) nodes ⌝ }
 {
     let mut k = nodes;
@@ -61,7 +63,7 @@ fn has_param(draft: &[u64], nodes: usize) -> bool
 
 // Whether a parameter is among the first `nodes` nodes and fewer than 32 bytes are lent.
 pub fn lacks_param(draft: &[u64], nodes: usize, params: &[u8]) -> bool
-    requires { ⌜ (length (now draft) ≡ draftLength) × (nodes ≤ 2048) ⌝ }
+    requires { ⌜ (length (now draft) ≡ draftLength) × (nodes ≤ draftNodes) ⌝ }
     ensures { λ r. ⌜ r ≡ lacksParam (now (draft .entry)) nodes (now (params .entry)) ⌝ }
 {
     if params.len() < limits::PARAMETER_BYTES {

@@ -3,3 +3,4 @@ pub mod Foreign
 pub mod Bounds
 pub mod Round
 pub mod Fresh
+pub mod Sizes

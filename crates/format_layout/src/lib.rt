@@ -9,6 +9,9 @@ ghost use Rattle.lib_word.specs.Word.{get};
 ghost use Rattle.format_layout.specs.Layout.{eventWord, eventOf, playerOf};
 ghost use Rattle.format_layout.specs.Foreign.{codeFits, codesFit, tableFits};
 ghost use Rattle.format_layout.specs.Bounds.{TableBounds};
+ghost use Rattle.format_layout.specs.Sizes.{recordLength, tableBytes};
+ghost use Rattle.lib_base.specs.Words.{wordBytes};
+ghost use Rattle.spec_language.specs.Limits.{eventLimit};
 
 pub mod operations;
 pub mod round;
@@ -22,7 +25,7 @@ const INSTRUCTIONS: u32 = limits::INSTRUCTIONS as u32;
 
 // Word k of an event's record in the table: its priority, the start of its code, the code's length, the members of C.
 pub fn event_word(table: &[u8], event: u32, k: usize) -> u32
-    requires { ⌜ (34816 ≤ length (now table)) × (k < 4) ⌝ }
+    requires { ⌜ (tableBytes ≤ length (now table)) × (k < recordLength) ⌝ }
     ensures { λ r. ⌜ r ≡ eventWord (now (table .entry)) event k ⌝ }
 {
     if event < EVENTS {
@@ -49,7 +52,7 @@ pub fn player_of(word: u32) -> u32
 
 // The event of the arrival in hand whose word is word k of the round.
 pub fn event_at(round: &[u8], k: usize) -> u32
-    requires { ⌜ k * 4 + 4 ≤ length (now round) ⌝ }
+    requires { ⌜ k * wordBytes + wordBytes ≤ length (now round) ⌝ }
     ensures { λ r. ⌜ r ≡ eventOf (get (now (round .entry)) k) ⌝ }
 {
     event_of(lib_word::get_word(round, k))
@@ -67,7 +70,7 @@ pub fn code_fits(start: u32, len: u32) -> bool
 
 // Whether the code of each of the first n events does.
 fn codes_fit(table: &[u8], n: u32) -> bool
-    requires { ⌜ (34816 ≤ length (now table)) × (n ≤ 32) ⌝ }
+    requires { ⌜ (tableBytes ≤ length (now table)) × (n ≤ eventLimit) ⌝ }
     ensures { λ r. ⌜ r ≡ codesFit (now (table .entry)) n ⌝ }
 {
     let mut i = n;

@@ -9,6 +9,8 @@ ghost use Rattle.front_field.specs.Expression.{out, ReadIn};
 ghost use Rattle.draft_form.specs.Draft.{draftLength};
 ghost use Rattle.front_behaviours.specs.Handler.{entryAt, handlerAt, handlerOf, handlersOf, BodyIn, faultOf};
 ghost use Rattle.front_behaviours.specs.Behaviour.{passiveOf, activeBody, activeOf, cellsOf, rowOf, valueAt, behaviourOf, Counted};
+ghost use Rattle.sheet_field.specs.Sizes.{byteField, handlerHead, wordField};
+ghost use Rattle.spec_language.specs.Limits.{behaviourLimit, eventLimit, sheetBytes};
 use draft_form::layout;
 use front_field::faults;
 use sheet_field::places;
@@ -37,11 +39,11 @@ pub fn fault(r: Read) -> u8
 
 // An expression that fills v, of nesting at most 16; its entry goes to `place`. The field has `over` bytes before v.
 fn read_entry(v: &[u8], draft: &mut [u64], n: usize, place: usize, kind: usize, over: usize) -> Read
-    requires { ⌜ n * 4 + length (now v) ≤ 8192 ⌝ }
+    requires { ⌜ n * byteField + length (now v) ≤ sheetBytes ⌝ }
     requires { ⌜ length (now draft) ≡ draftLength ⌝ }
     requires { ⌜ place < draftLength ⌝ }
     requires { ⌜ kind ≤ 3 ⌝ }
-    requires { ⌜ over ≤ 5 ⌝ }
+    requires { ⌜ over ≤ handlerHead ⌝ }
     ensures { λ r. ⌜ out r (now (draft .exit)) ≡ entryAt (now (v .entry)) (now (draft .entry)) n place kind over ⌝ }
     ensures { λ r. ⌜ BodyIn (length (now (v .entry)) + over) n r ⌝ }
 {
@@ -58,10 +60,10 @@ fn read_entry(v: &[u8], draft: &mut [u64], n: usize, place: usize, kind: usize, 
 
 // A handler's value: event, phase, doubled, expression. `events` are declared; the handler is one of behaviour i.
 fn read_handler_value(v: &[u8], events: usize, i: usize, draft: &mut [u64], n: usize) -> Read
-    requires { ⌜ n * 4 + length (now v) ≤ 8192 ⌝ }
+    requires { ⌜ n * byteField + length (now v) ≤ sheetBytes ⌝ }
     requires { ⌜ length (now draft) ≡ draftLength ⌝ }
-    requires { ⌜ events ≤ 32 ⌝ }
-    requires { ⌜ i < 64 ⌝ }
+    requires { ⌜ events ≤ eventLimit ⌝ }
+    requires { ⌜ i < behaviourLimit ⌝ }
     ensures { λ r. ⌜ out r (now (draft .exit)) ≡ handlerAt (now (v .entry)) events i (now (draft .entry)) n ⌝ }
     ensures { λ r. ⌜ BodyIn (length (now (v .entry)) + 3) n r ⌝ }
 {
@@ -95,10 +97,10 @@ fn read_handler_value(v: &[u8], events: usize, i: usize, draft: &mut [u64], n: u
 
 // A handler at the front of s.
 fn read_handler(s: &[u8], events: usize, i: usize, draft: &mut [u64], n: usize) -> Read
-    requires { ⌜ n * 4 + length (now s) ≤ 8192 ⌝ }
+    requires { ⌜ n * byteField + length (now s) ≤ sheetBytes ⌝ }
     requires { ⌜ length (now draft) ≡ draftLength ⌝ }
-    requires { ⌜ events ≤ 32 ⌝ }
-    requires { ⌜ i < 64 ⌝ }
+    requires { ⌜ events ≤ eventLimit ⌝ }
+    requires { ⌜ i < behaviourLimit ⌝ }
     ensures { λ r. ⌜ out r (now (draft .exit)) ≡ handlerOf (now (s .entry)) events i (now (draft .entry)) n ⌝ }
     ensures { λ r. ⌜ ReadIn (length (now (s .entry))) n r ⌝ }
 {
@@ -117,12 +119,12 @@ fn read_handler(s: &[u8], events: usize, i: usize, draft: &mut [u64], n: usize) 
 
 // The handlers of behaviour i, whose value is v, after its start, up to the end or a tag 08: the place after them.
 fn read_handlers(v: &[u8], events: usize, i: usize, draft: &mut [u64], n: usize) -> Read
-    requires { ⌜ 7 ≤ length (now v) ⌝ }
-    requires { ⌜ n * 4 + length (now v) ≤ 8192 ⌝ }
+    requires { ⌜ wordField ≤ length (now v) ⌝ }
+    requires { ⌜ n * byteField + length (now v) ≤ sheetBytes ⌝ }
     requires { ⌜ length (now draft) ≡ draftLength ⌝ }
-    requires { ⌜ events ≤ 32 ⌝ }
-    requires { ⌜ i < 64 ⌝ }
-    ensures { λ r. ⌜ out r (now (draft .exit)) ≡ handlersOf (length (now (v .entry))) (now (v .entry)) 7 events i (now (draft .entry)) n ⌝ }
+    requires { ⌜ events ≤ eventLimit ⌝ }
+    requires { ⌜ i < behaviourLimit ⌝ }
+    ensures { λ r. ⌜ out r (now (draft .exit)) ≡ handlersOf (length (now (v .entry))) (now (v .entry)) wordField events i (now (draft .entry)) n ⌝ }
     ensures { λ r. ⌜ ReadIn (length (now (v .entry))) n r ⌝ }
 {
     let mut at = sizes::WORD_FIELD;
@@ -143,11 +145,11 @@ fn read_handlers(v: &[u8], events: usize, i: usize, draft: &mut [u64], n: usize)
 
 // What follows an active's start in its value v: its handlers, then who may see it.
 fn read_body(v: &[u8], events: usize, i: usize, draft: &mut [u64], n: usize) -> Read
-    requires { ⌜ 7 ≤ length (now v) ⌝ }
-    requires { ⌜ n * 4 + length (now v) ≤ 8192 ⌝ }
+    requires { ⌜ wordField ≤ length (now v) ⌝ }
+    requires { ⌜ n * byteField + length (now v) ≤ sheetBytes ⌝ }
     requires { ⌜ length (now draft) ≡ draftLength ⌝ }
-    requires { ⌜ events ≤ 32 ⌝ }
-    requires { ⌜ i < 64 ⌝ }
+    requires { ⌜ events ≤ eventLimit ⌝ }
+    requires { ⌜ i < behaviourLimit ⌝ }
     ensures { λ r. ⌜ out r (now (draft .exit)) ≡ activeBody (now (v .entry)) events i (now (draft .entry)) n ⌝ }
     ensures { λ r. ⌜ BodyIn (length (now (v .entry)) + 3) n r ⌝ }
 {
@@ -160,10 +162,10 @@ fn read_body(v: &[u8], events: usize, i: usize, draft: &mut [u64], n: usize) -> 
 
 // An active's value: its start, then its handlers and who may see it.
 fn read_active(v: &[u8], events: usize, i: usize, draft: &mut [u64], n: usize) -> Read
-    requires { ⌜ n * 4 + length (now v) ≤ 8192 ⌝ }
+    requires { ⌜ n * byteField + length (now v) ≤ sheetBytes ⌝ }
     requires { ⌜ length (now draft) ≡ draftLength ⌝ }
-    requires { ⌜ events ≤ 32 ⌝ }
-    requires { ⌜ i < 64 ⌝ }
+    requires { ⌜ events ≤ eventLimit ⌝ }
+    requires { ⌜ i < behaviourLimit ⌝ }
     ensures { λ r. ⌜ out r (now (draft .exit)) ≡ activeOf (now (v .entry)) events i (now (draft .entry)) n ⌝ }
     ensures { λ r. ⌜ BodyIn (length (now (v .entry)) + 3) n r ⌝ }
 {
@@ -181,9 +183,9 @@ fn read_active(v: &[u8], events: usize, i: usize, draft: &mut [u64], n: usize) -
 
 // A passive's value: its expression, then who may see it.
 fn read_passive(v: &[u8], i: usize, draft: &mut [u64], n: usize) -> Read
-    requires { ⌜ n * 4 + length (now v) ≤ 8192 ⌝ }
+    requires { ⌜ n * byteField + length (now v) ≤ sheetBytes ⌝ }
     requires { ⌜ length (now draft) ≡ draftLength ⌝ }
-    requires { ⌜ i < 64 ⌝ }
+    requires { ⌜ i < behaviourLimit ⌝ }
     ensures { λ r. ⌜ out r (now (draft .exit)) ≡ passiveOf (now (v .entry)) i (now (draft .entry)) n ⌝ }
     ensures { λ r. ⌜ BodyIn (length (now (v .entry)) + 3) n r ⌝ }
 {
@@ -198,13 +200,13 @@ fn read_passive(v: &[u8], i: usize, draft: &mut [u64], n: usize) -> Read
 // A row of count cells from behaviour i on, with the value v after the count: the first is read as an active, the
 // others are its copies.
 fn read_cells(v: &[u8], count: usize, events: usize, i: usize, draft: &mut [u64], n: usize) -> Read
-    requires { ⌜ n * 4 + length (now v) ≤ 8192 ⌝ }
+    requires { ⌜ n * byteField + length (now v) ≤ sheetBytes ⌝ }
     requires { ⌜ length (now draft) ≡ draftLength ⌝ }
-    requires { ⌜ events ≤ 32 ⌝ }
-    requires { ⌜ i < 64 ⌝ }
-    requires { ⌜ i + count ≤ 64 ⌝ }
+    requires { ⌜ events ≤ eventLimit ⌝ }
+    requires { ⌜ i < behaviourLimit ⌝ }
+    requires { ⌜ i + count ≤ behaviourLimit ⌝ }
     ensures { λ r. ⌜ out r (now (draft .exit)) ≡ cellsOf (now (v .entry)) count events i (now (draft .entry)) n ⌝ }
-    ensures { λ r. ⌜ BodyIn (length (now (v .entry)) + 4) n r ⌝ }
+    ensures { λ r. ⌜ BodyIn (length (now (v .entry)) + byteField) n r ⌝ }
 {
     let r = read_active(v, events, i, draft, n);
     let Read::Done(size, m) = r else {
@@ -216,10 +218,10 @@ fn read_cells(v: &[u8], count: usize, events: usize, i: usize, draft: &mut [u64]
 
 // A row's value: its cell count, then as an active.
 fn read_row(v: &[u8], events: usize, i: usize, draft: &mut [u64], n: usize) -> Read
-    requires { ⌜ n * 4 + length (now v) ≤ 8192 ⌝ }
+    requires { ⌜ n * byteField + length (now v) ≤ sheetBytes ⌝ }
     requires { ⌜ length (now draft) ≡ draftLength ⌝ }
-    requires { ⌜ events ≤ 32 ⌝ }
-    requires { ⌜ i < 64 ⌝ }
+    requires { ⌜ events ≤ eventLimit ⌝ }
+    requires { ⌜ i < behaviourLimit ⌝ }
     ensures { λ r. ⌜ out r (now (draft .exit)) ≡ rowOf (now (v .entry)) events i (now (draft .entry)) n ⌝ }
     ensures { λ r. ⌜ BodyIn (length (now (v .entry)) + 3) n r ⌝ }
 {
@@ -241,9 +243,9 @@ fn read_row(v: &[u8], events: usize, i: usize, draft: &mut [u64], n: usize) -> R
 
 // The value of a behaviour's field with tag t.
 fn read_value(t: u8, v: &[u8], events: usize, i: usize, draft: &mut [u64], n: usize) -> Read
-    requires { ⌜ n * 4 + length (now v) ≤ 8192 ⌝ }
+    requires { ⌜ n * byteField + length (now v) ≤ sheetBytes ⌝ }
     requires { ⌜ length (now draft) ≡ draftLength ⌝ }
-    requires { ⌜ events ≤ 32 ⌝ }
+    requires { ⌜ events ≤ eventLimit ⌝ }
     ensures { λ r. ⌜ out r (now (draft .exit)) ≡ valueAt t (now (v .entry)) events i (now (draft .entry)) n ⌝ }
     ensures { λ r. ⌜ BodyIn (length (now (v .entry)) + 3) n r ⌝ }
     ensures { λ r. ⌜ Counted i r ⌝ }
@@ -262,9 +264,9 @@ fn read_value(t: u8, v: &[u8], events: usize, i: usize, draft: &mut [u64], n: us
 
 // Behaviour i at the front of s.
 pub fn read_behaviour(s: &[u8], events: usize, i: usize, draft: &mut [u64], n: usize) -> Read
-    requires { ⌜ n * 4 + length (now s) ≤ 8192 ⌝ }
+    requires { ⌜ n * byteField + length (now s) ≤ sheetBytes ⌝ }
     requires { ⌜ length (now draft) ≡ draftLength ⌝ }
-    requires { ⌜ events ≤ 32 ⌝ }
+    requires { ⌜ events ≤ eventLimit ⌝ }
     ensures { λ r. ⌜ out r (now (draft .exit)) ≡ behaviourOf (now (s .entry)) events i (now (draft .entry)) n ⌝ }
     ensures { λ r. ⌜ ReadIn (length (now (s .entry))) n r ⌝ }
     ensures { λ r. ⌜ Counted i r ⌝ }

@@ -4,6 +4,8 @@ ghost use Prim.Native.Nat.{_<_, _≤_, _*_, _+_, _-_, _^_};
 ghost use lib.ListN.{length};
 ghost use Rattle.draft_form.specs.Draft.{draftLength};
 ghost use Rattle.front_field.specs.Expression.{headAt, headOf, expressionValue, HeadIn, out, closeAt, exprOf, ReadIn, CloseIn};
+ghost use Rattle.sheet_field.specs.Sizes.{byteField};
+ghost use Rattle.spec_language.specs.Limits.{sheetBytes};
 use draft_form::layout;
 use lib_signature::functions;
 use sheet_field::Field;
@@ -112,7 +114,7 @@ fn close_at(f: u8, size: usize, at: usize, draft: &mut [u64], m: usize) -> Read
 
 // One expression at the front of s, with `left` levels of nesting left. Its nodes go into the draft from place n on.
 pub fn read_expr(left: usize, s: &[u8], draft: &mut [u64], n: usize) -> Read
-    requires { ⌜ n * 4 + length (now s) ≤ 8192 ⌝ }
+    requires { ⌜ n * byteField + length (now s) ≤ sheetBytes ⌝ }
     requires { ⌜ length (now draft) ≡ draftLength ⌝ }
     ensures { λ r. ⌜ out r (now (draft .exit)) ≡ exprOf left (now (s .entry)) (now (draft .entry)) n ⌝ }
     ensures { λ r. ⌜ ReadIn (length (now (s .entry))) n r ⌝ }

@@ -7,6 +7,8 @@ ghost use Prim.Native.Nat.{_+_, _<_, _≤_};
 ghost use lib.ListN.{length};
 ghost use Rattle.draft_form.specs.Draft.{draftLength};
 ghost use Rattle.front_rows.specs.Cells.{leastOf, mostOf, cellsAt, entriesCopied, startCopied, viewerCopied, cellCopied, rowCopied};
+ghost use Rattle.lib_base.specs.Words.{byteValues};
+ghost use Rattle.spec_language.specs.Limits.{behaviourLimit, eventLimit};
 use draft_form::layout;
 use sheet_field::sizes;
 use sheet_field::tags;
@@ -43,7 +45,7 @@ pub fn most_tag(s: &[u8]) -> u8
 // How many behaviours the field at the front of s makes.
 pub fn cells_at(s: &[u8]) -> usize
     ensures { λ r. ⌜ r ≡ cellsAt (now (s .entry)) ⌝ }
-    ensures { λ r. ⌜ r < 256 ⌝ }
+    ensures { λ r. ⌜ r < byteValues ⌝ }
 {
     if s.len() < sizes::BYTE_HEAD {
         return 1;
@@ -56,8 +58,8 @@ pub fn cells_at(s: &[u8]) -> usize
 
 // The entries of behaviour i go to behaviour k too.
 fn copy_entries(draft: &mut [u64], i: usize, k: usize)
-    requires { ⌜ (length (now draft) ≡ draftLength) × (i < 64) × (k < 64) ⌝ }
-    ensures { λ _. ⌜ now (draft .exit) ≡ entriesCopied (now (draft .entry)) i k 32 ⌝ }
+    requires { ⌜ (length (now draft) ≡ draftLength) × (i < behaviourLimit) × (k < behaviourLimit) ⌝ }
+    ensures { λ _. ⌜ now (draft .exit) ≡ entriesCopied (now (draft .entry)) i k eventLimit ⌝ }
 {
     let mut e = 0;
     while e < limits::EVENTS {
@@ -70,7 +72,7 @@ fn copy_entries(draft: &mut [u64], i: usize, k: usize)
 
 // Its start value.
 fn copy_start(draft: &mut [u64], i: usize, k: usize)
-    requires { ⌜ (length (now draft) ≡ draftLength) × (i < 64) × (k < 64) ⌝ }
+    requires { ⌜ (length (now draft) ≡ draftLength) × (i < behaviourLimit) × (k < behaviourLimit) ⌝ }
     ensures { λ _. ⌜ now (draft .exit) ≡ startCopied (now (draft .entry)) i k ⌝ }
 {
     draft[layout::STARTS + k] = draft[layout::STARTS + i];
@@ -78,7 +80,7 @@ fn copy_start(draft: &mut [u64], i: usize, k: usize)
 
 // Who may see it.
 fn copy_viewer(draft: &mut [u64], i: usize, k: usize)
-    requires { ⌜ (length (now draft) ≡ draftLength) × (i < 64) × (k < 64) ⌝ }
+    requires { ⌜ (length (now draft) ≡ draftLength) × (i < behaviourLimit) × (k < behaviourLimit) ⌝ }
     ensures { λ _. ⌜ now (draft .exit) ≡ viewerCopied (now (draft .entry)) i k ⌝ }
 {
     draft[layout::VIEWERS + k] = draft[layout::VIEWERS + i];
@@ -86,7 +88,7 @@ fn copy_viewer(draft: &mut [u64], i: usize, k: usize)
 
 // Behaviour k becomes a cell like behaviour i, at this place in its row.
 fn copy_cell(draft: &mut [u64], i: usize, k: usize, place: u64)
-    requires { ⌜ (length (now draft) ≡ draftLength) × (i < 64) × (k < 64) ⌝ }
+    requires { ⌜ (length (now draft) ≡ draftLength) × (i < behaviourLimit) × (k < behaviourLimit) ⌝ }
     ensures { λ _. ⌜ now (draft .exit) ≡ cellCopied (now (draft .entry)) i k place ⌝ }
 {
     copy_entries(draft, i, k);
@@ -97,7 +99,7 @@ fn copy_cell(draft: &mut [u64], i: usize, k: usize, place: u64)
 
 // The cells of a row of count, the first of which is behaviour i, already read.
 pub fn copy_row(draft: &mut [u64], i: usize, count: usize)
-    requires { ⌜ (length (now draft) ≡ draftLength) × (i < 64) × (i + count ≤ 64) ⌝ }
+    requires { ⌜ (length (now draft) ≡ draftLength) × (i < behaviourLimit) × (i + count ≤ behaviourLimit) ⌝ }
     ensures { λ _. ⌜ now (draft .exit) ≡ rowCopied (now (draft .entry)) i count ⌝ }
 {
     draft[layout::PLACES + i] = (count * CELLS) as u64;

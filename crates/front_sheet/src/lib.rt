@@ -7,6 +7,7 @@ ghost use lib.ListN.{length};
 ghost use Rattle.front_field.specs.Expression.{out};
 ghost use Rattle.draft_form.specs.Draft.{draftLength};
 ghost use Rattle.front_sheet.specs.Whole.{eventRead, signalAt, priorityAt, readEvent, readEvents, finished, behavioursOf, readOn, EventIn, EventsIn};
+ghost use Rattle.spec_language.specs.Limits.{eventLimit, sheetBytes};
 use draft_form::layout;
 use front_field::faults;
 use sheet_field::places;
@@ -31,7 +32,7 @@ pub enum Draft {
 // The value v of event e: its priority, and who may send it where a second byte says so.
 fn take_event(v: &[u8], e: usize, draft: &mut [u64]) -> Event
     requires { ⌜ length (now draft) ≡ draftLength ⌝ }
-    requires { ⌜ e < 32 ⌝ }
+    requires { ⌜ e < eventLimit ⌝ }
     ensures { λ r. ⌜ eventRead r (now (draft .exit)) ≡ signalAt (now (v .entry)) e (now (draft .entry)) ⌝ }
     ensures { λ r. ⌜ EventIn (length (now (v .entry)) + 3) e r ⌝ }
 {
@@ -56,7 +57,7 @@ fn take_event(v: &[u8], e: usize, draft: &mut [u64]) -> Event
 // A field with tag t and value v where event e or the first behaviour is due.
 fn read_priority(t: u8, v: &[u8], e: usize, draft: &mut [u64]) -> Event
     requires { ⌜ length (now draft) ≡ draftLength ⌝ }
-    requires { ⌜ e ≤ 32 ⌝ }
+    requires { ⌜ e ≤ eventLimit ⌝ }
     ensures { λ r. ⌜ eventRead r (now (draft .exit)) ≡ priorityAt t (now (v .entry)) e (now (draft .entry)) ⌝ }
     ensures { λ r. ⌜ EventIn (length (now (v .entry)) + 3) e r ⌝ }
 {
@@ -72,7 +73,7 @@ fn read_priority(t: u8, v: &[u8], e: usize, draft: &mut [u64]) -> Event
 // Event e, or the first behaviour, at the front of s.
 fn read_event(s: &[u8], e: usize, draft: &mut [u64]) -> Event
     requires { ⌜ length (now draft) ≡ draftLength ⌝ }
-    requires { ⌜ e ≤ 32 ⌝ }
+    requires { ⌜ e ≤ eventLimit ⌝ }
     ensures { λ r. ⌜ eventRead r (now (draft .exit)) ≡ readEvent (now (s .entry)) e (now (draft .entry)) ⌝ }
     ensures { λ r. ⌜ EventIn (length (now (s .entry))) e r ⌝ }
 {
@@ -87,7 +88,7 @@ fn read_event(s: &[u8], e: usize, draft: &mut [u64]) -> Event
 
 // The events of s: the place after them and their number.
 fn read_events(s: &[u8], draft: &mut [u64]) -> Read
-    requires { ⌜ length (now s) ≤ 8192 ⌝ }
+    requires { ⌜ length (now s) ≤ sheetBytes ⌝ }
     requires { ⌜ length (now draft) ≡ draftLength ⌝ }
     ensures { λ r. ⌜ out r (now (draft .exit)) ≡ readEvents (length (now (s .entry))) (now (s .entry)) 0 0 (now (draft .entry)) ⌝ }
     ensures { λ r. ⌜ EventsIn (length (now (s .entry))) r ⌝ }
@@ -114,10 +115,10 @@ fn read_events(s: &[u8], draft: &mut [u64]) -> Read
 
 // The behaviours of s, from `from` on.
 fn read_behaviours(s: &[u8], from: usize, events: usize, draft: &mut [u64]) -> Draft
-    requires { ⌜ length (now s) ≤ 8192 ⌝ }
+    requires { ⌜ length (now s) ≤ sheetBytes ⌝ }
     requires { ⌜ from ≤ length (now s) ⌝ }
     requires { ⌜ length (now draft) ≡ draftLength ⌝ }
-    requires { ⌜ events ≤ 32 ⌝ }
+    requires { ⌜ events ≤ eventLimit ⌝ }
     ensures { λ r. ⌜ finished r (now (draft .exit)) ≡ behavioursOf (length (now (s .entry))) (now (s .entry)) from events 0 (now (draft .entry)) 0 ⌝ }
 {
     let mut at = from;
@@ -137,7 +138,7 @@ fn read_behaviours(s: &[u8], from: usize, events: usize, draft: &mut [u64]) -> D
 
 // The program in s: its draft, or the first fault.
 pub fn read_program(s: &[u8], draft: &mut [u64]) -> Draft
-    requires { ⌜ length (now s) ≤ 8192 ⌝ }
+    requires { ⌜ length (now s) ≤ sheetBytes ⌝ }
     requires { ⌜ length (now draft) ≡ draftLength ⌝ }
     ensures { λ r. ⌜ finished r (now (draft .exit)) ≡ readOn (now (s .entry)) (now (draft .entry)) ⌝ }
 {

@@ -7,6 +7,7 @@ ghost use lib.ListN.{length};
 ghost use Rattle.draft_form.specs.Draft.{draftLength};
 ghost use Rattle.front_field.specs.Expression.{out};
 ghost use Rattle.front_viewers.specs.Ending.{viewerAt, viewerOf, endingOf, EndIn};
+ghost use Rattle.spec_language.specs.Limits.{behaviourLimit};
 use draft_form::layout;
 use front_field::faults;
 use sheet_field::places;
@@ -17,7 +18,7 @@ use sheet_field::tags;
 // bytes, the next node goes to place n.
 fn take_viewer(v: &[u8], left: usize, i: usize, draft: &mut [u64], all: usize, n: usize) -> Read
     requires { ⌜ length (now draft) ≡ draftLength ⌝ }
-    requires { ⌜ i < 64 ⌝ }
+    requires { ⌜ i < behaviourLimit ⌝ }
     ensures { λ r. ⌜ out r (now (draft .exit)) ≡ viewerAt (now (v .entry)) left i (now (draft .entry)) all n ⌝ }
     ensures { λ r. ⌜ EndIn all n r ⌝ }
 {
@@ -34,7 +35,7 @@ fn take_viewer(v: &[u8], left: usize, i: usize, draft: &mut [u64], all: usize, n
 // A field 08 at the front of s.
 fn read_viewer(s: &[u8], i: usize, draft: &mut [u64], all: usize, n: usize) -> Read
     requires { ⌜ length (now draft) ≡ draftLength ⌝ }
-    requires { ⌜ i < 64 ⌝ }
+    requires { ⌜ i < behaviourLimit ⌝ }
     ensures { λ r. ⌜ out r (now (draft .exit)) ≡ viewerOf (now (s .entry)) i (now (draft .entry)) all n ⌝ }
     ensures { λ r. ⌜ EndIn all n r ⌝ }
 {
@@ -55,7 +56,7 @@ fn read_viewer(s: &[u8], i: usize, draft: &mut [u64], all: usize, n: usize) -> R
 // What is left of behaviour i's value after its own part: a field 08 and nothing else, or nothing.
 pub fn read_ending(s: &[u8], i: usize, draft: &mut [u64], all: usize, n: usize) -> Read
     requires { ⌜ length (now draft) ≡ draftLength ⌝ }
-    requires { ⌜ i < 64 ⌝ }
+    requires { ⌜ i < behaviourLimit ⌝ }
     ensures { λ r. ⌜ out r (now (draft .exit)) ≡ endingOf (now (s .entry)) i (now (draft .entry)) all n ⌝ }
     ensures { λ r. ⌜ EndIn all n r ⌝ }
 {

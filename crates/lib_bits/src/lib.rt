@@ -4,10 +4,11 @@ ghost use mathlib.Core.Bool.{_&&_, _||_};
 ghost use Prim.Native.Nat.{ℕ, _<_};
 ghost use lib.Dec.{eqb};
 ghost use Rattle.lib_bits.specs.Bits.{bit};
+ghost use Rattle.lib_base.specs.Words.{setBits};
 
 // Whether j is in the set.
 pub fn contains(set: u64, j: usize) -> bool
-    requires { ⌜ j < 64 ⌝ }
+    requires { ⌜ j < setBits ⌝ }
     ensures { λ r. ⌜ r ≡ bit set j ⌝ }
 {
     (set >> j) % 2 == 1
@@ -15,7 +16,7 @@ pub fn contains(set: u64, j: usize) -> bool
 
 // The set with j.
 pub fn insert(set: u64, j: usize) -> u64
-    requires { ⌜ j < 64 ⌝ }
+    requires { ⌜ j < setBits ⌝ }
     ensures { λ r. ⌜ ((i : ℕ) → bit r i ≡ bit set i || eqb i j) ⌝ }
 {
     set | (1u64 << j)

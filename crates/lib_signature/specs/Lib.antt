@@ -1,2 +1,3 @@
 pub mod Signature
 pub mod Numbers
+pub mod Levels

@@ -4,6 +4,7 @@ ghost use Prim.Native.Nat.{_+_, _*_, _≤_, _<_};
 ghost use lib.ListN.{length};
 ghost use Rattle.lib_word.specs.Word.{getAt, get, put};
 ghost use Rattle.lib_word.specs.Halves.{swapBytes, getHalf, putHalf};
+ghost use Rattle.lib_base.specs.Words.{byteValues, wordBytes};
 
 // The bytes of a word.
 pub const WORD_BYTES: usize = 4;
@@ -24,14 +25,14 @@ const HALF_BASE: u16 = BYTE_VALUES as u16;
 
 fn wide(x: u8) -> u32
     ensures { λ r. ⌜ r ≡ x ⌝ }
-    ensures { λ r. ⌜ r < 256 ⌝ }
+    ensures { λ r. ⌜ r < byteValues ⌝ }
 {
     x as u32
 }
 
 fn half(x: u8) -> u16
     ensures { λ r. ⌜ r ≡ x ⌝ }
-    ensures { λ r. ⌜ r < 256 ⌝ }
+    ensures { λ r. ⌜ r < byteValues ⌝ }
 {
     x as u16
 }
@@ -49,7 +50,7 @@ fn swap_bytes(w: u32) -> u32
 // The word at byte i with its bytes swapped, as little-endian: in the order of the usual processors four bytes are one
 // load.
 fn get_little(bytes: &[u8], i: usize) -> u32
-    requires { ⌜ i + 4 ≤ length (now bytes) ⌝ }
+    requires { ⌜ i + wordBytes ≤ length (now bytes) ⌝ }
     ensures { λ r. ⌜ swapBytes r ≡ getAt (now (bytes .entry)) i ⌝ }
 {
     wide(bytes[i])
@@ -60,7 +61,7 @@ fn get_little(bytes: &[u8], i: usize) -> u32
 
 // Little-endian too: one store.
 fn put_little(bytes: &mut [u8], k: usize, w: u32)
-    requires { ⌜ k * 4 + 4 ≤ length (now bytes) ⌝ }
+    requires { ⌜ k * wordBytes + wordBytes ≤ length (now bytes) ⌝ }
     ensures { λ _. ⌜ now (bytes .exit) ≡ put (now (bytes .entry)) k (swapBytes w) ⌝ }
 {
     bytes[k * WORD_BYTES] = (w % BASE) as u8;
@@ -71,7 +72,7 @@ fn put_little(bytes: &mut [u8], k: usize, w: u32)
 
 // The word at byte i.
 pub fn get_at(bytes: &[u8], i: usize) -> u32
-    requires { ⌜ i + 4 ≤ length (now bytes) ⌝ }
+    requires { ⌜ i + wordBytes ≤ length (now bytes) ⌝ }
     ensures { λ r. ⌜ r ≡ getAt (now (bytes .entry)) i ⌝ }
 {
     swap_bytes(get_little(bytes, i))
@@ -79,14 +80,14 @@ pub fn get_at(bytes: &[u8], i: usize) -> u32
 
 // Word k.
 pub fn get_word(bytes: &[u8], k: usize) -> u32
-    requires { ⌜ k * 4 + 4 ≤ length (now bytes) ⌝ }
+    requires { ⌜ k * wordBytes + wordBytes ≤ length (now bytes) ⌝ }
     ensures { λ r. ⌜ r ≡ get (now (bytes .entry)) k ⌝ }
 {
     get_at(bytes, k * WORD_BYTES)
 }
 
 pub fn put_word(bytes: &mut [u8], k: usize, w: u32)
-    requires { ⌜ k * 4 + 4 ≤ length (now bytes) ⌝ }
+    requires { ⌜ k * wordBytes + wordBytes ≤ length (now bytes) ⌝ }
     ensures { λ _. ⌜ now (bytes .exit) ≡ put (now (bytes .entry)) k w ⌝ }
 {
     put_little(bytes, k, swap_bytes(w));

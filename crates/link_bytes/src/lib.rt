@@ -8,14 +8,17 @@ ghost use Prim.Native.Nat.{_≤_, _+_, _-_};
 ghost use lib.ListN.{length, drop};
 ghost use Rattle.link_events.specs.Written.{BytesWritten};
 ghost use Rattle.link_bytes.specs.Splice.{countFrom, movedByte, scan, spliced};
+ghost use Rattle.link_bytes.specs.Sizes.{mostWritten};
+ghost use Rattle.link_events.specs.Sizes.{eventsRoom};
+ghost use Rattle.spec_language.specs.Limits.{behaviourLimit};
 
 const BYTE: usize = lib_word::BYTE_VALUES as usize;
 
 // How many behaviours stand from place i on.
 fn count(s: &[u8], i: usize) -> usize
     requires { ⌜ i ≤ length (now s) ⌝ }
-    ensures { λ r. ⌜ r ≡ countFrom 64 (drop i (now (s .entry))) 0 ⌝ }
-    ensures { λ r. ⌜ r ≤ 16320 ⌝ }
+    ensures { λ r. ⌜ r ≡ countFrom behaviourLimit (drop i (now (s .entry))) 0 ⌝ }
+    ensures { λ r. ⌜ r ≤ mostWritten ⌝ }
 {
     let mut at = i;
     let mut c = 0usize;
@@ -33,7 +36,7 @@ fn count(s: &[u8], i: usize) -> usize
 
 // A byte, moved up where it is a name's: the scanner has `tag` and `left` before it.
 fn lift(m: usize, tag: u8, left: usize, b: u8) -> u8
-    requires { ⌜ m ≤ 16320 ⌝ }
+    requires { ⌜ m ≤ mostWritten ⌝ }
     ensures { λ r. ⌜ r ≡ movedByte m tag left b ⌝ }
 {
     if sheet_walk::is_number(tags::NAME, tag, left) {
@@ -44,7 +47,7 @@ fn lift(m: usize, tag: u8, left: usize, b: u8) -> u8
 
 // The behaviours from place i on, their names moved up by m, from place k of the buffer on.
 fn put_moved(s: &[u8], i: usize, m: usize, out: &mut [u8], k: usize) -> usize
-    requires { ⌜ (i ≤ length (now s)) × (m ≤ 16320) × (k + (length (now s) - i) ≤ length (now out)) ⌝ }
+    requires { ⌜ (i ≤ length (now s)) × (m ≤ mostWritten) × (k + (length (now s) - i) ≤ length (now out)) ⌝ }
     ensures { λ r. ⌜ BytesWritten (now (out .entry)) k (scan m 0 0 (drop i (now (s .entry)))) (now (out .exit)) r ⌝ }
     ensures { λ r. ⌜ r ≡ k + (length (now (s .entry)) - i) ⌝ }
 {
@@ -65,9 +68,9 @@ fn put_moved(s: &[u8], i: usize, m: usize, out: &mut [u8], k: usize) -> usize
 
 // Both sheets' bytes joined, from the buffer's start on.
 pub fn splice(s: &[u8], t: &[u8], out: &mut [u8]) -> usize
-    requires { ⌜ length (now s) + length (now t) + 160 ≤ length (now out) ⌝ }
+    requires { ⌜ length (now s) + length (now t) + eventsRoom ≤ length (now out) ⌝ }
     ensures { λ r. ⌜ BytesWritten (now (out .entry)) 0 (spliced (now (s .entry)) (now (t .entry))) (now (out .exit)) r ⌝ }
-    ensures { λ r. ⌜ r ≤ length (now (s .entry)) + length (now (t .entry)) + 160 ⌝ }
+    ensures { λ r. ⌜ r ≤ length (now (s .entry)) + length (now (t .entry)) + eventsRoom ⌝ }
 {
     let i = link_events::events_end(s);
     let j = link_events::events_end(t);

@@ -1,2 +1,3 @@
 pub mod Merging
 pub mod Written
+pub mod Sizes

@@ -10,6 +10,9 @@ ghost use Prim.Native.Nat.{_≤_, _+_, _-_};
 ghost use lib.ListN.{length};
 ghost use Rattle.link_events.specs.Merging.{widthAt, rankAt, senderAt, merged, pairBytes, eventsFrom, endFrom, agreeFrom};
 ghost use Rattle.link_events.specs.Written.{BytesWritten};
+ghost use Rattle.link_events.specs.Sizes.{eventsRoom};
+ghost use Rattle.sheet_field.specs.Sizes.{pairField};
+ghost use Rattle.spec_language.specs.Limits.{eventLimit};
 
 // Where an event's field has its priority and who may send it.
 const RANK: usize = sizes::HEADER + places::RANK;
@@ -78,9 +81,9 @@ fn put_pair(
     out: &mut [u8],
     k: usize,
 ) -> usize
-    requires { ⌜ (i + a ≤ length (now s)) × (j + b ≤ length (now t)) × (k + 5 ≤ length (now out)) × (k ≤ 160) ⌝ }
+    requires { ⌜ (i + a ≤ length (now s)) × (j + b ≤ length (now t)) × (k + pairField ≤ length (now out)) × (k ≤ eventsRoom) ⌝ }
     ensures { λ n. ⌜ BytesWritten (now (out .entry)) k (pairBytes (now (s .entry)) i a (now (t .entry)) j b) (now (out .exit)) n ⌝ }
-    ensures { λ n. ⌜ n ≤ k + 5 ⌝ }
+    ensures { λ n. ⌜ n ≤ k + pairField ⌝ }
 {
     let m = merge(sender(s, i, a), sender(t, j, b));
     if a != 0 {
@@ -94,9 +97,9 @@ fn put_pair(
 
 // The events of both, from the buffer's start on.
 pub fn put_events(s: &[u8], t: &[u8], out: &mut [u8]) -> usize
-    requires { ⌜ 160 ≤ length (now out) ⌝ }
-    ensures { λ n. ⌜ BytesWritten (now (out .entry)) 0 (eventsFrom 32 (now (s .entry)) 0 (now (t .entry)) 0) (now (out .exit)) n ⌝ }
-    ensures { λ n. ⌜ n ≤ 160 ⌝ }
+    requires { ⌜ eventsRoom ≤ length (now out) ⌝ }
+    ensures { λ n. ⌜ BytesWritten (now (out .entry)) 0 (eventsFrom eventLimit (now (s .entry)) 0 (now (t .entry)) 0) (now (out .exit)) n ⌝ }
+    ensures { λ n. ⌜ n ≤ eventsRoom ⌝ }
 {
     let mut i = 0;
     let mut j = 0;
@@ -115,7 +118,7 @@ pub fn put_events(s: &[u8], t: &[u8], out: &mut [u8]) -> usize
 
 // The place after the events.
 pub fn events_end(s: &[u8]) -> usize
-    ensures { λ r. ⌜ r ≡ endFrom 32 (now (s .entry)) 0 ⌝ }
+    ensures { λ r. ⌜ r ≡ endFrom eventLimit (now (s .entry)) 0 ⌝ }
     ensures { λ r. ⌜ r ≤ length (now (s .entry)) ⌝ }
 {
     let mut i = 0;
@@ -129,7 +132,7 @@ pub fn events_end(s: &[u8]) -> usize
 
 // Whether every event that both declare has one rank.
 pub fn ranks_agree(s: &[u8], t: &[u8]) -> bool
-    ensures { λ r. ⌜ r ≡ agreeFrom 32 (now (s .entry)) 0 (now (t .entry)) 0 ⌝ }
+    ensures { λ r. ⌜ r ≡ agreeFrom eventLimit (now (s .entry)) 0 (now (t .entry)) 0 ⌝ }
 {
     let mut i = 0;
     let mut j = 0;

@@ -1,3 +1,4 @@
 pub mod Joined
 pub mod Join
 pub mod Statements
+pub mod Sizes

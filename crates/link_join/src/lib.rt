@@ -9,6 +9,7 @@ ghost use Rattle.spec_language.specs.Reading.{readSheet};
 ghost use Rattle.back_compile.specs.Number.{numberOn};
 ghost use Rattle.link_join.specs.Join.{deliveredIn, resultOn, poolRead, joinOn};
 ghost use Rattle.link_join.specs.Joined.{joined};
+ghost use Rattle.link_join.specs.Sizes.{joinRoom};
 
 // The most bytes of a joined sheet: those of both, and five for each event.
 const JOINED_BYTES: usize = limits::SHEET_BYTES * 2
@@ -23,7 +24,7 @@ const SHORT_JOIN: u64 = refusals::SHORT_JOIN as u64;
 
 // The bytes at the start of the buffer, where it has room for them.
 fn put_result(v: &[u8], buffer: &mut [u8]) -> u64
-    requires { ⌜ length (now v) ≤ 16544 ⌝ }
+    requires { ⌜ length (now v) ≤ joinRoom ⌝ }
     ensures { λ r. ⌜ joined r (now (buffer .exit)) ≡ deliveredIn (now (v .entry)) (now (buffer .entry)) ⌝ }
 {
     if buffer.len() < v.len() {
@@ -35,7 +36,7 @@ fn put_result(v: &[u8], buffer: &mut [u8]) -> u64
 
 // The joined sheet, where compile takes it.
 fn result_at(v: &[u8], params: &[u8], buffer: &mut [u8]) -> u64
-    requires { ⌜ length (now v) ≤ 16544 ⌝ }
+    requires { ⌜ length (now v) ≤ joinRoom ⌝ }
     ensures { λ r. ⌜ joined r (now (buffer .exit)) ≡ resultOn (now (v .entry)) (now (params .entry)) (now (buffer .entry)) ⌝ }
 {
     let n = back_compile::number_at(v, params);

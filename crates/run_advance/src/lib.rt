@@ -10,6 +10,7 @@ ghost use Rattle.format_layout.specs.Layout.{eventCount, runningEvent, depth};
 ghost use Rattle.format_layout.specs.Bounds.{TableBounds};
 ghost use Rattle.format_layout.specs.Round.{callResult};
 ghost use Rattle.run_advance.specs.Advance.{commitSaid, advanceLeft};
+ghost use Rattle.format_layout.specs.Sizes.{queueLimit, roundBytes};
 
 const FOREIGN: u64 = refusals::FOREIGN as u64;
 
@@ -28,7 +29,8 @@ fn commit_of(number: u32, word: u32, mark: u32) -> u64
 // last, nothing runs and the event is committed. 14 where none is left (an event of none, of a damaged table) or the
 // instruction may not run.
 pub fn advance_on(table: &[u8], round: &mut [u8]) -> u64
-    requires { ⌜ TableBounds (now table) × (2048 ≤ length (now round)) × (depth (now round) ≤ 64) × (runningEvent (now round) < eventCount (now table)) ⌝ }
+    requires { ⌜ TableBounds (now table) × (roundBytes ≤ length (now round)) × (depth (now round) ≤ queueLimit)
+        × (runningEvent (now round) < eventCount (now table)) ⌝ }
     ensures { λ r. ⌜ callResult r (now (round .exit)) ≡ advanceLeft (now (table .entry)) (now (round .entry)) ⌝ }
 {
     let word = lib_word::get_word(round, round::RUNNING_WORD);

@@ -3,6 +3,7 @@ ghost use mathlib.Core.Path.{_≡_};
 ghost use Prim.Native.Nat.{_+_, _*_, _≤_, _<_};
 ghost use lib.ListN.{length};
 ghost use Rattle.run_answers.specs.Answers.{putAnswer};
+ghost use Rattle.run_answers.specs.Sizes.{answerBytes, answerLimit};
 
 // The bytes of an answer.
 pub const ANSWER_BYTES: usize = 8;
@@ -11,7 +12,7 @@ const WORDS: u64 = lib_word::WORD_VALUES;
 
 // An answer at place n, in two words.
 pub fn put_answer(answers: &mut [u8], n: usize, answer: u64)
-    requires { ⌜ (n * 8 + 8 ≤ length (now answers)) × (n < 2305843009213693951) ⌝ }
+    requires { ⌜ (n * answerBytes + answerBytes ≤ length (now answers)) × (n < answerLimit) ⌝ }
     ensures { λ _. ⌜ now (answers .exit) ≡ putAnswer (now (answers .entry)) n answer ⌝ }
 {
     lib_word::put_word(answers, n * 2, (answer / WORDS) as u32);

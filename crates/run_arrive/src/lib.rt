@@ -8,11 +8,13 @@ ghost use mathlib.Core.Bool.{false};
 ghost use Prim.Native.Nat.{_<_};
 ghost use Rattle.format_layout.specs.Round.{callResult};
 ghost use Rattle.run_arrive.specs.Arrivals.{queueFull, arriveOn};
+ghost use Rattle.format_layout.specs.Sizes.{queueLimit};
+ghost use Rattle.spec_language.specs.Limits.{playerLimit};
 
 // Whether the queue (01: hand) is full, so many waiting, and one running where the flag is not 0.
 fn is_full(waiting: u32, running: u32) -> bool
     ensures { λ r. ⌜ r ≡ queueFull waiting running ⌝ }
-    ensures { λ r. ⌜ (r ≡ false → waiting < 64) ⌝ }
+    ensures { λ r. ⌜ (r ≡ false → waiting < queueLimit) ⌝ }
 {
     if running == 0 {
         return waiting >= Round::QUEUE;
@@ -24,7 +26,7 @@ fn is_full(waiting: u32, running: u32) -> bool
 // and 17 that fits. What is taken in waits under the number taken in so far, which then grows by one.
 pub fn arrive_at(table: &[u8], round: &mut [u8], event: u32, player: u32) -> u32
     ensures { λ r. ⌜ callResult r (now (round .exit)) ≡ arriveOn (now (table .entry)) (now (round .entry)) event player ⌝ }
-    ensures { λ r. ⌜ (r ≡ 0 → player < 8) ⌝ }
+    ensures { λ r. ⌜ (r ≡ 0 → player < playerLimit) ⌝ }
 {
     if !run_validate::is_ours(&*table, round) {
         return refusals::FOREIGN;

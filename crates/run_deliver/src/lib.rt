@@ -17,6 +17,9 @@ ghost use Rattle.run_frame.specs.Frame.{frameSaid};
 ghost use Rattle.run_preview.specs.Preview.{inHand};
 ghost use Rattle.run_deliver.specs.Deliver.{deliveryRefusal, admitted, deliverFull, deliverKnown, deliverOn, takenOn};
 ghost use Rattle.run_deliver.specs.Delivery.{delivery};
+ghost use Rattle.format_layout.specs.Sizes.{arrivalLimit, queueLimit, roundBytes};
+ghost use Rattle.run_frame.specs.Ends.{endKinds};
+ghost use Rattle.spec_language.specs.Limits.{eventLimit, playerLimit};
 
 // How a delivery ends that is not refused: taken in; no room for a commit; a step refused by 14.
 const DELIVERED: u64 = 1;
@@ -41,7 +44,7 @@ const COMMIT_BYTES: usize = run_answers::ANSWER_BYTES;
 
 // The answer of a delivery that is not refused.
 fn said_of(outcome: u64, made: u32, written: u32) -> u64
-    requires { ⌜ (outcome < 4) × (written < 2) ⌝ }
+    requires { ⌜ (outcome < endKinds) × (written < 2) ⌝ }
     ensures { λ r. ⌜ r ≡ frameSaid outcome made written ⌝ }
 {
     outcome * COMMITS + (written as u64) * STEPS + (made as u64)
@@ -50,7 +53,7 @@ fn said_of(outcome: u64, made: u32, written: u32) -> u64
 // Whether the hand is full, so many waiting, and one running where the flag is not 0.
 fn is_full(waiting: u32, running: u32) -> bool
     ensures { λ r. ⌜ r ≡ queueFull waiting running ⌝ }
-    ensures { λ r. ⌜ (r ≡ false → waiting < 64) ⌝ }
+    ensures { λ r. ⌜ (r ≡ false → waiting < queueLimit) ⌝ }
 {
     if running == 0 {
         return waiting >= Round::QUEUE;
@@ -63,7 +66,7 @@ fn refusal_of(table: &[u8], round: &[u8], number: u32, event: u32, player: u32) 
     requires { ⌜ Bounds (now table) (now round) ⌝ }
     ensures { λ r. ⌜ r ≡ deliveryRefusal (taken (now (round .entry))) (eventCount (now (table .entry)))
         (sendersAt (now (table .entry)) event) number event player ⌝ }
-    ensures { λ r. ⌜ (r ≡ 0 → (player < 8) × (event < 32) × (number < 1000000)) ⌝ }
+    ensures { λ r. ⌜ (r ≡ 0 → (player < playerLimit) × (event < eventLimit) × (number < arrivalLimit)) ⌝ }
 {
     let before = lib_word::get_word(round, round::TAKEN);
     if before < number {
@@ -89,7 +92,8 @@ fn refusal_of(table: &[u8], round: &[u8], number: u32, event: u32, player: u32) 
 
 // The entry joins the hand, which has room for it.
 fn admit_at(round: &mut [u8], number: u32, event: u32, player: u32)
-    requires { ⌜ (2048 ≤ length (now round)) × (waitingCount (now round) < 64) × (number < 1000000) × (event < 32) × (player < 8) ⌝ }
+    requires { ⌜ (roundBytes ≤ length (now round)) × (waitingCount (now round) < queueLimit) × (number < arrivalLimit) × (event < eventLimit)
+        × (player < playerLimit) ⌝ }
     ensures { λ _. ⌜ now (round .exit) ≡ admitted (now (round .entry)) number event player ⌝ }
 {
     let waiting = lib_word::get_word(round, round::WAITING);
@@ -112,7 +116,7 @@ fn deliver_full(
     player: u32,
     commits: &mut [u8],
 ) -> u64
-    requires { ⌜ RoundSound (now table) (now round) × (number < 1000000) × (event < 32) × (player < 8) ⌝ }
+    requires { ⌜ RoundSound (now table) (now round) × (number < arrivalLimit) × (event < eventLimit) × (player < playerLimit) ⌝ }
     ensures { λ r. ⌜ delivery r (now (round .exit)) (now (commits .exit))
         ≡ deliverFull (now (table .entry)) (now (round .entry)) number event player (now (commits .entry)) ⌝ }
 {
@@ -139,7 +143,7 @@ fn deliver_known(
     player: u32,
     commits: &mut [u8],
 ) -> u64
-    requires { ⌜ RoundSound (now table) (now round) × (number < 1000000) × (event < 32) × (player < 8) ⌝ }
+    requires { ⌜ RoundSound (now table) (now round) × (number < arrivalLimit) × (event < eventLimit) × (player < playerLimit) ⌝ }
     ensures { λ r. ⌜ delivery r (now (round .exit)) (now (commits .exit))
         ≡ deliverKnown (now (table .entry)) (now (round .entry)) number event player (now (commits .entry)) ⌝ }
 {
@@ -178,9 +182,9 @@ pub fn deliver_at(
 
 // n wait, and one runs where f is not 0.
 fn in_hand(n: u32, f: u32) -> u32
-    requires { ⌜ n ≤ 64 ⌝ }
+    requires { ⌜ n ≤ queueLimit ⌝ }
     ensures { λ r. ⌜ r ≡ inHand n f ⌝ }
-    ensures { λ r. ⌜ r ≤ 65 ⌝ }
+    ensures { λ r. ⌜ r ≤ queueLimit + 1 ⌝ }
 {
     if f == 0 {
         return n;

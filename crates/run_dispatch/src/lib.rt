@@ -6,11 +6,12 @@ ghost use Prim.Native.Nat.{_≤_, _<_};
 ghost use lib.ListN.{length};
 ghost use Rattle.format_layout.specs.Round.{callResult};
 ghost use Rattle.run_dispatch.specs.Dispatch.{runArrival, startAt, preemptAt};
-ghost use Rattle.run_dispatch.specs.Said.{saidOf};
+ghost use Rattle.run_dispatch.specs.Said.{saidOf, playerUnit};
+ghost use Rattle.format_layout.specs.Sizes.{queueLimit, roundBytes};
 
 // The answer of a kind about an arrival, from its number and the word of its event and player.
 pub fn said_of(kind: u64, number: u32, word: u32) -> u64
-    requires { ⌜ kind < 16 ⌝ }
+    requires { ⌜ kind < playerUnit ⌝ }
     ensures { λ r. ⌜ r ≡ saidOf kind number word ⌝ }
 {
     let event = format_layout::event_of(word) as u64;
@@ -20,7 +21,7 @@ pub fn said_of(kind: u64, number: u32, word: u32) -> u64
 
 // An arrival runs: none of its instructions done, the evaluation stack empty, no mark.
 fn run_on(round: &mut [u8], number: u32, word: u32)
-    requires { ⌜ 2048 ≤ length (now round) ⌝ }
+    requires { ⌜ roundBytes ≤ length (now round) ⌝ }
     ensures { λ _. ⌜ now (round .exit) ≡ runArrival (now (round .entry)) number word ⌝ }
 {
     lib_word::put_word(round, round::RUNNING, 1);
@@ -33,7 +34,7 @@ fn run_on(round: &mut [u8], number: u32, word: u32)
 
 // What waits in a slot starts, and the last waiting moves into its place.
 pub fn start_at(round: &mut [u8], slot: usize, last: usize) -> u64
-    requires { ⌜ (2048 ≤ length (now round)) × (slot < 64) × (last < 64) ⌝ }
+    requires { ⌜ (roundBytes ≤ length (now round)) × (slot < queueLimit) × (last < queueLimit) ⌝ }
     ensures { λ r. ⌜ callResult r (now (round .exit)) ≡ startAt (now (round .entry)) slot last ⌝ }
 {
     let number = lib_word::get_word(round, round::NUMBERS + slot * 2);
@@ -48,7 +49,7 @@ pub fn start_at(round: &mut [u8], slot: usize, last: usize) -> u64
 
 // What waits in a slot starts, and the running one goes into its place under its old number.
 pub fn preempt_at(round: &mut [u8], slot: usize) -> u64
-    requires { ⌜ (2048 ≤ length (now round)) × (slot < 64) ⌝ }
+    requires { ⌜ (roundBytes ≤ length (now round)) × (slot < queueLimit) ⌝ }
     ensures { λ r. ⌜ callResult r (now (round .exit)) ≡ preemptAt (now (round .entry)) slot ⌝ }
 {
     let number = lib_word::get_word(round, round::NUMBERS + slot * 2);

@@ -10,6 +10,8 @@ ghost use Rattle.format_layout.specs.Layout.{eventCount, waitingCount};
 ghost use Rattle.format_layout.specs.Bounds.{TableBounds, Bounds};
 ghost use Rattle.run_forecast.specs.Forecast.{bound, forecastOn};
 ghost use Rattle.run_forecast.specs.Steps.{stepsIn, longestIn};
+ghost use Rattle.format_layout.specs.Sizes.{queueLimit};
+ghost use Rattle.spec_language.specs.Limits.{instructionLimit};
 
 const FOREIGN: u64 = refusals::FOREIGN as u64;
 
@@ -32,7 +34,7 @@ fn steps_in(table: &[u8], round: &[u8], n: usize) -> u32
 pub fn longest_of(table: &[u8], n: u32) -> u32
     requires { ⌜ TableBounds (now table) × (n ≤ eventCount (now table)) ⌝ }
     ensures { λ r. ⌜ r ≡ longestIn (now (table .entry)) n ⌝ }
-    ensures { λ r. ⌜ r ≤ 4096 ⌝ }
+    ensures { λ r. ⌜ r ≤ instructionLimit ⌝ }
 {
     let mut longest = 0;
     let mut event = 0;
@@ -49,7 +51,7 @@ pub fn longest_of(table: &[u8], n: u32) -> u32
 // 01's bound, so many waiting beside the running one: (k + 1) * (L + 1), k being the number in hand, L the longest
 // event's instructions.
 fn bound_of(waiting: u32, longest: u32) -> u32
-    requires { ⌜ (waiting ≤ 64) × (longest ≤ 4096) ⌝ }
+    requires { ⌜ (waiting ≤ queueLimit) × (longest ≤ instructionLimit) ⌝ }
     ensures { λ r. ⌜ r ≡ bound waiting longest ⌝ }
 {
     let hand = waiting + 1;

@@ -6,6 +6,8 @@ ghost use lib.ListN.{length};
 ghost use Rattle.run_frame.specs.Frame.{frameSaid, countAfter, commitsAfter, idleOr, frameFrom, refusedFrame, frameOn};
 ghost use Rattle.run_frame.specs.Framed.{roomFor, framed};
 ghost use Rattle.run_step.specs.Sound.{RoundSound};
+ghost use Rattle.run_answers.specs.Sizes.{answerBytes};
+ghost use Rattle.run_frame.specs.Ends.{commitLimit, endKinds, mostCommits};
 
 // Why a frame ended: all steps made, nothing in hand, a step refused, no room for a further commit.
 pub const ALL_MADE: u64 = 0;
@@ -30,7 +32,7 @@ const FOREIGN: u64 = spec_language::refusals::FOREIGN as u64;
 
 // The answer of a frame.
 fn said_of(why: u64, made: u32, written: u32) -> u64
-    requires { ⌜ (why < 4) × (written < 16777216) ⌝ }
+    requires { ⌜ (why < endKinds) × (written < commitLimit) ⌝ }
     ensures { λ r. ⌜ r ≡ frameSaid why made written ⌝ }
 {
     why * COMMITS + (written as u64) * STEPS + (made as u64)
@@ -39,7 +41,7 @@ fn said_of(why: u64, made: u32, written: u32) -> u64
 // How many commits so many bytes have room for.
 fn room_of(bytes: usize) -> u32
     ensures { λ r. ⌜ r ≡ roomFor bytes ⌝ }
-    ensures { λ r. ⌜ (r < 16777216) × (r * 8 ≤ bytes) ⌝ }
+    ensures { λ r. ⌜ (r < commitLimit) × (r * answerBytes ≤ bytes) ⌝ }
 {
     if bytes / COMMIT_BYTES < MOST_COMMITS {
         return (bytes / COMMIT_BYTES) as u32;
@@ -49,7 +51,7 @@ fn room_of(bytes: usize) -> u32
 
 // A step's answer after n commits: a commit's is written, any other leaves the buffer. The commits written then.
 fn note(commits: &mut [u8], n: u32, answer: u64) -> u32
-    requires { ⌜ (n * 8 + 8 ≤ length (now commits)) × (n < 16777215) ⌝ }
+    requires { ⌜ (n * answerBytes + answerBytes ≤ length (now commits)) × (n < mostCommits) ⌝ }
     ensures { λ r. ⌜ r ≡ countAfter answer n ⌝ }
     ensures { λ _. ⌜ now (commits .exit) ≡ commitsAfter answer n (now (commits .entry)) ⌝ }
 {
@@ -72,9 +74,9 @@ fn refused_of(room: u32) -> u64
 
 // Why a frame ends that would end for `why`: idle where nothing runs and nothing waits.
 fn idle_or(table: &[u8], round: &[u8], why: u64) -> u64
-    requires { ⌜ RoundSound (now table) (now round) × (why < 4) ⌝ }
+    requires { ⌜ RoundSound (now table) (now round) × (why < endKinds) ⌝ }
     ensures { λ r. ⌜ r ≡ idleOr (now (table .entry)) (now (round .entry)) why ⌝ }
-    ensures { λ r. ⌜ r < 4 ⌝ }
+    ensures { λ r. ⌜ r < endKinds ⌝ }
 {
     if lib_word::get_word(round, format_layout::round::RUNNING) != 0 {
         return why;
@@ -87,7 +89,7 @@ fn idle_or(table: &[u8], round: &[u8], why: u64) -> u64
 
 // Table and round are judged, steps are asked for, and there is room for so many commits.
 fn frame_in(table: &[u8], round: &mut [u8], steps: u32, room: u32, commits: &mut [u8]) -> u64
-    requires { ⌜ RoundSound (now table) (now round) × (room < 16777216) × (room * 8 ≤ length (now commits)) × (steps ≢ 0) ⌝ }
+    requires { ⌜ RoundSound (now table) (now round) × (room < commitLimit) × (room * answerBytes ≤ length (now commits)) × (steps ≢ 0) ⌝ }
     ensures { λ r. ⌜ framed r (now (round .exit)) (now (commits .exit))
         ≡ frameFrom (now (table .entry)) room steps 0 0 (now (round .entry)) (now (commits .entry)) ⌝ }
 {

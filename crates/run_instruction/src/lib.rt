@@ -12,6 +12,8 @@ ghost use Rattle.lib_arith.specs.Functions.{result, over};
 ghost use Rattle.run_instruction.specs.Stack.{noted};
 ghost use Rattle.run_instruction.specs.Instruction.{transfer};
 ghost use Rattle.run_instruction.specs.Execution.{left, pushedOn, poppedTo, appliedOne, appliedTwo, appliedThree, movedIn, executed};
+ghost use Rattle.format_layout.specs.Sizes.{roundBytes, roundWords};
+ghost use Rattle.spec_language.specs.Limits.{stackDepth};
 
 mod codes;
 
@@ -30,7 +32,7 @@ const THIRD: usize = round::STACK - 3;
 
 // Word `from` of the round goes to word `to`.
 fn transfer_word(round: &mut [u8], depth: u32, from: usize, to: usize) -> u32
-    requires { ⌜ (2048 ≤ length (now round)) × (from < 512) × (to < 512) ⌝ }
+    requires { ⌜ (roundBytes ≤ length (now round)) × (from < roundWords) × (to < roundWords) ⌝ }
     ensures { λ r. ⌜ left r (now (round .exit)) ≡ left depth (transfer (now (round .entry)) from to) ⌝ }
 {
     let value = lib_word::get_word(round, from);
@@ -40,7 +42,7 @@ fn transfer_word(round: &mut [u8], depth: u32, from: usize, to: usize) -> u32
 
 // A value goes on top of the stack; not on a full one.
 fn push(round: &mut [u8], depth: u32, value: u32) -> u32
-    requires { ⌜ 2048 ≤ length (now round) ⌝ }
+    requires { ⌜ roundBytes ≤ length (now round) ⌝ }
     ensures { λ r. ⌜ left r (now (round .exit)) ≡ pushedOn (now (round .entry)) depth value ⌝ }
 {
     if depth < FULL {
@@ -51,7 +53,7 @@ fn push(round: &mut [u8], depth: u32, value: u32) -> u32
 }
 
 fn push_word(round: &mut [u8], depth: u32, from: usize) -> u32
-    requires { ⌜ (2048 ≤ length (now round)) × (from < 512) ⌝ }
+    requires { ⌜ (roundBytes ≤ length (now round)) × (from < roundWords) ⌝ }
     ensures { λ r. ⌜ left r (now (round .exit)) ≡ pushedOn (now (round .entry)) depth (get (now (round .entry)) from) ⌝ }
 {
     let value = lib_word::get_word(round, from);
@@ -60,7 +62,7 @@ fn push_word(round: &mut [u8], depth: u32, from: usize) -> u32
 
 // The stack's top goes to word `to`; not that of an empty one.
 fn pop(round: &mut [u8], depth: u32, to: usize) -> u32
-    requires { ⌜ (2048 ≤ length (now round)) × (depth ≤ 64) × (to < 512) ⌝ }
+    requires { ⌜ (roundBytes ≤ length (now round)) × (depth ≤ stackDepth) × (to < roundWords) ⌝ }
     ensures { λ r. ⌜ left r (now (round .exit)) ≡ poppedTo (now (round .entry)) depth to ⌝ }
 {
     if depth > 0 {
@@ -73,7 +75,7 @@ fn pop(round: &mut [u8], depth: u32, to: usize) -> u32
 
 // Function f on the words a, b and c: its word, and the mark set where it runs over.
 fn call_on(round: &mut [u8], f: u8, a: u32, b: u32, c: u32) -> u32
-    requires { ⌜ 2048 ≤ length (now round) ⌝ }
+    requires { ⌜ roundBytes ≤ length (now round) ⌝ }
     ensures { λ r. ⌜ r ≡ result f a b c ⌝ }
     ensures { λ _. ⌜ now (round .exit) ≡ noted (now (round .entry)) (over f a b c) ⌝ }
 {
@@ -87,7 +89,7 @@ fn call_on(round: &mut [u8], f: u8, a: u32, b: u32, c: u32) -> u32
 
 // Function f takes its arguments, one, two or three, from the stack, and puts its result.
 fn apply_one(round: &mut [u8], depth: u32, f: u8) -> u32
-    requires { ⌜ (2048 ≤ length (now round)) × (depth ≤ 64) ⌝ }
+    requires { ⌜ (roundBytes ≤ length (now round)) × (depth ≤ stackDepth) ⌝ }
     ensures { λ r. ⌜ left r (now (round .exit)) ≡ appliedOne (now (round .entry)) depth f ⌝ }
 {
     if depth < 1 {
@@ -100,7 +102,7 @@ fn apply_one(round: &mut [u8], depth: u32, f: u8) -> u32
 }
 
 fn apply_two(round: &mut [u8], depth: u32, f: u8) -> u32
-    requires { ⌜ (2048 ≤ length (now round)) × (depth ≤ 64) ⌝ }
+    requires { ⌜ (roundBytes ≤ length (now round)) × (depth ≤ stackDepth) ⌝ }
     ensures { λ r. ⌜ left r (now (round .exit)) ≡ appliedTwo (now (round .entry)) depth f ⌝ }
 {
     if depth < 2 {
@@ -114,7 +116,7 @@ fn apply_two(round: &mut [u8], depth: u32, f: u8) -> u32
 }
 
 fn apply_three(round: &mut [u8], depth: u32, f: u8) -> u32
-    requires { ⌜ (2048 ≤ length (now round)) × (depth ≤ 64) ⌝ }
+    requires { ⌜ (roundBytes ≤ length (now round)) × (depth ≤ stackDepth) ⌝ }
     ensures { λ r. ⌜ left r (now (round .exit)) ≡ appliedThree (now (round .entry)) depth f ⌝ }
 {
     if depth < 3 {
@@ -130,7 +132,7 @@ fn apply_three(round: &mut [u8], depth: u32, f: u8) -> u32
 
 // An operation that applies no function, on slot k: off, on, and those that move a word.
 fn move_on(round: &mut [u8], operation: u32, k: usize, constant: u32, depth: u32) -> u32
-    requires { ⌜ (2048 ≤ length (now round)) × (depth ≤ 64) ⌝ }
+    requires { ⌜ (roundBytes ≤ length (now round)) × (depth ≤ stackDepth) ⌝ }
     ensures { λ r. ⌜ left r (now (round .exit)) ≡ movedIn (now (round .entry)) operation k constant depth ⌝ }
 {
     if k >= limits::BEHAVIOURS {
@@ -154,7 +156,7 @@ fn move_on(round: &mut [u8], operation: u32, k: usize, constant: u32, depth: u32
 // The instruction of that word and constant, on a stack of that depth: the depth after it, or NONE where it may not
 // run. A function's application is told by operation and function together; each instruction asks for its own stack.
 pub fn execute(round: &mut [u8], code: u32, constant: u32, depth: u32) -> u32
-    requires { ⌜ (2048 ≤ length (now round)) × (depth ≤ 64) ⌝ }
+    requires { ⌜ (roundBytes ≤ length (now round)) × (depth ≤ stackDepth) ⌝ }
     ensures { λ r. ⌜ left r (now (round .exit)) ≡ executed (now (round .entry)) code constant depth ⌝ }
 {
     match code {

@@ -11,12 +11,13 @@ ghost use Rattle.format_layout.specs.Layout.{waitingCount, runningFlag, running
 ghost use Rattle.format_layout.specs.Bounds.{TableBounds};
 ghost use Rattle.format_layout.specs.Round.{callResult};
 ghost use Rattle.run_mend.specs.Mending.{waitingKnown, handKnown, backInHand, rested, mendOn};
+ghost use Rattle.format_layout.specs.Sizes.{besideRunning, queueLimit, roundBytes};
 
 // ---- the hand
 
 // Whether the first n waiting have events below `known`.
 fn waiting_known(round: &[u8], known: u32, n: u32) -> bool
-    requires { ⌜ (2048 ≤ length (now round)) × (n ≤ 64) ⌝ }
+    requires { ⌜ (roundBytes ≤ length (now round)) × (n ≤ queueLimit) ⌝ }
     ensures { λ r. ⌜ r ≡ waitingKnown (now (round .entry)) known n ⌝ }
 {
     let mut i = n;
@@ -31,7 +32,7 @@ fn waiting_known(round: &[u8], known: u32, n: u32) -> bool
 
 // Whether the new table declares each event in hand, the running one's too.
 fn hand_known(table: &[u8], round: &[u8]) -> bool
-    requires { ⌜ TableBounds (now table) × (2048 ≤ length (now round)) × (waitingCount (now round) ≤ 64) ⌝ }
+    requires { ⌜ TableBounds (now table) × (roundBytes ≤ length (now round)) × (waitingCount (now round) ≤ queueLimit) ⌝ }
     ensures { λ r. ⌜ r ≡ handKnown (now (table .entry)) (now (round .entry)) ⌝ }
 {
     let known = lib_word::get_word(table, table::EVENT_COUNT);
@@ -46,8 +47,8 @@ fn hand_known(table: &[u8], round: &[u8]) -> bool
 
 // The running one, if any, goes back to the hand.
 fn back_in_hand(round: &mut [u8])
-    requires { ⌜ 2048 ≤ length (now round) ⌝ }
-    requires { ⌜ (runningFlag (now round) ≢ 0 → waitingCount (now round) ≤ 63) ⌝ }
+    requires { ⌜ roundBytes ≤ length (now round) ⌝ }
+    requires { ⌜ (runningFlag (now round) ≢ 0 → waitingCount (now round) ≤ besideRunning) ⌝ }
     ensures { λ _. ⌜ now (round .exit)
         ≡ backInHand (now (round .entry)) (waitingCount (now (round .entry)))
         (runningFlag (now (round .entry))) (runningNumber (now (round .entry))) (runningWord (now (round .entry))) ⌝ }
@@ -64,7 +65,7 @@ fn back_in_hand(round: &mut [u8])
 
 // Nothing runs.
 fn rest(round: &mut [u8])
-    requires { ⌜ 2048 ≤ length (now round) ⌝ }
+    requires { ⌜ roundBytes ≤ length (now round) ⌝ }
     ensures { λ _. ⌜ now (round .exit) ≡ rested (now (round .entry)) ⌝ }
 {
     lib_word::put_word(round, round::RUNNING, 0);

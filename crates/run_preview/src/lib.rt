@@ -7,6 +7,7 @@ ghost use Rattle.format_layout.specs.Bounds.{TableBounds};
 ghost use Rattle.format_layout.specs.Round.{callResult};
 ghost use Rattle.run_step.specs.Sound.{RoundSound};
 ghost use Rattle.run_preview.specs.Preview.{lastStep, toIdle, inHand, previewSteps, previewAnswer, shownIn, previewCopy, previewOn};
+ghost use Rattle.format_layout.specs.Sizes.{arrivalLimit, queueLimit, roundBytes};
 
 // What stands above a value, so that it is no refusal's number.
 const SHOWN: u64 = spec_language::answers::VALUE;
@@ -48,9 +49,9 @@ fn run_to_idle(table: &[u8], round: &mut [u8], most: u32) -> u64
 
 // n wait, and one runs where f is not 0.
 fn in_hand(n: u32, f: u32) -> u32
-    requires { ⌜ n ≤ 64 ⌝ }
+    requires { ⌜ n ≤ queueLimit ⌝ }
     ensures { λ r. ⌜ r ≡ inHand n f ⌝ }
-    ensures { λ r. ⌜ r ≤ 65 ⌝ }
+    ensures { λ r. ⌜ r ≤ queueLimit + 1 ⌝ }
 {
     if f == 0 {
         return n;
@@ -62,7 +63,7 @@ fn in_hand(n: u32, f: u32) -> u32
 fn count_of(table: &[u8], round: &[u8]) -> u32
     requires { ⌜ TableBounds (now table) × RoundSound (now table) (now round) ⌝ }
     ensures { λ r. ⌜ r ≡ previewSteps (now (table .entry)) (now (round .entry)) ⌝ }
-    ensures { λ r. ⌜ r ≤ 1000000 ⌝ }
+    ensures { λ r. ⌜ r ≤ arrivalLimit ⌝ }
 {
     let k = in_hand(
         lib_word::get_word(round, format_layout::round::WAITING),
@@ -87,7 +88,7 @@ fn shown_by(a: u64, v: u32) -> u64
 
 // The copy is run to idle: 01's count of steps, and one more that finds it idle.
 fn shown_in(table: &[u8], round: &mut [u8], behaviour: u32) -> u64
-    requires { ⌜ TableBounds (now table) × RoundSound (now table) (now round) × (behaviour < 64) ⌝ }
+    requires { ⌜ TableBounds (now table) × RoundSound (now table) (now round) × (behaviour < queueLimit) ⌝ }
     ensures { λ r. ⌜ r ≡ shownIn (toIdle (now (table .entry)) (previewSteps (now (table .entry)) (now (round .entry)) + 1) (now (round .entry))) behaviour ⌝ }
 {
     let most = count_of(&*table, round);
@@ -101,7 +102,7 @@ fn shown_in(table: &[u8], round: &mut [u8], behaviour: u32) -> u64
 // The round is the copy. Refused as the arrival is (14, 24, 15, 25, 16, 17), then by 18 and 25, last by 14 where a step
 // on the copy is or 01's count runs out.
 fn preview_copy(table: &[u8], round: &mut [u8], event: u32, behaviour: u32, player: u32) -> u64
-    requires { ⌜ 2048 ≤ length (now round) ⌝ }
+    requires { ⌜ roundBytes ≤ length (now round) ⌝ }
     ensures { λ r. ⌜ r ≡ previewCopy (now (table .entry)) (now (round .entry)) event behaviour player ⌝ }
 {
     let a = run_arrive::arrive_at(&*table, round, event, player);

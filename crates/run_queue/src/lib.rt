@@ -6,6 +6,8 @@ ghost use Prim.Native.Nat.{_+_, _*_, _≤_, _<_};
 ghost use lib.ListN.{length};
 ghost use Rattle.format_layout.specs.Layout.{eventWord, eventAt};
 ghost use Rattle.run_queue.specs.Queue.{EventsKnown, ahead, best, anyAbove, putSlot};
+ghost use Rattle.format_layout.specs.Sizes.{queueLimit, roundBytes, tableBytes};
+ghost use Rattle.spec_language.specs.Limits.{eventLimit};
 
 // Priority p, number n goes before priority q, number m.
 fn is_ahead(p: u32, n: u32, q: u32, m: u32) -> bool
@@ -22,7 +24,7 @@ fn is_ahead(p: u32, n: u32, q: u32, m: u32) -> bool
 
 // The priority of what waits in slot i, its event being known: no test for that is made slot by slot.
 fn priority_at(table: &[u8], round: &[u8], i: usize) -> u32
-    requires { ⌜ (34816 ≤ length (now table)) × (2048 ≤ length (now round)) × (i < 64) × (eventAt (now round) i < 32) ⌝ }
+    requires { ⌜ (tableBytes ≤ length (now table)) × (roundBytes ≤ length (now round)) × (i < queueLimit) × (eventAt (now round) i < eventLimit) ⌝ }
     ensures { λ r. ⌜ r ≡ eventWord (now (table .entry)) (eventAt (now (round .entry)) i) 0 ⌝ }
 {
     let event = format_layout::event_at(round, Round::WORDS + i * 2);
@@ -34,9 +36,9 @@ fn priority_at(table: &[u8], round: &[u8], i: usize) -> u32
 
 // The slot that goes before all others of the first n.
 pub fn best_of(table: &[u8], round: &[u8], n: usize) -> usize
-    requires { ⌜ (34816 ≤ length (now table)) × (2048 ≤ length (now round)) × (0 < n) × (n ≤ 64) × EventsKnown (now round) n ⌝ }
+    requires { ⌜ (tableBytes ≤ length (now table)) × (roundBytes ≤ length (now round)) × (0 < n) × (n ≤ queueLimit) × EventsKnown (now round) n ⌝ }
     ensures { λ r. ⌜ r ≡ best (now (table .entry)) (now (round .entry)) n ⌝ }
-    ensures { λ r. ⌜ r < 64 ⌝ }
+    ensures { λ r. ⌜ r < queueLimit ⌝ }
 {
     let mut best = 0;
     let mut best_priority = priority_at(&*table, &*round, 0);
@@ -57,7 +59,7 @@ pub fn best_of(table: &[u8], round: &[u8], n: usize) -> usize
 
 // Whether one of the first n waiting has a priority above p.
 pub fn is_any_above(table: &[u8], round: &[u8], p: u32, n: usize) -> bool
-    requires { ⌜ (34816 ≤ length (now table)) × (2048 ≤ length (now round)) × (n ≤ 64) × EventsKnown (now round) n ⌝ }
+    requires { ⌜ (tableBytes ≤ length (now table)) × (roundBytes ≤ length (now round)) × (n ≤ queueLimit) × EventsKnown (now round) n ⌝ }
     ensures { λ r. ⌜ r ≡ anyAbove (now (table .entry)) (now (round .entry)) p n ⌝ }
 {
     let mut i = n;
@@ -72,7 +74,7 @@ pub fn is_any_above(table: &[u8], round: &[u8], p: u32, n: usize) -> bool
 
 // Arrival `number`, with the word of its event and player, waits in slot i.
 pub fn put_slot(round: &mut [u8], i: usize, number: u32, word: u32)
-    requires { ⌜ (2048 ≤ length (now round)) × (i < 64) ⌝ }
+    requires { ⌜ (roundBytes ≤ length (now round)) × (i < queueLimit) ⌝ }
     ensures { λ _. ⌜ now (round .exit) ≡ putSlot (now (round .entry)) i number word ⌝ }
 {
     lib_word::put_word(round, Round::NUMBERS + i * 2, number);

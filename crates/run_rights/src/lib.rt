@@ -5,10 +5,12 @@ ghost use Prim.Native.Nat.{_≤_, _<_, _^_};
 ghost use lib.ListN.{length};
 ghost use Rattle.spec_language.specs.Rights.{may};
 ghost use Rattle.format_layout.specs.Layout.{viewersAt, sendersAt};
+ghost use Rattle.format_layout.specs.Sizes.{tableBytes};
+ghost use Rattle.spec_language.specs.Limits.{behaviourLimit, eventLimit, playerLimit};
 
 // The value of bit n: a power of two.
 fn bit(n: u32) -> u32
-    requires { ⌜ n < 8 ⌝ }
+    requires { ⌜ n < playerLimit ⌝ }
     ensures { λ r. ⌜ r ≡ 2 ^ n ⌝ }
     ensures { λ r. ⌜ 0 < r ⌝ }
 {
@@ -26,7 +28,7 @@ fn bit(n: u32) -> u32
 
 // Whether a player is let in by a word with a bit for each; the host always is.
 fn is_let_in(word: u32, player: u32) -> bool
-    requires { ⌜ player < 8 ⌝ }
+    requires { ⌜ player < playerLimit ⌝ }
     ensures { λ r. ⌜ r ≡ may word player ⌝ }
 {
     if player == 0 {
@@ -37,7 +39,7 @@ fn is_let_in(word: u32, player: u32) -> bool
 
 // Whether a player may send an event.
 pub fn may_send(table: &[u8], event: u32, player: u32) -> bool
-    requires { ⌜ (34816 ≤ length (now table)) × (event < 32) × (player < 8) ⌝ }
+    requires { ⌜ (tableBytes ≤ length (now table)) × (event < eventLimit) × (player < playerLimit) ⌝ }
     ensures { λ r. ⌜ r ≡ may (sendersAt (now (table .entry)) event) player ⌝ }
 {
     is_let_in(
@@ -48,7 +50,7 @@ pub fn may_send(table: &[u8], event: u32, player: u32) -> bool
 
 // Whether a player may see a behaviour.
 pub fn may_see(table: &[u8], behaviour: u32, player: u32) -> bool
-    requires { ⌜ (34816 ≤ length (now table)) × (behaviour < 64) × (player < 8) ⌝ }
+    requires { ⌜ (tableBytes ≤ length (now table)) × (behaviour < behaviourLimit) × (player < playerLimit) ⌝ }
     ensures { λ r. ⌜ r ≡ may (viewersAt (now (table .entry)) behaviour) player ⌝ }
 {
     is_let_in(

@@ -8,11 +8,13 @@ ghost use Prim.Native.Nat.{_+_, _≤_, _<_};
 ghost use lib.ListN.{length, replicate};
 ghost use Rattle.format_layout.specs.Round.{callResult};
 ghost use Rattle.run_start.specs.Start.{cleared, stored, image, valuesIn, startOn};
+ghost use Rattle.format_layout.specs.Sizes.{roundBytes, roundWords, tableBytes};
+ghost use Rattle.spec_language.specs.Limits.{behaviourLimit};
 
 // The words of a round become 0.
 fn clear(round: &mut [u8])
-    requires { ⌜ 2048 ≤ length (now round) ⌝ }
-    ensures { λ _. ⌜ now (round .exit) ≡ cleared (now (round .entry)) 512 ⌝ }
+    requires { ⌜ roundBytes ≤ length (now round) ⌝ }
+    ensures { λ _. ⌜ now (round .exit) ≡ cleared (now (round .entry)) roundWords ⌝ }
 {
     let mut i = 0;
     while i < Round::WORD_COUNT {
@@ -22,8 +24,8 @@ fn clear(round: &mut [u8])
 }
 
 fn put_store(round: &mut [u8], store: &[u32])
-    requires { ⌜ (2048 ≤ length (now round)) × (length (now store) ≡ 64) ⌝ }
-    ensures { λ _. ⌜ now (round .exit) ≡ stored (now (store .entry)) (now (round .entry)) 64 ⌝ }
+    requires { ⌜ (roundBytes ≤ length (now round)) × (length (now store) ≡ behaviourLimit) ⌝ }
+    ensures { λ _. ⌜ now (round .exit) ≡ stored (now (store .entry)) (now (round .entry)) behaviourLimit ⌝ }
 {
     let mut i = 0;
     while i < limits::BEHAVIOURS {
@@ -34,7 +36,7 @@ fn put_store(round: &mut [u8], store: &[u32])
 
 // The round's bytes. Those beyond are as they were.
 fn write_round(fresh: Round, round: &mut [u8])
-    requires { ⌜ 2048 ≤ length (now round) ⌝ }
+    requires { ⌜ roundBytes ≤ length (now round) ⌝ }
     ensures { λ _. ⌜ now (round .exit) ≡ image fresh (now (round .entry)) ⌝ }
 {
     clear(round);
@@ -47,8 +49,8 @@ fn write_round(fresh: Round, round: &mut [u8])
 
 // The values of a fresh round, as compile left them in the table.
 fn first_values(table: &[u8]) -> [u32; limits::BEHAVIOURS]
-    requires { ⌜ 34816 ≤ length (now table) ⌝ }
-    ensures { λ r. ⌜ r ≡ valuesIn (now (table .entry)) (replicate 64 0) 64 ⌝ }
+    requires { ⌜ tableBytes ≤ length (now table) ⌝ }
+    ensures { λ r. ⌜ r ≡ valuesIn (now (table .entry)) (replicate behaviourLimit 0) behaviourLimit ⌝ }
 {
     let mut store = [0u32; limits::BEHAVIOURS];
     let mut i = 0;

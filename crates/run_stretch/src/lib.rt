@@ -11,6 +11,8 @@ ghost use Rattle.lib_word.specs.Word.{get};
 ghost use Rattle.format_layout.specs.Round.{callResult};
 ghost use Rattle.run_instruction.specs.Execution.{left};
 ghost use Rattle.run_stretch.specs.Stretch.{stretchFrom, executedAt, ranTo, ranFrom};
+ghost use Rattle.format_layout.specs.Sizes.{depthWord, roundBytes, tableBytes};
+ghost use Rattle.spec_language.specs.Limits.{instructionLimit, stackDepth};
 
 // How many instructions ran, and the stack's depth then.
 pub struct Ran {
@@ -20,7 +22,7 @@ pub struct Ran {
 
 // Instruction k of the table, on a stack of that depth: the depth after it, or NONE where it may not run.
 fn execute_at(table: &[u8], round: &mut [u8], k: usize, depth: u32) -> u32
-    requires { ⌜ (34816 ≤ length (now table)) × (2048 ≤ length (now round)) × (k < 4096) × (depth ≤ 64) ⌝ }
+    requires { ⌜ (tableBytes ≤ length (now table)) × (roundBytes ≤ length (now round)) × (k < instructionLimit) × (depth ≤ stackDepth) ⌝ }
     ensures { λ r. ⌜ left r (now (round .exit)) ≡ executedAt (now (table .entry)) (now (round .entry)) k depth ⌝ }
 {
     let code = lib_word::get_word(table, table::CODE + k * 2);
@@ -30,9 +32,9 @@ fn execute_at(table: &[u8], round: &mut [u8], k: usize, depth: u32) -> u32
 
 // The n instructions from k on, on a stack of that depth, up to the first that may not run. The depth's word stays.
 pub fn run_from(table: &[u8], round: &mut [u8], k: usize, n: u32, depth: u32) -> Ran
-    requires { ⌜ (34816 ≤ length (now table)) × (2048 ≤ length (now round)) × (k + n ≤ 4096) × (depth ≤ 64) ⌝ }
+    requires { ⌜ (tableBytes ≤ length (now table)) × (roundBytes ≤ length (now round)) × (k + n ≤ instructionLimit) × (depth ≤ stackDepth) ⌝ }
     ensures { λ r. ⌜ ranTo (r .done) (r .depth) (now (round .exit)) ≡ ranFrom (now (table .entry)) k n depth (now (round .entry)) ⌝ }
-    ensures { λ r. ⌜ (r .done ≤ n) × (r .depth ≤ 64) ⌝ }
+    ensures { λ r. ⌜ (r .done ≤ n) × (r .depth ≤ stackDepth) ⌝ }
 {
     let mut done = 0;
     let mut deep = depth;
@@ -55,7 +57,8 @@ pub fn run_from(table: &[u8], round: &mut [u8], k: usize, n: u32, depth: u32) ->
 
 // The n instructions from k on, the depth's word read and written: 0, or 14 where one of them may not run.
 pub fn execute_from(table: &[u8], round: &mut [u8], k: usize, n: u32) -> u32
-    requires { ⌜ (34816 ≤ length (now table)) × (2048 ≤ length (now round)) × (k + n ≤ 4096) × (get (now round) 6 ≤ 64) ⌝ }
+    requires { ⌜ (tableBytes ≤ length (now table)) × (roundBytes ≤ length (now round)) × (k + n ≤ instructionLimit)
+        × (get (now round) depthWord ≤ stackDepth) ⌝ }
     ensures { λ r. ⌜ callResult r (now (round .exit)) ≡ stretchFrom (now (table .entry)) k n (now (round .entry)) ⌝ }
 {
     let depth = lib_word::get_word(round, round::DEPTH);

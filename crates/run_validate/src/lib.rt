@@ -11,6 +11,8 @@ ghost use Rattle.lib_word.specs.Halves.{swapBytes};
 ghost use Rattle.format_layout.specs.Layout.{eventWord, runningFlag, runningWord, runningEvent, position};
 ghost use Rattle.format_layout.specs.Foreign.{handFits, slotsFit, runningFits, ours};
 ghost use Rattle.format_layout.specs.Bounds.{Bounds};
+ghost use Rattle.format_layout.specs.Sizes.{queueLimit, roundBytes, tableBytes};
+ghost use Rattle.lib_base.specs.Words.{wordBytes};
 
 const STACK: u32 = limits::STACK as u32;
 
@@ -22,7 +24,7 @@ const SLOT_BYTES: usize = 2 * lib_word::WORD_BYTES;
 // The word at byte i with its bytes swapped, as it lies in the memory of the usual processors: so several are judged at
 // once, of which each would have to be turned.
 fn get_swapped(round: &[u8], i: usize) -> u32
-    requires { ⌜ i + 4 ≤ length (now round) ⌝ }
+    requires { ⌜ i + wordBytes ≤ length (now round) ⌝ }
     ensures { λ r. ⌜ swapBytes r ≡ getAt (now (round .entry)) i ⌝ }
 {
     (round[i] as u32)
@@ -44,7 +46,7 @@ fn hand_fits(known: u32, swapped: u32) -> bool
 // Whether the words of the first n waiting are. All are judged, with no way out between them, so that the compiler
 // takes several at a time: as they lie in memory, and by steps of a whole slot, which are one load of several.
 fn slots_fit(round: &[u8], known: u32, n: usize) -> bool
-    requires { ⌜ (2048 ≤ length (now round)) × (n ≤ 64) ⌝ }
+    requires { ⌜ (roundBytes ≤ length (now round)) × (n ≤ queueLimit) ⌝ }
     ensures { λ r. ⌜ r ≡ slotsFit (now (round .entry)) known n ⌝ }
 {
     let mut fit = true;
@@ -59,7 +61,7 @@ fn slots_fit(round: &[u8], known: u32, n: usize) -> bool
 
 // Whether nothing runs, or there is room in the hand for what runs, its word fits, and its position is in its code.
 fn running_fits(table: &[u8], round: &[u8], known: u32, waiting: u32) -> bool
-    requires { ⌜ (34816 ≤ length (now table)) × (2048 ≤ length (now round)) ⌝ }
+    requires { ⌜ (tableBytes ≤ length (now table)) × (roundBytes ≤ length (now round)) ⌝ }
     ensures { λ r. ⌜ r ≡ runningFits waiting (runningFlag (now (round .entry)))
         (handFits known (runningWord (now (round .entry)))) (position (now (round .entry)))
         (eventWord (now (table .entry)) (runningEvent (now (round .entry))) 2) ⌝ }

@@ -11,6 +11,7 @@ ghost use Prim.Native.Nat.{_<_, _≤_, _+_};
 ghost use lib.ListN.{length, getD, drop};
 ghost use Rattle.sheet_walk.specs.Fields.{afterField, wordInFront, pastFields, cellsInFront};
 ghost use Rattle.sheet_walk.specs.Scanner.{untilTag, leftAfter, tagAfter, isNumber};
+ghost use Rattle.lib_base.specs.Words.{highestByte, wordValues};
 
 // What a word's bytes count, from the last but one on.
 const BYTE: u64 = sizes::HIGH as u64;
@@ -58,7 +59,7 @@ pub fn after_field(s: &[u8], at: usize) -> usize
 pub fn word_from(s: &[u8], at: usize) -> u64
     requires { ⌜ at ≤ length (now s) ⌝ }
     ensures { λ r. ⌜ r ≡ wordInFront (drop at (now (s .entry))) ⌝ }
-    ensures { λ r. ⌜ r < 4294967296 ⌝ }
+    ensures { λ r. ⌜ r < wordValues ⌝ }
 {
     let a = byte_from(s, at, 0) as u64;
     let b = byte_from(s, at, 1) as u64;
@@ -89,7 +90,7 @@ pub fn past_fields(s: &[u8], from: usize, tag: u8) -> usize
 pub fn cells_at(s: &[u8], at: usize) -> usize
     requires { ⌜ at ≤ length (now s) ⌝ }
     ensures { λ r. ⌜ r ≡ cellsInFront (drop at (now (s .entry))) ⌝ }
-    ensures { λ r. ⌜ r ≤ 255 ⌝ }
+    ensures { λ r. ⌜ r ≤ highestByte ⌝ }
 {
     if byte_from(s, at, 0) == tags::ROW {
         return byte_from(s, at, CELLS) as usize;

@@ -10,6 +10,9 @@ ghost use lib.ListN.{length};
 ghost use lib.Seq.{sets};
 ghost use Rattle.spec_language.specs.Grammar.{field, word};
 ghost use Rattle.sheet_write.specs.Writes.{header, fitted, shifted, asApplication, asField, eventBytes, viewerBytes, startBytes};
+ghost use Rattle.lib_base.specs.Words.{byteValues, halfValues, wordBytes};
+ghost use Rattle.sheet_field.specs.Sizes.{longestValue};
+ghost use Rattle.sheet_write.specs.Places.{placeLimit, rowPlaceLimit};
 
 // In place of the byte that says who may send or see, where there is none.
 pub const UNSAID: u64 = lib_word::BYTE_VALUES as u64;
@@ -31,7 +34,7 @@ const THREE_BYTES: u32 = lib_word::THREE_BYTE_VALUES;
 // The header of a field: its tag, and how many bytes its value has.
 fn put_header(out: &mut [u8], n: usize, tag: u8, bytes: usize)
     requires { ⌜ n + 3 ≤ length (now out) ⌝ }
-    requires { ⌜ bytes < 65536 ⌝ }
+    requires { ⌜ bytes < halfValues ⌝ }
     ensures { λ _. ⌜ now (out .exit) ≡ sets (now (out .entry)) n (header tag bytes) ⌝ }
 {
     out[n] = tag;
@@ -40,7 +43,7 @@ fn put_header(out: &mut [u8], n: usize, tag: u8, bytes: usize)
 
 // A word, the high byte first.
 fn put_word(out: &mut [u8], n: usize, w: u32)
-    requires { ⌜ n + 4 ≤ length (now out) ⌝ }
+    requires { ⌜ n + wordBytes ≤ length (now out) ⌝ }
     ensures { λ _. ⌜ now (out .exit) ≡ sets (now (out .entry)) n (word w) ⌝ }
 {
     out[n] = (w / THREE_BYTES) as u8;
@@ -51,7 +54,7 @@ fn put_word(out: &mut [u8], n: usize, w: u32)
 
 // A field of one byte: a name, a parameter, or who may see a behaviour.
 pub fn put_byte_field(out: &mut [u8], n: usize, tag: u8, b: u8)
-    requires { ⌜ n ≤ 2147483648 ⌝ }
+    requires { ⌜ n ≤ placeLimit ⌝ }
     ensures { λ _. ⌜ now (out .exit) ≡ fitted (now (out .entry)) n (field tag (b ∷ [])) ⌝ }
 {
     if out.len() < n + sizes::BYTE_FIELD {
@@ -63,7 +66,7 @@ pub fn put_byte_field(out: &mut [u8], n: usize, tag: u8, b: u8)
 
 // A field of a word: a constant or a start value.
 pub fn put_word_field(out: &mut [u8], n: usize, tag: u8, w: u32)
-    requires { ⌜ n ≤ 2147483648 ⌝ }
+    requires { ⌜ n ≤ placeLimit ⌝ }
     ensures { λ _. ⌜ now (out .exit) ≡ fitted (now (out .entry)) n (field tag (word w)) ⌝ }
 {
     if out.len() < n + sizes::WORD_FIELD {
@@ -75,7 +78,7 @@ pub fn put_word_field(out: &mut [u8], n: usize, tag: u8, w: u32)
 
 // A field of two bytes: an event's, where it says who may send it.
 fn put_pair_field(out: &mut [u8], n: usize, tag: u8, a: u8, b: u8)
-    requires { ⌜ n ≤ 2147483648 ⌝ }
+    requires { ⌜ n ≤ placeLimit ⌝ }
     ensures { λ _. ⌜ now (out .exit) ≡ fitted (now (out .entry)) n (field tag (a ∷ b ∷ [])) ⌝ }
 {
     if out.len() < n + sizes::PAIR_FIELD {
@@ -88,7 +91,7 @@ fn put_pair_field(out: &mut [u8], n: usize, tag: u8, a: u8, b: u8)
 
 // An event's field, by its rank and who may send it; the place behind it.
 pub fn put_event(out: &mut [u8], n: usize, rank: u8, senders: u64) -> usize
-    requires { ⌜ n ≤ 2147483648 ⌝ }
+    requires { ⌜ n ≤ placeLimit ⌝ }
     ensures { λ r. ⌜ r ≡ n + length (eventBytes rank senders) ⌝ }
     ensures { λ _. ⌜ now (out .exit) ≡ fitted (now (out .entry)) n (eventBytes rank senders) ⌝ }
 {
@@ -102,8 +105,8 @@ pub fn put_event(out: &mut [u8], n: usize, rank: u8, senders: u64) -> usize
 
 // Who may see a behaviour, where it is said; the place behind it.
 pub fn put_viewers(out: &mut [u8], n: usize, viewers: u64) -> usize
-    requires { ⌜ n ≤ 2147483648 ⌝ }
-    requires { ⌜ viewers ≤ 256 ⌝ }
+    requires { ⌜ n ≤ placeLimit ⌝ }
+    requires { ⌜ viewers ≤ byteValues ⌝ }
     ensures { λ r. ⌜ r ≡ n + length (viewerBytes viewers) ⌝ }
     ensures { λ _. ⌜ now (out .exit) ≡ fitted (now (out .entry)) n (viewerBytes viewers) ⌝ }
 {
@@ -116,8 +119,8 @@ pub fn put_viewers(out: &mut [u8], n: usize, viewers: u64) -> usize
 
 // A row's count of cells, where there are any, and the value that it or an active starts with; the place behind them.
 pub fn put_start(out: &mut [u8], n: usize, w: u32, cells: usize) -> usize
-    requires { ⌜ n ≤ 1073741824 ⌝ }
-    requires { ⌜ cells < 256 ⌝ }
+    requires { ⌜ n ≤ rowPlaceLimit ⌝ }
+    requires { ⌜ cells < byteValues ⌝ }
     ensures { λ r. ⌜ r ≡ n + length (startBytes cells w) ⌝ }
     ensures { λ _. ⌜ now (out .exit) ≡ fitted (now (out .entry)) n (startBytes cells w) ⌝ }
 {
@@ -135,7 +138,7 @@ pub fn put_start(out: &mut [u8], n: usize, w: u32, cells: usize) -> usize
 
 // The event and the phase of the handler whose field begins at place n.
 pub fn put_handler(out: &mut [u8], n: usize, event: u8, phase: u8)
-    requires { ⌜ n ≤ 2147483648 ⌝ }
+    requires { ⌜ n ≤ placeLimit ⌝ }
     ensures { λ _. ⌜ now (out .exit) ≡ fitted (now (out .entry)) (n + 3) (event ∷ phase ∷ []) ⌝ }
 {
     if out.len() < n + sizes::HANDLER_HEAD {
@@ -148,7 +151,7 @@ pub fn put_handler(out: &mut [u8], n: usize, event: u8, phase: u8)
 // The header of the field from place n to `end`, in front of its value.
 pub fn enclose(out: &mut [u8], n: usize, end: usize, tag: u8)
     requires { ⌜ n + 3 ≤ end ⌝ }
-    requires { ⌜ length (now out) ≤ 65535 ⌝ }
+    requires { ⌜ length (now out) ≤ longestValue ⌝ }
     ensures { λ _. ⌜ now (out .exit) ≡ asField tag n end (now (out .entry)) ⌝ }
 {
     if out.len() < end {
@@ -160,7 +163,7 @@ pub fn enclose(out: &mut [u8], n: usize, end: usize, tag: u8)
 // The bytes from `start` to `end` go on by an application's head, the last first.
 fn shift(out: &mut [u8], start: usize, end: usize)
     requires { ⌜ start ≤ end ⌝ }
-    requires { ⌜ end + 4 ≤ length (now out) ⌝ }
+    requires { ⌜ end + wordBytes ≤ length (now out) ⌝ }
     ensures { λ _. ⌜ now (out .exit) ≡ shifted start end (now (out .entry)) ⌝ }
 {
     let mut i = end;
@@ -173,8 +176,8 @@ fn shift(out: &mut [u8], start: usize, end: usize)
 // The arguments from `start` to `end` become an application of function f.
 pub fn wrap_application(out: &mut [u8], start: usize, end: usize, f: u8)
     requires { ⌜ start ≤ end ⌝ }
-    requires { ⌜ end ≤ 2147483648 ⌝ }
-    requires { ⌜ length (now out) ≤ 65535 ⌝ }
+    requires { ⌜ end ≤ placeLimit ⌝ }
+    requires { ⌜ length (now out) ≤ longestValue ⌝ }
     ensures { λ _. ⌜ now (out .exit) ≡ asApplication f start end (now (out .entry)) ⌝ }
 {
     if out.len() < end + sizes::BYTE_HEAD {

@@ -18,6 +18,9 @@ ghost use Rattle.source_coding.specs.Places.{meaningIn};
 ghost use Rattle.source_behaviours.specs.Whole.{NamesUsable, TextRead};
 ghost use Rattle.source_assemble.specs.AssembleNumber.{assembleNumber};
 ghost use Rattle.source_assemble.specs.Assemble.{lineAfter, columnAfter, placeTold, faultNumbered, TellsFault, NamesResolved, sheetAnswer, ReadRight};
+ghost use Rattle.source_coding.specs.Bounds.{firstCells, nameLimit, textBytes};
+ghost use Rattle.source_coding.specs.Faults.{kindUnit};
+ghost use Rattle.spec_language.specs.Limits.{behaviourLimit, sheetBytes};
 
 // What ends a line.
 const LINE_FEED: u8 = 10;
@@ -27,7 +30,7 @@ const LONG_TEXT: u64 = faults::LONG_TEXT * faults::KIND + (limits::TEXT_BYTES as
 
 // The line and the column after a byte.
 fn line_after(line: u64, b: u8) -> u64
-    requires { ⌜ line ≤ 65536 ⌝ }
+    requires { ⌜ line ≤ textBytes ⌝ }
     ensures { λ r. ⌜ r ≡ lineAfter line b ⌝ }
     ensures { λ r. ⌜ r ≤ line + 1 ⌝ }
 {
@@ -38,7 +41,7 @@ fn line_after(line: u64, b: u8) -> u64
 }
 
 fn column_after(column: u64, b: u8) -> u64
-    requires { ⌜ column ≤ 65536 ⌝ }
+    requires { ⌜ column ≤ textBytes ⌝ }
     ensures { λ r. ⌜ r ≡ columnAfter column b ⌝ }
     ensures { λ r. ⌜ r ≤ column + 1 ⌝ }
 {
@@ -51,9 +54,9 @@ fn column_after(column: u64, b: u8) -> u64
 // Line and column of the byte with so many before it, counted from 1, in one number.
 fn place_told(text: &[u8], place: usize) -> u64
     requires { ⌜ place ≤ length (now text) ⌝ }
-    requires { ⌜ place ≤ 65536 ⌝ }
+    requires { ⌜ place ≤ textBytes ⌝ }
     ensures { λ r. ⌜ r ≡ placeTold (now (text .entry)) place ⌝ }
-    ensures { λ r. ⌜ r < 72057594037927936 ⌝ }
+    ensures { λ r. ⌜ r < kindUnit ⌝ }
 {
     let mut line = 1u64;
     let mut column = 1u64;
@@ -77,8 +80,8 @@ fn fault_told(text: &[u8], w: u64) -> u64
 
 // The sheet's n bytes to the buffer, unless they are too many for a sheet or for the buffer.
 fn put_result(text: &[u8], n: usize, out: &[u8], buffer: &mut [u8]) -> u64
-    requires { ⌜ length (now text) ≤ 65536 ⌝ }
-    requires { ⌜ length (now out) ≡ 8192 ⌝ }
+    requires { ⌜ length (now text) ≤ textBytes ⌝ }
+    requires { ⌜ length (now out) ≡ sheetBytes ⌝ }
     ensures { λ r. ⌜ answered r (now (buffer .exit)) ≡ sheetAnswer (now (text .entry)) n (now (out .entry)) (now (buffer .entry)) ⌝ }
 {
     if sheet::SHEET_BYTES < n {
@@ -99,8 +102,8 @@ fn put_result(text: &[u8], n: usize, out: &[u8], buffer: &mut [u8]) -> u64
 
 // What a reading found that had the right names: the first fault of a name, or the sheet.
 fn put_read(text: &[u8], end: usize, w: u64, out: &[u8], buffer: &mut [u8]) -> u64
-    requires { ⌜ length (now text) ≤ 65536 ⌝ }
-    requires { ⌜ length (now out) ≡ 8192 ⌝ }
+    requires { ⌜ length (now text) ≤ textBytes ⌝ }
+    requires { ⌜ length (now out) ≡ sheetBytes ⌝ }
     requires { ⌜ ReadRight (now text) (now buffer) (now out) end w ⌝ }
     ensures { λ r. ⌜ answered r (now (buffer .exit)) ≡ assembleNumber (now (text .entry)) (now (buffer .entry)) ⌝ }
 {
@@ -121,16 +124,16 @@ fn read_with(
     starts: &mut [usize],
     out: &mut [u8],
 ) -> Reading
-    requires { ⌜ length (now text) ≤ 65536 ⌝ }
+    requires { ⌜ length (now text) ≤ textBytes ⌝ }
     requires { ⌜ NamesUsable (now names) params (now firsts) ⌝ }
-    requires { ⌜ length (now declared) ≡ 72 ⌝ }
-    requires { ⌜ (length (now starts) ≡ 65) × All (λ i. i ≤ 64) (now starts) ⌝ }
-    requires { ⌜ length (now out) ≡ 8192 ⌝ }
+    requires { ⌜ length (now declared) ≡ nameLimit ⌝ }
+    requires { ⌜ (length (now starts) ≡ firstCells) × All (λ i. i ≤ behaviourLimit) (now starts) ⌝ }
+    requires { ⌜ length (now out) ≡ sheetBytes ⌝ }
     ensures { λ r. ⌜ TextRead (now (text .entry))
         (meaningIn (now (text .entry)) (now (names .entry)) params (now (firsts .entry))) (now (out .entry))
         (now (out .exit)) (now (declared .exit)) (now (starts .exit)) r (readText (now (text .entry))) ⌝ }
-    ensures { λ _. ⌜ length (now (declared .exit)) ≡ 72 ⌝ }
-    ensures { λ _. ⌜ length (now (out .exit)) ≡ 8192 ⌝ }
+    ensures { λ _. ⌜ length (now (declared .exit)) ≡ nameLimit ⌝ }
+    ensures { λ _. ⌜ length (now (out .exit)) ≡ sheetBytes ⌝ }
 {
     let mut places = [0usize; limits::NAMES];
     let mut meanings = [0usize; limits::NAMES];
@@ -153,10 +156,10 @@ fn second_run(
     out: &mut [u8],
     buffer: &mut [u8],
 ) -> u64
-    requires { ⌜ length (now text) ≤ 65536 ⌝ }
+    requires { ⌜ length (now text) ≤ textBytes ⌝ }
     requires { ⌜ NamesUsable (now names) params (now firsts) ⌝ }
     requires { ⌜ NamesResolved (now text) (meaningIn (now text) (now names) params (now firsts)) (readText (now text)) ⌝ }
-    requires { ⌜ length (now out) ≡ 8192 ⌝ }
+    requires { ⌜ length (now out) ≡ sheetBytes ⌝ }
     ensures { λ r. ⌜ answered r (now (buffer .exit)) ≡ assembleNumber (now (text .entry)) (now (buffer .entry)) ⌝ }
 {
     let mut declared = [0usize; limits::NAMES];
@@ -177,7 +180,7 @@ fn first_run(
     firsts: &[usize],
     buffer: &mut [u8],
 ) -> u64
-    requires { ⌜ length (now text) ≤ 65536 ⌝ }
+    requires { ⌜ length (now text) ≤ textBytes ⌝ }
     requires { ⌜ NamesUsable (now names) params (now firsts) ⌝ }
     ensures { λ r. ⌜ answered r (now (buffer .exit)) ≡ assembleNumber (now (text .entry)) (now (buffer .entry)) ⌝ }
 {

@@ -28,6 +28,9 @@ ghost use Rattle.source_behaviours.specs.Behaviours.{NamedAt, CountIs, C
 ghost use Rattle.source_behaviours.specs.Behaviours.{WordWithin, BehaviourRead, BehaviourWithin, BehavioursRead, BehavioursWithin};
 ghost use Rattle.source_behaviours.specs.Behaviours.{EndFault, refusedPart, refusedBehaviour, refusedBehaviours, refusedDeclared};
 ghost use Rattle.source_behaviours.specs.Whole.{LookupUsable, TextRead, EndWithin};
+ghost use Rattle.source_coding.specs.Bounds.{firstCells, growth, nameLimit, textBytes};
+ghost use Rattle.source_names.specs.Units.{meaningLimit};
+ghost use Rattle.spec_language.specs.Limits.{behaviourLimit, eventLimit, mostCells, parameterLimit, sheetBytes};
 
 // The word that begins a row, as what is due tells it, and how many cells one has.
 const ROW: u64 = signs::ROW as u64;
@@ -59,7 +62,7 @@ pub enum Reading {
 
 // A name that is not among the first `count`.
 fn name_at(text: &[u8], at: usize, names: &[usize], count: usize) -> Due
-    requires { ⌜ length (now text) ≤ 65536 ⌝ }
+    requires { ⌜ length (now text) ≤ textBytes ⌝ }
     requires { ⌜ at ≤ length (now text) ⌝ }
     requires { ⌜ count ≤ length (now names) ⌝ }
     ensures { λ r. ⌜ DueRead (NamedAt (now (text .entry))) (now (text .entry)) r
@@ -78,9 +81,9 @@ fn name_at(text: &[u8], at: usize, names: &[usize], count: usize) -> Due
 
 // A row's count after `[`, behind i cells.
 fn count_at(text: &[u8], at: usize, i: usize) -> Due
-    requires { ⌜ length (now text) ≤ 65536 ⌝ }
+    requires { ⌜ length (now text) ≤ textBytes ⌝ }
     requires { ⌜ at ≤ length (now text) ⌝ }
-    requires { ⌜ i ≤ 64 ⌝ }
+    requires { ⌜ i ≤ behaviourLimit ⌝ }
     ensures { λ r. ⌜ DueRead CountIs (now (text .entry)) r (countedCells i (tokensFrom (now (text .entry)) at)) ⌝ }
     ensures { λ r. ⌜ CellsWithin (length (now (text .entry))) at i r ⌝ }
 {
@@ -102,7 +105,7 @@ fn count_at(text: &[u8], at: usize, i: usize) -> Due
 
 // `]` behind a row's count v, which stands at p.
 fn closed_at(text: &[u8], at: usize, p: usize, v: u64) -> Due
-    requires { ⌜ length (now text) ≤ 65536 ⌝ }
+    requires { ⌜ length (now text) ≤ textBytes ⌝ }
     requires { ⌜ at ≤ length (now text) ⌝ }
     ensures { λ r. ⌜ DueRead CountIs (now (text .entry)) r (closedCells v (tokensFrom (now (text .entry)) at)) ⌝ }
     ensures { λ r. ⌜ ClosedWithin (length (now (text .entry))) at v r ⌝ }
@@ -116,9 +119,9 @@ fn closed_at(text: &[u8], at: usize, p: usize, v: u64) -> Due
 
 // A row's count behind i cells; 0 for another behaviour.
 fn cells_at(text: &[u8], at: usize, word: u64, i: usize) -> Due
-    requires { ⌜ length (now text) ≤ 65536 ⌝ }
+    requires { ⌜ length (now text) ≤ textBytes ⌝ }
     requires { ⌜ at ≤ length (now text) ⌝ }
-    requires { ⌜ i ≤ 64 ⌝ }
+    requires { ⌜ i ≤ behaviourLimit ⌝ }
     ensures { λ r. ⌜ DueRead CountIs (now (text .entry)) r (cellsSaid i word (tokensFrom (now (text .entry)) at)) ⌝ }
     ensures { λ r. ⌜ CellsWithin (length (now (text .entry))) at i r ⌝ }
 {
@@ -134,7 +137,7 @@ fn cells_at(text: &[u8], at: usize, word: u64, i: usize) -> Due
 
 // How many numbers a behaviour takes, by a row's count or 0.
 fn numbers_of(cells: usize) -> usize
-    requires { ⌜ cells ≤ 16 ⌝ }
+    requires { ⌜ cells ≤ mostCells ⌝ }
     ensures { λ r. ⌜ r ≡ numbersTaken cells ⌝ }
 {
     if cells == 0 {
@@ -169,12 +172,12 @@ fn behaviour_at(
     out: &mut [u8],
     n: usize,
 ) -> Behaviour
-    requires { ⌜ length (now text) ≤ 65536 ⌝ }
+    requires { ⌜ length (now text) ≤ textBytes ⌝ }
     requires { ⌜ at ≤ length (now text) ⌝ }
-    requires { ⌜ (q ≤ at) × ((i ≤ 64)
+    requires { ⌜ (q ≤ at) × ((i ≤ behaviourLimit)
         × ((count ≤ length (now names))
-        × ((n ≤ at * 16) × ((sorted ≤ length (now places))
-        × ((All (λ m. m < 8320) (now meanings)) × ((length (now events) ≤ 32) × (length (now out) ≤ 8192))))))) ⌝ }
+        × ((n ≤ at * growth) × ((sorted ≤ length (now places))
+        × ((All (λ m. m < meaningLimit) (now meanings)) × ((length (now events) ≤ eventLimit) × (length (now out) ≤ sheetBytes))))))) ⌝ }
     ensures { λ r. ⌜ BehaviourRead (now (text .entry))
         (meaningBy (now (text .entry)) (now (places .entry)) sorted (now (meanings .entry))) (now (events .entry))
         (now (names .entry)) count i q word at n (now (out .entry)) (now (out .exit)) r ⌝ }
@@ -209,7 +212,7 @@ fn behaviour_at(
 
 // A word that begins a behaviour: its place, its sign's number, and the place behind it; else no more than a fault.
 fn word_at(text: &[u8], at: usize) -> Due
-    requires { ⌜ length (now text) ≤ 65536 ⌝ }
+    requires { ⌜ length (now text) ≤ textBytes ⌝ }
     requires { ⌜ at ≤ length (now text) ⌝ }
     ensures { λ r. ⌜ WordRead (now (text .entry)) at r ⌝ }
     ensures { λ r. ⌜ WordWithin (length (now (text .entry))) at r ⌝ }
@@ -252,20 +255,20 @@ fn behaviours_at(
     out: &mut [u8],
     n: usize,
 ) -> Behaviours
-    requires { ⌜ length (now text) ≤ 65536 ⌝ }
+    requires { ⌜ length (now text) ≤ textBytes ⌝ }
     requires { ⌜ at ≤ length (now text) ⌝ }
-    requires { ⌜ (n ≤ at * 16) × ((sorted ≤ length (now places))
-        × ((All (λ m. m < 8320) (now meanings))
-        × ((length (now events) ≤ 32)
-        × ((length (now names) ≡ 72)
-        × ((taken ≤ 8) × (((length (now starts) ≡ 65) × All (λ i. i ≤ 64) (now starts))
-        × (length (now out) ≤ 8192))))))) ⌝ }
+    requires { ⌜ (n ≤ at * growth) × ((sorted ≤ length (now places))
+        × ((All (λ m. m < meaningLimit) (now meanings))
+        × ((length (now events) ≤ eventLimit)
+        × ((length (now names) ≡ nameLimit)
+        × ((taken ≤ parameterLimit) × (((length (now starts) ≡ firstCells) × All (λ i. i ≤ behaviourLimit) (now starts))
+        × (length (now out) ≤ sheetBytes))))))) ⌝ }
     ensures { λ r. ⌜ BehavioursRead (now (text .entry))
         (meaningBy (now (text .entry)) (now (places .entry)) sorted (now (meanings .entry))) (now (events .entry)) at
         n (now (out .entry)) (now (out .exit)) (now (names .entry)) taken (now (names .exit)) (now (starts .exit)) r ⌝ }
     ensures { λ r. ⌜ BehavioursWithin (length (now (text .entry))) n taken r ⌝ }
-    ensures { λ _. ⌜ (length (now (names .exit)) ≡ 72)
-        × (((length (now (starts .exit)) ≡ 65) × All (λ i. i ≤ 64) (now (starts .exit)))
+    ensures { λ _. ⌜ (length (now (names .exit)) ≡ nameLimit)
+        × (((length (now (starts .exit)) ≡ firstCells) × All (λ i. i ≤ behaviourLimit) (now (starts .exit)))
         × (length (now (out .exit)) ≡ length (now (out .entry)))) ⌝ }
 {
     starts[0] = 0;
@@ -309,7 +312,7 @@ fn behaviours_at(
 
 // 0 where the text ends, else a fault's word.
 fn end_fault(text: &[u8], at: usize) -> u64
-    requires { ⌜ length (now text) ≤ 65536 ⌝ }
+    requires { ⌜ length (now text) ≤ textBytes ⌝ }
     requires { ⌜ at ≤ length (now text) ⌝ }
     ensures { λ r. ⌜ EndFault (now (text .entry)) at r ⌝ }
 {
@@ -355,14 +358,16 @@ pub fn read_at(
     starts: &mut [usize],
     out: &mut [u8],
 ) -> Reading
-    requires { ⌜ length (now text) ≤ 65536 ⌝ }
+    requires { ⌜ length (now text) ≤ textBytes ⌝ }
     requires { ⌜ LookupUsable (now places) sorted (now meanings) ⌝ }
-    requires { ⌜ (length (now names) ≡ 72) × (((length (now starts) ≡ 65) × All (λ i. i ≤ 64) (now starts)) × (length (now out) ≤ 8192)) ⌝ }
+    requires { ⌜ (length (now names) ≡ nameLimit) × (((length (now starts) ≡ firstCells) × All (λ i. i ≤ behaviourLimit) (now starts))
+        × (length (now out) ≤ sheetBytes)) ⌝ }
     ensures { λ r. ⌜ TextRead (now (text .entry))
         (meaningBy (now (text .entry)) (now (places .entry)) sorted (now (meanings .entry))) (now (out .entry))
         (now (out .exit)) (now (names .exit)) (now (starts .exit)) r (readText (now (text .entry))) ⌝ }
     ensures { λ r. ⌜ EndWithin (length (now (text .entry))) r ⌝ }
-    ensures { λ _. ⌜ (length (now (names .exit)) ≡ 72) × ((length (now (starts .exit)) ≡ 65) × (length (now (out .exit)) ≡ length (now (out .entry)))) ⌝ }
+    ensures { λ _. ⌜ (length (now (names .exit)) ≡ nameLimit)
+        × ((length (now (starts .exit)) ≡ firstCells) × (length (now (out .exit)) ≡ length (now (out .entry)))) ⌝ }
 {
     let first = source_declarations::parameters_at(text, 0, names);
     let Declared::Done(a, taken, _) = first else {

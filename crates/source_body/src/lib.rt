@@ -20,6 +20,9 @@ ghost use Rattle.source_field.specs.Formula.{Readable};
 ghost use Rattle.source_handlers.specs.Parts.{DueRead, PartWithin};
 ghost use Rattle.source_body.specs.Body.{bodyTag, startDeclared, StartWordIs, StartWithin, StateRead};
 ghost use Rattle.source_body.specs.Body.{StateWithin, PassiveRead, StateDeclared, KindRead, refusedRights};
+ghost use Rattle.lib_base.specs.Words.{byteValues, wordValues};
+ghost use Rattle.source_coding.specs.Bounds.{growth, textBytes};
+ghost use Rattle.spec_language.specs.Limits.{eventLimit, mostCells, sheetBytes};
 
 // The word that begins a passive, as what is due tells it.
 const PASSIVE: u64 = signs::PASSIVE as u64;
@@ -59,7 +62,7 @@ fn passive_at(
     out: &mut [u8],
 ) -> Part
     requires { ⌜ Readable (now text) cursor (now places) (now meanings) ⌝ }
-    requires { ⌜ length (now out) ≤ 8192 ⌝ }
+    requires { ⌜ length (now out) ≤ sheetBytes ⌝ }
     ensures { λ r. ⌜ PassiveRead (now (text .entry))
         (meaningBy (now (text .entry)) (now (places .entry)) (cursor .sorted) (now (meanings .entry)))
         (cursor .at) (cursor .end) (now (out .entry)) (now (out .exit)) r ⌝ }
@@ -99,8 +102,8 @@ fn state_with(
     out: &mut [u8],
 ) -> Part
     requires { ⌜ Readable (now text) cursor (now places) (now meanings) ⌝ }
-    requires { ⌜ (cursor .end + 16 ≤ cursor .at * 16) × ((length (now events) ≤ 32) × ((cursor .cells ≤ 16)
-        × ((setting .start < 4294967296) × ((setting .bits ≤ 256) × (length (now out) ≤ 8192))))) ⌝ }
+    requires { ⌜ (cursor .end + growth ≤ cursor .at * growth) × ((length (now events) ≤ eventLimit) × ((cursor .cells ≤ mostCells)
+        × ((setting .start < wordValues) × ((setting .bits ≤ byteValues) × (length (now out) ≤ sheetBytes))))) ⌝ }
     ensures { λ r. ⌜ StateRead (now (text .entry))
         (meaningBy (now (text .entry)) (now (places .entry)) (cursor .sorted) (now (meanings .entry)))
         (now (events .entry)) (cursor .cells) (setting .start) (setting .bits) (cursor .at) (cursor .end)
@@ -124,7 +127,7 @@ fn state_with(
 
 // The value after `=`.
 fn start_due(text: &[u8], at: usize) -> Due
-    requires { ⌜ length (now text) ≤ 65536 ⌝ }
+    requires { ⌜ length (now text) ≤ textBytes ⌝ }
     requires { ⌜ at ≤ length (now text) ⌝ }
     ensures { λ r. ⌜ DueRead StartWordIs (now (text .entry)) r (startDeclared (tokensFrom (now (text .entry)) at)) ⌝ }
     ensures { λ r. ⌜ StartWithin (length (now (text .entry))) at r ⌝ }
@@ -146,7 +149,7 @@ fn state_at(
     out: &mut [u8],
 ) -> Part
     requires { ⌜ Readable (now text) cursor (now places) (now meanings) ⌝ }
-    requires { ⌜ (length (now events) ≤ 32) × ((cursor .cells ≤ 16) × (length (now out) ≤ 8192)) ⌝ }
+    requires { ⌜ (length (now events) ≤ eventLimit) × ((cursor .cells ≤ mostCells) × (length (now out) ≤ sheetBytes)) ⌝ }
     ensures { λ r. ⌜ StateDeclared (now (text .entry))
         (meaningBy (now (text .entry)) (now (places .entry)) (cursor .sorted) (now (meanings .entry)))
         (now (events .entry)) (cursor .cells) (cursor .at) (cursor .end) (now (out .entry)) (now (out .exit)) r ⌝ }
@@ -181,7 +184,7 @@ pub fn kind_at(
     out: &mut [u8],
 ) -> Part
     requires { ⌜ Readable (now text) cursor (now places) (now meanings) ⌝ }
-    requires { ⌜ (length (now events) ≤ 32) × ((cursor .cells ≤ 16) × (length (now out) ≤ 8192)) ⌝ }
+    requires { ⌜ (length (now events) ≤ eventLimit) × ((cursor .cells ≤ mostCells) × (length (now out) ≤ sheetBytes)) ⌝ }
     ensures { λ r. ⌜ KindRead (now (text .entry))
         (meaningBy (now (text .entry)) (now (places .entry)) (cursor .sorted) (now (meanings .entry)))
         (now (events .entry)) word (cursor .cells) (cursor .at) (cursor .end) (now (out .entry)) (now (out .exit)) r ⌝ }

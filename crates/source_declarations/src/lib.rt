@@ -24,6 +24,8 @@ ghost use Rattle.source_declarations.specs.Players.{playersSaid, RightsR
 ghost use Rattle.source_declarations.specs.Declarations.{rankedOf, ParameterRead, ParameterWithin, TextEventRead, EventWithin};
 ghost use Rattle.source_declarations.specs.Declarations.{parametersDeclared, eventsDeclared, ParametersRead, EventsRead, DeclaredWithin};
 ghost use Rattle.source_declarations.specs.Written.{dueFault};
+ghost use Rattle.source_coding.specs.Bounds.{growth, nameLimit, textBytes};
+ghost use Rattle.spec_language.specs.Limits.{eventLimit, highestPlayer};
 
 // Who may send or see: the place behind it, and the players' bits, 256 where nothing is said; or a fault's word.
 pub enum Rights {
@@ -56,7 +58,7 @@ pub fn fault_of(due: Due) -> u64
 
 // The bits of players, with the one of this player.
 fn with_player(bits: u64, player: u64) -> u64
-    requires { ⌜ player ≤ 7 ⌝ }
+    requires { ⌜ player ≤ highestPlayer ⌝ }
     ensures { λ r. ⌜ ((i : ℕ) → bit r i ≡ bit bits i || eqb i player) ⌝ }
 {
     lib_bits::insert(bits, player as usize)
@@ -64,7 +66,7 @@ fn with_player(bits: u64, player: u64) -> u64
 
 // Players by number, as many as stand there.
 fn more_players(text: &[u8], at: usize) -> Rights
-    requires { ⌜ length (now text) ≤ 65536 ⌝ }
+    requires { ⌜ length (now text) ≤ textBytes ⌝ }
     requires { ⌜ at ≤ length (now text) ⌝ }
     ensures { λ r. ⌜ RightsRead (now (text .entry)) r (playersSaid (morePlayers (tokensFrom (now (text .entry)) at))) ⌝ }
     ensures { λ r. ⌜ RightsWithin (length (now (text .entry))) at r ⌝ }
@@ -96,7 +98,7 @@ fn more_players(text: &[u8], at: usize) -> Rights
 
 // Players: `nobody`, or one or more numbers.
 fn players_at(text: &[u8], at: usize) -> Rights
-    requires { ⌜ length (now text) ≤ 65536 ⌝ }
+    requires { ⌜ length (now text) ≤ textBytes ⌝ }
     requires { ⌜ at ≤ length (now text) ⌝ }
     ensures { λ r. ⌜ RightsRead (now (text .entry)) r (playersSaid (playersOf (tokensFrom (now (text .entry)) at))) ⌝ }
     ensures { λ r. ⌜ RightsWithin (length (now (text .entry))) at r ⌝ }
@@ -116,7 +118,7 @@ fn players_at(text: &[u8], at: usize) -> Rights
 
 // Who may send an event, `from ..`.
 fn from_at(text: &[u8], at: usize) -> Rights
-    requires { ⌜ length (now text) ≤ 65536 ⌝ }
+    requires { ⌜ length (now text) ≤ textBytes ⌝ }
     requires { ⌜ at ≤ length (now text) ⌝ }
     ensures { λ r. ⌜ RightsRead (now (text .entry)) r (fromOf (tokensFrom (now (text .entry)) at)) ⌝ }
     ensures { λ r. ⌜ RightsWithin (length (now (text .entry))) at r ⌝ }
@@ -130,7 +132,7 @@ fn from_at(text: &[u8], at: usize) -> Rights
 
 // Who may see a behaviour, `seen by ..`.
 pub fn seen_at(text: &[u8], at: usize) -> Rights
-    requires { ⌜ length (now text) ≤ 65536 ⌝ }
+    requires { ⌜ length (now text) ≤ textBytes ⌝ }
     requires { ⌜ at ≤ length (now text) ⌝ }
     ensures { λ r. ⌜ RightsRead (now (text .entry)) r (seenOf (tokensFrom (now (text .entry)) at)) ⌝ }
     ensures { λ r. ⌜ RightsWithin (length (now (text .entry))) at r ⌝ }
@@ -148,7 +150,7 @@ pub fn seen_at(text: &[u8], at: usize) -> Rights
 
 // The parameter whose name stands at q, from the place behind that on: its default value, where it has one.
 fn default_at(text: &[u8], q: usize, at: usize) -> Due
-    requires { ⌜ length (now text) ≤ 65536 ⌝ }
+    requires { ⌜ length (now text) ≤ textBytes ⌝ }
     requires { ⌜ at ≤ length (now text) ⌝ }
     ensures { λ r. ⌜ ParameterRead (now (text .entry)) r (defaultOf (nameAt (now (text .entry)) q) (tokensFrom (now (text .entry)) at)) ⌝ }
     ensures { λ r. ⌜ ParameterWithin (length (now (text .entry))) at r ⌝ }
@@ -166,7 +168,7 @@ fn default_at(text: &[u8], q: usize, at: usize) -> Due
 
 // A parameter, from the place behind its word on, which stands at p: the place of its name, and the place behind it.
 fn parameter_at(text: &[u8], p: usize, at: usize, names: &[usize], count: usize) -> Due
-    requires { ⌜ length (now text) ≤ 65536 ⌝ }
+    requires { ⌜ length (now text) ≤ textBytes ⌝ }
     requires { ⌜ at ≤ length (now text) ⌝ }
     requires { ⌜ p ≤ at ⌝ }
     requires { ⌜ count ≤ length (now names) ⌝ }
@@ -190,12 +192,12 @@ fn parameter_at(text: &[u8], p: usize, at: usize, names: &[usize], count: usize)
 
 // The parameters from place `at` on. The places of their names are the first of `names`.
 pub fn parameters_at(text: &[u8], at: usize, names: &mut [usize]) -> Declared
-    requires { ⌜ length (now text) ≤ 65536 ⌝ }
+    requires { ⌜ length (now text) ≤ textBytes ⌝ }
     requires { ⌜ at ≤ length (now text) ⌝ }
-    requires { ⌜ length (now names) ≡ 72 ⌝ }
+    requires { ⌜ length (now names) ≡ nameLimit ⌝ }
     ensures { λ r. ⌜ ParametersRead (now (text .entry)) (now (names .exit)) r (parametersDeclared (tokensFrom (now (text .entry)) at)) ⌝ }
     ensures { λ r. ⌜ DeclaredWithin (length (now (text .entry))) at r ⌝ }
-    ensures { λ _. ⌜ length (now (names .exit)) ≡ 72 ⌝ }
+    ensures { λ _. ⌜ length (now (names .exit)) ≡ nameLimit ⌝ }
 {
     let mut here = at;
     let mut count = 0usize;
@@ -216,7 +218,7 @@ pub fn parameters_at(text: &[u8], at: usize, names: &mut [usize]) -> Declared
 
 // The event whose name stands at q, from the place behind that on.
 fn ranked_at(text: &[u8], q: usize, at: usize) -> Event
-    requires { ⌜ length (now text) ≤ 65536 ⌝ }
+    requires { ⌜ length (now text) ≤ textBytes ⌝ }
     requires { ⌜ at ≤ length (now text) ⌝ }
     ensures { λ r. ⌜ TextEventRead (now (text .entry)) r (rankedOf (nameAt (now (text .entry)) q) (tokensFrom (now (text .entry)) at)) ⌝ }
     ensures { λ r. ⌜ EventWithin (length (now (text .entry))) at r ⌝ }
@@ -241,7 +243,7 @@ fn ranked_at(text: &[u8], q: usize, at: usize) -> Event
 
 // An event, from the place behind its word on, which stands at p.
 fn event_at(text: &[u8], p: usize, at: usize, events: &[usize], count: usize) -> Event
-    requires { ⌜ length (now text) ≤ 65536 ⌝ }
+    requires { ⌜ length (now text) ≤ textBytes ⌝ }
     requires { ⌜ at ≤ length (now text) ⌝ }
     requires { ⌜ p ≤ at ⌝ }
     requires { ⌜ count ≤ length (now events) ⌝ }
@@ -266,14 +268,14 @@ fn event_at(text: &[u8], p: usize, at: usize, events: &[usize], count: usize) ->
 // The events from place `at` on. The places of their names are the first of `events`; their fields are written from
 // place n on, as far as there is room for each.
 pub fn events_at(text: &[u8], at: usize, events: &mut [usize], out: &mut [u8], n: usize) -> Declared
-    requires { ⌜ length (now text) ≤ 65536 ⌝ }
+    requires { ⌜ length (now text) ≤ textBytes ⌝ }
     requires { ⌜ at ≤ length (now text) ⌝ }
-    requires { ⌜ length (now events) ≡ 32 ⌝ }
-    requires { ⌜ n ≤ at * 16 ⌝ }
+    requires { ⌜ length (now events) ≡ eventLimit ⌝ }
+    requires { ⌜ n ≤ at * growth ⌝ }
     ensures { λ r. ⌜ EventsRead (now (text .entry)) (now (events .exit)) n (now (out .entry)) (now (out .exit)) r
         (eventsDeclared (tokensFrom (now (text .entry)) at)) ⌝ }
     ensures { λ r. ⌜ DeclaredWithin (length (now (text .entry))) at r ⌝ }
-    ensures { λ _. ⌜ length (now (events .exit)) ≡ 32 ⌝ }
+    ensures { λ _. ⌜ length (now (events .exit)) ≡ eventLimit ⌝ }
     ensures { λ _. ⌜ length (now (out .exit)) ≡ length (now (out .entry)) ⌝ }
 {
     let mut here = at;

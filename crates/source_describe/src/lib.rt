@@ -46,10 +46,13 @@ ghost use Rattle.source_describe.specs.Walk.{handlerTokens, handlersToke
 ghost use Rattle.source_describe.specs.Walk.{passiveTokens, rowTokens, stateTokens, entryTokens, entriesTokens, senderTokens};
 ghost use Rattle.source_describe.specs.Walk.{signalTokens, signalsTokens, behavioursIn, sheetTokens};
 ghost use Rattle.source_describe.specs.Describing.{describeOn};
+ghost use Rattle.lib_base.specs.Words.{byteValues};
+ghost use Rattle.source_pen.specs.Lengths.{penLimit};
+ghost use Rattle.spec_language.specs.Limits.{eventLimit, playerLimit};
 
 // When a handler runs: at once, or later.
 fn put_phase(out: &mut [u8], pen: Pen, b: u8) -> Pen
-    requires { ⌜ pen .at ≤ 65548 ⌝ }
+    requires { ⌜ pen .at ≤ penLimit ⌝ }
     ensures { λ r. ⌜ TokensPut (now (out .entry)) (now (out .exit)) pen r (phaseTokens (phaseOf b) []) ⌝ }
 {
     if b == 0 {
@@ -75,7 +78,7 @@ fn put_handler(
     pen: Pen,
 ) -> Pen
     requires { ⌜ (first ≤ length (now s)) × (at ≤ length (now s)) × HeadsOf (now s) first (now heads) ⌝ }
-    requires { ⌜ pen .at ≤ 65548 ⌝ }
+    requires { ⌜ pen .at ≤ penLimit ⌝ }
     ensures { λ r. ⌜ TokensPut (now (out .entry)) (now (out .exit)) pen r
         (handlerTokens (length (now (s .entry))) (drop first (now (s .entry))) (drop at (now (s .entry)))) ⌝ }
 {
@@ -98,7 +101,7 @@ fn put_handlers(
     pen: Pen,
 ) -> Pen
     requires { ⌜ (first ≤ length (now s)) × (from ≤ length (now s)) × HeadsOf (now s) first (now heads) ⌝ }
-    requires { ⌜ pen .at ≤ 65548 ⌝ }
+    requires { ⌜ pen .at ≤ penLimit ⌝ }
     ensures { λ r. ⌜ TokensPut (now (out .entry)) (now (out .exit)) pen r
         (handlersTokens (length (now (s .entry))) (drop first (now (s .entry))) (length (now (s .entry)))
         (drop from (now (s .entry)))) ⌝ }
@@ -119,8 +122,8 @@ fn put_handlers(
 
 // Player i, if the last bit of m is set.
 fn put_bit(out: &mut [u8], pen: Pen, i: usize, m: usize) -> Pen
-    requires { ⌜ pen .at ≤ 65548 ⌝ }
-    requires { ⌜ i < 8 ⌝ }
+    requires { ⌜ pen .at ≤ penLimit ⌝ }
+    requires { ⌜ i < playerLimit ⌝ }
     ensures { λ r. ⌜ TokensPut (now (out .entry)) (now (out .exit)) pen r (pick (eqb (m % 2) 1) (number 0 i ∷ []) []) ⌝ }
 {
     if m % 2 == 1 {
@@ -131,8 +134,8 @@ fn put_bit(out: &mut [u8], pen: Pen, i: usize, m: usize) -> Pen
 
 // The players whose bits a byte has.
 fn put_bits(out: &mut [u8], pen: Pen, m: u8) -> Pen
-    requires { ⌜ pen .at ≤ 65548 ⌝ }
-    ensures { λ r. ⌜ TokensPut (now (out .entry)) (now (out .exit)) pen r (bitTokens 8 0 m) ⌝ }
+    requires { ⌜ pen .at ≤ penLimit ⌝ }
+    ensures { λ r. ⌜ TokensPut (now (out .entry)) (now (out .exit)) pen r (bitTokens playerLimit 0 m) ⌝ }
 {
     let mut i = 0usize;
     let mut rest = m as usize;
@@ -147,7 +150,7 @@ fn put_bits(out: &mut [u8], pen: Pen, m: u8) -> Pen
 
 // The players who may, or nobody.
 fn put_rights(out: &mut [u8], pen: Pen, m: u8) -> Pen
-    requires { ⌜ pen .at ≤ 65548 ⌝ }
+    requires { ⌜ pen .at ≤ penLimit ⌝ }
     ensures { λ r. ⌜ TokensPut (now (out .entry)) (now (out .exit)) pen r (rightTokens m) ⌝ }
 {
     if m == 0 {
@@ -159,7 +162,7 @@ fn put_rights(out: &mut [u8], pen: Pen, m: u8) -> Pen
 // Who may see, where that field stands at the place.
 fn put_viewers(s: &[u8], at: usize, out: &mut [u8], pen: Pen) -> Pen
     requires { ⌜ at ≤ length (now s) ⌝ }
-    requires { ⌜ pen .at ≤ 65548 ⌝ }
+    requires { ⌜ pen .at ≤ penLimit ⌝ }
     ensures { λ r. ⌜ TokensPut (now (out .entry)) (now (out .exit)) pen r (viewerTokens (drop at (now (s .entry)))) ⌝ }
 {
     if byte_from(s, at, 0) != tags::VIEWERS {
@@ -181,7 +184,7 @@ fn put_active(
     pen: Pen,
 ) -> Pen
     requires { ⌜ (first ≤ length (now s)) × (at ≤ length (now s)) × HeadsOf (now s) first (now heads) ⌝ }
-    requires { ⌜ pen .at ≤ 65548 ⌝ }
+    requires { ⌜ pen .at ≤ penLimit ⌝ }
     ensures { λ r. ⌜ TokensPut (now (out .entry)) (now (out .exit)) pen r
         (activeTokens (length (now (s .entry))) (drop first (now (s .entry))) (drop at (now (s .entry)))) ⌝ }
 {
@@ -203,8 +206,8 @@ fn put_passive(
     out: &mut [u8],
     pen: Pen,
 ) -> Pen
-    requires { ⌜ (first ≤ length (now s)) × (at ≤ length (now s)) × (j < 256) × HeadsOf (now s) first (now heads) ⌝ }
-    requires { ⌜ pen .at ≤ 65548 ⌝ }
+    requires { ⌜ (first ≤ length (now s)) × (at ≤ length (now s)) × (j < byteValues) × HeadsOf (now s) first (now heads) ⌝ }
+    requires { ⌜ pen .at ≤ penLimit ⌝ }
     ensures { λ r. ⌜ TokensPut (now (out .entry)) (now (out .exit)) pen r
         (passiveTokens (length (now (s .entry))) (drop first (now (s .entry))) j (drop at (now (s .entry)))) ⌝ }
 {
@@ -226,8 +229,8 @@ fn put_state(
     out: &mut [u8],
     pen: Pen,
 ) -> Pen
-    requires { ⌜ (first ≤ length (now s)) × (at ≤ length (now s)) × (j < 256) × HeadsOf (now s) first (now heads) ⌝ }
-    requires { ⌜ pen .at ≤ 65548 ⌝ }
+    requires { ⌜ (first ≤ length (now s)) × (at ≤ length (now s)) × (j < byteValues) × HeadsOf (now s) first (now heads) ⌝ }
+    requires { ⌜ pen .at ≤ penLimit ⌝ }
     ensures { λ r. ⌜ TokensPut (now (out .entry)) (now (out .exit)) pen r
         (stateTokens (length (now (s .entry))) (drop first (now (s .entry))) j (drop at (now (s .entry)))) ⌝ }
 {
@@ -247,8 +250,8 @@ fn put_row(
     out: &mut [u8],
     pen: Pen,
 ) -> Pen
-    requires { ⌜ (first ≤ length (now s)) × (at ≤ length (now s)) × (j < 256) × HeadsOf (now s) first (now heads) ⌝ }
-    requires { ⌜ pen .at ≤ 65548 ⌝ }
+    requires { ⌜ (first ≤ length (now s)) × (at ≤ length (now s)) × (j < byteValues) × HeadsOf (now s) first (now heads) ⌝ }
+    requires { ⌜ pen .at ≤ penLimit ⌝ }
     ensures { λ r. ⌜ TokensPut (now (out .entry)) (now (out .exit)) pen r
         (rowTokens (length (now (s .entry))) (drop first (now (s .entry))) j (drop at (now (s .entry)))) ⌝ }
 {
@@ -273,8 +276,8 @@ fn put_entry(
     out: &mut [u8],
     pen: Pen,
 ) -> Pen
-    requires { ⌜ (first ≤ length (now s)) × (at ≤ length (now s)) × (j < 256) × HeadsOf (now s) first (now heads) ⌝ }
-    requires { ⌜ pen .at ≤ 65548 ⌝ }
+    requires { ⌜ (first ≤ length (now s)) × (at ≤ length (now s)) × (j < byteValues) × HeadsOf (now s) first (now heads) ⌝ }
+    requires { ⌜ pen .at ≤ penLimit ⌝ }
     ensures { λ r. ⌜ TokensPut (now (out .entry)) (now (out .exit)) pen r
         (entryTokens (length (now (s .entry))) (drop first (now (s .entry))) j (drop at (now (s .entry)))) ⌝ }
 {
@@ -295,7 +298,7 @@ const LAST_BEHAVIOUR: usize = limits::BEHAVIOURS - 1;
 // The behaviours, from the first one's place on.
 fn put_entries(s: &[u8], first: usize, heads: &[u8; BYTE], out: &mut [u8], pen: Pen) -> Pen
     requires { ⌜ (first ≤ length (now s)) × HeadsOf (now s) first (now heads) ⌝ }
-    requires { ⌜ pen .at ≤ 65548 ⌝ }
+    requires { ⌜ pen .at ≤ penLimit ⌝ }
     ensures { λ r. ⌜ TokensPut (now (out .entry)) (now (out .exit)) pen r
         (entriesTokens (length (now (s .entry))) (drop first (now (s .entry))) (length (now (s .entry))) 0
         (drop first (now (s .entry)))) ⌝ }
@@ -327,7 +330,7 @@ const BOTH: u8 = sizes::PAIR as u8;
 // Who may send, where the event's field at the place says it.
 fn put_senders(s: &[u8], at: usize, out: &mut [u8], pen: Pen) -> Pen
     requires { ⌜ at ≤ length (now s) ⌝ }
-    requires { ⌜ pen .at ≤ 65548 ⌝ }
+    requires { ⌜ pen .at ≤ penLimit ⌝ }
     ensures { λ r. ⌜ TokensPut (now (out .entry)) (now (out .exit)) pen r (senderTokens (drop at (now (s .entry)))) ⌝ }
 {
     if byte_from(s, at, places::LOW_LENGTH) != BOTH {
@@ -340,8 +343,8 @@ fn put_senders(s: &[u8], at: usize, out: &mut [u8], pen: Pen) -> Pen
 
 // Event i, whose field stands at the place.
 fn put_signal(s: &[u8], at: usize, i: usize, out: &mut [u8], pen: Pen) -> Pen
-    requires { ⌜ (at ≤ length (now s)) × (i < 256) ⌝ }
-    requires { ⌜ pen .at ≤ 65548 ⌝ }
+    requires { ⌜ (at ≤ length (now s)) × (i < byteValues) ⌝ }
+    requires { ⌜ pen .at ≤ penLimit ⌝ }
     ensures { λ r. ⌜ TokensPut (now (out .entry)) (now (out .exit)) pen r (signalTokens i (drop at (now (s .entry)))) ⌝ }
 {
     let rank = byte_from(s, at, sizes::HEADER) as u64;
@@ -354,8 +357,8 @@ fn put_signal(s: &[u8], at: usize, i: usize, out: &mut [u8], pen: Pen) -> Pen
 
 // The events, from the sheet's start on.
 fn put_signals(s: &[u8], out: &mut [u8], pen: Pen) -> Pen
-    requires { ⌜ pen .at ≤ 65548 ⌝ }
-    ensures { λ r. ⌜ TokensPut (now (out .entry)) (now (out .exit)) pen r (signalsTokens 32 0 (now (s .entry))) ⌝ }
+    requires { ⌜ pen .at ≤ penLimit ⌝ }
+    ensures { λ r. ⌜ TokensPut (now (out .entry)) (now (out .exit)) pen r (signalsTokens eventLimit 0 (now (s .entry))) ⌝ }
 {
     let mut at = 0usize;
     let mut i = 0usize;
@@ -373,8 +376,8 @@ fn put_signals(s: &[u8], out: &mut [u8], pen: Pen) -> Pen
 
 // So many parameters.
 fn put_parameters(out: &mut [u8], pen: Pen, n: usize) -> Pen
-    requires { ⌜ pen .at ≤ 65548 ⌝ }
-    requires { ⌜ n ≤ 256 ⌝ }
+    requires { ⌜ pen .at ≤ penLimit ⌝ }
+    requires { ⌜ n ≤ byteValues ⌝ }
     ensures { λ r. ⌜ TokensPut (now (out .entry)) (now (out .exit)) pen r (parameterTokens (parametersFrom n 0) []) ⌝ }
 {
     let mut i = 0usize;
@@ -389,7 +392,7 @@ fn put_parameters(out: &mut [u8], pen: Pen, n: usize) -> Pen
 
 // The whole text, of n parameters; the behaviours stand from `first` on, and have those first cells.
 fn put_text(s: &[u8], first: usize, n: usize, heads: &[u8; BYTE], out: &mut [u8]) -> Pen
-    requires { ⌜ (first ≤ length (now s)) × (n ≤ 256) × HeadsOf (now s) first (now heads) ⌝ }
+    requires { ⌜ (first ≤ length (now s)) × (n ≤ byteValues) × HeadsOf (now s) first (now heads) ⌝ }
     requires { ⌜ (drop first (now s) ≡ behavioursIn (now s)) × (n ≡ neededIn 0 0 0 (drop first (now s))) ⌝ }
     ensures { λ r. ⌜ TokensPut (now (out .entry)) (now (out .exit)) startPen r (sheetTokens (now (s .entry))) ⌝ }
 {
@@ -405,7 +408,7 @@ const ACCEPTED: u64 = 4294967296;
 // The text of an accepted sheet at the buffer's start, if there is room for it. It is counted first where the buffer
 // has not room for every text.
 fn put_result(sheet: &[u8], buffer: &mut [u8]) -> u64
-    requires { ⌜ numberOn (now sheet) (replicate 32 0) ≡ 0 ⌝ }
+    requires { ⌜ numberOn (now sheet) (replicate eventLimit 0) ≡ 0 ⌝ }
     ensures { λ r. ⌜ answered r (now (buffer .exit)) ≡ describeOn (now (sheet .entry)) (now (buffer .entry)) ⌝ }
 {
     let first = past_fields(sheet, 0, tags::EVENT);

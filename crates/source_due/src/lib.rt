@@ -11,6 +11,8 @@ ghost use Prim.Native.Nat.{_≤_, _<_, _+_, _*_, _-_, _%_};
 ghost use lib.ListN.{length};
 ghost use Rattle.source_language.specs.Tokens.{endSign};
 ghost use Rattle.source_due.specs.Due.{SignTold, NameTold, NumberTold, ValueTold, DueWithin};
+ghost use Rattle.lib_base.specs.Words.{wordValues};
+ghost use Rattle.source_coding.specs.Bounds.{largestNegated, lastFault, textBytes};
 
 // What is due: its place, its number (of a sign, a number or a constant; 0 for a name) and the place behind it; or a
 // fault's word.
@@ -21,16 +23,16 @@ pub enum Due {
 
 // A fault's word: its kind and its place.
 pub fn fault_word(kind: u64, place: usize) -> u64
-    requires { ⌜ kind ≤ 42 ⌝ }
-    requires { ⌜ place ≤ 65536 ⌝ }
-    ensures { λ r. ⌜ r ≡ kind * 4294967296 + place ⌝ }
+    requires { ⌜ kind ≤ lastFault ⌝ }
+    requires { ⌜ place ≤ textBytes ⌝ }
+    ensures { λ r. ⌜ r ≡ kind * wordValues + place ⌝ }
 {
     kind * faults::KIND + (place as u64)
 }
 
 // This sign.
 pub fn sign_due(text: &[u8], at: usize, sign: u8) -> Due
-    requires { ⌜ length (now text) ≤ 65536 ⌝ }
+    requires { ⌜ length (now text) ≤ textBytes ⌝ }
     requires { ⌜ at ≤ length (now text) ⌝ }
     requires { ⌜ sign < endSign ⌝ }
     requires { ⌜ 0 < sign ⌝ }
@@ -49,7 +51,7 @@ pub fn sign_due(text: &[u8], at: usize, sign: u8) -> Due
 
 // A name.
 pub fn name_due(text: &[u8], at: usize) -> Due
-    requires { ⌜ length (now text) ≤ 65536 ⌝ }
+    requires { ⌜ length (now text) ≤ textBytes ⌝ }
     requires { ⌜ at ≤ length (now text) ⌝ }
     ensures { λ r. ⌜ NameTold (now (text .entry)) at r ⌝ }
     ensures { λ r. ⌜ DueWithin (length (now (text .entry))) at r ⌝ }
@@ -63,9 +65,9 @@ pub fn name_due(text: &[u8], at: usize) -> Due
 
 // A number of at most `top`.
 pub fn number_due(text: &[u8], at: usize, top: u64) -> Due
-    requires { ⌜ length (now text) ≤ 65536 ⌝ }
+    requires { ⌜ length (now text) ≤ textBytes ⌝ }
     requires { ⌜ at ≤ length (now text) ⌝ }
-    requires { ⌜ top ≤ 2147483648 ⌝ }
+    requires { ⌜ top ≤ largestNegated ⌝ }
     ensures { λ r. ⌜ NumberTold (now (text .entry)) at top r ⌝ }
     ensures { λ r. ⌜ DueWithin (length (now (text .entry))) at r ⌝ }
 {
@@ -81,15 +83,15 @@ pub fn number_due(text: &[u8], at: usize, top: u64) -> Due
 
 // The word of a negative constant, 2 ^ 32 less than which it is.
 fn negated(n: u64) -> u64
-    requires { ⌜ n ≤ 4294967296 ⌝ }
-    ensures { λ r. ⌜ r ≡ (4294967296 - n) % 4294967296 ⌝ }
+    requires { ⌜ n ≤ wordValues ⌝ }
+    ensures { λ r. ⌜ r ≡ (wordValues - n) % wordValues ⌝ }
 {
     (tokens::WORDS - n) % tokens::WORDS
 }
 
 // A constant: a number, or `-` and a number.
 pub fn value_at(text: &[u8], at: usize) -> Due
-    requires { ⌜ length (now text) ≤ 65536 ⌝ }
+    requires { ⌜ length (now text) ≤ textBytes ⌝ }
     requires { ⌜ at ≤ length (now text) ⌝ }
     ensures { λ r. ⌜ ValueTold (now (text .entry)) at r ⌝ }
     ensures { λ r. ⌜ DueWithin (length (now (text .entry))) at r ⌝ }

@@ -6,6 +6,7 @@ ghost use Prim.Native.Nat.{_≤_};
 ghost use lib.ListN.{length};
 ghost use Rattle.source_coding.specs.FaultWords.{firstFault};
 ghost use Rattle.source_field.specs.Fields.{underBy, appliedBy, headedIn, Headable};
+ghost use Rattle.sheet_field.specs.Sizes.{longestValue};
 
 // A formula read: the place behind it, how deep it nests, the end of its field, the first fault of its names (a word, 0
 // for none); or a fault's word.
@@ -48,7 +49,7 @@ pub fn under(d: usize, v: u64, r: Read) -> Read
 // names' first fault.
 pub fn close(f: u8, start: usize, d: usize, v: u64, r: Read, out: &mut [u8]) -> Read
     requires { ⌜ Headable start d r ⌝ }
-    requires { ⌜ length (now out) ≤ 65535 ⌝ }
+    requires { ⌜ length (now out) ≤ longestValue ⌝ }
     ensures { λ q. ⌜ q ≡ appliedBy d v r ⌝ }
     ensures { λ _. ⌜ now (out .exit) ≡ headedIn f start r (now (out .entry)) ⌝ }
 {

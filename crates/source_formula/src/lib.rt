@@ -27,6 +27,11 @@ ghost use Rattle.source_tokens.specs.Token.{PassedOver};
 ghost use Rattle.source_names.specs.Known.{meaningBy};
 ghost use Rattle.source_field.specs.Formula.{Readable, FormulaRead, FormulaWithin, FewerLeft, PartRead};
 ghost use Rattle.source_formula.specs.Arguments.{FormulaReadable, ArgumentRoom, ArgumentAfter};
+ghost use Rattle.lib_signature.specs.Levels.{disjunction};
+ghost use Rattle.sheet_field.specs.Sizes.{longestValue};
+ghost use Rattle.source_coding.specs.Bounds.{textBytes};
+ghost use Rattle.source_names.specs.Units.{meaningLimit};
+ghost use Rattle.spec_language.specs.Limits.{nestingLimit};
 
 // The formula that begins at the cursor. The names at `places` are known, so many of them in order; `meanings` has the
 // number for each that tells what it means. The field is written to `out`, where it fits.
@@ -38,12 +43,12 @@ pub fn formula_at(
     out: &mut [u8],
 ) -> Read
     requires { ⌜ Readable (now text) cursor (now places) (now meanings) ⌝ }
-    requires { ⌜ length (now out) ≤ 65535 ⌝ }
+    requires { ⌜ length (now out) ≤ longestValue ⌝ }
     ensures { λ r. ⌜ FormulaRead (now (text .entry))
         (meaningBy (now (text .entry)) (now (places .entry)) (cursor .sorted) (now (meanings .entry))) (cursor .cells)
         (cursor .end) (now (out .entry)) (now (out .exit)) r
         (formulaOf (tokensFrom (now (text .entry)) (cursor .at))) ⌝ }
-    ensures { λ r. ⌜ FormulaWithin (length (now (text .entry))) 16 (cursor .at) (cursor .end) r ⌝ }
+    ensures { λ r. ⌜ FormulaWithin (length (now (text .entry))) nestingLimit (cursor .at) (cursor .end) r ⌝ }
     ensures { λ r. ⌜ FewerLeft (now (text .entry)) (cursor .at) r ⌝ }
     ensures { λ _. ⌜ length (now (out .exit)) ≡ length (now (out .entry)) ⌝ }
 {
@@ -62,7 +67,7 @@ fn phrase(
     out: &mut [u8],
 ) -> Read
     requires { ⌜ FormulaReadable (now text) cursor (now places) (now meanings) (now out) ⌝ }
-    requires { ⌜ (level ≤ 6) × (0 < cursor .room) × (cursor .room ≤ 16) ⌝ }
+    requires { ⌜ (level ≤ disjunction) × (0 < cursor .room) × (cursor .room ≤ nestingLimit) ⌝ }
     ensures { λ r. ⌜ PartRead (now (text .entry))
         (meaningBy (now (text .entry)) (now (places .entry)) (cursor .sorted) (now (meanings .entry))) (cursor .cells)
         (cursor .room) (cursor .at) (cursor .end) (now (out .entry)) (now (out .exit)) r
@@ -105,7 +110,7 @@ fn primary(
     out: &mut [u8],
 ) -> Read
     requires { ⌜ FormulaReadable (now text) cursor (now places) (now meanings) (now out) ⌝ }
-    requires { ⌜ (0 < cursor .room) × (cursor .room ≤ 16) × PassedOver (now text) (cursor .at) (cursor .at) ⌝ }
+    requires { ⌜ (0 < cursor .room) × (cursor .room ≤ nestingLimit) × PassedOver (now text) (cursor .at) (cursor .at) ⌝ }
     ensures { λ r. ⌜ PartRead (now (text .entry))
         (meaningBy (now (text .entry)) (now (places .entry)) (cursor .sorted) (now (meanings .entry))) (cursor .cells)
         (cursor .room) (cursor .at) (cursor .end) (now (out .entry)) (now (out .exit)) r
@@ -134,11 +139,11 @@ fn primary(
 // The three arguments of an `if`, from the place behind it on.
 fn choice(text: &[u8], cursor: Cursor, places: &[usize], meanings: &[usize], out: &mut [u8]) -> Read
     requires { ⌜ FormulaReadable (now text) cursor (now places) (now meanings) (now out) ⌝ }
-    requires { ⌜ (1 < cursor .room) × (cursor .room ≤ 16) ⌝ }
+    requires { ⌜ (1 < cursor .room) × (cursor .room ≤ nestingLimit) ⌝ }
     ensures { λ r. ⌜ PartRead (now (text .entry))
         (meaningBy (now (text .entry)) (now (places .entry)) (cursor .sorted) (now (meanings .entry))) (cursor .cells)
         (cursor .room) (cursor .at) (cursor .end) (now (out .entry)) (now (out .exit)) r
-        (readChoice (phraseWithin (cursor .room - 1) 6) (tokensFrom (now (text .entry)) (cursor .at))) ⌝ }
+        (readChoice (phraseWithin (cursor .room - 1) disjunction) (tokensFrom (now (text .entry)) (cursor .at))) ⌝ }
 {
     let mut r = Read::Done(cursor.at, 0, cursor.end, 0);
     r = argument(text, OPENING, cursor, r, places, meanings, out);
@@ -158,10 +163,10 @@ fn argument(
     meanings: &[usize],
     out: &mut [u8],
 ) -> Read
-    requires { ⌜ (length (now text) ≤ 65536) × ArgumentRoom (length (now text)) r ⌝ }
-    requires { ⌜ (cursor .sorted ≤ length (now places)) × All (λ m. m < 8320) (now meanings) × (length (now out) ≤ 65535) ⌝ }
+    requires { ⌜ (length (now text) ≤ textBytes) × ArgumentRoom (length (now text)) r ⌝ }
+    requires { ⌜ (cursor .sorted ≤ length (now places)) × All (λ m. m < meaningLimit) (now meanings) × (length (now out) ≤ longestValue) ⌝ }
     requires { ⌜ (0 < sign) × (sign < endSign) ⌝ }
-    requires { ⌜ (1 < cursor .room) × (cursor .room ≤ 16) ⌝ }
+    requires { ⌜ (1 < cursor .room) × (cursor .room ≤ nestingLimit) ⌝ }
     ensures { λ q. ⌜ ArgumentAfter (now (text .entry))
         (meaningBy (now (text .entry)) (now (places .entry)) (cursor .sorted) (now (meanings .entry))) (cursor .cells) sign
         (cursor .room) (now (out .entry)) (now (out .exit)) r q ⌝ }

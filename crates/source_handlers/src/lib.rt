@@ -23,6 +23,8 @@ ghost use Rattle.source_field.specs.Formula.{Readable};
 ghost use Rattle.source_handlers.specs.Parts.{PartWithin, DueRead, refusedRead};
 ghost use Rattle.source_handlers.specs.Handlers.{HandledEventRead, HandledEventWithin, PhaseNumbered, PhaseWithin};
 ghost use Rattle.source_handlers.specs.Handlers.{ColonRead, phaseDeclared, HandlerRead, HandlersRead};
+ghost use Rattle.source_coding.specs.Bounds.{handledLength, textBytes};
+ghost use Rattle.spec_language.specs.Limits.{eventLimit, sheetBytes};
 
 const MARKS: usize = limits::EVENTS + 1;
 
@@ -50,9 +52,9 @@ pub fn refused_formula(read: Read) -> Part
 
 // The event that a handler is for: declared, and `handled` has no mark for its number yet.
 fn event_due(text: &[u8], at: usize, events: &[usize], handled: &[u8]) -> Due
-    requires { ⌜ length (now text) ≤ 65536 ⌝ }
+    requires { ⌜ length (now text) ≤ textBytes ⌝ }
     requires { ⌜ at ≤ length (now text) ⌝ }
-    requires { ⌜ (length (now events) ≤ 32) × (length (now handled) ≡ 33) ⌝ }
+    requires { ⌜ (length (now events) ≤ eventLimit) × (length (now handled) ≡ handledLength) ⌝ }
     ensures { λ r. ⌜ HandledEventRead (now (text .entry)) (now (events .entry)) (now (handled .entry)) at r ⌝ }
     ensures { λ r. ⌜ DueWithin (length (now (text .entry))) at r ⌝ }
     ensures { λ r. ⌜ HandledEventWithin (length (now (events .entry))) r ⌝ }
@@ -73,7 +75,7 @@ fn event_due(text: &[u8], at: usize, events: &[usize], handled: &[u8]) -> Due
 
 // The colon before a handler's formula; its number is the phase.
 fn colon_due(text: &[u8], at: usize, phase: u64) -> Due
-    requires { ⌜ length (now text) ≤ 65536 ⌝ }
+    requires { ⌜ length (now text) ≤ textBytes ⌝ }
     requires { ⌜ at ≤ length (now text) ⌝ }
     requires { ⌜ phase ≤ 1 ⌝ }
     ensures { λ r. ⌜ ColonRead (now (text .entry)) at phase r ⌝ }
@@ -88,7 +90,7 @@ fn colon_due(text: &[u8], at: usize, phase: u64) -> Due
 
 // The phase and the colon.
 fn phase_due(text: &[u8], at: usize) -> Due
-    requires { ⌜ length (now text) ≤ 65536 ⌝ }
+    requires { ⌜ length (now text) ≤ textBytes ⌝ }
     requires { ⌜ at ≤ length (now text) ⌝ }
     ensures { λ r. ⌜ DueRead PhaseNumbered (now (text .entry)) r (phaseDeclared (tokensFrom (now (text .entry)) at)) ⌝ }
     ensures { λ r. ⌜ PhaseWithin (length (now (text .entry))) at r ⌝ }
@@ -110,7 +112,7 @@ fn body_at(
     out: &mut [u8],
 ) -> Part
     requires { ⌜ Readable (now text) cursor (now places) (now meanings) ⌝ }
-    requires { ⌜ (e < 32) × (length (now out) ≤ 8192) ⌝ }
+    requires { ⌜ (e < eventLimit) × (length (now out) ≤ sheetBytes) ⌝ }
     ensures { λ r. ⌜ HandlerRead (now (text .entry))
         (meaningBy (now (text .entry)) (now (places .entry)) (cursor .sorted) (now (meanings .entry))) (cursor .cells) e
         (cursor .at) (cursor .end) (now (out .entry)) (now (out .exit)) r ⌝ }
@@ -144,7 +146,7 @@ pub fn handlers_at(
     out: &mut [u8],
 ) -> Part
     requires { ⌜ Readable (now text) cursor (now places) (now meanings) ⌝ }
-    requires { ⌜ (length (now events) ≤ 32) × (length (now out) ≤ 8192) ⌝ }
+    requires { ⌜ (length (now events) ≤ eventLimit) × (length (now out) ≤ sheetBytes) ⌝ }
     ensures { λ r. ⌜ HandlersRead (now (text .entry))
         (meaningBy (now (text .entry)) (now (places .entry)) (cursor .sorted) (now (meanings .entry))) (cursor .cells)
         (now (events .entry)) (cursor .at) (cursor .end) (now (out .entry)) (now (out .exit)) r ⌝ }

@@ -14,6 +14,9 @@ ghost use Prim.Native.Nat.{_≤_, _<_, _+_};
 ghost use lib.ListN.{length};
 ghost use Rattle.lib_base.specs.Basics.{All};
 ghost use Rattle.source_hint.specs.Hint.{SeenWithin, HintUsable, HintRight};
+ghost use Rattle.source_coding.specs.Bounds.{firstCells, nameLimit, textBytes};
+ghost use Rattle.source_hint.specs.Block.{blockBytes};
+ghost use Rattle.spec_language.specs.Limits.{behaviourLimit, mostCells};
 
 // So many bytes are looked at together.
 const BLOCK: usize = 16;
@@ -53,7 +56,7 @@ fn may_declare(b: u8, c: u8) -> bool {
 
 // Nothing is sought in a block. All bytes are looked at, so that they can be at once.
 fn is_idle(text: &[u8], at: usize) -> bool
-    requires { ⌜ at + 16 < length (now text) ⌝ }
+    requires { ⌜ at + blockBytes < length (now text) ⌝ }
 {
     let mut sought = false;
     let mut k = 0;
@@ -66,7 +69,7 @@ fn is_idle(text: &[u8], at: usize) -> bool
 
 // Where a block begins, the first one from there on that has something to look at.
 fn pass_idle(text: &[u8], at: usize) -> usize
-    requires { ⌜ length (now text) ≤ 65536 ⌝ }
+    requires { ⌜ length (now text) ≤ textBytes ⌝ }
     requires { ⌜ at < length (now text) ⌝ }
     ensures { λ r. ⌜ (at ≤ r) × (r < length (now (text .entry))) ⌝ }
 {
@@ -103,7 +106,7 @@ fn is_inside(text: &[u8], at: usize) -> bool
 
 // A word that declares a name begins at a place.
 fn is_declaring(text: &[u8], at: usize) -> bool
-    requires { ⌜ length (now text) ≤ 65536 ⌝ }
+    requires { ⌜ length (now text) ≤ textBytes ⌝ }
     requires { ⌜ at < length (now text) ⌝ }
 {
     if !may_declare(text[at], byte_at(text, at + 1)) {
@@ -121,7 +124,7 @@ fn is_declaring(text: &[u8], at: usize) -> bool
 
 // The next place to look at: a comment is passed over.
 fn onward(text: &[u8], at: usize) -> usize
-    requires { ⌜ length (now text) ≤ 65536 ⌝ }
+    requires { ⌜ length (now text) ≤ textBytes ⌝ }
     requires { ⌜ at < length (now text) ⌝ }
     ensures { λ r. ⌜ (at < r) × (r ≤ length (now (text .entry))) ⌝ }
 {
@@ -133,7 +136,7 @@ fn onward(text: &[u8], at: usize) -> usize
 
 // The next place where a word begins that declares, outside of comments; else the text's end.
 fn next_declaring(text: &[u8], at: usize) -> usize
-    requires { ⌜ length (now text) ≤ 65536 ⌝ }
+    requires { ⌜ length (now text) ≤ textBytes ⌝ }
     requires { ⌜ at ≤ length (now text) ⌝ }
     ensures { λ r. ⌜ r ≤ length (now (text .entry)) ⌝ }
 {
@@ -150,9 +153,9 @@ fn next_declaring(text: &[u8], at: usize) -> usize
 
 // The cells of a row from `[` on; 1 for another behaviour, none for a parameter or where no count stands.
 fn cells_at(text: &[u8], at: usize, word: u8) -> usize
-    requires { ⌜ length (now text) ≤ 65536 ⌝ }
+    requires { ⌜ length (now text) ≤ textBytes ⌝ }
     requires { ⌜ at ≤ length (now text) ⌝ }
-    ensures { λ r. ⌜ r ≤ 16 ⌝ }
+    ensures { λ r. ⌜ r ≤ mostCells ⌝ }
 {
     if word == signs::PARAM {
         return 0;
@@ -173,7 +176,7 @@ fn cells_at(text: &[u8], at: usize, word: u8) -> usize
 
 // The declaration whose word begins at a place.
 fn declared_at(text: &[u8], at: usize) -> Declaration
-    requires { ⌜ length (now text) ≤ 65536 ⌝ }
+    requires { ⌜ length (now text) ≤ textBytes ⌝ }
     requires { ⌜ at ≤ length (now text) ⌝ }
     ensures { λ r. ⌜ SeenWithin (length (now (text .entry))) r ⌝ }
 {
@@ -202,11 +205,11 @@ fn parameters_of(cells: usize) -> usize
 // The places of the names that a text seems to declare, and the numbers of the behaviours' first cells; as far as there
 // may be so many.
 pub fn hint_of(text: &[u8], names: &mut [usize], starts: &mut [usize]) -> Hint
-    requires { ⌜ length (now text) ≤ 65536 ⌝ }
-    requires { ⌜ length (now names) ≡ 72 ⌝ }
-    requires { ⌜ (length (now starts) ≡ 65) × All (λ i. i ≤ 64) (now starts) ⌝ }
+    requires { ⌜ length (now text) ≤ textBytes ⌝ }
+    requires { ⌜ length (now names) ≡ nameLimit ⌝ }
+    requires { ⌜ (length (now starts) ≡ firstCells) × All (λ i. i ≤ behaviourLimit) (now starts) ⌝ }
     ensures { λ r. ⌜ HintUsable r (now (starts .exit)) ⌝ }
-    ensures { λ _. ⌜ length (now (names .exit)) ≡ 72 ⌝ }
+    ensures { λ _. ⌜ length (now (names .exit)) ≡ nameLimit ⌝ }
 {
     let mut params = 0usize;
     let mut count = 0usize;

@@ -14,12 +14,15 @@ ghost use Rattle.lib_base.specs.Basics.{All};
 ghost use Rattle.source_coding.specs.Places.{nameAt};
 ghost use Rattle.source_names.specs.Known.{cellsMeant, meaningNumber};
 ghost use Rattle.source_index.specs.Index.{MeaningsPut, AllFound};
+ghost use Rattle.source_coding.specs.Bounds.{nameLimit};
+ghost use Rattle.source_names.specs.Units.{meaningLimit};
+ghost use Rattle.spec_language.specs.Limits.{behaviourLimit};
 
 // The number of a behaviour's first cell; 0 past the list's end.
 fn cell_at(firsts: &[usize], i: usize) -> usize
-    requires { ⌜ All (λ k. k ≤ 64) (now firsts) ⌝ }
+    requires { ⌜ All (λ k. k ≤ behaviourLimit) (now firsts) ⌝ }
     ensures { λ r. ⌜ r ≡ getD (now (firsts .entry)) i 0 ⌝ }
-    ensures { λ r. ⌜ r ≤ 64 ⌝ }
+    ensures { λ r. ⌜ r ≤ behaviourLimit ⌝ }
 {
     if i < firsts.len() {
         return firsts[i];
@@ -29,10 +32,10 @@ fn cell_at(firsts: &[usize], i: usize) -> usize
 
 // The number for a behaviour or a row from its first cell to the next one's.
 fn cells_number(first: usize, next: usize) -> usize
-    requires { ⌜ first ≤ 64 ⌝ }
-    requires { ⌜ next ≤ 64 ⌝ }
+    requires { ⌜ first ≤ behaviourLimit ⌝ }
+    requires { ⌜ next ≤ behaviourLimit ⌝ }
     ensures { λ r. ⌜ r ≡ cellsMeant first (next - first) ⌝ }
-    ensures { λ r. ⌜ r < 8320 ⌝ }
+    ensures { λ r. ⌜ r < meaningLimit ⌝ }
 {
     if next < first + 2 {
         return first + CELL;
@@ -42,10 +45,10 @@ fn cells_number(first: usize, next: usize) -> usize
 
 // The number that tells what the j-th name means.
 fn number_of(j: usize, params: usize, firsts: &[usize]) -> usize
-    requires { ⌜ j ≤ 72 ⌝ }
-    requires { ⌜ All (λ k. k ≤ 64) (now firsts) ⌝ }
+    requires { ⌜ j ≤ nameLimit ⌝ }
+    requires { ⌜ All (λ k. k ≤ behaviourLimit) (now firsts) ⌝ }
     ensures { λ r. ⌜ r ≡ meaningNumber params (now (firsts .entry)) j ⌝ }
-    ensures { λ r. ⌜ r < 8320 ⌝ }
+    ensures { λ r. ⌜ r < meaningLimit ⌝ }
 {
     if j < params {
         return j;
@@ -64,10 +67,10 @@ pub fn put_meanings(
     places: &[usize],
     meanings: &mut [usize],
 )
-    requires { ⌜ length (now names) ≤ 72 ⌝ }
-    requires { ⌜ All (λ k. k ≤ 64) (now firsts) ⌝ }
+    requires { ⌜ length (now names) ≤ nameLimit ⌝ }
+    requires { ⌜ All (λ k. k ≤ behaviourLimit) (now firsts) ⌝ }
     requires { ⌜ length (now places) ≤ length (now meanings) ⌝ }
-    requires { ⌜ All (λ m. m < 8320) (now meanings) ⌝ }
+    requires { ⌜ All (λ m. m < meaningLimit) (now meanings) ⌝ }
     ensures { λ _. ⌜ MeaningsPut (now (text .entry)) (now (names .entry)) params (now (firsts .entry)) (now (places .entry)) (length (now (places .entry))) (now (meanings .entry)) (now (meanings .exit)) ⌝ }
 {
     let mut k = 0;

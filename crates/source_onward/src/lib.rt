@@ -19,6 +19,8 @@ ghost use lib.ListN.{length};
 ghost use Rattle.source_coding.specs.Places.{tokensFrom};
 ghost use Rattle.source_tokens.specs.Token.{PassedOver};
 ghost use Rattle.source_onward.specs.Onward.{StandsFor, SignBefore, SignAhead, BracketsOpened, joinsIn, onwardOf, OnwardRead, ReadInside, EndedRead};
+ghost use Rattle.lib_signature.specs.Levels.{disjunction};
+ghost use Rattle.source_coding.specs.Bounds.{textBytes};
 
 // The place of a token, its sign's number, 0 for another token, and the place behind it.
 pub struct Standing {
@@ -68,7 +70,7 @@ fn standing_of(token: Token) -> Standing
 // The sign at a token's place, as far as an operand begins by it: `!` and `if` do, and of a token with another first
 // byte no more is read.
 pub fn sign_before(text: &[u8], at: usize) -> Standing
-    requires { ⌜ length (now text) ≤ 65536 ⌝ }
+    requires { ⌜ length (now text) ≤ textBytes ⌝ }
     requires { ⌜ PassedOver (now text) at at ⌝ }
     ensures { λ r. ⌜ SignBefore (now (text .entry)) at (r .place) (r .sign) (r .next) ⌝ }
 {
@@ -88,7 +90,7 @@ pub fn sign_before(text: &[u8], at: usize) -> Standing
 // The sign ahead, as far as a formula goes on by it: it does by no word, of which only the first byte is read. Behind a
 // sign is the place of the next token, for all formulas that end there.
 fn sign_ahead(text: &[u8], at: usize) -> Standing
-    requires { ⌜ length (now text) ≤ 65536 ⌝ }
+    requires { ⌜ length (now text) ≤ textBytes ⌝ }
     requires { ⌜ at ≤ length (now text) ⌝ }
     ensures { λ r. ⌜ SignAhead (now (text .entry)) at (r .place) (r .sign) (r .next) ⌝ }
 {
@@ -114,7 +116,7 @@ fn sign_ahead(text: &[u8], at: usize) -> Standing
 
 // The brackets that open from a place on, and the token behind them.
 pub fn brackets_at(text: &[u8], at: usize) -> Brackets
-    requires { ⌜ length (now text) ≤ 65536 ⌝ }
+    requires { ⌜ length (now text) ≤ textBytes ⌝ }
     requires { ⌜ at ≤ length (now text) ⌝ }
     ensures { λ r. ⌜ BracketsOpened (now (text .entry)) at (r .first) (r .opened) ⌝ }
 {
@@ -156,7 +158,7 @@ fn onward_of(
     depth: usize,
     room: usize,
 ) -> Onward
-    requires { ⌜ place ≤ 65536 ⌝ }
+    requires { ⌜ place ≤ textBytes ⌝ }
     ensures { λ r. ⌜ r ≡ onwardOf place sign next level opened depth room ⌝ }
 {
     let t = lib_signature::level_of(sign);
@@ -185,9 +187,9 @@ pub fn onward_at(
     depth: usize,
     room: usize,
 ) -> Onward
-    requires { ⌜ length (now text) ≤ 65536 ⌝ }
+    requires { ⌜ length (now text) ≤ textBytes ⌝ }
     requires { ⌜ at ≤ length (now text) ⌝ }
-    requires { ⌜ level ≤ 6 ⌝ }
+    requires { ⌜ level ≤ disjunction ⌝ }
     ensures { λ r. ⌜ OnwardRead (now (text .entry)) at level opened depth room r ⌝ }
     ensures { λ _. ⌜ 0 < length (tokensFrom (now (text .entry)) at) ⌝ }
 {
@@ -210,7 +212,7 @@ pub fn onward_at(
 
 // A closing bracket is due after what was read.
 pub fn ended(text: &[u8], r: Read) -> Read
-    requires { ⌜ length (now text) ≤ 65536 ⌝ }
+    requires { ⌜ length (now text) ≤ textBytes ⌝ }
     requires { ⌜ ReadInside (length (now text)) r ⌝ }
     ensures { λ q. ⌜ EndedRead (now (text .entry)) r q ⌝ }
 {

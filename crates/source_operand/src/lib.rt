@@ -30,6 +30,10 @@ ghost use Rattle.source_due.specs.Due.{DueWithin};
 ghost use Rattle.source_field.specs.Formula.{Readable, FormulaRead, FormulaWithin, FewerLeft, PartRead};
 ghost use Rattle.source_operand.specs.Operand.{meantBy, MeaningWithin, LeafAs, LeafWithin, leafDone, leafPlaced};
 ghost use Rattle.source_operand.specs.Operand.{CellDue, NoMoreLeft, plainOf, PlaceWithin, SettledRead};
+ghost use Rattle.source_coding.specs.Bounds.{textBytes};
+ghost use Rattle.source_field.specs.Ends.{fieldEnd};
+ghost use Rattle.source_names.specs.Units.{cellUnit, meaningLimit};
+ghost use Rattle.spec_language.specs.Limits.{behaviourLimit};
 
 // What a name means: nothing, a parameter, a behaviour, or a row by its first cell and its count.
 pub enum Meaning {
@@ -47,9 +51,9 @@ pub enum Leaf {
 
 // The meaning at a place of the list; 0 past its end.
 fn number_at(meanings: &[usize], i: usize) -> usize
-    requires { ⌜ All (λ m. m < 8320) (now meanings) ⌝ }
+    requires { ⌜ All (λ m. m < meaningLimit) (now meanings) ⌝ }
     ensures { λ r. ⌜ r ≡ getD (now (meanings .entry)) i 0 ⌝ }
-    ensures { λ r. ⌜ r < 8320 ⌝ }
+    ensures { λ r. ⌜ r < meaningLimit ⌝ }
 {
     if i < meanings.len() {
         return meanings[i];
@@ -59,8 +63,8 @@ fn number_at(meanings: &[usize], i: usize) -> usize
 
 // The behaviour or row from a first cell on, by how many cells it has.
 fn behaviour_or_row(first: usize, cells: usize) -> Meaning
-    requires { ⌜ first < 128 ⌝ }
-    requires { ⌜ cells ≤ 64 ⌝ }
+    requires { ⌜ first < cellUnit ⌝ }
+    requires { ⌜ cells ≤ behaviourLimit ⌝ }
     ensures { λ r. ⌜ meantBy r ≡ behaviourOrRow first cells ⌝ }
     ensures { λ r. ⌜ MeaningWithin r ⌝ }
 {
@@ -72,7 +76,7 @@ fn behaviour_or_row(first: usize, cells: usize) -> Meaning
 
 // What a name means, by the number beside its place.
 fn meaning_at(number: usize) -> Meaning
-    requires { ⌜ number < 8320 ⌝ }
+    requires { ⌜ number < meaningLimit ⌝ }
     ensures { λ r. ⌜ meantBy r ≡ numberMeans number ⌝ }
     ensures { λ r. ⌜ MeaningWithin r ⌝ }
 {
@@ -85,7 +89,7 @@ fn meaning_at(number: usize) -> Meaning
 // What the name at a place means.
 fn meaning_of(text: &[u8], p: usize, places: &[usize], sorted: usize, meanings: &[usize]) -> Meaning
     requires { ⌜ sorted ≤ length (now places) ⌝ }
-    requires { ⌜ All (λ m. m < 8320) (now meanings) ⌝ }
+    requires { ⌜ All (λ m. m < meaningLimit) (now meanings) ⌝ }
     ensures { λ r. ⌜ meantBy r ≡ meaningBy (now (text .entry)) (now (places .entry)) sorted (now (meanings .entry)) (nameAt (now (text .entry)) p) ⌝ }
     ensures { λ r. ⌜ MeaningWithin r ⌝ }
 {
@@ -99,7 +103,7 @@ fn meaning_of(text: &[u8], p: usize, places: &[usize], sorted: usize, meanings: 
 // The field of a name at p.
 fn name_leaf(meaning: Meaning, p: usize) -> Leaf
     requires { ⌜ MeaningWithin meaning ⌝ }
-    requires { ⌜ p ≤ 65536 ⌝ }
+    requires { ⌜ p ≤ textBytes ⌝ }
     ensures { λ r. ⌜ LeafAs r (nameTerm p (meantBy meaning)) ⌝ }
     ensures { λ r. ⌜ LeafWithin r ⌝ }
 {
@@ -114,9 +118,9 @@ fn name_leaf(meaning: Meaning, p: usize) -> Leaf
 // The field of cell k of the row of n cells from behaviour i on, in a handler of a row of so many cells, else of 0;
 // `[` is at q.
 fn row_cell(i: usize, n: usize, k: usize, q: usize, cells: usize) -> Leaf
-    requires { ⌜ i < 128 ⌝ }
-    requires { ⌜ n ≤ 64 ⌝ }
-    requires { ⌜ q ≤ 65536 ⌝ }
+    requires { ⌜ i < cellUnit ⌝ }
+    requires { ⌜ n ≤ behaviourLimit ⌝ }
+    requires { ⌜ q ≤ textBytes ⌝ }
     ensures { λ r. ⌜ LeafAs r (cellTerm cells 0 q k (aRow i n)) ⌝ }
     ensures { λ r. ⌜ LeafWithin r ⌝ }
 {
@@ -135,8 +139,8 @@ fn row_cell(i: usize, n: usize, k: usize, q: usize, cells: usize) -> Leaf
 // The field of cell k of the name at p, where `[` is at q.
 fn cell_leaf(meaning: Meaning, p: usize, q: usize, k: usize, cells: usize) -> Leaf
     requires { ⌜ MeaningWithin meaning ⌝ }
-    requires { ⌜ p ≤ 65536 ⌝ }
-    requires { ⌜ q ≤ 65536 ⌝ }
+    requires { ⌜ p ≤ textBytes ⌝ }
+    requires { ⌜ q ≤ textBytes ⌝ }
     ensures { λ r. ⌜ LeafAs r (cellTerm cells p q k (meantBy meaning)) ⌝ }
     ensures { λ r. ⌜ LeafWithin r ⌝ }
 {
@@ -150,7 +154,7 @@ fn cell_leaf(meaning: Meaning, p: usize, q: usize, k: usize, cells: usize) -> Le
 
 // A name's field is written, or its fault kept; `to` is the place behind it.
 fn put_leaf(to: usize, leaf: Leaf, out: &mut [u8], n: usize) -> Read
-    requires { ⌜ n ≤ 2097152 ⌝ }
+    requires { ⌜ n ≤ fieldEnd ⌝ }
     requires { ⌜ LeafWithin leaf ⌝ }
     ensures { λ r. ⌜ r ≡ leafDone to n leaf ⌝ }
     ensures { λ _. ⌜ now (out .exit) ≡ leafPlaced n leaf (now (out .entry)) ⌝ }
@@ -166,7 +170,7 @@ fn put_leaf(to: usize, leaf: Leaf, out: &mut [u8], n: usize) -> Read
 
 // A cell's number, and `]`.
 fn cell_number(text: &[u8], at: usize) -> Due
-    requires { ⌜ length (now text) ≤ 65536 ⌝ }
+    requires { ⌜ length (now text) ≤ textBytes ⌝ }
     requires { ⌜ at ≤ length (now text) ⌝ }
     ensures { λ r. ⌜ CellDue (now (text .entry)) at r ⌝ }
     ensures { λ r. ⌜ DueWithin (length (now (text .entry))) at r ⌝ }
@@ -221,9 +225,9 @@ fn named_at(
 
 // A constant: a number, or `-` and a number.
 fn constant_at(text: &[u8], at: usize, out: &mut [u8], n: usize) -> Read
-    requires { ⌜ length (now text) ≤ 65536 ⌝ }
+    requires { ⌜ length (now text) ≤ textBytes ⌝ }
     requires { ⌜ at ≤ length (now text) ⌝ }
-    requires { ⌜ n ≤ 2097152 ⌝ }
+    requires { ⌜ n ≤ fieldEnd ⌝ }
     ensures { λ r. ⌜ ((find : List ℕ → NameMeaning) (c : ℕ) → FormulaRead (now (text .entry)) find c n
         (now (out .entry)) (now (out .exit)) r (readConstant (tokensFrom (now (text .entry)) at))) ⌝ }
     ensures { λ r. ⌜ FormulaWithin (length (now (text .entry))) 1 at n r ⌝ }

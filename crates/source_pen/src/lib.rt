@@ -9,6 +9,8 @@ ghost use Rattle.lib_signature.specs.Signature.{last};
 ghost use Rattle.source_language.specs.Tokens.{inWord, number, name, sign, opening, endSign};
 ghost use Rattle.source_rendering.specs.Describe.{digits, spell, firstByte, runTogether};
 ghost use Rattle.source_pen.specs.Written.{takesEquals, spaceAfter, tokenAfter, spellingsFrom, Penned, TokensPenned};
+ghost use Rattle.lib_base.specs.Words.{byteValues, wordValues};
+ghost use Rattle.source_pen.specs.Lengths.{longestName, longestSign, longestToken, signCount, spellingLimit, tokenLimit};
 
 // The spellings of the functions in a row, and where each begins, which is where the one before it ends; 0 is none.
 const FUNCTIONS: [u8; 21] = *b"||&&!+-*/>>=<<===!=if";
@@ -92,7 +94,7 @@ fn runs_together(a: u8, b: u8) -> bool
 
 // One byte: the only place that writes.
 fn put_byte(out: &mut [u8], pen: Pen, b: u8) -> Pen
-    requires { ⌜ pen .at ≤ 4294967360 ⌝ }
+    requires { ⌜ pen .at ≤ tokenLimit ⌝ }
     ensures { λ r. ⌜ Penned (now (out .entry)) (now (out .exit)) pen r (b ∷ []) ⌝ }
 {
     let n = pen.at;
@@ -105,8 +107,8 @@ fn put_byte(out: &mut [u8], pen: Pen, b: u8) -> Pen
 
 // Bytes in a row.
 fn put_bytes(out: &mut [u8], pen: Pen, text: &[u8]) -> Pen
-    requires { ⌜ pen .at ≤ 4294967300 ⌝ }
-    requires { ⌜ length (now text) ≤ 11 ⌝ }
+    requires { ⌜ pen .at ≤ spellingLimit ⌝ }
+    requires { ⌜ length (now text) ≤ longestName ⌝ }
     ensures { λ r. ⌜ Penned (now (out .entry)) (now (out .exit)) pen r (now (text .entry)) ⌝ }
 {
     let mut after = pen;
@@ -120,8 +122,8 @@ fn put_bytes(out: &mut [u8], pen: Pen, text: &[u8]) -> Pen
 
 // A token's bytes, after a space where its first would run into the last that is written.
 fn put_apart(out: &mut [u8], pen: Pen, text: &[u8]) -> Pen
-    requires { ⌜ pen .at ≤ 4294967296 ⌝ }
-    requires { ⌜ (0 < length (now text)) × (length (now text) ≤ 11) ⌝ }
+    requires { ⌜ pen .at ≤ wordValues ⌝ }
+    requires { ⌜ (0 < length (now text)) × (length (now text) ≤ longestName) ⌝ }
     ensures { λ r. ⌜ Penned (now (out .entry)) (now (out .exit)) pen r (spaceAfter (pen .last) (firstByte (now (text .entry))) ++ now (text .entry)) ⌝ }
 {
     if runs_together(pen.last, text[0]) {
@@ -141,7 +143,7 @@ fn function_start(f: usize) -> usize
 
 // And that of a sign of the text's own, by its place among them.
 fn sign_start(i: usize) -> usize
-    requires { ⌜ i < 21 ⌝ }
+    requires { ⌜ i < signCount ⌝ }
     ensures { λ r. ⌜ r ≡ length (spellingsFrom opening i) ⌝ }
 {
     SIGN_STARTS[i] as usize
@@ -149,8 +151,8 @@ fn sign_start(i: usize) -> usize
 
 // A sign's spelling after what stands before it: declarations begin a line, handlers one below theirs, two spaces in.
 fn put_spelling(out: &mut [u8], pen: Pen, c: u8, text: &[u8]) -> Pen
-    requires { ⌜ pen .at ≤ 4294967296 ⌝ }
-    requires { ⌜ length (now text) ≤ 7 ⌝ }
+    requires { ⌜ pen .at ≤ wordValues ⌝ }
+    requires { ⌜ length (now text) ≤ longestSign ⌝ }
     requires { ⌜ (c < endSign → 0 < length (now text)) ⌝ }
     requires { ⌜ now text ≡ spell (sign 0 c) ⌝ }
     ensures { λ r. ⌜ Penned (now (out .entry)) (now (out .exit)) pen r (tokenAfter (pen .last) (sign 0 c)) ⌝ }
@@ -171,10 +173,10 @@ fn put_spelling(out: &mut [u8], pen: Pen, c: u8, text: &[u8]) -> Pen
 
 // A function's sign: an operator, or `if`.
 pub fn put_function(out: &mut [u8], pen: Pen, f: u8) -> Pen
-    requires { ⌜ pen .at ≤ 4294967296 ⌝ }
+    requires { ⌜ pen .at ≤ wordValues ⌝ }
     requires { ⌜ (0 < f) × (f ≤ last) ⌝ }
     ensures { λ r. ⌜ TokensPenned (now (out .entry)) (now (out .exit)) pen r (sign 0 f ∷ []) ⌝ }
-    ensures { λ r. ⌜ r .at ≤ pen .at + 12 ⌝ }
+    ensures { λ r. ⌜ r .at ≤ pen .at + longestToken ⌝ }
 {
     let i = f as usize;
     let start = function_start(i);
@@ -184,10 +186,10 @@ pub fn put_function(out: &mut [u8], pen: Pen, f: u8) -> Pen
 
 // A sign of the text's own: a mark, a word, or the end of the text.
 pub fn put_sign(out: &mut [u8], pen: Pen, c: u8) -> Pen
-    requires { ⌜ pen .at ≤ 4294967296 ⌝ }
+    requires { ⌜ pen .at ≤ wordValues ⌝ }
     requires { ⌜ (opening ≤ c) × (c ≤ endSign) ⌝ }
     ensures { λ r. ⌜ TokensPenned (now (out .entry)) (now (out .exit)) pen r (sign 0 c ∷ []) ⌝ }
-    ensures { λ r. ⌜ r .at ≤ pen .at + 12 ⌝ }
+    ensures { λ r. ⌜ r .at ≤ pen .at + longestToken ⌝ }
 {
     let i = (c - signs::OPENING) as usize;
     let start = sign_start(i);
@@ -197,11 +199,11 @@ pub fn put_sign(out: &mut [u8], pen: Pen, c: u8) -> Pen
 
 // The digits of a number, at the end of a buffer; where they begin.
 fn put_digits(n: u64, text: &mut [u8; NAME_BYTES]) -> usize
-    requires { ⌜ n < 4294967296 ⌝ }
-    requires { ⌜ length (now text) ≡ 11 ⌝ }
+    requires { ⌜ n < wordValues ⌝ }
+    requires { ⌜ length (now text) ≡ longestName ⌝ }
     ensures { λ r. ⌜ drop r (now (text .exit)) ≡ digits n ⌝ }
-    ensures { λ r. ⌜ (0 < r) × (r < 11) ⌝ }
-    ensures { λ _. ⌜ length (now (text .exit)) ≡ 11 ⌝ }
+    ensures { λ r. ⌜ (0 < r) × (r < longestName) ⌝ }
+    ensures { λ _. ⌜ length (now (text .exit)) ≡ longestName ⌝ }
 {
     let mut i = NAME_BYTES - 1;
     let mut m = n;
@@ -216,10 +218,10 @@ fn put_digits(n: u64, text: &mut [u8; NAME_BYTES]) -> usize
 
 // A number in decimal digits.
 pub fn put_number(out: &mut [u8], pen: Pen, n: u64) -> Pen
-    requires { ⌜ pen .at ≤ 4294967296 ⌝ }
-    requires { ⌜ n < 4294967296 ⌝ }
+    requires { ⌜ pen .at ≤ wordValues ⌝ }
+    requires { ⌜ n < wordValues ⌝ }
     ensures { λ r. ⌜ TokensPenned (now (out .entry)) (now (out .exit)) pen r (number 0 n ∷ []) ⌝ }
-    ensures { λ r. ⌜ r .at ≤ pen .at + 12 ⌝ }
+    ensures { λ r. ⌜ r .at ≤ pen .at + longestToken ⌝ }
 {
     let mut text = [0u8; NAME_BYTES];
     let i = put_digits(n, &mut text);
@@ -228,10 +230,10 @@ pub fn put_number(out: &mut [u8], pen: Pen, n: u64) -> Pen
 
 // A name: a letter and the digits of i.
 pub fn put_name(out: &mut [u8], pen: Pen, letter: u8, i: usize) -> Pen
-    requires { ⌜ pen .at ≤ 4294967296 ⌝ }
-    requires { ⌜ i < 256 ⌝ }
+    requires { ⌜ pen .at ≤ wordValues ⌝ }
+    requires { ⌜ i < byteValues ⌝ }
     ensures { λ r. ⌜ TokensPenned (now (out .entry)) (now (out .exit)) pen r (name 0 (letter ∷ digits i) ∷ []) ⌝ }
-    ensures { λ r. ⌜ r .at ≤ pen .at + 12 ⌝ }
+    ensures { λ r. ⌜ r .at ≤ pen .at + longestToken ⌝ }
 {
     let mut text = [0u8; NAME_BYTES];
     let first = put_digits(i as u64, &mut text) - 1;

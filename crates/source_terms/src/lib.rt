@@ -23,10 +23,12 @@ ghost use Rattle.source_rendering.specs.Describe.{digits, describedConstant, un
 ghost use Rattle.source_walk.specs.Heads.{HeadsOf};
 ghost use Rattle.source_terms.specs.Terms.{cellTokens, headTokens, betweenTokens, firstLevel, secondLevel, leafTokens, termTokens};
 ghost use Rattle.source_terms.specs.Put.{TokensPut};
+ghost use Rattle.lib_base.specs.Words.{byteValues, wordValues};
+ghost use Rattle.source_pen.specs.Lengths.{penLimit};
 
 // A function's sign; nothing where the text is over its length, as no accepted sheet's is.
 fn put_function(out: &mut [u8], pen: Pen, f: u8) -> Pen
-    requires { ⌜ pen .at ≤ 65548 ⌝ }
+    requires { ⌜ pen .at ≤ penLimit ⌝ }
     requires { ⌜ (0 < f) × (f ≤ last) ⌝ }
     ensures { λ r. ⌜ TokensPut (now (out .entry)) (now (out .exit)) pen r (sign 0 f ∷ []) ⌝ }
 {
@@ -39,7 +41,7 @@ fn put_function(out: &mut [u8], pen: Pen, f: u8) -> Pen
 
 // A sign of the text's own, likewise.
 pub fn put_sign(out: &mut [u8], pen: Pen, c: u8) -> Pen
-    requires { ⌜ pen .at ≤ 65548 ⌝ }
+    requires { ⌜ pen .at ≤ penLimit ⌝ }
     requires { ⌜ (opening ≤ c) × (c ≤ endSign) ⌝ }
     ensures { λ r. ⌜ TokensPut (now (out .entry)) (now (out .exit)) pen r (sign 0 c ∷ []) ⌝ }
 {
@@ -52,8 +54,8 @@ pub fn put_sign(out: &mut [u8], pen: Pen, c: u8) -> Pen
 
 // A number, likewise.
 pub fn put_number(out: &mut [u8], pen: Pen, n: u64) -> Pen
-    requires { ⌜ pen .at ≤ 65548 ⌝ }
-    requires { ⌜ n < 4294967296 ⌝ }
+    requires { ⌜ pen .at ≤ penLimit ⌝ }
+    requires { ⌜ n < wordValues ⌝ }
     ensures { λ r. ⌜ TokensPut (now (out .entry)) (now (out .exit)) pen r (number 0 n ∷ []) ⌝ }
 {
     let size = pen.at;
@@ -65,8 +67,8 @@ pub fn put_number(out: &mut [u8], pen: Pen, n: u64) -> Pen
 
 // A name, likewise: a letter and a number.
 pub fn put_name(out: &mut [u8], pen: Pen, letter: u8, i: usize) -> Pen
-    requires { ⌜ pen .at ≤ 65548 ⌝ }
-    requires { ⌜ i < 256 ⌝ }
+    requires { ⌜ pen .at ≤ penLimit ⌝ }
+    requires { ⌜ i < byteValues ⌝ }
     ensures { λ r. ⌜ TokensPut (now (out .entry)) (now (out .exit)) pen r (name 0 (letter ∷ digits i) ∷ []) ⌝ }
 {
     let n = pen.at;
@@ -83,8 +85,8 @@ const WORDS: u64 = 4294967296;
 
 // A constant.
 pub fn put_value(out: &mut [u8], pen: Pen, w: u64) -> Pen
-    requires { ⌜ pen .at ≤ 65548 ⌝ }
-    requires { ⌜ w < 4294967296 ⌝ }
+    requires { ⌜ pen .at ≤ penLimit ⌝ }
+    requires { ⌜ w < wordValues ⌝ }
     ensures { λ r. ⌜ TokensPut (now (out .entry)) (now (out .exit)) pen r (valueTokens (describedConstant w) []) ⌝ }
 {
     if w < NEGATIVE {
@@ -101,8 +103,8 @@ pub const PARAMETER: u8 = b'p';
 
 // Behaviour i, whose field has the first cell h.
 fn put_cell(out: &mut [u8], pen: Pen, h: usize, i: usize) -> Pen
-    requires { ⌜ pen .at ≤ 65548 ⌝ }
-    requires { ⌜ (h ≤ i) × (i < 256) ⌝ }
+    requires { ⌜ pen .at ≤ penLimit ⌝ }
+    requires { ⌜ (h ≤ i) × (i < byteValues) ⌝ }
     ensures { λ r. ⌜ TokensPut (now (out .entry)) (now (out .exit)) pen r (cellTokens h i) ⌝ }
 {
     let named = put_name(out, pen, BEHAVIOUR, h);
@@ -118,7 +120,7 @@ fn put_cell(out: &mut [u8], pen: Pen, h: usize, i: usize) -> Pen
 // the contract says; which first cells they have is looked up in `heads`. So it is in what follows.
 fn put_leaf(s: &[u8], first: usize, heads: &[u8; BYTE], at: usize, out: &mut [u8], pen: Pen) -> Pen
     requires { ⌜ (first ≤ length (now s)) × (at ≤ length (now s)) × HeadsOf (now s) first (now heads) ⌝ }
-    requires { ⌜ pen .at ≤ 65548 ⌝ }
+    requires { ⌜ pen .at ≤ penLimit ⌝ }
     ensures { λ r. ⌜ TokensPut (now (out .entry)) (now (out .exit)) pen r
         (leafTokens (length (now (s .entry))) (drop first (now (s .entry))) (drop at (now (s .entry)))) ⌝ }
 {
@@ -159,7 +161,7 @@ fn second_level(f: u8) -> u64
 
 // A bracket, unless the operator is tight enough to do without.
 fn put_unless(out: &mut [u8], pen: Pen, f: u8, level: u64, c: u8) -> Pen
-    requires { ⌜ pen .at ≤ 65548 ⌝ }
+    requires { ⌜ pen .at ≤ penLimit ⌝ }
     requires { ⌜ (opening ≤ c) × (c ≤ endSign) ⌝ }
     ensures { λ r. ⌜ TokensPut (now (out .entry)) (now (out .exit)) pen r (unless (leb (tightness f) level) c []) ⌝ }
 {
@@ -171,7 +173,7 @@ fn put_unless(out: &mut [u8], pen: Pen, f: u8, level: u64, c: u8) -> Pen
 
 // Before the first argument of a function.
 fn put_head(out: &mut [u8], pen: Pen, f: u8, level: u64) -> Pen
-    requires { ⌜ pen .at ≤ 65548 ⌝ }
+    requires { ⌜ pen .at ≤ penLimit ⌝ }
     ensures { λ r. ⌜ TokensPut (now (out .entry)) (now (out .exit)) pen r (headTokens f level) ⌝ }
 {
     if f == functions::NOT {
@@ -186,7 +188,7 @@ fn put_head(out: &mut [u8], pen: Pen, f: u8, level: u64) -> Pen
 
 // Between its first two.
 fn put_between(out: &mut [u8], pen: Pen, f: u8) -> Pen
-    requires { ⌜ pen .at ≤ 65548 ⌝ }
+    requires { ⌜ pen .at ≤ penLimit ⌝ }
     ensures { λ r. ⌜ TokensPut (now (out .entry)) (now (out .exit)) pen r (betweenTokens f) ⌝ }
 {
     if f == functions::IF {
@@ -216,7 +218,7 @@ pub fn put_term(
     pen: Pen,
 ) -> Pen
     requires { ⌜ (first ≤ length (now s)) × (at ≤ length (now s)) × HeadsOf (now s) first (now heads) ⌝ }
-    requires { ⌜ pen .at ≤ 65548 ⌝ }
+    requires { ⌜ pen .at ≤ penLimit ⌝ }
     ensures { λ r. ⌜ TokensPut (now (out .entry)) (now (out .exit)) pen r
         (termTokens (length (now (s .entry))) (drop first (now (s .entry))) room level (drop at (now (s .entry)))) ⌝ }
 {

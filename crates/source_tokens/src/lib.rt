@@ -11,6 +11,8 @@ ghost use Rattle.lib_base.specs.Basics.{pick};
 ghost use Rattle.source_language.specs.Tokens.{marks, reserved, same, signOf, isDigit, isLetter, inWord, isBlank, inComment};
 ghost use Rattle.source_language.specs.Scanner.{runOfKind};
 ghost use Rattle.source_tokens.specs.Token.{cappedAt, placeOfToken, TokenAt, TokenWithin, TokenBegins, PassedOver, OpeningAt};
+ghost use Rattle.lib_base.specs.Words.{decimalBase};
+ghost use Rattle.source_coding.specs.Bounds.{pastNegated, textBytes};
 
 const TEN: u64 = 10;
 
@@ -272,8 +274,8 @@ fn word_at(text: &[u8], at: usize) -> Token
 
 // A number with one more digit, as far as it counts.
 fn with_digit(n: u64, d: u8) -> u64
-    requires { ⌜ n ≤ 2147483649 ⌝ }
-    ensures { λ r. ⌜ r ≡ cappedAt (n * 10 + d) ⌝ }
+    requires { ⌜ n ≤ pastNegated ⌝ }
+    ensures { λ r. ⌜ r ≡ cappedAt (n * decimalBase + d) ⌝ }
 {
     let m = n * TEN + (d as u64);
     if m < limits::TOO_LARGE {
@@ -320,7 +322,7 @@ fn token_of(text: &[u8], at: usize) -> Token
 
 // The first token from a place on.
 pub fn token_at(text: &[u8], at: usize) -> Token
-    requires { ⌜ length (now text) ≤ 65536 ⌝ }
+    requires { ⌜ length (now text) ≤ textBytes ⌝ }
     requires { ⌜ at ≤ length (now text) ⌝ }
     ensures { λ r. ⌜ TokenAt (now (text .entry)) at r ⌝ }
     ensures { λ r. ⌜ TokenWithin (length (now (text .entry))) at r ⌝ }
@@ -334,7 +336,7 @@ pub fn token_at(text: &[u8], at: usize) -> Token
 
 // The place behind an opening bracket, where that is the first token from a place on; else 0. No other token is read.
 pub fn opening_at(text: &[u8], at: usize) -> usize
-    requires { ⌜ length (now text) ≤ 65536 ⌝ }
+    requires { ⌜ length (now text) ≤ textBytes ⌝ }
     requires { ⌜ at ≤ length (now text) ⌝ }
     ensures { λ r. ⌜ OpeningAt (now (text .entry)) at r ⌝ }
 {

@@ -7,6 +7,7 @@ ghost use Prim.Native.Nat.{_<_, _≤_};
 ghost use lib.ListN.{length, getD, drop};
 ghost use Rattle.source_walk.specs.Fields.{neededAfter, neededIn};
 ghost use Rattle.source_walk.specs.Heads.{OwnFrom, CellsNoted, HeadsOf};
+ghost use Rattle.lib_base.specs.Words.{byteValues, highestByte};
 
 // How many numbers a byte can be.
 pub const BYTE: usize = sheet_field::sizes::HIGH;
@@ -29,7 +30,7 @@ fn own_heads() -> [u8; BYTE]
 
 // Notes j as the first cell of the n behaviours from j on.
 fn note_cells(heads: &mut [u8; BYTE], j: usize, n: usize)
-    requires { ⌜ (j < 256) × (n ≤ 255) × (length (now heads) ≡ 256) ⌝ }
+    requires { ⌜ (j < byteValues) × (n ≤ highestByte) × (length (now heads) ≡ byteValues) ⌝ }
     ensures { λ _. ⌜ CellsNoted (now (heads .entry)) (now (heads .exit)) j n ⌝ }
 {
     let mut i = j;
@@ -69,9 +70,9 @@ pub fn heads_from(s: &[u8], first: usize) -> [u8; BYTE]
 
 // The parameters needed after a byte, n before it.
 fn needed_after(tag: u8, left: usize, n: usize, b: u8) -> usize
-    requires { ⌜ n ≤ 256 ⌝ }
+    requires { ⌜ n ≤ byteValues ⌝ }
     ensures { λ r. ⌜ r ≡ neededAfter tag left n b ⌝ }
-    ensures { λ r. ⌜ r ≤ 256 ⌝ }
+    ensures { λ r. ⌜ r ≤ byteValues ⌝ }
 {
     if sheet_walk::is_number(tags::PARAMETER, tag, left) {
         if n < (b as usize) + 1 {
@@ -86,7 +87,7 @@ fn needed_after(tag: u8, left: usize, n: usize, b: u8) -> usize
 pub fn needed_from(s: &[u8], first: usize) -> usize
     requires { ⌜ first ≤ length (now s) ⌝ }
     ensures { λ r. ⌜ r ≡ neededIn 0 0 0 (drop first (now (s .entry))) ⌝ }
-    ensures { λ r. ⌜ r ≤ 256 ⌝ }
+    ensures { λ r. ⌜ r ≤ byteValues ⌝ }
 {
     let mut at = first;
     let mut tag = 0u8;

@@ -11,3 +11,4 @@ pub mod Order
 pub mod Code
 pub mod Accepted
 pub mod Valid
+pub mod Limits

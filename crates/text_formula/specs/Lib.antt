@@ -6,3 +6,4 @@ pub mod Nesting
 pub mod Answer
 pub mod Formula
 pub mod Statements
+pub mod TooLarge

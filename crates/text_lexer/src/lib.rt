@@ -6,6 +6,9 @@ ghost use lib.ListN.{length, getD, drop};
 ghost use Rattle.text_formula.specs.Reader.{digitOf, nameOf, singleOf, doubleOf, markedOf, wordToken, numberToken, firstOf};
 ghost use Rattle.text_lexer.specs.Codes.{capped, found};
 ghost use Rattle.text_lexer.specs.Scanned.{Narrow, Scanned, Scans};
+ghost use Rattle.lib_base.specs.Words.{decimalBase};
+ghost use Rattle.spec_language.specs.Limits.{formulaBytes};
+ghost use Rattle.text_formula.specs.TooLarge.{tooLarge};
 
 // What stands for the digit of a byte that is none, and the last digit.
 const NO_DIGIT: u8 = 10;
@@ -158,7 +161,7 @@ fn marked_of(b: u8, c: u8) -> Token
 
 // The token at a place that is no number.
 fn word_at(text: &[u8], at: usize) -> Token
-    requires { ⌜ at < 1024 ⌝ }
+    requires { ⌜ at < formulaBytes ⌝ }
     ensures { λ r. ⌜ r ≡ wordToken Token.Missing found (drop at (now (text .entry))) ⌝ }
 {
     let b = byte_at(text, at);
@@ -175,9 +178,9 @@ fn word_at(text: &[u8], at: usize) -> Token
 
 // A number with one more digit, as far as 2 ^ 31: larger ones are all turned down.
 fn with_digit(n: u64, d: u8) -> u64
-    requires { ⌜ n ≤ 2147483648 ⌝ }
-    ensures { λ r. ⌜ r ≡ capped (n * 10 + d) ⌝ }
-    ensures { λ r. ⌜ r ≤ 2147483648 ⌝ }
+    requires { ⌜ n ≤ tooLarge ⌝ }
+    ensures { λ r. ⌜ r ≡ capped (n * decimalBase + d) ⌝ }
+    ensures { λ r. ⌜ r ≤ tooLarge ⌝ }
 {
     let m = n * TEN + (d as u64);
     if m < tokens::TOO_LARGE {
@@ -188,7 +191,7 @@ fn with_digit(n: u64, d: u8) -> u64
 
 // The number at a place, as far as there are digits.
 fn number_at(text: &[u8], at: usize) -> Token
-    requires { ⌜ length (now text) ≤ 1024 ⌝ }
+    requires { ⌜ length (now text) ≤ formulaBytes ⌝ }
     requires { ⌜ at ≤ length (now text) ⌝ }
     ensures { λ r. ⌜ Scanned (now (text .entry)) at r (numberToken 0 (drop at (now (text .entry)))) ⌝ }
     ensures { λ r. ⌜ Narrow r ⌝ }
@@ -208,7 +211,7 @@ fn number_at(text: &[u8], at: usize) -> Token
 
 // The token at a place.
 fn token_at(text: &[u8], at: usize) -> Token
-    requires { ⌜ length (now text) ≤ 1024 ⌝ }
+    requires { ⌜ length (now text) ≤ formulaBytes ⌝ }
     requires { ⌜ at < length (now text) ⌝ }
     ensures { λ r. ⌜ Scanned (now (text .entry)) at r (firstOf (drop at (now (text .entry)))) ⌝ }
     ensures { λ r. ⌜ Narrow r ⌝ }
@@ -221,8 +224,8 @@ fn token_at(text: &[u8], at: usize) -> Token
 
 // All tokens of a text, spaces passed over.
 pub fn scan(text: &[u8], tokens: &mut [u64]) -> Text
-    requires { ⌜ length (now text) ≤ 1024 ⌝ }
-    requires { ⌜ length (now tokens) ≡ 1024 ⌝ }
+    requires { ⌜ length (now text) ≤ formulaBytes ⌝ }
+    requires { ⌜ length (now tokens) ≡ formulaBytes ⌝ }
     ensures { λ r. ⌜ Scans (now (text .entry)) (now (tokens .exit)) r ⌝ }
 {
     let mut at = 0;

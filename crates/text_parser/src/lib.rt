@@ -11,6 +11,9 @@ ghost use mathlib.Core.Path.{_≡_};
 ghost use Prim.Native.Nat.{_<_, _≤_, _*_, _+_};
 ghost use lib.ListN.{length};
 ghost use Rattle.text_parser.specs.Parser.{Reading, ReadWithin, ChoiceRead, Argued, ArgumentIn};
+ghost use Rattle.lib_signature.specs.Levels.{conjunction, disjunction, equality};
+ghost use Rattle.sheet_field.specs.Sizes.{wordField};
+ghost use Rattle.spec_language.specs.Limits.{fieldBytes, formulaBytes};
 
 // The most bytes of a formula's field: a token has a byte or more, and gives at most a constant's seven.
 pub const FIELD_BYTES: usize = limits::FORMULA_BYTES * sheet_field::sizes::WORD_FIELD;
@@ -20,12 +23,12 @@ const BYTE: u64 = lib_word::BYTE_VALUES as u64;
 
 // Level 6: `||`, and so a formula.
 pub fn disjunction(ts: &[u64], at: usize, out: &mut [u8; FIELD_BYTES], n: usize) -> Read
-    requires { ⌜ n ≤ at * 7 ⌝ }
-    requires { ⌜ length (now ts) ≤ 1024 ⌝ }
-    requires { ⌜ length (now out) ≡ 7168 ⌝ }
-    ensures { λ r. ⌜ Reading 6 (now (ts .entry)) at n (now (out .entry)) (now (out .exit)) r ⌝ }
+    requires { ⌜ n ≤ at * wordField ⌝ }
+    requires { ⌜ length (now ts) ≤ formulaBytes ⌝ }
+    requires { ⌜ length (now out) ≡ fieldBytes ⌝ }
+    ensures { λ r. ⌜ Reading disjunction (now (ts .entry)) at n (now (out .entry)) (now (out .exit)) r ⌝ }
     ensures { λ r. ⌜ ReadWithin (length (now (ts .entry))) at n 0 r ⌝ }
-    ensures { λ _. ⌜ length (now (out .exit)) ≡ 7168 ⌝ }
+    ensures { λ _. ⌜ length (now (out .exit)) ≡ fieldBytes ⌝ }
 {
     let mut r = conjunction(ts, at, out, n);
     loop {
@@ -42,12 +45,12 @@ pub fn disjunction(ts: &[u64], at: usize, out: &mut [u8; FIELD_BYTES], n: usize)
 
 // Level 5: `&&`.
 fn conjunction(ts: &[u64], at: usize, out: &mut [u8; FIELD_BYTES], n: usize) -> Read
-    requires { ⌜ n ≤ at * 7 ⌝ }
-    requires { ⌜ length (now ts) ≤ 1024 ⌝ }
-    requires { ⌜ length (now out) ≡ 7168 ⌝ }
-    ensures { λ r. ⌜ Reading 5 (now (ts .entry)) at n (now (out .entry)) (now (out .exit)) r ⌝ }
+    requires { ⌜ n ≤ at * wordField ⌝ }
+    requires { ⌜ length (now ts) ≤ formulaBytes ⌝ }
+    requires { ⌜ length (now out) ≡ fieldBytes ⌝ }
+    ensures { λ r. ⌜ Reading conjunction (now (ts .entry)) at n (now (out .entry)) (now (out .exit)) r ⌝ }
     ensures { λ r. ⌜ ReadWithin (length (now (ts .entry))) at n 0 r ⌝ }
-    ensures { λ _. ⌜ length (now (out .exit)) ≡ 7168 ⌝ }
+    ensures { λ _. ⌜ length (now (out .exit)) ≡ fieldBytes ⌝ }
 {
     let mut r = equality(ts, at, out, n);
     loop {
@@ -64,12 +67,12 @@ fn conjunction(ts: &[u64], at: usize, out: &mut [u8; FIELD_BYTES], n: usize) -> 
 
 // Level 4: `== !=`.
 fn equality(ts: &[u64], at: usize, out: &mut [u8; FIELD_BYTES], n: usize) -> Read
-    requires { ⌜ n ≤ at * 7 ⌝ }
-    requires { ⌜ length (now ts) ≤ 1024 ⌝ }
-    requires { ⌜ length (now out) ≡ 7168 ⌝ }
-    ensures { λ r. ⌜ Reading 4 (now (ts .entry)) at n (now (out .entry)) (now (out .exit)) r ⌝ }
+    requires { ⌜ n ≤ at * wordField ⌝ }
+    requires { ⌜ length (now ts) ≤ formulaBytes ⌝ }
+    requires { ⌜ length (now out) ≡ fieldBytes ⌝ }
+    ensures { λ r. ⌜ Reading equality (now (ts .entry)) at n (now (out .entry)) (now (out .exit)) r ⌝ }
     ensures { λ r. ⌜ ReadWithin (length (now (ts .entry))) at n 0 r ⌝ }
-    ensures { λ _. ⌜ length (now (out .exit)) ≡ 7168 ⌝ }
+    ensures { λ _. ⌜ length (now (out .exit)) ≡ fieldBytes ⌝ }
 {
     let mut r = ordering(ts, at, out, n);
     loop {
@@ -86,12 +89,12 @@ fn equality(ts: &[u64], at: usize, out: &mut [u8; FIELD_BYTES], n: usize) -> Rea
 
 // Level 3: `> >= < <=`.
 fn ordering(ts: &[u64], at: usize, out: &mut [u8; FIELD_BYTES], n: usize) -> Read
-    requires { ⌜ n ≤ at * 7 ⌝ }
-    requires { ⌜ length (now ts) ≤ 1024 ⌝ }
-    requires { ⌜ length (now out) ≡ 7168 ⌝ }
+    requires { ⌜ n ≤ at * wordField ⌝ }
+    requires { ⌜ length (now ts) ≤ formulaBytes ⌝ }
+    requires { ⌜ length (now out) ≡ fieldBytes ⌝ }
     ensures { λ r. ⌜ Reading 3 (now (ts .entry)) at n (now (out .entry)) (now (out .exit)) r ⌝ }
     ensures { λ r. ⌜ ReadWithin (length (now (ts .entry))) at n 0 r ⌝ }
-    ensures { λ _. ⌜ length (now (out .exit)) ≡ 7168 ⌝ }
+    ensures { λ _. ⌜ length (now (out .exit)) ≡ fieldBytes ⌝ }
 {
     let mut r = sum(ts, at, out, n);
     loop {
@@ -108,12 +111,12 @@ fn ordering(ts: &[u64], at: usize, out: &mut [u8; FIELD_BYTES], n: usize) -> Rea
 
 // Level 2: `+ -`.
 fn sum(ts: &[u64], at: usize, out: &mut [u8; FIELD_BYTES], n: usize) -> Read
-    requires { ⌜ n ≤ at * 7 ⌝ }
-    requires { ⌜ length (now ts) ≤ 1024 ⌝ }
-    requires { ⌜ length (now out) ≡ 7168 ⌝ }
+    requires { ⌜ n ≤ at * wordField ⌝ }
+    requires { ⌜ length (now ts) ≤ formulaBytes ⌝ }
+    requires { ⌜ length (now out) ≡ fieldBytes ⌝ }
     ensures { λ r. ⌜ Reading 2 (now (ts .entry)) at n (now (out .entry)) (now (out .exit)) r ⌝ }
     ensures { λ r. ⌜ ReadWithin (length (now (ts .entry))) at n 0 r ⌝ }
-    ensures { λ _. ⌜ length (now (out .exit)) ≡ 7168 ⌝ }
+    ensures { λ _. ⌜ length (now (out .exit)) ≡ fieldBytes ⌝ }
 {
     let mut r = product(ts, at, out, n);
     loop {
@@ -130,12 +133,12 @@ fn sum(ts: &[u64], at: usize, out: &mut [u8; FIELD_BYTES], n: usize) -> Read
 
 // Level 1: `* /`.
 fn product(ts: &[u64], at: usize, out: &mut [u8; FIELD_BYTES], n: usize) -> Read
-    requires { ⌜ n ≤ at * 7 ⌝ }
-    requires { ⌜ length (now ts) ≤ 1024 ⌝ }
-    requires { ⌜ length (now out) ≡ 7168 ⌝ }
+    requires { ⌜ n ≤ at * wordField ⌝ }
+    requires { ⌜ length (now ts) ≤ formulaBytes ⌝ }
+    requires { ⌜ length (now out) ≡ fieldBytes ⌝ }
     ensures { λ r. ⌜ Reading 1 (now (ts .entry)) at n (now (out .entry)) (now (out .exit)) r ⌝ }
     ensures { λ r. ⌜ ReadWithin (length (now (ts .entry))) at n 0 r ⌝ }
-    ensures { λ _. ⌜ length (now (out .exit)) ≡ 7168 ⌝ }
+    ensures { λ _. ⌜ length (now (out .exit)) ≡ fieldBytes ⌝ }
 {
     let mut r = operand(ts, at, out, n);
     loop {
@@ -152,12 +155,12 @@ fn product(ts: &[u64], at: usize, out: &mut [u8; FIELD_BYTES], n: usize) -> Read
 
 // Level 0: `!`, numbers, names, brackets and `if`.
 fn operand(ts: &[u64], at: usize, out: &mut [u8; FIELD_BYTES], n: usize) -> Read
-    requires { ⌜ n ≤ at * 7 ⌝ }
-    requires { ⌜ length (now ts) ≤ 1024 ⌝ }
-    requires { ⌜ length (now out) ≡ 7168 ⌝ }
+    requires { ⌜ n ≤ at * wordField ⌝ }
+    requires { ⌜ length (now ts) ≤ formulaBytes ⌝ }
+    requires { ⌜ length (now out) ≡ fieldBytes ⌝ }
     ensures { λ r. ⌜ Reading 0 (now (ts .entry)) at n (now (out .entry)) (now (out .exit)) r ⌝ }
     ensures { λ r. ⌜ ReadWithin (length (now (ts .entry))) at n 0 r ⌝ }
-    ensures { λ _. ⌜ length (now (out .exit)) ≡ 7168 ⌝ }
+    ensures { λ _. ⌜ length (now (out .exit)) ≡ fieldBytes ⌝ }
 {
     if ts.len() <= at {
         return Read::Fault;
@@ -179,13 +182,13 @@ fn operand(ts: &[u64], at: usize, out: &mut [u8; FIELD_BYTES], n: usize) -> Read
 
 // `if`, which stands at the place, and its three arguments.
 fn choice(ts: &[u64], at: usize, out: &mut [u8; FIELD_BYTES], n: usize) -> Read
-    requires { ⌜ n ≤ at * 7 ⌝ }
+    requires { ⌜ n ≤ at * wordField ⌝ }
     requires { ⌜ at < length (now ts) ⌝ }
-    requires { ⌜ length (now ts) ≤ 1024 ⌝ }
-    requires { ⌜ length (now out) ≡ 7168 ⌝ }
+    requires { ⌜ length (now ts) ≤ formulaBytes ⌝ }
+    requires { ⌜ length (now out) ≡ fieldBytes ⌝ }
     ensures { λ r. ⌜ ChoiceRead (now (ts .entry)) at n (now (out .entry)) (now (out .exit)) r ⌝ }
     ensures { λ r. ⌜ ReadWithin (length (now (ts .entry))) at n 0 r ⌝ }
-    ensures { λ _. ⌜ length (now (out .exit)) ≡ 7168 ⌝ }
+    ensures { λ _. ⌜ length (now (out .exit)) ≡ fieldBytes ⌝ }
 {
     let mut r = argument(ts, tokens::OPENING_MARK, Read::Done(at + 1, n, 0), out);
     r = argument(ts, tokens::COMMA_MARK, r, out);
@@ -198,10 +201,10 @@ fn choice(ts: &[u64], at: usize, out: &mut [u8; FIELD_BYTES], n: usize) -> Read
 fn argument(ts: &[u64], m: u64, r: Read, out: &mut [u8; FIELD_BYTES]) -> Read
     requires { ⌜ ArgumentIn r ⌝ }
     requires { ⌜ 0 < m ⌝ }
-    requires { ⌜ length (now ts) ≤ 1024 ⌝ }
-    requires { ⌜ length (now out) ≡ 7168 ⌝ }
+    requires { ⌜ length (now ts) ≤ formulaBytes ⌝ }
+    requires { ⌜ length (now out) ≡ fieldBytes ⌝ }
     ensures { λ q. ⌜ Argued m (now (ts .entry)) (now (out .entry)) (now (out .exit)) r q ⌝ }
-    ensures { λ _. ⌜ length (now (out .exit)) ≡ 7168 ⌝ }
+    ensures { λ _. ⌜ length (now (out .exit)) ≡ fieldBytes ⌝ }
 {
     let Read::Done(at, n, d) = r else {
         return r;

@@ -8,6 +8,8 @@ ghost use mathlib.Core.Path.{_≡_};
 ghost use Prim.Native.Nat.{_<_, _≤_, _+_};
 ghost use lib.ListN.{length};
 ghost use Rattle.text_phrase.specs.Phrase.{levelCode, levelIn, markCode, bracketAt, underOf, closedOf, wrappedIn, endedIn, leafRead, leafOut, Closable};
+ghost use Rattle.sheet_field.specs.Sizes.{longestValue};
+ghost use Rattle.spec_language.specs.Limits.{formulaBytes};
 
 const LAST: u64 = functions::LAST as u64;
 
@@ -77,7 +79,7 @@ pub fn under(d: usize, r: Read) -> Read
 // The arguments from `start` on become an application of function f; those before r's nest d deep.
 pub fn close(f: u8, start: usize, d: usize, r: Read, out: &mut [u8]) -> Read
     requires { ⌜ Closable start d (length (now out)) r ⌝ }
-    requires { ⌜ length (now out) ≤ 65535 ⌝ }
+    requires { ⌜ length (now out) ≤ longestValue ⌝ }
     ensures { λ q. ⌜ q ≡ closedOf d r ⌝ }
     ensures { λ _. ⌜ now (out .exit) ≡ wrappedIn f start r (now (out .entry)) ⌝ }
 {
@@ -103,8 +105,8 @@ pub fn ended(ts: &[u64], r: Read) -> Read
 
 // A number or a name, or no expression.
 pub fn leaf(t: u64, at: usize, out: &mut [u8], n: usize) -> Read
-    requires { ⌜ n ≤ 65535 ⌝ }
-    requires { ⌜ at < 1024 ⌝ }
+    requires { ⌜ n ≤ longestValue ⌝ }
+    requires { ⌜ at < formulaBytes ⌝ }
     ensures { λ q. ⌜ q ≡ leafRead t at n ⌝ }
     ensures { λ _. ⌜ now (out .exit) ≡ leafOut t n (now (out .entry)) ⌝ }
 {

@@ -11,6 +11,7 @@ ghost use lib.ListN.{length};
 ghost use Rattle.text_formula.specs.Answer.{answered};
 ghost use Rattle.text_formula.specs.Formula.{formulaOn};
 ghost use Rattle.text_translate.specs.Translate.{largeCode, anyLarge, openAfter, balancedFrom, delivered, Translated};
+ghost use Rattle.spec_language.specs.Limits.{fieldBytes, formulaBytes};
 
 // What is added to a field's length, so that it is told from a refusal.
 const ACCEPTED: u64 = spec_language::answers::VALUE;
@@ -34,7 +35,7 @@ fn is_large(t: u64) -> bool
 }
 
 fn any_large(ts: &[u64]) -> bool
-    requires { ⌜ length (now ts) ≤ 1024 ⌝ }
+    requires { ⌜ length (now ts) ≤ formulaBytes ⌝ }
     ensures { λ r. ⌜ r ≡ anyLarge (now (ts .entry)) ⌝ }
 {
     let mut i = 0;
@@ -49,7 +50,7 @@ fn any_large(ts: &[u64]) -> bool
 
 // How many brackets are open after a token, and one; 0 where one is closed that was not opened.
 fn open_after(n: usize, t: u64) -> usize
-    requires { ⌜ (0 < n) × (n ≤ 1024) ⌝ }
+    requires { ⌜ (0 < n) × (n ≤ formulaBytes) ⌝ }
     ensures { λ r. ⌜ r ≡ openAfter n t ⌝ }
     ensures { λ r. ⌜ r ≤ n + 1 ⌝ }
 {
@@ -65,7 +66,7 @@ fn open_after(n: usize, t: u64) -> usize
 // Whether the brackets match. The reader calls itself for each that is open, so a text where they do not is turned down
 // before: half of its tokens, at most, are opening ones.
 fn balanced(ts: &[u64]) -> bool
-    requires { ⌜ length (now ts) ≤ 1024 ⌝ }
+    requires { ⌜ length (now ts) ≤ formulaBytes ⌝ }
     ensures { λ r. ⌜ r ≡ balancedFrom 1 (now (ts .entry)) ⌝ }
 {
     let mut nested = 1usize;
@@ -82,7 +83,7 @@ fn balanced(ts: &[u64]) -> bool
 
 // The field of a formula that was read, unless a number is too large, the nesting too deep or the buffer too short.
 fn put_result(large: bool, depth: usize, field: &[u8], buffer: &mut [u8]) -> u64
-    requires { ⌜ length (now field) ≤ 7168 ⌝ }
+    requires { ⌜ length (now field) ≤ fieldBytes ⌝ }
     ensures { λ r. ⌜ answered r (now (buffer .exit)) ≡ delivered large depth (now (field .entry)) (now (buffer .entry)) ⌝ }
 {
     if large {
@@ -100,7 +101,7 @@ fn put_result(large: bool, depth: usize, field: &[u8], buffer: &mut [u8]) -> u64
 
 // From the tokens on; `out` is where the field is made.
 fn from_tokens(ts: &[u64], buffer: &mut [u8]) -> u64
-    requires { ⌜ length (now ts) ≤ 1024 ⌝ }
+    requires { ⌜ length (now ts) ≤ formulaBytes ⌝ }
     ensures { λ r. ⌜ Translated (now (ts .entry)) (now (buffer .entry)) (answered r (now (buffer .exit))) ⌝ }
 {
     if !balanced(ts) {

@@ -1,0 +1,9 @@
+-- How the meaning of a name is one number: a behaviour's number and so many for each of its cells.
+use Prim.Native.Nat.{ℕ}
+
+abbrev pub cellUnit : ℕ
+cellUnit = 128
+
+-- above all meanings: 65 units
+abbrev pub meaningLimit : ℕ
+meaningLimit = 8320
