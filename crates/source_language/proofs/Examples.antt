@@ -1,23 +1,29 @@
 -- Texts and what they are assembled to, each by computing: the sheet of docs/SHEETS.md and sheet S of 01 to the very
 -- bytes, precedence and signs, and faults of each kind with their places.
 use Prim.Native.Nat.{ℕ, _+_}
+use mathlib.Core.Bool.{Bool, true, false}
 use mathlib.Core.Path.{_≡_, refl}
-use mathlib.Core.List.{List, [], _∷_}
-use lib.ListN.{replicate}
+use native.Mathlib.Omega.{arith}
+use mathlib.Core.List.{List, [], _∷_, _++_}
+use lib.ListN.{length, replicate}
+use lib.Dec.{eqb}
+use Rattle.lib_base.specs.Basics.{pick}
 use Rattle.lib_signature.specs.Signature.{level}
 use Rattle.spec_language.specs.Syntax.{later}
+use Rattle.spec_language.specs.Sheet.{Sheet}
 use Rattle.spec_language.specs.Grammar.{encode, encodeEvents, encodeBehaviours, encodeHandlers, encodeExpr}
 use Rattle.text_formula.specs.Tokens.{decimalValue}
-use Rattle.source_language.specs.Tokens.{marks, reserved, same, signOf, isDigit, isLetter, inWord, isBlank, inComment}
-use Rattle.source_language.specs.Text.{named, cell, on}
+use Rattle.source_language.specs.Tokens.{number, sign, Spelling, spelled, endSign, straySign, marks, reserved, same, signOf, isDigit, isLetter, inWord, isBlank, inComment}
+use Rattle.source_language.specs.Text.{plus, minus, named, cell, on}
+use Rattle.source_language.specs.Grammar.{IsValue, v-minus}
 use Rattle.source_language.specs.Renaming.{phraseAs, reactionsAs}
-use Rattle.source_language.specs.Faults.{fine, fault, outside, tooLarge, offScale, tooMany, declaredTwice, secondHandler, tooDeep, unknownName, noSuchCell, shortBuffer, longText}
-use Rattle.source_language.specs.Limits.{among, phraseNesting, afterAll}
+use Rattle.source_language.specs.Faults.{fine, fault, outside, tooLarge, offScale, tooMany, declaredTwice, secondHandler, tooDeep, unknownName, noSuchCell, longSheet, shortBuffer, longText}
+use Rattle.source_language.specs.Limits.{ConstantFits, among, phraseNesting, afterAll}
 use Rattle.source_language.specs.Meaning.{amongPlayers, bitsBelow, behaviourNamed, meaningOfName, eventNamed, termOf, clausesOf, entriesOf, sheetOf}
 use Rattle.source_language.specs.Scanner.{runOfKind, beyondRun, firstInText, scannedTokens}
 use Rattle.source_language.specs.Reader.{pastSign, valueOf, afterOperand, cellOf, readConstant, readNegation, readChoice, signedOf, fromOperand, phraseWithin, morePlayers, fromOf, seenOf, manyOf, defaultOf, parameterOf, eventDeclared, reactionOf, passiveDeclared, stateOf, rowDeclared, behaviourDeclared, behaviourBegins, declarationsOf, readText}
 use Rattle.source_language.specs.Answer.{lineFrom, columnFrom, turnedDown}
-use Rattle.source_language.specs.Assembled.{assembled, assembleOn}
+use Rattle.source_language.specs.Assembled.{lengthJudged, assembled, assembleOn}
 
 -- the sheet of docs/SHEETS.md
 --   # Twelve lamps. A comment runs to the end of its line.
@@ -197,6 +203,7 @@ cells = (refl, refl)
 --   passive a=if(1,2  ('outside', 16)
 --   active on=1  ('outside', 7)
 --   passive a=1<=\x80  ('outside', 13)
+--   passive a=)1)  ('outside', 10)
 pub outside-the-grammar : (assembled (112 ∷ 97 ∷ 114 ∷ 97 ∷ 109 ∷ 32 ∷ 97 ∷ 32 ∷ 64 ∷ []) 8192 ≡ fault outside 8)
     × (assembled (112 ∷ 97 ∷ 114 ∷ 97 ∷ 109 ∷ 32 ∷ 97 ∷ 97 ∷ 97 ∷ 97 ∷ 97 ∷ 97 ∷ 97 ∷ 97 ∷ 97 ∷ 97 ∷ 97 ∷ 97 ∷ 97 ∷ 97 ∷ 97 ∷ 97 ∷ 97 ∷ 97 ∷ 97 ∷ 97 ∷ 97 ∷ 97 ∷ 97 ∷ 97 ∷ 97 ∷ 97 ∷ 97 ∷ 97 ∷ 97 ∷ 97 ∷ 97 ∷ 97 ∷ 97 ∷ []) 8192 ≡ fault outside 6)
     × (assembled (101 ∷ 118 ∷ 101 ∷ 110 ∷ 116 ∷ 32 ∷ 101 ∷ 32 ∷ 114 ∷ 97 ∷ 110 ∷ 107 ∷ 32 ∷ 45 ∷ 49 ∷ []) 8192 ≡ fault outside 13)
@@ -205,8 +212,22 @@ pub outside-the-grammar : (assembled (112 ∷ 97 ∷ 114 ∷ 97 ∷ 109 ∷ 32 �
     × (assembled (112 ∷ 97 ∷ 115 ∷ 115 ∷ 105 ∷ 118 ∷ 101 ∷ 32 ∷ 97 ∷ 61 ∷ 105 ∷ 102 ∷ 40 ∷ 49 ∷ 44 ∷ 50 ∷ []) 8192 ≡ fault outside 16)
     × (assembled (97 ∷ 99 ∷ 116 ∷ 105 ∷ 118 ∷ 101 ∷ 32 ∷ 111 ∷ 110 ∷ 61 ∷ 49 ∷ []) 8192 ≡ fault outside 7)
     × (assembled (112 ∷ 97 ∷ 115 ∷ 115 ∷ 105 ∷ 118 ∷ 101 ∷ 32 ∷ 97 ∷ 61 ∷ 49 ∷ 60 ∷ 61 ∷ 128 ∷ []) 8192 ≡ fault outside 13)
+    × (assembled (112 ∷ 97 ∷ 115 ∷ 115 ∷ 105 ∷ 118 ∷ 101 ∷ 32 ∷ 97 ∷ 61 ∷ 41 ∷ 49 ∷ 41 ∷ []) 8192 ≡ fault outside 10)
 unfolding marks reserved same signOf isDigit isLetter inWord isBlank inComment decimalValue level runOfKind beyondRun firstInText scannedTokens among phraseNesting afterAll amongPlayers bitsBelow behaviourNamed meaningOfName eventNamed termOf clausesOf entriesOf sheetOf pastSign valueOf afterOperand cellOf readConstant readNegation readChoice signedOf fromOperand phraseWithin morePlayers fromOf seenOf manyOf defaultOf parameterOf eventDeclared reactionOf passiveDeclared stateOf rowDeclared behaviourDeclared behaviourBegins declarationsOf readText assembled encode encodeEvents encodeBehaviours encodeHandlers encodeExpr
-outside-the-grammar = (refl, refl, refl, refl, refl, refl, refl, refl)
+outside-the-grammar = (refl, refl, refl, refl, refl, refl, refl, refl, refl)
+
+-- no two signs are one: the marks, the reserved words, the text's end and a byte where no token begins
+unfoldable pub otherSigns : ℕ → List Spelling → Bool
+otherSigns n [] = true
+otherSigns n (spelled s m ∷ rows) = pick (eqb n m) false (otherSigns n rows)
+
+unfoldable pub signsApart : List Spelling → Bool
+signsApart [] = true
+signsApart (spelled s n ∷ rows) = pick (otherSigns n rows) (signsApart rows) false
+
+pub signs-apart : signsApart (marks ++ (reserved ++ (spelled [] endSign ∷ spelled [] straySign ∷ []))) ≡ true
+unfolding marks reserved otherSigns signsApart
+signs-apart = refl
 
 -- a number over 2,147,483,647, and one more after a `-` that makes a constant; also as a rank, a count, a cell
 --   param a=2147483648  ('tooLarge', 8)
@@ -376,3 +397,17 @@ pub renamed : (phraseAs (λ s. 98 ∷ s) (λ s. 99 ∷ s) (λ p. p + 1) (cell 3 
     × (reactionsAs (λ s. 98 ∷ s) (λ s. 99 ∷ s) (λ p. p + 1) (on (101 ∷ []) later (named 5 (97 ∷ [])) ∷ []) ≡ on (99 ∷ 101 ∷ []) later (named 6 (98 ∷ 97 ∷ [])) ∷ [])
 unfolding phraseAs reactionsAs
 renamed = (refl, refl)
+
+-- `-` and 7 are the constant -7; the largest and the least number
+pub minus-seven : IsValue (sign 0 5 ∷ number 1 7 ∷ []) (minus 7) []
+minus-seven = v-minus
+
+pub constants : ConstantFits (plus 2147483647) × (ConstantFits (plus 2147483648) → ⊥) × ConstantFits (minus 2147483648) × (ConstantFits (minus 2147483649) → ⊥)
+constants = (omega arith, (λ h. omega arith), omega arith, (λ h. omega arith))
+
+-- a sheet of 8,192 bytes, at the end of a text of nine: in a buffer of as many, and of one byte less; one of 8,193
+pub longest-sheet : (s : Sheet) → length (encode s) ≡ 8192 → (lengthJudged 9 8192 s ≡ fine (encode s)) × (lengthJudged 9 8191 s ≡ fault shortBuffer 9)
+longest-sheet s h = (rw h, rw h)
+
+pub too-long-a-sheet : (s : Sheet) → length (encode s) ≡ 8193 → lengthJudged 9 8193 s ≡ fault longSheet 9
+too-long-a-sheet s h = rw h

@@ -2,6 +2,7 @@
 -- grammar, and the order of refusals.
 use Prim.Native.Nat.{_+_}
 use mathlib.Core.Path.{_≡_, refl}
+use native.Mathlib.Omega.{arith}
 use mathlib.Core.List.{[], _∷_, _++_}
 use mathlib.Core.Option.{none, some}
 use lib.ListN.{replicate}
@@ -9,6 +10,8 @@ use Rattle.lib_signature.specs.Signature.{level}
 use Rattle.spec_language.specs.Sheet.{asSent}
 use Rattle.spec_language.specs.Syntax.{con, name, app1, app2, app3}
 use Rattle.spec_language.specs.Grammar.{encodeExpr}
+use Rattle.text_formula.specs.Tokens.{Digit}
+use Rattle.text_formula.specs.Grammar.{Operator, operator}
 use Rattle.text_formula.specs.Reader.{digitOf, nameOf, singleOf, doubleOf, markedOf, wordToken, numberToken, firstOf, tokensOf, operatorChain, tower, bracketedOf, choiceOf, operandAt, readFormula}
 use Rattle.text_formula.specs.Answer.{large, nesting, answered, fieldAnswer}
 use Rattle.text_formula.specs.Formula.{formulaOn}
@@ -85,3 +88,34 @@ pub deep : (formulaOn (replicate 15 33 ++ (98 ∷ 48 ∷ [])) (replicate 3 0) �
     × (formulaOn (replicate 30 40 ++ (98 ∷ 48 ∷ replicate 30 41)) (replicate 4 0) ≡ answered (4294967296 + 4) (17 ∷ 0 ∷ 1 ∷ 0 ∷ []))
 unfolding digitOf nameOf singleOf doubleOf markedOf wordToken numberToken firstOf tokensOf level operatorChain tower bracketedOf choiceOf operandAt readFormula large nesting fieldAnswer formulaOn encodeExpr asSent
 deep = (refl, refl, refl, refl)
+
+-- 1,022 spaces and b0 are 1,024 bytes; one space more is too many
+pub longest : (formulaOn (replicate 1022 32 ++ (98 ∷ 48 ∷ [])) (replicate 4 0) ≡ answered (4294967296 + 4) (17 ∷ 0 ∷ 1 ∷ 0 ∷ []))
+    × (formulaOn (replicate 1023 32 ++ (98 ∷ 48 ∷ [])) (replicate 4 0) ≡ answered 21 (replicate 4 0))
+unfolding digitOf nameOf singleOf doubleOf markedOf wordToken numberToken firstOf tokensOf level operatorChain tower bracketedOf choiceOf operandAt readFormula large nesting fieldAnswer formulaOn encodeExpr asSent
+longest = (refl, refl)
+
+-- the grammar's levels, the tightest first: `* /`, `+ -`, the four orderings, the two equalities, `&&`, `||`
+pub products : Operator 1 6 × Operator 1 7
+unfolding level
+products = (operator refl, operator refl)
+
+pub sums : Operator 2 4 × Operator 2 5
+unfolding level
+sums = (operator refl, operator refl)
+
+pub orderings : Operator 3 8 × Operator 3 9 × Operator 3 10 × Operator 3 11
+unfolding level
+orderings = (operator refl, operator refl, operator refl, operator refl)
+
+pub equalities : Operator 4 12 × Operator 4 13
+unfolding level
+equalities = (operator refl, operator refl)
+
+pub connectives : Operator 5 2 × Operator 6 1
+unfolding level
+connectives = (operator refl, operator refl)
+
+-- the digits' bytes are 48 to 57
+pub digits : Digit 48 × Digit 57 × (Digit 47 → ⊥) × (Digit 58 → ⊥)
+digits = ((omega arith, omega arith), (omega arith, omega arith), (λ d. omega (arith, d .0)), (λ d. omega (arith, d .1)))
