@@ -6,10 +6,11 @@
 
 Believed and proved are told apart by place: a file under specs/ holds definitions and statements only. The other
 checks: no public name that two definitions' files declare, no public name and no dependency that nothing uses, no edit
-that changes nothing and none in two places, no number in the code without a name, no tag, width or offset of a sheet's
-field outside the room sheet, no two rooms that stand on each other, lines of pages and comments at most 120 columns,
-every path and name on the pages there, every edit cited by its crate and label and there, functions of at most 7
-parameters with contracts of at most 6 clauses, and proof files whose answers and places have names.
+that changes nothing, none in two places and none in another function than it names, no number in the code without a
+name, no tag, width or offset of a sheet's field outside the room sheet, no two rooms that stand on each other, lines of
+pages and comments at most 120 columns, every path and name on the pages there, every edit cited by its crate and label
+and there, functions of at most 7 parameters with contracts of at most 6 clauses, and proof files whose answers and
+places have names.
 """
 import collections
 import glob
@@ -137,24 +138,59 @@ def edits():
     return found
 
 
+# what a file of code declares, with the lines from there to the one that closes it
+ITEM = re.compile(r'( *)(?:pub )?(?:extern "C" )?(fn|const|enum|struct|impl) (\w+)')
+
+
+def items_of(lines):
+    """Each function, constant and type that a file of code declares: its name, and its first and last line."""
+    for first, line in enumerate(lines):
+        found = ITEM.match(line)
+        if found:
+            indent, kind, name = found.groups()
+            closes = (lambda l: l.endswith(";")) if kind == "const" else (lambda l: l in (indent + "}", indent + "};"))
+            last = next((n for n in range(first, len(lines)) if closes(lines[n])), first)
+            yield name, first, last
+
+
+def item_at(text, place):
+    """The innermost function, constant or type whose text holds a place of a file, or None."""
+    line = text.count("\n", 0, place)
+    around = [(last - first, name) for name, first, last in items_of(text.split("\n")) if first <= line <= last]
+    return min(around)[1] if around else None
+
+
+def faults_of_pair(file, named, old, new):
+    """A pair of old and new, in a file, in what its `in:` line names."""
+    text = text_of(file) if file and os.path.exists(file) else None
+    if text is None:
+        yield f"no such file: {file}"
+    elif text.count(old) != 1:
+        yield f"its old text stands {text.count(old)} times in {file}" + (f"; it is about {named}" if named else "")
+    elif old == new:
+        yield "it changes nothing"
+    elif file.endswith(".rt"):
+        stands = item_at(text, text.index(old))
+        if stands != named:
+            yield f"its old text stands in {stands or 'no function'}, and `in:` names {named or 'none'}"
+    elif named:
+        yield f"`in:` names a function of the code, and {file} is none: {named}"
+
+
 def faults_of_edit(path):
     crate = crate_of_edit(path)
-    file = old = None
+    file = named = old = None
     pairs = 0
     for line in text_of(path).split("\n"):
         if line.startswith("file: "):
-            file = f"crates/{crate}/{line[6:].strip()}"
+            file, named = f"crates/{crate}/{line[6:].strip()}", None
+        elif line.startswith("in: "):
+            named = line[4:].strip()
         elif line.startswith("old: "):
             old = line[5:]
         elif line.startswith("new:"):
             pairs += 1
-            new = line[4:].removeprefix(" ")
-            if file is None or not os.path.exists(file):
-                yield f"{path}: no such file: {file}"
-            elif text_of(file).count(old) != 1:
-                yield f"{path}: its old text stands {text_of(file).count(old)} times in {file}"
-            elif old == new:
-                yield f"{path}: it changes nothing"
+            yield from (f"{path}: {fault}" for fault in faults_of_pair(file, named, old, line[4:].removeprefix(" ")))
         elif line.strip() and not line.startswith("#"):
             yield f"{path}: rt reads one line for old and one for new; this one it passes over: {line.strip()[:60]}"
     if pairs == 0:
@@ -489,6 +525,7 @@ def check():
 
 # ---- planted cases: what a check must find, each in a copy of the sources
 
+PLANTED_PAIR = "old:     get_at(bytes, k * WORD_BYTES)\nnew:     get_at(bytes, k)\n"
 PLANTED = [
     ("a lemma in specs/", "crates/lib_base/specs/Planted.antt", "planted : 0 ≡ 0\nplanted = refl\n"),
     ("imports from", "crates/lib_base/specs/Planted.antt", "use Rattle.lib_base.proofs.Tools.{by-test}\n"),
@@ -498,7 +535,9 @@ PLANTED = [
     ("which nothing in it uses", "crates.txt", None),
     ("rooms that stand on each other", "crates.txt", None),
     ("it changes nothing", "crates/lib_word/must-fail/planted.edit", None),
-    ("the same label as", "crates/lib_word/must-fail/get_word_by_two.edit", None),
+    ("the same label as", "tests/edits/lib_word/get_word_by_two.edit", None),
+    ("`in:` names wide", "crates/lib_word/must-fail/planted.edit", "file: src/lib.rt\nin: wide\n" + PLANTED_PAIR),
+    ("`in:` names none", "crates/lib_word/must-fail/planted.edit", "file: src/lib.rt\n" + PLANTED_PAIR),
     ("a number without a name", "crates/lib_word/src/planted.rt", "fn planted() -> u32 {\n    17\n}\n"),
     ("8 parameters", "crates/lib_word/src/planted.rt", "fn planted(\n" + "".join(f"    {a}: u32,\n" for a in "abcdefgh") + ") -> u32\n{\n    a\n}\n"),
     ("7 clauses", "crates/lib_word/src/planted.rt", "fn planted() -> u32\n" + "    ensures { λ r. ⌜ r ≡ 0 ⌝ }\n" * 7 + "{\n    0\n}\n"),
@@ -533,7 +572,7 @@ def plant(path, text):
         lines = text_of(path).replace("lib_word: ", "lib_word: lib_arith engine ")
         lines = lines.replace("lib_arith: lib_base", "lib_arith: lib_base")
         return lines
-    if path.endswith(".edit"):
+    if path.endswith(".edit") and text is None:
         line = next(l for l in text_of("crates/lib_word/src/lib.rt").split("\n") if l.startswith("//"))
         return f"file: src/lib.rt\nold: {line}\nnew: {line}\n"
     old = text_of(path) if os.path.exists(path) else ""
