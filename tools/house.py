@@ -6,11 +6,11 @@
 
 Believed and proved are told apart by place: a file under specs/ holds definitions and statements only. The other
 checks: no public name that two definitions' files declare, no public name and no dependency that nothing uses, no edit
-that changes nothing, none in two places and none in another function than it names, no number in the code without a
-name, no tag, width or offset of a sheet's field outside the room sheet, no two rooms that stand on each other, lines of
-pages and comments at most 120 columns, every path and name on the pages there, every edit cited by its crate and label
-and there, functions of at most 7 parameters with contracts of at most 6 clauses, and proof files whose answers and
-places have names.
+that changes nothing, none in two places and none in another function than it names, an edit at the gate for each crate
+with code, two for each exported call, no number in the code without a name, no tag, width or offset of a sheet's field
+outside the room sheet, no two rooms that stand on each other, lines of pages and comments at most 120 columns, every
+path and name on the pages there, every edit cited by its crate and label and there, functions of at most 7 parameters
+with contracts of at most 6 clauses, and proof files whose answers and places have names.
 """
 import collections
 import glob
@@ -203,6 +203,35 @@ def faults_of_edits():
             yield from faults_of_edit(path)
         if len(paths) > 1:
             yield f"{paths[1]}: the same label as {paths[0]}"
+
+
+def has_code(crate):
+    return any(re.search(r'^(?:pub )?(?:extern "C" )?fn ', text_of(path), re.M) for path in files_under(f"crates/{crate}/src", ".rt"))
+
+
+def crates_without_an_edit():
+    """The gate tries a wrong program of every crate with code."""
+    for crate in read_crates()[0]:
+        if has_code(crate) and not glob.glob(f"crates/{crate}/must-fail/*.edit"):
+            yield f"crates/{crate}: no edit of its code is tried at the gate"
+
+
+def section(page, title):
+    return text_of(page).partition(f"\n## {title}\n")[2].partition("\n## ")[0]
+
+
+def edits_due_at_the_gate():
+    """The gate tries two edits for each exported call, and each engine that the buyer sends back, as the claims list them."""
+    page, tried = "docs/CLAIMS.md", {cited for cited, paths in edits().items() if paths[0].startswith("crates/")}
+    calls = section(page, "Two wrong programs for each exported call")
+    of_call = {call: re.findall(r"`(\w+/\w+)`", rest) for call, rest in re.findall(r"^- `(\w+)`: (.*(?:\n  .*)*)", calls, re.M)}
+    for call in re.findall(r'^pub extern "C" fn (\w+)', text_of("crates/engine/src/lib.rt"), re.M):
+        count = len(tried.intersection(of_call.get(call, [])))
+        if count < 2:
+            yield f"{page}: the gate tries {count} edits of {call} that are listed there, and two are due"
+    for engine, rest in re.findall(r"^- (.*)\n((?:  .*\n)+)", section(page, "The seven engines that the buyer sends back"), re.M):
+        if not tried.intersection(re.findall(r"`(\w+/\w+)`", rest)):
+            yield f"{page}: the gate tries no edit of the engine that is sent back: {engine}"
 
 
 # ---- numbers, widths, names on pages
@@ -504,6 +533,8 @@ def all_faults():
     yield from unused_functions()
     yield from unused_dependencies()
     yield from faults_of_edits()
+    yield from crates_without_an_edit()
+    yield from edits_due_at_the_gate()
     yield from bare_numbers()
     yield from numbers_of_sheets()
     yield from wide_lines()
@@ -538,6 +569,9 @@ PLANTED = [
     ("the same label as", "tests/edits/lib_word/get_word_by_two.edit", None),
     ("`in:` names wide", "crates/lib_word/must-fail/planted.edit", "file: src/lib.rt\nin: wide\n" + PLANTED_PAIR),
     ("`in:` names none", "crates/lib_word/must-fail/planted.edit", "file: src/lib.rt\n" + PLANTED_PAIR),
+    ("no edit of its code", "crates/lib_base/src/planted.rt", "fn planted() -> u32 {\n    0\n}\n"),
+    ("0 edits of circle", "docs/CLAIMS.md", ("- `circle`: ", "- `planted`: ")),
+    ("no edit of the engine that is sent back", "docs/CLAIMS.md", ("`run_arrive/number_made_up`\n", "`run_arrive/planted`\n")),
     ("a number without a name", "crates/lib_word/src/planted.rt", "fn planted() -> u32 {\n    17\n}\n"),
     ("8 parameters", "crates/lib_word/src/planted.rt", "fn planted(\n" + "".join(f"    {a}: u32,\n" for a in "abcdefgh") + ") -> u32\n{\n    a\n}\n"),
     ("7 clauses", "crates/lib_word/src/planted.rt", "fn planted() -> u32\n" + "    ensures { λ r. ⌜ r ≡ 0 ⌝ }\n" * 7 + "{\n    0\n}\n"),
@@ -572,6 +606,8 @@ def plant(path, text):
         lines = text_of(path).replace("lib_word: ", "lib_word: lib_arith engine ")
         lines = lines.replace("lib_arith: lib_base", "lib_arith: lib_base")
         return lines
+    if isinstance(text, tuple):
+        return text_of(path).replace(*text)
     if path.endswith(".edit") and text is None:
         line = next(l for l in text_of("crates/lib_word/src/lib.rt").split("\n") if l.startswith("//"))
         return f"file: src/lib.rt\nold: {line}\nnew: {line}\n"
