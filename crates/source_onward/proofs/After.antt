@@ -18,7 +18,7 @@ use Rattle.source_language.specs.Limits.{phraseNesting}
 use Rattle.source_language.specs.Reader.{Phrased, bad, got, thenPhrase, placeAt, signAt, pastSign, withOperator, afterOperand}
 use Rattle.source_coding.specs.FaultWords.{faultWord}
 use Rattle.source_coding.specs.Places.{tokensFrom}
-use Rattle.source_tokens.specs.Token.{PassedOver}
+use Rattle.source_tokens.specs.Token.{TokenBegins, PassedOver}
 use Rattle.source_tokens.proofs.Begun.{tokens-some}
 use Rattle.source_tokens.proofs.Scanned.{tokens-end}
 use Rattle.source_tokens.proofs.Opened.{not-by-byte, if-by-byte}
@@ -137,6 +137,14 @@ module _ (text : List ℕ) (at : ℕ) where
         onward = λ x y. absurd (omega arith);
         further = λ x y. absurd (omega arith);
       }
+
+  -- `!` stands at a place where a token begins, and is in no word
+  pub not-byte : PassedOver text at at → getD text at 0 ≡ 33 → TokenBegins text at × (inWord (getD text at 0) ≡ false)
+  unfolding inWord isDigit isLetter
+  not-byte o e =
+      let l : at < length text = split (ltb at (length text)) (λ t. ltb-true at (length text) t)
+      (λ f. let d = List·getD-eq-default text 0 (ltb-false at (length text) f) in absurd (omega arith)) in
+      (o .begun l, rw e refl)
 
   pub before-sign : (p c next : ℕ) → SignStands text at p c next → SignBefore text at p c next
   before-sign p c next s =

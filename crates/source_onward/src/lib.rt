@@ -75,14 +75,15 @@ pub fn sign_before(text: &[u8], at: usize) -> Standing
     ensures { λ r. ⌜ SignBefore (now (text .entry)) at (r .place) (r .sign) (r .next) ⌝ }
 {
     let b = byte_at(text, at);
-    if b != b'!' {
-        if b != b'i' {
-            return Standing {
-                place: at,
-                sign: 0,
-                next: at,
-            };
-        }
+    if b == b'!' {
+        return standing_of(mark_at(text, at));
+    }
+    if b != b'i' {
+        return Standing {
+            place: at,
+            sign: 0,
+            next: at,
+        };
     }
     standing_of(token_at(text, at))
 }

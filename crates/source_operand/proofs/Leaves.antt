@@ -5,7 +5,7 @@ use mathlib.Core.Logic.{_≢_}
 use mathlib.Core.Path.{_≡_, refl, sym, ap, _∙_}
 use mathlib.Core.List.{List, [], _∷_}
 use native.Mathlib.Omega.{arith}
-use lib.ListN.{length}
+use lib.ListN.{length, getD}
 use lib.Dec.{ltb, eqb}
 use borrow.Author.Tests.{ne-eqb}
 use Rattle.lib_base.proofs.Tools.{by-test, by-two}
@@ -23,6 +23,7 @@ use Rattle.source_coding.specs.Sizes.{phraseSize}
 use Rattle.source_tokens.specs.Token.{TokenAt, TokenWithin, PassedOver}
 use Rattle.source_tokens.specs.declared.Token.{Token}
 use Rattle.source_tokens.specs.declared.Token.the-variants.{Number, Name, Sign}
+use Rattle.source_tokens.proofs.Opened.{bracket-by-byte}
 use Rattle.source_due.specs.Due.{SignTold, NumberTold, ValueTold, DueWithin}
 use Rattle.source_due.proofs.Passes.{sign-passes, sign-fails, number-passes, number-fails}
 use Rattle.source_due.specs.declared.Due.{Due}
@@ -32,7 +33,7 @@ use Rattle.source_field.specs.declared.Read.{Read}
 use Rattle.source_field.specs.declared.Read.the-variants.{Done, Fault}
 use Rattle.source_field.proofs.Laid.{laid-leaf, laid-fault, encodedOf}
 use Rattle.source_field.proofs.Parts.{laid-written}
-use Rattle.source_operand.specs.Operand.{LeafAs, leafDone, leafPlaced, cellNumber, CellDue, NoMoreLeft, plainOf, PlaceWithin, SettledRead}
+use Rattle.source_operand.specs.Operand.{LeafAs, leafDone, leafPlaced, cellNumber, CellDue, BracketTold, NoMoreLeft, plainOf, PlaceWithin, SettledRead}
 use Rattle.source_operand.specs.declared.Leaf.{Leaf}
 use Rattle.source_operand.specs.declared.Leaf.the-variants.{Known, Unknown}
 
@@ -107,17 +108,17 @@ abbrev pub NameRead : List ℕ → (List ℕ → NameMeaning) → ℕ → ℕ �
 NameRead text find c p next n o o₂ r g = FormulaRead text find c n o o₂ r g × (FormulaWithin (length text) 1 p n r × NoMoreLeft text next r)
 
 module _ (text : List ℕ) (find : List ℕ → NameMeaning) (c p next n : ℕ) (s o : List ℕ) (bounds : (p < next) × (next ≤ length text)) where
-  pub name-read : (w : ℕ) (q : Due) (leaf : Leaf) (r : Read) (o₂ : List ℕ) → SignTold text next bracket q → q ≡ D.Fault w → LeafAs leaf (nameTerm p (find s)) → r ≡ leafDone next n leaf
+  pub name-read : (w : ℕ) (q : Due) (leaf : Leaf) (r : Read) (o₂ : List ℕ) → BracketTold text next q → q ≡ D.Fault w → LeafAs leaf (nameTerm p (find s)) → r ≡ leafDone next n leaf
       → o₂ ≡ leafPlaced n leaf o → NameRead text find c p next n o o₂ r (cellOf p s (tokensFrom text next))
   unfolding termOf phraseSize phraseNesting
   name-read w q leaf r o₂ d e h f g =
       let z = rw e at d in
-      rw (f, g, named-as p s (tokensFrom text next) (z .0)) (
+      rw (f, g, named-as p s (tokensFrom text next) z) (
         leaf-read text find c n o next (named p s) (tokensFrom text next) leaf (nameTerm p (find s)) refl h refl refl refl,
         (leaf-within (length text) p n next leaf (bounds .0) (bounds .1), leaf-left text next n next leaf (omega arith)),
       )
 
-  module _ (q b inside : ℕ) (d : Due) (due : SignTold text next bracket d) (is : d ≡ D.Found q b inside) where
+  module _ (q b inside : ℕ) (d : Due) (due : BracketTold text next d) (is : d ≡ D.Found q b inside) where
     opened : tokensFrom text next ≡ sign q bracket ∷ tokensFrom text inside
     opened = rw is at due
 
@@ -136,6 +137,16 @@ module _ (text : List ℕ) (find : List ℕ → NameMeaning) (c p next n : ℕ) 
           leaf-read text find c n o to (cell p s q k) (tokensFrom text to) leaf (cellTerm c p q k (find s)) refl l refl refl refl,
           (leaf-within (length text) p n to leaf (omega arith) (omega arith), leaf-left text next n to leaf (omega arith)),
         )
+
+-- ---- `[`
+
+module _ (text : List ℕ) (at p : ℕ) (o : PassedOver text at p) where
+  pub bracket-none : (w : ℕ) → (getD text p 0 ≡ 91 → ⊥) → 0 < w → BracketTold text at (D.Fault w) × DueWithin (length text) at (D.Fault w)
+  bracket-none w h g = (bracket-by-byte text at p o h, g)
+
+  pub bracket-passed : (d : Due) → SignTold text p bracket d → DueWithin (length text) p d → BracketTold text at d × DueWithin (length text) at d
+  bracket-passed (D.Found q v next) h b = (o .all ∙ h, (omega (arith, o .onward, b .0), b .1, b .2, b .3))
+  bracket-passed (D.Fault w) h b = (λ z. h .0 (ap signAt (sym (o .all)) ∙ z), b)
 
 -- ---- constants
 

@@ -1,17 +1,18 @@
 -- What a name in a formula comes to: its meaning as the code holds it, and its field or its fault.
 use Prim.Native.Nat.{ℕ, _+_, _≤_, _<_}
 use mathlib.Core.Path.{_≡_}
+use mathlib.Core.Logic.{_≢_}
 use mathlib.Core.List.{List, [], _∷_}
 use lib.ListN.{length}
 use Rattle.spec_language.specs.Sheet.{Term}
 use Rattle.spec_language.specs.Grammar.{field, encodeExpr}
 use Rattle.sheet_write.specs.Writes.{fitted}
-use Rattle.source_language.specs.Tokens.{SheetToken, number, name, sign, unbracket}
+use Rattle.source_language.specs.Tokens.{SheetToken, number, name, sign, bracket, unbracket}
 use Rattle.source_language.specs.Text.{Phrase}
 use Rattle.source_language.specs.Faults.{outside, OrFault, fault, fine}
 use Rattle.source_language.specs.Limits.{largest}
 use Rattle.source_language.specs.Meaning.{NameMeaning, nothing, aParameter, aBehaviour, aRow}
-use Rattle.source_language.specs.Reader.{Phrased, bad, got, pastSign, numberDue, readConstant, cellOf}
+use Rattle.source_language.specs.Reader.{Phrased, bad, got, signAt, pastSign, numberDue, readConstant, cellOf}
 use Rattle.source_coding.specs.FaultWords.{faultWord}
 use Rattle.source_coding.specs.Places.{tokensFrom}
 use Rattle.source_tokens.specs.Token.{PassedOver}
@@ -65,6 +66,11 @@ cellNumber ts = numberDue largest (λ r n us. pastSign unbracket (λ vs. got n v
 abbrev pub CellDue : List ℕ → ℕ → Due → Type 0
 CellDue text at (D.Found p v next) = (cellNumber (tokensFrom text at) ≡ got v (tokensFrom text next)) × (length (tokensFrom text next) < length (tokensFrom text at))
 CellDue text at (D.Fault w) = FaultTold (cellNumber (tokensFrom text at)) w
+
+-- a `[` and the place behind it; else no `[` stands first
+abbrev pub BracketTold : List ℕ → ℕ → Due → Type 0
+BracketTold text at (D.Found p v next) = tokensFrom text at ≡ sign p bracket ∷ tokensFrom text next
+BracketTold text at (D.Fault w) = signAt (tokensFrom text at) ≢ bracket
 
 -- no more tokens are left than from a place on
 abbrev pub NoMoreLeft : List ℕ → ℕ → Read → Type 0

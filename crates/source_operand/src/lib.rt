@@ -9,12 +9,13 @@ use source_due::Due;
 use source_due::fault_word;
 use source_due::number_due;
 use source_due::sign_due;
-use source_due::value_at;
+use source_due::value_of;
 use source_field::Cursor;
 use source_field::Read;
 use source_names::CELL;
 use source_names::found_in;
 use source_tokens::Token;
+use source_tokens::byte_at;
 use source_tokens::pass_over;
 use source_tokens::token_at;
 ghost use mathlib.Core.Path.{_≡_};
@@ -26,10 +27,11 @@ ghost use Rattle.source_language.specs.Meaning.{NameMeaning, aRow, nameTerm, ce
 ghost use Rattle.source_language.specs.Reader.{readConstant, cellOf};
 ghost use Rattle.source_coding.specs.Places.{tokensFrom, nameAt, behaviourOrRow};
 ghost use Rattle.source_names.specs.Known.{numberMeans, meaningBy};
+ghost use Rattle.source_tokens.specs.Token.{TokenAt, TokenWithin};
 ghost use Rattle.source_due.specs.Due.{DueWithin};
 ghost use Rattle.source_field.specs.Formula.{Readable, FormulaRead, FormulaWithin, FewerLeft, PartRead};
 ghost use Rattle.source_operand.specs.Operand.{meantBy, MeaningWithin, LeafAs, LeafWithin, leafDone, leafPlaced};
-ghost use Rattle.source_operand.specs.Operand.{CellDue, NoMoreLeft, plainOf, PlaceWithin, SettledRead};
+ghost use Rattle.source_operand.specs.Operand.{CellDue, BracketTold, NoMoreLeft, plainOf, PlaceWithin, SettledRead};
 ghost use Rattle.source_coding.specs.Bounds.{textBytes};
 ghost use Rattle.source_field.specs.Ends.{fieldEnd};
 ghost use Rattle.source_names.specs.Units.{cellUnit, meaningLimit};
@@ -186,6 +188,20 @@ fn cell_number(text: &[u8], at: usize) -> Due
     Due::Found(p, k, to)
 }
 
+// `[`, where that is the first token from a place on; no other token is read.
+fn bracket_at(text: &[u8], at: usize) -> Due
+    requires { ⌜ length (now text) ≤ textBytes ⌝ }
+    requires { ⌜ at ≤ length (now text) ⌝ }
+    ensures { λ r. ⌜ BracketTold (now (text .entry)) at r ⌝ }
+    ensures { λ r. ⌜ DueWithin (length (now (text .entry))) at r ⌝ }
+{
+    let p = pass_over(text, at);
+    if byte_at(text, p) != b'[' {
+        return Due::Fault(fault_word(faults::OUTSIDE, p));
+    }
+    sign_due(text, p, signs::BRACKET)
+}
+
 // What stands after the name at the cursor: a cell of it, or nothing of it.
 fn named_at(
     text: &[u8],
@@ -208,7 +224,7 @@ fn named_at(
     let p = cursor.at;
     let n = cursor.end;
     let meaning = meaning_of(text, p, places, cursor.sorted, meanings);
-    let bracket = sign_due(text, next, signs::BRACKET);
+    let bracket = bracket_at(text, next);
     let Due::Found(q, c, inside) = bracket else {
         return put_leaf(next, name_leaf(meaning, p), out, n);
     };
@@ -223,17 +239,17 @@ fn named_at(
     }
 }
 
-// A constant: a number, or `-` and a number.
-fn constant_at(text: &[u8], at: usize, out: &mut [u8], n: usize) -> Read
+// A constant, a number or `-` and a number, where the token t stands.
+fn constant_of(text: &[u8], at: usize, t: Token, out: &mut [u8], n: usize) -> Read
     requires { ⌜ length (now text) ≤ textBytes ⌝ }
-    requires { ⌜ at ≤ length (now text) ⌝ }
+    requires { ⌜ TokenAt (now text) at t × TokenWithin (length (now text)) at t ⌝ }
     requires { ⌜ n ≤ fieldEnd ⌝ }
     ensures { λ r. ⌜ ((find : List ℕ → NameMeaning) (c : ℕ) → FormulaRead (now (text .entry)) find c n
         (now (out .entry)) (now (out .exit)) r (readConstant (tokensFrom (now (text .entry)) at))) ⌝ }
     ensures { λ r. ⌜ FormulaWithin (length (now (text .entry))) 1 at n r ⌝ }
     ensures { λ r. ⌜ (FewerLeft (now (text .entry)) at r) × (length (now (out .exit)) ≡ length (now (out .entry))) ⌝ }
 {
-    match value_at(text, at) {
+    match value_of(text, at, t) {
         Due::Found(p, word, next) => {
             sheet_write::put_word_field(out, n, tags::CONSTANT, word as u32);
             Read::Done(next, 1, n + sizes::WORD_FIELD, 0)
@@ -257,14 +273,15 @@ fn leaf_at(
         (plainOf (tokensFrom (now (text .entry)) (cursor .at))) ⌝ }
 {
     let n = cursor.end;
-    match token_at(text, cursor.at) {
-        Token::Number(p, v, next) => constant_at(text, cursor.at, out, n),
+    let t = token_at(text, cursor.at);
+    match t {
+        Token::Number(p, v, next) => constant_of(text, cursor.at, t, out, n),
         Token::Name(p, next) => {
             let mut named = cursor;
             named.at = p;
             named_at(text, named, next, places, meanings, out)
         }
-        Token::Sign(p, c, next) => constant_at(text, cursor.at, out, n),
+        Token::Sign(p, c, next) => constant_of(text, cursor.at, t, out, n),
     }
 }
 

@@ -11,7 +11,7 @@ use borrow.Author.Tests.{ltb-true, ltb-false, eqb-true, eq-eqb}
 use Rattle.lib_base.specs.Basics.{pick}
 use Rattle.lib_base.proofs.Tools.{by-test, split}
 use Rattle.lib_signature.specs.Numbers.{notFn, ifFn}
-use Rattle.source_language.specs.Tokens.{SheetToken, name, sign, Spelling, spelled, marks, reserved, same, signOf, opening, isDigit, isLetter, inWord, endSign}
+use Rattle.source_language.specs.Tokens.{SheetToken, name, sign, Spelling, spelled, marks, reserved, same, signOf, opening, bracket, isDigit, isLetter, inWord, endSign}
 use Rattle.source_language.specs.Scanner.{runOfKind, FirstInText, nothing, begins, shortMark, markAt, firstInText, scanOn}
 use Rattle.source_language.specs.Reader.{signIn, signAt}
 use Rattle.source_language.proofs.Scans.{and-both, same-is}
@@ -95,6 +95,10 @@ module _ (text : List ℕ) (at p : ℕ) (s : PassedOver text at p) where
   opening-by-byte : (getD text p 0 ≡ 40 → ⊥) → signAt (tokensFrom text at) ≡ opening → ⊥
   unfolding begunBy marks reserved
   opening-by-byte = other-token 40 opening (omega arith) refl refl text at p s
+
+  pub bracket-by-byte : (getD text p 0 ≡ 91 → ⊥) → signAt (tokensFrom text at) ≡ bracket → ⊥
+  unfolding begunBy marks reserved
+  bracket-by-byte = other-token 91 bracket (omega arith) refl refl text at p s
 
 -- ---- from a place on
 

@@ -1,45 +1,7 @@
--- With a `-` the number after it, without one the number here: the two branches of `valueOf`.
-use native.Mathlib.Omega.{arith}
+-- By the token that stands there.
 use borrow.Author.Needs.{needs}
-use Rattle.source_due.proofs.Laws.{plain-value, minus-within, minus-bad, minus-value}
 use Rattle.source_due.proofs.value_at.Statement.{statement}
 use Rattle.source_due.proofs.value_at.Tie as tie
 
-returns : tie.Need-returns
-returns c =
-    let at-sign = c .before .before .before in
-    plain-value _ _ _ (c .number-due .result) _ (c .before .enum-told .given .1) (at-sign .sign-due .ensures .0) (c .number-due .ensures .0) (c .number-due .ensures .1)
-
-number-due-requires-2 : tie.Need-number-due-requires-2
-number-due-requires-2 c κs =
-    let at-sign = c .before .before .before in
-    let w = minus-within _ _ _ _ _ _ (c .before .minus .given .1) (at-sign .sign-due .ensures .0) (at-sign .sign-due .ensures .1) in
-    (at-sign .before .before .pre .0, (w, omega arith))
-
-returns-2 : tie.Need-returns-2
-returns-2 c =
-    let at-number = c .before .before in
-    let at-sign = at-number .before .before .before .before in
-    minus-bad _ _ _ _ _ _ (at-number .before .before .minus .given .1) (at-sign .sign-due .ensures .0) (at-sign .sign-due .ensures .1)
-    (at-number .number-due2 .result) _ (c .enum-told2 .given .1) (at-number .number-due2 .ensures .0) (at-number .number-due2 .ensures .1)
-
-negated-requires : tie.Need-negated-requires
-negated-requires c κs =
-    let at-number = c .before .before .before in
-    let w = rw (c .before .number .given .1) at (at-number .number-due2 .ensures .1) in
-    omega (arith, w .3)
-
-returns-3 : tie.Need-returns-3
-returns-3 c =
-    let at-number = c .before .before .before .before in
-    let at-minus = at-number .before .before in
-    let at-sign = at-minus .before .before in
-    minus-value _ _ _ _ _ _ (at-minus .minus .given .1) (at-sign .sign-due .ensures .0) (at-sign .sign-due .ensures .1)
-    _ _ _ _ _ (c .before .before .number .given .1) (at-number .number-due2 .ensures .0) (at-number .number-due2 .ensures .1)
-    (c .negated .ensures)
-
 pub value-at-spec : {M : Type 1} → statement M
-value-at-spec =
-    tie.close
-    (tie.spec (λ c κs. search needs) (λ c. search needs) (λ c. search needs) (λ c κs. search needs) returns
-    number-due-requires-2 (λ c. search needs) (λ c. search needs) returns-2 negated-requires returns-3)
+value-at-spec = tie.close (tie.spec (λ c κs. search needs) (λ c κs. search needs) (λ c. search needs))
