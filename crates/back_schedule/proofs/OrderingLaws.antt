@@ -10,9 +10,11 @@ use lib.Dec.{eqb}
 use lib.ListN.{length}
 use lib.Seq.{length-take-le}
 use borrow.Author.Tests.{lt-ltb, le-ltb, eq-eqb, ne-eqb}
+use Rattle.lib_base.specs.Basics.{pick}
 use Rattle.lib_base.proofs.Tools.{by-test}
 use Rattle.lib_bits.specs.Bits.{bit}
 use Rattle.lib_bits.proofs.BitLaws.{bit-none}
+use Rattle.spec_language.specs.Refusals.{cycle}
 use Rattle.draft_form.specs.Draft.{draftLength, entryOf}
 use Rattle.draft_form.specs.Entry.{entryKind}
 use Rattle.check_graph.specs.Matrix.{cell}
@@ -102,10 +104,28 @@ pub all-in : (d : List ℕ) (e n : ℕ) {o : List ℕ} {count t : ℕ} → Order
 unfolding isOrdered
 all-in d e n h q b = rw (holds-count h, ← q) (ap not (le-ltb _ _ b))
 
+-- what is answered of a circle, and of an order with all
+pub circle-checked : (d : List ℕ) (e n : ℕ) (o : List ℕ) → isOrdered d e n ≡ false → Checked d e n Circular o
+circle-checked d e n o h = (rw h, λ q. absurd (omega arith))
+
+pub order-checked : (d : List ℕ) (e n : ℕ) (o : List ℕ) (count : ℕ) → isOrdered d e n ≡ true → OrderHolds o count n (orderUnder d e n) → Checked d e n (Complete count) o
+order-checked d e n o count h k = (rw h, λ q. k)
+
+-- and back: the number tells whether all stand in it
+told-circle : (b : Bool) → cycle ≡ pick b 0 cycle → b ≡ false
+told-circle true q = absurd (omega arith)
+told-circle false q = refl
+
+told-order : (b : Bool) → 0 ≡ pick b 0 cycle → b ≡ true
+told-order true q = refl
+told-order false q = absurd (omega arith)
+
 -- what was found, once its case is known
 module _ (d : List ℕ) (e n : ℕ) (a : Order) (o : List ℕ) (h : Checked d e n a o) where
   pub found-none : a ≡ Circular → isOrdered d e n ≡ false
-  found-none q = subst (λ (x : Order). Checked d e n x o) q h
+  found-none q = told-circle (isOrdered d e n) (subst (λ (x : Order). Checked d e n x o) q h .0)
 
   pub found-all : (count : ℕ) → a ≡ Complete count → (isOrdered d e n ≡ true) × OrderHolds o count n (orderUnder d e n)
-  found-all count q = subst (λ (x : Order). Checked d e n x o) q h
+  found-all count q =
+      let k : Checked d e n (Complete count) o = subst (λ (x : Order). Checked d e n x o) q h in
+      (told-order (isOrdered d e n) (k .0), k .1 refl)

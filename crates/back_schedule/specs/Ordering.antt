@@ -8,6 +8,7 @@ use lib.ListN.{length, getD, take}
 use lib.Dec.{eqb, ltb}
 use Rattle.lib_base.specs.Basics.{pick}
 use Rattle.lib_bits.specs.Bits.{bit}
+use Rattle.spec_language.specs.Refusals.{cycle}
 use Rattle.spec_language.specs.Order.{order, upTo}
 use Rattle.draft_form.specs.Draft.{entryOf}
 use Rattle.draft_form.specs.Entry.{entryKind}
@@ -47,7 +48,16 @@ countTurns d e n = total n (λ i. 1 - metMark (entryOf d e i))
 unfoldable pub isOrdered : List ℕ → ℕ → ℕ → Bool
 isOrdered d e n = not (ltb (length (orderUnder d e n)) (countTurns d e n))
 
--- what the check found, and the bytes of the order
+-- 01's number for what the check found, 0 where nothing is refused; and how many stand in the order
+abbrev pub orderRefusal : Order → ℕ
+orderRefusal (Complete count) = 0
+orderRefusal Circular = cycle
+
+abbrev pub orderCount : Order → ℕ
+orderCount (Complete count) = count
+orderCount Circular = 0
+
+-- what the check answers, and the bytes of the order where it refuses nothing
 abbrev pub Checked : List ℕ → ℕ → ℕ → Order → List ℕ → Type 0
-Checked d e n (Complete count) o = (isOrdered d e n ≡ true) × OrderHolds o count n (orderUnder d e n)
-Checked d e n Circular o = isOrdered d e n ≡ false
+Checked d e n r o =
+    (orderRefusal r ≡ pick (isOrdered d e n) 0 cycle) × (orderRefusal r ≡ 0 → OrderHolds o (orderCount r) n (orderUnder d e n))

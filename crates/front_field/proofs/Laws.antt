@@ -4,15 +4,34 @@ use mathlib.Core.Path.{_≡_, refl, _∙_}
 use mathlib.Core.List.{List}
 use native.Mathlib.Omega.{arith}
 use native.Mathlib.Numerals.{sub-one}
-use lib.ListN.{length}
+use lib.ListN.{length, getD}
+use lib.Dec.{ltb}
+use Rattle.lib_base.proofs.Tools.{by-test}
 use Rattle.draft_form.specs.Draft.{draftLength}
 use Rattle.sheet_field.specs.declared.Field.{Field}
 use Rattle.sheet_field.specs.declared.Field.the-variants.{Value, Refused}
-use Rattle.sheet_field.specs.Field.{fieldOf}
+use Rattle.sheet_field.specs.Field.{fieldOf, stated}
 use Rattle.front_field.proofs.RestLaws.{rest-length}
 use Rattle.front_field.specs.Expression.{Out, out, restFrom, goOnAfter, readArguments, closeAt, readBody, headAt, headFrom, headOf, expressionValue, exprOf, ReadIn, CloseIn}
 use Rattle.front_field.specs.declared.Read.{Read}
 use Rattle.front_field.specs.declared.Read.the-variants.{Done, Fault}
+
+-- ---- a refused field has a number
+
+abbrev RefusalSome : Field → Type 0
+RefusalSome (Value t n) = Unit {0}
+RefusalSome (Refused k) = 0 < k
+
+field-some : (s : List ℕ) (lo hi : ℕ) → RefusalSome (fieldOf s lo hi)
+unfolding fieldOf
+field-some s lo hi =
+    by-test RefusalSome (ltb (length s) 3) (λ _. omega arith)
+    (λ _. by-test RefusalSome (ltb (getD s 0 0) lo) (λ _. omega arith)
+    (λ _. by-test RefusalSome (ltb hi (getD s 0 0)) (λ _. omega arith)
+    (λ _. by-test RefusalSome (ltb (length s - 3) (stated s)) (λ _. omega arith) (λ _. tt))))
+
+pub refused-some : (s : List ℕ) (lo hi k : ℕ) → fieldOf s lo hi ≡ Refused k → 0 < k
+refused-some s lo hi k e = rw e at (field-some s lo hi)
 
 module _ (rd : List ℕ → List ℕ → ℕ → Out) where
   pub args-done : (k : ℕ) (v : List ℕ) (at : ℕ) (draft : List ℕ) (n : ℕ) {r : Read} {p : List ℕ} {size next : ℕ}

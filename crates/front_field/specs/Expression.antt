@@ -45,11 +45,18 @@ expressionValue s = partOf s (fieldOf s 16 19)
 unfoldable pub headOf : ℕ → List ℕ → Head
 headOf left s = headFrom left (fieldOf s 16 19) (expressionValue s)
 
--- that a head lies within a value of m bytes: what the reading of a head promises beside the equation
+-- 01's number for it, 0 where nothing is refused
+abbrev pub headRefusal : Head → ℕ
+headRefusal (Leaf node size) = 0
+headRefusal (Apply f) = 0
+headRefusal (NoHead k) = k
+
+-- that a head lies within a value of m bytes, and that a refusal has a number: what the reading of a head promises
+-- beside the equation
 abbrev pub HeadIn : ℕ → ℕ → Head → Type 0
 HeadIn left m (Leaf node size) = (size ≡ m + 3) × (0 < m)
 HeadIn left m (Apply f) = (0 < left) × (0 < m)
-HeadIn left m (NoHead k) = Unit {0}
+HeadIn left m (NoHead k) = 0 < headRefusal (NoHead k)
 
 -- what a reading gives: the answer, and the draft
 abbrev pub Out : Type 0
@@ -79,7 +86,7 @@ unfoldable pub closeAt : ℕ → ℕ → ℕ → List ℕ → ℕ → Out
 closeAt f size at draft m = pick (eqb at size) (Done (at + 3) (m + 1), set draft m (77309411328 + f)) (Fault wrongLength, draft)
 
 abbrev pub readBody : (List ℕ → List ℕ → ℕ → Out) → Head → List ℕ → List ℕ → ℕ → Out
-readBody rd (NoHead k) v draft n = (Fault k, draft)
+readBody rd (NoHead k) v draft n = (Fault (headRefusal (NoHead k)), draft)
 readBody rd (Leaf node size) v draft n = (Done size (n + 1), set draft n node)
 readBody rd (Apply f) v draft n =
     let o : Out = readArguments rd (arity f) v 1 draft n in

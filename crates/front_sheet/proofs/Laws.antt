@@ -8,6 +8,7 @@ use native.Mathlib.Numerals.{sub-one}
 use lib.ListN.{length}
 use borrow.Author.Tests.{eq-eqb, ne-eqb}
 use Rattle.sheet_field.specs.Field.{fieldOf, partOf, fieldRefusal}
+use Rattle.front_field.proofs.Laws.{refused-some}
 use Rattle.front_field.proofs.RestLaws.{rest-length}
 use Rattle.front_field.specs.Expression.{out, restFrom, ReadIn}
 use Rattle.sheet_field.specs.declared.Field.{Field}
@@ -26,6 +27,9 @@ use Rattle.front_sheet.specs.Whole.{eventRead, priorityAt, readEvent, re
 
 -- ---- a field's answer taken apart
 
+pub event-some : (s : List ℕ) {a : Field} {k q lo hi : ℕ} → lo ≡ leastOf s 1 → hi ≡ mostOf s → a ≡ fieldOf s lo hi → a ≡ Refused k → q ≡ fieldRefusal a → 0 < q
+event-some s {a} {k} {q} {lo} {hi} l m f t h = rw (h, t) (refused-some s lo hi k (sym f ∙ t))
+
 module _ (s d : List ℕ) (e : ℕ) {a : Field} where
   pub event-refused : {k q lo hi : ℕ} → lo ≡ leastOf s 1 → hi ≡ mostOf s → a ≡ fieldOf s lo hi → a ≡ Refused k → q ≡ fieldRefusal a → eventRead (NoEvent q) d ≡ readEvent s e d
   unfolding readEvent
@@ -39,7 +43,7 @@ module _ (s d : List ℕ) (e : ℕ) {a : Field} where
 pub event-in : (m size e : ℕ) (r : Event) → EventIn (size + 3) e r → size + 3 ≤ m → EventIn m e r
 event-in m size e (Declared all) h a = (h .0, omega arith, h .2)
 event-in m size e Ended h a = tt
-event-in m size e (NoEvent k) h a = tt
+event-in m size e (NoEvent k) h a = h
 
 -- ---- the loop over events
 

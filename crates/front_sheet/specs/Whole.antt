@@ -20,7 +20,13 @@ use Rattle.front_sheet.specs.declared.Event.the-variants.{Declared, Ende
 use Rattle.front_sheet.specs.declared.Draft.{Draft}
 use Rattle.front_sheet.specs.declared.Draft.the-variants.{Ready, Broken}
 
--- what stands where an event is due, and the draft
+-- 01's number for what stands where an event is due, 0 where nothing is refused; and the bytes of an event's field
+abbrev pub eventRefusal : Event → ℕ
+eventRefusal (Declared size) = 0
+eventRefusal Ended = 0
+eventRefusal (NoEvent k) = k
+
+-- what stands there, and the draft
 abbrev pub EventRead : Type 0
 EventRead = Event × List ℕ
 
@@ -60,7 +66,7 @@ readEvent s e d = eventFrom (fieldOf s (leastOf s 1) (mostOf s)) (partOf s (fiel
 abbrev pub eventNext : Event → List ℕ → ℕ → ℕ → (ℕ → Out) → Out
 eventNext (Declared size) d at e more = more size
 eventNext Ended d at e more = out (Done at e) d
-eventNext (NoEvent k) d at e more = out (Fault k) d
+eventNext (NoEvent k) d at e more = out (Fault (eventRefusal (NoEvent k))) d
 
 -- the events of s from `at` on: the place after them and their number. The first number bounds their count
 unfoldable pub readEvents : ℕ → List ℕ → ℕ → ℕ → List ℕ → Out
@@ -95,11 +101,11 @@ readOn s d =
     let o : Out = readEvents (length s) s 0 0 d in
     proceed (o .0) (o .1) (λ at e. behavioursOf (length s) s at e 0 (o .1) 0)
 
--- bounds that are promised beside the equations
+-- bounds that are promised beside the equations, and that a refusal has a number
 abbrev pub EventIn : ℕ → ℕ → Event → Type 0
 EventIn size e (Declared all) = (4 ≤ all) × (all ≤ size) × (e < 32)
 EventIn size e Ended = Unit {0}
-EventIn size e (NoEvent k) = Unit {0}
+EventIn size e (NoEvent k) = 0 < eventRefusal (NoEvent k)
 
 abbrev pub EventsIn : ℕ → Read → Type 0
 EventsIn size (Done at e) = (at ≤ size) × (e ≤ 32)

@@ -14,9 +14,11 @@ use Rattle.text_formula.specs.Tokens.{Token, number, Begins}
 use Rattle.text_formula.proofs.Scans.{first-says, in-token, begins-some}
 use Rattle.text_formula.specs.Reader.{FirstToken, noToken, begins, digitOf, nameOf, singleOf, doubleOf, markedOf, wordToken, numberToken, firstOf, putFirst, andOn, tokensOf}
 use Rattle.text_lexer.specs.Codes.{capped, tokenCode, found}
-use Rattle.text_lexer.specs.Scanned.{Scanned, Narrow, TokensHeld}
+use Rattle.text_lexer.specs.Scanned.{Scanned, Narrow, ScansAs, Scans}
 use Rattle.text_lexer.specs.declared.Token as answer
 use Rattle.text_lexer.specs.declared.Token.the-variants.{Found, Missing}
+use Rattle.text_lexer.specs.declared.Text.{Text}
+use Rattle.text_lexer.specs.declared.Text.the-variants.{Tokens, Outside}
 
 -- ---- a word
 
@@ -81,7 +83,7 @@ module _ {text : List ℕ} {at n i : ℕ} (s : Digits text at n i) where
   scanned-as : numberToken (s .value) (drop i text) ≡ begins (number (s .value)) (drop i text) → Scanned text at (Found (68719476736 + n) (i - at)) (numberToken 0 (drop at text))
   scanned-as e =
       let q : at + (i - at) ≡ i = omega (arith, s .onward) in
-      rw (s .whole, e, q) (rw (s .so-far), refl)
+      rw (s .whole, e, q) (refl, rw (s .so-far), refl)
 
   pub digits-stop : (d : ℕ) → i < length text → d ≡ digitOf (getD text i 0) → 9 < d → Scanned text at (Found (68719476736 + n) (i - at)) (numberToken 0 (drop at text))
   digits-stop d h p g =
@@ -143,7 +145,7 @@ pub token-word : (text : List ℕ) (at : ℕ) (d : ℕ) (r : answer.Token) → d
 unfolding firstOf
 token-word text at d r p g q =
     rw (drop-first text at, le-ltb (digitOf (getD text at 0)) 10 (omega arith), q)
-    (word-two (Placed text at) (tt, tt) (λ t w h. ((refl, drop-drop w at text), omega arith)) (drop at text))
+    (word-two (Placed text at) (refl, omega arith) (λ t w h. ((refl, refl, drop-drop w at text), omega arith)) (drop at text))
 
 pub token-number : (text : List ℕ) (at : ℕ) (d : ℕ) (r : answer.Token) → d ≡ digitOf (getD text at 0) → d < 10 → Scanned text at r (numberToken 0 (drop at text))
     → Scanned text at r (firstOf (drop at text))
@@ -220,7 +222,7 @@ module _ {text tokens : List ℕ} {at n : ℕ} (s : Turn text tokens at n) (h : 
 
   missing-none : (f : FirstToken) → Scanned text at Missing f → (go : List ℕ → Option (List Token)) → andOn go f ≡ none
   missing-none noToken p go = refl
-  missing-none (begins t rest) p go = absurd p
+  missing-none (begins t rest) p go = absurd (omega (arith, p .0))
 
   pub scan-missing : (r : answer.Token) → (getD text at 0 ≡ 32 → ⊥) → r ≡ Missing → Scanned text at r (firstOf (drop at text)) → tokensOf (length text) text ≡ none
   scan-missing r e q p = s .whole ∙ rw (here e, missing-none (firstOf (drop at text)) (rw q at p) (tokensOf (s .fuel - 1)))
@@ -234,17 +236,17 @@ module _ {text tokens : List ℕ} {at n : ℕ} (s : Turn text tokens at n) (h : 
   map-more (d ∷ ds) t = ap (λ (l : List ℕ). tokenCode d ∷ l) (map-more ds t)
 
   some-bytes : (c w : ℕ) (f : FirstToken) → f ≡ firstOf (drop at text) → Scanned text at (Found c w) f → 0 < w
-  some-bytes c w noToken q p = absurd p
+  some-bytes c w noToken q p = absurd (omega arith)
   some-bytes c w (begins t rest) q p =
       let b : Begins (drop at text) t rest = rw (sym q) at (first-says (drop at text)) in
       let l : length rest < length (drop at text) = begins-some b .0 in
-      omega (arith, length-drop at text, ap length (p .1), length-drop (at + w) text)
+      omega (arith, length-drop at text, ap length (p .2), length-drop (at + w) text)
 
   pub scan-onward : (r : answer.Token) (c w : ℕ) → r ≡ Found c w → Scanned text at r (firstOf (drop at text)) → 0 < w
   scan-onward r c w q p = some-bytes c w (firstOf (drop at text)) refl (rw q at p)
 
   found-turn : (c w : ℕ) (f : FirstToken) → f ≡ firstOf (drop at text) → (getD text at 0 ≡ 32 → ⊥) → Scanned text at (Found c w) f → Turn text (set tokens n c) (at + w) (n + 1)
-  found-turn c w noToken q e p = absurd p
+  found-turn c w noToken q e p = absurd (omega arith)
   found-turn c w (begins t rest) q e p =
       let u : 0 < w = some-bytes c w (begins t rest) q p in
       let v : n < length tokens = omega (arith, s .few, s .kept, s .short) in
@@ -252,8 +254,8 @@ module _ {text tokens : List ℕ} {at n : ℕ} (s : Turn text tokens at n) (h : 
         so-far = s .so-far ++ (t ∷ []);
         fuel = s .fuel - 1;
         enough = omega (arith, s .enough);
-        whole = s .whole ∙ rw (here e, ← q, p .1) (prefixed-more (s .so-far) t (tokensOf (s .fuel - 1) (drop (at + w) text)));
-        numbers = rw (add-one n, take-suc-set tokens n c v, s .numbers, map-more (s .so-far) t, p .0);
+        whole = s .whole ∙ rw (here e, ← q, p .2) (prefixed-more (s .so-far) t (tokensOf (s .fuel - 1) (drop (at + w) text)));
+        numbers = rw (add-one n, take-suc-set tokens n c v, s .numbers, map-more (s .so-far) t, p .1);
         few = omega (arith, s .few);
         room = omega (arith, s .kept);
         kept = rw length-set (s .kept);
@@ -269,11 +271,31 @@ tokens-end zero [] e = refl
 tokens-end (suc k) [] e = refl
 tokens-end k (b ∷ bs) e = absurd (omega arith)
 
-pub scan-end : {text tokens : List ℕ} {at n : ℕ} → Turn text tokens at n → length text ≤ at → TokensHeld text tokens n
+-- the array holds the numbers of the text's tokens
+pub record TokensHeld (text tokens : List ℕ) (n : ℕ) : Type 0 where
+  pub list : List Token
+  pub all : tokensOf (length text) text ≡ some list
+  pub numbers : take n tokens ≡ map tokenCode list
+  pub few : n ≤ 1024
+
+pub scan-end : {text tokens : List ℕ} {at n : ℕ} → Turn text tokens at n → length text ≤ at → Scans text tokens (Tokens n)
 scan-end {text} {tokens} {at} {n} s h =
-    record {
-      list = s .so-far;
-      all = s .whole ∙ rw (tokens-end (s .fuel) (drop at text) (simp length-drop (omega arith)), append-nil (s .so-far));
-      numbers = s .numbers;
-      few = s .room;
-    }
+    let all : tokensOf (length text) text ≡ some (s .so-far) =
+    s .whole ∙ rw (tokens-end (s .fuel) (drop at text) (simp length-drop (omega arith)), append-nil (s .so-far)) in
+    rw all (refl, s .numbers, s .room)
+
+-- and back: the answer tells whether there are tokens
+module _ (text tokens : List ℕ) where
+  held-as : (n : ℕ) (x : Option (List Token)) → tokensOf (length text) text ≡ x → ScansAs text tokens (Tokens n) x → TokensHeld text tokens n
+  held-as n none q p = absurd (omega arith)
+  held-as n (some l) q p = record { list = l; all = q; numbers = p .1; few = p .2 }
+
+  pub scans-held : (r : Text) (n : ℕ) → r ≡ Tokens n → Scans text tokens r → TokensHeld text tokens n
+  scans-held r n q p = held-as n (tokensOf (length text) text) refl (rw q at p)
+
+  none-as : (x : Option (List Token)) → tokensOf (length text) text ≡ x → ScansAs text tokens Outside x → tokensOf (length text) text ≡ none
+  none-as none q p = q
+  none-as (some l) q p = absurd (omega (arith, p .0))
+
+  pub scans-none : (r : Text) → r ≡ Outside → Scans text tokens r → tokensOf (length text) text ≡ none
+  scans-none r q p = none-as (tokensOf (length text) text) refl (rw q at p)

@@ -57,8 +57,8 @@ up m k ts g e = rw e
 begun : (m : ℕ) (ts : List Token) (k at n : ℕ) (o p : List ℕ) (r : Read) (g : Parsed) → readAt m k (drop at ts) ≡ g → length ts - at ≤ k → ReadWithin (length ts) at n 0 r → Agrees ts 0 n o p r g
     → Chained m ts k n o p r (readAt (suc m) k (drop at ts))
 begun m ts k at n o p Fault unparsed e h w a = up m k (drop at ts) unparsed e
-begun m ts k at n o p Fault (parsed x rest) e h w a = absurd a
-begun m ts k at n o p (Done to end depth) unparsed e h w a = absurd a
+begun m ts k at n o p Fault (parsed x rest) e h w a = absurd (omega (arith, a .number))
+begun m ts k at n o p (Done to end depth) unparsed e h w a = absurd (omega arith)
 begun m ts k at n o p (Done to end depth) (parsed x rest) e h w a =
     record {
       expr = x;
@@ -110,13 +110,13 @@ level-fault {m} {cs} {at} {n} {o} {p} {r} t q =
     (λ ts fine e k g. ended ts k (rw q at (t .whole ts fine e k g)), (t .inside, t .kept))
   where
     ended : (ts : List Token) (k : ℕ) → readAt (suc m) k (drop at ts) ≡ unparsed → Agrees ts 0 n o p r (readAt (suc m) k (drop at ts))
-    ended ts k z = rw (q, z) tt
+    ended ts k z = rw (q, z)
 
 done-here : (m : ℕ) (ts : List Token) (k n : ℕ) (o p : List ℕ) (at end depth : ℕ) (g : Parsed) → Midway m ts k n o p at end depth g
     → ((t : Token) (us : List Token) → drop at ts ≡ t ∷ us → levelOf t ≡ suc m → ⊥) → Agrees ts 0 n o p (Done at end depth) g
 done-here m ts k n o p at end depth g w h =
     let e : g ≡ parsed (w .expr) (drop at ts) = w .is ∙ chain-ends (suc m) (readAt m k) (w .left) (w .expr) (drop at ts) h in
-    rw e record { onward = refl; size = w .size; written = w .written; nests = w .nests ∙ sym (deeper-none (nesting (w .expr))) }
+    rw e record { number = refl; onward = refl; size = w .size; written = w .written; nests = w .nests ∙ sym (deeper-none (nesting (w .expr))) }
 
 -- no operator of the level stands at the place
 no-operator : (l : ℕ) (ts : List Token) (cs : List ℕ) (at : ℕ) → All InRange ts → cs ≡ map tokenCode ts → (levelIn cs at ≡ l → ⊥) → (t : Token) (us : List Token) → drop at ts ≡ t ∷ us → levelOf t ≡ l → ⊥
@@ -158,8 +158,8 @@ module _ (m : ℕ) (ts : List Token) (cs : List ℕ) (k n : ℕ) (o p : List ℕ
   turned : (q : Read) (p₁ : List ℕ) (f : ℕ) → f ≡ operatorOf (h .token) → (x : Parsed) → readAt m k (drop (to + 1) ts) ≡ x → Agrees ts 0 end p p₁ q x → ReadWithin (length ts) (to + 1) end 0 q
       → Closable n depth (length p₁) q → Chained m ts k n o (wrappedIn f n q p₁) (closedOf depth q) g
   turned Fault p₁ f fe unparsed e a b c = goes ∙ rw e
-  turned Fault p₁ f fe (parsed x rest) e a b c = absurd a
-  turned (Done at₂ end₂ depth₂) p₁ f fe unparsed e a b c = absurd a
+  turned Fault p₁ f fe (parsed x rest) e a b c = absurd (omega (arith, a .number))
+  turned (Done at₂ end₂ depth₂) p₁ f fe unparsed e a b c = absurd (omega arith)
   turned (Done at₂ end₂ depth₂) p₁ f fe (parsed x rest) e a b c =
       let v : List ℕ = expressionBytes (w .expr) ++ expressionBytes x in
       let s : end₂ ≡ n + length v = rw (length-append (expressionBytes (w .expr)) (expressionBytes x)) (omega (arith, w .size, a .size)) in

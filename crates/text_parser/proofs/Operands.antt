@@ -46,11 +46,11 @@ past-then m all f (t ∷ ts) = by-two (λ (x y : Parsed). x ≡ thenParse y f) (
 -- ---- arguments
 
 agrees-under : (ts : List Token) (d n : ℕ) (o p : List ℕ) (q : Read) (g : Parsed) → Agrees ts 0 n o p q g → Agrees ts d n o p (underOf d q) g
-agrees-under ts d n o p Fault unparsed a = tt
-agrees-under ts d n o p Fault (parsed e rest) a = absurd a
-agrees-under ts d n o p (Done at end depth) unparsed a = absurd a
+agrees-under ts d n o p Fault unparsed a = refl
+agrees-under ts d n o p Fault (parsed e rest) a = absurd (omega (arith, a .number))
+agrees-under ts d n o p (Done at end depth) unparsed a = absurd (omega arith)
 agrees-under ts d n o p (Done at end depth) (parsed e rest) a =
-    record { onward = a .onward; size = a .size; written = a .written; nests = ap (deeper d) (a .nests ∙ deeper-none (nesting e)) }
+    record { number = refl; onward = a .onward; size = a .size; written = a .written; nests = ap (deeper d) (a .nests ∙ deeper-none (nesting e)) }
 
 within-under : (size at n d : ℕ) (q : Read) → ReadWithin size (at + 1) n 0 q → ReadWithin size at n d (underOf d q)
 within-under size at n d Fault w = tt
@@ -62,7 +62,7 @@ argument-fault m cs o p r e = rw e refl
 pub argument-missing : (m : ℕ) (cs o p : List ℕ) (r : Read) (at n d : ℕ) → r ≡ Done at n d → 0 < m → (bracketAt cs at ≡ m → ⊥) → Argued m cs o p r Fault
 argument-missing m cs o p r at n d e h g =
     rw e
-    (λ ts fine q k l. rw (past-mark m (readAt 6 k) ts cs at h fine q, ne-eqb (bracketAt cs at) m g) tt, tt)
+    (λ ts fine q k l. rw (past-mark m (readAt 6 k) ts cs at h fine q, ne-eqb (bracketAt cs at) m g) refl, tt)
 
 pub argument-read : (m : ℕ) (cs o p : List ℕ) (r : Read) (at n d : ℕ) (q q₂ : Read) → r ≡ Done at n d → 0 < m → bracketAt cs at ≡ m → Reading 6 cs (at + 1) n o p q → ReadWithin (length cs) (at + 1) n 0 q
     → q₂ ≡ underOf d q → Argued m cs o p r q₂
@@ -82,12 +82,12 @@ argued-in m cs o p (Done at n d) (Done to end depth) i a = let w = a .1 in omega
 
 ended-agrees : (ts : List Token) (cs : List ℕ) → All InRange ts → cs ≡ map tokenCode ts → (n : ℕ) (o p : List ℕ) (q : Read) (g : Parsed) → Agrees ts 0 n o p q g
     → Agrees ts 0 n o p (endedIn cs q) (thenParse g (λ e vs. past 2 (λ ws. parsed e ws) vs))
-ended-agrees ts cs fine x n o p Fault unparsed a = tt
-ended-agrees ts cs fine x n o p Fault (parsed e rest) a = absurd a
-ended-agrees ts cs fine x n o p (Done at end depth) unparsed a = absurd a
+ended-agrees ts cs fine x n o p Fault unparsed a = refl
+ended-agrees ts cs fine x n o p Fault (parsed e rest) a = absurd (omega (arith, a .number))
+ended-agrees ts cs fine x n o p (Done at end depth) unparsed a = absurd (omega arith)
 ended-agrees ts cs fine x n o p (Done at end depth) (parsed e rest) a =
     rw (a .onward, past-mark 2 (λ ws. parsed e ws) ts cs at (omega arith) fine x)
-    (by-two (Agrees ts 0 n o p) (eqb (bracketAt cs at) 2) (λ t. record { onward = refl; size = a .size; written = a .written; nests = a .nests }) (λ t. tt))
+    (by-two (Agrees ts 0 n o p) (eqb (bracketAt cs at) 2) (λ t. record { number = refl; onward = refl; size = a .size; written = a .written; nests = a .nests }) (λ t. refl))
 
 within-ended : (cs : List ℕ) (at n : ℕ) (q : Read) → ReadWithin (length cs) at n 0 q → ReadWithin (length cs) at n 0 (endedIn cs q)
 unfolding bracketAt
@@ -139,9 +139,9 @@ further {n} {o} {p} {q} {v} {end} {to} w s h e =
 module _ (ts : List Token) (cs : List ℕ) (fine : All InRange ts) (x : cs ≡ map tokenCode ts) (k n : ℕ) (o p₃ : List ℕ) (fits : n ≤ length o) where
   third : (a b : Expr) (p₂ : List ℕ) (end₂ d₂ : ℕ) → SoFar n o p₂ (expressionBytes a ++ expressionBytes b) end₂ → d₂ ≡ deeper (nesting a) (nesting b) → (r : Read) (g : Parsed) → Agrees ts d₂ end₂ p₂ p₃ r g
       → Roomy (length p₃) r → Agrees ts 0 n o (wrappedIn ifFn n (endedIn cs r) p₃) (closedOf 0 (endedIn cs r)) (thenParse g (λ c zs. past 2 (λ rest. parsed (app3 ifFn a b c) rest) zs))
-  third a b p₂ end₂ d₂ s d Fault unparsed h m = tt
-  third a b p₂ end₂ d₂ s d Fault (parsed c zs) h m = absurd h
-  third a b p₂ end₂ d₂ s d (Done at₃ end₃ d₃) unparsed h m = absurd h
+  third a b p₂ end₂ d₂ s d Fault unparsed h m = refl
+  third a b p₂ end₂ d₂ s d Fault (parsed c zs) h m = absurd (omega (arith, h .number))
+  third a b p₂ end₂ d₂ s d (Done at₃ end₃ d₃) unparsed h m = absurd (omega arith)
   third a b p₂ end₂ d₂ s d (Done at₃ end₃ d₃) (parsed c zs) h m =
       let v : List ℕ = expressionBytes a ++ (expressionBytes b ++ expressionBytes c) in
       let u : SoFar n o p₃ ((expressionBytes a ++ expressionBytes b) ++ expressionBytes c) end₃ = further (expressionBytes c) s (h .size) (h .written) in
@@ -151,19 +151,20 @@ module _ (ts : List Token) (cs : List ℕ) (fine : All InRange ts) (x : cs ≡ m
       rw (h .onward, past-mark 2 (λ rest. parsed (app3 ifFn a b c) rest) ts cs at₃ (omega arith) fine x)
       (by-two (λ (r : Read) (g : Parsed). Agrees ts 0 n o (wrappedIn ifFn n r p₃) (closedOf 0 r) g) (eqb (bracketAt cs at₃) 2)
       (λ t. record {
+        number = refl;
         onward = refl;
         size = rw (bytes-three ifFn a b c) (omega (arith, y .size));
         written = rw (bytes-three ifFn a b c) (applied-taken n end₃ ifFn v o p₃ (y .written) (y .size) fits m);
         nests = rw (deeper-none (nesting (app3 ifFn a b c)), nesting-three ifFn a b c, add-one) (ap suc z);
-      }) (λ t. tt))
+      }) (λ t. refl))
 
   second : (a : Expr) (p₁ p₂ : List ℕ) (at₁ end₁ d₁ : ℕ) → SoFar n o p₁ (expressionBytes a) end₁ → d₁ ≡ nesting a → length cs - at₁ ≤ suc k → (r r₃ : Read) (g : Parsed) → Agrees ts d₁ end₁ p₁ p₂ r g
       → ReadWithin (length cs) at₁ end₁ d₁ r → Argued 3 cs p₂ p₃ r r₃ → Roomy (length p₃) r₃
       → Agrees ts 0 n o (wrappedIn ifFn n (endedIn cs r₃) p₃) (closedOf 0 (endedIn cs r₃))
       (thenParse g (λ b xs. thenParse (past 3 (readAt 6 k) xs) (λ c zs. past 2 (λ rest. parsed (app3 ifFn a b c) rest) zs)))
-  second a p₁ p₂ at₁ end₁ d₁ s d l Fault r₃ unparsed h w y m = rw y tt
-  second a p₁ p₂ at₁ end₁ d₁ s d l Fault r₃ (parsed b xs) h w y m = absurd h
-  second a p₁ p₂ at₁ end₁ d₁ s d l (Done at₂ end₂ d₂) r₃ unparsed h w y m = absurd h
+  second a p₁ p₂ at₁ end₁ d₁ s d l Fault r₃ unparsed h w y m = rw y refl
+  second a p₁ p₂ at₁ end₁ d₁ s d l Fault r₃ (parsed b xs) h w y m = absurd (omega (arith, h .number))
+  second a p₁ p₂ at₁ end₁ d₁ s d l (Done at₂ end₂ d₂) r₃ unparsed h w y m = absurd (omega arith)
   second a p₁ p₂ at₁ end₁ d₁ s d l (Done at₂ end₂ d₂) r₃ (parsed b xs) h w y m =
       rw (h .onward)
       (third a b p₂ end₂ d₂ (further (expressionBytes b) s (h .size) (h .written)) (h .nests ∙ rw d) r₃ (past 3 (readAt 6 k) (drop at₂ ts)) (y .0 ts fine x k (omega arith)) m)
@@ -172,9 +173,9 @@ module _ (ts : List Token) (cs : List ℕ) (fine : All InRange ts) (x : cs ≡ m
       → Argued 3 cs p₁ p₂ r r₂ → Argued 3 cs p₂ p₃ r₂ r₃ → Roomy (length p₃) r₃
       → Agrees ts 0 n o (wrappedIn ifFn n (endedIn cs r₃) p₃) (closedOf 0 (endedIn cs r₃))
       (thenParse g (λ a vs. thenParse (past 3 (readAt 6 k) vs) (λ b xs. thenParse (past 3 (readAt 6 k) xs) (λ c zs. past 2 (λ rest. parsed (app3 ifFn a b c) rest) zs))))
-  first p₁ p₂ at l Fault r₂ r₃ unparsed h w y z m = let e : r₃ ≡ Fault = rw y at z in rw e tt
-  first p₁ p₂ at l Fault r₂ r₃ (parsed a vs) h w y z m = absurd h
-  first p₁ p₂ at l (Done at₁ end₁ d₁) r₂ r₃ unparsed h w y z m = absurd h
+  first p₁ p₂ at l Fault r₂ r₃ unparsed h w y z m = let e : r₃ ≡ Fault = rw y at z in rw e refl
+  first p₁ p₂ at l Fault r₂ r₃ (parsed a vs) h w y z m = absurd (omega (arith, h .number))
+  first p₁ p₂ at l (Done at₁ end₁ d₁) r₂ r₃ unparsed h w y z m = absurd (omega arith)
   first p₁ p₂ at l (Done at₁ end₁ d₁) r₂ r₃ (parsed a vs) h w y z m =
       rw (h .onward)
       (second a p₁ p₂ at₁ end₁ d₁ record { size = h .size; written = h .written } (h .nests ∙ deeper-none (nesting a)) (omega arith) r₂ r₃ (past 3 (readAt 6 k) (drop at₁ ts)) (y .0 ts fine x k (omega arith)) (y .1) z m)
@@ -227,7 +228,7 @@ none-left zero = refl
 none-left (suc k) = refl
 
 pub operand-none : (cs : List ℕ) (at n : ℕ) (o p : List ℕ) → length cs ≤ at → Reading 0 cs at n o p Fault
-operand-none cs at n o p h ts fine x k g = rw (nowhere ts cs x at h, none-left k) tt
+operand-none cs at n o p h ts fine x k g = rw (nowhere ts cs x at h, none-left k) refl
 
 -- an operand at a place that holds a token, with one token's bound taken
 taken : (ts : List Token) (at : ℕ) (k : ℕ) (t : Token) → 0 < k → drop at ts ≡ t ∷ drop (at + 1) ts
@@ -262,11 +263,12 @@ nesting-one f a = refl
 
 not-agrees : (ts : List Token) (n : ℕ) (o p : List ℕ) (r : Read) (g : Parsed) → Agrees ts 0 n o p r g → Closable n 0 (length p) r → n ≤ length o
     → Agrees ts 0 n o (wrappedIn notFn n r p) (closedOf 0 r) (thenParse g (λ a us. parsed (app1 notFn a) us))
-not-agrees ts n o p Fault unparsed a c h = tt
-not-agrees ts n o p Fault (parsed e rest) a c h = absurd a
-not-agrees ts n o p (Done at end depth) unparsed a c h = absurd a
+not-agrees ts n o p Fault unparsed a c h = refl
+not-agrees ts n o p Fault (parsed e rest) a c h = absurd (omega (arith, a .number))
+not-agrees ts n o p (Done at end depth) unparsed a c h = absurd (omega arith)
 not-agrees ts n o p (Done at end depth) (parsed e rest) a c h =
     record {
+      number = refl;
       onward = a .onward;
       size = rw (bytes-one notFn e) (omega (arith, a .size));
       written = rw (bytes-one notFn e) (applied-taken n end notFn (expressionBytes e) o p (a .written) (a .size) h (c .1));
@@ -320,9 +322,10 @@ leaf-nesting n i = (refl, refl)
 
 -- bytes placed from n on
 placed-wrote : (ts : List Token) (n : ℕ) (o v : List ℕ) (at end : ℕ) (e : Expr) → end ≡ n + length v → v ≡ expressionBytes e → n + length v ≤ length o → nesting e ≡ 1
-    → ExpressionWritten ts 0 n o (fitted o n v) at end 1 e (drop at ts)
+    → ExpressionWritten ts 0 n o (fitted o n v) (Done at end 1) e (drop at ts)
 placed-wrote ts n o v at end e s q h d =
     record {
+      number = refl;
       onward = refl;
       size = s ∙ ap (λ (l : List ℕ). n + length l) q;
       written = rw s (fitted-taken o n v h ∙ rw q);
@@ -343,10 +346,10 @@ leaf-agrees ts at n o operand all (behaviour i) h l a b c =
     rw (q, r) (placed-wrote ts n o (field 17 (i ∷ [])) (at + 1) (n + 4) (name i) refl (sym (bytes-name i)) (omega arith) (leaf-nesting 0 i .1))
 leaf-agrees ts at n o operand all (function f) h l a b c =
     let q : (77309411328 + f) / 4294967296 ≡ 18 = omega arith in
-    rw (q, ne-eqb f notFn (λ e. a (omega arith)), ne-eqb f ifFn (λ e. b (omega arith))) tt
+    rw (q, ne-eqb f notFn (λ e. a (omega arith)), ne-eqb f ifFn (λ e. b (omega arith))) refl
 leaf-agrees ts at n o operand all opening h l a b c = absurd (c refl)
-leaf-agrees ts at n o operand all closing h l a b c = tt
-leaf-agrees ts at n o operand all comma h l a b c = tt
+leaf-agrees ts at n o operand all closing h l a b c = refl
+leaf-agrees ts at n o operand all comma h l a b c = refl
 
 within-leaf : (size t at n : ℕ) → at < size → ReadWithin size at n 0 (leafRead t at n)
 unfolding leafRead

@@ -6,12 +6,14 @@ use mathlib.Core.List.{List, _++_, map}
 use lib.ListN.{length, take, drop}
 use Rattle.lib_base.specs.Basics.{All}
 use Rattle.spec_language.specs.Syntax.{Expr, con, name, app1, app2, app3}
+use Rattle.spec_language.specs.Refusals.{noFormula}
 use Rattle.text_formula.specs.Tokens.{Token}
 use Rattle.text_formula.specs.InRange.{InRange}
 use Rattle.text_formula.specs.Reader.{Parsed, unparsed, parsed, past, choiceOf, readAt}
 use Rattle.text_formula.specs.Answer.{nesting, formulaField}
 use Rattle.text_formula.specs.Nesting.{deeper}
 use Rattle.text_lexer.specs.Codes.{capped, tokenCode}
+use Rattle.text_phrase.specs.Phrase.{readRefusal, readPlace, readEnd, readDepth}
 use Rattle.text_phrase.specs.declared.Read.{Read}
 use Rattle.text_phrase.specs.declared.Read.the-variants.{Done, Fault}
 
@@ -28,18 +30,17 @@ expressionBytes e = formulaField (bounded e)
 
 -- an expression is read up to a place, and its field stands from n to the end; with those before it, nested d deep, it
 -- nests so deep
-pub record ExpressionWritten (ts : List Token) (d n : ℕ) (o p : List ℕ) (at end depth : ℕ) (e : Expr) (rest : List Token) : Type 0 where
-  pub onward : rest ≡ drop at ts
-  pub size : end ≡ n + length (expressionBytes e)
-  pub written : take end p ≡ take n o ++ expressionBytes e
-  pub nests : depth ≡ deeper d (nesting e)
+pub record ExpressionWritten (ts : List Token) (d n : ℕ) (o p : List ℕ) (r : Read) (e : Expr) (rest : List Token) : Type 0 where
+  pub number : readRefusal r ≡ 0
+  pub onward : rest ≡ drop (readPlace r) ts
+  pub size : readEnd r ≡ n + length (expressionBytes e)
+  pub written : take (readEnd r) p ≡ take n o ++ expressionBytes e
+  pub nests : readDepth r ≡ deeper d (nesting e)
 
 -- the answer r, with the bytes p, is what the definition's function reads
 abbrev pub Agrees : List Token → ℕ → ℕ → List ℕ → List ℕ → Read → Parsed → Type 0
-Agrees ts d n o p Fault unparsed = Unit {0}
-Agrees ts d n o p Fault (parsed e rest) = ⊥
-Agrees ts d n o p (Done at end depth) unparsed = ⊥
-Agrees ts d n o p (Done at end depth) (parsed e rest) = ExpressionWritten ts d n o p at end depth e rest
+Agrees ts d n o p r unparsed = readRefusal r ≡ noFormula
+Agrees ts d n o p r (parsed e rest) = ExpressionWritten ts d n o p r e rest
 
 -- for whatever tokens the numbers cs stand for, and any bound that is large enough
 abbrev pub Reading : ℕ → List ℕ → ℕ → ℕ → List ℕ → List ℕ → Read → Type 0

@@ -7,10 +7,32 @@ use lib.Dec.{ltb, eqb}
 use Rattle.lib_base.specs.Basics.{pick}
 use Rattle.lib_signature.specs.Signature.{level}
 use Rattle.spec_language.specs.Grammar.{field, word}
+use Rattle.spec_language.specs.Refusals.{noFormula}
 use Rattle.text_formula.specs.Nesting.{deeper}
 use Rattle.sheet_write.specs.Writes.{fitted, asApplication}
 use Rattle.text_phrase.specs.declared.Read.{Read}
 use Rattle.text_phrase.specs.declared.Read.the-variants.{Done, Fault}
+
+-- ---- a reading: 02's number, 0 where an expression is read; and the place of the next token, the end of the bytes
+-- written and the nesting
+
+abbrev pub readRefusal : Read → ℕ
+readRefusal (Done at end e) = 0
+readRefusal Fault = noFormula
+
+abbrev pub readPlace : Read → ℕ
+readPlace (Done at end e) = at
+readPlace Fault = 0
+
+abbrev pub readEnd : Read → ℕ
+readEnd (Done at end e) = end
+readEnd Fault = 0
+
+abbrev pub readDepth : Read → ℕ
+readDepth (Done at end e) = e
+readDepth Fault = 0
+
+-- ---- levels, marks and small steps
 
 unfoldable pub levelCode : ℕ → ℕ
 levelCode t = pick (eqb (t / 4294967296) 18) (level (t % 4294967296)) 0

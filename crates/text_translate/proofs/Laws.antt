@@ -27,7 +27,7 @@ use Rattle.text_formula.proofs.Scans.{Made, scans-only, tokens-fine}
 use Rattle.text_formula.proofs.Parses.{Sound, reads-only}
 use Rattle.text_lexer.specs.Codes.{capped, tokenCode}
 use Rattle.text_lexer.proofs.CodeLaws.{capped-most}
-use Rattle.text_lexer.specs.Scanned.{TokensHeld}
+use Rattle.text_lexer.proofs.Laws.{TokensHeld}
 use Rattle.text_phrase.specs.declared.Read.{Read}
 use Rattle.text_phrase.specs.declared.Read.the-variants.{Done, Fault}
 use Rattle.text_parser.specs.Parser.{bounded, expressionBytes, Agrees, Reading}
@@ -145,7 +145,7 @@ written-is e buffer = refl
 module _ (cs o p buffer : List ℕ) (r : Read) (rd : Reading 6 cs 0 0 o p r) where
   none-read : (ts : List Token) (g : Parsed) → Agrees ts 0 0 o p Fault g → answered noFormula buffer ≡ answerTo (wholly g) buffer
   none-read ts unparsed a = refl
-  none-read ts (parsed e rest) a = absurd a
+  none-read ts (parsed e rest) a = absurd (omega (arith, a .number))
 
   pub read-none : r ≡ Fault → Translated cs buffer (answered noFormula buffer)
   read-none q ts fine x =
@@ -153,7 +153,7 @@ module _ (cs o p buffer : List ℕ) (r : Read) (rd : Reading 6 cs 0 0 o p r) whe
       none-read ts (readAt 6 (length ts) ts) (rw q at (rd ts fine x (length ts) (omega arith)))
 
   part-read : (ts : List Token) (at end depth : ℕ) (g : Parsed) → Agrees ts 0 0 o p (Done at end depth) g → at < length ts → answered noFormula buffer ≡ answerTo (wholly g) buffer
-  part-read ts at end depth unparsed a h = absurd a
+  part-read ts at end depth unparsed a h = absurd (omega arith)
   part-read ts at end depth (parsed e []) a h = let z = length-drop at ts in let y : 0 ≡ length (drop at ts) = ap length (a .onward) in absurd (omega arith)
   part-read ts at end depth (parsed e (t ∷ rest)) a h = refl
 
@@ -164,7 +164,7 @@ module _ (cs o p buffer : List ℕ) (r : Read) (rd : Reading 6 cs 0 0 o p r) whe
 
   whole-read : (ts : List Token) (at end depth : ℕ) (g : Parsed) → Agrees ts 0 0 o p (Done at end depth) g → Sound 6 ts g → length ts ≤ at
       → delivered (largeTokens ts) depth (take end p) buffer ≡ answerTo (wholly g) buffer
-  whole-read ts at end depth unparsed a s h = absurd a
+  whole-read ts at end depth unparsed a s h = absurd (omega arith)
   whole-read ts at end depth (parsed e []) a s h =
       let t : ts ≡ s .taken = s .joined ∙ append-nil (s .taken) in
       let l : largeTokens ts ≡ large e = ap largeTokens t ∙ large-derived (s .derived) in

@@ -5,6 +5,7 @@ use Rattle.front_field.specs.Expression.{headOf}
 use Rattle.sheet_field.specs.Field.{fieldRefusal}
 use mathlib.Core.Path.{sym, ap, _∙_}
 use borrow.Author.Needs.{needs}
+use Rattle.front_field.proofs.Laws.{refused-some}
 use Rattle.front_field.proofs.read_head.Statement.{statement}
 use Rattle.front_field.proofs.read_head.Tie as tie
 
@@ -20,7 +21,8 @@ read-head-spec =
     (λ c.
     let told = c .before .enum-told .given .1 in
     let e = sym (c .before .before .before .field-answer .ensures .0) ∙ told in
-    (rw e (ap NoHead (c .number .ensures ∙ ap fieldRefusal told)), (tt, rw e (omega arith))))
+    let said = c .number .ensures ∙ ap fieldRefusal told in
+    (rw e (ap NoHead said), (rw said (refused-some (c .before .before .before .before .before .args .s .now) 16 19 _ e), rw e (omega arith))))
     (λ c κs. search needs)
     (λ c κs. search needs)
     (λ c.

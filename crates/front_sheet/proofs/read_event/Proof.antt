@@ -2,7 +2,7 @@
 use lib.ListN.{length}
 use native.Mathlib.Omega.{arith}
 use borrow.Author.Needs.{needs}
-use Rattle.front_sheet.proofs.Laws.{event-refused, event-taken, event-in}
+use Rattle.front_sheet.proofs.Laws.{event-refused, event-some, event-taken, event-in}
 use Rattle.front_sheet.proofs.read_event.Statement.{statement}
 use Rattle.front_sheet.proofs.read_event.Tie as tie
 
@@ -11,7 +11,9 @@ returns c = (
   event-refused _ _ _ (c .before .before .before .before .before .least-tag .ensures)
       (c .before .before .before .before .most-tag .ensures) (c .before .before .before .field-answer .ensures .0)
       (c .before .enum-told .given .1) (c .number .ensures),
-  tt,
+  event-some _ (c .before .before .before .before .before .least-tag .ensures)
+      (c .before .before .before .before .most-tag .ensures) (c .before .before .before .field-answer .ensures .0)
+      (c .before .enum-told .given .1) (c .number .ensures),
 )
 
 returns-2 : tie.Need-returns-2

@@ -49,8 +49,9 @@ returns c =
     let at-if1 = at-token-at .before in
     let at-loop-test = at-if1 .before .before in
     let at-loop = at-loop-test .before in
-    scan-missing (at-loop .loop .inv) (at-loop-test .loop-test .taken) _ (at-if1 .if1 .left) (c .enum-told .given .1)
-    (at-token-at .token-at .ensures .0)
+    rw
+    (scan-missing (at-loop .loop .inv) (at-loop-test .loop-test .taken) _ (at-if1 .if1 .left) (c .enum-told .given .1)
+    (at-token-at .token-at .ensures .0))
 
 mul-tokens : tie.Need-mul-tokens Inv-loop μ-loop
 mul-tokens c = search needs

@@ -2,6 +2,7 @@
 use native.Mathlib.Omega.{arith}
 use borrow.Author.Needs.{needs}
 use lib.ListN.{length-take, length-drop}
+use Rattle.text_lexer.proofs.Laws.{scans-held, scans-none}
 use Rattle.text_translate.proofs.Laws.{too-long, no-tokens, from-text}
 use Rattle.text_translate.proofs.formula_at.Statement.{statement}
 use Rattle.text_translate.proofs.formula_at.Tie as tie
@@ -29,7 +30,7 @@ returns-2 c =
     let at-if1 = at-scan .before .before in
     let at-entry = at-if1 .before .before .before in
     no-tokens (at-entry .args .text .now) (at-entry .args .buffer .now) (at-if1 .if1 .left)
-    (rw (c .enum-told .given .1) at (at-scan .scan .ensures))
+    (scans-none (at-entry .args .text .now) (at-scan .scan .last .1 .0) _ (c .enum-told .given .1) (at-scan .scan .ensures))
 
 sub-from-tokens : tie.Need-sub-from-tokens
 sub-from-tokens c = search needs
@@ -41,14 +42,16 @@ part-from-tokens-end : tie.Need-part-from-tokens-end
 part-from-tokens-end c =
     let at-s = c .before .before in
     let at-scan = at-s .before .before .before in
-    let h = rw (at-s .s .given .1) at (at-scan .scan .ensures) in
+    let at-entry = at-scan .before .before .before .before .before in
+    let h = scans-held (at-entry .args .text .now) (at-scan .scan .last .1 .0) _ _ (at-s .s .given .1) (at-scan .scan .ensures) in
     omega (arith, h .few, at-scan .scan .kept .1 .0)
 
 from-tokens-requires : tie.Need-from-tokens-requires
 from-tokens-requires c κs =
     let at-s = c .before .before .before .before in
     let at-scan = at-s .before .before .before in
-    let h = rw (at-s .s .given .1) at (at-scan .scan .ensures) in
+    let at-entry = at-scan .before .before .before .before .before in
+    let h = scans-held (at-entry .args .text .now) (at-scan .scan .last .1 .0) _ _ (at-s .s .given .1) (at-scan .scan .ensures) in
     simp (length-take, length-drop) (omega (arith, h .few))
 
 same-length : tie.Need-same-length
@@ -62,7 +65,7 @@ returns-3 c =
     let at-if1 = at-scan .before .before in
     let at-entry = at-if1 .before .before .before in
     from-text (at-entry .args .text .now) (at-entry .args .buffer .now) (at-scan .scan .last .1 .0) _ _
-    (at-if1 .if1 .left) (rw (at-s .s .given .1) at (at-scan .scan .ensures)) (at-from-tokens .from-tokens .ensures)
+    (at-if1 .if1 .left) (scans-held (at-entry .args .text .now) (at-scan .scan .last .1 .0) _ _ (at-s .s .given .1) (at-scan .scan .ensures)) (at-from-tokens .from-tokens .ensures)
 
 pub formula-at-spec : {M : Type 1} → statement M
 formula-at-spec =
