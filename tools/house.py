@@ -327,7 +327,7 @@ CONTRACT_WIDTH = 160
 # functions that have more parameters still
 WITH_MORE = {"put_pair", "put_term", "behaviour_at", "behaviours_at"}
 # crates whose contracts have more clauses or columns still
-CRATES_WITH_MORE = {"front_behaviours", "source_assemble", "source_declarations", "source_index", "text_parser"}
+CRATES_WITH_MORE = {"source_index"}
 # its parameters, and its contract as far as the body
 FUNCTION = re.compile(r'^(?:pub )?(?:extern "C" )?fn (\w+)(?:<[^>(]*>)?\(([^()]*)\)(?: -> [^\n]*)?\n(.*?)^{', re.M | re.S)
 

@@ -1,24 +1,37 @@
 -- Handlers as the reader reads them: from positions in the bytes, with the draft as it is written. 01: "In a handler:
 -- event, phase, 10, expression."
-use Prim.Native.Nat.{ℕ, zero, suc, _+_, _*_, _-_, _≤_}
+use Prim.Native.Nat.{ℕ, zero, suc, _+_, _*_, _-_, _≤_, _<_}
 use mathlib.Core.Path.{_≡_}
 use mathlib.Core.List.{List}
 use lib.ListN.{length, getD, set}
 use lib.Dec.{ltb, leb, eqb}
 use Rattle.lib_base.specs.Basics.{pick}
 use Rattle.spec_language.specs.Refusals.{torn, wrongLength, offScale, doubled}
+use Rattle.spec_language.specs.Limits.{behaviourLimit, eventLimit}
+use Rattle.sheet_field.specs.Sizes.{handlerHead}
 use Rattle.sheet_field.specs.Field.{fieldOf, partOf}
 use Rattle.front_field.specs.Expression.{Out, out, restFrom, goOnAfter, exprOf}
 use Rattle.sheet_field.specs.declared.Field.{Field}
 use Rattle.sheet_field.specs.declared.Field.the-variants.{Value, Refused}
 use Rattle.front_field.specs.declared.Read.{Read}
 use Rattle.front_field.specs.declared.Read.the-variants.{Done, Fault}
-use Rattle.draft_form.specs.Draft.{packedEntry}
+use Rattle.draft_form.specs.Draft.{draftLength, packedEntry}
 
 -- the number of a refusal; 0 of a reading that is done
 abbrev pub faultOf : Read → ℕ
 faultOf (Done size m) = 0
 faultOf (Fault k) = k
+
+-- what the readers need of their numbers: an entry's place in the draft, its kind and the bytes of the field before it;
+-- so many events declared, and a behaviour's number; the same for a row of so many cells
+abbrev pub EntryPlaced : ℕ → ℕ → ℕ → Type 0
+EntryPlaced place kind over = (place < draftLength) × ((kind ≤ 3) × (over ≤ handlerHead))
+
+abbrev pub InLimits : ℕ → ℕ → Type 0
+InLimits events i = (events ≤ eventLimit) × (i < behaviourLimit)
+
+abbrev pub RowInLimits : ℕ → ℕ → ℕ → Type 0
+RowInLimits events i count = (events ≤ eventLimit) × ((i < behaviourLimit) × (i + count ≤ behaviourLimit))
 
 -- an expression that fills v, its entry put at `place`; the field has `over` bytes before v
 unfoldable pub entryAt : List ℕ → List ℕ → ℕ → ℕ → ℕ → ℕ → Out

@@ -7,9 +7,9 @@ ghost use Prim.Native.Nat.{_<_, _≤_, _*_, _+_};
 ghost use lib.ListN.{length};
 ghost use Rattle.front_field.specs.Expression.{out, ReadIn};
 ghost use Rattle.draft_form.specs.Draft.{draftLength};
-ghost use Rattle.front_behaviours.specs.Handler.{entryAt, handlerAt, handlerOf, handlersOf, BodyIn, faultOf};
+ghost use Rattle.front_behaviours.specs.Handler.{entryAt, handlerAt, handlerOf, handlersOf, BodyIn, faultOf, EntryPlaced, InLimits, RowInLimits};
 ghost use Rattle.front_behaviours.specs.Behaviour.{passiveOf, activeBody, activeOf, cellsOf, rowOf, valueAt, behaviourOf, Counted};
-ghost use Rattle.sheet_field.specs.Sizes.{byteField, handlerHead, wordField};
+ghost use Rattle.sheet_field.specs.Sizes.{byteField, wordField};
 ghost use Rattle.spec_language.specs.Limits.{behaviourLimit, eventLimit, sheetBytes};
 use draft_form::layout;
 use front_field::faults;
@@ -41,9 +41,7 @@ pub fn fault(r: Read) -> u8
 fn read_entry(v: &[u8], draft: &mut [u64], n: usize, place: usize, kind: usize, over: usize) -> Read
     requires { ⌜ n * byteField + length (now v) ≤ sheetBytes ⌝ }
     requires { ⌜ length (now draft) ≡ draftLength ⌝ }
-    requires { ⌜ place < draftLength ⌝ }
-    requires { ⌜ kind ≤ 3 ⌝ }
-    requires { ⌜ over ≤ handlerHead ⌝ }
+    requires { ⌜ EntryPlaced place kind over ⌝ }
     ensures { λ r. ⌜ out r (now (draft .exit)) ≡ entryAt (now (v .entry)) (now (draft .entry)) n place kind over ⌝ }
     ensures { λ r. ⌜ BodyIn (length (now (v .entry)) + over) n r ⌝ }
 {
@@ -62,8 +60,7 @@ fn read_entry(v: &[u8], draft: &mut [u64], n: usize, place: usize, kind: usize, 
 fn read_handler_value(v: &[u8], events: usize, i: usize, draft: &mut [u64], n: usize) -> Read
     requires { ⌜ n * byteField + length (now v) ≤ sheetBytes ⌝ }
     requires { ⌜ length (now draft) ≡ draftLength ⌝ }
-    requires { ⌜ events ≤ eventLimit ⌝ }
-    requires { ⌜ i < behaviourLimit ⌝ }
+    requires { ⌜ InLimits events i ⌝ }
     ensures { λ r. ⌜ out r (now (draft .exit)) ≡ handlerAt (now (v .entry)) events i (now (draft .entry)) n ⌝ }
     ensures { λ r. ⌜ BodyIn (length (now (v .entry)) + 3) n r ⌝ }
 {
@@ -99,8 +96,7 @@ fn read_handler_value(v: &[u8], events: usize, i: usize, draft: &mut [u64], n: u
 fn read_handler(s: &[u8], events: usize, i: usize, draft: &mut [u64], n: usize) -> Read
     requires { ⌜ n * byteField + length (now s) ≤ sheetBytes ⌝ }
     requires { ⌜ length (now draft) ≡ draftLength ⌝ }
-    requires { ⌜ events ≤ eventLimit ⌝ }
-    requires { ⌜ i < behaviourLimit ⌝ }
+    requires { ⌜ InLimits events i ⌝ }
     ensures { λ r. ⌜ out r (now (draft .exit)) ≡ handlerOf (now (s .entry)) events i (now (draft .entry)) n ⌝ }
     ensures { λ r. ⌜ ReadIn (length (now (s .entry))) n r ⌝ }
 {
@@ -122,8 +118,7 @@ fn read_handlers(v: &[u8], events: usize, i: usize, draft: &mut [u64], n: usize)
     requires { ⌜ wordField ≤ length (now v) ⌝ }
     requires { ⌜ n * byteField + length (now v) ≤ sheetBytes ⌝ }
     requires { ⌜ length (now draft) ≡ draftLength ⌝ }
-    requires { ⌜ events ≤ eventLimit ⌝ }
-    requires { ⌜ i < behaviourLimit ⌝ }
+    requires { ⌜ InLimits events i ⌝ }
     ensures { λ r. ⌜ out r (now (draft .exit)) ≡ handlersOf (length (now (v .entry))) (now (v .entry)) wordField events i (now (draft .entry)) n ⌝ }
     ensures { λ r. ⌜ ReadIn (length (now (v .entry))) n r ⌝ }
 {
@@ -148,8 +143,7 @@ fn read_body(v: &[u8], events: usize, i: usize, draft: &mut [u64], n: usize) -> 
     requires { ⌜ wordField ≤ length (now v) ⌝ }
     requires { ⌜ n * byteField + length (now v) ≤ sheetBytes ⌝ }
     requires { ⌜ length (now draft) ≡ draftLength ⌝ }
-    requires { ⌜ events ≤ eventLimit ⌝ }
-    requires { ⌜ i < behaviourLimit ⌝ }
+    requires { ⌜ InLimits events i ⌝ }
     ensures { λ r. ⌜ out r (now (draft .exit)) ≡ activeBody (now (v .entry)) events i (now (draft .entry)) n ⌝ }
     ensures { λ r. ⌜ BodyIn (length (now (v .entry)) + 3) n r ⌝ }
 {
@@ -164,8 +158,7 @@ fn read_body(v: &[u8], events: usize, i: usize, draft: &mut [u64], n: usize) -> 
 fn read_active(v: &[u8], events: usize, i: usize, draft: &mut [u64], n: usize) -> Read
     requires { ⌜ n * byteField + length (now v) ≤ sheetBytes ⌝ }
     requires { ⌜ length (now draft) ≡ draftLength ⌝ }
-    requires { ⌜ events ≤ eventLimit ⌝ }
-    requires { ⌜ i < behaviourLimit ⌝ }
+    requires { ⌜ InLimits events i ⌝ }
     ensures { λ r. ⌜ out r (now (draft .exit)) ≡ activeOf (now (v .entry)) events i (now (draft .entry)) n ⌝ }
     ensures { λ r. ⌜ BodyIn (length (now (v .entry)) + 3) n r ⌝ }
 {
@@ -202,9 +195,7 @@ fn read_passive(v: &[u8], i: usize, draft: &mut [u64], n: usize) -> Read
 fn read_cells(v: &[u8], count: usize, events: usize, i: usize, draft: &mut [u64], n: usize) -> Read
     requires { ⌜ n * byteField + length (now v) ≤ sheetBytes ⌝ }
     requires { ⌜ length (now draft) ≡ draftLength ⌝ }
-    requires { ⌜ events ≤ eventLimit ⌝ }
-    requires { ⌜ i < behaviourLimit ⌝ }
-    requires { ⌜ i + count ≤ behaviourLimit ⌝ }
+    requires { ⌜ RowInLimits events i count ⌝ }
     ensures { λ r. ⌜ out r (now (draft .exit)) ≡ cellsOf (now (v .entry)) count events i (now (draft .entry)) n ⌝ }
     ensures { λ r. ⌜ BodyIn (length (now (v .entry)) + byteField) n r ⌝ }
 {
@@ -220,8 +211,7 @@ fn read_cells(v: &[u8], count: usize, events: usize, i: usize, draft: &mut [u64]
 fn read_row(v: &[u8], events: usize, i: usize, draft: &mut [u64], n: usize) -> Read
     requires { ⌜ n * byteField + length (now v) ≤ sheetBytes ⌝ }
     requires { ⌜ length (now draft) ≡ draftLength ⌝ }
-    requires { ⌜ events ≤ eventLimit ⌝ }
-    requires { ⌜ i < behaviourLimit ⌝ }
+    requires { ⌜ InLimits events i ⌝ }
     ensures { λ r. ⌜ out r (now (draft .exit)) ≡ rowOf (now (v .entry)) events i (now (draft .entry)) n ⌝ }
     ensures { λ r. ⌜ BodyIn (length (now (v .entry)) + 3) n r ⌝ }
 {

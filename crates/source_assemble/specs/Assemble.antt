@@ -4,14 +4,21 @@ use mathlib.Core.Path.{_≡_}
 use mathlib.Core.List.{List, _++_}
 use lib.ListN.{length, take, drop}
 use lib.Dec.{ltb, eqb}
-use Rattle.lib_base.specs.Basics.{pick}
+use Rattle.lib_base.specs.Basics.{pick, All}
+use Rattle.spec_language.specs.Limits.{behaviourLimit, sheetBytes}
 use Rattle.text_formula.specs.Answer.{answered}
 use Rattle.source_language.specs.Text.{Text, text}
 use Rattle.source_language.specs.Faults.{longSheet, shortBuffer, OrFault, fault, fine}
 use Rattle.source_language.specs.Meaning.{NameMeaning, meaningOfName}
 use Rattle.source_language.specs.Answer.{lineFrom, columnFrom}
+use Rattle.source_coding.specs.Bounds.{nameLimit, firstCells}
 use Rattle.source_coding.specs.FaultWords.{faultWord}
 use Rattle.source_assemble.specs.AssembleNumber.{assembleNumber}
+
+-- room for what a text declares, its names and the numbers of first cells, and for a sheet
+abbrev pub RoomToRead : List ℕ → List ℕ → List ℕ → Type 0
+RoomToRead declared starts out =
+    (length declared ≡ nameLimit) × (((length starts ≡ firstCells) × All (λ i. i ≤ behaviourLimit) starts) × (length out ≡ sheetBytes))
 
 -- line and column after a byte
 abbrev pub lineAfter : ℕ → ℕ → ℕ

@@ -11,16 +11,16 @@ use spec_language::limits as sheet;
 ghost use mathlib.Core.Path.{_≡_};
 ghost use Prim.Native.Nat.{_<_, _≤_, _+_};
 ghost use lib.ListN.{length};
-ghost use Rattle.lib_base.specs.Basics.{All};
 ghost use Rattle.text_formula.specs.Answer.{answered};
 ghost use Rattle.source_language.specs.Reader.{readText};
 ghost use Rattle.source_coding.specs.Places.{meaningIn};
 ghost use Rattle.source_behaviours.specs.Whole.{NamesUsable, TextRead};
 ghost use Rattle.source_assemble.specs.AssembleNumber.{assembleNumber};
-ghost use Rattle.source_assemble.specs.Assemble.{lineAfter, columnAfter, placeTold, faultNumbered, TellsFault, NamesResolved, sheetAnswer, ReadRight};
-ghost use Rattle.source_coding.specs.Bounds.{firstCells, nameLimit, textBytes};
+ghost use Rattle.source_assemble.specs.Assemble.{RoomToRead, lineAfter, columnAfter, placeTold, faultNumbered};
+ghost use Rattle.source_assemble.specs.Assemble.{TellsFault, NamesResolved, sheetAnswer, ReadRight};
+ghost use Rattle.source_coding.specs.Bounds.{nameLimit, textBytes};
 ghost use Rattle.source_coding.specs.Faults.{kindUnit};
-ghost use Rattle.spec_language.specs.Limits.{behaviourLimit, sheetBytes};
+ghost use Rattle.spec_language.specs.Limits.{sheetBytes};
 
 // What ends a line.
 const LINE_FEED: u8 = 10;
@@ -126,14 +126,11 @@ fn read_with(
 ) -> Reading
     requires { ⌜ length (now text) ≤ textBytes ⌝ }
     requires { ⌜ NamesUsable (now names) params (now firsts) ⌝ }
-    requires { ⌜ length (now declared) ≡ nameLimit ⌝ }
-    requires { ⌜ (length (now starts) ≡ firstCells) × All (λ i. i ≤ behaviourLimit) (now starts) ⌝ }
-    requires { ⌜ length (now out) ≡ sheetBytes ⌝ }
+    requires { ⌜ RoomToRead (now declared) (now starts) (now out) ⌝ }
     ensures { λ r. ⌜ TextRead (now (text .entry))
         (meaningIn (now (text .entry)) (now (names .entry)) params (now (firsts .entry))) (now (out .entry))
         (now (out .exit)) (now (declared .exit)) (now (starts .exit)) r (readText (now (text .entry))) ⌝ }
-    ensures { λ _. ⌜ length (now (declared .exit)) ≡ nameLimit ⌝ }
-    ensures { λ _. ⌜ length (now (out .exit)) ≡ sheetBytes ⌝ }
+    ensures { λ _. ⌜ (length (now (declared .exit)) ≡ nameLimit) × (length (now (out .exit)) ≡ sheetBytes) ⌝ }
 {
     let mut places = [0usize; limits::NAMES];
     let mut meanings = [0usize; limits::NAMES];

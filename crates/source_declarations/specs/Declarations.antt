@@ -7,6 +7,7 @@ use mathlib.Core.List.{List, [], _++_, map}
 use lib.ListN.{length, take}
 use lib.Dec.{ltb, eqb}
 use Rattle.lib_base.specs.Basics.{pick}
+use Rattle.spec_language.specs.Limits.{eventLimit}
 use Rattle.spec_language.specs.Grammar.{encodeEvents}
 use Rattle.source_language.specs.Tokens.{SheetToken, rank-word, param-word, event-word}
 use Rattle.source_language.specs.Text.{Parameter, parameter, TextEvent, event}
@@ -14,6 +15,7 @@ use Rattle.source_language.specs.Faults.{offScale}
 use Rattle.source_language.specs.Limits.{largest, withParameter, withEvent}
 use Rattle.source_language.specs.Meaning.{signalOf}
 use Rattle.source_language.specs.Reader.{Phrased, bad, got, thenPhrase, pastSign, numberDue, fromOf, parameterOf, eventDeclared, manyOf}
+use Rattle.source_coding.specs.Bounds.{textBytes, growth}
 use Rattle.source_coding.specs.FaultWords.{faultWord}
 use Rattle.source_coding.specs.Places.{tokensFrom, nameAt}
 use Rattle.source_coding.specs.Sizes.{eventsSize}
@@ -77,6 +79,10 @@ nameOfParameter (parameter s d) = s
 
 abbrev pub nameOfEvent : TextEvent → List ℕ
 nameOfEvent (event s n m) = s
+
+-- a place of a text, places for the events' names, and a place of the buffer for what follows
+abbrev pub EventsReadable : List ℕ → ℕ → List ℕ → ℕ → Type 0
+EventsReadable text at events n = (length text ≤ textBytes) × ((at ≤ length text) × ((length events ≡ eventLimit) × (n ≤ at * growth)))
 
 -- parameters are read up to place `to`, where us are left: the first places of `names` have theirs
 pub record ParametersHeld (text names : List ℕ) (to count end : ℕ) (ps : List Parameter) (us : List SheetToken) : Type 0 where

@@ -22,7 +22,7 @@ ghost use Rattle.source_language.specs.Reader.{morePlayers, playersOf, fromOf, 
 ghost use Rattle.source_coding.specs.Places.{tokensFrom, nameAt, namesHeld};
 ghost use Rattle.source_declarations.specs.Players.{playersSaid, RightsRead, RightsWithin};
 ghost use Rattle.source_declarations.specs.Declarations.{rankedOf, ParameterRead, ParameterWithin, TextEventRead, EventWithin};
-ghost use Rattle.source_declarations.specs.Declarations.{parametersDeclared, eventsDeclared, ParametersRead, EventsRead, DeclaredWithin};
+ghost use Rattle.source_declarations.specs.Declarations.{parametersDeclared, eventsDeclared, ParametersRead, EventsReadable, EventsRead, DeclaredWithin};
 ghost use Rattle.source_declarations.specs.Written.{dueFault};
 ghost use Rattle.source_coding.specs.Bounds.{growth, nameLimit, textBytes};
 ghost use Rattle.spec_language.specs.Limits.{eventLimit, highestPlayer};
@@ -268,15 +268,11 @@ fn event_at(text: &[u8], p: usize, at: usize, events: &[usize], count: usize) ->
 // The events from place `at` on. The places of their names are the first of `events`; their fields are written from
 // place n on, as far as there is room for each.
 pub fn events_at(text: &[u8], at: usize, events: &mut [usize], out: &mut [u8], n: usize) -> Declared
-    requires { ⌜ length (now text) ≤ textBytes ⌝ }
-    requires { ⌜ at ≤ length (now text) ⌝ }
-    requires { ⌜ length (now events) ≡ eventLimit ⌝ }
-    requires { ⌜ n ≤ at * growth ⌝ }
+    requires { ⌜ EventsReadable (now text) at (now events) n ⌝ }
     ensures { λ r. ⌜ EventsRead (now (text .entry)) (now (events .exit)) n (now (out .entry)) (now (out .exit)) r
         (eventsDeclared (tokensFrom (now (text .entry)) at)) ⌝ }
     ensures { λ r. ⌜ DeclaredWithin (length (now (text .entry))) at r ⌝ }
-    ensures { λ _. ⌜ length (now (events .exit)) ≡ eventLimit ⌝ }
-    ensures { λ _. ⌜ length (now (out .exit)) ≡ length (now (out .entry)) ⌝ }
+    ensures { λ _. ⌜ (length (now (events .exit)) ≡ eventLimit) × (length (now (out .exit)) ≡ length (now (out .entry))) ⌝ }
 {
     let mut here = at;
     let mut count = 0usize;

@@ -7,6 +7,7 @@ use lib.ListN.{length, take, drop}
 use Rattle.lib_base.specs.Basics.{All}
 use Rattle.spec_language.specs.Syntax.{Expr, con, name, app1, app2, app3}
 use Rattle.spec_language.specs.Refusals.{noFormula}
+use Rattle.spec_language.specs.Limits.{formulaBytes, fieldBytes}
 use Rattle.text_formula.specs.Tokens.{Token}
 use Rattle.text_formula.specs.InRange.{InRange}
 use Rattle.text_formula.specs.Reader.{Parsed, unparsed, parsed, past, choiceOf, readAt}
@@ -55,6 +56,10 @@ ChoiceRead cs at n o p r =
 abbrev pub ReadWithin : ℕ → ℕ → ℕ → ℕ → Read → Type 0
 ReadWithin size at n d Fault = Unit {0}
 ReadWithin size at n d (Done to end depth) = (at < to) × (to ≤ size) × (n ≤ end) × (end + at * 7 ≤ n + to * 7) × (depth + at ≤ d + to)
+
+-- a formula's tokens, and a buffer for the largest field that they may give
+abbrev pub FieldRoom : List ℕ → List ℕ → Type 0
+FieldRoom cs out = (length cs ≤ formulaBytes) × (length out ≡ fieldBytes)
 
 abbrev pub ArgumentIn : Read → Type 0
 ArgumentIn Fault = Unit {0}

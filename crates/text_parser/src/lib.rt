@@ -10,10 +10,10 @@ use text_phrase::Read;
 ghost use mathlib.Core.Path.{_≡_};
 ghost use Prim.Native.Nat.{_<_, _≤_, _*_, _+_};
 ghost use lib.ListN.{length};
-ghost use Rattle.text_parser.specs.Parser.{Reading, ReadWithin, ChoiceRead, Argued, ArgumentIn};
+ghost use Rattle.text_parser.specs.Parser.{Reading, ReadWithin, ChoiceRead, Argued, ArgumentIn, FieldRoom};
 ghost use Rattle.lib_signature.specs.Levels.{conjunction, disjunction, equality};
 ghost use Rattle.sheet_field.specs.Sizes.{wordField};
-ghost use Rattle.spec_language.specs.Limits.{fieldBytes, formulaBytes};
+ghost use Rattle.spec_language.specs.Limits.{fieldBytes};
 
 // The most bytes of a formula's field: a token has a byte or more, and gives at most a constant's seven.
 pub const FIELD_BYTES: usize = limits::FORMULA_BYTES * sheet_field::sizes::WORD_FIELD;
@@ -24,8 +24,7 @@ const BYTE: u64 = lib_word::BYTE_VALUES as u64;
 // Level 6: `||`, and so a formula.
 pub fn disjunction(ts: &[u64], at: usize, out: &mut [u8; FIELD_BYTES], n: usize) -> Read
     requires { ⌜ n ≤ at * wordField ⌝ }
-    requires { ⌜ length (now ts) ≤ formulaBytes ⌝ }
-    requires { ⌜ length (now out) ≡ fieldBytes ⌝ }
+    requires { ⌜ FieldRoom (now ts) (now out) ⌝ }
     ensures { λ r. ⌜ Reading disjunction (now (ts .entry)) at n (now (out .entry)) (now (out .exit)) r ⌝ }
     ensures { λ r. ⌜ ReadWithin (length (now (ts .entry))) at n 0 r ⌝ }
     ensures { λ _. ⌜ length (now (out .exit)) ≡ fieldBytes ⌝ }
@@ -46,8 +45,7 @@ pub fn disjunction(ts: &[u64], at: usize, out: &mut [u8; FIELD_BYTES], n: usize)
 // Level 5: `&&`.
 fn conjunction(ts: &[u64], at: usize, out: &mut [u8; FIELD_BYTES], n: usize) -> Read
     requires { ⌜ n ≤ at * wordField ⌝ }
-    requires { ⌜ length (now ts) ≤ formulaBytes ⌝ }
-    requires { ⌜ length (now out) ≡ fieldBytes ⌝ }
+    requires { ⌜ FieldRoom (now ts) (now out) ⌝ }
     ensures { λ r. ⌜ Reading conjunction (now (ts .entry)) at n (now (out .entry)) (now (out .exit)) r ⌝ }
     ensures { λ r. ⌜ ReadWithin (length (now (ts .entry))) at n 0 r ⌝ }
     ensures { λ _. ⌜ length (now (out .exit)) ≡ fieldBytes ⌝ }
@@ -68,8 +66,7 @@ fn conjunction(ts: &[u64], at: usize, out: &mut [u8; FIELD_BYTES], n: usize) -> 
 // Level 4: `== !=`.
 fn equality(ts: &[u64], at: usize, out: &mut [u8; FIELD_BYTES], n: usize) -> Read
     requires { ⌜ n ≤ at * wordField ⌝ }
-    requires { ⌜ length (now ts) ≤ formulaBytes ⌝ }
-    requires { ⌜ length (now out) ≡ fieldBytes ⌝ }
+    requires { ⌜ FieldRoom (now ts) (now out) ⌝ }
     ensures { λ r. ⌜ Reading equality (now (ts .entry)) at n (now (out .entry)) (now (out .exit)) r ⌝ }
     ensures { λ r. ⌜ ReadWithin (length (now (ts .entry))) at n 0 r ⌝ }
     ensures { λ _. ⌜ length (now (out .exit)) ≡ fieldBytes ⌝ }
@@ -90,8 +87,7 @@ fn equality(ts: &[u64], at: usize, out: &mut [u8; FIELD_BYTES], n: usize) -> Rea
 // Level 3: `> >= < <=`.
 fn ordering(ts: &[u64], at: usize, out: &mut [u8; FIELD_BYTES], n: usize) -> Read
     requires { ⌜ n ≤ at * wordField ⌝ }
-    requires { ⌜ length (now ts) ≤ formulaBytes ⌝ }
-    requires { ⌜ length (now out) ≡ fieldBytes ⌝ }
+    requires { ⌜ FieldRoom (now ts) (now out) ⌝ }
     ensures { λ r. ⌜ Reading 3 (now (ts .entry)) at n (now (out .entry)) (now (out .exit)) r ⌝ }
     ensures { λ r. ⌜ ReadWithin (length (now (ts .entry))) at n 0 r ⌝ }
     ensures { λ _. ⌜ length (now (out .exit)) ≡ fieldBytes ⌝ }
@@ -112,8 +108,7 @@ fn ordering(ts: &[u64], at: usize, out: &mut [u8; FIELD_BYTES], n: usize) -> Rea
 // Level 2: `+ -`.
 fn sum(ts: &[u64], at: usize, out: &mut [u8; FIELD_BYTES], n: usize) -> Read
     requires { ⌜ n ≤ at * wordField ⌝ }
-    requires { ⌜ length (now ts) ≤ formulaBytes ⌝ }
-    requires { ⌜ length (now out) ≡ fieldBytes ⌝ }
+    requires { ⌜ FieldRoom (now ts) (now out) ⌝ }
     ensures { λ r. ⌜ Reading 2 (now (ts .entry)) at n (now (out .entry)) (now (out .exit)) r ⌝ }
     ensures { λ r. ⌜ ReadWithin (length (now (ts .entry))) at n 0 r ⌝ }
     ensures { λ _. ⌜ length (now (out .exit)) ≡ fieldBytes ⌝ }
@@ -134,8 +129,7 @@ fn sum(ts: &[u64], at: usize, out: &mut [u8; FIELD_BYTES], n: usize) -> Read
 // Level 1: `* /`.
 fn product(ts: &[u64], at: usize, out: &mut [u8; FIELD_BYTES], n: usize) -> Read
     requires { ⌜ n ≤ at * wordField ⌝ }
-    requires { ⌜ length (now ts) ≤ formulaBytes ⌝ }
-    requires { ⌜ length (now out) ≡ fieldBytes ⌝ }
+    requires { ⌜ FieldRoom (now ts) (now out) ⌝ }
     ensures { λ r. ⌜ Reading 1 (now (ts .entry)) at n (now (out .entry)) (now (out .exit)) r ⌝ }
     ensures { λ r. ⌜ ReadWithin (length (now (ts .entry))) at n 0 r ⌝ }
     ensures { λ _. ⌜ length (now (out .exit)) ≡ fieldBytes ⌝ }
@@ -156,8 +150,7 @@ fn product(ts: &[u64], at: usize, out: &mut [u8; FIELD_BYTES], n: usize) -> Read
 // Level 0: `!`, numbers, names, brackets and `if`.
 fn operand(ts: &[u64], at: usize, out: &mut [u8; FIELD_BYTES], n: usize) -> Read
     requires { ⌜ n ≤ at * wordField ⌝ }
-    requires { ⌜ length (now ts) ≤ formulaBytes ⌝ }
-    requires { ⌜ length (now out) ≡ fieldBytes ⌝ }
+    requires { ⌜ FieldRoom (now ts) (now out) ⌝ }
     ensures { λ r. ⌜ Reading 0 (now (ts .entry)) at n (now (out .entry)) (now (out .exit)) r ⌝ }
     ensures { λ r. ⌜ ReadWithin (length (now (ts .entry))) at n 0 r ⌝ }
     ensures { λ _. ⌜ length (now (out .exit)) ≡ fieldBytes ⌝ }
@@ -184,8 +177,7 @@ fn operand(ts: &[u64], at: usize, out: &mut [u8; FIELD_BYTES], n: usize) -> Read
 fn choice(ts: &[u64], at: usize, out: &mut [u8; FIELD_BYTES], n: usize) -> Read
     requires { ⌜ n ≤ at * wordField ⌝ }
     requires { ⌜ at < length (now ts) ⌝ }
-    requires { ⌜ length (now ts) ≤ formulaBytes ⌝ }
-    requires { ⌜ length (now out) ≡ fieldBytes ⌝ }
+    requires { ⌜ FieldRoom (now ts) (now out) ⌝ }
     ensures { λ r. ⌜ ChoiceRead (now (ts .entry)) at n (now (out .entry)) (now (out .exit)) r ⌝ }
     ensures { λ r. ⌜ ReadWithin (length (now (ts .entry))) at n 0 r ⌝ }
     ensures { λ _. ⌜ length (now (out .exit)) ≡ fieldBytes ⌝ }
@@ -201,8 +193,7 @@ fn choice(ts: &[u64], at: usize, out: &mut [u8; FIELD_BYTES], n: usize) -> Read
 fn argument(ts: &[u64], m: u64, r: Read, out: &mut [u8; FIELD_BYTES]) -> Read
     requires { ⌜ ArgumentIn r ⌝ }
     requires { ⌜ 0 < m ⌝ }
-    requires { ⌜ length (now ts) ≤ formulaBytes ⌝ }
-    requires { ⌜ length (now out) ≡ fieldBytes ⌝ }
+    requires { ⌜ FieldRoom (now ts) (now out) ⌝ }
     ensures { λ q. ⌜ Argued m (now (ts .entry)) (now (out .entry)) (now (out .exit)) r q ⌝ }
     ensures { λ _. ⌜ length (now (out .exit)) ≡ fieldBytes ⌝ }
 {
