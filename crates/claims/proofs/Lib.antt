@@ -8,4 +8,5 @@ pub mod TextsHold
 pub mod ClaimsHold
 pub mod DeliveriesHold
 pub mod Instances
+pub mod SheetInstances
 pub mod Consequences

@@ -1,4 +1,5 @@
 pub mod AgreementHolds
 pub mod Computed
 pub mod FinalHolds
+pub mod Lights
 pub mod Instances
