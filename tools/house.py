@@ -7,8 +7,8 @@
 Believed and proved are told apart by place: a file under specs/ holds definitions and statements only. The other
 checks: no public name that two definitions' files declare, no public name and no dependency that nothing uses, no edit
 that changes nothing, none in two places and none in another function than it names, an edit at the gate for each crate
-with code, two for each exported call, no number in the code without a name, no tag, width or offset of a sheet's field
-outside the room sheet, no two rooms that stand on each other, lines of pages and comments at most 120 columns, every
+with code, two for each exported call, no number without a name in the code or in a contract, no tag, width or offset of
+a sheet's field outside the room sheet, no two rooms that stand on each other, lines of pages and comments at most 120 columns, every
 path and name on the pages there, every edit cited by its crate and label and there, functions of at most 7 parameters
 with contracts of at most 6 clauses, and proof files whose answers and places have names.
 """
@@ -79,6 +79,23 @@ def names_declared_twice(theories):
             others = [o for o in same[:n] if o.file != d.file and (o.name == d.name or d.name.lower() not in SAME_IDEA)]
             if others:
                 yield f"{d.file}:{d.line}: a public name that {others[0].file} declares too: {d.name}, {others[0].name}"
+
+
+# functions that mean the same in two crates: a part of a formula alone and in a sheet's text, a step on two stacks, the
+# cells that a field makes, a byte of a word, a result that goes to the caller's buffer
+SAME_MEANING = {
+    *("argument", "byte_at", "cells_at", "choice", "close", "ended", "in_word", "mark_at", "number_at", "push"),
+    *("put_result", "token_at", "under", "with_digit", "word_at"),
+}
+
+
+def functions_declared_twice():
+    places = {}
+    for path in files_under("crates", ".rt"):
+        for name in re.findall(r"^ *(?:pub )?(?:extern \"C\" )?fn (\w+)", text_of(path), re.M):
+            crate = path.split("/")[1]
+            if places.setdefault(name, crate) != crate and name not in SAME_MEANING:
+                yield f"{path}: a function's name that {places[name]} has too: {name}"
 
 
 # ---- what nothing uses
@@ -262,6 +279,23 @@ def bare_numbers():
             for found in LITERAL.finditer(code):
                 if int(found.group(1).replace("_", ""), 0) > LARGEST_BARE:
                     yield f"{path}:{number}: a number without a name: {found.group(1)}"
+
+
+# a bound of the machine's numbers, as 2 ^ 64
+POWER = re.compile(r"\b2 \^ \d+")
+
+
+def bare_numbers_in_contracts():
+    """Contracts name their numbers as the code does; those of the exported calls have the papers' own."""
+    for path in files_under("crates", ".rt"):
+        if path.split("/")[1] == "engine":
+            continue
+        text = text_of(path)
+        for clause in CLAUSE.finditer(text):
+            for found in LITERAL.finditer(POWER.sub("", clause.group(0))):
+                if int(found.group(1).replace("_", "")) > LARGEST_BARE:
+                    line = text[: clause.start()].count("\n") + 1
+                    yield f"{path}:{line}: a number without a name in a contract: {found.group(1)}"
 
 
 # ---- one owner of a sheet's bytes
@@ -529,6 +563,7 @@ def all_faults():
     yield from lemmas_in_specs(theories)
     yield from lemmas_imported_by_definitions(theories)
     yield from names_declared_twice(theories)
+    yield from functions_declared_twice()
     yield from unused_public_names(theories)
     yield from unused_functions()
     yield from unused_dependencies()
@@ -536,6 +571,7 @@ def all_faults():
     yield from crates_without_an_edit()
     yield from edits_due_at_the_gate()
     yield from bare_numbers()
+    yield from bare_numbers_in_contracts()
     yield from numbers_of_sheets()
     yield from wide_lines()
     yield from large_contracts()
@@ -562,6 +598,7 @@ PLANTED = [
     ("imports from", "crates/lib_base/specs/Planted.antt", "use Rattle.lib_base.proofs.Tools.{by-test}\n"),
     ("declares too", "crates/lib_base/specs/Planted.antt", "abbrev pub noEvent : ℕ\nnoEvent = 1\n"),
     ("declares too", "crates/lib_base/specs/Planted.antt", "abbrev pub NoEvent : ℕ\nNoEvent = 1\n"),
+    ("a function's name that", "crates/lib_word/src/planted.rt", "fn best_of(n: usize) -> usize {\n    n\n}\n"),
     ("a public name that nothing uses", "crates/lib_base/proofs/Planted.antt", "abbrev pub plantedName : ℕ\nplantedName = 1\n"),
     ("which nothing in it uses", "crates.txt", None),
     ("rooms that stand on each other", "crates.txt", None),
@@ -573,6 +610,7 @@ PLANTED = [
     ("0 edits of circle", "docs/CLAIMS.md", ("- `circle`: ", "- `planted`: ")),
     ("no edit of the engine that is sent back", "docs/CLAIMS.md", ("`run_arrive/number_made_up`\n", "`run_arrive/planted`\n")),
     ("a number without a name", "crates/lib_word/src/planted.rt", "fn planted() -> u32 {\n    17\n}\n"),
+    ("in a contract: 17", "crates/lib_word/src/planted.rt", "fn planted() -> u32\n    ensures { λ r. ⌜ r < 17 ⌝ }\n{\n    0\n}\n"),
     ("8 parameters", "crates/lib_word/src/planted.rt", "fn planted(\n" + "".join(f"    {a}: u32,\n" for a in "abcdefgh") + ") -> u32\n{\n    a\n}\n"),
     ("7 clauses", "crates/lib_word/src/planted.rt", "fn planted() -> u32\n" + "    ensures { λ r. ⌜ r ≡ 0 ⌝ }\n" * 7 + "{\n    0\n}\n"),
     ("columns in a contract", "crates/lib_word/src/planted.rt", "fn planted() -> u32\n    ensures { λ r. ⌜ " + "0 + " * 40 + "0 ≡ r ⌝ }\n{\n    0\n}\n"),

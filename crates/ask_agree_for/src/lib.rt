@@ -15,12 +15,10 @@ ghost use Rattle.ask_agree_for.specs.AgreeFor.{encounterIn, agreeForIn, 
 ghost use Rattle.spec_language.specs.Limits.{behaviourLimit, eventLimit};
 use back_compile::Judgement;
 use draft_form::layout;
+use spec_language::answers;
 use spec_language::limits;
-use spec_language::refusals;
 
 const PRIORITIES: usize = layout::PRIORITIES;
-
-const NO_BEHAVIOUR: u64 = refusals::NO_BEHAVIOUR as u64;
 
 // Where two events meet, by what each writes and is strict about.
 fn meet_of(cone: u64, we: u64, se: u64, wf: u64, sf: u64) -> u64
@@ -120,7 +118,7 @@ fn agree_for_of(d: &[u64], ev: usize, n: usize, behaviour: u32) -> u64
     ensures { λ r. ⌜ ((p : Program) → DraftFor p (now (d .entry)) ev n → r ≡ agreeForIn p behaviour) ⌝ }
 {
     if n <= behaviour as usize {
-        return NO_BEHAVIOUR;
+        return answers::NO_BEHAVIOUR;
     }
     meet_in(d, ev, n, behaviour as usize)
 }
@@ -134,7 +132,7 @@ pub fn agree_for_at(sheet: &[u8], params: &[u8], behaviour: u32) -> u64
     let mut draft = [0u64; layout::LENGTH];
     let judgement = back_compile::judge_sheet(sheet, params, &mut draft);
     let Judgement::Accepted(events, behaviours) = judgement else {
-        return back_compile::number_of(judgement) as u64;
+        return back_compile::judgement_number(judgement) as u64;
     };
     agree_for_of(&draft, events, behaviours, behaviour)
 }

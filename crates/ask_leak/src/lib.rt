@@ -17,6 +17,7 @@ ghost use Rattle.ask_leak.specs.Leak.{leakOn};
 ghost use Rattle.spec_language.specs.Limits.{behaviourLimit, eventLimit, playerLimit};
 use back_compile::Judgement;
 use draft_form::layout;
+use spec_language::answers;
 
 // The answer: this number, and the behaviour that is seen and the hidden one, each in bits of its own.
 const MAY_LEAK: u64 = 30;
@@ -24,8 +25,6 @@ const MAY_LEAK: u64 = 30;
 const SEEN: u64 = 256;
 
 const HIDDEN: u64 = 65536;
-
-const NO_PLAYER: u64 = spec_language::refusals::NO_PLAYER as u64;
 
 const LAST_PLAYER: u32 = spec_language::limits::PLAYERS - 1;
 // Where the draft has who may see each behaviour.
@@ -75,7 +74,7 @@ fn hidden_of(d: &[u64], n: usize, player: usize) -> u64
 }
 
 // The least behaviour in the set, with the one that names it; 0 for an empty set.
-fn least_in(set: u64, n: usize, i: usize) -> u64
+fn least_leak(set: u64, n: usize, i: usize) -> u64
     requires { ⌜ (n ≤ behaviourLimit) × (i < behaviourLimit) ⌝ }
     ensures { λ r. ⌜ r ≡ firstFrom n 0 (λ j. pick (bit set j) (packedLeak i j) 0) ⌝ }
 {
@@ -100,7 +99,7 @@ fn leak_from(d: &[u64], ev: usize, n: usize, hidden: u64, i: usize) -> u64
     if lib_bits::contains(hidden, i) {
         return 0;
     }
-    least_in(lib_bits::common(names_of(d, ev, i, n), hidden), n, i)
+    least_leak(lib_bits::common(names_of(d, ev, i, n), hidden), n, i)
 }
 
 // The first behaviour that is seen and names a hidden one.
@@ -133,7 +132,7 @@ fn leak_of(d: &[u64], ev: usize, n: usize, player: u32) -> u64
     ensures { λ r. ⌜ r ≡ leakFor (now (d .entry)) ev n player ⌝ }
 {
     if player > LAST_PLAYER {
-        return NO_PLAYER;
+        return answers::NO_PLAYER;
     }
     leak_in(d, ev, n, player as usize)
 }
@@ -146,7 +145,7 @@ pub fn leak_at(sheet: &[u8], params: &[u8], player: u32) -> u64
     let mut draft = [0u64; layout::LENGTH];
     let judgement = back_compile::judge_sheet(sheet, params, &mut draft);
     let Judgement::Accepted(events, behaviours) = judgement else {
-        return back_compile::number_of(judgement) as u64;
+        return back_compile::judgement_number(judgement) as u64;
     };
     leak_of(&draft, events, behaviours, player)
 }

@@ -177,7 +177,7 @@ fn remove(set: u64, j: usize) -> u64
 }
 
 // The set with i or without it.
-fn put(set: u64, i: usize, there: bool) -> u64
+fn with_member(set: u64, i: usize, there: bool) -> u64
     requires { ⌜ i < behaviourLimit ⌝ }
     ensures { λ r. ⌜ ((j : ℕ) → bit r j ≡ pick (eqb i j) there (bit set j)) ⌝ }
 {
@@ -194,7 +194,7 @@ fn strict_at(d: &[u64], rows: &[u64], n: usize, i: usize, v: u64) -> u64
     ensures { λ r. ⌜ ((e : ℕ) → v ≡ entryOf (now (d .entry)) e i → Gathers behaviourLimit r (strictAtOn (now (d .entry)) (now (rows .entry)) n e i)) ⌝ }
 {
     let names = check_reads::add_rows(rows, check_reads::names_in(d, i, v), n);
-    put(names, i, mark_in(d, rows, i, v) != ADDS)
+    with_member(names, i, mark_in(d, rows, i, v) != ADDS)
 }
 
 // The set with that, where the entry is a handler of one of the others.

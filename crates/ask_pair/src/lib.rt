@@ -16,13 +16,10 @@ ghost use Rattle.ask_pair.specs.Flags.{allFlags};
 ghost use Rattle.spec_language.specs.Limits.{behaviourLimit, eventLimit};
 use back_compile::Judgement;
 use draft_form::layout;
+use spec_language::answers;
 use spec_language::limits;
-use spec_language::refusals;
 
-const UNDECLARED_EVENT: u64 = refusals::UNDECLARED_EVENT as u64;
 // The answer: this number, the behaviour, and the flags times 256.
-const ANSWER: u64 = 4294967296;
-
 const FLAGS: u64 = 256;
 
 const FIRST_WRITES: u64 = 1;
@@ -103,7 +100,7 @@ fn pack(we: u64, wf: u64, re: u64, rf: u64, kind: u64, i: usize) -> u64
     requires { ⌜ (i < behaviourLimit) × (kind ≤ eventLimit) ⌝ }
     ensures { λ r. ⌜ r ≡ packedPair (bit we) (bit wf) (bit re) (bit rf) kind i ⌝ }
 {
-    ANSWER + (i as u64 + FLAGS * (flags_at(we, wf, re, rf, i) + kind))
+    answers::VALUE + (i as u64 + FLAGS * (flags_at(we, wf, re, rf, i) + kind))
 }
 
 // The answer, by what each of the two writes and reads, where they meet and what they share.
@@ -164,7 +161,7 @@ fn pair_for(d: &[u64], ev: usize, n: usize, first: u32, second: u32) -> u64
             return pair_in(d, ev, n, first as usize, second as usize);
         }
     }
-    UNDECLARED_EVENT
+    answers::UNDECLARED_EVENT
 }
 
 // compile's number, as with a full table; 15 where either is not declared; 0 where the two events are independent; else
@@ -175,7 +172,7 @@ pub fn pair_at(sheet: &[u8], params: &[u8], first: u32, second: u32) -> u64
     let mut draft = [0u64; layout::LENGTH];
     let judgement = back_compile::judge_sheet(sheet, params, &mut draft);
     let Judgement::Accepted(events, behaviours) = judgement else {
-        return back_compile::number_of(judgement) as u64;
+        return back_compile::judgement_number(judgement) as u64;
     };
     pair_for(&draft, events, behaviours, first, second)
 }

@@ -26,7 +26,7 @@ pub enum Judgement {
 }
 
 // compile's number.
-pub fn number_of(judgement: Judgement) -> u32
+pub fn judgement_number(judgement: Judgement) -> u32
     ensures { λ r. ⌜ r ≡ answerOf judgement ⌝ }
 {
     match judgement {
@@ -37,7 +37,7 @@ pub fn number_of(judgement: Judgement) -> u32
 }
 
 // The number of the reader's refusal; 0 of a draft that is ready.
-fn fault_of(reading: Draft) -> u32
+fn reader_refusal(reading: Draft) -> u32
     ensures { λ r. ⌜ r ≡ draftRefusal reading ⌝ }
 {
     match reading {
@@ -58,7 +58,7 @@ pub fn judge_sheet(sheet: &[u8], params: &[u8], draft: &mut [u64]) -> Judgement
     }
     let reading = front_sheet::read_program(sheet, draft);
     let Draft::Ready(events, behaviours, nodes) = reading else {
-        return Judgement::Refused(fault_of(reading));
+        return Judgement::Refused(reader_refusal(reading));
     };
     let lacking = draft_params::lacks_param(draft, nodes, params);
     draft_params::fill_draft(draft, nodes, params);
@@ -78,12 +78,12 @@ pub fn judge_sheet(sheet: &[u8], params: &[u8], draft: &mut [u64]) -> Judgement
 }
 
 // compile's number, as with a full table: the sheet judged, and no table made.
-pub fn number_at(sheet: &[u8], params: &[u8]) -> u32
+pub fn compile_number(sheet: &[u8], params: &[u8]) -> u32
     ensures { λ r. ⌜ r ≡ numberOn (now (sheet .entry)) (now (params .entry)) ⌝ }
 {
     let mut draft = [0u64; layout::LENGTH];
     let judgement = judge_sheet(sheet, params, &mut draft);
-    number_of(judgement)
+    judgement_number(judgement)
 }
 
 // 1; then as the sheet is judged: 3, the reading, 11, 20, 12, 13; then the table, from its first byte on. 0, or the
@@ -97,7 +97,7 @@ pub fn compile_at(sheet: &[u8], params: &[u8], table: &mut [u8]) -> u32
     let mut draft = [0u64; layout::LENGTH];
     let judgement = judge_sheet(sheet, params, &mut draft);
     let Judgement::Accepted(events, behaviours) = judgement else {
-        return number_of(judgement);
+        return judgement_number(judgement);
     };
     back_table::write_table(&draft, events, behaviours, table);
     0

@@ -14,7 +14,7 @@ use draft_form::layout;
 const MASKS: usize = 4;
 
 // What an entry adds to the count of instructions.
-fn share_of(entry: u64) -> usize
+fn entry_length(entry: u64) -> usize
     requires { ⌜ entryCount entry ≤ draftNodes ⌝ }
     ensures { λ r. ⌜ r ≡ shareOf entry ⌝ }
 {
@@ -38,7 +38,7 @@ pub fn count_event(draft: &[u64], event: usize, behaviours: usize) -> usize
     let mut sum = MASKS;
     let mut i = 0;
     while i < behaviours {
-        sum += share_of(entry_of(draft, event, i));
+        sum += entry_length(entry_of(draft, event, i));
         i += 1;
     }
     sum

@@ -29,7 +29,7 @@ fn push(stack: &mut [u32], k: usize, w: u32) -> usize
 }
 
 // The value of name j; 0 past the last.
-fn value_of(values: &[u32], j: u32) -> u32
+fn name_value(values: &[u32], j: u32) -> u32
     requires { ⌜ length (now values) ≡ behaviourLimit ⌝ }
     ensures { λ r. ⌜ r ≡ look (now (values .entry)) j ⌝ }
 {
@@ -89,7 +89,7 @@ fn eval_node(node: u64, values: &[u32], stack: &mut [u32], k: usize) -> usize
         return push(stack, k, w);
     }
     if node / layout::WORD == layout::NAME {
-        let u = value_of(values, w);
+        let u = name_value(values, w);
         return push(stack, k, u);
     }
     let f = (w % BYTE) as u8;

@@ -49,7 +49,7 @@ fn write_kinds(draft: &[u64], behaviours: usize, table: &mut [u8], place: usize)
 }
 
 // What an entry adds to the instructions that work the passives out.
-fn share_again(entry: u64) -> usize
+fn passive_length(entry: u64) -> usize
     requires { ⌜ entryCount entry ≤ draftNodes ⌝ }
     ensures { λ r. ⌜ r ≡ againShare entry ⌝ }
 {
@@ -59,21 +59,21 @@ fn share_again(entry: u64) -> usize
     0
 }
 
-fn count_again(draft: &[u64], behaviours: usize) -> usize
+fn passives_length(draft: &[u64], behaviours: usize) -> usize
     requires { ⌜ EntriesInside (now draft) 0 behaviours ⌝ }
     ensures { λ r. ⌜ r ≡ countAgain (now (draft .entry)) behaviours ⌝ }
 {
     let mut sum = 0;
     let mut i = 0;
     while i < behaviours {
-        sum += share_again(entry_of(draft, 0, i));
+        sum += passive_length(entry_of(draft, 0, i));
         i += 1;
     }
     sum
 }
 
 // Where they begin: event 0 has `all` instructions, `count` of them these, and copies m behaviours back.
-fn start_again(events: usize, all: usize, m: usize, count: usize) -> usize
+fn passives_start(events: usize, all: usize, m: usize, count: usize) -> usize
     requires { ⌜ (m ≤ behaviourLimit) × (count ≤ mostPassiveCode) ⌝ }
     ensures { λ r. ⌜ r ≡ againStart events all m count ⌝ }
 {
@@ -95,9 +95,9 @@ pub fn write_passives(draft: &[u64], events: usize, behaviours: usize, table: &m
 {
     let kinds = write_kinds(draft, behaviours, table, table::KINDS);
     back_parts::write_zeros(table, kinds, table::PASSIVES_START);
-    let count = count_again(draft, behaviours);
+    let count = passives_length(draft, behaviours);
     let m = back_counts::count_members(draft, 0, behaviours);
-    let start = start_again(
+    let start = passives_start(
         events,
         back_counts::count_event(draft, 0, behaviours),
         m,

@@ -104,7 +104,7 @@ fn emit_moves(
 }
 
 // The passives again, in the same order.
-pub fn emit_again(
+pub fn emit_passives(
     draft: &[u64],
     event: usize,
     behaviours: usize,
@@ -151,5 +151,5 @@ pub fn phase_two(
         (secondWords (now (draft .entry)) event behaviours (take count (now (order .entry)))) (now (table .exit)) r ⌝ }
 {
     let next = emit_moves(draft, event, behaviours, table, place);
-    emit_again(draft, event, behaviours, order, count, table, next)
+    emit_passives(draft, event, behaviours, order, count, table, next)
 }

@@ -18,7 +18,7 @@ pub enum Order {
     Circular,
 }
 
-fn mark_of(entry: u64) -> u8
+fn entry_mark(entry: u64) -> u8
     ensures { λ r. ⌜ r ≡ metMark entry ⌝ }
 {
     if entry % layout::KINDS == layout::PASSIVE {
@@ -35,7 +35,7 @@ fn add_met(set: u64, i: usize, entry: u64) -> u64
     requires { ⌜ i < behaviourLimit ⌝ }
     ensures { λ r. ⌜ ((j : ℕ) → bit r j ≡ bit set j || (not (eqb (metMark entry) 0) && eqb j i)) ⌝ }
 {
-    if mark_of(entry) == 0 {
+    if entry_mark(entry) == 0 {
         return set;
     }
     lib_bits::insert(set, i)
@@ -65,7 +65,7 @@ pub fn order_under(draft: &[u64], event: usize, behaviours: usize, order: &mut [
     let mut rows = [0u64; check_graph::ROW];
     check_faults::fill_rows(draft, event, behaviours, &mut rows);
     let met = met_set(draft, event, behaviours);
-    let arranged = check_graph::order_of(&rows, met, behaviours, order);
+    let arranged = check_graph::arrange(&rows, met, behaviours, order);
     arranged.count
 }
 
@@ -77,7 +77,7 @@ fn count_turns(draft: &[u64], event: usize, behaviours: usize) -> usize
     let mut sum = 0;
     let mut i = 0;
     while i < behaviours {
-        sum += 1 - mark_of(draft_form::entry_of(draft, event, i)) as usize;
+        sum += 1 - entry_mark(draft_form::entry_of(draft, event, i)) as usize;
         i += 1;
     }
     sum

@@ -77,7 +77,7 @@ fn write_events(
 }
 
 // The instructions that work the passives out, alone.
-fn write_alone(
+fn write_passive_code(
     draft: &[u64],
     events: usize,
     behaviours: usize,
@@ -90,7 +90,7 @@ fn write_alone(
 {
     let mut o = [0u8; limits::BEHAVIOURS];
     let count = back_schedule::order_under(draft, 0, behaviours, &mut o);
-    back_phases::emit_again(draft, 0, behaviours, &o, count, table, place)
+    back_phases::emit_passives(draft, 0, behaviours, &o, count, table, place)
 }
 
 // The instructions: each event's, or where none is declared those for the passives.
@@ -106,7 +106,7 @@ fn write_codes(
     ensures { λ r. ⌜ Wrote (now (table .entry)) place (codesOf (now (draft .entry)) events behaviours) (now (table .exit)) r ⌝ }
 {
     if events == 0 {
-        return write_alone(draft, events, behaviours, table, place);
+        return write_passive_code(draft, events, behaviours, table, place);
     }
     write_events(draft, events, behaviours, table, place)
 }

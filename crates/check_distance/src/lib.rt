@@ -18,14 +18,14 @@ ghost use Rattle.spec_language.specs.Limits.{behaviourLimit};
 pub const LEVELS: usize = check_graph::ROW + 1;
 
 // Whether two sets have a number in common.
-fn share(a: u64, b: u64) -> bool
+fn is_common(a: u64, b: u64) -> bool
     ensures { λ r. ⌜ r ≡ anyBelow behaviourLimit (λ h. bit a h && bit b h) ⌝ }
 {
     a & b != 0
 }
 
 // The lowest of the first n that is in both; n if there is none.
-fn first_shared(a: u64, b: u64, n: usize) -> usize
+fn first_common(a: u64, b: u64, n: usize) -> usize
     requires { ⌜ n ≤ behaviourLimit ⌝ }
     ensures { λ r. ⌜ Lowest (λ h. bit a h && bit b h) n r ⌝ }
 {
@@ -45,7 +45,7 @@ fn add_leading(set: u64, j: usize, needs: u64, others: u64) -> u64
     requires { ⌜ j < behaviourLimit ⌝ }
     ensures { λ r. ⌜ ((x : ℕ) → bit r x ≡ bit set x || (anyBelow behaviourLimit (λ h. bit needs h && bit others h) && eqb x j)) ⌝ }
 {
-    if share(needs, others) {
+    if is_common(needs, others) {
         return lib_bits::insert(set, j);
     }
     set
@@ -78,7 +78,7 @@ pub fn steps_back(rows: &[u64], levels: &mut [u64], i: usize, n: usize) -> usize
         if level == 0 {
             return n + 1;
         }
-        if share(rows[i], level) {
+        if is_common(rows[i], level) {
             return k + 1;
         }
         k += 1;
@@ -98,7 +98,7 @@ pub fn walk(rows: &[u64], levels: &[u64], i: usize, r: usize, n: usize, list: &m
     let mut t = 0;
     while t < r {
         list[t] = at as u8;
-        at = first_shared(rows[at], levels[r - 1 - t], n);
+        at = first_common(rows[at], levels[r - 1 - t], n);
         t += 1;
     }
 }

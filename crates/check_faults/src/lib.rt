@@ -106,7 +106,7 @@ fn place_all(rows: &[u64], n: usize) -> u64
     ensures { λ r. ⌜ PlacedOn (now (rows .entry)) n r ⌝ }
 {
     let mut order = [0u8; check_graph::ROW];
-    let arranged = check_graph::order_of(rows, 0, n, &mut order);
+    let arranged = check_graph::arrange(rows, 0, n, &mut order);
     arranged.set
 }
 
@@ -131,7 +131,7 @@ fn close_left(rows: &mut [u64], placed: u64, n: usize)
     ensures { λ _. ⌜ LeftClosed (now (rows .entry)) placed n (now (rows .exit)) ⌝ }
 {
     if first_left(placed, n) < n {
-        check_graph::close(rows, n);
+        check_graph::close_all(rows, n);
     }
 }
 

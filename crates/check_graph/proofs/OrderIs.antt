@@ -221,7 +221,7 @@ order-is m marks out n l o small =
     from-start out (ordered m n marks) m n small (orderOn m n n marks 0 out)
     (orders m n small n marks (upTo n (λ i. isMarked marks i)) 0 out (agree-first m n small marks l) (omega arith))
 
--- the same, from what `order_of` ensures
+-- the same, from what `arrange` ensures
 pub order-written : (m marks out : List ℕ) (n : ℕ) → length marks ≡ 64 → length out ≡ 64 → n ≤ 64 → (count : ℕ) (marks′ out′ : List ℕ)
     → placed count marks′ out′ ≡ orderOn m n n marks 0 out → OrderWritten (ordered m n marks) out (placed count marks′ out′)
 order-written m marks out n l o small count marks′ out′ e = subst (OrderWritten (ordered m n marks) out) (sym e) (order-is m marks out n l o small)
@@ -239,7 +239,7 @@ pub ordered-same : (m marks : List ℕ) (n : ℕ) (dep : ℕ → ℕ → Bool) (
 ordered-same m marks n dep f h k =
     order-same n (λ i j. cell m i j) dep h n (upTo n (λ i. isMarked marks i)) ∙ ap (order n dep n) (upTo-same n (λ i. isMarked marks i) f k)
 
--- what a caller of `order_of` needs for its bounds: at most n are placed, each below n
+-- what a caller of `arrange` needs for its bounds: at most n are placed, each below n
 module _ (m marks out : List ℕ) (n : ℕ) (l : length marks ≡ 64) (o : length out ≡ 64) (small : n ≤ 64) (count : ℕ) (marks′ out′ : List ℕ)
     (e : placed count marks′ out′ ≡ orderOn m n n marks 0 out) where
   pub order-count : count ≤ n

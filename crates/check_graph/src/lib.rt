@@ -45,7 +45,7 @@ fn find_next(rows: &[u64], set: u64, n: usize) -> usize
 
 // Places each of the first n that is not in the set and whose needs are, the lowest number first, chosen anew after
 // each. Returns who is in the set then, and how many were placed.
-pub fn order_of(rows: &[u64], met: u64, n: usize, out: &mut [u8]) -> Arranged
+pub fn arrange(rows: &[u64], met: u64, n: usize, out: &mut [u8]) -> Arranged
     requires { ⌜ (length (now rows) ≡ behaviourLimit) × (length (now out) ≡ behaviourLimit) × (n ≤ behaviourLimit) × RowsBelow (now rows) n ⌝ }
     ensures { λ r. ⌜ placed (r .count) (marksOf (r .set)) (now (out .exit)) ≡ orderOn (bytesOf (now (rows .entry))) n n (marksOf met) 0 (now (out .entry)) ⌝ }
 {
@@ -94,7 +94,7 @@ fn pass(rows: &mut [u64], k: usize, n: usize)
 }
 
 // Each of the first n takes in what is reached from it: through each of them in turn (Warshall). Time: n * n.
-pub fn close(rows: &mut [u64], n: usize)
+pub fn close_all(rows: &mut [u64], n: usize)
     requires { ⌜ (length (now rows) ≡ behaviourLimit) × (n ≤ behaviourLimit) ⌝ }
     ensures { λ _. ⌜ ClosedRows (now (rows .entry)) n (now (rows .exit)) ⌝ }
 {

@@ -109,7 +109,7 @@ fn passive_names(d: &[u64], i: usize, v: u64) -> u64
 }
 
 // What each of n behaviours names as a passive: ev is the number of no event.
-fn fill_rows(d: &[u64], ev: usize, n: usize, rows: &mut [u64])
+fn fill_passives(d: &[u64], ev: usize, n: usize, rows: &mut [u64])
     requires { ⌜ (length (now d) ≡ draftLength) × (length (now rows) ≡ behaviourLimit) × (ev ≤ eventLimit) × (n ≤ behaviourLimit) × RowsInside (now d) ev n ⌝ }
     ensures { λ _. ⌜ RowsBy (passiveOn (now (d .entry)) ev) n (now (rows .exit)) ⌝ }
 {
@@ -160,7 +160,7 @@ pub fn passive_rows(d: &[u64], ev: usize, n: usize, rows: &mut [u64])
     requires { ⌜ (length (now d) ≡ draftLength) × (length (now rows) ≡ behaviourLimit) × (ev ≤ eventLimit) × (n ≤ behaviourLimit) × RowsInside (now d) ev n ⌝ }
     ensures { λ _. ⌜ RowsBy (closedBy n (passiveOn (now (d .entry)) ev)) n (now (rows .exit)) ⌝ }
 {
-    fill_rows(d, ev, n, rows);
+    fill_passives(d, ev, n, rows);
     close_rows(rows, n);
 }
 

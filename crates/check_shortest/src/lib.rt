@@ -10,6 +10,7 @@ ghost use Rattle.check_shortest.specs.Search.{backOn, eventOfTurn, bestO
 ghost use Rattle.check_shortest.specs.EventNumber.{eventNumber};
 ghost use Rattle.check_distance.specs.Levels.{levelCount};
 ghost use Rattle.spec_language.specs.Limits.{behaviourLimit, eventLimit};
+use spec_language::answers;
 
 // How the steps from a behaviour back to itself are packed with the event's turn and the behaviour: both are below 64.
 const TURNS: usize = 64;
@@ -18,8 +19,6 @@ const BEHAVIOURS: usize = spec_language::limits::BEHAVIOURS;
 // Above every packed number.
 const BEYOND: usize = 300000;
 // An answer: the refusal, the event times EVENT, NO_EVENT for none, and how many members times COUNT.
-const CYCLE: u64 = spec_language::refusals::CYCLE as u64;
-
 const NO_EVENT: u64 = 255;
 
 const EVENT: u64 = 256;
@@ -27,7 +26,7 @@ const EVENT: u64 = 256;
 const COUNT: u64 = 65536;
 
 // The events in turn: none, which is number ev, and then those declared.
-fn event_at(ev: usize, t: usize) -> usize
+fn event_of_turn(ev: usize, t: usize) -> usize
     ensures { λ r. ⌜ r ≡ eventOfTurn ev t ⌝ }
 {
     if t == 0 {
@@ -75,7 +74,7 @@ fn shortest(d: &[u64], ev: usize, n: usize) -> usize
     let mut least = BEYOND;
     let mut t = 0;
     while t <= ev {
-        least = best_under(d, event_at(ev, t), t, n, &mut rows, &mut levels, least);
+        least = best_under(d, event_of_turn(ev, t), t, n, &mut rows, &mut levels, least);
         t += 1;
     }
     least
@@ -123,9 +122,9 @@ pub fn list_circle(d: &[u64], ev: usize, n: usize, list: &mut [u8]) -> u64
     ensures { λ r. ⌜ ShortestFound (now (d .entry)) ev n (now (list .entry)) r (now (list .exit)) ⌝ }
 {
     let best = shortest(d, ev, n);
-    let e = event_at(ev, best / BEHAVIOURS % TURNS);
+    let e = event_of_turn(ev, best / BEHAVIOURS % TURNS);
     let mut members = [0u8; BEHAVIOURS];
     let count = list_members(d, e, best % BEHAVIOURS, n, &mut members);
     hand_over(&members, count, list);
-    CYCLE + event_number(e, ev) * EVENT + count as u64 * COUNT
+    answers::CYCLE + event_number(e, ev) * EVENT + count as u64 * COUNT
 }

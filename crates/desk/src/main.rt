@@ -7,6 +7,7 @@ use libc::STDOUT_FILENO;
 use sheet_field::Field;
 use sheet_field::places;
 use sheet_field::sizes;
+use spec_language::answers;
 ghost use Prim.Native.Nat.{_≤_, _<_};
 ghost use lib.ListN.{length};
 ghost use Rattle.io.specs.Counts.{Counts};
@@ -22,8 +23,6 @@ const BEHAVIOURS: u32 = spec_language::limits::BEHAVIOURS as u32;
 
 // A value of the board is answered with 2^32 more.
 const ACCEPTED: u64 = spec_language::answers::VALUE;
-
-const SETTLING: u64 = spec_language::refusals::SETTLING as u64;
 
 fn refuse(n: u64) {
     let mut line = [0u8; LINE_BYTES];
@@ -47,7 +46,7 @@ fn steps(table: &[u8], round: &mut [u8], count: u32) {
 }
 
 // "the desk program's arrivals and readings are the host's": player 0
-fn arrive(table: &[u8], round: &mut [u8], event: u32) {
+fn offer(table: &[u8], round: &mut [u8], event: u32) {
     let r = engine::arrive(table, round, event, 0);
     if r != 0 {
         refuse(r as u64);
@@ -73,9 +72,9 @@ fn collect(table: &[u8], round: &[u8], values: &mut [u32]) -> usize
 }
 
 // "During copy-back a show prints the one line R 19, with or without behaviours."
-fn show(table: &[u8], round: &[u8]) {
+fn print_board(table: &[u8], round: &[u8]) {
     if run_board::copy_back_at(table, round) {
-        refuse(SETTLING);
+        refuse(answers::SETTLING);
         return;
     }
     let mut values = [0u32; spec_language::limits::BEHAVIOURS];
@@ -103,19 +102,19 @@ fn act(tag: u8, value: &[u8], table: &mut [u8], round: &mut [u8]) -> u8 {
         return load(value, table, round);
     }
     if tag == tags::ARRIVAL {
-        arrive(table, round, desk_format::number(value));
+        offer(table, round, desk_format::number_in(value));
         return 1;
     }
     if tag == tags::STEPS {
-        steps(table, round, desk_format::number(value));
+        steps(table, round, desk_format::number_in(value));
         return 1;
     }
-    show(table, round);
+    print_board(table, round);
     1
 }
 
 // A field refused: 0 where the program ends, 1 where it goes on.
-fn pass_over(verdict: u8) -> u8 {
+fn goes_on(verdict: u8) -> u8 {
     refuse(verdict as u64);
     if desk_format::ends(verdict) { 0 } else { 1 }
 }
@@ -128,7 +127,7 @@ fn field(tag: u8, size: usize, table: &mut [u8], round: &mut [u8], ready: bool) 
     let got = io::read_full(STDIN_FILENO, &mut space[..size]);
     let verdict = desk_format::judge_value(tag, size, got, ready);
     if verdict != 0 {
-        return pass_over(verdict);
+        return goes_on(verdict);
     }
     act(tag, &space[..size], table, round)
 }
@@ -142,7 +141,7 @@ fn turn(table: &mut [u8], round: &mut [u8], ready: bool) -> u8 {
     }
     let a = desk_format::header(&head[..got]);
     let Field::Value(tag, _) = a else {
-        return pass_over(sheet_field::number(a));
+        return goes_on(sheet_field::refusal_in(a));
     };
     let size = lib_word::get_half(&head, places::LENGTH) as usize;
     field(tag, size, table, round, ready)

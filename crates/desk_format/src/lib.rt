@@ -22,8 +22,6 @@ const WRONG_LENGTH: u8 = refusals::WRONG_LENGTH as u8;
 
 const FOREIGN: u8 = refusals::FOREIGN as u8;
 
-const FOREIGN_STEP: u64 = refusals::FOREIGN as u64;
-
 // A step's answer: its kind, then from these factors on the event and the arrival's number, with so many of each.
 const KINDS: u64 = answers::PLAYER;
 
@@ -100,7 +98,7 @@ pub fn ends(verdict: u8) -> bool
 }
 
 // The event byte of an arrival, or the two-byte count of steps.
-pub fn number(value: &[u8]) -> u32
+pub fn number_in(value: &[u8]) -> u32
     ensures { λ r. ⌜ r ≡ argumentNumber (now (value .entry)) ⌝ }
 {
     if value.len() == 1 {
@@ -113,7 +111,7 @@ pub fn number(value: &[u8]) -> u32
 }
 
 // Puts text after the first `at` bytes of out; where it ends.
-fn put(out: &mut [u8], at: usize, text: &[u8]) -> usize
+fn print_text(out: &mut [u8], at: usize, text: &[u8]) -> usize
     requires { ⌜ at + length (now text) ≤ length (now out) ⌝ }
     ensures { λ r. ⌜ Counts r (now (out .exit)) ⌝ }
     ensures { λ r. ⌜ r ≡ at + length (now (text .entry)) ⌝ }
@@ -131,7 +129,7 @@ fn put_decimal(out: &mut [u8], at: usize, n: u64) -> usize
 {
     let mut digits = [0u8; DIGITS];
     let k = io::decimal(n, &mut digits);
-    put(out, at, &digits[..k])
+    print_text(out, at, &digits[..k])
 }
 
 // Puts the signed number that a 32-bit word stands for.
@@ -143,17 +141,17 @@ fn put_signed(out: &mut [u8], at: usize, w: u32) -> usize
     if w < lib_arith::NEGATIVE {
         return put_decimal(out, at, w as u64);
     }
-    let n = put(out, at, b"-");
+    let n = print_text(out, at, b"-");
     put_decimal(out, n, lib_arith::WORDS - (w as u64))
 }
 
 // Puts a space and a value.
-fn put_value(out: &mut [u8], at: usize, w: u32) -> usize
+fn print_cell(out: &mut [u8], at: usize, w: u32) -> usize
     requires { ⌜ at + cellBytes ≤ length (now out) ⌝ }
     ensures { λ r. ⌜ r ≤ at + cellBytes ⌝ }
     ensures { λ r. ⌜ take r (now (out .exit)) ≡ take at (now (out .entry)) ++ (space ∷ signedText w) ⌝ }
 {
-    let n = put(out, at, b" ");
+    let n = print_text(out, at, b" ");
     put_signed(out, n, w)
 }
 
@@ -163,9 +161,9 @@ pub fn refusal(n: u64, out: &mut [u8]) -> usize
     ensures { λ r. ⌜ Counts r (now (out .exit)) ⌝ }
     ensures { λ r. ⌜ take r (now (out .exit)) ≡ refusalLine n ⌝ }
 {
-    let a = put(out, 0, b"R ");
+    let a = print_text(out, 0, b"R ");
     let b = put_decimal(out, a, n);
-    put(out, b, b"\n")
+    print_text(out, b, b"\n")
 }
 
 // The line of a commit: C, the arrival's number and the event's.
@@ -174,11 +172,11 @@ fn commit(n: u64, e: u64, out: &mut [u8]) -> usize
     ensures { λ r. ⌜ Counts r (now (out .exit)) ⌝ }
     ensures { λ r. ⌜ take r (now (out .exit)) ≡ commitLine n e ⌝ }
 {
-    let a = put(out, 0, b"C ");
+    let a = print_text(out, 0, b"C ");
     let b = put_decimal(out, a, n);
-    let c = put(out, b, b" ");
+    let c = print_text(out, b, b" ");
     let d = put_decimal(out, c, e);
-    put(out, d, b"\n")
+    print_text(out, d, b"\n")
 }
 
 // What a step's answer prints; nothing where it is neither a refusal nor a commit.
@@ -187,8 +185,8 @@ pub fn step_line(answer: u64, out: &mut [u8]) -> usize
     ensures { λ r. ⌜ Counts r (now (out .exit)) ⌝ }
     ensures { λ r. ⌜ take r (now (out .exit)) ≡ stepLine answer ⌝ }
 {
-    if answer == FOREIGN_STEP {
-        return refusal(FOREIGN_STEP, out);
+    if answer == answers::FOREIGN {
+        return refusal(answers::FOREIGN, out);
     }
     if answer % KINDS == spec_language::answers::COMMITTED {
         return commit(answer / NUMBER % NUMBERS, answer / EVENT % EVENTS, out);
@@ -202,11 +200,11 @@ pub fn board_line(values: &[u32], out: &mut [u8]) -> usize
     ensures { λ r. ⌜ Counts r (now (out .exit)) ⌝ }
     ensures { λ r. ⌜ take r (now (out .exit)) ≡ boardLine (now (values .entry)) ⌝ }
 {
-    let mut at = put(out, 0, b"B");
+    let mut at = print_text(out, 0, b"B");
     let mut i = 0;
     while i < values.len() {
-        at = put_value(out, at, values[i]);
+        at = print_cell(out, at, values[i]);
         i += 1;
     }
-    put(out, at, b"\n")
+    print_text(out, at, b"\n")
 }

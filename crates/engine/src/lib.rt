@@ -149,7 +149,7 @@ pub extern "C" fn formula(text: &[u8], buffer: &mut [u8]) -> u64
     ensures { λ r. ⌜ answered r (now (buffer .exit)) ≡ formulaOn (now (text .entry)) (now (buffer .entry)) ⌝ }
     ensures { λ _. ⌜ now (text .exit) ≡ now (text .entry) ⌝ }
 {
-    text_translate::formula_at(text, buffer)
+    text_translate::translate_at(text, buffer)
 }
 
 // One sheet from two accepted ones, at the start of the buffer: 2 ^ 32 and its length; or compile's number of the

@@ -102,7 +102,7 @@ fn read_handler(s: &[u8], events: usize, i: usize, draft: &mut [u64], n: usize) 
 {
     let a = sheet_field::field_answer(s, tags::HANDLER, tags::HANDLER);
     let Field::Value(_, _) = a else {
-        return Read::Fault(sheet_field::number(a));
+        return Read::Fault(sheet_field::refusal_in(a));
     };
     read_handler_value(
         sheet_field::field_value(s, tags::HANDLER, tags::HANDLER),
@@ -164,7 +164,7 @@ fn read_active(v: &[u8], events: usize, i: usize, draft: &mut [u64], n: usize) -
 {
     let a = sheet_field::field_answer(v, tags::START, tags::START);
     let Field::Value(_, size) = a else {
-        return Read::Fault(sheet_field::number(a));
+        return Read::Fault(sheet_field::refusal_in(a));
     };
     if size != sizes::WORD {
         return Read::Fault(faults::WRONG_LENGTH);
@@ -265,7 +265,7 @@ pub fn read_behaviour(s: &[u8], events: usize, i: usize, draft: &mut [u64], n: u
     let hi = front_rows::most_tag(s);
     let a = sheet_field::field_answer(s, lo, hi);
     let Field::Value(t, _) = a else {
-        return Read::Fault(sheet_field::number(a));
+        return Read::Fault(sheet_field::refusal_in(a));
     };
     read_value(t, sheet_field::field_value(s, lo, hi), events, i, draft, n)
 }

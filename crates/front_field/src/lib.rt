@@ -88,7 +88,7 @@ fn read_head(left: usize, s: &[u8]) -> Head
 {
     let a = sheet_field::field_answer(s, tags::CONSTANT, tags::PARAMETER);
     let Field::Value(t, _) = a else {
-        return Head::NoHead(sheet_field::number(a));
+        return Head::NoHead(sheet_field::refusal_in(a));
     };
     head_of(
         left,

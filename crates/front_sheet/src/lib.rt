@@ -81,7 +81,7 @@ fn read_event(s: &[u8], e: usize, draft: &mut [u64]) -> Event
     let hi = front_rows::most_tag(s);
     let a = sheet_field::field_answer(s, lo, hi);
     let Field::Value(t, _) = a else {
-        return Event::NoEvent(sheet_field::number(a));
+        return Event::NoEvent(sheet_field::refusal_in(a));
     };
     read_priority(t, sheet_field::field_value(s, lo, hi), e, draft)
 }

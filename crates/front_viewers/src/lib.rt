@@ -41,7 +41,7 @@ fn read_viewer(s: &[u8], i: usize, draft: &mut [u64], all: usize, n: usize) -> R
 {
     let a = sheet_field::field_answer(s, tags::VIEWERS, tags::VIEWERS);
     let Field::Value(_, _) = a else {
-        return Read::Fault(sheet_field::number(a));
+        return Read::Fault(sheet_field::refusal_in(a));
     };
     take_viewer(
         sheet_field::field_value(s, tags::VIEWERS, tags::VIEWERS),

@@ -16,7 +16,7 @@ pub const WORDS: u64 = 4294967296;
 
 // The whole number that a word stands for, in 64 bits: the words from that of the least number on are counted from 0,
 // and the count brought down by 2^31. The compiler takes this for what it is, one instruction.
-pub fn number(a: u32) -> i64
+pub fn whole(a: u32) -> i64
     ensures { λ r. ⌜ r ≡ signed a ⌝ }
 {
     (std::num::wrapping_add_u32(a, NEGATIVE) as i64) - (NEGATIVE as i64)
@@ -65,5 +65,5 @@ pub fn divide(a: u32, b: u32) -> u32
 pub fn below(a: u32, b: u32) -> bool
     ensures { λ r. ⌜ r ≡ ltZ (signed a) (signed b) ⌝ }
 {
-    number(a) < number(b)
+    whole(a) < whole(b)
 }

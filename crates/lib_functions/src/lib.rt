@@ -14,7 +14,7 @@ ghost use Rattle.lib_arith.specs.Marked.{markedResult};
 pub const OVER: u64 = 4294967296;
 
 // What a test gives: 1 or 0.
-fn bit(t: bool) -> u64
+fn truth(t: bool) -> u64
     ensures { λ r. ⌜ r ≡ reported (truth t) ⌝ }
 {
     if t { 1 } else { 0 }
@@ -24,35 +24,35 @@ fn bit(t: bool) -> u64
 fn either(a: u32, b: u32) -> u64
     ensures { λ r. ⌜ r ≡ reported (truth (isTrue (signed a) || isTrue (signed b))) ⌝ }
 {
-    if a == 0 { bit(b != 0) } else { 1 }
+    if a == 0 { truth(b != 0) } else { 1 }
 }
 
 // `&&`
 fn both(a: u32, b: u32) -> u64
     ensures { λ r. ⌜ r ≡ reported (truth (isTrue (signed a) && isTrue (signed b))) ⌝ }
 {
-    if a == 0 { 0 } else { bit(b != 0) }
+    if a == 0 { 0 } else { truth(b != 0) }
 }
 
 // `!`
 fn opposite(a: u32) -> u64
     ensures { λ r. ⌜ r ≡ reported (truth (not (isTrue (signed a)))) ⌝ }
 {
-    bit(a == 0)
+    truth(a == 0)
 }
 
 // `==`: neither is below the other.
 fn same(a: u32, b: u32) -> u64
     ensures { λ r. ⌜ r ≡ reported (truth (not (ltZ (signed a) (signed b)) && not (ltZ (signed b) (signed a)))) ⌝ }
 {
-    bit(a == b)
+    truth(a == b)
 }
 
 // `!=`: one is below the other.
 fn differ(a: u32, b: u32) -> u64
     ensures { λ r. ⌜ r ≡ reported (truth (ltZ (signed a) (signed b) || ltZ (signed b) (signed a))) ⌝ }
 {
-    bit(a != b)
+    truth(a != b)
 }
 
 // `if`
@@ -75,10 +75,10 @@ pub fn apply(f: u8, a: u32, b: u32, c: u32) -> u64
         functions::SUBTRACT => lib_overflow::difference(a, b),
         functions::MULTIPLY => lib_overflow::product(a, b),
         functions::DIVIDE => lib_overflow::quotient(a, b),
-        functions::ABOVE => bit(lib_arith::below(b, a)),
-        functions::AT_LEAST => bit(!lib_arith::below(a, b)),
-        functions::BELOW => bit(lib_arith::below(a, b)),
-        functions::AT_MOST => bit(!lib_arith::below(b, a)),
+        functions::ABOVE => truth(lib_arith::below(b, a)),
+        functions::AT_LEAST => truth(!lib_arith::below(a, b)),
+        functions::BELOW => truth(lib_arith::below(a, b)),
+        functions::AT_MOST => truth(!lib_arith::below(b, a)),
         functions::EQUAL => same(a, b),
         functions::UNEQUAL => differ(a, b),
         functions::IF => choose(a, b, c),

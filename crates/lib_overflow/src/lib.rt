@@ -10,7 +10,7 @@ ghost use Rattle.lib_arith.specs.Functions.{floorZ};
 use lib_arith::MINUS_ONE;
 use lib_arith::NEGATIVE;
 use lib_arith::WORDS;
-use lib_arith::number;
+use lib_arith::whole;
 
 // The largest and the least number that a word stands for.
 const LARGEST: i64 = 2147483647;
@@ -46,19 +46,19 @@ fn quotient_differs(a: u32, b: u32) -> bool
 pub fn sum(a: u32, b: u32) -> u64
     ensures { λ r. ⌜ r ≡ reported (signed a +ℤ signed b) ⌝ }
 {
-    mark(lib_arith::add(a, b), is_beyond(number(a) + number(b)))
+    mark(lib_arith::add(a, b), is_beyond(whole(a) + whole(b)))
 }
 
 pub fn difference(a: u32, b: u32) -> u64
     ensures { λ r. ⌜ r ≡ reported (signed a -ℤ signed b) ⌝ }
 {
-    mark(lib_arith::subtract(a, b), is_beyond(number(a) - number(b)))
+    mark(lib_arith::subtract(a, b), is_beyond(whole(a) - whole(b)))
 }
 
 pub fn product(a: u32, b: u32) -> u64
     ensures { λ r. ⌜ r ≡ reported (signed a *ℤ signed b) ⌝ }
 {
-    mark(lib_arith::multiply(a, b), is_beyond(number(a) * number(b)))
+    mark(lib_arith::multiply(a, b), is_beyond(whole(a) * whole(b)))
 }
 
 pub fn quotient(a: u32, b: u32) -> u64

@@ -1,7 +1,7 @@
 // One sheet from two accepted ones (02, M-111): compile's number for each, 26, compile's number for the joined one, 27,
 // or 2 ^ 32 and its length. Time: that of compile for each of the three, and one pass over the bytes of both.
+use spec_language::answers;
 use spec_language::limits;
-use spec_language::refusals;
 ghost use mathlib.Core.Path.{_≡_};
 ghost use Prim.Native.Nat.{_≤_};
 ghost use lib.ListN.{length};
@@ -16,22 +16,16 @@ const JOINED_BYTES: usize = limits::SHEET_BYTES * 2
     + limits::EVENTS * sheet_field::sizes::PAIR_FIELD;
 
 // What is added to its length, so that it is told from a refusal.
-const ACCEPTED: u64 = spec_language::answers::VALUE;
-
-const UNLIKE_RANKS: u64 = refusals::UNLIKE_RANKS as u64;
-
-const SHORT_JOIN: u64 = refusals::SHORT_JOIN as u64;
-
 // The bytes at the start of the buffer, where it has room for them.
 fn put_result(v: &[u8], buffer: &mut [u8]) -> u64
     requires { ⌜ length (now v) ≤ joinRoom ⌝ }
     ensures { λ r. ⌜ joined r (now (buffer .exit)) ≡ deliveredIn (now (v .entry)) (now (buffer .entry)) ⌝ }
 {
     if buffer.len() < v.len() {
-        return SHORT_JOIN;
+        return answers::SHORT_JOIN;
     }
     bytes::copy(v, buffer);
-    ACCEPTED + (v.len() as u64)
+    answers::VALUE + (v.len() as u64)
 }
 
 // The joined sheet, where compile takes it.
@@ -39,7 +33,7 @@ fn result_at(v: &[u8], params: &[u8], buffer: &mut [u8]) -> u64
     requires { ⌜ length (now v) ≤ joinRoom ⌝ }
     ensures { λ r. ⌜ joined r (now (buffer .exit)) ≡ resultOn (now (v .entry)) (now (params .entry)) (now (buffer .entry)) ⌝ }
 {
-    let n = back_compile::number_at(v, params);
+    let n = back_compile::compile_number(v, params);
     if n != 0 {
         return n as u64;
     }
@@ -53,7 +47,7 @@ fn pool_at(first: &[u8], second: &[u8], params: &[u8], buffer: &mut [u8]) -> u64
         ≡ poolRead (readSheet (now (first .entry))) (readSheet (now (second .entry))) (now (params .entry)) (now (buffer .entry)) ⌝ }
 {
     if !link_events::ranks_agree(first, second) {
-        return UNLIKE_RANKS;
+        return answers::UNLIKE_RANKS;
     }
     let mut out = [0u8; JOINED_BYTES];
     let n = link_bytes::splice(first, second, &mut out);
@@ -64,11 +58,11 @@ fn pool_at(first: &[u8], second: &[u8], params: &[u8], buffer: &mut [u8]) -> u64
 pub fn join_at(first: &[u8], second: &[u8], params: &[u8], buffer: &mut [u8]) -> u64
     ensures { λ r. ⌜ joined r (now (buffer .exit)) ≡ joinOn (now (first .entry)) (now (second .entry)) (now (params .entry)) (now (buffer .entry)) ⌝ }
 {
-    let x = back_compile::number_at(first, params);
+    let x = back_compile::compile_number(first, params);
     if x != 0 {
         return x as u64;
     }
-    let y = back_compile::number_at(second, params);
+    let y = back_compile::compile_number(second, params);
     if y != 0 {
         return y as u64;
     }

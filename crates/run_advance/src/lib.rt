@@ -2,7 +2,6 @@
 use format_layout::round;
 use format_layout::table;
 use spec_language::answers;
-use spec_language::refusals;
 ghost use mathlib.Core.Path.{_≡_};
 ghost use Prim.Native.Nat.{_≤_, _<_};
 ghost use lib.ListN.{length};
@@ -11,8 +10,6 @@ ghost use Rattle.format_layout.specs.Bounds.{TableBounds};
 ghost use Rattle.format_layout.specs.Round.{callResult};
 ghost use Rattle.run_advance.specs.Advance.{commitSaid, advanceLeft};
 ghost use Rattle.format_layout.specs.Sizes.{queueLimit, roundBytes};
-
-const FOREIGN: u64 = refusals::FOREIGN as u64;
 
 // The answer of a commit, more where the mark's word is not 0 (02, M-104).
 fn commit_of(number: u32, word: u32, mark: u32) -> u64
@@ -40,10 +37,10 @@ pub fn advance_on(table: &[u8], round: &mut [u8]) -> u64
     let start = format_layout::event_word(table, event, table::CODE_START);
     let length = format_layout::event_word(table, event, table::CODE_LENGTH);
     if length <= done {
-        return FOREIGN;
+        return answers::FOREIGN;
     }
     if run_stretch::execute_from(&*table, round, (start + done) as usize, 1) != 0 {
-        return FOREIGN;
+        return answers::FOREIGN;
     }
     if done + 1 < length {
         lib_word::put_word(round, round::POSITION, done + 1);

@@ -12,7 +12,7 @@ ghost use Rattle.format_layout.specs.Sizes.{queueLimit};
 ghost use Rattle.spec_language.specs.Limits.{playerLimit};
 
 // Whether the queue (01: hand) is full, so many waiting, and one running where the flag is not 0.
-fn is_full(waiting: u32, running: u32) -> bool
+pub fn is_full(waiting: u32, running: u32) -> bool
     ensures { λ r. ⌜ r ≡ queueFull waiting running ⌝ }
     ensures { λ r. ⌜ (r ≡ false → waiting < queueLimit) ⌝ }
 {

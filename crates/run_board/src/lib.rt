@@ -4,21 +4,10 @@ use format_layout::round::Round;
 use format_layout::table;
 use spec_language::answers;
 use spec_language::limits;
-use spec_language::refusals;
 ghost use mathlib.Core.Path.{_≡_};
 ghost use Rattle.format_layout.specs.Bounds.{Bounds};
 ghost use Rattle.run_board.specs.Board.{boardOn, copyBackOn};
 ghost use Rattle.run_board.specs.Masking.{isCopyingBack, isMasked, copyBackUnderWay};
-
-const FOREIGN: u64 = refusals::FOREIGN as u64;
-
-const NO_PLAYER: u64 = refusals::NO_PLAYER as u64;
-
-const NO_BEHAVIOUR: u64 = refusals::NO_BEHAVIOUR as u64;
-
-const NO_RIGHT: u64 = refusals::NO_RIGHT as u64;
-
-const SETTLING: u64 = refusals::SETTLING as u64;
 
 // ---- masking: of an event with so many instructions, and members of C, so many are done
 
@@ -67,19 +56,19 @@ pub fn board_at(table: &[u8], round: &[u8], behaviour: u32, player: u32) -> u64
     ensures { λ r. ⌜ r ≡ boardOn (now (table .entry)) (now (round .entry)) behaviour player ⌝ }
 {
     if !run_validate::is_ours(&*table, &*round) {
-        return FOREIGN;
+        return answers::FOREIGN;
     }
     if player >= limits::PLAYERS {
-        return NO_PLAYER;
+        return answers::NO_PLAYER;
     }
     if lib_word::get_word(table, table::BEHAVIOUR_COUNT) <= behaviour {
-        return NO_BEHAVIOUR;
+        return answers::NO_BEHAVIOUR;
     }
     if !run_rights::may_see(table, behaviour, player) {
-        return NO_RIGHT;
+        return answers::NO_RIGHT;
     }
     if copy_back_under_way(&*table, &*round) {
-        return SETTLING;
+        return answers::SETTLING;
     }
     answers::VALUE + (lib_word::get_word(round, Round::STORE + (behaviour as usize)) as u64)
 }

@@ -5,11 +5,10 @@ ghost use Prim.Native.Nat.{_≤_, _<_};
 ghost use Rattle.run_step.specs.Sound.{RoundSound, isOutranked};
 ghost use Rattle.run_burst.specs.Burst.{unmade, stops, burst, burstOn};
 ghost use Rattle.run_burst.specs.Progress.{InstructionsRun, Advanced};
+use spec_language::answers;
 
 // The kinds of a step's answer.
 const KINDS: u64 = spec_language::answers::PLAYER;
-
-const FOREIGN: u64 = spec_language::refusals::FOREIGN as u64;
 
 // Where a burst ended: the last answer, and the steps left.
 pub struct Stop {
@@ -24,7 +23,7 @@ fn is_unmade(a: u64) -> bool
     if a == spec_language::answers::IDLE {
         return true;
     }
-    a == FOREIGN
+    a == answers::FOREIGN
 }
 
 // Whether a burst ends where a step answers a.
@@ -39,7 +38,7 @@ fn is_stop(a: u64) -> bool
 
 // Up to `most` instructions of the running event, none of them its last, where something runs and is not outranked: how
 // many were made, fewer where one may not run. Depth and position are written once.
-fn run_on(table: &[u8], round: &mut [u8], most: u32, outranked: bool) -> u32
+fn run_most(table: &[u8], round: &mut [u8], most: u32, outranked: bool) -> u32
     requires { ⌜ RoundSound (now table) (now round) × (isOutranked (now table) (now round) ≡ outranked) ⌝ }
     ensures { λ r. ⌜ InstructionsRun (now (table .entry)) (now (round .entry)) r (now (round .exit)) ⌝ }
     ensures { λ r. ⌜ r ≤ most ⌝ }
@@ -71,7 +70,7 @@ fn run_then_step(table: &[u8], round: &mut [u8], left: u32, outranked: bool) -> 
     requires { ⌜ RoundSound (now table) (now round) × (isOutranked (now table) (now round) ≡ outranked) × (0 < left) ⌝ }
     ensures { λ r. ⌜ Advanced (now (table .entry)) outranked left (now (round .entry)) (r .answer) (r .left) (now (round .exit)) ⌝ }
 {
-    let done = run_on(&*table, round, left, outranked);
+    let done = run_most(&*table, round, left, outranked);
     if done == left {
         return Stop {
             answer: spec_language::answers::RAN,

@@ -3,6 +3,7 @@
 use format_layout::round;
 use format_layout::round::Round;
 use format_layout::table;
+use spec_language::answers;
 use spec_language::limits;
 use spec_language::refusals;
 ghost use mathlib.Core.Path.{_≡_};
@@ -27,15 +28,9 @@ const DELIVERED: u64 = 1;
 const NO_COMMIT_ROOM: u64 = 2;
 
 const BROKEN_OFF: u64 = 3;
-// What stands above the steps made, and above the commits written.
-const STEPS: u64 = 4294967296;
-
-const COMMITS: u64 = 72057594037927936;
 // The steps made at most: twice the instructions that a table has room for.
 const MOST_STEPS: u32 = 8192;
 // What stands above the number taken in, so that it is no refusal's number; and what each in hand counts.
-const TAKEN: u64 = spec_language::answers::VALUE;
-
 const IN_HAND: u64 = 1099511627776;
 // The kinds of a step's answer.
 const KINDS: u64 = spec_language::answers::PLAYER;
@@ -43,22 +38,11 @@ const KINDS: u64 = spec_language::answers::PLAYER;
 const COMMIT_BYTES: usize = run_answers::ANSWER_BYTES;
 
 // The answer of a delivery that is not refused.
-fn said_of(outcome: u64, made: u32, written: u32) -> u64
+fn delivery_answer(outcome: u64, made: u32, written: u32) -> u64
     requires { ⌜ (outcome < endKinds) × (written < 2) ⌝ }
     ensures { λ r. ⌜ r ≡ frameSaid outcome made written ⌝ }
 {
-    outcome * COMMITS + (written as u64) * STEPS + (made as u64)
-}
-
-// Whether the hand is full, so many waiting, and one running where the flag is not 0.
-fn is_full(waiting: u32, running: u32) -> bool
-    ensures { λ r. ⌜ r ≡ queueFull waiting running ⌝ }
-    ensures { λ r. ⌜ (r ≡ false → waiting < queueLimit) ⌝ }
-{
-    if running == 0 {
-        return waiting >= Round::QUEUE;
-    }
-    waiting >= Round::QUEUE - 1
+    outcome * run_frame::COMMITS + (written as u64) * run_frame::STEPS + (made as u64)
 }
 
 // Why a delivery is refused whose table and round are judged: the first of 43, 44, 24, 15, 25 and 17 that fits, or 0.
@@ -121,7 +105,7 @@ fn deliver_full(
         ≡ deliverFull (now (table .entry)) (now (round .entry)) number event player (now (commits .entry)) ⌝ }
 {
     if commits.len() < COMMIT_BYTES {
-        return said_of(NO_COMMIT_ROOM, 0, 0);
+        return delivery_answer(NO_COMMIT_ROOM, 0, 0);
     }
     let stop = run_burst::burst_on(&*table, round, MOST_STEPS);
     let answer = stop.answer;
@@ -129,9 +113,9 @@ fn deliver_full(
     if answer % KINDS == spec_language::answers::COMMITTED {
         admit_at(round, number, event, player);
         run_answers::put_answer(commits, 0, answer);
-        return said_of(DELIVERED, made, 1);
+        return delivery_answer(DELIVERED, made, 1);
     }
-    said_of(BROKEN_OFF, made, 0)
+    delivery_answer(BROKEN_OFF, made, 0)
 }
 
 // None of the refusals fits.
@@ -148,11 +132,11 @@ fn deliver_known(
         ≡ deliverKnown (now (table .entry)) (now (round .entry)) number event player (now (commits .entry)) ⌝ }
 {
     let waiting = lib_word::get_word(round, round::WAITING);
-    if is_full(waiting, lib_word::get_word(round, round::RUNNING)) {
+    if run_arrive::is_full(waiting, lib_word::get_word(round, round::RUNNING)) {
         return deliver_full(&*table, round, number, event, player, commits);
     }
     admit_at(round, number, event, player);
-    said_of(DELIVERED, 0, 0)
+    delivery_answer(DELIVERED, 0, 0)
 }
 
 // Entry `number` of an order: refused by the first of 14, 43, 44, 24, 15, 25 and 17 that fits, and then nothing is
@@ -180,18 +164,6 @@ pub fn deliver_at(
 
 // ---- what is taken in
 
-// n wait, and one runs where f is not 0.
-fn in_hand(n: u32, f: u32) -> u32
-    requires { ⌜ n ≤ queueLimit ⌝ }
-    ensures { λ r. ⌜ r ≡ inHand n f ⌝ }
-    ensures { λ r. ⌜ r ≤ queueLimit + 1 ⌝ }
-{
-    if f == 0 {
-        return n;
-    }
-    n + 1
-}
-
 // 2 ^ 32, the number taken in, and 2 ^ 40 for each in hand; or 14.
 pub fn taken_at(table: &[u8], round: &[u8]) -> u64
     ensures { λ r. ⌜ r ≡ takenOn (now (table .entry)) (now (round .entry)) ⌝ }
@@ -199,9 +171,9 @@ pub fn taken_at(table: &[u8], round: &[u8]) -> u64
     if !run_validate::is_ours(&*table, round) {
         return refusals::FOREIGN as u64;
     }
-    let hand = in_hand(
+    let hand = run_preview::in_hand(
         lib_word::get_word(round, round::WAITING),
         lib_word::get_word(round, round::RUNNING),
     );
-    TAKEN + (lib_word::get_word(round, round::TAKEN) as u64) + (hand as u64) * IN_HAND
+    answers::VALUE + (lib_word::get_word(round, round::TAKEN) as u64) + (hand as u64) * IN_HAND
 }

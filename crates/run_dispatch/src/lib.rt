@@ -20,7 +20,7 @@ pub fn said_of(kind: u64, number: u32, word: u32) -> u64
 }
 
 // An arrival runs: none of its instructions done, the evaluation stack empty, no mark.
-fn run_on(round: &mut [u8], number: u32, word: u32)
+fn set_running(round: &mut [u8], number: u32, word: u32)
     requires { ⌜ roundBytes ≤ length (now round) ⌝ }
     ensures { λ _. ⌜ now (round .exit) ≡ runArrival (now (round .entry)) number word ⌝ }
 {
@@ -43,7 +43,7 @@ pub fn start_at(round: &mut [u8], slot: usize, last: usize) -> u64
     let last_word = lib_word::get_word(round, round::WORDS + last * 2);
     run_queue::put_slot(round, slot, last_number, last_word);
     lib_word::put_word(round, round::WAITING, last as u32);
-    run_on(round, number, word);
+    set_running(round, number, word);
     said_of(answers::STARTED, number, word)
 }
 
@@ -57,6 +57,6 @@ pub fn preempt_at(round: &mut [u8], slot: usize) -> u64
     let old_number = lib_word::get_word(round, round::RUNNING_NUMBER);
     let old_word = lib_word::get_word(round, round::RUNNING_WORD);
     run_queue::put_slot(round, slot, old_number, old_word);
-    run_on(round, number, word);
+    set_running(round, number, word);
     said_of(answers::PREEMPTED, number, word)
 }

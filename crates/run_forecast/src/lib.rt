@@ -3,7 +3,6 @@
 use format_layout::round;
 use format_layout::table;
 use spec_language::answers;
-use spec_language::refusals;
 ghost use mathlib.Core.Path.{_≡_};
 ghost use Prim.Native.Nat.{_≤_};
 ghost use Rattle.format_layout.specs.Layout.{eventCount, waitingCount};
@@ -12,8 +11,6 @@ ghost use Rattle.run_forecast.specs.Forecast.{bound, forecastOn};
 ghost use Rattle.run_forecast.specs.Steps.{stepsIn, longestIn};
 ghost use Rattle.format_layout.specs.Sizes.{queueLimit};
 ghost use Rattle.spec_language.specs.Limits.{instructionLimit};
-
-const FOREIGN: u64 = refusals::FOREIGN as u64;
 
 // A start and the instructions of each of the first n waiting.
 fn steps_in(table: &[u8], round: &[u8], n: usize) -> u32
@@ -63,7 +60,7 @@ pub fn forecast_at(table: &[u8], round: &[u8]) -> u64
     ensures { λ r. ⌜ r ≡ forecastOn (now (table .entry)) (now (round .entry)) ⌝ }
 {
     if !run_validate::is_ours(&*table, &*round) {
-        return FOREIGN;
+        return answers::FOREIGN;
     }
     let waiting = lib_word::get_word(round, round::WAITING);
     // Nothing runs: the sum, over the hand, of each event's instructions plus one.

@@ -8,6 +8,7 @@ ghost use Rattle.run_frame.specs.Framed.{roomFor, framed};
 ghost use Rattle.run_step.specs.Sound.{RoundSound};
 ghost use Rattle.run_answers.specs.Sizes.{answerBytes};
 ghost use Rattle.run_frame.specs.Ends.{commitLimit, endKinds, mostCommits};
+use spec_language::answers;
 
 // Why a frame ended: all steps made, nothing in hand, a step refused, no room for a further commit.
 pub const ALL_MADE: u64 = 0;
@@ -18,9 +19,9 @@ pub const REFUSED: u64 = 2;
 
 pub const NO_ROOM: u64 = 3;
 // What stands above the steps made, and above the commits written.
-const STEPS: u64 = 4294967296;
+pub const STEPS: u64 = 4294967296;
 
-const COMMITS: u64 = 72057594037927936;
+pub const COMMITS: u64 = 72057594037927936;
 // The commits that an answer has room to count, and the bytes of each.
 const MOST_COMMITS: usize = 16777215;
 
@@ -28,10 +29,8 @@ const COMMIT_BYTES: usize = run_answers::ANSWER_BYTES;
 // The kinds of a step's answer.
 const KINDS: u64 = spec_language::answers::PLAYER;
 
-const FOREIGN: u64 = spec_language::refusals::FOREIGN as u64;
-
 // The answer of a frame.
-fn said_of(why: u64, made: u32, written: u32) -> u64
+fn frame_answer(why: u64, made: u32, written: u32) -> u64
     requires { ⌜ (why < endKinds) × (written < commitLimit) ⌝ }
     ensures { λ r. ⌜ r ≡ frameSaid why made written ⌝ }
 {
@@ -67,9 +66,9 @@ fn refused_of(room: u32) -> u64
     ensures { λ r. ⌜ r ≡ refusedFrame room ⌝ }
 {
     if room == 0 {
-        return said_of(NO_ROOM, 0, 0);
+        return frame_answer(NO_ROOM, 0, 0);
     }
-    said_of(REFUSED, 0, 0)
+    frame_answer(REFUSED, 0, 0)
 }
 
 // Why a frame ends that would end for `why`: idle where nothing runs and nothing waits.
@@ -97,20 +96,20 @@ fn frame_in(table: &[u8], round: &mut [u8], steps: u32, room: u32, commits: &mut
     let mut written = 0;
     while left > 0 {
         if room <= written {
-            return said_of(idle_or(&*table, round, NO_ROOM), steps - left, written);
+            return frame_answer(idle_or(&*table, round, NO_ROOM), steps - left, written);
         }
         let stop = run_burst::burst_on(&*table, round, left);
         let answer = stop.answer;
         left = stop.left;
         if answer == spec_language::answers::IDLE {
-            return said_of(IDLE, steps - left, written);
+            return frame_answer(IDLE, steps - left, written);
         }
-        if answer == FOREIGN {
-            return said_of(REFUSED, steps - left, written);
+        if answer == answers::FOREIGN {
+            return frame_answer(REFUSED, steps - left, written);
         }
         written = note(commits, written, answer);
     }
-    said_of(idle_or(&*table, round, ALL_MADE), steps, written)
+    frame_answer(idle_or(&*table, round, ALL_MADE), steps, written)
 }
 
 // Up to so many steps, until one is idle or refused or there is no room for a further commit: how many were made, the
@@ -119,7 +118,7 @@ pub fn frame_at(table: &[u8], round: &mut [u8], steps: u32, commits: &mut [u8]) 
     ensures { λ r. ⌜ framed r (now (round .exit)) (now (commits .exit)) ≡ frameOn (now (table .entry)) (now (round .entry)) steps (now (commits .entry)) ⌝ }
 {
     if steps == 0 {
-        return said_of(ALL_MADE, 0, 0);
+        return frame_answer(ALL_MADE, 0, 0);
     }
     let room = room_of(commits.len());
     if run_validate::is_ours(&*table, round) {

@@ -8,15 +8,10 @@ ghost use Rattle.format_layout.specs.Round.{callResult};
 ghost use Rattle.run_step.specs.Sound.{RoundSound};
 ghost use Rattle.run_preview.specs.Preview.{lastStep, toIdle, inHand, previewSteps, previewAnswer, shownIn, previewCopy, previewOn};
 ghost use Rattle.format_layout.specs.Sizes.{arrivalLimit, queueLimit, roundBytes};
+use spec_language::answers;
 
 // What stands above a value, so that it is no refusal's number.
 const SHOWN: u64 = spec_language::answers::VALUE;
-
-const FOREIGN: u64 = spec_language::refusals::FOREIGN as u64;
-
-const NO_BEHAVIOUR: u64 = spec_language::refusals::NO_BEHAVIOUR as u64;
-
-const NO_RIGHT: u64 = spec_language::refusals::NO_RIGHT as u64;
 
 // ---- to idle
 
@@ -27,7 +22,7 @@ fn is_last(a: u64) -> bool
     if a == spec_language::answers::IDLE {
         return true;
     }
-    a == FOREIGN
+    a == answers::FOREIGN
 }
 
 // At most so many steps, until one is the last; 14 where none of them was.
@@ -44,11 +39,11 @@ fn run_to_idle(table: &[u8], round: &mut [u8], most: u32) -> u64
             return answer;
         }
     }
-    FOREIGN
+    answers::FOREIGN
 }
 
 // n wait, and one runs where f is not 0.
-fn in_hand(n: u32, f: u32) -> u32
+pub fn in_hand(n: u32, f: u32) -> u32
     requires { ⌜ n ≤ queueLimit ⌝ }
     ensures { λ r. ⌜ r ≡ inHand n f ⌝ }
     ensures { λ r. ⌜ r ≤ queueLimit + 1 ⌝ }
@@ -83,7 +78,7 @@ fn shown_by(a: u64, v: u32) -> u64
     if a == spec_language::answers::IDLE {
         return SHOWN + (v as u64);
     }
-    FOREIGN
+    answers::FOREIGN
 }
 
 // The copy is run to idle: 01's count of steps, and one more that finds it idle.
@@ -110,10 +105,10 @@ fn preview_copy(table: &[u8], round: &mut [u8], event: u32, behaviour: u32, play
         return a as u64;
     }
     if lib_word::get_word(table, format_layout::table::BEHAVIOUR_COUNT) <= behaviour {
-        return NO_BEHAVIOUR;
+        return answers::NO_BEHAVIOUR;
     }
     if !run_rights::may_see(&*table, behaviour, player) {
-        return NO_RIGHT;
+        return answers::NO_RIGHT;
     }
     shown_in(&*table, round, behaviour)
 }
@@ -124,7 +119,7 @@ pub fn preview_at(table: &[u8], round: &[u8], event: u32, behaviour: u32, player
     ensures { λ r. ⌜ r ≡ previewOn (now (table .entry)) (now (round .entry)) event behaviour player ⌝ }
 {
     if round.len() < format_layout::round::BYTES {
-        return FOREIGN;
+        return answers::FOREIGN;
     }
     let mut copy = [0u8; format_layout::round::BYTES];
     bytes::copy(&round[0..format_layout::round::BYTES], &mut copy);

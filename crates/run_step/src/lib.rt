@@ -3,13 +3,10 @@
 use format_layout::round;
 use format_layout::table;
 use spec_language::answers;
-use spec_language::refusals;
 ghost use mathlib.Core.Path.{_≡_};
 ghost use Rattle.format_layout.specs.Round.{callResult};
 ghost use Rattle.run_step.specs.Machine.{stepOn};
 ghost use Rattle.run_step.specs.Sound.{RoundSound, isOutranked, isPreempted, outrankedAfter};
-
-const FOREIGN: u64 = refusals::FOREIGN as u64;
 
 // Whether something in the hand outranks the running event.
 pub fn is_outranked(table: &[u8], round: &[u8]) -> bool
@@ -33,7 +30,7 @@ pub fn is_outranked_after(outranked: bool, answer: u64) -> bool
     if answer == answers::RAN {
         return outranked;
     }
-    if answer == FOREIGN {
+    if answer == answers::FOREIGN {
         return outranked;
     }
     false
@@ -87,7 +84,7 @@ pub fn step_at(table: &[u8], round: &mut [u8]) -> u64
     ensures { λ r. ⌜ callResult r (now (round .exit)) ≡ stepOn (now (table .entry)) (now (round .entry)) ⌝ }
 {
     if !run_validate::is_ours(&*table, round) {
-        return FOREIGN;
+        return answers::FOREIGN;
     }
     let outranked = is_outranked(&*table, round);
     step_on(&*table, round, outranked)

@@ -70,7 +70,7 @@ pub fn field_value(s: &[u8], lo: u8, hi: u8) -> &[u8]
 }
 
 // The number of a refusal; 0 of a value.
-pub fn number(f: Field) -> u8
+pub fn refusal_in(f: Field) -> u8
     ensures { λ r. ⌜ r ≡ fieldRefusal f ⌝ }
 {
     match f {

@@ -42,7 +42,7 @@ fn put_header(out: &mut [u8], n: usize, tag: u8, bytes: usize)
 }
 
 // A word, the high byte first.
-fn put_word(out: &mut [u8], n: usize, w: u32)
+fn put_high_first(out: &mut [u8], n: usize, w: u32)
     requires { ⌜ n + wordBytes ≤ length (now out) ⌝ }
     ensures { λ _. ⌜ now (out .exit) ≡ sets (now (out .entry)) n (word w) ⌝ }
 {
@@ -73,7 +73,7 @@ pub fn put_word_field(out: &mut [u8], n: usize, tag: u8, w: u32)
         return;
     }
     put_header(out, n, tag, sizes::WORD);
-    put_word(out, n + sizes::HEADER, w);
+    put_high_first(out, n + sizes::HEADER, w);
 }
 
 // A field of two bytes: an event's, where it says who may send it.

@@ -5,7 +5,7 @@ use source_coding::faults;
 use source_coding::limits as texts;
 use source_coding::signs;
 use source_declarations::Declared;
-use source_declarations::fault_of;
+use source_declarations::fault_in;
 use source_due::Due;
 use source_due::fault_word;
 use source_due::sign_due;
@@ -74,7 +74,7 @@ fn name_at(text: &[u8], at: usize, names: &[usize], count: usize) -> Due
         return d;
     };
     if source_names::is_among(text, p, names, count) {
-        return Due::Fault(fault_word(faults::DECLARED_TWICE, p));
+        return Due::Fault(fault_in(faults::DECLARED_TWICE, p));
     }
     Due::Found(p, 0, next)
 }
@@ -92,13 +92,13 @@ fn count_at(text: &[u8], at: usize, i: usize) -> Due
         return d;
     };
     if v < LEAST_CELLS {
-        return Due::Fault(fault_word(faults::OFF_SCALE, p));
+        return Due::Fault(fault_in(faults::OFF_SCALE, p));
     }
     if MOST_CELLS < v {
-        return Due::Fault(fault_word(faults::OFF_SCALE, p));
+        return Due::Fault(fault_in(faults::OFF_SCALE, p));
     }
     if limits::BEHAVIOURS < i + (v as usize) {
-        return Due::Fault(fault_word(faults::TOO_MANY, p));
+        return Due::Fault(fault_in(faults::TOO_MANY, p));
     }
     closed_at(text, next, p, v)
 }
@@ -118,7 +118,7 @@ fn closed_at(text: &[u8], at: usize, p: usize, v: u64) -> Due
 }
 
 // A row's count behind i cells; 0 for another behaviour.
-fn cells_at(text: &[u8], at: usize, word: u64, i: usize) -> Due
+fn cells_due(text: &[u8], at: usize, word: u64, i: usize) -> Due
     requires { ⌜ length (now text) ≤ textBytes ⌝ }
     requires { ⌜ at ≤ length (now text) ⌝ }
     requires { ⌜ i ≤ behaviourLimit ⌝ }
@@ -185,15 +185,15 @@ fn behaviour_at(
     ensures { λ _. ⌜ length (now (out .exit)) ≡ length (now (out .entry)) ⌝ }
 {
     if limits::BEHAVIOURS <= i {
-        return Behaviour::Fault(fault_word(faults::TOO_MANY, q));
+        return Behaviour::Fault(fault_in(faults::TOO_MANY, q));
     }
     let name = name_at(text, at, names, count);
     let Due::Found(p, _, next) = name else {
-        return Behaviour::Fault(fault_of(name));
+        return Behaviour::Fault(fault_in(name));
     };
-    let counted = cells_at(text, next, word, i);
+    let counted = cells_due(text, next, word, i);
     let Due::Found(_, cells, after) = counted else {
-        return Behaviour::Fault(fault_of(counted));
+        return Behaviour::Fault(fault_in(counted));
     };
     let many = cells as usize;
     let cursor = Cursor {
@@ -211,7 +211,7 @@ fn behaviour_at(
 }
 
 // A word that begins a behaviour: its place, its sign's number, and the place behind it; else no more than a fault.
-fn word_at(text: &[u8], at: usize) -> Due
+fn heading_at(text: &[u8], at: usize) -> Due
     requires { ⌜ length (now text) ≤ textBytes ⌝ }
     requires { ⌜ at ≤ length (now text) ⌝ }
     ensures { λ r. ⌜ WordRead (now (text .entry)) at r ⌝ }
@@ -278,7 +278,7 @@ fn behaviours_at(
     let mut end = n;
     let mut w = 0u64;
     loop {
-        let first = word_at(text, f);
+        let first = heading_at(text, f);
         let Due::Found(q, word, next) = first else {
             return Behaviours::Done(f, count, end, w);
         };
@@ -318,10 +318,10 @@ fn end_fault(text: &[u8], at: usize) -> u64
 {
     let t = source_tokens::token_at(text, at);
     let Token::Sign(p, c, _) = t else {
-        return fault_word(faults::OUTSIDE, source_tokens::place_of(t));
+        return fault_in(faults::OUTSIDE, source_tokens::place_of(t));
     };
     if c != signs::END {
-        return fault_word(faults::OUTSIDE, p);
+        return fault_in(faults::OUTSIDE, p);
     }
     0
 }

@@ -4,7 +4,7 @@ use sheet_field::sizes;
 use sheet_field::tags;
 use source_coding::signs;
 use source_declarations::Rights;
-use source_declarations::fault_of;
+use source_declarations::fault_in;
 use source_due::Due;
 use source_due::sign_due;
 use source_field::Cursor;
@@ -72,7 +72,7 @@ fn passive_at(
     let n = cursor.end;
     let d = sign_due(text, cursor.at, signs::EQUALS);
     let Due::Found(_, _, next) = d else {
-        return Part::Fault(fault_of(d));
+        return Part::Fault(fault_in(d));
     };
     let mut formula = cursor;
     formula.at = next;
@@ -158,7 +158,7 @@ fn state_at(
 {
     let d = start_due(text, cursor.at);
     let Due::Found(_, start, next) = d else {
-        return Part::Fault(fault_of(d));
+        return Part::Fault(fault_in(d));
     };
     let s = source_declarations::seen_at(text, next);
     let Rights::Given(to, bits) = s else {

@@ -47,7 +47,7 @@ pub enum Declared {
 }
 
 // The word of a fault; 0 for none.
-pub fn fault_of(due: Due) -> u64
+pub fn fault_in(due: Due) -> u64
     ensures { λ r. ⌜ r ≡ dueFault due ⌝ }
 {
     let Due::Fault(w) = due else {
@@ -84,10 +84,10 @@ fn more_players(text: &[u8], at: usize) -> Rights
             }
             Token::Number(p, v, next) => {
                 if limits::LARGEST < v {
-                    return Rights::Fault(fault_word(faults::LARGE_NUMBER, p));
+                    return Rights::Fault(fault_in(faults::LARGE_NUMBER, p));
                 }
                 if limits::HIGHEST_PLAYER < v {
-                    return Rights::Fault(fault_word(faults::OFF_SCALE, p));
+                    return Rights::Fault(fault_in(faults::OFF_SCALE, p));
                 }
                 bits = with_player(bits, v);
                 here = next;
@@ -106,10 +106,10 @@ fn players_at(text: &[u8], at: usize) -> Rights
     let t = source_tokens::token_at(text, at);
     match t {
         Token::Number(_, _, _) => more_players(text, at),
-        Token::Name(p, _) => Rights::Fault(fault_word(faults::OUTSIDE, p)),
+        Token::Name(p, _) => Rights::Fault(fault_in(faults::OUTSIDE, p)),
         Token::Sign(p, c, next) => {
             if c != signs::NOBODY {
-                return Rights::Fault(fault_word(faults::OUTSIDE, p));
+                return Rights::Fault(fault_in(faults::OUTSIDE, p));
             }
             Rights::Given(next, 0)
         }
@@ -143,7 +143,7 @@ pub fn seen_at(text: &[u8], at: usize) -> Rights
     };
     let by = source_due::sign_due(text, after, signs::BY);
     let Due::Found(_, _, next) = by else {
-        return Rights::Fault(fault_of(by));
+        return Rights::Fault(fault_in(by));
     };
     players_at(text, next)
 }
@@ -178,14 +178,14 @@ fn parameter_at(text: &[u8], p: usize, at: usize, names: &[usize], count: usize)
     ensures { λ r. ⌜ ParameterWithin (length (now (text .entry))) at r ⌝ }
 {
     if sheet::PARAMETERS <= count {
-        return Due::Fault(fault_word(faults::TOO_MANY, p));
+        return Due::Fault(fault_in(faults::TOO_MANY, p));
     }
     let name = source_due::name_due(text, at);
     let Due::Found(q, _, next) = name else {
         return name;
     };
     if source_names::is_among(text, q, names, count) {
-        return Due::Fault(fault_word(faults::DECLARED_TWICE, q));
+        return Due::Fault(fault_in(faults::DECLARED_TWICE, q));
     }
     default_at(text, q, next)
 }
@@ -208,7 +208,7 @@ pub fn parameters_at(text: &[u8], at: usize, names: &mut [usize]) -> Declared
         };
         let one = parameter_at(text, p, after, names, count);
         let Due::Found(q, _, next) = one else {
-            return Declared::Fault(fault_of(one));
+            return Declared::Fault(fault_in(one));
         };
         names[count] = q;
         count = count + 1;
@@ -225,14 +225,14 @@ fn ranked_at(text: &[u8], q: usize, at: usize) -> Event
 {
     let word = source_due::sign_due(text, at, signs::RANK);
     let Due::Found(_, _, after) = word else {
-        return Event::Fault(fault_of(word));
+        return Event::Fault(fault_in(word));
     };
     let rank = source_due::number_due(text, after, limits::LARGEST);
     let Due::Found(p, n, next) = rank else {
-        return Event::Fault(fault_of(rank));
+        return Event::Fault(fault_in(rank));
     };
     if (sheet::HIGHEST_PRIORITY as u64) < n {
-        return Event::Fault(fault_word(faults::OFF_SCALE, p));
+        return Event::Fault(fault_in(faults::OFF_SCALE, p));
     }
     let rights = from_at(text, next);
     match rights {
@@ -242,7 +242,7 @@ fn ranked_at(text: &[u8], q: usize, at: usize) -> Event
 }
 
 // An event, from the place behind its word on, which stands at p.
-fn event_at(text: &[u8], p: usize, at: usize, events: &[usize], count: usize) -> Event
+fn event_from(text: &[u8], p: usize, at: usize, events: &[usize], count: usize) -> Event
     requires { ⌜ length (now text) ≤ textBytes ⌝ }
     requires { ⌜ at ≤ length (now text) ⌝ }
     requires { ⌜ p ≤ at ⌝ }
@@ -253,14 +253,14 @@ fn event_at(text: &[u8], p: usize, at: usize, events: &[usize], count: usize) ->
     ensures { λ r. ⌜ EventWithin (length (now (text .entry))) at r ⌝ }
 {
     if sheet::EVENTS <= count {
-        return Event::Fault(fault_word(faults::TOO_MANY, p));
+        return Event::Fault(fault_in(faults::TOO_MANY, p));
     }
     let name = source_due::name_due(text, at);
     let Due::Found(q, _, next) = name else {
-        return Event::Fault(fault_of(name));
+        return Event::Fault(fault_in(name));
     };
     if source_names::is_among(text, q, events, count) {
-        return Event::Fault(fault_word(faults::DECLARED_TWICE, q));
+        return Event::Fault(fault_in(faults::DECLARED_TWICE, q));
     }
     ranked_at(text, q, next)
 }
@@ -282,7 +282,7 @@ pub fn events_at(text: &[u8], at: usize, events: &mut [usize], out: &mut [u8], n
         let Due::Found(p, _, after) = word else {
             return Declared::Done(here, count, end);
         };
-        let one = event_at(text, p, after, events, count);
+        let one = event_from(text, p, after, events, count);
         match one {
             Event::Fault(w) => {
                 return Declared::Fault(w);

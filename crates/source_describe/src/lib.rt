@@ -19,14 +19,15 @@ use source_pen::Pen;
 use source_terms::BEHAVIOUR;
 use source_terms::LOOSEST;
 use source_terms::PARAMETER;
-use source_terms::put_name;
-use source_terms::put_number;
-use source_terms::put_sign;
 use source_terms::put_term;
-use source_terms::put_value;
+use source_terms::write_name;
+use source_terms::write_number;
+use source_terms::write_sign;
+use source_terms::write_value;
 use source_walk::BYTE;
 use source_walk::heads_from;
 use source_walk::needed_from;
+use spec_language::answers;
 use spec_language::limits;
 ghost use mathlib.Core.Path.{_≡_};
 ghost use mathlib.Core.List.{[], _∷_};
@@ -56,10 +57,10 @@ fn put_phase(out: &mut [u8], pen: Pen, b: u8) -> Pen
     ensures { λ r. ⌜ TokensPut (now (out .entry)) (now (out .exit)) pen r (phaseTokens (phaseOf b) []) ⌝ }
 {
     if b == 0 {
-        return put_sign(out, pen, signs::COLON);
+        return write_sign(out, pen, signs::COLON);
     }
-    let after = put_sign(out, pen, signs::LATER);
-    put_sign(out, after, signs::COLON)
+    let after = write_sign(out, pen, signs::LATER);
+    write_sign(out, after, signs::COLON)
 }
 
 // The first letter of events' names.
@@ -69,7 +70,7 @@ const EVENT: u8 = b'e';
 const PHASE: usize = sizes::HEADER + places::PHASE;
 
 // The handler at a place.
-fn put_handler(
+fn write_handler(
     s: &[u8],
     first: usize,
     heads: &[u8; BYTE],
@@ -85,8 +86,8 @@ fn put_handler(
     let event = byte_from(s, at, sizes::HEADER) as usize;
     let phase = byte_from(s, at, PHASE);
     let body = onward(s, at, sizes::HANDLER_HEAD);
-    let on = put_sign(out, pen, signs::ON);
-    let named = put_name(out, on, EVENT, event);
+    let on = write_sign(out, pen, signs::ON);
+    let named = write_name(out, on, EVENT, event);
     let phased = put_phase(out, named, phase);
     put_term(s, first, heads, body, limits::NESTING, LOOSEST, out, phased)
 }
@@ -113,7 +114,7 @@ fn put_handlers(
         if byte_from(s, at, 0) != tags::HANDLER {
             return after;
         }
-        after = put_handler(s, first, heads, at, out, after);
+        after = write_handler(s, first, heads, at, out, after);
         at = after_field(s, at);
         left -= 1;
     }
@@ -127,7 +128,7 @@ fn put_bit(out: &mut [u8], pen: Pen, i: usize, m: usize) -> Pen
     ensures { λ r. ⌜ TokensPut (now (out .entry)) (now (out .exit)) pen r (pick (eqb (m % 2) 1) (number 0 i ∷ []) []) ⌝ }
 {
     if m % 2 == 1 {
-        return put_number(out, pen, i as u64);
+        return write_number(out, pen, i as u64);
     }
     pen
 }
@@ -154,13 +155,13 @@ fn put_rights(out: &mut [u8], pen: Pen, m: u8) -> Pen
     ensures { λ r. ⌜ TokensPut (now (out .entry)) (now (out .exit)) pen r (rightTokens m) ⌝ }
 {
     if m == 0 {
-        return put_sign(out, pen, signs::NOBODY);
+        return write_sign(out, pen, signs::NOBODY);
     }
     put_bits(out, pen, m)
 }
 
 // Who may see, where that field stands at the place.
-fn put_viewers(s: &[u8], at: usize, out: &mut [u8], pen: Pen) -> Pen
+fn write_viewers(s: &[u8], at: usize, out: &mut [u8], pen: Pen) -> Pen
     requires { ⌜ at ≤ length (now s) ⌝ }
     requires { ⌜ pen .at ≤ penLimit ⌝ }
     ensures { λ r. ⌜ TokensPut (now (out .entry)) (now (out .exit)) pen r (viewerTokens (drop at (now (s .entry)))) ⌝ }
@@ -169,8 +170,8 @@ fn put_viewers(s: &[u8], at: usize, out: &mut [u8], pen: Pen) -> Pen
         return pen;
     }
     let m = byte_from(s, at, sizes::HEADER);
-    let seen = put_sign(out, pen, signs::SEEN);
-    let by = put_sign(out, seen, signs::BY);
+    let seen = write_sign(out, pen, signs::SEEN);
+    let by = write_sign(out, seen, signs::BY);
     put_rights(out, by, m)
 }
 
@@ -191,8 +192,8 @@ fn put_active(
     let start = word_from(s, onward(s, at, sizes::HEADER));
     let handlers = onward(s, at, sizes::WORD_FIELD);
     let viewers = past_fields(s, handlers, tags::HANDLER);
-    let started = put_value(out, pen, start);
-    let seen = put_viewers(s, viewers, out, started);
+    let started = write_value(out, pen, start);
+    let seen = write_viewers(s, viewers, out, started);
     put_handlers(s, first, heads, handlers, out, seen)
 }
 
@@ -212,11 +213,11 @@ fn put_passive(
         (passiveTokens (length (now (s .entry))) (drop first (now (s .entry))) j (drop at (now (s .entry)))) ⌝ }
 {
     let viewers = after_field(s, at);
-    let word = put_sign(out, pen, signs::PASSIVE);
-    let named = put_name(out, word, BEHAVIOUR, j);
-    let equals = put_sign(out, named, signs::EQUALS);
+    let word = write_sign(out, pen, signs::PASSIVE);
+    let named = write_name(out, word, BEHAVIOUR, j);
+    let equals = write_sign(out, named, signs::EQUALS);
     let defined = put_term(s, first, heads, at, limits::NESTING, LOOSEST, out, equals);
-    put_viewers(s, viewers, out, defined)
+    write_viewers(s, viewers, out, defined)
 }
 
 // Active j.
@@ -234,9 +235,9 @@ fn put_state(
     ensures { λ r. ⌜ TokensPut (now (out .entry)) (now (out .exit)) pen r
         (stateTokens (length (now (s .entry))) (drop first (now (s .entry))) j (drop at (now (s .entry)))) ⌝ }
 {
-    let word = put_sign(out, pen, signs::ACTIVE);
-    let named = put_name(out, word, BEHAVIOUR, j);
-    let equals = put_sign(out, named, signs::EQUALS);
+    let word = write_sign(out, pen, signs::ACTIVE);
+    let named = write_name(out, word, BEHAVIOUR, j);
+    let equals = write_sign(out, named, signs::EQUALS);
     put_active(s, first, heads, at, out, equals)
 }
 
@@ -257,12 +258,12 @@ fn put_row(
 {
     let cells = byte_from(s, at, places::CELLS) as u64;
     let rest = onward(s, at, places::START);
-    let word = put_sign(out, pen, signs::ROW);
-    let named = put_name(out, word, BEHAVIOUR, j);
-    let opened = put_sign(out, named, signs::BRACKET);
-    let counted = put_number(out, opened, cells);
-    let closed = put_sign(out, counted, signs::UNBRACKET);
-    let equals = put_sign(out, closed, signs::EQUALS);
+    let word = write_sign(out, pen, signs::ROW);
+    let named = write_name(out, word, BEHAVIOUR, j);
+    let opened = write_sign(out, named, signs::BRACKET);
+    let counted = write_number(out, opened, cells);
+    let closed = write_sign(out, counted, signs::UNBRACKET);
+    let equals = write_sign(out, closed, signs::EQUALS);
     put_active(s, first, heads, rest, out, equals)
 }
 
@@ -337,7 +338,7 @@ fn put_senders(s: &[u8], at: usize, out: &mut [u8], pen: Pen) -> Pen
         return pen;
     }
     let m = byte_from(s, at, SENDERS);
-    let from = put_sign(out, pen, signs::FROM);
+    let from = write_sign(out, pen, signs::FROM);
     put_rights(out, from, m)
 }
 
@@ -348,10 +349,10 @@ fn put_signal(s: &[u8], at: usize, i: usize, out: &mut [u8], pen: Pen) -> Pen
     ensures { λ r. ⌜ TokensPut (now (out .entry)) (now (out .exit)) pen r (signalTokens i (drop at (now (s .entry)))) ⌝ }
 {
     let rank = byte_from(s, at, sizes::HEADER) as u64;
-    let word = put_sign(out, pen, signs::EVENT);
-    let named = put_name(out, word, EVENT, i);
-    let ranked = put_sign(out, named, signs::RANK);
-    let counted = put_number(out, ranked, rank);
+    let word = write_sign(out, pen, signs::EVENT);
+    let named = write_name(out, word, EVENT, i);
+    let ranked = write_sign(out, named, signs::RANK);
+    let counted = write_number(out, ranked, rank);
     put_senders(s, at, out, counted)
 }
 
@@ -383,8 +384,8 @@ fn put_parameters(out: &mut [u8], pen: Pen, n: usize) -> Pen
     let mut i = 0usize;
     let mut after = pen;
     while i < n {
-        after = put_sign(out, after, signs::PARAM);
-        after = put_name(out, after, PARAMETER, i);
+        after = write_sign(out, after, signs::PARAM);
+        after = write_name(out, after, PARAMETER, i);
         i += 1;
     }
     after
@@ -399,12 +400,10 @@ fn put_text(s: &[u8], first: usize, n: usize, heads: &[u8; BYTE], out: &mut [u8]
     let parameters = put_parameters(out, Pen { at: 0, last: 0 }, n);
     let events = put_signals(s, out, parameters);
     let behaviours = put_entries(s, first, heads, out, events);
-    put_sign(out, behaviours, signs::END)
+    write_sign(out, behaviours, signs::END)
 }
 
 // What is added to a text's length, so that it is told from a refusal.
-const ACCEPTED: u64 = 4294967296;
-
 // The text of an accepted sheet at the buffer's start, if there is room for it. It is counted first where the buffer
 // has not room for every text.
 fn put_result(sheet: &[u8], buffer: &mut [u8]) -> u64
@@ -417,7 +416,7 @@ fn put_result(sheet: &[u8], buffer: &mut [u8]) -> u64
     if texts::TEXT_BYTES <= buffer.len() {
         let written = put_text(sheet, first, n, &heads, buffer);
         let end = written.at;
-        return ACCEPTED + (end as u64);
+        return answers::VALUE + (end as u64);
     }
     let mut none = [0u8; 0];
     let counted = put_text(sheet, first, n, &heads, &mut none);
@@ -426,7 +425,7 @@ fn put_result(sheet: &[u8], buffer: &mut [u8]) -> u64
         return faults::SHORT_BUFFER;
     }
     put_text(sheet, first, n, &heads, buffer);
-    ACCEPTED + (size as u64)
+    answers::VALUE + (size as u64)
 }
 
 // The text that describes the sheet at the buffer's start: 2 ^ 32 and its length; or compile's number for the sheet,
@@ -435,7 +434,7 @@ pub fn describe_at(sheet: &[u8], buffer: &mut [u8]) -> u64
     ensures { λ r. ⌜ answered r (now (buffer .exit)) ≡ describeOn (now (sheet .entry)) (now (buffer .entry)) ⌝ }
 {
     let lent = [0u8; limits::PARAMETER_BYTES];
-    let number = back_compile::number_at(sheet, &lent);
+    let number = back_compile::compile_number(sheet, &lent);
     if number != 0 {
         return number as u64;
     }

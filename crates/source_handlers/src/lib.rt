@@ -4,7 +4,7 @@ use sheet_field::sizes;
 use sheet_field::tags;
 use source_coding::faults;
 use source_coding::signs;
-use source_declarations::fault_of;
+use source_declarations::fault_in;
 use source_due::Due;
 use source_due::fault_word;
 use source_due::name_due;
@@ -65,10 +65,10 @@ fn event_due(text: &[u8], at: usize, events: &[usize], handled: &[u8]) -> Due
     };
     let e = source_names::index_of(text, p, events);
     if handled[e] == 1 {
-        return Due::Fault(fault_word(faults::SECOND_HANDLER, p));
+        return Due::Fault(fault_in(faults::SECOND_HANDLER, p));
     }
     if e == events.len() {
-        return Due::Fault(fault_word(faults::UNKNOWN_NAME, p));
+        return Due::Fault(fault_in(faults::UNKNOWN_NAME, p));
     }
     Due::Found(p, e as u64, next)
 }
@@ -122,7 +122,7 @@ fn body_at(
     let n = cursor.end;
     let d = phase_due(text, cursor.at);
     let Due::Found(_, phase, next) = d else {
-        return Part::Fault(fault_of(d));
+        return Part::Fault(fault_in(d));
     };
     sheet_write::put_handler(out, n, e as u8, phase as u8);
     let mut formula = cursor;
@@ -164,7 +164,7 @@ pub fn handlers_at(
         };
         let event = event_due(text, next, events, &handled);
         let Due::Found(_, e, after) = event else {
-            return Part::Fault(fault_of(event));
+            return Part::Fault(fault_in(event));
         };
         let mut body = cursor;
         body.at = after;

@@ -123,7 +123,7 @@ fn is_declaring(text: &[u8], at: usize) -> bool
 }
 
 // The next place to look at: a comment is passed over.
-fn onward(text: &[u8], at: usize) -> usize
+fn next_place(text: &[u8], at: usize) -> usize
     requires { ⌜ length (now text) ≤ textBytes ⌝ }
     requires { ⌜ at < length (now text) ⌝ }
     ensures { λ r. ⌜ (at < r) × (r ≤ length (now (text .entry))) ⌝ }
@@ -146,13 +146,13 @@ fn next_declaring(text: &[u8], at: usize) -> usize
         if is_declaring(text, k) {
             return k;
         }
-        i = onward(text, k);
+        i = next_place(text, k);
     }
     i
 }
 
 // The cells of a row from `[` on; 1 for another behaviour, none for a parameter or where no count stands.
-fn cells_at(text: &[u8], at: usize, word: u8) -> usize
+fn hinted_cells(text: &[u8], at: usize, word: u8) -> usize
     requires { ⌜ length (now text) ≤ textBytes ⌝ }
     requires { ⌜ at ≤ length (now text) ⌝ }
     ensures { λ r. ⌜ r ≤ mostCells ⌝ }
@@ -188,7 +188,7 @@ fn declared_at(text: &[u8], at: usize) -> Declaration
     let Due::Found(p, _, after) = name else {
         return Declaration::Nothing;
     };
-    Declaration::Seen(p, cells_at(text, after, c), after)
+    Declaration::Seen(p, hinted_cells(text, after, c), after)
 }
 
 // 1 for a parameter, which has no cells.

@@ -44,7 +44,7 @@ fn cells_number(first: usize, next: usize) -> usize
 }
 
 // The number that tells what the j-th name means.
-fn number_of(j: usize, params: usize, firsts: &[usize]) -> usize
+fn meaning_number(j: usize, params: usize, firsts: &[usize]) -> usize
     requires { ⌜ j ≤ nameLimit ⌝ }
     requires { ⌜ All (λ k. k ≤ behaviourLimit) (now firsts) ⌝ }
     ensures { λ r. ⌜ r ≡ meaningNumber params (now (firsts .entry)) j ⌝ }
@@ -76,7 +76,7 @@ pub fn put_meanings(
     let mut k = 0;
     while k < places.len() {
         let j = index_of(text, places[k], names);
-        meanings[k] = number_of(j, params, firsts);
+        meanings[k] = meaning_number(j, params, firsts);
         k = k + 1;
     }
 }
@@ -115,7 +115,7 @@ fn belongs_before(text: &[u8], p: usize, n: usize, q: usize) -> bool
 }
 
 // A name's place goes among the first k, which are in order.
-fn insert(text: &[u8], p: usize, places: &mut [usize], k: usize)
+fn insert_name(text: &[u8], p: usize, places: &mut [usize], k: usize)
     requires { ⌜ k < length (now places) ⌝ }
     ensures { λ _. ⌜ length (now (places .exit)) ≡ length (now (places .entry)) ⌝ }
 {
@@ -140,7 +140,7 @@ pub fn put_in_order(text: &[u8], names: &[usize], places: &mut [usize])
 {
     let mut k = 0;
     while k < names.len() {
-        insert(text, names[k], places, k);
+        insert_name(text, names[k], places, k);
         k = k + 1;
     }
 }

@@ -12,6 +12,7 @@ ghost use Rattle.source_language.specs.Limits.{among};
 ghost use Rattle.source_coding.specs.Places.{nameAt, namesHeld, indexIn};
 ghost use Rattle.source_names.specs.Bytes.{sameBytes};
 ghost use Rattle.source_names.specs.Search.{orderOfBytes, orderAt, seek, foundIn};
+ghost use Rattle.source_names.specs.Units.{halvings};
 
 // The bytes of a block: the most that a name has, else one.
 const LARGE: usize = 16;
@@ -148,7 +149,7 @@ pub enum Order {
 }
 
 // A byte of a name and another one at the same place, where the other name may have ended.
-fn order_of(b: u8, c: u8) -> Order
+fn byte_order(b: u8, c: u8) -> Order
     ensures { λ r. ⌜ r ≡ orderOfBytes b c ⌝ }
 {
     if in_word(c) {
@@ -170,7 +171,7 @@ pub fn order_at(text: &[u8], p: usize, n: usize, q: usize) -> Order
         let b = text[p + k];
         let c = byte_at(text, q + k);
         if b != c {
-            return order_of(b, c);
+            return byte_order(b, c);
         }
         k = k + 1;
     }
@@ -184,7 +185,7 @@ pub fn order_at(text: &[u8], p: usize, n: usize, q: usize) -> Order
 fn sought(text: &[u8], p: usize, n: usize, places: &[usize], top: usize) -> usize
     requires { ⌜ n ≡ length (nameAt (now text) p) ⌝ }
     requires { ⌜ top ≤ length (now places) ⌝ }
-    ensures { λ r. ⌜ r ≡ seek (now (text .entry)) (now (places .entry)) (nameAt (now (text .entry)) p) top 7 0 top ⌝ }
+    ensures { λ r. ⌜ r ≡ seek (now (text .entry)) (now (places .entry)) (nameAt (now (text .entry)) p) top halvings 0 top ⌝ }
 {
     let mut lo = 0;
     let mut hi = top;

@@ -52,7 +52,7 @@ pub enum Leaf {
 }
 
 // The meaning at a place of the list; 0 past its end.
-fn number_at(meanings: &[usize], i: usize) -> usize
+fn number_in_list(meanings: &[usize], i: usize) -> usize
     requires { ⌜ All (λ m. m < meaningLimit) (now meanings) ⌝ }
     ensures { λ r. ⌜ r ≡ getD (now (meanings .entry)) i 0 ⌝ }
     ensures { λ r. ⌜ r < meaningLimit ⌝ }
@@ -99,7 +99,7 @@ fn meaning_of(text: &[u8], p: usize, places: &[usize], sorted: usize, meanings: 
     if places.len() <= j {
         return Meaning::Nothing;
     }
-    meaning_at(number_at(meanings, j))
+    meaning_at(number_in_list(meanings, j))
 }
 
 // The field of a name at p.

@@ -27,7 +27,7 @@ ghost use Rattle.lib_base.specs.Words.{byteValues, wordValues};
 ghost use Rattle.source_pen.specs.Lengths.{penLimit};
 
 // A function's sign; nothing where the text is over its length, as no accepted sheet's is.
-fn put_function(out: &mut [u8], pen: Pen, f: u8) -> Pen
+fn write_function(out: &mut [u8], pen: Pen, f: u8) -> Pen
     requires { ⌜ pen .at ≤ penLimit ⌝ }
     requires { ⌜ (0 < f) × (f ≤ last) ⌝ }
     ensures { λ r. ⌜ TokensPut (now (out .entry)) (now (out .exit)) pen r (sign 0 f ∷ []) ⌝ }
@@ -40,7 +40,7 @@ fn put_function(out: &mut [u8], pen: Pen, f: u8) -> Pen
 }
 
 // A sign of the text's own, likewise.
-pub fn put_sign(out: &mut [u8], pen: Pen, c: u8) -> Pen
+pub fn write_sign(out: &mut [u8], pen: Pen, c: u8) -> Pen
     requires { ⌜ pen .at ≤ penLimit ⌝ }
     requires { ⌜ (opening ≤ c) × (c ≤ endSign) ⌝ }
     ensures { λ r. ⌜ TokensPut (now (out .entry)) (now (out .exit)) pen r (sign 0 c ∷ []) ⌝ }
@@ -53,7 +53,7 @@ pub fn put_sign(out: &mut [u8], pen: Pen, c: u8) -> Pen
 }
 
 // A number, likewise.
-pub fn put_number(out: &mut [u8], pen: Pen, n: u64) -> Pen
+pub fn write_number(out: &mut [u8], pen: Pen, n: u64) -> Pen
     requires { ⌜ pen .at ≤ penLimit ⌝ }
     requires { ⌜ n < wordValues ⌝ }
     ensures { λ r. ⌜ TokensPut (now (out .entry)) (now (out .exit)) pen r (number 0 n ∷ []) ⌝ }
@@ -66,7 +66,7 @@ pub fn put_number(out: &mut [u8], pen: Pen, n: u64) -> Pen
 }
 
 // A name, likewise: a letter and a number.
-pub fn put_name(out: &mut [u8], pen: Pen, letter: u8, i: usize) -> Pen
+pub fn write_name(out: &mut [u8], pen: Pen, letter: u8, i: usize) -> Pen
     requires { ⌜ pen .at ≤ penLimit ⌝ }
     requires { ⌜ i < byteValues ⌝ }
     ensures { λ r. ⌜ TokensPut (now (out .entry)) (now (out .exit)) pen r (name 0 (letter ∷ digits i) ∷ []) ⌝ }
@@ -84,16 +84,16 @@ const NEGATIVE: u64 = 2147483648;
 const WORDS: u64 = 4294967296;
 
 // A constant.
-pub fn put_value(out: &mut [u8], pen: Pen, w: u64) -> Pen
+pub fn write_value(out: &mut [u8], pen: Pen, w: u64) -> Pen
     requires { ⌜ pen .at ≤ penLimit ⌝ }
     requires { ⌜ w < wordValues ⌝ }
     ensures { λ r. ⌜ TokensPut (now (out .entry)) (now (out .exit)) pen r (valueTokens (describedConstant w) []) ⌝ }
 {
     if w < NEGATIVE {
-        return put_number(out, pen, w);
+        return write_number(out, pen, w);
     }
-    let after = put_function(out, pen, functions::SUBTRACT);
-    put_number(out, after, WORDS - w)
+    let after = write_function(out, pen, functions::SUBTRACT);
+    write_number(out, after, WORDS - w)
 }
 
 // The first letters of behaviours' and parameters' names.
@@ -107,18 +107,25 @@ fn put_cell(out: &mut [u8], pen: Pen, h: usize, i: usize) -> Pen
     requires { ⌜ (h ≤ i) × (i < byteValues) ⌝ }
     ensures { λ r. ⌜ TokensPut (now (out .entry)) (now (out .exit)) pen r (cellTokens h i) ⌝ }
 {
-    let named = put_name(out, pen, BEHAVIOUR, h);
+    let named = write_name(out, pen, BEHAVIOUR, h);
     if h == i {
         return named;
     }
-    let opened = put_sign(out, named, signs::BRACKET);
-    let counted = put_number(out, opened, (i - h) as u64);
-    put_sign(out, counted, signs::UNBRACKET)
+    let opened = write_sign(out, named, signs::BRACKET);
+    let counted = write_number(out, opened, (i - h) as u64);
+    write_sign(out, counted, signs::UNBRACKET)
 }
 
 // An expression that is no application: a constant, a name or a parameter. The behaviours stand from `first` on, as
 // the contract says; which first cells they have is looked up in `heads`. So it is in what follows.
-fn put_leaf(s: &[u8], first: usize, heads: &[u8; BYTE], at: usize, out: &mut [u8], pen: Pen) -> Pen
+fn write_leaf(
+    s: &[u8],
+    first: usize,
+    heads: &[u8; BYTE],
+    at: usize,
+    out: &mut [u8],
+    pen: Pen,
+) -> Pen
     requires { ⌜ (first ≤ length (now s)) × (at ≤ length (now s)) × HeadsOf (now s) first (now heads) ⌝ }
     requires { ⌜ pen .at ≤ penLimit ⌝ }
     ensures { λ r. ⌜ TokensPut (now (out .entry)) (now (out .exit)) pen r
@@ -126,13 +133,13 @@ fn put_leaf(s: &[u8], first: usize, heads: &[u8; BYTE], at: usize, out: &mut [u8
 {
     let tag = byte_from(s, at, 0);
     if tag == tags::CONSTANT {
-        return put_value(out, pen, word_from(s, onward(s, at, sizes::HEADER)));
+        return write_value(out, pen, word_from(s, onward(s, at, sizes::HEADER)));
     }
     let i = byte_from(s, at, sizes::HEADER) as usize;
     if tag == tags::NAME {
         return put_cell(out, pen, heads[i] as usize, i);
     }
-    put_name(out, pen, PARAMETER, i)
+    write_name(out, pen, PARAMETER, i)
 }
 
 // The level that is due for the first argument of a function.
@@ -168,7 +175,7 @@ fn put_unless(out: &mut [u8], pen: Pen, f: u8, level: u64, c: u8) -> Pen
     if lib_signature::level_of(f) <= level {
         return pen;
     }
-    put_sign(out, pen, c)
+    write_sign(out, pen, c)
 }
 
 // Before the first argument of a function.
@@ -177,11 +184,11 @@ fn put_head(out: &mut [u8], pen: Pen, f: u8, level: u64) -> Pen
     ensures { λ r. ⌜ TokensPut (now (out .entry)) (now (out .exit)) pen r (headTokens f level) ⌝ }
 {
     if f == functions::NOT {
-        return put_function(out, pen, f);
+        return write_function(out, pen, f);
     }
     if f == functions::IF {
-        let after = put_function(out, pen, f);
-        return put_sign(out, after, signs::OPENING);
+        let after = write_function(out, pen, f);
+        return write_sign(out, after, signs::OPENING);
     }
     put_unless(out, pen, f, level, signs::OPENING)
 }
@@ -192,7 +199,7 @@ fn put_between(out: &mut [u8], pen: Pen, f: u8) -> Pen
     ensures { λ r. ⌜ TokensPut (now (out .entry)) (now (out .exit)) pen r (betweenTokens f) ⌝ }
 {
     if f == functions::IF {
-        return put_sign(out, pen, signs::COMMA);
+        return write_sign(out, pen, signs::COMMA);
     }
     if f == 0 {
         return pen;
@@ -200,7 +207,7 @@ fn put_between(out: &mut [u8], pen: Pen, f: u8) -> Pen
     if functions::LAST < f {
         return pen;
     }
-    put_function(out, pen, f)
+    write_function(out, pen, f)
 }
 
 // The level of the loosest operators: where it is due, nothing is in brackets.
@@ -226,7 +233,7 @@ pub fn put_term(
         return pen;
     }
     if byte_from(s, at, 0) != tags::APPLICATION {
-        return put_leaf(s, first, heads, at, out, pen);
+        return write_leaf(s, first, heads, at, out, pen);
     }
     let f = byte_from(s, at, sizes::HEADER);
     let one = onward(s, at, sizes::BYTE_HEAD);
@@ -242,7 +249,7 @@ pub fn put_term(
         return put_unless(out, after_two, f, level, signs::CLOSING);
     }
     let three = after_field(s, two);
-    let comma = put_sign(out, after_two, signs::COMMA);
+    let comma = write_sign(out, after_two, signs::COMMA);
     let after_three = put_term(s, first, heads, three, room - 1, LOOSEST, out, comma);
-    put_sign(out, after_three, signs::CLOSING)
+    write_sign(out, after_three, signs::CLOSING)
 }

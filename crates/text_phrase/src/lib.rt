@@ -23,7 +23,7 @@ pub enum Read {
 }
 
 // The level of a two-sided operator, 1 for `* /` to 6 for `||`; 0 for another token.
-fn level_of(t: u64) -> u64
+fn token_level(t: u64) -> u64
     ensures { λ r. ⌜ r ≡ levelCode t ⌝ }
 {
     if t / tokens::WORDS != tokens::FUNCTION_KIND {
@@ -41,13 +41,13 @@ pub fn level_at(ts: &[u64], at: usize) -> u64
     ensures { λ r. ⌜ (0 < r → at < length (now (ts .entry))) ⌝ }
 {
     if at < ts.len() {
-        return level_of(ts[at]);
+        return token_level(ts[at]);
     }
     0
 }
 
 // 1 for an opening bracket, 2 for a closing one, 3 for a comma; 0 for another token.
-fn mark_of(t: u64) -> u64
+fn token_mark(t: u64) -> u64
     ensures { λ r. ⌜ r ≡ markCode t ⌝ }
 {
     if t / tokens::WORDS != tokens::MARK_KIND {
@@ -61,7 +61,7 @@ pub fn mark_at(ts: &[u64], at: usize) -> u64
     ensures { λ r. ⌜ (0 < r → at < length (now (ts .entry))) ⌝ }
 {
     if at < ts.len() {
-        return mark_of(ts[at]);
+        return token_mark(ts[at]);
     }
     0
 }

@@ -1,7 +1,7 @@
 // A formula's text becomes an expression field at the start of a lent buffer: 21, 22, 9 and 23, or 2 ^ 32 and the
 // field's length.
+use spec_language::answers;
 use spec_language::limits;
-use spec_language::refusals;
 use text_formula::tokens;
 use text_lexer::Text;
 use text_phrase::Read;
@@ -15,14 +15,6 @@ ghost use Rattle.spec_language.specs.Limits.{fieldBytes, formulaBytes};
 
 // What is added to a field's length, so that it is told from a refusal.
 const ACCEPTED: u64 = spec_language::answers::VALUE;
-
-const NO_FORMULA: u64 = refusals::NO_FORMULA as u64;
-
-const LARGE_NUMBER: u64 = refusals::LARGE_NUMBER as u64;
-
-const TOO_DEEP: u64 = refusals::TOO_DEEP as u64;
-
-const SHORT_FIELD: u64 = refusals::SHORT_FIELD as u64;
 
 // Whether a token is a number above 2,147,483,647.
 fn is_large(t: u64) -> bool
@@ -87,13 +79,13 @@ fn put_result(large: bool, depth: usize, field: &[u8], buffer: &mut [u8]) -> u64
     ensures { λ r. ⌜ answered r (now (buffer .exit)) ≡ delivered large depth (now (field .entry)) (now (buffer .entry)) ⌝ }
 {
     if large {
-        return LARGE_NUMBER;
+        return answers::LARGE_NUMBER;
     }
     if limits::NESTING < depth {
-        return TOO_DEEP;
+        return answers::TOO_DEEP;
     }
     if buffer.len() < field.len() {
-        return SHORT_FIELD;
+        return answers::SHORT_FIELD;
     }
     bytes::copy(field, buffer);
     ACCEPTED + (field.len() as u64)
@@ -105,30 +97,30 @@ fn from_tokens(ts: &[u64], buffer: &mut [u8]) -> u64
     ensures { λ r. ⌜ Translated (now (ts .entry)) (now (buffer .entry)) (answered r (now (buffer .exit))) ⌝ }
 {
     if !balanced(ts) {
-        return NO_FORMULA;
+        return answers::NO_FORMULA;
     }
     let mut out = [0u8; text_parser::FIELD_BYTES];
     let r = text_parser::disjunction(ts, 0, &mut out, 0);
     let Read::Done(at, end, depth) = r else {
-        return NO_FORMULA;
+        return answers::NO_FORMULA;
     };
     if at != ts.len() {
-        return NO_FORMULA;
+        return answers::NO_FORMULA;
     }
     put_result(any_large(ts), depth, &out[0..end], buffer)
 }
 
 // The formula's field at the start of the buffer: 2 ^ 32 and its length; or 21, 22, 9, 23.
-pub fn formula_at(text: &[u8], buffer: &mut [u8]) -> u64
+pub fn translate_at(text: &[u8], buffer: &mut [u8]) -> u64
     ensures { λ r. ⌜ answered r (now (buffer .exit)) ≡ formulaOn (now (text .entry)) (now (buffer .entry)) ⌝ }
 {
     if limits::FORMULA_BYTES < text.len() {
-        return NO_FORMULA;
+        return answers::NO_FORMULA;
     }
     let mut numbers = [0u64; limits::FORMULA_BYTES];
     let s = text_lexer::scan(text, &mut numbers);
     let Text::Tokens(n) = s else {
-        return NO_FORMULA;
+        return answers::NO_FORMULA;
     };
     from_tokens(&numbers[0..n], buffer)
 }

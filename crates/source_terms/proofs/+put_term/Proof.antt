@@ -15,8 +15,8 @@ use Rattle.source_terms.proofs.first_level.Reads as first-level-reads
 use Rattle.sheet_walk.proofs.onward.Reads as onward-reads
 use Rattle.source_terms.proofs.put_between.Reads as put-between-reads
 use Rattle.source_terms.proofs.put_head.Reads as put-head-reads
-use Rattle.source_terms.proofs.put_leaf.Reads as put-leaf-reads
-use Rattle.source_terms.proofs.put_sign.Reads as put-sign-reads
+use Rattle.source_terms.proofs.write_leaf.Reads as put-leaf-reads
+use Rattle.source_terms.proofs.write_sign.Reads as put-sign-reads
 use Rattle.source_terms.proofs.put_unless.Reads as put-unless-reads
 use Rattle.source_terms.proofs.second_level.Reads as second-level-reads
 use Rattle.source_terms.proofs.+put_term.{statement}

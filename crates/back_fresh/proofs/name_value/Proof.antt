@@ -1,0 +1,14 @@
+-- `back_fresh::name_value` meets its contract: each return is its branch. Assumes nothing.
+use borrow.Author.Needs.{needs}
+use Rattle.lib_base.proofs.Pick.{code}
+use Rattle.back_fresh.proofs.name_value.Statement.{statement}
+use Rattle.back_fresh.proofs.name_value.Tie as tie
+
+pub value-of-spec : {M : Type 1} → statement M
+value-of-spec =
+    tie.close
+    (tie.spec
+    (λ c. search needs)
+    (λ c. search needs)
+    (λ c. search code depth 12)
+    (λ c. search code depth 12))

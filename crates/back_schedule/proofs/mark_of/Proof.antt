@@ -1,9 +1,0 @@
--- `ordering::mark_of` meets its contract: each return is its branch of `metMark`. Assumes nothing.
-use Rattle.lib_base.proofs.Pick.{code}
-use Rattle.back_schedule.specs.Ordering.{metMark}
-use Rattle.back_schedule.proofs.mark_of.Statement.{statement}
-use Rattle.back_schedule.proofs.mark_of.Tie as tie
-
-pub mark-of-spec : {M : Type 1} → statement M
-unfolding metMark
-mark-of-spec = tie.close (tie.spec (λ c. search code depth 12) (λ c. search code depth 12) (λ c. search code depth 12))
