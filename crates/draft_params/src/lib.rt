@@ -13,7 +13,7 @@ use spec_language::limits;
 const PARAMETERS: u64 = limits::PARAMETERS as u64;
 
 // The value of parameter k: a word of the bytes lent, 0 where fewer than 32 are.
-fn value_of(params: &[u8], k: usize) -> u64
+fn parameter_value(params: &[u8], k: usize) -> u64
     requires { ⌜ k < parameterLimit ⌝ }
     ensures { λ r. ⌜ r ≡ parameterValue (now (params .entry)) k ⌝ }
     ensures { λ r. ⌜ r < 2 ^ 32 ⌝ }
@@ -29,7 +29,7 @@ fn fill_node(params: &[u8], node: u64) -> u64
     ensures { λ r. ⌜ r ≡ filledNode (now (params .entry)) node ⌝ }
 {
     if node / layout::WORD == layout::PARAMETER {
-        return layout::CONSTANT_NODE + value_of(params, (node % PARAMETERS) as usize);
+        return layout::CONSTANT_NODE + parameter_value(params, (node % PARAMETERS) as usize);
     }
     node
 }

@@ -43,19 +43,19 @@ fn quotient_differs(a: u32, b: u32) -> bool
     false
 }
 
-pub fn sum(a: u32, b: u32) -> u64
+pub fn marked_sum(a: u32, b: u32) -> u64
     ensures { λ r. ⌜ r ≡ reported (signed a +ℤ signed b) ⌝ }
 {
     mark(lib_arith::add(a, b), is_beyond(whole(a) + whole(b)))
 }
 
-pub fn difference(a: u32, b: u32) -> u64
+pub fn marked_difference(a: u32, b: u32) -> u64
     ensures { λ r. ⌜ r ≡ reported (signed a -ℤ signed b) ⌝ }
 {
     mark(lib_arith::subtract(a, b), is_beyond(whole(a) - whole(b)))
 }
 
-pub fn product(a: u32, b: u32) -> u64
+pub fn marked_product(a: u32, b: u32) -> u64
     ensures { λ r. ⌜ r ≡ reported (signed a *ℤ signed b) ⌝ }
 {
     mark(lib_arith::multiply(a, b), is_beyond(whole(a) * whole(b)))

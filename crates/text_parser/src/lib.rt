@@ -92,7 +92,7 @@ fn ordering(ts: &[u64], at: usize, out: &mut [u8; FIELD_BYTES], n: usize) -> Rea
     ensures { λ r. ⌜ ReadWithin (length (now (ts .entry))) at n 0 r ⌝ }
     ensures { λ _. ⌜ length (now (out .exit)) ≡ fieldBytes ⌝ }
 {
-    let mut r = sums(ts, at, out, n);
+    let mut r = sum(ts, at, out, n);
     loop {
         let Read::Done(f, end, d) = r else {
             return r;
@@ -100,20 +100,20 @@ fn ordering(ts: &[u64], at: usize, out: &mut [u8; FIELD_BYTES], n: usize) -> Rea
         if text_phrase::level_at(ts, f) != levels::ORDERING {
             return r;
         }
-        r = sums(ts, f + 1, out, end);
+        r = sum(ts, f + 1, out, end);
         r = text_phrase::close((ts[f] % BYTE) as u8, n, d, r, out);
     }
 }
 
 // Level 2: `+ -`.
-fn sums(ts: &[u64], at: usize, out: &mut [u8; FIELD_BYTES], n: usize) -> Read
+fn sum(ts: &[u64], at: usize, out: &mut [u8; FIELD_BYTES], n: usize) -> Read
     requires { ⌜ n ≤ at * wordField ⌝ }
     requires { ⌜ FieldRoom (now ts) (now out) ⌝ }
     ensures { λ r. ⌜ Reading 2 (now (ts .entry)) at n (now (out .entry)) (now (out .exit)) r ⌝ }
     ensures { λ r. ⌜ ReadWithin (length (now (ts .entry))) at n 0 r ⌝ }
     ensures { λ _. ⌜ length (now (out .exit)) ≡ fieldBytes ⌝ }
 {
-    let mut r = products(ts, at, out, n);
+    let mut r = product(ts, at, out, n);
     loop {
         let Read::Done(f, end, d) = r else {
             return r;
@@ -121,13 +121,13 @@ fn sums(ts: &[u64], at: usize, out: &mut [u8; FIELD_BYTES], n: usize) -> Read
         if text_phrase::level_at(ts, f) != levels::SUM {
             return r;
         }
-        r = products(ts, f + 1, out, end);
+        r = product(ts, f + 1, out, end);
         r = text_phrase::close((ts[f] % BYTE) as u8, n, d, r, out);
     }
 }
 
 // Level 1: `* /`.
-fn products(ts: &[u64], at: usize, out: &mut [u8; FIELD_BYTES], n: usize) -> Read
+fn product(ts: &[u64], at: usize, out: &mut [u8; FIELD_BYTES], n: usize) -> Read
     requires { ⌜ n ≤ at * wordField ⌝ }
     requires { ⌜ FieldRoom (now ts) (now out) ⌝ }
     ensures { λ r. ⌜ Reading 1 (now (ts .entry)) at n (now (out .entry)) (now (out .exit)) r ⌝ }

@@ -18,7 +18,7 @@ agree-for-at-spec =
     (λ c. search needs)
     (λ c.
     let j = c .before .before .before .judge-sheet .ensures in
-    let q = c .number-of .ensures in
+    let q = c .judgement-number .ensures in
     refused _ _ _ _ (judged-number _ _ _ _ j q) (refused-some _ _ _ _ j (c .before .match .keys2) q))
     (λ c. search needs)
     (λ c κs.

@@ -14,7 +14,7 @@ circle-at-spec =
     (λ c. search needs)
     (λ c κs. search needs)
     (λ c. search needs)
-    (λ c. not-circular _ _ _ _ _ (c .before .before .before .judge-sheet .ensures) (c .before .match .keys2) (c .number-of .ensures))
+    (λ c. not-circular _ _ _ _ _ (c .before .before .before .judge-sheet .ensures) (c .before .match .keys2) (c .judgement-number .ensures))
     (λ c. search needs)
     (λ c κs.
     let w = judged-turns _ _ _ _ (c .before .before .before .before .before .before .judge-sheet .ensures) _ _ (c .before .before .before .judgement .given .1) in

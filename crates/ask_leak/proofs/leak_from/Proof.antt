@@ -16,4 +16,4 @@ leak-from-spec =
     (λ c κs. search needs)
     (λ c κs. search needs)
     (λ c κs. omega arith)
-    (λ c. from-seen _ _ _ _ _ _ _ (omega arith) (sym (c .before .before .before .before .contains .ensures) ∙ c .before .before .before .if1 .left) (c .before .before .names-of .ensures) (c .before .common .ensures) (c .least-in .ensures)))
+    (λ c. from-seen _ _ _ _ _ _ _ (omega arith) (sym (c .before .before .before .before .contains .ensures) ∙ c .before .before .before .if1 .left) (c .before .before .names-of .ensures) (c .before .common .ensures) (c .least-leak .ensures)))

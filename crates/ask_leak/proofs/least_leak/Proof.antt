@@ -33,9 +33,9 @@ Inv-loop set n i j₀ j = Seeking (answer set i) 0 n j
 abbrev μ-loop : tie.MeasureT-loop
 μ-loop set n i j₀ j = n - j
 
-pub least-in-spec : {M : Type 1} → statement M
+pub least-leak-spec : {M : Type 1} → statement M
 unfolding packedLeak
-least-in-spec =
+least-leak-spec =
     tie.close
     (tie.spec
     Inv-loop

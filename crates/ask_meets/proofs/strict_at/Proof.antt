@@ -13,4 +13,4 @@ strict-at-spec =
     (λ c κs. search needs)
     (λ c κs. search needs)
     (λ c κs. search needs)
-    (λ c. strict-is (c .before .before .before .before .before .before .args .d .now) (c .before .before .before .before .before .before .args .rows .now) _ _ _ _ _ _ _ (omega arith) (c .before .before .before .names-in .ensures) (c .before .before .add-rows .ensures) (c .before .mark-in .ensures) (c .put .ensures)))
+    (λ c. strict-is (c .before .before .before .before .before .before .args .d .now) (c .before .before .before .before .before .before .args .rows .now) _ _ _ _ _ _ _ (omega arith) (c .before .before .before .names-in .ensures) (c .before .before .add-rows .ensures) (c .before .mark-in .ensures) (c .with-member .ensures)))

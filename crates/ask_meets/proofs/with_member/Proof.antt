@@ -4,8 +4,8 @@ use Rattle.ask_meets.proofs.MarkLaws.{put-in, put-out}
 use Rattle.ask_meets.proofs.with_member.Statement.{statement}
 use Rattle.ask_meets.proofs.with_member.Tie as tie
 
-pub put-spec : {M : Type 1} → statement M
-put-spec =
+pub with-member-spec : {M : Type 1} → statement M
+with-member-spec =
     tie.close
     (tie.spec
     (λ c κs. search needs)

@@ -17,7 +17,7 @@ compile-at-spec =
     (λ c κs. search needs)
     (λ c. search needs)
     (λ c κs. search needs)
-    (λ c. not-passed _ _ _ _ _ (c .before .before .before .judge-sheet .ensures) (c .before .match .keys2) (omega arith) (c .number-of .ensures))
+    (λ c. not-passed _ _ _ _ _ (c .before .before .before .judge-sheet .ensures) (c .before .match .keys2) (omega arith) (c .judgement-number .ensures))
     (λ c. search needs)
     (λ c κs. (judged-passes _ _ _ _ (c .before .before .before .before .before .before .judge-sheet .ensures) _ _ (c .before .before .before .judgement .given .1) .planned, search needs))
     (λ c. search needs)

@@ -111,7 +111,7 @@ returns-2 c =
     let w = c .before .before .before .before .before in
     record {
       finding = read-falls (s w) (ps w) (bytes w) (short w) _ _ _ (c .before .enum-told .given .1) (reads w)
-          (c .fault-of .ensures);
+          (c .reader-refusal .ensures);
     }
 
 names-known-requires : tie.Need-names-known-requires

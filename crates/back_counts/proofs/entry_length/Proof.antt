@@ -5,9 +5,9 @@ use Rattle.back_counts.specs.Counts.{shareOf}
 use Rattle.back_counts.proofs.entry_length.Statement.{statement}
 use Rattle.back_counts.proofs.entry_length.Tie as tie
 
-pub share-of-spec : {M : Type 1} → statement M
+pub entry-length-spec : {M : Type 1} → statement M
 unfolding shareOf
-share-of-spec =
+entry-length-spec =
     tie.close
     (tie.spec
     (λ c. search needs)

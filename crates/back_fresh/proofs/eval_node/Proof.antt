@@ -18,7 +18,7 @@ returns-2 c =
     let e = c .before .before .push2 .ensures in (
       rw (e .0) (search code depth 12),
       (
-        rw (e .1 .0, c .before .before .before .before .value-of .ensures) (search code depth 12),
+        rw (e .1 .0, c .before .before .before .before .name-value .ensures) (search code depth 12),
         e .1 .1,
       ),
     )

@@ -4,8 +4,8 @@ use Rattle.lib_base.proofs.Pick.{code}
 use Rattle.back_fresh.proofs.name_value.Statement.{statement}
 use Rattle.back_fresh.proofs.name_value.Tie as tie
 
-pub value-of-spec : {M : Type 1} → statement M
-value-of-spec =
+pub name-value-spec : {M : Type 1} → statement M
+name-value-spec =
     tie.close
     (tie.spec
     (λ c. search needs)

@@ -5,6 +5,6 @@ use Rattle.back_passives.specs.PassiveWords.{againShare}
 use Rattle.back_passives.proofs.passive_length.Statement.{statement}
 use Rattle.back_passives.proofs.passive_length.Tie as tie
 
-pub share-again-spec : {M : Type 1} → statement M
+pub passive-length-spec : {M : Type 1} → statement M
 unfolding againShare
-share-again-spec = tie.close (tie.spec (λ c. search needs) (λ c. search code depth 12) (λ c. search code depth 12))
+passive-length-spec = tie.close (tie.spec (λ c. search needs) (λ c. search code depth 12) (λ c. search code depth 12))

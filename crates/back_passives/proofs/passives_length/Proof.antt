@@ -15,9 +15,9 @@ Inv-loop d n sum₀ i₀ sum i = Sum (λ j. againShare (entryOf d 0 j)) n 0 i su
 abbrev μ-loop : tie.MeasureT-loop
 μ-loop d n sum₀ i₀ sum i = n - i
 
-pub count-again-spec : {M : Type 1} → statement M
+pub passives-length-spec : {M : Type 1} → statement M
 unfolding countAgain
-count-again-spec =
+passives-length-spec =
     tie.close
     (tie.spec
     Inv-loop
@@ -25,10 +25,10 @@ count-again-spec =
     (λ c. sum-start)
     (λ c κs. omega arith)
     (λ c κs. omega (arith, sound-inside (c .before .before .before .before .pre) (c .before .loop-test .taken) (c .entry-of .ensures)))
-    (λ c. omega (arith, again-small (c .before .entry-of .result) (omega (arith, sound-inside (c .before .before .before .before .before .pre) (c .before .before .loop-test .taken) (c .before .entry-of .ensures))), c .share-again .ensures))
+    (λ c. omega (arith, again-small (c .before .entry-of .result) (omega (arith, sound-inside (c .before .before .before .before .before .pre) (c .before .before .loop-test .taken) (c .before .entry-of .ensures))), c .passive-length .ensures))
     (λ c. omega arith)
     (λ c. omega arith)
     (λ c.
-    sum-turn (c .before .before .before .loop .inv) (c .before .before .loop-test .taken) (c .share-again .ensures ∙ ap againShare (c .before .entry-of .ensures))
-    (omega (arith, again-small (c .before .entry-of .result) (omega (arith, sound-inside (c .before .before .before .before .before .pre) (c .before .before .loop-test .taken) (c .before .entry-of .ensures))), c .share-again .ensures)))
+    sum-turn (c .before .before .before .loop .inv) (c .before .before .loop-test .taken) (c .passive-length .ensures ∙ ap againShare (c .before .entry-of .ensures))
+    (omega (arith, again-small (c .before .entry-of .result) (omega (arith, sound-inside (c .before .before .before .before .before .pre) (c .before .before .loop-test .taken) (c .before .entry-of .ensures))), c .passive-length .ensures)))
     (λ c. omega (arith, sum-end (c .before .loop .inv) (c .loop-test .left))))

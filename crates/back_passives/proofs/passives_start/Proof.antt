@@ -14,9 +14,9 @@ declared : (ev all m count r : ℕ) → ev ≢ 0 → r ≡ all - (count + (m + 2
 unfolding againStart
 declared ev all m count r h e = rw (ne-eqb ev 0 h) e
 
-pub start-again-spec : {M : Type 1} → statement M
+pub passives-start-spec : {M : Type 1} → statement M
 unfolding againStart
-start-again-spec =
+passives-start-spec =
     tie.close
     (tie.spec
     (λ c. search code depth 12)

@@ -35,12 +35,12 @@ write-zeros-requires c κs =
       length-kinds (at-entry .args .draft .now) (at-entry .args .behaviours),
     )
 
-start-again-requires : tie.Need-start-again-requires
-start-again-requires c κs =
+passives-start-requires : tie.Need-passives-start-requires
+passives-start-requires c κs =
     let counted = c .before .before in
     let b = entry counted in
     let m = members-fit _ _ _ _ (c .before .count-members .ensures) (b .pre .0 .few) in
-    omega (arith, counted .count-again .ensures, count-again-small (b .args .draft .now) (b .args .behaviours) (b .pre .0))
+    omega (arith, counted .passives-length .ensures, count-again-small (b .args .draft .now) (b .args .behaviours) (b .pre .0))
 
 cast-put-word : tie.Need-cast-put-word
 cast-put-word c =
@@ -48,18 +48,18 @@ cast-put-word c =
     let b = entry (members .before) in
     omega (
       arith,
-      c .before .start-again .ensures,
+      c .before .passives-start .ensures,
       c .before .before .count-event .ensures,
       count-event-small (b .args .draft .now) (b .args .behaviours) (b .pre .0),
       start-small (b .args .events) (c .before .before .count-event .result) (members .count-members .result)
-          (members .before .count-again .result),
+          (members .before .passives-length .result),
     )
 
 cast-put-word-2 : tie.Need-cast-put-word-2
 cast-put-word-2 c =
     let counted = c .before .before .before .before .before .before .before .before in
     let b = entry counted in
-    omega (arith, counted .count-again .ensures, count-again-small (b .args .draft .now) (b .args .behaviours) (b .pre .0))
+    omega (arith, counted .passives-length .ensures, count-again-small (b .args .draft .now) (b .args .behaviours) (b .pre .0))
 
 returns : tie.Need-returns
 returns c =
@@ -69,8 +69,8 @@ returns c =
     passive-words-wrote _ _ _ (entry counted .pre .0 .few) (kinds-at counted .write-kinds .ensures)
     (counted .before .before .before .write-zeros .ensures)
     (started _ _ _ (begun .before .count-event .ensures) (begun .before .before .count-members .ensures)
-    (counted .count-again .ensures) (begun .start-again .ensures))
-    (counted .count-again .ensures) (length .before .before .before .before .put-word .ensures)
+    (counted .passives-length .ensures) (begun .passives-start .ensures))
+    (counted .passives-length .ensures) (length .before .before .before .before .put-word .ensures)
     (length .put-word2 .ensures) (c .before .before .write-zeros2 .ensures)
 
 pub write-passives-spec : {M : Type 1} → statement M
@@ -82,5 +82,5 @@ write-passives-spec =
     (λ c κs. search needs)
     (λ c κs. let s = entry c .pre .0 in (s .long, s .few))
     (λ c κs. search needs)
-    start-again-requires cast-put-word (search needs) cast-put-word-2 (search needs) (search needs) (search needs)
+    passives-start-requires cast-put-word (search needs) cast-put-word-2 (search needs) (search needs) (search needs)
     returns)

@@ -15,8 +15,8 @@ Inv-loop d e n o count t₀ k next₀ j₀ t next j = Turn (λ s. turnWordsOfKin
 abbrev μ-loop : tie.MeasureT-loop
 μ-loop d e n o count t₀ k next₀ j₀ t next j = count - j
 
-pub emit-again-spec : {M : Type 1} → statement M
-emit-again-spec =
+pub emit-passives-spec : {M : Type 1} → statement M
+emit-passives-spec =
     tie.close
     (tie.spec
     Inv-loop

@@ -11,4 +11,4 @@ phase-two-spec =
     (λ c κs. ((c .before .before .before .before .pre .0 .0 .long, c .before .before .before .before .pre .0 .0 .few), second-moves _ _ _ _ (c .before .before .before .before .pre .1)))
     (λ c κs. (c .before .before .before .before .before .before .before .before .pre .0, second-again _ _ _ _ (c .before .before .before .emit-moves .ensures) (c .before .before .before .before .before .before .before .before .pre .1)))
     (λ c. search needs)
-    (λ c. second-all _ _ _ _ (c .before .before .before .before .before .before .emit-moves .ensures) (c .before .before .emit-again .ensures)))
+    (λ c. second-all _ _ _ _ (c .before .before .before .before .before .before .emit-moves .ensures) (c .before .before .emit-passives .ensures)))

@@ -11,6 +11,6 @@ add-met-spec =
     tie.close
     (tie.spec
     (λ c κs. search needs)
-    (λ c j. met-none _ _ _ j (sym (c .before .mark-of .ensures) ∙ c .if1 .taken))
+    (λ c j. met-none _ _ _ j (sym (c .before .entry-mark .ensures) ∙ c .if1 .taken))
     (λ c κs. search needs)
-    (λ c j. c .insert .ensures j ∙ met-one _ _ _ j (λ z. c .before .if1 .left (c .before .before .mark-of .ensures ∙ z))))
+    (λ c j. c .insert .ensures j ∙ met-one _ _ _ j (λ z. c .before .if1 .left (c .before .before .entry-mark .ensures ∙ z))))

@@ -4,6 +4,6 @@ use Rattle.back_schedule.specs.Ordering.{metMark}
 use Rattle.back_schedule.proofs.entry_mark.Statement.{statement}
 use Rattle.back_schedule.proofs.entry_mark.Tie as tie
 
-pub mark-of-spec : {M : Type 1} → statement M
+pub entry-mark-spec : {M : Type 1} → statement M
 unfolding metMark
-mark-of-spec = tie.close (tie.spec (λ c. search code depth 12) (λ c. search code depth 12) (λ c. search code depth 12))
+entry-mark-spec = tie.close (tie.spec (λ c. search code depth 12) (λ c. search code depth 12) (λ c. search code depth 12))

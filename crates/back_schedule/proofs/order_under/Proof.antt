@@ -5,8 +5,8 @@ use Rattle.back_schedule.proofs.OrderingLaws.{order-holds}
 use Rattle.back_schedule.proofs.order_under.Statement.{statement}
 use Rattle.back_schedule.proofs.order_under.Tie as tie
 
-order-of-requires : tie.Need-order-of-requires
-order-of-requires c κs =
+arrange-requires : tie.Need-arrange-requires
+arrange-requires c κs =
     let at-entry = c .before .before .before .before .before .before .before .before in (
       search needs,
       at-entry .pre .1,
@@ -22,11 +22,11 @@ returns c =
     let at-entry = at-met-set .before .before .before .before .before .before in
     let p = at-entry .pre in
     order-holds _ _ _ _ _ _ _ _ _ (p .0) (p .3) (p .4) (at-met-set .before .before .fill-rows .ensures)
-    (at-met-set .met-set .ensures) (p .1) (c .before .before .order-of .ensures) (search needs)
+    (at-met-set .met-set .ensures) (p .1) (c .before .before .arrange .ensures) (search needs)
 
 pub order-under-spec : {M : Type 1} → statement M
 order-under-spec =
     tie.close
     (tie.spec (search needs)
     (λ c κs. search needs)
-    (search needs) (search needs) order-of-requires (search needs) returns)
+    (search needs) (search needs) arrange-requires (search needs) returns)

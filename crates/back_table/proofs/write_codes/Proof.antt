@@ -12,7 +12,7 @@ write-codes-spec =
     (tie.spec
     (λ c κs. let p = c .before .before .before .before .pre in (p .0, room-as (sym (codes-alone _ _ _ (c .before .if1 .taken))) (p .1)))
     (λ c. search needs)
-    (λ c. wrote-as (sym (codes-alone _ _ _ (c .before .before .before .before .if1 .taken))) (c .before .before .write-alone .ensures))
+    (λ c. wrote-as (sym (codes-alone _ _ _ (c .before .before .before .before .if1 .taken))) (c .before .before .write-passive-code .ensures))
     (λ c κs. let p = c .before .before .before .before .pre in (p .0, room-as (sym (codes-events _ _ _ (c .before .if1 .left))) (p .1)))
     (λ c. search needs)
     (λ c. wrote-as (sym (codes-events _ _ _ (c .before .before .before .before .if1 .left))) (c .before .before .write-events .ensures)))

@@ -7,8 +7,8 @@ use Rattle.back_table.proofs.TableLaws.{planned-inside, planned-sound, 
 use Rattle.back_table.proofs.write_passive_code.Statement.{statement}
 use Rattle.back_table.proofs.write_passive_code.Tie as tie
 
-pub write-alone-spec : {M : Type 1} → statement M
-write-alone-spec =
+pub write-passive-code-spec : {M : Type 1} → statement M
+write-passive-code-spec =
     tie.close
     (tie.spec
     (λ c. search needs)
@@ -18,4 +18,4 @@ write-alone-spec =
     let h = c .before .before .before .order-under .ensures in
     ((planned-sound (c .before .before .before .before .before .before .before .pre .0), h .listed), room-as (alone-as _ _ h) (c .before .before .before .before .before .before .before .pre .1)))
     (λ c. search needs)
-    (λ c. wrote-as (alone-as _ _ (c .before .before .before .before .before .before .order-under .ensures)) (c .before .before .emit-again .ensures)))
+    (λ c. wrote-as (alone-as _ _ (c .before .before .before .before .before .before .order-under .ensures)) (c .before .before .emit-passives .ensures)))

@@ -11,5 +11,5 @@ add-leading-spec =
     (tie.spec
     (λ c κs. tt)
     (λ c κs. omega arith)
-    (λ c x. rw (sym (c .before .before .share .ensures) ∙ c .before .if1 .taken) (c .insert .ensures x))
-    (λ c x. rw (sym (c .before .share .ensures) ∙ c .if1 .left) (sym (or-false _))))
+    (λ c x. rw (sym (c .before .before .is-common .ensures) ∙ c .before .if1 .taken) (c .insert .ensures x))
+    (λ c x. rw (sym (c .before .is-common .ensures) ∙ c .if1 .left) (sym (or-false _))))

@@ -15,8 +15,8 @@ Inv-loop a b n both h₀ h = Passed (λ x. bit a x && bit b x) n h
 abbrev μ-loop : tie.MeasureT-loop
 μ-loop a b n both h₀ h = n - h
 
-pub first-shared-spec : {M : Type 1} → statement M
-first-shared-spec =
+pub first-common-spec : {M : Type 1} → statement M
+first-common-spec =
     tie.close
     (tie.spec
     Inv-loop

@@ -5,5 +5,5 @@ use Rattle.check_distance.proofs.LayerLaws.{share-is}
 use Rattle.check_distance.proofs.is_common.Statement.{statement}
 use Rattle.check_distance.proofs.is_common.Tie as tie
 
-pub share-spec : {M : Type 1} → statement M
-share-spec = tie.close (tie.spec (λ c. share-is _ _ (omega arith)))
+pub is-common-spec : {M : Type 1} → statement M
+is-common-spec = tie.close (tie.spec (λ c. share-is _ _ (omega arith)))

@@ -38,7 +38,7 @@ returns-2 : tie.Need-returns-2 Inv-loop μ-loop
 returns-2 c =
     let turn = turn-at (c .before) in
     let p = entry-at (turn .before) .pre in
-    let home = sym (c .if2 .taken) ∙ c .before .share .ensures ∙ shares _ _ (p .3) (p .4) _ _ (p .2) in
+    let home = sym (c .if2 .taken) ∙ c .before .is-common .ensures ∙ shares _ _ (p .3) (p .4) _ _ (p .2) in
     trying-stop _ _ _ (turn .before .loop .inv) (turn .loop-test .taken) home
 
 leading-to-requires : tie.Need-leading-to-requires Inv-loop μ-loop
@@ -49,7 +49,7 @@ loop-again c =
     let tested = c .before .before in
     let turn = turn-at tested in
     let p = entry-at (turn .before) .pre in
-    let away = sym (c .before .if2 .left) ∙ tested .share .ensures ∙ shares _ _ (p .3) (p .4) _ _ (p .2) in
+    let away = sym (c .before .if2 .left) ∙ tested .is-common .ensures ∙ shares _ _ (p .3) (p .4) _ _ (p .2) in
     trying-turn _ _ _ (turn .before .loop .inv) (p .3) (turn .loop-test .taken) away (c .leading-to .ensures)
 
 pub steps-back-spec : {M : Type 1} → statement M

@@ -27,7 +27,7 @@ loop-again c =
     let p = entry-at (turn .before) .pre in
     let going = turn .before .loop .inv in
     going-turn _ _ _ _ _ going (p .0 .5) (p .0 .3) (p .0 .4) (p .1 .1) (turn .loop-test .taken)
-    (lowest-onward _ _ (p .0 .3) _ _ (going .here) (c .first-shared .ensures))
+    (lowest-onward _ _ (p .0 .3) _ _ (going .here) (c .first-common .ensures))
 
 returns : tie.Need-returns Inv-loop μ-loop
 returns c = going-end _ _ _ _ _ (c .before .loop .inv) (entry-at (c .before) .pre .1 .0) (c .loop-test .left)

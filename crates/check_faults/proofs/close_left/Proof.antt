@@ -14,6 +14,6 @@ close-left-spec =
     (λ c κs. search needs)
     (λ c κs. search needs)
     (λ c. search needs)
-    (λ c. let e = c .before .before .close .ensures in record { reached = λ i h f. e .reached i i h h; long = e .long })
+    (λ c. let e = c .before .before .close-all .ensures in record { reached = λ i h f. e .reached i i h h; long = e .long })
     (λ c. let l = c .before .first-left .ensures in
     record { reached = λ i h f. absurd (true≢false (sym (l .before i (omega (arith, c .if1 .left))) ∙ f)); long = refl }))

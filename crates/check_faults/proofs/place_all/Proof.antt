@@ -10,4 +10,4 @@ place-all-spec =
     (tie.spec
     (λ c. search needs)
     (λ c κs. let p = c .before .before .pre in (p .0, search needs, p .1, p .2))
-    (λ c. let p = c .before .before .before .before .pre in placed-on _ _ (p .1) _ _ _ _ (c .before .order-of .ensures)))
+    (λ c. let p = c .before .before .before .before .pre in placed-on _ _ (p .1) _ _ _ _ (c .before .arrange .ensures)))

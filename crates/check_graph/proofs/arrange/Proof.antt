@@ -64,8 +64,8 @@ Inv-loop rows met n out₀ set₀ count₀ out set count = Turn (bytesOf rows) (
 abbrev μ-loop : tie.MeasureT-loop
 μ-loop rows met n out₀ set₀ count₀ out set count = n - count
 
-pub order-of-spec : {M : Type 1} → statement M
-order-of-spec =
+pub arrange-spec : {M : Type 1} → statement M
+arrange-spec =
     tie.close
     (tie.spec
     Inv-loop

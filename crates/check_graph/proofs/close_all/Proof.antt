@@ -12,8 +12,8 @@ Inv-loop rows₀ n k₀ rows k = Closing rows₀ n rows k
 abbrev μ-loop : tie.MeasureT-loop
 μ-loop rows₀ n k₀ rows k = n - k
 
-pub close-spec : {M : Type 1} → statement M
-close-spec =
+pub close-all-spec : {M : Type 1} → statement M
+close-all-spec =
     tie.close
     (tie.spec
     Inv-loop

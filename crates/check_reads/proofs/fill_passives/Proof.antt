@@ -27,8 +27,8 @@ Inv-loop d ev n rows₀ i₀ rows i = Filled (row d ev n) n rows₀ rows i
 abbrev μ-loop : tie.MeasureT-loop
 μ-loop d ev n rows₀ i₀ rows i = n - i
 
-pub fill-rows-spec : {M : Type 1} → statement M
-fill-rows-spec =
+pub fill-passives-spec : {M : Type 1} → statement M
+fill-passives-spec =
     tie.close
     (tie.spec
     Inv-loop

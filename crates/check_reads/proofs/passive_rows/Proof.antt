@@ -11,4 +11,4 @@ passive-rows-spec =
     (λ c κs. search needs)
     (λ c κs. search needs)
     (λ c. search needs)
-    (λ c. c .before .before .close-rows .ensures _ (c .before .before .before .before .before .before .fill-rows .ensures)))
+    (λ c. c .before .before .close-rows .ensures _ (c .before .before .before .before .before .before .fill-passives .ensures)))

@@ -9,7 +9,7 @@ list-members-requires : tie.Need-list-members-requires
 list-members-requires c κs =
     let p = c .before .before .before .before .before .pre in
     let w = best-as _ _ _ (p .0 .2) (p .0 .1) (p .1 .0) (p .1 .1) (c .before .before .shortest .ensures) in
-    let q = c .before .event-at .ensures in
+    let q = c .before .event-of-turn .ensures in
     let e = event-here _ _ _ w q in
     ((p .0 .0, omega (arith, e), p .0 .2, p .0 .3 _ e), (search needs, w .member, back-here _ _ _ w q))
 
@@ -18,7 +18,7 @@ hand-over-requires c κs =
     let at-event-at = c .before .before .before .before .before in
     let p = at-event-at .before .before .before .before .pre in
     let w = best-as _ _ _ (p .0 .2) (p .0 .1) (p .1 .0) (p .1 .1) (at-event-at .before .shortest .ensures) in
-    let q = at-event-at .event-at .ensures in
+    let q = at-event-at .event-of-turn .ensures in
     let f = count-few _ _ _ (p .0 .2) (p .0 .1) (p .1 .0) w q (c .before .before .before .list-members .ensures) in
     omega (arith, f, c .before .before .before .list-members .kept .1 .1 .1 .1 .0)
 
@@ -29,7 +29,7 @@ mul-result c =
     let p = at-entry .pre in
     let w = best-as _ _ _ (p .0 .2) (p .0 .1) (p .1 .0) (p .1 .1)
     (at-list-members .before .before .before .shortest .ensures) in
-    let q = at-list-members .before .before .event-at .ensures in
+    let q = at-list-members .before .before .event-of-turn .ensures in
     let f = count-few _ _ _ (p .0 .2) (p .0 .1) (p .1 .0) w q (at-list-members .list-members .ensures) in
     let x = number-small _ _ _ (c .event-number .ensures) (p .0 .1) in
     omega (arith, f, x)
@@ -41,7 +41,7 @@ add-result c =
     let p = at-entry .pre in
     let w = best-as _ _ _ (p .0 .2) (p .0 .1) (p .1 .0) (p .1 .1)
     (at-list-members .before .before .before .shortest .ensures) in
-    let q = at-list-members .before .before .event-at .ensures in
+    let q = at-list-members .before .before .event-of-turn .ensures in
     let f = count-few _ _ _ (p .0 .2) (p .0 .1) (p .1 .0) w q (at-list-members .list-members .ensures) in
     let x = number-small _ _ _ (c .event-number .ensures) (p .0 .1) in
     omega (arith, f, x)
@@ -53,7 +53,7 @@ mul-result-2 c =
     let p = at-entry .pre in
     let w = best-as _ _ _ (p .0 .2) (p .0 .1) (p .1 .0) (p .1 .1)
     (at-list-members .before .before .before .shortest .ensures) in
-    let q = at-list-members .before .before .event-at .ensures in
+    let q = at-list-members .before .before .event-of-turn .ensures in
     let f = count-few _ _ _ (p .0 .2) (p .0 .1) (p .1 .0) w q (at-list-members .list-members .ensures) in
     let x = number-small _ _ _ (c .event-number .ensures) (p .0 .1) in
     omega (arith, f, x)
@@ -65,7 +65,7 @@ add-result-2 c =
     let p = at-entry .pre in
     let w = best-as _ _ _ (p .0 .2) (p .0 .1) (p .1 .0) (p .1 .1)
     (at-list-members .before .before .before .shortest .ensures) in
-    let q = at-list-members .before .before .event-at .ensures in
+    let q = at-list-members .before .before .event-of-turn .ensures in
     let f = count-few _ _ _ (p .0 .2) (p .0 .1) (p .1 .0) w q (at-list-members .list-members .ensures) in
     let x = number-small _ _ _ (c .event-number .ensures) (p .0 .1) in
     omega (arith, f, x)
@@ -77,7 +77,7 @@ returns c =
     let p = at-entry .pre in
     let w = best-as _ _ _ (p .0 .2) (p .0 .1) (p .1 .0) (p .1 .1)
     (at-list-members .before .before .before .shortest .ensures) in
-    let q = at-list-members .before .before .event-at .ensures in
+    let q = at-list-members .before .before .event-of-turn .ensures in
     found-is _ _ _ (p .0 .2) (p .0 .1) (p .1 .0) w q (at-list-members .list-members .ensures)
     (c .before .before .before .hand-over .ensures) (c .event-number .ensures)
 

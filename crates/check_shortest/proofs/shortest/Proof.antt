@@ -25,9 +25,9 @@ shortest-spec =
     (λ c κs.
     let p = c .before .before .before .before .before .before .pre in
     let i = c .before .before .before .before .loop .inv in
-    let e = turn-event _ _ (c .before .before .before .loop-test .taken) (c .before .before .event-at .ensures) in
+    let e = turn-event _ _ (c .before .before .before .loop-test .taken) (c .before .before .event-of-turn .ensures) in
     ((p .0, i .wide, i .long, omega arith, p .2, p .3 _ e), omega arith))
     (λ c. omega arith)
     (λ c. omega arith)
-    (λ c. passing-turn (c .before .before .before .before .before .before .before .loop .inv) (c .before .before .before .before .before .before .loop-test .taken) (c .before .before .before .before .before .event-at .ensures) (c .before .before .best-under .ensures) (c .before .before .best-under .kept .1 .1 .1 .1 .0) (c .before .before .best-under .kept .1 .1 .1 .1 .1 .0))
+    (λ c. passing-turn (c .before .before .before .before .before .before .before .loop .inv) (c .before .before .before .before .before .before .loop-test .taken) (c .before .before .before .before .before .event-of-turn .ensures) (c .before .before .best-under .ensures) (c .before .before .best-under .kept .1 .1 .1 .1 .0) (c .before .before .best-under .kept .1 .1 .1 .1 .1 .0))
     (λ c. passing-end (c .before .loop .inv) (omega arith)))

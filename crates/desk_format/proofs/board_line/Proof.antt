@@ -17,31 +17,31 @@ Inv-loop values out₀ at₀ i₀ t6 out at i =
 abbrev μ-loop : tie.MeasureT-loop
 μ-loop values out₀ at₀ i₀ t6 out at i = length values - i
 
-slice-aggregate-put : tie.Need-slice-aggregate-put Inv-loop μ-loop
-slice-aggregate-put c = refl
+slice-aggregate-print-text : tie.Need-slice-aggregate-print-text Inv-loop μ-loop
+slice-aggregate-print-text c = refl
 
-put-requires : tie.Need-put-requires Inv-loop μ-loop
-put-requires c κs = omega arith
+print-text-requires : tie.Need-print-text-requires Inv-loop μ-loop
+print-text-requires c κs = omega arith
 
 loop-holds : tie.Need-loop-holds Inv-loop μ-loop
 loop-holds c = (
   omega arith,
-  omega (arith, c .before .before .put .ensures .1 .0),
+  omega (arith, c .before .before .print-text .ensures .1 .0),
   refl,
   rw
-      (c .before .before .put .ensures .1 .1) refl,
+      (c .before .before .print-text .ensures .1 .1) refl,
 )
 
-mul-put-value : tie.Need-mul-put-value Inv-loop μ-loop
-mul-put-value c = search needs
+mul-print-cell : tie.Need-mul-print-cell Inv-loop μ-loop
+mul-print-cell c = search needs
 
-shared-slice-read-put-value : tie.Need-shared-slice-read-put-value Inv-loop μ-loop
-shared-slice-read-put-value c = search needs
+shared-slice-read-print-cell : tie.Need-shared-slice-read-print-cell Inv-loop μ-loop
+shared-slice-read-print-cell c = search needs
 
-put-value-requires : tie.Need-put-value-requires Inv-loop μ-loop
-put-value-requires c κs =
+print-cell-requires : tie.Need-print-cell-requires Inv-loop μ-loop
+print-cell-requires c κs =
     let at-put = c .before .before .before .before .before .before in
-    omega (arith, at-put .put .kept .0)
+    omega (arith, at-put .print-text .kept .0)
 
 add-i : tie.Need-add-i Inv-loop μ-loop
 add-i c = search needs
@@ -55,40 +55,40 @@ loop-again c =
     let at-loop-test = at-put-value .before .before .before in
     let at-loop = at-loop-test .before in (
       omega arith,
-      omega (arith, at-put-value .put-value .ensures .0),
-      at-put-value .put-value .kept .0 ∙
+      omega (arith, at-put-value .print-cell .ensures .0),
+      at-put-value .print-cell .kept .0 ∙
           at-loop .loop .inv .2,
       turn _ (take (at-loop .loop .at) (at-loop .loop .out)) _ _ _
-          (at-loop-test .loop-test .taken) (at-put-value .put-value .ensures .1) (at-loop .loop .inv .3),
+          (at-loop-test .loop-test .taken) (at-put-value .print-cell .ensures .1) (at-loop .loop .inv .3),
     )
 
-slice-aggregate-put-2 : tie.Need-slice-aggregate-put-2 Inv-loop μ-loop
-slice-aggregate-put-2 c = refl
+slice-aggregate-print-text-2 : tie.Need-slice-aggregate-print-text-2 Inv-loop μ-loop
+slice-aggregate-print-text-2 c = refl
 
-put-requires-2 : tie.Need-put-requires-2 Inv-loop μ-loop
-put-requires-2 c κs =
+print-text-requires-2 : tie.Need-print-text-requires-2 Inv-loop μ-loop
+print-text-requires-2 c κs =
     let at-put = c .before .before .before .before .before .before in
-    omega (arith, at-put .put .kept .0)
+    omega (arith, at-put .print-text .kept .0)
 
 same-length : tie.Need-same-length Inv-loop μ-loop
 same-length c =
     let at-put2 = c .before .before in
     let at-loop = at-put2 .before .before .before .before in
     let at-put = at-loop .before .before .before in
-    at-put2 .put2 .kept .0 ∙ at-loop .loop .inv .2 ∙ at-put .put .kept .0
+    at-put2 .print-text2 .kept .0 ∙ at-loop .loop .inv .2 ∙ at-put .print-text .kept .0
 
 returns : tie.Need-returns Inv-loop μ-loop
 returns c =
     let at-put2 = c .before .before in
     let at-loop-test = at-put2 .before .before .before in
     let at-loop = at-loop-test .before in (
-      at-put2 .put2 .ensures .0,
+      at-put2 .print-text2 .ensures .0,
       board-text _ (take (at-loop .loop .at) (at-loop .loop .out)) _ _
-          (at-loop-test .loop-test .left) (at-loop .loop .inv .3) (at-put2 .put2 .ensures .1 .1),
+          (at-loop-test .loop-test .left) (at-loop .loop .inv .3) (at-put2 .print-text2 .ensures .1 .1),
     )
 
 pub board-line-spec : {M : Type 1} → statement M
 board-line-spec =
     tie.close
-    (tie.spec Inv-loop μ-loop slice-aggregate-put put-requires loop-holds mul-put-value shared-slice-read-put-value
-    put-value-requires add-i loop-less loop-again slice-aggregate-put-2 put-requires-2 same-length returns)
+    (tie.spec Inv-loop μ-loop slice-aggregate-print-text print-text-requires loop-holds mul-print-cell shared-slice-read-print-cell
+    print-cell-requires add-i loop-less loop-again slice-aggregate-print-text-2 print-text-requires-2 same-length returns)

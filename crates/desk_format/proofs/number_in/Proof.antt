@@ -6,9 +6,9 @@ use Rattle.desk_format.specs.Script.{argumentNumber}
 use Rattle.desk_format.proofs.number_in.Statement.{statement}
 use Rattle.desk_format.proofs.number_in.Tie as tie
 
-pub number-spec : {M : Type 1} → statement M
+pub number-in-spec : {M : Type 1} → statement M
 unfolding argumentNumber
-number-spec =
+number-in-spec =
     tie.close
     (tie.spec
     (λ c. search needs)

@@ -9,11 +9,11 @@ use Rattle.desk_format.proofs.Laws.{after}
 use Rattle.desk_format.proofs.print_cell.Statement.{statement}
 use Rattle.desk_format.proofs.print_cell.Tie as tie
 
-slice-aggregate-put : tie.Need-slice-aggregate-put
-slice-aggregate-put c = search needs
+slice-aggregate-print-text : tie.Need-slice-aggregate-print-text
+slice-aggregate-print-text c = search needs
 
-put-requires : tie.Need-put-requires
-put-requires c κs = search needs
+print-text-requires : tie.Need-print-text-requires
+print-text-requires c κs = search needs
 
 put-signed-requires : tie.Need-put-signed-requires
 put-signed-requires c κs = search needs
@@ -28,13 +28,13 @@ returns c =
     let at-entry = at-put .before .before .before .before in
     let d = at-put-signed .put-signed .ensures in
     let a = at-entry .args in
-    let p = at-put .put .ensures in (
+    let p = at-put .print-text .ensures in (
       omega (arith, d .0, p .1 .0),
       after (take (a .at) (a .out .now)) _ _ (32 ∷ []) (signedText (a .w))
           (32 ∷ signedText (a .w)) (d .1) (p .1 .1) refl,
     )
 
-pub put-value-spec : {M : Type 1} → statement M
-put-value-spec =
+pub print-cell-spec : {M : Type 1} → statement M
+print-cell-spec =
     tie.close
-    (tie.spec slice-aggregate-put put-requires put-signed-requires same-length returns)
+    (tie.spec slice-aggregate-print-text print-text-requires put-signed-requires same-length returns)

@@ -8,8 +8,8 @@ use Rattle.desk_format.proofs.Laws.{joined, counts}
 use Rattle.desk_format.proofs.print_text.Statement.{statement}
 use Rattle.desk_format.proofs.print_text.Tie as tie
 
-pub put-spec : {M : Type 1} → statement M
-put-spec =
+pub print-text-spec : {M : Type 1} → statement M
+print-text-spec =
     tie.close
     (tie.spec
     (λ c. search needs)

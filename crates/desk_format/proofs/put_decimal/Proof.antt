@@ -22,6 +22,6 @@ put-decimal-spec =
     (λ c. search needs)
     (λ c.
     let d = c .before .before .before .before .before .decimal in
-    let p = c .before .before .put .ensures in
+    let p = c .before .before .print-text .ensures in
     let k : d .result ≤ 20 = at-most 19 _ (c .before .before .before .before .before .before .before .before .args .n) (omega arith) (d .ensures .1 .0) in
     (omega (arith, p .1 .0, d .ensures .0, k), p .1 .1 ∙ ap (λ (l : List ℕ). take (c .before .before .before .before .before .before .before .before .args .at) (c .before .before .before .before .before .before .before .before .args .out .now) ++ l) (d .ensures .1 .1 ∙ spelled 20 _ _ k (d .ensures .1 .0)))))

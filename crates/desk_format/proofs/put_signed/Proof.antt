@@ -27,11 +27,11 @@ returns c =
           (ap (λ (l : List ℕ). take (at-entry .args .at) (at-entry .args .out .now) ++ l) (search code depth 12)),
     )
 
-slice-aggregate-put : tie.Need-slice-aggregate-put
-slice-aggregate-put c = search needs
+slice-aggregate-print-text : tie.Need-slice-aggregate-print-text
+slice-aggregate-print-text c = search needs
 
-put-requires : tie.Need-put-requires
-put-requires c κs = search needs
+print-text-requires : tie.Need-print-text-requires
+print-text-requires c κs = search needs
 
 sub-put-decimal : tie.Need-sub-put-decimal
 sub-put-decimal c = search needs
@@ -50,7 +50,7 @@ returns-2 c =
     let at-entry = at-put .before .before .before .before .before in
     let d = at-put-decimal2 .put-decimal2 .ensures in
     let a = at-entry .args in
-    let p = at-put .put .ensures in (
+    let p = at-put .print-text .ensures in (
       omega (arith, d .0, p .1 .0),
       after (take (a .at) (a .out .now)) _ _ (45 ∷ []) (decimalText (4294967296 - a .w))
           (signedText (a .w)) (d .1) (p .1 .1) (negative (a .w) (omega arith)),
@@ -59,5 +59,5 @@ returns-2 c =
 pub put-signed-spec : {M : Type 1} → statement M
 put-signed-spec =
     tie.close
-    (tie.spec put-decimal-requires same-length returns slice-aggregate-put put-requires sub-put-decimal
+    (tie.spec put-decimal-requires same-length returns slice-aggregate-print-text print-text-requires sub-put-decimal
     put-decimal-requires-2 same-length-2 returns-2)

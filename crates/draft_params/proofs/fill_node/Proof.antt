@@ -12,5 +12,5 @@ fill-node-spec =
     (tie.spec
     (λ c κs. search needs)
     (λ c. search needs)
-    (λ c. rw (← c .value-of .ensures .0) (search code depth 12))
+    (λ c. rw (← c .parameter-value .ensures .0) (search code depth 12))
     (λ c. search code depth 12))

@@ -11,7 +11,7 @@ use Rattle.front_behaviours.proofs.read_active.Tie as tie
 returns : tie.Need-returns
 returns c = (
   active-refused _ _ _ _ _ (c .before .before .before .field-answer .ensures .0) (c .before .enum-told .given .1)
-      (c .number .ensures),
+      (c .refusal-in .ensures),
   tt,
 )
 

@@ -10,7 +10,7 @@ returns : tie.Need-returns
 returns c = (
   behaviour-refused _ _ _ _ _ (c .before .before .before .before .before .least-tag .ensures)
       (c .before .before .before .before .most-tag .ensures) (c .before .before .before .field-answer .ensures .0)
-      (c .before .enum-told .given .1) (c .number .ensures),
+      (c .before .enum-told .given .1) (c .refusal-in .ensures),
   (tt, tt),
 )
 

@@ -9,7 +9,7 @@ use Rattle.front_behaviours.proofs.read_handler.Tie as tie
 returns : tie.Need-returns
 returns c = (
   handler-refused _ _ _ _ _ (c .before .before .before .field-answer .ensures .0)
-      (c .before .enum-told2 .given .1) (c .number .ensures),
+      (c .before .enum-told2 .given .1) (c .refusal-in .ensures),
   tt,
 )
 

@@ -21,7 +21,7 @@ read-head-spec =
     (λ c.
     let told = c .before .enum-told .given .1 in
     let e = sym (c .before .before .before .field-answer .ensures .0) ∙ told in
-    let said = c .number .ensures ∙ ap fieldRefusal told in
+    let said = c .refusal-in .ensures ∙ ap fieldRefusal told in
     (rw e (ap NoHead said), (rw said (refused-some (c .before .before .before .before .before .args .s .now) 16 19 _ e), rw e (omega arith))))
     (λ c κs. search needs)
     (λ c κs. search needs)

@@ -10,10 +10,10 @@ returns : tie.Need-returns
 returns c = (
   event-refused _ _ _ (c .before .before .before .before .before .least-tag .ensures)
       (c .before .before .before .before .most-tag .ensures) (c .before .before .before .field-answer .ensures .0)
-      (c .before .enum-told .given .1) (c .number .ensures),
+      (c .before .enum-told .given .1) (c .refusal-in .ensures),
   event-some _ (c .before .before .before .before .before .least-tag .ensures)
       (c .before .before .before .before .most-tag .ensures) (c .before .before .before .field-answer .ensures .0)
-      (c .before .enum-told .given .1) (c .number .ensures),
+      (c .before .enum-told .given .1) (c .refusal-in .ensures),
 )
 
 returns-2 : tie.Need-returns-2

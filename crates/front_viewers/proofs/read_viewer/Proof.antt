@@ -12,7 +12,7 @@ read-viewer-spec =
     (λ c. search needs)
     (λ c. search needs)
     (λ c κs. search needs)
-    (λ c. (viewer-refused _ _ _ _ _ (c .before .before .before .field-answer .ensures .0) (c .before .enum-told2 .given .1) (c .number .ensures), tt))
+    (λ c. (viewer-refused _ _ _ _ _ (c .before .before .before .field-answer .ensures .0) (c .before .enum-told2 .given .1) (c .refusal-in .ensures), tt))
     (λ c κs. search needs)
     (λ c κs. search needs)
     (λ c. search needs)

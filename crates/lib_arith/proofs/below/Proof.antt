@@ -12,8 +12,8 @@ below-spec =
     (tie.spec (search needs) (search needs)
     (λ c.
     rw (
-      c .before .number .ensures,
-      c .number2 .ensures,
+      c .before .whole .ensures,
+      c .whole2 .ensures,
       number-back (view (c .before .before .args .a) (omega arith)),
       number-back (view (c .before .before .args .b) (omega arith)),
     )))

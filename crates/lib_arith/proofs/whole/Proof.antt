@@ -6,8 +6,8 @@ use Rattle.lib_arith.proofs.Wide.{number-fits, number-back, shifted}
 use Rattle.lib_arith.proofs.whole.Statement.{statement}
 use Rattle.lib_arith.proofs.whole.Tie as tie
 
-pub number-spec : {M : Type 1} → statement M
-number-spec =
+pub whole-spec : {M : Type 1} → statement M
+whole-spec =
     tie.close
     (tie.spec (search needs) (search needs) (search needs)
     (λ c.

@@ -24,14 +24,14 @@ both-requires c κs = search needs
 opposite-requires : tie.Need-opposite-requires
 opposite-requires c κs = search needs
 
-sum-requires : tie.Need-sum-requires
-sum-requires c κs = search needs
+marked-sum-requires : tie.Need-marked-sum-requires
+marked-sum-requires c κs = search needs
 
-difference-requires : tie.Need-difference-requires
-difference-requires c κs = search needs
+marked-difference-requires : tie.Need-marked-difference-requires
+marked-difference-requires c κs = search needs
 
-product-requires : tie.Need-product-requires
-product-requires c κs = search needs
+marked-product-requires : tie.Need-marked-product-requires
+marked-product-requires c κs = search needs
 
 quotient-requires : tie.Need-quotient-requires
 quotient-requires c κs = search needs
@@ -39,26 +39,26 @@ quotient-requires c κs = search needs
 below-requires : tie.Need-below-requires
 below-requires c κs = search needs
 
-bit-requires : tie.Need-bit-requires
-bit-requires c κs = search needs
+truth-requires : tie.Need-truth-requires
+truth-requires c κs = search needs
 
 below-requires-2 : tie.Need-below-requires-2
 below-requires-2 c κs = search needs
 
-bit-requires-2 : tie.Need-bit-requires-2
-bit-requires-2 c κs = search needs
+truth-requires-2 : tie.Need-truth-requires-2
+truth-requires-2 c κs = search needs
 
 below-requires-3 : tie.Need-below-requires-3
 below-requires-3 c κs = search needs
 
-bit-requires-3 : tie.Need-bit-requires-3
-bit-requires-3 c κs = search needs
+truth-requires-3 : tie.Need-truth-requires-3
+truth-requires-3 c κs = search needs
 
 below-requires-4 : tie.Need-below-requires-4
 below-requires-4 c κs = search needs
 
-bit-requires-4 : tie.Need-bit-requires-4
-bit-requires-4 c κs = search needs
+truth-requires-4 : tie.Need-truth-requires-4
+truth-requires-4 c κs = search needs
 
 same-requires : tie.Need-same-requires
 same-requires c κs = search needs
@@ -83,15 +83,15 @@ returns-3 c = rw (c .before .match .keys3) (c .opposite .ensures)
 
 returns-4 : tie.Need-returns-4
 unfolding markedResult over result exact
-returns-4 c = rw (c .before .match .keys4) (c .sum .ensures)
+returns-4 c = rw (c .before .match .keys4) (c .marked-sum .ensures)
 
 returns-5 : tie.Need-returns-5
 unfolding markedResult over result exact
-returns-5 c = rw (c .before .match .keys5) (c .difference .ensures)
+returns-5 c = rw (c .before .match .keys5) (c .marked-difference .ensures)
 
 returns-6 : tie.Need-returns-6
 unfolding markedResult over result exact
-returns-6 c = rw (c .before .match .keys6) (c .product .ensures)
+returns-6 c = rw (c .before .match .keys6) (c .marked-product .ensures)
 
 returns-7 : tie.Need-returns-7
 unfolding markedResult over result exact
@@ -100,25 +100,25 @@ returns-7 c = rw (c .before .match .keys7) (c .quotient .ensures)
 returns-8 : tie.Need-returns-8
 unfolding markedResult over result exact
 returns-8 c =
-    rw (c .before .before .match .keys8) (c .bit .ensures ∙ ap (λ (t : Bool). reported (truth t))
+    rw (c .before .before .match .keys8) (c .truth .ensures ∙ ap (λ (t : Bool). reported (truth t))
     (c .before .below .ensures))
 
 returns-9 : tie.Need-returns-9
 unfolding markedResult over result exact
 returns-9 c =
-    rw (c .before .before .match .keys9) (c .bit2 .ensures ∙ ap (λ (t : Bool). reported (truth (not t)))
+    rw (c .before .before .match .keys9) (c .truth2 .ensures ∙ ap (λ (t : Bool). reported (truth (not t)))
     (c .before .below2 .ensures))
 
 returns-10 : tie.Need-returns-10
 unfolding markedResult over result exact
 returns-10 c =
-    rw (c .before .before .match .keys10) (c .bit3 .ensures ∙ ap (λ (t : Bool). reported (truth t))
+    rw (c .before .before .match .keys10) (c .truth3 .ensures ∙ ap (λ (t : Bool). reported (truth t))
     (c .before .below3 .ensures))
 
 returns-11 : tie.Need-returns-11
 unfolding markedResult over result exact
 returns-11 c =
-    rw (c .before .before .match .keys11) (c .bit4 .ensures ∙ ap (λ (t : Bool). reported (truth (not t)))
+    rw (c .before .before .match .keys11) (c .truth4 .ensures ∙ ap (λ (t : Bool). reported (truth (not t)))
     (c .before .below4 .ensures))
 
 returns-12 : tie.Need-returns-12
@@ -144,8 +144,8 @@ returns-15 c =
 pub apply-spec : {M : Type 1} → statement M
 apply-spec =
     tie.close
-    (tie.spec either-requires both-requires opposite-requires sum-requires difference-requires product-requires
-    quotient-requires below-requires bit-requires below-requires-2 bit-requires-2 below-requires-3 bit-requires-3
-    below-requires-4 bit-requires-4 same-requires differ-requires choose-requires returns returns-2 returns-3
+    (tie.spec either-requires both-requires opposite-requires marked-sum-requires marked-difference-requires marked-product-requires
+    quotient-requires below-requires truth-requires below-requires-2 truth-requires-2 below-requires-3 truth-requires-3
+    below-requires-4 truth-requires-4 same-requires differ-requires choose-requires returns returns-2 returns-3
     returns-4 returns-5 returns-6 returns-7 returns-8 returns-9 returns-10 returns-11 returns-12 returns-13
     returns-14 returns-15)

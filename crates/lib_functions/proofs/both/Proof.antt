@@ -10,4 +10,4 @@ both-spec =
     (tie.spec
     (λ c κs. search needs)
     (λ c. and-first-false (c .before .args .a) (c .before .args .b) (c .if1 .taken))
-    (λ c. and-first-true (c .before .before .args .a) (c .before .before .args .b) _ (c .before .if1 .left) (c .bit .ensures)))
+    (λ c. and-first-true (c .before .before .args .a) (c .before .before .args .b) _ (c .before .if1 .left) (c .truth .ensures)))

@@ -9,5 +9,5 @@ either-spec =
     tie.close
     (tie.spec
     (λ c κs. search needs)
-    (λ c. or-first-false (c .before .before .args .a) (c .before .before .args .b) _ (c .before .if1 .taken) (c .bit .ensures))
+    (λ c. or-first-false (c .before .before .args .a) (c .before .before .args .b) _ (c .before .if1 .taken) (c .truth .ensures))
     (λ c. or-first-true (c .before .args .a) (c .before .args .b) (c .if1 .left)))

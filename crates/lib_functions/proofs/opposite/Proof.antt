@@ -13,4 +13,4 @@ opposite-spec =
     tie.close
     (tie.spec
     (λ c κs. search needs)
-    (λ c. c .bit .ensures ∙ ap (λ (t : Bool). reported (truth t)) (not-of (c .before .args .a))))
+    (λ c. c .truth .ensures ∙ ap (λ (t : Bool). reported (truth t)) (not-of (c .before .args .a))))

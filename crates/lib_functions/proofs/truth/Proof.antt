@@ -3,6 +3,6 @@ use Rattle.lib_arith.specs.Exact.{beyond}
 use Rattle.lib_functions.proofs.truth.Statement.{statement}
 use Rattle.lib_functions.proofs.truth.Tie as tie
 
-pub bit-spec : {M : Type 1} → statement M
+pub truth-spec : {M : Type 1} → statement M
 unfolding beyond
-bit-spec = tie.close (tie.spec (λ c. rw (c .if1 .taken)) (λ c. rw (c .if1 .left)))
+truth-spec = tie.close (tie.spec (λ c. rw (c .if1 .taken)) (λ c. rw (c .if1 .left)))

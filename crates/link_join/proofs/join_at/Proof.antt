@@ -4,8 +4,8 @@ use Rattle.link_join.proofs.JoinLaws.{first-refused, second-refused, bo
 use Rattle.link_join.proofs.join_at.Statement.{statement}
 use Rattle.link_join.proofs.join_at.Tie as tie
 
-number-at-requires : tie.Need-number-at-requires
-number-at-requires c κs = search needs
+compile-number-requires : tie.Need-compile-number-requires
+compile-number-requires c κs = search needs
 
 cast-result : tie.Need-cast-result
 cast-result c = search needs
@@ -14,10 +14,10 @@ returns : tie.Need-returns
 returns c =
     let at-entry = c .before .before .before .before .before .before in
     first-refused (at-entry .args .first .now) (at-entry .args .second .now) (at-entry .args .params .now)
-    (at-entry .args .buffer .now) _ 0 (c .before .number-at .ensures) (c .if1 .taken)
+    (at-entry .args .buffer .now) _ 0 (c .before .compile-number .ensures) (c .if1 .taken)
 
-number-at-requires-2 : tie.Need-number-at-requires-2
-number-at-requires-2 c κs = search needs
+compile-number-requires-2 : tie.Need-compile-number-requires-2
+compile-number-requires-2 c κs = search needs
 
 cast-result-2 : tie.Need-cast-result-2
 cast-result-2 c = search needs
@@ -28,8 +28,8 @@ returns-2 c =
     let at-number = at-if1 .before in
     let at-entry = at-number .before .before .before .before .before in
     second-refused (at-entry .args .first .now) (at-entry .args .second .now) (at-entry .args .params .now)
-    (at-entry .args .buffer .now) _ _ (at-number .number-at .ensures) (at-if1 .if1 .left)
-    (c .before .number-at2 .ensures) (c .if2 .taken)
+    (at-entry .args .buffer .now) _ _ (at-number .compile-number .ensures) (at-if1 .if1 .left)
+    (c .before .compile-number2 .ensures) (c .if2 .taken)
 
 pool-at-requires : tie.Need-pool-at-requires
 pool-at-requires c κs = search needs
@@ -46,11 +46,11 @@ returns-3 c =
     let at-number = at-if1 .before in
     let at-entry = at-number .before .before .before .before .before in
     both-taken (at-entry .args .first .now) (at-entry .args .second .now) (at-entry .args .params .now)
-    (at-entry .args .buffer .now) _ _ (at-number .number-at .ensures) (at-if1 .if1 .left)
-    (at-number2 .number-at2 .ensures) (at-if2 .if2 .left) _ (at-pool-at .pool-at .ensures)
+    (at-entry .args .buffer .now) _ _ (at-number .compile-number .ensures) (at-if1 .if1 .left)
+    (at-number2 .compile-number2 .ensures) (at-if2 .if2 .left) _ (at-pool-at .pool-at .ensures)
 
 pub join-at-spec : {M : Type 1} → statement M
 join-at-spec =
     tie.close
-    (tie.spec number-at-requires cast-result returns number-at-requires-2 cast-result-2 returns-2 pool-at-requires
+    (tie.spec compile-number-requires cast-result returns compile-number-requires-2 cast-result-2 returns-2 pool-at-requires
     same-length returns-3)

@@ -4,8 +4,8 @@ use Rattle.link_join.proofs.JoinLaws.{not-taken, is-taken}
 use Rattle.link_join.proofs.result_at.Statement.{statement}
 use Rattle.link_join.proofs.result_at.Tie as tie
 
-number-at-requires : tie.Need-number-at-requires
-number-at-requires c κs = search needs
+compile-number-requires : tie.Need-compile-number-requires
+compile-number-requires c κs = search needs
 
 cast-result : tie.Need-cast-result
 cast-result c = search needs
@@ -14,7 +14,7 @@ returns : tie.Need-returns
 returns c =
     let at-entry = c .before .before .before .before .before in
     not-taken (at-entry .args .v .now) (at-entry .args .params .now) (at-entry .args .buffer .now) _
-    (c .before .number-at .ensures) (c .if1 .taken)
+    (c .before .compile-number .ensures) (c .if1 .taken)
 
 put-result-requires : tie.Need-put-result-requires
 put-result-requires c κs = search needs
@@ -29,9 +29,9 @@ returns-2 c =
     let at-number = at-if1 .before in
     let at-entry = at-number .before .before .before .before in
     is-taken (at-entry .args .v .now) (at-entry .args .params .now) (at-entry .args .buffer .now) _
-    (at-number .number-at .ensures) (at-if1 .if1 .left) _ (at-put-result .put-result .ensures)
+    (at-number .compile-number .ensures) (at-if1 .if1 .left) _ (at-put-result .put-result .ensures)
 
 pub result-at-spec : {M : Type 1} → statement M
 result-at-spec =
     tie.close
-    (tie.spec number-at-requires cast-result returns put-result-requires same-length returns-2)
+    (tie.spec compile-number-requires cast-result returns put-result-requires same-length returns-2)

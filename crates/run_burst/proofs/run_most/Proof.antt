@@ -48,8 +48,8 @@ returns-4 c =
       omega (arith, ran .run-from .ensures .1 .0, read .smaller .ensures),
     )
 
-pub run-on-spec : {M : Type 1} → statement M
-run-on-spec =
+pub run-most-spec : {M : Type 1} → statement M
+run-most-spec =
     tie.close
     (tie.spec
     (λ c. (none-ran (c .before .before .before .pre .0), omega arith))

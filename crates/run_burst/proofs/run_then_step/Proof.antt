@@ -10,20 +10,20 @@ returns : tie.Need-returns
 returns c =
     let ran = c .before .before .before in
     let entry = ran .before .before .before .before in
-    all-ran (entry .pre .1) (ran .run-on .ensures .0) (ran .run-on .ensures .1) (entry .pre .2) (c .if1 .taken)
+    all-ran (entry .pre .1) (ran .run-most .ensures .0) (ran .run-most .ensures .1) (entry .pre .2) (c .if1 .taken)
 
 step-on-requires : tie.Need-step-on-requires
 step-on-requires c κs =
     let ran = c .before .before .before .before in
     let entry = ran .before .before .before .before in
-    (ran .run-on .ensures .0 .sound, ran .run-on .ensures .0 .rank ∙ entry .pre .1)
+    (ran .run-most .ensures .0 .sound, ran .run-most .ensures .0 .rank ∙ entry .pre .1)
 
 returns-2 : tie.Need-returns-2
 returns-2 c =
     let ran = c .before .before .before .before .before .before .before .before .before in
     let entry = ran .before .before .before .before in
     let step = c .before .before .before .before .step-on .ensures in
-    not-made (entry .pre .1) (ran .run-on .ensures .0) (ran .run-on .ensures .1) (entry .pre .2) (c .before .before .before .before .before .before .if1 .left)
+    not-made (entry .pre .1) (ran .run-most .ensures .0) (ran .run-most .ensures .1) (entry .pre .2) (c .before .before .before .before .before .before .if1 .left)
     (step .0) (step .1) (sym (c .before .is-unmade .ensures) ∙ c .if2 .taken)
 
 returns-3 : tie.Need-returns-3
@@ -31,7 +31,7 @@ returns-3 c =
     let ran = c .before .before .before .before .before .before .before .before .before in
     let entry = ran .before .before .before .before in
     let step = c .before .before .before .before .step-on .ensures in
-    one-made (entry .pre .1) (ran .run-on .ensures .0) (ran .run-on .ensures .1) (entry .pre .2) (c .before .before .before .before .before .before .if1 .left)
+    one-made (entry .pre .1) (ran .run-most .ensures .0) (ran .run-most .ensures .1) (entry .pre .2) (c .before .before .before .before .before .before .if1 .left)
     (step .0) (step .1) (sym (c .before .is-unmade .ensures) ∙ c .if2 .left)
 
 pub run-then-step-spec : {M : Type 1} → statement M
@@ -40,8 +40,8 @@ run-then-step-spec =
     (tie.spec
     (λ c κs. search needs)
     (search needs) returns step-on-requires (search needs)
-    (λ c. omega (arith, c .before .before .before .before .before .before .before .before .before .run-on .ensures .1))
+    (λ c. omega (arith, c .before .before .before .before .before .before .before .before .before .run-most .ensures .1))
     (search needs) returns-2
-    (λ c. omega (arith, c .before .before .before .before .before .before .before .before .before .run-on .ensures .1))
-    (λ c. omega (arith, c .before .before .before .before .before .before .before .before .before .run-on .ensures .1, c .before .before .before .before .before .before .if1 .left))
+    (λ c. omega (arith, c .before .before .before .before .before .before .before .before .before .run-most .ensures .1))
+    (λ c. omega (arith, c .before .before .before .before .before .before .before .before .before .run-most .ensures .1, c .before .before .before .before .before .before .if1 .left))
     (search needs) returns-3)

@@ -8,7 +8,7 @@ use Rattle.run_deliver.proofs.deliver_full.Statement.{statement}
 use Rattle.run_deliver.proofs.deliver_full.Tie as tie
 
 returns : tie.Need-returns
-returns c = no-room _ _ _ _ _ _ (c .before .if1 .taken) (c .said-of .ensures)
+returns c = no-room _ _ _ _ _ _ (c .before .if1 .taken) (c .delivery-answer .ensures)
 
 sub-made : tie.Need-sub-made
 sub-made c = omega (arith, left-at-most _ _ _ (c .before .before .before .burst-on .ensures .0))
@@ -27,12 +27,12 @@ returns-2 c =
     let at-if = at-admit .before .before in
     let at-burst = at-if .before .before .before .before in
     made-room _ _ _ _ _ _ (at-burst .before .before .if1 .left) (at-burst .burst-on .ensures .0) (at-if .if2 .taken)
-    (at-admit .admit-at .ensures) (at-put .put-answer .ensures) (c .said-of2 .ensures)
+    (at-admit .admit-at .ensures) (at-put .put-answer .ensures) (c .delivery-answer2 .ensures)
 
 returns-3 : tie.Need-returns-3
 returns-3 c =
     let at-burst = c .before .before .before .before .before in
-    broke-off _ _ _ _ _ _ (at-burst .before .before .if1 .left) (at-burst .burst-on .ensures .0) (c .before .if2 .left) (c .said-of3 .ensures)
+    broke-off _ _ _ _ _ _ (at-burst .before .before .if1 .left) (at-burst .burst-on .ensures .0) (c .before .if2 .left) (c .delivery-answer3 .ensures)
 
 pub deliver-full-spec : {M : Type 1} → statement M
 deliver-full-spec =

@@ -26,7 +26,7 @@ returns-2 : tie.Need-returns-2
 returns-2 c =
     let at-if = c .before .before .before .before .before in
     joins-now _ _ _ _ _ _ (at-if .before .before .before .before .get-word .ensures) (at-if .before .before .get-word2 .ensures) (at-if .before .is-full .ensures .0)
-    (at-if .if1 .left) (c .before .before .before .admit-at .ensures) (c .said-of .ensures)
+    (at-if .if1 .left) (c .before .before .before .admit-at .ensures) (c .delivery-answer .ensures)
 
 pub deliver-known-spec : {M : Type 1} → statement M
 deliver-known-spec =

@@ -15,7 +15,7 @@ returns c =
       at-put-slot .before .before .before .before .get-word3 .ensures,
       at-put-slot .before .before .get-word4 .ensures,
       at-put-slot .put-slot .ensures,
-      c .before .before .before .run-on .ensures,
+      c .before .before .before .set-running .ensures,
       c .said-of .ensures,
     )
 

@@ -19,9 +19,9 @@ returns c =
       c .before .before .put-word6 .ensures,
     )
 
-pub run-on-spec : {M : Type 1} → statement M
+pub set-running-spec : {M : Type 1} → statement M
 unfolding runArrival
-run-on-spec =
+set-running-spec =
     tie.close
     (tie.spec (search needs) (search needs) (search needs) (search needs) (search needs) (search needs)
     (search needs) returns)

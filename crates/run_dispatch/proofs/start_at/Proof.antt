@@ -17,7 +17,7 @@ returns c =
       at-get-word4 .get-word4 .ensures,
       at-put-word .before .before .before .before .put-slot .ensures,
       at-put-word .put-word .ensures,
-      c .before .before .before .run-on .ensures,
+      c .before .before .before .set-running .ensures,
       c .said-of .ensures,
     )
 

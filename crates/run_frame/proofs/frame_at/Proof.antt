@@ -32,6 +32,6 @@ pub frame-at-spec : {M : Type 1} → statement M
 frame-at-spec =
     tie.close
     (tie.spec (search needs)
-    (λ c. none-asked _ _ _ (c .before .if1 .taken) (c .said-of .ensures))
+    (λ c. none-asked _ _ _ (c .before .if1 .taken) (c .frame-answer .ensures))
     (search needs) (search needs) frame-in-requires (search needs) (search needs) returns-2 (search needs)
     (search needs) returns-3)

@@ -16,16 +16,16 @@ returns : tie.Need-returns Inv-loop μ-loop
 returns c =
     full (c .before .before .before .before .before .loop .inv)
     (c .before .before .before .before .loop-test .taken) (c .before .before .before .if1 .taken)
-    (c .before .idle-or .ensures .0) (c .said-of .ensures)
+    (c .before .idle-or .ensures .0) (c .frame-answer .ensures)
 
-sub-said-of-2 : tie.Need-sub-said-of-2 Inv-loop μ-loop
-sub-said-of-2 c =
+sub-frame-answer-2 : tie.Need-sub-frame-answer-2 Inv-loop μ-loop
+sub-frame-answer-2 c =
     let at-loop = c .before .before .before .before .before .before .before in
     let u = at-loop .loop .inv in
     omega (arith, fewer u (omega arith) (omega arith) (c .before .before .before .burst-on .ensures .0))
 
-said-of-requires-2 : tie.Need-said-of-requires-2 Inv-loop μ-loop
-said-of-requires-2 c κs =
+frame-answer-requires-2 : tie.Need-frame-answer-requires-2 Inv-loop μ-loop
+frame-answer-requires-2 c κs =
     let at-loop = c .before .before .before .before .before .before .before in
     let u = at-loop .loop .inv in
     omega arith
@@ -34,16 +34,16 @@ returns-2 : tie.Need-returns-2 Inv-loop μ-loop
 returns-2 c =
     let at-loop = c .before .before .before .before .before .before .before .before in
     idle (at-loop .loop .inv) (omega arith) (omega arith) (c .before .before .before .before .burst-on .ensures .0)
-    (c .before .if2 .taken) (c .said-of2 .ensures)
+    (c .before .if2 .taken) (c .frame-answer2 .ensures)
 
-sub-said-of-3 : tie.Need-sub-said-of-3 Inv-loop μ-loop
-sub-said-of-3 c =
+sub-frame-answer-3 : tie.Need-sub-frame-answer-3 Inv-loop μ-loop
+sub-frame-answer-3 c =
     let at-loop = c .before .before .before .before .before .before .before .before in
     let u = at-loop .loop .inv in
     omega (arith, fewer u (omega arith) (omega arith) (c .before .before .before .before .burst-on .ensures .0))
 
-said-of-requires-3 : tie.Need-said-of-requires-3 Inv-loop μ-loop
-said-of-requires-3 c κs =
+frame-answer-requires-3 : tie.Need-frame-answer-requires-3 Inv-loop μ-loop
+frame-answer-requires-3 c κs =
     let at-loop = c .before .before .before .before .before .before .before .before in
     let u = at-loop .loop .inv in
     omega arith
@@ -52,7 +52,7 @@ returns-3 : tie.Need-returns-3 Inv-loop μ-loop
 returns-3 c =
     let at-burst-on = c .before .before .before .before .before in
     refused (at-burst-on .before .before .before .before .loop .inv) (omega arith) (omega arith)
-    (at-burst-on .burst-on .ensures .0) (c .before .if3 .taken) (c .said-of3 .ensures)
+    (at-burst-on .burst-on .ensures .0) (c .before .if3 .taken) (c .frame-answer3 .ensures)
 
 loop-less : tie.Need-loop-less Inv-loop μ-loop
 loop-less c =
@@ -73,7 +73,7 @@ loop-again c =
 returns-4 : tie.Need-returns-4 Inv-loop μ-loop
 returns-4 c =
     all-made (c .before .before .before .before .loop .inv) (omega arith)
-    (c .before .before .before .loop-test .left) (c .before .idle-or2 .ensures .0) (c .said-of4 .ensures)
+    (c .before .before .before .loop-test .left) (c .before .idle-or2 .ensures .0) (c .frame-answer4 .ensures)
 
 pub frame-in-spec : {M : Type 1} → statement M
 frame-in-spec =
@@ -86,7 +86,7 @@ frame-in-spec =
     (λ c. c .before .before .before .before .before .loop .inv .commits-long)
     returns
     (λ c κs. c .before .before .before .loop .inv .sound)
-    sub-said-of-2 said-of-requires-2 (omega arith) (omega arith) returns-2 sub-said-of-3 said-of-requires-3
+    sub-frame-answer-2 frame-answer-requires-2 (omega arith) (omega arith) returns-2 sub-frame-answer-3 frame-answer-requires-3
     (omega arith) (omega arith) returns-3 (omega arith) loop-less loop-again
     (λ c κs. (c .before .before .loop .inv .sound, omega arith))
     (omega arith)

@@ -6,8 +6,8 @@ use Rattle.sheet_write.proofs.Laws.{four-in-a-row}
 use Rattle.sheet_write.proofs.put_high_first.Statement.{statement}
 use Rattle.sheet_write.proofs.put_high_first.Tie as tie
 
-pub put-word-spec : {M : Type 1} → statement M
-put-word-spec =
+pub put-high-first-spec : {M : Type 1} → statement M
+put-high-first-spec =
     tie.close
     (tie.spec (search needs) (search needs) (search needs) (search needs) (λ c. simp length-set (omega arith)) (search needs)
     (search needs) (λ c. simp length-set (omega arith)) (search needs) (search needs) (λ c. simp length-set (omega arith))

@@ -20,7 +20,7 @@ returns-2 c =
     let top = value .before .before .before .before in
     let tested = top .before .before in
     let a = tested .before .before .args in
-    value .put-word .ensures
+    value .put-high-first .ensures
     ∙ ap (λ l. sets l (a .n + 3) (word (a .w))) (top .put-header .ensures)
     ∙ field-written (a .out .now) (a .n) (a .tag) (word (a .w))
     ∙ sym (fits (a .out .now) (a .n) (field (a .tag) (word (a .w))) (omega (arith, tested .if1 .left)))

@@ -28,8 +28,8 @@ enum-known-name c = search needs
 enum-told : tie.Need-enum-told
 enum-told c = search needs
 
-fault-of-requires : tie.Need-fault-of-requires
-fault-of-requires c κs = search needs
+fault-in-requires : tie.Need-fault-in-requires
+fault-in-requires c κs = search needs
 
 returns-2 : tie.Need-returns-2
 returns-2 c =
@@ -40,10 +40,10 @@ returns-2 c =
     let a = x11 .args in
     let e = x1 .enum-told .given .1 in
     let h = rw e at (x3 .name-at .ensures .0) in
-    rw (c .fault-of .ensures ∙ ap dueFault e) (behaviour-unnamed (a .text .now) (meaningBy (a .text .now) (a .places .now) (a .sorted) (a .meanings .now)) (a .events .now) (a .names .now) (a .count) (a .i) (a .q) (a .word) (a .at) (a .n) (a .out .now) _ (omega (arith, x4 .if1 .left)) _ h, (tt, search needs))
+    rw (c .fault-in .ensures ∙ ap dueFault e) (behaviour-unnamed (a .text .now) (meaningBy (a .text .now) (a .places .now) (a .sorted) (a .meanings .now)) (a .events .now) (a .names .now) (a .count) (a .i) (a .q) (a .word) (a .at) (a .n) (a .out .now) _ (omega (arith, x4 .if1 .left)) _ h, (tt, search needs))
 
-cells-at-requires : tie.Need-cells-at-requires
-cells-at-requires c κs =
+cells-due-requires : tie.Need-cells-due-requires
+cells-due-requires c κs =
     let x1 = c .before in
     let x3 = x1 .before .before in
     let x11 = x3 .before .before .before .before .before .before .before .before in
@@ -57,8 +57,8 @@ enum-known-counted c = search needs
 enum-told-2 : tie.Need-enum-told-2
 enum-told-2 c = search needs
 
-fault-of-requires-2 : tie.Need-fault-of-requires-2
-fault-of-requires-2 c κs = search needs
+fault-in-requires-2 : tie.Need-fault-in-requires-2
+fault-in-requires-2 c κs = search needs
 
 returns-3 : tie.Need-returns-3
 returns-3 c =
@@ -71,8 +71,8 @@ returns-3 c =
     let a = x15 .args in
     let e = x1 .enum-told2 .given .1 in
     let g = rw (x5 .name .given .1) at (x7 .name-at .ensures .0) in
-    let h = rw e at (x3 .cells-at .ensures .0) in
-    rw (c .fault-of2 .ensures ∙ ap dueFault e) (behaviour-uncounted (a .text .now) (meaningBy (a .text .now) (a .places .now) (a .sorted) (a .meanings .now)) (a .events .now) (a .names .now) (a .count) (a .i) (a .q) (a .word) (a .at) (a .n) (a .out .now) _ (omega (arith, x8 .if1 .left)) _ _ _ g _ h, (tt, search needs))
+    let h = rw e at (x3 .cells-due .ensures .0) in
+    rw (c .fault-in2 .ensures ∙ ap dueFault e) (behaviour-uncounted (a .text .now) (meaningBy (a .text .now) (a .places .now) (a .sorted) (a .meanings .now)) (a .events .now) (a .names .now) (a .count) (a .i) (a .q) (a .word) (a .at) (a .n) (a .out .now) _ (omega (arith, x8 .if1 .left)) _ _ _ g _ h, (tt, search needs))
 
 kind-at-requires : tie.Need-kind-at-requires
 kind-at-requires c κs =
@@ -83,7 +83,7 @@ kind-at-requires c κs =
     let x16 = x8 .before .before .before .before .before .before .before .before in
     let p = x16 .pre in
     let g = rw (x6 .name .given .1) at (x8 .name-at .ensures .1) in
-    let h = rw (x2 .counted .given .1) at (x4 .cells-at .ensures .1) in
+    let h = rw (x2 .counted .given .1) at (x4 .cells-due .ensures .1) in
     let l = p .1 .1 .1 .1 .1 .0 in
     ((p .0, (h .1, (omega arith, (p .1 .1 .1 .1 .1 .1 .0, p .1 .1 .1 .1 .1 .1 .1 .0)))), (p .1 .1 .1 .1 .1 .1 .1 .1 .0, (h .2, p .1 .1 .1 .1 .1 .1 .1 .1 .1)))
 
@@ -112,7 +112,7 @@ returns-4 c =
     let a = x22 .args in
     let e = x1 .enum-told3 .given .1 in
     let g = rw (x12 .name .given .1) at (x14 .name-at .ensures .0) in
-    let h = rw (x8 .counted .given .1) at (x10 .cells-at .ensures .0) in
+    let h = rw (x8 .counted .given .1) at (x10 .cells-due .ensures .0) in
     let k = rw e at (x5 .kind-at .ensures .0) in
     rw (c .refused-part .ensures ∙ ap refusedPart e) (behaviour-refused (a .text .now) (meaningBy (a .text .now) (a .places .now) (a .sorted) (a .meanings .now)) (a .events .now) (a .names .now) (a .count) (a .i) (a .q) (a .word) (a .at) (a .n) (a .out .now) _ (omega (arith, x15 .if1 .left)) _ _ _ g _ _ _ h _ k, (tt, x5 .kind-at .ensures .1 .1))
 
@@ -120,7 +120,7 @@ numbers-of-requires : tie.Need-numbers-of-requires
 numbers-of-requires c κs =
     let x8 = c .before .before .before .before .before .before .before .before in
     let x10 = x8 .before .before in
-    let h = rw (x8 .counted .given .1) at (x10 .cells-at .ensures .1) in
+    let h = rw (x8 .counted .given .1) at (x10 .cells-due .ensures .1) in
     h .2
 
 same-length-2 : tie.Need-same-length-2
@@ -139,8 +139,8 @@ returns-5 c =
     let a = x23 .args in
     let g = rw (x13 .name .given .1) at (x15 .name-at .ensures .0) in
     let f = rw (x13 .name .given .1) at (x15 .name-at .ensures .1) in
-    let h = rw (x9 .counted .given .1) at (x11 .cells-at .ensures .0) in
-    let j = rw (x9 .counted .given .1) at (x11 .cells-at .ensures .1) in
+    let h = rw (x9 .counted .given .1) at (x11 .cells-due .ensures .0) in
+    let j = rw (x9 .counted .given .1) at (x11 .cells-due .ensures .1) in
     let k = rw (x2 .r .given .1) at (x6 .kind-at .ensures .0) in
     let m = rw (x2 .r .given .1) at (x6 .kind-at .ensures .1 .0) in
     let b = numbers-within (a .i) _ (omega (arith, x16 .if1 .left)) (j .3) in
@@ -155,12 +155,12 @@ behaviour-at-spec =
     name-at-requires
     enum-known-name
     enum-told
-    fault-of-requires
+    fault-in-requires
     returns-2
-    cells-at-requires
+    cells-due-requires
     enum-known-counted
     enum-told-2
-    fault-of-requires-2
+    fault-in-requires-2
     returns-3
     kind-at-requires
     enum-known-r

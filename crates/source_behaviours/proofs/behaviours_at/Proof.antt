@@ -30,8 +30,8 @@ loop-holds c =
     let p = x7 .pre in
     turn-start (a .text .now) (meaningBy (a .text .now) (a .places .now) (a .sorted) (a .meanings .now)) (a .events .now) (a .at) (a .n) (a .out .now) (a .names .now) (a .taken) (a .starts .now) (p .1 .0) (p .1 .1 .1 .1 .1 .1 .0) (p .1 .1 .1 .1 .1 .1 .1 .0) (p .1 .1 .1 .1 .1 .1 .1 .1 .0 .0) (p .1 .1 .1 .1 .1 .1 .1 .1 .0 .1)
 
-word-at-requires : tie.Need-word-at-requires Inv-loop μ-loop
-word-at-requires c κs =
+heading-at-requires : tie.Need-heading-at-requires Inv-loop μ-loop
+heading-at-requires c κs =
     let x8 = c .before .before .before .before .before .before .before .before in
     (x8 .pre .0, c .loop .inv .inside)
 
@@ -58,7 +58,7 @@ returns c =
     let a = x11 .args in
     let t = x3 .loop .inv in
     let l = x11 .pre .1 .1 .0 in
-    let h = rw (c .enum-told .given .1) at (x2 .word-at .ensures .0) in
+    let h = rw (c .enum-told .given .1) at (x2 .heading-at .ensures .0) in
     (turn-over (a .text .now) (meaningBy (a .text .now) (a .places .now) (a .sorted) (a .meanings .now)) (a .events .now) (a .at) (a .n) (a .out .now) (a .names .now) (a .taken) t h, (omega (arith, t .inside, t .rising, t .bounded, t .some, t .few, t .room), (t .names-all, ((t .starts-all, t .low), t .kept))))
 
 behaviour-at-requires : tie.Need-behaviour-at-requires Inv-loop μ-loop
@@ -70,7 +70,7 @@ behaviour-at-requires c κs =
     let p = x14 .pre in
     let t = x6 .loop .inv in
     let l = p .1 .1 .0 in
-    let g = rw (x3 .first .given .1) at (x5 .word-at .ensures .1) in
+    let g = rw (x3 .first .given .1) at (x5 .heading-at .ensures .1) in
     (p .0, (g .2, (omega arith, (t .room, (omega (arith, t .names-all, t .few, t .room, t .few-first), (omega (arith, t .bounded), (p .1 .1 .1 .0, (p .1 .1 .1 .1 .0, (p .1 .1 .1 .1 .1 .0, omega (arith, t .kept, p .1 .1 .1 .1 .1 .1 .1 .1 .1))))))))))
 
 enum-known-b : tie.Need-enum-known-b Inv-loop μ-loop
@@ -112,7 +112,7 @@ returns-2 c =
     let a = x20 .args in
     let t = x12 .loop .inv in
     let e = x1 .enum-told2 .given .1 in
-    let h = rw (x9 .first .given .1) at (x11 .word-at .ensures .0) in
+    let h = rw (x9 .first .given .1) at (x11 .heading-at .ensures .0) in
     let b = rw e at (x5 .behaviour-at .ensures .0) in
     rw (c .refused-behaviour .ensures ∙ ap refusedBehaviour e) (turn-fault (a .text .now) (meaningBy (a .text .now) (a .places .now) (a .sorted) (a .meanings .now)) (a .events .now) (a .at) (a .n) (a .out .now) (a .names .now) (a .taken) t _ _ _ (h .0) (h .1) _ _ _ _ b, (tt, (t .names-all, ((t .starts-all, t .low), x5 .behaviour-at .ensures .1 .1 ∙ t .kept))))
 
@@ -180,7 +180,7 @@ loop-less c =
     let x12 = x10 .before .before in
     let x13 = x12 .before in
     let t = x13 .loop .inv in
-    let g = rw (x10 .first .given .1) at (x12 .word-at .ensures .1) in
+    let g = rw (x10 .first .given .1) at (x12 .heading-at .ensures .1) in
     let k = rw (x2 .b .given .1) at (x6 .behaviour-at .ensures .1 .0) in
     omega arith
 
@@ -194,8 +194,8 @@ loop-again c =
     let x21 = x13 .before .before .before .before .before .before .before .before in
     let a = x21 .args in
     let t = x13 .loop .inv in
-    let h = rw (x10 .first .given .1) at (x12 .word-at .ensures .0) in
-    let g = rw (x10 .first .given .1) at (x12 .word-at .ensures .1) in
+    let h = rw (x10 .first .given .1) at (x12 .heading-at .ensures .0) in
+    let g = rw (x10 .first .given .1) at (x12 .heading-at .ensures .1) in
     let b = rw (x2 .b .given .1) at (x6 .behaviour-at .ensures .0) in
     let k = rw (x2 .b .given .1) at (x6 .behaviour-at .ensures .1 .0) in
     rw (c .first-fault .ensures) (turn-on (a .text .now) (meaningBy (a .text .now) (a .places .now) (a .sorted) (a .meanings .now)) (a .events .now) (a .at) (a .n) (a .out .now) (a .names .now) (a .taken) t _ _ _ (h .0) (h .1) _ _ _ _ _ _ b (k .2) (omega arith) (k .1) (omega arith) (k .4) (k .5) (x6 .behaviour-at .ensures .1 .1))
@@ -208,7 +208,7 @@ behaviours-at-spec =
     μ-loop
     slice-write-starts
     loop-holds
-    word-at-requires
+    heading-at-requires
     enum-known-first
     enum-told
     same-length

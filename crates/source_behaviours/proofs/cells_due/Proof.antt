@@ -49,8 +49,8 @@ returns-3 c =
     let g = rw (x2 .d .given .1) at (x4 .sign-due .ensures .1) in
     (row-opened (a .text .now) (a .at) (a .i) (a .word) _ _ (c .count-at .result) (omega (arith, x5 .if1 .left)) h (c .count-at .ensures .0), cells-onward _ _ _ _ (a .i) (c .count-at .result) (g .0) (g .1) (c .count-at .ensures .1))
 
-pub cells-at-spec : {M : Type 1} → statement M
-cells-at-spec =
+pub cells-due-spec : {M : Type 1} → statement M
+cells-due-spec =
     tie.close
     (tie.spec
     returns

@@ -40,7 +40,7 @@ returns-4 c =
     let g = rw (x3 .t .given .1) at (x5 .token-at .ensures .1) in
     (word-here _ _ (x5 .token-at .result) (x5 .token-at .ensures .0) _ _ _ (x3 .t .given .1) (λ z. omega (arith, x1 .if1 .left)) (λ z. omega (arith, c .if2 .left)), (g .0, g .3 (omega (arith, c .if2 .left)), g .2))
 
-pub word-at-spec : {M : Type 1} → statement M
-word-at-spec =
+pub heading-at-spec : {M : Type 1} → statement M
+heading-at-spec =
     tie.close
     (tie.spec token-at-requires enum-known-t returns returns-2 returns-3 cast-t8 returns-4)

@@ -23,8 +23,8 @@ enum-known-d c = search needs
 enum-told : tie.Need-enum-told
 enum-told c = search needs
 
-fault-of-requires : tie.Need-fault-of-requires
-fault-of-requires c κs = search needs
+fault-in-requires : tie.Need-fault-in-requires
+fault-in-requires c κs = search needs
 
 returns : tie.Need-returns
 returns c =
@@ -34,7 +34,7 @@ returns c =
     let a = x8 .args in
     let e = x1 .enum-told .given .1 in
     let h = rw e at (x3 .sign-due .ensures .0) in
-    rw (c .fault-of .ensures ∙ ap dueFault e) (passive-unsigned (a .text .now) (meaningBy (a .text .now) (a .places .now) (a .cursor .sorted) (a .meanings .now)) (a .cursor .at) (a .cursor .end) (a .out .now) _ _ h, (tt, search needs))
+    rw (c .fault-in .ensures ∙ ap dueFault e) (passive-unsigned (a .text .now) (meaningBy (a .text .now) (a .places .now) (a .cursor .sorted) (a .meanings .now)) (a .cursor .at) (a .cursor .end) (a .out .now) _ _ h, (tt, search needs))
 
 add-formula : tie.Need-add-formula
 add-formula c = search needs
@@ -176,7 +176,7 @@ passive-at-spec =
     sign-due-requires
     enum-known-d
     enum-told
-    fault-of-requires
+    fault-in-requires
     returns
     add-formula
     formula-at-requires

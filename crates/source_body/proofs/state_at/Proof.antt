@@ -18,8 +18,8 @@ enum-known-d c = search needs
 enum-told : tie.Need-enum-told
 enum-told c = search needs
 
-fault-of-requires : tie.Need-fault-of-requires
-fault-of-requires c κs = search needs
+fault-in-requires : tie.Need-fault-in-requires
+fault-in-requires c κs = search needs
 
 returns : tie.Need-returns
 returns c =
@@ -29,7 +29,7 @@ returns c =
     let a = x9 .args in
     let e = x1 .enum-told .given .1 in
     let h = rw e at (x3 .start-due .ensures .0) in
-    rw (c .fault-of .ensures ∙ ap dueFault e) (start-refused (a .text .now) (meaningBy (a .text .now) (a .places .now) (a .cursor .sorted) (a .meanings .now)) (a .events .now) (a .cursor .cells) (a .cursor .at) (a .cursor .end) (a .out .now) _ _ h, (tt, search needs))
+    rw (c .fault-in .ensures ∙ ap dueFault e) (start-refused (a .text .now) (meaningBy (a .text .now) (a .places .now) (a .cursor .sorted) (a .meanings .now)) (a .events .now) (a .cursor .cells) (a .cursor .at) (a .cursor .end) (a .out .now) _ _ h, (tt, search needs))
 
 seen-at-requires : tie.Need-seen-at-requires
 seen-at-requires c κs =
@@ -99,7 +99,7 @@ state-at-spec =
     start-due-requires
     enum-known-d
     enum-told
-    fault-of-requires
+    fault-in-requires
     returns
     seen-at-requires
     enum-known-s

@@ -16,7 +16,7 @@ returns-2 c =
     let at-name = c .before .before .before in
     let a = at-name .before .before .before .before .args in (
       event-unnamed (a .text .now) (a .events .now) (a .p) (a .at) (a .count) _ _ _ (at-name .before .if1 .left) (at-name .name-due .ensures .0)
-          (c .before .enum-told .given .1) (c .fault-of .ensures),
+          (c .before .enum-told .given .1) (c .fault-in .ensures),
       tt,
     )
 
@@ -58,8 +58,8 @@ returns-4 c =
           (c .ranked-at .ensures .1),
     )
 
-pub event-at-spec : {M : Type 1} → statement M
-event-at-spec =
+pub event-from-spec : {M : Type 1} → statement M
+event-from-spec =
     tie.close
     (tie.spec (λ c κs. search needs) returns (λ c κs. search needs) (search needs) (search needs) (λ c κs. search needs) returns-2
     is-among-requires fault-word-requires-2 returns-3 ranked-at-requires returns-4)

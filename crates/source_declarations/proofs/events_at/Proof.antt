@@ -36,8 +36,8 @@ returns c =
       ((turn .onward, turn .within, turn .low), (turn .kept, turn .same)),
     )
 
-event-at-requires : tie.Need-event-at-requires Inv-loop μ-loop
-event-at-requires c κs =
+event-from-requires : tie.Need-event-from-requires Inv-loop μ-loop
+event-from-requires c κs =
     let at-word = c .before .before in
     let at-sign = at-word .before .before in
     let turn = at-sign .before .loop .inv in
@@ -67,7 +67,7 @@ returns-2 : tie.Need-returns-2 Inv-loop μ-loop
 returns-2 c =
     let call = c .before .before .before in
     let turn = turn-at call .loop .inv in (
-      events-fault _ _ _ _ _ _ turn (sign-at call .sign-due .ensures .0) (word-at call .word .given .1) (call .event-at .ensures .0)
+      events-fault _ _ _ _ _ _ turn (sign-at call .sign-due .ensures .0) (word-at call .word .given .1) (call .event-from .ensures .0)
           (c .before .one .given .1),
       (tt, (turn .kept, turn .same)),
     )
@@ -76,7 +76,7 @@ slice-write-events : tie.Need-slice-write-events Inv-loop μ-loop
 slice-write-events c =
     let call = c .before .before .before in
     let turn = turn-at call .loop .inv in
-    let room = events-room _ _ _ _ _ _ _ _ _ turn (word-at call .word .given .1) (call .event-at .ensures .0) (c .before .one2 .given .1) in
+    let room = events-room _ _ _ _ _ _ _ _ _ turn (word-at call .word .given .1) (call .event-from .ensures .0) (c .before .one2 .given .1) in
     omega (arith, turn .kept)
 
 cast-put-event : tie.Need-cast-put-event Inv-loop μ-loop
@@ -84,7 +84,7 @@ cast-put-event c =
     let at-one = c .before .before in
     let call = at-one .before .before in
     let further = events-onward _ _ _ _ _ _ _ _ _ (turn-at call .loop .inv) (sign-at call .sign-due .ensures .1) (word-at call .word .given .1)
-    (call .event-at .ensures .1) (at-one .one2 .given .1) in
+    (call .event-from .ensures .1) (at-one .one2 .given .1) in
     omega (arith, further .2)
 
 put-event-requires : tie.Need-put-event-requires Inv-loop μ-loop
@@ -93,7 +93,7 @@ put-event-requires c κs =
     let call = at-one .before .before in
     let turn = turn-at call .loop .inv in
     let further = events-onward _ _ _ _ _ _ _ _ _ turn (sign-at call .sign-due .ensures .1) (word-at call .word .given .1)
-    (call .event-at .ensures .1) (at-one .one2 .given .1) in
+    (call .event-from .ensures .1) (at-one .one2 .given .1) in
     omega (arith, turn .low, turn .within, turn-at call .before .before .before .before .pre .0)
 
 -- an event's field is written: where the event was taken apart, and where it was read
@@ -112,7 +112,7 @@ loop-less c =
     let written = c .before .before in
     let call = call-at written in
     let further = events-onward _ _ _ _ _ _ _ _ _ (turn-at call .loop .inv) (sign-at call .sign-due .ensures .1) (word-at call .word .given .1)
-    (call .event-at .ensures .1) (one-at written .one2 .given .1) in
+    (call .event-from .ensures .1) (one-at written .one2 .given .1) in
     omega arith
 
 loop-again : tie.Need-loop-again Inv-loop μ-loop
@@ -121,13 +121,13 @@ loop-again c =
     let call = call-at written in
     let turn = turn-at call .loop .inv in
     let further = events-onward _ _ _ _ _ _ _ _ _ turn (sign-at call .sign-due .ensures .1) (word-at call .word .given .1)
-    (call .event-at .ensures .1) (one-at written .one2 .given .1) in
-    events-turn _ _ _ _ _ _ _ _ _ _ _ turn (sign-at call .sign-due .ensures .0) (word-at call .word .given .1) (call .event-at .ensures .0)
+    (call .event-from .ensures .1) (one-at written .one2 .given .1) in
+    events-turn _ _ _ _ _ _ _ _ _ _ _ turn (sign-at call .sign-due .ensures .0) (word-at call .word .given .1) (call .event-from .ensures .0)
     (one-at written .one2 .given .1) further (written .put-event .ensures .1) (written .put-event .ensures .0)
 
 pub events-at-spec : {M : Type 1} → statement M
 events-at-spec =
     tie.close
     (tie.spec Inv-loop μ-loop loop-holds sign-due-requires (search needs) (search needs) same-length same-length-2 returns
-    event-at-requires (search needs) same-length-3 same-length-4 returns-2 (search needs) (search needs) slice-write-events
+    event-from-requires (search needs) same-length-3 same-length-4 returns-2 (search needs) (search needs) slice-write-events
     cast-put-event put-event-requires add-count loop-less loop-again)

@@ -58,7 +58,7 @@ returns-2 c =
     let call = c .before .before .before in
     let turn = sign-at call .before .loop .inv in (
       parameters-fault _ _ _ _ _ _ _ turn (sign-at call .sign-due .ensures .0) (word-at call .word .given .1) (call .parameter-at .ensures .0)
-          (c .before .enum-told2 .given .1) (c .fault-of .ensures),
+          (c .before .enum-told2 .given .1) (c .fault-in .ensures),
       (tt, turn .kept),
     )
 

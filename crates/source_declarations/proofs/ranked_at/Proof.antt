@@ -10,7 +10,7 @@ returns : tie.Need-returns
 returns c =
     let at-sign = c .before .before .before in
     let a = at-sign .before .before .args in (
-      ranked-unsaid (a .text .now) (a .q) (a .at) _ _ _ (at-sign .sign-due .ensures .0) (c .before .enum-told .given .1) (c .fault-of .ensures),
+      ranked-unsaid (a .text .now) (a .q) (a .at) _ _ _ (at-sign .sign-due .ensures .0) (c .before .enum-told .given .1) (c .fault-in .ensures),
       tt,
     )
 
@@ -33,7 +33,7 @@ returns-2 c =
     let call = c .before .before .before in
     let a = sign-at call .before .before .args in (
       ranked-unnumbered (a .text .now) (a .q) (a .at) _ _ _ _ _ _ _ (sign-at call .sign-due .ensures .0) (word-at call .word .given .1)
-          (call .number-due .ensures .0) (c .before .enum-told2 .given .1) (c .fault-of2 .ensures),
+          (call .number-due .ensures .0) (c .before .enum-told2 .given .1) (c .fault-in2 .ensures),
       tt,
     )
 

@@ -27,7 +27,7 @@ returns-2 c =
     let at-sign = at-seen .before .before in
     let at-entry = at-sign .before .before in (
       seen-broken (at-entry .args .text .now) (at-entry .args .at) _ _ _ _ _ _ _ (at-sign .sign-due .ensures .0) (at-seen .seen .given .1)
-          (at-by .sign-due2 .ensures .0) (c .before .enum-told2 .given .1) (c .fault-of .ensures),
+          (at-by .sign-due2 .ensures .0) (c .before .enum-told2 .given .1) (c .fault-in .ensures),
       tt,
     )
 

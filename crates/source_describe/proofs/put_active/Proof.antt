@@ -18,7 +18,7 @@ returns c =
     let args = at-onward .before .before .before .args in
     let s = args .s .now in
     wrote-as
-    (wrote-on (at-put-value .put-value .ensures) (wrote-on (at-put-viewers .put-viewers .ensures) (at-put-handlers .put-handlers .ensures)))
+    (wrote-on (at-put-value .write-value .ensures) (wrote-on (at-put-viewers .write-viewers .ensures) (at-put-handlers .put-handlers .ensures)))
     (active-parts (length s) (drop (args .first) s) (drop (args .at) s) (drop (at-onward .onward .result) s) (drop (at-onward2 .onward2 .result) s)
     (drop (at-past-fields .past-fields .result) s) (at-onward .onward .ensures .0) (at-word-from .word-from .ensures .0)
     (at-onward2 .onward2 .ensures .0) (at-past-fields .past-fields .ensures .0))
@@ -35,11 +35,11 @@ onward-requires-2 c κs = search needs
 past-fields-requires : tie.Need-past-fields-requires
 past-fields-requires c κs = search needs
 
-put-value-requires : tie.Need-put-value-requires
-put-value-requires c κs = search needs
+write-value-requires : tie.Need-write-value-requires
+write-value-requires c κs = search needs
 
-put-viewers-requires : tie.Need-put-viewers-requires
-put-viewers-requires c κs = search needs
+write-viewers-requires : tie.Need-write-viewers-requires
+write-viewers-requires c κs = search needs
 
 put-handlers-requires : tie.Need-put-handlers-requires
 put-handlers-requires c κs = search needs
@@ -50,5 +50,5 @@ same-length c = returns c .as-long
 pub put-active-spec : {M : Type 1} → statement M
 put-active-spec =
     tie.close
-    (tie.spec onward-requires word-from-requires onward-requires-2 past-fields-requires put-value-requires
-    put-viewers-requires put-handlers-requires same-length returns)
+    (tie.spec onward-requires word-from-requires onward-requires-2 past-fields-requires write-value-requires
+    write-viewers-requires put-handlers-requires same-length returns)

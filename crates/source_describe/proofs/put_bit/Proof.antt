@@ -5,8 +5,8 @@ use borrow.Author.Needs.{needs}
 use Rattle.source_describe.proofs.put_bit.Statement.{statement}
 use Rattle.source_describe.proofs.put_bit.Tie as tie
 
-put-number-requires : tie.Need-put-number-requires
-put-number-requires c κs = search needs
+write-number-requires : tie.Need-write-number-requires
+write-number-requires c κs = search needs
 
 same-length : tie.Need-same-length
 same-length c = search needs
@@ -16,7 +16,7 @@ returns c =
     let at-put-number = c .before .before in
     let at-if1 = at-put-number .before .before in
     let at-entry = at-if1 .before .before in
-    rw (eq-eqb _ 1 (at-if1 .if1 .taken)) (at-put-number .put-number .ensures)
+    rw (eq-eqb _ 1 (at-if1 .if1 .taken)) (at-put-number .write-number .ensures)
 
 returns-2 : tie.Need-returns-2
 returns-2 c =
@@ -24,4 +24,4 @@ returns-2 c =
     rw (ne-eqb _ 1 (c .if1 .left)) (wrote-none _ _ (at-entry .pre .0))
 
 pub put-bit-spec : {M : Type 1} → statement M
-put-bit-spec = tie.close (tie.spec put-number-requires same-length returns returns-2)
+put-bit-spec = tie.close (tie.spec write-number-requires same-length returns returns-2)

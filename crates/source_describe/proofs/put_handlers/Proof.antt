@@ -33,8 +33,8 @@ returns c =
     let at-loop = at-loop-test .before in
     handling-stops (at-loop .loop .inv) (at-loop-test .loop-test .taken) (at-byte-from .byte-from .ensures) (c .if1 .taken)
 
-put-handler-requires : tie.Need-put-handler-requires Inv-loop μ-loop
-put-handler-requires c κs =
+write-handler-requires : tie.Need-write-handler-requires Inv-loop μ-loop
+write-handler-requires c κs =
     let at-loop = c .before .before .before .before in
     let at-entry = at-loop .before .before .before in
     ((at-entry .pre .0 .0, at-loop .loop .inv .inside, at-entry .pre .0 .2), at-loop .loop .inv .underway .so-far .stops)
@@ -58,7 +58,7 @@ loop-again c =
     let at-loop-test = at-byte-from .before in
     let at-loop = at-loop-test .before in
     handling-on (at-loop .loop .inv) (at-loop-test .loop-test .taken) (at-byte-from .byte-from .ensures) (at-if1 .if1 .left)
-    (at-put-handler .put-handler .ensures) (c .after-field .ensures .0) (c .after-field .ensures .1)
+    (at-put-handler .write-handler .ensures) (c .after-field .ensures .0) (c .after-field .ensures .1)
 
 same-length-2 : tie.Need-same-length-2 Inv-loop μ-loop
 same-length-2 c =
@@ -80,7 +80,7 @@ put-handlers-spec =
     byte-from-requires
     same-length
     returns
-    put-handler-requires
+    write-handler-requires
     after-field-requires
     sub-left
     loop-less

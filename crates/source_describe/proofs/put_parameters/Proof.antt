@@ -17,18 +17,18 @@ loop-holds c =
     let at-entry = c .before in
     parametric-start _ _ _ (at-entry .pre .0)
 
-put-sign-requires : tie.Need-put-sign-requires Inv-loop μ-loop
-put-sign-requires c κs =
+write-sign-requires : tie.Need-write-sign-requires Inv-loop μ-loop
+write-sign-requires c κs =
     let at-loop = c .before .before in
     (at-loop .loop .inv .underway .so-far .stops, omega arith)
 
-put-name-requires : tie.Need-put-name-requires Inv-loop μ-loop
-put-name-requires c κs =
+write-name-requires : tie.Need-write-name-requires Inv-loop μ-loop
+write-name-requires c κs =
     let at-put-sign = c .before .before .before in
     let at-loop-test = at-put-sign .before .before in
     let at-loop = at-loop-test .before in
     let at-entry = at-loop .before .before in
-    (at-put-sign .put-sign .ensures .stops, omega (arith, at-entry .pre .1, at-loop-test .loop-test .taken))
+    (at-put-sign .write-sign .ensures .stops, omega (arith, at-entry .pre .1, at-loop-test .loop-test .taken))
 
 add-i : tie.Need-add-i Inv-loop μ-loop
 add-i c = omega arith
@@ -42,7 +42,7 @@ loop-again c =
     let at-put-sign = at-put-name .before .before .before .before in
     let at-loop-test = at-put-sign .before .before in
     let at-loop = at-loop-test .before in
-    parametric-on (at-loop .loop .inv) (at-loop-test .loop-test .taken) (wrote-on (at-put-sign .put-sign .ensures) (at-put-name .put-name .ensures))
+    parametric-on (at-loop .loop .inv) (at-loop-test .loop-test .taken) (wrote-on (at-put-sign .write-sign .ensures) (at-put-name .write-name .ensures))
 
 same-length : tie.Need-same-length Inv-loop μ-loop
 same-length c =
@@ -61,8 +61,8 @@ put-parameters-spec =
     Inv-loop
     μ-loop
     loop-holds
-    put-sign-requires
-    put-name-requires
+    write-sign-requires
+    write-name-requires
     add-i
     loop-less
     loop-again

@@ -8,7 +8,7 @@ returns : tie.Need-returns
 returns c =
     let at-put-sign = c .before .before in
     let at-if1 = at-put-sign .before .before in
-    rw (eq-eqb _ 0 (at-if1 .if1 .taken)) (at-put-sign .put-sign .ensures)
+    rw (eq-eqb _ 0 (at-if1 .if1 .taken)) (at-put-sign .write-sign .ensures)
 
 returns-2 : tie.Need-returns-2
 returns-2 c =
@@ -16,8 +16,8 @@ returns-2 c =
     let at-if1 = at-put-bits .before .before in
     rw (ne-eqb _ 0 (at-if1 .if1 .left)) (at-put-bits .put-bits .ensures)
 
-put-sign-requires : tie.Need-put-sign-requires
-put-sign-requires c κs = search needs
+write-sign-requires : tie.Need-write-sign-requires
+write-sign-requires c κs = search needs
 
 same-length : tie.Need-same-length
 same-length c = returns c .as-long
@@ -31,4 +31,4 @@ same-length-2 c = returns-2 c .as-long
 pub put-rights-spec : {M : Type 1} → statement M
 put-rights-spec =
     tie.close
-    (tie.spec put-sign-requires same-length returns put-bits-requires same-length-2 returns-2)
+    (tie.spec write-sign-requires same-length returns put-bits-requires same-length-2 returns-2)

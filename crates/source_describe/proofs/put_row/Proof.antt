@@ -16,7 +16,7 @@ returns c =
     let at-onward = at-put-sign .before .before in
     let at-byte-from = at-onward .before in
     rw (← at-byte-from .byte-from .ensures, ← at-onward .onward .ensures .0)
-    (wrote-on (at-put-sign .put-sign .ensures) (wrote-on (at-put-name .put-name .ensures) (wrote-on (at-put-sign2 .put-sign2 .ensures) (wrote-on (at-put-number .put-number .ensures) (wrote-on (at-put-sign3 .put-sign3 .ensures) (wrote-on (at-put-sign4 .put-sign4 .ensures) (at-put-active .put-active .ensures)))))))
+    (wrote-on (at-put-sign .write-sign .ensures) (wrote-on (at-put-name .write-name .ensures) (wrote-on (at-put-sign2 .write-sign2 .ensures) (wrote-on (at-put-number .write-number .ensures) (wrote-on (at-put-sign3 .write-sign3 .ensures) (wrote-on (at-put-sign4 .write-sign4 .ensures) (at-put-active .put-active .ensures)))))))
 
 byte-from-requires : tie.Need-byte-from-requires
 byte-from-requires c κs = search needs
@@ -27,23 +27,23 @@ cast-cells c = search needs
 onward-requires : tie.Need-onward-requires
 onward-requires c κs = search needs
 
-put-sign-requires : tie.Need-put-sign-requires
-put-sign-requires c κs = search needs
+write-sign-requires : tie.Need-write-sign-requires
+write-sign-requires c κs = search needs
 
-put-name-requires : tie.Need-put-name-requires
-put-name-requires c κs = search needs
+write-name-requires : tie.Need-write-name-requires
+write-name-requires c κs = search needs
 
-put-sign-requires-2 : tie.Need-put-sign-requires-2
-put-sign-requires-2 c κs = search needs
+write-sign-requires-2 : tie.Need-write-sign-requires-2
+write-sign-requires-2 c κs = search needs
 
-put-number-requires : tie.Need-put-number-requires
-put-number-requires c κs = search needs
+write-number-requires : tie.Need-write-number-requires
+write-number-requires c κs = search needs
 
-put-sign-requires-3 : tie.Need-put-sign-requires-3
-put-sign-requires-3 c κs = search needs
+write-sign-requires-3 : tie.Need-write-sign-requires-3
+write-sign-requires-3 c κs = search needs
 
-put-sign-requires-4 : tie.Need-put-sign-requires-4
-put-sign-requires-4 c κs = search needs
+write-sign-requires-4 : tie.Need-write-sign-requires-4
+write-sign-requires-4 c κs = search needs
 
 put-active-requires : tie.Need-put-active-requires
 put-active-requires c κs =
@@ -52,7 +52,7 @@ put-active-requires c κs =
     let at-put-name = at-put-number .before .before .before .before .before .before .before .before in
     let at-onward = at-put-name .before .before .before .before .before .before in
     let at-entry = at-onward .before .before .before .before in
-    ((at-entry .pre .0 .0, at-onward .onward .ensures .1, at-entry .pre .0 .3), at-put-sign4 .put-sign4 .ensures .stops)
+    ((at-entry .pre .0 .0, at-onward .onward .ensures .1, at-entry .pre .0 .3), at-put-sign4 .write-sign4 .ensures .stops)
 
 same-length : tie.Need-same-length
 same-length c = returns c .as-long
@@ -60,6 +60,6 @@ same-length c = returns c .as-long
 pub put-row-spec : {M : Type 1} → statement M
 put-row-spec =
     tie.close
-    (tie.spec byte-from-requires cast-cells onward-requires put-sign-requires put-name-requires
-    put-sign-requires-2 put-number-requires put-sign-requires-3 put-sign-requires-4 put-active-requires
+    (tie.spec byte-from-requires cast-cells onward-requires write-sign-requires write-name-requires
+    write-sign-requires-2 write-number-requires write-sign-requires-3 write-sign-requires-4 put-active-requires
     same-length returns)

@@ -13,7 +13,7 @@ returns c =
     let at-put-sign = at-put-name .before .before .before .before in
     let at-byte-from = at-put-sign .before .before in
     rw (← at-byte-from .byte-from .ensures)
-    (wrote-on (at-put-sign .put-sign .ensures) (wrote-on (at-put-name .put-name .ensures) (wrote-on (at-put-sign2 .put-sign2 .ensures) (wrote-on (at-put-number .put-number .ensures) (at-put-senders .put-senders .ensures)))))
+    (wrote-on (at-put-sign .write-sign .ensures) (wrote-on (at-put-name .write-name .ensures) (wrote-on (at-put-sign2 .write-sign2 .ensures) (wrote-on (at-put-number .write-number .ensures) (at-put-senders .put-senders .ensures)))))
 
 byte-from-requires : tie.Need-byte-from-requires
 byte-from-requires c κs = search needs
@@ -21,17 +21,17 @@ byte-from-requires c κs = search needs
 cast-rank : tie.Need-cast-rank
 cast-rank c = search needs
 
-put-sign-requires : tie.Need-put-sign-requires
-put-sign-requires c κs = search needs
+write-sign-requires : tie.Need-write-sign-requires
+write-sign-requires c κs = search needs
 
-put-name-requires : tie.Need-put-name-requires
-put-name-requires c κs = search needs
+write-name-requires : tie.Need-write-name-requires
+write-name-requires c κs = search needs
 
-put-sign-requires-2 : tie.Need-put-sign-requires-2
-put-sign-requires-2 c κs = search needs
+write-sign-requires-2 : tie.Need-write-sign-requires-2
+write-sign-requires-2 c κs = search needs
 
-put-number-requires : tie.Need-put-number-requires
-put-number-requires c κs = search needs
+write-number-requires : tie.Need-write-number-requires
+write-number-requires c κs = search needs
 
 put-senders-requires : tie.Need-put-senders-requires
 put-senders-requires c κs =
@@ -39,7 +39,7 @@ put-senders-requires c κs =
     let at-put-name = at-put-number .before .before .before .before .before .before .before .before in
     let at-byte-from = at-put-name .before .before .before .before .before .before in
     let at-entry = at-byte-from .before .before .before in
-    (at-entry .pre .0 .0, at-put-number .put-number .ensures .stops)
+    (at-entry .pre .0 .0, at-put-number .write-number .ensures .stops)
 
 same-length : tie.Need-same-length
 same-length c = returns c .as-long
@@ -47,5 +47,5 @@ same-length c = returns c .as-long
 pub put-signal-spec : {M : Type 1} → statement M
 put-signal-spec =
     tie.close
-    (tie.spec byte-from-requires cast-rank put-sign-requires put-name-requires put-sign-requires-2
-    put-number-requires put-senders-requires same-length returns)
+    (tie.spec byte-from-requires cast-rank write-sign-requires write-name-requires write-sign-requires-2
+    write-number-requires put-senders-requires same-length returns)

@@ -10,16 +10,16 @@ returns c =
     let at-put-sign2 = at-put-active .before .before .before .before in
     let at-put-name = at-put-sign2 .before .before .before .before in
     let at-put-sign = at-put-name .before .before .before .before in
-    (wrote-on (at-put-sign .put-sign .ensures) (wrote-on (at-put-name .put-name .ensures) (wrote-on (at-put-sign2 .put-sign2 .ensures) (at-put-active .put-active .ensures))))
+    (wrote-on (at-put-sign .write-sign .ensures) (wrote-on (at-put-name .write-name .ensures) (wrote-on (at-put-sign2 .write-sign2 .ensures) (at-put-active .put-active .ensures))))
 
-put-sign-requires : tie.Need-put-sign-requires
-put-sign-requires c κs = search needs
+write-sign-requires : tie.Need-write-sign-requires
+write-sign-requires c κs = search needs
 
-put-name-requires : tie.Need-put-name-requires
-put-name-requires c κs = search needs
+write-name-requires : tie.Need-write-name-requires
+write-name-requires c κs = search needs
 
-put-sign-requires-2 : tie.Need-put-sign-requires-2
-put-sign-requires-2 c κs = search needs
+write-sign-requires-2 : tie.Need-write-sign-requires-2
+write-sign-requires-2 c κs = search needs
 
 put-active-requires : tie.Need-put-active-requires
 put-active-requires c κs = search needs
@@ -30,4 +30,4 @@ same-length c = returns c .as-long
 pub put-state-spec : {M : Type 1} → statement M
 put-state-spec =
     tie.close
-    (tie.spec put-sign-requires put-name-requires put-sign-requires-2 put-active-requires same-length returns)
+    (tie.spec write-sign-requires write-name-requires write-sign-requires-2 put-active-requires same-length returns)

@@ -12,7 +12,7 @@ returns c =
     let at-put-signals = at-put-entries .before .before .before .before in
     let at-put-parameters = at-put-signals .before .before .before .before in
     let at-entry = at-put-parameters .before .before .before .before in
-    wrote-as (wrote-on (at-put-parameters .put-parameters .ensures) (wrote-on (at-put-signals .put-signals .ensures) (wrote-on (at-put-entries .put-entries .ensures) (at-put-sign .put-sign .ensures))))
+    wrote-as (wrote-on (at-put-parameters .put-parameters .ensures) (wrote-on (at-put-signals .put-signals .ensures) (wrote-on (at-put-entries .put-entries .ensures) (at-put-sign .write-sign .ensures))))
     (text-parts _ (at-entry .args .first) (at-entry .args .n) (at-entry .pre .1 .0) (at-entry .pre .1 .1))
 
 put-parameters-requires : tie.Need-put-parameters-requires
@@ -24,8 +24,8 @@ put-signals-requires c κs = search needs
 put-entries-requires : tie.Need-put-entries-requires
 put-entries-requires c κs = search needs
 
-put-sign-requires : tie.Need-put-sign-requires
-put-sign-requires c κs = search needs
+write-sign-requires : tie.Need-write-sign-requires
+write-sign-requires c κs = search needs
 
 same-length : tie.Need-same-length
 same-length c = returns c .as-long
@@ -33,5 +33,5 @@ same-length c = returns c .as-long
 pub put-text-spec : {M : Type 1} → statement M
 put-text-spec =
     tie.close
-    (tie.spec put-parameters-requires put-signals-requires put-entries-requires put-sign-requires same-length
+    (tie.spec put-parameters-requires put-signals-requires put-entries-requires write-sign-requires same-length
     returns)

@@ -16,11 +16,11 @@ byte-from-requires-2 c κs = search needs
 onward-requires : tie.Need-onward-requires
 onward-requires c κs = search needs
 
-put-sign-requires : tie.Need-put-sign-requires
-put-sign-requires c κs = search needs
+write-sign-requires : tie.Need-write-sign-requires
+write-sign-requires c κs = search needs
 
-put-name-requires : tie.Need-put-name-requires
-put-name-requires c κs = search needs
+write-name-requires : tie.Need-write-name-requires
+write-name-requires c κs = search needs
 
 put-phase-requires : tie.Need-put-phase-requires
 put-phase-requires c κs = search needs
@@ -46,19 +46,19 @@ returns c =
     let at-byte-from2 = at-onward .before in
     let at-byte-from = at-byte-from2 .before in
     rw (← at-byte-from .byte-from .ensures, ← at-byte-from2 .byte-from2 .ensures, ← at-onward .onward .ensures .0)
-    (wrote-on (at-put-sign .put-sign .ensures) (wrote-on (at-put-name .put-name .ensures)
+    (wrote-on (at-put-sign .write-sign .ensures) (wrote-on (at-put-name .write-name .ensures)
     (wrote-on (at-put-phase .put-phase .ensures) (at-put-term .put-term .ensures))))
 
-pub put-handler-spec : {M : Type 1} → statement M
-put-handler-spec =
+pub write-handler-spec : {M : Type 1} → statement M
+write-handler-spec =
     tie.close
     (tie.spec
     byte-from-requires
     cast-event
     byte-from-requires-2
     onward-requires
-    put-sign-requires
-    put-name-requires
+    write-sign-requires
+    write-name-requires
     put-phase-requires
     put-term-requires
     same-length

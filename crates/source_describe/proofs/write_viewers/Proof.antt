@@ -23,7 +23,7 @@ returns-2 c =
     let at-byte-from = at-if1 .before in
     let args = at-byte-from .before .before .before .args in
     wrote-as
-    (wrote-on (at-put-sign .put-sign .ensures) (wrote-on (at-put-sign2 .put-sign2 .ensures) (at-put-rights .put-rights .ensures)))
+    (wrote-on (at-put-sign .write-sign .ensures) (wrote-on (at-put-sign2 .write-sign2 .ensures) (at-put-rights .put-rights .ensures)))
     (viewers-there (drop (args .at) (args .s .now)) (at-byte-from .byte-from .ensures) (at-if1 .if1 .left) (at-byte-from2 .byte-from2 .ensures))
 
 byte-from-requires : tie.Need-byte-from-requires
@@ -32,11 +32,11 @@ byte-from-requires c κs = search needs
 byte-from-requires-2 : tie.Need-byte-from-requires-2
 byte-from-requires-2 c κs = search needs
 
-put-sign-requires : tie.Need-put-sign-requires
-put-sign-requires c κs = search needs
+write-sign-requires : tie.Need-write-sign-requires
+write-sign-requires c κs = search needs
 
-put-sign-requires-2 : tie.Need-put-sign-requires-2
-put-sign-requires-2 c κs = search needs
+write-sign-requires-2 : tie.Need-write-sign-requires-2
+write-sign-requires-2 c κs = search needs
 
 put-rights-requires : tie.Need-put-rights-requires
 put-rights-requires c κs = search needs
@@ -44,8 +44,8 @@ put-rights-requires c κs = search needs
 same-length : tie.Need-same-length
 same-length c = returns-2 c .as-long
 
-pub put-viewers-spec : {M : Type 1} → statement M
-put-viewers-spec =
+pub write-viewers-spec : {M : Type 1} → statement M
+write-viewers-spec =
     tie.close
-    (tie.spec byte-from-requires returns byte-from-requires-2 put-sign-requires put-sign-requires-2
+    (tie.spec byte-from-requires returns byte-from-requires-2 write-sign-requires write-sign-requires-2
     put-rights-requires same-length returns-2)

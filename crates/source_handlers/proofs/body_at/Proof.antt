@@ -20,8 +20,8 @@ enum-known-d c = search needs
 enum-told : tie.Need-enum-told
 enum-told c = search needs
 
-fault-of-requires : tie.Need-fault-of-requires
-fault-of-requires c κs = search needs
+fault-in-requires : tie.Need-fault-in-requires
+fault-in-requires c κs = search needs
 
 returns : tie.Need-returns
 returns c =
@@ -29,7 +29,7 @@ returns c =
     let f = c .before .before .before in
     let a = f .before .before .before .before .before .args in
     let h = rw e at (f .phase-due .ensures .0) in
-    rw (c .fault-of .ensures ∙ ap dueFault e)
+    rw (c .fault-in .ensures ∙ ap dueFault e)
     (phase-refused (a .text .now) (meaningBy (a .text .now) (a .places .now) (a .cursor .sorted) (a .meanings .now)) (a .cursor .cells) (a .e) (a .cursor .at) (a .cursor .end) (a .out .now) _ _ h, (tt, search needs))
 
 cast-put-handler : tie.Need-cast-put-handler
@@ -124,7 +124,7 @@ body-at-spec =
     phase-due-requires
     enum-known-d
     enum-told
-    fault-of-requires
+    fault-in-requires
     returns
     cast-put-handler
     cast-put-handler-2

@@ -62,8 +62,8 @@ enum-known-event c = search needs
 enum-told-2 : tie.Need-enum-told-2 Inv-loop μ-loop
 enum-told-2 c = search needs
 
-fault-of-requires : tie.Need-fault-of-requires Inv-loop μ-loop
-fault-of-requires c κs = search needs
+fault-in-requires : tie.Need-fault-in-requires Inv-loop μ-loop
+fault-in-requires c κs = search needs
 
 same-length-2 : tie.Need-same-length-2 Inv-loop μ-loop
 same-length-2 c = search needs
@@ -79,7 +79,7 @@ returns-2 c =
     let e = c .before .enum-told2 .given .1 in
     let h = rw (o .on .given .1) at (o .before .before .sign-due .ensures .0) in
     let d = rw e at (v .event-due .ensures .0) in
-    rw (c .fault-of .ensures ∙ ap dueFault e)
+    rw (c .fault-in .ensures ∙ ap dueFault e)
     (turn-event-fault (a .text .now) (meaningBy (a .text .now) (a .places .now) (a .cursor .sorted) (a .meanings .now)) (a .cursor .cells) (a .events .now) (a .cursor .at) (a .cursor .end) (a .out .now) t _ _ h _ _ d, (tt, t .kept))
 
 body-at-requires : tie.Need-body-at-requires Inv-loop μ-loop
@@ -180,7 +180,7 @@ handlers-at-spec =
     event-due-requires
     enum-known-event
     enum-told-2
-    fault-of-requires
+    fault-in-requires
     same-length-2
     returns-2
     body-at-requires

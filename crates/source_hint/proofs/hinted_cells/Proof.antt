@@ -15,8 +15,8 @@ returns-5 c =
     let told = rw (c .before .counted .given .1) at (c .before .before .before .number-due .ensures .0) in
     told .1
 
-pub cells-at-spec : {M : Type 1} → statement M
-cells-at-spec =
+pub hinted-cells-spec : {M : Type 1} → statement M
+hinted-cells-spec =
     tie.close
     (tie.spec (λ c. search needs) (λ c. search needs) (λ c κs. search needs) (λ c. search needs) (λ c. search needs) (λ c. search needs)
     number-due-requires (λ c. search needs) (λ c. search needs) (λ c. search needs) returns-5)

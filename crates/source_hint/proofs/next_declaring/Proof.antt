@@ -19,5 +19,5 @@ next-declaring-spec =
     (λ c κs. (c .before .before .before .before .pre .0, c .pass-idle .ensures .1))
     (λ c. omega (arith, c .before .before .pass-idle .ensures .1))
     (λ c κs. (c .before .before .before .before .before .before .pre .0, c .before .before .pass-idle .ensures .1))
-    (λ c. omega (arith, c .onward .ensures .0, c .before .before .before .pass-idle .ensures, c .before .before .before .before .loop-test .taken))
-    (λ c. c .onward .ensures .1) (λ c. c .before .loop .inv))
+    (λ c. omega (arith, c .next-place .ensures .0, c .before .before .before .pass-idle .ensures, c .before .before .before .before .loop-test .taken))
+    (λ c. c .next-place .ensures .1) (λ c. c .before .loop .inv))

@@ -12,6 +12,6 @@ returns c =
     let passed = c .pass-over .ensures in
     (comment-passed _ _ _ (at-entry .pre .1) (at-if1 .if1 .taken) passed, passed .within)
 
-pub onward-spec : {M : Type 1} → statement M
-onward-spec =
+pub next-place-spec : {M : Type 1} → statement M
+next-place-spec =
     tie.close (tie.spec (λ c. search needs) (λ c κs. search needs) returns (λ c. search needs) (λ c. search needs))

@@ -52,8 +52,8 @@ same-length-2 c = simp length-set (c .before .loop .inv .0)
 returns-2 : tie.Need-returns-2 Inv-loop μ-loop
 returns-2 c = simp length-set (c .before .loop .inv .0)
 
-pub insert-spec : {M : Type 1} → statement M
-insert-spec =
+pub insert-name-spec : {M : Type 1} → statement M
+insert-name-spec =
     tie.close
     (tie.spec Inv-loop μ-loop (λ c κs. search needs) (λ c. (refl, omega arith)) (λ c. search needs) (λ c. search needs) read-q
     (λ c κs. c .before .before .before .name-size .ensures) (λ c. search needs) write same-length returns

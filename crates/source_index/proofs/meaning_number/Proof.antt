@@ -7,8 +7,8 @@ use borrow.Author.Tests.{lt-ltb, le-ltb}
 use Rattle.source_index.proofs.meaning_number.Statement.{statement}
 use Rattle.source_index.proofs.meaning_number.Tie as tie
 
-pub number-of-spec : {M : Type 1} → statement M
-number-of-spec =
+pub meaning-number-spec : {M : Type 1} → statement M
+meaning-number-spec =
     tie.close
     (tie.spec
     (λ c. (rw (lt-ltb (c .before .before .args .j) (c .before .before .args .params) (c .if1 .taken)), omega (arith, c .before .before .pre .0)))

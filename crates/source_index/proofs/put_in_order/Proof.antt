@@ -13,16 +13,16 @@ Inv-loop text names places₀ k₀ places k = length places ≡ length places₀
 abbrev μ-loop : tie.MeasureT-loop
 μ-loop text names places₀ k₀ places k = length names - k
 
-insert-requires : tie.Need-insert-requires Inv-loop μ-loop
-insert-requires c κs =
+insert-name-requires : tie.Need-insert-name-requires Inv-loop μ-loop
+insert-name-requires c κs =
     let at-loop = c .before .before .before in
     omega (arith, at-loop .loop .inv, c .before .before .loop-test .taken, at-loop .before .before .before .before .pre)
 
 loop-again : tie.Need-loop-again Inv-loop μ-loop
-loop-again c = let at-insert = c .before .before in at-insert .insert .ensures ∙ at-insert .before .before .before .before .loop .inv
+loop-again c = let at-insert = c .before .before in at-insert .insert-name .ensures ∙ at-insert .before .before .before .before .loop .inv
 
 pub put-in-order-spec : {M : Type 1} → statement M
 put-in-order-spec =
     tie.close
-    (tie.spec Inv-loop μ-loop (λ c. refl) (λ c. search needs) (λ c. search needs) insert-requires (λ c. search needs) (λ c. omega arith)
+    (tie.spec Inv-loop μ-loop (λ c. refl) (λ c. search needs) (λ c. search needs) insert-name-requires (λ c. search needs) (λ c. omega arith)
     loop-again (λ c. c .before .loop .inv) (λ c. c .before .loop .inv))

@@ -5,8 +5,8 @@ use borrow.Author.Tests.{lt-ltb, le-ltb}
 use Rattle.source_names.proofs.byte_order.Statement.{statement}
 use Rattle.source_names.proofs.byte_order.Tie as tie
 
-pub order-of-spec : {M : Type 1} → statement M
-order-of-spec =
+pub byte-order-spec : {M : Type 1} → statement M
+byte-order-spec =
     tie.close
     (tie.spec
     (λ c κs. search needs)

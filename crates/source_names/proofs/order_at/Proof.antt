@@ -31,7 +31,7 @@ returns c =
     let at-byte = c .before .before in
     let at-test = at-byte .before .before in
     let turn = at-test .before .loop .inv in
-    c .order-of .ensures ∙ ap (orderOfBytes _) (at-byte .byte-at .ensures)
+    c .byte-order .ensures ∙ ap (orderOfBytes _) (at-byte .byte-at .ensures)
     ∙ order-stop turn (at-test .loop-test .taken) (λ z. c .before .if1 .taken (z ∙ sym (at-byte .byte-at .ensures)))
 
 loop-again : tie.Need-loop-again Inv-loop μ-loop

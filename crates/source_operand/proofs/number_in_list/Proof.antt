@@ -8,8 +8,8 @@ use Rattle.lib_base.proofs.Tools.{all-at-or}
 use Rattle.source_operand.proofs.number_in_list.Statement.{statement}
 use Rattle.source_operand.proofs.number_in_list.Tie as tie
 
-pub number-at-spec : {M : Type 1} → statement M
-number-at-spec =
+pub number-in-list-spec : {M : Type 1} → statement M
+number-in-list-spec =
     tie.close
     (tie.spec
     (λ c. search needs)

@@ -66,7 +66,7 @@ put-term-returns t c =
 put-term-byte-from-requires : (t : ℕ) → put-term-lts.Need-byte-from-requires (claims-put-term t) (put-term-at t) put-term.Post
 put-term-byte-from-requires t c κs = search needs
 
-put-term-put-leaf-requires : (t : ℕ) → put-term-lts.Need-put-leaf-requires (claims-put-term t) (put-term-at t) put-term.Post
+put-term-put-leaf-requires : (t : ℕ) → put-term-lts.Need-write-leaf-requires (claims-put-term t) (put-term-at t) put-term.Post
 put-term-put-leaf-requires t c κs = search needs
 
 put-term-same-length : (t : ℕ) → put-term-lts.Need-same-length (claims-put-term t) (put-term-at t) put-term.Post
@@ -79,7 +79,7 @@ put-term-returns-2 t c =
     let at-byte-from = at-if2 .before in
     let at-if1 = at-byte-from .before in
     let at-entry = at-if1 .before .before .before in
-    wrote-as (at-put-leaf .put-leaf .ensures) (term-leaf _ _ _ _ _ (at-if1 .if1 .left) (at-byte-from .byte-from .ensures) (at-if2 .if2 .taken))
+    wrote-as (at-put-leaf .write-leaf .ensures) (term-leaf _ _ _ _ _ (at-if1 .if1 .left) (at-byte-from .byte-from .ensures) (at-if2 .if2 .taken))
 
 put-term-byte-from-requires-2 : (t : ℕ) → put-term-lts.Need-byte-from-requires-2 (claims-put-term t) (put-term-at t) put-term.Post
 put-term-byte-from-requires-2 t c κs = search needs
@@ -179,7 +179,7 @@ put-term-same-length-3 t c = put-term-returns-4 t c .as-long
 put-term-after-field-requires-2 : (t : ℕ) → put-term-lts.Need-after-field-requires-2 (claims-put-term t) (put-term-at t) put-term.Post
 put-term-after-field-requires-2 t c κs = search needs
 
-put-term-put-sign-requires : (t : ℕ) → put-term-lts.Need-put-sign-requires (claims-put-term t) (put-term-at t) put-term.Post
+put-term-put-sign-requires : (t : ℕ) → put-term-lts.Need-write-sign-requires (claims-put-term t) (put-term-at t) put-term.Post
 put-term-put-sign-requires t c κs = search needs
 
 put-term-sub-put-term-3 : (t : ℕ) → put-term-lts.Need-sub-put-term-3 (claims-put-term t) (put-term-at t) put-term.Post
@@ -200,9 +200,9 @@ put-term-put-term-requires-3 t c κs =
     let at-put-head-arg = at-if3 .before .before .before .before .before .before .before .before .before in
     let at-if1 = at-put-head-arg .before .before .before .before .before in
     let at-entry = at-if1 .before .before .before in
-    (omega (arith, at-entry .pre .0, at-if1 .if1 .left), ((at-entry .pre .1 .0 .0, at-after-field2 .after-field2 .ensures .1, at-entry .pre .1 .0 .2), at-put-sign .put-sign .ensures .stops))
+    (omega (arith, at-entry .pre .0, at-if1 .if1 .left), ((at-entry .pre .1 .0 .0, at-after-field2 .after-field2 .ensures .1, at-entry .pre .1 .0 .2), at-put-sign .write-sign .ensures .stops))
 
-put-term-put-sign-requires-2 : (t : ℕ) → put-term-lts.Need-put-sign-requires-2 (claims-put-term t) (put-term-at t) put-term.Post
+put-term-put-sign-requires-2 : (t : ℕ) → put-term-lts.Need-write-sign-requires-2 (claims-put-term t) (put-term-at t) put-term.Post
 put-term-put-sign-requires-2 t c κs = search needs
 
 put-term-returns-5 : (t : ℕ) → put-term-lts.Need-returns-5 (claims-put-term t) (put-term-at t) put-term.Post
@@ -228,8 +228,8 @@ put-term-returns-5 t c =
     let at-entry = at-if1 .before .before .before in
     wrote-as
     (wrote-on (at-put-head .put-head .ensures) (wrote-on (at-put-term .put-term .ensures) (wrote-on (at-put-between .put-between .ensures)
-    (wrote-on (at-put-term2 .put-term2 .ensures) (wrote-on (at-put-sign .put-sign .ensures)
-    (wrote-on (at-put-term3 .put-term3 .ensures) (at-put-sign2 .put-sign2 .ensures)))))))
+    (wrote-on (at-put-term2 .put-term2 .ensures) (wrote-on (at-put-sign .write-sign .ensures)
+    (wrote-on (at-put-term3 .put-term3 .ensures) (at-put-sign2 .write-sign2 .ensures)))))))
     (three-arguments _ _ _ _ _ _ (at-if1 .if1 .left) (at-byte-from .byte-from .ensures) (at-if2 .if2 .left) (at-byte-from2 .byte-from2 .ensures)
     (at-onward .onward .ensures .0) (at-first-level .first-level .ensures) (at-second-level .second-level .ensures) (at-after-field .after-field .ensures .0)
     (at-after-field2 .after-field2 .ensures .0) (at-if3 .if3 .left) (at-if4 .if4 .left))

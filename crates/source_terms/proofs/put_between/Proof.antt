@@ -7,8 +7,8 @@ use borrow.Author.Needs.{needs}
 use Rattle.source_terms.proofs.put_between.Statement.{statement}
 use Rattle.source_terms.proofs.put_between.Tie as tie
 
-put-sign-requires : tie.Need-put-sign-requires
-put-sign-requires c κs = search needs
+write-sign-requires : tie.Need-write-sign-requires
+write-sign-requires c κs = search needs
 
 same-length : tie.Need-same-length
 same-length c = search needs
@@ -16,7 +16,7 @@ same-length c = search needs
 returns : tie.Need-returns
 returns c =
     let at-put-sign = c .before .before in
-    rw (eq-eqb _ ifFn (at-put-sign .before .before .if1 .taken)) (at-put-sign .put-sign .ensures)
+    rw (eq-eqb _ ifFn (at-put-sign .before .before .if1 .taken)) (at-put-sign .write-sign .ensures)
 
 returns-2 : tie.Need-returns-2
 returns-2 c =
@@ -30,8 +30,8 @@ returns-3 c =
     let f = at-if1 .before .before .args .f in
     rw (ne-eqb f ifFn (at-if1 .if1 .left), ne-eqb f 0 (c .before .if2 .left), lt-ltb last f (c .if3 .taken)) (wrote-none _ _ (at-if1 .before .before .pre))
 
-put-function-requires : tie.Need-put-function-requires
-put-function-requires c κs = search needs
+write-function-requires : tie.Need-write-function-requires
+write-function-requires c κs = search needs
 
 same-length-2 : tie.Need-same-length-2
 same-length-2 c = search needs
@@ -42,17 +42,17 @@ returns-4 c =
     let at-if3 = at-put-function .before .before in
     let at-if1 = at-if3 .before .before in
     let f = at-if1 .before .before .args .f in
-    rw (ne-eqb f ifFn (at-if1 .if1 .left), ne-eqb f 0 (at-if3 .before .if2 .left), le-ltb last f (at-if3 .if3 .left)) (at-put-function .put-function .ensures)
+    rw (ne-eqb f ifFn (at-if1 .if1 .left), ne-eqb f 0 (at-if3 .before .if2 .left), le-ltb last f (at-if3 .if3 .left)) (at-put-function .write-function .ensures)
 
 pub put-between-spec : {M : Type 1} → statement M
 put-between-spec =
     tie.close
     (tie.spec
-    put-sign-requires
+    write-sign-requires
     same-length
     returns
     returns-2
     returns-3
-    put-function-requires
+    write-function-requires
     same-length-2
     returns-4)

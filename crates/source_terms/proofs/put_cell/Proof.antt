@@ -5,8 +5,8 @@ use borrow.Author.Needs.{needs}
 use Rattle.source_terms.proofs.put_cell.Statement.{statement}
 use Rattle.source_terms.proofs.put_cell.Tie as tie
 
-put-name-requires : tie.Need-put-name-requires
-put-name-requires c κs = search needs
+write-name-requires : tie.Need-write-name-requires
+write-name-requires c κs = search needs
 
 same-length : tie.Need-same-length
 same-length c = search needs
@@ -15,19 +15,19 @@ returns : tie.Need-returns
 returns c =
     let at-put-name = c .before .before .before in
     let args = at-put-name .before .before .before .args in
-    rw (eq-eqb (args .h) (args .i) (c .if1 .taken)) (at-put-name .put-name .ensures)
+    rw (eq-eqb (args .h) (args .i) (c .if1 .taken)) (at-put-name .write-name .ensures)
 
-put-sign-requires : tie.Need-put-sign-requires
-put-sign-requires c κs = search needs
+write-sign-requires : tie.Need-write-sign-requires
+write-sign-requires c κs = search needs
 
-sub-put-number : tie.Need-sub-put-number
-sub-put-number c = search needs
+sub-write-number : tie.Need-sub-write-number
+sub-write-number c = search needs
 
-put-number-requires : tie.Need-put-number-requires
-put-number-requires c κs = search needs
+write-number-requires : tie.Need-write-number-requires
+write-number-requires c κs = search needs
 
-put-sign-requires-2 : tie.Need-put-sign-requires-2
-put-sign-requires-2 c κs = search needs
+write-sign-requires-2 : tie.Need-write-sign-requires-2
+write-sign-requires-2 c κs = search needs
 
 same-length-2 : tie.Need-same-length-2
 same-length-2 c = search needs
@@ -41,19 +41,19 @@ returns-2 c =
     let at-put-name = at-if1 .before .before .before in
     let args = at-put-name .before .before .before .args in
     rw (ne-eqb (args .h) (args .i) (at-if1 .if1 .left))
-    (wrote-on (at-put-name .put-name .ensures) (wrote-on (at-put-sign .put-sign .ensures)
-    (wrote-on (at-put-number .put-number .ensures) (at-put-sign2 .put-sign2 .ensures))))
+    (wrote-on (at-put-name .write-name .ensures) (wrote-on (at-put-sign .write-sign .ensures)
+    (wrote-on (at-put-number .write-number .ensures) (at-put-sign2 .write-sign2 .ensures))))
 
 pub put-cell-spec : {M : Type 1} → statement M
 put-cell-spec =
     tie.close
     (tie.spec
-    put-name-requires
+    write-name-requires
     same-length
     returns
-    put-sign-requires
-    sub-put-number
-    put-number-requires
-    put-sign-requires-2
+    write-sign-requires
+    sub-write-number
+    write-number-requires
+    write-sign-requires-2
     same-length-2
     returns-2)

@@ -6,8 +6,8 @@ use borrow.Author.Needs.{needs}
 use Rattle.source_terms.proofs.put_head.Statement.{statement}
 use Rattle.source_terms.proofs.put_head.Tie as tie
 
-put-function-requires : tie.Need-put-function-requires
-put-function-requires c κs = search needs
+write-function-requires : tie.Need-write-function-requires
+write-function-requires c κs = search needs
 
 same-length : tie.Need-same-length
 same-length c = search needs
@@ -16,13 +16,13 @@ returns : tie.Need-returns
 returns c =
     let at-put-function = c .before .before in
     let at-if1 = at-put-function .before .before in
-    rw (eq-eqb _ notFn (at-if1 .if1 .taken)) (at-put-function .put-function .ensures)
+    rw (eq-eqb _ notFn (at-if1 .if1 .taken)) (at-put-function .write-function .ensures)
 
-put-function-requires-2 : tie.Need-put-function-requires-2
-put-function-requires-2 c κs = search needs
+write-function-requires-2 : tie.Need-write-function-requires-2
+write-function-requires-2 c κs = search needs
 
-put-sign-requires : tie.Need-put-sign-requires
-put-sign-requires c κs = search needs
+write-sign-requires : tie.Need-write-sign-requires
+write-sign-requires c κs = search needs
 
 same-length-2 : tie.Need-same-length-2
 same-length-2 c = search needs
@@ -34,7 +34,7 @@ returns-2 c =
     let at-if2 = at-put-function2 .before .before in
     let at-if1 = at-if2 .before in
     let f = at-if1 .before .before .args .f in
-    rw (ne-eqb f notFn (at-if1 .if1 .left), eq-eqb f ifFn (at-if2 .if2 .taken)) (wrote-on (at-put-function2 .put-function2 .ensures) (at-put-sign .put-sign .ensures))
+    rw (ne-eqb f notFn (at-if1 .if1 .left), eq-eqb f ifFn (at-if2 .if2 .taken)) (wrote-on (at-put-function2 .write-function2 .ensures) (at-put-sign .write-sign .ensures))
 
 put-unless-requires : tie.Need-put-unless-requires
 put-unless-requires c κs = search needs
@@ -54,11 +54,11 @@ pub put-head-spec : {M : Type 1} → statement M
 put-head-spec =
     tie.close
     (tie.spec
-    put-function-requires
+    write-function-requires
     same-length
     returns
-    put-function-requires-2
-    put-sign-requires
+    write-function-requires-2
+    write-sign-requires
     same-length-2
     returns-2
     put-unless-requires

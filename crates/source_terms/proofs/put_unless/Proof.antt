@@ -14,8 +14,8 @@ returns c =
     let at-entry = at-level-of .before .before in
     rw (← at-level-of .level-of .ensures, le-leb _ _ (c .if1 .taken)) (wrote-none _ _ (at-entry .pre .0))
 
-put-sign-requires : tie.Need-put-sign-requires
-put-sign-requires c κs = search needs
+write-sign-requires : tie.Need-write-sign-requires
+write-sign-requires c κs = search needs
 
 same-length : tie.Need-same-length
 same-length c = search needs
@@ -24,8 +24,8 @@ returns-2 : tie.Need-returns-2
 returns-2 c =
     let at-put-sign = c .before .before in
     let at-if1 = at-put-sign .before .before in
-    rw (← at-if1 .before .level-of .ensures, lt-leb _ _ (at-if1 .if1 .left)) (at-put-sign .put-sign .ensures)
+    rw (← at-if1 .before .level-of .ensures, lt-leb _ _ (at-if1 .if1 .left)) (at-put-sign .write-sign .ensures)
 
 pub put-unless-spec : {M : Type 1} → statement M
 put-unless-spec =
-    tie.close (tie.spec level-of-requires returns put-sign-requires same-length returns-2)
+    tie.close (tie.spec level-of-requires returns write-sign-requires same-length returns-2)

@@ -16,8 +16,8 @@ onward-requires c κs = search needs
 word-from-requires : tie.Need-word-from-requires
 word-from-requires c κs = search needs
 
-put-value-requires : tie.Need-put-value-requires
-put-value-requires c κs = search needs
+write-value-requires : tie.Need-write-value-requires
+write-value-requires c κs = search needs
 
 same-length : tie.Need-same-length
 same-length c = search needs
@@ -30,7 +30,7 @@ returns c =
     let at-if1 = at-onward .before .before in
     let at-byte-from = at-if1 .before in
     rw (← at-byte-from .byte-from .ensures, eq-eqb _ 16 (at-if1 .if1 .taken), ← at-onward .onward .ensures .0, ← at-word-from .word-from .ensures .0)
-    (at-put-value .put-value .ensures)
+    (at-put-value .write-value .ensures)
 
 byte-from-requires-2 : tie.Need-byte-from-requires-2
 byte-from-requires-2 c κs = search needs
@@ -73,8 +73,8 @@ returns-2 c =
     rw (← at-byte-from .byte-from .ensures, ne-eqb _ 16 (at-if1 .if1 .left), eq-eqb _ 17 (at-if2 .if2 .taken), ← at-byte-from2 .byte-from2 .ensures, ← at-entry .pre .0 .2 .each i h)
     (at-put-cell .put-cell .ensures)
 
-put-name-requires : tie.Need-put-name-requires
-put-name-requires c κs = search needs
+write-name-requires : tie.Need-write-name-requires
+write-name-requires c κs = search needs
 
 same-length-3 : tie.Need-same-length-3
 same-length-3 c = search needs
@@ -87,16 +87,16 @@ returns-3 c =
     let at-if1 = at-byte-from2 .before in
     let at-byte-from = at-if1 .before in
     rw (← at-byte-from .byte-from .ensures, ne-eqb _ 16 (at-if1 .if1 .left), ne-eqb _ 17 (at-if2 .if2 .left), ← at-byte-from2 .byte-from2 .ensures)
-    (at-put-name .put-name .ensures)
+    (at-put-name .write-name .ensures)
 
-pub put-leaf-spec : {M : Type 1} → statement M
-put-leaf-spec =
+pub write-leaf-spec : {M : Type 1} → statement M
+write-leaf-spec =
     tie.close
     (tie.spec
     byte-from-requires
     onward-requires
     word-from-requires
-    put-value-requires
+    write-value-requires
     same-length
     returns
     byte-from-requires-2
@@ -106,6 +106,6 @@ put-leaf-spec =
     put-cell-requires
     same-length-2
     returns-2
-    put-name-requires
+    write-name-requires
     same-length-3
     returns-3)

@@ -5,11 +5,11 @@ use Rattle.source_terms.proofs.Writing.{wrote-over, wrote-one}
 use Rattle.source_terms.proofs.write_name.Statement.{statement}
 use Rattle.source_terms.proofs.write_name.Tie as tie
 
-pub put-name-spec : {M : Type 1} → statement M
-put-name-spec =
+pub write-name-spec : {M : Type 1} → statement M
+write-name-spec =
     tie.close
     (tie.spec
     (λ c. wrote-over _ _ _ (c .before .before .pre .0) (c .if1 .taken))
     (λ c κs. search needs)
     (λ c. search needs)
-    (λ c. let at-call = c .before .before in wrote-one (at-call .put-name .ensures .0) (at-call .before .before .if1 .left) (at-call .put-name .ensures .1)))
+    (λ c. let at-call = c .before .before in wrote-one (at-call .write-name .ensures .0) (at-call .before .before .if1 .left) (at-call .write-name .ensures .1)))

@@ -5,11 +5,11 @@ use Rattle.source_terms.proofs.Writing.{wrote-over, wrote-one}
 use Rattle.source_terms.proofs.write_sign.Statement.{statement}
 use Rattle.source_terms.proofs.write_sign.Tie as tie
 
-pub put-sign-spec : {M : Type 1} → statement M
-put-sign-spec =
+pub write-sign-spec : {M : Type 1} → statement M
+write-sign-spec =
     tie.close
     (tie.spec
     (λ c. wrote-over _ _ _ (c .before .before .pre .0) (c .if1 .taken))
     (λ c κs. search needs)
     (λ c. search needs)
-    (λ c. let at-call = c .before .before in wrote-one (at-call .put-sign .ensures .0) (at-call .before .before .if1 .left) (at-call .put-sign .ensures .1)))
+    (λ c. let at-call = c .before .before in wrote-one (at-call .write-sign .ensures .0) (at-call .before .before .if1 .left) (at-call .write-sign .ensures .1)))

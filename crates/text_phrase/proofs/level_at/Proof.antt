@@ -14,5 +14,5 @@ level-at-spec =
     (λ c. search needs)
     (λ c. search needs)
     (λ c κs. search needs)
-    (λ c. (rw (← c .level-of .ensures) (search code depth 12), λ h. c .before .before .if1 .taken))
+    (λ c. (rw (← c .token-level .ensures) (search code depth 12), λ h. c .before .before .if1 .taken))
     (λ c. (search code depth 12, λ h. absurd (omega arith))))

@@ -14,5 +14,5 @@ mark-at-spec =
     (λ c. search needs)
     (λ c. search needs)
     (λ c κs. search needs)
-    (λ c. (rw (← c .mark-of .ensures) (search code depth 12), λ h. c .before .before .if1 .taken))
+    (λ c. (rw (← c .token-mark .ensures) (search code depth 12), λ h. c .before .before .if1 .taken))
     (λ c. (search code depth 12, λ h. absurd (omega arith))))

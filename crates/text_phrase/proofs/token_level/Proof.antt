@@ -14,13 +14,13 @@ returns-2 c =
     let t = c .before .before .args .t in
     rw (eq-eqb _ 18 (c .before .if1 .left), level-beyond (t % 4294967296) (c .if2 .taken))
 
-pub level-of-spec : {M : Type 1} → statement M
+pub token-level-spec : {M : Type 1} → statement M
 unfolding levelCode
-level-of-spec =
+token-level-spec =
     tie.close
     (tie.spec
     (λ c. search code depth 12)
     returns-2
     (λ c. search needs)
     (λ c κs. search needs)
-    (λ c. rw (eq-eqb _ 18 (c .before .before .if1 .left)) (c .level-of .ensures)))
+    (λ c. rw (eq-eqb _ 18 (c .before .before .if1 .left)) (c .token-level .ensures)))

@@ -4,9 +4,9 @@ use Rattle.lib_base.proofs.Pick.{code}
 use Rattle.text_phrase.proofs.token_mark.Statement.{statement}
 use Rattle.text_phrase.proofs.token_mark.Tie as tie
 
-pub mark-of-spec : {M : Type 1} → statement M
+pub token-mark-spec : {M : Type 1} → statement M
 unfolding markCode
-mark-of-spec =
+token-mark-spec =
     tie.close
     (tie.spec
     (λ c. search code depth 16)

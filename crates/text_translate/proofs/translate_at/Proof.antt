@@ -67,8 +67,8 @@ returns-3 c =
     from-text (at-entry .args .text .now) (at-entry .args .buffer .now) (at-scan .scan .last .1 .0) _ _
     (at-if1 .if1 .left) (scans-held (at-entry .args .text .now) (at-scan .scan .last .1 .0) _ _ (at-s .s .given .1) (at-scan .scan .ensures)) (at-from-tokens .from-tokens .ensures)
 
-pub formula-at-spec : {M : Type 1} → statement M
-formula-at-spec =
+pub translate-at-spec : {M : Type 1} → statement M
+translate-at-spec =
     tie.close
     (tie.spec returns slice-aggregate-scan scan-requires enum-known-s enum-told returns-2 sub-from-tokens
     part-from-tokens-start part-from-tokens-end from-tokens-requires same-length returns-3)

@@ -3,12 +3,12 @@ use native.Mathlib.Omega.{arith}
 use borrow.Author.Needs.{needs}
 use Rattle.lib_base.proofs.Pick.{code}
 use Rattle.draft_params.specs.Filling.{parameterValue}
-use Rattle.draft_params.proofs.value_of.Statement.{statement}
-use Rattle.draft_params.proofs.value_of.Tie as tie
+use Rattle.draft_params.proofs.parameter_value.Statement.{statement}
+use Rattle.draft_params.proofs.parameter_value.Tie as tie
 
-pub value-of-spec : {M : Type 1} → statement M
+pub parameter-value-spec : {M : Type 1} → statement M
 unfolding parameterValue
-value-of-spec =
+parameter-value-spec =
     tie.close
     (tie.spec
     (λ c. (search code depth 12, omega arith))

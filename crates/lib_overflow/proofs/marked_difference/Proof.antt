@@ -6,17 +6,17 @@ use mir.Facts.{toZ-ofZ}
 use Rattle.lib_arith.proofs.Laws.{view}
 use Rattle.lib_arith.proofs.Wide.{number-back}
 use Rattle.lib_overflow.proofs.Ranges.{difference-fits}
-use Rattle.lib_overflow.proofs.difference.Statement.{statement}
-use Rattle.lib_overflow.proofs.difference.Tie as tie
+use Rattle.lib_overflow.proofs.marked_difference.Statement.{statement}
+use Rattle.lib_overflow.proofs.marked_difference.Tie as tie
 
-pub difference-spec : {M : Type 1} → statement M
-difference-spec =
+pub marked-difference-spec : {M : Type 1} → statement M
+marked-difference-spec =
     tie.close
     (tie.spec (search needs) (search needs) (search needs)
     (λ c.
     let u = view (c .before .before .before .args .a) (omega arith) in
     let v = view (c .before .before .before .args .b) (omega arith) in
-    rw (c .before .number .ensures, c .number2 .ensures, number-back u, number-back v) (difference-fits u v))
+    rw (c .before .whole .ensures, c .whole2 .ensures, number-back u, number-back v) (difference-fits u v))
     (search needs) (search needs)
     (λ c.
     let numbers = c .before .before in
@@ -26,8 +26,8 @@ difference-spec =
     rw (
       c .mark .ensures,
       c .before .is-beyond .ensures,
-      numbers .before .number .ensures,
-      numbers .number2 .ensures,
+      numbers .before .whole .ensures,
+      numbers .whole2 .ensures,
       number-back u,
       number-back v,
       toZ-ofZ {w = w64} (difference-fits u v),
