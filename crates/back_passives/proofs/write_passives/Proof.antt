@@ -17,7 +17,7 @@ started : (d : List ℕ) (ev bs : ℕ) {x a m n : ℕ} → a ≡ countEvent d 0 
 started d ev bs e f g h = rw (← e, ← f, ← g) h
 
 -- where the instructions that work the passives out are counted
-module _ (c : tie.After-count-again) where
+module _ (c : tie.After-passives-length) where
   abbrev kinds-at : tie.After-write-kinds
   kinds-at = c .before .before .before .before .before .before .before
 

@@ -19,7 +19,7 @@ abbrev μ-loop : tie.MeasureT-loop
 abbrev entry-at : tie.At-loop Inv-loop μ-loop → tie.Start Inv-loop μ-loop
 entry-at c = c .before .before .before .before
 
-abbrev turn-at : tie.After-share Inv-loop μ-loop → tie.In-loop Inv-loop μ-loop
+abbrev turn-at : tie.After-is-common Inv-loop μ-loop → tie.In-loop Inv-loop μ-loop
 turn-at c = c .before .before .before .before
 
 loop-holds : tie.Need-loop-holds Inv-loop μ-loop

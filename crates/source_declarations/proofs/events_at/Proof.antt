@@ -45,7 +45,7 @@ event-from-requires c κs =
     (omega arith, (omega arith, (omega arith, omega (arith, turn .few, turn .kept))))
 
 -- where an event is read, its word, and the turn that it is read in
-module _ (c : tie.After-event-at Inv-loop μ-loop) where
+module _ (c : tie.After-event-from Inv-loop μ-loop) where
   abbrev word-at : tie.After-word Inv-loop μ-loop
   word-at = c .before .before .before
 
@@ -101,7 +101,7 @@ module _ (c : tie.After-put-event Inv-loop μ-loop) where
   abbrev one-at : tie.After-one2 Inv-loop μ-loop
   one-at = c .before .before .before
 
-  abbrev call-at : tie.After-event-at Inv-loop μ-loop
+  abbrev call-at : tie.After-event-from Inv-loop μ-loop
   call-at = one-at .before .before
 
 add-count : tie.Need-add-count Inv-loop μ-loop

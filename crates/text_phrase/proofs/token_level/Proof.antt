@@ -23,4 +23,4 @@ token-level-spec =
     returns-2
     (λ c. search needs)
     (λ c κs. search needs)
-    (λ c. rw (eq-eqb _ 18 (c .before .before .if1 .left)) (c .token-level .ensures)))
+    (λ c. rw (eq-eqb _ 18 (c .before .before .if1 .left)) (c .level-of .ensures)))
