@@ -20,7 +20,7 @@ use Rattle.spec_semantics.proofs.PlaysLaws.{plays}
 use Rattle.spec_semantics.proofs.Lengths.{length-fresh}
 use Rattle.spec_semantics.proofs.OverAgrees.{rules-find, rules-find-only}
 use Rattle.spec_model.specs.Model.{Arrival, arrival, Call, step, Answer, committed, act, Turn, call, State, state, says, turn, runTurns, begun}
-use Rattle.spec_model.specs.Claims.{copyBackIn, aloneCalls, eventsOf, takenInBy, courseOf, SameChanges, ApartEach, commits, inForce, engineIn, IdleIn, after, historyOf, Replays, Sentences}
+use Rattle.spec_model.specs.Claims.{copyBackIn, aloneCalls, eventsOf, takenInBy, SameChanges, ApartEach, last, inForce, engineIn, IdleIn, after, historyFrom, historyOf, Replays, Sentences}
 use Rattle.spec_model.specs.Sound.{Sound}
 use Rattle.spec_model.specs.Told.{previewed}
 use Rattle.spec_model.proofs.States.{numberIn, storeIn}
@@ -123,9 +123,9 @@ module _ (p : Program) (ok : Accepted p) (t₀ l₀ : List ℕ) (table-room : 34
         let s : State = after p ts in
         let e : act (inForce s) step (engineIn s) .answer ≡ committed a m = sym (next-read l₀ (bytesAfter xs bytes) s stand) ∙ h in
         let k = mark-right p v ts sound a m (says-next s (committed a m) e) in
-        let g = proper p v ts sound in
-        mark-in s (stand .fit) (storeAfter p (historyOf p ts)) (stored p v ts sound .0) a m k
-        (replays p v (historyOf p ts) g (fresh p) (length-fresh p)) (λ c r. replays-alone p v (historyOf p ts) g (fresh p) c (length-fresh p) r) refl
+        let g = known p v ts sound in
+        mark-in s (stand .fit) (replayed p (historyOf p ts) (fresh p)) (replayed-sized p v ts sound) a m k
+        (replays p (historyOf p ts) g (fresh p) (length-fresh p)) (λ c r. replays-alone p (historyOf p ts) g (fresh p) c (length-fresh p) r) refl
 
   -- ---- one event alone
 
@@ -146,7 +146,7 @@ module _ (p : Program) (ok : Accepted p) (t₀ l₀ : List ℕ) (table-room : 34
 
     one-event : IdleNow (bytesAfter xs bytes) → e < events (inForce (after p ts)) → who < 8 → maySend (inForce (after p ts)) who e ≡ true
         → numberIn (after p ts) < 1000000
-        → (historyOf p (ts ++ map call more) ≡ historyOf p ts ++ (commits (arrival (numberIn (after p ts)) e who) ∷ []))
+        → (historyFrom (after p ts) (map call more) ≡ last (arrival (numberIn (after p ts)) e who ∷ []))
         × Plays (inForce (after p ts)) (e ∷ []) (boardOf (inForce (after p ts)) (bytesAfter xs bytes .round))
         (boardOf (inForce (after p ts)) (bytesAfter (xs ++ map calls more) bytes .round))
     one-event h b eight sends room =
@@ -190,7 +190,7 @@ module _ (p : Program) (ok : Accepted p) (t₀ l₀ : List ℕ) (table-room : 34
 
 module _ (p : Program) (ok : Accepted p) (t₀ l₀ t₁ l₁ : List ℕ) (a : 34816 ≤ length t₀) (b : 2048 ≤ length l₀) (c : 34816 ≤ length t₁) (d : 2048 ≤ length l₁) where
   pub two-lists : (xs ys : List ByteTurn) (ts us : List Turn) → AreTurns xs ts → AreTurns ys us → eventsOf (takenInBy p ts) ≡ eventsOf (takenInBy p us)
-      → SameChanges (courseOf (historyOf p ts)) (courseOf (historyOf p us)) → ApartEach p (courseOf (historyOf p ts))
+      → SameChanges (historyOf p ts) (historyOf p us) → ApartEach p (historyOf p ts)
       → IdleNow (bytesAfter xs (refine.freshFrom p ok t₀ l₀ a b)) → IdleNow (bytesAfter ys (refine.freshFrom p ok t₁ l₁ c d))
       → boardOf (inForce (after p ts)) (bytesAfter xs (refine.freshFrom p ok t₀ l₀ a b) .round)
       ≡ boardOf (inForce (after p us)) (bytesAfter ys (refine.freshFrom p ok t₁ l₁ c d) .round)

@@ -31,21 +31,7 @@ use Rattle.refine_calls.proofs.TurnsRefine as refine
 use Rattle.refine_lists.specs.Lists.{boardOf, IdleNow, OneList, OnlyCalls}
 use Rattle.refine_lists.proofs.ListsHold.{turns-calls, in-force-calls, one-list, two-lists, board-is, idle-is}
 
--- ---- a history of commits alone
-
-played : (p : Program) (l : List Arrival) (s : List ℕ) → replayed p (map commits l) s ≡ play p (eventsOf l) s
-unfolding replayed play
-played p [] s = refl
-played p (a ∷ l) s = played p l (event p (a .event) s)
-
-declared : (p : Program) (l : List Arrival) → Proper p (map commits l) → All (λ e. e < events p) (eventsOf l)
-declared p [] h = tt
-declared p (a ∷ l) h = (h .0, declared p l (h .1))
-
-one-sheet : (l : List Arrival) → courseOf (map commits l) ≡ last l
-unfolding courseOf
-one-sheet [] = refl
-one-sheet (a ∷ l) = ap (onward a) (one-sheet l)
+-- ---- calls
 
 pub table-stays : (cs : List Call) (b : Bytes) → bytesAfter (map calls cs) b .table ≡ b .table
 unfolding bytesAfter turnOnBytes
@@ -62,15 +48,17 @@ pub are-calls : (cs : List Call) → AreTurns (map calls cs) (map call cs)
 are-calls cs = turns-calls [] [] cs tt
 
 module _ (p : Program) (ok : Accepted p) where
-  -- the history of calls, which is their commits
-  history : (cs : List Call) → historyOf p (map call cs) ≡ map commits (committedIn p (map call cs))
-  history cs = only-commits cs p _ ∙ ap (map commits) (sym (committed-arrivals p (historyOf p (map call cs))))
+  -- the history of calls, which is their commits under the one sheet
+  history : (cs : List Call) → historyOf p (map call cs) ≡ last (committedIn p (map call cs))
+  history cs = only-last cs p _
 
   stays : (cs : List Call) → inForce (after p (map call cs)) ≡ p
   stays cs = in-force-calls cs (begun p)
 
   pub known : (cs : List Call) → All (λ e. e < events p) (eventsOf (committedIn p (map call cs)))
-  known cs = declared p (committedIn p (map call cs)) (subst (Proper p) (history cs) (proper p (valid p ok) (map call cs) (turns-sound (map calls cs) (map call cs) (are-calls cs))))
+  known cs =
+      events-declared p (committedIn p (map call cs))
+      (subst (Known p) (history cs) (sheets.known p (valid p ok) (map call cs) (turns-sound (map calls cs) (map call cs) (are-calls cs))) .1)
 
   module _ (t₀ l₀ : List ℕ) (table-room : 34816 ≤ length t₀) (round-room : 2048 ≤ length l₀) where
     abbrev first : Bytes
@@ -87,10 +75,11 @@ module _ (p : Program) (ok : Accepted p) where
 
     at-rules : (cs : List Call) → copyBackIn p (engineIn (after p (map call cs))) ≡ false
         → boardOf p (bytesAfter (map calls cs) first .round) ≡ play p (eventsOf (committedIn p (map call cs))) (fresh p)
+    unfolding replayed
     at-rules cs h =
         board-of-calls cs
         ∙ board-of-commits p (valid p ok) (map call cs) (turns-sound (map calls cs) (map call cs) (are-calls cs)) (subst (λ (q : Program). copyBackIn q (engineIn (after p (map call cs))) ≡ false) (sym (stays cs)) h)
-        ∙ ap (λ (l : List Moment). replayed p l (fresh p)) (history cs) ∙ played p (committedIn p (map call cs)) (fresh p)
+        ∙ ap (λ (h : History). replayed p h (fresh p)) (history cs)
 
     pub only-calls : (cs : List Call) → OnlyCalls p l₀ first cs
     only-calls cs =
@@ -114,9 +103,6 @@ module _ (p : Program) (ok : Accepted p) where
     abbrev other : Bytes
     other = refine.freshFrom p ok t₁ l₁ c d
 
-    course : (cs : List Call) → courseOf (historyOf p (map call cs)) ≡ last (committedIn p (map call cs))
-    course cs = ap courseOf (history cs) ∙ one-sheet (committedIn p (map call cs))
-
     pub two-only-calls : (cs ds : List Call) → eventsOf (takenInBy p (map call cs)) ≡ eventsOf (takenInBy p (map call ds))
         → ApartIn p (takenInBy p (map call cs)) → IdleNow (bytesAfter (map calls cs) one) → IdleNow (bytesAfter (map calls ds) other)
         → boardOf p (bytesAfter (map calls cs) one .round) ≡ boardOf p (bytesAfter (map calls ds) other .round)
@@ -125,6 +111,6 @@ module _ (p : Program) (ok : Accepted p) where
         list t₀ l₀ a b cs .sentences .once .2 (idle-is p ok t₀ l₀ a b (map calls cs) (map call cs) (are-calls cs) .0 ic) in
         ap (λ (q : Program). boardOf q (bytesAfter (map calls cs) one .round)) (sym (stays cs))
         ∙ two-lists p ok t₀ l₀ t₁ l₁ a b c d (map calls cs) (map calls ds) (map call cs) (map call ds) (are-calls cs) (are-calls ds) same
-        (subst (λ (x : Course). SameChanges x (courseOf (historyOf p (map call ds)))) (sym (course cs)) (subst (SameChanges (last (committedIn p (map call cs)))) (sym (course ds)) tt))
-        (subst (ApartEach p) (sym (course cs)) (each-perm _ once apart)) ic id
+        (subst (λ (x : History). SameChanges x (historyOf p (map call ds))) (sym (history cs)) (subst (SameChanges (last (committedIn p (map call cs)))) (sym (history ds)) tt))
+        (subst (ApartEach p) (sym (history cs)) (each-perm _ once apart)) ic id
         ∙ ap (λ (q : Program). boardOf q (bytesAfter (map calls ds) other .round)) (stays ds)

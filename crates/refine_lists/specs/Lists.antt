@@ -20,8 +20,8 @@ use Rattle.spec_language.specs.Answers.{told}
 use Rattle.spec_semantics.specs.Meaning.{fresh, withStore}
 use Rattle.spec_semantics.specs.Over.{EventOver}
 use Rattle.spec_semantics.specs.Plays.{Plays}
-use Rattle.spec_model.specs.Claims.{programAfter, engineAfter, after, historyOf, takenInBy, courseOf, SameChanges}
-use Rattle.spec_model.specs.Claims.{ApartEach, number, IdleIn, commits, Replays, Sentences, eventsOf, copyBackIn}
+use Rattle.spec_model.specs.Claims.{programAfter, engineAfter, after, historyFrom, historyOf, takenInBy, SameChanges}
+use Rattle.spec_model.specs.Claims.{ApartEach, number, IdleIn, last, Replays, Sentences, eventsOf, copyBackIn}
 use Rattle.spec_model.specs.Claims.{aloneCalls, forecast, foreseen, committedIn, ApartIn, Unchanged}
 use Rattle.spec_model.specs.Model.{Turn, call, Reply, says, carriedOver, replies, begun, change, Arrival, arrival, step, refused, committed, Call}
 use Rattle.format_image.specs.Table.{tableOf}
@@ -91,7 +91,7 @@ pub record OneList (p : Program) (l₀ : List ℕ) (b : Bytes) (xs : List ByteTu
   -- give": from an idle round, an event that is taken in, from whoever may send it, and stepped to its commit
   pub one-event : IdleNow (bytesAfter xs b) → (e who : ℕ) → e < events (programAfter p ts) → who < 8 → maySend (programAfter p ts) who e ≡ true
       → number (engineAfter p ts) < 1000000
-      → (historyOf p (ts ++ map call (aloneCalls (programAfter p ts) e who)) ≡ historyOf p ts ++ (commits (arrival (number (engineAfter p ts)) e who) ∷ []))
+      → (historyFrom (after p ts) (map call (aloneCalls (programAfter p ts) e who)) ≡ last (arrival (number (engineAfter p ts)) e who ∷ []))
       × Plays (programAfter p ts) (e ∷ []) (boardOf (programAfter p ts) (bytesAfter xs b .round))
       (boardOf (programAfter p ts) (bytesAfter (xs ++ map calls (aloneCalls (programAfter p ts) e who)) b .round))
   -- 02, M-100: "The same number is offered as a call of its own on a round .. While something runs, that call gives
@@ -118,9 +118,9 @@ pub record OneList (p : Program) (l₀ : List ℕ) (b : Bytes) (xs : List ByteTu
 
 pub record OnlyCalls (p : Program) (l₀ : List ℕ) (b : Bytes) (cs : List Call) : Type 0 where
   pub list : OneList p l₀ b (map calls cs) (map call cs)
-  -- the history is the commits, and further calls change no sheet either, a consequence of what a call's reply can be:
+  -- the history is the commits, under one sheet, and further calls change no sheet either, a consequence of what a call's reply can be:
   -- so the sentences of what follows hold of them
-  pub history : historyOf p (map call cs) ≡ map commits (committedIn p (map call cs))
+  pub history : historyOf p (map call cs) ≡ last (committedIn p (map call cs))
   pub unchanged : (ds : List Call) → Unchanged (map call ds) (after p (map call cs))
   -- the sheet stays in force, and "The table is still as compile left it"
   pub in-force : programAfter p (map call cs) ≡ p
@@ -191,7 +191,7 @@ TwoListsWhere C =
     → (xs ys : List SheetTurn) → All Compiles xs → All Compiles ys
     → (ts us : List Turn) → AllMean xs ts → AllMean ys us
     → eventsOf (takenInBy (programOf ps x) ts) ≡ eventsOf (takenInBy (programOf ps x) us)
-    → SameChanges (courseOf (historyOf (programOf ps x) ts)) (courseOf (historyOf (programOf ps x) us))
+    → SameChanges (historyOf (programOf ps x) ts) (historyOf (programOf ps x) us)
     → C s ps (programOf ps x) xs ts
     → IdleNow (bytesAfter (map onBytes xs) (freshRoundOn s ps t₀ l₀)) → IdleNow (bytesAfter (map onBytes ys) (freshRoundOn s qs t₁ l₁))
     → boardOf (programAfter (programOf ps x) ts) (bytesAfter (map onBytes xs) (freshRoundOn s ps t₀ l₀) .round)
@@ -199,7 +199,7 @@ TwoListsWhere C =
 
 -- "equal boards on two phones need independence in each sheet"
 abbrev pub TwoLists : Type 0
-TwoLists = TwoListsWhere (λ s ps p xs ts. ApartEach p (courseOf (historyOf p ts)))
+TwoLists = TwoListsWhere (λ s ps p xs ts. ApartEach p (historyOf p ts))
 
 -- of calls alone, as 01 words it; 02, M-107: "Arrivals in hand commit as before, whoever sent them"
 abbrev pub TwoCallsWhere : (List ℕ → List ℕ → Program → List Call → Type 0) → Type 0

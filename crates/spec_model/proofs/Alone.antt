@@ -1,9 +1,9 @@
 -- From an idle round an event that is taken in and stepped alone to its commit leaves the store of its meaning under
--- the program in force, and its commit is the history's next moment. Turns that are calls alone act as model's lists of
+-- the program in force, and its commit is all that its history holds. Turns that are calls alone act as model's lists of
 -- calls do.
 use Prim.Native.Nat.{ℕ, zero, suc, _+_, _-_, _<_}
 use mathlib.Core.Bool.{Bool, true}
-use mathlib.Core.Path.{_≡_, refl, ap, _∙_}
+use mathlib.Core.Path.{_≡_, refl, sym, ap, _∙_}
 use mathlib.Core.List.{List, [], _∷_, _++_, map}
 use native.Mathlib.Omega.{arith}
 use lib.ListN.{length, replicate}
@@ -18,10 +18,11 @@ use Rattle.spec_execution.specs.Execution.{Values, emptied}
 use Rattle.spec_execution.specs.Runs.{executeAll}
 use Rattle.spec_execution.proofs.CodeRight.{code-facts}
 use Rattle.spec_model.specs.Model.{Arrival, arrival, rest, busy, Engine, engine, Call, Answer, refused, takenIn, shows, idle, ran, started, preempted, committed, act, run, Turn, call, change, State, state, Reply, says, carriedOver, turn, runTurns, replies, begun}
-use Rattle.spec_model.specs.Claims.{storeOf, aloneCalls, Moment, commits, ifCommits, momentOf, moments, inForce, IdleIn, after, historyOf}
+use Rattle.spec_model.specs.Claims.{storeOf, aloneCalls, last, committedBy, inForce, IdleIn, historyFrom, after}
 use Rattle.spec_model.specs.Sound.{Sound}
 use Rattle.spec_model.specs.Evaluated.{AloneRight}
-use Rattle.spec_model.proofs.States.{numberIn, storeIn, arrivalsCommitted}
+use Rattle.spec_model.proofs.Moments.{Moment, commits, answered, momentOf, moments, bySheets, one-sheet, history-from, arrivalsCommitted, committed-from}
+use Rattle.spec_model.proofs.States.{numberIn, storeIn}
 use Rattle.spec_model.proofs.Calls.{answers}
 use Rattle.spec_model.proofs.Once.{idle-empty}
 use Rattle.spec_model.proofs.OneEvent.{alone}
@@ -29,7 +30,7 @@ use Rattle.spec_model.proofs.History.{runs-append, Fit, fits}
 
 -- ---- the history of two lists one after the other
 
-if-append : (x : Answer) (h k : List Moment) → ifCommits x (h ++ k) ≡ ifCommits x h ++ k
+if-append : (x : Answer) (h k : List Moment) → answered x (h ++ k) ≡ answered x h ++ k
 if-append (refused n) h k = refl
 if-append takenIn h k = refl
 if-append (shows v) h k = refl
@@ -62,12 +63,12 @@ calls-run (c ∷ cs) p w = calls-run cs p (act p c w .after)
 -- the commits that answers name
 abbrev named : List Answer → List Moment
 named [] = []
-named (x ∷ l) = ifCommits x (named l)
+named (x ∷ l) = answered x (named l)
 
 calls-moments : (cs : List Call) (p : Program) (w : Engine) → moments (map call cs) (replies (map call cs) (state p w)) ≡ named (answers p cs w)
 unfolding moments replies answers turn
 calls-moments [] p w = refl
-calls-moments (c ∷ cs) p w = ap (ifCommits (act p c w .answer)) (calls-moments cs p (act p c w .after))
+calls-moments (c ∷ cs) p w = ap (answered (act p c w .answer)) (calls-moments cs p (act p c w .after))
 
 -- so the history of calls is their commits
 named-commits : (l : List Answer) → named l ≡ map commits (arrivalsCommitted (named l))
@@ -84,6 +85,12 @@ named-commits (committed a m ∷ l) = ap (λ (h : List Moment). commits a ∷ h)
 pub only-commits : (cs : List Call) (p : Program) (w : Engine)
     → moments (map call cs) (replies (map call cs) (state p w)) ≡ map commits (arrivalsCommitted (moments (map call cs) (replies (map call cs) (state p w))))
 only-commits cs p w = rw (calls-moments cs p w) (named-commits (answers p cs w))
+
+-- all under the one sheet
+pub only-last : (cs : List Call) (p : Program) (w : Engine) → historyFrom (state p w) (map call cs) ≡ last (committedBy (historyFrom (state p w) (map call cs)))
+only-last cs p w =
+    let ms : List Moment = moments (map call cs) (replies (map call cs) (state p w)) in
+    history-from (state p w) (map call cs) ∙ ap bySheets (only-commits cs p w) ∙ one-sheet (arrivalsCommitted ms) ∙ ap last (sym (committed-from (state p w) (map call cs)))
 
 named-ran : (k : ℕ) (a : Arrival) (m : Bool) → named (replicate k ran ++ (committed a m ∷ [])) ≡ commits a ∷ []
 named-ran zero a m = refl
@@ -114,10 +121,11 @@ alone-here (state p (engine t waiting (busy a c) d)) f h e who b eight sends roo
 
 module _ (p : Program) (v : Valid p) where
   pub alone-right : (ts : List Turn) → All Sound ts → AloneRight p ts
+  unfolding bySheets
   alone-right ts g h e who b eight sends room =
       let s : State = after p ts in
       let us : List Turn = map call (aloneCalls (inForce s) e who) in
       let k : Alone s e who = alone-here s (fits p v ts g) h e who b eight sends room in (
-        moments-append ts us (begun p) ∙ ap (λ (l : List Moment). historyOf p ts ++ l) (k .0),
+        history-from s us ∙ ap bySheets (k .0),
         ap storeIn (runs-append ts us (begun p)) ∙ k .1,
       )

@@ -18,9 +18,10 @@ use Rattle.spec_execution.specs.CodeFacts.{CodeFacts}
 use Rattle.spec_execution.proofs.CodeRight.{code-facts}
 use Rattle.spec_model.specs.Carried.{carried}
 use Rattle.spec_model.specs.Model.{Arrival, Engine, engine, Call, Turn, State, state, carriedTo}
-use Rattle.spec_model.specs.Claims.{copyBackIn, storeOf, Moment, commits, changes, inForce, engineIn, after, historyOf}
+use Rattle.spec_model.specs.Claims.{copyBackIn, storeOf, inForce, engineIn, after, historyOf}
 use Rattle.spec_model.specs.Sound.{Sound}
 use Rattle.spec_model.specs.Evaluated.{replayed, BoardOfCommits}
+use Rattle.spec_model.proofs.Moments.{Moment, commits, changes, momentsOf, storeBy, replayed-is}
 use Rattle.spec_model.proofs.States.{storeIn}
 use Rattle.spec_model.proofs.Carries.{length-carried}
 use Rattle.spec_model.proofs.Moves.{Effect, nothing, took, commit, cases-imp}
@@ -30,21 +31,21 @@ use Rattle.spec_model.proofs.History.{noted, Fit, fits, lastOf, Kept, K
 -- ---- a history with one more moment
 
 pub replay-commit : (p : Program) (h : List Moment) (a : Arrival) (s : List ℕ)
-    → replayed p (h ++ (commits a ∷ [])) s ≡ event (lastOf p h) (a .event) (replayed p h s)
-unfolding replayed lastOf
+    → storeBy p (h ++ (commits a ∷ [])) s ≡ event (lastOf p h) (a .event) (storeBy p h s)
+unfolding storeBy lastOf
 replay-commit p [] a s = refl
 replay-commit p (commits b ∷ h) a s = replay-commit p h a (event p (b .event) s)
 replay-commit p (changes q ∷ h) a s = replay-commit q h a (carried p q s)
 
-replay-change : (p : Program) (h : List Moment) (q : Program) (s : List ℕ) → replayed p (h ++ (changes q ∷ [])) s ≡ carried (lastOf p h) q (replayed p h s)
-unfolding replayed lastOf
+replay-change : (p : Program) (h : List Moment) (q : Program) (s : List ℕ) → storeBy p (h ++ (changes q ∷ [])) s ≡ carried (lastOf p h) q (storeBy p h s)
+unfolding storeBy lastOf
 replay-change p [] q s = refl
 replay-change p (commits b ∷ h) q s = replay-change p h q (event p (b .event) s)
 replay-change p (changes r ∷ h) q s = replay-change r h q (carried p r s)
 
 module _ (p₀ : Program) where
   abbrev pub storeAfter : List Moment → List ℕ
-  storeAfter h = replayed p₀ h (fresh p₀)
+  storeAfter h = storeBy p₀ h (fresh p₀)
 
   noted-store : (x : Effect) (h : List Moment) (p : Program) → lastOf p₀ h ≡ p → onto p x (storeAfter h) ≡ storeAfter (noted x h)
   noted-store nothing h p e = refl
@@ -76,12 +77,16 @@ module _ (p₀ : Program) where
   }
 
   module _ (v : Valid p₀) where
-    pub stored : (ts : List Turn) → All Sound ts → Stored ts (historyOf p₀ ts) [] (after p₀ ts)
-    unfolding replayed emptied
+    pub stored : (ts : List Turn) → All Sound ts → Stored ts (momentsOf p₀ ts) [] (after p₀ ts)
+    unfolding storeBy emptied
     stored ts g = always p₀ Stored keeps v (length-fresh p₀, refl) ts g
 
     store-of : (s : State) (h : List Moment) → Fit s → Stored [] h [] s → copyBackIn (inForce s) (engineIn s) ≡ false → storeIn s ≡ storeAfter h
     store-of (state p w) h f i u = still p (code-facts p (f .0)) (storeAfter h) w (i .0) (f .1 .fine) u (i .1)
 
     pub board-of-commits : (ts : List Turn) → All Sound ts → BoardOfCommits p₀ ts
-    board-of-commits ts g u = store-of (after p₀ ts) (historyOf p₀ ts) (fits p₀ v ts g) (stored ts g) u
+    board-of-commits ts g u =
+        store-of (after p₀ ts) (momentsOf p₀ ts) (fits p₀ v ts g) (stored ts g) u ∙ sym (replayed-is p₀ ts (fresh p₀))
+
+    pub replayed-sized : (ts : List Turn) → All Sound ts → length (replayed p₀ (historyOf p₀ ts) (fresh p₀)) ≡ size (inForce (after p₀ ts))
+    replayed-sized ts g = rw (replayed-is p₀ ts (fresh p₀)) (stored ts g .0)

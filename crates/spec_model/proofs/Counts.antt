@@ -11,14 +11,15 @@ use Rattle.spec_language.specs.Syntax.{Program}
 use Rattle.spec_language.specs.Valid.{Valid}
 use Rattle.spec_language.specs.Dependence.{size, events}
 use Rattle.spec_language.specs.Rights.{maySee}
-use Rattle.spec_semantics.specs.Meaning.{at}
+use Rattle.spec_semantics.specs.Meaning.{at, fresh}
 use Rattle.spec_semantics.specs.OverMeaning.{eventOver}
 use Rattle.spec_execution.proofs.CodeRight.{code-facts}
 use Rattle.spec_model.specs.Model.{Arrival, arrival, Engine, Call, arrive, step, board, Answer, refused, takenIn, shows, idle, ran, started, preempted, committed, rank, act, run, Turn, call, change, State, state, Reply, says, carriedOver, TurnOutcome, turn, runTurns, replies, begun}
-use Rattle.spec_model.specs.Claims.{number, stepsOf, AtRest, foreseen, Moment, ifCommits, momentOf, moments, ifTakenIn, takenTurns, inForce, engineIn, IdleIn, after, historyOf, Unchanged, stepsAmong, IdleWithin, QuietExactly, NobodyWaits, PreviewRight}
+use Rattle.spec_model.specs.Claims.{number, stepsOf, AtRest, foreseen, ifTakenIn, takenTurns, inForce, engineIn, IdleIn, after, Unchanged, stepsAmong, IdleWithin, QuietExactly, NobodyWaits, PreviewRight}
 use Rattle.spec_model.specs.Sound.{Sound}
 use Rattle.spec_model.specs.Evaluated.{MarkRight}
-use Rattle.spec_model.proofs.States.{numberIn, handIn, storeIn, countNow, arrivalsCommitted, committed-arrivals}
+use Rattle.spec_model.proofs.Moments.{Moment, answered, momentOf, moments, momentsOf, replayed-is, arrivalsCommitted, committed-from}
+use Rattle.spec_model.proofs.States.{numberIn, handIn, storeIn, countNow}
 use Rattle.spec_model.proofs.Calls.{stepCount, answers, commitsOf, takenFrom}
 use Rattle.spec_model.proofs.Reached.{DoneIn}
 use Rattle.spec_model.proofs.IdleWithin.{idle-from, empty}
@@ -63,7 +64,7 @@ no-moment : (q : Program) (r : Reply) (l : List Moment) → r ≢ carriedOver �
 no-moment q (says x) l h = refl
 no-moment q carriedOver l h = absurd (h refl)
 
-committed-answer : (x : Answer) (h : List Moment) (l : List Answer) → arrivalsCommitted h ≡ commitsOf l → arrivalsCommitted (ifCommits x h) ≡ commitsOf (x ∷ l)
+committed-answer : (x : Answer) (h : List Moment) (l : List Answer) → arrivalsCommitted h ≡ commitsOf l → arrivalsCommitted (answered x h) ≡ commitsOf (x ∷ l)
 unfolding commitsOf
 committed-answer (refused n) h l e = e
 committed-answer takenIn h l e = e
@@ -164,7 +165,7 @@ module _ (p : Program) (v : Valid p) where
   quiet-exactly ts g r us h e = let q = split-at ts us in rw q (quiet-here (after p ts) (fits p v ts g) r us h (sym (ap numberIn q) ∙ e))
 
   pub nobody-waits : (ts : List Turn) → All Sound ts → NobodyWaits p ts
-  nobody-waits ts g us a m h k b = rw (committed-arrivals (inForce (after p ts)) (moments us (replies us (after p ts)))) (waits-here (after p ts) (fits p v ts g) us a m h k b)
+  nobody-waits ts g us a m h k b = rw (committed-from (after p ts) us) (waits-here (after p ts) (fits p v ts g) us a m h k b)
 
   pub preview-right : (ts : List Turn) → All Sound ts → PreviewRight p ts
   preview-right ts g e i who us b sees t h n k =
@@ -172,4 +173,6 @@ module _ (p : Program) (v : Valid p) where
       rw q (preview-here (after p ts) (fits p v ts g) e i who us b sees t h (sym (ap numberIn q) ∙ n) (subst IdleIn q k))
 
   pub mark-right : (ts : List Turn) → All Sound ts → MarkRight p ts
-  mark-right ts g a m e = mark-here (after p ts) (fits p v ts g) (storeAfter p (historyOf p ts)) (stored p v ts g) a m e
+  mark-right ts g a m e =
+      rw (replayed-is p ts (fresh p))
+      (mark-here (after p ts) (fits p v ts g) (storeAfter p (momentsOf p ts)) (stored p v ts g) a m e)

@@ -18,97 +18,51 @@ use Rattle.spec_semantics.proofs.Commute.{commute}
 use Rattle.spec_execution.proofs.CodeRight.{code-facts}
 use Rattle.spec_model.specs.Carried.{carried}
 use Rattle.spec_model.specs.Model.{Arrival, rank}
-use Rattle.spec_model.specs.Claims.{eventsOf, Moment, commits, changes, Commit, commitsUnder, Course, last, thenChange, onward, courseOf, SameChanges, ApartIn, ApartEach, unsigned}
+use Rattle.spec_model.specs.Claims.{eventsOf, History, last, thenChange, onward, SameChanges, ApartIn, ApartEach, unsigned, committedBy}
 use Rattle.spec_model.specs.Evaluated.{replayed}
-use Rattle.spec_model.proofs.States.{arrivalsCommitted}
+use Rattle.spec_model.proofs.Moments.{Moment, commits, changes, bySheets, Commit, commitsUnder}
 use Rattle.spec_model.proofs.Carries.{length-carried}
 use Rattle.spec_model.proofs.Choice.{numbers, distinct-numbers, perm-rest}
 use Rattle.spec_model.proofs.Equals.{Sooner, sooner-prop}
+use Rattle.spec_model.proofs.Replaying.{Known}
 use Rattle.spec_model.proofs.Unsigned.{allUnsigned, same-events, same-numbers, all-unsigned, pairs-unsigned}
 use Rattle.spec_model.proofs.Confluence.{Declared, Likeness, CommuteBy, Commute, confluent, one-store}
-use Rattle.spec_model.proofs.Replaying.{Proper}
 
--- ---- what a course does to a store
-
-unfoldable pub along : Program → Course → List ℕ → List ℕ
-along p (last l) s = play p (eventsOf l) s
-along p (thenChange l q c) s = along q c (carried p q (play p (eventsOf l) s))
-
-along-onward : (p : Program) (a : Arrival) (c : Course) (s : List ℕ) → along p (onward a c) s ≡ along p c (event p (a .event) s)
-unfolding along play
-along-onward p a (last l) s = refl
-along-onward p a (thenChange l q c) s = refl
-
-pub replay-along : (p : Program) (h : List Moment) (s : List ℕ) → replayed p h s ≡ along p (courseOf h) s
-unfolding replayed along courseOf play
-replay-along p [] s = refl
-replay-along p (commits a ∷ h) s = replay-along p h (event p (a .event) s) ∙ sym (along-onward p a (courseOf h) s)
-replay-along p (changes q ∷ h) s = replay-along q h (carried p q s)
-
--- ---- the arrivals of a course: under its first sheet, and all
-
-abbrev firsts : Course → List Arrival
+-- the arrivals committed under the first sheet
+abbrev firsts : History → List Arrival
 firsts (last l) = l
 firsts (thenChange l q c) = l
 
-abbrev pub allOf : Course → List Arrival
-allOf (last l) = l
-allOf (thenChange l q c) = l ++ allOf c
+-- ---- under each sheet: in order
 
-all-onward : (a : Arrival) (c : Course) → allOf (onward a c) ≡ a ∷ allOf c
-all-onward a (last l) = refl
-all-onward a (thenChange l q c) = refl
-
-pub committed-all : (h : List Moment) → arrivalsCommitted h ≡ allOf (courseOf h)
-unfolding courseOf
-committed-all [] = refl
-committed-all (commits a ∷ h) = ap (λ (l : List Arrival). a ∷ l) (committed-all h) ∙ sym (all-onward a (courseOf h))
-committed-all (changes q ∷ h) = committed-all h
-
--- ---- under each sheet: in order, declared, valid
-
-abbrev pub Orderly : Program → Course → Type 0
+abbrev pub Orderly : Program → History → Type 0
 Orderly p (last l) = Pairwise (Sooner p) l
 Orderly p (thenChange l q c) = Pairwise (Sooner p) l × Orderly q c
-
-abbrev pub Known : Program → Course → Type 0
-Known p (last l) = Valid p × All (Declared p) l
-Known p (thenChange l q c) = Valid p × All (Declared p) l × Known q c
 
 sooner-cons : (p : Program) (a : Arrival) (l : List Arrival) → All (Sooner p a) l → Pairwise (Sooner p) l → Pairwise (Sooner p) (a ∷ l)
 sooner-cons p a l h k = Pairwise·cons (λ x m. all-mem (Sooner p a) (sooner-prop p a) l h x m) k
 
-orderly-onward : (p : Program) (a : Arrival) (c : Course) → All (Sooner p a) (firsts c) → Orderly p c → Orderly p (onward a c)
+orderly-onward : (p : Program) (a : Arrival) (c : History) → All (Sooner p a) (firsts c) → Orderly p c → Orderly p (onward a c)
 orderly-onward p a (last l) h k = sooner-cons p a l h k
 orderly-onward p a (thenChange l q c) h k = (sooner-cons p a l h (k .0), k .1)
 
-firsts-onward : (P : Arrival → Type 0) (a : Arrival) (c : Course) → P a → All P (firsts c) → All P (firsts (onward a c))
+firsts-onward : (P : Arrival → Type 0) (a : Arrival) (c : History) → P a → All P (firsts c) → All P (firsts (onward a c))
 firsts-onward P a (last l) h k = (h, k)
 firsts-onward P a (thenChange l q c) h k = (h, k)
 
-all-firsts : (P : Arrival → Type 0) (p : Program) (h : List Moment) → All (λ (x : Commit). P (x .what)) (commitsUnder p h) → All P (firsts (courseOf h))
-unfolding commitsUnder courseOf
+all-firsts : (P : Arrival → Type 0) (p : Program) (h : List Moment) → All (λ (x : Commit). P (x .what)) (commitsUnder p h) → All P (firsts (bySheets h))
+unfolding commitsUnder bySheets
 all-firsts P p [] k = tt
-all-firsts P p (commits a ∷ h) k = firsts-onward P a (courseOf h) (k .0) (all-firsts P p h (k .1))
+all-firsts P p (commits a ∷ h) k = firsts-onward P a (bySheets h) (k .0) (all-firsts P p h (k .1))
 all-firsts P p (changes q ∷ h) k = tt
 
-pub orderly : (p : Program) (h : List Moment) → Pairwise (λ (x y : Commit). Sooner (x .under) (x .what) (y .what)) (commitsUnder p h) → Orderly p (courseOf h)
-unfolding commitsUnder courseOf
+pub orderly : (p : Program) (h : List Moment) → Pairwise (λ (x y : Commit). Sooner (x .under) (x .what) (y .what)) (commitsUnder p h) → Orderly p (bySheets h)
+unfolding commitsUnder bySheets
 orderly p [] k = Pairwise·nil
 orderly p (commits a ∷ h) k =
-    orderly-onward p a (courseOf h) (all-firsts (Sooner p a) p h (all-of-mem (λ (x : Commit). Sooner p a (x .what)) (commitsUnder p h) (pairwise-cons .0 k .0)))
+    orderly-onward p a (bySheets h) (all-firsts (Sooner p a) p h (all-of-mem (λ (x : Commit). Sooner p a (x .what)) (commitsUnder p h) (pairwise-cons .0 k .0)))
     (orderly p h (Pairwise·of-cons k))
 orderly p (changes q ∷ h) k = (Pairwise·nil, orderly q h k)
-
-known-onward : (p : Program) (a : Arrival) (c : Course) → a .event < events p → Known p c → Known p (onward a c)
-known-onward p a (last l) h k = (k .0, (h, k .1))
-known-onward p a (thenChange l q c) h k = (k .0, (h, k .1), k .2)
-
-pub known : (p : Program) (h : List Moment) → Valid p → Proper p h → Known p (courseOf h)
-unfolding courseOf
-known p [] v k = (v, tt)
-known p (commits a ∷ h) v k = known-onward p a (courseOf h) (k .0) (known p h v (k .1))
-known p (changes q ∷ h) v k = (v, tt, known q h (k .0) (k .1))
 
 -- ---- what is left of the same arrivals
 
@@ -178,43 +132,43 @@ module _ (p : Program) (v : Valid p) where
 
 -- ---- under each sheet, those of unequal priority commute
 
-abbrev pub CommuteEach : Program → Course → Type 0
+abbrev pub CommuteEach : Program → History → Type 0
 CommuteEach p (last l) = All (λ a. All (Commute p a) l) l
 CommuteEach p (thenChange l q c) = All (λ a. All (Commute p a) l) l × CommuteEach q c
 
 -- what is independent does
-pub apart-commute : (p : Program) (c : Course) → Known p c → ApartEach p c → CommuteEach p c
+pub apart-commute : (p : Program) (c : History) → Known p c → ApartEach p c → CommuteEach p c
 apart-commute p (last l) k a = commutes-in p (k .0) l (k .1) a
 apart-commute p (thenChange l q c) k a = (commutes-in p (k .0) l (k .1) (a .0), apart-commute q c (k .2) (a .1))
 
 -- ---- two courses
 
-pub same-course : (p : Program) (c d : Course) (s : List ℕ) → length s ≡ size p → SameChanges c d → List·Permᴰ (allUnsigned (allOf c)) (allUnsigned (allOf d))
-    → List·Nodup (numbers (allOf c)) → Known p c → CommuteEach p c → Orderly p c → Orderly p d → along p c s ≡ along p d s
-unfolding along
+pub same-course : (p : Program) (c d : History) (s : List ℕ) → length s ≡ size p → SameChanges c d → List·Permᴰ (allUnsigned (committedBy c)) (allUnsigned (committedBy d))
+    → List·Nodup (numbers (committedBy c)) → Known p c → CommuteEach p c → Orderly p c → Orderly p d → replayed p c s ≡ replayed p d s
+unfolding replayed
 same-course p (last l) (last m) s n h e z k a oc od = one-sheet p (k .0) (λ x y. x ≡ y) (one-store p) l m s n e z (k .1) a oc od
 same-course p (last l) (thenChange m r d) s n h e z k a oc od = absurd h
 same-course p (thenChange l q c) (last m) s n h e z k a oc od = absurd h
 same-course p (thenChange l q c) (thenChange m r d) s n h e z k a oc od =
-    let first : play p (eventsOf l) s ≡ play p (eventsOf m) s = one-sheet p (k .0) (λ x y. x ≡ y) (one-store p) l m s n (h .0) (nodup-left l (allOf c) z) (k .1) (a .0) (oc .0) (od .0) in
-    let w : List·Permᴰ (allUnsigned l ++ allUnsigned (allOf c)) (allUnsigned m ++ allUnsigned (allOf d)) = rw (← unsigned-append l (allOf c), ← unsigned-append m (allOf d)) e in
-    let y : List·Nodup (numbers (allUnsigned l ++ allUnsigned (allOf c))) = rw (← unsigned-append l (allOf c), same-numbers (l ++ allOf c)) z in
-    let left : List·Permᴰ (allUnsigned (allOf c)) (allUnsigned (allOf d)) = rest-same (allUnsigned l) (allUnsigned m) (allUnsigned (allOf c)) (allUnsigned (allOf d)) (h .0) w y in
-    same-course q c d (carried p q (play p (eventsOf l) s)) (length-carried p q (play p (eventsOf l) s)) (h .2) left (nodup-right l (allOf c) z) (k .2) (a .1) (oc .1)
+    let first : play p (eventsOf l) s ≡ play p (eventsOf m) s = one-sheet p (k .0) (λ x y. x ≡ y) (one-store p) l m s n (h .0) (nodup-left l (committedBy c) z) (k .1) (a .0) (oc .0) (od .0) in
+    let w : List·Permᴰ (allUnsigned l ++ allUnsigned (committedBy c)) (allUnsigned m ++ allUnsigned (committedBy d)) = rw (← unsigned-append l (committedBy c), ← unsigned-append m (committedBy d)) e in
+    let y : List·Nodup (numbers (allUnsigned l ++ allUnsigned (committedBy c))) = rw (← unsigned-append l (committedBy c), same-numbers (l ++ committedBy c)) z in
+    let left : List·Permᴰ (allUnsigned (committedBy c)) (allUnsigned (committedBy d)) = rest-same (allUnsigned l) (allUnsigned m) (allUnsigned (committedBy c)) (allUnsigned (committedBy d)) (h .0) w y in
+    same-course q c d (carried p q (play p (eventsOf l) s)) (length-carried p q (play p (eventsOf l) s)) (h .2) left (nodup-right l (committedBy c) z) (k .2) (a .1) (oc .1)
     (subst (λ (x : Program). Orderly x d) (sym (h .1)) (od .1))
-    ∙ ap (λ (x : List ℕ). along q d (carried p q x)) first
-    ∙ ap (λ (x : Program). along x d (carried p x (play p (eventsOf m) s))) (h .1)
+    ∙ ap (λ (x : List ℕ). replayed q d (carried p q x)) first
+    ∙ ap (λ (x : Program). replayed x d (carried p x (play p (eventsOf m) s))) (h .1)
 
 -- ---- two courses under one sheet, up to a likeness
 
-abbrev pub OneSheet : Course → Type 0
+abbrev pub OneSheet : History → Type 0
 OneSheet (last l) = Unit {0}
 OneSheet (thenChange l q c) = ⊥
 
-pub alike-course : (p : Program) (R : List ℕ → List ℕ → Type 0) (like : Likeness p R) (c d : Course) (s : List ℕ) → length s ≡ size p → OneSheet c → OneSheet d
-    → List·Permᴰ (allUnsigned (allOf c)) (allUnsigned (allOf d)) → List·Nodup (numbers (allOf c)) → Known p c → All (λ a. All (CommuteBy p R a) (allOf c)) (allOf c)
-    → Orderly p c → Orderly p d → R (along p c s) (along p d s)
-unfolding along
+pub alike-course : (p : Program) (R : List ℕ → List ℕ → Type 0) (like : Likeness p R) (c d : History) (s : List ℕ) → length s ≡ size p → OneSheet c → OneSheet d
+    → List·Permᴰ (allUnsigned (committedBy c)) (allUnsigned (committedBy d)) → List·Nodup (numbers (committedBy c)) → Known p c → All (λ a. All (CommuteBy p R a) (committedBy c)) (committedBy c)
+    → Orderly p c → Orderly p d → R (replayed p c s) (replayed p d s)
+unfolding replayed
 alike-course p R like (last l) (last m) s n g h e z k a oc od = one-sheet p (k .0) R like l m s n e z (k .1) a oc od
 alike-course p R like (last l) (thenChange m r d) s n g h e z k a oc od = absurd h
 alike-course p R like (thenChange l q c) d s n g h e z k a oc od = absurd g

@@ -2,7 +2,7 @@
 -- has the lowest number of its priority, so what is committed stands before the hand, and stays so when the sheet
 -- changes, since it was said of the old priorities.
 use Prim.Native.Nat.{ℕ, _+_, _<_}
-use mathlib.Core.Path.{_≡_, refl, ap, sym}
+use mathlib.Core.Path.{_≡_, refl, ap, sym, subst}
 use mathlib.Core.HLevel.{→-prop}
 use mathlib.Core.List.{List, [], _∷_, _++_, Pairwise, Pairwise·nil, pairwise-append, pairwise-singleton, List·Nodup, List·Permᴰ}
 use mathlib.Core.Logic.{_≢_}
@@ -14,9 +14,10 @@ use Rattle.spec_language.specs.Syntax.{Program}
 use Rattle.spec_language.specs.Valid.{Valid}
 use Rattle.spec_execution.specs.CodeFacts.{CodeFacts}
 use Rattle.spec_model.specs.Model.{Arrival, arrival, Running, Engine, engine, queue, Chosen, aside, choose, Turn, State, state, carriedTo, rest, busy, rank}
-use Rattle.spec_model.specs.Claims.{number, inQueue, Moment, commits, changes, Commit, commitsUnder, EqualsInOrder}
+use Rattle.spec_model.specs.Claims.{number, inQueue, EqualsInOrder, History, EachLater, takenInBy, after}
 use Rattle.spec_model.specs.Sound.{Sound}
-use Rattle.spec_model.proofs.States.{commitUnder, numberIn, handIn}
+use Rattle.spec_model.proofs.Moments.{Moment, commits, changes, momentsOf, history-of, Commit, commitUnder, commitsUnder, each-later}
+use Rattle.spec_model.proofs.States.{numberIn, handIn}
 use Rattle.spec_model.proofs.Choice.{numbers, distinct-numbers, no-other, choose-perm, choose-first, Leads}
 use Rattle.spec_model.proofs.Moves.{Cases}
 use Rattle.spec_model.proofs.Reached.{back-perm, Fine}
@@ -148,6 +149,15 @@ module _ (p₀ : Program) where
   }
 
   module _ (v : Valid p₀) where
-    pub equals-in-order : (ts : List Turn) → All Sound ts → EqualsInOrder p₀ ts
+    ordered : (ts : List Turn) → All Sound ts → Ordered ts (momentsOf p₀ ts) (takenInBy p₀ ts) (after p₀ ts)
     unfolding commitsUnder
-    equals-in-order ts g = let h = always p₀ Ordered keeps v ((tt, Pairwise·nil, tt), tt) ts g in (h .0 .1, h .0 .2)
+    ordered ts g = always p₀ Ordered keeps v ((tt, Pairwise·nil, tt), tt) ts g
+
+    -- each commit and the later ones, with the program in force
+    pub commits-in-order : (ts : List Turn) → All Sound ts → Pairwise SoonerThan (commitsUnder p₀ (momentsOf p₀ ts))
+    commits-in-order ts g = ordered ts g .0 .1
+
+    pub equals-in-order : (ts : List Turn) → All Sound ts → EqualsInOrder p₀ ts
+    equals-in-order ts g =
+        subst (λ (h : History). EachLater Sooner p₀ h (handIn (after p₀ ts))) (sym (history-of p₀ ts))
+        (each-later Sooner p₀ (momentsOf p₀ ts) (handIn (after p₀ ts)) (commits-in-order ts g) (ordered ts g .0 .2))

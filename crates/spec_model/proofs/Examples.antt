@@ -20,7 +20,7 @@ use Rattle.spec_execution.specs.Runs.{executeAll}
 use Rattle.spec_language.proofs.Examples.{W}
 use Rattle.spec_model.specs.Carried.{carriedActives, carried}
 use Rattle.spec_model.specs.Model.{arrival, rest, Engine, engine, arrive, step, board, refused, takenIn, shows, ran, started, preempted, committed, act, run, State, state, Turn, call, change, Reply, says, carriedOver, turn, runTurns, replies}
-use Rattle.spec_model.specs.Claims.{commits, changes, longest, countIn, stepsOf, forecast, foreseen, moments, after, engineAfter, historyOf}
+use Rattle.spec_model.specs.Claims.{last, thenChange, longest, countIn, stepsOf, forecast, foreseen, historyBy, after, engineAfter, historyOf}
 use Rattle.spec_model.proofs.States.{storeIn}
 
 -- a bonus of 5, and b1 twice the score
@@ -72,7 +72,7 @@ mending = (call (arrive 0 0) ∷ stepping 21) ++ ((call (arrive 0 0) ∷ steppin
 pub record Worked : Type 0 where
   -- 0 + 5 under the first sheet, 5 + 3 under the second, of which b1 follows and b2 starts
   pub board : storeIn (after wrong mending) ≡ 8 ∷ 9 ∷ 7 ∷ []
-  pub history : historyOf wrong mending ≡ commits (arrival 0 0 0) ∷ changes right ∷ commits (arrival 1 0 0) ∷ []
+  pub history : historyOf wrong mending ≡ thenChange (arrival 0 0 0 ∷ []) right (last (arrival 1 0 0 ∷ []))
   -- "During copy-back it is refused by 19": the second off is the 17th of 20 instructions
   pub settling : turn (change right) (after wrong (call (arrive 0 0) ∷ stepping 18)) .reply ≡ says (refused 19)
   pub not-yet : turn (change right) (after wrong (call (arrive 0 0) ∷ stepping 17)) .reply ≡ carriedOver
@@ -84,7 +84,7 @@ pub record Worked : Type 0 where
   pub turned-passive : storeIn (after wrong (call (arrive 0 0) ∷ (stepping 21 ++ (change turned ∷ change swapped ∷ [])))) ≡ 41 ∷ 40 ∷ []
 
 pub worked : Worked
-unfolding exact result over handled mentions met find order upTo metAtOnce phaseOne postfix inOrder flatten flatMap copyPart firstPart secondPart restorePart code value inTurn firstPhase laterPhase event starts fresh execute executeAll emptied times carriedActives carried act turn runTurns replies moments
+unfolding exact result over handled mentions met find order upTo metAtOnce phaseOne postfix inOrder flatten flatMap copyPart firstPart secondPart restorePart code value inTurn firstPhase laterPhase event starts fresh execute executeAll emptied times carriedActives carried act turn runTurns replies historyBy
 worked = record { board = refl; history = refl; settling = refl; not-yet = refl; undeclared = refl; turned-active = refl; turned-passive = refl }
 
 -- ---- the model engine on W (crate spec_language, Examples), whose event 0 of rank 1 has 51 instructions: an arrival

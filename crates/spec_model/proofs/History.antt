@@ -18,8 +18,9 @@ use Rattle.spec_execution.specs.CodeFacts.{CodeFacts}
 use Rattle.spec_execution.proofs.CodeRight.{code-facts}
 use Rattle.spec_model.specs.Carried.{carried}
 use Rattle.spec_model.specs.Model.{Arrival, Engine, engine, queue, Call, arrive, step, board, Answer, refused, takenIn, shows, idle, ran, started, preempted, committed, inCopyBack, act, Turn, call, change, State, state, Reply, says, carriedOver, TurnOutcome, turnOutcome, declaredIn, carriedTo, turn, runTurns, replies, begun}
-use Rattle.spec_model.specs.Claims.{number, inQueue, copyBackIn, Moment, commits, changes, ifCommits, momentOf, moments, ifTakenIn, takenTurns, inForce, after, historyOf, takenInBy}
+use Rattle.spec_model.specs.Claims.{number, inQueue, copyBackIn, ifTakenIn, takenTurns, inForce, after, takenInBy}
 use Rattle.spec_model.specs.Sound.{Sound}
+use Rattle.spec_model.proofs.Moments.{Moment, commits, changes, answered, momentOf, moments, momentsOf}
 use Rattle.spec_model.proofs.States.{numberIn}
 use Rattle.spec_model.proofs.Carries.{length-carried}
 use Rattle.spec_model.proofs.Moves.{Effect, nothing, took, commit, effect, Cases, act-by}
@@ -49,7 +50,7 @@ countTurn (call c) (says x) n = counted (effect c x n) n
 countTurn (call c) carriedOver n = n
 countTurn (change q) r n = n
 
-commits-noted : (c : Call) (x : Answer) (n : ℕ) (h l : List Moment) → h ++ ifCommits x l ≡ noted (effect c x n) h ++ l
+commits-noted : (c : Call) (x : Answer) (n : ℕ) (h l : List Moment) → h ++ answered x l ≡ noted (effect c x n) h ++ l
 commits-noted c (refused k) n h l = refl
 commits-noted (arrive e who) takenIn n h l = refl
 commits-noted step takenIn n h l = refl
@@ -213,6 +214,6 @@ module _ (p₀ : Program) (Inv : List Turn → List Moment → List Arrival → 
         along (append-assoc past (t ∷ []) ts) (sym (log-turn t r (numberIn s) h (moments ts l)))
         (ap (λ (n : ℕ). takeTurn t r (numberIn s) taken ++ takenTurns ts l n) (number-turn t s) ∙ sym (take-turn t r (numberIn s) taken (takenTurns ts l))) k
 
-    pub always : Valid p₀ → Inv [] [] [] (begun p₀) → (ts : List Turn) → All Sound ts → Inv ts (historyOf p₀ ts) (takenInBy p₀ ts) (after p₀ ts)
+    pub always : Valid p₀ → Inv [] [] [] (begun p₀) → (ts : List Turn) → All Sound ts → Inv ts (momentsOf p₀ ts) (takenInBy p₀ ts) (after p₀ ts)
     unfolding runTurns lastOf
     always v i ts g = go ts [] [] [] (begun p₀) refl g (begun-fits p₀ v) (refl, i)

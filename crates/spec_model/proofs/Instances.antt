@@ -6,7 +6,7 @@ use Prim.Native.Nat.{ℕ, _+_, _≤_, _<_}
 use mathlib.Core.Bool.{Bool, true, false, false≢true}
 use mathlib.Core.Path.{_≡_, refl, sym, ap}
 use mathlib.Core.Logic.{_≢_}
-use mathlib.Core.List.{List, [], _∷_, _++_, map, flatten, flatMap, sum, List·Memᴰ, List·Memᴰ·head, Permᴰ·refl, mem-cons-self, rel-of-pairwise-cons}
+use mathlib.Core.List.{List, [], _∷_, _++_, map, flatten, flatMap, sum, List·Memᴰ, List·Memᴰ·head, Permᴰ·refl}
 use native.Mathlib.Omega.{arith}
 use lib.ListN.{replicate}
 use Rattle.lib_signature.specs.Signature.{arity}
@@ -20,7 +20,7 @@ use Rattle.spec_semantics.specs.Meaning.{value, inTurn, firstPhase, starts, fre
 use Rattle.spec_execution.specs.Execution.{execute, emptied, times}
 use Rattle.spec_model.specs.Model.{arrival, Engine, Call, arrive, step, Answer, act, Turn, call, change, State, state, Reply, says, carriedOver, turn, runTurns, replies}
 use Rattle.spec_model.specs.Carried.{carriedActives, carried}
-use Rattle.spec_model.specs.Claims.{storeOf, engineAfter, courseOf, longest, countIn, stepsOf, moments, commitsUnder, committedBy, takenTurns, IdleIn, after, Unchanged, stepsAmong, EqualsInOrder, QuietExactly, NobodyWaits}
+use Rattle.spec_model.specs.Claims.{storeOf, engineAfter, longest, countIn, stepsOf, historyBy, historyFrom, committedBy, takenTurns, IdleIn, after, Unchanged, stepsAmong, EqualsInOrder, QuietExactly, NobodyWaits}
 use Rattle.spec_model.specs.Evaluated.{SameBoard}
 use Rattle.spec_model.proofs.Examples.{wrong, right, stepping, mending}
 
@@ -62,7 +62,7 @@ one = call (arrive 0 0) ∷ []
 abbrev meanwhile : List Turn
 meanwhile = call (arrive 0 0) ∷ steps 104
 
-equal-rank : NobodyWaits W one → List·Memᴰ (arrival 0 0 0) (committedBy W (moments meanwhile (replies meanwhile (after W one))))
+equal-rank : NobodyWaits W one → List·Memᴰ (arrival 0 0 0) (committedBy (historyFrom (after W one) meanwhile))
 unfolding beyond exact result over arity handled mentions met find order upTo metAtOnce phaseOne postfix inOrder flatten flatMap copyPart firstPart secondPart restorePart code value inTurn firstPhase starts fresh execute emptied times act turn runTurns replies takenTurns longest stepsAmong
 equal-rank n =
     n meanwhile (arrival 0 0 0) (List·Memᴰ·head refl) (calls-stay (arrive 0 0 ∷ replicate 104 step) (after W one)) (omega arith, tt) (omega arith)
@@ -74,7 +74,7 @@ abbrev waiting : List Turn
 waiting = (call (arrive 0 0) ∷ stepping 21) ++ (call (arrive 0 0) ∷ change right ∷ stepping 21)
 
 in-hand-at-a-change : SameBoard wrong mending waiting → storeOf (engineAfter wrong mending) ≡ storeOf (engineAfter wrong waiting)
-unfolding beyond exact result over arity handled mentions met find order upTo metAtOnce phaseOne postfix inOrder flatten flatMap copyPart firstPart secondPart restorePart code value inTurn firstPhase starts fresh execute emptied times carriedActives carried act turn runTurns replies moments takenTurns courseOf
+unfolding beyond exact result over arity handled mentions met find order upTo metAtOnce phaseOne postfix inOrder flatten flatMap copyPart firstPart secondPart restorePart code value inTurn firstPhase starts fresh execute emptied times carriedActives carried act turn runTurns replies historyBy takenTurns
 in-hand-at-a-change s =
     s refl (Permᴰ·refl _, refl, tt) (((λ h. absurd (h refl), tt), tt), ((λ h. absurd (h refl), tt), tt)) refl refl
 
@@ -85,9 +85,9 @@ four = call (arrive 0 0) ∷ call (arrive 0 0) ∷ call (arrive 0 0) ∷ call (a
 
 -- the first of the two commits, and the second and what is still in hand: lower numbers, and not just no higher ones
 first-of-equals : EqualsInOrder W four → 0 < 1
-unfolding beyond exact result over arity handled mentions met find order upTo metAtOnce phaseOne postfix inOrder flatten flatMap copyPart firstPart secondPart restorePart code value inTurn firstPhase starts fresh execute emptied times act turn runTurns replies moments commitsUnder
-first-of-equals q = rel-of-pairwise-cons (q .0) mem-cons-self refl
+unfolding beyond exact result over arity handled mentions met find order upTo metAtOnce phaseOne postfix inOrder flatten flatMap copyPart firstPart secondPart restorePart code value inTurn firstPhase starts fresh execute emptied times act turn runTurns replies historyBy
+first-of-equals q = q .0 .0 refl
 
 before-the-hand : EqualsInOrder W four → 1 < 2
-unfolding beyond exact result over arity handled mentions met find order upTo metAtOnce phaseOne postfix inOrder flatten flatMap copyPart firstPart secondPart restorePart code value inTurn firstPhase starts fresh execute emptied times act turn runTurns replies moments commitsUnder
-before-the-hand q = q .1 .1 .0 .0 refl
+unfolding beyond exact result over arity handled mentions met find order upTo metAtOnce phaseOne postfix inOrder flatten flatMap copyPart firstPart secondPart restorePart code value inTurn firstPhase starts fresh execute emptied times act turn runTurns replies historyBy
+before-the-hand q = q .1 .0 .0 refl

@@ -5,6 +5,7 @@ pub mod Choice
 pub mod Moves
 pub mod Reached
 pub mod Calls
+pub mod Moments
 pub mod Carries
 pub mod Passives
 pub mod History

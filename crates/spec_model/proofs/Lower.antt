@@ -21,9 +21,10 @@ use Rattle.spec_language.specs.Dependence.{events}
 use Rattle.spec_execution.specs.Execution.{Values, times, copyingBackAfter, maskedAfter}
 use Rattle.spec_execution.specs.CodeFacts.{CodeFacts, copyingBackAt, maskedAt}
 use Rattle.spec_model.specs.Model.{Arrival, arrival, Running, rest, busy, Engine, engine, queue, arrive, step, board, rank, Turn, call, change, State, state, carriedTo}
-use Rattle.spec_model.specs.Claims.{number, inQueue, CopyingBack, Moment, commits, Commit, commitsUnder, inForce, engineIn, after, historyOf, TakenInLater, LowerFirst}
+use Rattle.spec_model.specs.Claims.{number, inQueue, CopyingBack, inForce, engineIn, after, TakenInLater, LowerFirst, History, EachLater}
 use Rattle.spec_model.specs.Sound.{Sound}
-use Rattle.spec_model.proofs.States.{commitUnder, numberIn, handIn}
+use Rattle.spec_model.proofs.Moments.{Moment, commits, momentsOf, history-of, Commit, commitUnder, commitsUnder, each-later}
+use Rattle.spec_model.proofs.States.{numberIn, handIn}
 use Rattle.spec_model.proofs.Choice.{choose-perm}
 use Rattle.spec_model.proofs.Moves.{Cases}
 use Rattle.spec_model.proofs.Reached.{back-perm}
@@ -206,9 +207,12 @@ module _ (p₀ : Program) where
   spread P [] h = tt
   spread P (x ∷ l) h = (h .0, spread P l (h .1))
 
+  -- of a lower priority, by those of q, b was taken in later
+  abbrev Lower : List Turn → Program → Arrival → Arrival → Type 0
+  Lower ts q a b = rank q a < rank q b → TakenInLater p₀ ts a b
+
   laters : (ts : List Turn) (t : ℕ) (q : List Arrival) (log : List Commit) → Marked ts t q log
-      → Pairwise (λ (x y : Commit). rank (x .under) (x .what) < rank (x .under) (y .what) → TakenInLater p₀ ts (x .what) (y .what)) log
-      × All (λ (x : Commit). All (λ b. rank (x .under) (x .what) < rank (x .under) b → TakenInLater p₀ ts (x .what) b) q) log
+      → Pairwise (λ (x y : Commit). Lower ts (x .under) (x .what) (y .what)) log × All (λ (x : Commit). All (Lower ts (x .under) (x .what)) q) log
   laters ts t q [] h = (Pairwise·nil, tt)
   laters ts t q (x ∷ l) h =
       let b = h .0 in
@@ -221,4 +225,8 @@ module _ (p₀ : Program) where
 
   pub lower-first : Valid p₀ → (ts : List Turn) → All Sound ts → LowerFirst p₀ ts
   unfolding commitsUnder
-  lower-first v ts g = laters ts (numberIn (after p₀ ts)) (handIn (after p₀ ts)) (commitsUnder p₀ (historyOf p₀ ts)) (always p₀ Lowered keeps v (tt, tt) ts g .0)
+  lower-first v ts g =
+      let m : List Moment = momentsOf p₀ ts in
+      let hand : List Arrival = handIn (after p₀ ts) in
+      let r = laters ts (numberIn (after p₀ ts)) hand (commitsUnder p₀ m) (always p₀ Lowered keeps v (tt, tt) ts g .0) in
+      subst (λ (h : History). EachLater (Lower ts) p₀ h hand) (sym (history-of p₀ ts)) (each-later (Lower ts) p₀ m hand (r .0) (r .1))

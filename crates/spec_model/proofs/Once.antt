@@ -16,9 +16,10 @@ use Rattle.spec_language.specs.Code.{code}
 use Rattle.spec_execution.specs.CodeFacts.{CodeFacts}
 use Rattle.spec_execution.specs.Execution.{Values}
 use Rattle.spec_model.specs.Model.{Arrival, arrival, Running, Engine, engine, queue, Turn, State, state, carriedTo, rest, busy, idle, Outcome, Chosen, rank, masked, advance, contest, choose, act}
-use Rattle.spec_model.specs.Claims.{number, inQueue, Moment, commits, changes, after, historyOf, takenInBy, IdleIn, OnceEach}
+use Rattle.spec_model.specs.Claims.{number, inQueue, after, takenInBy, IdleIn, OnceEach}
 use Rattle.spec_model.specs.Sound.{Sound}
-use Rattle.spec_model.proofs.States.{numberIn, handIn, Idle, arrivalsCommitted, committed-arrivals}
+use Rattle.spec_model.proofs.Moments.{Moment, commits, changes, momentsOf, arrivalsCommitted, committed-in}
+use Rattle.spec_model.proofs.States.{numberIn, handIn, Idle}
 use Rattle.spec_model.proofs.Choice.{numbers, distinct-numbers, new-number, choose-perm}
 use Rattle.spec_model.proofs.Moves.{Cases}
 use Rattle.spec_model.proofs.Reached.{back-perm}
@@ -116,7 +117,7 @@ module _ (p₀ : Program) where
   }
 
   module _ (v : Valid p₀) where
-    pub once : (ts : List Turn) → All Sound ts → Once ts (historyOf p₀ ts) (takenInBy p₀ ts) (after p₀ ts)
+    pub once : (ts : List Turn) → All Sound ts → Once ts (momentsOf p₀ ts) (takenInBy p₀ ts) (after p₀ ts)
     once ts g = always p₀ Once keeps v (List·Permᴰ·nil, tt, Pairwise·nil) ts g
 
     pub idle-hand : (s : State) → IdleIn s → handIn s ≡ []
@@ -125,4 +126,4 @@ module _ (p₀ : Program) where
     pub once-each : (ts : List Turn) → All Sound ts → OnceEach p₀ ts
     once-each ts g =
         let h = once ts g in
-        rw (committed-arrivals p₀ (historyOf p₀ ts)) (h .0, h .2, λ z. rw (idle-hand (after p₀ ts) z, append-nil) at (h .0))
+        rw (committed-in p₀ ts) (h .0, h .2, λ z. rw (idle-hand (after p₀ ts) z, append-nil) at (h .0))

@@ -1,8 +1,8 @@
 -- By the rules of Figure 1 a history leads to the store that it replays, and to no other: every commit's event is
--- declared in the program in force, which each turn keeps, and rules and evaluator agree on each moment. By induction
--- on the history.
+-- declared in the program in force, which each turn keeps, and rules and evaluator agree under each sheet and at each
+-- change. By induction on the history.
 use Prim.Native.Nat.{ℕ, _<_}
-use mathlib.Core.Path.{_≡_, refl, sym, _∙_, subst}
+use mathlib.Core.Path.{_≡_, sym, ap, _∙_, subst}
 use mathlib.Core.List.{List, [], _∷_, _++_}
 use native.Mathlib.Omega.{arith}
 use lib.ListN.{length}
@@ -11,16 +11,16 @@ use Rattle.spec_language.specs.Syntax.{Program}
 use Rattle.spec_language.specs.Valid.{Valid}
 use Rattle.spec_language.specs.Dependence.{size, events}
 use Rattle.spec_semantics.specs.Meaning.{fresh}
-use Rattle.spec_semantics.specs.Event.{event, play}
+use Rattle.spec_semantics.specs.Event.{play}
 use Rattle.spec_semantics.proofs.Lengths.{length-fresh}
-use Rattle.spec_semantics.proofs.Solution.{event-length}
 use Rattle.spec_semantics.proofs.PlaysLaws.{plays, plays-alone}
 use Rattle.spec_execution.specs.CodeFacts.{CodeFacts}
 use Rattle.spec_model.specs.Carried.{carried}
 use Rattle.spec_model.specs.Model.{Arrival, Turn, State}
-use Rattle.spec_model.specs.Claims.{Moment, commits, changes, after, historyOf, Replays, done, next, turns}
+use Rattle.spec_model.specs.Claims.{after, historyOf, Replays, History, last, thenChange, onward, eventsOf}
 use Rattle.spec_model.specs.Sound.{Sound}
 use Rattle.spec_model.specs.Evaluated.{replayed, BoardByRules}
+use Rattle.spec_model.proofs.Moments.{Moment, commits, changes, momentsOf, bySheets, history-of}
 use Rattle.spec_model.proofs.States.{storeIn}
 use Rattle.spec_model.proofs.Carries.{length-carried, carries, carries-alone}
 use Rattle.spec_model.proofs.Moves.{Cases}
@@ -35,22 +35,48 @@ Proper p [] = Unit {0}
 Proper p (commits a ∷ h) = (a .event < events p) × Proper p h
 Proper p (changes q ∷ h) = Valid q × Proper q h
 
-pub replays : (p : Program) → Valid p → (h : List Moment) → Proper p h → (s : List ℕ) → length s ≡ size p → Replays p h s (replayed p h s)
-unfolding replayed play
-replays p v [] k s n = done
-replays p v (commits a ∷ h) k s n =
-    next (plays p v (a .event ∷ []) (k .0, tt) s n) (replays p v h (k .1) (event p (a .event) s) (event-length p v (a .event) (omega arith) s n))
-replays p v (changes q ∷ h) k s n = turns (carries p q (k .0) s) (replays q (k .0) h (k .1) (carried p q s) (length-carried p q s))
+-- by sheets: each program is valid, and each event is declared in the program that it is committed under
+abbrev pub Known : Program → History → Type 0
+Known p (last l) = Valid p × All (λ (a : Arrival). a .event < events p) l
+Known p (thenChange l q h) = Valid p × All (λ (a : Arrival). a .event < events p) l × Known q h
 
-pub replays-alone : (p : Program) → Valid p → (h : List Moment) → Proper p h → (s last : List ℕ) → length s ≡ size p → Replays p h s last → last ≡ replayed p h s
-unfolding replayed play
-replays-alone p v [] k s last n done = refl
-replays-alone p v (commits a ∷ h) k s last n (next {s′ = s′} r q) =
-    let same : s′ ≡ event p (a .event) s = plays-alone p v (a .event ∷ []) (k .0, tt) s s′ n r in
-    replays-alone p v h (k .1) (event p (a .event) s) last (event-length p v (a .event) (omega arith) s n) (rw same at q)
-replays-alone p v (changes r ∷ h) k s last n (turns {s′ = s′} c q) =
-    let same : s′ ≡ carried p r s = carries-alone p r (k .0) s s′ c in
-    rw same at (replays-alone r (k .0) h (k .1) s′ last (c .sized) q)
+known-onward : (p : Program) (a : Arrival) (h : History) → a .event < events p → Known p h → Known p (onward a h)
+known-onward p a (last l) b k = (k .0, (b, k .1))
+known-onward p a (thenChange l q h) b k = (k .0, (b, k .1), k .2)
+
+sheets-known : (p : Program) (h : List Moment) → Valid p → Proper p h → Known p (bySheets h)
+unfolding bySheets
+sheets-known p [] v k = (v, tt)
+sheets-known p (commits a ∷ h) v k = known-onward p a (bySheets h) (k .0) (sheets-known p h v (k .1))
+sheets-known p (changes q ∷ h) v k = (v, tt, sheets-known q h (k .0) (k .1))
+
+known-valid : (p : Program) (h : History) → Known p h → Valid p
+known-valid p (last l) k = k .0
+known-valid p (thenChange l q h) k = k .0
+
+pub events-declared : (p : Program) (l : List Arrival) → All (λ (a : Arrival). a .event < events p) l → All (λ e. e < events p) (eventsOf l)
+events-declared p [] k = tt
+events-declared p (a ∷ l) k = (k .0, events-declared p l (k .1))
+
+pub replays : (p : Program) (h : History) → Known p h → (s : List ℕ) → length s ≡ size p → Replays p h s (replayed p h s)
+unfolding replayed
+replays p (last l) k s n = plays p (k .0) (eventsOf l) (events-declared p l (k .1)) s n
+replays p (thenChange l q h) k s n =
+    let s′ : List ℕ = play p (eventsOf l) s in (
+      s′,
+      carried p q s′,
+      plays p (k .0) (eventsOf l) (events-declared p l (k .1)) s n,
+      carries p q (known-valid q h (k .2)) s′,
+      replays q h (k .2) (carried p q s′) (length-carried p q s′),
+    )
+
+pub replays-alone : (p : Program) (h : History) → Known p h → (s t : List ℕ) → length s ≡ size p → Replays p h s t → t ≡ replayed p h s
+unfolding replayed
+replays-alone p (last l) k s t n r = plays-alone p (k .0) (eventsOf l) (events-declared p l (k .1)) s t n r
+replays-alone p (thenChange l q h) k s t n (s′, s″, r, c, r″) =
+    let same : s′ ≡ play p (eventsOf l) s = plays-alone p (k .0) (eventsOf l) (events-declared p l (k .1)) s s′ n r in
+    let then : s″ ≡ carried p q s′ = carries-alone p q (known-valid q h (k .2)) s′ s″ c in
+    replays-alone q h (k .2) s″ t (c .sized) r″ ∙ ap (replayed q h) (then ∙ ap (carried p q) same)
 
 -- ---- the history of a list of turns is one
 
@@ -89,13 +115,16 @@ module _ (p₀ : Program) where
   }
 
   module _ (v : Valid p₀) where
-    pub proper : (ts : List Turn) → All Sound ts → Proper p₀ (historyOf p₀ ts)
+    pub proper : (ts : List Turn) → All Sound ts → Proper p₀ (momentsOf p₀ ts)
     proper ts g = always p₀ Told keeps v tt ts g
+
+    pub known : (ts : List Turn) → All Sound ts → Known p₀ (historyOf p₀ ts)
+    known ts g = subst (Known p₀) (sym (history-of p₀ ts)) (sheets-known p₀ (momentsOf p₀ ts) v (proper ts g))
 
     pub board-by-rules : (ts : List Turn) → All Sound ts → BoardByRules p₀ ts
     board-by-rules ts g u =
-        let k = proper ts g in
+        let k = known ts g in
         let b : storeIn (after p₀ ts) ≡ replayed p₀ (historyOf p₀ ts) (fresh p₀) = board-of-commits p₀ v ts g u in (
-          subst (Replays p₀ (historyOf p₀ ts) (fresh p₀)) (sym b) (replays p₀ v (historyOf p₀ ts) k (fresh p₀) (length-fresh p₀)),
-          λ s r. replays-alone p₀ v (historyOf p₀ ts) k (fresh p₀) s (length-fresh p₀) r ∙ sym b,
+          subst (Replays p₀ (historyOf p₀ ts) (fresh p₀)) (sym b) (replays p₀ (historyOf p₀ ts) k (fresh p₀) (length-fresh p₀)),
+          λ s r. replays-alone p₀ (historyOf p₀ ts) k (fresh p₀) s (length-fresh p₀) r ∙ sym b,
         )

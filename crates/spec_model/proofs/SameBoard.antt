@@ -11,17 +11,18 @@ use Rattle.spec_language.specs.Valid.{Valid}
 use Rattle.spec_semantics.specs.Meaning.{fresh}
 use Rattle.spec_semantics.proofs.Lengths.{length-fresh}
 use Rattle.spec_model.specs.Model.{Arrival, arrival, arrive, step, board, refused, takenIn, shows, idle, ran, started, preempted, committed, Turn, call, change, State, state, Reply, says, carriedOver, replies, begun, rest, busy, engine}
-use Rattle.spec_model.specs.Claims.{copyBackIn, eventsOf, Moment, takenTurns, inForce, engineIn, IdleIn, after, historyOf, takenInBy, Course, SameChanges, courseOf, unsigned}
+use Rattle.spec_model.specs.Claims.{copyBackIn, eventsOf, takenTurns, inForce, engineIn, IdleIn, after, historyOf, takenInBy, History, SameChanges, unsigned, committedBy}
 use Rattle.spec_model.specs.Sound.{Sound}
 use Rattle.spec_model.specs.Evaluated.{replayed, SameBoard}
-use Rattle.spec_model.proofs.States.{handIn, storeIn, committed-arrivals}
+use Rattle.spec_model.proofs.Moments.{momentsOf, history-of}
+use Rattle.spec_model.proofs.States.{handIn, storeIn}
 use Rattle.spec_model.proofs.Choice.{numbers, distinct-numbers}
 use Rattle.spec_model.proofs.Unsigned.{allUnsigned, numbered}
 use Rattle.spec_model.proofs.Boards.{board-of-commits}
-use Rattle.spec_model.proofs.Replaying.{proper}
+use Rattle.spec_model.proofs.Replaying.{known}
 use Rattle.spec_model.proofs.Once.{once-each, idle-hand}
-use Rattle.spec_model.proofs.Equals.{equals-in-order}
-use Rattle.spec_model.proofs.Courses.{replay-along, allOf, committed-all, orderly, known, CommuteEach, apart-commute, same-course, OneSheet, alike-course}
+use Rattle.spec_model.proofs.Equals.{commits-in-order}
+use Rattle.spec_model.proofs.Courses.{Orderly, orderly, CommuteEach, apart-commute, same-course, OneSheet, alike-course}
 use Rattle.spec_model.proofs.Confluence.{Likeness, CommuteBy}
 
 -- the arrivals taken in, without their players, are their events numbered from n on
@@ -52,44 +53,48 @@ module _ (p : Program) (v : Valid p) where
   idle-store : (ts : List Turn) → All Sound ts → IdleIn (after p ts) → storeIn (after p ts) ≡ replayed p (historyOf p ts) (fresh p)
   idle-store ts g h = board-of-commits p v ts g (no-copy-back (after p ts) (idle-hand p v (after p ts) h))
 
-  idle-course : (ts : List Turn) → All Sound ts → IdleIn (after p ts) → List·Permᴰ (takenInBy p ts) (allOf (courseOf (historyOf p ts)))
-  idle-course ts g h = subst (List·Permᴰ (takenInBy p ts)) (committed-arrivals p (historyOf p ts) ∙ committed-all (historyOf p ts)) (once-each p v ts g .2 h)
+  idle-course : (ts : List Turn) → All Sound ts → IdleIn (after p ts) → List·Permᴰ (takenInBy p ts) (committedBy (historyOf p ts))
+  idle-course ts g h = once-each p v ts g .2 h
 
-  pub distinct-course : (ts : List Turn) → All Sound ts → IdleIn (after p ts) → List·Nodup (numbers (allOf (courseOf (historyOf p ts))))
+  pub distinct-course : (ts : List Turn) → All Sound ts → IdleIn (after p ts) → List·Nodup (numbers (committedBy (historyOf p ts)))
   distinct-course ts g h = distinct-numbers (idle-course ts g h) (once-each p v ts g .1)
+
+  -- under each sheet, those of equal priority go by number
+  in-order : (ts : List Turn) → All Sound ts → Orderly p (historyOf p ts)
+  in-order ts g = subst (Orderly p) (sym (history-of p ts)) (orderly p (momentsOf p ts) (commits-in-order p v ts g))
 
   -- two lists of turns that took in the same events in the same order
   module _ (ts us : List Turn) (gt : All Sound ts) (gu : All Sound us) (same : eventsOf (takenInBy p ts) ≡ eventsOf (takenInBy p us))
       (it : IdleIn (after p ts)) (iu : IdleIn (after p us)) where
-    abbrev one : Course
-    one = courseOf (historyOf p ts)
+    abbrev one : History
+    one = historyOf p ts
 
-    abbrev other : Course
-    other = courseOf (historyOf p us)
+    abbrev other : History
+    other = historyOf p us
 
-    same-arrivals : List·Permᴰ (allUnsigned (allOf one)) (allUnsigned (allOf other))
+    same-arrivals : List·Permᴰ (allUnsigned (committedBy one)) (allUnsigned (committedBy other))
     same-arrivals =
         let taken : allUnsigned (takenInBy p us) ≡ allUnsigned (takenInBy p ts) =
         taken-numbered us (replies us (begun p)) 0 ∙ ap (numbered 0) (sym same) ∙ sym (taken-numbered ts (replies ts (begun p)) 0) in
         List·Permᴰ·trans (Permᴰ·symm (Permᴰ·map unsigned (idle-course ts gt it)))
-        (subst (λ (l : List Arrival). List·Permᴰ l (allUnsigned (allOf other))) taken (Permᴰ·map unsigned (idle-course us gu iu)))
+        (subst (λ (l : List Arrival). List·Permᴰ l (allUnsigned (committedBy other))) taken (Permᴰ·map unsigned (idle-course us gu iu)))
 
     -- where those of unequal priority commute in each sheet
     pub same-store : SameChanges one other → CommuteEach p one → storeIn (after p ts) ≡ storeIn (after p us)
     same-store kept commute =
-        idle-store ts gt it ∙ replay-along p (historyOf p ts) (fresh p)
-        ∙ same-course p one other (fresh p) (length-fresh p) kept same-arrivals (distinct-course ts gt it) (known p (historyOf p ts) v (proper p v ts gt)) commute
-        (orderly p (historyOf p ts) (equals-in-order p v ts gt .0)) (orderly p (historyOf p us) (equals-in-order p v us gu .0))
-        ∙ sym (replay-along p (historyOf p us) (fresh p)) ∙ sym (idle-store us gu iu)
+        idle-store ts gt it
+        ∙ same-course p one other (fresh p) (length-fresh p) kept same-arrivals (distinct-course ts gt it) (known p v ts gt) commute
+        (in-order ts gt) (in-order us gu)
+        ∙ sym (idle-store us gu iu)
 
     -- with no change, where they commute up to a likeness
-    pub same-likeness : (R : List ℕ → List ℕ → Type 0) → Likeness p R → OneSheet one → OneSheet other → All (λ a. All (CommuteBy p R a) (allOf one)) (allOf one)
+    pub same-likeness : (R : List ℕ → List ℕ → Type 0) → Likeness p R → OneSheet one → OneSheet other → All (λ a. All (CommuteBy p R a) (committedBy one)) (committedBy one)
         → R (storeIn (after p ts)) (storeIn (after p us))
     same-likeness R like g h commute =
-        rw (idle-store ts gt it, idle-store us gu iu, replay-along p (historyOf p ts) (fresh p), replay-along p (historyOf p us) (fresh p))
-        (alike-course p R like one other (fresh p) (length-fresh p) g h same-arrivals (distinct-course ts gt it) (known p (historyOf p ts) v (proper p v ts gt)) commute
-        (orderly p (historyOf p ts) (equals-in-order p v ts gt .0)) (orderly p (historyOf p us) (equals-in-order p v us gu .0)))
+        rw (idle-store ts gt it, idle-store us gu iu)
+        (alike-course p R like one other (fresh p) (length-fresh p) g h same-arrivals (distinct-course ts gt it) (known p v ts gt) commute
+        (in-order ts gt) (in-order us gu))
 
   pub same-board : (ts us : List Turn) → All Sound ts → All Sound us → SameBoard p ts us
   same-board ts us gt gu same kept apart it iu =
-      same-store ts us gt gu same it iu kept (apart-commute p (courseOf (historyOf p ts)) (known p (historyOf p ts) v (proper p v ts gt)) apart)
+      same-store ts us gt gu same it iu kept (apart-commute p (historyOf p ts) (known p v ts gt) apart)

@@ -4,7 +4,7 @@ use Prim.Native.Nat.{ℕ, suc, _+_, _*_, _≤_, _<_, max}
 use mathlib.Core.Bool.{Bool, true}
 use mathlib.Core.Path.{_≡_}
 use mathlib.Core.Logic.{_≢_}
-use mathlib.Core.List.{List, [], _∷_, _++_, map, List·Permᴰ, List·Memᴰ, Pairwise, List·Nodup, foldr, sum}
+use mathlib.Core.List.{List, [], _∷_, _++_, map, List·Permᴰ, List·Memᴰ, List·Nodup, foldr, sum}
 use lib.ListN.{length, take, replicate}
 use lib.Dec.{leb}
 use Rattle.lib_base.specs.Basics.{pick, All}
@@ -92,46 +92,43 @@ foreseen p w e i who =
 
 -- ---- what the replies say
 
--- the history of a board, in order: an arrival is committed, or the sheet is changed to this program
-pub data Moment : Type 0 where
-  commits : Arrival → Moment
-  changes : Program → Moment
+-- the history of a board, by sheets: the arrivals committed under the one in force, in order; then, if it is changed,
+-- the program that it is changed to and what follows
+pub data History : Type 0 where
+  last : List Arrival → History
+  thenChange : List Arrival → Program → History → History
 
-abbrev pub ifCommits : Answer → List Moment → List Moment
-ifCommits (refused n) l = l
-ifCommits takenIn l = l
-ifCommits (shows v) l = l
-ifCommits idle l = l
-ifCommits ran l = l
-ifCommits (started a) l = l
-ifCommits (preempted a) l = l
-ifCommits (committed a m) l = commits a ∷ l
+-- a is committed, and the history goes on as h
+abbrev pub onward : Arrival → History → History
+onward a (last l) = last (a ∷ l)
+onward a (thenChange l q h) = thenChange (a ∷ l) q h
 
-abbrev pub momentOf : Turn → Reply → List Moment → List Moment
-momentOf (call c) (says a) l = ifCommits a l
-momentOf (call c) carriedOver l = l
-momentOf (change q) (says a) l = l
-momentOf (change q) carriedOver l = changes q ∷ l
+-- "committed when a step's answer says so"
+abbrev pub ifCommits : Answer → History → History
+ifCommits (refused n) h = h
+ifCommits takenIn h = h
+ifCommits (shows v) h = h
+ifCommits idle h = h
+ifCommits ran h = h
+ifCommits (started a) h = h
+ifCommits (preempted a) h = h
+ifCommits (committed a m) h = onward a h
 
-unfoldable pub moments : List Turn → List Reply → List Moment
-moments [] l = []
-moments (t ∷ ts) [] = []
-moments (t ∷ ts) (r ∷ l) = momentOf t r (moments ts l)
+abbrev pub withTurn : Turn → Reply → History → History
+withTurn (call c) (says a) h = ifCommits a h
+withTurn (call c) carriedOver h = h
+withTurn (change q) (says a) h = h
+withTurn (change q) carriedOver h = thenChange [] q h
 
--- a commit, and the program in force when it is made
-pub record Commit : Type 0 where
-  pub under : Program
-  pub what : Arrival
+unfoldable pub historyBy : List Turn → List Reply → History
+historyBy [] l = last []
+historyBy (t ∷ ts) [] = last []
+historyBy (t ∷ ts) (r ∷ l) = withTurn t r (historyBy ts l)
 
--- in order of commitment, p being the first program
-unfoldable pub commitsUnder : Program → List Moment → List Commit
-commitsUnder p [] = []
-commitsUnder p (commits a ∷ h) = record { under = p; what = a } ∷ commitsUnder p h
-commitsUnder p (changes q ∷ h) = commitsUnder q h
-
--- the arrivals committed: "committed when a step's answer says so"
-abbrev pub committedBy : Program → List Moment → List Arrival
-committedBy p h = map (λ (x : Commit). x .what) (commitsUnder p h)
+-- the arrivals committed, in order of commitment
+abbrev pub committedBy : History → List Arrival
+committedBy (last l) = l
+committedBy (thenChange l q h) = l ++ committedBy h
 
 -- the arrivals taken in, numbered from n on: "An arrival is taken in if its call wasn't refused": of a call
 abbrev pub ifTaken : Call → Answer → ℕ → (ℕ → List Arrival) → List Arrival
@@ -168,6 +165,10 @@ engineIn (state p w) = w
 abbrev pub IdleIn : State → Type 0
 IdleIn s = act (inForce s) step (engineIn s) .answer ≡ idle
 
+-- the history of turns from a state
+abbrev pub historyFrom : State → List Turn → History
+historyFrom s ts = historyBy ts (replies ts s)
+
 -- ---- of a list of turns from a fresh round of p
 
 abbrev pub after : Program → List Turn → State
@@ -180,23 +181,22 @@ programAfter p ts = inForce (after p ts)
 abbrev pub engineAfter : Program → List Turn → Engine
 engineAfter p ts = engineIn (after p ts)
 
-abbrev pub historyOf : Program → List Turn → List Moment
-historyOf p ts = moments ts (replies ts (begun p))
+abbrev pub historyOf : Program → List Turn → History
+historyOf p ts = historyFrom (begun p) ts
 
 abbrev pub committedIn : Program → List Turn → List Arrival
-committedIn p ts = committedBy p (historyOf p ts)
+committedIn p ts = committedBy (historyOf p ts)
 
 abbrev pub takenInBy : Program → List Turn → List Arrival
 takenInBy p ts = takenTurns ts (replies ts (begun p)) 0
 
 -- ---- the board. "Commits before the change follow the old sheet and later ones the new"
 
--- by Figure 1's rules, p being in force, the history leads from the store s to the last store
-pub data Replays : Program → List Moment → List ℕ → List ℕ → Type 0 where
-  done : {p : Program} {s : List ℕ} → Replays p [] s s
-  next : {p : Program} {a : Arrival} {h : List Moment} {s s′ last : List ℕ} → Plays p (a .event ∷ []) s s′ → Replays p h s′ last
-      → Replays p (commits a ∷ h) s last
-  turns : {p q : Program} {h : List Moment} {s s′ last : List ℕ} → Carries p q s s′ → Replays q h s′ last → Replays p (changes q ∷ h) s last
+-- by Figure 1's rules, p being in force, the history leads from the store s to the store t: the events committed under
+-- p, one by one, undivided, in order; then the change, and what follows under the next program
+abbrev pub Replays : Program → History → List ℕ → List ℕ → Type 0
+Replays p (last l) s t = Plays p (eventsOf l) s t
+Replays p (thenChange l q h) s t = (s′ : List ℕ) × (s″ : List ℕ) × Plays p (eventsOf l) s s′ × Carries p q s′ s″ × Replays q h s″ t
 
 -- ---- order
 
@@ -207,13 +207,20 @@ OnceEach p ts =
     × List·Nodup (map (λ (a : Arrival). a .number) (takenInBy p ts))
     × (IdleIn (after p ts) → List·Permᴰ (takenInBy p ts) (committedIn p ts))
 
--- "and after every earlier one of equal rank": of each commit and a later one, and of each and one still in hand;
+-- R holds of each arrival of l and each that comes later, in l or in the list that follows it
+abbrev pub EachIn : (Arrival → Arrival → Type 0) → List Arrival → List Arrival → Type 0
+EachIn R [] following = Unit {0}
+EachIn R (a ∷ l) following = All (R a) (l ++ following) × EachIn R l following
+
+-- R holds of each commit and a later one, and of each and one still in hand, by the program in force at the first:
 -- "between two events, ranks are those in force when the first commits"
+abbrev pub EachLater : (Program → Arrival → Arrival → Type 0) → Program → History → List Arrival → Type 0
+EachLater R p (last l) hand = EachIn (R p) l hand
+EachLater R p (thenChange l q h) hand = EachIn (R p) l (committedBy h ++ hand) × EachLater R q h hand
+
+-- "and after every earlier one of equal rank"
 abbrev pub EqualsInOrder : Program → List Turn → Type 0
-EqualsInOrder p ts =
-    Pairwise (λ (x y : Commit). rank (x .under) (x .what) ≡ rank (x .under) (y .what) → x .what .number < y .what .number) (commitsUnder p (historyOf p ts))
-    × All (λ (x : Commit). All (λ b. rank (x .under) (x .what) ≡ rank (x .under) b → x .what .number < b .number) (inQueue (engineAfter p ts)))
-    (commitsUnder p (historyOf p ts))
+EqualsInOrder p ts = EachLater (λ q a b. rank q a ≡ rank q b → a .number < b .number) p (historyOf p ts) (inQueue (engineAfter p ts))
 
 -- b was taken in after the copy-back of a began: at some moment it is under way, and b's number is not yet given
 pub record TakenInLater (p : Program) (ts : List Turn) (a b : Arrival) : Type 0 where
@@ -225,10 +232,7 @@ pub record TakenInLater (p : Program) (ts : List Turn) (a b : Arrival) : Type 0 
 
 -- "A lower rank precedes a higher one only if the higher was taken in after the lower's copy-back began."
 abbrev pub LowerFirst : Program → List Turn → Type 0
-LowerFirst p ts =
-    Pairwise (λ (x y : Commit). rank (x .under) (x .what) < rank (x .under) (y .what) → TakenInLater p ts (x .what) (y .what)) (commitsUnder p (historyOf p ts))
-    × All (λ (x : Commit). All (λ b. rank (x .under) (x .what) < rank (x .under) b → TakenInLater p ts (x .what) b) (inQueue (engineAfter p ts)))
-    (commitsUnder p (historyOf p ts))
+LowerFirst p ts = EachLater (λ q a b. rank q a < rank q b → TakenInLater p ts a b) p (historyOf p ts) (inQueue (engineAfter p ts))
 
 -- ---- counts of steps. "counts of steps, M-100's too, run from the last" change: the turns us after ts change no
 -- sheet, L and the instruction counts being those of the program in force
@@ -266,7 +270,7 @@ abbrev pub NobodyWaits : Program → List Turn → Type 0
 NobodyWaits p ts =
     (us : List Turn) (a : Arrival) → List·Memᴰ a (inQueue (engineAfter p ts)) → Unchanged us (after p ts)
     → All (λ b. rank (programAfter p ts) b ≤ rank (programAfter p ts) a) (takenTurns us (replies us (after p ts)) (number (engineAfter p ts)))
-    → countIn (programAfter p ts) (engineAfter p ts) ≤ stepsAmong us → List·Memᴰ a (committedBy (programAfter p ts) (moments us (replies us (after p ts))))
+    → countIn (programAfter p ts) (engineAfter p ts) ≤ stepsAmong us → List·Memᴰ a (committedBy (historyFrom (after p ts) us))
 
 -- ---- M-101, with the program in force
 
@@ -284,38 +288,24 @@ PreviewRight p ts =
 -- ---- two lists. "equal boards on two phones need independence in each sheet and the same change after the same
 -- commits"
 
--- a history by sheets: the commits under one, then the change to the next and what follows
-pub data Course : Type 0 where
-  last : List Arrival → Course
-  thenChange : List Arrival → Program → Course → Course
-
-abbrev pub onward : Arrival → Course → Course
-onward a (last l) = last (a ∷ l)
-onward a (thenChange l q c) = thenChange (a ∷ l) q c
-
-unfoldable pub courseOf : List Moment → Course
-courseOf [] = last []
-courseOf (commits a ∷ h) = onward a (courseOf h)
-courseOf (changes q ∷ h) = thenChange [] q (courseOf h)
-
 -- an arrival whoever sent it: as if the host had (02, M-107: "Arrivals in hand commit as before, whoever sent them")
 abbrev pub unsigned : Arrival → Arrival
 unsigned a = arrival (a .number) (a .event) 0
 
 -- "the same change after the same commits": in any order
-abbrev pub SameChanges : Course → Course → Type 0
+abbrev pub SameChanges : History → History → Type 0
 SameChanges (last l) (last m) = Unit {0}
-SameChanges (last l) (thenChange m r d) = ⊥
-SameChanges (thenChange l q c) (last m) = ⊥
-SameChanges (thenChange l q c) (thenChange m r d) = List·Permᴰ (map unsigned l) (map unsigned m) × (q ≡ r) × SameChanges c d
+SameChanges (last l) (thenChange m r k) = ⊥
+SameChanges (thenChange l q h) (last m) = ⊥
+SameChanges (thenChange l q h) (thenChange m r k) = List·Permᴰ (map unsigned l) (map unsigned m) × (q ≡ r) × SameChanges h k
 
 -- "those of unequal rank being independent", in each sheet: of the commits under it
 abbrev pub ApartIn : Program → List Arrival → Type 0
 ApartIn p l = All (λ a. All (λ b. rank p a ≢ rank p b → Independent p (a .event) (b .event)) l) l
 
-abbrev pub ApartEach : Program → Course → Type 0
+abbrev pub ApartEach : Program → History → Type 0
 ApartEach p (last l) = ApartIn p l
-ApartEach p (thenChange l q c) = ApartIn p l × ApartEach q c
+ApartEach p (thenChange l q h) = ApartIn p l × ApartEach q h
 
 -- ---- every sentence about one list
 

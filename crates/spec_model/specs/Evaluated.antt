@@ -9,19 +9,18 @@ use Rattle.spec_language.specs.Syntax.{Program}
 use Rattle.spec_language.specs.Dependence.{events}
 use Rattle.spec_language.specs.Rights.{maySend}
 use Rattle.spec_semantics.specs.Meaning.{fresh}
-use Rattle.spec_semantics.specs.Event.{event}
+use Rattle.spec_semantics.specs.Event.{event, play}
 use Rattle.spec_semantics.specs.OverMeaning.{eventOver}
 use Rattle.spec_model.specs.Carried.{carried}
 use Rattle.spec_model.specs.Model.{Arrival, arrival, step, committed, Turn, call, says, turn}
-use Rattle.spec_model.specs.Claims.{number, storeOf, copyBackIn, eventsOf, aloneCalls, Moment, commits, changes}
-use Rattle.spec_model.specs.Claims.{IdleIn, after, programAfter, engineAfter, historyOf, takenInBy, Replays}
-use Rattle.spec_model.specs.Claims.{courseOf, SameChanges, ApartEach}
+use Rattle.spec_model.specs.Claims.{number, storeOf, copyBackIn, eventsOf, aloneCalls, History, last, thenChange}
+use Rattle.spec_model.specs.Claims.{IdleIn, after, programAfter, engineAfter, historyFrom, historyOf, takenInBy, Replays}
+use Rattle.spec_model.specs.Claims.{SameChanges, ApartEach}
 
 -- what a history does to a store, p being in force
-unfoldable pub replayed : Program → List Moment → List ℕ → List ℕ
-replayed p [] s = s
-replayed p (commits a ∷ h) s = replayed p h (event p (a .event) s)
-replayed p (changes q ∷ h) s = replayed q h (carried p q s)
+unfoldable pub replayed : Program → History → List ℕ → List ℕ
+replayed p (last l) s = play p (eventsOf l) s
+replayed p (thenChange l q h) s = replayed q h (carried p q (play p (eventsOf l) s))
 
 -- unless a copy-back is under way, the store is that of the history
 abbrev pub BoardOfCommits : Program → List Turn → Type 0
@@ -37,8 +36,8 @@ BoardByRules p ts =
 abbrev pub SameBoard : Program → List Turn → List Turn → Type 0
 SameBoard p ts us =
     eventsOf (takenInBy p ts) ≡ eventsOf (takenInBy p us)
-    → SameChanges (courseOf (historyOf p ts)) (courseOf (historyOf p us))
-    → ApartEach p (courseOf (historyOf p ts))
+    → SameChanges (historyOf p ts) (historyOf p us)
+    → ApartEach p (historyOf p ts)
     → IdleIn (after p ts) → IdleIn (after p us)
     → storeOf (engineAfter p ts) ≡ storeOf (engineAfter p us)
 
@@ -46,7 +45,7 @@ SameBoard p ts us =
 abbrev pub AloneRight : Program → List Turn → Type 0
 AloneRight p ts =
     IdleIn (after p ts) → (e who : ℕ) → e < events (programAfter p ts) → who < 8 → maySend (programAfter p ts) who e ≡ true → number (engineAfter p ts) < 1000000
-    → (historyOf p (ts ++ map call (aloneCalls (programAfter p ts) e who)) ≡ historyOf p ts ++ (commits (arrival (number (engineAfter p ts)) e who) ∷ []))
+    → (historyFrom (after p ts) (map call (aloneCalls (programAfter p ts) e who)) ≡ last (arrival (number (engineAfter p ts)) e who ∷ []))
     × (storeOf (engineAfter p (ts ++ map call (aloneCalls (programAfter p ts) e who))) ≡ event (programAfter p ts) e (storeOf (engineAfter p ts)))
 
 -- a commit's mark is set exactly if the event's meaning runs over, on the store of the history so far: of a step called
